@@ -1,5 +1,6 @@
 -- Cells on signals whose literals are ready.
-use Rattle.std.proofs.Common.{◌≡◌, ℕ, zero, suc, ◌+◌, ◌-◌, ◌<◌, ◌≤◌, List, [], ◌∷◌, map, length, Option, Some, None, Bool, true, false, cond, ◌&&◌, nat_le, nat_lt, slice_get, slice_index_or, refl, sym, ap, ◌∙◌, subst, arith}
+use Rattle.std.proofs.Common.{◌≡◌, ℕ, zero, suc, ◌+◌, ◌-◌, ◌<◌, ◌≤◌, List, [], ◌∷◌, map, length, Option, Some, None, Bool, true, false, cond, ◌&&◌}
+use Rattle.std.proofs.Common.{nat_le, nat_lt, slice_get, slice_index_or, refl, sym, ap, ◌∙◌, subst, arith}
 use Rattle.std.specs.List.{All}
 use Rattle.std.proofs.lemmas.List.Elements.{All-head, All-tail}
 use Rattle.std.proofs.lemmas.Bool.{and_parts, leb-true, ltb-true}
@@ -115,7 +116,8 @@ long_lits : (n : Netlist) (g : Gates) (table : List Pins) (xs : List Sig) → Ea
 long_lits n g table [] h = refl
 long_lits n g table (x ∷ xs) h = λ i. sym (h 0 x.0 refl).long i ∷ long_lits n g table xs (λ k t e. h (suc k) t e) i
 
-same_words : (n : Netlist) (g : Gates) (table : List Pins) (m : Assignment) (f : ℕ → ℕ) (xs : List Sig) → EachReady n g table xs → ((k t : ℕ) → slice_get (numbers xs) k ≡ Some t → Agrees m f table t) → map (word m) (lits table xs) ≡ map (word_of n f) (numbers xs)
+same_words : (n : Netlist) (g : Gates) (table : List Pins) (m : Assignment) (f : ℕ → ℕ) (xs : List Sig) → EachReady n g table xs →
+    ((k t : ℕ) → slice_get (numbers xs) k ≡ Some t → Agrees m f table t) → map (word m) (lits table xs) ≡ map (word_of n f) (numbers xs)
 same_words n g table m f [] h a = refl
 same_words n g table m f (x ∷ xs) h a = λ i. record { width = (h 0 x.0 refl).long i; bits = a 0 x.0 refl i } ∷ same_words n g table m f xs (λ k t e. h (suc k) t e) (λ k t e. a (suc k) t e) i
 

@@ -1,5 +1,6 @@
 -- Signals that are connected in the order of their wires.
-use Rattle.std.proofs.Common.{◌≡◌, ◌≢◌, ◌⊎◌, inl, inr, ℕ, zero, suc, ◌+◌, ◌*◌, ◌<◌, ◌≤◌, List, [], ◌∷◌, map, length, cond, Option, Some, None, slice_get, slice_index, slice_set, refl, sym, ap, ◌∙◌, subst, arith}
+use Rattle.std.proofs.Common.{◌≡◌, ◌≢◌, ◌⊎◌, inl, inr, ℕ, zero, suc, ◌+◌, ◌*◌, ◌<◌, ◌≤◌, List, [], ◌∷◌, map, length, cond, Option, Some, None}
+use Rattle.std.proofs.Common.{slice_get, slice_index, slice_set, refl, sym, ap, ◌∙◌, subst, arith}
 use Rattle.std.specs.List.{All}
 use Rattle.std.proofs.lemmas.List.{length-set}
 use Rattle.std.proofs.lemmas.List.Elements.{All-nil, All-cons}
@@ -37,7 +38,8 @@ wire_kind (Wire (Some c)) d e = let q : c ≡ d = cc in ap (λ x. Wire (Some x))
 pub weight_is : (n : Netlist) (s : ℕ) (d : Cell) → cell_in (kind_at n s) ≡ Some d → signal_weight n s ≡ op_weight d.op (width_of n s) (widths n d.operands)
 weight_is n s d e = ap (kind_weight n (width_of n s)) (wire_kind (kind_at n s) d e)
 
-wire_number : (n : Netlist) (state : ℕ → ℕ) (v : Valuation) (s : ℕ) (d : Cell) → Fits n state v → kind_at n s ≡ Wire (Some d) → slice_index v s ≡ (cell_word d.op (map (signal_word n v) d.operands)).bits
+wire_number : (n : Netlist) (state : ℕ → ℕ) (v : Valuation) (s : ℕ) (d : Cell) → Fits n state v → kind_at n s ≡ Wire (Some d) → slice_index v s ≡
+    (cell_word d.op (map (signal_word n v) d.operands)).bits
 wire_number n state v s d f e = by (slice_get n.signals s) refl e
   where
     by : (o : Option Signal) → slice_get n.signals s ≡ o → kind_in o ≡ Wire (Some d) → slice_index v s ≡ (cell_word d.op (map (signal_word n v) d.operands)).bits
@@ -55,7 +57,8 @@ module _ (n : Netlist) (s : ℕ) (d : Cell) (made : IsNetlist n) (e : cell_in (k
   wire_made new table r h = record {
     fits = h.fits;
     long = h.long (width_of n s) (cell_at n made s d e);
-    value = λ m state v k f a. h.value m (slice_index v) k (λ i t q. a i t (ap (λ (c : Option Cell). slice_get (operands_in c) i) e ∙ q)) ∙ sym (wire_number n state v s d f (wire_kind (kind_at n s) d e));
+    value = λ m state v k f a. h.value m (slice_index v) k (λ i t q. a i t (ap (λ (c : Option Cell). slice_get (operands_in c) i) e ∙ q)) ∙ sym
+        (wire_number n state v s d f (wire_kind (kind_at n s) d e));
   }
 
 pub wire_or_not : (n : Netlist) (s : ℕ) → IsWire n s ⊎ (¬ (IsWire n s))
@@ -115,11 +118,14 @@ source_ready n g table s f l w e = by (kind_at n s) refl
     fit : (k : Kind) → kind_at n s ≡ k → (sort_of k ≡ SigKind.Wire → ⊥) → (length (kind_lits n s k) ≡ width_of n s) × AreLiterals g (kind_lits n s k)
     fit Input q h = (
       variable_long _ (width_of n s),
-      variables_fit g (1 + bits_before is_input n s) (width_of n s) (let b = bits_step is_input n s l in let z : width_if is_input n s ≡ width_of n s = ap (λ k. cond (is_input k) (width_of n s) 0) q in omega (arith, b, z, f)),
+      variables_fit g (1 + bits_before is_input n s) (width_of n s)
+          (let b = bits_step is_input n s l in let z : width_if is_input n s ≡ width_of n s = ap (λ k. cond (is_input k) (width_of n s) 0) q in omega (arith, b, z, f)),
     )
     fit (Reg init next) q h = (
       variable_long _ (width_of n s),
-      variables_fit g (1 + input_count n + bits_before is_register n s) (width_of n s) (let b = bits_step is_register n s l in let z : width_if is_register n s ≡ width_of n s = ap (λ k. cond (is_register k) (width_of n s) 0) q in omega (arith, b, z, f)),
+      variables_fit g (1 + input_count n + bits_before is_register n s) (width_of n s)
+          (let b = bits_step is_register n s l in let z : width_if is_register n s ≡ width_of n s = ap (λ k. cond (is_register k) (width_of n s) 0) q
+          in omega (arith, b, z, f)),
     )
     fit (Wire cell) q h = absurd (h refl)
 
@@ -160,7 +166,8 @@ pub record Underway (n : Netlist) (ws : List ℕ) (g : Gates) (table : List Pins
   pub ready : (k s : ℕ) → k < i → slice_get ws k ≡ Some s → Ready n g table s
   pub agrees : (m : Assignment) (state : ℕ → ℕ) (v : Valuation) → Shows g m → Fits n state v → SourcesAgree n m v table → (k s : ℕ) → k < i → slice_get ws k ≡ Some s → Agrees m (slice_index v) table s
 
-pub underway_start : (n : Netlist) (ws : List ℕ) (g : Gates) (table : List Pins) → g.first ≡ first_and n → g.ands ≡ [] → length table ≡ length n.signals → ((s : ℕ) → s < length n.signals → lits_at table s ≡ source_lits n s) → Underway n ws g table 0
+pub underway_start : (n : Netlist) (ws : List ℕ) (g : Gates) (table : List Pins) → g.first ≡ first_and n → g.ands ≡ [] → length table ≡ length
+    n.signals → ((s : ℕ) → s < length n.signals → lits_at table s ≡ source_lits n s) → Underway n ws g table 0
 underway_start n ws g table f e l h = record {
   first = f;
   few = (let z = ap length e in omega (arith, z));
@@ -196,7 +203,8 @@ module _ (n : Netlist) (ws : List ℕ) (g : Gates) (table : List Pins) (i s : �
       let apart : (t : ℕ) → ¬ (IsWire n t) → t ≢ s = λ t h q. h (subst (λ x. IsWire n x) (sym q) is_wire) in
       let before : (k t : ℕ) → k < i → slice_get ws k ≡ Some t → t ≢ s = λ k t h e q. let z = order.once k i s (e ∙ ap (λ x. Some x) q) here in omega (arith, z, h) in
       let same : (k t : ℕ) → k ≡ i → slice_get ws k ≡ Some t → t ≡ s = λ k t q e. let z : Some t ≡ Some s = sym e ∙ ap (slice_get ws) q ∙ here in cc in
-      let sources_old : (m : Assignment) (v : Valuation) → SourcesAgree n m v (slice_set table s p) → SourcesAgree n m v table = λ m v a t h k. sym (ap (shown m) (set_other table p s t (apart t k))) ∙ a t h k in
+      let sources_old : (m : Assignment) (v : Valuation) → SourcesAgree n m v (slice_set table s p) → SourcesAgree n m v table = λ m v a t h k. sym
+      (ap (shown m) (set_other table p s t (apart t k))) ∙ a t h k in
       record {
         first = b.first ∙ old.first;
         few =

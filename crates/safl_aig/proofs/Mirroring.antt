@@ -1,5 +1,6 @@
 -- A connected net is mirrored.
-use Rattle.std.proofs.Common.{◌≡◌, ℕ, zero, suc, ◌+◌, ◌<◌, ◌^◌, List, [], ◌∷◌, ◌++◌, length, Bool, true, false, cond, Option, Some, None, slice_get, slice_index, unwrap_or, refl, sym, ap, ◌∙◌, subst, arith}
+use Rattle.std.proofs.Common.{◌≡◌, ℕ, zero, suc, ◌+◌, ◌<◌, ◌^◌, List, [], ◌∷◌, ◌++◌, length, Bool, true, false, cond, Option, Some, None, slice_get}
+use Rattle.std.proofs.Common.{slice_index, unwrap_or, refl, sym, ap, ◌∙◌, subst, arith}
 use Rattle.std.proofs.lemmas.List.{length-map}
 use Rattle.safl_net.specs.Netlist.{Netlist, Signal, Kind, Input, Reg, Wire, IsSet, AllSet, width_in, width_of}
 use Rattle.safl_net.specs.Valuations.{Valuation, Fits, reset_state, next_state, next_number, kind_next}
@@ -55,10 +56,12 @@ same_long m first test n f s = one (test (kind_at n s))
     one false = refl
 
 -- variables that have the bits of the signals of a kind have those of each
-own : (m : Assignment) (first : ℕ) (test : Kind → Bool) (n : Netlist) (f : ℕ → ℕ) → variable_bits m first (bits_before test n (length n.signals)) ≡ gathered (of_kind test n (signal_bits n f)) (length n.signals)
+own : (m : Assignment) (first : ℕ) (test : Kind → Bool) (n : Netlist) (f : ℕ → ℕ) → variable_bits m first (bits_before test n (length n.signals)) ≡
+    gathered (of_kind test n (signal_bits n f)) (length n.signals)
     → (s : ℕ) → s < length n.signals → test (kind_at n s) ≡ true → own_bits m first test n s ≡ signal_bits n f s
 own m first test n f e s l t =
-    let p = gathered_split (of_kind test n (own_bits m first test n)) (of_kind test n (signal_bits n f)) (length n.signals) (λ k h. same_long m first test n f k) (sym (given_parts m first test n (length n.signals)) ∙ e) s l in
+    let p = gathered_split (of_kind test n (own_bits m first test n)) (of_kind test n (signal_bits n f)) (length n.signals)
+    (λ k h. same_long m first test n f k) (sym (given_parts m first test n (length n.signals)) ∙ e) s l in
     sym (ap (λ b. cond b (own_bits m first test n s) []) t) ∙ p ∙ ap (λ b. cond b (signal_bits n f s) []) t
 
 fits_width : (n : Netlist) (state : ℕ → ℕ) (v : Valuation) (s : ℕ) → Fits n state v → s < length n.signals → slice_index v s < 2 ^ width_of n s
@@ -124,7 +127,8 @@ next_fits n made set s t = by (slice_get n.signals s) refl t
     by (Some g) e h = on_kind g g.kind e refl h (made.signals s g e).kind (set s g e)
 
 -- for registers it is enough to look at registers
-register_case : {A : Type 0} (n : Netlist) (f g : ℕ → A) (z : A) (s : ℕ) → (is_register (kind_at n s) ≡ true → f s ≡ g s) → cond (is_register (kind_at n s)) (f s) z ≡ cond (is_register (kind_at n s)) (g s) z
+register_case : {A : Type 0} (n : Netlist) (f g : ℕ → A) (z : A) (s : ℕ) → (is_register (kind_at n s) ≡ true → f s ≡ g s) → cond
+    (is_register (kind_at n s)) (f s) z ≡ cond (is_register (kind_at n s)) (g s) z
 register_case n f g z s h = by (is_register (kind_at n s)) h
   where
     by : (b : Bool) → (b ≡ true → f s ≡ g s) → cond b (f s) z ≡ cond b (g s) z
@@ -138,7 +142,9 @@ long_case false xs w h = refl
 pub nexts_long : (n : Netlist) (g : Gates) (table : List Pins) → IsNetlist n → AllSet n → Connected n g table → length (next_lits n table) ≡ latch_count n
 nexts_long n g table made set done =
     gathered_long (of_kind is_register n (λ s. lits_at table (next_sig n s))) (length n.signals)
-    ∙ summed_same _ (width_if is_register n) (length n.signals) (λ s l. long_case (is_register (kind_at n s)) (lits_at table (next_sig n s)) (width_of n s) (λ t. let f = next_fits n made set s t in (done.ready (next_sig n s) f.known).long ∙ f.width))
+    ∙ summed_same _ (width_if is_register n) (length n.signals)
+    (λ s l. long_case (is_register (kind_at n s)) (lits_at table (next_sig n s)) (width_of n s)
+    (λ t. let f = next_fits n made set s t in (done.ready (next_sig n s) f.known).long ∙ f.width))
 
 -- what latches and outputs of a connected net take, with its ANDs
 pub record IsMade (n : Netlist) (g : Gates) (table : List Pins) (a : Circuit) : Type 0 where
@@ -151,7 +157,9 @@ pub mirrors : (n : Netlist) (g : Gates) (table : List Pins) (a : Circuit) → Is
 mirrors n g table a made set zero_all done is =
     record {
       resets = zero_all;
-      count = long ∙ sym (gathered_long (of_kind is_register n (signal_bits n (reset_state n))) (length n.signals) ∙ summed_same _ (width_if is_register n) (length n.signals) (λ s l. long_case (is_register (kind_at n s)) (signal_bits n (reset_state n) s) (width_of n s) (λ t. bits_long (width_of n s) (reset_state n s))));
+      count = long ∙ sym (gathered_long (of_kind is_register n (signal_bits n (reset_state n))) (length n.signals) ∙ summed_same _
+          (width_if is_register n) (length n.signals) (λ s l. long_case (is_register (kind_at n s)) (signal_bits n (reset_state n) s) (width_of n s)
+          (λ t. bits_long (width_of n s) (reset_state n s))));
       outputs = λ state v m f w i r.
           let h = shows state v m f w i r in
           ap (values m) is.outputs ∙ gathered_map (on m) (λ k. lits_at table (output_at n k)) (length n.outputs)
@@ -174,5 +182,8 @@ mirrors n g table a made set zero_all done is =
     through m true ls = refl
     through m false ls = refl
 
-    shows : (state : ℕ → ℕ) (v : Valuation) (m : Assignment) → Fits n state v → Wired (base a) a.ands m → input_bits a m ≡ given_bits n v → latch_bits a m ≡ for_registers n (signal_bits n (slice_index v)) → (s : ℕ) → s < length n.signals → values m (lits_at table s) ≡ signal_bits n (slice_index v) s
-    shows state v m f w i r = signal_shows n g table done state v m f (subst (λ k. Wired k g.ands m) first (subst (λ l. Wired (base a) l m) is.ands w)) (ap (variable_bits m 1) (sym is.inputs) ∙ i) ((λ j. variable_bits m (1 + sym is.inputs j) (sym long j)) ∙ r)
+    shows : (state : ℕ → ℕ) (v : Valuation) (m : Assignment) → Fits n state v → Wired (base a) a.ands m → input_bits a m ≡ given_bits n v → latch_bits
+        a m ≡ for_registers n (signal_bits n (slice_index v)) → (s : ℕ) → s < length n.signals → values m (lits_at table s) ≡ signal_bits n (slice_index v) s
+    shows state v m f w i r = signal_shows n g table done state v m f
+        (subst (λ k. Wired k g.ands m) first (subst (λ l. Wired (base a) l m) is.ands w)) (ap (variable_bits m 1) (sym is.inputs) ∙ i)
+        ((λ j. variable_bits m (1 + sym is.inputs j) (sym long j)) ∙ r)

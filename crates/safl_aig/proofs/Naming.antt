@@ -1,5 +1,6 @@
 -- The parts of a net's circuit make one.
-use Rattle.std.proofs.Common.{◌≡◌, ◌≢◌, ℕ, zero, suc, ◌+◌, ◌*◌, ◌%◌, ◌<◌, ◌≤◌, ◌^◌, List, [], ◌∷◌, ◌++◌, length, Bool, true, false, cond, not, ◌&&◌, ◌||◌, ◌==◌, nat_le, Option, Some, None, slice_get, decimal, refl, sym, ap, ◌∙◌, subst, arith}
+use Rattle.std.proofs.Common.{◌≡◌, ◌≢◌, ℕ, zero, suc, ◌+◌, ◌*◌, ◌%◌, ◌<◌, ◌≤◌, ◌^◌, List, [], ◌∷◌, ◌++◌, length, Bool, true, false, cond, not, ◌&&◌}
+use Rattle.std.proofs.Common.{◌||◌, ◌==◌, nat_le, Option, Some, None, slice_get, decimal, refl, sym, ap, ◌∙◌, subst, arith}
 use Rattle.std.specs.List.{All}
 use Rattle.std.proofs.lemmas.List.{length-map, length_push}
 use Rattle.std.proofs.lemmas.List.Elements.{All-nil, All-cons, All-append, All-push, All-same, All-weaker}
@@ -54,7 +55,8 @@ digit_code : (d : ℕ) → d < 10 → IsCode (48 + d)
 digit_code d h = λ e. omega (arith, e)
 
 decimal_line : (n : ℕ) → n < 2 ^ 64 → IsLine (decimal n)
-decimal_line n h = decimal_by_steps (λ k ds. IsLine ds) (λ k l. All-cons IsCode (48 + k) [] (digit_code k l) (All-nil IsCode)) (λ k ds l i. All-push IsCode ds (48 + k % 10) i (digit_code (k % 10) (omega arith))) n h
+decimal_line n h = decimal_by_steps (λ k ds. IsLine ds) (λ k l. All-cons IsCode (48 + k) [] (digit_code k l) (All-nil IsCode))
+    (λ k ds l i. All-push IsCode ds (48 + k % 10) i (digit_code (k % 10) (omega arith))) n h
 
 bit_line : (name : List ℕ) (b : ℕ) → IsLine name → b < 2 ^ 64 → IsLine (bit_name name b)
 bit_line name b h l =
@@ -96,25 +98,32 @@ width_small : (n : Netlist) → IsNetlist n → (s : ℕ) → width_of n s < 2 ^
 width_small n made s = let e = width_le n made s in omega (arith, e)
 
 kind_lines : (n : Netlist) → IsNetlist n → (test : Kind → Bool) (k : ℕ) → All IsLine (gathered (of_kind test n (signal_names n)) k)
-kind_lines n made test k = gathered_all IsLine (of_kind test n (signal_names n)) k (λ s l. cond_all IsLine (test (kind_at n s)) (signal_names n s) (λ t. bit_lines (name_at n s) (width_of n s) (signal_line n made s) (width_small n made s)))
+kind_lines n made test k = gathered_all IsLine (of_kind test n (signal_names n)) k
+    (λ s l. cond_all IsLine (test (kind_at n s)) (signal_names n s) (λ t. bit_lines (name_at n s) (width_of n s) (signal_line n made s) (width_small n made s)))
 
 long_cond : {A : Type 0} (b : Bool) (xs : List A) (w : ℕ) → length xs ≡ w → length (cond b xs []) ≡ cond b w 0
 long_cond true xs w h = h
 long_cond false xs w h = refl
 
 kind_names_long : (n : Netlist) (test : Kind → Bool) (k : ℕ) → length (gathered (of_kind test n (signal_names n)) k) ≡ bits_before test n k
-kind_names_long n test k = gathered_long (of_kind test n (signal_names n)) k ∙ summed_same _ (width_if test n) k (λ s l. long_cond (test (kind_at n s)) (signal_names n s) (width_of n s) (bit_names_long (name_at n s) (width_of n s)))
+kind_names_long n test k = gathered_long (of_kind test n (signal_names n)) k ∙ summed_same _ (width_if test n) k
+    (λ s l. long_cond (test (kind_at n s)) (signal_names n s) (width_of n s) (bit_names_long (name_at n s) (width_of n s)))
 
 output_names_long : (n : Netlist) (k : ℕ) → length (gathered (output_names n) k) ≡ summed (output_weight n) k
 output_names_long n k = gathered_long (output_names n) k ∙ summed_same _ (output_weight n) k (λ i l. bit_names_long (name_of_output (slice_get n.outputs i)) (width_of n (output_at n i)))
 
 outputs_long : (n : Netlist) (g : Gates) (table : List Pins) → IsNetlist n → Connected n g table → length (output_lits n table) ≡ summed (output_weight n) (length n.outputs)
-outputs_long n g table made done = gathered_long (λ i. lits_at table (output_at n i)) (length n.outputs) ∙ summed_same _ (output_weight n) (length n.outputs) (λ i l. (done.ready (output_at n i) (output_known n made i l)).long)
+outputs_long n g table made done = gathered_long (λ i. lits_at table (output_at n i)) (length n.outputs) ∙ summed_same _ (output_weight n)
+    (length n.outputs) (λ i l. (done.ready (output_at n i) (output_known n made i l)).long)
 
 -- ---- the circuit
 
-module _ (n : Netlist) (g : Gates) (table : List Pins) (nexts outputs : List Lit) (ands : List (Lit × Lit)) (names : Names) (made : IsNetlist n) (set : AllSet n) (light : weight n ≤ 1000000) (done : Connected n g table) (gates : IsGates g)
-    (nexts_are : nexts ≡ next_lits n table) (outputs_are : outputs ≡ output_lits n table) (ands_are : ands ≡ g.ands) (inputs_named : names_of names.inputs.items ≡ for_inputs n (signal_names n)) (latches_named : names_of names.latches.items ≡ for_registers n (signal_names n)) (outputs_named : names_of names.outputs.items ≡ gathered (output_names n) (length n.outputs)) where
+module _ (n : Netlist) (g : Gates) (table : List Pins) (nexts outputs : List Lit) (ands : List (Lit × Lit)) (names : Names) (made : IsNetlist n)
+    (set : AllSet n) (light : weight n ≤ 1000000) (done : Connected n g table) (gates : IsGates g)
+    (nexts_are : nexts ≡ next_lits n table) (outputs_are : outputs ≡ output_lits n table) (ands_are : ands ≡ g.ands)
+    (inputs_named : names_of names.inputs.items ≡ for_inputs n (signal_names n))
+    (latches_named : names_of names.latches.items ≡ for_registers n (signal_names n))
+    (outputs_named : names_of names.outputs.items ≡ gathered (output_names n) (length n.outputs)) where
   abbrev made_of : Circuit
   made_of = circuit_of nexts outputs ands names
 
@@ -146,7 +155,8 @@ module _ (n : Netlist) (g : Gates) (table : List Pins) (nexts outputs : List Lit
         (All-same (IsLiteral g) nexts (next_lits n table) nexts_are (gathered_all (IsLiteral g) (of_kind is_register n (λ s. lits_at table (next_sig n s))) (length n.signals)
         (λ s l. cond_all (IsLiteral g) (is_register (kind_at n s)) (lits_at table (next_sig n s)) (λ t. table_fits (next_sig n s) (next_fits n made set s t).known))));
     outputs = All-weaker (IsLiteral g) (λ (l : Lit). l.0 ≤ 2 * variables made_of + 1) small outputs
-        (All-same (IsLiteral g) outputs (output_lits n table) outputs_are (gathered_all (IsLiteral g) (λ i. lits_at table (output_at n i)) (length n.outputs) (λ i l. table_fits (output_at n i) (output_known n made i l))));
+        (All-same (IsLiteral g) outputs (output_lits n table) outputs_are
+        (gathered_all (IsLiteral g) (λ i. lits_at table (output_at n i)) (length n.outputs) (λ i l. table_fits (output_at n i) (output_known n made i l))));
     output_count = (let a = ap length outputs_are ∙ outputs_long n g table made done in omega (arith, a, light));
     ands = subst (λ k. AreBelow k ands) (sym base_is) (subst (λ xs. AreBelow g.first xs) (sym ands_are) gates.below);
     input_names = length-map names.inputs.items (λ x. x.bytes.items);
@@ -154,5 +164,6 @@ module _ (n : Netlist) (g : Gates) (table : List Pins) (nexts outputs : List Lit
     output_names = ap length outputs_named ∙ output_names_long n (length n.outputs) ∙ sym (outputs_long n g table made done) ∙ sym (ap length outputs_are);
     input_lines = All-same IsLine _ _ inputs_named (kind_lines n made is_input (length n.signals));
     latch_lines = All-same IsLine _ _ latches_named (kind_lines n made is_register (length n.signals));
-    output_lines = All-same IsLine _ _ outputs_named (gathered_all IsLine (output_names n) (length n.outputs) (λ i l. bit_lines (name_of_output (slice_get n.outputs i)) (width_of n (output_at n i)) (output_line n made i) (width_small n made (output_at n i))));
+    output_lines = All-same IsLine _ _ outputs_named (gathered_all IsLine (output_names n) (length n.outputs)
+        (λ i l. bit_lines (name_of_output (slice_get n.outputs i)) (width_of n (output_at n i)) (output_line n made i) (width_small n made (output_at n i))));
   }

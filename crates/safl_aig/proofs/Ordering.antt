@@ -37,7 +37,8 @@ pub distinct_sum : (f p : ℕ → ℕ) (k n : ℕ) → ((j : ℕ) → j < k → 
 distinct_sum f p zero n h d = omega arith
 distinct_sum f p (suc k) n h d =
     let t = p k in
-    let e : summed (λ j. f (p j)) k ≡ summed (λ j. without t f (p j)) k = summed_same (λ j. f (p j)) (λ j. without t f (p j)) k (λ j l. without_other t f (p j) (λ q. let z = d j k (omega (arith, l)) (omega arith) q in omega (arith, z, l))) in
+    let e : summed (λ j. f (p j)) k ≡ summed (λ j. without t f (p j)) k = summed_same (λ j. f (p j)) (λ j. without t f (p j)) k
+    (λ j l. without_other t f (p j) (λ q. let z = d j k (omega (arith, l)) (omega arith) q in omega (arith, z, l))) in
     let i = distinct_sum (without t f) p k n (λ j l. h j (omega (arith, l))) (λ a b l r. d a b (omega (arith, l)) (omega (arith, r))) in
     let o = taken_out t f n (h k (omega arith)) in
     omega (arith, e, i, o)
@@ -48,7 +49,8 @@ get_index (x ∷ xs) zero h = refl
 get_index (x ∷ xs) (suc k) h = get_index xs k (omega (arith, h))
 
 -- the wires of an order weigh no more than the net
-pub ordered_light : (n : Netlist) (ws : List ℕ) (k : ℕ) → k ≤ length ws → ((i s : ℕ) → slice_get ws i ≡ Some s → s < length n.signals) → ((i j s : ℕ) → slice_get ws i ≡ Some s → slice_get ws j ≡ Some s → i ≡ j) → ordered_weight n ws k ≤ weight n
+pub ordered_light : (n : Netlist) (ws : List ℕ) (k : ℕ) → k ≤ length ws → ((i s : ℕ) → slice_get ws i ≡ Some s → s < length n.signals) →
+    ((i j s : ℕ) → slice_get ws i ≡ Some s → slice_get ws j ≡ Some s → i ≡ j) → ordered_weight n ws k ≤ weight n
 ordered_light n ws k l known once =
     let e = distinct_sum (signal_weight n) (slice_index ws) k (length n.signals) (λ j h. known j (slice_index ws j) (get_index ws j (omega (arith, h, l))))
     (λ i j h o q. once i j (slice_index ws i) (get_index ws i (omega (arith, h, l))) (get_index ws j (omega (arith, o, l)) ∙ ap (λ x. Some x) (sym q))) in

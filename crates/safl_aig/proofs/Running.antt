@@ -14,7 +14,8 @@ use Rattle.safl_aig.proofs.Gathering.{gathered_same}
 
 -- in a valuation that fits a state the registers have its bits
 registers_fit : (n : Netlist) (state : ℕ → ℕ) (v : Valuation) → Fits n state v → for_registers n (signal_bits n state) ≡ for_registers n (signal_bits n (slice_index v))
-registers_fit n state v f = gathered_same (of_kind is_register n (signal_bits n state)) (of_kind is_register n (signal_bits n (slice_index v))) (length n.signals) (λ s l. at s (slice_get n.signals s) refl)
+registers_fit n state v f = gathered_same (of_kind is_register n (signal_bits n state)) (of_kind is_register n (signal_bits n (slice_index v)))
+    (length n.signals) (λ s l. at s (slice_get n.signals s) refl)
   where
     on_kind : (s : ℕ) (k : Kind) → Holds n v (state s) (slice_index v s) k → cond (is_register k) (signal_bits n state s) [] ≡ cond (is_register k) (signal_bits n (slice_index v) s) []
     on_kind s Input h = refl
@@ -43,7 +44,9 @@ zeros n f h zero = refl
 zeros n f h (suc k) =
     let e = zeros n f h k in
     let o = one (is_register (kind_at n k)) in
-    (λ i. e i ++ o i) ∙ false-append (length (gathered (of_kind is_register n (signal_bits n f)) k)) (length (of_kind is_register n (signal_bits n f) k)) ∙ ap all_false (sym (length-append (gathered (of_kind is_register n (signal_bits n f)) k) (of_kind is_register n (signal_bits n f) k)))
+    (λ i. e i ++ o i) ∙ false-append (length (gathered (of_kind is_register n (signal_bits n f)) k))
+    (length (of_kind is_register n (signal_bits n f) k)) ∙ ap all_false
+    (sym (length-append (gathered (of_kind is_register n (signal_bits n f)) k) (of_kind is_register n (signal_bits n f) k)))
   where
     word : signal_bits n f k ≡ all_false (length (signal_bits n f k))
     word = let z = ap (bits_of (width_of n k)) (h k) ∙ no_bits (width_of n k) in z ∙ ap all_false (sym (ap length z ∙ false_long (width_of n k)))
@@ -52,7 +55,8 @@ zeros n f h (suc k) =
     one true = word
     one false = refl
 
-goes : (n : Netlist) (a : Circuit) → Mirrors n a → (state : ℕ → ℕ) (held : List Bool) → held ≡ for_registers n (signal_bits n state) → (vs : List Valuation) (ms : List Assignment) → RunsOn n state vs → RunsFrom a held (map (given_bits n) vs) ms → AllZip (EqualBits n a) vs ms
+goes : (n : Netlist) (a : Circuit) → Mirrors n a → (state : ℕ → ℕ) (held : List Bool) → held ≡ for_registers n (signal_bits n state) →
+    (vs : List Valuation) (ms : List Assignment) → RunsOn n state vs → RunsFrom a held (map (given_bits n) vs) ms → AllZip (EqualBits n a) vs ms
 goes n a h state held e [] [] r q = tt
 goes n a h state held e [] (m ∷ ms) r q = absurd q
 goes n a h state held e (v ∷ vs) [] r q = absurd q

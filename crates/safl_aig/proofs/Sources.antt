@@ -64,7 +64,8 @@ lower_or_last zero (suc k) h = inl (omega arith)
 lower_or_last (suc s) zero h = absurd (omega (arith, h))
 lower_or_last (suc s) (suc k) h = elim (lower_or_last s k (omega (arith, h))) [ inl u ↦ inl (omega (arith, u)) | inr u ↦ inr (ap suc u) ]
 
-pub pushed_lits : (n : Netlist) (table new : List Pins) (p : Pins) (i : ℕ) → length table ≡ i → new ≡ table ++ p ∷ [] → ((s : ℕ) → s < i → lits_at table s ≡ source_lits n s) → p.bits.items ≡ source_lits n i → (s : ℕ) → s < i + 1 → lits_at new s ≡ source_lits n s
+pub pushed_lits : (n : Netlist) (table new : List Pins) (p : Pins) (i : ℕ) → length table ≡ i → new ≡ table ++ p ∷ [] →
+    ((s : ℕ) → s < i → lits_at table s ≡ source_lits n s) → p.bits.items ≡ source_lits n i → (s : ℕ) → s < i + 1 → lits_at new s ≡ source_lits n s
 pushed_lits n table new p i l e h f s lt = elim (lower_or_last s i lt) [
   | inl u ↦ ap (λ t. lits_at t s) e ∙ push_old table p s (omega (arith, u, l)) ∙ h s u
   | inr u ↦ (λ j. lits_at (e j) ((u ∙ sym l) j)) ∙ push_new table p ∙ f ∙ ap (source_lits n) (sym u)

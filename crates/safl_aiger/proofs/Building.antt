@@ -1,5 +1,6 @@
 -- The circuit of lines that were read.
-use Rattle.std.proofs.Common.{◌≡◌, ◌≢◌, ℕ, zero, suc, ◌+◌, ◌*◌, ◌^◌, ◌<◌, ◌≤◌, ◌==◌, List, [], ◌∷◌, ◌++◌, length, replicate, decimal, slice_get, Some, Bool, true, false, cond, refl, sym, ap, ◌∙◌, subst, arith, length-append}
+use Rattle.std.proofs.Common.{◌≡◌, ◌≢◌, ℕ, zero, suc, ◌+◌, ◌*◌, ◌^◌, ◌<◌, ◌≤◌, ◌==◌, List, [], ◌∷◌, ◌++◌, length, replicate, decimal, slice_get, Some}
+use Rattle.std.proofs.Common.{Bool, true, false, cond, refl, sym, ap, ◌∙◌, subst, arith, length-append}
 use Rattle.std.specs.List.{All}
 use Rattle.std.proofs.lemmas.List.{length-replicate, length-set}
 use Rattle.std.proofs.lemmas.List.Elements.{All-nil, All-cons, All-replicate, All-set}
@@ -10,7 +11,8 @@ use Rattle.safl_aiger.specs.declared.symbols.Sort.{Sort}
 use Rattle.safl_aiger.specs.declared.symbols.Sort.TheVariants as sorts
 use Rattle.safl_aiger.specs.Circuits.{Circuit, latches, variables, base, IsLine, AreBelow, IsCircuit}
 use Rattle.safl_aiger.specs.Lines.{grown, lines, fields, HasNumbers}
-use Rattle.safl_aiger.specs.Reads.{Counts, IsGood, line_kinds, AreGood, kinds_from, own_numbers, latch_numbers, output_numbers, and_numbers, body_numbers, counts_of, Named, NamesPlace, NamePlaces, with_name, symbol_line, unnamed, named_of}
+use Rattle.safl_aiger.specs.Reads.{Counts, IsGood, line_kinds, AreGood, kinds_from, own_numbers, latch_numbers, output_numbers, and_numbers}
+use Rattle.safl_aiger.specs.Reads.{body_numbers, counts_of, Named, NamesPlace, NamePlaces, with_name, symbol_line, unnamed, named_of}
 use Rattle.safl_aiger.proofs.Cutting.{Free, decimals_small}
 use Rattle.safl_aiger.proofs.Passing.{kinds_long}
 
@@ -98,7 +100,8 @@ ands_below most first (q ∷ ps) (x ∷ xs) g = by (ands_below most (suc first) 
         (omega (arith, a), omega (arith, b))
 
 -- the own literal of a section's last line is a decimal, so that it is below 2 to the 31st
-last_small : (most : ℕ) (f : ℕ → LineKind) → ((v : ℕ) (l ns : List ℕ) → HasNumbers l ns → IsGood most (f v) ns → 2 * v < 2 ^ 31) → (first k : ℕ) (xs nss : List (List ℕ)) → AreGood most (kinds_from f first k) xs nss → 1 ≤ k → first + k ≤ 2 ^ 30
+last_small : (most : ℕ) (f : ℕ → LineKind) → ((v : ℕ) (l ns : List ℕ) → HasNumbers l ns → IsGood most (f v) ns → 2 * v < 2 ^ 31) → (first k : ℕ)
+    (xs nss : List (List ℕ)) → AreGood most (kinds_from f first k) xs nss → 1 ≤ k → first + k ≤ 2 ^ 30
 last_small most f small first zero xs nss g h = absurd (omega (arith, h))
 last_small most f small first (suc k) [] nss g h = absurd g
 last_small most f small first (suc k) (x ∷ xs) [] g h = absurd g
@@ -205,7 +208,8 @@ name_free sorts.Latch k name f = free_behind (108 ∷ decimal k) 32 name f
 name_free sorts.Output k name f = free_behind (111 ∷ decimal k) 32 name f
 
 place_fits : (c : Counts) (line : List ℕ) (old new : Named) → Free 10 line → NamesPlace line old new → NamesFit c old → NamesFit c new
-place_fits c line old new f p n = subst (λ (x : Named). NamesFit c x) (sym p.sets) (with_fit c p.sort p.place p.name old (line_is p.name (name_free p.sort p.place p.name (subst (λ (x : List ℕ). Free 10 x) p.is f))) n)
+place_fits c line old new f p n = subst (λ (x : Named). NamesFit c x) (sym p.sets)
+    (with_fit c p.sort p.place p.name old (line_is p.name (name_free p.sort p.place p.name (subst (λ (x : List ℕ). Free 10 x) p.is f))) n)
 
 places_fit : (c : Counts) (ls : List (List ℕ)) (old new : Named) → AllFree ls → NamePlaces ls old new → NamesFit c old → NamesFit c new
 places_fit c [] old new f p n = subst (λ (x : Named). NamesFit c x) (sym p) n
@@ -222,7 +226,8 @@ few (suc i) zero zero a b d = let z = a (omega arith) in omega (arith, z)
 few i (suc l) zero a b d = let z = b (omega arith) in omega (arith, z)
 few i l (suc n) a b d = let z = d (omega arith) in omega (arith, z)
 
-pub is_circuit : (a : Circuit) (xs : List (List ℕ)) → AreGood (variables a) (line_kinds (counts_of a)) xs (body_numbers a) → length a.outputs < 2 ^ 31 → NamesFit (counts_of a) (named_of a) → IsCircuit a
+pub is_circuit : (a : Circuit) (xs : List (List ℕ)) → AreGood (variables a) (line_kinds (counts_of a)) xs (body_numbers a) → length a.outputs < 2 ^ 31
+    → NamesFit (counts_of a) (named_of a) → IsCircuit a
 is_circuit a xs g o n =
     let most = variables a in
     let one = kinds_from Input 1 a.inputs in

@@ -10,14 +10,17 @@ use Rattle.safl_aiger.specs.declared.reading.LineKind.{LineKind}
 use Rattle.safl_aiger.specs.declared.sections.Body.{Body}
 use Rattle.safl_aiger.specs.Circuits.{Circuit, circuit_of}
 use Rattle.safl_aiger.specs.Lines.{grown, lines}
-use Rattle.safl_aiger.specs.Reads.{Counts, IsHeader, total, line_kinds, AreGood, own_numbers, latch_numbers, output_numbers, and_numbers, counts_of, Named, NamePlaces, unnamed, Ends, Begins, AigReads, Breaks, LineFault, SymbolFault, HasFault, bad_header, bad_line, bad_symbol}
+use Rattle.safl_aiger.specs.Reads.{Counts, IsHeader, total, line_kinds, AreGood, own_numbers, latch_numbers, output_numbers, and_numbers, counts_of}
+use Rattle.safl_aiger.specs.Reads.{Named, NamePlaces, unnamed, Ends, Begins, AigReads, Breaks, LineFault, SymbolFault, HasFault, bad_header, bad_line}
+use Rattle.safl_aiger.specs.Reads.{bad_symbol}
 use Rattle.safl_aiger.specs.Sections.{Stops, BodyIs}
 use Rattle.safl_aiger.specs.Symbols.{named, SymbolsPass}
 use Rattle.safl_aiger.proofs.Building.{AllFree, lines_free, free_parts, good_long, kinds_count, NamesFit, names_fit, is_circuit}
 
 -- ---- faults
 
-line_fault : (most : ℕ) (done : List LineKind) (w : LineKind) (left : List LineKind) (passed nss others : List (List ℕ)) (e : AigRule) → AreGood most done passed nss → Breaks most w others e → LineFault most (done ++ w ∷ left) (passed ++ others) e (length done)
+line_fault : (most : ℕ) (done : List LineKind) (w : LineKind) (left : List LineKind) (passed nss others : List (List ℕ)) (e : AigRule) → AreGood most
+    done passed nss → Breaks most w others e → LineFault most (done ++ w ∷ left) (passed ++ others) e (length done)
 line_fault most [] w left [] [] others e g b = b
 line_fault most [] w left [] (n ∷ nss) others e g b = absurd g
 line_fault most [] w left (l ∷ passed) nss others e g b = absurd g
@@ -48,7 +51,8 @@ stop_small text most at c e k s =
 behind : (text : List ℕ) (at : ℕ) (c : Counts) (b : Body) (h : Begins text c (lines (drop at text))) (p : BodyIs text at c b) → Begins text c (p.passes.front ++ lines (drop b.next text))
 behind text at c b h p = record { head = h.head; lines_are = h.lines_are ∙ ap (λ x. h.head ∷ x) p.passes.lines_are; header = h.header }
 
-pub symbols_fault : (text : List ℕ) (at : ℕ) (c : Counts) (b : Body) (k n : ℕ) → Begins text c (lines (drop at text)) → BodyIs text at c b → SymbolFault (lines (drop b.next text)) (unnamed c) k → n ≡ (1 + c.inputs + c.latches + c.outputs + c.ands) + k + 1 → HasFault text B04 n
+pub symbols_fault : (text : List ℕ) (at : ℕ) (c : Counts) (b : Body) (k n : ℕ) → Begins text c (lines (drop at text)) → BodyIs text at c b →
+    SymbolFault (lines (drop b.next text)) (unnamed c) k → n ≡ (1 + c.inputs + c.latches + c.outputs + c.ands) + k + 1 → HasFault text B04 n
 symbols_fault text at c b k n h p f e =
     let body = p.passes.front in
     let l = good_long (total c) (line_kinds c) body _ p.passes.good in
@@ -76,7 +80,8 @@ lines_few (c ∷ t) = by (c == 10) (lines_few t)
     by false h = let g = grown_few c (lines t) in omega (arith, h, g)
 
 -- the lines before the symbols, and the others
-pub lines_room : (text : List ℕ) (at : ℕ) (c : Counts) (b : Body) → Begins text c (lines (drop at text)) → BodyIs text at c b → (1 + c.inputs + c.latches + c.outputs + c.ands) + length (lines (drop b.next text)) ≤ length text
+pub lines_room : (text : List ℕ) (at : ℕ) (c : Counts) (b : Body) → Begins text c (lines (drop at text)) → BodyIs text at c b →
+    (1 + c.inputs + c.latches + c.outputs + c.ands) + length (lines (drop b.next text)) ≤ length text
 lines_room text at c b h p =
     let z = ap length (behind text at c b h p).lines_are in
     let l = good_long (total c) (line_kinds c) p.passes.front _ p.passes.good in
@@ -95,8 +100,10 @@ numbers c nexts outputs ands = own_numbers 1 c.inputs ++ (latch_numbers (1 + c.i
 abbrev pub made : ℕ → List Lit → List Lit → List (Lit × Lit) → Named → Circuit
 made inputs nexts outputs ands n = record { inputs = inputs; nexts = nexts; outputs = outputs; ands = ands; input_names = n.inputs; latch_names = n.latches; output_names = n.outputs }
 
-pub reads_from : (text : List ℕ) (c : Counts) (body symbols left : List (List ℕ)) (nexts outputs : List Lit) (ands : List (Lit × Lit)) (n : Named) → c.outputs < 2 ^ 31 → length nexts ≡ c.latches → length outputs ≡ c.outputs → length ands ≡ c.ands
-    → Begins text c (body ++ (symbols ++ left)) → AreGood (total c) (line_kinds c) body (numbers c nexts outputs ands) → NamePlaces symbols (unnamed c) n → Ends left → AigReads text (made c.inputs nexts outputs ands n)
+pub reads_from : (text : List ℕ) (c : Counts) (body symbols left : List (List ℕ)) (nexts outputs : List Lit) (ands : List (Lit × Lit)) (n : Named) →
+    c.outputs < 2 ^ 31 → length nexts ≡ c.latches → length outputs ≡ c.outputs → length ands ≡ c.ands
+    → Begins text c (body ++ (symbols ++ left)) → AreGood (total c) (line_kinds c) body (numbers c nexts outputs ands) → NamePlaces symbols
+    (unnamed c) n → Ends left → AigReads text (made c.inputs nexts outputs ands n)
 reads_from text c body symbols left nexts outputs ands n small ln lo la h g p e =
     let a : Circuit = made c.inputs nexts outputs ands n in
     let free : AllFree (h.head ∷ (body ++ (symbols ++ left))) = subst (λ (ls : List (List ℕ)). AllFree ls) h.lines_are (lines_free text) in
@@ -115,7 +122,8 @@ reads_from text c body symbols left nexts outputs ands n small ln lo la h g p e 
       ends = e;
     }
 
-pub reads : (text : List ℕ) (at : ℕ) (c : Counts) (b : Body) (names : Names) → c.outputs < 2 ^ 31 → Begins text c (lines (drop at text)) → BodyIs text at c b → SymbolsPass (lines (drop b.next text)) (unnamed c) (named names)
+pub reads : (text : List ℕ) (at : ℕ) (c : Counts) (b : Body) (names : Names) → c.outputs < 2 ^ 31 → Begins text c (lines (drop at text)) → BodyIs text
+    at c b → SymbolsPass (lines (drop b.next text)) (unnamed c) (named names)
     → AigReads text (circuit_of b.nexts.items b.outputs.items b.ands.items names)
 reads text at c b names small h p s =
     let nexts = b.nexts.items in

@@ -1,5 +1,6 @@
 -- Texts that are cut at a byte.
-use Rattle.std.proofs.Common.{◌≡◌, ◌≢◌, ℕ, zero, suc, ◌+◌, ◌-◌, ◌^◌, ◌<◌, ◌≤◌, ◌==◌, List, [], ◌∷◌, ◌++◌, length, take, drop, get_or, slice_get, Some, Bool, true, false, cond, refl, sym, ap, ◌∙◌, subst, arith}
+use Rattle.std.proofs.Common.{◌≡◌, ◌≢◌, ℕ, zero, suc, ◌+◌, ◌-◌, ◌^◌, ◌<◌, ◌≤◌, ◌==◌, List, [], ◌∷◌, ◌++◌, length, take, drop, get_or, slice_get, Some}
+use Rattle.std.proofs.Common.{Bool, true, false, cond, refl, sym, ap, ◌∙◌, subst, arith}
 use Rattle.std.proofs.lemmas.List.{take-append-drop, drop-drop, drop_more, take_more, get_or-drop, drop_all, length-drop, take_all}
 use Rattle.std.proofs.lemmas.Bool.Decides.{nat_tests}
 use Rattle.safl_aiger.specs.Lines.{grown, lines, fields, AreDecimals, HasCount}
@@ -40,16 +41,21 @@ free_more c text at end d h l f e =
     let z : end + 1 - at ≡ k + 1 = omega (arith, h) in
     let i : k < length (drop at text) = omega (arith, length-drop at text, h, l) in
     let g : get_or (drop at text) k d ≡ get_or text end d = get_or-drop at text k d ∙ ap (λ j. get_or text j d) (let y : at + k ≡ end = omega (arith, h) in y) in
-    subst (λ (xs : List ℕ). Free c xs) (sym (ap (λ j. take j (drop at text)) z ∙ take_more (drop at text) k d i)) (free_push c (take k (drop at text)) (get_or (drop at text) k d) f (λ q. e (sym g ∙ q)))
+    subst (λ (xs : List ℕ). Free c xs) (sym (ap (λ j. take j (drop at text)) z ∙ take_more (drop at text) k d i))
+    (free_push c (take k (drop at text)) (get_or (drop at text) k d) f (λ q. e (sym g ∙ q)))
 
 whole : (text : List ℕ) (at end : ℕ) → at ≤ end → drop at text ≡ take (end - at) (drop at text) ++ drop end text
-whole text at end h = sym (take-append-drop (end - at) (drop at text)) ∙ ap (λ l. take (end - at) (drop at text) ++ l) (drop-drop (end - at) at text ∙ ap (λ j. drop j text) (let z : at + (end - at) ≡ end = omega (arith, h) in z))
+whole text at end h = sym (take-append-drop (end - at) (drop at text)) ∙ ap (λ l. take (end - at) (drop at text) ++ l)
+    (drop-drop (end - at) at text ∙ ap (λ j. drop j text) (let z : at + (end - at) ≡ end = omega (arith, h) in z))
 
-pub line_fed : (text : List ℕ) (at end d : ℕ) → at ≤ end → end < length text → Free 10 (take (end - at) (drop at text)) → get_or text end d ≡ 10 → lines (drop at text) ≡ take (end - at) (drop at text) ∷ lines (drop (end + 1) text)
+pub line_fed : (text : List ℕ) (at end d : ℕ) → at ≤ end → end < length text → Free 10 (take (end - at) (drop at text)) → get_or text end d ≡ 10 →
+    lines (drop at text) ≡ take (end - at) (drop at text) ∷ lines (drop (end + 1) text)
 line_fed text at end d h l f e =
-    ap lines (whole text at end h ∙ ap (λ x. take (end - at) (drop at text) ++ x) (drop_more text end d l ∙ ap (λ c. c ∷ drop (end + 1) text) e)) ∙ lines_feed (take (end - at) (drop at text)) (drop (end + 1) text) f
+    ap lines (whole text at end h ∙ ap (λ x. take (end - at) (drop at text) ++ x) (drop_more text end d l ∙ ap (λ c. c ∷ drop (end + 1) text) e)) ∙
+    lines_feed (take (end - at) (drop at text)) (drop (end + 1) text) f
 
-pub line_ended : (text : List ℕ) (at end : ℕ) → at < length text → end ≡ length text → Free 10 (take (end - at) (drop at text)) → lines (drop at text) ≡ take (end - at) (drop at text) ∷ lines (drop (end + 1) text)
+pub line_ended : (text : List ℕ) (at end : ℕ) → at < length text → end ≡ length text → Free 10 (take (end - at) (drop at text)) → lines (drop at text)
+    ≡ take (end - at) (drop at text) ∷ lines (drop (end + 1) text)
 line_ended text at end l e f =
     let all : take (end - at) (drop at text) ≡ drop at text = take_all (end - at) (drop at text) (omega (arith, length-drop at text, e)) in
     let past : drop (end + 1) text ≡ [] = drop_all (end + 1) text (omega (arith, e)) in

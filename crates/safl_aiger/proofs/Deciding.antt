@@ -1,5 +1,6 @@
 -- A text is a circuit or has a fault.
-use Rattle.std.proofs.Common.{◌≡◌, ◌≢◌, ◌⊎◌, ℕ, zero, suc, ◌+◌, ◌*◌, ◌^◌, ◌<◌, ◌≤◌, List, [], ◌∷◌, ◌++◌, length, replicate, slice_get, Some, decimal, codes, Bool, true, false, inl, inr, refl, sym, ap, ◌∙◌, subst, arith}
+use Rattle.std.proofs.Common.{◌≡◌, ◌≢◌, ◌⊎◌, ℕ, zero, suc, ◌+◌, ◌*◌, ◌^◌, ◌<◌, ◌≤◌, List, [], ◌∷◌, ◌++◌, length, replicate, slice_get, Some, decimal}
+use Rattle.std.proofs.Common.{codes, Bool, true, false, inl, inr, refl, sym, ap, ◌∙◌, subst, arith}
 use Rattle.std.specs.List.{list_all}
 use Rattle.safl_word.specs.Numerals.{is_digit, value, IsBounded}
 use Rattle.safl_aiger.specs.declared.literal.Lit.{Lit}
@@ -11,7 +12,9 @@ use Rattle.safl_aiger.specs.declared.symbols.Sort.{Sort}
 use Rattle.safl_aiger.specs.declared.symbols.Sort.TheVariants as sorts
 use Rattle.safl_aiger.specs.Circuits.{Circuit}
 use Rattle.safl_aiger.specs.Lines.{lines, fields, IsDecimal, AreDecimals, HasNumbers}
-use Rattle.safl_aiger.specs.Reads.{Counts, IsHeader, total, size, IsGood, kinds_from, line_kinds, AreGood, own_numbers, latch_numbers, output_numbers, and_numbers, Named, NamesPlace, names_for, with_name, letter, symbol_line, unnamed, Refuses, Begins, AigReads, IsBad, LineFault, SymbolFault, HasFault, bad_line, bad_symbol}
+use Rattle.safl_aiger.specs.Reads.{Counts, IsHeader, total, size, IsGood, kinds_from, line_kinds, AreGood, own_numbers, latch_numbers, output_numbers}
+use Rattle.safl_aiger.specs.Reads.{and_numbers, Named, NamesPlace, names_for, with_name, letter, symbol_line, unnamed, Refuses, Begins, AigReads}
+use Rattle.safl_aiger.specs.Reads.{IsBad, LineFault, SymbolFault, HasFault, bad_line, bad_symbol}
 use Rattle.safl_aiger.specs.Symbols.{IsSmall, NamesUpTo, SymbolsPass}
 use Rattle.safl_aiger.proofs.Cutting.{Free, decimals_once}
 use Rattle.safl_aiger.proofs.Rereading.{decimal_free, is_decimal}
@@ -59,7 +62,8 @@ decide_list (x ∷ xs) (y ∷ ys) = by (decide_eq x y) (decide_list xs ys)
 decide_bounded : (w : List ℕ) → Decided (IsBounded 10 10 (2 ^ 31) w)
 decide_bounded w = by (decide_le 1 (length w)) (decide_true (list_all (is_digit 10) w)) (decide_le (length w) 10) (decide_le (suc (value 10 w)) (2 ^ 31))
   where
-    by : (1 ≤ length w) ⊎ (length w < 1) → Decided (list_all (is_digit 10) w ≡ true) → (length w ≤ 10) ⊎ (10 < length w) → (suc (value 10 w) ≤ 2 ^ 31) ⊎ (2 ^ 31 < suc (value 10 w)) → Decided (IsBounded 10 10 (2 ^ 31) w)
+    by : (1 ≤ length w) ⊎ (length w < 1) → Decided (list_all (is_digit 10) w ≡ true) → (length w ≤ 10) ⊎ (10 < length w) → (suc (value 10 w) ≤ 2 ^ 31)
+        ⊎ (2 ^ 31 < suc (value 10 w)) → Decided (IsBounded 10 10 (2 ^ 31) w)
     by (inl a) (inl b) (inl c) (inl d) = inl (record { numeral = record { some = a; digits = b }; short = c; small = omega (arith, d) })
     by (inl a) (inl b) (inl c) (inr d) = inr (λ h. let z = h.small in omega (arith, d, z))
     by (inl a) (inl b) (inr c) d = inr (λ h. let z = h.short in omega (arith, c, z))
@@ -317,7 +321,8 @@ decide_place (c ∷ cs) old small = by (decide_letter c) (decide_cut 32 cs)
     made_of : (s : LetterOf c) (k : Cut 32 cs) → k.before ≡ decimal (value 10 k.before) → c ∷ cs ≡ symbol_line s.0 (value 10 k.before) k.behind
     made_of s k e = λ i. s.1 i ∷ (k.is ∙ ap (λ u. u ++ 32 ∷ k.behind) e) i
 
-    with_parts : (s : LetterOf c) (k : Cut 32 cs) → Decided (k.before ≡ decimal (value 10 k.before)) → (k.behind ≡ []) ⊎ (k.behind ≢ []) → Decided (slice_get (names_for s.0 old) (value 10 k.before) ≡ Some []) → PlaceNamed (c ∷ cs) old ⊎ Refuses (c ∷ cs) old
+    with_parts : (s : LetterOf c) (k : Cut 32 cs) → Decided (k.before ≡ decimal (value 10 k.before)) → (k.behind ≡ []) ⊎ (k.behind ≢ []) → Decided
+        (slice_get (names_for s.0 old) (value 10 k.before) ≡ Some []) → PlaceNamed (c ∷ cs) old ⊎ Refuses (c ∷ cs) old
     with_parts s k (inl e) (inr n) (inl f) =
         let name = with_name s.0 (value 10 k.before) k.behind old in
         let p : NamesPlace (c ∷ cs) old name = record { sort = s.0; place = value 10 k.before; name = k.behind; is = made_of s k e; free = f; some = n; sets = refl } in
@@ -373,7 +378,15 @@ split most (w ∷ ws) vs [] nss g = absurd g
 split most (w ∷ ws) vs (l ∷ ls) [] g = absurd g
 split most (w ∷ ws) vs (l ∷ ls) (n ∷ nss) g =
     let r = split most ws vs ls nss g.2 in
-    record { first_lines = l ∷ r.first_lines; second_lines = r.second_lines; first = n ∷ r.first; second = r.second; is = ap (λ x. n ∷ x) r.is; first_good = (g.0, g.1, r.first_good); second_good = r.second_good }
+    record {
+      first_lines = l ∷ r.first_lines;
+      second_lines = r.second_lines;
+      first = n ∷ r.first;
+      second = r.second;
+      is = ap (λ x. n ∷ x) r.is;
+      first_good = (g.0, g.1, r.first_good);
+      second_good = r.second_good;
+    }
 
 input_is : (most v : ℕ) (n : List ℕ) → IsGood most (Input v) n → n ≡ 2 * v ∷ []
 input_is most v [] g = absurd g
@@ -495,7 +508,8 @@ Failed text = (e : AigRule) × (n : ℕ) × HasFault text e n
 pub reads_or_fails : (text : List ℕ) → Read text ⊎ Failed text
 reads_or_fails text = by (lines text) refl
   where
-    named : (c : Counts) (ls : List (List ℕ)) (b : Begins text c ls) (p : Passed (total c) (line_kinds c) ls) → AllNamed p.rest (unnamed c) ⊎ HasSymbolFault p.rest (unnamed c) → Read text ⊎ Failed text
+    named : (c : Counts) (ls : List (List ℕ)) (b : Begins text c ls) (p : Passed (total c) (line_kinds c) ls) → AllNamed p.rest (unnamed c) ⊎
+        HasSymbolFault p.rest (unnamed c) → Read text ⊎ Failed text
     named c ls b p (inl q) =
         let u = q.1.1 in
         let r = rebuilt c p.passed p.nss p.good in
@@ -503,7 +517,11 @@ reads_or_fails text = by (lines text) refl
         let begins = subst (λ (x : List (List ℕ)). Begins text c x) lines_are b in
         let good = subst (λ (x : List (List ℕ)). AreGood (total c) (line_kinds c) p.passed x) r.is p.good in
         let small : c.outputs < 2 ^ 31 = outputs_small b.head c b.header in
-        inl (made c.inputs r.nexts r.outputs r.ands q.0, reads_from text c p.passed u.symbols q.1.0 r.nexts r.outputs r.ands q.0 small r.nexts_long r.outputs_long r.ands_long begins good u.names q.1.2)
+        inl (
+          made c.inputs r.nexts r.outputs r.ands q.0,
+          reads_from text c p.passed u.symbols q.1.0 r.nexts r.outputs r.ands q.0 small r.nexts_long
+              r.outputs_long r.ands_long begins good u.names q.1.2,
+        )
     named c ls b p (inr f) = inr (B04, 2 + length p.passed + f.0, bad_symbol c p.passed p.rest p.nss f.0 (subst (λ (x : List (List ℕ)). Begins text c x) p.is b) p.good f.1 refl refl)
 
     lined : (c : Counts) (ls : List (List ℕ)) → Begins text c ls → Passed (total c) (line_kinds c) ls ⊎ HasLineFault (total c) (line_kinds c) ls → Read text ⊎ Failed text

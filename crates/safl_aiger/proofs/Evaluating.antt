@@ -1,5 +1,6 @@
 -- Values of variables, one AND after another.
-use Rattle.std.proofs.Common.{◌≡◌, ◌⊎◌, inl, inr, ℕ, zero, suc, ◌+◌, ◌-◌, ◌*◌, ◌/◌, ◌%◌, ◌<◌, ◌≤◌, ◌==◌, List, [], ◌∷◌, ◌++◌, length, get_or, Bool, false, not, cond, ◌&&◌, Some, slice_get, refl, sym, ap, ◌∙◌, arith, append_assoc, length-append}
+use Rattle.std.proofs.Common.{◌≡◌, ◌⊎◌, inl, inr, ℕ, zero, suc, ◌+◌, ◌-◌, ◌*◌, ◌/◌, ◌%◌, ◌<◌, ◌≤◌, ◌==◌, List, [], ◌∷◌, ◌++◌, length, get_or, Bool}
+use Rattle.std.proofs.Common.{false, not, cond, ◌&&◌, Some, slice_get, refl, sym, ap, ◌∙◌, arith, append_assoc, length-append}
 use Rattle.std.specs.List.{AllByRecursion}
 use Rattle.std.proofs.lemmas.List.{append-nil, get_or_append_left, get_or_at, length-map, length_push}
 use Rattle.safl_aiger.specs.declared.literal.Lit.{Lit}
@@ -26,7 +27,8 @@ evaluated_front (p ∷ ps) vs v h =
 pub same_on : (m n : Assignment) (l k : ℕ) → l < 2 * k → ((v : ℕ) → v < k → m v ≡ n v) → on_number m l ≡ on_number n l
 same_on m n l k h s = let e = s (l / 2) (omega (arith, h)) in (λ i. cond (l % 2 == 0) (e i) (not (e i)))
 
-pub evaluated_wired : (ps : List (Lit × Lit)) (vs : List Bool) (first : ℕ) → length vs ≡ first → AreBelow first ps → (k : ℕ) (p : Lit × Lit) → slice_get ps k ≡ Some p → look (evaluated ps vs) (first + k) ≡ (on (look (evaluated ps vs)) p.0 && on (look (evaluated ps vs)) p.1)
+pub evaluated_wired : (ps : List (Lit × Lit)) (vs : List Bool) (first : ℕ) → length vs ≡ first → AreBelow first ps → (k : ℕ) (p : Lit × Lit) →
+    slice_get ps k ≡ Some p → look (evaluated ps vs) (first + k) ≡ (on (look (evaluated ps vs)) p.0 && on (look (evaluated ps vs)) p.1)
 evaluated_wired [] vs first l h k p e = absurd (cc)
 evaluated_wired (q ∷ ps) vs first l h zero p e =
     let z : q ≡ p = cc in
@@ -68,7 +70,8 @@ fit a c state given ls lg =
       record {
         inputs = bits_same (look vs) (look start) 1 a.inputs (λ v l. same v (omega (arith, l))) ∙ ap (variable_bits (look start) 1) (sym lg) ∙ stretch (false ∷ []) given state 1 refl;
         latches = bits_same (look vs) (look start) (1 + a.inputs) (latches a) (λ v l. same v (omega (arith, l))) ∙ ap (variable_bits (look start) (1 + a.inputs)) (sym ls)
-            ∙ ap (λ w. variable_bits (look w) (1 + a.inputs) (length state)) (ap (λ w. (false ∷ given) ++ w) (sym (append-nil state))) ∙ stretch (false ∷ given) state [] (1 + a.inputs) (let z : length (false ∷ given) ≡ 1 + a.inputs = omega (arith, lg) in z);
+            ∙ ap (λ w. variable_bits (look w) (1 + a.inputs) (length state)) (ap (λ w. (false ∷ given) ++ w) (sym (append-nil state))) ∙ stretch
+            (false ∷ given) state [] (1 + a.inputs) (let z : length (false ∷ given) ≡ 1 + a.inputs = omega (arith, lg) in z);
         wired = record { bottom = same 0 (omega arith); each = evaluated_wired a.ands start (base a) long c.ands };
       },
     )
@@ -112,7 +115,8 @@ alone a c state given m n f g (suc k) (suc w) l h = elim (order (suc w) (1 + a.i
         let t = there a.ands j (omega (arith, y, h)) in
         let b = c.ands j t.0 t.1 in
         let old : (v : ℕ) → v < suc w → m v ≡ n v = λ v u. alone a c state given m n f g k v (omega (arith, u, l)) (omega (arith, u, h)) in
-        ap m (sym e) ∙ f.wired.each j t.0 t.1 ∙ (λ i. same_on m n t.0.0.0 (suc w) (let z = b.0 in omega (arith, z, e)) old i && same_on m n t.0.1.0 (suc w) (let z = b.1 in omega (arith, z, e)) old i) ∙ sym (g.wired.each j t.0 t.1) ∙ ap n e
+        ap m (sym e) ∙ f.wired.each j t.0 t.1 ∙ (λ i. same_on m n t.0.0.0 (suc w) (let z = b.0 in omega (arith, z, e)) old i && same_on m n t.0.1.0
+        (suc w) (let z = b.1 in omega (arith, z, e)) old i) ∙ sym (g.wired.each j t.0 t.1) ∙ ap n e
   ]
 ]
   where
@@ -128,7 +132,8 @@ pub false_long : (n : ℕ) → length (all_false n) ≡ n
 false_long zero = refl
 false_long (suc n) = ap suc (false_long n)
 
-pub run : (a : Circuit) → IsCircuit a → (state : List Bool) → length state ≡ latches a → (xs : List (List Bool)) → AllByRecursion (λ x. length x ≡ a.inputs) xs → (ms : List Assignment) × RunsFrom a state xs ms
+pub run : (a : Circuit) → IsCircuit a → (state : List Bool) → length state ≡ latches a → (xs : List (List Bool)) → AllByRecursion
+    (λ x. length x ≡ a.inputs) xs → (ms : List Assignment) × RunsFrom a state xs ms
 run a c state l [] h = ([], tt)
 run a c state l (x ∷ xs) h =
     let f = fit a c state x l h.0 in

@@ -18,8 +18,10 @@ inputs_step i count h =
     let y : suc (1 + i) ≡ 1 + (i + 1) = omega arith in
     ap (input_text (1 + i)) z ∙ ap (λ k. numbers_line (2 * (1 + i)) [] ∷ input_text k (count - (i + 1))) y
 
-pub symbols_step : (letter i : ℕ) (names : List (List ℕ)) (name : List ℕ) → slice_get names i ≡ Some name → symbols_text letter i (drop i names) ≡ symbol_text letter i name ++ symbols_text letter (i + 1) (drop (i + 1) names)
-symbols_step letter i names name e = ap (symbols_text letter i) (dropped names i e) ∙ ap (λ k. symbol_text letter i name ++ symbols_text letter k (drop (i + 1) names)) (let z : suc i ≡ i + 1 = omega arith in z)
+pub symbols_step : (letter i : ℕ) (names : List (List ℕ)) (name : List ℕ) → slice_get names i ≡ Some name → symbols_text letter i (drop i names) ≡
+    symbol_text letter i name ++ symbols_text letter (i + 1) (drop (i + 1) names)
+symbols_step letter i names name e = ap (symbols_text letter i) (dropped names i e) ∙ ap
+    (λ k. symbol_text letter i name ++ symbols_text letter k (drop (i + 1) names)) (let z : suc i ≡ i + 1 = omega arith in z)
   where
     dropped : (xs : List (List ℕ)) (k : ℕ) → slice_get xs k ≡ Some name → drop k xs ≡ name ∷ drop (k + 1) xs
     dropped [] k q = absurd (cc)
@@ -27,7 +29,8 @@ symbols_step letter i names name e = ap (symbols_text letter i) (dropped names i
     dropped (x ∷ xs) (suc k) q = dropped xs k q ∙ ap (λ j. name ∷ drop j (x ∷ xs)) (let z : suc (k + 1) ≡ suc k + 1 = omega arith in z)
 
 -- the sections one after another
-pub sections : (h a b c d e f g : List (List ℕ)) (o0 o1 o2 o3 o4 o5 o6 o7 o8 : List ℕ) → o0 ≡ [] → o1 ≡ o0 ++ joined h → o2 ≡ o1 ++ joined a → o3 ≡ o2 ++ joined b → o4 ≡ o3 ++ joined c → o5 ≡ o4 ++ joined d → o6 ≡ o5 ++ joined e → o7 ≡ o6 ++ joined f → o8 ≡ o7 ++ joined g
+pub sections : (h a b c d e f g : List (List ℕ)) (o0 o1 o2 o3 o4 o5 o6 o7 o8 : List ℕ) → o0 ≡ [] → o1 ≡ o0 ++ joined h → o2 ≡ o1 ++ joined a → o3 ≡ o2
+    ++ joined b → o4 ≡ o3 ++ joined c → o5 ≡ o4 ++ joined d → o6 ≡ o5 ++ joined e → o7 ≡ o6 ++ joined f → o8 ≡ o7 ++ joined g
     → o8 ≡ joined (h ++ (a ++ (b ++ (c ++ (d ++ (e ++ (f ++ g)))))))
 sections h a b c d e f g o0 o1 o2 o3 o4 o5 o6 o7 o8 e0 e1 e2 e3 e4 e5 e6 e7 e8 =
     let s7 = joined_step o6 o7 (o6 ++ joined (f ++ g)) f g e7 refl in

@@ -1,5 +1,6 @@
 -- Symbol lines, and the names that they set.
-use Rattle.std.proofs.Common.{◌≡◌, ◌≢◌, ℕ, zero, suc, ◌+◌, ◌-◌, ◌*◌, ◌^◌, ◌<◌, ◌≤◌, List, [], ◌∷◌, ◌++◌, length, get_or, set, replicate, slice_get, Some, decimal, codes, true, ◌&&◌, refl, sym, ap, ◌∙◌, subst, arith, append_assoc, length-append}
+use Rattle.std.proofs.Common.{◌≡◌, ◌≢◌, ℕ, zero, suc, ◌+◌, ◌-◌, ◌*◌, ◌^◌, ◌<◌, ◌≤◌, List, [], ◌∷◌, ◌++◌, length, get_or, set, replicate, slice_get}
+use Rattle.std.proofs.Common.{Some, decimal, codes, true, ◌&&◌, refl, sym, ap, ◌∙◌, subst, arith, append_assoc, length-append}
 use Rattle.std.specs.Int.{IsInRange}
 use Rattle.std.specs.List.{list_all}
 use Rattle.std.proofs.lemmas.Bool.{and_parts}
@@ -130,13 +131,16 @@ with_small Output k name old h = record { inputs = h.inputs; latches = h.latches
 pub small_kept : (line : List ℕ) (old new : Named) → NamesPlace line old new → IsSmall old → IsSmall new
 small_kept line old new p h = subst (λ (n : Named). IsSmall n) (sym p.sets) (with_small p.sort p.place p.name old h)
 
-pub input_named : (line : List ℕ) (k : ℕ) (name : List ℕ) (old : Named) (l : List (List ℕ)) → line ≡ symbol_line Input k name → Sets old.inputs k name l → NamesPlace line old (record old { inputs = l })
+pub input_named : (line : List ℕ) (k : ℕ) (name : List ℕ) (old : Named) (l : List (List ℕ)) → line ≡ symbol_line Input k name → Sets old.inputs k name
+    l → NamesPlace line old (record old { inputs = l })
 input_named line k name old l e s = record { sort = Input; place = k; name = name; is = e; free = s.free; some = s.some; sets = ap (λ x. record old { inputs = x }) s.sets }
 
-pub latch_named : (line : List ℕ) (k : ℕ) (name : List ℕ) (old : Named) (l : List (List ℕ)) → line ≡ symbol_line Latch k name → Sets old.latches k name l → NamesPlace line old (record old { latches = l })
+pub latch_named : (line : List ℕ) (k : ℕ) (name : List ℕ) (old : Named) (l : List (List ℕ)) → line ≡ symbol_line Latch k name → Sets old.latches k
+    name l → NamesPlace line old (record old { latches = l })
 latch_named line k name old l e s = record { sort = Latch; place = k; name = name; is = e; free = s.free; some = s.some; sets = ap (λ x. record old { latches = x }) s.sets }
 
-pub output_named : (line : List ℕ) (k : ℕ) (name : List ℕ) (old : Named) (l : List (List ℕ)) → line ≡ symbol_line Output k name → Sets old.outputs k name l → NamesPlace line old (record old { outputs = l })
+pub output_named : (line : List ℕ) (k : ℕ) (name : List ℕ) (old : Named) (l : List (List ℕ)) → line ≡ symbol_line Output k name → Sets old.outputs k
+    name l → NamesPlace line old (record old { outputs = l })
 output_named line k name old l e s = record { sort = Output; place = k; name = name; is = e; free = s.free; some = s.some; sets = ap (λ x. record old { outputs = x }) s.sets }
 
 -- a line that is no symbol names no place
@@ -144,13 +148,15 @@ pub form_refuses : (line : List ℕ) (old : Named) → IsSmall old → ¬ (IsSym
 form_refuses line old h f new p = f (record { sort = p.sort; place = p.place; name = p.name; few = place_small line old new p h; some = p.some; is = p.is })
 
 -- a symbol for a place that has a name, or is none, names no place
-pub taken_refuses : (line : List ℕ) (s : Sort) (k : ℕ) (name : List ℕ) (old : Named) → IsSmall old → k < 2 ^ 31 → line ≡ symbol_line s k name → ¬ (slice_get (names_for s old) k ≡ Some []) → Refuses line old
+pub taken_refuses : (line : List ℕ) (s : Sort) (k : ℕ) (name : List ℕ) (old : Named) → IsSmall old → k < 2 ^ 31 → line ≡ symbol_line s k name → ¬
+    (slice_get (names_for s old) k ≡ Some []) → Refuses line old
 taken_refuses line s k name old h l e t new p =
     let q = symbol_once s p.sort k p.place name p.name l (place_small line old new p h) (sym e ∙ p.is) in
     t ((λ i. slice_get (names_for (q.0 i) old) (q.1 i)) ∙ p.free)
 
 -- a list of names with one set
-pub sets_name : (xs : List Name) (i : ℕ) (x d : Name) (name : List ℕ) → i < length xs → (get_or xs i d).bytes.items ≡ [] → 1 ≤ length name → x.bytes.items ≡ name → Sets (names_of xs) i name (names_of (set xs i x))
+pub sets_name : (xs : List Name) (i : ℕ) (x d : Name) (name : List ℕ) → i < length xs → (get_or xs i d).bytes.items ≡ [] → 1 ≤ length name →
+    x.bytes.items ≡ name → Sets (names_of xs) i name (names_of (set xs i x))
 sets_name xs i x d name l e s q = record {
   free = names_at xs i d l ∙ ap (λ y. Some y) e;
   some = λ z. let y : length name ≡ 0 = ap length z in omega (arith, y, s);
@@ -168,7 +174,8 @@ pub record Underway (ls : List (List ℕ)) (before : ℕ) (old new : Named) (lef
 pub underway_start : (ls : List (List ℕ)) (before : ℕ) (old : Named) → IsSmall old → Underway ls before old old ls before
 underway_start ls before old h = record { upto = record { symbols = []; lines_are = refl; names = refl }; count_is = omega arith; small = h }
 
-pub underway_step : (ls : List (List ℕ)) (before : ℕ) (old mid new : Named) (line : List ℕ) (left : List (List ℕ)) (count : ℕ) → Underway ls before old mid (line ∷ left) count → NamesPlace line mid new → Underway ls before old new left (count + 1)
+pub underway_step : (ls : List (List ℕ)) (before : ℕ) (old mid new : Named) (line : List ℕ) (left : List (List ℕ)) (count : ℕ) → Underway ls before
+    old mid (line ∷ left) count → NamesPlace line mid new → Underway ls before old new left (count + 1)
 underway_step ls before old mid new line left count u p =
     let s = u.upto.symbols in
     let e = u.count_is in
@@ -183,18 +190,21 @@ underway_step ls before old mid new line left count u p =
       small = small_kept line mid new p u.small;
     }
 
-pub underway_room : (ls : List (List ℕ)) (before : ℕ) (old new : Named) (line : List ℕ) (left : List (List ℕ)) (count : ℕ) → Underway ls before old new (line ∷ left) count → count + 1 ≤ before + length ls
+pub underway_room : (ls : List (List ℕ)) (before : ℕ) (old new : Named) (line : List ℕ) (left : List (List ℕ)) (count : ℕ) → Underway ls before old
+    new (line ∷ left) count → count + 1 ≤ before + length ls
 underway_room ls before old new line left count u =
     let e = u.count_is in
     let a = ap length u.upto.lines_are in
     let b = length-append u.upto.symbols (line ∷ left) in
     omega (arith, e, a, b)
 
-symbol_fault : (symbols : List (List ℕ)) (line : List ℕ) (left : List (List ℕ)) (old mid : Named) → NamePlaces symbols old mid → line ≢ codes "c" → Refuses line mid → SymbolFault (symbols ++ line ∷ left) old (length symbols)
+symbol_fault : (symbols : List (List ℕ)) (line : List ℕ) (left : List (List ℕ)) (old mid : Named) → NamePlaces symbols old mid → line ≢ codes "c" →
+    Refuses line mid → SymbolFault (symbols ++ line ∷ left) old (length symbols)
 symbol_fault [] line left old mid n c r = (c, subst (λ (m : Named). Refuses line m) n r)
 symbol_fault (s ∷ symbols) line left old mid n c r = (n.0, n.1, symbol_fault symbols line left n.0 mid n.2 c r)
 
-pub underway_fails : (ls : List (List ℕ)) (before : ℕ) (old mid : Named) (line : List ℕ) (left : List (List ℕ)) (count : ℕ) → Underway ls before old mid (line ∷ left) count → line ≢ codes "c" → Refuses line mid → SymbolsFail ls before old (Stopped (count + 1))
+pub underway_fails : (ls : List (List ℕ)) (before : ℕ) (old mid : Named) (line : List ℕ) (left : List (List ℕ)) (count : ℕ) → Underway ls before old
+    mid (line ∷ left) count → line ≢ codes "c" → Refuses line mid → SymbolsFail ls before old (Stopped (count + 1))
 underway_fails ls before old mid line left count u c r =
     let s = u.upto.symbols in
     let e = u.count_is in (

@@ -1,5 +1,7 @@
 -- A line that is cut at its first space, and the symbol that it is.
-use Rattle.std.proofs.Common.{◌≡◌, ◌≢◌, ℕ, suc, ◌+◌, ◌^◌, ◌<◌, ◌≤◌, ◌==◌, List, [], ◌∷◌, ◌++◌, length, take, drop, get_or, decimal, Bool, true, false, cond, ◌↔◌, Option, Some, None, IsSome, IsNone, IfSome, Result, Ok, Err, IfErr, refl, sym, ap, ◌∙◌, subst, arith, length-append}
+use Rattle.std.proofs.Common.{◌≡◌, ◌≢◌, ℕ, suc, ◌+◌, ◌^◌, ◌<◌, ◌≤◌, ◌==◌, List, [], ◌∷◌, ◌++◌, length, take, drop, get_or, decimal, Bool, true, false}
+use Rattle.std.proofs.Common.{cond, ◌↔◌, Option, Some, None, IsSome, IsNone, IfSome, Result, Ok, Err, IfErr, refl, sym, ap, ◌∙◌, subst, arith}
+use Rattle.std.proofs.Common.{length-append}
 use Rattle.std.proofs.lemmas.List.{drop_all, length-drop, length-take-le}
 use Rattle.std.proofs.lemmas.Bool.Decides.{nat_tests}
 use Rattle.safl_word.specs.Numerals.{value, IsBounded}
@@ -64,7 +66,8 @@ first_and_rest : (line : List ℕ) → 1 ≤ length line → line ≡ get_or lin
 first_and_rest [] h = absurd (omega (arith, h))
 first_and_rest (c ∷ cs) h = refl
 
-pub symbol_is : (line rest : List ℕ) (end place : ℕ) (s : Sort) → rest ≡ drop 1 line → get_or line 0 0 ≡ letter s → end + 1 < length rest → fields rest ≡ take end rest ∷ fields (drop (end + 1) rest) → place < 2 ^ 31 → take end rest ≡ decimal place
+pub symbol_is : (line rest : List ℕ) (end place : ℕ) (s : Sort) → rest ≡ drop 1 line → get_or line 0 0 ≡ letter s → end + 1 < length rest → fields
+    rest ≡ take end rest ∷ fields (drop (end + 1) rest) → place < 2 ^ 31 → take end rest ≡ decimal place
     → IsSymbol line (record { sort = s; place = place; start = end + 2 })
 symbol_is line rest end place s r l long f few d =
     let cut : rest ≡ take end rest ++ 32 ∷ drop (end + 1) rest = cut_is rest (take end rest) (drop (end + 1) rest) f in
@@ -81,7 +84,9 @@ test_true : (x y : ℕ) → x ≡ y → (x == y) ≡ true
 test_true x y z = grind (arith, nat_tests)
 
 -- the first field of a symbol line without its letter, and how long it is
-number_cut : (rest : List ℕ) (end k : ℕ) (name : List ℕ) → rest ≡ decimal k ++ 32 ∷ name → k < 2 ^ 31 → end ≤ length rest → (end < length rest → fields rest ≡ take end rest ∷ fields (drop (end + 1) rest)) → (end ≡ length rest → fields rest ≡ rest ∷ []) → (take end rest ≡ decimal k) × (end + 1 + length name ≡ length rest)
+number_cut : (rest : List ℕ) (end k : ℕ) (name : List ℕ) → rest ≡ decimal k ++ 32 ∷ name → k < 2 ^ 31 → end ≤ length rest →
+    (end < length rest → fields rest ≡ take end rest ∷ fields (drop (end + 1) rest)) → (end ≡ length rest → fields rest ≡ rest ∷ []) →
+    (take end rest ≡ decimal k) × (end + 1 + length name ≡ length rest)
 number_cut rest end k name e l h some none = by (end == length rest) refl
   where
     split : fields rest ≡ decimal k ∷ fields name
@@ -118,27 +123,34 @@ name_some : (name : List ℕ) → name ≢ [] → 1 ≤ length name
 name_some [] n = absurd (n refl)
 name_some (c ∷ name) n = omega arith
 
-pub no_name : (line rest : List ℕ) (end : ℕ) → rest ≡ drop 1 line → end ≤ length rest → (end < length rest → fields rest ≡ take end rest ∷ fields (drop (end + 1) rest)) → (end ≡ length rest → fields rest ≡ rest ∷ []) → length rest ≤ end + 1 → ¬ (IsSymbolLine line)
+pub no_name : (line rest : List ℕ) (end : ℕ) → rest ≡ drop 1 line → end ≤ length rest →
+    (end < length rest → fields rest ≡ take end rest ∷ fields (drop (end + 1) rest)) → (end ≡ length rest → fields rest ≡ rest ∷ []) → length rest ≤
+    end + 1 → ¬ (IsSymbolLine line)
 no_name line rest end r l some none short h =
     let c = number_cut rest end h.place h.name (behind_letter line rest h r) h.few l some none in
     let z = c.1 in
     let n = name_some h.name h.some in
     omega (arith, z, n, short)
 
-pub no_place : (line rest : List ℕ) (end : ℕ) → rest ≡ drop 1 line → end ≤ length rest → (end < length rest → fields rest ≡ take end rest ∷ fields (drop (end + 1) rest)) → (end ≡ length rest → fields rest ≡ rest ∷ []) → ((n : ℕ) → n < 2 ^ 31 → take end rest ≢ decimal n) → ¬ (IsSymbolLine line)
+pub no_place : (line rest : List ℕ) (end : ℕ) → rest ≡ drop 1 line → end ≤ length rest →
+    (end < length rest → fields rest ≡ take end rest ∷ fields (drop (end + 1) rest)) → (end ≡ length rest → fields rest ≡ rest ∷ []) →
+    ((n : ℕ) → n < 2 ^ 31 → take end rest ≢ decimal n) → ¬ (IsSymbolLine line)
 no_place line rest end r l some none other h =
     let c = number_cut rest end h.place h.name (behind_letter line rest h r) h.few l some none in
     other h.place h.few c.0
 
-pub taken_refused : (line : List ℕ) (s : Sort) (k : ℕ) (name : List ℕ) (old : Named) (e : SymbolErr) → IsSmall old → k < 2 ^ 31 → line ≡ symbol_line s k name → IsTaken (names_for s old) k e → IsRefused line old e
+pub taken_refused : (line : List ℕ) (s : Sort) (k : ℕ) (name : List ℕ) (old : Named) (e : SymbolErr) → IsSmall old → k < 2 ^ 31 → line ≡ symbol_line s
+    k name → IsTaken (names_for s old) k e → IsRefused line old e
 taken_refused line s k name old Refused h l q t = taken_refuses line s k name old h l q t
 taken_refused line s k name old NoMemory h l q t = tt
 
-pub name_taken : {A : Type 0} (r : Result A SymbolErr) (line : List ℕ) (s : Sort) (k : ℕ) (name : List ℕ) (old : Named) → IsSmall old → k < 2 ^ 31 → line ≡ symbol_line s k name → IfErr r (IsTaken (names_for s old) k) → IfErr r (IsRefused line old)
+pub name_taken : {A : Type 0} (r : Result A SymbolErr) (line : List ℕ) (s : Sort) (k : ℕ) (name : List ℕ) (old : Named) → IsSmall old → k < 2 ^ 31 →
+    line ≡ symbol_line s k name → IfErr r (IsTaken (names_for s old) k) → IfErr r (IsRefused line old)
 name_taken (Ok x) line s k name old h l q t = tt
 name_taken (Err e) line s k name old h l q t = taken_refused line s k name old e h l q t
 
-pub number_found : (r : Option ℕ) (w : List ℕ) → (IsSome r ↔ IsBounded 10 10 (2 ^ 31) w) → IfSome r (λ n. n ≡ value 10 w) → ((1 < length w) × (get_or w 0 0 ≡ 48) → ⊥) → IfSome r (λ n. (n < 2 ^ 31) × (w ≡ decimal n))
+pub number_found : (r : Option ℕ) (w : List ℕ) → (IsSome r ↔ IsBounded 10 10 (2 ^ 31) w) → IfSome r (λ n. n ≡ value 10 w) →
+    ((1 < length w) × (get_or w 0 0 ≡ 48) → ⊥) → IfSome r (λ n. (n < 2 ^ 31) × (w ≡ decimal n))
 number_found None w s v h = tt
 number_found (Some n) w s v h =
     let b : IsBounded 10 10 (2 ^ 31) w = s.0 refl in

@@ -11,7 +11,8 @@ use Rattle.safl_aiger.specs.declared.sections.SectionErr.{SectionErr}
 use Rattle.safl_aiger.specs.declared.sections.SectionErr.TheVariants.{Stopped, NoMemory}
 use Rattle.safl_aiger.specs.Sections.{Passes, Stops, Fails, Later}
 
-pub good-append : (most : ℕ) (ws vs : List LineKind) (ls ms : List (List ℕ)) (nss mss : List (List ℕ)) → AreGood most ws ls nss → AreGood most vs ms mss → AreGood most (ws ++ vs) (ls ++ ms) (nss ++ mss)
+pub good-append : (most : ℕ) (ws vs : List LineKind) (ls ms : List (List ℕ)) (nss mss : List (List ℕ)) → AreGood most ws ls nss → AreGood most vs ms
+    mss → AreGood most (ws ++ vs) (ls ++ ms) (nss ++ mss)
 good-append most [] vs [] ms [] mss g h = h
 good-append most [] vs [] ms (x ∷ nss) mss g h = absurd g
 good-append most [] vs (l ∷ ls) ms nss mss g h = absurd g
@@ -22,7 +23,8 @@ good-append most (w ∷ ws) vs (l ∷ ls) ms (x ∷ nss) mss g h = (g.0, g.1, go
 pub passes_none : (text : List ℕ) (most at : ℕ) → Passes text most at [] [] at
 passes_none text most at = record { front = []; lines_are = refl; good = tt }
 
-pub passes_on : (text : List ℕ) (most at mid next : ℕ) (ws vs : List LineKind) (nss mss : List (List ℕ)) → Passes text most at ws nss mid → Passes text most mid vs mss next → Passes text most at (ws ++ vs) (nss ++ mss) next
+pub passes_on : (text : List ℕ) (most at mid next : ℕ) (ws vs : List LineKind) (nss mss : List (List ℕ)) → Passes text most at ws nss mid → Passes
+    text most mid vs mss next → Passes text most at (ws ++ vs) (nss ++ mss) next
 passes_on text most at mid next ws vs nss mss p q = record {
   front = p.front ++ q.front;
   lines_are = p.lines_are ∙ ap (λ l. p.front ++ l) q.lines_are ∙ sym (append_assoc p.front q.front (lines (drop next text)));
@@ -30,11 +32,13 @@ passes_on text most at mid next ws vs nss mss p q = record {
 }
 
 -- a line after those that pass breaks a rule
-pub stops_here : (text : List ℕ) (most at next : ℕ) (all ws left : List LineKind) (w : LineKind) (nss : List (List ℕ)) (e : AigRule) (k : ℕ) → all ≡ ws ++ w ∷ left → length ws ≡ k → Passes text most at ws nss next → Breaks most w (lines (drop next text)) e → Stops text most at all e k
+pub stops_here : (text : List ℕ) (most at next : ℕ) (all ws left : List LineKind) (w : LineKind) (nss : List (List ℕ)) (e : AigRule) (k : ℕ) → all ≡
+    ws ++ w ∷ left → length ws ≡ k → Passes text most at ws nss next → Breaks most w (lines (drop next text)) e → Stops text most at all e k
 stops_here text most at next all ws left w nss e k q l p b = record { done = ws; kind = w; left = left; nss = nss; next = next; kinds = q; passes = p; count = l; breaks = b }
 
 -- a section stops after another
-pub stops_on : (text : List ℕ) (most at mid : ℕ) (ws vs : List LineKind) (nss : List (List ℕ)) (e : AigRule) (k : ℕ) → Passes text most at ws nss mid → Stops text most mid vs e k → Stops text most at (ws ++ vs) e (length ws + k)
+pub stops_on : (text : List ℕ) (most at mid : ℕ) (ws vs : List LineKind) (nss : List (List ℕ)) (e : AigRule) (k : ℕ) → Passes text most at ws nss mid
+    → Stops text most mid vs e k → Stops text most at (ws ++ vs) e (length ws + k)
 stops_on text most at mid ws vs nss e k p s = record {
   done = ws ++ s.done;
   kind = s.kind;
@@ -99,7 +103,8 @@ and_cons x y p e = ap (λ k. 2 * k ∷ p.0.0 ∷ p.1.0 ∷ []) e
 pub and_more : (first : ℕ) (ps : List (Lit × Lit)) (p : Lit × Lit) → and_numbers first (ps ++ p ∷ []) ≡ and_numbers first ps ++ (2 * (first + length ps) ∷ p.0.0 ∷ p.1.0 ∷ []) ∷ []
 and_more first [] p = ap (λ x. x ∷ []) (and_cons first (first + 0) p (omega arith))
 and_more first (x ∷ ps) p =
-    ap (λ r. (2 * first ∷ x.0.0 ∷ x.1.0 ∷ []) ∷ r) (and_more (suc first) ps p ∙ ap (λ y. and_numbers (suc first) ps ++ y ∷ []) (and_cons (suc first + length ps) (first + suc (length ps)) p (omega arith)))
+    ap (λ r. (2 * first ∷ x.0.0 ∷ x.1.0 ∷ []) ∷ r) (and_more (suc first) ps p ∙ ap (λ y. and_numbers (suc first) ps ++ y ∷ [])
+    (and_cons (suc first + length ps) (first + suc (length ps)) p (omega arith)))
 
 pub output_more : (ls : List Lit) (l : Lit) → output_numbers (ls ++ l ∷ []) ≡ output_numbers ls ++ (l.0 ∷ []) ∷ []
 output_more ls l = map_push (λ (x : Lit). x.0 ∷ []) ls l
@@ -108,8 +113,10 @@ pub outputs_split : (k n : ℕ) → k < n → replicate n Output ≡ replicate k
 outputs_split k n h = ap (λ j. replicate j Output) (let z : n ≡ k + suc (n - (k + 1)) = omega (arith, h) in z) ∙ sym (replicate-append-replicate k (suc (n - (k + 1))) Output)
 
 -- a section after another fails
-pub fails_on : (text : List ℕ) (most at mid : ℕ) (ws vs : List LineKind) (nss : List (List ℕ)) (e d : SectionErr) (k : ℕ) → length ws ≡ k → Passes text most at ws nss mid → Fails text most mid vs e → Later k e d → Fails text most at (ws ++ vs) d
-fails_on text most at mid ws vs nss (Stopped s) (Stopped t) k l p f h = subst (λ r. Stops text most at (ws ++ vs) r t.place) (sym h.0) (subst (λ j. Stops text most at (ws ++ vs) s.rule j) (ap (λ j. j + s.place) l ∙ sym h.1) (stops_on text most at mid ws vs nss s.rule s.place p f))
+pub fails_on : (text : List ℕ) (most at mid : ℕ) (ws vs : List LineKind) (nss : List (List ℕ)) (e d : SectionErr) (k : ℕ) → length ws ≡ k → Passes
+    text most at ws nss mid → Fails text most mid vs e → Later k e d → Fails text most at (ws ++ vs) d
+fails_on text most at mid ws vs nss (Stopped s) (Stopped t) k l p f h = subst (λ r. Stops text most at (ws ++ vs) r t.place) (sym h.0)
+    (subst (λ j. Stops text most at (ws ++ vs) s.rule j) (ap (λ j. j + s.place) l ∙ sym h.1) (stops_on text most at mid ws vs nss s.rule s.place p f))
 fails_on text most at mid ws vs nss (Stopped s) NoMemory k l p f h = absurd h
 fails_on text most at mid ws vs nss NoMemory (Stopped t) k l p f h = absurd h
 fails_on text most at mid ws vs nss NoMemory NoMemory k l p f h = tt

@@ -7,7 +7,9 @@ use Rattle.safl_aiger.specs.declared.reading.LineKind.{LineKind}
 use Rattle.safl_aiger.specs.declared.reading.LineKind.TheVariants.{Input, Latch, Output, And}
 use Rattle.safl_aiger.specs.Circuits.{Circuit, latches, variables, base}
 use Rattle.safl_aiger.specs.Lines.{fields, AreDecimals, HasNumbers}
-use Rattle.safl_aiger.specs.Reads.{Counts, IsHeader, total, size, IsGood, line_kinds, AreGood, own_numbers, latch_numbers, output_numbers, and_numbers, body_numbers, counts_of, Named, NamesPlace, NamePlaces, with_name, unnamed, named_of, Ends, Begins, AigReads, IsBad, Breaks, LineFault, SymbolFault, HasFault, bad_header, bad_line, bad_symbol}
+use Rattle.safl_aiger.specs.Reads.{Counts, IsHeader, total, size, IsGood, line_kinds, AreGood, own_numbers, latch_numbers, output_numbers}
+use Rattle.safl_aiger.specs.Reads.{and_numbers, body_numbers, counts_of, Named, NamesPlace, NamePlaces, with_name, unnamed, named_of, Ends, Begins}
+use Rattle.safl_aiger.specs.Reads.{AigReads, IsBad, Breaks, LineFault, SymbolFault, HasFault, bad_header, bad_line, bad_symbol}
 use Rattle.safl_aiger.specs.Symbols.{IsSmall}
 use Rattle.safl_aiger.proofs.Cutting.{decimals_once, decimals_small}
 use Rattle.safl_aiger.proofs.Naming.{symbol_once, symbol_not_end, place_small, small_kept}
@@ -19,7 +21,9 @@ pub header_once : (line : List ℕ) (c d : Counts) → IsHeader line c → IsHea
 header_once line c d h k =
     let e : codes "aag " ++ h.0 ≡ codes "aag " ++ k.0 = sym h.1 ∙ k.1 in
     let r : h.0 ≡ k.0 = ap (drop 4) e in
-    let ns = decimals_once (fields k.0) (total c ∷ c.inputs ∷ c.latches ∷ c.outputs ∷ c.ands ∷ []) (total d ∷ d.inputs ∷ d.latches ∷ d.outputs ∷ d.ands ∷ []) (subst (λ w. AreDecimals (fields w) (total c ∷ c.inputs ∷ c.latches ∷ c.outputs ∷ c.ands ∷ [])) r h.2) k.2 in
+    let ns = decimals_once (fields k.0) (total c ∷ c.inputs ∷ c.latches ∷ c.outputs ∷ c.ands ∷ [])
+    (total d ∷ d.inputs ∷ d.latches ∷ d.outputs ∷ d.ands ∷ [])
+    (subst (λ w. AreDecimals (fields w) (total c ∷ c.inputs ∷ c.latches ∷ c.outputs ∷ c.ands ∷ [])) r h.2) k.2 in
     let i : c.inputs ≡ d.inputs = cc in
     let l : c.latches ≡ d.latches = cc in
     let o : c.outputs ≡ d.outputs = cc in
@@ -269,6 +273,8 @@ one_reading text a b r s =
     let c = counts_of a in
     let d = counts_of b in
     let o = begins_once text c d (r.body ++ (r.symbols ++ r.rest)) (s.body ++ (s.symbols ++ s.rest)) r.begins s.begins in
-    let t = good_once (total d) (line_kinds d) r.body s.body (body_numbers a) (body_numbers b) (r.symbols ++ r.rest) (s.symbols ++ s.rest) (good_of c d r.body (body_numbers a) o.0 r.good) s.good o.1 in
-    let n = names_once r.symbols s.symbols r.rest s.rest (unnamed d) (named_of a) (named_of b) (header_small s.begins.head d s.begins.header) (subst (λ (x : Counts). NamePlaces r.symbols (unnamed x) (named_of a)) o.0 r.names) s.names r.ends s.ends t.0 in
+    let t = good_once (total d) (line_kinds d) r.body s.body (body_numbers a) (body_numbers b) (r.symbols ++ r.rest) (s.symbols ++ s.rest)
+    (good_of c d r.body (body_numbers a) o.0 r.good) s.good o.1 in
+    let n = names_once r.symbols s.symbols r.rest s.rest (unnamed d) (named_of a) (named_of b) (header_small s.begins.head d s.begins.header)
+    (subst (λ (x : Counts). NamePlaces r.symbols (unnamed x) (named_of a)) o.0 r.names) s.names r.ends s.ends t.0 in
     circuit_once a b o.0 t.1 n

@@ -1,5 +1,6 @@
 -- What is written is read again.
-use Rattle.std.proofs.Common.{◌≡◌, ◌≢◌, ℕ, zero, suc, ◌+◌, ◌*◌, ◌<◌, ◌≤◌, ◌^◌, ◌%◌, List, [], ◌∷◌, ◌++◌, map, length, replicate, codes, decimal, Some, slice_get, slice_set, refl, sym, ap, ◌∙◌, subst, arith, append_assoc}
+use Rattle.std.proofs.Common.{◌≡◌, ◌≢◌, ℕ, zero, suc, ◌+◌, ◌*◌, ◌<◌, ◌≤◌, ◌^◌, ◌%◌, List, [], ◌∷◌, ◌++◌, map, length, replicate, codes, decimal, Some}
+use Rattle.std.proofs.Common.{slice_get, slice_set, refl, sym, ap, ◌∙◌, subst, arith, append_assoc}
 use Rattle.std.specs.List.{All, flat_map}
 use Rattle.std.proofs.lemmas.List.{append-nil, length_push}
 use Rattle.std.proofs.lemmas.List.Elements.{All-head, All-tail}
@@ -12,7 +13,8 @@ use Rattle.safl_aiger.specs.declared.symbols.Sort.TheVariants as sorts
 use Rattle.safl_aiger.specs.Circuits.{Circuit, latches, variables, base, IsLine, AreBelow, IsCircuit}
 use Rattle.safl_aiger.specs.Lines.{lines, fields, IsDecimal, AreDecimals, HasNumbers}
 use Rattle.safl_aiger.specs.Texts.{joined, numbers_line, header_line, input_text, latch_text, output_text, and_text, symbol_text, symbols_text, body_text, symbol_lines, written}
-use Rattle.safl_aiger.specs.Reads.{AreGood, kinds_from, own_numbers, latch_numbers, output_numbers, and_numbers, counts_of, Named, NamePlaces, NamesPlace, symbol_line, letter, unnamed, named_of, AigReads}
+use Rattle.safl_aiger.specs.Reads.{AreGood, kinds_from, own_numbers, latch_numbers, output_numbers, and_numbers, counts_of, Named, NamePlaces}
+use Rattle.safl_aiger.specs.Reads.{NamesPlace, symbol_line, letter, unnamed, named_of, AigReads}
 use Rattle.safl_aiger.specs.TextLaws.{BodyReads}
 use Rattle.safl_aiger.proofs.Cutting.{Free, lines_feed, fields_space, fields_last}
 use Rattle.safl_aiger.proofs.Passing.{good-append}
@@ -83,7 +85,8 @@ inputs_free first (suc k) h = (line_free (2 * first) [] (omega (arith, h)) tt, i
 abbrev IsLow : ℕ → Lit → Type 0
 IsLow most l = l.0 ≤ 2 * most + 1
 
-latches_good : (most first : ℕ) (ls : List Lit) → most < 2 ^ 30 → first + length ls ≤ 2 ^ 30 → All (IsLow most) ls → AreGood most (kinds_from Latch first (length ls)) (latch_text first ls) (latch_numbers first ls)
+latches_good : (most first : ℕ) (ls : List Lit) → most < 2 ^ 30 → first + length ls ≤ 2 ^ 30 → All (IsLow most) ls → AreGood most
+    (kinds_from Latch first (length ls)) (latch_text first ls) (latch_numbers first ls)
 latches_good most first [] m h a = tt
 latches_good most first (l ∷ ls) m h a =
     let b = All-head (IsLow most) l ls a in
@@ -111,8 +114,12 @@ ands_good most first [] h b = tt
 ands_good most first (p ∷ ps) h b =
     let c = b 0 p refl in
     let x : p.0.0 < 2 * first = let z = c.0 in omega (arith, z) in
-    let y : p.1.0 < 2 * first = let z = c.1 in omega (arith, z) in
-    (line_numbers (2 * first) (p.0.0 ∷ p.1.0 ∷ []) (omega (arith, h)) (omega (arith, x, h), (omega (arith, y, h), tt)), (refl, x, y), ands_good most (suc first) ps (omega (arith, h)) (below_tail first p ps b))
+    let y : p.1.0 < 2 * first = let z = c.1 in omega (arith, z) in (
+      line_numbers (2 * first) (p.0.0 ∷ p.1.0 ∷ []) (omega (arith, h)) (omega (arith, x, h), (omega (arith, y, h), tt)),
+      (refl, x, y),
+      ands_good most
+          (suc first) ps (omega (arith, h)) (below_tail first p ps b),
+    )
 
 ands_free : (first : ℕ) (ps : List (Lit × Lit)) → first + length ps ≤ 2 ^ 30 → AreBelow first ps → AllFree (and_text first ps)
 ands_free first [] h b = tt
@@ -135,7 +142,8 @@ symbol_free letter k (c ∷ cs) a l h = ((a, free-append 10 (decimal k) (32 ∷ 
 symbols_free : (letter k : ℕ) (xs : List (List ℕ)) → letter ≢ 10 → k + length xs < 2 ^ 64 → All IsLine xs → AllFree (symbols_text letter k xs)
 symbols_free letter k [] a l h = tt
 symbols_free letter k (x ∷ xs) a l h =
-    all-append (symbol_text letter k x) (symbols_text letter (suc k) xs) (symbol_free letter k x a (omega (arith, l)) (All-head IsLine x xs h)) (symbols_free letter (suc k) xs a (omega (arith, l)) (All-tail IsLine x xs h))
+    all-append (symbol_text letter k x) (symbols_text letter (suc k) xs) (symbol_free letter k x a (omega (arith, l)) (All-head IsLine x xs h))
+    (symbols_free letter (suc k) xs a (omega (arith, l)) (All-tail IsLine x xs h))
 
 -- ---- the whole
 
@@ -149,19 +157,32 @@ rereads a c =
     let out_few = c.output_count in
     let counts : AllSmall (a.inputs ∷ latches a ∷ length a.outputs ∷ length a.ands ∷ []) = (omega (arith, few), (omega (arith, few), (omega (arith, out_few), (omega (arith, few), tt)))) in
     let top : variables a < 2 ^ 31 = omega (arith, few) in
-    let free : AllFree (body_text a) = all-append (input_text 1 a.inputs) _ (inputs_free 1 a.inputs in_few) (all-append (latch_text (1 + a.inputs) a.nexts) _ (latches_free most (1 + a.inputs) a.nexts few latch_few c.nexts)
+    let free : AllFree (body_text a) = all-append (input_text 1 a.inputs) _ (inputs_free 1 a.inputs in_few)
+    (all-append (latch_text (1 + a.inputs) a.nexts) _ (latches_free most (1 + a.inputs) a.nexts few latch_few c.nexts)
     (all-append (output_text a.outputs) _ (outputs_free most a.outputs few c.outputs) (ands_free (base a) a.ands and_few c.ands))) in
     let named : AllFree (symbol_lines a) = all-append (symbols_text 105 0 a.input_names) _ (symbols_free 105 0 a.input_names (λ e. cc) (let z = c.input_names in omega (arith, z, few)) c.input_lines)
-    (all-append (symbols_text 108 0 a.latch_names) _ (symbols_free 108 0 a.latch_names (λ e. cc) (let z = c.latch_names in omega (arith, z, few)) c.latch_lines) (symbols_free 111 0 a.output_names (λ e. cc) (let z = c.output_names in omega (arith, z, out_few)) c.output_lines)) in
-    let head : Free 10 (header_line a) = free-append 10 (codes "aag ") (numbers_line (variables a) (a.inputs ∷ latches a ∷ length a.outputs ∷ length a.ands ∷ [])) ((λ e. cc), ((λ e. cc), ((λ e. cc), ((λ e. cc), tt)))) (line_free (variables a) (a.inputs ∷ latches a ∷ length a.outputs ∷ length a.ands ∷ []) top counts) in
+    (all-append (symbols_text 108 0 a.latch_names) _ (symbols_free 108 0 a.latch_names (λ e. cc) (let z = c.latch_names in omega (arith, z, few))
+    c.latch_lines) (symbols_free 111 0 a.output_names (λ e. cc) (let z = c.output_names in omega (arith, z, out_few)) c.output_lines)) in
+    let head : Free 10 (header_line a) = free-append 10 (codes "aag ")
+    (numbers_line (variables a) (a.inputs ∷ latches a ∷ length a.outputs ∷ length a.ands ∷ []))
+    ((λ e. cc), ((λ e. cc), ((λ e. cc), ((λ e. cc), tt)))) (line_free (variables a) (a.inputs ∷ latches a ∷ length a.outputs ∷ length a.ands ∷ []) top counts) in
     let regroup = append_assoc (input_text 1 a.inputs) (latch_text (1 + a.inputs) a.nexts ++ (output_text a.outputs ++ and_text (base a) a.ands)) (symbol_lines a)
-    ∙ ap (λ l. input_text 1 a.inputs ++ l) (append_assoc (latch_text (1 + a.inputs) a.nexts) (output_text a.outputs ++ and_text (base a) a.ands) (symbol_lines a) ∙ ap (λ l. latch_text (1 + a.inputs) a.nexts ++ l) (append_assoc (output_text a.outputs) (and_text (base a) a.ands) (symbol_lines a))) in
+    ∙ ap (λ l. input_text 1 a.inputs ++ l) (append_assoc (latch_text (1 + a.inputs) a.nexts) (output_text a.outputs ++ and_text (base a) a.ands)
+    (symbol_lines a) ∙ ap (λ l. latch_text (1 + a.inputs) a.nexts ++ l) (append_assoc (output_text a.outputs) (and_text (base a) a.ands) (symbol_lines a))) in
     record {
-      lines_are = ap (λ l. lines (joined (header_line a ∷ l))) (sym regroup) ∙ lines_joined (header_line a ∷ (body_text a ++ symbol_lines a)) (head, all-append (body_text a) (symbol_lines a) free named);
-      header = (numbers_line (variables a) (a.inputs ∷ latches a ∷ length a.outputs ∷ length a.ands ∷ []), refl, line_numbers (variables a) (a.inputs ∷ latches a ∷ length a.outputs ∷ length a.ands ∷ []) top counts);
+      lines_are = ap (λ l. lines (joined (header_line a ∷ l))) (sym regroup) ∙ lines_joined (header_line a ∷ (body_text a ++ symbol_lines a))
+          (head, all-append (body_text a) (symbol_lines a) free named);
+      header = (
+        numbers_line (variables a) (a.inputs ∷ latches a ∷ length a.outputs ∷ length a.ands ∷ []),
+        refl,
+        line_numbers (variables a)
+            (a.inputs ∷ latches a ∷ length a.outputs ∷ length a.ands ∷ []) top counts,
+      );
       good = good-append most (kinds_from Input 1 a.inputs) _ (input_text 1 a.inputs) _ (own_numbers 1 a.inputs) _ (inputs_good most 1 a.inputs in_few)
-          (good-append most (kinds_from Latch (1 + a.inputs) (latches a)) _ (latch_text (1 + a.inputs) a.nexts) _ (latch_numbers (1 + a.inputs) a.nexts) _ (latches_good most (1 + a.inputs) a.nexts few latch_few c.nexts)
-          (good-append most (replicate (length a.outputs) Output) _ (output_text a.outputs) _ (output_numbers a.outputs) _ (outputs_good most a.outputs few c.outputs) (ands_good most (base a) a.ands and_few c.ands)));
+          (good-append most (kinds_from Latch (1 + a.inputs) (latches a)) _ (latch_text (1 + a.inputs) a.nexts) _
+          (latch_numbers (1 + a.inputs) a.nexts) _ (latches_good most (1 + a.inputs) a.nexts few latch_few c.nexts)
+          (good-append most (replicate (length a.outputs) Output) _ (output_text a.outputs) _ (output_numbers a.outputs) _
+          (outputs_good most a.outputs few c.outputs) (ands_good most (base a) a.ands and_few c.ands)));
     }
 
 -- ---- names
@@ -193,7 +214,8 @@ section_named sort put one pre [] k l = refl
 section_named sort put one pre ([] ∷ xs) k l =
     let e = length_push pre [] in
     subst (λ a. NamePlaces (symbols_text (letter sort) (suc k) xs) (put a) (put (pre ++ [] ∷ xs))) (append_assoc pre ([] ∷ []) (replicate (length xs) []))
-    (subst (λ b. NamePlaces (symbols_text (letter sort) (suc k) xs) (put ((pre ++ [] ∷ []) ++ replicate (length xs) [])) (put b)) (append_assoc pre ([] ∷ []) xs) (section_named sort put one (pre ++ [] ∷ []) xs (suc k) (omega (arith, e, l))))
+    (subst (λ b. NamePlaces (symbols_text (letter sort) (suc k) xs) (put ((pre ++ [] ∷ []) ++ replicate (length xs) [])) (put b))
+    (append_assoc pre ([] ∷ []) xs) (section_named sort put one (pre ++ [] ∷ []) xs (suc k) (omega (arith, e, l))))
 section_named sort put one pre ((c ∷ cs) ∷ xs) k l =
     let x : List ℕ = c ∷ cs in
     let e = length_push pre x in
@@ -204,7 +226,8 @@ section_named sort put one pre ((c ∷ cs) ∷ xs) k l =
       put new,
       one k x old new s,
       subst (λ a. NamePlaces (symbols_text (letter sort) (suc k) xs) (put a) (put (pre ++ x ∷ xs))) (append_assoc pre (x ∷ []) rest)
-          (subst (λ b. NamePlaces (symbols_text (letter sort) (suc k) xs) (put ((pre ++ x ∷ []) ++ rest)) (put b)) (append_assoc pre (x ∷ []) xs) (section_named sort put one (pre ++ x ∷ []) xs (suc k) (omega (arith, e, l)))),
+          (subst (λ b. NamePlaces (symbols_text (letter sort) (suc k) xs) (put ((pre ++ x ∷ []) ++ rest)) (put b)) (append_assoc pre (x ∷ []) xs)
+          (section_named sort put one (pre ++ x ∷ []) xs (suc k) (omega (arith, e, l)))),
     )
 
 abbrev all_of : List (List ℕ) → List (List ℕ) → List (List ℕ) → Named
@@ -218,12 +241,36 @@ all_named a c =
     let li : length i ≡ a.inputs = c.input_names in
     let ll : length l ≡ latches a = c.latch_names in
     let lo : length o ≡ length a.outputs = c.output_names in
-    let start : unnamed (counts_of a) ≡ all_of (replicate (length i) []) (replicate (length l) []) (replicate (length o) []) = (λ k. all_of (replicate (sym li k) []) (replicate (sym ll k) []) (replicate (sym lo k) [])) in
-    let p = section_named sorts.Input (λ x. all_of x (replicate (length l) []) (replicate (length o) [])) (λ k name old new s. record { sort = sorts.Input; place = k; name = name; is = refl; free = s.free; some = s.some; sets = ap (λ x. all_of x (replicate (length l) []) (replicate (length o) [])) s.sets }) [] i 0 refl in
-    let q = section_named sorts.Latch (λ x. all_of i x (replicate (length o) [])) (λ k name old new s. record { sort = sorts.Latch; place = k; name = name; is = refl; free = s.free; some = s.some; sets = ap (λ x. all_of i x (replicate (length o) [])) s.sets }) [] l 0 refl in
-    let r = section_named sorts.Output (λ x. all_of i l x) (λ k name old new s. record { sort = sorts.Output; place = k; name = name; is = refl; free = s.free; some = s.some; sets = ap (λ x. all_of i l x) s.sets }) [] o 0 refl in
+    let start : unnamed (counts_of a) ≡ all_of (replicate (length i) []) (replicate (length l) []) (replicate (length o) []) =
+    (λ k. all_of (replicate (sym li k) []) (replicate (sym ll k) []) (replicate (sym lo k) [])) in
+    let p = section_named sorts.Input (λ x. all_of x (replicate (length l) []) (replicate (length o) []))
+    (λ k name old new s. record {
+      sort = sorts.Input;
+      place = k;
+      name = name;
+      is = refl;
+      free = s.free;
+      some = s.some;
+      sets = ap
+          (λ x. all_of x (replicate (length l) []) (replicate (length o) [])) s.sets;
+    }) [] i 0 refl in
+    let q = section_named sorts.Latch (λ x. all_of i x (replicate (length o) []))
+    (λ k name old new s. record {
+      sort = sorts.Latch;
+      place = k;
+      name = name;
+      is = refl;
+      free = s.free;
+      some = s.some;
+      sets = ap
+          (λ x. all_of i x (replicate (length o) [])) s.sets;
+    }) [] l 0 refl in
+    let r = section_named sorts.Output (λ x. all_of i l x) (λ k name old new s. record
+    { sort = sorts.Output; place = k; name = name; is = refl; free = s.free; some = s.some; sets = ap (λ x. all_of i l x) s.sets }) [] o 0 refl in
     subst (λ (x : Named). NamePlaces (symbol_lines a) x (named_of a)) (sym start)
-    (places-append (symbols_text 105 0 i) (symbols_text 108 0 l ++ symbols_text 111 0 o) (all_of (replicate (length i) []) (replicate (length l) []) (replicate (length o) [])) (all_of i (replicate (length l) []) (replicate (length o) [])) (all_of i l o) p
+    (places-append (symbols_text 105 0 i) (symbols_text 108 0 l ++ symbols_text 111 0 o)
+    (all_of (replicate (length i) []) (replicate (length l) []) (replicate (length o) []))
+    (all_of i (replicate (length l) []) (replicate (length o) [])) (all_of i l o) p
     (places-append (symbols_text 108 0 l) (symbols_text 111 0 o) (all_of i (replicate (length l) []) (replicate (length o) [])) (all_of i l (replicate (length o) [])) (all_of i l o) q r))
 
 pub reads_written : (a : Circuit) → IsCircuit a → AigReads (written a) a

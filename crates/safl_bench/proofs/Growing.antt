@@ -1,5 +1,6 @@
 -- Wires, one after the other.
-use Rattle.std.proofs.Common.{◌≡◌, ℕ, ◌+◌, ◌-◌, ◌<◌, ◌≤◌, List, [], ◌∷◌, Bool, cond, length, length-append, OnOk, OnErr, Some, None, Result, Ok, Err, IfOk, refl, ap, ◌∙◌, eq-eqb, le-leb, lt-ltb, arith}
+use Rattle.std.proofs.Common.{◌≡◌, ℕ, ◌+◌, ◌-◌, ◌<◌, ◌≤◌, List, [], ◌∷◌, Bool, cond, length, length-append, OnOk, OnErr, Some, None, Result, Ok, Err}
+use Rattle.std.proofs.Common.{IfOk, refl, ap, ◌∙◌, eq-eqb, le-leb, lt-ltb, arith}
 use Rattle.safl_word.specs.declared.primitive.Primitive.TheVariants.{Not, Cat, Bits}
 use Rattle.safl_word.specs.Primitives.{equal_widths}
 use Rattle.safl_word.proofs.Widths.{within}

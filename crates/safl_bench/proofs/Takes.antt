@@ -15,7 +15,8 @@ no_inputs : (j i : ℕ) (gs : List Signal) → AreTemps j gs → inputs_from gs 
 no_inputs j i [] h = refl
 no_inputs j i (g ∷ gs) h = no_input g.kind i (inputs_from gs (suc i)) h.1 ∙ no_inputs (suc j) (suc i) gs h.2
 
-pub takes_one : (n m : Netlist) (name : List ℕ) (width : ℕ) → n ≡ with_signal (record { signals = []; outputs = [] }) (record { name = name; width = width; kind = Input }) → Grows n m → TakesOne m width
+pub takes_one : (n m : Netlist) (name : List ℕ) (width : ℕ) → n ≡ with_signal (record { signals = []; outputs = [] })
+    (record { name = name; width = width; kind = Input }) → Grows n m → TakesOne m width
 takes_one n m name width e g = record { takes = λ words h. h ∙ sym (ap (map (width_of m)) inputs ∙ ap (λ w. w ∷ []) wide) }
   where
     signals : m.signals ≡ record { name = name; width = width; kind = Input } ∷ g.more

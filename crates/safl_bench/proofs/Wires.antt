@@ -43,7 +43,8 @@ pub one_more : {E : Type 0} (n m : Netlist) (r : Result Sig E) (op : Op) (xs : L
 one_more n m (Ok s) op xs e f = let x = ap (λ (k : Netlist). length k.signals) e ∙ length-append n.signals (temporary n op xs ∷ []) in omega (arith, x)
 one_more n m (Err e) op xs f g = let x = ap (λ (k : Netlist). length k.signals) g in omega (arith, x)
 
-pub last_in : {E : Type 0} (n m : Netlist) (r : Result Sig E) (op : Op) (xs : List Sig) → OnOk r (m ≡ with_signal n (temporary n op xs)) → IfOk r (λ s. s.0 ≡ length n.signals) → IfOk r (λ s. s.0 < length m.signals)
+pub last_in : {E : Type 0} (n m : Netlist) (r : Result Sig E) (op : Op) (xs : List Sig) → OnOk r (m ≡ with_signal n (temporary n op xs)) → IfOk r
+    (λ s. s.0 ≡ length n.signals) → IfOk r (λ s. s.0 < length m.signals)
 last_in n m (Ok s) op xs e f = let x = ap (λ (k : Netlist). length k.signals) e ∙ length-append n.signals (temporary n op xs ∷ []) in omega (arith, x, f)
 last_in n m (Err e) op xs f g = tt
 

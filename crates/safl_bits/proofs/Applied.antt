@@ -1,5 +1,6 @@
 -- Results that take no gates.
-use Rattle.std.proofs.Common.{◌≡◌, ℕ, ◌+◌, ◌-◌, ◌*◌, ◌%◌, ◌^◌, ◌<◌, ◌≤◌, List, [], ◌∷◌, ◌++◌, length, take, drop, Bool, true, false, ◌&&◌, nat_lt, nat_le, cond, Some, None, refl, sym, ap, ◌∙◌, arith, length-append}
+use Rattle.std.proofs.Common.{◌≡◌, ℕ, ◌+◌, ◌-◌, ◌*◌, ◌%◌, ◌^◌, ◌<◌, ◌≤◌, List, [], ◌∷◌, ◌++◌, length, take, drop, Bool, true, false, ◌&&◌, nat_lt}
+use Rattle.std.proofs.Common.{nat_le, cond, Some, None, refl, sym, ap, ◌∙◌, arith, length-append}
 use Rattle.std.proofs.lemmas.Bool.Decides.{nat_tests}
 use Rattle.std.proofs.lemmas.List.{length-drop, length-take-le}
 use Rattle.std.proofs.lemmas.List.Elements.{All-same, All-append, All-take, All-drop}
@@ -13,17 +14,25 @@ use Rattle.safl_bits.specs.Gates.{Gates, IsLiteral, AreLiterals}
 use Rattle.safl_bits.specs.Results.{Makes, MakesOne}
 use Rattle.safl_bits.proofs.Moving.{shown-append, shown_take, shown_drop}
 
-pub not_makes : (g : Gates) (a r : List Lit) → 1 ≤ length a → length a ≤ max_width → AreLiterals g r → length r ≡ length a → ((m : Assignment) → shown m r + shown m a + 1 ≡ 2 ^ length a) → MakesOne Not a g r
-not_makes g a r some most f l v = record { fits = f; long = ap (λ b. cond b (Some (length a)) None) (within (length a) some most) ∙ ap (λ n. Some n) (sym l); value = λ m h. let e = v m in omega (arith, e) }
+pub not_makes : (g : Gates) (a r : List Lit) → 1 ≤ length a → length a ≤ max_width → AreLiterals g r → length r ≡ length a →
+    ((m : Assignment) → shown m r + shown m a + 1 ≡ 2 ^ length a) → MakesOne Not a g r
+not_makes g a r some most f l v = record {
+  fits = f;
+  long = ap (λ b. cond b (Some (length a)) None) (within (length a) some most) ∙ ap (λ n. Some n)
+      (sym l);
+  value = λ m h. let e = v m in omega (arith, e);
+}
 
-pub cut_makes : (g : Gates) (a r : List Lit) (high low : ℕ) → low ≤ high → high < length a → length a ≤ max_width → AreLiterals g a → r ≡ take (high + 1 - low) (drop low a) → MakesOne (Bits high low) a g r
+pub cut_makes : (g : Gates) (a r : List Lit) (high low : ℕ) → low ≤ high → high < length a → length a ≤ max_width → AreLiterals g a → r ≡ take
+    (high + 1 - low) (drop low a) → MakesOne (Bits high low) a g r
 cut_makes g a r high low p q most f e =
     let z : high + 1 - low ≡ high - low + 1 = omega (arith, p) in
     let l : length r ≡ high + 1 - low = ap length e ∙ length-take-le (high + 1 - low) (drop low a) (omega (arith, length-drop low a, p, q)) in
     let t : (nat_le low high && nat_lt high (length a)) ≡ true = grind (arith, nat_tests) in
     record {
       fits = All-same (IsLiteral g) r _ e (All-take (IsLiteral g) (high + 1 - low) (drop low a) (All-drop (IsLiteral g) low a f));
-      long = ap (λ b. cond b (where_true (nat_le low high && nat_lt high (length a)) (high - low + 1)) None) (within (length a) (omega (arith, q)) most) ∙ ap (λ b. where_true b (high - low + 1)) t ∙ ap (λ n. Some n) (sym (l ∙ z));
+      long = ap (λ b. cond b (where_true (nat_le low high && nat_lt high (length a)) (high - low + 1)) None)
+          (within (length a) (omega (arith, q)) most) ∙ ap (λ b. where_true b (high - low + 1)) t ∙ ap (λ n. Some n) (sym (l ∙ z));
       value = λ m h. ap (shown m) e ∙ shown_take m (drop low a) (high + 1 - low) ∙ (λ i. shown_drop m a low i % 2 ^ z i);
     }
 

@@ -1,5 +1,6 @@
 -- What stays as a graph grows.
-use Rattle.std.proofs.Common.{◌≡◌, ℕ, zero, suc, ◌+◌, ◌*◌, ◌/◌, ◌%◌, ◌≤◌, List, [], ◌∷◌, ◌++◌, length, Bool, true, false, not, cond, ◌&&◌, ◌||◌, ◌==◌, Some, slice_get, refl, sym, ap, ◌∙◌, subst, arith, append_assoc}
+use Rattle.std.proofs.Common.{◌≡◌, ℕ, zero, suc, ◌+◌, ◌*◌, ◌/◌, ◌%◌, ◌≤◌, List, [], ◌∷◌, ◌++◌, length, Bool, true, false, not, cond, ◌&&◌, ◌||◌, ◌==◌}
+use Rattle.std.proofs.Common.{Some, slice_get, refl, sym, ap, ◌∙◌, subst, arith, append_assoc}
 use Rattle.std.proofs.lemmas.List.{append-nil}
 use Rattle.std.proofs.lemmas.Bool.Decides.{nat_tests}
 use Rattle.safl_aiger.specs.declared.literal.Lit.{Lit}
@@ -51,7 +52,8 @@ last [] p = refl
 last (x ∷ xs) p = last xs p
 
 -- the AND that was added last
-pub gate_value : (first : ℕ) (xs ys : List (Lit × Lit)) (a b : Lit) (m : Assignment) → ys ≡ xs ++ (a, b) ∷ [] → Holds (record { first = first; ands = ys }) m → on_number m (2 * (first + length xs)) ≡ (on m a && on m b)
+pub gate_value : (first : ℕ) (xs ys : List (Lit × Lit)) (a b : Lit) (m : Assignment) → ys ≡ xs ++ (a, b) ∷ [] → Holds
+    (record { first = first; ands = ys }) m → on_number m (2 * (first + length xs)) ≡ (on m a && on m b)
 gate_value first xs ys a b m e h = even_on m (first + length xs) ∙ h.each (length xs) (a, b) (ap (λ l. slice_get l (length xs)) e ∙ last xs (a, b))
 
 pub neither : (x y : Bool) → not (not x && not y) ≡ (x || y)

@@ -1,5 +1,6 @@
 -- Words that are moved, and the ends of sums, products and shifts.
-use Rattle.std.proofs.Common.{◌≡◌, ◌⊎◌, inl, inr, ℕ, zero, suc, min, ◌+◌, ◌-◌, ◌*◌, ◌/◌, ◌%◌, ◌^◌, ◌<◌, ◌≤◌, List, ◌∷◌, ◌++◌, length, take, drop, replicate, Bool, true, false, not, cond, nat_lt, ◌==◌, Result, Ok, Err, IfOk, refl, sym, ap, ◌∙◌, subst, arith}
+use Rattle.std.proofs.Common.{◌≡◌, ◌⊎◌, inl, inr, ℕ, zero, suc, min, ◌+◌, ◌-◌, ◌*◌, ◌/◌, ◌%◌, ◌^◌, ◌<◌, ◌≤◌, List, ◌∷◌, ◌++◌, length, take, drop}
+use Rattle.std.proofs.Common.{replicate, Bool, true, false, not, cond, nat_lt, ◌==◌, Result, Ok, Err, IfOk, refl, sym, ap, ◌∙◌, subst, arith}
 use Rattle.std.proofs.Math.Nat.{div-eq_of_lt, pow-le-pow_right, mul-mod_left, mod-eq_of_lt}
 use Rattle.std.proofs.lemmas.List.{length-map, length-replicate, map-append, take-map, drop-map, drop_all}
 use Rattle.std.proofs.lemmas.Nat.{pow-add, shl-shr, mod-pow-add}
@@ -43,7 +44,8 @@ shown_zeros m z n e = ap number (zero_bits m z n e) ∙ number_zeros n
 pub no_low : (a w b : ℕ) → w ≤ b → (a * 2 ^ b) % 2 ^ w ≡ 0
 no_low a w b h =
     let z : (b - w) + w ≡ b = omega arith in
-    let e : a * 2 ^ b ≡ a * 2 ^ (b - w) * 2 ^ w = ap (λ n. a * 2 ^ n) (sym z) ∙ ap (λ n. a * n) (pow-add 2 (b - w) w) ∙ (let q : a * (2 ^ (b - w) * 2 ^ w) ≡ a * 2 ^ (b - w) * 2 ^ w = grind arith in q) in
+    let e : a * 2 ^ b ≡ a * 2 ^ (b - w) * 2 ^ w = ap (λ n. a * 2 ^ n) (sym z) ∙ ap (λ n. a * n) (pow-add 2 (b - w) w) ∙
+    (let q : a * (2 ^ (b - w) * 2 ^ w) ≡ a * 2 ^ (b - w) * 2 ^ w = grind arith in q) in
     ap (λ n. n % 2 ^ w) e ∙ mul-mod_left (a * 2 ^ (b - w)) (2 ^ w)
 
 -- a number below 2 to the width has no high bits
@@ -65,14 +67,16 @@ le_or_more zero y = inl (omega arith)
 le_or_more (suc x) zero = inr (omega arith)
 le_or_more (suc x) (suc y) = elim (le_or_more x y) [ inl h ↦ inl (omega (arith, h)) | inr h ↦ inr (omega (arith, h)) ]
 
-pub raise_shown : (m : Assignment) (z : Lit) (a : List Lit) (by lost : ℕ) → on m z ≡ false → lost ≡ min by (length a) → shown m (replicate lost z ++ take (length a - lost) a) ≡ (shown m a * 2 ^ by) % 2 ^ length a
+pub raise_shown : (m : Assignment) (z : Lit) (a : List Lit) (by lost : ℕ) → on m z ≡ false → lost ≡ min by (length a) → shown m
+    (replicate lost z ++ take (length a - lost) a) ≡ (shown m a * 2 ^ by) % 2 ^ length a
 raise_shown m z a by lost e f =
     let w = length a in
     shown-append m (replicate lost z) (take (w - lost) a) ∙ (λ i. shown_zeros m z lost e i + 2 ^ length-replicate lost z i * shown_take m a (w - lost) i)
     ∙ on_side (le_or_more by w)
   where
     on_side : (by ≤ length a) ⊎ (length a < by) → 0 + 2 ^ lost * (shown m a % 2 ^ (length a - lost)) ≡ (shown m a * 2 ^ by) % 2 ^ length a
-    on_side (inl h) = let q : lost ≡ by = omega (arith, f, h) in subst (λ k. 0 + 2 ^ k * (shown m a % 2 ^ (length a - k)) ≡ (shown m a * 2 ^ by) % 2 ^ length a) (sym q) (let r = raised (shown m a) (length a) by h in omega (arith, r))
+    on_side (inl h) = let q : lost ≡ by = omega (arith, f, h) in subst
+        (λ k. 0 + 2 ^ k * (shown m a % 2 ^ (length a - k)) ≡ (shown m a * 2 ^ by) % 2 ^ length a) (sym q) (let r = raised (shown m a) (length a) by h in omega (arith, r))
     on_side (inr h) =
         let q : length a - lost ≡ 0 = omega (arith, f, h) in
         let o : shown m a % 2 ^ (length a - lost) ≡ 0 = ap (λ k. shown m a % 2 ^ k) q ∙ (let u : shown m a % 1 ≡ 0 = omega arith in u) in

@@ -1,5 +1,6 @@
 -- Words of literals, place by place.
-use Rattle.std.proofs.Common.{◌≡◌, ℕ, suc, ◌+◌, ◌*◌, ◌^◌, ◌<◌, ◌≤◌, List, [], ◌∷◌, ◌++◌, length, take, Bool, true, false, not, cond, ◌&&◌, ◌||◌, ◌==◌, bit_and, bit_or, bit_xor, slice_index_or, refl, sym, ap, ◌∙◌, subst, arith}
+use Rattle.std.proofs.Common.{◌≡◌, ℕ, suc, ◌+◌, ◌*◌, ◌^◌, ◌<◌, ◌≤◌, List, [], ◌∷◌, ◌++◌, length, take, Bool, true, false, not, cond, ◌&&◌, ◌||◌, ◌==◌}
+use Rattle.std.proofs.Common.{bit_and, bit_or, bit_xor, slice_index_or, refl, sym, ap, ◌∙◌, subst, arith}
 use Rattle.std.proofs.Math.Nat.{pow-suc}
 use Rattle.std.proofs.lemmas.Bool.Decides.{nat_tests}
 use Rattle.std.proofs.lemmas.List.{map_push, take_more, length-take-le, length-map}
@@ -65,10 +66,14 @@ bits_xor false false = refl
 turned : (p x a : ℕ) → a + p * x ≡ x * p + a
 turned p x a = grind arith
 
-pub gate_step : (kind : Gate) (i a b : ℕ) (x y : Bool) → a < 2 ^ i → b < 2 ^ i → gate_number kind (a + 2 ^ i * bit_of x) (b + 2 ^ i * bit_of y) ≡ gate_number kind a b + 2 ^ i * bit_of (gate_bit kind x y)
-gate_step Both i a b x y l k = (λ j. bit_and (turned (2 ^ i) (bit_of x) a j) (turned (2 ^ i) (bit_of y) b j)) ∙ and_block i (bit_of x) (bit_of y) a b l k ∙ ap (λ n. n * 2 ^ i + bit_and a b) (bits_and x y) ∙ sym (turned (2 ^ i) (bit_of (x && y)) (bit_and a b))
-gate_step Either i a b x y l k = (λ j. bit_or (turned (2 ^ i) (bit_of x) a j) (turned (2 ^ i) (bit_of y) b j)) ∙ or_block i (bit_of x) (bit_of y) a b l k ∙ ap (λ n. n * 2 ^ i + bit_or a b) (bits_or x y) ∙ sym (turned (2 ^ i) (bit_of (x || y)) (bit_or a b))
-gate_step Differ i a b x y l k = (λ j. bit_xor (turned (2 ^ i) (bit_of x) a j) (turned (2 ^ i) (bit_of y) b j)) ∙ xor_block i (bit_of x) (bit_of y) a b l k ∙ ap (λ n. n * 2 ^ i + bit_xor a b) (bits_xor x y) ∙ sym (turned (2 ^ i) (bit_of (differ x y)) (bit_xor a b))
+pub gate_step : (kind : Gate) (i a b : ℕ) (x y : Bool) → a < 2 ^ i → b < 2 ^ i → gate_number kind (a + 2 ^ i * bit_of x) (b + 2 ^ i * bit_of y) ≡
+    gate_number kind a b + 2 ^ i * bit_of (gate_bit kind x y)
+gate_step Both i a b x y l k = (λ j. bit_and (turned (2 ^ i) (bit_of x) a j) (turned (2 ^ i) (bit_of y) b j)) ∙ and_block i (bit_of x) (bit_of y) a b
+    l k ∙ ap (λ n. n * 2 ^ i + bit_and a b) (bits_and x y) ∙ sym (turned (2 ^ i) (bit_of (x && y)) (bit_and a b))
+gate_step Either i a b x y l k = (λ j. bit_or (turned (2 ^ i) (bit_of x) a j) (turned (2 ^ i) (bit_of y) b j)) ∙ or_block i (bit_of x) (bit_of y) a b
+    l k ∙ ap (λ n. n * 2 ^ i + bit_or a b) (bits_or x y) ∙ sym (turned (2 ^ i) (bit_of (x || y)) (bit_or a b))
+gate_step Differ i a b x y l k = (λ j. bit_xor (turned (2 ^ i) (bit_of x) a j) (turned (2 ^ i) (bit_of y) b j)) ∙ xor_block i (bit_of x) (bit_of y) a
+    b l k ∙ ap (λ n. n * 2 ^ i + bit_xor a b) (bits_xor x y) ∙ sym (turned (2 ^ i) (bit_of (differ x y)) (bit_xor a b))
 
 pub gate_empty : (kind : Gate) → 0 ≡ gate_number kind 0 0
 gate_empty Both = refl

@@ -38,7 +38,11 @@ pub data Step (p : Program) (args : List Word) : Scene → Event → Scene → T
       → sites (suc k) ≡ Unsent
       → wanted (back_of sites) xs (p.body (p.caller (suc k))) (suc k) ≡ Some ws
       → s.units (p.unit (p.callee (suc k))) ≡ Free
-      → Step p args s (Accept (suc k)) (record { units = put (put s.units (p.unit (p.caller (suc k))) (mark (s.units (p.unit (p.caller (suc k)))) (suc k) Sent)) (p.unit (p.callee (suc k))) (Active (p.callee (suc k)) ws fresh (suc k)); outside = s.outside })
+      → Step p args s (Accept (suc k)) (record {
+        units = put (put s.units (p.unit (p.caller (suc k)))
+            (mark (s.units (p.unit (p.caller (suc k)))) (suc k) Sent)) (p.unit (p.callee (suc k))) (Active (p.callee (suc k)) ws fresh (suc k));
+        outside = s.outside;
+      })
   finish : {s : Scene} {f j : ℕ} {v : Word} {xs : List Word} {sites : ℕ → Stage}
       → s.units (p.unit f) ≡ Active f xs sites j
       → answer (back_of sites) xs (p.body f) ≡ Ready v
@@ -52,7 +56,11 @@ pub data Step (p : Program) (args : List Word) : Scene → Event → Scene → T
       → Step p args s (Return 0) (record { units = put s.units (p.unit (p.callee 0)) Free; outside = Returned v })
   give : {s : Scene} {k : ℕ} {v : Word}
       → s.units (p.unit (p.callee (suc k))) ≡ Giving v (suc k)
-      → Step p args s (Return (suc k)) (record { units = put (put s.units (p.unit (p.caller (suc k))) (mark (s.units (p.unit (p.caller (suc k)))) (suc k) (Returned v))) (p.unit (p.callee (suc k))) Free; outside = s.outside })
+      → Step p args s (Return (suc k)) (record {
+        units = put (put s.units (p.unit (p.caller (suc k)))
+            (mark (s.units (p.unit (p.caller (suc k)))) (suc k) (Returned v))) (p.unit (p.callee (suc k))) Free;
+        outside = s.outside;
+      })
 
 -- the events, one after another
 pub data Trail (p : Program) (args : List Word) : Scene → List Event → Scene → Type 0 where

@@ -1,5 +1,6 @@
 -- Lists of events, sweeps over numbers, and first places.
-use Rattle.std.proofs.Common.{◌≡◌, ℕ, zero, suc, ◌+◌, ◌<◌, ◌≤◌, List, [], ◌∷◌, ◌++◌, Option, Some, None, Bool, true, false, cond, ◌&&◌, nat_lt, is_some, refl, sym, ap, ◌∙◌, subst, ⊎_elim, arith, append-nil}
+use Rattle.std.proofs.Common.{◌≡◌, ℕ, zero, suc, ◌+◌, ◌<◌, ◌≤◌, List, [], ◌∷◌, ◌++◌, Option, Some, None, Bool, true, false, cond, ◌&&◌, nat_lt}
+use Rattle.std.proofs.Common.{is_some, refl, sym, ap, ◌∙◌, subst, ⊎_elim, arith, append-nil}
 use Rattle.std.proofs.lemmas.Bool.{cases_Bool, cases_eq, true≢false, false≢true, lt-ltb, le-ltb, ltb-true, ltb-false, and_right, eq-eqb, ne_eqb}
 use Rattle.safl_calls.specs.Machine.{Mode, Idle, Runs, Delivers, is_unsent, State, Event, Enabled, fire, Legal, after, last_word, put}
 use Rattle.safl_calls.specs.Picks.{first, picks}
@@ -58,7 +59,8 @@ module _ (C : Program) (args : List Word) where
   module _ (Q : ℕ → State → Type 0) (p : ℕ → Bool) (e : ℕ → Event) (N : ℕ)
       (fires : (n : ℕ) (s : State) → n < N → Q n s → p n ≡ true → Enabled C args s (e n) × Q (suc n) (fire C args s (e n)))
       (skips : (n : ℕ) (s : State) → n < N → Q n s → p n ≡ false → Q (suc n) s) where
-    one_more : (s t : State) (es : List Event) (n : ℕ) → n < N → Legal C args s es → Q n (after C args s es) → (b : Bool) → p n ≡ b → Legal C args s (es ++ cond b (e n ∷ []) []) × Q (suc n) (after C args s (es ++ cond b (e n ∷ []) []))
+    one_more : (s t : State) (es : List Event) (n : ℕ) → n < N → Legal C args s es → Q n (after C args s es) → (b : Bool) → p n ≡ b → Legal C args s
+        (es ++ cond b (e n ∷ []) []) × Q (suc n) (after C args s (es ++ cond b (e n ∷ []) []))
     one_more s t es n lt legal q true is =
         let f = fires n (after C args s es) lt q is in (
           legal_append s es (e n ∷ []) legal (legal_one (after C args s es) (e n) f.0),

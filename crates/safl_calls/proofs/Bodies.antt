@@ -46,12 +46,15 @@ both_parts NotYet o vs e = absurd (some_none vs (sym e))
 ready_yet : (v : Word) → Ready v ≡ NotYet → ⊥
 ready_yet v e = grind arith
 
-if_grows : (q q' x x' y y' a : Answer) → ((r : Answer) → q ≡ r → (r ≡ NotYet → ⊥) → q' ≡ r) → (x ≡ a → (a ≡ NotYet → ⊥) → x' ≡ a) → (y ≡ a → (a ≡ NotYet → ⊥) → y' ≡ a) → select q NotYet x y ≡ a → (a ≡ NotYet → ⊥) → select q' NotYet x' y' ≡ a
-if_grows (Ready u) q' x x' y y' a hq hx hy e some = ap (λ r. select r NotYet x' y') (hq (Ready u) refl (ready_yet u)) ∙ pick_two u.bits x y x' y' (λ z z'. z ≡ a → z' ≡ a) (λ i. hx i some) (λ i. hy i some) e
+if_grows : (q q' x x' y y' a : Answer) → ((r : Answer) → q ≡ r → (r ≡ NotYet → ⊥) → q' ≡ r) → (x ≡ a → (a ≡ NotYet → ⊥) → x' ≡ a) →
+    (y ≡ a → (a ≡ NotYet → ⊥) → y' ≡ a) → select q NotYet x y ≡ a → (a ≡ NotYet → ⊥) → select q' NotYet x' y' ≡ a
+if_grows (Ready u) q' x x' y y' a hq hx hy e some = ap (λ r. select r NotYet x' y') (hq (Ready u) refl (ready_yet u)) ∙ pick_two u.bits x y x' y'
+    (λ z z'. z ≡ a → z' ≡ a) (λ i. hx i some) (λ i. hy i some) e
 if_grows (LoopTo h vs) q' x x' y y' a hq hx hy e some = absurd (some (sym e))
 if_grows NotYet q' x x' y y' a hq hx hy e some = absurd (some (sym e))
 
-let_grows : (o o' : Option (List Word)) (f g : List Word → Answer) (a : Answer) → ((vs : List Word) → o ≡ Some vs → o' ≡ Some vs) → ((vs : List Word) → f vs ≡ a → (a ≡ NotYet → ⊥) → g vs ≡ a) → with_all o NotYet f ≡ a → (a ≡ NotYet → ⊥) → with_all o' NotYet g ≡ a
+let_grows : (o o' : Option (List Word)) (f g : List Word → Answer) (a : Answer) → ((vs : List Word) → o ≡ Some vs → o' ≡ Some vs) →
+    ((vs : List Word) → f vs ≡ a → (a ≡ NotYet → ⊥) → g vs ≡ a) → with_all o NotYet f ≡ a → (a ≡ NotYet → ⊥) → with_all o' NotYet g ≡ a
 let_grows None o' f g a ho hf e some = absurd (some (sym e))
 let_grows (Some vs) o' f g a ho hf e some = ap (λ o. with_all o NotYet g) (ho vs refl) ∙ hf vs e some
 
@@ -59,7 +62,8 @@ mutual
   unfolding answer wanted Stands
 
   -- what is ready stays so
-  pub answer_grows : (b c : ℕ → Option Word) (env : List Word) (t : Term) → ((k : ℕ) (v : Word) → Stands k t → b k ≡ Some v → c k ≡ Some v) → (a : Answer) → answer b env t ≡ a → (a ≡ NotYet → ⊥) → answer c env t ≡ a
+  pub answer_grows : (b c : ℕ → Option Word) (env : List Word) (t : Term) → ((k : ℕ) (v : Word) → Stands k t → b k ≡ Some v → c k ≡ Some v) →
+      (a : Answer) → answer b env t ≡ a → (a ≡ NotYet → ⊥) → answer c env t ≡ a
   answer_grows b c env (Const n) h a e some = e
   answer_grows b c env (Var i) h a e some = e
   answer_grows b c env (Op p ts) h a e some =
@@ -81,7 +85,8 @@ mutual
       let o = go_some m (answers b env ts) a e some in
       ap (loop_to m) (all_grows b c env ts h o.0 o.1) ∙ sym (ap (loop_to m) o.1) ∙ e
 
-  pub all_grows : (b c : ℕ → Option Word) (env : List Word) (ts : Terms) → ((k : ℕ) (v : Word) → StandsIn k ts → b k ≡ Some v → c k ≡ Some v) → (vs : List Word) → answers b env ts ≡ Some vs → answers c env ts ≡ Some vs
+  pub all_grows : (b c : ℕ → Option Word) (env : List Word) (ts : Terms) → ((k : ℕ) (v : Word) → StandsIn k ts → b k ≡ Some v → c k ≡ Some v) →
+      (vs : List Word) → answers b env ts ≡ Some vs → answers c env ts ≡ Some vs
   all_grows b c env Nil h vs e = e
   all_grows b c env (Cons t ts) h vs e =
       let p = both_parts (answer b env t) (answers b env ts) vs e in
@@ -89,12 +94,15 @@ mutual
       ∙ ap (both (Ready p.0)) (all_grows b c env ts (λ k v st. h k v (inr st)) p.1 p.3)
       ∙ sym (ap (λ a. both a (answers b env ts)) p.2 ∙ ap (both (Ready p.0)) p.3) ∙ e
 
-select_wants : (q q' : Answer) (x x' y y' : Option (List Word)) → ((r : Answer) → q ≡ r → (r ≡ NotYet → ⊥) → q' ≡ r) → (is_some x ≡ true → is_some x' ≡ true) → (is_some y ≡ true → is_some y' ≡ true) → is_some (select q None x y) ≡ true → is_some (select q' None x' y') ≡ true
-select_wants (Ready u) q' x x' y y' hq hx hy e = ap (λ r. is_some (select r None x' y')) (hq (Ready u) refl (ready_yet u)) ∙ pick_two u.bits x y x' y' (λ z z'. is_some z ≡ true → is_some z' ≡ true) hx hy e
+select_wants : (q q' : Answer) (x x' y y' : Option (List Word)) → ((r : Answer) → q ≡ r → (r ≡ NotYet → ⊥) → q' ≡ r) →
+    (is_some x ≡ true → is_some x' ≡ true) → (is_some y ≡ true → is_some y' ≡ true) → is_some (select q None x y) ≡ true → is_some (select q' None x' y') ≡ true
+select_wants (Ready u) q' x x' y y' hq hx hy e = ap (λ r. is_some (select r None x' y')) (hq (Ready u) refl (ready_yet u)) ∙ pick_two u.bits x y x' y'
+    (λ z z'. is_some z ≡ true → is_some z' ≡ true) hx hy e
 select_wants (LoopTo h vs) q' x x' y y' hq hx hy e = absurd (false≢true e)
 select_wants NotYet q' x x' y y' hq hx hy e = absurd (false≢true e)
 
-let_wants : (o o' : Option (List Word)) (f g : List Word → Option (List Word)) → ((vs : List Word) → o ≡ Some vs → o' ≡ Some vs) → ((vs : List Word) → is_some (f vs) ≡ true → is_some (g vs) ≡ true) → is_some (with_all o None f) ≡ true → is_some (with_all o' None g) ≡ true
+let_wants : (o o' : Option (List Word)) (f g : List Word → Option (List Word)) → ((vs : List Word) → o ≡ Some vs → o' ≡ Some vs) →
+    ((vs : List Word) → is_some (f vs) ≡ true → is_some (g vs) ≡ true) → is_some (with_all o None f) ≡ true → is_some (with_all o' None g) ≡ true
 let_wants None o' f g ho hf e = absurd (false≢true e)
 let_wants (Some vs) o' f g ho hf e = ap (λ o. is_some (with_all o None g)) (ho vs refl) ∙ hf vs e
 
@@ -113,7 +121,8 @@ mutual
   unfolding answer wanted Stands
 
   -- what is wanted stays so
-  pub wanted_grows : (b c : ℕ → Option Word) (env : List Word) (t : Term) → ((k : ℕ) (v : Word) → Stands k t → b k ≡ Some v → c k ≡ Some v) → (k : ℕ) → is_some (wanted b env t k) ≡ true → is_some (wanted c env t k) ≡ true
+  pub wanted_grows : (b c : ℕ → Option Word) (env : List Word) (t : Term) → ((k : ℕ) (v : Word) → Stands k t → b k ≡ Some v → c k ≡ Some v) → (k : ℕ)
+      → is_some (wanted b env t k) ≡ true → is_some (wanted c env t k) ≡ true
   wanted_grows b c env (Const n) h k e = e
   wanted_grows b c env (Var i) h k e = e
   wanted_grows b c env (Op p ts) h k e = wanted_in_grows b c env ts h k e
@@ -132,7 +141,8 @@ mutual
       cond_wants (j == k) _ _ _ _ (all_some _ _ (all_grows b c env ts (λ k v st. h k v (inr st)))) (wanted_in_grows b c env ts (λ k v st. h k v (inr st)) k) e
   wanted_grows b c env (Loop m ts) h k e = wanted_in_grows b c env ts h k e
 
-  pub wanted_in_grows : (b c : ℕ → Option Word) (env : List Word) (ts : Terms) → ((k : ℕ) (v : Word) → StandsIn k ts → b k ≡ Some v → c k ≡ Some v) → (k : ℕ) → is_some (wanted_in b env ts k) ≡ true → is_some (wanted_in c env ts k) ≡ true
+  pub wanted_in_grows : (b c : ℕ → Option Word) (env : List Word) (ts : Terms) → ((k : ℕ) (v : Word) → StandsIn k ts → b k ≡ Some v → c k ≡ Some v) →
+      (k : ℕ) → is_some (wanted_in b env ts k) ≡ true → is_some (wanted_in c env ts k) ≡ true
   wanted_in_grows b c env Nil h k e = e
   wanted_in_grows b c env (Cons t ts) h k e =
       or_wants _ _ _ _ (wanted_grows b c env t (λ k v st. h k v (inl st)) k) (wanted_in_grows b c env ts (λ k v st. h k v (inr st)) k) e
@@ -177,8 +187,12 @@ either : (o p : Option (List Word)) (Q : Type 0) → (is_some o ≡ true → Q) 
 either o p Q f g e = ⊎_elim f g (or_some o p e)
 
 -- one branch of a choice
-branch_settled : (q x y a : Answer) (wx wy : Option (List Word)) (Q : Type 0) → ((u : Word) → q ≡ Ready u → u.bits ≡ 1 → x ≡ a → is_some wx ≡ true → Q) → ((u : Word) → q ≡ Ready u → u.bits ≢ 1 → y ≡ a → is_some wy ≡ true → Q) → select q NotYet x y ≡ a → (a ≡ NotYet → ⊥) → is_some (select q None wx wy) ≡ true → Q
-branch_settled (Ready u) x y a wx wy Q fx fy e some w = pick_cases u.bits x y wx wy (λ z v. (z ≡ a) × (is_some v ≡ true)) Q (λ one p. fx u refl one p.0 p.1) (λ other p. fy u refl other p.0 p.1) (pick_two u.bits x y wx wy (λ z v. z ≡ a → is_some v ≡ true → (z ≡ a) × (is_some v ≡ true)) (λ i j. (i, j)) (λ i j. (i, j)) e w)
+branch_settled : (q x y a : Answer) (wx wy : Option (List Word)) (Q : Type 0) →
+    ((u : Word) → q ≡ Ready u → u.bits ≡ 1 → x ≡ a → is_some wx ≡ true → Q) → ((u : Word) → q ≡ Ready u → u.bits ≢ 1 → y ≡ a → is_some wy ≡ true → Q)
+    → select q NotYet x y ≡ a → (a ≡ NotYet → ⊥) → is_some (select q None wx wy) ≡ true → Q
+branch_settled (Ready u) x y a wx wy Q fx fy e some w = pick_cases u.bits x y wx wy (λ z v. (z ≡ a) × (is_some v ≡ true)) Q
+    (λ one p. fx u refl one p.0 p.1) (λ other p. fy u refl other p.0 p.1)
+    (pick_two u.bits x y wx wy (λ z v. z ≡ a → is_some v ≡ true → (z ≡ a) × (is_some v ≡ true)) (λ i j. (i, j)) (λ i j. (i, j)) e w)
 branch_settled (LoopTo h vs) x y a wx wy Q fx fy e some w = absurd (false≢true w)
 branch_settled NotYet x y a wx wy Q fx fy e some w = absurd (false≢true w)
 
@@ -194,7 +208,9 @@ mutual
   unfolding answer wanted Stands Once
 
   -- where a body says something, each site that it wants has returned, if each that has returned is wanted
-  pub settled : (b : ℕ → Option Word) (env : List Word) (t : Term) → Once t → ((j : ℕ) → Stands j t → is_some (b j) ≡ true → is_some (wanted b env t j) ≡ true) → (a : Answer) → answer b env t ≡ a → (a ≡ NotYet → ⊥) → (k : ℕ) → is_some (wanted b env t k) ≡ true → is_some (b k) ≡ true
+  pub settled : (b : ℕ → Option Word) (env : List Word) (t : Term) → Once t →
+      ((j : ℕ) → Stands j t → is_some (b j) ≡ true → is_some (wanted b env t j) ≡ true) → (a : Answer) → answer b env t ≡ a → (a ≡ NotYet → ⊥) →
+      (k : ℕ) → is_some (wanted b env t k) ≡ true → is_some (b k) ≡ true
   settled b env (Const n) once h a e some k w = absurd (false≢true w)
   settled b env (Var i) once h a e some k w = absurd (false≢true w)
   settled b env (Op p ts) once h a e some k w =
@@ -204,41 +220,51 @@ mutual
       let q = select_says (answer b env d) (answer b env x) (answer b env y) a e some in
       either (wanted b env d k) (select (answer b env d) None (wanted b env x k) (wanted b env y k)) (is_some (b k) ≡ true)
       (λ wd. settled b env d once.0 (λ j st back. either (wanted b env d j) (select (answer b env d) None (wanted b env x j) (wanted b env y j)) (is_some (wanted b env d j) ≡ true) (λ z. z)
-      (λ z. absurd (once.3 j st (⊎_elim (λ l. inl (wanted_stands b env x j l)) (λ l. inr (wanted_stands b env y j l)) (select_some (answer b env d) (wanted b env x j) (wanted b env y j) z)))) (h j (inl st) back)) (answer b env d) refl q.0 k wd)
+      (λ z. absurd (once.3 j st (⊎_elim (λ l. inl (wanted_stands b env x j l)) (λ l. inr (wanted_stands b env y j l))
+      (select_some (answer b env d) (wanted b env x j) (wanted b env y j) z)))) (h j (inl st) back)) (answer b env d) refl q.0 k wd)
       (λ wb. branch_settled (answer b env d) (answer b env x) (answer b env y) a (wanted b env x k) (wanted b env y k) (is_some (b k) ≡ true)
       (λ u is one e' wx. settled b env x once.1 (λ j st back. either (wanted b env d j) (select (answer b env d) None (wanted b env x j) (wanted b env y j)) (is_some (wanted b env x j) ≡ true)
       (λ z. absurd (once.3 j (wanted_stands b env d j z) (inl st)))
-      (λ z. sym (ap is_some (pick_one u.bits (wanted b env x j) (wanted b env y j) one)) ∙ subst (λ q. is_some (select q None (wanted b env x j) (wanted b env y j)) ≡ true) is z) (h j (inr (inl st)) back)) a e' some k wx)
+      (λ z. sym (ap is_some (pick_one u.bits (wanted b env x j) (wanted b env y j) one)) ∙ subst
+      (λ q. is_some (select q None (wanted b env x j) (wanted b env y j)) ≡ true) is z) (h j (inr (inl st)) back)) a e' some k wx)
       (λ u is other e' wy. settled b env y once.2 (λ j st back. either (wanted b env d j) (select (answer b env d) None (wanted b env x j) (wanted b env y j)) (is_some (wanted b env y j) ≡ true)
       (λ z. absurd (once.3 j (wanted_stands b env d j z) (inr st)))
-      (λ z. sym (ap is_some (pick_other u.bits (wanted b env x j) (wanted b env y j) other)) ∙ subst (λ q. is_some (select q None (wanted b env x j) (wanted b env y j)) ≡ true) is z) (h j (inr (inr st)) back)) a e' some k wy)
+      (λ z. sym (ap is_some (pick_other u.bits (wanted b env x j) (wanted b env y j) other)) ∙ subst
+      (λ q. is_some (select q None (wanted b env x j) (wanted b env y j)) ≡ true) is z) (h j (inr (inr st)) back)) a e' some k wy)
       e some wb) w
   settled b env (Let bs x) once h a e some k w =
       let l = let_settled (answers b env bs) (λ vs. answer b (env ++ vs) x) a e some in
-      let at = λ (j : ℕ) (z : is_some (with_all (answers b env bs) None (λ vs. wanted b (env ++ vs) x j)) ≡ true). subst (λ o. is_some (with_all o None (λ vs. wanted b (env ++ vs) x j)) ≡ true) l.1 z in
+      let at = λ (j : ℕ) (z : is_some (with_all (answers b env bs) None (λ vs. wanted b (env ++ vs) x j)) ≡ true). subst
+      (λ o. is_some (with_all o None (λ vs. wanted b (env ++ vs) x j)) ≡ true) l.1 z in
       either (wanted_in b env bs k) (with_all (answers b env bs) None (λ vs. wanted b (env ++ vs) x k)) (is_some (b k) ≡ true)
       (λ wd. settled_in b env bs once.0 (λ j st back. either (wanted_in b env bs j) (with_all (answers b env bs) None (λ vs. wanted b (env ++ vs) x j)) (is_some (wanted_in b env bs j) ≡ true) (λ z. z)
       (λ z. absurd (once.2 j st (wanted_stands b (env ++ l.0) x j (at j z)))) (h j (inl st) back)) l.0 l.1 k wd)
-      (λ wx. settled b (env ++ l.0) x once.1 (λ j st back. either (wanted_in b env bs j) (with_all (answers b env bs) None (λ vs. wanted b (env ++ vs) x j)) (is_some (wanted b (env ++ l.0) x j) ≡ true)
+      (λ wx. settled b (env ++ l.0) x once.1 (λ j st back. either (wanted_in b env bs j)
+      (with_all (answers b env bs) None (λ vs. wanted b (env ++ vs) x j)) (is_some (wanted b (env ++ l.0) x j) ≡ true)
       (λ z. absurd (once.2 j (wanted_stands_in b env bs j z) st)) (λ z. at j z) (h j (inr st) back)) a l.2 some k (at k wx)) w
   settled b env (Call f j ts) once h a e some k w =
       let o = from_some (b j) a e some in
       let args : is_some (answers b env ts) ≡ true = subst (λ t. is_some (cond t (answers b env ts) (wanted_in b env ts j)) ≡ true) (eq-eqb j j refl) (h j (inl refl) (ap is_some o.1)) in
       let vs = is_some_at (answers b env ts) args in
       ⊎_elim (λ same. ap is_some (ap b (sym same) ∙ o.1))
-      (λ other. settled_in b env ts once.0 (λ i st back. subst (λ t. is_some (cond t (answers b env ts) (wanted_in b env ts i)) ≡ true) (ne_eqb j i (λ is. once.1 (subst (λ n. StandsIn n ts) (sym is) st))) (h i (inr st) back)) vs.0 vs.1 k
+      (λ other. settled_in b env ts once.0 (λ i st back. subst (λ t. is_some (cond t (answers b env ts) (wanted_in b env ts i)) ≡ true)
+      (ne_eqb j i (λ is. once.1 (subst (λ n. StandsIn n ts) (sym is) st))) (h i (inr st) back)) vs.0 vs.1 k
       (subst (λ t. is_some (cond t (answers b env ts) (wanted_in b env ts k)) ≡ true) (ne_eqb j k other) w)) (cases_eq j k)
   settled b env (Loop m ts) once h a e some k w =
       let o = go_some m (answers b env ts) a e some in
       settled_in b env ts once h o.0 o.1 k w
 
-  pub settled_in : (b : ℕ → Option Word) (env : List Word) (ts : Terms) → OnceIn ts → ((j : ℕ) → StandsIn j ts → is_some (b j) ≡ true → is_some (wanted_in b env ts j) ≡ true) → (vs : List Word) → answers b env ts ≡ Some vs → (k : ℕ) → is_some (wanted_in b env ts k) ≡ true → is_some (b k) ≡ true
+  pub settled_in : (b : ℕ → Option Word) (env : List Word) (ts : Terms) → OnceIn ts →
+      ((j : ℕ) → StandsIn j ts → is_some (b j) ≡ true → is_some (wanted_in b env ts j) ≡ true) → (vs : List Word) → answers b env ts ≡ Some vs →
+      (k : ℕ) → is_some (wanted_in b env ts k) ≡ true → is_some (b k) ≡ true
   settled_in b env Nil once h vs e k w = absurd (false≢true w)
   settled_in b env (Cons t ts) once h vs e k w =
       let p = both_parts (answer b env t) (answers b env ts) vs e in
       either (wanted b env t k) (wanted_in b env ts k) (is_some (b k) ≡ true)
-      (λ wt. settled b env t once.0 (λ j st back. either (wanted b env t j) (wanted_in b env ts j) (is_some (wanted b env t j) ≡ true) (λ z. z) (λ z. absurd (once.2 j st (wanted_stands_in b env ts j z))) (h j (inl st) back)) (Ready p.0) p.2 (ready_yet p.0) k wt)
-      (λ ws. settled_in b env ts once.1 (λ j st back. either (wanted b env t j) (wanted_in b env ts j) (is_some (wanted_in b env ts j) ≡ true) (λ z. absurd (once.2 j (wanted_stands b env t j z) st)) (λ z. z) (h j (inr st) back)) p.1 p.3 k ws) w
+      (λ wt. settled b env t once.0 (λ j st back. either (wanted b env t j) (wanted_in b env ts j) (is_some (wanted b env t j) ≡ true) (λ z. z)
+      (λ z. absurd (once.2 j st (wanted_stands_in b env ts j z))) (h j (inl st) back)) (Ready p.0) p.2 (ready_yet p.0) k wt)
+      (λ ws. settled_in b env ts once.1 (λ j st back. either (wanted b env t j) (wanted_in b env ts j) (is_some (wanted_in b env ts j) ≡ true)
+      (λ z. absurd (once.2 j (wanted_stands b env t j z) st)) (λ z. z) (h j (inr st) back)) p.1 p.3 k ws) w
 
 goes_ready : (h : ℕ) (v : Word) (vs : List Word) → Ready v ≡ LoopTo h vs → ⊥
 goes_ready h v vs e = grind arith
@@ -263,7 +289,8 @@ goes_stands b env (Op p ts) h vs e = by (answers b env ts) e
     by (Some ws) e = goes_ready h (apply_prim p ws) vs e
 goes_stands b env (If d x y) h vs e = by (goes_stands b env x h vs) (goes_stands b env y h vs) (answer b env d) e
   where
-    by : (answer b env x ≡ LoopTo h vs → LoopsTo h x) → (answer b env y ≡ LoopTo h vs → LoopsTo h y) → (q : Answer) → select q NotYet (answer b env x) (answer b env y) ≡ LoopTo h vs → LoopsTo h x ⊎ LoopsTo h y
+    by : (answer b env x ≡ LoopTo h vs → LoopsTo h x) → (answer b env y ≡ LoopTo h vs → LoopsTo h y) → (q : Answer) → select q NotYet (answer b env x)
+        (answer b env y) ≡ LoopTo h vs → LoopsTo h x ⊎ LoopsTo h y
     by fx fy (Ready u) e = ⊎_elim (λ z. inl (fx z)) (λ z. inr (fy z)) (pick_either u.bits (answer b env x) (answer b env y) (λ z. z ≡ LoopTo h vs) e)
     by fx fy (LoopTo g us) e = absurd (goes_not h vs e)
     by fx fy NotYet e = absurd (goes_not h vs e)
@@ -328,7 +355,8 @@ mutual
       (cases_eq j k)
   wanted_sized C b env (Loop m ts) c k ws e = wanted_in_sized C b env ts c.1 k ws e
 
-  pub wanted_in_sized : (C : Program) (b : ℕ → Option Word) (env : List Word) (ts : Terms) → CountedIn C ts → (k : ℕ) (ws : List Word) → wanted_in b env ts k ≡ Some ws → length ws ≡ arity C (C.callee k)
+  pub wanted_in_sized : (C : Program) (b : ℕ → Option Word) (env : List Word) (ts : Terms) → CountedIn C ts → (k : ℕ) (ws : List Word) → wanted_in b
+      env ts k ≡ Some ws → length ws ≡ arity C (C.callee k)
   wanted_in_sized C b env Nil c k ws e = absurd (some_none ws (sym e))
   wanted_in_sized C b env (Cons t ts) c k ws e =
       ⊎_elim (λ z. wanted_sized C b env t c.0 k ws z) (λ z. wanted_in_sized C b env ts c.1 k ws z) (or_one (wanted b env t k) (wanted_in b env ts k) ws e)
@@ -349,13 +377,15 @@ goes_sized C b env (Op p ts) c h vs e = absurd (by (answers b env ts) e)
     by (Some ws) e = goes_ready h (apply_prim p ws) vs e
 goes_sized C b env (If d x y) c h vs e = by (goes_sized C b env x c.1 h vs) (goes_sized C b env y c.2 h vs) (answer b env d) e
   where
-    by : (answer b env x ≡ LoopTo h vs → length vs ≡ arity C h) → (answer b env y ≡ LoopTo h vs → length vs ≡ arity C h) → (q : Answer) → select q NotYet (answer b env x) (answer b env y) ≡ LoopTo h vs → length vs ≡ arity C h
+    by : (answer b env x ≡ LoopTo h vs → length vs ≡ arity C h) → (answer b env y ≡ LoopTo h vs → length vs ≡ arity C h) → (q : Answer) → select q
+        NotYet (answer b env x) (answer b env y) ≡ LoopTo h vs → length vs ≡ arity C h
     by fx fy (Ready u) e = ⊎_elim fx fy (pick_either u.bits (answer b env x) (answer b env y) (λ z. z ≡ LoopTo h vs) e)
     by fx fy (LoopTo g us) e = absurd (goes_not h vs e)
     by fx fy NotYet e = absurd (goes_not h vs e)
 goes_sized C b env (Let bs x) c h vs e = by (λ us. goes_sized C b (env ++ us) x c.1 h vs) (answers b env bs) e
   where
-    by : ((us : List Word) → answer b (env ++ us) x ≡ LoopTo h vs → length vs ≡ arity C h) → (o : Option (List Word)) → with_all o NotYet (λ us. answer b (env ++ us) x) ≡ LoopTo h vs → length vs ≡ arity C h
+    by : ((us : List Word) → answer b (env ++ us) x ≡ LoopTo h vs → length vs ≡ arity C h) → (o : Option (List Word)) → with_all o NotYet
+        (λ us. answer b (env ++ us) x) ≡ LoopTo h vs → length vs ≡ arity C h
     by f None e = absurd (goes_not h vs e)
     by f (Some us) e = f us e
 goes_sized C b env (Call f k ts) c h vs e = absurd (by (b k) e)

@@ -91,7 +91,8 @@ module _ (C : Program) (args : List Word) (good : Numbered C) where
   total s (e ∷ es) inv legal =
       let first = event_total s e inv legal.0 in
       let rest = total (fire C args s e) es (inv_fire C args good s e inv legal.0) legal.1 in
-      let both = sum_plus _ (λ f. length (event_start C args s e f)) (λ f. length (starts_of C args (fire C args s e) es f)) C.functions (λ f. length_append (event_start C args s e f) (starts_of C args (fire C args s e) es f)) in
+      let both = sum_plus _ (λ f. length (event_start C args s e f)) (λ f. length (starts_of C args (fire C args s e) es f)) C.functions
+      (λ f. length_append (event_start C args s e f) (starts_of C args (fire C args s e) es f)) in
       omega (arith, first, rest, both)
 
   -- where no function starts more than n times

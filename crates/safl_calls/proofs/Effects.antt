@@ -1,5 +1,6 @@
 -- A word whose use is past changes nothing.
-use Rattle.std.proofs.Common.{◌≡◌, ◌≢◌, ℕ, zero, suc, ◌+◌, List, [], ◌∷◌, ◌++◌, length, length-append, Option, Some, None, Bool, true, false, cond, ◌==◌, is_some, refl, sym, ap, ◌∙◌, subst, inl, inr, ⊎_elim, ◌⊎◌, arith}
+use Rattle.std.proofs.Common.{◌≡◌, ◌≢◌, ℕ, zero, suc, ◌+◌, List, [], ◌∷◌, ◌++◌, length, length-append, Option, Some, None, Bool, true, false, cond}
+use Rattle.std.proofs.Common.{◌==◌, is_some, refl, sym, ap, ◌∙◌, subst, inl, inr, ⊎_elim, ◌⊎◌, arith}
 use Rattle.std.proofs.Math.Path.{fun_ext}
 use Rattle.std.proofs.lemmas.Bool.{cases_Bool, eq-eqb, ne_eqb, false≢true, true≢false, false_from_ne_true}
 use Rattle.safl_calls.proofs.Basics.{some_none, some_is, none_of}
@@ -106,7 +107,8 @@ app_agree [] vs ws i h = h i (omega arith)
 app_agree (x ∷ env) vs ws zero h = refl
 app_agree (x ∷ env) vs ws (suc i) h = app_agree env vs ws i (λ j e. h j (omega (arith, e)))
 
-module _ (C : Program) (k b0 k' : ℕ) (r c : ℕ → Option Word) (other : (j : ℕ) → (j ≡ k → ⊥) → r j ≡ c j) (there : (j : ℕ) → is_some (r j) ≡ is_some (c j)) (via : (t : Term) → Stands b0 t → Reaches C k' t) where
+module _ (C : Program) (k b0 k' : ℕ) (r c : ℕ → Option Word) (other : (j : ℕ) → (j ≡ k → ⊥) → r j ≡ c j)
+    (there : (j : ℕ) → is_some (r j) ≡ is_some (c j)) (via : (t : Term) → Stands b0 t → Reaches C k' t) where
   -- where k does not stand
   qp : (env : List Word) (t : Term) → (Stands k t → ⊥) → answer c env t ≡ answer r env t
   qp env t never = answer_local c r env t (λ j st. sym (other j (λ is. never (subst (λ n. Stands n t) is st))))
@@ -124,7 +126,8 @@ module _ (C : Program) (k b0 k' : ℕ) (r c : ℕ → Option Word) (other : (j :
   done_none : (env : List Word) (t : Term) → Once t → Sound r env t → (a : Answer) → answer r env t ≡ a → (a ≡ NotYet → ⊥) → (m : ℕ) → is_some (r m) ≡ false → is_some (wanted r env t m) ≡ false
   done_none env t once h a e some m out = false_from_ne_true _ (λ w. true≢false (sym (settled r env t once h a e some m w) ∙ out))
 
-  done_none_in : (env : List Word) (ts : Terms) → OnceIn ts → SoundIn r env ts → (vs : List Word) → answers r env ts ≡ Some vs → (m : ℕ) → is_some (r m) ≡ false → is_some (wanted_in r env ts m) ≡ false
+  done_none_in : (env : List Word) (ts : Terms) → OnceIn ts → SoundIn r env ts → (vs : List Word) → answers r env ts ≡ Some vs → (m : ℕ) → is_some
+      (r m) ≡ false → is_some (wanted_in r env ts m) ≡ false
   done_none_in env ts once h vs e m out = false_from_ne_true _ (λ w. true≢false (sym (settled_in r env ts once h vs e m w) ∙ out))
 
   none_same : (o p : Option (List Word)) → is_some p ≡ false → is_some p ≡ is_some o → o ≡ p
@@ -147,10 +150,13 @@ module _ (C : Program) (k b0 k' : ℕ) (r c : ℕ → Option Word) (other : (j :
     lens : length (env ++ ws) ≡ length (env ++ vs)
     lens = omega (arith, length-append env ws, length-append env vs, (agree_length fs vs ws agree).1)
 
-    slots_same : (x : Term) → InBody C k' x → ((i : ℕ) → bool_at fs i ≡ true → Uses (length fe + i) x → InBody C k' x → ⊥) → (answer r (env ++ ws) x ≡ answer r (env ++ vs) x) × ((m : ℕ) → m ≢ b0 → is_some (r m) ≡ false → wanted r (env ++ ws) x m ≡ wanted r (env ++ vs) x m)
+    slots_same : (x : Term) → InBody C k' x → ((i : ℕ) → bool_at fs i ≡ true → Uses (length fe + i) x → InBody C k' x → ⊥) →
+        (answer r (env ++ ws) x ≡ answer r (env ++ vs) x) × ((m : ℕ) → m ≢ b0 → is_some (r m) ≡ false → wanted r (env ++ ws) x m ≡ wanted r (env ++ vs) x m)
     slots_same x inb never = (answer_env r (env ++ ws) (env ++ vs) x lens (by_slots x inb never), λ m apart out. wanted_env r (env ++ ws) (env ++ vs) x m lens (by_slots x inb never))
 
-    body_same : (x : Term) → Stands b0 x → Once x → Sound r (env ++ vs) x → (Decides k (fe ++ fs) x → ⊥) → is_some (wanted r (env ++ vs) x b0) ≡ true → ((i : ℕ) → bool_at fs i ≡ true → Uses (length fe + i) x → InBody C k' x → ⊥) → (answer r (env ++ ws) x ≡ answer r (env ++ vs) x) × ((m : ℕ) → m ≢ b0 → is_some (r m) ≡ false → wanted r (env ++ ws) x m ≡ wanted r (env ++ vs) x m)
+    body_same : (x : Term) → Stands b0 x → Once x → Sound r (env ++ vs) x → (Decides k (fe ++ fs) x → ⊥) → is_some (wanted r (env ++ vs) x b0) ≡ true
+        → ((i : ℕ) → bool_at fs i ≡ true → Uses (length fe + i) x → InBody C k' x → ⊥) → (answer r (env ++ ws) x ≡ answer r (env ++ vs) x) ×
+        ((m : ℕ) → m ≢ b0 → is_some (r m) ≡ false → wanted r (env ++ ws) x m ≡ wanted r (env ++ vs) x m)
     unfolding InBody Stands Once wanted answer Decides
     body_same (Const n) st once h no_if w never = slots_same (Const n) (via (Const n) st) never
     body_same (Var i) st once h no_if w never = slots_same (Var i) (via (Var i) st) never
@@ -177,7 +183,8 @@ module _ (C : Program) (k b0 k' : ℕ) (r c : ℕ → Option Word) (other : (j :
   each_length fe env Nil vs e = ap length (some_is [] vs e)
   each_length fe env (Cons t ts) vs e = by (each_length fe env ts) (answer r env t) (answers r env ts) refl e
     where
-      by : ((us : List Word) → answers r env ts ≡ Some us → length (feeds_each k fe ts) ≡ length us) → (a : Answer) (o : Option (List Word)) → answers r env ts ≡ o → both a o ≡ Some vs → length (feeds k fe t ∷ feeds_each k fe ts) ≡ length vs
+      by : ((us : List Word) → answers r env ts ≡ Some us → length (feeds_each k fe ts) ≡ length us) → (a : Answer) (o : Option (List Word)) → answers
+          r env ts ≡ o → both a o ≡ Some vs → length (feeds k fe t ∷ feeds_each k fe ts) ≡ length vs
       by ih (Ready v) (Some us) is e = let l = ih us is in omega (arith, l, ap length (some_is (v ∷ us) vs e))
       by ih (Ready v) None is e = absurd (some_none vs (sym e))
       by ih (LoopTo g ws) o is e = absurd (some_none vs (sym e))
@@ -193,7 +200,8 @@ module _ (C : Program) (k b0 k' : ℕ) (r c : ℕ → Option Word) (other : (j :
   mutual
     unfolding Stands Before Once wanted answer Decides Held
 
-    pub effect : (fe : List Bool) (env : List Word) (t : Term) → length fe ≡ length env → Once t → Sound r env t → Before k b0 t → (Decides k fe t → ⊥) → (Held C k k' fe t → ⊥) → is_some (wanted r env t b0) ≡ true → Same env t
+    pub effect : (fe : List Bool) (env : List Word) (t : Term) → length fe ≡ length env → Once t → Sound r env t → Before k b0 t →
+        (Decides k fe t → ⊥) → (Held C k k' fe t → ⊥) → is_some (wanted r env t b0) ≡ true → Same env t
     effect fe env (Const n) len once h before no_if held w = absurd before
     effect fe env (Var i) len once h before no_if held w = absurd before
     effect fe env (Op p ts) len once h before no_if held w =
@@ -208,7 +216,8 @@ module _ (C : Program) (k b0 k' : ℕ) (r c : ℕ → Option Word) (other : (j :
               let none = done_none_in env ts once.0 (sound_args r env f i ts once h) all.0 all.1 m out in
               let same = wants_in_too k r c other there fe env env ts (agree_refl fe env len) no_if m in
               let off = ne_eqb i m (λ e. apart (sym e ∙ in_args.1)) in
-              ap (λ t. cond t (answers c env ts) (wanted_in c env ts m)) off ∙ none_same (wanted_in c env ts m) (wanted_in r env ts m) none same ∙ sym (ap (λ t. cond t (answers r env ts) (wanted_in r env ts m)) off),
+              ap (λ t. cond t (answers c env ts) (wanted_in c env ts m)) off ∙ none_same (wanted_in c env ts m) (wanted_in r env ts m) none same ∙ sym
+              (ap (λ t. cond t (answers r env ts) (wanted_in r env ts m)) off),
         )
     effect fe env (Call f i ts) len once h (inr before) no_if held w =
         let st = before_stands_in k b0 ts before in
@@ -220,13 +229,17 @@ module _ (C : Program) (k b0 k' : ℕ) (r c : ℕ → Option Word) (other : (j :
           λ m apart out. ap (λ o. cond (i == m) o (wanted_in c env ts m)) e.0 ∙ ap (λ o. cond (i == m) (answers r env ts) o) (e.1 m apart out),
         )
     effect fe env (If d x y) len once h (inl split) no_if held w =
-        let in_branch : is_some (select (answer r env d) None (wanted r env x b0) (wanted r env y b0)) ≡ true = ⊎_elim (λ z. absurd (once.3 b0 (wanted_stands r env d b0 z) split.1)) (λ z. z) (or_some (wanted r env d b0) (select (answer r env d) None (wanted r env x b0) (wanted r env y b0)) w) in
+        let in_branch : is_some (select (answer r env d) None (wanted r env x b0) (wanted r env y b0)) ≡ true = ⊎_elim
+        (λ z. absurd (once.3 b0 (wanted_stands r env d b0 z) split.1)) (λ z. z)
+        (or_some (wanted r env d b0) (select (answer r env d) None (wanted r env x b0) (wanted r env y b0)) w) in
         let ready = select_ready (answer r env d) (wanted r env x b0) (wanted r env y b0) in_branch in
         let no_d : Decides k fe d → ⊥ = λ z. no_if (inr (inl z)) in
-        let eqd : answer c env d ≡ answer r env d = alike_ready (feeds k fe d) (answer r env d) (answer c env d) ready.0 (false_from_ne_true _ (λ z. no_if (inl z))) (alike k r c other there fe env env d (agree_refl fe env len) no_d) ready.1 in
+        let eqd : answer c env d ≡ answer r env d = alike_ready (feeds k fe d) (answer r env d) (answer c env d) ready.0
+        (false_from_ne_true _ (λ z. no_if (inl z))) (alike k r c other there fe env env d (agree_refl fe env len) no_d) ready.1 in
         let nx : Stands k x → ⊥ = λ st. once.3 k split.0 (inl st) in
         let ny : Stands k y → ⊥ = λ st. once.3 k split.0 (inr st) in (
-          ap (λ q. select q NotYet (answer c env x) (answer c env y)) eqd ∙ ap (λ a. select (answer r env d) NotYet a (answer c env y)) (qp env x nx) ∙ ap (λ a. select (answer r env d) NotYet (answer r env x) a) (qp env y ny),
+          ap (λ q. select q NotYet (answer c env x) (answer c env y)) eqd ∙ ap (λ a. select (answer r env d) NotYet a (answer c env y)) (qp env x nx)
+              ∙ ap (λ a. select (answer r env d) NotYet (answer r env x) a) (qp env y ny),
           λ m apart out.
               let none = done_none env d once.0 (sound_c r env d x y once h) (Ready ready.0) ready.1 (ready_yet ready.0) m out in
               let same = wants_too k r c other there fe env env d (agree_refl fe env len) no_d m in
@@ -237,11 +250,15 @@ module _ (C : Program) (k b0 k' : ℕ) (r c : ℕ → Option Word) (other : (j :
         )
     effect fe env (If d x y) len once h (inr (inl before)) no_if held w =
         let st = before_stands k b0 d before in
-        let in_d : is_some (wanted r env d b0) ≡ true = ⊎_elim (λ z. z) (λ z. absurd (once.3 b0 st.1 (⊎_elim (λ l. inl (wanted_stands r env x b0 l)) (λ l. inr (wanted_stands r env y b0 l)) (select_of (answer r env d) (wanted r env x b0) (wanted r env y b0) z).1))) (or_some (wanted r env d b0) (select (answer r env d) None (wanted r env x b0) (wanted r env y b0)) w) in
+        let in_d : is_some (wanted r env d b0) ≡ true = ⊎_elim (λ z. z)
+        (λ z. absurd (once.3 b0 st.1 (⊎_elim (λ l. inl (wanted_stands r env x b0 l)) (λ l. inr (wanted_stands r env y b0 l))
+        (select_of (answer r env d) (wanted r env x b0) (wanted r env y b0) z).1)))
+        (or_some (wanted r env d b0) (select (answer r env d) None (wanted r env x b0) (wanted r env y b0)) w) in
         let e = effect fe env d len once.0 (sound_c r env d x y once h) before (λ z. no_if (inr (inl z))) (λ z. held (inl z)) in_d in
         let nx : Stands k x → ⊥ = λ s. once.3 k st.0 (inl s) in
         let ny : Stands k y → ⊥ = λ s. once.3 k st.0 (inr s) in (
-          ap (λ q. select q NotYet (answer c env x) (answer c env y)) e.0 ∙ ap (λ a. select (answer r env d) NotYet a (answer c env y)) (qp env x nx) ∙ ap (λ a. select (answer r env d) NotYet (answer r env x) a) (qp env y ny),
+          ap (λ q. select q NotYet (answer c env x) (answer c env y)) e.0 ∙ ap (λ a. select (answer r env d) NotYet a (answer c env y)) (qp env x nx)
+              ∙ ap (λ a. select (answer r env d) NotYet (answer r env x) a) (qp env y ny),
           λ m apart out.
               ap (λ o. or_else o (select (answer c env d) None (wanted c env x m) (wanted c env y m))) (e.1 m apart out)
               ∙ ap (λ q. or_else (wanted r env d m) (select q None (wanted c env x m) (wanted c env y m))) e.0
@@ -252,10 +269,13 @@ module _ (C : Program) (k b0 k' : ℕ) (r c : ℕ → Option Word) (other : (j :
         let st = before_stands k b0 x before in
         let nd : Stands k d → ⊥ = λ s. once.3 k s (inl st.0) in
         let ny : Stands k y → ⊥ = λ s. once.4 k st.0 s in
-        let in_branch : is_some (select (answer r env d) None (wanted r env x b0) (wanted r env y b0)) ≡ true = ⊎_elim (λ z. absurd (once.3 b0 (wanted_stands r env d b0 z) (inl st.1))) (λ z. z) (or_some (wanted r env d b0) (select (answer r env d) None (wanted r env x b0) (wanted r env y b0)) w) in
+        let in_branch : is_some (select (answer r env d) None (wanted r env x b0) (wanted r env y b0)) ≡ true = ⊎_elim
+        (λ z. absurd (once.3 b0 (wanted_stands r env d b0 z) (inl st.1))) (λ z. z)
+        (or_some (wanted r env d b0) (select (answer r env d) None (wanted r env x b0) (wanted r env y b0)) w) in
         let taken = taken_x (answer r env d) (wanted r env x b0) (wanted r env y b0) in_branch (λ z. once.4 b0 st.1 (wanted_stands r env y b0 z)) in
         let e = effect fe env x len once.1 (sound_x r env d x y once h taken.0) before (λ z. no_if (inr (inr (inl z)))) (λ z. held (inr (inl z))) taken.1 in (
-          ap (λ q. select q NotYet (answer c env x) (answer c env y)) (qp env d nd) ∙ ap (λ a. select (answer r env d) NotYet a (answer c env y)) e.0 ∙ ap (λ a. select (answer r env d) NotYet (answer r env x) a) (qp env y ny),
+          ap (λ q. select q NotYet (answer c env x) (answer c env y)) (qp env d nd) ∙ ap (λ a. select (answer r env d) NotYet a (answer c env y)) e.0
+              ∙ ap (λ a. select (answer r env d) NotYet (answer r env x) a) (qp env y ny),
           λ m apart out.
               ap (λ o. or_else o (select (answer c env d) None (wanted c env x m) (wanted c env y m))) (qw env d m nd)
               ∙ ap (λ q. or_else (wanted r env d m) (select q None (wanted c env x m) (wanted c env y m))) (qp env d nd)
@@ -266,10 +286,13 @@ module _ (C : Program) (k b0 k' : ℕ) (r c : ℕ → Option Word) (other : (j :
         let st = before_stands k b0 y before in
         let nd : Stands k d → ⊥ = λ s. once.3 k s (inr st.0) in
         let nx : Stands k x → ⊥ = λ s. once.4 k s st.0 in
-        let in_branch : is_some (select (answer r env d) None (wanted r env x b0) (wanted r env y b0)) ≡ true = ⊎_elim (λ z. absurd (once.3 b0 (wanted_stands r env d b0 z) (inr st.1))) (λ z. z) (or_some (wanted r env d b0) (select (answer r env d) None (wanted r env x b0) (wanted r env y b0)) w) in
+        let in_branch : is_some (select (answer r env d) None (wanted r env x b0) (wanted r env y b0)) ≡ true = ⊎_elim
+        (λ z. absurd (once.3 b0 (wanted_stands r env d b0 z) (inr st.1))) (λ z. z)
+        (or_some (wanted r env d b0) (select (answer r env d) None (wanted r env x b0) (wanted r env y b0)) w) in
         let taken = taken_y (answer r env d) (wanted r env x b0) (wanted r env y b0) in_branch (λ z. once.4 b0 (wanted_stands r env x b0 z) st.1) in
         let e = effect fe env y len once.2 (sound_y r env d x y once h taken.0) before (λ z. no_if (inr (inr (inr z)))) (λ z. held (inr (inr z))) taken.1 in (
-          ap (λ q. select q NotYet (answer c env x) (answer c env y)) (qp env d nd) ∙ ap (λ a. select (answer r env d) NotYet a (answer c env y)) (qp env x nx) ∙ ap (λ a. select (answer r env d) NotYet (answer r env x) a) e.0,
+          ap (λ q. select q NotYet (answer c env x) (answer c env y)) (qp env d nd) ∙ ap (λ a. select (answer r env d) NotYet a (answer c env y))
+              (qp env x nx) ∙ ap (λ a. select (answer r env d) NotYet (answer r env x) a) e.0,
           λ m apart out.
               ap (λ o. or_else o (select (answer c env d) None (wanted c env x m) (wanted c env y m))) (qw env d m nd)
               ∙ ap (λ q. or_else (wanted r env d m) (select q None (wanted c env x m) (wanted c env y m))) (qp env d nd)
@@ -278,10 +301,13 @@ module _ (C : Program) (k b0 k' : ℕ) (r c : ℕ → Option Word) (other : (j :
         )
     effect fe env (Let bs x) len once h (inl split) no_if held w =
         let nx : Stands k x → ⊥ = λ s. once.2 k split.0 s in
-        let in_body : is_some (with_all (answers r env bs) None (λ vs. wanted r (env ++ vs) x b0)) ≡ true = ⊎_elim (λ z. absurd (once.2 b0 (wanted_stands_in r env bs b0 z) split.1)) (λ z. z) (or_some (wanted_in r env bs b0) (with_all (answers r env bs) None (λ vs. wanted r (env ++ vs) x b0)) w) in
+        let in_body : is_some (with_all (answers r env bs) None (λ vs. wanted r (env ++ vs) x b0)) ≡ true = ⊎_elim
+        (λ z. absurd (once.2 b0 (wanted_stands_in r env bs b0 z) split.1)) (λ z. z)
+        (or_some (wanted_in r env bs b0) (with_all (answers r env bs) None (λ vs. wanted r (env ++ vs) x b0)) w) in
         let v = with_of (answers r env bs) (λ vs. wanted r (env ++ vs) x b0) in_body in
         let fs = feeds_each k fe bs in
-        let al : AlikeAll fs (Some v.0) (answers c env bs) = subst (λ o. AlikeAll fs o (answers c env bs)) v.1 (alike_all k r c other there fe env env bs (agree_refl fe env len) (λ z. no_if (inl z))) in
+        let al : AlikeAll fs (Some v.0) (answers c env bs) = subst (λ o. AlikeAll fs o (answers c env bs)) v.1
+        (alike_all k r c other there fe env env bs (agree_refl fe env len) (λ z. no_if (inl z))) in
         let u = alike_some fs v.0 (answers c env bs) al in
         let same = body_same fe fs env v.0 u.0 len u.2 x split.1 once.1 (sound_body r env bs x once h v.0 v.1) (λ z. no_if (inr z)) v.2 (λ i fed uses inb. held (inl (i, fed, uses, inb))) in (
           ap (λ o. with_all o NotYet (λ vs. answer c (env ++ vs) x)) u.1 ∙ qp (env ++ u.0) x nx ∙ same.0 ∙ sym (ap (λ o. with_all o NotYet (λ vs. answer r (env ++ vs) x)) v.1),
@@ -289,12 +315,16 @@ module _ (C : Program) (k b0 k' : ℕ) (r c : ℕ → Option Word) (other : (j :
               let none = done_none_in env bs once.0 (sound_bs r env bs x once h) v.0 v.1 m out in
               let too = wants_in_too k r c other there fe env env bs (agree_refl fe env len) (λ z. no_if (inl z)) m in
               ap (λ o. or_else o (with_all (answers c env bs) None (λ vs. wanted c (env ++ vs) x m))) (none_same (wanted_in c env bs m) (wanted_in r env bs m) none too)
-              ∙ ap (or_else (wanted_in r env bs m)) (ap (λ o. with_all o None (λ vs. wanted c (env ++ vs) x m)) u.1 ∙ qw (env ++ u.0) x m nx ∙ same.1 m apart out ∙ sym (ap (λ o. with_all o None (λ vs. wanted r (env ++ vs) x m)) v.1)),
+              ∙ ap (or_else (wanted_in r env bs m)) (ap (λ o. with_all o None (λ vs. wanted c (env ++ vs) x m)) u.1 ∙ qw (env ++ u.0) x m nx ∙ same.1
+              m apart out ∙ sym (ap (λ o. with_all o None (λ vs. wanted r (env ++ vs) x m)) v.1)),
         )
     effect fe env (Let bs x) len once h (inr (inl before)) no_if held w =
         let st = before_stands_in k b0 bs before in
         let nx : Stands k x → ⊥ = λ s. once.2 k st.0 s in
-        let in_bs : is_some (wanted_in r env bs b0) ≡ true = ⊎_elim (λ z. z) (λ z. let v = with_of (answers r env bs) (λ vs. wanted r (env ++ vs) x b0) z in absurd (once.2 b0 st.1 (wanted_stands r (env ++ v.0) x b0 v.2))) (or_some (wanted_in r env bs b0) (with_all (answers r env bs) None (λ vs. wanted r (env ++ vs) x b0)) w) in
+        let in_bs : is_some (wanted_in r env bs b0) ≡ true = ⊎_elim (λ z. z)
+        (λ z. let v = with_of (answers r env bs) (λ vs. wanted r (env ++ vs) x b0) z in absurd
+        (once.2 b0 st.1 (wanted_stands r (env ++ v.0) x b0 v.2)))
+        (or_some (wanted_in r env bs b0) (with_all (answers r env bs) None (λ vs. wanted r (env ++ vs) x b0)) w) in
         let e = effect_in fe env bs len once.0 (sound_bs r env bs x once h) before (λ z. no_if (inl z)) (λ z. held (inr (inl z))) in_bs in (
           ap (λ o. with_all o NotYet (λ vs. answer c (env ++ vs) x)) e.0 ∙ ap (with_all (answers r env bs) NotYet) (fun_ext (λ vs. qp (env ++ vs) x nx)),
           λ m apart out.
@@ -305,18 +335,23 @@ module _ (C : Program) (k b0 k' : ℕ) (r c : ℕ → Option Word) (other : (j :
     effect fe env (Let bs x) len once h (inr (inr before)) no_if held w =
         let st = before_stands k b0 x before in
         let nb : StandsIn k bs → ⊥ = λ s. once.2 k s st.0 in
-        let in_body : is_some (with_all (answers r env bs) None (λ vs. wanted r (env ++ vs) x b0)) ≡ true = ⊎_elim (λ z. absurd (once.2 b0 (wanted_stands_in r env bs b0 z) st.1)) (λ z. z) (or_some (wanted_in r env bs b0) (with_all (answers r env bs) None (λ vs. wanted r (env ++ vs) x b0)) w) in
+        let in_body : is_some (with_all (answers r env bs) None (λ vs. wanted r (env ++ vs) x b0)) ≡ true = ⊎_elim
+        (λ z. absurd (once.2 b0 (wanted_stands_in r env bs b0 z) st.1)) (λ z. z)
+        (or_some (wanted_in r env bs b0) (with_all (answers r env bs) None (λ vs. wanted r (env ++ vs) x b0)) w) in
         let v = with_of (answers r env bs) (λ vs. wanted r (env ++ vs) x b0) in_body in
         let fs = feeds_each k fe bs in
         let lfs : length fs ≡ length v.0 = each_length fe env bs v.0 v.1 in
-        let e = effect (fe ++ fs) (env ++ v.0) x (omega (arith, length-append fe fs, length-append env v.0, len, lfs)) once.1 (sound_body r env bs x once h v.0 v.1) before (λ z. no_if (inr z)) (λ z. held (inr (inr z))) v.2 in (
+        let e = effect (fe ++ fs) (env ++ v.0) x (omega (arith, length-append fe fs, length-append env v.0, len, lfs)) once.1
+        (sound_body r env bs x once h v.0 v.1) before (λ z. no_if (inr z)) (λ z. held (inr (inr z))) v.2 in (
           ap (λ o. with_all o NotYet (λ vs. answer c (env ++ vs) x)) (qp_in env bs nb ∙ v.1) ∙ e.0 ∙ sym (ap (λ o. with_all o NotYet (λ vs. answer r (env ++ vs) x)) v.1),
           λ m apart out.
               ap (λ o. or_else o (with_all (answers c env bs) None (λ vs. wanted c (env ++ vs) x m))) (qw_in env bs m nb)
-              ∙ ap (or_else (wanted_in r env bs m)) (ap (λ o. with_all o None (λ vs. wanted c (env ++ vs) x m)) (qp_in env bs nb ∙ v.1) ∙ e.1 m apart out ∙ sym (ap (λ o. with_all o None (λ vs. wanted r (env ++ vs) x m)) v.1)),
+              ∙ ap (or_else (wanted_in r env bs m)) (ap (λ o. with_all o None (λ vs. wanted c (env ++ vs) x m)) (qp_in env bs nb ∙ v.1) ∙ e.1 m apart
+              out ∙ sym (ap (λ o. with_all o None (λ vs. wanted r (env ++ vs) x m)) v.1)),
         )
 
-    pub effect_in : (fe : List Bool) (env : List Word) (ts : Terms) → length fe ≡ length env → OnceIn ts → SoundIn r env ts → BeforeIn k b0 ts → (DecidesIn k fe ts → ⊥) → (HeldIn C k k' fe ts → ⊥) → is_some (wanted_in r env ts b0) ≡ true → SameIn env ts
+    pub effect_in : (fe : List Bool) (env : List Word) (ts : Terms) → length fe ≡ length env → OnceIn ts → SoundIn r env ts → BeforeIn k b0 ts →
+        (DecidesIn k fe ts → ⊥) → (HeldIn C k k' fe ts → ⊥) → is_some (wanted_in r env ts b0) ≡ true → SameIn env ts
     effect_in fe env Nil len once h before no_if held w = absurd before
     effect_in fe env (Cons t ts) len once h (inl before) no_if held w =
         let st = before_stands k b0 t before in

@@ -95,18 +95,22 @@ of_wants (loops e d h) = h
 of_wants (waits q h) = h
 
 -- what a running unit shows
-pub view_of : (p : Program) (n : ℕ) (args : List Word) (U : ℕ → Activity) (o : Stage) (u f : ℕ) (xs : List Word) (s : ℕ → Stage) (k : ℕ) → IsNumbered p n → Running p args U o u f xs s k → View p s xs true (p.body f) (answer (back_of s) xs (p.body f)) (wanted (back_of s) xs (p.body f))
+pub view_of : (p : Program) (n : ℕ) (args : List Word) (U : ℕ → Activity) (o : Stage) (u f : ℕ) (xs : List Word) (s : ℕ → Stage) (k : ℕ) → IsNumbered
+    p n → Running p args U o u f xs s k → View p s xs true (p.body f) (answer (back_of s) xs (p.body f)) (wanted (back_of s) xs (p.body f))
 view_of p n args U o u f xs s k wf r = let b = wf.bodies f in bridge p s f true b.0 b.1 xs (p.body f) b.3 (λ j w x y e. r.good j w e)
 
-pub running_done : (p : Program) (n : ℕ) (args : List Word) (U : ℕ → Activity) (o : Stage) (u f : ℕ) (xs : List Word) (s : ℕ → Stage) (k : ℕ) (v : Word) → IsNumbered p n → Running p args U o u f xs s k → answer (back_of s) xs (p.body f) ≡ Ready v → Done p s xs (p.body f) v
+pub running_done : (p : Program) (n : ℕ) (args : List Word) (U : ℕ → Activity) (o : Stage) (u f : ℕ) (xs : List Word) (s : ℕ → Stage) (k : ℕ)
+    (v : Word) → IsNumbered p n → Running p args U o u f xs s k → answer (back_of s) xs (p.body f) ≡ Ready v → Done p s xs (p.body f) v
 running_done p n args U o u f xs s k v wf r e =
     of_ready p s xs true (p.body f) v (wanted (back_of s) xs (p.body f)) (subst (λ x. View p s xs true (p.body f) x (wanted (back_of s) xs (p.body f))) e (view_of p n args U o u f xs s k wf r))
 
-pub running_tail : (p : Program) (n : ℕ) (args : List Word) (U : ℕ → Activity) (o : Stage) (u f : ℕ) (xs : List Word) (s : ℕ → Stage) (k h : ℕ) (ws : List Word) → IsNumbered p n → Running p args U o u f xs s k → answer (back_of s) xs (p.body f) ≡ LoopTo h ws → Tail p s xs (p.body f) h ws
+pub running_tail : (p : Program) (n : ℕ) (args : List Word) (U : ℕ → Activity) (o : Stage) (u f : ℕ) (xs : List Word) (s : ℕ → Stage) (k h : ℕ)
+    (ws : List Word) → IsNumbered p n → Running p args U o u f xs s k → answer (back_of s) xs (p.body f) ≡ LoopTo h ws → Tail p s xs (p.body f) h ws
 running_tail p n args U o u f xs s k h ws wf r e =
     of_loop p s xs true (p.body f) h ws (wanted (back_of s) xs (p.body f)) (subst (λ x. View p s xs true (p.body f) x (wanted (back_of s) xs (p.body f))) e (view_of p n args U o u f xs s k wf r))
 
-pub running_wants : (p : Program) (n : ℕ) (args : List Word) (U : ℕ → Activity) (o : Stage) (u f : ℕ) (xs : List Word) (s : ℕ → Stage) (k : ℕ) → IsNumbered p n → Running p args U o u f xs s k → Sound p s xs (p.body f) (wanted (back_of s) xs (p.body f))
+pub running_wants : (p : Program) (n : ℕ) (args : List Word) (U : ℕ → Activity) (o : Stage) (u f : ℕ) (xs : List Word) (s : ℕ → Stage) (k : ℕ) →
+    IsNumbered p n → Running p args U o u f xs s k → Sound p s xs (p.body f) (wanted (back_of s) xs (p.body f))
 running_wants p n args U o u f xs s k wf r = of_wants (view_of p n args U o u f xs s k wf r)
 
 -- a fact about what a unit runs
@@ -125,13 +129,16 @@ NotRunning Free = Unit {0}
 NotRunning (Active f xs s j) = ⊥
 NotRunning (Giving v j) = Unit {0}
 
-pub outside_kept : (p : Program) (args : List Word) (U V : ℕ → Activity) (o : Stage) → (Serves (U (p.unit (p.callee 0))) 0 → Serves (V (p.unit (p.callee 0))) 0) → Outside p args U o → Outside p args V o
+pub outside_kept : (p : Program) (args : List Word) (U V : ℕ → Activity) (o : Stage) →
+    (Serves (U (p.unit (p.callee 0))) 0 → Serves (V (p.unit (p.callee 0))) 0) → Outside p args U o → Outside p args V o
 outside_kept p args U V Unsent h x = x
 outside_kept p args U V Sent h x = h x
 outside_kept p args U V (Returned v) h x = x
 
 -- a unit that ran, and had no site in flight, does something else for the same site
-module _ (p : Program) (n : ℕ) (args : List Word) (U : ℕ → Activity) (o : Stage) (m f : ℕ) (xs : List Word) (s : ℕ → Stage) (j : ℕ) (y : Activity) (wf : IsNumbered p n) (h : Holds p args U o) (runs : U m ≡ Active f xs s j) (no_sent : (k : ℕ) (ws : List Word) → Asks p s xs (p.body f) k ws → s k ≡ Sent → ⊥) (serves : (k : ℕ) → j ≡ k → Serves y k) where
+module _ (p : Program) (n : ℕ) (args : List Word) (U : ℕ → Activity) (o : Stage) (m f : ℕ) (xs : List Word) (s : ℕ → Stage) (j : ℕ) (y : Activity)
+    (wf : IsNumbered p n) (h : Holds p args U o) (runs : U m ≡ Active f xs s j)
+    (no_sent : (k : ℕ) (ws : List Word) → Asks p s xs (p.body f) k ws → s k ≡ Sent → ⊥) (serves : (k : ℕ) → j ≡ k → Serves y k) where
   turn_asked : (k : ℕ) (ws : List Word) → Asked p args U o k ws → Asked p args (put U m y) o k ws
   turn_asked k ws (from_outside z e) = from_outside z e
   turn_asked k ws (from_site {j = i} {xs = zs} {s = r} eu es a) =
@@ -151,12 +158,14 @@ module _ (p : Program) (n : ℕ) (args : List Word) (U : ℕ → Activity) (o : 
   turned new = record {
     at = λ u. ⊎_elim
         (λ e. subst (λ x. At p args (put U m y) o x (put U m y x)) (sym e) (subst (At p args (put U m y) o m) (sym (put_same U m m y refl)) new))
-        (λ e. subst (At p args (put U m y) o u) (sym (put_other U m u y e)) (frame p n args U (put U m y) o o u (U u) wf (λ k ws i q. turn_asked k ws q) (λ k i l q. turn_served (p.unit (p.callee k)) k q) (h.at u)))
+        (λ e. subst (At p args (put U m y) o u) (sym (put_other U m u y e))
+        (frame p n args U (put U m y) o o u (U u) wf (λ k ws i q. turn_asked k ws q) (λ k i l q. turn_served (p.unit (p.callee k)) k q) (h.at u)))
         (cases_eq u m);
     main = outside_kept p args U (put U m y) o (λ q. turn_served (p.unit (p.callee 0)) 0 q) h.main;
   }
 
-pub running_at : (p : Program) (args : List Word) (U : ℕ → Activity) (o : Stage) (u f : ℕ) (xs : List Word) (s : ℕ → Stage) (k : ℕ) → Holds p args U o → U u ≡ Active f xs s k → Running p args U o u f xs s k
+pub running_at : (p : Program) (args : List Word) (U : ℕ → Activity) (o : Stage) (u f : ℕ) (xs : List Word) (s : ℕ → Stage) (k : ℕ) → Holds p args U o
+    → U u ≡ Active f xs s k → Running p args U o u f xs s k
 running_at p args U o u f xs s k h e = subst (At p args U o u) e (h.at u)
 
 pub delivering_at : (p : Program) (args : List Word) (U : ℕ → Activity) (o : Stage) (u : ℕ) (v : Word) (k : ℕ) → Holds p args U o → U u ≡ Giving v k → Delivering p args U o u v k
@@ -165,7 +174,8 @@ delivering_at p args U o u v k h e = subst (At p args U o u) e (h.at u)
 pub not_sent : (s : Stage) (v : Word) → s ≡ Returned v → s ≡ Sent → ⊥
 not_sent s v e q = cc
 
-pub holds_finish : (p : Program) (n : ℕ) (args : List Word) (U : ℕ → Activity) (o : Stage) (f : ℕ) (xs : List Word) (s : ℕ → Stage) (j : ℕ) (v : Word) → IsNumbered p n → Holds p args U o → U (p.unit f) ≡ Active f xs s j → answer (back_of s) xs (p.body f) ≡ Ready v → Holds p args (put U (p.unit f) (Giving v j)) o
+pub holds_finish : (p : Program) (n : ℕ) (args : List Word) (U : ℕ → Activity) (o : Stage) (f : ℕ) (xs : List Word) (s : ℕ → Stage) (j : ℕ) (v : Word)
+    → IsNumbered p n → Holds p args U o → U (p.unit f) ≡ Active f xs s j → answer (back_of s) xs (p.body f) ≡ Ready v → Holds p args (put U (p.unit f) (Giving v j)) o
 holds_finish p n args U o f xs s j v wf h e a =
     let r = running_at p args U o (p.unit f) f xs s j h e in
     let d = running_done p n args U o (p.unit f) f xs s j v wf r a in
@@ -179,7 +189,9 @@ fresh_not k v e = cc
 pub fresh_unsent : (k : ℕ) → fresh k ≡ Sent → ⊥
 fresh_unsent k e = cc
 
-pub holds_loop : (p : Program) (n : ℕ) (args : List Word) (U : ℕ → Activity) (o : Stage) (f g : ℕ) (xs ws : List Word) (s : ℕ → Stage) (j : ℕ) → IsNumbered p n → Holds p args U o → U (p.unit g) ≡ Active f xs s j → answer (back_of s) xs (p.body f) ≡ LoopTo g ws → Holds p args (put U (p.unit g) (Active g ws fresh j)) o
+pub holds_loop : (p : Program) (n : ℕ) (args : List Word) (U : ℕ → Activity) (o : Stage) (f g : ℕ) (xs ws : List Word) (s : ℕ → Stage) (j : ℕ) →
+    IsNumbered p n → Holds p args U o → U (p.unit g) ≡ Active f xs s j → answer (back_of s) xs (p.body f) ≡ LoopTo g ws → Holds p args
+    (put U (p.unit g) (Active g ws fresh j)) o
 holds_loop p n args U o f g xs ws s j wf h e a =
     let r = running_at p args U o (p.unit g) f xs s j h e in
     let d = running_tail p n args U o (p.unit g) f xs s j g ws wf r a in

@@ -32,9 +32,11 @@ select_of (LoopTo h vs) x y e = absurd (false≢true e)
 select_of NotYet x y e = absurd (false≢true e)
 
 -- two words wanted from a choice are wanted in one branch
-pub one_branch : (q : Answer) (x x' y y' : Option (List Word)) → is_some (select q None x y) ≡ true → is_some (select q None x' y') ≡ true → (Takes q × (is_some x ≡ true) × (is_some x' ≡ true)) ⊎ (Skips q × (is_some y ≡ true) × (is_some y' ≡ true))
+pub one_branch : (q : Answer) (x x' y y' : Option (List Word)) → is_some (select q None x y) ≡ true → is_some (select q None x' y') ≡ true →
+    (Takes q × (is_some x ≡ true) × (is_some x' ≡ true)) ⊎ (Skips q × (is_some y ≡ true) × (is_some y' ≡ true))
 one_branch (Ready u) x x' y y' e f =
-    pick_cases u.bits x y x' y' (λ z z'. (is_some z ≡ true) × (is_some z' ≡ true)) ((Takes (Ready u) × (is_some x ≡ true) × (is_some x' ≡ true)) ⊎ (Skips (Ready u) × (is_some y ≡ true) × (is_some y' ≡ true)))
+    pick_cases u.bits x y x' y' (λ z z'. (is_some z ≡ true) × (is_some z' ≡ true))
+    ((Takes (Ready u) × (is_some x ≡ true) × (is_some x' ≡ true)) ⊎ (Skips (Ready u) × (is_some y ≡ true) × (is_some y' ≡ true)))
     (λ one p. inl ((u, refl, one), p.0, p.1)) (λ other p. inr ((u, refl, other), p.0, p.1))
     (pick_two u.bits x y x' y' (λ z z'. is_some z ≡ true → is_some z' ≡ true → (is_some z ≡ true) × (is_some z' ≡ true)) (λ i j. (i, j)) (λ i j. (i, j)) e f)
 one_branch (LoopTo h vs) x x' y y' e f = absurd (false≢true e)
@@ -95,7 +97,8 @@ module _ (b : ℕ → Option Word) (env : List Word) where
   unfolding Once Stands wanted
   sound_rest t ts once h j st got = ⊎_elim (λ z. absurd (once.2 j (wanted_stands b env t j z) st)) (λ z. z) (or_some (wanted b env t j) (wanted_in b env ts j) (h j (inr st) got))
 
-module _ (C : Program) (b : ℕ → Option Word) (a c j k : ℕ) (apart : a ≢ c) (out_a : is_some (b a) ≡ false) (out_c : is_some (b c) ≡ false) (up : (t : Term) → Stands a t → Reaches C j t) (vp : (t : Term) → Stands c t → Reaches C k t) where
+module _ (C : Program) (b : ℕ → Option Word) (a c j k : ℕ) (apart : a ≢ c) (out_a : is_some (b a) ≡ false) (out_c : is_some (b c) ≡ false)
+    (up : (t : Term) → Stands a t → Reaches C j t) (vp : (t : Term) → Stands c t → Reaches C k t) where
   up_in : (ts : Terms) → StandsIn a ts → ReachesIn C j ts
   unfolding Stands ReachesIn
   up_in Nil st = absurd st
@@ -216,7 +219,8 @@ module _ (C : Program) (good : Numbered C) (s : State) (inv : Inv C s) where
       record { pos = omega arith; within = inv.known (suc k) un; asks = inv.asks (suc k) (omega arith) un; out = ap (λ x. is_some (back_word x)) sent }
 
   -- what a running body wants, by its own function and arguments
-  pub wanted_here : (f j : ℕ) (ws : List Word) (k : ℕ) → s.unit (C.unit f) ≡ Runs f j ws → C.unit (C.caller k) ≡ C.unit f → Asks C s k → (C.caller k ≡ f) × (is_some (wanted (back s) ws (C.body f) k) ≡ true)
+  pub wanted_here : (f j : ℕ) (ws : List Word) (k : ℕ) → s.unit (C.unit f) ≡ Runs f j ws → C.unit (C.caller k) ≡ C.unit f → Asks C s k →
+      (C.caller k ≡ f) × (is_some (wanted (back s) ws (C.body f) k) ≡ true)
   wanted_here f j ws k e in_u a =
       let both : Runs (C.caller k) a.serves a.args ≡ Runs f j ws = sym a.runs ∙ ap s.unit in_u ∙ e in (
         ap member_of both,

@@ -4,7 +4,8 @@ use Rattle.std.proofs.lemmas.Bool.{cases_eq, eqb-true, eq-eqb, ne_eqb, leb-true,
 use Rattle.safl_calls.proofs.Basics.{put_at, put_off, some_none, some_of, some_is, cond_some, unsent_is}
 use Rattle.safl_calls.proofs.Bodies.{wanted_grows, settled, goes_stands, wanted_sized, goes_sized}
 use Rattle.safl_calls.proofs.Numbered.{Numbered}
-use Rattle.safl_calls.specs.Machine.{State, Mode, Idle, Runs, Delivers, Event, Accept, Finish, Return, LoopInto, opening, Enabled, CallerRests, Legal, after, fire, accept, finish, give_back, loop_into, ended, back, put, asked, asked_as, says, says_as}
+use Rattle.safl_calls.specs.Machine.{State, Mode, Idle, Runs, Delivers, Event, Accept, Finish, Return, LoopInto, opening, Enabled, CallerRests, Legal}
+use Rattle.safl_calls.specs.Machine.{after, fire, accept, finish, give_back, loop_into, ended, back, put, asked, asked_as, says, says_as}
 use Rattle.safl_calls.proofs.Basics.{serves}
 use Rattle.safl_term.specs.Readiness.{Answer, Ready, LoopTo, NotYet, answer, wanted, Stage, Unsent, Sent, Returned, back_word}
 use Rattle.safl_term.specs.Program.{Program, unit_for, arity}
@@ -78,7 +79,8 @@ args_of (Runs f k ws) = ws
 args_of (Delivers k v) = []
 
 -- a caller goes on asking where its unit is the same and no word of its sites is lost
-keep_asking : (C : Program) (s s' : State) (k : ℕ) → Asks C s k → s'.unit (C.unit (C.caller k)) ≡ s.unit (C.unit (C.caller k)) → ((j : ℕ) (v : Word) → Stands j (C.body (C.caller k)) → back s j ≡ Some v → back s' j ≡ Some v) → Asks C s' k
+keep_asking : (C : Program) (s s' : State) (k : ℕ) → Asks C s k → s'.unit (C.unit (C.caller k)) ≡ s.unit (C.unit (C.caller k)) →
+    ((j : ℕ) (v : Word) → Stands j (C.body (C.caller k)) → back s j ≡ Some v → back s' j ≡ Some v) → Asks C s' k
 keep_asking C s s' k a same grows =
     let w = some_of _ (wanted_grows (back s) (back s') a.args (C.body (C.caller k)) grows k (ap is_some a.asks)) in
     record { serves = a.serves; args = a.args; runs = same ∙ a.runs; words = w.0; asks = w.1 }
@@ -122,8 +124,12 @@ module _ (C : Program) (args : List Word) (good : Numbered C) where
         (cases_eq k j);
     member = λ u f j vs e. ⊎_elim
         (λ same.
-        let f_is : C.callee k ≡ f = ap member_of (sym (put_at s.unit w u (Runs (C.callee k) k ws) same) ∙ e) in
-        (ap C.unit (sym f_is) ∙ same, subst (λ f. f < C.functions) f_is (good.callee_in k at.within), subst (λ vs. length vs ≡ arity C f) (ap args_of (sym (put_at s.unit w u (Runs (C.callee k) k ws) same) ∙ e)) (asked_sized s k ws inv asked' ∙ ap (arity C) f_is)))
+        let f_is : C.callee k ≡ f = ap member_of (sym (put_at s.unit w u (Runs (C.callee k) k ws) same) ∙ e) in (
+          ap C.unit (sym f_is) ∙ same,
+          subst (λ f. f < C.functions) f_is (good.callee_in k at.within),
+          subst (λ vs. length vs ≡ arity C f)
+              (ap args_of (sym (put_at s.unit w u (Runs (C.callee k) k ws) same) ∙ e)) (asked_sized s k ws inv asked' ∙ ap (arity C) f_is),
+        ))
         (λ other. inv.member u f j vs (sym (put_off s.unit w u (Runs (C.callee k) k ws) other) ∙ e))
         (cases_eq w u);
   }
@@ -190,7 +196,8 @@ module _ (C : Program) (args : List Word) (good : Numbered C) where
           (λ i x st e. grows i x e)
 
   -- the own sites of a unit that ends or loops have all returned
-  none_in_flight : (s : State) → Inv C s → (w f k : ℕ) (ws : List Word) (a : Answer) → s.unit w ≡ Runs f k ws → answer (back s) ws (C.body f) ≡ a → (a ≡ NotYet → ⊥) → (j : ℕ) → C.unit (C.caller (suc j)) ≡ w → s.site (suc j) ≡ Sent → ⊥
+  none_in_flight : (s : State) → Inv C s → (w f k : ℕ) (ws : List Word) (a : Answer) → s.unit w ≡ Runs f k ws → answer (back s) ws (C.body f) ≡ a →
+      (a ≡ NotYet → ⊥) → (j : ℕ) → C.unit (C.caller (suc j)) ≡ w → s.site (suc j) ≡ Sent → ⊥
   none_in_flight s inv w f k ws a e says' some j in_w sent =
       let m = inv.member w f k ws e in
       let own = asks_here (suc j) (omega arith) in_w (λ un. sent_unsent (sym sent ∙ un)) in
@@ -210,7 +217,9 @@ module _ (C : Program) (args : List Word) (good : Numbered C) where
           let o = good.own f (suc i) m.1 st in
           asks_here (suc i) (omega arith) (ap C.unit o.2 ∙ m.0) (λ un. false≢true (ap is_some (sym (ap back_word un)) ∙ back'))
 
-  inv_end : (s : State) → Inv C s → (w f k : ℕ) (ws : List Word) (a : Answer) → s.unit w ≡ Runs f k ws → answer (back s) ws (C.body f) ≡ a → (a ≡ NotYet → ⊥) → (m : Mode) → serves m ≡ Some k → ((g j : ℕ) (us : List Word) → m ≡ Runs g j us → (C.unit g ≡ w) × (g < C.functions) × (length us ≡ arity C g)) → Inv C (record { unit = put s.unit w m; site = ended C w s.site })
+  inv_end : (s : State) → Inv C s → (w f k : ℕ) (ws : List Word) (a : Answer) → s.unit w ≡ Runs f k ws → answer (back s) ws (C.body f) ≡ a →
+      (a ≡ NotYet → ⊥) → (m : Mode) → serves m ≡ Some k → ((g j : ℕ) (us : List Word) → m ≡ Runs g j us → (C.unit g ≡ w) × (g < C.functions) ×
+      (length us ≡ arity C g)) → Inv C (record { unit = put s.unit w m; site = ended C w s.site })
   inv_end s inv w f k ws a e says' some m serves_k in_w = record {
     serving = λ u j h. ⊎_elim
         (λ same.
@@ -284,9 +293,11 @@ module _ (C : Program) (args : List Word) (good : Numbered C) where
   goes_not : (h : ℕ) (vs : List Word) → NotYet ≡ LoopTo h vs → ⊥
   goes_not h vs e = grind arith
 
-  inv_finish : (s : State) → Inv C s → (f k : ℕ) (ws : List Word) (v : Word) → s.unit (C.unit f) ≡ Runs f k ws → says C s (C.unit f) ≡ Ready v → Inv C (finish C s (C.unit f) (s.unit (C.unit f)) (says C s (C.unit f)))
+  inv_finish : (s : State) → Inv C s → (f k : ℕ) (ws : List Word) (v : Word) → s.unit (C.unit f) ≡ Runs f k ws → says C s (C.unit f) ≡ Ready v → Inv C
+      (finish C s (C.unit f) (s.unit (C.unit f)) (says C s (C.unit f)))
   inv_finish s inv f k ws v e says' =
-      let is : finish C s (C.unit f) (s.unit (C.unit f)) (says C s (C.unit f)) ≡ finish C s (C.unit f) (Runs f k ws) (Ready v) = ap (λ m. finish C s (C.unit f) m (says C s (C.unit f))) e ∙ ap (finish C s (C.unit f) (Runs f k ws)) says' in
+      let is : finish C s (C.unit f) (s.unit (C.unit f)) (says C s (C.unit f)) ≡ finish C s (C.unit f) (Runs f k ws) (Ready v) = ap
+      (λ m. finish C s (C.unit f) m (says C s (C.unit f))) e ∙ ap (finish C s (C.unit f) (Runs f k ws)) says' in
       subst (Inv C) (sym is) (inv_end s inv (C.unit f) f k ws (Ready v) e (sym (ap (says_as C (back s)) e) ∙ says') (ready_yet v) (Delivers k v) refl (λ g j us h. absurd (delivers_runs g j k v us h)))
 
   inv_go_on : (s : State) → Inv C s → (h : ℕ) (vs : List Word) → says C s (C.unit h) ≡ LoopTo h vs → Inv C (loop_into C s (C.unit h) (s.unit (C.unit h)) (says C s (C.unit h)))
@@ -296,11 +307,18 @@ module _ (C : Program) (args : List Word) (good : Numbered C) where
       by Idle e = absurd (goes_not h vs (sym (ap (says_as C (back s)) e) ∙ says'))
       by (Delivers k v) e = absurd (goes_not h vs (sym (ap (says_as C (back s)) e) ∙ says'))
       by (Runs f k ws) e =
-          let is : loop_into C s (C.unit h) (s.unit (C.unit h)) (says C s (C.unit h)) ≡ loop_into C s (C.unit h) (Runs f k ws) (LoopTo h vs) = ap (λ m. loop_into C s (C.unit h) m (says C s (C.unit h))) e ∙ ap (loop_into C s (C.unit h) (Runs f k ws)) says' in
+          let is : loop_into C s (C.unit h) (s.unit (C.unit h)) (says C s (C.unit h)) ≡ loop_into C s (C.unit h) (Runs f k ws) (LoopTo h vs) = ap
+          (λ m. loop_into C s (C.unit h) m (says C s (C.unit h))) e ∙ ap (loop_into C s (C.unit h) (Runs f k ws)) says' in
           let body : answer (back s) ws (C.body f) ≡ LoopTo h vs = sym (ap (says_as C (back s)) e) ∙ says' in
           let m = inv.member (C.unit h) f k ws e in
           let l = good.loops f h m.1 (goes_stands (back s) ws (C.body f) h vs body) in
-          subst (Inv C) (sym is) (inv_end s inv (C.unit h) f k ws (LoopTo h vs) e body (goes_yet h vs) (Runs h k vs) refl (λ g j us e'. (ap C.unit (sym (ap member_of e')), subst (λ g. g < C.functions) (ap member_of e') l.0, ap length (sym (ap args_of e')) ∙ goes_sized C (back s) ws (C.body f) (good.counted f m.1) h vs body ∙ ap (arity C) (ap member_of e'))))
+          subst (Inv C) (sym is) (inv_end s inv (C.unit h) f k ws (LoopTo h vs) e body (goes_yet h vs) (Runs h k vs) refl
+          (λ g j us e'. (
+            ap C.unit (sym (ap member_of e')),
+            subst (λ g. g < C.functions) (ap member_of e') l.0,
+            ap length (sym (ap args_of e')) ∙
+                goes_sized C (back s) ws (C.body f) (good.counted f m.1) h vs body ∙ ap (arity C) (ap member_of e'),
+          )))
 
   pub inv_fire : (s : State) (e : Event) → Inv C s → Enabled C args s e → Inv C (fire C args s e)
   inv_fire s (Accept k) inv h = subst (λ o. Inv C (accept C s k o)) (sym h.1) (inv_accept s k h.0 inv h.1 h.2)

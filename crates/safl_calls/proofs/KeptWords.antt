@@ -1,5 +1,6 @@
 -- A site whose word is not kept shows its unit's last word, or its use is past.
-use Rattle.std.proofs.Common.{◌≡◌, ◌≢◌, ℕ, zero, suc, ◌<◌, ◌≤◌, List, [], ◌∷◌, length, replicate, Option, Some, Bool, true, false, cond, nat_lt, is_some, refl, sym, ap, ◌∙◌, subst, inl, inr, ⊎_elim, ◌⊎◌, arith}
+use Rattle.std.proofs.Common.{◌≡◌, ◌≢◌, ℕ, zero, suc, ◌<◌, ◌≤◌, List, [], ◌∷◌, length, replicate, Option, Some, Bool, true, false, cond, nat_lt}
+use Rattle.std.proofs.Common.{is_some, refl, sym, ap, ◌∙◌, subst, inl, inr, ⊎_elim, ◌⊎◌, arith}
 use Rattle.std.proofs.lemmas.List.{length-replicate}
 use Rattle.std.proofs.lemmas.Bool.{cases_eq, eq-eqb, ne_eqb, lt-ltb, le-ltb, true≢false}
 use Rattle.safl_calls.proofs.Basics.{put_at, put_off}
@@ -7,7 +8,8 @@ use Rattle.safl_calls.proofs.Bodies.{wanted_stands}
 use Rattle.safl_calls.proofs.Invariant.{Inv, inv_after, inv_fire, inv_open}
 use Rattle.safl_calls.proofs.Locality.{answer_local, wanted_local}
 use Rattle.safl_calls.proofs.Numbered.{Numbered}
-use Rattle.safl_calls.specs.Machine.{State, Mode, Idle, Runs, Delivers, Event, Accept, Finish, Return, LoopInto, opening, Enabled, Legal, after, fire, accept, finish, give_back, loop_into, ended, put, back, says, says_as, finished, finished_as, last_word}
+use Rattle.safl_calls.specs.Machine.{State, Mode, Idle, Runs, Delivers, Event, Accept, Finish, Return, LoopInto, opening, Enabled, Legal, after, fire}
+use Rattle.safl_calls.specs.Machine.{accept, finish, give_back, loop_into, ended, put, back, says, says_as, finished, finished_as, last_word}
 use Rattle.safl_calls.proofs.Basics.{serves}
 use Rattle.safl_calls.proofs.Effects.{Before, agree_refl, effect}
 use Rattle.safl_calls.proofs.Interference.{Sound, sent_live, wanted_here, sound_at}
@@ -73,7 +75,18 @@ stage_word Sent = no_word
 stage_word (Returned v) = v
 
 spent_move : (C : Program) (s s' : State) (k : ℕ) → ((b : ℕ) → 0 < b → C.caller b ≡ C.caller k → s.site b ≢ Unsent → s'.site b ≢ Unsent) → Spent C s k → Spent C s' k
-spent_move C s s' k keeps p = record { site = p.site; pos = p.pos; own = p.own; used = keeps p.site p.pos p.own p.used; because = p.because; other = p.other; same = p.same; under = p.under; before = p.before }
+spent_move C s s' k keeps p = record {
+  site = p.site;
+  pos = p.pos;
+  own = p.own;
+  used = keeps p.site p.pos p.own p.used;
+  because = p.because;
+  other =
+      p.other;
+  same = p.same;
+  under = p.under;
+  before = p.before;
+}
 
 module _ (C : Program) (kept : ℕ → Bool) (args : List Word) (good : Numbered C) (keeps : (k : ℕ) → 0 < k → k ≤ C.sites → Kept C k → kept k ≡ true) where
   hist_accept : (s : State) (l : ℕ → Word) (j : ℕ) (ws : List Word) → Hist C kept s l → Hist C kept (accept C s j (Some ws)) l
@@ -99,7 +112,8 @@ module _ (C : Program) (kept : ℕ → Bool) (args : List Word) (good : Numbered
         (cases_eq (unit_for C j) u);
     words = λ k w pos not_kept e. ⊎_elim
         (λ same. inl (ap l (ap (unit_for C) (sym same)) ∙ h.delivers (unit_for C j) j v d ∙ ap stage_word (sym (put_at s.site j k (Returned v) same) ∙ e)))
-        (λ off. ⊎_elim (λ z. inl z) (λ z. inr (spent_move C s (give_back C s j (Delivers j v)) k (λ b pb own used. still b used) z)) (h.words k w pos not_kept (sym (put_off s.site j k (Returned v) off) ∙ e)))
+        (λ off. ⊎_elim (λ z. inl z) (λ z. inr (spent_move C s (give_back C s j (Delivers j v)) k (λ b pb own used. still b used) z))
+        (h.words k w pos not_kept (sym (put_off s.site j k (Returned v) off) ∙ e)))
         (cases_eq j k);
   }
     where
@@ -120,10 +134,12 @@ module _ (C : Program) (kept : ℕ → Bool) (args : List Word) (good : Numbered
     still_used k (suc b) off pos own used un =
         used (sym (ap (λ t. cond t Unsent (s.site (suc b))) (ne_eqb (C.unit (C.caller (suc b))) w (λ e. off (ap C.unit (sym own) ∙ e)))) ∙ sym (sites (suc b)) ∙ un)
 
-  hist_finish : (s : State) (l : ℕ → Word) (f p : ℕ) (ws : List Word) (v : Word) → Inv C s → Hist C kept s l → s.unit (C.unit f) ≡ Runs f p ws → says C s (C.unit f) ≡ Ready v → Hist C kept (finish C s (C.unit f) (Runs f p ws) (Ready v)) (λ u. finished C s (Finish f) u (l u))
+  hist_finish : (s : State) (l : ℕ → Word) (f p : ℕ) (ws : List Word) (v : Word) → Inv C s → Hist C kept s l → s.unit (C.unit f) ≡ Runs f p ws → says
+      C s (C.unit f) ≡ Ready v → Hist C kept (finish C s (C.unit f) (Runs f p ws) (Ready v)) (λ u. finished C s (Finish f) u (l u))
   hist_finish s l f p ws v inv h e says' = record {
     delivers = λ u k x d. ⊎_elim
-        (λ same. ap (λ b. cond b (finished_as (says C s u) (l u)) (l u)) (eq-eqb w u same) ∙ ap (λ a. finished_as a (l u)) (ap (says C s) (sym same) ∙ says') ∙ ap word_in (sym (put_at s.unit w u (Delivers p v) same) ∙ d))
+        (λ same. ap (λ b. cond b (finished_as (says C s u) (l u)) (l u)) (eq-eqb w u same) ∙ ap (λ a. finished_as a (l u))
+        (ap (says C s) (sym same) ∙ says') ∙ ap word_in (sym (put_at s.unit w u (Delivers p v) same) ∙ d))
         (λ off. ap (λ b. cond b (finished_as (says C s u) (l u)) (l u)) (ne_eqb w u off) ∙ h.delivers u k x (sym (put_off s.unit w u (Delivers p v) off) ∙ d))
         (cases_eq w u);
     words = λ k x pos not_kept back_k.
@@ -188,7 +204,8 @@ module _ (C : Program) (kept : ℕ → Bool) (args : List Word) (good : Numbered
   hist_fire s l (Accept k) inv h on = subst (λ o. Hist C kept (accept C s k o) l) (sym on.1) (hist_accept s l k on.0 h)
   hist_fire s l (Return k) inv h on = subst (λ m. Hist C kept (give_back C s k m) l) (sym on.1) (hist_return s l k on.0 h on.1)
   hist_fire s l (Finish f) inv h on =
-      let is : finish C s (C.unit f) (s.unit (C.unit f)) (says C s (C.unit f)) ≡ finish C s (C.unit f) (Runs f on.0 on.1) (Ready on.2) = ap (λ m. finish C s (C.unit f) m (says C s (C.unit f))) on.3 ∙ ap (finish C s (C.unit f) (Runs f on.0 on.1)) on.4 in
+      let is : finish C s (C.unit f) (s.unit (C.unit f)) (says C s (C.unit f)) ≡ finish C s (C.unit f) (Runs f on.0 on.1) (Ready on.2) = ap
+      (λ m. finish C s (C.unit f) m (says C s (C.unit f))) on.3 ∙ ap (finish C s (C.unit f) (Runs f on.0 on.1)) on.4 in
       subst (λ q. Hist C kept q (λ u. finished C s (Finish f) u (l u))) (sym is) (hist_finish s l f on.0 on.1 on.2 inv h on.3 on.4)
   hist_fire s l (LoopInto g) inv h on = by (s.unit (C.unit g)) refl
     where
@@ -196,7 +213,8 @@ module _ (C : Program) (kept : ℕ → Bool) (args : List Word) (good : Numbered
       by Idle e = absurd (goes_not g on.0 (sym (ap (says_as C (back s)) e) ∙ on.1))
       by (Delivers k v) e = absurd (goes_not g on.0 (sym (ap (says_as C (back s)) e) ∙ on.1))
       by (Runs f k ws) e =
-          let is : loop_into C s (C.unit g) (s.unit (C.unit g)) (says C s (C.unit g)) ≡ loop_into C s (C.unit g) (Runs f k ws) (LoopTo g on.0) = ap (λ m. loop_into C s (C.unit g) m (says C s (C.unit g))) e ∙ ap (loop_into C s (C.unit g) (Runs f k ws)) on.1 in
+          let is : loop_into C s (C.unit g) (s.unit (C.unit g)) (says C s (C.unit g)) ≡ loop_into C s (C.unit g) (Runs f k ws) (LoopTo g on.0) = ap
+          (λ m. loop_into C s (C.unit g) m (says C s (C.unit g))) e ∙ ap (loop_into C s (C.unit g) (Runs f k ws)) on.1 in
           subst (λ q. Hist C kept q l) (sym is) (hist_go_on s l g k f ws on.0 h e)
 
   hist_all : (s : State) (l : ℕ → Word) (es : List Event) → Inv C s → Hist C kept s l → Legal C args s es → Hist C kept (after C args s es) (λ u. last_word C args s es u (l u))
@@ -244,7 +262,8 @@ module _ (C : Program) (kept : ℕ → Bool) (args : List Word) (good : Numbered
         by false = refl
 
     hyb_off : (i j : ℕ) → (j ≡ i → ⊥) → hyb i j ≡ hyb (suc i) j
-    hyb_off i j apart = ap (λ b. cond b (r' j) (r j)) (⊎_elim (λ lt. lt-ltb j i lt ∙ sym (lt-ltb j (suc i) (omega (arith, lt)))) (λ ge. le-ltb j i ge ∙ sym (le-ltb j (suc i) (omega (arith, ge, apart)))) (split j i))
+    hyb_off i j apart = ap (λ b. cond b (r' j) (r j)) (⊎_elim (λ lt. lt-ltb j i lt ∙ sym (lt-ltb j (suc i) (omega (arith, lt))))
+        (λ ge. le-ltb j i ge ∙ sym (le-ltb j (suc i) (omega (arith, ge, apart)))) (split j i))
       where
         split : (a b : ℕ) → (a < b) ⊎ (b ≤ a)
         split a b = grind arith
@@ -291,8 +310,22 @@ module _ (C : Program) (kept : ℕ → Bool) (args : List Word) (good : Numbered
           let before : Before i b0 body = subst (λ g. Before i b0 (C.body g)) own sp.before in
           let reaches : Reaches C k' body = under_reaches C k' b0 sp.under body (wanted_stands r ws body b0 here.1) in
           let within : i ≤ C.sites = inv.known i (λ un. returned_unsent v (sym back_i ∙ un)) in
-          let no_if : Decides i fe body → ⊥ = λ z. true≢false (sym (keeps i pos within (record { because = k'; other = sp.other; same = sp.same; why = inr (inl (subst (λ g. Decides i fe (C.body g) × Reaches C k' (C.body g)) (sym own) (z, reaches))) })) ∙ not_kept) in
-          let held : Held C i k' fe body → ⊥ = λ z. true≢false (sym (keeps i pos within (record { because = k'; other = sp.other; same = sp.same; why = inr (inr (subst (λ g. Held C i k' fe (C.body g)) (sym own) z)) })) ∙ not_kept) in
+          let no_if : Decides i fe body → ⊥ = λ z. true≢false (sym
+          (keeps i pos within (record {
+            because = k';
+            other = sp.other;
+            same = sp.same;
+            why = inr
+                (inl (subst (λ g. Decides i fe (C.body g) × Reaches C k' (C.body g)) (sym own) (z, reaches)));
+          })) ∙ not_kept) in
+          let held : Held C i k' fe body → ⊥ = λ z. true≢false (sym
+          (keeps i pos within (record {
+            because = k';
+            other = sp.other;
+            same = sp.same;
+            why = inr
+                (inr (subst (λ g. Held C i k' fe (C.body g)) (sym own) z));
+          })) ∙ not_kept) in
           let other = hyb_off i in
           let there = λ (j : ℕ). hyb_there i j ∙ sym (hyb_there (suc i) j) in
           let sound : Sound (hyb i) ws body = λ j stj got. st.there j ∙ sound_at C good s inv f q ws m.1 runs' j stj (sym (hyb_there i j) ∙ got) in

@@ -85,7 +85,8 @@ abbrev pub After : Program → Weights → ℕ → ℕ → ℕ → ℕ → (ℕ 
 After p w n all due c U o = (rest : ℕ) × (due ≡ c + rest) × Due p w n all U o rest
 
 -- one unit changes
-one_changes : (p : Program) (w : Weights) (n all due c m x : ℕ) (U : ℕ → Activity) (y : Activity) (o q : Stage) (h : Due p w n all U o due) → m < n → Owes p w y x → h.by_unit m + outside_due o all ≡ c + x + outside_due q all → After p w n all due c (put U m y) q
+one_changes : (p : Program) (w : Weights) (n all due c m x : ℕ) (U : ℕ → Activity) (y : Activity) (o q : Stage) (h : Due p w n all U o due) → m < n →
+    Owes p w y x → h.by_unit m + outside_due o all ≡ c + x + outside_due q all → After p w n all due c (put U m y) q
 one_changes p w n all due c m x U y o q h lt owes e =
     let s = sum_put n h.by_unit m x lt in
     let t = h.total in (
@@ -99,7 +100,8 @@ one_changes p w n all due c m x U y o q h lt owes e =
     )
 
 -- a caller and a callee change
-two_change : (p : Program) (w : Weights) (n all due c m i x z k : ℕ) (U : ℕ → Activity) (y : Activity) (o t : Stage) (h : Due p w n all U o due) → m < n → i < n → m ≢ i → Owes p w (mark (U m) k t) x → Owes p w y z → h.by_unit m + h.by_unit i ≡ c + x + z → After p w n all due c (moved U m i k t y) o
+two_change : (p : Program) (w : Weights) (n all due c m i x z k : ℕ) (U : ℕ → Activity) (y : Activity) (o t : Stage) (h : Due p w n all U o due) → m <
+    n → i < n → m ≢ i → Owes p w (mark (U m) k t) x → Owes p w y z → h.by_unit m + h.by_unit i ≡ c + x + z → After p w n all due c (moved U m i k t y) o
 two_change p w n all due c m i x z k U y o t h lt lt' apart owes owes' e =
     let b = put h.by_unit m x in
     let s = sum_put n h.by_unit m x lt in
@@ -132,17 +134,25 @@ put_words : (U : ℕ → Activity) (m u f j : ℕ) (xs : List Word) (s : ℕ →
 put_words U m u f j xs s e = ap words_of (put_same U m u (Active f xs s j) e)
 
 module _ (p : Program) (w : Weights) (n : ℕ) (args : List Word) (v : Word) (d : Gives p args (p.body (p.callee 0)) v) (wf : IsNumbered p n) where
-  due_main : (U : ℕ → Activity) (o : Stage) (due : ℕ) → Holds p args U o → o ≡ Unsent → Due p w n (full p w args d) U o due → After p w n (full p w args d) due (counts p w (Accept 0) (record { units = put U (p.unit (p.callee 0)) (Active (p.callee 0) args fresh 0); outside = Sent })) (put U (p.unit (p.callee 0)) (Active (p.callee 0) args fresh 0)) Sent
+  due_main : (U : ℕ → Activity) (o : Stage) (due : ℕ) → Holds p args U o → o ≡ Unsent → Due p w n (full p w args d) U o due → After p w n
+      (full p w args d) due (counts p w (Accept 0) (record {
+        units = put U (p.unit (p.callee 0)) (Active (p.callee 0) args fresh 0);
+        outside = Sent;
+      })) (put U (p.unit (p.callee 0)) (Active (p.callee 0) args fresh 0)) Sent
   due_main U o due h e q =
       let m = p.unit (p.callee 0) in
       let idle = all_idle p n args U o wf h (not_both o e) n m (omega arith) in
       let none = owes_at p w U q.by_unit m Free idle q.each in
       let opened = unsent_due o (full p w args d) e in
       let words = ap (w.accept (p.callee 0)) (put_words U m m (p.callee 0) 0 args fresh refl) in
-      one_changes p w n (full p w args d) due _ m (w.finish + (w.give + owed p w fresh d)) U (Active (p.callee 0) args fresh 0) o Sent q (wf.below (p.callee 0)) (v, d, refl) (omega (arith, none, opened, words))
+      one_changes p w n (full p w args d) due _ m (w.finish + (w.give + owed p w fresh d)) U (Active (p.callee 0) args fresh 0) o Sent q
+      (wf.below (p.callee 0)) (v, d, refl) (omega (arith, none, opened, words))
 
-  due_accept : (U : ℕ → Activity) (o : Stage) (due k j : ℕ) (xs ws : List Word) (s : ℕ → Stage) → Holds p args U o → U (p.unit (p.caller k)) ≡ Active (p.caller k) xs s j → s k ≡ Unsent → wanted (back_of s) xs (p.body (p.caller k)) k ≡ Some ws → U (p.unit (p.callee k)) ≡ Free → Due p w n (full p w args d) U o due
-      → After p w n (full p w args d) due (counts p w (Accept k) (record { units = moved U (p.unit (p.caller k)) (p.unit (p.callee k)) k Sent (Active (p.callee k) ws fresh k); outside = o })) (moved U (p.unit (p.caller k)) (p.unit (p.callee k)) k Sent (Active (p.callee k) ws fresh k)) o
+  due_accept : (U : ℕ → Activity) (o : Stage) (due k j : ℕ) (xs ws : List Word) (s : ℕ → Stage) → Holds p args U o → U (p.unit (p.caller k)) ≡ Active
+      (p.caller k) xs s j → s k ≡ Unsent → wanted (back_of s) xs (p.body (p.caller k)) k ≡ Some ws → U (p.unit (p.callee k)) ≡ Free → Due p w n (full p w args d) U o due
+      → After p w n (full p w args d) due (counts p w (Accept k)
+      (record { units = moved U (p.unit (p.caller k)) (p.unit (p.callee k)) k Sent (Active (p.callee k) ws fresh k); outside = o }))
+      (moved U (p.unit (p.caller k)) (p.unit (p.callee k)) k Sent (Active (p.callee k) ws fresh k)) o
   due_accept U o due k j xs ws s h runs unsent want idle q =
       let g = p.caller k in
       let f = p.callee k in
@@ -158,11 +168,15 @@ module _ (p : Program) (w : Weights) (n : ℕ) (args : List Word) (v : Word) (d 
       let (y, dy, ey) = owed_call p w s (put s k Sent) g true b.0 b.1 a.0 dx b.3 mk in
       let none = owes_at p w U q.by_unit e Free idle q.each in
       let words = ap (w.accept f) (put_words (put U c (mark (U c) k Sent)) e e f k ws fresh refl) in
-      let caller : Owes p w (mark (U c) k Sent) (w.finish + (w.give + owed p w (put s k Sent) dx)) = subst (λ z. Owes p w (mark z k Sent) (w.finish + (w.give + owed p w (put s k Sent) dx))) (sym runs) (x, dx, refl) in
-      two_change p w n (full p w args d) due _ c e (w.finish + (w.give + owed p w (put s k Sent) dx)) (w.finish + (w.give + owed p w fresh dy)) k U (Active f ws fresh k) o Sent q (wf.below g) (wf.below f) apart caller (y, dy, refl)
+      let caller : Owes p w (mark (U c) k Sent) (w.finish + (w.give + owed p w (put s k Sent) dx)) = subst
+      (λ z. Owes p w (mark z k Sent) (w.finish + (w.give + owed p w (put s k Sent) dx))) (sym runs) (x, dx, refl) in
+      two_change p w n (full p w args d) due _ c e (w.finish + (w.give + owed p w (put s k Sent) dx)) (w.finish + (w.give + owed p w fresh dy)) k U
+      (Active f ws fresh k) o Sent q (wf.below g) (wf.below f) apart caller (y, dy, refl)
       (omega (arith, ex, ey, none, words))
 
-  due_finish : (U : ℕ → Activity) (o : Stage) (due f j : ℕ) (x : Word) (xs : List Word) (s : ℕ → Stage) → Holds p args U o → U (p.unit f) ≡ Active f xs s j → answer (back_of s) xs (p.body f) ≡ Ready x → Due p w n (full p w args d) U o due → After p w n (full p w args d) due w.finish (put U (p.unit f) (Giving x j)) o
+  due_finish : (U : ℕ → Activity) (o : Stage) (due f j : ℕ) (x : Word) (xs : List Word) (s : ℕ → Stage) → Holds p args U o → U (p.unit f) ≡ Active f
+      xs s j → answer (back_of s) xs (p.body f) ≡ Ready x → Due p w n (full p w args d) U o due → After p w n (full p w args d) due w.finish
+      (put U (p.unit f) (Giving x j)) o
   due_finish U o due f j x xs s h runs a q =
       let u = p.unit f in
       let r = running_at p args U o u f xs s j h runs in
@@ -171,7 +185,9 @@ module _ (p : Program) (w : Weights) (n : ℕ) (args : List Word) (v : Word) (d 
       let none = done_owed p w s done dy in
       one_changes p w n (full p w args d) due w.finish u w.give U (Giving x j) o o q (wf.below f) refl (omega (arith, ey, none))
 
-  due_loop : (U : ℕ → Activity) (o : Stage) (due f g j : ℕ) (xs ws : List Word) (s : ℕ → Stage) → Holds p args U o → U (p.unit g) ≡ Active f xs s j → answer (back_of s) xs (p.body f) ≡ LoopTo g ws → Due p w n (full p w args d) U o due → After p w n (full p w args d) due (counts p w (LoopInto g) (record { units = put U (p.unit g) (Active g ws fresh j); outside = o })) (put U (p.unit g) (Active g ws fresh j)) o
+  due_loop : (U : ℕ → Activity) (o : Stage) (due f g j : ℕ) (xs ws : List Word) (s : ℕ → Stage) → Holds p args U o → U (p.unit g) ≡ Active f xs s j →
+      answer (back_of s) xs (p.body f) ≡ LoopTo g ws → Due p w n (full p w args d) U o due → After p w n (full p w args d) due
+      (counts p w (LoopInto g) (record { units = put U (p.unit g) (Active g ws fresh j); outside = o })) (put U (p.unit g) (Active g ws fresh j)) o
   due_loop U o due f g j xs ws s h runs a q =
       let u = p.unit g in
       let r = running_at p args U o u f xs s j h runs in
@@ -181,14 +197,16 @@ module _ (p : Program) (w : Weights) (n : ℕ) (args : List Word) (v : Word) (d 
       let words = ap (w.loop g) (put_words U u u g j ws fresh refl) in
       one_changes p w n (full p w args d) due _ u (w.finish + (w.give + owed p w fresh dz)) U (Active g ws fresh j) o o q (wf.below g) (y, dz, refl) (omega (arith, ey, ez, words))
 
-  due_return : (U : ℕ → Activity) (o : Stage) (due : ℕ) (x : Word) → o ≡ Sent → U (p.unit (p.callee 0)) ≡ Giving x 0 → Due p w n (full p w args d) U o due → After p w n (full p w args d) due w.give (put U (p.unit (p.callee 0)) Free) (Returned x)
+  due_return : (U : ℕ → Activity) (o : Stage) (due : ℕ) (x : Word) → o ≡ Sent → U (p.unit (p.callee 0)) ≡ Giving x 0 → Due p w n (full p w args d) U o
+      due → After p w n (full p w args d) due w.give (put U (p.unit (p.callee 0)) Free) (Returned x)
   due_return U o due x e del q =
       let u = p.unit (p.callee 0) in
       let ey = owes_at p w U q.by_unit u (Giving x 0) del q.each in
       let sent = sent_due o (full p w args d) e in
       one_changes p w n (full p w args d) due w.give u 0 U Free o (Returned x) q (wf.below (p.callee 0)) refl (omega (arith, ey, sent))
 
-  due_give : (U : ℕ → Activity) (o : Stage) (due k : ℕ) (x : Word) → k ≢ 0 → Holds p args U o → U (p.unit (p.callee k)) ≡ Giving x k → Due p w n (full p w args d) U o due → After p w n (full p w args d) due w.give (moved U (p.unit (p.caller k)) (p.unit (p.callee k)) k (Returned x) Free) o
+  due_give : (U : ℕ → Activity) (o : Stage) (due k : ℕ) (x : Word) → k ≢ 0 → Holds p args U o → U (p.unit (p.callee k)) ≡ Giving x k → Due p w n
+      (full p w args d) U o due → After p w n (full p w args d) due w.give (moved U (p.unit (p.caller k)) (p.unit (p.callee k)) k (Returned x) Free) o
   due_give U o due k x nz h del q =
       let g = p.caller k in
       let c = p.unit g in
@@ -211,7 +229,8 @@ module _ (p : Program) (w : Weights) (n : ℕ) (args : List Word) (v : Word) (d 
           (λ z. sym (ap (λ r. if_unsent r t) (put_other s k i (Returned x) z)))
           (cases_eq i k)
 
-  due_step : {s t : Scene} {e : Event} (due : ℕ) → Fine p args s → Step p args s e t → Due p w n (full p w args d) s.units s.outside due → After p w n (full p w args d) due (counts p w e t) t.units t.outside
+  due_step : {s t : Scene} {e : Event} (due : ℕ) → Fine p args s → Step p args s e t → Due p w n (full p w args d) s.units s.outside due → After p w n
+      (full p w args d) due (counts p w e t) t.units t.outside
   due_step due h (accept_main {s = s} e) q = due_main s.units s.outside due h e q
   due_step due h (accept {s = s} {k = k} {j = j} {xs = xs} {ws = ws} {sites = r} runs unsent want idle) q = due_accept s.units s.outside due (suc k) j xs ws r h runs unsent want idle q
   due_step due h (finish {s = s} {f = f} {j = j} {v = x} {xs = xs} {sites = r} runs a) q = due_finish s.units s.outside due f j x xs r h runs a q
@@ -227,7 +246,8 @@ counted p w l_none = 0
 counted p w (l_more {t = t} {e = e} q l) = counts p w e t + counted p w l
 
 module _ (p : Program) (w : Weights) (n : ℕ) (args : List Word) (v : Word) (d : Main p args v) (wf : IsNumbered p n) where
-  due_legal : {s t : Scene} {es : List Event} (due : ℕ) → Fine p args s → (l : Trail p args s es t) → Due p w n (full p w args d) s.units s.outside due → After p w n (full p w args d) due (counted p w l) t.units t.outside
+  due_legal : {s t : Scene} {es : List Event} (due : ℕ) → Fine p args s → (l : Trail p args s es t) → Due p w n (full p w args d) s.units s.outside
+      due → After p w n (full p w args d) due (counted p w l) t.units t.outside
   due_legal due h l_none q = (due, omega arith, q)
   due_legal due h (l_more e l) q =
       let (rest, e1, q1) = due_step p w n args v d wf due h e q in

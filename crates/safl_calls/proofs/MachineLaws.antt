@@ -8,14 +8,16 @@ use Rattle.safl_term.specs.Readiness.{Stage, Unsent, Sent, Returned, Answer, Loo
 use Rattle.safl_term.proofs.Bridge.{back_of}
 use Rattle.safl_term.specs.Meaning.{Main, main_cost, main_calls, loops, at_function}
 use Rattle.safl_term.specs.WellFormed.{IsNumbered}
-use Rattle.safl_calls.specs.Machine.{State, Mode, Idle, Runs, Delivers, Event, Accept, Finish, Return, LoopInto, opening, is_unsent, back, says_as, says, asked_as, Enabled, accept, loop_into, fire, Legal, after}
+use Rattle.safl_calls.specs.Machine.{State, Mode, Idle, Runs, Delivers, Event, Accept, Finish, Return, LoopInto, opening, is_unsent, back, says_as}
+use Rattle.safl_calls.specs.Machine.{says, asked_as, Enabled, accept, loop_into, fire, Legal, after}
 use Rattle.safl_calls.proofs.Basics.{serves}
 use Rattle.safl_calls.specs.Starts.{event_start, starts_of, listed, goes_with}
 use Rattle.safl_calls.proofs.Numbered.{Numbered}
 use Rattle.safl_calls.proofs.Basics.{put_at}
 use Rattle.safl_calls.proofs.Bodies.{wanted_stands}
 use Rattle.safl_calls.proofs.Invariant.{Inv, inv_after, inv_fire, inv_open}
-use Rattle.safl_calls.proofs.Activities.{Activity, Free, Active, Giving, Scene, Step, accept_main, accept as step_accept, finish as step_finish, loop as step_loop, return_main, give, Trail, applied, applied_by, words_of}
+use Rattle.safl_calls.proofs.Activities.{Activity, Free, Active, Giving, Scene, Step, accept_main, accept as step_accept, finish as step_finish}
+use Rattle.safl_calls.proofs.Activities.{loop as step_loop, return_main, give, Trail, applied, applied_by, words_of}
 use Rattle.safl_calls.proofs.Picture.{own, own_at, activity, picture, trail, own_answer, own_wanted, step_of}
 use Rattle.safl_calls.proofs.PictureLaws as law
 use Rattle.safl_calls.specs.Starts.{starts_count}
@@ -108,7 +110,8 @@ module _ (C : Program) (args : List Word) (good : Numbered C) (s : State) (inv :
       let a = as_runs C s.site (s.unit (C.unit g)) g j xs r runs in
       let m = inv.member (C.unit g) g j xs a.0 in
       let unsent : s.site (suc k) ≡ Unsent = sym (own_at C s.site g k refl) ∙ ap (λ (z : ℕ → Stage). z (suc k)) a.1 ∙ un in
-      let asks : wanted (back s) xs (C.body g) (suc k) ≡ Some ws = sym (own_wanted C args good s inv (C.unit g) g j xs (suc k) a.0) ∙ ap (λ (z : ℕ → Stage). wanted (back_of z) xs (C.body g) (suc k)) a.1 ∙ want in
+      let asks : wanted (back s) xs (C.body g) (suc k) ≡ Some ws = sym (own_wanted C args good s inv (C.unit g) g j xs (suc k) a.0) ∙ ap
+      (λ (z : ℕ → Stage). wanted (back_of z) xs (C.body g) (suc k)) a.1 ∙ want in
       let stands = wanted_stands (back s) xs (C.body g) (suc k) (ap is_some asks) in
       let within = (good.own g (suc k) m.1 stands).1 in (
         ws,
@@ -126,7 +129,8 @@ module _ (C : Program) (args : List Word) (good : Numbered C) (s : State) (inv :
   enabled_of e t (give {k = k} {v = v} del) = (v, as_delivers C s.site (s.unit (unit_for C (suc k))) v (suc k) del)
 
 module _ (C : Program) (args : List Word) where
-  loop_started : (s : State) (h : ℕ) (vs : List Word) (m : Mode) (q : Answer) (f : ℕ) → q ≡ says_as C (back s) m → q ≡ LoopTo h vs → at_function f h (words_of (activity C (loop_into C s (C.unit h) m q).site ((loop_into C s (C.unit h) m q).unit (C.unit h)))) ≡ cond (h == f) (goes_with q) []
+  loop_started : (s : State) (h : ℕ) (vs : List Word) (m : Mode) (q : Answer) (f : ℕ) → q ≡ says_as C (back s) m → q ≡ LoopTo h vs → at_function f h
+      (words_of (activity C (loop_into C s (C.unit h) m q).site ((loop_into C s (C.unit h) m q).unit (C.unit h)))) ≡ cond (h == f) (goes_with q) []
   loop_started s h vs Idle q f is e = absurd (not_loop (sym is ∙ e))
     where
       not_loop : NotYet ≡ LoopTo h vs → ⊥
@@ -136,7 +140,8 @@ module _ (C : Program) (args : List Word) where
       not_loop : NotYet ≡ LoopTo h vs → ⊥
       not_loop z = grind arith
   loop_started s h vs (Runs g k ws) q f is e =
-      subst (λ z. at_function f h (words_of (activity C (loop_into C s (C.unit h) (Runs g k ws) z).site ((loop_into C s (C.unit h) (Runs g k ws) z).unit (C.unit h)))) ≡ cond (h == f) (goes_with z) []) (sym e)
+      subst (λ z. at_function f h (words_of (activity C (loop_into C s (C.unit h) (Runs g k ws) z).site
+      ((loop_into C s (C.unit h) (Runs g k ws) z).unit (C.unit h)))) ≡ cond (h == f) (goes_with z) []) (sym e)
       (ap (λ m. at_function f h (words_of (activity C (loop_into C s (C.unit h) (Runs g k ws) (LoopTo h vs)).site m))) (put_at s.unit (C.unit h) (C.unit h) (Runs h k vs) refl))
 
   start_of : (s : State) (e : Event) (f : ℕ) → Enabled C args s e → applied_by C f e (picture C (fire C args s e)) ≡ event_start C args s e f
@@ -150,7 +155,9 @@ module _ (C : Program) (args : List Word) where
   same_starts : (good : Numbered C) (s : State) (es : List Event) (inv : Inv C s) (legal : Legal C args s es) (f : ℕ) → applied C f (trail C args good s es inv legal) ≡ starts_of C args s es f
   unfolding starts_of Legal trail
   same_starts good s [] inv legal f = refl
-  same_starts good s (e ∷ es) inv legal f = ap (λ l. l ++ applied C f (trail C args good (fire C args s e) es (inv_fire C args good s e inv legal.0) legal.1)) (start_of s e f legal.0) ∙ ap (λ l. event_start C args s e f ++ l) (same_starts good (fire C args s e) es (inv_fire C args good s e inv legal.0) legal.1 f)
+  same_starts good s (e ∷ es) inv legal f = ap (λ l. l ++ applied C f
+      (trail C args good (fire C args s e) es (inv_fire C args good s e inv legal.0) legal.1)) (start_of s e f legal.0) ∙ ap
+      (λ l. event_start C args s e f ++ l) (same_starts good (fire C args s e) es (inv_fire C args good s e inv legal.0) legal.1 f)
 
 module _ (C : Program) (n : ℕ) (good : Numbered C) (wf : IsNumbered C n) (args : List Word) (es : List Event) (legal : Legal C args opening es) where
   path : Trail C args (picture C opening) es (picture C (after C args opening es))

@@ -3,7 +3,8 @@ use Rattle.std.proofs.Common.{◌≡◌, ℕ, suc, ◌+◌, ◌<◌, ◌≤◌, 
 use Rattle.std.specs.Prelude.{◌≢◌}
 use Rattle.safl_calls.proofs.Activities.{fresh}
 use Rattle.safl_term.proofs.Places.{fits_le, fits_all_le, fits_choose, place, place_in}
-use Rattle.safl_term.proofs.Shows.{Done, d_const, d_var, d_op, d_if, d_let, d_call, DoneAll, d_nil, d_cons, Tail, t_loop, t_if, t_let, Asks, a_here, a_arg, a_loop, a_op, a_cond, a_branch, a_bind, a_body, AsksIn, a_head, a_tail, done_gives, done_all_gives}
+use Rattle.safl_term.proofs.Shows.{Done, d_const, d_var, d_op, d_if, d_let, d_call, DoneAll, d_nil, d_cons, Tail, t_loop, t_if, t_let, Asks, a_here}
+use Rattle.safl_term.proofs.Shows.{a_arg, a_loop, a_op, a_cond, a_branch, a_bind, a_body, AsksIn, a_head, a_tail, done_gives, done_all_gives}
 use Rattle.safl_term.proofs.Unique.{one_value, one_list}
 use Rattle.safl_term.specs.Readiness.{Stage, Unsent, Sent, Returned}
 use Rattle.safl_term.specs.Meaning.{Gives, gives_const, gives_var, gives_op, gives_if, gives_let, gives_call, gives_loop, GivesAll, gives_nil, gives_cons, cost, costs}
@@ -43,7 +44,8 @@ abbrev pub Alike : (ℕ → Stage) → (ℕ → Stage) → ℕ → ℕ → Type 
 Alike s r lo hi = (k : ℕ) → lo ≤ k → k < hi → (n : ℕ) → if_unsent (s k) n ≡ if_unsent (r k) n
 
 mutual
-  pub owed_alike : (p : Program) (w : Weights) (s r : ℕ → Stage) (g : ℕ) (tail : Bool) (lo hi : ℕ) {env : List Word} {t : Term} {v : Word} (d : Gives p env t v) → Spans p g tail lo hi t → Alike s r lo hi → owed p w s d ≡ owed p w r d
+  pub owed_alike : (p : Program) (w : Weights) (s r : ℕ → Stage) (g : ℕ) (tail : Bool) (lo hi : ℕ) {env : List Word} {t : Term} {v : Word}
+      (d : Gives p env t v) → Spans p g tail lo hi t → Alike s r lo hi → owed p w s d ≡ owed p w r d
   owed_alike p w s r g tail lo hi gives_const x h = refl
   owed_alike p w s r g tail lo hi gives_var x h = refl
   owed_alike p w s r g tail lo hi (gives_op ds) x h = owed_all_alike p w s r g lo hi ds x h
@@ -70,7 +72,8 @@ mutual
       let first = owed_all_alike p w s r g lo hi ds x h in
       omega (arith, first)
 
-  pub owed_all_alike : (p : Program) (w : Weights) (s r : ℕ → Stage) (g lo hi : ℕ) {env : List Word} {ts : Terms} {vs : List Word} (d : GivesAll p env ts vs) → SpansAll p g lo hi ts → Alike s r lo hi → owed_all p w s d ≡ owed_all p w r d
+  pub owed_all_alike : (p : Program) (w : Weights) (s r : ℕ → Stage) (g lo hi : ℕ) {env : List Word} {ts : Terms} {vs : List Word}
+      (d : GivesAll p env ts vs) → SpansAll p g lo hi ts → Alike s r lo hi → owed_all p w s d ≡ owed_all p w r d
   owed_all_alike p w s r g lo hi gives_nil x h = refl
   owed_all_alike p w s r g lo hi (gives_cons {t = t} {ts = ts} d ds) (m, x, y) h =
       let xm = fits_le p g false lo m t x in
@@ -105,7 +108,8 @@ mutual
 abbrev pub LoopOwed : (p : Program) (w : Weights) → ℕ → List Word → Word → ℕ → Type 0
 LoopOwed p w h ws v n = (d : Gives p ws (p.body h) v) × (n ≡ w.loop h ws + owed p w fresh d)
 
-pub tail_owed : (p : Program) (w : Weights) (s : ℕ → Stage) {env : List Word} {t : Term} {h : ℕ} {ws : List Word} {v : Word} (n : ℕ) → Tail p s env t h ws → (d : Gives p env t v) → n ≡ owed p w s d → LoopOwed p w h ws v n
+pub tail_owed : (p : Program) (w : Weights) (s : ℕ → Stage) {env : List Word} {t : Term} {h : ℕ} {ws : List Word} {v : Word} (n : ℕ) → Tail p s env t
+    h ws → (d : Gives p env t v) → n ≡ owed p w s d → LoopOwed p w h ws v n
 tail_owed p w s {v = v} n (t_loop {h = h} ds) (gives_loop {us = us} ds' d') q =
     let e = (one_list p (costs p ds') (done_all_gives p s ds) ds' refl).0 in
     let z = done_all_owed p w s ds ds' in
@@ -137,7 +141,8 @@ mutual
   done_asks p s (d_call {v = v} ds e g) (a_here q) = (v, e)
   done_asks p s (d_call ds e g) (a_arg q) = done_all_asks p s ds q
 
-  pub done_all_asks : (p : Program) (s : ℕ → Stage) {env : List Word} {ts : Terms} {vs : List Word} {k : ℕ} {ws : List Word} → DoneAll p s env ts vs → AsksIn p s env ts k ws → (w : Word) × (s k ≡ Returned w)
+  pub done_all_asks : (p : Program) (s : ℕ → Stage) {env : List Word} {ts : Terms} {vs : List Word} {k : ℕ} {ws : List Word} → DoneAll p s env ts vs →
+      AsksIn p s env ts k ws → (w : Word) × (s k ≡ Returned w)
   done_all_asks p s d_nil q = elim q [ ]
   done_all_asks p s (d_cons d ds) (a_head q) = done_asks p s d q
   done_all_asks p s (d_cons d ds) (a_tail q) = done_all_asks p s ds q
@@ -174,7 +179,9 @@ marked_alike s r k lo hi m out j i l n = ap (λ y. if_unsent y n) (sym (m.others
     not_in (inr x) e = omega arith
 
 mutual
-  pub owed_call : (p : Program) (w : Weights) (s r : ℕ → Stage) (g : ℕ) (tail : Bool) (lo hi : ℕ) {env : List Word} {t : Term} {k : ℕ} {ws : List Word} {v : Word} → Asks p s env t k ws → (d : Gives p env t v) → Spans p g tail lo hi t → Marked s r k → CallOwed p w (p.callee k) ws (owed p w s d) (owed p w r d)
+  pub owed_call : (p : Program) (w : Weights) (s r : ℕ → Stage) (g : ℕ) (tail : Bool) (lo hi : ℕ) {env : List Word} {t : Term} {k : ℕ}
+      {ws : List Word} {v : Word} → Asks p s env t k ws → (d : Gives p env t v) → Spans p g tail lo hi t → Marked s r k → CallOwed p w (p.callee k) ws
+      (owed p w s d) (owed p w r d)
   owed_call p w s r g tail lo hi (a_here {f = f} {k = k} {ts = ts} ds) (gives_call {us = us} {v = v} ds' d') (e, e1, e2, lt, x) m =
       let q = (one_list p (costs p ds') (done_all_gives p s ds) ds' refl).0 in
       let due = w.accept f us + (w.finish + (w.give + owed p w fresh d')) in
@@ -216,7 +223,8 @@ mutual
       let part = subst (λ o. (h : Gives p (env ++ o) b v) → CallOwed p w (p.callee k) ws (owed p w s h) (owed p w r h)) e (λ h. owed_call p w s r g tail i hi q h y m) d' in
       call_more p w (p.callee k) ws (owed p w s d') (owed p w r d') _ _ (omega (arith, rest)) part
 
-  pub owed_in : (p : Program) (w : Weights) (s r : ℕ → Stage) (g lo hi : ℕ) {env : List Word} {ts : Terms} {k : ℕ} {ws : List Word} {vs : List Word} → AsksIn p s env ts k ws → (d : GivesAll p env ts vs) → SpansAll p g lo hi ts → Marked s r k → CallOwed p w (p.callee k) ws (owed_all p w s d) (owed_all p w r d)
+  pub owed_in : (p : Program) (w : Weights) (s r : ℕ → Stage) (g lo hi : ℕ) {env : List Word} {ts : Terms} {k : ℕ} {ws : List Word} {vs : List Word} →
+      AsksIn p s env ts k ws → (d : GivesAll p env ts vs) → SpansAll p g lo hi ts → Marked s r k → CallOwed p w (p.callee k) ws (owed_all p w s d) (owed_all p w r d)
   owed_in p w s r g lo hi (a_head {ts = ts} {k = k} {ws = ws} q) (gives_cons d ds) (i, x, y) m =
       let pl = place p s g false lo i x q in
       let rest = owed_all_alike p w s r g i hi ds y (marked_alike s r k i hi m (inl pl.below)) in

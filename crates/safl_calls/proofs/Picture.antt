@@ -7,13 +7,15 @@ use Rattle.safl_term.specs.Program.{Program, unit_for}
 use Rattle.safl_term.specs.Readiness.{Stage, Unsent, Sent, Returned, back_word, Ready, LoopTo, NotYet, answer, wanted}
 use Rattle.safl_term.proofs.Bridge.{back_of}
 use Rattle.safl_term.specs.Standing.{Stands}
-use Rattle.safl_calls.specs.Machine.{State, Mode, Idle, Runs, Delivers, Event, Accept, Finish, Return, LoopInto, put, back, says_as, says, asked_as, asked, Enabled, ended, accept, finish, give_back, loop_into, fire, Legal, after}
+use Rattle.safl_calls.specs.Machine.{State, Mode, Idle, Runs, Delivers, Event, Accept, Finish, Return, LoopInto, put, back, says_as, says, asked_as}
+use Rattle.safl_calls.specs.Machine.{asked, Enabled, ended, accept, finish, give_back, loop_into, fire, Legal, after}
 use Rattle.safl_calls.proofs.Basics.{serves}
 use Rattle.safl_calls.proofs.Numbered.{Numbered}
 use Rattle.safl_calls.proofs.Basics.{put_at, put_off, some_is, cond_some, unsent_is}
 use Rattle.safl_calls.proofs.Locality.{answer_local, wanted_local}
 use Rattle.safl_calls.proofs.Invariant.{Inv, found, inv_fire}
-use Rattle.safl_calls.proofs.Activities.{fresh, Activity, Free, Active, Giving, Scene, mark, Step, accept_main, accept as step_accept, finish as step_finish, loop as step_loop, return_main, give, Trail, l_none, l_more}
+use Rattle.safl_calls.proofs.Activities.{fresh, Activity, Free, Active, Giving, Scene, mark, Step, accept_main, accept as step_accept}
+use Rattle.safl_calls.proofs.Activities.{finish as step_finish, loop as step_loop, return_main, give, Trail, l_none, l_more}
 
 -- the stages of the own sites of f
 abbrev pub own : Program → (ℕ → Stage) → ℕ → ℕ → Stage
@@ -51,7 +53,8 @@ module _ (C : Program) where
   pub own_at : (site : ℕ → Stage) (f k : ℕ) → C.caller (suc k) ≡ f → own C site f (suc k) ≡ site (suc k)
   own_at site f k e = ap (λ b. cond b (site (suc k)) Unsent) (eq-eqb (C.caller (suc k)) f e)
 
-  activity_same : (site site' : ℕ → Stage) (m : Mode) → ((f k : ℕ) (ws : List Word) → m ≡ Runs f k ws → (j : ℕ) → C.caller (suc j) ≡ f → site (suc j) ≡ site' (suc j)) → activity C site m ≡ activity C site' m
+  activity_same : (site site' : ℕ → Stage) (m : Mode) → ((f k : ℕ) (ws : List Word) → m ≡ Runs f k ws → (j : ℕ) → C.caller (suc j) ≡ f → site (suc j)
+      ≡ site' (suc j)) → activity C site m ≡ activity C site' m
   activity_same site site' Idle h = refl
   activity_same site site' (Runs f k ws) h = ap (λ (r : ℕ → Stage). Active f ws r k) (fun_ext (own_same site site' f (h f k ws refl)))
   activity_same site site' (Delivers k v) h = refl
@@ -195,7 +198,8 @@ module _ (C : Program) (args : List Word) (good : Numbered C) (s : State) (inv :
       (main_scene Sent (Runs (C.callee 0) 0 args) (Active (C.callee 0) args fresh 0) (ap (λ (r : ℕ → Stage). Active (C.callee 0) args r 0) (fun_ext start)))
       (accept_main un))
 
-  begin_site : (k : ℕ) (ws : List Word) → asked C args s (suc k) ≡ Some ws → s.unit (unit_for C (suc k)) ≡ Idle → Step C args (picture C s) (Accept (suc k)) (picture C (accept C s (suc k) (asked C args s (suc k))))
+  begin_site : (k : ℕ) (ws : List Word) → asked C args s (suc k) ≡ Some ws → s.unit (unit_for C (suc k)) ≡ Idle → Step C args (picture C s)
+      (Accept (suc k)) (picture C (accept C s (suc k) (asked C args s (suc k))))
   begin_site k ws h idle =
       let f = found C args s (suc k) ws h in
       let a = f.asks (omega arith) in
@@ -204,16 +208,20 @@ module _ (C : Program) (args : List Word) (good : Numbered C) (s : State) (inv :
       let c = cond_some _ _ ws h in
       let want = cond_some _ _ ws (sym (ap (λ m. asked_as C (back s) m g (suc k)) a.runs) ∙ c.1) in
       let apart : C.unit g ≢ e = λ q. runs_not_idle g a.serves a.args (sym a.runs ∙ ap s.unit q ∙ idle) in
-      let start = own_fresh C (put s.site (suc k) Sent) (C.callee (suc k)) (λ j from. put_off s.site (suc k) (suc j) Sent (λ q. apart (ap (λ n. C.unit (C.caller n)) q ∙ ap C.unit from)) ∙ idle_unsent e idle j (ap C.unit from)) in
+      let start = own_fresh C (put s.site (suc k) Sent) (C.callee (suc k))
+      (λ j from. put_off s.site (suc k) (suc j) Sent (λ q. apart (ap (λ n. C.unit (C.caller n)) q ∙ ap C.unit from)) ∙ idle_unsent e idle j (ap C.unit from)) in
       subst (λ o. Step C args (picture C s) (Accept (suc k)) (picture C (accept C s (suc k) o))) (sym h)
       (subst (λ t. Step C args (picture C s) (Accept (suc k)) t)
-      (moved_scene k a.serves a.args Sent (Runs (C.callee (suc k)) (suc k) ws) (Active (C.callee (suc k)) ws fresh (suc k)) a.runs apart (ap (λ (r : ℕ → Stage). Active (C.callee (suc k)) ws r (suc k)) (fun_ext start)))
+      (moved_scene k a.serves a.args Sent (Runs (C.callee (suc k)) (suc k) ws) (Active (C.callee (suc k)) ws fresh (suc k)) a.runs apart
+      (ap (λ (r : ℕ → Stage). Active (C.callee (suc k)) ws r (suc k)) (fun_ext start)))
       (step_accept (ap (activity C s.site) a.runs) (own_at C s.site g k refl ∙ f.unsent) (own_wanted (C.unit g) g a.serves a.args (suc k) a.runs ∙ want.1) (ap (activity C s.site) idle)))
 
-  begin_finish : (f k : ℕ) (ws : List Word) (v : Word) → s.unit (C.unit f) ≡ Runs f k ws → says C s (C.unit f) ≡ Ready v → Step C args (picture C s) (Finish f) (picture C (finish C s (C.unit f) (s.unit (C.unit f)) (says C s (C.unit f))))
+  begin_finish : (f k : ℕ) (ws : List Word) (v : Word) → s.unit (C.unit f) ≡ Runs f k ws → says C s (C.unit f) ≡ Ready v → Step C args (picture C s)
+      (Finish f) (picture C (finish C s (C.unit f) (s.unit (C.unit f)) (says C s (C.unit f))))
   begin_finish f k ws v runs is =
       let body : answer (back s) ws (C.body f) ≡ Ready v = sym (ap (says_as C (back s)) runs) ∙ is in
-      let end : finish C s (C.unit f) (s.unit (C.unit f)) (says C s (C.unit f)) ≡ finish C s (C.unit f) (Runs f k ws) (Ready v) = ap (λ m. finish C s (C.unit f) m (says C s (C.unit f))) runs ∙ ap (finish C s (C.unit f) (Runs f k ws)) is in
+      let end : finish C s (C.unit f) (s.unit (C.unit f)) (says C s (C.unit f)) ≡ finish C s (C.unit f) (Runs f k ws) (Ready v) = ap
+      (λ m. finish C s (C.unit f) m (says C s (C.unit f))) runs ∙ ap (finish C s (C.unit f) (Runs f k ws)) is in
       subst (λ t. Step C args (picture C s) (Finish f) (picture C t)) (sym end)
       (subst (λ t. Step C args (picture C s) (Finish f) t) (ended_scene (C.unit f) (Delivers k v) (Giving v k) refl)
       (step_finish (ap (activity C s.site) runs) (own_answer (C.unit f) f k ws runs ∙ body)))
@@ -226,9 +234,11 @@ module _ (C : Program) (args : List Word) (good : Numbered C) (s : State) (inv :
       by (Delivers k v) e = absurd (not_yet_loop h vs (sym (ap (says_as C (back s)) e) ∙ is))
       by (Runs f k ws) runs =
           let body : answer (back s) ws (C.body f) ≡ LoopTo h vs = sym (ap (says_as C (back s)) runs) ∙ is in
-          let end : loop_into C s (C.unit h) (s.unit (C.unit h)) (says C s (C.unit h)) ≡ loop_into C s (C.unit h) (Runs f k ws) (LoopTo h vs) = ap (λ m. loop_into C s (C.unit h) m (says C s (C.unit h))) runs ∙ ap (loop_into C s (C.unit h) (Runs f k ws)) is in
+          let end : loop_into C s (C.unit h) (s.unit (C.unit h)) (says C s (C.unit h)) ≡ loop_into C s (C.unit h) (Runs f k ws) (LoopTo h vs) = ap
+          (λ m. loop_into C s (C.unit h) m (says C s (C.unit h))) runs ∙ ap (loop_into C s (C.unit h) (Runs f k ws)) is in
           subst (λ t. Step C args (picture C s) (LoopInto h) (picture C t)) (sym end)
-          (subst (λ t. Step C args (picture C s) (LoopInto h) t) (ended_scene (C.unit h) (Runs h k vs) (Active h vs fresh k) (ap (λ (r : ℕ → Stage). Active h vs r k) (fun_ext (ended_fresh (C.unit h) h refl))))
+          (subst (λ t. Step C args (picture C s) (LoopInto h) t) (ended_scene (C.unit h) (Runs h k vs) (Active h vs fresh k)
+          (ap (λ (r : ℕ → Stage). Active h vs r k) (fun_ext (ended_fresh (C.unit h) h refl))))
           (step_loop (ap (activity C s.site) runs) (own_answer (C.unit h) f k ws runs ∙ body)))
 
   begin_return : (k : ℕ) (v : Word) → s.unit (unit_for C k) ≡ Delivers k v → Step C args (picture C s) (Return k) (picture C (give_back C s k (Delivers k v)))

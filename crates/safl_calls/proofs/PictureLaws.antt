@@ -14,7 +14,8 @@ use Rattle.safl_calls.proofs.Progress.{progress, over}
 use Rattle.safl_calls.specs.Machine.{Event, Accept, Finish, Return, LoopInto}
 use Rattle.safl_term.proofs.Unique.{one_value}
 use Rattle.safl_term.specs.Readiness.{Stage, Returned}
-use Rattle.safl_term.specs.Meaning.{Main, main_cost, main_calls, at_function, calls, calls_all, Gives, GivesAll, gives_const, gives_var, gives_op, gives_if, gives_let, gives_call, gives_loop, gives_nil, gives_cons, cost, costs, loops, loops_all}
+use Rattle.safl_term.specs.Meaning.{Main, main_cost, main_calls, at_function, calls, calls_all, Gives, GivesAll, gives_const, gives_var, gives_op}
+use Rattle.safl_term.specs.Meaning.{gives_if, gives_let, gives_call, gives_loop, gives_nil, gives_cons, cost, costs, loops, loops_all}
 use Rattle.safl_term.specs.Program.{Program}
 use Rattle.safl_term.specs.Terms.{Term}
 use Rattle.safl_term.specs.WellFormed.{IsNumbered}
@@ -57,20 +58,24 @@ one_meaning p args v w d e = let q = one_value p (cost p e) d e refl in (q.0, om
 main_value : (p : Program) (args : List Word) (U : _) (o : Stage) (v : Word) → o ≡ Returned v → Outside p args U o → Main p args v
 main_value p args U o v e h = subst (Outside p args U) e h
 
-pub right : (p : Program) (n : ℕ) → IsNumbered p n → (args : List Word) (events : List Event) (s : Scene) (v : Word) → Trail p args opening events s → s.outside ≡ Returned v → (d : Main p args v) × (length events + 2 * loops p d ≡ 3 * main_cost p args d)
+pub right : (p : Program) (n : ℕ) → IsNumbered p n → (args : List Word) (events : List Event) (s : Scene) (v : Word) → Trail p args opening events s →
+    s.outside ≡ Returned v → (d : Main p args v) × (length events + 2 * loops p d ≡ 3 * main_cost p args d)
 right p n wf args es s v l r =
     let h = fine_legal p n args wf (fine_opening p args) l in
     let d = main_value p args s.units s.outside v r h.main in
     let all = counted_all p ones n args v d wf v l r in
     (d, omega (arith, all, counted_ones p l, owed_ones p d))
 
-pub goes_on : (p : Program) (n : ℕ) → IsNumbered p n → (args : List Word) (events : List Event) (s : Scene) → Trail p args opening events s → ((v : Word) → s.outside ≢ Returned v) → (e : Event) × (t : Scene) × Step p args s e t
+pub goes_on : (p : Program) (n : ℕ) → IsNumbered p n → (args : List Word) (events : List Event) (s : Scene) → Trail p args opening events s →
+    ((v : Word) → s.outside ≢ Returned v) → (e : Event) × (t : Scene) × Step p args s e t
 goes_on p n wf args es s l open_ = progress p n args s wf (fine_legal p n args wf (fine_opening p args) l) open_
 
-pub stops : (p : Program) (n : ℕ) → IsNumbered p n → (args : List Word) (events : List Event) (s t : Scene) (v : Word) (e : Event) → Trail p args opening events s → s.outside ≡ Returned v → Step p args s e t → ⊥
+pub stops : (p : Program) (n : ℕ) → IsNumbered p n → (args : List Word) (events : List Event) (s t : Scene) (v : Word) (e : Event) → Trail p args
+    opening events s → s.outside ≡ Returned v → Step p args s e t → ⊥
 stops p n wf args es s t v e l r q = over p n args v wf (fine_legal p n args wf (fine_opening p args) l) r q
 
-pub bounded : (p : Program) (n : ℕ) → IsNumbered p n → (args : List Word) (events : List Event) (s : Scene) (v : Word) (d : Main p args v) → Trail p args opening events s → length events + 2 * loops p d ≤ 3 * main_cost p args d
+pub bounded : (p : Program) (n : ℕ) → IsNumbered p n → (args : List Word) (events : List Event) (s : Scene) (v : Word) (d : Main p args v) → Trail p
+    args opening events s → length events + 2 * loops p d ≤ 3 * main_cost p args d
 bounded p n wf args es s v d l =
     let most = counted_at_most p ones n args v d wf l in
     omega (arith, most, counted_ones p l, owed_ones p d)
@@ -86,8 +91,20 @@ mutual
   owed_calls p f ws (gives_op ds) = owed_calls_all p f ws ds
   owed_calls p f ws (gives_if c d) = omega (arith, owed_calls p f ws c, owed_calls p f ws d, sum_by-append (is_words ws) (calls p f c) (calls p f d))
   owed_calls p f ws (gives_let ds d) = omega (arith, owed_calls_all p f ws ds, owed_calls p f ws d, sum_by-append (is_words ws) (calls_all p f ds) (calls p f d))
-  owed_calls p f ws (gives_call {f = g} {us = us} ds d) = omega (arith, owed_calls_all p f ws ds, owed_calls p f ws d, sum_by-append (is_words ws) (calls_all p f ds) (at_function f g us ++ calls p f d), sum_by-append (is_words ws) (at_function f g us) (calls p f d))
-  owed_calls p f ws (gives_loop {h = g} {us = us} ds d) = omega (arith, owed_calls_all p f ws ds, owed_calls p f ws d, sum_by-append (is_words ws) (calls_all p f ds) (at_function f g us ++ calls p f d), sum_by-append (is_words ws) (at_function f g us) (calls p f d))
+  owed_calls p f ws (gives_call {f = g} {us = us} ds d) = omega (
+    arith,
+    owed_calls_all p f ws ds,
+    owed_calls p f ws d,
+    sum_by-append (is_words ws) (calls_all p f ds) (at_function f g us ++ calls p f d),
+    sum_by-append (is_words ws) (at_function f g us) (calls p f d),
+  )
+  owed_calls p f ws (gives_loop {h = g} {us = us} ds d) = omega (
+    arith,
+    owed_calls_all p f ws ds,
+    owed_calls p f ws d,
+    sum_by-append (is_words ws) (calls_all p f ds) (at_function f g us ++ calls p f d),
+    sum_by-append (is_words ws) (at_function f g us) (calls p f d),
+  )
 
   owed_calls_all : (p : Program) (f : ℕ) (ws : List Word) {env : List Word} {ts : _} {vs : List Word} (d : GivesAll p env ts vs) → owed_all p (at_words f ws) fresh d ≡ times ws (calls_all p f d)
   owed_calls_all p f ws gives_nil = refl
@@ -103,7 +120,8 @@ counted_calls : (p : Program) (f : ℕ) (ws : List Word) {args : List Word} {s t
 counted_calls p f ws l_none = refl
 counted_calls p f ws (l_more {t = t} {e = e} q l) = omega (arith, counts_applied p f ws e t, counted_calls p f ws l, sum_by-append (is_words ws) (applied_by p f e t) (applied p f l))
 
-pub same_calls : (p : Program) (n : ℕ) → IsNumbered p n → (args : List Word) (events : List Event) (s : Scene) (v w : Word) (d : Main p args w) (l : Trail p args opening events s) → s.outside ≡ Returned v → (f : ℕ) → IsPermutation (main_calls p args d f) (applied p f l)
+pub same_calls : (p : Program) (n : ℕ) → IsNumbered p n → (args : List Word) (events : List Event) (s : Scene) (v w : Word) (d : Main p args w)
+    (l : Trail p args opening events s) → s.outside ≡ Returned v → (f : ℕ) → IsPermutation (main_calls p args d f) (applied p f l)
 same_calls p n wf args es s v w d l r f =
     counts_permute (main_calls p args d f) (applied p f l) (λ ws.
     let all = counted_all p (at_words f ws) n args w d wf v l r in
@@ -142,7 +160,8 @@ counted_starting p l_none = refl
 counted_starting p (l_more {t = t} {e = e} q l) = omega (arith, counts_start p e t, counted_starting p l)
 
 -- where main has returned, the starts are the calls
-pub started : (p : Program) (n : ℕ) → IsNumbered p n → (args : List Word) (events : List Event) (s : Scene) (v w : Word) (d : Main p args w) → Trail p args opening events s → s.outside ≡ Returned v → starts_count events ≡ main_cost p args d
+pub started : (p : Program) (n : ℕ) → IsNumbered p n → (args : List Word) (events : List Event) (s : Scene) (v w : Word) (d : Main p args w) → Trail p
+    args opening events s → s.outside ≡ Returned v → starts_count events ≡ main_cost p args d
 started p n wf args es s v w d l r =
     let all = counted_all p starting n args w d wf v l r in
     omega (arith, all, counted_starting p l, owed_starting p d)
@@ -176,12 +195,14 @@ unfolding moves_count
 counted_moving p l_none = refl
 counted_moving p (l_more {t = t} {e = e} q l) = omega (arith, counts_move p e t, counted_moving p l)
 
-pub few_moves : (p : Program) (n : ℕ) → IsNumbered p n → (args : List Word) (events : List Event) (s : Scene) (v : Word) (d : Main p args v) → Trail p args opening events s → moves_count events + loops p d ≤ 2 * main_cost p args d
+pub few_moves : (p : Program) (n : ℕ) → IsNumbered p n → (args : List Word) (events : List Event) (s : Scene) (v : Word) (d : Main p args v) → Trail p
+    args opening events s → moves_count events + loops p d ≤ 2 * main_cost p args d
 few_moves p n wf args es s v d l =
     let most = counted_at_most p moving n args v d wf l in
     omega (arith, most, counted_moving p l, owed_moving p d)
 
-pub all_moves : (p : Program) (n : ℕ) → IsNumbered p n → (args : List Word) (events : List Event) (s : Scene) (v w : Word) (d : Main p args w) → Trail p args opening events s → s.outside ≡ Returned v → moves_count events + loops p d ≡ 2 * main_cost p args d
+pub all_moves : (p : Program) (n : ℕ) → IsNumbered p n → (args : List Word) (events : List Event) (s : Scene) (v w : Word) (d : Main p args w) → Trail
+    p args opening events s → s.outside ≡ Returned v → moves_count events + loops p d ≡ 2 * main_cost p args d
 all_moves p n wf args es s v w d l r =
     let all = counted_all p moving n args w d wf v l r in
     omega (arith, all, counted_moving p l, owed_moving p d)

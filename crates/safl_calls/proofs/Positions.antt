@@ -7,7 +7,9 @@ use Rattle.safl_calls.proofs.Numbered.{Numbered}
 use Rattle.safl_calls.specs.Machine.{State, back}
 use Rattle.safl_calls.proofs.Basics.{serves}
 use Rattle.safl_calls.proofs.Effects.{Before, BeforeIn}
-use Rattle.safl_calls.proofs.Interference.{Sound, SoundIn, sound_c, sound_x, sound_y, sound_bs, sound_body, sound_args, sound_head, sound_rest, select_of, one_branch, with_of, some_at, Live, sent_live, wanted_here, sound_at, stands_at, caller_lt, climb}
+use Rattle.safl_calls.proofs.Interference.{Sound, SoundIn, sound_c, sound_x, sound_y, sound_bs, sound_body, sound_args, sound_head, sound_rest}
+use Rattle.safl_calls.proofs.Interference.{select_of, one_branch, with_of, some_at, Live, sent_live, wanted_here, sound_at, stands_at, caller_lt}
+use Rattle.safl_calls.proofs.Interference.{climb}
 use Rattle.safl_sites.specs.Conflicts.{Reaches, Here, Through, ReachesIn, Apart, ApartIn, Conflict}
 use Rattle.safl_term.proofs.Once.{Once, OnceIn}
 use Rattle.safl_term.specs.Readiness.{select, with_all, answer, answers, wanted, wanted_in, Sent, Returned}
@@ -46,7 +48,11 @@ module _ (C : Program) (b : ℕ → Option Word) (a c k : ℕ) (apart : a ≢ c)
         ⊎_elim
         (λ da. ⊎_elim
         (λ dc. ⊎_elim (λ z. inl (inl z)) (λ z. inr (inr (inl z))) (place env d once.0 hd da dc))
-        (λ bc. inr (inl (wanted_stands b env d a da, ⊎_elim (λ l. inl (wanted_stands b env x c l)) (λ l. inr (wanted_stands b env y c l)) (select_of (answer b env d) (wanted b env x c) (wanted b env y c) bc).1)))
+        (λ bc. inr (inl (
+          wanted_stands b env d a da,
+          ⊎_elim (λ l. inl (wanted_stands b env x c l)) (λ l. inr (wanted_stands b env y c l))
+              (select_of (answer b env d) (wanted b env x c) (wanted b env y c) bc).1,
+        )))
         pc)
         (λ ba. ⊎_elim
         (λ dc. absurd (not_c (settled b env d once.0 hd (answer b env d) refl (select_of (answer b env d) (wanted b env x a) (wanted b env y a) ba).0 c dc)))
@@ -158,7 +164,8 @@ module _ (C : Program) (good : Numbered C) (s : State) (inv : Inv C s) where
     find_same : (a : ℕ) → Live C s a → s.site a ≡ Sent → Under C p a → C.unit (C.caller a) ≡ C.unit (C.caller k) → Result
     find_same a la sent under e =
         let w = wanted_here C good s inv (C.caller k) ak.serves ak.args a ak.runs e la.asks in
-        let got = place C (back s) k a p (λ is. returned_sent v (sym back_k ∙ ap s.site is ∙ sent)) la.out (under_reaches C p a under) ak.args (C.body (C.caller k)) (good.once (C.caller k) ltk) (sound_at C good s inv (C.caller k) ak.serves ak.args ltk ak.runs) (ap is_some ak.asks) w.1 in
+        let got = place C (back s) k a p (λ is. returned_sent v (sym back_k ∙ ap s.site is ∙ sent)) la.out (under_reaches C p a under) ak.args
+        (C.body (C.caller k)) (good.once (C.caller k) ltk) (sound_at C good s inv (C.caller k) ak.serves ak.args ltk ak.runs) (ap is_some ak.asks) w.1 in
         ⊎_elim
         (λ z. inl (record { other = other; same = same; body = C.caller k; is_body = ltk; apart = z }))
         (λ z. inr (record { site = a; pos = la.pos; own = w.0; sent = sent; under = under; before = z }))
@@ -172,15 +179,18 @@ module _ (C : Program) (good : Numbered C) (s : State) (inv : Inv C s) where
         (λ t st. Through c.0 (C.caller k) st ltk (sym c.2) (Here stands_k)) (under_reaches C p a under) (omega arith) in
         inl (record { other = other; same = same; body = g.0; is_body = g.1; apart = g.2 })
 
-    find_step : (n : ℕ) → ((a : ℕ) → C.unit (C.caller a) < C.unit (C.caller k) → Live C s a → s.site a ≡ Sent → Under C p a → unit_for C a < C.unit (C.caller k) → C.unit (C.caller k) ≤ n + C.unit (C.caller a) → Result) → Finds n
-    find_step n next a la sent under lower bound = ⊎_elim (λ e. find_same a la sent under e) (λ d. ⊎_elim (λ lt. next a lt la sent under lower bound) (λ gt. find_above a la under lower gt) d) (cases_order (C.unit (C.caller a)) (C.unit (C.caller k)))
+    find_step : (n : ℕ) → ((a : ℕ) → C.unit (C.caller a) < C.unit (C.caller k) → Live C s a → s.site a ≡ Sent → Under C p a → unit_for C a < C.unit
+        (C.caller k) → C.unit (C.caller k) ≤ n + C.unit (C.caller a) → Result) → Finds n
+    find_step n next a la sent under lower bound = ⊎_elim (λ e. find_same a la sent under e)
+        (λ d. ⊎_elim (λ lt. next a lt la sent under lower bound) (λ gt. find_above a la under lower gt) d) (cases_order (C.unit (C.caller a)) (C.unit (C.caller k)))
 
     find : (n : ℕ) → Finds n
     find zero = find_step zero (λ a lt la sent under lower bound. absurd (omega (arith, lt, bound)))
     find (suc n) = find_step (suc n) (λ a lt la sent under lower bound.
         let q = served a k la.asks lt ltk in
         let e = good.earlier q.0 q.1.pos q.1.within in
-        find n q.0 q.1 q.3 (Below (C.caller a) (caller_lt C good s inv a la) (sym q.2) (under_reaches C p a under (C.body (C.caller a)) (stands_at C good s inv a la))) (omega (arith, q.2, lt)) (omega (arith, e, q.2, bound)))
+        find n q.0 q.1 q.3 (Below (C.caller a) (caller_lt C good s inv a la) (sym q.2)
+        (under_reaches C p a under (C.body (C.caller a)) (stands_at C good s inv a la))) (omega (arith, q.2, lt)) (omega (arith, e, q.2, bound)))
 
     pub found_after : (lp : Live C s p) → s.site p ≡ Sent → Conflict C k p ⊎ After C s k p
     found_after lp sent =

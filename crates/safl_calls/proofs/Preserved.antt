@@ -12,7 +12,9 @@ use Rattle.safl_term.specs.Meaning.{Gives}
 use Rattle.safl_term.specs.Program.{Program}
 use Rattle.safl_term.specs.WellFormed.{IsNumbered}
 use Rattle.safl_word.specs.Words.{Word}
-use Rattle.safl_calls.proofs.Holds.{Asked, At, Holds, NotReturned, NotRunning, Running, Serves, delivering_at, frame, fresh_not, fresh_unsent, from_outside, from_site, holds_finish, holds_loop, not_sent, outside_kept, put_other, put_same, running_at, running_wants}
+use Rattle.safl_calls.proofs.Holds.{Asked, At, Holds, NotReturned, NotRunning, Running, Serves, delivering_at, frame, fresh_not, fresh_unsent}
+use Rattle.safl_calls.proofs.Holds.{from_outside, from_site, holds_finish, holds_loop, not_sent, outside_kept, put_other, put_same, running_at}
+use Rattle.safl_calls.proofs.Holds.{running_wants}
 
 mark_serves : (y : Activity) (i k : ℕ) (x : Stage) → Serves y k → Serves (mark y i x) k
 mark_serves Free i k x q = q
@@ -37,7 +39,8 @@ same_word : (v w : Word) → Returned v ≡ Returned w → v ≡ w
 same_word v w e = cc
 
 -- a caller's site i comes into another state, and so does the unit of its callee
-module _ (p : Program) (n : ℕ) (args : List Word) (U : ℕ → Activity) (o : Stage) (c e i : ℕ) (x : Stage) (y : Activity) (wf : IsNumbered p n) (apart : c ≢ e) (not_returned : NotReturned i (U c)) (not_running : NotRunning (U e)) where
+module _ (p : Program) (n : ℕ) (args : List Word) (U : ℕ → Activity) (o : Stage) (c e i : ℕ) (x : Stage) (y : Activity) (wf : IsNumbered p n)
+    (apart : c ≢ e) (not_returned : NotReturned i (U c)) (not_running : NotRunning (U e)) where
   moved_at_c : (u : ℕ) → u ≡ c → (moved U c e i x y) u ≡ mark (U u) i x
   moved_at_c u q =
       put_other (put U c (mark (U c) i x)) e u y (λ z. apart (sym q ∙ z)) ∙ put_same U c u (mark (U c) i x) q ∙ ap (λ z. mark (U z) i x) (sym q)
@@ -72,7 +75,8 @@ module _ (p : Program) (n : ℕ) (args : List Word) (U : ℕ → Activity) (o : 
       (cases_eq u c)
 
   -- the units that are neither
-  moved_rest : (u : ℕ) → p.unit (p.callee i) ≡ e → ((k : ℕ) → 1 ≤ k → p.unit (p.caller k) ≡ u → Serves (U e) k → ⊥) → u ≢ c → u ≢ e → At p args U o u (U u) → At p args (moved U c e i x y) o u ((moved U c e i x y) u)
+  moved_rest : (u : ℕ) → p.unit (p.callee i) ≡ e → ((k : ℕ) → 1 ≤ k → p.unit (p.caller k) ≡ u → Serves (U e) k → ⊥) → u ≢ c → u ≢ e → At p args U o u
+      (U u) → At p args (moved U c e i x y) o u ((moved U c e i x y) u)
   moved_rest u home never q r h =
       subst (At p args (moved U c e i x y) o u) (sym (moved_at_other u q r))
       (frame p n args U (moved U c e i x y) o o u (U u) wf
@@ -110,14 +114,17 @@ module _ (p : Program) (n : ℕ) (args : List Word) (U : ℕ → Activity) (o : 
       } in
       subst (At p args (moved U c e i x y) o c) (sym (moved_at_c c refl ∙ ap (λ z. mark z i x) runs)) new
 
-pub asked_site : (p : Program) (n : ℕ) (args : List Word) (U : ℕ → Activity) (o : Stage) (k : ℕ) (ws : List Word) → k ≢ 0 → Asked p args U o k ws → (j : ℕ) × (xs : List Word) × (s : ℕ → Stage) × (U (p.unit (p.caller k)) ≡ Active (p.caller k) xs s j) × (s k ≡ Sent) × Asks p s xs (p.body (p.caller k)) k ws
+pub asked_site : (p : Program) (n : ℕ) (args : List Word) (U : ℕ → Activity) (o : Stage) (k : ℕ) (ws : List Word) → k ≢ 0 → Asked p args U o k ws →
+    (j : ℕ) × (xs : List Word) × (s : ℕ → Stage) × (U (p.unit (p.caller k)) ≡ Active (p.caller k) xs s j) × (s k ≡ Sent) × Asks p s xs (p.body (p.caller k)) k ws
 asked_site p n args U o k ws z (from_outside q e) = absurd (z q)
 asked_site p n args U o k ws z (from_site {j = j} {xs = xs} {s = s} eu es a) = (j, xs, s, eu, es, a)
 
 sent_unsent : (x : Stage) → x ≡ Unsent → x ≡ Sent → ⊥
 sent_unsent x e q = cc
 
-pub holds_accept : (p : Program) (n : ℕ) (args : List Word) (U : ℕ → Activity) (o : Stage) (k j : ℕ) (xs ws : List Word) (s : ℕ → Stage) → IsNumbered p n → Holds p args U o → U (p.unit (p.caller k)) ≡ Active (p.caller k) xs s j → s k ≡ Unsent → wanted (back_of s) xs (p.body (p.caller k)) k ≡ Some ws → U (p.unit (p.callee k)) ≡ Free
+pub holds_accept : (p : Program) (n : ℕ) (args : List Word) (U : ℕ → Activity) (o : Stage) (k j : ℕ) (xs ws : List Word) (s : ℕ → Stage) → IsNumbered
+    p n → Holds p args U o → U (p.unit (p.caller k)) ≡ Active (p.caller k) xs s j → s k ≡ Unsent → wanted (back_of s) xs (p.body (p.caller k)) k ≡
+    Some ws → U (p.unit (p.callee k)) ≡ Free
     → Holds p args (moved U (p.unit (p.caller k)) (p.unit (p.callee k)) k Sent (Active (p.callee k) ws fresh k)) o
 holds_accept p n args U o k j xs ws s wf h runs unsent want idle =
     let g = p.caller k in
@@ -150,7 +157,8 @@ holds_accept p n args U o k j xs ws s wf h runs unsent want idle =
     } in
     record {
       at = λ u. ⊎_elim
-          (λ z. subst (λ v. At p args (moved U c e k Sent y) o v (moved U c e k Sent y v)) (sym z) (subst (At p args (moved U c e k Sent y) o e) (sym (moved_at_e p n args U o c e k Sent y wf apart not_returned not_running e refl)) callee))
+          (λ z. subst (λ v. At p args (moved U c e k Sent y) o v (moved U c e k Sent y v)) (sym z)
+          (subst (At p args (moved U c e k Sent y) o e) (sym (moved_at_e p n args U o c e k Sent y wf apart not_returned not_running e refl)) callee))
           (λ z. ⊎_elim
           (λ l. subst (λ v. At p args (moved U c e k Sent y) o v (moved U c e k Sent y v)) (sym l) caller)
           (λ l. moved_rest p n args U o c e k Sent y wf apart not_returned not_running u refl (λ i a b m. free i m) l z (h.at u))
@@ -186,7 +194,8 @@ holds_give p n args U o k v nz wf h del =
           (λ l. moved_rest p n args U o c e k (Returned v) Free wf apart not_returned not_running u refl (λ i a b m. l (sym b ∙ ap (λ w. p.unit (p.caller w)) (sym (served i m)))) l z (h.at u))
           (cases_eq u c))
           (cases_eq u e);
-      main = outside_kept p args U (moved U c e k (Returned v) Free) o (λ z. moved_served p n args U o c e k (Returned v) Free wf apart not_returned not_running (p.unit (p.callee 0)) 0 (λ m. nz (served 0 m)) z) h.main;
+      main = outside_kept p args U (moved U c e k (Returned v) Free) o
+          (λ z. moved_served p n args U o c e k (Returned v) Free wf apart not_returned not_running (p.unit (p.callee 0)) 0 (λ m. nz (served 0 m)) z) h.main;
     }
 
 -- while the call from outside is not in flight, all units are idle
@@ -214,7 +223,8 @@ all_idle p n args U o wf h out (suc m) u le = by_unit (U u) refl (λ w l. all_id
 unsent_not_sent : (o : Stage) → o ≡ Unsent → o ≢ Sent
 unsent_not_sent o e q = cc
 
-pub holds_main : (p : Program) (n : ℕ) (args : List Word) (U : ℕ → Activity) (o : Stage) → IsNumbered p n → Holds p args U o → o ≡ Unsent → Holds p args (put U (p.unit (p.callee 0)) (Active (p.callee 0) args fresh 0)) Sent
+pub holds_main : (p : Program) (n : ℕ) (args : List Word) (U : ℕ → Activity) (o : Stage) → IsNumbered p n → Holds p args U o → o ≡ Unsent → Holds p
+    args (put U (p.unit (p.callee 0)) (Active (p.callee 0) args fresh 0)) Sent
 holds_main p n args U o wf h e =
     let m = p.unit (p.callee 0) in
     let y : Activity = Active (p.callee 0) args fresh 0 in
@@ -243,7 +253,8 @@ outside_words p n args U o k ws wf z (from_site {s = s} eu es a) =
     let pl = place p s (p.caller k) true b.0 b.1 b.3 a in
     absurd (omega (arith, pl.above, b.2))
 
-pub holds_return : (p : Program) (n : ℕ) (args : List Word) (U : ℕ → Activity) (o : Stage) (v : Word) → IsNumbered p n → Holds p args U o → U (p.unit (p.callee 0)) ≡ Giving v 0 → Holds p args (put U (p.unit (p.callee 0)) Free) (Returned v)
+pub holds_return : (p : Program) (n : ℕ) (args : List Word) (U : ℕ → Activity) (o : Stage) (v : Word) → IsNumbered p n → Holds p args U o → U
+    (p.unit (p.callee 0)) ≡ Giving v 0 → Holds p args (put U (p.unit (p.callee 0)) Free) (Returned v)
 holds_return p n args U o v wf h del =
     let m = p.unit (p.callee 0) in
     let d = delivering_at p args U o m v 0 h del in
@@ -251,7 +262,9 @@ holds_return p n args U o v wf h del =
     record {
       at = λ u. ⊎_elim
           (λ z. subst (At p args (put U m Free) (Returned v) u) (sym (put_same U m u Free z)) tt)
-          (λ z. subst (At p args (put U m Free) (Returned v) u) (sym (put_other U m u Free z)) (frame p n args U (put U m Free) o (Returned v) u (U u) wf (λ k ws home q. asked_on k ws u home z q) (λ k l i q. served_on k (p.unit (p.callee k)) l q) (h.at u)))
+          (λ z. subst (At p args (put U m Free) (Returned v) u) (sym (put_other U m u Free z))
+          (frame p n args U (put U m Free) o (Returned v) u (U u) wf (λ k ws home q. asked_on k ws u home z q)
+          (λ k l i q. served_on k (p.unit (p.callee k)) l q) (h.at u)))
           (cases_eq u m);
       main = subst (λ ws. Gives p ws (p.body (p.callee 0)) v) same d.value;
     }

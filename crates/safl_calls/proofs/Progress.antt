@@ -46,12 +46,20 @@ module _ (p : Program) (n : ℕ) (args : List Word) (s : Scene) (wf : IsNumbered
       let d = delivering_at p args s.units s.outside u v (suc k) h e in
       (Return (suc k), _, give (ap s.units d.home ∙ e))
 
-  accept_enabled : (u f j k : ℕ) (xs ws : List Word) (r : ℕ → Stage) → s.units u ≡ Active f xs r j → p.unit f ≡ u → p.caller k ≡ f → 1 ≤ k → r k ≡ Unsent → wanted (back_of r) xs (p.body f) k ≡ Some ws → s.units (p.unit (p.callee k)) ≡ Free → Enabled p args s
+  accept_enabled : (u f j k : ℕ) (xs ws : List Word) (r : ℕ → Stage) → s.units u ≡ Active f xs r j → p.unit f ≡ u → p.caller k ≡ f → 1 ≤ k → r k ≡
+      Unsent → wanted (back_of r) xs (p.body f) k ≡ Some ws → s.units (p.unit (p.callee k)) ≡ Free → Enabled p args s
   accept_enabled u f j zero xs ws r e own from pos unsent want idle = absurd (omega arith)
-  accept_enabled u f j (suc k) xs ws r e own from pos unsent want idle =
-      (Accept (suc k), _, accept {xs = xs} {ws = ws} {sites = r} (ap (λ g. s.units (p.unit g)) from ∙ ap s.units own ∙ e ∙ ap (λ g. Active g xs r j) (sym from)) unsent (subst (λ g. wanted (back_of r) xs (p.body g) (suc k) ≡ Some ws) (sym from) want) idle)
+  accept_enabled u f j (suc k) xs ws r e own from pos unsent want idle = (
+    Accept (suc k),
+    _,
+    accept {xs = xs} {ws = ws} {sites = r}
+        (ap (λ g. s.units (p.unit g)) from ∙ ap s.units own ∙ e ∙ ap (λ g. Active g xs r j) (sym from)) unsent
+        (subst (λ g. wanted (back_of r) xs (p.body g) (suc k) ≡ Some ws) (sym from) want) idle,
+  )
 
-  runs_enabled : (u f j : ℕ) (xs : List Word) (r : ℕ → Stage) → s.units u ≡ Active f xs r j → Running p args s.units s.outside u f xs r j → ((w : ℕ) → w < u → Busy (s.units w) → Enabled p args s) → (x : Answer) (l : Wants) → answer (back_of r) xs (p.body f) ≡ x → wanted (back_of r) xs (p.body f) ≡ l → View p r xs true (p.body f) x l → Enabled p args s
+  runs_enabled : (u f j : ℕ) (xs : List Word) (r : ℕ → Stage) → s.units u ≡ Active f xs r j → Running p args s.units s.outside u f xs r j →
+      ((w : ℕ) → w < u → Busy (s.units w) → Enabled p args s) → (x : Answer) (l : Wants) → answer (back_of r) xs (p.body f) ≡ x → wanted (back_of r)
+      xs (p.body f) ≡ l → View p r xs true (p.body f) x l → Enabled p args s
   runs_enabled u f j xs r e q below (Ready v) l a m (ready d i) = (Finish f, _, finish (ap s.units q.own ∙ e) a)
   runs_enabled u f j xs r e q below (LoopTo g ws) l a m (loops t d i) =
       let b = wf.bodies f in
@@ -63,7 +71,8 @@ module _ (p : Program) (n : ℕ) (args : List Word) (s : Scene) (wf : IsNumbered
       (λ idle. accept_enabled u f j k xs ws r e q.own pl.caller (omega (arith, b.2, pl.above)) unsent (ap (λ z. z k) m ∙ c) idle)
       (λ busy. below (p.unit (p.callee k)) (omega (arith, pl.lower, q.own)) busy)
     where
-      by_callee : (x : Activity) → s.units (p.unit (p.callee k)) ≡ x → (s.units (p.unit (p.callee k)) ≡ Free → Enabled p args s) → (Busy (s.units (p.unit (p.callee k))) → Enabled p args s) → Enabled p args s
+      by_callee : (x : Activity) → s.units (p.unit (p.callee k)) ≡ x → (s.units (p.unit (p.callee k)) ≡ Free → Enabled p args s) →
+          (Busy (s.units (p.unit (p.callee k))) → Enabled p args s) → Enabled p args s
       by_callee Free z f g = f z
       by_callee (Active _ _ _ _) z f g = g (subst Busy (sym z) tt)
       by_callee (Giving _ _) z f g = g (subst Busy (sym z) tt)
@@ -103,7 +112,8 @@ idle_not_busy x y e q b = subst Busy (sym q ∙ e) b
 
 pub over : (p : Program) (n : ℕ) (args : List Word) {s t : Scene} {e : Event} (v : Word) → IsNumbered p n → Fine p args s → s.outside ≡ Returned v → Step p args s e t → ⊥
 over p n args v wf h r (accept_main {s = s} e) = returned_not_unsent s.outside v r e
-over p n args v wf h r (accept {s = s} {k = k} runs unsent want idle) = idle_not_busy _ _ (all_idle p n args s.units s.outside wf h (returned_not_sent s.outside v r) n (p.unit (p.caller (suc k))) (omega arith)) runs tt
+over p n args v wf h r (accept {s = s} {k = k} runs unsent want idle) = idle_not_busy _ _
+    (all_idle p n args s.units s.outside wf h (returned_not_sent s.outside v r) n (p.unit (p.caller (suc k))) (omega arith)) runs tt
 over p n args v wf h r (finish {s = s} {f = f} runs a) = idle_not_busy _ _ (all_idle p n args s.units s.outside wf h (returned_not_sent s.outside v r) n (p.unit f) (omega arith)) runs tt
 over p n args v wf h r (loop {s = s} {h = g} runs a) = idle_not_busy _ _ (all_idle p n args s.units s.outside wf h (returned_not_sent s.outside v r) n (p.unit g) (omega arith)) runs tt
 over p n args v wf h r (return_main {s = s} del) = idle_not_busy _ _ (all_idle p n args s.units s.outside wf h (returned_not_sent s.outside v r) n (p.unit (p.callee 0)) (omega arith)) del tt

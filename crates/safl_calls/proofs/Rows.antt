@@ -25,4 +25,19 @@ returned = refl
 
 legal : Legal climbing (byte 1 ∷ []) opening events
 unfolding Legal after answer wanted
-legal = ((byte 1 ∷ [], refl, refl), ((byte 1 ∷ [], refl, refl), ((1, byte 1 ∷ [], byte 2, refl, refl), ((byte 2, refl), ((byte 2 ∷ [], refl), ((byte 2 ∷ [], refl, refl), ((1, byte 2 ∷ [], byte 3, refl, refl), ((byte 3, refl), ((0, byte 2 ∷ [], byte 2, refl, refl), ((byte 2, refl), tt))))))))))
+legal = (
+  (byte 1 ∷ [], refl, refl),
+  (
+    (byte 1 ∷ [], refl, refl),
+    (
+      (1, byte 1 ∷ [], byte 2, refl, refl),
+      (
+        (byte 2, refl),
+        (
+          (byte 2 ∷ [], refl),
+          ((byte 2 ∷ [], refl, refl), ((1, byte 2 ∷ [], byte 3, refl, refl), ((byte 3, refl), ((0, byte 2 ∷ [], byte 2, refl, refl), ((byte 2, refl), tt))))),
+        ),
+      ),
+    ),
+  ),
+)

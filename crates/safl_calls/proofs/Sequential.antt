@@ -56,7 +56,8 @@ module _ (C : Program) (good : Numbered C) (s : State) (inv : Inv C s) where
   Rests u = (j : ℕ) → s.site (suc j) ≡ Sent → C.unit (C.caller (suc j)) ≢ u
 
   -- from a sent site of a lower unit a sent site is reached across a unit that rests
-  across : (n u a : ℕ) → u ≤ C.unit C.main → Rests u → s.site (suc a) ≡ Sent → unit_for C (suc a) < u → u ≤ n + unit_for C (suc a) → (p : ℕ) × (s.site (suc p) ≡ Sent) × (unit_for C (suc p) < u) × (u < C.unit (C.caller (suc p)))
+  across : (n u a : ℕ) → u ≤ C.unit C.main → Rests u → s.site (suc a) ≡ Sent → unit_for C (suc a) < u → u ≤ n + unit_for C (suc a) → (p : ℕ) ×
+      (s.site (suc p) ≡ Sent) × (unit_for C (suc p) < u) × (u < C.unit (C.caller (suc p)))
   across zero u a top rests sent lt le = absurd (omega (arith, lt, le))
   across (suc n) u a top rests sent lt le = ⊎_elim
       (λ same. absurd (rests a sent same))

@@ -1,5 +1,6 @@
 -- Where the word of a site no longer matters.
-use Rattle.std.proofs.Common.{◌≡◌, ℕ, zero, suc, List, [], ◌∷◌, ◌++◌, length, length-append, Option, Some, None, Bool, true, false, cond, ◌||◌, ◌==◌, is_some, refl, sym, ap, ◌∙◌, subst, inl, inr, arith}
+use Rattle.std.proofs.Common.{◌≡◌, ℕ, zero, suc, List, [], ◌∷◌, ◌++◌, length, length-append, Option, Some, None, Bool, true, false, cond, ◌||◌, ◌==◌}
+use Rattle.std.proofs.Common.{is_some, refl, sym, ap, ◌∙◌, subst, inl, inr, arith}
 use Rattle.std.proofs.Math.Path.{fun_ext}
 use Rattle.std.proofs.lemmas.Bool.{eqb-false, false≢true, true≢false, or_parts, false_from_ne_true}
 use Rattle.safl_sites.specs.Kept.{bool_at, feeds, feeds_any, feeds_each, Uses, UsesIn, Decides, DecidesIn}
@@ -71,7 +72,8 @@ all_agree k fe (Cons t ts) (x ∷ xs) (y ∷ ys) e h =
 all_agree k fe (Cons t ts) [] ys e h = absurd h
 all_agree k fe (Cons t ts) (x ∷ xs) [] e h = absurd h
 
-apply_alike : (p : Primitive) (f : Bool) (fs : List Bool) (o q : Option (List Word)) → AlikeAll fs o q → ((vs ws : List Word) → f ≡ false → AgreeOn fs vs ws → vs ≡ ws) → Alike f (apply_to p o) (apply_to p q)
+apply_alike : (p : Primitive) (f : Bool) (fs : List Bool) (o q : Option (List Word)) → AlikeAll fs o q →
+    ((vs ws : List Word) → f ≡ false → AgreeOn fs vs ws → vs ≡ ws) → Alike f (apply_to p o) (apply_to p q)
 apply_alike p f fs (Some vs) (Some ws) h all = λ e. ap (apply_prim p) (all vs ws e h)
 apply_alike p f fs None None h all = tt
 apply_alike p f fs None (Some ws) h all = absurd h
@@ -110,7 +112,8 @@ select_alike fd fx fy (LoopTo i vs) NotYet x x' y y' none h hx hy = absurd h
 select_alike fd fx fy NotYet (Ready w) x x' y y' none h hx hy = absurd h
 select_alike fd fx fy NotYet (LoopTo j ws) x x' y y' none h hx hy = absurd h
 
-with_alike : (f : Bool) (fs : List Bool) (o q : Option (List Word)) (g g' : List Word → Answer) → AlikeAll fs o q → ((vs ws : List Word) → AgreeOn fs vs ws → Alike f (g vs) (g' ws)) → Alike f (with_all o NotYet g) (with_all q NotYet g')
+with_alike : (f : Bool) (fs : List Bool) (o q : Option (List Word)) (g g' : List Word → Answer) → AlikeAll fs o q →
+    ((vs ws : List Word) → AgreeOn fs vs ws → Alike f (g vs) (g' ws)) → Alike f (with_all o NotYet g) (with_all q NotYet g')
 with_alike f fs (Some vs) (Some ws) g g' h all = all vs ws h
 with_alike f fs None None g g' h all = tt
 with_alike f fs None (Some ws) g g' h all = absurd h
@@ -155,7 +158,8 @@ all_there fs (Some vs) (Some ws) h = refl
 all_there fs None (Some ws) h = absurd h
 all_there fs (Some vs) None h = absurd h
 
-select_there : (f : Bool) (q q' : Answer) (x x' y y' : Option (List Word)) → f ≡ false → Alike f q q' → is_some x ≡ is_some x' → is_some y ≡ is_some y' → is_some (select q None x y) ≡ is_some (select q' None x' y')
+select_there : (f : Bool) (q q' : Answer) (x x' y y' : Option (List Word)) → f ≡ false → Alike f q q' → is_some x ≡ is_some x' → is_some y ≡ is_some
+    y' → is_some (select q None x y) ≡ is_some (select q' None x' y')
 select_there f (Ready v) (Ready w) x x' y y' none h hx hy = subst (λ w. is_some (select (Ready v) None x y) ≡ is_some (select (Ready w) None x' y')) (h none) (by v)
   where
     by : (v : Word) → is_some (select (Ready v) None x y) ≡ is_some (select (Ready v) None x' y')
@@ -169,7 +173,8 @@ select_there f (LoopTo i vs) NotYet x x' y y' none h hx hy = absurd h
 select_there f NotYet (Ready w) x x' y y' none h hx hy = absurd h
 select_there f NotYet (LoopTo j ws) x x' y y' none h hx hy = absurd h
 
-with_there : (fs : List Bool) (o q : Option (List Word)) (g g' : List Word → Option (List Word)) → AlikeAll fs o q → ((vs ws : List Word) → AgreeOn fs vs ws → is_some (g vs) ≡ is_some (g' ws)) → is_some (with_all o None g) ≡ is_some (with_all q None g')
+with_there : (fs : List Bool) (o q : Option (List Word)) (g g' : List Word → Option (List Word)) → AlikeAll fs o q →
+    ((vs ws : List Word) → AgreeOn fs vs ws → is_some (g vs) ≡ is_some (g' ws)) → is_some (with_all o None g) ≡ is_some (with_all q None g')
 with_there fs (Some vs) (Some ws) g g' h all = all vs ws h
 with_there fs None None g g' h all = refl
 with_there fs None (Some ws) g g' h all = absurd h
@@ -197,7 +202,8 @@ module _ (k : ℕ) (b c : ℕ → Option Word) (other : (j : ℕ) → (j ≡ k �
         (wants_too fe env env' x a (λ z. no_if (inr (inr (inl z)))) m) (wants_too fe env env' y a (λ z. no_if (inr (inr (inr z)))) m))
     wants_too fe env env' (Let bs x) a no_if m =
         or_there _ _ _ _ (wants_in_too fe env env' bs a (λ z. no_if (inl z)) m)
-        (with_there (feeds_each k fe bs) (answers b env bs) (answers c env' bs) (λ vs. wanted b (env ++ vs) x m) (λ vs. wanted c (env' ++ vs) x m) (alike_all k b c other there fe env env' bs a (λ z. no_if (inl z)))
+        (with_there (feeds_each k fe bs) (answers b env bs) (answers c env' bs) (λ vs. wanted b (env ++ vs) x m) (λ vs. wanted c (env' ++ vs) x m)
+        (alike_all k b c other there fe env env' bs a (λ z. no_if (inl z)))
         (λ vs ws h. wants_too (fe ++ feeds_each k fe bs) (env ++ vs) (env' ++ ws) x (agree_append fe env env' (feeds_each k fe bs) vs ws a h) (λ z. no_if (inr z)) m))
     wants_too fe env env' (Call f j ts) a no_if m =
         cond_there (j == m) _ _ _ _ (all_there (feeds_each k fe ts) _ _ (alike_all k b c other there fe env env' ts a no_if)) (wants_in_too fe env env' ts a no_if m)
@@ -257,12 +263,14 @@ mutual
   wanted_env b env env' (Let bs x) m len h =
       ap (λ o. or_else o (with_all (answers b env bs) None (λ vs. wanted b (env ++ vs) x m))) (wanted_in_env b env env' bs m len (λ i s. h i (inl s)))
       ∙ ap (λ o. or_else (wanted_in b env' bs m) (with_all o None (λ vs. wanted b (env ++ vs) x m))) (all_env b env env' bs len (λ i s. h i (inl s)))
-      ∙ ap (λ g. or_else (wanted_in b env' bs m) (with_all (answers b env' bs) None g)) (fun_ext (λ vs. wanted_env b (env ++ vs) (env' ++ vs) x m (longer env env' vs len) (λ i s. same_append env env' vs i len (h i (inr s)))))
+      ∙ ap (λ g. or_else (wanted_in b env' bs m) (with_all (answers b env' bs) None g))
+      (fun_ext (λ vs. wanted_env b (env ++ vs) (env' ++ vs) x m (longer env env' vs len) (λ i s. same_append env env' vs i len (h i (inr s)))))
   wanted_env b env env' (Call f j ts) m len h =
       ap (λ o. cond (j == m) o (wanted_in b env ts m)) (all_env b env env' ts len h) ∙ ap (λ o. cond (j == m) (answers b env' ts) o) (wanted_in_env b env env' ts m len h)
   wanted_env b env env' (Loop g ts) m len h = wanted_in_env b env env' ts m len h
 
-  pub wanted_in_env : (b : ℕ → Option Word) (env env' : List Word) (ts : Terms) (m : ℕ) → length env ≡ length env' → ((i : ℕ) → UsesIn i ts → slot env i ≡ slot env' i) → wanted_in b env ts m ≡ wanted_in b env' ts m
+  pub wanted_in_env : (b : ℕ → Option Word) (env env' : List Word) (ts : Terms) (m : ℕ) → length env ≡ length env' →
+      ((i : ℕ) → UsesIn i ts → slot env i ≡ slot env' i) → wanted_in b env ts m ≡ wanted_in b env' ts m
   wanted_in_env b env env' Nil m len h = refl
   wanted_in_env b env env' (Cons t ts) m len h =
       ap (λ o. or_else o (wanted_in b env ts m)) (wanted_env b env env' t m len (λ i s. h i (inl s))) ∙ ap (or_else (wanted b env' t m)) (wanted_in_env b env env' ts m len (λ i s. h i (inr s)))

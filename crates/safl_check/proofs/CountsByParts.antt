@@ -156,7 +156,8 @@ pub measured_next : (k : Known) (s0 n0 : ℕ) (body : Expression) (long : Option
 measured_next k s0 n0 body long s n t rest long' s' n' h el es en =
     record {
       lets = h.lets ∙ ap (λ (o : Option ℕ). or_place long (or_place o (first_long_let rest))) (lets_parts t)
-          ∙ ap (λ (o : Option ℕ). or_place long o) (or_assoc (own_long_let t) (first_long_let (parts t)) (first_long_let rest) ∙ ap (λ (o : Option ℕ). or_place (own_long_let t) o) (sym (lets_append (parts t) rest)))
+          ∙ ap (λ (o : Option ℕ). or_place long o) (or_assoc (own_long_let t) (first_long_let (parts t)) (first_long_let rest) ∙ ap
+          (λ (o : Option ℕ). or_place (own_long_let t) o) (sym (lets_append (parts t) rest)))
           ∙ sym (or_assoc long (own_long_let t) (first_long_let (parts t ++ rest)))
           ∙ ap (λ (o : Option ℕ). or_place o (first_long_let (parts t ++ rest))) (sym (el ∙ or_is long (own_long_let t)));
       sites = let q = h.sites in omega (arith, q, es, sites_parts k t, sites_append k (parts t) rest);

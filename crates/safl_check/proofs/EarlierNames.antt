@@ -1,5 +1,6 @@
 -- Names that stand earlier, and the members of a group one by one.
-use Rattle.std.proofs.Common.{◌≡◌, ℕ, zero, suc, ◌+◌, ◌<◌, ◌≤◌, arith, List, [], ◌∷◌, length, map, take, drop, get_or, Bool, true, false, cond, Option, Some, None, IfSome, refl, sym, ap, subst, ◌∙◌, ⊎_elim}
+use Rattle.std.proofs.Common.{◌≡◌, ℕ, zero, suc, ◌+◌, ◌<◌, ◌≤◌, arith, List, [], ◌∷◌, length, map, take, drop, get_or, Bool, true, false, cond}
+use Rattle.std.proofs.Common.{Option, Some, None, IfSome, refl, sym, ap, subst, ◌∙◌, ⊎_elim}
 use Rattle.std.specs.Prelude.{◌||◌, ◌==◌, slice_get}
 use Rattle.std.specs.List.{list_any}
 use Rattle.std.specs.Str.{bytes_eq}
@@ -37,7 +38,8 @@ names_next {A = A} name xs i x lt is =
     ap (λ (n : ℕ). names_before name xs n) e ∙ ap (λ (o : Option A). name_at name o ∷ names_before name xs i) (slice_get_read xs (length xs) i x refl lt is)
 
 -- the order does not matter
-pub any_before : {A : Type 0} (name : A → List ℕ) (x : List ℕ) (xs : List A) (n : ℕ) → n ≤ length xs → list_any (bytes_eq x) (names_before name xs n) ≡ list_any (λ (a : A). bytes_eq x (name a)) (take n xs)
+pub any_before : {A : Type 0} (name : A → List ℕ) (x : List ℕ) (xs : List A) (n : ℕ) → n ≤ length xs → list_any (bytes_eq x) (names_before name xs n)
+    ≡ list_any (λ (a : A). bytes_eq x (name a)) (take n xs)
 any_before name x xs zero le = refl
 any_before {A = A} name x xs (suc n) le = ⊎_elim
     (λ q.
@@ -60,7 +62,8 @@ shown_name (Some d) = refl
 earlier_names : (ds : List Def) (n : ℕ) → earlier (shown_definitions ds) n ≡ def_names ds n
 earlier_names ds zero = refl
 earlier_names ds (suc n) =
-    ap (λ (o : Option Definition). name_in o ∷ earlier (shown_definitions ds) n) (slice_get-map shown_definition ds n) ∙ ap (λ (x : List ℕ). x ∷ earlier (shown_definitions ds) n) (shown_name (slice_get ds n))
+    ap (λ (o : Option Definition). name_in o ∷ earlier (shown_definitions ds) n) (slice_get-map shown_definition ds n) ∙ ap
+    (λ (x : List ℕ). x ∷ earlier (shown_definitions ds) n) (shown_name (slice_get ds n))
     ∙ ap (λ (l : List (List ℕ)). name_at (λ (d : Def). d.name) (slice_get ds n) ∷ l) (earlier_names ds n)
 
 earlier_next : (ds : List Def) (i : ℕ) (d : Def) → i < length ds → d ≡ get_or ds i d → earlier (shown_definitions ds) (i + 1) ≡ d.name ∷ earlier (shown_definitions ds) i
@@ -94,7 +97,8 @@ repeated_next ps i p c lt is q e = repeated_at ps i p false lt is (sym e ∙ q)
 -- ---- one head
 
 pub head_named : (names : List (List ℕ)) (w : ℕ) (d : Definition) → list_any (bytes_eq d.name) names ≡ true → head_fault names w d ≡ Some (fault rules.E06 d.place)
-head_named names w d e = ap (λ (b : Bool). or_else (cond b (Some (fault rules.E06 d.place)) None) (or_else (needs (w == d.width) (fault_with rules.E12 d.place w d.width)) (repeated [] (placed_params d)))) e
+head_named names w d e = ap (λ (b : Bool). or_else (cond b (Some (fault rules.E06 d.place)) None)
+    (or_else (needs (w == d.width) (fault_with rules.E12 d.place w d.width)) (repeated [] (placed_params d)))) e
 
 head_new : (names : List (List ℕ)) (w : ℕ) (d : Definition) (b : Bool) → list_any (bytes_eq d.name) names ≡ false → (w == d.width) ≡ b
     → head_fault names w d ≡ or_else (needs b (fault_with rules.E12 d.place w d.width)) (repeated [] (placed_params d))
@@ -105,7 +109,8 @@ head_new names w d b e q =
 pub head_other : (names : List (List ℕ)) (w : ℕ) (d : Definition) (wanted found : ℕ) → list_any (bytes_eq d.name) names ≡ false → (d.width ≡ w → ⊥) → wanted ≡ w → found ≡ d.width
     → head_fault names w d ≡ Some (fault_with rules.E12 d.place wanted found)
 head_other names w d wanted found e ne p q =
-    head_new names w d false e (ne_eqb w d.width (λ h. ne (sym h))) ∙ ap (λ (n : ℕ). Some (fault_with rules.E12 d.place n d.width)) (sym p) ∙ ap (λ (n : ℕ). Some (fault_with rules.E12 d.place wanted n)) (sym q)
+    head_new names w d false e (ne_eqb w d.width (λ h. ne (sym h))) ∙ ap (λ (n : ℕ). Some (fault_with rules.E12 d.place n d.width)) (sym p) ∙ ap
+    (λ (n : ℕ). Some (fault_with rules.E12 d.place wanted n)) (sym q)
 
 pub head_same : (names : List (List ℕ)) (w : ℕ) (d : Definition) → list_any (bytes_eq d.name) names ≡ false → d.width ≡ w → head_fault names w d ≡ repeated [] (placed_params d)
 head_same names w d e h = head_new names w d true e (eq-eqb w d.width (sym h))
@@ -113,21 +118,28 @@ head_same names w d e h = head_new names w d true e (eq-eqb w d.width (sym h))
 -- ---- members
 
 pub joined_at : (ds : List Def) (i w : ℕ) (d : Def) (b : Bool) → i < length ds → d ≡ get_or ds i d → d.joined ≡ b
-    → joined_faults (earlier (shown_definitions ds) i) w (shown_definitions (drop i ds)) ≡ cond b (or_else (head_fault (earlier (shown_definitions ds) i) w (shown_definition d)) (joined_faults (earlier (shown_definitions ds) (i + 1)) w (shown_definitions (drop (i + 1) ds)))) None
+    → joined_faults (earlier (shown_definitions ds) i) w (shown_definitions (drop i ds)) ≡ cond b
+    (or_else (head_fault (earlier (shown_definitions ds) i) w (shown_definition d))
+    (joined_faults (earlier (shown_definitions ds) (i + 1)) w (shown_definitions (drop (i + 1) ds)))) None
 joined_at ds i w d b lt is j =
     let t : drop i ds ≡ d ∷ drop (i + 1) ds = drop_more ds i d lt ∙ ap (λ (z : Def). z ∷ drop (i + 1) ds) (sym is) in
     ap (λ (l : List Def). joined_faults (earlier (shown_definitions ds) i) w (shown_definitions l)) t
-    ∙ ap (λ (c : Bool). cond c (or_else (head_fault (earlier (shown_definitions ds) i) w (shown_definition d)) (joined_faults (d.name ∷ earlier (shown_definitions ds) i) w (shown_definitions (drop (i + 1) ds)))) None) j
-    ∙ ap (λ (l : List (List ℕ)). cond b (or_else (head_fault (earlier (shown_definitions ds) i) w (shown_definition d)) (joined_faults l w (shown_definitions (drop (i + 1) ds)))) None) (sym (earlier_next ds i d lt is))
+    ∙ ap (λ (c : Bool). cond c (or_else (head_fault (earlier (shown_definitions ds) i) w (shown_definition d))
+    (joined_faults (d.name ∷ earlier (shown_definitions ds) i) w (shown_definitions (drop (i + 1) ds)))) None) j
+    ∙ ap (λ (l : List (List ℕ)). cond b (or_else (head_fault (earlier (shown_definitions ds) i) w (shown_definition d))
+    (joined_faults l w (shown_definitions (drop (i + 1) ds)))) None) (sym (earlier_next ds i d lt is))
 
 pub group_at : (ds : List Def) (i : ℕ) (d : Def) (b : Bool) → i < length ds → d ≡ get_or ds i d → d.joined ≡ b
-    → group_fault_at (shown_definitions ds) i ≡ cond b None (or_else (head_fault (earlier (shown_definitions ds) i) d.width (shown_definition d)) (joined_faults (earlier (shown_definitions ds) (i + 1)) d.width (shown_definitions (drop (i + 1) ds))))
+    → group_fault_at (shown_definitions ds) i ≡ cond b None (or_else (head_fault (earlier (shown_definitions ds) i) d.width (shown_definition d))
+    (joined_faults (earlier (shown_definitions ds) (i + 1)) d.width (shown_definitions (drop (i + 1) ds))))
 group_at ds i d b lt is j =
     let t : drop i ds ≡ d ∷ drop (i + 1) ds = drop_more ds i d lt ∙ ap (λ (z : Def). z ∷ drop (i + 1) ds) (sym is) in
     ap (λ (l : List Definition). first_group_fault (earlier (shown_definitions ds) i) l) (drop-map shown_definition i ds)
     ∙ ap (λ (l : List Def). first_group_fault (earlier (shown_definitions ds) i) (shown_definitions l)) t
-    ∙ ap (λ (c : Bool). cond c None (or_else (head_fault (earlier (shown_definitions ds) i) d.width (shown_definition d)) (joined_faults (d.name ∷ earlier (shown_definitions ds) i) d.width (shown_definitions (drop (i + 1) ds))))) j
-    ∙ ap (λ (l : List (List ℕ)). cond b None (or_else (head_fault (earlier (shown_definitions ds) i) d.width (shown_definition d)) (joined_faults l d.width (shown_definitions (drop (i + 1) ds))))) (sym (earlier_next ds i d lt is))
+    ∙ ap (λ (c : Bool). cond c None (or_else (head_fault (earlier (shown_definitions ds) i) d.width (shown_definition d))
+    (joined_faults (d.name ∷ earlier (shown_definitions ds) i) d.width (shown_definitions (drop (i + 1) ds))))) j
+    ∙ ap (λ (l : List (List ℕ)). cond b None (or_else (head_fault (earlier (shown_definitions ds) i) d.width (shown_definition d))
+    (joined_faults l d.width (shown_definitions (drop (i + 1) ds))))) (sym (earlier_next ds i d lt is))
 
 -- ---- the head of a definition, and those that follow it
 
@@ -145,13 +157,16 @@ pub group_stops : (ds : List Def) (i : ℕ) (d : Def) (f : Fault) → i < length
 group_stops ds i d f lt is j h = sym (first_of _ _ _ f (group_at ds i d false lt is j) (head_here ds i d.width d (Some f) lt is h))
 
 pub group_next : (ds : List Def) (i : ℕ) (d : Def) → i < length ds → d ≡ get_or ds i d → d.joined ≡ false
-    → IfSome (slice_get ds i) (HasHeadFault ds i d.width (None)) → group_fault_at (shown_definitions ds) i ≡ joined_faults (earlier (shown_definitions ds) (i + 1)) d.width (shown_definitions (drop (i + 1) ds))
+    → IfSome (slice_get ds i) (HasHeadFault ds i d.width (None)) → group_fault_at (shown_definitions ds) i ≡ joined_faults
+    (earlier (shown_definitions ds) (i + 1)) d.width (shown_definitions (drop (i + 1) ds))
 group_next ds i d lt is j h = second_of _ _ _ (group_at ds i d false lt is j) (head_here ds i d.width d None lt is h)
 
-pub joined_stops : (ds : List Def) (i w : ℕ) (d : Def) (f : Fault) (o : Option Fault) → i < length ds → d ≡ get_or ds i d → d.joined ≡ true → o ≡ joined_faults (earlier (shown_definitions ds) i) w (shown_definitions (drop i ds))
+pub joined_stops : (ds : List Def) (i w : ℕ) (d : Def) (f : Fault) (o : Option Fault) → i < length ds → d ≡ get_or ds i d → d.joined ≡ true → o ≡
+    joined_faults (earlier (shown_definitions ds) i) w (shown_definitions (drop i ds))
     → IfSome (slice_get ds i) (HasHeadFault ds i w (Some f)) → Some f ≡ o
 joined_stops ds i w d f o lt is j e h = sym (first_of _ _ _ f (e ∙ joined_at ds i w d true lt is j) (head_here ds i w d (Some f) lt is h))
 
-pub joined_next : (ds : List Def) (i w : ℕ) (d : Def) (o : Option Fault) → i < length ds → d ≡ get_or ds i d → d.joined ≡ true → o ≡ joined_faults (earlier (shown_definitions ds) i) w (shown_definitions (drop i ds))
+pub joined_next : (ds : List Def) (i w : ℕ) (d : Def) (o : Option Fault) → i < length ds → d ≡ get_or ds i d → d.joined ≡ true → o ≡ joined_faults
+    (earlier (shown_definitions ds) i) w (shown_definitions (drop i ds))
     → IfSome (slice_get ds i) (HasHeadFault ds i w (None)) → o ≡ joined_faults (earlier (shown_definitions ds) (i + 1)) w (shown_definitions (drop (i + 1) ds))
 joined_next ds i w d o lt is j e h = second_of _ _ _ (e ∙ joined_at ds i w d true lt is j) (head_here ds i w d None lt is h)

@@ -77,7 +77,8 @@ sites_with all v s b = s + sites (record { heads = all; unit = v }) b
 here : (all : List Head) (i u s n : ℕ) (d : Definition) (ds : List Definition) (b : Expression) (v : ℕ) → b ≡ rewritten d.body → v ≡ unit_of i u d
     → limits_from all i u s n (d ∷ ds) ≡ or_else (list_fault d b) (or_else (sum_fault d.place (sites_with all v s b) (n + nodes b)) (limits_from all (suc i) v (sites_with all v s b) (n + nodes b) ds))
 here all i u s n d ds b v eb ev =
-    let whole : Expression → ℕ → Option Fault = λ (z : Expression) (w : ℕ). or_else (list_fault d z) (or_else (sum_fault d.place (sites_with all w s z) (n + nodes z)) (limits_from all (suc i) w (sites_with all w s z) (n + nodes z) ds)) in
+    let whole : Expression → ℕ → Option Fault = λ (z : Expression) (w : ℕ). or_else (list_fault d z)
+    (or_else (sum_fault d.place (sites_with all w s z) (n + nodes z)) (limits_from all (suc i) w (sites_with all w s z) (n + nodes z) ds)) in
     let z : Expression = rewritten d.body in
     let w : ℕ = unit_of i u d in
     let plainly : limits_from all i u s n (d ∷ ds) ≡ whole z w =
@@ -107,13 +108,16 @@ pub record IsSearched (all : List Head) (ds : List Def) (i u s n : ℕ) : Type 0
   pub nodes : n ≤ 50000
 
 step : (all : List Head) (ds : List Def) (i u s n : ℕ) (d : Def) (b : Expression) (v : ℕ) → IsAt ds i d b → v ≡ unit_of i u (shown_definition d)
-    → rest_from all ds i u s n ≡ or_else (list_fault (shown_definition d) b) (or_else (sum_fault d.place (sites_with all v s b) (n + nodes b)) (rest_from all ds (i + 1) v (sites_with all v s b) (n + nodes b)))
+    → rest_from all ds i u s n ≡ or_else (list_fault (shown_definition d) b)
+    (or_else (sum_fault d.place (sites_with all v s b) (n + nodes b)) (rest_from all ds (i + 1) v (sites_with all v s b) (n + nodes b)))
 step all ds i u s n d b v at ev =
     let lt : i < length ds = at.within in
     let e : suc i ≡ i + 1 = omega arith in
     let t : drop i ds ≡ d ∷ drop (i + 1) ds = drop_more ds i d lt ∙ ap (λ (z : Def). z ∷ drop (i + 1) ds) (sym at.read) in
     ap (λ (l : List Def). limits_from all i u s n (shown_definitions l)) t ∙ here all i u s n (shown_definition d) (shown_definitions (drop (i + 1) ds)) b v at.body ev
-    ∙ ap (λ (j : ℕ). or_else (list_fault (shown_definition d) b) (or_else (sum_fault d.place (sites_with all v s b) (n + nodes b)) (limits_from all j v (sites_with all v s b) (n + nodes b) (shown_definitions (drop (i + 1) ds))))) e
+    ∙ ap (λ (j : ℕ). or_else (list_fault (shown_definition d) b)
+    (or_else (sum_fault d.place (sites_with all v s b) (n + nodes b))
+    (limits_from all j v (sites_with all v s b) (n + nodes b) (shown_definitions (drop (i + 1) ds))))) e
 
 pub list_stops : (all : List Head) (ds : List Def) (i u s n : ℕ) (d : Def) (b : Expression) (f : Fault) → IsSearched all ds i u s n → IsAt ds i d b
     → Some f ≡ list_fault (shown_definition d) b → Some f ≡ limits_from all 0 0 0 0 (shown_definitions ds)
@@ -130,7 +134,8 @@ sums_next all ds i u s n d b v t m h at ev et em e =
     ∙ ap (λ (o : Option Fault). or_else o (rest_from all ds (i + 1) v (sites_with all v s b) (n + nodes b))) (sums_capped d.place t m (sites_with all v s b) (n + nodes b) et em)
 
 pub sum_stops : (all : List Head) (ds : List Def) (i u s n : ℕ) (d : Def) (b : Expression) (v t m : ℕ) (f : Fault) → IsSearched all ds i u s n → IsAt ds i d b → v ≡ unit_of i u (shown_definition d)
-    → t ≡ min 4001 (sites_with all v s b) → m ≡ min 50001 (n + nodes b) → None ≡ list_fault (shown_definition d) b → Some f ≡ sum_fault d.place t m → Some f ≡ limits_from all 0 0 0 0 (shown_definitions ds)
+    → t ≡ min 4001 (sites_with all v s b) → m ≡ min 50001 (n + nodes b) → None ≡ list_fault (shown_definition d) b → Some f ≡ sum_fault d.place t m →
+    Some f ≡ limits_from all 0 0 0 0 (shown_definitions ds)
 sum_stops all ds i u s n d b v t m f h at ev et em e q = sym (first_of _ _ _ f (sums_next all ds i u s n d b v t m h at ev et em e) q)
 
 pub searched_next : (all : List Head) (ds : List Def) (i u s n : ℕ) (d : Def) (b : Expression) (v t m : ℕ) → IsSearched all ds i u s n → IsAt ds i d b → v ≡ unit_of i u (shown_definition d)
@@ -140,7 +145,8 @@ searched_next all ds i u s n d b v t m h at ev et em e q =
     let y : ℕ = n + nodes b in
     let w : AreWithin t m x y = sums_within d.place t m x y et em q in
     record {
-      rest = second_of _ _ _ (sums_next all ds i u s n d b v t m h at ev et em e) q ∙ ap (λ (j : ℕ). rest_from all ds (i + 1) v j y) w.all_sites ∙ ap (λ (j : ℕ). rest_from all ds (i + 1) v t j) w.all_nodes;
+      rest = second_of _ _ _ (sums_next all ds i u s n d b v t m h at ev et em e) q ∙ ap (λ (j : ℕ). rest_from all ds (i + 1) v j y) w.all_sites ∙ ap
+          (λ (j : ℕ). rest_from all ds (i + 1) v t j) w.all_nodes;
       sites = w.sites;
       nodes = w.nodes;
     }

@@ -1,5 +1,6 @@
 -- Names as text, and parameters.
-use Rattle.std.proofs.Common.{◌≡◌, ℕ, zero, suc, ◌+◌, ◌<◌, List, [], ◌∷◌, ◌++◌, get_or, take, length, map, subst, Global, String, Bool, true, false, ◌&&◌, ◌||◌, leb, refl, sym, ap, ◌∙◌, arith, ◌⊎◌, inl, inr, ⊎_elim}
+use Rattle.std.proofs.Common.{◌≡◌, ℕ, zero, suc, ◌+◌, ◌<◌, List, [], ◌∷◌, ◌++◌, get_or, take, length, map, subst, Global, String, Bool, true, false}
+use Rattle.std.proofs.Common.{◌&&◌, ◌||◌, leb, refl, sym, ap, ◌∙◌, arith, ◌⊎◌, inl, inr, ⊎_elim}
 use Rattle.std.specs.List.{list_all}
 use Rattle.std.specs.String.{string_bytes}
 use Rattle.std.specs.Str.{IsUtf8}
@@ -56,7 +57,8 @@ param_name [] i p h lt is = absurd (omega (arith, lt))
 param_name (q ∷ ps) zero p h lt is = subst (λ (x : Param). IsName x.name) (sym is) h.0.0
 param_name (q ∷ ps) (suc i) p h lt is = param_name ps i p h.1 (omega (arith, lt)) is
 
-upto : (ps : List Param) (i : ℕ) (p : Param) → i < length ps → p ≡ get_or ps i p → map slot_of (shown_parameters (take (i + 1) ps)) ≡ map slot_of (shown_parameters (take i ps)) ++ slot_of (shown_parameter p) ∷ []
+upto : (ps : List Param) (i : ℕ) (p : Param) → i < length ps → p ≡ get_or ps i p → map slot_of (shown_parameters (take (i + 1) ps)) ≡ map slot_of
+    (shown_parameters (take i ps)) ++ slot_of (shown_parameter p) ∷ []
 upto [] i p lt is = absurd (omega (arith, lt))
 upto (q ∷ ps) zero p lt is = ap (λ (x : Param). slot_of (shown_parameter x) ∷ []) (sym is)
 upto (q ∷ ps) (suc i) p lt is =

@@ -17,12 +17,14 @@ use Rattle.safl_typing.specs.Forms.{FunctionForm, shown, shown_function, shown_p
 use Rattle.safl_check.specs.Numbered.{of_function, of_site, program_in, name_in, param_names_in}
 use Rattle.safl_check.specs.Laws.{IsNumbered}
 
-at_shown : {A : Type 0} (own : Function → A) (has : FunctionForm → A) (d : A) (o : Option Function) → ((f : Function) → own f ≡ has (shown_function f)) → option_map_or own o d ≡ option_map_or has (option_map shown_function o) d
+at_shown : {A : Type 0} (own : Function → A) (has : FunctionForm → A) (d : A) (o : Option Function) →
+    ((f : Function) → own f ≡ has (shown_function f)) → option_map_or own o d ≡ option_map_or has (option_map shown_function o) d
 at_shown own has d None h = refl
 at_shown own has d (Some f) h = h f
 
 -- what a function has is what its form has
-function_shown : {A : Type 0} (own : Function → A) (has : FunctionForm → A) (d : A) (c : CheckedProgram) → ((f : Function) → own f ≡ has (shown_function f)) → (i : ℕ) → checked.of_function own d c i ≡ of_function has d (shown c) i
+function_shown : {A : Type 0} (own : Function → A) (has : FunctionForm → A) (d : A) (c : CheckedProgram) →
+    ((f : Function) → own f ≡ has (shown_function f)) → (i : ℕ) → checked.of_function own d c i ≡ of_function has d (shown c) i
 function_shown own has d c h i = at_shown own has d (slice_get c.functions i) h ∙ ap (λ (o : Option FunctionForm). option_map_or has o d) (sym (slice_get-map shown_function c.functions i))
 
 site_shown : (has : Site → ℕ) (m n : ℕ) (c : CheckedProgram) → m ≡ n → (k : ℕ) → checked.of_site has m c k ≡ of_site has n (shown c) k

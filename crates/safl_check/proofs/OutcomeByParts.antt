@@ -80,11 +80,13 @@ outcome_ok : (ds : List Definition) (fs : List FunctionForm) → limits ds ≡ N
 unfolding outcome
 outcome_ok ds fs e p m = rw e (rw p (rw m refl))
 
-pub is_form : WalkGivesForm → (ds : List Definition) (fs : List FunctionForm) → IsFormedProgram ds → limits ds ≡ None → functions_from (heads ds) [] 0 0 1 ds ≡ Ok fs → main_fault ds ≡ None → IsFormOf ds (form_of fs)
+pub is_form : WalkGivesForm → (ds : List Definition) (fs : List FunctionForm) → IsFormedProgram ds → limits ds ≡ None → functions_from (heads ds) [] 0
+    0 1 ds ≡ Ok fs → main_fault ds ≡ None → IsFormOf ds (form_of fs)
 is_form law ds fs formed e p m = (law ds (form_of fs) formed).0 (outcome_ok ds fs e p m)
 
 -- the form of a program with these functions and sites
-pub form_shown : WalkGivesForm → (ds : List Definition) (fs : List Function) (sites : List Site) → IsFormedProgram ds → limits ds ≡ None → functions_from (heads ds) [] 0 0 1 ds ≡ Ok (map shown_function fs) → main_fault ds ≡ None
+pub form_shown : WalkGivesForm → (ds : List Definition) (fs : List Function) (sites : List Site) → IsFormedProgram ds → limits ds ≡ None →
+    functions_from (heads ds) [] 0 0 1 ds ≡ Ok (map shown_function fs) → main_fault ds ≡ None
     → sites ≡ all_sites 0 (map shown_function fs) → IsFormOf ds (shown (record { functions = fs; sites = sites }))
 form_shown law ds fs sites formed e p m s =
     subst (λ (l : List Site). IsFormOf ds (record { functions = map shown_function fs; sites = l })) (sym s) (is_form law ds (map shown_function fs) formed e p m)

@@ -119,7 +119,8 @@ pub record IsPaired (u : ℕ) (d : Definition) (h : code_head.Head) : Type 0 whe
   pub unit : h.unit ≡ u
   pub params : shown_slots h.params.items ≡ params_of d
 
-pub same_known : (all : List Head) (u : ℕ) (whole : List code_head.Head) (h : code_head.Head) → AreKnown all whole → h.unit ≡ u → ◌≡◌ {A = Known} (known whole h.unit) (record { heads = all; unit = u })
+pub same_known : (all : List Head) (u : ℕ) (whole : List code_head.Head) (h : code_head.Head) → AreKnown all whole → h.unit ≡ u → ◌≡◌ {A = Known}
+    (known whole h.unit) (record { heads = all; unit = u })
 same_known all u whole h k e = rw (k.same, e) refl
 
 module _ (all : List Head) (n u lo : ℕ) (d : Definition) (ds : List Definition) (h : code_head.Head) (hs : List code_head.Head) (left : AreLeft all n u lo (d ∷ ds) (h ∷ hs)) where
@@ -141,11 +142,13 @@ module _ (all : List Head) (n u lo : ℕ) (d : Definition) (ds : List Definition
         limits = k.rest;
       }
 
-  pub same_sites : (b : code_expression.Expression) → shown_expression b ≡ rewritten d.body → (whole : List code_head.Head) → AreKnown all whole → sites (known whole h.unit) (shown_expression b) ≡ sites (record { heads = all; unit = unit_of n u d }) (rewritten d.body)
+  pub same_sites : (b : code_expression.Expression) → shown_expression b ≡ rewritten d.body → (whole : List code_head.Head) → AreKnown all whole →
+      sites (known whole h.unit) (shown_expression b) ≡ sites (record { heads = all; unit = unit_of n u d }) (rewritten d.body)
   same_sites b body whole k =
       ap (λ (z : Known). sites z (shown_expression b)) (same_known all (unit_of n u d) whole h k is_paired.unit) ∙ ap (λ (e : Expression). sites (record { heads = all; unit = unit_of n u d }) e) body
 
-  pub may_check : (b : code_expression.Expression) → shown_expression b ≡ rewritten d.body → (whole : List code_head.Head) → AreKnown all whole → MayCheck whole h.unit (shown_slots h.params.items) lo (shown_expression b)
+  pub may_check : (b : code_expression.Expression) → shown_expression b ≡ rewritten d.body → (whole : List code_head.Head) → AreKnown all whole →
+      MayCheck whole h.unit (shown_slots h.params.items) lo (shown_expression b)
   may_check b body whole known_all =
       let k = keeps_limits all n u left.sites_before left.nodes_before d ds left.limits in
       let same = same_sites b body whole known_all in

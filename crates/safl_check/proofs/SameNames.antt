@@ -52,5 +52,6 @@ pub namesake : (hs : List code.Head) (ds : List Def) (n : ℕ) (d : Def) → sho
     → is_some (before_it hs n) ≡ list_any (bytes_eq d.name) (earlier (shown_definitions ds) n)
 namesake hs ds n d e lt less is =
     let own : name_of (slice_get hs n) ≡ d.name =
-    same_name hs (shown_definitions ds) n e ∙ ap name_in (slice_get-map shown_definition ds n) ∙ ap (λ (o : Option Def). name_in (option_map shown_definition o)) (slice_get_read ds (length ds) n d refl less is) in
+    same_name hs (shown_definitions ds) n e ∙ ap name_in (slice_get-map shown_definition ds n) ∙ ap
+    (λ (o : Option Def). name_in (option_map shown_definition o)) (slice_get_read ds (length ds) n d refl less is) in
     ap (λ (x : List ℕ). is_some (last_named hs x n)) own ∙ last_any hs (shown_definitions ds) d.name n e (omega (arith, lt))

@@ -131,7 +131,8 @@ arms_counted (a ∷ arms) t = omega (arith, arms_counted arms t)
 pub case_nodes : (n : Node) (p : ℕ) (e : Box Expr Global) (arms : Vec Arm Global) (d : Box Expr Global) (count r : ℕ) → n ≡ Case e arms d → count ≡ length arms.items
     → r ≡ min 50001 (1 + 3 * count) → r ≡ min 50001 (own_nodes (shown_node n p))
 case_nodes n p e arms d count r is same h =
-    let own : own_nodes (shown_node n p) ≡ 1 + 3 * arm_count (arms_of (shown_labelled arms.items) (shown_tree d.value)) = ap (λ (m : Node). own_nodes (shown_node m p)) is ∙ ap own_nodes (case_shows e arms d p) in
+    let own : own_nodes (shown_node n p) ≡ 1 + 3 * arm_count (arms_of (shown_labelled arms.items) (shown_tree d.value)) = ap
+    (λ (m : Node). own_nodes (shown_node m p)) is ∙ ap own_nodes (case_shows e arms d p) in
     omega (arith, h, same, own, arms_counted arms.items (shown_tree d.value))
 
 -- ---- one step of a walk
@@ -139,11 +140,13 @@ case_nodes n p e arms d count r is same h =
 popped : (old rest : List (Bor Expr)) (e : Bor Expr) → old ≡ rest ++ e ∷ [] → pending old ≡ shown_tree e.now ∷ pending rest
 popped old rest e q = ap pending q ∙ pending_top rest e
 
-pub walk_smaller : (old rest new : List (Bor Expr)) (e : Bor Expr) → old ≡ rest ++ e ∷ [] → pending new ≡ parts (shown_tree e.now) ++ pending rest → total_nodes (pending new) < total_nodes (pending old)
+pub walk_smaller : (old rest new : List (Bor Expr)) (e : Bor Expr) → old ≡ rest ++ e ∷ [] → pending new ≡ parts (shown_tree e.now) ++ pending rest →
+    total_nodes (pending new) < total_nodes (pending old)
 walk_smaller old rest new e q h = omega (arith, ap total_nodes h, ap total_nodes (popped old rest e q), parts_fewer (shown_tree e.now) (pending rest))
 
 pub walk_next : (k : Known) (s0 n0 : ℕ) (body : Expression) (long : Option ℕ) (s n : ℕ) (old rest new : List (Bor Expr)) (e : Bor Expr) (long' : Option ℕ) (s' n' : ℕ)
-    → IsMeasured k s0 n0 body long s n (pending old) → old ≡ rest ++ e ∷ [] → long' ≡ option_or long (own_long_let (shown_tree e.now)) → s' ≡ min 4001 (s + own_sites k (shown_tree e.now)) → n' ≡ min 50001 (n + min 50001 (own_nodes (shown_tree e.now)))
+    → IsMeasured k s0 n0 body long s n (pending old) → old ≡ rest ++ e ∷ [] → long' ≡ option_or long (own_long_let (shown_tree e.now)) → s' ≡ min 4001
+    (s + own_sites k (shown_tree e.now)) → n' ≡ min 50001 (n + min 50001 (own_nodes (shown_tree e.now)))
     → pending new ≡ parts (shown_tree e.now) ++ pending rest → IsMeasured k s0 n0 body long' s' n' (pending new)
 walk_next k s0 n0 body long s n old rest new e long' s' n' m q el es en h =
     let was : IsMeasured k s0 n0 body long s n (shown_tree e.now ∷ pending rest) = subst (λ (l : List Tree). IsMeasured k s0 n0 body long s n l) (popped old rest e q) m in

@@ -49,9 +49,12 @@ from_function all names n u lo d ds r =
     after r (λ f. after (functions_from all (d.name ∷ names) (suc n) (unit_of n u d) (lo + sites (record { heads = all; unit = unit_of n u d }) (rewritten d.body)) ds) (λ fs. Ok (f ∷ fs)))
 
 functions_step : (all : List Head) (names : List (List ℕ)) (n u lo : ℕ) (d : Definition) (ds : List Definition)
-    → functions_from all names n u lo (d ∷ ds) ≡ unless (group_fault names d ds) (from_function all names n u lo d ds (checked_function (record { heads = all; unit = unit_of n u d }) (params_of d) lo d (rewritten d.body)))
+    → functions_from all names n u lo (d ∷ ds) ≡ unless (group_fault names d ds)
+    (from_function all names n u lo d ds (checked_function (record { heads = all; unit = unit_of n u d }) (params_of d) lo d (rewritten d.body)))
 functions_step all names n u lo d ds =
-    ap (λ (r : Result (List FunctionForm) Fault). unless (group_fault names d ds) r) (sym (after_ok (check (record { heads = all; unit = unit_of n u d }) (params_of d) true lo (Exactly d.width) (rewritten d.body)) (λ x. function (unit_of n u d) lo d x.term) _))
+    ap (λ (r : Result (List FunctionForm) Fault). unless (group_fault names d ds) r)
+    (sym (after_ok (check (record { heads = all; unit = unit_of n u d }) (params_of d) true lo (Exactly d.width) (rewritten d.body))
+    (λ x. function (unit_of n u d) lo d x.term) _))
 
 group_stops : (all : List Head) (names : List (List ℕ)) (n u lo : ℕ) (ds : List Definition) (fs : List FunctionForm) (whole : Result (List FunctionForm) Fault) (f : Fault)
     → whole ≡ joined_with fs (functions_from all names n u lo ds) → first_group_fault names ds ≡ Some f → whole ≡ Err f
@@ -69,12 +72,14 @@ pub record IsWalked (ds : List Definition) (hs : List code_head.Head) (fs : List
 pub walk_begins : (ds : List Definition) (hs : List code_head.Head) → IsFormedProgram ds → shown_heads hs ≡ heads ds → limits ds ≡ None → IsWalked ds hs [] 0 1
 walk_begins ds hs formed is e = record { group = 0; left = all_left ds hs formed is e; functions = none_before _ }
 
-pub walk_ends : (ds : List Definition) (hs : List code_head.Head) (fs : List Function) (i lo : ℕ) → IsWalked ds hs fs i lo → length ds ≤ i → functions_from (heads ds) [] 0 0 1 ds ≡ Ok (map shown_function fs)
+pub walk_ends : (ds : List Definition) (hs : List code_head.Head) (fs : List Function) (i lo : ℕ) → IsWalked ds hs fs i lo → length ds ≤ i →
+    functions_from (heads ds) [] 0 0 1 ds ≡ Ok (map shown_function fs)
 walk_ends ds hs fs i lo w h =
     w.functions ∙ ap (λ (l : List Definition). joined_with (map shown_function fs) (functions_from (heads ds) (earlier ds i) i w.group lo l)) (drop_all i ds h)
     ∙ ap (λ (l : List FunctionForm). Ok l) (append-nil (map shown_function fs))
 
-pub group_refused : (ds : List Definition) (hs : List code_head.Head) (fs : List Function) (i lo : ℕ) (f : Fault) → IsWalked ds hs fs i lo → group_fault_at ds i ≡ Some f → functions_from (heads ds) [] 0 0 1 ds ≡ Err f
+pub group_refused : (ds : List Definition) (hs : List code_head.Head) (fs : List Function) (i lo : ℕ) (f : Fault) → IsWalked ds hs fs i lo →
+    group_fault_at ds i ≡ Some f → functions_from (heads ds) [] 0 0 1 ds ≡ Err f
 group_refused ds hs fs i lo f w e = group_stops (heads ds) (earlier ds i) i w.group lo (drop i ds) (map shown_function fs) _ f w.functions e
 
 here : {A : Type 0} (xs : List A) (i : ℕ) (x : A) → i < length xs → x ≡ get_or xs i x → drop i xs ≡ x ∷ drop (i + 1) xs
@@ -97,12 +102,14 @@ is_there defs hs i d h is few ed eh =
       head = here hs i h (omega (arith, lt, as_many_heads (shown_definitions defs) hs is)) eh;
     }
 
-stops : {A : Type 0} (e : CheckErr) (whole : Result (List FunctionForm) Fault) (fs : List FunctionForm) (r : Result A Fault) (rest : A → Result (List FunctionForm) Fault) → whole ≡ joined_with fs (after r rest) → Refuses e r → Refuses e whole
+stops : {A : Type 0} (e : CheckErr) (whole : Result (List FunctionForm) Fault) (fs : List FunctionForm) (r : Result A Fault)
+    (rest : A → Result (List FunctionForm) Fault) → whole ≡ joined_with fs (after r rest) → Refuses e r → Refuses e whole
 stops (errors.Refused f) whole fs r rest p h = p ∙ ap (λ z. joined_with fs (after z rest)) h
 stops errors.TooDeep whole fs r rest p h = absurd h
 stops errors.NoMemory whole fs r rest p h = tt
 
-module _ (ds : List Definition) (hs : List code_head.Head) (fs : List Function) (i lo : ℕ) (d : Definition) (h : code_head.Head) (b : code_expression.Expression) (walked : IsWalked ds hs fs i lo) (there : IsThere ds hs i d h) (body : shown_expression b ≡ rewritten d.body) where
+module _ (ds : List Definition) (hs : List code_head.Head) (fs : List Function) (i lo : ℕ) (d : Definition) (h : code_head.Head)
+    (b : code_expression.Expression) (walked : IsWalked ds hs fs i lo) (there : IsThere ds hs i d h) (body : shown_expression b ≡ rewritten d.body) where
   -- the group of definition i, what its body sees, and how many sites it has
   abbrev own : ℕ
   own = unit_of i walked.group d
@@ -135,28 +142,33 @@ module _ (ds : List Definition) (hs : List code_head.Head) (fs : List Function) 
   functions_here =
       walked.functions ∙ ap (λ (l : List Definition). joined_with (map shown_function fs) (functions_from (heads ds) (earlier ds i) i walked.group lo l)) there.definition
       ∙ ap (λ (r : Result (List FunctionForm) Fault). joined_with (map shown_function fs) r) (functions_step (heads ds) (earlier ds i) i walked.group lo d (drop (i + 1) ds))
-      ∙ sym (ap (λ (l : List Definition). joined_with (map shown_function fs) (unless (first_group_fault (earlier ds i) l) (from_here (checked_function sees (params_of d) lo d (rewritten d.body))))) there.definition)
+      ∙ sym (ap (λ (l : List Definition). joined_with (map shown_function fs)
+      (unless (first_group_fault (earlier ds i) l) (from_here (checked_function sees (params_of d) lo d (rewritten d.body))))) there.definition)
 
   -- the function of the code is that of the walk
-  same_function : (whole : List code_head.Head) → AreKnown (heads ds) whole → checked_function (known whole h.unit) (shown_slots h.params.items) lo d (shown_expression b) ≡ checked_function sees (params_of d) lo d (rewritten d.body)
+  same_function : (whole : List code_head.Head) → AreKnown (heads ds) whole → checked_function (known whole h.unit) (shown_slots h.params.items) lo d
+      (shown_expression b) ≡ checked_function sees (params_of d) lo d (rewritten d.body)
   same_function whole k =
       let q = is_paired (heads ds) i walked.group lo d (drop (i + 1) ds) h (drop (i + 1) hs) left_here in
       ap (λ (z : Known). checked_function z (shown_slots h.params.items) lo d (shown_expression b)) (same_known (heads ds) own whole h k q.unit)
       ∙ ap (λ (l : List Slot). checked_function sees l lo d (shown_expression b)) q.params ∙ ap (λ (e : Expression). checked_function sees (params_of d) lo d e) body
 
-  function_next : (whole : List code_head.Head) → AreKnown (heads ds) whole → group_fault_at ds i ≡ None → functions_from (heads ds) [] 0 0 1 ds ≡ joined_with (map shown_function fs) (from_here (checked_function (known whole h.unit) (shown_slots h.params.items) lo d (shown_expression b)))
+  function_next : (whole : List code_head.Head) → AreKnown (heads ds) whole → group_fault_at ds i ≡ None → functions_from (heads ds) [] 0 0 1 ds ≡
+      joined_with (map shown_function fs) (from_here (checked_function (known whole h.unit) (shown_slots h.params.items) lo d (shown_expression b)))
   function_next whole k g =
       functions_here ∙ ap (λ (o : Option Fault). joined_with (map shown_function fs) (unless o (from_here (checked_function sees (params_of d) lo d (rewritten d.body))))) g
       ∙ sym (ap (λ (r : Result FunctionForm Fault). joined_with (map shown_function fs) (from_here r)) (same_function whole k))
 
-  pub function_refused : (whole : List code_head.Head) → AreKnown (heads ds) whole → (e : CheckErr) → group_fault_at ds i ≡ None → Refuses e (checked_function (known whole h.unit) (shown_slots h.params.items) lo d (shown_expression b)) → Refuses e (functions_from (heads ds) [] 0 0 1 ds)
+  pub function_refused : (whole : List code_head.Head) → AreKnown (heads ds) whole → (e : CheckErr) → group_fault_at ds i ≡ None → Refuses e
+      (checked_function (known whole h.unit) (shown_slots h.params.items) lo d (shown_expression b)) → Refuses e (functions_from (heads ds) [] 0 0 1 ds)
   function_refused whole k e g r = stops e _ (map shown_function fs) (checked_function (known whole h.unit) (shown_slots h.params.items) lo d (shown_expression b)) _ (function_next whole k g) r
 
   names_next : earlier ds (i + 1) ≡ d.name ∷ earlier ds i
   names_next = ap (λ (n : ℕ). earlier ds n) (add-one i) ∙ ap (λ (x : List ℕ). x ∷ earlier ds i) there.name
 
   -- the function is added to those before it
-  added : (whole : List code_head.Head) → AreKnown (heads ds) whole → (f : Function) → group_fault_at ds i ≡ None → checked_function (known whole h.unit) (shown_slots h.params.items) lo d (shown_expression b) ≡ Ok (shown_function f)
+  added : (whole : List code_head.Head) → AreKnown (heads ds) whole → (f : Function) → group_fault_at ds i ≡ None → checked_function
+      (known whole h.unit) (shown_slots h.params.items) lo d (shown_expression b) ≡ Ok (shown_function f)
       → functions_from (heads ds) [] 0 0 1 ds ≡ joined_with (map shown_function (fs ++ f ∷ [])) (functions_from (heads ds) (earlier ds (i + 1)) (i + 1) own (lo + own_sites) (drop (i + 1) ds))
   added whole k f g r =
       let shown_next : map shown_function (fs ++ f ∷ []) ≡ map shown_function fs ++ shown_function f ∷ [] = map-append shown_function fs (f ∷ []) in
@@ -176,7 +188,8 @@ module _ (ds : List Definition) (hs : List code_head.Head) (fs : List Function) 
       (rest_left (heads ds) i walked.group lo d (drop (i + 1) ds) h (drop (i + 1) hs) left_here)
 
   pub walk_goes_on : (whole again : List code_head.Head) → AreKnown (heads ds) whole → AreKnown (heads ds) again → (f : Function) (gs : List Function) (next : ℕ) → group_fault_at ds i ≡ None
-      → checked_function (known whole h.unit) (shown_slots h.params.items) lo d (shown_expression b) ≡ Ok (shown_function f) → gs ≡ fs ++ f ∷ [] → next ≡ min 4001 (lo + sites (known again h.unit) (shown_expression b)) → IsWalked ds hs gs (i + 1) next
+      → checked_function (known whole h.unit) (shown_slots h.params.items) lo d (shown_expression b) ≡ Ok (shown_function f) → gs ≡ fs ++ f ∷ [] →
+      next ≡ min 4001 (lo + sites (known again h.unit) (shown_expression b)) → IsWalked ds hs gs (i + 1) next
   walk_goes_on whole again k l f gs next g r eg en =
       let w : IsWalked ds hs (fs ++ f ∷ []) (i + 1) (lo + own_sites) = record { group = own; left = left_next; functions = added whole k f g r } in
       subst (λ (l : List Function). IsWalked ds hs l (i + 1) next) (sym eg) (subst (λ (n : ℕ). IsWalked ds hs (fs ++ f ∷ []) (i + 1) n) (next_is again l next en) w)

@@ -1,11 +1,13 @@
 -- The Accepts of a cycle.
-use Rattle.std.proofs.Common.{◌≡◌, ℕ, zero, suc, ◌<◌, ◌≤◌, List, [], length, Option, Some, None, Bool, true, false, cond, not, ◌&&◌, ◌==◌, nat_lt, nat_le, is_some, refl, sym, ap, ◌∙◌, subst, inl, inr, ⊎_elim, ◌⊎◌, arith}
+use Rattle.std.proofs.Common.{◌≡◌, ℕ, zero, suc, ◌<◌, ◌≤◌, List, [], length, Option, Some, None, Bool, true, false, cond, not, ◌&&◌, ◌==◌, nat_lt}
+use Rattle.std.proofs.Common.{nat_le, is_some, refl, sym, ap, ◌∙◌, subst, inl, inr, ⊎_elim, ◌⊎◌, arith}
 use Rattle.std.proofs.Math.Path.{fun_ext}
 use Rattle.std.proofs.lemmas.Bool.{cases_Bool, cases_eq, cases_order, eqb-true, eq-eqb, le-ltb, leb-true, and_parts, not-true, true≢false}
 use Rattle.safl_circuit.proofs.Middle.{member_says}
 use Rattle.safl_circuit.specs.Equations.{Registers, Inputs, Choice, accepts, body_says, body_wants, want, wants_at, go, go_words, go_in, or_word}
 use Rattle.safl_circuit.specs.Steps.{is_running, is_delivering}
-use Rattle.safl_calls.proofs.Basics.{put_at, put_off, sweep, first_none, first_only, first_skip, first_zero, all_none, none_of, some_none, some_of, some_is, cond_some, unsent_is, mask_other, mask_skip, mask_at}
+use Rattle.safl_calls.proofs.Basics.{put_at, put_off, sweep, first_none, first_only, first_skip, first_zero, all_none, none_of, some_none, some_of}
+use Rattle.safl_calls.proofs.Basics.{some_is, cond_some, unsent_is, mask_other, mask_skip, mask_at}
 use Rattle.safl_calls.proofs.Invariant.{Inv}
 use Rattle.safl_calls.proofs.Numbered.{Numbered}
 use Rattle.safl_calls.specs.Machine.{State, Mode, Idle, Runs, Delivers, Accept, Enabled, Legal, after, fire, put, back, asked, asked_as, is_unsent}
@@ -53,14 +55,18 @@ module _ (C : Program) (P : Choice) (args : List Word) (good : Numbered C) (r : 
   unfolding go
   go_wants k h = by (P.arbiter (unit_for C (suc k))) h
     where
-      by : (b : Bool) → cond b (want C P r (suc k) && (not (r.run (unit_for C (suc k))) && not (is_some (first (wants_at C P r (unit_for C (suc k))) (suc k))))) (want C P r (suc k)) ≡ true → want C P r (suc k) ≡ true
+      by : (b : Bool) → cond b (want C P r (suc k) && (not (r.run (unit_for C (suc k))) && not
+          (is_some (first (wants_at C P r (unit_for C (suc k))) (suc k))))) (want C P r (suc k)) ≡ true → want C P r (suc k) ≡ true
       by true h = (and_parts _ _ h).0
       by false h = h
 
   go_arb : (k : ℕ) → go C P r i (suc k) ≡ true → P.arbiter (unit_for C (suc k)) ≡ true → (r.run (unit_for C (suc k)) ≡ false) × (first (wants_at C P r (unit_for C (suc k))) (suc k) ≡ None)
   unfolding go
   go_arb k h arbiter =
-      let h' : cond true (want C P r (suc k) && (not (r.run (unit_for C (suc k))) && not (is_some (first (wants_at C P r (unit_for C (suc k))) (suc k))))) (want C P r (suc k)) ≡ true = subst (λ b. cond b (want C P r (suc k) && (not (r.run (unit_for C (suc k))) && not (is_some (first (wants_at C P r (unit_for C (suc k))) (suc k))))) (want C P r (suc k)) ≡ true) arbiter h in
+      let h' : cond true (want C P r (suc k) && (not (r.run (unit_for C (suc k))) && not
+      (is_some (first (wants_at C P r (unit_for C (suc k))) (suc k))))) (want C P r (suc k)) ≡ true = subst
+      (λ b. cond b (want C P r (suc k) && (not (r.run (unit_for C (suc k))) && not
+      (is_some (first (wants_at C P r (unit_for C (suc k))) (suc k))))) (want C P r (suc k)) ≡ true) arbiter h in
       let a = and_parts _ _ (and_parts _ _ h').1 in
       (not-true _ a.0, none_of _ (not-true _ a.1))
 
@@ -129,7 +135,8 @@ module _ (C : Program) (P : Choice) (args : List Word) (good : Numbered C) (r : 
           some_none (suc j) (sym there ∙ no)
 
       by : (b' : Bool) → P.arbiter (unit_for C (suc j)) ≡ b' → suc j ≡ suc k
-      by true arbiter = ⊎_elim (λ same. ap suc same) (λ d. ⊎_elim (λ lt. absurd (lower j k a b e (sym (ap P.arbiter e) ∙ arbiter) lt)) (λ gt. absurd (lower k j b a (sym e) arbiter gt)) d) (cases_order j k)
+      by true arbiter = ⊎_elim (λ same. ap suc same) (λ d. ⊎_elim (λ lt. absurd (lower j k a b e (sym (ap P.arbiter e) ∙ arbiter) lt))
+          (λ gt. absurd (lower k j b a (sym e) arbiter gt)) d) (cases_order j k)
       by false no_arb = meets.one (suc j) (suc k) (omega arith) (omega arith) e no_arb (inl ((go_asks (suc j) a).0, (go_asks (suc j) a).1)) (inl ((go_asks (suc k) b).0, (go_asks (suc k) b).1))
 
   -- a unit after the accepts that were found, and a site after those below n
@@ -204,8 +211,10 @@ module _ (C : Program) (P : Choice) (args : List Word) (good : Numbered C) (r : 
 
       units : (ws : List Word) → go_words C P r i n ≡ Some ws → (u : ℕ) → put x.unit (unit_for C n) (Runs (C.callee n) n ws) u ≡ begun (first (go_in C P r i u) (suc n)) (t.unit u)
       units ws words u = ⊎_elim
-          (λ same. put_at x.unit (unit_for C n) u (Runs (C.callee n) n ws) same ∙ sym (ap (λ o. begun o (t.unit u)) (starts_at n (suc n) u (omega arith) up same) ∙ ap (λ o. Runs (C.callee n) n (or_word o [])) words))
-          (λ other. put_off x.unit (unit_for C n) u (Runs (C.callee n) n ws) other ∙ st.unit u ∙ ap (λ o. begun o (t.unit u)) (sym (first_skip (go_in C P r i u) n (go_off u n (λ e. absurd (other e))))))
+          (λ same. put_at x.unit (unit_for C n) u (Runs (C.callee n) n ws) same ∙ sym
+          (ap (λ o. begun o (t.unit u)) (starts_at n (suc n) u (omega arith) up same) ∙ ap (λ o. Runs (C.callee n) n (or_word o [])) words))
+          (λ other. put_off x.unit (unit_for C n) u (Runs (C.callee n) n ws) other ∙ st.unit u ∙ ap (λ o. begun o (t.unit u))
+          (sym (first_skip (go_in C P r i u) n (go_off u n (λ e. absurd (other e))))))
           (cases_eq (unit_for C n) u)
 
       sites : (ws : List Word) → (k : ℕ) → put x.site n Sent k ≡ cond (nat_lt k (suc n) && go C P r i k) Sent (t.site k)

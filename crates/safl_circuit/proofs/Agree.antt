@@ -2,7 +2,9 @@
 use Rattle.std.proofs.Common.{◌≡◌, ℕ, zero, suc, ◌<◌, ◌≤◌, Some, None, Bool, true, false, cond, not, ◌&&◌, ◌||◌, ◌==◌, nat_le, is_some, refl, ap, ◌∙◌, arith}
 use Rattle.std.proofs.lemmas.Bool.{leb-true, and_parts}
 use Rattle.safl_circuit.proofs.Same.{Same}
-use Rattle.safl_circuit.specs.Equations.{Registers, Inputs, Choice, ret, many, path, on_wires, word_on, body_says, body_wants, want, wants_at, go, go_words, end_in, goes_to, loop_from, loop_words, loop_in, go_in, load_in, ends, loops, starts, loads, clears, starts_it, if_other, starts_other, next}
+use Rattle.safl_circuit.specs.Equations.{Registers, Inputs, Choice, ret, many, path, on_wires, word_on, body_says, body_wants, want, wants_at, go}
+use Rattle.safl_circuit.specs.Equations.{go_words, end_in, goes_to, loop_from, loop_words, loop_in, go_in, load_in, ends, loops, starts, loads}
+use Rattle.safl_circuit.specs.Equations.{clears, starts_it, if_other, starts_other, next}
 use Rattle.safl_calls.proofs.Basics.{first_cong, cond_cong}
 use Rattle.safl_calls.proofs.Locality.{answer_local, wanted_local}
 use Rattle.safl_calls.proofs.Numbered.{Numbered}
@@ -31,8 +33,10 @@ module _ (C : Program) (P : Choice) (good : Numbered C) (i : Inputs) (r q : Regi
       ∙ ap (λ w. cond (q.got (suc k) || ret C q (suc k)) (Some w) None)
       (ap (λ b. cond (P.kept (suc k) && not b) (r.keep (suc k)) (r.res (unit_for C (suc k)))) (ret_same (suc k)) ∙ by (P.kept (suc k)) refl)
     where
-      by : (b : Bool) → P.kept (suc k) ≡ b → cond (b && not (ret C q (suc k))) (r.keep (suc k)) (r.res (unit_for C (suc k))) ≡ cond (b && not (ret C q (suc k))) (q.keep (suc k)) (q.res (unit_for C (suc k)))
-      by true is = ap (λ a. cond (not (ret C q (suc k))) a (r.res (unit_for C (suc k)))) (same.keep (suc k) pos le is) ∙ ap (cond (not (ret C q (suc k))) (q.keep (suc k))) (same.res (unit_for C (suc k)))
+      by : (b : Bool) → P.kept (suc k) ≡ b → cond (b && not (ret C q (suc k))) (r.keep (suc k)) (r.res (unit_for C (suc k))) ≡ cond
+          (b && not (ret C q (suc k))) (q.keep (suc k)) (q.res (unit_for C (suc k)))
+      by true is = ap (λ a. cond (not (ret C q (suc k))) a (r.res (unit_for C (suc k)))) (same.keep (suc k) pos le is) ∙ ap
+          (cond (not (ret C q (suc k))) (q.keep (suc k))) (same.res (unit_for C (suc k)))
       by false is = same.res (unit_for C (suc k))
 
   own_same : (f : ℕ) → f < C.functions → (k : ℕ) → Stands k (C.body f) → on_wires C P r k ≡ on_wires C P q k
@@ -72,7 +76,8 @@ module _ (C : Program) (P : Choice) (good : Numbered C) (i : Inputs) (r q : Regi
       let w = unit_for C (suc k) in
       ap (λ b. cond (P.arbiter w) (b && (not (r.run w) && not (is_some (first (wants_at C P r w) (suc k))))) b) (want_same k)
       ∙ ap (λ b. cond (P.arbiter w) (want C P q (suc k) && (not b && not (is_some (first (wants_at C P r w) (suc k))))) (want C P q (suc k))) (same.run w)
-      ∙ ap (λ o. cond (P.arbiter w) (want C P q (suc k) && (not (q.run w) && not (is_some o))) (want C P q (suc k))) (first_cong (wants_at C P r w) (wants_at C P q w) (suc k) (λ j lt. wants_at_same w j))
+      ∙ ap (λ o. cond (P.arbiter w) (want C P q (suc k) && (not (q.run w) && not (is_some o))) (want C P q (suc k)))
+      (first_cong (wants_at C P r w) (wants_at C P q w) (suc k) (λ j lt. wants_at_same w j))
 
   go_words_same : (k : ℕ) → go_words C P r i k ≡ go_words C P q i k
   go_words_same zero = ap (λ b. cond b (Some i.words) None) (go_same 0)
@@ -104,7 +109,8 @@ module _ (C : Program) (P : Choice) (good : Numbered C) (i : Inputs) (r q : Regi
   starts_it_same f = ap (λ o. is_some o || is_some (loop_words C P r f)) (loads_same f) ∙ ap (λ o. is_some (loads C P q i f) || is_some o) (loop_words_same f)
 
   starts_other_same : (f : ℕ) → starts_other C P r i f ≡ starts_other C P q i f
-  starts_other_same f = ap is_some (first_cong (if_other C P r i f) (if_other C P q i f) C.functions (λ g lt. ap (λ b. cond (C.unit g == C.unit f && (not (g == f) && b)) (Some g) None) (starts_it_same g)))
+  starts_other_same f = ap is_some (first_cong (if_other C P r i f) (if_other C P q i f) C.functions
+      (λ g lt. ap (λ b. cond (C.unit g == C.unit f && (not (g == f) && b)) (Some g) None) (starts_it_same g)))
 
   pub next_same : Same C P (next C P i r) (next C P i q)
   unfolding next

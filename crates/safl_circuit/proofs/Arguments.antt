@@ -1,5 +1,6 @@
 -- The words on the argument registers are the arguments of the events.
-use Rattle.std.proofs.Common.{◌≡◌, ℕ, zero, suc, ◌<◌, ◌≤◌, List, [], ◌∷◌, ◌++◌, length, Option, Some, None, Bool, true, false, cond, ◌||◌, nat_lt, is_some, refl, sym, ap, ◌∙◌, subst, ⊎_elim, ◌⊎◌, arith, append-nil, append_assoc, length-append}
+use Rattle.std.proofs.Common.{◌≡◌, ℕ, zero, suc, ◌<◌, ◌≤◌, List, [], ◌∷◌, ◌++◌, length, Option, Some, None, Bool, true, false, cond, ◌||◌, nat_lt}
+use Rattle.std.proofs.Common.{is_some, refl, sym, ap, ◌∙◌, subst, ⊎_elim, ◌⊎◌, arith, append-nil, append_assoc, length-append}
 use Rattle.std.proofs.lemmas.Bool.{cases_eq, eq-eqb, ne_eqb, true≢false, lt-ltb, le-ltb}
 use Rattle.safl_circuit.proofs.Accepts.{Meets, Started, accepted_to, asked_same, go_asks, go_one, go_idle}
 use Rattle.safl_circuit.proofs.Claims.{ArgumentsSeen, OneStart}
@@ -8,7 +9,8 @@ use Rattle.safl_circuit.proofs.Edge.{load_found}
 use Rattle.safl_circuit.proofs.Ends.{Ended, Moved, moved_to, loop_says, loop_found, running, Running, goes_yet}
 use Rattle.safl_circuit.proofs.Fate.{Holds}
 use Rattle.safl_circuit.proofs.WordsSeen.{words_seen}
-use Rattle.safl_circuit.specs.Equations.{Registers, Inputs, Choice, ret, go, go_words, load_in, loads, loop_words, returns, accepts, finishes, goes_on, cycle_events, next, end_word, starts_it, or_word}
+use Rattle.safl_circuit.specs.Equations.{Registers, Inputs, Choice, ret, go, go_words, load_in, loads, loop_words, returns, accepts, finishes}
+use Rattle.safl_circuit.specs.Equations.{goes_on, cycle_events, next, end_word, starts_it, or_word}
 use Rattle.safl_circuit.specs.Steps.{Quiet, StepsAt, input_at, registers_at, history}
 use Rattle.safl_calls.proofs.Basics.{first_some, first_only, first_skip, first_zero, all_none, not_some, none_of, some_of, some_is}
 use Rattle.safl_calls.proofs.Invariant.{Inv}
@@ -29,7 +31,8 @@ starts_append C args s (e ∷ xs) ys f =
     ∙ sym (append_assoc (event_start C args s e f) (starts_of C args (fire C args s e) xs f) (starts_of C args (after C args (fire C args s e) xs) ys f))
 
 -- events that start nothing
-no_starts : (C : Program) (args : List Word) (p : ℕ → Bool) (e : ℕ → Event) (f : ℕ) → ((q : State) (n : ℕ) → event_start C args q (e n) f ≡ []) → (s : State) (n : ℕ) → starts_of C args s (picks p e n) f ≡ []
+no_starts : (C : Program) (args : List Word) (p : ℕ → Bool) (e : ℕ → Event) (f : ℕ) → ((q : State) (n : ℕ) → event_start C args q (e n) f ≡ []) →
+    (s : State) (n : ℕ) → starts_of C args s (picks p e n) f ≡ []
 unfolding picks starts_of
 no_starts C args p e f none s zero = refl
 no_starts C args p e f none s (suc n) =
@@ -41,7 +44,10 @@ no_starts C args p e f none s (suc n) =
     one true q = append-nil (event_start C args q (e n) f) ∙ none q n
     one false q = refl
 
-module _ (C : Program) (P : Choice) (args : List Word) (good : Numbered C) (r : Registers) (i : Inputs) (t : State) (inv : Inv C t) (meets : Meets C P args r i t) (x : State) (st : Started C P args good r i t inv meets (suc C.sites) x) (y : State) (en : Ended C P args good r i t inv meets x st C.functions y) (z : State) (mv : Moved C P args good r i t inv meets x st y en C.functions z) (holds : Holds C P r t) where
+module _ (C : Program) (P : Choice) (args : List Word) (good : Numbered C) (r : Registers) (i : Inputs) (t : State) (inv : Inv C t)
+    (meets : Meets C P args r i t) (x : State) (st : Started C P args good r i t inv meets (suc C.sites) x) (y : State)
+    (en : Ended C P args good r i t inv meets x st C.functions y) (z : State) (mv : Moved C P args good r i t inv meets x st y en C.functions z)
+    (holds : Holds C P r t) where
   load_none : (f k n : ℕ) → k < n → go C P r i k ≡ true → C.callee k ≡ f → n ≤ suc C.sites → first (load_in C P r i f) k ≡ None
   load_none f k n lt up is le = all_none _ k (λ j below. not_some _ (λ ws h.
       let a = load_found C P args good r i t inv meets x st y en z mv holds f j ws h in
@@ -62,7 +68,8 @@ module _ (C : Program) (P : Choice) (args : List Word) (good : Numbered C) (r : 
       q : State
       q = after C args t (accepts C P r i n)
 
-      by : (b : Bool) → go C P r i n ≡ b → starts_of C args t (accepts C P r i n) f ≡ listed (first (load_in C P r i f) n) → starts_of C args t (accepts C P r i n ++ cond b (Accept n ∷ []) []) f ≡ listed (first (load_in C P r i f) (suc n))
+      by : (b : Bool) → go C P r i n ≡ b → starts_of C args t (accepts C P r i n) f ≡ listed (first (load_in C P r i f) n) → starts_of C args t
+          (accepts C P r i n ++ cond b (Accept n ∷ []) []) f ≡ listed (first (load_in C P r i f) (suc n))
       by true up ih =
           let a = go_asks C P args good r i t inv meets n up in
           let now = asked_same C P args good r i t inv meets n q (accepted_to C P args good r i t inv meets n (omega arith)).1 a.0 a.1 in
@@ -95,7 +102,8 @@ module _ (C : Program) (P : Choice) (args : List Word) (good : Numbered C) (r : 
           below : (a b : ℕ) → (a < b) ⊎ (b ≤ a)
           below a b = grind arith
 
-      by : (b : Bool) → is_some (loop_words C P r n) ≡ b → starts_of C args y (goes_on C P r n) f ≡ cond (nat_lt f n) (listed (loop_words C P r f)) [] → starts_of C args y (goes_on C P r n ++ cond b (LoopInto n ∷ []) []) f ≡ cond (nat_lt f (suc n)) (listed (loop_words C P r f)) []
+      by : (b : Bool) → is_some (loop_words C P r n) ≡ b → starts_of C args y (goes_on C P r n) f ≡ cond (nat_lt f n) (listed (loop_words C P r f)) []
+          → starts_of C args y (goes_on C P r n ++ cond b (LoopInto n ∷ []) []) f ≡ cond (nat_lt f (suc n)) (listed (loop_words C P r f)) []
       by true up ih =
           let p = some_of (loop_words C P r n) up in
           let now = loop_says C P args good r i t inv meets x st y en n p.0 q (omega arith) (moved_to C P args good r i t inv meets x st y en n (omega arith)).1 p.1 in
@@ -114,7 +122,8 @@ module _ (C : Program) (P : Choice) (args : List Word) (good : Numbered C) (r : 
           starts_append C args y (goes_on C P r n) [] f
           ∙ append-nil (starts_of C args y (goes_on C P r n) f) ∙ ih
           ∙ ⊎_elim
-          (λ is. ap (λ o. cond (nat_lt f n) (listed o) []) (no_words is) ∙ cond_same (nat_lt f n) [] ∙ sym (ap (λ o. cond (nat_lt f (suc n)) (listed o) []) (no_words is) ∙ cond_same (nat_lt f (suc n)) []))
+          (λ is. ap (λ o. cond (nat_lt f n) (listed o) []) (no_words is) ∙ cond_same (nat_lt f n) [] ∙ sym
+          (ap (λ o. cond (nat_lt f (suc n)) (listed o) []) (no_words is) ∙ cond_same (nat_lt f (suc n)) []))
           (λ other. ap (λ b. cond b (listed (loop_words C P r f)) []) (shift other))
           (cases_eq f n)
         where
@@ -137,24 +146,29 @@ module _ (C : Program) (P : Choice) (args : List Word) (good : Numbered C) (r : 
       runs_idle : (f k : ℕ) (ws : List Word) → Runs f k ws ≡ Idle → ⊥
       runs_idle f k ws e = grind arith
 
-  pub cycle_starts : (f : ℕ) → f < C.functions → starts_of C args t (accepts C P r i (suc C.sites)) f ++ starts_of C args y (goes_on C P r C.functions) f ≡ cond (starts_it C P r i f) ((next C P i r).arg f ∷ []) []
+  pub cycle_starts : (f : ℕ) → f < C.functions → starts_of C args t (accepts C P r i (suc C.sites)) f ++ starts_of C args y
+      (goes_on C P r C.functions) f ≡ cond (starts_it C P r i f) ((next C P i r).arg f ∷ []) []
   unfolding next loads
   cycle_starts f lt =
       ap (λ l. l ++ starts_of C args y (goes_on C P r C.functions) f) (accept_starts f (suc C.sites) (omega arith))
       ∙ ap (λ l. listed (first (load_in C P r i f) (suc C.sites)) ++ l) (loop_starts f C.functions (omega arith) ∙ ap (λ b. cond b (listed (loop_words C P r f)) []) (lt-ltb f C.functions lt))
       ∙ by (first (load_in C P r i f) (suc C.sites)) (loop_words C P r f) refl refl
     where
-      by : (o p : Option (List Word)) → first (load_in C P r i f) (suc C.sites) ≡ o → loop_words C P r f ≡ p → listed o ++ listed p ≡ cond (is_some o || is_some p) (or_word (or_else o p) (r.arg f) ∷ []) []
+      by : (o p : Option (List Word)) → first (load_in C P r i f) (suc C.sites) ≡ o → loop_words C P r f ≡ p → listed o ++ listed p ≡ cond
+          (is_some o || is_some p) (or_word (or_else o p) (r.arg f) ∷ []) []
       by None None a b = refl
       by None (Some vs) a b = refl
       by (Some us) None a b = refl
       by (Some us) (Some vs) a b = absurd (not_both f us vs a b)
 
-module _ (C : Program) (P : Choice) (good : Numbered C) (h1 : OneInUse C P.arbiter) (h2 : ShownWordsServe C P.kept) (r0 : Registers) (quiet : Quiet r0) (args : List Word) (sized : length args ≡ arity C C.main) (later : ℕ → List Word) where
+module _ (C : Program) (P : Choice) (good : Numbered C) (h1 : OneInUse C P.arbiter) (h2 : ShownWordsServe C P.kept) (r0 : Registers)
+    (quiet : Quiet r0) (args : List Word) (sized : length args ≡ arity C C.main) (later : ℕ → List Word) where
   at : (c : ℕ) → StepsAt C P r0 args later c
   at c = steps C P good h1 h2 r0 quiet args sized later c
 
-  over_cycle : (c f : ℕ) → f < C.functions → starts_of C args (after C args opening (history C P r0 args later c)) (cycle_events C P (registers_at C P r0 args later c) (input_at args later c)) f ≡ cond (starts_it C P (registers_at C P r0 args later c) (input_at args later c) f) ((next C P (input_at args later c) (registers_at C P r0 args later c)).arg f ∷ []) []
+  over_cycle : (c f : ℕ) → f < C.functions → starts_of C args (after C args opening (history C P r0 args later c))
+      (cycle_events C P (registers_at C P r0 args later c) (input_at args later c)) f ≡ cond
+      (starts_it C P (registers_at C P r0 args later c) (input_at args later c) f) ((next C P (input_at args later c) (registers_at C P r0 args later c)).arg f ∷ []) []
   over_cycle c f lt =
       let es = history C P r0 args later c in
       let r = registers_at C P r0 args later c in
@@ -167,20 +181,25 @@ module _ (C : Program) (P : Choice) (good : Numbered C) (h1 : OneInUse C P.arbit
       let x' = x C P args good h1 h2 r0.res es legal r i shows res start in
       let y' = y C P args good h1 h2 r0.res es legal r i shows res start in
       starts_append C args (after C args opening es) (returns C r (suc C.sites)) (late C P args good h1 h2 r0.res es legal r i shows res start) f
-      ∙ ap (λ l. l ++ starts_of C args (after C args (after C args opening es) (returns C r (suc C.sites))) (late C P args good h1 h2 r0.res es legal r i shows res start) f) (no_starts C args (ret C r) Return f (λ q n. refl) (after C args opening es) (suc C.sites))
+      ∙ ap (λ l. l ++ starts_of C args (after C args (after C args opening es) (returns C r (suc C.sites)))
+      (late C P args good h1 h2 r0.res es legal r i shows res start) f) (no_starts C args (ret C r) Return f (λ q n. refl) (after C args opening es) (suc C.sites))
       ∙ ap (λ q. starts_of C args q (late C P args good h1 h2 r0.res es legal r i shows res start) f) (sym (t_is C P args good h1 h2 r0.res es legal r i shows res start))
       ∙ starts_append C args t' (accepts C P r i (suc C.sites)) (finishes C P r C.functions ++ goes_on C P r C.functions) f
       ∙ ap (λ l. starts_of C args t' (accepts C P r i (suc C.sites)) f ++ l)
       (starts_append C args x' (finishes C P r C.functions) (goes_on C P r C.functions) f
       ∙ ap (λ l. l ++ starts_of C args y' (goes_on C P r C.functions) f) (no_starts C args (λ f. is_some (end_word C P r f)) Finish f (λ q n. refl) x' C.functions))
-      ∙ cycle_starts C P args good r i t' (inv_t C P args good h1 h2 r0.res es legal r i shows res start) (meets C P args good h1 h2 r0.res es legal r i shows res start) x' (started C P args good h1 h2 r0.res es legal r i shows res start).1 y' (ended C P args good h1 h2 r0.res es legal r i shows res start).1 (z C P args good h1 h2 r0.res es legal r i shows res start) (moved C P args good h1 h2 r0.res es legal r i shows res start).1 (holds C P args good h1 h2 r0.res es legal r i shows res start) f lt
+      ∙ cycle_starts C P args good r i t' (inv_t C P args good h1 h2 r0.res es legal r i shows res start)
+      (meets C P args good h1 h2 r0.res es legal r i shows res start) x' (started C P args good h1 h2 r0.res es legal r i shows res start).1 y'
+      (ended C P args good h1 h2 r0.res es legal r i shows res start).1 (z C P args good h1 h2 r0.res es legal r i shows res start)
+      (moved C P args good h1 h2 r0.res es legal r i shows res start).1 (holds C P args good h1 h2 r0.res es legal r i shows res start) f lt
 
   seen : (f c : ℕ) → f < C.functions → words_seen C P r0 args later f c ≡ starts_of C args opening (history C P r0 args later c) f
   unfolding words_seen history registers_at starts_of
   seen f zero lt = refl
   seen f (suc c) lt =
       let one = over_cycle c f lt in
-      ap (λ l. l ++ cond (starts_it C P (registers_at C P r0 args later c) (input_at args later c) f) ((next C P (input_at args later c) (registers_at C P r0 args later c)).arg f ∷ []) []) (seen f c lt)
+      ap (λ l. l ++ cond (starts_it C P (registers_at C P r0 args later c) (input_at args later c) f)
+      ((next C P (input_at args later c) (registers_at C P r0 args later c)).arg f ∷ []) []) (seen f c lt)
       ∙ ap (λ l. starts_of C args opening (history C P r0 args later c) f ++ l) (sym one)
       ∙ sym (starts_append C args opening (history C P r0 args later c) (cycle_events C P (registers_at C P r0 args later c) (input_at args later c)) f)
 
@@ -189,7 +208,8 @@ module _ (C : Program) (P : Choice) (good : Numbered C) (h1 : OneInUse C P.arbit
   few f zero = omega arith
   few f (suc c) =
       let before = few f c in
-      let len = length-append (words_seen C P r0 args later f c) (cond (starts_it C P (registers_at C P r0 args later c) (input_at args later c) f) ((registers_at C P r0 args later (suc c)).arg f ∷ []) []) in
+      let len = length-append (words_seen C P r0 args later f c)
+      (cond (starts_it C P (registers_at C P r0 args later c) (input_at args later c) f) ((registers_at C P r0 args later (suc c)).arg f ∷ []) []) in
       let one = at_most (starts_it C P (registers_at C P r0 args later c) (input_at args later c) f) ((registers_at C P r0 args later (suc c)).arg f) in
       omega (arith, before, len, one)
     where

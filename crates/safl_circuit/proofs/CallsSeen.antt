@@ -42,7 +42,8 @@ first_enabled : (C : Program) (args : List Word) (s : State) (e : Event) (es : L
 unfolding Legal
 first_enabled C args s e es h = h.0
 
-module _ (C : Program) (P : Choice) (wf : IsWellFormed C) (h1 : OneInUse C P.arbiter) (h2 : ShownWordsServe C P.kept) (r0 : Registers) (quiet : Quiet r0) (args : List Word) (sized : length args ≡ arity C C.main) (later : ℕ → List Word) where
+module _ (C : Program) (P : Choice) (wf : IsWellFormed C) (h1 : OneInUse C P.arbiter) (h2 : ShownWordsServe C P.kept) (r0 : Registers)
+    (quiet : Quiet r0) (args : List Word) (sized : length args ≡ arity C C.main) (later : ℕ → List Word) where
   abbrev hist : ℕ → List Event
   hist c = history C P r0 args later c
 
@@ -53,7 +54,8 @@ module _ (C : Program) (P : Choice) (wf : IsWellFormed C) (h1 : OneInUse C P.arb
   over_empty : (es fs : List Event) (v : Word) → Legal C args opening (es ++ fs) → (after C args opening es).site 0 ≡ Returned v → fs ≡ []
   over_empty es [] v h over = refl
   over_empty es (f ∷ fs) v h over =
-      absurd (stops C C.functions (numbered C wf) wf.numbered args es (legal_front C args opening es (f ∷ fs) h) v f over (first_enabled C args (after C args opening es) f fs (legal_back C args opening es (f ∷ fs) h)))
+      absurd (stops C C.functions (numbered C wf) wf.numbered args es (legal_front C args opening es (f ∷ fs) h) v f over
+      (first_enabled C args (after C args opening es) f fs (legal_back C args opening es (f ∷ fs) h)))
 
   -- the cycle of done has no other event
   pub done_events : (c : ℕ) → ret C (registers_at C P r0 args later c) 0 ≡ true → cycle_events C P (registers_at C P r0 args later c) (input_at args later c) ≡ Return 0 ∷ []
@@ -68,12 +70,14 @@ module _ (C : Program) (P : Choice) (wf : IsWellFormed C) (h1 : OneInUse C P.arb
       let all : Legal C args opening (hist c ++ (Return 0 ∷ rest)) = subst (λ l. Legal C args opening (hist c ++ l)) events (legal (suc c)) in
       let moved : Legal C args opening ((hist c ++ (Return 0 ∷ [])) ++ rest) = subst (λ l. Legal C args opening l) (sym (append_assoc (hist c) (Return 0 ∷ []) rest)) all in
       let enabled = first_enabled C args (after C args opening (hist c)) (Return 0) rest (legal_back C args opening (hist c) (Return 0 ∷ rest) all) in
-      let over : (after C args opening (hist c ++ (Return 0 ∷ []))).site 0 ≡ Returned enabled.0 = ap (λ s. s.site 0) (after_append C args opening (hist c) (Return 0 ∷ [])) ∙ after_return C args (after C args opening (hist c)) enabled.0 enabled.1 in
+      let over : (after C args opening (hist c ++ (Return 0 ∷ []))).site 0 ≡ Returned enabled.0 = ap (λ s. s.site 0)
+      (after_append C args opening (hist c) (Return 0 ∷ [])) ∙ after_return C args (after C args opening (hist c)) enabled.0 enabled.1 in
       let none : rest ≡ [] = over_empty (hist c ++ (Return 0 ∷ [])) rest enabled.0 moved over in
       events ∙ ap (λ l. Return 0 ∷ l) none
 
   -- nothing starts there
-  done_starts : (c f : ℕ) → ret C (registers_at C P r0 args later c) 0 ≡ true → starts_of C args opening (history C P r0 args later (suc c)) f ≡ starts_of C args opening (history C P r0 args later c) f
+  done_starts : (c f : ℕ) → ret C (registers_at C P r0 args later c) 0 ≡ true → starts_of C args opening (history C P r0 args later (suc c)) f ≡
+      starts_of C args opening (history C P r0 args later c) f
   unfolding history starts_of
   done_starts c f up =
       ap (λ l. starts_of C args opening (hist c ++ l) f) (done_events c up)
@@ -95,5 +99,6 @@ module _ (C : Program) (P : Choice) (wf : IsWellFormed C) (h1 : OneInUse C P.arb
       at_over c w (subst (λ n. (after C args opening (hist n)).site 0 ≡ Returned w) at_c (stays C P (numbered C wf) h1 h2 r0 quiet args sized later k t.cycle w returned)))
       (cases_eq t.cycle c))
     where
-      at_over : (n : ℕ) (w : Word) → (after C args opening (history C P r0 args later n)).site 0 ≡ Returned w → IsPermutation (main_calls C args d f) (starts_of C args opening (history C P r0 args later n) f)
+      at_over : (n : ℕ) (w : Word) → (after C args opening (history C P r0 args later n)).site 0 ≡ Returned w → IsPermutation (main_calls C args d f)
+          (starts_of C args opening (history C P r0 args later n) f)
       at_over n w over = same_calls C C.functions (numbered C wf) wf.numbered args (history C P r0 args later n) (legal n) w v d over f

@@ -12,22 +12,31 @@ use Rattle.safl_circuit.proofs.DoneOnce.{Core, DoneOnce, Exclusive}
 use Rattle.safl_circuit.proofs.WordsSeen.{words_seen}
 
 abbrev pub Steps : Type 0
-Steps = (C : Program) (P : Choice) → Numbered C → OneInUse C P.arbiter → ShownWordsServe C P.kept → (r0 : Registers) → Quiet r0 → (args : List Word) → length args ≡ arity C C.main → (later : ℕ → List Word) (c : ℕ) → StepsAt C P r0 args later c
+Steps = (C : Program) (P : Choice) → Numbered C → OneInUse C P.arbiter → ShownWordsServe C P.kept → (r0 : Registers) → Quiet r0 → (args : List Word) →
+    length args ≡ arity C C.main → (later : ℕ → List Word) (c : ℕ) → StepsAt C P r0 args later c
 
 -- done comes once, in time, with main's value
 abbrev pub InTime : Type 0
-InTime = (C : Program) (P : Choice) → Numbered C → OneInUse C P.arbiter → ShownWordsServe C P.kept → (r0 : Registers) → Quiet r0 → (args : List Word) → length args ≡ arity C C.main → (later : ℕ → List Word) (v : Word) (n : ℕ) → Core C args v n → DoneOnce C P r0 args later v (suc n)
+InTime = (C : Program) (P : Choice) → Numbered C → OneInUse C P.arbiter → ShownWordsServe C P.kept → (r0 : Registers) → Quiet r0 → (args : List Word)
+    → length args ≡ arity C C.main → (later : ℕ → List Word) (v : Word) (n : ℕ) → Core C args v n → DoneOnce C P r0 args later v (suc n)
 
 -- after done the state is quiet for good
 abbrev pub QuietAfter : Type 0
-QuietAfter = (C : Program) (P : Choice) → Numbered C → OneInUse C P.arbiter → ShownWordsServe C P.kept → (r0 : Registers) → Quiet r0 → (args : List Word) → length args ≡ arity C C.main → (later : ℕ → List Word) (a c : ℕ) → ret C (registers_at C P r0 args later a) 0 ≡ true → a < c → Quiet (registers_at C P r0 args later c)
+QuietAfter = (C : Program) (P : Choice) → Numbered C → OneInUse C P.arbiter → ShownWordsServe C P.kept → (r0 : Registers) → Quiet r0 →
+    (args : List Word) → length args ≡ arity C C.main → (later : ℕ → List Word) (a c : ℕ) → ret C (registers_at C P r0 args later a) 0 ≡ true → a < c
+    → Quiet (registers_at C P r0 args later c)
 
 abbrev pub NoTwoStarts : Type 0
-NoTwoStarts = (C : Program) (P : Choice) → Numbered C → OneInUse C P.arbiter → ShownWordsServe C P.kept → (r0 : Registers) → Quiet r0 → (args : List Word) → length args ≡ arity C C.main → (later : ℕ → List Word) (c : ℕ) → Exclusive C P r0 args later c
+NoTwoStarts = (C : Program) (P : Choice) → Numbered C → OneInUse C P.arbiter → ShownWordsServe C P.kept → (r0 : Registers) → Quiet r0 →
+    (args : List Word) → length args ≡ arity C C.main → (later : ℕ → List Word) (c : ℕ) → Exclusive C P r0 args later c
 
 -- the words on the argument registers are the arguments of the events, and a function starts at most once a cycle
 abbrev pub ArgumentsSeen : Type 0
-ArgumentsSeen = (C : Program) (P : Choice) → Numbered C → OneInUse C P.arbiter → ShownWordsServe C P.kept → (r0 : Registers) → Quiet r0 → (args : List Word) → length args ≡ arity C C.main → (later : ℕ → List Word) (f c : ℕ) → f < C.functions → words_seen C P r0 args later f c ≡ starts_of C args opening (history C P r0 args later c) f
+ArgumentsSeen = (C : Program) (P : Choice) → Numbered C → OneInUse C P.arbiter → ShownWordsServe C P.kept → (r0 : Registers) → Quiet r0 →
+    (args : List Word) → length args ≡ arity C C.main → (later : ℕ → List Word) (f c : ℕ) → f < C.functions → words_seen C P r0 args later f c ≡
+    starts_of C args opening (history C P r0 args later c) f
 
 abbrev pub OneStart : Type 0
-OneStart = (C : Program) (P : Choice) → Numbered C → OneInUse C P.arbiter → ShownWordsServe C P.kept → (r0 : Registers) → Quiet r0 → (args : List Word) → length args ≡ arity C C.main → (later : ℕ → List Word) (f c : ℕ) → f < C.functions → length (starts_of C args opening (history C P r0 args later c) f) ≤ c
+OneStart = (C : Program) (P : Choice) → Numbered C → OneInUse C P.arbiter → ShownWordsServe C P.kept → (r0 : Registers) → Quiet r0 →
+    (args : List Word) → length args ≡ arity C C.main → (later : ℕ → List Word) (f c : ℕ) → f < C.functions → length
+    (starts_of C args opening (history C P r0 args later c) f) ≤ c

@@ -58,7 +58,8 @@ sent_unsent : Sent ≡ Unsent → ⊥
 sent_unsent e = grind arith
 
 -- events that finish nothing leave the words
-last_same : (C : Program) (args : List Word) (s : State) (p : ℕ → Bool) (e : ℕ → Event) → ((q : State) (n u : ℕ) (d : Word) → finished C q (e n) u d ≡ d) → (n u : ℕ) (d : Word) → last_word C args s (picks p e n) u d ≡ d
+last_same : (C : Program) (args : List Word) (s : State) (p : ℕ → Bool) (e : ℕ → Event) →
+    ((q : State) (n u : ℕ) (d : Word) → finished C q (e n) u d ≡ d) → (n u : ℕ) (d : Word) → last_word C args s (picks p e n) u d ≡ d
 unfolding picks last_word
 last_same C args s p e same zero u d = refl
 last_same C args s p e same (suc n) u d =
@@ -70,7 +71,10 @@ last_same C args s p e same (suc n) u d =
     one true x c = same x n u c
     one false x c = refl
 
-module _ (C : Program) (P : Choice) (args : List Word) (good : Numbered C) (h1 : OneInUse C P.arbiter) (h2 : ShownWordsServe C P.kept) (d : ℕ → Word) (es : List Event) (legal : Legal C args opening es) (r : Registers) (i : Inputs) (shows : Shows C P (after C args opening es) r) (lasts : (u : ℕ) → r.res u ≡ last_word C args opening es u (d u)) (start : i.start ≡ true → ((after C args opening es).site 0 ≡ Unsent) × (i.words ≡ args) × (length args ≡ arity C C.main)) where
+module _ (C : Program) (P : Choice) (args : List Word) (good : Numbered C) (h1 : OneInUse C P.arbiter) (h2 : ShownWordsServe C P.kept) (d : ℕ → Word)
+    (es : List Event) (legal : Legal C args opening es) (r : Registers) (i : Inputs) (shows : Shows C P (after C args opening es) r)
+    (lasts : (u : ℕ) → r.res u ≡ last_word C args opening es u (d u))
+    (start : i.start ≡ true → ((after C args opening es).site 0 ≡ Unsent) × (i.words ≡ args) × (length args ≡ arity C C.main)) where
   s : State
   s = after C args opening es
 
@@ -80,7 +84,8 @@ module _ (C : Program) (P : Choice) (args : List Word) (good : Numbered C) (h1 :
   rets : List Event
   rets = returns C r (suc C.sites)
 
-  back_home : Legal C args (after C args opening es) (returns C r (suc C.sites)) × Back C P args good r (after C args opening es) inv shows (suc C.sites) (after C args (after C args opening es) (returns C r (suc C.sites)))
+  back_home : Legal C args (after C args opening es) (returns C r (suc C.sites)) × Back C P args good r (after C args opening es) inv shows
+      (suc C.sites) (after C args (after C args opening es) (returns C r (suc C.sites)))
   back_home = returned C P args good r (after C args opening es) inv shows
 
   abbrev pub all : List Event
@@ -196,7 +201,8 @@ module _ (C : Program) (P : Choice) (args : List Word) (good : Numbered C) (h1 :
     arg = λ u f k ws e. edge_arg C P args good r i t inv_t meets x started.1 y ended.1 z moved.1 holds u f k ws e (inv_z.member u f k ws e).0 (inv_z.member u f k ws e).1;
     sent = sent_z;
     got = got_z;
-    keep = λ k v pos. from_one (λ k. P.kept k ≡ true → z.site k ≡ Returned v → (next C P i r).keep k ≡ v) (λ k. edge_keep C P args good r i t inv_t meets x started.1 y ended.1 z moved.1 holds k v) k pos;
+    keep = λ k v pos. from_one (λ k. P.kept k ≡ true → z.site k ≡ Returned v → (next C P i r).keep k ≡ v)
+        (λ k. edge_keep C P args good r i t inv_t meets x started.1 y ended.1 z moved.1 holds k v) k pos;
     others = λ k pos rests. (sent_z k pos ∙ ap was_sent (unsent_at_rest C z k inv_z pos rests), got_z k pos ∙ ap is_returned (unsent_at_rest C z k inv_z pos rests));
   }
     where
@@ -252,7 +258,8 @@ module _ (C : Program) (P : Choice) (args : List Word) (good : Numbered C) (h1 :
       ∙ ap (last_word C args x (finishes C P r C.functions ++ goes_on C P r C.functions) u) (sym (last_same C args t _ Accept (λ q n u d. refl) (suc C.sites) u (last_word C args opening es u (d u))))
       ∙ sym (last_append C args t (accepts C P r i (suc C.sites)) (finishes C P r C.functions ++ goes_on C P r C.functions) u (last_word C args opening es u (d u)))
       ∙ ap (λ q. last_word C args q late u (last_word C args opening es u (d u))) t_is
-      ∙ ap (last_word C args (after C args (after C args opening es) (returns C r (suc C.sites))) late u) (sym (last_returns C args (after C args opening es) (ret C r) (suc C.sites) u (last_word C args opening es u (d u))))
+      ∙ ap (last_word C args (after C args (after C args opening es) (returns C r (suc C.sites))) late u)
+      (sym (last_returns C args (after C args opening es) (ret C r) (suc C.sites) u (last_word C args opening es u (d u))))
       ∙ sym (last_append C args (after C args opening es) (returns C r (suc C.sites)) late u (last_word C args opening es u (d u)))
       ∙ sym (last_append C args opening es (cycle_events C P r i) u (d u))
 
@@ -279,7 +286,9 @@ first_shows C P r0 quiet = record {
     unsent_returned : (v : Word) → Unsent ≡ Returned v → ⊥
     unsent_returned v e = grind arith
 
-pub start_at : (C : Program) (P : Choice) (r0 : Registers) (args : List Word) → length args ≡ arity C C.main → (later : ℕ → List Word) (c : ℕ) → (input_at args later c).start ≡ true → ((after C args opening (history C P r0 args later c)).site 0 ≡ Unsent) × ((input_at args later c).words ≡ args) × (length args ≡ arity C C.main)
+pub start_at : (C : Program) (P : Choice) (r0 : Registers) (args : List Word) → length args ≡ arity C C.main → (later : ℕ → List Word) (c : ℕ) →
+    (input_at args later c).start ≡ true → ((after C args opening (history C P r0 args later c)).site 0 ≡ Unsent) ×
+    ((input_at args later c).words ≡ args) × (length args ≡ arity C C.main)
 unfolding history after
 start_at C P r0 args sized later zero up = (refl, refl, sized)
 start_at C P r0 args sized later (suc c) up = absurd (false≢true up)

@@ -23,5 +23,6 @@ pub record DoneOnce (C : Program) (P : Choice) (r0 : Registers) (args : List Wor
 
 -- in no cycle is a unit started while running, or by two sites at once
 pub record Exclusive (C : Program) (P : Choice) (r0 : Registers) (args : List Word) (later : ℕ → List Word) (c : ℕ) : Type 0 where
-  pub one : (j k : ℕ) → go C P (registers_at C P r0 args later c) (input_at args later c) j ≡ true → go C P (registers_at C P r0 args later c) (input_at args later c) k ≡ true → unit_for C j ≡ unit_for C k → j ≡ k
+  pub one : (j k : ℕ) → go C P (registers_at C P r0 args later c) (input_at args later c) j ≡ true → go C P (registers_at C P r0 args later c)
+      (input_at args later c) k ≡ true → unit_for C j ≡ unit_for C k → j ≡ k
   pub rests : (k : ℕ) → go C P (registers_at C P r0 args later c) (input_at args later c) k ≡ true → (registers_at C P r0 args later c).run (unit_for C k) ≡ false

@@ -4,7 +4,8 @@ use Rattle.std.proofs.lemmas.Bool.{cases_eq, eqb-true, eqb-false, eq-eqb, ne_eqb
 use Rattle.safl_circuit.proofs.Accepts.{Meets, Started, asked_parts, go_within, go_one, go_asks}
 use Rattle.safl_circuit.proofs.Ends.{Ended, Moved, loops_at}
 use Rattle.safl_circuit.proofs.Fate.{Holds, Fate, Stays, Starts, EndsWith, LoopsTo, fate, delivers_runs, runs_delivers}
-use Rattle.safl_circuit.specs.Equations.{Registers, Inputs, Choice, many, end_in, loop_words, loop_in, or_word, go, go_in, go_words, load_in, loads, ends, loops, starts, clears, starts_it, if_other, starts_other, next}
+use Rattle.safl_circuit.specs.Equations.{Registers, Inputs, Choice, many, end_in, loop_words, loop_in, or_word, go, go_in, go_words, load_in, loads}
+use Rattle.safl_circuit.specs.Equations.{ends, loops, starts, clears, starts_it, if_other, starts_other, next}
 use Rattle.safl_circuit.specs.Steps.{is_running, is_delivering, was_sent, is_returned}
 use Rattle.safl_calls.proofs.Basics.{first_none, first_only, all_none, some_none, some_is, cond_some, not_some, mask_all}
 use Rattle.safl_calls.proofs.Invariant.{Inv}
@@ -69,7 +70,10 @@ member_in Idle = 0
 member_in (Runs f k ws) = f
 member_in (Delivers k v) = 0
 
-module _ (C : Program) (P : Choice) (args : List Word) (good : Numbered C) (r : Registers) (i : Inputs) (t : State) (inv : Inv C t) (meets : Meets C P args r i t) (x : State) (st : Started C P args good r i t inv meets (suc C.sites) x) (y : State) (en : Ended C P args good r i t inv meets x st C.functions y) (z : State) (mv : Moved C P args good r i t inv meets x st y en C.functions z) (holds : Holds C P r t) where
+module _ (C : Program) (P : Choice) (args : List Word) (good : Numbered C) (r : Registers) (i : Inputs) (t : State) (inv : Inv C t)
+    (meets : Meets C P args r i t) (x : State) (st : Started C P args good r i t inv meets (suc C.sites) x) (y : State)
+    (en : Ended C P args good r i t inv meets x st C.functions y) (z : State) (mv : Moved C P args good r i t inv meets x st y en C.functions z)
+    (holds : Holds C P r t) where
   now : (u : ℕ) → Fate C P r i t z u
   now u = fate C P args good r i t inv meets x st y en z mv u
 
@@ -106,7 +110,8 @@ module _ (C : Program) (P : Choice) (args : List Word) (good : Numbered C) (r : 
       by (EndsWith w j he hl hs e) = ap (λ o. or_word o (r.res u)) he ∙ ap word_in (sym e ∙ d)
       by (LoopsTo h j vs runs he hl hs lt in_u words e) = absurd (runs_delivers k v _ _ _ (sym e ∙ d))
 
-  z_site : (k : ℕ) → z.site (suc k) ≡ cond (is_some (first (loop_in C P r (C.unit (C.caller (suc k)))) C.functions)) Unsent (cond (is_some (first (end_in C P r (C.unit (C.caller (suc k)))) C.functions)) Unsent (cond (go C P r i (suc k)) Sent (t.site (suc k))))
+  z_site : (k : ℕ) → z.site (suc k) ≡ cond (is_some (first (loop_in C P r (C.unit (C.caller (suc k)))) C.functions)) Unsent
+      (cond (is_some (first (end_in C P r (C.unit (C.caller (suc k)))) C.functions)) Unsent (cond (go C P r i (suc k)) Sent (t.site (suc k))))
   z_site k =
       let u = C.unit (C.caller (suc k)) in
       mv.site k
@@ -189,7 +194,9 @@ module _ (C : Program) (P : Choice) (args : List Word) (good : Numbered C) (r : 
           rw (no_load f u in_u hs, ap (loop_words C P r) (sym f_is) ∙ words) (ap args_in (sym e ∙ d))
 
   -- one member of a unit is started
-  at_target : (u m : ℕ) → m < C.functions → C.unit m ≡ u → starts_it C P r i m ≡ true → ((g : ℕ) → g < C.functions → C.unit g ≡ u → (g ≡ m → ⊥) → starts_it C P r i g ≡ false) → (g : ℕ) → g < C.functions → C.unit g ≡ u → cond (starts_other C P r i g) false (r.at g || starts_it C P r i g) ≡ (m == g)
+  at_target : (u m : ℕ) → m < C.functions → C.unit m ≡ u → starts_it C P r i m ≡ true →
+      ((g : ℕ) → g < C.functions → C.unit g ≡ u → (g ≡ m → ⊥) → starts_it C P r i g ≡ false) → (g : ℕ) → g < C.functions → C.unit g ≡ u → cond
+      (starts_other C P r i g) false (r.at g || starts_it C P r i g) ≡ (m == g)
   at_target u m ltm in_m it others g ltg in_g = ⊎_elim same other (cases_eq m g)
     where
       same : m ≡ g → cond (starts_other C P r i g) false (r.at g || starts_it C P r i g) ≡ (m == g)
@@ -207,7 +214,8 @@ module _ (C : Program) (P : Choice) (args : List Word) (good : Numbered C) (r : 
           let some : is_some (first (if_other C P r i g) C.functions) ≡ true = there _ (λ none. some_none m (sym at ∙ first_none _ C.functions none m ltm)) in
           ap (λ b. cond b false (r.at g || starts_it C P r i g)) some ∙ sym (ne_eqb m g e)
 
-  at_stays : (u : ℕ) → ((g : ℕ) → g < C.functions → C.unit g ≡ u → starts_it C P r i g ≡ false) → (g : ℕ) → g < C.functions → C.unit g ≡ u → cond (starts_other C P r i g) false (r.at g || starts_it C P r i g) ≡ r.at g
+  at_stays : (u : ℕ) → ((g : ℕ) → g < C.functions → C.unit g ≡ u → starts_it C P r i g ≡ false) → (g : ℕ) → g < C.functions → C.unit g ≡ u → cond
+      (starts_other C P r i g) false (r.at g || starts_it C P r i g) ≡ r.at g
   at_stays u none g ltg in_g =
       let no_other : first (if_other C P r i g) C.functions ≡ None = all_none _ C.functions (λ j lt. not_some _ (λ v h.
       let a = and_parts _ _ (cond_some _ _ v h).0 in

@@ -1,5 +1,6 @@
 -- The Finishes and the Loops of a cycle.
-use Rattle.std.proofs.Common.{◌≡◌, ℕ, zero, suc, ◌<◌, ◌≤◌, List, [], ◌∷◌, ◌++◌, Option, Some, None, Bool, true, false, cond, ◌&&◌, ◌==◌, is_some, refl, sym, ap, ◌∙◌, subst, inl, inr, ⊎_elim, ◌⊎◌, arith}
+use Rattle.std.proofs.Common.{◌≡◌, ℕ, zero, suc, ◌<◌, ◌≤◌, List, [], ◌∷◌, ◌++◌, Option, Some, None, Bool, true, false, cond, ◌&&◌, ◌==◌, is_some}
+use Rattle.std.proofs.Common.{refl, sym, ap, ◌∙◌, subst, inl, inr, ⊎_elim, ◌⊎◌, arith}
 use Rattle.std.proofs.Math.Path.{fun_ext}
 use Rattle.std.proofs.lemmas.Bool.{cases_Bool, cases_eq, eqb-true, eq-eqb, ne_eqb, and_parts, true≢false}
 use Rattle.safl_circuit.proofs.Accepts.{Meets, Started, begun, not_started, back_same}
@@ -112,7 +113,8 @@ module _ (C : Program) (P : Choice) (args : List Word) (good : Numbered C) (r : 
     back_x = fun_ext (back_same C P args good r i t inv meets (suc C.sites) x st)
 
     -- a body says the same where its own sites are as they were
-    pub says_still : (f : ℕ) (ws : List Word) (z : State) → f < C.functions → ((k : ℕ) → C.caller (suc k) ≡ f → z.site (suc k) ≡ x.site (suc k)) → answer (back z) ws (C.body f) ≡ answer (back t) ws (C.body f)
+    pub says_still : (f : ℕ) (ws : List Word) (z : State) → f < C.functions → ((k : ℕ) → C.caller (suc k) ≡ f → z.site (suc k) ≡ x.site (suc k)) →
+        answer (back z) ws (C.body f) ≡ answer (back t) ws (C.body f)
     says_still f ws z lt same =
         answer_local (back z) (back x) ws (C.body f) own ∙ ap (λ b. answer b ws (C.body f)) back_x
       where
@@ -157,16 +159,20 @@ module _ (C : Program) (P : Choice) (args : List Word) (good : Numbered C) (r : 
             let e : finish C y w (y.unit w) (says C y w) ≡ finish C y w (Runs n k ws) (Ready v) = ap (λ m. finish C y w m (says C y w)) now ∙ ap (finish C y w (Runs n k ws)) says' in
             ((k, ws, v, now, says'), subst (Ended (suc n)) (sym e) (record { unit = units v k ws is before; site = sites v is; outer = en.outer }))
           where
-            units : (v : Word) (k : ℕ) (ws : List Word) → body_says C P r n ≡ Ready v → x.unit w ≡ Runs n k ws → (u : ℕ) → put y.unit w (Delivers k v) u ≡ done_as (first (end_in C P r u) (suc n)) (x.unit u)
+            units : (v : Word) (k : ℕ) (ws : List Word) → body_says C P r n ≡ Ready v → x.unit w ≡ Runs n k ws → (u : ℕ) → put y.unit w (Delivers k v)
+                u ≡ done_as (first (end_in C P r u) (suc n)) (x.unit u)
             units v k ws is before u = ⊎_elim
-                (λ same. put_at y.unit w u (Delivers k v) same ∙ sym (ap (λ o. done_as o (x.unit u)) (ends_at n v (suc n) u (omega arith) lt is same) ∙ ap (done_as (Some v)) (ap x.unit (sym same) ∙ before)))
+                (λ same. put_at y.unit w u (Delivers k v) same ∙ sym (ap (λ o. done_as o (x.unit u)) (ends_at n v (suc n) u (omega arith) lt is same)
+                ∙ ap (done_as (Some v)) (ap x.unit (sym same) ∙ before)))
                 (λ other. put_off y.unit w u (Delivers k v) other ∙ en.unit u ∙ ap (λ o. done_as o (x.unit u)) (sym (first_skip (end_in C P r u) n (end_off u n other))))
                 (cases_eq w u)
 
             sites : (v : Word) → body_says C P r n ≡ Ready v → (j : ℕ) → ended C w y.site (suc j) ≡ cond (is_some (first (end_in C P r (C.unit (C.caller (suc j)))) (suc n))) Unsent (x.site (suc j))
             sites v is j = ⊎_elim
                 (λ same. rw (eq-eqb (C.unit (C.caller (suc j))) w same, ends_at n v (suc n) (C.unit (C.caller (suc j))) (omega arith) lt is (sym same)) refl)
-                (λ other. rw (ne_eqb (C.unit (C.caller (suc j))) w other) (en.site j ∙ ap (λ o. cond (is_some o) Unsent (x.site (suc j))) (sym (first_skip (end_in C P r (C.unit (C.caller (suc j)))) n (end_off _ n (λ e. other (sym e)))))))
+                (λ other. rw (ne_eqb (C.unit (C.caller (suc j))) w other)
+                (en.site j ∙ ap (λ o. cond (is_some o) Unsent (x.site (suc j)))
+                (sym (first_skip (end_in C P r (C.unit (C.caller (suc j)))) n (end_off _ n (λ e. other (sym e)))))))
                 (cases_eq (C.unit (C.caller (suc j))) w)
 
     end_skips : (n : ℕ) (y : State) → n < C.functions → Ended n y → is_some (end_word C P r n) ≡ false → Ended (suc n) y
@@ -181,7 +187,12 @@ module _ (C : Program) (P : Choice) (args : List Word) (good : Numbered C) (r : 
 
     pub finished_to : (n : ℕ) → n ≤ C.functions → Legal C args x (finishes C P r n) × Ended n (after C args x (finishes C P r n))
     finished_to n le =
-        let none : Ended 0 x = record { unit = λ u. ap (λ o. done_as o (x.unit u)) (sym (first_zero (end_in C P r u))); site = λ k. ap (λ o. cond (is_some o) Unsent (x.site (suc k))) (sym (first_zero (end_in C P r (C.unit (C.caller (suc k)))))); outer = refl } in
+        let none : Ended 0 x = record {
+          unit = λ u. ap (λ o. done_as o (x.unit u)) (sym (first_zero (end_in C P r u)));
+          site = λ k. ap
+              (λ o. cond (is_some o) Unsent (x.site (suc k))) (sym (first_zero (end_in C P r (C.unit (C.caller (suc k))))));
+          outer = refl;
+        } in
         sweep C args Ended (λ f. is_some (end_word C P r f)) Finish C.functions end_fires end_skips x none n le
 
     -- what a unit says when its end is reached in the sweep
@@ -209,13 +220,16 @@ module _ (C : Program) (P : Choice) (args : List Word) (good : Numbered C) (r : 
         en : Ended n q
         en = (finished_to n (omega arith)).1
 
-        up_at : (v : Word) → body_says C P r n ≡ Ready v → (e : Word) → e ≡ or_word (first (end_in C P r u) n) d → cond (C.unit n == u) (finished_as (says C q u) e) e ≡ or_word (first (end_in C P r u) (suc n)) d
+        up_at : (v : Word) → body_says C P r n ≡ Ready v → (e : Word) → e ≡ or_word (first (end_in C P r u) n) d → cond (C.unit n == u)
+            (finished_as (says C q u) e) e ≡ or_word (first (end_in C P r u) (suc n)) d
         up_at v is e ih = ⊎_elim
-            (λ same. rw (eq-eqb (C.unit n) u same) (ap (λ a. finished_as a e) (ap (says C q) (sym same) ∙ end_says n v q (omega arith) en is) ∙ sym (ap (λ o. or_word o d) (ends_at n v (suc n) u (omega arith) le is same))))
+            (λ same. rw (eq-eqb (C.unit n) u same) (ap (λ a. finished_as a e) (ap (says C q) (sym same) ∙ end_says n v q (omega arith) en is) ∙ sym
+            (ap (λ o. or_word o d) (ends_at n v (suc n) u (omega arith) le is same))))
             (λ other. rw (ne_eqb (C.unit n) u other) (ih ∙ ap (λ o. or_word o d) (sym (first_skip (end_in C P r u) n (end_off u n other)))))
             (cases_eq (C.unit n) u)
 
-        by : (b : Bool) → is_some (end_word C P r n) ≡ b → last_word C args x (finishes C P r n) u d ≡ or_word (first (end_in C P r u) n) d → last_word C args x (finishes C P r n ++ cond b (Finish n ∷ []) []) u d ≡ or_word (first (end_in C P r u) (suc n)) d
+        by : (b : Bool) → is_some (end_word C P r n) ≡ b → last_word C args x (finishes C P r n) u d ≡ or_word (first (end_in C P r u) n) d →
+            last_word C args x (finishes C P r n ++ cond b (Finish n ∷ []) []) u d ≡ or_word (first (end_in C P r u) (suc n)) d
         by true is ih =
             let v = some_of (end_word C P r n) is in
             last_append C args x (finishes C P r n) (Finish n ∷ []) u d
@@ -286,7 +300,8 @@ module _ (C : Program) (P : Choice) (args : List Word) (good : Numbered C) (r : 
           none : first (loop_in C P r w) n ≡ None
           none = all_none _ n (λ j below. loop_off w j (λ e upj. omega (arith, one_loop j n (omega (arith, below, lt)) lt e upj up, below)))
 
-          fires : (vs : List Word) → loop_words C P r n ≡ Some vs → (g : ℕ) → g < C.functions → C.unit g ≡ w → body_says C P r g ≡ LoopTo n vs → Running C t g (LoopTo n vs) → Enabled C args z (LoopInto n) × Moved (suc n) (fire C args z (LoopInto n))
+          fires : (vs : List Word) → loop_words C P r n ≡ Some vs → (g : ℕ) → g < C.functions → C.unit g ≡ w → body_says C P r g ≡ LoopTo n vs →
+              Running C t g (LoopTo n vs) → Enabled C args z (LoopInto n) × Moved (suc n) (fire C args z (LoopInto n))
           fires vs words g ltg in_w is run =
               let k = run.serves in
               let ws = run.args in
@@ -302,28 +317,38 @@ module _ (C : Program) (P : Choice) (args : List Word) (good : Numbered C) (r : 
               let e : loop_into C z w (z.unit w) (says C z w) ≡ loop_into C z w (Runs g k ws) (LoopTo n vs) = ap (λ m. loop_into C z w m (says C z w)) now ∙ ap (loop_into C z w (Runs g k ws)) says' in
               ((vs, says'), subst (Moved (suc n)) (sym e) (record { unit = units vs k g ws words before; site = sites; outer = mv.outer }))
             where
-              units : (vs : List Word) (k g : ℕ) (ws : List Word) → loop_words C P r n ≡ Some vs → y.unit w ≡ Runs g k ws → (u : ℕ) → put z.unit w (Runs n k vs) u ≡ moved_as (first (loop_in C P r u) (suc n)) (y.unit u)
+              units : (vs : List Word) (k g : ℕ) (ws : List Word) → loop_words C P r n ≡ Some vs → y.unit w ≡ Runs g k ws → (u : ℕ) → put z.unit w
+                  (Runs n k vs) u ≡ moved_as (first (loop_in C P r u) (suc n)) (y.unit u)
               units vs k g ws words before u = ⊎_elim
-                  (λ same. put_at z.unit w u (Runs n k vs) same ∙ sym (ap (λ o. moved_as o (y.unit u)) (loops_at n (suc n) u (omega arith) lt up same) ∙ ap (moved_as (Some n)) (ap y.unit (sym same) ∙ before) ∙ ap (λ o. Runs n k (or_word o [])) words))
+                  (λ same. put_at z.unit w u (Runs n k vs) same ∙ sym (ap (λ o. moved_as o (y.unit u)) (loops_at n (suc n) u (omega arith) lt up same)
+                  ∙ ap (moved_as (Some n)) (ap y.unit (sym same) ∙ before) ∙ ap (λ o. Runs n k (or_word o [])) words))
                   (λ other. put_off z.unit w u (Runs n k vs) other ∙ mv.unit u ∙ ap (λ o. moved_as o (y.unit u)) (sym (first_skip (loop_in C P r u) n (loop_off u n (λ e upn. other e)))))
                   (cases_eq w u)
 
               sites : (j : ℕ) → ended C w z.site (suc j) ≡ cond (is_some (first (loop_in C P r (C.unit (C.caller (suc j)))) (suc n))) Unsent (y.site (suc j))
               sites j = ⊎_elim
                   (λ same. rw (eq-eqb (C.unit (C.caller (suc j))) w same, loops_at n (suc n) (C.unit (C.caller (suc j))) (omega arith) lt up (sym same)) refl)
-                  (λ other. rw (ne_eqb (C.unit (C.caller (suc j))) w other) (mv.site j ∙ ap (λ o. cond (is_some o) Unsent (y.site (suc j))) (sym (first_skip (loop_in C P r (C.unit (C.caller (suc j)))) n (loop_off _ n (λ e upn. other (sym e)))))))
+                  (λ other. rw (ne_eqb (C.unit (C.caller (suc j))) w other)
+                  (mv.site j ∙ ap (λ o. cond (is_some o) Unsent (y.site (suc j)))
+                  (sym (first_skip (loop_in C P r (C.unit (C.caller (suc j)))) n (loop_off _ n (λ e upn. other (sym e)))))))
                   (cases_eq (C.unit (C.caller (suc j))) w)
 
       loop_skips : (n : ℕ) (z : State) → n < C.functions → Moved n z → is_some (loop_words C P r n) ≡ false → Moved (suc n) z
       loop_skips n z lt mv down = record {
         unit = λ u. mv.unit u ∙ ap (λ o. moved_as o (y.unit u)) (sym (first_skip (loop_in C P r u) n (loop_off u n (λ e up. absurd (true≢false (sym up ∙ down))))));
-        site = λ j. mv.site j ∙ ap (λ o. cond (is_some o) Unsent (y.site (suc j))) (sym (first_skip (loop_in C P r (C.unit (C.caller (suc j)))) n (loop_off _ n (λ e up. absurd (true≢false (sym up ∙ down))))));
+        site = λ j. mv.site j ∙ ap (λ o. cond (is_some o) Unsent (y.site (suc j)))
+            (sym (first_skip (loop_in C P r (C.unit (C.caller (suc j)))) n (loop_off _ n (λ e up. absurd (true≢false (sym up ∙ down))))));
         outer = mv.outer;
       }
 
       pub moved_to : (n : ℕ) → n ≤ C.functions → Legal C args y (goes_on C P r n) × Moved n (after C args y (goes_on C P r n))
       moved_to n le =
-          let none : Moved 0 y = record { unit = λ u. ap (λ o. moved_as o (y.unit u)) (sym (first_zero (loop_in C P r u))); site = λ k. ap (λ o. cond (is_some o) Unsent (y.site (suc k))) (sym (first_zero (loop_in C P r (C.unit (C.caller (suc k)))))); outer = en.outer } in
+          let none : Moved 0 y = record {
+            unit = λ u. ap (λ o. moved_as o (y.unit u)) (sym (first_zero (loop_in C P r u)));
+            site = λ k. ap
+                (λ o. cond (is_some o) Unsent (y.site (suc k))) (sym (first_zero (loop_in C P r (C.unit (C.caller (suc k))))));
+            outer = en.outer;
+          } in
           sweep C args Moved (λ h. is_some (loop_words C P r h)) LoopInto C.functions loop_fires loop_skips y none n le
 
       pub moved_all : Legal C args y (goes_on C P r C.functions) × Moved C.functions (after C args y (goes_on C P r C.functions))

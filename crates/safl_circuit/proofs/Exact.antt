@@ -24,7 +24,8 @@ use Rattle.safl_term.specs.Program.{Program, unit_for, arity}
 use Rattle.safl_term.specs.WellFormed.{IsWellFormed}
 use Rattle.safl_word.specs.Words.{Word}
 
-module _ (C : Program) (P : Choice) (wf : IsWellFormed C) (seq : IsSequential C) (h1 : OneInUse C P.arbiter) (h2 : ShownWordsServe C P.kept) (r0 : Registers) (quiet : Quiet r0) (args : List Word) (sized : length args ≡ arity C C.main) (later : ℕ → List Word) where
+module _ (C : Program) (P : Choice) (wf : IsWellFormed C) (seq : IsSequential C) (h1 : OneInUse C P.arbiter) (h2 : ShownWordsServe C P.kept)
+    (r0 : Registers) (quiet : Quiet r0) (args : List Word) (sized : length args ≡ arity C C.main) (later : ℕ → List Word) where
   good : Numbered C
   good = numbered C wf
 

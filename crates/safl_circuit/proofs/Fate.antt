@@ -32,11 +32,17 @@ runs_delivers j v f k ws e = grind arith
 
 pub data Fate (C : Program) (P : Choice) (r : Registers) (i : Inputs) (t z : State) (u : ℕ) : Type 0 where
   Stays : first (end_in C P r u) C.functions ≡ None → first (loop_in C P r u) C.functions ≡ None → first (go_in C P r i u) (suc C.sites) ≡ None → z.unit u ≡ t.unit u → Fate C P r i t z u
-  Starts : (k : ℕ) → first (end_in C P r u) C.functions ≡ None → first (loop_in C P r u) C.functions ≡ None → first (go_in C P r i u) (suc C.sites) ≡ Some k → k ≤ C.sites → unit_for C k ≡ u → go C P r i k ≡ true → z.unit u ≡ Runs (C.callee k) k (or_word (go_words C P r i k) []) → Fate C P r i t z u
-  EndsWith : (v : Word) (j : ℕ) → first (end_in C P r u) C.functions ≡ Some v → first (loop_in C P r u) C.functions ≡ None → first (go_in C P r i u) (suc C.sites) ≡ None → z.unit u ≡ Delivers j v → Fate C P r i t z u
-  LoopsTo : (h j : ℕ) (vs : List Word) → is_running (t.unit u) ≡ true → first (end_in C P r u) C.functions ≡ None → first (loop_in C P r u) C.functions ≡ Some h → first (go_in C P r i u) (suc C.sites) ≡ None → h < C.functions → C.unit h ≡ u → loop_words C P r h ≡ Some vs → z.unit u ≡ Runs h j vs → Fate C P r i t z u
+  Starts : (k : ℕ) → first (end_in C P r u) C.functions ≡ None → first (loop_in C P r u) C.functions ≡ None → first (go_in C P r i u) (suc C.sites) ≡
+      Some k → k ≤ C.sites → unit_for C k ≡ u → go C P r i k ≡ true → z.unit u ≡ Runs (C.callee k) k (or_word (go_words C P r i k) []) → Fate C P r i t z u
+  EndsWith : (v : Word) (j : ℕ) → first (end_in C P r u) C.functions ≡ Some v → first (loop_in C P r u) C.functions ≡ None → first (go_in C P r i u)
+      (suc C.sites) ≡ None → z.unit u ≡ Delivers j v → Fate C P r i t z u
+  LoopsTo : (h j : ℕ) (vs : List Word) → is_running (t.unit u) ≡ true → first (end_in C P r u) C.functions ≡ None → first (loop_in C P r u)
+      C.functions ≡ Some h → first (go_in C P r i u) (suc C.sites) ≡ None → h < C.functions → C.unit h ≡ u → loop_words C P r h ≡ Some vs → z.unit u ≡
+      Runs h j vs → Fate C P r i t z u
 
-module _ (C : Program) (P : Choice) (args : List Word) (good : Numbered C) (r : Registers) (i : Inputs) (t : State) (inv : Inv C t) (meets : Meets C P args r i t) (x : State) (st : Started C P args good r i t inv meets (suc C.sites) x) (y : State) (en : Ended C P args good r i t inv meets x st C.functions y) (z : State) (mv : Moved C P args good r i t inv meets x st y en C.functions z) where
+module _ (C : Program) (P : Choice) (args : List Word) (good : Numbered C) (r : Registers) (i : Inputs) (t : State) (inv : Inv C t)
+    (meets : Meets C P args r i t) (x : State) (st : Started C P args good r i t inv meets (suc C.sites) x) (y : State)
+    (en : Ended C P args good r i t inv meets x st C.functions y) (z : State) (mv : Moved C P args good r i t inv meets x st y en C.functions z) where
   runs_not_idle : (u f k : ℕ) (ws : List Word) → t.unit u ≡ Runs f k ws → t.unit u ≡ Idle → ⊥
   runs_not_idle u f k ws e idle = apart (sym e ∙ idle)
     where
@@ -47,14 +53,17 @@ module _ (C : Program) (P : Choice) (args : List Word) (good : Numbered C) (r : 
   no_start u f k ws e = not_started C P args good r i t inv meets u (suc C.sites) (runs_not_idle u f k ws e)
 
   -- the unit after the cycle, from what was found
-  after_all : (u : ℕ) (e : Option Word) (l s : Option ℕ) → first (end_in C P r u) C.functions ≡ e → first (loop_in C P r u) C.functions ≡ l → first (go_in C P r i u) (suc C.sites) ≡ s → z.unit u ≡ moved_as C P args good r i t inv meets x st y en l (done_as C P args good r i t inv meets x st e (begun C P args good r i t inv meets s (t.unit u)))
+  after_all : (u : ℕ) (e : Option Word) (l s : Option ℕ) → first (end_in C P r u) C.functions ≡ e → first (loop_in C P r u) C.functions ≡ l → first
+      (go_in C P r i u) (suc C.sites) ≡ s → z.unit u ≡ moved_as C P args good r i t inv meets x st y en l
+      (done_as C P args good r i t inv meets x st e (begun C P args good r i t inv meets s (t.unit u)))
   after_all u e l s he hl hs =
       mv.unit u ∙ ap (λ o. moved_as C P args good r i t inv meets x st y en o (y.unit u)) hl
       ∙ ap (moved_as C P args good r i t inv meets x st y en l)
       (en.unit u ∙ ap (λ o. done_as C P args good r i t inv meets x st o (x.unit u)) he
       ∙ ap (done_as C P args good r i t inv meets x st e) (st.unit u ∙ ap (λ o. begun C P args good r i t inv meets o (t.unit u)) hs))
 
-  fate_as : (u : ℕ) (e : Option Word) (l s : Option ℕ) → first (end_in C P r u) C.functions ≡ e → first (loop_in C P r u) C.functions ≡ l → first (go_in C P r i u) (suc C.sites) ≡ s → Fate C P r i t z u
+  fate_as : (u : ℕ) (e : Option Word) (l s : Option ℕ) → first (end_in C P r u) C.functions ≡ e → first (loop_in C P r u) C.functions ≡ l → first
+      (go_in C P r i u) (suc C.sites) ≡ s → Fate C P r i t z u
   fate_as u None None None he hl hs = Stays he hl hs (after_all u None None None he hl hs)
   fate_as u None None (Some k) he hl hs =
       let a = first_some (go_in C P r i u) (suc C.sites) k hs in
@@ -81,7 +90,8 @@ module _ (C : Program) (P : Choice) (args : List Word) (good : Numbered C) (r : 
           let d = loop_in_found C P args good r i t inv meets x st y en u c.0 h c.1 c.2 in
           let p = some_of _ d.2 in
           let g = loop_found C P args good r i t inv meets c.0 p.0 p.1 in
-          let none : first (end_in C P r u) C.functions ≡ None = ap (λ u. first (end_in C P r u) C.functions) (sym (g.2 ∙ d.1)) ∙ no_end C P args good r i t inv meets x st y en g.0 c.0 C.functions p.0 (omega arith) g.1 g.3 in
+          let none : first (end_in C P r u) C.functions ≡ None = ap (λ u. first (end_in C P r u) C.functions) (sym (g.2 ∙ d.1)) ∙ no_end C P args good
+          r i t inv meets x st y en g.0 c.0 C.functions p.0 (omega arith) g.1 g.3 in
           some_none v (sym he ∙ none))
 
       ends_so : Fate C P r i t z u

@@ -84,7 +84,9 @@ found (g ∷ gs) name w h = ⊎_elim
     (λ b. let f = found gs name w b in record { at = suc f.at; signal = f.signal; init = f.init; then = f.then; there = f.there; is_named = f.is_named; kind = f.kind })
     (has_side (name, w) (register_kind (g.name, g.width) g.kind) (each_line register_kind gs) h)
 
-placed : (gs : List Signal) (name : List ℕ) (i j : ℕ) (g : Signal) → ((a b : ℕ) (x y : Signal) → slice_get gs a ≡ Some x → slice_get gs b ≡ Some y → x.name ≡ y.name → a ≡ b) → slice_get gs j ≡ Some g → g.name ≡ name → place gs name i ≡ Some (i + j)
+placed : (gs : List Signal) (name : List ℕ) (i j : ℕ) (g : Signal) →
+    ((a b : ℕ) (x y : Signal) → slice_get gs a ≡ Some x → slice_get gs b ≡ Some y → x.name ≡ y.name → a ≡ b) → slice_get gs j ≡ Some g → g.name ≡ name
+    → place gs name i ≡ Some (i + j)
 unfolding place
 placed [] name i j g own e is = absurd (some_none g (sym e))
 placed (x ∷ gs) name i zero g own e is =
@@ -125,8 +127,10 @@ module _ (C : Program) (D : Names) (P : Choice) (n : Netlist) (good : Numbered C
   pub unit_lt : (u : ℕ) → is_unit C u ≡ true → u < C.functions
   unit_lt u is = ltb-true u C.functions (and_parts _ _ is).0
 
-  pub unit_is : (u : ℕ) → is_unit C u ≡ true → unit_lines C D u ≡ (of_function D (codes "run$") u, 1) ∷ (of_function D (codes "fin$") u, 1) ∷ (of_function D (codes "res$") u, C.result u) ∷ lines (member_lines C D u) C.functions
-  unit_is u is = ap (λ b. cond b ((of_function D (codes "run$") u, 1) ∷ (of_function D (codes "fin$") u, 1) ∷ (of_function D (codes "res$") u, C.result u) ∷ lines (member_lines C D u) C.functions) []) is
+  pub unit_is : (u : ℕ) → is_unit C u ≡ true → unit_lines C D u ≡ (of_function D (codes "run$") u, 1) ∷ (of_function D (codes "fin$") u, 1) ∷
+      (of_function D (codes "res$") u, C.result u) ∷ lines (member_lines C D u) C.functions
+  unit_is u is = ap (λ b. cond b ((of_function D (codes "run$") u, 1) ∷ (of_function D (codes "fin$") u, 1) ∷
+      (of_function D (codes "res$") u, C.result u) ∷ lines (member_lines C D u) C.functions) []) is
 
   site_parts : (k : ℕ) → is_site C k ≡ true → (0 < k) × (k ≤ C.sites)
   site_parts k is = let a = and_parts _ _ is in (ltb-true 0 k a.0, leb-true k C.sites a.1)
@@ -144,10 +148,12 @@ module _ (C : Program) (D : Names) (P : Choice) (n : Netlist) (good : Numbered C
       (subst (Has x) (sym (ap (λ b. cond b (own_lines f) []) (eq-eqb (C.unit f) (C.unit f) refl))) h))))))
 
   -- each parameter's register
-  params_all : (f : ℕ) (ps : List (List ℕ)) (ws : List ℕ) → length ps ≡ length ws → ((x : Line) → Has x (named (map (of_param D f) ps) ws) → Has x (layout_registers C D P)) → All (λ p. IsRegister n (of_param D f p)) ps
+  params_all : (f : ℕ) (ps : List (List ℕ)) (ws : List ℕ) → length ps ≡ length ws →
+      ((x : Line) → Has x (named (map (of_param D f) ps) ws) → Has x (layout_registers C D P)) → All (λ p. IsRegister n (of_param D f p)) ps
   params_all f [] ws len up = All-nil (λ p. IsRegister n (of_param D f p))
   params_all f (p ∷ ps) [] len up = absurd (omega (arith, len))
-  params_all f (p ∷ ps) (w ∷ ws) len up = All-cons (λ p. IsRegister n (of_param D f p)) p ps (register (of_param D f p) w (up (of_param D f p, w) (inl refl))) (params_all f ps ws (omega (arith, len)) (λ x h. up x (inr h)))
+  params_all f (p ∷ ps) (w ∷ ws) len up = All-cons (λ p. IsRegister n (of_param D f p)) p ps
+      (register (of_param D f p) w (up (of_param D f p, w) (inl refl))) (params_all f ps ws (omega (arith, len)) (λ x h. up x (inr h)))
 
   pub units : (f : ℕ) → f < C.functions → is_unit C (C.unit f) ≡ true
   units f lt = let first = good.first f lt in and_from _ _ (lt-ltb (C.unit f) C.functions (omega (arith, first, lt))) (eq-eqb (C.unit (C.unit f)) (C.unit f) (good.again f lt))
@@ -157,9 +163,17 @@ module _ (C : Program) (D : Names) (P : Choice) (n : Netlist) (good : Numbered C
     run = λ u is. register _ 1 (in_unit u _ (unit_lt u is) (subst (Has (of_function D (codes "run$") u, 1)) (sym (unit_is u is)) (inl refl)));
     fin = λ u is. register _ 1 (in_unit u _ (unit_lt u is) (subst (Has (of_function D (codes "fin$") u, 1)) (sym (unit_is u is)) (inr (inl refl))));
     res = λ u is. register _ (C.result u) (in_unit u _ (unit_lt u is) (subst (Has (of_function D (codes "res$") u, C.result u)) (sym (unit_is u is)) (inr (inr (inl refl)))));
-    at = λ f lt is. register _ 1 (in_member f _ (units f lt) lt (has_left (of_function D (codes "at$") f, 1) (cond (many C f) ((of_function D (codes "at$") f, 1) ∷ []) []) (named (map (of_param D f) (D.params f)) (C.params f)) (subst (Has (of_function D (codes "at$") f, 1)) (sym (ap (λ b. cond b ((of_function D (codes "at$") f, 1) ∷ []) []) is)) (inl refl))));
-    arg = λ f lt. params_all f (D.params f) (C.params f) (scheme.params f lt) (λ x h. in_member f x (units f lt) lt (has_right x (cond (many C f) ((of_function D (codes "at$") f, 1) ∷ []) []) (named (map (of_param D f) (D.params f)) (C.params f)) h));
+    at = λ f lt is. register _ 1 (in_member f _ (units f lt) lt
+        (has_left (of_function D (codes "at$") f, 1) (cond (many C f) ((of_function D (codes "at$") f, 1) ∷ []) [])
+        (named (map (of_param D f) (D.params f)) (C.params f)) (subst (Has (of_function D (codes "at$") f, 1))
+        (sym (ap (λ b. cond b ((of_function D (codes "at$") f, 1) ∷ []) []) is)) (inl refl))));
+    arg = λ f lt. params_all f (D.params f) (C.params f) (scheme.params f lt)
+        (λ x h. in_member f x (units f lt) lt (has_right x (cond (many C f) ((of_function D (codes "at$") f, 1) ∷ []) [])
+        (named (map (of_param D f) (D.params f)) (C.params f)) h));
     sent = λ k is. let a = site_parts k is in register _ 1 (in_site k _ a.1 (subst (Has (of_site (codes "sent$") k, 1)) (sym (site_is k a.0)) (inl refl)));
     got = λ k is. let a = site_parts k is in register _ 1 (in_site k _ a.1 (subst (Has (of_site (codes "got$") k, 1)) (sym (site_is k a.0)) (inr (inl refl))));
-    keep = λ k pos le kept. register _ (C.result (C.callee k)) (in_site k _ le (subst (Has (of_site (codes "keep$") k, C.result (C.callee k))) (sym (site_is k pos ∙ ap (λ b. (of_site (codes "sent$") k, 1) ∷ (of_site (codes "got$") k, 1) ∷ cond b ((of_site (codes "keep$") k, C.result (C.callee k)) ∷ []) []) kept)) (inr (inr (inl refl)))));
+    keep = λ k pos le kept. register _ (C.result (C.callee k))
+        (in_site k _ le (subst (Has (of_site (codes "keep$") k, C.result (C.callee k)))
+        (sym (site_is k pos ∙ ap (λ b. (of_site (codes "sent$") k, 1) ∷ (of_site (codes "got$") k, 1) ∷ cond b
+        ((of_site (codes "keep$") k, C.result (C.callee k)) ∷ []) []) kept)) (inr (inr (inl refl)))));
   }

@@ -76,7 +76,8 @@ module _ (C : Program) (P : Choice) (args : List Word) (good : Numbered C) (r : 
   pub path_runs : (f : ℕ) → f < C.functions → path C r f ≡ runs_it (s.unit (C.unit f)) f
   path_runs f lt = path_runs_as f lt (s.unit (C.unit f)) refl
 
-  module _ (d : ℕ → Word) (es : List Event) (lasts : (u : ℕ) → r.res u ≡ last_word C args opening es u (d u)) (same_start : after C args opening es ≡ s) (legal : Legal C args opening (es ++ returns C r (suc C.sites))) where
+  module _ (d : ℕ → Word) (es : List Event) (lasts : (u : ℕ) → r.res u ≡ last_word C args opening es u (d u))
+      (same_start : after C args opening es ≡ s) (legal : Legal C args opening (es ++ returns C r (suc C.sites))) where
     abbrev all : List Event
     all = es ++ returns C r (suc C.sites)
 
@@ -126,7 +127,8 @@ module _ (C : Program) (P : Choice) (args : List Word) (good : Numbered C) (r : 
               ∙ at (P.kept (suc k)) refl (s.site (suc k)) refl
               ∙ ap (shown_as (P.kept (suc k)) (last_word C args opening all w (d w))) (sym (site_came (suc k) ∙ ap (λ up. cond up (Returned (r.res w)) (s.site (suc k))) e))
             where
-              at : (kept : Bool) → P.kept (suc k) ≡ kept → (x : Stage) → s.site (suc k) ≡ x → cond (is_returned x || false) (Some (cond (kept && not false) (r.keep (suc k)) (r.res w))) None ≡ shown_as kept (last_word C args opening all w (d w)) x
+              at : (kept : Bool) → P.kept (suc k) ≡ kept → (x : Stage) → s.site (suc k) ≡ x → cond (is_returned x || false)
+                  (Some (cond (kept && not false) (r.keep (suc k)) (r.res w))) None ≡ shown_as kept (last_word C args opening all w (d w)) x
               at kept yes' Unsent h = refl
               at kept yes' Sent h = refl
               at true yes' (Returned v) h = ap Some (shows.keep (suc k) v (omega arith) yes' h)
@@ -143,7 +145,8 @@ module _ (C : Program) (P : Choice) (args : List Word) (good : Numbered C) (r : 
           ∙ ap (λ a. answer (shown C P.kept d args all) a (C.body f)) (shows.arg (C.unit f) f k ws e')
           ∙ h2.same_answer d args all legal (C.unit f) f k ws now
 
-      meets_wants : (f g k : ℕ) (ws : List Word) (j : ℕ) → s.unit (C.unit f) ≡ Runs g k ws → g ≡ f → t.site j ≡ Unsent → wanted (on_wires C P r) (r.arg f) (C.body f) j ≡ wanted (back t) ws (C.body f) j
+      meets_wants : (f g k : ℕ) (ws : List Word) (j : ℕ) → s.unit (C.unit f) ≡ Runs g k ws → g ≡ f → t.site j ≡ Unsent → wanted (on_wires C P r)
+          (r.arg f) (C.body f) j ≡ wanted (back t) ws (C.body f) j
       meets_wants f g k ws j e same un =
           let e' : s.unit (C.unit f) ≡ Runs f k ws = e ∙ ap (λ j. Runs j k ws) same in
           let now : t.unit (C.unit f) ≡ Runs f k ws = unit_quiet (C.unit f) ∙ ap quiet e' in
@@ -184,7 +187,8 @@ module _ (C : Program) (P : Choice) (args : List Word) (good : Numbered C) (r : 
           go un (Delivers j v) e = refl
           go un (Runs g j ws) e = cond_cong (g == f) _ _ None (λ same. meets_wants f g j ws (suc k) e (eqb-true g f same) un)
 
-          inner : (is_unsent (t.site (suc k)) && nat_le (suc k) C.sites) ≡ true → cond (path C r f) (wanted (on_wires C P r) (r.arg f) (C.body f) (suc k)) None ≡ asked_as C (back t) (t.unit (C.unit f)) f (suc k)
+          inner : (is_unsent (t.site (suc k)) && nat_le (suc k) C.sites) ≡ true → cond (path C r f)
+              (wanted (on_wires C P r) (r.arg f) (C.body f) (suc k)) None ≡ asked_as C (back t) (t.unit (C.unit f)) f (suc k)
           inner h =
               let a = and_parts _ _ h in
               let lt = good.caller_in (suc k) (omega arith) (leb-true (suc k) C.sites a.1) in

@@ -38,7 +38,8 @@ unfolding each_line
 register_lines [] = refl
 register_lines (g ∷ gs) = by g.kind (register_lines gs)
   where
-    by : (k : Kind) → each_line register_kind gs ≡ map (λ (x : Line × ℕ). x.0) (registers_of gs) → register_kind (g.name, g.width) k ++ each_line register_kind gs ≡ map (λ (x : Line × ℕ). x.0) (register_line g k ++ registers_of gs)
+    by : (k : Kind) → each_line register_kind gs ≡ map (λ (x : Line × ℕ). x.0) (registers_of gs) → register_kind (g.name, g.width) k ++ each_line
+        register_kind gs ≡ map (λ (x : Line × ℕ). x.0) (register_line g k ++ registers_of gs)
     by Input e = e
     by (Reg init next) e = ap (λ l. (g.name, g.width) ∷ l) e
     by (Wire cell) e = e
@@ -53,7 +54,8 @@ pub lasting_more : (xs ys : List Line) → lasting_lines (xs ++ ys) ≡ lasting_
 lasting_more [] ys = refl
 lasting_more (x ∷ xs) ys = by (is_temp x.0) (lasting_more xs ys)
   where
-    by : (b : Bool) → lasting_lines (xs ++ ys) ≡ lasting_lines xs ++ lasting_lines ys → cond b (lasting_lines (xs ++ ys)) (x ∷ lasting_lines (xs ++ ys)) ≡ cond b (lasting_lines xs) (x ∷ lasting_lines xs) ++ lasting_lines ys
+    by : (b : Bool) → lasting_lines (xs ++ ys) ≡ lasting_lines xs ++ lasting_lines ys → cond b (lasting_lines (xs ++ ys))
+        (x ∷ lasting_lines (xs ++ ys)) ≡ cond b (lasting_lines xs) (x ∷ lasting_lines xs) ++ lasting_lines ys
     by true e = e
     by false e = ap (λ l. x ∷ l) e
 
@@ -67,7 +69,8 @@ wires_last (g ∷ gs) = by g.kind (is_temp g.name) (wires_last gs)
     by (Reg init next) b e = e
     by (Wire cell) b e = temp (is_temp g.name) e
       where
-        temp : (b : Bool) → wires_of gs ≡ lasting_lines (each_line wire_kind gs) → cond b [] ((g.name, g.width) ∷ []) ++ wires_of gs ≡ cond b (lasting_lines (each_line wire_kind gs)) ((g.name, g.width) ∷ lasting_lines (each_line wire_kind gs))
+        temp : (b : Bool) → wires_of gs ≡ lasting_lines (each_line wire_kind gs) → cond b [] ((g.name, g.width) ∷ []) ++ wires_of gs ≡ cond b
+            (lasting_lines (each_line wire_kind gs)) ((g.name, g.width) ∷ lasting_lines (each_line wire_kind gs))
         temp true e = e
         temp false e = ap (λ l. (g.name, g.width) ∷ l) e
 
@@ -79,7 +82,14 @@ lines_last g (suc n) h = lasting_more (lines g n) (g n) ∙ ap (λ l. l ++ lasti
 site_last : (C : Program) (P : Choice) (k : ℕ) → lasting_lines (site_wires C P k) ≡ site_wires C P k
 site_last C P k = by (nat_lt 0 k) (P.arbiter (unit_for C k))
   where
-    by : (b a : Bool) → lasting_lines (cond b ((Rattle.safl_circuit.specs.Names.of_site (Rattle.std.specs.Prelude.codes "want$") k, 1) ∷ (Rattle.safl_circuit.specs.Names.of_site (Rattle.std.specs.Prelude.codes "ret$") k, 1) ∷ (cond a ((Rattle.safl_circuit.specs.Names.of_site (Rattle.std.specs.Prelude.codes "arb$") k, 1) ∷ []) [] ++ (Rattle.safl_circuit.specs.Names.of_site (Rattle.std.specs.Prelude.codes "go$") k, 1) ∷ [])) []) ≡ cond b ((Rattle.safl_circuit.specs.Names.of_site (Rattle.std.specs.Prelude.codes "want$") k, 1) ∷ (Rattle.safl_circuit.specs.Names.of_site (Rattle.std.specs.Prelude.codes "ret$") k, 1) ∷ (cond a ((Rattle.safl_circuit.specs.Names.of_site (Rattle.std.specs.Prelude.codes "arb$") k, 1) ∷ []) [] ++ (Rattle.safl_circuit.specs.Names.of_site (Rattle.std.specs.Prelude.codes "go$") k, 1) ∷ [])) []
+    by : (b a : Bool) → lasting_lines (cond b ((Rattle.safl_circuit.specs.Names.of_site (Rattle.std.specs.Prelude.codes "want$") k, 1) ∷
+        (Rattle.safl_circuit.specs.Names.of_site (Rattle.std.specs.Prelude.codes "ret$") k, 1) ∷
+        (cond a ((Rattle.safl_circuit.specs.Names.of_site (Rattle.std.specs.Prelude.codes "arb$") k, 1) ∷ []) [] ++
+        (Rattle.safl_circuit.specs.Names.of_site (Rattle.std.specs.Prelude.codes "go$") k, 1) ∷ [])) []) ≡ cond b
+        ((Rattle.safl_circuit.specs.Names.of_site (Rattle.std.specs.Prelude.codes "want$") k, 1) ∷
+        (Rattle.safl_circuit.specs.Names.of_site (Rattle.std.specs.Prelude.codes "ret$") k, 1) ∷
+        (cond a ((Rattle.safl_circuit.specs.Names.of_site (Rattle.std.specs.Prelude.codes "arb$") k, 1) ∷ []) [] ++
+        (Rattle.safl_circuit.specs.Names.of_site (Rattle.std.specs.Prelude.codes "go$") k, 1) ∷ [])) []
     by true true = refl
     by true false = refl
     by false a = refl
@@ -160,7 +170,8 @@ at_end : (xs ys : List Signal) (g : Signal) → slice_get (xs ++ g ∷ ys) (leng
 at_end [] ys g = refl
 at_end (x ∷ xs) ys g = at_end xs ys g
 
-numbered : (n : Netlist) (before gs : List Signal) (i : ℕ) → IsTidy n → n.signals ≡ before ++ gs → i ≡ wires before → Each IsTemp gs → each_line wire_kind gs ≡ temporaries i (map (λ (g : Signal). g.width) gs)
+numbered : (n : Netlist) (before gs : List Signal) (i : ℕ) → IsTidy n → n.signals ≡ before ++ gs → i ≡ wires before → Each IsTemp gs → each_line
+    wire_kind gs ≡ temporaries i (map (λ (g : Signal). g.width) gs)
 unfolding each_line
 numbered n before [] i tidy e count h = refl
 numbered n before (g ∷ gs) i tidy e count h =

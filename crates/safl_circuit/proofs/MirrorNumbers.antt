@@ -52,7 +52,8 @@ arguments_named f (g ∷ gs) [] len h = absurd (omega (arith, len))
 arguments_named f (g ∷ gs) (w ∷ ws) len h = by g.kind (arguments_named f gs ws (omega (arith, len)) (λ s x e. h (suc s) x e))
   where
     pick : (b : Bool) → input_numbers gs ws ≡ map (λ (l : Line). f l.0) (argument_lines (flat_map (λ g. input_line g g.kind) gs))
-        → cond b (w ∷ input_numbers gs ws) (input_numbers gs ws) ≡ map (λ (l : Line). f l.0) (cond b ((g.name, g.width) ∷ argument_lines (flat_map (λ g. input_line g g.kind) gs)) (argument_lines (flat_map (λ g. input_line g g.kind) gs)))
+        → cond b (w ∷ input_numbers gs ws) (input_numbers gs ws) ≡ map (λ (l : Line). f l.0)
+        (cond b ((g.name, g.width) ∷ argument_lines (flat_map (λ g. input_line g g.kind) gs)) (argument_lines (flat_map (λ g. input_line g g.kind) gs)))
     pick true ih = ap (λ a. a ∷ input_numbers gs ws) (h 0 g refl) ∙ ap (λ l. f g.name ∷ l) ih
     pick false ih = ih
 

@@ -147,7 +147,8 @@ copies n m x a b name from ns bs na nb la lb c =
     let called : name_at n c.number ≡ name = placed_name n name c.number c.named in
     let k = x.alike.cells c.number (record { op = Copy; operands = c.source ∷ [] }) (ap kind_in c.there ∙ c.copied) (ap is_temp called ∙ la) in
     let s = only k.cell.operands k.keeps.count in
-    let source : name_at m s.0 ≡ from = k.keeps.operands 0 c.source s.0 refl (ap (λ l. slice_get l 0) s.1) (ap is_temp (placed_name n from c.source c.source_named) ∙ lb) ∙ placed_name n from c.source c.source_named in
+    let source : name_at m s.0 ≡ from = k.keeps.operands 0 c.source s.0 refl (ap (λ l. slice_get l 0) s.1)
+    (ap is_temp (placed_name n from c.source c.source_named) ∙ lb) ∙ placed_name n from c.source c.source_named in
     let g = some_at m k.number a name ns (k.named ∙ called) na in
     let h = some_at m s.0 b from bs source nb in
     record {

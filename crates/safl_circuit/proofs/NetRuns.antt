@@ -1,5 +1,6 @@
 -- In a run of the netlist the named registers are those of the circuit, and the ports do what they should.
-use Rattle.std.proofs.Common.{◌≡◌, ◌≢◌, ℕ, zero, suc, ◌+◌, ◌*◌, ◌<◌, ◌≤◌, List, [], ◌∷◌, ◌++◌, length, Option, Some, None, Bool, true, false, cond, ◌&&◌, ◌||◌, ◌==◌, is_some, refl, sym, ap, ◌∙◌, subst, arith, get_or}
+use Rattle.std.proofs.Common.{◌≡◌, ◌≢◌, ℕ, zero, suc, ◌+◌, ◌*◌, ◌<◌, ◌≤◌, List, [], ◌∷◌, ◌++◌, length, Option, Some, None, Bool, true, false, cond}
+use Rattle.std.proofs.Common.{◌&&◌, ◌||◌, ◌==◌, is_some, refl, sym, ap, ◌∙◌, subst, arith, get_or}
 use Rattle.std.specs.Prelude.{slice_get, codes}
 use Rattle.std.specs.List.Sorted.{IsPermutation}
 use Rattle.std.proofs.lemmas.Option.{slice_get-get_or, slice_get_within}
@@ -85,13 +86,17 @@ module _ (C : Program) (D : Names) (P : Choice) (n : Netlist) (wf : IsWellFormed
   later_start (v ∷ vs) state goes zero w e = ap (start_number n) (sym (some_is v w e)) ∙ goes.1
   later_start (v ∷ vs) state goes (suc j) w e = later_start vs (next_state n v) goes.2 j w e
 
-  on_from : (args : List Word) (v w : Valuation) (state : ℕ → ℕ) (q q' : Registers) (i : Inputs) → Fits n state v → Same C P (registers_now C D n v) q → i ≡ input_now C n v → q' ≡ next C P i q → Fits n (next_state n v) w → Same C P (registers_now C D n w) q'
+  on_from : (args : List Word) (v w : Valuation) (state : ℕ → ℕ) (q q' : Registers) (i : Inputs) → Fits n state v → Same C P (registers_now C D n v) q
+      → i ≡ input_now C n v → q' ≡ next C P i q → Fits n (next_state n v) w → Same C P (registers_now C D n w) q'
   on_from args v w state q q' i fits same input step fw =
       let a = same_then C D P n wf h1 h2 scheme args _ _ _ (regs_on C D P n wf h1 h2 scheme args v w fw) (edge_same C D P n wf scheme v state fits) in
       let b = same_then C D P n wf h1 h2 scheme args _ _ _ a (next_same C P good (input_now C n v) (registers_now C D n v) q same) in
       subst (λ q'. Same C P (registers_now C D n w) q') (sym (step ∙ ap (λ i. next C P i q) input)) b
 
-  tail : (args : List Word) (vs : List Valuation) (state : ℕ → ℕ) (q : ℕ → Registers) (i : ℕ → Inputs) → ((c : ℕ) → q (suc c) ≡ next C P (i c) (q c)) → ((j : ℕ) (w : Valuation) → slice_get vs j ≡ Some w → i j ≡ input_now C n w) → ((w : Valuation) → Fits n state w → Same C P (registers_now C D n w) (q 0)) → GoesOn n state vs → (j : ℕ) (w : Valuation) → slice_get vs j ≡ Some w → Agreed w (q j) (i j)
+  tail : (args : List Word) (vs : List Valuation) (state : ℕ → ℕ) (q : ℕ → Registers) (i : ℕ → Inputs) → ((c : ℕ) → q (suc c) ≡ next C P (i c) (q c))
+      → ((j : ℕ) (w : Valuation) → slice_get vs j ≡ Some w → i j ≡ input_now C n w) →
+      ((w : Valuation) → Fits n state w → Same C P (registers_now C D n w) (q 0)) → GoesOn n state vs → (j : ℕ) (w : Valuation) → slice_get vs j ≡
+      Some w → Agreed w (q j) (i j)
   tail args [] state q i step inputs same goes j w e = absurd (some_none w (sym e))
   tail args (v ∷ vs) state q i step inputs same goes zero w e =
       subst (λ w. Agreed w (q 0) (i 0)) (some_is v w e) (record { state = state; fits = goes.0; same = same v goes.0; input = inputs 0 v refl })
@@ -99,7 +104,8 @@ module _ (C : Program) (D : Names) (P : Choice) (n : Netlist) (wf : IsWellFormed
       tail args vs (next_state n v) (λ c. q (suc c)) (λ c. i (suc c)) (λ c. step (suc c)) (λ k x h. inputs (suc k) x h)
       (λ x fx. on_from args v x state (q 0) (q 1) (i 0) goes.0 (same v goes.0) (inputs 0 v refl) (step 0) fx) goes.2 j w e
 
-  module _ (args : List Word) (sized : AreWordsOf args (C.params C.main)) (state0 : ℕ → ℕ) (quiet0 : IsQuietState C D n state0) (v0 : Valuation) (vs : List Valuation) (run : RunFrom n state0 (numbers args) (v0 ∷ vs)) where
+  module _ (args : List Word) (sized : AreWordsOf args (C.params C.main)) (state0 : ℕ → ℕ) (quiet0 : IsQuietState C D n state0) (v0 : Valuation)
+      (vs : List Valuation) (run : RunFrom n state0 (numbers args) (v0 ∷ vs)) where
     many : length args ≡ arity C C.main
     many = as_many args (C.params C.main) sized
 
@@ -178,7 +184,8 @@ module _ (C : Program) (D : Names) (P : Choice) (n : Netlist) (wf : IsWellFormed
         let is = is_done c w e up in
         let es = history C P r0 args later (suc c) in
         let x = as_word (C.result C.main) (read_output n w (codes "result")) in
-        let over : (after C args opening es).site 0 ≡ Returned x = after_done C P good h1 h2 r0 quiet args many later c is ∙ ap Returned (ap (r c).res (ap C.unit good.outside) ∙ sym (result_is c w e)) in
+        let over : (after C args opening es).site 0 ≡ Returned x = after_done C P good h1 h2 r0 quiet args many later c is ∙ ap Returned
+        (ap (r c).res (ap C.unit good.outside) ∙ sym (result_is c w e)) in
         let legal = (steps C P good h1 h2 r0 quiet args many later (suc c)).legal in
         let d = (right C C.functions good wf.numbered args es legal x over).0 in
         let count = started C C.functions good wf.numbered args es legal x x d over in
@@ -211,7 +218,8 @@ module _ (C : Program) (D : Names) (P : Choice) (n : Netlist) (wf : IsWellFormed
     rests c w e k le up is =
         let lt = good.callee_in k le in
         let first = good.first (C.callee k) lt in
-        let unit : is_unit C (unit_for C k) ≡ true = and_from _ _ (lt-ltb (unit_for C k) C.functions (omega (arith, lt, first))) (eq-eqb (C.unit (unit_for C k)) (unit_for C k) (good.again (C.callee k) lt)) in
+        let unit : is_unit C (unit_for C k) ≡ true = and_from _ _ (lt-ltb (unit_for C k) C.functions (omega (arith, lt, first)))
+        (eq-eqb (C.unit (unit_for C k)) (unit_for C k) (good.again (C.callee k) lt)) in
         true≢false (sym (and_from _ _ unit (ap one is)) ∙ rests_low c w e k le up)
 
     pub quiet_then : (a c : ℕ) (v w : Valuation) → slice_get (v0 ∷ vs) a ≡ Some v → slice_get (v0 ∷ vs) c ≡ Some w → read_output n v (codes "done") ≡ 1 → a < c → Quiet (registers_now C D n w)
@@ -271,6 +279,7 @@ module _ (C : Program) (D : Names) (P : Choice) (n : Netlist) (wf : IsWellFormed
         ∙ ap (λ b. words_seen C P r0 args later f c ++ cond b ((registers_now C D n w).arg f ∷ []) []) (started_is c v ev f lt)
         ∙ ap (λ x. words_seen C P r0 args later f c ++ cond (starts_it C P (r c) (input_at args later c) f) (x ∷ []) []) ((agreed (suc c) w ew).same.arg f lt)
 
-    pub same_lists : (v : Word) (d : Main C args v) (c : ℕ) → c < length (v0 ∷ vs) → latest C args d ≤ c → (f : ℕ) → f < C.functions → IsPermutation (main_calls C args d f) (words_seen_in C D n (v0 ∷ vs) f c)
+    pub same_lists : (v : Word) (d : Main C args v) (c : ℕ) → c < length (v0 ∷ vs) → latest C args d ≤ c → (f : ℕ) → f < C.functions → IsPermutation
+        (main_calls C args d f) (words_seen_in C D n (v0 ∷ vs) f c)
     same_lists v d c le long f lt =
         subst (λ l. IsPermutation (main_calls C args d f) l) (sym (seen_is f lt c le)) (calls_seen C P wf h1 h2 r0 quiet args many later v d f c lt long)

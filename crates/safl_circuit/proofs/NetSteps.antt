@@ -60,10 +60,18 @@ module _ (C : Program) (D : Names) (P : Choice) (n : Netlist) (wf : IsWellFormed
   -- the events by the named wires are those of the circuit
   events_same : (v : Valuation) (r : Registers) (i : Inputs) → Wires C D P n v r i → net_events C D n v ≡ cycle_events C P r i
   events_same v r i w =
-      ap (λ l. l ++ (picks (go_up n v) Accept (suc C.sites) ++ (picks (λ f. one (read n v (of_function D (codes "end$") f))) Finish C.functions ++ picks (λ f. one (read n v (of_function D (codes "loop$") f))) LoopInto C.functions))) (picks_cong (ret_on n v) (ret C r) Return (suc C.sites) rets)
-      ∙ ap (λ l. picks (ret C r) Return (suc C.sites) ++ (l ++ (picks (λ f. one (read n v (of_function D (codes "end$") f))) Finish C.functions ++ picks (λ f. one (read n v (of_function D (codes "loop$") f))) LoopInto C.functions))) (picks_cong (go_up n v) (go C P r i) Accept (suc C.sites) gos)
-      ∙ ap (λ l. picks (ret C r) Return (suc C.sites) ++ (picks (go C P r i) Accept (suc C.sites) ++ (l ++ picks (λ f. one (read n v (of_function D (codes "loop$") f))) LoopInto C.functions))) (picks_cong (λ f. one (read n v (of_function D (codes "end$") f))) (λ f. is_some (end_word C P r f)) Finish C.functions (λ f lt. one_bit _ (is_some (end_word C P r f)) (w.ends f lt)))
-      ∙ ap (λ l. picks (ret C r) Return (suc C.sites) ++ (picks (go C P r i) Accept (suc C.sites) ++ (picks (λ f. is_some (end_word C P r f)) Finish C.functions ++ l))) (picks_cong (λ f. one (read n v (of_function D (codes "loop$") f))) (λ f. is_some (loop_words C P r f)) LoopInto C.functions (λ f lt. one_bit _ (is_some (loop_words C P r f)) (w.loops f lt)))
+      ap (λ l. l ++ (picks (go_up n v) Accept (suc C.sites) ++ (picks (λ f. one (read n v (of_function D (codes "end$") f))) Finish C.functions ++
+      picks (λ f. one (read n v (of_function D (codes "loop$") f))) LoopInto C.functions))) (picks_cong (ret_on n v) (ret C r) Return (suc C.sites) rets)
+      ∙ ap (λ l. picks (ret C r) Return (suc C.sites) ++ (l ++ (picks (λ f. one (read n v (of_function D (codes "end$") f))) Finish C.functions ++
+      picks (λ f. one (read n v (of_function D (codes "loop$") f))) LoopInto C.functions))) (picks_cong (go_up n v) (go C P r i) Accept (suc C.sites) gos)
+      ∙ ap (λ l. picks (ret C r) Return (suc C.sites) ++ (picks (go C P r i) Accept (suc C.sites) ++
+      (l ++ picks (λ f. one (read n v (of_function D (codes "loop$") f))) LoopInto C.functions)))
+      (picks_cong (λ f. one (read n v (of_function D (codes "end$") f))) (λ f. is_some (end_word C P r f)) Finish C.functions
+      (λ f lt. one_bit _ (is_some (end_word C P r f)) (w.ends f lt)))
+      ∙ ap (λ l. picks (ret C r) Return (suc C.sites) ++ (picks (go C P r i) Accept (suc C.sites) ++
+      (picks (λ f. is_some (end_word C P r f)) Finish C.functions ++ l)))
+      (picks_cong (λ f. one (read n v (of_function D (codes "loop$") f))) (λ f. is_some (loop_words C P r f)) LoopInto C.functions
+      (λ f lt. one_bit _ (is_some (loop_words C P r f)) (w.loops f lt)))
     where
       rets : (k : ℕ) → k < suc C.sites → ret_on n v k ≡ ret C r k
       rets zero lt = one_bit _ (ret C r 0) w.done
@@ -88,7 +96,8 @@ module _ (C : Program) (D : Names) (P : Choice) (n : Netlist) (wf : IsWellFormed
     fin = λ u. and_cong (is_unit C u) _ _ (λ is. ap one (hands_on v w _ fits (registers.fin u is)));
     res = λ u. ap (as_word (C.result u)) (cond_under (is_unit C u) _ _ 0 (λ is. hands_on v w _ fits (registers.res u is)));
     at = λ f lt is. ap one (hands_on v w _ fits (registers.at f lt is));
-    arg = λ f lt. ap (as_words (C.params f)) (map_all (λ p. IsRegister n (of_param D f p)) (λ p. read n w (of_param D f p)) (λ p. read_next n v (of_param D f p)) (D.params f) (λ p reg. hands_on v w (of_param D f p) fits reg) (registers.arg f lt));
+    arg = λ f lt. ap (as_words (C.params f)) (map_all (λ p. IsRegister n (of_param D f p)) (λ p. read n w (of_param D f p))
+        (λ p. read_next n v (of_param D f p)) (D.params f) (λ p reg. hands_on v w (of_param D f p) fits reg) (registers.arg f lt));
     sent = λ k pos. and_cong (is_site C k) _ _ (λ is. ap one (hands_on v w _ fits (registers.sent k is)));
     got = λ k pos. and_cong (is_site C k) _ _ (λ is. ap one (hands_on v w _ fits (registers.got k is)));
     keep = λ k pos le kept. ap (as_word (C.result (C.callee k))) (hands_on v w _ fits (registers.keep k pos le kept));
@@ -133,14 +142,18 @@ module _ (C : Program) (D : Names) (P : Choice) (n : Netlist) (wf : IsWellFormed
     events = events_same v (registers_now C D n v) (input_now C n v) (scheme.wires v state fits)
 
     pub legal_cycle : Legal C args opening (es ++ net_events C D n v)
-    legal_cycle = subst (λ l. Legal C args opening (es ++ l)) (sym events) (legal_next C P args good h1 h2 (λ u. as_word (C.result u) 0) es legal (registers_now C D n v) (input_now C n v) (shown.shows v fits) (shown.lasts v fits) start)
+    legal_cycle = subst (λ l. Legal C args opening (es ++ l)) (sym events)
+        (legal_next C P args good h1 h2 (λ u. as_word (C.result u) 0) es legal (registers_now C D n v) (input_now C n v) (shown.shows v fits) (shown.lasts v fits) start)
 
     pub shown_next : Shown (es ++ net_events C D n v) (next_state n v)
     shown_next = record {
       shows = λ w fw. shows_same (after C args opening (es ++ net_events C D n v)) (registers_now C D n w) (next C P (input_now C n v) (registers_now C D n v)) (inv_after C args good _ legal_cycle)
-          (subst (λ l. Shows C P (after C args opening (es ++ l)) (next C P (input_now C n v) (registers_now C D n v))) (sym events) (shows_next C P args good h1 h2 (λ u. as_word (C.result u) 0) es legal (registers_now C D n v) (input_now C n v) (shown.shows v fits) (shown.lasts v fits) start))
+          (subst (λ l. Shows C P (after C args opening (es ++ l)) (next C P (input_now C n v) (registers_now C D n v))) (sym events)
+          (shows_next C P args good h1 h2 (λ u. as_word (C.result u) 0) es legal (registers_now C D n v) (input_now C n v) (shown.shows v fits)
+          (shown.lasts v fits) start))
           (onto w fw);
-      lasts = λ w fw u. (onto w fw).res u ∙ lasts_next C P args good h1 h2 (λ u. as_word (C.result u) 0) es legal (registers_now C D n v) (input_now C n v) (shown.shows v fits) (shown.lasts v fits) start u ∙ ap (λ l. last_word C args opening (es ++ l) u (as_word (C.result u) 0)) (sym events);
+      lasts = λ w fw u. (onto w fw).res u ∙ lasts_next C P args good h1 h2 (λ u. as_word (C.result u) 0) es legal (registers_now C D n v)
+          (input_now C n v) (shown.shows v fits) (shown.lasts v fits) start u ∙ ap (λ l. last_word C args opening (es ++ l) u (as_word (C.result u) 0)) (sym events);
     }
       where
         onto : (w : Valuation) → Fits n (next_state n v) w → Same C P (registers_now C D n w) (next C P (input_now C n v) (registers_now C D n v))
@@ -216,7 +229,8 @@ module _ (C : Program) (D : Names) (P : Choice) (n : Netlist) (wf : IsWellFormed
   first_run sized [] run = tt
   first_run sized (v ∷ vs) run =
       let words : (input_now C n v).words ≡ args = ap (as_words (C.params C.main)) run.2 ∙ as_numbers args (C.params C.main) sized in
-      let start = λ (up : one (start_number n v) ≡ true). (let p : ((after C args opening []).site 0 ≡ Unsent) × ((input_now C n v).words ≡ args) × (length args ≡ arity C C.main) = (refl, words, as_many args (C.params C.main) sized) in p) in (
+      let start = λ (up : one (start_number n v) ≡ true). (let p : ((after C args opening []).site 0 ≡ Unsent) × ((input_now C n v).words ≡ args) ×
+      (length args ≡ arity C C.main) = (refl, words, as_many args (C.params C.main) sized) in p) in (
         shown_first.shows v run.0,
         shown_first.lasts v run.0,
         legal_cycle [] tt (reset_state n) shown_first v run.0 start,

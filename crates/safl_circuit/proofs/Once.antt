@@ -37,7 +37,8 @@ unsent_if Unsent h = refl
 unsent_if Sent h = absurd (false≢true h)
 unsent_if (Returned w) h = absurd (false≢true h)
 
-module _ (C : Program) (P : Choice) (good : Numbered C) (h1 : OneInUse C P.arbiter) (h2 : ShownWordsServe C P.kept) (r0 : Registers) (quiet : Quiet r0) (args : List Word) (sized : length args ≡ arity C C.main) (later : ℕ → List Word) where
+module _ (C : Program) (P : Choice) (good : Numbered C) (h1 : OneInUse C P.arbiter) (h2 : ShownWordsServe C P.kept) (r0 : Registers)
+    (quiet : Quiet r0) (args : List Word) (sized : length args ≡ arity C C.main) (later : ℕ → List Word) where
   abbrev r : ℕ → Registers
   r c = registers_at C P r0 args later c
 
@@ -107,7 +108,8 @@ module _ (C : Program) (P : Choice) (good : Numbered C) (h1 : OneInUse C P.arbit
       false_from_ne_true _ (λ up'. returned_sent _ (sym there ∙ ap (λ n. (s n).site 0) is ∙ done_sent c up'))
 
   once : (a : ℕ) → ret C (r a) 0 ≡ true → (c : ℕ) → c ≢ a → ret C (r c) 0 ≡ false
-  once a up c other = ⊎_elim (λ same. absurd (other same)) (λ d. ⊎_elim (λ lt. false_from_ne_true _ (λ upc. false≢true (sym (not_again c a upc lt) ∙ up))) (λ gt. not_again a c up gt) d) (cases_order c a)
+  once a up c other = ⊎_elim (λ same. absurd (other same)) (λ d. ⊎_elim
+      (λ lt. false_from_ne_true _ (λ upc. false≢true (sym (not_again c a upc lt) ∙ up))) (λ gt. not_again a c up gt) d) (cases_order c a)
 
   not_unsent : (c : ℕ) → (s (suc c)).site 0 ≡ Unsent → ⊥
   not_unsent zero e = sent_unsent (sym accepted ∙ e)

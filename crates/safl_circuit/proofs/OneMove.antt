@@ -65,7 +65,8 @@ accept_loop k h e = grind arith
 finish_loop : (f h : ℕ) → Finish f ≡ LoopInto h → ⊥
 finish_loop f h e = grind arith
 
-module _ (C : Program) (P : Choice) (args : List Word) (good : Numbered C) (r : Registers) (i : Inputs) (t : State) (inv : Inv C t) (meets : Meets C P args r i t) (one : (d e : Event) → Enabled C args t d → Enabled C args t e → d ≡ e) where
+module _ (C : Program) (P : Choice) (args : List Word) (good : Numbered C) (r : Registers) (i : Inputs) (t : State) (inv : Inv C t)
+    (meets : Meets C P args r i t) (one : (d e : Event) → Enabled C args t d → Enabled C args t e → d ≡ e) where
   -- what the cycle picks is enabled
   accept_on : (k : ℕ) → go C P r i k ≡ true → Enabled C args t (Accept k)
   accept_on k up = let a = go_asks C P args good r i t inv meets k up in (a.0, a.1, go_idle C P args good r i t inv meets k up)
@@ -98,14 +99,17 @@ module _ (C : Program) (P : Choice) (args : List Word) (good : Numbered C) (r : 
   pub one_move : moves_count (cycle_events C P r i) ≤ 1
   one_move = ⊎_elim
       (λ a.
-      let none = down (λ f. is_some (end_word C P r f)) Finish C.functions (λ f lt. false_from_ne_true _ (λ up. accept_finish a.0 f (one (Accept a.0) (Finish f) (accept_on a.0 a.2) (finish_on f lt up)))) in
-      let none' = down (λ h. is_some (loop_words C P r h)) LoopInto C.functions (λ h lt. false_from_ne_true _ (λ up. accept_loop a.0 h (one (Accept a.0) (LoopInto h) (accept_on a.0 a.2) (loop_on h up)))) in
+      let none = down (λ f. is_some (end_word C P r f)) Finish C.functions
+      (λ f lt. false_from_ne_true _ (λ up. accept_finish a.0 f (one (Accept a.0) (Finish f) (accept_on a.0 a.2) (finish_on f lt up)))) in
+      let none' = down (λ h. is_some (loop_words C P r h)) LoopInto C.functions
+      (λ h lt. false_from_ne_true _ (λ up. accept_loop a.0 h (one (Accept a.0) (LoopInto h) (accept_on a.0 a.2) (loop_on h up)))) in
       omega (arith, few_accepts, none, none', back_none, all_sum, late_sum, end_sum))
       (λ off.
       let none = down (go C P r i) Accept (suc C.sites) off in
       ⊎_elim
       (λ f.
-      let none' = down (λ h. is_some (loop_words C P r h)) LoopInto C.functions (λ h lt. false_from_ne_true _ (λ up. finish_loop f.0 h (one (Finish f.0) (LoopInto h) (finish_on f.0 f.1 f.2) (loop_on h up)))) in
+      let none' = down (λ h. is_some (loop_words C P r h)) LoopInto C.functions
+      (λ h lt. false_from_ne_true _ (λ up. finish_loop f.0 h (one (Finish f.0) (LoopInto h) (finish_on f.0 f.1 f.2) (loop_on h up)))) in
       omega (arith, few_finishes, none, none', back_none, all_sum, late_sum, end_sum))
       (λ off'.
       let none' = down (λ f. is_some (end_word C P r f)) Finish C.functions off' in
@@ -119,7 +123,8 @@ module _ (C : Program) (P : Choice) (args : List Word) (good : Numbered C) (r : 
       all_sum : moves_count (cycle_events C P r i) ≡ moves_count (returns C r (suc C.sites)) + moves_count (accepts C P r i (suc C.sites) ++ (finishes C P r C.functions ++ goes_on C P r C.functions))
       all_sum = moves_append (returns C r (suc C.sites)) (accepts C P r i (suc C.sites) ++ (finishes C P r C.functions ++ goes_on C P r C.functions))
 
-      late_sum : moves_count (accepts C P r i (suc C.sites) ++ (finishes C P r C.functions ++ goes_on C P r C.functions)) ≡ moves_count (accepts C P r i (suc C.sites)) + moves_count (finishes C P r C.functions ++ goes_on C P r C.functions)
+      late_sum : moves_count (accepts C P r i (suc C.sites) ++ (finishes C P r C.functions ++ goes_on C P r C.functions)) ≡ moves_count
+          (accepts C P r i (suc C.sites)) + moves_count (finishes C P r C.functions ++ goes_on C P r C.functions)
       late_sum = moves_append (accepts C P r i (suc C.sites)) (finishes C P r C.functions ++ goes_on C P r C.functions)
 
       end_sum : moves_count (finishes C P r C.functions ++ goes_on C P r C.functions) ≡ moves_count (finishes C P r C.functions) + moves_count (goes_on C P r C.functions)

@@ -50,7 +50,8 @@ unfolding first
 first_least g zero x h = absurd (some_none x (sym h))
 first_least {A} g (suc n) x h = by (first_least g n x) (first g n) refl h
   where
-    by : (first g n ≡ Some x → (i : ℕ) × (i < n) × (g i ≡ Some x) × (first g i ≡ None)) → (o : Option A) → first g n ≡ o → or_else o (g n) ≡ Some x → (i : ℕ) × (i < suc n) × (g i ≡ Some x) × (first g i ≡ None)
+    by : (first g n ≡ Some x → (i : ℕ) × (i < n) × (g i ≡ Some x) × (first g i ≡ None)) → (o : Option A) → first g n ≡ o → or_else o (g n) ≡ Some x →
+        (i : ℕ) × (i < suc n) × (g i ≡ Some x) × (first g i ≡ None)
     by ih None e h = (n, omega arith, h, e)
     by ih (Some y) e h = let t = ih (e ∙ h) in (t.0, omega (arith, t.1), t.2, t.3)
 
@@ -71,7 +72,8 @@ module _ (C : Program) (P : Choice) (args : List Word) (good : Numbered C) (r : 
 
       up_from : (j : ℕ) → unit_for C (suc j) ≡ w → want C P r (suc j) ≡ true → P.arbiter w ≡ true → first (wants_at C P r w) (suc j) ≡ None → go C P r i (suc j) ≡ true
       up_from j e wants arbiter none =
-          ap (λ b. cond b (want C P r (suc j) && (not (r.run (unit_for C (suc j))) && not (is_some (first (wants_at C P r (unit_for C (suc j))) (suc j))))) (want C P r (suc j))) (ap P.arbiter e ∙ arbiter)
+          ap (λ b. cond b (want C P r (suc j) && (not (r.run (unit_for C (suc j))) && not
+          (is_some (first (wants_at C P r (unit_for C (suc j))) (suc j))))) (want C P r (suc j))) (ap P.arbiter e ∙ arbiter)
           ∙ and_from _ _ wants (and_from _ _ (ap (λ u. not (r.run u)) e ∙ not_run) (ap (λ u. not (is_some (first (wants_at C P r u) (suc j)))) e ∙ ap (λ o. not (is_some o)) none))
 
       lowest : P.arbiter w ≡ true → (o : Option ℕ) → first (wants_at C P r w) (suc k) ≡ o → (j : ℕ) × (j ≤ C.sites) × (go C P r i j ≡ true)
@@ -116,7 +118,8 @@ module _ (C : Program) (P : Choice) (args : List Word) (good : Numbered C) (r : 
       by (Runs g k ws) e =
           let m = inv.member (C.unit h') g k ws e in
           let body : answer (back t) ws (C.body g) ≡ LoopTo h' h.0 = sym (ap (says_as C (back t)) e) ∙ h.1 in
-          let says' : body_says C P r g ≡ LoopTo h' h.0 = meets.says g m.1 ∙ ap (λ m. member_says C (back t) m g) (ap t.unit m.0 ∙ e) ∙ ap (λ b. cond b (answer (back t) ws (C.body g)) NotYet) (eq-eqb g g refl) ∙ body in
+          let says' : body_says C P r g ≡ LoopTo h' h.0 = meets.says g m.1 ∙ ap (λ m. member_says C (back t) m g) (ap t.unit m.0 ∙ e) ∙ ap
+          (λ b. cond b (answer (back t) ws (C.body g)) NotYet) (eq-eqb g g refl) ∙ body in
           let from : loop_from C P r h' g ≡ Some h.0 = rw (eq-eqb (C.unit g) (C.unit h') m.0, says', eq-eqb h' h' refl) refl in
           let some : is_some (loop_words C P r h') ≡ true = there (loop_words C P r h') (λ none. some_none h.0 (sym from ∙ first_none (loop_from C P r h') C.functions none g m.1)) in
           inr (inr (picks_move (λ j. is_some (loop_words C P r j)) LoopInto (λ j. refl) C.functions h' (good.loops g h' m.1 (goes_stands (back t) ws (C.body g) h' h.0 body)).0 some))

@@ -81,12 +81,14 @@ module _ (C : Program) (P : Choice) (args : List Word) (good : Numbered C) (r : 
   home_more n (Runs f k ws) other = refl
   home_more n (Delivers k v) other =
       let apart : k ≡ n → ⊥ = λ e. other v (ap (λ j. Delivers j v) e) in
-      let same : nat_lt k n ≡ nat_lt k (suc n) = ⊎_elim (λ t. t ∙ sym (lt-ltb k (suc n) (omega (arith, ltb-true k n t)))) (λ f. f ∙ sym (le-ltb k (suc n) (omega (arith, ltb-false k n f, apart)))) (cases_Bool (nat_lt k n)) in
+      let same : nat_lt k n ≡ nat_lt k (suc n) = ⊎_elim (λ t. t ∙ sym (lt-ltb k (suc n) (omega (arith, ltb-true k n t))))
+      (λ f. f ∙ sym (le-ltb k (suc n) (omega (arith, ltb-false k n f, apart)))) (cases_Bool (nat_lt k n)) in
       ap (λ b. cond b Idle (Delivers k v)) same
 
   came_more : (n k : ℕ) → (k ≡ n → ⊥) → came n k ≡ came (suc n) k
   came_more n k apart =
-      let same : nat_lt k n ≡ nat_lt k (suc n) = ⊎_elim (λ t. t ∙ sym (lt-ltb k (suc n) (omega (arith, ltb-true k n t)))) (λ f. f ∙ sym (le-ltb k (suc n) (omega (arith, ltb-false k n f, apart)))) (cases_Bool (nat_lt k n)) in
+      let same : nat_lt k n ≡ nat_lt k (suc n) = ⊎_elim (λ t. t ∙ sym (lt-ltb k (suc n) (omega (arith, ltb-true k n t))))
+      (λ f. f ∙ sym (le-ltb k (suc n) (omega (arith, ltb-false k n f, apart)))) (cases_Bool (nat_lt k n)) in
       ap (λ b. cond (b && ret C r k) (Returned (r.res (unit_for C k))) (s.site k)) same
 
   came_down : (n k : ℕ) → ret C r k ≡ false → came n k ≡ s.site k
@@ -108,7 +110,8 @@ module _ (C : Program) (P : Choice) (args : List Word) (good : Numbered C) (r : 
 
       sites : (d : (v : Word) × (s.unit (unit_for C n) ≡ Delivers n v)) → (k : ℕ) → put t.site n (Returned d.0) k ≡ came (suc n) k
       sites d k = ⊎_elim
-          (λ same. put_at t.site n k (Returned d.0) same ∙ subst (λ j. Returned d.0 ≡ came (suc n) j) same (rw (lt-ltb n (suc n) (omega arith), up) (ap Returned (sym (shows.res (unit_for C n) n d.0 d.1)))))
+          (λ same. put_at t.site n k (Returned d.0) same ∙ subst (λ j. Returned d.0 ≡ came (suc n) j) same
+          (rw (lt-ltb n (suc n) (omega arith), up) (ap Returned (sym (shows.res (unit_for C n) n d.0 d.1)))))
           (λ other. put_off t.site n k (Returned d.0) other ∙ b.site k ∙ came_more n k (λ e. other (sym e)))
           (cases_eq n k)
 

@@ -30,26 +30,31 @@ use Rattle.safl_circuit.proofs.Laid.{has_left, has_right, lines_has, in_unit, un
 
 module _ (C : Program) (D : Names) (P : Choice) (n : Netlist) (wf : IsWellFormed C) (h1 : OneInUse C P.arbiter) (h2 : ShownWordsServe C P.kept) (scheme : Scheme C D P n) where
   module _ (state : ℕ → ℕ) (quiet0 : IsQuietState C D n state) where
-    prompt : (args : List Word) → AreWordsOf args (C.params C.main) → (vs : List Valuation) → RunFrom n state (numbers args) vs → (v : Word) (d : Main C args v) → latest C args d < length vs → DoneIn n vs v (suc (latest C args d))
+    prompt : (args : List Word) → AreWordsOf args (C.params C.main) → (vs : List Valuation) → RunFrom n state (numbers args) vs → (v : Word)
+        (d : Main C args v) → latest C args d < length vs → DoneIn n vs v (suc (latest C args d))
     prompt args sized [] r v d long = absurd (omega (arith, long))
     prompt args sized (v0 ∷ vs) r v d long = run.prompt C D P n wf h1 h2 scheme args sized state quiet0 v0 vs r v d long
 
-    comes : (args : List Word) → AreWordsOf args (C.params C.main) → (vs : List Valuation) → RunFrom n state (numbers args) vs → (v : Word) (m : ℕ) → GivesInCalls C args v m → 3 * m ≤ length vs → DoneIn n vs v (3 * m)
+    comes : (args : List Word) → AreWordsOf args (C.params C.main) → (vs : List Valuation) → RunFrom n state (numbers args) vs → (v : Word) (m : ℕ) →
+        GivesInCalls C args v m → 3 * m ≤ length vs → DoneIn n vs v (3 * m)
     comes args sized vs r v m gives long =
         let d = agree_to C args v m gives in
         let cost = d.1 in
         let y : DoneIn n vs v (suc (latest C args d.0)) = prompt args sized vs r v d.0 (omega (arith, cost, long)) in
         record { cycle = y.cycle; in_time = (let t = y.in_time in omega (arith, cost, t)); words = y.words; there = y.there; done = y.done; result = y.result; once = y.once }
 
-    only : (args : List Word) → AreWordsOf args (C.params C.main) → (vs : List Valuation) → RunFrom n state (numbers args) vs → (c : ℕ) (w : Valuation) → slice_get vs c ≡ Some w → read_output n w (codes "done") ≡ 1 → IsResult C args (as_word (C.result C.main) (read_output n w (codes "result"))) c
+    only : (args : List Word) → AreWordsOf args (C.params C.main) → (vs : List Valuation) → RunFrom n state (numbers args) vs → (c : ℕ)
+        (w : Valuation) → slice_get vs c ≡ Some w → read_output n w (codes "done") ≡ 1 → IsResult C args (as_word (C.result C.main) (read_output n w (codes "result"))) c
     only args sized [] r c w e up = absurd (some_none w (sym e))
     only args sized (v0 ∷ vs) r c w e up = run.only C D P n wf h1 h2 scheme args sized state quiet0 v0 vs r c w e up
 
-    alone : (args : List Word) → AreWordsOf args (C.params C.main) → (vs : List Valuation) → RunFrom n state (numbers args) vs → (c : ℕ) (w : Valuation) → slice_get vs c ≡ Some w → (j k : ℕ) → j ≤ C.sites → k ≤ C.sites → go_up n w j ≡ true → go_up n w k ≡ true → unit_for C j ≡ unit_for C k → j ≡ k
+    alone : (args : List Word) → AreWordsOf args (C.params C.main) → (vs : List Valuation) → RunFrom n state (numbers args) vs → (c : ℕ)
+        (w : Valuation) → slice_get vs c ≡ Some w → (j k : ℕ) → j ≤ C.sites → k ≤ C.sites → go_up n w j ≡ true → go_up n w k ≡ true → unit_for C j ≡ unit_for C k → j ≡ k
     alone args sized [] r c w e j k lej lek a b same = absurd (some_none w (sym e))
     alone args sized (v0 ∷ vs) r c w e j k lej lek a b same = run.alone C D P n wf h1 h2 scheme args sized state quiet0 v0 vs r c w e j k lej lek a b same
 
-    rests : (args : List Word) → AreWordsOf args (C.params C.main) → (vs : List Valuation) → RunFrom n state (numbers args) vs → (c : ℕ) (w : Valuation) → slice_get vs c ≡ Some w → (k : ℕ) → k ≤ C.sites → go_up n w k ≡ true → read n w (of_function D (codes "run$") (unit_for C k)) ≢ 1
+    rests : (args : List Word) → AreWordsOf args (C.params C.main) → (vs : List Valuation) → RunFrom n state (numbers args) vs → (c : ℕ)
+        (w : Valuation) → slice_get vs c ≡ Some w → (k : ℕ) → k ≤ C.sites → go_up n w k ≡ true → read n w (of_function D (codes "run$") (unit_for C k)) ≢ 1
     rests args sized [] r c w e k le up is = some_none w (sym e)
     rests args sized (v0 ∷ vs) r c w e k le up is = run.rests C D P n wf h1 h2 scheme args sized state quiet0 v0 vs r c w e k le up is
 
@@ -77,7 +82,8 @@ module _ (C : Program) (D : Names) (P : Choice) (n : Netlist) (wf : IsWellFormed
   running f lt =
       let u = units C D P n good scheme f lt in
       let line : Line = (of_function D (codes "run$") (C.unit f), 1) in
-      subst (Has line) (sym scheme.registers) (in_unit C D P n good scheme (C.unit f) line (unit_lt C D P n good scheme (C.unit f) u) (subst (Has line) (sym (unit_is C D P n good scheme (C.unit f) u)) (inl refl)))
+      subst (Has line) (sym scheme.registers) (in_unit C D P n good scheme (C.unit f) line (unit_lt C D P n good scheme (C.unit f) u)
+      (subst (Has line) (sym (unit_is C D P n good scheme (C.unit f) u)) (inl refl)))
 
   in_wires : (x : Line) → Has x (layout_wires C D P) → Has x (each_line wire_kind n.signals)
   in_wires x h = subst (Has x) (sym scheme.named) (has_left x (layout_wires C D P) scheme.others h)
@@ -98,7 +104,17 @@ module _ (C : Program) (D : Names) (P : Choice) (n : Netlist) (wf : IsWellFormed
 
   pub is_circuit : IsCircuit C D P n
   is_circuit = record {
-    correct = record { whole = scheme.whole; acyclic = scheme.acyclic; inputs = scheme.inputs; outputs = scheme.outputs; running = running; starting = starting; starting_main = starting_main; behaves = behaves (reset_state n) reset_quiet };
+    correct = record {
+      whole = scheme.whole;
+      acyclic = scheme.acyclic;
+      inputs = scheme.inputs;
+      outputs = scheme.outputs;
+      running = running;
+      starting =
+          starting;
+      starting_main = starting_main;
+      behaves = behaves (reset_state n) reset_quiet;
+    };
     steps = λ args sized vs r. first_run C D P n wf h1 h2 scheme args sized vs r;
     first = runs (reset_state n) reset_quiet;
     again = runs;

@@ -13,7 +13,8 @@ use Rattle.safl_term.proofs.Widths.{answer_width, loop_widths, wanted_widths}
 use Rattle.safl_calls.proofs.Numbered.{Numbered}
 use Rattle.safl_calls.proofs.FromWellFormed.{numbered}
 use Rattle.safl_calls.proofs.Basics.{first_some, cond_some, some_is, some_none}
-use Rattle.safl_circuit.specs.Equations.{Registers, Inputs, Choice, ret, word_on, on_wires, path, body_says, body_wants, go_words, goes_to, loop_from, loop_words, end_in, load_in, ends, loads, or_word, next}
+use Rattle.safl_circuit.specs.Equations.{Registers, Inputs, Choice, ret, word_on, on_wires, path, body_says, body_wants, go_words, goes_to, loop_from}
+use Rattle.safl_circuit.specs.Equations.{loop_words, end_in, load_in, ends, loads, or_word, next}
 use Rattle.safl_net.specs.Netlist.{Netlist, Signal, Kind, Input, Reg, Wire}
 use Rattle.safl_net.specs.Valuations.{Valuation, Fits, read, read_next}
 use Rattle.safl_net.specs.Runs.{is_argument, input_numbers}
@@ -205,7 +206,8 @@ count_inputs (g ∷ gs) (w ∷ ws) full = by g.kind (count_inputs gs ws (omega (
     by_start true xs m e = e
     by_start false xs m e = ap suc e
 
-    by : (k : Kind) → length (input_numbers gs ws) ≡ free_lines (each_line input_kind gs) → length (cond (is_argument g.name k) (w ∷ input_numbers gs ws) (input_numbers gs ws)) ≡ free_lines (input_kind (g.name, g.width) k ++ each_line input_kind gs)
+    by : (k : Kind) → length (input_numbers gs ws) ≡ free_lines (each_line input_kind gs) → length
+        (cond (is_argument g.name k) (w ∷ input_numbers gs ws) (input_numbers gs ws)) ≡ free_lines (input_kind (g.name, g.width) k ++ each_line input_kind gs)
     by Input e = by_start (bytes_eq g.name (codes "start")) (input_numbers gs ws) (free_lines (each_line input_kind gs)) e
     by (Reg init next) e = e
     by (Wire cell) e = e
@@ -239,4 +241,5 @@ module _ (C : Program) (D : Names) (P : Choice) (n : Netlist) (wf : IsWellFormed
   -- the edge of the scheme, in words
   pub edge_same : (v : Valuation) (state : ℕ → ℕ) → Fits n state v → Same C P (registers_next C D n v) (next C P (input_now C n v) (registers_now C D n v))
   edge_same v state fits =
-      agree_same C P (registers_next C D n v) (next C P (input_now C n v) (registers_now C D n v)) (typed_view (read_next n v)) (typed_next C P wf (registers_now C D n v) (typed_view (read n v)) (input_now C n v) (typed_input v state fits)) (scheme.edge v state fits)
+      agree_same C P (registers_next C D n v) (next C P (input_now C n v) (registers_now C D n v)) (typed_view (read_next n v))
+      (typed_next C P wf (registers_now C D n v) (typed_view (read n v)) (input_now C n v) (typed_input v state fits)) (scheme.edge v state fits)

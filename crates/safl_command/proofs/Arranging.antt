@@ -416,7 +416,8 @@ module _ (s : Shape) where
       → IsReadSo (at rows pending waiting position true) ws sum [] places rest ws
   words_read [] rows pending waiting position sum places rest open_so calm ready taken = nothing_read rows pending waiting position sum open_so calm true places rest
   words_read (word ∷ ws) rows pending waiting position sum places rest open_so calm ready taken =
-      let t : WordStep rows pending waiting position sum open_so calm true word [] places rest ws = word_step rows pending waiting position sum open_so calm true word tt [] places rest ws ready taken in
+      let t : WordStep rows pending waiting position sum open_so calm true word [] places rest ws = word_step rows pending waiting position sum
+      open_so calm true word tt [] places rest ws ready taken in
       after_word rows pending waiting position sum open_so calm true word ws [] places rest ws t
       (words_read ws sum t.pending_then t.waiting_then t.position_then (more t.a word sum) t.places_then rest t.open_then t.calm_then t.ready_then t.taken_then)
 

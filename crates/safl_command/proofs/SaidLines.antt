@@ -18,13 +18,18 @@ use Rattle.safl_command.specs.Forms.{app}
 use Rattle.safl_command.specs.Values.{name_in, number_in, limit_in, count_in, args_in, has_flag, filled}
 use Rattle.safl_command.specs.Traces.{Traces, are_apart, if_apart}
 use Rattle.safl_command.specs.Arranged.{GivenOption, Arranged}
-use Rattle.safl_command.specs.Commands.{Command, Check, Build, Optimise, Sim, Walk, Run, Report, Gen, Bench, CopySite, UnfoldSite, Session, Aig, Aigstat, command_of, faultless, build_or_optimise, reshaped, traces_in}
-use Rattle.safl_command.specs.Laws.{IsNumber, IsLimit, IsCount, option, option_if, flag, trace_options, CheckLines, BuildLines, OptimiseLines, SimLines, WalkLines, RunLines, ReportLines, GenLines, BenchLines, CopyLines, UnfoldLines, SessionLines, AigLines, AigstatLines}
+use Rattle.safl_command.specs.Commands.{Command, Check, Build, Optimise, Sim, Walk, Run, Report, Gen, Bench, CopySite, UnfoldSite, Session, Aig}
+use Rattle.safl_command.specs.Commands.{Aigstat, command_of, faultless, build_or_optimise, reshaped, traces_in}
+use Rattle.safl_command.specs.Laws.{IsNumber, IsLimit, IsCount, option, option_if, flag, trace_options, CheckLines, BuildLines, OptimiseLines}
+use Rattle.safl_command.specs.Laws.{SimLines, WalkLines, RunLines, ReportLines, GenLines, BenchLines, CopyLines, UnfoldLines, SessionLines, AigLines}
+use Rattle.safl_command.specs.Laws.{AigstatLines}
 use Rattle.safl_command.proofs.Uses.{flagged}
 use Rattle.safl_command.proofs.Numbers.{number_said}
 use Rattle.safl_command.proofs.Rows.{pour, row, IsFound, row_for}
 use Rattle.safl_command.proofs.Arranging.{IsReadSo, IsFlag, IsValued, AreDeclared, ArePlaces, are_distinct, ids, among, named, given, arranged_read}
-use Rattle.safl_command.proofs.Said.{at_end, command_said, word_found, option_found, HaveNone, no_default, no_default_fault, plain_end, row_new, first_some, first_none, whole_one, whole_two, whole_three, all_taken, rest_words, other_words, name_said, number_in_said, limit_in_said, count_in_said}
+use Rattle.safl_command.proofs.Said.{at_end, command_said, word_found, option_found, HaveNone, no_default, no_default_fault, plain_end, row_new}
+use Rattle.safl_command.proofs.Said.{first_some, first_none, whole_one, whole_two, whole_three, all_taken, rest_words, other_words, name_said}
+use Rattle.safl_command.proofs.Said.{number_in_said, limit_in_said, count_in_said}
 use Rattle.safl_command.proofs.Stepping.{Enters, shape_for}
 use Rattle.safl_command.proofs.Walking.{at}
 
@@ -398,8 +403,10 @@ bench_lines seed count limit line h_seed h_count h_limit so =
     let g : IsFound (codes "COUNT") (count ∷ []) rows = word_found s line os places None ws k (codes "COUNT") (count ∷ []) refl refl in
     let l : IsFound (codes "cycles") (limit ∷ []) rows = option_found s line os places None ws k (codes "cycles") (limit ∷ []) refl refl in
     command_said s line os places None ws k (codes "bench") enters_bench
-    ∙ plain_end s rows none_bench (whole_three (is_given (codes "SEED") rows) (is_given (codes "COUNT") rows) (is_given (codes "cycles") rows) (f.given seed [] refl) (g.given count [] refl) (l.given limit [] refl))
-    ∙ ap (λ (o : Option ℕ). option_and_then (λ n. option_and_then (λ m. option_map (Bench n m) (limit_in (codes "cycles") rows)) (count_in (codes "COUNT") rows)) o) (number_in_said (codes "SEED") rows seed h_seed f)
+    ∙ plain_end s rows none_bench (whole_three (is_given (codes "SEED") rows) (is_given (codes "COUNT") rows) (is_given (codes "cycles") rows)
+    (f.given seed [] refl) (g.given count [] refl) (l.given limit [] refl))
+    ∙ ap (λ (o : Option ℕ). option_and_then (λ n. option_and_then (λ m. option_map (Bench n m) (limit_in (codes "cycles") rows))
+    (count_in (codes "COUNT") rows)) o) (number_in_said (codes "SEED") rows seed h_seed f)
     ∙ ap (λ (o : Option ℕ). option_and_then (λ m. option_map (Bench (value 10 seed) m) (limit_in (codes "cycles") rows)) o) (count_in_said (codes "COUNT") rows count h_count g)
     ∙ ap (λ (o : Option ℕ). option_map (Bench (value 10 seed) (value 10 count)) o) (limit_in_said (codes "cycles") rows limit h_limit l)
 
@@ -418,8 +425,10 @@ session_lines (input1 ∷ input2) (script1 ∷ script2) limit line h_input h_scr
     let g : IsFound (codes "SCRIPT") ((script1 ∷ script2) ∷ []) rows = word_found s line os places None ws k (codes "SCRIPT") ((script1 ∷ script2) ∷ []) refl refl in
     let l : IsFound (codes "cycles") (limit ∷ []) rows = option_found s line os places None ws k (codes "cycles") (limit ∷ []) refl refl in
     command_said s line os places None ws k (codes "session") enters_session
-    ∙ plain_end s rows none_session (whole_three (is_given (codes "IN") rows) (is_given (codes "SCRIPT") rows) (is_given (codes "cycles") rows) (f.given (input1 ∷ input2) [] refl) (g.given (script1 ∷ script2) [] refl) (l.given limit [] refl))
-    ∙ ap (λ (o : Option Text). option_and_then (λ i. option_and_then (λ t. option_map (Session i t) (limit_in (codes "cycles") rows)) (name_in (codes "SCRIPT") rows)) o) (name_said (codes "IN") rows input1 input2 f)
+    ∙ plain_end s rows none_session (whole_three (is_given (codes "IN") rows) (is_given (codes "SCRIPT") rows) (is_given (codes "cycles") rows)
+    (f.given (input1 ∷ input2) [] refl) (g.given (script1 ∷ script2) [] refl) (l.given limit [] refl))
+    ∙ ap (λ (o : Option Text). option_and_then (λ i. option_and_then (λ t. option_map (Session i t) (limit_in (codes "cycles") rows))
+    (name_in (codes "SCRIPT") rows)) o) (name_said (codes "IN") rows input1 input2 f)
     ∙ ap (λ (o : Option Text). option_and_then (λ t. option_map (Session (input1 ∷ input2) t) (limit_in (codes "cycles") rows)) o) (name_said (codes "SCRIPT") rows script1 script2 g)
     ∙ ap (λ (o : Option ℕ). option_map (Session (input1 ∷ input2) (script1 ∷ script2)) o) (limit_in_said (codes "cycles") rows limit h_limit l)
 
@@ -440,7 +449,8 @@ copy_lines (input1 ∷ input2) (output1 ∷ output2) site line h_input h_output 
     let y : IsFound (codes "unfold") ([]) rows = option_found s line os places None ws k (codes "unfold") ([]) refl refl in
     command_said s line os places None ws k (codes "reshape") enters_reshape
     ∙ plain_end s rows none_reshape (whole_two (is_given (codes "IN") rows) (is_given (codes "OUT") rows) (f.given (input1 ∷ input2) [] refl) (g.given (output1 ∷ output2) [] refl))
-    ∙ ap (λ (p : Option Text). option_and_then (λ i. option_and_then (λ o. reshaped i o (first_of (codes "copy") rows) (first_of (codes "unfold") rows)) (name_in (codes "OUT") rows)) p) (name_said (codes "IN") rows input1 input2 f)
+    ∙ ap (λ (p : Option Text). option_and_then (λ i. option_and_then
+    (λ o. reshaped i o (first_of (codes "copy") rows) (first_of (codes "unfold") rows)) (name_in (codes "OUT") rows)) p) (name_said (codes "IN") rows input1 input2 f)
     ∙ ap (λ (p : Option Text). option_and_then (λ o. reshaped (input1 ∷ input2) o (first_of (codes "copy") rows) (first_of (codes "unfold") rows)) p) (name_said (codes "OUT") rows output1 output2 g)
     ∙ ap (λ (p : Option Text). reshaped (input1 ∷ input2) (output1 ∷ output2) p (first_of (codes "unfold") rows)) x.first
     ∙ ap (λ (p : Option Text). reshaped (input1 ∷ input2) (output1 ∷ output2) (Some site) p) y.first
@@ -463,7 +473,8 @@ unfold_lines (input1 ∷ input2) (output1 ∷ output2) site line h_input h_outpu
     let y : IsFound (codes "copy") ([]) rows = option_found s line os places None ws k (codes "copy") ([]) refl refl in
     command_said s line os places None ws k (codes "reshape") enters_reshape
     ∙ plain_end s rows none_reshape (whole_two (is_given (codes "IN") rows) (is_given (codes "OUT") rows) (f.given (input1 ∷ input2) [] refl) (g.given (output1 ∷ output2) [] refl))
-    ∙ ap (λ (p : Option Text). option_and_then (λ i. option_and_then (λ o. reshaped i o (first_of (codes "copy") rows) (first_of (codes "unfold") rows)) (name_in (codes "OUT") rows)) p) (name_said (codes "IN") rows input1 input2 f)
+    ∙ ap (λ (p : Option Text). option_and_then (λ i. option_and_then
+    (λ o. reshaped i o (first_of (codes "copy") rows) (first_of (codes "unfold") rows)) (name_in (codes "OUT") rows)) p) (name_said (codes "IN") rows input1 input2 f)
     ∙ ap (λ (p : Option Text). option_and_then (λ o. reshaped (input1 ∷ input2) o (first_of (codes "copy") rows) (first_of (codes "unfold") rows)) p) (name_said (codes "OUT") rows output1 output2 g)
     ∙ ap (λ (p : Option Text). reshaped (input1 ∷ input2) (output1 ∷ output2) p (first_of (codes "unfold") rows)) y.first
     ∙ ap (λ (p : Option Text). reshaped (input1 ∷ input2) (output1 ∷ output2) None p) x.first
@@ -477,9 +488,11 @@ run_lines (input1 ∷ input2) limit args line h_input h_limit so =
     let os : List GivenOption = option (codes "cycles") limit [] in
     let places : List Text = (codes "FILE") ∷ [] in
     let ws : List Text = (input1 ∷ input2) ∷ args in
-    let k : IsReadSo s (at [] None idle 1 false) line [] os places (Some (codes "ARG")) ws = arranged_read s ws os line so places (Some (codes "ARG")) (run_cycles, tt) places_run refl refl (all_taken (codes "ARG") args) in
+    let k : IsReadSo s (at [] None idle 1 false) line [] os places (Some (codes "ARG")) ws = arranged_read s ws os line so places (Some (codes "ARG"))
+    (run_cycles, tt) places_run refl refl (all_taken (codes "ARG") args) in
     let rows : List Row = pour k.uses [] in
-    let f : IsFound (codes "FILE") ((input1 ∷ input2) ∷ []) rows = word_found s line os places (Some (codes "ARG")) ws k (codes "FILE") ((input1 ∷ input2) ∷ []) refl (ap (λ (l : List Text). (input1 ∷ input2) ∷ l) (other_words (codes "FILE") (codes "ARG") args refl)) in
+    let f : IsFound (codes "FILE") ((input1 ∷ input2) ∷ []) rows = word_found s line os places (Some (codes "ARG")) ws k (codes "FILE")
+    ((input1 ∷ input2) ∷ []) refl (ap (λ (l : List Text). (input1 ∷ input2) ∷ l) (other_words (codes "FILE") (codes "ARG") args refl)) in
     let l : IsFound (codes "cycles") (limit ∷ []) rows = option_found s line os places (Some (codes "ARG")) ws k (codes "cycles") (limit ∷ []) refl refl in
     let a : IsFound (codes "ARG") (args) rows = word_found s line os places (Some (codes "ARG")) ws k (codes "ARG") (args) refl (rest_words (codes "ARG") args) in
     command_said s line os places (Some (codes "ARG")) ws k (codes "run") enters_run
@@ -496,15 +509,20 @@ walk_lines (input1 ∷ input2) seed steps args line h_input h_seed h_steps so =
     let os : List GivenOption = option (codes "order") seed (option (codes "steps") steps []) in
     let places : List Text = (codes "IN") ∷ [] in
     let ws : List Text = (input1 ∷ input2) ∷ args in
-    let k : IsReadSo s (at [] None idle 1 false) line [] os places (Some (codes "ARG")) ws = arranged_read s ws os line so places (Some (codes "ARG")) (walk_order, (walk_steps, tt)) places_walk refl refl (all_taken (codes "ARG") args) in
+    let k : IsReadSo s (at [] None idle 1 false) line [] os places (Some (codes "ARG")) ws = arranged_read s ws os line so places (Some (codes "ARG"))
+    (walk_order, (walk_steps, tt)) places_walk refl refl (all_taken (codes "ARG") args) in
     let rows : List Row = pour k.uses [] in
-    let f : IsFound (codes "IN") ((input1 ∷ input2) ∷ []) rows = word_found s line os places (Some (codes "ARG")) ws k (codes "IN") ((input1 ∷ input2) ∷ []) refl (ap (λ (l : List Text). (input1 ∷ input2) ∷ l) (other_words (codes "IN") (codes "ARG") args refl)) in
+    let f : IsFound (codes "IN") ((input1 ∷ input2) ∷ []) rows = word_found s line os places (Some (codes "ARG")) ws k (codes "IN")
+    ((input1 ∷ input2) ∷ []) refl (ap (λ (l : List Text). (input1 ∷ input2) ∷ l) (other_words (codes "IN") (codes "ARG") args refl)) in
     let g : IsFound (codes "order") (seed ∷ []) rows = option_found s line os places (Some (codes "ARG")) ws k (codes "order") (seed ∷ []) refl refl in
     let l : IsFound (codes "steps") (steps ∷ []) rows = option_found s line os places (Some (codes "ARG")) ws k (codes "steps") (steps ∷ []) refl refl in
     let a : IsFound (codes "ARG") (args) rows = word_found s line os places (Some (codes "ARG")) ws k (codes "ARG") (args) refl (rest_words (codes "ARG") args) in
     command_said s line os places (Some (codes "ARG")) ws k (codes "walk") enters_walk
-    ∙ plain_end s rows none_walk (whole_three (is_given (codes "IN") rows) (is_given (codes "order") rows) (is_given (codes "steps") rows) (f.given (input1 ∷ input2) [] refl) (g.given seed [] refl) (l.given steps [] refl))
-    ∙ ap (λ (o : Option Text). option_and_then (λ i. option_and_then (λ n. option_map (λ m. Walk i n m (args_in rows)) (limit_in (codes "steps") rows)) (number_in (codes "order") rows)) o) (name_said (codes "IN") rows input1 input2 f)
+    ∙ plain_end s rows none_walk (whole_three (is_given (codes "IN") rows) (is_given (codes "order") rows) (is_given (codes "steps") rows)
+    (f.given (input1 ∷ input2) [] refl) (g.given seed [] refl) (l.given steps [] refl))
+    ∙ ap (λ (o : Option Text). option_and_then (λ i. option_and_then
+    (λ n. option_map (λ m. Walk i n m (args_in rows)) (limit_in (codes "steps") rows)) (number_in (codes "order") rows)) o)
+    (name_said (codes "IN") rows input1 input2 f)
     ∙ ap (λ (o : Option ℕ). option_and_then (λ n. option_map (λ m. Walk (input1 ∷ input2) n m (args_in rows)) (limit_in (codes "steps") rows)) o) (number_in_said (codes "order") rows seed h_seed g)
     ∙ ap (λ (o : Option ℕ). option_map (λ m. Walk (input1 ∷ input2) (value 10 seed) m (args_in rows)) o) (limit_in_said (codes "steps") rows steps h_steps l)
     ∙ ap (λ (l : List Text). Some (Walk (input1 ∷ input2) (value 10 seed) (value 10 steps) l)) a.all
@@ -569,10 +587,12 @@ sim_lines (c ∷ d) limit t args line h_input h_limit is_apart so =
     let v : IsFound (codes "vcd") (option_to_list t.vcd) rows = option_found s line os places rest ws k (codes "vcd") (option_to_list t.vcd) refl is.vcd_so in
     let b : IsFound (codes "starts") (option_to_list t.starts) rows = option_found s line os places rest ws k (codes "starts") (option_to_list t.starts) refl is.starts_so in
     let g : IsFound (codes "toggles") (option_to_list t.toggles) rows = option_found s line os places rest ws k (codes "toggles") (option_to_list t.toggles) refl is.toggles_so in
-    let T : Option Text → Option Text → Option Text → Option Command = λ x y z. option_map (λ x. Sim (c ∷ d) (value 10 limit) x (args_in rows)) (if_apart (record { vcd = x; starts = y; toggles = z })) in
+    let T : Option Text → Option Text → Option Text → Option Command = λ x y z. option_map (λ x. Sim (c ∷ d) (value 10 limit) x (args_in rows))
+    (if_apart (record { vcd = x; starts = y; toggles = z })) in
     command_said s line os places rest ws k (codes "sim") enters_sim
     ∙ plain_end s rows none_sim (whole_two (is_given (codes "IN") rows) (is_given (codes "cycles") rows) (f.given (c ∷ d) [] refl) (l.given limit [] refl))
-    ∙ ap (λ (o : Option Text). option_and_then (λ i. option_and_then (λ n. option_map (λ x. Sim i n x (args_in rows)) (traces_in rows)) (limit_in (codes "cycles") rows)) o) (name_said (codes "IN") rows c d f)
+    ∙ ap (λ (o : Option Text). option_and_then (λ i. option_and_then (λ n. option_map (λ x. Sim i n x (args_in rows)) (traces_in rows))
+    (limit_in (codes "cycles") rows)) o) (name_said (codes "IN") rows c d f)
     ∙ ap (λ (o : Option ℕ). option_and_then (λ n. option_map (λ x. Sim (c ∷ d) n x (args_in rows)) (traces_in rows)) o) (limit_in_said (codes "cycles") rows limit h_limit l)
     ∙ ap (λ (o : Option Text). T o (first_of (codes "starts") rows) (first_of (codes "toggles") rows)) (v.first ∙ first_listed t.vcd)
     ∙ ap (λ (o : Option Text). T t.vcd o (first_of (codes "toggles") rows)) (b.first ∙ first_listed t.starts)
@@ -637,7 +657,9 @@ build_end rows b e whole =
     let s : Shape = shape_for (codes "build") in
     let d : (with_default rows (flagged (codes "opt")) ≡ build_ended b rows) × (default_fault rows (flagged (codes "opt")) ≡ []) = build_default rows b e in
     let ended : fold with_default rows s.rules ≡ build_ended b rows = build_rows rows (nth_rule s.rules 0) (nth_rule s.rules 1) (nth_rule s.rules 2) (nth_rule s.rules 3) refl refl refl ∙ d.0 in
-    ap (λ (fault : Kinds). faultless (or_else fault (check_fault s (fold with_default rows s.rules) false)) (Some (s.name, fold with_default rows s.rules))) (build_faults rows (nth_rule s.rules 0) (nth_rule s.rules 1) (nth_rule s.rules 2) (nth_rule s.rules 3) refl refl refl d.1)
+    ap (λ (fault : Kinds). faultless (or_else fault (check_fault s (fold with_default rows s.rules) false))
+    (Some (s.name, fold with_default rows s.rules))) (build_faults rows (nth_rule s.rules 0) (nth_rule s.rules 1) (nth_rule s.rules 2)
+    (nth_rule s.rules 3) refl refl refl d.1)
     ∙ ap (λ (l : List Row). faultless (check_fault s l false) (Some (s.name, l))) ended
     ∙ ap (λ (fault : Kinds). faultless fault (Some (s.name, build_ended b rows))) whole
 

@@ -2,9 +2,12 @@
 use Rattle.std.proofs.Common.{◌≡◌, List, [], ◌∷◌, ◌++◌, Option, Some, None, inl, refl, codes}
 use Rattle.clap.specs.Words.{Text}
 use Rattle.safl_command.specs.Arranged.{GivenOption, IsUnhyphened, Arranged, ends, then_word, then_option}
-use Rattle.safl_command.specs.Laws.{AreUnhyphened, IsUnhyphenedIf, option, option_if, flag, trace_options, words_if, trace_words, CheckWords, BuildWords, OptimiseWords, SimWords, WalkWords, RunWords, ReportWords, GenWords, BenchWords, CopyWords, UnfoldWords, SessionWords, AigWords, AigstatWords}
+use Rattle.safl_command.specs.Laws.{AreUnhyphened, IsUnhyphenedIf, option, option_if, flag, trace_options, words_if, trace_words, CheckWords}
+use Rattle.safl_command.specs.Laws.{BuildWords, OptimiseWords, SimWords, WalkWords, RunWords, ReportWords, GenWords, BenchWords, CopyWords}
+use Rattle.safl_command.specs.Laws.{UnfoldWords, SessionWords, AigWords, AigstatWords}
 use Rattle.safl_command.proofs.Numbers.{number_unhyphened, limit_unhyphened, count_unhyphened}
-use Rattle.safl_command.proofs.SaidLines.{check_lines, build_lines, optimise_lines, sim_lines, walk_lines, run_lines, report_lines, gen_lines, bench_lines, copy_lines, unfold_lines, session_lines, aig_lines, aigstat_lines}
+use Rattle.safl_command.proofs.SaidLines.{check_lines, build_lines, optimise_lines, sim_lines, walk_lines, run_lines, report_lines, gen_lines}
+use Rattle.safl_command.proofs.SaidLines.{bench_lines, copy_lines, unfold_lines, session_lines, aig_lines, aigstat_lines}
 
 -- an option with its value, before other words
 set : (name value : Text) (words : List Text) (options : List GivenOption) (line : List Text) → IsUnhyphened value → Arranged words options line

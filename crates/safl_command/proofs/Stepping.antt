@@ -9,7 +9,8 @@ use Rattle.clap.specs.declared.builder.value_parser.ValueParser.TheVariants as v
 use Rattle.clap.specs.Kinds.{or_else}
 use Rattle.clap.specs.Lexer.{long_of, short_of}
 use Rattle.clap.specs.Simple.{built, names_of, label_of, rows_at, entered, argument_words, new_shape}
-use Rattle.clap.specs.Walk.{Names, Held, Walk, Step, Waiting, idle, option, positional, walked, walked_from, walk_from, nothing_held, after_step, word_met, subcommand_or_other, subcommand_met, plain_word, answers_to, finished, settled, stop_after}
+use Rattle.clap.specs.Walk.{Names, Held, Walk, Step, Waiting, idle, option, positional, walked, walked_from, walk_from, nothing_held, after_step}
+use Rattle.clap.specs.Walk.{word_met, subcommand_or_other, subcommand_met, plain_word, answers_to, finished, settled, stop_after}
 use Rattle.clap.specs.Faults.{walk_fault, turn_fault, word_fault, other_fault, step_fault, level_fault, built_fault, entered_fault, settle_fault, defaults_fault, check_fault}
 use Rattle.safl_command.specs.Forms.{app}
 use Rattle.safl_command.specs.Commands.{Command, command_of, command_of_line, faultless}
@@ -166,12 +167,14 @@ module _ (s : Shape) (w : Walk) (word : Text) (no : IsNoFlag word) (going : w.st
 
   pub quiet_plain : turn_fault s [] w word ≡ step_fault s w.position (plain_word s.rules w.waiting word w.held).0 (plain_word s.rules w.waiting word w.held).1
   quiet_plain =
-      let H : Bool → Bool → Kinds = λ b c. if b then [] else or_else (word_fault s [] c w.waiting word w.held) (step_fault s w.position (word_met s.rules [] c w.waiting w.position word w.held).0 (word_met s.rules [] c w.waiting w.position word w.held).1) in
+      let H : Bool → Bool → Kinds = λ b c. if b then [] else or_else (word_fault s [] c w.waiting word w.held)
+      (step_fault s w.position (word_met s.rules [] c w.waiting w.position word w.held).0 (word_met s.rules [] c w.waiting w.position word w.held).1) in
       let a : turn_fault s [] w word ≡ H (is_some w.stopped) w.is_trailing = refl in
       a
       ∙ ap (λ (o : Option (Text × List Text)). H (is_some o) w.is_trailing) going
       ∙ ap (H false) plainly
-      ∙ ap (λ (k : Kinds). or_else k (step_fault s w.position (word_met s.rules [] false w.waiting w.position word w.held).0 (word_met s.rules [] false w.waiting w.position word w.held).1)) (quiet_so w.waiting)
+      ∙ ap (λ (k : Kinds). or_else k (step_fault s w.position (word_met s.rules [] false w.waiting w.position word w.held).0
+      (word_met s.rules [] false w.waiting w.position word w.held).1)) (quiet_so w.waiting)
       ∙ ap (λ (m : Held × Step). step_fault s w.position m.0 m.1) (met_so w.waiting)
 
   -- such a word is read, and then the others

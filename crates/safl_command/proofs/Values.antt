@@ -21,7 +21,8 @@ module _ (f : Found) (id : Text) where
   first_is_not r e is = ap (option_map (λ (s : Bor Text). s.now)) (sym is) ∙ first_shown r e
 
   -- what is made of the first value
-  pub value_is : {Y : Type 0} (F : Text → Option Y) (r : Option (Bor Text)) (word : Bor Text) → option_map (λ s. s.now) r ≡ first_value f id → r ≡ Some word → option_and_then F (first_of id (rows_of f)) ≡ F word.now
+  pub value_is : {Y : Type 0} (F : Text → Option Y) (r : Option (Bor Text)) (word : Bor Text) → option_map (λ s. s.now) r ≡ first_value f id → r ≡
+      Some word → option_and_then F (first_of id (rows_of f)) ≡ F word.now
   value_is F r word e is = ap (option_and_then F) (sym (first_value-rows f id) ∙ sym e ∙ ap (option_map (λ (s : Bor Text). s.now)) is)
 
   pub no_value : {Y : Type 0} (F : Text → Option Y) (r : Option (Bor Text)) → option_map (λ s. s.now) r ≡ first_value f id → r ≡ None → option_and_then F (first_of id (rows_of f)) ≡ None

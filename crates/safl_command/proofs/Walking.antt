@@ -6,7 +6,9 @@ use Rattle.std.specs.Option.{option_map_or}
 use Rattle.clap.specs.Words.{Shape, Kinds, Row, Rule, Text}
 use Rattle.clap.specs.Kinds.{or_else}
 use Rattle.clap.specs.Lexer.{long_of, usize_max}
-use Rattle.clap.specs.Walk.{Held, Walk, Step, Waiting, idle, option, positional, value, trailing, walked, after_step, after_flag, plain_word, option_word, long_met, long_word, long_or_other, subcommand_met, subcommand_or_other, settled, settled_rows, to_positional, pushed, used, next, is_pending, arg_by_id, arg_by_index, arg_by_long, used_by_id}
+use Rattle.clap.specs.Walk.{Held, Walk, Step, Waiting, idle, option, positional, value, trailing, walked, after_step, after_flag, plain_word}
+use Rattle.clap.specs.Walk.{option_word, long_met, long_word, long_or_other, subcommand_met, subcommand_or_other, settled, settled_rows}
+use Rattle.clap.specs.Walk.{to_positional, pushed, used, next, is_pending, arg_by_id, arg_by_index, arg_by_long, used_by_id}
 use Rattle.clap.specs.Faults.{turn_fault, step_fault, word_fault, other_fault, flag_word_fault, long_fault, settle_fault, positional_fault, stray_fault, use_fault}
 use Rattle.safl_command.proofs.Rows.{more}
 use Rattle.safl_command.proofs.Uses.{valued, flagged, placed, rest_placed, Adds}
@@ -154,7 +156,8 @@ module _ (s : Shape) (rows : List Row) (pending : Option (Text × List Text)) (w
       let w : Walk = at rows pending waiting position false in
       read_word s w (45 ∷ 45 ∷ []) line (at rows pending waiting position true) end
       (ap (λ (o : Option Text). or_else (other_fault s o (45 ∷ 45 ∷ []) (held rows pending))
-      (step_fault s position (subcommand_or_other s.rules o waiting position (45 ∷ 45 ∷ []) (held rows pending)).0 (subcommand_or_other s.rules o waiting position (45 ∷ 45 ∷ []) (held rows pending)).1))
+      (step_fault s position (subcommand_or_other s.rules o waiting position (45 ∷ 45 ∷ []) (held rows pending)).0
+      (subcommand_or_other s.rules o waiting position (45 ∷ 45 ∷ []) (held rows pending)).1))
       (no_subcommand (45 ∷ 45 ∷ []) waiting))
       (ap (λ (o : Option Text). after_step s.rules (45 ∷ 45 ∷ []) w (subcommand_or_other s.rules o waiting position (45 ∷ 45 ∷ []) (held rows pending)).0
       (subcommand_or_other s.rules o waiting position (45 ∷ 45 ∷ []) (held rows pending)).1) (no_subcommand (45 ∷ 45 ∷ []) waiting))
@@ -179,18 +182,21 @@ module _ (s : Shape) (rows : List Row) (pending : Option (Text × List Text)) (w
       ∙ ap (λ (o : Option Rule). A (after_flag s.rules waiting word (long_met s.rules o v h).0 (long_met s.rules o v h).1)) l.by_long
 
   long_quiet : (word name : Text) (v : Option Text) (a : Rule) → IsLong s word name v a
-      → turn_fault s [] (at rows pending waiting position false) word ≡ or_else (long_fault s.rules s.args_override_self (Some a) v (held rows pending)) (step_fault s position (met word v a).0 (met word v a).1)
+      → turn_fault s [] (at rows pending waiting position false) word ≡ or_else
+      (long_fault s.rules s.args_override_self (Some a) v (held rows pending)) (step_fault s position (met word v a).0 (met word v a).1)
   long_quiet word name v a l =
       let h : Held = held rows pending in
       let again : Bool = s.args_override_self in
       let B : Kinds → Held × Step → Kinds = λ k m. or_else k (step_fault s position m.0 m.1) in
       ap (λ (o : Option Text). B (other_fault s o word h) (subcommand_or_other s.rules o waiting position word h)) (no_subcommand word waiting)
-      ∙ ap (λ (b : Bool). B (if b then [] else flag_word_fault s.rules again (long_of word) word h) (if b then (h, trailing position) else long_or_other s.rules waiting word (long_of word) h)) l.dashes
+      ∙ ap (λ (b : Bool). B (if b then [] else flag_word_fault s.rules again (long_of word) word h)
+      (if b then (h, trailing position) else long_or_other s.rules waiting word (long_of word) h)) l.dashes
       ∙ ap (λ (o : Option (Text × Option Text)). B (flag_word_fault s.rules again o word h) (long_or_other s.rules waiting word o h)) l.long
       ∙ ap (λ (o : Option Rule). B (long_fault s.rules again o v h) (after_flag s.rules waiting word (long_met s.rules o v h).0 (long_met s.rules o v h).1)) l.by_long
 
   -- an option with its value in the next word
-  pub apart_read : (word name v : Text) (required : Bool) → IsLong s word name None (valued required name) → IsNoFlag v → arg_by_id s.rules name ≡ Some (valued required name) → bytes_eq name name ≡ true
+  pub apart_read : (word name v : Text) (required : Bool) → IsLong s word name None (valued required name) → IsNoFlag v → arg_by_id s.rules name ≡
+      Some (valued required name) → bytes_eq name name ≡ true
       → IsRead s (at sum (Some (name, v ∷ [])) idle position false) line end → IsRead s (at rows pending waiting position false) (word ∷ v ∷ line) end
   apart_read word name v required l plain_so by self r =
       let w : Walk = at sum (Some (name, [])) (option name) position false in

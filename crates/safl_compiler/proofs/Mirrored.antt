@@ -12,7 +12,8 @@ use Rattle.safl_net.specs.Mirrors.{IsLaidOut, IsNamed, IsTemp}
 use Rattle.safl_circuit.specs.Mirrored.{AreMirrors, MirrorsKeepSchemes, MirrorsKeepPlans}
 use Rattle.safl_compiler.specs.Circuits.{IsCircuitOf}
 
-module _ (law : SchemesAreCircuits) (suffice : (C : Program) (arbiter kept : ℕ → Bool) → IsPlan C arbiter kept → Suffices C arbiter kept) (schemes : MirrorsKeepSchemes) (plans : MirrorsKeepPlans) where
+module _ (law : SchemesAreCircuits) (suffice : (C : Program) (arbiter kept : ℕ → Bool) → IsPlan C arbiter kept → Suffices C arbiter kept)
+    (schemes : MirrorsKeepSchemes) (plans : MirrorsKeepPlans) where
   pub mirrored : (C : Program) (D : Names) (n m : Netlist) → IsWellFormed C → IsCircuitOf C D n → AreMirrors n m → IsCircuitOf C D m
   mirrored C D n m formed c a =
       let scheme = schemes C D c.choice n m a c.scheme in

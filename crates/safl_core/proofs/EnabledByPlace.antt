@@ -1,5 +1,6 @@
 -- The enabled events, by their places.
-use Rattle.std.proofs.Common.{◌≡◌, ℕ, zero, suc, ◌+◌, ◌-◌, ◌<◌, ◌≤◌, ◌⊎◌, inl, inr, List, [], ◌∷◌, ◌++◌, length, cond, Option, Some, None, Bool, true, false, nat_lt, refl, sym, ap, ◌∙◌, subst, ⊎_elim, arith, append_assoc}
+use Rattle.std.proofs.Common.{◌≡◌, ℕ, zero, suc, ◌+◌, ◌-◌, ◌<◌, ◌≤◌, ◌⊎◌, inl, inr, List, [], ◌∷◌, ◌++◌, length, cond, Option, Some, None, Bool, true}
+use Rattle.std.proofs.Common.{false, nat_lt, refl, sym, ap, ◌∙◌, subst, ⊎_elim, arith, append_assoc}
 use Rattle.std.specs.Prelude.{slice_get}
 use Rattle.std.proofs.lemmas.Bool.{lt-ltb, le-ltb, ltb-true, ltb-false, cases_eq, cases_Bool}
 use Rattle.safl_calls.specs.Machine.{Enabled}
@@ -82,7 +83,8 @@ picked_at p e i zero lt is = absurd (omega (arith, lt))
 picked_at p e i (suc n) lt is = ⊎_elim
     (λ same. subst (λ k. slice_get (picks p e (suc k)) (length (picks p e i)) ≡ Some (e i)) same
     (ap (λ l. slice_get l (length (picks p e i))) (picks_more p e i ∙ ap (λ b. picks p e i ++ cond b (e i ∷ []) []) is) ∙ got_last (picks p e i) (e i)))
-    (λ other. ap (λ l. slice_get l (length (picks p e i))) (picks_more p e n) ∙ got_front (picks p e n) (cond (p n) (e n ∷ []) []) (length (picks p e i)) (e i) (picked_at p e i n (omega (arith, lt, other)) is))
+    (λ other. ap (λ l. slice_get l (length (picks p e i))) (picks_more p e n) ∙ got_front (picks p e n) (cond (p n) (e n ∷ []) [])
+    (length (picks p e i)) (e i) (picked_at p e i n (omega (arith, lt, other)) is))
     (cases_eq i n)
 
 last_or : (xs : List Event) (y x : Event) (i : ℕ) → slice_get (xs ++ y ∷ []) i ≡ Some x → (slice_get xs i ≡ Some x) ⊎ ((i ≡ length xs) × (x ≡ y))
@@ -105,7 +107,8 @@ picks_of p e (suc n) i x h = by (p n) refl (λ q. picks_of p e n i x q)
     earlier : (k : ℕ) × (k < n) × (p k ≡ true) × (x ≡ e k) × (i ≡ length (picks p e k)) → (k : ℕ) × (k < suc n) × (p k ≡ true) × (x ≡ e k) × (i ≡ length (picks p e k))
     earlier r = (r.0, omega (arith, r.1), r.2, r.3, r.4)
 
-    by : (b : Bool) → p n ≡ b → (slice_get (picks p e n) i ≡ Some x → (k : ℕ) × (k < n) × (p k ≡ true) × (x ≡ e k) × (i ≡ length (picks p e k))) → (k : ℕ) × (k < suc n) × (p k ≡ true) × (x ≡ e k) × (i ≡ length (picks p e k))
+    by : (b : Bool) → p n ≡ b → (slice_get (picks p e n) i ≡ Some x → (k : ℕ) × (k < n) × (p k ≡ true) × (x ≡ e k) × (i ≡ length (picks p e k))) →
+        (k : ℕ) × (k < suc n) × (p k ≡ true) × (x ≡ e k) × (i ≡ length (picks p e k))
     by true is before = ⊎_elim (λ q. earlier (before q)) (λ q. (n, omega arith, is, q.1, q.0)) (last_or (picks p e n) (e n) x i (split true is))
     by false is before = earlier (before (ap (λ l. slice_get l i) (nil_right (picks p e n)) ∙ split false is))
 
@@ -156,7 +159,9 @@ module _ (C : Program) (args : List Word) (s : State) where
   test_at i = can C args s (event_at C i)
 
   below : (i : ℕ) → i < suc C.sites → event_at C i ≡ Accept i
-  below i lt = ap (λ b. cond b (Accept i) (cond (nat_lt (i - suc C.sites) C.functions) (Finish (i - suc C.sites)) (cond (nat_lt (i - suc C.sites - C.functions) (suc C.sites)) (Return (i - suc C.sites - C.functions)) (LoopInto (i - suc C.sites - C.functions - suc C.sites))))) (lt-ltb i (suc C.sites) lt)
+  below i lt = ap (λ b. cond b (Accept i) (cond (nat_lt (i - suc C.sites) C.functions) (Finish (i - suc C.sites))
+      (cond (nat_lt (i - suc C.sites - C.functions) (suc C.sites)) (Return (i - suc C.sites - C.functions))
+      (LoopInto (i - suc C.sites - C.functions - suc C.sites))))) (lt-ltb i (suc C.sites) lt)
 
   abbrev after_accepts : ℕ → Event
   after_accepts j = cond (nat_lt j C.functions) (Finish j) (cond (nat_lt (j - C.functions) (suc C.sites)) (Return (j - C.functions)) (LoopInto (j - C.functions - suc C.sites)))
@@ -221,7 +226,8 @@ module _ (C : Program) (args : List Word) (s : State) where
 -- ---- where nothing is listed, nothing is enabled
 
 module _ {m : Shown} {answers : List Kept} {wants : List (Option (List Word))} {room : ℕ} (h : IsKept m answers wants room) where
-  pub event_place : (e : Event) → CanFire m e → (i : ℕ) × (i < suc (program_of m.program).sites + ((program_of m.program).functions + (suc (program_of m.program).sites + (program_of m.program).functions))) × (event_at (program_of m.program) i ≡ e)
+  pub event_place : (e : Event) → CanFire m e → (i : ℕ) × (i < suc (program_of m.program).sites +
+      ((program_of m.program).functions + (suc (program_of m.program).sites + (program_of m.program).functions))) × (event_at (program_of m.program) i ≡ e)
   event_place (Accept k) q =
       let C = program_of m.program in
       let le = accept_within h k q in
@@ -233,12 +239,20 @@ module _ {m : Shown} {answers : List Kept} {wants : List (Option (List Word))} {
   event_place (Return k) q =
       let C = program_of m.program in
       let le = return_in h k q.0 q.1 in
-      let lt : k < suc C.sites = omega (arith, le) in
-      (suc C.sites + (C.functions + k), omega (arith, le), first C m.args (state m) (C.functions + k) ∙ (second C m.args (state m) k ∙ ap (λ b. cond b (Return k) (LoopInto (k - suc C.sites))) (lt-ltb k (suc C.sites) lt)))
+      let lt : k < suc C.sites = omega (arith, le) in (
+        suc C.sites + (C.functions + k),
+        omega (arith, le),
+        first C m.args (state m) (C.functions + k) ∙
+            (second C m.args (state m) k ∙ ap (λ b. cond b (Return k) (LoopInto (k - suc C.sites))) (lt-ltb k (suc C.sites) lt)),
+      )
   event_place (LoopInto n) q =
       let C = program_of m.program in
-      let lt = (looping h n q.0 q.1).within in
-      (suc C.sites + (C.functions + (suc C.sites + n)), omega (arith, lt), first C m.args (state m) (C.functions + (suc C.sites + n)) ∙ (second C m.args (state m) (suc C.sites + n) ∙ third C m.args (state m) n))
+      let lt = (looping h n q.0 q.1).within in (
+        suc C.sites + (C.functions + (suc C.sites + n)),
+        omega (arith, lt),
+        first C m.args (state m) (C.functions + (suc C.sites + n)) ∙
+            (second C m.args (state m) (suc C.sites + n) ∙ third C m.args (state m) n),
+      )
 
   pub none_listed : length (listed (program_of m.program) m.args (state m)) ≡ 0 → IsOver m
   none_listed none e q =

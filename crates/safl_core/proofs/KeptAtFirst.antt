@@ -48,7 +48,8 @@ module _ (c : CheckedProgram) (args : List Word) (units : List Mode) (sites : Li
   unfolding core.Legal core.after
   first_reached e = record { list = []; count = refl; legal = tt; ends = sym e }
 
-  first_known : ((u : ℕ) → unit_at units u ≡ core.Idle) → ((u : ℕ) → get_or answers u plain.NotYet ≡ plain.NotYet) → ((k : ℕ) → get_or wants k None ≡ None) → (u : ℕ) → IsKnown (program_of c) (state_of units sites) answers wants u
+  first_known : ((u : ℕ) → unit_at units u ≡ core.Idle) → ((u : ℕ) → get_or answers u plain.NotYet ≡ plain.NotYet) →
+      ((k : ℕ) → get_or wants k None ≡ None) → (u : ℕ) → IsKnown (program_of c) (state_of units sites) answers wants u
   first_known idle none unwanted u = record {
     outcome = none u ∙ ap (core.says_as (program_of c) (core.back (state_of units sites))) (sym (idle u));
     wants = λ k pos le on. unwanted k ∙ ap (λ m. core.asked_as (program_of c) (core.back (state_of units sites)) m ((program_of c).caller k) k) (sym (idle u));
@@ -104,7 +105,8 @@ fits_count args ps ne = (λ t. absurd (false≢true t), λ e. absurd (ne (sym (w
 pub fits_off : (args : List Word) (ps : List ℕ) (i w p : ℕ) (v : Word) → i < length args → v ≡ get_or args i v → w ≡ v.width → slice_get ps i ≡ Some p → (w ≡ p → ⊥) → Tested false args ps
 fits_off args ps i w p v lt is e f ne = (λ t. absurd (false≢true t), λ q. absurd (ne (sym (width_at args i w v lt is e) ∙ (ap (λ (l : List ℕ). get_or l i 0) q ∙ got ps i p f))))
 
-pub fits_more : (args : List Word) (ps : List ℕ) (i w p : ℕ) (v : Word) → take i (widths args) ≡ take i ps → i < length args → v ≡ get_or args i v → w ≡ v.width → slice_get ps i ≡ Some p → w ≡ p → take (i + 1) (widths args) ≡ take (i + 1) ps
+pub fits_more : (args : List Word) (ps : List ℕ) (i w p : ℕ) (v : Word) → take i (widths args) ≡ take i ps → i < length args → v ≡ get_or args i v → w
+    ≡ v.width → slice_get ps i ≡ Some p → w ≡ p → take (i + 1) (widths args) ≡ take (i + 1) ps
 fits_more args ps i w p v before lt is e f same =
     let one : i + 1 ≡ suc i = omega arith in
     let inside : i < length (widths args) = omega (arith, lt, widths_long args) in

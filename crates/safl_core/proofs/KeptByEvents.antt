@@ -5,7 +5,8 @@ use Rattle.safl_word.specs.Words.{Word}
 use Rattle.safl_term.specs.Checked.{program_of}
 use Rattle.safl_term.specs.Program.{Program, unit_for}
 use Rattle.safl_term.specs.Readiness.{Unsent, Sent, Returned, Answer, Ready, LoopTo, NotYet, answer, wanted, back_word, word_of}
-use Rattle.safl_calls.specs.Machine.{State, Mode, Idle, Runs, Delivers, Event, Finish, Return, LoopInto, opening, put, back, says, says_as, asked, asked_as, Enabled, Legal, after, fire, accept, finish, give_back, loop_into, ended}
+use Rattle.safl_calls.specs.Machine.{State, Mode, Idle, Runs, Delivers, Event, Finish, Return, LoopInto, opening, put, back, says, says_as, asked}
+use Rattle.safl_calls.specs.Machine.{asked_as, Enabled, Legal, after, fire, accept, finish, give_back, loop_into, ended}
 use Rattle.safl_calls.proofs.Basics.{serves, cond_some, put_at, put_off, after_append, after_one, legal_append, legal_one}
 use Rattle.safl_calls.proofs.Invariant.{Inv, inv_fire, inv_after, found}
 use Rattle.safl_calls.proofs.Bodies.{goes_stands}
@@ -31,7 +32,8 @@ module _ {m : Shown} {answers : List Answer} {wants : List (Option (List Word))}
   pub fits : IsKept m answers wants room → Fits (program_of m.program) (state m)
   fits h = subst (λ s. Fits (program_of m.program) s) h.reached.ends (fits_after (program_of m.program) h.checked.formed m.args h.reached.list h.given h.reached.legal)
 
-  module _ (h : IsKept m answers wants room) (e : Event) (can : CanFire m e) (modes : List modes_declared.Mode) (stages : List stages_declared.Stage) (is : state_of modes stages ≡ fire (program_of m.program) m.args (state m) e) where
+  module _ (h : IsKept m answers wants room) (e : Event) (can : CanFire m e) (modes : List modes_declared.Mode) (stages : List stages_declared.Stage)
+      (is : state_of modes stages ≡ fire (program_of m.program) m.args (state m) e) where
     next_inv : Inv (program_of m.program) (state_of modes stages)
     next_inv = subst (λ s. Inv (program_of m.program) s) (sym is) (inv_fire (program_of m.program) m.args (good h) (state m) e (inv h) can)
 
@@ -50,7 +52,9 @@ module _ {m : Shown} {answers : List Answer} {wants : List (Option (List Word))}
       count = more h.reached.list e ∙ (ap (λ x. x + 1) h.reached.count ∙ sym c);
       legal = subst (λ C. Legal (program_of C) n.args opening (h.reached.list ++ e ∷ [])) (sym p)
           (subst (λ xs. Legal (program_of m.program) xs opening (h.reached.list ++ e ∷ [])) (sym a)
-          (legal_append (program_of m.program) m.args opening h.reached.list (e ∷ []) h.reached.legal (legal_one (program_of m.program) m.args (after (program_of m.program) m.args opening h.reached.list) e (subst (λ t. Enabled (program_of m.program) m.args t e) (sym h.reached.ends) can))));
+          (legal_append (program_of m.program) m.args opening h.reached.list (e ∷ []) h.reached.legal
+          (legal_one (program_of m.program) m.args (after (program_of m.program) m.args opening h.reached.list) e
+          (subst (λ t. Enabled (program_of m.program) m.args t e) (sym h.reached.ends) can))));
       ends = ap (λ C. after (program_of C) n.args opening (h.reached.list ++ e ∷ [])) p
           ∙ (ap (λ xs. after (program_of m.program) xs opening (h.reached.list ++ e ∷ [])) a
           ∙ (after_append (program_of m.program) m.args opening h.reached.list (e ∷ [])
@@ -77,7 +81,8 @@ module _ (C : Program) (good : Numbered C) (s t : State) (inv : Inv C s) (v : �
   same_asked same (Delivers j w) e k = refl
   same_asked same (Runs f j ws) e k = ⊎_elim
       (λ q. ap (λ o. cond (eqb f (C.caller k)) o None) (ap (λ g. wanted (back t) ws (C.body g) k) (sym q) ∙ (local ∙ ap (λ g. wanted (back s) ws (C.body g) k) q)))
-      (λ q. ap (λ b. cond b (wanted (back t) ws (C.body (C.caller k)) k) None) (ne_eqb f (C.caller k) q) ∙ sym (ap (λ b. cond b (wanted (back s) ws (C.body (C.caller k)) k) None) (ne_eqb f (C.caller k) q)))
+      (λ q. ap (λ b. cond b (wanted (back t) ws (C.body (C.caller k)) k) None) (ne_eqb f (C.caller k) q) ∙ sym
+      (ap (λ b. cond b (wanted (back s) ws (C.body (C.caller k)) k) None) (ne_eqb f (C.caller k) q)))
       (cases_eq f (C.caller k))
     where
       local : wanted (back t) ws (C.body f) k ≡ wanted (back s) ws (C.body f) k
@@ -99,7 +104,8 @@ module _ (C : Program) (good : Numbered C) (s t : State) (inv : Inv C s) (answer
     wants = λ k pos le on. h.wants k pos le on ∙ (ap (λ m. asked_as C (back s) m (C.caller k) k) e ∙ sym (ap (λ m. asked_as C (back t) m (C.caller k) k) f));
   }
 
-module _ (C : Program) (args : List Word) (good : Numbered C) (s : State) (inv : Inv C s) (answers : List Answer) (wants : List (Option (List Word))) (known : (u : ℕ) → IsKnown C s answers wants u) where
+module _ (C : Program) (args : List Word) (good : Numbered C) (s : State) (inv : Inv C s) (answers : List Answer) (wants : List (Option (List Word)))
+    (known : (u : ℕ) → IsKnown C s answers wants u) where
   pub after_accept : (k : ℕ) (ws : List Word) → asked C args s k ≡ Some ws → (v : ℕ) → v ≢ unit_for C k → IsKnown C (accept C s k (Some ws)) answers wants v
   after_accept k ws e v ne = stays C good s (accept C s k (Some ws)) inv answers wants v (put_off s.unit (unit_for C k) v (Runs (C.callee k) k ws) (λ q. ne (sym q))) (λ j on. same j) (known v)
     where
@@ -151,7 +157,8 @@ pub record Looping (C : Program) (s : State) (h : ℕ) : Type 0 where
   pub within : h < C.functions
 
 module _ {m : Shown} {answers : List Answer} {wants : List (Option (List Word))} {room : ℕ} (h : IsKept m answers wants room) where
-  pub accept_words : (k : ℕ) (ws words : List Word) → asked (program_of m.program) m.args (state m) k ≡ Some ws → (k ≡ 0 → words ≡ m.args) → ((k ≡ 0 → ⊥) → get_or wants k None ≡ Some words) → asked (program_of m.program) m.args (state m) k ≡ Some words
+  pub accept_words : (k : ℕ) (ws words : List Word) → asked (program_of m.program) m.args (state m) k ≡ Some ws → (k ≡ 0 → words ≡ m.args) →
+      ((k ≡ 0 → ⊥) → get_or wants k None ≡ Some words) → asked (program_of m.program) m.args (state m) k ≡ Some words
   accept_words zero ws words e first other = e ∙ ap Some (sym (some_same m.args ws (cond_some _ _ ws e).1) ∙ sym (first refl))
   accept_words (suc k) ws words e first other =
       let C = program_of m.program in
@@ -177,10 +184,12 @@ module _ {m : Shown} {answers : List Answer} {wants : List (Option (List Word))}
   pub return_in : (k : ℕ) (v : Word) → (state m).unit (unit_for (program_of m.program) k) ≡ Delivers k v → k ≤ (program_of m.program).sites
   return_in k v e = ((inv h).serving (unit_for (program_of m.program) k) k (ap serves e)).2
 
-  pub return_is : (k : ℕ) (v : Word) → (state m).unit (unit_for (program_of m.program) k) ≡ Delivers k v → (u : ℕ) (word : Word) → u ≡ unit_for (program_of m.program) k → Some word ≡ word_given ((state m).unit u) → word ≡ v
+  pub return_is : (k : ℕ) (v : Word) → (state m).unit (unit_for (program_of m.program) k) ≡ Delivers k v → (u : ℕ) (word : Word) → u ≡ unit_for
+      (program_of m.program) k → Some word ≡ word_given ((state m).unit u) → word ≡ v
   return_is k v e u word at given = some_same word v (given ∙ (ap (λ n. word_given ((state m).unit n)) at ∙ ap word_given e))
 
-  pub return_next : (k : ℕ) (v : Word) → (state m).unit (unit_for (program_of m.program) k) ≡ Delivers k v → (word : Word) → word ≡ v → give_back (program_of m.program) (state m) k (Delivers k word) ≡ fire (program_of m.program) m.args (state m) (Return k)
+  pub return_next : (k : ℕ) (v : Word) → (state m).unit (unit_for (program_of m.program) k) ≡ Delivers k v → (word : Word) → word ≡ v → give_back
+      (program_of m.program) (state m) k (Delivers k word) ≡ fire (program_of m.program) m.args (state m) (Return k)
   return_next k v e word same = ap (λ w. give_back (program_of m.program) (state m) k (Delivers k w)) same ∙ ap (give_back (program_of m.program) (state m) k) (sym e)
 
   pub looping : (n : ℕ) (vs : List Word) → says (program_of m.program) (state m) ((program_of m.program).unit n) ≡ LoopTo n vs → Looping (program_of m.program) (state m) n

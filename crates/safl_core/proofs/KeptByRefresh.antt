@@ -18,7 +18,8 @@ use Rattle.safl_core.specs.States.{ChangesWithin}
 use Rattle.safl_evaluate.proofs.RunsByParts.{not_wanted}
 
 -- a function's body may be evaluated with arguments of the widths of its parameters
-pub body_can : (c : CheckedProgram) (S : List Stage) (n : ℕ) (E : List Word) (f : ℕ) → IsChecked c → f < (program_of c).functions → widths E ≡ (program_of c).params f → BackFits (program_of c) S → length S ≡ suc (program_of c).sites → n ≡ suc (program_of c).sites → CanRun S n E ((program_of c).body f)
+pub body_can : (c : CheckedProgram) (S : List Stage) (n : ℕ) (E : List Word) (f : ℕ) → IsChecked c → f < (program_of c).functions → widths E ≡
+    (program_of c).params f → BackFits (program_of c) S → length S ≡ suc (program_of c).sites → n ≡ suc (program_of c).sites → CanRun S n E ((program_of c).body f)
 body_can c S n E f checked lt fits back sites places =
     let C = program_of c in
     let b = checked.formed.numbered.bodies f in
@@ -66,7 +67,8 @@ others_stay C u own asks asks1 span off = record {
 }
 
 -- a unit that was cleared: its sites are not asked for, and those of other units as before
-module _ (C : Program) (u : ℕ) (asks asks1 : List (Option (List Word))) (clears : (k : ℕ) → 0 < k → k ≤ C.sites → get_or asks1 k None ≡ cond (eqb (C.unit (C.caller k)) u) None (get_or asks k None)) where
+module _ (C : Program) (u : ℕ) (asks asks1 : List (Option (List Word)))
+    (clears : (k : ℕ) → 0 < k → k ≤ C.sites → get_or asks1 k None ≡ cond (eqb (C.unit (C.caller k)) u) None (get_or asks k None)) where
   pub cleared_here : (k : ℕ) → 0 < k → k ≤ C.sites → C.unit (C.caller k) ≡ u → get_or asks1 k None ≡ None
   cleared_here k pos le on = clears k pos le ∙ ap (λ b. cond b None (get_or asks k None)) (eq-eqb (C.unit (C.caller k)) u on)
 
@@ -81,7 +83,8 @@ own_wants C b f j args k good lt = ⊎_elim
     (cases_eq f (C.caller k))
 
 -- a unit wants no site of another unit
-pub asked_off : (C : Program) (b : ℕ → Option Word) (u k : ℕ) (m : Mode) → ((f j : ℕ) (ws : List Word) → m ≡ Runs f j ws → C.unit f ≡ u) → (C.unit (C.caller k) ≡ u → ⊥) → asked_as C b m (C.caller k) k ≡ None
+pub asked_off : (C : Program) (b : ℕ → Option Word) (u k : ℕ) (m : Mode) → ((f j : ℕ) (ws : List Word) → m ≡ Runs f j ws → C.unit f ≡ u) →
+    (C.unit (C.caller k) ≡ u → ⊥) → asked_as C b m (C.caller k) k ≡ None
 asked_off C b u k Idle own apart = refl
 asked_off C b u k (Delivers j v) own apart = refl
 asked_off C b u k (Runs f j ws) own apart = ap (λ t. cond t (wanted b ws (C.body (C.caller k)) k) None) (ne_eqb f (C.caller k) (λ q. apart (sym (ap C.unit q) ∙ own f j ws refl)))

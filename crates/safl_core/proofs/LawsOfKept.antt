@@ -165,13 +165,15 @@ module _ {m : Shown} {answers : List Answer} {wants : List (Option (List Word))}
       → b ≡ can (program_of m.program) m.args (state m) (Accept k)
   accept_test k u b le e = e ∙ ap (λ x. x && is_idle ((state m).unit (unit_for (program_of m.program) k))) (waits_test k le)
 
-  pub finish_test : (f u : ℕ) (b : Bool) → u ≡ (program_of m.program).unit f → b ≡ (runs ((state m).unit u) f && is_ready (get_or answers u NotYet)) → b ≡ can (program_of m.program) m.args (state m) (Finish f)
+  pub finish_test : (f u : ℕ) (b : Bool) → u ≡ (program_of m.program).unit f → b ≡ (runs ((state m).unit u) f && is_ready (get_or answers u NotYet)) →
+      b ≡ can (program_of m.program) m.args (state m) (Finish f)
   finish_test f u b at e =
       let C = program_of m.program in
       e ∙ (ap (λ a. runs ((state m).unit u) f && is_ready a) (h.known u).outcome ∙ ap (λ n. runs ((state m).unit n) f && is_ready (says C (state m) n)) at)
 
   -- a site that a unit delivers to is sent
-  pub return_test : (k : ℕ) (b : Bool) → b ≡ (is_sent ((state m).site k) && delivers_to ((state m).unit (unit_for (program_of m.program) k)) k) → b ≡ can (program_of m.program) m.args (state m) (Return k)
+  pub return_test : (k : ℕ) (b : Bool) → b ≡ (is_sent ((state m).site k) && delivers_to ((state m).unit (unit_for (program_of m.program) k)) k) → b ≡
+      can (program_of m.program) m.args (state m) (Return k)
   return_test k b e = e ∙ by ((state m).unit (unit_for (program_of m.program) k)) refl
     where
       never : (x : Bool) → (x && false) ≡ false

@@ -16,7 +16,8 @@ module _ (p : CheckedProgram) (h : IsChecked p) where
       (cases_eq f (suc g))
 
   -- where the first function that is no member of the unit follows
-  pub ends_members : (u end : ℕ) → u ≤ end → end ≤ (program_of p).functions → ((f : ℕ) → u ≤ f → f < end → (program_of p).unit f ≡ u) → ((program_of p).unit end ≡ u → end < (program_of p).functions → ⊥)
+  pub ends_members : (u end : ℕ) → u ≤ end → end ≤ (program_of p).functions → ((f : ℕ) → u ≤ f → f < end → (program_of p).unit f ≡ u) →
+      ((program_of p).unit end ≡ u → end < (program_of p).functions → ⊥)
       → EndsMembers (program_of p) u end
   ends_members u end above most members stop = record {
     above = above;
@@ -56,13 +57,15 @@ module _ (p : CheckedProgram) (h : IsChecked p) where
       cases_lt : (a b : ℕ) → (a < b) ⊎ (b ≤ a)
       cases_lt a b = grind arith
 
-      from : (k : ℕ) → s.first ≤ k → (program_of p).caller k < (program_of p).functions → k < first_site_of p (suc ((program_of p).caller k)) → (u < (program_of p).caller k) ⊎ ((program_of p).caller k ≤ u) → u ≤ (program_of p).caller k
+      from : (k : ℕ) → s.first ≤ k → (program_of p).caller k < (program_of p).functions → k < first_site_of p (suc ((program_of p).caller k)) →
+          (u < (program_of p).caller k) ⊎ ((program_of p).caller k ≤ u) → u ≤ (program_of p).caller k
       from k a within below (inl l) = omega (arith, l)
       from k a within below (inr g) = ⊎_elim
           (λ q. omega (arith, q))
           (λ ne. let r = rises (suc ((program_of p).caller k)) u (omega (arith, g, ne)) (omega (arith, lt)) in absurd (omega (arith, r, first, a, below)))
           (cases_eq ((program_of p).caller k) u)
 
-      upto : (k : ℕ) → k < s.end → (program_of p).caller k < (program_of p).functions → first_site_of p ((program_of p).caller k) ≤ k → ((program_of p).caller k < end) ⊎ (end ≤ (program_of p).caller k) → (program_of p).caller k < end
+      upto : (k : ℕ) → k < s.end → (program_of p).caller k < (program_of p).functions → first_site_of p ((program_of p).caller k) ≤ k →
+          ((program_of p).caller k < end) ⊎ (end ≤ (program_of p).caller k) → (program_of p).caller k < end
       upto k b within from (inl l) = l
       upto k b within from (inr g) = let r = rises end ((program_of p).caller k) g (omega (arith, within)) in absurd (omega (arith, r, last, b, from))

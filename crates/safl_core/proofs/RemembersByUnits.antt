@@ -74,7 +74,8 @@ module _ {C : Program} {plan : Plan} {n : ℕ} (good : Numbered C) (lies : IsPla
   }
 
   -- the cells of another body, where those of one body may differ
-  pub cells_apart : (f g q : ℕ) {A A1 : Asks} {W W1 : List Kept} → Only (body_at plan f) (body_at plan f + nodes (C.body f)) (λ k. Stands k (C.body f)) A A1 W W1 → f < C.functions → g < C.functions → g ≢ f
+  pub cells_apart : (f g q : ℕ) {A A1 : Asks} {W W1 : List Kept} → Only (body_at plan f) (body_at plan f + nodes (C.body f))
+      (λ k. Stands k (C.body f)) A A1 W W1 → f < C.functions → g < C.functions → g ≢ f
       → body_at plan g ≤ q → q < body_at plan g + nodes (C.body g) → cell W1 q ≡ cell W q
   cells_apart f g q o lf lg ne x y = ⊎_elim
       (λ lt. o.below q (omega (arith, lies.apart g f lt lf, y)))
@@ -82,7 +83,8 @@ module _ {C : Program} {plan : Plan} {n : ℕ} (good : Numbered C) (lies : IsPla
       (cases_lt g f)
 
   -- the asks of the sites of another unit, where those of one body may differ
-  pub asks_apart : (f j v : ℕ) {A A1 : Asks} {W W1 : List Kept} {p u : ℕ} → Only p u (λ k. Stands k (C.body f)) A A1 W W1 → f < C.functions → C.unit f ≢ v → C.unit (C.caller j) ≡ v → get_or A1 j None ≡ get_or A j None
+  pub asks_apart : (f j v : ℕ) {A A1 : Asks} {W W1 : List Kept} {p u : ℕ} → Only p u (λ k. Stands k (C.body f)) A A1 W W1 → f < C.functions → C.unit f
+      ≢ v → C.unit (C.caller j) ≡ v → get_or A1 j None ≡ get_or A j None
   asks_apart f j v o lf ne is = o.asks j (λ st. ne (sym (ap C.unit (good.own f j lf st).2) ∙ is))
 
   -- a body was looked at: another unit is remembered as before
@@ -95,7 +97,8 @@ module _ {C : Program} {plan : Plan} {n : ℕ} (good : Numbered C) (lies : IsPla
 
   -- a step that a unit does not see
   pub recalls_step : (s t : State) (later : core.State) (u w v : ℕ) → Steps C s t later → Local C (calls_of s) later u w → v ≢ u → v ≢ w → Recalls C plan s v → Recalls C plan t v
-  recalls_step s t later u w v step local ne other h = remembers_still (back_at s.stages.items) (back_at t.stages.items) s.modes.items t.modes.items s.wants.each.items t.wants.each.items s.kept.items t.kept.items v
+  recalls_step s t later u w v step local ne other h = remembers_still (back_at s.stages.items) (back_at t.stages.items) s.modes.items t.modes.items
+      s.wants.each.items t.wants.each.items s.kept.items t.kept.items v
       (ap (λ (x : core.State). x.unit v) step.next ∙ local.units v ne)
       (λ j pos le own. (sym (ap (λ (x : core.State). back x j) step.next ∙ local.backs v ne other j own), ap (λ (x : Asks). get_or x j None) step.wants))
       (λ f q lf is x y. ap (λ (x : List Kept). cell x q) step.kept)
@@ -143,7 +146,8 @@ words_of Idle = []
 words_of (Runs f k ws) = ws
 words_of (Delivers k v) = []
 
-module _ {C : Program} {plan : Plan} {n : ℕ} (good : Numbered C) (lies : IsPlan C plan n) (B : ℕ → Option Word) (M : List modes_declared.Mode) (A A1 : Asks) (W W1 : List Kept) (u f k : ℕ) (ws : List Word)
+module _ {C : Program} {plan : Plan} {n : ℕ} (good : Numbered C) (lies : IsPlan C plan n) (B : ℕ → Option Word) (M : List modes_declared.Mode)
+    (A A1 : Asks) (W W1 : List Kept) (u f k : ℕ) (ws : List Word)
     (runs : unit_at M u ≡ Runs f k ws) (is : C.unit f ≡ u) (lf : f < C.functions) (o : Only (body_at plan f) (body_at plan f + nodes (C.body f)) (λ j. Stands j (C.body f)) A A1 W W1) where
   -- the sites of its unit are wanted as the body wants them
   pub wants_found : Holds B ws A1 W1 (body_at plan f) (C.body f) → {news : Option ℕ} → MayRenew C plan B news M A W u
@@ -170,7 +174,8 @@ module _ {C : Program} {plan : Plan} {n : ℕ} (good : Numbered C) (lies : IsPla
       (cases_eq v u)
 
 -- the body that a unit runs may be looked at, with its arguments in the first slots; and what is kept of it afterwards
-module _ {C : Program} {plan : Plan} (S : List Stage) (M : List modes_declared.Mode) (A : Asks) (F : List Word) (W : List Kept) (u f k slots : ℕ) (args : List Word) (lies : IsPlan C plan (length W)) (lf : f < C.functions)
+module _ {C : Program} {plan : Plan} (S : List Stage) (M : List modes_declared.Mode) (A : Asks) (F : List Word) (W : List Kept) (u f k slots : ℕ)
+    (args : List Word) (lies : IsPlan C plan (length W)) (lf : f < C.functions)
     (filled : take slots F ≡ args) where
   pub may_look : {news : Option ℕ} → CanRun S (length A) args (C.body f) → slots + nodes (C.body f) ≤ length F → unit_at M u ≡ Runs f k args → MayRenew C plan (back_at S) news M A W u
       → MayLook S plan.places.items A F W slots (body_at plan f) news (C.body f)
@@ -212,17 +217,20 @@ module _ {C : Program} {plan : Plan} (good : Numbered C) where
     quiet = λ j pos le own apart. wants j pos le own ∙ silent (unit_at M u) refl j own (λ f i ws r. apart f i ws (same ∙ r));
   }
     where
-      silent : (m : Mode) → unit_at M u ≡ m → (j : ℕ) → C.unit (C.caller j) ≡ u → ((f i : ℕ) (ws : List Word) → unit_at M u ≡ Runs f i ws → Stands j (C.body f) → ⊥) → asked_as C B (unit_at M u) (C.caller j) j ≡ None
+      silent : (m : Mode) → unit_at M u ≡ m → (j : ℕ) → C.unit (C.caller j) ≡ u →
+          ((f i : ℕ) (ws : List Word) → unit_at M u ≡ Runs f i ws → Stands j (C.body f) → ⊥) → asked_as C B (unit_at M u) (C.caller j) j ≡ None
       silent Idle e j own apart = ap (λ m. asked_as C B m (C.caller j) j) e
       silent (Delivers i v) e j own apart = ap (λ m. asked_as C B m (C.caller j) j) e
       silent (Runs f i ws) e j own apart = ap (λ m. asked_as C B m (C.caller j) j) e ∙ by (cases_eq f (C.caller j))
         where
           by : (f ≡ C.caller j) ⊎ (f ≡ C.caller j → ⊥) → asked_as C B (Runs f i ws) (C.caller j) j ≡ None
-          by (inl q) = ap (λ t. cond t (wanted B ws (C.body (C.caller j)) j) None) (eq-eqb f (C.caller j) q) ∙ (ap (λ g. wanted B ws (C.body g) j) (sym q) ∙ not_wanted B ws (C.body f) j (apart f i ws e))
+          by (inl q) = ap (λ t. cond t (wanted B ws (C.body (C.caller j)) j) None) (eq-eqb f (C.caller j) q) ∙
+              (ap (λ g. wanted B ws (C.body g) j) (sym q) ∙ not_wanted B ws (C.body f) j (apart f i ws e))
           by (inr ne) = ap (λ t. cond t (wanted B ws (C.body (C.caller j)) j) None) (ne_eqb f (C.caller j) ne)
 
   pub can_renew : (s t : State) (k : ℕ) (word : Word) → Inv C (calls_of s) → 0 < k → (calls_of s).unit (unit_for C k) ≡ Delivers k word → Steps C s t (give_back C (calls_of s) k (Delivers k word))
-      → ((j : ℕ) → 0 < j → j ≤ C.sites → C.unit (C.caller j) ≡ C.unit (C.caller k) → get_or s.wants.each.items j None ≡ asked_as C (back (calls_of s)) ((calls_of s).unit (C.unit (C.caller k))) (C.caller j) j)
+      → ((j : ℕ) → 0 < j → j ≤ C.sites → C.unit (C.caller j) ≡ C.unit (C.caller k) → get_or s.wants.each.items j None ≡ asked_as C (back (calls_of s))
+      ((calls_of s).unit (C.unit (C.caller k))) (C.caller j) j)
       → Recalls C plan s (C.unit (C.caller k)) → CanRenew C plan (Some k) t (C.unit (C.caller k))
   can_renew s t k word inv pos delivers step wants h =
       let u = C.unit (C.caller k) in
@@ -268,7 +276,8 @@ finds_as {S} {S1} {A} {A1} {A2} {F} {F1} {W} {W1} {W2} {n} {p} {p1} {t} {t1} {o}
     (subst (λ (x : ℕ). Finds S1 A1 A2 F1 W1 W2 n x t o) g
     (subst (λ (x : Term). Finds S1 A1 A2 F1 W1 W2 n p1 x o) i h)))))
 
-pub remembers_as : {C : Program} {plan : Plan} {B : ℕ → Option Word} {M : List modes_declared.Mode} {A A1 : Asks} {W W1 : List Kept} {v : ℕ} → A1 ≡ A → W1 ≡ W → Remembers C plan B M A W v → Remembers C plan B M A1 W1 v
+pub remembers_as : {C : Program} {plan : Plan} {B : ℕ → Option Word} {M : List modes_declared.Mode} {A A1 : Asks} {W W1 : List Kept} {v : ℕ} → A1 ≡ A
+    → W1 ≡ W → Remembers C plan B M A W v → Remembers C plan B M A1 W1 v
 remembers_as {C} {plan} {B} {M} {A} {A1} {W} {W1} {v} a e h =
     subst (λ (x : Asks). Remembers C plan B M x W1 v) (sym a) (subst (λ (x : List Kept). Remembers C plan B M A x v) (sym e) h)
 

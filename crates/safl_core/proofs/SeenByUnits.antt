@@ -124,7 +124,8 @@ module _ (C : Program) (args : List Word) (good : Numbered C) (s t : State) (inv
       (λ ne. inl (ap (λ x. delivers_to x k) (sym (l.units (unit_for C k) ne))))
       (cases_eq (unit_for C k) u)
     where
-      by : unit_for C k ≡ u → (x y : Bool) → delivers_to (s.unit u) k ≡ x → delivers_to (t.unit u) k ≡ y → (can C args s (Return k) ≡ can C args t (Return k)) ⊎ ((delivered (s.unit u) ≡ Some k) ⊎ (delivered (t.unit u) ≡ Some k))
+      by : unit_for C k ≡ u → (x y : Bool) → delivers_to (s.unit u) k ≡ x → delivers_to (t.unit u) k ≡ y →
+          (can C args s (Return k) ≡ can C args t (Return k)) ⊎ ((delivered (s.unit u) ≡ Some k) ⊎ (delivered (t.unit u) ≡ Some k))
       by q true y a b = inr (inl (delivered_to (s.unit u) k a))
       by q false true a b = inr (inr (delivered_to (t.unit u) k b))
       by q false false a b = inl (ap (λ n. delivers_to (s.unit n) k) q ∙ (a ∙ (sym b ∙ ap (λ n. delivers_to (t.unit n) k) (sym q))))

@@ -16,9 +16,11 @@ module _ (C : Program) (u : ℕ) where
   clear_front s h A j pos lt = off_cleared (get_or A j None) j (λ q. absurd (omega (arith, (h.all j pos (omega (arith, lt, h.order, h.most)) q).0, lt)))
 
   -- one more of them
-  clear_one : (k : ℕ) (A0 A : List (Option (List Word))) → ((j : ℕ) → 0 < j → j < k → get_or A j None ≡ cond (eqb (C.unit (C.caller j)) u) None (get_or A0 j None)) → ((j : ℕ) → k ≤ j → get_or A j None ≡ get_or A0 j None)
+  clear_one : (k : ℕ) (A0 A : List (Option (List Word))) → ((j : ℕ) → 0 < j → j < k → get_or A j None ≡ cond (eqb (C.unit (C.caller j)) u) None
+      (get_or A0 j None)) → ((j : ℕ) → k ≤ j → get_or A j None ≡ get_or A0 j None)
       → k < length A → C.unit (C.caller k) ≡ u
-      → ((j : ℕ) → 0 < j → j < k + 1 → get_or (slice_set A k None) j None ≡ cond (eqb (C.unit (C.caller j)) u) None (get_or A0 j None)) × ((j : ℕ) → k + 1 ≤ j → get_or (slice_set A k None) j None ≡ get_or A0 j None)
+      → ((j : ℕ) → 0 < j → j < k + 1 → get_or (slice_set A k None) j None ≡ cond (eqb (C.unit (C.caller j)) u) None (get_or A0 j None)) ×
+      ((j : ℕ) → k + 1 ≤ j → get_or (slice_set A k None) j None ≡ get_or A0 j None)
   clear_one k A0 A below above lt own = (
     λ j pos le. ⊎_elim
         (λ q. subst (λ n. get_or (slice_set A k None) n None ≡ cond (eqb (C.unit (C.caller n)) u) None (get_or A0 n None)) (sym q)
@@ -31,16 +33,19 @@ module _ (C : Program) (u : ℕ) where
   pub clear_site : (k : ℕ) (A0 A : List (Option (List Word))) (o : Option (List Word)) → o ≡ None
       → ((j : ℕ) → 0 < j → j < k → get_or A j None ≡ cond (eqb (C.unit (C.caller j)) u) None (get_or A0 j None)) → ((j : ℕ) → k ≤ j → get_or A j None ≡ get_or A0 j None)
       → k < length A → C.unit (C.caller k) ≡ u
-      → ((j : ℕ) → 0 < j → j < k + 1 → get_or (slice_set A k o) j None ≡ cond (eqb (C.unit (C.caller j)) u) None (get_or A0 j None)) × ((j : ℕ) → k + 1 ≤ j → get_or (slice_set A k o) j None ≡ get_or A0 j None)
+      → ((j : ℕ) → 0 < j → j < k + 1 → get_or (slice_set A k o) j None ≡ cond (eqb (C.unit (C.caller j)) u) None (get_or A0 j None)) ×
+      ((j : ℕ) → k + 1 ≤ j → get_or (slice_set A k o) j None ≡ get_or A0 j None)
   clear_site k A0 A o e below above lt own =
-      subst (λ (x : Option (List Word)). ((j : ℕ) → 0 < j → j < k + 1 → get_or (slice_set A k x) j None ≡ cond (eqb (C.unit (C.caller j)) u) None (get_or A0 j None)) × ((j : ℕ) → k + 1 ≤ j → get_or (slice_set A k x) j None ≡ get_or A0 j None)) (sym e)
+      subst (λ (x : Option (List Word)). ((j : ℕ) → 0 < j → j < k + 1 → get_or (slice_set A k x) j None ≡ cond (eqb (C.unit (C.caller j)) u) None
+      (get_or A0 j None)) × ((j : ℕ) → k + 1 ≤ j → get_or (slice_set A k x) j None ≡ get_or A0 j None)) (sym e)
       (clear_one k A0 A below above lt own)
 
   -- and those after them
   pub clear_back : (s : Span) → IsSpan C u s → (k : ℕ) (A0 A : List (Option (List Word))) → s.end ≤ k
       → ((j : ℕ) → 0 < j → j < k → get_or A j None ≡ cond (eqb (C.unit (C.caller j)) u) None (get_or A0 j None)) → ((j : ℕ) → k ≤ j → get_or A j None ≡ get_or A0 j None)
       → (j : ℕ) → 0 < j → j ≤ C.sites → get_or A j None ≡ cond (eqb (C.unit (C.caller j)) u) None (get_or A0 j None)
-  clear_back s h k A0 A le below above j pos most = ⊎_elim (below j pos) (λ ge. above j ge ∙ off_cleared (get_or A0 j None) j (λ q. absurd (omega (arith, (h.all j pos most q).1, ge, le)))) (cases_lt j k)
+  clear_back s h k A0 A le below above j pos most = ⊎_elim (below j pos)
+      (λ ge. above j ge ∙ off_cleared (get_or A0 j None) j (λ q. absurd (omega (arith, (h.all j pos most q).1, ge, le)))) (cases_lt j k)
     where
       cases_lt : (a b : ℕ) → (a < b) ⊎ (b ≤ a)
       cases_lt a b = grind arith

@@ -6,7 +6,8 @@ use Rattle.safl_term.specs.Program.{Program, unit_for}
 use Rattle.safl_term.specs.Readiness.{Unsent, Sent, Returned, Ready, LoopTo, NotYet, answer, wanted, back_word}
 use Rattle.safl_term.specs.WellFormed.{IsWellFormed, HasWidth}
 use Rattle.safl_term.proofs.Widths.{answer_width, loop_widths, wanted_widths}
-use Rattle.safl_calls.specs.Machine.{State, Mode, Idle, Runs, Delivers, Event, Accept, Finish, Return, LoopInto, opening, put, back, says, says_as, asked, asked_as, Enabled, Legal, after, fire, accept, finish, give_back, loop_into, ended}
+use Rattle.safl_calls.specs.Machine.{State, Mode, Idle, Runs, Delivers, Event, Accept, Finish, Return, LoopInto, opening, put, back, says, says_as}
+use Rattle.safl_calls.specs.Machine.{asked, asked_as, Enabled, Legal, after, fire, accept, finish, give_back, loop_into, ended}
 use Rattle.safl_calls.proofs.Basics.{serves, put_at, put_off, some_none, some_is, cond_some}
 use Rattle.safl_calls.proofs.Invariant.{Inv, inv_fire, inv_open}
 use Rattle.safl_calls.proofs.FromWellFormed.{numbered}
@@ -86,7 +87,8 @@ module _ (C : Program) (wf : IsWellFormed C) where
 
     fits_accept : (k : ℕ) (ws : List Word) → asked C args s k ≡ Some ws → Fits C (accept C s k (Some ws))
     fits_accept k ws e = record {
-      runs = λ u f j vs q. ⊎_elim (λ p. sym (ap widths (ap args_of p.1)) ∙ (asked_fits k ws e ∙ ap C.params (ap member_of p.1))) (λ p. fits.runs u f j vs p) (put_cases s.unit (unit_for C k) u (Runs (C.callee k) k ws) (Runs f j vs) q);
+      runs = λ u f j vs q. ⊎_elim (λ p. sym (ap widths (ap args_of p.1)) ∙ (asked_fits k ws e ∙ ap C.params (ap member_of p.1)))
+          (λ p. fits.runs u f j vs p) (put_cases s.unit (unit_for C k) u (Runs (C.callee k) k ws) (Runs f j vs) q);
       gives = λ u j v q. ⊎_elim (λ p. runs_delivers _ _ _ _ _ p.1) (λ p. fits.gives u j v p) (put_cases s.unit (unit_for C k) u (Runs (C.callee k) k ws) (Delivers j v) q);
       back = back_sent;
     }
@@ -112,14 +114,16 @@ module _ (C : Program) (wf : IsWellFormed C) where
         let callee = (numbered C wf).callee_in k le in
         sym (wf.first f lt).2 ∙ (ap C.result (sym e) ∙ (wf.first (C.callee k) callee).2)
 
-    fits_finish : (f k : ℕ) (ws : List Word) (v : Word) → s.unit (C.unit f) ≡ Runs f k ws → says C s (C.unit f) ≡ Ready v → Fits C (record { unit = put s.unit (C.unit f) (Delivers k v); site = ended C (C.unit f) s.site })
+    fits_finish : (f k : ℕ) (ws : List Word) (v : Word) → s.unit (C.unit f) ≡ Runs f k ws → says C s (C.unit f) ≡ Ready v → Fits C
+        (record { unit = put s.unit (C.unit f) (Delivers k v); site = ended C (C.unit f) s.site })
     fits_finish f k ws v e is =
         let m = inv.member (C.unit f) f k ws e in
         let serving = inv.serving (C.unit f) k (ap serves e) in
         let wide = answer_fits s f ws v fits m.1 (fits.runs (C.unit f) f k ws e) (sym (ap (says_as C (back s)) e) ∙ is) ∙ same_result f k m.1 serving.2 serving.1 in
         record {
           runs = λ u g j vs q. ⊎_elim (λ p. delivers_runs _ _ _ _ _ p.1) (λ p. fits.runs u g j vs p) (put_cases s.unit (C.unit f) u (Delivers k v) (Runs g j vs) q);
-          gives = λ u j w q. ⊎_elim (λ p. sym (ap (λ z. (word_of z v).width) p.1) ∙ (wide ∙ ap (λ n. C.result (C.callee n)) (ap site_of p.1))) (λ p. fits.gives u j w p) (put_cases s.unit (C.unit f) u (Delivers k v) (Delivers j w) q);
+          gives = λ u j w q. ⊎_elim (λ p. sym (ap (λ z. (word_of z v).width) p.1) ∙ (wide ∙ ap (λ n. C.result (C.callee n)) (ap site_of p.1)))
+              (λ p. fits.gives u j w p) (put_cases s.unit (C.unit f) u (Delivers k v) (Delivers j w) q);
           back = λ j w q. back_ended (C.unit f) j w (put s.unit (C.unit f) (Delivers k v)) q;
         }
 
@@ -133,16 +137,19 @@ module _ (C : Program) (wf : IsWellFormed C) where
         back_given : (j : ℕ) (w : Word) → back (give_back C s k (Delivers k v)) j ≡ Some w → w.width ≡ C.result (C.callee j)
         back_given zero w q = absurd (some_none w (sym q))
         back_given (suc j) w q = ⊎_elim
-            (λ same. sym (ap (λ z. z.width) (some_is v w (sym (ap back_word (put_at s.site k (suc j) (Returned v) same)) ∙ q))) ∙ (fits.gives (unit_for C k) k v e ∙ ap (λ n. C.result (C.callee n)) same))
+            (λ same. sym (ap (λ z. z.width) (some_is v w (sym (ap back_word (put_at s.site k (suc j) (Returned v) same)) ∙ q))) ∙
+            (fits.gives (unit_for C k) k v e ∙ ap (λ n. C.result (C.callee n)) same))
             (λ other. fits.back (suc j) w (sym (ap back_word (put_off s.site k (suc j) (Returned v) other)) ∙ q))
             (cases_eq k (suc j))
 
-    fits_loop : (h f k : ℕ) (ws vs : List Word) → s.unit (C.unit h) ≡ Runs f k ws → says C s (C.unit h) ≡ LoopTo h vs → Fits C (record { unit = put s.unit (C.unit h) (Runs h k vs); site = ended C (C.unit h) s.site })
+    fits_loop : (h f k : ℕ) (ws vs : List Word) → s.unit (C.unit h) ≡ Runs f k ws → says C s (C.unit h) ≡ LoopTo h vs → Fits C
+        (record { unit = put s.unit (C.unit h) (Runs h k vs); site = ended C (C.unit h) s.site })
     fits_loop h f k ws vs e is =
         let m = inv.member (C.unit h) f k ws e in
         let wide = loop_fits s f h ws vs fits m.1 (fits.runs (C.unit h) f k ws e) (sym (ap (says_as C (back s)) e) ∙ is) in
         record {
-          runs = λ u g j us q. ⊎_elim (λ p. sym (ap widths (ap args_of p.1)) ∙ (wide ∙ ap C.params (ap member_of p.1))) (λ p. fits.runs u g j us p) (put_cases s.unit (C.unit h) u (Runs h k vs) (Runs g j us) q);
+          runs = λ u g j us q. ⊎_elim (λ p. sym (ap widths (ap args_of p.1)) ∙ (wide ∙ ap C.params (ap member_of p.1))) (λ p. fits.runs u g j us p)
+              (put_cases s.unit (C.unit h) u (Runs h k vs) (Runs g j us) q);
           gives = λ u j w q. ⊎_elim (λ p. runs_delivers _ _ _ _ _ p.1) (λ p. fits.gives u j w p) (put_cases s.unit (C.unit h) u (Runs h k vs) (Delivers j w) q);
           back = λ j w q. back_ended (C.unit h) j w (put s.unit (C.unit h) (Runs h k vs)) q;
         }

@@ -79,7 +79,8 @@ module _ (C : Program) (u : ℕ) where
   )
 
   -- and those after them
-  pub end_back : (s : Span) → IsSpan C u s → (k : ℕ) (S0 S : List stages_declared.Stage) → length S0 ≡ suc C.sites → s.end ≤ k → ((j : ℕ) → j < k → stage_at S j ≡ ended C u (stage_at S0) j) → ((j : ℕ) → k ≤ j → stage_at S j ≡ stage_at S0 j)
+  pub end_back : (s : Span) → IsSpan C u s → (k : ℕ) (S0 S : List stages_declared.Stage) → length S0 ≡ suc C.sites → s.end ≤ k →
+      ((j : ℕ) → j < k → stage_at S j ≡ ended C u (stage_at S0) j) → ((j : ℕ) → k ≤ j → stage_at S j ≡ stage_at S0 j)
       → (j : ℕ) → stage_at S j ≡ ended C u (stage_at S0) j
   end_back s h k S0 S long le below above j = ⊎_elim (below j) (λ ge. above j ge ∙ ⊎_elim (within ge) past (cases_lt j (suc C.sites))) (cases_lt j k)
     where

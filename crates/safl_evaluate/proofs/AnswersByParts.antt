@@ -1,5 +1,6 @@
 -- What a term comes to and wants, by its parts.
-use Rattle.std.proofs.Common.{◌≡◌, ℕ, zero, suc, ◌+◌, ◌<◌, ◌≤◌, List, [], ◌∷◌, ◌++◌, length, take, drop, cond, eqb, Option, Some, None, Bool, true, false, get_or, slice_set, refl, sym, ap, ◌∙◌, subst, ⊎_elim, arith}
+use Rattle.std.proofs.Common.{◌≡◌, ℕ, zero, suc, ◌+◌, ◌<◌, ◌≤◌, List, [], ◌∷◌, ◌++◌, length, take, drop, cond, eqb, Option, Some, None, Bool, true}
+use Rattle.std.proofs.Common.{false, get_or, slice_set, refl, sym, ap, ◌∙◌, subst, ⊎_elim, arith}
 use Rattle.std.proofs.lemmas.Bool.{cases_eq, eq-eqb, ne_eqb}
 use Rattle.std.proofs.lemmas.List.{get_or-set_other, get_or-set_same, drop-set, get_or-take, get_or_read, length-take, take-take}
 use Rattle.std.proofs.Math.Seq.{take-add}
@@ -119,13 +120,17 @@ module _ (B : ℕ → Option Word) (E : List Word) where
     unfolding answer
     answer_if_not e = sym (select_not (answer B E c) NotYet (answer B E a) (answer B E b) e)
 
-    pub notes_then : {A A1 A2 : List (Option (List Word))} (v : Word) → Some v ≡ word_of (answer B E c) → v.bits ≡ 1 → Notes A A1 (wanted B E c) → Notes A1 A2 (wanted B E a) → Notes A A2 (wanted B E (If c a b))
+    pub notes_then : {A A1 A2 : List (Option (List Word))} (v : Word) → Some v ≡ word_of (answer B E c) → v.bits ≡ 1 → Notes A A1 (wanted B E c) →
+        Notes A1 A2 (wanted B E a) → Notes A A2 (wanted B E (If c a b))
     unfolding wanted
-    notes_then v e one f g = notes_both f g (λ k. ap (or_else (wanted B E c k)) (sym (ap (λ q. select q None (wanted B E a k) (wanted B E b k)) (sym (ready_as (answer B E c) v e)) ∙ ap (λ n. pick n (wanted B E a k) (wanted B E b k)) one)))
+    notes_then v e one f g = notes_both f g (λ k. ap (or_else (wanted B E c k))
+        (sym (ap (λ q. select q None (wanted B E a k) (wanted B E b k)) (sym (ready_as (answer B E c) v e)) ∙ ap (λ n. pick n (wanted B E a k) (wanted B E b k)) one)))
 
-    pub notes_else : {A A1 A2 : List (Option (List Word))} (v : Word) → Some v ≡ word_of (answer B E c) → (v.bits ≡ 1 → ⊥) → Notes A A1 (wanted B E c) → Notes A1 A2 (wanted B E b) → Notes A A2 (wanted B E (If c a b))
+    pub notes_else : {A A1 A2 : List (Option (List Word))} (v : Word) → Some v ≡ word_of (answer B E c) → (v.bits ≡ 1 → ⊥) → Notes A A1 (wanted B E c)
+        → Notes A1 A2 (wanted B E b) → Notes A A2 (wanted B E (If c a b))
     unfolding wanted
-    notes_else v e other f g = notes_both f g (λ k. ap (or_else (wanted B E c k)) (sym (ap (λ q. select q None (wanted B E a k) (wanted B E b k)) (sym (ready_as (answer B E c) v e)) ∙ pick_other v.bits (wanted B E a k) (wanted B E b k) other)))
+    notes_else v e other f g = notes_both f g (λ k. ap (or_else (wanted B E c k))
+        (sym (ap (λ q. select q None (wanted B E a k) (wanted B E b k)) (sym (ready_as (answer B E c) v e)) ∙ pick_other v.bits (wanted B E a k) (wanted B E b k) other)))
 
     pub notes_if_not : {A A1 : List (Option (List Word))} → None ≡ word_of (answer B E c) → Notes A A1 (wanted B E c) → Notes A A1 (wanted B E (If c a b))
     unfolding wanted
@@ -140,7 +145,8 @@ module _ (B : ℕ → Option Word) (E : List Word) where
     unfolding answer
     answer_let_not b e = sym (ap (λ o. with_all o NotYet (λ us. answer B (E ++ us) b)) e)
 
-    pub notes_let : {A A1 A2 : List (Option (List Word))} (b : Term) (vs : List Word) → answers B E ts ≡ Some vs → Notes A A1 (wanted_in B E ts) → Notes A1 A2 (wanted B (E ++ vs) b) → Notes A A2 (wanted B E (Let ts b))
+    pub notes_let : {A A1 A2 : List (Option (List Word))} (b : Term) (vs : List Word) → answers B E ts ≡ Some vs → Notes A A1 (wanted_in B E ts) →
+        Notes A1 A2 (wanted B (E ++ vs) b) → Notes A A2 (wanted B E (Let ts b))
     unfolding wanted
     notes_let b vs e f g = notes_both f g (λ k. ap (or_else (wanted_in B E ts k)) (sym (ap (λ o. with_all o None (λ us. wanted B (E ++ us) b k)) e)))
 
@@ -185,24 +191,29 @@ module _ (B : ℕ → Option Word) (E : List Word) where
     answer_call f k = refl
 
     -- the site was not asked for before, and stands outside its own arguments
-    pub notes_call : {A A1 : List (Option (List Word))} (f j : ℕ) (vs : List Word) → get_or A j None ≡ None → j < length A1 → answers B E ts ≡ Some vs → Notes A A1 (wanted_in B E ts) → Notes A (slice_set A1 j (Some vs)) (wanted B E (Call f j ts))
+    pub notes_call : {A A1 : List (Option (List Word))} (f j : ℕ) (vs : List Word) → get_or A j None ≡ None → j < length A1 → answers B E ts ≡ Some vs
+        → Notes A A1 (wanted_in B E ts) → Notes A (slice_set A1 j (Some vs)) (wanted B E (Call f j ts))
     unfolding wanted
     notes_call {A} {A1} f j vs none lt e notes = record { each = λ k. ⊎_elim (λ same. at k same) (λ other. off k other) (cases_eq j k) }
       where
         at : (k : ℕ) → j ≡ k → get_or (slice_set A1 j (Some vs)) k None ≡ or_else (get_or A k None) (cond (eqb j k) (answers B E ts) (wanted_in B E ts k))
         at k same = subst (λ n. get_or (slice_set A1 j (Some vs)) n None ≡ or_else (get_or A n None) (cond (eqb j n) (answers B E ts) (wanted_in B E ts n))) same
-            (get_or-set_same A1 j (Some vs) None lt ∙ sym (ap (λ o. or_else o (cond (eqb j j) (answers B E ts) (wanted_in B E ts j))) none ∙ (ap (λ b. cond b (answers B E ts) (wanted_in B E ts j)) (eq-eqb j j refl) ∙ e)))
+            (get_or-set_same A1 j (Some vs) None lt ∙ sym (ap (λ o. or_else o (cond (eqb j j) (answers B E ts) (wanted_in B E ts j))) none ∙
+            (ap (λ b. cond b (answers B E ts) (wanted_in B E ts j)) (eq-eqb j j refl) ∙ e)))
 
         off : (k : ℕ) → (j ≡ k → ⊥) → get_or (slice_set A1 j (Some vs)) k None ≡ or_else (get_or A k None) (cond (eqb j k) (answers B E ts) (wanted_in B E ts k))
-        off k other = get_or-set_other A1 j k (Some vs) None (λ q. other (sym q)) ∙ (notes.each k ∙ ap (λ b. or_else (get_or A k None) (cond b (answers B E ts) (wanted_in B E ts k))) (sym (ne_eqb j k other)))
+        off k other = get_or-set_other A1 j k (Some vs) None (λ q. other (sym q)) ∙
+            (notes.each k ∙ ap (λ b. or_else (get_or A k None) (cond b (answers B E ts) (wanted_in B E ts k))) (sym (ne_eqb j k other)))
 
-    pub notes_asked : {A A1 : List (Option (List Word))} (f j : ℕ) (vs : List Word) (o : Option (List Word)) → o ≡ Some vs → get_or A j None ≡ None → j < length A1 → answers B E ts ≡ Some vs → Notes A A1 (wanted_in B E ts) → Notes A (slice_set A1 j o) (wanted B E (Call f j ts))
+    pub notes_asked : {A A1 : List (Option (List Word))} (f j : ℕ) (vs : List Word) (o : Option (List Word)) → o ≡ Some vs → get_or A j None ≡ None →
+        j < length A1 → answers B E ts ≡ Some vs → Notes A A1 (wanted_in B E ts) → Notes A (slice_set A1 j o) (wanted B E (Call f j ts))
     notes_asked {A} {A1} f j vs o is none lt e notes = subst (λ (x : Option (List Word)). Notes A (slice_set A1 j x) (wanted B E (Call f j ts))) (sym is) (notes_call f j vs none lt e notes)
 
     pub notes_call_not : {A A1 : List (Option (List Word))} (f j : ℕ) → wanted_in B E ts j ≡ None → answers B E ts ≡ None → Notes A A1 (wanted_in B E ts) → Notes A A1 (wanted B E (Call f j ts))
     unfolding wanted
     notes_call_not f j none e notes = notes_same notes (λ k. ⊎_elim
-        (λ same. subst (λ n. wanted_in B E ts n ≡ cond (eqb j n) (answers B E ts) (wanted_in B E ts n)) same (none ∙ sym (ap (λ b. cond b (answers B E ts) (wanted_in B E ts j)) (eq-eqb j j refl) ∙ e)))
+        (λ same. subst (λ n. wanted_in B E ts n ≡ cond (eqb j n) (answers B E ts) (wanted_in B E ts n)) same
+        (none ∙ sym (ap (λ b. cond b (answers B E ts) (wanted_in B E ts j)) (eq-eqb j j refl) ∙ e)))
         (λ other. sym (ap (λ b. cond b (answers B E ts) (wanted_in B E ts k)) (ne_eqb j k other)))
         (cases_eq j k))
 
@@ -254,7 +265,8 @@ two_items (x ∷ (y ∷ [])) t u least most e f = ap (λ (z : declared.Term). z 
 two_items (x ∷ (y ∷ (z ∷ ts))) t u least most e f = absurd (omega (arith, most))
 
 -- the first word is put before those of the rest
-pub words_more : (F : List Word) (at n : ℕ) (v : Word) (r : Bool) → at < length F → both (Ready v) (cond r (Some (take n (drop (at + 1) F))) None) ≡ cond r (Some (take (suc n) (drop at (slice_set F at v)))) None
+pub words_more : (F : List Word) (at n : ℕ) (v : Word) (r : Bool) → at < length F → both (Ready v) (cond r (Some (take n (drop (at + 1) F))) None) ≡
+    cond r (Some (take (suc n) (drop at (slice_set F at v)))) None
 words_more F at n v false lt = refl
 words_more F at n v true lt = ap Some (sym (ap (take (suc n)) (drop-set F at v lt)))
 

@@ -36,15 +36,30 @@ mutual
   below_frame B E A A1 W W1 p (Var i) h c a = tt
   below_frame B E A A1 W W1 p (Op o ts) h c a = below_in_frame B E A A1 W W1 (p + 1) ts h (λ q x y. c q (omega (arith, x)) (omega (arith, y))) a
   below_frame B E A A1 W W1 p (If d x y) h c a = (
-    (subst (λ (v : Kept). IsCell B E d v) (sym (c (p + 1) (omega arith) (omega (arith, own (p + 1) d)))) h.0.0, below_frame B E A A1 W W1 (p + 1) d h.0.1 (λ q m n. c q (omega (arith, m)) (omega (arith, n))) (λ k st. a k (inl st))),
-    λ s. (subst (λ (v : Kept). IsCell B E x v) (sym (c (p + 1 + nodes d) (omega arith) (omega (arith, own (p + 1 + nodes d) x)))) (h.1 s).0, below_frame B E A A1 W W1 (p + 1 + nodes d) x (h.1 s).1 (λ q m n. c q (omega (arith, m)) (omega (arith, n))) (λ k st. a k (inr (inl st)))),
+    (
+      subst (λ (v : Kept). IsCell B E d v) (sym (c (p + 1) (omega arith) (omega (arith, own (p + 1) d)))) h.0.0,
+      below_frame B E A A1 W W1 (p + 1) d
+          h.0.1 (λ q m n. c q (omega (arith, m)) (omega (arith, n))) (λ k st. a k (inl st)),
+    ),
+    λ s. (
+      subst (λ (v : Kept). IsCell B E x v) (sym (c (p + 1 + nodes d) (omega arith) (omega (arith, own (p + 1 + nodes d) x)))) (h.1 s).0,
+      below_frame B E A A1 W W1 (p + 1 + nodes d) x (h.1 s).1 (λ q m n. c q (omega (arith, m)) (omega (arith, n))) (λ k st. a k (inr (inl st))),
+    ),
     λ s. record { none = λ k st. a k (inr (inl st)) ∙ (h.2 s).none k st },
-    λ s. (subst (λ (v : Kept). IsCell B E y v) (sym (c (p + 1 + nodes d + nodes x) (omega arith) (omega (arith, own (p + 1 + nodes d + nodes x) y)))) (h.3 s).0, below_frame B E A A1 W W1 (p + 1 + nodes d + nodes x) y (h.3 s).1 (λ q m n. c q (omega (arith, m)) (omega (arith, n))) (λ k st. a k (inr (inr st)))),
+    λ s. (
+      subst (λ (v : Kept). IsCell B E y v) (sym (c (p + 1 + nodes d + nodes x) (omega arith) (omega (arith, own (p + 1 + nodes d + nodes x) y))))
+          (h.3 s).0,
+      below_frame B E A A1 W W1 (p + 1 + nodes d + nodes x) y (h.3 s).1 (λ q m n. c q (omega (arith, m)) (omega (arith, n))) (λ k st. a k (inr (inr st))),
+    ),
     λ s. record { none = λ k st. a k (inr (inr st)) ∙ (h.4 s).none k st },
   )
   below_frame B E A A1 W W1 p (Let bs x) h c a = (
     below_in_frame B E A A1 W W1 (p + 1 + nodes x) bs h.0 (λ q m n. c q (omega (arith, m)) (omega (arith, n))) (λ k st. a k (inl st)),
-    λ vs e. (subst (λ (v : Kept). IsCell B (E ++ vs) x v) (sym (c (p + 1) (omega arith) (omega (arith, own (p + 1) x)))) (h.1 vs e).0, below_frame B (E ++ vs) A A1 W W1 (p + 1) x (h.1 vs e).1 (λ q m n. c q (omega (arith, m)) (omega (arith, n))) (λ k st. a k (inr st))),
+    λ vs e. (
+      subst (λ (v : Kept). IsCell B (E ++ vs) x v) (sym (c (p + 1) (omega arith) (omega (arith, own (p + 1) x)))) (h.1 vs e).0,
+      below_frame B
+          (E ++ vs) A A1 W W1 (p + 1) x (h.1 vs e).1 (λ q m n. c q (omega (arith, m)) (omega (arith, n))) (λ k st. a k (inr st)),
+    ),
     λ e. record { none = λ k st. a k (inr st) ∙ (h.2 e).none k st },
   )
   below_frame B E A A1 W W1 p (Call f j ts) h c a = (
@@ -57,7 +72,11 @@ mutual
       → ((q : ℕ) → p ≤ q → q < p + nodes_in ts → cell W1 q ≡ cell W q) → ((k : ℕ) → StandsIn k ts → get_or A1 k None ≡ get_or A k None) → BelowIn B E A1 W1 p ts
   below_in_frame B E A A1 W W1 p Nil h c a = tt
   below_in_frame B E A A1 W W1 p (Cons t ts) h c a = (
-    (subst (λ (v : Kept). IsCell B E t v) (sym (c p (omega arith) (omega (arith, own p t)))) h.0.0, below_frame B E A A1 W W1 p t h.0.1 (λ q m n. c q (omega (arith, m)) (omega (arith, n))) (λ k st. a k (inl st))),
+    (
+      subst (λ (v : Kept). IsCell B E t v) (sym (c p (omega arith) (omega (arith, own p t)))) h.0.0,
+      below_frame B E A A1 W W1 p t h.0.1
+          (λ q m n. c q (omega (arith, m)) (omega (arith, n))) (λ k st. a k (inl st)),
+    ),
     below_in_frame B E A A1 W W1 (p + nodes t) ts h.1 (λ q m n. c q (omega (arith, m)) (omega (arith, n))) (λ k st. a k (inr st)),
   )
 
@@ -90,9 +109,16 @@ mutual
   below_local B B1 E A W p (If d x y) h b =
       let same : answer B1 E d ≡ answer B E d = sym (answer_local B B1 E d (λ k st. b k (inl st))) in (
         (cell_local B B1 E d (cell W (p + 1)) h.0.0 (λ k st. b k (inl st)), below_local B B1 E A W (p + 1) d h.0.1 (λ k st. b k (inl st))),
-        λ s. (cell_local B B1 E x (cell W (p + 1 + nodes d)) (h.1 (subst (λ q. SelectsFirst q) same s)).0 (λ k st. b k (inr (inl st))), below_local B B1 E A W (p + 1 + nodes d) x (h.1 (subst (λ q. SelectsFirst q) same s)).1 (λ k st. b k (inr (inl st)))),
+        λ s. (
+          cell_local B B1 E x (cell W (p + 1 + nodes d)) (h.1 (subst (λ q. SelectsFirst q) same s)).0 (λ k st. b k (inr (inl st))),
+          below_local B
+              B1 E A W (p + 1 + nodes d) x (h.1 (subst (λ q. SelectsFirst q) same s)).1 (λ k st. b k (inr (inl st))),
+        ),
         λ s. h.2 (λ z. s (subst (λ q. SelectsFirst q) (sym same) z)),
-        λ s. (cell_local B B1 E y (cell W (p + 1 + nodes d + nodes x)) (h.3 (subst (λ q. SelectsSecond q) same s)).0 (λ k st. b k (inr (inr st))), below_local B B1 E A W (p + 1 + nodes d + nodes x) y (h.3 (subst (λ q. SelectsSecond q) same s)).1 (λ k st. b k (inr (inr st)))),
+        λ s. (
+          cell_local B B1 E y (cell W (p + 1 + nodes d + nodes x)) (h.3 (subst (λ q. SelectsSecond q) same s)).0 (λ k st. b k (inr (inr st))),
+          below_local B B1 E A W (p + 1 + nodes d + nodes x) y (h.3 (subst (λ q. SelectsSecond q) same s)).1 (λ k st. b k (inr (inr st))),
+        ),
         λ s. h.4 (λ z. s (subst (λ q. SelectsSecond q) (sym same) z)),
       )
   below_local B B1 E A W p (Let bs x) h b =
@@ -106,9 +132,17 @@ mutual
 
   pub below_in_local : (B B1 : ℕ → Option Word) (E : List Word) (A : Asks) (W : List Kept) (p : ℕ) (ts : Terms) → BelowIn B E A W p ts → ((k : ℕ) → StandsIn k ts → B k ≡ B1 k) → BelowIn B1 E A W p ts
   below_in_local B B1 E A W p Nil h b = tt
-  below_in_local B B1 E A W p (Cons t ts) h b = ((cell_local B B1 E t (cell W p) h.0.0 (λ k st. b k (inl st)), below_local B B1 E A W p t h.0.1 (λ k st. b k (inl st))), below_in_local B B1 E A W (p + nodes t) ts h.1 (λ k st. b k (inr st)))
+  below_in_local B B1 E A W p (Cons t ts) h b = (
+    (
+      cell_local B B1 E t (cell W p) h.0.0 (λ k st. b k (inl st)),
+      below_local B B1 E A W p t h.0.1
+          (λ k st. b k (inl st)),
+    ),
+    below_in_local B B1 E A W (p + nodes t) ts h.1 (λ k st. b k (inr st)),
+  )
 
-pub holds_local : (B B1 : ℕ → Option Word) (E : List Word) (A : Asks) (W : List Kept) (p : ℕ) (t : Term) → IsCell B E t (cell W p) × Below B E A W p t → ((k : ℕ) → Stands k t → B k ≡ B1 k) → IsCell B1 E t (cell W p) × Below B1 E A W p t
+pub holds_local : (B B1 : ℕ → Option Word) (E : List Word) (A : Asks) (W : List Kept) (p : ℕ) (t : Term) → IsCell B E t (cell W p) × Below B E A W p t
+    → ((k : ℕ) → Stands k t → B k ≡ B1 k) → IsCell B1 E t (cell W p) × Below B1 E A W p t
 holds_local B B1 E A W p t h b = (cell_local B B1 E t (cell W p) h.0 b, below_local B B1 E A W p t h.1 b)
 
 -- ---- what is wanted is what was asked for
@@ -164,7 +198,8 @@ or_left (Some x) p e = refl
 or_right : (o p : Option (List Word)) → o ≡ None → or_else o p ≡ p
 or_right o p e = ap (λ x. or_else x p) e
 
-by_bound : (B : ℕ → Option Word) (E : List Word) (A : Asks) (bs : Terms) (x : Term) (k : ℕ) → ((vs : List Word) → answers B E bs ≡ Some vs → get_or A k None ≡ wanted B (E ++ vs) x k) → (answers B E bs ≡ None → get_or A k None ≡ None)
+by_bound : (B : ℕ → Option Word) (E : List Word) (A : Asks) (bs : Terms) (x : Term) (k : ℕ) →
+    ((vs : List Word) → answers B E bs ≡ Some vs → get_or A k None ≡ wanted B (E ++ vs) x k) → (answers B E bs ≡ None → get_or A k None ≡ None)
     → (o : Option (List Word)) → answers B E bs ≡ o → get_or A k None ≡ with_all (answers B E bs) None (λ vs. wanted B (E ++ vs) x k)
 by_bound B E A bs x k some none None e = none e ∙ sym (ap (λ o. with_all o None (λ vs. wanted B (E ++ vs) x k)) e)
 by_bound B E A bs x k some none (Some vs) e = some vs e ∙ sym (ap (λ o. with_all o None (λ us. wanted B (E ++ us) x k)) e)
@@ -191,21 +226,29 @@ mutual
   asked_held B E A W p (Var i) once h k st = absurd st
   asked_held B E A W p (Op o ts) once h k st = asked_in_held B E A W (p + 1) ts once h k st
   asked_held B E A W p (If d x y) once h k st = ⊎_elim
-      (λ s. asked_held B E A W (p + 1) d once.0 h.0.1 k s ∙ sym (or_left (wanted B E d k) _ (ap (λ o. select (answer B E d) None o (wanted B E y k)) (not_wanted B E x k (λ z. once.3 k s (inl z))) ∙ (ap (λ o. select (answer B E d) None None o) (not_wanted B E y k (λ z. once.3 k s (inr z))) ∙ select_same (answer B E d) None))))
+      (λ s. asked_held B E A W (p + 1) d once.0 h.0.1 k s ∙ sym
+      (or_left (wanted B E d k) _ (ap (λ o. select (answer B E d) None o (wanted B E y k)) (not_wanted B E x k (λ z. once.3 k s (inl z))) ∙
+      (ap (λ o. select (answer B E d) None None o) (not_wanted B E y k (λ z. once.3 k s (inr z))) ∙ select_same (answer B E d) None))))
       (λ r. ⊎_elim
       (λ s. ⊎_elim
-      (λ f. asked_held B E A W (p + 1 + nodes d) x once.1 (h.1 f).1 k s ∙ sym (or_right _ _ (not_wanted B E d k (λ z. once.3 k z (inl s))) ∙ select_first (answer B E d) None (wanted B E x k) (wanted B E y k) f))
-      (λ f. (h.2 f).none k s ∙ sym (or_right _ _ (not_wanted B E d k (λ z. once.3 k z (inl s))) ∙ rest_first (answer B E d) (wanted B E x k) (wanted B E y k) f (not_wanted B E y k (λ z. once.4 k s z))))
+      (λ f. asked_held B E A W (p + 1 + nodes d) x once.1 (h.1 f).1 k s ∙ sym
+      (or_right _ _ (not_wanted B E d k (λ z. once.3 k z (inl s))) ∙ select_first (answer B E d) None (wanted B E x k) (wanted B E y k) f))
+      (λ f. (h.2 f).none k s ∙ sym (or_right _ _ (not_wanted B E d k (λ z. once.3 k z (inl s))) ∙ rest_first (answer B E d) (wanted B E x k)
+      (wanted B E y k) f (not_wanted B E y k (λ z. once.4 k s z))))
       (first_or_not (answer B E d)))
       (λ s. ⊎_elim
-      (λ f. asked_held B E A W (p + 1 + nodes d + nodes x) y once.2 (h.3 f).1 k s ∙ sym (or_right _ _ (not_wanted B E d k (λ z. once.3 k z (inr s))) ∙ select_second (answer B E d) None (wanted B E x k) (wanted B E y k) f))
-      (λ f. (h.4 f).none k s ∙ sym (or_right _ _ (not_wanted B E d k (λ z. once.3 k z (inr s))) ∙ rest_second (answer B E d) (wanted B E x k) (wanted B E y k) f (not_wanted B E x k (λ z. once.4 k z s))))
+      (λ f. asked_held B E A W (p + 1 + nodes d + nodes x) y once.2 (h.3 f).1 k s ∙ sym
+      (or_right _ _ (not_wanted B E d k (λ z. once.3 k z (inr s))) ∙ select_second (answer B E d) None (wanted B E x k) (wanted B E y k) f))
+      (λ f. (h.4 f).none k s ∙ sym (or_right _ _ (not_wanted B E d k (λ z. once.3 k z (inr s))) ∙ rest_second (answer B E d) (wanted B E x k)
+      (wanted B E y k) f (not_wanted B E x k (λ z. once.4 k z s))))
       (second_or_not (answer B E d)))
       r)
       st
   asked_held B E A W p (Let bs x) once h k st = ⊎_elim
-      (λ s. asked_in_held B E A W (p + 1 + nodes x) bs once.0 h.0 k s ∙ sym (or_left (wanted_in B E bs k) _ (none_with (answers B E bs) (λ vs. wanted B (E ++ vs) x k) (λ vs. not_wanted B (E ++ vs) x k (λ z. once.2 k s z)))))
-      (λ s. by_bound B E A bs x k (λ vs e. asked_held B (E ++ vs) A W (p + 1) x once.1 (h.1 vs e).1 k s) (λ e. (h.2 e).none k s) (answers B E bs) refl ∙ sym (or_right _ _ (not_wanted_in B E bs k (λ z. once.2 k z s))))
+      (λ s. asked_in_held B E A W (p + 1 + nodes x) bs once.0 h.0 k s ∙ sym
+      (or_left (wanted_in B E bs k) _ (none_with (answers B E bs) (λ vs. wanted B (E ++ vs) x k) (λ vs. not_wanted B (E ++ vs) x k (λ z. once.2 k s z)))))
+      (λ s. by_bound B E A bs x k (λ vs e. asked_held B (E ++ vs) A W (p + 1) x once.1 (h.1 vs e).1 k s) (λ e. (h.2 e).none k s) (answers B E bs) refl
+      ∙ sym (or_right _ _ (not_wanted_in B E bs k (λ z. once.2 k z s))))
       st
   asked_held B E A W p (Call f j ts) once h k st = ⊎_elim
       (λ same. subst (λ n. get_or A n None ≡ cond (eqb j n) (answers B E ts) (wanted_in B E ts n)) same (h.0 ∙ sym (ap (λ b. cond b (answers B E ts) (wanted_in B E ts j)) (eq-eqb j j refl))))
@@ -213,7 +256,8 @@ mutual
       (cases_eq j k)
   asked_held B E A W p (Loop m ts) once h k st = asked_in_held B E A W (p + 1) ts once h k st
 
-  pub asked_in_held : (B : ℕ → Option Word) (E : List Word) (A : Asks) (W : List Kept) (p : ℕ) (ts : Terms) → OnceIn ts → BelowIn B E A W p ts → (k : ℕ) → StandsIn k ts → get_or A k None ≡ wanted_in B E ts k
+  pub asked_in_held : (B : ℕ → Option Word) (E : List Word) (A : Asks) (W : List Kept) (p : ℕ) (ts : Terms) → OnceIn ts → BelowIn B E A W p ts →
+      (k : ℕ) → StandsIn k ts → get_or A k None ≡ wanted_in B E ts k
   asked_in_held B E A W p Nil once h k st = absurd st
   asked_in_held B E A W p (Cons t ts) once h k st = ⊎_elim
       (λ s. asked_held B E A W p t once.0 h.0.1 k s ∙ sym (or_left (wanted B E t k) _ (not_wanted_in B E ts k (λ z. once.2 k s z))))

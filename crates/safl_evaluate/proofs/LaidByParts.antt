@@ -24,8 +24,16 @@ mutual
   laid_below_frame P P1 p (Op o ts) h c = laid_in_frame P P1 (p + 1) ts h (λ q x y. c q (omega (arith, x)) (omega (arith, y)))
   laid_below_frame P P1 p (If d x y) h c = (
     (own_frame P P1 (p + 1) d h.0.0 (λ q m n. c q (omega (arith, m)) (omega (arith, n))), laid_below_frame P P1 (p + 1) d h.0.1 (λ q m n. c q (omega (arith, m)) (omega (arith, n)))),
-    (own_frame P P1 (p + 1 + nodes d) x h.1.0 (λ q m n. c q (omega (arith, m)) (omega (arith, n))), laid_below_frame P P1 (p + 1 + nodes d) x h.1.1 (λ q m n. c q (omega (arith, m)) (omega (arith, n)))),
-    (own_frame P P1 (p + 1 + nodes d + nodes x) y h.2.0 (λ q m n. c q (omega (arith, m)) (omega (arith, n))), laid_below_frame P P1 (p + 1 + nodes d + nodes x) y h.2.1 (λ q m n. c q (omega (arith, m)) (omega (arith, n)))),
+    (
+      own_frame P P1 (p + 1 + nodes d) x h.1.0 (λ q m n. c q (omega (arith, m)) (omega (arith, n))),
+      laid_below_frame P P1 (p + 1 + nodes d) x h.1.1
+          (λ q m n. c q (omega (arith, m)) (omega (arith, n))),
+    ),
+    (
+      own_frame P P1 (p + 1 + nodes d + nodes x) y h.2.0 (λ q m n. c q (omega (arith, m)) (omega (arith, n))),
+      laid_below_frame P P1
+          (p + 1 + nodes d + nodes x) y h.2.1 (λ q m n. c q (omega (arith, m)) (omega (arith, n))),
+    ),
   )
   laid_below_frame P P1 p (Let ts x) h c = (
     laid_in_frame P P1 (p + 1 + nodes x) ts h.0 (λ q m n. c q (omega (arith, m)) (omega (arith, n))),
@@ -118,7 +126,8 @@ laid_if {P1} {P2} {P3} p c x y hc hx hy o2 o3 = (
   hy,
 )
 
-pub laid_let : {P1 P2 : List Place} (p : ℕ) (ts : Terms) (x : Term) → Laid P1 (p + 1) x → LaidIn P2 (p + 1 + nodes x) ts → SameOutside (p + 1 + nodes x) (p + 1 + nodes x + nodes_in ts) P1 P2 → LaidBelow P2 p (Let ts x)
+pub laid_let : {P1 P2 : List Place} (p : ℕ) (ts : Terms) (x : Term) → Laid P1 (p + 1) x → LaidIn P2 (p + 1 + nodes x) ts → SameOutside
+    (p + 1 + nodes x) (p + 1 + nodes x + nodes_in ts) P1 P2 → LaidBelow P2 p (Let ts x)
 unfolding LaidBelow
 laid_let {P1} {P2} p ts x hx hs o = let body = laid_still (p + 1) x o (inl (omega arith)) hx in (hs, body.0, body.1)
 

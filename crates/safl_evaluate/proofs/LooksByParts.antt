@@ -1,5 +1,6 @@
 -- Terms are looked at part by part.
-use Rattle.std.proofs.Common.{◌≡◌, ℕ, ◌+◌, ◌<◌, ◌≤◌, ◌⊎◌, List, ◌++◌, length, take, Option, Some, None, Bool, true, false, cond, eqb, is_some, get_or, slice_set, inl, inr, refl, sym, ap, ◌∙◌, subst, arith}
+use Rattle.std.proofs.Common.{◌≡◌, ℕ, ◌+◌, ◌<◌, ◌≤◌, ◌⊎◌, List, ◌++◌, length, take, Option, Some, None, Bool, true, false, cond, eqb, is_some, get_or}
+use Rattle.std.proofs.Common.{slice_set, inl, inr, refl, sym, ap, ◌∙◌, subst, arith}
 use Rattle.std.proofs.lemmas.Bool.{false≢true}
 use Rattle.std.proofs.lemmas.List.{get_or-set_other}
 use Rattle.safl_word.specs.Words.{Word}
@@ -53,7 +54,8 @@ module _ {f u : ℕ} {s : ℕ → Type 0} {A A1 : Asks} {W W1 : List Kept} (o : 
   pub holds_still : (B : ℕ → Option Word) (E : List Word) (p : ℕ) (t : Term) → Holds B E A W p t → (p + nodes t ≤ f) ⊎ (u ≤ p) → ((k : ℕ) → Stands k t → s k → ⊥) → Holds B E A1 W1 p t
   holds_still B E p t h e apart = holds_frame B E A A1 W W1 p t h (range p (nodes t) e) (λ k st. o.asks k (apart k st))
 
-  pub below_in_still : (B : ℕ → Option Word) (E : List Word) (p : ℕ) (ts : Terms) → BelowIn B E A W p ts → (p + nodes_in ts ≤ f) ⊎ (u ≤ p) → ((k : ℕ) → StandsIn k ts → s k → ⊥) → BelowIn B E A1 W1 p ts
+  pub below_in_still : (B : ℕ → Option Word) (E : List Word) (p : ℕ) (ts : Terms) → BelowIn B E A W p ts → (p + nodes_in ts ≤ f) ⊎ (u ≤ p) →
+      ((k : ℕ) → StandsIn k ts → s k → ⊥) → BelowIn B E A1 W1 p ts
   below_in_still B E p ts h e apart = below_in_frame B E A A1 W W1 p ts h (range p (nodes_in ts) e) (λ k st. o.asks k (apart k st))
 
   pub unasked_still : {t : Term} → Unasked A t → ((k : ℕ) → Stands k t → s k → ⊥) → Unasked A1 t
@@ -63,7 +65,8 @@ module _ {f u : ℕ} {s : ℕ → Type 0} {A A1 : Asks} {W W1 : List Kept} (o : 
   unasked_in_still h apart = record { none = λ k st. o.asks k (apart k st) ∙ h.none k st }
 
 -- the same places
-pub below_in_same : (B : ℕ → Option Word) (E : List Word) (A A1 : Asks) (W : List Kept) (p : ℕ) (ts : Terms) → BelowIn B E A W p ts → ((k : ℕ) → StandsIn k ts → get_or A1 k None ≡ get_or A k None) → BelowIn B E A1 W p ts
+pub below_in_same : (B : ℕ → Option Word) (E : List Word) (A A1 : Asks) (W : List Kept) (p : ℕ) (ts : Terms) → BelowIn B E A W p ts →
+    ((k : ℕ) → StandsIn k ts → get_or A1 k None ≡ get_or A k None) → BelowIn B E A1 W p ts
 below_in_same B E A A1 W p ts h a = below_in_frame B E A A1 W W p ts h (λ q x y. refl) a
 
 -- ---- before site k returned
@@ -224,7 +227,8 @@ module _ (B : ℕ → Option Word) (E : List Word) (A : Asks) (W : List Kept) (p
         by true e = holds_still o (without B k) E _ _ (h.1.3 (was_second B E k c s (sym e))) (inr (omega arith)) (λ j st z. once.3 j z (inr st))
         by false e = unasked_still o (h.1.4 (λ z. false≢true (e ∙ ap (λ q. is_some (word_of q)) z.1))) (λ j st z. once.3 j z (inr st))
 
-    pub stood_body : (news : Option ℕ) (ts : Terms) (b : Term) (vs : List Word) → Once (Let ts b) → Stood B news E A W p (Let ts b) → answers B E ts ≡ Some vs → Only (p + 1 + nodes b) (p + 1 + nodes b + nodes_in ts) (λ k. StandsIn k ts) A A1 W W1
+    pub stood_body : (news : Option ℕ) (ts : Terms) (b : Term) (vs : List Word) → Once (Let ts b) → Stood B news E A W p (Let ts b) → answers B E ts ≡
+        Some vs → Only (p + 1 + nodes b) (p + 1 + nodes b + nodes_in ts) (λ k. StandsIn k ts) A A1 W W1
         → Stood B (cond (is_open (cell W1 p)) news None) (E ++ vs) A1 W1 (p + 1) b
     unfolding Below BelowIn Stands StandsIn Once OnceIn
     stood_body None ts b vs once h s o = by (is_open (cell W1 p))
@@ -256,7 +260,8 @@ module _ {S : List Stage} {P : List Place} {A : Asks} {F : List Word} {W : List 
   look_at {m} {n} {q} {r} {x} {y} {t} d e f h = subst (λ i. MayLook S P A F W i q x t) (sym d) (subst (λ i. MayLook S P A F W n i x t) (sym e) (subst (λ o. MayLook S P A F W n r o t) (sym f) h))
 
   pub look_all_at : {m n q r : ℕ} {x y : Option ℕ} {ts : Terms} → m ≡ n → q ≡ r → x ≡ y → MayLookAll S P A F W n r y ts → MayLookAll S P A F W m q x ts
-  look_all_at {m} {n} {q} {r} {x} {y} {ts} d e f h = subst (λ i. MayLookAll S P A F W i q x ts) (sym d) (subst (λ i. MayLookAll S P A F W n i x ts) (sym e) (subst (λ o. MayLookAll S P A F W n r o ts) (sym f) h))
+  look_all_at {m} {n} {q} {r} {x} {y} {ts} d e f h = subst (λ i. MayLookAll S P A F W i q x ts) (sym d)
+      (subst (λ i. MayLookAll S P A F W n i x ts) (sym e) (subst (λ o. MayLookAll S P A F W n r o ts) (sym f) h))
 
   pub look_is : {n p : ℕ} {news : Option ℕ} {t u : Term} → t ≡ u → MayLook S P A F W n p news t → MayLook S P A F W n p news u
   look_is {n} {p} {news} e h = subst (λ x. MayLook S P A F W n p news x) e h

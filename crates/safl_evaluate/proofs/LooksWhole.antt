@@ -1,5 +1,6 @@
 -- What is found of a term, by what is found of its parts.
-use Rattle.std.proofs.Common.{◌≡◌, ℕ, ◌+◌, ◌<◌, ◌≤◌, List, [], ◌∷◌, ◌++◌, length, take, Option, Some, None, Bool, true, false, cond, is_some, get_or, slice_set, inl, inr, refl, sym, ap, ◌∙◌, subst, arith}
+use Rattle.std.proofs.Common.{◌≡◌, ℕ, ◌+◌, ◌<◌, ◌≤◌, List, [], ◌∷◌, ◌++◌, length, take, Option, Some, None, Bool, true, false, cond, is_some, get_or}
+use Rattle.std.proofs.Common.{slice_set, inl, inr, refl, sym, ap, ◌∙◌, subst, arith}
 use Rattle.std.proofs.lemmas.Bool.{ne_eqb}
 use Rattle.std.proofs.lemmas.List.{get_or-set_other, get_or-set_same}
 use Rattle.safl_word.specs.Words.{Word}
@@ -16,12 +17,14 @@ use Rattle.safl_evaluate.specs.declared.kept.Found as found
 use Rattle.safl_evaluate.specs.declared.places.Place.{Place}
 use Rattle.safl_evaluate.specs.declared.stage.Stage.{Stage}
 use Rattle.safl_evaluate.specs.Finding.{cell_of, if_open, if_ready, is_ready}
-use Rattle.safl_evaluate.specs.Keeping.{word_kept, is_open, cell, SelectsFirst, SelectsSecond, IsCell, Below, BelowIn, Holds, without, Stood, Only, MayLook, MayLookAll, opened_with, Looks, Finds, FindsAll}
+use Rattle.safl_evaluate.specs.Keeping.{word_kept, is_open, cell, SelectsFirst, SelectsSecond, IsCell, Below, BelowIn, Holds, without, Stood, Only}
+use Rattle.safl_evaluate.specs.Keeping.{MayLook, MayLookAll, opened_with, Looks, Finds, FindsAll}
 use Rattle.safl_evaluate.specs.Stages.{back_at}
 use Rattle.safl_evaluate.proofs.AnswersByParts as step
 use Rattle.safl_evaluate.proofs.HeldByParts.{holds_local, below_frame}
 use Rattle.safl_evaluate.proofs.LooksByParts as part
-use Rattle.safl_evaluate.proofs.LooksByParts.{only_none, only_more, only_both, only_own, holds_still, below_in_still, unasked_still, either_branch, none_first, none_second, found_ready, rest_first, rest_second, rest_body}
+use Rattle.safl_evaluate.proofs.LooksByParts.{only_none, only_more, only_both, only_own, holds_still, below_in_still, unasked_still, either_branch}
+use Rattle.safl_evaluate.proofs.LooksByParts.{none_first, none_second, found_ready, rest_first, rest_second, rest_body}
 use Rattle.safl_evaluate.proofs.RunsByParts.{once, once_in}
 
 abbrev Asks : Type 0
@@ -73,11 +76,13 @@ looks_asks {S} {A} {A1} {A2} {F} {W} {W1} {n} {p} {t} {x} e h = subst (λ (l : A
 pub finds_is : {S : List Stage} {A A1 : Asks} {F : List Word} {W W1 : List Kept} {n p : ℕ} {t u : Term} {o : Option Word} → t ≡ u → Finds S A A1 F W W1 n p u o → Finds S A A1 F W W1 n p t o
 finds_is {S} {A} {A1} {F} {W} {W1} {n} {p} {t} {u} {o} e h = subst (λ z. Finds S A A1 F W W1 n p z o) (sym e) h
 
-pub finds_all_is : {S : List Stage} {A A1 : Asks} {F : List Word} {W W1 : List Kept} {n p : ℕ} {ts us : Terms} {o : Option (List Word)} → ts ≡ us → FindsAll S A A1 F W W1 n p us o → FindsAll S A A1 F W W1 n p ts o
+pub finds_all_is : {S : List Stage} {A A1 : Asks} {F : List Word} {W W1 : List Kept} {n p : ℕ} {ts us : Terms} {o : Option (List Word)} → ts ≡ us →
+    FindsAll S A A1 F W W1 n p us o → FindsAll S A A1 F W W1 n p ts o
 finds_all_is {S} {A} {A1} {F} {W} {W1} {n} {p} {ts} {us} {o} e h = subst (λ z. FindsAll S A A1 F W W1 n p z o) (sym e) h
 
 -- a part that is looked at with other slots, at another place
-pub finds_at : {S : List Stage} {A A1 : Asks} {E G : List Word} {W W1 : List Kept} {m p q : ℕ} {t : Term} {o : Option Word} → take m G ≡ E → q ≡ p → Finds S A A1 G W W1 m q t o → (o ≡ word_of (answer (back_at S) E t)) × Holds (back_at S) E A1 W1 p t × Only p (p + nodes t) (λ k. Stands k t) A A1 W W1
+pub finds_at : {S : List Stage} {A A1 : Asks} {E G : List Word} {W W1 : List Kept} {m p q : ℕ} {t : Term} {o : Option Word} → take m G ≡ E → q ≡ p →
+    Finds S A A1 G W W1 m q t o → (o ≡ word_of (answer (back_at S) E t)) × Holds (back_at S) E A1 W1 p t × Only p (p + nodes t) (λ k. Stands k t) A A1 W W1
 finds_at {S} {A} {A1} {E} {G} {W} {W1} {m} {p} {q} {t} {o} d e h = (
   h.word ∙ ap (λ l. word_of (answer (back_at S) l t)) d,
   subst (λ l. Holds (back_at S) l A1 W1 p t) d (subst (λ i. Holds (back_at S) (take m G) A1 W1 i t) e h.holds),
@@ -117,20 +122,23 @@ held_word B E (Let ts u) x le h = h.0
 held_word B E (Call f j ts) x le h = h ∙ (step.back_word_is (B j) ∙ ap word_of (step.answer_call B E ts f j))
 held_word B E (Loop m ts) x le h = h ∙ step.word_loop B E ts m
 
-pub finds_still : {S : List Stage} {A : Asks} {F : List Word} {W : List Kept} {n p : ℕ} {t : Term} {news : Option ℕ} (k : ℕ) → news ≡ Some k → Stood (back_at S) news (take n F) A W p t → (Stands k t → ⊥) → 2 ≤ nodes t → {o : Option Word} → o ≡ word_kept (cell W p) → Finds S A A F W W n p t o
+pub finds_still : {S : List Stage} {A : Asks} {F : List Word} {W : List Kept} {n p : ℕ} {t : Term} {news : Option ℕ} (k : ℕ) → news ≡ Some k → Stood
+    (back_at S) news (take n F) A W p t → (Stands k t → ⊥) → 2 ≤ nodes t → {o : Option Word} → o ≡ word_kept (cell W p) → Finds S A A F W W n p t o
 finds_still {S} {A} {F} {W} {n} {p} {t} {news} k is stood apart le {o} e =
     let B = back_at S in
     let same : (j : ℕ) → Stands j t → without B k j ≡ B j = λ j st. ap (λ b. cond b None (B j)) (ne_eqb k j (λ q. apart (subst (λ i. Stands i t) (sym q) st))) in
     let holds = holds_local (without B k) B (take n F) A W p t (subst (λ x. Stood B x (take n F) A W p t) is stood) same in
     record { word = e ∙ held_word B (take n F) t (cell W p) le holds.0; holds = holds; only = only_none }
 
-pub looks_op : {S : List Stage} {A A1 : Asks} {F : List Word} {W W1 : List Kept} {n p : ℕ} {o : Primitive} {ts : Terms} {x : Kept} {vs : Option (List Word)} → FindsAll S A A1 F W W1 n (p + 1) ts vs → word_kept x ≡ word_of (apply_to o vs) → Looks S A A1 F W W1 n p (Op o ts) x
+pub looks_op : {S : List Stage} {A A1 : Asks} {F : List Word} {W W1 : List Kept} {n p : ℕ} {o : Primitive} {ts : Terms} {x : Kept}
+    {vs : Option (List Word)} → FindsAll S A A1 F W W1 n (p + 1) ts vs → word_kept x ≡ word_of (apply_to o vs) → Looks S A A1 F W W1 n p (Op o ts) x
 unfolding Below BelowIn Stands StandsIn Once OnceIn
 looks_op {S} {A} {A1} {F} {W} {W1} {n} {p} {o} {ts} {x} {vs} fs e =
     let word : word_kept x ≡ word_of (answer (back_at S) (take n F) (Op o ts)) = e ∙ (ap (λ z. word_of (apply_to o z)) (sym fs.words) ∙ ap word_of (step.answer_op (back_at S) (take n F) ts o)) in
     record { word = word; own = word; below = fs.holds; only = only_more fs.only (omega arith) (omega arith) (λ k z. z) }
 
-pub looks_loop : {S : List Stage} {A A1 : Asks} {F : List Word} {W W1 : List Kept} {n p : ℕ} {l : ℕ} {ts : Terms} {vs : Option (List Word)} → FindsAll S A A1 F W W1 n (p + 1) ts vs → Looks S A A1 F W W1 n p (Loop l ts) code.TheVariants.Shut
+pub looks_loop : {S : List Stage} {A A1 : Asks} {F : List Word} {W W1 : List Kept} {n p : ℕ} {l : ℕ} {ts : Terms} {vs : Option (List Word)} → FindsAll
+    S A A1 F W W1 n (p + 1) ts vs → Looks S A A1 F W W1 n p (Loop l ts) code.TheVariants.Shut
 unfolding Below BelowIn Stands StandsIn Once OnceIn
 looks_loop {S} {A} {A1} {F} {W} {W1} {n} {p} {l} {ts} fs = record {
   word = step.word_loop (back_at S) (take n F) ts l;
@@ -163,7 +171,8 @@ answers_one B E t r v e = answers_first B E t Nil (cond r (Some v) None) e ∙ (
     by false = refl
 
 -- the words of two terms, the first of which is ready, in a table of two
-pub answers_two : (B : ℕ → Option Word) (E G : List Word) (a b : Term) (v w : Word) (r : Bool) (ws : List Word) → Some v ≡ word_of (answer B E a) → cond r (Some w) None ≡ word_of (answer B G b) → G ≡ E → length ws ≡ 2
+pub answers_two : (B : ℕ → Option Word) (E G : List Word) (a b : Term) (v w : Word) (r : Bool) (ws : List Word) → Some v ≡ word_of (answer B E a) →
+    cond r (Some w) None ≡ word_of (answer B G b) → G ≡ E → length ws ≡ 2
     → answers B E (Cons a (Cons b Nil)) ≡ cond r (Some (take 2 (slice_set (slice_set ws 0 v) 1 w))) None
 unfolding word_before
 answers_two B E G a b v w r ws e f g long = answers_first B E a (Cons b Nil) (Some v) e
@@ -173,14 +182,17 @@ answers_two B E G a b v w r ws e f g long = answers_first B E a (Cons b Nil) (So
     by true = ap Some (sym (two_words ws v w long))
     by false = refl
 
-pub finds_one : {S : List Stage} {A A1 : Asks} {F : List Word} {W W1 : List Kept} {n p : ℕ} {t : Term} {o : Option Word} → Finds S A A1 F W W1 n p t o → {r : Option (List Word)} → answers (back_at S) (take n F) (Cons t Nil) ≡ r → FindsAll S A A1 F W W1 n p (Cons t Nil) r
+pub finds_one : {S : List Stage} {A A1 : Asks} {F : List Word} {W W1 : List Kept} {n p : ℕ} {t : Term} {o : Option Word} → Finds S A A1 F W W1 n p t o
+    → {r : Option (List Word)} → answers (back_at S) (take n F) (Cons t Nil) ≡ r → FindsAll S A A1 F W W1 n p (Cons t Nil) r
 unfolding Below BelowIn Stands StandsIn
 finds_one f g = record { words = g; holds = (f.holds, tt); only = only_more f.only (omega arith) (omega arith) (λ k z. inl z) }
 
-pub finds_slots : {S : List Stage} {A A1 : Asks} {F : List Word} {W W1 : List Kept} {n m p q : ℕ} {t : Term} {o : Option Word} → m ≡ n → q ≡ p → Finds S A A1 F W W1 m q t o → Finds S A A1 F W W1 n p t o
+pub finds_slots : {S : List Stage} {A A1 : Asks} {F : List Word} {W W1 : List Kept} {n m p q : ℕ} {t : Term} {o : Option Word} → m ≡ n → q ≡ p → Finds
+    S A A1 F W W1 m q t o → Finds S A A1 F W W1 n p t o
 finds_slots {S} {A} {A1} {F} {W} {W1} {n} {m} {p} {q} {t} {o} d e h = subst (λ i. Finds S A A1 F W W1 i p t o) d (subst (λ i. Finds S A A1 F W W1 m i t o) e h)
 
-pub finds_all_slots : {S : List Stage} {A A1 : Asks} {F : List Word} {W W1 : List Kept} {n m p q : ℕ} {ts : Terms} {o : Option (List Word)} → m ≡ n → q ≡ p → FindsAll S A A1 F W W1 m q ts o → FindsAll S A A1 F W W1 n p ts o
+pub finds_all_slots : {S : List Stage} {A A1 : Asks} {F : List Word} {W W1 : List Kept} {n m p q : ℕ} {ts : Terms} {o : Option (List Word)} → m ≡ n →
+    q ≡ p → FindsAll S A A1 F W W1 m q ts o → FindsAll S A A1 F W W1 n p ts o
 finds_all_slots {S} {A} {A1} {F} {W} {W1} {n} {m} {p} {q} {ts} {o} d e h = subst (λ i. FindsAll S A A1 F W W1 i p ts o) d (subst (λ i. FindsAll S A A1 F W W1 m i ts o) e h)
 
 -- ---- results
@@ -318,7 +330,8 @@ module _ {S : List Stage} {P : List Place} {A A1 : Asks} {F : List Word} {W W1 :
         };
       }
 
-  pub looks_unasked : {f j : ℕ} {ts : Terms} {x : Kept} → MayLook S P A F W n p news (Call f j ts) → FindsAll S A A1 F W W1 n (p + 1) ts None → word_kept x ≡ back_at S j → Looks S A A1 F W W1 n p (Call f j ts) x
+  pub looks_unasked : {f j : ℕ} {ts : Terms} {x : Kept} → MayLook S P A F W n p news (Call f j ts) → FindsAll S A A1 F W W1 n (p + 1) ts None →
+      word_kept x ≡ back_at S j → Looks S A A1 F W W1 n p (Call f j ts) x
   unfolding Below BelowIn Stands StandsIn Once OnceIn
   looks_unasked {f} {j} {ts} {x} h fs back =
       let B = back_at S in
@@ -331,8 +344,10 @@ module _ {S : List Stage} {P : List Place} {A A1 : Asks} {F : List Word} {W W1 :
         only = only_more fs.only (omega arith) (omega arith) (λ k z. inr z);
       }
 
-  pub finds_more : {A2 : Asks} {G : List Word} {W2 : List Kept} {t : Term} {ts : Terms} {o : Option Word} {os : Option (List Word)} {q : ℕ} → MayLookAll S P A F W n p news (Cons t ts) → Finds S A A1 F W W1 n p t o
-      → take n G ≡ take n F → q ≡ p + nodes t → FindsAll S A1 A2 G W1 W2 n q ts os → {r : Option (List Word)} → answers (back_at S) (take n F) (Cons t ts) ≡ r → FindsAll S A A2 F W W2 n p (Cons t ts) r
+  pub finds_more : {A2 : Asks} {G : List Word} {W2 : List Kept} {t : Term} {ts : Terms} {o : Option Word} {os : Option (List Word)} {q : ℕ} →
+      MayLookAll S P A F W n p news (Cons t ts) → Finds S A A1 F W W1 n p t o
+      → take n G ≡ take n F → q ≡ p + nodes t → FindsAll S A1 A2 G W1 W2 n q ts os → {r : Option (List Word)} → answers (back_at S) (take n F)
+      (Cons t ts) ≡ r → FindsAll S A A2 F W W2 n p (Cons t ts) r
   unfolding Below BelowIn Stands StandsIn Once OnceIn
   finds_more {A2} {G} {W2} {t} {ts} {o} {os} {q} h ft d e fs g =
       let B = back_at S in

@@ -18,7 +18,8 @@ use Rattle.safl_evaluate.proofs.LaidByParts.{laid_still}
 abbrev size : Function → ℕ
 size f = nodes (shown_term f.body)
 
-sum_next : (fs : List Function) (f : ℕ) → f < length fs → sum_by size (take (suc f) fs) ≡ sum_by size (take f fs) + nodes (option_map_or (λ (g : Function). shown_term g.body) (slice_get fs f) (Const no_word))
+sum_next : (fs : List Function) (f : ℕ) → f < length fs → sum_by size (take (suc f) fs) ≡ sum_by size (take f fs) + nodes
+    (option_map_or (λ (g : Function). shown_term g.body) (slice_get fs f) (Const no_word))
 sum_next [] f lt = absurd (omega (arith, lt))
 sum_next (x ∷ xs) zero lt = omega (arith, sum_by-cons size x [])
 sum_next (x ∷ xs) (suc f) lt = omega (arith, sum_by-cons size x (take (suc f) xs), sum_by-cons size x (take f xs), sum_next xs f (omega (arith, lt)))

@@ -5,7 +5,8 @@ use Rattle.std.proofs.lemmas.List.Folds.{concat-append}
 use Rattle.std.proofs.lemmas.List.FromFn.{map-range_with_len_more}
 
 -- the line of a further number, after the lines of those before it
-pub line_more : (f : ℕ → List ℕ) (a n j : ℕ) (start before now : List ℕ) → a + n ≡ j → before ≡ start ++ concat (map f (range_with_len a n)) → now ≡ before ++ f j → now ≡ start ++ concat (map f (range_with_len a (n + 1)))
+pub line_more : (f : ℕ → List ℕ) (a n j : ℕ) (start before now : List ℕ) → a + n ≡ j → before ≡ start ++ concat (map f (range_with_len a n)) → now ≡
+    before ++ f j → now ≡ start ++ concat (map f (range_with_len a (n + 1)))
 line_more f a n j start before now at b h =
     let lines = map f (range_with_len a n) in
     let more : concat (map f (range_with_len a (n + 1))) ≡ concat lines ++ f j =

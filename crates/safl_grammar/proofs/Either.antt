@@ -24,15 +24,23 @@ at_right s t Range u r h = (inr h.0, next_right s t u r h.1)
     next_right s t u [] h = h
     next_right s t u (x ∷ r) h = inr h
 
-either_done : {T A : Type 0} (g : Option T → Bool) (b : Bool) (p q : Reading T A) (s t : Syntax T A) (w r : List T) (x : A) → ((w r : List T) (x : A) → p w ≡ Ok (x, r) → (u : List T) × (w ≡ u ++ r) × s.derives u x) → ((w r : List T) (x : A) → q w ≡ Ok (x, r) → (u : List T) × (w ≡ u ++ r) × t.derives u x) → cond b (p w) (q w) ≡ Ok (x, r) → (u : List T) × (w ≡ u ++ r) × (either s t).derives u x
+either_done : {T A : Type 0} (g : Option T → Bool) (b : Bool) (p q : Reading T A) (s t : Syntax T A) (w r : List T) (x : A) →
+    ((w r : List T) (x : A) → p w ≡ Ok (x, r) → (u : List T) × (w ≡ u ++ r) × s.derives u x) →
+    ((w r : List T) (x : A) → q w ≡ Ok (x, r) → (u : List T) × (w ≡ u ++ r) × t.derives u x) → cond b (p w) (q w) ≡ Ok (x, r) → (u : List T) ×
+    (w ≡ u ++ r) × (either s t).derives u x
 either_done g true p q s t w r x h k e = let d = h w r x e in (d.0, d.1, inl d.2)
 either_done g false p q s t w r x h k e = let d = k w r x e in (d.0, d.1, inr d.2)
 
-either_bad : {T A : Type 0} (b : Bool) (p q : Reading T A) (s t : Syntax T A) (w r : List T) (e : Rule) → ((w r : List T) (e : Rule) → p w ≡ Err (e, r) → (u : List T) × (w ≡ u ++ r) × s.begins u × At s e u r) → ((w r : List T) (e : Rule) → q w ≡ Err (e, r) → (u : List T) × (w ≡ u ++ r) × t.begins u × At t e u r) → cond b (p w) (q w) ≡ Err (e, r) → (u : List T) × (w ≡ u ++ r) × (either s t).begins u × At (either s t) e u r
+either_bad : {T A : Type 0} (b : Bool) (p q : Reading T A) (s t : Syntax T A) (w r : List T) (e : Rule) →
+    ((w r : List T) (e : Rule) → p w ≡ Err (e, r) → (u : List T) × (w ≡ u ++ r) × s.begins u × At s e u r) →
+    ((w r : List T) (e : Rule) → q w ≡ Err (e, r) → (u : List T) × (w ≡ u ++ r) × t.begins u × At t e u r) → cond b (p w) (q w) ≡ Err (e, r) →
+    (u : List T) × (w ≡ u ++ r) × (either s t).begins u × At (either s t) e u r
 either_bad true p q s t w r x h k e = let d = h w r x e in (d.0, d.1, inl d.2, at_left s t x d.0 r d.3)
 either_bad false p q s t w r x h k e = let d = k w r x e in (d.0, d.1, inr d.2, at_right s t x d.0 r d.3)
 
-module _ {T A : Type 0} (code : Option T → ℕ) (g : Set) (p q : Reading T A) (s c : Syntax T A) (G1 L1 F : Set) (t d : Syntax T A) (N2 : Bool) (G2 L2 : Set) (first : Parses code p s c false G1 L1 F) (second : Parses code q t d N2 G2 L2 F) (in_test : subset G1 g ≡ true) (in_open : subset L1 g ≡ true) (others : apart (union_if N2 G2 F) g ≡ true) where
+module _ {T A : Type 0} (code : Option T → ℕ) (g : Set) (p q : Reading T A) (s c : Syntax T A) (G1 L1 F : Set) (t d : Syntax T A) (N2 : Bool)
+    (G2 L2 : Set) (first : Parses code p s c false G1 L1 F) (second : Parses code q t d N2 G2 L2 F) (in_test : subset G1 g ≡ true)
+    (in_open : subset L1 g ≡ true) (others : apart (union_if N2 G2 F) g ≡ true) where
   test : Option T → Bool
   test h = within g (code h)
 
@@ -157,13 +165,20 @@ module _ {T A : Type 0} (code : Option T → ℕ) (g : Set) (p q : Reading T A) 
       next_unless u [] h = h
       next_unless u (a ∷ r) h = h
 
-  unless_bad : (b : Bool) (w r : List T) (e : Rule) → within g (code (head_of w)) ≡ b → cond b (p w) (q w) ≡ Err (e, r) → (u : List T) × (w ≡ u ++ r) × (either s (unless (λ h. within g (code h)) t)).begins u × At (either s (unless (λ h. within g (code h)) t)) e u r
+  unless_bad : (b : Bool) (w r : List T) (e : Rule) → within g (code (head_of w)) ≡ b → cond b (p w) (q w) ≡ Err (e, r) → (u : List T) × (w ≡ u ++ r)
+      × (either s (unless (λ h. within g (code h)) t)).begins u × At (either s (unless (λ h. within g (code h)) t)) e u r
   unless_bad true w r x b e = let d = first.bad w r x e in (d.0, d.1, inl d.2, at_left s (unless (λ h. within g (code h)) t) x d.0 r d.3)
   unless_bad false w r x b e =
-      let d = second.bad w r x e in
-      (d.0, d.1, inr d.2, at_right s (unless (λ h. within g (code h)) t) x d.0 r (at_unless x d.0 r (λ i. subst (λ (l : List T). within g (code (head_of l)) ≡ false) (d.1 ∙ ap (λ (u : List T). u ++ r) i) b) d.3))
+      let d = second.bad w r x e in (
+        d.0,
+        d.1,
+        inr d.2,
+        at_right s (unless (λ h. within g (code h)) t) x d.0 r
+            (at_unless x d.0 r (λ i. subst (λ (l : List T). within g (code (head_of l)) ≡ false) (d.1 ∙ ap (λ (u : List T). u ++ r) i) b) d.3),
+      )
 
-  pub parses_either_unless : Parses code (read_either (λ h. within g (code h)) p q) (either s (unless (λ h. within g (code h)) t)) (either c (unless (λ h. within g (code h)) d)) N2 (union G1 G2) (union L1 L2) F
+  pub parses_either_unless : Parses code (read_either (λ h. within g (code h)) p q) (either s (unless (λ h. within g (code h)) t))
+      (either c (unless (λ h. within g (code h)) d)) N2 (union G1 G2) (union L1 L2) F
   parses_either_unless = record {
     done = λ w r x e. either_done (λ h. within g (code h)) (within g (code (head_of w))) p q s t w r x first.done second.done e;
     bad = λ w r e h. unless_bad (within g (code (head_of w))) w r e refl h;

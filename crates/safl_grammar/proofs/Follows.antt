@@ -49,19 +49,23 @@ stops_after : {T A B : Type 0} (y : Read T A) (q : A × List T → Read T B) (e 
 stops_after (Ok y) q e x v r le h s = subst (λ (y : _ × List _). Stops e (q y) r) (sym (ap (λ a. (a, y.1)) h.0 ∙ ap (λ l. (x, l)) h.1)) s
 stops_after (Err f) q e x v r le h s = inl (omega (arith, h.1))
 
-empty_both : {T A B : Type 0} (s : Syntax T A) (f : A → Syntax T B) (n1 n2 : Bool) → cond n1 n2 false ≡ false → (n1 ≡ false → (x : A) → s.derives [] x → ⊥) → (n2 ≡ false → (x : A) (z : B) → (f x).derives [] z → ⊥) → (z : B) → (follows s f).derives [] z → ⊥
+empty_both : {T A B : Type 0} (s : Syntax T A) (f : A → Syntax T B) (n1 n2 : Bool) → cond n1 n2 false ≡ false →
+    (n1 ≡ false → (x : A) → s.derives [] x → ⊥) → (n2 ≡ false → (x : A) (z : B) → (f x).derives [] z → ⊥) → (z : B) → (follows s f).derives [] z → ⊥
 empty_both {T} {A} s f n1 n2 n h1 h2 z (u, v, x, e, d1, d2) = split n1 n2 n h1 (h2x) u v e d1 d2
   where
     h2x : n2 ≡ false → (f x).derives [] z → ⊥
     h2x m d = h2 m x z d
 
-    split : (n1 n2 : Bool) → cond n1 n2 false ≡ false → (n1 ≡ false → (x : A) → s.derives [] x → ⊥) → (n2 ≡ false → (f x).derives [] z → ⊥) → (u v : List T) → [] ≡ u ++ v → s.derives u x → (f x).derives v z → ⊥
+    split : (n1 n2 : Bool) → cond n1 n2 false ≡ false → (n1 ≡ false → (x : A) → s.derives [] x → ⊥) → (n2 ≡ false → (f x).derives [] z → ⊥) →
+        (u v : List T) → [] ≡ u ++ v → s.derives u x → (f x).derives v z → ⊥
     split true n2 n h1 h2 [] [] e d1 d2 = h2 n d2
     split false n2 n h1 h2 [] [] e d1 d2 = h1 refl x d1
     split n1 n2 n h1 h2 [] (t ∷ v) e d1 d2 = absurd cc
     split n1 n2 n h1 h2 (t ∷ u) v e d1 d2 = absurd cc
 
-module _ {T A B : Type 0} (code : Option T → ℕ) (p : Reading T A) (s c : Syntax T A) (N1 : Bool) (G1 L1 F1 : Set) (q : A → Reading T B) (f g : A → Syntax T B) (N2 : Bool) (G2 L2 F : Set) (first : Parses code p s c N1 G1 L1 F1) (second : (x : A) → Parses code (q x) (f x) (g x) N2 G2 L2 F) (in_follow : subset (union_if N2 G2 F) F1 ≡ true) (in_open : subset L2 F1 ≡ true) where
+module _ {T A B : Type 0} (code : Option T → ℕ) (p : Reading T A) (s c : Syntax T A) (N1 : Bool) (G1 L1 F1 : Set) (q : A → Reading T B)
+    (f g : A → Syntax T B) (N2 : Bool) (G2 L2 F : Set) (first : Parses code p s c N1 G1 L1 F1)
+    (second : (x : A) → Parses code (q x) (f x) (g x) N2 G2 L2 F) (in_follow : subset (union_if N2 G2 F) F1 ≡ true) (in_open : subset L2 F1 ≡ true) where
   follow_here : (x : A) (z : B) (v r : List T) → (g x).derives v z → within F (code (head_of r)) ≡ true → within F1 (code (head_of (v ++ r))) ≡ true
   follow_here x z [] r d h = subset_within (union_if N2 G2 F) F1 (code (head_of r)) in_follow (if_second N2 G2 F (code (head_of r)) (can_end N2 ((second x).solid)) h)
     where
@@ -121,7 +125,9 @@ module _ {T A B : Type 0} (code : Option T → ℕ) (p : Reading T A) (s c : Syn
   then_limit e w r (inl l) = stops_then (p (w ++ r)) (λ y. q y.0 y.1) e r (first.limit e w r l)
   then_limit e w r (inr (u, v, x, i, d, l)) =
       let one = first.ends u (v ++ r) x d (follow_limit x e v r l) in
-      subst (λ (w : List T). Stops e (read_follows p q (w ++ r)) r) (sym i) (grouped u v r (λ y. Stops e y r) (stops_after (p (u ++ (v ++ r))) (λ y. q y.0 y.1) e x (v ++ r) r (omega (arith, length-append v r)) one ((second x).limit e v r l)))
+      subst (λ (w : List T). Stops e (read_follows p q (w ++ r)) r) (sym i)
+      (grouped u v r (λ y. Stops e y r) (stops_after (p (u ++ (v ++ r))) (λ y. q y.0 y.1) e x (v ++ r) r (omega (arith, length-append v r)) one
+      ((second x).limit e v r l)))
 
   -- where the first has no token, the second one's begin the whole
   lead_second : (x : A) (u v : List T) (h : Option T) → c.derives u x → within G2 (code (lead v h)) ≡ true → within (union_if N1 G1 G2) (code (lead (u ++ v) h)) ≡ true
@@ -155,7 +161,8 @@ module _ {T A B : Type 0} (code : Option T → ℕ) (p : Reading T A) (s c : Syn
       split : (u v : List T) → t ∷ w ≡ u ++ v → c.derives u x → (g x).passes e v h → within (union_if N1 G1 G2) (code (Some t)) ≡ true
       split [] [] i d l = absurd cc
       split [] (t' ∷ v) i d l = subst (λ (l : List T). within (union_if N1 G1 G2) (code (lead l None)) ≡ true) (sym i) (lead_second x [] (t' ∷ v) None d ((second x).limits e t' v h l))
-      split (t' ∷ u) v i d l = subst (λ (l : List T). within (union_if N1 G1 G2) (code (lead l None)) ≡ true) (sym i) (if_first N1 G1 G2 (code (Some t')) (first.starts t' u (first.whole (t' ∷ u) x d)))
+      split (t' ∷ u) v i d l = subst (λ (l : List T). within (union_if N1 G1 G2) (code (lead l None)) ≡ true) (sym i)
+          (if_first N1 G1 G2 (code (Some t')) (first.starts t' u (first.whole (t' ∷ u) x d)))
 
   then_opens : (e : Rule) (h : Option T) → (follows c g).passes e [] h → within (union_if N1 L1 L2) (code h) ≡ true
   then_opens e h (inl l) = if_first N1 L1 L2 (code h) (first.opens e h l)

@@ -8,7 +8,8 @@ use Rattle.safl_grammar.proofs.Parses.{Parses, At, Past, Stops, fault, err_parts
 at_begin : {T A : Type 0} (s : Syntax T A) (e : Rule) (r : List T) → Deep ≡ e → At (below s) e [] r
 at_begin s e r i = subst (λ (e : Rule). At (below s) e [] r) i (refl, refl)
 
-module _ {T A : Type 0} (code : Option T → ℕ) (s : Syntax T A) (empty : s.begins []) (covered : (u : List T) (x : A) → s.derives u x → s.begins u) (shorter : (u v : List T) → s.begins (u ++ v) → s.begins u) (firm : (x : A) → s.derives [] x → ⊥) where
+module _ {T A : Type 0} (code : Option T → ℕ) (s : Syntax T A) (empty : s.begins []) (covered : (u : List T) (x : A) → s.derives u x → s.begins u)
+    (shorter : (u v : List T) → s.begins (u ++ v) → s.begins u) (firm : (x : A) → s.derives [] x → ⊥) where
   is_bad : (w r : List T) (e : Rule) → fault {T = T} {A = A} Deep w ≡ Err (e, r) → (u : List T) × (w ≡ u ++ r) × s.begins u × At (below s) e u r
   is_bad w r e h = let p = err_parts {T = T} {A = A} Deep e w r h in ([], p.1, empty, at_begin s e r p.0)
 
@@ -72,7 +73,8 @@ parses_high {T} {A} code p s c N G L F h = record {
 }
 
 -- sound for one syntax and complete for another
-pub parses_mix : {T A : Type 0} {code : Option T → ℕ} {p : Reading T A} {s t c d : Syntax T A} {N : Bool} {G L F : Set} → Parses code p s d N G L F → Parses code p t c N G L F → Parses code p s c N G L F
+pub parses_mix : {T A : Type 0} {code : Option T → ℕ} {p : Reading T A} {s t c d : Syntax T A} {N : Bool} {G L F : Set} → Parses code p s d N G L F →
+    Parses code p t c N G L F → Parses code p s c N G L F
 parses_mix h k = record {
   done = h.done;
   bad = h.bad;

@@ -1,5 +1,6 @@
 -- Any number of turns.
-use Rattle.std.proofs.Common.{◌≡◌, ℕ, zero, suc, ◌≤◌, ◌<◌, Bool, true, false, cond, List, [], ◌∷◌, ◌++◌, length, Option, Ok, Err, refl, sym, ap, subst, ◌∙◌, inl, inr, append_assoc, length-append, arith}
+use Rattle.std.proofs.Common.{◌≡◌, ℕ, zero, suc, ◌≤◌, ◌<◌, Bool, true, false, cond, List, [], ◌∷◌, ◌++◌, length, Option, Ok, Err, refl, sym, ap}
+use Rattle.std.proofs.Common.{subst, ◌∙◌, inl, inr, append_assoc, length-append, arith}
 use Rattle.safl_grammar.specs.Sets.{Set, Only, within, subset, apart, union}
 use Rattle.safl_grammar.specs.Syntax.{Rule, Deep, Unexpected, Range, Syntax, nothing, follows, either, turns, many}
 use Rattle.safl_grammar.specs.Reading.{Read, Reading, ◌>>=◌, head_of, read_nothing, read_follows, read_either, read_turns, read_many}
@@ -18,12 +19,16 @@ module _ {T A : Type 0} (test : Option T → Bool) (go : A → Reading T A) (eat
   enough zero j a w h i = absurd (omega arith)
   enough (suc k) zero a w h i = absurd (omega arith)
   enough (suc k) (suc j) a w h i =
-      ap (λ (z : Read T A). cond (test (head_of w)) z (Ok (a, w))) (bind_same (go a w) (λ x. read_turns k test go x.0 x.1) (λ x. read_turns j test go x.0 x.1) (λ x e. let lt = eats a w x.1 x.0 e in enough k j x.0 x.1 (omega arith) (omega arith)))
+      ap (λ (z : Read T A). cond (test (head_of w)) z (Ok (a, w)))
+      (bind_same (go a w) (λ x. read_turns k test go x.0 x.1) (λ x. read_turns j test go x.0 x.1)
+      (λ x e. let lt = eats a w x.1 x.0 e in enough k j x.0 x.1 (omega arith) (omega arith)))
 
   pub many_step : (a : A) (w : List T) → read_many test go a w ≡ read_either test (read_follows (go a) (read_many test go)) (read_nothing a) w
   unfolding read_many
   many_step a w =
-      ap (λ (z : Read T A). cond (test (head_of w)) z (Ok (a, w))) (bind_same (go a w) (λ x. read_turns (length w) test go x.0 x.1) (λ x. read_turns (suc (length x.1)) test go x.0 x.1) (λ x e. let lt = eats a w x.1 x.0 e in enough (length w) (suc (length x.1)) x.0 x.1 (omega arith) (omega arith)))
+      ap (λ (z : Read T A). cond (test (head_of w)) z (Ok (a, w)))
+      (bind_same (go a w) (λ x. read_turns (length w) test go x.0 x.1) (λ x. read_turns (suc (length x.1)) test go x.0 x.1)
+      (λ x e. let lt = eats a w x.1 x.0 e in enough (length w) (suc (length x.1)) x.0 x.1 (omega arith) (omega arith)))
 
 join : {T : Type 0} (w u1 m u2 r : List T) → w ≡ u1 ++ m → m ≡ u2 ++ r → w ≡ (u1 ++ u2) ++ r
 join w u1 m u2 r e f = e ∙ ap (λ (l : List _). u1 ++ l) f ∙ sym (append_assoc u1 u2 r)
@@ -36,7 +41,9 @@ Bad {T} {A} p s = (w r : List T) (e : Rule) → p w ≡ Err (e, r) → (u : List
 
 -- ---- what is read is there
 
-turn_done : {T A : Type 0} (p : Reading T A) (b : Bool) (s : Syntax T A) (f : A → Syntax T A) (a : A) (q : A → Reading T A) → Done p s → ((x : A) → Done (q x) (f x)) → (w r : List T) (x : A) → cond b (p w >>= λ y. q y.0 y.1) (Ok (a, w)) ≡ Ok (x, r) → (u : List T) × (w ≡ u ++ r) × (either (follows s f) (nothing a)).derives u x
+turn_done : {T A : Type 0} (p : Reading T A) (b : Bool) (s : Syntax T A) (f : A → Syntax T A) (a : A) (q : A → Reading T A) → Done p s →
+    ((x : A) → Done (q x) (f x)) → (w r : List T) (x : A) → cond b (p w >>= λ y. q y.0 y.1) (Ok (a, w)) ≡ Ok (x, r) → (u : List T) × (w ≡ u ++ r) ×
+    (either (follows s f) (nothing a)).derives u x
 turn_done p true s f a q done next w r x e =
     let b = bind_ok (p w) (λ y. q y.0 y.1) (x, r) e in
     let d1 = done w b.0.1 b.0.0 b.1 in
@@ -44,14 +51,21 @@ turn_done p true s f a q done next w r x e =
     (d1.0 ++ d2.0, join w d1.0 b.0.1 d2.0 r d1.1 d2.1, inl (d1.0, d2.0, b.0.0, refl, d1.2, d2.2))
 turn_done p false s f a q done next w r x e = let k = ok_parts a x w r e in ([], k.1, inr (refl, k.0))
 
-turn_bad : {T A : Type 0} (p : Reading T A) (b : Bool) (s : Syntax T A) (f : A → Syntax T A) (a : A) (q : A → Reading T A) → Done p s → Bad p s → ((x : A) → Bad (q x) (f x)) → (w r : List T) (e : Rule) → cond b (p w >>= λ y. q y.0 y.1) (Ok (a, w)) ≡ Err (e, r) → (u : List T) × (w ≡ u ++ r) × (either (follows s f) (nothing a)).begins u × At (either (follows s f) (nothing a)) e u r
+turn_bad : {T A : Type 0} (p : Reading T A) (b : Bool) (s : Syntax T A) (f : A → Syntax T A) (a : A) (q : A → Reading T A) → Done p s → Bad p s →
+    ((x : A) → Bad (q x) (f x)) → (w r : List T) (e : Rule) → cond b (p w >>= λ y. q y.0 y.1) (Ok (a, w)) ≡ Err (e, r) → (u : List T) × (w ≡ u ++ r) ×
+    (either (follows s f) (nothing a)).begins u × At (either (follows s f) (nothing a)) e u r
 turn_bad p true s f a q done bad next w r e h =
     elim (bind_err (p w) (λ y. q y.0 y.1) (e, r) h) [
       | inl b ↦ let d = bad w r e b in (d.0, d.1, inl (inl d.2), at_left (follows s f) (nothing a) e d.0 r (at_first s f e d.0 r d.3))
       | inr b ↦
           let d1 = done w b.0.1 b.0.0 b.1 in
-          let d2 = next b.0.0 b.0.1 r e b.2 in
-          (d1.0 ++ d2.0, join w d1.0 b.0.1 d2.0 r d1.1 d2.1, inl (inr (d1.0, d2.0, b.0.0, refl, d1.2, d2.2)), at_left (follows s f) (nothing a) e (d1.0 ++ d2.0) r (at_second s f b.0.0 e d1.0 d2.0 r d1.2 d2.3))
+          let d2 = next b.0.0 b.0.1 r e b.2 in (
+            d1.0 ++ d2.0,
+            join w d1.0 b.0.1 d2.0 r d1.1 d2.1,
+            inl (inr (d1.0, d2.0, b.0.0, refl, d1.2, d2.2)),
+            at_left (follows s f) (nothing a) e
+                (d1.0 ++ d2.0) r (at_second s f b.0.0 e d1.0 d2.0 r d1.2 d2.3),
+          )
     ]
 turn_bad p false s f a q done bad next w r e h = absurd cc
 
@@ -81,12 +95,15 @@ module _ {T A : Type 0} (test : Option T → Bool) (go : A → Reading T A) (ste
   unfolding read_many
   many_bad a w r e h = let d = turns_bad (suc (length w)) a w r e h in (d.0, d.1, (suc (length w), d.2), at_many (suc (length w)) a e d.0 r d.3)
 
-turns_covered : {T A : Type 0} (step : A → Syntax T A) → ((a : A) (u : List T) (x : A) → (step a).derives u x → (step a).begins u) → (k : ℕ) (a : A) (u : List T) (x : A) → (turns k step a).derives u x → (turns k step a).begins u
+turns_covered : {T A : Type 0} (step : A → Syntax T A) → ((a : A) (u : List T) (x : A) → (step a).derives u x → (step a).begins u) → (k : ℕ) (a : A)
+    (u : List T) (x : A) → (turns k step a).derives u x → (turns k step a).begins u
 turns_covered step h zero a u x d = d.0
 turns_covered step h (suc k) a u x (inl (v, w, y, e, d1, d2)) = inl (inr (v, w, y, e, d1, turns_covered step h k y w x d2))
 turns_covered step h (suc k) a u x (inr d) = inr d.0
 
-turns_shorter : {T A : Type 0} (step : A → Syntax T A) → ((a : A) (u : List T) (x : A) → (step a).derives u x → (step a).begins u) → ((a : A) (u v : List T) → (step a).begins (u ++ v) → (step a).begins u) → (k : ℕ) (a : A) (u v : List T) → (turns k step a).begins (u ++ v) → (turns k step a).begins u
+turns_shorter : {T A : Type 0} (step : A → Syntax T A) → ((a : A) (u : List T) (x : A) → (step a).derives u x → (step a).begins u) →
+    ((a : A) (u v : List T) → (step a).begins (u ++ v) → (step a).begins u) → (k : ℕ) (a : A) (u v : List T) → (turns k step a).begins (u ++ v) →
+    (turns k step a).begins u
 turns_shorter step g h zero a u v e = nil_front u v e
 turns_shorter step g h (suc k) a u v (inl (inl b)) = inl (inl (h a u v b))
 turns_shorter step g h (suc k) a u v (inl (inr (p, q, y, e, d, b))) =
@@ -97,7 +114,9 @@ turns_shorter step g h (suc k) a u v (inl (inr (p, q, y, e, d, b))) =
 turns_shorter step g h (suc k) a u v (inr e) = inr (nil_front u v e)
 
 -- the same reading under another name
-pub parses_as : {T A : Type 0} (code : Option T → ℕ) (p p' : Reading T A) (s s' c : Syntax T A) (N : Bool) (G L F : Set) → ((w : List T) → p' w ≡ p w) → Done p' s' → Bad p' s' → s'.begins [] → ((u : List T) (x : A) → s'.derives u x → s'.begins u) → ((u v : List T) → s'.begins (u ++ v) → s'.begins u) → (N ≡ false → (x : A) → s'.derives [] x → ⊥) → Parses code p s c N G L F → Parses code p' s' c N G L F
+pub parses_as : {T A : Type 0} (code : Option T → ℕ) (p p' : Reading T A) (s s' c : Syntax T A) (N : Bool) (G L F : Set) → ((w : List T) → p' w ≡ p w)
+    → Done p' s' → Bad p' s' → s'.begins [] → ((u : List T) (x : A) → s'.derives u x → s'.begins u) →
+    ((u v : List T) → s'.begins (u ++ v) → s'.begins u) → (N ≡ false → (x : A) → s'.derives [] x → ⊥) → Parses code p s c N G L F → Parses code p' s' c N G L F
 parses_as code p p' s s' c N G L F same done bad empty covered shorter firm h = record {
   done = done;
   bad = bad;
@@ -115,7 +134,10 @@ parses_as code p p' s s' c N G L F same done bad empty covered shorter firm h = 
   limit = λ e u r l. subst (λ (y : Read _ _). Stops e y r) (sym (same (u ++ r))) (h.limit e u r l);
 }
 
-module _ {T A : Type 0} (code : Option T → ℕ) (g : Set) (go : A → Reading T A) (sstep cstep : A → Syntax T A) (G L F1 G' L' F : Set) (each : (a : A) → Parses code (go a) (sstep a) (cstep a) false G L F1) (in_follow : subset (union G' F) F1 ≡ true) (in_open : subset L' F1 ≡ true) (in_test : subset G g ≡ true) (open_test : subset L g ≡ true) (others : apart (union (Only []) F) g ≡ true) (apart_f : apart F g ≡ true) (more : subset (union G (Only [])) G' ≡ true) (opening : subset (union L (Only [])) L' ≡ true) (less : subset F F ≡ true) where
+module _ {T A : Type 0} (code : Option T → ℕ) (g : Set) (go : A → Reading T A) (sstep cstep : A → Syntax T A) (G L F1 G' L' F : Set)
+    (each : (a : A) → Parses code (go a) (sstep a) (cstep a) false G L F1) (in_follow : subset (union G' F) F1 ≡ true) (in_open : subset L' F1 ≡ true)
+    (in_test : subset G g ≡ true) (open_test : subset L g ≡ true) (others : apart (union (Only []) F) g ≡ true) (apart_f : apart F g ≡ true)
+    (more : subset (union G (Only [])) G' ≡ true) (opening : subset (union L (Only [])) L' ≡ true) (less : subset F F ≡ true) where
   many_eats : (a : A) (w r : List T) (x : A) → go a w ≡ Ok (x, r) → length r < length w
   many_eats a w r x e = let d = (each a).done w r x e in longer d.0 d.1 d.2
     where
@@ -162,16 +184,23 @@ module _ {T A : Type 0} (code : Option T → ℕ) (g : Set) (go : A → Reading 
     limits = λ e t u h l. absurd l;
     opens = λ e h l. absurd l;
     ends = λ u r x d f. subst (λ (y : Read T A). Ends y x r) (sym (ap (λ (l : List T). read_many (λ h. within g (code h)) go a (l ++ r)) d.0 ∙ none_ends a r f)) (d.1, refl);
-    past = λ u r b. subst (λ (l : List T). Past (read_many (λ h. within g (code h)) go a (l ++ r)) r) (sym b) (past_left (read_many (λ h. within g (code h)) go a r) r (small_many a r (read_many (λ h. within g (code h)) go a r) refl));
+    past = λ u r b. subst (λ (l : List T). Past (read_many (λ h. within g (code h)) go a (l ++ r)) r) (sym b)
+        (past_left (read_many (λ h. within g (code h)) go a r) r (small_many a r (read_many (λ h. within g (code h)) go a r) refl));
     limit = λ e u r l. absurd l;
   }
 
   parses_turns : (k : ℕ) (a : A) → Parses code (read_many (λ h. within g (code h)) go a) (many sstep a) (turns k cstep a) true G' L' F
   parses_turns zero a = no_turn a
   parses_turns (suc k) a =
-      let turn = parses_follows code (go a) (sstep a) (cstep a) false G L F1 (read_many (λ h. within g (code h)) go) (many sstep) (turns k cstep) true G' L' F (each a) (parses_turns k) in_follow in_open in
-      let or_none = parses_either code g (read_follows (go a) (read_many (λ h. within g (code h)) go)) (read_nothing a) (follows (sstep a) (many sstep)) (follows (cstep a) (turns k cstep)) G L F (nothing a) (nothing a) true (Only []) (Only []) turn (parses_nothing code a F) in_test open_test others refl in
-      parses_as code (read_either (λ h. within g (code h)) (read_follows (go a) (read_many (λ h. within g (code h)) go)) (read_nothing a)) (read_many (λ h. within g (code h)) go a) (either (follows (sstep a) (many sstep)) (nothing a)) (many sstep a) (turns (suc k) cstep a) true G' L' F (many_step (λ h. within g (code h)) go many_eats a) (is_done a) (is_bad a) (many_empty a) (is_covered a) (is_shorter a) (λ e. absurd cc) (parses_within code _ _ _ true (union G (Only [])) (union L (Only [])) F G' L' F more opening less or_none)
+      let turn = parses_follows code (go a) (sstep a) (cstep a) false G L F1 (read_many (λ h. within g (code h)) go) (many sstep) (turns k cstep) true
+      G' L' F (each a) (parses_turns k) in_follow in_open in
+      let or_none = parses_either code g (read_follows (go a) (read_many (λ h. within g (code h)) go)) (read_nothing a)
+      (follows (sstep a) (many sstep)) (follows (cstep a) (turns k cstep)) G L F (nothing a) (nothing a) true (Only []) (Only []) turn
+      (parses_nothing code a F) in_test open_test others refl in
+      parses_as code (read_either (λ h. within g (code h)) (read_follows (go a) (read_many (λ h. within g (code h)) go)) (read_nothing a))
+      (read_many (λ h. within g (code h)) go a) (either (follows (sstep a) (many sstep)) (nothing a)) (many sstep a) (turns (suc k) cstep a) true
+      G' L' F (many_step (λ h. within g (code h)) go many_eats a) (is_done a) (is_bad a) (many_empty a) (is_covered a) (is_shorter a)
+      (λ e. absurd cc) (parses_within code _ _ _ true (union G (Only [])) (union L (Only [])) F G' L' F more opening less or_none)
 
   pub parses_many : (a : A) → Parses code (read_many (λ h. within g (code h)) go a) (many sstep a) (many cstep a) true G' L' F
   parses_many a = record {
@@ -193,7 +222,9 @@ module _ {T A : Type 0} (code : Option T → ℕ) (g : Set) (go : A → Reading 
 
 -- ---- a loop over the turns
 
-module _ {T A : Type 0} (test : Option T → Bool) (go : A → Reading T A) (eats : (a : A) (w r : List T) (x : A) → go a w ≡ Ok (x, r) → length r < length w) (a : A) (w : List T) (total : Read T A) (so_far : read_many test go a w ≡ total) where
+module _ {T A : Type 0} (test : Option T → Bool) (go : A → Reading T A)
+    (eats : (a : A) (w r : List T) (x : A) → go a w ≡ Ok (x, r) → length r < length w) (a : A) (w : List T) (total : Read T A)
+    (so_far : read_many test go a w ≡ total) where
   unrolled : total ≡ cond (test (head_of w)) (go a w >>= λ y. read_many test go y.0 y.1) (Ok (a, w))
   unrolled = sym so_far ∙ many_step test go eats a w
 

@@ -118,7 +118,8 @@ abbrev pub left : {T A : Type 0} → Read T A → List T
 left (Ok y) = y.1
 left (Err f) = f.1
 
-pub shrinks : {T A : Type 0} (code : Option T → ℕ) (p : Reading T A) (s c : Syntax T A) (N : Bool) (G L F : Set) → Parses code p s c N G L F → (w : List T) (y : Read T A) → p w ≡ y → length (left y) ≤ length w
+pub shrinks : {T A : Type 0} (code : Option T → ℕ) (p : Reading T A) (s c : Syntax T A) (N : Bool) (G L F : Set) → Parses code p s c N G L F →
+    (w : List T) (y : Read T A) → p w ≡ y → length (left y) ≤ length w
 shrinks code p s c N G L F h w (Ok y) e = let d = h.done w y.1 y.0 e in omega (arith, ap length d.1, length-append d.0 y.1)
 shrinks code p s c N G L F h w (Err f) e = let d = h.bad w f.1 f.0 e in omega (arith, ap length d.1, length-append d.0 f.1)
 
@@ -189,7 +190,8 @@ pub ok_past : {T A : Type 0} (y : Read T A) (x : A) (r : List T) → y ≡ Ok (x
 ok_past y x r e = subst (λ (y : Read _ _). Past y r) (sym e) (omega arith)
 
 -- what begins it may be said to be more, and what comes after it less
-pub parses_within : {T A : Type 0} (code : Option T → ℕ) (p : Reading T A) (s c : Syntax T A) (N : Bool) (G L F G' L' F' : Set) → subset G G' ≡ true → subset L L' ≡ true → subset F' F ≡ true → Parses code p s c N G L F → Parses code p s c N G' L' F'
+pub parses_within : {T A : Type 0} (code : Option T → ℕ) (p : Reading T A) (s c : Syntax T A) (N : Bool) (G L F G' L' F' : Set) → subset G G' ≡ true →
+    subset L L' ≡ true → subset F' F ≡ true → Parses code p s c N G L F → Parses code p s c N G' L' F'
 parses_within code p s c N G L F G' L' F' more opening less h = record {
   done = h.done;
   bad = h.bad;

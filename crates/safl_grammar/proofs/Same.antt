@@ -21,7 +21,8 @@ same_at s t m Range u [] h = absurd h.1
 same_at s t m Range u (a ∷ r) h = ((m.passes Range u (Some a)).0 h.0, (m.begins (u ++ a ∷ [])).0 h.1)
 
 -- a reading of the one is a reading of the other
-pub parses_same : {T A : Type 0} {code : Option T → ℕ} {p : Reading T A} {s c : Syntax T A} {N : Bool} {G L F : Set} (s' c' : Syntax T A) → Parses code p s c N G L F → Same s s' → Same c c' → Parses code p s' c' N G L F
+pub parses_same : {T A : Type 0} {code : Option T → ℕ} {p : Reading T A} {s c : Syntax T A} {N : Bool} {G L F : Set} (s' c' : Syntax T A) → Parses
+    code p s c N G L F → Same s s' → Same c c' → Parses code p s' c' N G L F
 parses_same {s = s} {c = c} s' c' h m n = record {
   done = λ w r x e. let d = h.done w r x e in (d.0, d.1, (m.derives d.0 x).0 d.2);
   bad = λ w r e i. let d = h.bad w r e i in (d.0, d.1, (m.begins d.0).0 d.2, same_at s s' m e d.0 r d.3);

@@ -66,7 +66,8 @@ turns_left : {T A : Type 0} (g : Option T → Bool) (go : A → Reading T A) →
 turns_left g go h zero a w r x e = let p = ok_parts a x w r e in omega (arith, ap length p.1)
 turns_left {T} {A} g go h (suc k) a w r x e = turn (g (head_of w)) (λ y. turns_left g go h k y.0 y.1 r x) e
   where
-    turn : (b : Bool) → ((y : A × List T) → read_turns k g go y.0 y.1 ≡ Ok (x, r) → length r ≤ length y.1) → cond b (go a w >>= λ y. read_turns k g go y.0 y.1) (Ok (a, w)) ≡ Ok (x, r) → length r ≤ length w
+    turn : (b : Bool) → ((y : A × List T) → read_turns k g go y.0 y.1 ≡ Ok (x, r) → length r ≤ length y.1) → cond b
+        (go a w >>= λ y. read_turns k g go y.0 y.1) (Ok (a, w)) ≡ Ok (x, r) → length r ≤ length w
     turn true f e =
         let b = bind_ok (go a w) (λ y. read_turns k g go y.0 y.1) (x, r) e in
         let n = (h a).left w b.0.1 b.0.0 b.1 in

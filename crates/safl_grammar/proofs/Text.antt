@@ -8,7 +8,8 @@ use Rattle.safl_grammar.specs.Reading.{Read, Reading, ◌>>=◌, head_of}
 use Rattle.safl_grammar.specs.Text.{Begins, Breaks, Spells, Faults, order_of, at_end, read_whole}
 use Rattle.safl_grammar.proofs.Parses.{Parses, At, Next, IsLimit, Ends, Past, Stops, rank, value, fault, ok_parts, err_parts, bind_ok, bind_err, cuts}
 
-module _ {T A : Type 0} (code : Option T → ℕ) (p : Reading T A) (grammar : ℕ → Syntax T A) (k : ℕ) (N : Bool) (G L F : Set) (parses : (n : ℕ) → Parses code p (grammar k) (grammar n) N G L F) (ends_text : within F (code None) ≡ true) where
+module _ {T A : Type 0} (code : Option T → ℕ) (p : Reading T A) (grammar : ℕ → Syntax T A) (k : ℕ) (N : Bool) (G L F : Set)
+    (parses : (n : ℕ) → Parses code p (grammar k) (grammar n) N G L F) (ends_text : within F (code None) ≡ true) where
   whole : (w : List T) → w ++ [] ≡ w
   whole w = append-nil w
 
@@ -129,7 +130,9 @@ module _ {T A : Type 0} (code : Option T → ℕ) (p : Reading T A) (grammar : �
       longer (x ∷ []) j = equal (omega (arith, ap length j, length-append u' (t ∷ []), length-append u (x ∷ [])))
       longer (x ∷ y ∷ z) j = inl (omega (arith, ap length j, length-append u' (t ∷ []), length-append u (x ∷ y ∷ z)))
 
-  no_later : (e : Rule) (w u r : List T) → w ≡ u ++ r → (grammar k).begins u → At (grammar k) e u r → ((d : Rule) (u' v : List T) (n : ℕ) → w ≡ u' ++ v → (grammar n).passes d u' (head_of v) → NoLater u e d u') → (d : Rule) (u' v : List T) → w ≡ u' ++ v → Breaks grammar d u' v → NoLater u e d u'
+  no_later : (e : Rule) (w u r : List T) → w ≡ u ++ r → (grammar k).begins u → At (grammar k) e u r →
+      ((d : Rule) (u' v : List T) (n : ℕ) → w ≡ u' ++ v → (grammar n).passes d u' (head_of v) → NoLater u e d u') → (d : Rule) (u' v : List T) → w ≡
+      u' ++ v → Breaks grammar d u' v → NoLater u e d u'
   no_later e w u r i b a lim Deep u' v j h = lim Deep u' v h.0 j h.1
   no_later e w u r i b a lim Range u' v j h = lim Range u' v h.0 j h.1
   no_later e w u r i b a lim Unexpected u' [] j h = after_end e w u r u' i j a
@@ -176,7 +179,11 @@ module _ {T A : Type 0} (code : Option T → ℕ) (p : Reading T A) (grammar : �
   never_breaks w x s d Deep u v i b = s.kept Deep u v i b.0 b.1
   never_breaks w x s d Range u v i b = s.kept Range u v i b.0 b.1
   never_breaks w x s d Unexpected u [] i b = b x (k, subst (λ (l : List T). (grammar k).derives l x) (i ∙ whole u) d)
-  never_breaks w x s d Unexpected u (t ∷ v) i b = b (k, (parses k).shorter (u ++ t ∷ []) v (subst (λ (l : List T). (grammar k).begins l) (i ∙ sym (append_assoc u (t ∷ []) v)) ((parses k).covered w x d)))
+  never_breaks w x s d Unexpected u (t ∷ v) i b = b (
+    k,
+    (parses k).shorter (u ++ t ∷ []) v
+        (subst (λ (l : List T). (grammar k).begins l) (i ∙ sym (append_assoc u (t ∷ []) v)) ((parses k).covered w x d)),
+  )
 
   derived_here : (w : List T) (x : A) → Spells grammar w x → (grammar k).derives w x
   derived_here w x s =

@@ -3,7 +3,8 @@ use Rattle.std.proofs.Common.{◌≡◌, ℕ, ◌≤◌, Bool, true, false, cond
 use Rattle.safl_grammar.specs.Sets.{Set, Every, Only, within}
 use Rattle.safl_grammar.specs.Syntax.{Rule, Deep, Unexpected, Range, Syntax, token, limited}
 use Rattle.safl_grammar.specs.Reading.{Read, ◌>>=◌, head_of, taken, checked, read_token, read_limited}
-use Rattle.safl_grammar.proofs.Parses.{Parses, At, IsLimit, Ends, NotBefore, Past, rank, Stops, value, fault, ok_parts, err_parts, bind_ok, bind_err, taken_ok, taken_bad, token_ends, token_begins, token_shorter, ok_ends, ok_past, left, past_left}
+use Rattle.safl_grammar.proofs.Parses.{Parses, At, IsLimit, Ends, NotBefore, Past, rank, Stops, value, fault, ok_parts, err_parts, bind_ok, bind_err}
+use Rattle.safl_grammar.proofs.Parses.{taken_ok, taken_bad, token_ends, token_begins, token_shorter, ok_ends, ok_past, left, past_left}
 
 token_done : {T A : Type 0} (class : T → Option A) (w r : List T) (x : A) → read_token class w ≡ Ok (x, r) → (u : List T) × (w ≡ u ++ r) × (token class).derives u x
 token_done class [] r x e = absurd cc
@@ -27,7 +28,8 @@ token_past class u r (inl e) =
     subst (λ (u : List _). Past (read_token class (u ++ r)) r) (sym e) (past_left (read_token class r) r (token_left class r (read_token class r) refl))
 token_past class u r (inr (t, x, e, c)) = ok_past (read_token class (u ++ r)) x r (token_ends class u r x (t, e, c))
 
-pub parses_token : {T A : Type 0} (code : Option T → ℕ) (class : T → Option A) (G : Set) → ((t : T) (x : A) → class t ≡ Some x → within G (code (Some t)) ≡ true) → Parses code (read_token class) (token class) (token class) false G (Only []) Every
+pub parses_token : {T A : Type 0} (code : Option T → ℕ) (class : T → Option A) (G : Set) →
+    ((t : T) (x : A) → class t ≡ Some x → within G (code (Some t)) ≡ true) → Parses code (read_token class) (token class) (token class) false G (Only []) Every
 parses_token {T} {A} code class G g = record {
   done = λ w r x e. token_done class w r x e;
   bad = λ w r e h. let p = token_bad class w r e h in ([], p.1, inl refl, at_unexpected (token class) e [] r p.0);
@@ -51,11 +53,13 @@ checked_ok : {T A : Type 0} (b : Bool) (rule : Rule) (x : A × List T) (all : Li
 checked_ok true rule x all y r e = ok_parts x.0 y x.1 r e
 checked_ok false rule x all y r e = absurd cc
 
-checked_bad : {T A : Type 0} (b : Bool) (rule : Rule) (x : A × List T) (all : List T) (e : Rule) (r : List T) → cond b (Ok x) (Err (rule, all)) ≡ fault {T = T} {A = A} e r → (b ≡ false) × (rule ≡ e) × (all ≡ r)
+checked_bad : {T A : Type 0} (b : Bool) (rule : Rule) (x : A × List T) (all : List T) (e : Rule) (r : List T) → cond b (Ok x) (Err (rule, all)) ≡
+    fault {T = T} {A = A} e r → (b ≡ false) × (rule ≡ e) × (all ≡ r)
 checked_bad true rule x all e r h = absurd cc
 checked_bad {T} {A} false rule x all e r h = let p = err_parts {T = T} {A = A} rule e all r h in (refl, p.0, p.1)
 
-module _ {T A : Type 0} (code : Option T → ℕ) (rule : Rule) (is_limit : IsLimit rule) (fits : A → Bool) (class : T → Option A) (G : Set) (g : (t : T) (x : A) → class t ≡ Some x → within G (code (Some t)) ≡ true) where
+module _ {T A : Type 0} (code : Option T → ℕ) (rule : Rule) (is_limit : IsLimit rule) (fits : A → Bool) (class : T → Option A) (G : Set)
+    (g : (t : T) (x : A) → class t ≡ Some x → within G (code (Some t)) ≡ true) where
   lim : Syntax T A
   lim = limited rule fits class
 
@@ -110,7 +114,8 @@ module _ {T A : Type 0} (code : Option T → ℕ) (rule : Rule) (is_limit : IsLi
   none_left w (Err f) e = let d = limited_bad w f.1 f.0 e in omega (arith, ap length d.1, length-append d.0 f.1)
 
   limited_past : (u r : List T) → (limited rule fits class).begins u → Past (read_limited rule fits class (u ++ r)) r
-  limited_past u r (inl e) = subst (λ (u : List T). Past (read_limited rule fits class (u ++ r)) r) (sym e) (past_left (read_limited rule fits class r) r (none_left r (read_limited rule fits class r) refl))
+  limited_past u r (inl e) = subst (λ (u : List T). Past (read_limited rule fits class (u ++ r)) r) (sym e)
+      (past_left (read_limited rule fits class r) r (none_left r (read_limited rule fits class r) refl))
   limited_past u r (inr (t, x, e, c)) = past_of (read_limited rule fits class (u ++ r)) x r (limited_ends u r x (t, e, c))
 
   stops_at : (e : Rule) (r : List T) (t : T) (x : A) → e ≡ rule → head_of r ≡ Some t → class t ≡ Some x → fits x ≡ false → Stops e (read_limited rule fits class r) r

@@ -29,7 +29,8 @@ checked_fits : {T A : Type 0} (rule : Rule) (b : Bool) (all : List T) (x : A × 
 checked_fits rule true all x y r e = let p = ok_parts x.0 y x.1 r e in (refl, p.0, p.1)
 checked_fits rule false all x y r e = absurd cc
 
-pub yields_limited : {T A : Type 0} {Q : T → Type 0} (P : A → Type 0) (rule : Rule) (fits : A → Bool) (class : T → Option A) → ((t : T) (x : A) → Q t → class t ≡ Some x → fits x ≡ true → P x) → Yields Q (read_limited rule fits class) P
+pub yields_limited : {T A : Type 0} {Q : T → Type 0} (P : A → Type 0) (rule : Rule) (fits : A → Bool) (class : T → Option A) →
+    ((t : T) (x : A) → Q t → class t ≡ Some x → fits x ≡ true → P x) → Yields Q (read_limited rule fits class) P
 yields_limited {T} {A} {Q} P rule fits class f = record {
   gives = λ w r x q e.
       let b = bind_ok (read_token class w) (checked rule fits w) (x, r) e in
@@ -38,7 +39,8 @@ yields_limited {T} {A} {Q} P rule fits class f = record {
       (subst P k.1 (h.0 k.0), subst (Each Q) k.2 h.1);
 }
 
-pub yields_follows : {T A B : Type 0} {Q : T → Type 0} {p : Reading T A} {q : A → Reading T B} {P : A → Type 0} (R : B → Type 0) → Yields Q p P → ((x : A) → P x → Yields Q (q x) R) → Yields Q (read_follows p q) R
+pub yields_follows : {T A B : Type 0} {Q : T → Type 0} {p : Reading T A} {q : A → Reading T B} {P : A → Type 0} (R : B → Type 0) → Yields Q p P →
+    ((x : A) → P x → Yields Q (q x) R) → Yields Q (read_follows p q) R
 yields_follows {p = p} {q = q} R h k = record {
   gives = λ w r x s e.
       let b = bind_ok (p w) (λ y. q y.0 y.1) (x, r) e in
@@ -46,18 +48,21 @@ yields_follows {p = p} {q = q} R h k = record {
       (k b.0.0 n.0).gives b.0.1 r x n.1 b.2;
 }
 
-either_gives : {T A : Type 0} {Q : T → Type 0} {p q : Reading T A} {P : A → Type 0} → Yields Q p P → Yields Q q P → (b : Bool) (w r : List T) (x : A) → Each Q w → cond b (p w) (q w) ≡ Ok (x, r) → P x × Each Q r
+either_gives : {T A : Type 0} {Q : T → Type 0} {p q : Reading T A} {P : A → Type 0} → Yields Q p P → Yields Q q P → (b : Bool) (w r : List T) (x : A)
+    → Each Q w → cond b (p w) (q w) ≡ Ok (x, r) → P x × Each Q r
 either_gives h k true w r x s e = h.gives w r x s e
 either_gives h k false w r x s e = k.gives w r x s e
 
 pub yields_either : {T A : Type 0} {Q : T → Type 0} (g : Option T → Bool) {p q : Reading T A} {P : A → Type 0} → Yields Q p P → Yields Q q P → Yields Q (read_either g p q) P
 yields_either g h k = record { gives = λ w r x s e. either_gives h k (g (head_of w)) w r x s e }
 
-turns_give : {T A : Type 0} {Q : T → Type 0} (g : Option T → Bool) (go : A → Reading T A) (P : A → Type 0) → ((a : A) → P a → Yields Q (go a) P) → (k : ℕ) (a : A) → P a → (w r : List T) (x : A) → Each Q w → read_turns k g go a w ≡ Ok (x, r) → P x × Each Q r
+turns_give : {T A : Type 0} {Q : T → Type 0} (g : Option T → Bool) (go : A → Reading T A) (P : A → Type 0) → ((a : A) → P a → Yields Q (go a) P) →
+    (k : ℕ) (a : A) → P a → (w r : List T) (x : A) → Each Q w → read_turns k g go a w ≡ Ok (x, r) → P x × Each Q r
 turns_give {Q = Q} g go P h zero a p w r x s e = let i = ok_parts a x w r e in (subst P i.0 p, subst (Each Q) i.1 s)
 turns_give {T} {A} {Q} g go P h (suc k) a p w r x s e = turn (g (head_of w)) (λ y i j d. turns_give g go P h k y.0 i y.1 r x j d) e
   where
-    turn : (b : Bool) → ((y : A × List T) → P y.0 → Each Q y.1 → read_turns k g go y.0 y.1 ≡ Ok (x, r) → P x × Each Q r) → cond b (go a w >>= λ y. read_turns k g go y.0 y.1) (Ok (a, w)) ≡ Ok (x, r) → P x × Each Q r
+    turn : (b : Bool) → ((y : A × List T) → P y.0 → Each Q y.1 → read_turns k g go y.0 y.1 ≡ Ok (x, r) → P x × Each Q r) → cond b
+        (go a w >>= λ y. read_turns k g go y.0 y.1) (Ok (a, w)) ≡ Ok (x, r) → P x × Each Q r
     turn true f e =
         let b = bind_ok (go a w) (λ y. read_turns k g go y.0 y.1) (x, r) e in
         let n = (h a p).gives w b.0.1 b.0.0 s b.1 in

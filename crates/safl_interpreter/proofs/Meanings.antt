@@ -229,5 +229,6 @@ applied_typed : (C : Program) → IsWellFormed C → Typed C (applied C)
 unfolding applied
 applied_typed C wf n f us v m lt h e = apply_typed C wf n n f us v m lt h e
 
-pub terms_typed : (C : Program) → IsWellFormed C → (ts : Terms) (n : ℕ) (env vs : List Word) (m : ℕ) (ws : List ℕ) → HaveWidths C (widths env) ts ws → eval_all C (applied C) ts n env ≡ Words vs m → widths vs ≡ ws
+pub terms_typed : (C : Program) → IsWellFormed C → (ts : Terms) (n : ℕ) (env vs : List Word) (m : ℕ) (ws : List ℕ) → HaveWidths C (widths env) ts ws →
+    eval_all C (applied C) ts n env ≡ Words vs m → widths vs ≡ ws
 terms_typed C wf ts n env vs m ws h e = all_typed C (applied C) (applied_typed C wf) ts n env vs m ws h e

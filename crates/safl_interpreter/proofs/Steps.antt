@@ -1,5 +1,6 @@
 -- What a term comes to, by its parts, and what is typed.
-use Rattle.std.proofs.Common.{◌≡◌, ℕ, zero, suc, ◌+◌, ◌<◌, ◌≤◌, List, [], ◌∷◌, ◌++◌, length, drop, get_or, Option, Some, Result, Ok, Err, IfOk, Vec, Global, ◌⊎◌, inl, inr, ⊎_elim, append_assoc, add-one, refl, sym, ap, ◌∙◌, subst, arith}
+use Rattle.std.proofs.Common.{◌≡◌, ℕ, zero, suc, ◌+◌, ◌<◌, ◌≤◌, List, [], ◌∷◌, ◌++◌, length, drop, get_or, Option, Some, Result, Ok, Err, IfOk, Vec}
+use Rattle.std.proofs.Common.{Global, ◌⊎◌, inl, inr, ⊎_elim, append_assoc, add-one, refl, sym, ap, ◌∙◌, subst, arith}
 use Rattle.std.proofs.lemmas.List.{get_or_read}
 use Rattle.std.proofs.lemmas.List.Sums.{sum_by-cons}
 use Rattle.std.specs.Prelude.{slice_get, IsSome, sum_by, ◌-◌}
@@ -30,7 +31,8 @@ use Rattle.safl_interpreter.proofs.Meanings.{one_call, terms_typed}
 abbrev pub call_size : ℕ
 call_size = 150001
 
-sum_from : (fs : List Function) (i k : ℕ) → 1 ≤ k → sum_by (λ (f : Function). nodes (shown_term f.body)) fs ≤ k → nodes (option_map_or (λ (f : Function). shown_term f.body) (slice_get fs i) (Const no_word)) ≤ k
+sum_from : (fs : List Function) (i k : ℕ) → 1 ≤ k → sum_by (λ (f : Function). nodes (shown_term f.body)) fs ≤ k → nodes
+    (option_map_or (λ (f : Function). shown_term f.body) (slice_get fs i) (Const no_word)) ≤ k
 sum_from [] i k one h = one
 sum_from (f ∷ fs) zero k one h = omega (arith, h, sum_by-cons (λ (g : Function). nodes (shown_term g.body)) f fs)
 sum_from (f ∷ fs) (suc i) k one h = sum_from fs i k one (omega (arith, h, sum_by-cons (λ (g : Function). nodes (shown_term g.body)) f fs))
@@ -54,7 +56,8 @@ op_by p e f = e ∙ ap (Op p) (sym f)
 abbrev pub Applies : Term → ℕ → Terms → Type 0
 Applies t f ts = ((k : ℕ) × (t ≡ Call f k ts)) ⊎ (t ≡ Loop f ts)
 
-pub applies_by : {t : declared.Term} {us : Terms} (f : ℕ) (ts : Vec declared.Term Global) → ((k : ℕ) × (t ≡ declared.Call f k ts)) ⊎ (t ≡ declared.Loop f ts) → us ≡ shown_terms ts.items → Applies (shown_term t) f us
+pub applies_by : {t : declared.Term} {us : Terms} (f : ℕ) (ts : Vec declared.Term Global) → ((k : ℕ) × (t ≡ declared.Call f k ts)) ⊎
+    (t ≡ declared.Loop f ts) → us ≡ shown_terms ts.items → Applies (shown_term t) f us
 applies_by {t} {us} f ts h g =
     ⊎_elim
     (λ p. inl (p.0, ap shown_term p.1 ∙ (shown_term-Call f p.0 ts ∙ ap (Call f p.0) (sym g))))
@@ -192,7 +195,8 @@ drop_at (x ∷ ts) zero t e = let q : x ≡ t = cc in ap (λ (y : declared.Term)
 drop_at (x ∷ ts) (suc i) t e = drop_at ts i t e
 
 module _ (C : Program) (E : List Word) (ts : List declared.Term) (i : ℕ) (t : declared.Term) (at : slice_get ts i ≡ Some t) (us : List Word) (n : ℕ) where
-  pub all_next : (v : Word) (m : ℕ) → Gave v m ≡ eval C (applied C) (shown_term t) n E → after us (eval_all C (applied C) (shown_terms (drop i ts)) n E) ≡ after (us ++ (v ∷ [])) (eval_all C (applied C) (shown_terms (drop (i + 1) ts)) m E)
+  pub all_next : (v : Word) (m : ℕ) → Gave v m ≡ eval C (applied C) (shown_term t) n E → after us
+      (eval_all C (applied C) (shown_terms (drop i ts)) n E) ≡ after (us ++ (v ∷ [])) (eval_all C (applied C) (shown_terms (drop (i + 1) ts)) m E)
   all_next v m e =
       ap (λ x. after us (eval_all C (applied C) x n E)) (drop_at ts i t at)
       ∙ (ap (λ x. after us (with_head x (λ k. eval_all C (applied C) (shown_terms (drop (suc i) ts)) k E))) (sym e)
@@ -207,7 +211,8 @@ fewer_left C m n l (Tail f us k) h = (h.0, h.1, omega (arith, l, h.2))
 fewer_left C m n l Spent h = tt
 
 -- a step of a part that is evaluated last is one of the whole
-pub step_as : {X : Type 0} (C : Program) (E F : List Word) (t u : Term) (m n : ℕ) → eval C (applied C) t m E ≡ eval C (applied C) u n F → m ≤ n → (r : Result Step X) → IfOk r (λ s. IsStep C E t m s) → IfOk r (λ s. IsStep C F u n s)
+pub step_as : {X : Type 0} (C : Program) (E F : List Word) (t u : Term) (m n : ℕ) → eval C (applied C) t m E ≡ eval C (applied C) u n F → m ≤ n →
+    (r : Result Step X) → IfOk r (λ s. IsStep C E t m s) → IfOk r (λ s. IsStep C F u n s)
 step_as C E F t u m n e l (Ok s) h = record { comes = h.comes ∙ e; goes = fewer_left C m n l s h.goes }
 step_as C E F t u m n e l (Err x) h = tt
 
@@ -240,7 +245,8 @@ pub main_is : (c : CheckedProgram) (n : ℕ) → n ≡ (program_of c).functions 
 unfolding program_of
 main_is c n e = ap (λ k. k - 1) e
 
-pub main_gives : {X : Type 0} (c : CheckedProgram) (n m : ℕ) (us vs : List Word) → IsChecked c → m ≡ (program_of c).main → us ≡ vs → (r : Result (Option Answer) X) → IfOk r (λ a. shown a ≡ applied (program_of c) n m us) → IfOk r (λ a. shown a ≡ apply (program_of c) n n ((program_of c).callee 0) vs)
+pub main_gives : {X : Type 0} (c : CheckedProgram) (n m : ℕ) (us vs : List Word) → IsChecked c → m ≡ (program_of c).main → us ≡ vs →
+    (r : Result (Option Answer) X) → IfOk r (λ a. shown a ≡ applied (program_of c) n m us) → IfOk r (λ a. shown a ≡ apply (program_of c) n n ((program_of c).callee 0) vs)
 unfolding applied
 main_gives c n m us vs h e f (Ok a) g =
     let C = program_of c in

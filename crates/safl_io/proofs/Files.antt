@@ -23,7 +23,8 @@ none_or : (b : Bool) (bytes : List ℕ) (before after : Option (List ℕ)) → (
 none_or true bytes before after so none = none
 none_or false bytes before after so none = so none
 
-some_or : (b : Bool) (bytes had : List ℕ) (before after : Option (List ℕ)) → (IsNone before → after ≡ Some bytes) → IsNone (if b then Some had else before) → (if b then Some had else after) ≡ Some bytes
+some_or : (b : Bool) (bytes had : List ℕ) (before after : Option (List ℕ)) → (IsNone before → after ≡ Some bytes) → IsNone
+    (if b then Some had else before) → (if b then Some had else after) ≡ Some bytes
 some_or true bytes had before after so none = cc
 some_or false bytes had before after so none = so none
 
@@ -44,7 +45,8 @@ push-others [] pair other ne = file_of-past pair [] other ne
 push-others (first ∷ files) pair other ne = ap (λ rest. if bytes_eq first.0 other then Some first.1 else rest) (push-others files pair other ne)
 
 -- the first pair with a name is replaced
-pub set-here : (files : Files) (place : ℕ) (pair : List ℕ × List ℕ) (name : List ℕ) → place < length files → IsNone (file_of (take place files) name) → pair.0 ≡ name → file_of (set files place pair) name ≡ Some pair.1
+pub set-here : (files : Files) (place : ℕ) (pair : List ℕ × List ℕ) (name : List ℕ) → place < length files → IsNone (file_of (take place files) name)
+    → pair.0 ≡ name → file_of (set files place pair) name ≡ Some pair.1
 set-here [] place pair name within first same = absurd (omega arith)
 set-here (head ∷ files) zero pair name within first same = file_of-here pair files name same
 set-here (head ∷ files) (suc place) pair name within first same =
@@ -63,13 +65,15 @@ Leaves-push files name bytes none = record {
   others = push-others files (name, bytes);
 }
 
-pub Leaves-set : (files : Files) (place : ℕ) (name bytes : List ℕ) (d : List ℕ × List ℕ) → place < length files → (get_or files place d).0 ≡ name → IsNone (file_of (take place files) name) → Leaves name bytes files (set files place (name, bytes))
+pub Leaves-set : (files : Files) (place : ℕ) (name bytes : List ℕ) (d : List ℕ × List ℕ) → place < length files → (get_or files place d).0 ≡ name →
+    IsNone (file_of (take place files) name) → Leaves name bytes files (set files place (name, bytes))
 Leaves-set files place name bytes d within named first = record {
   file = set-here files place (name, bytes) name within first refl;
   others = λ other ne. set-others files place (name, bytes) d other ne named;
 }
 
 -- the first pair with a name is the file
-pub file_of-place : (files : Files) (place : ℕ) (name : List ℕ) (d : List ℕ × List ℕ) → place < length files → (get_or files place d).0 ≡ name → IsNone (file_of (take place files) name) → file_of files name ≡ Some (get_or files place d).1
+pub file_of-place : (files : Files) (place : ℕ) (name : List ℕ) (d : List ℕ × List ℕ) → place < length files → (get_or files place d).0 ≡ name →
+    IsNone (file_of (take place files) name) → file_of files name ≡ Some (get_or files place d).1
 file_of-place files place name d within named first =
     rw set-get_or at (set-here files place (get_or files place d) name within first named)

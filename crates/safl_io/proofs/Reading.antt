@@ -11,14 +11,16 @@ read_start (Some files) name =
     let at : (file : Option (List ℕ)) → IsFront [] file = elim [ None ↦ refl | Some bytes ↦ refl ] in
     at (file_of files name)
 
-front_more : (text buffer : List ℕ) (count : ℕ) (file : Option (List ℕ)) → count ≤ length buffer → IsFront text file → IsSomeAnd file (ReadsFrom (length text) count buffer) → IsFront (text ++ take count buffer) file
+front_more : (text buffer : List ℕ) (count : ℕ) (file : Option (List ℕ)) → count ≤ length buffer → IsFront text file → IsSomeAnd file
+    (ReadsFrom (length text) count buffer) → IsFront (text ++ take count buffer) file
 front_more text buffer count None within front read = absurd read
 front_more text buffer count (Some bytes) within front read =
     let longer : length (text ++ take count buffer) ≡ length text + count
     = length-append text (take count buffer) ∙ ap (λ n. length text + n) (length-take-le count buffer within) in
     rw longer (front ∙ ap (λ rest. text ++ rest) read.bytes ∙ sym (append_assoc text (take count buffer) (drop (length text + count) bytes)))
 
-pub read_more : (told : Option Files) (name text new buffer : List ℕ) (at count : ℕ) → at ≡ length text → new ≡ text ++ take count buffer → count ≤ length buffer → IfSome told (Reads name at count buffer) → IsReadSoFar told name text → IsReadSoFar told name new
+pub read_more : (told : Option Files) (name text new buffer : List ℕ) (at count : ℕ) → at ≡ length text → new ≡ text ++ take count buffer → count ≤
+    length buffer → IfSome told (Reads name at count buffer) → IsReadSoFar told name text → IsReadSoFar told name new
 unfolding IsReadSoFar
 read_more None name text new buffer at count here longer within read front = tt
 read_more (Some files) name text new buffer at count here longer within read front =
@@ -30,7 +32,8 @@ front_end text buffer count (Some bytes) none room front read =
     let all : drop (length text) bytes ≡ [] = drop_all (length text) bytes (read.end room none) in
     ap Some (front ∙ ap (λ rest. text ++ rest) all ∙ append-nil text)
 
-pub read_end : (told : Option Files) (name text new buffer : List ℕ) (at count : ℕ) → at ≡ length text → new ≡ text ++ take count buffer → 0 < length buffer → IfSome told (Reads name at count buffer) → count ≡ 0 → IsReadSoFar told name text → IfSome told (HasFile name new)
+pub read_end : (told : Option Files) (name text new buffer : List ℕ) (at count : ℕ) → at ≡ length text → new ≡ text ++ take count buffer → 0 < length
+    buffer → IfSome told (Reads name at count buffer) → count ≡ 0 → IsReadSoFar told name text → IfSome told (HasFile name new)
 unfolding IsReadSoFar
 read_end None name text new buffer at count here longer room read none front = tt
 read_end (Some files) name text new buffer at count here longer room read none front =

@@ -17,7 +17,8 @@ start_is : (at n start : ℕ) → start ≡ min at n → ((at ≤ n) × (start �
 start_is at n start e = grind arith
 
 -- the bytes that were copied are those of the file from that place on
-pub copied_reads : (file copied tail : List ℕ) (at start count room : ℕ) → start ≡ min at (length file) → count ≡ min room (length (drop start file)) → copied ≡ take count (drop start file) → length (copied ++ tail) ≡ room → ReadsFrom at count (copied ++ tail) file
+pub copied_reads : (file copied tail : List ℕ) (at start count room : ℕ) → start ≡ min at (length file) → count ≡ min room (length (drop start file))
+    → copied ≡ take count (drop start file) → length (copied ++ tail) ≡ room → ReadsFrom at count (copied ++ tail) file
 copied_reads file copied tail at start count room begins counts copies size =
     let rest : length (drop start file) ≡ length file - start = length-drop start file in
     let long : length copied ≡ count = ap length copies ∙ length-take-le count (drop start file) (omega arith) in

@@ -23,14 +23,17 @@ Leaves-part name text at n a b c left added =
       others = λ other ne. added.others other ne ∙ left.others other ne;
     }
 
-pub TellsOn-append : (name text : List ℕ) (at end : ℕ) → at ≤ end → (a b c : Option Files) → TellsOn (Leaves name (take at text)) a b → TellsOn (Appends name (take (end - at) (drop at text))) b c → TellsOn (Leaves name (take end text)) a c
+pub TellsOn-append : (name text : List ℕ) (at end : ℕ) → at ≤ end → (a b c : Option Files) → TellsOn (Leaves name (take at text)) a b → TellsOn
+    (Appends name (take (end - at) (drop at text))) b c → TellsOn (Leaves name (take end text)) a c
 TellsOn-append name text at end order = TellsOn-then _ _ _ (Leaves-append name text at end order)
 
-pub TellsOn-part : (name text : List ℕ) (at n : ℕ) (a b c : Option Files) → TellsOn (Leaves name (take at text)) a b → TellsOn (AppendsPart name (take n (drop at text))) b c → TellsOn (LeavesOldOrPart name text) a c
+pub TellsOn-part : (name text : List ℕ) (at n : ℕ) (a b c : Option Files) → TellsOn (Leaves name (take at text)) a b → TellsOn
+    (AppendsPart name (take n (drop at text))) b c → TellsOn (LeavesOldOrPart name text) a c
 TellsOn-part name text at n = TellsOn-then _ _ _ (Leaves-part name text at n)
 
 -- an append to a file that was left there names no stray
-pub no_stray : (name text : List ℕ) (a b : Option Files) (before middle after : ℕ) → TellsOn (Leaves name text) a b → OnSome a (middle ≡ before) → CountsStray b name middle after → OnSome a (after ≡ before)
+pub no_stray : (name text : List ℕ) (a b : Option Files) (before middle after : ℕ) → TellsOn (Leaves name text) a b → OnSome a (middle ≡ before) →
+    CountsStray b name middle after → OnSome a (after ≡ before)
 no_stray name text None b before middle after left same counts = tt
 no_stray name text (Some a) None before middle after left same counts = absurd left
 no_stray name text (Some a) (Some b) before middle after left same counts =

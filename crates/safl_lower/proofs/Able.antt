@@ -46,25 +46,52 @@ module _ {P : SiteTable} {slots : List Sig} {path : Sig} {n0 : Netlist} where
   pub path_kept : {t : Term} {n1 : Netlist} → Lowerable n0 P slots path t → Grows n0 n1 → IsSource n1 path 1
   path_kept h g = source_grown g path 1 h.setting.path_bit
 
-  pub able_yes : {c a b : Term} {n1 n2 : Netlist} {o0 o1 : Out} {test : Lowered} {py pn : Sig} → Lowerable n0 P slots path (If c a b) → Lowers P slots path n0 n1 o0 o1 test c → Branches path n1 n2 test a b py pn → Lowerable n2 P slots py a
-  able_yes {c} {a} {b} h hc hp = record { owner = h.owner; tail = h.tail; env = h.env; width = h.width; setting = setting_on (grows_on hc.grows hp.grows) h.setting hp.yes_bit; typed = yes_typed h.typed; room = let r = h.room in let i = hc.count in let j = hp.count in omega arith }
+  pub able_yes : {c a b : Term} {n1 n2 : Netlist} {o0 o1 : Out} {test : Lowered} {py pn : Sig} → Lowerable n0 P slots path (If c a b) → Lowers P slots
+      path n0 n1 o0 o1 test c → Branches path n1 n2 test a b py pn → Lowerable n2 P slots py a
+  able_yes {c} {a} {b} h hc hp = record {
+    owner = h.owner;
+    tail = h.tail;
+    env = h.env;
+    width = h.width;
+    setting = setting_on
+        (grows_on hc.grows hp.grows) h.setting hp.yes_bit;
+    typed = yes_typed h.typed;
+    room = let r = h.room in let i = hc.count in let j = hp.count in omega arith;
+  }
 
-  pub yes_shape : {c a b : Term} {n1 n2 n3 : Netlist} {o0 o1 o2 : Out} {test yes : Lowered} {py pn : Sig} → (h : Lowerable n0 P slots path (If c a b)) → Lowers P slots path n0 n1 o0 o1 test c → Branches path n1 n2 test a b py pn → Lowers P slots py n2 n3 o1 o2 yes a → Shaped n3 yes h.width
+  pub yes_shape : {c a b : Term} {n1 n2 n3 : Netlist} {o0 o1 o2 : Out} {test yes : Lowered} {py pn : Sig} → (h : Lowerable n0 P slots path (If c a b))
+      → Lowers P slots path n0 n1 o0 o1 test c → Branches path n1 n2 test a b py pn → Lowers P slots py n2 n3 o1 o2 yes a → Shaped n3 yes h.width
   yes_shape h hc hp ha = ha.shape h.owner h.tail h.env h.width (setting_on (grows_on hc.grows hp.grows) h.setting hp.yes_bit) (yes_typed h.typed)
 
-  pub able_no : {c a b : Term} {n1 n2 n3 : Netlist} {o0 o1 o2 : Out} {test yes : Lowered} {py pn : Sig} → Lowerable n0 P slots path (If c a b) → Lowers P slots path n0 n1 o0 o1 test c → Branches path n1 n2 test a b py pn → Lowers P slots py n2 n3 o1 o2 yes a → Lowerable n3 P slots pn b
-  able_no {c} {a} {b} {pn = pn} h hc hp ha = record { owner = h.owner; tail = h.tail; env = h.env; width = h.width; setting = setting_on (grows_on hc.grows (grows_on hp.grows ha.grows)) h.setting (source_grown ha.grows pn 1 hp.no_bit); typed = no_typed h.typed; room = let r = h.room in let i = hc.count in let j = hp.count in let k = ha.count in omega arith }
+  pub able_no : {c a b : Term} {n1 n2 n3 : Netlist} {o0 o1 o2 : Out} {test yes : Lowered} {py pn : Sig} → Lowerable n0 P slots path (If c a b) →
+      Lowers P slots path n0 n1 o0 o1 test c → Branches path n1 n2 test a b py pn → Lowers P slots py n2 n3 o1 o2 yes a → Lowerable n3 P slots pn b
+  able_no {c} {a} {b} {pn = pn} h hc hp ha = record {
+    owner = h.owner;
+    tail = h.tail;
+    env = h.env;
+    width = h.width;
+    setting = setting_on
+        (grows_on hc.grows (grows_on hp.grows ha.grows)) h.setting (source_grown ha.grows pn 1 hp.no_bit);
+    typed = no_typed h.typed;
+    room = let r =
+        h.room in let i = hc.count in let j = hp.count in let k = ha.count in omega arith;
+  }
 
-  pub no_shape : {c a b : Term} {n1 n2 n3 n4 : Netlist} {o0 o1 o2 o3 : Out} {test yes no : Lowered} {py pn : Sig} → (h : Lowerable n0 P slots path (If c a b)) → Lowers P slots path n0 n1 o0 o1 test c → Branches path n1 n2 test a b py pn → Lowers P slots py n2 n3 o1 o2 yes a → Lowers P slots pn n3 n4 o2 o3 no b → Shaped n4 no h.width
-  no_shape {pn = pn} h hc hp ha hb = hb.shape h.owner h.tail h.env h.width (setting_on (grows_on hc.grows (grows_on hp.grows ha.grows)) h.setting (source_grown ha.grows pn 1 hp.no_bit)) (no_typed h.typed)
+  pub no_shape : {c a b : Term} {n1 n2 n3 n4 : Netlist} {o0 o1 o2 o3 : Out} {test yes no : Lowered} {py pn : Sig} →
+      (h : Lowerable n0 P slots path (If c a b)) → Lowers P slots path n0 n1 o0 o1 test c → Branches path n1 n2 test a b py pn → Lowers P slots py n2
+      n3 o1 o2 yes a → Lowers P slots pn n3 n4 o2 o3 no b → Shaped n4 no h.width
+  no_shape {pn = pn} h hc hp ha hb = hb.shape h.owner h.tail h.env h.width
+      (setting_on (grows_on hc.grows (grows_on hp.grows ha.grows)) h.setting (source_grown ha.grows pn 1 hp.no_bit)) (no_typed h.typed)
 
   pub able_bound : {bs : Terms} {b : Term} → Lowerable n0 P slots path (Let bs b) → LowerableAll n0 P slots path bs
   able_bound {bs} {b} h = record { owner = h.owner; env = h.env; widths = h.typed.width.0; setting = h.setting; typed = bound_typed h.typed; room = let r = h.room in omega arith }
 
-  pub bound_shape : {bs : Terms} {b : Term} {n1 : Netlist} {o0 o1 : Out} {bound : LoweredAll} → Lowerable n0 P slots path (Let bs b) → LowersAll P slots path n0 n1 o0 o1 bound bs → ReadyAt n1 bound.ready
+  pub bound_shape : {bs : Terms} {b : Term} {n1 : Netlist} {o0 o1 : Out} {bound : LoweredAll} → Lowerable n0 P slots path (Let bs b) → LowersAll P
+      slots path n0 n1 o0 o1 bound bs → ReadyAt n1 bound.ready
   bound_shape h hs = (hs.shape h.owner h.env h.typed.width.0 h.setting (bound_typed h.typed)).ready
 
-  pub able_inner : {bs : Terms} {b : Term} {n1 n2 : Netlist} {o0 o1 : Out} {bound : LoweredAll} {inner : Sig} → Lowerable n0 P slots path (Let bs b) → LowersAll P slots path n0 n1 o0 o1 bound bs → Inner path n1 n2 b bound.ready inner → Lowerable n2 P (slots ++ bound.values.items) inner b
+  pub able_inner : {bs : Terms} {b : Term} {n1 n2 : Netlist} {o0 o1 : Out} {bound : LoweredAll} {inner : Sig} → Lowerable n0 P slots path (Let bs b) →
+      LowersAll P slots path n0 n1 o0 o1 bound bs → Inner path n1 n2 b bound.ready inner → Lowerable n2 P (slots ++ bound.values.items) inner b
   able_inner {bs} {b} {n1} {n2} {bound = bound} h hs hi =
       let ws = h.typed.width.0 in
       let a = hs.shape h.owner h.env ws h.setting (bound_typed h.typed) in
@@ -78,14 +105,17 @@ module _ {P : SiteTable} {slots : List Sig} {path : Sig} {n0 : Netlist} where
         room = let r = h.room in let i = hs.count in let j = hi.count in omega arith;
       }
 
-  pub body_shape : {bs : Terms} {b : Term} {n1 n2 n3 : Netlist} {o0 o1 o2 : Out} {bound : LoweredAll} {inner : Sig} {body : Lowered} → (h : Lowerable n0 P slots path (Let bs b)) → LowersAll P slots path n0 n1 o0 o1 bound bs → Inner path n1 n2 b bound.ready inner → Lowers P (slots ++ bound.values.items) inner n2 n3 o1 o2 body b → Shaped n3 body h.width
+  pub body_shape : {bs : Terms} {b : Term} {n1 n2 n3 : Netlist} {o0 o1 o2 : Out} {bound : LoweredAll} {inner : Sig} {body : Lowered} →
+      (h : Lowerable n0 P slots path (Let bs b)) → LowersAll P slots path n0 n1 o0 o1 bound bs → Inner path n1 n2 b bound.ready inner → Lowers P
+      (slots ++ bound.values.items) inner n2 n3 o1 o2 body b → Shaped n3 body h.width
   unfolding able_inner
   body_shape h hs hi hb = let k = able_inner h hs hi in hb.shape h.owner h.tail (h.env ++ h.typed.width.0) h.width k.setting (body_typed h.typed)
 
   pub able_parts : {p : Primitive} {ts : Terms} → Lowerable n0 P slots path (Op p ts) → LowerableAll n0 P slots path ts
   able_parts {p} {ts} h = record { owner = h.owner; env = h.env; widths = h.typed.width.0; setting = h.setting; typed = parts_typed h.typed; room = let r = h.room in omega arith }
 
-  pub parts_sized : {p : Primitive} {ts : Terms} {n1 : Netlist} {o0 o1 : Out} {all : LoweredAll} → Lowerable n0 P slots path (Op p ts) → LowersAll P slots path n0 n1 o0 o1 all ts → (ws : List ℕ) × (w : ℕ) × AreSources n1 all.values.items ws × (result_width p ws ≡ Some w)
+  pub parts_sized : {p : Primitive} {ts : Terms} {n1 : Netlist} {o0 o1 : Out} {all : LoweredAll} → Lowerable n0 P slots path (Op p ts) → LowersAll P
+      slots path n0 n1 o0 o1 all ts → (ws : List ℕ) × (w : ℕ) × AreSources n1 all.values.items ws × (result_width p ws ≡ Some w)
   parts_sized h hs = (h.typed.width.0, h.width, (hs.shape h.owner h.env h.typed.width.0 h.setting (parts_typed h.typed)).widths, h.typed.width.2)
 
   pub able_args : {f k : ℕ} {ts : Terms} → Lowerable n0 P slots path (Call f k ts) → LowerableAll n0 P slots path ts
@@ -108,7 +138,8 @@ module _ {P : SiteTable} {slots : List Sig} {path : Sig} {n0 : Netlist} where
       record { from = omega (arith, first, from, low); port = p.0; at = p.1; sent = source_grown g p.0.sent 1 (s.sites_sized (k - P.first) p.0 p.1).sent }
 
   -- what a call shows has the width of its callee's result
-  pub call_shape : (F : Owner) (tail : Bool) (env : List ℕ) (w : ℕ) {f k : ℕ} {ts : Terms} {n1 : Netlist} {r : Lowered} → Grows n0 n1 → Shows P k r → Setting n0 F P slots env path → Typed F tail env (Call f k ts) w → Shaped n1 r w
+  pub call_shape : (F : Owner) (tail : Bool) (env : List ℕ) (w : ℕ) {f k : ℕ} {ts : Terms} {n1 : Netlist} {r : Lowered} → Grows n0 n1 → Shows P k r →
+      Setting n0 F P slots env path → Typed F tail env (Call f k ts) w → Shaped n1 r w
   call_shape F tail env w {f} {k} {ts} {n1} {r} g h s t =
       let first = s.first in
       let from = t.from in
@@ -168,11 +199,21 @@ pub able_at : {P : SiteTable} {slots : List Sig} {path : Sig} {n0 n1 : Netlist} 
     → LowerableAll n0 P slots path (joined ts (Cons t us)) → LowersAll P slots path n0 n1 o0 o1 r ts → Lowerable n1 P slots path t
 able_at {ts = ts} {t = t} us h hs =
     let w = typed_next h.owner h.env ts t us h.widths h.typed in
-    record { owner = h.owner; tail = false; env = h.env; width = w.0; setting = setting_kept hs.grows h.setting; typed = w.1; room = let r = h.room in let i = hs.count in omega (arith, nodes_joined ts (Cons t us)) }
+    record {
+      owner = h.owner;
+      tail = false;
+      env = h.env;
+      width = w.0;
+      setting = setting_kept hs.grows h.setting;
+      typed = w.1;
+      room = let r = h.room in
+          let i = hs.count in omega (arith, nodes_joined ts (Cons t us));
+    }
 
 pub front_ready : {P : SiteTable} {slots : List Sig} {path : Sig} {n0 n1 : Netlist} {o0 o1 : Out} {r : LoweredAll} {ts : Terms} (us : Terms)
     → LowerableAll n0 P slots path (joined ts us) → LowersAll P slots path n0 n1 o0 o1 r ts → ReadyAt n1 r.ready
 front_ready {ts = ts} us h hs = let x = typed_front h.owner h.env ts us h.widths h.typed in (hs.shape h.owner h.env x.0 h.setting x.1).ready
 
-pub one_ready : {P : SiteTable} {slots : List Sig} {path : Sig} {n1 n2 : Netlist} {o1 o2 : Out} {one : Lowered} {t : Term} → Lowerable n1 P slots path t → Lowers P slots path n1 n2 o1 o2 one t → ReadyAt n2 one.ready
+pub one_ready : {P : SiteTable} {slots : List Sig} {path : Sig} {n1 n2 : Netlist} {o1 o2 : Out} {one : Lowered} {t : Term} → Lowerable n1 P slots path
+    t → Lowers P slots path n1 n2 o1 o2 one t → ReadyAt n2 one.ready
 one_ready h ht = (ht.shape h.owner h.tail h.env h.width h.setting h.typed).ready

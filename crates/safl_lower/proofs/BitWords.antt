@@ -44,14 +44,16 @@ unfolding a_bit
 not_words true = refl
 not_words false = refl
 
-pub and_on : {E : Type 0} (n m : Netlist) (r : Result Sig E) (a b : Sig) → width_at n a.0 ≡ Some 1 → width_at n b.0 ≡ Some 1 → Grows n m → IfOk r (λ s. (v : Val) → Wired m v → v s.0 ≡ apply_prim And (words v (a ∷ b ∷ []))) → IfOk r (λ s. (v : Val) → Wired m v → on v s ≡ (on v a && on v b))
+pub and_on : {E : Type 0} (n m : Netlist) (r : Result Sig E) (a b : Sig) → width_at n a.0 ≡ Some 1 → width_at n b.0 ≡ Some 1 → Grows n m → IfOk r
+    (λ s. (v : Val) → Wired m v → v s.0 ≡ apply_prim And (words v (a ∷ b ∷ []))) → IfOk r (λ s. (v : Val) → Wired m v → on v s ≡ (on v a && on v b))
 and_on n m (Ok s) a b p q g h = λ v w.
     let u = wired_before g w in
     ap (λ (x : Word). x.bits == 1) (h v w ∙ ap (λ (x : Word). apply_prim And (x ∷ v b.0 ∷ [])) (bit_word n v a u p) ∙ ap (λ (y : Word). apply_prim And (a_bit (on v a) ∷ y ∷ [])) (bit_word n v b u q))
     ∙ and_words (on v a) (on v b)
 and_on n m (Err e) a b p q g h = tt
 
-pub not_on : {E : Type 0} (n m : Netlist) (r : Result Sig E) (a : Sig) → width_at n a.0 ≡ Some 1 → Grows n m → IfOk r (λ s. (v : Val) → Wired m v → v s.0 ≡ apply_prim Not (words v (a ∷ []))) → IfOk r (λ s. (v : Val) → Wired m v → on v s ≡ not (on v a))
+pub not_on : {E : Type 0} (n m : Netlist) (r : Result Sig E) (a : Sig) → width_at n a.0 ≡ Some 1 → Grows n m → IfOk r
+    (λ s. (v : Val) → Wired m v → v s.0 ≡ apply_prim Not (words v (a ∷ []))) → IfOk r (λ s. (v : Val) → Wired m v → on v s ≡ not (on v a))
 not_on n m (Ok s) a p g h = λ v w.
     let u = wired_before g w in
     ap (λ (x : Word). x.bits == 1) (h v w ∙ ap (λ (x : Word). apply_prim Not (x ∷ [])) (bit_word n v a u p)) ∙ not_words (on v a)
@@ -64,7 +66,8 @@ or_words true false = refl
 or_words false true = refl
 or_words false false = refl
 
-pub or_on : {E : Type 0} (n m : Netlist) (r : Result Sig E) (a b : Sig) → width_at n a.0 ≡ Some 1 → width_at n b.0 ≡ Some 1 → Grows n m → IfOk r (λ s. (v : Val) → Wired m v → v s.0 ≡ apply_prim Or (words v (a ∷ b ∷ []))) → IfOk r (λ s. (v : Val) → Wired m v → on v s ≡ (on v a || on v b))
+pub or_on : {E : Type 0} (n m : Netlist) (r : Result Sig E) (a b : Sig) → width_at n a.0 ≡ Some 1 → width_at n b.0 ≡ Some 1 → Grows n m → IfOk r
+    (λ s. (v : Val) → Wired m v → v s.0 ≡ apply_prim Or (words v (a ∷ b ∷ []))) → IfOk r (λ s. (v : Val) → Wired m v → on v s ≡ (on v a || on v b))
 or_on n m (Ok s) a b p q g h = λ v w.
     let u = wired_before g w in
     ap (λ (x : Word). x.bits == 1) (h v w ∙ ap (λ (x : Word). apply_prim Or (x ∷ v b.0 ∷ [])) (bit_word n v a u p) ∙ ap (λ (y : Word). apply_prim Or (a_bit (on v a) ∷ y ∷ [])) (bit_word n v b u q))
@@ -90,6 +93,7 @@ pick_is (suc (suc n)) a b = ap (λ (t : Bool). cond t a b) (sym (ne_eqb (suc (su
 pub choose_is : {A : Type 0} (w : Word) (a b : A) → choose w a b ≡ cond (w.bits == 1) a b
 choose_is w a b = pick_is w.bits a b
 
-pub mux_value : {E : Type 0} (m : Netlist) (r : Result Sig E) (c a b : Sig) → IfOk r (λ s. (v : Val) → Wired m v → v s.0 ≡ choose (v c.0) (v a.0) (v b.0)) → IfOk r (λ s. (v : Val) → Wired m v → v s.0 ≡ cond (on v c) (v a.0) (v b.0))
+pub mux_value : {E : Type 0} (m : Netlist) (r : Result Sig E) (c a b : Sig) → IfOk r
+    (λ s. (v : Val) → Wired m v → v s.0 ≡ choose (v c.0) (v a.0) (v b.0)) → IfOk r (λ s. (v : Val) → Wired m v → v s.0 ≡ cond (on v c) (v a.0) (v b.0))
 mux_value m (Ok s) c a b h = λ v w. h v w ∙ choose_is (v c.0) (v a.0) (v b.0)
 mux_value m (Err e) c a b h = tt

@@ -83,7 +83,9 @@ pub lowers_if : {P : SiteTable} {slots : List Sig} {path py pn : Sig} {n0 n1 n2 
     → Lowers P slots path n0 n5 o0 o3 r (If c a b)
 unfolding answer wanted
 lowers_if {P} {slots} {path} {py} {pn} {n0} {n1} {n2} {n3} {n4} {n5} {o0} {o1} {o2} {o3} {test} {yes} {no} {r} {c} {a} {b} hc hp ha hb hr = record {
-  tails = λ F tail env w t. more_twice (map member_of o0.loops.items) (map member_of o2.loops.items) (map member_of o3.loops.items) (tails_of a) (tails_of b) (ha.tails F tail env w (yes_typed t) ∙ ap (λ (l : List TailCall). map member_of l ++ tails_of a) (hc.quiet F env 1 (test_typed t))) (hb.tails F tail env w (no_typed t));
+  tails = λ F tail env w t. more_twice (map member_of o0.loops.items) (map member_of o2.loops.items) (map member_of o3.loops.items) (tails_of a)
+      (tails_of b) (ha.tails F tail env w (yes_typed t) ∙ ap (λ (l : List TailCall). map member_of l ++ tails_of a) (hc.quiet F env 1 (test_typed t)))
+      (hb.tails F tail env w (no_typed t));
   settles = settles_on hc.settles (settles_on hp.settles (settles_on ha.settles (settles_on hb.settles hr.settles)));
   quiet = λ F env w t. hb.quiet F env w (no_typed t) ∙ ha.quiet F env w (yes_typed t) ∙ hc.quiet F env 1 (test_typed t);
   cheap = λ F tail env w t. let i = ap cost (hc.quiet F env 1 (test_typed t)) in let j = ha.cheap F tail env w (yes_typed t) in let k = hb.cheap F tail env w (no_typed t) in omega (arith, i, j, k);
@@ -92,7 +94,8 @@ lowers_if {P} {slots} {path} {py} {pn} {n0} {n1} {n2} {n3} {n4} {n5} {o0} {o1} {
       let s3 = setting_on ha.grows s2 (source_grown ha.grows pn 1 hp.no_bit) in
       hb.within F tail env w s3 (no_typed t) (ha.within F tail env w s2 (yes_typed t) (hc.within F false env 1 s (test_typed t) x));
   more = hc.more ++ (ha.more ++ hb.more);
-  loops_more = more_twice o0.loops.items o1.loops.items o3.loops.items hc.more (ha.more ++ hb.more) hc.loops_more (more_twice o1.loops.items o2.loops.items o3.loops.items ha.more hb.more ha.loops_more hb.loops_more);
+  loops_more = more_twice o0.loops.items o1.loops.items o3.loops.items hc.more (ha.more ++ hb.more) hc.loops_more
+      (more_twice o1.loops.items o2.loops.items o3.loops.items ha.more hb.more ha.loops_more hb.loops_more);
   told = λ F tail scope w t v w5.
       let w4 = wired_before hr.grows w5 in
       let w3 = wired_before hb.grows w4 in
@@ -108,11 +111,15 @@ lowers_if {P} {slots} {path} {py} {pn} {n0} {n1} {n2} {n3} {n4} {n5} {o0} {o1} {
       let all = gate (on v path) (select pc None ga gb) in
       subst (Told v (hc.more ++ (ha.more ++ hb.more))) (ap (gate (on v path)) (sym (goes_select pc (answer back env a) (answer back env b))))
       (told_more v hc.more (ha.more ++ hb.more) all
-      (told_by v hc.more (gate (on v path) (goes_of pc)) all (λ z q. never_is z (gate (on v path) (goes_of pc)) (gate_is_none (on v path) (goes_of pc) (no_goes back c env (test_typed t))) q) (hc.told F false scope 1 (test_typed t) v w1))
+      (told_by v hc.more (gate (on v path) (goes_of pc)) all (λ z q. never_is z (gate (on v path) (goes_of pc))
+      (gate_is_none (on v path) (goes_of pc) (no_goes back c env (test_typed t))) q) (hc.told F false scope 1 (test_typed t) v w1))
       (told_more v ha.more hb.more all
-      (told_by v ha.more (gate (on v py) ga) all (λ z q. if_first (on v path) (is_ready v test.ready) (v test.value.0) pc ga gb z (hc.value v w1) (q ∙ any_path (holds_calls a) (on v py) yes_path ga (λ x. hp.yes_on x v w2) (no_going back a env))) (ha.told F tail scope w (yes_typed t) v w3))
-      (told_by v hb.more (gate (on v pn) gb) all (λ z q. if_second (on v path) (is_ready v test.ready) (v test.value.0) pc ga gb z (hc.value v w1) (q ∙ any_path (holds_calls b) (on v pn) no_path gb (λ x. hp.no_on x v w2) (no_going back b env))) (hb.told F tail scope w (no_typed t) v w4))));
-  sites = more_twice (map site_of o0.wants.items) (map site_of o1.wants.items) (map site_of o3.wants.items) (sites_of c) (sites_of a ++ sites_of b) hc.sites (more_twice (map site_of o1.wants.items) (map site_of o2.wants.items) (map site_of o3.wants.items) (sites_of a) (sites_of b) ha.sites hb.sites);
+      (told_by v ha.more (gate (on v py) ga) all (λ z q. if_first (on v path) (is_ready v test.ready) (v test.value.0) pc ga gb z (hc.value v w1)
+      (q ∙ any_path (holds_calls a) (on v py) yes_path ga (λ x. hp.yes_on x v w2) (no_going back a env))) (ha.told F tail scope w (yes_typed t) v w3))
+      (told_by v hb.more (gate (on v pn) gb) all (λ z q. if_second (on v path) (is_ready v test.ready) (v test.value.0) pc ga gb z (hc.value v w1)
+      (q ∙ any_path (holds_calls b) (on v pn) no_path gb (λ x. hp.no_on x v w2) (no_going back b env))) (hb.told F tail scope w (no_typed t) v w4))));
+  sites = more_twice (map site_of o0.wants.items) (map site_of o1.wants.items) (map site_of o3.wants.items) (sites_of c) (sites_of a ++ sites_of b)
+      hc.sites (more_twice (map site_of o1.wants.items) (map site_of o2.wants.items) (map site_of o3.wants.items) (sites_of a) (sites_of b) ha.sites hb.sites);
   fits = λ F tail env w s t x.
       let s2 = setting_on (grows_on hc.grows hp.grows) s hp.yes_bit in
       let s3 = setting_on ha.grows s2 (source_grown ha.grows pn 1 hp.no_bit) in
@@ -129,7 +136,8 @@ lowers_if {P} {slots} {path} {py} {pn} {n0} {n1} {n2} {n3} {n4} {n5} {o0} {o1} {
       let w1 = wired_before hp.grows (wired_before ha.grows w3) in
       let back = back_of v P in
       let env = words v slots in
-      hr.value v w5 ∙ if_value (is_ready v test.ready) (v test.value.0) (answer back env c) (answer back env a) (answer back env b) (shown v yes) (shown v no) (hc.value v w1) (ha.value v w3) (hb.value v w4);
+      hr.value v w5 ∙ if_value (is_ready v test.ready) (v test.value.0) (answer back env c) (answer back env a) (answer back env b) (shown v yes)
+      (shown v no) (hc.value v w1) (ha.value v w3) (hb.value v w4);
   ever = λ F env w t no. ⊎_elim (hc.ever F env 1 (test_typed t)) (λ x. ha.ever F env w (yes_typed t) x.0) (hr.never no);
   wide = λ F tail env w s t no.
       let s2 = setting_on (grows_on hc.grows hp.grows) s hp.yes_bit in
@@ -143,10 +151,13 @@ lowers_if {P} {slots} {path} {py} {pn} {n0} {n1} {n2} {n3} {n4} {n5} {o0} {o1} {
       let env = words v slots in
       let unsent = not (sent_of v P k) in
       let reached = on v path && is_ready v test.ready in
-      if_asked (on v path) unsent (is_ready v test.ready) (v test.value.0) (answer back env c) (asked v o0.wants.items k) (asked v o1.wants.items k) (asked v o2.wants.items k) (asked v o3.wants.items k) (wanted back env c k) (wanted back env a k) (wanted back env b k)
+      if_asked (on v path) unsent (is_ready v test.ready) (v test.value.0) (answer back env c) (asked v o0.wants.items k) (asked v o1.wants.items k)
+      (asked v o2.wants.items k) (asked v o3.wants.items k) (wanted back env c k) (wanted back env a k) (wanted back env b k)
       (hc.value v w1) (hc.wants F false scope 1 (test_typed t) v w1 k)
-      (any_asked (holds_calls a) (on v py) (reached && on v test.value) unsent (wanted back env a k) (asked v o1.wants.items k) (asked v o2.wants.items k) (λ x. hp.yes_on x v w2) (no_wants back a env k) (ha.wants F tail scope w (yes_typed t) v w3 k))
-      (any_asked (holds_calls b) (on v pn) (reached && not (on v test.value)) unsent (wanted back env b k) (asked v o2.wants.items k) (asked v o3.wants.items k) (λ x. hp.no_on x v w2) (no_wants back b env k) (hb.wants F tail scope w (no_typed t) v w4 k));
+      (any_asked (holds_calls a) (on v py) (reached && on v test.value) unsent (wanted back env a k) (asked v o1.wants.items k)
+      (asked v o2.wants.items k) (λ x. hp.yes_on x v w2) (no_wants back a env k) (ha.wants F tail scope w (yes_typed t) v w3 k))
+      (any_asked (holds_calls b) (on v pn) (reached && not (on v test.value)) unsent (wanted back env b k) (asked v o2.wants.items k)
+      (asked v o3.wants.items k) (λ x. hp.no_on x v w2) (no_wants back b env k) (hb.wants F tail scope w (no_typed t) v w4 k));
   loops = λ F tail scope w t v w5.
       let w4 = wired_before hr.grows w5 in
       let w3 = wired_before hb.grows w4 in
@@ -164,8 +175,10 @@ lowers_if {P} {slots} {path} {py} {pn} {n0} {n1} {n2} {n3} {n4} {n5} {o0} {o1} {
       let reached = on v path && is_ready v test.ready in
       if_asked (on v path) true (is_ready v test.ready) (v test.value.0) pc x0 x1 x2 x3 (goes_of pc) ga gb
       (hc.value v w1) (without x1 x0 (goes_of pc) (on v path) (hc.loops F false scope 1 (test_typed t) v w1))
-      (any_asked (holds_calls a) (on v py) (reached && on v test.value) true ga x1 x2 (λ x. hp.yes_on x v w2) (no_going back a env) (without x2 x1 ga (on v py) (ha.loops F tail scope w (yes_typed t) v w3)))
-      (any_asked (holds_calls b) (on v pn) (reached && not (on v test.value)) true gb x2 x3 (λ x. hp.no_on x v w2) (no_going back b env) (without x3 x2 gb (on v pn) (hb.loops F tail scope w (no_typed t) v w4)))
+      (any_asked (holds_calls a) (on v py) (reached && on v test.value) true ga x1 x2 (λ x. hp.yes_on x v w2) (no_going back a env)
+      (without x2 x1 ga (on v py) (ha.loops F tail scope w (yes_typed t) v w3)))
+      (any_asked (holds_calls b) (on v pn) (reached && not (on v test.value)) true gb x2 x3 (λ x. hp.no_on x v w2) (no_going back b env)
+      (without x3 x2 gb (on v pn) (hb.loops F tail scope w (no_typed t) v w4)))
       ∙ ap (λ (u : Bool). or_else x0 (gate u (or_else (goes_of pc) (select pc None (goes_of (answer back env a)) (goes_of (answer back env b)))))) (and_true (on v path))
       ∙ ap (λ (o : Option (ℕ × List Word)). or_else x0 (gate (on v path) (or_else o (select pc None (goes_of (answer back env a)) (goes_of (answer back env b)))))) (no_goes back c env (test_typed t))
       ∙ ap (λ (o : Option (ℕ × List Word)). or_else x0 (gate (on v path) o)) (sym (goes_select pc (answer back env a) (answer back env b)));
@@ -231,7 +244,10 @@ lowers_let {P} {slots} {path} {inner} {n0} {n1} {n2} {n3} {n4} {o0} {o1} {o2} {b
       subst (Told v (hs.more ++ hb.more)) (ap (gate (on v path)) (sym (goes_with_all o (λ vs. answer back (env ++ vs) b))))
       (told_more v hs.more hb.more all
       (told_by v hs.more None all (λ z q. never_is z None refl q) (hs.told F scope t.width.0 (bound_typed t) v w1))
-      (told_by v hb.more (gate (on v inner) x) all (λ z q. let_second (on v path) (is_ready v bound.ready) ws o go x z (hs.value v w1) (ap (λ (l : List Word). goes_of (answer back l b)) (words_more v slots bound.values.items)) (q ∙ any_path (holds_calls b) (on v inner) (on v path && is_ready v bound.ready) x (λ h. hi.is h v w2) (no_going back b (words v (slots ++ bound.values.items))))) (hb.told F tail (scope ++ t.width.0) w (body_typed t) v w3)));
+      (told_by v hb.more (gate (on v inner) x) all (λ z q. let_second (on v path) (is_ready v bound.ready) ws o go x z (hs.value v w1)
+      (ap (λ (l : List Word). goes_of (answer back l b)) (words_more v slots bound.values.items))
+      (q ∙ any_path (holds_calls b) (on v inner) (on v path && is_ready v bound.ready) x (λ h. hi.is h v w2)
+      (no_going back b (words v (slots ++ bound.values.items))))) (hb.told F tail (scope ++ t.width.0) w (body_typed t) v w3)));
   sites = more_twice (map site_of o0.wants.items) (map site_of o1.wants.items) (map site_of o2.wants.items) (sites_in bs) (sites_of b) hs.sites hb.sites;
   fits = λ F tail env w s t x.
       let a = hs.shape F env t.width.0 s (bound_typed t) in
@@ -266,9 +282,11 @@ lowers_let {P} {slots} {path} {inner} {n0} {n1} {n2} {n3} {n4} {o0} {o1} {o2} {b
       let ws = words v bound.values.items in
       let unsent = not (sent_of v P k) in
       let below = words v (slots ++ bound.values.items) in
-      let_asked (on v path) unsent (is_ready v bound.ready) ws (answers back env bs) (λ vs. wanted back (env ++ vs) b k) (asked v o0.wants.items k) (asked v o1.wants.items k) (asked v o2.wants.items k) (wanted_in back env bs k) (wanted back below b k)
+      let_asked (on v path) unsent (is_ready v bound.ready) ws (answers back env bs) (λ vs. wanted back (env ++ vs) b k) (asked v o0.wants.items k)
+      (asked v o1.wants.items k) (asked v o2.wants.items k) (wanted_in back env bs k) (wanted back below b k)
       (hs.value v w1) (ap (λ (l : List Word). wanted back l b k) (words_more v slots bound.values.items)) (hs.wants F scope t.width.0 (bound_typed t) v w1 k)
-      (any_asked (holds_calls b) (on v inner) (on v path && is_ready v bound.ready) unsent (wanted back below b k) (asked v o1.wants.items k) (asked v o2.wants.items k) (λ h. hi.is h v w2) (no_wants back b below k) (hb.wants F tail (scope ++ t.width.0) w (body_typed t) v w3 k));
+      (any_asked (holds_calls b) (on v inner) (on v path && is_ready v bound.ready) unsent (wanted back below b k) (asked v o1.wants.items k)
+      (asked v o2.wants.items k) (λ h. hi.is h v w2) (no_wants back b below k) (hb.wants F tail (scope ++ t.width.0) w (body_typed t) v w3 k));
   loops = λ F tail scope w t v w4.
       let w3 = wired_before hr.grows w4 in
       let w2 = wired_before hb.grows w3 in
@@ -284,7 +302,8 @@ lowers_let {P} {slots} {path} {inner} {n0} {n1} {n2} {n3} {n4} {o0} {o1} {o2} {b
       let g = goes_of (answer back below b) in
       let_asked (on v path) true (is_ready v bound.ready) ws o (λ vs. goes_of (answer back (env ++ vs) b)) x0 x1 x2 None g
       (hs.value v w1) (ap (λ (l : List Word). goes_of (answer back l b)) (words_more v slots bound.values.items)) (hs.loops F scope t.width.0 (bound_typed t) v w1 ∙ stays x0 (on v path && true))
-      (any_asked (holds_calls b) (on v inner) (on v path && is_ready v bound.ready) true g x1 x2 (λ h. hi.is h v w2) (no_going back b below) (without x2 x1 g (on v inner) (hb.loops F tail (scope ++ t.width.0) w (body_typed t) v w3)))
+      (any_asked (holds_calls b) (on v inner) (on v path && is_ready v bound.ready) true g x1 x2 (λ h. hi.is h v w2) (no_going back b below)
+      (without x2 x1 g (on v inner) (hb.loops F tail (scope ++ t.width.0) w (body_typed t) v w3)))
       ∙ ap (λ (c : Bool). or_else x0 (gate c (with_all o None (λ vs. goes_of (answer back (env ++ vs) b))))) (and_true (on v path))
       ∙ ap (λ (y : Option (ℕ × List Word)). or_else x0 (gate (on v path) y)) (sym (goes_with_all o (λ vs. answer back (env ++ vs) b)));
 }

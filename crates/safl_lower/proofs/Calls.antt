@@ -60,10 +60,14 @@ mutual
   wanted_below p g tail lo hi back (If c a b) env j (m, n, x, y, z) l =
       let i = fits_le p g false lo m c x in
       let k = fits_le p g tail m n a y in
-      both_none (wanted back env c j) (select (answer back env c) None (wanted back env a j) (wanted back env b j)) (wanted_below p g false lo m back c env j x l) (select_none (answer back env c) (wanted back env a j) (wanted back env b j) (wanted_below p g tail m n back a env j y (omega (arith, i, l))) (wanted_below p g tail n hi back b env j z (omega (arith, i, k, l))))
+      both_none (wanted back env c j) (select (answer back env c) None (wanted back env a j) (wanted back env b j))
+      (wanted_below p g false lo m back c env j x l) (select_none (answer back env c) (wanted back env a j) (wanted back env b j)
+      (wanted_below p g tail m n back a env j y (omega (arith, i, l))) (wanted_below p g tail n hi back b env j z (omega (arith, i, k, l))))
   wanted_below p g tail lo hi back (Let bs b) env j (m, x, y) l =
       let i = fits_all_le p g lo m bs x in
-      both_none (wanted_in back env bs j) (with_all (answers back env bs) None (λ vs. wanted back (env ++ vs) b j)) (wanted_below_in p g lo m back bs env j x l) (with_none (answers back env bs) (λ vs. wanted back (env ++ vs) b j) (λ vs. wanted_below p g tail m hi back b (env ++ vs) j y (omega (arith, i, l))))
+      both_none (wanted_in back env bs j) (with_all (answers back env bs) None (λ vs. wanted back (env ++ vs) b j))
+      (wanted_below_in p g lo m back bs env j x l) (with_none (answers back env bs) (λ vs. wanted back (env ++ vs) b j)
+      (λ vs. wanted_below p g tail m hi back b (env ++ vs) j y (omega (arith, i, l))))
   wanted_below p g tail lo hi back (Call f k ts) env j (e, e1, e2, lt, h) l =
       ap (λ (t : Bool). cond t (answers back env ts) (wanted_in back env ts j)) (ne_eqb k j (λ s. absurd (omega (arith, s, e, l)))) ∙ wanted_below_in p g (suc lo) hi back ts env j h (omega (arith, l))
   wanted_below p g tail lo hi back (Loop f ts) env j (e, e1, h) l = wanted_below_in p g lo hi back ts env j h l
@@ -115,12 +119,14 @@ lowers_call {P} {slots} {path} {n0} {n1} {n2} {o0} {o1} {o2} {all} {f} {k} {ts} 
   more = hs.more;
   loops_more = ha.loops ∙ hs.loops_more;
   told = λ F tail env w t v h. told_by v hs.more None _ (λ z q. never_is z None refl q) (hs.told F env (F.program.params f) (args_typed t) v (wired_before ha.grows h));
-  sites = more_twice (map site_of o0.wants.items) (map site_of o1.wants.items) (map site_of o2.wants.items) (sites_in ts) (k ∷ []) hs.sites (ap (map site_of) ha.entry.is ∙ map_end site_of o1.wants.items _);
+  sites = more_twice (map site_of o0.wants.items) (map site_of o1.wants.items) (map site_of o2.wants.items) (sites_in ts) (k ∷ []) hs.sites
+      (ap (map site_of) ha.entry.is ∙ map_end site_of o1.wants.items _);
   fits = λ F tail env w s t x.
       let y = out_kept ha.grows (hs.fits F env (F.program.params f) s (args_typed t) x) in
       let a = shaped_all_kept ha.grows all (F.program.params f) (hs.shape F env (F.program.params f) s (args_typed t)) in
       record {
-        wants = subst (WantsFit F n2) (sym ha.entry.is) (wants_end F n2 o1.wants.items _ y.wants (record { bit = ha.entry.bit; sized = subst (λ (g : ℕ). AreSources n2 all.values.items (F.program.params g)) (sym t.spans.1) a.widths }));
+        wants = subst (WantsFit F n2) (sym ha.entry.is) (wants_end F n2 o1.wants.items _ y.wants
+            (record { bit = ha.entry.bit; sized = subst (λ (g : ℕ). AreSources n2 all.values.items (F.program.params g)) (sym t.spans.1) a.widths }));
         loops = subst (LoopsFit F n2) (sym ha.loops) y.loops;
       };
   grows = grows_on hs.grows ha.grows;
@@ -136,7 +142,8 @@ lowers_call {P} {slots} {path} {n0} {n1} {n2} {o0} {o1} {o2} {all} {f} {k} {ts} 
       let env = words v slots in
       let g = open_at v P path j in
       let own = gate (k == j) (gate (open_at v P path k) (gathered v all)) in
-      ha.wants v h j ∙ ap (λ (y : Option (List Word)). or_else y own) (hs.wants F scope (F.program.params f) (args_typed t) v w1 j) ∙ or_assoc (asked v o0.wants.items j) (gate g (wanted_in back env ts j)) own
+      ha.wants v h j ∙ ap (λ (y : Option (List Word)). or_else y own) (hs.wants F scope (F.program.params f) (args_typed t) v w1 j) ∙ or_assoc
+      (asked v o0.wants.items j) (gate g (wanted_in back env ts j)) own
       ∙ ap (λ (y : Option (List Word)). or_else (asked v o0.wants.items j) (or_else (gate g (wanted_in back env ts j)) y))
       (at_site (k == j) k j (on v path) (sent_of v P) (gathered v all) refl
       ∙ ap (λ (y : Option (List Word)). gate g (cond (k == j) y None)) (hs.value v w1))
@@ -174,18 +181,25 @@ pub lowers_loop : {P : SiteTable} {slots : List Sig} {path : Sig} {n0 n1 n2 : Ne
     → Lowers P slots path n0 n2 o0 o2 r (Loop h ts)
 unfolding answer wanted
 lowers_loop {P} {slots} {path} {n0} {n1} {n2} {o0} {o1} {o2} {all} {h} {ts} {r} hs hg = record {
-  tails = λ F tail env w t. ap (map member_of) hg.entry.is ∙ map_end member_of o1.loops.items _ ∙ ap (λ (l : List TailCall). map member_of l ++ h ∷ []) (hs.quiet F env (F.program.params h) (next_typed t));
+  tails = λ F tail env w t. ap (map member_of) hg.entry.is ∙ map_end member_of o1.loops.items _ ∙ ap
+      (λ (l : List TailCall). map member_of l ++ h ∷ []) (hs.quiet F env (F.program.params h) (next_typed t));
   settles = settles_on hs.settles hg.settles;
   quiet = λ F env w t. false_true t.spans.0;
-  cheap = λ F tail env w t. let i = ap cost (hs.quiet F env (F.program.params h) (next_typed t)) in let j = ap cost hg.entry.is ∙ cost_end o1.loops.items (record { member = h; taken = hg.entry.taken; args = all.values }) in let k = hs.long in omega (arith, i, j, k);
+  cheap = λ F tail env w t. let i = ap cost (hs.quiet F env (F.program.params h) (next_typed t)) in let j = ap cost hg.entry.is ∙ cost_end
+      o1.loops.items (record { member = h; taken = hg.entry.taken; args = all.values }) in let k = hs.long in omega (arith, i, j, k);
   within = λ F tail env w s t x.
-      subst (Mates F) (sym (ap (map member_of) hg.entry.is ∙ map_end member_of o1.loops.items _)) (mates_end F (map member_of o1.loops.items) h (mates_same F o0.loops.items o1.loops.items (hs.quiet F env (F.program.params h) (next_typed t)) x) t.width.2 t.spans.1);
+      subst (Mates F) (sym (ap (map member_of) hg.entry.is ∙ map_end member_of o1.loops.items _))
+      (mates_end F (map member_of o1.loops.items) h (mates_same F o0.loops.items o1.loops.items
+      (hs.quiet F env (F.program.params h) (next_typed t)) x) t.width.2 t.spans.1);
   more = hs.more ++ record { member = h; taken = hg.entry.taken; args = all.values } ∷ [];
   loops_more = more_twice o0.loops.items o1.loops.items o2.loops.items hs.more _ hs.loops_more hg.entry.is;
   told = λ F tail env w t v q.
       let w1 = wired_before hg.grows q in
-      told_more v hs.more _ _ (told_by v hs.more None _ (λ z q. never_is z None refl q) (hs.told F env (F.program.params h) (next_typed t) v w1))
-      (λ taken. taken_tells h (on v hg.entry.taken) (on v path) (is_ready v all.ready) (words v all.values.items) (answers (back_of v P) (words v slots) ts) (hg.entry.made v q) (hs.value v w1) taken, tt);
+      told_more v hs.more _ _ (told_by v hs.more None _ (λ z q. never_is z None refl q) (hs.told F env (F.program.params h) (next_typed t) v w1)) (
+        λ taken. taken_tells h (on v hg.entry.taken) (on v path) (is_ready v all.ready) (words v all.values.items)
+            (answers (back_of v P) (words v slots) ts) (hg.entry.made v q) (hs.value v w1) taken,
+        tt,
+      );
   sites = ap (map site_of) hg.wants ∙ hs.sites;
   fits = λ F tail env w s t x.
       let y = out_kept hg.grows (hs.fits F env (F.program.params h) s (next_typed t) x) in

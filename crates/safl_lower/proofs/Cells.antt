@@ -1,5 +1,6 @@
 -- What a new temporary adds to a net.
-use Rattle.std.proofs.Common.{◌≡◌, ℕ, List, [], ◌∷◌, ◌++◌, true, false, subst, Some, Bool, not, cond, Result, Ok, Err, IfOk, OnOk, OnErr, length, take, slice_get, slice_index_or, suc, zero, ◌+◌, ◌<◌, refl, ap, sym, ◌∙◌, add-one, arith}
+use Rattle.std.proofs.Common.{◌≡◌, ℕ, List, [], ◌∷◌, ◌++◌, true, false, subst, Some, Bool, not, cond, Result, Ok, Err, IfOk, OnOk, OnErr, length}
+use Rattle.std.proofs.Common.{take, slice_get, slice_index_or, suc, zero, ◌+◌, ◌<◌, refl, ap, sym, ◌∙◌, add-one, arith}
 use Rattle.safl_net.specs.declared.cell.Sig.{Sig}
 use Rattle.safl_net.specs.declared.cell.Op.{Op}
 use Rattle.safl_net.specs.Netlist.{Netlist}
@@ -18,12 +19,14 @@ settles_made : {E : Type 0} (n m : Netlist) (r : Result Sig E) (op : Op) (xs : L
 settles_made n m (Ok s) op xs h a b = settles_temp n m op xs h a
 settles_made n m (Err e) op xs h a b = settles_same n m b
 
-source_made : {E : Type 0} (n m : Netlist) (r : Result Sig E) (op : Op) (xs : List Sig) (w : ℕ) → OnOk r (m ≡ with_signal n (temporary n op xs)) → IfOk r (λ s. s.0 ≡ length n.signals) → IfOk r (λ s. width_at m s.0 ≡ Some w) → IfOk r (λ s. IsSource m s w)
+source_made : {E : Type 0} (n m : Netlist) (r : Result Sig E) (op : Op) (xs : List Sig) (w : ℕ) → OnOk r (m ≡ with_signal n (temporary n op xs)) →
+    IfOk r (λ s. s.0 ≡ length n.signals) → IfOk r (λ s. width_at m s.0 ≡ Some w) → IfOk r (λ s. IsSource m s w)
 source_made n m (Ok s) op xs w a b h = record { width = h; steady = steady_new n m (temporary n op xs) s.0 tt a b }
 source_made n m (Err e) op xs w a b h = tt
 
 -- a cell on signals that may be read
-module _ {E : Type 0} (n m : Netlist) (r : Result Sig E) (op : Op) (xs : List Sig) (added : OnOk r (m ≡ with_signal n (temporary n op xs))) (numbered : IfOk r (λ s. s.0 ≡ length n.signals)) (refused : OnErr r (m ≡ n)) where
+module _ {E : Type 0} (n m : Netlist) (r : Result Sig E) (op : Op) (xs : List Sig) (added : OnOk r (m ≡ with_signal n (temporary n op xs)))
+    (numbered : IfOk r (λ s. s.0 ≡ length n.signals)) (refused : OnErr r (m ≡ n)) where
   pub cell_made : (ws : List ℕ) (w : ℕ) → AreSources n xs ws → op_width op ws ≡ Some w → Made n m r w op xs
   cell_made ws w h e = made n m r w op xs (sized_gives n op xs ws w h.widths e) added numbered refused
 
@@ -67,12 +70,14 @@ chosen_next : (t : Bool) (xs ys : List Word) (x y : Word) → cond t xs ys ++ co
 chosen_next true xs ys x y = refl
 chosen_next false xs ys x y = refl
 
-pub chosen_more : (v : Val) (c : Sig) (all a b : List Sig) (next x y : Sig) (i : ℕ) → slice_get a i ≡ Some x → slice_get b i ≡ Some y → words v all ≡ cond (on v c) (words v (take i a)) (words v (take i b)) → v next.0 ≡ cond (on v c) (v x.0) (v y.0)
+pub chosen_more : (v : Val) (c : Sig) (all a b : List Sig) (next x y : Sig) (i : ℕ) → slice_get a i ≡ Some x → slice_get b i ≡ Some y → words v all ≡
+    cond (on v c) (words v (take i a)) (words v (take i b)) → v next.0 ≡ cond (on v c) (v x.0) (v y.0)
     → words v (all ++ next ∷ []) ≡ cond (on v c) (words v (take (i + 1) a)) (words v (take (i + 1) b))
 chosen_more v c all a b next x y i p q h e =
     words_end v all next ∙ ap (λ (l : List Word). l ++ v next.0 ∷ []) h ∙ ap (λ (w : Word). cond (on v c) (words v (take i a)) (words v (take i b)) ++ w ∷ []) e
     ∙ chosen_next (on v c) (words v (take i a)) (words v (take i b)) (v x.0) (v y.0)
-    ∙ ap (λ (l : List Word). cond (on v c) l (words v (take i b) ++ v y.0 ∷ [])) (sym (words_next v a i x p)) ∙ ap (λ (l : List Word). cond (on v c) (words v (take (suc i) a)) l) (sym (words_next v b i y q))
+    ∙ ap (λ (l : List Word). cond (on v c) l (words v (take i b) ++ v y.0 ∷ [])) (sym (words_next v a i x p)) ∙ ap
+    (λ (l : List Word). cond (on v c) (words v (take (suc i) a)) l) (sym (words_next v b i y q))
     ∙ ap (λ (k : ℕ). cond (on v c) (words v (take k a)) (words v (take k b))) (sym (add-one i))
 
 pub get_there : {A : Type 0} (xs : List A) (i : ℕ) (d : A) → i < length xs → slice_get xs i ≡ Some (slice_index_or xs i d)
@@ -94,7 +99,8 @@ sources_length n [] (w ∷ ws) h = absurd h.widths
 sources_length n (x ∷ xs) [] h = absurd h.widths
 sources_length n (x ∷ xs) (w ∷ ws) h = let e = sources_length n xs ws (record { widths = h.widths.1; steady = h.steady.1 }) in omega (arith, e)
 
-sources_next : (n : Netlist) (xs : List Sig) (ws : List ℕ) (i : ℕ) (x : Sig) (w : ℕ) → AreSources n xs (take i ws) → slice_get ws i ≡ Some w → IsSource n x w → AreSources n (xs ++ x ∷ []) (take (suc i) ws)
+sources_next : (n : Netlist) (xs : List Sig) (ws : List ℕ) (i : ℕ) (x : Sig) (w : ℕ) → AreSources n xs (take i ws) → slice_get ws i ≡ Some w →
+    IsSource n x w → AreSources n (xs ++ x ∷ []) (take (suc i) ws)
 sources_next n xs [] i x w h e s = absurd (cc)
 sources_next n [] (u ∷ ws) zero x w h e s = let q : u ≡ w = cc in subst (λ (k : ℕ). AreSources n (x ∷ []) (k ∷ [])) (sym q) (one_source s)
 sources_next n (y ∷ xs) (u ∷ ws) zero x w h e s = absurd h.widths
@@ -103,5 +109,6 @@ sources_next n (y ∷ xs) (u ∷ ws) (suc i) x w h e s =
     let r = sources_next n xs ws i x w (record { widths = h.widths.1; steady = h.steady.1 }) e s in
     record { widths = (h.widths.0, r.widths); steady = (h.steady.0, r.steady) }
 
-pub sources_more : (n : Netlist) (xs : List Sig) (ws : List ℕ) (i : ℕ) (x : Sig) (w : ℕ) → AreSources n xs (take i ws) → slice_get ws i ≡ Some w → IsSource n x w → AreSources n (xs ++ x ∷ []) (take (i + 1) ws)
+pub sources_more : (n : Netlist) (xs : List Sig) (ws : List ℕ) (i : ℕ) (x : Sig) (w : ℕ) → AreSources n xs (take i ws) → slice_get ws i ≡ Some w →
+    IsSource n x w → AreSources n (xs ++ x ∷ []) (take (i + 1) ws)
 sources_more n xs ws i x w h e s = subst (λ (k : ℕ). AreSources n (xs ++ x ∷ []) (take k ws)) (sym (add-one i)) (sources_next n xs ws i x w h e s)

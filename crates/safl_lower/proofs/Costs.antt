@@ -97,7 +97,9 @@ module _ (n m : Netlist) (xs ys : List (Option Load)) (own : List Sig) (p : ℕ)
           let b = no_more xs ys (omega (arith, e)) (λ i. h (suc i)) in
           omega (arith, a, b)
 
-      sums : (xs ys : List (Option Load)) (p k : ℕ) → length ys ≡ length xs → ((i : ℕ) → (i ≡ p → ⊥) → load_cost (load_in (slice_get ys i)) ≤ load_cost (load_in (slice_get xs i))) → load_cost (load_in (slice_get ys p)) ≤ k → loads_cost ys ≤ loads_cost xs + k
+      sums : (xs ys : List (Option Load)) (p k : ℕ) → length ys ≡ length xs →
+          ((i : ℕ) → (i ≡ p → ⊥) → load_cost (load_in (slice_get ys i)) ≤ load_cost (load_in (slice_get xs i))) → load_cost (load_in (slice_get ys p))
+          ≤ k → loads_cost ys ≤ loads_cost xs + k
       sums [] [] p k e h o = omega arith
       sums [] (y ∷ ys) p k e h o = absurd (omega (arith, e))
       sums (x ∷ xs) [] p k e h o = omega arith

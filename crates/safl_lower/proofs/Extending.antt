@@ -63,7 +63,16 @@ operand n (x ∷ xs) [] d m w h e = absurd h.widths
 operand n (x ∷ []) (u ∷ []) d m w h e =
     let q = where_is (nat_le u m && nat_le m max_width) m w (only_where _ _ w e) in
     let r = and_parts _ _ q.0 in
-    record { narrow = u; is = refl; sized = record { width = h.widths.0; steady = h.steady.0 }; some = leb-true 1 u (and_parts _ _ (tested u m w e)).0; below = leb-true u m r.0; bounded = leb-true m max_width r.1; wide = q.1 }
+    record {
+      narrow = u;
+      is = refl;
+      sized = record { width = h.widths.0; steady = h.steady.0 };
+      some = leb-true 1 u
+          (and_parts _ _ (tested u m w e)).0;
+      below = leb-true u m r.0;
+      bounded = leb-true m max_width r.1;
+      wide = q.1;
+    }
 operand n (x ∷ []) (u ∷ v ∷ ws) d m w h e = absurd h.widths.1
 operand n (x ∷ y ∷ xs) (u ∷ []) d m w h e = absurd h.widths.1
 operand n (x ∷ y ∷ xs) (u ∷ v ∷ ws) d m w h e = absurd (cc)
@@ -81,7 +90,8 @@ zeros_first z a w e f =
 pub stays_wide : (n : Netlist) (v : Val) (a : Sig) (w m : ℕ) → Wired n v → IsSource n a w → w ≡ m → v a.0 ≡ record { width = m; bits = (v a.0).bits }
 stays_wide n v a w m h e f = ap (λ (k : ℕ). record { width = k; bits = (v a.0).bits }) ((fits n v a.0 w h e.width).width ∙ f)
 
-pub extended : {E : Type 0} (n k m : Netlist) (r : Result Sig E) (z a : Sig) (zeros : Word) (u w wide : ℕ) → Grows k m → Grows n k → IsSource n a w → zeros ≡ record { width = u; bits = 0 } → u + w ≡ wide
+pub extended : {E : Type 0} (n k m : Netlist) (r : Result Sig E) (z a : Sig) (zeros : Word) (u w wide : ℕ) → Grows k m → Grows n k → IsSource n a w →
+    zeros ≡ record { width = u; bits = 0 } → u + w ≡ wide
     → ((v : Val) → Wired k v → v z.0 ≡ zeros)
     → IfOk r (λ s. (v : Val) → Wired m v → v s.0 ≡ apply_prim Cat (words v (z ∷ a ∷ [])))
     → IfOk r (λ s. (v : Val) → Wired m v → v s.0 ≡ record { width = wide; bits = (v a.0).bits })

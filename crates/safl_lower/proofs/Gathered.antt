@@ -1,5 +1,6 @@
 -- The calls and tail calls that the parts of a term have added.
-use Rattle.std.proofs.Common.{◌≡◌, ℕ, zero, suc, ◌+◌, ◌<◌, ◌≤◌, List, [], ◌∷◌, ◌++◌, map, length, Option, Some, None, Bool, true, false, not, ◌&&◌, ◌==◌, refl, sym, ap, subst, ◌∙◌, arith, append_assoc}
+use Rattle.std.proofs.Common.{◌≡◌, ℕ, zero, suc, ◌+◌, ◌<◌, ◌≤◌, List, [], ◌∷◌, ◌++◌, map, length, Option, Some, None, Bool, true, false, not, ◌&&◌}
+use Rattle.std.proofs.Common.{◌==◌, refl, sym, ap, subst, ◌∙◌, arith, append_assoc}
 use Rattle.safl_word.specs.Words.{Word, pick}
 use Rattle.safl_term.specs.Program.{Program}
 use Rattle.safl_term.specs.Terms.{Term, Const, Var, Op, If, Let, Call, Loop}
@@ -128,7 +129,8 @@ pub gate_is_none : {A : Type 0} (p : Bool) (x : Option A) → x ≡ None → gat
 gate_is_none true x e = e
 gate_is_none false x e = refl
 
-pub if_first : {A : Type 0} (p r : Bool) (w : Word) (c : Answer) (x y : Option A) (z : A) → gate r (Some w) ≡ word_of c → Some z ≡ gate ((p && r) && (w.bits == 1)) x → Some z ≡ gate p (select c None x y)
+pub if_first : {A : Type 0} (p r : Bool) (w : Word) (c : Answer) (x y : Option A) (z : A) → gate r (Some w) ≡ word_of c → Some z ≡ gate
+    ((p && r) && (w.bits == 1)) x → Some z ≡ gate p (select c None x y)
 if_first p r w c x y z e h =
     ap (λ (o : Option _). or_else o (gate (((p && r) && not (w.bits == 1)) && true) y)) (h ∙ ap (λ (b : Bool). gate b x) (sym (and_true _)))
     ∙ if_wants p true r w c x y e ∙ ap (λ (b : Bool). gate b (select c None x y)) (and_true p)
@@ -138,13 +140,15 @@ off_other true true y x z h = absurd (cc)
 off_other true false y x z h = refl
 off_other false t y x z h = refl
 
-pub if_second : {A : Type 0} (p r : Bool) (w : Word) (c : Answer) (x y : Option A) (z : A) → gate r (Some w) ≡ word_of c → Some z ≡ gate ((p && r) && not (w.bits == 1)) y → Some z ≡ gate p (select c None x y)
+pub if_second : {A : Type 0} (p r : Bool) (w : Word) (c : Answer) (x y : Option A) (z : A) → gate r (Some w) ≡ word_of c → Some z ≡ gate
+    ((p && r) && not (w.bits == 1)) y → Some z ≡ gate p (select c None x y)
 if_second p r w c x y z e k =
     k ∙ ap (λ (b : Bool). gate b y) (sym (and_true _))
     ∙ ap (λ (o : Option _). or_else o (gate (((p && r) && not (w.bits == 1)) && true) y)) (sym (ap (λ (b : Bool). gate b x) (and_true _) ∙ off_other (p && r) (w.bits == 1) y x z k))
     ∙ if_wants p true r w c x y e ∙ ap (λ (b : Bool). gate b (select c None x y)) (and_true p)
 
-pub let_second : {A : Type 0} (p r : Bool) (ws : List Word) (o : Option (List Word)) (go : List Word → Option A) (x : Option A) (z : A) → gate r (Some ws) ≡ o → x ≡ go ws → Some z ≡ gate (p && r) x → Some z ≡ gate p (with_all o None go)
+pub let_second : {A : Type 0} (p r : Bool) (ws : List Word) (o : Option (List Word)) (go : List Word → Option A) (x : Option A) (z : A) → gate r
+    (Some ws) ≡ o → x ≡ go ws → Some z ≡ gate (p && r) x → Some z ≡ gate p (with_all o None go)
 let_second p r ws o go x z e g h =
     h ∙ ap (gate (p && r)) g ∙ ap (λ (b : Bool). gate b (go ws)) (sym (and_true (p && r)))
     ∙ let_wants p true r ws o go e ∙ ap (λ (b : Bool). gate b (with_all o None go)) (and_true p)

@@ -1,5 +1,6 @@
 -- Tail calls merged one after another, from the first.
-use Rattle.std.proofs.Common.{◌≡◌, ℕ, zero, suc, ◌+◌, ◌-◌, ◌<◌, ◌≤◌, List, [], ◌∷◌, ◌++◌, map, take, length, Option, Some, None, Bool, true, false, ◌&&◌, ◌==◌, inl, inr, slice_get, add-one, refl, sym, ap, subst, ◌∙◌, arith}
+use Rattle.std.proofs.Common.{◌≡◌, ℕ, zero, suc, ◌+◌, ◌-◌, ◌<◌, ◌≤◌, List, [], ◌∷◌, ◌++◌, map, take, length, Option, Some, None, Bool, true, false}
+use Rattle.std.proofs.Common.{◌&&◌, ◌==◌, inl, inr, slice_get, add-one, refl, sym, ap, subst, ◌∙◌, arith}
 use Rattle.std.proofs.lemmas.Bool.{eq-eqb, ne_eqb, eqb-true, eqb-false}
 use Rattle.std.specs.Option.{option_or}
 use Rattle.safl_word.specs.Words.{Word}
@@ -50,7 +51,9 @@ cost_so_far (e ∷ es) (suc i) = let h = cost_so_far es i in omega (arith, h)
 
 taken_end : (v : Val) (es : List TailCall) (e : TailCall) (h : ℕ) → taken_to v (es ++ e ∷ []) h ≡ or_else (taken_to v es h) (gate ((e.member == h) && on v e.taken) (Some (words v e.args.items)))
 taken_end v [] e h = or_none (gate ((e.member == h) && on v e.taken) (Some (words v e.args.items)))
-taken_end v (d ∷ es) e h = ap (or_else (gate ((d.member == h) && on v d.taken) (Some (words v d.args.items)))) (taken_end v es e h) ∙ sym (or_assoc (gate ((d.member == h) && on v d.taken) (Some (words v d.args.items))) (taken_to v es h) (gate ((e.member == h) && on v e.taken) (Some (words v e.args.items))))
+taken_end v (d ∷ es) e h = ap (or_else (gate ((d.member == h) && on v d.taken) (Some (words v d.args.items)))) (taken_end v es e h) ∙ sym
+    (or_assoc (gate ((d.member == h) && on v d.taken) (Some (words v d.args.items))) (taken_to v es h)
+    (gate ((e.member == h) && on v e.taken) (Some (words v e.args.items))))
 
 listed_more : (k : ℕ) (js : List ℕ) (j : ℕ) → Listed k js → Listed k (js ++ j ∷ [])
 listed_more k [] j h = absurd h
@@ -156,7 +159,8 @@ module _ {first count : ℕ} {old cur : Netlist} {all : List TailCall} {j : ℕ}
       told = told_by;
     }
 
-pub merging_end : (first count : ℕ) (old new : Netlist) (all : List TailCall) (j : ℕ) (xs : List (Option Load)) → length all ≤ j → Merging first count old new all j xs → Builds old new (cost all) × Merged first count old new all xs
+pub merging_end : (first count : ℕ) (old new : Netlist) (all : List TailCall) (j : ℕ) (xs : List (Option Load)) → length all ≤ j → Merging first count
+    old new all j xs → Builds old new (cost all) × Merged first count old new all xs
 merging_end first count old new all j xs l h =
     let whole = take_all all j l in (
       subst (λ (es : List TailCall). Builds old new (cost es)) whole h.built,

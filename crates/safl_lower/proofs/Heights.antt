@@ -1,5 +1,6 @@
 -- Heights of gates, in nets that grow and above rows that are halved.
-use Rattle.std.proofs.Common.{◌≡◌, ℕ, zero, suc, ◌+◌, ◌*◌, ◌<◌, ◌≤◌, ◌/◌, ◌^◌, ◌⊎◌, inl, inr, List, [], ◌∷◌, ◌++◌, length, Option, Some, None, Vec, Global, Result, Ok, Err, IfOk, OnOk, slice_get, slice_index_or, refl, sym, ap, subst, ◌∙◌, arith}
+use Rattle.std.proofs.Common.{◌≡◌, ℕ, zero, suc, ◌+◌, ◌*◌, ◌<◌, ◌≤◌, ◌/◌, ◌^◌, ◌⊎◌, inl, inr, List, [], ◌∷◌, ◌++◌, length, Option, Some, None, Vec}
+use Rattle.std.proofs.Common.{Global, Result, Ok, Err, IfOk, OnOk, slice_get, slice_index_or, refl, sym, ap, subst, ◌∙◌, arith}
 use Rattle.std.proofs.Math.Nat.{pow-succ'}
 use Rattle.std.proofs.lemmas.Bool.{cases_eq}
 use Rattle.safl_net.specs.declared.cell.Sig.{Sig}
@@ -109,7 +110,8 @@ each_read n from h (x ∷ xs) a = (a.0, each_read n from h xs a.1)
 pub gate_within : (n : Netlist) (from : List Sig) (h : ℕ) (s : Sig) (xs : List Sig) → IsGateOf n s xs → AllWithin n from h xs → Within n from (suc h) s.0
 gate_within n from h s xs q a = inr (numbers xs, q, each_read n from h xs a)
 
-pub gate_made : {E : Type 0} (n m : Netlist) (r : Result Sig E) (op : Op) (xs : List Sig) → OnOk r (m ≡ with_signal n (temporary n op xs)) → IfOk r (λ s. s.0 ≡ length n.signals) → IfOk r (λ s. IsGateOf m s xs)
+pub gate_made : {E : Type 0} (n m : Netlist) (r : Result Sig E) (op : Op) (xs : List Sig) → OnOk r (m ≡ with_signal n (temporary n op xs)) → IfOk r
+    (λ s. s.0 ≡ length n.signals) → IfOk r (λ s. IsGateOf m s xs)
 gate_made n m (Ok s) op xs a b = ap maybe_reads (get_new n m (temporary n op xs) s.0 a b)
 gate_made n m (Err e) op xs a b = tt
 
@@ -134,7 +136,8 @@ one_at (x ∷ xs) zero d l = inl refl
 one_at (x ∷ xs) (suc i) d l = inr (one_at xs i d (omega (arith, l)))
 
 -- one more of the words that are chosen
-pub chosen_within : (n : Netlist) (c : Sig) (a b all : List Sig) (next : Sig) (i : ℕ) (d : Sig) → i < length a → i < length b → AllWithin n (c ∷ (a ++ b)) 1 all → IsGateOf n next (c ∷ slice_index_or a i d ∷ slice_index_or b i d ∷ [])
+pub chosen_within : (n : Netlist) (c : Sig) (a b all : List Sig) (next : Sig) (i : ℕ) (d : Sig) → i < length a → i < length b → AllWithin n
+    (c ∷ (a ++ b)) 1 all → IsGateOf n next (c ∷ slice_index_or a i d ∷ slice_index_or b i d ∷ [])
     → AllWithin n (c ∷ (a ++ b)) 1 (all ++ next ∷ [])
 chosen_within n c a b all next i d l m h g =
     let from = c ∷ (a ++ b) in
@@ -199,7 +202,8 @@ stands_low n from xs low high free f h k m e q few s = record {
 }
 
 -- the high half is free one gate later, if no bit of the low half is 1
-pub stands_high : (a b : Netlist) (j : ℕ) (from xs low high : List Sig) (free any rest still : Sig) (f h k m : ℕ) → Builds a b j → xs ≡ low ++ high → h ≡ suc k → length high ≤ 2 ^ k → Stands a from xs free f h m
+pub stands_high : (a b : Netlist) (j : ℕ) (from xs low high : List Sig) (free any rest still : Sig) (f h k m : ℕ) → Builds a b j → xs ≡ low ++ high →
+    h ≡ suc k → length high ≤ 2 ^ k → Stands a from xs free f h m
     → Within b low k any.0 → IsGateOf b rest (any ∷ []) → IsGateOf b still (free ∷ rest ∷ []) → Stands b from high still (suc f) k m
 stands_high a b j from xs low high free any rest still f h k m g e q few s wa gr gs =
     let d = s.deep in
@@ -228,23 +232,28 @@ skip : (xs ys : List Sig) (b : Sig) (s : ℕ) → IsOneOf (xs ++ ys) s → IsOne
 skip [] ys b s q = inr q
 skip (x ∷ xs) ys b s q = elim q [ inl e ↦ inl e | inr r ↦ inr (skip xs ys b s r) ]
 
-pub joined_within : (n : Netlist) (o : Option Load) (l : Load) (bit any : Sig) (ops us ws : List Sig) → o ≡ Some l → us ≡ l.words.items → IsGateOf n any (l.bit ∷ bit ∷ []) → AllWithin n (l.bit ∷ (us ++ ops)) 1 ws
+pub joined_within : (n : Netlist) (o : Option Load) (l : Load) (bit any : Sig) (ops us ws : List Sig) → o ≡ Some l → us ≡ l.words.items → IsGateOf n
+    any (l.bit ∷ bit ∷ []) → AllWithin n (l.bit ∷ (us ++ ops)) 1 ws
     → AllWithin n (load_parts o ++ (bit ∷ ops)) 1 (any ∷ ws)
 joined_within n o l bit any ops us ws e f g h =
     let from = l.bit ∷ (l.words.items ++ (bit ∷ ops)) in
     let here : AllWithin n from 0 (l.bit ∷ bit ∷ []) = (inl refl, (inr (one_back l.words.items (bit ∷ ops) bit.0 (inl refl)), tt)) in
     let words = subst (λ (xs : List Sig). AllWithin n (l.bit ∷ (xs ++ ops)) 1 ws) f h in
-    subst (λ (x : Option Load). AllWithin n (load_parts x ++ (bit ∷ ops)) 1 (any ∷ ws)) (sym e) (gate_within n from 0 any (l.bit ∷ bit ∷ []) g here, all_from n (l.bit ∷ (l.words.items ++ ops)) from into 1 ws words)
+    subst (λ (x : Option Load). AllWithin n (load_parts x ++ (bit ∷ ops)) 1 (any ∷ ws)) (sym e)
+    (gate_within n from 0 any (l.bit ∷ bit ∷ []) g here, all_from n (l.bit ∷ (l.words.items ++ ops)) from into 1 ws words)
   where
     into : (s : ℕ) → IsOneOf (l.bit ∷ (l.words.items ++ ops)) s → IsOneOf (l.bit ∷ (l.words.items ++ (bit ∷ ops))) s
     into s q = elim q [ inl k ↦ inl k | inr r ↦ inr (skip l.words.items ops bit s r) ]
 
 pub alone_load : (n : Netlist) (o : Option Load) (bit : Sig) (ops ws : List Sig) → o ≡ None → ws ≡ ops → AllWithin n (load_parts o ++ (bit ∷ ops)) 1 (bit ∷ ws)
 alone_load n o bit ops ws e f =
-    subst (λ (x : Option Load). AllWithin n (load_parts x ++ (bit ∷ ops)) 1 (bit ∷ ws)) (sym e) (subst (λ (xs : List Sig). AllWithin n (bit ∷ ops) 1 (bit ∷ xs)) (sym f) (all_own n (bit ∷ ops) 1 (bit ∷ ops) (λ s q. q)))
+    subst (λ (x : Option Load). AllWithin n (load_parts x ++ (bit ∷ ops)) 1 (bit ∷ ws)) (sym e)
+    (subst (λ (xs : List Sig). AllWithin n (bit ∷ ops) 1 (bit ∷ xs)) (sym f) (all_own n (bit ∷ ops) 1 (bit ∷ ops) (λ s q. q)))
 
-pub words_within : {E : Type 0} (n : Netlist) (r : Result (Vec Sig Global) E) (o : Option Load) (l : Load) (ops us : List Sig) → o ≡ Some l → us ≡ l.words.items → IfOk r (λ xs. AllWithin n (l.bit ∷ (us ++ ops)) 1 xs.items) → IfOk r (λ xs. AllWithin n (load_parts o ++ ops) 1 xs.items)
-words_within n (Ok xs) o l ops us e f h = subst (λ (x : Option Load). AllWithin n (load_parts x ++ ops) 1 xs.items) (sym e) (subst (λ (ys : List Sig). AllWithin n (l.bit ∷ (ys ++ ops)) 1 xs.items) f h)
+pub words_within : {E : Type 0} (n : Netlist) (r : Result (Vec Sig Global) E) (o : Option Load) (l : Load) (ops us : List Sig) → o ≡ Some l → us ≡
+    l.words.items → IfOk r (λ xs. AllWithin n (l.bit ∷ (us ++ ops)) 1 xs.items) → IfOk r (λ xs. AllWithin n (load_parts o ++ ops) 1 xs.items)
+words_within n (Ok xs) o l ops us e f h = subst (λ (x : Option Load). AllWithin n (load_parts x ++ ops) 1 xs.items) (sym e)
+    (subst (λ (ys : List Sig). AllWithin n (l.bit ∷ (ys ++ ops)) 1 xs.items) f h)
 words_within n (Err x) o l ops us e f h = tt
 
 pub alone_words : (n : Netlist) (o : Option Load) (ops ws : List Sig) → o ≡ None → ws ≡ ops → AllWithin n (load_parts o ++ ops) 1 ws
@@ -260,7 +269,8 @@ or_within n (Err x) o a b e g = tt
 pub or_alone : (n : Netlist) (o : Option Sig) (b : Sig) → o ≡ None → Within n (maybe_one o ++ b ∷ []) 1 b.0
 or_alone n o b e = subst (λ (x : Option Sig). Within n (maybe_one x ++ b ∷ []) 1 b.0) (sym e) (own_within n (b ∷ []) 1 b.0 (inl refl))
 
-pub two_within : (n : Netlist) (xs : List Sig) (k : ℕ) (a b pair first two : Sig) (low high : Option Sig) → AllWithin n xs k (a ∷ b ∷ []) → IsGateOf n pair (a ∷ b ∷ []) → AllWithin n xs (3 * k) (maybe_one low) → AllWithin n xs (3 * k) (maybe_one high)
+pub two_within : (n : Netlist) (xs : List Sig) (k : ℕ) (a b pair first two : Sig) (low high : Option Sig) → AllWithin n xs k (a ∷ b ∷ []) → IsGateOf n
+    pair (a ∷ b ∷ []) → AllWithin n xs (3 * k) (maybe_one low) → AllWithin n xs (3 * k) (maybe_one high)
     → Within n (maybe_one low ++ pair ∷ []) 1 first.0 → Within n (maybe_one high ++ first ∷ []) 1 two.0 → Within n xs (3 * suc k) two.0
 two_within n xs k a b pair first two low high ab g l h fw tw =
     let j = suc (3 * k) in

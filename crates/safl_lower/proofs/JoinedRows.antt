@@ -1,5 +1,7 @@
 -- Bits and loads in a row that is joined of two.
-use Rattle.std.proofs.Common.{◌≡◌, ℕ, suc, ◌+◌, ◌<◌, ◌≤◌, List, [], ◌∷◌, ◌++◌, length, length-append, map, take, drop, slice_index_or, Option, Some, None, Vec, Global, Bool, true, false, cond, slice_get, slice_set, zero, ◌==◌, not, ◌&&◌, ◌||◌, refl, sym, ap, subst, ◌∙◌, arith}
+use Rattle.std.proofs.Common.{◌≡◌, ℕ, suc, ◌+◌, ◌<◌, ◌≤◌, List, [], ◌∷◌, ◌++◌, length, length-append, map, take, drop, slice_index_or, Option, Some}
+use Rattle.std.proofs.Common.{None, Vec, Global, Bool, true, false, cond, slice_get, slice_set, zero, ◌==◌, not, ◌&&◌, ◌||◌, refl, sym, ap, subst}
+use Rattle.std.proofs.Common.{◌∙◌, arith}
 use Rattle.std.proofs.lemmas.List.{take-append-drop}
 use Rattle.safl_word.specs.Words.{Word}
 use Rattle.std.specs.Option.{option_or}
@@ -137,7 +139,8 @@ row_append [] ys = omega arith
 row_append (x ∷ xs) ys = let h = row_append xs ys in omega (arith, h)
 
 -- two rows, and the gates that join them
-pub row_joined : (n : Netlist) (xs ys : List Load) (ws : List ℕ) → AllFit n ys ws → 0 < length xs → 0 < length ys → row_gates (drop 1 xs) + row_gates (drop 1 ys) + (1 + length ws) ≡ row_gates (drop 1 (xs ++ ys))
+pub row_joined : (n : Netlist) (xs ys : List Load) (ws : List ℕ) → AllFit n ys ws → 0 < length xs → 0 < length ys → row_gates (drop 1 xs) + row_gates
+    (drop 1 ys) + (1 + length ws) ≡ row_gates (drop 1 (xs ++ ys))
 row_joined n [] ys ws h k l = absurd (omega (arith, k))
 row_joined n (x ∷ xs) [] ws h k l = absurd (omega (arith, l))
 row_joined n (x ∷ xs) (y ∷ ys) ws h k l =
@@ -189,7 +192,8 @@ pub append_none : {A : Type 0} (xs : List A) → xs ≡ xs ++ []
 append_none [] = refl
 append_none {A} (x ∷ xs) = ap (λ (l : List A). x ∷ l) (append_none xs)
 
-pub row_pushed : {A : Type 0} (xs : List (Vec A Global)) (p i : ℕ) (old new : Vec A Global) (s : A) → p < length xs → slice_get xs p ≡ Some old → new.items ≡ old.items ++ s ∷ [] → row_at (slice_set xs p new) i ≡ row_at xs i ++ cond (i == p) (s ∷ []) []
+pub row_pushed : {A : Type 0} (xs : List (Vec A Global)) (p i : ℕ) (old new : Vec A Global) (s : A) → p < length xs → slice_get xs p ≡ Some old →
+    new.items ≡ old.items ++ s ∷ [] → row_at (slice_set xs p new) i ≡ row_at xs i ++ cond (i == p) (s ∷ []) []
 row_pushed {A} xs p i old new s l e h = ap (λ (o : Option (Vec A Global)). row_in o) (get_set xs p i new l) ∙ by (i == p) refl
   where
     by : (b : Bool) → (i == p) ≡ b → row_in (cond b (Some new) (slice_get xs i)) ≡ row_at xs i ++ cond b (s ∷ []) []
@@ -202,12 +206,14 @@ pub total_bare : {A : Type 0} (g : List A → ℕ) (xs : List (Vec A Global)) �
 total_bare g [] e h = refl
 total_bare g (x ∷ xs) e h = let a : g x.items ≡ g [] = ap g (h 0) in let b = total_bare g xs e (λ i. h (suc i)) in omega (arith, a, b, e)
 
-total_set : {A : Type 0} (g : List A → ℕ) (xs : List (Vec A Global)) (p : ℕ) (old new : Vec A Global) → slice_get xs p ≡ Some old → total g (slice_set xs p new) + g old.items ≡ total g xs + g new.items
+total_set : {A : Type 0} (g : List A → ℕ) (xs : List (Vec A Global)) (p : ℕ) (old new : Vec A Global) → slice_get xs p ≡ Some old → total g
+    (slice_set xs p new) + g old.items ≡ total g xs + g new.items
 total_set g [] p old new e = absurd (cc)
 total_set {A} g (x ∷ xs) zero old new e = let q : x ≡ old = cc in let a : g x.items ≡ g old.items = ap (λ (r : Vec A Global). g r.items) q in omega (arith, a)
 total_set g (x ∷ xs) (suc p) old new e = let h = total_set g xs p old new e in omega (arith, h)
 
-pub total_pushed : {A : Type 0} (g : List A → ℕ) (xs : List (Vec A Global)) (p : ℕ) (old new : Vec A Global) (s : A) (k : ℕ) → slice_get xs p ≡ Some old → new.items ≡ old.items ++ s ∷ [] → ((l : List A) → g (l ++ s ∷ []) ≤ g l + k) → total g (slice_set xs p new) ≤ total g xs + k
+pub total_pushed : {A : Type 0} (g : List A → ℕ) (xs : List (Vec A Global)) (p : ℕ) (old new : Vec A Global) (s : A) (k : ℕ) → slice_get xs p ≡ Some
+    old → new.items ≡ old.items ++ s ∷ [] → ((l : List A) → g (l ++ s ∷ []) ≤ g l + k) → total g (slice_set xs p new) ≤ total g xs + k
 total_pushed g xs p old new s k e h f =
     let a = total_set g xs p old new e in
     let b = ap g h in

@@ -71,7 +71,8 @@ bits_set v xs p i old s bit l e h = ap (λ (o : Option (Option Sig)). on_in v (s
         h ∙ ap (λ (o : Option (Option Sig)). on_in v (sig_in o) || on v bit) (sym k)
     by false q = or_false (on_from v xs i)
 
-pub loads_set : (v : Val) (xs : List (Option Load)) (p i : ℕ) (old : Option Load) (l : Load) (bit : Sig) (us : List Word) → p < length xs → slice_get xs p ≡ Some old → taken v l ≡ option_or (taken_in v old) (gate (on v bit) (Some us))
+pub loads_set : (v : Val) (xs : List (Option Load)) (p i : ℕ) (old : Option Load) (l : Load) (bit : Sig) (us : List Word) → p < length xs → slice_get
+    xs p ≡ Some old → taken v l ≡ option_or (taken_in v old) (gate (on v bit) (Some us))
     → taken_from v (slice_set xs p (Some l)) i ≡ option_or (taken_from v xs i) (gate ((i == p) && on v bit) (Some us))
 loads_set v xs p i old l bit us m e h = ap (λ (o : Option (Option Load)). taken_in v (load_in o)) (get_set xs p i (Some l) m) ∙ by (i == p) refl
   where

@@ -1,5 +1,6 @@
 -- Rows that are joined, one row after another.
-use Rattle.std.proofs.Common.{◌≡◌, ℕ, zero, suc, ◌*◌, List, [], ◌∷◌, ◌++◌, length, take, Option, Some, None, Vec, Global, Bool, true, false, ◌&&◌, ◌||◌, slice_get, slice_index_or, refl, sym, ap, subst, ◌∙◌, arith}
+use Rattle.std.proofs.Common.{◌≡◌, ℕ, zero, suc, ◌*◌, List, [], ◌∷◌, ◌++◌, length, take, Option, Some, None, Vec, Global, Bool, true, false, ◌&&◌}
+use Rattle.std.proofs.Common.{◌||◌, slice_get, slice_index_or, refl, sym, ap, subst, ◌∙◌, arith}
 use Rattle.safl_net.specs.declared.cell.Sig.{Sig}
 use Rattle.safl_net.specs.Netlist.{Netlist}
 use Rattle.safl_net.proofs.Growth.{wired_before}
@@ -33,7 +34,8 @@ any_kept g row o q = record {
   height = λ h l. all_kept g row h (maybe_one o) (q.height h l);
 }
 
-any_more : (n : Netlist) (rows : List (Vec Sig Global)) (bits : List (Option Sig)) (r : Vec Sig Global) (b : Option Sig) → length bits ≡ length rows → ((j : ℕ) → IsAnyOf n (row_at rows j) (sig_in (slice_get bits j))) → IsAnyOf n r.items b
+any_more : (n : Netlist) (rows : List (Vec Sig Global)) (bits : List (Option Sig)) (r : Vec Sig Global) (b : Option Sig) → length bits ≡ length rows →
+    ((j : ℕ) → IsAnyOf n (row_at rows j) (sig_in (slice_get bits j))) → IsAnyOf n r.items b
     → (j : ℕ) → IsAnyOf n (row_at (rows ++ r ∷ []) j) (sig_in (slice_get (bits ++ b ∷ []) j))
 any_more n [] [] r b e h q zero = q
 any_more n [] [] r b e h q (suc j) = none_any n [] refl
@@ -42,8 +44,10 @@ any_more n (x ∷ rows) [] r b e h q j = absurd (omega (arith, e))
 any_more n (x ∷ rows) (y ∷ bits) r b e h q zero = h 0
 any_more n (x ∷ rows) (y ∷ bits) r b e h q (suc j) = any_more n rows bits r b (omega (arith, e)) (λ i. h (suc i)) q j
 
-pub any_joined : (n : Netlist) (rows : List (Vec Sig Global)) (bits after : List (Option Sig)) (i : ℕ) (r : Vec Sig Global) (b : Option Sig) → slice_get rows i ≡ Some r → length bits ≡ length (take i rows)
-    → ((j : ℕ) → IsAnyOf n (row_at (take i rows) j) (sig_in (slice_get bits j))) → IsAnyOf n r.items b → after ≡ bits ++ b ∷ [] → (j : ℕ) → IsAnyOf n (row_at (take (suc i) rows) j) (sig_in (slice_get after j))
+pub any_joined : (n : Netlist) (rows : List (Vec Sig Global)) (bits after : List (Option Sig)) (i : ℕ) (r : Vec Sig Global) (b : Option Sig) →
+    slice_get rows i ≡ Some r → length bits ≡ length (take i rows)
+    → ((j : ℕ) → IsAnyOf n (row_at (take i rows) j) (sig_in (slice_get bits j))) → IsAnyOf n r.items b → after ≡ bits ++ b ∷ [] → (j : ℕ) → IsAnyOf n
+    (row_at (take (suc i) rows) j) (sig_in (slice_get after j))
 any_joined n rows bits after i r b at e h q is j =
     subst (λ (l : List (Vec Sig Global)). IsAnyOf n (row_at l j) (sig_in (slice_get after j))) (sym (take_next rows i r at))
     (subst (λ (l : List (Option Sig)). IsAnyOf n (row_at (take i rows ++ r ∷ []) j) (sig_in (slice_get l j))) (sym is) (any_more n (take i rows) bits r b e h q j))
@@ -84,7 +88,8 @@ pub several_in_kept : {a b : Netlist} {k : ℕ} → Builds a b k → (row : List
 several_in_kept g row None q = q
 several_in_kept g row (Some s) q = several_kept g row s q
 
-several_more : (n : Netlist) (rows : List (Vec Sig Global)) (all : List (Option Several)) (r : Vec Sig Global) (o : Option Several) → length all ≡ length rows → ((j : ℕ) → IsSeveralIn n (row_at rows j) (several_in (slice_get all j))) → IsSeveralIn n r.items o
+several_more : (n : Netlist) (rows : List (Vec Sig Global)) (all : List (Option Several)) (r : Vec Sig Global) (o : Option Several) → length all ≡
+    length rows → ((j : ℕ) → IsSeveralIn n (row_at rows j) (several_in (slice_get all j))) → IsSeveralIn n r.items o
     → (j : ℕ) → IsSeveralIn n (row_at (rows ++ r ∷ []) j) (several_in (slice_get (all ++ o ∷ []) j))
 several_more n [] [] r o e h q zero = q
 several_more n [] [] r o e h q (suc j) = refl
@@ -93,8 +98,10 @@ several_more n (x ∷ rows) [] r o e h q j = absurd (omega (arith, e))
 several_more n (x ∷ rows) (y ∷ all) r o e h q zero = h 0
 several_more n (x ∷ rows) (y ∷ all) r o e h q (suc j) = several_more n rows all r o (omega (arith, e)) (λ i. h (suc i)) q j
 
-pub several_joined : (n : Netlist) (rows : List (Vec Sig Global)) (all after : List (Option Several)) (i : ℕ) (r : Vec Sig Global) (o : Option Several) → slice_get rows i ≡ Some r → length all ≡ length (take i rows)
-    → ((j : ℕ) → IsSeveralIn n (row_at (take i rows) j) (several_in (slice_get all j))) → IsSeveralIn n r.items o → after ≡ all ++ o ∷ [] → (j : ℕ) → IsSeveralIn n (row_at (take (suc i) rows) j) (several_in (slice_get after j))
+pub several_joined : (n : Netlist) (rows : List (Vec Sig Global)) (all after : List (Option Several)) (i : ℕ) (r : Vec Sig Global)
+    (o : Option Several) → slice_get rows i ≡ Some r → length all ≡ length (take i rows)
+    → ((j : ℕ) → IsSeveralIn n (row_at (take i rows) j) (several_in (slice_get all j))) → IsSeveralIn n r.items o → after ≡ all ++ o ∷ [] → (j : ℕ) →
+    IsSeveralIn n (row_at (take (suc i) rows) j) (several_in (slice_get after j))
 several_joined n rows all after i r o at e h q is j =
     subst (λ (l : List (Vec Sig Global)). IsSeveralIn n (row_at l j) (several_in (slice_get after j))) (sym (take_next rows i r at))
     (subst (λ (l : List (Option Several)). IsSeveralIn n (row_at (take i rows ++ r ∷ []) j) (several_in (slice_get l j))) (sym is) (several_more n (take i rows) all r o e h q j))
@@ -111,7 +118,8 @@ first_kept g row o q = record {
   height = λ h l. all_kept g (parts row) h (load_parts o) (q.height h l);
 }
 
-first_more : (n : Netlist) (rows : List (Vec Load Global)) (all : List (Option Load)) (r : Vec Load Global) (o : Option Load) → length all ≡ length rows → ((j : ℕ) → IsFirstOf n (row_at rows j) (load_in (slice_get all j))) → IsFirstOf n r.items o
+first_more : (n : Netlist) (rows : List (Vec Load Global)) (all : List (Option Load)) (r : Vec Load Global) (o : Option Load) → length all ≡ length
+    rows → ((j : ℕ) → IsFirstOf n (row_at rows j) (load_in (slice_get all j))) → IsFirstOf n r.items o
     → (j : ℕ) → IsFirstOf n (row_at (rows ++ r ∷ []) j) (load_in (slice_get (all ++ o ∷ []) j))
 first_more n [] [] r o e h q zero = q
 first_more n [] [] r o e h q (suc j) = none_first n [] refl
@@ -120,8 +128,10 @@ first_more n (x ∷ rows) [] r o e h q j = absurd (omega (arith, e))
 first_more n (x ∷ rows) (y ∷ all) r o e h q zero = h 0
 first_more n (x ∷ rows) (y ∷ all) r o e h q (suc j) = first_more n rows all r o (omega (arith, e)) (λ i. h (suc i)) q j
 
-pub first_joined : (n : Netlist) (rows : List (Vec Load Global)) (all after : List (Option Load)) (i : ℕ) (r : Vec Load Global) (o : Option Load) → slice_get rows i ≡ Some r → length all ≡ length (take i rows)
-    → ((j : ℕ) → IsFirstOf n (row_at (take i rows) j) (load_in (slice_get all j))) → IsFirstOf n r.items o → after ≡ all ++ o ∷ [] → (j : ℕ) → IsFirstOf n (row_at (take (suc i) rows) j) (load_in (slice_get after j))
+pub first_joined : (n : Netlist) (rows : List (Vec Load Global)) (all after : List (Option Load)) (i : ℕ) (r : Vec Load Global) (o : Option Load) →
+    slice_get rows i ≡ Some r → length all ≡ length (take i rows)
+    → ((j : ℕ) → IsFirstOf n (row_at (take i rows) j) (load_in (slice_get all j))) → IsFirstOf n r.items o → after ≡ all ++ o ∷ [] → (j : ℕ) →
+    IsFirstOf n (row_at (take (suc i) rows) j) (load_in (slice_get after j))
 first_joined n rows all after i r o at e h q is j =
     subst (λ (l : List (Vec Load Global)). IsFirstOf n (row_at l j) (load_in (slice_get after j))) (sym (take_next rows i r at))
     (subst (λ (l : List (Option Load)). IsFirstOf n (row_at (take i rows ++ r ∷ []) j) (load_in (slice_get l j))) (sym is) (first_more n (take i rows) all r o e h q j))
@@ -132,5 +142,6 @@ some_more n [] o ws h q (suc j) = tt
 some_more n (x ∷ all) o ws h q zero = h 0
 some_more n (x ∷ all) o ws h q (suc j) = some_more n all o (λ i. ws (suc i)) (λ i. h (suc i)) q j
 
-pub some_joined : (n : Netlist) (all after : List (Option Load)) (i : ℕ) (o : Option Load) (ws : ℕ → List ℕ) → length all ≡ i → after ≡ all ++ o ∷ [] → SomeFit n all ws → FitsIn n o (ws i) → SomeFit n after ws
+pub some_joined : (n : Netlist) (all after : List (Option Load)) (i : ℕ) (o : Option Load) (ws : ℕ → List ℕ) → length all ≡ i → after ≡ all ++ o ∷ []
+    → SomeFit n all ws → FitsIn n o (ws i) → SomeFit n after ws
 some_joined n all after i o ws e is h q = subst (λ (l : List (Option Load)). SomeFit n l ws) (sym is) (some_more n all o ws h (subst (λ (j : ℕ). FitsIn n o (ws j)) (sym e) q))

@@ -61,7 +61,8 @@ pub setting_kept : {a b : Netlist} {F : Owner} {P : SiteTable} {slots : List Sig
 setting_kept {path = path} g s = setting_on g s (source_grown g path 1 s.path_bit)
 
 -- below a let, on the path of its body
-pub setting_below : {a b : Netlist} {F : Owner} {P : SiteTable} {slots : List Sig} {env : List ℕ} {path q : Sig} (xs : List Sig) (ws : List ℕ) → Grows a b → Setting a F P slots env path → IsSource b q 1 → AreSources b xs ws → Setting b F P (slots ++ xs) (env ++ ws) q
+pub setting_below : {a b : Netlist} {F : Owner} {P : SiteTable} {slots : List Sig} {env : List ℕ} {path q : Sig} (xs : List Sig) (ws : List ℕ) → Grows
+    a b → Setting a F P slots env path → IsSource b q 1 → AreSources b xs ws → Setting b F P (slots ++ xs) (env ++ ws) q
 setting_below {b = b} {slots = slots} {env = env} xs ws g s h z =
     let k = setting_on g s h in
     record { path_bit = h; slots_sized = sources_joined b slots xs env ws k.slots_sized z; first = k.first; last = k.last; sites_sized = k.sites_sized; one_width = k.one_width }

@@ -1,5 +1,6 @@
 -- Calls laid out by own site, one after another from the last.
-use Rattle.std.proofs.Common.{◌≡◌, ℕ, zero, suc, ◌+◌, ◌-◌, ◌<◌, ◌≤◌, List, [], ◌∷◌, ◌++◌, map, length, Option, Some, None, Bool, true, false, ◌&&◌, ◌⊎◌, inl, inr, ◌==◌, T, slice_get, slice_set, refl, sym, ap, subst, ◌∙◌, arith}
+use Rattle.std.proofs.Common.{◌≡◌, ℕ, zero, suc, ◌+◌, ◌-◌, ◌<◌, ◌≤◌, List, [], ◌∷◌, ◌++◌, map, length, Option, Some, None, Bool, true, false, ◌&&◌}
+use Rattle.std.proofs.Common.{◌⊎◌, inl, inr, ◌==◌, T, slice_get, slice_set, refl, sym, ap, subst, ◌∙◌, arith}
 use Rattle.std.proofs.Math.Facts.{eqb_yes}
 use Rattle.safl_word.specs.Words.{Word}
 use Rattle.safl_term.specs.Readiness.{or_else}
@@ -48,7 +49,8 @@ all_fresh first xs (k ∷ ks) h = (h (k - first), all_fresh first xs ks h)
 pub none_fits : (n : Netlist) (xs : List (Option Load)) (i : ℕ) (ws : List ℕ) → Lacks xs i → FitsIn n (load_in (slice_get xs i)) ws
 none_fits n xs i ws e = subst (λ (o : Option Load). FitsIn n o ws) (sym e) tt
 
-pub so_far_start : (first count : ℕ) (all : List Want) (xs : List (Option Load)) → Apart (map site_of all) → Between first (first + count) (map site_of all) → length xs ≡ count → ((i : ℕ) → Lacks xs i) → SoFar first count all all xs
+pub so_far_start : (first count : ℕ) (all : List Want) (xs : List (Option Load)) → Apart (map site_of all) → Between first (first + count)
+    (map site_of all) → length xs ≡ count → ((i : ℕ) → Lacks xs i) → SoFar first count all all xs
 so_far_start first count all xs a b e h = record {
   apart = a;
   within = b;
@@ -115,7 +117,8 @@ set_length [] j x = refl
 set_length (y ∷ xs) zero x = refl
 set_length (y ∷ xs) (suc j) x = ap suc (set_length xs j x)
 
-fresh_set : (first count : ℕ) (xs : List (Option Load)) (ks : List ℕ) (j : ℕ) (x : Option Load) → first ≤ j → Between first count ks → Others ks j → Fresh first xs ks → Fresh first (slice_set xs (j - first) x) ks
+fresh_set : (first count : ℕ) (xs : List (Option Load)) (ks : List ℕ) (j : ℕ) (x : Option Load) → first ≤ j → Between first count ks → Others ks j →
+    Fresh first xs ks → Fresh first (slice_set xs (j - first) x) ks
 fresh_set first count xs [] j x l w o h = tt
 fresh_set first count xs (k ∷ ks) j x l w o h =
     let low = w.0 in
@@ -151,7 +154,8 @@ module _ {first count : ℕ} {all all_rest : List Want} (rest : List Want) (e : 
       let at = place_is in
       set_other xs (e.site - first) i (Some (want_load e)) (λ s. no (omega (arith, s, at)))
 
-  fits_at : (F : Owner) (n : Netlist) → WantsFit F n all → (i : ℕ) (t : Bool) → (e.site == first + i) ≡ t → FitsIn n (load_in (slice_get (slice_set xs (e.site - first) (Some (want_load e))) i)) (site_widths F first i)
+  fits_at : (F : Owner) (n : Netlist) → WantsFit F n all → (i : ℕ) (t : Bool) → (e.site == first + i) ≡ t → FitsIn n
+      (load_in (slice_get (slice_set xs (e.site - first) (Some (want_load e))) i)) (site_widths F first i)
   fits_at F n w i true t =
       let s : e.site ≡ first + i = eqb_yes (subst T (sym t) tt) in
       let f = (wants_front F n rest e (subst (WantsFit F n) q (h.left F n w))).1 in
@@ -159,7 +163,8 @@ module _ {first count : ℕ} {all all_rest : List Want} (rest : List Want) (e : 
       (subst (λ (k : ℕ). LoadFits n (want_load e) (F.program.params (F.program.callee k))) s (record { bit = f.bit; words = f.sized }))
   fits_at F n w i false t = subst (λ (o : Option (Option Load)). FitsIn n (load_in o) (site_widths F first i)) (sym (other i t)) (h.fits F n w i)
 
-  called_at : (i : ℕ) (t : Bool) → (e.site == first + i) ≡ t → Listed (first + i) (map site_of all) → Listed (first + i) (map site_of rest) ⊎ (Lacks (slice_set xs (e.site - first) (Some (want_load e))) i → ⊥)
+  called_at : (i : ℕ) (t : Bool) → (e.site == first + i) ≡ t → Listed (first + i) (map site_of all) → Listed (first + i) (map site_of rest) ⊎
+      (Lacks (slice_set xs (e.site - first) (Some (want_load e))) i → ⊥)
   called_at i true t g = inr (λ (lacks : Lacks (slice_set xs (e.site - first) (Some (want_load e))) i). let is = ap load_in (here i t) in absurd (cc))
   called_at i false t g = by (h.called i g)
     where
@@ -240,5 +245,6 @@ all_placed first count all table xs e h =
     }
 
 -- each site that is called has one
-pub each_there : (first count : ℕ) (all : List Want) (table : List (Option Load)) → Placed first count all table → ((i : ℕ) → i < count → Listed (first + i) (map site_of all)) → (i : ℕ) → i < length table → load_in (slice_get table i) ≡ None → ⊥
+pub each_there : (first count : ℕ) (all : List Want) (table : List (Option Load)) → Placed first count all table →
+    ((i : ℕ) → i < count → Listed (first + i) (map site_of all)) → (i : ℕ) → i < length table → load_in (slice_get table i) ≡ None → ⊥
 each_there first count all table h g i l = let s = h.size in h.called i (g i (omega (arith, l, s)))

@@ -46,5 +46,6 @@ none_hold (plain.Cons x ts) t e f =
 pub holds_at : (ts : List Term) (i : ℕ) (x : Term) → slice_get ts i ≡ Some x → holds_calls (shown_term x) ≡ true → hold_calls (shown_terms ts) ≡ true
 holds_at ts i x e h = ap hold_calls (forest_at ts i x e) ∙ one_holds (shown_terms (take i ts)) (shown_term x) (shown_terms (drop (suc i) ts)) h
 
-pub none_so_far : (ts : List Term) (i : ℕ) (x : Term) → slice_get ts i ≡ Some x → hold_calls (shown_terms (take i ts)) ≡ false → holds_calls (shown_term x) ≡ false → hold_calls (shown_terms (take (i + 1) ts)) ≡ false
+pub none_so_far : (ts : List Term) (i : ℕ) (x : Term) → slice_get ts i ≡ Some x → hold_calls (shown_terms (take i ts)) ≡ false → holds_calls
+    (shown_term x) ≡ false → hold_calls (shown_terms (take (i + 1) ts)) ≡ false
 none_so_far ts i x e h k = ap hold_calls (forest_more ts i x e) ∙ none_hold (shown_terms (take i ts)) (shown_term x) h k

@@ -82,7 +82,8 @@ last_spans p g lo hi (Cons y ts) t (m, x, h) =
     let r = last_spans p g m hi ts t h in
     (r.0, (m, x, r.1), r.2)
 
-last_widths : (p : Program) (env : List ℕ) (ts : Terms) (t : Term) (ws : List ℕ) → HaveWidths p env (end ts t) ws → (us : List ℕ) × (w : ℕ) × (ws ≡ us ++ w ∷ []) × HaveWidths p env ts us × HasWidth p env t w
+last_widths : (p : Program) (env : List ℕ) (ts : Terms) (t : Term) (ws : List ℕ) → HaveWidths p env (end ts t) ws → (us : List ℕ) × (w : ℕ) ×
+    (ws ≡ us ++ w ∷ []) × HaveWidths p env ts us × HasWidth p env t w
 last_widths p env Nil t [] h = absurd h
 last_widths p env Nil t (w ∷ []) h = ([], w, refl, tt, h.0)
 last_widths p env Nil t (w ∷ x ∷ ws) h = absurd h.1
@@ -145,7 +146,8 @@ lowers_more {P} {slots} {path} {n0} {n1} {n2} {n3} {o0} {o1} {o2} {r} {s} {one} 
       let g = goes_of (answer back (words v slots) t) in
       told_more v hs.more ht.more None (hs.told F env l.front l.typed v (wired_before ht.grows w2))
       (told_by v ht.more (gate (on v path) g) None (λ z q. q ∙ gate_is_none (on v path) g (no_goes back t (words v slots) l.last)) (ht.told F false env l.width l.last v w2));
-  sites = more_twice (map site_of o0.wants.items) (map site_of o1.wants.items) (map site_of o2.wants.items) (sites_in ts) (sites_of t) hs.sites ht.sites ∙ ap (λ (l : List ℕ). (map site_of o0.wants.items) ++ l) (sym (sites_end ts t));
+  sites = more_twice (map site_of o0.wants.items) (map site_of o1.wants.items) (map site_of o2.wants.items) (sites_in ts) (sites_of t) hs.sites
+      ht.sites ∙ ap (λ (l : List ℕ). (map site_of o0.wants.items) ++ l) (sym (sites_end ts t));
   fits = λ F env ws st ty x.
       let l = last_typed F env ts t ws ty in
       out_kept hb.grows (ht.fits F false env l.width (setting_kept hs.grows st) l.last (hs.fits F env l.front st l.typed x));
@@ -159,7 +161,8 @@ lowers_more {P} {slots} {path} {n0} {n1} {n2} {n3} {o0} {o1} {o2} {r} {s} {one} 
       record {
         ready = hb.bit;
         widths = subst (λ (xs : List Sig). AreSources n3 xs ws) (sym e) (subst (λ (us : List ℕ). AreSources n3 (r.values.items ++ one.value ∷ []) us) (sym l.is)
-            (sources_joined n3 r.values.items (one.value ∷ []) l.front (l.width ∷ []) (sources_grown g r.values.items l.front a.widths) (one_source (source_grown hb.grows one.value l.width (b.width (ht.ever F env l.width l.last))))));
+            (sources_joined n3 r.values.items (one.value ∷ []) l.front (l.width ∷ []) (sources_grown g r.values.items l.front a.widths)
+            (one_source (source_grown hb.grows one.value l.width (b.width (ht.ever F env l.width l.last))))));
       };
   ever = λ F env ws ty no. let l = last_typed F env ts t ws ty in ⊎_elim (hs.ever F env l.front l.typed) (ht.ever F env l.width l.last) (hb.never.0 no);
   value = λ v w3.

@@ -1,5 +1,6 @@
 -- Shifts by amounts that are cut down.
-use Rattle.std.proofs.Common.{◌≡◌, ℕ, ◌+◌, ◌*◌, ◌/◌, ◌%◌, ◌^◌, ◌<◌, ◌≤◌, inl, inr, List, [], ◌∷◌, length, cond, Some, None, Bool, true, false, ◌&&◌, nat_lt, nat_le, Result, Ok, Err, IfOk, slice_index_or, refl, sym, subst, ap, ◌∙◌, arith}
+use Rattle.std.proofs.Common.{◌≡◌, ℕ, ◌+◌, ◌*◌, ◌/◌, ◌%◌, ◌^◌, ◌<◌, ◌≤◌, inl, inr, List, [], ◌∷◌, length, cond, Some, None, Bool, true, false, ◌&&◌}
+use Rattle.std.proofs.Common.{nat_lt, nat_le, Result, Ok, Err, IfOk, slice_index_or, refl, sym, subst, ap, ◌∙◌, arith}
 use Rattle.std.proofs.lemmas.Bool.{leb-true, ltb-true, ltb-false, lt-ltb, le-ltb, eq-eqb, and_parts}
 use Rattle.std.proofs.lemmas.Nat.{mod_low}
 use Rattle.std.proofs.Math.Pow.{pow_mono}
@@ -134,7 +135,8 @@ alike b false e = let p = ltb-false 255 b e in inl (omega (arith, p))
 low_is : (b : ℕ) → (b / 2 ^ 0) % 2 ^ 8 ≡ b % 256
 low_is b = omega arith
 
-cut_alike : (b limit over low s : Word) (u : ℕ) → 32 < u → limit ≡ record { width = u; bits = 255 % 2 ^ u } → over ≡ apply_prim Gt (b ∷ limit ∷ []) → low ≡ apply_prim (Bits 7 0) (b ∷ []) → s ≡ apply_prim Cat (over ∷ low ∷ [])
+cut_alike : (b limit over low s : Word) (u : ℕ) → 32 < u → limit ≡ record { width = u; bits = 255 % 2 ^ u } → over ≡ apply_prim Gt (b ∷ limit ∷ []) →
+    low ≡ apply_prim (Bits 7 0) (b ∷ []) → s ≡ apply_prim Cat (over ∷ low ∷ [])
     → ShiftAlike b.bits s.bits
 cut_alike b limit over low s u le i j k e =
     let l : limit.bits ≡ 255 = ap (λ (x : Word). x.bits) i ∙ small u le in

@@ -121,11 +121,14 @@ mutual
   places p g tail lo hi (If c a b) (m, n, x, y, z) =
       let i = fits_le p g tail m n a y in
       let j = fits_le p g tail n hi b z in
-      places_more lo m hi (sites_of c) (sites_of a ++ sites_of b) (fits_le p g false lo m c x) (omega (arith, i, j)) (places p g false lo m c x) (places_more m n hi (sites_of a) (sites_of b) i j (places p g tail m n a y) (places p g tail n hi b z))
-  places p g tail lo hi (Let ts b) (m, x, y) = places_more lo m hi (sites_in ts) (sites_of b) (fits_all_le p g lo m ts x) (fits_le p g tail m hi b y) (places_in p g lo m ts x) (places p g tail m hi b y)
+      places_more lo m hi (sites_of c) (sites_of a ++ sites_of b) (fits_le p g false lo m c x) (omega (arith, i, j)) (places p g false lo m c x)
+      (places_more m n hi (sites_of a) (sites_of b) i j (places p g tail m n a y) (places p g tail n hi b z))
+  places p g tail lo hi (Let ts b) (m, x, y) = places_more lo m hi (sites_in ts) (sites_of b) (fits_all_le p g lo m ts x) (fits_le p g tail m hi b y)
+      (places_in p g lo m ts x) (places p g tail m hi b y)
   places p g tail lo hi (Call f k ts) (e, e1, e2, lt, h) = places_call k lo hi (sites_in ts) e (fits_all_le p g (suc lo) hi ts h) (places_in p g (suc lo) hi ts h)
   places p g tail lo hi (Loop f ts) (e, e1, h) = places_in p g lo hi ts h
 
   pub places_in : (p : Program) (g lo hi : ℕ) (ts : Terms) → SpansAll p g lo hi ts → Places lo hi (sites_in ts)
   places_in p g lo hi Nil h = places_none lo hi h
-  places_in p g lo hi (Cons t ts) (m, x, y) = places_more lo m hi (sites_of t) (sites_in ts) (fits_le p g false lo m t x) (fits_all_le p g m hi ts y) (places p g false lo m t x) (places_in p g m hi ts y)
+  places_in p g lo hi (Cons t ts) (m, x, y) = places_more lo m hi (sites_of t) (sites_in ts) (fits_le p g false lo m t x) (fits_all_le p g m hi ts y)
+      (places p g false lo m t x) (places_in p g m hi ts y)

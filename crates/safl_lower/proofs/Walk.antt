@@ -27,8 +27,10 @@ module _ {P : SiteTable} {path : Sig} {n m : Netlist} {o p : Out} where
   pub renamed : {s slots : List Sig} {r : Lowered} {x y : declared.Term} → s ≡ slots → x ≡ y → Lowers P s path n m o p r (shown_term x) → Lowers P slots path n m o p r (shown_term y)
   renamed {s} {slots} {r} {x} {y} e f h = subst (λ (l : List Sig). Lowers P l path n m o p r (shown_term y)) e (subst (λ (z : declared.Term). Lowers P s path n m o p r (shown_term z)) f h)
 
-  pub renamed_all : {s slots : List Sig} {r : LoweredAll} {xs ys : List declared.Term} → s ≡ slots → xs ≡ ys → LowersAll P s path n m o p r (shown_terms xs) → LowersAll P slots path n m o p r (shown_terms ys)
-  renamed_all {s} {slots} {r} {xs} {ys} e f h = subst (λ (l : List Sig). LowersAll P l path n m o p r (shown_terms ys)) e (subst (λ (z : List declared.Term). LowersAll P s path n m o p r (shown_terms z)) f h)
+  pub renamed_all : {s slots : List Sig} {r : LoweredAll} {xs ys : List declared.Term} → s ≡ slots → xs ≡ ys → LowersAll P s path n m o p r
+      (shown_terms xs) → LowersAll P slots path n m o p r (shown_terms ys)
+  renamed_all {s} {slots} {r} {xs} {ys} e f h = subst (λ (l : List Sig). LowersAll P l path n m o p r (shown_terms ys)) e
+      (subst (λ (z : List declared.Term). LowersAll P s path n m o p r (shown_terms z)) f h)
 
 pub done_if : {E : Type 0} {P : SiteTable} {slots : List Sig} {path py pn : Sig} {n0 n1 n2 n3 n4 n5 : Netlist} {o0 o1 o2 o3 : Out} {test yes no : Lowered} {c a b t : Term} (res : Result Lowered E)
     → t ≡ If c a b
@@ -53,7 +55,8 @@ pub done_call : {E : Type 0} {P : SiteTable} {slots : List Sig} {path : Sig} {n0
     → IfOk res (λ r. Lowers P slots path n0 n2 o0 o2 r t)
 done_call {P = P} {slots = slots} {path = path} {n0 = n0} {n2 = n2} {o0 = o0} o2 f k (Ok r) e hs b sh en lo wa =
     subst (λ (x : Term). Lowers P slots path n0 n2 o0 o2 r x) (sym e)
-    (lowers_call hs (record { grows = b.grows; count = b.count; settles = b.settles; given = sh; entry = en; loops = lo; wants = wa }) (λ F tail env w s q. call_shape F tail env w (grows_on hs.grows b.grows) sh s q))
+    (lowers_call hs (record { grows = b.grows; count = b.count; settles = b.settles; given = sh; entry = en; loops = lo; wants = wa })
+    (λ F tail env w s q. call_shape F tail env w (grows_on hs.grows b.grows) sh s q))
 done_call o2 f k (Err x) e hs b sh en lo wa = tt
 
 pub done_loop : {E : Type 0} {P : SiteTable} {slots : List Sig} {path : Sig} {n0 n1 n2 : Netlist} {o0 o1 : Out} (o2 : Out) {all : LoweredAll} {h : ℕ} {ts : Terms} {t : Term} (res : Result Lowered E)

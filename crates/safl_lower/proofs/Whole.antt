@@ -38,7 +38,8 @@ pub lowerable : {n : Netlist} {P : SiteTable} {slots : List Sig} {path : Sig} {t
 lowerable {t = t} h = record { owner = h.owner; tail = true; env = h.env; width = h.width; setting = h.setting; typed = h.body.typed; room = let r = h.room in omega (arith, r) }
 
 -- the calls of a body are those of its sites
-pub sites_first : {P : SiteTable} {slots : List Sig} {path : Sig} {n m : Netlist} {o p : Out} {r : Lowered} {t : Term} → o.wants.items ≡ [] → Lowers P slots path n m o p r t → map site_of p.wants.items ≡ sites_of t
+pub sites_first : {P : SiteTable} {slots : List Sig} {path : Sig} {n m : Netlist} {o p : Out} {r : Lowered} {t : Term} → o.wants.items ≡ [] → Lowers P
+    slots path n m o p r t → map site_of p.wants.items ≡ sites_of t
 sites_first {t = t} e h = h.sites ∙ ap (λ (l : List Want). map site_of l ++ sites_of t) e
 
 empty_fits : (F : Owner) (n : Netlist) (o : Out) → o.wants.items ≡ [] → o.loops.items ≡ [] → OutFits F n o
@@ -50,7 +51,8 @@ in_range (y ∷ xs) zero x e = omega arith
 in_range (y ∷ xs) (suc i) x e = let h = in_range xs i x e in omega (arith, h)
 
 -- each site of the interval is called
-all_listed : (F : Owner) (P : SiteTable) (env : List ℕ) (w : ℕ) (t : Term) (es : List Want) → map site_of es ≡ sites_of t → P.first ≡ F.first → P.first + length P.ports.items ≡ F.last → IsBody F env t w → (i : ℕ) → i < length P.ports.items → Listed (P.first + i) (map site_of es)
+all_listed : (F : Owner) (P : SiteTable) (env : List ℕ) (w : ℕ) (t : Term) (es : List Want) → map site_of es ≡ sites_of t → P.first ≡ F.first →
+    P.first + length P.ports.items ≡ F.last → IsBody F env t w → (i : ℕ) → i < length P.ports.items → Listed (P.first + i) (map site_of es)
 all_listed F P env w t es e first last b i l =
     let low : b.typed.low ≡ P.first = b.from ∙ sym first in
     let high : b.typed.high ≡ P.first + length P.ports.items = b.upto ∙ sym last in
@@ -60,7 +62,8 @@ mates_between : (F : Owner) (a b : ℕ) (ks : List ℕ) → ((g : ℕ) → g < F
 mates_between F a b [] inside h = tt
 mates_between F a b (k ∷ ks) inside h = let m = inside k h.0 h.1 in (m.0, m.1, mates_between F a b ks inside h.2)
 
-module _ {P : SiteTable} {slots : List Sig} {path : Sig} {n0 n1 : Netlist} {o p : Out} {r : Lowered} {t : Term} (ew : o.wants.items ≡ []) (el : o.loops.items ≡ []) (c : Given n0 P slots path t) (h : Lowers P slots path n0 n1 o p r t) where
+module _ {P : SiteTable} {slots : List Sig} {path : Sig} {n0 n1 : Netlist} {o p : Out} {r : Lowered} {t : Term} (ew : o.wants.items ≡ [])
+    (el : o.loops.items ≡ []) (c : Given n0 P slots path t) (h : Lowers P slots path n0 n1 o p r t) where
   pub spread_apart : Apart (map site_of p.wants.items)
   spread_apart = let b = c.body.typed in subst Apart (sym (sites_first ew h)) (places c.owner.program c.owner.function true b.low b.high t b.spans).apart
 

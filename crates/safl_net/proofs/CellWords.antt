@@ -72,7 +72,8 @@ shown_widths n v (x ∷ xs) = ap (λ l. width_of n x ∷ l) (shown_widths n v xs
 word_same : (x y : Word) → x.width ≡ y.width → x.bits ≡ y.bits → x ≡ y
 word_same x y e f = ap (λ (w : ℕ). record { width = w; bits = x.bits }) e ∙ ap (λ (b : ℕ). record { width = y.width; bits = b }) f
 
-kind_shown : (n : Netlist) (v : Valuation) (state s : ℕ) (g : Signal) (k : Kind) → width_of n s ≡ g.width → ((c : Cell) → k ≡ Wire (Some c) → CellFits n g.width c) → Holds n v state (slice_index v s) k → KindHolds (signal_word n v) (signal_word n v s) k
+kind_shown : (n : Netlist) (v : Valuation) (state s : ℕ) (g : Signal) (k : Kind) → width_of n s ≡ g.width →
+    ((c : Cell) → k ≡ Wire (Some c) → CellFits n g.width c) → Holds n v state (slice_index v s) k → KindHolds (signal_word n v) (signal_word n v s) k
 kind_shown n v state s g Input e f h = tt
 kind_shown n v state s g (Reg init next) e f h = tt
 kind_shown n v state s g (Wire None) e f h = tt

@@ -1,5 +1,6 @@
 -- Names that are looked up.
-use Rattle.std.proofs.Common.{◌≡◌, ℕ, zero, suc, ◌+◌, ◌<◌, List, [], ◌∷◌, length, get_or, position, Option, Some, None, Bool, true, false, cond, ◌||◌, is_some, String, string_bytes, bytes_eq, refl, sym, ap, ◌∙◌, arith, slice_get, IfSome}
+use Rattle.std.proofs.Common.{◌≡◌, ℕ, zero, suc, ◌+◌, ◌<◌, List, [], ◌∷◌, length, get_or, position, Option, Some, None, Bool, true, false, cond, ◌||◌}
+use Rattle.std.proofs.Common.{is_some, String, string_bytes, bytes_eq, refl, sym, ap, ◌∙◌, arith, slice_get, IfSome}
 use Rattle.std.specs.declared.alloc.Global.{Global}
 use Rattle.std.specs.Map.{lookup, keys_of}
 use Rattle.std.proofs.lemmas.Slice.Eq.{bytes_eq-Decides}

@@ -1,5 +1,6 @@
 -- What the makers keep of a netlist.
-use Rattle.std.proofs.Common.{◌≡◌, ℕ, zero, suc, ◌<◌, ◌≤◌, List, [], ◌∷◌, ◌++◌, length, length-append, All, Some, None, true, false, ◌⊎◌, inl, inr, slice_get, slice_index_or, refl, sym, ap, subst, ◌∙◌, arith}
+use Rattle.std.proofs.Common.{◌≡◌, ℕ, zero, suc, ◌<◌, ◌≤◌, List, [], ◌∷◌, ◌++◌, length, length-append, All, Some, None, true, false, ◌⊎◌, inl, inr}
+use Rattle.std.proofs.Common.{slice_get, slice_index_or, refl, sym, ap, subst, ◌∙◌, arith}
 use Rattle.safl_net.specs.declared.cell.Sig.{Sig}
 use Rattle.safl_net.specs.declared.cell.Op.{Op}
 use Rattle.safl_net.specs.Netlist.{Netlist, Signal, Kind, Input, Reg, Wire, Cell, width_in, width_of}
@@ -119,7 +120,8 @@ push_kept n g w room new fits =
     }
 
 -- one more output
-pub output_kept : (n : Netlist) (name : List ℕ) (t : ℕ) → IsNetlist n → length n.outputs < 4294967295 → is_good name ≡ true → has_name n name ≡ false → t < length n.signals → IsNetlist (with_output n name t)
+pub output_kept : (n : Netlist) (name : List ℕ) (t : ℕ) → IsNetlist n → length n.outputs < 4294967295 → is_good name ≡ true → has_name n name ≡ false
+    → t < length n.signals → IsNetlist (with_output n name t)
 output_kept n name t w room good new here =
     let u = unnamed n name new in
     let a = above_output n name t in

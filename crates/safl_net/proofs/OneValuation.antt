@@ -32,10 +32,12 @@ module _ (n : Netlist) (whole : AllSet n) (acyclic : IsAcyclic n) (state : ℕ �
   holds : (u : Valuation) → Fits n state u → (s : ℕ) (g : Signal) (k : Kind) → slice_get n.signals s ≡ Some g → g.kind ≡ k → Holds n u (state s) (slice_index u s) k
   holds u f s g k e is = subst (λ k. Holds n u (state s) (slice_index u s) k) is (f.each s g e).1
 
-  cell_same : (s : ℕ) (g : Signal) (c : Cell) → slice_get n.signals s ≡ Some g → g.kind ≡ Wire (Some c) → ((i t : ℕ) → slice_get c.operands i ≡ Some t → slice_index v t ≡ slice_index w t) → slice_index v s ≡ slice_index w s
+  cell_same : (s : ℕ) (g : Signal) (c : Cell) → slice_get n.signals s ≡ Some g → g.kind ≡ Wire (Some c) →
+      ((i t : ℕ) → slice_get c.operands i ≡ Some t → slice_index v t ≡ slice_index w t) → slice_index v s ≡ slice_index w s
   cell_same s g c e is h =
       holds v fv s g (Wire (Some c)) e is
-      ∙ ap (λ l. (cell_word c.op l).bits) (map_same (signal_word n v) (signal_word n w) c.operands (λ i t o. ap (λ b. (let x : Word = record { width = width_in (slice_get n.signals t); bits = b } in x)) (h i t o)))
+      ∙ ap (λ l. (cell_word c.op l).bits) (map_same (signal_word n v) (signal_word n w) c.operands
+      (λ i t o. ap (λ b. (let x : Word = record { width = width_in (slice_get n.signals t); bits = b } in x)) (h i t o)))
       ∙ sym (holds w fw s g (Wire (Some c)) e is)
 
   low : (s : ℕ) → Below 0 s → slice_index v s ≡ slice_index w s

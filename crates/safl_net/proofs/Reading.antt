@@ -7,7 +7,8 @@ use Rattle.safl_net.specs.Rules.{IsNetlist, KindFits}
 
 -- ---- a name that stands once is found where it stands
 
-signal_first : (gs : List Signal) (i s : ℕ) (g : Signal) → ((a b : ℕ) (x y : Signal) → slice_get gs a ≡ Some x → slice_get gs b ≡ Some y → x.name ≡ y.name → a ≡ b) → slice_get gs s ≡ Some g → place gs g.name i ≡ Some (i + s)
+signal_first : (gs : List Signal) (i s : ℕ) (g : Signal) → ((a b : ℕ) (x y : Signal) → slice_get gs a ≡ Some x → slice_get gs b ≡ Some y → x.name ≡
+    y.name → a ≡ b) → slice_get gs s ≡ Some g → place gs g.name i ≡ Some (i + s)
 unfolding place
 signal_first [] i s g own e = absurd (cc)
 signal_first (x ∷ gs) i zero g own e =
@@ -24,7 +25,8 @@ signal_first (x ∷ gs) i (suc s) g own e = by (bytes_eq x.name g.name) refl (si
     by true q h = let z = own 0 (suc s) x g refl e ((bytes_eq-Decides x.name g.name).0 q) in absurd (omega (arith, z))
     by false q h = h ∙ ap Some plus
 
-output_first : (os : List (List ℕ × ℕ)) (i : ℕ) (o : List ℕ × ℕ) → ((a b : ℕ) (x y : List ℕ × ℕ) → slice_get os a ≡ Some x → slice_get os b ≡ Some y → x.0 ≡ y.0 → a ≡ b) → slice_get os i ≡ Some o → output_place os o.0 ≡ Some o.1
+output_first : (os : List (List ℕ × ℕ)) (i : ℕ) (o : List ℕ × ℕ) →
+    ((a b : ℕ) (x y : List ℕ × ℕ) → slice_get os a ≡ Some x → slice_get os b ≡ Some y → x.0 ≡ y.0 → a ≡ b) → slice_get os i ≡ Some o → output_place os o.0 ≡ Some o.1
 output_first [] i o own e = absurd (cc)
 output_first (x ∷ os) zero o own e =
     let q : x ≡ o = cc in
@@ -55,17 +57,20 @@ read_output_word n v i o k e = ap (number_at v) (output_place_of n i o k e)
 next_number_of : (n : Netlist) (v : Valuation) (s init m : ℕ) (g : Signal) → slice_get n.signals s ≡ Some g → g.kind ≡ Reg init (Some m) → next_state n v s ≡ slice_index v m
 next_number_of n v s init m g e is = ap (next_number v) e ∙ ap (kind_next v) is
 
-pub read_next_word : (n : Netlist) (v : Valuation) (s init m : ℕ) (g : Signal) → IsNetlist n → slice_get n.signals s ≡ Some g → g.kind ≡ Reg init (Some m) → read_next n v g.name ≡ (signal_word n v m).bits
+pub read_next_word : (n : Netlist) (v : Valuation) (s init m : ℕ) (g : Signal) → IsNetlist n → slice_get n.signals s ≡ Some g → g.kind ≡ Reg init
+    (Some m) → read_next n v g.name ≡ (signal_word n v m).bits
 read_next_word n v s init m g k e is = ap (next_at n v) (place_of n s g k e) ∙ next_number_of n v s init m g e is
 
 held : (n : Netlist) (state : ℕ → ℕ) (w : Valuation) (s init : ℕ) (next : Option ℕ) (g : Signal) → Fits n state w → slice_get n.signals s ≡ Some g → g.kind ≡ Reg init next → slice_index w s ≡ state s
 held n state w s init next g f e is = subst (λ k. Holds n w (state s) (slice_index w s) k) is (f.each s g e).1
 
 -- a register has at reset its number at reset, and then the word that its next signal had
-pub reset_word : (n : Netlist) (w : Valuation) (s init : ℕ) (next : Option ℕ) (g : Signal) → Fits n (reset_state n) w → slice_get n.signals s ≡ Some g → g.kind ≡ Reg init next → (signal_word n w s).bits ≡ init
+pub reset_word : (n : Netlist) (w : Valuation) (s init : ℕ) (next : Option ℕ) (g : Signal) → Fits n (reset_state n) w → slice_get n.signals s ≡ Some g
+    → g.kind ≡ Reg init next → (signal_word n w s).bits ≡ init
 reset_word n w s init next g f e is = held n (reset_state n) w s init next g f e is ∙ ap reset_number e ∙ ap kind_reset is
 
-pub next_word : (n : Netlist) (v w : Valuation) (s init m : ℕ) (g : Signal) → IsNetlist n → Fits n (next_state n v) w → slice_get n.signals s ≡ Some g → g.kind ≡ Reg init (Some m) → signal_word n w s ≡ signal_word n v m
+pub next_word : (n : Netlist) (v w : Valuation) (s init m : ℕ) (g : Signal) → IsNetlist n → Fits n (next_state n v) w → slice_get n.signals s ≡ Some g
+    → g.kind ≡ Reg init (Some m) → signal_word n w s ≡ signal_word n v m
 next_word n v w s init m g k f e is =
     let fits : KindFits n g.width (Reg init (Some m)) = subst (KindFits n g.width) is (k.signals s g e).kind in
     let wide : width_of n s ≡ width_of n m = ap width_in e ∙ sym fits.2 in

@@ -1,5 +1,6 @@
 -- What keeps a net settled.
-use Rattle.std.proofs.Common.{◌≡◌, ℕ, zero, suc, ◌+◌, ◌<◌, List, [], ◌∷◌, ◌++◌, length, Option, Some, None, Bool, true, false, cond, ◌==◌, Result, Ok, Err, IfOk, OnOk, ◌⊎◌, inl, inr, slice_get, refl, sym, ap, subst, ◌∙◌, arith}
+use Rattle.std.proofs.Common.{◌≡◌, ℕ, zero, suc, ◌+◌, ◌<◌, List, [], ◌∷◌, ◌++◌, length, Option, Some, None, Bool, true, false, cond, ◌==◌, Result, Ok}
+use Rattle.std.proofs.Common.{Err, IfOk, OnOk, ◌⊎◌, inl, inr, slice_get, refl, sym, ap, subst, ◌∙◌, arith}
 use Rattle.std.proofs.lemmas.Bool.Decides.{Decides-eqb}
 use Rattle.safl_net.specs.declared.cell.Sig.{Sig}
 use Rattle.safl_net.specs.declared.cell.Op.{Op}
@@ -117,7 +118,8 @@ module _ (n m : Netlist) (s : ℕ) (xs : List ℕ) (k : Changes n m s xs) (old :
   abbrev rank : ℕ → ℕ
   rank = ranked old.acyclic.rank s (over old.acyclic.rank xs)
 
-  rises : (t u i : ℕ) (g h : Signal) (c : Cell) (d : Option Cell) → slice_get m.signals t ≡ Some g → g.kind ≡ Wire (Some c) → slice_get c.operands i ≡ Some u → slice_get m.signals u ≡ Some h → h.kind ≡ Wire d → rank u < rank t
+  rises : (t u i : ℕ) (g h : Signal) (c : Cell) (d : Option Cell) → slice_get m.signals t ≡ Some g → g.kind ≡ Wire (Some c) → slice_get c.operands i ≡
+      Some u → slice_get m.signals u ≡ Some h → h.kind ≡ Wire d → rank u < rank t
   rises t u i g h c d e f o p r =
       let w = read_steady t u i g c e f o in
       let z = read_other u h d w p r in
@@ -203,7 +205,8 @@ settles_signal n m g h e =
 -- a temporary of steady operands
 pub settles_temp : (n m : Netlist) (op : Op) (xs : List Sig) → AreSteady n xs → m ≡ with_signal n (temporary n op xs) → Settles n m
 settles_temp n m op xs h e =
-    subst (λ x. Settles n x) (sym e) (changes n (with_signal n (temporary n op xs)) (length n.signals) (numbers xs) (one_more n (temporary n op xs) (numbers xs) (same_operands (cell_on op xs)) (numbers_steady n xs h)))
+    subst (λ x. Settles n x) (sym e) (changes n (with_signal n (temporary n op xs)) (length n.signals) (numbers xs)
+    (one_more n (temporary n op xs) (numbers xs) (same_operands (cell_on op xs)) (numbers_steady n xs h)))
 
 -- the new signal is steady where it is no wire without a cell
 pub steady_new : (n m : Netlist) (g : Signal) (s : ℕ) → IsDriven g.kind → m ≡ with_signal n g → s ≡ length n.signals → IsSteady m s

@@ -1,5 +1,6 @@
 -- The tables of a net.
-use Rattle.std.proofs.Common.{◌≡◌, ℕ, zero, suc, ◌+◌, ◌<◌, ◌≤◌, List, [], ◌∷◌, ◌++◌, length, Option, Some, None, Bool, true, false, cond, ◌||◌, is_some, slice_get, String, string_bytes, bytes_eq, refl, sym, ap, subst, ◌∙◌, arith, inl, inr}
+use Rattle.std.proofs.Common.{◌≡◌, ℕ, zero, suc, ◌+◌, ◌<◌, ◌≤◌, List, [], ◌∷◌, ◌++◌, length, Option, Some, None, Bool, true, false, cond, ◌||◌}
+use Rattle.std.proofs.Common.{is_some, slice_get, String, string_bytes, bytes_eq, refl, sym, ap, subst, ◌∙◌, arith, inl, inr}
 use Rattle.std.specs.declared.alloc.Global.{Global}
 use Rattle.std.specs.Map.{lookup, values_of}
 use Rattle.indexmap.specs.IndexMap.{set_value_at}
@@ -88,7 +89,8 @@ row_at (f ∷ es) (suc i) r e = row_at es i r e
 abbrev driven : Row → Driver → Row
 driven r d = record { width = r.width; driver = d }
 
-pub signals_set : (es : List (String Global × Row)) (i : ℕ) (r : Row) (d : Driver) → slice_get (values_of es) i ≡ Some r → signals_of (set_value_at es i (driven r d)) ≡ set_kind (signals_of es) i (kind_of d)
+pub signals_set : (es : List (String Global × Row)) (i : ℕ) (r : Row) (d : Driver) → slice_get (values_of es) i ≡ Some r → signals_of
+    (set_value_at es i (driven r d)) ≡ set_kind (signals_of es) i (kind_of d)
 signals_set [] i r d e = absurd (cc)
 signals_set (f ∷ es) zero r d e =
     let q : f.1 ≡ r = cc in
@@ -134,7 +136,8 @@ pub outputs_kept : (es : List (String Global × Row)) (os : List (String Global 
     → Keeps es os count → length (outputs_of os) < 4294967295 → is_good (string_bytes name) ≡ true → has_name (net_of es os) (string_bytes name) ≡ false
     → s.0 < length (signals_of es) → Keeps es (os ++ (name, s) ∷ []) count
 outputs_kept es os count name s k room good new here = record {
-  netlist = subst (λ (l : List (List ℕ × ℕ)). IsNetlist (record { signals = signals_of es; outputs = l })) (sym (outputs_push os name s)) (output_kept (net_of es os) (string_bytes name) s.0 k.netlist room good new here);
+  netlist = subst (λ (l : List (List ℕ × ℕ)). IsNetlist (record { signals = signals_of es; outputs = l })) (sym (outputs_push os name s))
+      (output_kept (net_of es os) (string_bytes name) s.0 k.netlist room good new here);
   resets = k.resets;
   counted = k.counted;
 }

@@ -1,5 +1,6 @@
 -- Tidy nets, and names of temporaries.
-use Rattle.std.proofs.Common.{◌≡◌, ℕ, zero, suc, ◌+◌, ◌<◌, ◌≤◌, ◌^◌, ◌%◌, List, [], ◌∷◌, ◌++◌, length, take, decimal, Some, Result, Ok, Err, OnOk, OnErr, Bool, true, false, ◌||◌, ◌&&◌, ◌==◌, nat_le, inl, inr, slice_get, refl, sym, ap, subst, ◌∙◌, arith}
+use Rattle.std.proofs.Common.{◌≡◌, ℕ, zero, suc, ◌+◌, ◌<◌, ◌≤◌, ◌^◌, ◌%◌, List, [], ◌∷◌, ◌++◌, length, take, decimal, Some, Result, Ok, Err, OnOk}
+use Rattle.std.proofs.Common.{OnErr, Bool, true, false, ◌||◌, ◌&&◌, ◌==◌, nat_le, inl, inr, slice_get, refl, sym, ap, subst, ◌∙◌, arith}
 use Rattle.std.proofs.lemmas.List.{take-append-le, take_at}
 use Rattle.std.proofs.lemmas.Fmt.{decimal_injective, decimal_by_steps, length-decimal-le}
 use Rattle.std.proofs.lemmas.Bool.Decides.{nat_tests}
@@ -55,7 +56,8 @@ tidy_named n g t e = tidy_pushed n g t (λ f. absurd (let q = sym e ∙ f in cc)
 pub tidy_temp : (n : Netlist) (g : Signal) → IsTidy n → one_wire g.kind ≡ 1 → g.name ≡ temp_name (wires n.signals) → IsTidy (with_signal n g)
 tidy_temp n g t e f = tidy_pushed n g t (λ h. (e, f))
 
-pub tidy_made : {A E : Type 0} (r : Result A E) (n m : Netlist) (g : Signal) → OnOk r (m ≡ with_signal n g) → OnErr r (m ≡ n) → IsTidy n → one_wire g.kind ≡ 1 → g.name ≡ temp_name (wires n.signals) → IsTidy m
+pub tidy_made : {A E : Type 0} (r : Result A E) (n m : Netlist) (g : Signal) → OnOk r (m ≡ with_signal n g) → OnErr r (m ≡ n) → IsTidy n → one_wire
+    g.kind ≡ 1 → g.name ≡ temp_name (wires n.signals) → IsTidy m
 tidy_made (Ok x) n m g a b t e f = subst IsTidy (sym a) (tidy_temp n g t e f)
 tidy_made (Err x) n m g a b t e f = subst IsTidy (sym b) t
 

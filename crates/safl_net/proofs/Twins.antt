@@ -77,7 +77,8 @@ pub inputs_named : (n : Netlist) (state : ℕ → ℕ) (v : Valuation) → IsNet
 inputs_named n state v made f = numbers_named (read n v) n.signals v f.full (λ s g e is. sym (read_word n v s g made e))
 
 -- inputs with equal numbers have each the same
-pub each_input : (gs : List Signal) (v w : Valuation) → length v ≡ length gs → length w ≡ length gs → numbers_of_inputs gs v ≡ numbers_of_inputs gs w → (s : ℕ) (g : Signal) → slice_get gs s ≡ Some g → g.kind ≡ Input → slice_index v s ≡ slice_index w s
+pub each_input : (gs : List Signal) (v w : Valuation) → length v ≡ length gs → length w ≡ length gs → numbers_of_inputs gs v ≡ numbers_of_inputs gs w
+    → (s : ℕ) (g : Signal) → slice_get gs s ≡ Some g → g.kind ≡ Input → slice_index v s ≡ slice_index w s
 unfolding numbers_of_inputs
 each_input [] v w lv lw e s g there is = absurd (cc)
 each_input (x ∷ gs) [] w lv lw e s g there is = absurd (omega (arith, lv))

@@ -38,7 +38,8 @@ rest_at n i h =
     ∙ ap (λ j. map (width_of n) (with_input (kind_at n i) i (inputs_from (drop (i + 1) n.signals) j))) (let z : suc i ≡ i + 1 = omega arith in z)
     ∙ widths_append (width_of n) (kind_at n i) i (inputs_from (drop (i + 1) n.signals) (i + 1))
 
-pub widths_more : (n : Netlist) (old new all : List ℕ) (i : ℕ) → i < length n.signals → old ++ rest_widths n i ≡ all → new ≡ old ++ map (width_of n) (with_input (kind_at n i) i []) → new ++ rest_widths n (i + 1) ≡ all
+pub widths_more : (n : Netlist) (old new all : List ℕ) (i : ℕ) → i < length n.signals → old ++ rest_widths n i ≡ all → new ≡ old ++ map (width_of n)
+    (with_input (kind_at n i) i []) → new ++ rest_widths n (i + 1) ≡ all
 widths_more n old new all i h e f =
     ap (λ l. l ++ rest_widths n (i + 1)) f
     ∙ append_assoc old (map (width_of n) (with_input (kind_at n i) i [])) (rest_widths n (i + 1))

@@ -28,7 +28,8 @@ driven Input e = tt
 driven (Reg init next) e = tt
 driven (Wire cell) e = absurd (cc)
 
-input_at : (gs : List Signal) (s w : ℕ) → s < length gs → sort_of (kind_in (slice_get gs s)) ≡ SigKind.Input → width_in (slice_get gs s) ≡ w → (maybe_width (slice_get gs s) ≡ Some w) × IsDrivenIn (slice_get gs s)
+input_at : (gs : List Signal) (s w : ℕ) → s < length gs → sort_of (kind_in (slice_get gs s)) ≡ SigKind.Input → width_in (slice_get gs s) ≡ w →
+    (maybe_width (slice_get gs s) ≡ Some w) × IsDrivenIn (slice_get gs s)
 input_at [] s w l k e = absurd (omega (arith, l))
 input_at (g ∷ gs) zero w l k e = (ap Some e, driven g.kind k)
 input_at (g ∷ gs) (suc s) w l k e = input_at gs s w (omega (arith, l)) k e

@@ -1,5 +1,7 @@
 -- The net that is built has the inputs, registers, named wires and outputs of the net of which the values are.
-use Rattle.std.proofs.Common.{◌≡◌, ◌≢◌, ℕ, zero, suc, ◌+◌, ◌-◌, ◌<◌, ◌≤◌, List, [], ◌∷◌, ◌++◌, map, length, length-append, take, get_or, Option, Some, None, Bool, true, false, cond, nat_lt, ◌&&◌, not, ◌⊎◌, inl, inr, slice_get, refl, sym, ap, subst, ◌∙◌, arith, append_assoc}
+use Rattle.std.proofs.Common.{◌≡◌, ◌≢◌, ℕ, zero, suc, ◌+◌, ◌-◌, ◌<◌, ◌≤◌, List, [], ◌∷◌, ◌++◌, map, length, length-append, take, get_or, Option, Some}
+use Rattle.std.proofs.Common.{None, Bool, true, false, cond, nat_lt, ◌&&◌, not, ◌⊎◌, inl, inr, slice_get, refl, sym, ap, subst, ◌∙◌, arith}
+use Rattle.std.proofs.Common.{append_assoc}
 use Rattle.std.proofs.lemmas.List.{append-nil}
 use Rattle.std.proofs.lemmas.Option.{slice_get-get_or, get_or_from_slice_get}
 use Rattle.std.proofs.lemmas.Bool.{lt-ltb}
@@ -114,7 +116,9 @@ lines_gone : {A : Type 0} (L : Signal → List A) (P : Signal → Type 0) (gs : 
 lines_gone L P [] h e = refl
 lines_gone L P (g ∷ gs) h e = ap (λ l. l ++ flat_map L gs) (h g e.0) ∙ lines_gone L P gs h e.1
 
-module _ (n : Netlist) (made_n : IsNetlist n) (ws : List ℕ) (order : IsOrder n ws) (f : Values) (h : Folds n ws (length ws) f) (read : List Bool) (marks : AreRead n f read) (made : List Sig) (m : Netlist) (b : Builds n f read made m) (needed : AreNeeded n f read) (different : Different f.nodes) (tidy : IsTidy n) where
+module _ (n : Netlist) (made_n : IsNetlist n) (ws : List ℕ) (order : IsOrder n ws) (f : Values) (h : Folds n ws (length ws) f) (read : List Bool)
+    (marks : AreRead n f read) (made : List Sig) (m : Netlist) (b : Builds n f read made m) (needed : AreNeeded n f read)
+    (different : Different f.nodes) (tidy : IsTidy n) where
   abbrev ks : ℕ → Signal
   ks s = kept_signal n f made s
 
@@ -144,7 +148,8 @@ module _ (n : Netlist) (made_n : IsNetlist n) (ws : List ℕ) (order : IsOrder n
       ∙ b.kept i lt ∙ ap (λ z. Some (ks z)) s ∙ ap Some x.2)
 
   rest_temp : Each IsTemp parts.rest
-  rest_temp = each_of IsTemp parts.rest (λ i g e. by i g (ap (λ l. slice_get l (f.kept + i)) parts.joined ∙ ap (λ k. slice_get (parts.front ++ parts.rest) (k + i)) (sym parts.long) ∙ after parts.front parts.rest i ∙ e))
+  rest_temp = each_of IsTemp parts.rest (λ i g e. by i g (ap (λ l. slice_get l (f.kept + i)) parts.joined ∙ ap
+      (λ k. slice_get (parts.front ++ parts.rest) (k + i)) (sym parts.long) ∙ after parts.front parts.rest i ∙ e))
     where
       after : (xs ys : List Signal) (i : ℕ) → slice_get (xs ++ ys) (length xs + i) ≡ slice_get ys i
       after [] ys i = ap (slice_get ys) (let q : 0 + i ≡ i = omega arith in q)
@@ -160,7 +165,8 @@ module _ (n : Netlist) (made_n : IsNetlist n) (ws : List ℕ) (order : IsOrder n
 
   joined : m.signals ≡ map ks (inputs_below n all) ++ (map ks (registers_below n all) ++ (map ks (named_below n all) ++ parts.rest))
   joined =
-      parts.joined ∙ ap (λ l. l ++ parts.rest) (front_is ∙ map_more ks (inputs_below n all) (registers_below n all ++ named_below n all) ∙ ap (λ l. map ks (inputs_below n all) ++ l) (map_more ks (registers_below n all) (named_below n all)))
+      parts.joined ∙ ap (λ l. l ++ parts.rest) (front_is ∙ map_more ks (inputs_below n all) (registers_below n all ++ named_below n all) ∙ ap
+      (λ l. map ks (inputs_below n all) ++ l) (map_more ks (registers_below n all) (named_below n all)))
       ∙ append_assoc (map ks (inputs_below n all)) (map ks (registers_below n all) ++ map ks (named_below n all)) parts.rest
       ∙ ap (λ l. map ks (inputs_below n all) ++ l) (append_assoc (map ks (registers_below n all)) (map ks (named_below n all)) parts.rest)
 
@@ -213,7 +219,9 @@ module _ (n : Netlist) (made_n : IsNetlist n) (ws : List ℕ) (order : IsOrder n
   no_numbered_temp s g e q = numbered_temp g.name (sym (ap (λ o. is_numbered (name_in o)) e) ∙ q)
 
   all_lines : {A : Type 0} (L : Signal → Kind → List A)
-      → flat_map (λ g. L g g.kind) (map ks (inputs_below n all)) ++ (flat_map (λ g. L g g.kind) (map ks (registers_below n all)) ++ (flat_map (λ g. L g g.kind) (map ks (named_below n all)) ++ flat_map (λ g. L g g.kind) parts.rest)) ≡ flat_map (λ g. L g g.kind) m.signals
+      → flat_map (λ g. L g g.kind) (map ks (inputs_below n all)) ++
+      (flat_map (λ g. L g g.kind) (map ks (registers_below n all)) ++
+      (flat_map (λ g. L g g.kind) (map ks (named_below n all)) ++ flat_map (λ g. L g g.kind) parts.rest)) ≡ flat_map (λ g. L g g.kind) m.signals
   all_lines L =
       let K = λ (g : Signal). L g g.kind in
       sym (ap (flat_map K) joined
@@ -231,8 +239,10 @@ module _ (n : Netlist) (made_n : IsNetlist n) (ws : List ℕ) (order : IsOrder n
   inputs_same =
       let L = λ (g : Signal). input_line g g.kind in
       sym (all_lines input_line)
-      ∙ ap (λ l. flat_map L (map ks (inputs_below n all)) ++ (flat_map L (map ks (registers_below n all)) ++ (flat_map L (map ks (named_below n all)) ++ l))) (lines_gone L IsTemp parts.rest (λ g t. ap (input_line g) t.0.1) rest_temp)
-      ∙ ap (λ l. flat_map L (map ks (inputs_below n all)) ++ (flat_map L (map ks (registers_below n all)) ++ (l ++ []))) (lines_none L ks named all (λ s q. ap (input_line (ks s)) (wire_kind (kind_at n s) (both (is_wire (kind_at n s)) (is_numbered (name_at n s)) q).0).1))
+      ∙ ap (λ l. flat_map L (map ks (inputs_below n all)) ++ (flat_map L (map ks (registers_below n all)) ++
+      (flat_map L (map ks (named_below n all)) ++ l))) (lines_gone L IsTemp parts.rest (λ g t. ap (input_line g) t.0.1) rest_temp)
+      ∙ ap (λ l. flat_map L (map ks (inputs_below n all)) ++ (flat_map L (map ks (registers_below n all)) ++ (l ++ [])))
+      (lines_none L ks named all (λ s q. ap (input_line (ks s)) (wire_kind (kind_at n s) (both (is_wire (kind_at n s)) (is_numbered (name_at n s)) q).0).1))
       ∙ ap (λ l. flat_map L (map ks (inputs_below n all)) ++ (l ++ [])) (lines_none L ks (λ s. is_register (kind_at n s)) all (λ s q. ap (input_line (ks s)) (register_kind (kind_at n s) q).2))
       ∙ append-nil (flat_map L (map ks (inputs_below n all)))
       ∙ lines_pass L n ks (λ s. is_input (kind_at n s)) all (omega arith) passing failing
@@ -258,8 +268,10 @@ module _ (n : Netlist) (made_n : IsNetlist n) (ws : List ℕ) (order : IsOrder n
   registers_same =
       let L = λ (g : Signal). register_line g g.kind in
       sym (all_lines register_line)
-      ∙ ap (λ l. flat_map L (map ks (inputs_below n all)) ++ (flat_map L (map ks (registers_below n all)) ++ (flat_map L (map ks (named_below n all)) ++ l))) (lines_gone L IsTemp parts.rest (λ g t. ap (register_line g) t.0.1) rest_temp)
-      ∙ ap (λ l. flat_map L (map ks (inputs_below n all)) ++ (flat_map L (map ks (registers_below n all)) ++ (l ++ []))) (lines_none L ks named all (λ s q. ap (register_line (ks s)) (wire_kind (kind_at n s) (both (is_wire (kind_at n s)) (is_numbered (name_at n s)) q).0).1))
+      ∙ ap (λ l. flat_map L (map ks (inputs_below n all)) ++ (flat_map L (map ks (registers_below n all)) ++
+      (flat_map L (map ks (named_below n all)) ++ l))) (lines_gone L IsTemp parts.rest (λ g t. ap (register_line g) t.0.1) rest_temp)
+      ∙ ap (λ l. flat_map L (map ks (inputs_below n all)) ++ (flat_map L (map ks (registers_below n all)) ++ (l ++ [])))
+      (lines_none L ks named all (λ s q. ap (register_line (ks s)) (wire_kind (kind_at n s) (both (is_wire (kind_at n s)) (is_numbered (name_at n s)) q).0).1))
       ∙ ap (λ l. l ++ (flat_map L (map ks (registers_below n all)) ++ [])) (lines_none L ks (λ s. is_input (kind_at n s)) all (λ s q. ap (register_line (ks s)) (input_kind (kind_at n s) q)))
       ∙ append-nil (flat_map L (map ks (registers_below n all)))
       ∙ lines_pass L n ks (λ s. is_register (kind_at n s)) all (omega arith) passing failing
@@ -292,8 +304,11 @@ module _ (n : Netlist) (made_n : IsNetlist n) (ws : List ℕ) (order : IsOrder n
   wires_same =
       let L = λ (g : Signal). wire_line g g.kind in
       sym (all_lines wire_line)
-      ∙ ap (λ l. flat_map L (map ks (inputs_below n all)) ++ (flat_map L (map ks (registers_below n all)) ++ (flat_map L (map ks (named_below n all)) ++ l))) (lines_gone L IsTemp parts.rest (λ g t. ap (wire_line g) t.0.1 ∙ ap (λ c. cond c [] ((g.name, g.width) ∷ [])) t.1) rest_temp)
-      ∙ ap (λ l. flat_map L (map ks (inputs_below n all)) ++ (l ++ (flat_map L (map ks (named_below n all)) ++ []))) (lines_none L ks (λ s. is_register (kind_at n s)) all (λ s q. ap (wire_line (ks s)) (register_kind (kind_at n s) q).2))
+      ∙ ap (λ l. flat_map L (map ks (inputs_below n all)) ++ (flat_map L (map ks (registers_below n all)) ++
+      (flat_map L (map ks (named_below n all)) ++ l))) (lines_gone L IsTemp parts.rest
+      (λ g t. ap (wire_line g) t.0.1 ∙ ap (λ c. cond c [] ((g.name, g.width) ∷ [])) t.1) rest_temp)
+      ∙ ap (λ l. flat_map L (map ks (inputs_below n all)) ++ (l ++ (flat_map L (map ks (named_below n all)) ++ [])))
+      (lines_none L ks (λ s. is_register (kind_at n s)) all (λ s q. ap (wire_line (ks s)) (register_kind (kind_at n s) q).2))
       ∙ ap (λ l. l ++ (flat_map L (map ks (named_below n all)) ++ [])) (lines_none L ks (λ s. is_input (kind_at n s)) all (λ s q. ap (wire_line (ks s)) (input_kind (kind_at n s) q)))
       ∙ append-nil (flat_map L (map ks (named_below n all)))
       ∙ lines_pass L n ks named all (omega arith) passing failing
@@ -338,9 +353,11 @@ module _ (n : Netlist) (made_n : IsNetlist n) (ws : List ℕ) (order : IsOrder n
   outputs_same = ap (map {B = Line} (λ (o : List ℕ × ℕ). (o.0, width_of m o.1))) b.outputs ∙ by n.outputs (λ i o e. root_width o.1 (made_n.outputs i o e).1 (shown i o e refl))
     where
       by : (os : List (List ℕ × ℕ)) → ((i : ℕ) (o : List ℕ × ℕ) → slice_get os i ≡ Some o → width_of m (new_number f made o.1) ≡ width_of n o.1)
-          → map {B = Line} (λ (o : List ℕ × ℕ). (o.0, width_of m o.1)) (map {B = Line} (λ (o : List ℕ × ℕ). (o.0, new_number f made o.1)) os) ≡ map {B = Line} (λ (o : List ℕ × ℕ). (o.0, width_of n o.1)) os
+          → map {B = Line} (λ (o : List ℕ × ℕ). (o.0, width_of m o.1)) (map {B = Line} (λ (o : List ℕ × ℕ). (o.0, new_number f made o.1)) os) ≡ map
+          {B = Line} (λ (o : List ℕ × ℕ). (o.0, width_of n o.1)) os
       by [] k = refl
-      by (o ∷ os) k = ap (λ (z : ℕ). (o.0, z) ∷ map {B = Line} (λ (o : List ℕ × ℕ). (o.0, width_of m o.1)) (map {B = Line} (λ (o : List ℕ × ℕ). (o.0, new_number f made o.1)) os)) (k 0 o refl) ∙ ap (λ l. (o.0, width_of n o.1) ∷ l) (by os (λ i x e. k (suc i) x e))
+      by (o ∷ os) k = ap (λ (z : ℕ). (o.0, z) ∷ map {B = Line} (λ (o : List ℕ × ℕ). (o.0, width_of m o.1))
+          (map {B = Line} (λ (o : List ℕ × ℕ). (o.0, new_number f made o.1)) os)) (k 0 o refl) ∙ ap (λ l. (o.0, width_of n o.1) ∷ l) (by os (λ i x e. k (suc i) x e))
 
   -- ---- the cells of named wires
 

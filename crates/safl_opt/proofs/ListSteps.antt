@@ -32,7 +32,8 @@ sig_get (x ∷ xs) zero h = (x, refl, refl)
 sig_get (x ∷ xs) (suc i) h = sig_get xs i (omega (arith, h))
 
 -- the new number of one more signal
-pub numbers_next : (g : ℕ → ℕ) (all : List Sig) (i : ℕ) (xs ys : List Sig) (v : Sig) → i < length all → ys ≡ xs ++ v ∷ [] → v.0 ≡ g (sig_at all i) → numbers xs ≡ map g (numbers (take i all)) → numbers ys ≡ map g (numbers (take (i + 1) all))
+pub numbers_next : (g : ℕ → ℕ) (all : List Sig) (i : ℕ) (xs ys : List Sig) (v : Sig) → i < length all → ys ≡ xs ++ v ∷ [] → v.0 ≡ g (sig_at all i) →
+    numbers xs ≡ map g (numbers (take i all)) → numbers ys ≡ map g (numbers (take (i + 1) all))
 numbers_next g all i xs ys v lt e q h =
     let x = sig_get all i lt in
     ap numbers e ∙ map_push (λ (s : Sig). s.0) xs v ∙ ap (λ k. numbers xs ++ k ∷ []) (q ∙ ap g (sym x.2)) ∙ ap (λ l. l ++ g x.0.0 ∷ []) h

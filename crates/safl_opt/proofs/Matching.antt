@@ -1,5 +1,7 @@
 -- The signals of the net that is built stand for those of the net of which the values are.
-use Rattle.std.proofs.Common.{◌≡◌, ◌≢◌, ℕ, zero, suc, ◌+◌, ◌-◌, ◌<◌, ◌≤◌, ◌^◌, ◌%◌, List, [], ◌∷◌, ◌++◌, map, length, take, decimal, Option, Some, None, Bool, true, false, cond, nat_lt, nat_le, ◌==◌, ◌&&◌, bytes_eq, ◌⊎◌, inl, inr, ⊎_elim, slice_get, refl, sym, ap, subst, ◌∙◌, arith}
+use Rattle.std.proofs.Common.{◌≡◌, ◌≢◌, ℕ, zero, suc, ◌+◌, ◌-◌, ◌<◌, ◌≤◌, ◌^◌, ◌%◌, List, [], ◌∷◌, ◌++◌, map, length, take, decimal, Option, Some}
+use Rattle.std.proofs.Common.{None, Bool, true, false, cond, nat_lt, nat_le, ◌==◌, ◌&&◌, bytes_eq, ◌⊎◌, inl, inr, ⊎_elim, slice_get, refl, sym, ap}
+use Rattle.std.proofs.Common.{subst, ◌∙◌, arith}
 use Rattle.std.proofs.lemmas.Bool.{cases_eq, lt-ltb, ltb-true, ltb-false}
 use Rattle.std.proofs.lemmas.Bool.Decides.{nat_tests}
 use Rattle.std.proofs.lemmas.Fmt.{decimal_by_steps}
@@ -27,7 +29,9 @@ use Rattle.safl_opt.proofs.Built.{HasSignal, back, kept_back, kept_is, kept_old,
 use Rattle.safl_opt.proofs.Leaning.{kept_number, kept_kind, kept_name}
 use Rattle.safl_opt.proofs.Standing.{SameSort, StandsFor, OutputStands, Stands}
 
-module _ (n : Netlist) (made_n : IsNetlist n) (ws : List ℕ) (order : IsOrder n ws) (f : Values) (h : Folds n ws (length ws) f) (read : List Bool) (marks : AreRead n f read) (made : List Sig) (m : Netlist) (b : Builds n f read made m) (needed : AreNeeded n f read) (different : Different f.nodes) (tidy : IsTidy n) where
+module _ (n : Netlist) (made_n : IsNetlist n) (ws : List ℕ) (order : IsOrder n ws) (f : Values) (h : Folds n ws (length ws) f) (read : List Bool)
+    (marks : AreRead n f read) (made : List Sig) (m : Netlist) (b : Builds n f read made m) (needed : AreNeeded n f read)
+    (different : Different f.nodes) (tidy : IsTidy n) where
   abbrev bk : ℕ → ℕ
   bk = back n made_n ws order f h read marks made m b
 
@@ -117,16 +121,19 @@ module _ (n : Netlist) (made_n : IsNetlist n) (ws : List ℕ) (order : IsOrder n
       (subst (λ z. z < length m.signals) number k.0, λ v w. ap (λ z. v (bk z)) (sym number) ∙ k.1 v w)
 
   outputs_stand : (name : List ℕ) → OutputStands n m bk name (output_place n.outputs name) (output_place m.outputs name)
-  outputs_stand name = subst (λ os. OutputStands n m bk name (output_place n.outputs name) (output_place os name)) (sym b.outputs) (by n.outputs (λ i o e. root_stands o.1 (made_n.outputs i o e).1 (shown i o e refl)))
+  outputs_stand name = subst (λ os. OutputStands n m bk name (output_place n.outputs name) (output_place os name)) (sym b.outputs)
+      (by n.outputs (λ i o e. root_stands o.1 (made_n.outputs i o e).1 (shown i o e refl)))
     where
-      by : (os : List (List ℕ × ℕ)) → ((i : ℕ) (o : List ℕ × ℕ) → slice_get os i ≡ Some o → (new_number f made o.1 < length m.signals) × ((v : Val) → Wired n v → v (bk (new_number f made o.1)) ≡ v o.1))
+      by : (os : List (List ℕ × ℕ)) → ((i : ℕ) (o : List ℕ × ℕ) → slice_get os i ≡ Some o → (new_number f made o.1 < length m.signals) ×
+          ((v : Val) → Wired n v → v (bk (new_number f made o.1)) ≡ v o.1))
           → OutputStands n m bk name (output_place os name) (output_place (map (λ (o : List ℕ × ℕ). (o.0, new_number f made o.1)) os) name)
       by [] k = tt
       by (o ∷ os) k = one (bytes_eq o.0 name) (k 0 o refl) (by os (λ i x e. k (suc i) x e))
         where
           one : (c : Bool) → (new_number f made o.1 < length m.signals) × ((v : Val) → Wired n v → v (bk (new_number f made o.1)) ≡ v o.1)
               → OutputStands n m bk name (output_place os name) (output_place (map (λ (o : List ℕ × ℕ). (o.0, new_number f made o.1)) os) name)
-              → OutputStands n m bk name (cond c (Some o.1) (output_place os name)) (cond c (Some (new_number f made o.1)) (output_place (map (λ (o : List ℕ × ℕ). (o.0, new_number f made o.1)) os) name))
+              → OutputStands n m bk name (cond c (Some o.1) (output_place os name))
+              (cond c (Some (new_number f made o.1)) (output_place (map (λ (o : List ℕ × ℕ). (o.0, new_number f made o.1)) os) name))
           one true p q = p
           one false p q = q
 

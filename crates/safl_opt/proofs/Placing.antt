@@ -1,5 +1,6 @@
 -- Temporaries that are made one after another for the nodes that are read.
-use Rattle.std.proofs.Common.{◌≡◌, ℕ, zero, suc, ◌+◌, ◌-◌, ◌<◌, ◌≤◌, List, [], ◌∷◌, ◌++◌, map, length, length-append, Option, Some, None, Bool, true, false, nat_lt, ◌⊎◌, inl, inr, slice_get, refl, sym, ap, subst, ◌∙◌, arith}
+use Rattle.std.proofs.Common.{◌≡◌, ℕ, zero, suc, ◌+◌, ◌-◌, ◌<◌, ◌≤◌, List, [], ◌∷◌, ◌++◌, map, length, length-append, Option, Some, None, Bool, true}
+use Rattle.std.proofs.Common.{false, nat_lt, ◌⊎◌, inl, inr, slice_get, refl, sym, ap, subst, ◌∙◌, arith}
 use Rattle.std.proofs.lemmas.Bool.{cases_eq, ltb-true, ltb-false}
 use Rattle.safl_net.specs.declared.cell.Sig.{Sig}
 use Rattle.safl_net.specs.Netlist.{Netlist, Signal, Wire, Cell, width_in, width_of}
@@ -161,7 +162,8 @@ module _ (n : Netlist) (kn : IsNetlist n) (ws : List ℕ) (order : IsOrder n ws)
           ]
 
       -- it has its temporary
-      module _ (node : Node) (at : slice_get f.nodes count ≡ Some node) (is_read : read_at read (f.kept + count) ≡ true) (a : Netlist) (added : IsAdded m a (node_cell made node)) (last : s.0 ≡ length m.signals) (tidy : IsTidy a) where
+      module _ (node : Node) (at : slice_get f.nodes count ≡ Some node) (is_read : read_at read (f.kept + count) ≡ true) (a : Netlist)
+          (added : IsAdded m a (node_cell made node)) (last : s.0 ≡ length m.signals) (tidy : IsTidy a) where
         abbrev new : Signal
         new = wired (temp_name (wires m.signals)) added.width (node_cell made node)
 
@@ -222,7 +224,8 @@ module _ (n : Netlist) (kn : IsNetlist n) (ws : List ℕ) (order : IsOrder n ws)
             let e = new_at in
             omega (arith, b, back, e, last)
 
-        once_next : (i j : ℕ) → i < count + 1 → j < count + 1 → read_at read (f.kept + i) ≡ true → read_at read (f.kept + j) ≡ true → sig_at (made ++ s ∷ []) (f.kept + i) ≡ sig_at (made ++ s ∷ []) (f.kept + j) → i ≡ j
+        once_next : (i j : ℕ) → i < count + 1 → j < count + 1 → read_at read (f.kept + i) ≡ true → read_at read (f.kept + j) ≡ true → sig_at
+            (made ++ s ∷ []) (f.kept + i) ≡ sig_at (made ++ s ∷ []) (f.kept + j) → i ≡ j
         once_next i j li lj qi qj e = elim (cases_eq i count) [
           | inl a ↦ elim (cases_eq j count) [
             | inl b ↦ a ∙ sym b

@@ -30,13 +30,15 @@ below_top f (suc i) s lt = elim (cases_eq s i) [
 cell_of_reader : (n : Netlist) (a s : ℕ) (r : Reads n a s) → (g : Signal) × (c : Cell) × (slice_get n.signals a ≡ Some g) × (g.kind ≡ Wire (Some c)) × (slice_get c.operands r.0 ≡ Some s)
 cell_of_reader n a s r = by (slice_get n.signals a) refl r.1
   where
-    kinds : (g : Signal) (k : Kind) → slice_get n.signals a ≡ Some g → g.kind ≡ k → slice_get (operands_in (cell_in k)) r.0 ≡ Some s → (g : Signal) × (c : Cell) × (slice_get n.signals a ≡ Some g) × (g.kind ≡ Wire (Some c)) × (slice_get c.operands r.0 ≡ Some s)
+    kinds : (g : Signal) (k : Kind) → slice_get n.signals a ≡ Some g → g.kind ≡ k → slice_get (operands_in (cell_in k)) r.0 ≡ Some s → (g : Signal) ×
+        (c : Cell) × (slice_get n.signals a ≡ Some g) × (g.kind ≡ Wire (Some c)) × (slice_get c.operands r.0 ≡ Some s)
     kinds g Input q e o = absurd (cc)
     kinds g (Reg init next) q e o = absurd (cc)
     kinds g (Wire None) q e o = absurd (cc)
     kinds g (Wire (Some c)) q e o = (g, c, q, e, o)
 
-    by : (o : Option Signal) → slice_get n.signals a ≡ o → slice_get (operands_in (cell_in (kind_in o))) r.0 ≡ Some s → (g : Signal) × (c : Cell) × (slice_get n.signals a ≡ Some g) × (g.kind ≡ Wire (Some c)) × (slice_get c.operands r.0 ≡ Some s)
+    by : (o : Option Signal) → slice_get n.signals a ≡ o → slice_get (operands_in (cell_in (kind_in o))) r.0 ≡ Some s → (g : Signal) × (c : Cell) ×
+        (slice_get n.signals a ≡ Some g) × (g.kind ≡ Wire (Some c)) × (slice_get c.operands r.0 ≡ Some s)
     by None q o = absurd (cc)
     by (Some g) q o = kinds g g.kind q refl o
 

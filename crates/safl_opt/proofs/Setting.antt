@@ -1,6 +1,7 @@
 -- Cells and next signals that are set one after another.
 use Rattle.std.proofs.lemmas.List.Elements.{All-nil, All-cons}
-use Rattle.std.proofs.Common.{All, ◌≡◌, ℕ, zero, suc, ◌+◌, ◌-◌, ◌<◌, ◌≤◌, List, [], ◌∷◌, ◌++◌, map, length, take, Option, Some, None, Bool, true, false, nat_lt, ◌⊎◌, inl, inr, slice_get, refl, sym, ap, subst, ◌∙◌, arith}
+use Rattle.std.proofs.Common.{All, ◌≡◌, ℕ, zero, suc, ◌+◌, ◌-◌, ◌<◌, ◌≤◌, List, [], ◌∷◌, ◌++◌, map, length, take, Option, Some, None, Bool, true}
+use Rattle.std.proofs.Common.{false, nat_lt, ◌⊎◌, inl, inr, slice_get, refl, sym, ap, subst, ◌∙◌, arith}
 use Rattle.std.proofs.lemmas.Bool.{cases_eq, ltb-true, ltb-false}
 use Rattle.safl_net.specs.declared.cell.Sig.{Sig}
 use Rattle.safl_net.specs.declared.cell.SigKind.{SigKind}
@@ -271,7 +272,8 @@ module _ (n : Netlist) (f : Values) (made : List Sig) (i s : ℕ) (m : Netlist) 
   there = turn.open_yet
 
   pub input_set : sort_of (kind_at n s) ≡ SigKind.Input → m ≡ with_kind m i (new_kind f made (kind_at n (sig_at f.signals.items i)))
-  input_set e = stays m i (new_kind f made (kind_at n (sig_at f.signals.items i))) (open_signal n (sig_at f.signals.items i)) there (input_same f made (kind_at n (sig_at f.signals.items i)) (ap (λ t. sort_of (kind_at n t)) (sym at) ∙ e))
+  input_set e = stays m i (new_kind f made (kind_at n (sig_at f.signals.items i))) (open_signal n (sig_at f.signals.items i)) there
+      (input_same f made (kind_at n (sig_at f.signals.items i)) (ap (λ t. sort_of (kind_at n t)) (sym at) ∙ e))
 
   pub width_here : width_of m i ≡ width_of n s
   width_here = ap width_in there ∙ ap (width_of n) (sym at)

@@ -1,5 +1,6 @@
 -- Outputs that are shown one after another.
-use Rattle.std.proofs.Common.{◌≡◌, ℕ, zero, suc, ◌+◌, ◌<◌, ◌≤◌, List, [], ◌∷◌, ◌++◌, map, length, take, Option, Some, None, Bool, true, false, nat_lt, ◌⊎◌, inl, inr, slice_get, refl, sym, ap, subst, ◌∙◌, arith}
+use Rattle.std.proofs.Common.{◌≡◌, ℕ, zero, suc, ◌+◌, ◌<◌, ◌≤◌, List, [], ◌∷◌, ◌++◌, map, length, take, Option, Some, None, Bool, true, false, nat_lt}
+use Rattle.std.proofs.Common.{◌⊎◌, inl, inr, slice_get, refl, sym, ap, subst, ◌∙◌, arith}
 use Rattle.std.specs.Prelude.{option_map}
 use Rattle.std.proofs.lemmas.Bool.{ltb-true, ltb-false}
 use Rattle.safl_net.specs.declared.cell.Sig.{Sig}
@@ -20,7 +21,8 @@ use Rattle.safl_opt.proofs.Declaring.{no_refusal}
 use Rattle.safl_opt.proofs.ListSteps.{take_next, map_push, take_all, mapped_few}
 
 -- an output among the first ones
-from_shown : (g : ℕ → ℕ) (os : List (List ℕ × ℕ)) (i j : ℕ) (o : List ℕ × ℕ) → slice_get (map (λ o. (o.0, g o.1)) (take i os)) j ≡ Some o → (p : List ℕ × ℕ) × (j < i) × (slice_get os j ≡ Some p) × (o.0 ≡ p.0)
+from_shown : (g : ℕ → ℕ) (os : List (List ℕ × ℕ)) (i j : ℕ) (o : List ℕ × ℕ) → slice_get (map (λ o. (o.0, g o.1)) (take i os)) j ≡ Some o →
+    (p : List ℕ × ℕ) × (j < i) × (slice_get os j ≡ Some p) × (o.0 ≡ p.0)
 from_shown g [] zero j o e = absurd (cc)
 from_shown g [] (suc i) j o e = absurd (cc)
 from_shown g (x ∷ os) zero j o e = absurd (cc)
@@ -30,7 +32,8 @@ from_shown g (x ∷ os) (suc i) (suc j) o e = let r = from_shown g os i j o e in
 pub shown_none : (n : Netlist) (f : Values) (made : List Sig) (m : Netlist) → m.outputs ≡ [] → IsTidy m → Shown n f made m 0 m
 shown_none n f made m e t = record { signals = refl; outputs = e; tidy = t }
 
-module _ (n : Netlist) (kn : IsNetlist n) (tidy : IsTidy n) (f : Values) (made : List Sig) (first m : Netlist) (i : ℕ) (sh : Shown n f made first i m) (o : List ℕ × ℕ) (at : slice_get n.outputs i ≡ Some o) where
+module _ (n : Netlist) (kn : IsNetlist n) (tidy : IsTidy n) (f : Values) (made : List Sig) (first m : Netlist) (i : ℕ) (sh : Shown n f made first i m)
+    (o : List ℕ × ℕ) (at : slice_get n.outputs i ≡ Some o) where
   pub output_free : AreNamed n first → refusal m o.0 ≡ None
   output_free names = no_refusal m o.0 (kn.outputs i o at).0 (record {
     signals = λ y g e q. elim (names y g (ap (λ l. slice_get l y) (sym sh.signals) ∙ e)) [
@@ -75,7 +78,8 @@ few_shown n f made first m i sh =
 
 -- ---- the stages together
 
-module _ (n : Netlist) (ws : List ℕ) (f : Values) (h : Folds n ws (length ws) f) (read : List Bool) (made : List Sig) (first mid m : Netlist) (p : Placed n f read (length f.nodes) made first) (b : SetBelow n f made first f.kept mid) where
+module _ (n : Netlist) (ws : List ℕ) (f : Values) (h : Folds n ws (length ws) f) (read : List Bool) (made : List Sig) (first mid m : Netlist)
+    (p : Placed n f read (length f.nodes) made first) (b : SetBelow n f made first f.kept mid) where
   -- each signal has the name of one of n or a temporary's
   pub all_named : AreNamed n mid
   all_named y g e = by (nat_lt y f.kept) refl

@@ -1,5 +1,6 @@
 -- Cells that could not be spared.
-use Rattle.std.proofs.Common.{◌≡◌, ◌≢◌, ℕ, zero, suc, ◌<◌, List, [], ◌∷◌, ◌++◌, map, length, take, All, Option, Some, None, Bool, true, false, not, ◌&&◌, cond, ◌⊎◌, inl, inr, slice_get, slice_index_or, refl, sym, ap, subst, ◌∙◌, arith}
+use Rattle.std.proofs.Common.{◌≡◌, ◌≢◌, ℕ, zero, suc, ◌<◌, List, [], ◌∷◌, ◌++◌, map, length, take, All, Option, Some, None, Bool, true, false, not}
+use Rattle.std.proofs.Common.{◌&&◌, cond, ◌⊎◌, inl, inr, slice_get, slice_index_or, refl, sym, ap, subst, ◌∙◌, arith}
 use Rattle.std.specs.Prelude.{IsTrue, ◌↔◌}
 use Rattle.safl_word.specs.Words.{Word}
 use Rattle.safl_word.specs.declared.primitive.Primitive.{Primitive}
@@ -92,12 +93,14 @@ cells_same o p xs ys e f = ap (λ (x : Op). cell_on x xs) e ∙ ap (λ (l : List
 
 -- ---- constants
 
-pub all_next : (n : Netlist) (xs : List Sig) (i : ℕ) → i < length xs → are_constants n (numbers (take i xs)) ≡ true → is_constant n (sig_at xs i) ≡ true → are_constants n (numbers (take (suc i) xs)) ≡ true
+pub all_next : (n : Netlist) (xs : List Sig) (i : ℕ) → i < length xs → are_constants n (numbers (take i xs)) ≡ true → is_constant n (sig_at xs i) ≡
+    true → are_constants n (numbers (take (suc i) xs)) ≡ true
 all_next n [] i lt h k = absurd (omega (arith, lt))
 all_next n (x ∷ xs) zero lt h k = ap (λ b. b && true) k
 all_next n (x ∷ xs) (suc i) lt h k = by (is_constant n x.0) h (λ r. all_next n xs i (omega (arith, lt)) r k)
   where
-    by : (b : Bool) → (b && are_constants n (numbers (take i xs))) ≡ true → (are_constants n (numbers (take i xs)) ≡ true → are_constants n (numbers (take (suc i) xs)) ≡ true) → (b && are_constants n (numbers (take (suc i) xs))) ≡ true
+    by : (b : Bool) → (b && are_constants n (numbers (take i xs))) ≡ true →
+        (are_constants n (numbers (take i xs)) ≡ true → are_constants n (numbers (take (suc i) xs)) ≡ true) → (b && are_constants n (numbers (take (suc i) xs))) ≡ true
     by true q f = f q
     by false q f = absurd (cc)
 
@@ -124,7 +127,8 @@ false_then_not false b e h = refl
 
 -- ---- lists of signals
 
-pub three_numbers : (xs : List Sig) → length xs ≡ 3 → numbers xs ≡ (slice_index_or xs 0 (record { 0 = 0 })).0 ∷ (slice_index_or xs 1 (record { 0 = 0 })).0 ∷ (slice_index_or xs 2 (record { 0 = 0 })).0 ∷ []
+pub three_numbers : (xs : List Sig) → length xs ≡ 3 → numbers xs ≡ (slice_index_or xs 0 (record { 0 = 0 })).0 ∷
+    (slice_index_or xs 1 (record { 0 = 0 })).0 ∷ (slice_index_or xs 2 (record { 0 = 0 })).0 ∷ []
 three_numbers [] e = absurd (omega (arith, e))
 three_numbers (a ∷ []) e = absurd (omega (arith, e))
 three_numbers (a ∷ (b ∷ [])) e = absurd (omega (arith, e))

@@ -1,5 +1,6 @@
 -- A net whose signals each stand for one of another net mirrors that net.
-use Rattle.std.proofs.Common.{◌≡◌, ℕ, zero, suc, ◌+◌, ◌<◌, ◌^◌, List, [], ◌∷◌, map, length, Option, Some, None, Bool, true, false, cond, bytes_eq, slice_get, slice_index, refl, sym, ap, subst, ◌∙◌, arith}
+use Rattle.std.proofs.Common.{◌≡◌, ℕ, zero, suc, ◌+◌, ◌<◌, ◌^◌, List, [], ◌∷◌, map, length, Option, Some, None, Bool, true, false, cond, bytes_eq}
+use Rattle.std.proofs.Common.{slice_get, slice_index, refl, sym, ap, subst, ◌∙◌, arith}
 use Rattle.std.proofs.lemmas.Nat.{pow_pos}
 use Rattle.std.proofs.lemmas.Slice.Eq.{bytes_eq-Decides}
 use Rattle.safl_word.specs.Words.{Word}
@@ -98,7 +99,8 @@ pub record Stands (n m : Netlist) (back fore : ℕ → ℕ) : Type 0 where
   pub next : (y i j t u : ℕ) (g h : Signal) → StandsFor n m (back y) y g h → g.kind ≡ Reg i (Some t) → h.kind ≡ Reg j (Some u) → (u < length m.signals) × ((v : Val) → Wired n v → v (back u) ≡ v t)
   pub outputs : (name : List ℕ) → OutputStands n m back name (output_place n.outputs name) (output_place m.outputs name)
 
-module _ (n m : Netlist) (kn : IsNetlist n) (km : IsNetlist m) (set_n : AllSet n) (set_m : AllSet m) (ac_n : IsAcyclic n) (ac_m : IsAcyclic m) (back fore : ℕ → ℕ) (st : Stands n m back fore) (w : Valuation) (fw : IsCycle m w) where
+module _ (n m : Netlist) (kn : IsNetlist n) (km : IsNetlist m) (set_n : AllSet n) (set_m : AllSet m) (ac_n : IsAcyclic n) (ac_m : IsAcyclic m)
+    (back fore : ℕ → ℕ) (st : Stands n m back fore) (w : Valuation) (fw : IsCycle m w) where
   -- the state and the inputs of the cycle, by the numbers of n
   abbrev shown : ℕ → ℕ
   shown s = cond (is_temp (name_at n s)) 0 (slice_index w (fore s))
@@ -155,7 +157,8 @@ module _ (n m : Netlist) (kn : IsNetlist n) (km : IsNetlist m) (set_n : AllSet n
   made_word y h e = word_same (signal_word m made y) (word (back y)) (ap width_in e ∙ sym (wired_new.each y h e).width) (made_at y (within m.signals y h e))
 
   -- what the register or input shows
-  old_at : (y : ℕ) (g h : Signal) → StandsFor n m (back y) y g h → (k : Kind) → g.kind ≡ k → SameSort k h.kind → (c : ℕ) → ((d : Option Cell) → h.kind ≡ Wire d → ⊥) → slice_index old (back y) ≡ shown (back y)
+  old_at : (y : ℕ) (g h : Signal) → StandsFor n m (back y) y g h → (k : Kind) → g.kind ≡ k → SameSort k h.kind → (c : ℕ) →
+      ((d : Option Cell) → h.kind ≡ Wire d → ⊥) → slice_index old (back y) ≡ shown (back y)
   old_at y g h r Input is sort c never = one.1.inputs (back y) g r.old is
   old_at y g h r (Reg i p) is sort c never = subst (λ k. Holds n old (shown (back y)) (slice_index old (back y)) k) is (one.1.fits.each (back y) g r.old).1
   old_at y g h r (Wire d) is sort c never = absurd (wires h.kind refl sort)

@@ -90,7 +90,8 @@ whole_kept n m km a set bk fr st w =
 
 -- ---- all of it
 
-pub smaller : (n : Netlist) → IsNetlist n → IsTidy n → (ws : List ℕ) → IsOrder n ws → IsAcyclic n → (f : Values) → Folds n ws (length ws) f → Different f.nodes → (read : List Bool) → AreRead n f read → AreNeeded n f read
+pub smaller : (n : Netlist) → IsNetlist n → IsTidy n → (ws : List ℕ) → IsOrder n ws → IsAcyclic n → (f : Values) → Folds n ws (length ws) f →
+    Different f.nodes → (read : List Bool) → AreRead n f read → AreNeeded n f read
     → (made : List Sig) (m : Netlist) → Builds n f read made m → IsNetlist m → IsTidy m → IsSmaller n m
 smaller n kn tidy ws order ac f h different read marks needed made m b km tidy_m =
     let st = stands n kn ws order f h read marks made m b needed different tidy in

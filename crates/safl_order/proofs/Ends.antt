@@ -82,13 +82,15 @@ order_acyclic n ws o = record {
 reads_cell : (n : Netlist) (a b : ℕ) → Reads n a b → (g : Signal) × (c : Cell) × (slice_get n.signals a ≡ Some g) × (g.kind ≡ Wire (Some c)) × ((i : ℕ) × (slice_get c.operands i ≡ Some b))
 reads_cell n a b r = by (slice_get n.signals a) refl r.1
   where
-    on : (g : Signal) (k : Kind) → slice_get n.signals a ≡ Some g → g.kind ≡ k → slice_get (operands_in (cell_in k)) r.0 ≡ Some b → (g : Signal) × (c : Cell) × (slice_get n.signals a ≡ Some g) × (g.kind ≡ Wire (Some c)) × ((i : ℕ) × (slice_get c.operands i ≡ Some b))
+    on : (g : Signal) (k : Kind) → slice_get n.signals a ≡ Some g → g.kind ≡ k → slice_get (operands_in (cell_in k)) r.0 ≡ Some b → (g : Signal) ×
+        (c : Cell) × (slice_get n.signals a ≡ Some g) × (g.kind ≡ Wire (Some c)) × ((i : ℕ) × (slice_get c.operands i ≡ Some b))
     on g Input e f h = absurd (cc)
     on g (Reg init next) e f h = absurd (cc)
     on g (Wire None) e f h = absurd (cc)
     on g (Wire (Some c)) e f h = (g, c, e, f, (r.0, h))
 
-    by : (o : Option Signal) → slice_get n.signals a ≡ o → slice_get (operands_in (cell_in (kind_in o))) r.0 ≡ Some b → (g : Signal) × (c : Cell) × (slice_get n.signals a ≡ Some g) × (g.kind ≡ Wire (Some c)) × ((i : ℕ) × (slice_get c.operands i ≡ Some b))
+    by : (o : Option Signal) → slice_get n.signals a ≡ o → slice_get (operands_in (cell_in (kind_in o))) r.0 ≡ Some b → (g : Signal) × (c : Cell) ×
+        (slice_get n.signals a ≡ Some g) × (g.kind ≡ Wire (Some c)) × ((i : ℕ) × (slice_get c.operands i ≡ Some b))
     by None e h = absurd (cc)
     by (Some g) e h = on g g.kind e refl h
 

@@ -137,8 +137,10 @@ turned_loop n fs ws low t leads first apart = from (drop t.place fs) (get_drop f
     from [] e q = absurd (let a = ap length q in let b = length_drop fs t.place in let c = t.within in omega (arith, a, b, c))
     from (b ∷ rest) e q =
         let low_at : slice_get fs t.place ≡ Some b = ap (slice_get fs) (let z : t.place ≡ 0 + t.place = omega arith in z) ∙ sym e in
-        let split : wires_of fs ≡ wires_of (take t.place fs) ++ b.wire.0 ∷ wires_of rest = ap wires_of (sym (take_drop fs t.place)) ∙ map_append (λ (f : Frame). f.wire.0) (take t.place fs) (drop t.place fs) ∙ ap (λ l. wires_of (take t.place fs) ++ wires_of l) (sym q) in
-        let turned : numbers ws ≡ (b.wire.0 ∷ wires_of rest) ++ wires_of (take t.place fs) = numbered ∙ map_append (λ (f : Frame). f.wire.0) (drop t.place fs) (take t.place fs) ∙ ap (λ l. wires_of l ++ wires_of (take t.place fs)) (sym q) in
+        let split : wires_of fs ≡ wires_of (take t.place fs) ++ b.wire.0 ∷ wires_of rest = ap wires_of (sym (take_drop fs t.place)) ∙ map_append
+        (λ (f : Frame). f.wire.0) (take t.place fs) (drop t.place fs) ∙ ap (λ l. wires_of (take t.place fs) ++ wires_of l) (sym q) in
+        let turned : numbers ws ≡ (b.wire.0 ∷ wires_of rest) ++ wires_of (take t.place fs) = numbered ∙ map_append (λ (f : Frame). f.wire.0)
+        (drop t.place fs) (take t.place fs) ∙ ap (λ l. wires_of l ++ wires_of (take t.place fs)) (sym q) in
         record {
           first = b.wire.0;
           rest = wires_of rest ++ wires_of (take t.place fs);
@@ -190,7 +192,8 @@ turned_made fs stack first none some all e f g h within least = subst (λ l. IsT
   place = first;
   within = within;
   is =
-      h ∙ ap (λ l. l ++ map (λ (x : Frame). x.wire) (take first fs)) (g ∙ ap (λ l. l ++ map (λ (x : Frame). x.wire) (take (length fs - first) (drop first fs))) f ∙ ap (map (λ (x : Frame). x.wire)) (take_rest fs first))
+      h ∙ ap (λ l. l ++ map (λ (x : Frame). x.wire) (take first fs))
+      (g ∙ ap (λ l. l ++ map (λ (x : Frame). x.wire) (take (length fs - first) (drop first fs))) f ∙ ap (map (λ (x : Frame). x.wire)) (take_rest fs first))
       ∙ sym (map_append (λ (x : Frame). x.wire) (drop first fs) (take first fs));
   least = least;
 })

@@ -1,5 +1,6 @@
 -- What the steps of the code do to a walk.
-use Rattle.std.proofs.Common.{◌≡◌, inl, inr, ℕ, zero, suc, ◌+◌, ◌-◌, ◌<◌, ◌≤◌, ◌^◌, List, [], ◌∷◌, ◌++◌, length, set, take, get_or, Option, Some, None, Result, Ok, Err, OnOk, IfErr, slice_get, refl, sym, ap, subst, ◌∙◌, arith}
+use Rattle.std.proofs.Common.{◌≡◌, inl, inr, ℕ, zero, suc, ◌+◌, ◌-◌, ◌<◌, ◌≤◌, ◌^◌, List, [], ◌∷◌, ◌++◌, length, set, take, get_or, Option, Some}
+use Rattle.std.proofs.Common.{None, Result, Ok, Err, OnOk, IfErr, slice_get, refl, sym, ap, subst, ◌∙◌, arith}
 use Rattle.safl_net.specs.declared.cell.Sig.{Sig}
 use Rattle.safl_net.specs.Netlist.{Netlist, Signal, Kind, Input, Reg, Wire}
 use Rattle.safl_net.specs.Making.{kind_at, kind_in, cell_in, next_in}
@@ -77,7 +78,8 @@ moves_open n d d' m m' s s' t (Err x) w wire new looks e f g h = record {
 }
 
 -- a wire that is done
-pub moves_close : (n : Netlist) (d d' : List Sig) (m m' : List Mark) (s s' : List Frame) (f : Frame) (last : ℕ) (r : Result (Unit {0}) Stop) → Walks n d m s → slice_get s last ≡ Some f → suc last ≡ length s
+pub moves_close : (n : Netlist) (d d' : List Sig) (m m' : List Mark) (s s' : List Frame) (f : Frame) (last : ℕ) (r : Result (Unit {0}) Stop) → Walks n
+    d m s → slice_get s last ≡ Some f → suc last ≡ length s
     → slice_get (looked_at n f.wire.0) f.next ≡ None → f.next < 4
     → OnOk r (d' ≡ d ++ f.wire ∷ []) → OnOk r (m' ≡ set m f.wire.0 (Done (length d))) → OnOk r (s' ≡ take last s)
     → IfErr r (λ e. (e ≡ NoMemory) × (d' ≡ d) × (m' ≡ m) × (s' ≡ s))
@@ -87,7 +89,9 @@ moves_close n d d' m m' s s' f last (Ok u) w at long none few e g h i =
     record {
       walks = same_walks n _ d' _ m' _ s' e g h (walks_close n d m s f w top none);
       goes = subst (λ (x : List Mark). Goes m x) (sym g) (goes_set m f.wire.0 (Done (length d)) (Open last) (w.opened last f at) tt (λ q. cc));
-      less = subst (λ (x : List Mark). work x s' < work m s) (sym g) (subst (λ (x : List Frame). work (set m f.wire.0 (Done (length d))) x < work m s) (sym h) (less_close m s f f.wire.0 (Done (length d)) (Open last) (w.opened last f at) refl refl top few));
+      less = subst (λ (x : List Mark). work x s' < work m s) (sym g)
+          (subst (λ (x : List Frame). work (set m f.wire.0 (Done (length d))) x < work m s) (sym h)
+          (less_close m s f f.wire.0 (Done (length d)) (Open last) (w.opened last f at) refl refl top few));
       stop = tt;
     }
 moves_close n d d' m m' s s' f last (Err x) w at long none few e g h i = record {
@@ -182,13 +186,15 @@ done_root n d m s root w e h seen =
     by (Open k) q = let f = w.open_at root k q in absurd (let a = ap (λ l. slice_get l k) (sym e) ∙ f.1 in cc)
     by (Done i) q = (i, q)
 
-pub done_after : {A : Type 0} (r : Result A Stop) (n : Netlist) (d : List Sig) (m : List Mark) (s : List Frame) (root : ℕ) → Walks n d m s → OnOk r (s ≡ []) → root < length n.signals → ¬ (slice_get m root ≡ Some Unseen)
+pub done_after : {A : Type 0} (r : Result A Stop) (n : Netlist) (d : List Sig) (m : List Mark) (s : List Frame) (root : ℕ) → Walks n d m s → OnOk r
+    (s ≡ []) → root < length n.signals → ¬ (slice_get m root ≡ Some Unseen)
     → OnOk r (IsWire n root → (i : ℕ) × (slice_get m root ≡ Some (Done i)))
 done_after (Ok x) n d m s root w e h seen = λ v. done_root n d m s root w e h seen
 done_after (Err x) n d m s root w e h seen = tt
 
 -- what was just put on the stack is seen
-pub seen_open : {A : Type 0} (r : Result A Stop) (x : A) (m m' m'' : List Mark) (t k : ℕ) → r ≡ Ok x → OnOk r (m' ≡ set m t (Open k)) → slice_get m t ≡ Some Unseen → Goes m' m'' → ¬ (slice_get m'' t ≡ Some Unseen)
+pub seen_open : {A : Type 0} (r : Result A Stop) (x : A) (m m' m'' : List Mark) (t k : ℕ) → r ≡ Ok x → OnOk r (m' ≡ set m t (Open k)) → slice_get m t
+    ≡ Some Unseen → Goes m' m'' → ¬ (slice_get m'' t ≡ Some Unseen)
 seen_open r x m m' m'' t k is e f g h =
     let q = subst (λ (y : Result _ Stop). OnOk y (m' ≡ set m t (Open k))) is e in
     let a = g.seen t h in

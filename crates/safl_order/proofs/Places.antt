@@ -86,7 +86,8 @@ get_reverse [] i j h = absurd (omega (arith, h))
 get_reverse (x ∷ xs) i j h =
     let all = x ∷ xs in
     let long = length-reverse all in
-    slice_get-get_or (reverse all) i x (omega (arith, long, h)) ∙ ap Some (get_or-reverse all i x (omega (arith, h)) ∙ ap (λ k. get_or all k x) (let e : length all - 1 - i ≡ j = omega (arith, h) in e))
+    slice_get-get_or (reverse all) i x (omega (arith, long, h)) ∙ ap Some
+    (get_or-reverse all i x (omega (arith, h)) ∙ ap (λ k. get_or all k x) (let e : length all - 1 - i ≡ j = omega (arith, h) in e))
     ∙ sym (slice_get-get_or all j x (omega (arith, h)))
 
 -- what stands in a reversed list stands in the list, and the other way round

@@ -31,7 +31,8 @@ below_kept marks t x y i u e h d = (d.0, d.1, done_other marks t x y u d.0 e h d
 below_more : (marks : List Mark) (i j u : ℕ) → i ≤ j → DoneBelow marks i u → DoneBelow marks j u
 below_more marks i j u h d = (d.0, (let q = d.1 in omega (arith, q, h)), d.2)
 
-frame_kept : (n : Netlist) (marks : List Mark) (t : ℕ) (x y : Mark) (count more : ℕ) (f : Frame) → count ≤ more → slice_get marks t ≡ Some y → NotDone y → FrameFits n marks count f → FrameFits n (set marks t x) more f
+frame_kept : (n : Netlist) (marks : List Mark) (t : ℕ) (x y : Mark) (count more : ℕ) (f : Frame) → count ≤ more → slice_get marks t ≡ Some y → NotDone
+    y → FrameFits n marks count f → FrameFits n (set marks t x) more f
 frame_kept n marks t x y count more f l e h k = record {
   wire = k.wire;
   within = k.within;
@@ -103,7 +104,8 @@ walks_open n done marks stack t w wire new looks =
       ];
     }
 
-pub less_open : (marks : List Mark) (stack : List Frame) (t : Sig) (x : Mark) → slice_get marks t.0 ≡ Some Unseen → one_unseen x ≡ 0 → work (set marks t.0 x) (stack ++ record { wire = t; next = 0 } ∷ []) < work marks stack
+pub less_open : (marks : List Mark) (stack : List Frame) (t : Sig) (x : Mark) → slice_get marks t.0 ≡ Some Unseen → one_unseen x ≡ 0 → work
+    (set marks t.0 x) (stack ++ record { wire = t; next = 0 } ∷ []) < work marks stack
 less_open marks stack t x e h =
     let a = unseen_set marks t.0 x Unseen e in
     let b = stack_push stack (fresh t) in
@@ -170,11 +172,13 @@ walks_pass n done marks stack f t w top looks few past =
           subst (λ y. DoneBelow marks (length done) y) (sym one) (past (subst (λ y. IsWire n y) one v))
     ]
 
-pub less_pass : (marks : List Mark) (stack : List Frame) (f : Frame) (k : ℕ) → slice_get stack k ≡ Some f → f.next < 4 → work marks (set stack k (record { wire = f.wire; next = f.next + 1 })) < work marks stack
+pub less_pass : (marks : List Mark) (stack : List Frame) (f : Frame) (k : ℕ) → slice_get stack k ≡ Some f → f.next < 4 → work marks
+    (set stack k (record { wire = f.wire; next = f.next + 1 })) < work marks stack
 less_pass marks stack f k e h = let a = stack_set stack k f (passed f) e in omega (arith, a, h)
 
 -- the wire on top is done
-pub walks_close : (n : Netlist) (done : List Sig) (marks : List Mark) (stack : List Frame) (f : Frame) → Walks n done marks stack → (top : IsTop stack f) → slice_get (looked_at n f.wire.0) f.next ≡ None
+pub walks_close : (n : Netlist) (done : List Sig) (marks : List Mark) (stack : List Frame) (f : Frame) → Walks n done marks stack →
+    (top : IsTop stack f) → slice_get (looked_at n f.wire.0) f.next ≡ None
     → Walks n (done ++ f.wire ∷ []) (set marks f.wire.0 (Done (length done))) (take top.place stack)
 walks_close n done marks stack f w top none =
     let p = top.place in
@@ -225,7 +229,8 @@ walks_close n done marks stack f w top none =
             let d = (w.frames p f top.at).past look.0 u (omega (arith, a, b)) look.1 v in
             subst (λ j. DoneBelow (set marks f.wire.0 x) j u) (sym q.0) (below_kept marks f.wire.0 x (Open p) (length done) u here tt d)
       ];
-      frames = λ k g e. frame_kept n marks f.wire.0 x (Open p) (length done) (length (done ++ f.wire ∷ [])) g (let a = length_push done f.wire in omega (arith, a)) here tt (w.frames k g (front k g e));
+      frames = λ k g e. frame_kept n marks f.wire.0 x (Open p) (length done) (length (done ++ f.wire ∷ [])) g
+          (let a = length_push done f.wire in omega (arith, a)) here tt (w.frames k g (front k g e));
       count =
           let a = w.count in
           let b = unseen_set marks f.wire.0 x (Open p) here in
@@ -236,7 +241,8 @@ walks_close n done marks stack f w top none =
       path = λ k g h e i. w.path k g h (front k g e) (front (suc k) h i);
     }
 
-pub less_close : (marks : List Mark) (stack : List Frame) (f : Frame) (t : ℕ) (x y : Mark) → slice_get marks t ≡ Some y → one_unseen y ≡ 0 → one_unseen x ≡ 0 → (top : IsTop stack f) → f.next < 4 → work (set marks t x) (take top.place stack) < work marks stack
+pub less_close : (marks : List Mark) (stack : List Frame) (f : Frame) (t : ℕ) (x y : Mark) → slice_get marks t ≡ Some y → one_unseen y ≡ 0 →
+    one_unseen x ≡ 0 → (top : IsTop stack f) → f.next < 4 → work (set marks t x) (take top.place stack) < work marks stack
 less_close marks stack f t x y e g h top few =
     let a = unseen_set marks t x y e in
     let b = ap stack_work (split_last stack top.place f top.at top.last) ∙ stack_push (take top.place stack) f in

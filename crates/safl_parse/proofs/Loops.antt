@@ -8,7 +8,8 @@ use Rattle.safl_word.specs.declared.token.Sym.TheVariants as syms
 use Rattle.safl_tree.specs.Tree.{Tree, Bound, Parameter, Definition}
 use Rattle.safl_tree.specs.Terminals.{Terminal, word_code, symbol_code, marked, name, comes}
 use Rattle.safl_tree.specs.Grammar
-use Rattle.safl_tree.specs.Reader.{read_bind, read_chained, read_compared, read_layer, read_chain, expr_at, read_another, read_another_bind, read_another_param, read_another_one, read_another_group, read_expr, read_cases, arms_at}
+use Rattle.safl_tree.specs.Reader.{read_bind, read_chained, read_compared, read_layer, read_chain, expr_at, read_another, read_another_bind}
+use Rattle.safl_tree.specs.Reader.{read_another_param, read_another_one, read_another_group, read_expr, read_cases, arms_at}
 use Rattle.safl_tree.proofs.KeptLevels.{both_levels, expr_small}
 use Rattle.safl_tree.proofs.Expressions.{written_parses}
 use Rattle.safl_tree.proofs.Programs.{another_param_parses, another_one_parses, another_group_parses}
@@ -24,7 +25,11 @@ another_eats m xs = (eats_follows (eats_token (marked (symbol_code syms.Comma)))
 
 pub another_bind_eats : (m : ℕ) (bs : List Bound) (w r : List Terminal) (x : List Bound) → read_another_bind (expr_at m) bs w ≡ Ok (x, r) → length r < length w
 unfolding read_another_bind read_bind
-another_bind_eats m bs = (eats_follows (eats_token (marked (symbol_code syms.Comma))) (λ sep. small_follows (small_follows (small (eats_token name)) (λ x. small_follows (small_parses written_parses) (λ w. small_follows (small (eats_token (marked (symbol_code syms.Assign)))) (λ g. small_follows (expr_small m) (λ v. small_nothing (record { place = x.place; name = x.name; width = w; value = v })))))) (λ b. small_nothing (bs ++ b ∷ [])))).left
+another_bind_eats m bs = (eats_follows (eats_token (marked (symbol_code syms.Comma)))
+    (λ sep. small_follows (small_follows (small (eats_token name))
+    (λ x. small_follows (small_parses written_parses) (λ w. small_follows (small (eats_token (marked (symbol_code syms.Assign))))
+    (λ g. small_follows (expr_small m) (λ v. small_nothing (record { place = x.place; name = x.name; width = w; value = v }))))))
+    (λ b. small_nothing (bs ++ b ∷ [])))).left
 
 pub another_param_eats : (ps : List Parameter) (w r : List Terminal) (x : List Parameter) → read_another_param ps w ≡ Ok (x, r) → length r < length w
 another_param_eats ps = (eats_parses (another_param_parses ps)).left
@@ -36,7 +41,9 @@ pub another_group_eats : (ds : List Definition) (w r : List Terminal) (x : List 
 another_group_eats ds w r x e = (eats_parses (another_group_parses (expr_at 100) (Grammar.level 101 100).whole (Grammar.level 100 100).whole (both_levels 100 100).whole ds)).left w r x e
 
 -- a turn that fails
-pub fails : {A : Type 0} (text : List ℕ) (e : ReadError) (test : Option Terminal → Bool) (go : A → Reading Terminal A) (eats : (a : A) (w r : List Terminal) (x : A) → go a w ≡ Ok (x, r) → length r < length w) (a : A) (w : List Terminal) (total : Read Terminal A) → read_many test go a w ≡ total → test (head_of w) ≡ true → Fails text e (go a w) → Fails text e total
+pub fails : {A : Type 0} (text : List ℕ) (e : ReadError) (test : Option Terminal → Bool) (go : A → Reading Terminal A)
+    (eats : (a : A) (w r : List Terminal) (x : A) → go a w ≡ Ok (x, r) → length r < length w) (a : A) (w : List Terminal) (total : Read Terminal A) →
+    read_many test go a w ≡ total → test (head_of w) ≡ true → Fails text e (go a w) → Fails text e total
 fails text errors.NoMemory test go eats a w total so_far t h = tt
 fails text (errors.Refused e rest) test go eats a w total so_far t h = fails_here test go eats a w total so_far (rule_of e, terminals text rest.now) t h
 
@@ -75,7 +82,8 @@ chain_chained k p w n e = let i : suc (k - 1) ≡ k = omega arith in ap (λ (q :
 
 -- ---- a case
 
-pub expr_cases : (k : ℕ) (w : List Terminal) → (k ≡ 0 → ⊥) → comes (word_code keys.If ∷ []) (head_of w) ≡ false → comes (word_code keys.Let ∷ []) (head_of w) ≡ false → comes (word_code keys.Case ∷ []) (head_of w) ≡ true → expr_at k w ≡ read_cases (expr_at (k - 1)) (arms_at (k - 1)) w
+pub expr_cases : (k : ℕ) (w : List Terminal) → (k ≡ 0 → ⊥) → comes (word_code keys.If ∷ []) (head_of w) ≡ false → comes (word_code keys.Let ∷ [])
+    (head_of w) ≡ false → comes (word_code keys.Case ∷ []) (head_of w) ≡ true → expr_at k w ≡ read_cases (expr_at (k - 1)) (arms_at (k - 1)) w
 unfolding expr_at read_expr arms_at
 expr_cases zero w n a b c = absurd (n refl)
 expr_cases (suc k) w n a b c =

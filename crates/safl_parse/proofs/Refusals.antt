@@ -13,5 +13,12 @@ use Rattle.safl_parse.specs.Gives.{rule_of as grammar_rule}
 pub spelled : (text : List ℕ) (ts rest : List Token) (p : List Definition) → read_source (terminals text ts) ≡ Ok (p, terminals text rest) → TokensSpell text ts p
 spelled text ts rest p e = Programs.spelled (terminals text ts) p (terminals text rest) e
 
-pub refused : (text : List ℕ) (ts rest : List Token) (cause : Cause) (f : Fault) → read_source (terminals text ts) ≡ Err (grammar_rule cause, terminals text rest) → f ≡ fault_at (rule_of (grammar_rule cause)) (place_in text (terminals text rest)) → TokensFault text ts f
-refused text ts rest cause f e i = record { rule = grammar_rule cause; rest = terminals text rest; breaks = Programs.first_fault (terminals text ts) (terminals text rest) (grammar_rule cause) e; is = i }
+pub refused : (text : List ℕ) (ts rest : List Token) (cause : Cause) (f : Fault) → read_source (terminals text ts) ≡ Err
+    (grammar_rule cause, terminals text rest) → f ≡ fault_at (rule_of (grammar_rule cause)) (place_in text (terminals text rest)) → TokensFault text ts f
+refused text ts rest cause f e i = record {
+  rule = grammar_rule cause;
+  rest = terminals text rest;
+  breaks = Programs.first_fault (terminals text ts)
+      (terminals text rest) (grammar_rule cause) e;
+  is = i;
+}

@@ -29,7 +29,8 @@ pub fault_of : (text : List ℕ) (ts : List Token) (f : Fault) → HasTokens tex
 fault_of text ts f h (lexical e q k i) = absurd (not_both text ts e q h k)
 fault_of text ts f h (of_tokens us k t) = subst (λ (us : List Token). TokensFault text us f) (tokens_once text us ts k h) t
 
-pub spells : (text : List ℕ) (ts : List Token) (r : Result Program ParseErr) → HasTokens text ts → IfOk r (λ p. TokensSpell text ts (shown_program p)) → IfOk r (λ p. SpellsProgram text (shown_program p))
+pub spells : (text : List ℕ) (ts : List Token) (r : Result Program ParseErr) → HasTokens text ts → IfOk r (λ p. TokensSpell text ts (shown_program p))
+    → IfOk r (λ p. SpellsProgram text (shown_program p))
 spells text ts (Ok p) h s = record { tokens = ts; cut = h; spelled = s }
 spells text ts (Err e) h s = tt
 

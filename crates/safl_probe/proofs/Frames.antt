@@ -101,7 +101,8 @@ longer_then None mid now t u f g = tt
 longer_then (Some h) mid now t u f g = subst (λ (o : Option Text). Longer o u now) f g ∙ ap (λ (x : Text). Some x) (append_assoc h t u)
 
 take_more : (t u : Text) (count : ℕ) → take (length t + count) (t ++ u) ≡ t ++ take count u
-take_more t u count = take-add (length t) count (t ++ u) ∙ ap (λ x. x ++ take count (drop (length t) (t ++ u))) (take_at t u (length t) refl) ∙ ap (λ x. t ++ take count x) (drop_at t u (length t) refl)
+take_more t u count = take-add (length t) count (t ++ u) ∙ ap (λ x. x ++ take count (drop (length t) (t ++ u))) (take_at t u (length t) refl) ∙ ap
+    (λ x. t ++ take count x) (drop_at t u (length t) refl)
 
 longer_part : (had mid now : Option Text) (t u : Text) → Longer had t mid → LongerPart mid u now → LongerPart had (t ++ u) now
 longer_part None mid now t u f g = tt
@@ -126,7 +127,9 @@ part_more had now t u (inr h) =
     ]
 
 -- the same for all asked files
-all_asked : (R S T : Relation) (names : Asked) (t u w : ℕ → Text) → ((i : ℕ) (name : List ℕ) → IsAsked names i name → (had mid now : Option Text) → R had (t i) mid → S mid (u i) now → T had (w i) now) → (x y z : Option Files) → TellsOn (AllGrow R names t) x y
+all_asked : (R S T : Relation) (names : Asked) (t u w : ℕ → Text) →
+    ((i : ℕ) (name : List ℕ) → IsAsked names i name → (had mid now : Option Text) → R had (t i) mid → S mid (u i) now → T had (w i) now) →
+    (x y z : Option Files) → TellsOn (AllGrow R names t) x y
     → TellsOn (AllGrow S names u) y z → TellsOn (AllGrow T names w) x z
 all_asked R S T names t u w f =
     TellsOn-then (AllGrow R names t) (AllGrow S names u) (AllGrow T names w)
@@ -140,7 +143,8 @@ module _ (names : Asked) (t u w : ℕ → Text) (is : (i : ℕ) (name : List ℕ
   all_longer = all_asked Longer Longer Longer names t u w (λ i name k had mid now f g. subst (λ l. Longer had l now) (sym (is i name k)) (longer_then had mid now (t i) (u i) f g)) x y z
 
   pub all_longer_part : TellsOn (AllGrow Longer names t) x y → TellsOn (AllGrow LongerPart names u) y z → TellsOn (AllGrow LongerPart names w) x z
-  all_longer_part = all_asked Longer LongerPart LongerPart names t u w (λ i name k had mid now f g. subst (λ l. LongerPart had l now) (sym (is i name k)) (longer_part had mid now (t i) (u i) f g)) x y z
+  all_longer_part = all_asked Longer LongerPart LongerPart names t u w
+      (λ i name k had mid now f g. subst (λ l. LongerPart had l now) (sym (is i name k)) (longer_part had mid now (t i) (u i) f g)) x y z
 
   pub all_made : TellsOn (AllGrow Made names t) x y → TellsOn (AllGrow Longer names u) y z → TellsOn (AllGrow Made names w) x z
   all_made = all_asked Made Longer Made names t u w (λ i name k had mid now f g. subst (λ l. Made had l now) (sym (is i name k)) (made_then had mid now (t i) (u i) f g)) x y z
@@ -148,7 +152,8 @@ module _ (names : Asked) (t u w : ℕ → Text) (is : (i : ℕ) (name : List ℕ
   pub all_made_part : TellsOn (AllGrow Made names t) x y → TellsOn (AllGrow LongerPart names u) y z → TellsOn (AllGrow OldOrPart names w) x z
   all_made_part = all_asked Made LongerPart OldOrPart names t u w (λ i name k had mid now f g. subst (λ l. OldOrPart had l now) (sym (is i name k)) (made_part had mid now (t i) (u i) f g)) x y z
 
-pub all_part_more : (names : Asked) (t u w : ℕ → Text) → ((i : ℕ) (name : List ℕ) → IsAsked names i name → w i ≡ t i ++ u i) → (x y : Option Files) → TellsOn (AllGrow OldOrPart names t) x y → TellsOn (AllGrow OldOrPart names w) x y
+pub all_part_more : (names : Asked) (t u w : ℕ → Text) → ((i : ℕ) (name : List ℕ) → IsAsked names i name → w i ≡ t i ++ u i) → (x y : Option Files) →
+    TellsOn (AllGrow OldOrPart names t) x y → TellsOn (AllGrow OldOrPart names w) x y
 all_part_more names t u w is =
     told_weaker (AllGrow OldOrPart names t) (AllGrow OldOrPart names w)
     (λ a b g. record {
@@ -157,7 +162,8 @@ all_part_more names t u w is =
     })
 
 -- other texts that are equal at the asked places
-pub all_same : (R : Relation) (names : Asked) (t w : ℕ → Text) → ((i : ℕ) (name : List ℕ) → IsAsked names i name → w i ≡ t i) → (x y : Option Files) → TellsOn (AllGrow R names t) x y → TellsOn (AllGrow R names w) x y
+pub all_same : (R : Relation) (names : Asked) (t w : ℕ → Text) → ((i : ℕ) (name : List ℕ) → IsAsked names i name → w i ≡ t i) → (x y : Option Files) →
+    TellsOn (AllGrow R names t) x y → TellsOn (AllGrow R names w) x y
 all_same R names t w is =
     told_weaker (AllGrow R names t) (AllGrow R names w)
     (λ a b g. record { files = λ i name k. subst (λ l. R (file_of a name) l (file_of b name)) (sym (is i name k)) (g.files i name k); others = g.others })
@@ -168,7 +174,8 @@ all_untouched names w (Some a) = record { files = λ i name k. inl refl; others 
 
 -- ---- the trace of frames
 
-pub trace_parts : (n : Netlist) (s : ProbeState) (frames rest : List Valuation) → trace s.kind n (frames ++ rest) ≡ (begin_text n s ++ cycle_texts frames (begun n s)) ++ (cycle_texts rest (after_frames frames (begun n s)) ++ finish_text (after_frames (frames ++ rest) (begun n s)))
+pub trace_parts : (n : Netlist) (s : ProbeState) (frames rest : List Valuation) → trace s.kind n (frames ++ rest) ≡
+    (begin_text n s ++ cycle_texts frames (begun n s)) ++ (cycle_texts rest (after_frames frames (begun n s)) ++ finish_text (after_frames (frames ++ rest) (begun n s)))
 trace_parts n s frames rest =
     let a : Text = begin_text n s in
     let b : Text = cycle_texts frames (begun n s) in

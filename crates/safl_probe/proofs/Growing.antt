@@ -1,5 +1,6 @@
 -- Files that grow, one piece after another.
-use Rattle.std.proofs.Common.{◌≡◌, ◌≢◌, ℕ, ◌+◌, ◌<◌, ◌≤◌, ◌⊎◌, List, [], ◌++◌, take, length, get_or, Option, Some, None, IsSome, IsSomeAnd, IfSome, IsNone, OnSome, MatchOption, Bool, true, false, bytes_eq, refl, sym, ap, subst, ◌∙◌, inl, inr, arith}
+use Rattle.std.proofs.Common.{◌≡◌, ◌≢◌, ℕ, ◌+◌, ◌<◌, ◌≤◌, ◌⊎◌, List, [], ◌++◌, take, length, get_or, Option, Some, None, IsSome, IsSomeAnd, IfSome}
+use Rattle.std.proofs.Common.{IsNone, OnSome, MatchOption, Bool, true, false, bytes_eq, refl, sym, ap, subst, ◌∙◌, inl, inr, arith}
 use Rattle.std.proofs.lemmas.List.{append-nil, take_all, get_or_past}
 use Rattle.std.proofs.lemmas.Bool.{cases_lt, cases_eq, false≢true}
 use Rattle.std.specs.Bool.{Decides}
@@ -47,7 +48,8 @@ part_whole None now text e = tt
 part_whole (Some h) now text e = (length text, e ∙ ap (λ (t : Text). Some (h ++ t)) (sym (take_all (length text) text (omega arith))))
 
 pub appended : (name : List ℕ) (text : Text) (x y : Option Files) → TellsOn (Appends name text) x y → TellsOn (Grows Longer name text) x y
-appended name text = told_weaker (Appends name text) (Grows Longer name text) (λ a b h. record { file = some_if (file_of a name) (λ had. file_of b name ≡ Some (had ++ text)) h.file; others = h.others })
+appended name text = told_weaker (Appends name text) (Grows Longer name text)
+    (λ a b h. record { file = some_if (file_of a name) (λ had. file_of b name ≡ Some (had ++ text)) h.file; others = h.others })
 
 pub appended_part : (name : List ℕ) (text : Text) (x y : Option Files) → TellsOn (AppendsPart name text) x y → TellsOn (Grows LongerPart name text) x y
 appended_part name text =
@@ -164,7 +166,8 @@ module _ (R : Relation) (names : Asked) (text : ℕ → Text) where
   }
 
 -- after an error at one of the probes
-first_part : (m : Moment) (names : Asked) (text : ℕ → Text) (i : ℕ) (name : List ℕ) (a b c : Files) → AreApart names → IsAsked names i name → FirstGrow (Grown m) names text i a b → Grows (GrownPart m) name (text i) b c
+first_part : (m : Moment) (names : Asked) (text : ℕ → Text) (i : ℕ) (name : List ℕ) (a b c : Files) → AreApart names → IsAsked names i name →
+    FirstGrow (Grown m) names text i a b → Grows (GrownPart m) name (text i) b c
     → AllGrow (GrownPart m) names text a c
 first_part m names text i name a b c apart asked g h =
     let kept : file_of b name ≡ file_of a name = g.others name (λ j lt k. let e = apart j i name k asked in omega (arith, lt, e)) in
@@ -193,19 +196,23 @@ first_part m names text i name a b c apart asked g h =
 pub told_none : (R : Relation) (names : Asked) (text : ℕ → Text) (x : Option Files) → TellsOn (FirstGrow R names text 0) x x
 told_none R names text x = told_same (FirstGrow R names text 0) (first_none R names text) x x refl
 
-pub told_skip : (R : Relation) (names : Asked) (text : ℕ → Text) (i : ℕ) (x y : Option Files) → get_or names i None ≡ None → TellsOn (FirstGrow R names text i) x y → TellsOn (FirstGrow R names text (i + 1)) x y
+pub told_skip : (R : Relation) (names : Asked) (text : ℕ → Text) (i : ℕ) (x y : Option Files) → get_or names i None ≡ None → TellsOn
+    (FirstGrow R names text i) x y → TellsOn (FirstGrow R names text (i + 1)) x y
 told_skip R names text i x y none t = told_weaker (FirstGrow R names text i) (FirstGrow R names text (i + 1)) (λ a b g. first_skip R names text i a b none g) x y t
 
-pub told_more : (R : Relation) (names : Asked) (text : ℕ → Text) (i : ℕ) (name : List ℕ) (piece : Text) (x y z : Option Files) → AreApart names → IsAsked names i name → piece ≡ text i → TellsOn (FirstGrow R names text i) x y → TellsOn (Grows R name piece) y z
+pub told_more : (R : Relation) (names : Asked) (text : ℕ → Text) (i : ℕ) (name : List ℕ) (piece : Text) (x y z : Option Files) → AreApart names →
+    IsAsked names i name → piece ≡ text i → TellsOn (FirstGrow R names text i) x y → TellsOn (Grows R name piece) y z
     → TellsOn (FirstGrow R names text (i + 1)) x z
 told_more R names text i name piece x y z apart asked is t u =
     TellsOn-then (FirstGrow R names text i) (Grows R name (text i)) (FirstGrow R names text (i + 1)) (λ a b c g h. first_more R names text i name a b c apart asked g h) x y z t
     (subst (λ l. TellsOn (Grows R name l) y z) is u)
 
-pub told_all : (R : Relation) (names : Asked) (text : ℕ → Text) (count : ℕ) (x y : Option Files) → length names ≤ count → TellsOn (FirstGrow R names text count) x y → TellsOn (AllGrow R names text) x y
+pub told_all : (R : Relation) (names : Asked) (text : ℕ → Text) (count : ℕ) (x y : Option Files) → length names ≤ count → TellsOn
+    (FirstGrow R names text count) x y → TellsOn (AllGrow R names text) x y
 told_all R names text count x y long t = told_weaker (FirstGrow R names text count) (AllGrow R names text) (λ a b g. first_all R names text count a b long g) x y t
 
-pub told_part : (m : Moment) (names : Asked) (text : ℕ → Text) (i : ℕ) (name : List ℕ) (piece : Text) (x y z : Option Files) → AreApart names → IsAsked names i name → piece ≡ text i → TellsOn (FirstGrow (Grown m) names text i) x y
+pub told_part : (m : Moment) (names : Asked) (text : ℕ → Text) (i : ℕ) (name : List ℕ) (piece : Text) (x y z : Option Files) → AreApart names →
+    IsAsked names i name → piece ≡ text i → TellsOn (FirstGrow (Grown m) names text i) x y
     → TellsOn (Grows (GrownPart m) name piece) y z → TellsOn (AllGrow (GrownPart m) names text) x z
 told_part m names text i name piece x y z apart asked is t u =
     TellsOn-then (FirstGrow (Grown m) names text i) (Grows (GrownPart m) name (text i)) (AllGrow (GrownPart m) names text) (λ a b c g h. first_part m names text i name a b c apart asked g h) x y z t
@@ -274,7 +281,8 @@ module _ (m : Moment) (names : Asked) where
   there_none None h = tt
   there_none (Some a) h = λ j name k which. elim which [ inl lt ↦ absurd (omega (arith, lt)) | inr l ↦ later_there m name a l (h j name k) ]
 
-  pub told_there_more : (i : ℕ) (name : List ℕ) (text : Text) (x y z : Option Files) → IsAsked names i name → TellsOn (λ _ now. ThereTo m names i now) x y → TellsOn (Grows (Grown m) name text) y z → TellsOn (λ _ now. ThereTo m names (i + 1) now) x z
+  pub told_there_more : (i : ℕ) (name : List ℕ) (text : Text) (x y z : Option Files) → IsAsked names i name → TellsOn (λ _ now. ThereTo m names i now)
+      x y → TellsOn (Grows (Grown m) name text) y z → TellsOn (λ _ now. ThereTo m names (i + 1) now) x z
   told_there_more i name text None y z asked t g = tt
   told_there_more i name text (Some a) None z asked t g = absurd t
   told_there_more i name text (Some a) (Some b) None asked t g = absurd g
@@ -291,7 +299,8 @@ module _ (m : Moment) (names : Asked) where
   told_there_all count (Some a) (Some b) long t = λ i name k. t i name k (inl (let w = is_within names i name k in omega (arith, w, long)))
 
   -- the count of strays, after one more
-  pub strays_more : (i : ℕ) (name : List ℕ) (x y : Option Files) (before now after : ℕ) → IsAsked names i name → TellsOn (λ _ f. ThereTo m names i f) x y → OnSome x (now ≡ before) → (IsThere m name y → OnSome y (after ≡ now)) → OnSome x (after ≡ before)
+  pub strays_more : (i : ℕ) (name : List ℕ) (x y : Option Files) (before now after : ℕ) → IsAsked names i name → TellsOn (λ _ f. ThereTo m names i f)
+      x y → OnSome x (now ≡ before) → (IsThere m name y → OnSome y (after ≡ now)) → OnSome x (after ≡ before)
   strays_more i name None y before now after asked t s h = tt
   strays_more i name (Some a) None before now after asked t s h = absurd t
   strays_more i name (Some a) (Some b) before now after asked t s h = h (there_later m name b (λ l. t i name asked (inr l))) ∙ s

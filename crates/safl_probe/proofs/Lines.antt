@@ -1,5 +1,6 @@
 -- What the lines of a dump tell.
-use Rattle.std.proofs.Common.{◌≡◌, ℕ, zero, suc, ◌+◌, ◌-◌, ◌<◌, ◌^◌, inl, inr, List, [], ◌∷◌, ◌++◌, map, length, reverse, Bool, true, false, ◌==◌, ◌&&◌, refl, sym, ap, subst, ◌∙◌, append_assoc, arith, codes}
+use Rattle.std.proofs.Common.{◌≡◌, ℕ, zero, suc, ◌+◌, ◌-◌, ◌<◌, ◌^◌, inl, inr, List, [], ◌∷◌, ◌++◌, map, length, reverse, Bool, true, false, ◌==◌}
+use Rattle.std.proofs.Common.{◌&&◌, refl, sym, ap, subst, ◌∙◌, append_assoc, arith, codes}
 use Rattle.std.specs.Prelude.{if◌then◌else◌, nat_le, not}
 use Rattle.std.specs.List.{list_all}
 use Rattle.std.specs.Fmt.{decimal}
@@ -150,7 +151,8 @@ tells_wide i number =
 
 tells_value : (i width number : ℕ) → (width ≡ 1 → number < 2) → Tells (value i width number) (Change number (code i) ∷ [])
 tells_value i width number fits = elim (eqb_tells width 1) [
-  | inl e ↦ subst (λ (b : Bool). Tells ((if b then binary number else codes "b" ++ binary number ++ codes " ") ++ code i ++ codes "\n") (Change number (code i) ∷ [])) (sym e.0) (tells_bit i number (fits e.1))
+  | inl e ↦ subst (λ (b : Bool). Tells ((if b then binary number else codes "b" ++ binary number ++ codes " ") ++ code i ++ codes "\n")
+      (Change number (code i) ∷ [])) (sym e.0) (tells_bit i number (fits e.1))
   | inr e ↦ subst (λ (b : Bool). Tells ((if b then binary number else codes "b" ++ binary number ++ codes " ") ++ code i ++ codes "\n") (Change number (code i) ∷ [])) (sym e.0) (tells_wide i number)
 ]
 
@@ -168,7 +170,8 @@ value_lines i (w ∷ ws) (x ∷ now) = Change x (code i) ∷ value_lines (suc i)
 pub tells_values : (i : ℕ) (ws : List Watched) (now : List ℕ) → Fitting ws now → Tells (values i ws now) (value_lines i ws now)
 tells_values i [] now f = tells_none
 tells_values i (w ∷ ws) [] f = tells_none
-tells_values i (w ∷ ws) (x ∷ now) f = tells_both (value i w.width x) (values (suc i) ws now) (Change x (code i) ∷ []) (value_lines (suc i) ws now) (tells_value i w.width x f.0) (tells_values (suc i) ws now f.1)
+tells_values i (w ∷ ws) (x ∷ now) f = tells_both (value i w.width x) (values (suc i) ws now) (Change x (code i) ∷ []) (value_lines (suc i) ws now)
+    (tells_value i w.width x f.0) (tells_values (suc i) ws now f.1)
 
 abbrev pub changed_line : ℕ → ℕ → ℕ → List Line
 changed_line i x y = if x == y then [] else Change y (code i) ∷ []

@@ -24,7 +24,8 @@ joined None name s a b = absurd (cc)
 joined (Some x) name s a b = let p : name ≡ x.0 = cc in let q : s ≡ x.1 = cc in ap (λ y. Some (y, x.1)) (sym p) ∙ ap (λ y. Some (name, y)) (sym q)
 
 -- an output by its name and signal, which is one of the net
-pub output_there : (n : Netlist) (i : ℕ) (name : List ℕ) (s : ℕ) → Some name ≡ option_map (λ x. x.0) (slice_get n.outputs i) → Some s ≡ option_map (λ x. x.1) (slice_get n.outputs i) → slice_get n.outputs i ≡ Some (name, s)
+pub output_there : (n : Netlist) (i : ℕ) (name : List ℕ) (s : ℕ) → Some name ≡ option_map (λ x. x.0) (slice_get n.outputs i) → Some s ≡ option_map
+    (λ x. x.1) (slice_get n.outputs i) → slice_get n.outputs i ≡ Some (name, s)
 output_there n i name s a b = joined (slice_get n.outputs i) name s a b
 
 pub output_known : (n : Netlist) (i s : ℕ) → IsNetlist n → i < length n.outputs → Some s ≡ option_map (λ x. x.1) (slice_get n.outputs i) → s < length n.signals

@@ -18,8 +18,10 @@ gone [] (suc i) all = refl
 gone (x ∷ xs) zero all = absurd (omega (arith, all))
 gone (x ∷ xs) (suc i) all = gone xs i (omega (arith, all))
 
-module _ {A : Type 0} {B : Type 0} (rest : ℕ → List A → List B) (piece : ℕ → A → List B) (nothing : (i : ℕ) → rest i [] ≡ []) (more : (i : ℕ) (x : A) (xs : List A) → rest i (x ∷ xs) ≡ piece i x ++ rest (suc i) xs) where
-  pub rest_more : (xs : List A) (i : ℕ) (x : A) (out now whole : List B) → drop i xs ≡ x ∷ drop (suc i) xs → out ++ rest i (drop i xs) ≡ whole → now ≡ out ++ piece i x → now ++ rest (i + 1) (drop (i + 1) xs) ≡ whole
+module _ {A : Type 0} {B : Type 0} (rest : ℕ → List A → List B) (piece : ℕ → A → List B) (nothing : (i : ℕ) → rest i [] ≡ [])
+    (more : (i : ℕ) (x : A) (xs : List A) → rest i (x ∷ xs) ≡ piece i x ++ rest (suc i) xs) where
+  pub rest_more : (xs : List A) (i : ℕ) (x : A) (out now whole : List B) → drop i xs ≡ x ∷ drop (suc i) xs → out ++ rest i (drop i xs) ≡ whole → now ≡
+      out ++ piece i x → now ++ rest (i + 1) (drop (i + 1) xs) ≡ whole
   rest_more xs i x out now whole at before after =
       ap (λ k. now ++ rest k (drop k xs)) (add-one i)
       ∙ ap (λ l. l ++ rest (suc i) (drop (suc i) xs)) after

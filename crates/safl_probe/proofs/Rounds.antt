@@ -21,7 +21,8 @@ module _ (names : Asked) (ps : List ProbeState) where
     files = λ apart. told_same (AllGrow Longer names (λ i. [])) (λ a. record { files = λ i name k. longer_same (file_of a name) (file_of a name) refl; others = λ name no. refl }) x x refl;
   }
 
-  pub shown_more : (fs : List Valuation) (v : Valuation) (qs rs : List ProbeState) (x y z : Option Files) → Shown fs names ps qs x y → ((i : ℕ) (name : List ℕ) → IsAsked names i name → Tells (after_frame v (probe_at qs i)) (probe_at rs i))
+  pub shown_more : (fs : List Valuation) (v : Valuation) (qs rs : List ProbeState) (x y z : Option Files) → Shown fs names ps qs x y →
+      ((i : ℕ) (name : List ℕ) → IsAsked names i name → Tells (after_frame v (probe_at qs i)) (probe_at rs i))
       → (AreApart names → TellsOn (AllGrow Longer names (λ i. cycle_text v (probe_at qs i))) y z) → Shown (fs ++ v ∷ []) names ps rs x z
   shown_more fs v qs rs x y z s tells grown = record {
     told = λ i name k. told_more fs v (probe_at ps i) (probe_at qs i) (probe_at rs i) (s.told i name k) (tells i name k);
@@ -30,7 +31,8 @@ module _ (names : Asked) (ps : List ProbeState) where
         (λ i name k. text_more fs v (probe_at ps i) (probe_at qs i) (s.told i name k)) x y z (s.files apart) (grown apart);
   }
 
-  pub shown_part : (fs : List Valuation) (v : Valuation) (qs : List ProbeState) (x y z : Option Files) → Shown fs names ps qs x y → (AreApart names → TellsOn (AllGrow LongerPart names (λ i. cycle_text v (probe_at qs i))) y z)
+  pub shown_part : (fs : List Valuation) (v : Valuation) (qs : List ProbeState) (x y z : Option Files) → Shown fs names ps qs x y →
+      (AreApart names → TellsOn (AllGrow LongerPart names (λ i. cycle_text v (probe_at qs i))) y z)
       → AreApart names → TellsOn (AllGrow LongerPart names (λ i. cycle_texts (fs ++ v ∷ []) (probe_at ps i))) x z
   shown_part fs v qs x y z s part apart =
       all_longer_part names (λ i. cycle_texts fs (probe_at ps i)) (λ i. cycle_text v (probe_at qs i)) (λ i. cycle_texts (fs ++ v ∷ []) (probe_at ps i))
@@ -57,12 +59,14 @@ pub there_now : (names : Asked) (x : Option Files) → AllThere moments.End name
 there_now names None h = tt
 there_now names (Some a) h = h
 
-pub there_then : (names : Asked) (x y z : Option Files) → TellsOn (λ _ now. NowThere names now) x y → (AllThere moments.End names y → TellsOn (λ _ now. NowThere names now) y z) → TellsOn (λ _ now. NowThere names now) x z
+pub there_then : (names : Asked) (x y z : Option Files) → TellsOn (λ _ now. NowThere names now) x y →
+    (AllThere moments.End names y → TellsOn (λ _ now. NowThere names now) y z) → TellsOn (λ _ now. NowThere names now) x z
 there_then names None y z t f = tt
 there_then names (Some a) None z t f = absurd t
 there_then names (Some a) (Some b) z t f = f t
 
-pub strays_then : (names : Asked) (x y : Option Files) (before middle after : ℕ) → OnSome x (middle ≡ before) → TellsOn (λ _ now. NowThere names now) x y → (AllThere moments.End names y → OnSome y (after ≡ middle)) → OnSome x (after ≡ before)
+pub strays_then : (names : Asked) (x y : Option Files) (before middle after : ℕ) → OnSome x (middle ≡ before) → TellsOn (λ _ now. NowThere names now)
+    x y → (AllThere moments.End names y → OnSome y (after ≡ middle)) → OnSome x (after ≡ before)
 strays_then names None y before middle after s t f = tt
 strays_then names (Some a) None before middle after s t f = absurd t
 strays_then names (Some a) (Some b) before middle after s t f = f t ∙ s

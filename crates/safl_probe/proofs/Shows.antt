@@ -1,5 +1,6 @@
 -- A dump shows each traced signal's number in each frame.
-use Rattle.std.proofs.Common.{◌≡◌, ℕ, zero, suc, ◌+◌, ◌<◌, ◌≤◌, ◌^◌, List, [], ◌∷◌, ◌++◌, map, length, Some, None, Bool, true, false, cond, slice_get, slice_index, refl, sym, ap, subst, ◌∙◌, add-zero, append_assoc, arith, lit<}
+use Rattle.std.proofs.Common.{◌≡◌, ℕ, zero, suc, ◌+◌, ◌<◌, ◌≤◌, ◌^◌, List, [], ◌∷◌, ◌++◌, map, length, Some, None, Bool, true, false, cond, slice_get}
+use Rattle.std.proofs.Common.{slice_index, refl, sym, ap, subst, ◌∙◌, add-zero, append_assoc, arith, lit<}
 use Rattle.std.specs.Option.{option_or}
 use Rattle.std.proofs.lemmas.List.{append-nil}
 use Rattle.safl_net.specs.Netlist.{Netlist, Signal, width_of, width_in}
@@ -14,7 +15,8 @@ use Rattle.safl_probe.specs.declared.kind.TraceKind.TheVariants.{Vcd}
 use Rattle.safl_probe.specs.Watching.{Watched, belongs, one_watched, group_from, output_watched, watched_by, seen}
 use Rattle.safl_probe.specs.Texts.{Text, code, header, dump, changes, frame_text, frames_text, closing, time, trace}
 use Rattle.safl_probe.specs.Following.{Line, Time, Other, lines, told_by, up_to, stands, FramesFit, DumpsShowFrames}
-use Rattle.safl_probe.proofs.Lines.{Free, free_name, Tells, tells_both, tells_time, tells_timed, tells_changes, tells_dump, tells_header, Fitting, Named, value_lines, change_lines, variable_lines, header_lines, timed_lines}
+use Rattle.safl_probe.proofs.Lines.{Free, free_name, Tells, tells_both, tells_time, tells_timed, tells_changes, tells_dump, tells_header, Fitting}
+use Rattle.safl_probe.proofs.Lines.{Named, value_lines, change_lines, variable_lines, header_lines, timed_lines}
 use Rattle.safl_probe.proofs.Stands.{values_at, Passing, pass, passing_more, passing_values, not_later, seen_at, later_lines, AllFit, cut, follow, stands_more}
 use Rattle.safl_probe.proofs.Looks.{is_there}
 
@@ -43,7 +45,8 @@ good_signal n made i g at = record {
   fits = λ f h. h i g at;
 }
 
-good_group : (n : Netlist) → IsNetlist n → (group : Group) (gs : List Signal) (i : ℕ) → ((k : ℕ) (g : Signal) → slice_get gs k ≡ Some g → slice_get n.signals (i + k) ≡ Some g) → AllGood n (group_from group gs i)
+good_group : (n : Netlist) → IsNetlist n → (group : Group) (gs : List Signal) (i : ℕ) →
+    ((k : ℕ) (g : Signal) → slice_get gs k ≡ Some g → slice_get n.signals (i + k) ≡ Some g) → AllGood n (group_from group gs i)
 good_group n made group [] i part = tt
 good_group n made group (g ∷ gs) i part =
     good_more n (one_watched group g i) (group_from group gs (suc i)) (one (belongs group (sort_of g.kind) g.name))
@@ -56,7 +59,8 @@ good_group n made group (g ∷ gs) i part =
     one true = (good_signal n made i g here, tt)
     one false = tt
 
-good_outputs : (n : Netlist) → IsNetlist n → (os : List (List ℕ × ℕ)) → ((k : ℕ) (o : List ℕ × ℕ) → slice_get os k ≡ Some o → (is_good o.0 ≡ true) × (o.1 < length n.signals)) → AllGood n (map (output_watched n) os)
+good_outputs : (n : Netlist) → IsNetlist n → (os : List (List ℕ × ℕ)) →
+    ((k : ℕ) (o : List ℕ × ℕ) → slice_get os k ≡ Some o → (is_good o.0 ≡ true) × (o.1 < length n.signals)) → AllGood n (map (output_watched n) os)
 good_outputs n made [] part = tt
 good_outputs n made (o ∷ os) part =
     let is = part 0 o refl in
@@ -73,7 +77,8 @@ good_outputs n made (o ∷ os) part =
 
 good_traced : (n : Netlist) → IsNetlist n → AllGood n (watched_by Vcd n)
 good_traced n made =
-    let at_start : (k : ℕ) (g : Signal) → slice_get n.signals k ≡ Some g → slice_get n.signals (0 + k) ≡ Some g = λ k g e. let same : k ≡ 0 + k = omega arith in subst (λ m. slice_get n.signals m ≡ Some g) same e in
+    let at_start : (k : ℕ) (g : Signal) → slice_get n.signals k ≡ Some g → slice_get n.signals (0 + k) ≡ Some g = λ k g e. let same : k ≡ 0 + k =
+    omega arith in subst (λ m. slice_get n.signals m ≡ Some g) same e in
     good_more n (group_from Inputs n.signals 0 ++ group_from Registers n.signals 0 ++ group_from NamedWires n.signals 0) (map (output_watched n) n.outputs)
     (good_more n (group_from Inputs n.signals 0 ++ group_from Registers n.signals 0) (group_from NamedWires n.signals 0)
     (good_more n (group_from Inputs n.signals 0) (group_from Registers n.signals 0) (good_group n made Inputs n.signals 0 at_start) (good_group n made Registers n.signals 0 at_start))
@@ -95,7 +100,8 @@ fits_of n ws (f ∷ fs) good fit = (fitting_of n ws f good (fit 0 f refl), fits_
 
 -- ---- the whole text
 
-tells_later : (ws : List Watched) (t : ℕ) (last : List ℕ) (fs : List Valuation) → AllFit ws fs → t + length fs < 2 ^ 128 → Tells (frames_text Vcd ws t (Some last) fs ++ closing Vcd (t + length fs)) (later_lines ws t last fs)
+tells_later : (ws : List Watched) (t : ℕ) (last : List ℕ) (fs : List Valuation) → AllFit ws fs → t + length fs < 2 ^ 128 → Tells
+    (frames_text Vcd ws t (Some last) fs ++ closing Vcd (t + length fs)) (later_lines ws t last fs)
 tells_later ws t last [] fit few = subst (λ k. Tells (time k) (Time t ∷ [])) (sym (add-zero t)) (tells_time t (omega (arith, few)))
 tells_later ws t last (f ∷ fs) fit few =
     let now : List ℕ = seen ws f in
@@ -165,10 +171,13 @@ dumps_show_frames n made (f ∷ fs) fit few t i frame w at is =
     ∙ ap (option_or (stands (code i) rest)) (stands_head ws i w f is)
     ∙ last t at
   where
-    last : (q : ℕ) → slice_get (f ∷ fs) q ≡ Some frame → option_or (stands (code i) (up_to q (later_lines (watched_by Vcd n) 1 (seen (watched_by Vcd n) f) fs))) (Some (slice_index f w.signal)) ≡ Some (slice_index frame w.signal)
+    last : (q : ℕ) → slice_get (f ∷ fs) q ≡ Some frame → option_or
+        (stands (code i) (up_to q (later_lines (watched_by Vcd n) 1 (seen (watched_by Vcd n) f) fs))) (Some (slice_index f w.signal)) ≡ Some (slice_index frame w.signal)
     last zero here =
         let same : f ≡ frame = cc in
-        ap (λ l. option_or (stands (code i) l) (Some (slice_index f w.signal))) (cut (watched_by Vcd n) 0 1 (seen (watched_by Vcd n) f) fs (omega arith) (fits_of n (watched_by Vcd n) (f ∷ fs) (good_traced n made) fit).1)
+        ap (λ l. option_or (stands (code i) l) (Some (slice_index f w.signal)))
+        (cut (watched_by Vcd n) 0 1 (seen (watched_by Vcd n) f) fs (omega arith) (fits_of n (watched_by Vcd n) (f ∷ fs) (good_traced n made) fit).1)
         ∙ ap (λ (v : Valuation). Some (slice_index v w.signal)) same
     last (suc d) here =
-        follow (watched_by Vcd n) i w is d (suc d) 1 (seen (watched_by Vcd n) f) fs (slice_index f w.signal) frame (omega arith) (seen_at (watched_by Vcd n) i w f is) here (fits_of n (watched_by Vcd n) (f ∷ fs) (good_traced n made) fit).1
+        follow (watched_by Vcd n) i w is d (suc d) 1 (seen (watched_by Vcd n) f) fs (slice_index f w.signal) frame (omega arith)
+        (seen_at (watched_by Vcd n) i w f is) here (fits_of n (watched_by Vcd n) (f ∷ fs) (good_traced n made) fit).1

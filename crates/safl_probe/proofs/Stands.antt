@@ -1,5 +1,6 @@
 -- Each number stands until the next change of its code.
-use Rattle.std.proofs.Common.{◌≡◌, ℕ, zero, suc, ◌+◌, ◌-◌, ◌<◌, ◌≤◌, List, [], ◌∷◌, ◌++◌, map, reverse, Option, Some, None, Bool, true, false, ◌==◌, slice_get, slice_index, refl, sym, ap, subst, ◌∙◌, arith, bytes_eq, inl, inr}
+use Rattle.std.proofs.Common.{◌≡◌, ℕ, zero, suc, ◌+◌, ◌-◌, ◌<◌, ◌≤◌, List, [], ◌∷◌, ◌++◌, map, reverse, Option, Some, None, Bool, true, false, ◌==◌}
+use Rattle.std.proofs.Common.{slice_get, slice_index, refl, sym, ap, subst, ◌∙◌, arith, bytes_eq, inl, inr}
 use Rattle.std.specs.Prelude.{if◌then◌else◌, nat_lt}
 use Rattle.std.specs.Option.{option_or}
 use Rattle.std.specs.Int.Digits.{digits_of, number_from_digits}
@@ -24,7 +25,8 @@ unfolding code
 code_counts zero = refl
 code_counts (suc i) =
     let ds : List ℕ = digits_of 94 (suc i) in
-    ap number_in (code_of (suc i) (omega arith)) ∙ ap (λ l. number_from_digits 94 (reverse l)) (less (reverse ds)) ∙ ap (number_from_digits 94) (reverse-reverse ds) ∙ number_digits_of 94 (suc i) (omega arith)
+    ap number_in (code_of (suc i) (omega arith)) ∙ ap (λ l. number_from_digits 94 (reverse l)) (less (reverse ds)) ∙ ap (number_from_digits 94)
+    (reverse-reverse ds) ∙ number_digits_of 94 (suc i) (omega arith)
   where
     less : (l : List ℕ) → map (λ c. c - 33) (map (λ d. 33 + d) l) ≡ l
     less [] = refl
@@ -197,19 +199,22 @@ pub cut : (ws : List Watched) (q t : ℕ) (last : List ℕ) (fs : List Valuation
 cut ws q t last [] h fit = ap (λ b. if b then [] else Time t ∷ []) (later q t h)
 cut ws q t last (f ∷ fs) h fit = go (changes 0 ws last (seen ws f)) (tells_changes 0 ws last (seen ws f) fit.0) (cut ws q (suc t) (seen ws f) fs (omega (arith, h)) fit.1)
   where
-    go : (text : Text) → Tells text (change_lines 0 ws last (seen ws f)) → up_to q (later_lines ws (suc t) (seen ws f) fs) ≡ [] → up_to q (timed_lines t text (change_lines 0 ws last (seen ws f)) ++ later_lines ws (suc t) (seen ws f) fs) ≡ []
+    go : (text : Text) → Tells text (change_lines 0 ws last (seen ws f)) → up_to q (later_lines ws (suc t) (seen ws f) fs) ≡ [] → up_to q
+        (timed_lines t text (change_lines 0 ws last (seen ws f)) ++ later_lines ws (suc t) (seen ws f) fs) ≡ []
     go [] tells after = ap (λ l. up_to q (l ++ later_lines ws (suc t) (seen ws f) fs)) (none_told (change_lines 0 ws last (seen ws f)) tells) ∙ after
     go (c ∷ cs) tells after = ap (λ b. if b then [] else Time t ∷ up_to q (change_lines 0 ws last (seen ws f) ++ later_lines ws (suc t) (seen ws f) fs)) (later q t h)
 
 -- at its time the code stands at its number in the frame
-pub follow : (ws : List Watched) (i : ℕ) (w : Watched) → slice_get ws i ≡ Some w → (d q t : ℕ) (last : List ℕ) (fs : List Valuation) (x : ℕ) (frame : Valuation) → q ≡ t + d → slice_get last i ≡ Some x → slice_get fs d ≡ Some frame → AllFit ws fs
+pub follow : (ws : List Watched) (i : ℕ) (w : Watched) → slice_get ws i ≡ Some w → (d q t : ℕ) (last : List ℕ) (fs : List Valuation) (x : ℕ)
+    (frame : Valuation) → q ≡ t + d → slice_get last i ≡ Some x → slice_get fs d ≡ Some frame → AllFit ws fs
     → option_or (stands (code i) (up_to q (later_lines ws t last fs))) (Some x) ≡ Some (slice_index frame w.signal)
 follow ws i w is d q t last [] x frame e old at fit = absurd (cc)
 follow ws i w is zero q t last (f ∷ fs) x frame e old at fit =
     let same : f ≡ frame = cc in
     let head : List Line = timed_lines t (changes 0 ws last (seen ws f)) (change_lines 0 ws last (seen ws f)) in
     let read : up_to q (head ++ later_lines ws (suc t) (seen ws f) fs) ≡ head =
-    pass q head (later_lines ws (suc t) (seen ws f) fs) (passing_timed q t (changes 0 ws last (seen ws f)) (change_lines 0 ws last (seen ws f)) (omega (arith, e)) (passing_changes q 0 ws last (seen ws f)))
+    pass q head (later_lines ws (suc t) (seen ws f) fs) (passing_timed q t (changes 0 ws last (seen ws f)) (change_lines 0 ws last (seen ws f))
+    (omega (arith, e)) (passing_changes q 0 ws last (seen ws f)))
     ∙ ap (λ l. head ++ l) (cut ws q (suc t) (seen ws f) fs (omega (arith, e)) fit.1) ∙ append-nil head in
     ap (λ l. option_or (stands (code i) l) (Some x)) read
     ∙ ap (λ o. option_or o (Some x)) (stands_timed (code i) t (changes 0 ws last (seen ws f)) (change_lines 0 ws last (seen ws f)))
@@ -222,7 +227,8 @@ follow ws i w is (suc d) q t last (f ∷ fs) x frame e old at fit =
     ap (λ o. option_or o (Some x)) (stands_timed (code i) t (changes 0 ws last (seen ws f)) (change_lines 0 ws last (seen ws f)))
     ∙ changes_at i 0 i ws last (seen ws f) w x (slice_index f w.signal) (omega arith) is old (seen_at ws i w f is) in
     ap (λ l. option_or (stands (code i) l) (Some x)) (
-    pass q head (later_lines ws (suc t) (seen ws f) fs) (passing_timed q t (changes 0 ws last (seen ws f)) (change_lines 0 ws last (seen ws f)) (omega (arith, e)) (passing_changes q 0 ws last (seen ws f))))
+    pass q head (later_lines ws (suc t) (seen ws f) fs) (passing_timed q t (changes 0 ws last (seen ws f)) (change_lines 0 ws last (seen ws f))
+    (omega (arith, e)) (passing_changes q 0 ws last (seen ws f))))
     ∙ ap (λ o. option_or o (Some x)) (stands_more (code i) head rest)
     ∙ or_assoc (stands (code i) rest) (stands (code i) head) (Some x)
     ∙ ap (option_or (stands (code i) rest)) here

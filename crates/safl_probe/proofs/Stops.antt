@@ -34,7 +34,8 @@ module _ (P : Type 0) (st : P → ProbeState) (old lent new back : List P) (e : 
   pub lent_probes : SameProbes (map st lent) (map st new) → SameProbes (map st old) (map st back)
   lent_probes h = subst (λ (l : List P). SameProbes (map st l) (map st back)) e (subst (λ (l : List P). SameProbes (map st lent) (map st l)) (sym f) h)
 
-  pub lent_stopped : {T : Type 0} (r : Result T DriveErr) (names : Asked) (a b : ShelfState) → IfErr r (λ k. Stopped k names (map st lent) (map st new) a b) → IfErr r (λ k. Stopped k names (map st old) (map st back) a b)
+  pub lent_stopped : {T : Type 0} (r : Result T DriveErr) (names : Asked) (a b : ShelfState) → IfErr r
+      (λ k. Stopped k names (map st lent) (map st new) a b) → IfErr r (λ k. Stopped k names (map st old) (map st back) a b)
   lent_stopped (Ok x) names a b h = tt
   lent_stopped (Err k) names a b h =
       subst (λ (l : List P). Stopped k names (map st l) (map st back) a b) e (subst (λ (l : List P). Stopped k names (map st lent) (map st l) a b) (sym f) h)

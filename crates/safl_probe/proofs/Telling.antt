@@ -56,7 +56,8 @@ module _ (P : Type 0) (st : P → ProbeState) where
   pub same_probes : (ps : List P) → SameProbes (states ps) (states ps)
   same_probes ps = record { count = refl; kinds = λ i. refl; faults = λ i. omega arith }
 
-  pub same_more : (ps qs : List P) (i : ℕ) (q x : P) → i < length qs → q ≡ get_or qs i q → (st x).kind ≡ (st q).kind → (st q).faults ≤ (st x).faults → SameProbes (states ps) (states qs) → SameProbes (states ps) (states (set qs i x))
+  pub same_more : (ps qs : List P) (i : ℕ) (q x : P) → i < length qs → q ≡ get_or qs i q → (st x).kind ≡ (st q).kind → (st q).faults ≤ (st x).faults →
+      SameProbes (states ps) (states qs) → SameProbes (states ps) (states (set qs i x))
   same_more ps qs i q x lt e kind faults s =
       let was : probe_at (states qs) i ≡ st q = at_place qs i q lt e in
       record {
@@ -103,7 +104,8 @@ module _ (P : Type 0) (st : P → ProbeState) where
       same = t.same;
     }
 
-    pub more_told : (qs : List P) (i : ℕ) (name : List ℕ) (q x : P) → i < length qs → q ≡ get_or qs i q → IsAsked names i name → Tells (state_at m n v (st q)) (st x) → (st x).kind ≡ (st q).kind → (st q).faults ≤ (st x).faults → ToldTo m n v names ps qs i
+    pub more_told : (qs : List P) (i : ℕ) (name : List ℕ) (q x : P) → i < length qs → q ≡ get_or qs i q → IsAsked names i name → Tells
+        (state_at m n v (st q)) (st x) → (st x).kind ≡ (st q).kind → (st q).faults ≤ (st x).faults → ToldTo m n v names ps qs i
         → ToldTo m n v names ps (set qs i x) (i + 1)
     more_told qs i name q x lt e asked tells kind faults t =
         let was : probe_at (states ps) i ≡ st q = sym (t.rest i (omega arith)) ∙ at_place qs i q lt e in
@@ -129,7 +131,8 @@ module _ (P : Type 0) (st : P → ProbeState) where
         → ((j : ℕ) (other : List ℕ) → IsAsked names j other → CanTell m v (probe_at (states ps) j)) → CanTell m v (st q)
     can_tell qs i name q lt e t asked can = subst (λ s. CanTell m v s) (sym (t.rest i (omega arith)) ∙ at_place qs i q lt e) (can i name asked)
 
-    pub stopped_at : (qs : List P) (i : ℕ) (name : List ℕ) (q x : P) (e : DriveErr) (a b c : ShelfState) → i < length qs → q ≡ get_or qs i q → IsAsked names i name → ToldTo m n v names ps qs i → SameReads a b → Blames e i (st q) (st x) b c
+    pub stopped_at : (qs : List P) (i : ℕ) (name : List ℕ) (q x : P) (e : DriveErr) (a b c : ShelfState) → i < length qs → q ≡ get_or qs i q → IsAsked
+        names i name → ToldTo m n v names ps qs i → SameReads a b → Blames e i (st q) (st x) b c
         → Stopped e names (states ps) (states (set qs i x)) a c
     stopped_at qs i name q x (why.Probe k) a b c lt e asked t r h =
         let was : probe_at (states ps) i ≡ st q = sym (t.rest i (omega arith)) ∙ at_place qs i q lt e in
@@ -138,7 +141,8 @@ module _ (P : Type 0) (st : P → ProbeState) where
           name = name;
           asked = asked;
           of_kind = ap (λ (s : ProbeState). s.kind) was ∙ h.0;
-          rose = subst (λ (s : ProbeState). Rose s.faults (probe_at (states (set qs i x)) i).faults) (sym was) (subst (λ (s : ProbeState). Rose (st q).faults s.faults) (sym (at_written qs i x lt)) h.1);
+          rose = subst (λ (s : ProbeState). Rose s.faults (probe_at (states (set qs i x)) i).faults) (sym was)
+              (subst (λ (s : ProbeState). Rose (st q).faults s.faults) (sym (at_written qs i x lt)) h.1);
         }
     stopped_at qs i name q x (why.Write k) a b c lt e asked t r h = record {
       name = name;
@@ -148,5 +152,6 @@ module _ (P : Type 0) (st : P → ProbeState) where
     stopped_at qs i name q x why.NoMemory a b c lt e asked t r h = tt
 
 -- the file that a probe is asked for
-pub asked_at : (files : List (Option (String Global))) (i : ℕ) (o : Option (String Global)) (name : String Global) → i < length files → o ≡ get_or files i o → o ≡ Some name → IsAsked (asked files) i (string_bytes name)
+pub asked_at : (files : List (Option (String Global))) (i : ℕ) (o : Option (String Global)) (name : String Global) → i < length files → o ≡ get_or
+    files i o → o ≡ Some name → IsAsked (asked files) i (string_bytes name)
 asked_at files i o name lt is some = get_or-map (option_map string_bytes) files i o None lt ∙ ap (option_map string_bytes) (sym is ∙ some)

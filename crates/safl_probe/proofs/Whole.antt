@@ -1,5 +1,6 @@
 -- The files of a whole run, and of one that stopped.
-use Rattle.std.proofs.Common.{◌≡◌, ℕ, zero, suc, ◌+◌, ◌<◌, ◌≤◌, List, [], ◌∷◌, ◌++◌, length, take, drop, Option, Some, None, slice_get, slice_index, Bool, true, false, ◌==◌, if◌then◌else◌, codes, refl, sym, ap, ◌∙◌, append_assoc, arith}
+use Rattle.std.proofs.Common.{◌≡◌, ℕ, zero, suc, ◌+◌, ◌<◌, ◌≤◌, List, [], ◌∷◌, ◌++◌, length, take, drop, Option, Some, None, slice_get, slice_index}
+use Rattle.std.proofs.Common.{Bool, true, false, ◌==◌, if◌then◌else◌, codes, refl, sym, ap, ◌∙◌, append_assoc, arith}
 use Rattle.std.proofs.lemmas.List.{take-append-drop, length-take-le, append-nil, drop_all}
 use Rattle.safl_word.specs.Words.{Word}
 use Rattle.safl_io.specs.Told.{TellsOn}
@@ -48,10 +49,12 @@ pub is_prefix : (n : Netlist) (args : List Word) (k : ℕ) (vs : List Valuation)
 is_prefix n args k vs r = record { run = run_prefix n _ _ k vs r.run; zeros = λ c v e. r.zeros c v (get_prefix k vs (suc c) v e) }
 
 -- frames that are the only run begin each longer run
-begins : (n : Netlist) (args : List Word) (limit : ℕ) (frames vs : List Valuation) → IsOnlyRun n args (length frames) frames → length frames ≤ limit → IsRunOf n args limit vs → vs ≡ frames ++ drop (length frames) vs
+begins : (n : Netlist) (args : List Word) (limit : ℕ) (frames vs : List Valuation) → IsOnlyRun n args (length frames) frames → length frames ≤ limit →
+    IsRunOf n args limit vs → vs ≡ frames ++ drop (length frames) vs
 begins n args limit frames vs only le r =
     let long : length frames ≤ length vs = let e = r.long in omega (arith, e, le) in
-    sym (take-append-drop (length frames) vs) ∙ ap (λ l. l ++ drop (length frames) vs) (only.alone (take (length frames) vs) (is_prefix n args (length frames) vs r.run) (length-take-le (length frames) vs long))
+    sym (take-append-drop (length frames) vs) ∙ ap (λ l. l ++ drop (length frames) vs)
+    (only.alone (take (length frames) vs) (is_prefix n args (length frames) vs r.run) (length-take-le (length frames) vs long))
 
 -- ---- cycles up to the first in which `done` is 1
 
@@ -73,7 +76,8 @@ module _ (n : Netlist) where
   either true v xs = ([], refl)
   either false v xs = (xs, refl)
 
-  until_going : (fs gs : List Valuation) → ((c : ℕ) (v : Valuation) → c + 1 < length fs → slice_get fs c ≡ Some v → read_output n v (codes "done") ≡ 0) → (rest : List Valuation) × (until_done n (fs ++ gs) ≡ fs ++ rest)
+  until_going : (fs gs : List Valuation) → ((c : ℕ) (v : Valuation) → c + 1 < length fs → slice_get fs c ≡ Some v → read_output n v (codes "done") ≡
+      0) → (rest : List Valuation) × (until_done n (fs ++ gs) ≡ fs ++ rest)
   until_going [] gs low = (until_done n gs, refl)
   until_going (f ∷ []) gs low = either (read_output n f (codes "done") == 1) f (until_done n gs)
   until_going (f ∷ g ∷ fs) gs low =
@@ -85,7 +89,8 @@ module _ (n : Netlist) (args : List Word) (limit : ℕ) (made : IsNetlist n) (wh
   only_of frames call = only_run n made whole acyclic args frames (length frames) (call_along n (slice_index state) (reset_state n) args frames (from_reset n state fresh) call) refl
 
   pub going_begins : (frames vs : List Valuation) → IsCallRun n (slice_index state) args frames → length frames ≤ limit
-      → ((c : ℕ) (v : Valuation) → c + 1 < length frames → slice_get frames c ≡ Some v → read_output n v (codes "done") ≡ 0) → IsRunOf n args limit vs → (rest : List Valuation) × (until_done n vs ≡ frames ++ rest)
+      → ((c : ℕ) (v : Valuation) → c + 1 < length frames → slice_get frames c ≡ Some v → read_output n v (codes "done") ≡ 0) → IsRunOf n args limit vs
+      → (rest : List Valuation) × (until_done n vs ≡ frames ++ rest)
   going_begins frames vs call in_time off r =
       let more = until_going n frames (drop (length frames) vs) off in
       (more.0, ap (until_done n) (begins n args limit frames vs (only_of frames call) in_time r) ∙ more.1)
@@ -108,7 +113,8 @@ module _ (n : Netlist) (args : List Word) (limit : ℕ) (made : IsNetlist n) (wh
 
 -- ---- the files
 
-module _ (n : Netlist) (names : Asked) (vs : List Valuation) (ps qs : List ProbeState) (told : (i : ℕ) (name : List ℕ) → IsAsked names i name → Tells (begun n (probe_at ps i)) (probe_at qs i)) (x y : Option Files) where
+module _ (n : Netlist) (names : Asked) (vs : List Valuation) (ps qs : List ProbeState)
+    (told : (i : ℕ) (name : List ℕ) → IsAsked names i name → Tells (begun n (probe_at ps i)) (probe_at qs i)) (x y : Option Files) where
   abbrev opened : ℕ → Text
   opened i = begin_text n (probe_at ps i)
 
@@ -118,22 +124,27 @@ module _ (n : Netlist) (names : Asked) (vs : List Valuation) (ps qs : List Probe
   so_far_is : (frames : List Valuation) (i : ℕ) (name : List ℕ) → IsAsked names i name → so_far frames i ≡ opened i ++ cycle_texts frames (probe_at qs i)
   so_far_is frames i name k = ap (λ l. opened i ++ l) (sym (same_texts frames (begun n (probe_at ps i)) (probe_at qs i) (told i name k)))
 
-  made_so_far : (frames : List Valuation) (z : Option Files) → TellsOn (AllGrow Made names opened) x y → TellsOn (AllGrow Longer names (λ i. cycle_texts frames (probe_at qs i))) y z → TellsOn (AllGrow Made names (so_far frames)) x z
+  made_so_far : (frames : List Valuation) (z : Option Files) → TellsOn (AllGrow Made names opened) x y → TellsOn
+      (AllGrow Longer names (λ i. cycle_texts frames (probe_at qs i))) y z → TellsOn (AllGrow Made names (so_far frames)) x z
   made_so_far frames z b g = all_made names opened (λ i. cycle_texts frames (probe_at qs i)) (so_far frames) (so_far_is frames) x y z b g
 
-  whole_is : (frames : List Valuation) (rs : List ProbeState) → until_done n vs ≡ frames → ((i : ℕ) (name : List ℕ) → IsAsked names i name → Tells (after_frames frames (probe_at qs i)) (probe_at rs i)) → (i : ℕ) (name : List ℕ) → IsAsked names i name
+  whole_is : (frames : List Valuation) (rs : List ProbeState) → until_done n vs ≡ frames →
+      ((i : ℕ) (name : List ℕ) → IsAsked names i name → Tells (after_frames frames (probe_at qs i)) (probe_at rs i)) → (i : ℕ) (name : List ℕ) → IsAsked names i name
       → trace_at n vs ps i ≡ so_far frames i ++ finish_text (probe_at rs i)
   whole_is frames rs same shown i name k =
       ap (trace (probe_at ps i).kind n) same ∙ trace_whole n (probe_at ps i) frames
       ∙ ap (λ l. so_far frames i ++ l)
-      (sym (same_finish (after_frames frames (begun n (probe_at ps i))) (probe_at rs i) (tells_frames frames (begun n (probe_at ps i)) (probe_at qs i) (probe_at rs i) (told i name k) (shown i name k))))
+      (sym (same_finish (after_frames frames (begun n (probe_at ps i))) (probe_at rs i)
+      (tells_frames frames (begun n (probe_at ps i)) (probe_at qs i) (probe_at rs i) (told i name k) (shown i name k))))
 
-  pub traced : (frames : List Valuation) (rs : List ProbeState) (z w : Option Files) → until_done n vs ≡ frames → (AreApart names → TellsOn (AllGrow Made names opened) x y) → Shown frames names qs rs y z
+  pub traced : (frames : List Valuation) (rs : List ProbeState) (z w : Option Files) → until_done n vs ≡ frames →
+      (AreApart names → TellsOn (AllGrow Made names opened) x y) → Shown frames names qs rs y z
       → (AreApart names → TellsOn (AllGrow Longer names (λ i. finish_text (probe_at rs i))) z w) → AreApart names → TellsOn (AllGrow Made names (trace_at n vs ps)) x w
   traced frames rs z w same b s e apart =
       all_made names (so_far frames) (λ i. finish_text (probe_at rs i)) (trace_at n vs ps) (whole_is frames rs same s.told) x z w (made_so_far frames z (b apart) (s.files apart)) (e apart)
 
-  pub end_torn : (frames : List Valuation) (rs : List ProbeState) (z w : Option Files) → until_done n vs ≡ frames → (AreApart names → TellsOn (AllGrow Made names opened) x y) → Shown frames names qs rs y z
+  pub end_torn : (frames : List Valuation) (rs : List ProbeState) (z w : Option Files) → until_done n vs ≡ frames →
+      (AreApart names → TellsOn (AllGrow Made names opened) x y) → Shown frames names qs rs y z
       → (AreApart names → TellsOn (AllGrow LongerPart names (λ i. finish_text (probe_at rs i))) z w) → AreApart names → TellsOn (AllGrow OldOrPart names (trace_at n vs ps)) x w
   end_torn frames rs z w same b s e apart =
       all_made_part names (so_far frames) (λ i. finish_text (probe_at rs i)) (trace_at n vs ps) (whole_is frames rs same s.told) x z w (made_so_far frames z (b apart) (s.files apart)) (e apart)
@@ -141,11 +152,13 @@ module _ (n : Netlist) (names : Asked) (vs : List Valuation) (ps qs : List Probe
   pub run_torn : (frames rest : List Valuation) (z : Option Files) → until_done n vs ≡ frames ++ rest → (AreApart names → TellsOn (AllGrow Made names opened) x y)
       → (AreApart names → TellsOn (AllGrow LongerPart names (λ i. cycle_texts frames (probe_at qs i))) y z) → AreApart names → TellsOn (AllGrow OldOrPart names (trace_at n vs ps)) x z
   run_torn frames rest z same b g apart =
-      all_part_more names (so_far frames) (λ i. cycle_texts rest (after_frames frames (begun n (probe_at ps i))) ++ finish_text (after_frames (frames ++ rest) (begun n (probe_at ps i)))) (trace_at n vs ps)
+      all_part_more names (so_far frames) (λ i. cycle_texts rest (after_frames frames (begun n (probe_at ps i))) ++ finish_text
+      (after_frames (frames ++ rest) (begun n (probe_at ps i)))) (trace_at n vs ps)
       (λ i name k. ap (trace (probe_at ps i).kind n) same ∙ trace_parts n (probe_at ps i) frames rest) x z
       (all_made_part names opened (λ i. cycle_texts frames (probe_at qs i)) (so_far frames) (so_far_is frames) x y z (b apart) (g apart))
 
-pub begin_torn : (n : Netlist) (names : Asked) (vs : List Valuation) (ps : List ProbeState) (x y : Option Files) → (AreApart names → TellsOn (AllGrow OldOrPart names (λ i. begin_text n (probe_at ps i))) x y) → AreApart names
+pub begin_torn : (n : Netlist) (names : Asked) (vs : List Valuation) (ps : List ProbeState) (x y : Option Files) →
+    (AreApart names → TellsOn (AllGrow OldOrPart names (λ i. begin_text n (probe_at ps i))) x y) → AreApart names
     → TellsOn (AllGrow OldOrPart names (trace_at n vs ps)) x y
 begin_torn n names vs ps x y b apart =
     let frames : List Valuation = until_done n vs in

@@ -5,7 +5,8 @@ use Rattle.safl_word.specs.Words.{Word}
 use Rattle.safl_net.specs.Netlist.{Netlist, Signal, width_in}
 use Rattle.safl_probe.specs.Rooms.{HasWidths}
 
-pub same_width : (gs : List Signal) (ws : List Word) (i : ℕ) (w : Word) → map (λ (w : Word). w.width) ws ≡ map (λ (g : Signal). g.width) gs → i < length ws → w ≡ get_or ws i w → w.width ≡ width_in (slice_get gs i)
+pub same_width : (gs : List Signal) (ws : List Word) (i : ℕ) (w : Word) → map (λ (w : Word). w.width) ws ≡ map (λ (g : Signal). g.width) gs → i <
+    length ws → w ≡ get_or ws i w → w.width ≡ width_in (slice_get gs i)
 same_width gs [] i w e lt at = absurd (omega (arith, lt))
 same_width [] (u ∷ ws) i w e lt at = absurd (cc)
 same_width (g ∷ gs) (u ∷ ws) zero w e lt at = let same : u.width ≡ g.width = cc in ap (λ (w : Word). w.width) at ∙ same
@@ -22,7 +23,8 @@ take_more [] i lt = absurd (omega (arith, lt))
 take_more (g ∷ gs) zero lt = refl
 take_more (g ∷ gs) (suc i) lt = ap (λ (l : List ℕ). g.width ∷ l) (take_more gs i (omega (arith, lt)))
 
-pub widths_more : (gs : List Signal) (ws : List Word) (i : ℕ) (w : Word) → i < length gs → map (λ (w : Word). w.width) ws ≡ map (λ (g : Signal). g.width) (take i gs) → w.width ≡ width_in (slice_get gs i)
+pub widths_more : (gs : List Signal) (ws : List Word) (i : ℕ) (w : Word) → i < length gs → map (λ (w : Word). w.width) ws ≡ map
+    (λ (g : Signal). g.width) (take i gs) → w.width ≡ width_in (slice_get gs i)
     → map (λ (w : Word). w.width) (ws ++ w ∷ []) ≡ map (λ (g : Signal). g.width) (take (i + 1) gs)
 widths_more gs ws i w lt e is =
     map-append (λ (w : Word). w.width) ws (w ∷ [])

@@ -35,7 +35,8 @@ wider xs g false = ap bits_of (append-nil xs) ∙ plain
     plain : bits_of xs ≡ bits_of xs + 0
     plain = omega arith
 
-pub count_more : (n : Netlist) (i count : ℕ) (b : Bool) → i < length n.signals → count ≡ length (registers (take i n.signals)) → b ≡ is_register (kind_at n i) → count + cond b 1 0 ≡ length (registers (take (i + 1) n.signals))
+pub count_more : (n : Netlist) (i count : ℕ) (b : Bool) → i < length n.signals → count ≡ length (registers (take i n.signals)) → b ≡ is_register
+    (kind_at n i) → count + cond b 1 0 ≡ length (registers (take (i + 1) n.signals))
 count_more n i count b lt h is =
     let there = is_there n.signals i lt in
     let g = there.0 in
@@ -43,7 +44,8 @@ count_more n i count b lt h is =
     ap (λ (m : ℕ). m + cond b 1 0) h ∙ ap (λ (c : Bool). length (registers (take i n.signals)) + cond c 1 0) kind
     ∙ sym (ap length (more n.signals i g lt there.1) ∙ longer (registers (take i n.signals)) g (is_register g.kind))
 
-pub bits_more : (n : Netlist) (i bits : ℕ) (b : Bool) → i < length n.signals → bits ≡ bits_of (registers (take i n.signals)) → b ≡ is_register (kind_at n i) → bits + cond b (width_of n i) 0 ≡ bits_of (registers (take (i + 1) n.signals))
+pub bits_more : (n : Netlist) (i bits : ℕ) (b : Bool) → i < length n.signals → bits ≡ bits_of (registers (take i n.signals)) → b ≡ is_register
+    (kind_at n i) → bits + cond b (width_of n i) 0 ≡ bits_of (registers (take (i + 1) n.signals))
 bits_more n i bits b lt h is =
     let there = is_there n.signals i lt in
     let g = there.0 in

@@ -18,7 +18,8 @@ mutual
     alike_let : {d n : ℕ} {ts us : Terms} {b c : Term} → AllAlike C same at d n ts us → Alike C same at d (n + count ts) b c → Alike C same at d n (Let ts b) (Let us c)
     alike_call : {d n f g k l : ℕ} {ts us : Terms} → at k ≡ false → same f g → count ts ≡ arity C f → AllAlike C same at d n ts us → Alike C same at d n (Call f k ts) (Call g l us)
     alike_loop : {d n f g : ℕ} {ts us : Terms} → same f g → count ts ≡ arity C f → AllAlike C same at d n ts us → Alike C same at d n (Loop f ts) (Loop g us)
-    alike_unfolded : {d n f k : ℕ} {ts us : Terms} {b : Term} → at k ≡ true → AllAlike C same at d n ts us → Alike C same at n (n + count ts) (C.body f) b → Alike C same at d n (Call f k ts) (Let (Cons (Let us b) Nil) (Var n))
+    alike_unfolded : {d n f k : ℕ} {ts us : Terms} {b : Term} → at k ≡ true → AllAlike C same at d n ts us → Alike C same at n (n + count ts)
+        (C.body f) b → Alike C same at d n (Call f k ts) (Let (Cons (Let us b) Nil) (Var n))
     alike_bare : {d n f k : ℕ} {b : Term} → at k ≡ true → Alike C same at n n (C.body f) b → Alike C same at d n (Call f k Nil) (Let (Cons b Nil) (Var n))
 
   pub data AllAlike (C : Program) (same : ℕ → ℕ → Type 0) (at : ℕ → Bool) : ℕ → ℕ → Terms → Terms → Type 0 where

@@ -26,18 +26,23 @@ module _ (test : Callee → Bool) (k : Known) where
   arms_calls p [] t = refl
   arms_calls p (a ∷ ls) t =
       arm_calls (calls test k (rewritten a.label)) (calls test k (rewritten a.value)) (calls test k (rewritten_arms p (arms_of ls t)))
-      ∙ (ap (λ (b : Bool). (calls test k (rewritten a.label) || calls test k (rewritten a.value)) || b) (arms_calls p ls t) ∙ sym (or_assoc (calls test k (rewritten a.label) || calls test k (rewritten a.value)) (calls_labelled test k ls) (calls test k (rewritten t))))
+      ∙ (ap (λ (b : Bool). (calls test k (rewritten a.label) || calls test k (rewritten a.value)) || b) (arms_calls p ls t) ∙ sym
+      (or_assoc (calls test k (rewritten a.label) || calls test k (rewritten a.value)) (calls_labelled test k ls) (calls test k (rewritten t))))
 
-  pub let_calls : (p : ℕ) (xs : List Bound) (t n : Tree) (r a b : Bool) → n ≡ source.Let p (binds_of xs) t → a ≡ calls_bound test k (rewritten_binds (binds_of xs)) → b ≡ calls test k (rewritten t) → r ≡ (a || b) → r ≡ calls test k (rewritten n)
+  pub let_calls : (p : ℕ) (xs : List Bound) (t n : Tree) (r a b : Bool) → n ≡ source.Let p (binds_of xs) t → a ≡ calls_bound test k
+      (rewritten_binds (binds_of xs)) → b ≡ calls test k (rewritten t) → r ≡ (a || b) → r ≡ calls test k (rewritten n)
   let_calls p xs t n r a b e f g h = h ∙ (cc (f, g) ∙ ap (λ (z : Tree). calls test k (rewritten z)) (sym e))
 
-  pub case_calls : (p : ℕ) (v : Tree) (ls : List Labelled) (t n : Tree) (r a b c : Bool) → n ≡ source.Cases p v (arms_of ls t) → a ≡ calls test k (rewritten v) → b ≡ calls_labelled test k ls → c ≡ calls test k (rewritten t) → r ≡ (a || (b || c)) → r ≡ calls test k (rewritten n)
+  pub case_calls : (p : ℕ) (v : Tree) (ls : List Labelled) (t n : Tree) (r a b c : Bool) → n ≡ source.Cases p v (arms_of ls t) → a ≡ calls test k
+      (rewritten v) → b ≡ calls_labelled test k ls → c ≡ calls test k (rewritten t) → r ≡ (a || (b || c)) → r ≡ calls test k (rewritten n)
   case_calls p v ls t n r a b c e f g h i =
       i ∙ (ap (λ (z : Bool). z || (b || c)) f ∙ (ap (λ (z : Bool). calls test k (rewritten v) || (z || c)) g ∙ (ap (λ (z : Bool). calls test k (rewritten v) || (calls_labelled test k ls || z)) h
-      ∙ (ap (λ (z : Bool). calls test k (rewritten v) || z) (sym (arms_calls p ls t)) ∙ (sym (or_right_false (calls test k (rewritten v)) (calls test k (rewritten_arms p (arms_of ls t)))) ∙ ap (λ (z : Tree). calls test k (rewritten z)) (sym e))))))
+      ∙ (ap (λ (z : Bool). calls test k (rewritten v) || z) (sym (arms_calls p ls t)) ∙
+      (sym (or_right_false (calls test k (rewritten v)) (calls test k (rewritten_arms p (arms_of ls t)))) ∙ ap (λ (z : Tree). calls test k (rewritten z)) (sym e))))))
 
   pub op_calls : (p : ℕ) (o : Primitive) (xs : List Tree) (n : Tree) (r : Bool) → n ≡ source.Op p o (trees_of xs) → r ≡ calls_in test k (rewritten_all (trees_of xs)) → r ≡ calls test k (rewritten n)
   op_calls p o xs n r e f = f ∙ ap (λ (z : Tree). calls test k (rewritten z)) (sym e)
 
-  pub call_calls : (p : ℕ) (x : List ℕ) (xs : List Tree) (n : Tree) (r a b : Bool) → n ≡ source.Call p x (trees_of xs) → a ≡ test (callee k x) → b ≡ calls_in test k (rewritten_all (trees_of xs)) → r ≡ (a || b) → r ≡ calls test k (rewritten n)
+  pub call_calls : (p : ℕ) (x : List ℕ) (xs : List Tree) (n : Tree) (r a b : Bool) → n ≡ source.Call p x (trees_of xs) → a ≡ test (callee k x) → b ≡
+      calls_in test k (rewritten_all (trees_of xs)) → r ≡ (a || b) → r ≡ calls test k (rewritten n)
   call_calls p x xs n r a b e f g h = h ∙ (cc (f, g) ∙ ap (λ (z : Tree). calls test k (rewritten z)) (sym e))

@@ -94,7 +94,8 @@ plain_length [] = refl
 plain_length (h ∷ hs) = ap (λ (n : ℕ). suc n) (plain_length hs)
 
 -- whether function i calls itself or another member of its group
-pub recursive_shown : (ds : List Def) (hs : List code.Head) (i j : ℕ) (h : code.Head) (d : Def) (r : Bool) → shown_heads hs ≡ heads (shown_definitions ds) → slice_get hs i ≡ Some h → i < length ds → d ≡ get_or ds i d → i ≡ j
+pub recursive_shown : (ds : List Def) (hs : List code.Head) (i j : ℕ) (h : code.Head) (d : Def) (r : Bool) → shown_heads hs ≡ heads
+    (shown_definitions ds) → slice_get hs i ≡ Some h → i < length ds → d ≡ get_or ds i d → i ≡ j
     → r ≡ calls is_member (known hs h.unit) (rewritten (shown_tree d.body)) → r ≡ is_recursive (shown_definitions ds) j
 recursive_shown ds hs i j h d r e g lt is q f =
     let a : slice_get (heads (shown_definitions ds)) i ≡ Some (shown_head h) = sym (ap (λ (l : List Head). slice_get l i) e) ∙ plain_at hs i h g in

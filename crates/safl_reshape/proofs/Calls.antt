@@ -25,8 +25,19 @@ module _ (C : Program) (same : ℕ → ℕ → Type 0) (at : ℕ → Bool) (b : 
   pub stays_above : (s : List Slot) (n : ℕ) (end : Bool) (from p : ℕ) (y : List ℕ) (fs : Expressions) (i j lo : ℕ) (g : Head) (ws : List ℕ) (us : Terms) (w : ℕ)
       → callee b y ≡ Above j g → ws ≡ widths_of g.params → g.width ≡ w → at lo ≡ false → same i j → count us ≡ arity C i
       → AllMovedIn C same at b pre s n (suc from) fs ws us → MovedIn C same at b pre s n end from (Call p y fs) w (terms.Call i lo us)
-  stays_above s n end from p y fs i j lo g ws us w cal ew eg off sm ar r =
-      (r.0, terms.Call j from r.1, (suc from, ws, r.1, r.2, subst (λ (c : Callee). Calls c end from (suc from) ws r.1 w (terms.Call j from r.1)) (sym cal) (refl, ew, eg, refl)), alike_call off sm ar r.3)
+  stays_above s n end from p y fs i j lo g ws us w cal ew eg off sm ar r = (
+    r.0,
+    terms.Call j from r.1,
+    (
+      suc from,
+      ws,
+      r.1,
+      r.2,
+      subst (λ (c : Callee). Calls c end from (suc from) ws r.1 w (terms.Call j from r.1))
+          (sym cal) (refl, ew, eg, refl),
+    ),
+    alike_call off sm ar r.3,
+  )
 
 -- the program's functions have as many parameters as the heads say, and names differ
 pub record IsProgramOf (C : Program) (all : List Head) : Type 0 where
@@ -74,8 +85,10 @@ pub inner_move : (C : Program) (at : ℕ → Bool) (all : List Head) (u v : ℕ)
 inner_move C at all u v pre is lt = λ s n tail end p x es fs lo m hi ws us w t nm off may l hs q args first f from.
     by s n tail end p x es fs lo m hi ws us w t from (callee (sees all u) x) (is_callee (sees all u) x) nm off hs q args
   where
-    by : (s : List Slot) (n : ℕ) (tail end : Bool) (p : ℕ) (x : List ℕ) (es fs : Expressions) (lo m hi : ℕ) (ws : List ℕ) (us : Terms) (w : ℕ) (t : Term) (from : ℕ) (c : Callee) → IsCallee (sees all u) x c → is_member c ≡ false → Sites (λ j f. at j ≡ false) t
-        → HaveAll (sees all u) s m hi es ws us → Calls c tail lo m ws us w t → ((z : ℕ) → AllMovedIn C is_same at (sees all v) pre s n z fs ws us) → MovedIn C is_same at (sees all v) pre s n end from (Call p x fs) w t
+    by : (s : List Slot) (n : ℕ) (tail end : Bool) (p : ℕ) (x : List ℕ) (es fs : Expressions) (lo m hi : ℕ) (ws : List ℕ) (us : Terms) (w : ℕ)
+        (t : Term) (from : ℕ) (c : Callee) → IsCallee (sees all u) x c → is_member c ≡ false → Sites (λ j f. at j ≡ false) t
+        → HaveAll (sees all u) s m hi es ws us → Calls c tail lo m ws us w t → ((z : ℕ) → AllMovedIn C is_same at (sees all v) pre s n z fs ws us) →
+        MovedIn C is_same at (sees all v) pre s n end from (Call p x fs) w t
     by s n tail end p x es fs lo m hi ws us w t from (Member i h) ic nm off hs q args = true_false nm
     by s n tail end p x es fs lo m hi ws us w t from (Above i h) ic nm off hs q args =
         let cal = callee_above (sees all v) x i h is.differ ic.0.head ic.0.name (omega (arith, ic.1, lt)) in

@@ -11,11 +11,15 @@ use Rattle.safl_reshape.specs.Lists.{sites_list, changed_list, sites_bounds, cha
 use Rattle.safl_reshape.proofs.Listed.{arms_sites, bounds_sites, call_tree, case_tree, let_tree, list_sites, op_tree}
 
 module _ (k : Known) (ch : Change) (lo p : ℕ) where
-  pub let_done : (xs bs : List Bound) (t u n r : Tree) → bs ≡ changed_bounds k ch lo xs → u ≡ changed k ch (lo + sites_bounds k xs) t → n ≡ source.Let p (binds_of xs) t → r ≡ source.Let p (binds_of bs) u → r ≡ changed k ch lo n
+  pub let_done : (xs bs : List Bound) (t u n r : Tree) → bs ≡ changed_bounds k ch lo xs → u ≡ changed k ch (lo + sites_bounds k xs) t → n ≡ source.Let
+      p (binds_of xs) t → r ≡ source.Let p (binds_of bs) u → r ≡ changed k ch lo n
   let_done xs bs t u n r e f g q =
-      q ∙ (ap (λ (z : List Bound). source.Let p (binds_of z) u) e ∙ (ap (λ (z : Tree). source.Let p (binds_of (changed_bounds k ch lo xs)) z) f ∙ (sym (let_tree k ch lo p xs t) ∙ ap (changed k ch lo) (sym g))))
+      q ∙ (ap (λ (z : List Bound). source.Let p (binds_of z) u) e ∙
+      (ap (λ (z : Tree). source.Let p (binds_of (changed_bounds k ch lo xs)) z) f ∙ (sym (let_tree k ch lo p xs t) ∙ ap (changed k ch lo) (sym g))))
 
-  pub case_done : (v w : Tree) (xs ls : List Labelled) (t u n r : Tree) → w ≡ changed k ch lo v → ls ≡ changed_labelled k ch (lo + sites_in_tree k v) xs → u ≡ changed k ch (lo + sites_in_tree k v + sites_labelled k xs) t → n ≡ source.Cases p v (arms_of xs t) → r ≡ source.Cases p w (arms_of ls u) → r ≡ changed k ch lo n
+  pub case_done : (v w : Tree) (xs ls : List Labelled) (t u n r : Tree) → w ≡ changed k ch lo v → ls ≡ changed_labelled k ch (lo + sites_in_tree k v)
+      xs → u ≡ changed k ch (lo + sites_in_tree k v + sites_labelled k xs) t → n ≡ source.Cases p v (arms_of xs t) → r ≡ source.Cases p w
+      (arms_of ls u) → r ≡ changed k ch lo n
   case_done v w xs ls t u n r d e f g q =
       q ∙ (ap (λ (z : Tree). source.Cases p z (arms_of ls u)) d ∙ (ap (λ (z : List Labelled). source.Cases p (changed k ch lo v) (arms_of z u)) e
       ∙ (ap (λ (z : Tree). source.Cases p (changed k ch lo v) (arms_of (changed_labelled k ch (lo + sites_in_tree k v) xs) z)) f ∙ (sym (case_tree k ch lo p v xs t) ∙ ap (changed k ch lo) (sym g)))))
@@ -23,7 +27,8 @@ module _ (k : Known) (ch : Change) (lo p : ℕ) where
   pub op_done : (o : Primitive) (xs es : List Tree) (n r : Tree) → es ≡ changed_list k ch lo xs → n ≡ source.Op p o (trees_of xs) → r ≡ source.Op p o (trees_of es) → r ≡ changed k ch lo n
   op_done o xs es n r e g q = q ∙ (ap (λ (z : List Tree). source.Op p o (trees_of z)) e ∙ (sym (op_tree k ch lo p o xs) ∙ ap (changed k ch lo) (sym g)))
 
-  pub call_done : (x : List ℕ) (xs es : List Tree) (n r : Tree) → es ≡ changed_list k ch (lo + is_site (callee k x)) xs → n ≡ source.Call p x (trees_of xs) → r ≡ ch (callee k x) lo p x (trees_of es) → r ≡ changed k ch lo n
+  pub call_done : (x : List ℕ) (xs es : List Tree) (n r : Tree) → es ≡ changed_list k ch (lo + is_site (callee k x)) xs → n ≡ source.Call p x
+      (trees_of xs) → r ≡ ch (callee k x) lo p x (trees_of es) → r ≡ changed k ch lo n
   call_done x xs es n r e g q = q ∙ (ap (λ (z : List Tree). ch (callee k x) lo p x (trees_of z)) e ∙ (sym (call_tree k ch lo p x xs) ∙ ap (changed k ch lo) (sym g)))
 
 -- ---- what is left
@@ -34,7 +39,8 @@ left_let k p xs t n a b c e f g =
     let r = bounds_sites k xs in
     omega (arith, q, r, f, g)
 
-pub left_case : (k : Known) (p : ℕ) (v : Tree) (xs : List Labelled) (t n : Tree) (a b c d : ℕ) → n ≡ source.Cases p v (arms_of xs t) → b ≡ a - sites_in_tree k v → c ≡ b - sites_labelled k xs → d ≡ c - sites_in_tree k t → d ≡ a - sites_in_tree k n
+pub left_case : (k : Known) (p : ℕ) (v : Tree) (xs : List Labelled) (t n : Tree) (a b c d : ℕ) → n ≡ source.Cases p v (arms_of xs t) → b ≡ a -
+    sites_in_tree k v → c ≡ b - sites_labelled k xs → d ≡ c - sites_in_tree k t → d ≡ a - sites_in_tree k n
 left_case k p v xs t n a b c d e f g h =
     let q : sites_in_tree k n ≡ (sites_in_tree k v + 0) + sites k (rewritten_arms p (arms_of xs t)) = ap (sites_in_tree k) e in
     let r = arms_sites k p xs t in
@@ -46,7 +52,8 @@ left_op k p o xs n a b e f =
     let r = list_sites k xs in
     omega (arith, q, r, f)
 
-pub left_call : (k : Known) (p : ℕ) (x : List ℕ) (xs : List Tree) (n : Tree) (a b c s : ℕ) → n ≡ source.Call p x (trees_of xs) → s ≡ is_site (callee k x) → b ≡ a - s → c ≡ b - sites_list k xs → c ≡ a - sites_in_tree k n
+pub left_call : (k : Known) (p : ℕ) (x : List ℕ) (xs : List Tree) (n : Tree) (a b c s : ℕ) → n ≡ source.Call p x (trees_of xs) → s ≡ is_site
+    (callee k x) → b ≡ a - s → c ≡ b - sites_list k xs → c ≡ a - sites_in_tree k n
 left_call k p x xs n a b c s e z f g =
     let q : sites_in_tree k n ≡ is_site (callee k x) + sites_in k (rewritten_all (trees_of xs)) = ap (sites_in_tree k) e in
     let r = list_sites k xs in

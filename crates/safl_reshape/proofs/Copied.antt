@@ -61,7 +61,8 @@ module _ (ds : List Definition) (c : Form) (is : IsFormOf ds c) (k j : ℕ) (d :
     differ = heads_differ es names_differ;
     before = λ i h e l. heads_before 0 0 j (copy_of (heads ds) j new d) cds i l ∙ here_too i h e;
     behind = λ i h e l. heads_behind 0 0 j (copy_of (heads ds) j new d) cds i h refl (unjoined_changed (heads ds) (copying_call k new) 0 0 1 ds j alone_too) l (here_too i h e);
-    copy = heads_new 0 0 j (copy_of (heads ds) j new d) cds refl (omega (arith, length_changed (heads ds) (copying_call k new) 0 0 1 ds, of.before)) ∙ (let z : suc (0 + j) ≡ suc j = omega arith in ap (λ (x : ℕ). Some (copy_head new (params_of d) d.width x)) (let y : 0 + j ≡ j = omega arith in y));
+    copy = heads_new 0 0 j (copy_of (heads ds) j new d) cds refl (omega (arith, length_changed (heads ds) (copying_call k new) 0 0 1 ds, of.before)) ∙
+        (let z : suc (0 + j) ≡ suc j = omega arith in ap (λ (x : ℕ). Some (copy_head new (params_of d) d.width x)) (let y : 0 + j ≡ j = omega arith in y));
     own = λ i h e q.
         let f : Unjoined (slice_get ds i) = subst (λ (x : ℕ). Unjoined (slice_get ds x)) (sym q) alone_too in
         let st = here ds c is i h e in
@@ -75,7 +76,8 @@ module _ (ds : List Definition) (c : Form) (is : IsFormOf ds c) (k j : ℕ) (d :
   }
 
   pub copied_parts : (end : ℕ) × (gs : List FunctionForm) × AreFunctionsOf (heads es) 0 0 0 1 end es gs × AllCopied C j j c.functions gs
-  copied_parts = copied_functions C (heads ds) (heads es) k j new (params_of d) d.width are_copied j 0 0 0 1 (suc is.last_site) 1 1 ds c.functions d (omega arith) (omega arith) of.defined of.alone of.next refl
+  copied_parts = copied_functions C (heads ds) (heads es) k j new (params_of d) d.width are_copied j 0 0 0 1 (suc is.last_site) 1 1 ds c.functions d
+      (omega arith) (omega arith) of.defined of.alone of.next refl
       (λ i f e. sites_map (IsSiteIn C i) (λ s f. C.callee s ≡ f) (λ s f q. q.0) f.body (function_sites ds c is i f e)) is.functions
 
   pub copied_form : KeepsLimits es → (e : Form) × IsFormOf es e × AllCopied C j j c.functions e.functions
@@ -90,7 +92,9 @@ module _ (ds : List Definition) (c : Form) (is : IsFormOf ds c) (k j : ℕ) (d :
           functions = a;
           sites = refl;
           functions_differ = names_differ;
-          main = last_behind (codes "main") j (copy_of (heads ds) j new d) cds (omega (arith, length_changed (heads ds) (copying_call k new) 0 0 1 ds, of.before)) (last_changed (codes "main") (heads ds) (copying_call k new) 0 0 1 ds is.main);
+          main = last_behind (codes "main") j (copy_of (heads ds) j new d) cds
+              (omega (arith, length_changed (heads ds) (copying_call k new) 0 0 1 ds, of.before))
+              (last_changed (codes "main") (heads ds) (copying_call k new) 0 0 1 ds is.main);
           few_functions = kept.functions;
           few_sites = omega (arith, site_sum (heads es) 0 0 0 1 (suc (r.0 - 1)) es r.1 a, kept.sites);
           few_nodes = kept.nodes;
@@ -103,7 +107,8 @@ module _ (ds : List Definition) (c : Form) (is : IsFormOf ds c) (k j : ℕ) (d :
       let m = main_behind c e j (copied_length C j j c.functions e.functions ke) (copied_some C j j c.functions e.functions ke) in
       let b = (λ (f g : ℕ) (q : IsCopied j f g). alike_at c e (IsCopied j) no_site f g (copied_at C j j c.functions e.functions f g ke q)) in
       let ms : IsCopied j C.main (program_in e).main = inr m in
-      let mains : IsCopied j (C.callee 0) ((program_in e).callee 0) = subst (λ (x : ℕ). IsCopied j x ((program_in e).callee 0)) (sym (outer_is c)) (subst (λ (x : ℕ). IsCopied j C.main x) (sym (outer_is e)) ms) in
+      let mains : IsCopied j (C.callee 0) ((program_in e).callee 0) = subst (λ (x : ℕ). IsCopied j x ((program_in e).callee 0)) (sym (outer_is c))
+      (subst (λ (x : ℕ). IsCopied j C.main x) (sym (outer_is e)) ms) in
       record {
         params = params_at c e (IsCopied j) no_site C.main (program_in e).main (copied_at C j j c.functions e.functions C.main (program_in e).main ke ms);
         gives = λ args v g a. let r = main_runs C (program_in e) (IsCopied j) no_site b mains (outer_is c) args v g a in (r.0, omega (arith, r.1, none_spared C g));

@@ -18,7 +18,8 @@ copied_at C j zero (f ∷ fs) (g ∷ []) i y h c = absurd h
 copied_at C j zero (f ∷ fs) (g ∷ (e ∷ gs)) zero y h (inl (le, q)) = subst (λ (x : ℕ). BothAt C (IsCopied j) no_site (f ∷ fs) (g ∷ (e ∷ gs)) zero x) (sym q) (both_there f g refl refl h.0)
 copied_at C j zero (f ∷ fs) (g ∷ (e ∷ gs)) zero y h (inr (le, q)) = subst (λ (x : ℕ). BothAt C (IsCopied j) no_site (f ∷ fs) (g ∷ (e ∷ gs)) zero x) (sym q) (both_there f e refl refl h.1)
 copied_at C j zero (f ∷ fs) (g ∷ (e ∷ gs)) (suc i) y h (inl (le, q)) = absurd (omega (arith, le))
-copied_at C j zero (f ∷ fs) (g ∷ (e ∷ gs)) (suc i) y h (inr (le, q)) = subst (λ (x : ℕ). BothAt C (IsCopied j) no_site (f ∷ fs) (g ∷ (e ∷ gs)) (suc i) x) (sym q) (more (both_at C (IsCopied j) no_site fs gs i h.2))
+copied_at C j zero (f ∷ fs) (g ∷ (e ∷ gs)) (suc i) y h (inr (le, q)) = subst
+    (λ (x : ℕ). BothAt C (IsCopied j) no_site (f ∷ fs) (g ∷ (e ∷ gs)) (suc i) x) (sym q) (more (both_at C (IsCopied j) no_site fs gs i h.2))
   where
     more : BothAt C (IsCopied j) no_site fs gs i i → BothAt C (IsCopied j) no_site (f ∷ fs) (g ∷ (e ∷ gs)) (suc i) (suc (suc i))
     more (both_there a b p q k) = both_there a b p q k

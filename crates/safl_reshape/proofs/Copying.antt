@@ -33,7 +33,8 @@ own_alteration new (Member i h) lo p x es = Call p new es
 own_alteration new (Above i h) lo p x es = Call p x es
 own_alteration new Unknown lo p x es = Call p x es
 
-copy_same : (k : ℕ) (new : List ℕ) (f : Callee) (lo p : ℕ) (x : List ℕ) (ts : Trees) → (rewritten (copying_call k new f lo p x ts) ≡ copy_alteration k new f lo p x (rewritten_all ts)) × (place_of (copying_call k new f lo p x ts) ≡ p)
+copy_same : (k : ℕ) (new : List ℕ) (f : Callee) (lo p : ℕ) (x : List ℕ) (ts : Trees) →
+    (rewritten (copying_call k new f lo p x ts) ≡ copy_alteration k new f lo p x (rewritten_all ts)) × (place_of (copying_call k new f lo p x ts) ≡ p)
 copy_same k new (Member i h) lo p x ts = (refl, refl)
 copy_same k new (Above i h) lo p x ts = (refl, refl)
 copy_same k new Unknown lo p x ts = (refl, refl)
@@ -41,7 +42,8 @@ copy_same k new Unknown lo p x ts = (refl, refl)
 pub copy_rewriting : (k : ℕ) (new : List ℕ) → IsRewriting (copying_call k new) (copy_alteration k new)
 copy_rewriting k new = record { same = λ f lo p x ts. (copy_same k new f lo p x ts).0; place = λ f lo p x ts. (copy_same k new f lo p x ts).1 }
 
-own_same : (new : List ℕ) (f : Callee) (lo p : ℕ) (x : List ℕ) (ts : Trees) → (rewritten (own_call new f lo p x ts) ≡ own_alteration new f lo p x (rewritten_all ts)) × (place_of (own_call new f lo p x ts) ≡ p)
+own_same : (new : List ℕ) (f : Callee) (lo p : ℕ) (x : List ℕ) (ts : Trees) →
+    (rewritten (own_call new f lo p x ts) ≡ own_alteration new f lo p x (rewritten_all ts)) × (place_of (own_call new f lo p x ts) ≡ p)
 own_same new (Member i h) lo p x ts = (refl, refl)
 own_same new (Above i h) lo p x ts = (refl, refl)
 own_same new Unknown lo p x ts = (refl, refl)
@@ -97,8 +99,11 @@ pub record AreCopied (C : Program) (all rest : List Head) (k j : ℕ) (new : Lis
 module _ (C : Program) (all rest : List Head) (k j : ℕ) (new : List ℕ) (ps : List Slot) (width : ℕ) (is : AreCopied C all rest k j new ps width) where
   -- a body up to that of function j
   module _ (v : ℕ) (lt : v ≤ j) where
-    first_call : (s : List Slot) (n : ℕ) (tail end : Bool) (p : ℕ) (x : List ℕ) (es fs : Expressions) (lo m hi : ℕ) (ws : List ℕ) (us : Terms) (w : ℕ) (t : Term) (from first : ℕ) (g : Callee) → IsCallee (sees all v) x g → Sites (λ s f. C.callee s ≡ f) t → same_tail tail end
-        → HaveAll (sees all v) s m hi es ws us → Calls g tail lo m ws us w t → ((z : ℕ) → AllMovedIn C (IsCopied j) no_site (sees rest (v + 0)) [] s n z fs ws us) → first ≡ lo → MovedIn C (IsCopied j) no_site (sees rest (v + 0)) [] s n end from (copy_alteration k new g first p x fs) w t
+    first_call : (s : List Slot) (n : ℕ) (tail end : Bool) (p : ℕ) (x : List ℕ) (es fs : Expressions) (lo m hi : ℕ) (ws : List ℕ) (us : Terms) (w : ℕ)
+        (t : Term) (from first : ℕ) (g : Callee) → IsCallee (sees all v) x g → Sites (λ s f. C.callee s ≡ f) t → same_tail tail end
+        → HaveAll (sees all v) s m hi es ws us → Calls g tail lo m ws us w t →
+        ((z : ℕ) → AllMovedIn C (IsCopied j) no_site (sees rest (v + 0)) [] s n z fs ws us) → first ≡ lo → MovedIn C (IsCopied j) no_site
+        (sees rest (v + 0)) [] s n end from (copy_alteration k new g first p x fs) w t
     first_call s n tail end p x es fs lo m hi ws us w t from first (Member i h) ic si may hs q args f =
         let le : i ≤ j = ⊎_elim (λ (y : j < i). absurd (omega (arith, is.later i h ic.0.head y, ic.1, lt))) (λ (y : i ≤ j). y) (cases_lt j i) in
         let cal = callee_member (sees rest (v + 0)) x i h is.differ (is.before i h ic.0.head le) ic.0.name (omega (arith, ic.1)) in
@@ -127,13 +132,16 @@ module _ (C : Program) (all rest : List Head) (k j : ℕ) (new : List ℕ) (ps :
 
   -- a body after that of function j
   module _ (v : ℕ) (lt : j < v) where
-    site_call : (s : List Slot) (n : ℕ) (end : Bool) (p : ℕ) (x : List ℕ) (fs : Expressions) (lo : ℕ) (ws : List ℕ) (us : Terms) (w from first i : ℕ) (h : Head) (b : Bool) → (first == k) ≡ b → IsCallee (sees all v) x (Above i h) → C.callee lo ≡ i → count us ≡ arity C i → ws ≡ widths_of h.params → h.width ≡ w
-        → ((z : ℕ) → AllMovedIn C (IsCopied j) no_site (sees rest (v + 1)) [] s n z fs ws us) → first ≡ lo → MovedIn C (IsCopied j) no_site (sees rest (v + 1)) [] s n end from (Call p (cond b new x) fs) w (terms.Call i lo us)
+    site_call : (s : List Slot) (n : ℕ) (end : Bool) (p : ℕ) (x : List ℕ) (fs : Expressions) (lo : ℕ) (ws : List ℕ) (us : Terms) (w from first i : ℕ)
+        (h : Head) (b : Bool) → (first == k) ≡ b → IsCallee (sees all v) x (Above i h) → C.callee lo ≡ i → count us ≡ arity C i → ws ≡ widths_of h.params → h.width ≡ w
+        → ((z : ℕ) → AllMovedIn C (IsCopied j) no_site (sees rest (v + 1)) [] s n z fs ws us) → first ≡ lo → MovedIn C (IsCopied j) no_site
+        (sees rest (v + 1)) [] s n end from (Call p (cond b new x) fs) w (terms.Call i lo us)
     site_call s n end p x fs lo ws us w from first i h true e ic sc ar ew eh args f =
         let r : i ≡ j = sym sc ∙ (ap C.callee (sym f ∙ eqb-true first k e) ∙ is.site) in
         let o = is.own i h ic.0.head r in
         let cal = callee_above (sees rest (v + 1)) new (suc j) (copy_head new ps width j) is.differ is.copy refl (omega (arith, lt)) in
-        stays_above C (IsCopied j) no_site (sees rest (v + 1)) [] s n end from p new fs i (suc j) lo (copy_head new ps width j) ws us w cal (ew ∙ ap (λ (z : List Slot). widths_of z) o.1) (sym o.2 ∙ eh) refl (inr (omega (arith, r), omega (arith, r))) ar (args (suc from))
+        stays_above C (IsCopied j) no_site (sees rest (v + 1)) [] s n end from p new fs i (suc j) lo (copy_head new ps width j) ws us w cal
+        (ew ∙ ap (λ (z : List Slot). widths_of z) o.1) (sym o.2 ∙ eh) refl (inr (omega (arith, r), omega (arith, r))) ar (args (suc from))
     site_call s n end p x fs lo ws us w from first i h false e ic sc ar ew eh args f = ⊎_elim
         (λ (y : j < i).
         let cal = callee_above (sees rest (v + 1)) x (suc i) (later_head h) is.differ (is.behind i h ic.0.head y) ic.0.name (omega (arith, ic.1)) in
@@ -143,8 +151,11 @@ module _ (C : Program) (all rest : List Head) (k j : ℕ) (new : List ℕ) (ps :
         stays_above C (IsCopied j) no_site (sees rest (v + 1)) [] s n end from p x fs i i lo h ws us w cal ew eh refl (inl (y, refl)) ar (args (suc from)))
         (cases_lt j i)
 
-    second_call : (s : List Slot) (n : ℕ) (tail end : Bool) (p : ℕ) (x : List ℕ) (es fs : Expressions) (lo m hi : ℕ) (ws : List ℕ) (us : Terms) (w : ℕ) (t : Term) (from first : ℕ) (g : Callee) → IsCallee (sees all v) x g → Sites (λ s f. C.callee s ≡ f) t → same_tail tail end
-        → HaveAll (sees all v) s m hi es ws us → Calls g tail lo m ws us w t → ((z : ℕ) → AllMovedIn C (IsCopied j) no_site (sees rest (v + 1)) [] s n z fs ws us) → first ≡ lo → MovedIn C (IsCopied j) no_site (sees rest (v + 1)) [] s n end from (copy_alteration k new g first p x fs) w t
+    second_call : (s : List Slot) (n : ℕ) (tail end : Bool) (p : ℕ) (x : List ℕ) (es fs : Expressions) (lo m hi : ℕ) (ws : List ℕ) (us : Terms)
+        (w : ℕ) (t : Term) (from first : ℕ) (g : Callee) → IsCallee (sees all v) x g → Sites (λ s f. C.callee s ≡ f) t → same_tail tail end
+        → HaveAll (sees all v) s m hi es ws us → Calls g tail lo m ws us w t →
+        ((z : ℕ) → AllMovedIn C (IsCopied j) no_site (sees rest (v + 1)) [] s n z fs ws us) → first ≡ lo → MovedIn C (IsCopied j) no_site
+        (sees rest (v + 1)) [] s n end from (copy_alteration k new g first p x fs) w t
     second_call s n tail end p x es fs lo m hi ws us w t from first (Member i h) ic si may hs q args f =
         let gt : j < i = ⊎_elim (λ (y : j < i). y) (λ (y : i ≤ j). absurd (omega (arith, is.least i h ic.0.head, ic.1, lt, y))) (cases_lt j i) in
         let cal = callee_member (sees rest (v + 1)) x (suc i) (later_head h) is.differ (is.behind i h ic.0.head gt) ic.0.name (omega (arith, ic.1)) in
@@ -163,15 +174,19 @@ module _ (C : Program) (all rest : List Head) (k j : ℕ) (new : List ℕ) (ps :
         second_call s n tail end p x es fs lo m hi ws us w t from first (callee (sees all v) x) (is_callee (sees all v) x) si may hs q args f
 
   -- the body of the copy
-  copy_call : (s : List Slot) (n : ℕ) (tail end : Bool) (p : ℕ) (x : List ℕ) (es fs : Expressions) (lo m hi : ℕ) (ws : List ℕ) (us : Terms) (w : ℕ) (t : Term) (from first : ℕ) (g : Callee) → IsCallee (sees all j) x g → same_tail tail end
-      → HaveAll (sees all j) s m hi es ws us → Calls g tail lo m ws us w t → ((z : ℕ) → AllMovedIn C (IsCopied j) no_site (sees rest (suc j)) [] s n z fs ws us) → MovedIn C (IsCopied j) no_site (sees rest (suc j)) [] s n end from (own_alteration new g first p x fs) w t
+  copy_call : (s : List Slot) (n : ℕ) (tail end : Bool) (p : ℕ) (x : List ℕ) (es fs : Expressions) (lo m hi : ℕ) (ws : List ℕ) (us : Terms) (w : ℕ)
+      (t : Term) (from first : ℕ) (g : Callee) → IsCallee (sees all j) x g → same_tail tail end
+      → HaveAll (sees all j) s m hi es ws us → Calls g tail lo m ws us w t →
+      ((z : ℕ) → AllMovedIn C (IsCopied j) no_site (sees rest (suc j)) [] s n z fs ws us) → MovedIn C (IsCopied j) no_site (sees rest (suc j)) []
+      s n end from (own_alteration new g first p x fs) w t
   copy_call s n tail end p x es fs lo m hi ws us w t from first (Member i h) ic may hs q args =
       let r : i ≡ j = ⊎_elim (λ (y : j < i). absurd (omega (arith, is.later i h ic.0.head y, ic.1))) (λ (y : i ≤ j). let z = is.least i h ic.0.head in omega (arith, z, ic.1, y)) (cases_lt j i) in
       let o = is.own i h ic.0.head r in
       let cal = callee_member (sees rest (suc j)) new (suc j) (copy_head new ps width j) is.differ is.copy refl refl in
       let ar = have_count (sees all j) s m hi es ws us hs ∙ (ap (λ (z : List ℕ). length z) q.2 ∙ is.arities i h ic.0.head) in
       subst (λ (z : Term). MovedIn C (IsCopied j) no_site (sees rest (suc j)) [] s n end from (Call p new fs) w z) (sym q.4)
-      (stays_member C (IsCopied j) no_site (sees rest (suc j)) [] s n end from p new fs i (suc j) (copy_head new ps width j) ws us w cal (sym may ∙ q.0) (q.2 ∙ ap (λ (z : List Slot). widths_of z) o.1) (sym o.2 ∙ q.3) (inr (omega (arith, r), omega (arith, r))) ar (args from))
+      (stays_member C (IsCopied j) no_site (sees rest (suc j)) [] s n end from p new fs i (suc j) (copy_head new ps width j) ws us w cal
+      (sym may ∙ q.0) (q.2 ∙ ap (λ (z : List Slot). widths_of z) o.1) (sym o.2 ∙ q.3) (inr (omega (arith, r), omega (arith, r))) ar (args from))
   copy_call s n tail end p x es fs lo m hi ws us w t from first (Above i h) ic may hs q args =
       let le : i ≤ j = ⊎_elim (λ (y : j < i). absurd (omega (arith, is.later i h ic.0.head y, ic.1))) (λ (y : i ≤ j). y) (cases_lt j i) in
       let cal = callee_above (sees rest (suc j)) x i h is.differ (is.before i h ic.0.head le) ic.0.name (omega (arith, ic.1)) in

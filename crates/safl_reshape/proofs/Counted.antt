@@ -46,14 +46,17 @@ pub adds_same : (a b : Counts) (s n t m : ℕ) → Adds a b s n → t ≡ s → 
 adds_same a b s n t m p e f = record { sites = omega (arith, p.sites, e); nodes = omega (arith, p.nodes, f) }
 
 module _ (k : Known) (p : ℕ) (n : Tree) (a b : Counts) (itself : Adds a b 0 1) where
-  pub let_adds : (xs : List Bound) (t : Tree) (c d : Counts) → n ≡ source.Let p (binds_of xs) t → Adds b c (sites_bounds k xs) (nodes_bounds xs) → Adds c d (sites_in_tree k t) (nodes (rewritten t)) → Adds a d (sites_in_tree k n) (nodes (rewritten n))
+  pub let_adds : (xs : List Bound) (t : Tree) (c d : Counts) → n ≡ source.Let p (binds_of xs) t → Adds b c (sites_bounds k xs) (nodes_bounds xs) →
+      Adds c d (sites_in_tree k t) (nodes (rewritten t)) → Adds a d (sites_in_tree k n) (nodes (rewritten n))
   let_adds xs t c d is f g =
       let r = adds_more a c d _ _ _ _ (adds_more a b c _ _ _ _ itself f) g in
       let s : sites_in_tree k n ≡ sites_bound k (rewritten_binds (binds_of xs)) + sites_in_tree k t = ap (sites_in_tree k) is in
       let m : nodes (rewritten n) ≡ 1 + (nodes_bound (rewritten_binds (binds_of xs)) + nodes (rewritten t)) = ap (λ (u : Tree). nodes (rewritten u)) is in
       adds_same a d _ _ _ _ r (omega (arith, s, bounds_sites k xs)) (omega (arith, m, bounds_nodes xs))
 
-  pub case_adds : (v : Tree) (xs : List Labelled) (t : Tree) (c d e : Counts) → n ≡ source.Cases p v (arms_of xs t) → Adds b c (sites_in_tree k v) (nodes (rewritten v)) → Adds c d (sites_labelled k xs) (nodes_labelled xs) → Adds d e (sites_in_tree k t) (nodes (rewritten t)) → Adds a e (sites_in_tree k n) (nodes (rewritten n))
+  pub case_adds : (v : Tree) (xs : List Labelled) (t : Tree) (c d e : Counts) → n ≡ source.Cases p v (arms_of xs t) → Adds b c (sites_in_tree k v)
+      (nodes (rewritten v)) → Adds c d (sites_labelled k xs) (nodes_labelled xs) → Adds d e (sites_in_tree k t) (nodes (rewritten t)) → Adds a e
+      (sites_in_tree k n) (nodes (rewritten n))
   case_adds v xs t c d e is f g h =
       let r = adds_more a d e _ _ _ _ (adds_more a c d _ _ _ _ (adds_more a b c _ _ _ _ itself f) g) h in
       let s : sites_in_tree k n ≡ (sites_in_tree k v + 0) + sites k (rewritten_arms p (arms_of xs t)) = ap (sites_in_tree k) is in
@@ -66,7 +69,8 @@ module _ (k : Known) (p : ℕ) (n : Tree) (a b : Counts) (itself : Adds a b 0 1)
       let m : nodes (rewritten n) ≡ 1 + nodes_in (rewritten_all (trees_of xs)) = ap (λ (u : Tree). nodes (rewritten u)) is in
       adds_same a c _ _ _ _ (adds_more a b c _ _ _ _ itself f) (omega (arith, s, list_sites k xs)) (omega (arith, m, list_nodes xs))
 
-  pub call_adds : (x : List ℕ) (xs : List Tree) (c d : Counts) (w : ℕ) → n ≡ source.Call p x (trees_of xs) → w ≡ is_site (callee k x) → Adds b c w 0 → Adds c d (sites_list k xs) (nodes_list xs) → Adds a d (sites_in_tree k n) (nodes (rewritten n))
+  pub call_adds : (x : List ℕ) (xs : List Tree) (c d : Counts) (w : ℕ) → n ≡ source.Call p x (trees_of xs) → w ≡ is_site (callee k x) → Adds b c w 0 →
+      Adds c d (sites_list k xs) (nodes_list xs) → Adds a d (sites_in_tree k n) (nodes (rewritten n))
   call_adds x xs c d w is e f g =
       let r = adds_more a c d _ _ _ _ (adds_more a b c _ _ _ _ itself f) g in
       let s : sites_in_tree k n ≡ is_site (callee k x) + sites_in k (rewritten_all (trees_of xs)) = ap (sites_in_tree k) is in
@@ -83,7 +87,8 @@ pub record Left (first now : Counts) (sites_left nodes_left all_sites all_nodes 
   pub sites : sites_done + sites_left ≡ all_sites
   pub nodes : nodes_done + nodes_left ≡ all_nodes
 
-pub left_less : (first a b : Counts) (s n ls ln ms mn all_sites all_nodes : ℕ) → Left first a ls ln all_sites all_nodes → Adds a b s n → ls ≡ s + ms → ln ≡ n + mn → Left first b ms mn all_sites all_nodes
+pub left_less : (first a b : Counts) (s n ls ln ms mn all_sites all_nodes : ℕ) → Left first a ls ln all_sites all_nodes → Adds a b s n → ls ≡ s + ms →
+    ln ≡ n + mn → Left first b ms mn all_sites all_nodes
 left_less first a b s n ls ln ms mn all_sites all_nodes l q e f = record {
   sites_done = l.sites_done + s;
   nodes_done = l.nodes_done + n;
@@ -99,13 +104,16 @@ all_left first all_sites all_nodes = record { sites_done = 0; nodes_done = 0; co
 pub none_left : (first a : Counts) (all_sites all_nodes : ℕ) → Left first a 0 0 all_sites all_nodes → Adds first a all_sites all_nodes
 none_left first a all_sites all_nodes l = adds_same first a _ _ _ _ l.counted (omega (arith, l.sites)) (omega (arith, l.nodes))
 
-pub list_nodes_left : (es : List Expr) (i : ℕ) (e : Expr) → i < length es → e ≡ get_or es i e → nodes_list (shown_trees (drop i es)) ≡ nodes (rewritten (shown_tree e)) + nodes_list (shown_trees (drop (i + 1) es))
+pub list_nodes_left : (es : List Expr) (i : ℕ) (e : Expr) → i < length es → e ≡ get_or es i e → nodes_list (shown_trees (drop i es)) ≡ nodes
+    (rewritten (shown_tree e)) + nodes_list (shown_trees (drop (i + 1) es))
 list_nodes_left es i e lt is = ap (λ (l : List Expr). nodes_list (shown_trees l)) (drop_at es i e lt is)
 
-pub bounds_nodes_left : (es : List Bind) (i : ℕ) (e : Bind) → i < length es → e ≡ get_or es i e → nodes_bounds (shown_bounds (drop i es)) ≡ nodes (rewritten (shown_tree e.value)) + nodes_bounds (shown_bounds (drop (i + 1) es))
+pub bounds_nodes_left : (es : List Bind) (i : ℕ) (e : Bind) → i < length es → e ≡ get_or es i e → nodes_bounds (shown_bounds (drop i es)) ≡ nodes
+    (rewritten (shown_tree e.value)) + nodes_bounds (shown_bounds (drop (i + 1) es))
 bounds_nodes_left es i e lt is = ap (λ (l : List Bind). nodes_bounds (shown_bounds l)) (drop_at es i e lt is)
 
-pub arms_nodes_left : (es : List Arm) (i : ℕ) (e : Arm) → i < length es → e ≡ get_or es i e → nodes_labelled (shown_labelled (drop i es)) ≡ (3 + (nodes (rewritten (shown_tree e.label)) + nodes (rewritten (shown_tree e.value)))) + nodes_labelled (shown_labelled (drop (i + 1) es))
+pub arms_nodes_left : (es : List Arm) (i : ℕ) (e : Arm) → i < length es → e ≡ get_or es i e → nodes_labelled (shown_labelled (drop i es)) ≡
+    (3 + (nodes (rewritten (shown_tree e.label)) + nodes (rewritten (shown_tree e.value)))) + nodes_labelled (shown_labelled (drop (i + 1) es))
 arms_nodes_left es i e lt is = ap (λ (l : List Arm). nodes_labelled (shown_labelled l)) (drop_at es i e lt is)
 
 -- ---- definitions
@@ -118,5 +126,6 @@ total_left hs ds n u v d lt is e =
     ∙ (ap (λ (w : ℕ). sites_in_tree (record { heads = hs; unit = w }) (shown_tree d.body) + site_total hs (suc n) w rest) (sym e)
     ∙ ap (λ (m : ℕ). sites_in_tree (record { heads = hs; unit = v }) (shown_tree d.body) + site_total hs m v rest) (sym (add-one n)))
 
-pub defs_nodes_left : (ds : List Def) (n : ℕ) (d : Def) → n < length ds → d ≡ get_or ds n d → nodes_of (shown_definitions (drop n ds)) ≡ nodes (rewritten (shown_tree d.body)) + nodes_of (shown_definitions (drop (n + 1) ds))
+pub defs_nodes_left : (ds : List Def) (n : ℕ) (d : Def) → n < length ds → d ≡ get_or ds n d → nodes_of (shown_definitions (drop n ds)) ≡ nodes
+    (rewritten (shown_tree d.body)) + nodes_of (shown_definitions (drop (n + 1) ds))
 defs_nodes_left ds n d lt is = ap (λ (l : List Def). nodes_of (shown_definitions l)) (drop_at ds n d lt is)

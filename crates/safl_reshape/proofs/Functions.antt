@@ -50,12 +50,14 @@ pub unit_moved : (n u m v z : ℕ) (d : Definition) → m ≡ n + z → v ≡ u 
 unit_moved n u m v z d p q = unit_shifted d.joined 0 0 v (u + z) m (n + z) q p ∙ unit_plus d.joined u n z
 
 -- groups are numbered z further on
-module _ (C : Program) (same : ℕ → ℕ → Type 0) (at : ℕ → Bool) (ok : ℕ → ℕ → Type 0) (all rest : List Head) (ch : Change) (alt : Alteration) (re : IsRewriting ch alt) (rigid : IsRigid alt) (short : IsShort alt) (z : ℕ) (P : ℕ → Type 0)
+module _ (C : Program) (same : ℕ → ℕ → Type 0) (at : ℕ → Bool) (ok : ℕ → ℕ → Type 0) (all rest : List Head) (ch : Change) (alt : Alteration)
+    (re : IsRewriting ch alt) (rigid : IsRigid alt) (short : IsShort alt) (z : ℕ) (P : ℕ → Type 0)
     (move : (v : ℕ) → P v → CallsMove C same at (sees all v) (sees rest (v + z)) alt [] same_tail no_callee ok) where
   pub function_moved : (v y lo hi first from : ℕ) (d : Definition) (f : FunctionForm) → y ≡ v + z → first ≡ lo → P v → Sites ok f.body → IsFunctionOf all v lo hi d f
       → (end : ℕ) × (g : FunctionForm) × IsFunctionOf rest y from end (with_body d (changed (sees all v) ch first d.body)) g × IsKept C same at f g
   function_moved v y lo hi first from d f e l p si is =
-      let r = moved C same at (sees all v) (sees rest (v + z)) alt [] same_tail no_callee ok rigid refl (move v p) (params_of d) (length (params_of d)) true true lo hi first (rewritten d.body) d.width f.body l refl refl (calls_none (sees all v) (rewritten d.body)) si is.body from in
+      let r = moved C same at (sees all v) (sees rest (v + z)) alt [] same_tail no_callee ok rigid refl (move v p) (params_of d)
+      (length (params_of d)) true true lo hi first (rewritten d.body) d.width f.body l refl refl (calls_none (sees all v) (rewritten d.body)) si is.body from in
       let q : altered (sees all v) alt first (rewritten d.body) ≡ rewritten (changed (sees all v) ch first d.body) = sym (rewritten_changed (sees all v) ch alt re first first d.body refl) in
       let h : Has (sees rest y) (params_of d) true from r.0 (rewritten (changed (sees all v) ch first d.body)) d.width r.1 =
       subst (λ (x : ℕ). Has (sees rest x) (params_of d) true from r.0 (rewritten (changed (sees all v) ch first d.body)) d.width r.1) (sym e)
@@ -76,7 +78,8 @@ module _ (C : Program) (same : ℕ → ℕ → Type 0) (at : ℕ → Bool) (ok :
         record { params = refl; width = refl; body = subst (λ (x : ℕ). Alike C same at 0 x f.body r.1) (ap (λ (l : List Slot). length l) (sym is.params)) r.3 },
       )
 
-  pub functions_moved : (n u m y w lo hi first from : ℕ) (ds : List Definition) (fs : List FunctionForm) → m ≡ n + z → y ≡ u + z → first ≡ lo → AllUnits P n u ds → ((i : ℕ) (f : FunctionForm) → slice_get fs i ≡ Some f → Sites ok f.body) → AreFunctionsOf all n u w lo hi ds fs
+  pub functions_moved : (n u m y w lo hi first from : ℕ) (ds : List Definition) (fs : List FunctionForm) → m ≡ n + z → y ≡ u + z → first ≡ lo →
+      AllUnits P n u ds → ((i : ℕ) (f : FunctionForm) → slice_get fs i ≡ Some f → Sites ok f.body) → AreFunctionsOf all n u w lo hi ds fs
       → (end : ℕ) × (gs : List FunctionForm) × AreFunctionsOf rest m y w from end (changed_definitions all ch n u first ds) gs × AllKept C same at fs gs
   functions_moved n u m y w lo hi first from [] [] em ey l p si h = (from, [], refl, tt)
   functions_moved n u m y w lo hi first from [] (f ∷ fs) em ey l p si h = absurd h

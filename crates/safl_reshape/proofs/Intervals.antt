@@ -59,7 +59,16 @@ mutual
   has_length g k s tail lo hi (Sized p v n) w t h = omega (arith, ap (λ (z : Term). length (sites_of g z)) h.3, h.0)
   has_length g k s tail lo hi (Variable p x) w t (l, i, e, q) = omega (arith, ap (λ (z : Term). length (sites_of g z)) q, l)
   has_length g k s tail lo hi (If p c a b) w t (m, n, x, y, z, hc, ha, hb, q) =
-      omega (arith, ap (λ (z : Term). length (sites_of g z)) q, append_length (sites_of g x) (sites_of g y ++ sites_of g z), append_length (sites_of g y) (sites_of g z), has_length g k s _ lo m c 1 x hc, has_length g k s tail m n a w y ha, has_length g k s tail n hi b w z hb)
+      omega (
+        arith,
+        ap (λ (z : Term). length (sites_of g z)) q,
+        append_length (sites_of g x) (sites_of g y ++ sites_of g z),
+        append_length
+            (sites_of g y) (sites_of g z),
+        has_length g k s _ lo m c 1 x hc,
+        has_length g k s tail m n a w y ha,
+        has_length g k s tail n hi b w z hb,
+      )
   has_length g k s tail lo hi (Let p bs b) w t (m, ws, us, y, d, hs, hb, q) =
       omega (arith, ap (λ (z : Term). length (sites_of g z)) q, append_length (sites_of_all g us) (sites_of g y), bound_length g k s lo m bs ws us hs, has_length g k _ tail m hi b w y hb)
   has_length g k s tail lo hi (Op p o es) w t (ws, us, hs, su, q) = omega (arith, ap (λ (z : Term). length (sites_of g z)) q, have_length g k s lo hi es ws us hs)

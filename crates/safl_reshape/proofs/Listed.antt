@@ -60,10 +60,13 @@ module _ (k : Known) where
         ap (source.an_arm (changed k ch lo a.label) (changed k ch (lo + la) a.value))
         (ap (λ (n : ℕ). changed_arms k ch n (arms_of ls t)) e ∙ (arms_changed (lo + (la + lv)) ls t ∙ ap (λ (n : ℕ). arms_of (changed_labelled k ch (lo + (la + lv)) ls) (changed k ch n t)) f))
 
-    pub let_tree : (lo p : ℕ) (bs : List Bound) (t : Tree) → changed k ch lo (source.Let p (binds_of bs) t) ≡ source.Let p (binds_of (changed_bounds k ch lo bs)) (changed k ch (lo + sites_bounds k bs) t)
-    let_tree lo p bs t = ap (λ (z : Binds). source.Let p z (changed k ch (lo + sites_bound k (rewritten_binds (binds_of bs))) t)) (bounds_changed lo bs) ∙ ap (λ (n : ℕ). source.Let p (binds_of (changed_bounds k ch lo bs)) (changed k ch (lo + n) t)) (bounds_sites bs)
+    pub let_tree : (lo p : ℕ) (bs : List Bound) (t : Tree) → changed k ch lo (source.Let p (binds_of bs) t) ≡ source.Let p
+        (binds_of (changed_bounds k ch lo bs)) (changed k ch (lo + sites_bounds k bs) t)
+    let_tree lo p bs t = ap (λ (z : Binds). source.Let p z (changed k ch (lo + sites_bound k (rewritten_binds (binds_of bs))) t))
+        (bounds_changed lo bs) ∙ ap (λ (n : ℕ). source.Let p (binds_of (changed_bounds k ch lo bs)) (changed k ch (lo + n) t)) (bounds_sites bs)
 
-    pub case_tree : (lo p : ℕ) (v : Tree) (ls : List Labelled) (t : Tree) → changed k ch lo (source.Cases p v (arms_of ls t)) ≡ source.Cases p (changed k ch lo v) (arms_of (changed_labelled k ch (lo + sites_in_tree k v) ls) (changed k ch (lo + sites_in_tree k v + sites_labelled k ls) t))
+    pub case_tree : (lo p : ℕ) (v : Tree) (ls : List Labelled) (t : Tree) → changed k ch lo (source.Cases p v (arms_of ls t)) ≡ source.Cases p
+        (changed k ch lo v) (arms_of (changed_labelled k ch (lo + sites_in_tree k v) ls) (changed k ch (lo + sites_in_tree k v + sites_labelled k ls) t))
     case_tree lo p v ls t = ap (source.Cases p (changed k ch lo v)) (arms_changed (lo + sites_in_tree k v) ls t)
 
     pub op_tree : (lo p : ℕ) (o : Primitive) (ts : List Tree) → changed k ch lo (source.Op p o (trees_of ts)) ≡ source.Op p o (trees_of (changed_list k ch lo ts))

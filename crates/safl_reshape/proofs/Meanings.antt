@@ -35,7 +35,8 @@ module _ (C B : Program) (same : ℕ → ℕ → Type 0) (at : ℕ → Bool) (bo
       (r.0, omega (arith, r.1))
 
   -- all evaluations of one program on the same arguments cost the same
-  pub main_ran : OneEvaluation B → (args : List Word) (v : Word) (e : Main B args v) → AreWordsOf args (C.params C.main) → (d : Main C args v) × (main_cost B args e + executions C at d ≡ main_cost C args d)
+  pub main_ran : OneEvaluation B → (args : List Word) (v : Word) (e : Main B args v) → AreWordsOf args (C.params C.main) → (d : Main C args v) ×
+      (main_cost B args e + executions C at d ≡ main_cost C args d)
   main_ran one args v e a =
       let d = ran C B same at bodies 0 (arity C (C.callee 0)) [] args e (bodies (C.callee 0) (B.callee 0) mains) refl refl (enough args a) in
       let r = main_runs args v d a in

@@ -57,12 +57,15 @@ module _ (C : Program) (same : ℕ → ℕ → Type 0) (at : ℕ → Bool) (k b 
 
   -- what is asked of calls
   abbrev pub CallsMove : Type 0
-  CallsMove = (s : List Slot) (n : ℕ) (tail end : Bool) (p : ℕ) (x : List ℕ) (es fs : Expressions) (lo m hi : ℕ) (ws : List ℕ) (us : Terms) (w : ℕ) (t : Term) → test (callee k x) ≡ false → Sites ok t → may tail end → length (pre ++ s) ≡ n
-      → HaveAll k s m hi es ws us → Calls (callee k x) tail lo m ws us w t → ((from : ℕ) → AllMoved s n from fs ws us) → (first : ℕ) → first ≡ lo → (from : ℕ) → Moved s n end from (a (callee k x) first p x fs) w t
+  CallsMove = (s : List Slot) (n : ℕ) (tail end : Bool) (p : ℕ) (x : List ℕ) (es fs : Expressions) (lo m hi : ℕ) (ws : List ℕ) (us : Terms) (w : ℕ)
+      (t : Term) → test (callee k x) ≡ false → Sites ok t → may tail end → length (pre ++ s) ≡ n
+      → HaveAll k s m hi es ws us → Calls (callee k x) tail lo m ws us w t → ((from : ℕ) → AllMoved s n from fs ws us) → (first : ℕ) → first ≡ lo →
+      (from : ℕ) → Moved s n end from (a (callee k x) first p x fs) w t
 
   module _ (r : IsRigid a) (still : may false false) (move : CallsMove) where
     mutual
-      pub moved : (s : List Slot) (n : ℕ) (tail end : Bool) (lo hi first : ℕ) (e : Expression) (w : ℕ) (t : Term) → first ≡ lo → may tail end → length (pre ++ s) ≡ n → calls test k e ≡ false → Sites ok t → Has k s tail lo hi e w t → (from : ℕ) → Moved s n end from (altered k a first e) w t
+      pub moved : (s : List Slot) (n : ℕ) (tail end : Bool) (lo hi first : ℕ) (e : Expression) (w : ℕ) (t : Term) → first ≡ lo → may tail end → length
+          (pre ++ s) ≡ n → calls test k e ≡ false → Sites ok t → Has k s tail lo hi e w t → (from : ℕ) → Moved s n end from (altered k a first e) w t
       moved s n tail end lo hi first (Number p v) w t f m l nc ins h from =
           subst (λ (x : Term). Moved s n end from (Number p v) w x) (sym h.2) (from, Const (word w v), (refl, h.1, refl), alike_const)
       moved s n tail end lo hi first (Sized p x v) w t f m l nc ins h from =
@@ -85,11 +88,27 @@ module _ (C : Program) (same : ℕ → ℕ → Type 0) (at : ℕ → Bool) (k b 
           let es = have_sites_bound k s lo i bs ws us hs in
           let si = subst (λ (z : Term). Sites ok z) q ins in
           let rs = bound_moved s n lo i first bs ws us f l no1.0 si.0 hs from in
-          let g : pre ++ (s ++ slots bs ws) ≡ (pre ++ s) ++ slots (altered_bound k a first bs) ws = sym (append_assoc pre s (slots bs ws)) ∙ ap (λ (z : List Slot). (pre ++ s) ++ z) (sym (slots_same k a r first bs ws)) in
-          let c : length (pre ++ (s ++ slots bs ws)) ≡ n + count us = omega (arith, ap (λ (z : List Slot). length z) (append_assoc pre s (slots bs ws)), length-append (pre ++ s) (slots bs ws), l, bound_count k s lo i bs ws us hs) in
+          let g : pre ++ (s ++ slots bs ws) ≡ (pre ++ s) ++ slots (altered_bound k a first bs) ws = sym (append_assoc pre s (slots bs ws)) ∙ ap
+          (λ (z : List Slot). (pre ++ s) ++ z) (sym (slots_same k a r first bs ws)) in
+          let c : length (pre ++ (s ++ slots bs ws)) ≡ n + count us = omega
+          (arith, ap (λ (z : List Slot). length z) (append_assoc pre s (slots bs ws)), length-append (pre ++ s) (slots bs ws), l, bound_count k s lo i bs ws us hs) in
           let ry = moved (s ++ slots bs ws) (n + count us) tail end i hi (first + sites_bound k bs) y w ty (omega (arith, es, f)) m c no1.1 si.1 hy rs.0 in
-          subst (λ (z : Term). Moved s n end from (altered k a first (Let p bs y)) w z) (sym q)
-          (ry.0, terms.Let rs.1 ry.1, (rs.0, ws, rs.1, ry.1, subst Differ (sym (names_same k a r first bs)) d, rs.2, subst (λ (z : List Slot). Has b z end rs.0 ry.0 (altered k a (first + sites_bound k bs) y) w ry.1) g ry.2, refl), alike_let rs.3 ry.3)
+          subst (λ (z : Term). Moved s n end from (altered k a first (Let p bs y)) w z) (sym q) (
+            ry.0,
+            terms.Let rs.1 ry.1,
+            (
+              rs.0,
+              ws,
+              rs.1,
+              ry.1,
+              subst Differ (sym (names_same k a r first bs)) d,
+              rs.2,
+              subst
+                  (λ (z : List Slot). Has b z end rs.0 ry.0 (altered k a (first + sites_bound k bs) y) w ry.1) g ry.2,
+              refl,
+            ),
+            alike_let rs.3 ry.3,
+          )
       moved s n tail end lo hi first (Op p o es) w t f m l nc ins (ws, us, hs, su, q) from =
           let rs = all_moved s n lo hi first es ws us f l nc (subst (λ (z : Term). Sites ok z) q ins) hs from in
           subst (λ (z : Term). Moved s n end from (altered k a first (Op p o es)) w z) (sym q)
@@ -100,7 +119,8 @@ module _ (C : Program) (same : ℕ → ℕ → Type 0) (at : ℕ → Bool) (k b 
           move s n tail end p x es _ lo i hi ws us w t no1.0 ins m l hs q
           (λ z. all_moved s n i hi (first + is_site (callee k x)) es ws us (omega (arith, ec, f)) l no1.1 (sites_args ok (callee k x) tail lo i ws us w t q ins) hs z) first f from
 
-      pub all_moved : (s : List Slot) (n lo hi first : ℕ) (es : Expressions) (ws : List ℕ) (us : Terms) → first ≡ lo → length (pre ++ s) ≡ n → calls_in test k es ≡ false → SitesIn ok us → HaveAll k s lo hi es ws us → (from : ℕ) → AllMoved s n from (altered_all k a first es) ws us
+      pub all_moved : (s : List Slot) (n lo hi first : ℕ) (es : Expressions) (ws : List ℕ) (us : Terms) → first ≡ lo → length (pre ++ s) ≡ n →
+          calls_in test k es ≡ false → SitesIn ok us → HaveAll k s lo hi es ws us → (from : ℕ) → AllMoved s n from (altered_all k a first es) ws us
       all_moved s n lo hi first no_expression [] us f l nc ins h from =
           subst (λ (x : Terms). AllMoved s n from no_expression [] x) (sym h.1) (from, Nil, (refl, refl), none_alike)
       all_moved s n lo hi first no_expression (w ∷ ws) us f l nc ins h from = absurd h
@@ -114,7 +134,8 @@ module _ (C : Program) (same : ℕ → ℕ → Type 0) (at : ℕ → Bool) (k b 
           subst (λ (x : Terms). AllMoved s n from (altered_all k a first (an_expression e es)) (w ∷ ws) x) (sym q)
           (rs.0, Cons re.1 rs.1, (re.0, re.1, rs.1, re.2, rs.2, refl), more_alike re.3 rs.3)
 
-      pub bound_moved : (s : List Slot) (n lo hi first : ℕ) (bs : Bindings) (ws : List ℕ) (us : Terms) → first ≡ lo → length (pre ++ s) ≡ n → calls_bound test k bs ≡ false → SitesIn ok us → HaveBound k s lo hi bs ws us → (from : ℕ) → BoundMoved s n from (altered_bound k a first bs) ws us
+      pub bound_moved : (s : List Slot) (n lo hi first : ℕ) (bs : Bindings) (ws : List ℕ) (us : Terms) → first ≡ lo → length (pre ++ s) ≡ n →
+          calls_bound test k bs ≡ false → SitesIn ok us → HaveBound k s lo hi bs ws us → (from : ℕ) → BoundMoved s n from (altered_bound k a first bs) ws us
       bound_moved s n lo hi first no_binding [] us f l nc ins h from =
           subst (λ (x : Terms). BoundMoved s n from no_binding [] x) (sym h.1) (from, Nil, (refl, refl), none_alike)
       bound_moved s n lo hi first no_binding (w ∷ ws) us f l nc ins h from = absurd h

@@ -15,7 +15,12 @@ mutual
   own_any k new lo first (Number p n) = refl
   own_any k new lo first (Sized p w n) = refl
   own_any k new lo first (Variable p x) = refl
-  own_any k new lo first (If p c x y) = cc (own_any k new lo first c, own_any k new (lo + sites k c) (first + sites k c) x, own_any k new (lo + sites k c + sites k x) (first + sites k c + sites k x) y)
+  own_any k new lo first (If p c x y) = cc (
+    own_any k new lo first c,
+    own_any k new (lo + sites k c) (first + sites k c) x,
+    own_any k new
+        (lo + sites k c + sites k x) (first + sites k c + sites k x) y,
+  )
   own_any k new lo first (Let p bs b) = cc (own_any_bound k new lo first bs, own_any k new (lo + sites_bound k bs) (first + sites_bound k bs) b)
   own_any k new lo first (Op p o es) = cc (own_any_all k new lo first es)
   own_any k new lo first (Call p x es) = own_any_call new (callee k x) lo first p x _ _ (own_any_all k new (lo + is_site (callee k x)) (first + is_site (callee k x)) es)

@@ -45,7 +45,8 @@ module _ (C B : Program) (same : ℕ → ℕ → Type 0) (at : ℕ → Bool) (bo
   Spared env t v x y = (e : Gives B env t v) × (cost B e + x ≡ y)
 
   mutual
-    pub runs : (d n : ℕ) (pre pe : List Word) {env : List Word} {t u : Term} {v : Word} (g : Gives C env t v) → Alike C same at d n t u → pe ≡ pre ++ env → length pre ≡ d → length pe ≡ n → (e : Gives B pe u v) × (cost B e + executions C at g ≡ cost C g)
+    pub runs : (d n : ℕ) (pre pe : List Word) {env : List Word} {t u : Term} {v : Word} (g : Gives C env t v) → Alike C same at d n t u → pe ≡ pre ++
+        env → length pre ≡ d → length pe ≡ n → (e : Gives B pe u v) × (cost B e + executions C at g ≡ cost C g)
     runs d n pre pe gives_const alike_const e l m = (gives_const, refl)
     runs d n pre pe (gives_var {env = env} {i = i}) (alike_var {j = j} q) e l m = subst (λ (x : Word). Spared pe (Var j) x 0 0) (slot_moved pre env pe d i j e l q) (gives_var, refl)
     runs d n pre pe (gives_op ds) (alike_op al) e l m = let r = runs_all d n pre pe ds al e l m in (gives_op r.0, r.1)
@@ -80,7 +81,8 @@ module _ (C B : Program) (same : ℕ → ℕ → Type 0) (at : ℕ → Bool) (bo
         let q = runs 0 (arity C f) [] us g (bodies f h sm) refl refl (given_count C ds ∙ ar) in
         (gives_loop r.0 q.0, omega (arith, r.1, q.1))
 
-    pub runs_all : (d n : ℕ) (pre pe : List Word) {env : List Word} {ts us : Terms} {vs : List Word} (gs : GivesAll C env ts vs) → AllAlike C same at d n ts us → pe ≡ pre ++ env → length pre ≡ d → length pe ≡ n → (e : GivesAll B pe us vs) × (costs B e + executions_all C at gs ≡ costs C gs)
+    pub runs_all : (d n : ℕ) (pre pe : List Word) {env : List Word} {ts us : Terms} {vs : List Word} (gs : GivesAll C env ts vs) → AllAlike C same at
+        d n ts us → pe ≡ pre ++ env → length pre ≡ d → length pe ≡ n → (e : GivesAll B pe us vs) × (costs B e + executions_all C at gs ≡ costs C gs)
     runs_all d n pre pe gives_nil none_alike e l m = (gives_nil, refl)
     runs_all d n pre pe (gives_cons g gs) (more_alike a al) e l m =
         let r = runs d n pre pe g a e l m in
@@ -109,6 +111,7 @@ module _ (C B : Program) (same : ℕ → ℕ → Type 0) (at : ℕ → Bool) (bo
     ran d n pre env (gives_loop {us = vs} ds g) (alike_loop {f = f} {g = h} sm ar al) e l m =
         gives_loop (ran_all d n pre env ds al e l m) (ran 0 (arity C f) [] vs g (bodies f h sm) refl refl (given_count B ds ∙ (same_count C same at al ∙ ar)))
 
-    pub ran_all : (d n : ℕ) (pre env : List Word) {pe : List Word} {ts us : Terms} {vs : List Word} → GivesAll B pe us vs → AllAlike C same at d n ts us → pe ≡ pre ++ env → length pre ≡ d → length pe ≡ n → GivesAll C env ts vs
+    pub ran_all : (d n : ℕ) (pre env : List Word) {pe : List Word} {ts us : Terms} {vs : List Word} → GivesAll B pe us vs → AllAlike C same at d n ts
+        us → pe ≡ pre ++ env → length pre ≡ d → length pe ≡ n → GivesAll C env ts vs
     ran_all d n pre env gives_nil none_alike e l m = gives_nil
     ran_all d n pre env (gives_cons g gs) (more_alike a al) e l m = gives_cons (ran d n pre env g a e l m) (ran_all d n pre env gs al e l m)

@@ -13,14 +13,20 @@ use Rattle.safl_tree.specs.Tree.{trees_of, binds_of, arms_of}
 use Rattle.safl_tree.specs.Shown.{shown_tree, shown_node, shown_trees, shown_bounds, shown_labelled}
 use Rattle.safl_tree.proofs.ShownTrees.{op_shows, call_shows, let_shows, case_shows}
 
-pub shown_let : (n : Node) (p : ℕ) (binds : Vec Bind Global) (body : Box Expr Global) (xs : List Bind) (e : Expr) → n ≡ nodes.Let binds body → xs ≡ binds.items → e ≡ body.value → shown_node n p ≡ source.Let p (binds_of (shown_bounds xs)) (shown_tree e)
+pub shown_let : (n : Node) (p : ℕ) (binds : Vec Bind Global) (body : Box Expr Global) (xs : List Bind) (e : Expr) → n ≡ nodes.Let binds body → xs ≡
+    binds.items → e ≡ body.value → shown_node n p ≡ source.Let p (binds_of (shown_bounds xs)) (shown_tree e)
 shown_let n p binds body xs e is x v =
-    ap (λ (z : Node). shown_node z p) is ∙ (let_shows binds body p ∙ (ap (λ (l : List Bind). source.Let p (binds_of (shown_bounds l)) (shown_tree body.value)) (sym x) ∙ ap (λ (z : Expr). source.Let p (binds_of (shown_bounds xs)) (shown_tree z)) (sym v)))
+    ap (λ (z : Node). shown_node z p) is ∙ (let_shows binds body p ∙
+    (ap (λ (l : List Bind). source.Let p (binds_of (shown_bounds l)) (shown_tree body.value)) (sym x) ∙ ap
+    (λ (z : Expr). source.Let p (binds_of (shown_bounds xs)) (shown_tree z)) (sym v)))
 
-pub shown_case : (n : Node) (p : ℕ) (value : Box Expr Global) (arms : Vec Arm Global) (other : Box Expr Global) (v : Expr) (xs : List Arm) (o : Expr) → n ≡ Case value arms other → v ≡ value.value → xs ≡ arms.items → o ≡ other.value → shown_node n p ≡ source.Cases p (shown_tree v) (arms_of (shown_labelled xs) (shown_tree o))
+pub shown_case : (n : Node) (p : ℕ) (value : Box Expr Global) (arms : Vec Arm Global) (other : Box Expr Global) (v : Expr) (xs : List Arm) (o : Expr)
+    → n ≡ Case value arms other → v ≡ value.value → xs ≡ arms.items → o ≡ other.value → shown_node n p ≡ source.Cases p (shown_tree v)
+    (arms_of (shown_labelled xs) (shown_tree o))
 shown_case n p value arms other v xs o is ev x eo =
     ap (λ (z : Node). shown_node z p) is ∙ (case_shows value arms other p ∙ (ap (λ (z : Expr). source.Cases p (shown_tree z) (arms_of (shown_labelled arms.items) (shown_tree other.value))) (sym ev)
-    ∙ (ap (λ (l : List Arm). source.Cases p (shown_tree v) (arms_of (shown_labelled l) (shown_tree other.value))) (sym x) ∙ ap (λ (z : Expr). source.Cases p (shown_tree v) (arms_of (shown_labelled xs) (shown_tree z))) (sym eo))))
+    ∙ (ap (λ (l : List Arm). source.Cases p (shown_tree v) (arms_of (shown_labelled l) (shown_tree other.value))) (sym x) ∙ ap
+    (λ (z : Expr). source.Cases p (shown_tree v) (arms_of (shown_labelled xs) (shown_tree z))) (sym eo))))
 
 pub shown_op : (n : Node) (p : ℕ) (o : Primitive) (es : Vec Expr Global) (xs : List Expr) → n ≡ nodes.Op o es → xs ≡ es.items → shown_node n p ≡ source.Op p o (trees_of (shown_trees xs))
 shown_op n p o es xs is x = ap (λ (z : Node). shown_node z p) is ∙ (op_shows o es p ∙ ap (λ (l : List Expr). source.Op p o (trees_of (shown_trees l))) (sym x))

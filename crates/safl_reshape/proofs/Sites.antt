@@ -54,7 +54,8 @@ mutual
 
 -- in the body of g, whose group is that which the expression sees, where the program's functions have the groups of the heads
 module _ (C : Program) (g : ℕ) (k : Known) (units : (i : ℕ) (h : Head) → slice_get k.heads i ≡ Some h → C.unit i ≡ h.unit) (own : C.unit g ≡ k.unit) where
-  called_noted : (x : List ℕ) (c : Callee) (tail : Bool) (lo m : ℕ) (ws : List ℕ) (us : Terms) (w : ℕ) (t : Term) → IsCallee k x c → Calls c tail lo m ws us w t → Noted C lo (sites_of g t) → (Noted C m (sites_of_all g us) → SitesIn (IsSiteIn C g) us) → Sites (IsSiteIn C g) t
+  called_noted : (x : List ℕ) (c : Callee) (tail : Bool) (lo m : ℕ) (ws : List ℕ) (us : Terms) (w : ℕ) (t : Term) → IsCallee k x c → Calls c tail lo m
+      ws us w t → Noted C lo (sites_of g t) → (Noted C m (sites_of_all g us) → SitesIn (IsSiteIn C g) us) → Sites (IsSiteIn C g) t
   called_noted x (Member i h) tail lo m ws us w t at q noted f =
       let n : Noted C lo (sites_of_all g us) = subst (λ (z : Term). Noted C lo (sites_of g z)) q.4 noted in
       subst (Sites (IsSiteIn C g)) (sym q.4) (f (subst (λ (z : ℕ). Noted C z (sites_of_all g us)) (sym q.1) n))

@@ -30,20 +30,44 @@ pub record Stands (C : Program) (all : List Head) (n : ℕ) (ds : List Definitio
   pub is : IsFunctionOf all unit first end def function
   pub noted : Noted C first (sites_of (n + i) function.body)
 
-pub stands_at : (C : Program) (all : List Head) (n u w lo hi : ℕ) (ds : List Definition) (fs : List FunctionForm) (i : ℕ) (h : Head) → AreFunctionsOf all n u w lo hi ds fs → Noted C lo (all_sites n fs) → slice_get (heads_from n u ds) i ≡ Some h → Stands C all n ds fs i h
+pub stands_at : (C : Program) (all : List Head) (n u w lo hi : ℕ) (ds : List Definition) (fs : List FunctionForm) (i : ℕ) (h : Head) → AreFunctionsOf
+    all n u w lo hi ds fs → Noted C lo (all_sites n fs) → slice_get (heads_from n u ds) i ≡ Some h → Stands C all n ds fs i h
 stands_at C all n u w lo hi [] fs i h a noted e = absurd cc
 stands_at C all n u w lo hi (d ∷ ds) [] i h a noted e = absurd a
 stands_at C all n u w lo hi (d ∷ ds) (f ∷ fs) zero h (m, is, j, rest) noted e =
     let p = noted_parts C lo m (sites_of n f.body) (all_sites (suc n) fs) (has_length n (sees all (unit_of n u d)) (params_of d) true lo m (rewritten d.body) d.width f.body is.body) noted in
     let z : n ≡ n + 0 = omega arith in
-    record { def = d; function = f; unit = unit_of n u d; first = lo; end = m; defined = refl; stands = refl; head = sym (some_is _ h e); is = is; noted = subst (λ (g : ℕ). Noted C lo (sites_of g f.body)) z p.0 }
+    record {
+      def = d;
+      function = f;
+      unit = unit_of n u d;
+      first = lo;
+      end = m;
+      defined = refl;
+      stands = refl;
+      head = sym (some_is _ h e);
+      is = is;
+      noted = subst (λ (g : ℕ). Noted C lo (sites_of g f.body)) z p.0;
+    }
 stands_at C all n u w lo hi (d ∷ ds) (f ∷ fs) (suc i) h (m, is, j, rest) noted e =
     let p = noted_parts C lo m (sites_of n f.body) (all_sites (suc n) fs) (has_length n (sees all (unit_of n u d)) (params_of d) true lo m (rewritten d.body) d.width f.body is.body) noted in
     let z : suc n + i ≡ n + suc i = omega arith in
     let s = stands_at C all (suc n) (unit_of n u d) d.width m hi ds fs i h rest p.1 e in
-    record { def = s.def; function = s.function; unit = s.unit; first = s.first; end = s.end; defined = s.defined; stands = s.stands; head = s.head; is = s.is; noted = subst (λ (g : ℕ). Noted C s.first (sites_of g s.function.body)) z s.noted }
+    record {
+      def = s.def;
+      function = s.function;
+      unit = s.unit;
+      first = s.first;
+      end = s.end;
+      defined = s.defined;
+      stands = s.stands;
+      head = s.head;
+      is = s.is;
+      noted = subst (λ (g : ℕ). Noted C s.first (sites_of g s.function.body)) z s.noted;
+    }
 
-pub function_head : (all : List Head) (n u w lo hi : ℕ) (ds : List Definition) (fs : List FunctionForm) (i : ℕ) (f : FunctionForm) → AreFunctionsOf all n u w lo hi ds fs → slice_get fs i ≡ Some f → (h : Head) × (slice_get (heads_from n u ds) i ≡ Some h)
+pub function_head : (all : List Head) (n u w lo hi : ℕ) (ds : List Definition) (fs : List FunctionForm) (i : ℕ) (f : FunctionForm) → AreFunctionsOf
+    all n u w lo hi ds fs → slice_get fs i ≡ Some f → (h : Head) × (slice_get (heads_from n u ds) i ≡ Some h)
 function_head all n u w lo hi ds [] i f a e = absurd cc
 function_head all n u w lo hi [] (g ∷ fs) i f a e = absurd a
 function_head all n u w lo hi (d ∷ ds) (g ∷ fs) zero f a e = (head_of (unit_of n u d) d, refl)
@@ -96,7 +120,8 @@ module _ (ds : List Definition) (c : Form) (is : IsFormOf ds c) where
   body_sites i h s =
       let z : 0 + i ≡ i = omega arith in
       let n = subst (λ (t : Term). Noted (program_in c) s.first (sites_of i t)) (sym (body_is i h s)) (subst (λ (g : ℕ). Noted (program_in c) s.first (sites_of g s.function.body)) z s.noted) in
-      noted_sites (program_in c) i (sees (heads ds) s.unit) (λ j g e. unit_is j g (here j g e)) (unit_is i h s ∙ ap (λ (z : Head). z.unit) s.head) (params_of s.def) true s.first s.end (rewritten s.def.body) s.def.width ((program_in c).body i) (body_has i h s) n
+      noted_sites (program_in c) i (sees (heads ds) s.unit) (λ j g e. unit_is j g (here j g e)) (unit_is i h s ∙ ap (λ (z : Head). z.unit) s.head)
+      (params_of s.def) true s.first s.end (rewritten s.def.body) s.def.width ((program_in c).body i) (body_has i h s) n
 
   -- and of each function of the form
   pub function_sites : (i : ℕ) (f : FunctionForm) → slice_get c.functions i ≡ Some f → Sites (IsSiteIn (program_in c) i) f.body

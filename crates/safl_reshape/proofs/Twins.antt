@@ -7,7 +7,9 @@ use Rattle.safl_term.specs.Sizes.{max_bindings}
 use Rattle.safl_tree.specs.Tree as source
 use Rattle.safl_tree.specs.Tree.{Tree, Trees, Binds, Arms, place_of}
 use Rattle.safl_tree.specs.Places.{unplaced, unplaced_trees, unplaced_binds, unplaced_arms}
-use Rattle.safl_typing.specs.Rewriting.{Expression, Number, Sized, Variable, If, Let, Op, Call, Expressions, no_expression, an_expression, Bindings, no_binding, a_binding, Shape, Alike, Comparing, Shifting, Resizing, shape, flexible, all_flexible, takes_width, nodes, nodes_in, nodes_bound, rewritten, rewritten_all, rewritten_binds, rewritten_arms}
+use Rattle.safl_typing.specs.Rewriting.{Expression, Number, Sized, Variable, If, Let, Op, Call, Expressions, no_expression, an_expression, Bindings}
+use Rattle.safl_typing.specs.Rewriting.{no_binding, a_binding, Shape, Alike, Comparing, Shifting, Resizing, shape, flexible, all_flexible}
+use Rattle.safl_typing.specs.Rewriting.{takes_width, nodes, nodes_in, nodes_bound, rewritten, rewritten_all, rewritten_binds, rewritten_arms}
 use Rattle.safl_typing.specs.Heads.{Slot, Known}
 use Rattle.safl_typing.specs.Typing.{Differ, names, slots, Keeps, AllRigid, RigidOr, Shifts, Suits, Has, HaveAll, HaveBound}
 use Rattle.safl_typing.specs.Forms.{HasShortLets, HaveShortLets, HaveShortBound}
@@ -145,8 +147,17 @@ mutual
   twin_has k s tail lo hi w t twin_sized h = h
   twin_has k s tail lo hi w t twin_variable h = h
   twin_has k s tail lo hi w t (twin_choice c a b) (m, n, x, y, z, hc, ha, hb, q) = (m, n, x, y, z, twin_has k s false lo m 1 x c hc, twin_has k s tail m n w y a ha, twin_has k s tail n hi w z b hb, q)
-  twin_has k s tail lo hi w t (twin_binding {b' = b'} bs b) (m, ws, us, y, d, hs, hb, q) =
-      (m, ws, us, y, subst Differ (bound_names bs) d, bound_have k s lo m ws us bs hs, subst (λ (l : List Slot). Has k (s ++ l) tail m hi b' w y) (bound_slots ws bs) (twin_has k (s ++ slots _ ws) tail m hi w y b hb), q)
+  twin_has k s tail lo hi w t (twin_binding {b' = b'} bs b) (m, ws, us, y, d, hs, hb, q) = (
+    m,
+    ws,
+    us,
+    y,
+    subst Differ (bound_names bs) d,
+    bound_have k s lo m ws us bs hs,
+    subst (λ (l : List Slot). Has k (s ++ l) tail m hi b' w y)
+        (bound_slots ws bs) (twin_has k (s ++ slots _ ws) tail m hi w y b hb),
+    q,
+  )
   twin_has k s tail lo hi w t (twin_applied {o = o} es) (ws, us, hs, su, q) = (ws, us, twins_have k s lo hi ws us es hs, twins_suit (shape o) o ws w es su, q)
   twin_has k s tail lo hi w t (twin_called es) (m, ws, us, hs, q) = (m, ws, us, twins_have k s m hi ws us es hs, q)
 

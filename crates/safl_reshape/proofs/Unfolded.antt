@@ -30,7 +30,9 @@ use Rattle.safl_reshape.proofs.Meanings.{main_runs, main_ran, both_at, kept_leng
 
 pub heads_changed : (all : List Head) (ch : Change) (n u m y lo : ℕ) (ds : List Definition) → n ≡ m → u ≡ y → heads_from n u (changed_definitions all ch m y lo ds) ≡ heads_from n u ds
 heads_changed all ch n u m y lo [] e f = refl
-heads_changed all ch n u m y lo (d ∷ ds) e f = ap (λ (l : List Head). head_of (unit_of n u d) d ∷ l) (heads_changed all ch (suc n) (unit_of n u d) (suc m) (unit_of m y d) _ ds (ap (λ (x : ℕ). suc x) e) (ap (λ (x : ℕ). unit_of x u d) e ∙ ap (λ (x : ℕ). unit_of m x d) f))
+heads_changed all ch n u m y lo (d ∷ ds) e f = ap (λ (l : List Head). head_of (unit_of n u d) d ∷ l)
+    (heads_changed all ch (suc n) (unit_of n u d) (suc m) (unit_of m y d) _ ds (ap (λ (x : ℕ). suc x) e)
+    (ap (λ (x : ℕ). unit_of x u d) e ∙ ap (λ (x : ℕ). unit_of m x d) f))
 
 pub names_changed : (all : List Head) (ch : Change) (n u lo : ℕ) (ds : List Definition) → function_names (changed_definitions all ch n u lo ds) ≡ function_names ds
 names_changed all ch n u lo [] = refl
@@ -62,7 +64,8 @@ pub record IsShortDefinition (d : Definition) : Type 0 where
   pub params : length d.params ≤ max_params
   pub lets : HasShortLets (rewritten d.body)
 
-pub short_at : (all : List Head) (n u w lo hi : ℕ) (ds : List Definition) (fs : List FunctionForm) (i : ℕ) (d : Definition) → AreFunctionsOf all n u w lo hi ds fs → slice_get ds i ≡ Some d → IsShortDefinition d
+pub short_at : (all : List Head) (n u w lo hi : ℕ) (ds : List Definition) (fs : List FunctionForm) (i : ℕ) (d : Definition) → AreFunctionsOf all n u w
+    lo hi ds fs → slice_get ds i ≡ Some d → IsShortDefinition d
 short_at all n u w lo hi [] fs i d h e = absurd cc
 short_at all n u w lo hi (x ∷ ds) [] i d h e = absurd h
 short_at all n u w lo hi (x ∷ ds) (f ∷ fs) zero d (m, is, j, rest) e = subst IsShortDefinition (some_is x d e) (record { params = is.few_params; lets = is.short_lets })
@@ -142,7 +145,8 @@ module _ (ds : List Definition) (c : Form) (is : IsFormOf ds c) (k : ℕ) (alone
   unfolded_spares e ke one =
       let m : (program_in e).main ≡ C.main = main_is c e (kept_length C is_same at c.functions e.functions ke) in
       let o : C.callee 0 ≡ (program_in e).callee 0 = outer_is c ∙ (sym m ∙ sym (outer_is e)) in
-      let b = (λ (f g : ℕ) (q : f ≡ g). subst (λ (x : ℕ). Alike C is_same at 0 (arity C f) (C.body f) ((program_in e).body x)) q (alike_at c e is_same at f f (both_at C is_same at c.functions e.functions f ke))) in
+      let b = (λ (f g : ℕ) (q : f ≡ g). subst (λ (x : ℕ). Alike C is_same at 0 (arity C f) (C.body f) ((program_in e).body x)) q
+      (alike_at c e is_same at f f (both_at C is_same at c.functions e.functions f ke))) in
       record {
         params = ap (λ (x : ℕ). (program_in e).params x) m ∙ params_at c e is_same at C.main C.main (both_at C is_same at c.functions e.functions C.main ke);
         gives = λ args v d a. main_runs C (program_in e) is_same at b o (outer_is c) args v d a;

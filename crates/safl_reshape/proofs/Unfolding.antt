@@ -65,7 +65,8 @@ cond_place false t u p e f = f
 
 unfold_same : (ds : List Definition) (k : ℕ) (f : Callee) (lo p : ℕ) (x : List ℕ) (ts : Trees) → rewritten (unfolding_call ds k f lo p x ts) ≡ unfold_alteration ds k f lo p x (rewritten_all ts)
 unfold_same ds k (Member i h) lo p x ts = refl
-unfold_same ds k (Above i h) lo p x ts = cond_rewritten (lo == k) (unfolded_as (slice_get ds i) p x ts) (source.Call p x ts) (as_expression (slice_get ds i) p x (rewritten_all ts)) (Call p x (rewritten_all ts)) (as_rewritten (slice_get ds i) p x ts) refl
+unfold_same ds k (Above i h) lo p x ts = cond_rewritten (lo == k) (unfolded_as (slice_get ds i) p x ts) (source.Call p x ts)
+    (as_expression (slice_get ds i) p x (rewritten_all ts)) (Call p x (rewritten_all ts)) (as_rewritten (slice_get ds i) p x ts) refl
 unfold_same ds k Unknown lo p x ts = refl
 
 unfold_place : (ds : List Definition) (k : ℕ) (f : Callee) (lo p : ℕ) (x : List ℕ) (ts : Trees) → place_of (unfolding_call ds k f lo p x ts) ≡ p
@@ -101,7 +102,8 @@ module _ (ds : List Definition) (c : Form) (is : IsFormOf ds c) (k : ℕ) (alone
   lone : (i : ℕ) (h : Head) (s : Here ds c is i h) → slice_get (heads ds) i ≡ Some h → C.callee k ≡ i → calls is_member (sees (heads ds) s.unit) (rewritten s.def.body) ≡ false
   lone i h s e q =
       let r : is_recursive ds i ≡ false = subst (λ (x : ℕ). is_recursive ds x ≡ false) q alone in
-      let t : calls_group (heads ds) (Some h) (Some s.def) ≡ false = subst (λ (o : Option Definition). calls_group (heads ds) (Some h) o ≡ false) s.defined (subst (λ (o : Option Head). calls_group (heads ds) o (slice_get ds i) ≡ false) e r) in
+      let t : calls_group (heads ds) (Some h) (Some s.def) ≡ false = subst (λ (o : Option Definition). calls_group (heads ds) (Some h) o ≡ false)
+      s.defined (subst (λ (o : Option Head). calls_group (heads ds) o (slice_get ds i) ≡ false) e r) in
       subst (λ (u : ℕ). calls is_member (sees (heads ds) u) (rewritten s.def.body) ≡ false) (ap (λ (z : Head). z.unit) s.head) t
 
   other_sites : (i : ℕ) (h : Head) (s : Here ds c is i h) → C.callee k ≡ i → Sites (λ j f. at j ≡ false) (C.body i)
@@ -114,8 +116,10 @@ module _ (ds : List Definition) (c : Form) (is : IsFormOf ds c) (k : ℕ) (alone
   body_of i h s e q = record { first = s.first; end = s.end; has = body_has ds c is i h s; alone = lone i h s e q; within = other_sites i h s q; differ = s.is.params_differ }
 
   module _ (v : ℕ) where
-    here_unfolded : (s : List Slot) (n : ℕ) (end : Bool) (p : ℕ) (x : List ℕ) (fs : Expressions) (lo : ℕ) (ws : List ℕ) (us : Terms) (w from i : ℕ) (h : Head) → IsCallee (sees (heads ds) v) x (Above i h) → C.callee lo ≡ i → length s ≡ n → count us ≡ length ws → ws ≡ widths_of h.params → h.width ≡ w
-        → ((z : ℕ) → AllMovedIn C is_same at (sees (heads ds) (v + 0)) [] s n z fs ws us) → lo ≡ k → MovedIn C is_same at (sees (heads ds) (v + 0)) [] s n end from (as_expression (slice_get ds i) p x fs) w (terms.Call i lo us)
+    here_unfolded : (s : List Slot) (n : ℕ) (end : Bool) (p : ℕ) (x : List ℕ) (fs : Expressions) (lo : ℕ) (ws : List ℕ) (us : Terms) (w from i : ℕ)
+        (h : Head) → IsCallee (sees (heads ds) v) x (Above i h) → C.callee lo ≡ i → length s ≡ n → count us ≡ length ws → ws ≡ widths_of h.params → h.width ≡ w
+        → ((z : ℕ) → AllMovedIn C is_same at (sees (heads ds) (v + 0)) [] s n z fs ws us) → lo ≡ k → MovedIn C is_same at (sees (heads ds) (v + 0)) []
+        s n end from (as_expression (slice_get ds i) p x fs) w (terms.Call i lo us)
     here_unfolded s n end p x fs lo ws us w from i h ic sc l ar ew eh args e =
         let st = here ds c is i h ic.0.head in
         let hu : h.unit ≡ st.unit = ap (λ (z : Head). z.unit) st.head in
@@ -125,26 +129,36 @@ module _ (ds : List Definition) (c : Form) (is : IsFormOf ds c) (k : ℕ) (alone
         let wp : ws ≡ widths_of (slots_of st.def.params) = ew ∙ ap (λ (z : List Slot). widths_of z) hp in
         let cn : count us ≡ length (slots_of st.def.params) = ar ∙ (ap (λ (z : List ℕ). length z) wp ∙ widths_length (slots_of st.def.params)) in
         let on : at lo ≡ true = eq-eqb lo k e in
-        let r = call_unfolded C at (heads ds) st.unit (v + 0) (is_program ds c is) lt i st.def.width (rewritten st.def.body) st.def.params (body_of i h st ic.0.head (ap C.callee (sym e) ∙ sc)) [] s end from p fs lo us w on hw
-        (λ z. subst (λ (y : List ℕ). AllMovedIn C is_same at (sees (heads ds) (v + 0)) [] s (length s) z fs y us) wp (subst (λ (y : ℕ). AllMovedIn C is_same at (sees (heads ds) (v + 0)) [] s y z fs ws us) (sym l) (args z))) cn in
+        let r = call_unfolded C at (heads ds) st.unit (v + 0) (is_program ds c is) lt i st.def.width (rewritten st.def.body) st.def.params
+        (body_of i h st ic.0.head (ap C.callee (sym e) ∙ sc)) [] s end from p fs lo us w on hw
+        (λ z. subst (λ (y : List ℕ). AllMovedIn C is_same at (sees (heads ds) (v + 0)) [] s (length s) z fs y us) wp
+        (subst (λ (y : ℕ). AllMovedIn C is_same at (sees (heads ds) (v + 0)) [] s y z fs ws us) (sym l) (args z))) cn in
         subst (λ (o : Option Definition). MovedIn C is_same at (sees (heads ds) (v + 0)) [] s n end from (as_expression o p x fs) w (terms.Call i lo us)) (sym st.defined)
         (subst (λ (y : ℕ). MovedIn C is_same at (sees (heads ds) (v + 0)) [] s y end from (unfolded_expression p st.def.params st.def.width fs (rewritten st.def.body)) w (terms.Call i lo us)) l r)
 
-    if_site : (first : ℕ) (on : Bool) → (first == k) ≡ on → (s : List Slot) (n : ℕ) (end : Bool) (p : ℕ) (x : List ℕ) (fs : Expressions) (lo : ℕ) (ws : List ℕ) (us : Terms) (w from i : ℕ) (h : Head) → callee (sees (heads ds) v) x ≡ Above i h → IsCallee (sees (heads ds) v) x (Above i h) → C.callee lo ≡ i → length s ≡ n → count us ≡ length ws → ws ≡ widths_of h.params → h.width ≡ w
-        → ((z : ℕ) → AllMovedIn C is_same at (sees (heads ds) (v + 0)) [] s n z fs ws us) → first ≡ lo → MovedIn C is_same at (sees (heads ds) (v + 0)) [] s n end from (cond on (as_expression (slice_get ds i) p x fs) (Call p x fs)) w (terms.Call i lo us)
+    if_site : (first : ℕ) (on : Bool) → (first == k) ≡ on → (s : List Slot) (n : ℕ) (end : Bool) (p : ℕ) (x : List ℕ) (fs : Expressions) (lo : ℕ)
+        (ws : List ℕ) (us : Terms) (w from i : ℕ) (h : Head) → callee (sees (heads ds) v) x ≡ Above i h → IsCallee (sees (heads ds) v) x (Above i h) →
+        C.callee lo ≡ i → length s ≡ n → count us ≡ length ws → ws ≡ widths_of h.params → h.width ≡ w
+        → ((z : ℕ) → AllMovedIn C is_same at (sees (heads ds) (v + 0)) [] s n z fs ws us) → first ≡ lo → MovedIn C is_same at
+        (sees (heads ds) (v + 0)) [] s n end from (cond on (as_expression (slice_get ds i) p x fs) (Call p x fs)) w (terms.Call i lo us)
     if_site first true t s n end p x fs lo ws us w from i h cal ic sc l ar ew eh args f = here_unfolded s n end p x fs lo ws us w from i h ic sc l ar ew eh args (sym f ∙ eqb-true first k t)
     if_site first false t s n end p x fs lo ws us w from i h cal ic sc l ar ew eh args f =
         let e0 : v ≡ v + 0 = omega arith in
         let cal0 = subst (λ (y : ℕ). callee (sees (heads ds) y) x ≡ Above i h) e0 cal in
         let off : at lo ≡ false = ap at (sym f) ∙ t in
-        stays_above C is_same at (sees (heads ds) (v + 0)) [] s n end from p x fs i i lo h ws us w cal0 ew eh off refl (ar ∙ (ap (λ (z : List ℕ). length z) ew ∙ (is_program ds c is).arities i h ic.0.head)) (args (suc from))
+        stays_above C is_same at (sees (heads ds) (v + 0)) [] s n end from p x fs i i lo h ws us w cal0 ew eh off refl
+        (ar ∙ (ap (λ (z : List ℕ). length z) ew ∙ (is_program ds c is).arities i h ic.0.head)) (args (suc from))
 
   pub unfold_move : (v : ℕ) → CallsMove C is_same at (sees (heads ds) v) (sees (heads ds) (v + 0)) (unfold_alteration ds k) [] same_tail no_callee (λ j f. C.callee j ≡ f)
   unfold_move v = λ s n tail end p x es fs lo m hi ws us w t nm si may l hs q args first f from.
       by s n tail end p x es fs lo m hi ws us w t from first (callee (sees (heads ds) v) x) refl (is_callee (sees (heads ds) v) x) si may l hs q args f
     where
-      by : (s : List Slot) (n : ℕ) (tail end : Bool) (p : ℕ) (x : List ℕ) (es fs : Expressions) (lo m hi : ℕ) (ws : List ℕ) (us : Terms) (w : ℕ) (t : Term) (from first : ℕ) (g : Callee) → callee (sees (heads ds) v) x ≡ g → IsCallee (sees (heads ds) v) x g → Sites (λ j f. C.callee j ≡ f) t → same_tail tail end → length s ≡ n
-          → HaveAll (sees (heads ds) v) s m hi es ws us → Calls g tail lo m ws us w t → ((z : ℕ) → AllMovedIn C is_same at (sees (heads ds) (v + 0)) [] s n z fs ws us) → first ≡ lo → MovedIn C is_same at (sees (heads ds) (v + 0)) [] s n end from (unfold_alteration ds k g first p x fs) w t
+      by : (s : List Slot) (n : ℕ) (tail end : Bool) (p : ℕ) (x : List ℕ) (es fs : Expressions) (lo m hi : ℕ) (ws : List ℕ) (us : Terms) (w : ℕ)
+          (t : Term) (from first : ℕ) (g : Callee) → callee (sees (heads ds) v) x ≡ g → IsCallee (sees (heads ds) v) x g → Sites
+          (λ j f. C.callee j ≡ f) t → same_tail tail end → length s ≡ n
+          → HaveAll (sees (heads ds) v) s m hi es ws us → Calls g tail lo m ws us w t →
+          ((z : ℕ) → AllMovedIn C is_same at (sees (heads ds) (v + 0)) [] s n z fs ws us) → first ≡ lo → MovedIn C is_same at
+          (sees (heads ds) (v + 0)) [] s n end from (unfold_alteration ds k g first p x fs) w t
       by s n tail end p x es fs lo m hi ws us w t from first (Member i h) cal ic si may l hs q args f =
           let e0 : v ≡ v + 0 = omega arith in
           let cal0 = subst (λ (y : ℕ). callee (sees (heads ds) y) x ≡ Member i h) e0 cal in

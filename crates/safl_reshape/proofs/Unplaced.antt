@@ -2,7 +2,8 @@
 use Rattle.std.proofs.Common.{◌≡◌, ℕ, suc, ◌+◌, ◌≤◌, max, List, [], ◌∷◌, length, map, Bool, true, refl, sym, ap, ◌∙◌, subst, arith}
 use Rattle.std.specs.Prelude.{codes}
 use Rattle.std.specs.List.{AllByRecursion}
-use Rattle.safl_tree.specs.Tree.{Tree, Number, Sized, Variable, If, Let, Cases, Op, Call, Trees, no_tree, a_tree, Binds, no_bind, a_bind, Arms, default_arm, an_arm, Parameter, Definition, depth, deepest, deepest_bind, deepest_arm}
+use Rattle.safl_tree.specs.Tree.{Tree, Number, Sized, Variable, If, Let, Cases, Op, Call, Trees, no_tree, a_tree, Binds, no_bind, a_bind, Arms}
+use Rattle.safl_tree.specs.Tree.{default_arm, an_arm, Parameter, Definition, depth, deepest, deepest_bind, deepest_arm}
 use Rattle.safl_tree.specs.Places.{unplaced, unplaced_trees, unplaced_binds, unplaced_arms, unplaced_parameter, unplaced_definition, unplaced_program}
 use Rattle.safl_typing.specs.Rewriting.{rewritten}
 use Rattle.safl_typing.specs.Heads.{Slot, Head, Known, unit_of, slot_of, params_of, head_of, heads_from, heads}
@@ -129,7 +130,8 @@ same_function all u lo hi d e f s is =
       body = subst (λ (l : List Slot). Has k l true lo hi (rewritten e.body) e.width f.body) s.params (subst (λ (w : ℕ). Has k (params_of d) true lo hi (rewritten e.body) w f.body) s.width b);
     }
 
-same_forms : (all : List Head) (n u v w x lo hi : ℕ) (ds es : List Definition) (fs : List FunctionForm) → u ≡ v → w ≡ x → AllSame ds es → AreFunctionsOf all n u w lo hi ds fs → AreFunctionsOf all n v x lo hi es fs
+same_forms : (all : List Head) (n u v w x lo hi : ℕ) (ds es : List Definition) (fs : List FunctionForm) → u ≡ v → w ≡ x → AllSame ds es →
+    AreFunctionsOf all n u w lo hi ds fs → AreFunctionsOf all n v x lo hi es fs
 same_forms all n u v w x lo hi [] [] fs p q s h = h
 same_forms all n u v w x lo hi [] (e ∷ es) fs p q s h = absurd s
 same_forms all n u v w x lo hi (d ∷ ds) [] fs p q s h = absurd s
@@ -145,7 +147,8 @@ same_forms all n u v w x lo hi (d ∷ ds) (e ∷ es) (f ∷ fs) p q (s, r) (m, i
 same_form : (ds es : List Definition) (c : Form) → AllSame ds es → IsFormOf ds c → IsFormOf es c
 same_form ds es c s is = record {
   last_site = is.last_site;
-  functions = subst (λ (l : List Head). AreFunctionsOf l 0 0 0 1 (suc is.last_site) es c.functions) (same_heads 0 0 ds es s) (same_forms (heads ds) 0 0 0 0 0 1 (suc is.last_site) ds es c.functions refl refl s is.functions);
+  functions = subst (λ (l : List Head). AreFunctionsOf l 0 0 0 1 (suc is.last_site) es c.functions) (same_heads 0 0 ds es s)
+      (same_forms (heads ds) 0 0 0 0 0 1 (suc is.last_site) ds es c.functions refl refl s is.functions);
   sites = is.sites;
   functions_differ = subst Differ (same_functions ds es s) is.functions_differ;
   main = same_last (codes "main") ds es s is.main;
@@ -157,7 +160,8 @@ same_form ds es c s is = record {
 -- a form is one of the program without its places, and so of each program that differs from it in places alone
 pub form_without_places : (ds es : List Definition) (c : Form) → unplaced_program ds ≡ unplaced_program es → IsFormOf ds c → IsFormOf es c
 form_without_places ds es c e is =
-    same_form (unplaced_program es) es c (all_back es (unplaced_program es) (unplaced_same es)) (subst (λ (l : List Definition). IsFormOf l c) e (same_form ds (unplaced_program ds) c (unplaced_same ds) is))
+    same_form (unplaced_program es) es c (all_back es (unplaced_program es) (unplaced_same es))
+    (subst (λ (l : List Definition). IsFormOf l c) e (same_form ds (unplaced_program ds) c (unplaced_same ds) is))
 
 -- ---- depths
 

@@ -19,7 +19,8 @@ use Rattle.safl_run.specs.Steps.{IsGoing}
 pub going_none : (n : Netlist) (state : ℕ → ℕ) (args : List Word) → IsGoing n state args [] state
 going_none n state args = record { call = record { run = tt; zeros = λ c v e. absurd (cc) }; not_done = λ c v e. absurd (cc); after = λ s. refl }
 
-goes_more : (n : Netlist) (state now : ℕ → ℕ) (vs : List Valuation) (v : Valuation) → GoesOn n state vs → ((s : ℕ) → now s ≡ state_after n state vs s) → Fits n now v → start_number n v ≡ 0 → GoesOn n state (vs ++ v ∷ [])
+goes_more : (n : Netlist) (state now : ℕ → ℕ) (vs : List Valuation) (v : Valuation) → GoesOn n state vs → ((s : ℕ) → now s ≡ state_after n state vs s)
+    → Fits n now v → start_number n v ≡ 0 → GoesOn n state (vs ++ v ∷ [])
 goes_more n state now [] v g e f s = (fits_along n now state v e f, s, tt)
 goes_more n state now (u ∷ vs) v g e f s = (g.0, g.1, goes_more n (next_state n u) now vs v g.2 e f s)
 
@@ -36,7 +37,8 @@ module _ (n : Netlist) (args : List Word) (whole : IsWhole n) (are : AreArgument
   abbrev pub Given : ℕ → Valuation → Type 0
   Given c v = HasWords n v (words_of c (input_words n.signals (bit_word 1) args) (input_words n.signals (bit_word 0) (map zero_of args)))
 
-  pub call_more : (state now : ℕ → ℕ) (vs : List Valuation) (v : Valuation) → IsCallRun n state args vs → ((s : ℕ) → now s ≡ state_after n state vs s) → Fits n now v → Given (length vs) v → IsCallRun n state args (vs ++ v ∷ [])
+  pub call_more : (state now : ℕ → ℕ) (vs : List Valuation) (v : Valuation) → IsCallRun n state args vs → ((s : ℕ) → now s ≡ state_after n state vs s)
+      → Fits n now v → Given (length vs) v → IsCallRun n state args (vs ++ v ∷ [])
   call_more state now [] v call e f w =
       let h = words_had n 1 args v whole are f.full w in
       record { run = (fits_along n now state v e f, h.0, h.1, tt); zeros = λ c u q. absurd (cc) }
@@ -52,7 +54,8 @@ module _ (n : Netlist) (args : List Word) (whole : IsWhole n) (are : AreArgument
       }
 
   -- one more cycle in which `done` is 0
-  pub going_more : (state now after : ℕ → ℕ) (vs : List Valuation) (v : Valuation) → IsGoing n state args vs now → Fits n now v → Given (length vs) v → read_output n v (codes "done") ≡ 0 → ((s : ℕ) → after s ≡ next_state n v s)
+  pub going_more : (state now after : ℕ → ℕ) (vs : List Valuation) (v : Valuation) → IsGoing n state args vs now → Fits n now v → Given (length vs) v
+      → read_output n v (codes "done") ≡ 0 → ((s : ℕ) → after s ≡ next_state n v s)
       → IsGoing n state args (vs ++ v ∷ []) after
   going_more state now after vs v g f w off e = record {
     call = call_more state now vs v g.call g.after f w;

@@ -35,7 +35,8 @@ is_harness n h whole made is_room d r =
     }
 
 -- the words of a call, with the arguments put round the word 1
-module _ (n : Netlist) (h : Harness) (kept : IsHarness n h) (args : List Word) (are : AreArguments n args) (words : List Word) (put : words ≡ take h.room.start args ++ bit_word 1 ∷ drop h.room.start args) where
+module _ (n : Netlist) (h : Harness) (kept : IsHarness n h) (args : List Word) (are : AreArguments n args) (words : List Word)
+    (put : words ≡ take h.room.start args ++ bit_word 1 ∷ drop h.room.start args) where
   put_long : length words ≡ length args + 1
   put_long =
       let within = kept.is_room.within args are in

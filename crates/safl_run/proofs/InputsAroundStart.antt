@@ -1,5 +1,6 @@
 -- The words of the inputs, round the place of `start`.
-use Rattle.std.proofs.Common.{◌≡◌, ℕ, zero, suc, ◌+◌, ◌-◌, ◌<◌, ◌≤◌, List, [], ◌∷◌, ◌++◌, map, length, take, drop, Bool, true, false, cond, Some, slice_get, slice_set, refl, sym, ap, subst, ◌∙◌, arith, codes, append_assoc, Vec, Global}
+use Rattle.std.proofs.Common.{◌≡◌, ℕ, zero, suc, ◌+◌, ◌-◌, ◌<◌, ◌≤◌, List, [], ◌∷◌, ◌++◌, map, length, take, drop, Bool, true, false, cond, Some}
+use Rattle.std.proofs.Common.{slice_get, slice_set, refl, sym, ap, subst, ◌∙◌, arith, codes, append_assoc, Vec, Global}
 use Rattle.std.specs.Option.{option_or}
 use Rattle.std.specs.Vec.{with_item}
 use Rattle.std.proofs.lemmas.List.{append-nil, length-set, length-drop, length-take-le, take_at, drop_all}
@@ -51,13 +52,15 @@ no_start [] w [] none e = (refl, refl)
 no_start [] w (x ∷ args) none e = absurd (cc)
 no_start (g ∷ gs) w args none e = on g.kind args e (λ rest a. no_start gs w rest (λ t h at named. none (suc t) h at named) a)
   where
-    one : (b : Bool) → is_start g.name ≡ b → (args : List Word) → widths args ≡ cond (cond b false true) (g.width ∷ argument_widths gs) (argument_widths gs) → ((rest : List Word) → widths rest ≡ argument_widths gs → Plain gs w rest)
+    one : (b : Bool) → is_start g.name ≡ b → (args : List Word) → widths args ≡ cond (cond b false true) (g.width ∷ argument_widths gs)
+        (argument_widths gs) → ((rest : List Word) → widths rest ≡ argument_widths gs → Plain gs w rest)
         → (own_word Input b w args ++ input_words gs w (others Input b args) ≡ args) × (suc (length (zeros_of gs)) ≡ length args)
     one true named args e rest = absurd (none 0 g refl named)
     one false named [] e rest = absurd (cc)
     one false named (x ∷ args) e rest = let r = rest args (cc) in (ap (λ l. x ∷ l) r.0, ap suc r.1)
 
-    on : (k : Kind) (args : List Word) → widths args ≡ cond (is_argument g.name k) (g.width ∷ argument_widths gs) (argument_widths gs) → ((rest : List Word) → widths rest ≡ argument_widths gs → Plain gs w rest)
+    on : (k : Kind) (args : List Word) → widths args ≡ cond (is_argument g.name k) (g.width ∷ argument_widths gs) (argument_widths gs) →
+        ((rest : List Word) → widths rest ≡ argument_widths gs → Plain gs w rest)
         → (own_word k (is_start g.name) w args ++ input_words gs w (others k (is_start g.name) args) ≡ args) × (length (own_zero k g.width ++ zeros_of gs) ≡ length args)
     on Input args e rest = one (is_start g.name) refl args e rest
     on (Reg init next) args e rest = rest args e
@@ -69,7 +72,8 @@ record Placed (place count : ℕ) (words : List Word) (w : Word) (args : List Wo
   pub long : count ≡ length args + 1
   pub are : words ≡ take place args ++ w ∷ drop place args
 
-at_start : (gs : List Signal) (s : ℕ) (w : Word) (args : List Word) → OneStart gs s → widths args ≡ argument_widths gs → Placed (length (zeros_of (take s gs))) (length (zeros_of gs)) (input_words gs w args) w args
+at_start : (gs : List Signal) (s : ℕ) (w : Word) (args : List Word) → OneStart gs s → widths args ≡ argument_widths gs → Placed
+    (length (zeros_of (take s gs))) (length (zeros_of gs)) (input_words gs w args) w args
 unfolding argument_widths input_words zeros_of
 at_start [] s w args o e = absurd (let q = o.at in cc)
 at_start (g ∷ gs) zero w args o e =
@@ -104,13 +108,15 @@ at_start (g ∷ gs) (suc s) w args o e = on g.kind args e (λ rest a. at_start g
 
     on : (k : Kind) (args : List Word) → widths args ≡ cond (is_argument g.name k) (g.width ∷ argument_widths gs) (argument_widths gs)
         → ((rest : List Word) → widths rest ≡ argument_widths gs → Placed (length (zeros_of (take s gs))) (length (zeros_of gs)) (input_words gs w rest) w rest)
-        → Placed (length (own_zero k g.width ++ zeros_of (take s gs))) (length (own_zero k g.width ++ zeros_of gs)) (own_word k (is_start g.name) w args ++ input_words gs w (others k (is_start g.name) args)) w args
+        → Placed (length (own_zero k g.width ++ zeros_of (take s gs))) (length (own_zero k g.width ++ zeros_of gs))
+        (own_word k (is_start g.name) w args ++ input_words gs w (others k (is_start g.name) args)) w args
     on Input args e rest = one (is_start g.name) refl args e rest
     on (Reg init next) args e rest = rest args e
     on (Wire cell) args e rest = rest args e
 
 -- the zeros are the words of a later cycle
-zero_words : (gs : List Signal) (args : List Word) → ((t : ℕ) (g : Signal) → slice_get gs t ≡ Some g → is_start g.name ≡ true → g.width ≡ 1) → widths args ≡ argument_widths gs → zeros_of gs ≡ input_words gs (bit_word 0) (map zero_of args)
+zero_words : (gs : List Signal) (args : List Word) → ((t : ℕ) (g : Signal) → slice_get gs t ≡ Some g → is_start g.name ≡ true → g.width ≡ 1) → widths
+    args ≡ argument_widths gs → zeros_of gs ≡ input_words gs (bit_word 0) (map zero_of args)
 unfolding argument_widths input_words zeros_of
 zero_words [] [] bit e = refl
 zero_words [] (x ∷ args) bit e = refl
@@ -184,7 +190,8 @@ module _ (n : Netlist) (made : IsNetlist n) (whole : IsWhole n) where
       let b = p.long in
       omega (arith, a, b)
 
-  pub is_room : (k : ℕ) (first later : Vec Word Global) (w : Word) → k ≡ place → first.items ≡ zeros_of n.signals → later.items ≡ zeros_of n.signals → w ≡ bit_word 1 → IsRoom n (record { first = with_item first k w; later = later; start = k })
+  pub is_room : (k : ℕ) (first later : Vec Word Global) (w : Word) → k ≡ place → first.items ≡ zeros_of n.signals → later.items ≡ zeros_of n.signals →
+      w ≡ bit_word 1 → IsRoom n (record { first = with_item first k w; later = later; start = k })
   is_room k first later w here f l one = record {
     one = set_here first.items k w (let a = place_inside in let b = ap length f in omega (arith, a, b, here)) ∙ ap Some one;
     within = λ args are. subst (λ x. x ≤ length args) (sym here) (place_within args are);

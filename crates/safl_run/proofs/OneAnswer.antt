@@ -62,7 +62,8 @@ zero_or_one zero h = inl refl
 zero_or_one (suc zero) h = inr refl
 zero_or_one (suc (suc x)) h = absurd (omega (arith, h))
 
-look : (done : Valuation → ℕ) (vs : List Valuation) → ((c : ℕ) (v : Valuation) → slice_get vs c ≡ Some v → done v < 2) → ((c : ℕ) (v : Valuation) → slice_get vs c ≡ Some v → done v ≡ 0) ⊎ Comes done vs
+look : (done : Valuation → ℕ) (vs : List Valuation) → ((c : ℕ) (v : Valuation) → slice_get vs c ≡ Some v → done v < 2) →
+    ((c : ℕ) (v : Valuation) → slice_get vs c ≡ Some v → done v ≡ 0) ⊎ Comes done vs
 look done [] small = inl (λ c v e. absurd (cc))
 look done (u ∷ vs) small = by (zero_or_one (done u) (small 0 u refl)) (look done vs (λ c v e. small (suc c) v e))
   where
@@ -70,7 +71,8 @@ look done (u ∷ vs) small = by (zero_or_one (done u) (small 0 u refl)) (look do
     push off us rest zero v e = let q : u ≡ v = cc in subst (λ x. done x ≡ 0) q off
     push off us rest (suc c) v e = rest c v e
 
-    by : (done u ≡ 0) ⊎ (done u ≡ 1) → ((c : ℕ) (v : Valuation) → slice_get vs c ≡ Some v → done v ≡ 0) ⊎ Comes done vs → ((c : ℕ) (v : Valuation) → slice_get (u ∷ vs) c ≡ Some v → done v ≡ 0) ⊎ Comes done (u ∷ vs)
+    by : (done u ≡ 0) ⊎ (done u ≡ 1) → ((c : ℕ) (v : Valuation) → slice_get vs c ≡ Some v → done v ≡ 0) ⊎ Comes done vs →
+        ((c : ℕ) (v : Valuation) → slice_get (u ∷ vs) c ≡ Some v → done v ≡ 0) ⊎ Comes done (u ∷ vs)
     by (inr on) rest = inr (record { before = []; last = u; rest = vs; is = refl; not_done = λ c v e. absurd (cc); on = on })
     by (inl off) (inl rest) = inl (push off vs rest)
     by (inl off) (inr s) = inr (record { before = u ∷ s.before; last = s.last; rest = s.rest; is = ap (λ l. u ∷ l) s.is; not_done = push off s.before s.not_done; on = s.on })
@@ -125,7 +127,8 @@ module _ (n : Netlist) where
 
 -- ---- there is an answer
 
-module _ (n : Netlist) (made : IsNetlist n) (whole : IsWhole n) (acyclic : IsAcyclic n) (limit : ℕ) (state : ℕ → ℕ) (fit : FitWidths n state) (args : List Word) (words : AreWords args) (are : AreArguments n args) where
+module _ (n : Netlist) (made : IsNetlist n) (whole : IsWhole n) (acyclic : IsAcyclic n) (limit : ℕ) (state : ℕ → ℕ) (fit : FitWidths n state)
+    (args : List Word) (words : AreWords args) (are : AreArguments n args) where
   answered_by : (vs : List Valuation) → IsCallRun n state args vs → length vs ≡ limit
       → ((c : ℕ) (v : Valuation) → slice_get vs c ≡ Some v → read_output n v (codes "done") ≡ 0) ⊎ Comes (λ v. read_output n v (codes "done")) vs
       → (answer : Option Done) × (after : ℕ → ℕ) × Answers n limit state args answer after × FitWidths n after
@@ -159,7 +162,8 @@ answers_exist n made whole acyclic limit state fit args words are = answered n m
 
 module _ (n : Netlist) (made : IsNetlist n) (whole : IsWhole n) (acyclic : IsAcyclic n) (limit : ℕ) (state : ℕ → ℕ) (args : List Word) where
   -- where a reply comes, `done` is 1 in each call
-  never : (r : Done) (after : ℕ → ℕ) → Replies n limit state args r after → (vs : List Valuation) → IsCallRun n state args vs → (v : Valuation) → slice_get vs r.cycle ≡ Some v → read_output n v (codes "done") ≡ 0 → ⊥
+  never : (r : Done) (after : ℕ → ℕ) → Replies n limit state args r after → (vs : List Valuation) → IsCallRun n state args vs → (v : Valuation) →
+      slice_get vs r.cycle ≡ Some v → read_output n v (codes "done") ≡ 0 → ⊥
   never r after p vs call v at off =
       let same : v ≡ p.last = same_at n made whole acyclic state args (p.before ++ p.last ∷ []) vs p.call call r.cycle p.last v (at_end p.before p.last [] r.cycle p.long) at in
       let zero_then : read_output n p.last (codes "done") ≡ 0 = subst (λ w. read_output n w (codes "done") ≡ 0) same off in
@@ -195,7 +199,8 @@ module _ (n : Netlist) (made : IsNetlist n) (whole : IsWhole n) (acyclic : IsAcy
       by (inl h) = absurd (not_sooner r q x y p s h)
       by (inr (inl c)) =
           let same : s.last ≡ p.last =
-          same_at n made whole acyclic state args (p.before ++ p.last ∷ []) (s.before ++ s.last ∷ []) p.call s.call r.cycle p.last s.last (at_end p.before p.last [] r.cycle p.long) (at_end s.before s.last [] r.cycle (s.long ∙ sym c)) in
+          same_at n made whole acyclic state args (p.before ++ p.last ∷ []) (s.before ++ s.last ∷ []) p.call s.call r.cycle p.last s.last
+          (at_end p.before p.last [] r.cycle p.long) (at_end s.before s.last [] r.cycle (s.long ∙ sym c)) in
           (done_is r q c (p.result ∙ ap (λ v. output_word n v (codes "result")) (sym same) ∙ sym s.result), λ t. p.leads t ∙ ap (λ v. next_state n v t) (sym same) ∙ sym (s.leads t))
       by (inr (inr h)) = absurd (not_sooner q r y x s p h)
 
@@ -210,7 +215,8 @@ answers_once n made whole acyclic limit state args a b x y p q = once n made who
 
 -- ---- from reset
 
-pub outcome : (n : Netlist) → IsNetlist n → IsWhole n → IsAcyclic n → (args : List Word) (limit : ℕ) (answer : Option Done) (after : ℕ → ℕ) → Answers n limit (reset_state n) args answer after → IsOutcome n args limit answer
+pub outcome : (n : Netlist) → IsNetlist n → IsWhole n → IsAcyclic n → (args : List Word) (limit : ℕ) (answer : Option Done) (after : ℕ → ℕ) → Answers
+    n limit (reset_state n) args answer after → IsOutcome n args limit answer
 outcome n made whole acyclic args limit None after a = record { run = a.cycles; only = only_run n made whole acyclic args a.cycles limit a.call a.long; never = a.not_done }
 outcome n made whole acyclic args limit (Some d) after a = record {
   in_time = a.in_time;
@@ -235,7 +241,8 @@ pub call_along : (n : Netlist) (state other : ℕ → ℕ) (args : List Word) (v
 call_along n state other args [] e call = record { run = tt; zeros = call.zeros }
 call_along n state other args (v ∷ vs) e call = let r = call.run in record { run = (fits_along n state other v e r.0, r.1, r.2, r.3); zeros = call.zeros }
 
-pub answers_along : (n : Netlist) (limit : ℕ) (state other : ℕ → ℕ) (args : List Word) (answer : Option Done) (after : ℕ → ℕ) → ((s : ℕ) → state s ≡ other s) → Answers n limit state args answer after → Answers n limit other args answer after
+pub answers_along : (n : Netlist) (limit : ℕ) (state other : ℕ → ℕ) (args : List Word) (answer : Option Done) (after : ℕ → ℕ) →
+    ((s : ℕ) → state s ≡ other s) → Answers n limit state args answer after → Answers n limit other args answer after
 answers_along n limit state other args None after e a = record { cycles = a.cycles; call = call_along n state other args a.cycles e a.call; long = a.long; not_done = a.not_done }
 answers_along n limit state other args (Some d) after e a = record {
   in_time = a.in_time;

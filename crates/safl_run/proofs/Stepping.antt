@@ -12,7 +12,8 @@ use Rattle.safl_run.specs.Steps.{IsCalled, IsGoing, Goes}
 
 -- a step, where the net is known by another name
 pub goes_along : (n : Netlist) (state : ℕ → ℕ) (args : List Word) (frames : List Valuation) (h : Harness) (cycle : ℕ) (old new : Simulation) (answer : Option Done) → old.net ≡ n
-    → ((state : ℕ → ℕ) (args : List Word) (frames : List Valuation) → IsCalled old.net args h → length frames ≡ cycle → IsGoing old.net state args frames (slice_index old.state) → Goes old.net state args frames new answer)
+    → ((state : ℕ → ℕ) (args : List Word) (frames : List Valuation) → IsCalled old.net args h → length frames ≡ cycle → IsGoing old.net state args
+    frames (slice_index old.state) → Goes old.net state args frames new answer)
     → IsCalled n args h → length frames ≡ cycle → IsGoing n state args frames (slice_index old.state) → Goes n state args frames new answer
 goes_along n state args frames h cycle old new answer net f =
     subst (λ m. IsCalled m args h → length frames ≡ cycle → IsGoing m state args frames (slice_index old.state) → Goes m state args frames new answer) net (f state args frames)

@@ -44,7 +44,8 @@ held_none o calls limit sink ready = record {
 }
 
 -- the arguments of the next call fit its net
-pub next_arguments : (o : Opened) (calls : List (List Word)) (limit i : ℕ) (now : Opened) (old mid : SinkState) (args : List Word) → AreCallsOf o.net calls → HeldTo o calls limit i now old mid → slice_get calls i ≡ Some args
+pub next_arguments : (o : Opened) (calls : List (List Word)) (limit i : ℕ) (now : Opened) (old mid : SinkState) (args : List Word) → AreCallsOf o.net
+    calls → HeldTo o calls limit i now old mid → slice_get calls i ≡ Some args
     → AreArguments now.net args
 next_arguments o calls limit i now old mid args are h at =
     subst (λ (x : Netlist). AreArguments x args) (sym h.net) (all_at (λ a. AreWords a × AreArguments o.net a) calls i args are at).1
@@ -96,7 +97,8 @@ module _ (o : Opened) (calls : List (List Word)) (limit : ℕ) (ready : IsReady 
           let joined = replies_join o.net limit start (slice_index after.state) (take (i + 1) calls) rest (h.replies ++ r ∷ []) x.0 more x.1 in
           let behind : List ℕ = reply_lines x.0 ++ (if are_all (length calls) rs then calls_line (length calls) else late_line limit) in
           let text : transcript limit (length calls) rs ≡ (reply_lines h.replies ++ reply_line r) ++ behind =
-          ap (λ (l : List ℕ). l ++ (if are_all (length calls) rs then calls_line (length calls) else late_line limit)) (lines_append (h.replies ++ r ∷ []) x.0 ∙ ap (λ (l : List ℕ). l ++ reply_lines x.0) (lines_more h.replies r))
+          ap (λ (l : List ℕ). l ++ (if are_all (length calls) rs then calls_line (length calls) else late_line limit))
+          (lines_append (h.replies ++ r ∷ []) x.0 ∙ ap (λ (l : List ℕ). l ++ reply_lines x.0) (lines_more h.replies r))
           ∙ append_assoc (reply_lines h.replies ++ reply_line r) (reply_lines x.0) (if are_all (length calls) rs then calls_line (length calls) else late_line limit) in
           record {
             replies = rs;
@@ -127,7 +129,8 @@ module _ (o : Opened) (calls : List (List Word)) (limit : ℕ) (ready : IsReady 
         replies = h.replies;
         are = replied;
         is = sym (ne_eqb (length h.replies) (length calls) fewer);
-        sent = subst (λ (l : List ℕ). TellsOn (Sends l) old.sent new.sent) (sym (late_text limit (length calls) h.replies fewer)) (both_sent (reply_lines h.replies) (late_line limit) old.sent mid.sent new.sent h.sent sent);
+        sent = subst (λ (l : List ℕ). TellsOn (Sends l) old.sent new.sent) (sym (late_text limit (length calls) h.replies fewer))
+            (both_sent (reply_lines h.replies) (late_line limit) old.sent mid.sent new.sent h.sent sent);
       }
 
       pub late_begun : TellsOn (SendsPart (late_line limit)) mid.sent new.sent → IsBegun o calls limit old.sent new.sent
@@ -152,7 +155,8 @@ module _ (o : Opened) (calls : List (List Word)) (limit : ℕ) (ready : IsReady 
         replies = h.replies;
         are = all_replies o.net limit start (slice_index now.state) calls h.replies every;
         is = sym (eq-eqb (length h.replies) (length calls) long);
-        sent = subst (λ (l : List ℕ). TellsOn (Sends l) old.sent new.sent) (sym (whole_text limit (length calls) h.replies long)) (both_sent (reply_lines h.replies) (calls_line (length calls)) old.sent mid.sent new.sent h.sent sent);
+        sent = subst (λ (l : List ℕ). TellsOn (Sends l) old.sent new.sent) (sym (whole_text limit (length calls) h.replies long))
+            (both_sent (reply_lines h.replies) (calls_line (length calls)) old.sent mid.sent new.sent h.sent sent);
       }
 
       pub all_begun : TellsOn (SendsPart (calls_line (length calls))) mid.sent new.sent → IsBegun o calls limit old.sent new.sent

@@ -1,5 +1,6 @@
 -- The lines of a script, read one after the other.
-use Rattle.std.proofs.Common.{◌≡◌, ℕ, zero, suc, ◌+◌, ◌-◌, ◌*◌, ◌<◌, ◌≤◌, ◌⊎◌, List, [], ◌∷◌, ◌++◌, length, take, drop, Some, slice_get, Bool, true, false, ◌==◌, refl, sym, ap, subst, ◌∙◌, arith, inl, inr, append_assoc, add-one}
+use Rattle.std.proofs.Common.{◌≡◌, ℕ, zero, suc, ◌+◌, ◌-◌, ◌*◌, ◌<◌, ◌≤◌, ◌⊎◌, List, [], ◌∷◌, ◌++◌, length, take, drop, Some, slice_get, Bool, true}
+use Rattle.std.proofs.Common.{false, ◌==◌, refl, sym, ap, subst, ◌∙◌, arith, inl, inr, append_assoc, add-one}
 use Rattle.std.proofs.lemmas.Bool.{eqb-true, true≢false}
 use Rattle.std.proofs.lemmas.List.{append-nil, length-drop, drop-drop, take_all, take-append-le, drop-append-le}
 use Rattle.std.proofs.Math.Nat.{mul-le-mul_right, suc-mul, zero-mul}
@@ -67,7 +68,8 @@ pub record ScriptTo (widths text : List ℕ) (count : ℕ) (words : List Word) (
 pub script_none : (widths text : List ℕ) → ScriptTo widths text 0 [] text
 script_none widths text = record { lines = []; long = refl; split = λ ls h. h; are = tt; room = omega arith; small = omega arith }
 
-calls_more : (widths : List ℕ) (lines : List (List ℕ)) (calls : List (List Word)) (line : List ℕ) (args : List Word) → AreCalls widths lines calls → IsCall widths line args → AreCalls widths (lines ++ line ∷ []) (calls ++ args ∷ [])
+calls_more : (widths : List ℕ) (lines : List (List ℕ)) (calls : List (List Word)) (line : List ℕ) (args : List Word) → AreCalls widths lines calls →
+    IsCall widths line args → AreCalls widths (lines ++ line ∷ []) (calls ++ args ∷ [])
 calls_more widths [] [] line args a is = (is, tt)
 calls_more widths [] (c ∷ calls) line args a is = absurd a
 calls_more widths (l ∷ lines) [] line args a is = absurd a
@@ -112,7 +114,8 @@ none_left : (xs : List ℕ) → length xs ≡ 0 → [] ≡ xs
 none_left [] e = refl
 none_left (x ∷ xs) e = absurd (omega (arith, e))
 
-pub script_done : (widths text : List ℕ) (count : ℕ) (words : List Word) (rest : List ℕ) → ScriptTo widths text count words rest → length rest ≡ 0 → IsScript widths text (calls_of count (length widths) words)
+pub script_done : (widths text : List ℕ) (count : ℕ) (words : List Word) (rest : List ℕ) → ScriptTo widths text count words rest → length rest ≡ 0 →
+    IsScript widths text (calls_of count (length widths) words)
 script_done widths text count words rest s none =
     (s.lines, subst (HasLines text) (append-nil s.lines) (s.split [] (subst (λ l. HasLines l []) (none_left rest none) no_lines)), s.are)
 
@@ -128,7 +131,8 @@ calls_once widths (l ∷ lines) (x ∷ xs) (y ∷ ys) p q = ap (λ z. z ∷ xs) 
 pub one_script : OneScript
 one_script widths text calls others a b = calls_once widths b.0 calls others (subst (λ l. AreCalls widths l calls) (lines_once text a.0 b.0 a.1 b.1) a.2) b.2
 
-call_at : (widths : List ℕ) (lines : List (List ℕ)) (calls : List (List Word)) (k : ℕ) (line : List ℕ) → AreCalls widths lines calls → slice_get lines k ≡ Some line → (args : List Word) × IsCall widths line args
+call_at : (widths : List ℕ) (lines : List (List ℕ)) (calls : List (List Word)) (k : ℕ) (line : List ℕ) → AreCalls widths lines calls → slice_get lines
+    k ≡ Some line → (args : List Word) × IsCall widths line args
 call_at widths [] calls k line a e = absurd (cc)
 call_at widths (l ∷ lines) [] k line a e = absurd a
 call_at widths (l ∷ lines) (c ∷ calls) zero line a e = (c, let q : l ≡ line = cc in subst (λ x. IsCall widths x c) q a.0)

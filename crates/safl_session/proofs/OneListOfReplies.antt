@@ -15,7 +15,8 @@ use Rattle.safl_session.specs.Laws.{AreCallsOf, RepliesExist, RepliesOnce, Repli
 use Rattle.safl_session.specs.Replies.{AreReplies, AllReply}
 
 -- equal states give the same replies
-are_along : (n : Netlist) (limit : ℕ) (state other : ℕ → ℕ) (calls : List (List Word)) (rs : List Reply) → ((s : ℕ) → state s ≡ other s) → AreReplies n limit state calls rs → AreReplies n limit other calls rs
+are_along : (n : Netlist) (limit : ℕ) (state other : ℕ → ℕ) (calls : List (List Word)) (rs : List Reply) → ((s : ℕ) → state s ≡ other s) → AreReplies
+    n limit state calls rs → AreReplies n limit other calls rs
 are_along n limit state other [] [] e a = tt
 are_along n limit state other [] (r ∷ rs) e a = absurd a
 are_along n limit state other (args ∷ calls) [] e a = answers_along n limit state other args None state e a
@@ -59,7 +60,8 @@ replies_join n limit state last [] more (r ∷ rs) qs a b = absurd a
 replies_join n limit state last (args ∷ calls) more [] qs a b = absurd a
 replies_join n limit state last (args ∷ calls) more (r ∷ rs) qs a b = (a.0, a.1, replies_join n limit a.0 last calls more rs qs a.2 b)
 
-pub all_more : (n : Netlist) (limit : ℕ) (state now after : ℕ → ℕ) (calls : List (List Word)) (rs : List Reply) (args : List Word) (r : Reply) → AllReply n limit state calls rs now → Replies n limit now args r after
+pub all_more : (n : Netlist) (limit : ℕ) (state now after : ℕ → ℕ) (calls : List (List Word)) (rs : List Reply) (args : List Word) (r : Reply) →
+    AllReply n limit state calls rs now → Replies n limit now args r after
     → AllReply n limit state (calls ++ args ∷ []) (rs ++ r ∷ []) after
 all_more n limit state now after [] [] args r a p = (after, subst (λ s. Replies n limit s args r after) a p, refl)
 all_more n limit state now after [] (q ∷ rs) args r a p = absurd a

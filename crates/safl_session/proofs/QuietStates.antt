@@ -116,7 +116,8 @@ module _ (C : Program) (D : Names) (P : Choice) (n : Netlist) (scheme : Scheme C
   got_reads : (k : ℕ) → is_site C k ≡ true → (s : ℕ) × ((state : ℕ → ℕ) (v : Valuation) → Fits n state v → read n v (of_site (codes "got$") k) ≡ state s)
   got_reads k is = reads _ 1 (in_site k (of_site (codes "got$") k, 1) is (inr (inl refl)))
 
-  same_read : (state : ℕ → ℕ) (v w : Valuation) → Fits n state v → Fits n state w → (name : List ℕ) → ((s : ℕ) × ((state : ℕ → ℕ) (v : Valuation) → Fits n state v → read n v name ≡ state s)) → one (read n w name) ≡ one (read n v name)
+  same_read : (state : ℕ → ℕ) (v w : Valuation) → Fits n state v → Fits n state w → (name : List ℕ) →
+      ((s : ℕ) × ((state : ℕ → ℕ) (v : Valuation) → Fits n state v → read n v name ≡ state s)) → one (read n w name) ≡ one (read n v name)
   same_read state v w fv fw name r = ap one (r.1 state w fw ∙ sym (r.1 state v fv))
 
   -- what fits one state is quiet alike

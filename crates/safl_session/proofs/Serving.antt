@@ -43,7 +43,8 @@ goes_more : (n : Netlist) (state : ℕ → ℕ) (vs : List Valuation) (v u : Val
 goes_more n state [] v u g f s = (g.0, g.1, (f, s, tt))
 goes_more n state (x ∷ vs) v u g f s = (g.0, g.1, goes_more n (next_state n x) vs v u g.2 f s)
 
-run_more : (n : Netlist) (state : ℕ → ℕ) (args : List ℕ) (vs : List Valuation) (v u : Valuation) → RunFrom n state args (vs ++ v ∷ []) → Fits n (next_state n v) u → start_number n u ≡ 0 → RunFrom n state args (vs ++ v ∷ u ∷ [])
+run_more : (n : Netlist) (state : ℕ → ℕ) (args : List ℕ) (vs : List Valuation) (v u : Valuation) → RunFrom n state args (vs ++ v ∷ []) → Fits n
+    (next_state n v) u → start_number n u ≡ 0 → RunFrom n state args (vs ++ v ∷ u ∷ [])
 run_more n state args [] v u r f s = (r.0, r.1, r.2, (f, s, tt))
 run_more n state args (x ∷ vs) v u r f s = (r.0, r.1, r.2, goes_more n (next_state n x) vs v u r.3 f s)
 
@@ -102,19 +103,30 @@ module _ (C : Program) (D : Names) (P : Choice) (n : Netlist) (scheme : Scheme C
         let e = y.done in
         cc
 
-  serve : (state : ℕ → ℕ) → IsQuietState C D n state → (calls : List (List Word)) → All (λ args. AreWordsOf args (C.params C.main)) calls → (rs : List Reply) → AreReplies n limit state calls rs → Serves C D n limit state calls rs
+  serve : (state : ℕ → ℕ) → IsQuietState C D n state → (calls : List (List Word)) → All (λ args. AreWordsOf args (C.params C.main)) calls →
+      (rs : List Reply) → AreReplies n limit state calls rs → Serves C D n limit state calls rs
   serve state quiet [] sized_all [] a = quiet
   serve state quiet [] sized_all (r ∷ rs) a = a
   serve state quiet (args ∷ calls) sized_all [] a = (quiet, a)
   serve state quiet (args ∷ calls) sized_all (r ∷ rs) a =
-      let sized = All-head (λ x. AreWordsOf x (C.params C.main)) args calls sized_all in
-      (quiet, main_reply state quiet args sized r a.0 a.1, (a.0, a.1, serve a.0 (quiet_after state quiet args sized r a.0 a.1) calls (All-tail (λ x. AreWordsOf x (C.params C.main)) args calls sized_all) rs a.2))
+      let sized = All-head (λ x. AreWordsOf x (C.params C.main)) args calls sized_all in (
+        quiet,
+        main_reply state quiet args sized r a.0 a.1,
+        (
+          a.0,
+          a.1,
+          serve a.0 (quiet_after state quiet args sized r a.0 a.1) calls
+              (All-tail (λ x. AreWordsOf x (C.params C.main)) args calls sized_all) rs a.2,
+        ),
+      )
 
-  reply : (state : ℕ → ℕ) → IsQuietState C D n state → (calls : List (List Word)) → All (λ args. AreWordsOf args (C.params C.main)) calls → All (IsInTime C limit) calls → (rs : List Reply) → AreReplies n limit state calls rs
+  reply : (state : ℕ → ℕ) → IsQuietState C D n state → (calls : List (List Word)) → All (λ args. AreWordsOf args (C.params C.main)) calls → All
+      (IsInTime C limit) calls → (rs : List Reply) → AreReplies n limit state calls rs
       → length rs ≡ length calls
   reply state quiet [] sized_all time [] a = refl
   reply state quiet [] sized_all time (r ∷ rs) a = absurd a
-  reply state quiet (args ∷ calls) sized_all time [] a = absurd (not_silent state quiet args (All-head (λ x. AreWordsOf x (C.params C.main)) args calls sized_all) (All-head (IsInTime C limit) args calls time) a)
+  reply state quiet (args ∷ calls) sized_all time [] a = absurd
+      (not_silent state quiet args (All-head (λ x. AreWordsOf x (C.params C.main)) args calls sized_all) (All-head (IsInTime C limit) args calls time) a)
   reply state quiet (args ∷ calls) sized_all time (r ∷ rs) a =
       let sized = All-head (λ x. AreWordsOf x (C.params C.main)) args calls sized_all in
       ap suc (reply a.0 (quiet_after state quiet args sized r a.0 a.1) calls (All-tail (λ x. AreWordsOf x (C.params C.main)) args calls sized_all) (All-tail (IsInTime C limit) args calls time) rs a.2)

@@ -1,5 +1,6 @@
 -- The words of a line, read one after the other.
-use Rattle.std.proofs.Common.{◌≡◌, ℕ, zero, suc, ◌+◌, ◌<◌, ◌≤◌, ◌⊎◌, List, [], ◌∷◌, ◌++◌, length, Option, Some, None, Bool, true, false, not, slice_get, slice_index, refl, sym, ap, subst, ◌∙◌, arith, inl, inr, append_assoc}
+use Rattle.std.proofs.Common.{◌≡◌, ℕ, zero, suc, ◌+◌, ◌<◌, ◌≤◌, ◌⊎◌, List, [], ◌∷◌, ◌++◌, length, Option, Some, None, Bool, true, false, not}
+use Rattle.std.proofs.Common.{slice_get, slice_index, refl, sym, ap, subst, ◌∙◌, arith, inl, inr, append_assoc}
 use Rattle.std.specs.Prelude.{is_some}
 use Rattle.std.proofs.lemmas.Bool.{true≢false, false≢true}
 use Rattle.std.proofs.lemmas.List.{append-nil}
@@ -40,7 +41,8 @@ begins_none : (ws : List ℕ) → Begins ws [] []
 begins_none [] = refl
 begins_none (w ∷ ws) = refl
 
-begins_more : (ws : List ℕ) (ts : List (List ℕ)) (vs : List Word) (w : ℕ) (t : List ℕ) (v : Word) → Begins ws ts vs → slice_get ws (length ts) ≡ Some w → IsArgument w t v → Begins ws (ts ++ t ∷ []) (vs ++ v ∷ [])
+begins_more : (ws : List ℕ) (ts : List (List ℕ)) (vs : List Word) (w : ℕ) (t : List ℕ) (v : Word) → Begins ws ts vs → slice_get ws (length ts) ≡ Some
+    w → IsArgument w t v → Begins ws (ts ++ t ∷ []) (vs ++ v ∷ [])
 begins_more [] ts vs w t v b e is = absurd (cc)
 begins_more (x ∷ ws) [] [] w t v b e is = let q : w ≡ x = cc in (subst (λ y. IsArgument y t v) q is, begins_none ws)
 begins_more (x ∷ ws) [] (u ∷ vs) w t v b e is = absurd (cc)
@@ -82,7 +84,8 @@ pub record IsBad (widths : List ℕ) (texts : List (List ℕ)) (number : ℕ) : 
   pub bad : (v : Word) → IsArgument width text v → ⊥
   pub before : (i w : ℕ) (t : List ℕ) → i < index → slice_get widths i ≡ Some w → slice_get texts i ≡ Some t → (v : Word) × IsArgument w t v
 
-bad_here : (ws : List ℕ) (ts : List (List ℕ)) (vs : List Word) (w : ℕ) (t : List ℕ) → Begins ws ts vs → slice_get ws (length ts) ≡ Some w → ((v : Word) → IsArgument w t v → ⊥) → IsBad ws (ts ++ t ∷ []) (length ts + 1)
+bad_here : (ws : List ℕ) (ts : List (List ℕ)) (vs : List Word) (w : ℕ) (t : List ℕ) → Begins ws ts vs → slice_get ws (length ts) ≡ Some w →
+    ((v : Word) → IsArgument w t v → ⊥) → IsBad ws (ts ++ t ∷ []) (length ts + 1)
 bad_here ws ts vs w t b e bad = record {
   index = length ts;
   is = refl;
@@ -126,7 +129,8 @@ seen_none widths line old = record { texts = []; long = refl; split = λ ws h. h
 
 -- a word more is seen
 module _ (widths line : List ℕ) (count : ℕ) (rest word behind : List ℕ) (s : StartsWith rest word behind) where
-  seen_more : (before after : Option ℕ) (old mid new : List Word) (seen : SeenTo widths line count before rest old mid) → Reads widths (seen.texts ++ word ∷ []) after old new → SeenTo widths line (count + 1) after behind old new
+  seen_more : (before after : Option ℕ) (old mid new : List Word) (seen : SeenTo widths line count before rest old mid) → Reads widths
+      (seen.texts ++ word ∷ []) after old new → SeenTo widths line (count + 1) after behind old new
   seen_more before after old mid new seen reads = record {
     texts = seen.texts ++ word ∷ [];
     long = list_long seen.texts (word ∷ []) ∙ ap (λ k. k + 1) seen.long;
@@ -135,7 +139,8 @@ module _ (widths line : List ℕ) (count : ℕ) (rest word behind : List ℕ) (s
     reads = reads;
   }
 
-  pub seen_read : (w : ℕ) (v : Word) (old mid new : List Word) → SeenTo widths line count None rest old mid → slice_get widths count ≡ Some w → IsArgument w word v → new ≡ mid ++ v ∷ [] → SeenTo widths line (count + 1) None behind old new
+  pub seen_read : (w : ℕ) (v : Word) (old mid new : List Word) → SeenTo widths line count None rest old mid → slice_get widths count ≡ Some w →
+      IsArgument w word v → new ≡ mid ++ v ∷ [] → SeenTo widths line (count + 1) None behind old new
   seen_read w v old mid new seen at is pushed =
       let r = seen.reads in
       seen_more None None old mid new seen (
@@ -144,14 +149,16 @@ module _ (widths line : List ℕ) (count : ℕ) (rest word behind : List ℕ) (s
         pushed ∙ ap (λ l. l ++ v ∷ []) r.2 ∙ append_assoc old r.0 (v ∷ []),
       )
 
-  pub seen_bad : (w : ℕ) (old mid : List Word) → SeenTo widths line count None rest old mid → slice_get widths count ≡ Some w → ((v : Word) → IsArgument w word v → ⊥) → SeenTo widths line (count + 1) (Some (count + 1)) behind old mid
+  pub seen_bad : (w : ℕ) (old mid : List Word) → SeenTo widths line count None rest old mid → slice_get widths count ≡ Some w →
+      ((v : Word) → IsArgument w word v → ⊥) → SeenTo widths line (count + 1) (Some (count + 1)) behind old mid
   seen_bad w old mid seen at bad =
       let r = seen.reads in
       seen_more None (Some (count + 1)) old mid mid seen
       (subst (λ k. IsBad widths (seen.texts ++ word ∷ []) (k + 1)) seen.long (bad_here widths seen.texts r.0 w word r.1 (ap (slice_get widths) seen.long ∙ at) bad))
 
   -- beyond the widths, or after a word that is no argument
-  pub seen_over : (misread : Option ℕ) (old mid : List Word) → SeenTo widths line count misread rest old mid → (misread ≡ None → length widths ≤ count) → SeenTo widths line (count + 1) misread behind old mid
+  pub seen_over : (misread : Option ℕ) (old mid : List Word) → SeenTo widths line count misread rest old mid →
+      (misread ≡ None → length widths ≤ count) → SeenTo widths line (count + 1) misread behind old mid
   seen_over None old mid seen h =
       let r = seen.reads in
       seen_more None None old mid mid seen (r.0, begins_over widths seen.texts r.0 word r.1 (let a = h refl in let b = seen.long in omega (arith, a, b)), r.2)

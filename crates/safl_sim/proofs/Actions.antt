@@ -1,5 +1,6 @@
 -- The actions of cells.
-use Rattle.std.proofs.Common.{◌≡◌, ◌⊎◌, inl, inr, ℕ, zero, suc, ◌+◌, ◌-◌, ◌*◌, ◌<◌, ◌≤◌, Bool, true, false, bit_and, bit_or, bit_xor, List, [], ◌∷◌, length, get_or, ◌^◌, Some, None, is_some, slice_get, slice_index, refl, sym, ap, subst, ◌∙◌, arith}
+use Rattle.std.proofs.Common.{◌≡◌, ◌⊎◌, inl, inr, ℕ, zero, suc, ◌+◌, ◌-◌, ◌*◌, ◌<◌, ◌≤◌, Bool, true, false, bit_and, bit_or, bit_xor, List, [], ◌∷◌}
+use Rattle.std.proofs.Common.{length, get_or, ◌^◌, Some, None, is_some, slice_get, slice_index, refl, sym, ap, subst, ◌∙◌, arith}
 use lib.Bits.{xor_add_and}
 use Rattle.std.proofs.Math.Nat.{mod-eq_of_lt}
 use Rattle.std.proofs.lemmas.Nat.{and_comm, and_mask}
@@ -104,7 +105,8 @@ pub first_known : (n : Netlist) (o : Op) (xs : List Sig) (w : ℕ) → CellFits 
 first_known n o [] w f h = absurd (omega (arith, h))
 first_known n o (x ∷ xs) w f h = f.known 0 0 (omega arith)
 
-pub performs_const : (n : Netlist) (o : Op) (xs : List Sig) (w : ℕ) (action : Action) → CellFits n w (cell_on o xs) → length xs < 1 → ((v : Word) → o ≡ op.Const v → plain action ≡ Constant v.bits) → Performs n (cell_on o xs) action
+pub performs_const : (n : Netlist) (o : Op) (xs : List Sig) (w : ℕ) (action : Action) → CellFits n w (cell_on o xs) → length xs < 1 →
+    ((v : Word) → o ≡ op.Const v → plain action ≡ Constant v.bits) → Performs n (cell_on o xs) action
 performs_const n (op.Const v) [] w action f h k = record {
   gives = λ g fits. ap (plain_number g) (k v refl);
   ready = λ values l g. subst (PlainReady values) (sym (k v refl)) tt;
@@ -115,7 +117,8 @@ performs_const n op.Mux [] w action f h k = absurd (let e = f.gives in cc)
 performs_const n (op.Apply p) [] w action f h k = absurd (let e = sym (none_on_nil p) ∙ prim_says p [] w f.gives in cc)
 performs_const n o (x ∷ xs) w action f h k = absurd (omega (arith, h))
 
-pub performs_one : (n : Netlist) (p : Primitive) (o : Op) (xs : List Sig) (w width : ℕ) → IsNetlist n → CellFits n w (cell_on o xs) → 1 ≤ length xs → length xs < 2 → o ≡ op.Apply p → width ≡ width_of n (get_or xs 0 (record { 0 = 0 })).0
+pub performs_one : (n : Netlist) (p : Primitive) (o : Op) (xs : List Sig) (w width : ℕ) → IsNetlist n → CellFits n w (cell_on o xs) → 1 ≤ length xs →
+    length xs < 2 → o ≡ op.Apply p → width ≡ width_of n (get_or xs 0 (record { 0 = 0 })).0
     → Performs n (cell_on o xs) (One p width (get_or xs 0 (record { 0 = 0 })).0)
 performs_one n p o [] w width made f h k e g = absurd (omega (arith, h))
 performs_one n p o (x ∷ (y ∷ xs)) w width made f h k e g = absurd (omega (arith, k))
@@ -143,7 +146,8 @@ performs_two n p o (x ∷ (y ∷ [])) w width other made f h k e g i = subst (λ
   ready = λ values l fits.
       let here : x.0 < length n.signals = f.known 0 0 (omega arith) in
       let there : y.0 < length n.signals = f.known 1 0 (omega arith) in
-      let some : result_width p (width_of n x.0 ∷ (width_of n y.0 ∷ [])) ≡ Some w = prim_says p (width_of n x.0 ∷ (width_of n y.0 ∷ [])) w (ap (λ q. op_width q (width_of n x.0 ∷ (width_of n y.0 ∷ []))) (sym e) ∙ f.gives) in (
+      let some : result_width p (width_of n x.0 ∷ (width_of n y.0 ∷ [])) ≡ Some w = prim_says p (width_of n x.0 ∷ (width_of n y.0 ∷ [])) w
+      (ap (λ q. op_width q (width_of n x.0 ∷ (width_of n y.0 ∷ []))) (sym e) ∙ f.gives) in (
         omega (arith, here, l),
         omega (arith, there, l),
         signal_word n values x.0 width made fits here g,
@@ -257,11 +261,17 @@ performs_and n x y w f one =
     record {
       gives = λ g fits. bits_and (g x.0) (g y.0) (one_bit n g x.0 fits a one) (one_bit n g y.0 fits b other);
       ready = λ values l fits. (omega (arith, a, l), omega (arith, b, l), omega (arith, a, l));
-      low = λ values s fits h narrow. (low_number n values x.0 fits a (narrow.operands 0 x.0 refl), low_number n values y.0 fits b (narrow.operands 1 y.0 refl), low_number n values x.0 fits a (narrow.operands 0 x.0 refl));
+      low = λ values s fits h narrow. (
+        low_number n values x.0 fits a (narrow.operands 0 x.0 refl),
+        low_number n values y.0 fits b
+            (narrow.operands 1 y.0 refl),
+        low_number n values x.0 fits a (narrow.operands 0 x.0 refl),
+      );
     }
 
 -- by either of them
-performs_turned : (n : Netlist) (x y : Sig) (w : ℕ) → CellFits n w (cell_on (op.Apply And) (x ∷ (y ∷ []))) → width_of n x.0 ≡ 1 → Performs n (cell_on (op.Apply And) (x ∷ (y ∷ []))) (Choose y.0 x.0 y.0)
+performs_turned : (n : Netlist) (x y : Sig) (w : ℕ) → CellFits n w (cell_on (op.Apply And) (x ∷ (y ∷ []))) → width_of n x.0 ≡ 1 → Performs n
+    (cell_on (op.Apply And) (x ∷ (y ∷ []))) (Choose y.0 x.0 y.0)
 performs_turned n x y w f one =
     let a : x.0 < length n.signals = f.known 0 0 (omega arith) in
     let b : y.0 < length n.signals = f.known 1 0 (omega arith) in
@@ -269,10 +279,16 @@ performs_turned n x y w f one =
     record {
       gives = λ g fits. bits_and (g y.0) (g x.0) (one_bit n g y.0 fits b other) (one_bit n g x.0 fits a one) ∙ and_comm (g y.0) (g x.0);
       ready = λ values l fits. (omega (arith, b, l), omega (arith, a, l), omega (arith, b, l));
-      low = λ values s fits h narrow. (low_number n values y.0 fits b (narrow.operands 1 y.0 refl), low_number n values x.0 fits a (narrow.operands 0 x.0 refl), low_number n values y.0 fits b (narrow.operands 1 y.0 refl));
+      low = λ values s fits h narrow. (
+        low_number n values y.0 fits b (narrow.operands 1 y.0 refl),
+        low_number n values x.0 fits a
+            (narrow.operands 0 x.0 refl),
+        low_number n values y.0 fits b (narrow.operands 1 y.0 refl),
+      );
     }
 
-pub performs_both : (n : Netlist) (x y : Sig) (w : ℕ) (action : Action) → CellFits n w (cell_on (op.Apply And) (x ∷ (y ∷ []))) → width_of n x.0 ≡ 1 → (action ≡ Choose x.0 y.0 x.0) ⊎ (action ≡ Choose y.0 x.0 y.0)
+pub performs_both : (n : Netlist) (x y : Sig) (w : ℕ) (action : Action) → CellFits n w (cell_on (op.Apply And) (x ∷ (y ∷ []))) → width_of n x.0 ≡ 1 →
+    (action ≡ Choose x.0 y.0 x.0) ⊎ (action ≡ Choose y.0 x.0 y.0)
     → Performs n (cell_on (op.Apply And) (x ∷ (y ∷ []))) action
 performs_both n x y w action f one h = elim h [
   | inl e ↦ subst (λ a. Performs n (cell_on (op.Apply And) (x ∷ (y ∷ []))) a) (sym e) (performs_and n x y w f one)
@@ -287,7 +303,12 @@ performs_or n x y w f one =
     record {
       gives = λ g fits. bits_or (g x.0) (g y.0) (one_bit n g x.0 fits a one) (one_bit n g y.0 fits b other);
       ready = λ values l fits. (omega (arith, a, l), omega (arith, a, l), omega (arith, b, l));
-      low = λ values s fits h narrow. (low_number n values x.0 fits a (narrow.operands 0 x.0 refl), low_number n values x.0 fits a (narrow.operands 0 x.0 refl), low_number n values y.0 fits b (narrow.operands 1 y.0 refl));
+      low = λ values s fits h narrow. (
+        low_number n values x.0 fits a (narrow.operands 0 x.0 refl),
+        low_number n values x.0 fits a
+            (narrow.operands 0 x.0 refl),
+        low_number n values y.0 fits b (narrow.operands 1 y.0 refl),
+      );
     }
 
 -- actions of one plain form perform one cell

@@ -1,5 +1,6 @@
 -- The parts of a simulator are what it keeps.
-use Rattle.std.proofs.Common.{◌≡◌, ◌⊎◌, inl, inr, ℕ, zero, suc, ◌+◌, ◌/◌, ◌<◌, ◌≤◌, ◌^◌, List, [], ◌∷◌, ◌++◌, map, length, take, drop, get_or, Option, Some, None, slice_get, slice_index, refl, sym, ap, subst, ◌∙◌, arith, append_assoc, true}
+use Rattle.std.proofs.Common.{◌≡◌, ◌⊎◌, inl, inr, ℕ, zero, suc, ◌+◌, ◌/◌, ◌<◌, ◌≤◌, ◌^◌, List, [], ◌∷◌, ◌++◌, map, length, take, drop, get_or, Option}
+use Rattle.std.proofs.Common.{Some, None, slice_get, slice_index, refl, sym, ap, subst, ◌∙◌, arith, append_assoc, true}
 use Rattle.std.proofs.lemmas.Nat.{pow_pos}
 use Rattle.std.proofs.lemmas.List.{append-nil}
 use Rattle.safl_net.specs.declared.cell.Sig.{Sig}
@@ -92,7 +93,8 @@ get_some [] s h = absurd (omega arith)
 get_some (g ∷ gs) zero h = (g, refl)
 get_some (g ∷ gs) (suc s) h = get_some gs s (omega (arith, h))
 
-pub inputs_more : (n : Netlist) (old new : List ℕ) (i : ℕ) → i < length n.signals → old ++ inputs_from (drop i n.signals) i ≡ inputs_of n → new ≡ old ++ with_input (kind_at n i) i [] → new ++ inputs_from (drop (i + 1) n.signals) (i + 1) ≡ inputs_of n
+pub inputs_more : (n : Netlist) (old new : List ℕ) (i : ℕ) → i < length n.signals → old ++ inputs_from (drop i n.signals) i ≡ inputs_of n → new ≡ old
+    ++ with_input (kind_at n i) i [] → new ++ inputs_from (drop (i + 1) n.signals) (i + 1) ≡ inputs_of n
 inputs_more n old new i h e f =
     let g = get_some n.signals i h in
     let kind : kind_at n i ≡ g.0.kind = ap kind_in g.1 in
@@ -172,7 +174,8 @@ map_push : (f : Signal → ℕ) (gs : List Signal) (g : Signal) → map f (gs ++
 map_push f [] g = refl
 map_push f (h ∷ gs) g = ap (λ l. f h ∷ l) (map_push f gs g)
 
-pub resets_more : (n : Netlist) (old new : List ℕ) (i x : ℕ) → i < length n.signals → old ≡ map (λ (g : Signal). kind_reset g.kind) (take i n.signals) → x ≡ kind_reset (kind_at n i) → new ≡ old ++ x ∷ []
+pub resets_more : (n : Netlist) (old new : List ℕ) (i x : ℕ) → i < length n.signals → old ≡ map (λ (g : Signal). kind_reset g.kind) (take i n.signals)
+    → x ≡ kind_reset (kind_at n i) → new ≡ old ++ x ∷ []
     → new ≡ map (λ (g : Signal). kind_reset g.kind) (take (i + 1) n.signals)
 resets_more n old new i x h e f q =
     let g = get_some n.signals i h in
@@ -215,7 +218,8 @@ same_lists [] (y ∷ ys) e f = absurd (omega (arith, e))
 same_lists (x ∷ xs) [] e f = absurd (omega (arith, e))
 same_lists (x ∷ xs) (y ∷ ys) e f = ap (λ z. z ∷ xs) (f 0) ∙ ap (λ l. y ∷ l) (same_lists xs ys (omega (arith, e)) (λ s. f (suc s)))
 
-pub placed_resets : (n : Netlist) (regs : List Register) (numbers : List ℕ) → AreRegisters n (length n.signals) regs → AreReset n regs (length regs) numbers → placed (length n.signals) regs numbers ≡ resets n
+pub placed_resets : (n : Netlist) (regs : List Register) (numbers : List ℕ) → AreRegisters n (length n.signals) regs → AreReset n regs (length regs)
+    numbers → placed (length n.signals) regs numbers ≡ resets n
 placed_resets n regs numbers w a = same_lists now (resets n) (placed_long (length n.signals) regs numbers ∙ sym (resets_long n.signals)) at
   where
     now : List ℕ
@@ -245,7 +249,8 @@ index_last : (xs : List ℕ) (x : ℕ) → slice_index (xs ++ x ∷ []) (length 
 index_last [] x = refl
 index_last (y ∷ xs) x = index_last xs x
 
-pub reset_more : (n : Netlist) (regs : List Register) (numbers : List ℕ) (i x : ℕ) (r : Register) → AreReset n regs i numbers → slice_get regs i ≡ Some r → x ≡ kind_reset (kind_at n r.signal.0) → AreReset n regs (i + 1) (numbers ++ x ∷ [])
+pub reset_more : (n : Netlist) (regs : List Register) (numbers : List ℕ) (i x : ℕ) (r : Register) → AreReset n regs i numbers → slice_get regs i ≡
+    Some r → x ≡ kind_reset (kind_at n r.signal.0) → AreReset n regs (i + 1) (numbers ++ x ∷ [])
 reset_more n regs numbers i x r w at is = record {
   long = (let a = length_push numbers x in let b = w.long in omega (arith, a, b));
   each = λ k q h e. elim (lower_or_same k i h) [
@@ -257,10 +262,13 @@ reset_more n regs numbers i x r w at is = record {
   ];
 }
 
-pub keeps_new : (o : Order) (steps : List Step) (places : List Sig) (regs : List Register) (starts readers marks waiting state values : List ℕ) → IsNetlist o.net → IsOrder o.net o.wires → AreSteps o.net o.wires steps → numbers places ≡ inputs_of o.net
-    → AreRegisters o.net (length o.net.signals) regs → Lists starts readers (length o.net.signals) ((first_register (length o.wires) + length regs + 63) / 64) → AreReaders o.net o.wires regs starts readers
+pub keeps_new : (o : Order) (steps : List Step) (places : List Sig) (regs : List Register) (starts readers marks waiting state values : List ℕ) →
+    IsNetlist o.net → IsOrder o.net o.wires → AreSteps o.net o.wires steps → numbers places ≡ inputs_of o.net
+    → AreRegisters o.net (length o.net.signals) regs → Lists starts readers (length o.net.signals)
+    ((first_register (length o.wires) + length regs + 63) / 64) → AreReaders o.net o.wires regs starts readers
     → length marks ≡ (first_register (length o.wires) + length regs + 63) / 64 → length o.wires < 2 ^ 32 → length regs < 2 ^ 32 → Inside (length o.wires) (length regs) marks
-    → ((k : ℕ) → k < length o.wires → marked marks k ≡ 1) → ((k : ℕ) → k < length regs → marked marks (first_register (length o.wires) + k) ≡ 1) → length waiting ≡ (length regs + 63) / 64 → ((k : ℕ) → slice_index waiting k ≡ 0)
+    → ((k : ℕ) → k < length o.wires → marked marks k ≡ 1) → ((k : ℕ) → k < length regs → marked marks (first_register (length o.wires) + k) ≡ 1) →
+    length waiting ≡ (length regs + 63) / 64 → ((k : ℕ) → slice_index waiting k ≡ 0)
     → state ≡ resets o.net → values ≡ resets o.net → Keeps o steps places regs starts readers marks waiting state values
 keeps_new o steps places regs starts readers marks waiting state values made order all inputs registers lists read long few some inside marked_steps marked_registers wide none e f =
     subst (λ x. Keeps o steps places regs starts readers marks waiting x values) (sym e) (subst (λ x. Keeps o steps places regs starts readers marks waiting (resets o.net) x) (sym f) (record {

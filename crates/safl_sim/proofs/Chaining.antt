@@ -13,7 +13,8 @@ bound_apart zero (suc g) numbers nexts (suc i) w h l = absurd (omega (arith, h))
 bound_apart (suc f) zero numbers nexts zero w h l = refl
 bound_apart (suc f) zero numbers nexts (suc i) w h l = absurd (omega (arith, l))
 bound_apart (suc f) (suc g) numbers nexts zero w h l = refl
-bound_apart (suc f) (suc g) numbers nexts (suc i) w h l = ap (λ r. slice_index numbers i ∷ r) (bound_apart f g numbers nexts (slice_index nexts i) w (let a = w i in omega (arith, a, h)) (let a = w i in omega (arith, a, l)))
+bound_apart (suc f) (suc g) numbers nexts (suc i) w h l = ap (λ r. slice_index numbers i ∷ r)
+    (bound_apart f g numbers nexts (slice_index nexts i) w (let a = w i in omega (arith, a, h)) (let a = w i in omega (arith, a, l)))
 
 -- the first link, and the list after it
 pub chain_next : (numbers nexts : List ℕ) (i : ℕ) → ((i : ℕ) → slice_index nexts i ≤ i) → chain numbers nexts (suc i) ≡ slice_index numbers i ∷ chain numbers nexts (slice_index nexts i)
@@ -33,7 +34,8 @@ length_end [] y = omega arith
 length_end (x ∷ xs) y = let e = length_end xs y in omega (arith, e)
 
 -- one link more at the end changes no list that begins before it
-chain_stays : (f : ℕ) (numbers nexts : List ℕ) (x y k : ℕ) → length numbers ≡ length nexts → ((i : ℕ) → slice_index nexts i ≤ i) → k ≤ length nexts → chain_of f (numbers ++ x ∷ []) (nexts ++ y ∷ []) k ≡ chain_of f numbers nexts k
+chain_stays : (f : ℕ) (numbers nexts : List ℕ) (x y k : ℕ) → length numbers ≡ length nexts → ((i : ℕ) → slice_index nexts i ≤ i) → k ≤ length nexts →
+    chain_of f (numbers ++ x ∷ []) (nexts ++ y ∷ []) k ≡ chain_of f numbers nexts k
 chain_stays zero numbers nexts x y k e w h = refl
 chain_stays (suc f) numbers nexts x y zero e w h = refl
 chain_stays (suc f) numbers nexts x y (suc i) e w h =
@@ -42,7 +44,8 @@ chain_stays (suc f) numbers nexts x y (suc i) e w h =
     ∙ ap (λ n. slice_index numbers i ∷ chain_of f (numbers ++ x ∷ []) (nexts ++ y ∷ []) n) next
     ∙ ap (λ r. slice_index numbers i ∷ r) (chain_stays f numbers nexts x y (slice_index nexts i) e w (let a = w i in omega (arith, a, h)))
 
-chain_new : (numbers nexts : List ℕ) (x y : ℕ) → length numbers ≡ length nexts → ((i : ℕ) → slice_index nexts i ≤ i) → y ≤ length nexts → chain (numbers ++ x ∷ []) (nexts ++ y ∷ []) (suc (length nexts)) ≡ x ∷ chain numbers nexts y
+chain_new : (numbers nexts : List ℕ) (x y : ℕ) → length numbers ≡ length nexts → ((i : ℕ) → slice_index nexts i ≤ i) → y ≤ length nexts → chain
+    (numbers ++ x ∷ []) (nexts ++ y ∷ []) (suc (length nexts)) ≡ x ∷ chain numbers nexts y
 chain_new numbers nexts x y e w h =
     ap (λ n. n ∷ chain_of (length nexts) (numbers ++ x ∷ []) (nexts ++ y ∷ []) (slice_index (nexts ++ y ∷ []) (length nexts))) (ap (slice_index (numbers ++ x ∷ [])) (sym e) ∙ index_end numbers x)
     ∙ ap (λ n. x ∷ chain_of (length nexts) (numbers ++ x ∷ []) (nexts ++ y ∷ []) n) (index_end nexts y)
@@ -129,7 +132,8 @@ module _ (heads : List ℕ) (links : List Link) (p number : ℕ) (w : AreChains 
       ap (λ a. chain a (nexts_of (links ++ l ∷ [])) k) (numbers_push links l) ∙ ap (λ a. chain (ns ++ number ∷ []) a k) (nexts_push links l) in
       let both : length ns ≡ length xs = numbers_long links ∙ sym (nexts_long links) in
       let stays : (q : ℕ) → new (slice_index heads q) ≡ old (slice_index heads q) = λ q.
-      same (slice_index heads q) ∙ chain_stays (slice_index heads q) ns xs number (slice_index heads p) (slice_index heads q) both w.earlier (let a = w.known q in let b = nexts_long links in omega (arith, a, b)) in
+      same (slice_index heads q) ∙ chain_stays (slice_index heads q) ns xs number (slice_index heads p) (slice_index heads q) both w.earlier
+      (let a = w.known q in let b = nexts_long links in omega (arith, a, b)) in
       let first : new (length links + 1) ≡ number ∷ v =
       ap new (let a = nexts_long links in let z : length links + 1 ≡ suc (length xs) = omega (arith, a) in z)
       ∙ same (suc (length xs))
@@ -139,7 +143,8 @@ module _ (heads : List ℕ) (links : List Link) (p number : ℕ) (w : AreChains 
 
   pub still_chains : AreChains (set heads p (length links + 1)) (links ++ l ∷ [])
   still_chains = record {
-    earlier = λ i. subst (λ x. slice_index x i ≤ i) (sym (nexts_push links l)) (earlier_push (nexts_of links) (slice_index heads p) w.earlier (let a = w.known p in let b = nexts_long links in omega (arith, a, b)) i);
+    earlier = λ i. subst (λ x. slice_index x i ≤ i) (sym (nexts_push links l))
+        (earlier_push (nexts_of links) (slice_index heads p) w.earlier (let a = w.known p in let b = nexts_long links in omega (arith, a, b)) i);
     known = λ q. elim (same_or_not q p) [
       | inl z ↦ here q z
       | inr n ↦ (let a = index_other heads p (length links + 1) q n in let b = w.known q in let c = links_push links l in omega (arith, a, b, c))
@@ -174,4 +179,5 @@ pub chain_link : (links : List Link) (at : ℕ) (k : Link) → ((i : ℕ) → sl
 chain_link links at k w e f =
     let ns = numbers_of links in
     let xs = nexts_of links in
-    ap (chain ns xs) e ∙ chain_next ns xs (at - 1) w ∙ ap (λ n. n ∷ chain ns xs (slice_index xs (at - 1))) (number_at links (at - 1) k f) ∙ ap (λ n. k.number ∷ chain ns xs n) (next_at links (at - 1) k f)
+    ap (chain ns xs) e ∙ chain_next ns xs (at - 1) w ∙ ap (λ n. n ∷ chain ns xs (slice_index xs (at - 1))) (number_at links (at - 1) k f) ∙ ap
+    (λ n. k.number ∷ chain ns xs n) (next_at links (at - 1) k f)

@@ -58,7 +58,8 @@ pub bit_none : (filled words : List ℕ) (b v : ℕ) → Covers filled words →
 bit_none filled words b v c e z = covers_none filled words v c (ap (λ y. bit_at (slice_index filled y) (v % 64)) e ∙ z)
 
 -- no word of a block before the first whose bit is 1, counted from a word on
-pub begun_none : (filled words : List ℕ) (from f n v : ℕ) → Covers filled words → slice_index filled (from / 64) ≡ f → ((i : ℕ) → i < n → bit_at (f / 2 ^ (from % 64)) i ≡ 0) → from ≤ v → v < from + n → v / 64 ≡ from / 64
+pub begun_none : (filled words : List ℕ) (from f n v : ℕ) → Covers filled words → slice_index filled (from / 64) ≡ f →
+    ((i : ℕ) → i < n → bit_at (f / 2 ^ (from % 64)) i ≡ 0) → from ≤ v → v < from + n → v / 64 ≡ from / 64
     → slice_index words v ≡ 0
 begun_none filled words from f n v c is low late early same =
     let j = v - from in
@@ -70,5 +71,6 @@ begun_none filled words from f n v c is low late early same =
 pub begun_within : (f s : ℕ) → f < 2 ^ 64 → 0 < f / 2 ^ s → f / 2 ^ s < 2 ^ 64 → s + trailing_zeros w64 (f / 2 ^ s) < 64
 begun_within f s fits some small = elim (lower_or_not (s + trailing_zeros w64 (f / 2 ^ s)) 64) [
   | inl h ↦ h
-  | inr h ↦ absurd (let a = sym (moved f s (trailing_zeros w64 (f / 2 ^ s))) ∙ (bit_at-trailing_zeros w64 (f / 2 ^ s) some small).1 in let b = bit_at_above f 64 (s + trailing_zeros w64 (f / 2 ^ s)) fits h in omega (arith, a, b))
+  | inr h ↦ absurd (let a = sym (moved f s (trailing_zeros w64 (f / 2 ^ s))) ∙ (bit_at-trailing_zeros w64 (f / 2 ^ s) some small).1 in let b =
+      bit_at_above f 64 (s + trailing_zeros w64 (f / 2 ^ s)) fits h in omega (arith, a, b))
 ]

@@ -39,7 +39,8 @@ get_some [] s h = absurd (omega arith)
 get_some (x ∷ xs) zero h = (x, refl)
 get_some (x ∷ xs) (suc s) h = get_some xs s (omega (arith, h))
 
-input_width : (n : Netlist) (places : List Sig) (given : List Word) (k : ℕ) (s : ℕ) (w : Word) → AreInputs n given → slice_get (inputs_of n) k ≡ Some s → slice_get given k ≡ Some w → w.width ≡ width_of n s
+input_width : (n : Netlist) (places : List Sig) (given : List Word) (k : ℕ) (s : ℕ) (w : Word) → AreInputs n given → slice_get (inputs_of n) k ≡ Some
+    s → slice_get given k ≡ Some w → w.width ≡ width_of n s
 input_width n places given k s w h e f =
     let a = sym (get_map (λ (x : Word). x.width) given k w f) ∙ ap (λ l. slice_get l k) h ∙ get_map (width_of n) (inputs_of n) k s e in
     cc
@@ -56,10 +57,12 @@ input_not_wire k e f = absurd (let q = sym f ∙ ap sort_of e in cc)
 input_not_reg : (k : Kind) → k ≡ Input → ¬ (IsReg k)
 input_not_reg k e h = absurd (subst IsReg e h)
 
-next_at : (n : Netlist) (r : Register) (init : ℕ) (k : ℕ) → kind_at n r.signal.0 ≡ Reg init (Some r.next.0) → (g : Signal) × (slice_get n.signals r.signal.0 ≡ Some g) × (g.kind ≡ Reg init (Some r.next.0))
+next_at : (n : Netlist) (r : Register) (init : ℕ) (k : ℕ) → kind_at n r.signal.0 ≡ Reg init (Some r.next.0) → (g : Signal) ×
+    (slice_get n.signals r.signal.0 ≡ Some g) × (g.kind ≡ Reg init (Some r.next.0))
 next_at n r init k e = by (slice_get n.signals r.signal.0) refl e
   where
-    by : (o : Option Signal) → slice_get n.signals r.signal.0 ≡ o → kind_in o ≡ Reg init (Some r.next.0) → (g : Signal) × (slice_get n.signals r.signal.0 ≡ Some g) × (g.kind ≡ Reg init (Some r.next.0))
+    by : (o : Option Signal) → slice_get n.signals r.signal.0 ≡ o → kind_in o ≡ Reg init (Some r.next.0) → (g : Signal) ×
+        (slice_get n.signals r.signal.0 ≡ Some g) × (g.kind ≡ Reg init (Some r.next.0))
     by None q h = absurd (cc)
     by (Some g) q h = (g, q, h)
 
@@ -88,7 +91,8 @@ module _ (o : Order) (p : Plan) (marks waiting numbers v0 : List ℕ) (kept : Ke
   inputs_away i s e j f = input_not_wire (kind_at o.net s.0) ((inputs_are o.net p.inputs.items kept.keeps.inputs).at i s e).1 (kept.keeps.order.wires j s.0 f)
 
   -- the words of the inputs fit
-  pub inputs_fit : (v1 : List ℕ) → HasPut p.inputs.items given (length p.inputs.items) v0 v1 → (i : ℕ) (s : Sig) (w : Word) (g : Signal) → slice_get p.inputs.items i ≡ Some s → slice_get given i ≡ Some w → slice_get o.net.signals s.0 ≡ Some g → w.bits < 2 ^ g.width
+  pub inputs_fit : (v1 : List ℕ) → HasPut p.inputs.items given (length p.inputs.items) v0 v1 → (i : ℕ) (s : Sig) (w : Word) (g : Signal) → slice_get
+      p.inputs.items i ≡ Some s → slice_get given i ≡ Some w → slice_get o.net.signals s.0 ≡ Some g → w.bits < 2 ^ g.width
   inputs_fit v1 put i s w g e f at =
       let word = put.words i w (within p.inputs.items i s e) f in
       let here : slice_get (inputs_of o.net) i ≡ Some s.0 = ap (λ l. slice_get l i) (sym kept.keeps.inputs) ∙ get_map (λ (x : Sig). x.0) p.inputs.items i s e in
@@ -98,12 +102,15 @@ module _ (o : Order) (p : Plan) (marks waiting numbers v0 : List ℕ) (kept : Ke
   put_lists = lists_same p.starts.items p.readers.items _ _ _ _ kept.keeps.long refl kept.keeps.lists
 
   -- what is kept is so once the inputs have the words
-  module _ (v1 m1 : List ℕ) (put : HasPut p.inputs.items given (length p.inputs.items) v0 v1) (l1 : length m1 ≡ length marks) (goes : Goes o.net o.wires p.steps.items p.registers.items (state_of o p numbers) p.starts.items p.readers.items v0 v1 marks m1) where
+  module _ (v1 m1 : List ℕ) (put : HasPut p.inputs.items given (length p.inputs.items) v0 v1) (l1 : length m1 ≡ length marks)
+      (goes : Goes o.net o.wires p.steps.items p.registers.items (state_of o p numbers) p.starts.items p.readers.items v0 v1 marks m1) where
     waits_put : Waits p.registers.items (state_of o p numbers) v1 waiting
     waits_put = record {
       room = kept.keeps.waits.room;
       few = kept.keeps.waits.few;
-      shown = λ i r e none. put.others r.signal.0 (λ j t f z. input_not_reg (kind_at o.net t.0) ((inputs_are o.net p.inputs.items kept.keeps.inputs).at j t f).1 (subst IsReg (sym (kept.keeps.registers.each i r e).1 ∙ ap (kind_at o.net) (sym z)) tt)) ∙ kept.keeps.waits.shown i r e none;
+      shown = λ i r e none. put.others r.signal.0 (λ j t f z. input_not_reg (kind_at o.net t.0)
+          ((inputs_are o.net p.inputs.items kept.keeps.inputs).at j t f).1
+          (subst IsReg (sym (kept.keeps.registers.each i r e).1 ∙ ap (kind_at o.net) (sym z)) tt)) ∙ kept.keeps.waits.shown i r e none;
       within = kept.keeps.waits.within;
     }
 
@@ -168,7 +175,8 @@ module _ (o : Order) (p : Plan) (marks waiting numbers v1 : List ℕ) (kept : Ke
       let few = kept.keeps.registers.narrow i r e narrow in
       low_number o.net v3 r.next.0 fits (next_within i r e) (let w : width_of o.net r.signal.0 ≡ b.0.width = ap width_in b.1 in omega (arith, w, next, few))
 
-  shown_at : (v2 : List ℕ) → HasShown p.registers.items (state_of o p numbers) (length p.registers.items) v1 v2 → (s : ℕ) (g : Signal) → slice_get o.net.signals s ≡ Some g → IsReg g.kind → slice_index v2 s ≡ slice_index (state_of o p numbers) s
+  shown_at : (v2 : List ℕ) → HasShown p.registers.items (state_of o p numbers) (length p.registers.items) v1 v2 → (s : ℕ) (g : Signal) → slice_get
+      o.net.signals s ≡ Some g → IsReg g.kind → slice_index v2 s ≡ slice_index (state_of o p numbers) s
   shown_at v2 q s g e h =
       let a = kept.keeps.registers.all s (within o.net.signals s g e) (subst IsReg (sym (kind_is o.net s g e)) h) in
       ap (slice_index v2) (sym a.3) ∙ q.shown a.0 a.1 (within p.registers.items a.0 a.1 a.2) a.2 ∙ ap (slice_index (state_of o p numbers)) a.3
@@ -181,8 +189,11 @@ module _ (o : Order) (p : Plan) (marks waiting numbers v1 : List ℕ) (kept : Ke
   registers_away i r e j f = reg_not_wire (kind_at o.net r.signal.0) (subst IsReg (sym (kept.keeps.registers.each i r e).1) tt) (kept.keeps.order.wires j r.signal.0 f)
 
   -- the p.steps.items begin once the registers are shown
-  pub begins : (v2 m2 : List ℕ) → (AreAt p.registers.items numbers (state_of o p numbers) → Waits p.registers.items (state_of o p numbers) v1 waiting → HasShown p.registers.items (state_of o p numbers) (length p.registers.items) v1 v2) → length m2 ≡ length marks
-      → (RegistersAway p.registers.items o.wires → AreAt p.registers.items numbers (state_of o p numbers) → Goes o.net o.wires p.steps.items p.registers.items (state_of o p numbers) p.starts.items p.readers.items v1 v2 marks m2) → Runs o p.steps.items p.registers.items (state_of o p numbers) p.starts.items p.readers.items v2 0 v2 m2
+  pub begins : (v2 m2 : List ℕ) → (AreAt p.registers.items numbers (state_of o p numbers) → Waits p.registers.items (state_of o p numbers) v1 waiting
+      → HasShown p.registers.items (state_of o p numbers) (length p.registers.items) v1 v2) → length m2 ≡ length marks
+      → (RegistersAway p.registers.items o.wires → AreAt p.registers.items numbers (state_of o p numbers) → Goes o.net o.wires p.steps.items
+      p.registers.items (state_of o p numbers) p.starts.items p.readers.items v1 v2 marks m2) → Runs o p.steps.items p.registers.items
+      (state_of o p numbers) p.starts.items p.readers.items v2 0 v2 m2
   begins v2 m2 q l2 goes =
       let shown = goes registers_away numbers_at kept.keeps.read kept.keeps.steps kept.keeps.state kept.keeps.values kept.keeps.holding in
       record {
@@ -200,7 +211,8 @@ module _ (o : Order) (p : Plan) (marks waiting numbers v1 : List ℕ) (kept : Ke
       }
 
   -- none is kept yet
-  pub keeps_start : (v2 v3 m3 w2 : List ℕ) (first : ℕ) → first ≡ first_register (length p.steps.items) → Runs o p.steps.items p.registers.items (state_of o p numbers) p.starts.items p.readers.items v2 (first_register (length p.steps.items)) v3 m3 → ((j : ℕ) → marked w2 j ≡ 0)
+  pub keeps_start : (v2 v3 m3 w2 : List ℕ) (first : ℕ) → first ≡ first_register (length p.steps.items) → Runs o p.steps.items p.registers.items
+      (state_of o p numbers) p.starts.items p.readers.items v2 (first_register (length p.steps.items)) v3 m3 → ((j : ℕ) → marked w2 j ≡ 0)
       → KeepsOn first p.registers.items v3 first (state_of o p numbers) m3 (state_of o p numbers) m3 w2
   keeps_start v2 v3 m3 w2 first e scene none =
       let many = kept.keeps.steps.long in
@@ -217,7 +229,9 @@ module _ (o : Order) (p : Plan) (marks waiting numbers v1 : List ℕ) (kept : Ke
       }
 
   -- what holds once the steps have run and the registers are kept
-  module _ (v2 v3 m3 m4 w4 next : List ℕ) (first : ℕ) (shown : AreAt p.registers.items numbers (state_of o p numbers) → Waits p.registers.items (state_of o p numbers) v1 waiting → HasShown p.registers.items (state_of o p numbers) (length p.registers.items) v1 v2) (scene : Runs o p.steps.items p.registers.items (state_of o p numbers) p.starts.items p.readers.items v2 (first_register (length p.steps.items)) v3 m3)
+  module _ (v2 v3 m3 m4 w4 next : List ℕ) (first : ℕ) (shown : AreAt p.registers.items numbers (state_of o p numbers) → Waits p.registers.items
+      (state_of o p numbers) v1 waiting → HasShown p.registers.items (state_of o p numbers) (length p.registers.items) v1 v2)
+      (scene : Runs o p.steps.items p.registers.items (state_of o p numbers) p.starts.items p.readers.items v2 (first_register (length p.steps.items)) v3 m3)
       (e1 : first ≡ first_register (length p.steps.items)) (l3 : length m3 ≡ length marks) (l4 : length m4 ≡ length m3) (wide : length w4 ≡ length waiting) (l5 : length next ≡ length numbers)
       (ends : KeepsOn first p.registers.items v3 (length m4 * 64) (state_of o p numbers) m3 (state_of o p next) m4 w4) where
     q : HasShown p.registers.items (state_of o p numbers) (length p.registers.items) v1 v2
@@ -259,7 +273,8 @@ module _ (o : Order) (p : Plan) (marks waiting numbers v1 : List ℕ) (kept : Ke
         let same : s ≡ t = cc in
         input_stays s kind ∙ ap (slice_index v1) same)
 
-    same_inputs : (v : Valuation) → map (slice_index v) (inputs_of o.net) ≡ map (slice_index v3) (inputs_of o.net) → (s : ℕ) (g : Signal) → slice_get o.net.signals s ≡ Some g → g.kind ≡ Input → slice_index v s ≡ slice_index v3 s
+    same_inputs : (v : Valuation) → map (slice_index v) (inputs_of o.net) ≡ map (slice_index v3) (inputs_of o.net) → (s : ℕ) (g : Signal) → slice_get
+        o.net.signals s ≡ Some g → g.kind ≡ Input → slice_index v s ≡ slice_index v3 s
     same_inputs v h s g e f =
         let a = (inputs_are o.net p.inputs.items kept.keeps.inputs).all s g e f in
         let b = sym (get_map (slice_index v) (inputs_of o.net) a.0 s a.4) ∙ ap (λ l. slice_get l a.0) h ∙ get_map (slice_index v3) (inputs_of o.net) a.0 s a.4 in
@@ -294,12 +309,16 @@ module _ (o : Order) (p : Plan) (marks waiting numbers v1 : List ℕ) (kept : Ke
     state_fits s g e = by g.kind refl (kept.keeps.made.signals s g e).kind
       where
         by : (j : Kind) → g.kind ≡ j → KindFits o.net g.width j → slice_index (state_of o p next) s < 2 ^ g.width
-        by Input f h = small (slice_index (state_of o p next) s) (slice_index (state_of o p numbers) s) g.width g.width (r.others s (λ i t x z. absurd (subst IsReg (sym (kept.keeps.registers.each i t x).1 ∙ ap (kind_at o.net) z ∙ kind_is o.net s g e ∙ f) tt))) refl (kept.keeps.state s g e)
+        by Input f h = small (slice_index (state_of o p next) s) (slice_index (state_of o p numbers) s) g.width g.width
+            (r.others s (λ i t x z. absurd (subst IsReg (sym (kept.keeps.registers.each i t x).1 ∙ ap (kind_at o.net) z ∙ kind_is o.net s g e ∙ f)
+            tt))) refl (kept.keeps.state s g e)
         by (Reg init None) f h = absurd (subst IsSet f (kept.keeps.order.set s g e))
         by (Reg init (Some m)) f h =
             let there = get_some o.net.signals m h.1 in
             small (slice_index (state_of o p next) s) (slice_index v3 m) there.0.width g.width (kept_at s g init m e f) (ap width_in (sym there.1) ∙ h.2) (scene.fits m there.0 there.1)
-        by (Wire cell) f h = small (slice_index (state_of o p next) s) (slice_index (state_of o p numbers) s) g.width g.width (r.others s (λ i t x z. absurd (subst IsReg (sym (kept.keeps.registers.each i t x).1 ∙ ap (kind_at o.net) z ∙ kind_is o.net s g e ∙ f) tt))) refl (kept.keeps.state s g e)
+        by (Wire cell) f h = small (slice_index (state_of o p next) s) (slice_index (state_of o p numbers) s) g.width g.width
+            (r.others s (λ i t x z. absurd (subst IsReg (sym (kept.keeps.registers.each i t x).1 ∙ ap (kind_at o.net) z ∙ kind_is o.net s g e ∙ f)
+            tt))) refl (kept.keeps.state s g e)
 
     -- a register that does not wait shows its state
     shows_state : Shown p.registers.items (state_of o p next) v3 w4
@@ -307,7 +326,8 @@ module _ (o : Order) (p : Plan) (marks waiting numbers v1 : List ℕ) (kept : Ke
         let kind = (kept.keeps.registers.each i t e).1 in
         not_wire_same t.signal.0 (reg_not_wire (kind_at o.net t.signal.0) (subst IsReg (sym kind) tt))
         ∙ q.shown i t (within p.registers.items i t e) e
-        ∙ subst (λ x. Kept x p.registers.items (state_of o p numbers) v3 m3) (sym same_first) scene.holding.kept i t e (was_unmarked first p.registers.items v3 (length m4 * 64) (state_of o p numbers) m3 (state_of o p next) m4 w4 ends room i none)
+        ∙ subst (λ x. Kept x p.registers.items (state_of o p numbers) v3 m3) (sym same_first) scene.holding.kept i t e
+        (was_unmarked first p.registers.items v3 (length m4 * 64) (state_of o p numbers) m3 (state_of o p next) m4 w4 ends room i none)
         ∙ sym (r.kept i t (within p.registers.items i t e) e)
 
     keeps_after : Keeps o p.steps.items p.inputs.items p.registers.items p.starts.items p.readers.items m4 w4 (state_of o p next) v3
@@ -349,7 +369,8 @@ module _ (o : Order) (p : Plan) (marks waiting numbers v1 : List ℕ) (kept : Ke
         net = refl;
         fits = fits;
         inputs = inputs_stay ∙ has;
-        alone = λ v f h. one_valuation o.net kept.keeps.order.set (order_acyclic o.net o.wires kept.keeps.order) (slice_index (state_of o p numbers)) v v3 f fits (same_inputs v (h ∙ sym (inputs_stay ∙ has)));
+        alone = λ v f h. one_valuation o.net kept.keeps.order.set (order_acyclic o.net o.wires kept.keeps.order) (slice_index (state_of o p numbers))
+            v v3 f fits (same_inputs v (h ∙ sym (inputs_stay ∙ has)));
         state = state_next;
       };
     }
@@ -363,7 +384,8 @@ states_same o p marks marks' waiting waiting' numbers numbers' v v' m w a b k =
     (subst (λ x. KeepsStates o p marks waiting x v') (sym a)
     (subst (λ x. KeepsStates o p marks waiting numbers x) (sym b) k)))
 
-pub cycle_through : (o : Order) (p : Plan) (marks marks' waiting waiting' : List ℕ) (given : List Word) (now now' v v' mark wait next after : List ℕ) → marks' ≡ marks → waiting' ≡ waiting → now' ≡ now → v' ≡ v
+pub cycle_through : (o : Order) (p : Plan) (marks marks' waiting waiting' : List ℕ) (given : List Word) (now now' v v' mark wait next after : List ℕ)
+    → marks' ≡ marks → waiting' ≡ waiting → now' ≡ now → v' ≡ v
     → (KeepsStates o p marks' waiting' now' v' → Cycles o p given now' v' mark wait next after) → KeepsStates o p marks waiting now v → Cycles o p given now v mark wait next after
 cycle_through o p marks marks' waiting waiting' given now now' v v' mark wait next after m w d e f k =
     subst (λ x. Cycles o p given x v mark wait next after) d

@@ -53,7 +53,8 @@ fill_values (g ∷ gs) words e = on g.kind words e (λ rest q. fill_values gs re
     on (Reg init next) words e rest = rest words e
     on (Wire cell) words e rest = rest words e
 
-fill_fits : (gs : List Signal) (words : List Word) → AreWords words → widths words ≡ input_values gs (sizes gs) → (s : ℕ) (g : Signal) → slice_get gs s ≡ Some g → slice_index (fill gs (bits words)) s < 2 ^ g.width
+fill_fits : (gs : List Signal) (words : List Word) → AreWords words → widths words ≡ input_values gs (sizes gs) → (s : ℕ) (g : Signal) → slice_get gs
+    s ≡ Some g → slice_index (fill gs (bits words)) s < 2 ^ g.width
 fill_fits [] words are e s h at = absurd cc
 fill_fits (g ∷ gs) words are e zero h at = subst (λ (x : Signal). first_of g.kind (bits words) < 2 ^ x.width) (let q : g ≡ h = cc in q) (on g.kind words are e)
   where
@@ -73,7 +74,8 @@ fill_fits (g ∷ gs) words are e (suc s) h at = on g.kind words are e (λ rest a
     on (Wire cell) words are e rest = rest words are e
 
 -- what agrees on the inputs has the same numbers there
-values_same : (gs : List Signal) (v u : List ℕ) → length v ≡ length gs → length u ≡ length gs → ((s : ℕ) (g : Signal) → slice_get gs s ≡ Some g → g.kind ≡ Input → slice_index v s ≡ slice_index u s) → input_values gs v ≡ input_values gs u
+values_same : (gs : List Signal) (v u : List ℕ) → length v ≡ length gs → length u ≡ length gs →
+    ((s : ℕ) (g : Signal) → slice_get gs s ≡ Some g → g.kind ≡ Input → slice_index v s ≡ slice_index u s) → input_values gs v ≡ input_values gs u
 values_same [] v u l m h = refl
 values_same (g ∷ gs) [] u l m h = absurd (omega (arith, l))
 values_same (g ∷ gs) (x ∷ v) [] l m h = absurd (omega (arith, m))
@@ -90,7 +92,8 @@ unfolding input_words
 input_are_words [] start args s a = tt
 input_are_words (g ∷ gs) start args s a = on g.kind (is_start g.name) args a (λ rest b. input_are_words gs start rest s b)
   where
-    on : (k : Kind) (b : Bool) (args : List Word) → AreWords args → ((rest : List Word) → AreWords rest → AreWords (input_words gs start rest)) → AreWords (own_word k b start args ++ input_words gs start (others k b args))
+    on : (k : Kind) (b : Bool) (args : List Word) → AreWords args → ((rest : List Word) → AreWords rest → AreWords (input_words gs start rest)) →
+        AreWords (own_word k b start args ++ input_words gs start (others k b args))
     on Input true args a rest = (s, rest args a)
     on Input false [] a rest = rest [] tt
     on Input false (x ∷ args) a rest = (a.0, rest args a.1)

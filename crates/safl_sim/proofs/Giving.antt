@@ -36,7 +36,8 @@ inputs_map (g ∷ gs) (w ∷ ws) f i l h =
 
 module _ (f : Word → ℕ) (start : Word) where
   -- where `start` and the arguments have their numbers, the inputs have those of the words
-  pub giving : (gs : List Signal) (v : List ℕ) (args : List Word) → length v ≡ length gs → Starts gs v (f start) → input_numbers gs v ≡ map f args → input_values gs v ≡ map f (input_words gs start args)
+  pub giving : (gs : List Signal) (v : List ℕ) (args : List Word) → length v ≡ length gs → Starts gs v (f start) → input_numbers gs v ≡ map f args →
+      input_values gs v ≡ map f (input_words gs start args)
   unfolding input_numbers input_words
   giving [] v args l s e = refl
   giving (g ∷ gs) [] args l s e = absurd (omega (arith, l))
@@ -75,7 +76,8 @@ abbrev pub widths : List Word → List ℕ
 widths args = map (λ (w : Word). w.width) args
 
 module _ (start : Word) where
-  pub given : (gs : List Signal) (v : List ℕ) (args : List Word) → length v ≡ length gs → widths args ≡ argument_widths gs → input_values gs v ≡ bits (input_words gs start args) → Given gs v start.bits (bits args)
+  pub given : (gs : List Signal) (v : List ℕ) (args : List Word) → length v ≡ length gs → widths args ≡ argument_widths gs → input_values gs v ≡ bits
+      (input_words gs start args) → Given gs v start.bits (bits args)
   unfolding argument_widths input_words input_numbers
   given [] v [] l a e = record { start = λ s g f. absurd (cc); numbers = refl }
   given [] v (x ∷ args) l a e = absurd (cc)
@@ -102,10 +104,18 @@ module _ (start : Word) where
           record { start = r.0; numbers = ap (λ k. cond (is_argument g.name k) (w ∷ input_numbers gs ws) (input_numbers gs ws)) q ∙ r.1 }
       on (Reg init next) q args a e rest =
           let r = rest args a e in
-          record { start = starts_more g gs w ws start.bits (λ k n. absurd (cc)) r.start; numbers = ap (λ k. cond (is_argument g.name k) (w ∷ input_numbers gs ws) (input_numbers gs ws)) q ∙ r.numbers }
+          record {
+            start = starts_more g gs w ws start.bits (λ k n. absurd (cc)) r.start;
+            numbers = ap
+                (λ k. cond (is_argument g.name k) (w ∷ input_numbers gs ws) (input_numbers gs ws)) q ∙ r.numbers;
+          }
       on (Wire cell) q args a e rest =
           let r = rest args a e in
-          record { start = starts_more g gs w ws start.bits (λ k n. absurd (cc)) r.start; numbers = ap (λ k. cond (is_argument g.name k) (w ∷ input_numbers gs ws) (input_numbers gs ws)) q ∙ r.numbers }
+          record {
+            start = starts_more g gs w ws start.bits (λ k n. absurd (cc)) r.start;
+            numbers = ap
+                (λ k. cond (is_argument g.name k) (w ∷ input_numbers gs ws) (input_numbers gs ws)) q ∙ r.numbers;
+          }
 
 -- the widths of the signals, as numbers
 abbrev pub sizes : List Signal → List ℕ
@@ -138,12 +148,14 @@ are_inputs n x args made whole a =
 pub values_are : (n : Netlist) (v : Valuation) → length v ≡ length n.signals → map (slice_index v) (inputs_of n) ≡ input_values n.signals v
 values_are n v l = inputs_map n.signals v (slice_index v) 0 l (λ k. ap (slice_index v) (let z : k + 0 ≡ k = omega arith in z))
 
-pub has_words : (n : Netlist) (x : ℕ) (args : List Word) (v : Valuation) → IsNetlist n → IsWhole n → length v ≡ length n.signals → start_number n v ≡ x → input_numbers n.signals v ≡ bits args → HasWords n v (input_words n.signals (bit_word x) args)
+pub has_words : (n : Netlist) (x : ℕ) (args : List Word) (v : Valuation) → IsNetlist n → IsWhole n → length v ≡ length n.signals → start_number n v ≡
+    x → input_numbers n.signals v ≡ bits args → HasWords n v (input_words n.signals (bit_word x) args)
 has_words n x args v made whole l s e =
     values_are n v l
     ∙ giving (λ (w : Word). w.bits) (bit_word x) n.signals v args l (starts n v x made whole.start (start_at n v x whole.start s)) e
 
-pub words_had : (n : Netlist) (x : ℕ) (args : List Word) (v : Valuation) → IsWhole n → AreArguments n args → length v ≡ length n.signals → HasWords n v (input_words n.signals (bit_word x) args) → (start_number n v ≡ x) × (input_numbers n.signals v ≡ bits args)
+pub words_had : (n : Netlist) (x : ℕ) (args : List Word) (v : Valuation) → IsWhole n → AreArguments n args → length v ≡ length n.signals → HasWords n
+    v (input_words n.signals (bit_word x) args) → (start_number n v ≡ x) × (input_numbers n.signals v ≡ bits args)
 words_had n x args v whole a l h =
     let r = given (bit_word x) n.signals v args l a (sym (values_are n v l) ∙ h) in
     (start_is n v x whole.start r.start, r.numbers)

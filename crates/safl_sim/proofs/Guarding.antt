@@ -20,7 +20,8 @@ part_none steps readers place from old = record {
   others = λ j o. refl;
 }
 
-pub part_more : (steps : List Step) (readers : List ℕ) (place from to k : ℕ) (g : Guard) (old new : List Guard) → PartTo steps readers place from to old new → from ≤ to → to < length new → slice_get readers to ≡ Some k → IsGuard steps place k g
+pub part_more : (steps : List Step) (readers : List ℕ) (place from to k : ℕ) (g : Guard) (old new : List Guard) → PartTo steps readers place from to
+    old new → from ≤ to → to < length new → slice_get readers to ≡ Some k → IsGuard steps place k g
     → PartTo steps readers place from (to + 1) old (set new to g)
 part_more steps readers place from to k g old new w late inside here is = record {
   long = set_long new to g ∙ w.long;
@@ -33,7 +34,8 @@ part_more steps readers place from to k g old new w late inside here is = record
         let its : h ≡ g = cc in
         subst (λ x. IsGuard steps place x h) (sym own) (subst (IsGuard steps place k) (sym its) is)
   ];
-  others = λ j o. get_set_other new to j g (λ z. elim o [ inl l ↦ absurd (omega (arith, l, z, late)) | inr l ↦ absurd (omega (arith, l, z)) ]) ∙ w.others j (elim o [ inl l ↦ inl l | inr l ↦ inr (omega (arith, l)) ]);
+  others = λ j o. get_set_other new to j g (λ z. elim o [ inl l ↦ absurd (omega (arith, l, z, late)) | inr l ↦ absurd (omega (arith, l, z)) ]) ∙
+      w.others j (elim o [ inl l ↦ inl l | inr l ↦ inr (omega (arith, l)) ]);
 }
 
 -- the parts of places come one after another
@@ -50,7 +52,8 @@ pub record GuardedTo (steps : List Step) (starts readers : List ℕ) (count : �
   pub long : length guards ≡ length readers
   pub each : (p j k : ℕ) (g : Guard) → p < count → slice_index starts p ≤ j → j < slice_index starts (p + 1) → slice_get readers j ≡ Some k → slice_get guards j ≡ Some g → IsGuard steps p k g
 
-pub guarded_more : (steps : List Step) (starts readers : List ℕ) (places words count : ℕ) (old new : List Guard) → Lists starts readers places words → count < places → GuardedTo steps starts readers count old
+pub guarded_more : (steps : List Step) (starts readers : List ℕ) (places words count : ℕ) (old new : List Guard) → Lists starts readers places words →
+    count < places → GuardedTo steps starts readers count old
     → PartTo steps readers count (slice_index starts count) (slice_index starts (count + 1)) old new → GuardedTo steps starts readers (count + 1) new
 guarded_more steps starts readers places words count old new w inside before part = record {
   long = part.long ∙ before.long;

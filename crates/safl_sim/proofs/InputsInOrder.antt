@@ -20,7 +20,8 @@ pub inputs_at : (gs : List Signal) (i k s : ℕ) → slice_get (inputs_from gs i
 inputs_at [] i k s e = absurd (cc)
 inputs_at (g ∷ gs) i k s e = on g.kind refl k e (λ k f. inputs_at gs (suc i) k s f)
   where
-    on : (j : Kind) → g.kind ≡ j → (k : ℕ) → slice_get (with_input j i (inputs_from gs (suc i))) k ≡ Some s → ((k : ℕ) → slice_get (inputs_from gs (suc i)) k ≡ Some s → InputAt gs (suc i) s) → InputAt (g ∷ gs) i s
+    on : (j : Kind) → g.kind ≡ j → (k : ℕ) → slice_get (with_input j i (inputs_from gs (suc i))) k ≡ Some s →
+        ((k : ℕ) → slice_get (inputs_from gs (suc i)) k ≡ Some s → InputAt gs (suc i) s) → InputAt (g ∷ gs) i s
     on Input q zero e rest = record { from = 0; is = (let a : i ≡ s = cc in omega (arith, a)); within = omega arith; input = q }
     on Input q (suc k) e rest = input_more g gs i s (rest k e)
     on (Reg init next) q k e rest = input_more g gs i s (rest k e)
@@ -68,7 +69,8 @@ length_map f [] = refl
 length_map f (x ∷ xs) = ap suc (length_map f xs)
 
 -- lists that agree at each place
-pub maps_agree : {A B : Type 0} (f : A → ℕ) (g : B → ℕ) (xs : List A) (ys : List B) → length xs ≡ length ys → ((i : ℕ) (x : A) (y : B) → slice_get xs i ≡ Some x → slice_get ys i ≡ Some y → f x ≡ g y) → map f xs ≡ map g ys
+pub maps_agree : {A B : Type 0} (f : A → ℕ) (g : B → ℕ) (xs : List A) (ys : List B) → length xs ≡ length ys →
+    ((i : ℕ) (x : A) (y : B) → slice_get xs i ≡ Some x → slice_get ys i ≡ Some y → f x ≡ g y) → map f xs ≡ map g ys
 maps_agree f g [] [] e h = refl
 maps_agree f g [] (y ∷ ys) e h = absurd (omega (arith, e))
 maps_agree f g (x ∷ xs) [] e h = absurd (omega (arith, e))

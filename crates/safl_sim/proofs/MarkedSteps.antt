@@ -24,9 +24,12 @@ pub record Takes (o : Order) (all : List Step) (regs : List Register) (now start
   pub low : LowStep values step
   pub wire : step.wire.0 < length values
   pub lists : Lists starts readers (length values) (length marks')
-  pub next : (values'' marks'' : List ℕ) → HasGiven all starts readers step.wire.0 (action_number (slice_index values) step.action) values values'' marks' marks'' → Runs o all regs now starts readers start (i + 1) values'' marks''
+  pub next : (values'' marks'' : List ℕ) → HasGiven all starts readers step.wire.0 (action_number (slice_index values) step.action) values values''
+      marks' marks'' → Runs o all regs now starts readers start (i + 1) values'' marks''
 
-module _ (o : Order) (all : List Step) (regs : List Register) (now starts readers start : List ℕ) (place word i : ℕ) (values marks marks' : List ℕ) (w : Runs o all regs now starts readers start place values marks) (le : place ≤ (word + 1) * 64) (from : word * 64 ≤ place) (t : HasTaken marks marks' word i) (early : (word + 1) * 64 ≤ first_register (length all)) where
+module _ (o : Order) (all : List Step) (regs : List Register) (now starts readers start : List ℕ) (place word i : ℕ) (values marks marks' : List ℕ)
+    (w : Runs o all regs now starts readers start place values marks) (le : place ≤ (word + 1) * 64) (from : word * 64 ≤ place)
+    (t : HasTaken marks marks' word i) (early : (word + 1) * 64 ≤ first_register (length all)) where
   -- the step that is taken is none of those done, and is in range
   pub taken_from : place ≤ i
   taken_from = taken_after marks marks' 0 place word i (λ k f h. w.below k h) (omega arith) from t
@@ -68,14 +71,16 @@ module _ (o : Order) (all : List Step) (regs : List Register) (now starts reader
     where
       after : (s : ℕ) (step : Step) → slice_get o.wires i ≡ Some s → (is : IsStep o.net s step) → (g : Signal) → slice_get o.net.signals s ≡ Some g → g.kind ≡ Wire (Some is.cell) → s < length values
           → action_number (slice_index values) step.action ≡ (cell_word is.cell.op (map (signal_word o.net values) is.cell.operands)).bits
-          → (values'' marks'' : List ℕ) → HasGiven all starts readers s (action_number (slice_index values) step.action) values values'' marks' marks'' → Runs o all regs now starts readers start (i + 1) values'' marks''
+          → (values'' marks'' : List ℕ) → HasGiven all starts readers s (action_number (slice_index values) step.action) values values'' marks'
+          marks'' → Runs o all regs now starts readers start (i + 1) values'' marks''
       after s step at is g sig kind inside gives values'' marks'' h =
           let x = action_number (slice_index values) step.action in
           let set_is = h.is in
           let fits' : FitWidths o.net (slice_index values'') = subst (λ l. FitWidths o.net (slice_index l)) (sym set_is) (fits_set o.net values s x inside (λ b e.
           let g' : Some b ≡ Some g = sym e ∙ sig in
           let one : b ≡ g = cc in
-          small x (cell_word is.cell.op (map (signal_word o.net values) is.cell.operands)).bits g.width b.width gives (ap (λ (z : Signal). z.width) (sym one)) (cell_number_fits o.net values s is.cell g w.made w.fits sig kind)) w.fits) in
+          small x (cell_word is.cell.op (map (signal_word o.net values) is.cell.operands)).bits g.width b.width gives
+          (ap (λ (z : Signal). z.width) (sym one)) (cell_number_fits o.net values s is.cell g w.made w.fits sig kind)) w.fits) in
           record {
             made = w.made;
             order = w.order;
@@ -95,14 +100,17 @@ module _ (o : Order) (all : List Step) (regs : List Register) (now starts reader
                     let one : d ≡ is.cell = cc in
                     subst (λ l. Agrees o.net l y d) (sym set_is)
                     (ap (slice_index (set values s x)) q ∙ index_here values s x inside ∙ gives
-                    ∙ ap (λ l. (cell_word is.cell.op l).bits) (sym (operands_same o.net values s x is.cell.operands (λ j u m. apart o.net o.wires i i s s j u is.cell w.order at at (omega arith) is.is m)))
+                    ∙ ap (λ l. (cell_word is.cell.op l).bits) (sym (operands_same o.net values s x is.cell.operands
+                    (λ j u m. apart o.net o.wires i i s s j u is.cell w.order at at (omega arith) is.is m)))
                     ∙ ap (λ (z : Cell). (cell_word z.op (map (signal_word o.net (set values s x)) z.operands)).bits) (sym one))
                 | inr q ↦
                     let was : marked marks' k ≡ 0 = was_none marks' marks'' k h.grows none in
                     let other : ¬ (k ≡ i) = λ z. q (let m : Some y ≡ Some s = sym e ∙ ap (slice_get o.wires) z ∙ at in cc) in
-                    given_stays o.net o.wires all regs starts readers s x values values'' marks' marks'' w.read w.steps w.fits fits' h k y d e f q none (w.holding.stays k y d e f (sym (t.others k other) ∙ was))
+                    given_stays o.net o.wires all regs starts readers s x values values'' marks' marks'' w.read w.steps w.fits fits' h k y d e f q
+                    none (w.holding.stays k y d e f (sym (t.others k other) ∙ was))
               ];
-              kept = given_kept o.net o.wires all regs now starts readers s x values values'' marks' marks'' w.read w.steps.long h (λ k q e none. w.holding.kept k q e (sym (t.others (first_register (length o.wires) + k) (λ z. apart_marks k z)) ∙ none));
+              kept = given_kept o.net o.wires all regs now starts readers s x values values'' marks' marks'' w.read w.steps.long h
+                  (λ k q e none. w.holding.kept k q e (sym (t.others (first_register (length o.wires) + k) (λ z. apart_marks k z)) ∙ none));
               inside = given_inside o.net o.wires all regs starts readers s x values values'' marks' marks'' w.read h (record {
                 step = λ k e l. elim (same_or_not k i) [ inl q ↦ absurd (gone k q e) | inr q ↦ w.holding.inside.step k (sym (t.others k q) ∙ e) l ];
                 register = λ k e. elim (same_or_not k i) [ inl q ↦ absurd (gone k q e) | inr q ↦ w.holding.inside.register k (sym (t.others k q) ∙ e) ];
@@ -110,7 +118,8 @@ module _ (o : Order) (all : List Step) (regs : List Register) (now starts reader
             };
           }
 
-pub runs_to : (o : Order) (all : List Step) (regs : List Register) (now starts readers start : List ℕ) (place place' : ℕ) (values marks : List ℕ) → Runs o all regs now starts readers start place values marks → ((k : ℕ) → k < place' → marked marks k ≡ 0)
+pub runs_to : (o : Order) (all : List Step) (regs : List Register) (now starts readers start : List ℕ) (place place' : ℕ) (values marks : List ℕ) →
+    Runs o all regs now starts readers start place values marks → ((k : ℕ) → k < place' → marked marks k ≡ 0)
     → Runs o all regs now starts readers start place' values marks
 runs_to o all regs now starts readers start place place' values marks w below = record {
   made = w.made;
@@ -127,14 +136,17 @@ runs_to o all regs now starts readers start place place' values marks w below = 
 }
 
 -- a word with no mark left is done
-pub none_left : (o : Order) (all : List Step) (regs : List Register) (now starts readers start : List ℕ) (place word : ℕ) (values marks : List ℕ) → Runs o all regs now starts readers start place values marks → word * 64 ≤ place → HasNone marks word
+pub none_left : (o : Order) (all : List Step) (regs : List Register) (now starts readers start : List ℕ) (place word : ℕ) (values marks : List ℕ) →
+    Runs o all regs now starts readers start place values marks → word * 64 ≤ place → HasNone marks word
     → Runs o all regs now starts readers start ((word + 1) * 64) values marks
 none_left o all regs now starts readers start place word values marks w from none = runs_to o all regs now starts readers start place ((word + 1) * 64) values marks w
     (λ k l. none_upto marks 0 place word (λ k f h. w.below k h) from none k (omega arith) l)
 
 -- once all steps have run in turn, registers alone have to be marked
-pub all_ran : (o : Order) (all : List Step) (regs : List Register) (now starts readers start values marks none marks' : List ℕ) → Runs o all regs now starts readers start 0 values marks → length none ≡ length marks → ((k : ℕ) → marked none k ≡ 0)
-    → HasRange (first_register (length all)) (first_register (length all) + length regs) none marks' → Runs o all regs now starts readers start (first_register (length all)) (after_steps all values) marks'
+pub all_ran : (o : Order) (all : List Step) (regs : List Register) (now starts readers start values marks none marks' : List ℕ) → Runs o all regs now
+    starts readers start 0 values marks → length none ≡ length marks → ((k : ℕ) → marked none k ≡ 0)
+    → HasRange (first_register (length all)) (first_register (length all) + length regs) none marks' → Runs o all regs now starts readers start
+    (first_register (length all)) (after_steps all values) marks'
 all_ran o all regs now starts readers start values marks none marks' w long away m =
     let r = all_steps o.net o.wires all values w.made w.order w.steps w.long w.fits in
     let many = w.steps.long in
@@ -167,7 +179,8 @@ pub all_ready : (o : Order) (all : List Step) (regs : List Register) (now starts
 all_ready o all regs now starts readers start values marks w = (all_steps o.net o.wires all values w.made w.order w.steps w.long w.fits).ready
 
 -- words with no mark left are done
-pub runs_skip : (o : Order) (all : List Step) (regs : List Register) (now starts readers start : List ℕ) (from to : ℕ) (values marks : List ℕ) → Runs o all regs now starts readers start (from * 64) values marks → NoneBetween marks from to
+pub runs_skip : (o : Order) (all : List Step) (regs : List Register) (now starts readers start : List ℕ) (from to : ℕ) (values marks : List ℕ) → Runs
+    o all regs now starts readers start (from * 64) values marks → NoneBetween marks from to
     → Runs o all regs now starts readers start (to * 64) values marks
 runs_skip o all regs now starts readers start from to values marks w none = runs_to o all regs now starts readers start (from * 64) (to * 64) values marks w
     (λ k l. none_past marks 0 from to (λ j f h. w.below j h) none k (omega arith) l)

@@ -25,7 +25,8 @@ mark_has old i h =
       long = set_length old (i / 64) x;
       here = written_same old (i / 64) x i h refl ∙ bit_at_set_same w64 (slice_index old (i / 64)) (i % 64) low;
       others = λ k n. elim (same_or_not (k / 64) (i / 64)) [
-        | inl q ↦ written_same old (i / 64) x k h q ∙ bit_at_set_other w64 (slice_index old (i / 64)) (i % 64) low (k % 64) (λ e. n (omega (arith, e, q))) ∙ ap (λ y. bit_at (slice_index old y) (k % 64)) (sym q)
+        | inl q ↦ written_same old (i / 64) x k h q ∙ bit_at_set_other w64 (slice_index old (i / 64)) (i % 64) low (k % 64)
+            (λ e. n (omega (arith, e, q))) ∙ ap (λ y. bit_at (slice_index old y) (k % 64)) (sym q)
         | inr q ↦ written_other old (i / 64) x k q
       ];
     }
@@ -49,7 +50,8 @@ take_has old w left h is some fits =
       first = λ k q l. ap (λ y. bit_at (slice_index old y) (k % 64)) q ∙ ap (λ y. bit_at y (k % 64)) is ∙ low.2 (k % 64) (omega (arith, q, l));
       gone = written_same old w x (w * 64 + b) h at ∙ ap (bit_at x) bit ∙ bit_at_clear_same w64 left b under;
       others = λ k n. elim (same_or_not (k / 64) w) [
-        | inl q ↦ written_same old w x k h q ∙ bit_at_clear_other w64 left b under (k % 64) (omega arith) (λ e. n (omega (arith, e, q))) ∙ ap (λ y. bit_at y (k % 64)) (sym is) ∙ ap (λ y. bit_at (slice_index old y) (k % 64)) (sym q)
+        | inl q ↦ written_same old w x k h q ∙ bit_at_clear_other w64 left b under (k % 64) (omega arith) (λ e. n (omega (arith, e, q))) ∙ ap
+            (λ y. bit_at y (k % 64)) (sym is) ∙ ap (λ y. bit_at (slice_index old y) (k % 64)) (sym q)
         | inr q ↦ written_other old w x k q
       ];
     }
@@ -63,7 +65,8 @@ marked_none steps readers from p values marks = record {
 }
 
 -- one reader more is marked
-pub marked_step : (steps : List Step) (readers : List ℕ) (from j r p : ℕ) (values old marks new : List ℕ) → from ≤ j → HasMarked steps readers from j p values old marks → slice_get readers j ≡ Some r → HasMark marks new r
+pub marked_step : (steps : List Step) (readers : List ℕ) (from j r p : ℕ) (values old marks new : List ℕ) → from ≤ j → HasMarked steps readers from j
+    p values old marks → slice_get readers j ≡ Some r → HasMark marks new r
     → HasMarked steps readers from (j + 1) p values old new
 marked_step steps readers from j r p values old marks new le w e m = record {
   long = m.long ∙ w.long;
@@ -79,7 +82,8 @@ marked_step steps readers from j r p values old marks new le w e m = record {
     on k h = elim (same_or_not k r) [ inl q ↦ ap (marked new) q ∙ m.here | inr q ↦ m.others k q ∙ h ]
 
 -- or blind
-pub blind_step : (steps : List Step) (readers : List ℕ) (from j r p : ℕ) (values old marks : List ℕ) → HasMarked steps readers from j p values old marks → slice_get readers j ≡ Some r → Blind steps values p r → HasMarked steps readers from (j + 1) p values old marks
+pub blind_step : (steps : List Step) (readers : List ℕ) (from j r p : ℕ) (values old marks : List ℕ) → HasMarked steps readers from j p values old
+    marks → slice_get readers j ≡ Some r → Blind steps values p r → HasMarked steps readers from (j + 1) p values old marks
 blind_step steps readers from j r p values old marks w e blind = record {
   long = w.long;
   grows = w.grows;
@@ -111,7 +115,8 @@ range_step from i old marks new le w m = record {
 }
 
 -- where none is marked from a first number up to a place, the mark that is taken stands after it, and none up to that one is left
-module _ (marks marks' : List ℕ) (first place word i : ℕ) (below : (k : ℕ) → first ≤ k → k < place → marked marks k ≡ 0) (early : first ≤ word * 64) (from : word * 64 ≤ place) (t : HasTaken marks marks' word i) where
+module _ (marks marks' : List ℕ) (first place word i : ℕ) (below : (k : ℕ) → first ≤ k → k < place → marked marks k ≡ 0) (early : first ≤ word * 64)
+    (from : word * 64 ≤ place) (t : HasTaken marks marks' word i) where
   pub taken_after : place ≤ i
   taken_after = elim (lower_or_not i place) [
     | inl h ↦ absurd (let z = t.within in let a = below i (omega (arith, z, early)) h in let b = t.was in omega (arith, a, b))
@@ -131,7 +136,8 @@ module _ (marks marks' : List ℕ) (first place word i : ℕ) (below : (k : ℕ)
   ]
 
 -- a word with no mark left
-pub none_upto : (marks : List ℕ) (first place word : ℕ) → ((k : ℕ) → first ≤ k → k < place → marked marks k ≡ 0) → word * 64 ≤ place → HasNone marks word → (k : ℕ) → first ≤ k → k < (word + 1) * 64 → marked marks k ≡ 0
+pub none_upto : (marks : List ℕ) (first place word : ℕ) → ((k : ℕ) → first ≤ k → k < place → marked marks k ≡ 0) → word * 64 ≤ place → HasNone marks
+    word → (k : ℕ) → first ≤ k → k < (word + 1) * 64 → marked marks k ≡ 0
 none_upto marks first place word below from none k f l = elim (lower_or_not k place) [ inl h ↦ below k f h | inr h ↦ none k (omega (arith, h, l, from)) ]
 
 -- words with no mark left
@@ -160,7 +166,8 @@ or_none a b h = (
 )
 
 -- four words
-four_none : (marks : List ℕ) (w a b c d : ℕ) → slice_index marks w ≡ a → slice_index marks (w + 1) ≡ b → slice_index marks (w + 2) ≡ c → slice_index marks (w + 3) ≡ d → ((i : ℕ) → bit_at (bit_or (bit_or (bit_or a b) c) d) i ≡ 0) → NoneBetween marks w (w + 4)
+four_none : (marks : List ℕ) (w a b c d : ℕ) → slice_index marks w ≡ a → slice_index marks (w + 1) ≡ b → slice_index marks (w + 2) ≡ c → slice_index
+    marks (w + 3) ≡ d → ((i : ℕ) → bit_at (bit_or (bit_or (bit_or a b) c) d) i ≡ 0) → NoneBetween marks w (w + 4)
 four_none marks w a b c d ea eb ec ed e v f l k q =
     let x = or_none (bit_or (bit_or a b) c) d e in
     let y = or_none (bit_or a b) c x.0 in

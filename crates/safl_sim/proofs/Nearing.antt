@@ -134,7 +134,8 @@ near_more readers from j to k word m first w le e at =
     }
 
 -- one more stands in another word: it is the first of the others, or one comes before it
-pub near_other : (readers : List ℕ) (from j to k word m first first' : ℕ) → NearTo readers from j to word m first → from ≤ first' → first' ≤ first → first' ≤ j → slice_get readers j ≡ Some k → ¬ (k / 64 ≡ word)
+pub near_other : (readers : List ℕ) (from j to k word m first first' : ℕ) → NearTo readers from j to word m first → from ≤ first' → first' ≤ first →
+    first' ≤ j → slice_get readers j ≡ Some k → ¬ (k / 64 ≡ word)
     → NearTo readers from (j + 1) to word m first'
 near_other readers from j to k word m first first' w least lower before e away = record {
   least = least;
@@ -183,7 +184,8 @@ module _ (steps : List Step) (starts readers : List ℕ) (s : Step) (i x : ℕ) 
   })
 
   -- or new: the readers are marked, or their bits are in the mask
-  module _ (g : Near) (marks' : List ℕ) (inside : (i / 64) < length marks) (near : NearAt starts readers s.wire.0 (i / 64) g) (m : HasMarked steps readers g.first (slice_index starts (s.wire.0 + 1)) s.wire.0 (set values s.wire.0 x) marks marks') where
+  module _ (g : Near) (marks' : List ℕ) (inside : (i / 64) < length marks) (near : NearAt starts readers s.wire.0 (i / 64) g)
+      (m : HasMarked steps readers g.first (slice_index starts (s.wire.0 + 1)) s.wire.0 (set values s.wire.0 x) marks marks') where
     inside' : (i / 64) < length marks'
     inside' = let a = m.long in omega (arith, a, inside)
 
@@ -242,7 +244,8 @@ abbrev pub joined : List ℕ → ℕ → ℕ → List ℕ
 joined marks w x = set marks w (bit_or (slice_index marks w) x)
 
 marked_joined : (marks : List ℕ) (w x k : ℕ) → w < length marks → k / 64 ≡ w → marked (joined marks w x) k ≡ max (marked marks k) (bit_at x (k % 64))
-marked_joined marks w x k h e = written_same marks w (bit_or (slice_index marks w) x) k h e ∙ bit_at_or (slice_index marks w) x (k % 64) ∙ ap (λ y. max (bit_at (slice_index marks y) (k % 64)) (bit_at x (k % 64))) (sym e)
+marked_joined marks w x k h e = written_same marks w (bit_or (slice_index marks w) x) k h e ∙ bit_at_or (slice_index marks w) x (k % 64) ∙ ap
+    (λ y. max (bit_at (slice_index marks y) (k % 64)) (bit_at x (k % 64))) (sym e)
 
 module _ (marks : List ℕ) (w x k : ℕ) where
   pub joined_grows : marked marks k ≡ 1 → marked (joined marks w x) k ≡ 1
@@ -282,7 +285,8 @@ module _ (readers : List ℕ) (from to w : ℕ) (g : Near) (near : IsNear reader
     | inr q ↦ written_other marks w (bit_or (slice_index marks w) g.mask) k q
   ]
 
-  module _ (steps : List Step) (p : ℕ) (values marks' : List ℕ) (known : (j k : ℕ) → slice_get readers j ≡ Some k → k / 64 < length marks) (m : HasMarked steps readers g.first to p values (joined marks w g.mask) marks') where
+  module _ (steps : List Step) (p : ℕ) (values marks' : List ℕ) (known : (j k : ℕ) → slice_get readers j ≡ Some k → k / 64 < length marks)
+      (m : HasMarked steps readers g.first to p values (joined marks w g.mask) marks') where
     -- its readers are marked, and so are the others
     pub group_marked : HasMarked steps readers from to p values marks marks'
     group_marked = record {
@@ -299,7 +303,8 @@ module _ (readers : List ℕ) (from to w : ℕ) (g : Near) (near : IsNear reader
     }
 
 -- a place whose readers are marked, or that has its number already
-pub given_new : (steps : List Step) (starts readers : List ℕ) (p x : ℕ) (values marks marks' : List ℕ) → HasMarked steps readers (slice_index starts p) (slice_index starts (p + 1)) p (set values p x) marks marks'
+pub given_new : (steps : List Step) (starts readers : List ℕ) (p x : ℕ) (values marks marks' : List ℕ) → HasMarked steps readers
+    (slice_index starts p) (slice_index starts (p + 1)) p (set values p x) marks marks'
     → HasGiven steps starts readers p x values (set values p x) marks marks'
 given_new steps starts readers p x values marks marks' m = record {
   is = refl;
@@ -349,7 +354,8 @@ pub record GroupedTo (starts readers : List ℕ) (registers : List Register) (gr
   pub long : length groups ≡ count
   pub each : (k : ℕ) (r : Register) (g : Group) → slice_get registers k ≡ Some r → slice_get groups k ≡ Some g → GroupOf starts readers r g
 
-pub groups_more : (starts readers : List ℕ) (registers : List Register) (groups : List Group) (i : ℕ) (r : Register) (g : Group) → GroupedTo starts readers registers groups i → slice_get registers i ≡ Some r → GroupOf starts readers r g
+pub groups_more : (starts readers : List ℕ) (registers : List Register) (groups : List Group) (i : ℕ) (r : Register) (g : Group) → GroupedTo starts
+    readers registers groups i → slice_get registers i ≡ Some r → GroupOf starts readers r g
     → GroupedTo starts readers registers (groups ++ g ∷ []) (i + 1)
 groups_more starts readers registers groups i r g w at is = record {
   long = (let a = length_push groups g in let b = w.long in omega (arith, a, b));

@@ -12,7 +12,8 @@ use Rattle.safl_sim.specs.Words.{zero_of}
 use Rattle.safl_sim.proofs.Giving.{own_value, input_values, has_words, values_are, zero_bits, bits}
 
 -- what has the same numbers at the inputs agrees on them
-pub same_values : (gs : List Signal) (v u : List ℕ) → length v ≡ length gs → length u ≡ length gs → input_values gs v ≡ input_values gs u → (s : ℕ) (g : Signal) → slice_get gs s ≡ Some g → g.kind ≡ Input → slice_index v s ≡ slice_index u s
+pub same_values : (gs : List Signal) (v u : List ℕ) → length v ≡ length gs → length u ≡ length gs → input_values gs v ≡ input_values gs u → (s : ℕ)
+    (g : Signal) → slice_get gs s ≡ Some g → g.kind ≡ Input → slice_index v s ≡ slice_index u s
 same_values [] v u l m e s h at is = absurd cc
 same_values (g ∷ gs) [] u l m e s h at is = absurd (omega (arith, l))
 same_values (g ∷ gs) (x ∷ v) [] l m e s h at is = absurd (omega (arith, m))
@@ -30,16 +31,19 @@ same_values (g ∷ gs) (x ∷ v) (y ∷ u) l m e (suc s) h at is = same_values g
     rest (Wire cell) e = e
 
 module _ (n : Netlist) (made : IsNetlist n) (whole : IsWhole n) (acyclic : IsAcyclic n) where
-  one_cycle : (x : ℕ) (args : List Word) (state : ℕ → ℕ) (v w : Valuation) → Fits n state v → Fits n state w → start_number n v ≡ x → start_number n w ≡ x → input_numbers n.signals v ≡ bits args → input_numbers n.signals w ≡ bits args → w ≡ v
+  one_cycle : (x : ℕ) (args : List Word) (state : ℕ → ℕ) (v w : Valuation) → Fits n state v → Fits n state w → start_number n v ≡ x → start_number n w
+      ≡ x → input_numbers n.signals v ≡ bits args → input_numbers n.signals w ≡ bits args → w ≡ v
   one_cycle x args state v w fv fw sv sw iv iw =
       one_valuation n whole.set acyclic state w v fw fv
-      (same_values n.signals w v fw.full fv.full (sym (values_are n w fw.full) ∙ has_words n x args w made whole fw.full sw iw ∙ sym (has_words n x args v made whole fv.full sv iv) ∙ values_are n v fv.full))
+      (same_values n.signals w v fw.full fv.full (sym (values_are n w fw.full) ∙ has_words n x args w made whole fw.full sw iw ∙ sym
+      (has_words n x args v made whole fv.full sv iv) ∙ values_are n v fv.full))
 
   abbrev Zeros : List Word → List Valuation → Type 0
   Zeros args vs = (c : ℕ) (v : Valuation) → slice_get vs c ≡ Some v → input_numbers n.signals v ≡ map (λ (w : Word). 0) args
 
   -- two calls have the same cycle at a place
-  goes_same : (args : List Word) (state : ℕ → ℕ) (vs ws : List Valuation) → GoesOn n state vs → GoesOn n state ws → Zeros args vs → Zeros args ws → (c : ℕ) (v w : Valuation) → slice_get vs c ≡ Some v → slice_get ws c ≡ Some w → w ≡ v
+  goes_same : (args : List Word) (state : ℕ → ℕ) (vs ws : List Valuation) → GoesOn n state vs → GoesOn n state ws → Zeros args vs → Zeros args ws →
+      (c : ℕ) (v w : Valuation) → slice_get vs c ≡ Some v → slice_get ws c ≡ Some w → w ≡ v
   goes_same args state [] ws g h y z c v w e f = absurd (cc)
   goes_same args state (a ∷ vs) [] g h y z c v w e f = absurd (cc)
   goes_same args state (a ∷ vs) (b ∷ ws) g h y z c v w e f =
@@ -50,7 +54,8 @@ module _ (n : Netlist) (made : IsNetlist n) (whole : IsWhole n) (acyclic : IsAcy
       at zero e f same rest = cc
       at (suc c) e f same rest = rest c v w e f
 
-  pub same_at : (state : ℕ → ℕ) (args : List Word) (vs ws : List Valuation) → IsCallRun n state args vs → IsCallRun n state args ws → (c : ℕ) (v w : Valuation) → slice_get vs c ≡ Some v → slice_get ws c ≡ Some w → w ≡ v
+  pub same_at : (state : ℕ → ℕ) (args : List Word) (vs ws : List Valuation) → IsCallRun n state args vs → IsCallRun n state args ws → (c : ℕ)
+      (v w : Valuation) → slice_get vs c ≡ Some v → slice_get ws c ≡ Some w → w ≡ v
   same_at state args [] ws a b c v w e f = absurd (cc)
   same_at state args (x ∷ vs) [] a b c v w e f = absurd (cc)
   same_at state args (x ∷ vs) (y ∷ ws) a b c v w e f =

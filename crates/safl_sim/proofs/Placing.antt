@@ -38,7 +38,8 @@ once_more : (r : Register) (rs : List Register) → AreOnce (r ∷ rs) → AreOn
 once_more r rs once i j p q e f z = let a = once (suc i) (suc j) p q e f z in omega (arith, a)
 
 -- at the place of a register
-pub placed_at : (count : ℕ) (regs : List Register) (xs : List ℕ) → AreOnce regs → ((k : ℕ) (r : Register) → slice_get regs k ≡ Some r → r.signal.0 < count) → length xs ≡ length regs → (k : ℕ) (r : Register) → slice_get regs k ≡ Some r
+pub placed_at : (count : ℕ) (regs : List Register) (xs : List ℕ) → AreOnce regs →
+    ((k : ℕ) (r : Register) → slice_get regs k ≡ Some r → r.signal.0 < count) → length xs ≡ length regs → (k : ℕ) (r : Register) → slice_get regs k ≡ Some r
     → slice_index (placed count regs xs) r.signal.0 ≡ slice_index xs k
 placed_at count [] xs once known long k r e = absurd (cc)
 placed_at count (q ∷ rs) [] once known long k r e = absurd (omega (arith, long))
@@ -50,11 +51,13 @@ placed_at count (q ∷ rs) (x ∷ xs) once known long (suc k) r e =
     index_other (placed count rs xs) q.signal.0 x r.signal.0 (λ z. absurd (let a = once (suc k) 0 r q e refl z in omega (arith, a)))
     ∙ placed_at count rs xs (once_more q rs once) (λ i p f. known (suc i) p f) (omega (arith, long)) k r e
 
-pub all_placed : (count : ℕ) (regs : List Register) (xs : List ℕ) → AreOnce regs → ((k : ℕ) (r : Register) → slice_get regs k ≡ Some r → r.signal.0 < count) → length xs ≡ length regs → AreAt regs xs (placed count regs xs)
+pub all_placed : (count : ℕ) (regs : List Register) (xs : List ℕ) → AreOnce regs →
+    ((k : ℕ) (r : Register) → slice_get regs k ≡ Some r → r.signal.0 < count) → length xs ≡ length regs → AreAt regs xs (placed count regs xs)
 all_placed count regs xs once known long = record { long = long; each = placed_at count regs xs once known long }
 
 -- a register with a new number
-pub placed_set : (count : ℕ) (regs : List Register) (xs : List ℕ) (k : ℕ) (r : Register) (x : ℕ) → AreOnce regs → length xs ≡ length regs → slice_get regs k ≡ Some r → placed count regs (set xs k x) ≡ set (placed count regs xs) r.signal.0 x
+pub placed_set : (count : ℕ) (regs : List Register) (xs : List ℕ) (k : ℕ) (r : Register) (x : ℕ) → AreOnce regs → length xs ≡ length regs → slice_get
+    regs k ≡ Some r → placed count regs (set xs k x) ≡ set (placed count regs xs) r.signal.0 x
 placed_set count [] xs k r x once long e = absurd (cc)
 placed_set count (q ∷ rs) [] k r x once long e = absurd (omega (arith, long))
 placed_set count (q ∷ rs) (y ∷ xs) zero r x once long e =

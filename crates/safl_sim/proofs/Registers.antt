@@ -22,7 +22,8 @@ pub low_shown : (regs : List Register) (values numbers : List ℕ) (i : ℕ) (r 
     → AreLow regs (set values r.signal.0 (slice_index numbers i)) numbers
 low_shown regs values numbers i r once low at inside = λ k q e narrow. (
   elim (same_or_not q.signal.0 r.signal.0) [
-    | inl z ↦ subst (λ y. y < 2 ^ 64) (sym (ap (slice_index (set values r.signal.0 x)) z ∙ index_here values r.signal.0 x inside)) (subst (λ j. slice_index numbers j < 2 ^ 64) (once k i q r e at z) (low k q e narrow).1)
+    | inl z ↦ subst (λ y. y < 2 ^ 64) (sym (ap (slice_index (set values r.signal.0 x)) z ∙ index_here values r.signal.0 x inside))
+        (subst (λ j. slice_index numbers j < 2 ^ 64) (once k i q r e at z) (low k q e narrow).1)
     | inr n ↦ subst (λ y. y < 2 ^ 64) (sym (index_other values r.signal.0 x q.signal.0 n)) (low k q e narrow).0
   ],
   (low k q e narrow).1,
@@ -40,19 +41,25 @@ shows_start regs now values waiting w = record {
   within = w.within;
 }
 
-pub shows_to : (regs : List Register) (now : List ℕ) (place place' : ℕ) (start values waiting : List ℕ) → Shows regs now place start values waiting → ((k : ℕ) → k < place' → marked waiting k ≡ 0) → Shows regs now place' start values waiting
+pub shows_to : (regs : List Register) (now : List ℕ) (place place' : ℕ) (start values waiting : List ℕ) → Shows regs now place start values waiting →
+    ((k : ℕ) → k < place' → marked waiting k ≡ 0) → Shows regs now place' start values waiting
 shows_to regs now place place' start values waiting w below = record { long = w.long; below = below; shown = w.shown; others = w.others; within = w.within }
 
 -- a word in which none waits
-pub shows_none : (regs : List Register) (now : List ℕ) (place word : ℕ) (start values waiting : List ℕ) → Shows regs now place start values waiting → word * 64 ≤ place → HasNone waiting word → Shows regs now ((word + 1) * 64) start values waiting
-shows_none regs now place word start values waiting w from none = shows_to regs now place ((word + 1) * 64) start values waiting w (λ k l. none_upto waiting 0 place word (λ j f h. w.below j h) from none k (omega arith) l)
+pub shows_none : (regs : List Register) (now : List ℕ) (place word : ℕ) (start values waiting : List ℕ) → Shows regs now place start values waiting →
+    word * 64 ≤ place → HasNone waiting word → Shows regs now ((word + 1) * 64) start values waiting
+shows_none regs now place word start values waiting w from none = shows_to regs now place ((word + 1) * 64) start values waiting w
+    (λ k l. none_upto waiting 0 place word (λ j f h. w.below j h) from none k (omega arith) l)
 
 -- words in which none waits
-pub shows_skip : (regs : List Register) (now : List ℕ) (from to : ℕ) (start values waiting : List ℕ) → Shows regs now (from * 64) start values waiting → NoneBetween waiting from to → Shows regs now (to * 64) start values waiting
-shows_skip regs now from to start values waiting w none = shows_to regs now (from * 64) (to * 64) start values waiting w (λ k l. none_past waiting 0 from to (λ j f h. w.below j h) none k (omega arith) l)
+pub shows_skip : (regs : List Register) (now : List ℕ) (from to : ℕ) (start values waiting : List ℕ) → Shows regs now (from * 64) start values waiting
+    → NoneBetween waiting from to → Shows regs now (to * 64) start values waiting
+shows_skip regs now from to start values waiting w none = shows_to regs now (from * 64) (to * 64) start values waiting w
+    (λ k l. none_past waiting 0 from to (λ j f h. w.below j h) none k (omega arith) l)
 
 -- one more is shown
-pub shows_step : (regs : List Register) (now : List ℕ) (place word i : ℕ) (r : Register) (start values values' waiting waiting' : List ℕ) → Shows regs now place start values waiting → word * 64 ≤ place → HasTaken waiting waiting' word i
+pub shows_step : (regs : List Register) (now : List ℕ) (place word i : ℕ) (r : Register) (start values values' waiting waiting' : List ℕ) → Shows regs
+    now place start values waiting → word * 64 ≤ place → HasTaken waiting waiting' word i
     → slice_get regs i ≡ Some r → r.signal.0 < length values → values' ≡ set values r.signal.0 (slice_index now r.signal.0) → Shows regs now (i + 1) start values' waiting'
 shows_step regs now place word i r start values values' waiting waiting' w from t here inside is =
     subst (λ l. Shows regs now (i + 1) start l waiting') (sym is) (record {
@@ -82,7 +89,8 @@ none_waits regs now place start values waiting w room k = elim (mark_or_none wai
 ]
 
 -- in the end all are shown
-pub all_shown : (regs : List Register) (now : List ℕ) (place : ℕ) (start values waiting : List ℕ) → Shows regs now place start values waiting → length regs ≤ place → HasShown regs now (length regs) start values
+pub all_shown : (regs : List Register) (now : List ℕ) (place : ℕ) (start values waiting : List ℕ) → Shows regs now place start values waiting → length
+    regs ≤ place → HasShown regs now (length regs) start values
 all_shown regs now place start values waiting w room = record {
   long = w.long;
   shown = λ k r h e. w.shown k r e (none_waits regs now place start values waiting w room k);
@@ -91,7 +99,8 @@ all_shown regs now place start values waiting w room = record {
 
 -- ---- kept
 
-pub keeps_to : (first : ℕ) (regs : List Register) (values : List ℕ) (place place' : ℕ) (start was now marks waiting : List ℕ) → KeepsOn first regs values place start was now marks waiting → ((k : ℕ) → first ≤ k → k < place' → marked marks k ≡ 0)
+pub keeps_to : (first : ℕ) (regs : List Register) (values : List ℕ) (place place' : ℕ) (start was now marks waiting : List ℕ) → KeepsOn first regs
+    values place start was now marks waiting → ((k : ℕ) → first ≤ k → k < place' → marked marks k ≡ 0)
     → KeepsOn first regs values place' start was now marks waiting
 keeps_to first regs values place place' start was now marks waiting w below = record {
   long = w.long;
@@ -104,17 +113,20 @@ keeps_to first regs values place place' start was now marks waiting w below = re
   waiters = w.waiters;
 }
 
-pub keeps_none : (first : ℕ) (regs : List Register) (values : List ℕ) (place word : ℕ) (start was now marks waiting : List ℕ) → KeepsOn first regs values place start was now marks waiting → word * 64 ≤ place → HasNone marks word
+pub keeps_none : (first : ℕ) (regs : List Register) (values : List ℕ) (place word : ℕ) (start was now marks waiting : List ℕ) → KeepsOn first regs
+    values place start was now marks waiting → word * 64 ≤ place → HasNone marks word
     → KeepsOn first regs values ((word + 1) * 64) start was now marks waiting
 keeps_none first regs values place word start was now marks waiting w from none =
     keeps_to first regs values place ((word + 1) * 64) start was now marks waiting w (none_upto marks first place word w.below from none)
 
-pub keeps_skip : (first : ℕ) (regs : List Register) (values : List ℕ) (from to : ℕ) (start was now marks waiting : List ℕ) → KeepsOn first regs values (from * 64) start was now marks waiting → NoneBetween marks from to
+pub keeps_skip : (first : ℕ) (regs : List Register) (values : List ℕ) (from to : ℕ) (start was now marks waiting : List ℕ) → KeepsOn first regs values
+    (from * 64) start was now marks waiting → NoneBetween marks from to
     → KeepsOn first regs values (to * 64) start was now marks waiting
 keeps_skip first regs values from to start was now marks waiting w none = keeps_to first regs values (from * 64) (to * 64) start was now marks waiting w (none_past marks first from to w.below none)
 
 -- one more is kept that waits
-pub keeps_step : (first : ℕ) (regs : List Register) (values : List ℕ) (place word k : ℕ) (r : Register) (start was now now' marks marks' waiting : List ℕ) → KeepsOn first regs values place start was now marks waiting
+pub keeps_step : (first : ℕ) (regs : List Register) (values : List ℕ) (place word k : ℕ) (r : Register)
+    (start was now now' marks marks' waiting : List ℕ) → KeepsOn first regs values place start was now marks waiting
     → first ≤ word * 64 → word * 64 ≤ place → HasTaken marks marks' word (first + k) → slice_get regs k ≡ Some r → r.signal.0 < length now
     → ((i j : ℕ) (r q : Register) → slice_get regs i ≡ Some r → slice_get regs j ≡ Some q → r.signal.0 ≡ q.signal.0 → r.next.0 ≡ q.next.0)
     → now' ≡ set now r.signal.0 (slice_index values r.next.0) → marked waiting k ≡ 1 → KeepsOn first regs values (first + k + 1) start was now' marks' waiting
@@ -146,7 +158,8 @@ keeps_step first regs values place word k r start was now now' marks marks' wait
     x = slice_index values r.next.0
 
 -- the marked registers of a word wait
-module _ (first : ℕ) (regs : List Register) (values : List ℕ) (place word : ℕ) (start was now marks waiting : List ℕ) (early : first ≤ word) (w : KeepsOn (first * 64) regs values place start was now marks waiting) where
+module _ (first : ℕ) (regs : List Register) (values : List ℕ) (place word : ℕ) (start was now marks waiting : List ℕ) (early : first ≤ word)
+    (w : KeepsOn (first * 64) regs values place start was now marks waiting) where
   abbrev waiting' : List ℕ
   waiting' = joined waiting (word - first) (slice_index marks word)
 
@@ -181,7 +194,8 @@ module _ (first : ℕ) (regs : List Register) (values : List ℕ) (place word : 
       (ap (bit_at (slice_index marks word)) (sym b) ∙ ap (λ x. bit_at (slice_index marks x) ((first * 64 + k) % 64)) (sym q) ∙ e)
 
 -- in the end none is marked, and all are kept
-module _ (first : ℕ) (regs : List Register) (values : List ℕ) (place : ℕ) (start was now marks waiting : List ℕ) (w : KeepsOn first regs values place start was now marks waiting) (room : first + length regs ≤ place) where
+module _ (first : ℕ) (regs : List Register) (values : List ℕ) (place : ℕ) (start was now marks waiting : List ℕ)
+    (w : KeepsOn first regs values place start was now marks waiting) (room : first + length regs ≤ place) where
   pub none_marked : (k : ℕ) → first ≤ k → marked marks k ≡ 0
   none_marked k f = elim (mark_or_none marks k) [
     | inl e ↦ e

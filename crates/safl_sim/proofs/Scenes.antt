@@ -1,5 +1,6 @@
 -- The values while the steps run.
-use Rattle.std.proofs.Common.{◌≡◌, inl, inr, true, ℕ, zero, suc, ◌+◌, ◌<◌, ◌≤◌, ◌^◌, List, [], ◌∷◌, map, length, set, Option, Some, None, slice_get, slice_index, slice_index_or, refl, sym, ap, subst, ◌∙◌, arith}
+use Rattle.std.proofs.Common.{◌≡◌, inl, inr, true, ℕ, zero, suc, ◌+◌, ◌<◌, ◌≤◌, ◌^◌, List, [], ◌∷◌, map, length, set, Option, Some, None, slice_get}
+use Rattle.std.proofs.Common.{slice_index, slice_index_or, refl, sym, ap, subst, ◌∙◌, arith}
 use Rattle.safl_word.specs.Words.{Word, IsWord, AreWords}
 use Rattle.safl_net.specs.Netlist.{Netlist, Signal, Wire, Cell, width_in, width_of}
 use Rattle.safl_net.specs.Valuations.{signal_word, cell_word}
@@ -49,12 +50,14 @@ cell_number_fits n values s c g made fits e is =
     let f : CellFits n g.width c = subst (λ k. KindFits n g.width k) is (made.signals s g e).kind in
     let q : op_width c.op (map (λ (v : Word). v.width) (map (signal_word n values) c.operands)) ≡ Some g.width = ap (op_width c.op) (shown_widths n values c.operands) ∙ f.gives in
     let w = cell_is_word c.op (map (signal_word n values) c.operands) g.width
-    (are_words (signal_word n values) c.operands (λ i t o. a_word n values t (width_of n t) made fits (let a = f.known i 0 (within c.operands i t o) in let b = index_get c.operands i t o in omega (arith, a, b)) refl)) f.word q in
+    (are_words (signal_word n values) c.operands (λ i t o. a_word n values t (width_of n t) made fits
+    (let a = f.known i 0 (within c.operands i t o) in let b = index_get c.operands i t o in omega (arith, a, b)) refl)) f.word q in
     let wide = cell_width c.op (map (signal_word n values) c.operands) g.width q in
     subst (λ x. (cell_word c.op (map (signal_word n values) c.operands)).bits < 2 ^ x) wide w.fits
 
 -- the operands of a wire at a place are not written at or after that place
-pub apart : (n : Netlist) (ws : List ℕ) (k j s t i u : ℕ) (c : Cell) → IsOrder n ws → slice_get ws j ≡ Some s → slice_get ws k ≡ Some t → k ≤ j → kind_at n t ≡ Wire (Some c) → slice_get c.operands i ≡ Some u → ¬ (u ≡ s)
+pub apart : (n : Netlist) (ws : List ℕ) (k j s t i u : ℕ) (c : Cell) → IsOrder n ws → slice_get ws j ≡ Some s → slice_get ws k ≡ Some t → k ≤ j →
+    kind_at n t ≡ Wire (Some c) → slice_get c.operands i ≡ Some u → ¬ (u ≡ s)
 apart n ws k j s t i u c o at_s at_t le kind e same =
     let read : slice_get (operands_of n t) i ≡ Some u = ap (λ x. slice_get (operands_in (cell_in x)) i) kind ∙ e in
     let wire : IsWire n u = subst (λ x. IsWire n x) (sym same) (o.wires j s at_s) in
@@ -155,7 +158,8 @@ run_scene n ws j (step ∷ steps) start values made o w p =
         (let b = within n.signals a.0 g.0 g.1 in let c = w.long in let d = a.2.wire in omega (arith, b, c, d)),
         rest.ready,
       );
-      scene = subst (λ k. Scene n ws k start (after_steps steps (set values step.wire.0 (action_number (slice_index values) step.action)))) (let z : j + 1 + length steps ≡ j + length (step ∷ steps) = omega arith in z) rest.scene;
+      scene = subst (λ k. Scene n ws k start (after_steps steps (set values step.wire.0 (action_number (slice_index values) step.action))))
+          (let z : j + 1 + length steps ≡ j + length (step ∷ steps) = omega arith in z) rest.scene;
     }
 
 pub get_same : (ws : List ℕ) (k : ℕ) → k < length ws → (s : ℕ) × (slice_get ws k ≡ Some s)
@@ -164,7 +168,8 @@ get_same (x ∷ ws) zero h = (x, refl)
 get_same (x ∷ ws) (suc k) h = get_same ws k (omega (arith, h))
 
 -- all steps: they are ready, and then each wire has its word
-pub all_steps : (n : Netlist) (ws : List ℕ) (steps : List Step) (values : List ℕ) → IsNetlist n → IsOrder n ws → AreSteps n ws steps → length values ≡ length n.signals → FitWidths n (slice_index values)
+pub all_steps : (n : Netlist) (ws : List ℕ) (steps : List Step) (values : List ℕ) → IsNetlist n → IsOrder n ws → AreSteps n ws steps → length values ≡
+    length n.signals → FitWidths n (slice_index values)
     → Ran n ws values values steps (0 + length steps)
 all_steps n ws steps values made o all long fits =
     run_scene n ws 0 steps values values made o

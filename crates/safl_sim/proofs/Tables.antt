@@ -113,7 +113,8 @@ module _ (n : Netlist) (ws : List ℕ) (regs : List Register) where
     only = w.only;
   }
 
-  pub lists_register : (i : ℕ) (r : Register) (lists : List (List ℕ)) (v : List ℕ) → AreLists n ws regs (first_register (length ws) + i + 1) 0 lists → slice_get regs i ≡ Some r → slice_get lists r.next.0 ≡ Some v
+  pub lists_register : (i : ℕ) (r : Register) (lists : List (List ℕ)) (v : List ℕ) → AreLists n ws regs (first_register (length ws) + i + 1) 0 lists →
+      slice_get regs i ≡ Some r → slice_get lists r.next.0 ≡ Some v
       → AreLists n ws regs (first_register (length ws) + i) 0 (set lists r.next.0 ((first_register (length ws) + i) ∷ v))
   lists_register i r lists v w at here =
       let k = first_register (length ws) + i in
@@ -126,7 +127,8 @@ module _ (n : Netlist) (ws : List ℕ) (regs : List Register) where
                 let same : s.0 ≡ i = (let a = s.2 in omega (arith, a, z)) in
                 let rs : Some s.1 ≡ Some r = sym s.3 ∙ ap (slice_get regs) same ∙ at in
                 let one : s.1 ≡ r = cc in
-                subst (λ y. On (set lists r.next.0 (k ∷ v)) y j) (ap (λ (y : Register). y.next.0) (sym one) ∙ s.4) (subst (λ y. On (set lists r.next.0 (k ∷ v)) r.next.0 y) z (on_new lists r.next.0 k v here))
+                subst (λ y. On (set lists r.next.0 (k ∷ v)) y j) (ap (λ (y : Register). y.next.0) (sym one) ∙ s.4)
+                (subst (λ y. On (set lists r.next.0 (k ∷ v)) r.next.0 y) z (on_new lists r.next.0 k v here))
           ]
         ];
         own = λ p j m s e l f g. absurd (omega (arith, l));
@@ -136,7 +138,8 @@ module _ (n : Netlist) (ws : List ℕ) (regs : List Register) where
         ];
       }
 
-  pub lists_operand : (k i s p : ℕ) (lists : List (List ℕ)) (v : List ℕ) → AreLists n ws regs (k + 1) i lists → slice_get ws k ≡ Some s → slice_get (operands_of n s) i ≡ Some p → slice_get lists p ≡ Some v
+  pub lists_operand : (k i s p : ℕ) (lists : List (List ℕ)) (v : List ℕ) → AreLists n ws regs (k + 1) i lists → slice_get ws k ≡ Some s → slice_get
+      (operands_of n s) i ≡ Some p → slice_get lists p ≡ Some v
       → AreLists n ws regs (k + 1) (i + 1) (set lists p (k ∷ v))
   lists_operand k i s p lists v w at read here = record {
     all = λ q j h r. on_old lists p k v here q j (w.all q j h r);
@@ -206,8 +209,12 @@ flat_step lists starts readers p v w here =
       ];
       all = λ q j h c. elim (lower_or_same q p h) [
         | inl l ↦
-            let r = w.all q j l c in
-            (r.0, (let a = before q (omega (arith, l)) in let b = r.1 in omega (arith, a, b)), (let a = before (q + 1) (omega (arith, l)) in let b = r.2 in omega (arith, a, b)), get_front readers v r.0 j r.3)
+            let r = w.all q j l c in (
+              r.0,
+              (let a = before q (omega (arith, l)) in let b = r.1 in omega (arith, a, b)),
+              (let a = before (q + 1) (omega (arith, l)) in let b = r.2 in omega (arith, a, b)),
+              get_front readers v r.0 j r.3,
+            )
         | inr z ↦
             let e = c.1 in
             let vs : Some c.0 ≡ Some v = sym c.2 ∙ ap (slice_get lists) z ∙ here in
@@ -267,7 +274,8 @@ module _ (n : Netlist) (ws : List ℕ) (regs : List Register) (starts readers : 
   pub table_readers : AreReaders n ws regs starts readers
   table_readers = record {
     all = λ p k i s f g. let c = a.all p k (omega arith) (inl (s, i, f, g)) in b.all p k (get_in lists p c.0 c.2) c;
-    nexts = λ k r e. let c = a.all r.next.0 (first_register (length ws) + k) (omega arith) (inr (k, r, refl, e, refl)) in b.all r.next.0 (first_register (length ws) + k) (get_in lists r.next.0 c.0 c.2) c;
+    nexts = λ k r e. let c = a.all r.next.0 (first_register (length ws) + k) (omega arith) (inr (k, r, refl, e, refl)) in b.all r.next.0
+        (first_register (length ws) + k) (get_in lists r.next.0 c.0 c.2) c;
     only = λ p k r l. elim (a.only p k (listed p k r)) [ inl s ↦ s | inr s ↦ absurd (let c = s.2 in omega (arith, c, l)) ];
     within = λ p k r. reader_below n ws regs p k (a.only p k (listed p k r));
   }

@@ -38,7 +38,8 @@ set_same [] p x e = refl
 set_same (y ∷ xs) zero x e = ap (λ z. z ∷ xs) (sym e)
 set_same (y ∷ xs) (suc p) x e = ap (λ l. y ∷ l) (set_same xs p x e)
 
-pub operands_same : (n : Netlist) (values : List ℕ) (s x : ℕ) (ts : List ℕ) → ((i u : ℕ) → slice_get ts i ≡ Some u → ¬ (u ≡ s)) → map (signal_word n (set values s x)) ts ≡ map (signal_word n values) ts
+pub operands_same : (n : Netlist) (values : List ℕ) (s x : ℕ) (ts : List ℕ) → ((i u : ℕ) → slice_get ts i ≡ Some u → ¬ (u ≡ s)) → map
+    (signal_word n (set values s x)) ts ≡ map (signal_word n values) ts
 operands_same n values s x ts h = map_same (signal_word n (set values s x)) (signal_word n values) ts (λ i u e. ap (λ b. word_of (width_of n u) b) (index_other values s x u (h i u e)))
 
 -- a step that holds, and reads not what is written and writes it not, holds
@@ -55,13 +56,15 @@ choice_same values p x c a b apart away =
     ∙ picked_number (slice_index values) (slice_index (set values p x) c) a b
     ∙ ap (λ i. pick i (slice_index values a) (slice_index values b)) (index_other values p x c apart)
 
-blind_same : (values : List ℕ) (p x : ℕ) (action : Action) → IsBlind (slice_index (set values p x)) p action → action_number (slice_index (set values p x)) action ≡ action_number (slice_index values) action
+blind_same : (values : List ℕ) (p x : ℕ) (action : Action) → IsBlind (slice_index (set values p x)) p action → action_number
+    (slice_index (set values p x)) action ≡ action_number (slice_index values) action
 blind_same values p x (Choose c a b) blind = choice_same values p x c a b blind.0 blind.1
 blind_same values p x (WideChoose c a b) blind = choice_same values p x c a b blind.0 blind.1
 blind_same values p x action blind = absurd blind
 
 -- a step that holds, and is blind to what is written and writes it not, holds
-agrees_blind : (n : Netlist) (values : List ℕ) (p x t : ℕ) (d : Cell) (step : Step) → IsStep n t step → kind_at n t ≡ Wire (Some d) → ¬ (t ≡ p) → FitWidths n (slice_index values) → FitWidths n (slice_index (set values p x))
+agrees_blind : (n : Netlist) (values : List ℕ) (p x t : ℕ) (d : Cell) (step : Step) → IsStep n t step → kind_at n t ≡ Wire (Some d) → ¬ (t ≡ p) →
+    FitWidths n (slice_index values) → FitWidths n (slice_index (set values p x))
     → IsBlind (slice_index (set values p x)) p step.action → Agrees n values t d → Agrees n (set values p x) t d
 agrees_blind n values p x t d step is kind ne fits fits' blind e =
     let same : Wire (Some d) ≡ Wire (Some is.cell) = sym kind ∙ is.is in
@@ -86,26 +89,31 @@ reads_or_not (t ∷ ts) p = elim (same_or_not t p) [
     both n away (suc i) u e same = away i u e same
 
 -- give: a step that is not marked afterwards held before and holds
-pub given_stays : (n : Netlist) (ws : List ℕ) (steps : List Step) (regs : List Register) (starts readers : List ℕ) (p x : ℕ) (values values' marks marks' : List ℕ) → AreReaders n ws regs starts readers → AreSteps n ws steps
+pub given_stays : (n : Netlist) (ws : List ℕ) (steps : List Step) (regs : List Register) (starts readers : List ℕ) (p x : ℕ)
+    (values values' marks marks' : List ℕ) → AreReaders n ws regs starts readers → AreSteps n ws steps
     → FitWidths n (slice_index values) → FitWidths n (slice_index values') → HasGiven steps starts readers p x values values' marks marks'
     → (k t : ℕ) (d : Cell) → slice_get ws k ≡ Some t → kind_at n t ≡ Wire (Some d) → ¬ (t ≡ p) → marked marks' k ≡ 0 → Agrees n values t d → Agrees n values' t d
-given_stays n ws steps regs starts readers p x values values' marks marks' r are fits fits' g k t d at kind ne none e = subst (λ l. Agrees n l t d) (sym g.is) (elim (same_or_not (slice_index values p) x) [
-  | inl q ↦ subst (λ l. Agrees n l t d) (sym (set_same values p x q)) e
-  | inr q ↦ elim (reads_or_not d.operands p) [
-    | inl f ↦
-        let read : slice_get (operands_of n t) f.0 ≡ Some p = ap (λ y. slice_get (operands_in (cell_in y)) f.0) kind ∙ f.1 in
-        elim (g.told k q (r.all p k f.0 t at read)) [
-          | inl a ↦ absurd (omega (arith, a, none))
-          | inr u ↦
-              let s = get_some steps k u.0 in
-              agrees_blind n values p x t d s.0 (are.each k t s.0 at s.1) kind ne fits (subst (λ l. FitWidths n (slice_index l)) g.is fits') (subst (λ l. IsBlind (slice_index l) p s.0.action) g.is (u.1 s.0 s.1)) e
-        ]
-    | inr away ↦ agrees_apart n values p x t d ne away e
-  ]
-])
+given_stays n ws steps regs starts readers p x values values' marks marks' r are fits fits' g k t d at kind ne none e = subst (λ l. Agrees n l t d)
+    (sym g.is) (elim (same_or_not (slice_index values p) x) [
+      | inl q ↦ subst (λ l. Agrees n l t d) (sym (set_same values p x q)) e
+      | inr q ↦ elim (reads_or_not d.operands p) [
+        | inl f ↦
+            let read : slice_get (operands_of n t) f.0 ≡ Some p = ap (λ y. slice_get (operands_in (cell_in y)) f.0) kind ∙ f.1 in
+            elim (g.told k q (r.all p k f.0 t at read)) [
+              | inl a ↦ absurd (omega (arith, a, none))
+              | inr u ↦
+                  let s = get_some steps k u.0 in
+                  agrees_blind n values p x t d s.0 (are.each k t s.0 at s.1) kind ne fits (subst (λ l. FitWidths n (slice_index l)) g.is fits')
+                  (subst (λ l. IsBlind (slice_index l) p s.0.action) g.is (u.1 s.0 s.1)) e
+            ]
+        | inr away ↦ agrees_apart n values p x t d ne away e
+      ]
+    ])
 
 -- and so did a register
-pub given_kept : (n : Netlist) (ws : List ℕ) (steps : List Step) (regs : List Register) (now starts readers : List ℕ) (p x : ℕ) (values values' marks marks' : List ℕ) → AreReaders n ws regs starts readers → length steps ≡ length ws → HasGiven steps starts readers p x values values' marks marks'
+pub given_kept : (n : Netlist) (ws : List ℕ) (steps : List Step) (regs : List Register) (now starts readers : List ℕ) (p x : ℕ)
+    (values values' marks marks' : List ℕ) → AreReaders n ws regs starts readers → length steps ≡ length ws → HasGiven steps starts readers p x values
+    values' marks marks'
     → Kept (first_register (length ws)) regs now values marks → Kept (first_register (length ws)) regs now values' marks'
 given_kept n ws steps regs now starts readers p x values values' marks marks' r long g w k q e none =
     w k q e (was_none marks marks' (first_register (length ws) + k) g.grows none) ∙ sym (ap (λ l. slice_index l q.next.0) g.is ∙ same)
@@ -123,7 +131,8 @@ given_kept n ws steps regs now starts readers p x values values' marks marks' r 
     ]
 
 -- only steps and registers are marked
-pub given_inside : (n : Netlist) (ws : List ℕ) (steps : List Step) (regs : List Register) (starts readers : List ℕ) (p x : ℕ) (values values' marks marks' : List ℕ) → AreReaders n ws regs starts readers → HasGiven steps starts readers p x values values' marks marks'
+pub given_inside : (n : Netlist) (ws : List ℕ) (steps : List Step) (regs : List Register) (starts readers : List ℕ) (p x : ℕ)
+    (values values' marks marks' : List ℕ) → AreReaders n ws regs starts readers → HasGiven steps starts readers p x values values' marks marks'
     → Inside (length ws) (length regs) marks → Inside (length ws) (length regs) marks'
 given_inside n ws steps regs starts readers p x values values' marks marks' r g w = record {
   step = λ k e l. elim (lower_or_not k (length ws)) [
@@ -137,17 +146,20 @@ given_inside n ws steps regs starts readers p x values values' marks marks' r g 
 }
 
 -- a place that is no wire
-pub given_holding : (n : Netlist) (ws : List ℕ) (steps : List Step) (regs : List Register) (now starts readers : List ℕ) (p x : ℕ) (values values' marks marks' : List ℕ) → AreReaders n ws regs starts readers → AreSteps n ws steps
+pub given_holding : (n : Netlist) (ws : List ℕ) (steps : List Step) (regs : List Register) (now starts readers : List ℕ) (p x : ℕ)
+    (values values' marks marks' : List ℕ) → AreReaders n ws regs starts readers → AreSteps n ws steps
     → FitWidths n (slice_index values) → FitWidths n (slice_index values') → HasGiven steps starts readers p x values values' marks marks'
     → ((k : ℕ) → ¬ (slice_get ws k ≡ Some p)) → Holding n ws regs now values marks → Holding n ws regs now values' marks'
 given_holding n ws steps regs now starts readers p x values values' marks marks' r are fits fits' g away w = record {
-  stays = λ k t d at kind none. given_stays n ws steps regs starts readers p x values values' marks marks' r are fits fits' g k t d at kind (λ e. away k (at ∙ ap Some e)) none (w.stays k t d at kind (was_none marks marks' k g.grows none));
+  stays = λ k t d at kind none. given_stays n ws steps regs starts readers p x values values' marks marks' r are fits fits' g k t d at kind
+      (λ e. away k (at ∙ ap Some e)) none (w.stays k t d at kind (was_none marks marks' k g.grows none));
   kept = given_kept n ws steps regs now starts readers p x values values' marks marks' r are.long g w.kept;
   inside = given_inside n ws steps regs starts readers p x values values' marks marks' r g w.inside;
 }
 
 -- the steps before a place that a step writes stay as they are: readers stand later
-pub given_below : (n : Netlist) (ws : List ℕ) (steps : List Step) (regs : List Register) (starts readers : List ℕ) (i s x : ℕ) (values values' marks marks' : List ℕ) → IsOrder n ws → AreReaders n ws regs starts readers → HasGiven steps starts readers s x values values' marks marks'
+pub given_below : (n : Netlist) (ws : List ℕ) (steps : List Step) (regs : List Register) (starts readers : List ℕ) (i s x : ℕ)
+    (values values' marks marks' : List ℕ) → IsOrder n ws → AreReaders n ws regs starts readers → HasGiven steps starts readers s x values values' marks marks'
     → slice_get ws i ≡ Some s → (k : ℕ) → k ≤ i → marked marks k ≡ 0 → marked marks' k ≡ 0
 given_below n ws steps regs starts readers i s x values values' marks marks' o r g at k le none =
     g.others k (λ a.
@@ -158,15 +170,18 @@ given_below n ws steps regs starts readers i s x values values' marks marks' o r
     absurd (omega (arith, l, q, le))) ∙ none
 
 -- a number that fits its place
-pub fits_set : (n : Netlist) (values : List ℕ) (p x : ℕ) → p < length values → ((g : Signal) → slice_get n.signals p ≡ Some g → x < 2 ^ g.width) → FitWidths n (slice_index values) → FitWidths n (slice_index (set values p x))
+pub fits_set : (n : Netlist) (values : List ℕ) (p x : ℕ) → p < length values → ((g : Signal) → slice_get n.signals p ≡ Some g → x < 2 ^ g.width) →
+    FitWidths n (slice_index values) → FitWidths n (slice_index (set values p x))
 fits_set n values p x inside small fits s g e = elim (same_or_not s p) [
   | inl q ↦ subst (λ y. y < 2 ^ g.width) (sym (ap (slice_index (set values p x)) q ∙ index_here values p x inside)) (small g (sym (ap (slice_get n.signals) q) ∙ e))
   | inr q ↦ subst (λ y. y < 2 ^ g.width) (sym (index_other values p x s q)) (fits s g e)
 ]
 
 -- one more place that is no wire
-pub goes_step : (n : Netlist) (ws : List ℕ) (steps : List Step) (regs : List Register) (now starts readers : List ℕ) (p x : ℕ) (v0 v1 v2 m0 m1 m2 : List ℕ) → Goes n ws steps regs now starts readers v0 v1 m0 m1 → ((k : ℕ) → ¬ (slice_get ws k ≡ Some p))
-    → p < length v1 → (FitWidths n (slice_index now) → (g : Signal) → slice_get n.signals p ≡ Some g → x < 2 ^ g.width) → HasGiven steps starts readers p x v1 v2 m1 m2 → Goes n ws steps regs now starts readers v0 v2 m0 m2
+pub goes_step : (n : Netlist) (ws : List ℕ) (steps : List Step) (regs : List Register) (now starts readers : List ℕ) (p x : ℕ)
+    (v0 v1 v2 m0 m1 m2 : List ℕ) → Goes n ws steps regs now starts readers v0 v1 m0 m1 → ((k : ℕ) → ¬ (slice_get ws k ≡ Some p))
+    → p < length v1 → (FitWidths n (slice_index now) → (g : Signal) → slice_get n.signals p ≡ Some g → x < 2 ^ g.width) → HasGiven steps starts
+    readers p x v1 v2 m1 m2 → Goes n ws steps regs now starts readers v0 v2 m0 m2
 goes_step n ws steps regs now starts readers p x v0 v1 v2 m0 m1 m2 w away inside small g = λ r are state fits h.
     let before = w r are state fits h in
     let after : FitWidths n (slice_index v2) = subst (λ l. FitWidths n (slice_index l)) (sym g.is) (fits_set n v1 p x inside (small state) before.0) in

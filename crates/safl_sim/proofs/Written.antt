@@ -75,7 +75,8 @@ kept_step regs values old state i r w here in_old next =
     record {
       long = long ∙ w.long;
       kept = λ k q h e. elim (same_or_not q.signal.0 r.signal.0) [
-        | inl s ↦ ap (slice_index (set state r.signal.0 (slice_index values r.next.0))) s ∙ index_here state r.signal.0 (slice_index values r.next.0) inside ∙ ap (slice_index values) (sym (next k i q r e here s))
+        | inl s ↦ ap (slice_index (set state r.signal.0 (slice_index values r.next.0))) s ∙ index_here state r.signal.0 (slice_index values r.next.0)
+            inside ∙ ap (slice_index values) (sym (next k i q r e here s))
         | inr n ↦ index_other state r.signal.0 (slice_index values r.next.0) q.signal.0 n ∙ (elim (lower_or_same k i h) [
           | inl l ↦ w.kept k q l e
           | inr s ↦ absurd (n (
@@ -93,7 +94,8 @@ get_read (y ∷ xs) zero x h e = ap Some (sym e)
 get_read (y ∷ xs) (suc i) x h e = get_read xs i x (omega (arith, h)) e
 
 -- one more word is put
-pub put_step : (places : List Sig) (given : List Word) (old values : List ℕ) (i : ℕ) (s : Sig) (w : Word) → HasPut places given i old values → slice_get places i ≡ Some s → slice_get given i ≡ Some w → IsWord w → s.0 < length old
+pub put_step : (places : List Sig) (given : List Word) (old values : List ℕ) (i : ℕ) (s : Sig) (w : Word) → HasPut places given i old values →
+    slice_get places i ≡ Some s → slice_get given i ≡ Some w → IsWord w → s.0 < length old
     → ((i j : ℕ) (s t : Sig) → slice_get places i ≡ Some s → slice_get places j ≡ Some t → s.0 ≡ t.0 → i ≡ j)
     → HasPut places given (i + 1) old (set values s.0 w.bits)
 put_step places given old values i s w h here word fits in_old once =

@@ -128,7 +128,12 @@ module _ (p : CheckedProgram) (h : IsChecked p) where
             least = si.least;
             most = si.most;
             unit = e;
-            before = record { body = c.body; is_body = c.is_body; before = before_of C x i b (C.body c.body) a (inr (record { member = r.member; is_member = r.is_member; unit = r.unit; reached = s })) };
+            before = record {
+              body = c.body;
+              is_body = c.is_body;
+              before = before_of C x i b (C.body c.body) a
+                  (inr (record { member = r.member; is_member = r.is_member; unit = r.unit; reached = s }));
+            };
           })
         ]
       ]

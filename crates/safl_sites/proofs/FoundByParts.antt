@@ -78,7 +78,8 @@ module _ (C : Program) (R : List SiteSet) where
   walks_op f g a b o ts h = record {
     fed = h.fed;
     decided = h.decided;
-    kept = λ k x y. adds_as (λ q. record { other = q.other; differs = q.differs; same = q.same; held = q.held }) (λ q. record { other = q.other; differs = q.differs; same = q.same; held = q.held }) (h.kept k x y);
+    kept = λ k x y. adds_as (λ q. record { other = q.other; differs = q.differs; same = q.same; held = q.held })
+        (λ q. record { other = q.other; differs = q.differs; same = q.same; held = q.held }) (h.kept k x y);
   }
 
   pub walks_loop : (f p q : SiteSet) (a b : Keeping) (i : ℕ) (ts : Terms) → WalksIn C R p q a b ts → Walks C R f f a b (Loop i ts)
@@ -86,7 +87,8 @@ module _ (C : Program) (R : List SiteSet) where
   walks_loop f p q a b i ts h = record {
     fed = λ k. adds_none (λ e. clash false refl e);
     decided = h.decided;
-    kept = λ k x y. adds_as (λ q. record { other = q.other; differs = q.differs; same = q.same; held = q.held }) (λ q. record { other = q.other; differs = q.differs; same = q.same; held = q.held }) (h.kept k x y);
+    kept = λ k x y. adds_as (λ q. record { other = q.other; differs = q.differs; same = q.same; held = q.held })
+        (λ q. record { other = q.other; differs = q.differs; same = q.same; held = q.held }) (h.kept k x y);
   }
 
   pub walks_call : (f g p q : SiteSet) (a b : Keeping) (i j : ℕ) (ts : Terms) → ((k : ℕ) → Adds (Has f k) (Has g k) (k ≡ j)) → WalksIn C R p q a b ts → Walks C R f g a b (Call i j ts)
@@ -94,7 +96,8 @@ module _ (C : Program) (R : List SiteSet) where
   walks_call f g p q a b i j ts insert h = record {
     fed = λ k. adds_as (λ e. eq-eqb j k (sym e)) (λ e. sym (eqb-true j k e)) (insert k);
     decided = h.decided;
-    kept = λ k x y. adds_as (λ q. record { other = q.other; differs = q.differs; same = q.same; held = q.held }) (λ q. record { other = q.other; differs = q.differs; same = q.same; held = q.held }) (h.kept k x y);
+    kept = λ k x y. adds_as (λ q. record { other = q.other; differs = q.differs; same = q.same; held = q.held })
+        (λ q. record { other = q.other; differs = q.differs; same = q.same; held = q.held }) (h.kept k x y);
   }
 
   -- the sites that feed the condition decide
@@ -142,19 +145,22 @@ module _ (C : Program) (R : List SiteSet) where
   }
 
   -- a slot from the first binding on that has the site is a binding that the site feeds
-  touched_by : (k : ℕ) (M bound : List SiteSet) (ts : Terms) (b : Term) → M ≡ R ++ bound → fed_by k bound ≡ feeds_each k (fed_by k R) ts → IsTouched M (length R) k b → (i : ℕ) × (bool_at (feeds_each k (fed_by k R) ts) i ≡ true) × Uses (length (fed_by k R) + i) b
+  touched_by : (k : ℕ) (M bound : List SiteSet) (ts : Terms) (b : Term) → M ≡ R ++ bound → fed_by k bound ≡ feeds_each k (fed_by k R) ts → IsTouched M
+      (length R) k b → (i : ℕ) × (bool_at (feeds_each k (fed_by k R) ts) i ≡ true) × Uses (length (fed_by k R) + i) b
   touched_by k M bound ts b e fed h =
       let i : ℕ = h.slot - length R in
       let at : length (fed_by k R) + i ≡ h.slot = omega (arith, length_fed k R, h.from) in
       let is : get_or M h.slot no_row ≡ get_or bound i no_row = ap (λ (l : List SiteSet). get_or l h.slot no_row) e ∙ get_or-append_right R bound h.slot no_row h.from in
       (i, ap (λ l. bool_at l i) (sym fed) ∙ (bool_at_fed k bound i ∙ (ap (λ (r : SiteSet). has r k) (sym is) ∙ h.row)), subst (λ n. Uses n b) (sym at) h.used)
 
-  touched_of : (k : ℕ) (M bound : List SiteSet) (ts : Terms) (b : Term) → M ≡ R ++ bound → fed_by k bound ≡ feeds_each k (fed_by k R) ts → (i : ℕ) → bool_at (feeds_each k (fed_by k R) ts) i ≡ true → Uses (length (fed_by k R) + i) b → IsTouched M (length R) k b
+  touched_of : (k : ℕ) (M bound : List SiteSet) (ts : Terms) (b : Term) → M ≡ R ++ bound → fed_by k bound ≡ feeds_each k (fed_by k R) ts → (i : ℕ) →
+      bool_at (feeds_each k (fed_by k R) ts) i ≡ true → Uses (length (fed_by k R) + i) b → IsTouched M (length R) k b
   touched_of k M bound ts b e fed i h used =
       let at : length (fed_by k R) + i ≡ length R + i = ap (λ n. n + i) (length_fed k R) in
       let from : length R ≤ length R + i = omega arith in
       let back : length R + i - length R ≡ i = omega arith in
-      let is : get_or M (length R + i) no_row ≡ get_or bound i no_row = ap (λ (l : List SiteSet). get_or l (length R + i) no_row) e ∙ (get_or-append_right R bound (length R + i) no_row from ∙ ap (λ n. get_or bound n no_row) back) in
+      let is : get_or M (length R + i) no_row ≡ get_or bound i no_row = ap (λ (l : List SiteSet). get_or l (length R + i) no_row) e ∙
+      (get_or-append_right R bound (length R + i) no_row from ∙ ap (λ n. get_or bound n no_row) back) in
       record { slot = length R + i; from = from; used = subst (λ n. Uses n b) at used; row = ap (λ (r : SiteSet). has r k) is ∙ (sym (bool_at_fed k bound i) ∙ (ap (λ l. bool_at l i) fed ∙ h)) }
 
   pub walks_let : (M : List SiteSet) (f g : SiteSet) (a0 a1 a2 a3 : Keeping) (ts : Terms) (b : Term) → Binds C R M a0 a1 ts → a2.decides ≡ a1.decides
@@ -231,7 +237,8 @@ module _ (C : Program) (R : List SiteSet) where
   }
 
   -- the first binding's row goes before those of the rest
-  pub binds_more : (M : List SiteSet) (d e : SiteSet) (a0 a1 a2 : Keeping) (t : Term) (ts : Terms) → ((k : ℕ) → has d k ≡ false) → Walks C R d e a0 a1 t → (hs : Binds C R M a1 a2 ts) → Binds C R (R ++ (e ∷ hs.bound)) a0 a2 (Cons t ts)
+  pub binds_more : (M : List SiteSet) (d e : SiteSet) (a0 a1 a2 : Keeping) (t : Term) (ts : Terms) → ((k : ℕ) → has d k ≡ false) → Walks C R d e a0 a1
+      t → (hs : Binds C R M a1 a2 ts) → Binds C R (R ++ (e ∷ hs.bound)) a0 a2 (Cons t ts)
   unfolding feeds Decides Held
   binds_more M d e a0 a1 a2 t ts none h hs = record {
     bound = e ∷ hs.bound;

@@ -26,9 +26,11 @@ module _ {C : Program} where
   pub binds_same : {R S M : List SiteSet} {a b : Keeping} {ts : Terms} → S ≡ R → Binds C S M a b ts → Binds C R M a b ts
   binds_same {R} {S} {M} {a} {b} {ts} e h = subst (λ (l : List SiteSet). Binds C l M a b ts) e h
 
-  pub held_tree : {X Y : Type 0} {M N : List SiteSet} {low high k : ℕ} {x y : declared.Term} → M ≡ N → low ≡ high → x ≡ y → Adds X Y (IsHeldHere C M low k (shown_term x)) → Adds X Y (IsHeldHere C N high k (shown_term y))
+  pub held_tree : {X Y : Type 0} {M N : List SiteSet} {low high k : ℕ} {x y : declared.Term} → M ≡ N → low ≡ high → x ≡ y → Adds X Y
+      (IsHeldHere C M low k (shown_term x)) → Adds X Y (IsHeldHere C N high k (shown_term y))
   held_tree {X} {Y} {M} {N} {low} {high} {k} {x} {y} e f i h =
-      subst (λ (l : List SiteSet). Adds X Y (IsHeldHere C l high k (shown_term y))) e (subst (λ (n : ℕ). Adds X Y (IsHeldHere C M n k (shown_term y))) f (subst (λ (z : declared.Term). Adds X Y (IsHeldHere C M low k (shown_term z))) i h))
+      subst (λ (l : List SiteSet). Adds X Y (IsHeldHere C l high k (shown_term y))) e
+      (subst (λ (n : ℕ). Adds X Y (IsHeldHere C M n k (shown_term y))) f (subst (λ (z : declared.Term). Adds X Y (IsHeldHere C M low k (shown_term z))) i h))
 
 insert_at : (R bound : List SiteSet) (x : SiteSet) → insert (R ++ bound) (length R) x ≡ R ++ (x ∷ bound)
 insert_at [] bound x = refl

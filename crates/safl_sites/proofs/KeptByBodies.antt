@@ -25,7 +25,8 @@ fed_empty k (r ∷ rows) none = ap (λ b. b ∷ fed_by k rows) (off (has r k) (n
   off true h = absurd (h refl)
   off false h = refl
 
-pub own_same : (C : Program) (reach : SiteSet) (peers : List SiteSet) (keeps : Keeping) (from till k : ℕ) {X Y : Type 0} → k ≡ till → (MustKeep C reach peers keeps k → ⊥) → (j : ℕ) → Adds X Y (IsOwnKept C reach peers keeps from till j) → Adds X Y (IsOwnKept C reach peers keeps from (till + 1) j)
+pub own_same : (C : Program) (reach : SiteSet) (peers : List SiteSet) (keeps : Keeping) (from till k : ℕ) {X Y : Type 0} → k ≡ till →
+    (MustKeep C reach peers keeps k → ⊥) → (j : ℕ) → Adds X Y (IsOwnKept C reach peers keeps from till j) → Adds X Y (IsOwnKept C reach peers keeps from (till + 1) j)
 own_same C reach peers keeps from till k e never j x =
     adds_as
     (λ h. record { from_on = h.from_on; before = omega (arith, h.before); must = h.must })
@@ -64,8 +65,10 @@ module _ (p : CheckedProgram) (h : IsChecked p) where
   }
 
   -- what a walk found of a body's own sites is what is kept
-  pub body_kept : (g : ℕ) (slots peers : List SiteSet) (reach d e f f' : SiteSet) (a b : Keeping) → g < C.functions → ArePeers C C.sites peers → length slots ≡ arity C g → ((i k : ℕ) → HasAt slots i k → ⊥)
-      → ((k : ℕ) → has a.decides k ≡ false) → ((k : ℕ) → has a.held k ≡ false) → Walks C slots f f' a b (C.body g) → ((k : ℕ) → (Has reach k → Reaches C k (C.body g)) × (Reaches C k (C.body g) → Has reach k))
+  pub body_kept : (g : ℕ) (slots peers : List SiteSet) (reach d e f f' : SiteSet) (a b : Keeping) → g < C.functions → ArePeers C C.sites peers →
+      length slots ≡ arity C g → ((i k : ℕ) → HasAt slots i k → ⊥)
+      → ((k : ℕ) → has a.decides k ≡ false) → ((k : ℕ) → has a.held k ≡ false) → Walks C slots f f' a b (C.body g) →
+      ((k : ℕ) → (Has reach k → Reaches C k (C.body g)) × (Reaches C k (C.body g) → Has reach k))
       → (k : ℕ) {X Y : Type 0} → Adds X Y (IsOwnKept C reach peers b (first_site_of p g) (first_site_of p (suc g)) k) → Adds X Y (IsBodyKept C g k)
   body_kept g slots peers reach d e f f' a b within sites count empty none_decides none_held w table k =
       let scope : fed_by k slots ≡ replicate (arity C g) false = fed_empty k slots (λ i. empty i k) ∙ ap (λ n. replicate n false) count in
@@ -99,6 +102,15 @@ module _ (p : CheckedProgram) (h : IsChecked p) where
           | inr y ↦ inl (kept.joins (record { other = x.because; differs = x.other; same = x.same; held = y }))
           | inl (y, z) ↦
               let o = body_reached p h g x.because within z in
-              inr (decided.joins y, record { other = x.because; differs = x.other; first = (table x.because).1 z; second = (sites.rows (unit_for C k) x.because).1 (record { least = o.least; most = o.most; unit = sym x.same }) })
+              inr (
+                decided.joins y,
+                record {
+                  other = x.because;
+                  differs = x.other;
+                  first = (table x.because).1 z;
+                  second =
+                      (sites.rows (unit_for C k) x.because).1 (record { least = o.least; most = o.most; unit = sym x.same });
+                },
+              )
         ];
       })

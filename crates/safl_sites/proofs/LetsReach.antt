@@ -83,11 +83,13 @@ looked_more C slots low body old now next done k e l (inr (same, none)) = record
   rest = λ j above. ap (λ (r : SiteSet). has r j) same ∙ l.rest j (omega arith);
 }
 
-module _ (p : CheckedProgram) (h : IsChecked p) (units slots peers : List SiteSet) (n low : ℕ) (body : Term) (m : MayReach (program_of p) units n body) (sites : ArePeers (program_of p) (program_of p).sites peers) where
+module _ (p : CheckedProgram) (h : IsChecked p) (units slots peers : List SiteSet) (n low : ℕ) (body : Term)
+    (m : MayReach (program_of p) units n body) (sites : ArePeers (program_of p) (program_of p).sites peers) where
   abbrev D : Program
   D = program_of p
 
-  pub held_here : (used within : SiteSet) (k : ℕ) → (Has used k → IsTouched slots low k body) → ((j : ℕ) → Has within j → InBody D j body) → Has used k → Meets within (get_or peers (unit_for D k) no_row) k → IsHeldHere D slots low k body
+  pub held_here : (used within : SiteSet) (k : ℕ) → (Has used k → IsTouched slots low k body) → ((j : ℕ) → Has within j → InBody D j body) → Has used
+      k → Meets within (get_or peers (unit_for D k) no_row) k → IsHeldHere D slots low k body
   held_here used within k u v x y = record {
     other = y.other;
     differs = y.differs;

@@ -13,7 +13,8 @@ unit_within p h k least most =
     let calls = h.formed.calls k (omega arith) most in
     omega (arith, (h.formed.first ((program_of p).callee k) calls.1).0, calls.1)
 
-pub peers_more : (C : Program) (m k : ℕ) (peers : List SiteSet) (row : SiteSet) → k ≡ suc m → unit_for C k < C.functions → ArePeers C m peers → ((j : ℕ) → Adds (HasAt peers (unit_for C k) j) (Has row j) (j ≡ k)) → ArePeers C k (slice_set peers (unit_for C k) row)
+pub peers_more : (C : Program) (m k : ℕ) (peers : List SiteSet) (row : SiteSet) → k ≡ suc m → unit_for C k < C.functions → ArePeers C m peers →
+    ((j : ℕ) → Adds (HasAt peers (unit_for C k) j) (Has row j) (j ≡ k)) → ArePeers C k (slice_set peers (unit_for C k) row)
 peers_more C m k peers row e within t insert = record {
   count = length-set peers (unit_for C k) row ∙ t.count;
   rows = λ u j.

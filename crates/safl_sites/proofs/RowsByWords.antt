@@ -1,5 +1,6 @@
 -- Rows of bits, word by word.
-use Rattle.std.proofs.Common.{◌≡◌, ℕ, zero, suc, ◌+◌, ◌*◌, ◌/◌, ◌%◌, ◌^◌, ◌<◌, ◌⊎◌, Bool, true, false, ◌==◌, ◌&&◌, List, [], ◌∷◌, length, get_or, slice_set, bit_and, bit_or, min, max, refl, sym, ◌∙◌, ap, inl, inr, arith, eq-eqb, w64}
+use Rattle.std.proofs.Common.{◌≡◌, ℕ, zero, suc, ◌+◌, ◌*◌, ◌/◌, ◌%◌, ◌^◌, ◌<◌, ◌⊎◌, Bool, true, false, ◌==◌, ◌&&◌, List, [], ◌∷◌, length, get_or}
+use Rattle.std.proofs.Common.{slice_set, bit_and, bit_or, min, max, refl, sym, ◌∙◌, ap, inl, inr, arith, eq-eqb, w64}
 use Rattle.std.proofs.lemmas.Bool.{eqb-true, cases_eq, cases_lt}
 use Rattle.std.proofs.lemmas.Nat.{and_le_l}
 use Rattle.std.proofs.lemmas.Grind.{get_or-set_at}
@@ -46,7 +47,8 @@ has-union a b c j e =
     let y = get_or b.words (j / 64) 0 in
     let m : bit_at (get_or c.words (j / 64) 0) (j % 64) ≡ max (bit_at x (j % 64)) (bit_at y (j % 64)) = rw e (bit_at_or x y (j % 64)) in
     record {
-      splits = λ h. elim (either (bit_at x (j % 64)) (bit_at y (j % 64)) (sym m ∙ bit_of_has c j h) (bit_at-lt x (j % 64)) (bit_at-lt y (j % 64))) [ inl f ↦ inl (has_of_bit a j f) | inr f ↦ inr (has_of_bit b j f) ];
+      splits = λ h. elim (either (bit_at x (j % 64)) (bit_at y (j % 64)) (sym m ∙ bit_of_has c j h) (bit_at-lt x (j % 64)) (bit_at-lt y (j % 64)))
+          [ inl f ↦ inl (has_of_bit a j f) | inr f ↦ inr (has_of_bit b j f) ];
       stays = λ h. has_of_bit c j (omega (arith, m, bit_of_has a j h, bit_at-lt y (j % 64)));
       joins = λ h. has_of_bit c j (omega (arith, m, bit_of_has b j h, bit_at-lt x (j % 64)));
     }
@@ -55,7 +57,8 @@ same_place : (j k : ℕ) → j / 64 ≡ k / 64 → j % 64 ≡ k % 64 → j ≡ k
 same_place j k e f = omega arith
 
 -- a row with one bit more
-pub has-insert : (ws : List ℕ) (k j : ℕ) → k / 64 < length ws → Adds (Has (record { words = ws }) j) (Has (record { words = slice_set ws (k / 64) (bit_or (get_or ws (k / 64) 0) (1 * 2 ^ (k % 64) % 2 ^ 64)) }) j) (j ≡ k)
+pub has-insert : (ws : List ℕ) (k j : ℕ) → k / 64 < length ws → Adds (Has (record { words = ws }) j)
+    (Has (record { words = slice_set ws (k / 64) (bit_or (get_or ws (k / 64) 0) (1 * 2 ^ (k % 64) % 2 ^ 64)) }) j) (j ≡ k)
 has-insert ws k j within =
     let v = bit_or (get_or ws (k / 64) 0) (1 * 2 ^ (k % 64) % 2 ^ 64) in
     let a : SiteSet = record { words = ws } in
@@ -184,7 +187,8 @@ row_at (r ∷ rows) (suc i) row h e = row_at rows i row (omega arith) e
 
 -- a row whose word has the bits of one, and those of two others but for a number
 pub has_common : (r a b c : SiteSet) (e k common : ℕ) → get_or c.words (k / 64) 0 ≡ bit_or (get_or r.words (k / 64) 0) common
-    → ((k / 64 ≡ e / 64 → ⊥) × (common ≡ bit_and (get_or a.words (k / 64) 0) (get_or b.words (k / 64) 0))) ⊎ ((k / 64 ≡ e / 64) × (common ≡ bit_and (bit_and (get_or a.words (k / 64) 0) (get_or b.words (k / 64) 0)) (bit_not w64 (1 * 2 ^ (e % 64) % 2 ^ 64))))
+    → ((k / 64 ≡ e / 64 → ⊥) × (common ≡ bit_and (get_or a.words (k / 64) 0) (get_or b.words (k / 64) 0))) ⊎
+    ((k / 64 ≡ e / 64) × (common ≡ bit_and (bit_and (get_or a.words (k / 64) 0) (get_or b.words (k / 64) 0)) (bit_not w64 (1 * 2 ^ (e % 64) % 2 ^ 64))))
     → Adds (Has r k) (Has c k) (IsCommon a b e k)
 has_common r a b c e k common is which =
     let i = k / 64 in

@@ -93,7 +93,8 @@ unfolding Stands After
 mark_nil C B k b h = elim h [ inl (s, q) ↦ s | inr p ↦ p ]
 
 -- a row of a table with more in it
-pub row_more : (rows : List SiteSet) (i : ℕ) (row : SiteSet) (b k : ℕ) {P : Type 0} → i < length rows → Adds (HasAt rows i k) (Has row k) P → Adds (HasAt rows b k) (HasAt (slice_set rows i row) b k) ((i ≡ b) × P)
+pub row_more : (rows : List SiteSet) (i : ℕ) (row : SiteSet) (b k : ℕ) {P : Type 0} → i < length rows → Adds (HasAt rows i k) (Has row k) P → Adds
+    (HasAt rows b k) (HasAt (slice_set rows i row) b k) ((i ≡ b) × P)
 row_more rows i row b k within h =
     elim (cases_eq b i) [
       | inr n ↦
@@ -115,5 +116,6 @@ row_more rows i row b k within h =
 pub mark_tree : (C : Program) (B : Type 0) (k b : ℕ) {X Y : Type 0} {x y : declared.Term} → x ≡ y → Adds X Y (Marked C B k b (shown_term x)) → Adds X Y (Marked C B k b (shown_term y))
 mark_tree C B k b {X} {Y} e h = subst (λ (z : declared.Term). Adds X Y (Marked C B k b (shown_term z))) e h
 
-pub mark_forest : (C : Program) (B : Type 0) (k b : ℕ) {X Y : Type 0} {xs ys : List declared.Term} → xs ≡ ys → Adds X Y (MarkedIn C B k b (shown_terms xs)) → Adds X Y (MarkedIn C B k b (shown_terms ys))
+pub mark_forest : (C : Program) (B : Type 0) (k b : ℕ) {X Y : Type 0} {xs ys : List declared.Term} → xs ≡ ys → Adds X Y
+    (MarkedIn C B k b (shown_terms xs)) → Adds X Y (MarkedIn C B k b (shown_terms ys))
 mark_forest C B k b {X} {Y} e h = subst (λ (z : List declared.Term). Adds X Y (MarkedIn C B k b (shown_terms z))) e h

@@ -70,12 +70,20 @@ module _ (p : CheckedProgram) (h : IsChecked p) where
   of_collision_back i j x = conflict_of C j i (λ f. x.differs (sym f)) x.peer.unit (inl x.before)
 
   body_at : (g k : ℕ) → IsBodyKept C g k → Kept C k
-  body_at g k b = record { because = b.because; other = b.other; same = b.same; why = inr (subst (λ n. (Decides k (replicate (arity C n) false) (C.body n) × Reaches C b.because (C.body n)) ⊎ Held C k b.because (replicate (arity C n) false) (C.body n)) (sym b.caller) b.why) }
+  body_at g k b = record {
+    because = b.because;
+    other = b.other;
+    same = b.same;
+    why = inr
+        (subst (λ n. (Decides k (replicate (arity C n) false) (C.body n) × Reaches C b.because (C.body n)) ⊎ Held C k b.because
+        (replicate (arity C n) false) (C.body n)) (sym b.caller) b.why);
+  }
 
   body_of : (k : ℕ) → IsKeptBelow C C.functions k → Kept C k
   body_of k y = body_at y.body k y.kept
 
-  pub plan_is : (program : PlannedProgram) (kept all : SiteSet) → program.program ≡ p → IsCollected C C.sites program.arbiters kept → ((k : ℕ) → Adds (Has kept k) (Has all k) (IsKeptBelow C C.functions k))
+  pub plan_is : (program : PlannedProgram) (kept all : SiteSet) → program.program ≡ p → IsCollected C C.sites program.arbiters kept →
+      ((k : ℕ) → Adds (Has kept k) (Has all k) (IsKeptBelow C C.functions k))
       → ((k : ℕ) → k < suc C.sites → get_or program.keeps k false ≡ has all k) → IsPlan C (arbiter_of program) (kept_of program)
   unfolding arbiter_of kept_of
   plan_is program kept all same t more listed = record {
@@ -91,8 +99,20 @@ module _ (p : CheckedProgram) (h : IsChecked p) where
         | inl y ↦
             let c = (t.sites k).0 y in
             elim c.one [
-              | inl f ↦ record { because = c.earlier; other = λ g. c.collides.differs (sym f ∙ g); same = ap (λ n. unit_for C n) f ∙ sym c.collides.peer.unit; why = inl (subst (λ n. Conflict C n c.earlier) (sym f) (of_collision c.later c.earlier c.collides)) }
-              | inr f ↦ record { because = c.later; other = λ g. c.collides.differs (sym g ∙ f); same = ap (λ n. unit_for C n) f ∙ c.collides.peer.unit; why = inl (subst (λ n. Conflict C n c.later) (sym f) (of_collision_back c.later c.earlier c.collides)) }
+              | inl f ↦ record {
+                because = c.earlier;
+                other = λ g. c.collides.differs (sym f ∙ g);
+                same = ap (λ n. unit_for C n) f ∙ sym
+                    c.collides.peer.unit;
+                why = inl (subst (λ n. Conflict C n c.earlier) (sym f) (of_collision c.later c.earlier c.collides));
+              }
+              | inr f ↦ record {
+                because = c.later;
+                other = λ g. c.collides.differs (sym g ∙ f);
+                same = ap (λ n. unit_for C n) f ∙
+                    c.collides.peer.unit;
+                why = inl (subst (λ n. Conflict C n c.later) (sym f) (of_collision_back c.later c.earlier c.collides));
+              }
             ]
         | inr y ↦ body_of k y
       ],
@@ -101,7 +121,12 @@ module _ (p : CheckedProgram) (h : IsChecked p) where
           | inl d ↦ record { later = x.because; earlier = k; collides = collides k x.because (λ f. x.other (sym f)) x.same d; one = inr refl }
           | inr d ↦ record { later = k; earlier = x.because; collides = collides x.because k x.other (sym x.same) d; one = inl refl }
         ]))
-        | inr c ↦ (more k).joins (record { body = C.caller k; is_body = (h.formed.calls k least most).0; kept = record { least = omega (arith, least); most = most; caller = refl; because = x.because; other = x.other; same = x.same; why = c } })
+        | inr c ↦ (more k).joins (record {
+          body = C.caller k;
+          is_body = (h.formed.calls k least most).0;
+          kept = record
+              { least = omega (arith, least); most = most; caller = refl; because = x.because; other = x.other; same = x.same; why = c };
+        })
       ],
     );
   }

@@ -59,7 +59,8 @@ leaves_parts name text None new t = tt
 leaves_parts name text (Some a) None t = t
 leaves_parts name text (Some a) (Some b) t = λ other. go other (bytes_eq name other) refl
   where
-    go : (other : List ℕ) (e : Bool) → bytes_eq name other ≡ e → (file_of b other ≡ file_of a other) ⊎ IsSomeAnd (if e then Some text else None) (λ x. (count : ℕ) × (file_of b other ≡ Some (take count x)))
+    go : (other : List ℕ) (e : Bool) → bytes_eq name other ≡ e → (file_of b other ≡ file_of a other) ⊎ IsSomeAnd (if e then Some text else None)
+        (λ x. (count : ℕ) × (file_of b other ≡ Some (take count x)))
     go other true h =
         let same = (bytes_eq-Decides name other).0 h in
         subst (λ (x : List ℕ). (file_of b x ≡ file_of a x) ⊎ ((count : ℕ) × (file_of b x ≡ Some (take count text)))) same t.file

@@ -1,5 +1,6 @@
 -- What follows of every command, however it ends.
-use Rattle.std.proofs.Common.{◌≡◌, ℕ, ◌<◌, ◌≤◌, List, [], ◌∷◌, ◌++◌, length, take, bytes_eq, if◌then◌else◌, Bool, true, false, Option, Some, None, Contains, refl, sym, ap, ◌∙◌, subst, inl, inr, suc, arith}
+use Rattle.std.proofs.Common.{◌≡◌, ℕ, ◌<◌, ◌≤◌, List, [], ◌∷◌, ◌++◌, length, take, bytes_eq, if◌then◌else◌, Bool, true, false, Option, Some, None}
+use Rattle.std.proofs.Common.{Contains, refl, sym, ap, ◌∙◌, subst, inl, inr, suc, arith}
 use Rattle.std.specs.Prelude.{◌⊎◌, IfSome, IsSome, IsSomeAnd}
 use Rattle.std.proofs.lemmas.Slice.Eq.{bytes_eq-Decides}
 use Rattle.safl_io.specs.Reading.{HasFile}
@@ -7,7 +8,8 @@ use Rattle.safl_io.specs.Shelf.{Files, file_of}
 use Rattle.safl_io.specs.Told.{TellsOn}
 use Rattle.safl_io.specs.Sink.{SinkState, SendsPart}
 use Rattle.safl_task.specs.Tasks.{Input, Given, Task, OfFile, end_of, files_of, AreContents, OfInputs}
-use Rattle.safl_task.specs.Endings.{Outside, LeavesParts, Gave, Began, Left, Stops, refused, unread, long, unwritten, unprinted, unprobed, starved, Ends, gave, told, cut, may_give, Got, KeepsAll, KeepsOthers, Tells, NoFault, Completes}
+use Rattle.safl_task.specs.Endings.{Outside, LeavesParts, Gave, Began, Left, Stops, refused, unread, long, unwritten, unprinted, unprobed, starved}
+use Rattle.safl_task.specs.Endings.{Ends, gave, told, cut, may_give, Got, KeepsAll, KeepsOthers, Tells, NoFault, Completes}
 use Rattle.safl_task.specs.declared.status.Status.{Status}
 use Rattle.safl_task.specs.declared.status.Status.TheVariants as status
 use Rattle.safl_task.proofs.Ending.{whole_part, all_parts, stop_left, same_parts}
@@ -93,7 +95,8 @@ module _ (t : Task) (Unprobed : List ℕ → Type 0) (old new : Outside) where
       go rest true h = absurd (k (0, omega arith, (bytes_eq-Decides n name).0 h))
       go rest false h = rest
 
-  others_of : (texts : List (List ℕ)) (a b : Option Files) → TellsOn (LeavesParts (files_of t.outputs texts)) a b → (name : List ℕ) → ¬ Contains t.outputs name → TellsOn (λ x y. file_of y name ≡ file_of x name) a b
+  others_of : (texts : List (List ℕ)) (a b : Option Files) → TellsOn (LeavesParts (files_of t.outputs texts)) a b → (name : List ℕ) → ¬ Contains
+      t.outputs name → TellsOn (λ x y. file_of y name ≡ file_of x name) a b
   others_of texts None b h name k = tt
   others_of texts (Some a) None h name k = h
   others_of texts (Some a) (Some b) h name k = go (file_of (files_of t.outputs texts) name) (other_name t.outputs texts name k) (h name)
@@ -128,7 +131,8 @@ same_contents holds some (i ∷ is) (c ∷ cs) [] a b = absurd b
 same_contents holds some (i ∷ is) (c ∷ cs) (d ∷ ds) a b =
     ap (λ (x : List ℕ). x ∷ cs) (same_content holds i.name c d some a.1 b.1) ∙ ap (λ (x : List (List ℕ)). d ∷ x) (same_contents holds some is cs ds a.2 b.2)
 
-content_at : (holds : Option Files) (before : List Input) (i : Input) (after : List Input) (cs : List (List ℕ)) → AreContents holds (before ++ i ∷ after) cs → (c : List ℕ) × (length c ≤ i.limit) × IfSome holds (HasFile i.name c)
+content_at : (holds : Option Files) (before : List Input) (i : Input) (after : List Input) (cs : List (List ℕ)) → AreContents holds
+    (before ++ i ∷ after) cs → (c : List ℕ) × (length c ≤ i.limit) × IfSome holds (HasFile i.name c)
 content_at holds [] i after [] a = absurd a
 content_at holds [] i after (c ∷ cs) a = (c, a.0, a.1)
 content_at holds (j ∷ before) i after [] a = absurd a
@@ -139,7 +143,8 @@ not_long None i c none h small h2 = absurd (cc)
 not_long (Some files) i c some h small h2 = let n : i.limit < length c = subst (λ (o : Option (List ℕ)). IsSomeAnd o (λ bytes. i.limit < length bytes)) h h2 in omega (arith, n, small)
 
 -- what was promised was told otherwise
-module _ (t : Task) (Unprobed : List ℕ → Type 0) (keeps : IsKept t) (old new : Outside) (some : IsSome old.shelf.holds) (promise : OfInputs old.shelf.holds t.inputs t.Promises) (quiet : NoFault Unprobed old new) where
+module _ (t : Task) (Unprobed : List ℕ → Type 0) (keeps : IsKept t) (old new : Outside) (some : IsSome old.shelf.holds)
+    (promise : OfInputs old.shelf.holds t.inputs t.Promises) (quiet : NoFault Unprobed old new) where
   comes : (g : Given) → OfInputs old.shelf.holds t.inputs (λ contents. t.Gives contents g) → g.comes ≡ true
   comes g h =
       let e : promise.0 ≡ h.0 = same_contents old.shelf.holds some t.inputs promise.0 h.0 promise.1 h.1 in
@@ -164,5 +169,6 @@ module _ (t : Task) (Unprobed : List ℕ → Type 0) (keeps : IsKept t) (old new
   end_complete before after _ (told s line stops g) = inr (memory_alone s line stops)
   end_complete before after _ (cut s line stops p) = inr refl
 
-pub end_completes : (t : Task) (Unprobed : List ℕ → Type 0) → IsKept t → (old new : Outside) (before after : SinkState) (s : Status) → Ends t Unprobed old new before after s → Completes t Unprobed old new s
+pub end_completes : (t : Task) (Unprobed : List ℕ → Type 0) → IsKept t → (old new : Outside) (before after : SinkState) (s : Status) → Ends t Unprobed
+    old new before after s → Completes t Unprobed old new s
 end_completes t Unprobed keeps old new before after s ends = λ some promise quiet. end_complete t Unprobed keeps old new some promise quiet before after s ends

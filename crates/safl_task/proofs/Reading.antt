@@ -14,14 +14,16 @@ use Rattle.safl_task.specs.declared.input.Unread.TheVariants as unread
 use Rattle.safl_task.proofs.Ending.{rose_later}
 
 -- one more was read
-pub contents_more : (holds : Option Files) (is : List Input) (cs : List (List ℕ)) (i : Input) (c : List ℕ) → AreContents holds is cs → length c ≤ i.limit → IfSome holds (HasFile i.name c) → AreContents holds (is ++ i ∷ []) (cs ++ c ∷ [])
+pub contents_more : (holds : Option Files) (is : List Input) (cs : List (List ℕ)) (i : Input) (c : List ℕ) → AreContents holds is cs → length c ≤
+    i.limit → IfSome holds (HasFile i.name c) → AreContents holds (is ++ i ∷ []) (cs ++ c ∷ [])
 contents_more holds [] [] i c h small has = (small, has, tt)
 contents_more holds [] (d ∷ cs) i c h small has = absurd h
 contents_more holds (j ∷ is) [] i c h small has = absurd h
 contents_more holds (j ∷ is) (d ∷ cs) i c h small has = (h.0, h.1, contents_more holds is cs i c h.2 small has)
 
 -- a file that comes later is not read, after those before it were
-pub unread_later : (inputs before after : List Input) (i : Input) (old mid new : ShelfState) (cs : List (List ℕ)) → inputs ≡ before ++ i ∷ after → AreContents old.holds before cs → mid.holds ≡ old.holds → old.read_faults ≤ mid.read_faults
+pub unread_later : (inputs before after : List Input) (i : Input) (old mid new : ShelfState) (cs : List (List ℕ)) → inputs ≡ before ++ i ∷ after →
+    AreContents old.holds before cs → mid.holds ≡ old.holds → old.read_faults ≤ mid.read_faults
     → (why : Unread) → IsUnreadAt i mid new why → AreUnread inputs old new why
 unread_later inputs before after i old mid new cs is read same later (unread.Failed name) h =
     (i, record { before = before; after = after; is = is; held = (cs, read, tt) }, (h.0, rose_later old.read_faults mid.read_faults new.read_faults later h.1))
@@ -49,7 +51,8 @@ held_at holds inputs before after i is h = go before (subst (λ (l : List Input)
     go (j ∷ js) h = go js h.1
 
 -- no stray name was used, and none is used later
-pub strays_on : (old mid new : ShelfState) → mid.holds ≡ old.holds → OnSome old.holds (mid.strays ≡ old.strays) → OnSome mid.holds (new.strays ≡ mid.strays) → OnSome old.holds (new.strays ≡ old.strays)
+pub strays_on : (old mid new : ShelfState) → mid.holds ≡ old.holds → OnSome old.holds (mid.strays ≡ old.strays) → OnSome mid.holds
+    (new.strays ≡ mid.strays) → OnSome old.holds (new.strays ≡ old.strays)
 strays_on old mid new same a b = go old.holds a (subst (λ (o : Option Files). OnSome o (new.strays ≡ mid.strays)) same b)
   where
     go : (o : Option Files) → OnSome o (mid.strays ≡ old.strays) → OnSome o (new.strays ≡ mid.strays) → OnSome o (new.strays ≡ old.strays)
@@ -84,7 +87,8 @@ module _ (xs : List code.Input) (i : ℕ) (d : code.Input) (lt : i < length xs) 
   is = split_at shown_input xs i x (get_index xs i d lt)
 
   -- it is not read
-  pub refused_next : (new : ShelfState) (cs : List (List ℕ)) → AreContents old.holds (shown_inputs (take i xs)) cs → OnlyReads old mid → (why : Unread) → IsUnreadAt (shown_input x) mid new why → AreUnread (shown_inputs xs) old new why
+  pub refused_next : (new : ShelfState) (cs : List (List ℕ)) → AreContents old.holds (shown_inputs (take i xs)) cs → OnlyReads old mid →
+      (why : Unread) → IsUnreadAt (shown_input x) mid new why → AreUnread (shown_inputs xs) old new why
   refused_next new cs read reads why h = unread_later (shown_inputs xs) (shown_inputs (take i xs)) (shown_inputs (drop (i + 1) xs)) (shown_input x) old mid new cs is read reads.files reads.reads why h
 
   -- no stray name is used
@@ -95,7 +99,8 @@ module _ (xs : List code.Input) (i : ℕ) (d : code.Input) (lt : i < length xs) 
       strays_on old mid new same (first held) (second (subst (λ (o : Option Files). OfFile o x.name.now (λ bytes. Unit {0})) (sym same) here))
 
   -- it is read
-  pub contents_next : mid.holds ≡ old.holds → (contents more : List (Vec ℕ Global)) (bytes : Vec ℕ Global) → more ≡ contents ++ bytes ∷ [] → AreContents old.holds (shown_inputs (take i xs)) (shown_contents contents)
+  pub contents_next : mid.holds ≡ old.holds → (contents more : List (Vec ℕ Global)) (bytes : Vec ℕ Global) → more ≡ contents ++ bytes ∷ [] →
+      AreContents old.holds (shown_inputs (take i xs)) (shown_contents contents)
       → length bytes.items ≤ x.limit → IfSome mid.holds (HasFile x.name.now bytes.items) → AreContents old.holds (shown_inputs (take (i + 1) xs)) (shown_contents more)
   contents_next same contents more bytes e read small has =
       let here : IfSome old.holds (HasFile x.name.now bytes.items) = subst (λ (o : Option Files). IfSome o (HasFile x.name.now bytes.items)) same has in

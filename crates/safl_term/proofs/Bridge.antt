@@ -7,9 +7,11 @@ use Rattle.safl_word.specs.declared.primitive.Primitive.{Primitive}
 use Rattle.safl_term.specs.Terms.{Term, Const, Var, If, Let, Op, Call, Loop, Terms, Nil, Cons}
 use Rattle.safl_term.specs.Program.{Program}
 use Rattle.safl_term.specs.Meaning.{Gives, cost, costs}
-use Rattle.safl_term.specs.Readiness.{Stage, Unsent, Sent, Returned, back_word, Answer, Ready, LoopTo, NotYet, answer, answers, wanted, wanted_in, both, apply_to, loop_to, ready_from, select, with_all, or_else}
+use Rattle.safl_term.specs.Readiness.{Stage, Unsent, Sent, Returned, back_word, Answer, Ready, LoopTo, NotYet, answer, answers, wanted, wanted_in}
+use Rattle.safl_term.specs.Readiness.{both, apply_to, loop_to, ready_from, select, with_all, or_else}
 use Rattle.safl_term.specs.WellFormed.{Spans, SpansAll}
-use Rattle.safl_term.proofs.Shows.{Done, d_const, d_var, d_op, d_if, d_let, d_call, DoneAll, d_nil, d_cons, Tail, t_loop, t_if, t_let, Asks, a_here, a_arg, a_loop, a_op, a_cond, a_branch, a_bind, a_body, AsksIn, a_head, a_tail, done_gives, done_all_gives}
+use Rattle.safl_term.proofs.Shows.{Done, d_const, d_var, d_op, d_if, d_let, d_call, DoneAll, d_nil, d_cons, Tail, t_loop, t_if, t_let, Asks, a_here}
+use Rattle.safl_term.proofs.Shows.{a_arg, a_loop, a_op, a_cond, a_branch, a_bind, a_body, AsksIn, a_head, a_tail, done_gives, done_all_gives}
 use Rattle.safl_term.proofs.Unique.{one_value, one_list}
 use Rattle.safl_term.proofs.Places.{fits_le, fits_all_le, fits_choose, place, place_in}
 
@@ -92,7 +94,8 @@ module _ (p : Program) (s : ℕ → Stage) (g : ℕ) (env : List Word) where
   part_bind tail m hi ts b k ws y lt (a_bind q) = q
   part_bind tail m hi ts b k ws y lt (a_body ds q) = let pl = place p s g tail m hi y q in absurd (omega (arith, pl.above))
 
-  pub part_body : (lo m : ℕ) (ts : Terms) (b : Term) (us : List Word) (k : ℕ) (ws : List Word) → SpansAll p g lo m ts → DoneAll p s env ts us → m ≤ k → Asks p s env (Let ts b) k ws → Asks p s (env ++ us) b k ws
+  pub part_body : (lo m : ℕ) (ts : Terms) (b : Term) (us : List Word) (k : ℕ) (ws : List Word) → SpansAll p g lo m ts → DoneAll p s env ts us → m ≤ k
+      → Asks p s env (Let ts b) k ws → Asks p s (env ++ us) b k ws
   part_body lo m ts b us k ws x ds le (a_bind q) = let pl = place_in p s g lo m x q in absurd (omega (arith, pl.below))
   part_body lo m ts b us k ws x ds le (a_body {us = vs} ds' q) =
       let e = (one_list p (costs p (done_all_gives p s ds)) (done_all_gives p s ds') (done_all_gives p s ds) refl).0 in
@@ -141,7 +144,8 @@ module _ (p : Program) (s : ℕ → Stage) (env : List Word) where
   sound_none : (t : Term) → Sound p s env t (λ k. None)
   sound_none t k ws c = none_some ws c
 
-  view_branch : (tail : Bool) (c a b : Term) (u : Word) {x : Answer} (l : Wants) {m : Wants} → Done p s env c u → Sound p s env c l → View p s env tail (choose u a b) x m → View p s env tail (If c a b) x (or_both l m)
+  view_branch : (tail : Bool) (c a b : Term) (u : Word) {x : Answer} (l : Wants) {m : Wants} → Done p s env c u → Sound p s env c l → View p s env
+      tail (choose u a b) x m → View p s env tail (If c a b) x (or_both l m)
   view_branch tail c a b u l {m = m} d h (ready q i) =
       ready (d_if d q) (sound_both (If c a b) l m (λ k ws e. a_cond (h k ws e)) (λ k ws e. a_branch d (i k ws e)))
   view_branch tail c a b u l {m = m} d h (loops e q i) =
@@ -149,18 +153,23 @@ module _ (p : Program) (s : ℕ → Stage) (env : List Word) where
   view_branch tail c a b u l {m = m} d h (waits q i) =
       waits (blocked_right s l m q) (sound_both (If c a b) l m (λ k ws e. a_cond (h k ws e)) (λ k ws e. a_branch d (i k ws e)))
 
-  view_pick : (tail : Bool) (a b : Term) (n : ℕ) (xa xb : Answer) (la lb : Wants) → (n ≡ 1 → View p s env tail a xa la) → (n ≢ 1 → View p s env tail b xb lb) → View p s env tail (pick n a b) (pick n xa xb) (λ k. pick n (la k) (lb k))
+  view_pick : (tail : Bool) (a b : Term) (n : ℕ) (xa xb : Answer) (la lb : Wants) → (n ≡ 1 → View p s env tail a xa la) →
+      (n ≢ 1 → View p s env tail b xb lb) → View p s env tail (pick n a b) (pick n xa xb) (λ k. pick n (la k) (lb k))
   view_pick tail a b zero xa xb la lb va vb = vb (omega arith)
   view_pick tail a b (suc zero) xa xb la lb va vb = va refl
   view_pick tail a b (suc (suc n)) xa xb la lb va vb = vb (omega arith)
 
-  view_if : (tail : Bool) (c a b : Term) {x : Answer} {l : Wants} (xa xb : Answer) (la lb : Wants) → View p s env false c x l → ((u : Word) → Done p s env c u → u.bits ≡ 1 → View p s env tail a xa la) → ((u : Word) → Done p s env c u → u.bits ≢ 1 → View p s env tail b xb lb) → View p s env tail (If c a b) (select x NotYet xa xb) (λ k. or_else (l k) (select x None (la k) (lb k)))
+  view_if : (tail : Bool) (c a b : Term) {x : Answer} {l : Wants} (xa xb : Answer) (la lb : Wants) → View p s env false c x l →
+      ((u : Word) → Done p s env c u → u.bits ≡ 1 → View p s env tail a xa la) →
+      ((u : Word) → Done p s env c u → u.bits ≢ 1 → View p s env tail b xb lb) → View p s env tail (If c a b) (select x NotYet xa xb)
+      (λ k. or_else (l k) (select x None (la k) (lb k)))
   view_if tail c a b {l = l} xa xb la lb (ready {v = u} d h) va vb = view_branch tail c a b u l {m = λ k. pick u.bits (la k) (lb k)} d h (view_pick tail a b u.bits xa xb la lb (va u d) (vb u d))
   view_if tail c a b xa xb la lb (loops e q k) va vb = absurd (false≢true e)
   view_if tail c a b {l = l} xa xb la lb (waits q h) va vb =
       waits (blocked_left s l (λ k. None) q) (sound_both (If c a b) l (λ k. None) (λ k ws e. a_cond (h k ws e)) (sound_none (If c a b)))
 
-  view_body : (tail : Bool) (ts : Terms) (b : Term) (us : List Word) (l : Wants) {x : Answer} {m : Wants} → DoneAll p s env ts us → SoundIn p s env ts l → View p s (env ++ us) tail b x m → View p s env tail (Let ts b) x (or_both l m)
+  view_body : (tail : Bool) (ts : Terms) (b : Term) (us : List Word) (l : Wants) {x : Answer} {m : Wants} → DoneAll p s env ts us → SoundIn p s env ts
+      l → View p s (env ++ us) tail b x m → View p s env tail (Let ts b) x (or_both l m)
   view_body tail ts b us l {m = m} d h (ready q i) =
       ready (d_let d q) (sound_both (Let ts b) l m (λ k ws e. a_bind (h k ws e)) (λ k ws e. a_body d (i k ws e)))
   view_body tail ts b us l {m = m} d h (loops e q i) =
@@ -168,7 +177,9 @@ module _ (p : Program) (s : ℕ → Stage) (env : List Word) where
   view_body tail ts b us l {m = m} d h (waits q i) =
       waits (blocked_right s l m q) (sound_both (Let ts b) l m (λ k ws e. a_bind (h k ws e)) (λ k ws e. a_body d (i k ws e)))
 
-  view_let : (tail : Bool) (ts : Terms) (b : Term) {x : Option (List Word)} {l : Wants} (xs : List Word → Answer) (ls : List Word → Wants) → ViewIn p s env ts x l → ((us : List Word) → DoneAll p s env ts us → View p s (env ++ us) tail b (xs us) (ls us)) → View p s env tail (Let ts b) (with_all x NotYet xs) (λ k. or_else (l k) (with_all x None (λ us. ls us k)))
+  view_let : (tail : Bool) (ts : Terms) (b : Term) {x : Option (List Word)} {l : Wants} (xs : List Word → Answer) (ls : List Word → Wants) → ViewIn p
+      s env ts x l → ((us : List Word) → DoneAll p s env ts us → View p s (env ++ us) tail b (xs us) (ls us)) → View p s env tail (Let ts b)
+      (with_all x NotYet xs) (λ k. or_else (l k) (with_all x None (λ us. ls us k)))
   view_let tail ts b {l = l} xs ls (readys {vs = us} ds h) v = view_body tail ts b us l {m = ls us} ds h (v us ds)
   view_let tail ts b {l = l} xs ls (waitin q h) v =
       waits (blocked_left s l (λ k. None) q) (sound_both (Let ts b) l (λ k. None) (λ k ws e. a_bind (h k ws e)) (sound_none (Let ts b)))
@@ -191,14 +202,18 @@ module _ (p : Program) (s : ℕ → Stage) (env : List Word) where
       waitin (blocked_left s l m q) (in_both (Cons t ts) l m (λ k ws e. a_head (h k ws e)) (λ k ws e. a_tail (i k ws e)))
 
   -- the call itself, or a call in its arguments
-  sound_call : (f k : ℕ) (ts : Terms) (y : Option (List Word)) (l : Wants) → ((ws : List Word) → y ≡ Some ws → DoneAll p s env ts ws) → SoundIn p s env ts l → Sound p s env (Call f k ts) (λ j. cond (k == j) y (l j))
+  sound_call : (f k : ℕ) (ts : Terms) (y : Option (List Word)) (l : Wants) → ((ws : List Word) → y ≡ Some ws → DoneAll p s env ts ws) → SoundIn p s
+      env ts l → Sound p s env (Call f k ts) (λ j. cond (k == j) y (l j))
   sound_call f k ts y l here h j ws e =
       ⊎_elim
       (λ q. subst (λ i. Asks p s env (Call f k ts) i ws) q (a_here (here ws (sym (ap (λ b. cond b y (l j)) (eq-eqb k j q)) ∙ e))))
       (λ q. a_arg (h j ws (sym (ap (λ b. cond b y (l j)) (ne_eqb k j q)) ∙ e)))
       (cases_eq k j)
 
-  view_call : (tail : Bool) (f k : ℕ) (ts : Terms) (x : Stage) {y : Option (List Word)} {l : Wants} → s k ≡ x → ((ws : List Word) → AsksIn p s env ts k ws → ⊥) → ViewIn p s env ts y l → ((v : Word) → s k ≡ Returned v → (ws : List Word) × DoneAll p s env ts ws × Gives p ws (p.body f) v) → View p s env tail (Call f k ts) (ready_from (back_word x)) (λ j. cond (k == j) y (l j))
+  view_call : (tail : Bool) (f k : ℕ) (ts : Terms) (x : Stage) {y : Option (List Word)} {l : Wants} → s k ≡ x →
+      ((ws : List Word) → AsksIn p s env ts k ws → ⊥) → ViewIn p s env ts y l →
+      ((v : Word) → s k ≡ Returned v → (ws : List Word) × DoneAll p s env ts ws × Gives p ws (p.body f) v) → View p s env tail (Call f k ts)
+      (ready_from (back_word x)) (λ j. cond (k == j) y (l j))
   view_call tail f k ts Unsent {l = l} e apart (readys {vs = us} ds h) held =
       waits (inl (k, us, ap (λ b. cond b (Some us) (l k)) (eq-eqb k k refl), e))
       (sound_call f k ts (Some us) l (λ ws q. subst (λ zs. DoneAll p s env ts zs) (same_some us ws q) ds) h)
@@ -226,7 +241,8 @@ module _ (p : Program) (s : ℕ → Stage) (env : List Word) where
 mutual
   unfolding answer wanted
 
-  pub bridge : (p : Program) (s : ℕ → Stage) (g : ℕ) (tail : Bool) (lo hi : ℕ) (env : List Word) (t : Term) → Spans p g tail lo hi t → Held p s env lo hi t → View p s env tail t (answer (back_of s) env t) (wanted (back_of s) env t)
+  pub bridge : (p : Program) (s : ℕ → Stage) (g : ℕ) (tail : Bool) (lo hi : ℕ) (env : List Word) (t : Term) → Spans p g tail lo hi t → Held p s env lo
+      hi t → View p s env tail t (answer (back_of s) env t) (wanted (back_of s) env t)
   bridge p s g tail lo hi env (Const w) h held = ready d_const (sound_none p s env (Const w))
   bridge p s g tail lo hi env (Var i) h held = ready d_var (sound_none p s env (Var i))
   bridge p s g tail lo hi env (If c a b) (m, n, x, y, z) held =
@@ -235,8 +251,10 @@ mutual
       let xm = fits_le p g false lo m c x in
       view_if p s env tail c a b _ _ _ _
       (bridge p s g false lo m env c x (λ k w i j e. let r = held k w i (omega arith) e in (r.0, part_cond p s g env tail m n hi c a b k r.0 y z j r.1, r.2)))
-      (λ u d one. bridge p s g tail m n env a y (λ k w i j e. let r = held k w (omega arith) (omega arith) e in (r.0, subst (λ v. Asks p s env (pick v a b) k r.0) one (part_branch p s g env lo m c a b u k r.0 x d i r.1), r.2)))
-      (λ u d other. bridge p s g tail n hi env b z (λ k w i j e. let r = held k w (omega arith) j e in (r.0, other_branch u.bits a b (λ t. Asks p s env t k r.0) other (part_branch p s g env lo m c a b u k r.0 x d (omega arith) r.1), r.2)))
+      (λ u d one. bridge p s g tail m n env a y (λ k w i j e. let r = held k w (omega arith) (omega arith) e in
+      (r.0, subst (λ v. Asks p s env (pick v a b) k r.0) one (part_branch p s g env lo m c a b u k r.0 x d i r.1), r.2)))
+      (λ u d other. bridge p s g tail n hi env b z (λ k w i j e. let r = held k w (omega arith) j e in
+      (r.0, other_branch u.bits a b (λ t. Asks p s env t k r.0) other (part_branch p s g env lo m c a b u k r.0 x d (omega arith) r.1), r.2)))
   bridge p s g tail lo hi env (Let ts b) (m, x, y) held =
       let xm = fits_all_le p g lo m ts x in
       let ym = fits_le p g tail m hi b y in
@@ -250,11 +268,13 @@ mutual
       view_call p s env tail f k ts (s k) refl
       (λ ws q. let pl = place_in p s g (suc lo) hi h q in absurd (omega (arith, pl.above)))
       (bridge_in p s g (suc lo) hi env ts h (λ j w i l q. let r = held j w (omega arith) l q in (r.0, part_arg p s g env f k ts j r.0 (omega arith) r.1, r.2)))
-      (λ v q. let r = held k v (omega arith) (omega arith) q in (r.0, part_here p s g env hi f k k ts r.0 refl (subst (λ n. SpansAll p g (suc n) hi ts) (sym e) h) r.1, subst (λ n. Gives p r.0 (p.body n) v) e1 r.2))
+      (λ v q. let r = held k v (omega arith) (omega arith) q in
+      (r.0, part_here p s g env hi f k k ts r.0 refl (subst (λ n. SpansAll p g (suc n) hi ts) (sym e) h) r.1, subst (λ n. Gives p r.0 (p.body n) v) e1 r.2))
   bridge p s g tail lo hi env (Loop f ts) (e, e1, h) held =
       view_loop p s env tail f ts e (bridge_in p s g lo hi env ts h (λ k w i j q. let r = held k w i j q in (r.0, part_loop p s g env f ts k r.0 r.1, r.2)))
 
-  pub bridge_in : (p : Program) (s : ℕ → Stage) (g lo hi : ℕ) (env : List Word) (ts : Terms) → SpansAll p g lo hi ts → HeldIn p s env lo hi ts → ViewIn p s env ts (answers (back_of s) env ts) (wanted_in (back_of s) env ts)
+  pub bridge_in : (p : Program) (s : ℕ → Stage) (g lo hi : ℕ) (env : List Word) (ts : Terms) → SpansAll p g lo hi ts → HeldIn p s env lo hi ts →
+      ViewIn p s env ts (answers (back_of s) env ts) (wanted_in (back_of s) env ts)
   bridge_in p s g lo hi env Nil h held = view_nil p s env
   bridge_in p s g lo hi env (Cons t ts) (m, x, y) held =
       let xm = fits_le p g false lo m t x in

@@ -45,19 +45,24 @@ module _ (p : Program) (f : Apply) (r : IsRight p f) where
     eval_gives (If c a b) n env v m e =
         go (eval p f c n env) (λ u k i. eval_gives c n env u k i) (λ u k z. chosen u _ _ (λ t. Uses p env t v k m) a b v m (λ i. eval_gives a k env v m i) (λ i. eval_gives b k env v m i) z) refl e
       where
-        go : (x : Outcome) → ((u : Word) (k : ℕ) → eval p f c n env ≡ Gave u k → Uses p env c u n k) → ((u : Word) (k : ℕ) → choose u (eval p f a k env) (eval p f b k env) ≡ Gave v m → Uses p env (choose u a b) v k m) → eval p f c n env ≡ x → with_word x (λ u k. choose u (eval p f a k env) (eval p f b k env)) ≡ Gave v m → Uses p env (If c a b) v n m
+        go : (x : Outcome) → ((u : Word) (k : ℕ) → eval p f c n env ≡ Gave u k → Uses p env c u n k) →
+            ((u : Word) (k : ℕ) → choose u (eval p f a k env) (eval p f b k env) ≡ Gave v m → Uses p env (choose u a b) v k m) → eval p f c n env ≡ x
+            → with_word x (λ u k. choose u (eval p f a k env) (eval p f b k env)) ≡ Gave v m → Uses p env (If c a b) v n m
         go Nothing h g i z = nothing_word v m z
         go (Gave u k) h g i z = let x = h u k i in let y = g u k z in (gives_if x.0 y.0, omega (arith, x.1, y.1))
     eval_gives (Let ts b) n env v m e =
         go (eval_all p f ts n env) (λ us k i. eval_all_gives ts n env us k i) (λ us k z. eval_gives b k (env ++ us) v m z) refl e
       where
-        go : (x : Outcomes) → ((us : List Word) (k : ℕ) → eval_all p f ts n env ≡ Words us k → UsesAll p env ts us n k) → ((us : List Word) (k : ℕ) → eval p f b k (env ++ us) ≡ Gave v m → Uses p (env ++ us) b v k m) → eval_all p f ts n env ≡ x → with_words x (λ us k. eval p f b k (env ++ us)) ≡ Gave v m → Uses p env (Let ts b) v n m
+        go : (x : Outcomes) → ((us : List Word) (k : ℕ) → eval_all p f ts n env ≡ Words us k → UsesAll p env ts us n k) →
+            ((us : List Word) (k : ℕ) → eval p f b k (env ++ us) ≡ Gave v m → Uses p (env ++ us) b v k m) → eval_all p f ts n env ≡ x → with_words x
+            (λ us k. eval p f b k (env ++ us)) ≡ Gave v m → Uses p env (Let ts b) v n m
         go NoWords h g i z = nothing_word v m z
         go (Words us k) h g i z = let x = h us k i in let y = g us k z in (gives_let x.0 y.0, omega (arith, x.1, y.1))
     eval_gives (Op o ts) n env v m e =
         go (eval_all p f ts n env) (λ us k i. eval_all_gives ts n env us k i) refl e
       where
-        go : (x : Outcomes) → ((us : List Word) (k : ℕ) → eval_all p f ts n env ≡ Words us k → UsesAll p env ts us n k) → eval_all p f ts n env ≡ x → with_words x (λ us k. Gave (apply_prim o us) k) ≡ Gave v m → Uses p env (Op o ts) v n m
+        go : (x : Outcomes) → ((us : List Word) (k : ℕ) → eval_all p f ts n env ≡ Words us k → UsesAll p env ts us n k) → eval_all p f ts n env ≡ x →
+            with_words x (λ us k. Gave (apply_prim o us) k) ≡ Gave v m → Uses p env (Op o ts) v n m
         go NoWords h i z = nothing_word v m z
         go (Words us k) h i z =
             let x = h us k i in
@@ -66,13 +71,15 @@ module _ (p : Program) (f : Apply) (r : IsRight p f) where
     eval_gives (Call g j ts) n env v m e =
         go (eval_all p f ts n env) (λ us k i. eval_all_gives ts n env us k i) refl e
       where
-        go : (x : Outcomes) → ((us : List Word) (k : ℕ) → eval_all p f ts n env ≡ Words us k → UsesAll p env ts us n k) → eval_all p f ts n env ≡ x → with_words x (λ us k. f k g us) ≡ Gave v m → Uses p env (Call g j ts) v n m
+        go : (x : Outcomes) → ((us : List Word) (k : ℕ) → eval_all p f ts n env ≡ Words us k → UsesAll p env ts us n k) → eval_all p f ts n env ≡ x →
+            with_words x (λ us k. f k g us) ≡ Gave v m → Uses p env (Call g j ts) v n m
         go NoWords h i z = nothing_word v m z
         go (Words us k) h i z = let x = h us k i in let y = r k g v m us z in (gives_call x.0 y.2.0, omega (arith, x.1, y.1, y.2.1))
     eval_gives (Loop g ts) n env v m e =
         go (eval_all p f ts n env) (λ us k i. eval_all_gives ts n env us k i) refl e
       where
-        go : (x : Outcomes) → ((us : List Word) (k : ℕ) → eval_all p f ts n env ≡ Words us k → UsesAll p env ts us n k) → eval_all p f ts n env ≡ x → with_words x (λ us k. f k g us) ≡ Gave v m → Uses p env (Loop g ts) v n m
+        go : (x : Outcomes) → ((us : List Word) (k : ℕ) → eval_all p f ts n env ≡ Words us k → UsesAll p env ts us n k) → eval_all p f ts n env ≡ x →
+            with_words x (λ us k. f k g us) ≡ Gave v m → Uses p env (Loop g ts) v n m
         go NoWords h i z = nothing_word v m z
         go (Words us k) h i z = let x = h us k i in let y = r k g v m us z in (gives_loop x.0 y.2.0, omega (arith, x.1, y.1, y.2.1))
 
@@ -81,14 +88,17 @@ module _ (p : Program) (f : Apply) (r : IsRight p f) where
     eval_all_gives (Cons t ts) n env vs m e =
         go (eval p f t n env) (λ v k i. eval_gives t n env v k i) (λ k us j z. eval_all_gives ts k env us j z) refl e
       where
-        rest : (v : Word) (k : ℕ) (y : Outcomes) → Uses p env t v n k → ((us : List Word) (j : ℕ) → y ≡ Words us j → UsesAll p env ts us k j) → with_rest y v ≡ Words vs m → UsesAll p env (Cons t ts) vs n m
+        rest : (v : Word) (k : ℕ) (y : Outcomes) → Uses p env t v n k → ((us : List Word) (j : ℕ) → y ≡ Words us j → UsesAll p env ts us k j) →
+            with_rest y v ≡ Words vs m → UsesAll p env (Cons t ts) vs n m
         rest v k NoWords x h z = no_words vs m z
         rest v k (Words us j) x h z =
             let q = same_words (v ∷ us) vs j m z in
             let y = h us j refl in
             subst (λ l. UsesAll p env (Cons t ts) l n m) q.0 (gives_cons x.0 y.0, omega (arith, x.1, y.1, q.1))
 
-        go : (x : Outcome) → ((v : Word) (k : ℕ) → eval p f t n env ≡ Gave v k → Uses p env t v n k) → ((k : ℕ) (us : List Word) (j : ℕ) → eval_all p f ts k env ≡ Words us j → UsesAll p env ts us k j) → eval p f t n env ≡ x → with_head x (λ k. eval_all p f ts k env) ≡ Words vs m → UsesAll p env (Cons t ts) vs n m
+        go : (x : Outcome) → ((v : Word) (k : ℕ) → eval p f t n env ≡ Gave v k → Uses p env t v n k) →
+            ((k : ℕ) (us : List Word) (j : ℕ) → eval_all p f ts k env ≡ Words us j → UsesAll p env ts us k j) → eval p f t n env ≡ x → with_head x
+            (λ k. eval_all p f ts k env) ≡ Words vs m → UsesAll p env (Cons t ts) vs n m
         go Nothing h g i z = no_words vs m z
         go (Gave v k) h g i z = rest v k (eval_all p f ts k env) (h v k i) (λ us j l. g k us j l) z
 

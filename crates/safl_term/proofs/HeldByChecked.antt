@@ -28,7 +28,8 @@ pub callee_in : (c : CheckedProgram) (k : ℕ) → IsChecked c → 1 ≤ k → k
 callee_in c k h least most = (h.formed.calls k least most).1
 
 -- a parameter that is read has the width of a word
-pub param_fits : (c : CheckedProgram) (f i : ℕ) (g : Function) (p : Parameter) → IsChecked c → f < (program_of c).functions → i < arity (program_of c) f → g ≡ get_or c.functions f g → p ≡ get_or g.params.items i p → (1 ≤ p.width) × (p.width ≤ max_width)
+pub param_fits : (c : CheckedProgram) (f i : ℕ) (g : Function) (p : Parameter) → IsChecked c → f < (program_of c).functions → i < arity (program_of c)
+    f → g ≡ get_or c.functions f g → p ≡ get_or g.params.items i p → (1 ≤ p.width) × (p.width ≤ max_width)
 unfolding program_of
 param_fits c f i g p h in_functions in_params is_g is_p =
     let there : slice_get c.functions f ≡ Some g = slice_get_read c.functions (length c.functions) f g refl in_functions is_g in

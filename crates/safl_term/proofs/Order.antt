@@ -22,9 +22,11 @@ mutual
   stands_within p g tail lo hi (Const w) k h st = absurd st
   stands_within p g tail lo hi (Var i) k h st = absurd st
   stands_within p g tail lo hi (Op o ts) k h st = all_within p g lo hi ts k h st
-  stands_within p g tail lo hi (If c a b) k (m, n, x, y, z) (inl st) = wider p g lo hi lo m k (omega arith) (omega (arith, fits_le p g tail m n a y, fits_le p g tail n hi b z)) (stands_within p g false lo m c k x st)
+  stands_within p g tail lo hi (If c a b) k (m, n, x, y, z) (inl st) = wider p g lo hi lo m k (omega arith)
+      (omega (arith, fits_le p g tail m n a y, fits_le p g tail n hi b z)) (stands_within p g false lo m c k x st)
   stands_within p g tail lo hi (If c a b) k (m, n, x, y, z) (inr (inl st)) = wider p g lo hi m n k (fits_le p g false lo m c x) (fits_le p g tail n hi b z) (stands_within p g tail m n a k y st)
-  stands_within p g tail lo hi (If c a b) k (m, n, x, y, z) (inr (inr st)) = wider p g lo hi n hi k (omega (arith, fits_le p g false lo m c x, fits_le p g tail m n a y)) (omega arith) (stands_within p g tail n hi b k z st)
+  stands_within p g tail lo hi (If c a b) k (m, n, x, y, z) (inr (inr st)) = wider p g lo hi n hi k
+      (omega (arith, fits_le p g false lo m c x, fits_le p g tail m n a y)) (omega arith) (stands_within p g tail n hi b k z st)
   stands_within p g tail lo hi (Let ts b) k (m, x, y) (inl st) = wider p g lo hi lo m k (omega arith) (fits_le p g tail m hi b y) (all_within p g lo m ts k x st)
   stands_within p g tail lo hi (Let ts b) k (m, x, y) (inr st) = wider p g lo hi m hi k (fits_all_le p g lo m ts x) (omega arith) (stands_within p g tail m hi b k y st)
   stands_within p g tail lo hi (Call f j ts) k (e, e1, e2, lt, h) (inl st) =
@@ -65,7 +67,8 @@ mutual
   once_all p g lo hi (Cons t ts) (m, x, y) =
       (once_of p g false lo m t x, once_all p g m hi ts y, λ k i j. let q = stands_within p g false lo m t k x i in let r = all_within p g m hi ts k y j in absurd (omega (arith, q.below, r.above)))
 
-pub loops_of : (p : Program) (g : ℕ) (tail : Bool) (lo hi : ℕ) (slots : List ℕ) (n : ℕ) (t : Term) (h : ℕ) → Spans p g tail lo hi t → HasWidth p slots t n → LoopsTo h t → (h < p.functions) × (p.unit h ≡ p.unit g)
+pub loops_of : (p : Program) (g : ℕ) (tail : Bool) (lo hi : ℕ) (slots : List ℕ) (n : ℕ) (t : Term) (h : ℕ) → Spans p g tail lo hi t → HasWidth p slots
+    t n → LoopsTo h t → (h < p.functions) × (p.unit h ≡ p.unit g)
 unfolding LoopsTo
 loops_of p g tail lo hi slots n (Const w) h x w' l = absurd l
 loops_of p g tail lo hi slots n (Var i) h x w l = absurd l

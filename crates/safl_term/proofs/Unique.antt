@@ -1,6 +1,7 @@
 -- At most one value and one cost, and as many loops and the same calls.
 use Rattle.std.proofs.Common.{◌≡◌, ℕ, List, ◌∷◌, ◌++◌, refl, sym, ap, ◌∙◌, subst, arith}
-use Rattle.safl_term.specs.Meaning.{Gives, gives_const, gives_var, gives_op, gives_if, gives_let, gives_call, gives_loop, GivesAll, gives_nil, gives_cons, cost, costs, loops, loops_all, at_function, calls, calls_all}
+use Rattle.safl_term.specs.Meaning.{Gives, gives_const, gives_var, gives_op, gives_if, gives_let, gives_call, gives_loop, GivesAll, gives_nil}
+use Rattle.safl_term.specs.Meaning.{gives_cons, cost, costs, loops, loops_all, at_function, calls, calls_all}
 use Rattle.safl_term.specs.Program.{Program}
 use Rattle.safl_term.specs.Terms.{Term, Terms}
 use Rattle.safl_word.specs.Primitives.{apply_prim}
@@ -121,7 +122,8 @@ mutual
       let q = one_calls p f (calls p f d') d moved.0 moved.1 in
       joined _ _ _ _ r (joined _ _ _ _ (ap (at_function f g) (list_of p ds ds')) q) ∙ h
 
-  one_calls_in : (p : Program) (f : ℕ) {env : List Word} {ts : Terms} {vs ws : List Word} (l : List (List Word)) (d : GivesAll p env ts vs) (e : GivesAll p env ts ws) → calls_all p f e ≡ l → calls_all p f d ≡ l
+  one_calls_in : (p : Program) (f : ℕ) {env : List Word} {ts : Terms} {vs ws : List Word} (l : List (List Word)) (d : GivesAll p env ts vs)
+      (e : GivesAll p env ts ws) → calls_all p f e ≡ l → calls_all p f d ≡ l
   one_calls_in p f l gives_nil gives_nil h = h
   one_calls_in p f l (gives_cons d ds) (gives_cons e es) h =
       let r = one_calls p f (calls p f e) d e refl in

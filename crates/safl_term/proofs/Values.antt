@@ -47,7 +47,8 @@ slot_word (v ∷ vs) (w ∷ ws) (suc i) n h e = slot_word vs ws i n h.2 e
 
 module _ (C : Program) (wf : IsWellFormed C) where
   mutual
-    pub value_word : (g : ℕ) (tail : Bool) (lo hi : ℕ) (slots : List ℕ) (n : ℕ) {env : List Word} {t : Term} {v : Word} → Gives C env t v → Spans C g tail lo hi t → HasWidth C slots t n → AreWordsOf env slots → IsWord v × (v.width ≡ n)
+    pub value_word : (g : ℕ) (tail : Bool) (lo hi : ℕ) (slots : List ℕ) (n : ℕ) {env : List Word} {t : Term} {v : Word} → Gives C env t v → Spans C g
+        tail lo hi t → HasWidth C slots t n → AreWordsOf env slots → IsWord v × (v.width ≡ n)
     value_word g tail lo hi slots n gives_const s h e = (h.0, h.1)
     value_word g tail lo hi slots n (gives_var {env = env} {i = i}) s h e = slot_word env slots i n e h
     value_word g tail lo hi slots n (gives_op {o = o} {vs = vs} ds) s (ws, h, r) e =
@@ -71,7 +72,8 @@ module _ (C : Program) (wf : IsWellFormed C) where
         let v = value_word m true b.0 b.1 (C.params m) (C.result m) d b.3 (wf.widths m h.2) all in
         (v.0, v.1 ∙ h.1)
 
-    pub values_words : (g lo hi : ℕ) (slots ws : List ℕ) {env : List Word} {ts : Terms} {vs : List Word} → GivesAll C env ts vs → SpansAll C g lo hi ts → HaveWidths C slots ts ws → AreWordsOf env slots → AreWordsOf vs ws
+    pub values_words : (g lo hi : ℕ) (slots ws : List ℕ) {env : List Word} {ts : Terms} {vs : List Word} → GivesAll C env ts vs → SpansAll C g lo hi
+        ts → HaveWidths C slots ts ws → AreWordsOf env slots → AreWordsOf vs ws
     values_words g lo hi slots [] gives_nil s h e = tt
     values_words g lo hi slots (w ∷ ws) gives_nil s h e = absurd h
     values_words g lo hi slots [] (gives_cons d ds) s h e = absurd h

@@ -82,7 +82,8 @@ module _ (C : Program) (back : ℕ → Option Word) where
   mutual
     unfolding answer Stands
 
-    pub answer_width : (g : ℕ) (tail : Bool) (lo hi : ℕ) (env : List Word) (t : Term) (n : ℕ) (v : Word) → Spans C g tail lo hi t → HasWidth C (widths env) t n → BackIn t → answer back env t ≡ Ready v → v.width ≡ n
+    pub answer_width : (g : ℕ) (tail : Bool) (lo hi : ℕ) (env : List Word) (t : Term) (n : ℕ) (v : Word) → Spans C g tail lo hi t → HasWidth C
+        (widths env) t n → BackIn t → answer back env t ≡ Ready v → v.width ≡ n
     answer_width g tail lo hi env (Const w) n v s h b e = sym (ap (λ z. z.width) (ready_is w v e)) ∙ h.1
     answer_width g tail lo hi env (Var i) n v s h b e = sym (ap (λ z. z.width) (ready_is (slot env i) v e)) ∙ slot_width env i n h
     answer_width g tail lo hi env (Op o ts) n v s (ws, h, r) b e = by (answers back env ts) refl e (λ vs q. answers_widths g lo hi env ts ws vs s h b q)
@@ -113,7 +114,8 @@ module _ (C : Program) (back : ℕ → Option Word) where
         by None z = not_ready v z
         by (Some vs) z = loop_ready m vs v z
 
-    pub answers_widths : (g lo hi : ℕ) (env : List Word) (ts : Terms) (ws : List ℕ) (vs : List Word) → SpansAll C g lo hi ts → HaveWidths C (widths env) ts ws → AllBackIn ts → answers back env ts ≡ Some vs → widths vs ≡ ws
+    pub answers_widths : (g lo hi : ℕ) (env : List Word) (ts : Terms) (ws : List ℕ) (vs : List Word) → SpansAll C g lo hi ts → HaveWidths C
+        (widths env) ts ws → AllBackIn ts → answers back env ts ≡ Some vs → widths vs ≡ ws
     answers_widths g lo hi env Nil [] vs s h b e = sym (ap widths (some_is [] vs e))
     answers_widths g lo hi env Nil (w ∷ ws) vs s h b e = absurd h
     answers_widths g lo hi env (Cons t ts) [] vs s h b e = absurd h
@@ -123,7 +125,8 @@ module _ (C : Program) (back : ℕ → Option Word) where
         ∙ ap (λ z. z ∷ widths p.1) (answer_width g false lo m env t w p.0 st h.0 (λ i v q. b i v (inl q)) p.2)
         ∙ ap (λ l. w ∷ l) (answers_widths g m hi env ts ws p.1 sts h.1 (λ i v q. b i v (inr q)) p.3)
 
-  pub loop_widths : (g : ℕ) (tail : Bool) (lo hi : ℕ) (env : List Word) (t : Term) (n h : ℕ) (vs : List Word) → Spans C g tail lo hi t → HasWidth C (widths env) t n → BackIn t → answer back env t ≡ LoopTo h vs → widths vs ≡ C.params h
+  pub loop_widths : (g : ℕ) (tail : Bool) (lo hi : ℕ) (env : List Word) (t : Term) (n h : ℕ) (vs : List Word) → Spans C g tail lo hi t → HasWidth C
+      (widths env) t n → BackIn t → answer back env t ≡ LoopTo h vs → widths vs ≡ C.params h
   unfolding answer Stands
   loop_widths g tail lo hi env (Const w) n h vs s hw b e = ready_loop h vs w e
   loop_widths g tail lo hi env (Var i) n h vs s hw b e = ready_loop h vs (slot env i) e
@@ -158,7 +161,8 @@ module _ (C : Program) (back : ℕ → Option Word) where
   mutual
     unfolding wanted Stands
 
-    pub wanted_widths : (g : ℕ) (tail : Bool) (lo hi : ℕ) (env : List Word) (t : Term) (n k : ℕ) (us : List Word) → Spans C g tail lo hi t → HasWidth C (widths env) t n → BackIn t → wanted back env t k ≡ Some us → widths us ≡ C.params (C.callee k)
+    pub wanted_widths : (g : ℕ) (tail : Bool) (lo hi : ℕ) (env : List Word) (t : Term) (n k : ℕ) (us : List Word) → Spans C g tail lo hi t → HasWidth
+        C (widths env) t n → BackIn t → wanted back env t k ≡ Some us → widths us ≡ C.params (C.callee k)
     wanted_widths g tail lo hi env (Const w) n k us s h b e = none_some us e
     wanted_widths g tail lo hi env (Var i) n k us s h b e = none_some us e
     wanted_widths g tail lo hi env (Op o ts) n k us s (ws, h, r) b e = wanted_in_widths g lo hi env ts ws k us s h b e
@@ -182,12 +186,14 @@ module _ (C : Program) (back : ℕ → Option Word) where
         (or_from (wanted_in back env ts k) (with_all (answers back env ts) None (λ vs. wanted back (env ++ vs) x k)) us e)
     wanted_widths g tail lo hi env (Call f j ts) n k us (s0, callee, s2, s3, st) h b e =
         ⊎_elim
-        (λ q. answers_widths g (suc lo) hi env ts (C.params f) us st h.0 (λ i w z. b i w (inr z)) (sym (ap (λ c. cond c (answers back env ts) (wanted_in back env ts k)) (eq-eqb j k q)) ∙ e) ∙ ap C.params (sym callee ∙ ap C.callee q))
+        (λ q. answers_widths g (suc lo) hi env ts (C.params f) us st h.0 (λ i w z. b i w (inr z))
+        (sym (ap (λ c. cond c (answers back env ts) (wanted_in back env ts k)) (eq-eqb j k q)) ∙ e) ∙ ap C.params (sym callee ∙ ap C.callee q))
         (λ q. wanted_in_widths g (suc lo) hi env ts (C.params f) k us st h.0 (λ i w z. b i w (inr z)) (sym (ap (λ c. cond c (answers back env ts) (wanted_in back env ts k)) (ne_eqb j k q)) ∙ e))
         (cases_eq j k)
     wanted_widths g tail lo hi env (Loop m ts) n k us (s0, s1, s2) h b e = wanted_in_widths g lo hi env ts (C.params m) k us s2 h.0 b e
 
-    pub wanted_in_widths : (g lo hi : ℕ) (env : List Word) (ts : Terms) (ws : List ℕ) (k : ℕ) (us : List Word) → SpansAll C g lo hi ts → HaveWidths C (widths env) ts ws → AllBackIn ts → wanted_in back env ts k ≡ Some us → widths us ≡ C.params (C.callee k)
+    pub wanted_in_widths : (g lo hi : ℕ) (env : List Word) (ts : Terms) (ws : List ℕ) (k : ℕ) (us : List Word) → SpansAll C g lo hi ts → HaveWidths C
+        (widths env) ts ws → AllBackIn ts → wanted_in back env ts k ≡ Some us → widths us ≡ C.params (C.callee k)
     wanted_in_widths g lo hi env Nil ws k us s h b e = none_some us e
     wanted_in_widths g lo hi env (Cons t ts) [] k us s h b e = absurd h
     wanted_in_widths g lo hi env (Cons t ts) (w ∷ ws) k us (m, st, sts) h b e =

@@ -51,7 +51,8 @@ cut_more text p n ts x k h =
             ap length h.is,
             length-take-le n (drop p text) h.within,
           );
-      tokens = (λ i. k.tokens i ++ tokens_from (k.place i) (x ∷ [])) ∙ ap (λ q. tokens_from 0 k.pieces ++ tokens_from q (x ∷ [])) (sym (zero-add (length (text_of_all k.pieces)))) ∙ sym (tokens_append 0 k.pieces (x ∷ []));
+      tokens = (λ i. k.tokens i ++ tokens_from (k.place i) (x ∷ [])) ∙ ap (λ q. tokens_from 0 k.pieces ++ tokens_from q (x ∷ []))
+          (sym (zero-add (length (text_of_all k.pieces)))) ∙ sym (tokens_append 0 k.pieces (x ∷ []));
     }
 
 gap_none : (p : ℕ) (x : Piece) → IsGap x → tokens_from p (x ∷ []) ≡ []

@@ -1,11 +1,14 @@
 -- What a text begins with, by its runs.
-use Rattle.std.proofs.Common.{◌≡◌, ◌≢◌, ◌↔◌, IsSome, IfSome, ℕ, zero, suc, ◌+◌, ◌^◌, ◌<◌, ◌≤◌, ◌==◌, ◌||◌, ◌⊎◌, inl, inr, List, [], ◌∷◌, ◌++◌, length, take, drop, get_or, Option, Some, None, Bool, true, false, not, refl, sym, ◌∙◌, ap, subst, arith, append_assoc, length-append}
+use Rattle.std.proofs.Common.{◌≡◌, ◌≢◌, ◌↔◌, IsSome, IfSome, ℕ, zero, suc, ◌+◌, ◌^◌, ◌<◌, ◌≤◌, ◌==◌, ◌||◌, ◌⊎◌, inl, inr, List, [], ◌∷◌, ◌++◌, length}
+use Rattle.std.proofs.Common.{take, drop, get_or, Option, Some, None, Bool, true, false, not, refl, sym, ◌∙◌, ap, subst, arith, append_assoc}
+use Rattle.std.proofs.Common.{length-append}
 use Rattle.std.proofs.lemmas.Bool.{and_parts, eqb-true}
 use Rattle.std.proofs.lemmas.List.{take-append-drop, length-take-le}
 use Rattle.std.proofs.Math.Seq.{take-append_seam, drop-append_seam}
 use Rattle.std.specs.List.{list_all}
 use Rattle.safl_word.specs.Numerals.{between, is_digit, value, IsNumeral, IsBounded}
-use Rattle.safl_word.specs.Tokens.{key_text, sym_text, is_blank, begins_name, in_name, IsNameLike, SizedParts, sized_text, IsSizedLike, IsLongest, Fits, Passes, long_name, long_number, long_sized, Blank, Comment, EndsLine, StandsBefore}
+use Rattle.safl_word.specs.Tokens.{key_text, sym_text, is_blank, begins_name, in_name, IsNameLike, SizedParts, sized_text, IsSizedLike, IsLongest}
+use Rattle.safl_word.specs.Tokens.{Fits, Passes, long_name, long_number, long_sized, Blank, Comment, EndsLine, StandsBefore}
 use Rattle.safl_word.specs.declared.token.Key.{Key}
 use Rattle.safl_word.specs.declared.token.Sym.{Sym}
 use Rattle.safl_word.specs.declared.token.TokenKind.TheVariants as kinds

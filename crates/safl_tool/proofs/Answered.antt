@@ -78,12 +78,14 @@ module _ (input : Input) (R : Refusing) (G : Giving) (P : List ℕ → Type 0) (
   only_at Q q = subst (λ (l : List (List ℕ)). Only Q l) (one_is input cs within) (subst Q is q)
 
   -- it is printed, or written
-  pub prints : (x : Result Lines Refusal) (y : Result Answer Refusal) → MatchResult x (λ l. y ≡ Ok (answer.Printed l)) (λ r. y ≡ Err r) → IfOk x (λ l. G content (printed l)) → IfOk y (Answers (reading input [] R G P) cs)
+  pub prints : (x : Result Lines Refusal) (y : Result Answer Refusal) → MatchResult x (λ l. y ≡ Ok (answer.Printed l)) (λ r. y ≡ Err r) → IfOk x
+      (λ l. G content (printed l)) → IfOk y (Answers (reading input [] R G P) cs)
   prints x y same p =
       given_on answer.Printed x y same (λ l. G content (printed l)) (Answers (reading input [] R G P) cs)
       (λ l p. record { gives = λ g e. only_at (λ c. G c g) (subst (G content) (sym e) p); outputs = refl; can = tt }) p
 
-  pub writes : (name : Bor (List ℕ)) (output : List ℕ) → name.now ≡ output → (x : Result (Vec ℕ Global) Refusal) (y : Result Answer Refusal) → MatchResult x (λ t. y ≡ Ok (answer.File name t)) (λ r. y ≡ Err r)
+  pub writes : (name : Bor (List ℕ)) (output : List ℕ) → name.now ≡ output → (x : Result (Vec ℕ Global) Refusal) (y : Result Answer Refusal) →
+      MatchResult x (λ t. y ≡ Ok (answer.File name t)) (λ r. y ≡ Err r)
       → IfOk x (λ t. G content (only_writes t.items)) → IfOk y (Answers (reading input (output ∷ []) R G P) cs)
   writes name output e x y same p =
       given_on (answer.File name) x y same (λ t. G content (only_writes t.items)) (Answers (reading input (output ∷ []) R G P) cs)
@@ -98,7 +100,8 @@ module _ (input : Input) (R : Refusing) (G : Giving) (P : List ℕ → Type 0) (
       (λ l p. record { gives = λ g h. only_at (λ c. G c g) (gives l p g h); outputs = os l; can = can l p }) q
 
   -- or it is refused
-  pub declines : {X : Type 0} (f : X → Answer) (outputs : List (List ℕ)) (x : Result X Refusal) (y : Result Answer Refusal) → MatchResult x (λ l. y ≡ Ok (f l)) (λ r. y ≡ Err r) → IfErr x (RefusesBy (R content))
+  pub declines : {X : Type 0} (f : X → Answer) (outputs : List (List ℕ)) (x : Result X Refusal) (y : Result Answer Refusal) → MatchResult x
+      (λ l. y ≡ Ok (f l)) (λ r. y ≡ Err r) → IfErr x (RefusesBy (R content))
       → IfErr y (Declines (reading input outputs R G P) cs)
   declines f outputs x y same p =
       refused_on f x y same (Declines (reading input outputs R G P) cs) (RefusesBy (R content))
@@ -106,7 +109,8 @@ module _ (input : Input) (R : Refusing) (G : Giving) (P : List ℕ → Type 0) (
 
 -- ---- of two files
 
-module _ (one two : Input) (R : List ℕ → Refusing) (G : List ℕ → Giving) (P : List ℕ → List ℕ → Type 0) (cs : List (List ℕ)) (within : AreContents None (one ∷ two ∷ []) cs) (c d : List ℕ) (is : c ≡ content_at cs 0) (is' : d ≡ content_at cs 1) where
+module _ (one two : Input) (R : List ℕ → Refusing) (G : List ℕ → Giving) (P : List ℕ → List ℕ → Type 0) (cs : List (List ℕ))
+    (within : AreContents None (one ∷ two ∷ []) cs) (c d : List ℕ) (is : c ≡ content_at cs 0) (is' : d ≡ content_at cs 1) where
   both_at : (Q : List ℕ → List ℕ → Type 0) → Q c d → Both Q cs
   both_at Q q = subst (λ (l : List (List ℕ)). Both Q l) (two_are one two cs within) (subst (λ (x : List ℕ). Q (content_at cs 0) x) is' (subst (λ (x : List ℕ). Q x d) is q))
 
@@ -117,7 +121,8 @@ module _ (one two : Input) (R : List ℕ → Refusing) (G : List ℕ → Giving)
       given_on f x y same Q (Answers (reading_both one two R G P) cs)
       (λ l p. record { gives = λ g h. both_at (λ a b. G a b g) (gives l p g h); outputs = os l; can = can l p }) q
 
-  pub both_declines : {X : Type 0} (f : X → Answer) (x : Result X Refusal) (y : Result Answer Refusal) → MatchResult x (λ l. y ≡ Ok (f l)) (λ r. y ≡ Err r) → IfErr x (RefusesBy (R c d)) → IfErr y (Declines (reading_both one two R G P) cs)
+  pub both_declines : {X : Type 0} (f : X → Answer) (x : Result X Refusal) (y : Result Answer Refusal) → MatchResult x (λ l. y ≡ Ok (f l))
+      (λ r. y ≡ Err r) → IfErr x (RefusesBy (R c d)) → IfErr y (Declines (reading_both one two R G P) cs)
   both_declines f x y same p =
       refused_on f x y same (Declines (reading_both one two R G P) cs) (RefusesBy (R c d))
       (λ r h. refuses_more (R c d) ((reading_both one two R G P).Refuses cs) (λ s line q. both_at (λ a b. R a b s line) q) r h) p

@@ -1,5 +1,7 @@
 -- Which files the probes are asked for, and what they hold afterwards.
-use Rattle.std.proofs.Common.{◌≡◌, ◌⊎◌, ℕ, zero, suc, ◌+◌, ◌<◌, List, [], ◌∷◌, ◌++◌, map, length, take, drop, get_or, ◌≤◌, bytes_eq, if◌then◌else◌, Bool, true, false, not, Option, Some, None, is_some, Contains, String, string_bytes, option_map, refl, sym, ap, subst, ◌∙◌, append_assoc, inl, inr, arith}
+use Rattle.std.proofs.Common.{◌≡◌, ◌⊎◌, ℕ, zero, suc, ◌+◌, ◌<◌, List, [], ◌∷◌, ◌++◌, map, length, take, drop, get_or, ◌≤◌, bytes_eq, if◌then◌else◌}
+use Rattle.std.proofs.Common.{Bool, true, false, not, Option, Some, None, is_some, Contains, String, string_bytes, option_map, refl, sym, ap, subst}
+use Rattle.std.proofs.Common.{◌∙◌, append_assoc, inl, inr, arith}
 use Rattle.std.specs.Prelude.{◌&&◌, ◌||◌, IsSomeAnd}
 use Rattle.std.specs.Option.{option_or}
 use Rattle.std.proofs.lemmas.Bool.{false≢true}
@@ -86,7 +88,8 @@ clash o p name h e f =
 one_kind : (t : Traces) → are_apart t ≡ true → (a b : TraceKind) (name : List ℕ) → file_of_kind t a ≡ Some name → file_of_kind t b ≡ Some name → a ≡ b
 one_kind t apart = go (all_true (is_named t.vcd) (is_named t.starts) (is_named t.toggles) (differ t.vcd t.starts) (differ t.vcd t.toggles) (differ t.starts t.toggles) apart)
   where
-    go : (differ t.vcd t.starts ≡ true) × (differ t.vcd t.toggles ≡ true) × (differ t.starts t.toggles ≡ true) → (a b : TraceKind) (name : List ℕ) → file_of_kind t a ≡ Some name → file_of_kind t b ≡ Some name → a ≡ b
+    go : (differ t.vcd t.starts ≡ true) × (differ t.vcd t.toggles ≡ true) × (differ t.starts t.toggles ≡ true) → (a b : TraceKind) (name : List ℕ) →
+        file_of_kind t a ≡ Some name → file_of_kind t b ≡ Some name → a ≡ b
     go h Vcd Vcd name e f = refl
     go h Vcd Starts name e f = absurd (clash t.vcd t.starts name h.0 e f)
     go h Vcd Toggles name e f = absurd (clash t.vcd t.toggles name h.1 e f)
@@ -183,7 +186,11 @@ one_is (Some x) k name kind h = elim h [ inl e ↦ (ap (λ (y : List ℕ). Some 
 
 given_in : (t : Traces) (k : TraceKind) (name : List ℕ) → file_of_kind t k ≡ Some name → (m : ℕ) × IsIn name m (given_files t)
 given_in t Vcd name e = (1, in_first name 1 (one_given t.vcd 1 ++ one_given t.starts 2) (one_given t.toggles 3) (in_first name 1 (one_given t.vcd 1) (one_given t.starts 2) (one_in t.vcd 1 name e)))
-given_in t Starts name e = (2, in_first name 2 (one_given t.vcd 1 ++ one_given t.starts 2) (one_given t.toggles 3) (in_second name 2 (one_given t.vcd 1) (one_given t.starts 2) (one_in t.starts 2 name e)))
+given_in t Starts name e = (
+  2,
+  in_first name 2 (one_given t.vcd 1 ++ one_given t.starts 2) (one_given t.toggles 3)
+      (in_second name 2 (one_given t.vcd 1) (one_given t.starts 2) (one_in t.starts 2 name e)),
+)
 given_in t Toggles name e = (3, in_second name 3 (one_given t.vcd 1 ++ one_given t.starts 2) (one_given t.toggles 3) (one_in t.toggles 3 name e))
 given_in t Silent name e = absurd (cc)
 
@@ -239,7 +246,8 @@ module _ (t : Traces) (ps : List ProbeState) (there : have_probes t (kinds_of ps
   unnamed : (name : List ℕ) → ((m : ℕ) → IsIn name m (given_files t) → ⊥) → (i : ℕ) → IsAsked (asked_by t (kinds_of ps)) i name → ⊥
   unnamed name free i k = let g = given_in t (kind_of (get_or (kinds_of ps) i 0)) name (asked_sound t (kinds_of ps) i name k) in free g.0 g.1
 
-  pub files_whole : (x y : Option Files) → TellsOn (AllGrow Made (asked_by t (kinds_of ps)) (λ i. trace (probe_at ps i).kind n frames)) x y → TellsOn (LeavesAll (files_of (files_for t) (traces_of t n frames))) x y
+  pub files_whole : (x y : Option Files) → TellsOn (AllGrow Made (asked_by t (kinds_of ps)) (λ i. trace (probe_at ps i).kind n frames)) x y → TellsOn
+      (LeavesAll (files_of (files_for t) (traces_of t n frames))) x y
   files_whole None y h = tt
   files_whole (Some a) None h = h
   files_whole (Some a) (Some b) h = λ name. go name (file_of (files_of (files_for t) (traces_of t n frames)) name) (found (given_files t) (λ m. trace m n frames) name)
@@ -252,7 +260,8 @@ module _ (t : Traces) (ps : List ProbeState) (there : have_probes t (kinds_of ps
         | inr p ↦ h.others name (unnamed name p.0) ∙ sym (ap (λ (u : Option Text). option_or u (file_of a name)) p.1)
       ]
 
-  pub files_parts : (x y : Option Files) → TellsOn (AllGrow OldOrPart (asked_by t (kinds_of ps)) (λ i. trace (probe_at ps i).kind n frames)) x y → TellsOn (LeavesParts (files_of (files_for t) (traces_of t n frames))) x y
+  pub files_parts : (x y : Option Files) → TellsOn (AllGrow OldOrPart (asked_by t (kinds_of ps)) (λ i. trace (probe_at ps i).kind n frames)) x y →
+      TellsOn (LeavesParts (files_of (files_for t) (traces_of t n frames))) x y
   files_parts None y h = tt
   files_parts (Some a) None h = h
   files_parts (Some a) (Some b) h = λ name. go name (file_of (files_of (files_for t) (traces_of t n frames)) name) (found (given_files t) (λ m. trace m n frames) name)
@@ -264,7 +273,8 @@ module _ (t : Traces) (ps : List ProbeState) (there : have_probes t (kinds_of ps
             let q = asked_place t (kinds_of ps) there (kind_of p.0) name (given_kind t name p.0 p.1) in
             elim (h.files q.0 name q.1) [
               | inl same ↦ inl same
-              | inr c ↦ inr (subst (λ (u : Option Text). IsSomeAnd u (λ x. (count : ℕ) × (file_of b name ≡ Some (take count x)))) (sym p.2) (c.0, c.1 ∙ ap (λ (x : Text). Some (take c.0 x)) (text_at q.0 p.0 q.2)))
+              | inr c ↦ inr (subst (λ (u : Option Text). IsSomeAnd u (λ x. (count : ℕ) × (file_of b name ≡ Some (take count x)))) (sym p.2)
+                  (c.0, c.1 ∙ ap (λ (x : Text). Some (take c.0 x)) (text_at q.0 p.0 q.2)))
             ]
         | inr p ↦ inl (h.others name (unnamed name p.0))
       ]
@@ -281,7 +291,8 @@ kinds_long st [] = refl
 kinds_long st (x ∷ xs) = ap suc (kinds_long st xs)
 
 -- one more is asked
-pub asked_more : (ks : List ℕ) (i k : ℕ) (w u : Traces) (had : Asked) (x : Option (List ℕ)) (all : Asked) → i < length ks → get_or ks i 0 ≡ k → x ≡ file_of_kind w (kind_of k) → u ≡ without w (kind_of k) → had ++ asked_by w (drop i ks) ≡ all
+pub asked_more : (ks : List ℕ) (i k : ℕ) (w u : Traces) (had : Asked) (x : Option (List ℕ)) (all : Asked) → i < length ks → get_or ks i 0 ≡ k → x ≡
+    file_of_kind w (kind_of k) → u ≡ without w (kind_of k) → had ++ asked_by w (drop i ks) ≡ all
     → (had ++ x ∷ []) ++ asked_by u (drop (i + 1) ks) ≡ all
 asked_more ks i k w u had x all lt is e f h =
     append_assoc had (x ∷ []) (asked_by u (drop (i + 1) ks))
@@ -311,7 +322,8 @@ files_long st xs t files a =
     sym (length-map files (option_map string_bytes)) ∙ ap (λ (l : Asked). length l) a.is ∙ asked_long t (kinds_of (map st xs)) ∙ kinds_long st xs
 
 pub handed : (R : Relation) (n : Netlist) (given words : List Word) (limit : ℕ) (asks : Asked) (ps : List ProbeState) (x y : Option Files) → given ≡ words → AreApart asks
-    → ((vs : List Valuation) → IsRunOf n given limit vs → AreApart asks → TellsOn (AllGrow R asks (trace_at n vs ps)) x y) → (vs : List Valuation) → IsRunOf n words limit vs → TellsOn (AllGrow R asks (trace_at n vs ps)) x y
+    → ((vs : List Valuation) → IsRunOf n given limit vs → AreApart asks → TellsOn (AllGrow R asks (trace_at n vs ps)) x y) → (vs : List Valuation) →
+    IsRunOf n words limit vs → TellsOn (AllGrow R asks (trace_at n vs ps)) x y
 handed R n given words limit asks ps x y e apart h vs run = h vs (subst (λ (l : List Word). IsRunOf n l limit vs) (sym e) run) apart
 
 -- ---- a file that was not written

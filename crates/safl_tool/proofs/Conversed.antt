@@ -139,7 +139,8 @@ module _ (source script : List ℕ) (o : Opening) (is : IsOpening source script 
 -- ---- the transcript was sent
 
 module _ (o : Opening) (limit : ℕ) (shelf : ShelfState) (out out' : SinkState) where
-  pub held_given : (complete : Bool) → IsHeld o.session o.calls limit out.sent out'.sent complete → (s : Status) → s ≡ status_if complete → IsGiven (answer.Replies o limit) (outside shelf out) (outside shelf out') s
+  pub held_given : (complete : Bool) → IsHeld o.session o.calls limit out.sent out'.sent complete → (s : Status) → s ≡ status_if complete → IsGiven
+      (answer.Replies o limit) (outside shelf out) (outside shelf out') s
   held_given complete h s e = record {
     given = told limit o.calls h.replies;
     will = record { replies = h.replies; are = h.are; is = refl };
@@ -211,12 +212,14 @@ misscripted_not once apart source script limit line e m =
     let C : m.program ≡ e.program = (once source m.program e.program m.names e.names m.source_of e.source_of).0 in
     apart (m.program.params m.program.main) script e.calls m.fault (subst (λ (x : Program). IsScript (x.params x.main) script e.calls) (sym C) e.read) m.first
 
-pub replies_come : OneProgram → CircuitsReply → ResetIsQuiet → sessions.OneScript → (limit : ℕ) (source script : List ℕ) (g : Given) → EvaluatesEach source script limit → GivesReplies limit source script g → g.comes ≡ true
+pub replies_come : OneProgram → CircuitsReply → ResetIsQuiet → sessions.OneScript → (limit : ℕ) (source script : List ℕ) (g : Given) → EvaluatesEach
+    source script limit → GivesReplies limit source script g → g.comes ≡ true
 replies_come once reply reset script_once limit source script g e (calls, rs, v, is) =
     let C : v.program ≡ e.program = (once source v.program e.program v.names e.names v.source_of e.source_of).0 in
     let read : IsScript (v.program.params v.program.main) script e.calls = subst (λ (x : Program). IsScript (x.params x.main) script e.calls) (sym C) e.read in
     let same : e.calls ≡ calls = script_once (v.program.params v.program.main) script e.calls calls read v.read in
-    let each : All (IsInTime v.program limit) calls = subst (λ (l : List (List Word)). All (IsInTime v.program limit) l) same (subst (λ (x : Program). All (IsInTime x limit) e.calls) (sym C) e.each) in
+    let each : All (IsInTime v.program limit) calls = subst (λ (l : List (List Word)). All (IsInTime v.program limit) l) same
+    (subst (λ (x : Program). All (IsInTime x limit) e.calls) (sym C) e.each) in
     let long : length rs ≡ length calls =
     reply v.program v.names v.circuit.choice v.net v.circuit.scheme v.circuit.circuit v.made v.whole limit (reset_state v.net) (reset v.program v.names v.circuit.choice v.net v.circuit.scheme)
     calls (calls_sized (v.program.params v.program.main) script calls v.read) each rs v.replied in

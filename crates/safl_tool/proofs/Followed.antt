@@ -8,7 +8,8 @@ use Rattle.safl_tool.specs.Tracing.{kinds_of}
 use Rattle.safl_tool.specs.Worlds.{World, Unprobed, task_in, EndsBy, Follows, SparesFor}
 use Rattle.safl_tool.proofs.Kept.{Laws, kept}
 
-pub follows : {P : Type 0} → Laws → (m : Option Command) (old new : World P) (before after : SinkState) (s : Status) → EndsBy m old new before after s → SparesFor m old new → Follows m old new before after s
+pub follows : {P : Type 0} → Laws → (m : Option Command) (old new : World P) (before after : SinkState) (s : Status) → EndsBy m old new before after s
+    → SparesFor m old new → Follows m old new before after s
 follows l m old new before after s ends spares =
     let left = end_left (task_in m old) (Unprobed m old new) old.outside new.outside before after s ends in
     record {

@@ -34,7 +34,8 @@ module _ (shelf : ShelfState) (out out' : SinkState) (l : Lines) where
 
 module _ (shelf shelf' : ShelfState) (out : SinkState) (name : Bor (List ℕ)) (text : Vec ℕ Global) where
   -- a file is written, or a part of it
-  pub file_given : (s : Status) → s ≡ end_of (only_writes text.items) → TellsOn (Leaves name.now text.items) shelf.holds shelf'.holds → IsGiven (answer.File name text) (outside shelf out) (outside shelf' out) s
+  pub file_given : (s : Status) → s ≡ end_of (only_writes text.items) → TellsOn (Leaves name.now text.items) shelf.holds shelf'.holds → IsGiven
+      (answer.File name text) (outside shelf out) (outside shelf' out) s
   file_given s is h =
       record { given = only_writes text.items; will = refl; all = record { files = leaves_all name.now text.items shelf.holds shelf'.holds h; printed = nothing_sent out.sent }; is = is }
 

@@ -27,7 +27,8 @@ use Rattle.safl_tool.specs.Running.{RunsText, IsMisrun, IsUnrunnable, faulty, lo
 use Rattle.safl_task.specs.Inputs.{source_file, script_file, verilog_file, aig_file}
 use Rattle.safl_task.specs.Tasks.{Input, Given, Refusing, Giving, Only, Both, reading, reading_both}
 use Rattle.safl_tool.specs.CommandTasks.{task_if, usage_task, reshape_task, session_task, command_task, traces_in, task_of}
-use Rattle.safl_tool.specs.CommandTasks.{RefusesSourceOf, RefusesGiven, RefusesText, GivesNumbers, GivesCircuit, GivesOptimised, GivesTraces, GivesWalk, GivesRun, end_of_walk, GivesMeasure, RefusesReshaping, RefusesSession}
+use Rattle.safl_tool.specs.CommandTasks.{RefusesSourceOf, RefusesGiven, RefusesText, GivesNumbers, GivesCircuit, GivesOptimised, GivesTraces}
+use Rattle.safl_tool.specs.CommandTasks.{GivesWalk, GivesRun, end_of_walk, GivesMeasure, RefusesReshaping, RefusesSession}
 use Rattle.safl_tool.specs.BitLevel.{GivesBits, GivesCounts, HasBits, IsAig, RefusesAig, RefusesBitsOf}
 use Rattle.safl_tool.specs.Calling.{GivesReplies, EvaluatesEach}
 use Rattle.safl_session.specs.Circuits.{CircuitsReply, ResetIsQuiet}
@@ -64,7 +65,8 @@ read_long (w ∷ ws) [] vs r = absurd r
 read_long (w ∷ ws) (t ∷ ts) [] r = absurd r
 read_long (w ∷ ws) (t ∷ ts) (v ∷ vs) r = ap suc (read_long ws ts vs r.1)
 
-read_at : (widths : List ℕ) (args : List (List ℕ)) (vs : List Word) (i w : ℕ) (t : List ℕ) → AreArguments widths args vs → slice_get widths i ≡ Some w → slice_get args i ≡ Some t → (v : Word) × IsArgument w t v
+read_at : (widths : List ℕ) (args : List (List ℕ)) (vs : List Word) (i w : ℕ) (t : List ℕ) → AreArguments widths args vs → slice_get widths i ≡ Some w
+    → slice_get args i ≡ Some t → (v : Word) × IsArgument w t v
 read_at [] [] [] i w t r e f = absurd (cc)
 read_at [] [] (v ∷ vs) i w t r e f = absurd r
 read_at [] (x ∷ ts) vs i w t r e f = absurd r
@@ -87,7 +89,8 @@ no_fault widths args vs line r f = elim f [
 abbrev Fitting : Program → List Word → Word → Limited → Type 0
 Fitting C words v Fits = (d : Main C words v) × Fits C words v d
 
-fitting : OneProgram → (source : List ℕ) (args : List (List ℕ)) (Fits : Limited) (e : Evaluates source args Fits) (C : Program) (D : Names) → IsSourceOf source C D → (words : List Word) → AreArguments (C.params C.main) args words → Fitting C words e.value Fits
+fitting : OneProgram → (source : List ℕ) (args : List (List ℕ)) (Fits : Limited) (e : Evaluates source args Fits) (C : Program) (D : Names) →
+    IsSourceOf source C D → (words : List Word) → AreArguments (C.params C.main) args words → Fitting C words e.value Fits
 fitting once source args Fits e C D of words read =
     let same : e.program ≡ C = (once source e.program C e.names D e.source_of of).0 in
     let given : AreArguments (C.params C.main) args e.words = subst (λ (x : Program). AreArguments (x.params x.main) args e.words) same e.read in
@@ -98,7 +101,8 @@ comes_in_time : OneProgram → (source : List ℕ) (args : List (List ℕ)) (lim
 comes_in_time once source args limit s e =
     let f = fitting once source args (InCycles limit) e s.program s.names s.source_of s.words s.read in
     let o = s.outcome in
-    let d = s.circuit.circuit.correct.behaves.prompt s.words (read_words (s.program.params s.program.main) args s.words s.read) o.run o.only.is.run e.value f.0 (let a = o.only.long in let b = f.1 in omega (arith, a, b)) in
+    let d = s.circuit.circuit.correct.behaves.prompt s.words (read_words (s.program.params s.program.main) args s.words s.read) o.run o.only.is.run
+    e.value f.0 (let a = o.only.long in let b = f.1 in omega (arith, a, b)) in
     let off = o.never d.cycle d.words (let a = d.in_time in let b = f.1 in omega (arith, a, b)) d.there in
     let on = d.done in
     absurd (cc)
@@ -156,7 +160,8 @@ both P Q R f (c ∷ (d ∷ (e ∷ cs))) p q = absurd p
 
 -- a command that reads one file, and one that reads two
 reading_kept : (input : Input) (outputs : List (List ℕ)) (R : Refusing) (G : Giving) (P : List ℕ → Type 0)
-    → ((content : List ℕ) (s : Status) (line : List ℕ) → P content → R content s line → ⊥) → ((content : List ℕ) (g : Given) → P content → G content g → g.comes ≡ true) → IsKept (reading input outputs R G P)
+    → ((content : List ℕ) (s : Status) (line : List ℕ) → P content → R content s line → ⊥) →
+    ((content : List ℕ) (g : Given) → P content → G content g → g.comes ≡ true) → IsKept (reading input outputs R G P)
 reading_kept input outputs R G P not comes = record {
   refuses = λ contents s line. only P (λ content. R content s line) ⊥ (λ content. not content s line) contents;
   gives = λ contents g. only P (λ content. G content g) (g.comes ≡ true) (λ content. comes content g) contents;
@@ -173,17 +178,20 @@ accepted_not_refused : NotBoth → (name source : List ℕ) (s : Status) (line :
 accepted_not_refused apart name source s line a r = apart source a.0 a.1 r.1.0 a.2 r.1.1
 
 -- a source that is accepted is not refused
-accepted_kept : NotBoth → (input : List ℕ) (outputs : List (List ℕ)) (G : Giving) → ((source : List ℕ) (g : Given) → G source g → g.comes ≡ true) → IsKept (reading (source_file input) outputs (RefusesSourceOf input) G IsAccepted)
+accepted_kept : NotBoth → (input : List ℕ) (outputs : List (List ℕ)) (G : Giving) → ((source : List ℕ) (g : Given) → G source g → g.comes ≡ true) →
+    IsKept (reading (source_file input) outputs (RefusesSourceOf input) G IsAccepted)
 accepted_kept apart input outputs G comes =
     reading_kept (source_file input) outputs (RefusesSourceOf input) G IsAccepted (λ source s line a r. accepted_not_refused apart input source s line a r) (λ source g a h. comes source g h)
 
-given_not_refused : OneProgram → NotBoth → (name : List ℕ) (args : List (List ℕ)) (Fits : Limited) (s : Status) (line source : List ℕ) → Evaluates source args Fits → RefusesGiven name args source s line → ⊥
+given_not_refused : OneProgram → NotBoth → (name : List ℕ) (args : List (List ℕ)) (Fits : Limited) (s : Status) (line source : List ℕ) → Evaluates
+    source args Fits → RefusesGiven name args source s line → ⊥
 given_not_refused once apart name args Fits s line source e r = elim r [
   | inl f ↦ apart source e.program e.names f.1.0 e.source_of f.1.1
   | inr m ↦ misgiven_not once source args Fits (line, m.1) e
 ]
 
-traces_come : OneProgram → (traces : Traces) (args : List (List ℕ)) (limit : ℕ) (g : Given) (source : List ℕ) → Evaluates source args (InCycles limit) → GivesTraces traces args limit source g → g.comes ≡ true
+traces_come : OneProgram → (traces : Traces) (args : List (List ℕ)) (limit : ℕ) (g : Given) (source : List ℕ) → Evaluates source args (InCycles limit)
+    → GivesTraces traces args limit source g → g.comes ≡ true
 traces_come once traces args limit g source e h = by h.answer h.simulates (ap (λ (x : Given). x.comes) h.is)
   where
     by : (answer : Option Done) → Simulates source args limit answer → g.comes ≡ is_some answer → g.comes ≡ true
@@ -197,7 +205,8 @@ walk_comes once args seed steps g source e (w, walks, is) = by w.result refl is
     by None none is = absurd (returns_in_time once source args seed steps w walks none e)
     by (Some v) some is = ap (λ (x : Given). x.comes) is
 
-text_not_refused : verilog.OneNetlist → verilog.NotBoth → (name : List ℕ) (args : List (List ℕ)) (limit : ℕ) (s : Status) (line text : List ℕ) → Finishes text args limit → RefusesText name args text s line → ⊥
+text_not_refused : verilog.OneNetlist → verilog.NotBoth → (name : List ℕ) (args : List (List ℕ)) (limit : ℕ) (s : Status) (line text : List ℕ) →
+    Finishes text args limit → RefusesText name args text s line → ⊥
 text_not_refused one apart name args limit s line text f r = elim r [
   | inl u ↦ unrunnable_not one apart name text line args limit u.1 f
   | inr m ↦ misrun_not one text args limit (line, m.1) f
@@ -282,7 +291,8 @@ command_kept l (CopySite input output site) = reshape_kept l (copies site) (copy
 command_kept l (UnfoldSite input output site) = reshape_kept l (unfolds site) (unfolding_once site) input output site
 command_kept l (Session input script limit) = session_kept l input script limit
 command_kept l (Aig input output) =
-    reading_kept (verilog_file input) (output ∷ []) (RefusesBitsOf input) GivesBits HasBits (λ text s line p r. bits_not_refused l.one l.free input s line text p r) (λ text g p h. ap (λ (x : Given). x.comes) h.is)
+    reading_kept (verilog_file input) (output ∷ []) (RefusesBitsOf input) GivesBits HasBits
+    (λ text s line p r. bits_not_refused l.one l.free input s line text p r) (λ text g p h. ap (λ (x : Given). x.comes) h.is)
 command_kept l (Aigstat input) =
     reading_kept (aig_file input) [] (RefusesAig input) GivesCounts IsAig (λ text s line a r. aig_not_refused l.sound input s line text a r) (λ text g a h. ap (λ (x : Given). x.comes) h.2)
 

@@ -1,5 +1,6 @@
 -- How the names of wires are put together.
-use Rattle.std.proofs.Common.{◌≡◌, ℕ, zero, suc, ◌+◌, ◌<◌, ◌≤◌, List, [], ◌∷◌, ◌++◌, map, length, drop, Some, slice_get, slice_index_or, String, Global, string_bytes, refl, sym, ap, ◌∙◌, arith, append_assoc}
+use Rattle.std.proofs.Common.{◌≡◌, ℕ, zero, suc, ◌+◌, ◌<◌, ◌≤◌, List, [], ◌∷◌, ◌++◌, map, length, drop, Some, slice_get, slice_index_or, String}
+use Rattle.std.proofs.Common.{Global, string_bytes, refl, sym, ap, ◌∙◌, arith, append_assoc}
 use Rattle.safl_net.specs.declared.cell.Sig.{Sig}
 use Rattle.safl_net.specs.Netlist.{Netlist}
 use Rattle.safl_net.specs.Making.{numbers, name_at}
@@ -52,7 +53,8 @@ text_drop [] i x e = absurd (cc)
 text_drop (y ∷ xs) zero x e = let q : string_bytes y ≡ x = cc in ap (λ k. k ∷ map string_bytes xs) q
 text_drop (y ∷ xs) (suc i) x e = text_drop xs i x e ∙ ap (λ k. x ∷ map string_bytes (drop k (y ∷ xs))) (let z : suc (i + 1) ≡ suc i + 1 = omega arith in z)
 
-pub spaced_more : (xs : List (String Global)) (i : ℕ) (x old out new : List ℕ) → slice_get (map string_bytes xs) i ≡ Some x → out ++ spaced (map string_bytes (drop i xs)) ≡ old → new ≡ out ++ spaced_name x
+pub spaced_more : (xs : List (String Global)) (i : ℕ) (x old out new : List ℕ) → slice_get (map string_bytes xs) i ≡ Some x → out ++ spaced
+    (map string_bytes (drop i xs)) ≡ old → new ≡ out ++ spaced_name x
     → new ++ spaced (map string_bytes (drop (i + 1) xs)) ≡ old
 spaced_more xs i x old out new e inv made =
     ap (λ l. l ++ spaced (map string_bytes (drop (i + 1) xs))) made

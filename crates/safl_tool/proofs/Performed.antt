@@ -26,7 +26,8 @@ use Rattle.safl_tool.specs.declared.refusal.Refusal.{Refusal}
 use Rattle.safl_tool.specs.declared.refusal.Refusal.TheVariants as refusal
 
 -- the files were read, and the answer to them was given
-module _ {P : Type 0} (t : Task) (asks : Asked) (old new : World P) (mid : ShelfState) (reads : OnlyReads old.outside.shelf mid) (contents : List (List ℕ)) (are : AreContents old.outside.shelf.holds t.inputs contents)
+module _ {P : Type 0} (t : Task) (asks : Asked) (old new : World P) (mid : ShelfState) (reads : OnlyReads old.outside.shelf mid)
+    (contents : List (List ℕ)) (are : AreContents old.outside.shelf.holds t.inputs contents)
     (a : Answer) (answers : Answers t contents a) where
   ended : (s : Status) → IsGiven a (outside mid old.outside.out) new.outside s → Ended t old.outside new.outside s
   ended s h = (
@@ -102,7 +103,8 @@ as_asked : (b : Bool) (X Y : Task) (Q : Task → Type 0) → b ≡ true → Q X 
 as_asked true X Y Q e q = q
 as_asked false X Y Q e q = absurd (false≢true e)
 
-pub does_asked : {P : Type 0} (m : Command) (old new : World P) (asks : Asked) → AreAskedFor (traces_in m) asks old.states → (r : Result Status Refusal) → Does (command_task m) asks old new r → DoesCommand (Some m) old new r
+pub does_asked : {P : Type 0} (m : Command) (old new : World P) (asks : Asked) → AreAskedFor (traces_in m) asks old.states →
+    (r : Result Status Refusal) → Does (command_task m) asks old new r → DoesCommand (Some m) old new r
 does_asked m old new asks a r h =
     as_asked (have_probes (traces_in m) (kinds_of old.states)) (command_task m) usage_task (λ t. Does t (asked_by (traces_in m) (kinds_of old.states)) old new r) a.can
     (subst (λ (l : Asked). Does (command_task m) l old new r) a.is h)

@@ -55,13 +55,16 @@ loop_known n ws l i s e = leads_known n ws l.first l.leads i s e
 pub fault_refuses : (name text : List ℕ) (f : VFault) (r : Refusal) → HasFault text f → RefusesBy (HasLine status.VerilogRefused (verilog_line name text f)) r → RefusesBy (RefusesNet name text) r
 fault_refuses name text f r h = refuses_more (HasLine status.VerilogRefused (verilog_line name text f)) (RefusesNet name text) (λ s line is. (is.0, faulty f h is.1)) r
 
-pub loop_refuses : LoopsAreCyclic → (name text : List ℕ) (n : Netlist) (ws : List ℕ) (r : Refusal) → Reads text n → IsLoop n ws → RefusesBy (HasLine status.VerilogRefused (loop_line name (map (name_at n) ws))) r → RefusesBy (RefusesNet name text) r
-loop_refuses law name text n ws r h l = refuses_more (HasLine status.VerilogRefused (loop_line name (map (name_at n) ws))) (RefusesNet name text) (λ s line is. (is.0, looped n ws h l (law n ws l) is.1)) r
+pub loop_refuses : LoopsAreCyclic → (name text : List ℕ) (n : Netlist) (ws : List ℕ) (r : Refusal) → Reads text n → IsLoop n ws → RefusesBy
+    (HasLine status.VerilogRefused (loop_line name (map (name_at n) ws))) r → RefusesBy (RefusesNet name text) r
+loop_refuses law name text n ws r h l = refuses_more (HasLine status.VerilogRefused (loop_line name (map (name_at n) ws))) (RefusesNet name text)
+    (λ s line is. (is.0, looped n ws h l (law n ws l) is.1)) r
 
 pub net_refuses : (name text : List ℕ) (args : List (List ℕ)) (r : Refusal) → RefusesBy (RefusesNet name text) r → RefusesBy (RefusesText name args text) r
 net_refuses name text args r = refuses_more (RefusesNet name text) (RefusesText name args text) (λ s line h. inl h) r
 
-pub arguments_refuse : (name text : List ℕ) (args : List (List ℕ)) (n : Netlist) (r : Refusal) → IsRunnable text n → RefusesBy (RefusesArguments (argument_widths n.signals) args) r → RefusesBy (RefusesText name args text) r
+pub arguments_refuse : (name text : List ℕ) (args : List (List ℕ)) (n : Netlist) (r : Refusal) → IsRunnable text n → RefusesBy
+    (RefusesArguments (argument_widths n.signals) args) r → RefusesBy (RefusesText name args text) r
 arguments_refuse name text args n r runs =
     refuses_more (RefusesArguments (argument_widths n.signals) args) (RefusesText name args text) (λ s line h. inr (h.0, (n, runs, h.1))) r
 

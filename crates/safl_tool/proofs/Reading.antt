@@ -1,5 +1,6 @@
 -- Arguments that are read one after the other.
-use Rattle.std.proofs.Common.{◌≡◌, ℕ, zero, suc, ◌+◌, ◌<◌, List, [], ◌∷◌, ◌++◌, length, map, get_or, String, string_bytes, Global, Some, slice_get, slice_index, refl, sym, ap, subst, ◌∙◌, arith, inl, inr}
+use Rattle.std.proofs.Common.{◌≡◌, ℕ, zero, suc, ◌+◌, ◌<◌, List, [], ◌∷◌, ◌++◌, length, map, get_or, String, string_bytes, Global, Some, slice_get}
+use Rattle.std.proofs.Common.{slice_index, refl, sym, ap, subst, ◌∙◌, arith, inl, inr}
 use Rattle.safl_word.specs.Words.{Word}
 use Rattle.safl_net.proofs.Naming.{pushed}
 use Rattle.safl_session.specs.Lines.{IsArgument, AreArguments}
@@ -18,7 +19,8 @@ long_more : (vs : List Word) (v : Word) → length (vs ++ v ∷ []) ≡ length v
 long_more [] v = omega arith
 long_more (u ∷ vs) v = let e = long_more vs v in omega (arith, e)
 
-pub read_more : (widths : List ℕ) (args : List (List ℕ)) (words : List Word) (i w : ℕ) (t : List ℕ) (v : Word) → ReadSoFar widths args words i → slice_get widths i ≡ Some w → slice_get args i ≡ Some t → IsArgument w t v → ReadSoFar widths args (words ++ v ∷ []) (i + 1)
+pub read_more : (widths : List ℕ) (args : List (List ℕ)) (words : List Word) (i w : ℕ) (t : List ℕ) (v : Word) → ReadSoFar widths args words i →
+    slice_get widths i ≡ Some w → slice_get args i ≡ Some t → IsArgument w t v → ReadSoFar widths args (words ++ v ∷ []) (i + 1)
 read_more widths args words i w t v r d e is = record {
   long = long_more words v ∙ ap (λ k. k + 1) r.long;
   each = λ k x s u f g h. elim (pushed words v u k h) [
@@ -36,7 +38,8 @@ read_more widths args words i w t v r d e is = record {
 tail_each : (w : ℕ) (ws : List ℕ) (t : List ℕ) (ts : List (List ℕ)) (v : Word) (vs : List Word) → ReadSoFar (w ∷ ws) (t ∷ ts) (v ∷ vs) (suc (length vs)) → ReadSoFar ws ts vs (length vs)
 tail_each w ws t ts v vs r = record { long = refl; each = λ k x s u f g h. r.each (suc k) x s u f g h }
 
-are_read : (widths : List ℕ) (args : List (List ℕ)) (words : List Word) → length args ≡ length widths → length words ≡ length args → ReadSoFar widths args words (length words) → AreArguments widths args words
+are_read : (widths : List ℕ) (args : List (List ℕ)) (words : List Word) → length args ≡ length widths → length words ≡ length args → ReadSoFar widths
+    args words (length words) → AreArguments widths args words
 are_read [] [] [] l m r = tt
 are_read [] [] (v ∷ vs) l m r = absurd (omega (arith, m))
 are_read [] (t ∷ ts) vs l m r = absurd (omega (arith, l))
@@ -52,7 +55,8 @@ get_some [] s h = absurd (omega arith)
 get_some (v ∷ vs) zero h = (v, refl)
 get_some (v ∷ vs) (suc s) h = get_some vs s (omega (arith, h))
 
-pub unread : (widths : List ℕ) (args : List (List ℕ)) (words : List Word) (i w : ℕ) (t : List ℕ) → length args ≡ length widths → ReadSoFar widths args words i → slice_get widths i ≡ Some w → slice_get args i ≡ Some t → ((v : Word) → IsArgument w t v → ⊥)
+pub unread : (widths : List ℕ) (args : List (List ℕ)) (words : List Word) (i w : ℕ) (t : List ℕ) → length args ≡ length widths → ReadSoFar widths args
+    words i → slice_get widths i ≡ Some w → slice_get args i ≡ Some t → ((v : Word) → IsArgument w t v → ⊥)
     → IsUnread widths args (argument_line (i + 1) w)
 unread widths args words i w t l r d e bad = record {
   same = l;

@@ -87,7 +87,8 @@ passes_not ds i p k =
 true_not : (b : Bool) → b ≡ true → b ≡ false → ⊥
 true_not b h k = cc
 
-copy_apart : (C : Program) (ds es : List Definition) (site : ℕ) (e : ReshapeErr) (text : List ℕ) → RefusesCopy C ds site e → HasReason e text → MayCopy C ds site → KeepsLimits es → AllKeepLevels es → es ≡ copied ds site (C.callee site) → ⊥
+copy_apart : (C : Program) (ds es : List Definition) (site : ℕ) (e : ReshapeErr) (text : List ℕ) → RefusesCopy C ds site e → HasReason e text →
+    MayCopy C ds site → KeepsLimits es → AllKeepLevels es → es ≡ copied ds site (C.callee site) → ⊥
 copy_apart C ds es site errors.NoSite text q h m k l is = q m.site
 copy_apart C ds es site errors.Grouped text q h m k l is = true_not (is_grouped ds (C.callee site)) q.1 m.alone
 copy_apart C ds es site errors.Recursive text q h m k l is = q
@@ -103,7 +104,8 @@ copying_once site = record {
   one = λ ds es fs f a b. (a f.0 f.1).3 ∙ sym (b f.0 f.1).3;
 }
 
-unfold_apart : (C : Program) (ds es : List Definition) (site : ℕ) (e : ReshapeErr) (text : List ℕ) → RefusesUnfolding C ds site e → HasReason e text → MayUnfold C ds site → KeepsLimits es → AllKeepLevels es → es ≡ unfolded ds site → ⊥
+unfold_apart : (C : Program) (ds es : List Definition) (site : ℕ) (e : ReshapeErr) (text : List ℕ) → RefusesUnfolding C ds site e → HasReason e text →
+    MayUnfold C ds site → KeepsLimits es → AllKeepLevels es → es ≡ unfolded ds site → ⊥
 unfold_apart C ds es site errors.NoSite text q h m k l is = q m.site
 unfold_apart C ds es site errors.Grouped text q h m k l is = q
 unfold_apart C ds es site errors.Recursive text q h m k l is = true_not (is_recursive ds (C.callee site)) q.1 m.alone

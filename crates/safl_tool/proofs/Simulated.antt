@@ -62,12 +62,14 @@ is_value C D n correct words are limit d o =
     let same : read_output n o.last (codes "result") ≡ d.result.bits = sym (ap (λ (w : Word). w.bits) o.result ∙ word_bits n o.last (output_place n.outputs (codes "result"))) in
     subst (λ k. IsResult C words (as_word (C.result C.main) k) d.cycle) same x
 
-pub has_value : (C : Program) (D : Names) (n : Netlist) → Correct C D n → (words : List Word) → AreWordsOf words (C.params C.main) → (limit : ℕ) (answer : Option Done) → IsOutcome n words limit answer → HasValue C words answer
+pub has_value : (C : Program) (D : Names) (n : Netlist) → Correct C D n → (words : List Word) → AreWordsOf words (C.params C.main) → (limit : ℕ)
+    (answer : Option Done) → IsOutcome n words limit answer → HasValue C words answer
 has_value C D n correct words are limit None o = tt
 has_value C D n correct words are limit (Some d) o = is_value C D n correct words are limit d o
 
 -- words that are read for a netlist's inputs are its arguments
-pub read_arguments_are : (n : Netlist) (args : List (List ℕ)) (widths : List ℕ) → widths ≡ argument_widths n.signals → (words given : List Word) → given ≡ words → AreRead widths args words → AreArguments n given
+pub read_arguments_are : (n : Netlist) (args : List (List ℕ)) (widths : List ℕ) → widths ≡ argument_widths n.signals → (words given : List Word) →
+    given ≡ words → AreRead widths args words → AreArguments n given
 read_arguments_are n args widths are words given e r = ap (λ l. map (λ (w : Word). w.width) l) e ∙ read_widths widths args words r ∙ are
 
 module _ (source : List ℕ) (n : Netlist) (c : IsCompiled source n) (args : List (List ℕ)) (widths : List ℕ) (are : widths ≡ argument_widths n.signals) where

@@ -132,11 +132,13 @@ module _ (run : TracedRun) (can : CanRun run.ready) (asks : Asked) (ps : List Pr
 
   files : (after : ShelfState) → Watched Made after → TellsOn (LeavesAll (files_of (files_for t) texts)) old.shelf.holds after.holds
   files after h =
-      files_whole t ps asked.can net (until_done net ending.run) old.shelf.holds after.holds (subst (λ (l : Asked). TellsOn (AllGrow Made l (trace_at net ending.run ps)) old.shelf.holds after.holds) asked.is (h ending.run ending.is_run))
+      files_whole t ps asked.can net (until_done net ending.run) old.shelf.holds after.holds
+      (subst (λ (l : Asked). TellsOn (AllGrow Made l (trace_at net ending.run ps)) old.shelf.holds after.holds) asked.is (h ending.run ending.is_run))
 
   parts : (after : ShelfState) → Watched OldOrPart after → TellsOn (LeavesParts (files_of (files_for t) texts)) old.shelf.holds after.holds
   parts after h =
-      files_parts t ps asked.can net (until_done net ending.run) old.shelf.holds after.holds (subst (λ (l : Asked). TellsOn (AllGrow OldOrPart l (trace_at net ending.run ps)) old.shelf.holds after.holds) asked.is (h ending.run ending.is_run))
+      files_parts t ps asked.can net (until_done net ending.run) old.shelf.holds after.holds
+      (subst (λ (l : Asked). TellsOn (AllGrow OldOrPart l (trace_at net ending.run ps)) old.shelf.holds after.holds) asked.is (h ending.run ending.is_run))
 
   will : (done : Option Done) → IsOutcome net words run.limit done → IsTraced net words run.limit t (traced run.limit done texts)
   will done o = record { done = done; outcome = o; run = ending.run; is_run = ending.is_run; is = refl }
@@ -149,7 +151,8 @@ module _ (run : TracedRun) (can : CanRun run.ready) (asks : Asked) (ps : List Pr
     part = record { files = parts after h; printed = nothing_part _ old.out.sent };
   }
 
-  pub torn_fails : (qs : List ProbeState) (after : ShelfState) → Watched OldOrPart after → (r : Refusal) → WatchingFails asks ps qs old.shelf after r → GivingFails (answer.Traced run) asks ps qs old (outside after old.out) r
+  pub torn_fails : (qs : List ProbeState) (after : ShelfState) → Watched OldOrPart after → (r : Refusal) → WatchingFails asks ps qs old.shelf after r
+      → GivingFails (answer.Traced run) asks ps qs old (outside after old.out) r
   torn_fails qs after h (refusal.Probe kind) failed = (failed, torn after h)
   torn_fails qs after h (refusal.Write name) failed =
       (asked_output t (kinds_of ps) failed.0.0 name.now (subst (λ (l : Asked). IsAsked l failed.0.0 name.now) asked.is failed.0.1), failed.1, torn after h)
@@ -158,7 +161,8 @@ module _ (run : TracedRun) (can : CanRun run.ready) (asks : Asked) (ps : List Pr
 
   -- it was watched to its end
   module _ (qs : List ProbeState) (after : ShelfState) (h : Watched Made after) (done : Option Done) (o : IsOutcome net words run.limit done) where
-    begun : (new : Outside) → TellsOn (LeavesParts []) after.holds new.shelf.holds → TellsOn (SendsPart (outcome run.limit done).printed) old.out.sent new.out.sent → IsGivenInPart (answer.Traced run) old new
+    begun : (new : Outside) → TellsOn (LeavesParts []) after.holds new.shelf.holds → TellsOn (SendsPart (outcome run.limit done).printed) old.out.sent
+        new.out.sent → IsGivenInPart (answer.Traced run) old new
     begun new kept sent = record {
       whole = traced run.limit done texts;
       will = will done o;
@@ -176,7 +180,8 @@ module _ (run : TracedRun) (can : CanRun run.ready) (asks : Asked) (ps : List Pr
         given = traced run.limit done texts;
         will = will done o;
         all = record {
-          files = whole_then _ old.shelf.holds after.holds new.shelf.holds (files after h) (subst (λ (g : Given). TellsOn (LeavesAll (files_of [] g.texts)) after.holds new.shelf.holds) (p.will ∙ is) p.all.files);
+          files = whole_then _ old.shelf.holds after.holds new.shelf.holds (files after h)
+              (subst (λ (g : Given). TellsOn (LeavesAll (files_of [] g.texts)) after.holds new.shelf.holds) (p.will ∙ is) p.all.files);
           printed = subst (λ (g : Given). TellsOn (Sends g.printed) old.out.sent new.out.sent) (p.will ∙ is) p.all.printed;
         };
         is = p.is ∙ ap end_of (p.will ∙ is);

@@ -15,12 +15,15 @@ depth_some (Number p n) = omega arith
 depth_some _ = omega arith
 
 module _ (p : ℕ) (x : Node) where
-  pub let_depth : (v : Vec Bind Global) (b : Box Expr Global) (bs : List Bind) (e : Expr) → x ≡ Let v b → bs ≡ v.items → e ≡ b.value → depth (shown_node x p) ≡ 1 + max (deepest_bind (binds_of (shown_bounds bs))) (depth (shown_tree e))
+  pub let_depth : (v : Vec Bind Global) (b : Box Expr Global) (bs : List Bind) (e : Expr) → x ≡ Let v b → bs ≡ v.items → e ≡ b.value → depth
+      (shown_node x p) ≡ 1 + max (deepest_bind (binds_of (shown_bounds bs))) (depth (shown_tree e))
   let_depth v b bs e is i j =
       ap (λ (y : Node). depth (shown_node y p)) is ∙ ap depth (let_shows v b p)
-      ∙ sym (ap (λ (l : List Bind). 1 + max (deepest_bind (binds_of (shown_bounds l))) (depth (shown_tree e))) i ∙ ap (λ (y : Expr). 1 + max (deepest_bind (binds_of (shown_bounds v.items))) (depth (shown_tree y))) j)
+      ∙ sym (ap (λ (l : List Bind). 1 + max (deepest_bind (binds_of (shown_bounds l))) (depth (shown_tree e))) i ∙ ap
+      (λ (y : Expr). 1 + max (deepest_bind (binds_of (shown_bounds v.items))) (depth (shown_tree y))) j)
 
-  pub case_depth : (s : Box Expr Global) (v : Vec Arm Global) (o : Box Expr Global) (e : Expr) (arms : List Arm) (f : Expr) → x ≡ Case s v o → e ≡ s.value → arms ≡ v.items → f ≡ o.value → depth (shown_node x p) ≡ 1 + max (depth (shown_tree e)) (deepest_arm (arms_of (shown_labelled arms) (shown_tree f)))
+  pub case_depth : (s : Box Expr Global) (v : Vec Arm Global) (o : Box Expr Global) (e : Expr) (arms : List Arm) (f : Expr) → x ≡ Case s v o → e ≡
+      s.value → arms ≡ v.items → f ≡ o.value → depth (shown_node x p) ≡ 1 + max (depth (shown_tree e)) (deepest_arm (arms_of (shown_labelled arms) (shown_tree f)))
   case_depth s v o e arms f is i j k =
       ap (λ (y : Node). depth (shown_node y p)) is ∙ ap depth (case_shows s v o p)
       ∙ sym (ap (λ (y : Expr). 1 + max (depth (shown_tree y)) (deepest_arm (arms_of (shown_labelled arms) (shown_tree f)))) i

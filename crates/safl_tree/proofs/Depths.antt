@@ -3,8 +3,11 @@ use Rattle.std.proofs.Common.{◌≡◌, ℕ, suc, ◌+◌, ◌*◌, ◌≤◌, 
 use Rattle.std.specs.List.{AllByRecursion}
 use Rattle.safl_word.specs.declared.primitive.Primitive.{Primitive}
 use Rattle.safl_word.specs.declared.primitive.Primitive.TheVariants as prims
-use Rattle.safl_tree.specs.Tree.{Definition, Tree, Number, Sized, Variable, If, Let, Cases, Op, Call, Trees, no_tree, a_tree, Binds, no_bind, a_bind, Arms, default_arm, an_arm, depth, deepest, deepest_bind, deepest_arm}
-use Rattle.safl_tree.specs.Printable.{own, own_of, lifted, levels, most, most_operand, most_bind, most_arm, below_of, left_place, right_place, is_binary, IsShallow, AreShallow, AreShallowBinds, AreShallowArms, OfBinary, LeftShallow, KeepsLevels, AllKeepLevels}
+use Rattle.safl_tree.specs.Tree.{Definition, Tree, Number, Sized, Variable, If, Let, Cases, Op, Call, Trees, no_tree, a_tree, Binds, no_bind, a_bind}
+use Rattle.safl_tree.specs.Tree.{Arms, default_arm, an_arm, depth, deepest, deepest_bind, deepest_arm}
+use Rattle.safl_tree.specs.Printable.{own, own_of, lifted, levels, most, most_operand, most_bind, most_arm, below_of, left_place, right_place}
+use Rattle.safl_tree.specs.Printable.{is_binary, IsShallow, AreShallow, AreShallowBinds, AreShallowArms, OfBinary, LeftShallow, KeepsLevels}
+use Rattle.safl_tree.specs.Printable.{AllKeepLevels}
 use Rattle.safl_tree.specs.Keeps.{Keeps}
 use Rattle.safl_tree.proofs.Operators.{own_small}
 
@@ -35,7 +38,8 @@ between_bound : (l r : ℕ) (ts : Trees) → LeftShallow ts → deepest (tail ts
 between_bound l r no_tree s h = omega arith
 between_bound l r (a_tree t ts) s h = omega (arith, s, h)
 
-applied_bound : (o : Primitive) (ts : Trees) → OfBinary (is_binary o) (LeftShallow ts) → ((k : ℕ) → deepest ts ≤ bound (most_operand k k ts) k) → ((k : ℕ) → deepest (tail ts) ≤ bound (most_operand k k (tail ts)) k) → 1 + deepest ts ≤ bound (below_of o + most_operand (left_place o) (right_place o) ts) (own_of o)
+applied_bound : (o : Primitive) (ts : Trees) → OfBinary (is_binary o) (LeftShallow ts) → ((k : ℕ) → deepest ts ≤ bound (most_operand k k ts) k) →
+    ((k : ℕ) → deepest (tail ts) ≤ bound (most_operand k k (tail ts)) k) → 1 + deepest ts ≤ bound (below_of o + most_operand (left_place o) (right_place o) ts) (own_of o)
 applied_bound prims.Not ts s all rest = inner_bound 0 (most_operand 0 0 ts) (deepest ts) (omega arith) (all 0)
 applied_bound prims.Cat ts s all rest = inner_bound 8 (most_operand 8 8 ts) (deepest ts) (omega arith) (all 8)
 applied_bound (prims.Bits h l) ts s all rest = inner_bound 8 (most_operand 8 8 ts) (deepest ts) (omega arith) (all 8)

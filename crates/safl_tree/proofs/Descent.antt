@@ -22,14 +22,17 @@ most_bare (a_tree t ts) =
     ∙ ap (λ (n : ℕ). max (levels t) n) (most_bare ts)
 
 module _ (n d p : ℕ) (x : Node) (r : Bool) (some : 0 < d) where
-  pub let_keeps : (v : Vec Bind Global) (b : Box Expr Global) (bs : List Bind) (e : Expr) → x ≡ nodes.Let v b → bs ≡ v.items → e ≡ b.value → 0 < n → IsTrue r ↔ (BindingsKeep (n - 1) (d - 1) (binds_of (shown_bounds bs)) × Keeps (n - 1) (d - 1) (shown_tree e)) → IsTrue r ↔ Keeps n d (shown_node x p)
+  pub let_keeps : (v : Vec Bind Global) (b : Box Expr Global) (bs : List Bind) (e : Expr) → x ≡ nodes.Let v b → bs ≡ v.items → e ≡ b.value → 0 < n →
+      IsTrue r ↔ (BindingsKeep (n - 1) (d - 1) (binds_of (shown_bounds bs)) × Keeps (n - 1) (d - 1) (shown_tree e)) → IsTrue r ↔ Keeps n d (shown_node x p)
   let_keeps v b bs e is i j lt h =
       subst (λ (t : Tree). IsTrue r ↔ Keeps n d t) (sym (ap (λ (y : Node). shown_node y p) is ∙ let_shows v b p))
       (subst (λ (l : List Bind). IsTrue r ↔ Keeps n d (Let p (binds_of (shown_bounds l)) (shown_tree b.value))) i
       (subst (λ (y : Expr). IsTrue r ↔ Keeps n d (Let p (binds_of (shown_bounds bs)) (shown_tree y))) j
       (λ y. let k = h.0 y in (omega (arith, k), (k.0.1, k.1.1), omega (arith, k)), λ k. h.1 ((omega (arith, k), k.1.0, omega (arith, k)), (omega (arith, k), k.1.1, omega (arith, k))))))
 
-  pub case_keeps : (s : Box Expr Global) (v : Vec Arm Global) (o : Box Expr Global) (e : Expr) (arms : List Arm) (f : Expr) → x ≡ Case s v o → e ≡ s.value → arms ≡ v.items → f ≡ o.value → 0 < n → IsTrue r ↔ (Keeps (n - 1) (d - 1) (shown_tree e) × ArmsKeep (n - 1) (d - 1) (arms_of (shown_labelled arms) (shown_tree f))) → IsTrue r ↔ Keeps n d (shown_node x p)
+  pub case_keeps : (s : Box Expr Global) (v : Vec Arm Global) (o : Box Expr Global) (e : Expr) (arms : List Arm) (f : Expr) → x ≡ Case s v o → e ≡
+      s.value → arms ≡ v.items → f ≡ o.value → 0 < n → IsTrue r ↔
+      (Keeps (n - 1) (d - 1) (shown_tree e) × ArmsKeep (n - 1) (d - 1) (arms_of (shown_labelled arms) (shown_tree f))) → IsTrue r ↔ Keeps n d (shown_node x p)
   case_keeps s v o e arms f is i j k lt h =
       subst (λ (t : Tree). IsTrue r ↔ Keeps n d t) (sym (ap (λ (y : Node). shown_node y p) is ∙ case_shows s v o p))
       (subst (λ (y : Expr). IsTrue r ↔ Keeps n d (Cases p (shown_tree y) (arms_of (shown_labelled v.items) (shown_tree o.value)))) i
@@ -37,13 +40,15 @@ module _ (n d p : ℕ) (x : Node) (r : Bool) (some : 0 < d) where
       (subst (λ (y : Expr). IsTrue r ↔ Keeps n d (Cases p (shown_tree e) (arms_of (shown_labelled arms) (shown_tree y)))) k
       (λ y. let k = h.0 y in (omega (arith, k), (k.0.1, k.1.1), omega (arith, k)), λ k. h.1 ((omega (arith, k), k.1.0, omega (arith, k)), (omega (arith, k), k.1.1, omega (arith, k)))))))
 
-  pub op_keeps : (o : Primitive) (v : Vec Expr Global) (es : List Expr) → x ≡ nodes.Op o v → es ≡ v.items → IsTrue r ↔ OperandsKeep o n (d - 1) (trees_of (shown_trees es)) → IsTrue r ↔ Keeps n d (shown_node x p)
+  pub op_keeps : (o : Primitive) (v : Vec Expr Global) (es : List Expr) → x ≡ nodes.Op o v → es ≡ v.items → IsTrue r ↔ OperandsKeep o n (d - 1)
+      (trees_of (shown_trees es)) → IsTrue r ↔ Keeps n d (shown_node x p)
   op_keeps o v es is i h =
       subst (λ (t : Tree). IsTrue r ↔ Keeps n d t) (sym (ap (λ (y : Node). shown_node y p) is ∙ op_shows o v p))
       (subst (λ (l : List Expr). IsTrue r ↔ Keeps n d (Op p o (trees_of (shown_trees l)))) i
       (λ y. let k = h.0 y in (k.0, (k.1, k.2), omega (arith, k)), λ k. h.1 (k.0, k.1.0, k.1.1, omega (arith, k))))
 
-  pub call_keeps : (f : List ℕ) (v : Vec Expr Global) (es : List Expr) → x ≡ nodes.Call f v → es ≡ v.items → 0 < n → IsTrue r ↔ PartsKeep 8 (n - 1) (d - 1) (trees_of (shown_trees es)) → IsTrue r ↔ Keeps n d (shown_node x p)
+  pub call_keeps : (f : List ℕ) (v : Vec Expr Global) (es : List Expr) → x ≡ nodes.Call f v → es ≡ v.items → 0 < n → IsTrue r ↔ PartsKeep 8 (n - 1)
+      (d - 1) (trees_of (shown_trees es)) → IsTrue r ↔ Keeps n d (shown_node x p)
   call_keeps f v es is i lt h =
       let m = most_bare (trees_of (shown_trees es)) in
       subst (λ (t : Tree). IsTrue r ↔ Keeps n d t) (sym (ap (λ (y : Node). shown_node y p) is ∙ call_shows f v p))

@@ -60,7 +60,8 @@ module _ (n : Node) (p : ℕ) where
   pub let_size : (v : Vec Bind Global) (b : Box Expr Global) → n ≡ nodes.Let v b → size (shown_node n p) ≡ 1 + (sum_by bind_size v.items + size (shown_tree b.value))
   let_size v b is = omega (arith, ap (λ (m : Node). size (shown_node m p)) is, ap size (let_shows v b p), binds_size v.items)
 
-  pub case_size : (s : Box Expr Global) (v : Vec Arm Global) (d : Box Expr Global) → n ≡ Case s v d → size (shown_node n p) ≡ 1 + (size (shown_tree s.value) + (sum_by arm_size v.items + size (shown_tree d.value)))
+  pub case_size : (s : Box Expr Global) (v : Vec Arm Global) (d : Box Expr Global) → n ≡ Case s v d → size (shown_node n p) ≡ 1 +
+      (size (shown_tree s.value) + (sum_by arm_size v.items + size (shown_tree d.value)))
   case_size s v d is = omega (arith, ap (λ (m : Node). size (shown_node m p)) is, ap size (case_shows s v d p), arms_size v.items d.value)
 
   pub op_size : (o : Primitive) (v : Vec Expr Global) → n ≡ nodes.Op o v → size (shown_node n p) ≡ 2 + sum_by (λ e. size (shown_tree e)) v.items
@@ -97,5 +98,6 @@ less_of u w e h = let P : ℕ → Type 0 = λ k. w < work k u in subst P e h
 pub less_in : (o : Option At) (u : ℕ) {m n : ℕ} → m ≡ n → IfSome o (λ next. work_at next < work m u) → IfSome o (λ next. work_at next < work n u)
 less_in o u e h = let P : ℕ → Type 0 = λ k. IfSome o (λ next. work_at next < work k u) in subst P e h
 
-pub at_most_of : (o : Option At) {m n : ℕ} → m ≡ n → IfSome o (λ next. size (shown_tree next.here) + size (shown_tree next.above) ≤ m) → IfSome o (λ next. size (shown_tree next.here) + size (shown_tree next.above) ≤ n)
+pub at_most_of : (o : Option At) {m n : ℕ} → m ≡ n → IfSome o (λ next. size (shown_tree next.here) + size (shown_tree next.above) ≤ m) → IfSome o
+    (λ next. size (shown_tree next.here) + size (shown_tree next.above) ≤ n)
 at_most_of o e h = let P : ℕ → Type 0 = λ k. IfSome o (λ next. size (shown_tree next.here) + size (shown_tree next.above) ≤ k) in subst P e h

@@ -90,7 +90,8 @@ abbrev pub WideSmall : SizedAt → Type 0
 WideSmall s = (is_width s.width ≡ true) × (s.value < value_bound)
 
 pub a_sized : Yields IsTerminal (read_limited Range fits_sized sized) WideSmall
-a_sized = yields_limited WideSmall Range fits_sized sized (λ t x q e f. let h = classed_is (within (Only (3 ∷ [])) (code_of t.kind)) _ x e in (f, subst (λ (s : SizedAt). s.value < value_bound) h.1 (sized_small t.kind t.bytes h.0 q)))
+a_sized = yields_limited WideSmall Range fits_sized sized (λ t x q e f. let h = classed_is (within (Only (3 ∷ [])) (code_of t.kind)) _ x e in
+    (f, subst (λ (s : SizedAt). s.value < value_bound) h.1 (sized_small t.kind t.bytes h.0 q)))
 
 -- ---- the layer of an operator
 

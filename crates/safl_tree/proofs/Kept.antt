@@ -14,9 +14,17 @@ use Rattle.safl_word.specs.Tokens.{IsName}
 use Rattle.safl_tree.specs.Tree.{Tree, Number, Sized, Variable, If, Let, Cases, Op, Call, Trees, no_tree, a_tree, Bound, Labelled, trees_of, binds_of, arms_of, place_of, placed, depth}
 use Rattle.safl_tree.specs.Terminals.{Terminal, code_of, word_code, symbol_code, comes, NameAt, operators, primitive_in, operator}
 use Rattle.safl_tree.specs.Grammar.{shallow, ArmList}
-use Rattle.safl_tree.specs.Reader.{read_literal, read_sized_literal, read_another, read_exprs, read_no_arguments, read_arguments, read_call, read_named, read_parenthesised, read_cat, read_bits, read_ext, read_primary, read_inverted, read_unary, read_joined, read_chained, read_compared, read_layer, read_chain, read_choice, read_written, read_bind, read_another_bind, read_binds, read_binding, read_label, read_arm, read_last_arm, read_arms, read_cases, read_expr, operand_at, expr_at, arm_value_at, more_arms_at, open_paren, close_paren, comma}
-use Rattle.safl_tree.specs.Printable.{InRange, HasBinding, IsLabel, FitsWritten, IsFormed, AreFormed, AreFormedBinds, AreFormedArms, right_place, left_place, below_of, own_of, own, lifted, levels, most, most_operand, most_bind, most_arm, OfBinary, IsShallow, AreShallow, AreShallowBinds, AreShallowArms}
-use Rattle.safl_tree.proofs.Formed.{IsTerminal, classed_is, any_word, any_symbol, NamedWell, a_name, Small, a_number, Wide, a_width, Indexes, an_index, WideSmall, a_sized, Layer, layer_0, layer_1, layer_2, layer_3, layer_4, layer_5, layer_6, lift_low, lift_high, lift_in, lift_up}
+use Rattle.safl_tree.specs.Reader.{read_literal, read_sized_literal, read_another, read_exprs, read_no_arguments, read_arguments, read_call}
+use Rattle.safl_tree.specs.Reader.{read_named, read_parenthesised, read_cat, read_bits, read_ext, read_primary, read_inverted, read_unary}
+use Rattle.safl_tree.specs.Reader.{read_joined, read_chained, read_compared, read_layer, read_chain, read_choice, read_written, read_bind}
+use Rattle.safl_tree.specs.Reader.{read_another_bind, read_binds, read_binding, read_label, read_arm, read_last_arm, read_arms, read_cases, read_expr}
+use Rattle.safl_tree.specs.Reader.{operand_at, expr_at, arm_value_at, more_arms_at, open_paren, close_paren, comma}
+use Rattle.safl_tree.specs.Printable.{InRange, HasBinding, IsLabel, FitsWritten, IsFormed, AreFormed, AreFormedBinds, AreFormedArms, right_place}
+use Rattle.safl_tree.specs.Printable.{left_place, below_of, own_of, own, lifted, levels, most, most_operand, most_bind, most_arm, OfBinary, IsShallow}
+use Rattle.safl_tree.specs.Printable.{AreShallow, AreShallowBinds, AreShallowArms}
+use Rattle.safl_tree.proofs.Formed.{IsTerminal, classed_is, any_word, any_symbol, NamedWell, a_name, Small, a_number, Wide, a_width, Indexes}
+use Rattle.safl_tree.proofs.Formed.{an_index, WideSmall, a_sized, Layer, layer_0, layer_1, layer_2, layer_3, layer_4, layer_5, layer_6, lift_low}
+use Rattle.safl_tree.proofs.Formed.{lift_high, lift_in, lift_up}
 
 -- it stands at a place of k layers in at most m levels
 pub record At (k m : ℕ) (t : Tree) : Type 0 where
@@ -89,7 +97,8 @@ called_at m p f ts n e = record { formed = (n, all_formed m ts e); shallow = all
 
 literal_yields : (m : ℕ) → Yields IsTerminal read_literal (At 0 (suc m))
 unfolding read_literal
-literal_yields m = yields_follows (At 0 (suc m)) (Rattle.safl_tree.proofs.Formed.a_number) (λ n h. yields_nothing (At 0 (suc m)) (Number n.place n.value) (record { formed = h; shallow = tt; kept = omega arith }))
+literal_yields m = yields_follows (At 0 (suc m)) (Rattle.safl_tree.proofs.Formed.a_number)
+    (λ n h. yields_nothing (At 0 (suc m)) (Number n.place n.value) (record { formed = h; shallow = tt; kept = omega arith }))
 
 sized_yields : (m : ℕ) → Yields IsTerminal read_sized_literal (At 0 (suc m))
 unfolding read_sized_literal
@@ -97,12 +106,14 @@ sized_yields m = yields_follows (At 0 (suc m)) a_sized (λ s h. yields_nothing (
 
 label_yields : Yields IsTerminal read_label IsLabel
 unfolding read_label read_literal read_sized_literal
-label_yields = yields_either (comes (2 ∷ [])) (yields_follows IsLabel a_number (λ n h. yields_nothing IsLabel (Number n.place n.value) h)) (yields_follows IsLabel a_sized (λ s h. yields_nothing IsLabel (Sized s.place s.width s.value) h))
+label_yields = yields_either (comes (2 ∷ [])) (yields_follows IsLabel a_number (λ n h. yields_nothing IsLabel (Number n.place n.value) h))
+    (yields_follows IsLabel a_sized (λ s h. yields_nothing IsLabel (Sized s.place s.width s.value) h))
 
 module _ (m : ℕ) (pe : Reading Terminal Tree) (e : Yields IsTerminal pe (Whole m)) where
   another_yields : (xs : List Tree) → Each (Whole m) xs → Yields IsTerminal (read_another pe xs) (Each (Whole m))
   unfolding read_another
-  another_yields xs h = yields_follows (Each (Whole m)) (any_symbol syms.Comma) (λ sep u. yields_follows (Each (Whole m)) e (λ x w. yields_nothing (Each (Whole m)) (xs ++ x ∷ []) (each_end (Whole m) xs x h w)))
+  another_yields xs h = yields_follows (Each (Whole m)) (any_symbol syms.Comma)
+      (λ sep u. yields_follows (Each (Whole m)) e (λ x w. yields_nothing (Each (Whole m)) (xs ++ x ∷ []) (each_end (Whole m) xs x h w)))
 
   exprs_yields : Yields IsTerminal (read_exprs pe) (Each (Whole m))
   unfolding read_exprs
@@ -110,40 +121,68 @@ module _ (m : ℕ) (pe : Reading Terminal Tree) (e : Yields IsTerminal pe (Whole
 
   call_yields : (f : NameAt) → NamedWell f → Yields IsTerminal (read_call pe f) (At 0 (suc m))
   unfolding read_call read_no_arguments read_arguments
-  call_yields f n = yields_follows (At 0 (suc m)) (any_symbol syms.OpenParen) (λ o u. yields_either (comes close_paren) (yields_follows (At 0 (suc m)) (any_symbol syms.CloseParen) (λ c v. yields_nothing (At 0 (suc m)) (Call f.place f.name (trees_of [])) (called_at m f.place f.name [] n tt))) (yields_follows (At 0 (suc m)) exprs_yields (λ xs h. yields_follows (At 0 (suc m)) (any_symbol syms.CloseParen) (λ c v. yields_nothing (At 0 (suc m)) (Call f.place f.name (trees_of xs)) (called_at m f.place f.name xs n h)))))
+  call_yields f n = yields_follows (At 0 (suc m)) (any_symbol syms.OpenParen)
+      (λ o u. yields_either (comes close_paren) (yields_follows (At 0 (suc m)) (any_symbol syms.CloseParen)
+      (λ c v. yields_nothing (At 0 (suc m)) (Call f.place f.name (trees_of [])) (called_at m f.place f.name [] n tt)))
+      (yields_follows (At 0 (suc m)) exprs_yields (λ xs h. yields_follows (At 0 (suc m)) (any_symbol syms.CloseParen)
+      (λ c v. yields_nothing (At 0 (suc m)) (Call f.place f.name (trees_of xs)) (called_at m f.place f.name xs n h)))))
 
   named_yields : Yields IsTerminal (read_named pe) (At 0 (suc m))
   unfolding read_named
-  named_yields = yields_follows (At 0 (suc m)) a_name (λ f n. yields_either (comes open_paren) (call_yields f n) (yields_nothing (At 0 (suc m)) (Variable f.place f.name) (record { formed = n; shallow = tt; kept = omega arith })))
+  named_yields = yields_follows (At 0 (suc m)) a_name (λ f n. yields_either (comes open_paren) (call_yields f n)
+      (yields_nothing (At 0 (suc m)) (Variable f.place f.name) (record { formed = n; shallow = tt; kept = omega arith })))
 
   parenthesised_yields : Yields IsTerminal (read_parenthesised pe) (At 0 (suc m))
   unfolding read_parenthesised
-  parenthesised_yields = yields_follows (At 0 (suc m)) (any_symbol syms.OpenParen) (λ p u. yields_follows (At 0 (suc m)) e (λ x w. yields_follows (At 0 (suc m)) (any_symbol syms.CloseParen) (λ c v. yields_nothing (At 0 (suc m)) (placed p x) (placed_at p m x w))))
+  parenthesised_yields = yields_follows (At 0 (suc m)) (any_symbol syms.OpenParen)
+      (λ p u. yields_follows (At 0 (suc m)) e (λ x w. yields_follows (At 0 (suc m)) (any_symbol syms.CloseParen)
+      (λ c v. yields_nothing (At 0 (suc m)) (placed p x) (placed_at p m x w))))
 
   cat_at : (p : ℕ) (a b : Tree) → Whole m a → Whole m b → At 0 (suc m) (Op p prims.Cat (trees_of (a ∷ b ∷ [])))
-  cat_at p a b v w = record { formed = (refl, tt, (v.formed, (w.formed, tt))); shallow = (tt, (v.shallow, (w.shallow, tt))); kept = let h = (at_whole m a v).kept in let i = (at_whole m b w).kept in omega (arith, h, i) }
+  cat_at p a b v w = record {
+    formed = (refl, tt, (v.formed, (w.formed, tt)));
+    shallow = (tt, (v.shallow, (w.shallow, tt)));
+    kept = let h =
+        (at_whole m a v).kept in let i = (at_whole m b w).kept in omega (arith, h, i);
+  }
 
   cat_yields : Yields IsTerminal (read_cat pe) (At 0 (suc m))
   unfolding read_cat
-  cat_yields = yields_follows (At 0 (suc m)) (any_word keys.Cat) (λ p u. yields_follows (At 0 (suc m)) (any_symbol syms.OpenParen) (λ o u. yields_follows (At 0 (suc m)) e (λ a v. yields_follows (At 0 (suc m)) (any_symbol syms.Comma) (λ k u. yields_follows (At 0 (suc m)) e (λ b w. yields_follows (At 0 (suc m)) (any_symbol syms.CloseParen) (λ c u. yields_nothing (At 0 (suc m)) (Op p prims.Cat (trees_of (a ∷ b ∷ []))) (cat_at p a b v w)))))))
+  cat_yields = yields_follows (At 0 (suc m)) (any_word keys.Cat)
+      (λ p u. yields_follows (At 0 (suc m)) (any_symbol syms.OpenParen)
+      (λ o u. yields_follows (At 0 (suc m)) e (λ a v. yields_follows (At 0 (suc m)) (any_symbol syms.Comma)
+      (λ k u. yields_follows (At 0 (suc m)) e (λ b w. yields_follows (At 0 (suc m)) (any_symbol syms.CloseParen)
+      (λ c u. yields_nothing (At 0 (suc m)) (Op p prims.Cat (trees_of (a ∷ b ∷ []))) (cat_at p a b v w)))))))
 
   bits_at : (p h l : ℕ) (a : Tree) → InRange (prims.Bits h l) → Whole m a → At 0 (suc m) (Op p (prims.Bits h l) (trees_of (a ∷ [])))
   bits_at p h l a r v = record { formed = (refl, r, (v.formed, tt)); shallow = (tt, (v.shallow, tt)); kept = let i = (at_whole m a v).kept in omega (arith, i) }
 
   bits_yields : Yields IsTerminal (read_bits pe) (At 0 (suc m))
   unfolding read_bits
-  bits_yields = yields_follows (At 0 (suc m)) (any_word keys.Bits) (λ p u. yields_follows (At 0 (suc m)) (any_symbol syms.OpenParen) (λ o u. yields_follows (At 0 (suc m)) e (λ a v. yields_follows (At 0 (suc m)) (any_symbol syms.Comma) (λ k u. yields_follows (At 0 (suc m)) an_index (λ h i. yields_follows (At 0 (suc m)) (any_symbol syms.Comma) (λ k u. yields_follows (At 0 (suc m)) an_index (λ l j. yields_follows (At 0 (suc m)) (any_symbol syms.CloseParen) (λ c u. yields_nothing (At 0 (suc m)) (Op p (prims.Bits h.value l.value) (trees_of (a ∷ []))) (bits_at p h.value l.value a (i, j) v)))))))))
+  bits_yields = yields_follows (At 0 (suc m)) (any_word keys.Bits)
+      (λ p u. yields_follows (At 0 (suc m)) (any_symbol syms.OpenParen)
+      (λ o u. yields_follows (At 0 (suc m)) e (λ a v. yields_follows (At 0 (suc m)) (any_symbol syms.Comma)
+      (λ k u. yields_follows (At 0 (suc m)) an_index (λ h i. yields_follows (At 0 (suc m)) (any_symbol syms.Comma)
+      (λ k u. yields_follows (At 0 (suc m)) an_index (λ l j. yields_follows (At 0 (suc m)) (any_symbol syms.CloseParen)
+      (λ c u. yields_nothing (At 0 (suc m)) (Op p (prims.Bits h.value l.value) (trees_of (a ∷ []))) (bits_at p h.value l.value a (i, j) v)))))))))
 
   ext_at : (p n : ℕ) (a : Tree) → InRange (prims.Ext n) → Whole m a → At 0 (suc m) (Op p (prims.Ext n) (trees_of (a ∷ [])))
   ext_at p n a r v = record { formed = (refl, r, (v.formed, tt)); shallow = (tt, (v.shallow, tt)); kept = let i = (at_whole m a v).kept in omega (arith, i) }
 
   ext_yields : Yields IsTerminal (read_ext pe) (At 0 (suc m))
   unfolding read_ext
-  ext_yields = yields_follows (At 0 (suc m)) (any_word keys.Ext) (λ p u. yields_follows (At 0 (suc m)) (any_symbol syms.OpenParen) (λ o u. yields_follows (At 0 (suc m)) e (λ a v. yields_follows (At 0 (suc m)) (any_symbol syms.Comma) (λ k u. yields_follows (At 0 (suc m)) a_width (λ n i. yields_follows (At 0 (suc m)) (any_symbol syms.CloseParen) (λ c u. yields_nothing (At 0 (suc m)) (Op p (prims.Ext n.value) (trees_of (a ∷ []))) (ext_at p n.value a i v)))))))
+  ext_yields = yields_follows (At 0 (suc m)) (any_word keys.Ext)
+      (λ p u. yields_follows (At 0 (suc m)) (any_symbol syms.OpenParen)
+      (λ o u. yields_follows (At 0 (suc m)) e (λ a v. yields_follows (At 0 (suc m)) (any_symbol syms.Comma)
+      (λ k u. yields_follows (At 0 (suc m)) a_width (λ n i. yields_follows (At 0 (suc m)) (any_symbol syms.CloseParen)
+      (λ c u. yields_nothing (At 0 (suc m)) (Op p (prims.Ext n.value) (trees_of (a ∷ []))) (ext_at p n.value a i v)))))))
 
   primary_yields : Yields IsTerminal (read_primary pe) (At 0 (suc m))
   unfolding read_primary
-  primary_yields = yields_either (comes (2 ∷ [])) (literal_yields m) (yields_either (comes (3 ∷ [])) (sized_yields m) (yields_either (comes (1 ∷ [])) named_yields (yields_either (comes open_paren) parenthesised_yields (yields_either (comes (word_code keys.Cat ∷ [])) cat_yields (yields_either (comes (word_code keys.Bits ∷ [])) bits_yields ext_yields)))))
+  primary_yields = yields_either (comes (2 ∷ [])) (literal_yields m)
+      (yields_either (comes (3 ∷ [])) (sized_yields m) (yields_either (comes (1 ∷ [])) named_yields
+      (yields_either (comes open_paren) parenthesised_yields (yields_either (comes (word_code keys.Cat ∷ [])) cat_yields
+      (yields_either (comes (word_code keys.Bits ∷ [])) bits_yields ext_yields)))))
 
   -- ---- operators
 
@@ -153,7 +192,9 @@ module _ (m : ℕ) (pe : Reading Terminal Tree) (e : Yields IsTerminal pe (Whole
 
     pub unary_yields : Yields IsTerminal (read_unary pu pe) (At 0 (suc m))
     unfolding read_unary read_inverted
-    unary_yields = yields_either (comes (symbol_code syms.Tilde ∷ [])) (yields_follows (At 0 (suc m)) (any_symbol syms.Tilde) (λ p w. yields_follows (At 0 (suc m)) u (λ x v. yields_nothing (At 0 (suc m)) (Op p prims.Not (trees_of (x ∷ []))) (not_at p x v)))) primary_yields
+    unary_yields = yields_either (comes (symbol_code syms.Tilde ∷ []))
+        (yields_follows (At 0 (suc m)) (any_symbol syms.Tilde) (λ p w. yields_follows (At 0 (suc m)) u
+        (λ x v. yields_nothing (At 0 (suc m)) (Op p prims.Not (trees_of (x ∷ []))) (not_at p x v)))) primary_yields
 
 -- an operator between its operands
 joined_at : (k j m p : ℕ) (o : Primitive) (a b : Tree) → Layer k j o → depth a < 100 → At j m a → At k m b → At (suc k) m (Op p o (trees_of (a ∷ b ∷ [])))
@@ -176,11 +217,17 @@ Operates k j a o = Layer k j o × (depth a < 100)
 module _ (k j m : ℕ) (table : LayerTable k j) (ps : Reading Terminal Tree) (sub : Yields IsTerminal ps (At k m)) where
   joined_yields : (a : Tree) → At j m a → Yields IsTerminal (read_joined k ps a) (At (suc k) m)
   unfolding read_joined
-  joined_yields a v = yields_follows (At (suc k) m) (yields_limited (Operates k j a) Deep (shallow a) (operator k) (λ t x q e f. let h = classed_is (within (Only (operators k)) (code_of t.kind)) _ x e in (subst (Layer k j) h.1 (table t.kind h.0), ltb-true (depth a) 100 f))) (λ o h. yields_follows (At (suc k) m) sub (λ b w. yields_nothing (At (suc k) m) (Op (place_of a) o (trees_of (a ∷ b ∷ []))) (joined_at k j m (place_of a) o a b h.0 h.1 v w)))
+  joined_yields a v = yields_follows (At (suc k) m) (yields_limited (Operates k j a) Deep (shallow a) (operator k)
+      (λ t x q e f. let h = classed_is (within (Only (operators k)) (code_of t.kind)) _ x e in
+      (subst (Layer k j) h.1 (table t.kind h.0), ltb-true (depth a) 100 f)))
+      (λ o h. yields_follows (At (suc k) m) sub (λ b w. yields_nothing (At (suc k) m) (Op (place_of a) o (trees_of (a ∷ b ∷ [])))
+      (joined_at k j m (place_of a) o a b h.0 h.1 v w)))
 
 chained_yields : (k m : ℕ) (table : LayerTable k (suc k)) (ps : Reading Terminal Tree) → Yields IsTerminal ps (At k m) → Yields IsTerminal (read_chained k ps) (At (suc k) m)
 unfolding read_chained
-chained_yields k m table ps sub = yields_follows (At (suc k) m) sub (λ a v. yields_many (comes (operators k)) (read_joined k ps) (At (suc k) m) (λ a v. joined_yields k (suc k) m table ps sub a v) a (at_up k (suc k) m a (omega arith) v))
+chained_yields k m table ps sub = yields_follows (At (suc k) m) sub
+    (λ a v. yields_many (comes (operators k)) (read_joined k ps) (At (suc k) m) (λ a v. joined_yields k (suc k) m table ps sub a v) a
+    (at_up k (suc k) m a (omega arith) v))
 
 compared_yields : (m : ℕ) (ps : Reading Terminal Tree) → Yields IsTerminal ps (At 3 m) → Yields IsTerminal (read_compared 3 ps) (At 4 m)
 unfolding read_compared
@@ -228,11 +275,18 @@ some_end [] b = tt
 some_end (c ∷ bs) b = tt
 
 binding_whole : (m p : ℕ) (bs : List Bound) (t : Tree) → Binds m bs → Whole m t → Whole (suc m) (Let p (binds_of bs) t)
-binding_whole m p bs t h w = record { formed = (h.some, binds_formed m bs h.each, w.formed); shallow = (binds_shallow m bs h.each, w.shallow); kept = let i = binds_kept m bs h.each in omega (arith, i, w.kept) }
+binding_whole m p bs t h w = record {
+  formed = (h.some, binds_formed m bs h.each, w.formed);
+  shallow = (binds_shallow m bs h.each, w.shallow);
+  kept =
+      let i = binds_kept m bs h.each in omega (arith, i, w.kept);
+}
 
 written_yields : Yields IsTerminal read_written FitsWritten
 unfolding read_written
-written_yields = yields_either (comes (symbol_code syms.Colon ∷ [])) (yields_follows FitsWritten (any_symbol syms.Colon) (λ c u. yields_follows FitsWritten a_width (λ n h. yields_nothing FitsWritten (Some n.value) h))) (yields_nothing FitsWritten None tt)
+written_yields = yields_either (comes (symbol_code syms.Colon ∷ []))
+    (yields_follows FitsWritten (any_symbol syms.Colon) (λ c u. yields_follows FitsWritten a_width
+    (λ n h. yields_nothing FitsWritten (Some n.value) h))) (yields_nothing FitsWritten None tt)
 
 -- ---- arms
 
@@ -294,12 +348,16 @@ arms_well n j arms x i h v = record {
 abbrev More : ℕ → (List Labelled → Reading Terminal ArmList) → Type 0
 More j pr = (n : ℕ) (arms : List Labelled) → length arms + j ≡ suc n → LabelsWell n arms → Yields IsTerminal (pr arms) (ArmsWell n)
 
-arms_yields : (j : ℕ) (pv : Reading Terminal Tree) → Yields IsTerminal pv (Value j) → (pr : List Labelled → Reading Terminal ArmList) → More j pr → (n : ℕ) (arms : List Labelled) → length arms + j ≡ n → LabelsWell n arms → Yields IsTerminal (read_arms pv pr arms) (ArmsWell n)
+arms_yields : (j : ℕ) (pv : Reading Terminal Tree) → Yields IsTerminal pv (Value j) → (pr : List Labelled → Reading Terminal ArmList) → More j pr →
+    (n : ℕ) (arms : List Labelled) → length arms + j ≡ n → LabelsWell n arms → Yields IsTerminal (read_arms pv pr arms) (ArmsWell n)
 unfolding read_arms read_arm read_last_arm
 arms_yields j pv v pr r n arms i h =
     yields_either (comes (2 ∷ 3 ∷ []))
-    (yields_follows (ArmsWell n) label_yields (λ l k. yields_follows (ArmsWell n) (any_symbol syms.Arrow) (λ g u. yields_follows (ArmsWell n) v (λ x w. yields_follows (ArmsWell n) (any_symbol syms.Comma) (λ s u. r n (arms ++ record { label = l; value = x } ∷ []) (longer arms (record { label = l; value = x }) i) (labels_end n j arms l x i h k w))))))
-    (yields_follows (ArmsWell n) (any_word keys.Default) (λ d u. yields_follows (ArmsWell n) (any_symbol syms.Arrow) (λ g u. yields_follows (ArmsWell n) v (λ x w. yields_nothing (ArmsWell n) (record { labelled = arms; default = x }) (arms_well n j arms x i h w)))))
+    (yields_follows (ArmsWell n) label_yields (λ l k. yields_follows (ArmsWell n) (any_symbol syms.Arrow)
+    (λ g u. yields_follows (ArmsWell n) v (λ x w. yields_follows (ArmsWell n) (any_symbol syms.Comma)
+    (λ s u. r n (arms ++ record { label = l; value = x } ∷ []) (longer arms (record { label = l; value = x }) i) (labels_end n j arms l x i h k w))))))
+    (yields_follows (ArmsWell n) (any_word keys.Default) (λ d u. yields_follows (ArmsWell n) (any_symbol syms.Arrow)
+    (λ g u. yields_follows (ArmsWell n) v (λ x w. yields_nothing (ArmsWell n) (record { labelled = arms; default = x }) (arms_well n j arms x i h w)))))
   where
     longer : (arms : List Labelled) (a : Labelled) → length arms + j ≡ n → length (arms ++ a ∷ []) + j ≡ suc n
     longer arms a i = omega (arith, i, Rattle.std.proofs.Common.length-append arms (a ∷ []))
@@ -309,23 +367,36 @@ arms_yields j pv v pr r n arms i h =
 module _ (m : ℕ) (pe : Reading Terminal Tree) (e : Yields IsTerminal pe (Whole m)) where
   choice_yields : Yields IsTerminal (read_choice pe) (Whole (suc m))
   unfolding read_choice
-  choice_yields = yields_follows (Whole (suc m)) (any_word keys.If) (λ p u. yields_follows (Whole (suc m)) e (λ c v. yields_follows (Whole (suc m)) (any_word keys.Then) (λ t u. yields_follows (Whole (suc m)) e (λ a w. yields_follows (Whole (suc m)) (any_word keys.Else) (λ l u. yields_follows (Whole (suc m)) e (λ b x. yields_nothing (Whole (suc m)) (If p c a b) (choice_whole m p c a b v w x)))))))
+  choice_yields = yields_follows (Whole (suc m)) (any_word keys.If)
+      (λ p u. yields_follows (Whole (suc m)) e (λ c v. yields_follows (Whole (suc m)) (any_word keys.Then)
+      (λ t u. yields_follows (Whole (suc m)) e (λ a w. yields_follows (Whole (suc m)) (any_word keys.Else)
+      (λ l u. yields_follows (Whole (suc m)) e (λ b x. yields_nothing (Whole (suc m)) (If p c a b) (choice_whole m p c a b v w x)))))))
 
   bind_yields : Yields IsTerminal (read_bind pe) (BoundWell m)
   unfolding read_bind
-  bind_yields = yields_follows (BoundWell m) a_name (λ x n. yields_follows (BoundWell m) written_yields (λ w f. yields_follows (BoundWell m) (any_symbol syms.Assign) (λ g u. yields_follows (BoundWell m) e (λ v h. yields_nothing (BoundWell m) (record { place = x.place; name = x.name; width = w; value = v }) (n, f, h)))))
+  bind_yields = yields_follows (BoundWell m) a_name (λ x n. yields_follows (BoundWell m) written_yields
+      (λ w f. yields_follows (BoundWell m) (any_symbol syms.Assign)
+      (λ g u. yields_follows (BoundWell m) e (λ v h. yields_nothing (BoundWell m) (record { place = x.place; name = x.name; width = w; value = v }) (n, f, h)))))
 
   binds_yields : Yields IsTerminal (read_binds pe) (Binds m)
   unfolding read_binds read_another_bind
-  binds_yields = yields_follows (Binds m) bind_yields (λ b h. yields_many (comes comma) (read_another_bind pe) (Binds m) (λ bs k. yields_follows (Binds m) (any_symbol syms.Comma) (λ s u. yields_follows (Binds m) bind_yields (λ b h. yields_nothing (Binds m) (bs ++ b ∷ []) (record { some = some_end bs b; each = each_end (BoundWell m) bs b k.each h })))) (b ∷ []) (record { some = tt; each = (h, tt) }))
+  binds_yields = yields_follows (Binds m) bind_yields (λ b h. yields_many (comes comma) (read_another_bind pe) (Binds m)
+      (λ bs k. yields_follows (Binds m) (any_symbol syms.Comma)
+      (λ s u. yields_follows (Binds m) bind_yields (λ b h. yields_nothing (Binds m) (bs ++ b ∷ [])
+      (record { some = some_end bs b; each = each_end (BoundWell m) bs b k.each h })))) (b ∷ []) (record { some = tt; each = (h, tt) }))
 
   binding_yields : Yields IsTerminal (read_binding pe) (Whole (suc m))
   unfolding read_binding
-  binding_yields = yields_follows (Whole (suc m)) (any_word keys.Let) (λ p u. yields_follows (Whole (suc m)) binds_yields (λ bs h. yields_follows (Whole (suc m)) (any_word keys.In) (λ i u. yields_follows (Whole (suc m)) e (λ x w. yields_nothing (Whole (suc m)) (Let p (binds_of bs) x) (binding_whole m p bs x h w)))))
+  binding_yields = yields_follows (Whole (suc m)) (any_word keys.Let)
+      (λ p u. yields_follows (Whole (suc m)) binds_yields (λ bs h. yields_follows (Whole (suc m)) (any_word keys.In)
+      (λ i u. yields_follows (Whole (suc m)) e (λ x w. yields_nothing (Whole (suc m)) (Let p (binds_of bs) x) (binding_whole m p bs x h w)))))
 
   cases_yields : (pa : List Labelled → Reading Terminal ArmList) → Yields IsTerminal (pa []) (ArmsWell m) → Yields IsTerminal (read_cases pe pa) (Whole (suc m))
   unfolding read_cases
-  cases_yields pa a = yields_follows (Whole (suc m)) (any_word keys.Case) (λ p u. yields_follows (Whole (suc m)) e (λ s w. yields_follows (Whole (suc m)) (any_symbol syms.OpenBrace) (λ o u. yields_follows (Whole (suc m)) a (λ r h. yields_follows (Whole (suc m)) (any_symbol syms.CloseBrace) (λ c u. yields_nothing (Whole (suc m)) (Cases p s (arms_of r.labelled r.default)) (cases_whole m p s r w h))))))
+  cases_yields pa a = yields_follows (Whole (suc m)) (any_word keys.Case)
+      (λ p u. yields_follows (Whole (suc m)) e (λ s w. yields_follows (Whole (suc m)) (any_symbol syms.OpenBrace)
+      (λ o u. yields_follows (Whole (suc m)) a (λ r h. yields_follows (Whole (suc m)) (any_symbol syms.CloseBrace)
+      (λ c u. yields_nothing (Whole (suc m)) (Cases p s (arms_of r.labelled r.default)) (cases_whole m p s r w h))))))
 
 record Levelled (m : ℕ) : Type 0 where
   operand : Yields IsTerminal (operand_at m) (At 0 m)
@@ -347,7 +418,11 @@ levelled (suc m) =
     let u = unary_yields m (expr_at m) l.whole (operand_at m) l.operand in
     record {
       operand = u;
-      whole = yields_either (comes (word_code keys.If ∷ [])) (choice_yields m (expr_at m) l.whole) (yields_either (comes (word_code keys.Let ∷ [])) (binding_yields m (expr_at m) l.whole) (yields_either (comes (word_code keys.Case ∷ [])) (cases_yields m (expr_at m) l.whole (read_arms (arm_value_at m) (more_arms_at m)) (arms_yields m (arm_value_at m) l.value (more_arms_at m) l.more m [] (omega arith) (no_labels m))) (chain_yields (suc m) (read_unary (operand_at m) (expr_at m)) u)));
+      whole = yields_either (comes (word_code keys.If ∷ [])) (choice_yields m (expr_at m) l.whole)
+          (yields_either (comes (word_code keys.Let ∷ [])) (binding_yields m (expr_at m) l.whole)
+          (yields_either (comes (word_code keys.Case ∷ [])) (cases_yields m (expr_at m) l.whole (read_arms (arm_value_at m) (more_arms_at m))
+          (arms_yields m (arm_value_at m) l.value (more_arms_at m) l.more m [] (omega arith) (no_labels m)))
+          (chain_yields (suc m) (read_unary (operand_at m) (expr_at m)) u)));
       value = value_of m (expr_at m) l.whole;
       more = λ n arms i h. arms_yields m (arm_value_at m) l.value (more_arms_at m) l.more n arms (omega (arith, i)) h;
     }

@@ -8,7 +8,8 @@ use Rattle.safl_grammar.proofs.Sets.{subset_within, apart_within}
 use Rattle.safl_grammar.proofs.Many.{stops_here}
 use Rattle.safl_grammar.proofs.Small.{Small, Eats, small, small_nothing, eats_limited, small_follows, eats_follows, small_either, small_many}
 use Rattle.safl_word.specs.declared.token.Sym.TheVariants as syms
-use Rattle.safl_tree.specs.Tree.{Tree, Number, Sized, Variable, If, Let, Cases, Op, Call, Trees, no_tree, a_tree, Arms, default_arm, an_arm, trees_of, place_of, placed, depth, deepest, deepest_bind, deepest_arm, Binds, no_bind, a_bind}
+use Rattle.safl_tree.specs.Tree.{Tree, Number, Sized, Variable, If, Let, Cases, Op, Call, Trees, no_tree, a_tree, Arms, default_arm, an_arm, trees_of}
+use Rattle.safl_tree.specs.Tree.{place_of, placed, depth, deepest, deepest_bind, deepest_arm, Binds, no_bind, a_bind}
 use Rattle.safl_tree.specs.Terminals.{Terminal, code, comes, symbol_code, operators, operator}
 use Rattle.safl_tree.specs.Grammar.{shallow}
 use Rattle.safl_tree.specs.Reader.{read_parenthesised, read_primary, read_unary, read_joined, read_chained, read_compared, read_layer, read_chain, operand_at, expr_at}
@@ -146,8 +147,12 @@ pub record Loops (k m : ℕ) (ks : List Word) (v : Tree) : Type 0 where
 pub loops_stand : (k m : ℕ) (ks : List Word) (v : Tree) → Chain k → Loops k m ks v → Stands (suc k) m ks v
 loops_stand k m ks v c l = record {
   reads = λ w r e h.
-      let x = l.goes w r e (subset_within (behind (suc k)) (behind k) (code (head_of r)) c.next_behind h) in
-      (x.0, x.1, x.2 ∙ stops_here (comes (operators k)) (read_joined k (chain_at k m)) (joined_eats k m) x.0 r (turns k m x.0 r) refl (apart_within (behind (suc k)) (Only (operators k)) (code (head_of r)) c.next_apart h));
+      let x = l.goes w r e (subset_within (behind (suc k)) (behind k) (code (head_of r)) c.next_behind h) in (
+        x.0,
+        x.1,
+        x.2 ∙ stops_here (comes (operators k)) (read_joined k (chain_at k m)) (joined_eats k m) x.0 r (turns k m x.0 r) refl
+            (apart_within (behind (suc k)) (Only (operators k)) (code (head_of r)) c.next_apart h),
+      );
 }
 
 -- and begins after a first operand
@@ -192,4 +197,8 @@ climbs (suc j) k m ks v le small s = elim (cases_lt k (suc j)) [
 
 pub parens_stand : (m : ℕ) (ks : List Word) (v : Tree) → Reads (expr_at m) ks after_expr unplaced v → Stands 0 m (enclosed false ks) v
 unfolding read_chain read_unary read_primary read_parenthesised
-parens_stand m ks v s = reads_narrowed Every (reads_second (symbol_code syms.Tilde ∷ []) _ (reads_second (2 ∷ []) _ (reads_second (3 ∷ []) _ (reads_second (1 ∷ []) _ (reads_first (symbol_code syms.OpenParen ∷ []) _ (reads_then (reads_symbol syms.OpenParen) (λ p u. reads_then s (λ x e. reads_give (λ closed. placed p x) unplaced v (reads_symbol syms.CloseParen) (λ c u. unplaced_placed p x ∙ e)) refl) refl) refl) (avoids _ _ refl)) (avoids _ _ refl)) (avoids _ _ refl)) (avoids _ _ refl)) refl
+parens_stand m ks v s = reads_narrowed Every (reads_second (symbol_code syms.Tilde ∷ []) _
+    (reads_second (2 ∷ []) _ (reads_second (3 ∷ []) _ (reads_second (1 ∷ []) _
+    (reads_first (symbol_code syms.OpenParen ∷ []) _ (reads_then (reads_symbol syms.OpenParen)
+    (λ p u. reads_then s (λ x e. reads_give (λ closed. placed p x) unplaced v (reads_symbol syms.CloseParen) (λ c u. unplaced_placed p x ∙ e)) refl)
+    refl) refl) (avoids _ _ refl)) (avoids _ _ refl)) (avoids _ _ refl)) (avoids _ _ refl)) refl

@@ -16,7 +16,9 @@ use Rattle.safl_tree.specs.Tree.{Tree, Number, Sized, Variable, Op, Call, trees_
 use Rattle.safl_tree.specs.Terminals.{Terminal, code, code_of, word_code, symbol_code, classed, NameAt, name, number, sized, operators}
 use Rattle.safl_tree.specs.Grammar
 use Rattle.safl_tree.specs.Grammar.{word, symbol, fits_width, fits_sized, fits_index}
-use Rattle.safl_tree.specs.Reader.{read_word, read_symbol, read_width, read_index, read_literal, read_sized_literal, read_another, read_exprs, read_no_arguments, read_arguments, read_call, read_named, read_parenthesised, read_cat, read_bits, read_ext, read_primary, open_paren, close_paren, comma}
+use Rattle.safl_tree.specs.Reader.{read_word, read_symbol, read_width, read_index, read_literal, read_sized_literal, read_another, read_exprs}
+use Rattle.safl_tree.specs.Reader.{read_no_arguments, read_arguments, read_call, read_named, read_parenthesised, read_cat, read_bits, read_ext}
+use Rattle.safl_tree.specs.Reader.{read_primary, open_paren, close_paren, comma}
 
 every : (F : Set) → subset (union_if true (Only []) F) Every ≡ true
 every F = refl
@@ -71,7 +73,8 @@ operand_opens = Only (3 ∷ [])
 
 -- what ends an expression: the end, `fun`, `and`, `then`, `else`, `in`, `)`, `,`, `;`, `{`, `}`
 abbrev pub after_list : List ℕ
-after_list = 0 ∷ word_code keys.Fun ∷ word_code keys.And ∷ word_code keys.Then ∷ word_code keys.Else ∷ word_code keys.In ∷ symbol_code syms.CloseParen ∷ symbol_code syms.Comma ∷ symbol_code syms.Semicolon ∷ symbol_code syms.OpenBrace ∷ symbol_code syms.CloseBrace ∷ []
+after_list = 0 ∷ word_code keys.Fun ∷ word_code keys.And ∷ word_code keys.Then ∷ word_code keys.Else ∷ word_code keys.In ∷ symbol_code syms.CloseParen
+    ∷ symbol_code syms.Comma ∷ symbol_code syms.Semicolon ∷ symbol_code syms.OpenBrace ∷ symbol_code syms.CloseBrace ∷ []
 
 -- after k layers: the operators of the layers from k on, and what ends an expression
 abbrev pub after_layers : ℕ → List ℕ
@@ -125,7 +128,10 @@ module _ (pe : Reading Terminal Tree) (se ce : Syntax Terminal Tree) (e : Parses
 
   named_parses : Parses code (read_named pe) (either (Grammar.called se) Grammar.variable) (either (Grammar.called ce) Grammar.variable) false (Only (1 ∷ [])) (Only []) after_operand
   unfolding read_named
-  named_parses = parses_same _ _ (then a_name (λ f. or_else (Only open_paren) (call_parses f) (parses_nothing code (Variable f.place f.name) after_operand) refl refl refl refl) refl refl) (same_factored (token name) (Grammar.call se) (λ x. Rattle.safl_grammar.specs.Syntax.nothing (Variable x.place x.name))) (same_factored (token name) (Grammar.call ce) (λ x. Rattle.safl_grammar.specs.Syntax.nothing (Variable x.place x.name)))
+  named_parses = parses_same _ _ (then a_name (λ f. or_else (Only open_paren) (call_parses f)
+      (parses_nothing code (Variable f.place f.name) after_operand) refl refl refl refl) refl refl)
+      (same_factored (token name) (Grammar.call se) (λ x. Rattle.safl_grammar.specs.Syntax.nothing (Variable x.place x.name)))
+      (same_factored (token name) (Grammar.call ce) (λ x. Rattle.safl_grammar.specs.Syntax.nothing (Variable x.place x.name)))
 
   parenthesised_parses : Parses code (read_parenthesised pe) (Grammar.parenthesised se) (Grammar.parenthesised ce) false (Only open_paren) (Only []) after_operand
   unfolding read_parenthesised
@@ -133,16 +139,30 @@ module _ (pe : Reading Terminal Tree) (se ce : Syntax Terminal Tree) (e : Parses
 
   cat_parses : Parses code (read_cat pe) (Grammar.cat se) (Grammar.cat ce) false (Only (word_code keys.Cat ∷ [])) (Only []) after_operand
   unfolding read_cat
-  cat_parses = then (a_word keys.Cat) (λ p. then (a_symbol syms.OpenParen) (λ opened. then e (λ a. then (a_symbol syms.Comma) (λ sep. then e (λ b. then (a_symbol syms.CloseParen) (λ closed. parses_nothing code (Op p prims.Cat (trees_of (a ∷ b ∷ []))) after_operand) refl refl) refl refl) refl refl) refl refl) refl refl) refl refl
+  cat_parses = then (a_word keys.Cat) (λ p. then (a_symbol syms.OpenParen)
+      (λ opened. then e (λ a. then (a_symbol syms.Comma) (λ sep. then e
+      (λ b. then (a_symbol syms.CloseParen) (λ closed. parses_nothing code (Op p prims.Cat (trees_of (a ∷ b ∷ []))) after_operand) refl refl) refl
+      refl) refl refl) refl refl) refl refl) refl refl
 
   bits_parses : Parses code (read_bits pe) (Grammar.bits se) (Grammar.bits ce) false (Only (word_code keys.Bits ∷ [])) (Only []) after_operand
   unfolding read_bits
-  bits_parses = then (a_word keys.Bits) (λ p. then (a_symbol syms.OpenParen) (λ opened. then e (λ a. then (a_symbol syms.Comma) (λ sep. then an_index (λ high. then (a_symbol syms.Comma) (λ sep. then an_index (λ low. then (a_symbol syms.CloseParen) (λ closed. parses_nothing code (Op p (prims.Bits high.value low.value) (trees_of (a ∷ []))) after_operand) refl refl) refl refl) refl refl) refl refl) refl refl) refl refl) refl refl) refl refl
+  bits_parses = then (a_word keys.Bits) (λ p. then (a_symbol syms.OpenParen)
+      (λ opened. then e (λ a. then (a_symbol syms.Comma) (λ sep. then an_index
+      (λ high. then (a_symbol syms.Comma) (λ sep. then an_index
+      (λ low. then (a_symbol syms.CloseParen) (λ closed. parses_nothing code (Op p (prims.Bits high.value low.value) (trees_of (a ∷ [])))
+      after_operand) refl refl) refl refl) refl refl) refl refl) refl refl) refl refl) refl refl) refl refl
 
   ext_parses : Parses code (read_ext pe) (Grammar.ext se) (Grammar.ext ce) false (Only (word_code keys.Ext ∷ [])) (Only []) after_operand
   unfolding read_ext
-  ext_parses = then (a_word keys.Ext) (λ p. then (a_symbol syms.OpenParen) (λ opened. then e (λ a. then (a_symbol syms.Comma) (λ sep. then a_width (λ n. then (a_symbol syms.CloseParen) (λ closed. parses_nothing code (Op p (prims.Ext n.value) (trees_of (a ∷ []))) after_operand) refl refl) refl refl) refl refl) refl refl) refl refl) refl refl
+  ext_parses = then (a_word keys.Ext) (λ p. then (a_symbol syms.OpenParen)
+      (λ opened. then e (λ a. then (a_symbol syms.Comma) (λ sep. then a_width
+      (λ n. then (a_symbol syms.CloseParen) (λ closed. parses_nothing code (Op p (prims.Ext n.value) (trees_of (a ∷ []))) after_operand) refl refl)
+      refl refl) refl refl) refl refl) refl refl) refl refl
 
   pub primary_parses : Parses code (read_primary pe) (Grammar.primary se) (Grammar.primary ce) false (Only primary_list) operand_opens after_operand
   unfolding read_primary
-  primary_parses = or_else (Only (2 ∷ [])) (literal_parses after_operand) (or_else (Only (3 ∷ [])) (sized_parses after_operand) (or_else (Only (1 ∷ [])) named_parses (or_else (Only open_paren) parenthesised_parses (or_else (Only (word_code keys.Cat ∷ [])) cat_parses (or_else (Only (word_code keys.Bits ∷ [])) bits_parses ext_parses refl refl refl refl) refl refl refl refl) refl refl refl refl) refl refl refl refl) refl refl refl refl) refl refl refl refl
+  primary_parses = or_else (Only (2 ∷ [])) (literal_parses after_operand)
+      (or_else (Only (3 ∷ [])) (sized_parses after_operand) (or_else (Only (1 ∷ [])) named_parses
+      (or_else (Only open_paren) parenthesised_parses (or_else (Only (word_code keys.Cat ∷ [])) cat_parses
+      (or_else (Only (word_code keys.Bits ∷ [])) bits_parses ext_parses refl refl refl refl) refl refl refl refl) refl refl refl refl) refl refl refl
+      refl) refl refl refl refl) refl refl refl refl

@@ -22,7 +22,8 @@ use Rattle.safl_tree.specs.Printed
 use Rattle.safl_tree.specs.Printed.{Word, separated, enclosed, symbol_of, applied, words}
 use Rattle.safl_tree.specs.Places.{unplaced}
 use Rattle.safl_tree.proofs.Readings.{Reads, first_of, cut, kind_is, next_within, classed_some, reads_limited, reads_then, reads_first, Avoids, avoids, reads_second, reads_narrowed, reads_give}
-use Rattle.safl_tree.proofs.Layers.{unary_at, chain_at, behind, Stands, same_depth, joined_eats, turns, Chain, chain_0, chain_1, chain_2, chain_4, chain_5, chain_6, Loops, loops_stand, stand_loops, climbs, parens_stand}
+use Rattle.safl_tree.proofs.Layers.{unary_at, chain_at, behind, Stands, same_depth, joined_eats, turns, Chain, chain_0, chain_1, chain_2, chain_4}
+use Rattle.safl_tree.proofs.Layers.{chain_5, chain_6, Loops, loops_stand, stand_loops, climbs, parens_stand}
 
 -- ---- what is claimed of an expression
 
@@ -99,7 +100,8 @@ left_part t c k m small chains le = go (leb (own t) (suc k)) refl
           | inl lt ↦ stand_loops k m (words t) (unplaced t) chains (climbs k (own t) m (words t) (unplaced t) (omega arith) (omega arith) (b.low (omega arith)))
           | inr ge ↦ b.loops k (omega (arith, i)) chains
         ]
-    go false h = stand_loops k m (enclosed false (words t)) (unplaced t) chains (climbs k 0 m (enclosed false (words t)) (unplaced t) (omega arith) (omega arith) (closed t c m (lifted_high (suc k) (own t) (levels t) (suc m) le h)))
+    go false h = stand_loops k m (enclosed false (words t)) (unplaced t) chains
+        (climbs k 0 m (enclosed false (words t)) (unplaced t) (omega arith) (omega arith) (closed t c m (lifted_high (suc k) (own t) (levels t) (suc m) le h)))
 
 pub avoids_front : (codes : List ℕ) (u v : List Word) → Avoids codes u → Avoids codes (u ++ v)
 avoids_front codes u v (avoids k ks n) = avoids k (ks ++ v) n
@@ -182,14 +184,25 @@ words_two : (p : ℕ) (o : Primitive) (a b : Tree) → Between o → words (Op p
 words_two p o a b s = s.written (enclosed (leb (own a) (left_place o)) (words a) ∷ (enclosed (leb (own b) (right_place o)) (words b) ∷ []))
 
 -- an operator and its right operand, after a left one
-joined_reads : (o : Primitive) (m : ℕ) (x : Tree) (ks : List Word) (v : Tree) → Between o → depth x < 100 → Stands (right_place o) m ks v → Reads (read_joined (right_place o) (chain_at (right_place o) m) x) (Printed.sym (symbol_of o) ∷ ks) (behind (right_place o)) unplaced (Op 0 o (a_tree (unplaced x) (a_tree v no_tree)))
+joined_reads : (o : Primitive) (m : ℕ) (x : Tree) (ks : List Word) (v : Tree) → Between o → depth x < 100 → Stands (right_place o) m ks v → Reads
+    (read_joined (right_place o) (chain_at (right_place o) m) x) (Printed.sym (symbol_of o) ∷ ks) (behind (right_place o)) unplaced
+    (Op 0 o (a_tree (unplaced x) (a_tree v no_tree)))
 unfolding read_joined
 joined_reads o m x ks v s d b =
-    reads_then (reads_limited Every Deep (shallow x) (operator (right_place o)) (Printed.sym (symbol_of o)) (λ (q : Primitive). q) o (λ t e.
-    (primitive_in t.kind, ap (λ (y : Word). primitive_in y.kind) e ∙ s.means, classed_some (Only (operators (right_place o))) (λ t. primitive_in t.kind) t (Printed.sym (symbol_of o)) e s.among, lt-ltb (depth x) 100 d)))
-    (λ op e. reads_give (λ y. Op (place_of x) op (trees_of (x ∷ y ∷ []))) unplaced (Op 0 o (a_tree (unplaced x) (a_tree v no_tree))) b (λ y i. ap (λ (q : Primitive). Op 0 q (a_tree (unplaced x) (a_tree (unplaced y) no_tree))) e ∙ ap (λ (z : Tree). Op 0 o (a_tree (unplaced x) (a_tree z no_tree))) i)) refl
+    reads_then (reads_limited Every Deep (shallow x) (operator (right_place o)) (Printed.sym (symbol_of o)) (λ (q : Primitive). q) o (λ t e. (
+      primitive_in t.kind,
+      ap (λ (y : Word). primitive_in y.kind) e ∙ s.means,
+      classed_some (Only (operators (right_place o)))
+          (λ t. primitive_in t.kind) t (Printed.sym (symbol_of o)) e s.among,
+      lt-ltb (depth x) 100 d,
+    )))
+    (λ op e. reads_give (λ y. Op (place_of x) op (trees_of (x ∷ y ∷ []))) unplaced (Op 0 o (a_tree (unplaced x) (a_tree v no_tree))) b
+    (λ y i. ap (λ (q : Primitive). Op 0 q (a_tree (unplaced x) (a_tree (unplaced y) no_tree))) e ∙ ap
+    (λ (z : Tree). Op 0 o (a_tree (unplaced x) (a_tree z no_tree))) i)) refl
 
-chain_goes : (o : Primitive) (m : ℕ) (a b : Tree) (ka kb : List Word) → Between o → Chain (right_place o) → depth a < 100 → Loops (right_place o) m ka (unplaced a) → Stands (right_place o) m kb (unplaced b) → Loops (right_place o) m (ka ++ (Printed.sym (symbol_of o) ∷ kb)) (Op 0 o (a_tree (unplaced a) (a_tree (unplaced b) no_tree)))
+chain_goes : (o : Primitive) (m : ℕ) (a b : Tree) (ka kb : List Word) → Between o → Chain (right_place o) → depth a < 100 → Loops (right_place o) m ka
+    (unplaced a) → Stands (right_place o) m kb (unplaced b) → Loops (right_place o) m (ka ++ (Printed.sym (symbol_of o) ∷ kb))
+    (Op 0 o (a_tree (unplaced a) (a_tree (unplaced b) no_tree)))
 chain_goes o m a b ka kb s chains d l q = record {
   goes = λ w r e h.
       let k = right_place o in
@@ -199,7 +212,8 @@ chain_goes o m a b ka kb s chains d l q = record {
       let x = l.goes c.front (c.back ++ r) c.first (next_within (behind k) (Printed.sym (symbol_of o) ∷ kb) (behind k) c.back r inside c.second h) in
       let low : depth x.0 < 100 = subst (λ (n : ℕ). n < 100) (sym (same_depth x.0 a x.1)) d in
       let y = (joined_reads o m x.0 kb (unplaced b) s low q).reads c.back r c.second h in
-      let test : comes (operators k) (head_of (c.back ++ r)) ≡ true = ap (λ (v : List Terminal). comes (operators k) (head_of (v ++ r))) f.is ∙ kind_is (Only (operators k)) f.token (Printed.sym (symbol_of o)) true f.word s.among in (
+      let test : comes (operators k) (head_of (c.back ++ r)) ≡ true = ap (λ (v : List Terminal). comes (operators k) (head_of (v ++ r))) f.is ∙
+      kind_is (Only (operators k)) f.token (Printed.sym (symbol_of o)) true f.word s.among in (
         y.0,
         y.1 ∙ ap (λ (z : Tree). Op 0 o (a_tree z (a_tree (unplaced b) no_tree))) x.1,
         ap (λ (v : List Terminal). read_chain (suc k) (unary_at m) v) (ap (λ (v : List Terminal). v ++ r) c.is ∙ append_assoc c.front c.back r)
@@ -208,28 +222,33 @@ chain_goes o m a b ka kb s chains d l q = record {
       );
 }
 
-compared_stands : (o : Primitive) (m : ℕ) (a b : Tree) (ka kb : List Word) → Between o → right_place o ≡ 3 → depth a < 100 → Stands 3 m ka (unplaced a) → Stands 3 m kb (unplaced b) → Stands 4 m (ka ++ (Printed.sym (symbol_of o) ∷ kb)) (Op 0 o (a_tree (unplaced a) (a_tree (unplaced b) no_tree)))
+compared_stands : (o : Primitive) (m : ℕ) (a b : Tree) (ka kb : List Word) → Between o → right_place o ≡ 3 → depth a < 100 → Stands 3 m ka
+    (unplaced a) → Stands 3 m kb (unplaced b) → Stands 4 m (ka ++ (Printed.sym (symbol_of o) ∷ kb)) (Op 0 o (a_tree (unplaced a) (a_tree (unplaced b) no_tree)))
 unfolding read_chain read_layer read_compared
 compared_stands o m a b ka kb s three d l q =
     let among : within (Only (operators 3)) (symbol_code (symbol_of o)) ≡ true = subst (λ (k : ℕ). within (Only (operators k)) (symbol_code (symbol_of o)) ≡ true) three s.among in
     reads_narrowed (behind 3) (reads_then l (λ x e. reads_first (operators 3) _ (joined_at x e) among) (subset_within (Only (operators 3)) (behind 3) (symbol_code (symbol_of o)) refl among)) refl
   where
-    joined_at : (x : Tree) → unplaced x ≡ unplaced a → Reads (read_joined 3 (chain_at 3 m) x) (Printed.sym (symbol_of o) ∷ kb) (behind 3) unplaced (Op 0 o (a_tree (unplaced a) (a_tree (unplaced b) no_tree)))
+    joined_at : (x : Tree) → unplaced x ≡ unplaced a → Reads (read_joined 3 (chain_at 3 m) x) (Printed.sym (symbol_of o) ∷ kb) (behind 3) unplaced
+        (Op 0 o (a_tree (unplaced a) (a_tree (unplaced b) no_tree)))
     joined_at x e =
         let low : depth x < 100 = subst (λ (n : ℕ). n < 100) (sym (same_depth x a e)) d in
         let j = joined_reads o m x kb (unplaced b) s low (subst (λ (k : ℕ). Stands k m kb (unplaced b)) (sym three) q) in
         let i = subst (λ (k : ℕ). Reads (read_joined k (chain_at k m) x) (Printed.sym (symbol_of o) ∷ kb) (behind k) unplaced (Op 0 o (a_tree (unplaced x) (a_tree (unplaced b) no_tree)))) three j in
         subst (λ (z : Tree). Reads (read_joined 3 (chain_at 3 m) x) (Printed.sym (symbol_of o) ∷ kb) (behind 3) unplaced (Op 0 o (a_tree z (a_tree (unplaced b) no_tree)))) e i
 
-most_two : (p : ℕ) (o : Primitive) (a b : Tree) (m : ℕ) → levels (Op p o (a_tree a (a_tree b no_tree))) ≤ m → (lifted (left_place o) (own a) (levels a) ≤ m) × (lifted (right_place o) (own b) (levels b) ≤ m)
+most_two : (p : ℕ) (o : Primitive) (a b : Tree) (m : ℕ) → levels (Op p o (a_tree a (a_tree b no_tree))) ≤ m →
+    (lifted (left_place o) (own a) (levels a) ≤ m) × (lifted (right_place o) (own b) (levels b) ≤ m)
 most_two p o a b m le = (omega arith, omega arith)
 
-chain_back : (p : ℕ) (o : Primitive) (a b : Tree) → Between o → left_place o ≡ suc (right_place o) → Chain (right_place o) → depth a < 100 → Claim a → Claim b → (m : ℕ) → levels (Op p o (a_tree a (a_tree b no_tree))) ≤ suc m → Back m (Op p o (a_tree a (a_tree b no_tree)))
+chain_back : (p : ℕ) (o : Primitive) (a b : Tree) → Between o → left_place o ≡ suc (right_place o) → Chain (right_place o) → depth a < 100 → Claim a →
+    Claim b → (m : ℕ) → levels (Op p o (a_tree a (a_tree b no_tree))) ≤ suc m → Back m (Op p o (a_tree a (a_tree b no_tree)))
 chain_back p o a b s left chains d ca cb m le =
     let t = Op p o (a_tree a (a_tree b no_tree)) in
     let both = most_two p o a b (suc m) le in
     let la : lifted (suc (right_place o)) (own a) (levels a) ≤ suc m = subst (λ (k : ℕ). lifted k (own a) (levels a) ≤ suc m) left both.0 in
-    let l = chain_goes o m a b (enclosed (leb (own a) (suc (right_place o))) (words a)) (enclosed (leb (own b) (right_place o)) (words b)) s chains d (left_part a ca (right_place o) m s.small chains la) (part b cb (right_place o) m (omega (arith, s.small)) both.1) in
+    let l = chain_goes o m a b (enclosed (leb (own a) (suc (right_place o))) (words a)) (enclosed (leb (own b) (right_place o)) (words b)) s chains d
+    (left_part a ca (right_place o) m s.small chains la) (part b cb (right_place o) m (omega (arith, s.small)) both.1) in
     let written : words t ≡ two_words (suc (right_place o)) o a b = words_two p o a b s ∙ ap (λ (k : ℕ). two_words k o a b) left in
     let loops : Loops (right_place o) m (words t) (unplaced t) = subst (λ (ks : List Word). Loops (right_place o) m ks (unplaced t)) (sym written) l in
     record {
@@ -238,14 +257,17 @@ chain_back p o a b s left chains d ca cb m le =
       loops = λ k e c. let same : right_place o ≡ k = omega (arith, s.own, e) in subst (λ (k : ℕ). Loops k m (words t) (unplaced t)) same loops;
     }
 
-compared_back : (p : ℕ) (o : Primitive) (a b : Tree) → Between o → left_place o ≡ 3 → right_place o ≡ 3 → depth a < 100 → Claim a → Claim b → (m : ℕ) → levels (Op p o (a_tree a (a_tree b no_tree))) ≤ suc m → Back m (Op p o (a_tree a (a_tree b no_tree)))
+compared_back : (p : ℕ) (o : Primitive) (a b : Tree) → Between o → left_place o ≡ 3 → right_place o ≡ 3 → depth a < 100 → Claim a → Claim b → (m : ℕ)
+    → levels (Op p o (a_tree a (a_tree b no_tree))) ≤ suc m → Back m (Op p o (a_tree a (a_tree b no_tree)))
 compared_back p o a b s left three d ca cb m le =
     let t = Op p o (a_tree a (a_tree b no_tree)) in
     let both = most_two p o a b (suc m) le in
     let la : lifted 3 (own a) (levels a) ≤ suc m = subst (λ (k : ℕ). lifted k (own a) (levels a) ≤ suc m) left both.0 in
     let lb : lifted 3 (own b) (levels b) ≤ suc m = subst (λ (k : ℕ). lifted k (own b) (levels b) ≤ suc m) three both.1 in
     let l = compared_stands o m a b (enclosed (leb (own a) 3) (words a)) (enclosed (leb (own b) 3) (words b)) s three d (part a ca 3 m (omega arith) la) (part b cb 3 m (omega arith) lb) in
-    let written : words t ≡ enclosed (leb (own a) 3) (words a) ++ (Printed.sym (symbol_of o) ∷ enclosed (leb (own b) 3) (words b)) = words_two p o a b s ∙ ap (λ (k : ℕ). two_words k o a b) left ∙ ap (λ (k : ℕ). enclosed (leb (own a) 3) (words a) ++ (Printed.sym (symbol_of o) ∷ enclosed (leb (own b) k) (words b))) three in
+    let written : words t ≡ enclosed (leb (own a) 3) (words a) ++ (Printed.sym (symbol_of o) ∷ enclosed (leb (own b) 3) (words b)) = words_two p o a b
+    s ∙ ap (λ (k : ℕ). two_words k o a b) left ∙ ap (λ (k : ℕ). enclosed (leb (own a) 3) (words a) ++
+    (Printed.sym (symbol_of o) ∷ enclosed (leb (own b) k) (words b))) three in
     let stands : Stands 4 m (words t) (unplaced t) = subst (λ (ks : List Word). Stands 4 m ks (unplaced t)) (sym written) l in
     let four : own_of o ≡ 4 = s.own ∙ ap suc three in
     record {
@@ -264,8 +286,11 @@ lifted_some k j n h = go (leb j k)
 pub between_claim : (p : ℕ) (o : Primitive) (a b : Tree) → Between o → depth a < 100 → Claim a → Claim b → Claim (Op p o (a_tree a (a_tree b no_tree)))
 between_claim p o a b s d ca cb = record {
   level = let i = lifted_some (left_place o) (own a) (levels a) ca.level in omega (arith, i);
-  opens = subst (Avoids (symbol_code syms.CloseParen ∷ [])) (sym (words_two p o a b s)) (avoids_front (symbol_code syms.CloseParen ∷ []) (enclosed (leb (own a) (left_place o)) (words a)) (Printed.sym (symbol_of o) ∷ enclosed (leb (own b) (right_place o)) (words b)) (opens_part a ca (left_place o)));
-  plain = λ h. subst Plain (sym (words_two p o a b s)) (plain_front (enclosed (leb (own a) (left_place o)) (words a)) (Printed.sym (symbol_of o) ∷ enclosed (leb (own b) (right_place o)) (words b)) (plain_part a ca (left_place o) (left_small s.left)));
+  opens = subst (Avoids (symbol_code syms.CloseParen ∷ [])) (sym (words_two p o a b s))
+      (avoids_front (symbol_code syms.CloseParen ∷ []) (enclosed (leb (own a) (left_place o)) (words a))
+      (Printed.sym (symbol_of o) ∷ enclosed (leb (own b) (right_place o)) (words b)) (opens_part a ca (left_place o)));
+  plain = λ h. subst Plain (sym (words_two p o a b s)) (plain_front (enclosed (leb (own a) (left_place o)) (words a))
+      (Printed.sym (symbol_of o) ∷ enclosed (leb (own b) (right_place o)) (words b)) (plain_part a ca (left_place o) (left_small s.left)));
   back = λ m le. elim s.left [
     | inl x ↦ chain_back p o a b s x.0 x.1 d ca cb m le
     | inr x ↦ compared_back p o a b s x.0 x.1 d ca cb m le

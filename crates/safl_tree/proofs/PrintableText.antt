@@ -22,11 +22,17 @@ use Rattle.safl_tree.proofs.Programs.{read_again}
 
 param_yields : Yields IsTerminal read_param IsFormedParameter
 unfolding read_param
-param_yields = yields_follows IsFormedParameter a_name (λ x n. yields_follows IsFormedParameter (any_symbol syms.Colon) (λ c u. yields_follows IsFormedParameter a_width (λ w h. yields_nothing IsFormedParameter (record { place = x.place; name = x.name; width = w.value }) (n, h))))
+param_yields = yields_follows IsFormedParameter a_name (λ x n. yields_follows IsFormedParameter (any_symbol syms.Colon)
+    (λ c u. yields_follows IsFormedParameter a_width (λ w h. yields_nothing IsFormedParameter (record { place = x.place; name = x.name; width = w.value }) (n, h))))
 
 params_yields : Yields IsTerminal read_params (Each IsFormedParameter)
 unfolding read_params read_another_param
-params_yields = yields_either (comes (1 ∷ [])) (yields_follows (Each IsFormedParameter) param_yields (λ p h. yields_many (comes comma) read_another_param (Each IsFormedParameter) (λ ps k. yields_follows (Each IsFormedParameter) (any_symbol syms.Comma) (λ s u. yields_follows (Each IsFormedParameter) param_yields (λ p h. yields_nothing (Each IsFormedParameter) (ps ++ p ∷ []) (each_end IsFormedParameter ps p k h)))) (p ∷ []) (h, tt))) (yields_nothing (Each IsFormedParameter) [] tt)
+params_yields = yields_either (comes (1 ∷ [])) (yields_follows (Each IsFormedParameter) param_yields
+    (λ p h. yields_many (comes comma) read_another_param (Each IsFormedParameter)
+    (λ ps k. yields_follows (Each IsFormedParameter) (any_symbol syms.Comma)
+    (λ s u. yields_follows (Each IsFormedParameter) param_yields
+    (λ p h. yields_nothing (Each IsFormedParameter) (ps ++ p ∷ []) (each_end IsFormedParameter ps p k h)))) (p ∷ []) (h, tt)))
+    (yields_nothing (Each IsFormedParameter) [] tt)
 
 params_formed : (ps : List Parameter) → Each IsFormedParameter ps → AreFormedParameters ps
 params_formed [] e = tt
@@ -43,7 +49,12 @@ Joins j d = DefinedWell d × (d.joined ≡ j)
 
 one_yields : (j : Bool) → Yields IsTerminal (read_one j (expr_at 100)) (Joins j)
 unfolding read_one
-one_yields j = yields_follows (Joins j) a_name (λ x n. yields_follows (Joins j) (any_symbol syms.OpenParen) (λ o u. yields_follows (Joins j) params_yields (λ ps k. yields_follows (Joins j) (any_symbol syms.CloseParen) (λ c u. yields_follows (Joins j) (any_symbol syms.Colon) (λ c u. yields_follows (Joins j) a_width (λ w h. yields_follows (Joins j) (any_symbol syms.Assign) (λ g u. yields_follows (Joins j) (expr_yields 100) (λ b v. yields_nothing (Joins j) (record { joined = j; place = x.place; name = x.name; params = ps; width = w.value; body = b }) (record { name = n; params = k; width = h; body = v }, refl)))))))))
+one_yields j = yields_follows (Joins j) a_name (λ x n. yields_follows (Joins j) (any_symbol syms.OpenParen)
+    (λ o u. yields_follows (Joins j) params_yields (λ ps k. yields_follows (Joins j) (any_symbol syms.CloseParen)
+    (λ c u. yields_follows (Joins j) (any_symbol syms.Colon) (λ c u. yields_follows (Joins j) a_width
+    (λ w h. yields_follows (Joins j) (any_symbol syms.Assign) (λ g u. yields_follows (Joins j) (expr_yields 100)
+    (λ b v. yields_nothing (Joins j) (record { joined = j; place = x.place; name = x.name; params = ps; width = w.value; body = b })
+    (record { name = n; params = k; width = h; body = v }, refl)))))))))
 
 -- the definitions so far, of which the first is not joined
 record Groups (ds : List Definition) : Type 0 where
@@ -71,11 +82,16 @@ next_some ds d g h = record { groups = record { each = each_end DefinedWell ds d
 
 group_yields : (ds : List Definition) → Groups ds → Yields IsTerminal (read_group (expr_at 100) ds) Some
 unfolding read_group read_another_one
-group_yields ds g = yields_follows Some (any_word keys.Fun) (λ f u. yields_follows Some (one_yields false) (λ d h. yields_many (comes (word_code keys.And ∷ [])) (read_another_one (expr_at 100)) Some (λ ds k. yields_follows Some (any_word keys.And) (λ a u. yields_follows Some (one_yields true) (λ d h. yields_nothing Some (ds ++ d ∷ []) (next_some ds d k h)))) (ds ++ d ∷ []) (first_some ds d g h)))
+group_yields ds g = yields_follows Some (any_word keys.Fun) (λ f u. yields_follows Some (one_yields false)
+    (λ d h. yields_many (comes (word_code keys.And ∷ [])) (read_another_one (expr_at 100)) Some
+    (λ ds k. yields_follows Some (any_word keys.And) (λ a u. yields_follows Some (one_yields true)
+    (λ d h. yields_nothing Some (ds ++ d ∷ []) (next_some ds d k h)))) (ds ++ d ∷ []) (first_some ds d g h)))
 
 another_group_yields : (ds : List Definition) → Groups ds → Yields IsTerminal (read_another_group (expr_at 100) ds) Groups
 unfolding read_another_group read_ended
-another_group_yields ds g = yields_follows Groups (group_yields ds g) (λ es h. yields_either (comes (symbol_code syms.Semicolon ∷ [])) (yields_follows Groups (any_symbol syms.Semicolon) (λ s u. yields_nothing Groups es h.groups)) (yields_nothing Groups es h.groups))
+another_group_yields ds g = yields_follows Groups (group_yields ds g)
+    (λ es h. yields_either (comes (symbol_code syms.Semicolon ∷ []))
+    (yields_follows Groups (any_symbol syms.Semicolon) (λ s u. yields_nothing Groups es h.groups)) (yields_nothing Groups es h.groups))
 
 program_yields : Yields IsTerminal (read_program (expr_at 100)) Groups
 unfolding read_program
@@ -103,8 +119,10 @@ read_groups w ds q e =
 
 pieces_terminals : (xs : List Piece) (front text : List ℕ) (p : ℕ) → p ≡ length front → text ≡ front ++ text_of_all xs → StandAll xs [] → Each IsTerminal (terminals text (tokens_from p xs))
 pieces_terminals [] front text p i j s = tt
-pieces_terminals (Blank c ∷ xs) front text p i j s = pieces_terminals xs (front ++ c ∷ []) text (p + 1) (omega (arith, i, length-append front (c ∷ []))) (j ∙ sym (append_assoc front (c ∷ []) (text_of_all xs))) s.1
-pieces_terminals (Comment w ∷ xs) front text p i j s = pieces_terminals xs (front ++ text_of (Comment w)) text (p + length (text_of (Comment w))) (omega (arith, i, length-append front (text_of (Comment w)))) (j ∙ sym (append_assoc front (text_of (Comment w)) (text_of_all xs))) s.1
+pieces_terminals (Blank c ∷ xs) front text p i j s = pieces_terminals xs (front ++ c ∷ []) text (p + 1)
+    (omega (arith, i, length-append front (c ∷ []))) (j ∙ sym (append_assoc front (c ∷ []) (text_of_all xs))) s.1
+pieces_terminals (Comment w ∷ xs) front text p i j s = pieces_terminals xs (front ++ text_of (Comment w)) text (p + length (text_of (Comment w)))
+    (omega (arith, i, length-append front (text_of (Comment w)))) (j ∙ sym (append_assoc front (text_of (Comment w)) (text_of_all xs))) s.1
 pieces_terminals (Lexeme k w ∷ xs) front text p i j s =
     (subst (IsToken k) bytes s.0.0, pieces_terminals xs (front ++ w) text (p + length w) (omega (arith, i, length-append front w)) (j ∙ sym (append_assoc front w (text_of_all xs))) s.1)
   where

@@ -7,19 +7,29 @@ use Rattle.safl_word.specs.declared.token.Key.TheVariants as keys
 use Rattle.safl_word.specs.declared.token.Sym.TheVariants as syms
 use Rattle.safl_word.specs.declared.primitive.Primitive.{Primitive}
 use Rattle.safl_word.specs.declared.primitive.Primitive.TheVariants as prims
-use Rattle.safl_tree.specs.Tree.{Tree, Number, Sized, Variable, If, Let, Cases, Op, Call, Trees, no_tree, a_tree, Binds, no_bind, a_bind, Arms, default_arm, an_arm, Bound, Labelled, trees_of, binds_of, arms_of, depth}
+use Rattle.safl_tree.specs.Tree.{Tree, Number, Sized, Variable, If, Let, Cases, Op, Call, Trees, no_tree, a_tree, Binds, no_bind, a_bind, Arms}
+use Rattle.safl_tree.specs.Tree.{default_arm, an_arm, Bound, Labelled, trees_of, binds_of, arms_of, depth}
 use Rattle.safl_tree.specs.Terminals.{Terminal, code, code_of, comes, word_code, symbol_code, operators, operator, primitive_of, primitive_in}
 use Rattle.safl_tree.specs.Grammar.{ArmList, is_width}
-use Rattle.safl_tree.specs.Reader.{read_literal, read_sized_literal, read_another, read_exprs, read_no_arguments, read_arguments, read_call, read_named, read_cat, read_bits, read_ext, read_primary, read_inverted, read_unary, read_chain, read_choice, read_written, read_bind, read_another_bind, read_binds, read_binding, read_label, read_arm, read_last_arm, read_arms, read_cases, read_expr, operand_at, expr_at, arm_value_at, more_arms_at, open_paren, close_paren}
-use Rattle.safl_tree.specs.Printable.{own, lifted, levels, is_binary, operands, count, InRange, HasBinding, IsLabel, FitsWritten, IsFormed, AreFormed, AreFormedBinds, AreFormedArms, most, most_bind, most_arm, LeftShallow, OfBinary, IsShallow, AreShallow, AreShallowBinds, AreShallowArms}
+use Rattle.safl_tree.specs.Reader.{read_literal, read_sized_literal, read_another, read_exprs, read_no_arguments, read_arguments, read_call}
+use Rattle.safl_tree.specs.Reader.{read_named, read_cat, read_bits, read_ext, read_primary, read_inverted, read_unary, read_chain, read_choice}
+use Rattle.safl_tree.specs.Reader.{read_written, read_bind, read_another_bind, read_binds, read_binding, read_label, read_arm, read_last_arm}
+use Rattle.safl_tree.specs.Reader.{read_arms, read_cases, read_expr, operand_at, expr_at, arm_value_at, more_arms_at, open_paren, close_paren}
+use Rattle.safl_tree.specs.Printable.{own, lifted, levels, is_binary, operands, count, InRange, HasBinding, IsLabel, FitsWritten, IsFormed, AreFormed}
+use Rattle.safl_tree.specs.Printable.{AreFormedBinds, AreFormedArms, most, most_bind, most_arm, LeftShallow, OfBinary, IsShallow, AreShallow}
+use Rattle.safl_tree.specs.Printable.{AreShallowBinds, AreShallowArms}
 use Rattle.safl_tree.proofs.Leaves.{after_list, after_expr}
 use Rattle.safl_tree.proofs.KeptLevels.{expr_small}
 use Rattle.safl_tree.specs.Printed
 use Rattle.safl_tree.specs.Printed.{Word, separated, enclosed, symbol_of, applied, words, part_words, bind_words, arm_words, written}
 use Rattle.safl_tree.specs.Places.{unplaced, unplaced_trees, unplaced_binds, unplaced_arms}
-use Rattle.safl_tree.proofs.Readings.{Reads, AllRead, list_reads, reads_nothing, reads_then, reads_first, Avoids, avoids, reads_second, reads_none, reads_narrowed, reads_give, reads_key, reads_symbol, reads_name, reads_number, reads_width, reads_index, reads_sized}
+use Rattle.safl_tree.proofs.Readings.{Reads, AllRead, list_reads, reads_nothing, reads_then, reads_first, Avoids, avoids, reads_second, reads_none}
+use Rattle.safl_tree.proofs.Readings.{reads_narrowed, reads_give, reads_key, reads_symbol, reads_name, reads_number, reads_width, reads_index}
+use Rattle.safl_tree.proofs.Readings.{reads_sized}
 use Rattle.safl_tree.proofs.Layers.{chain_at, behind, Stands}
-use Rattle.safl_tree.proofs.Operators.{Plain, Claim, own_small, whole, part, opens_part, avoids_front, lifted_some, Between, between_claim, between_mul, between_add, between_sub, between_shl, between_shr, between_eq, between_ne, between_lt, between_le, between_gt, between_ge, between_and, between_xor, between_or}
+use Rattle.safl_tree.proofs.Operators.{Plain, Claim, own_small, whole, part, opens_part, avoids_front, lifted_some, Between, between_claim}
+use Rattle.safl_tree.proofs.Operators.{between_mul, between_add, between_sub, between_shl, between_shr, between_eq, between_ne, between_lt}
+use Rattle.safl_tree.proofs.Operators.{between_le, between_gt, between_ge, between_and, between_xor, between_or}
 use Rattle.std.proofs.Common.{map}
 use Rattle.safl_word.specs.Words.{max_width}
 use Rattle.safl_tree.proofs.Expressions.{written_parses}
@@ -27,7 +37,8 @@ use Rattle.safl_tree.specs.Terminals.{marked, name}
 use Rattle.std.proofs.lemmas.Bool.{le-leb}
 
 -- an expression that stands at any place
-primary_claim : (t : Tree) → own t ≡ 0 → 1 ≤ levels t → Avoids (symbol_code syms.CloseParen ∷ []) (words t) → Plain (words t) → ((m : ℕ) → levels t ≤ suc m → Stands 0 m (words t) (unplaced t)) → Claim t
+primary_claim : (t : Tree) → own t ≡ 0 → 1 ≤ levels t → Avoids (symbol_code syms.CloseParen ∷ []) (words t) → Plain (words t) →
+    ((m : ℕ) → levels t ≤ suc m → Stands 0 m (words t) (unplaced t)) → Claim t
 primary_claim t o l a p f = record {
   level = l;
   opens = a;
@@ -40,7 +51,8 @@ primary_claim t o l a p f = record {
 }
 
 -- an if, a let or a case
-whole_claim : (t : Tree) → own t ≡ 8 → 1 ≤ levels t → Avoids (symbol_code syms.CloseParen ∷ []) (words t) → ((m : ℕ) → levels t ≤ suc m → Reads (expr_at (suc m)) (words t) after_expr unplaced (unplaced t)) → Claim t
+whole_claim : (t : Tree) → own t ≡ 8 → 1 ≤ levels t → Avoids (symbol_code syms.CloseParen ∷ []) (words t) →
+    ((m : ℕ) → levels t ≤ suc m → Reads (expr_at (suc m)) (words t) after_expr unplaced (unplaced t)) → Claim t
 whole_claim t o l a f = record {
   level = l;
   opens = a;
@@ -56,17 +68,25 @@ whole_claim t o l a f = record {
 
 number_stands : (m p n : ℕ) → Stands 0 m (words (Number p n)) (Number 0 n)
 unfolding read_chain read_unary read_primary read_literal
-number_stands m p n = reads_narrowed Every (reads_second (symbol_code syms.Tilde ∷ []) _ (reads_first (2 ∷ []) _ (reads_give (λ x. Number x.place x.value) unplaced (Number 0 n) (reads_number n) (λ x e. ap (Number 0) e)) refl) (avoids _ _ refl)) refl
+number_stands m p n = reads_narrowed Every (reads_second (symbol_code syms.Tilde ∷ []) _
+    (reads_first (2 ∷ []) _ (reads_give (λ x. Number x.place x.value) unplaced (Number 0 n) (reads_number n) (λ x e. ap (Number 0) e)) refl) (avoids _ _ refl)) refl
 
 sized_stands : (m p w n : ℕ) → is_width w ≡ true → Stands 0 m (words (Sized p w n)) (Sized 0 w n)
 unfolding read_chain read_unary read_primary read_sized_literal
-sized_stands m p w n h = reads_narrowed Every (reads_second (symbol_code syms.Tilde ∷ []) _ (reads_second (2 ∷ []) _ (reads_first (3 ∷ []) _ (reads_give (λ x. Sized x.place x.width x.value) unplaced (Sized 0 w n) (reads_sized w n h) (λ x e. e)) refl) (avoids _ _ refl)) (avoids _ _ refl)) refl
+sized_stands m p w n h = reads_narrowed Every (reads_second (symbol_code syms.Tilde ∷ []) _
+    (reads_second (2 ∷ []) _ (reads_first (3 ∷ []) _ (reads_give (λ x. Sized x.place x.width x.value) unplaced (Sized 0 w n) (reads_sized w n h)
+    (λ x e. e)) refl) (avoids _ _ refl)) (avoids _ _ refl)) refl
 
 variable_stands : (m p : ℕ) (x : List ℕ) → Stands 0 m (words (Variable p x)) (Variable 0 x)
 unfolding read_chain read_unary read_primary read_named
-variable_stands m p x = reads_second (symbol_code syms.Tilde ∷ []) _ (reads_second (2 ∷ []) _ (reads_second (3 ∷ []) _ (reads_first (1 ∷ []) _ (reads_then (reads_name x) (λ f e. reads_none open_paren _ (reads_nothing (behind 0) unplaced (Variable f.place f.name) (Variable 0 x) (ap (Variable 0) e)) refl) refl) refl) (avoids _ _ refl)) (avoids _ _ refl)) (avoids _ _ refl)
+variable_stands m p x = reads_second (symbol_code syms.Tilde ∷ []) _
+    (reads_second (2 ∷ []) _ (reads_second (3 ∷ []) _ (reads_first (1 ∷ []) _
+    (reads_then (reads_name x) (λ f e. reads_none open_paren _
+    (reads_nothing (behind 0) unplaced (Variable f.place f.name) (Variable 0 x) (ap (Variable 0) e)) refl) refl) refl) (avoids _ _ refl))
+    (avoids _ _ refl)) (avoids _ _ refl)
 
-abbrev plain_first : (k : Word) (ks : List Word) → within (Only (word_code keys.If ∷ [])) (code_of k.kind) ≡ false → within (Only (word_code keys.Let ∷ [])) (code_of k.kind) ≡ false → within (Only (word_code keys.Case ∷ [])) (code_of k.kind) ≡ false → Plain (k ∷ ks)
+abbrev plain_first : (k : Word) (ks : List Word) → within (Only (word_code keys.If ∷ [])) (code_of k.kind) ≡ false → within
+    (Only (word_code keys.Let ∷ [])) (code_of k.kind) ≡ false → within (Only (word_code keys.Case ∷ [])) (code_of k.kind) ≡ false → Plain (k ∷ ks)
 plain_first k ks a b c = record { no_choice = avoids k ks a; no_binding = avoids k ks b; no_cases = avoids k ks c }
 
 number_claim : (p n : ℕ) → Claim (Number p n)
@@ -107,27 +127,40 @@ all_read : (ts : Trees) → AllClaim ts → (m : ℕ) → most ts ≤ m → AllR
 all_read no_tree c m le = tt
 all_read (a_tree t ts) c m le = (subst (λ (ks : List Word). Reads (expr_at m) ks after_expr unplaced (unplaced t)) (sym (bare_part t)) (whole t c.0 m (omega arith)), all_read ts c.1 m (omega arith))
 
-exprs_read : (t : Tree) (ts : Trees) → Claim t → AllClaim ts → (m : ℕ) → levels t ≤ m → most ts ≤ m → Reads (read_exprs (expr_at m)) (separated (Printed.sym syms.Comma) (part_words 8 8 (a_tree t ts))) (Only close_paren) (map unplaced) (unplaced t ∷ list_of (unplaced_trees ts))
+exprs_read : (t : Tree) (ts : Trees) → Claim t → AllClaim ts → (m : ℕ) → levels t ≤ m → most ts ≤ m → Reads (read_exprs (expr_at m))
+    (separated (Printed.sym syms.Comma) (part_words 8 8 (a_tree t ts))) (Only close_paren) (map unplaced) (unplaced t ∷ list_of (unplaced_trees ts))
 unfolding read_exprs read_another
 exprs_read t ts c cs m le les =
     let a = all_read (a_tree t ts) (c, cs) m (omega arith) in
-    list_reads (expr_at m) (expr_small m) after_list (Only close_paren) unplaced refl refl refl (enclosed (leb (own t) 8) (words t)) (unplaced t) (part_words 8 8 ts) (list_of (unplaced_trees ts)) a.0 a.1
+    list_reads (expr_at m) (expr_small m) after_list (Only close_paren) unplaced refl refl refl (enclosed (leb (own t) 8) (words t)) (unplaced t)
+    (part_words 8 8 ts) (list_of (unplaced_trees ts)) a.0 a.1
 
 opens_list : (t : Tree) (xs : List (List Word)) (ks : List Word) → Claim t → Avoids close_paren (separated (Printed.sym syms.Comma) (enclosed (leb (own t) 8) (words t) ∷ xs) ++ ks)
 opens_list t [] ks c = avoids_front close_paren (enclosed (leb (own t) 8) (words t)) ks (opens_part t c 8)
-opens_list t (x ∷ xs) ks c = avoids_front close_paren (separated (Printed.sym syms.Comma) (enclosed (leb (own t) 8) (words t) ∷ (x ∷ xs))) ks (avoids_front close_paren (enclosed (leb (own t) 8) (words t)) (Printed.sym syms.Comma ∷ separated (Printed.sym syms.Comma) (x ∷ xs)) (opens_part t c 8))
+opens_list t (x ∷ xs) ks c = avoids_front close_paren (separated (Printed.sym syms.Comma) (enclosed (leb (own t) 8) (words t) ∷ (x ∷ xs))) ks
+    (avoids_front close_paren (enclosed (leb (own t) 8) (words t)) (Printed.sym syms.Comma ∷ separated (Printed.sym syms.Comma) (x ∷ xs)) (opens_part t c 8))
 
 -- a call, after its name's `(`
-call_read : (p : ℕ) (f : List ℕ) (ts : Trees) → AllClaim ts → (m : ℕ) → most ts ≤ m → (q : Rattle.safl_tree.specs.Terminals.NameAt) → q.name ≡ f → Reads (read_either (comes close_paren) (read_no_arguments q) (read_arguments (expr_at m) q)) (separated (Printed.sym syms.Comma) (part_words 8 8 ts) ++ (Printed.sym syms.CloseParen ∷ [])) (behind 0) unplaced (Call 0 f (unplaced_trees ts))
+call_read : (p : ℕ) (f : List ℕ) (ts : Trees) → AllClaim ts → (m : ℕ) → most ts ≤ m → (q : Rattle.safl_tree.specs.Terminals.NameAt) → q.name ≡ f →
+    Reads (read_either (comes close_paren) (read_no_arguments q) (read_arguments (expr_at m) q))
+    (separated (Printed.sym syms.Comma) (part_words 8 8 ts) ++ (Printed.sym syms.CloseParen ∷ [])) (behind 0) unplaced (Call 0 f (unplaced_trees ts))
 unfolding read_no_arguments read_arguments
-call_read p f no_tree c m le q e = reads_narrowed Every (reads_first close_paren _ (reads_give (λ closed. Call q.place q.name (trees_of [])) unplaced (Call 0 f no_tree) (reads_symbol syms.CloseParen) (λ x u. ap (λ (n : List ℕ). Call 0 n no_tree) e)) refl) refl
+call_read p f no_tree c m le q e = reads_narrowed Every (reads_first close_paren _
+    (reads_give (λ closed. Call q.place q.name (trees_of [])) unplaced (Call 0 f no_tree) (reads_symbol syms.CloseParen)
+    (λ x u. ap (λ (n : List ℕ). Call 0 n no_tree) e)) refl) refl
 call_read p f (a_tree t ts) c m le q e =
     reads_narrowed Every
-    (reads_second close_paren _ (reads_then (exprs_read t ts c.0 c.1 m (omega arith) (omega arith)) (λ xs i. reads_give (λ closed. Call q.place q.name (trees_of xs)) unplaced (Call 0 f (unplaced_trees (a_tree t ts))) (reads_symbol syms.CloseParen) (λ x u. ap (λ (n : List ℕ). Call 0 n (unplaced_trees (trees_of xs))) e ∙ ap (Call 0 f) (list_shows xs (a_tree t ts) i))) refl) (opens_list t (part_words 8 8 ts) (Printed.sym syms.CloseParen ∷ []) c.0)) refl
+    (reads_second close_paren _ (reads_then (exprs_read t ts c.0 c.1 m (omega arith) (omega arith))
+    (λ xs i. reads_give (λ closed. Call q.place q.name (trees_of xs)) unplaced (Call 0 f (unplaced_trees (a_tree t ts)))
+    (reads_symbol syms.CloseParen) (λ x u. ap (λ (n : List ℕ). Call 0 n (unplaced_trees (trees_of xs))) e ∙ ap (Call 0 f)
+    (list_shows xs (a_tree t ts) i))) refl) (opens_list t (part_words 8 8 ts) (Printed.sym syms.CloseParen ∷ []) c.0)) refl
 
 call_stands : (p : ℕ) (f : List ℕ) (ts : Trees) → AllClaim ts → (m : ℕ) → most ts ≤ m → Stands 0 m (words (Call p f ts)) (Call 0 f (unplaced_trees ts))
 unfolding read_chain read_unary read_primary read_named read_call
-call_stands p f ts c m le = reads_second (symbol_code syms.Tilde ∷ []) _ (reads_second (2 ∷ []) _ (reads_second (3 ∷ []) _ (reads_first (1 ∷ []) _ (reads_then (reads_name f) (λ q e. reads_first open_paren _ (reads_then (reads_symbol syms.OpenParen) (λ o u. call_read p f ts c m le q e) refl) refl) refl) refl) (avoids _ _ refl)) (avoids _ _ refl)) (avoids _ _ refl)
+call_stands p f ts c m le = reads_second (symbol_code syms.Tilde ∷ []) _
+    (reads_second (2 ∷ []) _ (reads_second (3 ∷ []) _ (reads_first (1 ∷ []) _
+    (reads_then (reads_name f) (λ q e. reads_first open_paren _ (reads_then (reads_symbol syms.OpenParen) (λ o u. call_read p f ts c m le q e) refl)
+    refl) refl) refl) (avoids _ _ refl)) (avoids _ _ refl)) (avoids _ _ refl)
 
 call_claim : (p : ℕ) (f : List ℕ) (ts : Trees) → AllClaim ts → Claim (Call p f ts)
 call_claim p f ts c = primary_claim (Call p f ts) refl (omega arith) (avoids _ _ refl) (plain_first _ _ refl refl refl) (λ m le. call_stands p f ts c m (omega arith))
@@ -137,37 +170,79 @@ call_claim p f ts c = primary_claim (Call p f ts) refl (omega arith) (avoids _ _
 not_stands : (p : ℕ) (a : Tree) → Claim a → (m : ℕ) → lifted 0 (own a) (levels a) ≤ m → Stands 0 m (words (Op p prims.Not (a_tree a no_tree))) (Op 0 prims.Not (a_tree (unplaced a) no_tree))
 unfolding read_chain read_unary read_inverted operand_at
 not_stands p a c zero le = let h = lifted_some 0 (own a) (levels a) c.level in absurd (omega arith)
-not_stands p a c (suc m) le = reads_first (symbol_code syms.Tilde ∷ []) _ (reads_then (reads_symbol syms.Tilde) (λ q u. reads_give (λ x. Op q prims.Not (trees_of (x ∷ []))) unplaced (Op 0 prims.Not (a_tree (unplaced a) no_tree)) (part a c 0 m (omega arith) le) (λ x e. ap (λ (z : Tree). Op 0 prims.Not (a_tree z no_tree)) e)) refl) refl
+not_stands p a c (suc m) le = reads_first (symbol_code syms.Tilde ∷ []) _
+    (reads_then (reads_symbol syms.Tilde) (λ q u. reads_give (λ x. Op q prims.Not (trees_of (x ∷ []))) unplaced
+    (Op 0 prims.Not (a_tree (unplaced a) no_tree)) (part a c 0 m (omega arith) le) (λ x e. ap (λ (z : Tree). Op 0 prims.Not (a_tree z no_tree)) e)) refl) refl
 
 inner_read : (a : Tree) → Claim a → (m : ℕ) → lifted 8 (own a) (levels a) ≤ m → Reads (expr_at m) (enclosed (leb (own a) 8) (words a)) after_expr unplaced (unplaced a)
-inner_read a c m le = subst (λ (ks : List Word). Reads (expr_at m) ks after_expr unplaced (unplaced a)) (sym (bare_part a)) (whole a c m (subst (λ (b : Bool). cond b (levels a) (suc (levels a)) ≤ m) (le-leb (own a) 8 (own_small a)) le))
+inner_read a c m le = subst (λ (ks : List Word). Reads (expr_at m) ks after_expr unplaced (unplaced a)) (sym (bare_part a))
+    (whole a c m (subst (λ (b : Bool). cond b (levels a) (suc (levels a)) ≤ m) (le-leb (own a) 8 (own_small a)) le))
 
-cat_stands : (p : ℕ) (a b : Tree) → Claim a → Claim b → (m : ℕ) → lifted 8 (own a) (levels a) ≤ m → lifted 8 (own b) (levels b) ≤ m → Stands 0 m (words (Op p prims.Cat (a_tree a (a_tree b no_tree)))) (Op 0 prims.Cat (a_tree (unplaced a) (a_tree (unplaced b) no_tree)))
+cat_stands : (p : ℕ) (a b : Tree) → Claim a → Claim b → (m : ℕ) → lifted 8 (own a) (levels a) ≤ m → lifted 8 (own b) (levels b) ≤ m → Stands 0 m
+    (words (Op p prims.Cat (a_tree a (a_tree b no_tree)))) (Op 0 prims.Cat (a_tree (unplaced a) (a_tree (unplaced b) no_tree)))
 unfolding read_chain read_unary read_primary read_cat
 cat_stands p a b c d m le lf =
     let both = append_assoc (enclosed (leb (own a) 8) (words a)) (Printed.sym syms.Comma ∷ enclosed (leb (own b) 8) (words b)) (Printed.sym syms.CloseParen ∷ []) in
-    subst (λ (ks : List Word). Reads (chain_at 0 m) (Printed.key keys.Cat ∷ (Printed.sym syms.OpenParen ∷ ks)) (behind 0) unplaced (Op 0 prims.Cat (a_tree (unplaced a) (a_tree (unplaced b) no_tree)))) (sym both)
+    subst (λ (ks : List Word). Reads (chain_at 0 m) (Printed.key keys.Cat ∷ (Printed.sym syms.OpenParen ∷ ks)) (behind 0) unplaced
+    (Op 0 prims.Cat (a_tree (unplaced a) (a_tree (unplaced b) no_tree)))) (sym both)
     (reads_narrowed Every
-    (reads_second (symbol_code syms.Tilde ∷ []) _ (reads_second (2 ∷ []) _ (reads_second (3 ∷ []) _ (reads_second (1 ∷ []) _ (reads_second open_paren _ (reads_first (word_code keys.Cat ∷ []) _ (reads_then (reads_key keys.Cat) (λ q u. reads_then (reads_symbol syms.OpenParen) (λ o u. reads_then (inner_read a c m le) (λ x e. reads_then (reads_symbol syms.Comma) (λ k u. reads_then (inner_read b d m lf) (λ y i. reads_give (λ closed. Op q prims.Cat (trees_of (x ∷ y ∷ []))) unplaced (Op 0 prims.Cat (a_tree (unplaced a) (a_tree (unplaced b) no_tree))) (reads_symbol syms.CloseParen) (λ z u. ap (λ (z : Tree). Op 0 prims.Cat (a_tree z (a_tree (unplaced y) no_tree))) e ∙ ap (λ (z : Tree). Op 0 prims.Cat (a_tree (unplaced a) (a_tree z no_tree))) i)) refl) refl) refl) refl) refl) refl) (avoids _ _ refl)) (avoids _ _ refl)) (avoids _ _ refl)) (avoids _ _ refl)) (avoids _ _ refl)) refl)
+    (reads_second (symbol_code syms.Tilde ∷ []) _ (reads_second (2 ∷ []) _
+    (reads_second (3 ∷ []) _ (reads_second (1 ∷ []) _ (reads_second open_paren _
+    (reads_first (word_code keys.Cat ∷ []) _ (reads_then (reads_key keys.Cat)
+    (λ q u. reads_then (reads_symbol syms.OpenParen) (λ o u. reads_then (inner_read a c m le)
+    (λ x e. reads_then (reads_symbol syms.Comma) (λ k u. reads_then (inner_read b d m lf)
+    (λ y i. reads_give (λ closed. Op q prims.Cat (trees_of (x ∷ y ∷ []))) unplaced
+    (Op 0 prims.Cat (a_tree (unplaced a) (a_tree (unplaced b) no_tree))) (reads_symbol syms.CloseParen)
+    (λ z u. ap (λ (z : Tree). Op 0 prims.Cat (a_tree z (a_tree (unplaced y) no_tree))) e ∙ ap
+    (λ (z : Tree). Op 0 prims.Cat (a_tree (unplaced a) (a_tree z no_tree))) i)) refl) refl) refl) refl) refl) refl) (avoids _ _ refl))
+    (avoids _ _ refl)) (avoids _ _ refl)) (avoids _ _ refl)) (avoids _ _ refl)) refl)
 
-bits_stands : (p h l : ℕ) (a : Tree) → h < max_width → l < max_width → Claim a → (m : ℕ) → lifted 8 (own a) (levels a) ≤ m → Stands 0 m (words (Op p (prims.Bits h l) (a_tree a no_tree))) (Op 0 (prims.Bits h l) (a_tree (unplaced a) no_tree))
+bits_stands : (p h l : ℕ) (a : Tree) → h < max_width → l < max_width → Claim a → (m : ℕ) → lifted 8 (own a) (levels a) ≤ m → Stands 0 m
+    (words (Op p (prims.Bits h l) (a_tree a no_tree))) (Op 0 (prims.Bits h l) (a_tree (unplaced a) no_tree))
 unfolding read_chain read_unary read_primary read_bits
 bits_stands p h l a hh hl c m le =
     reads_narrowed Every
-    (reads_second (symbol_code syms.Tilde ∷ []) _ (reads_second (2 ∷ []) _ (reads_second (3 ∷ []) _ (reads_second (1 ∷ []) _ (reads_second open_paren _ (reads_second (word_code keys.Cat ∷ []) _ (reads_first (word_code keys.Bits ∷ []) _ (reads_then (reads_key keys.Bits) (λ q u. reads_then (reads_symbol syms.OpenParen) (λ o u. reads_then (inner_read a c m le) (λ x e. reads_then (reads_symbol syms.Comma) (λ k u. reads_then (reads_index h hh) (λ i ei. reads_then (reads_symbol syms.Comma) (λ k u. reads_then (reads_index l hl) (λ j ej. reads_give (λ closed. Op q (prims.Bits i.value j.value) (trees_of (x ∷ []))) unplaced (Op 0 (prims.Bits h l) (a_tree (unplaced a) no_tree)) (reads_symbol syms.CloseParen) (λ z u. ap (λ (z : Tree). Op 0 (prims.Bits i.value j.value) (a_tree z no_tree)) e ∙ ap (λ (z : ℕ). Op 0 (prims.Bits z j.value) (a_tree (unplaced a) no_tree)) ei ∙ ap (λ (z : ℕ). Op 0 (prims.Bits h z) (a_tree (unplaced a) no_tree)) ej)) refl) refl) refl) refl) refl) refl) refl) refl) (avoids _ _ refl)) (avoids _ _ refl)) (avoids _ _ refl)) (avoids _ _ refl)) (avoids _ _ refl)) (avoids _ _ refl)) refl
+    (reads_second (symbol_code syms.Tilde ∷ []) _ (reads_second (2 ∷ []) _
+    (reads_second (3 ∷ []) _ (reads_second (1 ∷ []) _ (reads_second open_paren _
+    (reads_second (word_code keys.Cat ∷ []) _ (reads_first (word_code keys.Bits ∷ []) _
+    (reads_then (reads_key keys.Bits) (λ q u. reads_then (reads_symbol syms.OpenParen)
+    (λ o u. reads_then (inner_read a c m le) (λ x e. reads_then (reads_symbol syms.Comma)
+    (λ k u. reads_then (reads_index h hh) (λ i ei. reads_then (reads_symbol syms.Comma)
+    (λ k u. reads_then (reads_index l hl) (λ j ej. reads_give (λ closed. Op q (prims.Bits i.value j.value) (trees_of (x ∷ []))) unplaced
+    (Op 0 (prims.Bits h l) (a_tree (unplaced a) no_tree)) (reads_symbol syms.CloseParen)
+    (λ z u. ap (λ (z : Tree). Op 0 (prims.Bits i.value j.value) (a_tree z no_tree)) e ∙ ap
+    (λ (z : ℕ). Op 0 (prims.Bits z j.value) (a_tree (unplaced a) no_tree)) ei ∙ ap
+    (λ (z : ℕ). Op 0 (prims.Bits h z) (a_tree (unplaced a) no_tree)) ej)) refl) refl) refl) refl) refl) refl) refl) refl) (avoids _ _ refl))
+    (avoids _ _ refl)) (avoids _ _ refl)) (avoids _ _ refl)) (avoids _ _ refl)) (avoids _ _ refl)) refl
 
-ext_stands : (p n : ℕ) (a : Tree) → is_width n ≡ true → Claim a → (m : ℕ) → lifted 8 (own a) (levels a) ≤ m → Stands 0 m (words (Op p (prims.Ext n) (a_tree a no_tree))) (Op 0 (prims.Ext n) (a_tree (unplaced a) no_tree))
+ext_stands : (p n : ℕ) (a : Tree) → is_width n ≡ true → Claim a → (m : ℕ) → lifted 8 (own a) (levels a) ≤ m → Stands 0 m
+    (words (Op p (prims.Ext n) (a_tree a no_tree))) (Op 0 (prims.Ext n) (a_tree (unplaced a) no_tree))
 unfolding read_chain read_unary read_primary read_ext
 ext_stands p n a hn c m le =
     reads_narrowed Every
-    (reads_second (symbol_code syms.Tilde ∷ []) _ (reads_second (2 ∷ []) _ (reads_second (3 ∷ []) _ (reads_second (1 ∷ []) _ (reads_second open_paren _ (reads_second (word_code keys.Cat ∷ []) _ (reads_second (word_code keys.Bits ∷ []) _ (reads_then (reads_key keys.Ext) (λ q u. reads_then (reads_symbol syms.OpenParen) (λ o u. reads_then (inner_read a c m le) (λ x e. reads_then (reads_symbol syms.Comma) (λ k u. reads_then (reads_width n hn) (λ i ei. reads_give (λ closed. Op q (prims.Ext i.value) (trees_of (x ∷ []))) unplaced (Op 0 (prims.Ext n) (a_tree (unplaced a) no_tree)) (reads_symbol syms.CloseParen) (λ z u. ap (λ (z : Tree). Op 0 (prims.Ext i.value) (a_tree z no_tree)) e ∙ ap (λ (z : ℕ). Op 0 (prims.Ext z) (a_tree (unplaced a) no_tree)) ei)) refl) refl) refl) refl) refl) (avoids _ _ refl)) (avoids _ _ refl)) (avoids _ _ refl)) (avoids _ _ refl)) (avoids _ _ refl)) (avoids _ _ refl)) (avoids _ _ refl)) refl
+    (reads_second (symbol_code syms.Tilde ∷ []) _ (reads_second (2 ∷ []) _
+    (reads_second (3 ∷ []) _ (reads_second (1 ∷ []) _ (reads_second open_paren _
+    (reads_second (word_code keys.Cat ∷ []) _ (reads_second (word_code keys.Bits ∷ []) _
+    (reads_then (reads_key keys.Ext) (λ q u. reads_then (reads_symbol syms.OpenParen)
+    (λ o u. reads_then (inner_read a c m le) (λ x e. reads_then (reads_symbol syms.Comma)
+    (λ k u. reads_then (reads_width n hn) (λ i ei. reads_give (λ closed. Op q (prims.Ext i.value) (trees_of (x ∷ []))) unplaced
+    (Op 0 (prims.Ext n) (a_tree (unplaced a) no_tree)) (reads_symbol syms.CloseParen)
+    (λ z u. ap (λ (z : Tree). Op 0 (prims.Ext i.value) (a_tree z no_tree)) e ∙ ap (λ (z : ℕ). Op 0 (prims.Ext z) (a_tree (unplaced a) no_tree))
+    ei)) refl) refl) refl) refl) refl) (avoids _ _ refl)) (avoids _ _ refl)) (avoids _ _ refl)) (avoids _ _ refl)) (avoids _ _ refl))
+    (avoids _ _ refl)) (avoids _ _ refl)) refl
 
 -- ---- if
 
-choice_read : (p : ℕ) (c a b : Tree) → Claim c → Claim a → Claim b → (m : ℕ) → levels c ≤ m → levels a ≤ m → levels b ≤ m → Reads (expr_at (suc m)) (words (If p c a b)) after_expr unplaced (If 0 (unplaced c) (unplaced a) (unplaced b))
+choice_read : (p : ℕ) (c a b : Tree) → Claim c → Claim a → Claim b → (m : ℕ) → levels c ≤ m → levels a ≤ m → levels b ≤ m → Reads (expr_at (suc m))
+    (words (If p c a b)) after_expr unplaced (If 0 (unplaced c) (unplaced a) (unplaced b))
 unfolding expr_at read_expr read_choice
 choice_read p c a b cc' ca cb m lc la lb =
-    reads_first (word_code keys.If ∷ []) _ (reads_then (reads_key keys.If) (λ q u. reads_then (whole c cc' m lc) (λ x e. reads_then (reads_key keys.Then) (λ k u. reads_then (whole a ca m la) (λ y i. reads_then (reads_key keys.Else) (λ k u. reads_give (λ z. If q x y z) unplaced (If 0 (unplaced c) (unplaced a) (unplaced b)) (whole b cb m lb) (λ z j. ap (λ (t : Tree). If 0 t (unplaced y) (unplaced z)) e ∙ ap (λ (t : Tree). If 0 (unplaced c) t (unplaced z)) i ∙ ap (If 0 (unplaced c) (unplaced a)) j)) refl) refl) refl) refl) refl) refl
+    reads_first (word_code keys.If ∷ []) _ (reads_then (reads_key keys.If)
+    (λ q u. reads_then (whole c cc' m lc) (λ x e. reads_then (reads_key keys.Then)
+    (λ k u. reads_then (whole a ca m la) (λ y i. reads_then (reads_key keys.Else)
+    (λ k u. reads_give (λ z. If q x y z) unplaced (If 0 (unplaced c) (unplaced a) (unplaced b)) (whole b cb m lb)
+    (λ z j. ap (λ (t : Tree). If 0 t (unplaced y) (unplaced z)) e ∙ ap (λ (t : Tree). If 0 (unplaced c) t (unplaced z)) i ∙ ap
+    (If 0 (unplaced c) (unplaced a)) j)) refl) refl) refl) refl) refl) refl
 
 -- ---- let
 
@@ -193,15 +268,21 @@ binds_back (a_bind p x w t bs) = ap (a_bind p x w t) (binds_back bs)
 written_read : (w : Option ℕ) → FitsWritten w → Reads read_written (written w) (Only (symbol_code syms.Assign ∷ [])) (λ (o : Option ℕ). o) w
 unfolding read_written
 written_read None h = reads_none (symbol_code syms.Colon ∷ []) _ (reads_nothing (Only (symbol_code syms.Assign ∷ [])) (λ (o : Option ℕ). o) None None refl) refl
-written_read (Some n) h = reads_narrowed Every (reads_first (symbol_code syms.Colon ∷ []) _ (reads_then (reads_symbol syms.Colon) (λ c u. reads_give (λ x. Some x.value) (λ (o : Option ℕ). o) (Some n) (reads_width n h) (λ x e. ap (λ (z : ℕ). Some z) e)) refl) refl) refl
+written_read (Some n) h = reads_narrowed Every (reads_first (symbol_code syms.Colon ∷ []) _
+    (reads_then (reads_symbol syms.Colon) (λ c u. reads_give (λ x. Some x.value) (λ (o : Option ℕ). o) (Some n) (reads_width n h)
+    (λ x e. ap (λ (z : ℕ). Some z) e)) refl) refl) refl
 
 abbrev bound_at : ℕ → List ℕ → Option ℕ → Tree → Bound
 bound_at p x w t = record { place = p; name = x; width = w; value = t }
 
-bind_read : (x : List ℕ) (w : Option ℕ) (t : Tree) → Claim t → FitsWritten w → (m : ℕ) → levels t ≤ m → Reads (read_bind (expr_at m)) (Printed.name x ∷ (written w ++ (Printed.sym syms.Assign ∷ words t))) after_expr unplaced_bound (record { place = 0; name = x; width = w; value = unplaced t })
+bind_read : (x : List ℕ) (w : Option ℕ) (t : Tree) → Claim t → FitsWritten w → (m : ℕ) → levels t ≤ m → Reads (read_bind (expr_at m))
+    (Printed.name x ∷ (written w ++ (Printed.sym syms.Assign ∷ words t))) after_expr unplaced_bound (record { place = 0; name = x; width = w; value = unplaced t })
 unfolding read_bind
 bind_read x w t c f m le =
-    reads_then (reads_name x) (λ y e. reads_then (written_read w f) (λ o i. reads_then (reads_symbol syms.Assign) (λ k u. reads_give (λ v. bound_at y.place y.name o v) unplaced_bound (bound_at 0 x w (unplaced t)) (whole t c m le) (λ v j. ap (λ (z : List ℕ). bound_at 0 z o (unplaced v)) e ∙ ap (λ (z : Option ℕ). bound_at 0 x z (unplaced v)) i ∙ ap (bound_at 0 x w) j)) refl) refl) refl
+    reads_then (reads_name x) (λ y e. reads_then (written_read w f)
+    (λ o i. reads_then (reads_symbol syms.Assign) (λ k u. reads_give (λ v. bound_at y.place y.name o v) unplaced_bound
+    (bound_at 0 x w (unplaced t)) (whole t c m le) (λ v j. ap (λ (z : List ℕ). bound_at 0 z o (unplaced v)) e ∙ ap
+    (λ (z : Option ℕ). bound_at 0 x z (unplaced v)) i ∙ ap (bound_at 0 x w) j)) refl) refl) refl
 
 all_bound : (bs : Binds) → AllBound bs → (m : ℕ) → most_bind bs ≤ m → AllRead (read_bind (expr_at m)) after_expr unplaced_bound (bind_words bs) (bounds_in (unplaced_binds bs))
 all_bound no_bind c m le = tt
@@ -209,19 +290,29 @@ all_bound (a_bind p x w t bs) c m le = (bind_read x w t c.0 c.1 m (omega arith),
 
 bind_small : (m : ℕ) → Small (read_bind (expr_at m))
 unfolding read_bind
-bind_small m = small_follows (small (eats_token name)) (λ x. small_follows (small_parses written_parses) (λ w. small_follows (small (eats_token (marked (symbol_code syms.Assign)))) (λ g. small_follows (expr_small m) (λ v. small_nothing (record { place = x.place; name = x.name; width = w; value = v })))))
+bind_small m = small_follows (small (eats_token name)) (λ x. small_follows (small_parses written_parses)
+    (λ w. small_follows (small (eats_token (marked (symbol_code syms.Assign))))
+    (λ g. small_follows (expr_small m) (λ v. small_nothing (record { place = x.place; name = x.name; width = w; value = v })))))
 
-binds_read : (bs : Binds) → HasBinding bs → AllBound bs → (m : ℕ) → most_bind bs ≤ m → Reads (read_binds (expr_at m)) (separated (Printed.sym syms.Comma) (bind_words bs)) (Only (word_code keys.In ∷ [])) (map unplaced_bound) (bounds_in (unplaced_binds bs))
+binds_read : (bs : Binds) → HasBinding bs → AllBound bs → (m : ℕ) → most_bind bs ≤ m → Reads (read_binds (expr_at m))
+    (separated (Printed.sym syms.Comma) (bind_words bs)) (Only (word_code keys.In ∷ [])) (map unplaced_bound) (bounds_in (unplaced_binds bs))
 unfolding read_binds read_another_bind
 binds_read no_bind h c m le = absurd h
 binds_read (a_bind p x w t bs) h c m le =
     let a = all_bound (a_bind p x w t bs) c m le in
-    list_reads (read_bind (expr_at m)) (bind_small m) after_list (Only (word_code keys.In ∷ [])) unplaced_bound refl refl refl (Printed.name x ∷ (written w ++ (Printed.sym syms.Assign ∷ words t))) (record { place = 0; name = x; width = w; value = unplaced t }) (bind_words bs) (bounds_in (unplaced_binds bs)) a.0 a.1
+    list_reads (read_bind (expr_at m)) (bind_small m) after_list (Only (word_code keys.In ∷ [])) unplaced_bound refl refl refl
+    (Printed.name x ∷ (written w ++ (Printed.sym syms.Assign ∷ words t))) (record { place = 0; name = x; width = w; value = unplaced t })
+    (bind_words bs) (bounds_in (unplaced_binds bs)) a.0 a.1
 
-binding_read : (p : ℕ) (bs : Binds) (t : Tree) → HasBinding bs → AllBound bs → Claim t → (m : ℕ) → most_bind bs ≤ m → levels t ≤ m → Reads (expr_at (suc m)) (words (Let p bs t)) after_expr unplaced (Let 0 (unplaced_binds bs) (unplaced t))
+binding_read : (p : ℕ) (bs : Binds) (t : Tree) → HasBinding bs → AllBound bs → Claim t → (m : ℕ) → most_bind bs ≤ m → levels t ≤ m → Reads
+    (expr_at (suc m)) (words (Let p bs t)) after_expr unplaced (Let 0 (unplaced_binds bs) (unplaced t))
 unfolding expr_at read_expr read_binding
 binding_read p bs t h cs c m lb le =
-    reads_second (word_code keys.If ∷ []) _ (reads_first (word_code keys.Let ∷ []) _ (reads_then (reads_key keys.Let) (λ q u. reads_then (binds_read bs h cs m lb) (λ xs e. reads_then (reads_key keys.In) (λ k u. reads_give (λ z. Let q (binds_of xs) z) unplaced (Let 0 (unplaced_binds bs) (unplaced t)) (whole t c m le) (λ z j. ap (λ (b : Binds). Let 0 b (unplaced z)) (unplaced_bounds xs ∙ ap binds_of e ∙ binds_back (unplaced_binds bs)) ∙ ap (Let 0 (unplaced_binds bs)) j)) refl) refl) refl) refl) (avoids _ _ refl)
+    reads_second (word_code keys.If ∷ []) _ (reads_first (word_code keys.Let ∷ []) _
+    (reads_then (reads_key keys.Let) (λ q u. reads_then (binds_read bs h cs m lb)
+    (λ xs e. reads_then (reads_key keys.In) (λ k u. reads_give (λ z. Let q (binds_of xs) z) unplaced (Let 0 (unplaced_binds bs) (unplaced t))
+    (whole t c m le) (λ z j. ap (λ (b : Binds). Let 0 b (unplaced z)) (unplaced_bounds xs ∙ ap binds_of e ∙ binds_back (unplaced_binds bs)) ∙ ap
+    (Let 0 (unplaced_binds bs)) j)) refl) refl) refl) refl) (avoids _ _ refl)
 
 -- ---- case
 
@@ -257,7 +348,8 @@ label_read (Op p o ts) h = absurd h
 label_read (Call p f ts) h = absurd h
 
 -- a labelled arm, or the default
-first_label : (l : Tree) (ks : List Word) → IsLabel l → (q : Reading Terminal ArmList) {p : Reading Terminal ArmList} {F : Set} {v : Arms} → Reads p (words l ++ ks) F arms_shown v → Reads (read_either (comes (2 ∷ 3 ∷ [])) p q) (words l ++ ks) F arms_shown v
+first_label : (l : Tree) (ks : List Word) → IsLabel l → (q : Reading Terminal ArmList) {p : Reading Terminal ArmList} {F : Set} {v : Arms} → Reads p
+    (words l ++ ks) F arms_shown v → Reads (read_either (comes (2 ∷ 3 ∷ [])) p q) (words l ++ ks) F arms_shown v
 first_label (Number p n) ks h q a = reads_first (2 ∷ 3 ∷ []) _ a refl
 first_label (Sized p w n) ks h q a = reads_first (2 ∷ 3 ∷ []) _ a refl
 first_label (Variable p x) ks h q a = absurd h
@@ -270,29 +362,47 @@ first_label (Call p f ts) ks h q a = absurd h
 abbrev after_arms : Set
 after_arms = Only (symbol_code syms.CloseBrace ∷ [])
 
-next_arm : (l t : Tree) (arms : Arms) (m : ℕ) (so_far : List Labelled) → ((more : List Labelled) → Reads (read_arms (arm_value_at m) (more_arms_at m) more) (arm_words arms) after_arms arms_shown (arms_after more (unplaced_arms arms))) → (y x : Tree) → unplaced y ≡ unplaced l → unplaced x ≡ unplaced t → Reads (more_arms_at (suc m) (so_far ++ record { label = y; value = x } ∷ [])) (arm_words arms) after_arms arms_shown (arms_after so_far (an_arm (unplaced l) (unplaced t) (unplaced_arms arms)))
+next_arm : (l t : Tree) (arms : Arms) (m : ℕ) (so_far : List Labelled) →
+    ((more : List Labelled) → Reads (read_arms (arm_value_at m) (more_arms_at m) more) (arm_words arms) after_arms arms_shown
+    (arms_after more (unplaced_arms arms))) → (y x : Tree) → unplaced y ≡ unplaced l → unplaced x ≡ unplaced t → Reads
+    (more_arms_at (suc m) (so_far ++ record { label = y; value = x } ∷ [])) (arm_words arms) after_arms arms_shown
+    (arms_after so_far (an_arm (unplaced l) (unplaced t) (unplaced_arms arms)))
 unfolding more_arms_at
 next_arm l t arms m so_far rest y x i e =
-    let shown = arms_more so_far y x (unplaced_arms arms) ∙ ap (λ (z : Tree). arms_after so_far (an_arm z (unplaced x) (unplaced_arms arms))) i ∙ ap (λ (z : Tree). arms_after so_far (an_arm (unplaced l) z (unplaced_arms arms))) e in
-    subst (λ (v : Arms). Reads (more_arms_at (suc m) (so_far ++ record { label = y; value = x } ∷ [])) (arm_words arms) after_arms arms_shown v) shown (rest (so_far ++ record { label = y; value = x } ∷ []))
+    let shown = arms_more so_far y x (unplaced_arms arms) ∙ ap (λ (z : Tree). arms_after so_far (an_arm z (unplaced x) (unplaced_arms arms))) i ∙ ap
+    (λ (z : Tree). arms_after so_far (an_arm (unplaced l) z (unplaced_arms arms))) e in
+    subst (λ (v : Arms). Reads (more_arms_at (suc m) (so_far ++ record { label = y; value = x } ∷ [])) (arm_words arms) after_arms arms_shown v) shown
+    (rest (so_far ++ record { label = y; value = x } ∷ []))
 
-arms_read : (arms : Arms) → AllArms arms → (m : ℕ) → most_arm arms ≤ m → (so_far : List Labelled) → Reads (read_arms (arm_value_at m) (more_arms_at m) so_far) (arm_words arms) after_arms arms_shown (arms_after so_far (unplaced_arms arms))
+arms_read : (arms : Arms) → AllArms arms → (m : ℕ) → most_arm arms ≤ m → (so_far : List Labelled) → Reads
+    (read_arms (arm_value_at m) (more_arms_at m) so_far) (arm_words arms) after_arms arms_shown (arms_after so_far (unplaced_arms arms))
 unfolding read_arms read_arm read_last_arm arm_value_at
 arms_read (default_arm t) c zero le so_far = absurd (omega arith)
 arms_read (default_arm t) c (suc m) le so_far =
     reads_narrowed after_expr
-    (reads_second (2 ∷ 3 ∷ []) _ (reads_then (reads_key keys.Default) (λ k u. reads_then (reads_symbol syms.Arrow) (λ g u. reads_give (λ x. record { labelled = so_far; default = x }) arms_shown (arms_after so_far (default_arm (unplaced t))) (whole t c m (omega arith)) (λ x e. arms_end so_far x ∙ ap (λ (z : Tree). arms_after so_far (default_arm z)) e)) refl) refl) (avoids _ _ refl)) refl
+    (reads_second (2 ∷ 3 ∷ []) _ (reads_then (reads_key keys.Default)
+    (λ k u. reads_then (reads_symbol syms.Arrow) (λ g u. reads_give (λ x. record { labelled = so_far; default = x }) arms_shown
+    (arms_after so_far (default_arm (unplaced t))) (whole t c m (omega arith))
+    (λ x e. arms_end so_far x ∙ ap (λ (z : Tree). arms_after so_far (default_arm z)) e)) refl) refl) (avoids _ _ refl)) refl
 arms_read (an_arm l t arms) c zero le so_far = absurd (omega arith)
 arms_read (an_arm l t arms) c (suc m) le so_far =
     let rest = λ (more : List Labelled). arms_read arms c.2 m (omega arith) more in
     first_label l (Printed.sym syms.Arrow ∷ (words t ++ (Printed.sym syms.Comma ∷ arm_words arms))) c.0 _
-    (reads_then (label_read l c.0) (λ y i. reads_then (reads_symbol syms.Arrow) (λ g u. reads_then (whole t c.1 m (omega arith)) (λ x e. reads_then (reads_symbol syms.Comma) (λ k u. next_arm l t arms m so_far rest y x i e) refl) refl) refl) refl)
+    (reads_then (label_read l c.0) (λ y i. reads_then (reads_symbol syms.Arrow)
+    (λ g u. reads_then (whole t c.1 m (omega arith)) (λ x e. reads_then (reads_symbol syms.Comma) (λ k u. next_arm l t arms m so_far rest y x i e)
+    refl) refl) refl) refl)
 
-cases_read : (p : ℕ) (e : Tree) (arms : Arms) → Claim e → AllArms arms → (m : ℕ) → levels e ≤ m → most_arm arms ≤ m → Reads (expr_at (suc m)) (words (Cases p e arms)) after_expr unplaced (Cases 0 (unplaced e) (unplaced_arms arms))
+cases_read : (p : ℕ) (e : Tree) (arms : Arms) → Claim e → AllArms arms → (m : ℕ) → levels e ≤ m → most_arm arms ≤ m → Reads (expr_at (suc m))
+    (words (Cases p e arms)) after_expr unplaced (Cases 0 (unplaced e) (unplaced_arms arms))
 unfolding expr_at read_expr read_cases
 cases_read p e arms c cs m le la =
     reads_narrowed Every
-    (reads_second (word_code keys.If ∷ []) _ (reads_second (word_code keys.Let ∷ []) _ (reads_first (word_code keys.Case ∷ []) _ (reads_then (reads_key keys.Case) (λ q u. reads_then (whole e c m le) (λ x i. reads_then (reads_symbol syms.OpenBrace) (λ o u. reads_then (arms_read arms cs m la []) (λ r j. reads_give (λ closed. Cases q x (arms_of r.labelled r.default)) unplaced (Cases 0 (unplaced e) (unplaced_arms arms)) (reads_symbol syms.CloseBrace) (λ z u. ap (λ (t : Tree). Cases 0 t (arms_shown r)) i ∙ ap (Cases 0 (unplaced e)) j)) refl) refl) refl) refl) refl) (avoids _ _ refl)) (avoids _ _ refl)) refl
+    (reads_second (word_code keys.If ∷ []) _ (reads_second (word_code keys.Let ∷ []) _
+    (reads_first (word_code keys.Case ∷ []) _ (reads_then (reads_key keys.Case)
+    (λ q u. reads_then (whole e c m le) (λ x i. reads_then (reads_symbol syms.OpenBrace)
+    (λ o u. reads_then (arms_read arms cs m la []) (λ r j. reads_give (λ closed. Cases q x (arms_of r.labelled r.default)) unplaced
+    (Cases 0 (unplaced e) (unplaced_arms arms)) (reads_symbol syms.CloseBrace)
+    (λ z u. ap (λ (t : Tree). Cases 0 t (arms_shown r)) i ∙ ap (Cases 0 (unplaced e)) j)) refl) refl) refl) refl) refl) (avoids _ _ refl)) (avoids _ _ refl)) refl
 
 -- ---- all expressions
 
@@ -313,23 +423,27 @@ binary_claim p o (a_tree a (a_tree b (a_tree d ts))) s n l c = absurd (omega (ar
 
 not_claim : (p : ℕ) (ts : Trees) → count ts ≡ 1 → AllClaim ts → Claim (Op p prims.Not ts)
 not_claim p no_tree n c = absurd (omega (arith, n))
-not_claim p (a_tree a no_tree) n c = primary_claim (Op p prims.Not (a_tree a no_tree)) refl (omega arith) (avoids _ _ refl) (plain_first _ _ refl refl refl) (λ m le. not_stands p a c.0 m (omega arith))
+not_claim p (a_tree a no_tree) n c = primary_claim (Op p prims.Not (a_tree a no_tree)) refl (omega arith) (avoids _ _ refl)
+    (plain_first _ _ refl refl refl) (λ m le. not_stands p a c.0 m (omega arith))
 not_claim p (a_tree a (a_tree b ts)) n c = absurd (omega (arith, n))
 
 cat_claim : (p : ℕ) (ts : Trees) → count ts ≡ 2 → AllClaim ts → Claim (Op p prims.Cat ts)
 cat_claim p no_tree n c = absurd (omega (arith, n))
 cat_claim p (a_tree a no_tree) n c = absurd (omega (arith, n))
-cat_claim p (a_tree a (a_tree b no_tree)) n c = primary_claim (Op p prims.Cat (a_tree a (a_tree b no_tree))) refl (omega arith) (avoids _ _ refl) (plain_first _ _ refl refl refl) (λ m le. cat_stands p a b c.0 c.1.0 m (omega arith) (omega arith))
+cat_claim p (a_tree a (a_tree b no_tree)) n c = primary_claim (Op p prims.Cat (a_tree a (a_tree b no_tree))) refl (omega arith) (avoids _ _ refl)
+    (plain_first _ _ refl refl refl) (λ m le. cat_stands p a b c.0 c.1.0 m (omega arith) (omega arith))
 cat_claim p (a_tree a (a_tree b (a_tree d ts))) n c = absurd (omega (arith, n))
 
 bits_claim : (p h l : ℕ) (ts : Trees) → count ts ≡ 1 → h < max_width → l < max_width → AllClaim ts → Claim (Op p (prims.Bits h l) ts)
 bits_claim p h l no_tree n hh hl c = absurd (omega (arith, n))
-bits_claim p h l (a_tree a no_tree) n hh hl c = primary_claim (Op p (prims.Bits h l) (a_tree a no_tree)) refl (omega arith) (avoids _ _ refl) (plain_first _ _ refl refl refl) (λ m le. bits_stands p h l a hh hl c.0 m (omega arith))
+bits_claim p h l (a_tree a no_tree) n hh hl c = primary_claim (Op p (prims.Bits h l) (a_tree a no_tree)) refl (omega arith) (avoids _ _ refl)
+    (plain_first _ _ refl refl refl) (λ m le. bits_stands p h l a hh hl c.0 m (omega arith))
 bits_claim p h l (a_tree a (a_tree b ts)) n hh hl c = absurd (omega (arith, n))
 
 ext_claim : (p x : ℕ) (ts : Trees) → count ts ≡ 1 → is_width x ≡ true → AllClaim ts → Claim (Op p (prims.Ext x) ts)
 ext_claim p x no_tree n h c = absurd (omega (arith, n))
-ext_claim p x (a_tree a no_tree) n h c = primary_claim (Op p (prims.Ext x) (a_tree a no_tree)) refl (omega arith) (avoids _ _ refl) (plain_first _ _ refl refl refl) (λ m le. ext_stands p x a h c.0 m (omega arith))
+ext_claim p x (a_tree a no_tree) n h c = primary_claim (Op p (prims.Ext x) (a_tree a no_tree)) refl (omega arith) (avoids _ _ refl)
+    (plain_first _ _ refl refl refl) (λ m le. ext_stands p x a h c.0 m (omega arith))
 ext_claim p x (a_tree a (a_tree b ts)) n h c = absurd (omega (arith, n))
 
 applied_claim : (p : ℕ) (o : Primitive) (ts : Trees) → count ts ≡ operands o → InRange o → OfBinary (is_binary o) (LeftShallow ts) → AllClaim ts → Claim (Op p o ts)

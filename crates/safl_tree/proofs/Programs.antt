@@ -14,13 +14,15 @@ use Rattle.safl_tree.specs.Tree.{Tree, Parameter, Definition}
 use Rattle.safl_tree.specs.Terminals.{Terminal, code, word_code, symbol_code}
 use Rattle.safl_tree.specs.Grammar
 use Rattle.safl_tree.specs.Grammar.{source}
-use Rattle.safl_tree.specs.Reader.{expr_at, read_param, read_another_param, read_params, read_one, read_another_one, read_group, read_ended, read_another_group, read_program, read_source, close_paren, comma}
+use Rattle.safl_tree.specs.Reader.{expr_at, read_param, read_another_param, read_params, read_one, read_another_one, read_group, read_ended}
+use Rattle.safl_tree.specs.Reader.{read_another_group, read_program, read_source, close_paren, comma}
 use Rattle.safl_tree.proofs.Leaves.{a_word, a_symbol, a_name, a_width, starts, after_expr}
 use Rattle.safl_tree.proofs.KeptLevels.{both_levels}
 
 param_parses : Parses code read_param Grammar.param Grammar.param false (Only (1 ∷ [])) (Only []) (Only (comma ++ close_paren))
 unfolding read_param
-param_parses = then a_name (λ x. then (a_symbol syms.Colon) (λ colon. then a_width (λ n. parses_nothing code (record { place = x.place; name = x.name; width = n.value }) (Only (comma ++ close_paren))) refl refl) refl refl) refl refl
+param_parses = then a_name (λ x. then (a_symbol syms.Colon) (λ colon. then a_width
+    (λ n. parses_nothing code (record { place = x.place; name = x.name; width = n.value }) (Only (comma ++ close_paren))) refl refl) refl refl) refl refl
 
 pub another_param_parses : (ps : List Parameter) → Parses code (read_another_param ps) (Grammar.another_param ps) (Grammar.another_param ps) false (Only comma) (Only []) (Only (comma ++ close_paren))
 unfolding read_another_param
@@ -28,7 +30,8 @@ another_param_parses ps = then (a_symbol syms.Comma) (λ sep. then param_parses 
 
 params_parses : Parses code read_params Grammar.params Grammar.params true (Only (1 ∷ [])) (Only []) (Only close_paren)
 unfolding read_params
-params_parses = or_else (Only (1 ∷ [])) (then param_parses (λ p. repeated (Only comma) (Only close_paren) another_param_parses refl refl refl refl refl refl refl refl refl (p ∷ [])) refl refl) (parses_nothing code [] (Only close_paren)) refl refl refl refl
+params_parses = or_else (Only (1 ∷ [])) (then param_parses (λ p. repeated (Only comma) (Only close_paren) another_param_parses refl refl refl refl
+    refl refl refl refl refl (p ∷ [])) refl refl) (parses_nothing code [] (Only close_paren)) refl refl refl refl
 
 -- ---- groups
 
@@ -49,17 +52,27 @@ ended_parses ds = or_else (Only semicolon) (then (a_symbol syms.Semicolon) (λ s
 module _ (pe : Reading Terminal Tree) (se ce : Syntax Terminal Tree) (e : Parses code pe se ce false starts Every after_expr) where
   one_parses : (joins : Bool) → Parses code (read_one joins pe) (Grammar.one joins se) (Grammar.one joins ce) false (Only (1 ∷ [])) (Only []) (Only after_one)
   unfolding read_one
-  one_parses joins = then a_name (λ x. then (a_symbol syms.OpenParen) (λ opened. then params_parses (λ ps. then (a_symbol syms.CloseParen) (λ closed. then (a_symbol syms.Colon) (λ colon. then a_width (λ n. then (a_symbol syms.Assign) (λ gives. then e (λ b. parses_nothing code (record { joined = joins; place = x.place; name = x.name; params = ps; width = n.value; body = b }) (Only after_one)) refl refl) refl refl) refl refl) refl refl) refl refl) refl refl) refl refl) refl refl
+  one_parses joins = then a_name (λ x. then (a_symbol syms.OpenParen)
+      (λ opened. then params_parses (λ ps. then (a_symbol syms.CloseParen)
+      (λ closed. then (a_symbol syms.Colon) (λ colon. then a_width
+      (λ n. then (a_symbol syms.Assign) (λ gives. then e (λ b. parses_nothing code
+      (record { joined = joins; place = x.place; name = x.name; params = ps; width = n.value; body = b }) (Only after_one)) refl refl) refl refl) refl
+      refl) refl refl) refl refl) refl refl) refl refl) refl refl
 
-  pub another_one_parses : (ds : List Definition) → Parses code (read_another_one pe ds) (Grammar.another_one se ds) (Grammar.another_one ce ds) false (Only (word_code keys.And ∷ [])) (Only []) (Only after_one)
+  pub another_one_parses : (ds : List Definition) → Parses code (read_another_one pe ds) (Grammar.another_one se ds) (Grammar.another_one ce ds) false
+      (Only (word_code keys.And ∷ [])) (Only []) (Only after_one)
   unfolding read_another_one
   another_one_parses ds = then (a_word keys.And) (λ k. then (one_parses true) (λ d. parses_nothing code (ds ++ d ∷ []) (Only after_one)) refl refl) refl refl
 
-  group_parses : (ds : List Definition) → Parses code (read_group pe ds) (Grammar.group se ds) (Grammar.group ce ds) false (Only (word_code keys.Fun ∷ [])) (Only []) (Only (symbol_code syms.Semicolon ∷ after_group))
+  group_parses : (ds : List Definition) → Parses code (read_group pe ds) (Grammar.group se ds) (Grammar.group ce ds) false
+      (Only (word_code keys.Fun ∷ [])) (Only []) (Only (symbol_code syms.Semicolon ∷ after_group))
   unfolding read_group
-  group_parses ds = then (a_word keys.Fun) (λ f. then (one_parses false) (λ d. repeated (Only (word_code keys.And ∷ [])) (Only (symbol_code syms.Semicolon ∷ after_group)) another_one_parses refl refl refl refl refl refl refl refl refl (ds ++ d ∷ [])) refl refl) refl refl
+  group_parses ds = then (a_word keys.Fun) (λ f. then (one_parses false)
+      (λ d. repeated (Only (word_code keys.And ∷ [])) (Only (symbol_code syms.Semicolon ∷ after_group)) another_one_parses refl refl refl refl refl
+      refl refl refl refl (ds ++ d ∷ [])) refl refl) refl refl
 
-  pub another_group_parses : (ds : List Definition) → Parses code (read_another_group pe ds) (Grammar.another_group se ds) (Grammar.another_group ce ds) false (Only (word_code keys.Fun ∷ [])) (Only []) (Only after_group)
+  pub another_group_parses : (ds : List Definition) → Parses code (read_another_group pe ds) (Grammar.another_group se ds)
+      (Grammar.another_group ce ds) false (Only (word_code keys.Fun ∷ [])) (Only []) (Only after_group)
   unfolding read_another_group
   another_group_parses ds = then (group_parses ds) ended_parses refl refl
 

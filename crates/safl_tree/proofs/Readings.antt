@@ -63,7 +63,14 @@ cut (t ∷ w) (x ∷ xs) ys e =
     let r : words_in w ≡ xs ++ ys = cc in
     let k : word_of t ≡ x = cc in
     let c = cut w xs ys r in
-    record { front = t ∷ c.front; back = c.back; is = ap (λ (l : List Terminal). t ∷ l) c.is; first = ap (λ (h : Word). h ∷ words_in c.front) k ∙ ap (λ (l : List Word). x ∷ l) c.first; second = c.second }
+    record {
+      front = t ∷ c.front;
+      back = c.back;
+      is = ap (λ (l : List Terminal). t ∷ l) c.is;
+      first = ap (λ (h : Word). h ∷ words_in c.front) k ∙ ap
+          (λ (l : List Word). x ∷ l) c.first;
+      second = c.second;
+    }
 
 pub nil_of : (w : List Terminal) → words_in w ≡ [] → w ≡ []
 nil_of [] e = refl
@@ -73,7 +80,8 @@ pub kind_is : (F : Set) (t : Terminal) (k : Word) (b : Bool) → word_of t ≡ k
 kind_is F t k b e h = ap (λ (x : Word). within F (code_of x.kind)) e ∙ h
 
 -- what follows words that are followed by others
-pub next_within : (F : Set) (js : List Word) (G : Set) (v r : List Terminal) → fits_next F js G ≡ true → words_in v ≡ js → within G (code (head_of r)) ≡ true → within F (code (head_of (v ++ r))) ≡ true
+pub next_within : (F : Set) (js : List Word) (G : Set) (v r : List Terminal) → fits_next F js G ≡ true → words_in v ≡ js → within G (code (head_of r))
+    ≡ true → within F (code (head_of (v ++ r))) ≡ true
 next_within Every js G v r n e h = refl
 next_within (Only xs) [] G v r n e h = subst (λ (l : List Terminal). within (Only xs) (code (head_of (l ++ r))) ≡ true) (sym (nil_of v e)) (subset_within G (Only xs) (code (head_of r)) n h)
 next_within (Only xs) (j ∷ js) G v r n e h =
@@ -88,7 +96,8 @@ reads_nothing F g x v e = record { reads = λ w r k h. (x, e, ap (λ (l : List T
 taken_some : {A : Type 0} (o : Option A) (x : A) (rest all : List Terminal) → o ≡ Some x → taken o rest all ≡ Ok (x, rest)
 taken_some o x rest all e = ap (λ (y : Option _). taken y rest all) e
 
-pub reads_token : {A B : Type 0} (F : Set) (class : Terminal → Option A) (k : Word) (g : A → B) (v : B) → ((t : Terminal) → word_of t ≡ k → (x : A) × (g x ≡ v) × (class t ≡ Some x)) → Reads (read_token class) (k ∷ []) F g v
+pub reads_token : {A B : Type 0} (F : Set) (class : Terminal → Option A) (k : Word) (g : A → B) (v : B) →
+    ((t : Terminal) → word_of t ≡ k → (x : A) × (g x ≡ v) × (class t ≡ Some x)) → Reads (read_token class) (k ∷ []) F g v
 reads_token F class k g v look = record {
   reads = λ w r e h.
       let f = first_of w k [] e in
@@ -96,7 +105,8 @@ reads_token F class k g v look = record {
       (x.0, x.1, ap (λ (l : List Terminal). read_token class (l ++ r)) (f.is ∙ ap (λ (l : List Terminal). f.token ∷ l) (nil_of f.back f.rest)) ∙ taken_some (class f.token) x.0 r (f.token ∷ r) x.2);
 }
 
-pub reads_limited : {A B : Type 0} (F : Set) (rule : Rule) (fits : A → Bool) (class : Terminal → Option A) (k : Word) (g : A → B) (v : B) → ((t : Terminal) → word_of t ≡ k → (x : A) × (g x ≡ v) × (class t ≡ Some x) × (fits x ≡ true)) → Reads (read_limited rule fits class) (k ∷ []) F g v
+pub reads_limited : {A B : Type 0} (F : Set) (rule : Rule) (fits : A → Bool) (class : Terminal → Option A) (k : Word) (g : A → B) (v : B) →
+    ((t : Terminal) → word_of t ≡ k → (x : A) × (g x ≡ v) × (class t ≡ Some x) × (fits x ≡ true)) → Reads (read_limited rule fits class) (k ∷ []) F g v
 reads_limited F rule fits class k g v look = record {
   reads = λ w r e h.
       let f = first_of w k [] e in
@@ -109,7 +119,8 @@ reads_limited F rule fits class k g v look = record {
       );
 }
 
-pub reads_then : {A B C D : Type 0} {p : Reading Terminal A} {q : A → Reading Terminal C} {ks js : List Word} {F G : Set} {g : A → B} {v : B} {h : C → D} {y : D} → Reads p ks F g v → ((x : A) → g x ≡ v → Reads (q x) js G h y) → fits_next F js G ≡ true → Reads (read_follows p q) (ks ++ js) G h y
+pub reads_then : {A B C D : Type 0} {p : Reading Terminal A} {q : A → Reading Terminal C} {ks js : List Word} {F G : Set} {g : A → B} {v : B}
+    {h : C → D} {y : D} → Reads p ks F g v → ((x : A) → g x ≡ v → Reads (q x) js G h y) → fits_next F js G ≡ true → Reads (read_follows p q) (ks ++ js) G h y
 reads_then {p = p} {q = q} {ks = ks} {js = js} {F = F} {G = G} a b n = record {
   reads = λ w r e h.
       let c = cut w ks js e in
@@ -119,32 +130,47 @@ reads_then {p = p} {q = q} {ks = ks} {js = js} {F = F} {G = G} a b n = record {
 }
 
 -- the test holds of the first word
-pub reads_first : {A B : Type 0} (codes : List ℕ) (q : Reading Terminal A) {p : Reading Terminal A} {k : Word} {ks : List Word} {F : Set} {g : A → B} {v : B} → Reads p (k ∷ ks) F g v → within (Only codes) (code_of k.kind) ≡ true → Reads (read_either (comes codes) p q) (k ∷ ks) F g v
+pub reads_first : {A B : Type 0} (codes : List ℕ) (q : Reading Terminal A) {p : Reading Terminal A} {k : Word} {ks : List Word} {F : Set} {g : A → B}
+    {v : B} → Reads p (k ∷ ks) F g v → within (Only codes) (code_of k.kind) ≡ true → Reads (read_either (comes codes) p q) (k ∷ ks) F g v
 reads_first codes q {p = p} {k = k} {ks = ks} a n = record {
   reads = λ w r e h.
       let f = first_of w k ks e in
-      let x = a.reads w r e h in
-      (x.0, x.1, ap (λ (l : List Terminal). cond (comes codes (head_of (l ++ r))) (p (w ++ r)) (q (w ++ r))) f.is ∙ ap (λ (b : Bool). cond b (p (w ++ r)) (q (w ++ r))) (kind_is (Only codes) f.token k true f.word n) ∙ x.2);
+      let x = a.reads w r e h in (
+        x.0,
+        x.1,
+        ap (λ (l : List Terminal). cond (comes codes (head_of (l ++ r))) (p (w ++ r)) (q (w ++ r))) f.is ∙ ap
+            (λ (b : Bool). cond b (p (w ++ r)) (q (w ++ r))) (kind_is (Only codes) f.token k true f.word n) ∙ x.2,
+      );
 }
 
 -- it doesn't: the first word is none of these
 pub data Avoids (codes : List ℕ) : List Word → Type 0 where
   avoids : (k : Word) (ks : List Word) → within (Only codes) (code_of k.kind) ≡ false → Avoids codes (k ∷ ks)
 
-pub reads_second : {A B : Type 0} (codes : List ℕ) (p : Reading Terminal A) {q : Reading Terminal A} {ks : List Word} {F : Set} {g : A → B} {v : B} → Reads q ks F g v → Avoids codes ks → Reads (read_either (comes codes) p q) ks F g v
+pub reads_second : {A B : Type 0} (codes : List ℕ) (p : Reading Terminal A) {q : Reading Terminal A} {ks : List Word} {F : Set} {g : A → B} {v : B} →
+    Reads q ks F g v → Avoids codes ks → Reads (read_either (comes codes) p q) ks F g v
 reads_second codes p {q = q} a (avoids k ks n) = record {
   reads = λ w r e h.
       let f = first_of w k ks e in
-      let x = a.reads w r e h in
-      (x.0, x.1, ap (λ (l : List Terminal). cond (comes codes (head_of (l ++ r))) (p (w ++ r)) (q (w ++ r))) f.is ∙ ap (λ (b : Bool). cond b (p (w ++ r)) (q (w ++ r))) (kind_is (Only codes) f.token k false f.word n) ∙ x.2);
+      let x = a.reads w r e h in (
+        x.0,
+        x.1,
+        ap (λ (l : List Terminal). cond (comes codes (head_of (l ++ r))) (p (w ++ r)) (q (w ++ r))) f.is ∙ ap
+            (λ (b : Bool). cond b (p (w ++ r)) (q (w ++ r))) (kind_is (Only codes) f.token k false f.word n) ∙ x.2,
+      );
 }
 
 -- there is no word, and none of these follows
-pub reads_none : {A B : Type 0} (codes : List ℕ) (p : Reading Terminal A) {q : Reading Terminal A} {F : Set} {g : A → B} {v : B} → Reads q [] F g v → apart F (Only codes) ≡ true → Reads (read_either (comes codes) p q) [] F g v
+pub reads_none : {A B : Type 0} (codes : List ℕ) (p : Reading Terminal A) {q : Reading Terminal A} {F : Set} {g : A → B} {v : B} → Reads q [] F g v →
+    apart F (Only codes) ≡ true → Reads (read_either (comes codes) p q) [] F g v
 reads_none codes p {q = q} {F = F} a n = record {
   reads = λ w r e h.
-      let x = a.reads w r e h in
-      (x.0, x.1, ap (λ (l : List Terminal). cond (comes codes (head_of (l ++ r))) (p (w ++ r)) (q (w ++ r))) (nil_of w e) ∙ ap (λ (b : Bool). cond b (p (w ++ r)) (q (w ++ r))) (apart_within F (Only codes) (code (head_of r)) n h) ∙ x.2);
+      let x = a.reads w r e h in (
+        x.0,
+        x.1,
+        ap (λ (l : List Terminal). cond (comes codes (head_of (l ++ r))) (p (w ++ r)) (q (w ++ r))) (nil_of w e) ∙ ap
+            (λ (b : Bool). cond b (p (w ++ r)) (q (w ++ r))) (apart_within F (Only codes) (code (head_of r)) n h) ∙ x.2,
+      );
 }
 
 pub reads_narrowed : {A B : Type 0} {p : Reading Terminal A} {ks : List Word} (F : Set) {G : Set} {g : A → B} {v : B} → Reads p ks F g v → subset G F ≡ true → Reads p ks G g v
@@ -176,7 +202,8 @@ separated_commas x [] = sym (append-nil x)
 separated_commas x (y ∷ xs) = ap (λ (l : List Word). x ++ (Printed.sym syms.Comma ∷ l)) (separated_commas y xs)
 
 -- a value made of what was read
-pub reads_give : {A B C D : Type 0} {p : Reading Terminal A} {ks : List Word} {F : Set} {g : A → B} {v : B} (f : A → C) (h : C → D) (y : D) → Reads p ks F g v → ((x : A) → g x ≡ v → h (f x) ≡ y) → Reads (read_follows p (λ x. read_nothing (f x))) ks F h y
+pub reads_give : {A B C D : Type 0} {p : Reading Terminal A} {ks : List Word} {F : Set} {g : A → B} {v : B} (f : A → C) (h : C → D) (y : D) → Reads p
+    ks F g v → ((x : A) → g x ≡ v → h (f x) ≡ y) → Reads (read_follows p (λ x. read_nothing (f x))) ks F h y
 reads_give f h y a same = record {
   reads = λ w r e k.
       let x = a.reads w r e k in
@@ -212,10 +239,21 @@ abbrev pub number_value : NumberAt → ℕ
 number_value n = n.value
 
 pub reads_name : (x : List ℕ) → Reads (read_token name) (Printed.name x ∷ []) Every name_text x
-reads_name x = reads_token Every name (Printed.name x) name_text x (λ t e. (record { place = t.place; name = t.bytes }, ap (λ (k : Word). k.text) e, classed_some (Only (1 ∷ [])) (λ t. record { place = t.place; name = t.bytes }) t (Printed.name x) e refl))
+reads_name x = reads_token Every name (Printed.name x) name_text x
+    (λ t e. (
+      record { place = t.place; name = t.bytes },
+      ap (λ (k : Word). k.text) e,
+      classed_some (Only (1 ∷ []))
+          (λ t. record { place = t.place; name = t.bytes }) t (Printed.name x) e refl,
+    ))
 
 number_is : (n : ℕ) (t : Terminal) → word_of t ≡ Printed.number n → (y : NumberAt) × (y.value ≡ n) × (number t ≡ Some y)
-number_is n t e = (record { place = t.place; value = number_in t.kind }, ap (λ (k : Word). number_in k.kind) e, classed_some (Only (2 ∷ [])) (λ t. record { place = t.place; value = number_in t.kind }) t (Printed.number n) e refl)
+number_is n t e = (
+  record { place = t.place; value = number_in t.kind },
+  ap (λ (k : Word). number_in k.kind) e,
+  classed_some (Only (2 ∷ []))
+      (λ t. record { place = t.place; value = number_in t.kind }) t (Printed.number n) e refl,
+)
 
 pub reads_number : (n : ℕ) → Reads (read_token number) (Printed.number n ∷ []) Every number_value n
 reads_number n = reads_token Every number (Printed.number n) number_value n (number_is n)
@@ -224,7 +262,8 @@ pub reads_width : (n : ℕ) → is_width n ≡ true → Reads read_width (Printe
 reads_width n h = reads_limited Every Range fits_width number (Printed.number n) number_value n (λ t e. let y = number_is n t e in (y.0, y.1, y.2, ap is_width y.1 ∙ h))
 
 pub reads_index : (n : ℕ) → n < max_width → Reads read_index (Printed.number n ∷ []) Every number_value n
-reads_index n h = reads_limited Every Range fits_index number (Printed.number n) number_value n (λ t e. let y = number_is n t e in (y.0, y.1, y.2, ap (λ (x : ℕ). nat_lt x max_width) y.1 ∙ lt-ltb n max_width h))
+reads_index n h = reads_limited Every Range fits_index number (Printed.number n) number_value n
+    (λ t e. let y = number_is n t e in (y.0, y.1, y.2, ap (λ (x : ℕ). nat_lt x max_width) y.1 ∙ lt-ltb n max_width h))
 
 pub reads_sized : (w n : ℕ) → is_width w ≡ true → Reads (read_limited Range fits_sized sized) (Printed.sized w n ∷ []) Every (λ s. Sized 0 s.width s.value) (Sized 0 w n)
 reads_sized w n h = reads_limited Every Range fits_sized sized (Printed.sized w n) (λ s. Sized 0 s.width s.value) (Sized 0 w n) (λ t e. (
@@ -239,17 +278,26 @@ reads_sized w n h = reads_limited Every Range fits_sized sized (Printed.sized w 
 one_eats : {A : Type 0} (p : Reading Terminal A) → Small p → (xs : List A) (w r : List Terminal) (x : List A) → one_more p xs w ≡ Ok (x, r) → length r < length w
 one_eats p h xs = (eats_follows (eats_token (marked (symbol_code syms.Comma))) (λ sep. small_follows h (λ x. small_nothing (xs ++ x ∷ [])))).left
 
-module _ {A B : Type 0} (p : Reading Terminal A) (small_p : Small p) (fs : List ℕ) (G : Set) (g : A → B) (comma_fits : within (Only fs) (symbol_code syms.Comma) ≡ true) (end_fits : subset G (Only fs) ≡ true) (end_apart : apart G (Only comma) ≡ true) where
+module _ {A B : Type 0} (p : Reading Terminal A) (small_p : Small p) (fs : List ℕ) (G : Set) (g : A → B)
+    (comma_fits : within (Only fs) (symbol_code syms.Comma) ≡ true) (end_fits : subset G (Only fs) ≡ true) (end_apart : apart G (Only comma) ≡ true) where
   one_reads : (xs : List A) (x : List Word) (v : B) → Reads p x (Only fs) g v → Reads (one_more p xs) (Printed.sym syms.Comma ∷ x) (Only fs) (map g) (map g xs ++ v ∷ [])
-  one_reads xs x v a = reads_then (reads_symbol syms.Comma) (λ sep u. reads_give (λ y. xs ++ y ∷ []) (map g) (map g xs ++ v ∷ []) a (λ y e. map-append g xs (y ∷ []) ∙ ap (λ (z : B). map g xs ++ z ∷ []) e)) refl
+  one_reads xs x v a = reads_then (reads_symbol syms.Comma) (λ sep u. reads_give (λ y. xs ++ y ∷ []) (map g) (map g xs ++ v ∷ []) a
+      (λ y e. map-append g xs (y ∷ []) ∙ ap (λ (z : B). map g xs ++ z ∷ []) e)) refl
 
   more_fits : (xs : List (List Word)) → fits_next (Only fs) (commas xs) G ≡ true
   more_fits [] = end_fits
   more_fits (x ∷ xs) = comma_fits
 
-  pub items_read : (xs : List (List Word)) (vs : List B) → AllRead p (Only fs) g xs vs → (so_far : List A) → Reads (read_many (comes comma) (one_more p) so_far) (commas xs) G (map g) (map g so_far ++ vs)
+  pub items_read : (xs : List (List Word)) (vs : List B) → AllRead p (Only fs) g xs vs → (so_far : List A) → Reads
+      (read_many (comes comma) (one_more p) so_far) (commas xs) G (map g) (map g so_far ++ vs)
   items_read [] [] a so_far = record {
-    reads = λ w r e h. (so_far, sym (append-nil (map g so_far)), ap (λ (l : List Terminal). read_many (comes comma) (one_more p) so_far (l ++ r)) (nil_of w e) ∙ stops_here (comes comma) (one_more p) (one_eats p small_p) so_far r (read_many (comes comma) (one_more p) so_far r) refl (apart_within G (Only comma) (code (head_of r)) end_apart h));
+    reads = λ w r e h. (
+      so_far,
+      sym (append-nil (map g so_far)),
+      ap (λ (l : List Terminal). read_many (comes comma) (one_more p) so_far (l ++ r))
+          (nil_of w e) ∙ stops_here (comes comma) (one_more p) (one_eats p small_p) so_far r (read_many (comes comma) (one_more p) so_far r) refl
+          (apart_within G (Only comma) (code (head_of r)) end_apart h),
+    );
   }
   items_read [] (v ∷ vs) a so_far = absurd a
   items_read (x ∷ xs) [] a so_far = absurd a
@@ -260,13 +308,18 @@ module _ {A B : Type 0} (p : Reading Terminal A) (small_p : Small p) (fs : List 
         let one = (one_reads so_far x v a.0).reads c.front (c.back ++ r) c.first (next_within (Only fs) (commas xs) G c.back r (more_fits xs) c.second h) in
         let rest = (items_read xs vs a.1 one.0).reads c.back r c.second h in
         let is : w ++ r ≡ c.front ++ (c.back ++ r) = ap (λ (l : List Terminal). l ++ r) c.is ∙ append_assoc c.front c.back r in
-        let test : comes comma (head_of (w ++ r)) ≡ true = ap (λ (l : List Terminal). comes comma (head_of l)) (is ∙ ap (λ (l : List Terminal). l ++ (c.back ++ r)) f.is) ∙ kind_is (Only comma) f.token (Printed.sym syms.Comma) true f.word refl in (
+        let test : comes comma (head_of (w ++ r)) ≡ true = ap (λ (l : List Terminal). comes comma (head_of l))
+        (is ∙ ap (λ (l : List Terminal). l ++ (c.back ++ r)) f.is) ∙ kind_is (Only comma) f.token (Printed.sym syms.Comma) true f.word refl in (
           rest.0,
           rest.1 ∙ ap (λ (l : List B). l ++ vs) one.1 ∙ append_assoc (map g so_far) (v ∷ []) vs,
-          sym (goes_on (comes comma) (one_more p) (one_eats p small_p) so_far (w ++ r) (read_many (comes comma) (one_more p) so_far (w ++ r)) refl one.0 (c.back ++ r) test (ap (one_more p so_far) is ∙ one.2)) ∙ rest.2,
+          sym (goes_on (comes comma) (one_more p) (one_eats p small_p) so_far (w ++ r) (read_many (comes comma) (one_more p) so_far (w ++ r)) refl
+              one.0 (c.back ++ r) test (ap (one_more p so_far) is ∙ one.2)) ∙ rest.2,
         );
   }
 
   -- one item and those after it
-  pub list_reads : (x : List Word) (v : B) (xs : List (List Word)) (vs : List B) → Reads p x (Only fs) g v → AllRead p (Only fs) g xs vs → Reads (read_follows p (λ y. read_many (comes comma) (one_more p) (y ∷ []))) (separated (Printed.sym syms.Comma) (x ∷ xs)) G (map g) (v ∷ vs)
-  list_reads x v xs vs a b = subst (λ (l : List Word). Reads (read_follows p (λ y. read_many (comes comma) (one_more p) (y ∷ []))) l G (map g) (v ∷ vs)) (sym (separated_commas x xs)) (reads_then a (λ y e. subst (λ (z : B). Reads (read_many (comes comma) (one_more p) (y ∷ [])) (commas xs) G (map g) (z ∷ vs)) e (items_read xs vs b (y ∷ []))) (more_fits xs))
+  pub list_reads : (x : List Word) (v : B) (xs : List (List Word)) (vs : List B) → Reads p x (Only fs) g v → AllRead p (Only fs) g xs vs → Reads
+      (read_follows p (λ y. read_many (comes comma) (one_more p) (y ∷ []))) (separated (Printed.sym syms.Comma) (x ∷ xs)) G (map g) (v ∷ vs)
+  list_reads x v xs vs a b = subst (λ (l : List Word). Reads (read_follows p (λ y. read_many (comes comma) (one_more p) (y ∷ []))) l G (map g)
+      (v ∷ vs)) (sym (separated_commas x xs)) (reads_then a (λ y e. subst
+      (λ (z : B). Reads (read_many (comes comma) (one_more p) (y ∷ [])) (commas xs) G (map g) (z ∷ vs)) e (items_read xs vs b (y ∷ []))) (more_fits xs))

@@ -5,7 +5,9 @@ use Rattle.safl_word.specs.declared.primitive.Primitive.{Primitive}
 use Rattle.safl_tree.specs.declared.tree.Expr.{Expr}
 use Rattle.safl_tree.specs.declared.tree.Bind.{Bind}
 use Rattle.safl_tree.specs.declared.tree.Arm.{Arm}
-use Rattle.safl_tree.specs.declared.tree.Node.{Node, Row_of-Expr, end_of-Expr, more_of-Expr, items-the_row-Expr, items_hidden-the_row-Expr-2, Row_of-Bind, end_of-Bind, more_of-Bind, items-the_row-Bind, items_hidden-the_row-Bind-0, Row_of-Arm, end_of-Arm, more_of-Arm, items-the_row-Arm, items_hidden-the_row-Arm-1}
+use Rattle.safl_tree.specs.declared.tree.Node.{Node, Row_of-Expr, end_of-Expr, more_of-Expr, items-the_row-Expr, items_hidden-the_row-Expr-2}
+use Rattle.safl_tree.specs.declared.tree.Node.{Row_of-Bind, end_of-Bind, more_of-Bind, items-the_row-Bind, items_hidden-the_row-Bind-0, Row_of-Arm}
+use Rattle.safl_tree.specs.declared.tree.Node.{end_of-Arm, more_of-Arm, items-the_row-Arm, items_hidden-the_row-Arm-1}
 use Rattle.safl_tree.specs.declared.tree.Node.TheVariants as nodes
 use Rattle.safl_tree.specs.declared.tree.Node.TheVariants.{Num, Sized, Var, If', Op', Call', Let', Case, Case'}
 use Rattle.safl_tree.specs.Tree.{Tree, a_tree, Binds, a_bind, an_arm, Op, Call, Let, Cases, trees_of, binds_of, arms_of, place_of}
@@ -51,7 +53,8 @@ let_shows v b p =
     let row = binds_in (nodes.Let v b) in
     ap (λ (bs : Binds). Let p bs (shown_tree b.value)) (binds_show row.0 row.1 ∙ ap (λ (es : List Bind). binds_of (shown_bounds es)) (items_hidden-the_row-Bind-0 v))
 
-pub case_shows : (e : Box Expr Global) (v : Vec Arm Global) (d : Box Expr Global) (p : ℕ) → shown_node (Case e v d) p ≡ Cases p (shown_tree e.value) (arms_of (shown_labelled v.items) (shown_tree d.value))
+pub case_shows : (e : Box Expr Global) (v : Vec Arm Global) (d : Box Expr Global) (p : ℕ) → shown_node (Case e v d) p ≡ Cases p (shown_tree e.value)
+    (arms_of (shown_labelled v.items) (shown_tree d.value))
 case_shows e v d p =
     let row = arms_in (Case e v d) in
     ap (Cases p (shown_tree e.value)) (arms_show row.0 row.1 (shown_tree d.value) ∙ ap (λ (es : List Arm). arms_of (shown_labelled es) (shown_tree d.value)) (items_hidden-the_row-Arm-1 v))

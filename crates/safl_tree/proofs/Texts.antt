@@ -14,7 +14,8 @@ use Rattle.safl_tree.proofs.Sources
 pub one_program : (text : List ℕ) (p q : List Definition) → SpellsProgram text p → SpellsProgram text q → p ≡ q
 one_program text p q s t = Sources.one_program text t.tokens p q (subst (λ (ts : List Token). TokensSpell text ts p) (tokens_once text s.tokens t.tokens s.cut t.cut) s.spelled) t.spelled
 
-by_tokens : (text : List ℕ) (ts : List Token) → HasTokens text ts → ((p : List Definition) × TokensSpell text ts p) ⊎ ((f : Fault) × TokensFault text ts f) → ((p : List Definition) × SpellsProgram text p) ⊎ ((f : Fault) × SyntaxFault text f)
+by_tokens : (text : List ℕ) (ts : List Token) → HasTokens text ts → ((p : List Definition) × TokensSpell text ts p) ⊎
+    ((f : Fault) × TokensFault text ts f) → ((p : List Definition) × SpellsProgram text p) ⊎ ((f : Fault) × SyntaxFault text f)
 by_tokens text ts h (inl (p, s)) = inl (p, record { tokens = ts; cut = h; spelled = s })
 by_tokens text ts h (inr (f, s)) = inr (f, of_tokens ts h s)
 

@@ -1,5 +1,6 @@
 -- The words of a program are tokens, and its text is cut into them.
-use Rattle.std.proofs.Common.{◌≡◌, ℕ, zero, suc, ◌+◌, ◌-◌, ◌*◌, ◌^◌, ◌<◌, ◌≤◌, Bool, true, false, List, [], ◌∷◌, ◌++◌, map, length, take, drop, Option, Some, None, refl, sym, ap, subst, ◌∙◌, append_assoc, length-append, arith}
+use Rattle.std.proofs.Common.{◌≡◌, ℕ, zero, suc, ◌+◌, ◌-◌, ◌*◌, ◌^◌, ◌<◌, ◌≤◌, Bool, true, false, List, [], ◌∷◌, ◌++◌, map, length, take, drop}
+use Rattle.std.proofs.Common.{Option, Some, None, refl, sym, ap, subst, ◌∙◌, append_assoc, length-append, arith}
 use Rattle.std.specs.Prelude.{nat_le}
 use Rattle.std.proofs.lemmas.Bool.{leb-true}
 use Rattle.std.proofs.lemmas.List.{map-append}
@@ -15,7 +16,8 @@ use Rattle.safl_word.proofs.BlanksEndTokens.{number_token, size_token}
 use Rattle.safl_tree.specs.Tree.{Tree, Number, Sized, Variable, If, Let, Cases, Op, Call, Trees, no_tree, a_tree, Binds, no_bind, a_bind, Arms, default_arm, an_arm, Parameter, Definition}
 use Rattle.safl_tree.specs.Terminals.{terminals}
 use Rattle.safl_tree.specs.Grammar.{is_width}
-use Rattle.safl_tree.specs.Printable.{own, left_place, right_place, InRange, IsLabel, FitsWritten, IsFormed, AreFormed, AreFormedBinds, AreFormedArms, AreFormedParameters, IsFormedDefinition, AreFormedDefinitions}
+use Rattle.safl_tree.specs.Printable.{own, left_place, right_place, InRange, IsLabel, FitsWritten, IsFormed, AreFormed, AreFormedBinds, AreFormedArms}
+use Rattle.safl_tree.specs.Printable.{AreFormedParameters, IsFormedDefinition, AreFormedDefinitions}
 use Rattle.safl_tree.specs.Printed
 use Rattle.safl_tree.specs.Printed.{Word, separated, enclosed, applied, written, words, part_words, bind_words, arm_words, param_words, one_words, opening, spaced, line, printed, symbol_of}
 use Rattle.safl_tree.proofs.Readings.{words_in}
@@ -62,7 +64,14 @@ width_word n h = number_token n (width_small n h)
 applies : (o : Primitive) (parts : List (List Word)) → InRange o → AllGenuine parts → Genuine (applied o parts)
 applies prims.Not parts r a = (refl, comma_separates parts a)
 applies prims.Cat parts r a = (refl, (refl, joins (separated (Printed.sym syms.Comma) parts) (Printed.sym syms.CloseParen ∷ []) (comma_separates parts a) (refl, tt)))
-applies (prims.Bits h l) parts r a = (refl, (refl, joins (separated (Printed.sym syms.Comma) parts) _ (comma_separates parts a) (refl, (number_token h (index_small h r.0), (refl, (number_token l (index_small l r.1), (refl, tt)))))))
+applies (prims.Bits h l) parts r a = (
+  refl,
+  (
+    refl,
+    joins (separated (Printed.sym syms.Comma) parts) _ (comma_separates parts a)
+        (refl, (number_token h (index_small h r.0), (refl, (number_token l (index_small l r.1), (refl, tt))))),
+  ),
+)
   where
     index_small : (n : ℕ) → n < max_width → n < 2 ^ 128
     index_small n h = omega (arith, h)
@@ -124,7 +133,14 @@ genuine_params [] f = tt
 genuine_params (p ∷ ps) f = ((f.0.0, (refl, (width_word p.width f.0.1, tt))), genuine_params ps f.1)
 
 pub genuine_one : (d : Definition) → IsFormedDefinition d → Genuine (one_words d)
-genuine_one d f = (f.0, (refl, joins (separated (Printed.sym syms.Comma) (param_words d.params)) _ (comma_separates (param_words d.params) (genuine_params d.params f.1)) (refl, (refl, (width_word d.width f.2, (refl, genuine d.body f.3))))))
+genuine_one d f = (
+  f.0,
+  (
+    refl,
+    joins (separated (Printed.sym syms.Comma) (param_words d.params)) _
+        (comma_separates (param_words d.params) (genuine_params d.params f.1)) (refl, (refl, (width_word d.width f.2, (refl, genuine d.body f.3)))),
+  ),
+)
 
 opens : (b : Bool) → IsToken (opening b).kind (opening b).text
 opens true = refl
@@ -170,7 +186,8 @@ spaced_append (x ∷ xs) ys a b = (a.0, spaced_append xs ys a.1 b)
 
 pub pieces_spaced : (ds : List Definition) → AreFormedDefinitions ds → AreSpaced (pieces ds)
 pieces_spaced [] f = tt
-pieces_spaced (d ∷ ds) f = spaced_append (lined (opening d.joined) (one_words d)) (pieces ds) (lined_spaced (opening d.joined) (one_words d) (opens d.joined) (genuine_one d f.0)) (pieces_spaced ds f.1)
+pieces_spaced (d ∷ ds) f = spaced_append (lined (opening d.joined) (one_words d)) (pieces ds)
+    (lined_spaced (opening d.joined) (one_words d) (opens d.joined) (genuine_one d f.0)) (pieces_spaced ds f.1)
 
 abbrev piece_word : Spaced → Word
 piece_word x = record { kind = x.kind; text = x.text }
@@ -191,7 +208,10 @@ spaced_terminals : (xs : List Spaced) (front text : List ℕ) (p : ℕ) → p �
 spaced_terminals [] front text p i j = refl
 spaced_terminals (x ∷ xs) front text p i j =
     ap (λ (b : List ℕ). record { kind = x.kind; text = b } ∷ words_in (terminals text (spaced_tokens (p + length x.text + 1) xs))) (sym bytes)
-    ∙ ap (λ (l : List Word). piece_word x ∷ l) (spaced_terminals xs (front ++ (x.text ++ (x.blank ∷ []))) text (p + length x.text + 1) (omega (arith, i, length-append front (x.text ++ (x.blank ∷ [])), length-append x.text (x.blank ∷ []))) (j ∙ ap (λ (l : List ℕ). front ++ l) (sym (append_assoc x.text (x.blank ∷ []) (spaced_text xs))) ∙ sym (append_assoc front (x.text ++ (x.blank ∷ [])) (spaced_text xs))))
+    ∙ ap (λ (l : List Word). piece_word x ∷ l) (spaced_terminals xs (front ++ (x.text ++ (x.blank ∷ []))) text (p + length x.text + 1)
+    (omega (arith, i, length-append front (x.text ++ (x.blank ∷ [])), length-append x.text (x.blank ∷ [])))
+    (j ∙ ap (λ (l : List ℕ). front ++ l) (sym (append_assoc x.text (x.blank ∷ []) (spaced_text xs))) ∙ sym
+    (append_assoc front (x.text ++ (x.blank ∷ [])) (spaced_text xs))))
   where
     bytes : x.text ≡ take (p + length x.text - p) (drop p text)
     bytes =

@@ -51,34 +51,46 @@ leaves_none a b all h = sym (append-nil b) ∙ h
 pub chain_3 : {A E : Type 0} (r : Result A E) (a b1 b2 c : List ℕ) (u1 u2 u3 : List Word) → Writes a b1 u1 → Writes b1 b2 u2 → OnOk r (Writes b2 c u3) → OnOk r (Writes a c (u1 ++ (u2 ++ u3)))
 chain_3 r a b1 b2 c u1 u2 u3 h1 h2 h3 = ends_with r a b1 c u1 (u2 ++ u3) h1 (ends_with r b1 b2 c u2 u3 h2 h3)
 
-pub chain_4 : {A E : Type 0} (r : Result A E) (a b1 b2 b3 c : List ℕ) (u1 u2 u3 u4 : List Word) → Writes a b1 u1 → Writes b1 b2 u2 → Writes b2 b3 u3 → OnOk r (Writes b3 c u4) → OnOk r (Writes a c (u1 ++ (u2 ++ (u3 ++ u4))))
+pub chain_4 : {A E : Type 0} (r : Result A E) (a b1 b2 b3 c : List ℕ) (u1 u2 u3 u4 : List Word) → Writes a b1 u1 → Writes b1 b2 u2 → Writes b2 b3 u3 →
+    OnOk r (Writes b3 c u4) → OnOk r (Writes a c (u1 ++ (u2 ++ (u3 ++ u4))))
 chain_4 r a b1 b2 b3 c u1 u2 u3 u4 h1 h2 h3 h4 = ends_with r a b1 c u1 (u2 ++ (u3 ++ u4)) h1 (chain_3 r b1 b2 b3 c u2 u3 u4 h2 h3 h4)
 
-pub chain_5 : {A E : Type 0} (r : Result A E) (a b1 b2 b3 b4 c : List ℕ) (u1 u2 u3 u4 u5 : List Word) → Writes a b1 u1 → Writes b1 b2 u2 → Writes b2 b3 u3 → Writes b3 b4 u4 → OnOk r (Writes b4 c u5) → OnOk r (Writes a c (u1 ++ (u2 ++ (u3 ++ (u4 ++ u5)))))
+pub chain_5 : {A E : Type 0} (r : Result A E) (a b1 b2 b3 b4 c : List ℕ) (u1 u2 u3 u4 u5 : List Word) → Writes a b1 u1 → Writes b1 b2 u2 → Writes b2
+    b3 u3 → Writes b3 b4 u4 → OnOk r (Writes b4 c u5) → OnOk r (Writes a c (u1 ++ (u2 ++ (u3 ++ (u4 ++ u5)))))
 chain_5 r a b1 b2 b3 b4 c u1 u2 u3 u4 u5 h1 h2 h3 h4 h5 = ends_with r a b1 c u1 (u2 ++ (u3 ++ (u4 ++ u5))) h1 (chain_4 r b1 b2 b3 b4 c u2 u3 u4 u5 h2 h3 h4 h5)
 
-pub chain_6 : {A E : Type 0} (r : Result A E) (a b1 b2 b3 b4 b5 c : List ℕ) (u1 u2 u3 u4 u5 u6 : List Word) → Writes a b1 u1 → Writes b1 b2 u2 → Writes b2 b3 u3 → Writes b3 b4 u4 → Writes b4 b5 u5 → OnOk r (Writes b5 c u6) → OnOk r (Writes a c (u1 ++ (u2 ++ (u3 ++ (u4 ++ (u5 ++ u6))))))
+pub chain_6 : {A E : Type 0} (r : Result A E) (a b1 b2 b3 b4 b5 c : List ℕ) (u1 u2 u3 u4 u5 u6 : List Word) → Writes a b1 u1 → Writes b1 b2 u2 →
+    Writes b2 b3 u3 → Writes b3 b4 u4 → Writes b4 b5 u5 → OnOk r (Writes b5 c u6) → OnOk r (Writes a c (u1 ++ (u2 ++ (u3 ++ (u4 ++ (u5 ++ u6))))))
 chain_6 r a b1 b2 b3 b4 b5 c u1 u2 u3 u4 u5 u6 h1 h2 h3 h4 h5 h6 = ends_with r a b1 c u1 (u2 ++ (u3 ++ (u4 ++ (u5 ++ u6)))) h1 (chain_5 r b1 b2 b3 b4 b5 c u2 u3 u4 u5 u6 h2 h3 h4 h5 h6)
 
-pub chain_7 : {A E : Type 0} (r : Result A E) (a b1 b2 b3 b4 b5 b6 c : List ℕ) (u1 u2 u3 u4 u5 u6 u7 : List Word) → Writes a b1 u1 → Writes b1 b2 u2 → Writes b2 b3 u3 → Writes b3 b4 u4 → Writes b4 b5 u5 → Writes b5 b6 u6 → OnOk r (Writes b6 c u7) → OnOk r (Writes a c (u1 ++ (u2 ++ (u3 ++ (u4 ++ (u5 ++ (u6 ++ u7)))))))
-chain_7 r a b1 b2 b3 b4 b5 b6 c u1 u2 u3 u4 u5 u6 u7 h1 h2 h3 h4 h5 h6 h7 = ends_with r a b1 c u1 (u2 ++ (u3 ++ (u4 ++ (u5 ++ (u6 ++ u7))))) h1 (chain_6 r b1 b2 b3 b4 b5 b6 c u2 u3 u4 u5 u6 u7 h2 h3 h4 h5 h6 h7)
+pub chain_7 : {A E : Type 0} (r : Result A E) (a b1 b2 b3 b4 b5 b6 c : List ℕ) (u1 u2 u3 u4 u5 u6 u7 : List Word) → Writes a b1 u1 → Writes b1 b2 u2 →
+    Writes b2 b3 u3 → Writes b3 b4 u4 → Writes b4 b5 u5 → Writes b5 b6 u6 → OnOk r (Writes b6 c u7) → OnOk r
+    (Writes a c (u1 ++ (u2 ++ (u3 ++ (u4 ++ (u5 ++ (u6 ++ u7)))))))
+chain_7 r a b1 b2 b3 b4 b5 b6 c u1 u2 u3 u4 u5 u6 u7 h1 h2 h3 h4 h5 h6 h7 = ends_with r a b1 c u1 (u2 ++ (u3 ++ (u4 ++ (u5 ++ (u6 ++ u7))))) h1
+    (chain_6 r b1 b2 b3 b4 b5 b6 c u2 u3 u4 u5 u6 u7 h2 h3 h4 h5 h6 h7)
 
-pub chain_8 : {A E : Type 0} (r : Result A E) (a b1 b2 b3 b4 b5 b6 b7 c : List ℕ) (u1 u2 u3 u4 u5 u6 u7 u8 : List Word) → Writes a b1 u1 → Writes b1 b2 u2 → Writes b2 b3 u3 → Writes b3 b4 u4 → Writes b4 b5 u5 → Writes b5 b6 u6 → Writes b6 b7 u7 → OnOk r (Writes b7 c u8) → OnOk r (Writes a c (u1 ++ (u2 ++ (u3 ++ (u4 ++ (u5 ++ (u6 ++ (u7 ++ u8))))))))
-chain_8 r a b1 b2 b3 b4 b5 b6 b7 c u1 u2 u3 u4 u5 u6 u7 u8 h1 h2 h3 h4 h5 h6 h7 h8 = ends_with r a b1 c u1 (u2 ++ (u3 ++ (u4 ++ (u5 ++ (u6 ++ (u7 ++ u8)))))) h1 (chain_7 r b1 b2 b3 b4 b5 b6 b7 c u2 u3 u4 u5 u6 u7 u8 h2 h3 h4 h5 h6 h7 h8)
+pub chain_8 : {A E : Type 0} (r : Result A E) (a b1 b2 b3 b4 b5 b6 b7 c : List ℕ) (u1 u2 u3 u4 u5 u6 u7 u8 : List Word) → Writes a b1 u1 → Writes b1
+    b2 u2 → Writes b2 b3 u3 → Writes b3 b4 u4 → Writes b4 b5 u5 → Writes b5 b6 u6 → Writes b6 b7 u7 → OnOk r (Writes b7 c u8) → OnOk r
+    (Writes a c (u1 ++ (u2 ++ (u3 ++ (u4 ++ (u5 ++ (u6 ++ (u7 ++ u8))))))))
+chain_8 r a b1 b2 b3 b4 b5 b6 b7 c u1 u2 u3 u4 u5 u6 u7 u8 h1 h2 h3 h4 h5 h6 h7 h8 = ends_with r a b1 c u1
+    (u2 ++ (u3 ++ (u4 ++ (u5 ++ (u6 ++ (u7 ++ u8)))))) h1 (chain_7 r b1 b2 b3 b4 b5 b6 b7 c u2 u3 u4 u5 u6 u7 u8 h2 h3 h4 h5 h6 h7 h8)
 
 -- ---- items after a separator
 
 module _ {E : Type 0} (item : E → List Word) (f : List E → List (List Word)) (none : f [] ≡ []) (more : (x : E) (xs : List E) → f (x ∷ xs) ≡ item x ∷ f xs) where
-  pub items_step : (s : Word) (xs : List E) (i : ℕ) (x : E) → i < length xs → x ≡ get_or xs i x → (a b c d : List ℕ) (all : List Word) → Leaves b (behind s (f (drop i xs))) a all → Writes b c (s ∷ []) → Writes c d (item x) → Leaves d (behind s (f (drop (i + 1) xs))) a all
+  pub items_step : (s : Word) (xs : List E) (i : ℕ) (x : E) → i < length xs → x ≡ get_or xs i x → (a b c d : List ℕ) (all : List Word) → Leaves b
+      (behind s (f (drop i xs))) a all → Writes b c (s ∷ []) → Writes c d (item x) → Leaves d (behind s (f (drop (i + 1) xs))) a all
   items_step s xs i x lt e a b c d all h j k =
       let rest = behind s (f (drop (i + 1) xs)) in
       let left : behind s (f (drop i xs)) ≡ s ∷ (item x ++ rest) = ap (λ (l : List E). behind s (f l)) (drop_at xs i x lt e) ∙ ap (behind s) (more x (drop (i + 1) xs)) in
       leaves_less a c d (item x) rest all (leaves_less a b c (s ∷ []) (item x ++ rest) all (subst (λ (l : List Word). Leaves b l a all) left h) j) k
 
-  pub items_end : (s : Word) (xs : List E) (i : ℕ) → length xs ≤ i → (a b c : List ℕ) (first : List Word) → Leaves c (behind s (f (drop i xs))) b (behind s (f xs)) → Writes a b first → Writes a c (separated s (first ∷ f xs))
+  pub items_end : (s : Word) (xs : List E) (i : ℕ) → length xs ≤ i → (a b c : List ℕ) (first : List Word) → Leaves c (behind s (f (drop i xs))) b
+      (behind s (f xs)) → Writes a b first → Writes a c (separated s (first ∷ f xs))
   items_end s xs i ge a b c first h j =
       let left : behind s (f (drop i xs)) ≡ [] = ap (λ (l : List E). behind s (f l)) (drop_all i xs ge) ∙ ap (behind s) none in
-      subst (Writes a c) (sym (separated_behind s first (f xs))) (writes_then a b c first (behind s (f xs)) j (leaves_none b c (behind s (f xs)) (subst (λ (l : List Word). Leaves c l b (behind s (f xs))) left h)))
+      subst (Writes a c) (sym (separated_behind s first (f xs)))
+      (writes_then a b c first (behind s (f xs)) j (leaves_none b c (behind s (f xs)) (subst (λ (l : List Word). Leaves c l b (behind s (f xs))) left h)))
 
 -- a list by its first element
 pub by_first : {E : Type 0} (xs : List E) (x : E) → 1 ≤ length xs → x ≡ get_or xs 0 x → xs ≡ x ∷ take (length xs - 1) (drop 1 xs)
@@ -95,20 +107,35 @@ arms_split (a ∷ arms) t =
     ∙ ap (λ (l : List Word). words a.label ++ (Printed.sym syms.Arrow ∷ l)) (sym (append_assoc (words a.value) (Printed.sym syms.Comma ∷ labelled_words arms) rest))
     ∙ sym (append_assoc (words a.label) (Printed.sym syms.Arrow ∷ (words a.value ++ (Printed.sym syms.Comma ∷ labelled_words arms))) rest)
 
-pub case_split : (e t : Tree) (arms : List Labelled) → words e ++ (Printed.sym syms.OpenBrace ∷ (labelled_words arms ++ (Printed.key keys.Default ∷ (Printed.sym syms.Arrow ∷ (words t ++ (Printed.sym syms.CloseBrace ∷ [])))))) ≡ words e ++ (Printed.sym syms.OpenBrace ∷ (arm_words (arms_of arms t) ++ (Printed.sym syms.CloseBrace ∷ [])))
-case_split e t arms = ap (λ (l : List Word). words e ++ (Printed.sym syms.OpenBrace ∷ l)) (sym (append_assoc (labelled_words arms) (Printed.key keys.Default ∷ (Printed.sym syms.Arrow ∷ words t)) (Printed.sym syms.CloseBrace ∷ [])) ∙ ap (λ (l : List Word). l ++ (Printed.sym syms.CloseBrace ∷ [])) (sym (arms_split arms t)))
+pub case_split : (e t : Tree) (arms : List Labelled) → words e ++
+    (Printed.sym syms.OpenBrace ∷ (labelled_words arms ++ (Printed.key keys.Default ∷
+    (Printed.sym syms.Arrow ∷ (words t ++ (Printed.sym syms.CloseBrace ∷ [])))))) ≡ words e ++
+    (Printed.sym syms.OpenBrace ∷ (arm_words (arms_of arms t) ++ (Printed.sym syms.CloseBrace ∷ [])))
+case_split e t arms = ap (λ (l : List Word). words e ++ (Printed.sym syms.OpenBrace ∷ l))
+    (sym (append_assoc (labelled_words arms) (Printed.key keys.Default ∷ (Printed.sym syms.Arrow ∷ words t)) (Printed.sym syms.CloseBrace ∷ [])) ∙ ap
+    (λ (l : List Word). l ++ (Printed.sym syms.CloseBrace ∷ [])) (sym (arms_split arms t)))
 
 -- ---- the words of a node
 
 module _ (n : Node) (p : ℕ) where
-  pub choice_words : (c a b : Box Expr Global) (x y z : Expr) → n ≡ nodes.If c a b → x ≡ c.value → y ≡ a.value → z ≡ b.value → words (If 0 (shown_tree x) (shown_tree y) (shown_tree z)) ≡ words (shown_node n p)
-  choice_words c a b x y z is i j k = ap (λ (e : Expr). words (If 0 (shown_tree e) (shown_tree y) (shown_tree z))) i ∙ ap (λ (e : Expr). words (If 0 (shown_tree c.value) (shown_tree e) (shown_tree z))) j ∙ ap (λ (e : Expr). words (If 0 (shown_tree c.value) (shown_tree a.value) (shown_tree e))) k ∙ ap (λ (m : Node). words (shown_node m p)) (sym is)
+  pub choice_words : (c a b : Box Expr Global) (x y z : Expr) → n ≡ nodes.If c a b → x ≡ c.value → y ≡ a.value → z ≡ b.value → words
+      (If 0 (shown_tree x) (shown_tree y) (shown_tree z)) ≡ words (shown_node n p)
+  choice_words c a b x y z is i j k = ap (λ (e : Expr). words (If 0 (shown_tree e) (shown_tree y) (shown_tree z))) i ∙ ap
+      (λ (e : Expr). words (If 0 (shown_tree c.value) (shown_tree e) (shown_tree z))) j ∙ ap
+      (λ (e : Expr). words (If 0 (shown_tree c.value) (shown_tree a.value) (shown_tree e))) k ∙ ap (λ (m : Node). words (shown_node m p)) (sym is)
 
-  pub let_words : (v : Vec Bind Global) (b : Box Expr Global) (bs : List Bind) (x : Expr) → n ≡ nodes.Let v b → bs ≡ v.items → x ≡ b.value → words (Let 0 (binds_of (shown_bounds bs)) (shown_tree x)) ≡ words (shown_node n p)
-  let_words v b bs x is i j = ap (λ (l : List Bind). words (Let 0 (binds_of (shown_bounds l)) (shown_tree x))) i ∙ ap (λ (e : Expr). words (Let 0 (binds_of (shown_bounds v.items)) (shown_tree e))) j ∙ ap words (sym (let_shows v b p)) ∙ ap (λ (m : Node). words (shown_node m p)) (sym is)
+  pub let_words : (v : Vec Bind Global) (b : Box Expr Global) (bs : List Bind) (x : Expr) → n ≡ nodes.Let v b → bs ≡ v.items → x ≡ b.value → words
+      (Let 0 (binds_of (shown_bounds bs)) (shown_tree x)) ≡ words (shown_node n p)
+  let_words v b bs x is i j = ap (λ (l : List Bind). words (Let 0 (binds_of (shown_bounds l)) (shown_tree x))) i ∙ ap
+      (λ (e : Expr). words (Let 0 (binds_of (shown_bounds v.items)) (shown_tree e))) j ∙ ap words (sym (let_shows v b p)) ∙ ap
+      (λ (m : Node). words (shown_node m p)) (sym is)
 
-  pub case_words : (s : Box Expr Global) (v : Vec Arm Global) (o : Box Expr Global) (x : Expr) (arms : List Arm) (y : Expr) → n ≡ Case s v o → x ≡ s.value → arms ≡ v.items → y ≡ o.value → words (Cases 0 (shown_tree x) (arms_of (shown_labelled arms) (shown_tree y))) ≡ words (shown_node n p)
-  case_words s v o x arms y is i j k = ap (λ (e : Expr). words (Cases 0 (shown_tree e) (arms_of (shown_labelled arms) (shown_tree y)))) i ∙ ap (λ (l : List Arm). words (Cases 0 (shown_tree s.value) (arms_of (shown_labelled l) (shown_tree y)))) j ∙ ap (λ (e : Expr). words (Cases 0 (shown_tree s.value) (arms_of (shown_labelled v.items) (shown_tree e)))) k ∙ ap words (sym (case_shows s v o p)) ∙ ap (λ (m : Node). words (shown_node m p)) (sym is)
+  pub case_words : (s : Box Expr Global) (v : Vec Arm Global) (o : Box Expr Global) (x : Expr) (arms : List Arm) (y : Expr) → n ≡ Case s v o → x ≡
+      s.value → arms ≡ v.items → y ≡ o.value → words (Cases 0 (shown_tree x) (arms_of (shown_labelled arms) (shown_tree y))) ≡ words (shown_node n p)
+  case_words s v o x arms y is i j k = ap (λ (e : Expr). words (Cases 0 (shown_tree e) (arms_of (shown_labelled arms) (shown_tree y)))) i ∙ ap
+      (λ (l : List Arm). words (Cases 0 (shown_tree s.value) (arms_of (shown_labelled l) (shown_tree y)))) j ∙ ap
+      (λ (e : Expr). words (Cases 0 (shown_tree s.value) (arms_of (shown_labelled v.items) (shown_tree e)))) k ∙ ap words (sym (case_shows s v o p)) ∙
+      ap (λ (m : Node). words (shown_node m p)) (sym is)
 
   pub op_words : (o : Primitive) (v : Vec Expr Global) (es : List Expr) → n ≡ nodes.Op o v → es ≡ v.items → words (Op 0 o (trees_of (shown_trees es))) ≡ words (shown_node n p)
   op_words o v es is i = ap (λ (l : List Expr). words (Op 0 o (trees_of (shown_trees l)))) i ∙ ap words (sym (op_shows o v p)) ∙ ap (λ (m : Node). words (shown_node m p)) (sym is)

@@ -26,5 +26,6 @@ here bs i b c lt is q =
     ∙ ap (λ (z : Bool). cond z (Some (fault rules.E07 b.place)) (repeated (b.name ∷ earlier bs i) (placed (shown_bindings (drop (i + 1) bs))))) q
     ∙ ap (λ (l : List (List ℕ)). cond c (Some (fault rules.E07 b.place)) (repeated l (placed (shown_bindings (drop (i + 1) bs))))) (sym (earlier_next bs i b lt is))
 
-pub repeated_next : (bs : List Bound) (i : ℕ) (b : Bound) → i < length bs → b ≡ get_or bs i b → list_any (bytes_eq b.name) (earlier bs i) ≡ false → repeated (earlier bs i) (placed (shown_bindings (drop i bs))) ≡ repeated (earlier bs (i + 1)) (placed (shown_bindings (drop (i + 1) bs)))
+pub repeated_next : (bs : List Bound) (i : ℕ) (b : Bound) → i < length bs → b ≡ get_or bs i b → list_any (bytes_eq b.name) (earlier bs i) ≡ false →
+    repeated (earlier bs i) (placed (shown_bindings (drop i bs))) ≡ repeated (earlier bs (i + 1)) (placed (shown_bindings (drop (i + 1) bs)))
 repeated_next bs i b lt is q = here bs i b false lt is q

@@ -6,10 +6,14 @@ use Rattle.safl_word.specs.declared.fault.Fault.{Fault}
 use Rattle.safl_word.specs.declared.primitive.Primitive.{Primitive}
 use Rattle.safl_term.specs.Terms as terms
 use Rattle.safl_term.specs.Terms.{Term, Const, Var, Loop, Terms, Cons}
-use Rattle.safl_typing.specs.Rewriting.{Expression, Number, Sized, Variable, If, Let, Op, Call, Expressions, no_expression, an_expression, Bindings, no_binding, a_binding, Shape, Alike, Comparing, Shifting, Resizing, shape, takes_width, flexible, all_flexible, count}
+use Rattle.safl_typing.specs.Rewriting.{Expression, Number, Sized, Variable, If, Let, Op, Call, Expressions, no_expression, an_expression, Bindings}
+use Rattle.safl_typing.specs.Rewriting.{no_binding, a_binding, Shape, Alike, Comparing, Shifting, Resizing, shape, takes_width, flexible}
+use Rattle.safl_typing.specs.Rewriting.{all_flexible, count}
 use Rattle.safl_typing.specs.Heads.{Slot, Head, Known, Callee, Member, Above, Unknown, callee, sites, sites_bound}
 use Rattle.safl_typing.specs.Typing.{At, word, widths_of, slots, Keeps, AreAll, AllRigid, RigidOr, Shifts, Suits, Calls, Has, HaveAll, HaveBound}
-use Rattle.safl_typing.specs.Walk.{after, unless, needs, Typed, TypedAlike, TypedAll, Wanted, Any, Exactly, is_any, is_known, wanted_by, settle, number, sized, variable, branches, alike, operated, arguments, called, all_any, amounts, exactly, check, check_all, check_alike, check_shift, check_bound}
+use Rattle.safl_typing.specs.Walk.{after, unless, needs, Typed, TypedAlike, TypedAll, Wanted, Any, Exactly, is_any, is_known, wanted_by, settle}
+use Rattle.safl_typing.specs.Walk.{number, sized, variable, branches, alike, operated, arguments, called, all_any, amounts, exactly, check, check_all}
+use Rattle.safl_typing.specs.Walk.{check_alike, check_shift, check_bound}
 use Rattle.safl_typing.proofs.Counts.{has_sites, have_sites_bound}
 use Rattle.safl_typing.proofs.Names.{bound_differ}
 
@@ -104,7 +108,8 @@ called_met (Member i h) tail lo first mid p m n args ws us w t q e en met ea =
     unless_gives _ _ _ (needs_gives _ _ q.0)
     (arguments_met p m h n _ (λ us. Loop i us) ws us w t en q.2 q.3 q.4 met (subst (λ (l : List ℕ). args first l ≡ Ok (typed_all ws us)) q.2 (ea first (e ∙ sym q.1))))
 called_met (Above i h) tail lo first mid p m n args ws us w t q e en met ea =
-    arguments_met p m h n _ (λ us. terms.Call i first us) ws us w t en q.1 q.2 (q.3 ∙ ap (λ (z : ℕ). terms.Call i z us) (sym e)) met (subst (λ (l : List ℕ). args (suc first) l ≡ Ok (typed_all ws us)) q.1 (ea (suc first) (ap (λ (z : ℕ). suc z) e ∙ sym q.0)))
+    arguments_met p m h n _ (λ us. terms.Call i first us) ws us w t en q.1 q.2 (q.3 ∙ ap (λ (z : ℕ). terms.Call i z us) (sym e)) met
+    (subst (λ (l : List ℕ). args (suc first) l ≡ Ok (typed_all ws us)) q.1 (ea (suc first) (ap (λ (z : ℕ). suc z) e ∙ sym q.0)))
 called_met Unknown tail lo first mid p m n args ws us w t q e en met ea = absurd q
 
 -- as many expressions as widths
@@ -152,7 +157,8 @@ met_written (Some v) e w h = h
 
 mutual
   -- the expression is checked where its sites begin
-  pub has_checks : (k : Known) (s : List Slot) (tail : Bool) (lo hi first : ℕ) (m : Wanted) (e : Expression) (w : ℕ) (t : Term) → first ≡ lo → Has k s tail lo hi e w t → Met m (flexible e) w → check k s tail first m e ≡ Ok (typed w t)
+  pub has_checks : (k : Known) (s : List Slot) (tail : Bool) (lo hi first : ℕ) (m : Wanted) (e : Expression) (w : ℕ) (t : Term) → first ≡ lo → Has k s
+      tail lo hi e w t → Met m (flexible e) w → check k s tail first m e ≡ Ok (typed w t)
   has_checks k s tail lo hi first m (Number p n) w t at h met = number_met p n m w t met h.1.fits h.2
   has_checks k s tail lo hi first m (Sized p v n) w t at h met = sized_met p v n m w t met h.1 h.2.fits h.3
   has_checks k s tail lo hi first m (Variable p x) w t at (l, i, e, q) met = variable_met p m _ i w t met e q
@@ -182,7 +188,8 @@ mutual
       called_met (callee k f) tail lo first mid p m (count es) _ ws us w t q at (many_length es ws many) met
       (λ i e. have_checks k s mid hi i (exactly ws) es ws us e hs (met_exactly es ws many))
 
-  pub have_checks : (k : Known) (s : List Slot) (lo hi first : ℕ) (ms : List Wanted) (es : Expressions) (ws : List ℕ) (us : Terms) → first ≡ lo → HaveAll k s lo hi es ws us → MetAll ms es ws → check_all k s first ms es ≡ Ok (typed_all ws us)
+  pub have_checks : (k : Known) (s : List Slot) (lo hi first : ℕ) (ms : List Wanted) (es : Expressions) (ws : List ℕ) (us : Terms) → first ≡ lo →
+      HaveAll k s lo hi es ws us → MetAll ms es ws → check_all k s first ms es ≡ Ok (typed_all ws us)
   have_checks k s lo hi first ms no_expression [] us at h met = cc
   have_checks k s lo hi first ms no_expression (w ∷ ws) us at h met = absurd h
   have_checks k s lo hi first [] (an_expression e es) ws us at h met = absurd met
@@ -192,7 +199,8 @@ mutual
       after_gives _ _ (typed w t) _ (has_checks k s _ lo mid first m e w t at he met.0)
       (after_gives _ _ (typed_all ws ts) _ (have_checks k s mid hi (first + sites k e) ms es ws ts (omega (arith, ee, at)) hs met.1) cc)
 
-  pub have_checks_alike : (k : Known) (s : List Slot) (lo hi first p : ℕ) (m : Wanted) (w : ℕ) (es : Expressions) (ws : List ℕ) (us : Terms) → first ≡ lo → HaveAll k s lo hi es ws us → AreAll w ws → Met m (all_flexible es) w → check_alike k s first p m es ≡ Ok (typed_alike w us)
+  pub have_checks_alike : (k : Known) (s : List Slot) (lo hi first p : ℕ) (m : Wanted) (w : ℕ) (es : Expressions) (ws : List ℕ) (us : Terms) → first ≡
+      lo → HaveAll k s lo hi es ws us → AreAll w ws → Met m (all_flexible es) w → check_alike k s first p m es ≡ Ok (typed_alike w us)
   have_checks_alike k s lo hi first p Any w no_expression [] us at h all met = absurd cc
   have_checks_alike k s lo hi first p (Exactly v) w no_expression [] us at h all met = cc
   have_checks_alike k s lo hi first p m w no_expression (v ∷ ws) us at h all met = absurd h
@@ -204,15 +212,18 @@ mutual
       (λ x g. has_checks k s _ lo mid first x e w t at (subst (λ (i : ℕ). Has k s false lo mid e i t) all.0 he) g)
       (λ x g. have_checks_alike k s mid hi (first + sites k e) p x w es ws ts (omega (arith, ee, at)) hs all.1 g))
 
-  pub have_checks_shift : (k : Known) (s : List Slot) (lo hi first p w : ℕ) (es : Expressions) (ws : List ℕ) (us : Terms) → first ≡ lo → HaveAll k s lo hi es ws us → Shifts w es ws → check_shift k s first p es ≡ Ok (typed_alike w us)
+  pub have_checks_shift : (k : Known) (s : List Slot) (lo hi first p w : ℕ) (es : Expressions) (ws : List ℕ) (us : Terms) → first ≡ lo → HaveAll k s
+      lo hi es ws us → Shifts w es ws → check_shift k s first p es ≡ Ok (typed_alike w us)
   have_checks_shift k s lo hi first p w no_expression ws us at h sh = absurd sh
   have_checks_shift k s lo hi first p w (an_expression e es) [] us at h sh = absurd h
   have_checks_shift k s lo hi first p w (an_expression e es) (v ∷ ws) us at (mid, t, ts, he, hs, q) sh =
       let ee = has_sites k s _ lo mid e v t he in
       after_gives _ _ (typed w t) _ (has_checks k s _ lo mid first Any e w t at (subst (λ (i : ℕ). Has k s false lo mid e i t) sh.1 he) sh.0)
-      (after_gives _ _ (typed_all ws ts) _ (have_checks k s mid hi (first + sites k e) (amounts w es) es ws ts (omega (arith, ee, at)) hs (met_amounts w es ws sh.2 (have_many k s mid hi es ws ts hs))) cc)
+      (after_gives _ _ (typed_all ws ts) _ (have_checks k s mid hi (first + sites k e) (amounts w es) es ws ts (omega (arith, ee, at)) hs
+      (met_amounts w es ws sh.2 (have_many k s mid hi es ws ts hs))) cc)
 
-  pub have_checks_bound : (k : Known) (s : List Slot) (lo hi first : ℕ) (bs : Bindings) (ws : List ℕ) (us : Terms) → first ≡ lo → HaveBound k s lo hi bs ws us → check_bound k s first bs ≡ Ok (typed_all ws us)
+  pub have_checks_bound : (k : Known) (s : List Slot) (lo hi first : ℕ) (bs : Bindings) (ws : List ℕ) (us : Terms) → first ≡ lo → HaveBound k s lo hi
+      bs ws us → check_bound k s first bs ≡ Ok (typed_all ws us)
   have_checks_bound k s lo hi first no_binding [] us at h = cc
   have_checks_bound k s lo hi first no_binding (w ∷ ws) us at h = absurd h
   have_checks_bound k s lo hi first (a_binding p x v e bs) [] us at h = absurd h

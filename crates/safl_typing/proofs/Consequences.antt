@@ -30,7 +30,8 @@ alone : (b : Bool) (n u : ℕ) → b ≡ false → cond b u n ≡ n
 alone true n u e = absurd cc
 alone false n u e = refl
 
-pub units_alone : (all : List Head) (n u w lo hi : ℕ) (ds : List Definition) (fs : List FunctionForm) (i : ℕ) (f : FunctionForm) → NoneJoined ds → AreFunctionsOf all n u w lo hi ds fs → slice_get fs i ≡ Some f → f.unit ≡ n + i
+pub units_alone : (all : List Head) (n u w lo hi : ℕ) (ds : List Definition) (fs : List FunctionForm) (i : ℕ) (f : FunctionForm) → NoneJoined ds →
+    AreFunctionsOf all n u w lo hi ds fs → slice_get fs i ≡ Some f → f.unit ≡ n + i
 units_alone all n u w lo hi [] [] i f single h e = absurd cc
 units_alone all n u w lo hi [] (g ∷ fs) i f single h e = absurd h
 units_alone all n u w lo hi (d ∷ ds) [] i f single h e = absurd h

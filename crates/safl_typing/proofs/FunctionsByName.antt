@@ -1,5 +1,6 @@
 -- Functions that are found by their names.
-use Rattle.std.proofs.Common.{◌≡◌, ℕ, zero, suc, ◌+◌, ◌<◌, ◌≤◌, arith, List, [], ◌∷◌, ◌++◌, length, drop, get_or, drop-cons, add-one, Bool, true, false, cond, Option, Some, None, IfSome, Vec, refl, sym, ap, ◌∙◌, subst, ◌⊎◌, inl, inr, ⊎_elim}
+use Rattle.std.proofs.Common.{◌≡◌, ℕ, zero, suc, ◌+◌, ◌<◌, ◌≤◌, arith, List, [], ◌∷◌, ◌++◌, length, drop, get_or, drop-cons, add-one, Bool, true}
+use Rattle.std.proofs.Common.{false, cond, Option, Some, None, IfSome, Vec, refl, sym, ap, ◌∙◌, subst, ◌⊎◌, inl, inr, ⊎_elim}
 use Rattle.std.specs.Prelude.{slice_get, ◌&&◌}
 use Rattle.std.specs.Global.{Global}
 use Rattle.std.specs.Str.{bytes_eq}
@@ -31,7 +32,8 @@ kept_insert : (es : List (Vec ℕ Global × ℕ)) (key : Vec ℕ Global) (v : �
 kept_insert [] key v name = refl
 kept_insert (e ∷ es) key v name = by (kept_insert es key v name) (same_key key e.0) refl
   where
-    by : kept (insert_entry same_key es key v) name ≡ cond (bytes_eq name key.items) (Some v) (kept es name) → (b : Bool) → same_key key e.0 ≡ b → kept (insert_entry same_key (e ∷ es) key v) name ≡ cond (bytes_eq name key.items) (Some v) (kept (e ∷ es) name)
+    by : kept (insert_entry same_key es key v) name ≡ cond (bytes_eq name key.items) (Some v) (kept es name) → (b : Bool) → same_key key e.0 ≡ b →
+        kept (insert_entry same_key (e ∷ es) key v) name ≡ cond (bytes_eq name key.items) (Some v) (kept (e ∷ es) name)
     by rest true q =
         ap (λ (b : Bool). kept (cond b ((e.0, v) ∷ es) (e ∷ insert_entry same_key es key v)) name) q
         ∙ over (bytes_eq name e.0.items) (Some v) (Some e.1) (kept es name)
@@ -40,7 +42,8 @@ kept_insert (e ∷ es) key v name = by (kept_insert es key v name) (same_key key
         ap (λ (b : Bool). kept (cond b ((e.0, v) ∷ es) (e ∷ insert_entry same_key es key v)) name) q
         ∙ ap (λ (o : Option ℕ). cond (bytes_eq name e.0.items) (Some e.1) o) rest
         ∙ past (bytes_eq name e.0.items) (bytes_eq name key.items) (Some e.1) (Some v) (kept es name)
-        (λ here there. let t : same_key key e.0 ≡ true = (bytes_eq-Decides key.items e.0.items).1 (sym ((bytes_eq-Decides name key.items).0 there) ∙ (bytes_eq-Decides name e.0.items).0 here) in absurd cc)
+        (λ here there. let t : same_key key e.0 ≡ true = (bytes_eq-Decides key.items e.0.items).1
+        (sym ((bytes_eq-Decides name key.items).0 there) ∙ (bytes_eq-Decides name e.0.items).0 here) in absurd cc)
 
 in_front : {A : Type 0} (xs ys : List A) (m : ℕ) → m < length xs → slice_get (xs ++ ys) m ≡ slice_get xs m
 in_front [] ys m lt = absurd (omega (arith, lt))
@@ -100,8 +103,10 @@ last_is hs f (suc n) le = ⊎_elim
     sooner (Some m) h = (omega (arith, h.0), h.1)
 
     by : IsNamed hs f n (last_named hs f n) → (h : code.Head) (b : Bool) → slice_get hs n ≡ Some h → bytes_eq f h.name ≡ b → IsNamed hs f (suc n) (last_named hs f (suc n))
-    by rest h true at e = subst (IsNamed hs f (suc n)) (sym (ap (λ (o : Option code.Head). cond (has_name f o) (Some n) (last_named hs f n)) at ∙ ap (λ (b : Bool). cond b (Some n) (last_named hs f n)) e)) (omega arith, ap name_of at ∙ sym ((bytes_eq-Decides f h.name).0 e))
-    by rest h false at e = subst (IsNamed hs f (suc n)) (sym (ap (λ (o : Option code.Head). cond (has_name f o) (Some n) (last_named hs f n)) at ∙ ap (λ (b : Bool). cond b (Some n) (last_named hs f n)) e)) (sooner (last_named hs f n) rest)
+    by rest h true at e = subst (IsNamed hs f (suc n)) (sym (ap (λ (o : Option code.Head). cond (has_name f o) (Some n) (last_named hs f n)) at ∙ ap
+        (λ (b : Bool). cond b (Some n) (last_named hs f n)) e)) (omega arith, ap name_of at ∙ sym ((bytes_eq-Decides f h.name).0 e))
+    by rest h false at e = subst (IsNamed hs f (suc n)) (sym (ap (λ (o : Option code.Head). cond (has_name f o) (Some n) (last_named hs f n)) at ∙ ap
+        (λ (b : Bool). cond b (Some n) (last_named hs f n)) e)) (sooner (last_named hs f n) rest)
 
 bound_named : (hs : List code.Head) (f : List ℕ) (n : ℕ) (at : Option ℕ) → IsNamed hs f n at → bound at ≤ n
 bound_named hs f n None h = omega arith
@@ -137,7 +142,8 @@ module _ (in_unit : ℕ → Bool) (f : List ℕ) (hs : List code.Head) where
       (λ q. absurd (omega (arith, q.0, le))) (slice_get_cases hs n).1
     where
       by : from (bound (last_named hs f n)) ≡ from n → (h : code.Head) (b : Bool) → slice_get hs n ≡ Some h → bytes_eq f h.name ≡ b → from (bound (last_named hs f (suc n))) ≡ from (suc n)
-      by rest h true at e = ap (λ (o : Option ℕ). from (bound o)) (ap (λ (o : Option code.Head). cond (has_name f o) (Some n) (last_named hs f n)) at ∙ ap (λ (b : Bool). cond b (Some n) (last_named hs f n)) e)
+      by rest h true at e = ap (λ (o : Option ℕ). from (bound o))
+          (ap (λ (o : Option code.Head). cond (has_name f o) (Some n) (last_named hs f n)) at ∙ ap (λ (b : Bool). cond b (Some n) (last_named hs f n)) e)
       by rest h false at e =
           ap (λ (o : Option ℕ). from (bound o)) (ap (λ (o : Option code.Head). cond (has_name f o) (Some n) (last_named hs f n)) at ∙ ap (λ (b : Bool). cond b (Some n) (last_named hs f n)) e)
           ∙ rest ∙ from_step n h (omega (arith, le)) at
@@ -186,7 +192,8 @@ module _ (in_unit : ℕ → Bool) (f : List ℕ) (hs : List code.Head) where
               ∙ sym (skip m le ∙ from_step m h sought.named.0 at ∙ ap (λ (c : Bool). cond c (Some (record { number = m; head = shown_head h })) (from (suc m))) (tested ∙ u));
         })
 
-  pub sought_more : (at found next new : Option ℕ) (m : ℕ) (h : code.Head) (b : Bool) → IsSought at found → at ≡ Some m → slice_get hs m ≡ Some h → next ≡ before_it hs m → in_unit h.unit ≡ b → new ≡ cond b (Some m) found → IsSought next new
+  pub sought_more : (at found next new : Option ℕ) (m : ℕ) (h : code.Head) (b : Bool) → IsSought at found → at ≡ Some m → slice_get hs m ≡ Some h →
+      next ≡ before_it hs m → in_unit h.unit ≡ b → new ≡ cond b (Some m) found → IsSought next new
   sought_more at found next new m h b sought is get e u n =
       subst (λ (o : Option ℕ). IsSought next o) (sym n) (sought_next m h found next (subst (λ (o : Option ℕ). IsSought o found) is sought) get e b u)
 

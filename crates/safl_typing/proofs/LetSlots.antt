@@ -21,7 +21,8 @@ counted k s lo (a_binding p x v y bs) r e =
     subst (λ (z : TypedAll). length (slots (a_binding p x v y bs) z.widths) ≡ count z.terms) (ok_is (joined q.0 u.0) r u.2) (ap suc (counted k s (lo + sites k y) bs u.0 u.1))
 
 -- the body sees as many slots more
-pub body_sees : (k : Known) (s own : List Slot) (lo : ℕ) (bs : Bindings) (r : TypedAll) (ts : List Term) → check_bound k s lo bs ≡ Ok r → own ≡ slots bs r.widths → r.terms ≡ shown_terms ts → length (s ++ own) ≡ length s + length ts
+pub body_sees : (k : Known) (s own : List Slot) (lo : ℕ) (bs : Bindings) (r : TypedAll) (ts : List Term) → check_bound k s lo bs ≡ Ok r → own ≡ slots
+    bs r.widths → r.terms ≡ shown_terms ts → length (s ++ own) ≡ length s + length ts
 body_sees k s own lo bs r ts e o t =
     let n : length own ≡ length ts = ap (λ (l : List Slot). length l) o ∙ counted k s lo bs r e ∙ ap count t ∙ count_forest ts in
     omega (arith, append_length s own, n)

@@ -48,7 +48,8 @@ mutual
   short_lets (Variable p x) h = refl
   short_lets (If p c a b) h = place_none _ _ (short_lets c h.0) (place_none _ _ (short_lets a h.1) (short_lets b h.2))
   short_lets (Let p bs b) h =
-      place_none _ _ (excess_none max_bindings (map (λ x. x.place) (placed bs)) (subst (λ (n : ℕ). n ≤ max_bindings) (sym (places_length bs)) h.0)) (place_none _ _ (short_lets_bound bs h.1) (short_lets b h.2))
+      place_none _ _ (excess_none max_bindings (map (λ x. x.place) (placed bs)) (subst (λ (n : ℕ). n ≤ max_bindings) (sym (places_length bs)) h.0))
+      (place_none _ _ (short_lets_bound bs h.1) (short_lets b h.2))
   short_lets (Op p o es) h = short_lets_in es h
   short_lets (Call p f es) h = short_lets_in es h
 

@@ -16,10 +16,13 @@ front es i e lt is =
     let s : suc i ≡ i + 1 = omega arith in
     drop-cons es i e lt ∙ ap (λ (z : code.Expression). z ∷ drop (suc i) es) (sym is) ∙ ap (λ (j : ℕ). e ∷ drop j es) s
 
-pub flexible_next : (es : List code.Expression) (i : ℕ) (e : code.Expression) → i < length es → e ≡ get_or es i e → flexible (shown_expression e) ≡ true → all_flexible (shown_expressions es) ≡ all_flexible (shown_expressions (drop i es)) → all_flexible (shown_expressions es) ≡ all_flexible (shown_expressions (drop (i + 1) es))
+pub flexible_next : (es : List code.Expression) (i : ℕ) (e : code.Expression) → i < length es → e ≡ get_or es i e → flexible (shown_expression e) ≡
+    true → all_flexible (shown_expressions es) ≡ all_flexible (shown_expressions (drop i es)) → all_flexible (shown_expressions es) ≡ all_flexible
+    (shown_expressions (drop (i + 1) es))
 flexible_next es i e lt is q h = h ∙ ap (λ (l : List code.Expression). all_flexible (shown_expressions l)) (front es i e lt is) ∙ flexible_cons e (drop (i + 1) es) true q
 
-pub flexible_not : (es : List code.Expression) (i : ℕ) (e : code.Expression) → i < length es → e ≡ get_or es i e → flexible (shown_expression e) ≡ false → all_flexible (shown_expressions es) ≡ all_flexible (shown_expressions (drop i es)) → all_flexible (shown_expressions es) ≡ false
+pub flexible_not : (es : List code.Expression) (i : ℕ) (e : code.Expression) → i < length es → e ≡ get_or es i e → flexible (shown_expression e) ≡
+    false → all_flexible (shown_expressions es) ≡ all_flexible (shown_expressions (drop i es)) → all_flexible (shown_expressions es) ≡ false
 flexible_not es i e lt is q h = h ∙ ap (λ (l : List code.Expression). all_flexible (shown_expressions l)) (front es i e lt is) ∙ flexible_cons e (drop (i + 1) es) false q
 
 upto : (es : List code.Expression) (i : ℕ) (e : code.Expression) → i < length es → e ≡ get_or es i e → take (i + 1) es ≡ take i es ++ e ∷ []
@@ -50,16 +53,22 @@ sites_end : (k : Known) (xs : List code.Expression) (x : code.Expression) → si
 sites_end k [] x = omega arith
 sites_end k (y ∷ ys) x = omega (arith, sites_end k ys x)
 
-pub sites_next : (k : Known) (es : List code.Expression) (i : ℕ) (e : code.Expression) (counted total next : ℕ) → i < length es → e ≡ get_or es i e → total ≡ min 4001 (counted + sites_in k (shown_expressions (take i es))) → next ≡ min 4001 (total + sites k (shown_expression e)) → next ≡ min 4001 (counted + sites_in k (shown_expressions (take (i + 1) es)))
+pub sites_next : (k : Known) (es : List code.Expression) (i : ℕ) (e : code.Expression) (counted total next : ℕ) → i < length es → e ≡ get_or es i e →
+    total ≡ min 4001 (counted + sites_in k (shown_expressions (take i es))) → next ≡ min 4001 (total + sites k (shown_expression e)) → next ≡ min 4001
+    (counted + sites_in k (shown_expressions (take (i + 1) es)))
 sites_next k es i e counted total next lt is h q =
-    let s : sites_in k (shown_expressions (take (i + 1) es)) ≡ sites_in k (shown_expressions (take i es)) + sites k (shown_expression e) = ap (λ (l : List code.Expression). sites_in k (shown_expressions l)) (upto es i e lt is) ∙ sites_end k (take i es) e in
+    let s : sites_in k (shown_expressions (take (i + 1) es)) ≡ sites_in k (shown_expressions (take i es)) + sites k (shown_expression e) = ap
+    (λ (l : List code.Expression). sites_in k (shown_expressions l)) (upto es i e lt is) ∙ sites_end k (take i es) e in
     omega (arith, h, q, s)
 
 bound_sites_end : (k : Known) (xs : List Bound) (x : Bound) → sites_bound k (shown_bindings (xs ++ x ∷ [])) ≡ sites_bound k (shown_bindings xs) + sites k (shown_expression x.value)
 bound_sites_end k [] x = omega arith
 bound_sites_end k (y ∷ ys) x = omega (arith, bound_sites_end k ys x)
 
-pub bound_sites_next : (k : Known) (es : List Bound) (i : ℕ) (e : Bound) (counted total next : ℕ) → i < length es → e ≡ get_or es i e → total ≡ min 4001 (counted + sites_bound k (shown_bindings (take i es))) → next ≡ min 4001 (total + sites k (shown_expression e.value)) → next ≡ min 4001 (counted + sites_bound k (shown_bindings (take (i + 1) es)))
+pub bound_sites_next : (k : Known) (es : List Bound) (i : ℕ) (e : Bound) (counted total next : ℕ) → i < length es → e ≡ get_or es i e → total ≡ min
+    4001 (counted + sites_bound k (shown_bindings (take i es))) → next ≡ min 4001 (total + sites k (shown_expression e.value)) → next ≡ min 4001
+    (counted + sites_bound k (shown_bindings (take (i + 1) es)))
 bound_sites_next k es i e counted total next lt is h q =
-    let s : sites_bound k (shown_bindings (take (i + 1) es)) ≡ sites_bound k (shown_bindings (take i es)) + sites k (shown_expression e.value) = ap (λ (l : List Bound). sites_bound k (shown_bindings l)) (bound_upto es i e lt is) ∙ bound_sites_end k (take i es) e in
+    let s : sites_bound k (shown_bindings (take (i + 1) es)) ≡ sites_bound k (shown_bindings (take i es)) + sites k (shown_expression e.value) = ap
+    (λ (l : List Bound). sites_bound k (shown_bindings l)) (bound_upto es i e lt is) ∙ bound_sites_end k (take i es) e in
     omega (arith, h, q, s)

@@ -1,6 +1,7 @@
 -- Rewriting lists of expressions, one by one.
 use Rattle.std.proofs.lemmas.Option.{slice_get_read}
-use Rattle.std.proofs.Common.{◌≡◌, ℕ, zero, suc, ◌+◌, ◌-◌, ◌<◌, ◌≤◌, arith, drop, get_or, drop-cons, List, [], ◌∷◌, ◌++◌, length, take, Some, None, slice_get, Vec, Box, Global, refl, sym, ap, ◌∙◌, add-one}
+use Rattle.std.proofs.Common.{◌≡◌, ℕ, zero, suc, ◌+◌, ◌-◌, ◌<◌, ◌≤◌, arith, drop, get_or, drop-cons, List, [], ◌∷◌, ◌++◌, length, take, Some, None}
+use Rattle.std.proofs.Common.{slice_get, Vec, Box, Global, refl, sym, ap, ◌∙◌, add-one}
 use Rattle.safl_word.specs.declared.primitive.Primitive.{Primitive}
 use Rattle.safl_tree.specs.declared.tree.Expr.{Expr}
 use Rattle.safl_tree.specs.declared.tree.Bind.{Bind}
@@ -12,7 +13,8 @@ use Rattle.safl_tree.specs.Tree.{Tree, trees_of, binds_of, arms_of, place_of}
 use Rattle.safl_tree.specs.Shown.{shown_tree, shown_node, shown_trees, shown_bounds, shown_labelled}
 use Rattle.safl_typing.specs.declared.expression.Bound.{Bound}
 use Rattle.safl_typing.specs.declared.expression.Expression as code
-use Rattle.safl_typing.specs.Rewriting.{Expression, If, Let, Op, Call, Expressions, no_expression, an_expression, Bindings, no_binding, a_binding, rewritten, rewritten_all, rewritten_binds, rewritten_arms, scrutinee, test_at}
+use Rattle.safl_typing.specs.Rewriting.{Expression, If, Let, Op, Call, Expressions, no_expression, an_expression, Bindings, no_binding, a_binding}
+use Rattle.safl_typing.specs.Rewriting.{rewritten, rewritten_all, rewritten_binds, rewritten_arms, scrutinee, test_at}
 use Rattle.safl_typing.specs.Plain.{shown_expression, shown_expressions, shown_bindings}
 use Rattle.safl_tree.proofs.ShownTrees.{op_shows, call_shows, let_shows, case_shows, shown_place}
 
@@ -25,12 +27,14 @@ pub shown_end : (xs : List code.Expression) (x : code.Expression) → shown_expr
 shown_end [] x = refl
 shown_end (y ∷ ys) x = ap (an_expression (shown_expression y)) (shown_end ys x)
 
-all_next : (es : List Expr) (i : ℕ) (e : Expr) → slice_get es i ≡ Some e → rewritten_all (trees_of (shown_trees (take (suc i) es))) ≡ more (rewritten_all (trees_of (shown_trees (take i es)))) (rewritten (shown_tree e))
+all_next : (es : List Expr) (i : ℕ) (e : Expr) → slice_get es i ≡ Some e → rewritten_all (trees_of (shown_trees (take (suc i) es))) ≡ more
+    (rewritten_all (trees_of (shown_trees (take i es)))) (rewritten (shown_tree e))
 all_next [] i e h = absurd (cc)
 all_next (y ∷ ys) zero e h = let g : y ≡ e = cc in ap (λ (z : Expr). an_expression (rewritten (shown_tree z)) no_expression) g
 all_next (y ∷ ys) (suc i) e h = ap (an_expression (rewritten (shown_tree y))) (all_next ys i e h)
 
-pub all_more : (es : List Expr) (i : ℕ) (e : Expr) → slice_get es i ≡ Some e → rewritten_all (trees_of (shown_trees (take (i + 1) es))) ≡ more (rewritten_all (trees_of (shown_trees (take i es)))) (rewritten (shown_tree e))
+pub all_more : (es : List Expr) (i : ℕ) (e : Expr) → slice_get es i ≡ Some e → rewritten_all (trees_of (shown_trees (take (i + 1) es))) ≡ more
+    (rewritten_all (trees_of (shown_trees (take i es)))) (rewritten (shown_tree e))
 all_more es i e h = ap (λ (k : ℕ). rewritten_all (trees_of (shown_trees (take k es)))) (add-one i) ∙ all_next es i e h
 
 -- one more binding at the end
@@ -48,12 +52,14 @@ bound_end : (xs : List Bound) (x : Bound) → shown_bindings (xs ++ x ∷ []) �
 bound_end [] x = refl
 bound_end (y ∷ ys) x = ap (a_binding y.place y.name y.width (shown_expression y.value)) (bound_end ys x)
 
-binds_next : (bs : List Bind) (i : ℕ) (b : Bind) → slice_get bs i ≡ Some b → rewritten_binds (binds_of (shown_bounds (take (suc i) bs))) ≡ more_bound (rewritten_binds (binds_of (shown_bounds (take i bs)))) (shown_bind b)
+binds_next : (bs : List Bind) (i : ℕ) (b : Bind) → slice_get bs i ≡ Some b → rewritten_binds (binds_of (shown_bounds (take (suc i) bs))) ≡ more_bound
+    (rewritten_binds (binds_of (shown_bounds (take i bs)))) (shown_bind b)
 binds_next [] i b h = absurd (cc)
 binds_next (y ∷ ys) zero b h = let g : y ≡ b = cc in ap shown_bind g
 binds_next (y ∷ ys) (suc i) b h = ap (a_binding y.place y.name y.width (rewritten (shown_tree y.value))) (binds_next ys i b h)
 
-binds_more : (bs : List Bind) (i : ℕ) (b : Bind) → slice_get bs i ≡ Some b → rewritten_binds (binds_of (shown_bounds (take (i + 1) bs))) ≡ more_bound (rewritten_binds (binds_of (shown_bounds (take i bs)))) (shown_bind b)
+binds_more : (bs : List Bind) (i : ℕ) (b : Bind) → slice_get bs i ≡ Some b → rewritten_binds (binds_of (shown_bounds (take (i + 1) bs))) ≡ more_bound
+    (rewritten_binds (binds_of (shown_bounds (take i bs)))) (shown_bind b)
 binds_more bs i b h = ap (λ (k : ℕ). rewritten_binds (binds_of (shown_bounds (take k bs)))) (add-one i) ∙ binds_next bs i b h
 
 -- ---- the kinds of expressions that have lists
@@ -68,12 +74,15 @@ let_rewrites n p binds body bs b xs e is x v hs h =
     ∙ sym (ap (λ (z : Node). rewritten (shown_node z p)) is ∙ ap rewritten (let_shows binds body p))
 
 pub case_rewrites : (n : Node) (p : ℕ) (looked_at : Box Expr Global) (arms : Vec Arm Global) (other : Box Expr Global) (v b : code.Expression) (xs : List Arm) (e : Expr)
-    → n ≡ Case looked_at arms other → xs ≡ arms.items → e ≡ looked_at.value → shown_expression v ≡ rewritten (shown_tree e) → shown_expression b ≡ rewritten_arms p (arms_of (shown_labelled xs) (shown_tree other.value))
+    → n ≡ Case looked_at arms other → xs ≡ arms.items → e ≡ looked_at.value → shown_expression v ≡ rewritten (shown_tree e) → shown_expression b ≡
+    rewritten_arms p (arms_of (shown_labelled xs) (shown_tree other.value))
     → Let p (a_binding p scrutinee None (shown_expression v) no_binding) (shown_expression b) ≡ rewritten (shown_node n p)
 case_rewrites n p looked_at arms other v b xs e is x y h k =
     let w : shown_expression v ≡ rewritten (shown_tree looked_at.value) = h ∙ ap (λ (z : Expr). rewritten (shown_tree z)) y in
-    let g : shown_expression b ≡ rewritten_arms p (arms_of (shown_labelled arms.items) (shown_tree other.value)) = k ∙ ap (λ (l : List Arm). rewritten_arms p (arms_of (shown_labelled l) (shown_tree other.value))) x in
-    ap (λ (z : Expression). Let p (a_binding p scrutinee None z no_binding) (shown_expression b)) w ∙ ap (λ (z : Expression). Let p (a_binding p scrutinee None (rewritten (shown_tree looked_at.value)) no_binding) z) g
+    let g : shown_expression b ≡ rewritten_arms p (arms_of (shown_labelled arms.items) (shown_tree other.value)) = k ∙ ap
+    (λ (l : List Arm). rewritten_arms p (arms_of (shown_labelled l) (shown_tree other.value))) x in
+    ap (λ (z : Expression). Let p (a_binding p scrutinee None z no_binding) (shown_expression b)) w ∙ ap
+    (λ (z : Expression). Let p (a_binding p scrutinee None (rewritten (shown_tree looked_at.value)) no_binding) z) g
     ∙ sym (ap (λ (z : Node). rewritten (shown_node z p)) is ∙ ap rewritten (case_shows looked_at arms other p))
 
 pub op_rewrites : (n : Node) (p : ℕ) (o : Primitive) (es : Vec Expr Global) (all : Vec code.Expression Global) (xs : List Expr)
@@ -100,18 +109,22 @@ arm_rewrites p a label value rest arms t l v r =
 -- ---- loops
 
 pub all_push : (es : List Expr) (i : ℕ) (e : Expr) (xs ys : List code.Expression) (x : code.Expression) → i < length es → e ≡ get_or es i e → ys ≡ xs ++ x ∷ []
-    → shown_expressions xs ≡ rewritten_all (trees_of (shown_trees (take i es))) → shown_expression x ≡ rewritten (shown_tree e) → shown_expressions ys ≡ rewritten_all (trees_of (shown_trees (take (i + 1) es)))
+    → shown_expressions xs ≡ rewritten_all (trees_of (shown_trees (take i es))) → shown_expression x ≡ rewritten (shown_tree e) → shown_expressions ys
+    ≡ rewritten_all (trees_of (shown_trees (take (i + 1) es)))
 all_push es i e xs ys x lt is q h r =
-    ap shown_expressions q ∙ shown_end xs x ∙ ap (λ (z : Expressions). more z (shown_expression x)) h ∙ ap (more (rewritten_all (trees_of (shown_trees (take i es))))) r ∙ sym (all_more es i e (slice_get_read es (length es) i e refl lt is))
+    ap shown_expressions q ∙ shown_end xs x ∙ ap (λ (z : Expressions). more z (shown_expression x)) h ∙ ap
+    (more (rewritten_all (trees_of (shown_trees (take i es))))) r ∙ sym (all_more es i e (slice_get_read es (length es) i e refl lt is))
 
 pub binds_push : (bs : List Bind) (i : ℕ) (b : Bind) (xs ys : List Bound) (x : Bound) (name : List ℕ) → i < length bs → b ≡ get_or bs i b → ys ≡ xs ++ x ∷ []
     → shown_bindings xs ≡ rewritten_binds (binds_of (shown_bounds (take i bs))) → x.place ≡ b.place → x.name ≡ b.name → x.width ≡ b.width → shown_expression x.value ≡ rewritten (shown_tree b.value)
     → shown_bindings ys ≡ rewritten_binds (binds_of (shown_bounds (take (i + 1) bs)))
 binds_push bs i b xs ys x name lt is q h ep en ew r =
     let s : shown_binding x ≡ shown_bind b = cc in
-    ap shown_bindings q ∙ bound_end xs x ∙ ap (λ (z : Bindings). more_bound z (shown_binding x)) h ∙ ap (more_bound (rewritten_binds (binds_of (shown_bounds (take i bs))))) s ∙ sym (binds_more bs i b (slice_get_read bs (length bs) i b refl lt is))
+    ap shown_bindings q ∙ bound_end xs x ∙ ap (λ (z : Bindings). more_bound z (shown_binding x)) h ∙ ap
+    (more_bound (rewritten_binds (binds_of (shown_bounds (take i bs))))) s ∙ sym (binds_more bs i b (slice_get_read bs (length bs) i b refl lt is))
 
-pub arms_front : (p : ℕ) (arms : List Arm) (done : ℕ) (a : Arm) (label value rest : code.Expression) (condition body : Expression) (t : Tree) → done < length arms → a ≡ get_or arms (length arms - 1 - done) a
+pub arms_front : (p : ℕ) (arms : List Arm) (done : ℕ) (a : Arm) (label value rest : code.Expression) (condition body : Expression) (t : Tree) → done <
+    length arms → a ≡ get_or arms (length arms - 1 - done) a
     → condition ≡ test_at a.label.place (shown_expression label) → shown_expression label ≡ rewritten (shown_tree a.label) → shown_expression value ≡ rewritten (shown_tree a.value)
     → shown_expression rest ≡ rewritten_arms p (arms_of (shown_labelled (drop (length arms - done) arms)) t) → body ≡ If p condition (shown_expression value) (shown_expression rest)
     → body ≡ rewritten_arms p (arms_of (shown_labelled (drop (length arms - (done + 1)) arms)) t)
@@ -125,5 +138,6 @@ arms_front p arms done a label value rest condition body t lt is k l v r b =
     b ∙ ap (λ (z : Expression). If p z (shown_expression value) (shown_expression rest)) k ∙ arm_rewrites p a label value rest (drop (length arms - done) arms) t l v r
     ∙ sym (ap (λ (z : List Arm). rewritten_arms p (arms_of (shown_labelled z) t)) f)
 
-pub arms_whole : (p : ℕ) (arms : List Arm) (done : ℕ) (t : Tree) → length arms ≤ done → rewritten_arms p (arms_of (shown_labelled (drop (length arms - done) arms)) t) ≡ rewritten_arms p (arms_of (shown_labelled arms) t)
+pub arms_whole : (p : ℕ) (arms : List Arm) (done : ℕ) (t : Tree) → length arms ≤ done → rewritten_arms p
+    (arms_of (shown_labelled (drop (length arms - done) arms)) t) ≡ rewritten_arms p (arms_of (shown_labelled arms) t)
 arms_whole p arms done t le = let e : length arms - done ≡ 0 = omega (arith, le) in ap (λ (j : ℕ). rewritten_arms p (arms_of (shown_labelled (drop j arms)) t)) e

@@ -5,7 +5,9 @@ use Rattle.safl_word.specs.declared.primitive.Primitive.{Primitive}
 use Rattle.safl_typing.specs.declared.expression.Bound.{Bound}
 use Rattle.safl_typing.specs.declared.expression.Marks.{Marks}
 use Rattle.safl_typing.specs.declared.expression.Expression as code
-use Rattle.safl_typing.specs.declared.expression.Expression.{Row_of-Expression, end_of-Expression, more_of-Expression, items-the_row-Expression, items_hidden-the_row-Expression-1, Row_of-Bound, end_of-Bound, more_of-Bound, items-the_row-Bound, items_hidden-the_row-Bound-0}
+use Rattle.safl_typing.specs.declared.expression.Expression.{Row_of-Expression, end_of-Expression, more_of-Expression, items-the_row-Expression}
+use Rattle.safl_typing.specs.declared.expression.Expression.{items_hidden-the_row-Expression-1, Row_of-Bound, end_of-Bound, more_of-Bound}
+use Rattle.safl_typing.specs.declared.expression.Expression.{items-the_row-Bound, items_hidden-the_row-Bound-0}
 use Rattle.safl_typing.specs.declared.expression.Expression.TheVariants as codes
 use Rattle.safl_typing.specs.Rewriting.{Expression, Let, Op, Call}
 use Rattle.safl_typing.specs.Heads.{Known}
@@ -83,7 +85,8 @@ module _ (k : Known) (p : ℕ) (m : Marks) where
       let row = bound_of (codes.Let p m bs b) in
       (subst (BoundMarked k) (items_hidden-the_row-Bound-0 bs) (from_bound k row.0 row.1 h.1), h.2)
 
-  pub binding_marked : (bs : Vec Bound Global) (b : Box code.Expression Global) → IsMarkOf k (Let p (shown_bindings bs.items) (shown_expression b.value)) m → BoundMarked k bs.items → IsMarked k b.value → IsMarked k (codes.Let p m bs b)
+  pub binding_marked : (bs : Vec Bound Global) (b : Box code.Expression Global) → IsMarkOf k
+      (Let p (shown_bindings bs.items) (shown_expression b.value)) m → BoundMarked k bs.items → IsMarked k b.value → IsMarked k (codes.Let p m bs b)
   binding_marked bs b h hs hb =
       let row = bound_of (codes.Let p m bs b) in
       (subst (λ (e : Expression). IsMarkOf k e m) (sym (shown_expression-Let p m bs b)) h, to_bound k row.0 row.1 (subst (BoundMarked k) (sym (items_hidden-the_row-Bound-0 bs)) hs), hb)
@@ -108,7 +111,8 @@ module _ (k : Known) (e : code.Expression) (marked : IsMarked k e) (p : ℕ) (m 
       let g : IsMarked k (codes.If p m c a b) = subst (IsMarked k) is marked in
       (subst (IsMarked k) (sym ex) g.1, subst (IsMarked k) (sym ey) g.2, subst (IsMarked k) (sym ez) g.3)
 
-  pub in_binding : (bs : Vec Bound Global) (b : Box code.Expression Global) (cs : List Bound) (y : code.Expression) → e ≡ codes.Let p m bs b → cs ≡ bs.items → y ≡ b.value → BoundMarked k cs × IsMarked k y
+  pub in_binding : (bs : Vec Bound Global) (b : Box code.Expression Global) (cs : List Bound) (y : code.Expression) → e ≡ codes.Let p m bs b → cs ≡
+      bs.items → y ≡ b.value → BoundMarked k cs × IsMarked k y
   in_binding bs b cs y is eb ey =
       let g = binding_parts k p m bs b (subst (IsMarked k) is marked) in
       (subst (BoundMarked k) (sym eb) g.0, subst (IsMarked k) (sym ey) g.1)

@@ -38,20 +38,23 @@ pub record At (C : Program) (all : List Head) (n u lo hi : ℕ) (ds : List Defin
   pub next : option_map_or (λ (f : Function). f.first_site) (slice_get fs (suc i)) hi ≡ end
   pub noted : Noted C first (sites_of (n + i) (shown_term function.body))
 
-pub next_first : (all : List Head) (n u w lo hi : ℕ) (ds : List Definition) (fs : List Function) → AreShown all n u w lo hi ds fs → option_map_or (λ (f : Function). f.first_site) (slice_get fs 0) hi ≡ lo
+pub next_first : (all : List Head) (n u w lo hi : ℕ) (ds : List Definition) (fs : List Function) → AreShown all n u w lo hi ds fs → option_map_or
+    (λ (f : Function). f.first_site) (slice_get fs 0) hi ≡ lo
 next_first all n u w lo hi [] [] h = sym h
 next_first all n u w lo hi [] (f ∷ fs) h = absurd h
 next_first all n u w lo hi (d ∷ ds) [] h = absurd h
 next_first all n u w lo hi (d ∷ ds) (f ∷ fs) (m, is, j, rest) = is.first_site
 
-pub place_at : (C : Program) (all : List Head) (n u w lo hi : ℕ) (ds : List Definition) (fs : List Function) (i : ℕ) → i < length fs → AreShown all n u w lo hi ds fs → Noted C lo (all_sites n (map shown_function fs)) → At C all n u lo hi ds fs i
+pub place_at : (C : Program) (all : List Head) (n u w lo hi : ℕ) (ds : List Definition) (fs : List Function) (i : ℕ) → i < length fs → AreShown all n
+    u w lo hi ds fs → Noted C lo (all_sites n (map shown_function fs)) → At C all n u lo hi ds fs i
 place_at C all n u w lo hi [] [] i lt h noted = absurd (omega (arith, lt))
 place_at C all n u w lo hi [] (f ∷ fs) i lt h noted = absurd h
 place_at C all n u w lo hi (d ∷ ds) [] i lt h noted = absurd h
 place_at C all n u w lo hi (d ∷ ds) (f ∷ fs) zero lt (m, is, j, rest) noted =
     let k : Known = record { heads = all; unit = unit_of n u d } in
     let e : n ≡ n + 0 = omega arith in
-    let p = noted_parts C lo m (sites_of n (shown_term f.body)) (all_sites (suc n) (map shown_function fs)) (has_length n k (params_of d) true lo m (rewritten d.body) d.width (shown_term f.body) is.body) noted in
+    let p = noted_parts C lo m (sites_of n (shown_term f.body)) (all_sites (suc n) (map shown_function fs))
+    (has_length n k (params_of d) true lo m (rewritten d.body) d.width (shown_term f.body) is.body) noted in
     record {
       def = d;
       function = f;
@@ -93,7 +96,8 @@ unit_here : (b : Bool) (n u : ℕ) (d w : ℕ) (P : Type 0) → (b ≡ true → 
 unit_here true n u d w P j f g = f (refl, j refl)
 unit_here false n u d w P j f g = g refl
 
-pub step_at : (all : List Head) (n u w lo hi : ℕ) (ds : List Definition) (fs : List Function) (i : ℕ) (f g : Function) → AreShown all n u w lo hi ds fs → slice_get fs i ≡ Some f → slice_get fs (suc i) ≡ Some g
+pub step_at : (all : List Head) (n u w lo hi : ℕ) (ds : List Definition) (fs : List Function) (i : ℕ) (f g : Function) → AreShown all n u w lo hi ds
+    fs → slice_get fs i ≡ Some f → slice_get fs (suc i) ≡ Some g
     → ((g.unit ≡ f.unit) × (g.width ≡ f.width)) ⊎ (g.unit ≡ suc (n + i))
 step_at all n u w lo hi ds [] i f g h e q = absurd cc
 step_at all n u w lo hi [] (x ∷ fs) i f g h e q = absurd h
@@ -126,9 +130,16 @@ sites_length all n u w lo hi [] (f ∷ fs) h = absurd h
 sites_length all n u w lo hi (d ∷ ds) [] h = absurd h
 sites_length all n u w lo hi (d ∷ ds) (f ∷ fs) (m, is, j, rest) =
     let k : Known = record { heads = all; unit = unit_of n u d } in
-    omega (arith, append_length (sites_of n f.body) (all_sites (suc n) fs), has_length n k (params_of d) true lo m (rewritten d.body) d.width f.body is.body, sites_length all (suc n) (unit_of n u d) d.width m hi ds fs rest)
+    omega (
+      arith,
+      append_length (sites_of n f.body) (all_sites (suc n) fs),
+      has_length n k (params_of d) true lo m (rewritten d.body) d.width f.body
+          is.body,
+      sites_length all (suc n) (unit_of n u d) d.width m hi ds fs rest,
+    )
 
-pub nodes_same : (all : List Head) (n u w lo hi : ℕ) (ds : List Definition) (fs : List Function) → AreShown all n u w lo hi ds fs → sum_by (λ (f : Function). sizes.nodes (shown_term f.body)) fs ≡ nodes_of ds
+pub nodes_same : (all : List Head) (n u w lo hi : ℕ) (ds : List Definition) (fs : List Function) → AreShown all n u w lo hi ds fs → sum_by
+    (λ (f : Function). sizes.nodes (shown_term f.body)) fs ≡ nodes_of ds
 nodes_same all n u w lo hi [] [] h = refl
 nodes_same all n u w lo hi [] (f ∷ fs) h = absurd h
 nodes_same all n u w lo hi (d ∷ ds) [] h = absurd h
@@ -162,7 +173,8 @@ good_at C (y ∷ ys) zero x h e = subst (IsGood C) (some_is y x e) h.0
 good_at C (y ∷ ys) (suc i) x h e = good_at C ys i x h.1 e
 
 module _ (C : Program) (g : ℕ) (k : Known) (within : g < C.functions) (ag : Agrees C k.heads) (own : C.unit g ≡ k.unit) where
-  called_good : (c : Callee) (tail : Bool) (lo m : ℕ) (ws : List ℕ) (us : Terms) (w : ℕ) (t : Term) → CalleeAt k c → Calls c tail lo m ws us w t → AllGood C (sites_of_all g us) → AllGood C (sites_of g t)
+  called_good : (c : Callee) (tail : Bool) (lo m : ℕ) (ws : List ℕ) (us : Terms) (w : ℕ) (t : Term) → CalleeAt k c → Calls c tail lo m ws us w t →
+      AllGood C (sites_of_all g us) → AllGood C (sites_of g t)
   called_good (Member i h) tail lo m ws us w t at q good = subst (λ (z : Term). AllGood C (sites_of g z)) (sym q.4) good
   called_good (Above i h) tail lo m ws us w t at q good =
       let a = ag i h at.0 in
@@ -198,7 +210,8 @@ module _ (C : Program) (g : ℕ) (k : Known) (within : g < C.functions) (ag : Ag
         subst (λ (z : Terms). AllGood C (sites_of_all g z)) (sym q) (good_append C (sites_of g t) _ (has_good s _ lo m e w t he) (bound_good s m hi bs ws ts hs))
 
 -- the sites of all functions are good where those of each are
-pub all_good : (C : Program) (n : ℕ) (fs : List Function) → ((i : ℕ) (f : Function) → slice_get fs i ≡ Some f → AllGood C (sites_of (n + i) (shown_term f.body))) → AllGood C (all_sites n (map shown_function fs))
+pub all_good : (C : Program) (n : ℕ) (fs : List Function) → ((i : ℕ) (f : Function) → slice_get fs i ≡ Some f → AllGood C
+    (sites_of (n + i) (shown_term f.body))) → AllGood C (all_sites n (map shown_function fs))
 all_good C n [] h = tt
 all_good C n (f ∷ fs) h =
     let e : n + 0 ≡ n = omega arith in

@@ -6,7 +6,9 @@ use Rattle.safl_word.specs.declared.primitive.Primitive.{Primitive}
 use Rattle.safl_typing.specs.declared.expression.Bound.{Bound}
 use Rattle.safl_typing.specs.declared.expression.Marks.{Marks}
 use Rattle.safl_typing.specs.declared.expression.Expression as code
-use Rattle.safl_typing.specs.declared.expression.Expression.{Row_of-Expression, end_of-Expression, more_of-Expression, items-the_row-Expression, items_hidden-the_row-Expression-1, Row_of-Bound, end_of-Bound, more_of-Bound, items-the_row-Bound, items_hidden-the_row-Bound-0}
+use Rattle.safl_typing.specs.declared.expression.Expression.{Row_of-Expression, end_of-Expression, more_of-Expression, items-the_row-Expression}
+use Rattle.safl_typing.specs.declared.expression.Expression.{items_hidden-the_row-Expression-1, Row_of-Bound, end_of-Bound, more_of-Bound}
+use Rattle.safl_typing.specs.declared.expression.Expression.{items-the_row-Bound, items_hidden-the_row-Bound-0}
 use Rattle.safl_typing.specs.declared.expression.Expression.TheVariants as codes
 use Rattle.safl_typing.specs.Rewriting.{Expression, Let, Op, Call, an_expression, Bindings, a_binding}
 use Rattle.safl_typing.specs.Plain.{shown_expression, shown_row, shown_bound, shown_expressions, shown_bindings}
@@ -41,7 +43,8 @@ shown_expression-Op p m o es = ap (Op p o) (listed p m [] es)
 pub shown_expression-Call : (p : ℕ) (m : Marks) (f : List ℕ) (es : Vec code.Expression Global) → shown_expression (codes.Call p m f es) ≡ Call p f (shown_expressions es.items)
 shown_expression-Call p m f es = ap (Call p f) (listed p m f es)
 
-pub shown_expression-Let : (p : ℕ) (m : Marks) (bs : Vec Bound Global) (b : Box code.Expression Global) → shown_expression (codes.Let p m bs b) ≡ Let p (shown_bindings bs.items) (shown_expression b.value)
+pub shown_expression-Let : (p : ℕ) (m : Marks) (bs : Vec Bound Global) (b : Box code.Expression Global) → shown_expression (codes.Let p m bs b) ≡ Let
+    p (shown_bindings bs.items) (shown_expression b.value)
 shown_expression-Let p m bs b =
     let row = bound_of (codes.Let p m bs b) in
     ap (λ (l : Bindings). Let p l (shown_expression b.value)) (bound_plain row.0 row.1 ∙ ap shown_bindings (items_hidden-the_row-Bound-0 bs))

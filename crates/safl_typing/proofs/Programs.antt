@@ -149,7 +149,8 @@ fields c ds i h =
       params = field_of (λ (f : Function). map (λ p. p.width) f.params.items) [] c i h.function h.stands ∙ (widths_shown h.function.params.items ∙ ap (λ (l : List Slot). widths_of l) h.is.params);
       body = field_of (λ (f : Function). shown_term f.body) (plain.Const no_word) c i h.function h.stands;
       name = field_of (λ (f : Function). string_bytes f.name) [] c i h.function h.stands ∙ h.is.name;
-      param_names = field_of (λ (f : Function). map (λ p. string_bytes p.name) f.params.items) [] c i h.function h.stands ∙ (names_shown h.function.params.items ∙ (ap (λ (l : List Slot). map (λ (p : Slot). p.name) l) h.is.params ∙ names_of_slots h.def));
+      param_names = field_of (λ (f : Function). map (λ p. string_bytes p.name) f.params.items) [] c i h.function h.stands ∙
+          (names_shown h.function.params.items ∙ (ap (λ (l : List Slot). map (λ (p : Slot). p.name) l) h.is.params ∙ names_of_slots h.def));
       first = field_of (λ (f : Function). f.first_site) (suc (length c.sites)) c i h.function h.stands ∙ h.is.first_site;
       next = h.next;
     }
@@ -218,14 +219,17 @@ module _ (c : CheckedProgram) (ds : List Definition) (b : IsBased c ds) (shallow
       let f = fields c ds i h in
       let z : 0 + i ≡ i = omega arith in
       subst (λ (t : plain.Term). Spans (program_of c) i true h.first h.end t) (sym f.body)
-      (has_spans (program_of c) i (record { heads = heads ds; unit = h.unit }) (agrees c ds b) f.unit (params_of h.def) true h.first h.end (rewritten h.def.body) h.def.width (shown_term h.function.body) h.is.body (subst (λ (g : ℕ). Noted (program_of c) h.first (sites_of g (shown_term h.function.body))) z h.noted))
+      (has_spans (program_of c) i (record { heads = heads ds; unit = h.unit }) (agrees c ds b) f.unit (params_of h.def) true h.first h.end
+      (rewritten h.def.body) h.def.width (shown_term h.function.body) h.is.body
+      (subst (λ (g : ℕ). Noted (program_of c) h.first (sites_of g (shown_term h.function.body))) z h.noted))
 
   body_width : (i : ℕ) (h : Here c ds i) → HasWidth (program_of c) ((program_of c).params i) ((program_of c).body i) ((program_of c).result i)
   body_width i h =
       let f = fields c ds i h in
       let d : IsFormedDefinition h.def = formed_at ds i h.def b.formed h.defined in
       let w : HasWidth (program_of c) (widths_of (params_of h.def)) (shown_term h.function.body) h.def.width =
-      has_width (program_of c) (record { heads = heads ds; unit = h.unit }) (params_of h.def) true h.first h.end (rewritten h.def.body) h.def.width (shown_term h.function.body) (agrees c ds b) (heads_wide 0 0 ds b.formed) (params_wide h.def.params d.1) (formed_full h.def.body d.3) h.is.body in
+      has_width (program_of c) (record { heads = heads ds; unit = h.unit }) (params_of h.def) true h.first h.end (rewritten h.def.body) h.def.width
+      (shown_term h.function.body) (agrees c ds b) (heads_wide 0 0 ds b.formed) (params_wide h.def.params d.1) (formed_full h.def.body d.3) h.is.body in
       subst (λ (l : List ℕ). HasWidth (program_of c) l ((program_of c).body i) ((program_of c).result i)) (sym f.params)
       (subst (λ (t : plain.Term). HasWidth (program_of c) (widths_of (params_of h.def)) t ((program_of c).result i)) (sym f.body)
       (subst (λ (n : ℕ). HasWidth (program_of c) (widths_of (params_of h.def)) (shown_term h.function.body) n) (sym f.result) w))
@@ -255,9 +259,11 @@ module _ (c : CheckedProgram) (ds : List Definition) (b : IsBased c ds) (shallow
       let q : h.function ≡ f = some_is h.function f (sym h.stands ∙ e) in
       let z : i ≡ 0 + i = omega arith in
       subst (λ (g : ℕ). AllGood (program_of c) (sites_of g (shown_term f.body))) z (subst (λ (z : Function). AllGood (program_of c) (sites_of i (shown_term z.body))) q
-      (has_good (program_of c) i (record { heads = heads ds; unit = h.unit }) l (agrees c ds b) (fields c ds i h).unit (params_of h.def) true h.first h.end (rewritten h.def.body) h.def.width (shown_term h.function.body) h.is.body))))
+      (has_good (program_of c) i (record { heads = heads ds; unit = h.unit }) l (agrees c ds b) (fields c ds i h).unit (params_of h.def) true h.first
+      h.end (rewritten h.def.body) h.def.width (shown_term h.function.body) h.is.body))))
 
-  site_good : (k : ℕ) → 0 < k → k ≤ length c.sites → ((program_of c).caller k < length c.functions) × ((program_of c).callee k < length c.functions) × ((program_of c).unit ((program_of c).callee k) < (program_of c).unit ((program_of c).caller k))
+  site_good : (k : ℕ) → 0 < k → k ≤ length c.sites → ((program_of c).caller k < length c.functions) × ((program_of c).callee k < length c.functions) ×
+      ((program_of c).unit ((program_of c).callee k) < (program_of c).unit ((program_of c).caller k))
   unfolding program_of
   site_good zero some most = absurd (omega (arith, some))
   site_good (suc k) some most = ⊎_elim
@@ -273,7 +279,8 @@ module _ (c : CheckedProgram) (ds : List Definition) (b : IsBased c ds) (shallow
   numbered = record {
     bodies = λ i. let q = body_at i in (q.0, q.1, q.2, q.3);
     below = λ i. ⊎_elim (λ q. omega (arith, below i q.2, q.2)) (λ e. omega (arith, past_unit i e, b.some)) (there c.functions i);
-    top = λ i. ⊎_elim (λ q. unit_monotone (program_of c).unit (program_of c).result (length c.functions) (first_unit c ds b) (steps c ds b) i (main_of c) (omega (arith, q.2)) (omega (arith, b.some))) (λ e. omega (arith, past_unit i e)) (there c.functions i);
+    top = λ i. ⊎_elim (λ q. unit_monotone (program_of c).unit (program_of c).result (length c.functions) (first_unit c ds b) (steps c ds b) i
+        (main_of c) (omega (arith, q.2)) (omega (arith, b.some))) (λ e. omega (arith, past_unit i e)) (there c.functions i);
   }
 
   bounded : (i : ℕ) → (body_at i).1 ≤ suc (length c.sites)
@@ -309,7 +316,8 @@ module _ (c : CheckedProgram) (ds : List Definition) (b : IsBased c ds) (shallow
   short_lets i = ⊎_elim
       (λ q. let h = here c ds i b q.2 in
       subst (λ (t : plain.Term). sizes.HasShortLets t) (sym (fields c ds i h).body)
-      (has_short (record { heads = heads ds; unit = h.unit }) (params_of h.def) true h.first h.end (rewritten h.def.body) h.def.width (shown_term h.function.body) h.is.body h.is.short_lets (formed_bindings h.def.body (formed_at ds i h.def b.formed h.defined).3)))
+      (has_short (record { heads = heads ds; unit = h.unit }) (params_of h.def) true h.first h.end (rewritten h.def.body) h.def.width
+      (shown_term h.function.body) h.is.body h.is.short_lets (formed_bindings h.def.body (formed_at ds i h.def b.formed h.defined).3)))
       (λ e. subst (λ (t : plain.Term). sizes.HasShortLets t) (sym (past_body i e)) tt)
       (there c.functions i)
 

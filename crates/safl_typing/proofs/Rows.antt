@@ -45,7 +45,9 @@ unfolding outcome
 name_twice = refl
 
 -- fun f(x:8):8 = f(x) + 1 fun main():8 = f(1)
-own_call : first_fault (def false 4 named_f (x_at 6 ∷ []) 8 (Op 15 prims.Add (trees_of (Call 15 named_f (trees_of (Variable 17 named_x ∷ [])) ∷ Number 22 1 ∷ []))) ∷ def false 28 named_main [] 8 (Call 39 named_f (trees_of (Number 41 1 ∷ []))) ∷ []) ≡ Some (fault rules.E10 15)
+own_call : first_fault (def false 4 named_f (x_at 6 ∷ []) 8 (Op 15 prims.Add
+    (trees_of (Call 15 named_f (trees_of (Variable 17 named_x ∷ [])) ∷ Number 22 1 ∷ []))) ∷ def false 28 named_main [] 8
+    (Call 39 named_f (trees_of (Number 41 1 ∷ []))) ∷ []) ≡ Some (fault rules.E10 15)
 unfolding outcome
 own_call = refl
 
@@ -55,12 +57,15 @@ unfolding outcome
 too_few = refl
 
 -- fun f():8 = 1 and g():4 = 1 fun main():8 = f()
-group_width : first_fault (def false 4 named_f [] 8 (Number 12 1) ∷ def true 18 named_g [] 4 (Number 26 1) ∷ def false 32 named_main [] 8 (Call 43 named_f (trees_of [])) ∷ []) ≡ Some (fault_with rules.E12 18 8 4)
+group_width : first_fault (def false 4 named_f [] 8 (Number 12 1) ∷ def true 18 named_g [] 4 (Number 26 1) ∷ def false 32 named_main [] 8
+    (Call 43 named_f (trees_of [])) ∷ []) ≡ Some (fault_with rules.E12 18 8 4)
 unfolding outcome
 group_width = refl
 
 -- fun f(x:8):8 = 1 + g(x) and g(x:8):8 = x fun main():8 = 1
-member_outside_tail : first_fault (def false 4 named_f (x_at 6 ∷ []) 8 (Op 15 prims.Add (trees_of (Number 15 1 ∷ Call 19 named_g (trees_of (Variable 21 named_x ∷ [])) ∷ []))) ∷ def true 28 named_g (x_at 30 ∷ []) 8 (Variable 39 named_x) ∷ def false 45 named_main [] 8 (Number 56 1) ∷ []) ≡ Some (fault rules.E10 19)
+member_outside_tail : first_fault (def false 4 named_f (x_at 6 ∷ []) 8
+    (Op 15 prims.Add (trees_of (Number 15 1 ∷ Call 19 named_g (trees_of (Variable 21 named_x ∷ [])) ∷ []))) ∷ def true 28 named_g (x_at 30 ∷ []) 8
+    (Variable 39 named_x) ∷ def false 45 named_main [] 8 (Number 56 1) ∷ []) ≡ Some (fault rules.E10 19)
 unfolding outcome
 member_outside_tail = refl
 
@@ -102,7 +107,9 @@ abbrev two_groups : List Definition
 two_groups =
     def false 4 named_f (x_at 6 ∷ []) 8 (Cases 15 (Variable 20 named_x) (an_arm (Number 24 0) (Number 29 1) (default_arm (Call 43 named_g (trees_of (Variable 45 named_x ∷ []))))))
     ∷ def true 54 named_g (x_at 56 ∷ []) 8 (Call 65 named_f (trees_of (Op 67 prims.Sub (trees_of (Variable 67 named_x ∷ Number 71 1 ∷ [])) ∷ [])))
-    ∷ def false 78 named_main (x_at 83 ∷ []) 8 (Op 92 prims.Add (trees_of (Op 92 prims.Add (trees_of (Number 93 1 ∷ Call 97 named_f (trees_of (Variable 99 named_x ∷ [])) ∷ [])) ∷ Call 105 named_f (trees_of (Number 107 2 ∷ [])) ∷ [])))
+    ∷ def false 78 named_main (x_at 83 ∷ []) 8 (Op 92 prims.Add
+    (trees_of (Op 92 prims.Add (trees_of (Number 93 1 ∷ Call 97 named_f (trees_of (Variable 99 named_x ∷ [])) ∷ [])) ∷ Call 105 named_f
+    (trees_of (Number 107 2 ∷ [])) ∷ [])))
     ∷ []
 
 abbrev x8 : List Slot
@@ -117,9 +124,25 @@ two a b = Cons a (Cons b Nil)
 -- the scrutinee is slot 1, the two members are one group, and the calls in `main` are the sites
 their_form : outcome two_groups ≡ Ok (record {
   functions =
-      record { name = named_f; params = x8; width = 8; unit = 0; first_site = 1; body = terms.Let (one (Var 0)) (terms.If (terms.Op prims.Eq (two (Var 1) (Const (word 8 0)))) (Const (word 8 1)) (Loop 1 (one (Var 0)))) }
+      record {
+        name = named_f;
+        params = x8;
+        width = 8;
+        unit = 0;
+        first_site = 1;
+        body = terms.Let (one (Var 0))
+            (terms.If (terms.Op prims.Eq (two (Var 1) (Const (word 8 0)))) (Const (word 8 1)) (Loop 1 (one (Var 0))));
+      }
       ∷ record { name = named_g; params = x8; width = 8; unit = 0; first_site = 1; body = Loop 0 (one (terms.Op prims.Sub (two (Var 0) (Const (word 8 1))))) }
-      ∷ record { name = named_main; params = x8; width = 8; unit = 2; first_site = 1; body = terms.Op prims.Add (two (terms.Op prims.Add (two (Const (word 8 1)) (terms.Call 0 1 (one (Var 0))))) (terms.Call 0 2 (one (Const (word 8 2))))) }
+      ∷ record {
+        name = named_main;
+        params = x8;
+        width = 8;
+        unit = 2;
+        first_site = 1;
+        body = terms.Op prims.Add
+            (two (terms.Op prims.Add (two (Const (word 8 1)) (terms.Call 0 1 (one (Var 0))))) (terms.Call 0 2 (one (Const (word 8 2)))));
+      }
       ∷ [];
   sites = record { caller = 2; callee = 0 } ∷ record { caller = 2; callee = 0 } ∷ [];
 })

@@ -29,7 +29,8 @@ later_none None = refl
 later_none (Some x) = refl
 
 -- one more slot at the end is looked at first
-innermost_end : (x : List ℕ) (i : ℕ) (vs : List Slot) (v : Slot) → innermost x i (vs ++ v ∷ []) ≡ later (cond (bytes_eq v.name x) (Some (record { slot = i + length vs; width = v.width })) None) (innermost x i vs)
+innermost_end : (x : List ℕ) (i : ℕ) (vs : List Slot) (v : Slot) → innermost x i (vs ++ v ∷ []) ≡ later
+    (cond (bytes_eq v.name x) (Some (record { slot = i + length vs; width = v.width })) None) (innermost x i vs)
 innermost_end x i [] v =
     let e : i ≡ i + 0 = omega arith in
     ap (λ (n : ℕ). cond (bytes_eq v.name x) (Some (record { slot = n; width = v.width })) None) e ∙ sym (later_none _)
@@ -40,7 +41,8 @@ innermost_end x i (u ∷ vs) v =
     ap (λ (o : Option At). later o first) (innermost_end x (suc i) vs v) ∙ later_again (last (suc i + length vs)) (innermost x (suc i) vs) first
     ∙ ap (λ (n : ℕ). later (last n) (later (innermost x (suc i) vs) first)) e
 
-pub upto : (ss : List code.Slot) (i : ℕ) (s : code.Slot) → i < length ss → s ≡ get_or ss i s → (shown_slots (take (i + 1) ss) ≡ shown_slots (take i ss) ++ shown_slot s ∷ []) × (length (shown_slots (take i ss)) ≡ i)
+pub upto : (ss : List code.Slot) (i : ℕ) (s : code.Slot) → i < length ss → s ≡ get_or ss i s →
+    (shown_slots (take (i + 1) ss) ≡ shown_slots (take i ss) ++ shown_slot s ∷ []) × (length (shown_slots (take i ss)) ≡ i)
 upto [] i s lt is = absurd (omega (arith, lt))
 upto (y ∷ ys) zero s lt is = (ap (λ (z : code.Slot). shown_slot z ∷ []) (sym is), refl)
 upto (y ∷ ys) (suc i) s lt is =
@@ -61,11 +63,13 @@ innermost_next x ss i s b lt is q =
 abbrev pub IsFound : List ℕ → List code.Slot → ℕ → Option ℕ → Type 0
 IsFound x ss i found = IfSome found (λ n. n < length ss) × (at_slot ss found ≡ innermost x 0 (shown_slots (take i ss)))
 
-pub slot_then : (x : List ℕ) (ss : List code.Slot) (i : ℕ) (s : code.Slot) (found : Option ℕ) → i < length ss → s ≡ get_or ss i s → bytes_eq s.name x ≡ true → found ≡ Some i → IsFound x ss (i + 1) found
+pub slot_then : (x : List ℕ) (ss : List code.Slot) (i : ℕ) (s : code.Slot) (found : Option ℕ) → i < length ss → s ≡ get_or ss i s → bytes_eq s.name x
+    ≡ true → found ≡ Some i → IsFound x ss (i + 1) found
 slot_then x ss i s found lt is q e = subst (λ (o : Option ℕ). IsFound x ss (i + 1) o) (sym e)
     (lt, ap (λ (o : Option code.Slot). with_slot i o) (slice_get_read ss (length ss) i s refl lt is) ∙ sym (innermost_next x ss i s true lt is q))
 
-pub slot_else : (x : List ℕ) (ss : List code.Slot) (i : ℕ) (s : code.Slot) (old found : Option ℕ) → i < length ss → s ≡ get_or ss i s → bytes_eq s.name x ≡ false → found ≡ old → IsFound x ss i old → IsFound x ss (i + 1) found
+pub slot_else : (x : List ℕ) (ss : List code.Slot) (i : ℕ) (s : code.Slot) (old found : Option ℕ) → i < length ss → s ≡ get_or ss i s → bytes_eq
+    s.name x ≡ false → found ≡ old → IsFound x ss i old → IsFound x ss (i + 1) found
 slot_else x ss i s old found lt is q e h = subst (λ (o : Option ℕ). IsFound x ss (i + 1) o) (sym e)
     (h.0, h.1 ∙ sym (innermost_next x ss i s false lt is q))
 
@@ -74,11 +78,13 @@ name_is x y u v r b e t p q = sym (ap (λ (z : List ℕ). bytes_eq z v) p) ∙ s
 
 -- ---- numbers that do not fit
 
-pub number_refused : (p n w : ℕ) (m : code_wanted.Wanted) (r : CheckErr) → HasWideWanted m → m ≡ wants.Exactly w → (IsWord (word w n) → ⊥) → r ≡ errors.Refused (fault rules.E13 p) → Says (Err r) (number p n (shown_wanted m))
+pub number_refused : (p n w : ℕ) (m : code_wanted.Wanted) (r : CheckErr) → HasWideWanted m → m ≡ wants.Exactly w → (IsWord (word w n) → ⊥) → r ≡
+    errors.Refused (fault rules.E13 p) → Says (Err r) (number p n (shown_wanted m))
 number_refused p n w m r h e f q =
     let wide : HasWidthOfWord w = subst HasWideWanted e h in
     subst (λ (z : CheckErr). Says (Err z) (number p n (shown_wanted m))) (sym q)
     (subst (λ (z : code_wanted.Wanted). number p n (shown_wanted z) ≡ Err (fault rules.E13 p)) (sym e) (rw (not_fits w n wide f) refl))
 
-pub sized_refused : (p w n : ℕ) (m : code_wanted.Wanted) (r : CheckErr) → HasWidthOfWord w → (IsWord (word w n) → ⊥) → r ≡ errors.Refused (fault rules.E13 p) → Says (Err r) (sized p w n (shown_wanted m))
+pub sized_refused : (p w n : ℕ) (m : code_wanted.Wanted) (r : CheckErr) → HasWidthOfWord w → (IsWord (word w n) → ⊥) → r ≡ errors.Refused
+    (fault rules.E13 p) → Says (Err r) (sized p w n (shown_wanted m))
 sized_refused p w n m r h f q = subst (λ (z : CheckErr). Says (Err z) (sized p w n (shown_wanted m))) (sym q) (rw (not_fits w n h f) refl)

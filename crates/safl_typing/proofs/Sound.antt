@@ -9,10 +9,14 @@ use Rattle.safl_word.specs.Primitives.{result_width}
 use Rattle.safl_word.specs.Words.{IsWord}
 use Rattle.safl_term.specs.Terms as terms
 use Rattle.safl_term.specs.Terms.{Term, Const, Var, Loop, Terms, Nil, Cons}
-use Rattle.safl_typing.specs.Rewriting.{Expression, Number, Sized, Variable, If, Let, Op, Call, Expressions, no_expression, an_expression, Bindings, no_binding, a_binding, Shape, Alike, Comparing, Shifting, Resizing, shape, takes_width, flexible, all_flexible, count}
+use Rattle.safl_typing.specs.Rewriting.{Expression, Number, Sized, Variable, If, Let, Op, Call, Expressions, no_expression, an_expression, Bindings}
+use Rattle.safl_typing.specs.Rewriting.{no_binding, a_binding, Shape, Alike, Comparing, Shifting, Resizing, shape, takes_width, flexible}
+use Rattle.safl_typing.specs.Rewriting.{all_flexible, count}
 use Rattle.safl_typing.specs.Heads.{Slot, Known, Callee, Member, Above, Unknown, callee, is_site, sites, sites_in, sites_bound}
 use Rattle.safl_typing.specs.Typing.{At, innermost, word, widths_of, slots, Keeps, AreAll, AllRigid, RigidOr, Shifts, Suits, Calls, Has, HaveAll, HaveBound}
-use Rattle.safl_typing.specs.Walk.{after, unless, needs, fault_with, Typed, TypedAlike, TypedAll, Wanted, Any, Exactly, is_any, wanted_by, settle, number, sized, variable, branches, alike, resized, operated, called, all_any, amounts, exactly, check, check_all, check_alike, check_shift, check_bound}
+use Rattle.safl_typing.specs.Walk.{after, unless, needs, fault_with, Typed, TypedAlike, TypedAll, Wanted, Any, Exactly, is_any, wanted_by, settle}
+use Rattle.safl_typing.specs.Walk.{number, sized, variable, branches, alike, resized, operated, called, all_any, amounts, exactly, check, check_all}
+use Rattle.safl_typing.specs.Walk.{check_alike, check_shift, check_bound}
 use Rattle.safl_typing.proofs.Names.{some_none, differ_bound}
 use Rattle.safl_typing.specs.Ranges.{IsWide, AreWide, WideSlots, WideHeads, IsInRange, AreInRange, BoundInRange}
 use Rattle.safl_typing.proofs.Wide.{WideCallee, one_wide, table_wide, wide_widths, wide_append, wide_slots, innermost_wide, callee_wide}
@@ -110,7 +114,8 @@ sized_sound P p v n m x e w f =
     let q = sized_here (nat_lt n (2 ^ v)) n v _ (settle p m v (Const (word v n))) x refl e in
     settled P p m v (Const (word v n)) x q.0 (f (is_word v n w q.1)) w
 
-variable_sound : (P : ℕ → Term → Type 0) (p : ℕ) (m : Wanted) (o : Option At) (x : Typed) → variable p m o ≡ Ok x → ((a : At) → o ≡ Some a → IsWide a.width) → ((a : At) → o ≡ Some a → P a.width (Var a.slot)) → IsSound P m false x
+variable_sound : (P : ℕ → Term → Type 0) (p : ℕ) (m : Wanted) (o : Option At) (x : Typed) → variable p m o ≡ Ok x →
+    ((a : At) → o ≡ Some a → IsWide a.width) → ((a : At) → o ≡ Some a → P a.width (Var a.slot)) → IsSound P m false x
 variable_sound P p m None x e w f = err_ok _ x e
 variable_sound P p m (Some a) x e w f = settled P p m a.width (Var a.slot) x e (f a refl) (w a refl)
 
@@ -174,21 +179,54 @@ alike_sound A B Any true fs first others r e w f g =
     let u = after_ok (first (Exactly q.0.width)) _ r q.2 in
     let sy = f (Exactly q.0.width) u.0 sz.wide u.1 in
     subst (λ (y : TypedAlike). IsSoundPair A B Any fs y) (ok_is _ r u.2)
-    (record { first = u.0.term; others = q.0.terms; widths = sz.widths; has_first = subst (λ (n : ℕ). A n u.0.term) (sym sy.met) sy.has; have_others = sz.have; all = sz.all; is = refl; met = sz.met; wide = sz.wide })
+    (record {
+      first = u.0.term;
+      others = q.0.terms;
+      widths = sz.widths;
+      has_first = subst (λ (n : ℕ). A n u.0.term) (sym sy.met) sy.has;
+      have_others =
+          sz.have;
+      all = sz.all;
+      is = refl;
+      met = sz.met;
+      wide = sz.wide;
+    })
 alike_sound A B Any false fs first others r e w f g =
     let q = after_ok (first Any) _ r e in
     let sy = f Any q.0 w q.1 in
     let u = after_ok (others (Exactly q.0.width)) _ r q.2 in
     let sz = g (Exactly q.0.width) u.0 sy.wide u.1 in
     subst (λ (y : TypedAlike). IsSoundPair A B Any false y) (ok_is _ r u.2)
-    (record { first = q.0.term; others = u.0.terms; widths = sz.widths; has_first = sy.has; have_others = sz.have; all = subst (λ (n : ℕ). AreAll n sz.widths) (sym sz.met) sz.all; is = refl; met = refl; wide = sy.wide })
+    (record {
+      first = q.0.term;
+      others = u.0.terms;
+      widths = sz.widths;
+      has_first = sy.has;
+      have_others = sz.have;
+      all = subst
+          (λ (n : ℕ). AreAll n sz.widths) (sym sz.met) sz.all;
+      is = refl;
+      met = refl;
+      wide = sy.wide;
+    })
 alike_sound A B (Exactly v) fe fs first others r e w f g =
     let q = after_ok (first (Exactly v)) _ r e in
     let sy = f (Exactly v) q.0 w q.1 in
     let u = after_ok (others (Exactly q.0.width)) _ r q.2 in
     let sz = g (Exactly q.0.width) u.0 sy.wide u.1 in
     subst (λ (y : TypedAlike). IsSoundPair A B (Exactly v) (fe && fs) y) (ok_is _ r u.2)
-    (record { first = q.0.term; others = u.0.terms; widths = sz.widths; has_first = sy.has; have_others = sz.have; all = subst (λ (n : ℕ). AreAll n sz.widths) (sym sz.met) sz.all; is = refl; met = sy.met; wide = sy.wide })
+    (record {
+      first = q.0.term;
+      others = u.0.terms;
+      widths = sz.widths;
+      has_first = sy.has;
+      have_others = sz.have;
+      all = subst
+          (λ (n : ℕ). AreAll n sz.widths) (sym sz.met) sz.all;
+      is = refl;
+      met = sy.met;
+      wide = sy.wide;
+    })
 
 -- an operator with its operands
 abbrev pub HasOperands : (P : List ℕ → Terms → Type 0) → Shape → Primitive → Expressions → ℕ → Term → Type 0
@@ -300,7 +338,8 @@ keeps_written None e w h = h
 keeps_written (Some v) e w h = h
 
 mutual
-  pub checks_has : (k : Known) (s : List Slot) (tail : Bool) (lo hi : ℕ) (m : Wanted) (e : Expression) (x : Typed) → hi ≡ lo + sites k e → WideHeads k.heads → WideSlots s → IsInRange e → WideWanted m → check k s tail lo m e ≡ Ok x → IsSound (Has k s tail lo hi e) m (flexible e) x
+  pub checks_has : (k : Known) (s : List Slot) (tail : Bool) (lo hi : ℕ) (m : Wanted) (e : Expression) (x : Typed) → hi ≡ lo + sites k e → WideHeads
+      k.heads → WideSlots s → IsInRange e → WideWanted m → check k s tail lo m e ≡ Ok x → IsSound (Has k s tail lo hi e) m (flexible e) x
   checks_has k s tail lo hi m (Number p n) x at wh ws wi wm e = number_sound _ p n m x e wm (λ w q. (omega (arith, at), q, refl))
   checks_has k s tail lo hi m (Sized p v n) x at wh ws wi wm e = sized_sound _ p v n m x e wi (λ q. (omega (arith, at), refl, q, refl))
   checks_has k s tail lo hi m (Variable p y) x at wh ws wi wm e = variable_sound _ p m (innermost y 0 s) x e (λ a q. innermost_wide y 0 s a ws q) (λ a q. (omega (arith, at), a.slot, q, refl))
@@ -312,7 +351,22 @@ mutual
       let r = branches_sound (Has k s tail (lo + sites k c) (lo + sites k c + sites k a) a) (Has k s tail (lo + sites k c + sites k a) hi b) m (flexible a) (flexible b) _ _ q.0.term x q.2 wm
       (λ v y g h. checks_has k s tail (lo + sites k c) (lo + sites k c + sites k a) v a y refl wh ws wi.1 g h)
       (λ v y g h. checks_has k s tail (lo + sites k c + sites k a) hi v b y end wh ws wi.2 g h) in
-      record { has = (lo + sites k c, lo + sites k c + sites k a, q.0.term, r.first, r.second, subst (λ (n : ℕ). Has k s false lo (lo + sites k c) c n q.0.term) (sym sc.met) sc.has, r.has_first, r.has_second, r.is); met = r.met; wide = r.wide }
+      record {
+        has = (
+          lo + sites k c,
+          lo + sites k c + sites k a,
+          q.0.term,
+          r.first,
+          r.second,
+          subst
+              (λ (n : ℕ). Has k s false lo (lo + sites k c) c n q.0.term) (sym sc.met) sc.has,
+          r.has_first,
+          r.has_second,
+          r.is,
+        );
+        met = r.met;
+        wide = r.wide;
+      }
   checks_has k s tail lo hi m (Let p bs b) x at wh ws wi wm e =
       let end : hi ≡ lo + sites_bound k bs + sites k b = omega (arith, at) in
       let u = unless_ok _ _ x e in
@@ -332,7 +386,8 @@ mutual
       called_sound (λ i. HaveAll k s i hi es) (callee k f) tail lo p m es _ x e (callee_wide k f wh)
       (λ i ps r q g h. checks_have k s i hi (exactly ps) es r (omega (arith, at, q)) wh ws wi g h)
 
-  pub checks_have : (k : Known) (s : List Slot) (lo hi : ℕ) (ms : List Wanted) (es : Expressions) (r : TypedAll) → hi ≡ lo + sites_in k es → WideHeads k.heads → WideSlots s → AreInRange es → WantedFor ms es → check_all k s lo ms es ≡ Ok r → IsSoundAll (HaveAll k s lo hi es) ms es r
+  pub checks_have : (k : Known) (s : List Slot) (lo hi : ℕ) (ms : List Wanted) (es : Expressions) (r : TypedAll) → hi ≡ lo + sites_in k es → WideHeads
+      k.heads → WideSlots s → AreInRange es → WantedFor ms es → check_all k s lo ms es ≡ Ok r → IsSoundAll (HaveAll k s lo hi es) ms es r
   checks_have k s lo hi ms no_expression r at wh ws wi wm e =
       subst (λ (z : TypedAll). IsSoundAll (HaveAll k s lo hi no_expression) ms no_expression z) (ok_is (typed_all [] Nil) r e)
       (record { have = (omega (arith, at), refl); met = tt; many = tt; wide = tt })
@@ -345,7 +400,8 @@ mutual
       subst (λ (z : TypedAll). IsSoundAll (HaveAll k s lo hi (an_expression y ys)) (m ∷ ms) (an_expression y ys) z) (ok_is _ r u.2)
       (record { have = (lo + sites k y, q.0.term, u.0.terms, sx.has, sr.have, refl); met = (sx.met, sr.met); many = sr.many; wide = (sx.wide, sr.wide) })
 
-  pub checks_have_alike : (k : Known) (s : List Slot) (lo hi p : ℕ) (m : Wanted) (es : Expressions) (r : TypedAlike) → hi ≡ lo + sites_in k es → WideHeads k.heads → WideSlots s → AreInRange es → WideWanted m → check_alike k s lo p m es ≡ Ok r → IsSoundAlike (HaveAll k s lo hi es) m (all_flexible es) r
+  pub checks_have_alike : (k : Known) (s : List Slot) (lo hi p : ℕ) (m : Wanted) (es : Expressions) (r : TypedAlike) → hi ≡ lo + sites_in k es →
+      WideHeads k.heads → WideSlots s → AreInRange es → WideWanted m → check_alike k s lo p m es ≡ Ok r → IsSoundAlike (HaveAll k s lo hi es) m (all_flexible es) r
   checks_have_alike k s lo hi p Any no_expression r at wh ws wi wm e = err_ok _ r e
   checks_have_alike k s lo hi p (Exactly v) no_expression r at wh ws wi wm e =
       subst (λ (z : TypedAlike). IsSoundAlike (HaveAll k s lo hi no_expression) (Exactly v) true z) (ok_is (typed_alike v Nil) r e)
@@ -356,7 +412,8 @@ mutual
       (λ v x g h. checks_have_alike k s (lo + sites k y) hi p v ys x (omega (arith, at)) wh ws wi.1 g h) in
       record { widths = r.width ∷ q.widths; have = (lo + sites k y, q.first, q.others, q.has_first, q.have_others, q.is); all = (refl, q.all); met = q.met; wide = q.wide }
 
-  pub checks_have_shift : (k : Known) (s : List Slot) (lo hi p : ℕ) (es : Expressions) (r : TypedAlike) → hi ≡ lo + sites_in k es → WideHeads k.heads → WideSlots s → AreInRange es → check_shift k s lo p es ≡ Ok r → IsSoundShift (HaveAll k s lo hi es) es r
+  pub checks_have_shift : (k : Known) (s : List Slot) (lo hi p : ℕ) (es : Expressions) (r : TypedAlike) → hi ≡ lo + sites_in k es → WideHeads k.heads
+      → WideSlots s → AreInRange es → check_shift k s lo p es ≡ Ok r → IsSoundShift (HaveAll k s lo hi es) es r
   checks_have_shift k s lo hi p no_expression r at wh ws wi e = err_ok _ r e
   checks_have_shift k s lo hi p (an_expression y ys) r at wh ws wi e =
       let q = after_ok _ _ r e in
@@ -364,9 +421,16 @@ mutual
       let u = after_ok _ _ r q.2 in
       let sr = checks_have k s (lo + sites k y) hi (amounts q.0.width ys) ys u.0 (omega (arith, at)) wh ws wi.1 (wanted_amounts q.0.width ys sx.wide) u.1 in
       subst (λ (z : TypedAlike). IsSoundShift (HaveAll k s lo hi (an_expression y ys)) (an_expression y ys) z) (ok_is _ r u.2)
-      (record { widths = q.0.width ∷ u.0.widths; have = (lo + sites k y, q.0.term, u.0.terms, sx.has, sr.have, refl); shifts = (sx.met, refl, rigid_amounts q.0.width ys u.0.widths sr.met); wide = sx.wide })
+      (record {
+        widths = q.0.width ∷ u.0.widths;
+        have = (lo + sites k y, q.0.term, u.0.terms, sx.has, sr.have, refl);
+        shifts =
+            (sx.met, refl, rigid_amounts q.0.width ys u.0.widths sr.met);
+        wide = sx.wide;
+      })
 
-  pub checks_have_bound : (k : Known) (s : List Slot) (lo hi : ℕ) (bs : Bindings) (r : TypedAll) → hi ≡ lo + sites_bound k bs → WideHeads k.heads → WideSlots s → BoundInRange bs → check_bound k s lo bs ≡ Ok r → IsSoundBound (HaveBound k s lo hi bs) r
+  pub checks_have_bound : (k : Known) (s : List Slot) (lo hi : ℕ) (bs : Bindings) (r : TypedAll) → hi ≡ lo + sites_bound k bs → WideHeads k.heads →
+      WideSlots s → BoundInRange bs → check_bound k s lo bs ≡ Ok r → IsSoundBound (HaveBound k s lo hi bs) r
   checks_have_bound k s lo hi no_binding r at wh ws wi e =
       subst (λ (z : TypedAll). IsSoundBound (HaveBound k s lo hi no_binding) z) (ok_is (typed_all [] Nil) r e)
       (record { have = (omega (arith, at), refl); wide = tt })

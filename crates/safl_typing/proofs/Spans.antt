@@ -5,7 +5,8 @@ use Rattle.safl_term.specs.Terms.{Term, Terms}
 use Rattle.safl_term.specs.Program.{Program}
 use Rattle.safl_term.specs.Sizes as sizes
 use Rattle.safl_term.specs.WellFormed.{Spans, SpansAll}
-use Rattle.safl_typing.specs.Rewriting.{Expression, Number, Sized, Variable, If, Let, Op, Call, Expressions, no_expression, an_expression, Bindings, no_binding, a_binding, nodes, nodes_in, nodes_bound}
+use Rattle.safl_typing.specs.Rewriting.{Expression, Number, Sized, Variable, If, Let, Op, Call, Expressions, no_expression, an_expression, Bindings}
+use Rattle.safl_typing.specs.Rewriting.{no_binding, a_binding, nodes, nodes_in, nodes_bound}
 use Rattle.safl_typing.specs.Heads.{Slot, Known, Callee, Member, Above, Unknown, callee}
 use Rattle.safl_typing.specs.Typing.{slots, Calls, Has, HaveAll, HaveBound}
 use Rattle.safl_typing.specs.Forms.{sites_of, sites_of_all}
@@ -60,7 +61,16 @@ mutual
   has_length g k s tail lo hi (Sized p v n) w t h = omega (arith, ap (λ (z : Term). length (sites_of g z)) h.3, h.0)
   has_length g k s tail lo hi (Variable p x) w t (l, i, e, q) = omega (arith, ap (λ (z : Term). length (sites_of g z)) q, l)
   has_length g k s tail lo hi (If p c a b) w t (m, n, x, y, z, hc, ha, hb, q) =
-      omega (arith, ap (λ (z : Term). length (sites_of g z)) q, append_length (sites_of g x) (sites_of g y ++ sites_of g z), append_length (sites_of g y) (sites_of g z), has_length g k s _ lo m c 1 x hc, has_length g k s tail m n a w y ha, has_length g k s tail n hi b w z hb)
+      omega (
+        arith,
+        ap (λ (z : Term). length (sites_of g z)) q,
+        append_length (sites_of g x) (sites_of g y ++ sites_of g z),
+        append_length
+            (sites_of g y) (sites_of g z),
+        has_length g k s _ lo m c 1 x hc,
+        has_length g k s tail m n a w y ha,
+        has_length g k s tail n hi b w z hb,
+      )
   has_length g k s tail lo hi (Let p bs b) w t (m, ws, us, y, d, hs, hb, q) =
       omega (arith, ap (λ (z : Term). length (sites_of g z)) q, append_length (sites_of_all g us) (sites_of g y), bound_length g k s lo m bs ws us hs, has_length g k _ tail m hi b w y hb)
   has_length g k s tail lo hi (Op p o es) w t (ws, us, hs, su, q) = omega (arith, ap (λ (z : Term). length (sites_of g z)) q, have_length g k s lo hi es ws us hs)
@@ -91,7 +101,8 @@ noted_parts C lo mid (x ∷ xs) ys e h = let q = noted_parts C (suc lo) mid xs y
 
 -- in the body of g, whose group is that which the expression sees
 module _ (C : Program) (g : ℕ) (k : Known) (ag : Agrees C k.heads) (own : C.unit g ≡ k.unit) where
-  called_spans : (c : Callee) (tail : Bool) (lo m hi : ℕ) (ws : List ℕ) (us : Terms) (w : ℕ) (t : Term) → CalleeAt k c → Calls c tail lo m ws us w t → Noted C lo (sites_of g t) → (Noted C m (sites_of_all g us) → SpansAll C g m hi us) → Spans C g tail lo hi t
+  called_spans : (c : Callee) (tail : Bool) (lo m hi : ℕ) (ws : List ℕ) (us : Terms) (w : ℕ) (t : Term) → CalleeAt k c → Calls c tail lo m ws us w t →
+      Noted C lo (sites_of g t) → (Noted C m (sites_of_all g us) → SpansAll C g m hi us) → Spans C g tail lo hi t
   called_spans (Member i h) tail lo m hi ws us w t at q noted f =
       let a = ag i h at.0 in
       let n : Noted C lo (sites_of_all g us) = subst (λ (z : Term). Noted C lo (sites_of g z)) q.4 noted in

@@ -18,11 +18,15 @@ use Rattle.safl_typing.specs.declared.typed.CheckErr.{CheckErr}
 use Rattle.safl_typing.specs.declared.typed.CheckErr.TheVariants as errors
 use Rattle.safl_typing.specs.declared.typed.Wanted as code_wanted
 use Rattle.safl_typing.specs.declared.typed.Wanted.TheVariants as wants
-use Rattle.safl_typing.specs.Rewriting.{Expression, Number, Sized, Variable, If, Let, Op, Call, Expressions, no_expression, an_expression, Bindings, no_binding, a_binding, Shape, Alike, Comparing, Shifting, Resizing, shape, flexible, count, nodes, nodes_in, nodes_bound}
+use Rattle.safl_typing.specs.Rewriting.{Expression, Number, Sized, Variable, If, Let, Op, Call, Expressions, no_expression, an_expression, Bindings}
+use Rattle.safl_typing.specs.Rewriting.{no_binding, a_binding, Shape, Alike, Comparing, Shifting, Resizing, shape, flexible, count, nodes, nodes_in}
+use Rattle.safl_typing.specs.Rewriting.{nodes_bound}
 use Rattle.safl_typing.specs.Heads.{Slot, Head, Known, Callee, Member, Above, Unknown, callee, sites, sites_in, sites_bound}
 use Rattle.safl_typing.specs.Typing.{slots, widths_of}
 use Rattle.safl_typing.specs.Ranges.{IsWide, WideSlots, WideHeads}
-use Rattle.safl_typing.specs.Walk.{fault, fault_with, after, unless, needs, Typed, TypedAll, TypedAlike, Wanted, Any, Exactly, is_any, is_known, wanted_by, settle, branches, alike, resized, operated, arguments, called, placed, repeated, all_any, amounts, exactly, check, check_all, check_alike, check_shift, check_bound}
+use Rattle.safl_typing.specs.Walk.{fault, fault_with, after, unless, needs, Typed, TypedAll, TypedAlike, Wanted, Any, Exactly, is_any, is_known}
+use Rattle.safl_typing.specs.Walk.{wanted_by, settle, branches, alike, resized, operated, arguments, called, placed, repeated, all_any, amounts}
+use Rattle.safl_typing.specs.Walk.{exactly, check, check_all, check_alike, check_shift, check_bound}
 use Rattle.safl_typing.specs.Plain.{shown_expression, shown_expressions, shown_bindings}
 use Rattle.safl_typing.specs.PlainHeads.{shown_slots, shown_head, shown_heads, known, with_number, a_member, an_earlier, shown_callee, IsOneOf}
 use Rattle.safl_typing.specs.PlainTyped.{shown_wanted, HasWidthOfWord, HasWideWanted, HasWideWritten, Refuses, operand_wanted, operands_wanted}
@@ -51,13 +55,15 @@ pub first_of : (hs : List code_head.Head) (u : ℕ) (ss : List Slot) (lo : ℕ) 
     → es ≡ y ∷ ys → MayCheckAll hs u ss lo (shown_expressions es) → MayCheck hs u ss lo (shown_expression y)
 first_of hs u ss lo es y ys e h =
     let g : MayCheckAll hs u ss lo (shown_expressions (y ∷ ys)) = subst (λ (l : List code.Expression). MayCheckAll hs u ss lo (shown_expressions l)) e h in
-    may_part hs ss lo (sites_in (known hs u) (shown_expressions (y ∷ ys))) (nodes_in (shown_expressions (y ∷ ys))) lo (sites (known hs u) (shown_expression y)) (nodes (shown_expression y)) g g.range.0 (omega (arith, g.within)) (omega arith)
+    may_part hs ss lo (sites_in (known hs u) (shown_expressions (y ∷ ys))) (nodes_in (shown_expressions (y ∷ ys))) lo
+    (sites (known hs u) (shown_expression y)) (nodes (shown_expression y)) g g.range.0 (omega (arith, g.within)) (omega arith)
 
 pub rest_of : (hs : List code_head.Head) (u : ℕ) (ss : List Slot) (lo : ℕ) (es : List code.Expression) (y : code.Expression) (ys : List code.Expression) (r : ℕ)
     → es ≡ y ∷ ys → r ≡ min 4001 (lo + sites (known hs u) (shown_expression y)) → MayCheckAll hs u ss lo (shown_expressions es) → MayCheckAll hs u ss r (shown_expressions ys)
 rest_of hs u ss lo es y ys r e q h =
     let g : MayCheckAll hs u ss lo (shown_expressions (y ∷ ys)) = subst (λ (l : List code.Expression). MayCheckAll hs u ss lo (shown_expressions l)) e h in
-    may_part hs ss lo (sites_in (known hs u) (shown_expressions (y ∷ ys))) (nodes_in (shown_expressions (y ∷ ys))) r (sites_in (known hs u) (shown_expressions ys)) (nodes_in (shown_expressions ys)) g g.range.1 (omega (arith, g.within, q)) (omega arith)
+    may_part hs ss lo (sites_in (known hs u) (shown_expressions (y ∷ ys))) (nodes_in (shown_expressions (y ∷ ys))) r
+    (sites_in (known hs u) (shown_expressions ys)) (nodes_in (shown_expressions ys)) g g.range.1 (omega (arith, g.within, q)) (omega arith)
 
 pub next_of : (hs : List code_head.Head) (u : ℕ) (ss : List Slot) (lo : ℕ) (es : List code.Expression) (y : code.Expression) (ys : List code.Expression) (r : ℕ)
     → es ≡ y ∷ ys → r ≡ min 4001 (lo + sites (known hs u) (shown_expression y)) → MayCheckAll hs u ss lo (shown_expressions es) → r ≡ lo + sites (known hs u) (shown_expression y)
@@ -74,13 +80,15 @@ pub bound_first : (hs : List code_head.Head) (u : ℕ) (ss : List Slot) (lo : �
     → es ≡ y ∷ ys → MayBind hs u ss lo (shown_bindings es) → MayCheck hs u ss lo (shown_expression y.value)
 bound_first hs u ss lo es y ys e h =
     let g : MayBind hs u ss lo (shown_bindings (y ∷ ys)) = subst (λ (l : List Bound). MayBind hs u ss lo (shown_bindings l)) e h in
-    may_part hs ss lo (sites_bound (known hs u) (shown_bindings (y ∷ ys))) (nodes_bound (shown_bindings (y ∷ ys))) lo (sites (known hs u) (shown_expression y.value)) (nodes (shown_expression y.value)) g g.range.1 (omega (arith, g.within)) (omega arith)
+    may_part hs ss lo (sites_bound (known hs u) (shown_bindings (y ∷ ys))) (nodes_bound (shown_bindings (y ∷ ys))) lo
+    (sites (known hs u) (shown_expression y.value)) (nodes (shown_expression y.value)) g g.range.1 (omega (arith, g.within)) (omega arith)
 
 pub bound_rest : (hs : List code_head.Head) (u : ℕ) (ss : List Slot) (lo : ℕ) (es : List Bound) (y : Bound) (ys : List Bound) (r : ℕ)
     → es ≡ y ∷ ys → r ≡ min 4001 (lo + sites (known hs u) (shown_expression y.value)) → MayBind hs u ss lo (shown_bindings es) → MayBind hs u ss r (shown_bindings ys)
 bound_rest hs u ss lo es y ys r e q h =
     let g : MayBind hs u ss lo (shown_bindings (y ∷ ys)) = subst (λ (l : List Bound). MayBind hs u ss lo (shown_bindings l)) e h in
-    may_part hs ss lo (sites_bound (known hs u) (shown_bindings (y ∷ ys))) (nodes_bound (shown_bindings (y ∷ ys))) r (sites_bound (known hs u) (shown_bindings ys)) (nodes_bound (shown_bindings ys)) g g.range.2 (omega (arith, g.within, q)) (omega arith)
+    may_part hs ss lo (sites_bound (known hs u) (shown_bindings (y ∷ ys))) (nodes_bound (shown_bindings (y ∷ ys))) r
+    (sites_bound (known hs u) (shown_bindings ys)) (nodes_bound (shown_bindings ys)) g g.range.2 (omega (arith, g.within, q)) (omega arith)
 
 written_wide : (o : Option ℕ) (m : code_wanted.Wanted) → shown_wanted m ≡ wanted_by o → ((v : ℕ) → o ≡ Some v → IsWide v) → HasWideWanted m
 written_wide o wants.Any e f = tt
@@ -136,32 +144,41 @@ abbrev pub with_operand : ℕ → Typed → Terms → TypedAlike
 with_operand w x us = record { width = w; terms = Cons x.term us }
 
 operands_cons : (k : Known) (s : List Slot) (lo : ℕ) (o : Option ℕ) (y : Expression) (ys : Expressions)
-    → check_all k s lo (operands_wanted o (an_expression y ys)) (an_expression y ys) ≡ after (check k s false lo (operand_wanted o (flexible y)) y) (λ x. after (check_all k s (lo + sites k y) (operands_wanted o ys) ys) (λ r. Ok (joined x r)))
+    → check_all k s lo (operands_wanted o (an_expression y ys)) (an_expression y ys) ≡ after (check k s false lo (operand_wanted o (flexible y)) y)
+    (λ x. after (check_all k s (lo + sites k y) (operands_wanted o ys) ys) (λ r. Ok (joined x r)))
 operands_cons k s lo None y ys = refl
 operands_cons k s lo (Some w) y ys = refl
 
 pub operands_is : (k : Known) (s : List Slot) (lo : ℕ) (o : Option ℕ) (es : List code.Expression) (y : code.Expression) (ys : List code.Expression) (m : Wanted) (n : ℕ)
     → es ≡ y ∷ ys → m ≡ operand_wanted o (flexible (shown_expression y)) → n ≡ lo + sites k (shown_expression y)
-    → check_all k s lo (operands_wanted o (shown_expressions es)) (shown_expressions es) ≡ after (check k s false lo m (shown_expression y)) (λ x. after (check_all k s n (operands_wanted o (shown_expressions ys)) (shown_expressions ys)) (λ r. Ok (joined x r)))
+    → check_all k s lo (operands_wanted o (shown_expressions es)) (shown_expressions es) ≡ after (check k s false lo m (shown_expression y))
+    (λ x. after (check_all k s n (operands_wanted o (shown_expressions ys)) (shown_expressions ys)) (λ r. Ok (joined x r)))
 operands_is k s lo o es y ys m n e em en =
-    let f : Wanted → ℕ → Result TypedAll Fault = λ v i. after (check k s false lo v (shown_expression y)) (λ x. after (check_all k s i (operands_wanted o (shown_expressions ys)) (shown_expressions ys)) (λ r. Ok (joined x r))) in
+    let f : Wanted → ℕ → Result TypedAll Fault = λ v i. after (check k s false lo v (shown_expression y))
+    (λ x. after (check_all k s i (operands_wanted o (shown_expressions ys)) (shown_expressions ys)) (λ r. Ok (joined x r))) in
     ap (λ (l : List code.Expression). check_all k s lo (operands_wanted o (shown_expressions l)) (shown_expressions l)) e ∙ operands_cons k s lo o (shown_expression y) (shown_expressions ys)
     ∙ sym (ap (λ (v : Wanted). f v (lo + sites k (shown_expression y))) em) ∙ sym (ap (λ (i : ℕ). f m i) en)
 
-pub arguments_is : (k : Known) (s : List Slot) (lo : ℕ) (ps : List code_slot.Slot) (p : code_slot.Slot) (qs : List code_slot.Slot) (es : List code.Expression) (y : code.Expression) (ys : List code.Expression) (n : ℕ)
+pub arguments_is : (k : Known) (s : List Slot) (lo : ℕ) (ps : List code_slot.Slot) (p : code_slot.Slot) (qs : List code_slot.Slot)
+    (es : List code.Expression) (y : code.Expression) (ys : List code.Expression) (n : ℕ)
     → ps ≡ p ∷ qs → es ≡ y ∷ ys → n ≡ lo + sites k (shown_expression y)
-    → check_all k s lo (exactly (widths_of (shown_slots ps))) (shown_expressions es) ≡ after (check k s false lo (Exactly p.width) (shown_expression y)) (λ x. after (check_all k s n (exactly (widths_of (shown_slots qs))) (shown_expressions ys)) (λ r. Ok (joined x r)))
+    → check_all k s lo (exactly (widths_of (shown_slots ps))) (shown_expressions es) ≡ after
+    (check k s false lo (Exactly p.width) (shown_expression y))
+    (λ x. after (check_all k s n (exactly (widths_of (shown_slots qs))) (shown_expressions ys)) (λ r. Ok (joined x r)))
 arguments_is k s lo ps p qs es y ys n ep e en =
-    let f : ℕ → Result TypedAll Fault = λ i. after (check k s false lo (Exactly p.width) (shown_expression y)) (λ x. after (check_all k s i (exactly (widths_of (shown_slots qs))) (shown_expressions ys)) (λ r. Ok (joined x r))) in
+    let f : ℕ → Result TypedAll Fault = λ i. after (check k s false lo (Exactly p.width) (shown_expression y))
+    (λ x. after (check_all k s i (exactly (widths_of (shown_slots qs))) (shown_expressions ys)) (λ r. Ok (joined x r))) in
     ap (λ (l : List code_slot.Slot). check_all k s lo (exactly (widths_of (shown_slots l))) (shown_expressions es)) ep
     ∙ ap (λ (l : List code.Expression). check_all k s lo (exactly (widths_of (shown_slots (p ∷ qs)))) (shown_expressions l)) e ∙ sym (ap f en)
 
-pub arguments_none : (k : Known) (s : List Slot) (lo : ℕ) (ps : List code_slot.Slot) (es : Expressions) → length ps ≡ 0 → check_all k s lo (exactly (widths_of (shown_slots ps))) es ≡ Ok (record { widths = []; terms = Nil })
+pub arguments_none : (k : Known) (s : List Slot) (lo : ℕ) (ps : List code_slot.Slot) (es : Expressions) → length ps ≡ 0 → check_all k s lo
+    (exactly (widths_of (shown_slots ps))) es ≡ Ok (record { widths = []; terms = Nil })
 arguments_none k s lo [] no_expression e = refl
 arguments_none k s lo [] (an_expression y ys) e = refl
 arguments_none k s lo (p ∷ ps) es e = absurd (omega (arith, e))
 
-pub none_is : (k : Known) (s : List Slot) (lo : ℕ) (ms : List Wanted) (es : List code.Expression) → length es ≡ 0 → check_all k s lo ms (shown_expressions es) ≡ Ok (record { widths = []; terms = Nil })
+pub none_is : (k : Known) (s : List Slot) (lo : ℕ) (ms : List Wanted) (es : List code.Expression) → length es ≡ 0 → check_all k s lo ms
+    (shown_expressions es) ≡ Ok (record { widths = []; terms = Nil })
 none_is k s lo ms [] e = refl
 none_is k s lo ms (y ∷ ys) e = absurd (omega (arith, e))
 
@@ -183,24 +200,30 @@ bound_is k s lo es y ys m n e em en =
 
 pub shift_is : (k : Known) (s : List Slot) (lo p : ℕ) (es : List code.Expression) (y : code.Expression) (ys : List code.Expression) (n : ℕ)
     → es ≡ y ∷ ys → n ≡ lo + sites k (shown_expression y)
-    → check_shift k s lo p (shown_expressions es) ≡ after (check k s false lo Any (shown_expression y)) (λ x. after (check_all k s n (amounts x.width (shown_expressions ys)) (shown_expressions ys)) (λ r. Ok (with_operand x.width x r.terms)))
+    → check_shift k s lo p (shown_expressions es) ≡ after (check k s false lo Any (shown_expression y))
+    (λ x. after (check_all k s n (amounts x.width (shown_expressions ys)) (shown_expressions ys)) (λ r. Ok (with_operand x.width x r.terms)))
 shift_is k s lo p es y ys n e en =
-    let f : ℕ → Result TypedAlike Fault = λ i. after (check k s false lo Any (shown_expression y)) (λ x. after (check_all k s i (amounts x.width (shown_expressions ys)) (shown_expressions ys)) (λ r. Ok (with_operand x.width x r.terms))) in
+    let f : ℕ → Result TypedAlike Fault = λ i. after (check k s false lo Any (shown_expression y))
+    (λ x. after (check_all k s i (amounts x.width (shown_expressions ys)) (shown_expressions ys)) (λ r. Ok (with_operand x.width x r.terms))) in
     ap (λ (l : List code.Expression). check_shift k s lo p (shown_expressions l)) e ∙ sym (ap f en)
 
 pub alike_later : (k : Known) (s : List Slot) (lo p : ℕ) (m : Wanted) (es : List code.Expression) (y : code.Expression) (ys : List code.Expression) (n : ℕ)
     → es ≡ y ∷ ys → (is_any m && flexible (shown_expression y)) ≡ true → n ≡ lo + sites k (shown_expression y)
-    → check_alike k s lo p m (shown_expressions es) ≡ after (check_alike k s n p m (shown_expressions ys)) (λ r. after (check k s false lo (Exactly r.width) (shown_expression y)) (λ x. Ok (with_operand r.width x r.terms)))
+    → check_alike k s lo p m (shown_expressions es) ≡ after (check_alike k s n p m (shown_expressions ys))
+    (λ r. after (check k s false lo (Exactly r.width) (shown_expression y)) (λ x. Ok (with_operand r.width x r.terms)))
 alike_later k s lo p m es y ys n e b en =
-    let f : ℕ → Result TypedAlike Fault = λ i. after (check_alike k s i p m (shown_expressions ys)) (λ r. after (check k s false lo (Exactly r.width) (shown_expression y)) (λ x. Ok (with_operand r.width x r.terms))) in
+    let f : ℕ → Result TypedAlike Fault = λ i. after (check_alike k s i p m (shown_expressions ys))
+    (λ r. after (check k s false lo (Exactly r.width) (shown_expression y)) (λ x. Ok (with_operand r.width x r.terms))) in
     ap (λ (l : List code.Expression). check_alike k s lo p m (shown_expressions l)) e
     ∙ ap (λ (c : Bool). alike c m (λ v. check k s false lo v (shown_expression y)) (λ v. check_alike k s (lo + sites k (shown_expression y)) p v (shown_expressions ys))) b ∙ sym (ap f en)
 
 pub alike_first : (k : Known) (s : List Slot) (lo p : ℕ) (m : Wanted) (es : List code.Expression) (y : code.Expression) (ys : List code.Expression) (n : ℕ)
     → es ≡ y ∷ ys → (is_any m && flexible (shown_expression y)) ≡ false → n ≡ lo + sites k (shown_expression y)
-    → check_alike k s lo p m (shown_expressions es) ≡ after (check k s false lo m (shown_expression y)) (λ x. after (check_alike k s n p (Exactly x.width) (shown_expressions ys)) (λ r. Ok (with_operand x.width x r.terms)))
+    → check_alike k s lo p m (shown_expressions es) ≡ after (check k s false lo m (shown_expression y))
+    (λ x. after (check_alike k s n p (Exactly x.width) (shown_expressions ys)) (λ r. Ok (with_operand x.width x r.terms)))
 alike_first k s lo p m es y ys n e b en =
-    let f : ℕ → Result TypedAlike Fault = λ i. after (check k s false lo m (shown_expression y)) (λ x. after (check_alike k s i p (Exactly x.width) (shown_expressions ys)) (λ r. Ok (with_operand x.width x r.terms))) in
+    let f : ℕ → Result TypedAlike Fault = λ i. after (check k s false lo m (shown_expression y))
+    (λ x. after (check_alike k s i p (Exactly x.width) (shown_expressions ys)) (λ r. Ok (with_operand x.width x r.terms))) in
     ap (λ (l : List code.Expression). check_alike k s lo p m (shown_expressions l)) e
     ∙ ap (λ (c : Bool). alike c m (λ v. check k s false lo v (shown_expression y)) (λ v. check_alike k s (lo + sites k (shown_expression y)) p v (shown_expressions ys))) b ∙ sym (ap f en)
 
@@ -222,30 +245,43 @@ branches_first k s tail lo m a b t n e en =
     let f : ℕ → Result Typed Fault = λ i. after (check k s tail lo m a) (λ y. after (check k s tail i (Exactly y.width) b) (λ z. Ok (record { width = y.width; term = terms.If t y.term z.term }))) in
     ap (λ (c : Bool). branches c m (λ v. check k s tail lo v a) (λ v. check k s tail (lo + sites k a) v b) t) e ∙ sym (ap f en)
 
-pub choice_not : (k : Known) (s : List Slot) (tail : Bool) (lo : ℕ) (m : Wanted) (p : ℕ) (c a b : Expression) → is_known m (flexible a && flexible b) ≡ false → check k s tail lo m (If p c a b) ≡ Err (fault rules.E14 p)
+pub choice_not : (k : Known) (s : List Slot) (tail : Bool) (lo : ℕ) (m : Wanted) (p : ℕ) (c a b : Expression) → is_known m (flexible a && flexible b)
+    ≡ false → check k s tail lo m (If p c a b) ≡ Err (fault rules.E14 p)
 choice_not k s tail lo m p c a b e =
-    ap (λ (t : Bool). unless (needs t (fault rules.E14 p)) (after (check k s false lo (Exactly 1) c) (λ x. branches (is_any m && flexible a) m (λ v. check k s tail (lo + sites k c) v a) (λ v. check k s tail (lo + sites k c + sites k a) v b) x.term))) e
+    ap (λ (t : Bool). unless (needs t (fault rules.E14 p)) (after (check k s false lo (Exactly 1) c)
+    (λ x. branches (is_any m && flexible a) m (λ v. check k s tail (lo + sites k c) v a) (λ v. check k s tail (lo + sites k c + sites k a) v b) x.term))) e
 
 pub choice_is : (k : Known) (s : List Slot) (tail : Bool) (lo : ℕ) (m : Wanted) (p : ℕ) (c a b : Expression) (n : ℕ) → is_known m (flexible a && flexible b) ≡ true → n ≡ lo + sites k c
-    → check k s tail lo m (If p c a b) ≡ after (check k s false lo (Exactly 1) c) (λ x. branches (is_any m && flexible a) m (λ v. check k s tail n v a) (λ v. check k s tail (n + sites k a) v b) x.term)
+    → check k s tail lo m (If p c a b) ≡ after (check k s false lo (Exactly 1) c)
+    (λ x. branches (is_any m && flexible a) m (λ v. check k s tail n v a) (λ v. check k s tail (n + sites k a) v b) x.term)
 choice_is k s tail lo m p c a b n e en =
-    let f : ℕ → Result Typed Fault = λ i. after (check k s false lo (Exactly 1) c) (λ x. branches (is_any m && flexible a) m (λ v. check k s tail i v a) (λ v. check k s tail (i + sites k a) v b) x.term) in
+    let f : ℕ → Result Typed Fault = λ i. after (check k s false lo (Exactly 1) c)
+    (λ x. branches (is_any m && flexible a) m (λ v. check k s tail i v a) (λ v. check k s tail (i + sites k a) v b) x.term) in
     ap (λ (t : Bool). unless (needs t (fault rules.E14 p)) (f (lo + sites k c))) e ∙ sym (ap f en)
 
-pub binding_not : (k : Known) (s : List Slot) (tail : Bool) (lo : ℕ) (m : Wanted) (p : ℕ) (bs : Bindings) (b : Expression) → is_known m (flexible b) ≡ false → check k s tail lo m (Let p bs b) ≡ Err (fault rules.E14 p)
+pub binding_not : (k : Known) (s : List Slot) (tail : Bool) (lo : ℕ) (m : Wanted) (p : ℕ) (bs : Bindings) (b : Expression) → is_known m (flexible b) ≡
+    false → check k s tail lo m (Let p bs b) ≡ Err (fault rules.E14 p)
 binding_not k s tail lo m p bs b e =
-    ap (λ (t : Bool). unless (needs t (fault rules.E14 p)) (unless (repeated [] (placed bs)) (after (check_bound k s lo bs) (λ r. after (check k (s ++ slots bs r.widths) tail (lo + sites_bound k bs) m b) (λ y. Ok (record { width = y.width; term = terms.Let r.terms y.term })))))) e
+    ap (λ (t : Bool). unless (needs t (fault rules.E14 p)) (unless (repeated [] (placed bs))
+    (after (check_bound k s lo bs) (λ r. after (check k (s ++ slots bs r.widths) tail (lo + sites_bound k bs) m b)
+    (λ y. Ok (record { width = y.width; term = terms.Let r.terms y.term })))))) e
 
-binding_known : (k : Known) (s : List Slot) (tail : Bool) (lo : ℕ) (m : Wanted) (p : ℕ) (bs : Bindings) (b : Expression) (o : Option Fault) → is_known m (flexible b) ≡ true → repeated [] (placed bs) ≡ o
-    → check k s tail lo m (Let p bs b) ≡ unless o (after (check_bound k s lo bs) (λ r. after (check k (s ++ slots bs r.widths) tail (lo + sites_bound k bs) m b) (λ y. Ok (record { width = y.width; term = terms.Let r.terms y.term }))))
+binding_known : (k : Known) (s : List Slot) (tail : Bool) (lo : ℕ) (m : Wanted) (p : ℕ) (bs : Bindings) (b : Expression) (o : Option Fault) → is_known
+    m (flexible b) ≡ true → repeated [] (placed bs) ≡ o
+    → check k s tail lo m (Let p bs b) ≡ unless o (after (check_bound k s lo bs)
+    (λ r. after (check k (s ++ slots bs r.widths) tail (lo + sites_bound k bs) m b) (λ y. Ok (record { width = y.width; term = terms.Let r.terms y.term }))))
 binding_known k s tail lo m p bs b o e q =
-    let f : Option Fault → Result Typed Fault = λ z. unless z (after (check_bound k s lo bs) (λ r. after (check k (s ++ slots bs r.widths) tail (lo + sites_bound k bs) m b) (λ y. Ok (record { width = y.width; term = terms.Let r.terms y.term })))) in
+    let f : Option Fault → Result Typed Fault = λ z. unless z (after (check_bound k s lo bs)
+    (λ r. after (check k (s ++ slots bs r.widths) tail (lo + sites_bound k bs) m b) (λ y. Ok (record { width = y.width; term = terms.Let r.terms y.term })))) in
     ap (λ (t : Bool). unless (needs t (fault rules.E14 p)) (f (repeated [] (placed bs)))) e ∙ ap f q
 
-pub binding_is : (k : Known) (s : List Slot) (tail : Bool) (lo : ℕ) (m : Wanted) (p : ℕ) (bs : Bindings) (b : Expression) (n : ℕ) → is_known m (flexible b) ≡ true → repeated [] (placed bs) ≡ None → n ≡ lo + sites_bound k bs
-    → check k s tail lo m (Let p bs b) ≡ after (check_bound k s lo bs) (λ r. after (check k (s ++ slots bs r.widths) tail n m b) (λ y. Ok (record { width = y.width; term = terms.Let r.terms y.term })))
+pub binding_is : (k : Known) (s : List Slot) (tail : Bool) (lo : ℕ) (m : Wanted) (p : ℕ) (bs : Bindings) (b : Expression) (n : ℕ) → is_known m
+    (flexible b) ≡ true → repeated [] (placed bs) ≡ None → n ≡ lo + sites_bound k bs
+    → check k s tail lo m (Let p bs b) ≡ after (check_bound k s lo bs)
+    (λ r. after (check k (s ++ slots bs r.widths) tail n m b) (λ y. Ok (record { width = y.width; term = terms.Let r.terms y.term })))
 binding_is k s tail lo m p bs b n e q en =
-    let f : ℕ → Result Typed Fault = λ i. after (check_bound k s lo bs) (λ r. after (check k (s ++ slots bs r.widths) tail i m b) (λ y. Ok (record { width = y.width; term = terms.Let r.terms y.term }))) in
+    let f : ℕ → Result Typed Fault = λ i. after (check_bound k s lo bs)
+    (λ r. after (check k (s ++ slots bs r.widths) tail i m b) (λ y. Ok (record { width = y.width; term = terms.Let r.terms y.term }))) in
     binding_known k s tail lo m p bs b None e q ∙ sym (ap f en)
 
 slots_few : (bs : Bindings) (ws : List ℕ) → length (slots bs ws) ≤ nodes_bound bs
@@ -267,7 +303,17 @@ pub may_below : (hs : List code_head.Head) (u : ℕ) (ss below : List Slot) (lo 
 may_below hs u ss below lo p bs b r n h q c e =
     let w = (checks_have_bound (known hs u) ss lo (lo + sites_bound (known hs u) bs) bs r refl h.heads h.slots h.range.0 c).wide in
     let l : length below ≡ length ss + length (slots bs r.widths) = omega (arith, ap (λ (z : List Slot). length z) e, append_length ss (slots bs r.widths)) in
-    record { heads = h.heads; counted = h.counted; params = h.params; slots = subst WideSlots (sym e) (wide_append ss (slots bs r.widths) h.slots (wide_slots bs r.widths w)); range = h.range.1; within = omega (arith, h.within, q); room = omega (arith, h.room, l, slots_few bs r.widths) }
+    record {
+      heads = h.heads;
+      counted = h.counted;
+      params = h.params;
+      slots = subst WideSlots (sym e)
+          (wide_append ss (slots bs r.widths) h.slots (wide_slots bs r.widths w));
+      range = h.range.1;
+      within = omega (arith, h.within, q);
+      room = omega
+          (arith, h.room, l, slots_few bs r.widths);
+    }
 
 -- ---- operators
 
@@ -293,11 +339,13 @@ resizing_is k s tail lo m p o es e = operated_is k s tail lo m p o es Resizing e
 
 -- ---- calls
 
-pub callee_member : (hs : List code_head.Head) (k : Known) (f : List ℕ) (c : code_callee.Callee) (n : ℕ) (h : code_head.Head) → shown_callee hs c ≡ callee k f → IsOneOf hs c → c ≡ callees.Member n → h ≡ get_or hs n h → callee k f ≡ Member n (shown_head h)
+pub callee_member : (hs : List code_head.Head) (k : Known) (f : List ℕ) (c : code_callee.Callee) (n : ℕ) (h : code_head.Head) → shown_callee hs c ≡
+    callee k f → IsOneOf hs c → c ≡ callees.Member n → h ≡ get_or hs n h → callee k f ≡ Member n (shown_head h)
 callee_member hs k f c n h e one is get =
     sym e ∙ ap (shown_callee hs) is ∙ ap (λ (o : Option code_head.Head). a_member (with_number n o)) (slice_get_read hs (length hs) n h refl (subst (IsOneOf hs) is one) get)
 
-pub callee_above : (hs : List code_head.Head) (k : Known) (f : List ℕ) (c : code_callee.Callee) (n : ℕ) (h : code_head.Head) → shown_callee hs c ≡ callee k f → IsOneOf hs c → c ≡ callees.Above n → h ≡ get_or hs n h → callee k f ≡ Above n (shown_head h)
+pub callee_above : (hs : List code_head.Head) (k : Known) (f : List ℕ) (c : code_callee.Callee) (n : ℕ) (h : code_head.Head) → shown_callee hs c ≡
+    callee k f → IsOneOf hs c → c ≡ callees.Above n → h ≡ get_or hs n h → callee k f ≡ Above n (shown_head h)
 callee_above hs k f c n h e one is get =
     sym e ∙ ap (shown_callee hs) is ∙ ap (λ (o : Option code_head.Head). an_earlier (with_number n o)) (slice_get_read hs (length hs) n h refl (subst (IsOneOf hs) is one) get)
 
@@ -305,12 +353,15 @@ called_is : (k : Known) (s : List Slot) (tail : Bool) (lo : ℕ) (m : Wanted) (p
     → check k s tail lo m (Call p f es) ≡ called c tail lo p m (count es) (λ first ws. check_all k s first (exactly ws) es)
 called_is k s tail lo m p f es c e = ap (λ (z : Callee). called z tail lo p m (count es) (λ first ws. check_all k s first (exactly ws) es)) e
 
-pub unknown_is : (k : Known) (s : List Slot) (tail : Bool) (lo : ℕ) (m : Wanted) (p : ℕ) (f : List ℕ) (es : Expressions) → callee k f ≡ Unknown → check k s tail lo m (Call p f es) ≡ Err (fault rules.E09 p)
+pub unknown_is : (k : Known) (s : List Slot) (tail : Bool) (lo : ℕ) (m : Wanted) (p : ℕ) (f : List ℕ) (es : Expressions) → callee k f ≡ Unknown →
+    check k s tail lo m (Call p f es) ≡ Err (fault rules.E09 p)
 unknown_is k s tail lo m p f es e = called_is k s tail lo m p f es Unknown e
 
-pub not_tail : (k : Known) (s : List Slot) (tail : Bool) (lo : ℕ) (m : Wanted) (p : ℕ) (f : List ℕ) (es : Expressions) (n : ℕ) (h : Head) → callee k f ≡ Member n h → tail ≡ false → check k s tail lo m (Call p f es) ≡ Err (fault rules.E10 p)
+pub not_tail : (k : Known) (s : List Slot) (tail : Bool) (lo : ℕ) (m : Wanted) (p : ℕ) (f : List ℕ) (es : Expressions) (n : ℕ) (h : Head) → callee k f
+    ≡ Member n h → tail ≡ false → check k s tail lo m (Call p f es) ≡ Err (fault rules.E10 p)
 not_tail k s tail lo m p f es n h e t =
-    called_is k s tail lo m p f es (Member n h) e ∙ ap (λ (b : Bool). unless (needs b (fault rules.E10 p)) (arguments p m h (count es) (check_all k s lo (exactly (widths_of h.params)) es) (λ us. Loop n us))) t
+    called_is k s tail lo m p f es (Member n h) e ∙ ap (λ (b : Bool). unless (needs b (fault rules.E10 p))
+    (arguments p m h (count es) (check_all k s lo (exactly (widths_of h.params)) es) (λ us. Loop n us))) t
 
 pub count_all : (es : List code.Expression) → count (shown_expressions es) ≡ length es
 count_all [] = refl
@@ -341,10 +392,12 @@ few_params [] n h c lt get = absurd (omega (arith, lt))
 few_params (y ∷ ys) zero h c lt get = subst (λ (z : code_head.Head). length z.params.items < 2 ^ 32) (sym get) c.0
 few_params (y ∷ ys) (suc n) h c lt get = few_params ys n h c.1 (omega (arith, lt)) get
 
-pub wide_member : (hs : List code_head.Head) (u : ℕ) (f : List ℕ) (n : ℕ) (h : code_head.Head) → WideHeads (shown_heads hs) → callee (known hs u) f ≡ Member n (shown_head h) → WideSlots (shown_head h).params
+pub wide_member : (hs : List code_head.Head) (u : ℕ) (f : List ℕ) (n : ℕ) (h : code_head.Head) → WideHeads (shown_heads hs) → callee (known hs u) f ≡
+    Member n (shown_head h) → WideSlots (shown_head h).params
 wide_member hs u f n h w e = let g : WideCallee (Member n (shown_head h)) = subst WideCallee e (callee_wide (known hs u) f w) in g.params
 
-pub wide_above : (hs : List code_head.Head) (u : ℕ) (f : List ℕ) (n : ℕ) (h : code_head.Head) → WideHeads (shown_heads hs) → callee (known hs u) f ≡ Above n (shown_head h) → WideSlots (shown_head h).params
+pub wide_above : (hs : List code_head.Head) (u : ℕ) (f : List ℕ) (n : ℕ) (h : code_head.Head) → WideHeads (shown_heads hs) → callee (known hs u) f ≡
+    Above n (shown_head h) → WideSlots (shown_head h).params
 wide_above hs u f n h w e = let g : WideCallee (Above n (shown_head h)) = subst WideCallee e (callee_wide (known hs u) f w) in g.params
 
 pub same_count : (a b : ℕ) (ps : List code_slot.Slot) (es : List code.Expression) → a ≡ length ps → b ≡ length es → (a == b) ≡ (length (shown_slots ps) == count (shown_expressions es))
@@ -360,24 +413,30 @@ counted_arguments k s lo p h es = unless (needs (length h.params == count es) (f
 pub loop_is : (k : Known) (s : List Slot) (tail : Bool) (lo : ℕ) (m : Wanted) (p : ℕ) (f : List ℕ) (es : Expressions) (n : ℕ) (h : Head) → callee k f ≡ Member n h → tail ≡ true
     → check k s tail lo m (Call p f es) ≡ after (counted_arguments k s lo p h es) (λ r. settle p m h.width (Loop n r.terms))
 loop_is k s tail lo m p f es n h e t =
-    called_is k s tail lo m p f es (Member n h) e ∙ ap (λ (b : Bool). unless (needs b (fault rules.E10 p)) (arguments p m h (count es) (check_all k s lo (exactly (widths_of h.params)) es) (λ us. Loop n us))) t
-    ∙ counted_after (needs (length h.params == count es) (fault_with rules.E11 p (length h.params) (count es))) (check_all k s lo (exactly (widths_of h.params)) es) (λ r. settle p m h.width (Loop n r.terms))
+    called_is k s tail lo m p f es (Member n h) e ∙ ap (λ (b : Bool). unless (needs b (fault rules.E10 p))
+    (arguments p m h (count es) (check_all k s lo (exactly (widths_of h.params)) es) (λ us. Loop n us))) t
+    ∙ counted_after (needs (length h.params == count es) (fault_with rules.E11 p (length h.params) (count es)))
+    (check_all k s lo (exactly (widths_of h.params)) es) (λ r. settle p m h.width (Loop n r.terms))
 
 pub call_is : (k : Known) (s : List Slot) (tail : Bool) (lo : ℕ) (m : Wanted) (p : ℕ) (f : List ℕ) (es : Expressions) (n : ℕ) (h : Head) (next : ℕ) → callee k f ≡ Above n h → next ≡ suc lo
     → check k s tail lo m (Call p f es) ≡ after (counted_arguments k s next p h es) (λ r. settle p m h.width (terms.Call n lo r.terms))
 call_is k s tail lo m p f es n h next e en =
     called_is k s tail lo m p f es (Above n h) e
-    ∙ counted_after (needs (length h.params == count es) (fault_with rules.E11 p (length h.params) (count es))) (check_all k s (suc lo) (exactly (widths_of h.params)) es) (λ r. settle p m h.width (terms.Call n lo r.terms))
+    ∙ counted_after (needs (length h.params == count es) (fault_with rules.E11 p (length h.params) (count es)))
+    (check_all k s (suc lo) (exactly (widths_of h.params)) es) (λ r. settle p m h.width (terms.Call n lo r.terms))
     ∙ sym (ap (λ (i : ℕ). after (counted_arguments k s i p h es) (λ r. settle p m h.width (terms.Call n lo r.terms))) en)
 
 -- ---- an expression by its parts
 
-pub choice_same : (e : Expression) (p : ℕ) (c a b c2 a2 b2 : code.Expression) → e ≡ If p (shown_expression c) (shown_expression a) (shown_expression b) → c2 ≡ c → a2 ≡ a → b2 ≡ b → e ≡ If p (shown_expression c2) (shown_expression a2) (shown_expression b2)
+pub choice_same : (e : Expression) (p : ℕ) (c a b c2 a2 b2 : code.Expression) → e ≡ If p (shown_expression c) (shown_expression a)
+    (shown_expression b) → c2 ≡ c → a2 ≡ a → b2 ≡ b → e ≡ If p (shown_expression c2) (shown_expression a2) (shown_expression b2)
 choice_same e p c a b c2 a2 b2 q x y z =
-    q ∙ sym (ap (λ (v : code.Expression). If p (shown_expression v) (shown_expression a) (shown_expression b)) x) ∙ sym (ap (λ (v : code.Expression). If p (shown_expression c2) (shown_expression v) (shown_expression b)) y)
+    q ∙ sym (ap (λ (v : code.Expression). If p (shown_expression v) (shown_expression a) (shown_expression b)) x) ∙ sym
+    (ap (λ (v : code.Expression). If p (shown_expression c2) (shown_expression v) (shown_expression b)) y)
     ∙ sym (ap (λ (v : code.Expression). If p (shown_expression c2) (shown_expression a2) (shown_expression v)) z)
 
-pub binding_same : (e : Expression) (p : ℕ) (bs cs : List Bound) (b c : code.Expression) → e ≡ Let p (shown_bindings bs) (shown_expression b) → cs ≡ bs → c ≡ b → e ≡ Let p (shown_bindings cs) (shown_expression c)
+pub binding_same : (e : Expression) (p : ℕ) (bs cs : List Bound) (b c : code.Expression) → e ≡ Let p (shown_bindings bs) (shown_expression b) → cs ≡
+    bs → c ≡ b → e ≡ Let p (shown_bindings cs) (shown_expression c)
 binding_same e p bs cs b c q x y =
     q ∙ sym (ap (λ (l : List Bound). Let p (shown_bindings l) (shown_expression b)) x) ∙ sym (ap (λ (v : code.Expression). Let p (shown_bindings cs) (shown_expression v)) y)
 
@@ -395,10 +454,13 @@ get_head [] n lt = absurd (omega (arith, lt))
 get_head (h ∷ hs) zero lt = (h, refl, refl)
 get_head (h ∷ hs) (suc n) lt = get_head hs n (omega (arith, lt))
 
-pub member_is : (hs : List code_head.Head) (k : Known) (f : List ℕ) (c : code_callee.Callee) (n : ℕ) → shown_callee hs c ≡ callee k f → IsOneOf hs c → c ≡ callees.Member n → callee k f ≡ Member n (head_at hs n)
+pub member_is : (hs : List code_head.Head) (k : Known) (f : List ℕ) (c : code_callee.Callee) (n : ℕ) → shown_callee hs c ≡ callee k f → IsOneOf hs c →
+    c ≡ callees.Member n → callee k f ≡ Member n (head_at hs n)
 member_is hs k f c n e one is =
     let g = get_head hs n (subst (IsOneOf hs) is one) in
     sym e ∙ ap (shown_callee hs) is ∙ ap (λ (o : Option code_head.Head). a_member (with_number n o)) g.1 ∙ ap (λ (h : Head). Member n h) g.2
 
-pub wrong_is : (p : ℕ) (ps : List code_slot.Slot) (es : List code.Expression) → errors.Refused (fault_with rules.E11 p (length ps) (length es)) ≡ errors.Refused (fault_with rules.E11 p (length (shown_slots ps)) (count (shown_expressions es)))
-wrong_is p ps es = ap (λ (n : ℕ). errors.Refused (fault_with rules.E11 p n (length es))) (sym (slots_length ps)) ∙ ap (λ (n : ℕ). errors.Refused (fault_with rules.E11 p (length (shown_slots ps)) n)) (sym (count_all es))
+pub wrong_is : (p : ℕ) (ps : List code_slot.Slot) (es : List code.Expression) → errors.Refused (fault_with rules.E11 p (length ps) (length es)) ≡
+    errors.Refused (fault_with rules.E11 p (length (shown_slots ps)) (count (shown_expressions es)))
+wrong_is p ps es = ap (λ (n : ℕ). errors.Refused (fault_with rules.E11 p n (length es))) (sym (slots_length ps)) ∙ ap
+    (λ (n : ℕ). errors.Refused (fault_with rules.E11 p (length (shown_slots ps)) n)) (sym (count_all es))

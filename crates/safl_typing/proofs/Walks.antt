@@ -14,9 +14,11 @@ use Rattle.safl_typing.specs.Rewriting.{Expression, rewritten, nodes}
 use Rattle.safl_typing.specs.Heads.{Slot, Head, Known, sites, unit_of, params_of, heads}
 use Rattle.safl_typing.specs.Typing.{Differ, Has}
 use Rattle.safl_term.specs.Sizes.{max_bindings}
-use Rattle.safl_typing.specs.Forms.{FunctionForm, Form, all_sites, max_functions, max_params, max_sites, max_nodes, nodes_of, param_names, IsFunctionOf, AreFunctionsOf, IsLast, function_names, IsFormOf}
+use Rattle.safl_typing.specs.Forms.{FunctionForm, Form, all_sites, max_functions, max_params, max_sites, max_nodes, nodes_of, param_names}
+use Rattle.safl_typing.specs.Forms.{IsFunctionOf, AreFunctionsOf, IsLast, function_names, IsFormOf}
 use Rattle.safl_term.specs.Readiness.{or_else}
-use Rattle.safl_typing.specs.Walk.{after, unless, needs, fault, fault_with, excess, limit, long_let, limits_from, limits, placed_params, head_fault, joined_faults, group_fault, function, functions_from, main_fault, Exactly, outcome}
+use Rattle.safl_typing.specs.Walk.{after, unless, needs, fault, fault_with, excess, limit, long_let, limits_from, limits, placed_params, head_fault}
+use Rattle.safl_typing.specs.Walk.{joined_faults, group_fault, function, functions_from, main_fault, Exactly, outcome}
 use Rattle.safl_typing.proofs.Counts.{has_sites}
 use Rattle.safl_typing.proofs.Names.{some_none, Apart, in_order, differ_repeat, repeat_differ, unseen, not_seen, differ_rest, apart_more, differ_first}
 use Rattle.safl_typing.proofs.Complete.{typed, after_gives, unless_gives, needs_gives, has_checks}
@@ -119,7 +121,8 @@ walked all earlier n u w lo ps pn (d ∷ ds) fs wh form at few_sites few_nodes l
     let u0 = unless_ok (group_fault earlier d ds) _ fs e in
     let o : IsOpened earlier w d ds = opened d.joined earlier w d ds refl u0.0 je in
     let q = after_ok _ _ fs u0.1 in
-    let s = checks_has known (params_of d) true lo (lo + sites known body) (Exactly d.width) body q.0 refl wh (params_wide d.params form.0.1) (formed_range d.body form.0.3) (width_wide d.width form.0.2) q.1 in
+    let s = checks_has known (params_of d) true lo (lo + sites known body) (Exactly d.width) body q.0 refl wh (params_wide d.params form.0.1)
+    (formed_range d.body form.0.3) (width_wide d.width form.0.2) q.1 in
     let r = after_ok _ _ fs q.2 in
     let next : lo + sites known body ≡ suc (ps + sites known body) = omega (arith, at) in
     let rest : IsWalked all (d.name ∷ earlier) (suc n) unit d.width (lo + sites known body) (pn + nodes body) ds r.0 =
@@ -127,7 +130,19 @@ walked all earlier n u w lo ps pn (d ∷ ds) fs wh form at few_sites few_nodes l
     let met : d.width ≡ q.0.width = s.met in
     let f : FunctionForm = function unit lo d q.0.term in
     let is : IsFunctionOf all unit lo (lo + sites known body) d f =
-    record { name = refl; params = refl; width = refl; unit = refl; first_site = refl; params_differ = o.head.params; few_params = subst (λ (z : ℕ). z ≤ max_params) (places_length d.params) (none_excess max_params _ (none_limit _ _ _ l0.0)); short_lets = no_long_let body (none_limit _ _ _ l1.0); body = subst (λ (z : ℕ). Has known (params_of d) true lo (lo + sites known body) body z q.0.term) (sym met) s.has } in
+    record {
+      name = refl;
+      params = refl;
+      width = refl;
+      unit = refl;
+      first_site = refl;
+      params_differ = o.head.params;
+      few_params = subst
+          (λ (z : ℕ). z ≤ max_params) (places_length d.params) (none_excess max_params _ (none_limit _ _ _ l0.0));
+      short_lets = no_long_let body
+          (none_limit _ _ _ l1.0);
+      body = subst (λ (z : ℕ). Has known (params_of d) true lo (lo + sites known body) body z q.0.term) (sym met) s.has;
+    } in
     subst (λ (z : List FunctionForm). IsWalked all earlier n u w lo pn (d ∷ ds) z) (ok_is _ fs r.2)
     (record {
       last = rest.last;
@@ -158,7 +173,8 @@ walk_form ds c form e =
     let l0 = none_both (limit 1 max_functions (excess max_functions (map (λ (d : Definition). d.place) ds))) (limits_from (heads ds) 0 0 0 0 ds) l.0 in
     let q = after_ok (functions_from (heads ds) [] 0 0 1 ds) (λ fs. unless (main_fault ds) (Ok (record { functions = fs; sites = all_sites 0 fs }))) c l.1 in
     let m = unless_ok (main_fault ds) (Ok (record { functions = q.0; sites = all_sites 0 q.0 })) c q.2 in
-    let w : IsWalked (heads ds) [] 0 0 0 1 0 ds q.0 = walked (heads ds) [] 0 0 0 1 0 0 ds q.0 (heads_wide 0 0 ds form.formed) form.formed refl (omega arith) (omega arith) l0.1 (none_joined ds form.opens) q.1 in
+    let w : IsWalked (heads ds) [] 0 0 0 1 0 ds q.0 = walked (heads ds) [] 0 0 0 1 0 0 ds q.0 (heads_wide 0 0 ds form.formed) form.formed refl
+    (omega arith) (omega arith) l0.1 (none_joined ds form.opens) q.1 in
     subst (λ (z : Form). IsFormOf ds z) (ok_is (record { functions = q.0; sites = all_sites 0 q.0 }) c m.1)
     (record {
       last_site = w.last;
@@ -178,7 +194,12 @@ functions_rise all n u w lo hi [] [] h = omega (arith, h)
 functions_rise all n u w lo hi [] (f ∷ fs) h = absurd h
 functions_rise all n u w lo hi (d ∷ ds) [] h = absurd h
 functions_rise all n u w lo hi (d ∷ ds) (f ∷ fs) (m, is, j, rest) =
-    omega (arith, functions_rise all (suc n) (unit_of n u d) d.width m hi ds fs rest, has_sites (record { heads = all; unit = unit_of n u d }) (params_of d) true lo m (rewritten d.body) d.width f.body is.body)
+    omega (
+      arith,
+      functions_rise all (suc n) (unit_of n u d) d.width m hi ds fs rest,
+      has_sites (record { heads = all; unit = unit_of n u d })
+          (params_of d) true lo m (rewritten d.body) d.width f.body is.body,
+    )
 
 -- no definition passes a limit
 limits_kept : (all : List Head) (n u w lo hi placed_sites placed_nodes : ℕ) (ds : List Definition) (fs : List FunctionForm)
@@ -207,7 +228,9 @@ joined_kept : (all : List Head) (earlier : List (List ℕ)) (n u w lo hi : ℕ) 
 joined_kept all earlier n u w lo hi [] fs h d a = refl
 joined_kept all earlier n u w lo hi (x ∷ ds) [] h d a = absurd h
 joined_kept all earlier n u w lo hi (x ∷ ds) (f ∷ fs) (m, is, j, rest) d a =
-    by x.joined refl (λ q. subst (λ (z : ℕ). joined_faults (x.name ∷ earlier) z ds ≡ None) (j q) (joined_kept all (x.name ∷ earlier) (suc n) (unit_of n u x) x.width m hi ds fs rest (differ_rest x.name (function_names ds) d) (apart_more x.name earlier (function_names ds) d a)))
+    by x.joined refl (λ q. subst (λ (z : ℕ). joined_faults (x.name ∷ earlier) z ds ≡ None) (j q)
+    (joined_kept all (x.name ∷ earlier) (suc n) (unit_of n u x) x.width m hi ds fs rest (differ_rest x.name (function_names ds) d)
+    (apart_more x.name earlier (function_names ds) d a)))
   where
     by : (b : Bool) → x.joined ≡ b → (x.joined ≡ true → joined_faults (x.name ∷ earlier) w ds ≡ None) → cond b (or_else (head_fault earlier w x) (joined_faults (x.name ∷ earlier) w ds)) None ≡ None
     by true q g = both_none _ _ (is_head earlier w x (record { fresh = unseen x.name earlier (function_names ds) a; width = sym (j q); params = is.params_differ })) (g q)
@@ -254,6 +277,8 @@ is_main (d ∷ (c ∷ ds)) h = is_main (c ∷ ds) h
 pub form_walk : (ds : List Definition) (c : Form) → IsFormOf ds c → outcome ds ≡ Ok c
 unfolding outcome
 form_walk ds c h =
-    unless_gives _ _ _ (both_none _ _ (limit_none _ _ _ (excess_none max_functions _ (subst (λ (n : ℕ). n ≤ max_functions) (sym (def_places_length ds)) h.few_functions))) (limits_kept (heads ds) 0 0 0 1 (suc h.last_site) 0 0 ds c.functions refl (omega (arith, h.few_sites)) (omega (arith, h.few_nodes)) h.functions))
+    unless_gives _ _ _ (both_none _ _ (limit_none _ _ _ (excess_none max_functions _
+    (subst (λ (n : ℕ). n ≤ max_functions) (sym (def_places_length ds)) h.few_functions)))
+    (limits_kept (heads ds) 0 0 0 1 (suc h.last_site) 0 0 ds c.functions refl (omega (arith, h.few_sites)) (omega (arith, h.few_nodes)) h.functions))
     (after_gives _ _ c.functions _ (functions_kept (heads ds) [] 0 0 0 1 (suc h.last_site) 1 ds c.functions refl h.functions h.functions_differ (λ i j name p q. absurd cc))
     (unless_gives _ _ _ (is_main ds h.main) (ap (λ z. Ok (record { functions = c.functions; sites = z })) (sym h.sites))))

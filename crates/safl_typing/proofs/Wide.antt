@@ -62,7 +62,8 @@ innermost_wide x i [] a h e = absurd cc
 innermost_wide x i (v ∷ vs) a h e =
     later_wide (innermost x (suc i) vs) _ a e (λ q. innermost_wide x (suc i) vs a h.1 q) (λ q. here_wide (bytes_eq v.name x) i v.width a q h.0)
 
-head_here : (b : Bool) (n : ℕ) (h : Head) (rest : Option Numbered) (m : Numbered) → cond b (Some (record { number = n; head = h })) rest ≡ Some m → IsWideHead h → (rest ≡ Some m → IsWideHead m.head) → IsWideHead m.head
+head_here : (b : Bool) (n : ℕ) (h : Head) (rest : Option Numbered) (m : Numbered) → cond b (Some (record { number = n; head = h })) rest ≡ Some m →
+    IsWideHead h → (rest ≡ Some m → IsWideHead m.head) → IsWideHead m.head
 head_here true n h rest m e w f = subst IsWideHead (ap (λ (z : Numbered). z.head) (some_is (record { number = n; head = h }) m e)) w
 head_here false n h rest m e w f = f e
 

@@ -14,7 +14,8 @@ use Rattle.safl_tree.specs.Tree as source
 use Rattle.safl_tree.specs.Tree.{Tree, Trees, Binds, Arms, place_of}
 use Rattle.safl_tree.specs.Printable as printable
 use Rattle.safl_tree.specs.Printable.{operands, IsLabel, IsFormed, AreFormed, AreFormedBinds, AreFormedArms}
-use Rattle.safl_typing.specs.Rewriting.{Expression, Number, Sized, Variable, If, Let, Op, Call, Expressions, no_expression, an_expression, Bindings, no_binding, a_binding, shape, count, rewritten, rewritten_all, rewritten_binds, rewritten_arms}
+use Rattle.safl_typing.specs.Rewriting.{Expression, Number, Sized, Variable, If, Let, Op, Call, Expressions, no_expression, an_expression, Bindings}
+use Rattle.safl_typing.specs.Rewriting.{no_binding, a_binding, shape, count, rewritten, rewritten_all, rewritten_binds, rewritten_arms}
 use Rattle.safl_typing.specs.Heads.{Slot, Head, Known, Numbered, first_head, Callee, Member, Above, Unknown, member_or, callee}
 use Rattle.safl_typing.specs.Typing.{At, later, innermost, widths_of, slots, AreAll, Shifts, Suits, Calls, Has, HaveAll, HaveBound}
 use Rattle.safl_typing.specs.Ranges.{IsWide, AreWide, WideSlots, WideHeads}
@@ -183,7 +184,8 @@ pub innermost_at : (x : List ℕ) (n : ℕ) (s : List Slot) (a : At) → innermo
 innermost_at x n [] a e = absurd cc
 innermost_at x n (v ∷ vs) a e = later_at (innermost x (suc n) vs) _ a (IsSlotOf (v ∷ vs) n a) e
     (λ q. let r = innermost_at x (suc n) vs a q in record { place = suc r.place; slot = omega (arith, r.slot); width = r.width })
-    (λ q. let r = here_at (bytes_eq v.name x) (record { slot = n; width = v.width }) a q in record { place = 0; slot = omega (arith, sym (ap (λ (z : At). z.slot) r)); width = ap (λ (z : At). Some z.width) r })
+    (λ q. let r = here_at (bytes_eq v.name x) (record { slot = n; width = v.width }) a q in record
+    { place = 0; slot = omega (arith, sym (ap (λ (z : At). z.slot) r)); width = ap (λ (z : At). Some z.width) r })
 
 -- a head that passes the test stands at its number
 pub record IsHeadAt (test : Head → Bool) (n : ℕ) (hs : List Head) (m : Numbered) : Type 0 where
@@ -199,7 +201,13 @@ first_here false x m rest P e f g = g e
 pub first_at : (test : Head → Bool) (n : ℕ) (hs : List Head) (m : Numbered) → first_head test n hs ≡ Some m → IsHeadAt test n hs m
 first_at test n [] m e = absurd cc
 first_at test n (h ∷ hs) m e = first_here (test h) (record { number = n; head = h }) m _ (IsHeadAt test n (h ∷ hs) m) e
-    (λ q. record { place = 0; number = omega (arith, sym (ap (λ (z : Numbered). z.number) q.1)); head = ap (λ (z : Numbered). Some z.head) q.1; passes = subst (λ (z : Head). test z ≡ true) (ap (λ (z : Numbered). z.head) q.1) q.0 })
+    (λ q. record {
+      place = 0;
+      number = omega (arith, sym (ap (λ (z : Numbered). z.number) q.1));
+      head = ap (λ (z : Numbered). Some z.head) q.1;
+      passes
+          = subst (λ (z : Head). test z ≡ true) (ap (λ (z : Numbered). z.head) q.1) q.0;
+    })
     (λ q. let r = first_at test (suc n) hs m q in record { place = suc r.place; number = omega (arith, r.number); head = r.head; passes = r.passes })
 
 -- a callee stands among the heads at its number, in the own group or in an earlier one
@@ -250,7 +258,8 @@ widths_back k s lo hi no_binding (w ∷ ws) us h = absurd h
 widths_back k s lo hi (a_binding p x v e bs) [] us h = absurd h
 widths_back k s lo hi (a_binding p x v e bs) (w ∷ ws) us (m, t, ts, keeps, he, hs, q) = ap (λ l. w ∷ l) (widths_back k s m hi bs ws ts hs)
 
-called_width : (C : Program) (k : Known) (c : Callee) (slots : List ℕ) (tail : Bool) (lo m : ℕ) (ws : List ℕ) (us : Terms) (w : ℕ) (t : Term) → Agrees C k.heads → CalleeAt k c → Calls c tail lo m ws us w t → HaveWidths C slots us ws → HasWidth C slots t w
+called_width : (C : Program) (k : Known) (c : Callee) (slots : List ℕ) (tail : Bool) (lo m : ℕ) (ws : List ℕ) (us : Terms) (w : ℕ) (t : Term) → Agrees
+    C k.heads → CalleeAt k c → Calls c tail lo m ws us w t → HaveWidths C slots us ws → HasWidth C slots t w
 called_width C k (Member i h) slots tail lo m ws us w t ag at q hs =
     let g = ag i h at.0 in
     subst (λ (z : Term). HasWidth C slots z w) (sym q.4) (subst (λ (z : List ℕ). HaveWidths C slots us z) (q.2 ∙ sym g.params) hs, g.result ∙ q.3, g.inside)
@@ -260,7 +269,8 @@ called_width C k (Above i h) slots tail lo m ws us w t ag at q hs =
 called_width C k Unknown slots tail lo m ws us w t ag at q hs = absurd q
 
 mutual
-  pub has_width : (C : Program) (k : Known) (s : List Slot) (tail : Bool) (lo hi : ℕ) (e : Expression) (w : ℕ) (t : Term) → Agrees C k.heads → WideHeads k.heads → WideSlots s → IsFull e → Has k s tail lo hi e w t → HasWidth C (widths_of s) t w
+  pub has_width : (C : Program) (k : Known) (s : List Slot) (tail : Bool) (lo hi : ℕ) (e : Expression) (w : ℕ) (t : Term) → Agrees C k.heads →
+      WideHeads k.heads → WideSlots s → IsFull e → Has k s tail lo hi e w t → HasWidth C (widths_of s) t w
   has_width C k s tail lo hi (Number p n) w t ag wh wide full h = subst (λ (z : Term). HasWidth C (widths_of s) z w) (sym h.2) (h.1, refl)
   has_width C k s tail lo hi (Sized p v n) w t ag wh wide full h = subst (λ (z : Term). HasWidth C (widths_of s) z w) (sym h.3) (h.2, h.1)
   has_width C k s tail lo hi (Variable p x) w t ag wh wide full (l, i, e, q) =
@@ -273,22 +283,30 @@ mutual
       subst (λ (u : Term). HasWidth C (widths_of s) u w) (sym q) (
         ws,
         bound_widths C k s lo m bs ws us ag wh wide full.0 hs,
-        subst (λ (l : List ℕ). HasWidth C l y w) (widths_append s (slots bs ws) ∙ ap (λ (l : List ℕ). widths_of s ++ l) (widths_back k s lo m bs ws us hs)) (has_width C k (s ++ slots bs ws) tail m hi b w y ag wh (wide_append s (slots bs ws) wide (wide_slots bs ws (bound_wide k s lo m bs ws us wh wide full.0 hs))) full.1 hb),
+        subst (λ (l : List ℕ). HasWidth C l y w) (widths_append s (slots bs ws) ∙ ap (λ (l : List ℕ). widths_of s ++ l)
+            (widths_back k s lo m bs ws us hs)) (has_width C k (s ++ slots bs ws) tail m hi b w y ag wh
+            (wide_append s (slots bs ws) wide (wide_slots bs ws (bound_wide k s lo m bs ws us wh wide full.0 hs))) full.1 hb),
       )
   has_width C k s tail lo hi (Op p o es) w t ag wh wide full (ws, us, hs, su, q) =
-      subst (λ (u : Term). HasWidth C (widths_of s) u w) (sym q)
-      (ws, have_widths C k s lo hi es ws us ag wh wide full.1 hs, suits_row o es ws w su (sym (many_length es ws (have_many k s lo hi es ws us hs)) ∙ full.0) (have_wide k s lo hi es ws us wh wide full.1 hs))
+      subst (λ (u : Term). HasWidth C (widths_of s) u w) (sym q) (
+        ws,
+        have_widths C k s lo hi es ws us ag wh wide full.1 hs,
+        suits_row o es ws w su
+            (sym (many_length es ws (have_many k s lo hi es ws us hs)) ∙ full.0) (have_wide k s lo hi es ws us wh wide full.1 hs),
+      )
   has_width C k s tail lo hi (Call p f es) w t ag wh wide full (m, ws, us, hs, q) =
       called_width C k (callee k f) (widths_of s) tail lo m ws us w t ag (callee_at k f) q (have_widths C k s m hi es ws us ag wh wide full hs)
 
-  pub have_widths : (C : Program) (k : Known) (s : List Slot) (lo hi : ℕ) (es : Expressions) (ws : List ℕ) (us : Terms) → Agrees C k.heads → WideHeads k.heads → WideSlots s → AreFull es → HaveAll k s lo hi es ws us → HaveWidths C (widths_of s) us ws
+  pub have_widths : (C : Program) (k : Known) (s : List Slot) (lo hi : ℕ) (es : Expressions) (ws : List ℕ) (us : Terms) → Agrees C k.heads → WideHeads
+      k.heads → WideSlots s → AreFull es → HaveAll k s lo hi es ws us → HaveWidths C (widths_of s) us ws
   have_widths C k s lo hi no_expression [] us ag wh wide full h = subst (λ (z : Terms). HaveWidths C (widths_of s) z []) (sym h.1) tt
   have_widths C k s lo hi no_expression (w ∷ ws) us ag wh wide full h = absurd h
   have_widths C k s lo hi (an_expression e es) [] us ag wh wide full h = absurd h
   have_widths C k s lo hi (an_expression e es) (w ∷ ws) us ag wh wide full (m, t, ts, he, hs, q) =
       subst (λ (z : Terms). HaveWidths C (widths_of s) z (w ∷ ws)) (sym q) (has_width C k s _ lo m e w t ag wh wide full.0 he, have_widths C k s m hi es ws ts ag wh wide full.1 hs)
 
-  pub bound_widths : (C : Program) (k : Known) (s : List Slot) (lo hi : ℕ) (bs : Bindings) (ws : List ℕ) (us : Terms) → Agrees C k.heads → WideHeads k.heads → WideSlots s → BoundFull bs → HaveBound k s lo hi bs ws us → HaveWidths C (widths_of s) us ws
+  pub bound_widths : (C : Program) (k : Known) (s : List Slot) (lo hi : ℕ) (bs : Bindings) (ws : List ℕ) (us : Terms) → Agrees C k.heads → WideHeads
+      k.heads → WideSlots s → BoundFull bs → HaveBound k s lo hi bs ws us → HaveWidths C (widths_of s) us ws
   bound_widths C k s lo hi no_binding [] us ag wh wide full h = subst (λ (z : Terms). HaveWidths C (widths_of s) z []) (sym h.1) tt
   bound_widths C k s lo hi no_binding (w ∷ ws) us ag wh wide full h = absurd h
   bound_widths C k s lo hi (a_binding p x v e bs) [] us ag wh wide full h = absurd h

@@ -1,5 +1,6 @@
 -- Signals that a net may take one after another.
-use Rattle.std.proofs.Common.{◌≡◌, ℕ, zero, suc, ◌<◌, ◌≤◌, List, [], ◌∷◌, ◌++◌, map, take, Some, None, Bool, true, false, cond, ◌||◌, ◌==◌, nat_lt, slice_get, bytes_eq, refl, sym, ap, subst, ◌∙◌, arith, append_assoc}
+use Rattle.std.proofs.Common.{◌≡◌, ℕ, zero, suc, ◌<◌, ◌≤◌, List, [], ◌∷◌, ◌++◌, map, take, Some, None, Bool, true, false, cond, ◌||◌, ◌==◌, nat_lt}
+use Rattle.std.proofs.Common.{slice_get, bytes_eq, refl, sym, ap, subst, ◌∙◌, arith, append_assoc}
 use Rattle.std.specs.Prelude.{codes}
 use Rattle.std.proofs.lemmas.List.{append-nil}
 use Rattle.std.proofs.lemmas.Slice.Eq.{bytes_eq-Decides}
@@ -104,12 +105,15 @@ module _ (C : Program) (D : Names) (P : Choice) (n : Netlist) where
   pub may_unit : (f : ℕ) → C.unit f ≡ f → MayAdd n (map open_register (unit_head C D f))
       → MayAdd n (open_register (of_function D (codes "run$") f, 1) ∷ open_register (of_function D (codes "fin$") f, 1) ∷ open_register (of_function D (codes "res$") f, C.result f) ∷ [])
   may_unit f e h =
-      lines_if open_register n (C.unit f == f) ((of_function D (codes "run$") f, 1) ∷ (of_function D (codes "fin$") f, 1) ∷ (of_function D (codes "res$") f, C.result f) ∷ []) (same_number (C.unit f) f e) h
+      lines_if open_register n (C.unit f == f) ((of_function D (codes "run$") f, 1) ∷ (of_function D (codes "fin$") f, 1) ∷
+      (of_function D (codes "res$") f, C.result f) ∷ []) (same_number (C.unit f) f e) h
 
   pub may_site : (k : ℕ) → 1 ≤ k → MayAdd n (map open_register (site_lines C P k))
-      → MayAdd n (open_register (of_site (codes "sent$") k, 1) ∷ open_register (of_site (codes "got$") k, 1) ∷ map open_register (cond (P.kept k) ((of_site (codes "keep$") k, C.result (C.callee k)) ∷ []) []))
+      → MayAdd n (open_register (of_site (codes "sent$") k, 1) ∷ open_register (of_site (codes "got$") k, 1) ∷ map open_register
+      (cond (P.kept k) ((of_site (codes "keep$") k, C.result (C.callee k)) ∷ []) []))
   may_site k l h =
-      lines_if open_register n (nat_lt 0 k) ((of_site (codes "sent$") k, 1) ∷ (of_site (codes "got$") k, 1) ∷ cond (P.kept k) ((of_site (codes "keep$") k, C.result (C.callee k)) ∷ []) []) (some_number k l) h
+      lines_if open_register n (nat_lt 0 k) ((of_site (codes "sent$") k, 1) ∷ (of_site (codes "got$") k, 1) ∷ cond (P.kept k)
+      ((of_site (codes "keep$") k, C.result (C.callee k)) ∷ []) []) (some_number k l) h
 
   pub may_call : (k : ℕ) → 1 ≤ k → MayAdd n (map open_wire (site_wires C P k))
       → MayAdd n (open_wire (of_site (codes "want$") k, 1) ∷ open_wire (of_site (codes "ret$") k, 1) ∷ map open_wire (arbiter_line C P k ++ (of_site (codes "go$") k, 1) ∷ []))
@@ -184,7 +188,8 @@ module _ (c : CheckedProgram) (checked : IsChecked c) (P : Choice) where
   pub may_declare : (n : Netlist) → n ≡ record { signals = []; outputs = [] } → MayAdd n signals
   may_declare n none =
       may_add n signals none
-      (subst (Each (λ l. is_good l.0 ≡ true)) (sym lines_are) (each_weaker (λ l. Between 0 16 l.0) (λ l. is_good l.0 ≡ true) (all_lines C D P (titled c checked)) (λ l h. h.good) (all_heads C D P (titled c checked))))
+      (subst (Each (λ l. is_good l.0 ≡ true)) (sym lines_are) (each_weaker (λ l. Between 0 16 l.0) (λ l. is_good l.0 ≡ true)
+      (all_lines C D P (titled c checked)) (λ l h. h.good) (all_heads C D P (titled c checked))))
       (subst Differ (sym lines_are) (all_differ C D P (titled c checked)))
 
   -- what is left to be added, on the way
@@ -216,6 +221,7 @@ module _ (c : CheckedProgram) (checked : IsChecked c) (P : Choice) where
     pub may_sites : (d : Netlist) → d ≡ with_signals b (map open_register (lines (function_lines C D) C.functions)) → MayAdd d (map open_register (lines (site_lines C P) (suc C.sites)))
     may_sites d functions = lines_rest open_register b d (lines (function_lines C D) C.functions) (lines (site_lines C P) (suc C.sites)) all_registers functions
 
-    pub may_wires : (d e : Netlist) → d ≡ with_signals b (map open_register (lines (function_lines C D) C.functions)) → e ≡ with_signals d (map open_register (lines (site_lines C P) (suc C.sites))) → MayAdd e (map open_wire (layout_wires C D P))
+    pub may_wires : (d e : Netlist) → d ≡ with_signals b (map open_register (lines (function_lines C D) C.functions)) → e ≡ with_signals d
+        (map open_register (lines (site_lines C P) (suc C.sites))) → MayAdd e (map open_wire (layout_wires C D P))
     may_wires d e functions sites = may_rest b e (map open_register registers) (map open_wire (layout_wires C D P)) after_ports
         (lines_on b d e open_register (lines (function_lines C D) C.functions) (lines (site_lines C P) (suc C.sites)) functions sites)

@@ -104,7 +104,8 @@ pub heads_apart : (a b c d : ℕ) (xs ys : List Line) → b ≤ c → Each (λ l
 heads_apart a b c d xs ys l p q =
     apart_by (λ l. Between a b l.0) (λ l. Between c d l.0) xs ys p q (λ x y h k e. let s = ap head_of e in let m = h.most in let n = k.least in absurd (omega (arith, s, m, n, l)))
 
-pub headed : (low high number : ℕ) (h x : List ℕ) → IsPiece x → is_identifier (h ++ x) ≡ are_parts x → length h ≤ 8 → is_reserved (h ++ x) ≡ false → head_of (h ++ x) ≡ number → low ≤ number → number < high → after_mark (h ++ x) ≡ x → Belongs low high x (h ++ x)
+pub headed : (low high number : ℕ) (h x : List ℕ) → IsPiece x → is_identifier (h ++ x) ≡ are_parts x → length h ≤ 8 → is_reserved (h ++ x) ≡ false →
+    head_of (h ++ x) ≡ number → low ≤ number → number < high → after_mark (h ++ x) ≡ x → Belongs low high x (h ++ x)
 headed low high number h x p i l r e a b t =
     let s = p.short in
     record {

@@ -1,5 +1,7 @@
 -- The sites of a unit in a row, one by one.
-use Rattle.std.proofs.Common.{◌≡◌, ℕ, zero, suc, ◌+◌, ◌-◌, ◌<◌, ◌≤◌, ◌==◌, ◌||◌, ◌&&◌, List, [], ◌∷◌, ◌++◌, length, length-append, map, take, cond, not, ◌⊎◌, Bool, true, false, Option, Some, Vec, Global, is_some, slice_get, slice_index_or, inl, inr, refl, sym, ap, subst, ◌∙◌, add-one, arith}
+use Rattle.std.proofs.Common.{◌≡◌, ℕ, zero, suc, ◌+◌, ◌-◌, ◌<◌, ◌≤◌, ◌==◌, ◌||◌, ◌&&◌, List, [], ◌∷◌, ◌++◌, length, length-append, map, take, cond}
+use Rattle.std.proofs.Common.{not, ◌⊎◌, Bool, true, false, Option, Some, Vec, Global, is_some, slice_get, slice_index_or, inl, inr, refl, sym, ap}
+use Rattle.std.proofs.Common.{subst, ◌∙◌, add-one, arith}
 use Rattle.std.proofs.lemmas.Bool.{eq-eqb, ne_eqb, cases_eq}
 use Rattle.std.proofs.lemmas.Option.{slice_get_read}
 use Rattle.std.proofs.Math.Seq.{take-append_seam}
@@ -39,7 +41,8 @@ pub no_rank : (xs : List ℕ) (x m q : ℕ) → xs ≡ x ∷ [] → slice_get xs
 no_rank xs x m q e f = let g = ap (λ (l : List ℕ). slice_get l (suc m)) e in absurd (cc)
 
 -- a rank more
-pub more_ranks : (R : ℕ → ℕ) (xs ys : List ℕ) (m r : ℕ) → ys ≡ xs ++ r ∷ [] → length xs ≡ suc m → r ≡ R m → ((j q : ℕ) → slice_get xs (suc j) ≡ Some q → q ≡ R j) → (j q : ℕ) → slice_get ys (suc j) ≡ Some q → q ≡ R j
+pub more_ranks : (R : ℕ → ℕ) (xs ys : List ℕ) (m r : ℕ) → ys ≡ xs ++ r ∷ [] → length xs ≡ suc m → r ≡ R m →
+    ((j q : ℕ) → slice_get xs (suc j) ≡ Some q → q ≡ R j) → (j q : ℕ) → slice_get ys (suc j) ≡ Some q → q ≡ R j
 more_ranks R xs ys m r e l f h j q g = elim (pushed xs r q (suc j) (subst (λ (k : List ℕ). slice_get k (suc j) ≡ Some q) e g)) [
   | inl k ↦ h j q k
   | inr k ↦ let at : j ≡ m = let a = k.0 in omega (arith, a, l) in k.1 ∙ f ∙ ap R (sym at)
@@ -173,10 +176,13 @@ fits_push n (x ∷ xs) r h q zero = h 0
 fits_push n (x ∷ xs) r h q (suc u) = fits_push n xs r (λ i. h (suc i)) q u
 
 pub rows_start : (C : Program) (P : Choice) (n : Netlist) (us : List UnitPins) (rows out : List (Vec Sig Global)) → out ≡ [] → RowsFree C P n us rows out 0
-rows_start C P n us rows out e = subst (λ (l : List (Vec Sig Global)). RowsFree C P n us rows l 0) (sym e) record { count = refl; fits = λ u. tt; long = λ u l. absurd (omega (arith, l)); shows = λ v w u x l. absurd (omega (arith, l)) }
+rows_start C P n us rows out e = subst (λ (l : List (Vec Sig Global)). RowsFree C P n us rows l 0) (sym e) record
+    { count = refl; fits = λ u. tt; long = λ u l. absurd (omega (arith, l)); shows = λ v w u x l. absurd (omega (arith, l)) }
 
-pub rows_more : (C : Program) (P : Choice) (a b : Netlist) (k : ℕ) (us : List UnitPins) (rows out after : List (Vec Sig Global)) (m : ℕ) (r : Vec Sig Global) (y : UnitPins) → Builds a b k → RowsFree C P a us rows out m → after ≡ out ++ r ∷ [] → AreBits b r.items → slice_get us m ≡ Some y
-    → (P.arbiter (C.unit m) ≡ true → length r.items ≡ length (row_at rows m)) → ((v : Val) → Wired b v → P.arbiter (C.unit m) ≡ true → map (on v) r.items ≡ frees v (not (on v y.run)) (row_at rows m)) → RowsFree C P b us rows after (m + 1)
+pub rows_more : (C : Program) (P : Choice) (a b : Netlist) (k : ℕ) (us : List UnitPins) (rows out after : List (Vec Sig Global)) (m : ℕ)
+    (r : Vec Sig Global) (y : UnitPins) → Builds a b k → RowsFree C P a us rows out m → after ≡ out ++ r ∷ [] → AreBits b r.items → slice_get us m ≡ Some y
+    → (P.arbiter (C.unit m) ≡ true → length r.items ≡ length (row_at rows m)) →
+    ((v : Val) → Wired b v → P.arbiter (C.unit m) ≡ true → map (on v) r.items ≡ frees v (not (on v y.run)) (row_at rows m)) → RowsFree C P b us rows after (m + 1)
 rows_more C P a b k us rows out after m r y built h e q g o f = subst (λ (l : List (Vec Sig Global)). RowsFree C P b us rows l (m + 1)) (sym e) record {
   count = let i = length-append out (r ∷ []) in let j = h.count in omega (arith, i, j);
   fits = fits_push b out r (λ u. row_kept built (row_at out u) (h.fits u)) q;
@@ -192,7 +198,8 @@ rows_more C P a b k us rows out after m r y built h e q g o f = subst (λ (l : L
         let i = h.count in
         ap (λ (x : Option (Vec Sig Global)). length (row_in x)) (get_same out (r ∷ []) u (omega (arith, l, z, i))) ∙ h.long u (omega (arith, l, z)) t
 
-    by : (v : Val) → Wired b v → (u : ℕ) (x : UnitPins) → u < m + 1 → slice_get us u ≡ Some x → P.arbiter (C.unit u) ≡ true → (u ≡ m) ⊎ (u ≡ m → ⊥) → map (on v) (row_at (out ++ r ∷ []) u) ≡ frees v (not (on v x.run)) (row_at rows u)
+    by : (v : Val) → Wired b v → (u : ℕ) (x : UnitPins) → u < m + 1 → slice_get us u ≡ Some x → P.arbiter (C.unit u) ≡ true → (u ≡ m) ⊎ (u ≡ m → ⊥) →
+        map (on v) (row_at (out ++ r ∷ []) u) ≡ frees v (not (on v x.run)) (row_at rows u)
     by v w u x l s t (inl z) =
         let there : slice_get (out ++ r ∷ []) u ≡ Some r = ap (slice_get (out ++ r ∷ [])) (z ∙ sym h.count) ∙ get_end out r in
         let same : y ≡ x = let i = ap (slice_get us) z in cc in
@@ -226,10 +233,13 @@ row_long C ls u m l e =
     let j = ap (λ (t : Bool). length (cond t (want_at ls (suc m) ∷ []) [])) (eq-eqb u (unit_for C (suc m)) e) in
     omega (arith, a, b, f, g, i, j)
 
-module _ (C : Program) (P : Choice) (r : Registers) (i : Inputs) (v : Val) (n : Netlist) (us : List UnitPins) (rows out : List (Vec Sig Global)) (ls : List Load) (m rank : ℕ) (x : UnitPins) (h : RowsFree C P n us rows out C.functions) (w : Wired n v) (l : m < C.sites)
-    (is : (u : ℕ) → row_at rows u ≡ site_row C ls u C.sites) (ranked : rank ≡ length (site_row C ls (unit_for C (suc m)) m)) (within : unit_for C (suc m) < C.functions) (first_is : C.unit (unit_for C (suc m)) ≡ unit_for C (suc m))
+module _ (C : Program) (P : Choice) (r : Registers) (i : Inputs) (v : Val) (n : Netlist) (us : List UnitPins) (rows out : List (Vec Sig Global))
+    (ls : List Load) (m rank : ℕ) (x : UnitPins) (h : RowsFree C P n us rows out C.functions) (w : Wired n v) (l : m < C.sites)
+    (is : (u : ℕ) → row_at rows u ≡ site_row C ls u C.sites) (ranked : rank ≡ length (site_row C ls (unit_for C (suc m)) m))
+    (within : unit_for C (suc m) < C.functions) (first_is : C.unit (unit_for C (suc m)) ≡ unit_for C (suc m))
     (at : slice_get us (unit_for C (suc m)) ≡ Some x) (runs : on v x.run ≡ r.run (unit_for C (suc m))) (wants : (k : ℕ) → k < C.sites → on v (want_at ls (suc k)) ≡ want C P r (suc k)) where
-  pub free_in : P.arbiter (unit_for C (suc m)) ≡ true → on_in v (slice_get (row_at out (unit_for C (suc m))) rank) ≡ (not (r.run (unit_for C (suc m))) && not (is_some (first (wants_at C P r (unit_for C (suc m))) (suc m))))
+  pub free_in : P.arbiter (unit_for C (suc m)) ≡ true → on_in v (slice_get (row_at out (unit_for C (suc m))) rank) ≡
+      (not (r.run (unit_for C (suc m))) && not (is_some (first (wants_at C P r (unit_for C (suc m))) (suc m))))
   free_in t =
       let u = unit_for C (suc m) in
       let e = h.shows v w u x within at (ap P.arbiter first_is ∙ t) in
@@ -244,7 +254,8 @@ module _ (C : Program) (P : Choice) (r : Registers) (i : Inputs) (v : Val) (n : 
       ∙ ap (λ (k : List Sig). not (r.run u) && not (on_any v k)) (ap (take rank) (is u) ∙ ap (λ (k : ℕ). take k (site_row C ls u C.sites)) ranked ∙ row_take C ls u m C.sites (omega (arith, l)))
       ∙ ap (λ (k : Bool). not (r.run u) && not k) (row_wants C P r v ls u wants m (omega (arith, l)))
 
-  pub go_is : on v (want_at ls (suc m)) ≡ want C P r (suc m) → cond (P.arbiter (unit_for C (suc m))) (on v (want_at ls (suc m)) && on_in v (slice_get (row_at out (unit_for C (suc m))) rank)) (on v (want_at ls (suc m))) ≡ go C P r i (suc m)
+  pub go_is : on v (want_at ls (suc m)) ≡ want C P r (suc m) → cond (P.arbiter (unit_for C (suc m)))
+      (on v (want_at ls (suc m)) && on_in v (slice_get (row_at out (unit_for C (suc m))) rank)) (on v (want_at ls (suc m))) ≡ go C P r i (suc m)
   go_is q =
       ap (λ (k : Bool). cond (P.arbiter (unit_for C (suc m))) (k && on_in v (slice_get (row_at out (unit_for C (suc m))) rank)) k) q
       ∙ by (P.arbiter (unit_for C (suc m))) refl ∙ site_go C P r i m
@@ -267,7 +278,8 @@ row_fits C n ls u h (suc m) l = subst (AreBits n) (sym (row_suc C ls u m)) (by (
     by true q s = bits_push n (site_row C ls u m) (want_at ls (suc m)) q s
     by false q s = subst (AreBits n) (append_none (site_row C ls u m)) q
 
-pub want_on : (C : Program) (P : Choice) (r : Registers) (i : Inputs) (v : Val) (ls : List Load) (k : ℕ) → length ls ≡ suc C.sites → k < C.sites → taken_at v ls (suc k) ≡ called C P r i (suc k) → on v (want_at ls (suc k)) ≡ want C P r (suc k)
+pub want_on : (C : Program) (P : Choice) (r : Registers) (i : Inputs) (v : Val) (ls : List Load) (k : ℕ) → length ls ≡ suc C.sites → k < C.sites →
+    taken_at v ls (suc k) ≡ called C P r i (suc k) → on v (want_at ls (suc k)) ≡ want C P r (suc k)
 want_on C P r i v ls k e l h = let t = there ls (suc k) (omega (arith, e, l)) in ap (λ (s : Sig). on v s) (ap (bit_or (record { 0 = 0 })) t.1) ∙ want_shown C P r i v ls k t.0 t.1 h
 
 -- a unit's first member is of the unit

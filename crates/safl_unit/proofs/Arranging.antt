@@ -65,7 +65,8 @@ module _ (C : Program) (D : Names) (P : Choice) (p : Pins) (b : Bank) (T : Contr
     are_inputs = each_made IsInput input_line (layout_inputs C D) (λ l. refl);
     are_registers = each_made IsRegister set_register (register_ties C D P b) (λ t. (0, Some t.1.0, refl));
     are_wires = each_more IsWire named f.more (each_made IsWire set_wire (wire_ties C D P p.first_wire T) (λ t. (_, refl)))
-        (temps_wires (wires (declared_signals C D P)) f.more (subst (AreTemps (wires (declared_signals C D P))) (append_cancel_left (declared_signals C D P) grown.more f.more (sym grown.is ∙ f.before)) grown.temps));
+        (temps_wires (wires (declared_signals C D P)) f.more (subst (AreTemps (wires (declared_signals C D P)))
+        (append_cancel_left (declared_signals C D P) grown.more f.more (sym grown.is ∙ f.before)) grown.temps));
   }
 
   pub finished_whole : IsNetlist new → Scheme C D P new → IsWhole new

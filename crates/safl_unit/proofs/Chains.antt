@@ -1,5 +1,6 @@
 -- Tables of bits and loads, by one entry more.
-use Rattle.std.proofs.Common.{◌≡◌, ℕ, zero, suc, ◌+◌, ◌<◌, ◌≤◌, List, [], ◌∷◌, ◌++◌, length, map, take, Option, Some, None, Vec, Global, Bool, true, false, cond, ◌&&◌, ◌||◌, ◌==◌, slice_get, slice_index_or, is_some, refl, sym, ap, subst, ◌∙◌, add-one, arith}
+use Rattle.std.proofs.Common.{◌≡◌, ℕ, zero, suc, ◌+◌, ◌<◌, ◌≤◌, List, [], ◌∷◌, ◌++◌, length, map, take, Option, Some, None, Vec, Global, Bool, true}
+use Rattle.std.proofs.Common.{false, cond, ◌&&◌, ◌||◌, ◌==◌, slice_get, slice_index_or, is_some, refl, sym, ap, subst, ◌∙◌, add-one, arith}
 use Rattle.std.proofs.lemmas.Option.{slice_get_read}
 use Rattle.safl_word.specs.Words.{Word}
 use Rattle.safl_term.specs.Program.{Program, arity}
@@ -47,7 +48,8 @@ first_next : {A : Type 0} (g : ℕ → Option A) (n : ℕ) → first g (n + 1) �
 unfolding first
 first_next g n = ap (first g) (add-one n)
 
-pub start_bits : (n : Netlist) (xs : List (Option Sig)) (count : ℕ) (base : Val → ℕ → Bool) (t : Val → ℕ → ℕ → Bool) → ShowsBits n xs count base → ShowsBits n xs count (λ v i. base v i || one_below (t v i) 0)
+pub start_bits : (n : Netlist) (xs : List (Option Sig)) (count : ℕ) (base : Val → ℕ → Bool) (t : Val → ℕ → ℕ → Bool) → ShowsBits n xs count base →
+    ShowsBits n xs count (λ v i. base v i || one_below (t v i) 0)
 start_bits n xs count base t h = record {
   entries = h.entries;
   fits = h.fits;
@@ -78,15 +80,18 @@ pub record LoadRows (n : Netlist) (rows : List (Vec Load Global)) (count : ℕ) 
   pub fits : RowsFit n rows ws
   pub shows : (v : Val) (i : ℕ) → first_at v rows i ≡ says v i
 
-pub bare_load_rows : (n : Netlist) (rows : List (Vec Load Global)) (count : ℕ) (ws : ℕ → List ℕ) (t : Val → ℕ → ℕ → Option (List Word)) → length rows ≡ count → ((i : ℕ) → row_at rows i ≡ []) → LoadRows n rows count ws (λ v i. first (t v i) 0)
+pub bare_load_rows : (n : Netlist) (rows : List (Vec Load Global)) (count : ℕ) (ws : ℕ → List ℕ) (t : Val → ℕ → ℕ → Option (List Word)) → length rows
+    ≡ count → ((i : ℕ) → row_at rows i ≡ []) → LoadRows n rows count ws (λ v i. first (t v i) 0)
 bare_load_rows n rows count ws t e h = record {
   entries = e;
   fits = λ i. subst (λ (l : List Load). AllFit n l (ws i)) (sym (h i)) tt;
   shows = λ v i. ap (first_taken v) (h i) ∙ sym (first_zero (t v i));
 }
 
-pub more_load_rows : (n : Netlist) (rows after : List (Vec Load Global)) (count place m : ℕ) (l : Load) (ws : ℕ → List ℕ) (t : Val → ℕ → ℕ → Option (List Word)) → LoadRows n rows count ws (λ v i. first (t v i) m) → length after ≡ length rows
-    → ((i : ℕ) → row_at after i ≡ row_at rows i ++ cond (i == place) (l ∷ []) []) → LoadFits n l (ws place) → ((v : Val) (i : ℕ) → gate (i == place) (taken v l) ≡ t v i m) → LoadRows n after count ws (λ v i. first (t v i) (m + 1))
+pub more_load_rows : (n : Netlist) (rows after : List (Vec Load Global)) (count place m : ℕ) (l : Load) (ws : ℕ → List ℕ)
+    (t : Val → ℕ → ℕ → Option (List Word)) → LoadRows n rows count ws (λ v i. first (t v i) m) → length after ≡ length rows
+    → ((i : ℕ) → row_at after i ≡ row_at rows i ++ cond (i == place) (l ∷ []) []) → LoadFits n l (ws place) →
+    ((v : Val) (i : ℕ) → gate (i == place) (taken v l) ≡ t v i m) → LoadRows n after count ws (λ v i. first (t v i) (m + 1))
 more_load_rows n rows after count place m l ws t h e r f q = record {
   entries = e ∙ h.entries;
   fits = λ i. fit_pushed n (row_at rows i) (row_at after i) i place l ws (r i) (h.fits i) f;
@@ -95,7 +100,8 @@ more_load_rows n rows after count place m l ws t h e r f q = record {
       ∙ ap (λ (x : Option (List Word)). or_else x (gate (i == place) (taken v l))) (h.shows v i) ∙ ap (λ (x : Option (List Word)). or_else (first (t v i) m) x) (q v i) ∙ sym (first_next (t v i) m);
 }
 
-pub joined_loads : (a b : Netlist) (rows : List (Vec Load Global)) (all : List (Option Load)) (count : ℕ) (ws : ℕ → List ℕ) (says : Val → ℕ → Option (List Word)) → LoadRows a rows count ws says → length all ≡ length rows → SomeFit b all ws
+pub joined_loads : (a b : Netlist) (rows : List (Vec Load Global)) (all : List (Option Load)) (count : ℕ) (ws : ℕ → List ℕ)
+    (says : Val → ℕ → Option (List Word)) → LoadRows a rows count ws says → length all ≡ length rows → SomeFit b all ws
     → ((i : ℕ) → IsFirstOf b (row_at rows i) (load_in (slice_get all i))) → ShowsLoads b all count ws says
 joined_loads a b rows all count ws says h e f j = record { entries = e ∙ h.entries; fits = f; shows = λ v w i. (j i).shows v w ∙ h.shows v i }
 
@@ -128,24 +134,29 @@ pub record BitRows (n : Netlist) (rows : List (Vec Sig Global)) (count : ℕ) (s
   pub fits : RowsAreBits n rows
   pub shows : (v : Val) (i : ℕ) → any_at v rows i ≡ says v i
 
-pub bare_bit_rows : (n : Netlist) (rows : List (Vec Sig Global)) (count : ℕ) (t : Val → ℕ → ℕ → Bool) → length rows ≡ count → ((i : ℕ) → row_at rows i ≡ []) → BitRows n rows count (λ v i. one_below (t v i) 0)
+pub bare_bit_rows : (n : Netlist) (rows : List (Vec Sig Global)) (count : ℕ) (t : Val → ℕ → ℕ → Bool) → length rows ≡ count →
+    ((i : ℕ) → row_at rows i ≡ []) → BitRows n rows count (λ v i. one_below (t v i) 0)
 bare_bit_rows n rows count t e h = record {
   entries = e;
   fits = λ i. subst (AreBits n) (sym (h i)) tt;
   shows = λ v i. ap (on_any v) (h i) ∙ sym (below_none (t v i));
 }
 
-pub more_bit_rows : (n : Netlist) (rows after : List (Vec Sig Global)) (count place m : ℕ) (s : Sig) (t : Val → ℕ → ℕ → Bool) → BitRows n rows count (λ v i. one_below (t v i) m) → length after ≡ length rows
-    → ((i : ℕ) → row_at after i ≡ row_at rows i ++ cond (i == place) (s ∷ []) []) → IsSource n s 1 → ((v : Val) (i : ℕ) → ((i == place) && on v s) ≡ t v i m) → BitRows n after count (λ v i. one_below (t v i) (m + 1))
+pub more_bit_rows : (n : Netlist) (rows after : List (Vec Sig Global)) (count place m : ℕ) (s : Sig) (t : Val → ℕ → ℕ → Bool) → BitRows n rows count
+    (λ v i. one_below (t v i) m) → length after ≡ length rows
+    → ((i : ℕ) → row_at after i ≡ row_at rows i ++ cond (i == place) (s ∷ []) []) → IsSource n s 1 →
+    ((v : Val) (i : ℕ) → ((i == place) && on v s) ≡ t v i m) → BitRows n after count (λ v i. one_below (t v i) (m + 1))
 more_bit_rows n rows after count place m s t h e r f q = record {
   entries = e ∙ h.entries;
   fits = λ i. bits_pushed n (row_at rows i) (row_at after i) (i == place) s (r i) (h.fits i) f;
   shows = λ v i.
-      any_pushed v (row_at rows i) (row_at after i) (i == place) s (r i) ∙ ap (λ (x : Bool). x || ((i == place) && on v s)) (h.shows v i) ∙ ap (λ (x : Bool). one_below (t v i) m || x) (q v i) ∙ sym (below_more (t v i) m);
+      any_pushed v (row_at rows i) (row_at after i) (i == place) s (r i) ∙ ap (λ (x : Bool). x || ((i == place) && on v s)) (h.shows v i) ∙ ap
+      (λ (x : Bool). one_below (t v i) m || x) (q v i) ∙ sym (below_more (t v i) m);
 }
 
 -- the bits of loads in rows, one after another
-pub load_rows_more : (rows : List (Vec Sig Global)) (xs : List (Option Load)) (r : Vec Sig Global) (x : Option Load) → length rows ≡ length xs → ((j : ℕ) → row_at rows j ≡ maybe_one (bit_of (load_in (slice_get xs j)))) → r.items ≡ maybe_one (bit_of x)
+pub load_rows_more : (rows : List (Vec Sig Global)) (xs : List (Option Load)) (r : Vec Sig Global) (x : Option Load) → length rows ≡ length xs →
+    ((j : ℕ) → row_at rows j ≡ maybe_one (bit_of (load_in (slice_get xs j)))) → r.items ≡ maybe_one (bit_of x)
     → (j : ℕ) → row_at (rows ++ r ∷ []) j ≡ maybe_one (bit_of (load_in (slice_get (xs ++ x ∷ []) j)))
 load_rows_more [] [] r x e h q zero = q
 load_rows_more [] [] r x e h q (suc j) = refl
@@ -162,7 +173,8 @@ maybe_alone : (n : Netlist) (o : Option Sig) → IsBitIn n o → AreBits n (mayb
 maybe_alone n None h = tt
 maybe_alone n (Some s) h = (h, tt)
 
-pub start_load_rows : (n : Netlist) (rows : List (Vec Sig Global)) (xs : List (Option Load)) (count : ℕ) (ws : ℕ → List ℕ) (t : Val → ℕ → ℕ → Bool) → length rows ≡ count → SomeFit n xs ws → ((i : ℕ) → row_at rows i ≡ maybe_one (bit_of (load_in (slice_get xs i))))
+pub start_load_rows : (n : Netlist) (rows : List (Vec Sig Global)) (xs : List (Option Load)) (count : ℕ) (ws : ℕ → List ℕ) (t : Val → ℕ → ℕ → Bool) →
+    length rows ≡ count → SomeFit n xs ws → ((i : ℕ) → row_at rows i ≡ maybe_one (bit_of (load_in (slice_get xs i))))
     → BitRows n rows count (λ v i. is_some (taken_from v xs i) || one_below (t v i) 0)
 start_load_rows n rows xs count ws t e h q = record {
   entries = e;
@@ -184,17 +196,21 @@ load_rows_total (x ∷ rows) bits h =
     let d = load_rows_total rows (λ i. bits (suc i)) (λ i. h (suc i)) in
     omega (arith, a, b, d)
 
-pub more_some_rows : (n : Netlist) (rows after : List (Vec Sig Global)) (count place m : ℕ) (bit : Option Sig) (base : Val → ℕ → Bool) (t : Val → ℕ → ℕ → Bool) → BitRows n rows count (λ v i. base v i || one_below (t v i) m) → length after ≡ length rows
-    → ((i : ℕ) → row_at after i ≡ row_at rows i ++ cond (i == place) (maybe_one bit) []) → IsBitIn n bit → ((v : Val) (i : ℕ) → ((i == place) && on_in v bit) ≡ t v i m) → BitRows n after count (λ v i. base v i || one_below (t v i) (m + 1))
+pub more_some_rows : (n : Netlist) (rows after : List (Vec Sig Global)) (count place m : ℕ) (bit : Option Sig) (base : Val → ℕ → Bool)
+    (t : Val → ℕ → ℕ → Bool) → BitRows n rows count (λ v i. base v i || one_below (t v i) m) → length after ≡ length rows
+    → ((i : ℕ) → row_at after i ≡ row_at rows i ++ cond (i == place) (maybe_one bit) []) → IsBitIn n bit →
+    ((v : Val) (i : ℕ) → ((i == place) && on_in v bit) ≡ t v i m) → BitRows n after count (λ v i. base v i || one_below (t v i) (m + 1))
 more_some_rows n rows after count place m bit base t h e r f q = record {
   entries = e ∙ h.entries;
   fits = λ i. subst (AreBits n) (sym (r i)) (maybe_fits n (row_at rows i) (i == place) bit (h.fits i) f);
   shows = λ v i.
-      any_next v (row_at rows i) (row_at after i) (i == place) bit (r i) ∙ ap (λ (x : Bool). x || ((i == place) && on_in v bit)) (h.shows v i) ∙ or_both (base v i) (one_below (t v i) m) ((i == place) && on_in v bit)
+      any_next v (row_at rows i) (row_at after i) (i == place) bit (r i) ∙ ap (λ (x : Bool). x || ((i == place) && on_in v bit)) (h.shows v i) ∙
+      or_both (base v i) (one_below (t v i) m) ((i == place) && on_in v bit)
       ∙ ap (λ (x : Bool). base v i || (one_below (t v i) m || x)) (q v i) ∙ ap (λ (x : Bool). base v i || x) (sym (below_more (t v i) m));
 }
 
-pub joined_bits : (a b : Netlist) (rows : List (Vec Sig Global)) (bits : List (Option Sig)) (count : ℕ) (says : Val → ℕ → Bool) → BitRows a rows count says → length bits ≡ length rows → ((i : ℕ) → IsAnyOf b (row_at rows i) (sig_in (slice_get bits i)))
+pub joined_bits : (a b : Netlist) (rows : List (Vec Sig Global)) (bits : List (Option Sig)) (count : ℕ) (says : Val → ℕ → Bool) → BitRows a rows count
+    says → length bits ≡ length rows → ((i : ℕ) → IsAnyOf b (row_at rows i) (sig_in (slice_get bits i)))
     → ShowsBits b bits count says
 joined_bits a b rows bits count says h e j = record { entries = e ∙ h.entries; fits = λ i. (j i).fits; shows = λ v w i. (j i).shows v w ∙ h.shows v i }
 
@@ -266,7 +282,8 @@ bits_there : (xs : List (Option Load)) → length (map bit_of xs) ≡ length xs
 bits_there [] = refl
 bits_there (x ∷ xs) = let h = bits_there xs in omega (arith, h)
 
-pub bits_of_loads : (n : Netlist) (xs : List (Option Load)) (bits : List (Option Sig)) (count : ℕ) (ws : ℕ → List ℕ) → length xs ≡ count → SomeFit n xs ws → bits ≡ map bit_of xs → ShowsBits n bits count (λ v i. is_some (taken_from v xs i))
+pub bits_of_loads : (n : Netlist) (xs : List (Option Load)) (bits : List (Option Sig)) (count : ℕ) (ws : ℕ → List ℕ) → length xs ≡ count → SomeFit n
+    xs ws → bits ≡ map bit_of xs → ShowsBits n bits count (λ v i. is_some (taken_from v xs i))
 bits_of_loads n xs bits count ws e h q = subst (λ (l : List (Option Sig)). ShowsBits n l count (λ v i. is_some (taken_from v xs i))) (sym q) record {
   entries = bits_there xs ∙ e;
   fits = λ i. subst (λ (o : Option Sig). IsBitIn n o) (sym (bit_there xs i)) (bit_fits n (load_in (slice_get xs i)) (ws i) (h i));

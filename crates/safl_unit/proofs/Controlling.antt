@@ -58,8 +58,10 @@ bit_fits : (n : Netlist) (s : Sig) (o : Option Load) (ws : List ℕ) → IsSourc
 bit_fits n s None ws h f = h
 bit_fits n s (Some l) ws h f = f.bit
 
-module _ (C : Program) (P : Choice) (a b : Netlist) (p : Pins) (R : Returns) (O : Outcomes) (goes : List Sig) (T : Controls) (never : Sig) (built : Builds a b 1) (rs : HasReturns C P a p R) (os : HasOutcomes C P a p O) (gs : HasGoes C P a p goes)
-    (source : IsSource b never 1) (off : (v : Val) → Wired b v → on v never ≡ false) (ends : T.ends.items ≡ map load_bit O.ends.items) (loops : T.loops.items ≡ map (bit_or never) O.loops.items) (wants : T.wants.items ≡ map load_bit O.wants.items)
+module _ (C : Program) (P : Choice) (a b : Netlist) (p : Pins) (R : Returns) (O : Outcomes) (goes : List Sig) (T : Controls) (never : Sig)
+    (built : Builds a b 1) (rs : HasReturns C P a p R) (os : HasOutcomes C P a p O) (gs : HasGoes C P a p goes)
+    (source : IsSource b never 1) (off : (v : Val) → Wired b v → on v never ≡ false) (ends : T.ends.items ≡ map load_bit O.ends.items)
+    (loops : T.loops.items ≡ map (bit_or never) O.loops.items) (wants : T.wants.items ≡ map load_bit O.wants.items)
     (rets : T.rets.items ≡ R.ret.items) (starts : T.goes.items ≡ goes) where
   end_at : (f : ℕ) → f < C.functions → (l : Load) × (slice_get O.ends.items f ≡ Some l)
   end_at f l = let e = os.fits.ends_length in port_there O.ends.items f (omega (arith, e, l))
@@ -81,13 +83,16 @@ module _ (C : Program) (P : Choice) (a b : Netlist) (p : Pins) (R : Returns) (O 
       ends = λ f l. let at = end_at f l in subst (λ (s : Sig). IsSource b s 1) (sym (pin_map load_bit O.ends.items T.ends.items f at.0 ends at.1)) (source_kept built (os.fits.ends f at.0 at.1).bit);
       loops = λ f l. let at = loop_at f l in subst (λ (s : Sig). IsSource b s 1) (sym (pin_map (bit_or never) O.loops.items T.loops.items f at.0 loops at.1))
           (bit_fits b never at.0 (C.params f) source (fits_kept f at.0 at.1));
-      wants = λ k o l. let at = want_at k l in subst (λ (s : Sig). IsSource b s 1) (sym (pin_map load_bit O.wants.items T.wants.items k at.0 wants at.1)) (source_kept built (os.fits.wants k at.0 at.1).bit);
+      wants = λ k o l. let at = want_at k l in subst (λ (s : Sig). IsSource b s 1)
+          (sym (pin_map load_bit O.wants.items T.wants.items k at.0 wants at.1)) (source_kept built (os.fits.wants k at.0 at.1).bit);
       rets = λ k o l. subst (λ (xs : List Sig). IsSource b (pin xs k) 1) (sym rets) (source_kept built (rs.fits.ret k o l));
       goes = λ k l. subst (λ (xs : List Sig). IsSource b (pin xs k) 1) (sym starts) (source_kept built (gs.fits k l));
     };
-    ends = λ v r i c f l. let at = end_at f l in ap (on v) (pin_map load_bit O.ends.items T.ends.items f at.0 ends at.1) ∙ sym (gated (on v at.0.bit) _) ∙ ap (λ (o : Option Load). is_some (taken_in v o)) (sym at.1)
+    ends = λ v r i c f l. let at = end_at f l in ap (on v) (pin_map load_bit O.ends.items T.ends.items f at.0 ends at.1) ∙ sym
+        (gated (on v at.0.bit) _) ∙ ap (λ (o : Option Load). is_some (taken_in v o)) (sym at.1)
         ∙ ap is_some ((os.shows v r i (cycle_before built c)).ends f l) ∙ one_some _;
-    loops = λ v r i c f l. let at = loop_at f l in ap (on v) (pin_map (bit_or never) O.loops.items T.loops.items f at.0 loops at.1) ∙ bit_shown v never at.0 (off v c.wired) ∙ ap (λ (o : Option (Option Load)). is_some (taken_in v (load_in o))) (sym at.1)
+    loops = λ v r i c f l. let at = loop_at f l in ap (on v) (pin_map (bit_or never) O.loops.items T.loops.items f at.0 loops at.1) ∙ bit_shown v
+        never at.0 (off v c.wired) ∙ ap (λ (o : Option (Option Load)). is_some (taken_in v (load_in o))) (sym at.1)
         ∙ ap is_some ((os.shows v r i (cycle_before built c)).loops f l);
     wants = λ v r i c k o l. want_is v r i c k o l;
     rets = λ v r i c k o l. ap (λ (xs : List Sig). on v (pin xs k)) rets ∙ (rs.shows v r i (cycle_before built c)).ret k o l;

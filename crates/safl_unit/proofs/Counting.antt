@@ -71,7 +71,8 @@ declared_few c h P =
 -- ---- room
 
 -- a net that is built on the declared one, and not too large
-pub room_for : (c : CheckedProgram) → IsChecked c → (P : Choice) (old new : Netlist) (k m : ℕ) → old ≡ declared_net (program_of c) (names_of c) P → length new.signals ≤ length old.signals + k → k + m ≤ 2900000 → HasRoom new m
+pub room_for : (c : CheckedProgram) → IsChecked c → (P : Choice) (old new : Netlist) (k m : ℕ) → old ≡ declared_net (program_of c) (names_of c) P →
+    length new.signals ≤ length old.signals + k → k + m ≤ 2900000 → HasRoom new m
 room_for c h P old new k m e l few =
     let a = ap (λ (n : Netlist). length n.signals) e in
     let b = declared_few c h P in

@@ -9,7 +9,8 @@ use Rattle.safl_net.specs.declared.cell.Sig.{Sig}
 use Rattle.safl_net.specs.Netlist.{Netlist}
 use Rattle.safl_net.specs.Growth.{Val, words}
 use Rattle.safl_net.specs.Bits.{on, gate}
-use Rattle.safl_circuit.specs.Equations.{Registers, Inputs, Choice, body_wants, want, wants_at, go, go_words, end_word, loop_words, end_in, loop_in, go_in, load_in as loads_from, ends, loops, starts, loads, starts_it, if_other}
+use Rattle.safl_circuit.specs.Equations.{Registers, Inputs, Choice, body_wants, want, wants_at, go, go_words, end_word, loop_words, end_in, loop_in}
+use Rattle.safl_circuit.specs.Equations.{go_in, load_in as loads_from, ends, loops, starts, loads, starts_it, if_other}
 use Rattle.safl_lower.specs.declared.loads.Load.{Load}
 use Rattle.safl_lower.specs.Sources.{Builds}
 use Rattle.safl_lower.specs.Tables.{pin, taken_in, taken_at, taken_from, on_from, one_word}
@@ -130,7 +131,8 @@ outcomes_fit_kept h {C} {o} q = record {
 }
 
 module _ (C : Program) (P : Choice) (n : Netlist) (p : Pins) where
-  pub has_ends : (o : Outcomes) (all : List (Option Load)) → HasOutcomes C P n p o → ShowsLoads n all C.functions (λ u. C.result u ∷ []) (λ v u. first (λ f. gate (u == C.unit f) (taken_at v o.ends.items f)) C.functions) → HasEnds C P n p all
+  pub has_ends : (o : Outcomes) (all : List (Option Load)) → HasOutcomes C P n p o → ShowsLoads n all C.functions (λ u. C.result u ∷ [])
+      (λ v u. first (λ f. gate (u == C.unit f) (taken_at v o.ends.items f)) C.functions) → HasEnds C P n p all
   unfolding ends
   has_ends o all q t = record {
     count = t.entries;
@@ -138,7 +140,8 @@ module _ (C : Program) (P : Choice) (n : Netlist) (p : Pins) where
     shows = λ v r i c u l.
         t.shows v c.wired u
         ∙ first_same (λ f. gate (u == C.unit f) (taken_at v o.ends.items f)) (λ f. one_word (end_in C P r u f)) C.functions
-        (λ f m. ap (λ (x : Option (List Word)). gate (u == C.unit f) x) ((q.shows v r i c).ends f m) ∙ ap (λ (b : Bool). gate b (one_word (end_word C P r f))) (flip u (C.unit f)) ∙ word_if (C.unit f == u) (end_word C P r f))
+        (λ f m. ap (λ (x : Option (List Word)). gate (u == C.unit f) x) ((q.shows v r i c).ends f m) ∙ ap
+        (λ (b : Bool). gate b (one_word (end_word C P r f))) (flip u (C.unit f)) ∙ word_if (C.unit f == u) (end_word C P r f))
         ∙ first_word (end_in C P r u) C.functions;
   }
 
@@ -152,11 +155,13 @@ module _ (C : Program) (P : Choice) (n : Netlist) (p : Pins) where
         t.shows v c.wired f
         ∙ first_same (λ k. gate ((f == C.callee k) && on v (pin goes k)) (operands_in v (slice_get o.wants.items k))) (loads_from C P r i f) (suc C.sites)
         (λ k m. gates_both (f == C.callee k) (on v (pin goes k)) (operands_in v (slice_get o.wants.items k))
-        ∙ ap (λ (x : Option (List Word)). gate (f == C.callee k) x) (loaded C P r i v (slice_get o.wants.items k) (pin goes k) k (g.shows v r i c k (omega (arith, m))) ((q.shows v r i c).wants k (omega (arith, m))))
+        ∙ ap (λ (x : Option (List Word)). gate (f == C.callee k) x)
+        (loaded C P r i v (slice_get o.wants.items k) (pin goes k) k (g.shows v r i c k (omega (arith, m))) ((q.shows v r i c).wants k (omega (arith, m))))
         ∙ ap (λ (b : Bool). gate b (go_words C P r i k)) (flip f (C.callee k)));
   }
 
-  pub has_starts : (goes : List Sig) (bits : List (Option Sig)) → HasGoes C P n p goes → ShowsBits n bits C.functions (λ v u. one_below (λ k. (u == unit_for C k) && on v (pin goes k)) (suc C.sites)) → HasStarts C P n p bits
+  pub has_starts : (goes : List Sig) (bits : List (Option Sig)) → HasGoes C P n p goes → ShowsBits n bits C.functions
+      (λ v u. one_below (λ k. (u == unit_for C k) && on v (pin goes k)) (suc C.sites)) → HasStarts C P n p bits
   unfolding starts
   has_starts goes bits g t = record {
     count = t.entries;
@@ -164,7 +169,8 @@ module _ (C : Program) (P : Choice) (n : Netlist) (p : Pins) where
     shows = λ v r i c u l.
         t.shows v c.wired u
         ∙ below_same (λ k. (u == unit_for C k) && on v (pin goes k)) (λ k. is_some (go_in C P r i u k)) (suc C.sites)
-        (λ k m. ap (λ (b : Bool). b && on v (pin goes k)) (flip u (unit_for C k)) ∙ ap (λ (b : Bool). (unit_for C k == u) && b) (g.shows v r i c k (omega (arith, m))) ∙ sym (some_if ((unit_for C k == u) && go C P r i k) k))
+        (λ k m. ap (λ (b : Bool). b && on v (pin goes k)) (flip u (unit_for C k)) ∙ ap (λ (b : Bool). (unit_for C k == u) && b)
+        (g.shows v r i c k (omega (arith, m))) ∙ sym (some_if ((unit_for C k == u) && go C P r i k) k))
         ∙ sym (first_is (go_in C P r i u) (suc C.sites));
   }
 
@@ -194,7 +200,8 @@ module _ (C : Program) (P : Choice) (n : Netlist) (p : Pins) where
         ∙ ap (λ (b : Bool). is_some (loads C P r i f) || b) (below_at (λ h. is_some (taken_from v o.loops.items h)) C.functions f l ∙ ap is_some ((q.shows v r i c).loops f l));
   }
 
-  pub has_rivals : (entries bits : List (Option Sig)) → HasEntries C P n p entries → ShowsBelow n bits C.functions (λ v f. one_below (rival C (on_from v entries) f) C.functions) → HasRivals C P n p bits
+  pub has_rivals : (entries bits : List (Option Sig)) → HasEntries C P n p entries → ShowsBelow n bits C.functions
+      (λ v f. one_below (rival C (on_from v entries) f) C.functions) → HasRivals C P n p bits
   has_rivals entries bits e t = record {
     count = t.entries;
     fits = t.fits;

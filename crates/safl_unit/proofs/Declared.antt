@@ -44,8 +44,11 @@ module _ (c : CheckedProgram) (checked : IsChecked c) (P : Choice) (n a b d e g 
   pub net_declared : g ≡ declared_net C D P
   net_declared =
       wires
-      ∙ ap (λ (m : Netlist). with_signals m (map open_wire (layout_wires C D P))) (registers_are ∙ ap (λ (m : Netlist). with_signals m (map open_register (layout_registers C D P))) (inputs_are ∙ ap (λ (m : Netlist). with_signals m (map input_line (layout_inputs C D))) none))
-      ∙ ap (λ (l : List Signal). record { signals = l; outputs = [] }) (append_assoc (map input_line (layout_inputs C D)) (map open_register (layout_registers C D P)) (map open_wire (layout_wires C D P)))
+      ∙ ap (λ (m : Netlist). with_signals m (map open_wire (layout_wires C D P)))
+      (registers_are ∙ ap (λ (m : Netlist). with_signals m (map open_register (layout_registers C D P)))
+      (inputs_are ∙ ap (λ (m : Netlist). with_signals m (map input_line (layout_inputs C D))) none))
+      ∙ ap (λ (l : List Signal). record { signals = l; outputs = [] })
+      (append_assoc (map input_line (layout_inputs C D)) (map open_register (layout_registers C D P)) (map open_wire (layout_wires C D P)))
 
   none_long : length n.signals ≡ 0
   none_long = ap (λ (m : Netlist). length m.signals) none

@@ -109,7 +109,8 @@ as_many : (ps : List Parameter) → length (map (λ (p : Parameter). string_byte
 as_many [] = refl
 as_many (p ∷ ps) = ap suc (as_many ps)
 
-as_many_in : (o : _) → length (option_map_or (λ (f : Function). map (λ (p : Parameter). string_bytes p.name) f.params.items) o []) ≡ length (option_map_or (λ (f : Function). map (λ (p : Parameter). p.width) f.params.items) o [])
+as_many_in : (o : _) → length (option_map_or (λ (f : Function). map (λ (p : Parameter). string_bytes p.name) f.params.items) o []) ≡ length
+    (option_map_or (λ (f : Function). map (λ (p : Parameter). p.width) f.params.items) o [])
 as_many_in None = refl
 as_many_in (Some f) = as_many f.params.items
 

@@ -1,5 +1,6 @@
 -- Where the registers and named wires of a circuit stand, and what they take.
-use Rattle.std.proofs.Common.{◌≡◌, ℕ, zero, suc, ◌+◌, ◌-◌, ◌<◌, ◌≤◌, List, [], ◌∷◌, ◌++◌, map, length, length-append, Option, Some, None, Bool, true, false, cond, slice_get, nat_lt, ◌==◌, ◌⊎◌, inl, inr, refl, sym, ap, subst, ◌∙◌, arith, append_assoc}
+use Rattle.std.proofs.Common.{◌≡◌, ℕ, zero, suc, ◌+◌, ◌-◌, ◌<◌, ◌≤◌, List, [], ◌∷◌, ◌++◌, map, length, length-append, Option, Some, None, Bool, true}
+use Rattle.std.proofs.Common.{false, cond, slice_get, nat_lt, ◌==◌, ◌⊎◌, inl, inr, refl, sym, ap, subst, ◌∙◌, arith, append_assoc}
 use Rattle.std.specs.Prelude.{codes}
 use Rattle.std.proofs.lemmas.Bool.{ltb-true}
 use Rattle.safl_term.specs.Program.{Program, unit_for}
@@ -33,7 +34,8 @@ use Rattle.safl_unit.proofs.Declaring.{map_long, map_get}
 use Rattle.safl_unit.proofs.Tables.{get_front}
 use Rattle.safl_unit.proofs.Lining.{register_lines, there}
 use Rattle.safl_unit.proofs.Listing.{wire_lines, bodies_long, calls_long}
-use Rattle.safl_unit.proofs.Setting.{kinded, takes_kept, kinds_list, kinds_long, kinds_names, kinds_outputs, registers_set, wires_set, IsOpen, settles_nexts, settles_copies, says_nexts, says_copies, tidy_kinds}
+use Rattle.safl_unit.proofs.Setting.{kinded, takes_kept, kinds_list, kinds_long, kinds_names, kinds_outputs, registers_set, wires_set, IsOpen}
+use Rattle.safl_unit.proofs.Setting.{settles_nexts, settles_copies, says_nexts, says_copies, tidy_kinds}
 
 -- ---- ties that are numbered from i on
 
@@ -72,7 +74,8 @@ each_sig : (ts : List Tie) (Q : ℕ → Sig → Type 0) → ((i : ℕ) (t : Tie)
 each_sig ts Q f i s e = let q = sig_get ts i s e in subst (Q i) q.2 (f i q.0 q.1)
 
 -- a signal that is made of a line
-pub at_made : {A : Type 0} (front back : List Signal) (make : A → Signal) (ls : List A) (s i : ℕ) (l : A) → s ≡ length front + i → slice_get ls i ≡ Some l → slice_get (front ++ (map make ls ++ back)) s ≡ Some (make l)
+pub at_made : {A : Type 0} (front back : List Signal) (make : A → Signal) (ls : List A) (s i : ℕ) (l : A) → s ≡ length front + i → slice_get ls i ≡
+    Some l → slice_get (front ++ (map make ls ++ back)) s ≡ Some (make l)
 at_made [] back make ls s i l q e = ap (λ j. slice_get (map make ls ++ back) j) (let r : s ≡ i = omega (arith, q) in r) ∙ get_front (map make ls) back i (make l) (map_get make ls i l e)
 at_made (g ∷ front) back make ls zero i l q e = absurd (omega (arith, q))
 at_made (g ∷ front) back make ls (suc s) i l q e = at_made front back make ls s i l (omega (arith, q)) e
@@ -91,13 +94,16 @@ args_from n i (x ∷ xs) (w ∷ ws) (s ∷ ss) h = (record { width = h.widths.0;
 module _ (C : Program) (D : Names) (P : Choice) (n : Netlist) (b : Bank) (h : BankFits C n b) where
   unit_from : (i f : ℕ) (o : Option UnitPins) → slice_get b.units.items f ≡ o → EachFrom (TakesNext n) i (unit_ties C D f o)
   unit_from i f None e = tt
-  unit_from i f (Some u) e = let q = h.units f u e in from_cond (TakesNext n) i (C.unit f == f) (((of_function D (codes "run$") f, 1), u.run) ∷ ((of_function D (codes "fin$") f, 1), u.fin) ∷ ((of_function D (codes "res$") f, C.result f), u.res) ∷ []) (λ own. (q.run, (q.fin, (q.res, tt))))
+  unit_from i f (Some u) e = let q = h.units f u e in from_cond (TakesNext n) i (C.unit f == f)
+      (((of_function D (codes "run$") f, 1), u.run) ∷ ((of_function D (codes "fin$") f, 1), u.fin) ∷
+      ((of_function D (codes "res$") f, C.result f), u.res) ∷ []) (λ own. (q.run, (q.fin, (q.res, tt))))
 
   member_from : (i f : ℕ) (o : Option MemberPins) → slice_get b.members.items f ≡ o → EachFrom (TakesNext n) i (member_ties C D f o)
   member_from i f None e = tt
   member_from i f (Some m) e =
       let q = h.members f m e in
-      from_more (TakesNext n) i (cond (many C f) (((of_function D (codes "at$") f, 1), m.at) ∷ []) []) _ (from_cond (TakesNext n) i (many C f) (((of_function D (codes "at$") f, 1), m.at) ∷ []) (λ more. (q.at, tt)))
+      from_more (TakesNext n) i (cond (many C f) (((of_function D (codes "at$") f, 1), m.at) ∷ []) []) _
+      (from_cond (TakesNext n) i (many C f) (((of_function D (codes "at$") f, 1), m.at) ∷ []) (λ more. (q.at, tt)))
       (args_from n _ (map (of_param D f) (D.params f)) (C.params f) m.args.items q.args)
 
   site_from : (i k : ℕ) (o : Option SitePins) → slice_get b.sites.items k ≡ o → EachFrom (TakesNext n) i (call_registers C P k o)
@@ -282,7 +288,8 @@ module _ (c : CheckedProgram) (h : IsChecked c) (P : Choice) (old : Netlist) (p 
     copies_long = ap length copies_are ∙ map_long sig_of wts
 
     pub registers_take : EachAt nexts (λ i s. Takes old (p.first_register + i) (Reg 0 None) s)
-    registers_take = subst (λ l. EachAt l (λ i s. Takes old (p.first_register + i) (Reg 0 None) s)) (sym nexts_are) (each_sig rts (λ i s. Takes old (p.first_register + i) (Reg 0 None) s) register_takes)
+    registers_take = subst (λ l. EachAt l (λ i s. Takes old (p.first_register + i) (Reg 0 None) s)) (sym nexts_are)
+        (each_sig rts (λ i s. Takes old (p.first_register + i) (Reg 0 None) s) register_takes)
 
     module _ (a : Netlist) (set : a ≡ with_kinds old p.first_register (map next_kind nexts)) where
       abbrev half : Netlist
@@ -333,7 +340,8 @@ module _ (c : CheckedProgram) (h : IsChecked c) (P : Choice) (old : Netlist) (p 
             let v = map_long set_register rts in
             let s = first_long in
             let t = first_wire_is in
-            kinds_list half p.first_wire (inputs ++ map set_register rts) wires more (map copy_kind copies) (omega (arith, u, v, s, t)) (omega (arith, x, y, z)) (half_signals ∙ sym (append_assoc inputs (map set_register rts) (wires ++ more)))
+            kinds_list half p.first_wire (inputs ++ map set_register rts) wires more (map copy_kind copies) (omega (arith, u, v, s, t))
+            (omega (arith, x, y, z)) (half_signals ∙ sym (append_assoc inputs (map set_register rts) (wires ++ more)))
             ∙ ap (λ l. (inputs ++ map set_register rts) ++ (l ++ more)) (ap (λ l. kinded wires (map copy_kind l)) copies_are ∙ wires_set wts)
             ∙ append_assoc inputs (map set_register rts) (map set_wire wts ++ more)
             ∙ ap (λ l. inputs ++ l) (sym (append_assoc (map set_register rts) (map set_wire wts) more))
@@ -379,7 +387,8 @@ module _ (c : CheckedProgram) (h : IsChecked c) (P : Choice) (old : Netlist) (p 
 
 -- ---- the outputs
 
-pub finishes : (C : Program) (D : Names) (P : Choice) (p : Pins) (next : Bank) (T : Controls) (main : UnitPins) (old m a b : Netlist) → IsSet C D P p next T old m → IsSettled old → slice_get p.bank.units.items C.main ≡ Some main
+pub finishes : (C : Program) (D : Names) (P : Choice) (p : Pins) (next : Bank) (T : Controls) (main : UnitPins) (old m a b : Netlist) → IsSet C D P p
+    next T old m → IsSettled old → slice_get p.bank.units.items C.main ≡ Some main
     → a ≡ with_output m (codes "done") main.fin.0 → b ≡ with_output a (codes "result") main.res.0 → Finishes C D P p next T old b
 finishes C D P p next T main old m a b set settled at ea eb = record {
   more = set.more;
@@ -391,5 +400,6 @@ finishes C D P p next T main old m a b set settled at ea eb = record {
       ap (λ (n : Netlist). n.outputs) eb ∙ ap (λ (n : Netlist). n.outputs ++ (codes "result", main.res.0) ∷ []) ea
       ∙ ap (λ os. (os ++ (codes "done", main.fin.0) ∷ []) ++ (codes "result", main.res.0) ∷ []) set.outputs;
   acyclic = ((settles_on (settles_output m a (codes "done") main.fin.0 ea) (settles_output a b (codes "result") main.res.0 eb)).settled (set.settles.settled settled)).acyclic;
-  says = subst (λ x. Says old x) (sym (eb ∙ ap (λ x. with_output x (codes "result") main.res.0) ea)) (says_on set.says (says_on (says_output m (codes "done") main.fin.0) (says_output (with_output m (codes "done") main.fin.0) (codes "result") main.res.0)));
+  says = subst (λ x. Says old x) (sym (eb ∙ ap (λ x. with_output x (codes "result") main.res.0) ea))
+      (says_on set.says (says_on (says_output m (codes "done") main.fin.0) (says_output (with_output m (codes "done") main.fin.0) (codes "result") main.res.0)));
 }

@@ -1,5 +1,6 @@
 -- The pins of the declared net have the widths of the registers.
-use Rattle.std.proofs.Common.{◌≡◌, ℕ, suc, ◌<◌, List, [], ◌∷◌, ◌++◌, map, length, length-append, append_assoc, Some, Bool, true, false, cond, slice_get, nat_lt, inl, inr, refl, sym, ap, subst, ◌∙◌, arith}
+use Rattle.std.proofs.Common.{◌≡◌, ℕ, suc, ◌<◌, List, [], ◌∷◌, ◌++◌, map, length, length-append, append_assoc, Some, Bool, true, false, cond}
+use Rattle.std.proofs.Common.{slice_get, nat_lt, inl, inr, refl, sym, ap, subst, ◌∙◌, arith}
 use Rattle.std.specs.Prelude.{codes}
 use Rattle.std.proofs.lemmas.Option.{slice_get_within}
 use Rattle.std.proofs.lemmas.Bool.{eq-eqb, lt-ltb}
@@ -32,7 +33,8 @@ map_map f g (x ∷ xs) = ap (λ l. f (g x) ∷ l) (map_map f g xs)
 source_of : (n : Netlist) (t : Tie) → slice_get n.signals t.1.0 ≡ Some (open_register t.0) → IsSource n t.1 t.0.1
 source_of n t e = record { width = ap maybe_width e; steady = steady_by n t.1.0 (open_register t.0) e tt }
 
-args_sources : (n : Netlist) (xs : List (List ℕ)) (ws : List ℕ) (ss : List Sig) → length xs ≡ length ws → length ss ≡ length ws → ((t : Tie) → Among t (tied (named xs ws) ss) → IsSource n t.1 t.0.1) → AreSources n ss ws
+args_sources : (n : Netlist) (xs : List (List ℕ)) (ws : List ℕ) (ss : List Sig) → length xs ≡ length ws → length ss ≡ length ws →
+    ((t : Tie) → Among t (tied (named xs ws) ss) → IsSource n t.1 t.0.1) → AreSources n ss ws
 args_sources n xs [] [] a b f = record { widths = tt; steady = tt }
 args_sources n xs [] (s ∷ ss) a b f = absurd (omega (arith, b))
 args_sources n xs (w ∷ ws) [] a b f = absurd (omega (arith, b))
@@ -82,7 +84,8 @@ module _ (c : CheckedProgram) (h : IsChecked c) (P : Choice) (n : Netlist) (p : 
   source t a = source_of n t (register_there t a)
 
   in_function : (f : ℕ) (t : Tie) → f < C.functions → Among t (function_ties C D p.bank.units.items p.bank.members.items f) → IsSource n t.1 t.0.1
-  in_function f t l a = source t (among_left t (ties (function_ties C D p.bank.units.items p.bank.members.items) C.functions) _ (among_ties t (function_ties C D p.bank.units.items p.bank.members.items) f C.functions l a))
+  in_function f t l a = source t (among_left t (ties (function_ties C D p.bank.units.items p.bank.members.items) C.functions) _
+      (among_ties t (function_ties C D p.bank.units.items p.bank.members.items) f C.functions l a))
 
   in_unit : (u : ℕ) (x : UnitPins) (t : Tie) → u < C.functions → slice_get p.bank.units.items u ≡ Some x → Among t (unit_ties C D u (Some x)) → IsSource n t.1 t.0.1
   in_unit u x t l e a = in_function u t l (among_left t (unit_ties C D u (slice_get p.bank.units.items u)) _ (subst (λ o. Among t (unit_ties C D u o)) (sym e) a))
@@ -154,7 +157,9 @@ module _ (c : CheckedProgram) (h : IsChecked c) (P : Choice) (n : Netlist) (p : 
     start = subst (λ s. IsSource n s 1) (sym pins.start) (record { width = ap maybe_width start_at; steady = steady_by n 0 (input_line (codes "start", 1)) start_at tt });
     words =
         subst (λ xs. AreSources n xs (C.params C.main)) (sym pins.words)
-        (inputs_there n (input_line (codes "start", 1) ∷ []) (map open_register (layout_registers C D P) ++ map open_wire (layout_wires C D P)) (map (λ x. codes "in$" ++ x) (D.params C.main)) (C.params C.main) (ap (λ (m : Netlist). m.signals) net) (map_long (λ x. codes "in$" ++ x) (D.params C.main) ∙ params_long c C.main));
+        (inputs_there n (input_line (codes "start", 1) ∷ []) (map open_register (layout_registers C D P) ++ map open_wire (layout_wires C D P))
+        (map (λ x. codes "in$" ++ x) (D.params C.main)) (C.params C.main) (ap (λ (m : Netlist). m.signals) net)
+        (map_long (λ x. codes "in$" ++ x) (D.params C.main) ∙ params_long c C.main));
     bank = record {
       units_length = pins.units_length;
       members_length = pins.members_length;

@@ -41,15 +41,18 @@ or_twice None b d = refl
 or_twice (Some x) b d = refl
 
 module _ (C : Program) (P : Choice) (v : Val) (r : Registers) (i : Inputs) where
-  pub unit_follows : (u : ℕ) (end : Option (List Word)) (start : Bool) (x y : UnitPins) → UnitStep v end start x y → UnitShows v x r u → end ≡ one_word (ends C P r u) → start ≡ is_some (starts C P r i u) → UnitShows v y (next C P i r) u
+  pub unit_follows : (u : ℕ) (end : Option (List Word)) (start : Bool) (x y : UnitPins) → UnitStep v end start x y → UnitShows v x r u → end ≡
+      one_word (ends C P r u) → start ≡ is_some (starts C P r i u) → UnitShows v y (next C P i r) u
   unfolding next
   unit_follows u end start x y h a e s =
       let some : is_some end ≡ is_some (ends C P r u) = ap is_some e ∙ some_word (ends C P r u) in
       record {
-        run = h.run ∙ ap (λ (b : Bool). (start || b) && not (is_some end)) a.run ∙ ap (λ (b : Bool). (b || r.run u) && not (is_some end)) s ∙ ap (λ (b : Bool). (is_some (starts C P r i u) || r.run u) && not b) some
+        run = h.run ∙ ap (λ (b : Bool). (start || b) && not (is_some end)) a.run ∙ ap (λ (b : Bool). (b || r.run u) && not (is_some end)) s ∙ ap
+            (λ (b : Bool). (is_some (starts C P r i u) || r.run u) && not b) some
             ∙ set_first (is_some (starts C P r i u)) (r.run u) (is_some (ends C P r u));
         fin = h.fin ∙ some;
-        res = word_or (ends C P r u) (v y.res.0) (r.res u) (h.res ∙ ap (λ (o : Option (List Word)). or_word o (v x.res.0 ∷ [])) e ∙ ap (λ (w : Word). or_word (one_word (ends C P r u)) (w ∷ [])) a.res);
+        res = word_or (ends C P r u) (v y.res.0) (r.res u) (h.res ∙ ap (λ (o : Option (List Word)). or_word o (v x.res.0 ∷ [])) e ∙ ap
+            (λ (w : Word). or_word (one_word (ends C P r u)) (w ∷ [])) a.res);
       }
 
   pub member_follows : (f : ℕ) (entry rival : Bool) (load looped : Option (List Word)) (x y : MemberPins) → MemberStep v (many C f) entry rival load looped x y → MemberShows C v x r f
@@ -59,7 +62,8 @@ module _ (C : Program) (P : Choice) (v : Val) (r : Registers) (i : Inputs) where
     at = λ m.
         h.at m ∙ ap (λ (b : Bool). (entry || b) && not rival) (a.at m) ∙ ap (λ (b : Bool). (b || r.at f) && not rival) e ∙ ap (λ (b : Bool). (starts_it C P r i f || r.at f) && not b) s
         ∙ set_first (starts_it C P r i f) (r.at f) (starts_other C P r i f);
-    arg = h.args ∙ ap (λ (o : Option (List Word)). or_word o (or_word looped (words v x.args.items))) l ∙ ap (λ (o : Option (List Word)). or_word (loads C P r i f) (or_word o (words v x.args.items))) k
+    arg = h.args ∙ ap (λ (o : Option (List Word)). or_word o (or_word looped (words v x.args.items))) l ∙ ap
+        (λ (o : Option (List Word)). or_word (loads C P r i f) (or_word o (words v x.args.items))) k
         ∙ ap (λ (ws : List Word). or_word (loads C P r i f) (or_word (loop_words C P r f) ws)) a.arg ∙ or_twice (loads C P r i f) (loop_words C P r f) (r.arg f);
   }
 
@@ -71,5 +75,6 @@ module _ (C : Program) (P : Choice) (v : Val) (r : Registers) (i : Inputs) where
         ∙ set_last (r.sent k) (go C P r i k) (clears C P r (C.unit (C.caller k)));
     got = h.got ∙ ap (λ (t : Bool). (t || back) && not clear) a.got ∙ ap (λ (t : Bool). (r.got k || t) && not clear) b ∙ ap (λ (t : Bool). (r.got k || ret C r k) && not t) c
         ∙ set_last (r.got k) (ret C r k) (clears C P r (C.unit (C.caller k)));
-    keep = λ m. h.keep m ∙ ap (λ (t : Bool). cond t res (v x.keep.0)) b ∙ ap (λ (t : Word). cond (ret C r k) t (v x.keep.0)) w ∙ ap (λ (t : Word). cond (ret C r k) (r.res (unit_for C k)) t) (a.keep m);
+    keep = λ m. h.keep m ∙ ap (λ (t : Bool). cond t res (v x.keep.0)) b ∙ ap (λ (t : Word). cond (ret C r k) t (v x.keep.0)) w ∙ ap
+        (λ (t : Word). cond (ret C r k) (r.res (unit_for C k)) t) (a.keep m);
   }

@@ -1,5 +1,6 @@
 -- Which sites start, one by one.
-use Rattle.std.proofs.Common.{◌≡◌, ℕ, zero, suc, ◌≤◌, List, [], ◌∷◌, ◌++◌, length, slice_get, subst, Option, Some, None, Bool, true, false, ◌&&◌, ◌||◌, ◌==◌, not, cond, is_some, Result, Ok, Err, IfOk, OnOk, refl, sym, ap, ◌∙◌, arith}
+use Rattle.std.proofs.Common.{◌≡◌, ℕ, zero, suc, ◌≤◌, List, [], ◌∷◌, ◌++◌, length, slice_get, subst, Option, Some, None, Bool, true, false, ◌&&◌}
+use Rattle.std.proofs.Common.{◌||◌, ◌==◌, not, cond, is_some, Result, Ok, Err, IfOk, OnOk, refl, sym, ap, ◌∙◌, arith}
 use Rattle.std.proofs.lemmas.Bool.{eqb-true, ne_eqb}
 use Rattle.safl_term.specs.Program.{Program, unit_for}
 use Rattle.safl_term.specs.Readiness.{or_else}
@@ -28,7 +29,8 @@ gated true x = refl
 gated false x = refl
 
 -- the bit of a wanted site
-pub want_shown : (C : Program) (P : Choice) (r : Registers) (i : Inputs) (v : Val) (xs : List Load) (m : ℕ) (l : Load) → slice_get xs (suc m) ≡ Some l → taken_at v xs (suc m) ≡ called C P r i (suc m) → on v l.bit ≡ want C P r (suc m)
+pub want_shown : (C : Program) (P : Choice) (r : Registers) (i : Inputs) (v : Val) (xs : List Load) (m : ℕ) (l : Load) → slice_get xs (suc m) ≡ Some l
+    → taken_at v xs (suc m) ≡ called C P r i (suc m) → on v l.bit ≡ want C P r (suc m)
 want_shown C P r i v xs m l e h = sym (gated (on v l.bit) _) ∙ ap (λ (o : Option Load). is_some (taken_in v o)) (sym e) ∙ ap is_some h
 
 either_some : {A : Type 0} (a b : Option A) → is_some (or_else a b) ≡ (is_some a || is_some b)
@@ -49,19 +51,24 @@ pub first_of : (C : Program) (P : Choice) (r : Registers) (u : ℕ) → is_some 
 unfolding first
 first_of C P r u = refl
 
-pub next_of : (C : Program) (P : Choice) (r : Registers) (u m : ℕ) → is_some (first (wants_at C P r u) (suc (suc m))) ≡ (is_some (first (wants_at C P r u) (suc m)) || (unit_for C (suc m) == u && want C P r (suc m)))
+pub next_of : (C : Program) (P : Choice) (r : Registers) (u m : ℕ) → is_some (first (wants_at C P r u) (suc (suc m))) ≡
+    (is_some (first (wants_at C P r u) (suc m)) || (unit_for C (suc m) == u && want C P r (suc m)))
 unfolding first
-next_of C P r u m = either_some (first (wants_at C P r u) (suc m)) (wants_at C P r u (suc m)) ∙ ap (λ (b : Bool). is_some (first (wants_at C P r u) (suc m)) || b) (tested (unit_for C (suc m) == u && want C P r (suc m)) (suc m))
+next_of C P r u m = either_some (first (wants_at C P r u) (suc m)) (wants_at C P r u (suc m)) ∙ ap
+    (λ (b : Bool). is_some (first (wants_at C P r u) (suc m)) || b) (tested (unit_for C (suc m) == u && want C P r (suc m)) (suc m))
 
 main_go : (C : Program) (P : Choice) (r : Registers) (i : Inputs) → (i.start && not (r.run (C.unit C.main))) ≡ go C P r i 0
 unfolding go
 main_go C P r i = refl
 
-pub site_go : (C : Program) (P : Choice) (r : Registers) (i : Inputs) (k : ℕ) → cond (P.arbiter (unit_for C (suc k))) (want C P r (suc k) && (not (r.run (unit_for C (suc k))) && not (is_some (first (wants_at C P r (unit_for C (suc k))) (suc k))))) (want C P r (suc k)) ≡ go C P r i (suc k)
+pub site_go : (C : Program) (P : Choice) (r : Registers) (i : Inputs) (k : ℕ) → cond (P.arbiter (unit_for C (suc k)))
+    (want C P r (suc k) && (not (r.run (unit_for C (suc k))) && not (is_some (first (wants_at C P r (unit_for C (suc k))) (suc k)))))
+    (want C P r (suc k)) ≡ go C P r i (suc k)
 unfolding go
 site_go C P r i k = refl
 
-pub none_granted : (C : Program) (P : Choice) (n : Netlist) (p : Pins) (goes : List Sig) (s : Sig) → goes ≡ s ∷ [] → IsSource n s 1 → InEachCycle C P n p (λ v r i. on v s ≡ (i.start && not (r.run (C.unit C.main))))
+pub none_granted : (C : Program) (P : Choice) (n : Netlist) (p : Pins) (goes : List Sig) (s : Sig) → goes ≡ s ∷ [] → IsSource n s 1 → InEachCycle C P
+    n p (λ v r i. on v s ≡ (i.start && not (r.run (C.unit C.main))))
     → Granted C P n p goes 0
 none_granted C P n p goes s e f h = record {
   count = ap (λ (xs : List Sig). length xs) e;
@@ -83,7 +90,8 @@ same_test a b = by (a == b) refl
 pub granted_on : (C : Program) (P : Choice) (a b : Netlist) (p : Pins) (goes : List Sig) (m k : ℕ) → Builds a b k → Granted C P a p goes m → Granted C P b p goes m
 granted_on C P a b p goes m k built h = record { count = h.count; fits = λ j s e. source_kept built (h.fits j s e); shows = λ v r i c. h.shows v r i (cycle_before built c) }
 
-pub more_granted : (C : Program) (P : Choice) (a b : Netlist) (p : Pins) (goes after : List Sig) (m k : ℕ) (bit : Sig) → Granted C P a p goes m → Builds a b k → IsSource b bit 1 → InEachCycle C P b p (λ v r i. on v bit ≡ go C P r i (suc m)) → after ≡ goes ++ bit ∷ []
+pub more_granted : (C : Program) (P : Choice) (a b : Netlist) (p : Pins) (goes after : List Sig) (m k : ℕ) (bit : Sig) → Granted C P a p goes m →
+    Builds a b k → IsSource b bit 1 → InEachCycle C P b p (λ v r i. on v bit ≡ go C P r i (suc m)) → after ≡ goes ++ bit ∷ []
     → Granted C P b p after (suc m)
 more_granted C P a b p goes after m k bit all built fits value is = record {
   count = longer goes after bit m all.count is;

@@ -6,7 +6,8 @@ use Rattle.safl_term.specs.Program.{unit_for}
 use Rattle.safl_unit.specs.declared.parts.UnitPins.{UnitPins}
 
 -- the registers of the next site's unit, and its own
-pub unit_at : (a b : CheckedProgram) (us : List UnitPins) (m r : ℕ) (u : UnitPins) → IsChecked b → b ≡ a → m < (program_of b).sites → r ≡ (program_of b).callee (m + 1) → length us ≡ (program_of a).functions → u ≡ slice_index_or us r u
+pub unit_at : (a b : CheckedProgram) (us : List UnitPins) (m r : ℕ) (u : UnitPins) → IsChecked b → b ≡ a → m < (program_of b).sites → r ≡
+    (program_of b).callee (m + 1) → length us ≡ (program_of a).functions → u ≡ slice_index_or us r u
     → slice_get us ((program_of a).callee (suc m)) ≡ Some u
 unit_at a b us m r u checked same l q count e =
     let n = (checked.formed.calls (m + 1) (omega arith) (omega (arith, l))).1 in
@@ -22,7 +23,8 @@ unfolding program_of
 main_is c = refl
 
 -- the registers of main's unit
-pub main_at : (a b : CheckedProgram) (us : List UnitPins) (n : ℕ) (u : UnitPins) → IsChecked b → b ≡ a → n ≡ (program_of b).functions → length us ≡ (program_of a).functions → u ≡ slice_index_or us (n - 1) u → slice_get us ((program_of a).main) ≡ Some u
+pub main_at : (a b : CheckedProgram) (us : List UnitPins) (n : ℕ) (u : UnitPins) → IsChecked b → b ≡ a → n ≡ (program_of b).functions → length us ≡
+    (program_of a).functions → u ≡ slice_index_or us (n - 1) u → slice_get us ((program_of a).main) ≡ Some u
 main_at a b us n u checked same q count e =
     let f = ap (λ (x : CheckedProgram). (program_of x).functions) same in
     let m = main_is a in
@@ -38,6 +40,7 @@ place_within a b m r place checked same l q e =
     let n = (checked.formed.calls (m + 1) (omega arith) (omega (arith, l))).1 in
     let u = (checked.formed.first ((program_of b).callee (m + 1)) n).0 in
     let is : place ≡ (program_of b).unit ((program_of b).callee (m + 1)) = e ∙ ap (program_of b).unit q in
-    let at : (program_of b).unit ((program_of b).callee (m + 1)) ≡ unit_for (program_of a) (suc m) = ap (λ (x : CheckedProgram). unit_for (program_of x) (m + 1)) same ∙ ap (unit_for (program_of a)) (add-one m) in
+    let at : (program_of b).unit ((program_of b).callee (m + 1)) ≡ unit_for (program_of a) (suc m) = ap
+    (λ (x : CheckedProgram). unit_for (program_of x) (m + 1)) same ∙ ap (unit_for (program_of a)) (add-one m) in
     let f = ap (λ (x : CheckedProgram). (program_of x).functions) same in
     (is ∙ at, omega (arith, n, u, at, f))

@@ -1,5 +1,6 @@
 -- The loads of a body among those of the bodies before it.
-use Rattle.std.proofs.Common.{◌≡◌, ℕ, zero, suc, ◌+◌, ◌-◌, ◌<◌, ◌≤◌, List, [], ◌∷◌, ◌++◌, length, length-append, cond, Vec, Global, Option, Some, None, Bool, true, false, ◌==◌, ◌⊎◌, inl, inr, add-one, slice_get, refl, sym, ap, subst, ◌∙◌, arith}
+use Rattle.std.proofs.Common.{◌≡◌, ℕ, zero, suc, ◌+◌, ◌-◌, ◌<◌, ◌≤◌, List, [], ◌∷◌, ◌++◌, length, length-append, cond, Vec, Global, Option, Some}
+use Rattle.std.proofs.Common.{None, Bool, true, false, ◌==◌, ◌⊎◌, inl, inr, add-one, slice_get, refl, sym, ap, subst, ◌∙◌, arith}
 use Rattle.std.proofs.lemmas.Bool.{eq-eqb, ne_eqb, eqb-true, eqb-false}
 use Rattle.safl_term.specs.Program.{Program}
 use Rattle.safl_term.specs.Sizes.{nodes}
@@ -100,7 +101,8 @@ module _ (first : ℕ) (own : List (Option Load)) (old mid new : List (Vec Load 
   }
 
   pub more_pushed : PushesLoads first (length (own ++ o ∷ [])) (own ++ o ∷ []) old new
-  more_pushed = let a = length-append own (o ∷ []) in let e : length (own ++ o ∷ []) ≡ length own + 1 = omega (arith, a) in subst (λ (m : ℕ). PushesLoads first m (own ++ o ∷ []) old new) (sym e) one_pushed
+  more_pushed = let a = length-append own (o ∷ []) in let e : length (own ++ o ∷ []) ≡ length own + 1 = omega (arith, a) in subst
+      (λ (m : ℕ). PushesLoads first m (own ++ o ∷ []) old new) (sym e) one_pushed
 
 -- ---- what the rows show
 

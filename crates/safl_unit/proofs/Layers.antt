@@ -1,5 +1,6 @@
 -- The lines, kinds and numbers of a circuit's signals, from the list of its signals.
-use Rattle.std.proofs.Common.{◌≡◌, ℕ, zero, suc, List, [], ◌∷◌, ◌++◌, map, length, length-append, Option, Some, None, Bool, true, false, cond, slice_get, slice_index, bytes_eq, decimal, refl, sym, ap, subst, ◌∙◌, arith, append_assoc}
+use Rattle.std.proofs.Common.{◌≡◌, ℕ, zero, suc, List, [], ◌∷◌, ◌++◌, map, length, length-append, Option, Some, None, Bool, true, false, cond}
+use Rattle.std.proofs.Common.{slice_get, slice_index, bytes_eq, decimal, refl, sym, ap, subst, ◌∙◌, arith, append_assoc}
 use Rattle.std.specs.Prelude.{codes}
 use Rattle.std.proofs.lemmas.List.{append-nil}
 use Rattle.std.proofs.lemmas.Slice.Eq.{bytes_eq-Decides}
@@ -25,7 +26,8 @@ unfolding each_line
 each_none f make [] e = refl
 each_none f make (x ∷ xs) e = ap (λ l. l ++ each_line f (map make xs)) (e x) ∙ each_none f make xs e
 
-each_one : {A : Type 0} (f : Line → Kind → List Line) (make : A → Signal) (line : A → Line) (xs : List A) → ((x : A) → f ((make x).name, (make x).width) (make x).kind ≡ line x ∷ []) → each_line f (map make xs) ≡ map line xs
+each_one : {A : Type 0} (f : Line → Kind → List Line) (make : A → Signal) (line : A → Line) (xs : List A) →
+    ((x : A) → f ((make x).name, (make x).width) (make x).kind ≡ line x ∷ []) → each_line f (map make xs) ≡ map line xs
 unfolding each_line
 each_one f make line [] e = refl
 each_one f make line (x ∷ xs) e = ap (λ l. l ++ each_line f (map make xs)) (e x) ∙ ap (λ l. line x ∷ l) (each_one f make line xs e)
@@ -69,7 +71,8 @@ module _ (ls : List Line) (rs ws : List Tie) (i : ℕ) (more : List Signal) (tem
   split : (f : Line → Kind → List Line) → each_line f all ≡ (each_line f (map input_line ls) ++ (each_line f (map set_register rs) ++ each_line f (map set_wire ws))) ++ each_line f more
   split f =
       each_more f (map input_line ls ++ (map set_register rs ++ map set_wire ws)) more
-      ∙ ap (λ l. l ++ each_line f more) (each_more f (map input_line ls) (map set_register rs ++ map set_wire ws) ∙ ap (λ l. each_line f (map input_line ls) ++ l) (each_more f (map set_register rs) (map set_wire ws)))
+      ∙ ap (λ l. l ++ each_line f more) (each_more f (map input_line ls) (map set_register rs ++ map set_wire ws) ∙ ap
+      (λ l. each_line f (map input_line ls) ++ l) (each_more f (map set_register rs) (map set_wire ws)))
 
   same_lines : (xs : List Line) → map (λ (l : Line). (l.0, l.1)) xs ≡ xs
   same_lines [] = refl
@@ -82,7 +85,8 @@ module _ (ls : List Line) (rs ws : List Tie) (i : ℕ) (more : List Signal) (tem
   pub input_lines : each_line input_kind all ≡ ls
   input_lines =
       split input_kind
-      ∙ ap (λ l. (l ++ (each_line input_kind (map set_register rs) ++ each_line input_kind (map set_wire ws))) ++ each_line input_kind more) (each_one input_kind input_line (λ l. (l.0, l.1)) ls (λ x. refl) ∙ same_lines ls)
+      ∙ ap (λ l. (l ++ (each_line input_kind (map set_register rs) ++ each_line input_kind (map set_wire ws))) ++ each_line input_kind more)
+      (each_one input_kind input_line (λ l. (l.0, l.1)) ls (λ x. refl) ∙ same_lines ls)
       ∙ ap (λ l. (ls ++ (l ++ each_line input_kind (map set_wire ws))) ++ each_line input_kind more) (each_none input_kind set_register rs (λ x. refl))
       ∙ ap (λ l. (ls ++ l) ++ each_line input_kind more) (each_none input_kind set_wire ws (λ x. refl))
       ∙ ap (λ l. (ls ++ []) ++ l) (temps_none input_kind no_input i more temps)
@@ -91,7 +95,8 @@ module _ (ls : List Line) (rs ws : List Tie) (i : ℕ) (more : List Signal) (tem
   pub register_lines_of : each_line register_kind all ≡ map line_of rs
   register_lines_of =
       split register_kind
-      ∙ ap (λ l. (l ++ (each_line register_kind (map set_register rs) ++ each_line register_kind (map set_wire ws))) ++ each_line register_kind more) (each_none register_kind input_line ls (λ x. refl))
+      ∙ ap (λ l. (l ++ (each_line register_kind (map set_register rs) ++ each_line register_kind (map set_wire ws))) ++ each_line register_kind more)
+      (each_none register_kind input_line ls (λ x. refl))
       ∙ ap (λ l. (l ++ each_line register_kind (map set_wire ws)) ++ each_line register_kind more) (each_one register_kind set_register (λ t. (t.0.0, t.0.1)) rs (λ x. refl) ∙ same_ties rs)
       ∙ ap (λ l. (map line_of rs ++ l) ++ each_line register_kind more) (each_none register_kind set_wire ws (λ x. refl))
       ∙ ap (λ l. (map line_of rs ++ []) ++ l) (temps_none register_kind no_register i more temps)
@@ -146,19 +151,23 @@ cell_free name (Reg init next) h = absurd h
 cell_free name (Wire None) h = absurd h
 cell_free name (Wire (Some c)) h = refl
 
-all_of : (Q : Signal → Type 0) (ls : List Line) (rs ws : List Tie) (i : ℕ) (more : List Signal) → AreTemps i more → ((l : Line) → Q (input_line l)) → ((t : Tie) → Q (set_register t)) → ((t : Tie) → Q (set_wire t)) → ((g : Signal) → HasCell g.kind → Q g)
+all_of : (Q : Signal → Type 0) (ls : List Line) (rs ws : List Tie) (i : ℕ) (more : List Signal) → AreTemps i more → ((l : Line) → Q (input_line l)) →
+    ((t : Tie) → Q (set_register t)) → ((t : Tie) → Q (set_wire t)) → ((g : Signal) → HasCell g.kind → Q g)
     → AllSignals Q ((map input_line ls ++ (map set_register rs ++ map set_wire ws)) ++ more)
 all_of Q ls rs ws i more temps a b d e =
     all_more Q (map input_line ls ++ (map set_register rs ++ map set_wire ws)) more
-    (all_more Q (map input_line ls) (map set_register rs ++ map set_wire ws) (all_made Q input_line ls a) (all_more Q (map set_register rs) (map set_wire ws) (all_made Q set_register rs b) (all_made Q set_wire ws d)))
+    (all_more Q (map input_line ls) (map set_register rs ++ map set_wire ws) (all_made Q input_line ls a)
+    (all_more Q (map set_register rs) (map set_wire ws) (all_made Q set_register rs b) (all_made Q set_wire ws d)))
     (all_temps Q e i more temps)
 
-pub is_set : (ls : List Line) (rs ws : List Tie) (i : ℕ) (more : List Signal) (n : Netlist) → AreTemps i more → n.signals ≡ (map input_line ls ++ (map set_register rs ++ map set_wire ws)) ++ more → AllSet n
+pub is_set : (ls : List Line) (rs ws : List Tie) (i : ℕ) (more : List Signal) (n : Netlist) → AreTemps i more → n.signals ≡
+    (map input_line ls ++ (map set_register rs ++ map set_wire ws)) ++ more → AllSet n
 is_set ls rs ws i more n temps e = λ s g at.
     all_get (λ (x : Signal). IsSet x.kind) ((map input_line ls ++ (map set_register rs ++ map set_wire ws)) ++ more) s g
     (all_of (λ (x : Signal). IsSet x.kind) ls rs ws i more temps (λ l. tt) (λ t. tt) (λ t. tt) (λ x h. cell_set x.kind h)) (ap (λ l. slice_get l s) (sym e) ∙ at)
 
-pub is_reset : (ls : List Line) (rs ws : List Tie) (i : ℕ) (more : List Signal) (n : Netlist) → AreTemps i more → n.signals ≡ (map input_line ls ++ (map set_register rs ++ map set_wire ws)) ++ more → (s : ℕ) → reset_state n s ≡ 0
+pub is_reset : (ls : List Line) (rs ws : List Tie) (i : ℕ) (more : List Signal) (n : Netlist) → AreTemps i more → n.signals ≡
+    (map input_line ls ++ (map set_register rs ++ map set_wire ws)) ++ more → (s : ℕ) → reset_state n s ≡ 0
 is_reset ls rs ws i more n temps e s =
     by (slice_get n.signals s)
     (λ g at. all_get (λ (x : Signal). kind_reset x.kind ≡ 0) ((map input_line ls ++ (map set_register rs ++ map set_wire ws)) ++ more) s g
@@ -195,7 +204,8 @@ word_at : (n : Netlist) (v : Valuation) (s x y : ℕ) → width_of n s ≡ x →
 word_at n v s x y e q = ap (λ a. record { width = a; bits = slice_index v s }) e ∙ ap (λ a. record { width = x; bits = a }) q
 
 words_from : (n : Netlist) (v pre vs : Valuation) (front back : List Signal) (names : List (List ℕ)) (ws : List ℕ) → v ≡ pre ++ vs → length front ≡ length pre
-    → n.signals ≡ front ++ (map input_line (named (map (λ x. codes "in$" ++ x) names) ws) ++ back) → length names ≡ length ws → length v ≡ length n.signals → AllSignals (λ g. is_argument g.name g.kind ≡ false) back
+    → n.signals ≡ front ++ (map input_line (named (map (λ x. codes "in$" ++ x) names) ws) ++ back) → length names ≡ length ws → length v ≡ length
+    n.signals → AllSignals (λ g. is_argument g.name g.kind ≡ false) back
     → words (signal_word n v) (numbered (length pre) (length ws)) ≡ as_words ws (input_numbers (map input_line (named (map (λ x. codes "in$" ++ x) names) ws) ++ back) vs)
 unfolding input_numbers
 words_from n v pre vs front back names [] ev ef en el long none = refl
@@ -211,7 +221,8 @@ words_from n v pre (y ∷ vs) front back (x ∷ names) (w ∷ ws) ev ef en el lo
     let rest = map input_line (named (map (λ x. codes "in$" ++ x) names) ws) ++ back in
     let lp = length-append pre (y ∷ []) in
     let lf = length-append front (g ∷ []) in
-    let again = words_from n v (pre ++ y ∷ []) vs (front ++ g ∷ []) back names ws (ev ∙ sym (append_assoc pre (y ∷ []) vs)) (omega (arith, lp, lf, ef)) (en ∙ sym (append_assoc front (g ∷ []) rest)) (omega (arith, el)) long none in
+    let again = words_from n v (pre ++ y ∷ []) vs (front ++ g ∷ []) back names ws (ev ∙ sym (append_assoc pre (y ∷ []) vs))
+    (omega (arith, lp, lf, ef)) (en ∙ sym (append_assoc front (g ∷ []) rest)) (omega (arith, el)) long none in
     let wide : width_of n (length pre) ≡ w = ap (λ l. width_in (slice_get l (length pre))) en ∙ ap (λ k. width_in (slice_get (front ++ (g ∷ rest)) k)) (sym ef) ∙ ap width_in (get_at front rest g) in
     let here = word_at n v (length pre) w y wide (ap (λ l. slice_index l (length pre)) ev ∙ index_end pre vs y) in
     ap (λ a. a ∷ words (signal_word n v) (numbered (suc (length pre)) (length ws))) here
@@ -224,7 +235,8 @@ unfolding input_numbers
 start_first gs y vs = sym (ap (λ b. cond (cond b false true) (y ∷ input_numbers gs vs) (input_numbers gs vs)) ((bytes_eq-Decides (codes "start") (codes "start")).1 refl))
 
 -- the words of the ports are those of the inputs after `start`
-pub input_words : (names : List (List ℕ)) (ws : List ℕ) (rs us : List Tie) (i : ℕ) (more : List Signal) (n : Netlist) (v : Valuation) → AreTemps i more → length names ≡ length ws → length v ≡ length n.signals
+pub input_words : (names : List (List ℕ)) (ws : List ℕ) (rs us : List Tie) (i : ℕ) (more : List Signal) (n : Netlist) (v : Valuation) → AreTemps i
+    more → length names ≡ length ws → length v ≡ length n.signals
     → n.signals ≡ (map input_line ((codes "start", 1) ∷ named (map (λ x. codes "in$" ++ x) names) ws) ++ (map set_register rs ++ map set_wire us)) ++ more
     → words (signal_word n v) (numbered 1 (length ws)) ≡ as_words ws (input_numbers n.signals v)
 unfolding input_numbers
@@ -237,7 +249,8 @@ input_words names ws rs us i more n (y ∷ vs) temps el long e =
     let wirs = map set_wire us in
     let back = (regs ++ wirs) ++ more in
     let free = all_more (λ g. is_argument g.name g.kind ≡ false) (regs ++ wirs) more
-    (all_more (λ g. is_argument g.name g.kind ≡ false) regs wirs (all_made (λ g. is_argument g.name g.kind ≡ false) set_register rs (λ t. refl)) (all_made (λ g. is_argument g.name g.kind ≡ false) set_wire us (λ t. refl)))
+    (all_more (λ g. is_argument g.name g.kind ≡ false) regs wirs (all_made (λ g. is_argument g.name g.kind ≡ false) set_register rs (λ t. refl))
+    (all_made (λ g. is_argument g.name g.kind ≡ false) set_wire us (λ t. refl)))
     (all_temps (λ g. is_argument g.name g.kind ≡ false) (λ g h. cell_free g.name g.kind h) i more temps) in
     let whole : n.signals ≡ (input_line (codes "start", 1) ∷ []) ++ (port ++ back) = e ∙ ap (λ l. input_line (codes "start", 1) ∷ l) (append_assoc port (regs ++ wirs) more) in
     words_from n (y ∷ vs) (y ∷ []) vs (input_line (codes "start", 1) ∷ []) back names ws refl refl whole el long free

@@ -55,11 +55,13 @@ pub record IsFull (C : Program) (b : Bank) : Type 0 where
   pub sites : length b.sites.items ≡ suc C.sites
   pub args : EachAt b.members.items (λ f m. length m.args.items ≡ length (C.params f))
 
-pub register_lines : (c : CheckedProgram) → IsChecked c → (P : Choice) (b : Bank) → IsFull (program_of c) b → map line_of (register_ties (program_of c) (names_of c) P b) ≡ layout_registers (program_of c) (names_of c) P
+pub register_lines : (c : CheckedProgram) → IsChecked c → (P : Choice) (b : Bank) → IsFull (program_of c) b → map line_of
+    (register_ties (program_of c) (names_of c) P b) ≡ layout_registers (program_of c) (names_of c) P
 register_lines c h P b full =
     map_more line_of (ties (function_ties C D b.units.items b.members.items) C.functions) (ties (site_ties C P b.sites.items) (suc C.sites))
     ∙ ap (λ l. l ++ map line_of (ties (site_ties C P b.sites.items) (suc C.sites)))
-    (ties_lines (function_ties C D b.units.items b.members.items) (function_lines C D) C.functions (λ f l. of_one f (there b.units.items f C.functions full.units l) (there b.members.items f C.functions full.members l))
+    (ties_lines (function_ties C D b.units.items b.members.items) (function_lines C D) C.functions
+    (λ f l. of_one f (there b.units.items f C.functions full.units l) (there b.members.items f C.functions full.members l))
     ∙ sym (units_in_order c h))
     ∙ ap (λ l. lines (unit_lines C D) C.functions ++ l)
     (ties_lines (site_ties C P b.sites.items) (site_lines C P) (suc C.sites) (λ k l. of_call k (there b.sites.items k (suc C.sites) full.sites l)))
@@ -70,7 +72,8 @@ register_lines c h P b full =
     D : Names
     D = names_of c
 
-    of_one : (f : ℕ) → ((u : UnitPins) × (slice_get b.units.items f ≡ Some u)) → ((m : MemberPins) × (slice_get b.members.items f ≡ Some m)) → map line_of (function_ties C D b.units.items b.members.items f) ≡ function_lines C D f
+    of_one : (f : ℕ) → ((u : UnitPins) × (slice_get b.units.items f ≡ Some u)) → ((m : MemberPins) × (slice_get b.members.items f ≡ Some m)) → map
+        line_of (function_ties C D b.units.items b.members.items f) ≡ function_lines C D f
     of_one f (u, e) (m, q) =
         ap (λ o. map line_of (unit_ties C D f o ++ member_ties C D f (slice_get b.members.items f))) e
         ∙ ap (λ o. map line_of (unit_ties C D f (Some u) ++ member_ties C D f o)) q

@@ -1,5 +1,6 @@
 -- The signals that registers and named wires take, listed one after another.
-use Rattle.std.proofs.Common.{◌≡◌, ℕ, zero, suc, ◌+◌, ◌*◌, ◌≤◌, List, [], ◌∷◌, ◌++◌, map, length, length-append, Option, Some, None, Bool, true, false, cond, slice_get, ◌==◌, nat_lt, refl, sym, ap, ◌∙◌, arith, append_assoc}
+use Rattle.std.proofs.Common.{◌≡◌, ℕ, zero, suc, ◌+◌, ◌*◌, ◌≤◌, List, [], ◌∷◌, ◌++◌, map, length, length-append, Option, Some, None, Bool, true}
+use Rattle.std.proofs.Common.{false, cond, slice_get, ◌==◌, nat_lt, refl, sym, ap, ◌∙◌, arith, append_assoc}
 use Rattle.std.specs.Prelude.{codes}
 use Rattle.std.proofs.lemmas.Bool.{eqb-true, eqb-false}
 use Rattle.std.proofs.lemmas.List.{append-nil}
@@ -69,14 +70,16 @@ function_listed c us ms f u m xs a b e atu atm long ea eb ee =
     ∙ ap (λ o. map sig_of (unit_ties C D f o ++ member_ties C D f (Some m))) (sym atu)
     ∙ ap (λ o. map sig_of (unit_ties C D f (slice_get us f) ++ member_ties C D f o)) (sym atm))
 
-pub registers_listed : (C : Program) (D : Names) (P : Choice) (b : Bank) (k : ℕ) (xs : List Sig) → k ≡ suc C.sites → xs ≡ map sig_of (own_ties C D b) ++ map sig_of (ties (site_ties C P b.sites.items) k)
+pub registers_listed : (C : Program) (D : Names) (P : Choice) (b : Bank) (k : ℕ) (xs : List Sig) → k ≡ suc C.sites → xs ≡ map sig_of (own_ties C D b)
+    ++ map sig_of (ties (site_ties C P b.sites.items) k)
     → xs ≡ map sig_of (register_ties C D P b)
 registers_listed C D P b k xs e q =
     q ∙ ap (λ j. map sig_of (own_ties C D b) ++ map sig_of (ties (site_ties C P b.sites.items) j)) e ∙ sym (map_more sig_of (own_ties C D b) (ties (site_ties C P b.sites.items) (suc C.sites)))
 
 -- ---- the named wires
 
-pub body_listed : (D : Names) (T : Controls) (f : ℕ) (x y : Sig) (xs a b : List Sig) → x ≡ pin T.ends.items f → y ≡ pin T.loops.items f → a ≡ xs ++ x ∷ [] → b ≡ a ++ y ∷ [] → b ≡ xs ++ map sig_of (body_ties D T f)
+pub body_listed : (D : Names) (T : Controls) (f : ℕ) (x y : Sig) (xs a b : List Sig) → x ≡ pin T.ends.items f → y ≡ pin T.loops.items f → a ≡ xs ++ x
+    ∷ [] → b ≡ a ++ y ∷ [] → b ≡ xs ++ map sig_of (body_ties D T f)
 body_listed D T f x y xs a b ex ey ea eb =
     eb ∙ ap (λ l. l ++ y ∷ []) ea ∙ append_assoc xs (x ∷ []) (y ∷ []) ∙ ap (λ z. xs ++ (z ∷ y ∷ [])) ex ∙ ap (λ z. xs ++ (pin T.ends.items f ∷ z ∷ [])) ey
 
@@ -106,7 +109,8 @@ module _ (C : Program) (D : Names) (P : Choice) (first : ℕ) (T : Controls) whe
   calls_long n = sym (map_long line_of (ties (call_ties C P first T) n)) ∙ ap length (call_lines n)
 
   -- how many are listed before a site
-  pub listed_long : (k : ℕ) (xs : List Sig) → xs ≡ map sig_of (ties (body_ties D T) C.functions) ++ map sig_of (ties (call_ties C P first T) k) → length xs ≡ 2 * C.functions + length (lines (site_wires C P) k)
+  pub listed_long : (k : ℕ) (xs : List Sig) → xs ≡ map sig_of (ties (body_ties D T) C.functions) ++ map sig_of (ties (call_ties C P first T) k) →
+      length xs ≡ 2 * C.functions + length (lines (site_wires C P) k)
   listed_long k xs e =
       let a = ap length e in
       let b = length-append (map sig_of (ties (body_ties D T) C.functions)) (map sig_of (ties (call_ties C P first T) k)) in
@@ -130,7 +134,8 @@ module _ (C : Program) (D : Names) (P : Choice) (first : ℕ) (T : Controls) whe
           let b = length-append (lines g n) (g n) in
           omega (arith, a, b)
 
-  pub listed_within : (k : ℕ) (xs : List Sig) → k ≤ suc C.sites → xs ≡ map sig_of (ties (body_ties D T) C.functions) ++ map sig_of (ties (call_ties C P first T) k) → length xs ≤ length (layout_wires C D P)
+  pub listed_within : (k : ℕ) (xs : List Sig) → k ≤ suc C.sites → xs ≡ map sig_of (ties (body_ties D T) C.functions) ++ map sig_of
+      (ties (call_ties C P first T) k) → length xs ≤ length (layout_wires C D P)
   listed_within k xs l e =
       let a = listed_long k xs e in
       let b = lines_below (site_wires C P) k (suc C.sites) l in

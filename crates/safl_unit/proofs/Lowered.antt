@@ -1,5 +1,6 @@
 -- The circuit of a body shows what the equations say.
-use Rattle.std.proofs.Common.{◌≡◌, ℕ, zero, suc, ◌+◌, ◌-◌, ◌*◌, ◌<◌, ◌≤◌, List, Option, Some, None, Result, Ok, Err, IfOk, OnOk, Bool, true, false, not, cond, ◌&&◌, nat_le, ⊎_elim, slice_get, refl, sym, ap, subst, ◌∙◌, arith}
+use Rattle.std.proofs.Common.{◌≡◌, ℕ, zero, suc, ◌+◌, ◌-◌, ◌*◌, ◌<◌, ◌≤◌, List, Option, Some, None, Result, Ok, Err, IfOk, OnOk, Bool, true, false}
+use Rattle.std.proofs.Common.{not, cond, ◌&&◌, nat_le, ⊎_elim, slice_get, refl, sym, ap, subst, ◌∙◌, arith}
 use Rattle.std.proofs.lemmas.Bool.{eq-eqb, le-leb}
 use Rattle.std.proofs.lemmas.Option.{slice_get_within}
 use Rattle.safl_word.specs.Words.{Word}
@@ -102,7 +103,8 @@ module _ (c : CheckedProgram) (h : IsChecked c) (f : ℕ) (l : f < (program_of c
   own_most k a = let b = first_site_most c h (suc f) (omega (arith, l)) in omega (arith, a, b)
 
   module _ (s : Returns) (q : Ports) (ports : AreOwnPorts c s.ports.items f q.sites.items) where
-    pub can_lower : (n : Netlist) → ReturnsFit (program_of c) n s → IsSource n q.run 1 → AreSources n q.args.items ((program_of c).params f) → HasRoom n (32 * nodes ((program_of c).body f) + 32) → CanLower c f n q
+    pub can_lower : (n : Netlist) → ReturnsFit (program_of c) n s → IsSource n q.run 1 → AreSources n q.args.items ((program_of c).params f) → HasRoom
+        n (32 * nodes ((program_of c).body f) + 32) → CanLower c f n q
     can_lower n fits bit sources room = record {
       run = bit;
       args = sources;
@@ -133,10 +135,12 @@ module _ (c : CheckedProgram) (h : IsChecked c) (f : ℕ) (l : f < (program_of c
 
       module _ (own : words v q.args.items ≡ r.arg f) where
         answer_is : answer_at c f v q ≡ answer (on_wires (program_of c) P r) (r.arg f) ((program_of c).body f)
-        answer_is = ap (λ (e : List Word). answer (back_at v (first_site_of c f) q.sites.items) e ((program_of c).body f)) own ∙ answer_local (back_at v (first_site_of c f) q.sites.items) (on_wires (program_of c) P r) (r.arg f) ((program_of c).body f) stands_is
+        answer_is = ap (λ (e : List Word). answer (back_at v (first_site_of c f) q.sites.items) e ((program_of c).body f)) own ∙ answer_local
+            (back_at v (first_site_of c f) q.sites.items) (on_wires (program_of c) P r) (r.arg f) ((program_of c).body f) stands_is
 
         wanted_is : (k : ℕ) → wanted_at c f v q k ≡ wanted (on_wires (program_of c) P r) (r.arg f) ((program_of c).body f) k
-        wanted_is k = ap (λ (e : List Word). wanted (back_at v (first_site_of c f) q.sites.items) e ((program_of c).body f) k) own ∙ wanted_local (back_at v (first_site_of c f) q.sites.items) (on_wires (program_of c) P r) (r.arg f) ((program_of c).body f) k stands_is
+        wanted_is k = ap (λ (e : List Word). wanted (back_at v (first_site_of c f) q.sites.items) e ((program_of c).body f) k) own ∙ wanted_local
+            (back_at v (first_site_of c f) q.sites.items) (on_wires (program_of c) P r) (r.arg f) ((program_of c).body f) k stands_is
 
         module _ (runs : on v q.run ≡ path (program_of c) r f) where
           says_is : (g : Bool → Answer → Option (List Word)) → g (on v q.run) (answer_at c f v q) ≡ g (path (program_of c) r f) (answer (on_wires (program_of c) P r) (r.arg f) ((program_of c).body f))
@@ -164,8 +168,10 @@ module _ (c : CheckedProgram) (h : IsChecked c) (f : ℕ) (l : f < (program_of c
               ap (λ x. gate (x && not (sent_at v (first_site_of c f) q.sites.items k)) (wanted_at c f v q k)) runs
               ∙ ap (λ x. gate (path (program_of c) r f && not x) (wanted_at c f v q k)) (sent_is k a b)
               ∙ ap (λ x. gate (path (program_of c) r f && not (r.sent k)) x) (wanted_is k)
-              ∙ gate_wants (path (program_of c) r f) (r.sent k) (nat_le k (program_of c).sites) (wanted (on_wires (program_of c) P r) (r.arg f) ((program_of c).body f) k) (le-leb k (program_of c).sites m)
-              ∙ ap (λ j. cond (not (r.sent k) && nat_le k (program_of c).sites) (cond (path (program_of c) r j) (wanted (on_wires (program_of c) P r) (r.arg j) ((program_of c).body j) k) None) None) (sym own)
+              ∙ gate_wants (path (program_of c) r f) (r.sent k) (nat_le k (program_of c).sites)
+              (wanted (on_wires (program_of c) P r) (r.arg f) ((program_of c).body f) k) (le-leb k (program_of c).sites m)
+              ∙ ap (λ j. cond (not (r.sent k) && nat_le k (program_of c).sites)
+              (cond (path (program_of c) r j) (wanted (on_wires (program_of c) P r) (r.arg j) ((program_of c).body j) k) None) None) (sym own)
 
           -- the body shows what the equations say
           pub body_shows : (n m : Netlist) (b : Body) → Wired m v → IsLowered c f q n m b → BodyShows c P f b v r
@@ -176,13 +182,15 @@ module _ (c : CheckedProgram) (h : IsChecked c) (f : ℕ) (l : f < (program_of c
                 let same = done.group.inside ((program_of c).unit f + i) (omega arith) (omega (arith, below)) in
                 done.loops v w i
                 ∙ goes_are ((program_of c).unit f + i)
-                ∙ ap (λ t. cond t (goes_to ((program_of c).unit f + i) (body_says (program_of c) P r f)) None) (sym (eq-eqb ((program_of c).unit f) ((program_of c).unit ((program_of c).unit f + i)) (sym same)));
+                ∙ ap (λ t. cond t (goes_to ((program_of c).unit f + i) (body_says (program_of c) P r f)) None)
+                (sym (eq-eqb ((program_of c).unit f) ((program_of c).unit ((program_of c).unit f + i)) (sym same)));
           }
 
 -- ---- all that a body is
 
 module _ (c : CheckedProgram) (h : IsChecked c) (P : Choice) (f : ℕ) (l : f < (program_of c).functions) (n0 n1 : Netlist) (p : Pins) (s : Returns) (q : Ports) (m : MemberPins)
-    (built : Builds n0 n1 1) (fits : PinsFit (program_of c) n0 p) (returns : HasReturns (program_of c) P n0 p s) (bit : IsSource n1 q.run 1) (runs : InEachCycle (program_of c) P n1 p (λ v r i. on v q.run ≡ path (program_of c) r f))
+    (built : Builds n0 n1 1) (fits : PinsFit (program_of c) n0 p) (returns : HasReturns (program_of c) P n0 p s) (bit : IsSource n1 q.run 1)
+    (runs : InEachCycle (program_of c) P n1 p (λ v r i. on v q.run ≡ path (program_of c) r f))
     (ports : AreOwnPorts c s.ports.items f q.sites.items) (member : slice_get p.bank.members.items f ≡ Some m) (own : q.args.items ≡ m.args.items) where
   returns_fit : ReturnsFit (program_of c) n1 s
   returns_fit = (returns_kept built returns).fits

@@ -64,17 +64,23 @@ module _ (c : CheckedProgram) (h : IsChecked c) where
   more_at : (n u : ℕ) → u < C.functions → C.unit u ≡ u → C.unit n ≡ u → upto (suc n) u ≡ upto n u ++ (at_line C D n ++ argument_lines C D n)
   unfolding lines
   more_at n u l e m =
-      ap (λ b. cond b ((of_function D (codes "run$") u, 1) ∷ (of_function D (codes "fin$") u, 1) ∷ (of_function D (codes "res$") u, C.result u) ∷ (lines (member_lines C D u) n ++ cond (C.unit n == u) (at_line C D n ++ argument_lines C D n) [])) []) (unit_true u l e)
-      ∙ ap (λ b. (of_function D (codes "run$") u, 1) ∷ (of_function D (codes "fin$") u, 1) ∷ (of_function D (codes "res$") u, C.result u) ∷ (lines (member_lines C D u) n ++ cond b (at_line C D n ++ argument_lines C D n) [])) (eq-eqb (C.unit n) u m)
-      ∙ sym (ap (λ b. cond b ((of_function D (codes "run$") u, 1) ∷ (of_function D (codes "fin$") u, 1) ∷ (of_function D (codes "res$") u, C.result u) ∷ lines (member_lines C D u) n) [] ++ (at_line C D n ++ argument_lines C D n)) (unit_true u l e))
+      ap (λ b. cond b ((of_function D (codes "run$") u, 1) ∷ (of_function D (codes "fin$") u, 1) ∷ (of_function D (codes "res$") u, C.result u) ∷
+      (lines (member_lines C D u) n ++ cond (C.unit n == u) (at_line C D n ++ argument_lines C D n) [])) []) (unit_true u l e)
+      ∙ ap (λ b. (of_function D (codes "run$") u, 1) ∷ (of_function D (codes "fin$") u, 1) ∷ (of_function D (codes "res$") u, C.result u) ∷
+      (lines (member_lines C D u) n ++ cond b (at_line C D n ++ argument_lines C D n) [])) (eq-eqb (C.unit n) u m)
+      ∙ sym (ap (λ b. cond b ((of_function D (codes "run$") u, 1) ∷ (of_function D (codes "fin$") u, 1) ∷ (of_function D (codes "res$") u, C.result u)
+      ∷ lines (member_lines C D u) n) [] ++ (at_line C D n ++ argument_lines C D n)) (unit_true u l e))
 
   first_at : (n : ℕ) → n < C.functions → C.unit n ≡ n → upto (suc n) n ≡ function_lines C D n
   first_at n l e =
       more_at n n l e e
-      ∙ ap (λ b. cond b ((of_function D (codes "run$") n, 1) ∷ (of_function D (codes "fin$") n, 1) ∷ (of_function D (codes "res$") n, C.result n) ∷ lines (member_lines C D n) n) [] ++ (at_line C D n ++ argument_lines C D n)) (unit_true n l e)
+      ∙ ap (λ b. cond b ((of_function D (codes "run$") n, 1) ∷ (of_function D (codes "fin$") n, 1) ∷ (of_function D (codes "res$") n, C.result n) ∷
+      lines (member_lines C D n) n) [] ++ (at_line C D n ++ argument_lines C D n)) (unit_true n l e)
       ∙ ap (λ ls. ((of_function D (codes "run$") n, 1) ∷ (of_function D (codes "fin$") n, 1) ∷ (of_function D (codes "res$") n, C.result n) ∷ ls) ++ (at_line C D n ++ argument_lines C D n))
-      (no_lines (member_lines C D n) n (λ g k. let le = (h.formed.first g (omega (arith, k, l))).0 in ap (λ b. cond b (at_line C D g ++ argument_lines C D g) []) (ne_eqb (C.unit g) n (λ q. absurd (omega (arith, q, le, k))))))
-      ∙ sym (ap (λ b. cond b ((of_function D (codes "run$") n, 1) ∷ (of_function D (codes "fin$") n, 1) ∷ (of_function D (codes "res$") n, C.result n) ∷ []) [] ++ (at_line C D n ++ argument_lines C D n)) (eq-eqb (C.unit n) n e))
+      (no_lines (member_lines C D n) n (λ g k. let le = (h.formed.first g (omega (arith, k, l))).0 in ap
+      (λ b. cond b (at_line C D g ++ argument_lines C D g) []) (ne_eqb (C.unit g) n (λ q. absurd (omega (arith, q, le, k))))))
+      ∙ sym (ap (λ b. cond b ((of_function D (codes "run$") n, 1) ∷ (of_function D (codes "fin$") n, 1) ∷ (of_function D (codes "res$") n, C.result n)
+      ∷ []) [] ++ (at_line C D n ++ argument_lines C D n)) (eq-eqb (C.unit n) n e))
 
   -- a function of an earlier unit: that unit is the last one before it
   later : (n m : ℕ) → n < C.functions → C.unit n < m → m ≤ n → lines (upto (suc n)) m ≡ lines (upto n) m ++ (at_line C D n ++ argument_lines C D n)
@@ -112,7 +118,8 @@ module _ (c : CheckedProgram) (h : IsChecked c) where
           ap (λ ls. lines (upto (suc n)) n ++ ls) (none_at (suc n) n o) ∙ append-nil (lines (upto (suc n)) n)
           ∙ later n n (omega (arith, l)) (omega (arith, le, o)) (omega arith)
           ∙ ap (λ ls. ls ++ (at_line C D n ++ argument_lines C D n)) again
-          ∙ ap (λ b. lines (function_lines C D) n ++ (cond b ((of_function D (codes "run$") n, 1) ∷ (of_function D (codes "fin$") n, 1) ∷ (of_function D (codes "res$") n, C.result n) ∷ []) [] ++ (at_line C D n ++ argument_lines C D n))) (sym q)
+          ∙ ap (λ b. lines (function_lines C D) n ++ (cond b ((of_function D (codes "run$") n, 1) ∷ (of_function D (codes "fin$") n, 1) ∷
+          (of_function D (codes "res$") n, C.result n) ∷ []) [] ++ (at_line C D n ++ argument_lines C D n))) (sym q)
 
   -- the registers of the units in order are those of the functions in order
   pub units_in_order : lines (unit_lines C D) C.functions ≡ lines (function_lines C D) C.functions

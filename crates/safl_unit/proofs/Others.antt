@@ -1,5 +1,6 @@
 -- Other members of a unit, by the bits of all of its members.
-use Rattle.std.proofs.Common.{◌≡◌, ℕ, zero, suc, ◌+◌, ◌<◌, ◌≤◌, List, [], ◌∷◌, ◌++◌, length, Option, Some, None, slice_get, Bool, true, false, cond, not, ltb, ◌&&◌, ◌||◌, ◌==◌, ◌⊎◌, inl, inr, ⊎_elim, refl, sym, ap, subst, ◌∙◌, add-one, arith}
+use Rattle.std.proofs.Common.{◌≡◌, ℕ, zero, suc, ◌+◌, ◌<◌, ◌≤◌, List, [], ◌∷◌, ◌++◌, length, Option, Some, None, slice_get, Bool, true, false, cond}
+use Rattle.std.proofs.Common.{not, ltb, ◌&&◌, ◌||◌, ◌==◌, ◌⊎◌, inl, inr, ⊎_elim, refl, sym, ap, subst, ◌∙◌, add-one, arith}
 use Rattle.std.proofs.lemmas.List.{length_push}
 use Rattle.std.proofs.lemmas.Bool.{cases_eq, cases_lt, false≢true, ne_eqb, eqb-true, eqb-false, lt-ltb, le-ltb, or_left, or_right, and_parts, not-true}
 use Rattle.safl_term.specs.Program.{Program}
@@ -38,7 +39,8 @@ pub below_found : (t : ℕ → Bool) (n i : ℕ) → i < n → t i ≡ true → 
 unfolding one_below
 below_found t zero i l e = absurd (omega (arith, l))
 below_found t (suc n) i l e =
-    ⊎_elim (λ (same : i ≡ n). or_right (one_below t n) (t n) (ap t (sym same) ∙ e)) (λ (other : i ≡ n → ⊥). or_left (one_below t n) (t n) (below_found t n i (omega (arith, l, other)) e)) (cases_eq i n)
+    ⊎_elim (λ (same : i ≡ n). or_right (one_below t n) (t n) (ap t (sym same) ∙ e))
+    (λ (other : i ≡ n → ⊥). or_left (one_below t n) (t n) (below_found t n i (omega (arith, l, other)) e)) (cases_eq i n)
 
 -- ---- the row of a unit
 
@@ -158,7 +160,8 @@ module _ (C : Program) (v : Val) (es : List (Option Sig)) (f : ℕ) where
 
   others_known : (m : ℕ) → Known (one_below (rival C (on_from v es) f) m) (on_two v (entry_row C es (C.unit f) m)) (on_any v (entry_row C es (C.unit f) m)) (ltb f m && on_from v es f)
   others_known zero =
-      moved false false false false _ _ _ _ (below_zero (rival C (on_from v es) f)) (ap (on_two v) (entry_zero C es (C.unit f))) (ap (on_any v) (entry_zero C es (C.unit f))) (ap (λ (b : Bool). b && on_from v es f) (le-ltb f 0 (omega arith)))
+      moved false false false false _ _ _ _ (below_zero (rival C (on_from v es) f)) (ap (on_two v) (entry_zero C es (C.unit f)))
+      (ap (on_any v) (entry_zero C es (C.unit f))) (ap (λ (b : Bool). b && on_from v es f) (le-ltb f 0 (omega arith)))
       (record { is = refl; own = refl })
   others_known (suc m) = by (others_known m) (cases_eq m f)
     where
@@ -199,7 +202,8 @@ module _ (C : Program) (v : Val) (es : List (Option Sig)) (f : ℕ) where
           let q = and_parts (not (g.0 == f)) (on_from v es g.0) p.1 in
           sym one ∙ many_true C f g.0 g.1 (eqb-true (C.unit g.0) (C.unit f) p.0) (eqb-false g.0 f (not-true (g.0 == f) q.0))
 
-  pub rivals_are : (t : Bool) (own : Option Sig) → f < C.functions → t ≡ many C f → slice_get es f ≡ Some own → (t && others_on v (entry_row C es (C.unit f) C.functions) own) ≡ one_below (rival C (on_from v es) f) C.functions
+  pub rivals_are : (t : Bool) (own : Option Sig) → f < C.functions → t ≡ many C f → slice_get es f ≡ Some own →
+      (t && others_on v (entry_row C es (C.unit f) C.functions) own) ≡ one_below (rival C (on_from v es) f) C.functions
   rivals_are true own l e at =
       let k = others_known C.functions in
       ap (λ (o : Option (Option Sig)). on_two v (entry_row C es (C.unit f) C.functions) || (on_any v (entry_row C es (C.unit f) C.functions) && not (on_in v (sig_in o)))) (sym at)
@@ -221,7 +225,8 @@ push_fits n [] o h q (suc i) = tt
 push_fits n (x ∷ xs) o h q zero = h 0
 push_fits n (x ∷ xs) o h q (suc i) = push_fits n xs o (λ j. h (suc j)) q i
 
-pub below_one_more : (a b : Netlist) (k m : ℕ) (xs after : List (Option Sig)) (o : Option Sig) (says : Val → ℕ → Bool) → Builds a b k → ShowsBelow a xs m says → after ≡ xs ++ o ∷ [] → IsBitIn b o → ((v : Val) → Wired b v → on_in v o ≡ says v m)
+pub below_one_more : (a b : Netlist) (k m : ℕ) (xs after : List (Option Sig)) (o : Option Sig) (says : Val → ℕ → Bool) → Builds a b k → ShowsBelow a
+    xs m says → after ≡ xs ++ o ∷ [] → IsBitIn b o → ((v : Val) → Wired b v → on_in v o ≡ says v m)
     → ShowsBelow b after (m + 1) says
 below_one_more a b k m xs after o says g h e q r = subst (λ (l : List (Option Sig)). ShowsBelow b l (m + 1) says) (sym e) record {
   entries = let c = h.entries in length_push xs o ∙ omega (arith, c);

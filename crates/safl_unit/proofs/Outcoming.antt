@@ -1,5 +1,6 @@
 -- The outcomes of the bodies below one, and one more body.
-use Rattle.std.proofs.Common.{◌≡◌, ℕ, zero, suc, ◌+◌, ◌-◌, ◌<◌, ◌≤◌, List, [], ◌∷◌, ◌++◌, length, length-append, Vec, Global, Option, Some, None, cond, ◌⊎◌, inl, inr, add-one, slice_get, refl, sym, ap, subst, ◌∙◌, arith}
+use Rattle.std.proofs.Common.{◌≡◌, ℕ, zero, suc, ◌+◌, ◌-◌, ◌<◌, ◌≤◌, List, [], ◌∷◌, ◌++◌, length, length-append, Vec, Global, Option, Some, None}
+use Rattle.std.proofs.Common.{cond, ◌⊎◌, inl, inr, add-one, slice_get, refl, sym, ap, subst, ◌∙◌, arith}
 use Rattle.std.proofs.lemmas.Bool.{ne_eqb}
 use Rattle.std.proofs.lemmas.Option.{slice_get_within}
 use Rattle.safl_word.specs.Words.{Word}
@@ -54,7 +55,8 @@ pub record OutcomesUpTo (c : CheckedProgram) (P : Choice) (n : Netlist) (p : Pin
 only : {A : Type 0} (xs : List A) (x : A) (Q : ℕ → A → Type 0) → xs ≡ x ∷ [] → Q 0 x → EachAt xs Q
 only xs x Q e h = subst (λ l. EachAt l Q) (sym e) (each_push [] x Q (each_none Q) h)
 
-pub none_outcomes : (c : CheckedProgram) → IsChecked c → (P : Choice) (n : Netlist) (p : Pins) (o : Gathered) (x : Load) → PinsFit (program_of c) n p → o.ends.items ≡ [] → length o.rows.items ≡ (program_of c).functions
+pub none_outcomes : (c : CheckedProgram) → IsChecked c → (P : Choice) (n : Netlist) (p : Pins) (o : Gathered) (x : Load) → PinsFit (program_of c) n p
+    → o.ends.items ≡ [] → length o.rows.items ≡ (program_of c).functions
     → ((h : ℕ) → row_at o.rows.items h ≡ []) → o.wants.items ≡ x ∷ [] → x.bit ≡ p.start → x.words.items ≡ p.words.items → OutcomesUpTo c P n p 0 o
 unfolding first
 none_outcomes c h P n p o x fits a b none w bit own = record {
@@ -66,7 +68,8 @@ none_outcomes c h P n p o x fits a b none w bit own = record {
   gates = let e = total_bare load_joins o.rows.items refl none in omega (arith, e);
   wants = only o.wants.items x (λ k y. LoadFits n y ((program_of c).params ((program_of c).callee k))) w (record {
     bit = subst (λ (s : Sig). IsSource n s 1) (sym bit) fits.start;
-    words = subst (λ (l : List Sig). AreSources n l ((program_of c).params ((program_of c).callee 0))) (sym own) (subst (λ m. AreSources n p.words.items ((program_of c).params m)) (sym h.formed.main) fits.words);
+    words = subst (λ (l : List Sig). AreSources n l ((program_of c).params ((program_of c).callee 0))) (sym own)
+        (subst (λ m. AreSources n p.words.items ((program_of c).params m)) (sym h.formed.main) fits.words);
   });
   shows = λ v r i y. record {
     ends = subst (λ l. EachAt l (λ g (z : Load). taken v z ≡ one_word (end_word (program_of c) P r g))) (sym a) (each_none _);
@@ -84,7 +87,8 @@ loops_more : (c : CheckedProgram) (P : Choice) (n : Netlist) (p : Pins) (f : ℕ
     → PushesLoads ((program_of c).unit f) (length b.loops.items) b.loops.items old new
     → (h : ℕ) → h < (program_of c).functions → first_at v old h ≡ first (loop_from (program_of c) P r h) f → first_at v new h ≡ first (loop_from (program_of c) P r h) (suc f)
 unfolding first
-loops_more c P n p f b v r old new body shown joined h l e = at (side h ((program_of c).unit f)) (side h ((program_of c).unit f + length b.loops.items)) ∙ ap (λ x. or_else x (loop_from (program_of c) P r h f)) e
+loops_more c P n p f b v r old new body shown joined h l e = at (side h ((program_of c).unit f))
+    (side h ((program_of c).unit f + length b.loops.items)) ∙ ap (λ x. or_else x (loop_from (program_of c) P r h f)) e
   where
     outside : ((program_of c).unit f ≡ (program_of c).unit h → ⊥) → (h < (program_of c).unit f) ⊎ ((program_of c).unit f + length b.loops.items ≤ h)
         → first_at v new h ≡ or_else (first_at v old h) (loop_from (program_of c) P r h f)
@@ -92,7 +96,8 @@ loops_more c P n p f b v r old new body shown joined h l e = at (side h ((progra
         ap (first_taken v) (joined.others h o) ∙ sym (or_nothing (first_at v old h))
         ∙ ap (λ t. or_else (first_at v old h) (cond t (goes_to h (body_says (program_of c) P r f)) None)) (sym (ne_eqb ((program_of c).unit f) ((program_of c).unit h) d))
 
-    inside : (i : ℕ) → i < length b.loops.items → first_at v new ((program_of c).unit f + i) ≡ or_else (first_at v old ((program_of c).unit f + i)) (loop_from (program_of c) P r ((program_of c).unit f + i) f)
+    inside : (i : ℕ) → i < length b.loops.items → first_at v new ((program_of c).unit f + i) ≡ or_else (first_at v old ((program_of c).unit f + i))
+        (loop_from (program_of c) P r ((program_of c).unit f + i) f)
     inside i m =
         ap (first_taken v) (joined.pushed i m)
         ∙ taken_maybe v (row_at old ((program_of c).unit f + i)) (load_in (slice_get b.loops.items i))
@@ -192,14 +197,18 @@ all_outcomes c P n m k p f o q e h built x y count fits joined =
         wants_length = last;
         ends = subst (λ (xs : List Load). LoadsFit m xs (λ g. (program_of c).result g ∷ [])) (sym own) (loads_kept built o.ends.items (λ g. (program_of c).result g ∷ []) h.ends);
         loops = fits;
-        wants = subst (λ (xs : List Load). LoadsFit m xs (λ j. (program_of c).params ((program_of c).callee j))) (sym all) (loads_kept built o.wants.items (λ j. (program_of c).params ((program_of c).callee j)) h.wants);
+        wants = subst (λ (xs : List Load). LoadsFit m xs (λ j. (program_of c).params ((program_of c).callee j))) (sym all)
+            (loads_kept built o.wants.items (λ j. (program_of c).params ((program_of c).callee j)) h.wants);
       };
       shows = λ v r i z.
           let s = h.shows v r i (cycle_before built z) in
           let a = ap length own ∙ h.ends_length in
           record {
-            ends = λ g l. each_taken v q.ends.items (λ j. one_word (end_word (program_of c) P r j)) (subst (λ (xs : List Load). EachAt xs (λ g (w : Load). taken v w ≡ one_word (end_word (program_of c) P r g))) (sym own) s.ends) g (omega (arith, a, e, l));
+            ends = λ g l. each_taken v q.ends.items (λ j. one_word (end_word (program_of c) P r j))
+                (subst (λ (xs : List Load). EachAt xs (λ g (w : Load). taken v w ≡ one_word (end_word (program_of c) P r g))) (sym own) s.ends) g
+                (omega (arith, a, e, l));
             loops = λ g l. (joined g).shows v z.wired ∙ s.loops g l ∙ ap (first (loop_from (program_of c) P r g)) e;
-            wants = λ j l. each_taken v q.wants.items (called (program_of c) P r i) (subst (λ (xs : List Load). EachAt xs (λ g (w : Load). taken v w ≡ called (program_of c) P r i g)) (sym all) s.wants) j (omega (arith, last, l));
+            wants = λ j l. each_taken v q.wants.items (called (program_of c) P r i)
+                (subst (λ (xs : List Load). EachAt xs (λ g (w : Load). taken v w ≡ called (program_of c) P r i g)) (sym all) s.wants) j (omega (arith, last, l));
           };
     }

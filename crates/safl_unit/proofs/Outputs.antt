@@ -54,7 +54,8 @@ temps_named i (g ∷ gs) x e h = by (bytes_eq x g.name) refl (temps_named (suc i
 module _ (c : CheckedProgram) (checked : IsChecked c) (P : Choice) where
   declared_same : declared_signals (program_of c) (names_of c) P ≡ signals c checked P
   declared_same =
-      ap (λ ls. map input_line (layout_inputs (program_of c) (names_of c)) ++ (map open_register (ls ++ lines (site_lines (program_of c) P) (suc (program_of c).sites)) ++ map open_wire (layout_wires (program_of c) (names_of c) P)))
+      ap (λ ls. map input_line (layout_inputs (program_of c) (names_of c)) ++
+      (map open_register (ls ++ lines (site_lines (program_of c) P) (suc (program_of c).sites)) ++ map open_wire (layout_wires (program_of c) (names_of c) P)))
       (units_in_order c checked)
 
   -- a name without one of the heads
@@ -72,7 +73,8 @@ module _ (c : CheckedProgram) (checked : IsChecked c) (P : Choice) where
     unused h l e =
         same_names m.signals old.signals h.name same
         ∙ ap (λ gs. named_signal gs h.name) grown.is
-        ∙ named_more (declared_signals (program_of c) (names_of c) P) grown.more h.name (declared_none h l) (temps_named (wires (declared_signals (program_of c) (names_of c) P)) grown.more h.name e grown.temps)
+        ∙ named_more (declared_signals (program_of c) (names_of c) P) grown.more h.name (declared_none h l)
+        (temps_named (wires (declared_signals (program_of c) (names_of c) P)) grown.more h.name e grown.temps)
 
     neither : (a b : Bool) → a ≡ false → b ≡ false → (a || b) ≡ false
     neither true b e f = absurd (cc)
@@ -83,7 +85,8 @@ module _ (c : CheckedProgram) (checked : IsChecked c) (P : Choice) where
     done_free e =
         let head : head_of (codes "done") ≡ 16 = refl in
         unrefused (is_good (codes "done")) (has_name m (codes "done")) refl
-        (neither (named_signal m.signals (codes "done")) (named_output m.outputs (codes "done")) (unused (input_line (codes "done", 1)) (omega (arith, head)) refl) (ap (λ os. named_output os (codes "done")) e))
+        (neither (named_signal m.signals (codes "done")) (named_output m.outputs (codes "done"))
+        (unused (input_line (codes "done", 1)) (omega (arith, head)) refl) (ap (λ os. named_output os (codes "done")) e))
 
     pub result_free : (a : Netlist) (s : ℕ) → m.outputs ≡ [] → a ≡ with_output m (codes "done") s → refusal a (codes "result") ≡ None
     unfolding is_good is_reserved

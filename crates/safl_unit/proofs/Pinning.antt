@@ -1,5 +1,6 @@
 -- The registers of functions, in the order of their lines.
-use Rattle.std.proofs.Common.{◌≡◌, ℕ, zero, suc, ◌+◌, ◌-◌, ◌*◌, ◌<◌, ◌≤◌, List, [], ◌∷◌, ◌++◌, map, length, length-append, Some, Bool, true, false, cond, slice_get, ◌==◌, nat_lt, inl, inr, refl, sym, ap, subst, ◌∙◌, arith}
+use Rattle.std.proofs.Common.{◌≡◌, ℕ, zero, suc, ◌+◌, ◌-◌, ◌*◌, ◌<◌, ◌≤◌, List, [], ◌∷◌, ◌++◌, map, length, length-append, Some, Bool, true, false}
+use Rattle.std.proofs.Common.{cond, slice_get, ◌==◌, nat_lt, inl, inr, refl, sym, ap, subst, ◌∙◌, arith}
 use Rattle.std.proofs.lemmas.Bool.{eqb-true, eqb-false}
 use Rattle.std.proofs.lemmas.Option.{slice_get_within}
 use Rattle.safl_net.proofs.Naming.{pushed}
@@ -44,7 +45,8 @@ module _ (c : CheckedProgram) where
   D = names_of c
 
   pub pinned : (f : ℕ) (n a b e : Netlist) (us : List UnitPins) (u : UnitPins) (m : MemberPins)
-      → a ≡ with_signals n (map open_register (unit_head C D f)) → map sig_of (unit_ties C D f (Some u)) ≡ numbered (length n.signals) (length (unit_head C D f)) → ((C.unit f ≡ f → ⊥) → slice_get us (C.unit f) ≡ Some u)
+      → a ≡ with_signals n (map open_register (unit_head C D f)) → map sig_of (unit_ties C D f (Some u)) ≡ numbered (length n.signals)
+      (length (unit_head C D f)) → ((C.unit f ≡ f → ⊥) → slice_get us (C.unit f) ≡ Some u)
       → b ≡ with_signals a (map open_register (at_line C D f)) → cond (many C f) (m.at ∷ []) [] ≡ numbered (length a.signals) (length (at_line C D f)) → (many C f ≡ false → m.at ≡ u.run)
       → e ≡ with_signals b (map open_register (argument_lines C D f)) → m.args.items ≡ numbered (length b.signals) (arity C f)
       → Pinned C D f (length n.signals) us u m
@@ -63,7 +65,9 @@ module _ (c : CheckedProgram) where
             ∙ ap (λ l. numbered (length n.signals) (length h) ++ l)
             (map_more sig_of (cond (many C f) (((of_function D (codes "at$") f, 1), m.at) ∷ []) []) (tied g m.args.items)
             ∙ ap (λ l. l ++ map sig_of (tied g m.args.items)) (at_sigs (many C f) (of_function D (codes "at$") f, 1) m.at ∙ at ∙ ap (λ x. numbered x (length t)) la)
-            ∙ ap (λ l. numbered (length n.signals + length h) (length t) ++ l) (tied_sigs g m.args.items many_args ∙ args ∙ ap (λ x. numbered x (arity C f)) (lb ∙ ap (λ x. x + length t) la) ∙ ap (λ x. numbered (length n.signals + length h + length t) x) (sym long))
+            ∙ ap (λ l. numbered (length n.signals + length h) (length t) ++ l)
+            (tied_sigs g m.args.items many_args ∙ args ∙ ap (λ x. numbered x (arity C f)) (lb ∙ ap (λ x. x + length t) la) ∙ ap
+            (λ x. numbered (length n.signals + length h + length t) x) (sym long))
             ∙ sym (numbered_more (length n.signals + length h) (length t) (length g)))
             ∙ sym (numbered_more (length n.signals) (length h) (length t + length g))
             ∙ ap (λ x. numbered (length n.signals) x) (sym (length-append h (t ++ g) ∙ ap (λ x. length h + x) (length-append t g)));
@@ -228,7 +232,8 @@ few_sites C P (suc k) =
 
 -- ---- one more, as a loop has it
 
-pub lines_next : (n m k : Netlist) (g : Line → Signal) (h : ℕ → List Line) (f : ℕ) → m ≡ with_signals n (map g (lines h f)) → k ≡ with_signals m (map g (h f)) → k ≡ with_signals n (map g (lines h (f + 1)))
+pub lines_next : (n m k : Netlist) (g : Line → Signal) (h : ℕ → List Line) (f : ℕ) → m ≡ with_signals n (map g (lines h f)) → k ≡ with_signals m
+    (map g (h f)) → k ≡ with_signals n (map g (lines h (f + 1)))
 unfolding lines
 lines_next n m k g h f e q =
     lines_on n m k g (lines h f) (h f) e q ∙ ap (λ x. with_signals n (map g (lines h x))) (let r : suc f ≡ f + 1 = omega arith in r)
@@ -254,13 +259,15 @@ more_pinned_at c h first f next us us' slice ms ms' u m l all one e p q n =
     (subst (λ x. FunctionsPinned (program_of c) (names_of c) first x (us ++ u ∷ []) (ms ++ m ∷ [])) (let r : suc f ≡ f + 1 = omega arith in r)
     (more_pinned (program_of c) (names_of c) first f next us ms u m all (subst (λ x. Pinned (program_of c) (names_of c) f next x u m) e one) n (λ g k. (h.formed.first g (omega (arith, k, l))).0))))
 
-pub functions_count : (c : CheckedProgram) → IsChecked c → (n m : Netlist) (f : ℕ) → m ≡ with_signals n (map open_register (lines (function_lines (program_of c) (names_of c)) f)) → length m.signals ≤ length n.signals + 20 * f
+pub functions_count : (c : CheckedProgram) → IsChecked c → (n m : Netlist) (f : ℕ) → m ≡ with_signals n
+    (map open_register (lines (function_lines (program_of c) (names_of c)) f)) → length m.signals ≤ length n.signals + 20 * f
 functions_count c h n m f e =
     let a = lines_count n m open_register (lines (function_lines (program_of c) (names_of c)) f) e in
     let b = few_below c h f in
     omega (arith, a, b)
 
-pub more_sited_at : (C : Program) (P : Choice) (first k next : ℕ) (us slice : List UnitPins) (ss ss' : List SitePins) (s : SitePins) → SitesPinned C P first k us ss → SitePinned C P k next slice s → slice ≡ us
+pub more_sited_at : (C : Program) (P : Choice) (first k next : ℕ) (us slice : List UnitPins) (ss ss' : List SitePins) (s : SitePins) → SitesPinned C P
+    first k us ss → SitePinned C P k next slice s → slice ≡ us
     → ss' ≡ ss ++ s ∷ [] → next ≡ first + length (lines (site_lines C P) k) → SitesPinned C P first (k + 1) us ss'
 more_sited_at C P first k next us slice ss ss' s all one e p n =
     subst (λ x. SitesPinned C P first (k + 1) us x) (sym p)

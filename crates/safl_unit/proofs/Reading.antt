@@ -29,5 +29,6 @@ pub read_is : (n : Netlist) (v : Valuation) (s : ℕ) (g : Signal) (name : List 
 read_is n v s g name w e q = ap (λ x. read n v x) (sym q) ∙ ap (number_at v) (placed_at n s g w e)
 
 -- the next number of a register is that of its next signal
-pub read_next_is : (n : Netlist) (v : Valuation) (s m width init : ℕ) (name : List ℕ) → IsNetlist n → slice_get n.signals s ≡ Some (record { name = name; width = width; kind = Reg init (Some m) }) → read_next n v name ≡ (signal_word n v m).bits
+pub read_next_is : (n : Netlist) (v : Valuation) (s m width init : ℕ) (name : List ℕ) → IsNetlist n → slice_get n.signals s ≡ Some
+    (record { name = name; width = width; kind = Reg init (Some m) }) → read_next n v name ≡ (signal_word n v m).bits
 read_next_is n v s m width init name w e = ap (next_at n v) (placed_at n s (record { name = name; width = width; kind = Reg init (Some m) }) w e) ∙ ap (next_number v) e

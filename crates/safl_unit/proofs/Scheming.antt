@@ -1,5 +1,6 @@
 -- A circuit that is finished keeps its scheme and has its plan.
-use Rattle.std.proofs.Common.{◌≡◌, ℕ, zero, suc, ◌+◌, ◌*◌, ◌<◌, ◌≤◌, List, [], ◌∷◌, ◌++◌, map, length, length-append, Some, Bool, true, false, cond, slice_get, nat_lt, ◌==◌, inl, inr, refl, sym, ap, subst, ◌∙◌, arith, append_assoc}
+use Rattle.std.proofs.Common.{◌≡◌, ℕ, zero, suc, ◌+◌, ◌*◌, ◌<◌, ◌≤◌, List, [], ◌∷◌, ◌++◌, map, length, length-append, Some, Bool, true, false, cond}
+use Rattle.std.proofs.Common.{slice_get, nat_lt, ◌==◌, inl, inr, refl, sym, ap, subst, ◌∙◌, arith, append_assoc}
 use Rattle.std.specs.Prelude.{codes}
 use Rattle.std.proofs.lemmas.Bool.{lt-ltb, eqb-true, eqb-false}
 use Rattle.safl_word.specs.Words.{Word}
@@ -17,7 +18,8 @@ use Rattle.safl_net.proofs.CellWords.{wired_shown}
 use Rattle.safl_net.proofs.Reading.{read_output_word}
 use Rattle.safl_circuit.specs.Equations.{Registers, Inputs, Choice, next}
 use Rattle.safl_circuit.specs.Names.{Names, names_of, of_function, of_site, registers_now, registers_next, input_now}
-use Rattle.safl_circuit.specs.Layout.{Line, lines, site_wires, each_line, input_kind, register_kind, wire_kind, output_lines, layout_inputs, layout_registers, layout_wires, layout_outputs, temporaries, IsCopy, HasPlan}
+use Rattle.safl_circuit.specs.Layout.{Line, lines, site_wires, each_line, input_kind, register_kind, wire_kind, output_lines, layout_inputs}
+use Rattle.safl_circuit.specs.Layout.{layout_registers, layout_wires, layout_outputs, temporaries, IsCopy, HasPlan}
 use Rattle.safl_circuit.specs.Scheme.{Agree, Wires, Scheme}
 use Rattle.safl_lower.specs.Tables.{pin}
 use Rattle.safl_lower.proofs.Cells.{sources_length}
@@ -97,7 +99,8 @@ all_wires : (ls : List Line) → wires (map open_wire ls) ≡ length ls
 all_wires [] = refl
 all_wires (l ∷ ls) = let q = all_wires ls in omega (arith, q)
 
-module _ (c : CheckedProgram) (h : IsChecked c) (P : Choice) (old new : Netlist) (p : Pins) (b : Bank) (T : Controls) (netlist : IsNetlist new) (grown : Grows (declared_net (program_of c) (names_of c) P) old)
+module _ (c : CheckedProgram) (h : IsChecked c) (P : Choice) (old new : Netlist) (p : Pins) (b : Bank) (T : Controls) (netlist : IsNetlist new)
+    (grown : Grows (declared_net (program_of c) (names_of c) P) old)
     (pins : ArePins (program_of c) (names_of c) P p) (fits : PinsFit (program_of c) old p) (nexts : HasNext (program_of c) P old p b) (controls : HasControls (program_of c) P old p T)
     (f : Finishes (program_of c) (names_of c) P p b T old new) where
   abbrev C : Program
@@ -207,7 +210,8 @@ module _ (c : CheckedProgram) (h : IsChecked c) (P : Choice) (old new : Netlist)
       (among_ties t (call_ties C P p.first_wire T) k (suc C.sites) (omega (arith, le)) (among_cond t (nat_lt 0 k) (four k) (lt-ltb 0 k pos) a)))
 
   in_go : (k : ℕ) → 0 < k → k ≤ C.sites → Among (go_tie k) wts
-  in_go k pos le = in_call k (go_tie k) pos le (inr (inr (among_right (go_tie k) (cond (P.arbiter (unit_for C k)) (((of_site (codes "arb$") k, 1), pin T.goes.items k) ∷ []) []) (go_tie k ∷ []) (inl refl))))
+  in_go k pos le = in_call k (go_tie k) pos le (inr (inr (among_right (go_tie k)
+      (cond (P.arbiter (unit_for C k)) (((of_site (codes "arb$") k, 1), pin T.goes.items k) ∷ []) []) (go_tie k ∷ []) (inl refl))))
 
   -- ---- a cycle
 
@@ -229,7 +233,8 @@ module _ (c : CheckedProgram) (h : IsChecked c) (P : Choice) (old new : Netlist)
         let k = among_index t pts a in
         let line : slice_get (map line_of rts) k.0 ≡ Some t.0 = ap (λ l. slice_get l k.0) (register_lines c h P b full ∙ sym (register_lines c h P p.bank full_pins)) ∙ map_get line_of pts k.0 t k.1 in
         let u = map_got line_of rts k.0 t.0 line in
-        let number : t.1.0 ≡ p.first_register + k.0 = number_get p.first_register (length (layout_registers C D P)) k.0 t.1 (ap (λ l. slice_get l k.0) (sym pins.registers) ∙ map_get sig_of pts k.0 t k.1) in
+        let number : t.1.0 ≡ p.first_register + k.0 = number_get p.first_register (length (layout_registers C D P)) k.0 t.1
+        (ap (λ l. slice_get l k.0) (sym pins.registers) ∙ map_get sig_of pts k.0 t k.1) in
         let at : slice_get new.signals t.1.0 ≡ Some (set_register u.0) = ap (slice_get new.signals) number ∙ at_register k.0 u.0 u.1 in
         record {
           number = read_is new v t.1.0 (set_register u.0) t.0.0 netlist at (ap (λ (l : Line). l.0) u.2);
@@ -268,7 +273,8 @@ module _ (c : CheckedProgram) (h : IsChecked c) (P : Choice) (old new : Netlist)
       wants = λ k pos le. wire_word (want_tie k) (in_call k _ pos le (inl refl));
       rets = λ k pos le. wire_word ((of_site (codes "ret$") k, 1), pin T.rets.items k) (in_call k _ pos le (inr (inl refl)));
       arbs = λ k pos le e.
-          wire_word ((of_site (codes "arb$") k, 1), pin T.goes.items k) (in_call k _ pos le (inr (inr (among_left _ (cond (P.arbiter (unit_for C k)) (((of_site (codes "arb$") k, 1), pin T.goes.items k) ∷ []) []) _
+          wire_word ((of_site (codes "arb$") k, 1), pin T.goes.items k)
+          (in_call k _ pos le (inr (inr (among_left _ (cond (P.arbiter (unit_for C k)) (((of_site (codes "arb$") k, 1), pin T.goes.items k) ∷ []) []) _
           (among_cond _ (P.arbiter (unit_for C k)) _ e (inl refl))))));
       granted = λ k pos le e. wire_word (go_tie k) (in_go k pos le) ∙ ap (λ t. (w (cond t (pin T.goes.items k) (record { 0 = want_wire C P p.first_wire k })).0).bits) e;
       direct = λ k pos le e.

@@ -1,5 +1,6 @@
 -- Registers and wires that are set one after another.
-use Rattle.std.proofs.Common.{◌≡◌, ℕ, zero, suc, ◌+◌, ◌<◌, ◌≤◌, List, [], ◌∷◌, ◌++◌, map, length, length-append, take, Some, None, slice_get, ◌⊎◌, inl, inr, refl, sym, ap, subst, ◌∙◌, arith, append_assoc, true}
+use Rattle.std.proofs.Common.{◌≡◌, ℕ, zero, suc, ◌+◌, ◌<◌, ◌≤◌, List, [], ◌∷◌, ◌++◌, map, length, length-append, take, Some, None, slice_get, ◌⊎◌}
+use Rattle.std.proofs.Common.{inl, inr, refl, sym, ap, subst, ◌∙◌, arith, append_assoc, true}
 use Rattle.std.proofs.lemmas.Bool.{eqb-true, eqb-false}
 use Rattle.std.proofs.Common.{Bool, false, ◌==◌}
 use Rattle.safl_net.specs.declared.cell.Sig.{Sig}
@@ -67,7 +68,8 @@ kinds_outputs n t (k ∷ ks) = kinds_outputs (with_kind n t k) (suc t) ks
 
 kinds_end : (n : Netlist) (t : ℕ) (ks : List Kind) (k : Kind) → with_kinds n t (ks ++ k ∷ []) ≡ with_kind (with_kinds n t ks) (t + length ks) k
 kinds_end n t [] k = ap (λ x. with_kind n x k) (let e : t ≡ t + 0 = omega arith in e)
-kinds_end n t (j ∷ ks) k = kinds_end (with_kind n t j) (suc t) ks k ∙ ap (λ x. with_kind (with_kinds (with_kind n t j) (suc t) ks) x k) (let e : suc t + length ks ≡ t + suc (length ks) = omega arith in e)
+kinds_end n t (j ∷ ks) k = kinds_end (with_kind n t j) (suc t) ks k ∙ ap (λ x. with_kind (with_kinds (with_kind n t j) (suc t) ks) x k)
+    (let e : suc t + length ks ≡ t + suc (length ks) = omega arith in e)
 
 pub takes_kept : (n : Netlist) (t : ℕ) (ks : List Kind) (u : ℕ) (k : Kind) (s : Sig) → t + length ks ≤ u → Takes n u k s → Takes (with_kinds n t ks) u k s
 takes_kept n t ks u k s l h = record {
@@ -78,7 +80,8 @@ takes_kept n t ks u k s l h = record {
 
 -- ---- one more, as a loop has it
 
-module _ (n m : Netlist) (first i : ℕ) (make : Sig → Kind) (all : List Sig) (s : Sig) (at : slice_get all i ≡ Some s) (inside : i < length all) (is : m ≡ with_kinds n first (map make (take i all))) where
+module _ (n m : Netlist) (first i : ℕ) (make : Sig → Kind) (all : List Sig) (s : Sig) (at : slice_get all i ≡ Some s) (inside : i < length all)
+    (is : m ≡ with_kinds n first (map make (take i all))) where
   here : first + i ≡ first + length (map make (take i all))
   here = let a = map_long make (take i all) in let b = take_long all i (omega (arith, inside)) in omega (arith, a, b)
 
@@ -105,7 +108,8 @@ set_there : (front back : List Signal) (x : Signal) (k : Kind) → set_kind (fro
 set_there [] back x k = refl
 set_there (g ∷ front) back x k = ap (λ l. g ∷ l) (set_there front back x k)
 
-pub kinds_list : (n : Netlist) (first : ℕ) (front xs back : List Signal) (ks : List Kind) → first ≡ length front → length xs ≡ length ks → n.signals ≡ front ++ (xs ++ back) → (with_kinds n first ks).signals ≡ front ++ (kinded xs ks ++ back)
+pub kinds_list : (n : Netlist) (first : ℕ) (front xs back : List Signal) (ks : List Kind) → first ≡ length front → length xs ≡ length ks → n.signals ≡
+    front ++ (xs ++ back) → (with_kinds n first ks).signals ≡ front ++ (kinded xs ks ++ back)
 kinds_list n first front [] back [] f l e = e
 kinds_list n first front [] back (k ∷ ks) f l e = absurd (omega (arith, l))
 kinds_list n first front (x ∷ xs) back [] f l e = e
@@ -197,7 +201,8 @@ tidy_set n s k e h = record {
         let q = h.signals t w.before w.at (ap is_temp (sym w.name) ∙ temp) in
         (same t g w.before w.at w.kind ∙ q.0, w.name ∙ q.1 ∙ ap temp_name (sym (wires_kept n.signals s k t e)))
 
-pub tidy_kinds : (n : Netlist) (t : ℕ) (k : Kind) (make : Sig → Kind) (ss : List Sig) → ((s : Sig) → one_wire (make s) ≡ one_wire k) → IsOpen n t k ss → IsTidy n → IsTidy (with_kinds n t (map make ss))
+pub tidy_kinds : (n : Netlist) (t : ℕ) (k : Kind) (make : Sig → Kind) (ss : List Sig) → ((s : Sig) → one_wire (make s) ≡ one_wire k) → IsOpen n t k ss
+    → IsTidy n → IsTidy (with_kinds n t (map make ss))
 tidy_kinds n t k make [] e h w = w
 tidy_kinds n t k make (s ∷ ss) e h w =
     tidy_kinds (with_kind n t (make s)) (suc t) k make ss e (open_rest n t k (make s) s ss h) (tidy_set n t (make s) (e s ∙ ap one_wire (sym (open_here n t k s ss h))) w)

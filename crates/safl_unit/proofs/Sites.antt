@@ -28,9 +28,11 @@ chosen true true x y z h = h refl
 chosen true false x y z h = refl
 chosen false late x y z h = refl
 
-module _ (C : Program) (P : Choice) (v : Val) (r : Registers) (k : ℕ) (u : UnitPins) (s : SitePins) (x : SiteReturn) (h : SiteShown v (P.kept (suc k)) u s x) (a : UnitShows v u r (unit_for C (suc k))) (b : SiteShows P v s r (suc k)) where
+module _ (C : Program) (P : Choice) (v : Val) (r : Registers) (k : ℕ) (u : UnitPins) (s : SitePins) (x : SiteReturn)
+    (h : SiteShown v (P.kept (suc k)) u s x) (a : UnitShows v u r (unit_for C (suc k))) (b : SiteShows P v s r (suc k)) where
   pub ret_shown : on v x.ret ≡ ret C r (suc k)
-  ret_shown = h.ret ∙ ap (λ (q : Bool). q && (on v s.sent && not (on v s.got))) a.fin ∙ ap (λ (q : Bool). r.fin (unit_for C (suc k)) && (q && not (on v s.got))) b.sent ∙ ap (λ (q : Bool). r.fin (unit_for C (suc k)) && (r.sent (suc k) && not q)) b.got
+  ret_shown = h.ret ∙ ap (λ (q : Bool). q && (on v s.sent && not (on v s.got))) a.fin ∙ ap
+      (λ (q : Bool). r.fin (unit_for C (suc k)) && (q && not (on v s.got))) b.sent ∙ ap (λ (q : Bool). r.fin (unit_for C (suc k)) && (r.sent (suc k) && not q)) b.got
 
   word_shown : v x.ports.value.0 ≡ word_on C P r (suc k)
   word_shown =
@@ -83,7 +85,8 @@ pub longer : {A : Type 0} (xs ys : List A) (a : A) (m : ℕ) → length xs ≡ s
 longer xs ys a m l e = let h = ap (λ (zs : List _). length zs) e in let k = length-append xs (a ∷ []) in omega (arith, h, k, l)
 
 module _ (C : Program) (P : Choice) (a b : Netlist) (p : Pins) (s t : Returns) (m : ℕ) (u : UnitPins) (q : SitePins) (x : SiteReturn) (all : SoFar C P a p s m) (built : Builds a b 5)
-    (at : slice_get p.bank.units.items (C.callee (suc m)) ≡ Some u) (own : slice_get p.bank.sites.items (suc m) ≡ Some q) (bit : IsSource b x.ret 1) (port : PortFits b x.ports (C.result (C.callee (suc m))))
+    (at : slice_get p.bank.units.items (C.callee (suc m)) ≡ Some u) (own : slice_get p.bank.sites.items (suc m) ≡ Some q) (bit : IsSource b x.ret 1)
+    (port : PortFits b x.ports (C.result (C.callee (suc m))))
     (shown : (v : Val) → Wired b v → SiteShown v (P.kept (suc m)) u q x) (rets : t.ret.items ≡ s.ret.items ++ x.ret ∷ []) (ports : t.ports.items ≡ s.ports.items ++ x.ports ∷ []) where
   pub more_so_far : SoFar C P b p t (suc m)
   more_so_far = record {
@@ -93,7 +96,8 @@ module _ (C : Program) (P : Choice) (a b : Netlist) (p : Pins) (s t : Returns) (
     ports = one_more s.ports.items t.ports.items x.ports m (λ k y. 0 < k → PortFits b y (C.result (C.callee k))) all.ports_length ports (λ k y e l. port_kept built (all.ports k y e l)) (λ l. port);
     delivers = λ v r i c. one_more s.ret.items t.ret.items x.ret m (λ k y. 0 < k → on v y ≡ ret C r k) all.ret_length rets (all.delivers v r i (cycle_before built c))
         (λ l. ret_shown C P v r m u q x (shown v c.wired) (c.bank.units (C.callee (suc m)) u at) (c.bank.sites (suc m) q own (omega arith)));
-    backs = λ v r i c. one_more s.ports.items t.ports.items x.ports m (λ k y. 0 < k → gate (on v y.returned) (Some (v y.value.0)) ≡ on_wires C P r k) all.ports_length ports (all.backs v r i (cycle_before built c))
+    backs = λ v r i c. one_more s.ports.items t.ports.items x.ports m (λ k y. 0 < k → gate (on v y.returned) (Some (v y.value.0)) ≡ on_wires C P r k)
+        all.ports_length ports (all.backs v r i (cycle_before built c))
         (λ l. back_shown C P v r m u q x (shown v c.wired) (c.bank.units (C.callee (suc m)) u at) (c.bank.sites (suc m) q own (omega arith)));
     sents = λ v r i c. one_more s.ports.items t.ports.items x.ports m (λ k y. 0 < k → on v y.sent ≡ r.sent k) all.ports_length ports (all.sents v r i (cycle_before built c))
         (λ l. sent_shown C P v r m u q x (shown v c.wired) (c.bank.units (C.callee (suc m)) u at) (c.bank.sites (suc m) q own (omega arith)));

@@ -1,5 +1,6 @@
 -- The next words of the registers, by one entry more.
-use Rattle.std.proofs.Common.{◌≡◌, ℕ, suc, ◌+◌, ◌<◌, List, [], ◌∷◌, ◌++◌, length, length-append, Option, Some, Bool, true, false, cond, Result, Ok, Err, IfOk, slice_get, slice_index_or, ◌⊎◌, ⊎_elim, refl, sym, ap, subst, ◌∙◌, arith}
+use Rattle.std.proofs.Common.{◌≡◌, ℕ, suc, ◌+◌, ◌<◌, List, [], ◌∷◌, ◌++◌, length, length-append, Option, Some, Bool, true, false, cond, Result, Ok}
+use Rattle.std.proofs.Common.{Err, IfOk, slice_get, slice_index_or, ◌⊎◌, ⊎_elim, refl, sym, ap, subst, ◌∙◌, arith}
 use Rattle.safl_term.specs.Program.{Program}
 use Rattle.safl_calls.proofs.Basics.{some_is}
 use Rattle.safl_net.specs.declared.cell.Sig.{Sig}
@@ -56,7 +57,8 @@ no_units C n now ends starts after e = record {
       (each_none (λ f y. (x : UnitPins) → slice_get now (C.unit f) ≡ Some x → UnitStep v (taken_from v ends (C.unit f)) (on_from v starts (C.unit f)) x y));
 }
 
-module _ (C : Program) (a b : Netlist) (now : List UnitPins) (ends : List (Option Load)) (starts : List (Option Sig)) (all ys : List UnitPins) (f u : ℕ) (end : Option Load) (start : Option Sig) (x y : UnitPins)
+module _ (C : Program) (a b : Netlist) (now : List UnitPins) (ends : List (Option Load)) (starts : List (Option Sig)) (all ys : List UnitPins)
+    (f u : ℕ) (end : Option Load) (start : Option Sig) (x y : UnitPins)
     (so : UnitsNext C a now ends starts all f) (built : Builds a b 5) (of : u ≡ C.unit f) (width : C.result u ≡ C.result f) (own : C.unit u ≡ u)
     (at_end : slice_get ends u ≡ Some end) (at_start : slice_get starts u ≡ Some start) (at : slice_get now u ≡ Some x)
     (this : (slice_get all u ≡ Some y) ⊎ (UnitFits b y (C.result u) × ((v : Val) → Wired b v → UnitStep v (taken_in v end) (on_in v start) x y))) (push : ys ≡ all ++ y ∷ []) where
@@ -67,7 +69,8 @@ module _ (C : Program) (a b : Netlist) (now : List UnitPins) (ends : List (Optio
   StepAt v k y = (x : UnitPins) → slice_get now k ≡ Some x → Step v k x y
 
   fit_here : UnitFits b y (C.result f)
-  fit_here = subst (λ (w : ℕ). UnitFits b y w) width (⊎_elim (λ (e : slice_get all u ≡ Some y). unit_kept built (so.fits u y e)) (λ (h : UnitFits b y (C.result u) × ((v : Val) → Wired b v → UnitStep v (taken_in v end) (on_in v start) x y)). h.0) this)
+  fit_here = subst (λ (w : ℕ). UnitFits b y w) width (⊎_elim (λ (e : slice_get all u ≡ Some y). unit_kept built (so.fits u y e))
+      (λ (h : UnitFits b y (C.result u) × ((v : Val) → Wired b v → UnitStep v (taken_in v end) (on_in v start) x y)). h.0) this)
 
   own_step : (v : Val) → UnitStep v (taken_in v end) (on_in v start) x y → StepAt v u y
   own_step v h z e =
@@ -88,16 +91,19 @@ module _ (C : Program) (a b : Netlist) (now : List UnitPins) (ends : List (Optio
     shows = λ v w. next_entry all ys y f (λ g z. StepAt v (C.unit g) z) so.entries push (so.shows v (wired_before built.grows w)) (step_here v w);
   }
 
-pub no_members : (C : Program) (n : Netlist) (now : List MemberPins) (entries rivals : List (Option Sig)) (loads looped : List (Option Load)) (after : List MemberPins) → after ≡ [] → MembersNext C n now entries rivals loads looped after 0
+pub no_members : (C : Program) (n : Netlist) (now : List MemberPins) (entries rivals : List (Option Sig)) (loads looped : List (Option Load))
+    (after : List MemberPins) → after ≡ [] → MembersNext C n now entries rivals loads looped after 0
 no_members C n now entries rivals loads looped after e = record {
   entries_after = ap (λ (zs : List MemberPins). length zs) e;
   fits = subst (λ (zs : List MemberPins). EachAt zs (λ f y. MemberFits n y (C.params f))) (sym e) (each_none (λ f y. MemberFits n y (C.params f)));
   shows = λ v w.
-      subst (λ (zs : List MemberPins). EachAt zs (λ f y. (x : MemberPins) → slice_get now f ≡ Some x → MemberStep v (many C f) (on_from v entries f) (on_from v rivals f) (taken_from v loads f) (taken_from v looped f) x y)) (sym e)
+      subst (λ (zs : List MemberPins). EachAt zs (λ f y. (x : MemberPins) → slice_get now f ≡ Some x → MemberStep v (many C f) (on_from v entries f)
+      (on_from v rivals f) (taken_from v loads f) (taken_from v looped f) x y)) (sym e)
       (each_none (λ f y. (x : MemberPins) → slice_get now f ≡ Some x → MemberStep v (many C f) (on_from v entries f) (on_from v rivals f) (taken_from v loads f) (taken_from v looped f) x y));
 }
 
-module _ (C : Program) (a b : Netlist) (k : ℕ) (now : List MemberPins) (entries rivals : List (Option Sig)) (loads looped : List (Option Load)) (all ys : List MemberPins) (f : ℕ) (e r : Option Sig) (l g : Option Load) (x y : MemberPins)
+module _ (C : Program) (a b : Netlist) (k : ℕ) (now : List MemberPins) (entries rivals : List (Option Sig)) (loads looped : List (Option Load))
+    (all ys : List MemberPins) (f : ℕ) (e r : Option Sig) (l g : Option Load) (x y : MemberPins)
     (so : MembersNext C a now entries rivals loads looped all f) (built : Builds a b k) (at_entry : slice_get entries f ≡ Some e) (at_rival : slice_get rivals f ≡ Some r)
     (at_load : slice_get loads f ≡ Some l) (at_loop : slice_get looped f ≡ Some g) (at : slice_get now f ≡ Some x) (fit : MemberFits b y (C.params f))
     (shown : (v : Val) → Wired b v → MemberStep v (many C f) (on_in v e) (on_in v r) (taken_in v l) (taken_in v g) x y) (push : ys ≡ all ++ y ∷ []) where
@@ -124,16 +130,20 @@ abbrev SiteNext : Program → Choice → List UnitPins → List SitePins → Lis
 SiteNext C P units now rets goes clears v k y = (u : UnitPins) (x : SitePins) → slice_get units (C.callee k) ≡ Some u → slice_get now k ≡ Some x
     → SiteStep v (P.kept k) (on v (pin rets k)) (on v (pin goes k)) (on_from v clears (C.unit (C.caller k))) (v u.res.0) x y
 
-pub no_sites : (C : Program) (P : Choice) (n : Netlist) (units : List UnitPins) (now : List SitePins) (rets goes : List Sig) (clears : List (Option Sig)) (after : List SitePins) → length after ≡ 1 → SitesNext C P n units now rets goes clears after 0
+pub no_sites : (C : Program) (P : Choice) (n : Netlist) (units : List UnitPins) (now : List SitePins) (rets goes : List Sig)
+    (clears : List (Option Sig)) (after : List SitePins) → length after ≡ 1 → SitesNext C P n units now rets goes clears after 0
 no_sites C P n units now rets goes clears after e = record {
   entries = e;
   fits = first_only after (λ k y. SiteFits n y (C.result (C.callee k))) e;
   shows = λ v w. first_only after (λ k y. SiteNext C P units now rets goes clears v k y) e;
 }
 
-module _ (C : Program) (P : Choice) (a b : Netlist) (units : List UnitPins) (now : List SitePins) (rets goes : List Sig) (clears : List (Option Sig)) (all ys : List SitePins) (m k : ℕ) (next : k ≡ suc m) (u : UnitPins) (clear : Option Sig) (x y : SitePins)
-    (so : SitesNext C P a units now rets goes clears all m) (built : Builds a b 7) (at_unit : slice_get units (C.callee k) ≡ Some u) (at_clear : slice_get clears (C.unit (C.caller k)) ≡ Some clear) (at : slice_get now k ≡ Some x)
-    (fit : SiteFits b y (C.result (C.callee k))) (shown : (v : Val) → Wired b v → SiteStep v (P.kept k) (on v (pin rets k)) (on v (pin goes k)) (on_in v clear) (v u.res.0) x y) (push : ys ≡ all ++ y ∷ []) where
+module _ (C : Program) (P : Choice) (a b : Netlist) (units : List UnitPins) (now : List SitePins) (rets goes : List Sig) (clears : List (Option Sig))
+    (all ys : List SitePins) (m k : ℕ) (next : k ≡ suc m) (u : UnitPins) (clear : Option Sig) (x y : SitePins)
+    (so : SitesNext C P a units now rets goes clears all m) (built : Builds a b 7) (at_unit : slice_get units (C.callee k) ≡ Some u)
+    (at_clear : slice_get clears (C.unit (C.caller k)) ≡ Some clear) (at : slice_get now k ≡ Some x)
+    (fit : SiteFits b y (C.result (C.callee k))) (shown : (v : Val) → Wired b v → SiteStep v (P.kept k) (on v (pin rets k)) (on v (pin goes k))
+    (on_in v clear) (v u.res.0) x y) (push : ys ≡ all ++ y ∷ []) where
   site_here : (v : Val) → Wired b v → SiteNext C P units now rets goes clears v k y
   site_here v w h z q s =
       let same : x ≡ z = some_is x z (sym at ∙ s) in

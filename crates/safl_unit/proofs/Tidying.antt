@@ -49,10 +49,18 @@ lasting_site : (C : Program) (P : Choice) (k : ℕ) → Lasting (site_lines C P 
 lasting_site C P k = lasting_cond (nat_lt 0 k) _ (refl, (refl, lasting_cond (P.kept k) _ (refl, tt)))
 
 lasting_call : (C : Program) (P : Choice) (k : ℕ) → Lasting (site_wires C P k)
-lasting_call C P k = lasting_cond (nat_lt 0 k) _ (refl, (refl, lasting_more (cond (P.arbiter (unit_for C k)) ((of_site (codes "arb$") k, 1) ∷ []) []) _ (lasting_cond (P.arbiter (unit_for C k)) _ (refl, tt)) (refl, tt)))
+lasting_call C P k = lasting_cond (nat_lt 0 k) _ (
+  refl,
+  (
+    refl,
+    lasting_more (cond (P.arbiter (unit_for C k)) ((of_site (codes "arb$") k, 1) ∷ []) [])
+        _ (lasting_cond (P.arbiter (unit_for C k)) _ (refl, tt)) (refl, tt),
+  ),
+)
 
 lasting_registers : (C : Program) (D : Names) (P : Choice) → Lasting (layout_registers C D P)
-lasting_registers C D P = lasting_more (lines (unit_lines C D) C.functions) _ (lasting_lines (unit_lines C D) C.functions (λ u. lasting_unit C D u)) (lasting_lines (site_lines C P) (suc C.sites) (λ k. lasting_site C P k))
+lasting_registers C D P = lasting_more (lines (unit_lines C D) C.functions) _ (lasting_lines (unit_lines C D) C.functions (λ u. lasting_unit C D u))
+    (lasting_lines (site_lines C P) (suc C.sites) (λ k. lasting_site C P k))
 
 lasting_wires : (C : Program) (D : Names) (P : Choice) → Lasting (layout_wires C D P)
 lasting_wires C D P =
@@ -86,7 +94,9 @@ declared_tidy C D P n e = record {
     all : NoTemps (declared_signals C D P)
     all =
         none_more (map input_line (layout_inputs C D)) _ (none_made input_line (λ l. refl) (layout_inputs C D) (lasting_inputs C D))
-        (none_more (map open_register (layout_registers C D P)) _ (none_made open_register (λ l. refl) (layout_registers C D P) (lasting_registers C D P)) (none_made open_wire (λ l. refl) (layout_wires C D P) (lasting_wires C D P)))
+        (none_more (map open_register (layout_registers C D P)) _
+        (none_made open_register (λ l. refl) (layout_registers C D P) (lasting_registers C D P))
+        (none_made open_wire (λ l. refl) (layout_wires C D P) (lasting_wires C D P)))
 
     by : (i : ℕ) (o : List ℕ × ℕ) → None ≡ Some o → is_temp o.0 ≡ false
     by i o q = absurd (cc)
@@ -119,7 +129,8 @@ declared_settled C D P n e = record {
     all : NoCells (declared_signals C D P)
     all =
         cells_more (map input_line (layout_inputs C D)) _ (cells_made input_line (λ l c k. absurd (cc)) (layout_inputs C D))
-        (cells_more (map open_register (layout_registers C D P)) _ (cells_made open_register (λ l c k. absurd (cc)) (layout_registers C D P)) (cells_made open_wire (λ l c k. absurd (cc)) (layout_wires C D P)))
+        (cells_more (map open_register (layout_registers C D P)) _ (cells_made open_register (λ l c k. absurd (cc)) (layout_registers C D P))
+        (cells_made open_wire (λ l c k. absurd (cc)) (layout_wires C D P)))
 
     none : (s : ℕ) (g : Signal) (c : Cell) → slice_get n.signals s ≡ Some g → g.kind ≡ Wire (Some c) → ⊥
     none s g c at kind = no_cell_at (declared_signals C D P) s g c all (ap (λ (m : Netlist). slice_get m.signals s) (sym e) ∙ at) kind

@@ -12,7 +12,8 @@ use Rattle.safl_circuit.specs.Names.{Names, names_of, of_site, of_param}
 use Rattle.safl_circuit.specs.Layout.{Line, lines, site_lines, function_wires, site_wires, layout_inputs, layout_wires}
 use Rattle.safl_unit.specs.Declaring.{unit_head, at_line, argument_lines, function_lines}
 use Rattle.safl_unit.proofs.Legal.{IsPiece, name_piece, decimal_piece, decimal_digits, good_headed, pair_parts, after_mark, piece_before, piece_after}
-use Rattle.safl_unit.proofs.Apart.{Each, Other, Differ, each_more, each_weaker, each_cond, each_lines, each_named, differ_more, differ_cond, differ_named, differ_lines, head_of, key_of, Belongs, Between, between_of, heads_apart, headed}
+use Rattle.safl_unit.proofs.Apart.{Each, Other, Differ, each_more, each_weaker, each_cond, each_lines, each_named, differ_more, differ_cond}
+use Rattle.safl_unit.proofs.Apart.{differ_named, differ_lines, head_of, key_of, Belongs, Between, between_of, heads_apart, headed}
 
 -- the names of functions and parameters are names of the language, and differ, and sites have few digits
 pub record AreTitled (C : Program) (D : Names) : Type 0 where
@@ -97,7 +98,8 @@ module _ (C : Program) (D : Names) (P : Choice) (t : AreTitled C D) where
     function_names : Each (λ l. Belongs 2 7 (D.name f) l.0) (function_lines C D f)
     function_names = each_more (λ l. Belongs 2 7 (D.name f) l.0) (unit_head C D f) (at_line C D f ++ argument_lines C D f)
         (each_weaker (λ l. Belongs 2 5 (D.name f) l.0) (λ l. Belongs 2 7 (D.name f) l.0) (unit_head C D f) (λ l h. wider 2 5 2 7 (D.name f) l.0 (omega arith) (omega arith) h) unit_names)
-        (each_weaker (λ l. Belongs 5 7 (D.name f) l.0) (λ l. Belongs 2 7 (D.name f) l.0) (at_line C D f ++ argument_lines C D f) (λ l h. wider 5 7 2 7 (D.name f) l.0 (omega arith) (omega arith) h) own_names)
+        (each_weaker (λ l. Belongs 5 7 (D.name f) l.0) (λ l. Belongs 2 7 (D.name f) l.0) (at_line C D f ++ argument_lines C D f)
+        (λ l h. wider 5 7 2 7 (D.name f) l.0 (omega arith) (omega arith) h) own_names)
 
     function_differ : Differ (function_lines C D f)
     function_differ =
@@ -106,8 +108,10 @@ module _ (C : Program) (D : Names) (P : Choice) (t : AreTitled C D) where
         (differ_more (at_line C D f) (argument_lines C D f)
         (differ_cond (many C f) _ (tt, tt))
         (differ_named (of_param D f) (λ x. after_mark (after_mark x)) (D.params f) (C.params f) (λ x. piece_after (D.name f) x (t.name f l).all) (t.params_differ f))
-        (heads_apart 5 6 6 7 (at_line C D f) (argument_lines C D f) (omega arith) (each_between 5 6 (D.name f) (at_line C D f) at_names) (each_between 6 7 (D.name f) (argument_lines C D f) argument_names)))
-        (heads_apart 2 5 5 7 (unit_head C D f) (at_line C D f ++ argument_lines C D f) (omega arith) (each_between 2 5 (D.name f) (unit_head C D f) unit_names) (each_between 5 7 (D.name f) (at_line C D f ++ argument_lines C D f) own_names))
+        (heads_apart 5 6 6 7 (at_line C D f) (argument_lines C D f) (omega arith) (each_between 5 6 (D.name f) (at_line C D f) at_names)
+        (each_between 6 7 (D.name f) (argument_lines C D f) argument_names)))
+        (heads_apart 2 5 5 7 (unit_head C D f) (at_line C D f ++ argument_lines C D f) (omega arith)
+        (each_between 2 5 (D.name f) (unit_head C D f) unit_names) (each_between 5 7 (D.name f) (at_line C D f ++ argument_lines C D f) own_names))
 
     wire_names : Each (λ l. Belongs 10 12 (D.name f) l.0) (function_wires D f)
     unfolding is_reserved
@@ -152,14 +156,16 @@ module _ (C : Program) (D : Names) (P : Choice) (t : AreTitled C D) where
       (
         headed 12 16 13 (codes "ret$") (decimal k) piece refl (omega arith) refl refl (omega arith) (omega arith) refl,
         each_more (λ l. Belongs 12 16 (decimal k) l.0) (cond (P.arbiter (unit_for C k)) ((of_site (codes "arb$") k, 1) ∷ []) []) ((of_site (codes "go$") k, 1) ∷ [])
-            (each_cond (λ l. Belongs 12 16 (decimal k) l.0) (P.arbiter (unit_for C k)) _ (λ v. (headed 12 16 14 (codes "arb$") (decimal k) piece refl (omega arith) refl refl (omega arith) (omega arith) refl, tt)))
+            (each_cond (λ l. Belongs 12 16 (decimal k) l.0) (P.arbiter (unit_for C k)) _
+            (λ v. (headed 12 16 14 (codes "arb$") (decimal k) piece refl (omega arith) refl refl (omega arith) (omega arith) refl, tt)))
             (headed 12 16 15 (codes "go$") (decimal k) piece refl (omega arith) refl refl (omega arith) (omega arith) refl, tt),
       ),
     ))
 
     last_wires : (a b c : Line) (m : ℕ) → head_of a.0 ≡ m → m < 14 → head_of b.0 ≡ 14 → head_of c.0 ≡ 15 → Each (Other a) (cond (P.arbiter (unit_for C k)) (b ∷ []) [] ++ c ∷ [])
     last_wires a b c m e n p q =
-        each_more (Other a) (cond (P.arbiter (unit_for C k)) (b ∷ []) []) (c ∷ []) (each_cond (Other a) (P.arbiter (unit_for C k)) _ (λ v. (unlike m 14 a.0 b.0 e p (omega (arith, n)), tt))) (unlike m 15 a.0 c.0 e q (omega (arith, n)), tt)
+        each_more (Other a) (cond (P.arbiter (unit_for C k)) (b ∷ []) []) (c ∷ [])
+        (each_cond (Other a) (P.arbiter (unit_for C k)) _ (λ v. (unlike m 14 a.0 b.0 e p (omega (arith, n)), tt))) (unlike m 15 a.0 c.0 e q (omega (arith, n)), tt)
 
     call_differ : Differ (site_wires C P k)
     call_differ = differ_cond (nat_lt 0 k) _ (
@@ -223,7 +229,8 @@ module _ (C : Program) (D : Names) (P : Choice) (t : AreTitled C D) where
       (λ k l. each_weaker (λ x. Belongs 12 16 (decimal k) x.0) (λ x. key_of x.0 ≡ codes "main" → ⊥) (site_wires C P k) (λ x h e. some_digits k l (sym h.key_is ∙ e)) (call_names k l))
 
   call_wires_heads : Each (λ l. Between 12 16 l.0) (lines (site_wires C P) (suc C.sites) ++ (codes "go$main", 1) ∷ [])
-  call_wires_heads = each_more (λ l. Between 12 16 l.0) (lines (site_wires C P) (suc C.sites)) ((codes "go$main", 1) ∷ []) call_heads (broader 15 16 12 16 (codes "go$main") (omega arith) (omega arith) main_head, tt)
+  call_wires_heads = each_more (λ l. Between 12 16 l.0) (lines (site_wires C P) (suc C.sites)) ((codes "go$main", 1) ∷ []) call_heads
+      (broader 15 16 12 16 (codes "go$main") (omega arith) (omega arith) main_head, tt)
 
   wire_heads : Each (λ l. Between 10 16 l.0) (layout_wires C D P)
   wire_heads = each_more (λ l. Between 10 16 l.0) (lines (function_wires D) C.functions) (lines (site_wires C P) (suc C.sites) ++ (codes "go$main", 1) ∷ [])

@@ -54,16 +54,19 @@ events_fit C P n p e q = record {
   rivals = q.rivals.fits;
 }
 
-pub units_next_kept : {a b : Netlist} {k : ℕ} → Builds a b k → {C : Program} {now : List UnitPins} {ends : List (Option Load)} {starts : List (Option Sig)} {after : List UnitPins} {count : ℕ} → UnitsNext C a now ends starts after count → UnitsNext C b now ends starts after count
+pub units_next_kept : {a b : Netlist} {k : ℕ} → Builds a b k → {C : Program} {now : List UnitPins} {ends : List (Option Load)}
+    {starts : List (Option Sig)} {after : List UnitPins} {count : ℕ} → UnitsNext C a now ends starts after count → UnitsNext C b now ends starts after count
 units_next_kept h q = record { entries = q.entries; fits = λ f y e. unit_kept h (q.fits f y e); shows = λ v w. q.shows v (wired_before h.grows w) }
 
-pub members_next_kept : {a b : Netlist} {k : ℕ} → Builds a b k → {C : Program} {now : List MemberPins} {entries rivals : List (Option Sig)} {loads looped : List (Option Load)} {after : List MemberPins} {count : ℕ}
+pub members_next_kept : {a b : Netlist} {k : ℕ} → Builds a b k → {C : Program} {now : List MemberPins} {entries rivals : List (Option Sig)}
+    {loads looped : List (Option Load)} {after : List MemberPins} {count : ℕ}
     → MembersNext C a now entries rivals loads looped after count → MembersNext C b now entries rivals loads looped after count
 members_next_kept h q = record { entries_after = q.entries_after; fits = λ f y e. member_kept h (q.fits f y e); shows = λ v w. q.shows v (wired_before h.grows w) }
 
 -- ---- the registers
 
-pub has_next : (C : Program) (P : Choice) (n : Netlist) (p : Pins) (s : Returns) (o : Outcomes) (goes : List Sig) (e : Events) (b : Bank) → IsWellFormed C → PinsFit C n p → HasReturns C P n p s → HasOutcomes C P n p o → HasGoes C P n p goes
+pub has_next : (C : Program) (P : Choice) (n : Netlist) (p : Pins) (s : Returns) (o : Outcomes) (goes : List Sig) (e : Events) (b : Bank) →
+    IsWellFormed C → PinsFit C n p → HasReturns C P n p s → HasOutcomes C P n p o → HasGoes C P n p goes
     → HasEvents C P n p e → UnitsNext C n p.bank.units.items e.ends.items e.starts.items b.units.items C.functions
     → MembersNext C n p.bank.members.items e.entries.items e.rivals.items e.loads.items o.loops.items b.members.items C.functions
     → SitesNext C P n p.bank.units.items p.bank.sites.items s.ret.items goes e.clears.items b.sites.items C.sites → HasNext C P n p b
@@ -79,7 +82,8 @@ has_next C P n p s o goes e b formed pf hs ho hg he U M S = record {
         let ul : u < C.functions = omega (arith, low, within, count) in
         let many = pf.bank.units_length in
         let x = port_there p.bank.units.items u (omega (arith, ul, many)) in
-        unit_follows C P v r i u (taken_from v e.ends.items u) (on_from v e.starts.items u) x.0 y (U.shows v c.wired f y q x.0 x.1) (subst (λ (k : ℕ). UnitShows v x.0 r k) first.1 (c.bank.units u x.0 x.1))
+        unit_follows C P v r i u (taken_from v e.ends.items u) (on_from v e.starts.items u) x.0 y (U.shows v c.wired f y q x.0 x.1)
+        (subst (λ (k : ℕ). UnitShows v x.0 r k) first.1 (c.bank.units u x.0 x.1))
         (he.ends.shows v r i c u ul) (he.starts.shows v r i c u ul);
     members = λ f y q.
         let within = slice_get_within b.members.items f y q in
@@ -87,7 +91,8 @@ has_next C P n p s o goes e b formed pf hs ho hg he U M S = record {
         let l : f < C.functions = omega (arith, within, count) in
         let many = pf.bank.members_length in
         let x = port_there p.bank.members.items f (omega (arith, l, many)) in
-        member_follows C P v r i f (on_from v e.entries.items f) (on_from v e.rivals.items f) (taken_from v e.loads.items f) (taken_from v o.loops.items f) x.0 y (M.shows v c.wired f y q x.0 x.1) (c.bank.members f x.0 x.1)
+        member_follows C P v r i f (on_from v e.entries.items f) (on_from v e.rivals.items f) (taken_from v e.loads.items f)
+        (taken_from v o.loops.items f) x.0 y (M.shows v c.wired f y q x.0 x.1) (c.bank.members f x.0 x.1)
         (he.entries.shows v r i c f l) (he.rivals.shows v r i c f l) (he.loads.shows v r i c f l) ((ho.shows v r i c).loops f l);
     sites = λ k y q above.
         let within = slice_get_within b.sites.items k y q in
@@ -101,7 +106,8 @@ has_next C P n p s o goes e b formed pf hs ho hg he U M S = record {
         let u = port_there p.bank.units.items (C.callee k) (omega (arith, callee, units)) in
         let x = port_there p.bank.sites.items k (omega (arith, l, sites)) in
         let low = (formed.first (C.caller k) caller).0 in
-        site_follows C P v r i k (on v (pin s.ret.items k)) (on v (pin goes k)) (on_from v e.clears.items (C.unit (C.caller k))) (v u.0.res.0) x.0 y (S.shows v c.wired k y q above u.0 x.0 u.1 x.1) (c.bank.sites k x.0 x.1 above)
+        site_follows C P v r i k (on v (pin s.ret.items k)) (on v (pin goes k)) (on_from v e.clears.items (C.unit (C.caller k))) (v u.0.res.0) x.0 y
+        (S.shows v c.wired k y q above u.0 x.0 u.1 x.1) (c.bank.sites k x.0 x.1 above)
         ((hs.shows v r i c).ret k above l) (hg.shows v r i c k l) (he.clears.shows v r i c (C.unit (C.caller k)) (omega (arith, low, caller))) (c.bank.units (C.callee k) u.0 u.1).res;
   };
 }

@@ -9,7 +9,11 @@ use Rattle.safl_verilog.specs.declared.token.Sort.{Sort}
 use Rattle.safl_verilog.specs.declared.token.Sort.TheVariants as sorts
 use Rattle.safl_verilog.specs.declared.fault.VFault.{VFault}
 use Rattle.safl_verilog.specs.Files.{Spot, Expression, Literal, Plain, Inverted, Binary, Choice, Joined, Slice, Declaration, Statement, Assign, Always, File}
-use Rattle.safl_verilog.specs.Faults.{where_not, number_faults, range_faults, declared_number_faults, expression_number_faults, stated_number_faults, among, repeat_faults, declared_names, find, is_input, is_output, is_reg, is_wire, is_port, passes, range_width, width_in, width_of, header_faults, port_faults, has_bit, has_ports, is_data, is_signal, is_target, unfit_faults, operation, operands, is_plain, expression_width, assigned, updated, is_none, width_faults, literal_value, may_be_assigned, assign_faults, always_faults, statement_faults, all_statement_faults, missing_faults, faults}
+use Rattle.safl_verilog.specs.Faults.{where_not, number_faults, range_faults, declared_number_faults, expression_number_faults, stated_number_faults}
+use Rattle.safl_verilog.specs.Faults.{among, repeat_faults, declared_names, find, is_input, is_output, is_reg, is_wire, is_port, passes, range_width}
+use Rattle.safl_verilog.specs.Faults.{width_in, width_of, header_faults, port_faults, has_bit, has_ports, is_data, is_signal, is_target, unfit_faults}
+use Rattle.safl_verilog.specs.Faults.{operation, operands, is_plain, expression_width, assigned, updated, is_none, width_faults, literal_value}
+use Rattle.safl_verilog.specs.Faults.{may_be_assigned, assign_faults, always_faults, statement_faults, all_statement_faults, missing_faults, faults}
 use Rattle.safl_verilog.specs.Netlists.{signals_of, place_of, number_of, cell_of, driven, register_of, kind_of, signal_of, shown, output_of, netlist}
 use Rattle.safl_verilog.proofs.PrintedReads.{bare, bare_expression, bare_range, bare_declaration, bare_statement, bare_file}
 
@@ -115,10 +119,14 @@ ports_bare ds =
     let c = bit_bare ds is_input (codes "start") in
     let d = bit_bare ds is_output (codes "done") in
     let e = passes_bare (λ d. is_output d.sort) (λ d. refl) ds (codes "result") in
-    ap (λ x. x && has_bit (map bare_declaration ds) is_input (codes "rst") && has_bit (map bare_declaration ds) is_input (codes "start") && has_bit (map bare_declaration ds) is_output (codes "done") && passes (λ d. is_output d.sort) (find (map bare_declaration ds) (codes "result"))) a
-    ∙ ap (λ x. has_bit ds is_input (codes "clk") && x && has_bit (map bare_declaration ds) is_input (codes "start") && has_bit (map bare_declaration ds) is_output (codes "done") && passes (λ d. is_output d.sort) (find (map bare_declaration ds) (codes "result"))) b
-    ∙ ap (λ x. has_bit ds is_input (codes "clk") && has_bit ds is_input (codes "rst") && x && has_bit (map bare_declaration ds) is_output (codes "done") && passes (λ d. is_output d.sort) (find (map bare_declaration ds) (codes "result"))) c
-    ∙ ap (λ x. has_bit ds is_input (codes "clk") && has_bit ds is_input (codes "rst") && has_bit ds is_input (codes "start") && x && passes (λ d. is_output d.sort) (find (map bare_declaration ds) (codes "result"))) d
+    ap (λ x. x && has_bit (map bare_declaration ds) is_input (codes "rst") && has_bit (map bare_declaration ds) is_input (codes "start") && has_bit
+    (map bare_declaration ds) is_output (codes "done") && passes (λ d. is_output d.sort) (find (map bare_declaration ds) (codes "result"))) a
+    ∙ ap (λ x. has_bit ds is_input (codes "clk") && x && has_bit (map bare_declaration ds) is_input (codes "start") && has_bit
+    (map bare_declaration ds) is_output (codes "done") && passes (λ d. is_output d.sort) (find (map bare_declaration ds) (codes "result"))) b
+    ∙ ap (λ x. has_bit ds is_input (codes "clk") && has_bit ds is_input (codes "rst") && x && has_bit (map bare_declaration ds) is_output
+    (codes "done") && passes (λ d. is_output d.sort) (find (map bare_declaration ds) (codes "result"))) c
+    ∙ ap (λ x. has_bit ds is_input (codes "clk") && has_bit ds is_input (codes "rst") && has_bit ds is_input (codes "start") && x && passes
+    (λ d. is_output d.sort) (find (map bare_declaration ds) (codes "result"))) d
     ∙ ap (λ x. has_bit ds is_input (codes "clk") && has_bit ds is_input (codes "rst") && has_bit ds is_input (codes "start") && has_bit ds is_output (codes "done") && x) e
 
 -- ---- statements
@@ -173,7 +181,8 @@ assigned_bare : (ss : List Statement) (n : List ℕ) → assigned (map bare_stat
 assigned_bare [] n = refl
 assigned_bare (Assign x e ∷ ss) n = go (bytes_eq x.bytes n) (assigned_bare ss n)
   where
-    go : (b : Bool) → assigned (map bare_statement ss) n ≡ bare_assigned (assigned ss n) → cond b (Some (bare_expression e)) (assigned (map bare_statement ss) n) ≡ bare_assigned (cond b (Some e) (assigned ss n))
+    go : (b : Bool) → assigned (map bare_statement ss) n ≡ bare_assigned (assigned ss n) → cond b (Some (bare_expression e))
+        (assigned (map bare_statement ss) n) ≡ bare_assigned (cond b (Some e) (assigned ss n))
     go true h = refl
     go false h = h
 assigned_bare (Always clock reset target initial second source ∷ ss) n = assigned_bare ss n
@@ -183,7 +192,8 @@ updated_bare [] n = refl
 updated_bare (Assign x e ∷ ss) n = updated_bare ss n
 updated_bare (Always clock reset target initial second source ∷ ss) n = go (bytes_eq target.bytes n) (updated_bare ss n)
   where
-    go : (b : Bool) → updated (map bare_statement ss) n ≡ bare_updated (updated ss n) → cond b (Some (bare initial, bare source)) (updated (map bare_statement ss) n) ≡ bare_updated (cond b (Some (initial, source)) (updated ss n))
+    go : (b : Bool) → updated (map bare_statement ss) n ≡ bare_updated (updated ss n) → cond b (Some (bare initial, bare source))
+        (updated (map bare_statement ss) n) ≡ bare_updated (cond b (Some (initial, source)) (updated ss n))
     go true h = refl
     go false h = h
 
@@ -207,33 +217,40 @@ unfit_bare ds x = same_test _ _ _ (passes_bare is_signal (λ d. refl) ds x.bytes
 width_faults_bare : (place w f v g : ℕ) → w ≡ v → f ≡ g → width_faults 0 w f ≡ map unplaced (width_faults place v g)
 width_faults_bare place w f v g e h = ap (λ k. width_faults 0 k f) e ∙ ap (width_faults 0 v) h ∙ where_not_bare (v == g) _
 
-may_be_bare : (ds : List Declaration) (before : List Statement) (x : Spot) (e : Expression) → may_be_assigned (map bare_statement before) (find (map bare_declaration ds) x.bytes) x.bytes (bare_expression e) ≡ may_be_assigned before (find ds x.bytes) x.bytes e
+may_be_bare : (ds : List Declaration) (before : List Statement) (x : Spot) (e : Expression) → may_be_assigned (map bare_statement before)
+    (find (map bare_declaration ds) x.bytes) x.bytes (bare_expression e) ≡ may_be_assigned before (find ds x.bytes) x.bytes e
 may_be_bare ds before x e =
     ap (λ b. b && (not (passes (λ d. is_output d.sort) (find (map bare_declaration ds) x.bytes)) || is_plain (bare_expression e))) (no_assigned_bare before x.bytes)
     ∙ ap (λ b. is_none (assigned before x.bytes) && (not b || is_plain (bare_expression e))) (passes_bare (λ d. is_output d.sort) (λ d. refl) ds x.bytes)
     ∙ ap (λ b. is_none (assigned before x.bytes) && (not (passes (λ d. is_output d.sort) (find ds x.bytes)) || b)) (is_plain_bare e)
 
-assign_bare : (ds : List Declaration) (before : List Statement) (x : Spot) (e : Expression) → assign_faults (map bare_declaration ds) (map bare_statement before) (bare x) (bare_expression e) ≡ map unplaced (assign_faults ds before x e)
+assign_bare : (ds : List Declaration) (before : List Statement) (x : Spot) (e : Expression) → assign_faults (map bare_declaration ds)
+    (map bare_statement before) (bare x) (bare_expression e) ≡ map unplaced (assign_faults ds before x e)
 assign_bare ds before x e =
     both _ _ (both _ _ (both _ _ (same_test _ _ _ (passes_bare is_target (λ d. refl) ds x.bytes)) (same_test _ _ _ (may_be_bare ds before x e)))
     (ap (flat_map (unfit_faults (map bare_declaration ds))) (operands_bare e) ∙ flat_bare (unfit_faults ds) (unfit_faults (map bare_declaration ds)) bare (unfit_bare ds) (operands e)))
     (width_faults_bare x.place _ _ _ _ (width_bare ds x.bytes) (expression_width_bare ds e))
 
-always_bare : (ds : List Declaration) (before : List Statement) (clock reset target initial second source : Spot) → always_faults (map bare_declaration ds) (map bare_statement before) (bare clock) (bare reset) (bare target) (bare initial) (bare second) (bare source) ≡ map unplaced (always_faults ds before clock reset target initial second source)
+always_bare : (ds : List Declaration) (before : List Statement) (clock reset target initial second source : Spot) → always_faults
+    (map bare_declaration ds) (map bare_statement before) (bare clock) (bare reset) (bare target) (bare initial) (bare second) (bare source) ≡ map
+    unplaced (always_faults ds before clock reset target initial second source)
 always_bare ds before clock reset target initial second source =
     both _ _ (both _ _ (both _ _ (both _ _ (both _ _ (both _ _ (both _ _ (where_not_bare _ _) (where_not_bare _ _))
     (same_test _ _ _ (passes_bare (λ d. is_reg d.sort) (λ d. refl) ds target.bytes))) (where_not_bare _ _)) (same_test _ _ _ (no_updated_bare before target.bytes)))
     (unfit_bare ds source)) (width_faults_bare initial.place _ _ _ _ (width_bare ds target.bytes) refl))
     (width_faults_bare source.place _ _ _ _ (width_bare ds target.bytes) (width_bare ds source.bytes))
 
-statement_bare : (ds : List Declaration) (before : List Statement) (s : Statement) → statement_faults (map bare_declaration ds) (map bare_statement before) (bare_statement s) ≡ map unplaced (statement_faults ds before s)
+statement_bare : (ds : List Declaration) (before : List Statement) (s : Statement) → statement_faults (map bare_declaration ds)
+    (map bare_statement before) (bare_statement s) ≡ map unplaced (statement_faults ds before s)
 statement_bare ds before (Assign x e) = assign_bare ds before x e
 statement_bare ds before (Always clock reset target initial second source) = always_bare ds before clock reset target initial second source
 
-statements_bare : (ds : List Declaration) (before ss : List Statement) → all_statement_faults (map bare_declaration ds) (map bare_statement before) (map bare_statement ss) ≡ map unplaced (all_statement_faults ds before ss)
+statements_bare : (ds : List Declaration) (before ss : List Statement) → all_statement_faults (map bare_declaration ds) (map bare_statement before)
+    (map bare_statement ss) ≡ map unplaced (all_statement_faults ds before ss)
 statements_bare ds before [] = refl
 statements_bare ds before (s ∷ ss) =
-    both _ _ (statement_bare ds before s) (ap (λ (l : List Statement). all_statement_faults (map bare_declaration ds) l (map bare_statement ss)) (sym (map-append bare_statement before (s ∷ []))) ∙ statements_bare ds (before ++ s ∷ []) ss)
+    both _ _ (statement_bare ds before s) (ap (λ (l : List Statement). all_statement_faults (map bare_declaration ds) l (map bare_statement ss))
+    (sym (map-append bare_statement before (s ∷ []))) ∙ statements_bare ds (before ++ s ∷ []) ss)
 
 missing_bare : (ss : List Statement) (d : Declaration) → missing_faults (map bare_statement ss) (bare_declaration d) ≡ map unplaced (missing_faults ss d)
 missing_bare ss d =
@@ -244,9 +261,11 @@ unfolding faults
 faults_bare f =
     let ds = f.declarations in
     both _ _ (both _ _ (both _ _ (both _ _
-    (both _ _ (flat_bare declared_number_faults declared_number_faults bare_declaration (λ d. range_bare d.range) ds) (flat_bare stated_number_faults stated_number_faults bare_statement stated_bare f.statements))
+    (both _ _ (flat_bare declared_number_faults declared_number_faults bare_declaration (λ d. range_bare d.range) ds)
+    (flat_bare stated_number_faults stated_number_faults bare_statement stated_bare f.statements))
     (both _ _ (repeat_bare [] f.header) (ap (repeat_faults []) (names_bare ds) ∙ repeat_bare [] (declared_names ds))))
-    (both _ _ (both _ _ (flat_bare (header_faults f) (header_faults (bare_file f)) bare (header_bare f) f.header) (flat_bare (port_faults f) (port_faults (bare_file f)) bare_declaration (port_bare f) ds)) (same_test _ _ _ (ports_bare ds))))
+    (both _ _ (both _ _ (flat_bare (header_faults f) (header_faults (bare_file f)) bare (header_bare f) f.header)
+    (flat_bare (port_faults f) (port_faults (bare_file f)) bare_declaration (port_bare f) ds)) (same_test _ _ _ (ports_bare ds))))
     (statements_bare ds [] f.statements))
     (flat_bare (missing_faults f.statements) (missing_faults (map bare_statement f.statements)) bare_declaration (missing_bare f.statements) ds)
 
@@ -264,16 +283,21 @@ filter_bare : (p : Declaration → Bool) → ((d : Declaration) → p (bare_decl
 filter_bare p h [] = refl
 filter_bare p h (d ∷ ds) = ap (λ b. cond b (bare_declaration d ∷ filter p (map bare_declaration ds)) (filter p (map bare_declaration ds))) (h d) ∙ go (p d) (filter_bare p h ds)
   where
-    go : (b : Bool) → filter p (map bare_declaration ds) ≡ map bare_declaration (filter p ds) → cond b (bare_declaration d ∷ filter p (map bare_declaration ds)) (filter p (map bare_declaration ds)) ≡ map bare_declaration (cond b (d ∷ filter p ds) (filter p ds))
+    go : (b : Bool) → filter p (map bare_declaration ds) ≡ map bare_declaration (filter p ds) → cond b
+        (bare_declaration d ∷ filter p (map bare_declaration ds)) (filter p (map bare_declaration ds)) ≡ map bare_declaration (cond b (d ∷ filter p ds) (filter p ds))
     go true h = ap (λ (l : List Declaration). bare_declaration d ∷ l) h
     go false h = h
 
 signals_bare : (ds : List Declaration) → signals_of (map bare_declaration ds) ≡ map bare_declaration (signals_of ds)
 signals_bare ds =
-    ap (λ (l : List Declaration). l ++ filter (λ (d : Declaration). is_reg d.sort) (map bare_declaration ds) ++ filter (λ (d : Declaration). is_wire d.sort) (map bare_declaration ds)) (filter_bare is_data (λ d. refl) ds)
-    ∙ ap (λ (l : List Declaration). map bare_declaration (filter is_data ds) ++ l ++ filter (λ (d : Declaration). is_wire d.sort) (map bare_declaration ds)) (filter_bare (λ (d : Declaration). is_reg d.sort) (λ d. refl) ds)
-    ∙ ap (λ (l : List Declaration). map bare_declaration (filter is_data ds) ++ map bare_declaration (filter (λ (d : Declaration). is_reg d.sort) ds) ++ l) (filter_bare (λ (d : Declaration). is_wire d.sort) (λ d. refl) ds)
-    ∙ ap (λ (l : List Declaration). l ++ map bare_declaration (filter (λ (d : Declaration). is_wire d.sort) ds)) (sym (map-append bare_declaration (filter is_data ds) (filter (λ (d : Declaration). is_reg d.sort) ds)))
+    ap (λ (l : List Declaration). l ++ filter (λ (d : Declaration). is_reg d.sort) (map bare_declaration ds) ++ filter
+    (λ (d : Declaration). is_wire d.sort) (map bare_declaration ds)) (filter_bare is_data (λ d. refl) ds)
+    ∙ ap (λ (l : List Declaration). map bare_declaration (filter is_data ds) ++ l ++ filter (λ (d : Declaration). is_wire d.sort)
+    (map bare_declaration ds)) (filter_bare (λ (d : Declaration). is_reg d.sort) (λ d. refl) ds)
+    ∙ ap (λ (l : List Declaration). map bare_declaration (filter is_data ds) ++ map bare_declaration (filter (λ (d : Declaration). is_reg d.sort) ds)
+    ++ l) (filter_bare (λ (d : Declaration). is_wire d.sort) (λ d. refl) ds)
+    ∙ ap (λ (l : List Declaration). l ++ map bare_declaration (filter (λ (d : Declaration). is_wire d.sort) ds))
+    (sym (map-append bare_declaration (filter is_data ds) (filter (λ (d : Declaration). is_reg d.sort) ds)))
     ∙ sym (map-append bare_declaration (filter is_data ds ++ filter (λ (d : Declaration). is_reg d.sort) ds) (filter (λ (d : Declaration). is_wire d.sort) ds))
 
 place_bare : (ds : List Declaration) (n : List ℕ) → place_of (map bare_declaration ds) n ≡ place_of ds n
@@ -286,7 +310,9 @@ number_bare ds n = ap (λ (l : List Declaration). place_of l n) (signals_bare ds
 cell_bare : (ds : List Declaration) (e : Expression) → cell_of (map bare_declaration ds) (bare_expression e) ≡ cell_of ds e
 cell_bare ds e =
     ap (λ o. record { op = o; operands = map (λ (a : Spot). number_of (map bare_declaration ds) a.bytes) (operands (bare_expression e)) }) (operation_bare e)
-    ∙ ap (λ (l : List ℕ). record { op = operation e; operands = l }) (ap (map (λ (a : Spot). number_of (map bare_declaration ds) a.bytes)) (operands_bare e) ∙ of_bytes (number_of (map bare_declaration ds)) (number_of ds) (number_bare ds) (operands e))
+    ∙ ap (λ (l : List ℕ). record { op = operation e; operands = l })
+    (ap (map (λ (a : Spot). number_of (map bare_declaration ds) a.bytes)) (operands_bare e) ∙ of_bytes (number_of (map bare_declaration ds))
+    (number_of ds) (number_bare ds) (operands e))
 
 driven_bare : (ds : List Declaration) (o : Option Expression) → driven (map bare_declaration ds) (bare_assigned o) ≡ driven ds o
 driven_bare ds None = refl
@@ -318,7 +344,8 @@ shown_bare ds (Some (Joined a b)) = refl
 shown_bare ds (Some (Slice a high low)) = refl
 
 output_bare : (f : File) (d : Declaration) → output_of (bare_file f) (bare_declaration d) ≡ output_of f d
-output_bare f d = ap (λ k. (d.name.bytes, k)) (ap (shown (map bare_declaration f.declarations)) (assigned_bare f.statements d.name.bytes) ∙ shown_bare f.declarations (assigned f.statements d.name.bytes))
+output_bare f d = ap (λ k. (d.name.bytes, k)) (ap (shown (map bare_declaration f.declarations)) (assigned_bare f.statements d.name.bytes) ∙ shown_bare
+    f.declarations (assigned f.statements d.name.bytes))
 
 mapped : {A B : Type 0} (F G : A → B) (b : A → A) → ((x : A) → F (b x) ≡ G x) → (xs : List A) → map F (map b xs) ≡ map G xs
 mapped F G b h [] = refl
@@ -329,7 +356,8 @@ unfolding netlist
 netlist_bare f =
     let ds = f.declarations in
     let signals = ap (map (signal_of (bare_file f))) (signals_bare ds) ∙ mapped (signal_of (bare_file f)) (signal_of f) bare_declaration (signal_bare f) (signals_of ds) in
-    let outputs = ap (map (output_of (bare_file f))) (filter_bare (λ (d : Declaration). is_output d.sort) (λ d. refl) ds) ∙ mapped (output_of (bare_file f)) (output_of f) bare_declaration (output_bare f) (filter (λ (d : Declaration). is_output d.sort) ds) in
+    let outputs = ap (map (output_of (bare_file f))) (filter_bare (λ (d : Declaration). is_output d.sort) (λ d. refl) ds) ∙ mapped
+    (output_of (bare_file f)) (output_of f) bare_declaration (output_bare f) (filter (λ (d : Declaration). is_output d.sort) ds) in
     ap (λ (l : List Signal). record { signals = l; outputs = map (output_of (bare_file f)) (filter (λ (d : Declaration). is_output d.sort) (map bare_declaration ds)) }) signals
     ∙ ap (λ (l : List (List ℕ × ℕ)). record { signals = map (signal_of f) (signals_of ds); outputs = l }) outputs
 

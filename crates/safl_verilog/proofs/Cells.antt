@@ -1,5 +1,6 @@
 -- The expression that is written of a cell means the cell.
-use Rattle.std.proofs.Common.{◌≡◌, ℕ, ◌+◌, ◌-◌, ◌<◌, ◌≤◌, ◌^◌, List, [], ◌∷◌, ◌++◌, map, drop, Bool, true, false, ◌&&◌, nat_le, nat_lt, Some, Option, refl, sym, ap, subst, ◌∙◌, arith, append_assoc, lit<}
+use Rattle.std.proofs.Common.{◌≡◌, ℕ, ◌+◌, ◌-◌, ◌<◌, ◌≤◌, ◌^◌, List, [], ◌∷◌, ◌++◌, map, drop, Bool, true, false, ◌&&◌, nat_le, nat_lt, Some, Option}
+use Rattle.std.proofs.Common.{refl, sym, ap, subst, ◌∙◌, arith, append_assoc, lit<}
 use Rattle.std.specs.Prelude.{codes, decimal}
 use Rattle.std.specs.List.{list_all}
 use Rattle.std.proofs.lemmas.Bool.{and_parts}
@@ -63,8 +64,10 @@ spelled width bits a b c =
     let width_is : literal_width (literal width bits) ≡ width = ap (value 10) before ∙ decimal_value width w in
     let bits_is : literal_value (literal width bits) ≡ bits = ap (λ (l : List ℕ). value (base_at l) (drop 1 l)) behind ∙ decimal_value bits v in
     let short_width : is_short 10 (before_quote (literal width bits)) ≡ true = ap (is_short 10) before ∙ decimal_short width w in
-    let short_bits : is_short (base_at (behind_quote (literal width bits))) (drop 1 (behind_quote (literal width bits))) ≡ true = ap (λ (l : List ℕ). is_short (base_at l) (drop 1 l)) behind ∙ decimal_short bits v in
-    let fits : is_word (literal_width (literal width bits)) (literal_value (literal width bits)) ≡ true = ap (λ k. is_word k (literal_value (literal width bits))) width_is ∙ ap (is_word width) bits_is ∙ is_one width bits a b c in
+    let short_bits : is_short (base_at (behind_quote (literal width bits))) (drop 1 (behind_quote (literal width bits))) ≡ true = ap
+    (λ (l : List ℕ). is_short (base_at l) (drop 1 l)) behind ∙ decimal_short bits v in
+    let fits : is_word (literal_width (literal width bits)) (literal_value (literal width bits)) ≡ true = ap
+    (λ k. is_word k (literal_value (literal width bits))) width_is ∙ ap (is_word width) bits_is ∙ is_one width bits a b c in
     record {
       width_is = width_is;
       bits_is = bits_is;
@@ -110,7 +113,9 @@ two_case n f (a ∷ []) w e = absurd cc
 two_case n f (a ∷ (b ∷ [])) w e = (a, b, refl)
 two_case n f (a ∷ (b ∷ (c ∷ xs))) w e = absurd cc
 
-binary_sound : (n : Netlist) (p : Primitive) (f : ℕ → ℕ → Option ℕ) (xs : List ℕ) (w : ℕ) → is_operator p ≡ true → ((a b : Spot) → applied p (a ∷ b ∷ []) ≡ Binary p a b) → two_widths f (widths n xs) ≡ Some w → Names n xs → Sound n (ops.Apply p) xs (applied p (map (named_spot n) xs))
+binary_sound : (n : Netlist) (p : Primitive) (f : ℕ → ℕ → Option ℕ) (xs : List ℕ) (w : ℕ) → is_operator p ≡ true →
+    ((a b : Spot) → applied p (a ∷ b ∷ []) ≡ Binary p a b) → two_widths f (widths n xs) ≡ Some w → Names n xs → Sound n (ops.Apply p) xs
+    (applied p (map (named_spot n) xs))
 binary_sound n p f xs w good same e names =
     let k = two_case n f xs w e in
     let here : Names n (k.0 ∷ k.1 ∷ []) = subst (Names n) k.2 names in
@@ -133,7 +138,9 @@ cat_sound n f xs w e names =
 no_fault_when : (b c : Bool) (x y : _) → b ≡ true → c ≡ true → where_not b x ++ where_not c y ≡ []
 no_fault_when b c x y h k = rw (h, k) refl
 
-bits_sound : (n : Netlist) (high low : ℕ) (xs : List ℕ) (w : ℕ) → ((a : ℕ) → xs ≡ a ∷ [] → width_of n a ≤ 128) → one_width (λ v. where_true (nat_le low high && nat_lt high v) (high - low + 1)) (widths n xs) ≡ Some w → Names n xs → Sound n (ops.Apply (prims.Bits high low)) xs (applied (prims.Bits high low) (map (named_spot n) xs))
+bits_sound : (n : Netlist) (high low : ℕ) (xs : List ℕ) (w : ℕ) → ((a : ℕ) → xs ≡ a ∷ [] → width_of n a ≤ 128) → one_width
+    (λ v. where_true (nat_le low high && nat_lt high v) (high - low + 1)) (widths n xs) ≡ Some w → Names n xs → Sound n
+    (ops.Apply (prims.Bits high low)) xs (applied (prims.Bits high low) (map (named_spot n) xs))
 bits_sound n high low xs w known e names =
     let k = one_case n (λ v. where_true (nat_le low high && nat_lt high v) (high - low + 1)) xs w e in
     let here : Names n (k.0 ∷ []) = subst (Names n) k.1 names in
@@ -145,7 +152,8 @@ bits_sound n high low xs w known e names =
     let big : 128 < 2 ^ 128 = lit< tt in
     let h : high < 2 ^ 128 = omega arith in
     let l : low < 2 ^ 128 = omega arith in
-    let op : ops.Apply (prims.Bits (value 10 (decimal high)) (value 10 (decimal low))) ≡ ops.Apply (prims.Bits high low) = ap (λ x. ops.Apply (prims.Bits x (value 10 (decimal low)))) (decimal_value high h) ∙ ap (λ x. ops.Apply (prims.Bits high x)) (decimal_value low l) in
+    let op : ops.Apply (prims.Bits (value 10 (decimal high)) (value 10 (decimal low))) ≡ ops.Apply (prims.Bits high low) = ap
+    (λ x. ops.Apply (prims.Bits x (value 10 (decimal low)))) (decimal_value high h) ∙ ap (λ x. ops.Apply (prims.Bits high x)) (decimal_value low l) in
     subst (λ (l : List ℕ). Sound n (ops.Apply (prims.Bits high low)) l (applied (prims.Bits high low) (map (named_spot n) l))) (sym k.1)
     (record { does = op; takes = refl; fine = (here.0, decimal_numeral high h, decimal_numeral low l); short = no_fault_when _ _ _ _ (decimal_short high h) (decimal_short low l) })
   where
@@ -159,7 +167,8 @@ bits_sound n high low xs w known e names =
     lt_of : (m n : ℕ) → nat_lt m n ≡ true → m < n
     lt_of m n h = grind (arith, nat_tests)
 
-applied_sound : (n : Netlist) (p : Primitive) (xs : List ℕ) (w : ℕ) → ((a : ℕ) → xs ≡ a ∷ [] → width_of n a ≤ 128) → op_width (ops.Apply p) (widths n xs) ≡ Some w → Names n xs → Sound n (ops.Apply p) xs (applied p (map (named_spot n) xs))
+applied_sound : (n : Netlist) (p : Primitive) (xs : List ℕ) (w : ℕ) → ((a : ℕ) → xs ≡ a ∷ [] → width_of n a ≤ 128) → op_width (ops.Apply p)
+    (widths n xs) ≡ Some w → Names n xs → Sound n (ops.Apply p) xs (applied p (map (named_spot n) xs))
 applied_sound n prims.Not xs w known e names = not_sound n xs w e names
 applied_sound n prims.Cat xs w known e names = cat_sound n _ xs w e names
 applied_sound n (prims.Bits high low) xs w known e names = bits_sound n high low xs w known e names
@@ -202,7 +211,8 @@ const_sound n v [] w h e =
     }
 const_sound n v (a ∷ xs) w h e = absurd cc
 
-pub cell_sound : (n : Netlist) (o : Op) (xs : List ℕ) (w : ℕ) → ((a : ℕ) → xs ≡ a ∷ [] → width_of n a ≤ 128) → op_width o (widths n xs) ≡ Some w → HasWord o → Names n xs → Sound n o xs (expressed o (map (named_spot n) xs))
+pub cell_sound : (n : Netlist) (o : Op) (xs : List ℕ) (w : ℕ) → ((a : ℕ) → xs ≡ a ∷ [] → width_of n a ≤ 128) → op_width o (widths n xs) ≡ Some w →
+    HasWord o → Names n xs → Sound n o xs (expressed o (map (named_spot n) xs))
 cell_sound n (ops.Const v) xs w known e h names = const_sound n v xs w h e
 cell_sound n ops.Copy xs w known e h names = copy_sound n xs w e names
 cell_sound n ops.Mux xs w known e h names = mux_sound n xs w e names

@@ -13,7 +13,8 @@ use Rattle.safl_verilog.specs.declared.token.Symbol.TheVariants as symbols
 use Rattle.safl_verilog.specs.declared.token.TokenKind.{TokenKind}
 use Rattle.safl_verilog.specs.declared.token.TokenKind.TheVariants as kinds
 use Rattle.safl_verilog.specs.Tokens.{keyword_text, symbol_text, name_max, stops, next_base, IsToken, Piece, Blank, Line, Block, Lexeme, text_of, StandsBefore}
-use Rattle.safl_verilog.specs.Pieces.{run, named, all_keywords, single_symbols, double_symbols, word_kind, first_word, sized_length, first_number, one_symbol, two_symbols, first_symbol, block, piece_at, first_piece}
+use Rattle.safl_verilog.specs.Pieces.{run, named, all_keywords, single_symbols, double_symbols, word_kind, first_word, sized_length, first_number}
+use Rattle.safl_verilog.specs.Pieces.{one_symbol, two_symbols, first_symbol, block, piece_at, first_piece}
 use Rattle.safl_verilog.proofs.Runs.{other_than, run_of, are_parts-all, named_none}
 use Rattle.safl_verilog.proofs.Closing.{closing_of}
 use Rattle.safl_verilog.proofs.Bytes.{not_blank, start_part, digit_no_start}
@@ -24,7 +25,8 @@ use Rattle.safl_verilog.proofs.Symbols.{keyword_named, keyword_like, keyword_sho
 short_enough : (n : ℕ) → n ≤ name_max → nat_le n name_max ≡ true
 short_enough n h = grind (arith, nat_tests)
 
-word_cut : (w rest : List ℕ) (o : Option Keyword) → is_identifier w ≡ true → length w ≤ name_max → stops is_part rest ≡ true → named keyword_text all_keywords w ≡ o → first_piece (w ++ rest) ≡ Some (Lexeme (word_kind o) w)
+word_cut : (w rest : List ℕ) (o : Option Keyword) → is_identifier w ≡ true → length w ≤ name_max → stops is_part rest ≡ true → named keyword_text
+    all_keywords w ≡ o → first_piece (w ++ rest) ≡ Some (Lexeme (word_kind o) w)
 unfolding first_piece
 word_cut [] rest o like short stop e = absurd cc
 word_cut (c ∷ w) rest o like short stop e =
@@ -36,19 +38,23 @@ word_cut (c ∷ w) rest o like short stop e =
     let front : take (length (c ∷ w)) ((c ∷ w) ++ rest) ≡ c ∷ w = take-append_seam (c ∷ w) rest in
     let here : piece_at c (w ++ rest) ≡ first_word (run is_part (c ∷ w ++ rest)) (c ∷ w ++ rest) = rw (blank, slash, a.0) refl in
     let sized : first_word (run is_part (c ∷ w ++ rest)) (c ∷ w ++ rest) ≡ first_word (length (c ∷ w)) (c ∷ w ++ rest) = ap (λ n. first_word n (c ∷ w ++ rest)) size in
-    here ∙ sized ∙ rw (short_enough (length (c ∷ w)) short) (ap (λ (l : List ℕ). Some (Lexeme (word_kind (named keyword_text all_keywords l)) l)) front ∙ ap (λ k. Some (Lexeme (word_kind k) (c ∷ w))) e)
+    here ∙ sized ∙ rw (short_enough (length (c ∷ w)) short) (ap (λ (l : List ℕ). Some (Lexeme (word_kind (named keyword_text all_keywords l)) l))
+    front ∙ ap (λ k. Some (Lexeme (word_kind k) (c ∷ w))) e)
 
 -- ---- numbers
 
-at_number : (c : ℕ) (w rest : List ℕ) (o : Option ℕ) → IsNumeral 10 (c ∷ w) → stops (is_digit 10) rest ≡ true → next_base rest ≡ o → piece_at c (w ++ rest) ≡ first_number o (length (c ∷ w)) (c ∷ w ++ rest)
+at_number : (c : ℕ) (w rest : List ℕ) (o : Option ℕ) → IsNumeral 10 (c ∷ w) → stops (is_digit 10) rest ≡ true → next_base rest ≡ o → piece_at c
+    (w ++ rest) ≡ first_number o (length (c ∷ w)) (c ∷ w ++ rest)
 at_number c w rest o n stop e =
     let a = and_parts (is_digit 10 c) (list_all (is_digit 10) w) n.digits in
     let blank = not_blank (is_digit 10) c a.0 refl refl refl refl in
     let slash = other_than (is_digit 10) c 47 a.0 refl in
     let size : run (is_digit 10) (c ∷ w ++ rest) ≡ length (c ∷ w) = rw (a.0, run_of (is_digit 10) w rest a.1 stop) refl in
     let back : drop (run (is_digit 10) (c ∷ w ++ rest)) (c ∷ w ++ rest) ≡ rest = ap (λ n. drop n (c ∷ w ++ rest)) size ∙ drop-append_seam (c ∷ w) rest in
-    let here : piece_at c (w ++ rest) ≡ first_number (next_base (drop (run (is_digit 10) (c ∷ w ++ rest)) (c ∷ w ++ rest))) (run (is_digit 10) (c ∷ w ++ rest)) (c ∷ w ++ rest) = rw (blank, slash, digit_no_start c a.0, a.0) refl in
-    here ∙ ap (λ (l : List ℕ). first_number (next_base l) (run (is_digit 10) (c ∷ w ++ rest)) (c ∷ w ++ rest)) back ∙ ap (λ b. first_number b (run (is_digit 10) (c ∷ w ++ rest)) (c ∷ w ++ rest)) e ∙ ap (λ n. first_number o n (c ∷ w ++ rest)) size
+    let here : piece_at c (w ++ rest) ≡ first_number (next_base (drop (run (is_digit 10) (c ∷ w ++ rest)) (c ∷ w ++ rest)))
+    (run (is_digit 10) (c ∷ w ++ rest)) (c ∷ w ++ rest) = rw (blank, slash, digit_no_start c a.0, a.0) refl in
+    here ∙ ap (λ (l : List ℕ). first_number (next_base l) (run (is_digit 10) (c ∷ w ++ rest)) (c ∷ w ++ rest)) back ∙ ap
+    (λ b. first_number b (run (is_digit 10) (c ∷ w ++ rest)) (c ∷ w ++ rest)) e ∙ ap (λ n. first_number o n (c ∷ w ++ rest)) size
 
 number_cut : (w rest : List ℕ) → IsNumeral 10 w → stops (is_digit 10) rest ≡ true → next_base rest ≡ None → first_piece (w ++ rest) ≡ Some (Lexeme kinds.Number w)
 unfolding first_piece
@@ -61,31 +67,38 @@ sized_next letter base (d ∷ digits) rest b n =
     let a = and_parts (is_digit base d) (list_all (is_digit base) digits) n.digits in
     rw (b, a.0) refl
 
-sized_front : (u : List ℕ) (letter base : ℕ) (digits rest : List ℕ) → IsNumeral base digits → stops (is_digit base) rest ≡ true → first_number (Some base) (length u) (u ++ (39 ∷ letter ∷ digits ++ rest)) ≡ Some (Lexeme kinds.Sized (u ++ 39 ∷ letter ∷ digits))
+sized_front : (u : List ℕ) (letter base : ℕ) (digits rest : List ℕ) → IsNumeral base digits → stops (is_digit base) rest ≡ true → first_number
+    (Some base) (length u) (u ++ (39 ∷ letter ∷ digits ++ rest)) ≡ Some (Lexeme kinds.Sized (u ++ 39 ∷ letter ∷ digits))
 sized_front u letter base digits rest n stop =
     let z : List ℕ = 39 ∷ letter ∷ digits ++ rest in
     let two : suc (suc (length u)) ≡ length u + 2 = omega arith in
     let behind : drop (suc (suc (length u))) (u ++ z) ≡ digits ++ rest = ap (λ n. drop n (u ++ z)) two ∙ drop-append-add u z 2 in
-    let size : sized_length (length u) base (u ++ z) ≡ length u + suc (suc (length digits)) = ap (λ (l : List ℕ). length u + suc (suc (run (is_digit base) l))) behind ∙ ap (λ n. length u + suc (suc n)) (run_of (is_digit base) digits rest n.digits stop) in
-    let front : take (length u + suc (suc (length digits))) (u ++ z) ≡ u ++ 39 ∷ letter ∷ digits = take-append-add u z (suc (suc (length digits))) ∙ ap (λ (l : List ℕ). u ++ 39 ∷ letter ∷ l) (take-append_seam digits rest) in
+    let size : sized_length (length u) base (u ++ z) ≡ length u + suc (suc (length digits)) = ap
+    (λ (l : List ℕ). length u + suc (suc (run (is_digit base) l))) behind ∙ ap (λ n. length u + suc (suc n)) (run_of (is_digit base) digits rest n.digits stop) in
+    let front : take (length u + suc (suc (length digits))) (u ++ z) ≡ u ++ 39 ∷ letter ∷ digits = take-append-add u z (suc (suc (length digits))) ∙
+    ap (λ (l : List ℕ). u ++ 39 ∷ letter ∷ l) (take-append_seam digits rest) in
     ap (λ (l : List ℕ). Some (Lexeme kinds.Sized l)) (ap (λ n. take n (u ++ z)) size ∙ front)
 
-sized_parts_cut : (u : List ℕ) (letter base : ℕ) (digits rest : List ℕ) → IsNumeral 10 u → base_of letter ≡ Some base → IsNumeral base digits → stops (is_digit base) rest ≡ true → first_piece ((u ++ 39 ∷ letter ∷ digits) ++ rest) ≡ Some (Lexeme kinds.Sized (u ++ 39 ∷ letter ∷ digits))
+sized_parts_cut : (u : List ℕ) (letter base : ℕ) (digits rest : List ℕ) → IsNumeral 10 u → base_of letter ≡ Some base → IsNumeral base digits → stops
+    (is_digit base) rest ≡ true → first_piece ((u ++ 39 ∷ letter ∷ digits) ++ rest) ≡ Some (Lexeme kinds.Sized (u ++ 39 ∷ letter ∷ digits))
 unfolding first_piece
 sized_parts_cut [] letter base digits rest m b n stop = absurd (let some : 1 ≤ 0 = m.some in omega arith)
 sized_parts_cut (c ∷ u) letter base digits rest m b n stop =
     let regrouped : (u ++ 39 ∷ letter ∷ digits) ++ rest ≡ u ++ (39 ∷ letter ∷ digits ++ rest) = append_assoc u (39 ∷ letter ∷ digits) rest in
-    ap (λ (l : List ℕ). piece_at c l) regrouped ∙ at_number c u (39 ∷ letter ∷ digits ++ rest) (Some base) m refl (sized_next letter base digits rest b n) ∙ sized_front (c ∷ u) letter base digits rest n stop
+    ap (λ (l : List ℕ). piece_at c l) regrouped ∙ at_number c u (39 ∷ letter ∷ digits ++ rest) (Some base) m refl
+    (sized_next letter base digits rest b n) ∙ sized_front (c ∷ u) letter base digits rest n stop
 
 -- ---- symbols
 
-one_cut : (c : ℕ) (s : Symbol) (rest : List ℕ) → named symbol_text single_symbols (c ∷ []) ≡ Some s → ((t : Symbol) (d : ℕ) (v : List ℕ) → rest ≡ d ∷ v → symbol_text t ≢ c ∷ d ∷ []) → first_symbol c rest ≡ Some (Lexeme (kinds.Symbol s) (c ∷ []))
+one_cut : (c : ℕ) (s : Symbol) (rest : List ℕ) → named symbol_text single_symbols (c ∷ []) ≡ Some s →
+    ((t : Symbol) (d : ℕ) (v : List ℕ) → rest ≡ d ∷ v → symbol_text t ≢ c ∷ d ∷ []) → first_symbol c rest ≡ Some (Lexeme (kinds.Symbol s) (c ∷ []))
 one_cut c s [] e h = ap (one_symbol c) e
 one_cut c s (d ∷ rest) e h =
     let none = named_none symbol_text double_symbols (c ∷ d ∷ []) (λ t f. h t d rest refl (sym f)) in
     ap (two_symbols c d) none ∙ ap (one_symbol c) e
 
-symbol_cut : (s : Symbol) (rest : List ℕ) → ((t : Symbol) (d : ℕ) (v : List ℕ) → rest ≡ d ∷ v → symbol_text t ≢ symbol_text s ++ d ∷ []) → first_piece (symbol_text s ++ rest) ≡ Some (Lexeme (kinds.Symbol s) (symbol_text s))
+symbol_cut : (s : Symbol) (rest : List ℕ) → ((t : Symbol) (d : ℕ) (v : List ℕ) → rest ≡ d ∷ v → symbol_text t ≢ symbol_text s ++ d ∷ []) → first_piece
+    (symbol_text s ++ rest) ≡ Some (Lexeme (kinds.Symbol s) (symbol_text s))
 unfolding first_piece
 symbol_cut symbols.OpenParen rest h = one_cut 40 symbols.OpenParen rest refl h
 symbol_cut symbols.CloseParen rest h = one_cut 41 symbols.CloseParen rest refl h
@@ -122,9 +135,12 @@ token_cut kinds.Identifier w rest h = word_cut w rest None h.0.like h.0.short h.
 token_cut kinds.Number w rest h = number_cut w rest h.0 h.1 h.2
 token_cut kinds.Sized w rest h =
     let p = h.parts in
-    subst (λ (l : List ℕ). first_piece (l ++ rest) ≡ Some (Lexeme kinds.Sized l)) (sym h.joined) (sized_parts_cut p.width p.letter p.base p.digits rest h.like.width h.like.based h.like.digits h.longest)
-token_cut (kinds.Keyword k) w rest h = subst (λ (l : List ℕ). first_piece (l ++ rest) ≡ Some (Lexeme (kinds.Keyword k) l)) (sym h.0) (word_cut (keyword_text k) rest (Some k) (keyword_like k) (keyword_short k) h.1 (keyword_named k))
-token_cut (kinds.Symbol s) w rest h = subst (λ (l : List ℕ). first_piece (l ++ rest) ≡ Some (Lexeme (kinds.Symbol s) l)) (sym h.0) (symbol_cut s rest (λ t d v e f. h.1 t d v e (f ∙ ap (λ (l : List ℕ). l ++ d ∷ []) (sym h.0))))
+    subst (λ (l : List ℕ). first_piece (l ++ rest) ≡ Some (Lexeme kinds.Sized l)) (sym h.joined)
+    (sized_parts_cut p.width p.letter p.base p.digits rest h.like.width h.like.based h.like.digits h.longest)
+token_cut (kinds.Keyword k) w rest h = subst (λ (l : List ℕ). first_piece (l ++ rest) ≡ Some (Lexeme (kinds.Keyword k) l)) (sym h.0)
+    (word_cut (keyword_text k) rest (Some k) (keyword_like k) (keyword_short k) h.1 (keyword_named k))
+token_cut (kinds.Symbol s) w rest h = subst (λ (l : List ℕ). first_piece (l ++ rest) ≡ Some (Lexeme (kinds.Symbol s) l)) (sym h.0)
+    (symbol_cut s rest (λ t d v e f. h.1 t d v e (f ∙ ap (λ (l : List ℕ). l ++ d ∷ []) (sym h.0))))
 
 pub piece_cut : (x : Piece) (rest : List ℕ) → StandsBefore x rest → first_piece (text_of x ++ rest) ≡ Some x
 unfolding first_piece

@@ -37,7 +37,8 @@ onto zero n acc h =
     subst (λ (b : Bool). Onto zero n acc (cond b (digit_glyph false (n % 10) ∷ acc) (digits_onto zero 10 false (n / 10) (digit_glyph false (n % 10) ∷ acc)))) (sym e) (one_onto zero n acc small)
 onto (suc k) n acc h = go (n / 10 == 0) refl (onto k (n / 10) (digit_glyph false (n % 10) ∷ acc) (let e = pow-suc 10 (suc k) in omega (arith, e)))
   where
-    last : Onto k (n / 10) (digit_glyph false (n % 10) ∷ acc) (digits_onto (suc k) 10 false (n / 10) (digit_glyph false (n % 10) ∷ acc)) → Onto (suc k) n acc (digits_onto (suc k) 10 false (n / 10) (digit_glyph false (n % 10) ∷ acc))
+    last : Onto k (n / 10) (digit_glyph false (n % 10) ∷ acc) (digits_onto (suc k) 10 false (n / 10) (digit_glyph false (n % 10) ∷ acc)) → Onto
+        (suc k) n acc (digits_onto (suc k) 10 false (n / 10) (digit_glyph false (n % 10) ∷ acc))
     last t =
         let d : n % 10 < 10 = omega arith in
         let is = glyph_is (n % 10) d in
@@ -49,7 +50,9 @@ onto (suc k) n acc h = go (n / 10 == 0) refl (onto k (n / 10) (digit_glyph false
         let whole : n * 10 ^ length acc ≡ (10 * (n / 10) + n % 10) * 10 ^ length acc = let f : n ≡ 10 * (n / 10) + n % 10 = omega arith in ap (λ x. x * 10 ^ length acc) f in
         record { passes = λ a. t.passes (rw (p, a) refl); counts = omega (arith, t.counts, e, m, whole); some = t.some; few = omega (arith, t.few) }
 
-    go : (b : Bool) → (n / 10 == 0) ≡ b → Onto k (n / 10) (digit_glyph false (n % 10) ∷ acc) (digits_onto (suc k) 10 false (n / 10) (digit_glyph false (n % 10) ∷ acc)) → Onto (suc k) n acc (cond b (digit_glyph false (n % 10) ∷ acc) (digits_onto (suc k) 10 false (n / 10) (digit_glyph false (n % 10) ∷ acc)))
+    go : (b : Bool) → (n / 10 == 0) ≡ b → Onto k (n / 10) (digit_glyph false (n % 10) ∷ acc)
+        (digits_onto (suc k) 10 false (n / 10) (digit_glyph false (n % 10) ∷ acc)) → Onto (suc k) n acc
+        (cond b (digit_glyph false (n % 10) ∷ acc) (digits_onto (suc k) 10 false (n / 10) (digit_glyph false (n % 10) ∷ acc)))
     go true e t = let z = (Decides-eqb (n / 10) 0).0 e in one_onto (suc k) n acc (omega arith)
     go false e t = last t
 

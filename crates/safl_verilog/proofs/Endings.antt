@@ -91,10 +91,12 @@ another_stmt_ends : (ss : List Statement) → Ends 23 (Grammar.another_stmt ss).
 another_stmt_ends ss = then_nothing 23 Grammar.stmt (λ s. ss ++ s ∷ []) stmt_ends
 
 -- what ended so before some turns ends so after them
-turns_end : {A : Type 0} (code : ℕ) (step : A → Syntax Terminal A) → ((a : A) → Ends code (step a).derives) → (k : ℕ) (a : A) (u w : List Terminal) (x : A) → EndsIn code u → (turns k step a).derives w x → EndsIn code (u ++ w)
+turns_end : {A : Type 0} (code : ℕ) (step : A → Syntax Terminal A) → ((a : A) → Ends code (step a).derives) → (k : ℕ) (a : A) (u w : List Terminal)
+    (x : A) → EndsIn code u → (turns k step a).derives w x → EndsIn code (u ++ w)
 turns_end code step h zero a u w x e d = subst (λ (l : List Terminal). EndsIn code (u ++ l)) (sym d.0) (subst (λ (l : List Terminal). EndsIn code l) (sym (append-nil u)) e)
 turns_end code step h (suc k) a u w x e (inl (v, z, y, j, d, g)) =
-    subst (λ (l : List Terminal). EndsIn code (u ++ l)) (sym j) (subst (λ (l : List Terminal). EndsIn code l) (append_assoc u v z) (turns_end code step h k y (u ++ v) z x (behind_in code u v (h a v y d)) g))
+    subst (λ (l : List Terminal). EndsIn code (u ++ l)) (sym j)
+    (subst (λ (l : List Terminal). EndsIn code l) (append_assoc u v z) (turns_end code step h k y (u ++ v) z x (behind_in code u v (h a v y d)) g))
 turns_end code step h (suc k) a u w x e (inr d) = subst (λ (l : List Terminal). EndsIn code (u ++ l)) (sym d.0) (subst (λ (l : List Terminal). EndsIn code l) (sym (append-nil u)) e)
 
 -- ---- files

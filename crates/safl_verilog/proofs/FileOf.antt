@@ -11,7 +11,9 @@ use Rattle.safl_net.specs.declared.cell.Op.TheVariants as ops
 use Rattle.safl_net.specs.Netlist.{Netlist, Signal, Kind, Input, Reg, Wire, Cell, width_of}
 use Rattle.safl_net.specs.Written
 use Rattle.safl_net.specs.Making.{name_at as name_of}
-use Rattle.safl_net.specs.Written.{literal, declaration, operation, names_of, port, input_port, output_port, input_declaration, output_declaration, register_declaration, wire_declaration, assignment, wire_assignment, output_assignment, update, register_update, header, declarations, statements, written}
+use Rattle.safl_net.specs.Written.{literal, declaration, operation, names_of, port, input_port, output_port, input_declaration, output_declaration}
+use Rattle.safl_net.specs.Written.{register_declaration, wire_declaration, assignment, wire_assignment, output_assignment, update, register_update}
+use Rattle.safl_net.specs.Written.{header, declarations, statements, written}
 use Rattle.safl_verilog.specs.declared.token.Sort.{Sort}
 use Rattle.safl_verilog.specs.declared.token.Sort.TheVariants as sorts
 use Rattle.safl_verilog.specs.declared.token.Symbol.TheVariants as symbols
@@ -166,10 +168,13 @@ written_statements n = statements_of n (of_kind updated_kind n) (of_kind assigne
 
 texts : {X Y : Type 0} (item : Y → List Piece) (b : X → Y) (T : X → List ℕ) → ((x : X) → text_of_all (item (b x)) ≡ T x) → (xs : List X) → text_of_all (flat_map item (map b xs)) ≡ flat_map T xs
 texts item b T h [] = refl
-texts item b T h (x ∷ xs) = text_append (item (b x)) (flat_map item (map b xs)) ∙ ap (λ (l : List ℕ). l ++ text_of_all (flat_map item (map b xs))) (h x) ∙ ap (λ (l : List ℕ). T x ++ l) (texts item b T h xs)
+texts item b T h (x ∷ xs) = text_append (item (b x)) (flat_map item (map b xs)) ∙ ap (λ (l : List ℕ). l ++ text_of_all (flat_map item (map b xs)))
+    (h x) ∙ ap (λ (l : List ℕ). T x ++ l) (texts item b T h xs)
 
 -- items of the signals that pass a test, where nothing is written of the others
-texts_where : {Y : Type 0} (item : Y → List Piece) (b : Signal → Y) (T : Signal → List ℕ) (p : Kind → Bool) → ((g : Signal) → p g.kind ≡ true → text_of_all (item (b g)) ≡ T g) → ((g : Signal) → p g.kind ≡ false → T g ≡ []) → (gs : List Signal) → text_of_all (flat_map item (map b (filter (λ (g : Signal). p g.kind) gs))) ≡ flat_map T gs
+texts_where : {Y : Type 0} (item : Y → List Piece) (b : Signal → Y) (T : Signal → List ℕ) (p : Kind → Bool) →
+    ((g : Signal) → p g.kind ≡ true → text_of_all (item (b g)) ≡ T g) → ((g : Signal) → p g.kind ≡ false → T g ≡ []) → (gs : List Signal) →
+    text_of_all (flat_map item (map b (filter (λ (g : Signal). p g.kind) gs))) ≡ flat_map T gs
 texts_where item b T p holds fails [] = refl
 texts_where item b T p holds fails (g ∷ gs) = go (p g.kind) refl (filter (λ (g : Signal). p g.kind) gs) (texts_where item b T p holds fails gs)
   where
@@ -194,25 +199,32 @@ wire_text width name = simp append_assoc
 
 assign_text : (x : Spot) (e : Expression) (source : List ℕ) → text_of_all (expression_pieces e) ≡ source → text_of_all (statement_pieces (Assign x e)) ≡ assignment x.bytes source
 assign_text x e source h =
-    ap (λ (l : List ℕ). codes "  assign " ++ (x.bytes ++ (codes " = " ++ l))) (text_append (expression_pieces e) (sy symbols.Semicolon ∷ line_end ∷ []) ∙ ap (λ (l : List ℕ). l ++ codes ";\n") h) ∙ simp append_assoc
+    ap (λ (l : List ℕ). codes "  assign " ++ (x.bytes ++ (codes " = " ++ l)))
+    (text_append (expression_pieces e) (sy symbols.Semicolon ∷ line_end ∷ []) ∙ ap (λ (l : List ℕ). l ++ codes ";\n") h) ∙ simp append_assoc
 
 update_text : (name initial next : List ℕ) → text_of_all (statement_pieces (Always clock reset (spot_of name) (spot_of initial) (spot_of name) (spot_of next))) ≡ update name initial next
 update_text name initial next = simp append_assoc
 
 -- ---- texts of cells
 
-one_text : (n : Netlist) (f : Spot → Expression) (t : List (List ℕ) → List ℕ) → t [] ≡ [] → ((a b : List ℕ) (xs : List (List ℕ)) → t (a ∷ b ∷ xs) ≡ []) → ((a : Spot) → text_of_all (expression_pieces (f a)) ≡ t (a.bytes ∷ [])) → (xs : List ℕ) → text_of_all (expression_pieces (on_one f (map (named_spot n) xs))) ≡ t (names_of n xs)
+one_text : (n : Netlist) (f : Spot → Expression) (t : List (List ℕ) → List ℕ) → t [] ≡ [] →
+    ((a b : List ℕ) (xs : List (List ℕ)) → t (a ∷ b ∷ xs) ≡ []) → ((a : Spot) → text_of_all (expression_pieces (f a)) ≡ t (a.bytes ∷ [])) →
+    (xs : List ℕ) → text_of_all (expression_pieces (on_one f (map (named_spot n) xs))) ≡ t (names_of n xs)
 one_text n f t none more h [] = sym none
 one_text n f t none more h (a ∷ []) = h (named_spot n a)
 one_text n f t none more h (a ∷ (b ∷ xs)) = sym (more (name_of n a) (name_of n b) (names_of n xs))
 
-two_text : (n : Netlist) (f : Spot → Spot → Expression) (t : List (List ℕ) → List ℕ) → t [] ≡ [] → ((a : List ℕ) → t (a ∷ []) ≡ []) → ((a b c : List ℕ) (xs : List (List ℕ)) → t (a ∷ b ∷ c ∷ xs) ≡ []) → ((a b : Spot) → text_of_all (expression_pieces (f a b)) ≡ t (a.bytes ∷ b.bytes ∷ [])) → (xs : List ℕ) → text_of_all (expression_pieces (on_two f (map (named_spot n) xs))) ≡ t (names_of n xs)
+two_text : (n : Netlist) (f : Spot → Spot → Expression) (t : List (List ℕ) → List ℕ) → t [] ≡ [] → ((a : List ℕ) → t (a ∷ []) ≡ []) →
+    ((a b c : List ℕ) (xs : List (List ℕ)) → t (a ∷ b ∷ c ∷ xs) ≡ []) →
+    ((a b : Spot) → text_of_all (expression_pieces (f a b)) ≡ t (a.bytes ∷ b.bytes ∷ [])) → (xs : List ℕ) → text_of_all
+    (expression_pieces (on_two f (map (named_spot n) xs))) ≡ t (names_of n xs)
 two_text n f t none one more h [] = sym none
 two_text n f t none one more h (a ∷ []) = sym (one (name_of n a))
 two_text n f t none one more h (a ∷ (b ∷ [])) = h (named_spot n a) (named_spot n b)
 two_text n f t none one more h (a ∷ (b ∷ (c ∷ xs))) = sym (more (name_of n a) (name_of n b) (name_of n c) (names_of n xs))
 
-binary_text : (n : Netlist) (p : Primitive) (sign : List ℕ) → symbol_text (symbol_of p) ≡ sign → (xs : List ℕ) → text_of_all (expression_pieces (on_two (Binary p) (map (named_spot n) xs))) ≡ Written.two_operands sign (names_of n xs)
+binary_text : (n : Netlist) (p : Primitive) (sign : List ℕ) → symbol_text (symbol_of p) ≡ sign → (xs : List ℕ) → text_of_all
+    (expression_pieces (on_two (Binary p) (map (named_spot n) xs))) ≡ Written.two_operands sign (names_of n xs)
 binary_text n p sign e xs =
     two_text n (Binary p) (Written.two_operands sign) refl (λ a. refl) (λ a b c xs. refl)
     (λ a b. ap (λ (l : List ℕ). a.bytes ++ (32 ∷ (l ++ (32 ∷ (b.bytes ++ []))))) e ∙ simp (append_assoc, append-nil)) xs
@@ -326,19 +338,24 @@ module _ (n : Netlist) where
       let r = map (declare_signal sorts.Reg) (of_kind register_kind n) in
       let w = map (declare_signal sorts.Wire) (of_kind wire_kind n) in
       let pieces : List Declaration → List ℕ = λ ds. text_of_all (flat_map declaration_pieces ds) in
-      let join : (xs ys : List Declaration) → pieces (xs ++ ys) ≡ pieces xs ++ pieces ys = λ xs ys. ap text_of_all (flat_map-append declaration_pieces xs ys) ∙ text_append (flat_map declaration_pieces xs) (flat_map declaration_pieces ys) in
+      let join : (xs ys : List Declaration) → pieces (xs ++ ys) ≡ pieces xs ++ pieces ys = λ xs ys. ap text_of_all
+      (flat_map-append declaration_pieces xs ys) ∙ text_append (flat_map declaration_pieces xs) (flat_map declaration_pieces ys) in
       let a : pieces i ≡ flat_map input_declaration n.signals =
       texts_where declaration_pieces (declare_signal sorts.Input) input_declaration input_kind
       (λ g e. input_text g.width g.name ∙ sym (if_input g.kind (declaration (codes "input") g.width g.name) e)) (λ g e. not_input g.kind (declaration (codes "input") g.width g.name) e) n.signals in
       let b : pieces o ≡ flat_map (output_declaration n) n.outputs = texts declaration_pieces (declare_output n) (output_declaration n) (λ o. output_text (width_of n o.1) o.0) n.outputs in
       let c : pieces r ≡ flat_map register_declaration n.signals =
       texts_where declaration_pieces (declare_signal sorts.Reg) register_declaration register_kind
-      (λ g e. register_text g.width g.name ∙ sym (if_register g.kind (declaration (codes "reg") g.width g.name) e)) (λ g e. not_register g.kind (declaration (codes "reg") g.width g.name) e) n.signals in
+      (λ g e. register_text g.width g.name ∙ sym (if_register g.kind (declaration (codes "reg") g.width g.name) e))
+      (λ g e. not_register g.kind (declaration (codes "reg") g.width g.name) e) n.signals in
       let d : pieces w ≡ flat_map wire_declaration n.signals =
       texts_where declaration_pieces (declare_signal sorts.Wire) wire_declaration wire_kind
       (λ g e. wire_text g.width g.name ∙ sym (if_wire g.kind (declaration (codes "wire") g.width g.name) e)) (λ g e. not_wire g.kind (declaration (codes "wire") g.width g.name) e) n.signals in
-      let all : pieces (i ++ (o ++ (r ++ w))) ≡ flat_map input_declaration n.signals ++ (flat_map (output_declaration n) n.outputs ++ (flat_map register_declaration n.signals ++ flat_map wire_declaration n.signals)) =
-      join i (o ++ (r ++ w)) ∙ ap (λ (l : List ℕ). l ++ pieces (o ++ (r ++ w))) a ∙ ap (λ (l : List ℕ). flat_map input_declaration n.signals ++ l) (join o (r ++ w) ∙ ap (λ (l : List ℕ). l ++ pieces (r ++ w)) b ∙ ap (λ (l : List ℕ). flat_map (output_declaration n) n.outputs ++ l) (join r w ∙ ap (λ (l : List ℕ). l ++ pieces w) c ∙ ap (λ (l : List ℕ). flat_map register_declaration n.signals ++ l) d)) in
+      let all : pieces (i ++ (o ++ (r ++ w))) ≡ flat_map input_declaration n.signals ++
+      (flat_map (output_declaration n) n.outputs ++ (flat_map register_declaration n.signals ++ flat_map wire_declaration n.signals)) =
+      join i (o ++ (r ++ w)) ∙ ap (λ (l : List ℕ). l ++ pieces (o ++ (r ++ w))) a ∙ ap (λ (l : List ℕ). flat_map input_declaration n.signals ++ l)
+      (join o (r ++ w) ∙ ap (λ (l : List ℕ). l ++ pieces (r ++ w)) b ∙ ap (λ (l : List ℕ). flat_map (output_declaration n) n.outputs ++ l)
+      (join r w ∙ ap (λ (l : List ℕ). l ++ pieces w) c ∙ ap (λ (l : List ℕ). flat_map register_declaration n.signals ++ l) d)) in
       ap (λ (l : List ℕ). codes "  input clk;\n  input rst;\n" ++ l) all ∙ simp append_assoc
 
   statements_text : text_of_all (flat_map statement_pieces (written_statements n)) ≡ statements n
@@ -347,14 +364,16 @@ module _ (n : Netlist) where
       let o = map (assign_output n) n.outputs in
       let r = map (update_signal n) (of_kind updated_kind n) in
       let pieces : List Statement → List ℕ = λ ss. text_of_all (flat_map statement_pieces ss) in
-      let join : (xs ys : List Statement) → pieces (xs ++ ys) ≡ pieces xs ++ pieces ys = λ xs ys. ap text_of_all (flat_map-append statement_pieces xs ys) ∙ text_append (flat_map statement_pieces xs) (flat_map statement_pieces ys) in
+      let join : (xs ys : List Statement) → pieces (xs ++ ys) ≡ pieces xs ++ pieces ys = λ xs ys. ap text_of_all
+      (flat_map-append statement_pieces xs ys) ∙ text_append (flat_map statement_pieces xs) (flat_map statement_pieces ys) in
       let a : pieces w ≡ flat_map (wire_assignment n) n.signals =
       texts_where statement_pieces (assign_signal n) (wire_assignment n) assigned_kind (λ g e. if_assigned n g.name g.kind e) (λ g e. not_assigned n g.name g.kind e) n.signals in
       let b : pieces o ≡ flat_map (output_assignment n) n.outputs =
       texts statement_pieces (assign_output n) (output_assignment n) (λ o. assign_text (output_spot o) (Plain (named_spot n o.1)) (name_of n o.1) (append-nil (name_of n o.1))) n.outputs in
       let c : pieces r ≡ flat_map (register_update n) n.signals =
       texts_where statement_pieces (update_signal n) (register_update n) updated_kind (λ g e. if_updated n g g.kind e) (λ g e. not_updated n g.name g.width g.kind e) n.signals in
-      join w (o ++ r) ∙ ap (λ (l : List ℕ). l ++ pieces (o ++ r)) a ∙ ap (λ (l : List ℕ). flat_map (wire_assignment n) n.signals ++ l) (join o r ∙ ap (λ (l : List ℕ). l ++ pieces r) b ∙ ap (λ (l : List ℕ). flat_map (output_assignment n) n.outputs ++ l) c) ∙ simp append_assoc
+      join w (o ++ r) ∙ ap (λ (l : List ℕ). l ++ pieces (o ++ r)) a ∙ ap (λ (l : List ℕ). flat_map (wire_assignment n) n.signals ++ l)
+      (join o r ∙ ap (λ (l : List ℕ). l ++ pieces r) b ∙ ap (λ (l : List ℕ). flat_map (output_assignment n) n.outputs ++ l) c) ∙ simp append_assoc
 
   pub file_text : text_of_all (file_pieces clock (reset ∷ written_ports n) (written_declarations n) (written_statements n)) ≡ written n
   unfolding written
@@ -363,13 +382,18 @@ module _ (n : Netlist) where
       let ds = flat_map declaration_pieces (written_declarations n) in
       let ss = flat_map statement_pieces (written_statements n) in
       let start : List ℕ → List ℕ = λ (l : List ℕ). codes "module safl (clk, rst" ++ l in
-      let a : text_of_all (ps ++ header_end (body_pieces (written_declarations n) (written_statements n))) ≡ text_of_all ps ++ (codes ");\n" ++ (text_of_all ds ++ (text_of_all ss ++ codes "endmodule\n"))) =
-      text_append ps (header_end (body_pieces (written_declarations n) (written_statements n))) ∙ ap (λ (l : List ℕ). text_of_all ps ++ (codes ");\n" ++ l)) (text_append ds (ss ++ last_pieces) ∙ ap (λ (l : List ℕ). text_of_all ds ++ l) (text_append ss last_pieces)) in
-      let b : text_of_all ps ++ (codes ");\n" ++ (text_of_all ds ++ (text_of_all ss ++ codes "endmodule\n"))) ≡ (flat_map input_port n.signals ++ flat_map output_port n.outputs) ++ (codes ");\n" ++ (declarations n ++ (statements n ++ codes "endmodule\n"))) =
+      let a : text_of_all (ps ++ header_end (body_pieces (written_declarations n) (written_statements n))) ≡ text_of_all ps ++ (codes ");\n" ++
+      (text_of_all ds ++ (text_of_all ss ++ codes "endmodule\n"))) =
+      text_append ps (header_end (body_pieces (written_declarations n) (written_statements n))) ∙ ap
+      (λ (l : List ℕ). text_of_all ps ++ (codes ");\n" ++ l)) (text_append ds (ss ++ last_pieces) ∙ ap (λ (l : List ℕ). text_of_all ds ++ l)
+      (text_append ss last_pieces)) in
+      let b : text_of_all ps ++ (codes ");\n" ++ (text_of_all ds ++ (text_of_all ss ++ codes "endmodule\n"))) ≡
+      (flat_map input_port n.signals ++ flat_map output_port n.outputs) ++ (codes ");\n" ++ (declarations n ++ (statements n ++ codes "endmodule\n"))) =
       ap (λ (l : List ℕ). l ++ (codes ");\n" ++ (text_of_all ds ++ (text_of_all ss ++ codes "endmodule\n")))) ports_text
       ∙ ap (λ (l : List ℕ). (flat_map input_port n.signals ++ flat_map output_port n.outputs) ++ (codes ");\n" ++ (l ++ (text_of_all ss ++ codes "endmodule\n")))) declarations_text
       ∙ ap (λ (l : List ℕ). (flat_map input_port n.signals ++ flat_map output_port n.outputs) ++ (codes ");\n" ++ (declarations n ++ (l ++ codes "endmodule\n")))) statements_text in
       ap start (a ∙ b) ∙ joined_text (flat_map input_port n.signals) (flat_map output_port n.outputs) (declarations n) (statements n)
     where
-      joined_text : (i o d s : List ℕ) → codes "module safl (clk, rst" ++ ((i ++ o) ++ (codes ");\n" ++ (d ++ (s ++ codes "endmodule\n")))) ≡ codes "module safl (clk, rst" ++ i ++ o ++ codes ");\n" ++ d ++ s ++ codes "endmodule\n"
+      joined_text : (i o d s : List ℕ) → codes "module safl (clk, rst" ++ ((i ++ o) ++ (codes ");\n" ++ (d ++ (s ++ codes "endmodule\n")))) ≡ codes
+          "module safl (clk, rst" ++ i ++ o ++ codes ");\n" ++ d ++ s ++ codes "endmodule\n"
       joined_text i o d s = simp append_assoc

@@ -1,5 +1,6 @@
 -- The piece that is found at the front of a text stands there.
-use Rattle.std.proofs.Common.{◌≡◌, ◌≢◌, ℕ, suc, ◌+◌, ◌≤◌, List, [], ◌∷◌, ◌++◌, length, take, drop, true, not, ◌==◌, nat_le, Some, None, Option, refl, sym, ap, subst, ◌∙◌, arith, inl, inr, append_assoc}
+use Rattle.std.proofs.Common.{◌≡◌, ◌≢◌, ℕ, suc, ◌+◌, ◌≤◌, List, [], ◌∷◌, ◌++◌, length, take, drop, true, not, ◌==◌, nat_le, Some, None, Option, refl}
+use Rattle.std.proofs.Common.{sym, ap, subst, ◌∙◌, arith, inl, inr, append_assoc}
 use Rattle.std.proofs.Math.Seq.{take-append_seam, take-append-add, drop-append-add}
 use Rattle.std.proofs.lemmas.List.{take-append-drop, length-take-le}
 use Rattle.std.proofs.lemmas.Bool.Decides.{Decides-eqb, nat_tests}
@@ -11,7 +12,8 @@ use Rattle.safl_verilog.specs.declared.token.Symbol.{Symbol}
 use Rattle.safl_verilog.specs.declared.token.TokenKind.{TokenKind}
 use Rattle.safl_verilog.specs.declared.token.TokenKind.TheVariants as kinds
 use Rattle.safl_verilog.specs.Tokens.{keyword_text, symbol_text, name_max, stops, next_base, base_with, IsToken, Piece, Blank, Line, Block, Lexeme, text_of, StandsBefore}
-use Rattle.safl_verilog.specs.Pieces.{run, named, all_keywords, single_symbols, double_symbols, word_kind, first_bytes, first_word, sized_length, first_number, one_symbol, two_symbols, first_symbol, closing, block, first_comment, first_piece}
+use Rattle.safl_verilog.specs.Pieces.{run, named, all_keywords, single_symbols, double_symbols, word_kind, first_bytes, first_word, sized_length}
+use Rattle.safl_verilog.specs.Pieces.{first_number, one_symbol, two_symbols, first_symbol, closing, block, first_comment, first_piece}
 use Rattle.safl_verilog.proofs.Runs.{chosen, some_is, run_le, run_all, run_stops, are_parts-all, named_has}
 use Rattle.safl_verilog.proofs.Closing.{closed}
 use Rattle.safl_verilog.proofs.Bytes.{start_part}
@@ -37,7 +39,8 @@ word_like c w h = rw (start_part c h, h, are_parts-all (take (run is_part w) w),
 pub no_keyword : (w : List ℕ) → named keyword_text all_keywords w ≡ None → (k : Keyword) → w ≢ keyword_text k
 no_keyword w e k h = let f = ap (named keyword_text all_keywords) h ∙ keyword_named k in let g : None ≡ Some k = sym e ∙ f in cc
 
-pub word_kinds : (w rest : List ℕ) → is_identifier w ≡ true → length w ≤ name_max → stops is_part rest ≡ true → (o : Option Keyword) → named keyword_text all_keywords w ≡ o → IsToken (word_kind o) w rest
+pub word_kinds : (w rest : List ℕ) → is_identifier w ≡ true → length w ≤ name_max → stops is_part rest ≡ true → (o : Option Keyword) → named
+    keyword_text all_keywords w ≡ o → IsToken (word_kind o) w rest
 word_kinds w rest like short stop None e = (record { like = like; short = short; free = no_keyword w e }, stop)
 word_kinds w rest like short stop (Some k) e = (named_has keyword_text all_keywords w k e, stop)
 
@@ -85,16 +88,20 @@ based (q ∷ (b ∷ (d ∷ rest))) base e = elim (chosen (q == 39) (base_with (b
   | inr a ↦ absurd (let f : None ≡ Some base = a.1 in cc)
 ]
 
-sized_found : (u v : List ℕ) (base : ℕ) → IsNumeral 10 u → (k : Based v base) → IsToken kinds.Sized (take (sized_length (length u) base (u ++ v)) (u ++ v)) (drop (sized_length (length u) base (u ++ v)) (u ++ v))
+sized_found : (u v : List ℕ) (base : ℕ) → IsNumeral 10 u → (k : Based v base) → IsToken kinds.Sized
+    (take (sized_length (length u) base (u ++ v)) (u ++ v)) (drop (sized_length (length u) base (u ++ v)) (u ++ v))
 sized_found u v base width k =
     let z : List ℕ = k.first ∷ k.rest in
     let m = run (is_digit base) z in
     let whole : u ++ v ≡ u ++ 39 ∷ k.letter ∷ z = ap (λ (l : List ℕ). u ++ l) k.is in
     let two : suc (suc (length u)) ≡ length u + 2 = omega arith in
-    let behind : drop (suc (suc (length u))) (u ++ v) ≡ z = ap (λ (l : List ℕ). drop (suc (suc (length u))) l) whole ∙ ap (λ n. drop n (u ++ 39 ∷ k.letter ∷ z)) two ∙ drop-append-add u (39 ∷ k.letter ∷ z) 2 in
+    let behind : drop (suc (suc (length u))) (u ++ v) ≡ z = ap (λ (l : List ℕ). drop (suc (suc (length u))) l) whole ∙ ap
+    (λ n. drop n (u ++ 39 ∷ k.letter ∷ z)) two ∙ drop-append-add u (39 ∷ k.letter ∷ z) 2 in
     let size : sized_length (length u) base (u ++ v) ≡ length u + suc (suc m) = ap (λ (l : List ℕ). length u + suc (suc (run (is_digit base) l))) behind in
-    let front : take (sized_length (length u) base (u ++ v)) (u ++ v) ≡ u ++ 39 ∷ k.letter ∷ take m z = ap (λ n. take n (u ++ v)) size ∙ ap (λ (l : List ℕ). take (length u + suc (suc m)) l) whole ∙ take-append-add u (39 ∷ k.letter ∷ z) (suc (suc m)) in
-    let back : drop (sized_length (length u) base (u ++ v)) (u ++ v) ≡ drop m z = ap (λ n. drop n (u ++ v)) size ∙ ap (λ (l : List ℕ). drop (length u + suc (suc m)) l) whole ∙ drop-append-add u (39 ∷ k.letter ∷ z) (suc (suc m)) in
+    let front : take (sized_length (length u) base (u ++ v)) (u ++ v) ≡ u ++ 39 ∷ k.letter ∷ take m z = ap (λ n. take n (u ++ v)) size ∙ ap
+    (λ (l : List ℕ). take (length u + suc (suc m)) l) whole ∙ take-append-add u (39 ∷ k.letter ∷ z) (suc (suc m)) in
+    let back : drop (sized_length (length u) base (u ++ v)) (u ++ v) ≡ drop m z = ap (λ n. drop n (u ++ v)) size ∙ ap
+    (λ (l : List ℕ). drop (length u + suc (suc m)) l) whole ∙ drop-append-add u (39 ∷ k.letter ∷ z) (suc (suc m)) in
     record {
       parts = record { width = u; letter = k.letter; base = base; digits = take m z };
       joined = front;
@@ -102,25 +109,32 @@ sized_found u v base width k =
       longest = subst (λ (l : List ℕ). stops (is_digit base) l ≡ true) (sym back) (run_stops (is_digit base) z);
     }
 
-number_kinds : (w : List ℕ) (n : ℕ) (x : Piece) → n ≤ length w → IsNumeral 10 (take n w) → stops (is_digit 10) (drop n w) ≡ true → (o : Option ℕ) → next_base (drop n w) ≡ o → first_number o n w ≡ Some x → Cut w x
+number_kinds : (w : List ℕ) (n : ℕ) (x : Piece) → n ≤ length w → IsNumeral 10 (take n w) → stops (is_digit 10) (drop n w) ≡ true → (o : Option ℕ) →
+    next_base (drop n w) ≡ o → first_number o n w ≡ Some x → Cut w x
 number_kinds w n x le digits stop None b e = cut_as w _ _ x (of_first w n kinds.Number (digits, stop, b)) refl e
 number_kinds w n x le digits stop (Some base) b e =
     let k = based (drop n w) base b in
     let size : length (take n w) ≡ n = length-take-le n w le in
     let parts : take n w ++ drop n w ≡ w = take-append-drop n w in
     let t = sized_found (take n w) (drop n w) base digits k in
-    let t2 = subst (λ j. IsToken kinds.Sized (take (sized_length j base (take n w ++ drop n w)) (take n w ++ drop n w)) (drop (sized_length j base (take n w ++ drop n w)) (take n w ++ drop n w))) size t in
+    let t2 = subst (λ j. IsToken kinds.Sized (take (sized_length j base (take n w ++ drop n w)) (take n w ++ drop n w))
+    (drop (sized_length j base (take n w ++ drop n w)) (take n w ++ drop n w))) size t in
     let t3 = subst (λ (l : List ℕ). IsToken kinds.Sized (take (sized_length n base l) l) (drop (sized_length n base l) l)) parts t2 in
     cut_as w _ _ x (of_first w (sized_length n base w) kinds.Sized t3) refl e
 
 -- ---- symbols
 
-one_found : (c : ℕ) (w : List ℕ) (x : Piece) → ((d : ℕ) (v : List ℕ) → w ≡ d ∷ v → named symbol_text double_symbols (c ∷ d ∷ []) ≡ None) → (o : Option Symbol) → named symbol_text single_symbols (c ∷ []) ≡ o → one_symbol c o ≡ Some x → Cut (c ∷ w) x
+one_found : (c : ℕ) (w : List ℕ) (x : Piece) → ((d : ℕ) (v : List ℕ) → w ≡ d ∷ v → named symbol_text double_symbols (c ∷ d ∷ []) ≡ None) →
+    (o : Option Symbol) → named symbol_text single_symbols (c ∷ []) ≡ o → one_symbol c o ≡ Some x → Cut (c ∷ w) x
 one_found c w x longer None h e = absurd cc
 one_found c w x longer (Some s) h e = cut_as (c ∷ w) (Lexeme (kinds.Symbol s) (c ∷ [])) _ x (record {
   rest = w;
   joined = refl;
-  stands = (named_has symbol_text single_symbols (c ∷ []) s h, λ t d v a f. let g = sym (longer d v a) ∙ ap (named symbol_text double_symbols) (sym f) ∙ double_named t c d f in let i : None ≡ Some t = g in cc);
+  stands = (
+    named_has symbol_text single_symbols (c ∷ []) s h,
+    λ t d v a f. let g = sym (longer d v a) ∙ ap (named symbol_text double_symbols) (sym f)
+        ∙ double_named t c d f in let i : None ≡ Some t = g in cc,
+  );
 }) refl e
 
 symbol_found : (c : ℕ) (w : List ℕ) (x : Piece) → first_symbol c w ≡ Some x → Cut (c ∷ w) x
@@ -129,7 +143,8 @@ symbol_found c (d ∷ w) x e = go (named symbol_text double_symbols (c ∷ d ∷
   where
     go : (o : Option Symbol) → named symbol_text double_symbols (c ∷ d ∷ []) ≡ o → two_symbols c d o ≡ Some x → Cut (c ∷ d ∷ w) x
     go None h e = one_found c (d ∷ w) x (λ d' v a. let same : d ≡ d' = cc in ap (λ k. named symbol_text double_symbols (c ∷ k ∷ [])) (sym same) ∙ h) (named symbol_text single_symbols (c ∷ [])) refl e
-    go (Some s) h e = cut_as (c ∷ d ∷ w) (Lexeme (kinds.Symbol s) (c ∷ d ∷ [])) _ x (record { rest = w; joined = refl; stands = (named_has symbol_text double_symbols (c ∷ d ∷ []) s h, λ t f v a. no_third t c d f) }) refl e
+    go (Some s) h e = cut_as (c ∷ d ∷ w) (Lexeme (kinds.Symbol s) (c ∷ d ∷ [])) _ x
+        (record { rest = w; joined = refl; stands = (named_has symbol_text double_symbols (c ∷ d ∷ []) s h, λ t f v a. no_third t c d f) }) refl e
 
 -- ---- comments
 
@@ -138,14 +153,23 @@ block_found w x None h e = absurd cc
 block_found w x (Some n) h e =
     let k = closed w n h in
     let front : take n w ≡ k.inner = ap (λ (l : List ℕ). take n l) k.joined ∙ ap (λ j. take j (k.inner ++ 42 ∷ 47 ∷ k.rest)) (sym k.size) ∙ take-append_seam k.inner (42 ∷ 47 ∷ k.rest) in
-    cut_as (47 ∷ 42 ∷ w) (Block k.inner) _ x (record { rest = k.rest; joined = ap (λ (l : List ℕ). 47 ∷ 42 ∷ l) (k.joined ∙ sym (append_assoc k.inner (42 ∷ 47 ∷ []) k.rest)); stands = k.first }) (ap (λ (l : List ℕ). Some (Block l)) front) e
+    cut_as (47 ∷ 42 ∷ w) (Block k.inner) _ x (record {
+      rest = k.rest;
+      joined = ap (λ (l : List ℕ). 47 ∷ 42 ∷ l)
+          (k.joined ∙ sym (append_assoc k.inner (42 ∷ 47 ∷ []) k.rest));
+      stands = k.first;
+    }) (ap (λ (l : List ℕ). Some (Block l)) front) e
 
 comment_found : (w : List ℕ) (x : Piece) → first_comment w ≡ Some x → Cut (47 ∷ w) x
 comment_found [] x e = absurd cc
 comment_found (c ∷ w) x e = elim (chosen (c == 47) _ _ (Some x) e) [
   | inl a ↦ subst (λ k. Cut (47 ∷ k ∷ w) x) (sym ((Decides-eqb c 47).0 a.0)) (
       let n = run (λ b. not (b == 10)) w in
-      cut_as (47 ∷ 47 ∷ w) (Line (take n w)) _ x (record { rest = drop n w; joined = ap (λ (l : List ℕ). 47 ∷ 47 ∷ l) (sym (take-append-drop n w)); stands = (run_all (λ b. not (b == 10)) w, run_stops (λ b. not (b == 10)) w) }) refl a.1)
+      cut_as (47 ∷ 47 ∷ w) (Line (take n w)) _ x (record {
+        rest = drop n w;
+        joined = ap (λ (l : List ℕ). 47 ∷ 47 ∷ l) (sym (take-append-drop n w));
+        stands = (run_all (λ b. not (b == 10)) w, run_stops (λ b. not (b == 10)) w);
+      }) refl a.1)
   | inr a ↦ elim (chosen (c == 42) (block w (closing w)) None (Some x) a.1) [
     | inl b ↦ subst (λ k. Cut (47 ∷ k ∷ w) x) (sym ((Decides-eqb c 42).0 b.0)) (block_found w x (closing w) refl b.1)
     | inr b ↦ absurd (let f : None ≡ Some x = b.1 in cc)
@@ -164,7 +188,8 @@ piece_found (c ∷ w) x e = elim (chosen (is_blank c) _ _ (Some x) e) [
     | inr b ↦ elim (chosen (is_start c) _ _ (Some x) b.1) [
       | inl d ↦ word_found c w x d.0 d.1
       | inr d ↦ elim (chosen (is_digit 10 c) _ _ (Some x) d.1) [
-        | inl g ↦ number_kinds (c ∷ w) (run (is_digit 10) (c ∷ w)) x (run_le (is_digit 10) (c ∷ w)) (numeral_front 10 c w g.0) (run_stops (is_digit 10) (c ∷ w)) (next_base (drop (run (is_digit 10) (c ∷ w)) (c ∷ w))) refl g.1
+        | inl g ↦ number_kinds (c ∷ w) (run (is_digit 10) (c ∷ w)) x (run_le (is_digit 10) (c ∷ w)) (numeral_front 10 c w g.0)
+            (run_stops (is_digit 10) (c ∷ w)) (next_base (drop (run (is_digit 10) (c ∷ w)) (c ∷ w))) refl g.1
         | inr g ↦ symbol_found c w x g.1
       ]
     ]

@@ -83,5 +83,14 @@ front_of [] (c ∷ f) r h e = absurd cc
 front_of (x ∷ xs) f r h e =
     elim (either_front (text_of x) (text_of_all xs ++ []) f r (sym (append_assoc (text_of x) (text_of_all xs) []) ∙ e)) [
       | inl k ↦ longer x xs f k.0 r k.1 k.2 h.0 (front_of xs k.0 r h.1 k.2)
-      | inr k ↦ record { pieces = []; more = x ∷ xs; part = f; joined = refl; text = refl; stand = tt; ends = inr (record { piece = x; later = xs; next = k.0; left = k.1; parts = refl; stands = h.0; cut = k.2 }) }
+      | inr k ↦ record {
+        pieces = [];
+        more = x ∷ xs;
+        part = f;
+        joined = refl;
+        text = refl;
+        stand = tt;
+        ends = inr
+            (record { piece = x; later = xs; next = k.0; left = k.1; parts = refl; stands = h.0; cut = k.2 });
+      }
     ]

@@ -18,7 +18,10 @@ use Rattle.safl_verilog.specs.Tokens.{Terminal}
 use Rattle.safl_verilog.specs.Files.{Spot, Expression, Literal, Plain, Inverted, Binary, Choice, Joined, Slice, Declaration, Statement, Assign, Always, File}
 use Rattle.safl_verilog.specs.Grammar
 use Rattle.safl_verilog.specs.Grammar.{code, code_of, spot, classed, operators, sort_codes, of_code, word, symbol, keyword_code, symbol_code}
-use Rattle.safl_verilog.specs.Reader.{read_code, read_word, read_symbol, read_constant, read_inverted, read_binary, read_choice, read_joined, read_slice, read_named, read_cell, read_written_range, read_range, read_decl, read_assign, read_otherwise, read_at_reset, read_always, read_stmt, read_another_id, read_ids, read_another_decl, read_decls, read_another_stmt, read_stmts, read_body, read_file, read_text}
+use Rattle.safl_verilog.specs.Reader.{read_code, read_word, read_symbol, read_constant, read_inverted, read_binary, read_choice, read_joined}
+use Rattle.safl_verilog.specs.Reader.{read_slice, read_named, read_cell, read_written_range, read_range, read_decl, read_assign, read_otherwise}
+use Rattle.safl_verilog.specs.Reader.{read_at_reset, read_always, read_stmt, read_another_id, read_ids, read_another_decl, read_decls}
+use Rattle.safl_verilog.specs.Reader.{read_another_stmt, read_stmts, read_body, read_file, read_text}
 
 classed_within : {A : Type 0} (codes : List ℕ) (value : Terminal → A) (t : Terminal) (x : A) → classed codes value t ≡ Some x → within (Only codes) (code (Some t)) ≡ true
 classed_within codes value t x e = go (within (Only codes) (code_of t.kind)) e
@@ -27,7 +30,8 @@ classed_within codes value t x e = go (within (Only codes) (code_of t.kind)) e
     go true e = refl
     go false e = absurd cc
 
-one_of : {A : Type 0} (codes : List ℕ) (value : Terminal → A) → Parses code (read_token (classed codes value)) (token (classed codes value)) (token (classed codes value)) false (Only codes) (Only []) Every
+one_of : {A : Type 0} (codes : List ℕ) (value : Terminal → A) → Parses code (read_token (classed codes value)) (token (classed codes value))
+    (token (classed codes value)) false (Only codes) (Only []) Every
 one_of codes value = parses_token code (classed codes value) (Only codes) (classed_within codes value)
 
 k : (n : ℕ) → Parses code (read_code n) (of_code n) (of_code n) false (Only (n ∷ [])) (Only []) Every
@@ -56,34 +60,47 @@ binary_parses a = then (one_of operators (λ t. Grammar.primitive_in t.kind)) (�
 
 choice_parses : (a : Spot) → Parses code (read_choice a) (Grammar.choice_end a) (Grammar.choice_end a) false (Only (29 ∷ [])) (Only []) semicolon
 unfolding read_choice
-choice_parses a = then (s symbols.Question) (λ o. then (k 1) (λ b. then (s symbols.Colon) (λ l. then (k 1) (λ c. parses_nothing code (Choice a b c) semicolon) refl refl) refl refl) refl refl) refl refl
+choice_parses a = then (s symbols.Question) (λ o. then (k 1)
+    (λ b. then (s symbols.Colon) (λ l. then (k 1) (λ c. parses_nothing code (Choice a b c) semicolon) refl refl) refl refl) refl refl) refl refl
 
 joined_parses : Parses code read_joined Grammar.joined Grammar.joined false (Only (30 ∷ [])) (Only []) semicolon
 unfolding read_joined
-joined_parses = then (s symbols.OpenBrace) (λ o. then (k 1) (λ a. then (s symbols.Comma) (λ l. then (k 1) (λ b. then (s symbols.CloseBrace) (λ m. parses_nothing code (Joined a b) semicolon) refl refl) refl refl) refl refl) refl refl) refl refl
+joined_parses = then (s symbols.OpenBrace) (λ o. then (k 1) (λ a. then (s symbols.Comma)
+    (λ l. then (k 1) (λ b. then (s symbols.CloseBrace) (λ m. parses_nothing code (Joined a b) semicolon) refl refl) refl refl) refl refl) refl refl) refl refl
 
 slice_parses : (a : Spot) → Parses code (read_slice a) (Grammar.slice_end a) (Grammar.slice_end a) false (Only (24 ∷ [])) (Only []) semicolon
 unfolding read_slice
-slice_parses a = then (s symbols.OpenBracket) (λ o. then (k 2) (λ high. then (s symbols.Colon) (λ l. then (k 2) (λ low. then (s symbols.CloseBracket) (λ m. parses_nothing code (Slice a high low) semicolon) refl refl) refl refl) refl refl) refl refl) refl refl
+slice_parses a = then (s symbols.OpenBracket) (λ o. then (k 2)
+    (λ high. then (s symbols.Colon) (λ l. then (k 2) (λ low. then (s symbols.CloseBracket) (λ m. parses_nothing code (Slice a high low) semicolon)
+    refl refl) refl refl) refl refl) refl refl) refl refl
 
 abbrev by_names : Syntax Terminal Expression
 by_names = either (follows Grammar.id Grammar.binary_end) (either (follows Grammar.id Grammar.choice_end) (either (follows Grammar.id Grammar.slice_end) (follows Grammar.id Grammar.plain_end)))
 
 -- the four that begin with an identifier are read as one
 factored : Same (follows Grammar.id (λ a. either (Grammar.binary_end a) (either (Grammar.choice_end a) (either (Grammar.slice_end a) (Grammar.plain_end a))))) by_names
-factored = same_then (same_factored Grammar.id Grammar.binary_end (λ a. either (Grammar.choice_end a) (either (Grammar.slice_end a) (Grammar.plain_end a)))) (same_either (same (follows Grammar.id Grammar.binary_end)) (same_then (same_factored Grammar.id Grammar.choice_end (λ a. either (Grammar.slice_end a) (Grammar.plain_end a))) (same_either (same (follows Grammar.id Grammar.choice_end)) (same_factored Grammar.id Grammar.slice_end Grammar.plain_end))))
+factored = same_then (same_factored Grammar.id Grammar.binary_end
+    (λ a. either (Grammar.choice_end a) (either (Grammar.slice_end a) (Grammar.plain_end a))))
+    (same_either (same (follows Grammar.id Grammar.binary_end))
+    (same_then (same_factored Grammar.id Grammar.choice_end (λ a. either (Grammar.slice_end a) (Grammar.plain_end a)))
+    (same_either (same (follows Grammar.id Grammar.choice_end)) (same_factored Grammar.id Grammar.slice_end Grammar.plain_end))))
 
 named_parses : Parses code read_named by_names by_names false (Only (1 ∷ [])) (Only []) semicolon
 unfolding read_named
-named_parses = parses_same by_names by_names (then (k 1) (λ a. or_else (Only operators) (binary_parses a) (or_else (Only (29 ∷ [])) (choice_parses a) (or_else (Only (24 ∷ [])) (slice_parses a) (parses_nothing code (Plain a) semicolon) refl refl refl refl) refl refl refl refl) refl refl refl refl) refl refl) factored factored
+named_parses = parses_same by_names by_names (then (k 1) (λ a. or_else (Only operators) (binary_parses a)
+    (or_else (Only (29 ∷ [])) (choice_parses a) (or_else (Only (24 ∷ [])) (slice_parses a) (parses_nothing code (Plain a) semicolon) refl refl refl
+    refl) refl refl refl refl) refl refl refl refl) refl refl) factored factored
 
 cell_parses : Parses code read_cell Grammar.cell Grammar.cell false (Only (3 ∷ 1 ∷ 28 ∷ 30 ∷ [])) (Only []) semicolon
 unfolding read_cell
-cell_parses = or_else (Only (3 ∷ [])) constant_parses (or_else (Only (1 ∷ [])) named_parses (or_else (Only (28 ∷ [])) inverted_parses joined_parses refl refl refl refl) refl refl refl refl) refl refl refl refl
+cell_parses = or_else (Only (3 ∷ [])) constant_parses (or_else (Only (1 ∷ [])) named_parses
+    (or_else (Only (28 ∷ [])) inverted_parses joined_parses refl refl refl refl) refl refl refl refl) refl refl refl refl
 
 written_range_parses : Parses code read_written_range Grammar.written_range Grammar.written_range false (Only (24 ∷ [])) (Only []) (Only (1 ∷ []))
 unfolding read_written_range
-written_range_parses = then (s symbols.OpenBracket) (λ o. then (k 2) (λ high. then (s symbols.Colon) (λ l. then (k 2) (λ low. then (s symbols.CloseBracket) (λ m. parses_nothing code (Some (high, low)) (Only (1 ∷ []))) refl refl) refl refl) refl refl) refl refl) refl refl
+written_range_parses = then (s symbols.OpenBracket) (λ o. then (k 2)
+    (λ high. then (s symbols.Colon) (λ l. then (k 2) (λ low. then (s symbols.CloseBracket)
+    (λ m. parses_nothing code (Some (high, low)) (Only (1 ∷ []))) refl refl) refl refl) refl refl) refl refl) refl refl
 
 range_parses : Parses code read_range Grammar.range Grammar.range true (Only (24 ∷ [])) (Only []) (Only (1 ∷ []))
 unfolding read_range
@@ -91,23 +108,35 @@ range_parses = or_else (Only (24 ∷ [])) written_range_parses (parses_nothing c
 
 decl_parses : Parses code read_decl Grammar.decl Grammar.decl false (Only sort_codes) (Only []) Every
 unfolding read_decl
-decl_parses = then (one_of sort_codes (λ t. Grammar.sort_in t.kind)) (λ d. then range_parses (λ r. then (k 1) (λ a. then (s symbols.Semicolon) (λ e. parses_nothing code (record { sort = d; range = r; name = a }) Every) refl refl) refl refl) refl refl) refl refl
+decl_parses = then (one_of sort_codes (λ t. Grammar.sort_in t.kind))
+    (λ d. then range_parses (λ r. then (k 1) (λ a. then (s symbols.Semicolon)
+    (λ e. parses_nothing code (record { sort = d; range = r; name = a }) Every) refl refl) refl refl) refl refl) refl refl
 
 assign_parses : Parses code read_assign Grammar.assign Grammar.assign false (Only (10 ∷ [])) (Only []) Every
 unfolding read_assign
-assign_parses = then (w keywords.Assign) (λ o. then (k 1) (λ a. then (s symbols.Becomes) (λ e. then cell_parses (λ c. then (s symbols.Semicolon) (λ z. parses_nothing code (Assign a c) Every) refl refl) refl refl) refl refl) refl refl) refl refl
+assign_parses = then (w keywords.Assign) (λ o. then (k 1) (λ a. then (s symbols.Becomes)
+    (λ e. then cell_parses (λ c. then (s symbols.Semicolon) (λ z. parses_nothing code (Assign a c) Every) refl refl) refl refl) refl refl) refl refl) refl refl
 
-otherwise_parses : (clock reset target initial : Spot) → Parses code (read_otherwise clock reset target initial) (Grammar.otherwise clock reset target initial) (Grammar.otherwise clock reset target initial) false (Only (14 ∷ [])) (Only []) Every
+otherwise_parses : (clock reset target initial : Spot) → Parses code (read_otherwise clock reset target initial)
+    (Grammar.otherwise clock reset target initial) (Grammar.otherwise clock reset target initial) false (Only (14 ∷ [])) (Only []) Every
 unfolding read_otherwise
-otherwise_parses clock reset target initial = then (w keywords.Else) (λ k1. then (k 1) (λ second. then (s symbols.LessEqual) (λ k2. then (k 1) (λ source. then (s symbols.Semicolon) (λ z. parses_nothing code (Always clock reset target initial second source) Every) refl refl) refl refl) refl refl) refl refl) refl refl
+otherwise_parses clock reset target initial = then (w keywords.Else)
+    (λ k1. then (k 1) (λ second. then (s symbols.LessEqual) (λ k2. then (k 1)
+    (λ source. then (s symbols.Semicolon) (λ z. parses_nothing code (Always clock reset target initial second source) Every) refl refl) refl refl)
+    refl refl) refl refl) refl refl
 
 at_reset_parses : (clock : Spot) → Parses code (read_at_reset clock) (Grammar.at_reset clock) (Grammar.at_reset clock) false (Only (13 ∷ [])) (Only []) Every
 unfolding read_at_reset
-at_reset_parses clock = then (w keywords.If) (λ k1. then (s symbols.OpenParen) (λ k2. then (k 1) (λ reset. then (s symbols.CloseParen) (λ k3. then (k 1) (λ target. then (s symbols.LessEqual) (λ k4. then (k 3) (λ initial. then (s symbols.Semicolon) (λ z. otherwise_parses clock reset target initial) refl refl) refl refl) refl refl) refl refl) refl refl) refl refl) refl refl) refl refl
+at_reset_parses clock = then (w keywords.If) (λ k1. then (s symbols.OpenParen)
+    (λ k2. then (k 1) (λ reset. then (s symbols.CloseParen) (λ k3. then (k 1)
+    (λ target. then (s symbols.LessEqual) (λ k4. then (k 3) (λ initial. then (s symbols.Semicolon) (λ z. otherwise_parses clock reset target initial)
+    refl refl) refl refl) refl refl) refl refl) refl refl) refl refl) refl refl) refl refl
 
 always_parses : Parses code read_always Grammar.always Grammar.always false (Only (11 ∷ [])) (Only []) Every
 unfolding read_always
-always_parses = then (w keywords.Always) (λ k1. then (s symbols.At) (λ k2. then (s symbols.OpenParen) (λ k3. then (w keywords.Posedge) (λ k4. then (k 1) (λ clock. then (s symbols.CloseParen) (λ k5. at_reset_parses clock) refl refl) refl refl) refl refl) refl refl) refl refl) refl refl
+always_parses = then (w keywords.Always) (λ k1. then (s symbols.At)
+    (λ k2. then (s symbols.OpenParen) (λ k3. then (w keywords.Posedge)
+    (λ k4. then (k 1) (λ clock. then (s symbols.CloseParen) (λ k5. at_reset_parses clock) refl refl) refl refl) refl refl) refl refl) refl refl) refl refl
 
 stmt_parses : Parses code read_stmt Grammar.stmt Grammar.stmt false (Only (10 ∷ 11 ∷ [])) (Only []) Every
 unfolding read_stmt
@@ -131,11 +160,15 @@ another_stmt_parses ss = then stmt_parses (λ z. parses_nothing code (ss ++ z �
 
 body_parses : (hs : List Spot) → Parses code (read_body hs) (Grammar.body hs) (Grammar.body hs) false (Only (sort_codes ++ 10 ∷ 11 ∷ 5 ∷ [])) (Only []) Every
 unfolding read_body read_decls read_stmts
-body_parses hs = then (repeated (Only sort_codes) (Only (10 ∷ 11 ∷ 5 ∷ [])) another_decl_parses refl refl refl refl refl refl refl refl refl []) (λ ds. then (repeated (Only (10 ∷ 11 ∷ [])) (Only (5 ∷ [])) another_stmt_parses refl refl refl refl refl refl refl refl refl []) (λ ss. then (w keywords.Endmodule) (λ e. parses_nothing code (record { header = hs; declarations = ds; statements = ss }) Every) refl refl) refl refl) refl refl
+body_parses hs = then (repeated (Only sort_codes) (Only (10 ∷ 11 ∷ 5 ∷ [])) another_decl_parses refl refl refl refl refl refl refl refl refl [])
+    (λ ds. then (repeated (Only (10 ∷ 11 ∷ [])) (Only (5 ∷ [])) another_stmt_parses refl refl refl refl refl refl refl refl refl [])
+    (λ ss. then (w keywords.Endmodule) (λ e. parses_nothing code (record { header = hs; declarations = ds; statements = ss }) Every) refl refl) refl refl) refl refl
 
 file_parses : Parses code read_file Grammar.file Grammar.file false (Only (4 ∷ [])) (Only []) Every
 unfolding read_file
-file_parses = then (w keywords.Module) (λ o. then (k 1) (λ x. then (s symbols.OpenParen) (λ p. then ids_parses (λ hs. then (s symbols.CloseParen) (λ c. then (s symbols.Semicolon) (λ z. body_parses hs) refl refl) refl refl) refl refl) refl refl) refl refl) refl refl
+file_parses = then (w keywords.Module) (λ o. then (k 1) (λ x. then (s symbols.OpenParen)
+    (λ p. then ids_parses (λ hs. then (s symbols.CloseParen) (λ c. then (s symbols.Semicolon) (λ z. body_parses hs) refl refl) refl refl) refl refl)
+    refl refl) refl refl) refl refl
 
 -- ---- whole texts
 

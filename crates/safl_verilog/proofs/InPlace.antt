@@ -63,7 +63,8 @@ stated (Assign x (Joined a b)) rest = refl
 stated (Assign x (Slice a high low)) rest = refl
 stated (Always clock reset target initial second source) rest = refl
 
-items : {X : Type 0} (closed : Bool) (item : X → List Piece) → ((x : X) (rest : List Piece) → in_place closed (item x ++ rest) ≡ in_place closed rest) → (xs : List X) (rest : List Piece) → in_place closed (flat_map item xs ++ rest) ≡ in_place closed rest
+items : {X : Type 0} (closed : Bool) (item : X → List Piece) → ((x : X) (rest : List Piece) → in_place closed (item x ++ rest) ≡ in_place closed rest)
+    → (xs : List X) (rest : List Piece) → in_place closed (flat_map item xs ++ rest) ≡ in_place closed rest
 items closed item h [] rest = refl
 items closed item h (x ∷ xs) rest = ap (in_place closed) (append_assoc (item x) (flat_map item xs) rest) ∙ h x (flat_map item xs ++ rest) ∙ items closed item h xs rest
 
@@ -99,7 +100,8 @@ at_once (Line v ∷ xs) w later p h e = cc
 at_once (Block v ∷ xs) w later p h e = cc
 at_once (Lexeme k v ∷ xs) w later p h e = cc
 
-pub no_name_behind : (xs : List Piece) (closed : Bool) (w : List ℕ) (later : List Piece) (p : ℕ) (before : List Terminal) (t : Terminal) → in_place closed (xs ++ Lexeme kinds.Identifier w ∷ later) ≡ true → tokens_from p xs ≡ before ++ t ∷ [] → code_of t.kind ≡ 23 → ⊥
+pub no_name_behind : (xs : List Piece) (closed : Bool) (w : List ℕ) (later : List Piece) (p : ℕ) (before : List Terminal) (t : Terminal) → in_place
+    closed (xs ++ Lexeme kinds.Identifier w ∷ later) ≡ true → tokens_from p xs ≡ before ++ t ∷ [] → code_of t.kind ≡ 23 → ⊥
 no_name_behind [] closed w later p [] t h e c = cc
 no_name_behind [] closed w later p (b ∷ before) t h e c = cc
 no_name_behind (Blank d ∷ xs) closed w later p before t h e c = no_name_behind xs closed w later (p + 1) before t h e c

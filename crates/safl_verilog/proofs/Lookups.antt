@@ -34,7 +34,8 @@ pub no_repeats : (before xs : List Spot) → Distinct (spot_names before ++ spot
 no_repeats before [] h = refl
 no_repeats before (x ∷ xs) h =
     let new = not_among before x.bytes (λ k. distinct_apart (spot_names before) (spot_names (x ∷ xs)) h x.bytes k (inl refl)) in
-    let moved : spot_names (before ++ x ∷ []) ++ spot_names xs ≡ spot_names before ++ spot_names (x ∷ xs) = ap (λ (l : List Name). l ++ spot_names xs) (map-append (λ (x : Spot). x.bytes) before (x ∷ [])) ∙ append_assoc (spot_names before) (x.bytes ∷ []) (spot_names xs) in
+    let moved : spot_names (before ++ x ∷ []) ++ spot_names xs ≡ spot_names before ++ spot_names (x ∷ xs) = ap (λ (l : List Name). l ++ spot_names xs)
+    (map-append (λ (x : Spot). x.bytes) before (x ∷ [])) ∙ append_assoc (spot_names before) (x.bytes ∷ []) (spot_names xs) in
     ap (λ b. where_not (not b) (at rules.V03 x.place) ++ repeat_faults (before ++ x ∷ []) xs) new ∙ no_repeats (before ++ x ∷ []) xs (subst Distinct (sym moved) h)
 
 pub each_has : (xs : List Spot) (more : List Name) → Each (λ (x : Spot). Has x.bytes (more ++ spot_names xs)) xs

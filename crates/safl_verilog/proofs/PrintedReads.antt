@@ -15,7 +15,10 @@ use Rattle.safl_verilog.specs.declared.token.Sort.TheVariants as sorts
 use Rattle.safl_verilog.specs.Tokens.{Terminal, Piece, Blank, Line, Block, Lexeme, text_of, tokens_from}
 use Rattle.safl_verilog.specs.Files.{Spot, Expression, Literal, Plain, Inverted, Binary, Choice, Joined, Slice, Declaration, Statement, Assign, Always, File}
 use Rattle.safl_verilog.specs.Grammar.{sort_codes}
-use Rattle.safl_verilog.specs.Reader.{comes, read_word, read_symbol, read_constant, read_inverted, read_binary, read_choice, read_joined, read_slice, read_named, read_cell, read_written_range, read_range, read_decl, read_assign, read_otherwise, read_at_reset, read_always, read_stmt, read_another_id, read_ids, read_another_decl, read_decls, read_another_stmt, read_stmts, read_body, read_file, read_text}
+use Rattle.safl_verilog.specs.Reader.{comes, read_word, read_symbol, read_constant, read_inverted, read_binary, read_choice, read_joined, read_slice}
+use Rattle.safl_verilog.specs.Reader.{read_named, read_cell, read_written_range, read_range, read_decl, read_assign, read_otherwise, read_at_reset}
+use Rattle.safl_verilog.specs.Reader.{read_always, read_stmt, read_another_id, read_ids, read_another_decl, read_decls, read_another_stmt, read_stmts}
+use Rattle.safl_verilog.specs.Reader.{read_body, read_file, read_text}
 use Rattle.safl_verilog.proofs.Grammar.{another_id_parses, another_decl_parses, another_stmt_parses}
 use Rattle.safl_verilog.proofs.Printed.{is_operator, declaration_pieces, statement_pieces, port_pieces, last_pieces, body_pieces, header_end, file_pieces, FineStatement}
 use Rattle.safl_net.specs.Arranged.{Each}
@@ -67,16 +70,28 @@ tokens_append (Lexeme k w ∷ xs) ys p = ap (λ (l : List Terminal). record { pl
 
 -- ---- lists of items
 
-module _ {X : Type 0} (test : Option Terminal → Bool) (go : List X → Reading Terminal (List X)) (eats : (a : List X) (w r : List Terminal) (x : List X) → go a w ≡ Ok (x, r) → length r < length w) (item : X → List Piece) (show : X → X) (Fine : X → Type 0) (one : (x : X) → Fine x → (a : List X) (p : ℕ) (rest : List Terminal) → (y : X) × (go a (tokens_from p (item x) ++ rest) ≡ Ok (a ++ y ∷ [], rest)) × (show y ≡ show x)) (begins : (x : X) (p : ℕ) (rest : List Terminal) → test (head_of (tokens_from p (item x) ++ rest)) ≡ true) where
-  items : (xs : List X) → Each Fine xs → (a : List X) (p : ℕ) (rest : List Terminal) → test (head_of rest) ≡ false → (ys : List X) × (read_many test go a (tokens_from p (flat_map item xs) ++ rest) ≡ Ok (a ++ ys, rest)) × (map show ys ≡ map show xs)
-  items [] h a p rest e = ([], many_step test go eats a rest ∙ ap (λ (b : Bool). cond b (go a rest >>= λ y. read_many test go y.0 y.1) (Ok (a, rest))) e ∙ ap (λ (l : List X). Ok (l, rest)) (sym (append-nil a)), refl)
+module _ {X : Type 0} (test : Option Terminal → Bool) (go : List X → Reading Terminal (List X))
+    (eats : (a : List X) (w r : List Terminal) (x : List X) → go a w ≡ Ok (x, r) → length r < length w) (item : X → List Piece) (show : X → X)
+    (Fine : X → Type 0) (one : (x : X) → Fine x → (a : List X) (p : ℕ) (rest : List Terminal) → (y : X) ×
+    (go a (tokens_from p (item x) ++ rest) ≡ Ok (a ++ y ∷ [], rest)) × (show y ≡ show x))
+    (begins : (x : X) (p : ℕ) (rest : List Terminal) → test (head_of (tokens_from p (item x) ++ rest)) ≡ true) where
+  items : (xs : List X) → Each Fine xs → (a : List X) (p : ℕ) (rest : List Terminal) → test (head_of rest) ≡ false → (ys : List X) ×
+      (read_many test go a (tokens_from p (flat_map item xs) ++ rest) ≡ Ok (a ++ ys, rest)) × (map show ys ≡ map show xs)
+  items [] h a p rest e = (
+    [],
+    many_step test go eats a rest ∙ ap (λ (b : Bool). cond b (go a rest >>= λ y. read_many test go y.0 y.1) (Ok (a, rest)))
+        e ∙ ap (λ (l : List X). Ok (l, rest)) (sym (append-nil a)),
+    refl,
+  )
   items (x ∷ xs) h a p rest e =
       let w = tokens_from p (item x) ++ (tokens_from (behind p (item x)) (flat_map item xs) ++ rest) in
-      let split : tokens_from p (flat_map item (x ∷ xs)) ++ rest ≡ w = ap (λ (l : List Terminal). l ++ rest) (tokens_append (item x) (flat_map item xs) p) ∙ append_assoc (tokens_from p (item x)) (tokens_from (behind p (item x)) (flat_map item xs)) rest in
+      let split : tokens_from p (flat_map item (x ∷ xs)) ++ rest ≡ w = ap (λ (l : List Terminal). l ++ rest)
+      (tokens_append (item x) (flat_map item xs) p) ∙ append_assoc (tokens_from p (item x)) (tokens_from (behind p (item x)) (flat_map item xs)) rest in
       let y = one x h.0 a p (tokens_from (behind p (item x)) (flat_map item xs) ++ rest) in
       let ys = items xs h.1 (a ++ y.0 ∷ []) (behind p (item x)) rest e in
       let turn : read_many test go a w ≡ read_many test go (a ++ y.0 ∷ []) (tokens_from (behind p (item x)) (flat_map item xs) ++ rest) =
-      many_step test go eats a w ∙ ap (λ (b : Bool). cond b (go a w >>= λ y. read_many test go y.0 y.1) (Ok (a, w))) (begins x p (tokens_from (behind p (item x)) (flat_map item xs) ++ rest)) ∙ ap (λ (z : Read Terminal (List X)). z >>= λ y. read_many test go y.0 y.1) y.1 in (
+      many_step test go eats a w ∙ ap (λ (b : Bool). cond b (go a w >>= λ y. read_many test go y.0 y.1) (Ok (a, w)))
+      (begins x p (tokens_from (behind p (item x)) (flat_map item xs) ++ rest)) ∙ ap (λ (z : Read Terminal (List X)). z >>= λ y. read_many test go y.0 y.1) y.1 in (
         y.0 ∷ ys.0,
         ap (read_many test go a) split ∙ turn ∙ ys.1 ∙ ap (λ (l : List X). Ok (l, rest)) (append_assoc a (y.0 ∷ []) ys.0),
         ap (λ (z : X). z ∷ map show ys.0) y.2 ∙ ap (λ (l : List X). show x ∷ l) ys.2,
@@ -84,11 +99,14 @@ module _ {X : Type 0} (test : Option Terminal → Bool) (go : List X → Reading
 
 -- ---- items
 
-one_port : (x : Spot) → Unit {0} → (a : List Spot) (p : ℕ) (rest : List Terminal) → (y : Spot) × (read_another_id a (tokens_from p (port_pieces x) ++ rest) ≡ Ok (a ++ y ∷ [], rest)) × (bare y ≡ bare x)
+one_port : (x : Spot) → Unit {0} → (a : List Spot) (p : ℕ) (rest : List Terminal) → (y : Spot) ×
+    (read_another_id a (tokens_from p (port_pieces x) ++ rest) ≡ Ok (a ++ y ∷ [], rest)) × (bare y ≡ bare x)
 unfolding read_another_id
 one_port x h a p rest = (_, refl, refl)
 
-declared : (s : Sort) (o : Option (Spot × Spot)) (x : Spot) (a : List Declaration) (p : ℕ) (rest : List Terminal) → (d : Declaration) × (read_another_decl a (tokens_from p (declaration_pieces (record { sort = s; range = o; name = x })) ++ rest) ≡ Ok (a ++ d ∷ [], rest)) × (bare_declaration d ≡ bare_declaration (record { sort = s; range = o; name = x }))
+declared : (s : Sort) (o : Option (Spot × Spot)) (x : Spot) (a : List Declaration) (p : ℕ) (rest : List Terminal) → (d : Declaration) ×
+    (read_another_decl a (tokens_from p (declaration_pieces (record { sort = s; range = o; name = x })) ++ rest) ≡ Ok (a ++ d ∷ [], rest)) ×
+    (bare_declaration d ≡ bare_declaration (record { sort = s; range = o; name = x }))
 unfolding read_another_decl read_decl read_range read_written_range
 declared sorts.Input None x a p rest = (_, refl, refl)
 declared sorts.Input (Some r) x a p rest = (_, refl, refl)
@@ -109,7 +127,8 @@ declared_begins d p rest = go d.sort d.range d.name
     go sorts.Wire o x = refl
 
 abbrev Stated : Statement → Type 0
-Stated s = (a : List Statement) (p : ℕ) (rest : List Terminal) → (y : Statement) × (read_another_stmt a (tokens_from p (statement_pieces s) ++ rest) ≡ Ok (a ++ y ∷ [], rest)) × (bare_statement y ≡ bare_statement s)
+Stated s = (a : List Statement) (p : ℕ) (rest : List Terminal) → (y : Statement) ×
+    (read_another_stmt a (tokens_from p (statement_pieces s) ++ rest) ≡ Ok (a ++ y ∷ [], rest)) × (bare_statement y ≡ bare_statement s)
 
 binary : (x : Spot) (o : Primitive) (b c : Spot) → is_operator o ≡ true → Stated (Assign x (Binary o b c))
 unfolding read_another_stmt read_stmt read_assign read_cell read_named read_binary
@@ -154,22 +173,32 @@ no_declaration [] p = refl
 no_declaration (Assign x e ∷ ss) p = refl
 no_declaration (Always clock reset target initial second source ∷ ss) p = refl
 
-body_reads : (hs : List Spot) (ds : List Declaration) (ss : List Statement) → Each FineStatement ss → (p : ℕ) → (f : File) × (read_body hs (tokens_from p (body_pieces ds ss)) ≡ Ok (f, [])) × (bare_file f ≡ record { header = map bare hs; declarations = map bare_declaration ds; statements = map bare_statement ss })
+body_reads : (hs : List Spot) (ds : List Declaration) (ss : List Statement) → Each FineStatement ss → (p : ℕ) → (f : File) ×
+    (read_body hs (tokens_from p (body_pieces ds ss)) ≡ Ok (f, [])) ×
+    (bare_file f ≡ record { header = map bare hs; declarations = map bare_declaration ds; statements = map bare_statement ss })
 unfolding read_body read_decls read_stmts
 body_reads hs ds ss h p =
     let later = flat_map statement_pieces ss ++ last_pieces in
     let q = behind p (flat_map declaration_pieces ds) in
     let r = behind q (flat_map statement_pieces ss) in
     let every : Each (λ d. Unit {0}) ds = each_plain ds in
-    let d = items (comes sort_codes) read_another_decl (λ a. (eats_parses (another_decl_parses a)).left) declaration_pieces bare_declaration (λ d. Unit {0}) (λ d u. declared d.sort d.range d.name) declared_begins ds every [] p (tokens_from q later) (no_declaration ss q) in
-    let s = items (comes (10 ∷ 11 ∷ [])) read_another_stmt (λ a. (eats_parses (another_stmt_parses a)).left) statement_pieces bare_statement FineStatement stated stated_begins ss h [] q (tokens_from r last_pieces) refl in
-    let first : read_many (comes sort_codes) read_another_decl [] (tokens_from p (body_pieces ds ss)) ≡ Ok (d.0, tokens_from q later) = ap (read_many (comes sort_codes) read_another_decl []) (tokens_append (flat_map declaration_pieces ds) later p) ∙ d.1 in
-    let second : read_many (comes (10 ∷ 11 ∷ [])) read_another_stmt [] (tokens_from q later) ≡ Ok (s.0, tokens_from r last_pieces) = ap (read_many (comes (10 ∷ 11 ∷ [])) read_another_stmt []) (tokens_append (flat_map statement_pieces ss) last_pieces q) ∙ s.1 in
-    let k : List Declaration × List Terminal → Read Terminal File = λ (ds : List Declaration × List Terminal). read_follows (read_many (comes (10 ∷ 11 ∷ [])) read_another_stmt []) (λ ss. read_follows (read_word keywords.Endmodule) (λ e. read_nothing (record { header = hs; declarations = ds.0; statements = ss }))) ds.1 in
-    let l : List Statement × List Terminal → Read Terminal File = λ (ss : List Statement × List Terminal). read_follows (read_word keywords.Endmodule) (λ e. read_nothing (record { header = hs; declarations = d.0; statements = ss.0 })) ss.1 in (
+    let d = items (comes sort_codes) read_another_decl (λ a. (eats_parses (another_decl_parses a)).left) declaration_pieces bare_declaration
+    (λ d. Unit {0}) (λ d u. declared d.sort d.range d.name) declared_begins ds every [] p (tokens_from q later) (no_declaration ss q) in
+    let s = items (comes (10 ∷ 11 ∷ [])) read_another_stmt (λ a. (eats_parses (another_stmt_parses a)).left) statement_pieces bare_statement
+    FineStatement stated stated_begins ss h [] q (tokens_from r last_pieces) refl in
+    let first : read_many (comes sort_codes) read_another_decl [] (tokens_from p (body_pieces ds ss)) ≡ Ok (d.0, tokens_from q later) = ap
+    (read_many (comes sort_codes) read_another_decl []) (tokens_append (flat_map declaration_pieces ds) later p) ∙ d.1 in
+    let second : read_many (comes (10 ∷ 11 ∷ [])) read_another_stmt [] (tokens_from q later) ≡ Ok (s.0, tokens_from r last_pieces) = ap
+    (read_many (comes (10 ∷ 11 ∷ [])) read_another_stmt []) (tokens_append (flat_map statement_pieces ss) last_pieces q) ∙ s.1 in
+    let k : List Declaration × List Terminal → Read Terminal File = λ (ds : List Declaration × List Terminal). read_follows
+    (read_many (comes (10 ∷ 11 ∷ [])) read_another_stmt []) (λ ss. read_follows (read_word keywords.Endmodule)
+    (λ e. read_nothing (record { header = hs; declarations = ds.0; statements = ss }))) ds.1 in
+    let l : List Statement × List Terminal → Read Terminal File = λ (ss : List Statement × List Terminal). read_follows (read_word keywords.Endmodule)
+    (λ e. read_nothing (record { header = hs; declarations = d.0; statements = ss.0 })) ss.1 in (
       record { header = hs; declarations = d.0; statements = s.0 },
       ap (λ (z : Read Terminal (List Declaration)). z >>= k) first ∙ ap (λ (z : Read Terminal (List Statement)). z >>= l) second,
-      ap (λ (ds : List Declaration). record { header = map bare hs; declarations = ds; statements = map bare_statement s.0 }) d.2 ∙ ap (λ (ss : List Statement). record { header = map bare hs; declarations = map bare_declaration ds; statements = ss }) s.2,
+      ap (λ (ds : List Declaration). record { header = map bare hs; declarations = ds; statements = map bare_statement s.0 }) d.2 ∙ ap
+          (λ (ss : List Statement). record { header = map bare hs; declarations = map bare_declaration ds; statements = ss }) s.2,
     )
   where
     each_plain : (ds : List Declaration) → Each (λ d. Unit {0}) ds
@@ -179,11 +208,17 @@ body_reads hs ds ss h p =
 abbrev after_header : List Spot → Reading Terminal File
 after_header hs = read_follows (read_symbol symbols.CloseParen) (λ c. read_follows (read_symbol symbols.Semicolon) (λ s. read_body hs))
 
-header_reads : (x : Spot) (xs : List Spot) (ds : List Declaration) (ss : List Statement) → Each FineStatement ss → (p : ℕ) → (f : File) × (read_follows (read_many (comes (22 ∷ [])) read_another_id (x ∷ [])) after_header (tokens_from p (flat_map port_pieces xs ++ header_end (body_pieces ds ss))) ≡ Ok (f, [])) × (bare_file f ≡ record { header = bare x ∷ map bare xs; declarations = map bare_declaration ds; statements = map bare_statement ss })
+header_reads : (x : Spot) (xs : List Spot) (ds : List Declaration) (ss : List Statement) → Each FineStatement ss → (p : ℕ) → (f : File) ×
+    (read_follows (read_many (comes (22 ∷ [])) read_another_id (x ∷ [])) after_header
+    (tokens_from p (flat_map port_pieces xs ++ header_end (body_pieces ds ss))) ≡ Ok (f, [])) ×
+    (bare_file f ≡ record { header = bare x ∷ map bare xs; declarations = map bare_declaration ds; statements = map bare_statement ss })
 header_reads x xs ds ss h p =
     let q = behind p (flat_map port_pieces xs) in
-    let ys = items (comes (22 ∷ [])) read_another_id (λ a. (eats_parses (another_id_parses a)).left) port_pieces bare (λ x. Unit {0}) one_port (λ x p rest. refl) xs (each_plain xs) (x ∷ []) p (tokens_from q (header_end (body_pieces ds ss))) refl in
-    let first : read_many (comes (22 ∷ [])) read_another_id (x ∷ []) (tokens_from p (flat_map port_pieces xs ++ header_end (body_pieces ds ss))) ≡ Ok (x ∷ ys.0, tokens_from q (header_end (body_pieces ds ss))) = ap (read_many (comes (22 ∷ [])) read_another_id (x ∷ [])) (tokens_append (flat_map port_pieces xs) (header_end (body_pieces ds ss)) p) ∙ ys.1 in
+    let ys = items (comes (22 ∷ [])) read_another_id (λ a. (eats_parses (another_id_parses a)).left) port_pieces bare (λ x. Unit {0}) one_port
+    (λ x p rest. refl) xs (each_plain xs) (x ∷ []) p (tokens_from q (header_end (body_pieces ds ss))) refl in
+    let first : read_many (comes (22 ∷ [])) read_another_id (x ∷ []) (tokens_from p (flat_map port_pieces xs ++ header_end (body_pieces ds ss))) ≡ Ok
+    (x ∷ ys.0, tokens_from q (header_end (body_pieces ds ss))) = ap (read_many (comes (22 ∷ [])) read_another_id (x ∷ []))
+    (tokens_append (flat_map port_pieces xs) (header_end (body_pieces ds ss)) p) ∙ ys.1 in
     let b = body_reads (x ∷ ys.0) ds ss h (q + 1 + 1 + 1) in (
       b.0,
       ap (λ (z : Read Terminal (List Spot)). z >>= λ y. after_header y.0 y.1) first ∙ b.1,

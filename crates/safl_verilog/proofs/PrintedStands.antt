@@ -13,7 +13,9 @@ use Rattle.safl_verilog.specs.Files.{Spot, Expression, Literal, Plain, Inverted,
 use Rattle.safl_verilog.specs.Pieces.{named, double_symbols}
 use Rattle.safl_verilog.proofs.Symbols.{double_named}
 use Rattle.safl_verilog.proofs.Found.{no_keyword}
-use Rattle.safl_verilog.proofs.Printed.{line_end, sy, symbol_of, range_pieces, declaration_end, declaration_pieces, expression_pieces, statement_pieces, port_pieces, last_pieces, body_pieces, header_end, file_pieces, IsWritten, IsName, FineRange, FineDeclaration, FineExpression, FineStatement}
+use Rattle.safl_verilog.proofs.Printed.{line_end, sy, symbol_of, range_pieces, declaration_end, declaration_pieces, expression_pieces}
+use Rattle.safl_verilog.proofs.Printed.{statement_pieces, port_pieces, last_pieces, body_pieces, header_end, file_pieces, IsWritten, IsName}
+use Rattle.safl_verilog.proofs.Printed.{FineRange, FineDeclaration, FineExpression, FineStatement}
 use Rattle.safl_net.specs.Arranged.{Each}
 
 pub text_append : (xs ys : List Piece) → text_of_all (xs ++ ys) ≡ text_of_all xs ++ text_of_all ys
@@ -305,11 +307,13 @@ body_stands ds ss h k =
 safl_free : (k : Keyword) → codes "safl" ≢ keyword_text k
 safl_free = no_keyword (codes "safl") refl
 
-pub file_stands : (x : Spot) (xs : List Spot) (ds : List Declaration) (ss : List Statement) → IsName x → Each IsName xs → Each FineDeclaration ds → Each FineStatement ss → StandAll (file_pieces x xs ds ss) []
+pub file_stands : (x : Spot) (xs : List Spot) (ds : List Declaration) (ss : List Statement) → IsName x → Each IsName xs → Each FineDeclaration ds →
+    Each FineStatement ss → StandAll (file_pieces x xs ds ss) []
 file_stands x xs ds ss name names h k =
     let body = body_pieces ds ss in
     let after : stops is_part (text_of_all (flat_map port_pieces xs ++ header_end body) ++ []) ≡ true =
-    ap (λ (l : List ℕ). stops is_part (l ++ [])) (text_append (flat_map port_pieces xs) (header_end body)) ∙ ap (stops is_part) (append_assoc (text_of_all (flat_map port_pieces xs)) (text_of_all (header_end body)) []) ∙ after_port xs (text_of_all (header_end body) ++ []) refl in
+    ap (λ (l : List ℕ). stops is_part (l ++ [])) (text_append (flat_map port_pieces xs) (header_end body)) ∙ ap (stops is_part)
+    (append_assoc (text_of_all (flat_map port_pieces xs)) (text_of_all (header_end body)) []) ∙ after_port xs (text_of_all (header_end body) ++ []) refl in
     let safl : IsName (record { place = 0; bytes = codes "safl" }) = record { like = refl; short = lit≤ tt; free = safl_free } in (
       (refl, refl),
       (

@@ -274,7 +274,8 @@ cut_as f ts xs r c e h g =
     let same = same_pieces c.pieces xs [] r c.stand h final_end g (append-nil (text_of_all c.pieces) ∙ sym c.joined ∙ e) in
     (c.tokens ∙ ap (tokens_from 0) same.0, sym same.1)
 
-module _ (P : List Piece) (stand : StandAll P []) (b : File) (file : IsFile (tokens_from 0 P) b) (closes : Closes P) (place : in_place false P ≡ true) (f r : List ℕ) (text : text_of_all P ≡ f ++ r) (ts : List Terminal) (cut : HasTokens f ts) (a : File) (read : IsFile ts a) where
+module _ (P : List Piece) (stand : StandAll P []) (b : File) (file : IsFile (tokens_from 0 P) b) (closes : Closes P) (place : in_place false P ≡ true)
+    (f r : List ℕ) (text : text_of_all P ≡ f ++ r) (ts : List Terminal) (cut : HasTokens f ts) (a : File) (read : IsFile ts a) where
   ends : EndsFile ts
   ends = file_ends ts a read.derived.1
 
@@ -338,11 +339,13 @@ module _ (P : List Piece) (stand : StandAll P []) (b : File) (file : IsFile (tok
       let one : List Piece = Lexeme (word_kind o) u ∷ [] in
       let texts : text_of_all p.pieces ++ [] ≡ text_of_all one ++ [] = ap (λ (l : List ℕ). l ++ []) (sym p.joined ∙ sym (append-nil u)) in
       let same = same_pieces p.pieces one [] [] p.stands (stands, tt) final_end final_end texts in
-      let tokens : ts ≡ tokens_from 0 xs ++ record { place = behind 0 xs; kind = word_kind o; bytes = u } ∷ [] = p.all ∙ ap (λ (l : List Piece). tokens_from 0 xs ++ tokens_from (behind 0 xs) l) same.0 in
+      let tokens : ts ≡ tokens_from 0 xs ++ record { place = behind 0 xs; kind = word_kind o; bytes = u } ∷ [] = p.all ∙ ap
+      (λ (l : List Piece). tokens_from 0 xs ++ tokens_from (behind 0 xs) l) same.0 in
       let front = all_but_last (tokens_from 0 xs) ends.before _ ends.semicolon ends.last (sym tokens ∙ ends.joined) in
       no_name_behind xs false w later 0 ends.before ends.semicolon (ap (in_place false) (sym j) ∙ place) front ends.closes
 
-  in_token : (k : TokenKind) (w : List ℕ) (later xs : List Piece) (u : List ℕ) (next : ℕ) (left : List ℕ) → P ≡ xs ++ Lexeme k w ∷ later → IsToken k w (text_of_all later ++ []) → w ≡ u ++ next ∷ left → 1 ≤ length u → Part xs u → ⊥
+  in_token : (k : TokenKind) (w : List ℕ) (later xs : List Piece) (u : List ℕ) (next : ℕ) (left : List ℕ) → P ≡ xs ++ Lexeme k w ∷ later → IsToken k w
+      (text_of_all later ++ []) → w ≡ u ++ next ∷ left → 1 ≤ length u → Part xs u → ⊥
   in_token kinds.Identifier w later xs u next left j h e some p = in_name w later xs u (next ∷ left) j h.0.like h.0.short e some p
   in_token kinds.Number w later xs u next left j h e some p = no_word w u (next ∷ left) (digits_other 10 w h.0.digits) e (holds xs u p)
   in_token kinds.Sized w later xs u next left j h e some p = no_word w u (next ∷ left) (sized_other w (text_of_all later ++ []) h) e (holds xs u p)
@@ -351,7 +354,8 @@ module _ (P : List Piece) (stand : StandAll P []) (b : File) (file : IsFile (tok
   in_token (kinds.Symbol s) w later xs u next left j h e some p =
       let size = ap length h.0 in let most = symbol_most s in too_short w u (next ∷ left) (omega (arith, size, most)) e (omega arith) (holds xs u p)
 
-  inside : (x : Piece) (later xs : List Piece) (u : List ℕ) (next : ℕ) (left : List ℕ) → P ≡ xs ++ x ∷ later → StandsBefore x (text_of_all later ++ []) → text_of x ≡ u ++ next ∷ left → f ≡ text_of_all xs ++ u → StandAll xs u → 1 ≤ length u → ⊥
+  inside : (x : Piece) (later xs : List Piece) (u : List ℕ) (next : ℕ) (left : List ℕ) → P ≡ xs ++ x ∷ later → StandsBefore x
+      (text_of_all later ++ []) → text_of x ≡ u ++ next ∷ left → f ≡ text_of_all xs ++ u → StandAll xs u → 1 ≤ length u → ⊥
   inside (Blank c) later xs u next left j h e t s some = let size = ap length e ∙ length-append u (next ∷ left) in omega (arith, size, some)
   inside (Line w) later xs u next left j h e t s some = let clash : true ≡ false = no_comment xs false (Line w) later (ap (in_place false) (sym j) ∙ place) in cc
   inside (Block w) later xs u next left j h e t s some = let clash : true ≡ false = no_comment xs false (Block w) later (ap (in_place false) (sym j) ∙ place) in cc
@@ -373,5 +377,6 @@ module _ (P : List Piece) (stand : StandAll P []) (b : File) (file : IsFile (tok
 pub no_shorter_text : (n m : Netlist) (f r : List ℕ) → IsNetlist n → written n ≡ f ++ r → Reads f m → (r ≡ []) ⊎ (r ≡ 10 ∷ [])
 no_shorter_text n m f r net e h =
     let l = written_laid n net in
-    shorter_file (file_pieces l.port l.ports l.declarations l.statements) l.stand l.file l.derived (file_closes l.port l.ports l.declarations l.statements) (file_in_place l.port l.ports l.declarations l.statements)
+    shorter_file (file_pieces l.port l.ports l.declarations l.statements) l.stand l.file l.derived
+    (file_closes l.port l.ports l.declarations l.statements) (file_in_place l.port l.ports l.declarations l.statements)
     f r (l.text ∙ e) h.tokens h.cut h.file h.derived

@@ -38,8 +38,11 @@ assigned g w h = go w.0 w.1 (subst IsSet w.1 h)
 pub all_set : (n : Netlist) (is rs ws : List Signal) → AllSet n → n.signals ≡ is ++ (rs ++ ws) → Each IsRegister rs → Each IsWire ws → Each IsUpdated rs × Each IsAssigned ws
 all_set n is rs ws set whole registers wires =
     let all = subst (λ (l : List Signal). Each IsSetSignal l) whole (each_by_index IsSetSignal n.signals set) in
-    let later = each_right IsSetSignal is (rs ++ ws) all in
-    (each_both IsRegister IsSetSignal IsUpdated updated rs registers (each_left IsSetSignal rs ws later), each_both IsWire IsSetSignal IsAssigned assigned ws wires (each_right IsSetSignal rs ws later))
+    let later = each_right IsSetSignal is (rs ++ ws) all in (
+      each_both IsRegister IsSetSignal IsUpdated updated rs registers (each_left IsSetSignal rs ws later),
+      each_both IsWire IsSetSignal IsAssigned
+          assigned ws wires (each_right IsSetSignal rs ws later),
+    )
 
 -- the ports that each file has: an input `start` and an output `done` of width 1, and an output `result`
 pub record HasPorts (n : Netlist) : Type 0 where
@@ -83,7 +86,8 @@ whole_ports n h =
     let kind : g.kind ≡ Input = ap Making.kind_in (sym at) ∙ h.start.input in
     let width : g.width ≡ 1 = ap Netlist.width_in (sym at) ∙ h.start.bit in
     let is : g ≡ record { name = codes "start"; width = 1; kind = Input } =
-    ap (λ w. record { name = w; width = g.width; kind = g.kind }) p.4 ∙ ap (λ k. record { name = codes "start"; width = k; kind = g.kind }) width ∙ ap (λ k. record { name = codes "start"; width = 1; kind = k }) kind in
+    ap (λ w. record { name = w; width = g.width; kind = g.kind }) p.4 ∙ ap (λ k. record { name = codes "start"; width = k; kind = g.kind }) width ∙ ap
+    (λ k. record { name = codes "start"; width = 1; kind = k }) kind in
     let d = shown_at n.outputs (codes "done") h.done.signal h.done.at in
     let r = some_shown (output_place n.outputs (codes "result")) h.result in
     let q = shown_at n.outputs (codes "result") r.0 r.1 in

@@ -24,7 +24,9 @@ use Rattle.safl_verilog.proofs.Distinct.{Name, each_join, each_mapped, each_of, 
 use Rattle.safl_verilog.proofs.Printed.{IsName, FineExpression, FineDeclaration, FineStatement, file_pieces}
 use Rattle.safl_verilog.proofs.PrintedStands.{file_stands}
 use Rattle.safl_verilog.proofs.PrintedReads.{reads_back}
-use Rattle.safl_verilog.proofs.FileOf.{declare, declare_signal, declare_output, signal_spot, output_spot, clock, reset, ports, driver, assign_signal, assign_output, updated_by, update_signal, declarations_of, statements_of, input_kind, register_kind, wire_kind, updated_kind, assigned_kind, of_kind, written_ports, written_declarations, written_statements, file_text}
+use Rattle.safl_verilog.proofs.FileOf.{declare, declare_signal, declare_output, signal_spot, output_spot, clock, reset, ports, driver, assign_signal}
+use Rattle.safl_verilog.proofs.FileOf.{assign_output, updated_by, update_signal, declarations_of, statements_of, input_kind, register_kind, wire_kind}
+use Rattle.safl_verilog.proofs.FileOf.{updated_kind, assigned_kind, of_kind, written_ports, written_declarations, written_statements, file_text}
 use Rattle.safl_verilog.proofs.WrittenNames.{good_identifier, at_some}
 
 clock_name : IsName clock
@@ -84,7 +86,8 @@ module _ (n : Netlist) (net : IsNetlist n) where
   fine_ports : Each IsName (written_ports n)
   fine_ports =
       each_join IsName (map signal_spot (of_kind input_kind n)) (map output_spot n.outputs)
-      (each_mapped IsName signal_spot (of_kind input_kind n) (each_of (Chosen input_kind) (λ g. IsName (signal_spot g)) (λ g c. good_identifier g.name c.0.good) (of_kind input_kind n) (chosen input_kind)))
+      (each_mapped IsName signal_spot (of_kind input_kind n) (each_of (Chosen input_kind) (λ g. IsName (signal_spot g))
+      (λ g c. good_identifier g.name c.0.good) (of_kind input_kind n) (chosen input_kind)))
       (each_mapped IsName output_spot n.outputs (each_of Shown (λ o. IsName (output_spot o)) (λ o h. good_identifier o.0 h.0) n.outputs shown))
 
   fine_signals : (s : Sort) (p : Kind → Bool) → Each FineDeclaration (map (declare_signal s) (of_kind p n))
@@ -139,10 +142,14 @@ module _ (n : Netlist) (net : IsNetlist n) where
   fine_statements : Each FineStatement (written_statements n)
   fine_statements =
       each_join FineStatement (map (assign_signal n) (of_kind assigned_kind n)) _
-      (each_mapped FineStatement (assign_signal n) (of_kind assigned_kind n) (each_of (Chosen assigned_kind) (λ g. FineStatement (assign_signal n g)) (λ g c. (good_identifier g.name c.0.good, fine_driver g.width g.kind c.0.kind c.1)) (of_kind assigned_kind n) (chosen assigned_kind)))
+      (each_mapped FineStatement (assign_signal n) (of_kind assigned_kind n)
+      (each_of (Chosen assigned_kind) (λ g. FineStatement (assign_signal n g))
+      (λ g c. (good_identifier g.name c.0.good, fine_driver g.width g.kind c.0.kind c.1)) (of_kind assigned_kind n) (chosen assigned_kind)))
       (each_join FineStatement (map (assign_output n) n.outputs) _
       (each_mapped FineStatement (assign_output n) n.outputs (each_of Shown (λ o. FineStatement (assign_output n o)) (λ o h. (good_identifier o.0 h.0, (named o.1 h.1).name)) n.outputs shown))
-      (each_mapped FineStatement (update_signal n) (of_kind updated_kind n) (each_of (Chosen updated_kind) (λ g. FineStatement (update_signal n g)) (λ g c. fine_update g g.kind c.0 c.0.kind c.1) (of_kind updated_kind n) (chosen updated_kind))))
+      (each_mapped FineStatement (update_signal n) (of_kind updated_kind n)
+      (each_of (Chosen updated_kind) (λ g. FineStatement (update_signal n g)) (λ g c. fine_update g g.kind c.0 c.0.kind c.1)
+      (of_kind updated_kind n) (chosen updated_kind))))
 
   pub laid_out : LaidOut n (of_kind input_kind n) (of_kind register_kind n) (of_kind wire_kind n) (of_kind updated_kind n) (of_kind assigned_kind n)
   laid_out = record {

@@ -62,7 +62,8 @@ module _ (n : Netlist) (net : IsNetlist n) (is rs ws : List Signal) (whole : n.s
 
   -- ---- the signals
 
-  segment : (p : Declaration → Bool) (i o r w : List Declaration) (a b c d : List Declaration) → filter p i ≡ a → filter p o ≡ b → filter p r ≡ c → filter p w ≡ d → filter p (i ++ (o ++ (r ++ w))) ≡ a ++ (b ++ (c ++ d))
+  segment : (p : Declaration → Bool) (i o r w : List Declaration) (a b c d : List Declaration) → filter p i ≡ a → filter p o ≡ b → filter p r ≡ c →
+      filter p w ≡ d → filter p (i ++ (o ++ (r ++ w))) ≡ a ++ (b ++ (c ++ d))
   segment p i o r w a b c d e f g h =
       filter-append p i (o ++ (r ++ w)) ∙ ap (λ (l : List Declaration). l ++ filter p (o ++ (r ++ w))) e
       ∙ ap (λ (l : List Declaration). a ++ l) (filter-append p o (r ++ w) ∙ ap (λ (l : List Declaration). l ++ filter p (r ++ w)) f
@@ -97,23 +98,29 @@ module _ (n : Netlist) (net : IsNetlist n) (is rs ws : List Signal) (whole : n.s
   data_are : filter is_data ds ≡ i
   data_are =
       let members = WrittenRules.members n net is rs ws whole inputs registers wires in
-      let a : filter is_data i ≡ i = filter_all is_data i (each_mapped (λ d. is_data d ≡ true) (declare_signal sorts.Input) is (each_of (WrittenRules.Member n net is rs ws whole inputs registers wires) (λ g. is_data (declare_signal sorts.Input g) ≡ true) (λ g m. let d = WrittenNames.is_data_name n net is rs ws whole inputs registers wires g.name m.0.good in rw (d.0, d.1) refl) is members.0)) in
-      segment is_data i o r w i [] [] [] a (none_of is_data (declare_output n) n.outputs (λ x. refl)) (none_of is_data (declare_signal sorts.Reg) rs (λ x. refl)) (none_of is_data (declare_signal sorts.Wire) ws (λ x. refl)) ∙ append-nil i
+      let a : filter is_data i ≡ i = filter_all is_data i (each_mapped (λ d. is_data d ≡ true) (declare_signal sorts.Input) is
+      (each_of (WrittenRules.Member n net is rs ws whole inputs registers wires) (λ g. is_data (declare_signal sorts.Input g) ≡ true)
+      (λ g m. let d = WrittenNames.is_data_name n net is rs ws whole inputs registers wires g.name m.0.good in rw (d.0, d.1) refl) is members.0)) in
+      segment is_data i o r w i [] [] [] a (none_of is_data (declare_output n) n.outputs (λ x. refl))
+      (none_of is_data (declare_signal sorts.Reg) rs (λ x. refl)) (none_of is_data (declare_signal sorts.Wire) ws (λ x. refl)) ∙ append-nil i
 
   registers_are : filter (λ (d : Declaration). is_reg d.sort) ds ≡ r
   registers_are =
       let p : Declaration → Bool = λ (d : Declaration). is_reg d.sort in
-      segment p i o r w [] [] r [] (none_of p (declare_signal sorts.Input) is (λ x. refl)) (none_of p (declare_output n) n.outputs (λ x. refl)) (all_of p (declare_signal sorts.Reg) rs (λ x. refl)) (none_of p (declare_signal sorts.Wire) ws (λ x. refl)) ∙ append-nil r
+      segment p i o r w [] [] r [] (none_of p (declare_signal sorts.Input) is (λ x. refl)) (none_of p (declare_output n) n.outputs (λ x. refl))
+      (all_of p (declare_signal sorts.Reg) rs (λ x. refl)) (none_of p (declare_signal sorts.Wire) ws (λ x. refl)) ∙ append-nil r
 
   wires_are : filter (λ (d : Declaration). is_wire d.sort) ds ≡ w
   wires_are =
       let p : Declaration → Bool = λ (d : Declaration). is_wire d.sort in
-      segment p i o r w [] [] [] w (none_of p (declare_signal sorts.Input) is (λ x. refl)) (none_of p (declare_output n) n.outputs (λ x. refl)) (none_of p (declare_signal sorts.Reg) rs (λ x. refl)) (all_of p (declare_signal sorts.Wire) ws (λ x. refl))
+      segment p i o r w [] [] [] w (none_of p (declare_signal sorts.Input) is (λ x. refl)) (none_of p (declare_output n) n.outputs (λ x. refl))
+      (none_of p (declare_signal sorts.Reg) rs (λ x. refl)) (all_of p (declare_signal sorts.Wire) ws (λ x. refl))
 
   outputs_are : filter (λ (d : Declaration). is_output d.sort) ds ≡ o
   outputs_are =
       let p : Declaration → Bool = λ (d : Declaration). is_output d.sort in
-      segment p i o r w [] o [] [] (none_of p (declare_signal sorts.Input) is (λ x. refl)) (all_of p (declare_output n) n.outputs (λ x. refl)) (none_of p (declare_signal sorts.Reg) rs (λ x. refl)) (none_of p (declare_signal sorts.Wire) ws (λ x. refl)) ∙ append-nil o
+      segment p i o r w [] o [] [] (none_of p (declare_signal sorts.Input) is (λ x. refl)) (all_of p (declare_output n) n.outputs (λ x. refl))
+      (none_of p (declare_signal sorts.Reg) rs (λ x. refl)) (none_of p (declare_signal sorts.Wire) ws (λ x. refl)) ∙ append-nil o
 
   declared_as : (s : Sort) (P : Signal → Type 0) → ((g : Signal) → P g → sort_by g.kind ≡ s) → (gs : List Signal) → Each P gs → map declared gs ≡ map (declare_signal s) gs
   declared_as s P f gs h = map_alike declared (declare_signal s) gs (each_of P (λ g. declared g ≡ declare_signal s g) (λ g p. ap (λ s. declare_signal s g) (f g p)) gs h)
@@ -123,7 +130,9 @@ module _ (n : Netlist) (net : IsNetlist n) (is rs ws : List Signal) (whole : n.s
       let a = declared_as sorts.Input IsInput (λ g e. ap sort_by e) is inputs in
       let b = declared_as sorts.Reg IsUpdated (λ g e. ap sort_by e.2) rs registers in
       let c = declared_as sorts.Wire IsAssigned (λ g e. ap sort_by e.1) ws wires in
-      let whole_map : map declared n.signals ≡ i ++ (r ++ w) = ap (map declared) whole ∙ map-append declared is (rs ++ ws) ∙ ap (λ (l : List Declaration). l ++ map declared (rs ++ ws)) a ∙ ap (λ (l : List Declaration). i ++ l) (map-append declared rs ws ∙ ap (λ (l : List Declaration). l ++ map declared ws) b ∙ ap (λ (l : List Declaration). r ++ l) c) in
+      let whole_map : map declared n.signals ≡ i ++ (r ++ w) = ap (map declared) whole ∙ map-append declared is (rs ++ ws) ∙ ap
+      (λ (l : List Declaration). l ++ map declared (rs ++ ws)) a ∙ ap (λ (l : List Declaration). i ++ l)
+      (map-append declared rs ws ∙ ap (λ (l : List Declaration). l ++ map declared ws) b ∙ ap (λ (l : List Declaration). r ++ l) c) in
       ap (λ (l : List Declaration). l ++ filter (λ (d : Declaration). is_reg d.sort) ds ++ filter (λ (d : Declaration). is_wire d.sort) ds) data_are
       ∙ ap (λ (l : List Declaration). i ++ l ++ filter (λ (d : Declaration). is_wire d.sort) ds) registers_are
       ∙ ap (λ (l : List Declaration). i ++ r ++ l) wires_are ∙ append_assoc i r w ∙ sym whole_map
@@ -136,7 +145,8 @@ module _ (n : Netlist) (net : IsNetlist n) (is rs ws : List Signal) (whole : n.s
   number_is : (s : ℕ) → Used s → number_of ds (name_of n s) ≡ s
   number_is s u =
       let d : Distinct (names (map declared n.signals)) = subst Distinct (sym (declared_names n.signals)) (WrittenNames.signals_differ n net is rs ws whole inputs registers wires) in
-      ap (λ (l : List Declaration). place_of l (name_of n s)) signals_are ∙ ap (place_of (map declared n.signals)) u.named ∙ place_at (map declared n.signals) d s (declared u.signal) (at_mapped declared n.signals s u.signal u.stands)
+      ap (λ (l : List Declaration). place_of l (name_of n s)) signals_are ∙ ap (place_of (map declared n.signals)) u.named ∙ place_at
+      (map declared n.signals) d s (declared u.signal) (at_mapped declared n.signals s u.signal u.stands)
 
   numbers_are : (xs : List ℕ) → Each Used xs → map (λ (a : Spot). number_of ds a.bytes) (map (named_spot n) xs) ≡ xs
   numbers_are [] h = refl
@@ -177,7 +187,9 @@ module _ (n : Netlist) (net : IsNetlist n) (is rs ws : List Signal) (whole : n.s
       ap (λ k. kind_of f0 (sort_by k) g.name) h.0.kind_is
       ∙ ap (λ x. Wire (Netlists.driven ds x)) (h.1 ∙ ap (λ k. Some (driver n k)) h.0.kind_is)
       ∙ ap (λ c. Wire (Some c)) (cell_is g h.0) ∙ sym h.0.kind_is)) ws
-      (each_both Driven (λ g. assigned ss g.name ≡ Some (driver n g.kind)) (λ g. Driven g × (assigned ss g.name ≡ Some (driver n g.kind))) (λ g a b. (a, b)) ws (WrittenRules.wires_driven n net is rs ws whole inputs registers wires) (WrittenRules.wires_done n net is rs ws whole inputs registers wires))
+      (each_both Driven (λ g. assigned ss g.name ≡ Some (driver n g.kind)) (λ g. Driven g × (assigned ss g.name ≡ Some (driver n g.kind)))
+      (λ g a b. (a, b)) ws (WrittenRules.wires_driven n net is rs ws whole inputs registers wires)
+      (WrittenRules.wires_done n net is rs ws whole inputs registers wires))
       (WrittenRules.members n net is rs ws whole inputs registers wires).2
 
   signals_back : map (signal_of f0) (signals_of ds) ≡ n.signals
@@ -188,8 +200,11 @@ module _ (n : Netlist) (net : IsNetlist n) (is rs ws : List Signal) (whole : n.s
   outputs_back : map (output_of f0) (filter (λ (d : Declaration). is_output d.sort) ds) ≡ n.outputs
   outputs_back =
       ap (map (output_of f0)) outputs_are ∙ map_both (output_of f0) (declare_output n) n.outputs
-      ∙ mapped_back (λ x. output_of f0 (declare_output n x)) n.outputs (each_both (WrittenRules.Shown n net is rs ws whole inputs registers wires) (λ (x : List ℕ × ℕ). assigned ss x.0 ≡ Some (Plain (named_spot n x.1))) (λ x. output_of f0 (declare_output n x) ≡ x)
-      (λ x h e. let k : shown ds (assigned ss x.0) ≡ x.1 = ap (shown ds) e ∙ number_is x.1 h.1 in pair x.0 _ x.1 k) n.outputs (WrittenRules.outputs_shown n net is rs ws whole inputs registers wires) (WrittenRules.outputs_done n net is rs ws whole inputs registers wires))
+      ∙ mapped_back (λ x. output_of f0 (declare_output n x)) n.outputs
+      (each_both (WrittenRules.Shown n net is rs ws whole inputs registers wires)
+      (λ (x : List ℕ × ℕ). assigned ss x.0 ≡ Some (Plain (named_spot n x.1))) (λ x. output_of f0 (declare_output n x) ≡ x)
+      (λ x h e. let k : shown ds (assigned ss x.0) ≡ x.1 = ap (shown ds) e ∙ number_is x.1 h.1 in pair x.0 _ x.1 k) n.outputs
+      (WrittenRules.outputs_shown n net is rs ws whole inputs registers wires) (WrittenRules.outputs_done n net is rs ws whole inputs registers wires))
     where
       pair : (a : List ℕ) (b c : ℕ) → b ≡ c → ◌≡◌ {A = List ℕ × ℕ} (a, b) (a, c)
       pair a b c e = ap (λ k. (a, k)) e

@@ -1,5 +1,6 @@
 -- The names of a written file, and what is found by them.
-use Rattle.std.proofs.Common.{◌≡◌, ◌≢◌, ℕ, zero, suc, ◌+◌, ◌-◌, ◌<◌, ◌≤◌, ◌^◌, List, [], ◌∷◌, ◌++◌, length, map, Bool, true, false, not, ◌&&◌, nat_le, Some, refl, sym, ap, subst, ◌∙◌, inl, inr, arith, lit<, bytes_eq}
+use Rattle.std.proofs.Common.{◌≡◌, ◌≢◌, ℕ, zero, suc, ◌+◌, ◌-◌, ◌<◌, ◌≤◌, ◌^◌, List, [], ◌∷◌, ◌++◌, length, map, Bool, true, false, not, ◌&&◌, nat_le}
+use Rattle.std.proofs.Common.{Some, refl, sym, ap, subst, ◌∙◌, inl, inr, arith, lit<, bytes_eq}
 use Rattle.std.specs.Prelude.{◌⊎◌, codes, decimal, slice_get}
 use Rattle.std.proofs.lemmas.List.{map-append}
 use Rattle.std.proofs.lemmas.Bool.{and_parts}
@@ -22,7 +23,8 @@ use Rattle.safl_verilog.specs.Faults.{find, passes, is_signal, is_clock, is_rese
 use Rattle.safl_net.specs.Arranged.{IsInput, Each}
 use Rattle.safl_verilog.proofs.WholeNets.{IsUpdated, IsAssigned}
 use Rattle.safl_verilog.proofs.Decimals.{decimal_value}
-use Rattle.safl_verilog.proofs.Distinct.{Name, Has, Distinct, Apart, has_either, has_left, has_right, distinct_between, has_at, distinct_at, each_left, each_right, each_join, each_map, each_both, each_at, other_name}
+use Rattle.safl_verilog.proofs.Distinct.{Name, Has, Distinct, Apart, has_either, has_left, has_right, distinct_between, has_at, distinct_at}
+use Rattle.safl_verilog.proofs.Distinct.{each_left, each_right, each_join, each_map, each_both, each_at, other_name}
 use Rattle.safl_verilog.proofs.Lookups.{names, each_found}
 use Rattle.safl_verilog.proofs.FileOf.{declare_signal, declare_output, declare_bit, clock, reset, declarations_of}
 
@@ -211,13 +213,16 @@ module _ (n : Netlist) (net : IsNetlist n) (is rs ws : List Signal) (whole : n.s
   known_as s g e h = h ∙ ap (λ s. Some (declare_signal s g)) e
 
   pub inputs_known : Each Known is
-  inputs_known = each_both IsInput (λ g. Found (declare_signal sorts.Input g)) Known (λ g e h. known_as sorts.Input g (sym (ap sort_by e)) h) is inputs (each_map Found (declare_signal sorts.Input) is (each_left Found (map (declare_signal sorts.Input) is) _ found_rest))
+  inputs_known = each_both IsInput (λ g. Found (declare_signal sorts.Input g)) Known (λ g e h. known_as sorts.Input g (sym (ap sort_by e)) h) is
+      inputs (each_map Found (declare_signal sorts.Input) is (each_left Found (map (declare_signal sorts.Input) is) _ found_rest))
 
   pub registers_known : Each Known rs
-  registers_known = each_both IsUpdated (λ g. Found (declare_signal sorts.Reg g)) Known (λ g e h. known_as sorts.Reg g (sym (ap sort_by e.2)) h) rs registers (each_map Found (declare_signal sorts.Reg) rs (each_left Found (map (declare_signal sorts.Reg) rs) _ found_last))
+  registers_known = each_both IsUpdated (λ g. Found (declare_signal sorts.Reg g)) Known (λ g e h. known_as sorts.Reg g (sym (ap sort_by e.2)) h) rs
+      registers (each_map Found (declare_signal sorts.Reg) rs (each_left Found (map (declare_signal sorts.Reg) rs) _ found_last))
 
   pub wires_known : Each Known ws
-  wires_known = each_both IsAssigned (λ g. Found (declare_signal sorts.Wire g)) Known (λ g e h. known_as sorts.Wire g (sym (ap sort_by e.1)) h) ws wires (each_map Found (declare_signal sorts.Wire) ws (each_right Found (map (declare_signal sorts.Reg) rs) _ found_last))
+  wires_known = each_both IsAssigned (λ g. Found (declare_signal sorts.Wire g)) Known (λ g e h. known_as sorts.Wire g (sym (ap sort_by e.1)) h) ws
+      wires (each_map Found (declare_signal sorts.Wire) ws (each_right Found (map (declare_signal sorts.Reg) rs) _ found_last))
 
   pub known : (s : ℕ) (g : Signal) → slice_get n.signals s ≡ Some g → Known g
   known s g e = each_at Known n.signals s g (subst (λ (l : List Signal). Each Known l) (sym whole) (each_join Known is (rs ++ ws) inputs_known (each_join Known rs ws registers_known wires_known))) e
@@ -228,7 +233,11 @@ module _ (n : Netlist) (net : IsNetlist n) (is rs ws : List Signal) (whole : n.s
   -- ---- what is used
 
   pub is_data_name : (w : Name) → is_good w ≡ true → (not (is_clock w) ≡ true) × (not (is_reset w) ≡ true)
-  is_data_name w h = (ap not (other_name w (codes "clk") (λ e. reserved_other (codes "clk") w clock_reserved h (sym e))), ap not (other_name w (codes "rst") (λ e. reserved_other (codes "rst") w reset_reserved h (sym e))))
+  is_data_name w h = (
+    ap not (other_name w (codes "clk") (λ e. reserved_other (codes "clk") w clock_reserved h (sym e))),
+    ap not
+        (other_name w (codes "rst") (λ e. reserved_other (codes "rst") w reset_reserved h (sym e))),
+  )
 
   pub fit : (g : Signal) → is_good g.name ≡ true → is_signal (declared g) ≡ true
   fit g h = go g.kind

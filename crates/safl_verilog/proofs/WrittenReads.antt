@@ -23,7 +23,8 @@ use Rattle.safl_verilog.proofs.WrittenMeans
 
 module _ (n : Netlist) (net : IsNetlist n) (is rs ws : List Signal) (whole : n.signals ≡ is ++ (rs ++ ws)) (inputs : Each IsInput is) (registers : Each IsUpdated rs) (wires : Each IsAssigned ws) where
   -- the signals of each kind are those of one of the lists
-  of_kind_is : (p : Kind → Bool) (a b c : List Signal) → filter (λ (g : Signal). p g.kind) is ≡ a → filter (λ (g : Signal). p g.kind) rs ≡ b → filter (λ (g : Signal). p g.kind) ws ≡ c → of_kind p n ≡ a ++ (b ++ c)
+  of_kind_is : (p : Kind → Bool) (a b c : List Signal) → filter (λ (g : Signal). p g.kind) is ≡ a → filter (λ (g : Signal). p g.kind) rs ≡ b → filter
+      (λ (g : Signal). p g.kind) ws ≡ c → of_kind p n ≡ a ++ (b ++ c)
   of_kind_is p a b c e f g =
       let q : Signal → Bool = λ (g : Signal). p g.kind in
       ap (filter q) whole ∙ filter-append q is (rs ++ ws) ∙ ap (λ (l : List Signal). l ++ filter q (rs ++ ws)) e
@@ -63,7 +64,8 @@ module _ (n : Netlist) (net : IsNetlist n) (is rs ws : List Signal) (whole : n.s
   laid : LaidOut n is rs ws rs ws
   laid =
       subst (λ (l : List Signal). LaidOut n is rs ws rs l) assigned_are (subst (λ (l : List Signal). LaidOut n is rs ws l (of_kind assigned_kind n)) updated_are
-      (subst (λ (l : List Signal). LaidOut n is rs l (of_kind updated_kind n) (of_kind assigned_kind n)) wires_are (subst (λ (l : List Signal). LaidOut n is l (of_kind wire_kind n) (of_kind updated_kind n) (of_kind assigned_kind n)) registers_are
+      (subst (λ (l : List Signal). LaidOut n is rs l (of_kind updated_kind n) (of_kind assigned_kind n)) wires_are
+      (subst (λ (l : List Signal). LaidOut n is l (of_kind wire_kind n) (of_kind updated_kind n) (of_kind assigned_kind n)) registers_are
       (subst (λ (l : List Signal). LaidOut n l (of_kind register_kind n) (of_kind wire_kind n) (of_kind updated_kind n) (of_kind assigned_kind n)) inputs_are (laid_out n net)))))
 
   reads : HasPorts n → Reads (written n) n

@@ -1,5 +1,6 @@
 -- A written file breaks no rule.
-use Rattle.std.proofs.Common.{◌≡◌, ℕ, ◌+◌, ◌-◌, ◌<◌, ◌≤◌, ◌^◌, List, [], ◌∷◌, ◌++◌, length, map, Bool, true, false, not, ◌==◌, ◌&&◌, ◌||◌, nat_lt, Some, None, Option, refl, sym, ap, subst, ◌∙◌, inl, arith, append_assoc, lit<, get_or}
+use Rattle.std.proofs.Common.{◌≡◌, ℕ, ◌+◌, ◌-◌, ◌<◌, ◌≤◌, ◌^◌, List, [], ◌∷◌, ◌++◌, length, map, Bool, true, false, not, ◌==◌, ◌&&◌, ◌||◌, nat_lt}
+use Rattle.std.proofs.Common.{Some, None, Option, refl, sym, ap, subst, ◌∙◌, inl, arith, append_assoc, lit<, get_or}
 use Rattle.std.specs.Prelude.{codes, decimal, slice_get, All, unwrap_or}
 use Rattle.std.specs.List.{flat_map}
 use Rattle.std.proofs.lemmas.List.{map-append}
@@ -20,15 +21,22 @@ use Rattle.safl_verilog.specs.declared.token.Sort.TheVariants as sorts
 use Rattle.safl_verilog.specs.declared.fault.VFault.{VFault}
 use Rattle.safl_verilog.specs.Tokens.{IsIdentifier}
 use Rattle.safl_verilog.specs.Files.{Spot, Plain, Declaration, Statement, Assign, File}
-use Rattle.safl_verilog.specs.Faults.{is_range, declared_number_faults, stated_number_faults, all_number_faults, all_repeat_faults, declared_names, find, is_input, is_output, is_reg, is_port, passes, range_width, width_of, width_in, header_faults, port_faults, has_ports, all_port_faults, is_target, unfit_faults, operands, is_plain, expression_width, assigned, updated, is_none, width_faults, assign_faults, always_faults, statement_faults, all_statement_faults, missing_faults, faults}
+use Rattle.safl_verilog.specs.Faults.{is_range, declared_number_faults, stated_number_faults, all_number_faults, all_repeat_faults, declared_names}
+use Rattle.safl_verilog.specs.Faults.{find, is_input, is_output, is_reg, is_port, passes, range_width, width_of, width_in, header_faults, port_faults}
+use Rattle.safl_verilog.specs.Faults.{has_ports, all_port_faults, is_target, unfit_faults, operands, is_plain, expression_width, assigned, updated}
+use Rattle.safl_verilog.specs.Faults.{is_none, width_faults, assign_faults, always_faults, statement_faults, all_statement_faults, missing_faults}
+use Rattle.safl_verilog.specs.Faults.{faults}
 use Rattle.safl_net.specs.Arranged.{IsInput, Each}
 use Rattle.safl_verilog.proofs.WholeNets.{IsUpdated, IsAssigned, HasPorts}
 use Rattle.safl_verilog.proofs.Decimals.{decimal_value, decimal_short}
-use Rattle.safl_verilog.proofs.Distinct.{Name, Has, Distinct, distinct_left, distinct_right, distinct_swap, distinct_apart, each_left, each_right, each_join, each_map, each_mapped, each_of, each_both, each_at, each_by_index, no_items, same_name}
+use Rattle.safl_verilog.proofs.Distinct.{Name, Has, Distinct, distinct_left, distinct_right, distinct_swap, distinct_apart, each_left, each_right}
+use Rattle.safl_verilog.proofs.Distinct.{each_join, each_map, each_mapped, each_of, each_both, each_at, each_by_index, no_items, same_name}
 use Rattle.safl_verilog.proofs.Lookups.{spot_names, names, no_repeats, is_among, each_has, target, targets, not_assigned, not_updated, Does, each_does}
 use Rattle.safl_verilog.proofs.Printed.{spot_of}
 use Rattle.safl_verilog.proofs.Cells.{kept, Spelled, spelled, Sound, cell_sound}
-use Rattle.safl_verilog.proofs.FileOf.{named_spot, expression_of, declare, declare_signal, declare_output, signal_spot, output_spot, clock, reset, ports, driver, assign_signal, assign_output, updated_by, update_signal, declarations_of, statements_of, file_of}
+use Rattle.safl_verilog.proofs.FileOf.{named_spot, expression_of, declare, declare_signal, declare_output, signal_spot, output_spot, clock, reset}
+use Rattle.safl_verilog.proofs.FileOf.{ports, driver, assign_signal, assign_output, updated_by, update_signal, declarations_of, statements_of}
+use Rattle.safl_verilog.proofs.FileOf.{file_of}
 use Rattle.safl_verilog.proofs.WrittenNames
 use Rattle.safl_verilog.proofs.WrittenNames.{sort_by, declared, signal_names, output_names, declared_width, good_identifier}
 
@@ -147,18 +155,30 @@ module _ (n : Netlist) (net : IsNetlist n) (is rs ws : List Signal) (whole : n.s
       let r = map (declare_signal sorts.Reg) rs in
       let w = map (declare_signal sorts.Wire) ws in
       let of : (s : Sort) (gs : List Signal) → Each Member gs → flat_map declared_number_faults (map (declare_signal s) gs) ≡ [] =
-      λ s gs h. mapped_faults declared_number_faults (declare_signal s) gs (each_of Member (λ g. declared_number_faults (declare_signal s g) ≡ []) (λ g m. declared_numbers s g.width g.name m.0.some m.0.most) gs h) in
-      let outs : flat_map declared_number_faults o ≡ [] = mapped_faults declared_number_faults (declare_output n) n.outputs (each_of Shown (λ (o : List ℕ × ℕ). declared_number_faults (declare_output n o) ≡ []) (λ o k. declared_numbers sorts.Output (Netlist.width_of n o.1) o.0 k.1.some k.1.narrow) n.outputs outputs_shown) in
-      let decls : flat_map declared_number_faults ds ≡ [] = flat_faults declared_number_faults i (o ++ (r ++ w)) (of sorts.Input is members.0) (flat_faults declared_number_faults o (r ++ w) outs (flat_faults declared_number_faults r w (of sorts.Reg rs members.1) (of sorts.Wire ws members.2))) in
-      let sw = mapped_faults stated_number_faults (assign_signal n) ws (each_of Driven (λ g. stated_number_faults (assign_signal n g) ≡ []) (λ g d. ap (λ k. stated_number_faults (Assign (signal_spot g) (driver n k))) d.kind_is ∙ d.sound.short) ws wires_driven) in
-      let so = mapped_faults stated_number_faults (assign_output n) n.outputs (each_of Shown (λ (o : List ℕ × ℕ). stated_number_faults (assign_output n o) ≡ []) (λ o k. refl) n.outputs outputs_shown) in
-      let sr = mapped_faults stated_number_faults (update_signal n) rs (each_of Held (λ g. stated_number_faults (update_signal n g) ≡ []) (λ g d. ap (λ k. stated_number_faults (updated_by n g k)) d.kind_is ∙ kept _ _ d.literal_is.good) rs registers_held) in
-      joined_faults _ _ decls (flat_faults stated_number_faults (map (assign_signal n) ws) (map (assign_output n) n.outputs ++ map (update_signal n) rs) sw (flat_faults stated_number_faults (map (assign_output n) n.outputs) (map (update_signal n) rs) so sr))
+      λ s gs h. mapped_faults declared_number_faults (declare_signal s) gs
+      (each_of Member (λ g. declared_number_faults (declare_signal s g) ≡ []) (λ g m. declared_numbers s g.width g.name m.0.some m.0.most) gs h) in
+      let outs : flat_map declared_number_faults o ≡ [] = mapped_faults declared_number_faults (declare_output n) n.outputs
+      (each_of Shown (λ (o : List ℕ × ℕ). declared_number_faults (declare_output n o) ≡ [])
+      (λ o k. declared_numbers sorts.Output (Netlist.width_of n o.1) o.0 k.1.some k.1.narrow) n.outputs outputs_shown) in
+      let decls : flat_map declared_number_faults ds ≡ [] = flat_faults declared_number_faults i (o ++ (r ++ w)) (of sorts.Input is members.0)
+      (flat_faults declared_number_faults o (r ++ w) outs (flat_faults declared_number_faults r w (of sorts.Reg rs members.1) (of sorts.Wire ws members.2))) in
+      let sw = mapped_faults stated_number_faults (assign_signal n) ws
+      (each_of Driven (λ g. stated_number_faults (assign_signal n g) ≡ [])
+      (λ g d. ap (λ k. stated_number_faults (Assign (signal_spot g) (driver n k))) d.kind_is ∙ d.sound.short) ws wires_driven) in
+      let so = mapped_faults stated_number_faults (assign_output n) n.outputs
+      (each_of Shown (λ (o : List ℕ × ℕ). stated_number_faults (assign_output n o) ≡ []) (λ o k. refl) n.outputs outputs_shown) in
+      let sr = mapped_faults stated_number_faults (update_signal n) rs
+      (each_of Held (λ g. stated_number_faults (update_signal n g) ≡ [])
+      (λ g d. ap (λ k. stated_number_faults (updated_by n g k)) d.kind_is ∙ kept _ _ d.literal_is.good) rs registers_held) in
+      joined_faults _ _ decls (flat_faults stated_number_faults (map (assign_signal n) ws)
+      (map (assign_output n) n.outputs ++ map (update_signal n) rs) sw
+      (flat_faults stated_number_faults (map (assign_output n) n.outputs) (map (update_signal n) rs) so sr))
 
   -- ---- names
 
   ports_named : spot_names (ports n is) ≡ signal_names is ++ output_names n.outputs
-  ports_named = map-append (λ (x : Spot). x.bytes) (map signal_spot is) (map output_spot n.outputs) ∙ ap (λ (l : List Name). l ++ spot_names (map output_spot n.outputs)) (of_signals is) ∙ ap (λ (l : List Name). signal_names is ++ l) (of_outputs n.outputs)
+  ports_named = map-append (λ (x : Spot). x.bytes) (map signal_spot is) (map output_spot n.outputs) ∙ ap
+      (λ (l : List Name). l ++ spot_names (map output_spot n.outputs)) (of_signals is) ∙ ap (λ (l : List Name). signal_names is ++ l) (of_outputs n.outputs)
     where
       of_signals : (gs : List Signal) → spot_names (map signal_spot gs) ≡ signal_names gs
       of_signals [] = refl
@@ -171,8 +191,11 @@ module _ (n : Netlist) (net : IsNetlist n) (is rs ws : List Signal) (whole : n.s
   header_differs : Distinct (spot_names (clock ∷ reset ∷ ports n is))
   header_differs =
       let d = subst Distinct (WrittenNames.names_are n net is rs ws whole inputs registers wires) (WrittenNames.declared_differ n net is rs ws whole inputs registers wires) in
-      let moved : codes "clk" ∷ codes "rst" ∷ WrittenNames.all_names n net is rs ws whole inputs registers wires ≡ (codes "clk" ∷ codes "rst" ∷ (signal_names is ++ output_names n.outputs)) ++ (signal_names rs ++ signal_names ws) = ap (λ (l : List Name). codes "clk" ∷ codes "rst" ∷ l) (sym (append_assoc (signal_names is) (output_names n.outputs) (signal_names rs ++ signal_names ws))) in
-      subst (λ (l : List Name). Distinct (codes "clk" ∷ codes "rst" ∷ l)) (sym ports_named) (distinct_left (codes "clk" ∷ codes "rst" ∷ (signal_names is ++ output_names n.outputs)) (signal_names rs ++ signal_names ws) (subst Distinct moved d))
+      let moved : codes "clk" ∷ codes "rst" ∷ WrittenNames.all_names n net is rs ws whole inputs registers wires ≡
+      (codes "clk" ∷ codes "rst" ∷ (signal_names is ++ output_names n.outputs)) ++ (signal_names rs ++ signal_names ws) = ap
+      (λ (l : List Name). codes "clk" ∷ codes "rst" ∷ l) (sym (append_assoc (signal_names is) (output_names n.outputs) (signal_names rs ++ signal_names ws))) in
+      subst (λ (l : List Name). Distinct (codes "clk" ∷ codes "rst" ∷ l)) (sym ports_named)
+      (distinct_left (codes "clk" ∷ codes "rst" ∷ (signal_names is ++ output_names n.outputs)) (signal_names rs ++ signal_names ws) (subst Distinct moved d))
 
   declared_spots : (xs : List Declaration) → spot_names (declared_names xs) ≡ names xs
   declared_spots [] = refl
@@ -202,8 +225,10 @@ module _ (n : Netlist) (net : IsNetlist n) (is rs ws : List Signal) (whole : n.s
       let port : Option Declaration → Bool = passes (λ d. is_port d.sort) in
       let c : header_faults f0 clock ≡ [] = refl in
       let r : header_faults f0 reset ≡ [] = refl in
-      let a = mapped_faults (header_faults f0) signal_spot is (each_of (λ g. find ds g.name ≡ Some (declare_signal sorts.Input g)) (λ g. header_faults f0 (signal_spot g) ≡ []) (λ g e. kept _ _ (ap port e)) is input_known) in
-      let b = mapped_faults (header_faults f0) output_spot n.outputs (each_of Shown (λ (o : List ℕ × ℕ). header_faults f0 (output_spot o) ≡ []) (λ o e. kept _ _ (ap port e.2)) n.outputs outputs_shown) in
+      let a = mapped_faults (header_faults f0) signal_spot is (each_of (λ g. find ds g.name ≡ Some (declare_signal sorts.Input g))
+      (λ g. header_faults f0 (signal_spot g) ≡ []) (λ g e. kept _ _ (ap port e)) is input_known) in
+      let b = mapped_faults (header_faults f0) output_spot n.outputs
+      (each_of Shown (λ (o : List ℕ × ℕ). header_faults f0 (output_spot o) ≡ []) (λ o e. kept _ _ (ap port e.2)) n.outputs outputs_shown) in
       joined_faults _ _ c (joined_faults _ _ r (flat_faults (header_faults f0) (map signal_spot is) (map output_spot n.outputs) a b))
 
   listed : Each (λ (x : Spot). Has x.bytes (spot_names (clock ∷ reset ∷ ports n is))) (ports n is)
@@ -216,8 +241,14 @@ module _ (n : Netlist) (net : IsNetlist n) (is rs ws : List Signal) (whole : n.s
       let r = map (declare_signal sorts.Reg) rs in
       let w = map (declare_signal sorts.Wire) ws in
       let P : Spot → Type 0 = λ (x : Spot). Has x.bytes (spot_names (clock ∷ reset ∷ ports n is)) in
-      let a = mapped_faults (port_faults f0) (declare_signal sorts.Input) is (each_of (λ g. P (signal_spot g)) (λ g. port_faults f0 (declare_signal sorts.Input g) ≡ []) (λ g h. kept _ _ (is_among (clock ∷ reset ∷ ports n is) g.name h)) is (each_map P signal_spot is (each_left P (map signal_spot is) (map output_spot n.outputs) listed))) in
-      let b = mapped_faults (port_faults f0) (declare_output n) n.outputs (each_of (λ o. P (output_spot o)) (λ o. port_faults f0 (declare_output n o) ≡ []) (λ o h. kept _ _ (is_among (clock ∷ reset ∷ ports n is) o.0 h)) n.outputs (each_map P output_spot n.outputs (each_right P (map signal_spot is) (map output_spot n.outputs) listed))) in
+      let a = mapped_faults (port_faults f0) (declare_signal sorts.Input) is
+      (each_of (λ g. P (signal_spot g)) (λ g. port_faults f0 (declare_signal sorts.Input g) ≡ [])
+      (λ g h. kept _ _ (is_among (clock ∷ reset ∷ ports n is) g.name h)) is
+      (each_map P signal_spot is (each_left P (map signal_spot is) (map output_spot n.outputs) listed))) in
+      let b = mapped_faults (port_faults f0) (declare_output n) n.outputs
+      (each_of (λ o. P (output_spot o)) (λ o. port_faults f0 (declare_output n o) ≡ [])
+      (λ o h. kept _ _ (is_among (clock ∷ reset ∷ ports n is) o.0 h)) n.outputs
+      (each_map P output_spot n.outputs (each_right P (map signal_spot is) (map output_spot n.outputs) listed))) in
       let c = mapped_faults (port_faults f0) (declare_signal sorts.Reg) rs (each_of Held (λ g. port_faults f0 (declare_signal sorts.Reg g) ≡ []) (λ g h. refl) rs registers_held) in
       let d = mapped_faults (port_faults f0) (declare_signal sorts.Wire) ws (each_of Driven (λ g. port_faults f0 (declare_signal sorts.Wire g) ≡ []) (λ g h. refl) ws wires_driven) in
       flat_faults (port_faults f0) i (o ++ (r ++ w)) a (flat_faults (port_faults f0) o (r ++ w) b (flat_faults (port_faults f0) r w c d))
@@ -251,7 +282,8 @@ module _ (n : Netlist) (net : IsNetlist n) (is rs ws : List Signal) (whole : n.s
   no_statement_faults : (before xs : List Statement) → Distinct (targets before ++ targets xs) → Each Good xs → all_statement_faults ds before xs ≡ []
   no_statement_faults before [] d h = refl
   no_statement_faults before (s ∷ xs) d h =
-      let moved : targets (before ++ s ∷ []) ++ targets xs ≡ targets before ++ targets (s ∷ xs) = ap (λ (l : List Name). l ++ targets xs) (map-append target before (s ∷ [])) ∙ append_assoc (targets before) (target s ∷ []) (targets xs) in
+      let moved : targets (before ++ s ∷ []) ++ targets xs ≡ targets before ++ targets (s ∷ xs) = ap (λ (l : List Name). l ++ targets xs)
+      (map-append target before (s ∷ [])) ∙ append_assoc (targets before) (target s ∷ []) (targets xs) in
       joined_faults _ _ (h.0 before (λ k. distinct_apart (targets before) (targets (s ∷ xs)) d (target s) k (inl refl)))
       (no_statement_faults (before ++ s ∷ []) xs (subst Distinct (sym moved) d) h.1)
 
@@ -278,7 +310,8 @@ module _ (n : Netlist) (net : IsNetlist n) (is rs ws : List Signal) (whole : n.s
       let none : assigned before g.name ≡ None = not_assigned before g.name new in
       let go : assign_faults ds before x (expression_of n d.cell) ≡ [] =
       joined_faults _ _ (joined_faults _ _ (joined_faults _ _ (kept _ _ (ap (passes is_target) e))
-      (kept _ _ (both (is_none (assigned before g.name)) (passes (λ d. is_output d.sort) (find ds g.name)) (is_plain (expression_of n d.cell)) (ap is_none none) (ap (passes (λ d. is_output d.sort)) e))))
+      (kept _ _ (both (is_none (assigned before g.name)) (passes (λ d. is_output d.sort) (find ds g.name)) (is_plain (expression_of n d.cell))
+      (ap is_none none) (ap (passes (λ d. is_output d.sort)) e))))
       (ap (flat_map (unfit_faults ds)) d.sound.takes ∙ fit_operands d.cell.operands d.operands_used))
       (same_width 0 _ _ (of_signal g m ∙ sym (expression_is g d))) in
       ap (λ k. assign_faults ds before x (driver n k)) d.kind_is ∙ go
@@ -317,15 +350,21 @@ module _ (n : Netlist) (net : IsNetlist n) (is rs ws : List Signal) (whole : n.s
 
   pub all_good : Each Good ss
   all_good =
-      each_join Good (map (assign_signal n) ws) _ (each_mapped Good (assign_signal n) ws (each_both Driven (λ g. Member g × (find ds g.name ≡ Some (declare_signal sorts.Wire g))) (λ g. Good (assign_signal n g)) (λ g d k. wire_good g d k.0 k.1) ws wires_driven (each_both Member (λ g. find ds g.name ≡ Some (declare_signal sorts.Wire g)) _ (λ g m e. (m, e)) ws members.2 wire_known)))
+      each_join Good (map (assign_signal n) ws) _ (each_mapped Good (assign_signal n) ws
+      (each_both Driven (λ g. Member g × (find ds g.name ≡ Some (declare_signal sorts.Wire g))) (λ g. Good (assign_signal n g))
+      (λ g d k. wire_good g d k.0 k.1) ws wires_driven (each_both Member (λ g. find ds g.name ≡ Some (declare_signal sorts.Wire g)) _
+      (λ g m e. (m, e)) ws members.2 wire_known)))
       (each_join Good (map (assign_output n) n.outputs) _ (each_mapped Good (assign_output n) n.outputs (each_of Shown (λ o. Good (assign_output n o)) output_good n.outputs outputs_shown))
-      (each_mapped Good (update_signal n) rs (each_both Held (λ g. Member g × (find ds g.name ≡ Some (declare_signal sorts.Reg g))) (λ g. Good (update_signal n g)) (λ g d k. register_good g d k.0 k.1) rs registers_held (each_both Member (λ g. find ds g.name ≡ Some (declare_signal sorts.Reg g)) _ (λ g m e. (m, e)) rs members.1 register_known))))
+      (each_mapped Good (update_signal n) rs (each_both Held (λ g. Member g × (find ds g.name ≡ Some (declare_signal sorts.Reg g)))
+      (λ g. Good (update_signal n g)) (λ g d k. register_good g d k.0 k.1) rs registers_held
+      (each_both Member (λ g. find ds g.name ≡ Some (declare_signal sorts.Reg g)) _ (λ g m e. (m, e)) rs members.1 register_known))))
 
   targets_are : targets ss ≡ signal_names ws ++ (output_names n.outputs ++ signal_names rs)
   targets_are =
       map-append target (map (assign_signal n) ws) (map (assign_output n) n.outputs ++ map (update_signal n) rs)
       ∙ ap (λ (l : List Name). l ++ targets (map (assign_output n) n.outputs ++ map (update_signal n) rs)) (of_wires ws)
-      ∙ ap (λ (l : List Name). signal_names ws ++ l) (map-append target (map (assign_output n) n.outputs) (map (update_signal n) rs) ∙ ap (λ (l : List Name). l ++ targets (map (update_signal n) rs)) (of_outputs n.outputs) ∙ ap (λ (l : List Name). output_names n.outputs ++ l) (of_registers rs))
+      ∙ ap (λ (l : List Name). signal_names ws ++ l) (map-append target (map (assign_output n) n.outputs) (map (update_signal n) rs) ∙ ap
+      (λ (l : List Name). l ++ targets (map (update_signal n) rs)) (of_outputs n.outputs) ∙ ap (λ (l : List Name). output_names n.outputs ++ l) (of_registers rs))
     where
       of_wires : (gs : List Signal) → targets (map (assign_signal n) gs) ≡ signal_names gs
       of_wires [] = refl
@@ -375,12 +414,19 @@ module _ (n : Netlist) (net : IsNetlist n) (is rs ws : List Signal) (whole : n.s
       let r = map (declare_signal sorts.Reg) rs in
       let w = map (declare_signal sorts.Wire) ws in
       let a = mapped_faults (missing_faults ss) (declare_signal sorts.Input) is (each_of IsInput (λ g. missing_faults ss (declare_signal sorts.Input g) ≡ []) (λ g e. refl) is inputs) in
-      let b = mapped_faults (missing_faults ss) (declare_output n) n.outputs (each_of (λ (o : List ℕ × ℕ). assigned ss o.0 ≡ Some (Plain (named_spot n o.1))) (λ o. missing_faults ss (declare_output n o) ≡ []) (λ o e. joined_faults _ _ (kept _ _ (ap (λ k. not (is_none k)) e)) refl) n.outputs outputs_done) in
-      let c = mapped_faults (missing_faults ss) (declare_signal sorts.Reg) rs (each_of (λ g. (h : Held g) × (updated ss g.name ≡ Some (spot_of (literal g.width h.init), named_spot n h.next))) (λ g. missing_faults ss (declare_signal sorts.Reg g) ≡ []) (λ g e. kept _ _ (ap (λ k. not (is_none k)) e.1)) rs registers_done) in
-      let d = mapped_faults (missing_faults ss) (declare_signal sorts.Wire) ws (each_of (λ g. assigned ss g.name ≡ Some (driver n g.kind)) (λ g. missing_faults ss (declare_signal sorts.Wire g) ≡ []) (λ g e. joined_faults _ _ (kept _ _ (ap (λ k. not (is_none k)) e)) refl) ws wires_done) in
+      let b = mapped_faults (missing_faults ss) (declare_output n) n.outputs
+      (each_of (λ (o : List ℕ × ℕ). assigned ss o.0 ≡ Some (Plain (named_spot n o.1))) (λ o. missing_faults ss (declare_output n o) ≡ [])
+      (λ o e. joined_faults _ _ (kept _ _ (ap (λ k. not (is_none k)) e)) refl) n.outputs outputs_done) in
+      let c = mapped_faults (missing_faults ss) (declare_signal sorts.Reg) rs
+      (each_of (λ g. (h : Held g) × (updated ss g.name ≡ Some (spot_of (literal g.width h.init), named_spot n h.next)))
+      (λ g. missing_faults ss (declare_signal sorts.Reg g) ≡ []) (λ g e. kept _ _ (ap (λ k. not (is_none k)) e.1)) rs registers_done) in
+      let d = mapped_faults (missing_faults ss) (declare_signal sorts.Wire) ws
+      (each_of (λ g. assigned ss g.name ≡ Some (driver n g.kind)) (λ g. missing_faults ss (declare_signal sorts.Wire g) ≡ [])
+      (λ g e. joined_faults _ _ (kept _ _ (ap (λ k. not (is_none k)) e)) refl) ws wires_done) in
       flat_faults (missing_faults ss) i (o ++ (r ++ w)) a (flat_faults (missing_faults ss) o (r ++ w) b (flat_faults (missing_faults ss) r w c d))
 
   pub nothing_broken : HasPorts n → faults f0 ≡ []
   unfolding faults
   nothing_broken p =
-      joined_faults _ _ (joined_faults _ _ (joined_faults _ _ (joined_faults _ _ no_number_faults no_repeat_faults) (no_port_rule_faults p)) (no_statement_faults [] ss targets_differ all_good)) nothing_missing
+      joined_faults _ _ (joined_faults _ _ (joined_faults _ _ (joined_faults _ _ no_number_faults no_repeat_faults) (no_port_rule_faults p))
+      (no_statement_faults [] ss targets_differ all_good)) nothing_missing

@@ -1,5 +1,6 @@
 -- A text that is cut piece by piece.
-use Rattle.std.proofs.Common.{◌≡◌, ℕ, ◌+◌, ◌-◌, ◌<◌, ◌≤◌, List, [], ◌∷◌, ◌++◌, length, take, drop, Some, None, Option, refl, sym, ap, subst, ◌∙◌, arith, append_assoc, length-append, length-drop, drop-drop}
+use Rattle.std.proofs.Common.{◌≡◌, ℕ, ◌+◌, ◌-◌, ◌<◌, ◌≤◌, List, [], ◌∷◌, ◌++◌, length, take, drop, Some, None, Option, refl, sym, ap, subst, ◌∙◌}
+use Rattle.std.proofs.Common.{arith, append_assoc, length-append, length-drop, drop-drop}
 use Rattle.std.proofs.Math.Seq.{take-append_seam, drop-append_seam}
 use Rattle.std.proofs.Math.ListN.{drop_of_length-le}
 use Rattle.std.proofs.lemmas.List.{append-nil, map-append}
@@ -41,12 +42,14 @@ record Further (text : List ℕ) (p : ℕ) (x : Piece) (pieces : List Piece) : T
 further : (text : List ℕ) (p : ℕ) (ts : List Token) (x : Piece) → p ≤ length text → (k : IsCutUpTo text p ts) → Cut (drop p text) x → Further text p x k.pieces
 further text p ts x le k c =
     let size : length (drop p text) ≡ length (text_of x) + length c.rest = ap length c.joined ∙ length-append (text_of x) c.rest in
-    let rest : drop (p + length (text_of x)) text ≡ c.rest = sym (drop-drop (length (text_of x)) p text) ∙ ap (λ (l : List ℕ). drop (length (text_of x)) l) c.joined ∙ drop-append_seam (text_of x) c.rest in
+    let rest : drop (p + length (text_of x)) text ≡ c.rest = sym (drop-drop (length (text_of x)) p text) ∙ ap
+    (λ (l : List ℕ). drop (length (text_of x)) l) c.joined ∙ drop-append_seam (text_of x) c.rest in
     let all : text_of_all (k.pieces ++ x ∷ []) ≡ text_of_all k.pieces ++ text_of x = text_append k.pieces (x ∷ []) ∙ ap (λ (l : List ℕ). text_of_all k.pieces ++ l) (append-nil (text_of x)) in
     let one : StandsBefore x c.rest = c.stands in
     let before : drop p text ≡ text_of_all (x ∷ []) ++ c.rest = c.joined ∙ ap (λ (l : List ℕ). l ++ c.rest) (sym (append-nil (text_of x))) in
     record {
-      joined = k.joined ∙ ap (λ (l : List ℕ). text_of_all k.pieces ++ l) c.joined ∙ sym (append_assoc (text_of_all k.pieces) (text_of x) c.rest) ∙ ap (λ (l : List ℕ). l ++ c.rest) (sym all) ∙ ap (λ (l : List ℕ). text_of_all (k.pieces ++ x ∷ []) ++ l) (sym rest);
+      joined = k.joined ∙ ap (λ (l : List ℕ). text_of_all k.pieces ++ l) c.joined ∙ sym (append_assoc (text_of_all k.pieces) (text_of x) c.rest) ∙ ap
+          (λ (l : List ℕ). l ++ c.rest) (sym all) ∙ ap (λ (l : List ℕ). text_of_all (k.pieces ++ x ∷ []) ++ l) (sym rest);
       stand = subst (λ (l : List ℕ). StandAll (k.pieces ++ x ∷ []) l) (sym rest) (stand_append k.pieces (x ∷ []) c.rest (subst (λ (l : List ℕ). StandAll k.pieces l) before k.stand) (one, tt));
       place = omega (arith, k.place, ap length all, length-append (text_of_all k.pieces) (text_of x));
       within = omega (arith, size, length-drop p text);
@@ -69,7 +72,8 @@ no_token (Line w) n p e = let g : n ≡ 2 + length w = cc in (omega (arith, g), 
 no_token (Block w) n p e = let g : n ≡ length w + 4 = cc in (omega (arith, g, length-append w (42 ∷ 47 ∷ [])), refl)
 no_token (Lexeme k w) n p e = absurd cc
 
-pub goes_over : (text w : List ℕ) (p n : ℕ) (ts : List Token) → w ≡ drop p text → p ≤ length text → IsCutUpTo text p ts → fronts.Gap n ≡ measured (first_piece w) → (p + n ≤ length text) × IsCutUpTo text (p + n) ts × (1 ≤ n)
+pub goes_over : (text w : List ℕ) (p n : ℕ) (ts : List Token) → w ≡ drop p text → p ≤ length text → IsCutUpTo text p ts → fronts.Gap n ≡ measured
+    (first_piece w) → (p + n ≤ length text) × IsCutUpTo text (p + n) ts × (1 ≤ n)
 goes_over text w p n ts e le k h =
     let x = found_as w (fronts.Gap n) (λ e. cc) h in
     let c = piece_found (drop p text) x.0 (ap first_piece (sym e) ∙ x.1) in
@@ -96,7 +100,9 @@ is_token (Line w) kind n e = absurd cc
 is_token (Block w) kind n e = absurd cc
 is_token (Lexeme k w) kind n e = let a : kind ≡ k = cc in let b : n ≡ length w = cc in (w, ap (λ k. Lexeme k w) (sym a), sym b)
 
-pub takes : (text w : List ℕ) (p n : ℕ) (kind : TokenKind) (ts us : List Token) → w ≡ drop p text → p ≤ length text → IsCutUpTo text p ts → fronts.Found kind n ≡ measured (first_piece w) → us ≡ ts ++ (record { start = p; stop = p + n; kind = kind }) ∷ [] → (p + n ≤ length text) × IsCutUpTo text (p + n) us × (1 ≤ n)
+pub takes : (text w : List ℕ) (p n : ℕ) (kind : TokenKind) (ts us : List Token) → w ≡ drop p text → p ≤ length text → IsCutUpTo text p ts →
+    fronts.Found kind n ≡ measured (first_piece w) → us ≡ ts ++ (record { start = p; stop = p + n; kind = kind }) ∷ [] → (p + n ≤ length text) ×
+    IsCutUpTo text (p + n) us × (1 ≤ n)
 takes text w p n kind ts us e le k h more =
     let x = found_as w (fronts.Found kind n) (λ e. cc) h in
     let t = is_token x.0 kind n x.2 in
@@ -105,7 +111,9 @@ takes text w p n kind ts us e le k h more =
     let size : p + n - p ≡ length t.0 = omega (arith, t.2) in
     let bytes : take (p + n - p) (drop p text) ≡ t.0 = ap (λ j. take j (drop p text)) size ∙ f.front in
     let here : p ≡ 0 + length (text_of_all k.pieces) = omega (arith, k.place) in
-    let last : shown text (record { start = p; stop = p + n; kind = kind }) ≡ record { place = 0 + length (text_of_all k.pieces); kind = kind; bytes = t.0 } = ap (λ (b : List ℕ). record { place = p; kind = kind; bytes = b }) bytes ∙ ap (λ q. record { place = q; kind = kind; bytes = t.0 }) here in
+    let last : shown text (record { start = p; stop = p + n; kind = kind }) ≡ record
+    { place = 0 + length (text_of_all k.pieces); kind = kind; bytes = t.0 } = ap (λ (b : List ℕ). record { place = p; kind = kind; bytes = b })
+    bytes ∙ ap (λ q. record { place = q; kind = kind; bytes = t.0 }) here in
     let g : (p + length t.0 ≤ length text) × IsCutUpTo text (p + length t.0) us × (1 ≤ length t.0) = (
       f.within,
       record {
@@ -113,7 +121,9 @@ takes text w p n kind ts us e le k h more =
         joined = f.joined;
         stand = f.stand;
         place = f.place;
-        tokens = ap (shown_all text) more ∙ map-append (shown text) ts _ ∙ ap (λ (l : List Terminal). l ++ shown_all text (record { start = p; stop = p + n; kind = kind } ∷ [])) k.tokens ∙ ap (λ y. tokens_from 0 k.pieces ++ y ∷ []) last ∙ sym (tokens_after k.pieces (Lexeme kind t.0 ∷ []) 0);
+        tokens = ap (shown_all text) more ∙ map-append (shown text) ts _ ∙ ap
+            (λ (l : List Terminal). l ++ shown_all text (record { start = p; stop = p + n; kind = kind } ∷ [])) k.tokens ∙ ap
+            (λ y. tokens_from 0 k.pieces ++ y ∷ []) last ∙ sym (tokens_after k.pieces (Lexeme kind t.0 ∷ []) 0);
       },
       no_empty (Lexeme kind t.0) c.rest c.stands,
     ) in

@@ -1,5 +1,6 @@
 -- What is found at the front of a text.
-use Rattle.std.proofs.Common.{◌≡◌, ◌≢◌, ℕ, suc, ◌+◌, ◌-◌, ◌<◌, ◌≤◌, List, [], ◌∷◌, length, take, drop, get_or, Bool, true, false, cond, not, ◌==◌, ◌&&◌, nat_le, Some, None, Option, refl, sym, ap, ◌∙◌, arith, drop-cons, length-drop, drop-drop}
+use Rattle.std.proofs.Common.{◌≡◌, ◌≢◌, ℕ, suc, ◌+◌, ◌-◌, ◌<◌, ◌≤◌, List, [], ◌∷◌, length, take, drop, get_or, Bool, true, false, cond, not, ◌==◌}
+use Rattle.std.proofs.Common.{◌&&◌, nat_le, Some, None, Option, refl, sym, ap, ◌∙◌, arith, drop-cons, length-drop, drop-drop}
 use Rattle.std.proofs.Math.Seq.{take-length}
 use Rattle.std.proofs.lemmas.List.{take-append-drop, length-take-le}
 use Rattle.std.proofs.lemmas.Bool.{and_parts}
@@ -11,7 +12,8 @@ use Rattle.safl_verilog.specs.declared.token.Keyword.{Keyword}
 use Rattle.safl_verilog.specs.declared.token.Symbol.{Symbol}
 use Rattle.safl_verilog.specs.declared.token.TokenKind.TheVariants as kinds
 use Rattle.safl_verilog.specs.Tokens.{keyword_text, symbol_text, stops, next_base}
-use Rattle.safl_verilog.specs.Pieces.{run, named, all_keywords, single_symbols, double_symbols, word_kind, first_bytes, first_word, sized_length, first_number, one_symbol, two_symbols, first_symbol, closing, one_more, first_comment, first_piece}
+use Rattle.safl_verilog.specs.Pieces.{run, named, all_keywords, single_symbols, double_symbols, word_kind, first_bytes, first_word, sized_length}
+use Rattle.safl_verilog.specs.Pieces.{first_number, one_symbol, two_symbols, first_symbol, closing, one_more, first_comment, first_piece}
 use Rattle.safl_verilog.proofs.Runs.{run_of, named_none}
 use Rattle.safl_verilog.proofs.Symbols.{keyword_named}
 use Rattle.safl_vparse.specs.declared.front.Front.{Front}
@@ -78,7 +80,8 @@ at_run text n h o e =
 pub number_found : (text : List ℕ) (n : ℕ) → IsRun (is_digit 10) text n → next_base (drop n text) ≡ None → number_front text ≡ fronts.Found kinds.Number n
 number_found text n h e = at_run text n h None e ∙ ap (λ k. fronts.Found kinds.Number k) (length-take-le n text h.within)
 
-pub sized_found : (text : List ℕ) (n base count : ℕ) → IsRun (is_digit 10) text n → next_base (drop n text) ≡ Some base → IsRun (is_digit base) (drop 2 (drop n text)) count → number_front text ≡ fronts.Found kinds.Sized (n + (2 + count))
+pub sized_found : (text : List ℕ) (n base count : ℕ) → IsRun (is_digit 10) text n → next_base (drop n text) ≡ Some base → IsRun (is_digit base)
+    (drop 2 (drop n text)) count → number_front text ≡ fronts.Found kinds.Sized (n + (2 + count))
 sized_found text n base count h e k =
     let two : suc (suc n) ≡ n + 2 = omega arith in
     let moved : drop (suc (suc n)) text ≡ drop 2 (drop n text) = ap (λ k. drop k text) two ∙ sym (drop-drop 2 n text) in
@@ -118,12 +121,14 @@ not_both a b h = go ((a == 42) && (b == 47)) refl
     go true e = let p = and_parts (a == 42) (b == 47) e in absurd (h ((Decides-eqb a 42).0 p.0) ((Decides-eqb b 47).0 p.1))
     go false e = refl
 
-pub closing_goes : (text : List ℕ) (i : ℕ) → 1 ≤ i → i < length text → (get_or text (i - 1) 0 ≡ 42 → get_or text i 0 ≡ 47 → ⊥) → closing text ≡ shifted (i - 1) (closing (drop (i - 1) text)) → closing text ≡ shifted (i + 1 - 1) (closing (drop (i + 1 - 1) text))
+pub closing_goes : (text : List ℕ) (i : ℕ) → 1 ≤ i → i < length text → (get_or text (i - 1) 0 ≡ 42 → get_or text i 0 ≡ 47 → ⊥) → closing text ≡
+    shifted (i - 1) (closing (drop (i - 1) text)) → closing text ≡ shifted (i + 1 - 1) (closing (drop (i + 1 - 1) text))
 closing_goes text i a b other h =
     let e = not_both (get_or text (i - 1) 0) (get_or text i 0) other in
     let k : i + 1 - 1 ≡ i = omega arith in
     let s : suc (i - 1) ≡ i = omega arith in
-    let here : closing (drop (i - 1) text) ≡ one_more (closing (get_or text i 0 ∷ drop (i + 1) text)) = ap closing (two_at text i a b) ∙ ap (λ c. cond c (Some 0) (one_more (closing (get_or text i 0 ∷ drop (i + 1) text)))) e in
+    let here : closing (drop (i - 1) text) ≡ one_more (closing (get_or text i 0 ∷ drop (i + 1) text)) = ap closing (two_at text i a b) ∙ ap
+    (λ c. cond c (Some 0) (one_more (closing (get_or text i 0 ∷ drop (i + 1) text)))) e in
     let next : get_or text i 0 ∷ drop (i + 1) text ≡ drop i text = let k2 : suc i ≡ i + 1 = omega arith in sym (drop-cons text i 0 b ∙ ap (λ j. get_or text i 0 ∷ drop j text) k2) in
     h ∙ ap (shifted (i - 1)) here ∙ shifted_more (i - 1) (closing (get_or text i 0 ∷ drop (i + 1) text)) ∙ ap (λ n. shifted n (closing (get_or text i 0 ∷ drop (i + 1) text))) s
     ∙ ap (λ (l : List ℕ). shifted i (closing l)) next ∙ ap (λ n. shifted n (closing (drop n text))) (sym k)
@@ -150,7 +155,8 @@ eq_false a b h = go (a == b) refl
     go true e = absurd (h ((Decides-eqb a b).0 e))
     go false e = refl
 
-pub symbol_front : (w : List ℕ) (r : Front) → 1 ≤ length w → is_blank (get_or w 0 0) ≡ false → (get_or w 0 0 ≡ 47 → ⊥) → is_start (get_or w 0 0) ≡ false → is_digit 10 (get_or w 0 0) ≡ false → r ≡ measured (first_symbol (get_or w 0 0) (take (length w - 1) (drop 1 w))) → r ≡ measured (first_piece w)
+pub symbol_front : (w : List ℕ) (r : Front) → 1 ≤ length w → is_blank (get_or w 0 0) ≡ false → (get_or w 0 0 ≡ 47 → ⊥) → is_start (get_or w 0 0) ≡
+    false → is_digit 10 (get_or w 0 0) ≡ false → r ≡ measured (first_symbol (get_or w 0 0) (take (length w - 1) (drop 1 w))) → r ≡ measured (first_piece w)
 unfolding first_piece
 symbol_front [] r le a b d e h = absurd (omega arith)
 symbol_front (c ∷ w) r le a b d e h =

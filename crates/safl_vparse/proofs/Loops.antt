@@ -24,6 +24,8 @@ pub another_stmt_eats : (ss : List Statement) (w r : List Terminal) (x : List St
 another_stmt_eats ss = (eats_parses (another_stmt_parses ss)).left
 
 -- a turn that fails
-pub fails : {A : Type 0} (text : List ℕ) (e : ReadError) (test : Option Terminal → Bool) (go : A → Reading Terminal A) (eats : (a : A) (w r : List Terminal) (x : A) → go a w ≡ Ok (x, r) → length r < length w) (a : A) (w : List Terminal) (total : Read Terminal A) → read_many test go a w ≡ total → test (head_of w) ≡ true → Fails text e (go a w) → Fails text e total
+pub fails : {A : Type 0} (text : List ℕ) (e : ReadError) (test : Option Terminal → Bool) (go : A → Reading Terminal A)
+    (eats : (a : A) (w r : List Terminal) (x : A) → go a w ≡ Ok (x, r) → length r < length w) (a : A) (w : List Terminal) (total : Read Terminal A) →
+    read_many test go a w ≡ total → test (head_of w) ≡ true → Fails text e (go a w) → Fails text e total
 fails text errors.NoMemory test go eats a w total so_far t h = tt
 fails text (errors.Unexpected rest) test go eats a w total so_far t h = fails_here test go eats a w total so_far (Unexpected, shown_all text rest.now) t h

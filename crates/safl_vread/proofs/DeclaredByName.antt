@@ -1,5 +1,6 @@
 -- Declarations that are found by their names.
-use Rattle.std.proofs.Common.{◌≡◌, ℕ, zero, suc, ◌+◌, List, [], ◌∷◌, length, get_or, map, position, Option, None, Some, Bool, true, false, not, cond, bytes_eq, refl, sym, ap, subst, ◌∙◌, arith, nat_lt, slice_get}
+use Rattle.std.proofs.Common.{◌≡◌, ℕ, zero, suc, ◌+◌, List, [], ◌∷◌, length, get_or, map, position, Option, None, Some, Bool, true, false, not, cond}
+use Rattle.std.proofs.Common.{bytes_eq, refl, sym, ap, subst, ◌∙◌, arith, nat_lt, slice_get}
 use Rattle.std.specs.Option.{option_map}
 use Rattle.std.specs.List.{position_or_len}
 use Rattle.std.proofs.lemmas.Slice.Eq.{bytes_eq-Decides}
@@ -28,7 +29,8 @@ position_cons p x xs = by (p x)
     k : ℕ
     k = position_or_len p xs
 
-    by : (b : Bool) → cond (nat_lt (cond (not b) (1 + position_or_len p xs) 0) (suc (length xs))) (Some (cond (not b) (1 + position_or_len p xs) 0)) None ≡ cond b (Some 0) (option_map suc (position p xs))
+    by : (b : Bool) → cond (nat_lt (cond (not b) (1 + position_or_len p xs) 0) (suc (length xs))) (Some (cond (not b) (1 + position_or_len p xs) 0))
+        None ≡ cond b (Some 0) (option_map suc (position p xs))
     by true = ap (λ c. cond c (Some 0) None) (positive (length xs))
     by false = ap (λ c. cond c (Some (1 + position_or_len p xs)) None) (shifted (position_or_len p xs) (length xs)) ∙ inner (nat_lt (position_or_len p xs) (length xs))
       where
@@ -52,7 +54,8 @@ pub finds : (ds : List Declaration) (name : List ℕ) → Finds ds name (find ds
 finds [] name = tt
 finds (d ∷ ds) name = subst (λ p. Finds (d ∷ ds) name (find (d ∷ ds) name) p) (sym (position_cons (bytes_eq name) d.name.bytes (names_of ds))) (by (bytes_eq d.name.bytes name) refl (finds ds name))
   where
-    by : (b : Bool) → bytes_eq d.name.bytes name ≡ b → Finds ds name (find ds name) (position (bytes_eq name) (names_of ds)) → Finds (d ∷ ds) name (cond (bytes_eq d.name.bytes name) (Some d) (find ds name)) (cond (bytes_eq name d.name.bytes) (Some 0) (option_map suc (position (bytes_eq name) (names_of ds))))
+    by : (b : Bool) → bytes_eq d.name.bytes name ≡ b → Finds ds name (find ds name) (position (bytes_eq name) (names_of ds)) → Finds (d ∷ ds) name
+        (cond (bytes_eq d.name.bytes name) (Some d) (find ds name)) (cond (bytes_eq name d.name.bytes) (Some 0) (option_map suc (position (bytes_eq name) (names_of ds))))
     by true h k = rw (bytes_flip name d.name.bytes, h) (refl, (bytes_eq-Decides d.name.bytes name).0 h)
     by false h k = rw (bytes_flip name d.name.bytes, h) (finds_later d ds name (find ds name) (position (bytes_eq name) (names_of ds)) k)
 
@@ -69,7 +72,8 @@ found_at f [] i x y h = absurd cc
 found_at f (z ∷ xs) zero x y h = let e : z ≡ x = cc in ap f e
 found_at f (z ∷ xs) (suc i) x y h = found_at f xs i x y h
 
-signal_of : (d : Declaration) (sort : Sort) (name : List ℕ) → d.sort ≡ sort → d.name.bytes ≡ name → is_signal (record { sort = sort; range = None; name = record { place = 0; bytes = name } }) ≡ is_signal d
+signal_of : (d : Declaration) (sort : Sort) (name : List ℕ) → d.sort ≡ sort → d.name.bytes ≡ name → is_signal
+    (record { sort = sort; range = None; name = record { place = 0; bytes = name } }) ≡ is_signal d
 signal_of d sort name e f = rw (e, f) refl
 
 -- what was found, and what is shown of it
@@ -89,6 +93,7 @@ pub none_passes : (ds : List Declaration) (o : Option Declaration) (p : Declarat
 none_passes ds None p h = refl
 none_passes ds (Some d) p h = absurd h
 
-pub some_passes : (ds : List Declaration) (o : Option Declaration) (item : Item) (p : Declaration → Bool) (b : Bool) → Describes ds o (Some item) → ((d : Declaration) → Shows ds d item → b ≡ p d) → b ≡ passes p o
+pub some_passes : (ds : List Declaration) (o : Option Declaration) (item : Item) (p : Declaration → Bool) (b : Bool) → Describes ds o (Some item) →
+    ((d : Declaration) → Shows ds d item → b ≡ p d) → b ≡ passes p o
 some_passes ds None item p b h k = absurd h
 some_passes ds (Some d) item p b h k = k d h

@@ -165,7 +165,42 @@ turn_names (suc k) a ds w h g (inl (u, v, b, e, (u1, v1, d, e1, s1, (e2, f2)), r
     (m.0, omega (arith, m.1, n.one, parts w u v e, parts u u1 v1 e1, ap length f2, length-append a (d ∷ [])))
 
 file_names : (w : List Terminal) (f : File) → Each Named w → file.derives w f → Each IsNamed f.declarations × (1 + length f.declarations ≤ ids_in w)
-file_names w f h (u1, v1, k, e1, s1, (u2, v2, x, e2, (t, et, c), (u3, v3, o, e3, s3, (u4, v4, hs, e4, s4, (u5, v5, p, e5, s5, (u6, v6, s, e6, s6, (u7, v7, ds, e7, (n7, s7), (u8, v8, ss, e8, s8, (u9, v9, z, e9, s9, (ea, eb)))))))))) =
+file_names w f h (
+  u1,
+  v1,
+  k,
+  e1,
+  s1,
+  (
+    u2,
+    v2,
+    x,
+    e2,
+    (t, et, c),
+    (
+      u3,
+      v3,
+      o,
+      e3,
+      s3,
+      (
+        u4,
+        v4,
+        hs,
+        e4,
+        s4,
+        (
+          u5,
+          v5,
+          p,
+          e5,
+          s5,
+          (u6, v6, s, e6, s6, (u7, v7, ds, e7, (n7, s7), (u8, v8, ss, e8, s8, (u9, v9, z, e9, s9, (ea, eb))))),
+        ),
+      ),
+    ),
+  ),
+) =
     let h1 = right_part w u1 v1 e1 h in
     let h2 = right_part v1 u2 v2 e2 h1 in
     let h3 = right_part v2 u3 v3 e3 h2 in

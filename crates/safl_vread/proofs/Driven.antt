@@ -53,7 +53,8 @@ shows_one ds xs e h k = one_place ds xs k.name (subst (λ (v : Expression). AreA
 fits_output : (ds : List Declaration) (w : ℕ) (op : Op) (xs : Operands) (a : Spot) → ShowsOne ds xs a → Fits (length ds) sorts.Output w (driver.Cell op xs)
 fits_output ds w op xs a k = subst (λ (v : Operands). Fits (length ds) sorts.Output w (driver.Cell op v)) (sym k.is) (get_within ds k.place k.at.declared k.at.there)
 
-fits_sort : (ds : List Declaration) (ss : List Statement) (s : Sort) (r : Option (Spot × Spot)) (x : Spot) (v : Driver) → Drives ds ss (record { sort = s; range = r; name = x }) v → open_faults s x.place v ≡ [] → Fits (length ds) s (range_width r) v
+fits_sort : (ds : List Declaration) (ss : List Statement) (s : Sort) (r : Option (Spot × Spot)) (x : Spot) (v : Driver) → Drives ds ss
+    (record { sort = s; range = r; name = x }) v → open_faults s x.place v ≡ [] → Fits (length ds) s (range_width r) v
 fits_sort ds ss sorts.Input r x v h k = tt
 fits_sort ds ss sorts.Output r x driver.Open h k = absurd cc
 fits_sort ds ss sorts.Output r x (driver.Cell op xs) h k = let e = plain_of h.value (h.plain refl) in fits_output ds (range_width r) op xs e.name (shows_one ds xs h.value h.operands_at e)
@@ -85,7 +86,8 @@ place_numbers ds order ns (p ∷ ps) (x ∷ xs) n h =
 -- ---- kinds
 
 module _ (f : File) (order ns : List ℕ) (n : AreNumbers f.declarations order ns) where
-  kind_sort : (count : ℕ) (s : Sort) (r : Option (Spot × Spot)) (x : Spot) (v : Driver) → Drives f.declarations f.statements (record { sort = s; range = r; name = x }) v → Fits count s (range_width r) v → kind_with ns s v ≡ kind_of f s x.bytes
+  kind_sort : (count : ℕ) (s : Sort) (r : Option (Spot × Spot)) (x : Spot) (v : Driver) → Drives f.declarations f.statements
+      (record { sort = s; range = r; name = x }) v → Fits count s (range_width r) v → kind_with ns s v ≡ kind_of f s x.bytes
   kind_sort count sorts.Input r x v h k = refl
   kind_sort count sorts.Output r x v h k = refl
   kind_sort count sorts.Reg r x driver.Open h k = absurd k
@@ -105,7 +107,9 @@ module _ (f : File) (order ns : List ℕ) (n : AreNumbers f.declarations order n
 
   -- ---- outputs
 
-  shown_sort : (s : Sort) (r : Option (Spot × Spot)) (x : Spot) (v : Driver) → s ≡ sorts.Output → Drives f.declarations f.statements (record { sort = s; range = r; name = x }) v → Fits (length f.declarations) s (range_width r) v → shown_with ns v ≡ shown f.declarations (assigned f.statements x.bytes)
+  shown_sort : (s : Sort) (r : Option (Spot × Spot)) (x : Spot) (v : Driver) → s ≡ sorts.Output → Drives f.declarations f.statements
+      (record { sort = s; range = r; name = x }) v → Fits (length f.declarations) s (range_width r) v → shown_with ns v ≡ shown f.declarations
+      (assigned f.statements x.bytes)
   shown_sort sorts.Input r x v e h k = absurd cc
   shown_sort sorts.Reg r x v e h k = absurd cc
   shown_sort sorts.Wire r x v e h k = absurd cc
@@ -117,5 +121,6 @@ module _ (f : File) (order ns : List ℕ) (n : AreNumbers f.declarations order n
       let c : assigned f.statements x.bytes ≡ Some (Plain a.name) = h.assigned_is ∙ ap Some a.is in
       ap (λ (o : Operands). shown_with ns (driver.Cell op o)) b.is ∙ place_number f.declarations order ns b.place a.name n b.at ∙ sym (ap (shown f.declarations) c)
 
-  pub shown_is : (d : Declaration) (v : Driver) → d.sort ≡ sorts.Output → Drives f.declarations f.statements d v → Fits (length f.declarations) d.sort (range_width d.range) v → shown_with ns v ≡ shown f.declarations (assigned f.statements d.name.bytes)
+  pub shown_is : (d : Declaration) (v : Driver) → d.sort ≡ sorts.Output → Drives f.declarations f.statements d v → Fits (length f.declarations) d.sort
+      (range_width d.range) v → shown_with ns v ≡ shown f.declarations (assigned f.statements d.name.bytes)
   shown_is d v e h k = shown_sort d.sort d.range d.name v e h k

@@ -8,7 +8,9 @@ use Rattle.safl_net.specs.declared.cell.Op.{Op}
 use Rattle.safl_verilog.specs.declared.fault.VRule.TheVariants as rules
 use Rattle.safl_verilog.specs.declared.fault.VFault.{VFault}
 use Rattle.safl_verilog.specs.Files.{Spot, Expression, Declaration, Statement, Assign, Always}
-use Rattle.safl_verilog.specs.Faults.{at, find, where_not, passes, is_clock, is_reset, is_target, is_signal, is_reg, is_output, is_plain, is_none, is_literal, literal_width, literal_value, width_of, expression_width, operation, operands, assigned, updated, may_be_assigned, unfit_faults, width_faults, assign_faults}
+use Rattle.safl_verilog.specs.Faults.{at, find, where_not, passes, is_clock, is_reset, is_target, is_signal, is_reg, is_output, is_plain, is_none}
+use Rattle.safl_verilog.specs.Faults.{is_literal, literal_width, literal_value, width_of, expression_width, operation, operands, assigned, updated}
+use Rattle.safl_verilog.specs.Faults.{may_be_assigned, unfit_faults, width_faults, assign_faults}
 use Rattle.safl_vparse.specs.Numbers.{literal_word}
 use Rattle.safl_vread.specs.declared.scope.Item.{Item}
 use Rattle.safl_vread.specs.declared.driver.Operands.{Operands}
@@ -55,7 +57,9 @@ module _ (ds : List Declaration) (before : List Statement) (vs : List Driver) (x
 
 -- ---- updates
 
-module _ (ds : List Declaration) (before : List Statement) (vs : List Driver) (c r t s : Spot) (item : Item) (v : Driver) (clocked : true ≡ is_clock c.bytes) (reset : true ≡ is_reset r.bytes) (f : Found ds t (λ d. is_reg d.sort) item) (same : true ≡ bytes_eq s.bytes t.bytes) (h : HasDrivers ds before vs) (is : v ≡ get_or vs item.place v) where
+module _ (ds : List Declaration) (before : List Statement) (vs : List Driver) (c r t s : Spot) (item : Item) (v : Driver)
+    (clocked : true ≡ is_clock c.bytes) (reset : true ≡ is_reset r.bytes) (f : Found ds t (λ d. is_reg d.sort) item)
+    (same : true ≡ bytes_eq s.bytes t.bytes) (h : HasDrivers ds before vs) (is : v ≡ get_or vs item.place v) where
   register_first : register_faults ds before c r t s ≡ where_not (is_none (updated before t.bytes)) (at rules.V08 t.place)
   register_first = rw (sym clocked, sym reset, sym same, passes_found ds t (λ d. is_reg d.sort) item f) refl
 
@@ -76,7 +80,9 @@ read_literal w bytes h = by (is_literal bytes) h
     by true k = cc
     by false k = absurd cc
 
-pub update_sets : (ds : List Declaration) (before : List Statement) (c r t i s o : Spot) (item source : Item) (w : Word) → Names ds before c r t s (Ok item) → Found ds o is_signal source → Some w ≡ literal_word i.bytes → w.width ≡ item.width → source.width ≡ item.width → Sets ds before (Always c r t i s o) item.place (driver.Next w source.place)
+pub update_sets : (ds : List Declaration) (before : List Statement) (c r t i s o : Spot) (item source : Item) (w : Word) → Names ds before c r t s
+    (Ok item) → Found ds o is_signal source → Some w ≡ literal_word i.bytes → w.width ≡ item.width → source.width ≡ item.width → Sets ds before
+    (Always c r t i s o) item.place (driver.Next w source.place)
 update_sets ds before c r t i s o item source w names fit read wide next =
     let f = names.2 in
     let l = read_literal w i.bytes read in
@@ -102,7 +108,8 @@ update_sets ds before c r t i s o item source w names fit read wide next =
 
 -- ---- assignments
 
-module _ (ds : List Declaration) (before : List Statement) (vs : List Driver) (x : Spot) (e : Expression) (item : Item) (v : Driver) (f : Found ds x is_target item) (h : HasDrivers ds before vs) (is : v ≡ get_or vs item.place v) where
+module _ (ds : List Declaration) (before : List Statement) (vs : List Driver) (x : Spot) (e : Expression) (item : Item) (v : Driver)
+    (f : Found ds x is_target item) (h : HasDrivers ds before vs) (is : v ≡ get_or vs item.place v) where
   may : may_be_assigned before (find ds x.bytes) x.bytes e ≡ (is_open v && (not (is_output item.sort) || is_plain e))
   may =
       ap (λ b. b && (not (passes (λ d. is_output d.sort) (find ds x.bytes)) || is_plain e)) (sym (open_if_unassigned ds before vs x item v h is f))
@@ -118,14 +125,17 @@ module _ (ds : List Declaration) (before : List Statement) (vs : List Driver) (x
     pub operand_unfit : (g : VFault) → Some g ≡ first (flat_map (unfit_faults ds) (operands e)) → Some g ≡ first (assign_faults ds before x e)
     operand_unfit g k = first_some (flat_map (unfit_faults ds) (operands e)) (width_faults x.place (width_of ds x.bytes) (expression_width ds e)) g k ∙ sym (ap first left)
 
-    pub widths_apart : (n : ℕ) → flat_map (unfit_faults ds) (operands e) ≡ [] → n ≡ expression_width ds e → (n ≡ item.width → ⊥) → Some (record { rule = rules.V05; place = x.place; first = item.width; second = n }) ≡ first (assign_faults ds before x e)
+    pub widths_apart : (n : ℕ) → flat_map (unfit_faults ds) (operands e) ≡ [] → n ≡ expression_width ds e → (n ≡ item.width → ⊥) → Some
+        (record { rule = rules.V05; place = x.place; first = item.width; second = n }) ≡ first (assign_faults ds before x e)
     widths_apart n fit wide apart =
         let w = width_shown ds x is_target item f in
         let ne : (width_of ds x.bytes == expression_width ds e) ≡ false = nat_apart _ _ (λ k. apart (wide ∙ sym k ∙ w)) in
-        sym (ap first (left ∙ ap (λ (l : List VFault). l ++ width_faults x.place (width_of ds x.bytes) (expression_width ds e)) fit ∙ ap (λ b. where_not b (record { rule = rules.V05; place = x.place; first = width_of ds x.bytes; second = expression_width ds e })) ne)
+        sym (ap first (left ∙ ap (λ (l : List VFault). l ++ width_faults x.place (width_of ds x.bytes) (expression_width ds e)) fit ∙ ap
+        (λ b. where_not b (record { rule = rules.V05; place = x.place; first = width_of ds x.bytes; second = expression_width ds e })) ne)
         ∙ ap (λ (p : ℕ × ℕ). Some (record { rule = rules.V05; place = x.place; first = p.0; second = p.1 })) (λ j. (w j, sym wide j)))
 
-    pub assign_sets : (n : ℕ) (op : Op) (places : Operands) → flat_map (unfit_faults ds) (operands e) ≡ [] → AreAt ds (places_of places) (operands e) → n ≡ expression_width ds e → n ≡ item.width → op ≡ operation e → Sets ds before (Assign x e) item.place (driver.Cell op places)
+    pub assign_sets : (n : ℕ) (op : Op) (places : Operands) → flat_map (unfit_faults ds) (operands e) ≡ [] → AreAt ds (places_of places) (operands e)
+        → n ≡ expression_width ds e → n ≡ item.width → op ≡ operation e → Sets ds before (Assign x e) item.place (driver.Cell op places)
     assign_sets n op places fit there wide same done =
         let w = width_shown ds x is_target item f in
         let named = found_name ds x.bytes f.declared f.found in
@@ -133,7 +143,8 @@ module _ (ds : List Declaration) (before : List Statement) (vs : List Driver) (x
         let none : is_none (assigned before x.bytes) ≡ true = sym (open_if_unassigned ds before vs x item v h is f) ∙ open_now.0 in
         let eq : (width_of ds x.bytes == expression_width ds e) ≡ true = nat_same _ _ (w ∙ sym same ∙ wide) in
         record {
-          kept = left ∙ ap (λ (l : List VFault). l ++ width_faults x.place (width_of ds x.bytes) (expression_width ds e)) fit ∙ ap (λ b. where_not b (record { rule = rules.V05; place = x.place; first = width_of ds x.bytes; second = expression_width ds e })) eq;
+          kept = left ∙ ap (λ (l : List VFault). l ++ width_faults x.place (width_of ds x.bytes) (expression_width ds e)) fit ∙ ap
+              (λ b. where_not b (record { rule = rules.V05; place = x.place; first = width_of ds x.bytes; second = expression_width ds e })) eq;
           declared = f.declared;
           there = f.shown.place;
           named = named;

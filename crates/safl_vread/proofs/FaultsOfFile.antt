@@ -26,7 +26,8 @@ regroup a b c d e f = simp append_assoc
 
 pub parted : (f : File) → faults f ≡ all_number_faults f ++ (repeat_faults [] f.header ++ (repeat_faults [] (declared_names f.declarations) ++ later_faults f))
 unfolding faults
-parted f = regroup (all_number_faults f) (repeat_faults [] f.header) (repeat_faults [] (declared_names f.declarations)) (all_port_faults f) (all_statement_faults f.declarations [] f.statements) (flat_map (missing_faults f.statements) f.declarations)
+parted f = regroup (all_number_faults f) (repeat_faults [] f.header) (repeat_faults [] (declared_names f.declarations)) (all_port_faults f)
+    (all_statement_faults f.declarations [] f.statements) (flat_map (missing_faults f.statements) f.declarations)
 
 module _ (f : File) where
   pub numbers_first : (g : VFault) → Some g ≡ first (all_number_faults f) → Some g ≡ first (faults f)

@@ -1,5 +1,6 @@
 -- Names that are looked up, and names that stand twice.
-use Rattle.std.proofs.Common.{◌≡◌, ℕ, zero, suc, ◌+◌, ◌<◌, List, [], ◌∷◌, ◌++◌, length, take, drop, get_or, map, position, Some, Bool, true, false, not, cond, ◌||◌, Bor, bytes_eq, refl, sym, ap, ◌∙◌, drop-cons, add-one}
+use Rattle.std.proofs.Common.{◌≡◌, ℕ, zero, suc, ◌+◌, ◌<◌, List, [], ◌∷◌, ◌++◌, length, take, drop, get_or, map, position, Some, Bool, true, false}
+use Rattle.std.proofs.Common.{not, cond, ◌||◌, Bor, bytes_eq, refl, sym, ap, ◌∙◌, drop-cons, add-one}
 use Rattle.std.specs.List.{list_any, position_or_len}
 use Rattle.std.proofs.lemmas.List.{drop-map, length-map}
 use Rattle.std.proofs.lemmas.Slice.Eq.{bytes_eq-Decides}
@@ -76,7 +77,8 @@ module _ (xs : List Spot) (i : ℕ) (x : Spot) (names : List (List ℕ)) (here :
       let more : take (i + 1) xs ≡ take i xs ++ x ∷ [] = ap (λ k. take k xs) (add-one i) ∙ take_next xs (drop (i + 1) xs) i x here in
       record {
         names_are = e ∙ ap (λ (l : List (List ℕ)). l ++ x.bytes ∷ []) so_far.names_are ∙ sym (bytes_more (take i xs) x) ∙ ap bytes_of_all (sym more);
-        before = all_faults ∙ ap (λ b. where_not (not b) (at rules.V03 x.place) ++ repeat_faults (take i xs ++ x ∷ []) (drop (i + 1) xs)) (known ∙ h) ∙ ap (λ (l : List Spot). repeat_faults l (drop (i + 1) xs)) (sym more);
+        before = all_faults ∙ ap (λ b. where_not (not b) (at rules.V03 x.place) ++ repeat_faults (take i xs ++ x ∷ []) (drop (i + 1) xs)) (known ∙ h)
+            ∙ ap (λ (l : List Spot). repeat_faults l (drop (i + 1) xs)) (sym more);
       }
 
 is_true : (b : Bool) → false ≡ not b → b ≡ true
@@ -88,7 +90,8 @@ is_false true h = absurd cc
 is_false false h = refl
 
 -- the same of what an insertion answers
-module _ (xs : List Spot) (i : ℕ) (x : Spot) (names : List (List ℕ)) (here : drop i xs ≡ x ∷ drop (i + 1) xs) (so_far : IsApart xs i names) (w : List ℕ) (same : w ≡ x.bytes) (new : Bool) (told : new ≡ not (has names w)) where
+module _ (xs : List Spot) (i : ℕ) (x : Spot) (names : List (List ℕ)) (here : drop i xs ≡ x ∷ drop (i + 1) xs) (so_far : IsApart xs i names)
+    (w : List ℕ) (same : w ≡ x.bytes) (new : Bool) (told : new ≡ not (has names w)) where
   known_new : new ≡ not (has names x.bytes)
   known_new = told ∙ ap (λ v. not (has names v)) same
 

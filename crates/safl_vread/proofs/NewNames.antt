@@ -1,5 +1,6 @@
 -- Names of signals and outputs that are new.
-use Rattle.std.proofs.Common.{◌≡◌, ◌≢◌, ℕ, zero, suc, ◌+◌, ◌<◌, ◌≤◌, List, [], ◌∷◌, ◌++◌, length, get_or, map, take, Bool, true, false, cond, ◌||◌, ◌&&◌, bytes_eq, Option, Some, refl, sym, ap, subst, ◌∙◌, arith, slice_get}
+use Rattle.std.proofs.Common.{◌≡◌, ◌≢◌, ℕ, zero, suc, ◌+◌, ◌<◌, ◌≤◌, List, [], ◌∷◌, ◌++◌, length, get_or, map, take, Bool, true, false, cond, ◌||◌}
+use Rattle.std.proofs.Common.{◌&&◌, bytes_eq, Option, Some, refl, sym, ap, subst, ◌∙◌, arith, slice_get}
 use Rattle.std.proofs.lemmas.Option.{slice_get-get_or}
 use Rattle.safl_net.specs.Netlist.{Netlist, Signal}
 use Rattle.safl_net.specs.Names.{is_good, named_signal, named_output, has_name}
@@ -19,7 +20,8 @@ use Rattle.safl_vread.proofs.SignalNames.{are_signals}
 use Rattle.safl_vread.proofs.Orders.{placed}
 use Rattle.safl_vread.proofs.Numberings.{order_apart}
 
-unnamed : (F : ℕ → Signal) (ps : List ℕ) (name : List ℕ) → ((j p : ℕ) → slice_get ps j ≡ Some p → name ≢ (F p).name) → (named_signal (map F ps) name ≡ false) × (named_signal (map opened (map F ps)) name ≡ false)
+unnamed : (F : ℕ → Signal) (ps : List ℕ) (name : List ℕ) → ((j p : ℕ) → slice_get ps j ≡ Some p → name ≢ (F p).name) →
+    (named_signal (map F ps) name ≡ false) × (named_signal (map opened (map F ps)) name ≡ false)
 unnamed F [] name h = (refl, refl)
 unnamed F (p ∷ ps) name h =
     let a = other_name name (F p).name (h 0 p refl) in
@@ -38,14 +40,17 @@ module _ (ds : List Declaration) (a : Distinct (names ds)) where
 
   -- ---- names of outputs
 
-  pub output_unnamed : (ns : List ℕ) (os : List (List ℕ × ℕ)) (d e : Declaration) (v : Driver) (i k : ℕ) → slice_get ds i ≡ Some d → slice_get ds k ≡ Some e → i + 1 ≤ k → named_output os e.name.bytes ≡ false → named_output (os ++ output_with ns d v) e.name.bytes ≡ false
+  pub output_unnamed : (ns : List ℕ) (os : List (List ℕ × ℕ)) (d e : Declaration) (v : Driver) (i k : ℕ) → slice_get ds i ≡ Some d → slice_get ds k ≡
+      Some e → i + 1 ≤ k → named_output os e.name.bytes ≡ false → named_output (os ++ output_with ns d v) e.name.bytes ≡ false
   output_unnamed ns os d e v i k x y l h = joined os h (by (is_output d.sort))
     where
       joined : (os : List (List ℕ × ℕ)) → named_output os e.name.bytes ≡ false → named_output (output_with ns d v) e.name.bytes ≡ false → named_output (os ++ output_with ns d v) e.name.bytes ≡ false
       joined [] h m = m
       joined (o ∷ os) h m = go (bytes_eq e.name.bytes o.0) h (λ n. joined os n m)
         where
-          go : (b : Bool) → (b || named_output os e.name.bytes) ≡ false → (named_output os e.name.bytes ≡ false → named_output (os ++ output_with ns d v) e.name.bytes ≡ false) → (b || named_output (os ++ output_with ns d v) e.name.bytes) ≡ false
+          go : (b : Bool) → (b || named_output os e.name.bytes) ≡ false →
+              (named_output os e.name.bytes ≡ false → named_output (os ++ output_with ns d v) e.name.bytes ≡ false) →
+              (b || named_output (os ++ output_with ns d v) e.name.bytes) ≡ false
           go true h n = absurd cc
           go false h n = n h
 
@@ -85,7 +90,9 @@ module _ (ds : List Declaration) (a : Distinct (names ds)) where
           let z : i ≡ j = order_apart ds order a o i j q (at ∙ ap Some same) t.1 in
           omega (arith, z, t.0))).1
 
-      pub signal_free : (net : Netlist) (i p : ℕ) (d : Declaration) → net ≡ record { signals = map opened (signals_at ds vs ns (take i order)); outputs = [] } → slice_get order i ≡ Some p → slice_get ds p ≡ Some d → has_name net d.name.bytes ≡ false
+      pub signal_free : (net : Netlist) (i p : ℕ) (d : Declaration) → net ≡ record
+          { signals = map opened (signals_at ds vs ns (take i order)); outputs = [] } → slice_get order i ≡ Some p → slice_get ds p ≡ Some d →
+          has_name net d.name.bytes ≡ false
       signal_free net i p d e at there = ap (λ (n : Netlist). has_name n d.name.bytes) e ∙ ap (λ b. b || false) (signal_new i p d at there)
 
       -- the name of an output is that of no signal

@@ -31,7 +31,9 @@ same_faults ds ss d driver.Open h = rw (h.0, h.1) refl
 same_faults ds ss d (driver.Cell op xs) h = rw (h.assigned_is, no_register d.sort h.target, h.target) refl
 same_faults ds ss d (driver.Next w p) h = rw (h.updated_is, no_target d.sort h.register, h.register) refl
 
-module _ {X : Type 0} (g : X → Declaration) (xs : List X) (ss : List Statement) (vs : List Driver) (h : HasDrivers (map g xs) ss vs) (i : ℕ) (x : X) (v : Driver) (l : i < length xs) (is : v ≡ get_or vs i v) (fault : Option VFault) (here : fault ≡ first (open_faults (g (get_or xs i x)).sort (g (get_or xs i x)).name.place v)) where
+module _ {X : Type 0} (g : X → Declaration) (xs : List X) (ss : List Statement) (vs : List Driver) (h : HasDrivers (map g xs) ss vs) (i : ℕ) (x : X)
+    (v : Driver) (l : i < length xs) (is : v ≡ get_or vs i v) (fault : Option VFault)
+    (here : fault ≡ first (open_faults (g (get_or xs i x)).sort (g (get_or xs i x)).name.place v)) where
   at_here : slice_get (map g xs) i ≡ Some (g (get_or xs i x))
   at_here = slice_get-map g xs i ∙ ap (λ o. mapped o) (slice_get-get_or xs i x l)
     where
@@ -47,5 +49,6 @@ module _ {X : Type 0} (g : X → Declaration) (xs : List X) (ss : List Statement
   pub missing_stops : is_some fault ≡ true → first_from g (missing_faults ss) xs i ≡ first (flat_map (missing_faults ss) (map g xs)) → fault ≡ first (flat_map (missing_faults ss) (map g xs))
   missing_stops s k = stops g (missing_faults ss) xs i x (first (flat_map (missing_faults ss) (map g xs))) fault l missing_here s k
 
-  pub missing_goes_on : is_some fault ≡ false → first_from g (missing_faults ss) xs i ≡ first (flat_map (missing_faults ss) (map g xs)) → first_from g (missing_faults ss) xs (i + 1) ≡ first (flat_map (missing_faults ss) (map g xs))
+  pub missing_goes_on : is_some fault ≡ false → first_from g (missing_faults ss) xs i ≡ first (flat_map (missing_faults ss) (map g xs)) → first_from g
+      (missing_faults ss) xs (i + 1) ≡ first (flat_map (missing_faults ss) (map g xs))
   missing_goes_on s k = goes_on g (missing_faults ss) xs i x (first (flat_map (missing_faults ss) (map g xs))) fault l missing_here s k

@@ -36,7 +36,8 @@ same_number m n h = grind (arith, nat_tests)
 other_number : (m n : ℕ) → (m == n) ≡ false → m ≢ n
 other_number m n h = λ e. grind (arith, nat_tests, e)
 
-pub goes_on_numbers : (order numbers : List ℕ) (count i q : ℕ) → ((s t p : ℕ) → slice_get order s ≡ Some p → slice_get order t ≡ Some p → s ≡ t) → slice_get order i ≡ Some q → i < length order → q < count
+pub goes_on_numbers : (order numbers : List ℕ) (count i q : ℕ) → ((s t p : ℕ) → slice_get order s ≡ Some p → slice_get order t ≡ Some p → s ≡ t) →
+    slice_get order i ≡ Some q → i < length order → q < count
     → SoNumbered order numbers count i → SoNumbered order (set numbers q i) count (i + 1)
 goes_on_numbers order numbers count i q apart at l within h = record {
   full = length-set numbers q i ∙ h.full;
@@ -63,7 +64,8 @@ goes_on_numbers order numbers count i q apart at l within h = record {
         omega (arith, l, ap (λ (n : ℕ). get_or (set numbers q i) n 0) same ∙ get_or-set_same numbers q i 0 inside)
     known p false t = omega (arith, h.known p, get_or-set_other numbers q p i 0 (other_number p q t))
 
-pub ends_numbers : (ds : List Declaration) (order numbers : List ℕ) (i : ℕ) → Distinct (names ds) → IsOrder ds order → length order ≤ i → SoNumbered order numbers (length ds) i → AreNumbers ds order numbers
+pub ends_numbers : (ds : List Declaration) (order numbers : List ℕ) (i : ℕ) → Distinct (names ds) → IsOrder ds order → length order ≤ i → SoNumbered
+    order numbers (length ds) i → AreNumbers ds order numbers
 ends_numbers ds order numbers i a o l h = record {
   full = h.full;
   each = λ p d there fit. (each p d there fit).0;

@@ -1,5 +1,6 @@
 -- Outputs, one after the other.
-use Rattle.std.proofs.Common.{◌≡◌, ℕ, suc, ◌+◌, ◌<◌, ◌≤◌, List, [], ◌∷◌, ◌++◌, length, get_or, map, drop, Some, Bool, true, false, cond, refl, sym, ap, ◌∙◌, arith, append_assoc, slice_get, length-append}
+use Rattle.std.proofs.Common.{◌≡◌, ℕ, suc, ◌+◌, ◌<◌, ◌≤◌, List, [], ◌∷◌, ◌++◌, length, get_or, map, drop, Some, Bool, true, false, cond, refl, sym}
+use Rattle.std.proofs.Common.{ap, ◌∙◌, arith, append_assoc, slice_get, length-append}
 use Rattle.std.specs.Prelude.{filter}
 use Rattle.std.proofs.lemmas.List.{drop_more, drop_all, append-nil}
 use Rattle.std.specs.Option.{option_map}
@@ -35,13 +36,15 @@ pub begins_outputs : {X : Type 0} (ns : List ℕ) (g : X → Declaration) (xs : 
 begins_outputs ns g xs vs old e = record { signals = refl; outputs = refl; few = omega arith; new = λ k d l h. ap (λ (os : List (List ℕ × ℕ)). named_output os d.name.bytes) e }
 
 module _ {X : Type 0} (ns : List ℕ) (g : X → Declaration) (xs : List X) (vs : List Driver) (old now new : Netlist) (i : ℕ) (x : X) (v : Driver) (full : length vs ≡ length xs) where
-  pub goes_on_outputs : i < length xs → Distinct (names (map g xs)) → Shows ns g xs vs old now i → new ≡ with_outputs now (output_with ns (g (get_or xs i x)) (get_or vs i v)) → Shows ns g xs vs old new (i + 1)
+  pub goes_on_outputs : i < length xs → Distinct (names (map g xs)) → Shows ns g xs vs old now i → new ≡ with_outputs now
+      (output_with ns (g (get_or xs i x)) (get_or vs i v)) → Shows ns g xs vs old new (i + 1)
   goes_on_outputs l a h e =
       let here : List (List ℕ × ℕ) = output_with ns (g (get_or xs i x)) (get_or vs i v) in
       let rest : List (List ℕ × ℕ) = outputs_with ns (map g (drop (i + 1) xs)) (drop (i + 1) vs) in
       let q : drop i xs ≡ get_or xs i x ∷ drop (i + 1) xs = drop_more xs i x l in
       let b : drop i vs ≡ get_or vs i v ∷ drop (i + 1) vs = drop_more vs i v (omega (arith, l, full)) in
-      let parted : outputs_with ns (map g (drop i xs)) (drop i vs) ≡ here ++ rest = ap (λ (k : List X). outputs_with ns (map g k) (drop i vs)) q ∙ ap (λ (k : List Driver). outputs_with ns (g (get_or xs i x) ∷ map g (drop (i + 1) xs)) k) b in
+      let parted : outputs_with ns (map g (drop i xs)) (drop i vs) ≡ here ++ rest = ap (λ (k : List X). outputs_with ns (map g k) (drop i vs)) q ∙ ap
+      (λ (k : List Driver). outputs_with ns (g (get_or xs i x) ∷ map g (drop (i + 1) xs)) k) b in
       let made : new.outputs ≡ now.outputs ++ here = ap (λ (n : Netlist). n.outputs) e in
       record {
         signals = ap (λ (n : Netlist). n.signals) e ∙ h.signals;
@@ -49,7 +52,8 @@ module _ {X : Type 0} (ns : List ℕ) (g : X → Declaration) (xs : List X) (vs 
         few = omega (arith, ap length made, length-append now.outputs here, output_few ns (g (get_or xs i x)) (get_or vs i v), h.few);
         new = λ k d m there.
             ap (λ (os : List (List ℕ × ℕ)). named_output os d.name.bytes) made
-            ∙ output_unnamed (map g xs) a ns now.outputs (g (get_or xs i x)) d (get_or vs i v) i k (slice_get-map g xs i ∙ ap (option_map g) (slice_get-get_or xs i x l)) there m (h.new k d (omega (arith, m)) there);
+            ∙ output_unnamed (map g xs) a ns now.outputs (g (get_or xs i x)) d (get_or vs i v) i k
+            (slice_get-map g xs i ∙ ap (option_map g) (slice_get-get_or xs i x l)) there m (h.new k d (omega (arith, m)) there);
       }
 
   pub ends_outputs : length xs ≤ i → Shows ns g xs vs old now i → now ≡ with_outputs old (outputs_with ns (map g xs) vs)
@@ -70,6 +74,7 @@ outputs_are f ns (d ∷ ds) (v ∷ vs) l h =
     ∙ ap (λ (k : List (List ℕ × ℕ)). cond (is_output d.sort) (output_of f d ∷ []) [] ++ k) (outputs_are f ns ds vs (omega (arith, l)) (λ i e u a b. h (suc i) e u a b))
     ∙ by (is_output d.sort)
   where
-    by : (b : Bool) → cond b (output_of f d ∷ []) [] ++ map (output_of f) (filter (λ (d : Declaration). is_output d.sort) ds) ≡ map (output_of f) (cond b (d ∷ filter (λ (d : Declaration). is_output d.sort) ds) (filter (λ (d : Declaration). is_output d.sort) ds))
+    by : (b : Bool) → cond b (output_of f d ∷ []) [] ++ map (output_of f) (filter (λ (d : Declaration). is_output d.sort) ds) ≡ map (output_of f)
+        (cond b (d ∷ filter (λ (d : Declaration). is_output d.sort) ds) (filter (λ (d : Declaration). is_output d.sort) ds))
     by true = refl
     by false = refl

@@ -36,7 +36,8 @@ filtered_apart : (p q : Declaration → Bool) → Excludes p q → (ds : List De
 filtered_apart p q x [] h = λ w a b. a
 filtered_apart p q x (d ∷ ds) h = by (p d) refl (q d) refl (filtered_apart p q x ds h.1)
   where
-    by : (a : Bool) → p d ≡ a → (b : Bool) → q d ≡ b → Apart (names (filter p ds)) (names (filter q ds)) → Apart (names (cond a (d ∷ filter p ds) (filter p ds))) (names (cond b (d ∷ filter q ds) (filter q ds)))
+    by : (a : Bool) → p d ≡ a → (b : Bool) → q d ≡ b → Apart (names (filter p ds)) (names (filter q ds)) → Apart
+        (names (cond a (d ∷ filter p ds) (filter p ds))) (names (cond b (d ∷ filter q ds) (filter q ds)))
     by true e true g m w k l = x d e g
     by true e false g m w (inl s) l = h.0 (subst (λ (v : Name). Has v (names ds)) (sym s) (has_filtered q ds w l))
     by true e false g m w (inr k) l = m w k l
@@ -136,5 +137,6 @@ are_signals ds =
     let w : Declaration → Bool = λ (d : Declaration). is_wire d.sort in
     let P : Declaration → Type 0 = λ (d : Declaration). is_signal d ≡ true in
     each_join P (filter is_data ds ++ filter r ds) (filter w ds)
-    (each_join P (filter is_data ds) (filter r ds) (kept is_data (λ d h. or_first (is_data d) (is_reg d.sort) (is_wire d.sort) h) ds) (kept r (λ d h. or_second (is_data d) (is_reg d.sort) (is_wire d.sort) h) ds))
+    (each_join P (filter is_data ds) (filter r ds) (kept is_data (λ d h. or_first (is_data d) (is_reg d.sort) (is_wire d.sort) h) ds)
+    (kept r (λ d h. or_second (is_data d) (is_reg d.sort) (is_wire d.sort) h) ds))
     (kept w (λ d h. or_third (is_data d) (is_reg d.sort) (is_wire d.sort) h) ds)

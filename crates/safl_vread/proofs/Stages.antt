@@ -83,7 +83,8 @@ module _ {X : Type 0} (g : X → Declaration) (xs : List X) (vs : List Driver) (
   fits_width widths w e f h = (length (map g xs), subst (λ (k : ℕ). Fits (length (map g xs)) (g (get_or xs p x)).sort k u) (sym (f ∙ width_there widths e)) (fits_there h))
 
   -- one more signal is declared
-  pub declares_next : (ns order : List ℕ) (i : ℕ) (old new : Netlist) → i < length order → p ≡ get_or order i p → old ≡ record { signals = map opened (signals_at (map g xs) vs ns (take i order)); outputs = [] } → new ≡ with_signal old (opened (signal_with ns (g (get_or xs p x)) u))
+  pub declares_next : (ns order : List ℕ) (i : ℕ) (old new : Netlist) → i < length order → p ≡ get_or order i p → old ≡ record
+      { signals = map opened (signals_at (map g xs) vs ns (take i order)); outputs = [] } → new ≡ with_signal old (opened (signal_with ns (g (get_or xs p x)) u))
       → new ≡ record { signals = map opened (signals_at (map g xs) vs ns (take (i + 1) order)); outputs = [] }
   declares_next ns order i old new k at e f =
       let more = one_more (signal_at (map g xs) vs ns) order i p k at in
@@ -95,17 +96,21 @@ module _ {X : Type 0} (g : X → Declaration) (xs : List X) (vs : List Driver) (
   there_in : (ns order : List ℕ) (i : ℕ) → slice_get order i ≡ Some p → slice_get (signals_at (map g xs) vs ns order) i ≡ Some (signal_with ns (g (get_or xs p x)) u)
   there_in ns order i at = slice_get-map (signal_at (map g xs) vs ns) order i ∙ ap (option_map (signal_at (map g xs) vs ns)) at ∙ ap Some (signal_there ns)
 
-  pub opens_there : (ns order : List ℕ) (i : ℕ) (net : Netlist) (os : List (List ℕ × ℕ)) → slice_get order i ≡ Some p → net ≡ record { signals = partly i (signals_at (map g xs) vs ns order); outputs = os } → kind_at net i ≡ opened_kind (kind_with ns (g (get_or xs p x)).sort u)
-  opens_there ns order i net os at e = ap (λ (n : Netlist). kind_at n i) e ∙ ap kind_in (partly_at i (signals_at (map g xs) vs ns order) (signal_with ns (g (get_or xs p x)) u) (there_in ns order i at))
+  pub opens_there : (ns order : List ℕ) (i : ℕ) (net : Netlist) (os : List (List ℕ × ℕ)) → slice_get order i ≡ Some p → net ≡ record
+      { signals = partly i (signals_at (map g xs) vs ns order); outputs = os } → kind_at net i ≡ opened_kind (kind_with ns (g (get_or xs p x)).sort u)
+  opens_there ns order i net os at e = ap (λ (n : Netlist). kind_at n i) e ∙ ap kind_in
+      (partly_at i (signals_at (map g xs) vs ns order) (signal_with ns (g (get_or xs p x)) u) (there_in ns order i at))
 
-  pub sets_next : (ns order : List ℕ) (i : ℕ) (net new : Netlist) (os : List (List ℕ × ℕ)) → slice_get order i ≡ Some p → net ≡ record { signals = partly i (signals_at (map g xs) vs ns order); outputs = os } → new ≡ with_kind net i (kind_with ns (g (get_or xs p x)).sort u)
+  pub sets_next : (ns order : List ℕ) (i : ℕ) (net new : Netlist) (os : List (List ℕ × ℕ)) → slice_get order i ≡ Some p → net ≡ record
+      { signals = partly i (signals_at (map g xs) vs ns order); outputs = os } → new ≡ with_kind net i (kind_with ns (g (get_or xs p x)).sort u)
       → new ≡ record { signals = partly (suc i) (signals_at (map g xs) vs ns order); outputs = os }
   sets_next ns order i net new os at e f =
       f ∙ ap (λ (n : Netlist). with_kind n i (kind_with ns (g (get_or xs p x)).sort u)) e
       ∙ ap (λ (gs : List Signal). record { signals = gs; outputs = os }) (partly_next i (signals_at (map g xs) vs ns order) (signal_with ns (g (get_or xs p x)) u) (there_in ns order i at))
 
 -- what is not driven stays
-pub input_stays : (net : Netlist) (s : ℕ) (ns : List ℕ) (sort known : Sort) (v : Driver) → kind_with ns known v ≡ Input → sort ≡ known → s < length net.signals → kind_at net s ≡ opened_kind (kind_with ns sort v) → net ≡ with_kind net s (kind_with ns sort v)
+pub input_stays : (net : Netlist) (s : ℕ) (ns : List ℕ) (sort known : Sort) (v : Driver) → kind_with ns known v ≡ Input → sort ≡ known → s < length
+    net.signals → kind_at net s ≡ opened_kind (kind_with ns sort v) → net ≡ with_kind net s (kind_with ns sort v)
 input_stays net s ns sort known v i e l h =
     let k : kind_with ns sort v ≡ Input = ap (λ (z : Sort). kind_with ns z v) e ∙ i in
     let same : opened_kind (kind_with ns sort v) ≡ kind_with ns sort v = ap opened_kind k ∙ sym k in

@@ -30,12 +30,14 @@ module _ {X : Type 0} (ds : List Declaration) (g : X → Statement) (xs : List X
   taken = ap (λ k. map g (take k xs)) (add-one i) ∙ ap (map g) (take_next xs (drop (i + 1) xs) i (get_or xs i x) dropped) ∙ map-append g (take i xs) (get_or xs i x ∷ [])
 
   numbers_here : (stated_number_faults (g (get_or xs i x)) ≡ []) × (flat_map stated_number_faults (map g (drop (i + 1) xs)) ≡ [])
-  numbers_here = front_empty (stated_number_faults (g (get_or xs i x))) (flat_map stated_number_faults (map g (drop (i + 1) xs))) (sym (ap (λ (k : List X). flat_map stated_number_faults (map g k)) dropped) ∙ h.numbers)
+  numbers_here = front_empty (stated_number_faults (g (get_or xs i x))) (flat_map stated_number_faults (map g (drop (i + 1) xs)))
+      (sym (ap (λ (k : List X). flat_map stated_number_faults (map g k)) dropped) ∙ h.numbers)
 
   pub number_kept : stated_number_faults (g (get_or xs i x)) ≡ []
   number_kept = numbers_here.0
 
-  faults_here : all_statement_faults ds [] (map g xs) ≡ statement_faults ds (map g (take i xs)) (g (get_or xs i x)) ++ all_statement_faults ds (map g (take i xs) ++ g (get_or xs i x) ∷ []) (map g (drop (i + 1) xs))
+  faults_here : all_statement_faults ds [] (map g xs) ≡ statement_faults ds (map g (take i xs)) (g (get_or xs i x)) ++ all_statement_faults ds
+      (map g (take i xs) ++ g (get_or xs i x) ∷ []) (map g (drop (i + 1) xs))
   faults_here = h.faults ∙ ap (λ (k : List X). all_statement_faults ds (map g (take i xs)) (map g k)) dropped
 
   pub stops_at : (f : VFault) → Steps ds (map g (take i xs)) (g (get_or xs i x)) (Err f) → Some f ≡ first (all_statement_faults ds [] (map g xs))
@@ -43,7 +45,8 @@ module _ {X : Type 0} (ds : List Declaration) (g : X → Statement) (xs : List X
 
   pub goes_past : repeat_faults [] (declared_names ds) ≡ [] → (r : ℕ × Driver) → Steps ds (map g (take i xs)) (g (get_or xs i x)) (Ok r) → IsSoFar ds g xs (i + 1) (set vs r.0 r.1)
   goes_past apart r k = record {
-    faults = faults_here ∙ ap (λ (a : List VFault). a ++ all_statement_faults ds (map g (take i xs) ++ g (get_or xs i x) ∷ []) (map g (drop (i + 1) xs))) k.kept ∙ ap (λ (b : List Statement). all_statement_faults ds b (map g (drop (i + 1) xs))) (sym taken);
+    faults = faults_here ∙ ap (λ (a : List VFault). a ++ all_statement_faults ds (map g (take i xs) ++ g (get_or xs i x) ∷ [])
+        (map g (drop (i + 1) xs))) k.kept ∙ ap (λ (b : List Statement). all_statement_faults ds b (map g (drop (i + 1) xs))) (sym taken);
     numbers = numbers_here.1;
     drivers = subst (λ (b : List Statement). HasDrivers ds b (set vs r.0 r.1)) (sym taken) (next_drivers ds (map g (take i xs)) (g (get_or xs i x)) r.0 r.1 vs apart h.drivers k);
   }

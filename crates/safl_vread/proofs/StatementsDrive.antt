@@ -1,5 +1,6 @@
 -- Statements, and what they drive.
-use Rattle.std.proofs.Common.{◌≡◌, ℕ, zero, suc, ◌<◌, ◌≤◌, List, [], ◌∷◌, ◌++◌, length, get_or, set, map, Option, None, Some, Bool, true, false, not, cond, ◌||◌, bytes_eq, refl, sym, ap, subst, ◌∙◌, inl, inr, arith, slice_get}
+use Rattle.std.proofs.Common.{◌≡◌, ℕ, zero, suc, ◌<◌, ◌≤◌, List, [], ◌∷◌, ◌++◌, length, get_or, set, map, Option, None, Some, Bool, true, false, not}
+use Rattle.std.proofs.Common.{cond, ◌||◌, bytes_eq, refl, sym, ap, subst, ◌∙◌, inl, inr, arith, slice_get}
 use Rattle.std.specs.Prelude.{slice_index, ◌⊎◌}
 use Rattle.std.proofs.lemmas.Slice.Eq.{bytes_eq-Decides}
 use Rattle.safl_verilog.specs.declared.token.Sort.{Sort}
@@ -50,7 +51,8 @@ same_widths ds (p ∷ ps) (x ∷ xs) h =
     let e : slice_index (widths_of ds) p ≡ width_of ds x.bytes = a ∙ sym b in
     ap (λ (n : ℕ). n ∷ map (λ (p : ℕ). slice_index (widths_of ds) p) ps) e ∙ ap (λ (l : List ℕ). width_of ds x.bytes ∷ l) (same_widths ds ps xs h.1)
 
-pub widths_small : (widths : List ℕ) (ps : List ℕ) → ((k : ℕ) → slice_index widths k ≤ 128) → (k d : ℕ) → k < length (map (λ (p : ℕ). slice_index widths p) ps) → get_or (map (λ (p : ℕ). slice_index widths p) ps) k d ≤ 128
+pub widths_small : (widths : List ℕ) (ps : List ℕ) → ((k : ℕ) → slice_index widths k ≤ 128) → (k d : ℕ) → k < length
+    (map (λ (p : ℕ). slice_index widths p) ps) → get_or (map (λ (p : ℕ). slice_index widths p) ps) k d ≤ 128
 widths_small widths [] h k d l = absurd (omega (arith, l))
 widths_small widths (p ∷ ps) h zero d l = h p
 widths_small widths (p ∷ ps) h (suc k) d l = widths_small widths ps h k d (omega (arith, l))
@@ -96,7 +98,8 @@ names_same (d ∷ ds) = ap (λ (l : List (List ℕ)). d.name.bytes ∷ l) (names
 pub distinct_names : (ds : List Declaration) → repeat_faults [] (declared_names ds) ≡ [] → Distinct (map (λ (d : Declaration). d.name.bytes) ds)
 distinct_names ds h = subst Distinct (names_same ds) (all_distinct [] (declared_names ds) h).0
 
-pub same_place : (ds : List Declaration) → repeat_faults [] (declared_names ds) ≡ [] → (i j : ℕ) (d e : Declaration) → slice_get ds i ≡ Some d → slice_get ds j ≡ Some e → d.name.bytes ≡ e.name.bytes → i ≡ j
+pub same_place : (ds : List Declaration) → repeat_faults [] (declared_names ds) ≡ [] → (i j : ℕ) (d e : Declaration) → slice_get ds i ≡ Some d →
+    slice_get ds j ≡ Some e → d.name.bytes ≡ e.name.bytes → i ≡ j
 same_place ds h i j d e a b k = sym (place_at ds (distinct_names ds h) i d a) ∙ ap (place_of ds) k ∙ place_at ds (distinct_names ds h) j e b
 
 -- ---- what was assigned and updated before
@@ -121,17 +124,22 @@ pub assigned_here : (before : List Statement) (x : Spot) (e : Expression) (name 
 assigned_here [] x e name h k = let s : bytes_eq x.bytes name ≡ true = ap (λ v. bytes_eq v name) k ∙ same_name name in rw s refl
 assigned_here (Assign y g ∷ ss) x e name h k = by (bytes_eq y.bytes name) h (assigned_here ss x e name)
   where
-    by : (b : Bool) → is_none (cond b (Some g) (assigned ss name)) ≡ true → (is_none (assigned ss name) ≡ true → x.bytes ≡ name → assigned (ss ++ Assign x e ∷ []) name ≡ Some e) → cond b (Some g) (assigned (ss ++ Assign x e ∷ []) name) ≡ Some e
+    by : (b : Bool) → is_none (cond b (Some g) (assigned ss name)) ≡ true →
+        (is_none (assigned ss name) ≡ true → x.bytes ≡ name → assigned (ss ++ Assign x e ∷ []) name ≡ Some e) → cond b (Some g)
+        (assigned (ss ++ Assign x e ∷ []) name) ≡ Some e
     by true h m = absurd cc
     by false h m = m h k
 assigned_here (Always c r t i s o ∷ ss) x e name h k = assigned_here ss x e name h k
 
-pub updated_here : (before : List Statement) (c r t i s o : Spot) (name : List ℕ) → is_none (updated before name) ≡ true → t.bytes ≡ name → updated (before ++ Always c r t i s o ∷ []) name ≡ Some (i, o)
+pub updated_here : (before : List Statement) (c r t i s o : Spot) (name : List ℕ) → is_none (updated before name) ≡ true → t.bytes ≡ name → updated
+    (before ++ Always c r t i s o ∷ []) name ≡ Some (i, o)
 updated_here [] c r t i s o name h k = let q : bytes_eq t.bytes name ≡ true = ap (λ v. bytes_eq v name) k ∙ same_name name in rw q refl
 updated_here (Assign y g ∷ ss) c r t i s o name h k = updated_here ss c r t i s o name h k
 updated_here (Always c2 r2 t2 i2 s2 o2 ∷ ss) c r t i s o name h k = by (bytes_eq t2.bytes name) h (updated_here ss c r t i s o name)
   where
-    by : (b : Bool) → is_none (cond b (Some (i2, o2)) (updated ss name)) ≡ true → (is_none (updated ss name) ≡ true → t.bytes ≡ name → updated (ss ++ Always c r t i s o ∷ []) name ≡ Some (i, o)) → cond b (Some (i2, o2)) (updated (ss ++ Always c r t i s o ∷ []) name) ≡ Some (i, o)
+    by : (b : Bool) → is_none (cond b (Some (i2, o2)) (updated ss name)) ≡ true →
+        (is_none (updated ss name) ≡ true → t.bytes ≡ name → updated (ss ++ Always c r t i s o ∷ []) name ≡ Some (i, o)) → cond b (Some (i2, o2))
+        (updated (ss ++ Always c r t i s o ∷ []) name) ≡ Some (i, o)
     by true h m = absurd cc
     by false h m = m h k
 
@@ -154,10 +162,30 @@ updated_keeps [] (Always c r t i s o) name h = ap (λ b. cond b (Some (i, o)) No
 updated_keeps (Assign y g ∷ ss) s name h = updated_keeps ss s name h
 updated_keeps (Always c r t i q o ∷ ss) s name h = ap (λ (k : Option (Spot × Spot)). cond (bytes_eq t.bytes name) (Some (i, o)) k) (updated_keeps ss s name h)
 
-drives_keep : (ds : List Declaration) (before : List Statement) (s : Statement) (d : Declaration) (v : Driver) → (target_of s ≡ d.name.bytes → ⊥) → Drives ds before d v → Drives ds (before ++ s ∷ []) d v
+drives_keep : (ds : List Declaration) (before : List Statement) (s : Statement) (d : Declaration) (v : Driver) → (target_of s ≡ d.name.bytes → ⊥) →
+    Drives ds before d v → Drives ds (before ++ s ∷ []) d v
 drives_keep ds before s d driver.Open n h = (assigned_keeps before s d.name.bytes n ∙ h.0, updated_keeps before s d.name.bytes n ∙ h.1)
-drives_keep ds before s d (driver.Cell op xs) n h = record { target = h.target; value = h.value; assigned_is = assigned_keeps before s d.name.bytes n ∙ h.assigned_is; operation_is = h.operation_is; operands_at = h.operands_at; width = h.width; plain = h.plain }
-drives_keep ds before s d (driver.Next w p) n h = record { register = h.register; initial = h.initial; source = h.source; updated_is = updated_keeps before s d.name.bytes n ∙ h.updated_is; bits = h.bits; width = h.width; next_at = h.next_at; next_width = h.next_width }
+drives_keep ds before s d (driver.Cell op xs) n h = record {
+  target = h.target;
+  value = h.value;
+  assigned_is = assigned_keeps before s d.name.bytes n
+      ∙ h.assigned_is;
+  operation_is = h.operation_is;
+  operands_at = h.operands_at;
+  width = h.width;
+  plain = h.plain;
+}
+drives_keep ds before s d (driver.Next w p) n h = record {
+  register = h.register;
+  initial = h.initial;
+  source = h.source;
+  updated_is = updated_keeps
+      before s d.name.bytes n ∙ h.updated_is;
+  bits = h.bits;
+  width = h.width;
+  next_at = h.next_at;
+  next_width = h.next_width;
+}
 
 -- ---- one more statement
 
@@ -173,7 +201,8 @@ set_length [] p v = refl
 set_length (w ∷ vs) zero v = refl
 set_length (w ∷ vs) (suc p) v = ap suc (set_length vs p v)
 
-pub next_drivers : (ds : List Declaration) (before : List Statement) (s : Statement) (p : ℕ) (v : Driver) (vs : List Driver) → repeat_faults [] (declared_names ds) ≡ [] → HasDrivers ds before vs → Sets ds before s p v → HasDrivers ds (before ++ s ∷ []) (set vs p v)
+pub next_drivers : (ds : List Declaration) (before : List Statement) (s : Statement) (p : ℕ) (v : Driver) (vs : List Driver) → repeat_faults []
+    (declared_names ds) ≡ [] → HasDrivers ds before vs → Sets ds before s p v → HasDrivers ds (before ++ s ∷ []) (set vs p v)
 next_drivers ds before s p v vs apart h k = record {
   full = set_length vs p v ∙ h.full;
   each = λ (i : ℕ) (d : Declaration) (u : Driver) (at : slice_get ds i ≡ Some d) (got : slice_get (set vs p v) i ≡ Some u). by i d u at (set_place vs p v i u got);

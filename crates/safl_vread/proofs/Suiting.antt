@@ -48,7 +48,11 @@ suits ds ss d (driver.Cell op xs) h =
       ap (λ o. op_width o (map (width_at ds) (places_of xs))) h.operation_is ∙ ap (op_width (operation h.value)) (widths_at ds (places_of xs) (operands h.value) h.operands_at)
           ∙ some_width (op_width (operation h.value) ws) (range_width d.range) (range_some d.range) h.width,
     )
-suits ds ss d (driver.Next w p) h = (record { declared = h.next_at.declared; there = h.next_at.there; fit = h.next_at.fit }, ap width_in h.next_at.there ∙ sym (ap width_in h.next_at.found) ∙ sym h.next_width)
+suits ds ss d (driver.Next w p) h = (
+  record { declared = h.next_at.declared; there = h.next_at.there; fit = h.next_at.fit },
+  ap width_in
+      h.next_at.there ∙ sym (ap width_in h.next_at.found) ∙ sym h.next_width,
+)
 
 pub all_suit : (ds : List Declaration) (ss : List Statement) (vs : List Driver) → HasDrivers ds ss vs → AllSuit ds vs
 all_suit ds ss vs h = λ (i : ℕ) (d : Declaration) (v : Driver) a b. suits ds ss d v (h.each i d v a b)
@@ -63,7 +67,8 @@ partly_width (suc i) [] s = refl
 partly_width (suc i) (g ∷ gs) zero = refl
 partly_width (suc i) (g ∷ gs) (suc s) = partly_width i gs s
 
-module _ (ds : List Declaration) (vs : List Driver) (order ns : List ℕ) (i : ℕ) (net : Netlist) (os : List (List ℕ × ℕ)) (full : length vs ≡ length ds) (e : net ≡ record { signals = partly i (signals_at ds vs ns order); outputs = os }) where
+module _ (ds : List Declaration) (vs : List Driver) (order ns : List ℕ) (i : ℕ) (net : Netlist) (os : List (List ℕ × ℕ))
+    (full : length vs ≡ length ds) (e : net ≡ record { signals = partly i (signals_at ds vs ns order); outputs = os }) where
   net_width : (s p : ℕ) (d : Declaration) → slice_get order s ≡ Some p → slice_get ds p ≡ Some d → width_of net s ≡ range_width d.range
   net_width s p d at there =
       let v : Driver = get_or vs p driver.Open in

@@ -28,7 +28,8 @@ use Rattle.safl_vread.proofs.Suiting.{all_suit}
 use Rattle.safl_vread.proofs.Driven.{all_fit, signal_is, shown_is}
 use Rattle.safl_vread.proofs.Outputs.{outputs_are}
 
-mapped : (at : ℕ → Option Declaration) (F : ℕ → Signal) (G : Declaration → Signal) → ((p : ℕ) (d : Declaration) → at p ≡ Some d → F p ≡ G d) → (order : List ℕ) (xs : List Declaration) → map at order ≡ map Some xs → map F order ≡ map G xs
+mapped : (at : ℕ → Option Declaration) (F : ℕ → Signal) (G : Declaration → Signal) → ((p : ℕ) (d : Declaration) → at p ≡ Some d → F p ≡ G d) →
+    (order : List ℕ) (xs : List Declaration) → map at order ≡ map Some xs → map F order ≡ map G xs
 mapped at F G h [] [] e = refl
 mapped at F G h [] (x ∷ xs) e = absurd cc
 mapped at F G h (p ∷ order) [] e = absurd cc
@@ -46,7 +47,8 @@ module _ (f : File) (vs : List Driver) (order ns : List ℕ) (h : HasDrivers f.d
       ap (λ (o : Option Declaration). signal_in ns o (slice_get vs p)) e ∙ ap (λ (o : Option Driver). signal_in ns (Some d) o) there
       ∙ signal_is f order ns n (length f.declarations) d v (h.each p d v e there) (fit p d v e there)
 
-  output_sort : (s : Sort) (d : Declaration) (v : Driver) → d.sort ≡ s → Drives f.declarations f.statements d v → Fits (length f.declarations) d.sort (range_width d.range) v → cond (is_output s) ((d.name.bytes, shown_with ns v) ∷ []) [] ≡ cond (is_output s) (output_of f d ∷ []) []
+  output_sort : (s : Sort) (d : Declaration) (v : Driver) → d.sort ≡ s → Drives f.declarations f.statements d v → Fits (length f.declarations) d.sort
+      (range_width d.range) v → cond (is_output s) ((d.name.bytes, shown_with ns v) ∷ []) [] ≡ cond (is_output s) (output_of f d ∷ []) []
   output_sort sorts.Input d v e a b = refl
   output_sort sorts.Output d v e a b = ap (λ (k : ℕ). (d.name.bytes, k) ∷ []) (shown_is f order ns n d v e a b)
   output_sort sorts.Reg d v e a b = refl
@@ -55,7 +57,8 @@ module _ (f : File) (vs : List Driver) (order ns : List ℕ) (h : HasDrivers f.d
   pub whole_net : IsOrder f.declarations order → record { signals = signals_at f.declarations vs ns order; outputs = outputs_with ns f.declarations vs } ≡ netlist f
   unfolding netlist
   whole_net o =
-      let a : signals_at f.declarations vs ns order ≡ map (signal_of f) (signals_of f.declarations) = mapped (slice_get f.declarations) (signal_at f.declarations vs ns) (signal_of f) signal_here order (signals_of f.declarations) o in
+      let a : signals_at f.declarations vs ns order ≡ map (signal_of f) (signals_of f.declarations) = mapped (slice_get f.declarations)
+      (signal_at f.declarations vs ns) (signal_of f) signal_here order (signals_of f.declarations) o in
       let b : outputs_with ns f.declarations vs ≡ map (output_of f) (filter (λ (d : Declaration). is_output d.sort) f.declarations) =
       outputs_are f ns f.declarations vs h.full (λ i d v x y. output_sort d.sort d v refl (h.each i d v x y) (fit i d v x y)) in
       ap (λ (k : List Signal). record { signals = k; outputs = outputs_with ns f.declarations vs }) a
@@ -71,16 +74,21 @@ some_signal f h = by (signals_of f.declarations) h.start.signal h.start.at
     by (d ∷ ds) s e = omega arith
 
 -- the net after the stages, which read the numbers and the order by references
-pub net_whole : (f : File) (ds : List Declaration) (vs : List Driver) (ns order : List ℕ) (declared connected shown : Netlist) (ns1 ns2 order1 : List ℕ) → f.declarations ≡ ds → HasDrivers f.declarations f.statements vs → AllFit ds vs → AreNumbers ds order ns → IsOrder ds order
-    → ns1 ≡ ns → ns2 ≡ ns → order1 ≡ order → declared.outputs ≡ [] → connected ≡ record { signals = signals_at ds vs ns1 order1; outputs = declared.outputs } → shown ≡ with_outputs connected (outputs_with ns2 ds vs) → shown ≡ netlist f
+pub net_whole : (f : File) (ds : List Declaration) (vs : List Driver) (ns order : List ℕ) (declared connected shown : Netlist)
+    (ns1 ns2 order1 : List ℕ) → f.declarations ≡ ds → HasDrivers f.declarations f.statements vs → AllFit ds vs → AreNumbers ds order ns → IsOrder ds order
+    → ns1 ≡ ns → ns2 ≡ ns → order1 ≡ order → declared.outputs ≡ [] → connected ≡ record
+    { signals = signals_at ds vs ns1 order1; outputs = declared.outputs } → shown ≡ with_outputs connected (outputs_with ns2 ds vs) → shown ≡ netlist f
 net_whole f ds vs ns order declared connected shown ns1 ns2 order1 e h fit n o a b q none c s =
     let made : List Signal = signals_at ds vs ns order in
     let same : signals_at ds vs ns1 order1 ≡ made = ap (λ (k : List ℕ). signals_at ds vs k order1) a ∙ ap (signals_at ds vs ns) q in
-    let two : connected ≡ record { signals = made; outputs = [] } = c ∙ ap (λ (k : List Signal). record { signals = k; outputs = declared.outputs }) same ∙ ap (λ (k : List (List ℕ × ℕ)). record { signals = made; outputs = k }) none in
-    let three : shown ≡ record { signals = made; outputs = outputs_with ns ds vs } = s ∙ ap (λ (k : List ℕ). with_outputs connected (outputs_with k ds vs)) b ∙ ap (λ (m : Netlist). with_outputs m (outputs_with ns ds vs)) two in
+    let two : connected ≡ record { signals = made; outputs = [] } = c ∙ ap (λ (k : List Signal). record { signals = k; outputs = declared.outputs })
+    same ∙ ap (λ (k : List (List ℕ × ℕ)). record { signals = made; outputs = k }) none in
+    let three : shown ≡ record { signals = made; outputs = outputs_with ns ds vs } = s ∙ ap
+    (λ (k : List ℕ). with_outputs connected (outputs_with k ds vs)) b ∙ ap (λ (m : Netlist). with_outputs m (outputs_with ns ds vs)) two in
     three
     ∙ ap (λ (x : List Declaration). record { signals = signals_at x vs ns order; outputs = outputs_with ns x vs }) (sym e)
-    ∙ whole_net f vs order ns h (subst (λ (x : List Declaration). AllFit x vs) (sym e) fit) (subst (λ (x : List Declaration). AreNumbers x order ns) (sym e) n) (subst (λ (x : List Declaration). IsOrder x order) (sym e) o)
+    ∙ whole_net f vs order ns h (subst (λ (x : List Declaration). AllFit x vs) (sym e) fit)
+    (subst (λ (x : List Declaration). AreNumbers x order ns) (sym e) n) (subst (λ (x : List Declaration). IsOrder x order) (sym e) o)
 
 -- ---- from the text
 
@@ -101,7 +109,8 @@ pub file_reads : (text : List ℕ) (f : File) → IsFileText text f → faults f
 file_reads text f d h = record { tokens = d.tokens; cut = d.cut; file = f; derived = d.derived; kept = h; means = refl }
 
 pub text_fits : (f : File) (ds : List Declaration) (vs us : List Driver) → f.declarations ≡ ds → us ≡ vs → faults f ≡ [] → HasDrivers f.declarations f.statements vs → AllFit ds us
-text_fits f ds vs us e u h k = subst (λ (x : List Declaration). AllFit x us) e (subst (λ (x : List Driver). AllFit f.declarations x) (sym u) (all_fit f.declarations f.statements vs k (none_missing f h)))
+text_fits f ds vs us e u h k = subst (λ (x : List Declaration). AllFit x us) e
+    (subst (λ (x : List Driver). AllFit f.declarations x) (sym u) (all_fit f.declarations f.statements vs k (none_missing f h)))
 
 pub text_suits : (f : File) (ds : List Declaration) (vs us : List Driver) → f.declarations ≡ ds → us ≡ vs → HasDrivers f.declarations f.statements vs → AllSuit ds us
 text_suits f ds vs us e u k = subst (λ (x : List Declaration). AllSuit x us) e (subst (λ (x : List Driver). AllSuit f.declarations x) (sym u) (all_suit f.declarations f.statements vs k))
@@ -109,7 +118,8 @@ text_suits f ds vs us e u k = subst (λ (x : List Declaration). AllSuit x us) e 
 pub text_some : (text : List ℕ) (f : File) (ds : List Declaration) → f.declarations ≡ ds → IsFileText text f → faults f ≡ [] → 0 < length (signals_of ds)
 text_some text f ds e d h = subst (λ (x : List Declaration). 0 < length (signals_of x)) e (some_signal f (reads_whole text (netlist f) (file_reads text f d h)))
 
-pub text_whole : (text : List ℕ) (f : File) (ds : List Declaration) (vs us : List Driver) (n : Netlist) → f.declarations ≡ ds → us ≡ vs → IsFileText text f → faults f ≡ [] → HasDrivers f.declarations f.statements vs
+pub text_whole : (text : List ℕ) (f : File) (ds : List Declaration) (vs us : List Driver) (n : Netlist) → f.declarations ≡ ds → us ≡ vs → IsFileText
+    text f → faults f ≡ [] → HasDrivers f.declarations f.statements vs
     → ((g : File) → g.declarations ≡ ds → HasDrivers g.declarations g.statements us → n ≡ netlist g) → IsWhole n
 text_whole text f ds vs us n e u d h k by =
     subst IsWhole (sym (by f e (subst (λ (x : List Driver). HasDrivers f.declarations f.statements x) (sym u) k))) (reads_whole text (netlist f) (file_reads text f d h))

@@ -1,5 +1,6 @@
 -- What a file without faults reads as is whole.
-use Rattle.std.proofs.Common.{◌≡◌, ℕ, zero, suc, ◌+◌, List, [], ◌∷◌, ◌++◌, map, Option, None, Some, IsSome, Bool, true, false, not, cond, ◌&&◌, ◌||◌, ◌==◌, bytes_eq, codes, refl, sym, ap, subst, ◌∙◌, inl, inr, arith, slice_get}
+use Rattle.std.proofs.Common.{◌≡◌, ℕ, zero, suc, ◌+◌, List, [], ◌∷◌, ◌++◌, map, Option, None, Some, IsSome, Bool, true, false, not, cond, ◌&&◌, ◌||◌}
+use Rattle.std.proofs.Common.{◌==◌, bytes_eq, codes, refl, sym, ap, subst, ◌∙◌, inl, inr, arith, slice_get}
 use Rattle.std.specs.Prelude.{filter}
 use Rattle.std.specs.List.{flat_map}
 use Rattle.std.proofs.lemmas.Bool.{and_parts}
@@ -13,7 +14,11 @@ use Rattle.safl_verilog.specs.declared.token.Sort.{Sort}
 use Rattle.safl_verilog.specs.declared.token.Sort.TheVariants as sorts
 use Rattle.safl_verilog.specs.declared.fault.VRule.TheVariants as rules
 use Rattle.safl_verilog.specs.Files.{Spot, Expression, Literal, Plain, Inverted, Binary, Choice, Joined, Slice, Declaration, Statement, Assign, Always, File}
-use Rattle.safl_verilog.specs.Faults.{at, find, where_not, passes, is_data, is_input, is_output, is_reg, is_wire, is_target, is_signal, is_none, is_plain, range_width, width_of, expression_width, operands, assigned, updated, faults, has_bit, has_ports, repeat_faults, declared_names, all_number_faults, header_faults, port_faults, all_port_faults, all_statement_faults, statement_faults, assign_faults, may_be_assigned, unfit_faults, width_faults, missing_faults}
+use Rattle.safl_verilog.specs.Faults.{at, find, where_not, passes, is_data, is_input, is_output, is_reg, is_wire, is_target, is_signal, is_none}
+use Rattle.safl_verilog.specs.Faults.{is_plain, range_width, width_of, expression_width, operands, assigned, updated, faults, has_bit, has_ports}
+use Rattle.safl_verilog.specs.Faults.{repeat_faults, declared_names, all_number_faults, header_faults, port_faults, all_port_faults}
+use Rattle.safl_verilog.specs.Faults.{all_statement_faults, statement_faults, assign_faults, may_be_assigned, unfit_faults, width_faults}
+use Rattle.safl_verilog.specs.Faults.{missing_faults}
 use Rattle.safl_verilog.specs.Netlists.{netlist, signals_of, signal_of, kind_of, register_of, driven, output_of, shown, place_of, number_of}
 use Rattle.safl_verilog.specs.Reads.{Reads}
 use Rattle.safl_net.specs.Arranged.{Each}
@@ -33,11 +38,13 @@ wire_set : (ds : List Declaration) (e : Option Expression) → not (is_none e) �
 wire_set ds None h = absurd cc
 wire_set ds (Some e) h = tt
 
-kind_set : (f : File) (s : Sort) (name : List ℕ) (p : ℕ) → where_not (not (is_wire s || is_output s) || not (is_none (assigned f.statements name))) (at rules.V07 p) ++ where_not (not (is_reg s) || not (is_none (updated f.statements name))) (at rules.V08 p) ≡ [] → IsSet (kind_of f s name)
+kind_set : (f : File) (s : Sort) (name : List ℕ) (p : ℕ) → where_not (not (is_wire s || is_output s) || not (is_none (assigned f.statements name)))
+    (at rules.V07 p) ++ where_not (not (is_reg s) || not (is_none (updated f.statements name))) (at rules.V08 p) ≡ [] → IsSet (kind_of f s name)
 kind_set f sorts.Input name p h = tt
 kind_set f sorts.Output name p h = tt
 kind_set f sorts.Reg name p h = register_set f.declarations (updated f.statements name) (kept_true (not (is_none (updated f.statements name))) (at rules.V08 p) h)
-kind_set f sorts.Wire name p h = wire_set f.declarations (assigned f.statements name) (kept_true (not (is_none (assigned f.statements name))) (at rules.V07 p) (both_empty (where_not (not (is_none (assigned f.statements name))) (at rules.V07 p)) _ h).0)
+kind_set f sorts.Wire name p h = wire_set f.declarations (assigned f.statements name)
+    (kept_true (not (is_none (assigned f.statements name))) (at rules.V07 p) (both_empty (where_not (not (is_none (assigned f.statements name))) (at rules.V07 p)) _ h).0)
 
 no_parts : {X Y : Type 0} (g : X → List Y) (xs : List X) → flat_map g xs ≡ [] → Each (λ x. g x ≡ []) xs
 no_parts g [] h = tt
@@ -55,10 +62,12 @@ all_set : (f : File) → flat_map (missing_faults f.statements) f.declarations �
 unfolding netlist
 all_set f h =
     let P : Declaration → Type 0 = λ (d : Declaration). IsSet (kind_of f d.sort d.name.bytes) in
-    let each : Each P f.declarations = each_of (λ (d : Declaration). missing_faults f.statements d ≡ []) P (λ (d : Declaration) k. kind_set f d.sort d.name.bytes d.name.place k) f.declarations (no_parts (missing_faults f.statements) f.declarations h) in
+    let each : Each P f.declarations = each_of (λ (d : Declaration). missing_faults f.statements d ≡ []) P
+    (λ (d : Declaration) k. kind_set f d.sort d.name.bytes d.name.place k) f.declarations (no_parts (missing_faults f.statements) f.declarations h) in
     let all : Each P (signals_of f.declarations) =
     each_join P (filter is_data f.declarations ++ filter (λ (d : Declaration). is_reg d.sort) f.declarations) (filter (λ (d : Declaration). is_wire d.sort) f.declarations)
-    (each_join P (filter is_data f.declarations) (filter (λ (d : Declaration). is_reg d.sort) f.declarations) (each_filter P is_data f.declarations each) (each_filter P (λ (d : Declaration). is_reg d.sort) f.declarations each))
+    (each_join P (filter is_data f.declarations) (filter (λ (d : Declaration). is_reg d.sort) f.declarations)
+    (each_filter P is_data f.declarations each) (each_filter P (λ (d : Declaration). is_reg d.sort) f.declarations each))
     (each_filter P (λ (d : Declaration). is_wire d.sort) f.declarations each) in
     λ (s : ℕ) (g : Signal) (e : slice_get (map (signal_of f) (signals_of f.declarations)) s ≡ Some g).
     each_at (λ (v : Signal). IsSet v.kind) (map (signal_of f) (signals_of f.declarations)) s g (each_mapped (λ (v : Signal). IsSet v.kind) (signal_of f) (signals_of f.declarations) all) e
@@ -89,7 +98,8 @@ found_filtered p (x ∷ ds) name d h k = by (bytes_eq x.name.bytes name) refl h 
     skipped true q m = ap (λ b. cond b (Some x) (find (filter p ds) name)) q ∙ m
     skipped false q m = m
 
-    by : (b : Bool) → bytes_eq x.name.bytes name ≡ b → cond b (Some x) (find ds name) ≡ Some d → (find ds name ≡ Some d → p d ≡ true → find (filter p ds) name ≡ Some d) → find (filter p (x ∷ ds)) name ≡ Some d
+    by : (b : Bool) → bytes_eq x.name.bytes name ≡ b → cond b (Some x) (find ds name) ≡ Some d →
+        (find ds name ≡ Some d → p d ≡ true → find (filter p ds) name ≡ Some d) → find (filter p (x ∷ ds)) name ≡ Some d
     by true q h m =
         let s : x ≡ d = cc in
         let t : p x ≡ true = ap p s ∙ k in
@@ -104,7 +114,8 @@ not_found (x ∷ ds) name h p = by (p x) (not_found ds name (λ k. h (inr k)) p)
     by true m = ap (λ b. cond b (Some x) (find (filter p ds) name)) (other_name x.name.bytes name (λ e. h (inl e))) ∙ m
     by false m = m
 
-lost_filtered : (p : Declaration → Bool) (ds : List Declaration) (name : List ℕ) (d : Declaration) → Distinct (map (λ (d : Declaration). d.name.bytes) ds) → find ds name ≡ Some d → p d ≡ false → find (filter p ds) name ≡ None
+lost_filtered : (p : Declaration → Bool) (ds : List Declaration) (name : List ℕ) (d : Declaration) → Distinct
+    (map (λ (d : Declaration). d.name.bytes) ds) → find ds name ≡ Some d → p d ≡ false → find (filter p ds) name ≡ None
 lost_filtered p [] name d a h k = refl
 lost_filtered p (x ∷ ds) name d a h k = by (bytes_eq x.name.bytes name) refl h (lost_filtered p ds name d a.1)
   where
@@ -112,7 +123,8 @@ lost_filtered p (x ∷ ds) name d a h k = by (bytes_eq x.name.bytes name) refl h
     skipped true q m = ap (λ b. cond b (Some x) (find (filter p ds) name)) q ∙ m
     skipped false q m = m
 
-    by : (b : Bool) → bytes_eq x.name.bytes name ≡ b → cond b (Some x) (find ds name) ≡ Some d → (find ds name ≡ Some d → p d ≡ false → find (filter p ds) name ≡ None) → find (filter p (x ∷ ds)) name ≡ None
+    by : (b : Bool) → bytes_eq x.name.bytes name ≡ b → cond b (Some x) (find ds name) ≡ Some d →
+        (find ds name ≡ Some d → p d ≡ false → find (filter p ds) name ≡ None) → find (filter p (x ∷ ds)) name ≡ None
     by true q h m =
         let s : x ≡ d = cc in
         let t : p x ≡ false = ap p s ∙ k in
@@ -124,7 +136,8 @@ signal_cases : (a b c : Bool) → (a || b || c) ≡ true → a ≡ false → b �
 signal_cases a b c h k l = rw (k, l) at h
 
 -- a signal is found among the signals
-pub found_signal : (ds : List Declaration) (name : List ℕ) (d : Declaration) → Distinct (map (λ (d : Declaration). d.name.bytes) ds) → find ds name ≡ Some d → is_signal d ≡ true → find (signals_of ds) name ≡ Some d
+pub found_signal : (ds : List Declaration) (name : List ℕ) (d : Declaration) → Distinct (map (λ (d : Declaration). d.name.bytes) ds) → find ds name ≡
+    Some d → is_signal d ≡ true → find (signals_of ds) name ≡ Some d
 found_signal ds name d a h k = by (is_data d) refl (is_reg d.sort) refl
   where
     A : List Declaration
@@ -144,12 +157,14 @@ found_signal ds name d a h k = by (is_data d) refl (is_reg d.sort) refl
         ∙ found_filtered (λ (d : Declaration). is_wire d.sort) ds name d h (signal_cases (is_data d) (is_reg d.sort) (is_wire d.sort) k q r)
 
 -- its place is its number
-pub found_place : (f : File) (xs : List Declaration) (name : List ℕ) (d : Declaration) (j : ℕ) → find xs name ≡ Some d → (place (map (signal_of f) xs) name j ≡ Some (place_of xs name + j)) × (slice_get xs (place_of xs name) ≡ Some d)
+pub found_place : (f : File) (xs : List Declaration) (name : List ℕ) (d : Declaration) (j : ℕ) → find xs name ≡ Some d →
+    (place (map (signal_of f) xs) name j ≡ Some (place_of xs name + j)) × (slice_get xs (place_of xs name) ≡ Some d)
 unfolding place
 found_place f [] name d j h = absurd cc
 found_place f (x ∷ xs) name d j h = by (bytes_eq x.name.bytes name) h (found_place f xs name d (suc j))
   where
-    by : (b : Bool) → cond b (Some x) (find xs name) ≡ Some d → (find xs name ≡ Some d → (place (map (signal_of f) xs) name (suc j) ≡ Some (place_of xs name + suc j)) × (slice_get xs (place_of xs name) ≡ Some d))
+    by : (b : Bool) → cond b (Some x) (find xs name) ≡ Some d →
+        (find xs name ≡ Some d → (place (map (signal_of f) xs) name (suc j) ≡ Some (place_of xs name + suc j)) × (slice_get xs (place_of xs name) ≡ Some d))
         → (cond b (Some j) (place (map (signal_of f) xs) name (suc j)) ≡ Some (cond b 0 (suc (place_of xs name)) + j)) × (slice_get (x ∷ xs) (cond b 0 (suc (place_of xs name))) ≡ Some d)
     by true h k = (ap Some (omega arith), h)
     by false h k = let m = k h in (m.0 ∙ ap Some (omega arith), m.1)
@@ -165,16 +180,27 @@ pub record IsKept (ds : List Declaration) (x : Spot) (e : Expression) : Type 0 w
   pub before : List Statement
   pub faults : assign_faults ds before x e ≡ []
 
-kept_assign : (ds : List Declaration) (before ss : List Statement) (name : List ℕ) (e : Expression) → all_statement_faults ds before ss ≡ [] → assigned ss name ≡ Some e → (x : Spot) × (x.bytes ≡ name) × IsKept ds x e
+kept_assign : (ds : List Declaration) (before ss : List Statement) (name : List ℕ) (e : Expression) → all_statement_faults ds before ss ≡ [] →
+    assigned ss name ≡ Some e → (x : Spot) × (x.bytes ≡ name) × IsKept ds x e
 kept_assign ds before [] name e h k = absurd cc
-kept_assign ds before (Assign x g ∷ ss) name e h k = by (bytes_eq x.bytes name) refl k (kept_assign ds (before ++ Assign x g ∷ []) ss name e (both_empty (assign_faults ds before x g) (all_statement_faults ds (before ++ Assign x g ∷ []) ss) h).1)
+kept_assign ds before (Assign x g ∷ ss) name e h k = by (bytes_eq x.bytes name) refl k
+    (kept_assign ds (before ++ Assign x g ∷ []) ss name e (both_empty (assign_faults ds before x g) (all_statement_faults ds (before ++ Assign x g ∷ []) ss) h).1)
   where
-    by : (b : Bool) → bytes_eq x.bytes name ≡ b → cond b (Some g) (assigned ss name) ≡ Some e → (assigned ss name ≡ Some e → (x : Spot) × (x.bytes ≡ name) × IsKept ds x e) → (x : Spot) × (x.bytes ≡ name) × IsKept ds x e
+    by : (b : Bool) → bytes_eq x.bytes name ≡ b → cond b (Some g) (assigned ss name) ≡ Some e →
+        (assigned ss name ≡ Some e → (x : Spot) × (x.bytes ≡ name) × IsKept ds x e) → (x : Spot) × (x.bytes ≡ name) × IsKept ds x e
     by true q k m =
-        let s : g ≡ e = cc in
-        (x, (bytes_eq-Decides x.bytes name).0 q, record { before = before; faults = subst (λ (v : Expression). assign_faults ds before x v ≡ []) s (both_empty (assign_faults ds before x g) (all_statement_faults ds (before ++ Assign x g ∷ []) ss) h).0 })
+        let s : g ≡ e = cc in (
+          x,
+          (bytes_eq-Decides x.bytes name).0 q,
+          record {
+            before = before;
+            faults = subst (λ (v : Expression). assign_faults ds before x v ≡ []) s
+                (both_empty (assign_faults ds before x g) (all_statement_faults ds (before ++ Assign x g ∷ []) ss) h).0;
+          },
+        )
     by false q k m = m k
-kept_assign ds before (Always c r t i s o ∷ ss) name e h k = kept_assign ds (before ++ Always c r t i s o ∷ []) ss name e (both_empty (statement_faults ds before (Always c r t i s o)) (all_statement_faults ds (before ++ Always c r t i s o ∷ []) ss) h).1 k
+kept_assign ds before (Always c r t i s o ∷ ss) name e h k = kept_assign ds (before ++ Always c r t i s o ∷ []) ss name e
+    (both_empty (statement_faults ds before (Always c r t i s o)) (all_statement_faults ds (before ++ Always c r t i s o ∷ []) ss) h).1 k
 
 -- ---- ports
 
@@ -201,7 +227,9 @@ has_start f h =
     let a = passed (λ d. is_input d.sort && (range_width d.range == 1)) (find ds (codes "start")) h in
     let b = and_parts (is_input a.0.sort) (range_width a.0.range == 1) a.2 in
     let named = found_name ds (codes "start") a.0 a.1 in
-    let here = found_left (filter is_data ds ++ filter (λ (d : Declaration). is_reg d.sort) ds) (filter (λ (d : Declaration). is_wire d.sort) ds) (codes "start") a.0 (found_left (filter is_data ds) (filter (λ (d : Declaration). is_reg d.sort) ds) (codes "start") a.0 (found_filtered is_data ds (codes "start") a.0 a.1 (is_start_data a.0 b.0 named))) in
+    let here = found_left (filter is_data ds ++ filter (λ (d : Declaration). is_reg d.sort) ds) (filter (λ (d : Declaration). is_wire d.sort) ds)
+    (codes "start") a.0 (found_left (filter is_data ds) (filter (λ (d : Declaration). is_reg d.sort) ds) (codes "start") a.0
+    (found_filtered is_data ds (codes "start") a.0 a.1 (is_start_data a.0 b.0 named))) in
     let p = found_place f (signals_of ds) (codes "start") a.0 0 here in
     let g = signal_at f (signals_of ds) (place_of (signals_of ds) (codes "start")) a.0 p.1 in
     record {
@@ -211,20 +239,26 @@ has_start f h =
       bit = ap Netlist.width_in g ∙ bit_of (range_width a.0.range) b.1;
     }
 
-output_found : (f : File) (ds : List Declaration) (name : List ℕ) (d : Declaration) → find ds name ≡ Some d → is_output d.sort ≡ true → output_place (map (output_of f) (filter (λ (d : Declaration). is_output d.sort) ds)) name ≡ Some (output_of f d).1
+output_found : (f : File) (ds : List Declaration) (name : List ℕ) (d : Declaration) → find ds name ≡ Some d → is_output d.sort ≡ true → output_place
+    (map (output_of f) (filter (λ (d : Declaration). is_output d.sort) ds)) name ≡ Some (output_of f d).1
 output_found f ds name d h k = placed (filter (λ (d : Declaration). is_output d.sort) ds) (found_filtered (λ (d : Declaration). is_output d.sort) ds name d h k)
   where
     placed : (xs : List Declaration) → find xs name ≡ Some d → output_place (map (output_of f) xs) name ≡ Some (output_of f d).1
     placed [] h = absurd cc
     placed (x ∷ xs) h = by (bytes_eq x.name.bytes name) h (placed xs)
       where
-        by : (b : Bool) → cond b (Some x) (find xs name) ≡ Some d → (find xs name ≡ Some d → output_place (map (output_of f) xs) name ≡ Some (output_of f d).1) → cond b (Some (output_of f x).1) (output_place (map (output_of f) xs) name) ≡ Some (output_of f d).1
+        by : (b : Bool) → cond b (Some x) (find xs name) ≡ Some d →
+            (find xs name ≡ Some d → output_place (map (output_of f) xs) name ≡ Some (output_of f d).1) → cond b (Some (output_of f x).1)
+            (output_place (map (output_of f) xs) name) ≡ Some (output_of f d).1
         by true h k = let e : x ≡ d = cc in ap (λ (v : Declaration). Some (output_of f v).1) e
         by false h k = k h
 
-driven_output : (f : File) (s : Sort) (name : List ℕ) (p : ℕ) → is_output s ≡ true → where_not (not (is_wire s || is_output s) || not (is_none (assigned f.statements name))) (at rules.V07 p) ++ where_not (not (is_reg s) || not (is_none (updated f.statements name))) (at rules.V08 p) ≡ [] → not (is_none (assigned f.statements name)) ≡ true
+driven_output : (f : File) (s : Sort) (name : List ℕ) (p : ℕ) → is_output s ≡ true → where_not
+    (not (is_wire s || is_output s) || not (is_none (assigned f.statements name))) (at rules.V07 p) ++ where_not
+    (not (is_reg s) || not (is_none (updated f.statements name))) (at rules.V08 p) ≡ [] → not (is_none (assigned f.statements name)) ≡ true
 driven_output f sorts.Input name p h k = absurd cc
-driven_output f sorts.Output name p h k = kept_true (not (is_none (assigned f.statements name))) (at rules.V07 p) (both_empty (where_not (not (is_none (assigned f.statements name))) (at rules.V07 p)) _ k).0
+driven_output f sorts.Output name p h k = kept_true (not (is_none (assigned f.statements name))) (at rules.V07 p)
+    (both_empty (where_not (not (is_none (assigned f.statements name))) (at rules.V07 p)) _ k).0
 driven_output f sorts.Reg name p h k = absurd cc
 driven_output f sorts.Wire name p h k = absurd cc
 
@@ -259,19 +293,28 @@ pub record Shows (f : File) (d : Declaration) : Type 0 where
   pub fit : is_signal signal ≡ true
   pub width : range_width d.range ≡ range_width signal.range
 
-output_shows : (f : File) (d : Declaration) → find f.declarations d.name.bytes ≡ Some d → is_output d.sort ≡ true → missing_faults f.statements d ≡ [] → all_statement_faults f.declarations [] f.statements ≡ [] → Shows f d
+output_shows : (f : File) (d : Declaration) → find f.declarations d.name.bytes ≡ Some d → is_output d.sort ≡ true → missing_faults f.statements d ≡ []
+    → all_statement_faults f.declarations [] f.statements ≡ [] → Shows f d
 output_shows f d h o m k =
     let a = some_of (assigned f.statements d.name.bytes) (driven_output f d.sort d.name.bytes d.name.place o m) in
     let b = kept_assign f.declarations [] f.statements d.name.bytes a.0 k a.1 in
     let found : find f.declarations b.0.bytes ≡ Some d = ap (find f.declarations) b.1 ∙ h in
-    let c1 = both_empty (where_not (passes is_target (find f.declarations b.0.bytes)) (at rules.V04 b.0.place) ++ where_not (may_be_assigned b.2.before (find f.declarations b.0.bytes) b.0.bytes a.0) (at rules.V07 b.0.place) ++ flat_map (unfit_faults f.declarations) (operands a.0)) (width_faults b.0.place (width_of f.declarations b.0.bytes) (expression_width f.declarations a.0)) b.2.faults in
-    let c2 = both_empty (where_not (passes is_target (find f.declarations b.0.bytes)) (at rules.V04 b.0.place) ++ where_not (may_be_assigned b.2.before (find f.declarations b.0.bytes) b.0.bytes a.0) (at rules.V07 b.0.place)) (flat_map (unfit_faults f.declarations) (operands a.0)) c1.0 in
-    let c3 = both_empty (where_not (passes is_target (find f.declarations b.0.bytes)) (at rules.V04 b.0.place)) (where_not (may_be_assigned b.2.before (find f.declarations b.0.bytes) b.0.bytes a.0) (at rules.V07 b.0.place)) c2.0 in
-    let may = (and_parts (is_none (assigned b.2.before b.0.bytes)) (not (passes (λ d. is_output d.sort) (find f.declarations b.0.bytes)) || is_plain a.0) (kept_true (may_be_assigned b.2.before (find f.declarations b.0.bytes) b.0.bytes a.0) (at rules.V07 b.0.place) c3.1)).1 in
+    let c1 = both_empty (where_not (passes is_target (find f.declarations b.0.bytes)) (at rules.V04 b.0.place) ++ where_not
+    (may_be_assigned b.2.before (find f.declarations b.0.bytes) b.0.bytes a.0) (at rules.V07 b.0.place) ++ flat_map (unfit_faults f.declarations)
+    (operands a.0)) (width_faults b.0.place (width_of f.declarations b.0.bytes) (expression_width f.declarations a.0)) b.2.faults in
+    let c2 = both_empty (where_not (passes is_target (find f.declarations b.0.bytes)) (at rules.V04 b.0.place) ++ where_not
+    (may_be_assigned b.2.before (find f.declarations b.0.bytes) b.0.bytes a.0) (at rules.V07 b.0.place))
+    (flat_map (unfit_faults f.declarations) (operands a.0)) c1.0 in
+    let c3 = both_empty (where_not (passes is_target (find f.declarations b.0.bytes)) (at rules.V04 b.0.place))
+    (where_not (may_be_assigned b.2.before (find f.declarations b.0.bytes) b.0.bytes a.0) (at rules.V07 b.0.place)) c2.0 in
+    let may = (and_parts (is_none (assigned b.2.before b.0.bytes))
+    (not (passes (λ d. is_output d.sort) (find f.declarations b.0.bytes)) || is_plain a.0)
+    (kept_true (may_be_assigned b.2.before (find f.declarations b.0.bytes) b.0.bytes a.0) (at rules.V07 b.0.place) c3.1)).1 in
     let out : passes (λ d. is_output d.sort) (find f.declarations b.0.bytes) ≡ true = ap (passes (λ d. is_output d.sort)) found ∙ o in
     let e = plain_of a.0 (plain_then (passes (λ d. is_output d.sort) (find f.declarations b.0.bytes)) (is_plain a.0) may out) in
     let fit1 : flat_map (unfit_faults f.declarations) (operands (Plain e.0)) ≡ [] = ap (λ (v : Expression). flat_map (unfit_faults f.declarations) (operands v)) (sym e.1) ∙ c2.1 in
-    let fit = passed is_signal (find f.declarations e.0.bytes) (kept_true (passes is_signal (find f.declarations e.0.bytes)) (at rules.V04 e.0.place) (both_empty (unfit_faults f.declarations e.0) [] fit1).0) in
+    let fit = passed is_signal (find f.declarations e.0.bytes)
+    (kept_true (passes is_signal (find f.declarations e.0.bytes)) (at rules.V04 e.0.place) (both_empty (unfit_faults f.declarations e.0) [] fit1).0) in
     let w : width_of f.declarations b.0.bytes ≡ expression_width f.declarations a.0 = same_width _ _ b.0.place c1.1 in
     let w1 : width_of f.declarations b.0.bytes ≡ range_width d.range = width_found f.declarations b.0.bytes d found in
     let w2 : expression_width f.declarations a.0 ≡ range_width fit.0.range = plain_width f.declarations a.0 e.0 fit.0 e.1 fit.1 in
@@ -289,7 +332,8 @@ each_found (x ∷ ds) P name d h k = by (bytes_eq x.name.bytes name) k (each_fou
     by true k m = let e : x ≡ d = cc in subst P e h.0
     by false k m = m k
 
-has_done : (f : File) → Distinct (map (λ (d : Declaration). d.name.bytes) f.declarations) → has_bit f.declarations is_output (codes "done") ≡ true → flat_map (missing_faults f.statements) f.declarations ≡ [] → all_statement_faults f.declarations [] f.statements ≡ [] → HasDone (netlist f)
+has_done : (f : File) → Distinct (map (λ (d : Declaration). d.name.bytes) f.declarations) → has_bit f.declarations is_output (codes "done") ≡ true →
+    flat_map (missing_faults f.statements) f.declarations ≡ [] → all_statement_faults f.declarations [] f.statements ≡ [] → HasDone (netlist f)
 unfolding netlist
 has_done f apart h m k =
     let ds : List Declaration = f.declarations in
@@ -319,7 +363,8 @@ whole f h =
     let c = both_empty (repeat_faults [] (declared_names f.declarations)) (later_faults f) b.1 in
     let d = both_empty (all_port_faults f ++ all_statement_faults f.declarations [] f.statements) (flat_map (missing_faults f.statements) f.declarations) c.1 in
     let e = both_empty (all_port_faults f) (all_statement_faults f.declarations [] f.statements) d.0 in
-    let g = kept_true (has_ports f.declarations) (at rules.V10 0) (both_empty (flat_map (header_faults f) f.header ++ flat_map (port_faults f) f.declarations) (where_not (has_ports f.declarations) (at rules.V10 0)) e.0).1 in
+    let g = kept_true (has_ports f.declarations) (at rules.V10 0)
+    (both_empty (flat_map (header_faults f) f.header ++ flat_map (port_faults f) f.declarations) (where_not (has_ports f.declarations) (at rules.V10 0)) e.0).1 in
     let p1 = and_parts _ (passes (λ d. is_output d.sort) (find f.declarations (codes "result"))) g in
     let p2 = and_parts _ (has_bit f.declarations is_output (codes "done")) p1.0 in
     let p3 = and_parts _ (has_bit f.declarations is_input (codes "start")) p2.0 in

@@ -1,5 +1,6 @@
 -- The length of a text.
-use Rattle.std.proofs.Common.{◌≡◌, ℕ, suc, ◌+◌, ◌-◌, ◌*◌, ◌^◌, ◌<◌, ◌≤◌, List, [], ◌∷◌, length, Bool, true, false, cond, ◌&&◌, nat_le, nat_lt, not, Option, Some, None, refl, arith, lit<, lit≤, length-append}
+use Rattle.std.proofs.Common.{◌≡◌, ℕ, suc, ◌+◌, ◌-◌, ◌*◌, ◌^◌, ◌<◌, ◌≤◌, List, [], ◌∷◌, length, Bool, true, false, cond, ◌&&◌, nat_le, nat_lt, not}
+use Rattle.std.proofs.Common.{Option, Some, None, refl, arith, lit<, lit≤, length-append}
 use Rattle.std.specs.Prelude.{codes, slice_get}
 use Rattle.std.specs.List.{flat_map}
 use Rattle.std.specs.Fmt.{decimal}
@@ -17,7 +18,10 @@ use Rattle.safl_net.specs.Names.{is_good, is_identifier, is_reserved}
 use Rattle.safl_net.specs.Widths.{op_width, HasWord}
 use Rattle.safl_net.specs.Rules.{IsNetlist, SignalFits, KindFits}
 use Rattle.safl_net.specs.Making.{name_at, name_in, widths}
-use Rattle.safl_net.specs.Written.{Text, literal, declaration, two_operands, inverted, joined, sliced, plain, selected, applied, operation, names_of, if_input, if_register, if_wire, port, input_port, output_port, input_declaration, output_declaration, register_declaration, wire_declaration, assignment, cell_assignment, wire_assignment, output_assignment, update, next_update, register_update, written}
+use Rattle.safl_net.specs.Written.{Text, literal, declaration, two_operands, inverted, joined, sliced, plain, selected, applied, operation, names_of}
+use Rattle.safl_net.specs.Written.{if_input, if_register, if_wire, port, input_port, output_port, input_declaration, output_declaration}
+use Rattle.safl_net.specs.Written.{register_declaration, wire_declaration, assignment, cell_assignment, wire_assignment, output_assignment, update}
+use Rattle.safl_net.specs.Written.{next_update, register_update, written}
 use Rattle.safl_vwrite.specs.Sizes.{text_max}
 
 -- ---- names and numbers

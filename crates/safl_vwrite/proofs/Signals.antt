@@ -22,7 +22,8 @@ one_more f (y ∷ ys) zero x e = let h : y ≡ x = cc in ap (λ z. f z ++ []) h 
 one_more f (y ∷ ys) (suc i) x e = ap (λ l. f y ++ l) (one_more f ys i x e) ∙ sym (append_assoc (f y) (flat_map f (take i ys)) (f x))
 
 -- one more after what stood before
-after_more : {A : Type 0} (f : A → Text) (xs : List A) (i : ℕ) (x : A) (start before now : Text) → slice_get xs i ≡ Some x → before ≡ start ++ flat_map f (take i xs) → now ≡ before ++ f x → now ≡ start ++ flat_map f (take (i + 1) xs)
+after_more : {A : Type 0} (f : A → Text) (xs : List A) (i : ℕ) (x : A) (start before now : Text) → slice_get xs i ≡ Some x → before ≡ start ++
+    flat_map f (take i xs) → now ≡ before ++ f x → now ≡ start ++ flat_map f (take (i + 1) xs)
 after_more f xs i x start before now e b n =
     n ∙ ap (λ l. l ++ f x) b ∙ append_assoc start (flat_map f (take i xs)) (f x) ∙ ap (λ l. start ++ l) (sym (one_more f xs i x e)) ∙ ap (λ k. start ++ flat_map f (take k xs)) (sym (add-one i))
 
@@ -38,7 +39,8 @@ signal_at n s = record { name = name_at n s; width = width_of n s; kind = kind_a
 shown : (n : Netlist) (s : ℕ) (g : Signal) → slice_get n.signals s ≡ Some g → signal_at n s ≡ g
 shown n s g e = ap (λ (o : Option Signal). record { name = name_in o; width = width_in o; kind = kind_in o }) e
 
-pub signal_more : (f : Signal → Text) (n : Netlist) (i : ℕ) (start before now : Text) → i < length n.signals → before ≡ start ++ flat_map f (take i n.signals) → now ≡ before ++ f (signal_at n i) → now ≡ start ++ flat_map f (take (i + 1) n.signals)
+pub signal_more : (f : Signal → Text) (n : Netlist) (i : ℕ) (start before now : Text) → i < length n.signals → before ≡ start ++ flat_map f
+    (take i n.signals) → now ≡ before ++ f (signal_at n i) → now ≡ start ++ flat_map f (take (i + 1) n.signals)
 signal_more f n i start before now lt b e =
     let g = is_there n.signals i lt in
     after_more f n.signals i g.0 start before now g.1 b (e ∙ ap (λ x. before ++ f x) (shown n i g.0 g.1))
@@ -47,7 +49,8 @@ joined_output : (o : Option (List ℕ × ℕ)) (name : List ℕ) (s : ℕ) → S
 joined_output None name s a b = absurd (cc)
 joined_output (Some x) name s a b = let p : name ≡ x.0 = cc in let q : s ≡ x.1 = cc in ap (λ y. Some (y, x.1)) (sym p) ∙ ap (λ y. Some (name, y)) (sym q)
 
-pub output_more : (f : List ℕ × ℕ → Text) (n : Netlist) (i : ℕ) (name : List ℕ) (s : ℕ) (start before now : Text) → Some name ≡ option_map (λ x. x.0) (slice_get n.outputs i) → Some s ≡ option_map (λ x. x.1) (slice_get n.outputs i)
+pub output_more : (f : List ℕ × ℕ → Text) (n : Netlist) (i : ℕ) (name : List ℕ) (s : ℕ) (start before now : Text) → Some name ≡ option_map (λ x. x.0)
+    (slice_get n.outputs i) → Some s ≡ option_map (λ x. x.1) (slice_get n.outputs i)
     → before ≡ start ++ flat_map f (take i n.outputs) → now ≡ before ++ f (name, s) → now ≡ start ++ flat_map f (take (i + 1) n.outputs)
 output_more f n i name s start before now a b = after_more f n.outputs i (name, s) start before now (joined_output (slice_get n.outputs i) name s a b)
 
@@ -85,7 +88,8 @@ known_each bound (x ∷ xs) h zero d lt = h 0 0 (omega arith)
 known_each bound (x ∷ xs) h (suc k) d lt = known_each bound xs (λ j e l. h (suc j) e (omega (arith, l))) k d (omega (arith, lt))
 
 -- a cell's operands are signals of the net
-pub cell_known : (n : Netlist) (s : ℕ) (m : Made) → IsNetlist n → s < length n.signals → Some (cell_of m) ≡ cell_in (kind_at n s) → (k : ℕ) (d : Sig) → k < length m.operands.items → (get_or m.operands.items k d).0 < length n.signals
+pub cell_known : (n : Netlist) (s : ℕ) (m : Made) → IsNetlist n → s < length n.signals → Some (cell_of m) ≡ cell_in (kind_at n s) → (k : ℕ) (d : Sig)
+    → k < length m.operands.items → (get_or m.operands.items k d).0 < length n.signals
 cell_known n s m is lt e =
     let g = is_there n.signals s lt in
     let fits = (is.signals s g.0 g.1).kind in

@@ -21,13 +21,15 @@ module _ (law : NoShorterText) (n : Netlist) (net : IsNetlist n) where
   torn part (c ∷ (d ∷ rest)) e = inl (λ m r. elim (law n m part (c ∷ (d ∷ rest)) net e r) [ inl k ↦ cc | inr k ↦ cc ])
 
 -- so is what a write that failed has left of the text
-leaves_torn : (n : Netlist) (name text : List ℕ) → ((part rest : List ℕ) → text ≡ part ++ rest → IsTornOrWhole n part) → (old new : Files) → LeavesOldOrPart name text old new → LeavesOldOrTorn name n old new
+leaves_torn : (n : Netlist) (name text : List ℕ) → ((part rest : List ℕ) → text ≡ part ++ rest → IsTornOrWhole n part) → (old new : Files) →
+    LeavesOldOrPart name text old new → LeavesOldOrTorn name n old new
 leaves_torn n name text parts old new h = record {
   file = elim h.file [ inl same ↦ inl same | inr k ↦ inr (take k.0 text, k.1, parts (take k.0 text) (drop k.0 text) (sym (take-append-drop k.0 text))) ];
   others = h.others;
 }
 
-pub tells_torn : (n : Netlist) (name text : List ℕ) → ((part rest : List ℕ) → text ≡ part ++ rest → IsTornOrWhole n part) → (old new : Option Files) → TellsOn (LeavesOldOrPart name text) old new → TellsOn (LeavesOldOrTorn name n) old new
+pub tells_torn : (n : Netlist) (name text : List ℕ) → ((part rest : List ℕ) → text ≡ part ++ rest → IsTornOrWhole n part) → (old new : Option Files) →
+    TellsOn (LeavesOldOrPart name text) old new → TellsOn (LeavesOldOrTorn name n) old new
 tells_torn n name text parts None new h = tt
 tells_torn n name text parts (Some old) None h = absurd h
 tells_torn n name text parts (Some old) (Some new) h = leaves_torn n name text parts old new h

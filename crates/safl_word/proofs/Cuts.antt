@@ -1,6 +1,8 @@
 -- A text is cut in one way only.
 use Rattle.std.proofs.Common.{◌≡◌, ◌≢◌, ℕ, List, [], ◌∷◌, ◌++◌, length, true, false, not, ◌==◌, refl, sym, ◌∙◌, ap, subst, arith, append_assoc, length-append}
-use Rattle.safl_word.specs.Tokens.{is_blank, IsLexeme, name_like, number_like, sized_like, symbol_like, IsToken, IsLongest, IsTooLong, long_name, long_number, long_sized, Piece, Blank, Comment, Lexeme, text_of, text_of_all, EndsLine, StandsBefore, StandAll, IsForeign, BeginsTooLong, BreaksAtFirst}
+use Rattle.safl_word.specs.Tokens.{is_blank, IsLexeme, name_like, number_like, sized_like, symbol_like, IsToken, IsLongest, IsTooLong, long_name}
+use Rattle.safl_word.specs.Tokens.{long_number, long_sized, Piece, Blank, Comment, Lexeme, text_of, text_of_all, EndsLine, StandsBefore, StandAll}
+use Rattle.safl_word.specs.Tokens.{IsForeign, BeginsTooLong, BreaksAtFirst}
 use Rattle.safl_word.specs.declared.token.TokenKind.{TokenKind}
 use Rattle.safl_word.specs.declared.fault.Rule.{Rule}
 use Rattle.safl_word.specs.declared.fault.Rule.TheVariants as rules

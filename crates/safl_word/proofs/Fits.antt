@@ -18,12 +18,14 @@ where_is : (b : Bool) (m n : ℕ) → where_true b m ≡ Some n → b ≡ true
 where_is true m n e = refl
 where_is false m n e = none_some n e
 
-one_fits : (f : ℕ → Option ℕ) (g : Word → Word) (vs : List Word) (n : ℕ) → ((a : Word) → IsWord a → f a.width ≡ Some n → IsWord (g a)) → AreWords vs → one_width f (widths vs) ≡ Some n → IsWord (one_word g vs)
+one_fits : (f : ℕ → Option ℕ) (g : Word → Word) (vs : List Word) (n : ℕ) → ((a : Word) → IsWord a → f a.width ≡ Some n → IsWord (g a)) → AreWords vs →
+    one_width f (widths vs) ≡ Some n → IsWord (one_word g vs)
 one_fits f g [] n h w e = none_some n e
 one_fits f g (a ∷ []) n h w e = h a w.0 (only_where _ _ n e)
 one_fits f g (a ∷ (b ∷ vs)) n h w e = none_some n e
 
-two_fits : (f : ℕ → ℕ → Option ℕ) (g : Word → Word → Word) (vs : List Word) (n : ℕ) → ((a b : Word) → IsWord a → IsWord b → f a.width b.width ≡ Some n → IsWord (g a b)) → AreWords vs → two_widths f (widths vs) ≡ Some n → IsWord (two_words g vs)
+two_fits : (f : ℕ → ℕ → Option ℕ) (g : Word → Word → Word) (vs : List Word) (n : ℕ) →
+    ((a b : Word) → IsWord a → IsWord b → f a.width b.width ≡ Some n → IsWord (g a b)) → AreWords vs → two_widths f (widths vs) ≡ Some n → IsWord (two_words g vs)
 two_fits f g [] n h w e = none_some n e
 two_fits f g (a ∷ []) n h w e = none_some n e
 two_fits f g (a ∷ (b ∷ [])) n h w e = h a b w.0 w.1.0 (only_where _ _ n e)

@@ -33,7 +33,8 @@ one_case f g [] n h e = none_some n e
 one_case f g (a ∷ []) n h e = h a (only_where _ _ n e)
 one_case f g (a ∷ (b ∷ vs)) n h e = none_some n e
 
-pub two_case : (f : ℕ → ℕ → Option ℕ) (g : Word → Word → Word) (vs : List Word) (n : ℕ) → ((a b : Word) → f a.width b.width ≡ Some n → (g a b).width ≡ n) → two_widths f (widths vs) ≡ Some n → (two_words g vs).width ≡ n
+pub two_case : (f : ℕ → ℕ → Option ℕ) (g : Word → Word → Word) (vs : List Word) (n : ℕ) →
+    ((a b : Word) → f a.width b.width ≡ Some n → (g a b).width ≡ n) → two_widths f (widths vs) ≡ Some n → (two_words g vs).width ≡ n
 two_case f g [] n h e = none_some n e
 two_case f g (a ∷ []) n h e = none_some n e
 two_case f g (a ∷ (b ∷ [])) n h e = h a b (only_where _ _ n e)

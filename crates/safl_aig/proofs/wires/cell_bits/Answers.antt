@@ -130,7 +130,8 @@ three_made-requires-clause-room c =
     let q : c.args.cell.now.operands.items ≡ ys = sym c.as_slice.ensures.value ∙ shape_3 xs c.in-len3.len_at_least c.in-len3.len_below in
     let ready : AreReady n g table (cell_on op ys) = subst (λ (l : List Sig). AreReady n g table (cell_on op l)) q c.requires.ready in
     let room : RoomFor n g (cell_on op ys) = subst (λ (l : List Sig). RoomFor n g (cell_on op l)) q c.requires.room in
-    let d = subst (λ (ws : List ℕ). MayDo op g ws) (λ i. length (sym c.literals-test.ensures i) ∷ length (sym c.literals-in-len3.ensures i) ∷ length (sym c.literals-in-len3-2.ensures i) ∷ []) (may_do n g table op ys ready room) in
+    let d = subst (λ (ws : List ℕ). MayDo op g ws) (λ i. length (sym c.literals-test.ensures i) ∷ length (sym c.literals-in-len3.ensures i) ∷ length
+    (sym c.literals-in-len3-2.ensures i) ∷ []) (may_do n g table op ys ready room) in
     d
 
 pub three_made-requires-clause-test : goal.three_made-requires-clause-test
@@ -198,7 +199,8 @@ returns-in-len3-clause-built c =
     let q : c.args.cell.now.operands.items ≡ ys = sym c.as_slice.ensures.value ∙ shape_3 xs c.in-len3.len_at_least c.in-len3.len_below in
     let ready : AreReady n g table (cell_on op ys) = subst (λ (l : List Sig). AreReady n g table (cell_on op l)) q c.requires.ready in
     let room : RoomFor n g (cell_on op ys) = subst (λ (l : List Sig). RoomFor n g (cell_on op l)) q c.requires.room in
-    let b = subst (λ (ws : List ℕ). GrowsBy op g (c.three_made.new.g) ws) (λ i. length (c.literals-test.ensures i) ∷ length (c.literals-in-len3.ensures i) ∷ length (c.literals-in-len3-2.ensures i) ∷ []) c.three_made.ensures.built in
+    let b = subst (λ (ws : List ℕ). GrowsBy op g (c.three_made.new.g) ws)
+    (λ i. length (c.literals-test.ensures i) ∷ length (c.literals-in-len3.ensures i) ∷ length (c.literals-in-len3-2.ensures i) ∷ []) c.three_made.ensures.built in
     subst (λ (l : List Sig). GrowsFor n g (c.three_made.new.g) (cell_on op l)) (sym q) (grows_for n g table op ys ready (c.three_made.new.g) b)
 
 pub two_made-requires-clause-narrow : goal.two_made-requires-clause-narrow

@@ -11,4 +11,5 @@ pub returns-clause-built : goal.returns-clause-built
 returns-clause-built c = wire_grows c.args.net.now c.args.wire.0 (cell_of c.in-Some.cell.now) c.requires.netlist (sym c.in-Some.ensures) c.args.g.now c.cell_bits.new.g c.cell_bits.ensures.built
 
 pub returns-clause-made : goal.returns-clause-made
-returns-clause-made c = IfOk-weaker c.cell_bits.result _ _ (λ r h. wire_made c.args.net.now c.args.wire.0 (cell_of c.in-Some.cell.now) c.requires.netlist (sym c.in-Some.ensures) c.cell_bits.new.g c.args.table.now r.items h) c.cell_bits.ensures.made
+returns-clause-made c = IfOk-weaker c.cell_bits.result _ _ (λ r h. wire_made c.args.net.now c.args.wire.0 (cell_of c.in-Some.cell.now)
+    c.requires.netlist (sym c.in-Some.ensures) c.cell_bits.new.g c.args.table.now r.items h) c.cell_bits.ensures.made

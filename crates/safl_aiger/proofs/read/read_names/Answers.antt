@@ -23,7 +23,8 @@ returns-in-Ok-read_symbols-clause-reads c =
     let ls = lines (drop c.args.body.next c.args.text.now) in
     let new = named c.read_symbols.new.names in
     let p : SymbolsPass ls (unnamed (counts c.args.h)) new = subst (λ (x : Named). SymbolsPass ls x new) c.in-Ok.ensures c.in-Ok-read_symbols.ensures.ok in
-    subst (λ (a : Circuit). AigReads c.args.text.now a) (sym c.new.ensures) (reads c.args.text.now c.args.at (counts c.args.h) c.args.body c.read_symbols.new.names c.requires.outputs c.requires.begins c.requires.body p)
+    subst (λ (a : Circuit). AigReads c.args.text.now a) (sym c.new.ensures)
+    (reads c.args.text.now c.args.at (counts c.args.h) c.args.body c.read_symbols.new.names c.requires.outputs c.requires.begins c.requires.body p)
 
 pub returns-in-Err-Stopped-clause-fault : goal.returns-in-Err-Stopped-clause-fault
 returns-in-Err-Stopped-clause-fault c =

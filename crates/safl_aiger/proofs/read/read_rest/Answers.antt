@@ -17,4 +17,5 @@ pub returns-in-Err-Stopped-clause-fault : goal.returns-in-Err-Stopped-clause-fau
 returns-in-Err-Stopped-clause-fault c =
     let h = c.args.h in
     let stops = subst (λ e. Fails c.args.text.now (total (counts h)) c.args.at (line_kinds (counts h)) e) c.in-Err-Stopped.field-0-is c.in-Err-Stopped.ensures.err in
-    subst (λ (x : Stop). HasFault c.args.text.now x.rule (2 + x.place)) (sym c.in-Err-Stopped.s-is) (body_fault c.args.text.now c.args.at (counts h) c.in-Err-Stopped.s.rule c.in-Err-Stopped.s.place c.requires.begins stops)
+    subst (λ (x : Stop). HasFault c.args.text.now x.rule (2 + x.place)) (sym c.in-Err-Stopped.s-is)
+    (body_fault c.args.text.now c.args.at (counts h) c.in-Err-Stopped.s.rule c.in-Err-Stopped.s.place c.requires.begins stops)

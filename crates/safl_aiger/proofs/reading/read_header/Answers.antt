@@ -6,7 +6,8 @@ use Rattle.safl_aiger.proofs.Cutting.{decimals_once, decimals_small}
 use Rattle.safl_aiger.proofs.reading.read_header.Goals as goal
 
 pub returns-then-sum-from-clause-outputs : goal.returns-then-sum-from-clause-outputs
-returns-then-sum-from-clause-outputs c = decimals_small _ (c.in_ok-total.total ∷ c.in_ok-total.counts.inputs ∷ c.in_ok-total.counts.latches ∷ c.in_ok-total.counts.outputs ∷ c.in_ok-total.counts.ands ∷ []) 3 c.in_ok-total.counts.outputs c.in_ok-total.ensures.some refl
+returns-then-sum-from-clause-outputs c = decimals_small _ (c.in_ok-total.total ∷ c.in_ok-total.counts.inputs ∷ c.in_ok-total.counts.latches ∷
+    c.in_ok-total.counts.outputs ∷ c.in_ok-total.counts.ands ∷ []) 3 c.in_ok-total.counts.outputs c.in_ok-total.ensures.some refl
 
 -- the numbers of a header are those that were found
 found : (line : List ℕ) (ns : List ℕ) (c : Counts) → HasNumbers (take (length line - 4) (drop 4 line)) ns → IsHeader line c → ns ≡ total c ∷ c.inputs ∷ c.latches ∷ c.outputs ∷ c.ands ∷ []

@@ -10,7 +10,8 @@ use Rattle.safl_aiger.proofs.sections.read_ands.Goals as goal
 pub returns-in-Err-clause-err : goal.returns-in-Err-clause-err
 returns-in-Err-clause-err c =
     let i = c.loop-i.i in
-    stops_here c.args.text.now c.args.variables c.args.at c.loop-i.place (kinds_from And c.args.first c.args.count) (kinds_from And c.args.first i) (kinds_from And (suc (c.args.first + i)) (c.args.count - (i + 1))) (And (c.args.first + i)) (and_numbers c.args.first c.loop-i.ands.items) c.in-Err.rule i
+    stops_here c.args.text.now c.args.variables c.args.at c.loop-i.place (kinds_from And c.args.first c.args.count) (kinds_from And c.args.first i)
+    (kinds_from And (suc (c.args.first + i)) (c.args.count - (i + 1))) (And (c.args.first + i)) (and_numbers c.args.first c.loop-i.ands.items) c.in-Err.rule i
     (kinds_split And c.args.first i c.args.count c.loop-i-test.true) (kinds_long And c.args.first i) c.loop-i.invariant.passes c.in-Err.ensures.err
 
 pub loop-i-preserved : goal.loop-i-preserved
@@ -21,9 +22,15 @@ loop-i-preserved c =
     let all = c.loop-i.ands.items in
     let x : Lit × Lit = (record { 0 = s.found.second }, record { 0 = s.found.third }) in
     let e = c.in-Ok-push.ensures.items in
-    let q = passes_on c.args.text.now c.args.variables c.args.at c.loop-i.place s.next (kinds_from And c.args.first i) (And (c.args.first + i) ∷ []) (and_numbers c.args.first all) ((s.found.first ∷ s.found.second ∷ s.found.third ∷ []) ∷ []) j.passes c.in-Ok.ensures.ok in
-    let numbers : and_numbers c.args.first all ++ (s.found.first ∷ s.found.second ∷ s.found.third ∷ []) ∷ [] ≡ and_numbers c.args.first c.push.new.self.items = (λ k. and_numbers c.args.first all ++ ((c.in-Ok.ensures.good.0 ∙ ap (λ n. 2 * (c.args.first + n)) (sym j.count)) k ∷ s.found.second ∷ s.found.third ∷ []) ∷ []) ∙ sym (and_more c.args.first all x) ∙ ap (λ l. and_numbers c.args.first l) (sym e) in
+    let q = passes_on c.args.text.now c.args.variables c.args.at c.loop-i.place s.next (kinds_from And c.args.first i) (And (c.args.first + i) ∷ [])
+    (and_numbers c.args.first all) ((s.found.first ∷ s.found.second ∷ s.found.third ∷ []) ∷ []) j.passes c.in-Ok.ensures.ok in
+    let numbers : and_numbers c.args.first all ++ (s.found.first ∷ s.found.second ∷ s.found.third ∷ []) ∷ [] ≡ and_numbers c.args.first
+    c.push.new.self.items = (λ k. and_numbers c.args.first all ++
+    ((c.in-Ok.ensures.good.0 ∙ ap (λ n. 2 * (c.args.first + n)) (sym j.count)) k ∷ s.found.second ∷ s.found.third ∷ []) ∷ []) ∙ sym
+    (and_more c.args.first all x) ∙ ap (λ l. and_numbers c.args.first l) (sym e) in
     record {
       count = ap length e ∙ length_push all x ∙ ap (λ n. n + 1) j.count;
-      passes = subst (λ nss. Passes c.args.text.now c.args.variables c.args.at (kinds_from And c.args.first (i + 1)) nss s.next) numbers (subst (λ ws. Passes c.args.text.now c.args.variables c.args.at ws (and_numbers c.args.first all ++ (s.found.first ∷ s.found.second ∷ s.found.third ∷ []) ∷ []) s.next) (sym (kinds_more And c.args.first i)) q);
+      passes = subst (λ nss. Passes c.args.text.now c.args.variables c.args.at (kinds_from And c.args.first (i + 1)) nss s.next) numbers
+          (subst (λ ws. Passes c.args.text.now c.args.variables c.args.at ws
+          (and_numbers c.args.first all ++ (s.found.first ∷ s.found.second ∷ s.found.third ∷ []) ∷ []) s.next) (sym (kinds_more And c.args.first i)) q);
     }

@@ -20,7 +20,8 @@ returns-in-Err-read_latches-clause-err c =
     let l1 = kinds_long Input 1 h.inputs in
     let m1 = c.in-Ok.next in
     let p1 = c.in-Ok.ensures.ok in
-    fails_on text most at m1 one (two ++ (three ++ four)) n1 c.in-Err-read_latches.e c.later.result h.inputs l1 p1 (fails_before text most m1 two (three ++ four) c.in-Err-read_latches.e c.in-Err-read_latches.ensures.err) c.later.ensures
+    fails_on text most at m1 one (two ++ (three ++ four)) n1 c.in-Err-read_latches.e c.later.result h.inputs l1 p1
+    (fails_before text most m1 two (three ++ four) c.in-Err-read_latches.e c.in-Err-read_latches.ensures.err) c.later.ensures
 
 pub returns-in-Err-read_outputs-clause-err : goal.returns-in-Err-read_outputs-clause-err
 returns-in-Err-read_outputs-clause-err c =
@@ -43,7 +44,8 @@ returns-in-Err-read_outputs-clause-err c =
     let e = c.in-Err-read_outputs.e in
     let d = c.later-in-Err-read_outputs.result in
     subst (λ ws. Fails text most at ws d) (append_assoc one two (three ++ four))
-    (fails_on text most at m2 (one ++ two) (three ++ four) (n1 ++ n2) e d (h.inputs + h.latches) l2 p2 (fails_before text most m2 three four e c.in-Err-read_outputs.ensures.err) c.later-in-Err-read_outputs.ensures)
+    (fails_on text most at m2 (one ++ two) (three ++ four) (n1 ++ n2) e d (h.inputs + h.latches) l2 p2
+    (fails_before text most m2 three four e c.in-Err-read_outputs.ensures.err) c.later-in-Err-read_outputs.ensures)
 
 pub returns-in-Err-read_ands-clause-err : goal.returns-in-Err-read_ands-clause-err
 returns-in-Err-read_ands-clause-err c =
@@ -70,7 +72,8 @@ returns-in-Err-read_ands-clause-err c =
     let w3 : ((one ++ two) ++ three) ++ four ≡ one ++ (two ++ (three ++ four)) = append_assoc (one ++ two) three four ∙ append_assoc one two (three ++ four) in
     let e = c.in-Err-read_ands.e in
     let d = c.later-in-Err-read_ands.result in
-    subst (λ ws. Fails text most at ws d) w3 (fails_on text most at m3 ((one ++ two) ++ three) four ((n1 ++ n2) ++ n3) e d (h.inputs + h.latches + h.outputs) l3 p3 c.in-Err-read_ands.ensures.err c.later-in-Err-read_ands.ensures)
+    subst (λ ws. Fails text most at ws d) w3 (fails_on text most at m3 ((one ++ two) ++ three) four ((n1 ++ n2) ++ n3) e d
+    (h.inputs + h.latches + h.outputs) l3 p3 c.in-Err-read_ands.ensures.err c.later-in-Err-read_ands.ensures)
 
 pub returns-clause-ok : goal.returns-clause-ok
 returns-clause-ok c =

@@ -17,11 +17,13 @@ returns-in-Latch-clause-err c =
     let s = c.in-Some.symbol in
     let i = c.in-Some.ensures.some in
     let name = drop s.start c.args.line.now in
-    name_taken c.set_name-in-Latch.result c.args.line.now Latch s.place name (named c.args.names.now) c.requires i.few (i.is ∙ ap (λ x. symbol_line x s.place name) c.in-Latch.is) c.set_name-in-Latch.ensures.err
+    name_taken c.set_name-in-Latch.result c.args.line.now Latch s.place name (named c.args.names.now) c.requires i.few
+    (i.is ∙ ap (λ x. symbol_line x s.place name) c.in-Latch.is) c.set_name-in-Latch.ensures.err
 
 pub returns-in-Output-clause-err : goal.returns-in-Output-clause-err
 returns-in-Output-clause-err c =
     let s = c.in-Some.symbol in
     let i = c.in-Some.ensures.some in
     let name = drop s.start c.args.line.now in
-    name_taken c.set_name-in-Output.result c.args.line.now Output s.place name (named c.args.names.now) c.requires i.few (i.is ∙ ap (λ x. symbol_line x s.place name) c.in-Output.is) c.set_name-in-Output.ensures.err
+    name_taken c.set_name-in-Output.result c.args.line.now Output s.place name (named c.args.names.now) c.requires i.few
+    (i.is ∙ ap (λ x. symbol_line x s.place name) c.in-Output.is) c.set_name-in-Output.ensures.err

@@ -20,7 +20,8 @@ returns-in-Err-Refused-clause-err c =
     let end = c.line_end-end.result in
     let line = take (end - place) (drop place text) in
     let left = lines (drop (end + 1) text) in
-    let u : Underway ls c.args.before old mid (line ∷ left) c.loop-place.count = subst (λ (x : List (List ℕ)). Underway ls c.args.before old mid x c.loop-place.count) c.line_end-end.ensures.line c.loop-place.invariant in
+    let u : Underway ls c.args.before old mid (line ∷ left) c.loop-place.count = subst
+    (λ (x : List (List ℕ)). Underway ls c.args.before old mid x c.loop-place.count) c.line_end-end.ensures.line c.loop-place.invariant in
     let r = subst (λ e. IsRefused line mid e) c.in-Err-Refused.field-0-is c.in-Err-Refused.ensures.err in
     underway_fails ls c.args.before old mid line left c.loop-place.count u (not_end (pointwise eqb) line c.as_slice.result.now refl c.if-eq.ensures c.as_slice.ensures) r
 
@@ -34,5 +35,6 @@ loop-place-preserved c =
     let end = c.line_end-end.result in
     let line = take (end - place) (drop place text) in
     let left = lines (drop (end + 1) text) in
-    let u : Underway ls c.args.before old mid (line ∷ left) c.loop-place.count = subst (λ (x : List (List ℕ)). Underway ls c.args.before old mid x c.loop-place.count) c.line_end-end.ensures.line c.loop-place.invariant in
+    let u : Underway ls c.args.before old mid (line ∷ left) c.loop-place.count = subst
+    (λ (x : List (List ℕ)). Underway ls c.args.before old mid x c.loop-place.count) c.line_end-end.ensures.line c.loop-place.invariant in
     underway_step ls c.args.before old mid (named c.name_place.new.names) line left c.loop-place.count u c.in-Ok.ensures.ok

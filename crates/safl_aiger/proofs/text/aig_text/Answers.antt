@@ -9,8 +9,10 @@ returns c =
     let a = c.args.a.now in
     let i = c.inputs-inputs.ensures.count in
     let l = c.latches-latches.ensures in
-    sections (header_line a ∷ []) (input_text 1 a.inputs) (latch_text (1 + a.inputs) a.nexts) (output_text a.outputs) (and_text (base a) a.ands) (symbols_text 105 0 a.input_names) (symbols_text 108 0 a.latch_names) (symbols_text 111 0 a.output_names)
-    c.new-out.result.items c.push_header.new.out.items c.push_inputs.new.out.items c.push_latches.new.out.items c.push_outputs.new.out.items c.push_ands.new.out.items c.push_symbols.new.out.items c.push_symbols-2.new.out.items c.push_symbols-3.new.out.items
+    sections (header_line a ∷ []) (input_text 1 a.inputs) (latch_text (1 + a.inputs) a.nexts) (output_text a.outputs) (and_text (base a) a.ands)
+    (symbols_text 105 0 a.input_names) (symbols_text 108 0 a.latch_names) (symbols_text 111 0 a.output_names)
+    c.new-out.result.items c.push_header.new.out.items c.push_inputs.new.out.items c.push_latches.new.out.items c.push_outputs.new.out.items
+    c.push_ands.new.out.items c.push_symbols.new.out.items c.push_symbols-2.new.out.items c.push_symbols-3.new.out.items
     c.new-out.ensures.items c.in_ok-push_header.ensures
     (c.in_ok-push_inputs.ensures ∙ ap (λ n. c.push_header.new.out.items ++ joined (input_text 1 n)) i)
     (c.in_ok-push_latches.ensures ∙ (λ k. c.push_inputs.new.out.items ++ joined (latch_text (1 + i k) (c.next_literals.ensures k))))

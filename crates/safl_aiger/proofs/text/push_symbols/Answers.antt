@@ -9,5 +9,6 @@ loop-i-preserved c =
     let i = c.loop-i.i in
     let names = names_of c.args.names.now in
     let at : slice_get names i ≡ Some c.deref.result.now = names_at c.args.names.now i c.index-names-i.result c.loop-i-test.true ∙ ap (λ x. Some x) (sym c.deref.ensures.value) in
-    joined_step c.loop-i.out.items c.push_symbol.new.out.items (c.args.out.now.items ++ joined (symbols_text c.args.letter 0 names)) (symbol_text c.args.letter i c.deref.result.now) (symbols_text c.args.letter (i + 1) (drop (i + 1) names)) c.in_ok-push_symbol.ensures
+    joined_step c.loop-i.out.items c.push_symbol.new.out.items (c.args.out.now.items ++ joined (symbols_text c.args.letter 0 names))
+    (symbol_text c.args.letter i c.deref.result.now) (symbols_text c.args.letter (i + 1) (drop (i + 1) names)) c.in_ok-push_symbol.ensures
     (ap (λ l. c.loop-i.out.items ++ joined l) (sym (symbols_step c.args.letter i names c.deref.result.now at)) ∙ c.loop-i.invariant)

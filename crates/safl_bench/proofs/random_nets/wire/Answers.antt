@@ -5,7 +5,8 @@ use Rattle.safl_bench.proofs.Wires.{sized, made_bits, one_more, last_in, same_ou
 use Rattle.safl_bench.proofs.random_nets.wire.Goals as goal
 
 pub temp-requires-clause-fits : goal.temp-requires-clause-fits
-temp-requires-clause-fits c = sized_fits c.args.net.now c.args.op c.args.operands.now (ones (length c.args.operands.now)) 1 (sized c.args.net.now c.requires.bits c.args.operands.now c.requires.known) c.requires.fits
+temp-requires-clause-fits c = sized_fits c.args.net.now c.args.op c.args.operands.now (ones (length c.args.operands.now)) 1
+    (sized c.args.net.now c.requires.bits c.args.operands.now c.requires.known) c.requires.fits
 
 pub returns-clause-bits : goal.returns-clause-bits
 returns-clause-bits c =

@@ -29,4 +29,5 @@ returns c =
     let h = w / 2 in
     let g = c.in_ok-low.ensures.gives (w ∷ []) h (c.requires.first, tt) (low_width w h (omega arith) (omega arith) c.requires.most) in
     let k = c.in_ok-high.ensures.gives (w ∷ []) (w - h) (kept g w c.args.b c.requires.second, tt) (high_width w h (omega arith) (omega arith) c.requires.most) in
-    ok_on c.wire-3.new.net 1 w c.wire-3.result (gives_on g k) (c.wire-3.ensures.gives (h ∷ (w - h) ∷ []) w (kept k h c.in_ok-low.low g.has, (k.has, tt)) (halves_width w h (omega arith) (omega arith) (omega arith)))
+    ok_on c.wire-3.new.net 1 w c.wire-3.result (gives_on g k) (c.wire-3.ensures.gives (h ∷ (w - h) ∷ []) w
+    (kept k h c.in_ok-low.low g.has, (k.has, tt)) (halves_width w h (omega arith) (omega arith) (omega arith)))

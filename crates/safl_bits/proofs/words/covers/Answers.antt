@@ -18,6 +18,7 @@ loop-i-preserved c =
       built = grows_within (4 * (i + 1)) (grows_on j.built built) (omega arith);
       fits = c.in_ok-holds.ensures.fits;
       value = λ m h. c.in_ok-holds.ensures.value m h
-          ∙ covers_step (2 ^ i) (shown m (take i a)) (shown m (take i b)) (on m c.loop-i.holds) (on m (at a i)) (on m (at b i)) (taken_lt m a i (omega arith)) (taken_lt m b i (omega arith)) (j.value m (holds_before built h))
+          ∙ covers_step (2 ^ i) (shown m (take i a)) (shown m (take i b)) (on m c.loop-i.holds) (on m (at a i)) (on m (at b i))
+          (taken_lt m a i (omega arith)) (taken_lt m b i (omega arith)) (j.value m (holds_before built h))
           ∙ sym (λ k. nat_le (shown_more m b i lb k) (shown_more m a i l k));
     }

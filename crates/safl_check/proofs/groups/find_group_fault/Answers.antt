@@ -15,8 +15,12 @@ loop-member-init c = group_next c.args.defs.now c.args.number c.index-defs-numbe
 
 pub returns-in-Some-find_head_fault : goal.returns-in-Some-find_head_fault
 returns-in-Some-find_head_fault c =
-    joined_stops c.args.defs.now c.loop-member.member c.index-defs-number.result.width c.index-defs-member.result c.in-Some-find_head_fault.fault (group_fault_at (shown_definitions c.args.defs.now) c.args.number) c.loop-member-test.true c.index-defs-member.is c.if-not-def.false c.loop-member.invariant c.in-Some-find_head_fault.ensures
+    joined_stops c.args.defs.now c.loop-member.member c.index-defs-number.result.width c.index-defs-member.result c.in-Some-find_head_fault.fault
+    (group_fault_at (shown_definitions c.args.defs.now) c.args.number) c.loop-member-test.true c.index-defs-member.is c.if-not-def.false
+    c.loop-member.invariant c.in-Some-find_head_fault.ensures
 
 pub loop-member-preserved : goal.loop-member-preserved
 loop-member-preserved c =
-    joined_next c.args.defs.now c.loop-member.member c.index-defs-number.result.width c.index-defs-member.result (group_fault_at (shown_definitions c.args.defs.now) c.args.number) c.loop-member-test.true c.index-defs-member.is c.if-not-def.false c.loop-member.invariant c.in_default-find_head_fault.ensures
+    joined_next c.args.defs.now c.loop-member.member c.index-defs-number.result.width c.index-defs-member.result
+    (group_fault_at (shown_definitions c.args.defs.now) c.args.number) c.loop-member-test.true c.index-defs-member.is c.if-not-def.false
+    c.loop-member.invariant c.in_default-find_head_fault.ensures

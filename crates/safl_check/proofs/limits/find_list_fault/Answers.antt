@@ -14,7 +14,8 @@ pub returns-in-Some : goal.returns-in-Some
 returns-in-Some c =
     let found = c.in-Some.ensures.lookup in
     ap (λ (f : Fault). Some f) c.past_limit.ensures
-    ∙ sym (ap (λ (o : Option ℕ). or_else (limit 2 max_params o) (limit 3 max_bindings c.args.long_let)) (excess_some shown_parameter (λ (p : Parameter). p.place) c.args.params.now 16 c.in-Some.param.now found.0 found.1))
+    ∙ sym (ap (λ (o : Option ℕ). or_else (limit 2 max_params o) (limit 3 max_bindings c.args.long_let))
+    (excess_some shown_parameter (λ (p : Parameter). p.place) c.args.params.now 16 c.in-Some.param.now found.0 found.1))
 
 pub returns-in_err-place : goal.returns-in_err-place
 returns-in_err-place c =

@@ -12,4 +12,5 @@ pub returns-in_err-functions-clause-refused : goal.returns-in_err-functions-clau
 returns-in_err-functions-clause-refused c =
     let p = err_from_is_err_and c.from_residual-in_err-functions.result c.from_residual-in_err-functions.ensures.1 in
     let shallow = c.are_shallow.ensures.0 c.if-not-are_shallow.false in
-    rw (p.1, p.2) (refused_shallow (shown_definitions c.args.defs.now) c.in_err-functions.field-0.0 shallow (refused_functions (shown_definitions c.args.defs.now) c.in_err-functions.field-0.0 c.in_ok-heads.ensures.within c.in_err-functions.ensures.says))
+    rw (p.1, p.2) (refused_shallow (shown_definitions c.args.defs.now) c.in_err-functions.field-0.0 shallow
+    (refused_functions (shown_definitions c.args.defs.now) c.in_err-functions.field-0.0 c.in_ok-heads.ensures.within c.in_err-functions.ensures.says))

@@ -17,17 +17,20 @@ sites_of-requires c =
 pub new-requires : goal.new-requires
 new-requires c =
     let sites = c.in_ok-sites.ensures ∙ ap (λ (l : List Function). all_sites 0 (map shown_function l)) c.deref.ensures.value in
-    let form = form_shown c.walk_law.ensures (shown_definitions c.args.defs.now) c.args.functions.items c.in_ok-sites.sites.items c.requires.formed c.requires.within c.requires.functions (sym c.in_default.ensures) sites in
+    let form = form_shown c.walk_law.ensures (shown_definitions c.args.defs.now) c.args.functions.items c.in_ok-sites.sites.items c.requires.formed
+    c.requires.within c.requires.functions (sym c.in_default.ensures) sites in
     c.forms_are_checked_law.ensures (shown_definitions c.args.defs.now) _ c.requires.formed c.requires.shallow form c.requires.slots
 
 pub returns-clause-form : goal.returns-clause-form
 returns-clause-form c =
     let sites = c.in_ok-sites.ensures ∙ ap (λ (l : List Function). all_sites 0 (map shown_function l)) c.deref.ensures.value in
-    let form = form_shown c.walk_law.ensures (shown_definitions c.args.defs.now) c.args.functions.items c.in_ok-sites.sites.items c.requires.formed c.requires.within c.requires.functions (sym c.in_default.ensures) sites in
+    let form = form_shown c.walk_law.ensures (shown_definitions c.args.defs.now) c.args.functions.items c.in_ok-sites.sites.items c.requires.formed
+    c.requires.within c.requires.functions (sym c.in_default.ensures) sites in
     subst (λ (p : CheckedProgram). IsFormOf (shown_definitions c.args.defs.now) (shown p)) (sym c.new.ensures) form
 
 pub returns-clause-checked : goal.returns-clause-checked
 returns-clause-checked c =
     let sites = c.in_ok-sites.ensures ∙ ap (λ (l : List Function). all_sites 0 (map shown_function l)) c.deref.ensures.value in
-    let form = form_shown c.walk_law.ensures (shown_definitions c.args.defs.now) c.args.functions.items c.in_ok-sites.sites.items c.requires.formed c.requires.within c.requires.functions (sym c.in_default.ensures) sites in
+    let form = form_shown c.walk_law.ensures (shown_definitions c.args.defs.now) c.args.functions.items c.in_ok-sites.sites.items c.requires.formed
+    c.requires.within c.requires.functions (sym c.in_default.ensures) sites in
     subst IsChecked (sym c.new.ensures) (c.forms_are_checked_law.ensures (shown_definitions c.args.defs.now) _ c.requires.formed c.requires.shallow form c.requires.slots)

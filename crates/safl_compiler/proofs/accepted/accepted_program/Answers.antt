@@ -21,5 +21,6 @@ returns-clause-few c f is =
     let ds = shown_program c.in_ok-program.program in
     let checked = c.in_ok-checked.checked in
     let form = subst (λ (l : List Def). IsFormOf (shown_definitions l) (shown checked)) c.deref.ensures.value c.in_ok-checked.ensures.form in
-    let few : (program_in (shown checked)).sites ≤ max_sites = subst (λ (C : Program). C.sites ≤ max_sites) (c.forms_are_numbered_law.ensures checked).program c.in_ok-checked.ensures.checked.limits.sites in
+    let few : (program_in (shown checked)).sites ≤ max_sites = subst (λ (C : Program). C.sites ≤ max_sites)
+    (c.forms_are_numbered_law.ensures checked).program c.in_ok-checked.ensures.checked.limits.sites in
     subst (λ (x : Form). (program_in x).sites ≤ max_sites) (sym (c.one_form_law.ensures ds f (shown checked) is form)) few

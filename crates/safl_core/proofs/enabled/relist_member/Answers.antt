@@ -29,7 +29,8 @@ returns c =
       called = refl;
       waits = rights_same (λ j. is_some (asked C args (calls_of s) j)) e.accepts.within;
       idle = rights_same (λ v. is_idle ((calls_of s).unit v)) e.accepts.opened;
-      finishes = rights_put (λ g. can C args (calls_of s) (Finish g)) e.finishes c.put.new.self f c.finishes.result c.put.ensures (finish_test h f u c.finishes.result c.unit-unit.ensures.number finishes);
+      finishes = rights_put (λ g. can C args (calls_of s) (Finish g)) e.finishes c.put.new.self f c.finishes.result c.put.ensures
+          (finish_test h f u c.finishes.result c.unit-unit.ensures.number finishes);
       returns = rights_same (λ j. can C args (calls_of s) (Return j)) e.returns;
       loops = rights_put (λ g. can C args (calls_of s) (LoopInto g)) e.loops c.put-2.new.self f c.loops.result c.put-2.ensures (loop_test h f u c.loops.result c.unit-unit.ensures.number loops);
       busy = rights_same (λ v. not (is_idle ((calls_of s).unit v))) e.busy;

@@ -20,7 +20,8 @@ refresh-requires-clause-can c =
       | then-k-eq0 w ↦ accept_words h c.args.k c.requires.can.0 c.if-k-eq0.words c.requires.can.1 (λ q. w.words-is ∙ w.again-words.ensures) (λ q. absurd (q w.if-k-eq0.true))
       | else-k-eq0 w ↦ accept_words h c.args.k c.requires.can.0 c.if-k-eq0.words c.requires.can.1 (λ q. absurd (w.if-k-eq0.false q)) (λ q. w.asked-words.ensures ∙ ap Some (sym w.words-is))
     ] in
-    can_refresh c.args.c.now c.args.opening.now c.requires.kept.0 c.args.state.now _ h (core.Accept c.args.k) c.requires.can _ c.accept.ensures (ap (core.accept C s c.args.k) (sym words)) c.unit_for-unit.result c.unit_for-unit.ensures.within
+    can_refresh c.args.c.now c.args.opening.now c.requires.kept.0 c.args.state.now _ h (core.Accept c.args.k) c.requires.can _ c.accept.ensures
+    (ap (core.accept C s c.args.k) (sym words)) c.unit_for-unit.result c.unit_for-unit.ensures.within
 
 pub returns-clause-leads : goal.returns-clause-leads
 returns-clause-leads c =
@@ -31,8 +32,10 @@ returns-clause-leads c =
       | then-k-eq0 w ↦ accept_words h c.args.k c.requires.can.0 c.if-k-eq0.words c.requires.can.1 (λ q. w.words-is ∙ w.again-words.ensures) (λ q. absurd (q w.if-k-eq0.true))
       | else-k-eq0 w ↦ accept_words h c.args.k c.requires.can.0 c.if-k-eq0.words c.requires.can.1 (λ q. absurd (w.if-k-eq0.false q)) (λ q. w.asked-words.ensures ∙ ap Some (sym w.words-is))
     ] in
-    leads c.args.c.now c.args.opening.now (core.Accept c.args.k) c.refresh.result c.args.state.now _ _ _ _ c.accept.ensures c.refresh.ensures.refreshes (ap (core.accept C s c.args.k) (sym words)) (λ v q. absurd q) (λ v ne.
-    after_accept C c.args.opening.now (good h) s (inv h) c.args.state.now.answers.items c.args.state.now.wants.each.items h.known c.args.k c.if-k-eq0.words words v (λ q. ne (q ∙ sym c.unit_for-unit.ensures.number)))
+    leads c.args.c.now c.args.opening.now (core.Accept c.args.k) c.refresh.result c.args.state.now _ _ _ _ c.accept.ensures
+    c.refresh.ensures.refreshes (ap (core.accept C s c.args.k) (sym words)) (λ v q. absurd q) (λ v ne.
+    after_accept C c.args.opening.now (good h) s (inv h) c.args.state.now.answers.items c.args.state.now.wants.each.items h.known c.args.k
+    c.if-k-eq0.words words v (λ q. ne (q ∙ sym c.unit_for-unit.ensures.number)))
 
 pub refresh-requires-clause-plan : goal.refresh-requires-clause-plan
 refresh-requires-clause-plan c = subst (λ (n : ℕ). IsPlan (program_of c.args.c.now) c.args.plan.now n) (sym (ap (λ (x : List Kept). length x) c.accept.ensures.kept)) c.requires.plan
@@ -47,8 +50,10 @@ returns-clause-recalls c =
       | else-k-eq0 w ↦ accept_words h c.args.k c.requires.can.0 c.if-k-eq0.words c.requires.can.1 (λ q. absurd (w.if-k-eq0.false q)) (λ q. w.asked-words.ensures ∙ ap Some (sym w.words-is))
     ] in
     let local : Local C s (core.accept C s c.args.k (Some c.if-k-eq0.words)) c.unit_for-unit.result c.unit_for-unit.result =
-    subst (λ n. Local C s (core.accept C s c.args.k (Some c.if-k-eq0.words)) n c.unit_for-unit.result) (sym c.unit_for-unit.ensures.number) (local_accept C c.args.opening.now s c.args.k c.if-k-eq0.words c.unit_for-unit.result words) in
-    λ v. c.refresh.ensures.recalls v (λ ne. recalls_step (good h) c.requires.plan c.args.state.now _ _ c.unit_for-unit.result c.unit_for-unit.result v c.accept.ensures local ne ne (c.requires.recalls v))
+    subst (λ n. Local C s (core.accept C s c.args.k (Some c.if-k-eq0.words)) n c.unit_for-unit.result) (sym c.unit_for-unit.ensures.number)
+    (local_accept C c.args.opening.now s c.args.k c.if-k-eq0.words c.unit_for-unit.result words) in
+    λ v. c.refresh.ensures.recalls v (λ ne. recalls_step (good h) c.requires.plan c.args.state.now _ _ c.unit_for-unit.result c.unit_for-unit.result v
+    c.accept.ensures local ne ne (c.requires.recalls v))
 
 pub returns-clause-cells : goal.returns-clause-cells
 returns-clause-cells c = c.refresh.ensures.cells ∙ ap (λ (x : List Kept). length x) c.accept.ensures.kept

@@ -30,7 +30,8 @@ returns-clause-leads c =
     let h = c.requires.kept.1 in
     let can = c.requires.can in
     let is = finish_is h c.args.f can.0 can.1 can.2 can.3 can.4 c.unit-unit.result c.served-serves.result _ c.unit-unit.ensures.number c.served-serves.ensures c.in-Some.ensures in
-    leads c.args.c.now c.args.opening.now (Finish c.args.f) c.refresh.result c.args.state.now _ _ _ _ c.end.ensures c.refresh.ensures.refreshes is (λ v q. subst (λ n. IsSpan C n c.refresh.result) (sym (q ∙ sym c.unit-unit.ensures.number)) c.refresh.ensures.own) (λ v ne.
+    leads c.args.c.now c.args.opening.now (Finish c.args.f) c.refresh.result c.args.state.now _ _ _ _ c.end.ensures c.refresh.ensures.refreshes is
+    (λ v q. subst (λ n. IsSpan C n c.refresh.result) (sym (q ∙ sym c.unit-unit.ensures.number)) c.refresh.ensures.own) (λ v ne.
     after_end C c.args.opening.now (good h) s (inv h) c.args.state.now.answers.items c.args.state.now.wants.each.items h.known c.unit-unit.result _ v ne)
 
 pub refresh-requires-clause-plan : goal.refresh-requires-clause-plan

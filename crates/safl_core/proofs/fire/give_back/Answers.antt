@@ -26,8 +26,10 @@ returns-then-k-eq0-clause-leads c =
     let h = c.requires.kept.1 in
     let can = c.requires.can in
     let word = return_is h c.args.k can.0 can.1 c.unit_for-unit.result _ c.unit_for-unit.ensures.number c.in-Some.ensures in
-    leads_unseen c.args.c.now c.args.opening.now (core.Return c.args.k) c.none.result c.args.state.now _ _ c.none.ensures.end c.give_back.ensures (return_next h c.args.k can.0 can.1 _ word) (λ v q. absurd q) (λ v.
-    after_return C c.args.opening.now (good h) s (inv h) c.args.state.now.answers.items c.args.state.now.wants.each.items h.known c.args.k c.in-Some.word (can.1 ∙ ap (core.Delivers c.args.k) (sym word)) v (λ pos q. absurd (omega (arith, pos, c.if-k-eq0.true))))
+    leads_unseen c.args.c.now c.args.opening.now (core.Return c.args.k) c.none.result c.args.state.now _ _ c.none.ensures.end c.give_back.ensures
+    (return_next h c.args.k can.0 can.1 _ word) (λ v q. absurd q) (λ v.
+    after_return C c.args.opening.now (good h) s (inv h) c.args.state.now.answers.items c.args.state.now.wants.each.items h.known c.args.k
+    c.in-Some.word (can.1 ∙ ap (core.Delivers c.args.k) (sym word)) v (λ pos q. absurd (omega (arith, pos, c.if-k-eq0.true))))
 
 pub returns-then-k-eq0-clause-recalls : goal.returns-then-k-eq0-clause-recalls
 returns-then-k-eq0-clause-recalls c =
@@ -38,7 +40,8 @@ returns-then-k-eq0-clause-recalls c =
     let can = c.requires.can in
     let word = return_is h k can.0 can.1 c.unit_for-unit.result _ c.unit_for-unit.ensures.number c.in-Some.ensures in
     let later = core.give_back C s k (core.Delivers k c.in-Some.word) in
-    λ v. recalls_return (good h) c.requires.plan c.args.state.now _ k c.in-Some.word (unit_for C k) v c.give_back.ensures (λ pos. absurd (omega (arith, pos, c.if-k-eq0.true))) (λ q. q) (c.requires.recalls v)
+    λ v. recalls_return (good h) c.requires.plan c.args.state.now _ k c.in-Some.word (unit_for C k) v c.give_back.ensures
+    (λ pos. absurd (omega (arith, pos, c.if-k-eq0.true))) (λ q. q) (c.requires.recalls v)
 
 pub returns-then-k-eq0-clause-cells : goal.returns-then-k-eq0-clause-cells
 returns-then-k-eq0-clause-cells c = ap (λ (x : List Kept). length x) c.give_back.ensures.kept
@@ -48,7 +51,8 @@ renew-requires-clause-can c =
     let h = c.requires.kept.1 in
     let can = c.requires.can in
     let word = return_is h c.args.k can.0 can.1 c.unit_for-unit.result _ c.unit_for-unit.ensures.number c.in-Some.ensures in
-    can_refresh c.args.c.now c.args.opening.now c.requires.kept.0 c.args.state.now _ h (core.Return c.args.k) can _ c.give_back.ensures (return_next h c.args.k can.0 can.1 _ word) _ (omega (arith, c.unit-waiting.ensures.within, c.caller-caller.ensures.within))
+    can_refresh c.args.c.now c.args.opening.now c.requires.kept.0 c.args.state.now _ h (core.Return c.args.k) can _ c.give_back.ensures
+    (return_next h c.args.k can.0 can.1 _ word) _ (omega (arith, c.unit-waiting.ensures.within, c.caller-caller.ensures.within))
 
 pub renew-requires-clause-plan : goal.renew-requires-clause-plan
 renew-requires-clause-plan c = subst (λ (n : ℕ). IsPlan (program_of c.args.c.now) c.args.plan.now n) (sym (ap (λ (x : List Kept). length x) c.give_back.ensures.kept)) c.requires.plan
@@ -65,7 +69,8 @@ renew-requires-clause-stood c =
     let pos : 0 < k = omega (arith, c.if-k-eq0.false) in
     let waiting : c.unit-waiting.result ≡ C.unit (C.caller k) = c.unit-waiting.ensures.number ∙ ap C.unit c.caller-caller.ensures.number in
     subst (λ n. CanRenew C c.args.plan.now (Some k) c.give_back.new.state n) (sym waiting)
-    (can_renew (good h) c.args.state.now c.give_back.new.state k c.in-Some.word (inv h) pos (can.1 ∙ ap (core.Delivers k) (sym word)) c.give_back.ensures (h.known (C.unit (C.caller k))).wants (c.requires.recalls (C.unit (C.caller k))))
+    (can_renew (good h) c.args.state.now c.give_back.new.state k c.in-Some.word (inv h) pos (can.1 ∙ ap (core.Delivers k) (sym word))
+    c.give_back.ensures (h.known (C.unit (C.caller k))).wants (c.requires.recalls (C.unit (C.caller k))))
 
 pub returns-clause-leads : goal.returns-clause-leads
 returns-clause-leads c =
@@ -75,8 +80,10 @@ returns-clause-leads c =
     let can = c.requires.can in
     let word = return_is h c.args.k can.0 can.1 c.unit_for-unit.result _ c.unit_for-unit.ensures.number c.in-Some.ensures in
     let waiting : c.unit-waiting.result ≡ C.unit (C.caller c.args.k) = c.unit-waiting.ensures.number ∙ ap C.unit c.caller-caller.ensures.number in
-    leads c.args.c.now c.args.opening.now (core.Return c.args.k) c.renew.result c.args.state.now _ _ _ _ c.give_back.ensures c.renew.ensures.refreshes (return_next h c.args.k can.0 can.1 _ word) (λ v q. absurd q) (λ v ne.
-    after_return C c.args.opening.now (good h) s (inv h) c.args.state.now.answers.items c.args.state.now.wants.each.items h.known c.args.k c.in-Some.word (can.1 ∙ ap (core.Delivers c.args.k) (sym word)) v (λ pos q. ne (q ∙ sym waiting)))
+    leads c.args.c.now c.args.opening.now (core.Return c.args.k) c.renew.result c.args.state.now _ _ _ _ c.give_back.ensures c.renew.ensures.refreshes
+    (return_next h c.args.k can.0 can.1 _ word) (λ v q. absurd q) (λ v ne.
+    after_return C c.args.opening.now (good h) s (inv h) c.args.state.now.answers.items c.args.state.now.wants.each.items h.known c.args.k
+    c.in-Some.word (can.1 ∙ ap (core.Delivers c.args.k) (sym word)) v (λ pos q. ne (q ∙ sym waiting)))
 
 pub returns-clause-recalls : goal.returns-clause-recalls
 returns-clause-recalls c =
@@ -88,7 +95,8 @@ returns-clause-recalls c =
     let word = return_is h k can.0 can.1 c.unit_for-unit.result _ c.unit_for-unit.ensures.number c.in-Some.ensures in
     let later = core.give_back C s k (core.Delivers k c.in-Some.word) in
     let waiting : c.unit-waiting.result ≡ C.unit (C.caller k) = c.unit-waiting.ensures.number ∙ ap C.unit c.caller-caller.ensures.number in
-    λ v. c.renew.ensures.recalls v (λ ne. recalls_return (good h) c.requires.plan c.args.state.now _ k c.in-Some.word c.unit-waiting.result v c.give_back.ensures (λ pos. waiting) (λ q. absurd (ne q)) (c.requires.recalls v))
+    λ v. c.renew.ensures.recalls v (λ ne. recalls_return (good h) c.requires.plan c.args.state.now _ k c.in-Some.word c.unit-waiting.result v
+    c.give_back.ensures (λ pos. waiting) (λ q. absurd (ne q)) (c.requires.recalls v))
 
 pub returns-clause-cells : goal.returns-clause-cells
 returns-clause-cells c = c.renew.ensures.cells ∙ ap (λ (x : List Kept). length x) c.give_back.ensures.kept

@@ -36,7 +36,8 @@ returns-clause-leads c =
     let h = c.requires.kept.1 in
     let can = c.requires.can in
     let is = loop_is h c.args.h can.0 can.1 c.unit-unit.result _ c.restart.ensures.args c.unit-unit.ensures.number refl c.restart.ensures.passed in
-    leads c.args.c.now c.args.opening.now (LoopInto c.args.h) c.refresh.result c.args.state.now _ _ _ _ c.restart.ensures.steps c.refresh.ensures.refreshes is (λ v q. subst (λ n. IsSpan C n c.refresh.result) (sym (q ∙ sym c.unit-unit.ensures.number)) c.refresh.ensures.own) (λ v ne.
+    leads c.args.c.now c.args.opening.now (LoopInto c.args.h) c.refresh.result c.args.state.now _ _ _ _ c.restart.ensures.steps
+    c.refresh.ensures.refreshes is (λ v q. subst (λ n. IsSpan C n c.refresh.result) (sym (q ∙ sym c.unit-unit.ensures.number)) c.refresh.ensures.own) (λ v ne.
     after_end C c.args.opening.now (good h) s (inv h) c.args.state.now.answers.items c.args.state.now.wants.each.items h.known c.unit-unit.result _ v ne)
 
 pub refresh-requires-clause-plan : goal.refresh-requires-clause-plan
@@ -48,7 +49,8 @@ returns-clause-recalls c =
     let s = calls_of c.args.state.now in
     let h = c.requires.kept.1 in
     let local = local_end C s c.unit-unit.result _ c.unit-unit.result in
-    λ v. c.refresh.ensures.recalls v (λ ne. recalls_step (good h) c.requires.plan c.args.state.now _ _ c.unit-unit.result c.unit-unit.result v c.restart.ensures.steps local ne ne (c.requires.recalls v))
+    λ v. c.refresh.ensures.recalls v (λ ne. recalls_step (good h) c.requires.plan c.args.state.now _ _ c.unit-unit.result c.unit-unit.result v
+    c.restart.ensures.steps local ne ne (c.requires.recalls v))
 
 pub returns-clause-cells : goal.returns-clause-cells
 returns-clause-cells c = c.refresh.ensures.cells ∙ ap (λ (x : List Kept). length x) c.restart.ensures.steps.kept

@@ -21,4 +21,5 @@ loop-k-preserved c =
     record { below = both.0; above = both.1 }
 
 pub returns-clause-clears : goal.returns-clause-clears
-returns-clause-clears c = clear_back (program_of c.args.c.now) c.args.u c.own_sites-own.result c.own_sites-own.ensures c.loop-k.k c.args.asks.now c.loop-k.asks (omega (arith, c.loop-k-test.false)) c.loop-k.invariant.below c.loop-k.invariant.above
+returns-clause-clears c = clear_back (program_of c.args.c.now) c.args.u c.own_sites-own.result c.own_sites-own.ensures c.loop-k.k c.args.asks.now
+    c.loop-k.asks (omega (arith, c.loop-k-test.false)) c.loop-k.invariant.below c.loop-k.invariant.above

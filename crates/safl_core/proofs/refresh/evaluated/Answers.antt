@@ -53,10 +53,21 @@ evaluate-requires c =
     let at : c.index-at.result.now ≡ body_at c.args.plan.now f = get_or_read c.args.plan.now.bodies.items f _ (omega (arith, lies.bodies, member.1)) c.index-at.ensures 0 in
     let given = ap (λ (l : List ℕ). length l) member.2 in
     let room : c.fill-slots.result + nodes (C.body f) ≤ length c.fill-slots.new.env =
-    omega (arith, c.requires.can.sized.room f member.1, given, widths_long args, c.fill-slots.ensures.count, ap (λ (l : List Word). length l) words, c.fill-slots.auto.env, ap (λ (l : List Word). length l) c.deref_mut.ensures.value) in
-    let can = body_can c.args.c.now s.stages.items (length s.wants.each.items) args f c.requires.can.checked member.1 member.2 c.requires.can.back c.requires.can.sized.sites c.requires.can.sized.wants in
+    omega (
+      arith,
+      c.requires.can.sized.room f member.1,
+      given,
+      widths_long args,
+      c.fill-slots.ensures.count,
+      ap (λ (l : List Word). length l) words,
+      c.fill-slots.auto.env,
+      ap (λ (l : List Word). length l) c.deref_mut.ensures.value,
+    ) in
+    let can = body_can c.args.c.now s.stages.items (length s.wants.each.items) args f c.requires.can.checked member.1 member.2 c.requires.can.back
+    c.requires.can.sized.sites c.requires.can.sized.wants in
     unit.look_as c.deref-in-Some.ensures.value c.deref-in-Some-2.ensures.value refl env c.deref_mut-in-Some-2.ensures.value refl at c.body.ensures.term
-    (unit.may_look s.stages.items s.modes.items s.wants.each.items c.fill-slots.new.env s.kept.items c.args.u f c.in-Some.ensures.runs.0 c.fill-slots.result args lies member.1 filled can room runs c.requires.stood)
+    (unit.may_look s.stages.items s.modes.items s.wants.each.items c.fill-slots.new.env s.kept.items c.args.u f c.in-Some.ensures.runs.0
+    c.fill-slots.result args lies member.1 filled can room runs c.requires.stood)
 
 pub returns-in-Some : goal.returns-in-Some
 returns-in-Some c =
@@ -76,17 +87,22 @@ returns-in-Some c =
     let good = numbered C c.requires.can.checked.formed in
     let cells = refilled s.kept c.evaluate.new.kept c.deref_mut-in-Some-2.result.now c.evaluate.auto.kept c.deref_mut-in-Some-2.ensures.value in
     let finds = unit.finds_as c.deref-in-Some.ensures.value refl env c.deref_mut-in-Some-2.ensures.value at c.body.ensures.term c.evaluate.ensures.finds in
-    let holds = unit.held_body s.stages.items s.modes.items s.wants.each.items c.fill-slots.new.env s.kept.items c.args.u f c.in-Some.ensures.runs.0 c.fill-slots.result args lies member.1 filled finds in
+    let holds = unit.held_body s.stages.items s.modes.items s.wants.each.items c.fill-slots.new.env s.kept.items c.args.u f c.in-Some.ensures.runs.0
+    c.fill-slots.result args lies member.1 filled finds in
     let slots = ap (λ (l : List Word). take c.fill-slots.result l) env ∙ filled in
     record {
       modes = refl;
       stages = refl;
-      answers = ap (slice_set s.answers.items c.args.u) (c.evaluate.ensures.answer ∙ (ap (λ (x : List Stage). answer (back_at x) (take c.fill-slots.result c.deref_mut-in-Some.result.now) body) c.deref-in-Some.ensures.value
+      answers = ap (slice_set s.answers.items c.args.u) (c.evaluate.ensures.answer ∙
+          (ap (λ (x : List Stage). answer (back_at x) (take c.fill-slots.result c.deref_mut-in-Some.result.now) body) c.deref-in-Some.ensures.value
           ∙ (answer_is B slots c.body.ensures.term ∙ ap (core.says_as C B) (sym runs))));
       asks = c.evaluate.ensures.asks;
-      wants = λ k pos le own. unit.wants_found good lies B s.modes.items s.wants.each.items c.evaluate.new.asks.each.items s.kept.items c.evaluate.new.kept c.args.u f c.in-Some.ensures.runs.0 args runs member.0 member.1 finds.only holds c.requires.stood k pos le own;
-      others = λ k pos le apart. unit.others_found good lies B s.modes.items s.wants.each.items c.evaluate.new.asks.each.items s.kept.items c.evaluate.new.kept c.args.u f c.in-Some.ensures.runs.0 args runs member.0 member.1 finds.only k pos le apart;
-      recalls = λ v before. unit.remembers_as refl cells (unit.recalls_found good lies B s.modes.items s.wants.each.items c.evaluate.new.asks.each.items s.kept.items c.evaluate.new.kept c.args.u f c.in-Some.ensures.runs.0 args runs member.0 member.1 finds.only holds v before);
+      wants = λ k pos le own. unit.wants_found good lies B s.modes.items s.wants.each.items c.evaluate.new.asks.each.items s.kept.items
+          c.evaluate.new.kept c.args.u f c.in-Some.ensures.runs.0 args runs member.0 member.1 finds.only holds c.requires.stood k pos le own;
+      others = λ k pos le apart. unit.others_found good lies B s.modes.items s.wants.each.items c.evaluate.new.asks.each.items s.kept.items
+          c.evaluate.new.kept c.args.u f c.in-Some.ensures.runs.0 args runs member.0 member.1 finds.only k pos le apart;
+      recalls = λ v before. unit.remembers_as refl cells (unit.recalls_found good lies B s.modes.items s.wants.each.items
+          c.evaluate.new.asks.each.items s.kept.items c.evaluate.new.kept c.args.u f c.in-Some.ensures.runs.0 args runs member.0 member.1 finds.only holds v before);
       cells = refilled_long s.kept c.evaluate.new.kept;
       sized = record {
         units = c.requires.can.sized.units;
@@ -102,7 +118,8 @@ returns-in-None c =
     let C = program_of c.args.c.now in
     let s = c.args.state.now in
     let B = back_at s.stages.items in
-    let idle : (f k : ℕ) (ws : List Word) → unit_at s.modes.items c.args.u ≡ core.Runs f k ws → ⊥ = λ f k ws r. c.in-None.ensures.none f k ws (ap (λ (x : List Mode). unit_at x c.args.u) c.deref.ensures.value ∙ r) in
+    let idle : (f k : ℕ) (ws : List Word) → unit_at s.modes.items c.args.u ≡ core.Runs f k ws → ⊥ = λ f k ws r. c.in-None.ensures.none f k ws
+    (ap (λ (x : List Mode). unit_at x c.args.u) c.deref.ensures.value ∙ r) in
     record {
       modes = refl;
       stages = refl;

@@ -30,7 +30,8 @@ evaluated-requires-clause-can c =
 pub evaluated-requires-clause-stood : goal.evaluated-requires-clause-stood
 evaluated-requires-clause-stood c =
     let s = c.args.state.now in
-    subst (λ (l : List (Option (List Word))). MayRenew (program_of c.args.c.now) c.args.plan.now (back_at s.stages.items) (Some c.args.k) s.modes.items l s.kept.items c.args.u) (sym c.begin.ensures) c.requires.stood
+    subst (λ (l : List (Option (List Word))). MayRenew (program_of c.args.c.now) c.args.plan.now (back_at s.stages.items) (Some c.args.k)
+    s.modes.items l s.kept.items c.args.u) (sym c.begin.ensures) c.requires.stood
 
 pub returns-clause-refreshes : goal.returns-clause-refreshes
 returns-clause-refreshes c =

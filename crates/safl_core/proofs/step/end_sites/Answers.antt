@@ -21,4 +21,5 @@ loop-k-preserved c =
     record { below = both.0; above = both.1 }
 
 pub returns : goal.returns
-returns c = end_back (program_of c.args.c.now) c.args.u c.own_sites-own.result c.own_sites-own.ensures c.loop-k.k c.args.stages.now c.loop-k.stages c.requires.sized (omega (arith, c.loop-k-test.false)) c.loop-k.invariant.below c.loop-k.invariant.above
+returns c = end_back (program_of c.args.c.now) c.args.u c.own_sites-own.result c.own_sites-own.ensures c.loop-k.k c.args.stages.now c.loop-k.stages
+    c.requires.sized (omega (arith, c.loop-k-test.false)) c.loop-k.invariant.below c.loop-k.invariant.above

@@ -23,7 +23,8 @@ returns c =
     let unit : u < length s.modes.items = omega (arith, c.requires.unit, c.requires.sized.units) in
     let entered : c.index_mut.result.now ≡ get_or s.modes.items u Idle = get_or_read s.modes.items u _ unit c.index_mut.ensures.value Idle in
     let read : c.index.result.now ≡ get_or s.answers.items u NotYet = get_or_read s.answers.items u _ (omega (arith, c.requires.unit, c.requires.sized.answers)) c.index.ensures NotYet in
-    let mode = c.enter.ensures ∙ (ap (λ (m : Mode). core.Runs c.args.h (serves_of (mode_of m)) c.words.result.now) entered ∙ ap (core.Runs c.args.h (serves_of (unit_at s.modes.items u))) c.words.ensures.words) in
+    let mode = c.enter.ensures ∙ (ap (λ (m : Mode). core.Runs c.args.h (serves_of (mode_of m)) c.words.result.now) entered ∙ ap
+    (core.Runs c.args.h (serves_of (unit_at s.modes.items u))) c.words.ensures.words) in
     let units = unit_put s.modes.items u c.enter.new.self unit ∙ ap (core.put (unit_at s.modes.items) u) mode in
     let written = refilled s.stages c.end_sites.new.stages c.deref_mut.result.now c.end_sites.auto.stages c.deref_mut.ensures.value in
     let sites = ap (λ (x : List Stage). stage_at x) written ∙ fun_ext (λ k. c.end_sites.ensures k ∙ ap (λ (x : List Stage). core.ended C u (stage_at x) k) c.deref_mut.ensures.value) in

@@ -15,7 +15,8 @@ loop-turn-preserved c =
     let f = c.fire.ensures in (
       f.program ∙ h.0,
       f.args ∙ h.1,
-      one_turn c.args.machine.now c.loop-turn.machine c.fire.new.self c.args.seed c.loop-turn._turn c.loop-turn.number c.loop-turn.units c.following-number.result c.max-units.result c.busy.result (event_of c.in-Some.event)
+      one_turn c.args.machine.now c.loop-turn.machine c.fire.new.self c.args.seed c.loop-turn._turn c.loop-turn.number c.loop-turn.units
+          c.following-number.result c.max-units.result c.busy.result (event_of c.in-Some.event)
           h.0 h.1 h.2 f c.following-number.ensures c.in-Some.ensures.picked c.busy.ensures c.max-units.ensures,
       omega (arith, f.events, h.3),
     )

@@ -31,8 +31,12 @@ evaluate-requires t c =
     let h = look_is shape c.requires in
     let fc = whole.finds_slots c.part.ensures.slots c.part.ensures.at c.if-operand.ensures.finds in
     let kept = part.kept_at c.args.env.now c.operand.new.env c.part.ensures.slots c.if-operand.ensures.kept in
-    let smaller : nodes (shown_term c.deref-then-bits-eq1.result.now) < nodes (shown_term c.args.t.now) = omega (arith, size) in
-    (search rules, part.may_then (omega (arith, c.operand.ensures.asks.long)) (omega (arith, c.operand.auto.env)) (omega (arith, c.operand.auto.kept)) kept c.operand.new.word h fc (sym c.bits.ensures.value ∙ c.if-bits-eq1.true) c.branch-second.ensures.slots (c.branch-second.ensures.at ∙ part.after_condition h) c.branch-second.ensures.news)
+    let smaller : nodes (shown_term c.deref-then-bits-eq1.result.now) < nodes (shown_term c.args.t.now) = omega (arith, size) in (
+      search rules,
+      part.may_then (omega (arith, c.operand.ensures.asks.long)) (omega (arith, c.operand.auto.env)) (omega (arith, c.operand.auto.kept))
+          kept c.operand.new.word h fc (sym c.bits.ensures.value ∙ c.if-bits-eq1.true) c.branch-second.ensures.slots
+          (c.branch-second.ensures.at ∙ part.after_condition h) c.branch-second.ensures.news,
+    )
 
 pub after-requires : goal.after-requires
 after-requires t c =
@@ -47,8 +51,13 @@ evaluate-requires-else-bits-eq1 t c =
     let h = look_is shape c.requires in
     let fc = whole.finds_slots c.part.ensures.slots c.part.ensures.at c.if-operand.ensures.finds in
     let kept = part.kept_at c.args.env.now c.operand.new.env c.part.ensures.slots c.if-operand.ensures.kept in
-    let smaller : nodes (shown_term c.deref-else-bits-eq1.result.now) < nodes (shown_term c.args.t.now) = omega (arith, size) in
-    (search rules, part.may_else (omega (arith, c.operand.ensures.asks.long)) (omega (arith, c.operand.auto.env)) (omega (arith, c.operand.auto.kept)) kept c.operand.new.word h fc (λ q. c.if-bits-eq1.false (c.bits.ensures.value ∙ q)) (c.after.ensures.slots ∙ c.branch-second.ensures.slots) (c.after.ensures.at ∙ (ap (λ (i : ℕ). (place c.args.facts.now.places.now i).next) (c.branch-second.ensures.at ∙ part.after_condition h) ∙ part.after_then h)) (c.after.ensures.news ∙ c.branch-second.ensures.news))
+    let smaller : nodes (shown_term c.deref-else-bits-eq1.result.now) < nodes (shown_term c.args.t.now) = omega (arith, size) in (
+      search rules,
+      part.may_else (omega (arith, c.operand.ensures.asks.long)) (omega (arith, c.operand.auto.env)) (omega (arith, c.operand.auto.kept))
+          kept c.operand.new.word h fc (λ q. c.if-bits-eq1.false (c.bits.ensures.value ∙ q)) (c.after.ensures.slots ∙ c.branch-second.ensures.slots)
+          (c.after.ensures.at ∙ (ap (λ (i : ℕ). (place c.args.facts.now.places.now i).next) (c.branch-second.ensures.at ∙ part.after_condition h) ∙
+          part.after_then h)) (c.after.ensures.news ∙ c.branch-second.ensures.news),
+    )
 
 pub returns-then-bits-eq1-clause-answer : goal.returns-then-bits-eq1-clause-answer
 returns-then-bits-eq1-clause-answer t c =
@@ -58,7 +67,8 @@ returns-then-bits-eq1-clause-answer t c =
     let fc = whole.finds_slots c.part.ensures.slots c.part.ensures.at c.if-operand.ensures.finds in
     let kept = part.kept_at c.args.env.now c.operand.new.env c.part.ensures.slots c.if-operand.ensures.kept in
     let slots = ap (λ (i : ℕ). take i c.operand.new.env) c.branch-second.ensures.slots ∙ kept in
-    c.evaluate.ensures.answer ∙ (answer_is B slots refl ∙ (step.answer_then B E (shown_term c.deref.result.now) _ _ c.operand.new.word fc.word (sym c.bits.ensures.value ∙ c.if-bits-eq1.true) ∙ ap (answer B E) (sym shape)))
+    c.evaluate.ensures.answer ∙ (answer_is B slots refl ∙ (step.answer_then B E (shown_term c.deref.result.now) _ _ c.operand.new.word fc.word
+    (sym c.bits.ensures.value ∙ c.if-bits-eq1.true) ∙ ap (answer B E) (sym shape)))
 
 pub returns-then-bits-eq1-clause-finds : goal.returns-then-bits-eq1-clause-finds
 returns-then-bits-eq1-clause-finds t c =
@@ -68,7 +78,8 @@ returns-then-bits-eq1-clause-finds t c =
     let kept = part.kept_at c.args.env.now c.operand.new.env c.part.ensures.slots c.if-operand.ensures.kept in
     let slots = ap (λ (i : ℕ). take i c.operand.new.env) c.branch-second.ensures.slots ∙ kept in
     let looks = whole.looks_then c.operand.new.word h fc (sym c.bits.ensures.value ∙ c.if-bits-eq1.true) slots (c.branch-second.ensures.at ∙ part.after_condition h) c.evaluate.ensures.finds in
-    finds_is shape (finds_with (sym (whole.opened_word (word_of c.evaluate.new.told))) (whole.finds_kept looks (omega (arith, c.requires.cells, some_node (shown_term c.args.t.now), c.operand.auto.kept, c.evaluate.auto.kept)) c.keep_told.ensures))
+    finds_is shape (finds_with (sym (whole.opened_word (word_of c.evaluate.new.told)))
+    (whole.finds_kept looks (omega (arith, c.requires.cells, some_node (shown_term c.args.t.now), c.operand.auto.kept, c.evaluate.auto.kept)) c.keep_told.ensures))
 
 pub returns-else-bits-eq1-clause-answer : goal.returns-else-bits-eq1-clause-answer
 returns-else-bits-eq1-clause-answer t c =
@@ -78,7 +89,9 @@ returns-else-bits-eq1-clause-answer t c =
     let fc = whole.finds_slots c.part.ensures.slots c.part.ensures.at c.if-operand.ensures.finds in
     let kept = part.kept_at c.args.env.now c.operand.new.env c.part.ensures.slots c.if-operand.ensures.kept in
     let slots = ap (λ (i : ℕ). take i c.operand.new.env) (c.after.ensures.slots ∙ c.branch-second.ensures.slots) ∙ kept in
-    c.evaluate-else-bits-eq1.ensures.answer ∙ (answer_is B slots refl ∙ (step.answer_else B E (shown_term c.deref.result.now) _ _ c.operand.new.word fc.word (λ q. c.if-bits-eq1.false (c.bits.ensures.value ∙ q)) ∙ ap (answer B E) (sym shape)))
+    c.evaluate-else-bits-eq1.ensures.answer ∙ (answer_is B slots refl ∙
+    (step.answer_else B E (shown_term c.deref.result.now) _ _ c.operand.new.word fc.word (λ q. c.if-bits-eq1.false (c.bits.ensures.value ∙ q)) ∙
+    ap (answer B E) (sym shape)))
 
 pub returns-else-bits-eq1-clause-finds : goal.returns-else-bits-eq1-clause-finds
 returns-else-bits-eq1-clause-finds t c =
@@ -87,8 +100,17 @@ returns-else-bits-eq1-clause-finds t c =
     let fc = whole.finds_slots c.part.ensures.slots c.part.ensures.at c.if-operand.ensures.finds in
     let kept = part.kept_at c.args.env.now c.operand.new.env c.part.ensures.slots c.if-operand.ensures.kept in
     let slots = ap (λ (i : ℕ). take i c.operand.new.env) (c.after.ensures.slots ∙ c.branch-second.ensures.slots) ∙ kept in
-    let looks = whole.looks_else c.operand.new.word h fc (λ q. c.if-bits-eq1.false (c.bits.ensures.value ∙ q)) slots (c.after.ensures.at ∙ (ap (λ (i : ℕ). (place c.args.facts.now.places.now i).next) (c.branch-second.ensures.at ∙ part.after_condition h) ∙ part.after_then h)) c.evaluate-else-bits-eq1.ensures.finds in
-    finds_is shape (finds_with (sym (whole.opened_word (word_of c.evaluate-else-bits-eq1.new.told))) (whole.finds_kept looks (omega (arith, c.requires.cells, some_node (shown_term c.args.t.now), c.operand.auto.kept, c.evaluate-else-bits-eq1.auto.kept)) c.keep_told-else-bits-eq1.ensures))
+    let looks = whole.looks_else c.operand.new.word h fc (λ q. c.if-bits-eq1.false (c.bits.ensures.value ∙ q)) slots
+    (c.after.ensures.at ∙ (ap (λ (i : ℕ). (place c.args.facts.now.places.now i).next) (c.branch-second.ensures.at ∙ part.after_condition h) ∙
+    part.after_then h)) c.evaluate-else-bits-eq1.ensures.finds in
+    finds_is shape (finds_with (sym (whole.opened_word (word_of c.evaluate-else-bits-eq1.new.told)))
+    (whole.finds_kept looks (omega (
+      arith,
+      c.requires.cells,
+      some_node (shown_term c.args.t.now),
+      c.operand.auto.kept,
+      c.evaluate-else-bits-eq1.auto.kept,
+    )) c.keep_told-else-bits-eq1.ensures))
 
 pub returns-else-operand-clause-answer : goal.returns-else-operand-clause-answer
 returns-else-operand-clause-answer t c =
@@ -103,7 +125,8 @@ returns-else-operand-clause-finds t c =
     let shape = if_by (ap shown_term c.in-If.is) (ap shown_term c.deref.ensures) refl refl in
     let h = look_is shape c.requires in
     let fc = whole.finds_slots c.part.ensures.slots c.part.ensures.at c.if-operand.ensures.finds in
-    finds_is shape (finds_with (ap word_of c.settle-else-operand.ensures) (whole.finds_kept (whole.looks_shut h fc) (omega (arith, c.requires.cells, some_node (shown_term c.args.t.now), c.operand.auto.kept)) c.shut.ensures))
+    finds_is shape (finds_with (ap word_of c.settle-else-operand.ensures)
+    (whole.finds_kept (whole.looks_shut h fc) (omega (arith, c.requires.cells, some_node (shown_term c.args.t.now), c.operand.auto.kept)) c.shut.ensures))
 
 -- ---- bindings
 
@@ -117,7 +140,9 @@ pub values-requires-clause-may : goal.values-requires-clause-may
 values-requires-clause-may t c =
     let shape = let_by (ap shown_term c.in-Let.is ∙ shown_term-Let c.in-Let.field-0 c.in-Let.bound c.in-Let.body) (ap shown_terms c.as_slice-bound.ensures.value) refl in
     let h = look_is shape c.requires in
-    look_all_at (c.after-bindings.ensures.slots ∙ c.part-in-Let.ensures.slots) (c.after-bindings.ensures.at ∙ (ap (λ (i : ℕ). (place c.args.facts.now.places.now i).next) c.part-in-Let.ensures.at ∙ part.after_body h)) (c.after-bindings.ensures.news ∙ c.part-in-Let.ensures.news) (part.may_bound h)
+    look_all_at (c.after-bindings.ensures.slots ∙ c.part-in-Let.ensures.slots)
+    (c.after-bindings.ensures.at ∙ (ap (λ (i : ℕ). (place c.args.facts.now.places.now i).next) c.part-in-Let.ensures.at ∙ part.after_body h))
+    (c.after-bindings.ensures.news ∙ c.part-in-Let.ensures.news) (part.may_bound h)
 
 pub values-requires-clause-places : goal.values-requires-clause-places
 values-requires-clause-places t c =
@@ -127,35 +152,59 @@ values-requires-clause-places t c =
 
 pub evaluate-requires-then-values : goal.evaluate-requires-then-values
 evaluate-requires-then-values t c =
-    let shape = let_by (ap shown_term c.in-Let.is ∙ shown_term-Let c.in-Let.field-0 c.in-Let.bound c.in-Let.body) (ap shown_terms c.as_slice-bound.ensures.value) (ap shown_term c.deref-then-values.ensures) in
+    let shape = let_by (ap shown_term c.in-Let.is ∙ shown_term-Let c.in-Let.field-0 c.in-Let.bound c.in-Let.body)
+    (ap shown_terms c.as_slice-bound.ensures.value) (ap shown_term c.deref-then-values.ensures) in
     let size = ap nodes shape in
     let count = forest_nodes c.as_slice-bound.result.now in
     let h = look_is shape c.requires in
-    let fs = whole.finds_all_slots (c.after-bindings.ensures.slots ∙ c.part-in-Let.ensures.slots) (c.after-bindings.ensures.at ∙ (ap (λ (i : ℕ). (place c.args.facts.now.places.now i).next) c.part-in-Let.ensures.at ∙ part.after_body h)) c.if-values.ensures.finds in
+    let fs = whole.finds_all_slots (c.after-bindings.ensures.slots ∙ c.part-in-Let.ensures.slots)
+    (c.after-bindings.ensures.at ∙ (ap (λ (i : ℕ). (place c.args.facts.now.places.now i).next) c.part-in-Let.ensures.at ∙ part.after_body h))
+    c.if-values.ensures.finds in
     let kept = part.kept_at c.args.env.now c.values.new.env (c.after-bindings.ensures.slots ∙ c.part-in-Let.ensures.slots) c.if-values.ensures.kept in
-    let smaller : nodes (shown_term c.deref-then-values.result.now) < nodes (shown_term c.args.t.now) = omega (arith, size) in
-    (search rules, part.may_body (omega (arith, c.values.ensures.asks.long)) (omega (arith, c.values.auto.env)) (omega (arith, c.values.auto.kept)) kept (take (length c.as_slice-bound.result.now) (drop c.args.spot.slots c.values.new.env)) h fs (ap (λ (i : ℕ). take i c.values.new.env) c.within-below.ensures.slots ∙ step.slots_and c.values.new.env (take c.args.spot.slots c.args.env.now) c.args.spot.slots (length c.as_slice-bound.result.now) kept) (omega (arith, c.within-below.ensures.slots, count, h.room)) c.within-below.ensures.at c.within-below.ensures.news)
+    let smaller : nodes (shown_term c.deref-then-values.result.now) < nodes (shown_term c.args.t.now) = omega (arith, size) in (
+      search rules,
+      part.may_body (omega (arith, c.values.ensures.asks.long)) (omega (arith, c.values.auto.env)) (omega (arith, c.values.auto.kept))
+          kept (take (length c.as_slice-bound.result.now) (drop c.args.spot.slots c.values.new.env)) h fs
+          (ap (λ (i : ℕ). take i c.values.new.env) c.within-below.ensures.slots ∙ step.slots_and c.values.new.env
+          (take c.args.spot.slots c.args.env.now) c.args.spot.slots (length c.as_slice-bound.result.now) kept)
+          (omega (arith, c.within-below.ensures.slots, count, h.room)) c.within-below.ensures.at c.within-below.ensures.news,
+    )
 
 pub returns-then-values-clause-answer : goal.returns-then-values-clause-answer
 returns-then-values-clause-answer t c =
     let B = back_at c.args.facts.now.stages.now in
     let E = take c.args.spot.slots c.args.env.now in
-    let shape = let_by (ap shown_term c.in-Let.is ∙ shown_term-Let c.in-Let.field-0 c.in-Let.bound c.in-Let.body) (ap shown_terms c.as_slice-bound.ensures.value) (ap shown_term c.deref-then-values.ensures) in
+    let shape = let_by (ap shown_term c.in-Let.is ∙ shown_term-Let c.in-Let.field-0 c.in-Let.bound c.in-Let.body)
+    (ap shown_terms c.as_slice-bound.ensures.value) (ap shown_term c.deref-then-values.ensures) in
     let h = look_is shape c.requires in
-    let fs = whole.finds_all_slots (c.after-bindings.ensures.slots ∙ c.part-in-Let.ensures.slots) (c.after-bindings.ensures.at ∙ (ap (λ (i : ℕ). (place c.args.facts.now.places.now i).next) c.part-in-Let.ensures.at ∙ part.after_body h)) c.if-values.ensures.finds in
+    let fs = whole.finds_all_slots (c.after-bindings.ensures.slots ∙ c.part-in-Let.ensures.slots)
+    (c.after-bindings.ensures.at ∙ (ap (λ (i : ℕ). (place c.args.facts.now.places.now i).next) c.part-in-Let.ensures.at ∙ part.after_body h))
+    c.if-values.ensures.finds in
     let kept = part.kept_at c.args.env.now c.values.new.env (c.after-bindings.ensures.slots ∙ c.part-in-Let.ensures.slots) c.if-values.ensures.kept in
-    let slots = ap (λ (i : ℕ). take i c.values.new.env) c.within-below.ensures.slots ∙ step.slots_and c.values.new.env (take c.args.spot.slots c.args.env.now) c.args.spot.slots (length c.as_slice-bound.result.now) kept in
+    let slots = ap (λ (i : ℕ). take i c.values.new.env) c.within-below.ensures.slots ∙ step.slots_and c.values.new.env
+    (take c.args.spot.slots c.args.env.now) c.args.spot.slots (length c.as_slice-bound.result.now) kept in
     c.evaluate-then-values.ensures.answer ∙ (answer_is B slots refl ∙ (step.answer_let B E _ _ _ fs.words ∙ ap (answer B E) (sym shape)))
 
 pub returns-then-values-clause-finds : goal.returns-then-values-clause-finds
 returns-then-values-clause-finds t c =
-    let shape = let_by (ap shown_term c.in-Let.is ∙ shown_term-Let c.in-Let.field-0 c.in-Let.bound c.in-Let.body) (ap shown_terms c.as_slice-bound.ensures.value) (ap shown_term c.deref-then-values.ensures) in
+    let shape = let_by (ap shown_term c.in-Let.is ∙ shown_term-Let c.in-Let.field-0 c.in-Let.bound c.in-Let.body)
+    (ap shown_terms c.as_slice-bound.ensures.value) (ap shown_term c.deref-then-values.ensures) in
     let h = look_is shape c.requires in
-    let fs = whole.finds_all_slots (c.after-bindings.ensures.slots ∙ c.part-in-Let.ensures.slots) (c.after-bindings.ensures.at ∙ (ap (λ (i : ℕ). (place c.args.facts.now.places.now i).next) c.part-in-Let.ensures.at ∙ part.after_body h)) c.if-values.ensures.finds in
+    let fs = whole.finds_all_slots (c.after-bindings.ensures.slots ∙ c.part-in-Let.ensures.slots)
+    (c.after-bindings.ensures.at ∙ (ap (λ (i : ℕ). (place c.args.facts.now.places.now i).next) c.part-in-Let.ensures.at ∙ part.after_body h))
+    c.if-values.ensures.finds in
     let kept = part.kept_at c.args.env.now c.values.new.env (c.after-bindings.ensures.slots ∙ c.part-in-Let.ensures.slots) c.if-values.ensures.kept in
-    let slots = ap (λ (i : ℕ). take i c.values.new.env) c.within-below.ensures.slots ∙ step.slots_and c.values.new.env (take c.args.spot.slots c.args.env.now) c.args.spot.slots (length c.as_slice-bound.result.now) kept in
+    let slots = ap (λ (i : ℕ). take i c.values.new.env) c.within-below.ensures.slots ∙ step.slots_and c.values.new.env
+    (take c.args.spot.slots c.args.env.now) c.args.spot.slots (length c.as_slice-bound.result.now) kept in
     let looks = whole.looks_let (take (length c.as_slice-bound.result.now) (drop c.args.spot.slots c.values.new.env)) h fs slots c.within-below.ensures.at c.evaluate-then-values.ensures.finds in
-    finds_is shape (finds_with (sym (whole.opened_word (word_of c.evaluate-then-values.new.told))) (whole.finds_kept looks (omega (arith, c.requires.cells, some_node (shown_term c.args.t.now), c.values.auto.kept, c.evaluate-then-values.auto.kept)) c.keep_told-then-values.ensures))
+    finds_is shape (finds_with (sym (whole.opened_word (word_of c.evaluate-then-values.new.told)))
+    (whole.finds_kept looks (omega (
+      arith,
+      c.requires.cells,
+      some_node (shown_term c.args.t.now),
+      c.values.auto.kept,
+      c.evaluate-then-values.auto.kept,
+    )) c.keep_told-then-values.ensures))
 
 pub returns-else-values-clause-answer : goal.returns-else-values-clause-answer
 returns-else-values-clause-answer t c =
@@ -163,15 +212,21 @@ returns-else-values-clause-answer t c =
     let E = take c.args.spot.slots c.args.env.now in
     let shape = let_by (ap shown_term c.in-Let.is ∙ shown_term-Let c.in-Let.field-0 c.in-Let.bound c.in-Let.body) (ap shown_terms c.as_slice-bound.ensures.value) refl in
     let h = look_is shape c.requires in
-    let fs = whole.finds_all_slots (c.after-bindings.ensures.slots ∙ c.part-in-Let.ensures.slots) (c.after-bindings.ensures.at ∙ (ap (λ (i : ℕ). (place c.args.facts.now.places.now i).next) c.part-in-Let.ensures.at ∙ part.after_body h)) c.if-values.ensures.finds in
+    let fs = whole.finds_all_slots (c.after-bindings.ensures.slots ∙ c.part-in-Let.ensures.slots)
+    (c.after-bindings.ensures.at ∙ (ap (λ (i : ℕ). (place c.args.facts.now.places.now i).next) c.part-in-Let.ensures.at ∙ part.after_body h))
+    c.if-values.ensures.finds in
     c.settle-else-values.ensures ∙ (step.answer_let_not B E _ _ fs.words ∙ ap (answer B E) (sym shape))
 
 pub returns-else-values-clause-finds : goal.returns-else-values-clause-finds
 returns-else-values-clause-finds t c =
     let shape = let_by (ap shown_term c.in-Let.is ∙ shown_term-Let c.in-Let.field-0 c.in-Let.bound c.in-Let.body) (ap shown_terms c.as_slice-bound.ensures.value) refl in
     let h = look_is shape c.requires in
-    let fs = whole.finds_all_slots (c.after-bindings.ensures.slots ∙ c.part-in-Let.ensures.slots) (c.after-bindings.ensures.at ∙ (ap (λ (i : ℕ). (place c.args.facts.now.places.now i).next) c.part-in-Let.ensures.at ∙ part.after_body h)) c.if-values.ensures.finds in
-    finds_is shape (finds_with (ap word_of c.settle-else-values.ensures) (whole.finds_kept (whole.looks_let_shut h fs) (omega (arith, c.requires.cells, some_node (shown_term c.args.t.now), c.values.auto.kept)) c.shut-else-values.ensures))
+    let fs = whole.finds_all_slots (c.after-bindings.ensures.slots ∙ c.part-in-Let.ensures.slots)
+    (c.after-bindings.ensures.at ∙ (ap (λ (i : ℕ). (place c.args.facts.now.places.now i).next) c.part-in-Let.ensures.at ∙ part.after_body h))
+    c.if-values.ensures.finds in
+    finds_is shape (finds_with (ap word_of c.settle-else-values.ensures)
+    (whole.finds_kept (whole.looks_let_shut h fs) (omega (arith, c.requires.cells, some_node (shown_term c.args.t.now), c.values.auto.kept))
+    c.shut-else-values.ensures))
 
 -- ---- tail calls
 
@@ -197,7 +252,14 @@ pass-requires t c =
     let shape = loop_by c.in-Loop.h (ap shown_term c.in-Loop.is ∙ shown_term-Loop c.in-Loop.h c.in-Loop.ts) (ap shown_terms c.as_slice-passed.ensures.value) in
     let h = look_is shape c.requires in
     let few = may.loop_few _ _ h.can in
-    omega (arith, few, step.count_forest c.as_slice-passed.result.now, ap (λ (l : List Word). length l) c.words.ensures, step.part_few (length c.as_slice-passed.result.now) (drop c.args.spot.slots c.values-in-Loop.new.env))
+    omega (
+      arith,
+      few,
+      step.count_forest c.as_slice-passed.result.now,
+      ap (λ (l : List Word). length l) c.words.ensures,
+      step.part_few
+          (length c.as_slice-passed.result.now) (drop c.args.spot.slots c.values-in-Loop.new.env),
+    )
 
 pub returns-then-values-2-clause-answer : goal.returns-then-values-2-clause-answer
 returns-then-values-2-clause-answer t c =
@@ -211,7 +273,8 @@ pub returns-then-values-2-clause-finds : goal.returns-then-values-2-clause-finds
 returns-then-values-2-clause-finds t c =
     let shape = loop_by c.in-Loop.h (ap shown_term c.in-Loop.is ∙ shown_term-Loop c.in-Loop.h c.in-Loop.ts) (ap shown_terms c.as_slice-passed.ensures.value) in
     let fs = whole.finds_all_slots c.part-in-Loop.ensures.slots c.part-in-Loop.ensures.at c.if-values-2.ensures.finds in
-    finds_is shape (finds_with (ap word_of c.pass.ensures) (whole.finds_kept (whole.looks_loop {l = c.in-Loop.h} fs) (omega (arith, c.requires.cells, some_node (shown_term c.args.t.now), c.values-in-Loop.auto.kept)) c.shut-then-values-2.ensures))
+    finds_is shape (finds_with (ap word_of c.pass.ensures) (whole.finds_kept (whole.looks_loop {l = c.in-Loop.h} fs)
+    (omega (arith, c.requires.cells, some_node (shown_term c.args.t.now), c.values-in-Loop.auto.kept)) c.shut-then-values-2.ensures))
 
 pub returns-else-values-2-clause-answer : goal.returns-else-values-2-clause-answer
 returns-else-values-2-clause-answer t c =
@@ -225,7 +288,9 @@ pub returns-else-values-2-clause-finds : goal.returns-else-values-2-clause-finds
 returns-else-values-2-clause-finds t c =
     let shape = loop_by c.in-Loop.h (ap shown_term c.in-Loop.is ∙ shown_term-Loop c.in-Loop.h c.in-Loop.ts) (ap shown_terms c.as_slice-passed.ensures.value) in
     let fs = whole.finds_all_slots c.part-in-Loop.ensures.slots c.part-in-Loop.ensures.at c.if-values-2.ensures.finds in
-    finds_is shape (finds_with (ap word_of c.settle-else-values-2.ensures) (whole.finds_kept (whole.looks_loop {l = c.in-Loop.h} fs) (omega (arith, c.requires.cells, some_node (shown_term c.args.t.now), c.values-in-Loop.auto.kept)) c.shut-else-values-2.ensures))
+    finds_is shape (finds_with (ap word_of c.settle-else-values-2.ensures)
+    (whole.finds_kept (whole.looks_loop {l = c.in-Loop.h} fs)
+    (omega (arith, c.requires.cells, some_node (shown_term c.args.t.now), c.values-in-Loop.auto.kept)) c.shut-else-values-2.ensures))
 
 -- ---- words
 

@@ -54,8 +54,12 @@ look-operand-requires-then-bits-eq1 t c =
     let h = look_is shape c.requires in
     let fc = whole.finds_slots c.part.ensures.slots c.part.ensures.at c.if-operand.ensures.finds in
     let kept = part.kept_at c.args.env.now c.operand.new.env c.part.ensures.slots c.if-operand.ensures.kept in
-    let smaller : 4 * nodes (shown_term c.deref-then-bits-eq1.result.now) + 2 < 4 * nodes (shown_term c.args.t.now) = omega (arith, size) in
-    (search rules, part.may_then (omega (arith, c.operand.ensures.asks.long)) (omega (arith, c.operand.auto.env)) (omega (arith, c.operand.auto.kept)) kept c.operand.new.word h fc (sym c.bits.ensures.value ∙ c.if-bits-eq1.true) c.branch-second.ensures.slots (c.branch-second.ensures.at ∙ part.after_condition h) c.branch-second.ensures.news)
+    let smaller : 4 * nodes (shown_term c.deref-then-bits-eq1.result.now) + 2 < 4 * nodes (shown_term c.args.t.now) = omega (arith, size) in (
+      search rules,
+      part.may_then (omega (arith, c.operand.ensures.asks.long)) (omega (arith, c.operand.auto.env)) (omega (arith, c.operand.auto.kept))
+          kept c.operand.new.word h fc (sym c.bits.ensures.value ∙ c.if-bits-eq1.true) c.branch-second.ensures.slots
+          (c.branch-second.ensures.at ∙ part.after_condition h) c.branch-second.ensures.news,
+    )
 
 pub look-after-requires : goal.look-after-requires
 look-after-requires t c =
@@ -70,8 +74,13 @@ look-operand-requires-else-bits-eq1 t c =
     let h = look_is shape c.requires in
     let fc = whole.finds_slots c.part.ensures.slots c.part.ensures.at c.if-operand.ensures.finds in
     let kept = part.kept_at c.args.env.now c.operand.new.env c.part.ensures.slots c.if-operand.ensures.kept in
-    let smaller : 4 * nodes (shown_term c.deref-else-bits-eq1.result.now) + 2 < 4 * nodes (shown_term c.args.t.now) = omega (arith, size) in
-    (search rules, part.may_else (omega (arith, c.operand.ensures.asks.long)) (omega (arith, c.operand.auto.env)) (omega (arith, c.operand.auto.kept)) kept c.operand.new.word h fc (λ q. c.if-bits-eq1.false (c.bits.ensures.value ∙ q)) (c.after.ensures.slots ∙ c.branch-second.ensures.slots) (c.after.ensures.at ∙ (ap (λ (i : ℕ). (place c.args.facts.now.places.now i).next) (c.branch-second.ensures.at ∙ part.after_condition h) ∙ part.after_then h)) (c.after.ensures.news ∙ c.branch-second.ensures.news))
+    let smaller : 4 * nodes (shown_term c.deref-else-bits-eq1.result.now) + 2 < 4 * nodes (shown_term c.args.t.now) = omega (arith, size) in (
+      search rules,
+      part.may_else (omega (arith, c.operand.ensures.asks.long)) (omega (arith, c.operand.auto.env)) (omega (arith, c.operand.auto.kept))
+          kept c.operand.new.word h fc (λ q. c.if-bits-eq1.false (c.bits.ensures.value ∙ q)) (c.after.ensures.slots ∙ c.branch-second.ensures.slots)
+          (c.after.ensures.at ∙ (ap (λ (i : ℕ). (place c.args.facts.now.places.now i).next) (c.branch-second.ensures.at ∙ part.after_condition h) ∙
+          part.after_then h)) (c.after.ensures.news ∙ c.branch-second.ensures.news),
+    )
 
 pub look-returns-then-bits-eq1-clause-looks : goal.look-returns-then-bits-eq1-clause-looks
 look-returns-then-bits-eq1-clause-looks t c =
@@ -80,7 +89,9 @@ look-returns-then-bits-eq1-clause-looks t c =
     let fc = whole.finds_slots c.part.ensures.slots c.part.ensures.at c.if-operand.ensures.finds in
     let kept = part.kept_at c.args.env.now c.operand.new.env c.part.ensures.slots c.if-operand.ensures.kept in
     let slots = ap (λ (i : ℕ). take i c.operand.new.env) c.branch-second.ensures.slots ∙ kept in
-    whole.looks_is shape (whole.looks_with (whole.opened_cell c.operand-then-bits-eq1.result c.operand-then-bits-eq1.new.word c.opened.result c.opened.ensures) (whole.looks_then c.operand.new.word h fc (sym c.bits.ensures.value ∙ c.if-bits-eq1.true) slots (c.branch-second.ensures.at ∙ part.after_condition h) c.operand-then-bits-eq1.ensures.finds))
+    whole.looks_is shape (whole.looks_with (whole.opened_cell c.operand-then-bits-eq1.result c.operand-then-bits-eq1.new.word c.opened.result
+    c.opened.ensures) (whole.looks_then c.operand.new.word h fc (sym c.bits.ensures.value ∙ c.if-bits-eq1.true) slots
+    (c.branch-second.ensures.at ∙ part.after_condition h) c.operand-then-bits-eq1.ensures.finds))
 
 pub look-returns-else-bits-eq1-clause-looks : goal.look-returns-else-bits-eq1-clause-looks
 look-returns-else-bits-eq1-clause-looks t c =
@@ -89,7 +100,11 @@ look-returns-else-bits-eq1-clause-looks t c =
     let fc = whole.finds_slots c.part.ensures.slots c.part.ensures.at c.if-operand.ensures.finds in
     let kept = part.kept_at c.args.env.now c.operand.new.env c.part.ensures.slots c.if-operand.ensures.kept in
     let slots = ap (λ (i : ℕ). take i c.operand.new.env) (c.after.ensures.slots ∙ c.branch-second.ensures.slots) ∙ kept in
-    whole.looks_is shape (whole.looks_with (whole.opened_cell c.operand-else-bits-eq1.result c.operand-else-bits-eq1.new.word c.opened-else-bits-eq1.result c.opened-else-bits-eq1.ensures) (whole.looks_else c.operand.new.word h fc (λ q. c.if-bits-eq1.false (c.bits.ensures.value ∙ q)) slots (c.after.ensures.at ∙ (ap (λ (i : ℕ). (place c.args.facts.now.places.now i).next) (c.branch-second.ensures.at ∙ part.after_condition h) ∙ part.after_then h)) c.operand-else-bits-eq1.ensures.finds))
+    whole.looks_is shape (whole.looks_with (whole.opened_cell c.operand-else-bits-eq1.result c.operand-else-bits-eq1.new.word
+    c.opened-else-bits-eq1.result c.opened-else-bits-eq1.ensures)
+    (whole.looks_else c.operand.new.word h fc (λ q. c.if-bits-eq1.false (c.bits.ensures.value ∙ q)) slots
+    (c.after.ensures.at ∙ (ap (λ (i : ℕ). (place c.args.facts.now.places.now i).next) (c.branch-second.ensures.at ∙ part.after_condition h) ∙
+    part.after_then h)) c.operand-else-bits-eq1.ensures.finds))
 
 pub look-returns-else-operand-clause-looks : goal.look-returns-else-operand-clause-looks
 look-returns-else-operand-clause-looks t c =
@@ -112,39 +127,67 @@ look-values-requires t c =
     let size = ap nodes shape in
     let count = forest_nodes c.as_slice-bound.result.now in
     let h = look_is shape c.requires in
-    let smaller : 4 * nodes_in (shown_terms c.as_slice-bound.result.now) + 3 < 4 * nodes (shown_term c.args.t.now) = omega (arith, size) in
-    (search rules, (look_all_at (c.after-bindings.ensures.slots ∙ c.part-in-Let.ensures.slots) (c.after-bindings.ensures.at ∙ (ap (λ (i : ℕ). (place c.args.facts.now.places.now i).next) c.part-in-Let.ensures.at ∙ part.after_body h)) (c.after-bindings.ensures.news ∙ c.part-in-Let.ensures.news) (part.may_bound h), (omega (arith, count, h.room), omega (arith, c.after-bindings.ensures.slots, c.part-in-Let.ensures.slots))))
+    let smaller : 4 * nodes_in (shown_terms c.as_slice-bound.result.now) + 3 < 4 * nodes (shown_term c.args.t.now) = omega (arith, size) in (
+      search rules,
+      (
+        look_all_at (c.after-bindings.ensures.slots ∙ c.part-in-Let.ensures.slots)
+            (c.after-bindings.ensures.at ∙ (ap (λ (i : ℕ). (place c.args.facts.now.places.now i).next) c.part-in-Let.ensures.at ∙ part.after_body h))
+            (c.after-bindings.ensures.news ∙ c.part-in-Let.ensures.news) (part.may_bound h),
+        (omega (arith, count, h.room), omega (arith, c.after-bindings.ensures.slots, c.part-in-Let.ensures.slots)),
+      ),
+    )
 
 pub look-operand-requires-then-values : goal.look-operand-requires-then-values
 look-operand-requires-then-values t c =
-    let shape = let_by (ap shown_term c.in-Let.is ∙ shown_term-Let c.in-Let.field-0 c.in-Let.bound c.in-Let.body) (ap shown_terms c.as_slice-bound.ensures.value) (ap shown_term c.deref-then-values.ensures) in
+    let shape = let_by (ap shown_term c.in-Let.is ∙ shown_term-Let c.in-Let.field-0 c.in-Let.bound c.in-Let.body)
+    (ap shown_terms c.as_slice-bound.ensures.value) (ap shown_term c.deref-then-values.ensures) in
     let size = ap nodes shape in
     let count = forest_nodes c.as_slice-bound.result.now in
     let h = look_is shape c.requires in
-    let fs = whole.finds_all_slots (c.after-bindings.ensures.slots ∙ c.part-in-Let.ensures.slots) (c.after-bindings.ensures.at ∙ (ap (λ (i : ℕ). (place c.args.facts.now.places.now i).next) c.part-in-Let.ensures.at ∙ part.after_body h)) c.if-values.ensures.finds in
+    let fs = whole.finds_all_slots (c.after-bindings.ensures.slots ∙ c.part-in-Let.ensures.slots)
+    (c.after-bindings.ensures.at ∙ (ap (λ (i : ℕ). (place c.args.facts.now.places.now i).next) c.part-in-Let.ensures.at ∙ part.after_body h))
+    c.if-values.ensures.finds in
     let kept = part.kept_at c.args.env.now c.values.new.env (c.after-bindings.ensures.slots ∙ c.part-in-Let.ensures.slots) c.if-values.ensures.kept in
-    let smaller : 4 * nodes (shown_term c.deref-then-values.result.now) + 2 < 4 * nodes (shown_term c.args.t.now) = omega (arith, size) in
-    (search rules, part.may_body (omega (arith, c.values.ensures.asks.long)) (omega (arith, c.values.auto.env)) (omega (arith, c.values.auto.kept)) kept (take (length c.as_slice-bound.result.now) (drop c.args.spot.slots c.values.new.env)) h fs (ap (λ (i : ℕ). take i c.values.new.env) c.within-below.ensures.slots ∙ step.slots_and c.values.new.env (take c.args.spot.slots c.args.env.now) c.args.spot.slots (length c.as_slice-bound.result.now) kept) (omega (arith, c.within-below.ensures.slots, count, h.room)) c.within-below.ensures.at c.within-below.ensures.news)
+    let smaller : 4 * nodes (shown_term c.deref-then-values.result.now) + 2 < 4 * nodes (shown_term c.args.t.now) = omega (arith, size) in (
+      search rules,
+      part.may_body (omega (arith, c.values.ensures.asks.long)) (omega (arith, c.values.auto.env)) (omega (arith, c.values.auto.kept))
+          kept (take (length c.as_slice-bound.result.now) (drop c.args.spot.slots c.values.new.env)) h fs
+          (ap (λ (i : ℕ). take i c.values.new.env) c.within-below.ensures.slots ∙ step.slots_and c.values.new.env
+          (take c.args.spot.slots c.args.env.now) c.args.spot.slots (length c.as_slice-bound.result.now) kept)
+          (omega (arith, c.within-below.ensures.slots, count, h.room)) c.within-below.ensures.at c.within-below.ensures.news,
+    )
 
 pub look-returns-then-values-clause-looks : goal.look-returns-then-values-clause-looks
 look-returns-then-values-clause-looks t c =
-    let shape = let_by (ap shown_term c.in-Let.is ∙ shown_term-Let c.in-Let.field-0 c.in-Let.bound c.in-Let.body) (ap shown_terms c.as_slice-bound.ensures.value) (ap shown_term c.deref-then-values.ensures) in
+    let shape = let_by (ap shown_term c.in-Let.is ∙ shown_term-Let c.in-Let.field-0 c.in-Let.bound c.in-Let.body)
+    (ap shown_terms c.as_slice-bound.ensures.value) (ap shown_term c.deref-then-values.ensures) in
     let h = look_is shape c.requires in
-    let fs = whole.finds_all_slots (c.after-bindings.ensures.slots ∙ c.part-in-Let.ensures.slots) (c.after-bindings.ensures.at ∙ (ap (λ (i : ℕ). (place c.args.facts.now.places.now i).next) c.part-in-Let.ensures.at ∙ part.after_body h)) c.if-values.ensures.finds in
+    let fs = whole.finds_all_slots (c.after-bindings.ensures.slots ∙ c.part-in-Let.ensures.slots)
+    (c.after-bindings.ensures.at ∙ (ap (λ (i : ℕ). (place c.args.facts.now.places.now i).next) c.part-in-Let.ensures.at ∙ part.after_body h))
+    c.if-values.ensures.finds in
     let kept = part.kept_at c.args.env.now c.values.new.env (c.after-bindings.ensures.slots ∙ c.part-in-Let.ensures.slots) c.if-values.ensures.kept in
-    whole.looks_is shape (whole.looks_with (whole.opened_cell c.operand-then-values.result c.operand-then-values.new.word c.opened-then-values.result c.opened-then-values.ensures) (whole.looks_let (take (length c.as_slice-bound.result.now) (drop c.args.spot.slots c.values.new.env)) h fs (ap (λ (i : ℕ). take i c.values.new.env) c.within-below.ensures.slots ∙ step.slots_and c.values.new.env (take c.args.spot.slots c.args.env.now) c.args.spot.slots (length c.as_slice-bound.result.now) kept) c.within-below.ensures.at c.operand-then-values.ensures.finds))
+    whole.looks_is shape (whole.looks_with (whole.opened_cell c.operand-then-values.result c.operand-then-values.new.word c.opened-then-values.result
+    c.opened-then-values.ensures) (whole.looks_let (take (length c.as_slice-bound.result.now) (drop c.args.spot.slots c.values.new.env)) h fs
+    (ap (λ (i : ℕ). take i c.values.new.env) c.within-below.ensures.slots ∙ step.slots_and c.values.new.env
+    (take c.args.spot.slots c.args.env.now) c.args.spot.slots (length c.as_slice-bound.result.now) kept) c.within-below.ensures.at
+    c.operand-then-values.ensures.finds))
 
 pub look-returns-then-values-clause-kept : goal.look-returns-then-values-clause-kept
 look-returns-then-values-clause-kept t c =
-    let shape = let_by (ap shown_term c.in-Let.is ∙ shown_term-Let c.in-Let.field-0 c.in-Let.bound c.in-Let.body) (ap shown_terms c.as_slice-bound.ensures.value) (ap shown_term c.deref-then-values.ensures) in
+    let shape = let_by (ap shown_term c.in-Let.is ∙ shown_term-Let c.in-Let.field-0 c.in-Let.bound c.in-Let.body)
+    (ap shown_terms c.as_slice-bound.ensures.value) (ap shown_term c.deref-then-values.ensures) in
     let h = look_is shape c.requires in
-    step.slots_kept c.operand-then-values.new.env c.values.new.env c.args.spot.slots (length c.as_slice-bound.result.now) (part.kept_at c.values.new.env c.operand-then-values.new.env c.within-below.ensures.slots c.operand-then-values.ensures.kept) ∙ part.kept_at c.args.env.now c.values.new.env (c.after-bindings.ensures.slots ∙ c.part-in-Let.ensures.slots) c.if-values.ensures.kept
+    step.slots_kept c.operand-then-values.new.env c.values.new.env c.args.spot.slots (length c.as_slice-bound.result.now)
+    (part.kept_at c.values.new.env c.operand-then-values.new.env c.within-below.ensures.slots c.operand-then-values.ensures.kept) ∙ part.kept_at
+    c.args.env.now c.values.new.env (c.after-bindings.ensures.slots ∙ c.part-in-Let.ensures.slots) c.if-values.ensures.kept
 
 pub look-returns-else-values-clause-looks : goal.look-returns-else-values-clause-looks
 look-returns-else-values-clause-looks t c =
     let shape = let_by (ap shown_term c.in-Let.is ∙ shown_term-Let c.in-Let.field-0 c.in-Let.bound c.in-Let.body) (ap shown_terms c.as_slice-bound.ensures.value) refl in
     let h = look_is shape c.requires in
-    let fs = whole.finds_all_slots (c.after-bindings.ensures.slots ∙ c.part-in-Let.ensures.slots) (c.after-bindings.ensures.at ∙ (ap (λ (i : ℕ). (place c.args.facts.now.places.now i).next) c.part-in-Let.ensures.at ∙ part.after_body h)) c.if-values.ensures.finds in
+    let fs = whole.finds_all_slots (c.after-bindings.ensures.slots ∙ c.part-in-Let.ensures.slots)
+    (c.after-bindings.ensures.at ∙ (ap (λ (i : ℕ). (place c.args.facts.now.places.now i).next) c.part-in-Let.ensures.at ∙ part.after_body h))
+    c.if-values.ensures.finds in
     whole.looks_is shape (whole.looks_let_shut h fs)
 
 -- ---- operators
@@ -194,8 +237,13 @@ look-values-requires-in-Call t c =
     let size = ap nodes shape in
     let count = forest_nodes c.as_slice-args.result.now in
     let h = look_is shape c.requires in
-    let smaller : 4 * nodes_in (shown_terms c.as_slice-args.result.now) + 3 < 4 * nodes (shown_term c.args.t.now) = omega (arith, size) in
-    (search rules, (look_all_at c.part-in-Call.ensures.slots c.part-in-Call.ensures.at c.part-in-Call.ensures.news (part.may_call h), (omega (arith, count, h.room), omega (arith, c.part-in-Call.ensures.slots))))
+    let smaller : 4 * nodes_in (shown_terms c.as_slice-args.result.now) + 3 < 4 * nodes (shown_term c.args.t.now) = omega (arith, size) in (
+      search rules,
+      (
+        look_all_at c.part-in-Call.ensures.slots c.part-in-Call.ensures.at c.part-in-Call.ensures.news (part.may_call h),
+        (omega (arith, count, h.room), omega (arith, c.part-in-Call.ensures.slots)),
+      ),
+    )
 
 pub look-ask-requires-clause-site : goal.look-ask-requires-clause-site
 look-ask-requires-clause-site t c =
@@ -215,7 +263,14 @@ look-ask-requires-clause-few t c =
     let shape = call_by c.in-Call.field-0 c.in-Call.k (ap shown_term c.in-Call.is ∙ shown_term-Call c.in-Call.field-0 c.in-Call.k c.in-Call.ts) (ap shown_terms c.as_slice-args.ensures.value) in
     let h = look_is shape c.requires in
     let few = may.call_few _ _ _ h.can in
-    omega (arith, few, step.count_forest c.as_slice-args.result.now, ap (λ (l : List Word). length l) c.words.ensures, step.part_few (length c.as_slice-args.result.now) (drop c.args.spot.slots c.values-in-Call.new.env))
+    omega (
+      arith,
+      few,
+      step.count_forest c.as_slice-args.result.now,
+      ap (λ (l : List Word). length l) c.words.ensures,
+      step.part_few
+          (length c.as_slice-args.result.now) (drop c.args.spot.slots c.values-in-Call.new.env),
+    )
 
 pub look-returned-requires-clause-within : goal.look-returned-requires-clause-within
 look-returned-requires-clause-within t c =
@@ -229,9 +284,11 @@ look-returns-after-values-2-clause-looks t c =
     let h = look_is shape c.requires in
     let back = whole.ready_cell c.returned.result c.returned.new.word c.ready-in-Call.result c.ready-in-Call.ensures ∙ c.returned.ensures in
     whole.looks_is shape (elim c.if-values-2.branch [
-      | look-then-values-2 w ↦ whole.looks_asked (take (length c.as_slice-args.result.now) (drop c.args.spot.slots c.values-in-Call.new.env)) h (whole.finds_all_slots c.part-in-Call.ensures.slots c.part-in-Call.ensures.at w.if-values-2.ensures.finds)
+      | look-then-values-2 w ↦ whole.looks_asked (take (length c.as_slice-args.result.now) (drop c.args.spot.slots c.values-in-Call.new.env)) h
+          (whole.finds_all_slots c.part-in-Call.ensures.slots c.part-in-Call.ensures.at w.if-values-2.ensures.finds)
           (omega (arith, may.call_place _ _ _ h.can, c.values-in-Call.ensures.asks.long)) (ap Some w.words.ensures) (ap (λ (x : Wants). x.each.items) w.asks-is ∙ w.ask.ensures.each) back
-      | look-else-values-2 w ↦ whole.looks_asks (ap (λ (x : Wants). x.each.items) w.asks-is) (whole.looks_unasked h (whole.finds_all_slots c.part-in-Call.ensures.slots c.part-in-Call.ensures.at w.if-values-2.ensures.finds) back)
+      | look-else-values-2 w ↦ whole.looks_asks (ap (λ (x : Wants). x.each.items) w.asks-is)
+          (whole.looks_unasked h (whole.finds_all_slots c.part-in-Call.ensures.slots c.part-in-Call.ensures.at w.if-values-2.ensures.finds) back)
     ])
 
 -- ---- tail calls
@@ -242,8 +299,13 @@ look-values-requires-in-Loop t c =
     let size = ap nodes shape in
     let count = forest_nodes c.as_slice-passed.result.now in
     let h = look_is shape c.requires in
-    let smaller : 4 * nodes_in (shown_terms c.as_slice-passed.result.now) + 3 < 4 * nodes (shown_term c.args.t.now) = omega (arith, size) in
-    (search rules, (look_all_at c.part-in-Loop.ensures.slots c.part-in-Loop.ensures.at c.part-in-Loop.ensures.news (part.may_loop h), (omega (arith, count, h.room), omega (arith, c.part-in-Loop.ensures.slots))))
+    let smaller : 4 * nodes_in (shown_terms c.as_slice-passed.result.now) + 3 < 4 * nodes (shown_term c.args.t.now) = omega (arith, size) in (
+      search rules,
+      (
+        look_all_at c.part-in-Loop.ensures.slots c.part-in-Loop.ensures.at c.part-in-Loop.ensures.news (part.may_loop h),
+        (omega (arith, count, h.room), omega (arith, c.part-in-Loop.ensures.slots)),
+      ),
+    )
 
 pub look-returns-in-Loop-clause-looks : goal.look-returns-in-Loop-clause-looks
 look-returns-in-Loop-clause-looks t c =
@@ -261,7 +323,8 @@ look-returns-in-Var-clause-looks t c =
     let place = may.var_place c.in-Var.slot (may.can_is refl refl (ap shown_term c.in-Var.is) c.requires.can) in
     let read : c.index-env-slot.result ≡ _ = step.slot_is c.args.env.now c.args.spot.slots c.in-Var.slot _ place c.index-env-slot.is in
     whole.looks_is (ap shown_term c.in-Var.is) (whole.looks_var c.in-Var.slot (whole.ready_cell c.put-in-Var.result c.put-in-Var.new.word c.ready-in-Var.result c.ready-in-Var.ensures
-    ∙ (c.put-in-Var.ensures ∙ (ap Some (sym c.index-env-slot.is ∙ read) ∙ ap word_of (sym (step.answer_var (back_at c.args.facts.now.stages.now) (take c.args.spot.slots c.args.env.now) c.in-Var.slot))))))
+    ∙ (c.put-in-Var.ensures ∙ (ap Some (sym c.index-env-slot.is ∙ read) ∙ ap word_of
+    (sym (step.answer_var (back_at c.args.facts.now.stages.now) (take c.args.spot.slots c.args.env.now) c.in-Var.slot))))))
 
 -- ---- operands
 
@@ -273,7 +336,8 @@ operand-returns-in-Var-clause-finds t c =
     let place = may.var_place c.in-Var.slot (may.can_is refl refl (ap shown_term c.in-Var.is) c.requires.can) in
     let read : c.index-env-slot.result ≡ _ = step.slot_is c.args.env.now c.args.spot.slots c.in-Var.slot _ place c.index-env-slot.is in
     finds_is (ap shown_term c.in-Var.is) (whole.finds_var c.in-Var.slot
-    (c.put-in-Var.ensures ∙ (ap Some (sym c.index-env-slot.is ∙ read) ∙ ap word_of (sym (step.answer_var (back_at c.args.facts.now.stages.now) (take c.args.spot.slots c.args.env.now) c.in-Var.slot)))))
+    (c.put-in-Var.ensures ∙ (ap Some (sym c.index-env-slot.is ∙ read) ∙ ap word_of
+    (sym (step.answer_var (back_at c.args.facts.now.stages.now) (take c.args.spot.slots c.args.env.now) c.in-Var.slot)))))
 
 pub pair-operand-requires : goal.pair-operand-requires
 pair-operand-requires t c =
@@ -289,7 +353,8 @@ pair-returns-in-len1-clause-finds t c =
     let fo = c.operand.ensures.finds in
     finds_all_is (ap shown_terms e) (whole.finds_one fo
     (whole.answers_one (back_at c.args.facts.now.stages.now) (take c.args.spot.slots c.args.env.now) (shown_term c.only-item.result) c.operand.result c.operand.new.word fo.word
-    ∙ (sym (whole.one_word c.args.words.now c.operand.result c.operand.new.word c.requires.room) ∙ ap (λ (x : List declared.Term). cond c.operand.result (Some (take (length x) (slice_set c.args.words.now 0 c.operand.new.word))) None) (sym e))))
+    ∙ (sym (whole.one_word c.args.words.now c.operand.result c.operand.new.word c.requires.room) ∙ ap
+    (λ (x : List declared.Term). cond c.operand.result (Some (take (length x) (slice_set c.args.words.now 0 c.operand.new.word))) None) (sym e))))
 
 pub pair-operand-first-requires : goal.pair-operand-first-requires
 pair-operand-first-requires t c =
@@ -305,8 +370,12 @@ pair-operand-second-requires t c =
     let shape = ap shown_terms e in
     let size = ap nodes_in shape in
     let h = look_all_is shape c.requires.may in
-    let smaller : 4 * nodes (shown_term c.b-item.result) + 2 < 4 * nodes_in (shown_terms c.args.ts.now) + 3 = omega (arith, size) in
-    (search rules, look_at c.after.ensures.slots refl c.after.ensures.news (part.may_first (part.may_rest (omega (arith, c.operand-first.ensures.asks.long)) (omega (arith, c.operand-first.auto.env)) (omega (arith, c.operand-first.auto.kept)) c.operand-first.ensures.kept h c.operand-first.ensures.finds (c.after.ensures.at ∙ part.after_first h))))
+    let smaller : 4 * nodes (shown_term c.b-item.result) + 2 < 4 * nodes_in (shown_terms c.args.ts.now) + 3 = omega (arith, size) in (
+      search rules,
+      look_at c.after.ensures.slots refl c.after.ensures.news
+          (part.may_first (part.may_rest (omega (arith, c.operand-first.ensures.asks.long)) (omega (arith, c.operand-first.auto.env))
+          (omega (arith, c.operand-first.auto.kept)) c.operand-first.ensures.kept h c.operand-first.ensures.finds (c.after.ensures.at ∙ part.after_first h))),
+    )
 
 pub pair-returns-then-first-clause-finds : goal.pair-returns-then-first-clause-finds
 pair-returns-then-first-clause-finds t c =
@@ -318,8 +387,10 @@ pair-returns-then-first-clause-finds t c =
     let fb = whole.finds_slots c.after.ensures.slots refl c.operand-second.ensures.finds in
     let rest = whole.finds_one fb (whole.answers_one B (take c.args.spot.slots c.operand-first.new.env) (shown_term c.b-item.result) c.operand-second.result c.operand-second.new.word fb.word) in
     finds_all_is (ap shown_terms e) (whole.finds_more h fa c.operand-first.ensures.kept (c.after.ensures.at ∙ part.after_first h) rest
-    (whole.answers_two B E (take c.args.spot.slots c.operand-first.new.env) (shown_term c.a-item.result) (shown_term c.b-item.result) c.operand-first.new.word c.operand-second.new.word c.operand-second.result c.args.words.now fa.word fb.word c.operand-first.ensures.kept c.requires.room
-    ∙ ap (λ (x : List declared.Term). cond c.operand-second.result (Some (take (length x) (slice_set (slice_set c.args.words.now 0 c.operand-first.new.word) 1 c.operand-second.new.word))) None) (sym e)))
+    (whole.answers_two B E (take c.args.spot.slots c.operand-first.new.env) (shown_term c.a-item.result) (shown_term c.b-item.result)
+    c.operand-first.new.word c.operand-second.new.word c.operand-second.result c.args.words.now fa.word fb.word c.operand-first.ensures.kept c.requires.room
+    ∙ ap (λ (x : List declared.Term). cond c.operand-second.result
+    (Some (take (length x) (slice_set (slice_set c.args.words.now 0 c.operand-first.new.word) 1 c.operand-second.new.word))) None) (sym e)))
 
 pub pair-returns-else-first-clause-finds : goal.pair-returns-else-first-clause-finds
 pair-returns-else-first-clause-finds t c =
@@ -359,7 +430,9 @@ values-values-ready-requires t c =
     let smaller : 4 * nodes_in (shown_terms c.in-Some.rest.now) + 3 < 4 * nodes_in (shown_terms c.args.ts.now) + 3 = omega (arith, some_node (shown_term c.in-Some.first.now), size) in (
       search rules,
       (
-        look_all_at c.after.ensures.slots refl c.after.ensures.news (part.may_rest (omega (arith, c.operand-found.ensures.asks.long)) (omega (arith, c.operand-found.auto.env)) (omega (arith, c.operand-found.auto.kept)) c.operand-found.ensures.kept h c.operand-found.ensures.finds (c.after.ensures.at ∙ part.after_first h)),
+        look_all_at c.after.ensures.slots refl c.after.ensures.news
+            (part.may_rest (omega (arith, c.operand-found.ensures.asks.long)) (omega (arith, c.operand-found.auto.env))
+            (omega (arith, c.operand-found.auto.kept)) c.operand-found.ensures.kept h c.operand-found.ensures.finds (c.after.ensures.at ∙ part.after_first h)),
         (omega (arith, long, c.requires.places, c.operand-found.auto.env), omega (arith, c.requires.after, c.after.ensures.slots)),
       ),
     )
@@ -422,7 +495,8 @@ look-returns-else-pair-clause-asks t c = c.pair.ensures.asks
 pub look-returns-after-values-2-clause-asks : goal.look-returns-after-values-2-clause-asks
 look-returns-after-values-2-clause-asks t c =
     asks_both c.values-in-Call.ensures.asks (elim c.if-values-2.branch [
-      | look-then-values-2 w ↦ subst (λ (x : Wants). Asks c.values-in-Call.new.asks x) (sym w.asks-is) (asks_one c.in-Call.k w.words.result.now w.ask.ensures.each w.ask.ensures.first w.ask.ensures.last)
+      | look-then-values-2 w ↦ subst (λ (x : Wants). Asks c.values-in-Call.new.asks x) (sym w.asks-is)
+          (asks_one c.in-Call.k w.words.result.now w.ask.ensures.each w.ask.ensures.first w.ask.ensures.last)
       | look-else-values-2 w ↦ subst (λ (x : Wants). Asks c.values-in-Call.new.asks x) (sym w.asks-is) (asks_none c.values-in-Call.new.asks)
     ])
 

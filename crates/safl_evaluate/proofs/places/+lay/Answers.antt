@@ -13,7 +13,8 @@ lay-bounds-places-at t c =
 
 pub lay-returns-clause-laid : goal.lay-returns-clause-laid
 lay-returns-clause-laid t c =
-    part.laid_own c.lay_parts-place.new.places _ c.args.at (shown_term c.args.t.now) c.lay_parts-place.result c.lay_parts-place.ensures.laid c.lay_parts-place.ensures.place (omega (arith, c.requires, some_node (shown_term c.args.t.now), c.lay_parts-place.auto.places)) refl
+    part.laid_own c.lay_parts-place.new.places _ c.args.at (shown_term c.args.t.now) c.lay_parts-place.result c.lay_parts-place.ensures.laid
+    c.lay_parts-place.ensures.place (omega (arith, c.requires, some_node (shown_term c.args.t.now), c.lay_parts-place.auto.places)) refl
 
 pub lay-returns-clause-outside : goal.lay-returns-clause-outside
 lay-returns-clause-outside t c =
@@ -40,12 +41,15 @@ pub lay_all-returns-clause-laid : goal.lay_all-returns-clause-laid
 lay_all-returns-clause-laid t c =
     let shape = ap shown_terms c.in-Some.ensures.cases.0 in
     let next = c.lay-one.ensures.place.next in
-    part.in_is c.lay_all-others.new.places c.args.at shape (part.laid_more c.args.at (shown_term c.in-Some.first.now) (shown_terms c.in-Some.rest.now) c.lay-one.ensures.laid (part.laid_in_at c.lay_all-others.new.places (shown_terms c.in-Some.rest.now) next c.lay_all-others.ensures.laid) (part.outside_at (nodes_in (shown_terms c.in-Some.rest.now)) next c.lay_all-others.ensures.outside))
+    part.in_is c.lay_all-others.new.places c.args.at shape (part.laid_more c.args.at (shown_term c.in-Some.first.now) (shown_terms c.in-Some.rest.now)
+    c.lay-one.ensures.laid (part.laid_in_at c.lay_all-others.new.places (shown_terms c.in-Some.rest.now) next c.lay_all-others.ensures.laid)
+    (part.outside_at (nodes_in (shown_terms c.in-Some.rest.now)) next c.lay_all-others.ensures.outside))
 
 pub lay_all-returns-clause-room : goal.lay_all-returns-clause-room
 lay_all-returns-clause-room t c =
     let shape = ap shown_terms c.in-Some.ensures.cases.0 in
-    part.room_is shape (part.room_more c.lay-one.ensures.place (part.room_at c.lay-one.ensures.place.next c.lay_all-others.ensures.room) c.followed.ensures.first c.followed.ensures.second c.followed.ensures.next)
+    part.room_is shape (part.room_more c.lay-one.ensures.place (part.room_at c.lay-one.ensures.place.next c.lay_all-others.ensures.room)
+    c.followed.ensures.first c.followed.ensures.second c.followed.ensures.next)
 
 pub lay_parts-lay_all-bindings-requires : goal.lay_parts-lay_all-bindings-requires
 lay_parts-lay_all-bindings-requires t c =
@@ -95,36 +99,48 @@ pub lay_parts-returns-in-If-clause-laid : goal.lay_parts-returns-in-If-clause-la
 lay_parts-returns-in-If-clause-laid t c =
     let shape = if_by (ap shown_term c.in-If.is) (ap shown_term c.deref.ensures) (ap shown_term c.deref-in-If.ensures) (ap shown_term c.deref-in-If-2.ensures) in
     let second = c.lay-first.ensures.place.next in
-    let third : c.lay-second.result.next ≡ c.args.at + 1 + nodes (shown_term c.deref.result.now) + nodes (shown_term c.deref-in-If.result.now) = omega (arith, second, c.lay-second.ensures.place.next) in
+    let third : c.lay-second.result.next ≡ c.args.at + 1 + nodes (shown_term c.deref.result.now) + nodes (shown_term c.deref-in-If.result.now) = omega
+    (arith, second, c.lay-second.ensures.place.next) in
     let x = shown_term c.deref-in-If.result.now in
     let y = shown_term c.deref-in-If-2.result.now in
-    part.below_is c.lay-third.new.places c.args.at shape (part.laid_if c.args.at (shown_term c.deref.result.now) x y c.lay-first.ensures.laid (part.laid_at c.lay-second.new.places x second c.lay-second.ensures.laid) (part.laid_at c.lay-third.new.places y third c.lay-third.ensures.laid) (part.outside_at (nodes x) second c.lay-second.ensures.outside) (part.outside_at (nodes y) third c.lay-third.ensures.outside))
+    part.below_is c.lay-third.new.places c.args.at shape (part.laid_if c.args.at (shown_term c.deref.result.now) x y c.lay-first.ensures.laid
+    (part.laid_at c.lay-second.new.places x second c.lay-second.ensures.laid)
+    (part.laid_at c.lay-third.new.places y third c.lay-third.ensures.laid) (part.outside_at (nodes x) second c.lay-second.ensures.outside)
+    (part.outside_at (nodes y) third c.lay-third.ensures.outside))
 
 pub lay_parts-returns-in-If-clause-place : goal.lay_parts-returns-in-If-clause-place
 lay_parts-returns-in-If-clause-place t c =
     let shape = if_by (ap shown_term c.in-If.is) (ap shown_term c.deref.ensures) (ap shown_term c.deref-in-If.ensures) (ap shown_term c.deref-in-If-2.ensures) in
     let second = c.lay-first.ensures.place.next in
-    let third : c.lay-second.result.next ≡ c.args.at + 1 + nodes (shown_term c.deref.result.now) + nodes (shown_term c.deref-in-If.result.now) = omega (arith, second, c.lay-second.ensures.place.next) in
-    part.place_is shape (part.place_if c.lay-first.ensures.place (part.place_at second c.lay-second.ensures.place) (part.place_at third c.lay-third.ensures.place) c.followed.ensures.first c.followed.ensures.second c.followed-in-If.ensures.first c.followed-in-If.ensures.second c.followed-in-If.ensures.next)
+    let third : c.lay-second.result.next ≡ c.args.at + 1 + nodes (shown_term c.deref.result.now) + nodes (shown_term c.deref-in-If.result.now) = omega
+    (arith, second, c.lay-second.ensures.place.next) in
+    part.place_is shape (part.place_if c.lay-first.ensures.place (part.place_at second c.lay-second.ensures.place)
+    (part.place_at third c.lay-third.ensures.place) c.followed.ensures.first c.followed.ensures.second c.followed-in-If.ensures.first
+    c.followed-in-If.ensures.second c.followed-in-If.ensures.next)
 
 pub lay_parts-returns-in-Let-clause-laid : goal.lay_parts-returns-in-Let-clause-laid
 lay_parts-returns-in-Let-clause-laid t c =
     let shape = let_by (ap shown_term c.in-Let.is ∙ shown_term-Let c.in-Let.field-0 c.in-Let.bound c.in-Let.body) (ap shown_terms c.as_slice.ensures.value) (ap shown_term c.deref-in-Let.ensures) in
     let next = c.lay-below.ensures.place.next in
-    part.below_is c.lay_all-bindings.new.places c.args.at shape (part.laid_let c.args.at (shown_terms c.as_slice.result.now) (shown_term c.deref-in-Let.result.now) c.lay-below.ensures.laid (part.laid_in_at c.lay_all-bindings.new.places (shown_terms c.as_slice.result.now) next c.lay_all-bindings.ensures.laid) (part.outside_at (nodes_in (shown_terms c.as_slice.result.now)) next c.lay_all-bindings.ensures.outside))
+    part.below_is c.lay_all-bindings.new.places c.args.at shape
+    (part.laid_let c.args.at (shown_terms c.as_slice.result.now) (shown_term c.deref-in-Let.result.now) c.lay-below.ensures.laid
+    (part.laid_in_at c.lay_all-bindings.new.places (shown_terms c.as_slice.result.now) next c.lay_all-bindings.ensures.laid)
+    (part.outside_at (nodes_in (shown_terms c.as_slice.result.now)) next c.lay_all-bindings.ensures.outside))
 
 pub lay_parts-returns-in-Let-clause-place : goal.lay_parts-returns-in-Let-clause-place
 lay_parts-returns-in-Let-clause-place t c =
     let shape = let_by (ap shown_term c.in-Let.is ∙ shown_term-Let c.in-Let.field-0 c.in-Let.bound c.in-Let.body) (ap shown_terms c.as_slice.ensures.value) (ap shown_term c.deref-in-Let.ensures) in
     let next = c.lay-below.ensures.place.next in
-    part.place_is shape (part.place_let c.lay-below.ensures.place (part.room_at next c.lay_all-bindings.ensures.room) c.followed-in-Let.ensures.first c.followed-in-Let.ensures.second c.followed-in-Let.ensures.next)
+    part.place_is shape (part.place_let c.lay-below.ensures.place (part.room_at next c.lay_all-bindings.ensures.room) c.followed-in-Let.ensures.first
+    c.followed-in-Let.ensures.second c.followed-in-Let.ensures.next)
 
 pub lay_parts-returns-in-Let-clause-outside : goal.lay_parts-returns-in-Let-clause-outside
 lay_parts-returns-in-Let-clause-outside t c =
     let shape = let_by (ap shown_term c.in-Let.is ∙ shown_term-Let c.in-Let.field-0 c.in-Let.bound c.in-Let.body) (ap shown_terms c.as_slice.ensures.value) (ap shown_term c.deref-in-Let.ensures) in
     let size = ap nodes shape in
     let next = c.lay-below.ensures.place.next in
-    part.outside_both (part.outside_more c.lay-below.ensures.outside (omega arith) (omega (arith, size))) (part.outside_more c.lay_all-bindings.ensures.outside (omega (arith, next)) (omega (arith, next, size)))
+    part.outside_both (part.outside_more c.lay-below.ensures.outside (omega arith) (omega (arith, size)))
+    (part.outside_more c.lay_all-bindings.ensures.outside (omega (arith, next)) (omega (arith, next, size)))
 
 pub lay_parts-returns-in-Op-clause-laid : goal.lay_parts-returns-in-Op-clause-laid
 lay_parts-returns-in-Op-clause-laid t c =
@@ -145,7 +161,8 @@ lay_parts-returns-in-Op-clause-outside t c =
 pub lay_parts-returns-in-Call-clause-laid : goal.lay_parts-returns-in-Call-clause-laid
 lay_parts-returns-in-Call-clause-laid t c =
     let shape = call_by c.in-Call.field-0 c.in-Call.k (ap shown_term c.in-Call.is ∙ shown_term-Call c.in-Call.field-0 c.in-Call.k c.in-Call.ts) (ap shown_terms c.as_slice-in-Call.ensures.value) in
-    part.below_is c.lay_all-in-Call.new.places c.args.at shape (part.below_call c.lay_all-in-Call.new.places c.args.at c.in-Call.field-0 c.in-Call.k (shown_terms c.as_slice-in-Call.result.now) c.lay_all-in-Call.ensures.laid)
+    part.below_is c.lay_all-in-Call.new.places c.args.at shape
+    (part.below_call c.lay_all-in-Call.new.places c.args.at c.in-Call.field-0 c.in-Call.k (shown_terms c.as_slice-in-Call.result.now) c.lay_all-in-Call.ensures.laid)
 
 pub lay_parts-returns-in-Call-clause-place : goal.lay_parts-returns-in-Call-clause-place
 lay_parts-returns-in-Call-clause-place t c =
@@ -161,7 +178,8 @@ lay_parts-returns-in-Call-clause-outside t c =
 pub lay_parts-returns-in-Loop-clause-laid : goal.lay_parts-returns-in-Loop-clause-laid
 lay_parts-returns-in-Loop-clause-laid t c =
     let shape = loop_by c.in-Loop.field-0 (ap shown_term c.in-Loop.is ∙ shown_term-Loop c.in-Loop.field-0 c.in-Loop.ts) (ap shown_terms c.as_slice-in-Loop.ensures.value) in
-    part.below_is c.lay_all-in-Loop.new.places c.args.at shape (part.below_loop c.lay_all-in-Loop.new.places c.args.at c.in-Loop.field-0 (shown_terms c.as_slice-in-Loop.result.now) c.lay_all-in-Loop.ensures.laid)
+    part.below_is c.lay_all-in-Loop.new.places c.args.at shape
+    (part.below_loop c.lay_all-in-Loop.new.places c.args.at c.in-Loop.field-0 (shown_terms c.as_slice-in-Loop.result.now) c.lay_all-in-Loop.ensures.laid)
 
 pub lay_parts-returns-in-Loop-clause-place : goal.lay_parts-returns-in-Loop-clause-place
 lay_parts-returns-in-Loop-clause-place t c =

@@ -17,7 +17,16 @@ lay-at-requires c =
     let f = c.loop-f.f in
     let lt : f < (program_of c.args.c.now).functions = omega (arith, c.loop-f-test.true, c.functions-f-end.ensures.count, c.loop-f.auto.f-end) in
     let long = ap (λ (l : List Place). length l) c.deref_mut.ensures.value in
-    omega (arith, before_most c.args.c.now c.body.ensures.checked (suc f), before_next c.args.c.now f lt, c.loop-f.invariant.planned.count, ap nodes c.body.ensures.term, long, c.loop-f.invariant.places)
+    omega (
+      arith,
+      before_most c.args.c.now c.body.ensures.checked (suc f),
+      before_next c.args.c.now f lt,
+      c.loop-f.invariant.planned.count,
+      ap nodes
+          c.body.ensures.term,
+      long,
+      c.loop-f.invariant.places,
+    )
 
 pub loop-f-preserved : goal.loop-f-preserved
 loop-f-preserved c =
@@ -28,14 +37,17 @@ loop-f-preserved c =
     let lt : f < C.functions = omega (arith, c.loop-f-test.true, c.functions-f-end.ensures.count, c.loop-f.auto.f-end) in
     let places = refilled c.loop-f.places c.lay-at.new.places c.deref_mut.result.now c.lay-at.auto.places c.deref_mut.ensures.value in
     let term = c.body.ensures.term in
-    let outside = subst (λ (t : Term). SameOutside at (at + nodes t) P c.lay-at.new.places) term (subst (λ (l : List Place). SameOutside at (at + nodes (shown_term c.body.result.now)) l c.lay-at.new.places) c.deref_mut.ensures.value c.lay-at.ensures.outside) in
+    let outside = subst (λ (t : Term). SameOutside at (at + nodes t) P c.lay-at.new.places) term
+    (subst (λ (l : List Place). SameOutside at (at + nodes (shown_term c.body.result.now)) l c.lay-at.new.places) c.deref_mut.ensures.value
+    c.lay-at.ensures.outside) in
     let laid = subst (λ (t : Term). Laid c.lay-at.new.places at t) term c.lay-at.ensures.laid in
     let one : suc f ≡ f + 1 = omega arith in
     let next = c.lay-at.ensures.place.next ∙ ap (λ (t : Term). at + nodes t) term in
     record {
       planned = subst (λ (l : List Place). ArePlanned c.args.c.now l (slice_set c.loop-f.bodies.items f at) (f + 1) c.lay-at.result.next) (sym places)
           (subst (λ (i : ℕ). ArePlanned c.args.c.now c.lay-at.new.places (slice_set c.loop-f.bodies.items f at) i c.lay-at.result.next) one
-          (planned_next c.args.c.now P c.lay-at.new.places c.loop-f.bodies.items f at c.lay-at.result.next c.loop-f.invariant.planned lt (omega (arith, lt, c.loop-f.invariant.bodies)) laid outside next));
+          (planned_next c.args.c.now P c.lay-at.new.places c.loop-f.bodies.items f at c.lay-at.result.next c.loop-f.invariant.planned lt
+          (omega (arith, lt, c.loop-f.invariant.bodies)) laid outside next));
       places = refilled_long c.loop-f.places c.lay-at.new.places ∙ c.loop-f.invariant.places;
       bodies = search rules;
     }

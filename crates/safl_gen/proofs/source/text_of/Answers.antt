@@ -23,7 +23,8 @@ loop-i-preserved c =
     record {
       drawn = draws_more seed i _ _ at made.ensures.number;
       written = line_more (drawn_line (draw seed)) 0 i i [] (string_bytes c.loop-i.text) (string_bytes c.push_function.new.out) (omega arith) c.loop-i.invariant.written
-          (c.in_ok-push_function.ensures ∙ ap (λ (l : List ℕ). string_bytes c.loop-i.text ++ l) (line_drawn seed i _ _ _ _ _ at made.ensures.number made.ensures.form made.ensures.constant made.ensures.first));
+          (c.in_ok-push_function.ensures ∙ ap (λ (l : List ℕ). string_bytes c.loop-i.text ++ l)
+          (line_drawn seed i _ _ _ _ _ at made.ensures.number made.ensures.form made.ensures.constant made.ensures.first));
     }
 
 pub returns : goal.returns

@@ -20,8 +20,14 @@ call-evaluate-requires t c =
     let C = program_of c.args.c.now in
     let i = c.loop-calls.invariant in
     let few : nodes (shown_term c.body.result.now) ≤ 50000 = subst (λ x. nodes x ≤ 50000) (sym c.body.ensures.term) (Steps.few_nodes c.args.c.now c.requires.checked c.loop-calls.function) in
-    let smaller : 150001 * (c.loop-calls.calls - 1) + 3 * nodes (shown_term c.body.result.now) < 150001 * c.args.left = omega (arith, few, i.within, c.loop-calls-test.true) in
-    (search rules, (c.requires.checked, Steps.typed_as (sym c.deref.ensures.value) (sym c.body.ensures.term) (Steps.typed_function C c.loop-calls.function c.loop-calls.words.items c.requires.checked.formed i.function i.fit)))
+    let smaller : 150001 * (c.loop-calls.calls - 1) + 3 * nodes (shown_term c.body.result.now) < 150001 * c.args.left = omega (arith, few, i.within, c.loop-calls-test.true) in (
+      search rules,
+      (
+        c.requires.checked,
+        Steps.typed_as (sym c.deref.ensures.value) (sym c.body.ensures.term)
+            (Steps.typed_function C c.loop-calls.function c.loop-calls.words.items c.requires.checked.formed i.function i.fit),
+      ),
+    )
 
 pub call-returns-in-Done : goal.call-returns-in-Done
 call-returns-in-Done t c =
@@ -39,7 +45,8 @@ call-loop-calls-preserved t c =
       function = goes.0;
       fit = goes.1;
       within = omega (arith, goes.2, i.within);
-      same = i.same ∙ (sym (Steps.one_step C c.loop-calls.calls c.loop-calls.function c.loop-calls.words.items _ _ _ (omega (arith, c.loop-calls-test.true)) c.deref.ensures.value c.body.ensures.term c.in_ok-answer.ensures) ∙ ap (finished C) c.in-Tail.is);
+      same = i.same ∙ (sym (Steps.one_step C c.loop-calls.calls c.loop-calls.function c.loop-calls.words.items _ _ _
+          (omega (arith, c.loop-calls-test.true)) c.deref.ensures.value c.body.ensures.term c.in_ok-answer.ensures) ∙ ap (finished C) c.in-Tail.is);
     }
 
 pub call-returns-in-Spent : goal.call-returns-in-Spent
@@ -94,7 +101,8 @@ evaluate-returns-then-bits-eq1 t c =
     let rest = c.in-Some.test.left in
     let test : Gave word rest ≡ eval C (applied C) (shown_term c.deref.result.now) n E = sym (ap shown c.in-Some.is) ∙ c.in_ok-test-in-If.ensures in
     let left = term_saves C (shown_term c.deref.result.now) n E word rest (sym test) in
-    let same = Steps.if_then C E n (shown_term c.deref.result.now) (shown_term c.deref-then-bits-eq1.result.now) (shown_term c.in-If.b.value) word rest test (sym c.bits.ensures.value ∙ c.if-bits-eq1.true) in
+    let same = Steps.if_then C E n (shown_term c.deref.result.now) (shown_term c.deref-then-bits-eq1.result.now) (shown_term c.in-If.b.value) word
+    rest test (sym c.bits.ensures.value ∙ c.if-bits-eq1.true) in
     Steps.step_as C E E (shown_term c.deref-then-bits-eq1.result.now) (shown_term c.args.t.now) rest n (Steps.comes_as C E n shape same) left _ c.evaluate.ensures
 
 pub evaluate-returns-else-bits-eq1 : goal.evaluate-returns-else-bits-eq1
@@ -107,7 +115,8 @@ evaluate-returns-else-bits-eq1 t c =
     let rest = c.in-Some.test.left in
     let test : Gave word rest ≡ eval C (applied C) (shown_term c.deref.result.now) n E = sym (ap shown c.in-Some.is) ∙ c.in_ok-test-in-If.ensures in
     let left = term_saves C (shown_term c.deref.result.now) n E word rest (sym test) in
-    let same = Steps.if_else C E n (shown_term c.deref.result.now) (shown_term c.in-If.a.value) (shown_term c.deref-else-bits-eq1.result.now) word rest test (λ q. c.if-bits-eq1.false (c.bits.ensures.value ∙ q)) in
+    let same = Steps.if_else C E n (shown_term c.deref.result.now) (shown_term c.in-If.a.value) (shown_term c.deref-else-bits-eq1.result.now) word
+    rest test (λ q. c.if-bits-eq1.false (c.bits.ensures.value ∙ q)) in
     Steps.step_as C E E (shown_term c.deref-else-bits-eq1.result.now) (shown_term c.args.t.now) rest n (Steps.comes_as C E n shape same) left _ c.evaluate-else-bits-eq1.ensures
 
 -- ---- bindings
@@ -124,7 +133,8 @@ evaluate-evaluate-requires-in-Some-2 t c =
     let C = program_of c.args.c.now in
     let E = c.args.env.now in
     let n = c.args.left in
-    let shape = Steps.let_by (ap shown_term c.in-Let.is ∙ shown_term-Let c.in-Let.field-0 c.in-Let.ts c.in-Let.body) (ap shown_terms c.deref-in-Let.ensures.value) (ap shown_term c.deref-in-Some-2-3.ensures) in
+    let shape = Steps.let_by (ap shown_term c.in-Let.is ∙ shown_term-Let c.in-Let.field-0 c.in-Let.ts c.in-Let.body)
+    (ap shown_terms c.deref-in-Let.ensures.value) (ap shown_term c.deref-in-Some-2-3.ensures) in
     let ts = shown_terms c.deref-in-Let.result.now in
     let us = c.in-Some-2.bound.words.items in
     let rest = c.in-Some-2.bound.left in
@@ -142,7 +152,8 @@ evaluate-returns-in_ok-extend_from_slice-in-Some-2 t c =
     let C = program_of c.args.c.now in
     let E = c.args.env.now in
     let n = c.args.left in
-    let shape = Steps.let_by (ap shown_term c.in-Let.is ∙ shown_term-Let c.in-Let.field-0 c.in-Let.ts c.in-Let.body) (ap shown_terms c.deref-in-Let.ensures.value) (ap shown_term c.deref-in-Some-2-3.ensures) in
+    let shape = Steps.let_by (ap shown_term c.in-Let.is ∙ shown_term-Let c.in-Let.field-0 c.in-Let.ts c.in-Let.body)
+    (ap shown_terms c.deref-in-Let.ensures.value) (ap shown_term c.deref-in-Some-2-3.ensures) in
     let ts = shown_terms c.deref-in-Let.result.now in
     let us = c.in-Some-2.bound.words.items in
     let rest = c.in-Some-2.bound.left in
@@ -184,7 +195,8 @@ evaluate-apply-word-requires t c =
     let us = c.in-Some-3.operands.words.items in
     let rest = c.in-Some-3.operands.left in
     let all : Words us rest ≡ eval_all C (applied C) ts n E = sym (ap shown_all c.in-Some-3.is) ∙ c.in_ok-operands-in-Op.ensures in
-    subst (λ l. IsSome (result_width c.in-Op.p (widths l))) (sym c.deref-in-Some-3.ensures.value) (Steps.op_fits c.requires.checked.formed ts n us rest all c.in-Op.p (Steps.typed_as refl shape c.requires.typed))
+    subst (λ l. IsSome (result_width c.in-Op.p (widths l))) (sym c.deref-in-Some-3.ensures.value)
+    (Steps.op_fits c.requires.checked.formed ts n us rest all c.in-Op.p (Steps.typed_as refl shape c.requires.typed))
 
 pub evaluate-returns-in-Some-3 : goal.evaluate-returns-in-Some-3
 evaluate-returns-in-Some-3 t c =
@@ -258,7 +270,8 @@ pub values-value-requires : goal.values-value-requires
 values-value-requires t c =
     let at = slice_get_read c.args.ts.now (length c.args.ts.now) c.loop-t.t-index c.t-item.result refl c.loop-t-test.true c.t-item.is in
     let size = Steps.smaller_at c.args.ts.now c.loop-t.t-index c.t-item.result at in
-    let smaller : 150001 * c.loop-t.rest + 3 * nodes (shown_term c.t-item.result) + 1 < 150001 * c.args.left + 3 * nodes_in (shown_terms c.args.ts.now) + 2 = omega (arith, size, c.loop-t.invariant.within) in
+    let smaller : 150001 * c.loop-t.rest + 3 * nodes (shown_term c.t-item.result) + 1 < 150001 * c.args.left + 3 * nodes_in
+    (shown_terms c.args.ts.now) + 2 = omega (arith, size, c.loop-t.invariant.within) in
     (search rules, (c.requires.checked, Steps.typed_at c.args.ts.now c.loop-t.t-index c.t-item.result at c.requires.typed))
 
 pub values-loop-t-preserved : goal.values-loop-t-preserved

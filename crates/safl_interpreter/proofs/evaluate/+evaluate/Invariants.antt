@@ -33,5 +33,6 @@ decreases-call-loop-calls l = l.calls
 abbrev pub invariant-values-loop-t : goal.invariant-values-loop-t
 invariant-values-loop-t l = record {
   within : l.rest ≤ l.left;
-  same : eval_all (program_of l.c) (applied (program_of l.c)) (shown_terms l.ts) l.left l.env ≡ after l.words.items (eval_all (program_of l.c) (applied (program_of l.c)) (shown_terms (drop l.t-index l.ts)) l.rest l.env);
+  same : eval_all (program_of l.c) (applied (program_of l.c)) (shown_terms l.ts) l.left l.env ≡ after l.words.items
+      (eval_all (program_of l.c) (applied (program_of l.c)) (shown_terms (drop l.t-index l.ts)) l.rest l.env);
 }

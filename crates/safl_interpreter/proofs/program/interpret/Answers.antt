@@ -11,4 +11,5 @@ call-requires-clause-fit c =
 
 pub returns : goal.returns
 returns c =
-    main_gives c.args.c.now c.args.budget _ _ _ (c.functions-main.ensures.checked) (main_is c.args.c.now _ c.functions-main.ensures.count) (c.in_ok-to_vec.ensures.items_if_clones_equal (λ x y h. h)) c.call.result c.call.ensures
+    main_gives c.args.c.now c.args.budget _ _ _ (c.functions-main.ensures.checked) (main_is c.args.c.now _ c.functions-main.ensures.count)
+    (c.in_ok-to_vec.ensures.items_if_clones_equal (λ x y h. h)) c.call.result c.call.ensures

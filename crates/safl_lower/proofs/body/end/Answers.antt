@@ -18,7 +18,8 @@ returns-in_ok-load-in-Never c =
     record {
       tidy = n.tidy;
       built = builds_on z.built n.built;
-      fits = λ w s e. one_load_fits c.in_ok-load-in-Never.load l.bit l.operands (source_kept n.built z.fits) (subst (λ k. IsSource c.no_value.new.net c.in_ok-value-in-Never.value k) (sym (e c.in-Never.is)) n.fits);
+      fits = λ w s e. one_load_fits c.in_ok-load-in-Never.load l.bit l.operands (source_kept n.built z.fits)
+          (subst (λ k. IsSource c.no_value.new.net c.in_ok-value-in-Never.value k) (sym (e c.in-Never.is)) n.fits);
       value = λ v w.
           one_load_takes v c.in_ok-load-in-Never.load l.bit l.operands
           ∙ ap (λ (b : Bool). one_word (gate b (Some (v c.in_ok-value-in-Never.value.0)))) (z.value v (wired_before n.built.grows w))

@@ -51,7 +51,8 @@ spread-requires-clause-within c =
     let n = c.len.ensures in
     let k : c.len.result ≡ length c.args.ports.sites.items = omega (arith, n, c.args.ports.sites.ok.0) in
     subst (λ (j : ℕ). Between j (j + c.len.result) (map site_of c.lower_term.new.out.wants.items)) (sym c.first_site.ensures)
-    (subst (λ (j : ℕ). Between (first_site_of c.args.c.now c.args.f) (first_site_of c.args.c.now c.args.f + j) (map site_of c.lower_term.new.out.wants.items)) (sym k) (spread_within c.new.ensures.items c.new-2.ensures.items g h))
+    (subst (λ (j : ℕ). Between (first_site_of c.args.c.now c.args.f) (first_site_of c.args.c.now c.args.f + j)
+    (map site_of c.lower_term.new.out.wants.items)) (sym k) (spread_within c.new.ensures.items c.new-2.ensures.items g h))
 
 pub spread-requires-clause-called : goal.spread-requires-clause-called
 spread-requires-clause-called c =
@@ -60,13 +61,15 @@ spread-requires-clause-called c =
     let n = c.len.ensures in
     let k : c.len.result ≡ length c.args.ports.sites.items = omega (arith, n, c.args.ports.sites.ok.0) in
     subst (λ (j : ℕ). (i : ℕ) → i < c.len.result → Listed (j + i) (map site_of c.lower_term.new.out.wants.items)) (sym c.first_site.ensures)
-    (subst (λ (j : ℕ). (i : ℕ) → i < j → Listed (first_site_of c.args.c.now c.args.f + i) (map site_of c.lower_term.new.out.wants.items)) (sym k) (spread_called c.new.ensures.items c.new-2.ensures.items g h))
+    (subst (λ (j : ℕ). (i : ℕ) → i < j → Listed (first_site_of c.args.c.now c.args.f + i) (map site_of c.lower_term.new.out.wants.items)) (sym k)
+    (spread_called c.new.ensures.items c.new-2.ensures.items g h))
 
 pub merge-requires-clause-fit : goal.merge-requires-clause-fit
 merge-requires-clause-fit c =
     let g = own_given c.args.c.now c.body.ensures.checked c.args.f c.requires.function c.args.net.now c.args.ports c.requires.able in
     let h = renumbered c.first_site.result (first_site_of c.args.c.now c.args.f) c.first_site.ensures c.body.ensures.term c.in_ok-lowered.ensures.done in
-    subst (λ (es : List TailCall). (F : Owner) × LoopsFit F c.end.new.net es) (sym c.deref.ensures.value) (merge_fit c.new.ensures.items c.new-2.ensures.items g h c.end.new.net c.end.ensures.built.grows)
+    subst (λ (es : List TailCall). (F : Owner) × LoopsFit F c.end.new.net es) (sym c.deref.ensures.value)
+    (merge_fit c.new.ensures.items c.new-2.ensures.items g h c.end.new.net c.end.ensures.built.grows)
 
 pub merge-requires-clause-within : goal.merge-requires-clause-within
 merge-requires-clause-within c =
@@ -121,7 +124,8 @@ returns-clause-done c =
       inside = λ i x y. c.group_end.ensures.inside i x (omega (arith, y, u, most, low));
       members = λ i x y. let q = c.group_end.ensures.members i x y in let q0 = q.0 in let q1 = q.1 in (q0, omega (arith, q1, u, most, low));
     } in
-    lowered c.args.c.now c.body.ensures.checked c.args.f c.requires.function c.args.ports (record { end = c.in_ok-ending.ending; wants = c.in_ok-calls.calls; loops = c.in_ok-tails.tails }) c.width.result (c.group_end.result - a)
+    lowered c.args.c.now c.body.ensures.checked c.args.f c.requires.function c.args.ports
+    (record { end = c.in_ok-ending.ending; wants = c.in_ok-calls.calls; loops = c.in_ok-tails.tails }) c.width.result (c.group_end.result - a)
     c.new.ensures.items c.new-2.ensures.items c.requires.able h e.built e.fits c.width.ensures.width e.value
     (subst (λ (j : ℕ). Spreads j (length c.args.ports.sites.items) c.lower_term.new.out.wants.items c.in_ok-calls.calls.items) c.first_site.ensures
     (subst (λ (j : ℕ). Spreads c.first_site.result j c.lower_term.new.out.wants.items c.in_ok-calls.calls.items) k c.in_ok-calls.ensures))

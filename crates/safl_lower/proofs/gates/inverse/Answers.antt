@@ -9,4 +9,11 @@ operate-requires-clause-operands c = (1 ∷ [], 1, one_source c.requires.bit, re
 pub returns : goal.returns
 returns c =
     let e = c.operate.ensures in
-    record { tidy = e.tidy; built = e.built; fits = e.fits (1 ∷ []) 1 (one_source c.requires.bit) refl; value = not_on c.args.net.now c.operate.new.net c.operate.result c.args.a c.requires.bit.width e.built.grows e.value; gate = e.gate }
+    record {
+      tidy = e.tidy;
+      built = e.built;
+      fits = e.fits (1 ∷ []) 1 (one_source c.requires.bit) refl;
+      value = not_on c.args.net.now
+          c.operate.new.net c.operate.result c.args.a c.requires.bit.width e.built.grows e.value;
+      gate = e.gate;
+    }

@@ -16,7 +16,8 @@ abbrev nothing : Sig
 nothing = record { 0 = 0 }
 
 -- the operands at a number, which have one width
-operands : (n : Netlist) (a b : List Sig) (ws : List ℕ) (i : ℕ) → AreSources n a ws → AreSources n b ws → i < length a → (w : ℕ) × (slice_get ws i ≡ Some w) × IsSource n (slice_index_or a i nothing) w × IsSource n (slice_index_or b i nothing) w
+operands : (n : Netlist) (a b : List Sig) (ws : List ℕ) (i : ℕ) → AreSources n a ws → AreSources n b ws → i < length a → (w : ℕ) ×
+    (slice_get ws i ≡ Some w) × IsSource n (slice_index_or a i nothing) w × IsSource n (slice_index_or b i nothing) w
 operands n a b ws i p q l =
     let e = sources_length n a ws p in
     let f = sources_length n b ws q in
@@ -67,13 +68,16 @@ loop-i-preserved c =
       fits = λ ws p q.
           let o = operands c.args.net.now a b ws c.loop-i.i p q l in
           subst (λ (xs : List Sig). AreSources c.mux.new.net xs (take (c.loop-i.i + 1) ws)) (sym e)
-          (sources_more c.mux.new.net c.loop-i.all.items ws c.loop-i.i c.in_ok-next.next o.0 (sources_kept built (j.fits ws p q)) o.1 (c.in_ok-next.ensures.fits o.0 (source_kept j.built o.2) (source_kept j.built o.3)));
+          (sources_more c.mux.new.net c.loop-i.all.items ws c.loop-i.i c.in_ok-next.next o.0 (sources_kept built (j.fits ws p q)) o.1
+          (c.in_ok-next.ensures.fits o.0 (source_kept j.built o.2) (source_kept j.built o.3)));
       value = λ v w.
           let k = subst (λ (xs : List Sig). words v xs ≡ words v (c.loop-i.all.items ++ c.in_ok-next.next ∷ [])) (sym e) refl in
-          k ∙ chosen_more v c.args.c c.loop-i.all.items a b c.in_ok-next.next (slice_index_or a c.loop-i.i nothing) (slice_index_or b c.loop-i.i nothing) c.loop-i.i (get_there a c.loop-i.i nothing l) (get_there b c.loop-i.i nothing m)
+          k ∙ chosen_more v c.args.c c.loop-i.all.items a b c.in_ok-next.next (slice_index_or a c.loop-i.i nothing)
+          (slice_index_or b c.loop-i.i nothing) c.loop-i.i (get_there a c.loop-i.i nothing l) (get_there b c.loop-i.i nothing m)
           (j.value v (wired_before built.grows w)) (c.in_ok-next.ensures.value v w);
       height = subst (λ (xs : List Sig). AllWithin c.mux.new.net (c.args.c ∷ (a ++ b)) 1 xs) (sym e)
-          (chosen_within c.mux.new.net c.args.c a b c.loop-i.all.items c.in_ok-next.next c.loop-i.i nothing l m (all_kept built (c.args.c ∷ (a ++ b)) 1 c.loop-i.all.items j.height) c.in_ok-next.ensures.gate);
+          (chosen_within c.mux.new.net c.args.c a b c.loop-i.all.items c.in_ok-next.next c.loop-i.i nothing l m
+          (all_kept built (c.args.c ∷ (a ++ b)) 1 c.loop-i.all.items j.height) c.in_ok-next.ensures.gate);
     }
 
 pub returns-clause-fits : goal.returns-clause-fits

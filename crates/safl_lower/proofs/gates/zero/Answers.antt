@@ -7,7 +7,8 @@ use Rattle.safl_net.specs.Bits.{on}
 use Rattle.safl_lower.specs.Sources.{IsSource}
 use Rattle.safl_lower.proofs.gates.zero.Goals as goal
 
-never : {E : Type 0} (m : Netlist) (r : Result Sig E) (w : Word) → w ≡ record { width = 1; bits = 0 } → IfOk r (λ s. (v : Val) → Wired m v → v s.0 ≡ w) → IfOk r (λ s. (v : Val) → Wired m v → on v s ≡ false)
+never : {E : Type 0} (m : Netlist) (r : Result Sig E) (w : Word) → w ≡ record { width = 1; bits = 0 } → IfOk r
+    (λ s. (v : Val) → Wired m v → v s.0 ≡ w) → IfOk r (λ s. (v : Val) → Wired m v → on v s ≡ false)
 never m (Ok s) w e h = λ v k. ap (λ (x : Word). x.bits == 1) (h v k ∙ e)
 never m (Err x) w e h = tt
 

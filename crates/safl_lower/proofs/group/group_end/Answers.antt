@@ -10,4 +10,5 @@ returns-then-unit-clause-inside c = λ h a b.
 pub loop-g-preserved : goal.loop-g-preserved
 loop-g-preserved c = λ h a b.
     ⊎_elim (λ l. c.loop-g.invariant h a l)
-    (λ l. subst (λ x. (program_of c.args.c.now).unit x ≡ (program_of c.args.c.now).unit c.args.f) (omega (arith, b, l)) (sym c.unit.ensures.number ∙ c.if-unit.false ∙ c.unit-unit.ensures.number)) (side h c.loop-g.g)
+    (λ l. subst (λ x. (program_of c.args.c.now).unit x ≡ (program_of c.args.c.now).unit c.args.f) (omega (arith, b, l))
+    (sym c.unit.ensures.number ∙ c.if-unit.false ∙ c.unit-unit.ensures.number)) (side h c.loop-g.g)

@@ -31,13 +31,15 @@ hold_calls-loop-t-preserved t c =
 pub holds_calls-hold_calls-requires : goal.holds_calls-hold_calls-requires
 holds_calls-hold_calls-requires t c =
     let e = ap shown_term c.in-Let.is ∙ shown_term-Let c.in-Let.field-0 c.in-Let.ts c.in-Let.b in
-    let smaller : 2 * nodes_in (shown_terms c.deref-in-Let.result.now) + 1 < 2 * nodes (shown_term c.args.t.now) = omega (arith, ap nodes e, ap (λ (l : List declared.Term). nodes_in (shown_terms l)) c.deref-in-Let.ensures.value) in
+    let smaller : 2 * nodes_in (shown_terms c.deref-in-Let.result.now) + 1 < 2 * nodes (shown_term c.args.t.now) = omega
+    (arith, ap nodes e, ap (λ (l : List declared.Term). nodes_in (shown_terms l)) c.deref-in-Let.ensures.value) in
     search rules
 
 pub holds_calls-hold_calls-requires-in-Op : goal.holds_calls-hold_calls-requires-in-Op
 holds_calls-hold_calls-requires-in-Op t c =
     let e = ap shown_term c.in-Op.is ∙ shown_term-Op c.in-Op.field-0 c.in-Op.ts in
-    let smaller : 2 * nodes_in (shown_terms c.deref-in-Op.result.now) + 1 < 2 * nodes (shown_term c.args.t.now) = omega (arith, ap nodes e, ap (λ (l : List declared.Term). nodes_in (shown_terms l)) c.deref-in-Op.ensures.value) in
+    let smaller : 2 * nodes_in (shown_terms c.deref-in-Op.result.now) + 1 < 2 * nodes (shown_term c.args.t.now) = omega
+    (arith, ap nodes e, ap (λ (l : List declared.Term). nodes_in (shown_terms l)) c.deref-in-Op.ensures.value) in
     search rules
 
 pub holds_calls-returns-then-hold_calls : goal.holds_calls-returns-then-hold_calls

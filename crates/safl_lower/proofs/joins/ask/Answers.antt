@@ -39,7 +39,12 @@ pub returns-clause-given : goal.returns-clause-given
 returns-clause-given c =
     let s = c.requires.site in
     let h = in_range c.args.sites.now.ports.items (c.args.site - c.args.sites.now.first) s.port s.at in
-    record { port = c.index-port.result.now; at = slice_get_read c.args.sites.now.ports.items (length c.args.sites.now.ports.items) (c.args.site - c.args.sites.now.first) c.index-port.result.now refl h c.index-port.ensures; is = refl }
+    record {
+      port = c.index-port.result.now;
+      at = slice_get_read c.args.sites.now.ports.items (length c.args.sites.now.ports.items)
+          (c.args.site - c.args.sites.now.first) c.index-port.result.now refl h c.index-port.ensures;
+      is = refl;
+    }
 
 pub returns-clause-wants : goal.returns-clause-wants
 returns-clause-wants c = λ v w j.
@@ -51,7 +56,8 @@ returns-clause-wants c = λ v w j.
     let t = wired_before c.both.ensures.built.grows u in
     ap (λ l. asked v l j) c.in_ok-push.ensures.items
     ∙ asked_end v c.args.out.now.wants.items e j
-    ∙ ap (or_else (asked v c.args.out.now.wants.items j)) (three_gates (c.args.site == j) (on v c.in_ok-want.want) (open_at v c.args.sites.now c.args.path c.args.site) (is_ready v c.args.all.ready) (Some (words v c.args.all.values.items))
+    ∙ ap (or_else (asked v c.args.out.now.wants.items j)) (three_gates (c.args.site == j) (on v c.in_ok-want.want)
+    (open_at v c.args.sites.now c.args.path c.args.site) (is_ready v c.args.all.ready) (Some (words v c.args.all.values.items))
     (c.in_ok-want.ensures.value v w
     ∙ ap (λ (b : Bool). b && is_ready v c.args.all.ready) (c.in_ok-free.ensures.value v u
     ∙ ap (λ (b : Bool). on v c.args.path && b) (c.in_ok-unsent.ensures.value v t ∙ sym (ap (λ (o : Option SitePorts). not (was_sent v o)) at)))))

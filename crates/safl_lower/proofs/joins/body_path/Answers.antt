@@ -15,5 +15,6 @@ returns-then-holds_calls c =
       tidy = e.tidy;
       built = e.built;
       fits = e.fits;
-      value = weaker c.and_ready.result (λ s. (v : Val) → Wired m v → on v s ≡ (on v c.args.path && is_ready v c.args.bound)) (λ s. holds_calls (shown_term c.args.body.now) ≡ true → (v : Val) → Wired m v → on v s ≡ (on v c.args.path && is_ready v c.args.bound)) (λ s h k. h) e.value;
+      value = weaker c.and_ready.result (λ s. (v : Val) → Wired m v → on v s ≡ (on v c.args.path && is_ready v c.args.bound))
+          (λ s. holds_calls (shown_term c.args.body.now) ≡ true → (v : Val) → Wired m v → on v s ≡ (on v c.args.path && is_ready v c.args.bound)) (λ s h k. h) e.value;
     }

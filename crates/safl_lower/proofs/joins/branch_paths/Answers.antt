@@ -31,7 +31,8 @@ returns-in_ok-no-in-true-true-clause-yes c = λ h v w.
 
 pub returns-in_ok-no-in-true-true-clause-no : goal.returns-in_ok-no-in-true-true-clause-no
 returns-in_ok-no-in-true-true-clause-no c = λ h v w.
-    c.in_ok-no-in-true-true.ensures.value v w ∙ ap (λ (b : Bool). b && not (on v c.args.test.value)) (c.in_ok-reached-in-true-true.ensures.value v (wired_before (grows_on c.both.ensures.built.grows c.and_not.ensures.built.grows) w))
+    c.in_ok-no-in-true-true.ensures.value v w ∙ ap (λ (b : Bool). b && not (on v c.args.test.value))
+    (c.in_ok-reached-in-true-true.ensures.value v (wired_before (grows_on c.both.ensures.built.grows c.and_not.ensures.built.grows) w))
 
 -- ---- the first branch alone
 
@@ -45,10 +46,15 @@ pub returns-in_ok-yes-in-true-false-clause-built : goal.returns-in_ok-yes-in-tru
 returns-in_ok-yes-in-true-false-clause-built c = builds_within 4 (builds_on c.and_ready-in-true-false.ensures.built c.both-in-true-false.ensures.built) (omega arith)
 
 pub returns-in_ok-yes-in-true-false-clause-widths : goal.returns-in_ok-yes-in-true-false-clause-widths
-returns-in_ok-yes-in-true-false-clause-widths c = (c.in_ok-yes-in-true-false.ensures.fits, source_grown (grows_on c.and_ready-in-true-false.ensures.built.grows c.both-in-true-false.ensures.built.grows) c.args.path 1 c.requires.path)
+returns-in_ok-yes-in-true-false-clause-widths c = (
+  c.in_ok-yes-in-true-false.ensures.fits,
+  source_grown
+      (grows_on c.and_ready-in-true-false.ensures.built.grows c.both-in-true-false.ensures.built.grows) c.args.path 1 c.requires.path,
+)
 
 pub returns-in_ok-yes-in-true-false-clause-yes : goal.returns-in_ok-yes-in-true-false-clause-yes
-returns-in_ok-yes-in-true-false-clause-yes c = λ h v w. c.in_ok-yes-in-true-false.ensures.value v w ∙ ap (λ (b : Bool). b && on v c.args.test.value) (c.in_ok-reached-in-true-false.ensures.value v (wired_before c.both-in-true-false.ensures.built.grows w))
+returns-in_ok-yes-in-true-false-clause-yes c = λ h v w. c.in_ok-yes-in-true-false.ensures.value v w ∙ ap (λ (b : Bool). b && on v c.args.test.value)
+    (c.in_ok-reached-in-true-false.ensures.value v (wired_before c.both-in-true-false.ensures.built.grows w))
 
 -- ---- the second branch alone
 
@@ -62,7 +68,12 @@ pub returns-in_ok-no-in-false-true-clause-built : goal.returns-in_ok-no-in-false
 returns-in_ok-no-in-false-true-clause-built c = builds_within 4 (builds_on c.and_ready-in-false-true.ensures.built c.and_not-in-false-true.ensures.built) (omega arith)
 
 pub returns-in_ok-no-in-false-true-clause-widths : goal.returns-in_ok-no-in-false-true-clause-widths
-returns-in_ok-no-in-false-true-clause-widths c = (source_grown (grows_on c.and_ready-in-false-true.ensures.built.grows c.and_not-in-false-true.ensures.built.grows) c.args.path 1 c.requires.path, c.in_ok-no-in-false-true.ensures.fits)
+returns-in_ok-no-in-false-true-clause-widths c = (
+  source_grown
+      (grows_on c.and_ready-in-false-true.ensures.built.grows c.and_not-in-false-true.ensures.built.grows) c.args.path 1 c.requires.path,
+  c.in_ok-no-in-false-true.ensures.fits,
+)
 
 pub returns-in_ok-no-in-false-true-clause-no : goal.returns-in_ok-no-in-false-true-clause-no
-returns-in_ok-no-in-false-true-clause-no c = λ h v w. c.in_ok-no-in-false-true.ensures.value v w ∙ ap (λ (b : Bool). b && not (on v c.args.test.value)) (c.in_ok-reached-in-false-true.ensures.value v (wired_before c.and_not-in-false-true.ensures.built.grows w))
+returns-in_ok-no-in-false-true-clause-no c = λ h v w. c.in_ok-no-in-false-true.ensures.value v w ∙ ap
+    (λ (b : Bool). b && not (on v c.args.test.value)) (c.in_ok-reached-in-false-true.ensures.value v (wired_before c.and_not-in-false-true.ensures.built.grows w))

@@ -23,12 +23,14 @@ pub returns-clause-shape : goal.returns-clause-shape
 returns-clause-shape c = λ w y n.
     record {
       ready = c.in_ok-ready.ensures.fits;
-      width = λ ever. source_grown (grows_on c.either_ready.ensures.built.grows c.both_ready.ensures.built.grows) c.in_ok-value.value w (c.in_ok-value.ensures.fits w y n (λ no. ever (c.in_ok-ready.ensures.never.1 (inr (c.in_ok-selected.ensures.never.1 no)))));
+      width = λ ever. source_grown (grows_on c.either_ready.ensures.built.grows c.both_ready.ensures.built.grows) c.in_ok-value.value w
+          (c.in_ok-value.ensures.fits w y n (λ no. ever (c.in_ok-ready.ensures.never.1 (inr (c.in_ok-selected.ensures.never.1 no)))));
     }
 
 pub returns-clause-value : goal.returns-clause-value
 returns-clause-value c = λ v w.
     let u = wired_before c.both_ready.ensures.built.grows w in
-    chosen (is_ready v c.args.test.ready) (on v c.args.test.value) (is_ready v c.args.yes.ready) (is_ready v c.args.no.ready) (is_ready v c.in_ok-ready.ready) (v c.args.yes.value.0) (v c.args.no.value.0) (v c.in_ok-value.value.0)
+    chosen (is_ready v c.args.test.ready) (on v c.args.test.value) (is_ready v c.args.yes.ready) (is_ready v c.args.no.ready)
+    (is_ready v c.in_ok-ready.ready) (v c.args.yes.value.0) (v c.args.no.value.0) (v c.in_ok-value.value.0)
     (c.in_ok-ready.ensures.value v w ∙ ap (λ (b : Bool). is_ready v c.args.test.ready && b) (c.in_ok-selected.ensures.value v u))
     (c.in_ok-value.ensures.value v (wired_before c.either_ready.ensures.built.grows u))

@@ -15,6 +15,9 @@ returns-in_default c =
     record {
       tidy = e.tidy;
       built = e.built;
-      fits = λ w y n. weaker r (λ s. IsSource m s w) (λ s. ((c.args.yes.ready ≡ Never) × (c.args.no.ready ≡ Never) → ⊥) → IsSource m s w) (λ s h k. h) (e.fits w (y.width c.in_default.not-Never-0) (n.width c.in_default.not-Never-1));
-      value = weaker r (λ s. (v : Val) → Wired m v → v s.0 ≡ cond (on v c.args.c) (v c.args.yes.value.0) (v c.args.no.value.0)) (λ s. (v : Val) → Wired m v → cond (on v c.args.c) (is_ready v c.args.yes.ready) (is_ready v c.args.no.ready) ≡ true → v s.0 ≡ cond (on v c.args.c) (v c.args.yes.value.0) (v c.args.no.value.0)) (λ s h v w k. h v w) e.value;
+      fits = λ w y n. weaker r (λ s. IsSource m s w) (λ s. ((c.args.yes.ready ≡ Never) × (c.args.no.ready ≡ Never) → ⊥) → IsSource m s w) (λ s h k. h)
+          (e.fits w (y.width c.in_default.not-Never-0) (n.width c.in_default.not-Never-1));
+      value = weaker r (λ s. (v : Val) → Wired m v → v s.0 ≡ cond (on v c.args.c) (v c.args.yes.value.0) (v c.args.no.value.0))
+          (λ s. (v : Val) → Wired m v → cond (on v c.args.c) (is_ready v c.args.yes.ready) (is_ready v c.args.no.ready) ≡ true → v s.0 ≡ cond
+          (on v c.args.c) (v c.args.yes.value.0) (v c.args.no.value.0)) (λ s h v w k. h v w) e.value;
     }

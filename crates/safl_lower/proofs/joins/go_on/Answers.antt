@@ -13,4 +13,5 @@ returns-clause-loops c = λ v w.
     let e : TailCall = record { member = c.args.member; taken = c.in_ok-taken.taken; args = c.args.all.values } in
     ap (went v) c.in_ok-push.ensures.items
     ∙ went_end v c.args.out.now.loops.items e
-    ∙ ap (or_else (went v c.args.out.now.loops.items)) (goes_gate c.args.member (words v c.args.all.values.items) (on v c.in_ok-taken.taken) (on v c.args.path) (is_ready v c.args.all.ready) (c.in_ok-taken.ensures.value v w))
+    ∙ ap (or_else (went v c.args.out.now.loops.items)) (goes_gate c.args.member (words v c.args.all.values.items) (on v c.in_ok-taken.taken)
+    (on v c.args.path) (is_ready v c.args.all.ready) (c.in_ok-taken.ensures.value v w))

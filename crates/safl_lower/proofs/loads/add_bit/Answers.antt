@@ -11,4 +11,5 @@ returns-clause-shows c = λ v w i.
 
 pub returns-clause-fits : goal.returns-clause-fits
 returns-clause-fits c =
-    bits_set_fit c.or_some.new.net c.args.bits.now.items c.args.place c.in_ok-joined.joined c.requires.place (bits_kept c.or_some.ensures.built c.args.bits.now.items c.requires.fits) c.in_ok-joined.ensures.fits
+    bits_set_fit c.or_some.new.net c.args.bits.now.items c.args.place c.in_ok-joined.joined c.requires.place
+    (bits_kept c.or_some.ensures.built c.args.bits.now.items c.requires.fits) c.in_ok-joined.ensures.fits

@@ -54,9 +54,11 @@ returns-in_ok-words-in-Some-clause-shows c = λ v w.
     (c.in_ok-words-in-Some.ensures.value v w ∙ ap (λ (xs : List Sig). cond (on v c.in-Some.first.bit) (words v xs) (words v c.args.operands.now)) c.deref.ensures.value)
 
 pub returns-in_ok-words-in-None-clause-height : goal.returns-in_ok-words-in-None-clause-height
-returns-in_ok-words-in-None-clause-height c = alone_load c.args.net.now c.args.load.now c.args.bit c.args.operands.now c.in_ok-words-in-None.words.items c.in-None.is c.in_ok-words-in-None.ensures.items
+returns-in_ok-words-in-None-clause-height c = alone_load c.args.net.now c.args.load.now c.args.bit c.args.operands.now
+    c.in_ok-words-in-None.words.items c.in-None.is c.in_ok-words-in-None.ensures.items
 
 pub returns-in_ok-words-in-Some-clause-height : goal.returns-in_ok-words-in-Some-clause-height
 returns-in_ok-words-in-Some-clause-height c =
-    joined_within c.mux_all.new.net c.args.load.now c.in-Some.first c.args.bit c.in_ok-any-in-Some.any c.args.operands.now c.deref.result.now c.in_ok-words-in-Some.words.items c.in-Some.is c.deref.ensures.value
+    joined_within c.mux_all.new.net c.args.load.now c.in-Some.first c.args.bit c.in_ok-any-in-Some.any c.args.operands.now c.deref.result.now
+    c.in_ok-words-in-Some.words.items c.in-Some.is c.deref.ensures.value
     (gate_kept c.mux_all.ensures.built c.in_ok-any-in-Some.any (c.in-Some.first.bit ∷ c.args.bit ∷ []) c.in_ok-any-in-Some.ensures.gate) c.in_ok-words-in-Some.ensures.height

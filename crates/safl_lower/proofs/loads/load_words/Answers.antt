@@ -24,4 +24,5 @@ pub returns-in_ok-words-in-None-clause-height : goal.returns-in_ok-words-in-None
 returns-in_ok-words-in-None-clause-height c = alone_words c.args.net.now c.args.load.now c.args.operands.now c.in_ok-words-in-None.words.items c.in-None.is c.in_ok-words-in-None.ensures.items
 
 pub returns-in-Some-clause-height : goal.returns-in-Some-clause-height
-returns-in-Some-clause-height c = words_within c.mux_all.new.net c.mux_all.result c.args.load.now c.in-Some.first c.args.operands.now c.deref.result.now c.in-Some.is c.deref.ensures.value c.mux_all.ensures.height
+returns-in-Some-clause-height c = words_within c.mux_all.new.net c.mux_all.result c.args.load.now c.in-Some.first c.args.operands.now
+    c.deref.result.now c.in-Some.is c.deref.ensures.value c.mux_all.ensures.height

@@ -12,7 +12,11 @@ use Rattle.safl_lower.proofs.Gathering.{merging_start, merging_step, merging_end
 use Rattle.safl_lower.proofs.merge.merge.Goals as goal
 
 pub loop-call-init : goal.loop-call-init
-loop-call-init c = record { tidy = c.requires.tidy; merging = merging_start c.args.first c.args.members c.args.net.now c.args.calls.now c.in_ok-loads.loads.items c.in_ok-loads.ensures.size c.in_ok-loads.ensures.none }
+loop-call-init c = record {
+  tidy = c.requires.tidy;
+  merging = merging_start c.args.first c.args.members c.args.net.now c.args.calls.now
+      c.in_ok-loads.loads.items c.in_ok-loads.ensures.size c.in_ok-loads.ensures.none;
+}
 
 pub overflow_sub-place : goal.overflow_sub-place
 overflow_sub-place c =
@@ -62,10 +66,14 @@ loop-call-preserved c =
     }
 
 pub returns-clause-built : goal.returns-clause-built
-returns-clause-built c = let end = c.loop-call-test.false in (merging_end c.args.first c.args.members c.args.net.now c.loop-call.net c.args.calls.now c.loop-call.call-index c.loop-call.loads.items (omega (arith, end)) c.loop-call.invariant.merging).0
+returns-clause-built c = let end = c.loop-call-test.false in
+    (merging_end c.args.first c.args.members c.args.net.now c.loop-call.net c.args.calls.now c.loop-call.call-index c.loop-call.loads.items
+    (omega (arith, end)) c.loop-call.invariant.merging).0
 
 pub returns-clause-merged : goal.returns-clause-merged
-returns-clause-merged c = let end = c.loop-call-test.false in (merging_end c.args.first c.args.members c.args.net.now c.loop-call.net c.args.calls.now c.loop-call.call-index c.loop-call.loads.items (omega (arith, end)) c.loop-call.invariant.merging).1
+returns-clause-merged c = let end = c.loop-call-test.false in
+    (merging_end c.args.first c.args.members c.args.net.now c.loop-call.net c.args.calls.now c.loop-call.call-index c.loop-call.loads.items
+    (omega (arith, end)) c.loop-call.invariant.merging).1
 
 pub returns-in_err-add_load-clause-grows : goal.returns-in_err-add_load-clause-grows
 returns-in_err-add_load-clause-grows c = grows_on c.loop-call.invariant.merging.built.grows c.add_load.ensures.built.grows

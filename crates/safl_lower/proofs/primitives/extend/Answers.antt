@@ -19,8 +19,13 @@ operate-requires-clause-operands c =
     let e = c.width-narrow.ensures in
     let z = ap (λ (x : Word). x.width) c.in-Some.ensures.value in
     let le = r.3 in
-    let top = c.requires.bounded in
-    (c.in-Some.zeros.width ∷ r.0 ∷ [], c.in-Some.zeros.width + r.0, (two_sources c.in_ok-before-in-Some.ensures.fits (source_grown c.constant.ensures.built.grows c.args.a r.0 r.1)), joined_width c.in-Some.zeros.width r.0 (omega (arith, w, e, z, le)) r.2 (omega (arith, w, e, z, le, top)))
+    let top = c.requires.bounded in (
+      c.in-Some.zeros.width ∷ r.0 ∷ [],
+      c.in-Some.zeros.width + r.0,
+      (two_sources c.in_ok-before-in-Some.ensures.fits (source_grown c.constant.ensures.built.grows c.args.a r.0 r.1)),
+      joined_width
+          c.in-Some.zeros.width r.0 (omega (arith, w, e, z, le)) r.2 (omega (arith, w, e, z, le, top)),
+    )
 
 pub returns-clause-built : goal.returns-clause-built
 returns-clause-built c = builds_on c.constant.ensures.built c.operate.ensures.built
@@ -35,7 +40,9 @@ returns-clause-fits c =
     let top = c.requires.bounded in
     let all : c.in-Some.zeros.width + r.0 ≡ c.args.width = omega (arith, w, e, z, le) in
     subst (λ (k : ℕ). IfOk c.operate.result (λ s. IsSource c.operate.new.net s k)) all
-    (c.operate.ensures.fits (c.in-Some.zeros.width ∷ r.0 ∷ []) (c.in-Some.zeros.width + r.0) (two_sources c.in_ok-before-in-Some.ensures.fits (source_grown c.constant.ensures.built.grows c.args.a r.0 r.1)) (joined_width c.in-Some.zeros.width r.0 (omega (arith, w, e, z, le)) r.2 (omega (arith, w, e, z, le, top))))
+    (c.operate.ensures.fits (c.in-Some.zeros.width ∷ r.0 ∷ []) (c.in-Some.zeros.width + r.0)
+    (two_sources c.in_ok-before-in-Some.ensures.fits (source_grown c.constant.ensures.built.grows c.args.a r.0 r.1))
+    (joined_width c.in-Some.zeros.width r.0 (omega (arith, w, e, z, le)) r.2 (omega (arith, w, e, z, le, top))))
 
 pub returns-clause-value : goal.returns-clause-value
 returns-clause-value c =
@@ -43,4 +50,6 @@ returns-clause-value c =
     let w = width_is c.args.net.now c.args.a.0 r.0 r.1.width in
     let e = c.width-narrow.ensures in
     let le = r.3 in
-    extended c.args.net.now c.constant.new.net c.operate.new.net c.operate.result c.in_ok-before-in-Some.before c.args.a c.in-Some.zeros (c.args.width - c.width-narrow.result) r.0 c.args.width c.operate.ensures.built.grows c.constant.ensures.built.grows r.1 c.in-Some.ensures.value (omega (arith, w, e, le)) c.in_ok-before-in-Some.ensures.value c.operate.ensures.value
+    extended c.args.net.now c.constant.new.net c.operate.new.net c.operate.result c.in_ok-before-in-Some.before c.args.a c.in-Some.zeros
+    (c.args.width - c.width-narrow.result) r.0 c.args.width c.operate.ensures.built.grows c.constant.ensures.built.grows r.1
+    c.in-Some.ensures.value (omega (arith, w, e, le)) c.in_ok-before-in-Some.ensures.value c.operate.ensures.value

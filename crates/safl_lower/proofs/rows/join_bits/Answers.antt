@@ -82,4 +82,5 @@ returns-clause-count c =
 pub returns-clause-joined : goal.returns-clause-joined
 returns-clause-joined c = λ j.
     let l = c.loop-i-test.false in
-    subst (λ (xs : List (Vec Sig Global)). IsAnyOf c.loop-i.net (row_at xs j) (sig_in (slice_get c.loop-i.bits.items j))) (take_all c.loop-i.i c.args.rows.now (omega (arith, l))) (c.loop-i.invariant.joined j)
+    subst (λ (xs : List (Vec Sig Global)). IsAnyOf c.loop-i.net (row_at xs j) (sig_in (slice_get c.loop-i.bits.items j)))
+    (take_all c.loop-i.i c.args.rows.now (omega (arith, l))) (c.loop-i.invariant.joined j)

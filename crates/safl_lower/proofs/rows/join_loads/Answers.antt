@@ -89,7 +89,8 @@ returns-clause-count c =
 pub returns-clause-joined : goal.returns-clause-joined
 returns-clause-joined c = λ j.
     let l = c.loop-i-test.false in
-    subst (λ (xs : List (Vec Load Global)). IsFirstOf c.loop-i.net (row_at xs j) (load_in (slice_get c.loop-i.all.items j))) (take_all c.loop-i.i c.args.rows.now (omega (arith, l))) (c.loop-i.invariant.joined j)
+    subst (λ (xs : List (Vec Load Global)). IsFirstOf c.loop-i.net (row_at xs j) (load_in (slice_get c.loop-i.all.items j)))
+    (take_all c.loop-i.i c.args.rows.now (omega (arith, l))) (c.loop-i.invariant.joined j)
 
 pub returns-clause-fits : goal.returns-clause-fits
 returns-clause-fits c = c.loop-i.invariant.fits

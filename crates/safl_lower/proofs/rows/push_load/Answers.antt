@@ -12,4 +12,5 @@ returns-clause-rows c = λ i.
 pub returns-clause-gates : goal.returns-clause-gates
 returns-clause-gates c =
     let at = slice_get_read c.args.rows.now.items (length c.args.rows.now.items) c.args.place c.index_mut.result.now refl c.requires.place c.index_mut.ensures.value in
-    total_pushed load_joins c.args.rows.now.items c.args.place c.index_mut.result.now c.push.new.self c.args.load (1 + length c.args.load.words.items) at c.in_ok-push.ensures.items (λ l. loads_longer l c.args.load)
+    total_pushed load_joins c.args.rows.now.items c.args.place c.index_mut.result.now c.push.new.self c.args.load (1 + length c.args.load.words.items)
+    at c.in_ok-push.ensures.items (λ l. loads_longer l c.args.load)

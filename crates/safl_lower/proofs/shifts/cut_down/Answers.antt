@@ -65,6 +65,7 @@ returns-clause-value c =
     let e = c.width-width.ensures ∙ width_is c.args.net.now c.args.b.0 q.0 q.1.width in
     let not_narrow = c.if-width-le-WIDEST_AMOUNT.false in
     let wide : 32 < q.0 = omega (arith, e, not_narrow) in
-    cut_value c.constant.new.net c.operate.new.net c.operate-2.new.net c.operate-3.new.net c.operate-3.result c.args.b c.in_ok-limit.limit c.in_ok-over.over c.in_ok-low.low q.0 wide c.operate.ensures.built.grows c.operate-2.ensures.built.grows c.operate-3.ensures.built.grows
+    cut_value c.constant.new.net c.operate.new.net c.operate-2.new.net c.operate-3.new.net c.operate-3.result c.args.b c.in_ok-limit.limit
+    c.in_ok-over.over c.in_ok-low.low q.0 wide c.operate.ensures.built.grows c.operate-2.ensures.built.grows c.operate-3.ensures.built.grows
     (λ v x. c.in_ok-limit.ensures.value v x ∙ c.from_low_bits.ensures ∙ ap (λ (k : ℕ). record { width = k; bits = 255 % 2 ^ k }) e)
     c.in_ok-over.ensures.value c.in_ok-low.ensures.value c.operate-3.ensures.value

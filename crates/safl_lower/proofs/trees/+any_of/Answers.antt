@@ -45,8 +45,20 @@ any_of-requires-2 t c =
     let r = c.requires.room in
     let d = c.decreases in
     let b = c.in_ok-a.ensures.built in
-    let k = b.count in
-    (omega (arith, fl, bl, some, many, d), (c.any_of.ensures.tidy, (omega (arith, fl, bl, some, many), (row_kept b high (high_bits c.args.net.now c.args.bits.now low high e c.requires.bits), omega (arith, fl, bl, r, k, some, many)))))
+    let k = b.count in (
+      omega (arith, fl, bl, some, many, d),
+      (
+        c.any_of.ensures.tidy,
+        (
+          omega (arith, fl, bl, some, many),
+          (
+            row_kept b high (high_bits c.args.net.now c.args.bits.now low high e c.requires.bits),
+            omega
+                (arith, fl, bl, r, k, some, many),
+          ),
+        ),
+      ),
+    )
 
 pub either-requires-clause-first : goal.either-requires-clause-first
 either-requires-clause-first t c = source_kept c.in_ok-b.ensures.built c.in_ok-a.ensures.fits

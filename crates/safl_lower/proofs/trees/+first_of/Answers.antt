@@ -1,4 +1,5 @@
-use Rattle.std.proofs.Common.{rules, ◌≡◌, ℕ, suc, ◌-◌, ◌*◌, ◌<◌, ◌++◌, List, [], ◌∷◌, map, drop, length, slice_index_or, Option, Some, Bool, ◌&&◌, ◌||◌, not, ◌+◌, ◌≤◌, ◌/◌, refl, sym, ap, subst, ◌∙◌, arith}
+use Rattle.std.proofs.Common.{rules, ◌≡◌, ℕ, suc, ◌-◌, ◌*◌, ◌<◌, ◌++◌, List, [], ◌∷◌, map, drop, length, slice_index_or, Option, Some, Bool, ◌&&◌}
+use Rattle.std.proofs.Common.{◌||◌, not, ◌+◌, ◌≤◌, ◌/◌, refl, sym, ap, subst, ◌∙◌, arith}
 use Rattle.safl_word.specs.Words.{Word}
 use Rattle.std.specs.Option.{option_or}
 use Rattle.safl_net.specs.declared.cell.Sig.{Sig}
@@ -50,8 +51,13 @@ first_of-requires-2 t c =
     let f = c.requires.fits in
     let b = c.in_ok-a.ensures.built in
     let k = b.count in
-    let g = gates_of c.args.net.now c.args.loads.now low high e f.0 f.1 (omega (arith, fl, some, many)) (omega (arith, fl, bl, some, many)) in
-    (omega (arith, fl, bl, some, many, d), (c.first_of.ensures.tidy, (omega (arith, fl, bl, some, many), ((f.0, fit_kept b high f.0 (high_fit c.args.net.now c.args.loads.now low high e f.0 f.1)), omega (arith, g, r, k)))))
+    let g = gates_of c.args.net.now c.args.loads.now low high e f.0 f.1 (omega (arith, fl, some, many)) (omega (arith, fl, bl, some, many)) in (
+      omega (arith, fl, bl, some, many, d),
+      (
+        c.first_of.ensures.tidy,
+        (omega (arith, fl, bl, some, many), ((f.0, fit_kept b high f.0 (high_fit c.args.net.now c.args.loads.now low high e f.0 f.1)), omega (arith, g, r, k))),
+      ),
+    )
 
 pub joined-requires-clause-fits : goal.joined-requires-clause-fits
 joined-requires-clause-fits t c =
@@ -175,4 +181,5 @@ returns-clause-height t c = λ h few.
     let pb = parts_high n2 xs low high e k.0 (own_parts b) (c.in_ok-b.ensures.height k.0 k.3) in
     let ops = subst (λ (ws : List Sig). AllWithin n2 (parts xs) k.0 (b.bit ∷ ws)) (sym c.deref-2.ensures.value) pb in
     let base = all_kept c.in_ok-all.ensures.built (parts xs) k.0 (own_parts a ++ (b.bit ∷ c.deref-2.result.now)) (all_join n2 (parts xs) k.0 (own_parts a) (b.bit ∷ c.deref-2.result.now) pa ops) in
-    subst (λ (j : ℕ). AllWithin n3 (parts xs) j (own_parts c.in_ok-all.all)) (sym k.1) (all_over n3 (parts xs) k.0 (own_parts a ++ (b.bit ∷ c.deref-2.result.now)) (own_parts c.in_ok-all.all) base c.in_ok-all.ensures.height)
+    subst (λ (j : ℕ). AllWithin n3 (parts xs) j (own_parts c.in_ok-all.all)) (sym k.1)
+    (all_over n3 (parts xs) k.0 (own_parts a ++ (b.bit ∷ c.deref-2.result.now)) (own_parts c.in_ok-all.all) base c.in_ok-all.ensures.height)

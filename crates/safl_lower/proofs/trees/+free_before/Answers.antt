@@ -13,7 +13,8 @@ use Rattle.safl_lower.specs.Rows.{AreBits, on_any, frees, AllFit, first_taken, r
 use Rattle.safl_lower.proofs.Building.{builds_on, builds_within, source_kept, sources_kept}
 use Rattle.safl_lower.proofs.Cells.{sources_length}
 use Rattle.safl_lower.proofs.KnownLoads.{load_kept}
-use Rattle.safl_lower.proofs.JoinedRows.{whole, low_bits, high_bits, row_kept, bits_push, any_append, frees_append, map_append, frees_one, append_both, low_fit, high_fit, gates_of, fit_kept, taken_append}
+use Rattle.safl_lower.proofs.JoinedRows.{whole, low_bits, high_bits, row_kept, bits_push, any_append, frees_append, map_append, frees_one}
+use Rattle.safl_lower.proofs.JoinedRows.{append_both, low_fit, high_fit, gates_of, fit_kept, taken_append}
 use Rattle.safl_lower.specs.Heights.{Within}
 use Rattle.safl_lower.proofs.Heights.{gate_kept, within_kept, all_kept, alone_within, halved, within_both, stands_low, stands_high, pushed_within}
 use Rattle.safl_lower.proofs.trees.+free_before.Goals as goal
@@ -37,8 +38,16 @@ free_before-requires t c =
     let some = c.requires.some in
     let many = c.if-bits-eq1.false in
     let r = c.requires.room in
-    let d = c.decreases in
-    (omega (arith, fl, some, many, d), (c.requires.tidy, (omega (arith, fl, some, many), (low_bits c.args.net.now c.args.bits.now low high e c.requires.bits, (c.requires.free, (c.requires.out, omega (arith, fl, r)))))))
+    let d = c.decreases in (
+      omega (arith, fl, some, many, d),
+      (
+        c.requires.tidy,
+        (
+          omega (arith, fl, some, many),
+          (low_bits c.args.net.now c.args.bits.now low high e c.requires.bits, (c.requires.free, (c.requires.out, omega (arith, fl, r)))),
+        ),
+      ),
+    )
 
 pub both-requires-clause-first : goal.both-requires-clause-first
 both-requires-clause-first t c = source_kept (builds_on c.in_ok-a.ensures.built c.in_ok-rest.ensures.built) c.requires.free
@@ -56,8 +65,26 @@ free_before-requires-2 t c =
     let r = c.requires.room in
     let d = c.decreases in
     let b = builds_on (builds_on c.in_ok-a.ensures.built c.in_ok-rest.ensures.built) c.in_ok-still.ensures.built in
-    let k = b.count in
-    (omega (arith, fl, bl, some, many, d), (c.in_ok-still.ensures.tidy, (omega (arith, fl, bl, some, many), (row_kept b high (high_bits c.args.net.now c.args.bits.now low high e c.requires.bits), (c.in_ok-still.ensures.fits, (row_kept (builds_on c.in_ok-rest.ensures.built c.in_ok-still.ensures.built) c.free_before.new.out.items c.in_ok-a.ensures.out, omega (arith, fl, bl, r, k, some, many)))))))
+    let k = b.count in (
+      omega (arith, fl, bl, some, many, d),
+      (
+        c.in_ok-still.ensures.tidy,
+        (
+          omega (arith, fl, bl, some, many),
+          (
+            row_kept b high (high_bits c.args.net.now c.args.bits.now low high e c.requires.bits),
+            (
+              c.in_ok-still.ensures.fits,
+              (
+                row_kept (builds_on c.in_ok-rest.ensures.built c.in_ok-still.ensures.built) c.free_before.new.out.items
+                    c.in_ok-a.ensures.out,
+                omega (arith, fl, bl, r, k, some, many),
+              ),
+            ),
+          ),
+        ),
+      ),
+    )
 
 pub either-requires-clause-first : goal.either-requires-clause-first
 either-requires-clause-first t c = source_kept (builds_on (builds_on c.in_ok-rest.ensures.built c.in_ok-still.ensures.built) c.in_ok-b.ensures.built) c.in_ok-a.ensures.fits
@@ -72,7 +99,9 @@ returns-clause-built t c =
     let bl = cut.back_len in
     let some = c.requires.some in
     let many = c.if-bits-eq1.false in
-    builds_within (3 * (length c.args.bits.now - 1)) (builds_on (builds_on (builds_on (builds_on c.in_ok-a.ensures.built c.in_ok-rest.ensures.built) c.in_ok-still.ensures.built) c.in_ok-b.ensures.built) c.in_ok-any.ensures.built) (omega (arith, fl, bl, some, many))
+    builds_within (3 * (length c.args.bits.now - 1)) (builds_on
+    (builds_on (builds_on (builds_on c.in_ok-a.ensures.built c.in_ok-rest.ensures.built) c.in_ok-still.ensures.built) c.in_ok-b.ensures.built)
+    c.in_ok-any.ensures.built) (omega (arith, fl, bl, some, many))
 
 pub returns-clause-out : goal.returns-clause-out
 returns-clause-out t c = row_kept c.in_ok-any.ensures.built c.free_before-2.new.out.items c.in_ok-b.ensures.out

@@ -40,8 +40,20 @@ several_of-requires-2 t c =
     let r = c.requires.room in
     let d = c.decreases in
     let b = c.in_ok-a.ensures.built in
-    let k = b.count in
-    (omega (arith, fl, bl, some, many, d), (c.several_of.ensures.tidy, (omega (arith, fl, bl, some, many), (row_kept b high (high_bits c.args.net.now c.args.bits.now low high e c.requires.bits), omega (arith, fl, bl, r, k, some, many)))))
+    let k = b.count in (
+      omega (arith, fl, bl, some, many, d),
+      (
+        c.several_of.ensures.tidy,
+        (
+          omega (arith, fl, bl, some, many),
+          (
+            row_kept b high (high_bits c.args.net.now c.args.bits.now low high e c.requires.bits),
+            omega
+                (arith, fl, bl, r, k, some, many),
+          ),
+        ),
+      ),
+    )
 
 pub either-requires-clause-first : goal.either-requires-clause-first
 either-requires-clause-first t c = source_kept c.in_ok-b.ensures.built c.in_ok-a.ensures.joined.any_fits
@@ -78,7 +90,8 @@ both-requires-clause-room t c =
     omega (arith, fl, bl, some, many, r, k)
 
 pub or_some-requires-clause-first : goal.or_some-requires-clause-first
-or_some-requires-clause-first t c = maybe_bit_kept (builds_on (builds_on c.in_ok-b.ensures.built c.in_ok-any.ensures.built) c.in_ok-pair.ensures.built) c.in_ok-a.a.two c.in_ok-a.ensures.joined.two_fits
+or_some-requires-clause-first t c = maybe_bit_kept (builds_on (builds_on c.in_ok-b.ensures.built c.in_ok-any.ensures.built)
+    c.in_ok-pair.ensures.built) c.in_ok-a.a.two c.in_ok-a.ensures.joined.two_fits
 
 pub or_some-requires-clause-room : goal.or_some-requires-clause-room
 or_some-requires-clause-room t c =
@@ -92,7 +105,8 @@ or_some-requires-clause-room t c =
     omega (arith, fl, bl, some, many, r, k)
 
 pub or_some-requires-2-clause-first : goal.or_some-requires-2-clause-first
-or_some-requires-2-clause-first t c = maybe_bit_kept (builds_on (builds_on c.in_ok-any.ensures.built c.in_ok-pair.ensures.built) c.in_ok-first.ensures.built) c.in_ok-b.b.two c.in_ok-b.ensures.joined.two_fits
+or_some-requires-2-clause-first t c = maybe_bit_kept (builds_on (builds_on c.in_ok-any.ensures.built c.in_ok-pair.ensures.built)
+    c.in_ok-first.ensures.built) c.in_ok-b.b.two c.in_ok-b.ensures.joined.two_fits
 
 pub or_some-requires-2-clause-room : goal.or_some-requires-2-clause-room
 or_some-requires-2-clause-room t c =
@@ -113,7 +127,8 @@ returns-clause-built t c =
     let some = c.requires.some in
     let many = c.if-bits-eq1.false in
     builds_within (4 * bit_joins c.args.bits.now)
-    (builds_on (builds_on (builds_on (builds_on (builds_on c.in_ok-a.ensures.built c.in_ok-b.ensures.built) c.in_ok-any.ensures.built) c.in_ok-pair.ensures.built) c.in_ok-first.ensures.built) c.in_ok-two.ensures.built)
+    (builds_on (builds_on (builds_on (builds_on (builds_on c.in_ok-a.ensures.built c.in_ok-b.ensures.built) c.in_ok-any.ensures.built)
+    c.in_ok-pair.ensures.built) c.in_ok-first.ensures.built) c.in_ok-two.ensures.built)
     (omega (arith, fl, bl, some, many))
 
 pub returns-clause-joined : goal.returns-clause-joined
@@ -135,11 +150,13 @@ returns-clause-joined t c =
       any_fits = source_kept g2 c.in_ok-any.ensures.fits;
       two_fits = c.in_ok-two.ensures.fits;
       any_shows = λ v w.
-          c.in_ok-any.ensures.value v (wired_before g2.grows w) ∙ ap (λ (x : Bool). x || on v c.in_ok-b.b.any) (a.any_shows v (wired_before g0.grows w)) ∙ ap (λ (x : Bool). on_any v low || x) (b.any_shows v (wired_before g1.grows w))
+          c.in_ok-any.ensures.value v (wired_before g2.grows w) ∙ ap (λ (x : Bool). x || on v c.in_ok-b.b.any)
+          (a.any_shows v (wired_before g0.grows w)) ∙ ap (λ (x : Bool). on_any v low || x) (b.any_shows v (wired_before g1.grows w))
           ∙ sym (any_append v low high) ∙ sym (ap (on_any v) e);
       two_shows = λ v w.
           c.in_ok-two.ensures.value v w
-          ∙ ap (λ (x : Bool). on_in v c.in_ok-b.b.two || x) (c.in_ok-first.ensures.value v (wired_before g4.grows w) ∙ ap (λ (x : Bool). on_in v c.in_ok-a.a.two || x) (c.in_ok-pair.ensures.value v (wired_before g3.grows w)))
+          ∙ ap (λ (x : Bool). on_in v c.in_ok-b.b.two || x) (c.in_ok-first.ensures.value v (wired_before g4.grows w) ∙ ap
+          (λ (x : Bool). on_in v c.in_ok-a.a.two || x) (c.in_ok-pair.ensures.value v (wired_before g3.grows w)))
           ∙ ap (λ (x : Bool). x || (on_in v c.in_ok-a.a.two || (on v c.in_ok-a.a.any && on v c.in_ok-b.b.any))) (b.two_shows v (wired_before g1.grows w))
           ∙ ap (λ (x : Bool). on_two v high || (x || (on v c.in_ok-a.a.any && on v c.in_ok-b.b.any))) (a.two_shows v (wired_before g0.grows w))
           ∙ ap (λ (x : Bool). on_two v high || (on_two v low || (x && on v c.in_ok-b.b.any))) (a.any_shows v (wired_before g0.grows w))
@@ -159,6 +176,7 @@ returns-clause-joined t c =
           let l2 = all_low n xs low high e (3 * k.0) (maybe_one c.in_ok-a.a.two) (all_kept g0 low (3 * k.0) (maybe_one c.in_ok-a.a.two) (a.two_height k.0 k.2)) in
           let h2 = all_high n xs low high e (3 * k.0) (maybe_one c.in_ok-b.b.two) (all_kept g1 high (3 * k.0) (maybe_one c.in_ok-b.b.two) (b.two_height k.0 k.3)) in
           let first = within_kept g4 (maybe_one c.in_ok-a.a.two ++ c.in_ok-pair.pair ∷ []) 1 c.in_ok-first.first.0 c.in_ok-first.ensures.height in
-          let two = two_within n xs k.0 c.in_ok-a.a.any c.in_ok-b.b.any c.in_ok-pair.pair c.in_ok-first.first c.in_ok-two.two c.in_ok-a.a.two c.in_ok-b.b.two (p, (q, tt)) pair l2 h2 first c.in_ok-two.ensures.height in
+          let two = two_within n xs k.0 c.in_ok-a.a.any c.in_ok-b.b.any c.in_ok-pair.pair c.in_ok-first.first c.in_ok-two.two c.in_ok-a.a.two
+          c.in_ok-b.b.two (p, (q, tt)) pair l2 h2 first c.in_ok-two.ensures.height in
           (subst (λ (j : ℕ). Within n xs (3 * j) c.in_ok-two.two.0) (sym k.1) two, tt);
     }

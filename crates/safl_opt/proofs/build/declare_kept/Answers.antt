@@ -36,7 +36,8 @@ kept-preserved c =
     let h = c.requires.folds.1 in
     let long : c.kept.i < length c.args.values.now.signals.items = let q = h.counted in omega (arith, q) in
     let at = sig_is c.args.values.now.signals.items c.kept.i c.index.result.now long c.index.ensures in
-    declared_next c.args.old.now c.signals-count.ensures.netlist c.requires.folds.0 c.args.values.now h c.kept.net c.declare.new.net c.kept.i (c.kept.i + 1) c.index.result.now.0 (omega arith) c.kept.invariant at c.in_ok-declare.ensures.added
+    declared_next c.args.old.now c.signals-count.ensures.netlist c.requires.folds.0 c.args.values.now h c.kept.net c.declare.new.net c.kept.i
+    (c.kept.i + 1) c.index.result.now.0 (omega arith) c.kept.invariant at c.in_ok-declare.ensures.added
 
 pub returns : goal.returns
 returns c = subst (λ k. Declared c.args.old.now c.args.values.now k c.kept.net) (let a = c.kept.auto.i-end in let b = c.kept-test.false in omega (arith, a, b)) c.kept.invariant

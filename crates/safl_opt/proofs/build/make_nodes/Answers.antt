@@ -6,7 +6,8 @@ use Rattle.safl_opt.proofs.build.make_nodes.Goals as goal
 
 pub nodes-init : goal.nodes-init
 nodes-init c =
-    placed_none c.args.old.now c.signals-count.ensures.netlist c.requires.folds.0 c.requires.folds.1 c.args.values.now c.requires.folds.2 c.args.read.now c.requires.read c.in_ok-made.made.items c.args.net.now c.requires.tidy
+    placed_none c.args.old.now c.signals-count.ensures.netlist c.requires.folds.0 c.requires.folds.1 c.args.values.now c.requires.folds.2
+    c.args.read.now c.requires.read c.in_ok-made.made.items c.args.net.now c.requires.tidy
     c.in_ok-made.ensures.long c.in_ok-made.ensures.own c.requires.declared
 
 pub place_node-requires-clause-placed : goal.place_node-requires-clause-placed

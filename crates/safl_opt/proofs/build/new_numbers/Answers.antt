@@ -26,7 +26,8 @@ push-requires c =
 
 pub loop-x-preserved : goal.loop-x-preserved
 loop-x-preserved c =
-    numbers_next (new_number c.args.values.now c.args.made.now) c.args.all.now c.loop-x.x-index c.loop-x.operands.items c.push.new.self.items c.new_number.result c.loop-x-test.true c.push.ensures.items
+    numbers_next (new_number c.args.values.now c.args.made.now) c.args.all.now c.loop-x.x-index c.loop-x.operands.items c.push.new.self.items
+    c.new_number.result c.loop-x-test.true c.push.ensures.items
     (c.new_number.ensures ∙ ap (new_number c.args.values.now c.args.made.now) (sig_or c.args.all.now c.loop-x.x-index)) c.loop-x.invariant
 
 pub returns : goal.returns

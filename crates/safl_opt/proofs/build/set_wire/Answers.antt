@@ -29,25 +29,32 @@ are_new ys zs xs ws g e f h = ap numbers e ∙ f ∙ ap (λ l. map g (numbers l)
 pub set_cell-requires-clause-known : goal.set_cell-requires-clause-known
 set_cell-requires-clause-known c =
     let k = kind_of_cell (kind_at c.args.old.now c.args.from.0) (cell_of c.in-Some.cell.now) c.in-Some.ensures in
-    let q = are_new c.as_slice-in-Some.result.now c.new_numbers-operands.result.items c.as_slice.result.now c.in-Some.cell.now.operands.items (new_number c.args.values.now c.args.made.now) c.as_slice-in-Some.ensures.value c.new_numbers-operands.ensures c.as_slice.ensures.value in
+    let q = are_new c.as_slice-in-Some.result.now c.new_numbers-operands.result.items c.as_slice.result.now c.in-Some.cell.now.operands.items
+    (new_number c.args.values.now c.args.made.now) c.as_slice-in-Some.ensures.value c.new_numbers-operands.ensures c.as_slice.ensures.value in
     known_numbers c.args.net.now c.as_slice-in-Some.result.now
-    (subst (All (λ x. x < length c.args.net.now.signals)) (sym q) (cell_known c.args.old.now c.signals-count.ensures.netlist c.args.values.now c.args.made.now c.args.i c.args.from.0 c.args.net.now c.requires.turn (cell_of c.in-Some.cell.now) k))
+    (subst (All (λ x. x < length c.args.net.now.signals)) (sym q)
+    (cell_known c.args.old.now c.signals-count.ensures.netlist c.args.values.now c.args.made.now c.args.i c.args.from.0 c.args.net.now
+    c.requires.turn (cell_of c.in-Some.cell.now) k))
 
 pub set_cell-requires-clause-fits : goal.set_cell-requires-clause-fits
 set_cell-requires-clause-fits c =
     let k = kind_of_cell (kind_at c.args.old.now c.args.from.0) (cell_of c.in-Some.cell.now) c.in-Some.ensures in
-    let q = are_new c.as_slice-in-Some.result.now c.new_numbers-operands.result.items c.as_slice.result.now c.in-Some.cell.now.operands.items (new_number c.args.values.now c.args.made.now) c.as_slice-in-Some.ensures.value c.new_numbers-operands.ensures c.as_slice.ensures.value in
+    let q = are_new c.as_slice-in-Some.result.now c.new_numbers-operands.result.items c.as_slice.result.now c.in-Some.cell.now.operands.items
+    (new_number c.args.values.now c.args.made.now) c.as_slice-in-Some.ensures.value c.new_numbers-operands.ensures c.as_slice.ensures.value in
     ap (λ l. op_width c.in-Some.cell.now.op (widths c.args.net.now l)) q
     ∙ cell_gives c.args.old.now c.signals-count.ensures.netlist c.args.values.now c.args.made.now c.args.i c.args.from.0 c.args.net.now c.requires.turn (cell_of c.in-Some.cell.now) k
     ∙ ap Some (sym (width_here c.args.old.now c.args.values.now c.args.made.now c.args.i c.args.from.0 c.args.net.now c.requires.turn))
 
 pub unreachable-requires : goal.unreachable-requires
 unreachable-requires c =
-    never_open_wire c.args.old.now c.requires.turn.order.set c.args.from.0 (turn_known c.args.old.now c.signals-count.ensures.netlist c.args.values.now c.args.made.now c.args.i c.args.from.0 c.args.net.now c.requires.turn) c.requires.wire c.in-None.ensures
+    never_open_wire c.args.old.now c.requires.turn.order.set c.args.from.0
+    (turn_known c.args.old.now c.signals-count.ensures.netlist c.args.values.now c.args.made.now c.args.i c.args.from.0 c.args.net.now
+    c.requires.turn) c.requires.wire c.in-None.ensures
 
 pub returns : goal.returns
 returns c =
     let k = kind_of_cell (kind_at c.args.old.now c.args.from.0) (cell_of c.in-Some.cell.now) c.in-Some.ensures in
-    let q = are_new c.as_slice-in-Some.result.now c.new_numbers-operands.result.items c.as_slice.result.now c.in-Some.cell.now.operands.items (new_number c.args.values.now c.args.made.now) c.as_slice-in-Some.ensures.value c.new_numbers-operands.ensures c.as_slice.ensures.value in
+    let q = are_new c.as_slice-in-Some.result.now c.new_numbers-operands.result.items c.as_slice.result.now c.in-Some.cell.now.operands.items
+    (new_number c.args.values.now c.args.made.now) c.as_slice-in-Some.ensures.value c.new_numbers-operands.ensures c.as_slice.ensures.value in
     wire_set c.args.old.now c.args.values.now c.args.made.now c.args.i c.args.from.0 c.args.net.now c.requires.turn (cell_of c.in-Some.cell.now) k c.set_cell.new.net
     (c.set_cell.ensures ∙ ap (λ (l : List ℕ). with_kind c.args.net.now c.args.i (Wire (Some (let x : Cell = record { op = c.in-Some.cell.now.op; operands = l } in x)))) q)

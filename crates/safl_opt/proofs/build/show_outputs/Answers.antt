@@ -39,8 +39,10 @@ pub outputs-preserved : goal.outputs-preserved
 outputs-preserved c =
     let o = output_at c.args.old.now c.outputs.i c.output_sig.result.0 c.output_sig.ensures in
     let q = output_called c.args.old.now c.outputs.i c.output_name.result.now o.0 o.1 c.output_name.ensures in
-    shown_next c.args.old.now c.signals-count.ensures.netlist c.requires.tidy c.args.values.now c.args.made.now c.args.net.now c.outputs.net c.outputs.i c.outputs.invariant o.0 o.1 c.add_output.new.net (c.outputs.i + 1) c.new_number-s.result.0 (omega arith)
+    shown_next c.args.old.now c.signals-count.ensures.netlist c.requires.tidy c.args.values.now c.args.made.now c.args.net.now c.outputs.net
+    c.outputs.i c.outputs.invariant o.0 o.1 c.add_output.new.net (c.outputs.i + 1) c.new_number-s.result.0 (omega arith)
     (c.new_number-s.ensures ∙ ap (new_number c.args.values.now c.args.made.now) o.2) (c.in_ok-add_output.ensures.added ∙ ap (λ name. with_output c.outputs.net name c.new_number-s.result.0) q)
 
 pub returns : goal.returns
-returns c = subst (λ k. Shown c.args.old.now c.args.values.now c.args.made.now c.args.net.now k c.outputs.net) (let a = c.outputs.auto.i-end in let b = c.outputs-test.false in let d = c.outputs-i-end.ensures in omega (arith, a, b, d)) c.outputs.invariant
+returns c = subst (λ k. Shown c.args.old.now c.args.values.now c.args.made.now c.args.net.now k c.outputs.net)
+    (let a = c.outputs.auto.i-end in let b = c.outputs-test.false in let d = c.outputs-i-end.ensures in omega (arith, a, b, d)) c.outputs.invariant

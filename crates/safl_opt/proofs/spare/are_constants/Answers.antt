@@ -9,7 +9,8 @@ use Rattle.safl_opt.proofs.spare.are_constants.Goals as goal
 
 pub returns-then-not-is_constant : goal.returns-then-not-is_constant
 returns-then-not-is_constant c =
-    sym (not_all c.args.n.now c.args.all.now c.loop-s.s-index (omega arith) (ap (is_constant c.args.n.now) (sym (sig_or c.args.all.now c.loop-s.s-index)) ∙ sym c.is_constant.ensures ∙ c.if-not-is_constant.true))
+    sym (not_all c.args.n.now c.args.all.now c.loop-s.s-index (omega arith)
+    (ap (is_constant c.args.n.now) (sym (sig_or c.args.all.now c.loop-s.s-index)) ∙ sym c.is_constant.ensures ∙ c.if-not-is_constant.true))
 
 pub loop-s-preserved : goal.loop-s-preserved
 loop-s-preserved c =

@@ -5,7 +5,8 @@ use Rattle.safl_net.proofs.Naming.{within}
 use Rattle.safl_opt.proofs.Showing.{output_at}
 use Rattle.safl_opt.proofs.spare.is_shown.Goals as goal
 
-one_more : (n : Netlist) (i t s : ℕ) → (o : List ℕ × ℕ) × (slice_get n.outputs i ≡ Some o) × (t ≡ o.1) → (t ≢ s) → ((k : ℕ) (o : List ℕ × ℕ) → k < i → slice_get n.outputs k ≡ Some o → o.1 ≢ s) → (k : ℕ) (o : List ℕ × ℕ) → k < i + 1 → slice_get n.outputs k ≡ Some o → o.1 ≢ s
+one_more : (n : Netlist) (i t s : ℕ) → (o : List ℕ × ℕ) × (slice_get n.outputs i ≡ Some o) × (t ≡ o.1) → (t ≢ s) →
+    ((k : ℕ) (o : List ℕ × ℕ) → k < i → slice_get n.outputs k ≡ Some o → o.1 ≢ s) → (k : ℕ) (o : List ℕ × ℕ) → k < i + 1 → slice_get n.outputs k ≡ Some o → o.1 ≢ s
 one_more n i t s at ne h k o lt e q = elim (cases_eq k i) [
   | inl same ↦
       let one : o ≡ at.0 = (let z = sym e ∙ ap (slice_get n.outputs) same ∙ at.1 in cc) in
@@ -15,7 +16,8 @@ one_more n i t s at ne h k o lt e q = elim (cases_eq k i) [
 
 pub outputs-preserved : goal.outputs-preserved
 outputs-preserved c =
-    one_more c.args.n.now c.outputs.i c.output_sig-shown.result.0 c.args.s.0 (output_at c.args.n.now c.outputs.i c.output_sig-shown.result.0 c.output_sig-shown.ensures) c.if-shown-s.false c.outputs.invariant
+    one_more c.args.n.now c.outputs.i c.output_sig-shown.result.0 c.args.s.0
+    (output_at c.args.n.now c.outputs.i c.output_sig-shown.result.0 c.output_sig-shown.ensures) c.if-shown-s.false c.outputs.invariant
 
 pub returns-then-shown-s : goal.returns-then-shown-s
 returns-then-shown-s c =
@@ -25,5 +27,6 @@ returns-then-shown-s c =
 pub returns : goal.returns
 returns c = (
   (λ e. absurd (let z = e in cc)),
-  (λ w. absurd (c.outputs.invariant w.index w.output (let k = within c.args.n.now.outputs w.index w.output w.there in let a = c.outputs-test.false in let d = c.outputs-i-end.ensures in omega (arith, k, a, d)) w.there w.is)),
+  (λ w. absurd (c.outputs.invariant w.index w.output (let k = within c.args.n.now.outputs w.index w.output w.there in let a = c.outputs-test.false in
+      let d = c.outputs-i-end.ensures in omega (arith, k, a, d)) w.there w.is)),
 )

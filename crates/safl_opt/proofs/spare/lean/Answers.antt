@@ -11,6 +11,7 @@ returns-then-not-is_fine c = ((λ e. absurd (let z = e in cc)), (λ l. absurd (l
 
 pub returns : goal.returns
 returns c = (
-  (λ e. all_wanted c.args.n.now c.requires (λ s t. c.signals.invariant s (let k = wire_known c.args.n.now s t.wire in let a = c.signals-test.false in let d = c.signals-i-end.ensures.count in omega (arith, k, a, d)) t)),
+  (λ e. all_wanted c.args.n.now c.requires (λ s t. c.signals.invariant s
+      (let k = wire_known c.args.n.now s t.wire in let a = c.signals-test.false in let d = c.signals-i-end.ensures.count in omega (arith, k, a, d)) t)),
   (λ l. refl),
 )

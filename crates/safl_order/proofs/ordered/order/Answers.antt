@@ -23,8 +23,12 @@ cycle-requires c =
 pub returns-in-Ok-cycle-clause-refused : goal.returns-in-Ok-cycle-clause-refused
 returns-in-Ok-cycle-clause-refused c =
     let w = c.run.new.self in
-    let o : IsOpenLoop c.args.net w.stack.items c.in-Err-Loop.place = subst (λ (x : Stop). IsStop c.args.net w.stack.items x) c.in-Err-Loop.field-0-is c.in-Err-Loop.ensures.stop in
-    (refl, c.first_unset.ensures.none.0 (ap is_some c.in_default.is), loop_found c.args.net w.wires.items w.marks.items w.stack.items c.in-Err-Loop.place c.in-Ok-cycle.wires.items c.run.ensures.walks o c.in-Ok-cycle.ensures)
+    let o : IsOpenLoop c.args.net w.stack.items c.in-Err-Loop.place = subst (λ (x : Stop). IsStop c.args.net w.stack.items x) c.in-Err-Loop.field-0-is c.in-Err-Loop.ensures.stop in (
+      refl,
+      c.first_unset.ensures.none.0 (ap is_some c.in_default.is),
+      loop_found c.args.net w.wires.items w.marks.items w.stack.items
+          c.in-Err-Loop.place c.in-Ok-cycle.wires.items c.run.ensures.walks o c.in-Ok-cycle.ensures,
+    )
 
 pub returns-in-Ok-run-clause-acyclic : goal.returns-in-Ok-run-clause-acyclic
 returns-in-Ok-run-clause-acyclic c =

@@ -10,8 +10,12 @@ invariant_of-result c =
     let e = c.in_ok-scrutinee.ensures.ok in
     let d = c.in_ok-default.ensures.ok in
     let k : c.args.scrutinee.depth ≡ min (depth (shown_tree c.in_ok-scrutinee.scrutinee.value)) 100 = c.args.scrutinee.capped ∙ ap (λ x. min (depth (shown_tree x)) 100) (sym e) in
-    let l : c.args.arms.depth ≡ min (deepest_arm (arms_of (shown_labelled c.args.arms.arms.items) (shown_tree c.in_ok-default.default.value))) 100 = c.args.arms.capped ∙ ap (λ x. min (deepest_arm (arms_of (shown_labelled c.args.arms.arms.items) (shown_tree x))) 100) (sym d) in
-    record { capped = cap_case c.in_ok-scrutinee.scrutinee c.args.arms.arms c.in_ok-default.default c.args.place c.args.scrutinee.depth c.args.arms.depth c.above-depth.result k l (c.above-depth.ensures ∙ ap (λ x. min (1 + x) 100) c.greater.ensures) }
+    let l : c.args.arms.depth ≡ min (deepest_arm (arms_of (shown_labelled c.args.arms.arms.items) (shown_tree c.in_ok-default.default.value))) 100 =
+    c.args.arms.capped ∙ ap (λ x. min (deepest_arm (arms_of (shown_labelled c.args.arms.arms.items) (shown_tree x))) 100) (sym d) in
+    record {
+      capped = cap_case c.in_ok-scrutinee.scrutinee c.args.arms.arms c.in_ok-default.default c.args.place c.args.scrutinee.depth
+          c.args.arms.depth c.above-depth.result k l (c.above-depth.ensures ∙ ap (λ x. min (1 + x) 100) c.greater.ensures);
+    }
 
 pub returns : goal.returns
 returns c =

@@ -50,7 +50,8 @@ tell_all-requires-2-clause-can g c = λ i name k.
     let rs : List ProbeState = map (λ p. (goal.Probe-dyn g (p.vtable, p.value)).state p.value) c.watch.new.probes in
     let d = c.in_ok-done.ensures.watched c.args.args.now (subst (λ m. IsCalled m c.args.args.now c.take_arguments.new.harness) c.net-net.ensures c.take_arguments.ensures) in
     let frames : List Valuation = cycles_of n c.args.limit (slice_index c.args.sim.now.state) c.args.args.now c.in_ok-done.done (slice_index c.watch.new.sim.state) d.answers in
-    can_finish n frames (probe_at ps i) (probe_at qs i) (probe_at rs i) (told_begun c.net-net.result.now n c.net-net.ensures (asked c.args.files.now) ps qs c.in_ok-tell_all.ensures.tells i name k) (d.shown.told i name k)
+    can_finish n frames (probe_at ps i) (probe_at qs i) (probe_at rs i)
+    (told_begun c.net-net.result.now n c.net-net.ensures (asked c.args.files.now) ps qs c.in_ok-tell_all.ensures.tells i name k) (d.shown.told i name k)
 
 -- ---- no memory for the schedule
 
@@ -131,8 +132,10 @@ returns-in_err-done-clause-part g c =
     let b = c.in_err-done.ensures.broken c.args.args.now (subst (λ m. IsCalled m c.args.args.now c.take_arguments.new.harness) c.net-net.ensures c.take_arguments.ensures) in
     on_err c.from_residual-in_err-done.result _
     (λ vs r.
-    let go = going_begins n c.args.args.now c.args.limit (subst (λ m. IsNetlist m) c.net-net.ensures c.in_ok-harness.ensures.made) c.requires.whole (subst (λ m. IsAcyclic m) c.ordered.ensures c.net-ordered.ensures.acyclic) c.args.sim.now.state c.requires.fresh b.frames vs b.call b.in_time b.off r in
-    run_torn n names vs ps qs (told_begun c.net-net.result.now n c.net-net.ensures names ps qs c.in_ok-tell_all.ensures.tells) _ y b.frames go.0 _ go.1 (opened_whole c.net-net.result.now n c.net-net.ensures names ps _ y c.in_ok-tell_all.ensures.grown) b.files)
+    let go = going_begins n c.args.args.now c.args.limit (subst (λ m. IsNetlist m) c.net-net.ensures c.in_ok-harness.ensures.made) c.requires.whole
+    (subst (λ m. IsAcyclic m) c.ordered.ensures c.net-ordered.ensures.acyclic) c.args.sim.now.state c.requires.fresh b.frames vs b.call b.in_time b.off r in
+    run_torn n names vs ps qs (told_begun c.net-net.result.now n c.net-net.ensures names ps qs c.in_ok-tell_all.ensures.tells) _ y b.frames go.0 _
+    go.1 (opened_whole c.net-net.result.now n c.net-net.ensures names ps _ y c.in_ok-tell_all.ensures.grown) b.files)
 
 pub returns-in_err-done-clause-unasked : goal.returns-in_err-done-clause-unasked
 returns-in_err-done-clause-unasked g c = unasked_then (asked c.args.files.now) _ _ _ c.in_ok-tell_all.ensures.unasked c.in_err-done.ensures.unasked
@@ -168,7 +171,9 @@ returns-in_err-tell_all-2-clause-part g c =
     let d = c.in_ok-done.ensures.watched c.args.args.now (subst (λ m. IsCalled m c.args.args.now c.take_arguments.new.harness) c.net-net.ensures c.take_arguments.ensures) in
     on_err c.from_residual-in_err-tell_all-2.result _
     (λ vs r.
-    end_torn n names vs ps qs (told_begun c.net-net.result.now n c.net-net.ensures names ps qs c.in_ok-tell_all.ensures.tells) _ y _ rs z w (watched_are n c.args.args.now c.args.limit (subst (λ m. IsNetlist m) c.net-net.ensures c.in_ok-harness.ensures.made) c.requires.whole (subst (λ m. IsAcyclic m) c.ordered.ensures c.net-ordered.ensures.acyclic) c.args.sim.now.state c.requires.fresh _ _ d.answers vs r)
+    end_torn n names vs ps qs (told_begun c.net-net.result.now n c.net-net.ensures names ps qs c.in_ok-tell_all.ensures.tells) _ y _ rs z w
+    (watched_are n c.args.args.now c.args.limit (subst (λ m. IsNetlist m) c.net-net.ensures c.in_ok-harness.ensures.made) c.requires.whole
+    (subst (λ m. IsAcyclic m) c.ordered.ensures c.net-ordered.ensures.acyclic) c.args.sim.now.state c.requires.fresh _ _ d.answers vs r)
     (opened_whole c.net-net.result.now n c.net-net.ensures names ps _ y c.in_ok-tell_all.ensures.grown) d.shown (closed_part names rs z w c.in_err-tell_all-2.ensures.part))
 
 pub returns-in_err-tell_all-2-clause-unasked : goal.returns-in_err-tell_all-2-clause-unasked
@@ -202,7 +207,8 @@ returns-clause-outcome g c =
     let n : Netlist = c.args.sim.now.net in
     let after = slice_index c.watch.new.sim.state in
     let d = c.in_ok-done.ensures.watched c.args.args.now (subst (λ m. IsCalled m c.args.args.now c.take_arguments.new.harness) c.net-net.ensures c.take_arguments.ensures) in
-    outcome n (subst (λ m. IsNetlist m) c.net-net.ensures c.in_ok-harness.ensures.made) c.requires.whole (subst (λ m. IsAcyclic m) c.ordered.ensures c.net-ordered.ensures.acyclic) c.args.args.now c.args.limit c.in_ok-done.done after
+    outcome n (subst (λ m. IsNetlist m) c.net-net.ensures c.in_ok-harness.ensures.made) c.requires.whole
+    (subst (λ m. IsAcyclic m) c.ordered.ensures c.net-ordered.ensures.acyclic) c.args.args.now c.args.limit c.in_ok-done.done after
     (answers_along n c.args.limit (slice_index c.args.sim.now.state) (reset_state n) c.args.args.now c.in_ok-done.done after (from_reset n c.args.sim.now.state c.requires.fresh) d.answers)
 
 pub returns-clause-traced : goal.returns-clause-traced
@@ -217,7 +223,9 @@ returns-clause-traced g c =
     let w : Option Files = (g.S.Shelf.told c.tell_all-2.new.shelf).holds in
     let d = c.in_ok-done.ensures.watched c.args.args.now (subst (λ m. IsCalled m c.args.args.now c.take_arguments.new.harness) c.net-net.ensures c.take_arguments.ensures) in
     λ vs r.
-    traced n names vs ps qs (told_begun c.net-net.result.now n c.net-net.ensures names ps qs c.in_ok-tell_all.ensures.tells) _ y _ rs z w (watched_are n c.args.args.now c.args.limit (subst (λ m. IsNetlist m) c.net-net.ensures c.in_ok-harness.ensures.made) c.requires.whole (subst (λ m. IsAcyclic m) c.ordered.ensures c.net-ordered.ensures.acyclic) c.args.sim.now.state c.requires.fresh _ _ d.answers vs r)
+    traced n names vs ps qs (told_begun c.net-net.result.now n c.net-net.ensures names ps qs c.in_ok-tell_all.ensures.tells) _ y _ rs z w
+    (watched_are n c.args.args.now c.args.limit (subst (λ m. IsNetlist m) c.net-net.ensures c.in_ok-harness.ensures.made) c.requires.whole
+    (subst (λ m. IsAcyclic m) c.ordered.ensures c.net-ordered.ensures.acyclic) c.args.sim.now.state c.requires.fresh _ _ d.answers vs r)
     (opened_whole c.net-net.result.now n c.net-net.ensures names ps _ y c.in_ok-tell_all.ensures.grown) d.shown (closed_whole names rs z w c.in_ok-tell_all-2.ensures.grown)
 
 pub returns-clause-unasked : goal.returns-clause-unasked

@@ -9,7 +9,8 @@ nothing : (o : Option (String Global)) → is_some o ≡ false → option_map st
 nothing None e = refl
 nothing (Some x) e = absurd (false≢true (sym e))
 
-none_more : (files : List (Option (String Global))) (i : ℕ) (o : Option (String Global)) → i < length files → o ≡ get_or files i o → is_some o ≡ false → ((k : ℕ) → k < i → get_or (asked files) k None ≡ None) → (k : ℕ) → k < i + 1 → get_or (asked files) k None ≡ None
+none_more : (files : List (Option (String Global))) (i : ℕ) (o : Option (String Global)) → i < length files → o ≡ get_or files i o → is_some o ≡ false
+    → ((k : ℕ) → k < i → get_or (asked files) k None ≡ None) → (k : ℕ) → k < i + 1 → get_or (asked files) k None ≡ None
 none_more files i o lt is none all k below =
     elim (less i k below) [
       | inl lower ↦ all k lower
@@ -24,6 +25,7 @@ loop-file-preserved c =
 pub returns : goal.returns
 returns c = λ e name i k.
     let w = is_within (asked c.args.files.now) i name k in
-    let none = c.loop-file.invariant i (let a = c.loop-file-test.false in let b = c.loop-file.auto.file-index-end in let l = length-map c.args.files.now (option_map string_bytes) in omega (arith, a, b, l, w)) in
+    let none = c.loop-file.invariant i (let a = c.loop-file-test.false in let b = c.loop-file.auto.file-index-end in let l = length-map
+    c.args.files.now (option_map string_bytes) in omega (arith, a, b, l, w)) in
     let f = sym none ∙ k in
     cc

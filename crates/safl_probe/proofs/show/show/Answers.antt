@@ -69,7 +69,8 @@ tell_all-requires-clause-can g c = λ i name k.
     let b = c.deref_mut.ensures.len in
     let d = ap (λ (l : List Word). length l) c.deref_mut.ensures.value in
     let back = back_is c.args.room.now.frame.len c.fill.new.frame c.args.room.now.frame.items (omega (arith, a, d)) (omega (arith, b, d)) in
-    can_show c.args.cycle _ c.args.sim.now.values (probe_at (map (λ p. (goal.Probe-dyn g (p.vtable, p.value)).state p.value) c.args.probes.now) i) (ap (map (λ (w : Word). w.bits)) back ∙ c.fill.ensures.values) (c.requires.can i name k)
+    can_show c.args.cycle _ c.args.sim.now.values (probe_at (map (λ p. (goal.Probe-dyn g (p.vtable, p.value)).state p.value) c.args.probes.now) i)
+    (ap (map (λ (w : Word). w.bits)) back ∙ c.fill.ensures.values) (c.requires.can i name k)
 
 pub returns-clause-grown : goal.returns-clause-grown
 returns-clause-grown g c =
@@ -77,7 +78,8 @@ returns-clause-grown g c =
     let b = c.deref_mut.ensures.len in
     let d = ap (λ (l : List Word). length l) c.deref_mut.ensures.value in
     let back = back_is c.args.room.now.frame.len c.fill.new.frame c.args.room.now.frame.items (omega (arith, a, d)) (omega (arith, b, d)) in
-    on_ok c.tell_all.result _ _ (grown_of c.args.cycle c.net.result.now _ c.args.sim.now.values (asked c.args.files.now) _ (ap (map (λ (w : Word). w.bits)) back ∙ c.fill.ensures.values) _ _) c.tell_all.ensures.grown
+    on_ok c.tell_all.result _ _ (grown_of c.args.cycle c.net.result.now _ c.args.sim.now.values (asked c.args.files.now) _
+    (ap (map (λ (w : Word). w.bits)) back ∙ c.fill.ensures.values) _ _) c.tell_all.ensures.grown
 
 pub returns-clause-part : goal.returns-clause-part
 returns-clause-part g c =
@@ -85,7 +87,8 @@ returns-clause-part g c =
     let b = c.deref_mut.ensures.len in
     let d = ap (λ (l : List Word). length l) c.deref_mut.ensures.value in
     let back = back_is c.args.room.now.frame.len c.fill.new.frame c.args.room.now.frame.items (omega (arith, a, d)) (omega (arith, b, d)) in
-    on_err c.tell_all.result _ _ (part_of c.args.cycle c.net.result.now _ c.args.sim.now.values (asked c.args.files.now) _ (ap (map (λ (w : Word). w.bits)) back ∙ c.fill.ensures.values) _ _) c.tell_all.ensures.part
+    on_err c.tell_all.result _ _ (part_of c.args.cycle c.net.result.now _ c.args.sim.now.values (asked c.args.files.now) _
+    (ap (map (λ (w : Word). w.bits)) back ∙ c.fill.ensures.values) _ _) c.tell_all.ensures.part
 
 pub returns-clause-tells : goal.returns-clause-tells
 returns-clause-tells g c =
@@ -93,7 +96,8 @@ returns-clause-tells g c =
     let b = c.deref_mut.ensures.len in
     let d = ap (λ (l : List Word). length l) c.deref_mut.ensures.value in
     let back = back_is c.args.room.now.frame.len c.fill.new.frame c.args.room.now.frame.items (omega (arith, a, d)) (omega (arith, b, d)) in
-    on_ok c.tell_all.result _ _ (tells_of c.args.cycle c.net.result.now _ c.args.sim.now.values (asked c.args.files.now) _ (ap (map (λ (w : Word). w.bits)) back ∙ c.fill.ensures.values) _) c.tell_all.ensures.tells
+    on_ok c.tell_all.result _ _ (tells_of c.args.cycle c.net.result.now _ c.args.sim.now.values (asked c.args.files.now) _
+    (ap (map (λ (w : Word). w.bits)) back ∙ c.fill.ensures.values) _) c.tell_all.ensures.tells
 
 pub fill-requires-clause-frame : goal.fill-requires-clause-frame
 fill-requires-clause-frame g c = subst (HasWidths c.args.sim.now.net) (sym c.deref_mut.ensures.value) c.requires.room

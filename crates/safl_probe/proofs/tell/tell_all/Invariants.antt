@@ -19,7 +19,8 @@ invariant-probes g l =
     let y : Option Files = (g.S.Shelf.told l.shelf).holds in
     record {
       told : ToldTo _ (λ p. (goal.Probe-dyn g (p.vtable, p.value)).state p.value) l.moment l.net frame names l.fn.probes l.probes l.i;
-      grown : AreApart names → TellsOn (FirstGrow (Grown l.moment) names (λ i. text_at l.moment l.net frame (probe_at (map (λ p. (goal.Probe-dyn g (p.vtable, p.value)).state p.value) l.fn.probes) i)) l.i) x y;
+      grown : AreApart names → TellsOn (FirstGrow (Grown l.moment) names
+          (λ i. text_at l.moment l.net frame (probe_at (map (λ p. (goal.Probe-dyn g (p.vtable, p.value)).state p.value) l.fn.probes) i)) l.i) x y;
       same_frame : l.room.frame ≡ l.fn.room.frame;
       reads : SameReads (g.S.Shelf.told l.fn.shelf) (g.S.Shelf.told l.shelf);
       strays : AllThere l.moment names x → OnSome x ((g.S.Shelf.told l.shelf).strays ≡ (g.S.Shelf.told l.fn.shelf).strays);

@@ -8,5 +8,6 @@ three old a b d one two now e f g = g ∙ ap (λ l. l ++ d) (f ∙ ap (λ l. l +
 
 pub returns : goal.returns
 returns c =
-    three c.args.out.now.items (codes "$timescale 1 ns $end\n$scope module safl $end\n") (variables 0 (watched_all c.args.entries.now)) (codes "$upscope $end\n$enddefinitions $end\n") c.push.new.out.items c.push_variables.new.out.items c.push-2.new.out.items
+    three c.args.out.now.items (codes "$timescale 1 ns $end\n$scope module safl $end\n") (variables 0 (watched_all c.args.entries.now))
+    (codes "$upscope $end\n$enddefinitions $end\n") c.push.new.out.items c.push_variables.new.out.items c.push-2.new.out.items
     c.in_ok-push.ensures.added c.in_ok-push_variables.ensures c.in_ok-push-2.ensures.added

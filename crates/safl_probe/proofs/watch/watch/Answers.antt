@@ -49,7 +49,8 @@ cycles-preserved g c =
       count = long_more i.frames v ∙ ap (λ k. k + 1) i.count;
       going = λ args called.
           goes_on n (slice_index c.args.sim.now.state) args i.frames c.step-done.new.sim c.step-done.result (sym c.is_some.ensures ∙ c.if-is_some.false)
-          (goes_along n (slice_index c.args.sim.now.state) args i.frames c.args.harness.now c.cycles.cycle c.cycles.sim c.step-done.new.sim c.step-done.result i.net c.step-done.ensures.goes called i.count (i.going args called));
+          (goes_along n (slice_index c.args.sim.now.state) args i.frames c.args.harness.now c.cycles.cycle c.cycles.sim c.step-done.new.sim
+          c.step-done.result i.net c.step-done.ensures.goes called i.count (i.going args called));
       given = λ h. c.step-done.ensures.given (omega (arith, h));
       shown = shown_more (asked c.args.files.now) _ i.frames v _ _ _ _ _ i.shown c.in_ok-show.ensures.tells c.in_ok-show.ensures.grown;
       room = subst (λ (m : Netlist). HasWidths m c.show.new.room.frame.items) (c.step-done.ensures.net ∙ i.net) c.in_ok-show.ensures.room;
@@ -88,7 +89,8 @@ returns-in_err-show-clause-broken g c =
     on_err c.from_residual.result _
     (λ args called.
     let goes : Goes n (slice_index c.args.sim.now.state) args i.frames c.step-done.new.sim c.step-done.result =
-    goes_along n (slice_index c.args.sim.now.state) args i.frames c.args.harness.now c.cycles.cycle c.cycles.sim c.step-done.new.sim c.step-done.result i.net c.step-done.ensures.goes called i.count (i.going args called) in
+    goes_along n (slice_index c.args.sim.now.state) args i.frames c.args.harness.now c.cycles.cycle c.cycles.sim c.step-done.new.sim
+    c.step-done.result i.net c.step-done.ensures.goes called i.count (i.going args called) in
     record {
       frames = i.frames ++ v ∷ [];
       call = goes_call n (slice_index c.args.sim.now.state) args i.frames c.step-done.new.sim c.step-done.result goes;
@@ -114,8 +116,10 @@ returns-then-is_some-clause-watched g c = λ args called.
     let n : Netlist = c.args.sim.now.net in
     let v : Valuation = c.step-done.new.sim.values in
     let goes : Goes n (slice_index c.args.sim.now.state) args i.frames c.step-done.new.sim c.step-done.result =
-    goes_along n (slice_index c.args.sim.now.state) args i.frames c.args.harness.now c.cycles.cycle c.cycles.sim c.step-done.new.sim c.step-done.result i.net c.step-done.ensures.goes called i.count (i.going args called) in
-    let r = replied n (slice_index c.args.sim.now.state) args i.frames c.step-done.new.sim c.args.limit (slice_index c.cycles.sim.state) c.step-done.result (sym c.is_some.ensures ∙ c.if-is_some.true) (i.going args called)
+    goes_along n (slice_index c.args.sim.now.state) args i.frames c.args.harness.now c.cycles.cycle c.cycles.sim c.step-done.new.sim
+    c.step-done.result i.net c.step-done.ensures.goes called i.count (i.going args called) in
+    let r = replied n (slice_index c.args.sim.now.state) args i.frames c.step-done.new.sim c.args.limit (slice_index c.cycles.sim.state)
+    c.step-done.result (sym c.is_some.ensures ∙ c.if-is_some.true) (i.going args called)
     (let a = i.count in let b = c.cycles-test.true in omega (arith, a, b)) goes in
     record {
       answers = r.0;
@@ -127,7 +131,8 @@ show-requires-clause-can g c = λ j name k.
     let i = c.cycles.invariant in
     let b = c.cycles-test.true in
     let f = c.ranges.limit.fits in (
-      fits_more c.args.sim.now.net i.frames c.step-done.new.sim.values _ _ (c.requires.ready j name k) (i.shown.told j name k) (c.step-done.ensures.full ∙ ap (λ (m : Netlist). length m.signals) (c.step-done.ensures.net ∙ i.net)),
+      fits_more c.args.sim.now.net i.frames c.step-done.new.sim.values _ _ (c.requires.ready j name k) (i.shown.told j name k)
+          (c.step-done.ensures.full ∙ ap (λ (m : Netlist). length m.signals) (c.step-done.ensures.net ∙ i.net)),
       turn_more c.args.sim.now.net i.frames _ _ c.cycles.cycle (c.requires.ready j name k) (i.shown.told j name k) i.count,
       omega (arith, b, f),
     )

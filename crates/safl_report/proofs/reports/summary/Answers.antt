@@ -15,7 +15,8 @@ returns c =
       arbiter = arbiter_of p;
       kept = kept_of p;
       plan = c.count_arbiters.ensures.plan;
-      lines = three_parts (codes "arbiters " ++ decimal (arbiters_of (program_of p.program) (arbiter_of p))) (codes "\n") (register_line n) c.new-out.result.items c.push_number.new.out.items c.push_end.new.out.items c.push_registers.new.out.items
+      lines = three_parts (codes "arbiters " ++ decimal (arbiters_of (program_of p.program) (arbiter_of p))) (codes "\n") (register_line n)
+          c.new-out.result.items c.push_number.new.out.items c.push_end.new.out.items c.push_registers.new.out.items
           c.new-out.ensures.items
           (c.in_ok-push_number.ensures ∙ append_assoc c.new-out.result.items (codes "arbiters ") (decimal c.from.result)
           ∙ ap (λ (m : ℕ). c.new-out.result.items ++ (codes "arbiters " ++ decimal m)) (c.from.ensures ∙ c.count_arbiters.ensures.count))

@@ -14,69 +14,100 @@ use Rattle.safl_reshape.proofs.change.+changing.Goals as goal
 
 pub change-returns-in_ok-body-in-Let-clause-tree : goal.change-returns-in_ok-body-in-Let-clause-tree
 change-returns-in_ok-body-in-Let-clause-tree t c =
-    let s = shown_let c.args.e.now.node c.args.e.now.place c.in-Let.binds c.in-Let.body c.deref-in-Let.result.now c.deref-in-Let-2.result.now c.in-Let.is c.deref-in-Let.ensures.value c.deref-in-Let-2.ensures in
+    let s = shown_let c.args.e.now.node c.args.e.now.place c.in-Let.binds c.in-Let.body c.deref-in-Let.result.now c.deref-in-Let-2.result.now
+    c.in-Let.is c.deref-in-Let.ensures.value c.deref-in-Let-2.ensures in
     IfOk-weaker c.bind.result _ _ (λ x h k lo e.
     let bs = c.in_ok-binds-in-Let.ensures.bounds k lo e in
     let l : c.change_binds.new.left ≡ suc k - (lo + sites_bounds (known c.args.heads.now c.args.unit) (shown_bounds c.deref-in-Let.result.now)) = omega (arith, e, c.in_ok-binds-in-Let.ensures.left) in
     let b = c.in_ok-body-in-Let.ensures.tree k (lo + sites_bounds (known c.args.heads.now c.args.unit) (shown_bounds c.deref-in-Let.result.now)) l in
-    let_done (known c.args.heads.now c.args.unit) (change_of k c.args.changes.now) lo c.args.e.now.place (shown_bounds c.deref-in-Let.result.now) (shown_bounds c.in_ok-binds-in-Let.binds.items) (shown_tree c.deref-in-Let-2.result.now) (shown_tree c.in_ok-body-in-Let.body) (shown_tree c.args.e.now) (shown_tree x) bs b s h) c.bind.ensures
+    let_done (known c.args.heads.now c.args.unit) (change_of k c.args.changes.now) lo c.args.e.now.place (shown_bounds c.deref-in-Let.result.now)
+    (shown_bounds c.in_ok-binds-in-Let.binds.items) (shown_tree c.deref-in-Let-2.result.now) (shown_tree c.in_ok-body-in-Let.body)
+    (shown_tree c.args.e.now) (shown_tree x) bs b s h) c.bind.ensures
 
 pub change-returns-in_ok-body-in-Let-clause-left : goal.change-returns-in_ok-body-in-Let-clause-left
 change-returns-in_ok-body-in-Let-clause-left t c =
-    let s = shown_let c.args.e.now.node c.args.e.now.place c.in-Let.binds c.in-Let.body c.deref-in-Let.result.now c.deref-in-Let-2.result.now c.in-Let.is c.deref-in-Let.ensures.value c.deref-in-Let-2.ensures in
-    on_ok_always c.bind.result (left_let (known c.args.heads.now c.args.unit) c.args.e.now.place (shown_bounds c.deref-in-Let.result.now) (shown_tree c.deref-in-Let-2.result.now) (shown_tree c.args.e.now) c.args.left.now c.change_binds.new.left c.change-in-Let.new.left s c.in_ok-binds-in-Let.ensures.left c.in_ok-body-in-Let.ensures.left)
+    let s = shown_let c.args.e.now.node c.args.e.now.place c.in-Let.binds c.in-Let.body c.deref-in-Let.result.now c.deref-in-Let-2.result.now
+    c.in-Let.is c.deref-in-Let.ensures.value c.deref-in-Let-2.ensures in
+    on_ok_always c.bind.result (left_let (known c.args.heads.now c.args.unit) c.args.e.now.place (shown_bounds c.deref-in-Let.result.now)
+    (shown_tree c.deref-in-Let-2.result.now) (shown_tree c.args.e.now) c.args.left.now c.change_binds.new.left c.change-in-Let.new.left s
+    c.in_ok-binds-in-Let.ensures.left c.in_ok-body-in-Let.ensures.left)
 
 pub change-returns-in_ok-other-in-Case-clause-tree : goal.change-returns-in_ok-other-in-Case-clause-tree
 change-returns-in_ok-other-in-Case-clause-tree t c =
-    let s = shown_case c.args.e.now.node c.args.e.now.place c.in-Case.value c.in-Case.arms c.in-Case.other c.deref-in-Case.result.now c.deref-in-Case-2.result.now c.deref-in-Case-3.result.now c.in-Case.is c.deref-in-Case.ensures c.deref-in-Case-2.ensures.value c.deref-in-Case-3.ensures in
+    let s = shown_case c.args.e.now.node c.args.e.now.place c.in-Case.value c.in-Case.arms c.in-Case.other c.deref-in-Case.result.now
+    c.deref-in-Case-2.result.now c.deref-in-Case-3.result.now c.in-Case.is c.deref-in-Case.ensures c.deref-in-Case-2.ensures.value c.deref-in-Case-3.ensures in
     IfOk-weaker c.select.result _ _ (λ x h k lo e.
     let v = c.in_ok-value-in-Case.ensures.tree k lo e in
-    let l : c.change-in-Case.new.left ≡ suc k - (lo + sites_in_tree (known c.args.heads.now c.args.unit) (shown_tree c.deref-in-Case.result.now)) = omega (arith, e, c.in_ok-value-in-Case.ensures.left) in
+    let l : c.change-in-Case.new.left ≡ suc k - (lo + sites_in_tree (known c.args.heads.now c.args.unit) (shown_tree c.deref-in-Case.result.now)) =
+    omega (arith, e, c.in_ok-value-in-Case.ensures.left) in
     let ls = c.in_ok-arms-in-Case.ensures.labelled k (lo + sites_in_tree (known c.args.heads.now c.args.unit) (shown_tree c.deref-in-Case.result.now)) l in
-    let m : c.change_arms.new.left ≡ suc k - (lo + sites_in_tree (known c.args.heads.now c.args.unit) (shown_tree c.deref-in-Case.result.now) + sites_labelled (known c.args.heads.now c.args.unit) (shown_labelled c.deref-in-Case-2.result.now)) = omega (arith, l, c.in_ok-arms-in-Case.ensures.left) in
-    let o = c.in_ok-other-in-Case.ensures.tree k (lo + sites_in_tree (known c.args.heads.now c.args.unit) (shown_tree c.deref-in-Case.result.now) + sites_labelled (known c.args.heads.now c.args.unit) (shown_labelled c.deref-in-Case-2.result.now)) m in
-    case_done (known c.args.heads.now c.args.unit) (change_of k c.args.changes.now) lo c.args.e.now.place (shown_tree c.deref-in-Case.result.now) (shown_tree c.in_ok-value-in-Case.value) (shown_labelled c.deref-in-Case-2.result.now) (shown_labelled c.in_ok-arms-in-Case.arms.items) (shown_tree c.deref-in-Case-3.result.now) (shown_tree c.in_ok-other-in-Case.other) (shown_tree c.args.e.now) (shown_tree x) v ls o s h) c.select.ensures
+    let m : c.change_arms.new.left ≡ suc k - (lo + sites_in_tree (known c.args.heads.now c.args.unit) (shown_tree c.deref-in-Case.result.now) +
+    sites_labelled (known c.args.heads.now c.args.unit) (shown_labelled c.deref-in-Case-2.result.now)) = omega (arith, l, c.in_ok-arms-in-Case.ensures.left) in
+    let o = c.in_ok-other-in-Case.ensures.tree k (lo + sites_in_tree (known c.args.heads.now c.args.unit) (shown_tree c.deref-in-Case.result.now) +
+    sites_labelled (known c.args.heads.now c.args.unit) (shown_labelled c.deref-in-Case-2.result.now)) m in
+    case_done (known c.args.heads.now c.args.unit) (change_of k c.args.changes.now) lo c.args.e.now.place (shown_tree c.deref-in-Case.result.now)
+    (shown_tree c.in_ok-value-in-Case.value) (shown_labelled c.deref-in-Case-2.result.now) (shown_labelled c.in_ok-arms-in-Case.arms.items)
+    (shown_tree c.deref-in-Case-3.result.now) (shown_tree c.in_ok-other-in-Case.other) (shown_tree c.args.e.now) (shown_tree x) v ls o s h) c.select.ensures
 
 pub change-returns-in_ok-other-in-Case-clause-left : goal.change-returns-in_ok-other-in-Case-clause-left
 change-returns-in_ok-other-in-Case-clause-left t c =
-    let s = shown_case c.args.e.now.node c.args.e.now.place c.in-Case.value c.in-Case.arms c.in-Case.other c.deref-in-Case.result.now c.deref-in-Case-2.result.now c.deref-in-Case-3.result.now c.in-Case.is c.deref-in-Case.ensures c.deref-in-Case-2.ensures.value c.deref-in-Case-3.ensures in
-    on_ok_always c.select.result (left_case (known c.args.heads.now c.args.unit) c.args.e.now.place (shown_tree c.deref-in-Case.result.now) (shown_labelled c.deref-in-Case-2.result.now) (shown_tree c.deref-in-Case-3.result.now) (shown_tree c.args.e.now) c.args.left.now c.change-in-Case.new.left c.change_arms.new.left c.change-in-Case-2.new.left s c.in_ok-value-in-Case.ensures.left c.in_ok-arms-in-Case.ensures.left c.in_ok-other-in-Case.ensures.left)
+    let s = shown_case c.args.e.now.node c.args.e.now.place c.in-Case.value c.in-Case.arms c.in-Case.other c.deref-in-Case.result.now
+    c.deref-in-Case-2.result.now c.deref-in-Case-3.result.now c.in-Case.is c.deref-in-Case.ensures c.deref-in-Case-2.ensures.value c.deref-in-Case-3.ensures in
+    on_ok_always c.select.result (left_case (known c.args.heads.now c.args.unit) c.args.e.now.place (shown_tree c.deref-in-Case.result.now)
+    (shown_labelled c.deref-in-Case-2.result.now) (shown_tree c.deref-in-Case-3.result.now) (shown_tree c.args.e.now) c.args.left.now
+    c.change-in-Case.new.left c.change_arms.new.left c.change-in-Case-2.new.left s c.in_ok-value-in-Case.ensures.left
+    c.in_ok-arms-in-Case.ensures.left c.in_ok-other-in-Case.ensures.left)
 
 pub change-returns-in_ok-operands-in-Op-clause-tree : goal.change-returns-in_ok-operands-in-Op-clause-tree
 change-returns-in_ok-operands-in-Op-clause-tree t c =
     let s = shown_op c.args.e.now.node c.args.e.now.place c.in-Op.operator c.in-Op.operands c.deref-in-Op.result.now c.in-Op.is c.deref-in-Op.ensures.value in
-    λ k lo e. op_done (known c.args.heads.now c.args.unit) (change_of k c.args.changes.now) lo c.args.e.now.place c.in-Op.operator (shown_trees c.deref-in-Op.result.now) (shown_trees c.in_ok-operands-in-Op.operands.items) (shown_tree c.args.e.now) (shown_tree c.operate.result) (c.in_ok-operands-in-Op.ensures.trees k lo e) s c.operate.ensures
+    λ k lo e. op_done (known c.args.heads.now c.args.unit) (change_of k c.args.changes.now) lo c.args.e.now.place c.in-Op.operator
+    (shown_trees c.deref-in-Op.result.now) (shown_trees c.in_ok-operands-in-Op.operands.items) (shown_tree c.args.e.now)
+    (shown_tree c.operate.result) (c.in_ok-operands-in-Op.ensures.trees k lo e) s c.operate.ensures
 
 pub change-returns-in_ok-operands-in-Op-clause-left : goal.change-returns-in_ok-operands-in-Op-clause-left
 change-returns-in_ok-operands-in-Op-clause-left t c =
     let s = shown_op c.args.e.now.node c.args.e.now.place c.in-Op.operator c.in-Op.operands c.deref-in-Op.result.now c.in-Op.is c.deref-in-Op.ensures.value in
-    left_op (known c.args.heads.now c.args.unit) c.args.e.now.place c.in-Op.operator (shown_trees c.deref-in-Op.result.now) (shown_tree c.args.e.now) c.args.left.now c.change_all.new.left s c.in_ok-operands-in-Op.ensures.left
+    left_op (known c.args.heads.now c.args.unit) c.args.e.now.place c.in-Op.operator (shown_trees c.deref-in-Op.result.now) (shown_tree c.args.e.now)
+    c.args.left.now c.change_all.new.left s c.in_ok-operands-in-Op.ensures.left
 
 pub change-returns-in_ok-arguments-in-Call-clause-tree : goal.change-returns-in_ok-arguments-in-Call-clause-tree
 change-returns-in_ok-arguments-in-Call-clause-tree t c =
     let s = shown_call c.args.e.now.node c.args.e.now.place c.in-Call.name c.in-Call.arguments c.deref-in-Call.result.now c.in-Call.is c.deref-in-Call.ensures.value in
-    let z : site_of c.find_callee-callee.result ≡ is_site (callee (known c.args.heads.now c.args.unit) c.in-Call.name) = sym (site_plain c.args.heads.now c.find_callee-callee.result c.find_callee-callee.ensures.one) ∙ ap is_site c.find_callee-callee.ensures.found in
+    let z : site_of c.find_callee-callee.result ≡ is_site (callee (known c.args.heads.now c.args.unit) c.in-Call.name) = sym
+    (site_plain c.args.heads.now c.find_callee-callee.result c.find_callee-callee.ensures.one) ∙ ap is_site c.find_callee-callee.ensures.found in
     IfOk-weaker c.changed_call.result _ _ (λ x h k lo e.
     let l : c.pass-here.new.left ≡ suc k - (lo + is_site (callee (known c.args.heads.now c.args.unit) c.in-Call.name)) = omega (arith, e, z, c.pass-here.ensures.left) in
     let xs = c.in_ok-arguments-in-Call.ensures.trees k (lo + is_site (callee (known c.args.heads.now c.args.unit) c.in-Call.name)) l in
     let r = h c.args.heads.now k lo c.find_callee-callee.ensures.one (c.pass-here.ensures.here k lo e) in
-    call_done (known c.args.heads.now c.args.unit) (change_of k c.args.changes.now) lo c.args.e.now.place c.in-Call.name (shown_trees c.deref-in-Call.result.now) (shown_trees c.in_ok-arguments-in-Call.arguments.items) (shown_tree c.args.e.now) (shown_tree x) xs s
-    (r ∙ ap (λ f. change_of k c.args.changes.now f lo c.args.e.now.place c.in-Call.name (trees_of (shown_trees c.in_ok-arguments-in-Call.arguments.items))) c.find_callee-callee.ensures.found)) c.changed_call.ensures
+    call_done (known c.args.heads.now c.args.unit) (change_of k c.args.changes.now) lo c.args.e.now.place c.in-Call.name
+    (shown_trees c.deref-in-Call.result.now) (shown_trees c.in_ok-arguments-in-Call.arguments.items) (shown_tree c.args.e.now) (shown_tree x) xs s
+    (r ∙ ap (λ f. change_of k c.args.changes.now f lo c.args.e.now.place c.in-Call.name
+    (trees_of (shown_trees c.in_ok-arguments-in-Call.arguments.items))) c.find_callee-callee.ensures.found)) c.changed_call.ensures
 
 pub change-returns-in_ok-arguments-in-Call-clause-left : goal.change-returns-in_ok-arguments-in-Call-clause-left
 change-returns-in_ok-arguments-in-Call-clause-left t c =
     let s = shown_call c.args.e.now.node c.args.e.now.place c.in-Call.name c.in-Call.arguments c.deref-in-Call.result.now c.in-Call.is c.deref-in-Call.ensures.value in
-    let z : site_of c.find_callee-callee.result ≡ is_site (callee (known c.args.heads.now c.args.unit) c.in-Call.name) = sym (site_plain c.args.heads.now c.find_callee-callee.result c.find_callee-callee.ensures.one) ∙ ap is_site c.find_callee-callee.ensures.found in
-    on_ok_always c.changed_call.result (left_call (known c.args.heads.now c.args.unit) c.args.e.now.place c.in-Call.name (shown_trees c.deref-in-Call.result.now) (shown_tree c.args.e.now) c.args.left.now c.pass-here.new.left c.change_all-in-Call.new.left (site_of c.find_callee-callee.result) s z c.pass-here.ensures.left c.in_ok-arguments-in-Call.ensures.left)
+    let z : site_of c.find_callee-callee.result ≡ is_site (callee (known c.args.heads.now c.args.unit) c.in-Call.name) = sym
+    (site_plain c.args.heads.now c.find_callee-callee.result c.find_callee-callee.ensures.one) ∙ ap is_site c.find_callee-callee.ensures.found in
+    on_ok_always c.changed_call.result (left_call (known c.args.heads.now c.args.unit) c.args.e.now.place c.in-Call.name
+    (shown_trees c.deref-in-Call.result.now) (shown_tree c.args.e.now) c.args.left.now c.pass-here.new.left c.change_all-in-Call.new.left
+    (site_of c.find_callee-callee.result) s z c.pass-here.ensures.left c.in_ok-arguments-in-Call.ensures.left)
 
 pub change_all-loop-e-preserved : goal.change_all-loop-e-preserved
 change_all-loop-e-preserved t c = record {
   trees = λ k lo e.
       let v = c.loop-e.invariant.trees k lo e in
       let x = c.in_ok-next.ensures.tree k v.0 v.1 in
-      let l : c.change.new.left ≡ suc k - (v.0 + sites_in_tree (known c.args.heads.now c.args.unit) (shown_tree c.e-item.result)) = omega (arith, v.1, c.in_ok-next.ensures.left) in
-      (v.0 + sites_in_tree (known c.args.heads.now c.args.unit) (shown_tree c.e-item.result), l, list_more (known c.args.heads.now c.args.unit) (change_of k c.args.changes.now) c.args.es.now c.loop-e.e-index c.e-item.result c.loop-e.all.items c.push.new.self.items c.in_ok-next.next v.0 _ c.loop-e-test.true c.e-item.is c.in_ok-push.ensures.items x v.2);
-  left = let q = list_left (known c.args.heads.now c.args.unit) c.args.es.now c.loop-e.e-index c.e-item.result c.loop-e-test.true c.e-item.is in omega (arith, q, c.loop-e.invariant.left, c.in_ok-next.ensures.left);
+      let l : c.change.new.left ≡ suc k - (v.0 + sites_in_tree (known c.args.heads.now c.args.unit) (shown_tree c.e-item.result)) = omega (arith, v.1, c.in_ok-next.ensures.left) in (
+        v.0 + sites_in_tree (known c.args.heads.now c.args.unit) (shown_tree c.e-item.result),
+        l,
+        list_more (known c.args.heads.now c.args.unit)
+            (change_of k c.args.changes.now) c.args.es.now c.loop-e.e-index c.e-item.result c.loop-e.all.items c.push.new.self.items c.in_ok-next.next
+            v.0 _ c.loop-e-test.true c.e-item.is c.in_ok-push.ensures.items x v.2,
+      );
+  left = let q = list_left (known c.args.heads.now c.args.unit) c.args.es.now c.loop-e.e-index c.e-item.result c.loop-e-test.true c.e-item.is in omega
+      (arith, q, c.loop-e.invariant.left, c.in_ok-next.ensures.left);
 }
 
 pub change_arms-loop-arm-preserved : goal.change_arms-loop-arm-preserved
@@ -86,9 +117,17 @@ change_arms-loop-arm-preserved t c = record {
       let x = c.in_ok-label.ensures.tree k v.0 v.1 in
       let l : c.change.new.left ≡ suc k - (v.0 + sites_in_tree (known c.args.heads.now c.args.unit) (shown_tree c.arm-item.result.label)) = omega (arith, v.1, c.in_ok-label.ensures.left) in
       let y = c.in_ok-value.ensures.tree k (v.0 + sites_in_tree (known c.args.heads.now c.args.unit) (shown_tree c.arm-item.result.label)) l in
-      let m : c.change-in-loop-arm.new.left ≡ suc k - (v.0 + (sites_in_tree (known c.args.heads.now c.args.unit) (shown_tree c.arm-item.result.label) + sites_in_tree (known c.args.heads.now c.args.unit) (shown_tree c.arm-item.result.value))) = omega (arith, l, c.in_ok-value.ensures.left) in
-      (v.0 + (sites_in_tree (known c.args.heads.now c.args.unit) (shown_tree c.arm-item.result.label) + sites_in_tree (known c.args.heads.now c.args.unit) (shown_tree c.arm-item.result.value)), m, arms_more (known c.args.heads.now c.args.unit) (change_of k c.args.changes.now) c.args.arms.now c.loop-arm.arm-index c.arm-item.result c.loop-arm.all.items c.push.new.self.items _ v.0 _ c.loop-arm-test.true c.arm-item.is c.in_ok-push.ensures.items x y v.2);
-  left = let q = arms_left (known c.args.heads.now c.args.unit) c.args.arms.now c.loop-arm.arm-index c.arm-item.result c.loop-arm-test.true c.arm-item.is in omega (arith, q, c.loop-arm.invariant.left, c.in_ok-label.ensures.left, c.in_ok-value.ensures.left);
+      let m : c.change-in-loop-arm.new.left ≡ suc k - (v.0 + (sites_in_tree (known c.args.heads.now c.args.unit) (shown_tree c.arm-item.result.label)
+      + sites_in_tree (known c.args.heads.now c.args.unit) (shown_tree c.arm-item.result.value))) = omega (arith, l, c.in_ok-value.ensures.left) in (
+        v.0 + (sites_in_tree (known c.args.heads.now c.args.unit) (shown_tree c.arm-item.result.label) + sites_in_tree
+            (known c.args.heads.now c.args.unit) (shown_tree c.arm-item.result.value)),
+        m,
+        arms_more (known c.args.heads.now c.args.unit)
+            (change_of k c.args.changes.now) c.args.arms.now c.loop-arm.arm-index c.arm-item.result c.loop-arm.all.items c.push.new.self.items _ v.0 _
+            c.loop-arm-test.true c.arm-item.is c.in_ok-push.ensures.items x y v.2,
+      );
+  left = let q = arms_left (known c.args.heads.now c.args.unit) c.args.arms.now c.loop-arm.arm-index c.arm-item.result c.loop-arm-test.true
+      c.arm-item.is in omega (arith, q, c.loop-arm.invariant.left, c.in_ok-label.ensures.left, c.in_ok-value.ensures.left);
 }
 
 pub change_binds-loop-b-preserved : goal.change_binds-loop-b-preserved
@@ -96,7 +135,13 @@ change_binds-loop-b-preserved t c = record {
   bounds = λ k lo e.
       let v = c.loop-b.invariant.bounds k lo e in
       let x = c.in_ok-value.ensures.tree k v.0 v.1 in
-      let l : c.change.new.left ≡ suc k - (v.0 + sites_in_tree (known c.args.heads.now c.args.unit) (shown_tree c.b-item.result.value)) = omega (arith, v.1, c.in_ok-value.ensures.left) in
-      (v.0 + sites_in_tree (known c.args.heads.now c.args.unit) (shown_tree c.b-item.result.value), l, bounds_more (known c.args.heads.now c.args.unit) (change_of k c.args.changes.now) c.args.binds.now c.loop-b.b-index c.b-item.result c.loop-b.all.items c.push.new.self.items _ v.0 _ c.loop-b-test.true c.b-item.is c.in_ok-push.ensures.items refl (c.in_ok-name.ensures.bytes ∙ c.bytes.ensures.bytes) refl x v.2);
-  left = let q = bounds_left (known c.args.heads.now c.args.unit) c.args.binds.now c.loop-b.b-index c.b-item.result c.loop-b-test.true c.b-item.is in omega (arith, q, c.loop-b.invariant.left, c.in_ok-value.ensures.left);
+      let l : c.change.new.left ≡ suc k - (v.0 + sites_in_tree (known c.args.heads.now c.args.unit) (shown_tree c.b-item.result.value)) = omega (arith, v.1, c.in_ok-value.ensures.left) in (
+        v.0 + sites_in_tree (known c.args.heads.now c.args.unit) (shown_tree c.b-item.result.value),
+        l,
+        bounds_more
+            (known c.args.heads.now c.args.unit) (change_of k c.args.changes.now) c.args.binds.now c.loop-b.b-index c.b-item.result c.loop-b.all.items
+            c.push.new.self.items _ v.0 _ c.loop-b-test.true c.b-item.is c.in_ok-push.ensures.items refl (c.in_ok-name.ensures.bytes ∙ c.bytes.ensures.bytes) refl x v.2,
+      );
+  left = let q = bounds_left (known c.args.heads.now c.args.unit) c.args.binds.now c.loop-b.b-index c.b-item.result c.loop-b-test.true c.b-item.is in
+      omega (arith, q, c.loop-b.invariant.left, c.in_ok-value.ensures.left);
 }

@@ -16,40 +16,55 @@ use Rattle.safl_reshape.proofs.counts.+counting.Goals as goal
 
 pub count-returns-in-Let : goal.count-returns-in-Let
 count-returns-in-Let t c =
-    let s = shown_let c.args.e.now.node c.args.e.now.place c.in-Let.binds c.in-Let.body c.deref-in-Let.result.now c.deref-in-Let-2.result.now c.in-Let.is c.deref-in-Let.ensures.value c.deref-in-Let-2.ensures in
-    let_adds (known c.args.heads.now c.args.unit) c.args.e.now.place (shown_tree c.args.e.now) c.args.before c.plus-itself.result c.plus-itself.ensures (shown_bounds c.deref-in-Let.result.now) (shown_tree c.deref-in-Let-2.result.now) c.count_binds-upto_binds.result c.count-in-Let.result s c.count_binds-upto_binds.ensures c.count-in-Let.ensures
+    let s = shown_let c.args.e.now.node c.args.e.now.place c.in-Let.binds c.in-Let.body c.deref-in-Let.result.now c.deref-in-Let-2.result.now
+    c.in-Let.is c.deref-in-Let.ensures.value c.deref-in-Let-2.ensures in
+    let_adds (known c.args.heads.now c.args.unit) c.args.e.now.place (shown_tree c.args.e.now) c.args.before c.plus-itself.result
+    c.plus-itself.ensures (shown_bounds c.deref-in-Let.result.now) (shown_tree c.deref-in-Let-2.result.now) c.count_binds-upto_binds.result
+    c.count-in-Let.result s c.count_binds-upto_binds.ensures c.count-in-Let.ensures
 
 pub count-returns-in-Case : goal.count-returns-in-Case
 count-returns-in-Case t c =
-    let s = shown_case c.args.e.now.node c.args.e.now.place c.in-Case.value c.in-Case.arms c.in-Case.other c.deref-in-Case.result.now c.deref-in-Case-2.result.now c.deref-in-Case-3.result.now c.in-Case.is c.deref-in-Case.ensures c.deref-in-Case-2.ensures.value c.deref-in-Case-3.ensures in
-    case_adds (known c.args.heads.now c.args.unit) c.args.e.now.place (shown_tree c.args.e.now) c.args.before c.plus-itself.result c.plus-itself.ensures (shown_tree c.deref-in-Case.result.now) (shown_labelled c.deref-in-Case-2.result.now) (shown_tree c.deref-in-Case-3.result.now) c.count-upto_value.result c.count_arms-upto_arms.result c.count-in-Case.result s c.count-upto_value.ensures c.count_arms-upto_arms.ensures c.count-in-Case.ensures
+    let s = shown_case c.args.e.now.node c.args.e.now.place c.in-Case.value c.in-Case.arms c.in-Case.other c.deref-in-Case.result.now
+    c.deref-in-Case-2.result.now c.deref-in-Case-3.result.now c.in-Case.is c.deref-in-Case.ensures c.deref-in-Case-2.ensures.value c.deref-in-Case-3.ensures in
+    case_adds (known c.args.heads.now c.args.unit) c.args.e.now.place (shown_tree c.args.e.now) c.args.before c.plus-itself.result
+    c.plus-itself.ensures (shown_tree c.deref-in-Case.result.now) (shown_labelled c.deref-in-Case-2.result.now)
+    (shown_tree c.deref-in-Case-3.result.now) c.count-upto_value.result c.count_arms-upto_arms.result c.count-in-Case.result s
+    c.count-upto_value.ensures c.count_arms-upto_arms.ensures c.count-in-Case.ensures
 
 pub count-returns-in-Op : goal.count-returns-in-Op
 count-returns-in-Op t c =
     let s = shown_op c.args.e.now.node c.args.e.now.place c.in-Op.field-0 c.in-Op.operands c.deref-in-Op.result.now c.in-Op.is c.deref-in-Op.ensures.value in
-    op_adds (known c.args.heads.now c.args.unit) c.args.e.now.place (shown_tree c.args.e.now) c.args.before c.plus-itself.result c.plus-itself.ensures c.in-Op.field-0 (shown_trees c.deref-in-Op.result.now) c.count_all.result s c.count_all.ensures
+    op_adds (known c.args.heads.now c.args.unit) c.args.e.now.place (shown_tree c.args.e.now) c.args.before c.plus-itself.result c.plus-itself.ensures
+    c.in-Op.field-0 (shown_trees c.deref-in-Op.result.now) c.count_all.result s c.count_all.ensures
 
 pub count-returns-in-Call : goal.count-returns-in-Call
 count-returns-in-Call t c =
     let s = shown_call c.args.e.now.node c.args.e.now.place c.in-Call.name c.in-Call.arguments c.deref-in-Call.result.now c.in-Call.is c.deref-in-Call.ensures.value in
     let z = site_plain c.args.heads.now c.find_callee.result c.find_callee.ensures.one in
-    call_adds (known c.args.heads.now c.args.unit) c.args.e.now.place (shown_tree c.args.e.now) c.args.before c.plus-itself.result c.plus-itself.ensures c.in-Call.name (shown_trees c.deref-in-Call.result.now) c.plus-called.result c.count_all-in-Call.result c.sites_of_callee-sites.result s
+    call_adds (known c.args.heads.now c.args.unit) c.args.e.now.place (shown_tree c.args.e.now) c.args.before c.plus-itself.result
+    c.plus-itself.ensures c.in-Call.name (shown_trees c.deref-in-Call.result.now) c.plus-called.result c.count_all-in-Call.result c.sites_of_callee-sites.result s
     (c.sites_of_callee-sites.ensures ∙ (sym z ∙ ap is_site c.find_callee.ensures.found)) c.plus-called.ensures c.count_all-in-Call.ensures
 
 pub count_all-loop-e-preserved : goal.count_all-loop-e-preserved
 count_all-loop-e-preserved t c =
     left_less _ _ _ _ _ _ _ _ _ _ _ c.loop-e.invariant c.count-counts.ensures
-    (list_left (known c.args.heads.now c.args.unit) c.args.es.now c.loop-e.e-index c.e-item.result c.loop-e-test.true c.e-item.is) (list_nodes_left c.args.es.now c.loop-e.e-index c.e-item.result c.loop-e-test.true c.e-item.is)
+    (list_left (known c.args.heads.now c.args.unit) c.args.es.now c.loop-e.e-index c.e-item.result c.loop-e-test.true c.e-item.is)
+    (list_nodes_left c.args.es.now c.loop-e.e-index c.e-item.result c.loop-e-test.true c.e-item.is)
 
 pub count_binds-loop-b-preserved : goal.count_binds-loop-b-preserved
 count_binds-loop-b-preserved t c =
     left_less _ _ _ _ _ _ _ _ _ _ _ c.loop-b.invariant c.count-counts.ensures
-    (bounds_left (known c.args.heads.now c.args.unit) c.args.binds.now c.loop-b.b-index c.b-item.result c.loop-b-test.true c.b-item.is) (bounds_nodes_left c.args.binds.now c.loop-b.b-index c.b-item.result c.loop-b-test.true c.b-item.is)
+    (bounds_left (known c.args.heads.now c.args.unit) c.args.binds.now c.loop-b.b-index c.b-item.result c.loop-b-test.true c.b-item.is)
+    (bounds_nodes_left c.args.binds.now c.loop-b.b-index c.b-item.result c.loop-b-test.true c.b-item.is)
 
 pub count_arms-loop-arm-preserved : goal.count_arms-loop-arm-preserved
 count_arms-loop-arm-preserved t c =
     left_less _ _ _ _ _ _ _ _ _ _ _ c.loop-arm.invariant (adds_more _ _ _ _ _ _ _ c.plus-itself.ensures (adds_more _ _ _ _ _ _ _ c.count-upto_label.ensures c.count-counts.ensures))
-    (omega (arith, arms_left (known c.args.heads.now c.args.unit) c.args.arms.now c.loop-arm.arm-index c.arm-item.result c.loop-arm-test.true c.arm-item.is)) (arms_nodes_left c.args.arms.now c.loop-arm.arm-index c.arm-item.result c.loop-arm-test.true c.arm-item.is)
+    (omega (
+      arith,
+      arms_left (known c.args.heads.now c.args.unit) c.args.arms.now c.loop-arm.arm-index c.arm-item.result c.loop-arm-test.true
+          c.arm-item.is,
+    )) (arms_nodes_left c.args.arms.now c.loop-arm.arm-index c.arm-item.result c.loop-arm-test.true c.arm-item.is)
 
 pub count_all-loop-e-init : goal.count_all-loop-e-init
 count_all-loop-e-init t c = all_left _ _ _
@@ -58,7 +73,9 @@ pub count_all-returns : goal.count_all-returns
 count_all-returns t c =
     let none : drop c.loop-e.e-index c.args.es.now ≡ [] = drop_all c.loop-e.e-index c.args.es.now c.loop-e-test.false in
     none_left _ _ _ _
-    (subst (λ (l : List Expr). Left c.args.before c.loop-e.counts (sites_list (known c.args.heads.now c.args.unit) (shown_trees l)) (nodes_list (shown_trees l)) (sites_list (known c.args.heads.now c.args.unit) (shown_trees c.args.es.now)) (nodes_list (shown_trees c.args.es.now))) none c.loop-e.invariant)
+    (subst (λ (l : List Expr). Left c.args.before c.loop-e.counts (sites_list (known c.args.heads.now c.args.unit) (shown_trees l))
+    (nodes_list (shown_trees l)) (sites_list (known c.args.heads.now c.args.unit) (shown_trees c.args.es.now))
+    (nodes_list (shown_trees c.args.es.now))) none c.loop-e.invariant)
 
 pub count_binds-loop-b-init : goal.count_binds-loop-b-init
 count_binds-loop-b-init t c = all_left _ _ _
@@ -67,7 +84,9 @@ pub count_binds-returns : goal.count_binds-returns
 count_binds-returns t c =
     let none : drop c.loop-b.b-index c.args.binds.now ≡ [] = drop_all c.loop-b.b-index c.args.binds.now c.loop-b-test.false in
     none_left _ _ _ _
-    (subst (λ (l : List Bind). Left c.args.before c.loop-b.counts (sites_bounds (known c.args.heads.now c.args.unit) (shown_bounds l)) (nodes_bounds (shown_bounds l)) (sites_bounds (known c.args.heads.now c.args.unit) (shown_bounds c.args.binds.now)) (nodes_bounds (shown_bounds c.args.binds.now))) none c.loop-b.invariant)
+    (subst (λ (l : List Bind). Left c.args.before c.loop-b.counts (sites_bounds (known c.args.heads.now c.args.unit) (shown_bounds l))
+    (nodes_bounds (shown_bounds l)) (sites_bounds (known c.args.heads.now c.args.unit) (shown_bounds c.args.binds.now))
+    (nodes_bounds (shown_bounds c.args.binds.now))) none c.loop-b.invariant)
 
 pub count_arms-loop-arm-init : goal.count_arms-loop-arm-init
 count_arms-loop-arm-init t c = all_left _ _ _
@@ -76,4 +95,6 @@ pub count_arms-returns : goal.count_arms-returns
 count_arms-returns t c =
     let none : drop c.loop-arm.arm-index c.args.arms.now ≡ [] = drop_all c.loop-arm.arm-index c.args.arms.now c.loop-arm-test.false in
     none_left _ _ _ _
-    (subst (λ (l : List Arm). Left c.args.before c.loop-arm.counts (sites_labelled (known c.args.heads.now c.args.unit) (shown_labelled l)) (nodes_labelled (shown_labelled l)) (sites_labelled (known c.args.heads.now c.args.unit) (shown_labelled c.args.arms.now)) (nodes_labelled (shown_labelled c.args.arms.now))) none c.loop-arm.invariant)
+    (subst (λ (l : List Arm). Left c.args.before c.loop-arm.counts (sites_labelled (known c.args.heads.now c.args.unit) (shown_labelled l))
+    (nodes_labelled (shown_labelled l)) (sites_labelled (known c.args.heads.now c.args.unit) (shown_labelled c.args.arms.now))
+    (nodes_labelled (shown_labelled c.args.arms.now))) none c.loop-arm.invariant)

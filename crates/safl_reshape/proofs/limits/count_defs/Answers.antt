@@ -16,9 +16,11 @@ loop-number-preserved c =
     let hs = heads (shown_definitions c.args.defs.now) in
     let v = c.next_unit-unit.result in
     let d = c.index-defs-number.result in
-    let a = subst (λ (z : List Head). Adds c.loop-number.counts c.count-counts.result (sites_in_tree (record { heads = z; unit = v }) (shown_tree d.body)) (nodes (rewritten (shown_tree d.body)))) c.requires.heads c.count-counts.ensures in
+    let a = subst (λ (z : List Head). Adds c.loop-number.counts c.count-counts.result
+    (sites_in_tree (record { heads = z; unit = v }) (shown_tree d.body)) (nodes (rewritten (shown_tree d.body)))) c.requires.heads c.count-counts.ensures in
     left_less _ _ _ _ _ _ _ _ _ _ _ c.loop-number.invariant a
-    (total_left hs c.args.defs.now c.loop-number.number c.loop-number.unit v d c.loop-number-test.true c.index-defs-number.is c.next_unit-unit.ensures) (defs_nodes_left c.args.defs.now c.loop-number.number d c.loop-number-test.true c.index-defs-number.is)
+    (total_left hs c.args.defs.now c.loop-number.number c.loop-number.unit v d c.loop-number-test.true c.index-defs-number.is
+    c.next_unit-unit.ensures) (defs_nodes_left c.args.defs.now c.loop-number.number d c.loop-number-test.true c.index-defs-number.is)
 
 pub loop-number-init : goal.loop-number-init
 loop-number-init c = all_left _ _ _
@@ -28,6 +30,8 @@ returns c =
     let hs = heads (shown_definitions c.args.defs.now) in
     let none : drop c.loop-number.number c.args.defs.now ≡ [] = drop_all c.loop-number.number c.args.defs.now c.loop-number-test.false in
     let l : Left (record { sites = 0; nodes = 0 }) c.loop-number.counts 0 0 (site_total hs 0 0 (shown_definitions c.args.defs.now)) (nodes_of (shown_definitions c.args.defs.now)) =
-    subst (λ (l : List Def). Left (record { sites = 0; nodes = 0 }) c.loop-number.counts (site_total hs c.loop-number.number c.loop-number.unit (shown_definitions l)) (nodes_of (shown_definitions l)) (site_total hs 0 0 (shown_definitions c.args.defs.now)) (nodes_of (shown_definitions c.args.defs.now))) none c.loop-number.invariant in
+    subst (λ (l : List Def). Left (record { sites = 0; nodes = 0 }) c.loop-number.counts
+    (site_total hs c.loop-number.number c.loop-number.unit (shown_definitions l)) (nodes_of (shown_definitions l))
+    (site_total hs 0 0 (shown_definitions c.args.defs.now)) (nodes_of (shown_definitions c.args.defs.now))) none c.loop-number.invariant in
     let a = none_left (record { sites = 0; nodes = 0 }) c.loop-number.counts (site_total hs 0 0 (shown_definitions c.args.defs.now)) (nodes_of (shown_definitions c.args.defs.now)) l in
     record { sites = omega (arith, a.sites); nodes = omega (arith, a.nodes) }

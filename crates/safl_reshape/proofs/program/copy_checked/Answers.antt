@@ -19,48 +19,85 @@ returns-in_err-defs-clause-refused c =
     let p = err_from_is_err_and c.from_residual.result c.from_residual.ensures.1 in
     let n : program_of c.args.checked.now ≡ program_in (shown c.args.checked.now) = (c.forms_are_numbered_law.ensures c.args.checked.now).program in
     let r = subst (λ (l : List Def). RefusesCopy (program_of c.args.checked.now) (shown_definitions l) c.args.site c.in_err-defs.field-0.0) c.deref.ensures.value c.in_err-defs.ensures.refused in
-    rw (p.1, p.2) (any_form (shown_program c.args.program.now) c.args.checked.now c.requires.form c.one_form_law.ensures n (λ (z : Program). RefusesCopy z (shown_program c.args.program.now) c.args.site c.in_err-defs.field-0.0) r)
+    rw (p.1, p.2) (any_form (shown_program c.args.program.now) c.args.checked.now c.requires.form c.one_form_law.ensures n
+    (λ (z : Program). RefusesCopy z (shown_program c.args.program.now) c.args.site c.in_err-defs.field-0.0) r)
 
 pub returns-in_err-look_at_limits-clause-refused : goal.returns-in_err-look_at_limits-clause-refused
 returns-in_err-look_at_limits-clause-refused c =
     let p = err_from_is_err_and c.from_residual-in_err-look_at_limits.result c.from_residual-in_err-look_at_limits.ensures.1 in
     let n : program_of c.args.checked.now ≡ program_in (shown c.args.checked.now) = (c.forms_are_numbered_law.ensures c.args.checked.now).program in
-    let m : MayCopy (program_of c.args.checked.now) (shown_program c.args.program.now) c.args.site = subst (λ (l : List Def). MayCopy (program_of c.args.checked.now) (shown_definitions l) c.args.site) c.deref.ensures.value c.in_ok-defs.ensures.may in
-    let q : (shown_definitions c.in_ok-defs.defs.items) ≡ copied (shown_program c.args.program.now) c.args.site ((program_of c.args.checked.now).callee c.args.site) = subst (λ (l : List Def). (shown_definitions c.in_ok-defs.defs.items) ≡ copied (shown_definitions l) c.args.site ((program_of c.args.checked.now).callee c.args.site)) c.deref.ensures.value c.in_ok-defs.ensures.copied in
+    let m : MayCopy (program_of c.args.checked.now) (shown_program c.args.program.now) c.args.site = subst
+    (λ (l : List Def). MayCopy (program_of c.args.checked.now) (shown_definitions l) c.args.site) c.deref.ensures.value c.in_ok-defs.ensures.may in
+    let q : (shown_definitions c.in_ok-defs.defs.items) ≡ copied (shown_program c.args.program.now) c.args.site
+    ((program_of c.args.checked.now).callee c.args.site) = subst
+    (λ (l : List Def). (shown_definitions c.in_ok-defs.defs.items) ≡ copied (shown_definitions l) c.args.site
+    ((program_of c.args.checked.now).callee c.args.site)) c.deref.ensures.value c.in_ok-defs.ensures.copied in
     let l = subst (λ (l : List Def). RefusesLimit (shown_definitions l) c.in_err-look_at_limits.field-0.0) c.deref-2.ensures.value c.in_err-look_at_limits.ensures.refused in
     let r = limit_refused (program_of c.args.checked.now) (shown_program c.args.program.now) (shown_definitions c.in_ok-defs.defs.items) c.args.site c.in_err-look_at_limits.field-0.0 m q l in
-    rw (p.1, p.2) (any_form (shown_program c.args.program.now) c.args.checked.now c.requires.form c.one_form_law.ensures n (λ (z : Program). RefusesCopy z (shown_program c.args.program.now) c.args.site c.in_err-look_at_limits.field-0.0) r)
+    rw (p.1, p.2) (any_form (shown_program c.args.program.now) c.args.checked.now c.requires.form c.one_form_law.ensures n
+    (λ (z : Program). RefusesCopy z (shown_program c.args.program.now) c.args.site c.in_err-look_at_limits.field-0.0) r)
 
 pub returns-then-not-levels_ok-clause-refused : goal.returns-then-not-levels_ok-clause-refused
 returns-then-not-levels_ok-clause-refused c =
     let n : program_of c.args.checked.now ≡ program_in (shown c.args.checked.now) = (c.forms_are_numbered_law.ensures c.args.checked.now).program in
-    let m : MayCopy (program_of c.args.checked.now) (shown_program c.args.program.now) c.args.site = subst (λ (l : List Def). MayCopy (program_of c.args.checked.now) (shown_definitions l) c.args.site) c.deref.ensures.value c.in_ok-defs.ensures.may in
-    let q : (shown_definitions c.in_ok-defs.defs.items) ≡ copied (shown_program c.args.program.now) c.args.site ((program_of c.args.checked.now).callee c.args.site) = subst (λ (l : List Def). (shown_definitions c.in_ok-defs.defs.items) ≡ copied (shown_definitions l) c.args.site ((program_of c.args.checked.now).callee c.args.site)) c.deref.ensures.value c.in_ok-defs.ensures.copied in
+    let m : MayCopy (program_of c.args.checked.now) (shown_program c.args.program.now) c.args.site = subst
+    (λ (l : List Def). MayCopy (program_of c.args.checked.now) (shown_definitions l) c.args.site) c.deref.ensures.value c.in_ok-defs.ensures.may in
+    let q : (shown_definitions c.in_ok-defs.defs.items) ≡ copied (shown_program c.args.program.now) c.args.site
+    ((program_of c.args.checked.now).callee c.args.site) = subst
+    (λ (l : List Def). (shown_definitions c.in_ok-defs.defs.items) ≡ copied (shown_definitions l) c.args.site
+    ((program_of c.args.checked.now).callee c.args.site)) c.deref.ensures.value c.in_ok-defs.ensures.copied in
     let k : KeepsLimits (shown_definitions c.in_ok-defs.defs.items) = subst (λ (l : List Def). KeepsLimits (shown_definitions l)) c.deref-2.ensures.value c.in_ok-look_at_limits.ensures.kept in
-    any_form (shown_program c.args.program.now) c.args.checked.now c.requires.form c.one_form_law.ensures n (λ (z : Program). MayCopy z (shown_program c.args.program.now) c.args.site × KeepsLimits (copied (shown_program c.args.program.now) c.args.site (z.callee c.args.site)) × (AllKeepLevels (copied (shown_program c.args.program.now) c.args.site (z.callee c.args.site)) → ⊥)) (m, subst KeepsLimits q k, λ a. absurd (let t = c.levels_ok.ensures.1 (subst AllKeepLevels (sym q) a) in cc))
+    any_form (shown_program c.args.program.now) c.args.checked.now c.requires.form c.one_form_law.ensures n
+    (λ (z : Program). MayCopy z (shown_program c.args.program.now) c.args.site × KeepsLimits
+    (copied (shown_program c.args.program.now) c.args.site (z.callee c.args.site)) ×
+    (AllKeepLevels (copied (shown_program c.args.program.now) c.args.site (z.callee c.args.site)) → ⊥))
+    (m, subst KeepsLimits q k, λ a. absurd (let t = c.levels_ok.ensures.1 (subst AllKeepLevels (sym q) a) in cc))
 
 pub returns-clause-copied : goal.returns-clause-copied
 returns-clause-copied c =
     let n : program_of c.args.checked.now ≡ program_in (shown c.args.checked.now) = (c.forms_are_numbered_law.ensures c.args.checked.now).program in
-    let m : MayCopy (program_of c.args.checked.now) (shown_program c.args.program.now) c.args.site = subst (λ (l : List Def). MayCopy (program_of c.args.checked.now) (shown_definitions l) c.args.site) c.deref.ensures.value c.in_ok-defs.ensures.may in
-    let q : (shown_definitions c.in_ok-defs.defs.items) ≡ copied (shown_program c.args.program.now) c.args.site ((program_of c.args.checked.now).callee c.args.site) = subst (λ (l : List Def). (shown_definitions c.in_ok-defs.defs.items) ≡ copied (shown_definitions l) c.args.site ((program_of c.args.checked.now).callee c.args.site)) c.deref.ensures.value c.in_ok-defs.ensures.copied in
+    let m : MayCopy (program_of c.args.checked.now) (shown_program c.args.program.now) c.args.site = subst
+    (λ (l : List Def). MayCopy (program_of c.args.checked.now) (shown_definitions l) c.args.site) c.deref.ensures.value c.in_ok-defs.ensures.may in
+    let q : (shown_definitions c.in_ok-defs.defs.items) ≡ copied (shown_program c.args.program.now) c.args.site
+    ((program_of c.args.checked.now).callee c.args.site) = subst
+    (λ (l : List Def). (shown_definitions c.in_ok-defs.defs.items) ≡ copied (shown_definitions l) c.args.site
+    ((program_of c.args.checked.now).callee c.args.site)) c.deref.ensures.value c.in_ok-defs.ensures.copied in
     let k : KeepsLimits (shown_definitions c.in_ok-defs.defs.items) = subst (λ (l : List Def). KeepsLimits (shown_definitions l)) c.deref-2.ensures.value c.in_ok-look_at_limits.ensures.kept in
-    any_form (shown_program c.args.program.now) c.args.checked.now c.requires.form c.one_form_law.ensures n (λ (z : Program). MayCopy z (shown_program c.args.program.now) c.args.site × KeepsLimits (shown_definitions c.in_ok-defs.defs.items) × AllKeepLevels (shown_definitions c.in_ok-defs.defs.items) × ((shown_definitions c.in_ok-defs.defs.items) ≡ copied (shown_program c.args.program.now) c.args.site (z.callee c.args.site))) (m, k, c.levels_ok.ensures.0 c.if-not-levels_ok.false, q)
+    any_form (shown_program c.args.program.now) c.args.checked.now c.requires.form c.one_form_law.ensures n
+    (λ (z : Program). MayCopy z (shown_program c.args.program.now) c.args.site × KeepsLimits (shown_definitions c.in_ok-defs.defs.items) ×
+    AllKeepLevels (shown_definitions c.in_ok-defs.defs.items) ×
+    ((shown_definitions c.in_ok-defs.defs.items) ≡ copied (shown_program c.args.program.now) c.args.site (z.callee c.args.site)))
+    (m, k, c.levels_ok.ensures.0 c.if-not-levels_ok.false, q)
 
 pub returns-clause-printable : goal.returns-clause-printable
 returns-clause-printable c =
     let n : program_of c.args.checked.now ≡ program_in (shown c.args.checked.now) = (c.forms_are_numbered_law.ensures c.args.checked.now).program in
-    let m : MayCopy (program_of c.args.checked.now) (shown_program c.args.program.now) c.args.site = subst (λ (l : List Def). MayCopy (program_of c.args.checked.now) (shown_definitions l) c.args.site) c.deref.ensures.value c.in_ok-defs.ensures.may in
-    let q : (shown_definitions c.in_ok-defs.defs.items) ≡ copied (shown_program c.args.program.now) c.args.site ((program_of c.args.checked.now).callee c.args.site) = subst (λ (l : List Def). (shown_definitions c.in_ok-defs.defs.items) ≡ copied (shown_definitions l) c.args.site ((program_of c.args.checked.now).callee c.args.site)) c.deref.ensures.value c.in_ok-defs.ensures.copied in
+    let m : MayCopy (program_of c.args.checked.now) (shown_program c.args.program.now) c.args.site = subst
+    (λ (l : List Def). MayCopy (program_of c.args.checked.now) (shown_definitions l) c.args.site) c.deref.ensures.value c.in_ok-defs.ensures.may in
+    let q : (shown_definitions c.in_ok-defs.defs.items) ≡ copied (shown_program c.args.program.now) c.args.site
+    ((program_of c.args.checked.now).callee c.args.site) = subst
+    (λ (l : List Def). (shown_definitions c.in_ok-defs.defs.items) ≡ copied (shown_definitions l) c.args.site
+    ((program_of c.args.checked.now).callee c.args.site)) c.deref.ensures.value c.in_ok-defs.ensures.copied in
     let k : KeepsLimits (shown_definitions c.in_ok-defs.defs.items) = subst (λ (l : List Def). KeepsLimits (shown_definitions l)) c.deref-2.ensures.value c.in_ok-look_at_limits.ensures.kept in
-    let g = good_copy (shown_program c.args.program.now) c.args.checked.now c.args.site (shown_definitions c.in_ok-defs.defs.items) c.requires.printable.formed c.requires.form c.in_ok-defs.ensures.checked n c.copy_law.ensures (omega (arith, c.ranges.site.fits)) m q k in
+    let g = good_copy (shown_program c.args.program.now) c.args.checked.now c.args.site (shown_definitions c.in_ok-defs.defs.items)
+    c.requires.printable.formed c.requires.form c.in_ok-defs.ensures.checked n c.copy_law.ensures (omega (arith, c.ranges.site.fits)) m q k in
     record { formed = g.formed; kept = c.levels_ok.ensures.0 c.if-not-levels_ok.false }
 
 pub returns-clause-alike : goal.returns-clause-alike
 returns-clause-alike c =
     let n : program_of c.args.checked.now ≡ program_in (shown c.args.checked.now) = (c.forms_are_numbered_law.ensures c.args.checked.now).program in
-    let m : MayCopy (program_of c.args.checked.now) (shown_program c.args.program.now) c.args.site = subst (λ (l : List Def). MayCopy (program_of c.args.checked.now) (shown_definitions l) c.args.site) c.deref.ensures.value c.in_ok-defs.ensures.may in
-    let q : (shown_definitions c.in_ok-defs.defs.items) ≡ copied (shown_program c.args.program.now) c.args.site ((program_of c.args.checked.now).callee c.args.site) = subst (λ (l : List Def). (shown_definitions c.in_ok-defs.defs.items) ≡ copied (shown_definitions l) c.args.site ((program_of c.args.checked.now).callee c.args.site)) c.deref.ensures.value c.in_ok-defs.ensures.copied in
+    let m : MayCopy (program_of c.args.checked.now) (shown_program c.args.program.now) c.args.site = subst
+    (λ (l : List Def). MayCopy (program_of c.args.checked.now) (shown_definitions l) c.args.site) c.deref.ensures.value c.in_ok-defs.ensures.may in
+    let q : (shown_definitions c.in_ok-defs.defs.items) ≡ copied (shown_program c.args.program.now) c.args.site
+    ((program_of c.args.checked.now).callee c.args.site) = subst
+    (λ (l : List Def). (shown_definitions c.in_ok-defs.defs.items) ≡ copied (shown_definitions l) c.args.site
+    ((program_of c.args.checked.now).callee c.args.site)) c.deref.ensures.value c.in_ok-defs.ensures.copied in
     let k : KeepsLimits (shown_definitions c.in_ok-defs.defs.items) = subst (λ (l : List Def). KeepsLimits (shown_definitions l)) c.deref-2.ensures.value c.in_ok-look_at_limits.ensures.kept in
-    let g = good_copy (shown_program c.args.program.now) c.args.checked.now c.args.site (shown_definitions c.in_ok-defs.defs.items) c.requires.printable.formed c.requires.form c.in_ok-defs.ensures.checked n c.copy_law.ensures (omega (arith, c.ranges.site.fits)) m q k in
-    λ e h. (g.form, g.is, any_form (shown_program c.args.program.now) c.args.checked.now c.requires.form c.one_form_law.ensures n (λ (z : Program). IsAlike z (program_in g.form)) (subst (λ (z : Program). IsAlike z (program_in g.form)) (sym n) g.alike) e h)
+    let g = good_copy (shown_program c.args.program.now) c.args.checked.now c.args.site (shown_definitions c.in_ok-defs.defs.items)
+    c.requires.printable.formed c.requires.form c.in_ok-defs.ensures.checked n c.copy_law.ensures (omega (arith, c.ranges.site.fits)) m q k in
+    λ e h. (
+      g.form,
+      g.is,
+      any_form (shown_program c.args.program.now) c.args.checked.now c.requires.form c.one_form_law.ensures n
+          (λ (z : Program). IsAlike z (program_in g.form)) (subst (λ (z : Program). IsAlike z (program_in g.form)) (sym n) g.alike) e h,
+    )

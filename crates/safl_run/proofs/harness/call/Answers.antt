@@ -24,7 +24,8 @@ cycles-preserved c =
     let n : Netlist = c.args.sim.now.net in
     let called : IsCalled n c.args.args.now c.take_arguments.new.harness = subst (λ m. IsCalled m c.args.args.now c.take_arguments.new.harness) c.net.ensures c.take_arguments.ensures in
     let goes : Goes n (slice_index c.args.sim.now.state) c.args.args.now i.frames c.step-done.new.sim c.step-done.result =
-    goes_along n (slice_index c.args.sim.now.state) c.args.args.now i.frames c.take_arguments.new.harness c.cycles.cycle c.cycles.sim c.step-done.new.sim c.step-done.result i.net c.step-done.ensures.goes called i.count i.going in
+    goes_along n (slice_index c.args.sim.now.state) c.args.args.now i.frames c.take_arguments.new.harness c.cycles.cycle c.cycles.sim
+    c.step-done.new.sim c.step-done.result i.net c.step-done.ensures.goes called i.count i.going in
     record {
       net = c.step-done.ensures.net ∙ i.net;
       frames = i.frames ++ c.step-done.new.sim.values ∷ [];
@@ -39,8 +40,10 @@ returns-then-is_some-clause-answers c =
     let n : Netlist = c.args.sim.now.net in
     let called : IsCalled n c.args.args.now c.take_arguments.new.harness = subst (λ m. IsCalled m c.args.args.now c.take_arguments.new.harness) c.net.ensures c.take_arguments.ensures in
     let goes : Goes n (slice_index c.args.sim.now.state) c.args.args.now i.frames c.step-done.new.sim c.step-done.result =
-    goes_along n (slice_index c.args.sim.now.state) c.args.args.now i.frames c.take_arguments.new.harness c.cycles.cycle c.cycles.sim c.step-done.new.sim c.step-done.result i.net c.step-done.ensures.goes called i.count i.going in
-    (replied n (slice_index c.args.sim.now.state) c.args.args.now i.frames c.step-done.new.sim c.args.limit (slice_index c.cycles.sim.state) c.step-done.result (sym c.is_some.ensures ∙ c.if-is_some.true) i.going
+    goes_along n (slice_index c.args.sim.now.state) c.args.args.now i.frames c.take_arguments.new.harness c.cycles.cycle c.cycles.sim
+    c.step-done.new.sim c.step-done.result i.net c.step-done.ensures.goes called i.count i.going in
+    (replied n (slice_index c.args.sim.now.state) c.args.args.now i.frames c.step-done.new.sim c.args.limit (slice_index c.cycles.sim.state)
+    c.step-done.result (sym c.is_some.ensures ∙ c.if-is_some.true) i.going
     (let a = i.count in let b = c.cycles-test.true in omega (arith, a, b)) goes).0
 
 pub returns-clause-answers : goal.returns-clause-answers

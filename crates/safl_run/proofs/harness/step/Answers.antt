@@ -22,7 +22,8 @@ tick-requires-clause-later c =
     let n : Netlist = c.args.sim.now.net in
     let k = c.requires.called.1 in
     let args : List Word = c.requires.called.0 in
-    inputs_along n n _ c.deref-2.result.now refl (c.deref-2.ensures.value ∙ k.is.is_room.later args k.arguments) (are_inputs n 0 (map zero_of args) k.is.made k.is.whole (zero_widths args ∙ k.arguments))
+    inputs_along n n _ c.deref-2.result.now refl (c.deref-2.ensures.value ∙ k.is.is_room.later args k.arguments)
+    (are_inputs n 0 (map zero_of args) k.is.made k.is.whole (zero_widths args ∙ k.arguments))
 
 pub returns-then-is_on-clause-goes : goal.returns-then-is_on-clause-goes
 returns-then-is_on-clause-goes c state args frames k count going =
@@ -33,7 +34,8 @@ returns-then-is_on-clause-goes c state args frames k count going =
     let words = tick_words n args c.deref.result.now c.deref-2.result.now c.args.cycle c.args.sim.now c.tick.new.sim refl first later c.tick.ensures in
     record {
       call =
-          call_more n args k.is.whole k.arguments state (slice_index c.args.sim.now.state) frames v going.call going.after (tick_fits n args c.deref.result.now c.deref-2.result.now c.args.cycle c.args.sim.now c.tick.new.sim refl first later c.tick.ensures)
+          call_more n args k.is.whole k.arguments state (slice_index c.args.sim.now.state) frames v going.call going.after
+          (tick_fits n args c.deref.result.now c.deref-2.result.now c.args.cycle c.args.sim.now c.tick.new.sim refl first later c.tick.ensures)
           (subst (λ x. HasWords n v (words_of x (input_words n.signals (bit_word 1) args) (input_words n.signals (bit_word 0) (map zero_of args)))) (sym count) words);
       cycle = count;
       done = ap (number_at v) (sym k.is.shows_done) ∙ c.if-is_on.ensures.on.0 refl;

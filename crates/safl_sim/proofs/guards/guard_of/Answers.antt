@@ -6,7 +6,8 @@ use Rattle.safl_sim.proofs.Written.{get_read}
 use Rattle.safl_sim.proofs.guards.guard_of.Goals as goal
 
 -- a step that is blind to a place
-blind : (steps : List Step) (place k : ℕ) (step : Step) (values : List ℕ) → k < length steps → slice_get steps k ≡ Some step → IsBlind (slice_index values) place step.action → Blind steps values place k
+blind : (steps : List Step) (place k : ℕ) (step : Step) (values : List ℕ) → k < length steps → slice_get steps k ≡ Some step → IsBlind
+    (slice_index values) place step.action → Blind steps values place k
 blind steps place k step values within at is = (
   within,
   λ s at'.

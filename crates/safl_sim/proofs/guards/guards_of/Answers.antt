@@ -22,5 +22,6 @@ places-preserved c =
     } in
     let own = subst (λ (l : List Guard). PartTo steps readers (p - 1) (slice_index starts (p - 1)) (slice_index starts (p - 1 + 1)) l new) c.deref_mut.ensures.value part in
     let inside : p - 1 < r.0 = (let a = c.places.auto.p in let b = c.places-test.true in let d = r.2.long in omega (arith, a, b, d)) in
-    subst (λ (l : List Guard). GuardedTo steps starts readers (p + 1 - 1) l) (sym (with_items_is guards new (let a = part.long in let b = c.deref_mut.ensures.len in let d = guards.ok.0 in omega (arith, a, b, d))))
+    subst (λ (l : List Guard). GuardedTo steps starts readers (p + 1 - 1) l)
+    (sym (with_items_is guards new (let a = part.long in let b = c.deref_mut.ensures.len in let d = guards.ok.0 in omega (arith, a, b, d))))
     (subst (λ k. GuardedTo steps starts readers k new) next (guarded_more steps starts readers r.0 r.1 (p - 1) guards.items new r.2 inside c.places.invariant own))

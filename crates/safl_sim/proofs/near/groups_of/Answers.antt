@@ -25,12 +25,14 @@ bounds-starts-place-in-registers c =
 pub group_of-requires-clause-ordered : goal.group_of-requires-clause-ordered
 group_of-requires-clause-ordered c =
     let r = c.requires.lists in
-    r.2.ordered (get_or c.args.registers.now c.registers.i none).signal.0 (r.3 c.registers.i (get_or c.args.registers.now c.registers.i none) (get_at c.args.registers.now c.registers.i none c.registers-test.true))
+    r.2.ordered (get_or c.args.registers.now c.registers.i none).signal.0
+    (r.3 c.registers.i (get_or c.args.registers.now c.registers.i none) (get_at c.args.registers.now c.registers.i none c.registers-test.true))
 
 pub group_of-requires-clause-within : goal.group_of-requires-clause-within
 group_of-requires-clause-within c =
     let r = c.requires.lists in
-    r.2.within (get_or c.args.registers.now c.registers.i none).signal.0 (r.3 c.registers.i (get_or c.args.registers.now c.registers.i none) (get_at c.args.registers.now c.registers.i none c.registers-test.true))
+    r.2.within (get_or c.args.registers.now c.registers.i none).signal.0
+    (r.3 c.registers.i (get_or c.args.registers.now c.registers.i none) (get_at c.args.registers.now c.registers.i none c.registers-test.true))
 
 pub registers-preserved : goal.registers-preserved
 registers-preserved c =

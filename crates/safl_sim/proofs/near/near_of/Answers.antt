@@ -9,7 +9,8 @@ pub readers-init : goal.readers-init
 readers-init c = near_none c.args.readers.now c.args.from c.args.to c.args.word c.requires.ordered
 
 pub returns : goal.returns
-returns c = near_is c.args.readers.now c.args.from c.readers.j c.args.to c.args.word c.readers.mask c.readers.first (let a = c.readers-test.false in let b = c.readers.auto.j-end in let d = c.requires.ordered in omega (arith, a, b, d)) c.readers.invariant
+returns c = near_is c.args.readers.now c.args.from c.readers.j c.args.to c.args.word c.readers.mask c.readers.first
+    (let a = c.readers-test.false in let b = c.readers.auto.j-end in let d = c.requires.ordered in omega (arith, a, b, d)) c.readers.invariant
 
 pub readers-preserved : goal.readers-preserved
 readers-preserved c =
@@ -33,5 +34,6 @@ readers-preserved c =
       | else-reader-word+else-j-first w ↦
           subst (λ m. NearTo readers from (j + 1) to word m c.if-reader-word.first) (sym w.mask-is)
           (subst (λ f. NearTo readers from (j + 1) to word c.readers.mask f) (sym w.first-is)
-          (near_other readers from j to k word c.readers.mask c.readers.first c.readers.first c.readers.invariant c.readers.invariant.least (omega arith) (let a = w.if-j-first.false in omega (arith, a)) here w.if-reader-word.false))
+          (near_other readers from j to k word c.readers.mask c.readers.first c.readers.first c.readers.invariant c.readers.invariant.least
+          (omega arith) (let a = w.if-j-first.false in omega (arith, a)) here w.if-reader-word.false))
     ]

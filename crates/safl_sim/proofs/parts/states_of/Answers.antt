@@ -14,4 +14,5 @@ reset-requires c = c.requires c.registers.i (get_or c.args.registers.now c.regis
 pub registers-preserved : goal.registers-preserved
 registers-preserved c =
     subst (λ (l : List ℕ). AreReset c.args.net.now c.args.registers.now (c.registers.i + 1) l) (sym c.in_ok-push.ensures.items)
-    (reset_more c.args.net.now c.args.registers.now c.registers.numbers.items c.registers.i c.reset.result (get_or c.args.registers.now c.registers.i none) c.registers.invariant (get_at c.args.registers.now c.registers.i none c.registers-test.true) c.reset.ensures)
+    (reset_more c.args.net.now c.args.registers.now c.registers.numbers.items c.registers.i c.reset.result
+    (get_or c.args.registers.now c.registers.i none) c.registers.invariant (get_at c.args.registers.now c.registers.i none c.registers-test.true) c.reset.ensures)

@@ -25,8 +25,10 @@ part : (starts readers : List ℕ) (step : Step) (i near : ℕ) → NearOf start
 part starts readers step i near n inside = (inside, n.least, let a = n.last in omega (arith, a))
 
 -- a step whose number is new, after these are marked
-changed : (steps : List Step) (starts readers : List ℕ) (step : Step) (i x near : ℕ) (values values' marks marks' : List ℕ) (held : ℕ) → i / 64 < length marks → NearOf starts readers i step near → values' ≡ set values step.wire.0 x
-    → HasMarked steps readers step.first step.end step.wire.0 values' marks marks' → HasGiven steps starts readers step.wire.0 x values values' (holding marks (i / 64) held) (holding marks' (i / 64) (bit_or held near))
+changed : (steps : List Step) (starts readers : List ℕ) (step : Step) (i x near : ℕ) (values values' marks marks' : List ℕ) (held : ℕ) → i / 64 <
+    length marks → NearOf starts readers i step near → values' ≡ set values step.wire.0 x
+    → HasMarked steps readers step.first step.end step.wire.0 values' marks marks' → HasGiven steps starts readers step.wire.0 x values values'
+    (holding marks (i / 64) held) (holding marks' (i / 64) (bit_or held near))
 changed steps starts readers step i x near values values' marks marks' held h n is marked =
     let p = step.wire.0 in
     let g : Near = record { mask = near; first = step.first; end = step.end } in
@@ -46,7 +48,8 @@ returns-then-not-renew_low-clause-given d = λ i held h near.
     let plan = d.args.plan.now in
     let step = d.args.step.now in
     let f = slice_index d.args.values.now in
-    let is = chosen f step.action d.in-Choose.c d.in-Choose.a d.in-Choose.b d.from.result d.choose-chosen.result d.get_low-number.result d.in-Choose.is (d.from.ensures ∙ d.get_low.ensures) d.choose-chosen.ensures d.get_low-number.ensures in
+    let is = chosen f step.action d.in-Choose.c d.in-Choose.a d.in-Choose.b d.from.result d.choose-chosen.result d.get_low-number.result
+    d.in-Choose.is (d.from.ensures ∙ d.get_low.ensures) d.choose-chosen.ensures d.get_low-number.ensures in
     kept plan.steps.items plan.starts.items plan.readers.items step i (action_number f step.action) d.args.values.now d.renew_low.new.values d.args.marks.now held
     (d.renew_low.ensures.is ∙ ap (set d.args.values.now step.wire.0) is) (d.renew_low.ensures.new d.if-not-renew_low.true ∙ is)
 
@@ -55,16 +58,19 @@ returns-in-Choose-clause-given d = λ i held h near.
     let plan = d.args.plan.now in
     let step = d.args.step.now in
     let f = slice_index d.args.values.now in
-    let is = chosen f step.action d.in-Choose.c d.in-Choose.a d.in-Choose.b d.from.result d.choose-chosen.result d.get_low-number.result d.in-Choose.is (d.from.ensures ∙ d.get_low.ensures) d.choose-chosen.ensures d.get_low-number.ensures in
+    let is = chosen f step.action d.in-Choose.c d.in-Choose.a d.in-Choose.b d.from.result d.choose-chosen.result d.get_low-number.result
+    d.in-Choose.is (d.from.ensures ∙ d.get_low.ensures) d.choose-chosen.ensures d.get_low-number.ensures in
     let inside : step.wire.0 + 1 < length plan.starts.items = (let a = d.requires.lists.long in let b = d.requires.within in omega (arith, a, b)) in
-    changed plan.steps.items plan.starts.items plan.readers.items step i (action_number f step.action) d.args.near d.args.values.now d.renew_low.new.values d.args.marks.now d.mark_readers.new.marks held h near
+    changed plan.steps.items plan.starts.items plan.readers.items step i (action_number f step.action) d.args.near d.args.values.now
+    d.renew_low.new.values d.args.marks.now d.mark_readers.new.marks held h near
     (d.renew_low.ensures.is ∙ ap (set d.args.values.now step.wire.0) is) (d.mark_readers.ensures step.wire.0 (part plan.starts.items plan.readers.items step i d.args.near near inside))
 
 pub returns-then-not-act_anew-clause-given : goal.returns-then-not-act_anew-clause-given
 returns-then-not-act_anew-clause-given c = λ i held h near.
     let plan = c.args.plan.now in
     let step = c.args.step.now in
-    kept plan.steps.items plan.starts.items plan.readers.items step i (action_number (slice_index c.args.values.now) step.action) c.args.values.now c.act_anew.new.values c.args.marks.now held c.act_anew.ensures.is (c.act_anew.ensures.new c.if-not-act_anew.true)
+    kept plan.steps.items plan.starts.items plan.readers.items step i (action_number (slice_index c.args.values.now) step.action) c.args.values.now
+    c.act_anew.new.values c.args.marks.now held c.act_anew.ensures.is (c.act_anew.ensures.new c.if-not-act_anew.true)
 
 pub returns-clause-long : goal.returns-clause-long
 returns-clause-long c =
@@ -78,5 +84,6 @@ returns-clause-given c = λ i held h near.
     let plan = c.args.plan.now in
     let step = c.args.step.now in
     let inside : step.wire.0 + 1 < length plan.starts.items = (let a = c.requires.lists.long in let b = c.requires.within in omega (arith, a, b)) in
-    changed plan.steps.items plan.starts.items plan.readers.items step i (action_number (slice_index c.args.values.now) step.action) c.args.near c.args.values.now c.act_anew.new.values c.args.marks.now c.mark_readers-2.new.marks held h near c.act_anew.ensures.is
+    changed plan.steps.items plan.starts.items plan.readers.items step i (action_number (slice_index c.args.values.now) step.action) c.args.near
+    c.args.values.now c.act_anew.new.values c.args.marks.now c.mark_readers-2.new.marks held h near c.act_anew.ensures.is
     (c.mark_readers-2.ensures step.wire.0 (part plan.starts.items plan.readers.items step i c.args.near near inside))

@@ -17,7 +17,8 @@ words-init c = record {
   state = refl;
   marks = refl;
   waiting = refl;
-  keeps = λ start was w. keeps_skip (c.args.first * 64) c.args.registers.now c.args.values.now c.args.first c.next-w.result start was (placed (length c.args.values.now) c.args.registers.now c.args.state.now) c.args.marks.now c.args.waiting.now w c.next-w.ensures.none;
+  keeps = λ start was w. keeps_skip (c.args.first * 64) c.args.registers.now c.args.values.now c.args.first c.next-w.result start was
+      (placed (length c.args.values.now) c.args.registers.now c.args.state.now) c.args.marks.now c.args.waiting.now w c.next-w.ensures.none;
 }
 
 pub words-preserved : goal.words-preserved
@@ -27,12 +28,14 @@ words-preserved c = record {
   state = (let a = c.words.invariant.state in let b = c.keep_word.auto.state in omega (arith, a, b));
   marks = c.keep_word.ensures.long ∙ c.words.invariant.marks;
   waiting = c.keep_word.ensures.room ∙ c.words.invariant.waiting;
-  keeps = λ start was w. keeps_skip (c.args.first * 64) c.args.registers.now c.args.values.now (c.words.w + 1) c.next-w-in-words.result start was (placed (length c.args.values.now) c.args.registers.now c.keep_word.new.state) c.keep_word.new.marks c.keep_word.new.waiting
+  keeps = λ start was w. keeps_skip (c.args.first * 64) c.args.registers.now c.args.values.now (c.words.w + 1) c.next-w-in-words.result start was
+      (placed (length c.args.values.now) c.args.registers.now c.keep_word.new.state) c.keep_word.new.marks c.keep_word.new.waiting
       (c.keep_word.ensures.keeps start was (c.words.invariant.keeps start was w)) c.next-w-in-words.ensures.none;
 }
 
 pub returns-clause-keeps : goal.returns-clause-keeps
 returns-clause-keeps c = λ start was w.
-    subst (λ k. KeepsOn (c.args.first * 64) c.args.registers.now c.args.values.now (k * 64) start was (placed (length c.args.values.now) c.args.registers.now c.words.state) c.words.marks c.words.waiting)
+    subst (λ k. KeepsOn (c.args.first * 64) c.args.registers.now c.args.values.now (k * 64) start was
+    (placed (length c.args.values.now) c.args.registers.now c.words.state) c.words.marks c.words.waiting)
     (let a = c.words-test.false in let d = c.words.invariant.marks in let e = c.requires.first in let f = c.words.invariant.least in let g = c.words.invariant.most in omega (arith, a, d, e, f, g))
     (c.words.invariant.keeps start was w)

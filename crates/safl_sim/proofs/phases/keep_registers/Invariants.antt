@@ -10,7 +10,9 @@ invariant-words l = record {
   state : length l.state ≡ length l.initial.state;
   marks : length l.marks ≡ length l.initial.marks;
   waiting : length l.waiting ≡ length l.initial.waiting;
-  keeps : (start was : List ℕ) → KeepsOn (l.first * 64) l.registers l.values (l.first * 64) start was (placed (length l.values) l.registers l.initial.state) l.initial.marks l.initial.waiting → KeepsOn (l.first * 64) l.registers l.values (l.w * 64) start was (placed (length l.values) l.registers l.state) l.marks l.waiting;
+  keeps : (start was : List ℕ) → KeepsOn (l.first * 64) l.registers l.values (l.first * 64) start was
+      (placed (length l.values) l.registers l.initial.state) l.initial.marks l.initial.waiting → KeepsOn (l.first * 64) l.registers l.values
+      (l.w * 64) start was (placed (length l.values) l.registers l.state) l.marks l.waiting;
 }
 
 abbrev pub decreases-words : goal.decreases-words

@@ -9,7 +9,9 @@ invariant-registers l = record {
   from : l.word * 64 ≤ l.place;
   state : length l.state ≡ length l.initial.state;
   wait : (k : ℕ) → (l.first * 64 + k) / 64 ≡ l.word → marked (holding l.marks l.word l.held) (l.first * 64 + k) ≡ 1 → marked l.waiting k ≡ 1;
-  keeps : (start was : List ℕ) → KeepsOn (l.first * 64) l.registers l.values (l.word * 64) start was (placed (length l.values) l.registers l.initial.state) l.marks l.waiting → KeepsOn (l.first * 64) l.registers l.values l.place start was (placed (length l.values) l.registers l.state) (holding l.marks l.word l.held) l.waiting;
+  keeps : (start was : List ℕ) → KeepsOn (l.first * 64) l.registers l.values (l.word * 64) start was
+      (placed (length l.values) l.registers l.initial.state) l.marks l.waiting → KeepsOn (l.first * 64) l.registers l.values l.place start was
+      (placed (length l.values) l.registers l.state) (holding l.marks l.word l.held) l.waiting;
 }
 
 abbrev pub decreases-registers : goal.decreases-registers

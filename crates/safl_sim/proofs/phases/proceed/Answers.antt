@@ -81,7 +81,8 @@ keep_registers-requires-clause-keeps c =
     (c.show_registers.ensures.shown now) c.show_registers.ensures.long (c.show_registers.ensures.goes o.net o.wires now) in
     let ran = c.run_steps-count.ensures.runs o now c.show_registers.new.values begun in
     let at_first : c.word_count-first.result * 64 ≡ first_register (length c.args.plan.now.steps.items) = (let a = c.word_count-first.ensures in omega (arith, a)) in
-    let start = keeps_start o c.args.plan.now c.args.marks.now c.args.waiting.now c.args.state.now c.args.values.now k c.show_registers.new.values c.run_steps-count.new.values c.run_steps-count.new.marks c.show_registers.new.waiting
+    let start = keeps_start o c.args.plan.now c.args.marks.now c.args.waiting.now c.args.state.now c.args.values.now k c.show_registers.new.values
+    c.run_steps-count.new.values c.run_steps-count.new.marks c.show_registers.new.waiting
     first at_first ran c.show_registers.ensures.none in (
       now,
       c.run_steps-count.new.marks,
@@ -97,14 +98,18 @@ returns c = λ o words k has.
     (c.show_registers.ensures.shown now) c.show_registers.ensures.long (c.show_registers.ensures.goes o.net o.wires now) in
     let ran = c.run_steps-count.ensures.runs o now c.show_registers.new.values begun in
     let at_first : c.word_count-first.result * 64 ≡ first_register (length c.args.plan.now.steps.items) = (let a = c.word_count-first.ensures in omega (arith, a)) in
-    let start = keeps_start o c.args.plan.now c.args.marks.now c.args.waiting.now c.args.state.now c.args.values.now k c.show_registers.new.values c.run_steps-count.new.values c.run_steps-count.new.marks c.show_registers.new.waiting
+    let start = keeps_start o c.args.plan.now c.args.marks.now c.args.waiting.now c.args.state.now c.args.values.now k c.show_registers.new.values
+    c.run_steps-count.new.values c.run_steps-count.new.marks c.show_registers.new.waiting
     first at_first ran c.show_registers.ensures.none in
     let ends = c.keep_registers.ensures.keeps now c.run_steps-count.new.marks
     (kept_along c.as_slice-registers.result.now c.args.plan.now.registers.items first (length c.run_steps-count.new.values) (length o.net.signals) first
     c.run_steps-count.new.values now c.run_steps-count.new.marks c.args.state.now c.run_steps-count.new.marks c.show_registers.new.waiting c.as_slice-registers.ensures.value ran.long start) in
-    cycles o c.args.plan.now c.args.marks.now c.args.waiting.now c.args.state.now c.args.values.now k c.show_registers.new.values c.run_steps-count.new.values c.run_steps-count.new.marks c.keep_registers.new.marks
-    c.keep_registers.new.waiting c.keep_registers.new.state first (c.show_registers.ensures.shown now) ran at_first (c.run_steps-count.ensures.long ∙ c.show_registers.ensures.long) c.keep_registers.ensures.long
+    cycles o c.args.plan.now c.args.marks.now c.args.waiting.now c.args.state.now c.args.values.now k c.show_registers.new.values
+    c.run_steps-count.new.values c.run_steps-count.new.marks c.keep_registers.new.marks
+    c.keep_registers.new.waiting c.keep_registers.new.state first (c.show_registers.ensures.shown now) ran at_first
+    (c.run_steps-count.ensures.long ∙ c.show_registers.ensures.long) c.keep_registers.ensures.long
     (c.keep_registers.ensures.room ∙ c.show_registers.ensures.room) c.keep_registers.auto.state
     (kept_along c.args.plan.now.registers.items c.as_slice-registers.result.now first (length o.net.signals) (length c.run_steps-count.new.values) (length c.keep_registers.new.marks * 64)
-    c.run_steps-count.new.values now c.run_steps-count.new.marks c.keep_registers.new.state c.keep_registers.new.marks c.keep_registers.new.waiting (sym c.as_slice-registers.ensures.value) (sym ran.long) ends)
+    c.run_steps-count.new.values now c.run_steps-count.new.marks c.keep_registers.new.state c.keep_registers.new.marks c.keep_registers.new.waiting
+    (sym c.as_slice-registers.ensures.value) (sym ran.long) ends)
     words has

@@ -29,9 +29,11 @@ words-preserved c =
     record {
       put = subst (λ (l : List ℕ). HasPut places c.args.words.now (i + 1) c.args.values.now l) (sym c.give.ensures.is)
           (subst (λ (x : ℕ). HasPut places c.args.words.now (i + 1) c.args.values.now (set c.words.values s.0 x)) (sym c.bits.ensures.value)
-          (put_step places c.args.words.now c.args.values.now c.words.values i s c.index-words-i.result c.words.invariant.put here word c.bits.ensures.word (c.requires.within i s here) c.requires.once));
+          (put_step places c.args.words.now c.args.values.now c.words.values i s c.index-words-i.result c.words.invariant.put here word
+          c.bits.ensures.word (c.requires.within i s here) c.requires.once));
       long = c.give.ensures.long ∙ c.words.invariant.long;
-      goes = λ n ws regs held away fit. goes_step n ws p.steps.items regs held p.starts.items p.readers.items s.0 _ c.args.values.now c.words.values c.give.new.values c.args.marks.now c.words.marks c.give.new.marks (c.words.invariant.goes n ws regs held away fit) (away i s here)
+      goes = λ n ws regs held away fit. goes_step n ws p.steps.items regs held p.starts.items p.readers.items s.0 _ c.args.values.now c.words.values
+          c.give.new.values c.args.marks.now c.words.marks c.give.new.marks (c.words.invariant.goes n ws regs held away fit) (away i s here)
           (let a = c.requires.within i s here in let b = c.words.invariant.put.long in omega (arith, a, b))
           (λ state g at. subst (λ x. x < 2 ^ g.width) (sym c.bits.ensures.value) (fit i s c.index-words-i.result g here word at)) c.give.ensures;
     }

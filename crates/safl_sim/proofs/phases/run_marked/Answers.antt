@@ -34,7 +34,8 @@ words-init c = record {
   count = omega arith;
   long = refl;
   runs = λ o regs now start w. runs_skip o c.args.plan.now.steps.items regs now c.args.plan.now.starts.items c.args.plan.now.readers.items start 0 c.next-w.result c.args.values.now c.args.marks.now
-      (subst (λ k. Runs o c.args.plan.now.steps.items regs now c.args.plan.now.starts.items c.args.plan.now.readers.items start k c.args.values.now c.args.marks.now) (omega arith) w) c.next-w.ensures.none;
+      (subst (λ k. Runs o c.args.plan.now.steps.items regs now c.args.plan.now.starts.items c.args.plan.now.readers.items start k c.args.values.now
+      c.args.marks.now) (omega arith) w) c.next-w.ensures.none;
 }
 
 pub words-preserved : goal.words-preserved
@@ -42,7 +43,8 @@ words-preserved c = record {
   most = c.next-w-in-words.ensures.most;
   count = (let a = c.run_word-count.ensures.count in let b = c.words.invariant.count in let d = c.next-w-in-words.ensures.least in omega (arith, a, b, d));
   long = c.run_word-count.ensures.long ∙ c.words.invariant.long;
-  runs = λ o regs now start w. runs_skip o c.args.plan.now.steps.items regs now c.args.plan.now.starts.items c.args.plan.now.readers.items start (c.words.w + 1) c.next-w-in-words.result c.run_word-count.new.values c.run_word-count.new.marks
+  runs = λ o regs now start w. runs_skip o c.args.plan.now.steps.items regs now c.args.plan.now.starts.items c.args.plan.now.readers.items start
+      (c.words.w + 1) c.next-w-in-words.result c.run_word-count.new.values c.run_word-count.new.marks
       (c.run_word-count.ensures.runs o regs now start (c.words.invariant.runs o regs now start w)) c.next-w-in-words.ensures.none;
 }
 

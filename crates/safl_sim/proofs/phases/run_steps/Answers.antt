@@ -37,13 +37,15 @@ mark_range-requires-clause-room c =
 pub returns-in-All-clause-runs : goal.returns-in-All-clause-runs
 returns-in-All-clause-runs c = λ o held start w.
     let p = c.args.plan.now in
-    let first : c.word_count-words.result * 64 ≡ first_register (length p.steps.items) = (let a = c.word_count-words.ensures in let b = c.len.ensures in let d = p.steps.ok.0 in omega (arith, a, b, d)) in
+    let first : c.word_count-words.result * 64 ≡ first_register (length p.steps.items) =
+    (let a = c.word_count-words.ensures in let b = c.len.ensures in let d = p.steps.ok.0 in omega (arith, a, b, d)) in
     let many : c.len-in-All.result ≡ length p.registers.items = (let a = c.len-in-All.ensures in let b = p.registers.ok.0 in omega (arith, a, b)) in
     let m = subst (λ (k : ℕ). HasRange k (k + length p.registers.items) c.clear.new.self c.mark_range.new.self) first
     (subst (λ (k : ℕ). HasRange (c.word_count-words.result * 64) (c.word_count-words.result * 64 + k) c.clear.new.self c.mark_range.new.self) many c.mark_range.ensures) in
     subst (λ l. Runs o p.steps.items p.registers.items held p.starts.items p.readers.items start (first_register (length p.steps.items)) l c.mark_range.new.self)
     (sym (c.run_all.ensures ∙ ap (λ (l : List Step). after_steps l c.args.values.now) c.as_slice.ensures.value))
-    (all_ran o p.steps.items p.registers.items held p.starts.items p.readers.items start c.args.values.now c.args.marks.now c.clear.new.self c.mark_range.new.self w c.clear.ensures.long c.clear.ensures.none m)
+    (all_ran o p.steps.items p.registers.items held p.starts.items p.readers.items start c.args.values.now c.args.marks.now c.clear.new.self
+    c.mark_range.new.self w c.clear.ensures.long c.clear.ensures.none m)
 
 pub returns-in-Marked-clause-runs : goal.returns-in-Marked-clause-runs
 returns-in-Marked-clause-runs c = λ o held start w. c.run_marked.ensures.runs o c.args.plan.now.registers.items held start w

@@ -11,7 +11,9 @@ invariant-steps l = record {
   from : l.word * 64 + l.count ≤ l.place;
   one : l.turn ≤ 1;
   to : l.place ≤ (l.word + 1) * 64;
-  runs : (o : Order) (regs : List Register) (now start : List ℕ) → Runs o l.plan.steps.items regs now l.plan.starts.items l.plan.readers.items start (l.word * 64) l.initial.values l.initial.marks → Runs o l.plan.steps.items regs now l.plan.starts.items l.plan.readers.items start l.place l.values (holding l.marks l.word l.held);
+  runs : (o : Order) (regs : List Register) (now start : List ℕ) → Runs o l.plan.steps.items regs now l.plan.starts.items l.plan.readers.items start
+      (l.word * 64) l.initial.values l.initial.marks → Runs o l.plan.steps.items regs now l.plan.starts.items l.plan.readers.items start l.place
+      l.values (holding l.marks l.word l.held);
 }
 
 abbrev pub decreases-steps : goal.decreases-steps

@@ -37,7 +37,8 @@ words-preserved c = record {
 }
 
 pub returns-clause-none : goal.returns-clause-none
-returns-clause-none c = let r = c.requires.waits in none_waits c.args.plan.now.registers.items r.0 (c.words.w * 64) c.args.values.now c.words.values c.words.waiting (c.words.invariant.shows r.0 r.1 r.2)
+returns-clause-none c = let r = c.requires.waits in none_waits c.args.plan.now.registers.items r.0 (c.words.w * 64) c.args.values.now c.words.values
+    c.words.waiting (c.words.invariant.shows r.0 r.1 r.2)
     (let a = c.words-test.false in let b = r.2.room in let d = c.words.invariant.most in omega (arith, a, b, d))
 
 pub returns-clause-shown : goal.returns-clause-shown

@@ -13,8 +13,10 @@ invariant-words l = record {
   long : length l.marks ≡ length l.initial.marks;
   low : AreLow l.plan.registers.items l.values l.state;
   room : length l.waiting ≡ length l.initial.waiting;
-  shows : (now : List ℕ) → AreAt l.plan.registers.items l.state now → Waits l.plan.registers.items now l.initial.values l.initial.waiting → Shows l.plan.registers.items now (l.w * 64) l.initial.values l.values l.waiting;
-  goes : (n : Netlist) (ws now : List ℕ) → RegistersAway l.plan.registers.items ws → AreAt l.plan.registers.items l.state now → Goes n ws l.plan.steps.items l.plan.registers.items now l.plan.starts.items l.plan.readers.items l.initial.values l.values l.initial.marks l.marks;
+  shows : (now : List ℕ) → AreAt l.plan.registers.items l.state now → Waits l.plan.registers.items now l.initial.values l.initial.waiting → Shows
+      l.plan.registers.items now (l.w * 64) l.initial.values l.values l.waiting;
+  goes : (n : Netlist) (ws now : List ℕ) → RegistersAway l.plan.registers.items ws → AreAt l.plan.registers.items l.state now → Goes n ws
+      l.plan.steps.items l.plan.registers.items now l.plan.starts.items l.plan.readers.items l.initial.values l.values l.initial.marks l.marks;
 }
 
 abbrev pub decreases-words : goal.decreases-words

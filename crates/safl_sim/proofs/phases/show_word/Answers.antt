@@ -15,24 +15,30 @@ use Rattle.safl_sim.proofs.Updates.{goes_step, lists_same}
 use Rattle.safl_sim.proofs.phases.show_word.Goals as goal
 
 -- the register that is taken
-found : (regs : List Register) (now : List ℕ) (place word i : ℕ) (start values waiting waiting' : List ℕ) → Shows regs now place start values waiting → HasTaken waiting waiting' word i → i < length regs
+found : (regs : List Register) (now : List ℕ) (place word i : ℕ) (start values waiting waiting' : List ℕ) → Shows regs now place start values waiting
+    → HasTaken waiting waiting' word i → i < length regs
 found regs now place word i start values waiting waiting' w t = w.within i t.was
 
 -- its group
-group : (p : Plan) (i : ℕ) (r : Register) (g : Group) → i < length p.registers.items → slice_get p.registers.items i ≡ Some r → g ≡ get_or p.groups.items i g → GroupOf p.starts.items p.readers.items r g
+group : (p : Plan) (i : ℕ) (r : Register) (g : Group) → i < length p.registers.items → slice_get p.registers.items i ≡ Some r → g ≡ get_or
+    p.groups.items i g → GroupOf p.starts.items p.readers.items r g
 group p i r g h at e = p.grouped.each i r g at (get_read p.groups.items i g (let a = p.grouped.long in omega (arith, a, h)) e)
 
 pub index-requires : goal.index-requires
 index-requires c =
     let r = c.requires.shows in
-    let a = found c.args.plan.now.registers.items r.0 _ c.args.word (c.args.word * 64 + c.in-Some.taken.bit) r.1 c.registers.values (holding c.args.waiting.now c.args.word c.registers.held) (holding c.args.waiting.now c.args.word c.in-Some.taken.left) (c.registers.invariant.shows r.0 r.1 r.2 r.3) (c.in-Some.ensures.some c.args.word c.args.waiting.now c.requires.word) in
+    let a = found c.args.plan.now.registers.items r.0 _ c.args.word (c.args.word * 64 + c.in-Some.taken.bit) r.1 c.registers.values
+    (holding c.args.waiting.now c.args.word c.registers.held) (holding c.args.waiting.now c.args.word c.in-Some.taken.left)
+    (c.registers.invariant.shows r.0 r.1 r.2 r.3) (c.in-Some.ensures.some c.args.word c.args.waiting.now c.requires.word) in
     let b = c.args.plan.now.registers.ok.0 in
     omega (arith, a, b)
 
 pub index-requires-in-Some : goal.index-requires-in-Some
 index-requires-in-Some c =
     let r = c.requires.shows in
-    let a = found c.args.plan.now.registers.items r.0 _ c.args.word (c.args.word * 64 + c.in-Some.taken.bit) r.1 c.registers.values (holding c.args.waiting.now c.args.word c.registers.held) (holding c.args.waiting.now c.args.word c.in-Some.taken.left) (c.registers.invariant.shows r.0 r.1 r.2 r.3) (c.in-Some.ensures.some c.args.word c.args.waiting.now c.requires.word) in
+    let a = found c.args.plan.now.registers.items r.0 _ c.args.word (c.args.word * 64 + c.in-Some.taken.bit) r.1 c.registers.values
+    (holding c.args.waiting.now c.args.word c.registers.held) (holding c.args.waiting.now c.args.word c.in-Some.taken.left)
+    (c.registers.invariant.shows r.0 r.1 r.2 r.3) (c.in-Some.ensures.some c.args.word c.args.waiting.now c.requires.word) in
     let b = c.args.plan.now.groups.ok.0 in
     let d = c.args.plan.now.grouped.long in
     omega (arith, a, b, d)
@@ -40,7 +46,9 @@ index-requires-in-Some c =
 pub bounds-state-i : goal.bounds-state-i
 bounds-state-i c =
     let r = c.requires.shows in
-    let a = found c.args.plan.now.registers.items r.0 _ c.args.word (c.args.word * 64 + c.in-Some.taken.bit) r.1 c.registers.values (holding c.args.waiting.now c.args.word c.registers.held) (holding c.args.waiting.now c.args.word c.in-Some.taken.left) (c.registers.invariant.shows r.0 r.1 r.2 r.3) (c.in-Some.ensures.some c.args.word c.args.waiting.now c.requires.word) in
+    let a = found c.args.plan.now.registers.items r.0 _ c.args.word (c.args.word * 64 + c.in-Some.taken.bit) r.1 c.registers.values
+    (holding c.args.waiting.now c.args.word c.registers.held) (holding c.args.waiting.now c.args.word c.in-Some.taken.left)
+    (c.registers.invariant.shows r.0 r.1 r.2 r.3) (c.in-Some.ensures.some c.args.word c.args.waiting.now c.requires.word) in
     let d = r.2.long in
     omega (arith, a, d)
 
@@ -52,14 +60,18 @@ show-requires-clause-group c =
     let r = c.requires.shows in
     let p = c.args.plan.now in
     let i = (c.args.word * 64 + c.in-Some.taken.bit) in
-    let a = found c.args.plan.now.registers.items r.0 _ c.args.word (c.args.word * 64 + c.in-Some.taken.bit) r.1 c.registers.values (holding c.args.waiting.now c.args.word c.registers.held) (holding c.args.waiting.now c.args.word c.in-Some.taken.left) (c.registers.invariant.shows r.0 r.1 r.2 r.3) (c.in-Some.ensures.some c.args.word c.args.waiting.now c.requires.word) in
+    let a = found c.args.plan.now.registers.items r.0 _ c.args.word (c.args.word * 64 + c.in-Some.taken.bit) r.1 c.registers.values
+    (holding c.args.waiting.now c.args.word c.registers.held) (holding c.args.waiting.now c.args.word c.in-Some.taken.left)
+    (c.registers.invariant.shows r.0 r.1 r.2 r.3) (c.in-Some.ensures.some c.args.word c.args.waiting.now c.requires.word) in
     group p i c.index.result.now c.index-in-Some.result.now a (get_read p.registers.items i c.index.result.now a c.index.ensures) c.index-in-Some.ensures
 
 pub show-requires-clause-within : goal.show-requires-clause-within
 show-requires-clause-within c =
     let r = c.requires.shows in
     let i = (c.args.word * 64 + c.in-Some.taken.bit) in
-    let f = found c.args.plan.now.registers.items r.0 _ c.args.word (c.args.word * 64 + c.in-Some.taken.bit) r.1 c.registers.values (holding c.args.waiting.now c.args.word c.registers.held) (holding c.args.waiting.now c.args.word c.in-Some.taken.left) (c.registers.invariant.shows r.0 r.1 r.2 r.3) (c.in-Some.ensures.some c.args.word c.args.waiting.now c.requires.word) in
+    let f = found c.args.plan.now.registers.items r.0 _ c.args.word (c.args.word * 64 + c.in-Some.taken.bit) r.1 c.registers.values
+    (holding c.args.waiting.now c.args.word c.registers.held) (holding c.args.waiting.now c.args.word c.in-Some.taken.left)
+    (c.registers.invariant.shows r.0 r.1 r.2 r.3) (c.in-Some.ensures.some c.args.word c.args.waiting.now c.requires.word) in
     let a = c.requires.within i c.index.result.now (get_read c.args.plan.now.registers.items i c.index.result.now f c.index.ensures) in
     let b = c.registers.invariant.wide in
     omega (arith, a, b)
@@ -68,18 +80,23 @@ pub show-requires-clause-low : goal.show-requires-clause-low
 show-requires-clause-low c =
     let r = c.requires.shows in
     let i = (c.args.word * 64 + c.in-Some.taken.bit) in
-    let f = found c.args.plan.now.registers.items r.0 _ c.args.word (c.args.word * 64 + c.in-Some.taken.bit) r.1 c.registers.values (holding c.args.waiting.now c.args.word c.registers.held) (holding c.args.waiting.now c.args.word c.in-Some.taken.left) (c.registers.invariant.shows r.0 r.1 r.2 r.3) (c.in-Some.ensures.some c.args.word c.args.waiting.now c.requires.word) in
+    let f = found c.args.plan.now.registers.items r.0 _ c.args.word (c.args.word * 64 + c.in-Some.taken.bit) r.1 c.registers.values
+    (holding c.args.waiting.now c.args.word c.registers.held) (holding c.args.waiting.now c.args.word c.in-Some.taken.left)
+    (c.registers.invariant.shows r.0 r.1 r.2 r.3) (c.in-Some.ensures.some c.args.word c.args.waiting.now c.requires.word) in
     c.registers.invariant.low i c.index.result.now (get_read c.args.plan.now.registers.items i c.index.result.now f c.index.ensures)
 
 -- a turn leads past the register that is taken
-past : (regs : List Register) (now : List ℕ) (place word i : ℕ) (start values waiting waiting' : List ℕ) → word * 64 ≤ place → Shows regs now place start values waiting → HasTaken waiting waiting' word i → place ≤ i
+past : (regs : List Register) (now : List ℕ) (place word i : ℕ) (start values waiting waiting' : List ℕ) → word * 64 ≤ place → Shows regs now place
+    start values waiting → HasTaken waiting waiting' word i → place ≤ i
 past regs now place word i start values waiting waiting' from w t = taken_after waiting waiting' 0 place word i (λ k z h. w.below k h) (omega arith) from t
 
 pub registers-smaller : goal.registers-smaller
 registers-smaller c =
     let r = c.requires.shows in
     let t = c.in-Some.ensures.some c.args.word c.args.waiting.now c.requires.word in
-    let a = past c.args.plan.now.registers.items r.0 _ c.args.word (c.args.word * 64 + c.in-Some.taken.bit) r.1 c.registers.values (holding c.args.waiting.now c.args.word c.registers.held) (holding c.args.waiting.now c.args.word c.in-Some.taken.left) c.registers.invariant.from (c.registers.invariant.shows r.0 r.1 r.2 r.3) t in
+    let a = past c.args.plan.now.registers.items r.0 _ c.args.word (c.args.word * 64 + c.in-Some.taken.bit) r.1 c.registers.values
+    (holding c.args.waiting.now c.args.word c.registers.held) (holding c.args.waiting.now c.args.word c.in-Some.taken.left)
+    c.registers.invariant.from (c.registers.invariant.shows r.0 r.1 r.2 r.3) t in
     let b = t.within in
     omega (arith, a, b)
 
@@ -89,7 +106,9 @@ registers-preserved c =
     let p = c.args.plan.now in
     let i = (c.args.word * 64 + c.in-Some.taken.bit) in
     let t = c.in-Some.ensures.some c.args.word c.args.waiting.now c.requires.word in
-    let f = found c.args.plan.now.registers.items r.0 _ c.args.word (c.args.word * 64 + c.in-Some.taken.bit) r.1 c.registers.values (holding c.args.waiting.now c.args.word c.registers.held) (holding c.args.waiting.now c.args.word c.in-Some.taken.left) (c.registers.invariant.shows r.0 r.1 r.2 r.3) t in
+    let f = found c.args.plan.now.registers.items r.0 _ c.args.word (c.args.word * 64 + c.in-Some.taken.bit) r.1 c.registers.values
+    (holding c.args.waiting.now c.args.word c.registers.held) (holding c.args.waiting.now c.args.word c.in-Some.taken.left)
+    (c.registers.invariant.shows r.0 r.1 r.2 r.3) t in
     let own = c.index.result.now in
     let at = get_read p.registers.items i own f c.index.ensures in
     let known : own.signal.0 < length c.registers.values = (let a = c.requires.within i own at in let b = c.registers.invariant.wide in omega (arith, a, b)) in
@@ -99,9 +118,15 @@ registers-preserved c =
       from = (let a = t.within in omega (arith, a));
       wide = (let a = c.registers.invariant.wide in let b = ap length told.is in let d = set_length c.registers.values own.signal.0 x in omega (arith, a, b, d));
       long = told.long ∙ c.registers.invariant.long;
-      low = subst (λ l. AreLow p.registers.items l c.args.state.now) (sym told.is) (low_shown p.registers.items c.registers.values c.args.state.now i own c.requires.once c.registers.invariant.low at known);
-      shows = λ now start are w. shows_step p.registers.items now c.registers.place c.args.word i own start c.registers.values c.show.new.values (holding c.args.waiting.now c.args.word c.registers.held) (holding c.args.waiting.now c.args.word c.in-Some.taken.left) (c.registers.invariant.shows now start are w) c.registers.invariant.from t at known (told.is ∙ ap (set c.registers.values own.signal.0) (sym (are.each i own at)));
-      goes = λ n ws now away are. goes_step n ws p.steps.items p.registers.items now p.starts.items p.readers.items own.signal.0 _ c.args.values.now c.registers.values c.show.new.values c.args.marks.now c.registers.marks c.show.new.marks (c.registers.invariant.goes n ws now away are) (away i own at) known (λ state s e. state own.signal.0 s e)
+      low = subst (λ l. AreLow p.registers.items l c.args.state.now) (sym told.is)
+          (low_shown p.registers.items c.registers.values c.args.state.now i own c.requires.once c.registers.invariant.low at known);
+      shows = λ now start are w. shows_step p.registers.items now c.registers.place c.args.word i own start c.registers.values c.show.new.values
+          (holding c.args.waiting.now c.args.word c.registers.held) (holding c.args.waiting.now c.args.word c.in-Some.taken.left)
+          (c.registers.invariant.shows now start are w) c.registers.invariant.from t at known
+          (told.is ∙ ap (set c.registers.values own.signal.0) (sym (are.each i own at)));
+      goes = λ n ws now away are. goes_step n ws p.steps.items p.registers.items now p.starts.items p.readers.items own.signal.0 _ c.args.values.now
+          c.registers.values c.show.new.values c.args.marks.now c.registers.marks c.show.new.marks (c.registers.invariant.goes n ws now away are)
+          (away i own at) known (λ state s e. state own.signal.0 s e)
           (subst (λ y. HasGiven p.steps.items p.starts.items p.readers.items own.signal.0 y c.registers.values c.show.new.values c.registers.marks c.show.new.marks) (sym (are.each i own at)) told);
     }
 
@@ -126,5 +151,6 @@ returns-clause-shows c = λ now start at w.
     let p = c.args.plan.now in
     subst (λ l. Shows p.registers.items now ((c.args.word + 1) * 64) start c.registers.values l) (sym c.put.ensures)
     (shows_none p.registers.items now c.registers.place c.args.word start c.registers.values (holding c.args.waiting.now c.args.word 0)
-    (subst (λ h. Shows p.registers.items now c.registers.place start c.registers.values (holding c.args.waiting.now c.args.word h)) c.in_default.ensures.none (c.registers.invariant.shows now start at w))
+    (subst (λ h. Shows p.registers.items now c.registers.place start c.registers.values (holding c.args.waiting.now c.args.word h))
+    c.in_default.ensures.none (c.registers.invariant.shows now start at w))
     c.registers.invariant.from (no_marks c.args.waiting.now c.args.word c.requires.word))

@@ -13,8 +13,10 @@ invariant-registers l = record {
   wide : length l.values ≡ length l.initial.values;
   long : length l.marks ≡ length l.initial.marks;
   low : AreLow l.plan.registers.items l.values l.state;
-  shows : (now start : List ℕ) → AreAt l.plan.registers.items l.state now → Shows l.plan.registers.items now (l.word * 64) start l.initial.values l.waiting → Shows l.plan.registers.items now l.place start l.values (holding l.waiting l.word l.held);
-  goes : (n : Netlist) (ws now : List ℕ) → RegistersAway l.plan.registers.items ws → AreAt l.plan.registers.items l.state now → Goes n ws l.plan.steps.items l.plan.registers.items now l.plan.starts.items l.plan.readers.items l.initial.values l.values l.initial.marks l.marks;
+  shows : (now start : List ℕ) → AreAt l.plan.registers.items l.state now → Shows l.plan.registers.items now (l.word * 64) start l.initial.values
+      l.waiting → Shows l.plan.registers.items now l.place start l.values (holding l.waiting l.word l.held);
+  goes : (n : Netlist) (ws now : List ℕ) → RegistersAway l.plan.registers.items ws → AreAt l.plan.registers.items l.state now → Goes n ws
+      l.plan.steps.items l.plan.registers.items now l.plan.starts.items l.plan.readers.items l.initial.values l.values l.initial.marks l.marks;
 }
 
 abbrev pub decreases-registers : goal.decreases-registers

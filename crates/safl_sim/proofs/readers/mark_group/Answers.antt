@@ -13,4 +13,5 @@ returns c = λ p inside near.
     let values = c.args.values.now in
     let others = subst (λ (x : ℕ). HasMarked steps readers g.near.first x p values c.join.new.self c.mark_readers.new.marks) near.last
     (c.mark_readers.ensures p (inside, near.least, subst (λ (x : ℕ). x ≤ to) (sym near.last) (omega arith))) in
-    group_marked readers from to g.word g.near near c.args.marks.now steps p values c.mark_readers.new.marks c.requires.known (subst (λ (l : List ℕ). HasMarked steps readers g.near.first to p values l c.mark_readers.new.marks) c.join.ensures others)
+    group_marked readers from to g.word g.near near c.args.marks.now steps p values c.mark_readers.new.marks c.requires.known
+    (subst (λ (l : List ℕ). HasMarked steps readers g.near.first to p values l c.mark_readers.new.marks) c.join.ensures others)

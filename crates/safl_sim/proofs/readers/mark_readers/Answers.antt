@@ -6,7 +6,8 @@ use Rattle.safl_sim.proofs.readers.mark_readers.Goals as goal
 
 pub returns-then-from-to : goal.returns-then-from-to
 returns-then-from-to c = λ p part.
-    subst (λ k. HasMarked c.args.plan.now.steps.items c.args.plan.now.readers.items c.args.from k p c.args.values.now c.args.marks.now c.args.marks.now) (let a = c.if-from-to.true in let b = c.requires.ordered in omega (arith, a, b))
+    subst (λ k. HasMarked c.args.plan.now.steps.items c.args.plan.now.readers.items c.args.from k p c.args.values.now c.args.marks.now
+    c.args.marks.now) (let a = c.if-from-to.true in let b = c.requires.ordered in omega (arith, a, b))
     (marked_none c.args.plan.now.steps.items c.args.plan.now.readers.items c.args.from p c.args.values.now c.args.marks.now)
 
 pub readers-init : goal.readers-init
@@ -27,7 +28,8 @@ readers-preserved c = λ p.
     let j = c.readers.j in
     let reader = c.index.result.now in
     let here = get_read readers j reader (let a = c.readers-test.true in let b = c.requires.within in omega (arith, a, b)) c.index.ensures in
-    marked_step steps readers c.args.from j reader p c.args.values.now c.args.marks.now c.readers.marks c.mark.new.self (let a = c.readers.auto.j in omega (arith, a)) (c.readers.invariant p) here c.mark.ensures
+    marked_step steps readers c.args.from j reader p c.args.values.now c.args.marks.now c.readers.marks c.mark.new.self
+    (let a = c.readers.auto.j in omega (arith, a)) (c.readers.invariant p) here c.mark.ensures
 
 pub returns : goal.returns
 returns c = λ p part.

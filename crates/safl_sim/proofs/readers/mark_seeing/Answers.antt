@@ -37,7 +37,8 @@ readers-preserved c =
           let most = part.2 in
           let before = c.readers.invariant.marked p part in
           let here : slice_get readers j ≡ Some (slice_index readers j) = get_at readers j 0 (let a = c.readers-test.true in let b = c.requires.within in omega (arith, a, b)) in
-          let guard = get_read plan.guards.items j c.index.result.now (let a = c.readers-test.true in let b = c.requires.within in let d = plan.guard_for_each in omega (arith, a, b, d)) c.index.ensures in
+          let guard = get_read plan.guards.items j c.index.result.now
+          (let a = c.readers-test.true in let b = c.requires.within in let d = plan.guard_for_each in omega (arith, a, b, d)) c.index.ensures in
           elim c.if-sees.branch [
             | then-sees w ↦
                 subst (λ l. HasMarked steps readers from (j + 1) p values c.args.marks.now l) (sym w.marks-is)

@@ -44,8 +44,11 @@ pair-requires-clause-fits c =
     let o = c.args.cell.now.op in
     let xs = c.as_slice.result.now in
     let f = c.requires.fits in
-    let fits = subst (λ (l : List Sig). CellFits n f.0 (cell_on o l)) (sym c.as_slice.ensures.value) f.1 in
-    (f.0, subst (λ (l : List Sig). CellFits n f.0 (cell_on (op.Apply c.in-Apply-op.p) l)) (two_of xs c.in-len2.len_at_least c.in-len2.len_below) (subst (λ (q : Op). CellFits n f.0 (cell_on q xs)) c.in-Apply-op.is fits))
+    let fits = subst (λ (l : List Sig). CellFits n f.0 (cell_on o l)) (sym c.as_slice.ensures.value) f.1 in (
+      f.0,
+      subst (λ (l : List Sig). CellFits n f.0 (cell_on (op.Apply c.in-Apply-op.p) l)) (two_of xs c.in-len2.len_at_least c.in-len2.len_below)
+          (subst (λ (q : Op). CellFits n f.0 (cell_on q xs)) c.in-Apply-op.is fits),
+    )
 
 pub returns-in-Apply-op : goal.returns-in-Apply-op
 returns-in-Apply-op c =
@@ -62,7 +65,8 @@ returns-in-len3 c =
     let o = c.args.cell.now.op in
     let e = c.as_slice.ensures.value in
     let f = c.requires.fits in
-    subst (λ (l : List Sig). Performs n (cell_on o l) (Choose (get_or c.as_slice.result.now 0 (record { 0 = 0 })).0 (get_or c.as_slice.result.now 1 (record { 0 = 0 })).0 (get_or c.as_slice.result.now 2 (record { 0 = 0 })).0)) e
+    subst (λ (l : List Sig). Performs n (cell_on o l) (Choose (get_or c.as_slice.result.now 0 (record { 0 = 0 })).0
+    (get_or c.as_slice.result.now 1 (record { 0 = 0 })).0 (get_or c.as_slice.result.now 2 (record { 0 = 0 })).0)) e
     (performs_mux n o c.as_slice.result.now f.0 (subst (λ (l : List Sig). CellFits n f.0 (cell_on o l)) (sym e) f.1) c.in-len3.len_at_least c.in-len3.len_below)
 
 pub returns-in_default-op : goal.returns-in_default-op

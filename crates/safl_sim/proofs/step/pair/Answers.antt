@@ -15,7 +15,8 @@ returns-in-And c =
     let b = c.args.b in
     let f = c.requires.fits in
     subst (λ (p : Primitive). Performs n (cell_on (op.Apply p) (a ∷ (b ∷ []))) c.both.result) (sym c.in-And.is)
-    (performs_both n a b f.0 c.both.result (subst (λ (p : Primitive). CellFits n f.0 (cell_on (op.Apply p) (a ∷ (b ∷ [])))) c.in-And.is f.1) (sym c.width-width.ensures ∙ c.if-width-eq1.true) c.both.ensures)
+    (performs_both n a b f.0 c.both.result (subst (λ (p : Primitive). CellFits n f.0 (cell_on (op.Apply p) (a ∷ (b ∷ [])))) c.in-And.is f.1)
+    (sym c.width-width.ensures ∙ c.if-width-eq1.true) c.both.ensures)
 
 pub returns-in-Or : goal.returns-in-Or
 returns-in-Or c =
@@ -30,4 +31,5 @@ pub returns-in_default : goal.returns-in_default
 returns-in_default c =
     let f = c.requires.fits in
     performs_alike c.args.net.now (cell_on (op.Apply c.args.p) (c.args.a ∷ (c.args.b ∷ []))) c.two.result (Two c.args.p c.width-width.result c.width.result c.args.a.0 c.args.b.0) c.two.ensures
-    (performs_two c.args.net.now c.args.p (op.Apply c.args.p) (c.args.a ∷ (c.args.b ∷ [])) f.0 c.width-width.result c.width.result c.requires.netlist f.1 (omega arith) (omega arith) refl c.width-width.ensures c.width.ensures)
+    (performs_two c.args.net.now c.args.p (op.Apply c.args.p) (c.args.a ∷ (c.args.b ∷ [])) f.0 c.width-width.result c.width.result c.requires.netlist
+    f.1 (omega arith) (omega arith) refl c.width-width.ensures c.width.ensures)

@@ -19,4 +19,6 @@ places-preserved c =
     (subst (λ (l : List ℕ). AreFlat lists l (readers ++ v) (p + 1)) (sym (c.in_ok-push-2.ensures.items ∙ ap (λ (x : ℕ). starts ++ x ∷ []) (c.in_ok-end.ensures ∙ count))) w)
 
 pub returns : goal.returns
-returns c = subst (λ k. AreFlat c.args.lists.now c.places.starts.items c.places.readers.items k) (let a = c.places-test.false in let b = c.places.auto.p-end in let d = c.requires in let z : c.places.p ≡ length c.args.lists.now = omega (arith, a, b, d) in z) c.places.invariant
+returns c = subst (λ k. AreFlat c.args.lists.now c.places.starts.items c.places.readers.items k)
+    (let a = c.places-test.false in let b = c.places.auto.p-end in let d = c.requires in let z : c.places.p ≡ length c.args.lists.now = omega
+    (arith, a, b, d) in z) c.places.invariant

@@ -25,7 +25,8 @@ operands-preserved c =
     record {
       long = c.push.ensures.long ∙ c.operands.invariant.long;
       lists = λ n ws regs s at is w. subst (λ l. AreLists n ws regs (c.args.k + 1) (c.operands.i + 1) l) (sym (c.in_ok-push.ensures.pushed v here))
-          (lists_operand n ws regs c.args.k c.operands.i s t.0 c.operands.lists v (c.operands.invariant.lists n ws regs s at is w) at (ap (λ l. slice_get l c.operands.i) is ∙ numbers_at c.args.operands.now c.operands.i none c.operands-test.true) here);
+          (lists_operand n ws regs c.args.k c.operands.i s t.0 c.operands.lists v (c.operands.invariant.lists n ws regs s at is w) at
+          (ap (λ l. slice_get l c.operands.i) is ∙ numbers_at c.args.operands.now c.operands.i none c.operands-test.true) here);
     }
 
 pub returns-clause-more : goal.returns-clause-more

@@ -9,5 +9,6 @@ use Rattle.safl_sim.proofs.table.push_operands.Given as goal
 abbrev pub invariant-operands : goal.invariant-operands
 invariant-operands l = record {
   long : length l.lists ≡ length l.initial.lists;
-  lists : (n : Netlist) (ws : List ℕ) (regs : List Register) (s : ℕ) → slice_get ws l.k ≡ Some s → operands_of n s ≡ numbers l.operands → AreLists n ws regs (l.k + 1) 0 l.initial.lists → AreLists n ws regs (l.k + 1) l.i l.lists;
+  lists : (n : Netlist) (ws : List ℕ) (regs : List Register) (s : ℕ) → slice_get ws l.k ≡ Some s → operands_of n s ≡ numbers l.operands → AreLists n
+      ws regs (l.k + 1) 0 l.initial.lists → AreLists n ws regs (l.k + 1) l.i l.lists;
 }

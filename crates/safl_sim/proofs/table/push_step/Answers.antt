@@ -14,7 +14,8 @@ push_operands-requires c = record {
   within = λ i t e.
       let is = sym c.cell.ensures ∙ ap (λ x. maybe_cell (option_copied x)) c.in-Some.is in
       let f = cell_found c.args.net.now c.args.wire.0 (cell_of c.in-Some.cell.now) c.requires.netlist is in
-      let e' : slice_get (cell_of c.in-Some.cell.now).operands i ≡ Some t.0 = get_map (λ (x : Sig). x.0) c.in-Some.cell.now.operands.items i t (ap (λ (l : List Sig). slice_get l i) (sym c.as_slice.ensures.value) ∙ e) in
+      let e' : slice_get (cell_of c.in-Some.cell.now).operands i ≡ Some t.0 = get_map (λ (x : Sig). x.0) c.in-Some.cell.now.operands.items i t
+      (ap (λ (l : List Sig). slice_get l i) (sym c.as_slice.ensures.value) ∙ e) in
       let a = f.1.known i 0 (within (cell_of c.in-Some.cell.now).operands i t.0 e') in
       let b = index_get (cell_of c.in-Some.cell.now).operands i t.0 e' in
       let d = c.requires.long in

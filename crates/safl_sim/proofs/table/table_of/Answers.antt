@@ -34,7 +34,9 @@ returns-clause-lists c =
     let nexts = subst (λ x. AreLists n ws regs x 0 c.push_nexts.new.lists) first (c.in_ok-push_nexts.ensures.all n ws first begun) in
     let gap = subst (λ x. AreLists n ws regs x 0 c.push_nexts.new.lists) many (lists_gap n ws regs c.push_nexts.new.lists nexts) in
     let done = c.in_ok-push_steps.ensures.all regs gap in
-    let places : length n.signals ≡ length c.push_steps.new.lists = (let a = c.in_ok-push_steps.ensures.long in let e = c.in_ok-push_nexts.ensures.long in let b = c.in_ok-lists.ensures.long in let d = c.signals-count.ensures.count in omega (arith, a, b, d, e)) in
+    let places : length n.signals ≡ length c.push_steps.new.lists =
+    (let a = c.in_ok-push_steps.ensures.long in let e = c.in_ok-push_nexts.ensures.long in let b = c.in_ok-lists.ensures.long in let d =
+    c.signals-count.ensures.count in omega (arith, a, b, d, e)) in
     subst (λ k. Lists c.in_ok-table.table.starts.items c.in_ok-table.table.readers.items (length n.signals) k)
     (let z : (first_register (length ws) + length regs + 63) / 64 ≡ (first_register (length c.args.wires.now) + length regs + 63) / 64 = omega (arith, many) in z)
     (table_lists n ws regs c.in_ok-table.table.starts.items c.in_ok-table.table.readers.items c.push_steps.new.lists done c.in_ok-table.ensures (length n.signals) places)

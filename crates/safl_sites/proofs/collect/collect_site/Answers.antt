@@ -21,7 +21,8 @@ returns-then-meets c =
     let common : (j : ℕ) → Adds (Has c.insert.new.self j) (Has c.add_common.new.self j) (IsCommon row (get_or P (unit_for C k) no_row) k j) =
     λ j. subst (λ (u : ℕ). Adds (Has c.insert.new.self j) (Has c.add_common.new.self j) (IsCommon row (get_or P u no_row) k j)) to (c.add_common.ensures j) in
     subst (λ (u : ℕ). IsCollected C k (slice_set c.args.arbiters.now u true) c.add_common.new.self) (sym to)
-    (collected_more C (k - 1) k B P (omega (arith, c.requires.least)) c.requires.most c.requires.conflicts c.requires.peers c.args.arbiters.now c.args.kept.now c.insert.new.self c.add_common.new.self low c.requires.collected meets c.insert.ensures common)
+    (collected_more C (k - 1) k B P (omega (arith, c.requires.least)) c.requires.most c.requires.conflicts c.requires.peers c.args.arbiters.now
+    c.args.kept.now c.insert.new.self c.add_common.new.self low c.requires.collected meets c.insert.ensures common)
 
 pub returns-else-meets : goal.returns-else-meets
 returns-else-meets c =

@@ -13,12 +13,14 @@ use Rattle.safl_sites.proofs.fill.fill_body.Goals as goal
 pub reach-requires : goal.reach-requires
 reach-requires c =
     let C = program_of c.args.c.now in
-    subst (λ (x : Term). (n : ℕ) × MayReach C c.args.units.now n x) (sym c.body-body.ensures.term) (body_may_reach c.args.c.now c.body-body.ensures.checked c.args.f _ _ _ c.requires.within c.requires.filled)
+    subst (λ (x : Term). (n : ℕ) × MayReach C c.args.units.now n x) (sym c.body-body.ensures.term)
+    (body_may_reach c.args.c.now c.body-body.ensures.checked c.args.f _ _ _ c.requires.within c.requires.filled)
 
 pub mark-requires-clause-may : goal.mark-requires-clause-may
 mark-requires-clause-may c =
     let C = program_of c.args.c.now in
-    subst (λ (x : Term). (n : ℕ) × MayReach C c.args.units.now n x) (sym c.body-body.ensures.term) (body_may_reach c.args.c.now c.body-body.ensures.checked c.args.f _ _ _ c.requires.within c.requires.filled)
+    subst (λ (x : Term). (n : ℕ) × MayReach C c.args.units.now n x) (sym c.body-body.ensures.term)
+    (body_may_reach c.args.c.now c.body-body.ensures.checked c.args.f _ _ _ c.requires.within c.requires.filled)
 
 pub bounds-units-unit : goal.bounds-units-unit
 bounds-units-unit c =
@@ -32,7 +34,8 @@ returns c =
     let f = c.args.f in
     let low = (c.body-body.ensures.checked.formed.first f c.requires.within).0 in
     let e = c.body-body.ensures.term in
-    let reached : (k : ℕ) → Adds (Has c.new-row.result k) (Has c.reach.new.row k) (Reaches C k (C.body f)) = λ k. subst (λ (x : Term). Adds (Has c.new-row.result k) (Has c.reach.new.row k) (Reaches C k x)) e (c.reach.ensures k) in
+    let reached : (k : ℕ) → Adds (Has c.new-row.result k) (Has c.reach.new.row k) (Reaches C k (C.body f)) = λ k. subst
+    (λ (x : Term). Adds (Has c.new-row.result k) (Has c.reach.new.row k) (Reaches C k x)) e (c.reach.ensures k) in
     let marked : (b k : ℕ) → Adds (HasAt c.args.after.now b k) (HasAt c.mark.new.rows b k) (Marked C (Has c.new.result k) k b (C.body f)) =
     λ b k. subst (λ (x : Term). Adds (HasAt c.args.after.now b k) (HasAt c.mark.new.rows b k) (Marked C (Has c.new.result k) k b x)) e (c.mark.ensures b k) in
     let union : (k : ℕ) → Adds (HasAt c.args.units.now (C.unit f) k) (Has c.union.new.self k) (Has c.reach.new.row k) =

@@ -8,7 +8,8 @@ use Rattle.safl_term.proofs.PlainTrees.{shown_term-Op, shown_term-Loop, shown_te
 use Rattle.safl_sites.specs.declared.site_set.SiteSet.{SiteSet}
 use Rattle.safl_sites.specs.Keeping.{MayKeep, MayKeepIn, IsHeldHere, Walks, WalksIn, Binds}
 use Rattle.safl_sites.specs.Rows.{Has, Adds}
-use Rattle.safl_sites.proofs.AbleByParts.{keep_cond, keep_then, keep_else, keep_bound, keep_body, keep_op, keep_args, keep_loop, keep_first, keep_rest, keep_tree, keep_forest, slot_within, bound_length}
+use Rattle.safl_sites.proofs.AbleByParts.{keep_cond, keep_then, keep_else, keep_bound, keep_body, keep_op, keep_args, keep_loop, keep_first}
+use Rattle.safl_sites.proofs.AbleByParts.{keep_rest, keep_tree, keep_forest, slot_within, bound_length}
 use Rattle.safl_sites.proofs.FoundByParts.{walks_const, walks_var, walks_op, walks_loop, walks_call, walks_if, walks_let, walks_none, walks_more, binds_none, binds_more}
 use Rattle.safl_sites.proofs.ReachBySites.{site_below}
 use Rattle.safl_sites.proofs.RowsByWords.{row_at}
@@ -36,8 +37,10 @@ walk-walk-requires-in-If t c =
     let R = c.args.slots.now.items in
     let e = ap shown_term c.in-If.is in
     let may : MayKeep C U P (length R) _ = subst (λ (x : Term). MayKeep C U P (length R) x) e c.requires in
-    let smaller : 2 * nodes (shown_term c.deref-in-If.result.now) < 2 * nodes (shown_term c.args.t.now) = omega (arith, ap nodes e, ap (λ (x : declared.Term). nodes (shown_term x)) c.deref-in-If.ensures) in
-    let ok : MayKeep C U P (length c.walk.new.slots.items) (shown_term c.deref-in-If.result.now) = keep_tree c.deref-in-If.ensures (ap (λ (l : List SiteSet). length l) c.in_ok-walk-in-If.ensures.same) (keep_then may) in
+    let smaller : 2 * nodes (shown_term c.deref-in-If.result.now) < 2 * nodes (shown_term c.args.t.now) = omega
+    (arith, ap nodes e, ap (λ (x : declared.Term). nodes (shown_term x)) c.deref-in-If.ensures) in
+    let ok : MayKeep C U P (length c.walk.new.slots.items) (shown_term c.deref-in-If.result.now) = keep_tree c.deref-in-If.ensures
+    (ap (λ (l : List SiteSet). length l) c.in_ok-walk-in-If.ensures.same) (keep_then may) in
     search rules
 
 pub walk-walk-requires-in-If-2 : goal.walk-walk-requires-in-If-2
@@ -48,8 +51,10 @@ walk-walk-requires-in-If-2 t c =
     let R = c.args.slots.now.items in
     let e = ap shown_term c.in-If.is in
     let may : MayKeep C U P (length R) _ = subst (λ (x : Term). MayKeep C U P (length R) x) e c.requires in
-    let smaller : 2 * nodes (shown_term c.deref-in-If-2.result.now) < 2 * nodes (shown_term c.args.t.now) = omega (arith, ap nodes e, ap (λ (x : declared.Term). nodes (shown_term x)) c.deref-in-If-2.ensures) in
-    let ok : MayKeep C U P (length c.walk-in-If.new.slots.items) (shown_term c.deref-in-If-2.result.now) = keep_tree c.deref-in-If-2.ensures (ap (λ (l : List SiteSet). length l) (c.in_ok-walk-in-If-2.ensures.same ∙ c.in_ok-walk-in-If.ensures.same)) (keep_else may) in
+    let smaller : 2 * nodes (shown_term c.deref-in-If-2.result.now) < 2 * nodes (shown_term c.args.t.now) = omega
+    (arith, ap nodes e, ap (λ (x : declared.Term). nodes (shown_term x)) c.deref-in-If-2.ensures) in
+    let ok : MayKeep C U P (length c.walk-in-If.new.slots.items) (shown_term c.deref-in-If-2.result.now) = keep_tree c.deref-in-If-2.ensures
+    (ap (λ (l : List SiteSet). length l) (c.in_ok-walk-in-If-2.ensures.same ∙ c.in_ok-walk-in-If.ensures.same)) (keep_else may) in
     search rules
 
 pub walk-bind_all-requires : goal.walk-bind_all-requires
@@ -60,7 +65,8 @@ walk-bind_all-requires t c =
     let R = c.args.slots.now.items in
     let e = ap shown_term c.in-Let.is ∙ shown_term-Let c.in-Let.field-0 c.in-Let.bound c.in-Let.body in
     let may : MayKeep C U P (length R) _ = subst (λ (x : Term). MayKeep C U P (length R) x) e c.requires in
-    let smaller : 2 * nodes_in (shown_terms c.deref-in-Let.result.now) + 1 < 2 * nodes (shown_term c.args.t.now) = omega (arith, ap nodes e, ap (λ (x : List declared.Term). nodes_in (shown_terms x)) c.deref-in-Let.ensures.value) in
+    let smaller : 2 * nodes_in (shown_terms c.deref-in-Let.result.now) + 1 < 2 * nodes (shown_term c.args.t.now) = omega
+    (arith, ap nodes e, ap (λ (x : List declared.Term). nodes_in (shown_terms x)) c.deref-in-Let.ensures.value) in
     let ok : MayKeepIn C U P (length R) (shown_terms c.deref-in-Let.result.now) = keep_forest c.deref-in-Let.ensures.value refl (keep_bound may) in
     search rules
 
@@ -82,8 +88,10 @@ walk-walk-requires-in-Let t c =
     let R = c.args.slots.now.items in
     let e = ap shown_term c.in-Let.is ∙ shown_term-Let c.in-Let.field-0 c.in-Let.bound c.in-Let.body in
     let may : MayKeep C U P (length R) _ = subst (λ (x : Term). MayKeep C U P (length R) x) e c.requires in
-    let bound : Binds C R c.bind_all.new.slots.items c.args.keeps.now c.bind_all.new.keeps (shown_terms c.in-Let.bound.items) = binds_forest c.deref-in-Let.ensures.value c.in_ok-bind_all-in-Let.ensures in
-    let smaller : 2 * nodes (shown_term c.deref-in-Let-4.result.now) < 2 * nodes (shown_term c.args.t.now) = omega (arith, ap nodes e, ap (λ (x : declared.Term). nodes (shown_term x)) c.deref-in-Let-4.ensures) in
+    let bound : Binds C R c.bind_all.new.slots.items c.args.keeps.now c.bind_all.new.keeps (shown_terms c.in-Let.bound.items) = binds_forest
+    c.deref-in-Let.ensures.value c.in_ok-bind_all-in-Let.ensures in
+    let smaller : 2 * nodes (shown_term c.deref-in-Let-4.result.now) < 2 * nodes (shown_term c.args.t.now) = omega
+    (arith, ap nodes e, ap (λ (x : declared.Term). nodes (shown_term x)) c.deref-in-Let-4.ensures) in
     let ok : MayKeep C U P (length c.bind_all.new.slots.items) (shown_term c.deref-in-Let-4.result.now) = keep_tree c.deref-in-Let-4.ensures (bound_length bound) (keep_body may) in
     search rules
 
@@ -95,7 +103,8 @@ walk-walk_all-requires t c =
     let R = c.args.slots.now.items in
     let e = ap shown_term c.in-Op.is ∙ shown_term-Op c.in-Op.field-0 c.in-Op.ts in
     let may : MayKeep C U P (length R) _ = subst (λ (x : Term). MayKeep C U P (length R) x) e c.requires in
-    let smaller : 2 * nodes_in (shown_terms c.deref-in-Op.result.now) + 1 < 2 * nodes (shown_term c.args.t.now) = omega (arith, ap nodes e, ap (λ (x : List declared.Term). nodes_in (shown_terms x)) c.deref-in-Op.ensures.value) in
+    let smaller : 2 * nodes_in (shown_terms c.deref-in-Op.result.now) + 1 < 2 * nodes (shown_term c.args.t.now) = omega
+    (arith, ap nodes e, ap (λ (x : List declared.Term). nodes_in (shown_terms x)) c.deref-in-Op.ensures.value) in
     let ok : MayKeepIn C U P (length R) (shown_terms c.deref-in-Op.result.now) = keep_forest c.deref-in-Op.ensures.value refl (keep_op may) in
     search rules
 
@@ -107,7 +116,8 @@ walk-walk_all-requires-in-Call t c =
     let R = c.args.slots.now.items in
     let e = ap shown_term c.in-Call.is ∙ shown_term-Call c.in-Call.field-0 c.in-Call.k c.in-Call.ts in
     let may : MayKeep C U P (length R) _ = subst (λ (x : Term). MayKeep C U P (length R) x) e c.requires in
-    let smaller : 2 * nodes_in (shown_terms c.deref-in-Call.result.now) + 1 < 2 * nodes (shown_term c.args.t.now) = omega (arith, ap nodes e, ap (λ (x : List declared.Term). nodes_in (shown_terms x)) c.deref-in-Call.ensures.value) in
+    let smaller : 2 * nodes_in (shown_terms c.deref-in-Call.result.now) + 1 < 2 * nodes (shown_term c.args.t.now) = omega
+    (arith, ap nodes e, ap (λ (x : List declared.Term). nodes_in (shown_terms x)) c.deref-in-Call.ensures.value) in
     let ok : MayKeepIn C U P (length R) (shown_terms c.deref-in-Call.result.now) = keep_forest c.deref-in-Call.ensures.value refl (keep_args may) in
     search rules
 
@@ -119,7 +129,8 @@ walk-walk_all-requires-in-Loop t c =
     let R = c.args.slots.now.items in
     let e = ap shown_term c.in-Loop.is ∙ shown_term-Loop c.in-Loop.field-0 c.in-Loop.ts in
     let may : MayKeep C U P (length R) _ = subst (λ (x : Term). MayKeep C U P (length R) x) e c.requires in
-    let smaller : 2 * nodes_in (shown_terms c.deref-in-Loop.result.now) + 1 < 2 * nodes (shown_term c.args.t.now) = omega (arith, ap nodes e, ap (λ (x : List declared.Term). nodes_in (shown_terms x)) c.deref-in-Loop.ensures.value) in
+    let smaller : 2 * nodes_in (shown_terms c.deref-in-Loop.result.now) + 1 < 2 * nodes (shown_term c.args.t.now) = omega
+    (arith, ap nodes e, ap (λ (x : List declared.Term). nodes_in (shown_terms x)) c.deref-in-Loop.ensures.value) in
     let ok : MayKeepIn C U P (length R) (shown_terms c.deref-in-Loop.result.now) = keep_forest c.deref-in-Loop.ensures.value refl (keep_loop may) in
     search rules
 
@@ -155,7 +166,8 @@ walk-returns-in-Var-clause-done t c =
     let within : c.in-Var.slot < length R = slot_within may in
     let is = row_at R c.in-Var.slot c.index.result.now within c.index.ensures in
     subst (λ (x : Term). Walks C R c.args.feeds.now c.union.new.self c.args.keeps.now c.args.keeps.now x) (sym e)
-    (walks_var C R c.args.feeds.now c.union.new.self c.args.keeps.now c.in-Var.slot (λ k. subst (λ (r : SiteSet). Adds (Has c.args.feeds.now k) (Has c.union.new.self k) (Has r k)) is (c.union.ensures k)))
+    (walks_var C R c.args.feeds.now c.union.new.self c.args.keeps.now c.in-Var.slot
+    (λ k. subst (λ (r : SiteSet). Adds (Has c.args.feeds.now k) (Has c.union.new.self k) (Has r k)) is (c.union.ensures k)))
 
 pub walk-index-requires : goal.walk-index-requires
 walk-index-requires t c =
@@ -180,7 +192,9 @@ walk-returns-in_ok-walk-in-If-3-clause-done t c =
     let second = walks_tree c.in_ok-walk-in-If.ensures.same c.deref-in-If.ensures c.in_ok-walk-in-If-2.ensures.done in
     let third = walks_tree (c.in_ok-walk-in-If-2.ensures.same ∙ c.in_ok-walk-in-If.ensures.same) c.deref-in-If-2.ensures c.in_ok-walk-in-If-3.ensures.done in
     subst (λ (x : Term). Walks C R c.args.feeds.now c.walk-in-If-2.new.feeds c.args.keeps.now c.walk-in-If-2.new.keeps x) (sym e)
-    (walks_if C R c.new-deciding.result c.walk.new.feeds c.args.feeds.now c.union-in-If-2.new.self c.walk-in-If.new.feeds c.walk-in-If-2.new.feeds c.args.keeps.now c.walk.new.keeps (record { decides = c.union-in-If.new.self; held = c.walk.new.keeps.held }) c.walk-in-If.new.keeps c.walk-in-If-2.new.keeps _ _ _ c.new-deciding.ensures first c.union-in-If.ensures c.union-in-If-2.ensures refl second third)
+    (walks_if C R c.new-deciding.result c.walk.new.feeds c.args.feeds.now c.union-in-If-2.new.self c.walk-in-If.new.feeds c.walk-in-If-2.new.feeds
+    c.args.keeps.now c.walk.new.keeps (record { decides = c.union-in-If.new.self; held = c.walk.new.keeps.held }) c.walk-in-If.new.keeps
+    c.walk-in-If-2.new.keeps _ _ _ c.new-deciding.ensures first c.union-in-If.ensures c.union-in-If-2.ensures refl second third)
 
 pub walk-returns-in_ok-walk-in-Let-clause-done : goal.walk-returns-in_ok-walk-in-Let-clause-done
 walk-returns-in_ok-walk-in-Let-clause-done t c =
@@ -190,13 +204,17 @@ walk-returns-in_ok-walk-in-Let-clause-done t c =
     let R = c.args.slots.now.items in
     let e = ap shown_term c.in-Let.is ∙ shown_term-Let c.in-Let.field-0 c.in-Let.bound c.in-Let.body in
     let may : MayKeep C U P (length R) _ = subst (λ (x : Term). MayKeep C U P (length R) x) e c.requires in
-    let bound : Binds C R c.bind_all.new.slots.items c.args.keeps.now c.bind_all.new.keeps (shown_terms c.in-Let.bound.items) = binds_forest c.deref-in-Let.ensures.value c.in_ok-bind_all-in-Let.ensures in
+    let bound : Binds C R c.bind_all.new.slots.items c.args.keeps.now c.bind_all.new.keeps (shown_terms c.in-Let.bound.items) = binds_forest
+    c.deref-in-Let.ensures.value c.in_ok-bind_all-in-Let.ensures in
     let M = c.bind_all.new.slots.items in
     let body = walks_tree refl c.deref-in-Let-4.ensures c.in_ok-walk-in-Let.ensures.done in
     let low : c.len-low.result ≡ length R = omega (arith, c.args.slots.now.ok.0) in
-    let here : (k : ℕ) → 1 ≤ k → k ≤ C.sites → Adds (Has c.bind_all.new.keeps.held k) (Has c.hold.new.held k) (IsHeldHere C M (length R) k (shown_term c.in-Let.body.value)) = λ k p q. held_tree c.deref-in-Let-2.ensures.value low c.deref-in-Let-3.ensures (c.hold.ensures k p q) in
+    let here : (k : ℕ) → 1 ≤ k → k ≤ C.sites → Adds (Has c.bind_all.new.keeps.held k) (Has c.hold.new.held k)
+    (IsHeldHere C M (length R) k (shown_term c.in-Let.body.value)) = λ k p q. held_tree c.deref-in-Let-2.ensures.value low
+    c.deref-in-Let-3.ensures (c.hold.ensures k p q) in
     subst (λ (x : Term). Walks C R c.args.feeds.now c.walk-in-Let.new.feeds c.args.keeps.now c.walk-in-Let.new.keeps x) (sym e)
-    (walks_let C R M c.args.feeds.now c.walk-in-Let.new.feeds c.args.keeps.now c.bind_all.new.keeps (record { decides = c.bind_all.new.keeps.decides; held = c.hold.new.held }) c.walk-in-Let.new.keeps _ _ bound refl here body)
+    (walks_let C R M c.args.feeds.now c.walk-in-Let.new.feeds c.args.keeps.now c.bind_all.new.keeps
+    (record { decides = c.bind_all.new.keeps.decides; held = c.hold.new.held }) c.walk-in-Let.new.keeps _ _ bound refl here body)
 
 pub walk-returns-in_ok-walk_all-in-Op-clause-done : goal.walk-returns-in_ok-walk_all-in-Op-clause-done
 walk-returns-in_ok-walk_all-in-Op-clause-done t c =
@@ -266,7 +284,8 @@ bind_all-bind_all-requires t c =
     let R = c.args.slots.now.items in
     let e : c.args.ts.now ≡ c.in-Some.first.now ∷ c.in-Some.rest.now = c.in-Some.ensures.cases.0 in
     let may = subst (λ (x : List declared.Term). MayKeepIn C U P (length R) (shown_terms x)) e c.requires in
-    let smaller : 2 * nodes_in (shown_terms c.in-Some.rest.now) + 1 < 2 * nodes_in (shown_terms c.args.ts.now) + 1 = omega (arith, some_node (shown_term c.in-Some.first.now), ap (λ (x : List declared.Term). nodes_in (shown_terms x)) e) in
+    let smaller : 2 * nodes_in (shown_terms c.in-Some.rest.now) + 1 < 2 * nodes_in (shown_terms c.args.ts.now) + 1 = omega
+    (arith, some_node (shown_term c.in-Some.first.now), ap (λ (x : List declared.Term). nodes_in (shown_terms x)) e) in
     let ok : MayKeepIn C U P (length c.walk.new.slots.items) (shown_terms c.in-Some.rest.now) = keep_forest refl (ap (λ (l : List SiteSet). length l) c.in_ok-walk.ensures.same) (keep_rest may) in
     search rules
 
@@ -278,7 +297,8 @@ walk_all-walk_all-requires t c =
     let R = c.args.slots.now.items in
     let e : c.args.ts.now ≡ c.in-Some.first.now ∷ c.in-Some.rest.now = c.in-Some.ensures.cases.0 in
     let may = subst (λ (x : List declared.Term). MayKeepIn C U P (length R) (shown_terms x)) e c.requires in
-    let smaller : 2 * nodes_in (shown_terms c.in-Some.rest.now) + 1 < 2 * nodes_in (shown_terms c.args.ts.now) + 1 = omega (arith, some_node (shown_term c.in-Some.first.now), ap (λ (x : List declared.Term). nodes_in (shown_terms x)) e) in
+    let smaller : 2 * nodes_in (shown_terms c.in-Some.rest.now) + 1 < 2 * nodes_in (shown_terms c.args.ts.now) + 1 = omega
+    (arith, some_node (shown_term c.in-Some.first.now), ap (λ (x : List declared.Term). nodes_in (shown_terms x)) e) in
     let ok : MayKeepIn C U P (length c.walk.new.slots.items) (shown_terms c.in-Some.rest.now) = keep_forest refl (ap (λ (l : List SiteSet). length l) c.in_ok-walk.ensures.same) (keep_rest may) in
     search rules
 

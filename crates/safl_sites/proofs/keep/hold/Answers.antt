@@ -38,7 +38,8 @@ loop-done-preserved c =
     let fed : Has used k → IsTouched S low k body = full c.new-used.result used k (c.new-used.ensures k) (c.touch.ensures k) in
     let inside : (j : ℕ) → Has within j → InBody C j body = λ j. full c.new-within.result within j (c.new-within.ensures j) (c.reach_body.ensures j) in
     let back : (j : ℕ) → InBody C j body → Has within j = λ j x. (c.reach_body.ensures j).joins x in
-    let alternatives : (((j : ℕ) → Adds (Has c.loop-done.held j) (Has c.if-contains.held j) (j ≡ k)) × IsHeldHere C S low k body) ⊎ ((c.if-contains.held ≡ c.loop-done.held) × (IsHeldHere C S low k body → ⊥)) = elim c.if-contains.branch [
+    let alternatives : (((j : ℕ) → Adds (Has c.loop-done.held j) (Has c.if-contains.held j) (j ≡ k)) × IsHeldHere C S low k body) ⊎
+    ((c.if-contains.held ≡ c.loop-done.held) × (IsHeldHere C S low k body → ⊥)) = elim c.if-contains.branch [
       | then-contains+then-meets w ↦
           let to = w.unit_for.ensures.number in
           let x : Has used k = sym c.contains.ensures ∙ w.if-contains.true in

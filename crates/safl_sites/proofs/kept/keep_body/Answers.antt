@@ -27,6 +27,9 @@ returns c = λ k.
     let S = c.in_ok-slots.slots.items in
     let count : length S ≡ arity C g = c.in_ok-slots.ensures.count ∙ c.params.ensures.count in
     let a : Keeping = record { decides = c.new.result; held = c.new-2.result } in
-    let w : Walks C S c.new-feeds.result c.walk.new.feeds a c.walk.new.keeps (C.body g) = subst (λ (x : Term). Walks C S c.new-feeds.result c.walk.new.feeds a c.walk.new.keeps x) c.body.ensures.term c.in_ok-walk.ensures.done in
+    let w : Walks C S c.new-feeds.result c.walk.new.feeds a c.walk.new.keeps (C.body g) = subst
+    (λ (x : Term). Walks C S c.new-feeds.result c.walk.new.feeds a c.walk.new.keeps x) c.body.ensures.term c.in_ok-walk.ensures.done in
     let table = λ (j : ℕ). c.requires.bodies.rows g j c.requires.within in
-    body_kept p c.body.ensures.checked g S c.args.peers.now (get_or c.args.bodies.now g no_row) c.new.result c.new.result c.new-feeds.result c.walk.new.feeds a c.walk.new.keeps c.requires.within c.requires.peers count c.in_ok-slots.ensures.empty c.new.ensures c.new-2.ensures w table k (c.keep_own.ensures k)
+    body_kept p c.body.ensures.checked g S c.args.peers.now (get_or c.args.bodies.now g no_row) c.new.result c.new.result c.new-feeds.result
+    c.walk.new.feeds a c.walk.new.keeps c.requires.within c.requires.peers count c.in_ok-slots.ensures.empty c.new.ensures c.new-2.ensures w table
+    k (c.keep_own.ensures k)

@@ -33,7 +33,8 @@ mark-mark-requires-in-If t c =
     let n = c.requires.may.0 in
     let e = ap shown_term c.in-If.is in
     let may : MayReach C U n _ = subst (λ (x : Term). MayReach C U n x) e c.requires.may.1 in
-    let smaller : 2 * nodes (shown_term c.deref-in-If.result.now) < 2 * nodes (shown_term c.args.t.now) = omega (arith, ap nodes e, ap (λ (x : declared.Term). nodes (shown_term x)) c.deref-in-If.ensures) in
+    let smaller : 2 * nodes (shown_term c.deref-in-If.result.now) < 2 * nodes (shown_term c.args.t.now) = omega
+    (arith, ap nodes e, ap (λ (x : declared.Term). nodes (shown_term x)) c.deref-in-If.ensures) in
     let ok : (m : ℕ) × MayReach C U m (shown_term c.deref-in-If.result.now) = may_tree c.deref-in-If.ensures (may_then may) in
     let room : C.sites < length c.mark.new.rows = omega (arith) in
     search rules
@@ -45,7 +46,8 @@ mark-mark-requires-in-If-2 t c =
     let n = c.requires.may.0 in
     let e = ap shown_term c.in-If.is in
     let may : MayReach C U n _ = subst (λ (x : Term). MayReach C U n x) e c.requires.may.1 in
-    let smaller : 2 * nodes (shown_term c.deref-in-If-2.result.now) < 2 * nodes (shown_term c.args.t.now) = omega (arith, ap nodes e, ap (λ (x : declared.Term). nodes (shown_term x)) c.deref-in-If-2.ensures) in
+    let smaller : 2 * nodes (shown_term c.deref-in-If-2.result.now) < 2 * nodes (shown_term c.args.t.now) = omega
+    (arith, ap nodes e, ap (λ (x : declared.Term). nodes (shown_term x)) c.deref-in-If-2.ensures) in
     let ok : (m : ℕ) × MayReach C U m (shown_term c.deref-in-If-2.result.now) = may_tree c.deref-in-If-2.ensures (may_else may) in
     let room : C.sites < length c.mark-in-If.new.rows = omega (arith) in
     search rules
@@ -57,7 +59,8 @@ mark-mark_in-requires t c =
     let n = c.requires.may.0 in
     let e = ap shown_term c.in-Let.is ∙ shown_term-Let c.in-Let.field-0 c.in-Let.bound c.in-Let.body in
     let may : MayReach C U n _ = subst (λ (x : Term). MayReach C U n x) e c.requires.may.1 in
-    let smaller : 2 * nodes_in (shown_terms c.deref-in-Let.result.now) + 1 < 2 * nodes (shown_term c.args.t.now) = omega (arith, ap nodes e, ap (λ (x : List declared.Term). nodes_in (shown_terms x)) c.deref-in-Let.ensures.value) in
+    let smaller : 2 * nodes_in (shown_terms c.deref-in-Let.result.now) + 1 < 2 * nodes (shown_term c.args.t.now) = omega
+    (arith, ap nodes e, ap (λ (x : List declared.Term). nodes_in (shown_terms x)) c.deref-in-Let.ensures.value) in
     let ok : (m : ℕ) × MayReachIn C U m (shown_terms c.deref-in-Let.result.now) = may_forest c.deref-in-Let.ensures.value (may_bound may) in
     let room : C.sites < length c.args.rows.now = omega (arith) in
     search rules
@@ -69,7 +72,8 @@ mark-mark-requires-in-Let t c =
     let n = c.requires.may.0 in
     let e = ap shown_term c.in-Let.is ∙ shown_term-Let c.in-Let.field-0 c.in-Let.bound c.in-Let.body in
     let may : MayReach C U n _ = subst (λ (x : Term). MayReach C U n x) e c.requires.may.1 in
-    let smaller : 2 * nodes (shown_term c.deref-in-Let-2.result.now) < 2 * nodes (shown_term c.args.t.now) = omega (arith, ap nodes e, ap (λ (x : declared.Term). nodes (shown_term x)) c.deref-in-Let-2.ensures) in
+    let smaller : 2 * nodes (shown_term c.deref-in-Let-2.result.now) < 2 * nodes (shown_term c.args.t.now) = omega
+    (arith, ap nodes e, ap (λ (x : declared.Term). nodes (shown_term x)) c.deref-in-Let-2.ensures) in
     let ok : (m : ℕ) × MayReach C U m (shown_term c.deref-in-Let-2.result.now) = may_tree c.deref-in-Let-2.ensures (may_body may) in
     let room : C.sites < length c.mark_in.new.rows = omega (arith) in
     search rules
@@ -81,7 +85,8 @@ mark-mark_in-requires-in-Op t c =
     let n = c.requires.may.0 in
     let e = ap shown_term c.in-Op.is ∙ shown_term-Op c.in-Op.field-0 c.in-Op.ts in
     let may : MayReach C U n _ = subst (λ (x : Term). MayReach C U n x) e c.requires.may.1 in
-    let smaller : 2 * nodes_in (shown_terms c.deref-in-Op.result.now) + 1 < 2 * nodes (shown_term c.args.t.now) = omega (arith, ap nodes e, ap (λ (x : List declared.Term). nodes_in (shown_terms x)) c.deref-in-Op.ensures.value) in
+    let smaller : 2 * nodes_in (shown_terms c.deref-in-Op.result.now) + 1 < 2 * nodes (shown_term c.args.t.now) = omega
+    (arith, ap nodes e, ap (λ (x : List declared.Term). nodes_in (shown_terms x)) c.deref-in-Op.ensures.value) in
     let ok : (m : ℕ) × MayReachIn C U m (shown_terms c.deref-in-Op.result.now) = may_forest c.deref-in-Op.ensures.value (may_op may) in
     let room : C.sites < length c.args.rows.now = omega (arith) in
     search rules
@@ -93,7 +98,8 @@ mark-mark_in-requires-in-Call t c =
     let n = c.requires.may.0 in
     let e = ap shown_term c.in-Call.is ∙ shown_term-Call c.in-Call.field-0 c.in-Call.k c.in-Call.ts in
     let may : MayReach C U n _ = subst (λ (x : Term). MayReach C U n x) e c.requires.may.1 in
-    let smaller : 2 * nodes_in (shown_terms c.deref-in-Call.result.now) + 1 < 2 * nodes (shown_term c.args.t.now) = omega (arith, ap nodes e, ap (λ (x : List declared.Term). nodes_in (shown_terms x)) c.deref-in-Call.ensures.value) in
+    let smaller : 2 * nodes_in (shown_terms c.deref-in-Call.result.now) + 1 < 2 * nodes (shown_term c.args.t.now) = omega
+    (arith, ap nodes e, ap (λ (x : List declared.Term). nodes_in (shown_terms x)) c.deref-in-Call.ensures.value) in
     let ok : (m : ℕ) × MayReachIn C U m (shown_terms c.deref-in-Call.result.now) = may_forest c.deref-in-Call.ensures.value (may_args may) in
     let room : C.sites < length (slice_set c.args.rows.now c.in-Call.k c.union.new.self) = omega (arith, length-set c.args.rows.now c.in-Call.k c.union.new.self) in
     search rules
@@ -105,7 +111,8 @@ mark-mark_in-requires-in-Loop t c =
     let n = c.requires.may.0 in
     let e = ap shown_term c.in-Loop.is ∙ shown_term-Loop c.in-Loop.field-0 c.in-Loop.ts in
     let may : MayReach C U n _ = subst (λ (x : Term). MayReach C U n x) e c.requires.may.1 in
-    let smaller : 2 * nodes_in (shown_terms c.deref-in-Loop.result.now) + 1 < 2 * nodes (shown_term c.args.t.now) = omega (arith, ap nodes e, ap (λ (x : List declared.Term). nodes_in (shown_terms x)) c.deref-in-Loop.ensures.value) in
+    let smaller : 2 * nodes_in (shown_terms c.deref-in-Loop.result.now) + 1 < 2 * nodes (shown_term c.args.t.now) = omega
+    (arith, ap nodes e, ap (λ (x : List declared.Term). nodes_in (shown_terms x)) c.deref-in-Loop.ensures.value) in
     let ok : (m : ℕ) × MayReachIn C U m (shown_terms c.deref-in-Loop.result.now) = may_forest c.deref-in-Loop.ensures.value (may_loop may) in
     let room : C.sites < length c.args.rows.now = omega (arith) in
     search rules
@@ -116,7 +123,8 @@ mark-returns-in-If t c = λ b k.
     let B = Has c.args.before.now k in
     let e = ap shown_term c.in-If.is in
     subst (λ (x : Term). Adds (HasAt c.args.rows.now b k) (HasAt c.mark-in-If-2.new.rows b k) (Marked C B k b x)) (sym e)
-    (mark_if C B k b _ _ _ (adds_then (adds_then (mark_tree C B k b c.deref.ensures (c.mark.ensures b k)) (mark_tree C B k b c.deref-in-If.ensures (c.mark-in-If.ensures b k))) (mark_tree C B k b c.deref-in-If-2.ensures (c.mark-in-If-2.ensures b k))))
+    (mark_if C B k b _ _ _ (adds_then (adds_then (mark_tree C B k b c.deref.ensures (c.mark.ensures b k))
+    (mark_tree C B k b c.deref-in-If.ensures (c.mark-in-If.ensures b k))) (mark_tree C B k b c.deref-in-If-2.ensures (c.mark-in-If-2.ensures b k))))
 
 pub mark-returns-in-Let : goal.mark-returns-in-Let
 mark-returns-in-Let t c = λ b k.
@@ -161,15 +169,20 @@ mark-returns-in-Call t c = λ b k.
     let B = Has c.args.before.now k in
     let within : c.in-Call.k < length c.args.rows.now = omega (arith, (may_call may).most, c.requires.room) in
     subst (λ (x : Term). Adds (HasAt c.args.rows.now b k) (HasAt c.mark_in-in-Call.new.rows b k) (Marked C B k b x)) (sym e)
-    (mark_call C B k b _ _ _ (adds_then (row_more c.args.rows.now c.in-Call.k c.union.new.self b k within (c.union.ensures k)) (mark_forest C B k b c.deref-in-Call.ensures.value (c.mark_in-in-Call.ensures b k))))
+    (mark_call C B k b _ _ _ (adds_then (row_more c.args.rows.now c.in-Call.k c.union.new.self b k within (c.union.ensures k))
+    (mark_forest C B k b c.deref-in-Call.ensures.value (c.mark_in-in-Call.ensures b k))))
 
 pub mark-returns-in-Const : goal.mark-returns-in-Const
 mark-returns-in-Const t c = λ b k.
-    subst (λ (x : Term). Adds (HasAt c.args.rows.now b k) (HasAt c.args.rows.now b k) (Marked (program_of c.args.c.now) (Has c.args.before.now k) k b x)) (sym (ap shown_term c.in-Const.is)) (adds_none (mark_const (program_of c.args.c.now) (Has c.args.before.now k) k b _))
+    subst (λ (x : Term). Adds (HasAt c.args.rows.now b k) (HasAt c.args.rows.now b k)
+    (Marked (program_of c.args.c.now) (Has c.args.before.now k) k b x)) (sym (ap shown_term c.in-Const.is))
+    (adds_none (mark_const (program_of c.args.c.now) (Has c.args.before.now k) k b _))
 
 pub mark-returns-in-Var : goal.mark-returns-in-Var
 mark-returns-in-Var t c = λ b k.
-    subst (λ (x : Term). Adds (HasAt c.args.rows.now b k) (HasAt c.args.rows.now b k) (Marked (program_of c.args.c.now) (Has c.args.before.now k) k b x)) (sym (ap shown_term c.in-Var.is)) (adds_none (mark_var (program_of c.args.c.now) (Has c.args.before.now k) k b _))
+    subst (λ (x : Term). Adds (HasAt c.args.rows.now b k) (HasAt c.args.rows.now b k)
+    (Marked (program_of c.args.c.now) (Has c.args.before.now k) k b x)) (sym (ap shown_term c.in-Var.is))
+    (adds_none (mark_var (program_of c.args.c.now) (Has c.args.before.now k) k b _))
 
 pub mark_in-mark-requires : goal.mark_in-mark-requires
 mark_in-mark-requires t c =
@@ -199,7 +212,8 @@ mark_in-mark_in-requires t c =
     let n = c.requires.may.0 in
     let e : c.args.ts.now ≡ c.in-Some.first.now ∷ c.in-Some.rest.now = c.in-Some.ensures.cases.0 in
     let may = subst (λ (x : List declared.Term). MayReachIn C U n (shown_terms x)) e c.requires.may.1 in
-    let smaller : 2 * nodes_in (shown_terms c.in-Some.rest.now) + 1 < 2 * nodes_in (shown_terms c.args.ts.now) + 1 = omega (arith, some_node (shown_term c.in-Some.first.now), ap (λ (x : List declared.Term). nodes_in (shown_terms x)) e) in
+    let smaller : 2 * nodes_in (shown_terms c.in-Some.rest.now) + 1 < 2 * nodes_in (shown_terms c.args.ts.now) + 1 = omega
+    (arith, some_node (shown_term c.in-Some.first.now), ap (λ (x : List declared.Term). nodes_in (shown_terms x)) e) in
     let ok : (m : ℕ) × MayReachIn C U m (shown_terms c.in-Some.rest.now) = (n, may_rest may) in
     let room : C.sites < length c.mark.new.rows = omega (arith) in
     search rules
@@ -214,4 +228,6 @@ mark_in-returns-in-Some t c = λ b k.
 pub mark_in-returns-in_default : goal.mark_in-returns-in_default
 mark_in-returns-in_default t c = λ b k.
     let e : c.args.ts.now ≡ [] = empty_list c.args.ts.now c.in_default.ensures.cases in
-    subst (λ (x : List declared.Term). Adds (HasAt c.args.rows.now b k) (HasAt c.args.rows.now b k) (MarkedIn (program_of c.args.c.now) (Has c.args.before.now k) k b (shown_terms x))) (sym e) (adds_none (mark_nil (program_of c.args.c.now) (Has c.args.before.now k) k b))
+    subst (λ (x : List declared.Term). Adds (HasAt c.args.rows.now b k) (HasAt c.args.rows.now b k)
+    (MarkedIn (program_of c.args.c.now) (Has c.args.before.now k) k b (shown_terms x))) (sym e)
+    (adds_none (mark_nil (program_of c.args.c.now) (Has c.args.before.now k) k b))

@@ -10,7 +10,8 @@ use Rattle.safl_sites.specs.Reach.{MayReach, MayReachIn}
 use Rattle.safl_sites.specs.Rows.{Has, Adds}
 use Rattle.safl_sites.proofs.AddsInSteps.{adds_then, adds_none}
 use Rattle.safl_sites.proofs.PartsOfParts.{may_cond, may_then, may_else, may_bound, may_body, may_op, may_args, may_loop, may_first, may_rest, may_call, may_tree, may_forest}
-use Rattle.safl_sites.proofs.ReachBySites.{reach_if, reach_let, reach_op, reach_loop, reach_call, reach_more, reach_leaf, none_const, none_var, none_nil, same_tree, same_forest, row_of_unit, site_below}
+use Rattle.safl_sites.proofs.ReachBySites.{reach_if, reach_let, reach_op, reach_loop, reach_call, reach_more, reach_leaf, none_const, none_var}
+use Rattle.safl_sites.proofs.ReachBySites.{none_nil, same_tree, same_forest, row_of_unit, site_below}
 use Rattle.safl_sites.proofs.NodesOfTerms.{some_node, empty_list}
 use Rattle.safl_sites.proofs.reach.+reach.Goals as goal
 
@@ -32,7 +33,8 @@ reach-reach-requires-in-If t c =
     let n = c.requires.0 in
     let e = ap shown_term c.in-If.is in
     let may : MayReach C U n _ = subst (λ (x : Term). MayReach C U n x) e c.requires.1 in
-    let smaller : 2 * nodes (shown_term c.deref-in-If.result.now) < 2 * nodes (shown_term c.args.t.now) = omega (arith, ap nodes e, ap (λ (x : declared.Term). nodes (shown_term x)) c.deref-in-If.ensures) in
+    let smaller : 2 * nodes (shown_term c.deref-in-If.result.now) < 2 * nodes (shown_term c.args.t.now) = omega
+    (arith, ap nodes e, ap (λ (x : declared.Term). nodes (shown_term x)) c.deref-in-If.ensures) in
     let ok : (m : ℕ) × MayReach C U m (shown_term c.deref-in-If.result.now) = may_tree c.deref-in-If.ensures (may_then may) in
     search rules
 
@@ -43,7 +45,8 @@ reach-reach-requires-in-If-2 t c =
     let n = c.requires.0 in
     let e = ap shown_term c.in-If.is in
     let may : MayReach C U n _ = subst (λ (x : Term). MayReach C U n x) e c.requires.1 in
-    let smaller : 2 * nodes (shown_term c.deref-in-If-2.result.now) < 2 * nodes (shown_term c.args.t.now) = omega (arith, ap nodes e, ap (λ (x : declared.Term). nodes (shown_term x)) c.deref-in-If-2.ensures) in
+    let smaller : 2 * nodes (shown_term c.deref-in-If-2.result.now) < 2 * nodes (shown_term c.args.t.now) = omega
+    (arith, ap nodes e, ap (λ (x : declared.Term). nodes (shown_term x)) c.deref-in-If-2.ensures) in
     let ok : (m : ℕ) × MayReach C U m (shown_term c.deref-in-If-2.result.now) = may_tree c.deref-in-If-2.ensures (may_else may) in
     search rules
 
@@ -54,7 +57,8 @@ reach-reach_in-requires t c =
     let n = c.requires.0 in
     let e = ap shown_term c.in-Let.is ∙ shown_term-Let c.in-Let.field-0 c.in-Let.bound c.in-Let.body in
     let may : MayReach C U n _ = subst (λ (x : Term). MayReach C U n x) e c.requires.1 in
-    let smaller : 2 * nodes_in (shown_terms c.deref-in-Let.result.now) + 1 < 2 * nodes (shown_term c.args.t.now) = omega (arith, ap nodes e, ap (λ (x : List declared.Term). nodes_in (shown_terms x)) c.deref-in-Let.ensures.value) in
+    let smaller : 2 * nodes_in (shown_terms c.deref-in-Let.result.now) + 1 < 2 * nodes (shown_term c.args.t.now) = omega
+    (arith, ap nodes e, ap (λ (x : List declared.Term). nodes_in (shown_terms x)) c.deref-in-Let.ensures.value) in
     let ok : (m : ℕ) × MayReachIn C U m (shown_terms c.deref-in-Let.result.now) = may_forest c.deref-in-Let.ensures.value (may_bound may) in
     search rules
 
@@ -65,7 +69,8 @@ reach-reach-requires-in-Let t c =
     let n = c.requires.0 in
     let e = ap shown_term c.in-Let.is ∙ shown_term-Let c.in-Let.field-0 c.in-Let.bound c.in-Let.body in
     let may : MayReach C U n _ = subst (λ (x : Term). MayReach C U n x) e c.requires.1 in
-    let smaller : 2 * nodes (shown_term c.deref-in-Let-2.result.now) < 2 * nodes (shown_term c.args.t.now) = omega (arith, ap nodes e, ap (λ (x : declared.Term). nodes (shown_term x)) c.deref-in-Let-2.ensures) in
+    let smaller : 2 * nodes (shown_term c.deref-in-Let-2.result.now) < 2 * nodes (shown_term c.args.t.now) = omega
+    (arith, ap nodes e, ap (λ (x : declared.Term). nodes (shown_term x)) c.deref-in-Let-2.ensures) in
     let ok : (m : ℕ) × MayReach C U m (shown_term c.deref-in-Let-2.result.now) = may_tree c.deref-in-Let-2.ensures (may_body may) in
     search rules
 
@@ -76,7 +81,8 @@ reach-reach_in-requires-in-Op t c =
     let n = c.requires.0 in
     let e = ap shown_term c.in-Op.is ∙ shown_term-Op c.in-Op.field-0 c.in-Op.ts in
     let may : MayReach C U n _ = subst (λ (x : Term). MayReach C U n x) e c.requires.1 in
-    let smaller : 2 * nodes_in (shown_terms c.deref-in-Op.result.now) + 1 < 2 * nodes (shown_term c.args.t.now) = omega (arith, ap nodes e, ap (λ (x : List declared.Term). nodes_in (shown_terms x)) c.deref-in-Op.ensures.value) in
+    let smaller : 2 * nodes_in (shown_terms c.deref-in-Op.result.now) + 1 < 2 * nodes (shown_term c.args.t.now) = omega
+    (arith, ap nodes e, ap (λ (x : List declared.Term). nodes_in (shown_terms x)) c.deref-in-Op.ensures.value) in
     let ok : (m : ℕ) × MayReachIn C U m (shown_terms c.deref-in-Op.result.now) = may_forest c.deref-in-Op.ensures.value (may_op may) in
     search rules
 
@@ -87,7 +93,8 @@ reach-reach_in-requires-in-Call t c =
     let n = c.requires.0 in
     let e = ap shown_term c.in-Call.is ∙ shown_term-Call c.in-Call.f c.in-Call.k c.in-Call.ts in
     let may : MayReach C U n _ = subst (λ (x : Term). MayReach C U n x) e c.requires.1 in
-    let smaller : 2 * nodes_in (shown_terms c.deref-in-Call.result.now) + 1 < 2 * nodes (shown_term c.args.t.now) = omega (arith, ap nodes e, ap (λ (x : List declared.Term). nodes_in (shown_terms x)) c.deref-in-Call.ensures.value) in
+    let smaller : 2 * nodes_in (shown_terms c.deref-in-Call.result.now) + 1 < 2 * nodes (shown_term c.args.t.now) = omega
+    (arith, ap nodes e, ap (λ (x : List declared.Term). nodes_in (shown_terms x)) c.deref-in-Call.ensures.value) in
     let ok : (m : ℕ) × MayReachIn C U m (shown_terms c.deref-in-Call.result.now) = may_forest c.deref-in-Call.ensures.value (may_args may) in
     search rules
 
@@ -98,7 +105,8 @@ reach-reach_in-requires-in-Loop t c =
     let n = c.requires.0 in
     let e = ap shown_term c.in-Loop.is ∙ shown_term-Loop c.in-Loop.field-0 c.in-Loop.ts in
     let may : MayReach C U n _ = subst (λ (x : Term). MayReach C U n x) e c.requires.1 in
-    let smaller : 2 * nodes_in (shown_terms c.deref-in-Loop.result.now) + 1 < 2 * nodes (shown_term c.args.t.now) = omega (arith, ap nodes e, ap (λ (x : List declared.Term). nodes_in (shown_terms x)) c.deref-in-Loop.ensures.value) in
+    let smaller : 2 * nodes_in (shown_terms c.deref-in-Loop.result.now) + 1 < 2 * nodes (shown_term c.args.t.now) = omega
+    (arith, ap nodes e, ap (λ (x : List declared.Term). nodes_in (shown_terms x)) c.deref-in-Loop.ensures.value) in
     let ok : (m : ℕ) × MayReachIn C U m (shown_terms c.deref-in-Loop.result.now) = may_forest c.deref-in-Loop.ensures.value (may_loop may) in
     search rules
 
@@ -107,7 +115,8 @@ reach-returns-in-If t c = λ k.
     let C = program_of c.args.c.now in
     let e = ap shown_term c.in-If.is in
     subst (λ (x : Term). Adds (Has c.args.row.now k) (Has c.reach-in-If-2.new.row k) (Reaches C k x)) (sym e)
-    (reach_if (adds_then (adds_then (same_tree C k c.deref.ensures (c.reach.ensures k)) (same_tree C k c.deref-in-If.ensures (c.reach-in-If.ensures k))) (same_tree C k c.deref-in-If-2.ensures (c.reach-in-If-2.ensures k))))
+    (reach_if (adds_then (adds_then (same_tree C k c.deref.ensures (c.reach.ensures k))
+    (same_tree C k c.deref-in-If.ensures (c.reach-in-If.ensures k))) (same_tree C k c.deref-in-If-2.ensures (c.reach-in-If-2.ensures k))))
 
 pub reach-returns-in-Let : goal.reach-returns-in-Let
 reach-returns-in-Let t c = λ k.
@@ -187,7 +196,8 @@ reach_in-reach_in-requires t c =
     let n = c.requires.0 in
     let e : c.args.ts.now ≡ c.in-Some.first.now ∷ c.in-Some.rest.now = c.in-Some.ensures.cases.0 in
     let may = subst (λ (x : List declared.Term). MayReachIn C U n (shown_terms x)) e c.requires.1 in
-    let smaller : 2 * nodes_in (shown_terms c.in-Some.rest.now) + 1 < 2 * nodes_in (shown_terms c.args.ts.now) + 1 = omega (arith, some_node (shown_term c.in-Some.first.now), ap (λ (x : List declared.Term). nodes_in (shown_terms x)) e) in
+    let smaller : 2 * nodes_in (shown_terms c.in-Some.rest.now) + 1 < 2 * nodes_in (shown_terms c.args.ts.now) + 1 = omega
+    (arith, some_node (shown_term c.in-Some.first.now), ap (λ (x : List declared.Term). nodes_in (shown_terms x)) e) in
     let ok : (m : ℕ) × MayReachIn C U m (shown_terms c.in-Some.rest.now) = (n, may_rest may) in
     search rules
 

@@ -22,43 +22,50 @@ touch-touch-requires t c =
 pub touch-touch-requires-in-If : goal.touch-touch-requires-in-If
 touch-touch-requires-in-If t c =
     let e = ap shown_term c.in-If.is in
-    let smaller : 2 * nodes (shown_term c.deref-in-If.result.now) < 2 * nodes (shown_term c.args.t.now) = omega (arith, ap nodes e, ap (λ (x : declared.Term). nodes (shown_term x)) c.deref-in-If.ensures) in
+    let smaller : 2 * nodes (shown_term c.deref-in-If.result.now) < 2 * nodes (shown_term c.args.t.now) = omega
+    (arith, ap nodes e, ap (λ (x : declared.Term). nodes (shown_term x)) c.deref-in-If.ensures) in
     search rules
 
 pub touch-touch-requires-in-If-2 : goal.touch-touch-requires-in-If-2
 touch-touch-requires-in-If-2 t c =
     let e = ap shown_term c.in-If.is in
-    let smaller : 2 * nodes (shown_term c.deref-in-If-2.result.now) < 2 * nodes (shown_term c.args.t.now) = omega (arith, ap nodes e, ap (λ (x : declared.Term). nodes (shown_term x)) c.deref-in-If-2.ensures) in
+    let smaller : 2 * nodes (shown_term c.deref-in-If-2.result.now) < 2 * nodes (shown_term c.args.t.now) = omega
+    (arith, ap nodes e, ap (λ (x : declared.Term). nodes (shown_term x)) c.deref-in-If-2.ensures) in
     search rules
 
 pub touch-touch_in-requires : goal.touch-touch_in-requires
 touch-touch_in-requires t c =
     let e = ap shown_term c.in-Let.is ∙ shown_term-Let c.in-Let.field-0 c.in-Let.bound c.in-Let.body in
-    let smaller : 2 * nodes_in (shown_terms c.deref-in-Let.result.now) + 1 < 2 * nodes (shown_term c.args.t.now) = omega (arith, ap nodes e, ap (λ (x : List declared.Term). nodes_in (shown_terms x)) c.deref-in-Let.ensures.value) in
+    let smaller : 2 * nodes_in (shown_terms c.deref-in-Let.result.now) + 1 < 2 * nodes (shown_term c.args.t.now) = omega
+    (arith, ap nodes e, ap (λ (x : List declared.Term). nodes_in (shown_terms x)) c.deref-in-Let.ensures.value) in
     search rules
 
 pub touch-touch-requires-in-Let : goal.touch-touch-requires-in-Let
 touch-touch-requires-in-Let t c =
     let e = ap shown_term c.in-Let.is ∙ shown_term-Let c.in-Let.field-0 c.in-Let.bound c.in-Let.body in
-    let smaller : 2 * nodes (shown_term c.deref-in-Let-2.result.now) < 2 * nodes (shown_term c.args.t.now) = omega (arith, ap nodes e, ap (λ (x : declared.Term). nodes (shown_term x)) c.deref-in-Let-2.ensures) in
+    let smaller : 2 * nodes (shown_term c.deref-in-Let-2.result.now) < 2 * nodes (shown_term c.args.t.now) = omega
+    (arith, ap nodes e, ap (λ (x : declared.Term). nodes (shown_term x)) c.deref-in-Let-2.ensures) in
     search rules
 
 pub touch-touch_in-requires-in-Op : goal.touch-touch_in-requires-in-Op
 touch-touch_in-requires-in-Op t c =
     let e = ap shown_term c.in-Op.is ∙ shown_term-Op c.in-Op.field-0 c.in-Op.ts in
-    let smaller : 2 * nodes_in (shown_terms c.deref-in-Op.result.now) + 1 < 2 * nodes (shown_term c.args.t.now) = omega (arith, ap nodes e, ap (λ (x : List declared.Term). nodes_in (shown_terms x)) c.deref-in-Op.ensures.value) in
+    let smaller : 2 * nodes_in (shown_terms c.deref-in-Op.result.now) + 1 < 2 * nodes (shown_term c.args.t.now) = omega
+    (arith, ap nodes e, ap (λ (x : List declared.Term). nodes_in (shown_terms x)) c.deref-in-Op.ensures.value) in
     search rules
 
 pub touch-touch_in-requires-in-Call : goal.touch-touch_in-requires-in-Call
 touch-touch_in-requires-in-Call t c =
     let e = ap shown_term c.in-Call.is ∙ shown_term-Call c.in-Call.field-0 c.in-Call.field-1 c.in-Call.ts in
-    let smaller : 2 * nodes_in (shown_terms c.deref-in-Call.result.now) + 1 < 2 * nodes (shown_term c.args.t.now) = omega (arith, ap nodes e, ap (λ (x : List declared.Term). nodes_in (shown_terms x)) c.deref-in-Call.ensures.value) in
+    let smaller : 2 * nodes_in (shown_terms c.deref-in-Call.result.now) + 1 < 2 * nodes (shown_term c.args.t.now) = omega
+    (arith, ap nodes e, ap (λ (x : List declared.Term). nodes_in (shown_terms x)) c.deref-in-Call.ensures.value) in
     search rules
 
 pub touch-touch_in-requires-in-Loop : goal.touch-touch_in-requires-in-Loop
 touch-touch_in-requires-in-Loop t c =
     let e = ap shown_term c.in-Loop.is ∙ shown_term-Loop c.in-Loop.field-0 c.in-Loop.ts in
-    let smaller : 2 * nodes_in (shown_terms c.deref-in-Loop.result.now) + 1 < 2 * nodes (shown_term c.args.t.now) = omega (arith, ap nodes e, ap (λ (x : List declared.Term). nodes_in (shown_terms x)) c.deref-in-Loop.ensures.value) in
+    let smaller : 2 * nodes_in (shown_terms c.deref-in-Loop.result.now) + 1 < 2 * nodes (shown_term c.args.t.now) = omega
+    (arith, ap nodes e, ap (λ (x : List declared.Term). nodes_in (shown_terms x)) c.deref-in-Loop.ensures.value) in
     search rules
 
 pub touch-returns-in-If : goal.touch-returns-in-If
@@ -67,7 +74,8 @@ touch-returns-in-If t c = λ k.
     let low = c.args.low in
     let e = ap shown_term c.in-If.is in
     subst (λ (x : Term). Adds (Has c.args.row.now k) (Has c.touch-in-If-2.new.row k) (IsTouched R low k x)) (sym e)
-    (touch_if R low k _ _ _ (adds_then (adds_then (touch_tree R low k c.deref.ensures (c.touch.ensures k)) (touch_tree R low k c.deref-in-If.ensures (c.touch-in-If.ensures k))) (touch_tree R low k c.deref-in-If-2.ensures (c.touch-in-If-2.ensures k))))
+    (touch_if R low k _ _ _ (adds_then (adds_then (touch_tree R low k c.deref.ensures (c.touch.ensures k))
+    (touch_tree R low k c.deref-in-If.ensures (c.touch-in-If.ensures k))) (touch_tree R low k c.deref-in-If-2.ensures (c.touch-in-If-2.ensures k))))
 
 pub touch-returns-in-Let : goal.touch-returns-in-Let
 touch-returns-in-Let t c = λ k.
@@ -116,7 +124,8 @@ touch_in-touch-requires t c =
 pub touch_in-touch_in-requires : goal.touch_in-touch_in-requires
 touch_in-touch_in-requires t c =
     let e : c.args.ts.now ≡ c.in-Some.first.now ∷ c.in-Some.rest.now = c.in-Some.ensures.cases.0 in
-    let smaller : 2 * nodes_in (shown_terms c.in-Some.rest.now) + 1 < 2 * nodes_in (shown_terms c.args.ts.now) + 1 = omega (arith, some_node (shown_term c.in-Some.first.now), ap (λ (x : List declared.Term). nodes_in (shown_terms x)) e) in
+    let smaller : 2 * nodes_in (shown_terms c.in-Some.rest.now) + 1 < 2 * nodes_in (shown_terms c.args.ts.now) + 1 = omega
+    (arith, some_node (shown_term c.in-Some.first.now), ap (λ (x : List declared.Term). nodes_in (shown_terms x)) e) in
     search rules
 
 pub touch_in-returns-in-Some : goal.touch_in-returns-in-Some
@@ -138,7 +147,8 @@ pub touch-returns-then-slot-slots : goal.touch-returns-then-slot-slots
 touch-returns-then-slot-slots t c = λ k.
     let R = c.args.slots.now in
     let low = c.args.low in
-    subst (λ (x : Term). Adds (Has c.args.row.now k) (Has c.union.new.self k) (IsTouched R low k x)) (sym (ap shown_term c.in-Var.is)) (touch_var R low k c.in-Var.slot c.if-low-slot.true (c.union.ensures k))
+    subst (λ (x : Term). Adds (Has c.args.row.now k) (Has c.union.new.self k) (IsTouched R low k x)) (sym (ap shown_term c.in-Var.is))
+    (touch_var R low k c.in-Var.slot c.if-low-slot.true (c.union.ensures k))
 
 pub touch-returns-else-low-slot : goal.touch-returns-else-low-slot
 touch-returns-else-low-slot t c = λ k.

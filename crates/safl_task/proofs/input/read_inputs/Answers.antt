@@ -8,7 +8,8 @@ returns-in-Err-clause-refused g c =
     let old : ShelfState = g.S.Shelf.told c.args.shelf.now in
     let mid : ShelfState = g.S.Shelf.told c.inputs.shelf in
     let new : ShelfState = g.S.Shelf.told c.read_input.new.shelf in
-    refused_next c.args.inputs.now c.inputs.i _ c.inputs-test.true old mid new (shown_contents c.inputs.contents.items) c.inputs.invariant.read c.inputs.invariant.only_reads c.in-Err.unread c.in-Err.ensures.refused
+    refused_next c.args.inputs.now c.inputs.i _ c.inputs-test.true old mid new (shown_contents c.inputs.contents.items) c.inputs.invariant.read
+    c.inputs.invariant.only_reads c.in-Err.unread c.in-Err.ensures.refused
 
 pub returns-in-Err-clause-no_stray : goal.returns-in-Err-clause-no_stray
 returns-in-Err-clause-no_stray g c =
@@ -23,7 +24,8 @@ inputs-preserved g c =
     let mid : ShelfState = g.S.Shelf.told c.inputs.shelf in
     let new : ShelfState = g.S.Shelf.told c.read_input.new.shelf in
     record {
-      read = contents_next c.args.inputs.now c.inputs.i _ c.inputs-test.true old mid c.inputs.invariant.only_reads.files c.inputs.contents.items c.push.new.self.items c.in-Ok.bytes c.in-Ok-push.ensures.items c.inputs.invariant.read c.in-Ok.ensures.small c.in-Ok.ensures.read;
+      read = contents_next c.args.inputs.now c.inputs.i _ c.inputs-test.true old mid c.inputs.invariant.only_reads.files c.inputs.contents.items
+          c.push.new.self.items c.in-Ok.bytes c.in-Ok-push.ensures.items c.inputs.invariant.read c.in-Ok.ensures.small c.in-Ok.ensures.read;
       only_reads = reads_on old mid new c.inputs.invariant.only_reads c.in-Ok.ensures.only_reads;
       no_stray = strays_next c.args.inputs.now c.inputs.i _ c.inputs-test.true old mid new c.inputs.invariant.only_reads.files c.inputs.invariant.no_stray c.in-Ok.ensures.no_stray;
     }

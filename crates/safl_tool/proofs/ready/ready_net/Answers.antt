@@ -9,5 +9,6 @@ pub returns-clause-ready : goal.returns-clause-ready
 returns-clause-ready c = record {
   net = ap (λ (s : Simulation). s.net) c.in-Ok-new.ensures.made;
   fresh = ap (λ (s : Simulation). s.state) c.in-Ok-new.ensures.made;
-  read = subst (λ (l : List ℕ). AreArguments l (map string_bytes c.args.args.now) c.in-Ok-read_arguments.words.items) (c.deref.ensures.value ∙ (c.in-Ok.ensures ∙ ap (λ (x : Netlist). argument_widths x.signals) c.net.ensures.net)) c.in-Ok-read_arguments.ensures.read;
+  read = subst (λ (l : List ℕ). AreArguments l (map string_bytes c.args.args.now) c.in-Ok-read_arguments.words.items)
+      (c.deref.ensures.value ∙ (c.in-Ok.ensures ∙ ap (λ (x : Netlist). argument_widths x.signals) c.net.ensures.net)) c.in-Ok-read_arguments.ensures.read;
 }

@@ -29,8 +29,10 @@ returns-in-Ok-copy_checked-clause-gives c =
     let es = shown_program c.in-Ok-copy_checked.copy in
     let number : c.in-Some.number ≡ c.args.site = c.in-Some.ensures.number in
     both_ok c.text_of.result (λ t. t.items ≡ printed es) (λ t. length (printed es) ≤ source_max) (λ t. GivesReshaped (copies c.args.site) c.args.source.now (only_writes t.items))
-    (λ t e short. reshaped_given (copies c.args.site) c.args.name.now c.args.site c.args.source.now ds c.in-Ok.ensures.spelled (shown c.in-Ok.accepted.checked, c.in-Ok.ensures.form) c.printed_form_law.ensures es
-    c.in-Ok-copy_checked.ensures.printable (subst (λ (k : ℕ). IsCopied ds k es) number c.in-Ok-copy_checked.ensures.copied) c.in-Ok-copy_checked.ensures.alike (only_writes t.items) (ap only_writes e) short)
+    (λ t e short. reshaped_given (copies c.args.site) c.args.name.now c.args.site c.args.source.now ds c.in-Ok.ensures.spelled
+    (shown c.in-Ok.accepted.checked, c.in-Ok.ensures.form) c.printed_form_law.ensures es
+    c.in-Ok-copy_checked.ensures.printable (subst (λ (k : ℕ). IsCopied ds k es) number c.in-Ok-copy_checked.ensures.copied)
+    c.in-Ok-copy_checked.ensures.alike (only_writes t.items) (ap only_writes e) short)
     c.text_of.ensures.text c.text_of.ensures.short
 
 pub returns-in-Ok-copy_checked-clause-refused : goal.returns-in-Ok-copy_checked-clause-refused

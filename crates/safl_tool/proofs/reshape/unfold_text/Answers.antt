@@ -29,8 +29,10 @@ returns-in-Ok-unfold_checked-clause-gives c =
     let es = shown_program c.in-Ok-unfold_checked.unfolded in
     let number : c.in-Some.number ≡ c.args.site = c.in-Some.ensures.number in
     both_ok c.text_of.result (λ t. t.items ≡ printed es) (λ t. length (printed es) ≤ source_max) (λ t. GivesReshaped (unfolds c.args.site) c.args.source.now (only_writes t.items))
-    (λ t e short. reshaped_given (unfolds c.args.site) c.args.name.now c.args.site c.args.source.now ds c.in-Ok.ensures.spelled (shown c.in-Ok.accepted.checked, c.in-Ok.ensures.form) c.printed_form_law.ensures es
-    c.in-Ok-unfold_checked.ensures.printable (subst (λ (k : ℕ). IsUnfolded ds k es) number c.in-Ok-unfold_checked.ensures.unfolded) (subst (λ (k : ℕ). GivesSparing k ds es) number c.in-Ok-unfold_checked.ensures.sparing) (only_writes t.items) (ap only_writes e) short)
+    (λ t e short. reshaped_given (unfolds c.args.site) c.args.name.now c.args.site c.args.source.now ds c.in-Ok.ensures.spelled
+    (shown c.in-Ok.accepted.checked, c.in-Ok.ensures.form) c.printed_form_law.ensures es
+    c.in-Ok-unfold_checked.ensures.printable (subst (λ (k : ℕ). IsUnfolded ds k es) number c.in-Ok-unfold_checked.ensures.unfolded)
+    (subst (λ (k : ℕ). GivesSparing k ds es) number c.in-Ok-unfold_checked.ensures.sparing) (only_writes t.items) (ap only_writes e) short)
     c.text_of.ensures.text c.text_of.ensures.short
 
 pub returns-in-Ok-unfold_checked-clause-refused : goal.returns-in-Ok-unfold_checked-clause-refused
@@ -47,4 +49,5 @@ returns-clause-refused c =
     let ds = shown_program c.in-Ok.accepted.program in
     let number : c.in-Some.number ≡ c.args.site = c.in-Some.ensures.number in
     unshaped (unfolds c.args.site) c.args.name.now c.args.site c.args.source.now ds c.in-Ok.ensures.spelled (shown c.in-Ok.accepted.checked, c.in-Ok.ensures.form) c.in-Err-unfold_checked.error
-    (subst (λ (k : ℕ). UnfoldingRefused ds k c.in-Err-unfold_checked.error) number c.in-Err-unfold_checked.ensures.refused) c.refusal_of-in-Err-unfold_checked.result c.refusal_of-in-Err-unfold_checked.ensures
+    (subst (λ (k : ℕ). UnfoldingRefused ds k c.in-Err-unfold_checked.error) number c.in-Err-unfold_checked.ensures.refused)
+    c.refusal_of-in-Err-unfold_checked.result c.refusal_of-in-Err-unfold_checked.ensures

@@ -29,4 +29,5 @@ returns-in-Err-Loop-clause-refused c =
     let r = subst (λ (e : OrderErr). Refuses c.in-Ok.net e) c.in-Err-Loop.field-0-is c.in-Err-Loop.ensures.refused in
     loop_refuses c.loops_are_cyclic.ensures c.args.name.now c.args.text.now c.in-Ok.net (numbers c.in-Err-Loop.wires.items) c.refusal_of_loop.result c.in-Ok.ensures.net r.2
     (subst (λ (m : Netlist). RefusesBy (HasLine status.VerilogRefused (loop_line c.args.name.now (map (name_at m) (numbers c.in-Err-Loop.wires.items)))) c.refusal_of_loop.result) r.0
-    (subst (λ (xs : List Sig). RefusesBy (HasLine status.VerilogRefused (loop_line c.args.name.now (map (name_at c.in-Err-Loop.net) (numbers xs)))) c.refusal_of_loop.result) c.deref.ensures.value c.refusal_of_loop.ensures))
+    (subst (λ (xs : List Sig). RefusesBy (HasLine status.VerilogRefused (loop_line c.args.name.now (map (name_at c.in-Err-Loop.net) (numbers xs))))
+    c.refusal_of_loop.result) c.deref.ensures.value c.refusal_of_loop.ensures))

@@ -25,19 +25,22 @@ returns-in-Err-Count-clause-refused c =
     let e : ScriptErr = errors.Count l given in
     let widths : c.deref.result.now ≡ argument_widths n.signals = c.deref.ensures.value ∙ c.in-Ok-argument_widths.ensures in
     let refused : RefusesScript (argument_widths n.signals) c.args.script.now e =
-    subst (λ (ws : List ℕ). RefusesScript ws c.args.script.now e) widths (subst (λ (x : ScriptErr). RefusesScript c.deref.result.now c.args.script.now x) c.in-Err-Count.field-0-is c.in-Err-Count.ensures.refused) in
+    subst (λ (ws : List ℕ). RefusesScript ws c.args.script.now e) widths
+    (subst (λ (x : ScriptErr). RefusesScript c.deref.result.now c.args.script.now x) c.in-Err-Count.field-0-is c.in-Err-Count.ensures.refused) in
     let a = c.len.ensures in
     let b = c.in-Ok-argument_widths.widths.ok.0 in
     let d = ap length c.in-Ok-argument_widths.ensures in
     let long : c.len.result ≡ length (argument_widths n.signals) = omega (arith, a, b, d) in
-    inr (misscripted c.args.name.now c.args.source.now c.args.script.now n c.in-Ok.ensures.compiled e (count_not_memory l given) refused _ (count_told _ l c.len.result (length (argument_widths n.signals)) _ given c.in-Err-Count.line-is long c.in-Err-Count.given-is))
+    inr (misscripted c.args.name.now c.args.source.now c.args.script.now n c.in-Ok.ensures.compiled e (count_not_memory l given) refused _
+    (count_told _ l c.len.result (length (argument_widths n.signals)) _ given c.in-Err-Count.line-is long c.in-Err-Count.given-is))
 
 pub index-width-requires : goal.index-width-requires
 index-width-requires c =
     let l = c.in-Err-Argument.line in
     let p = c.in-Err-Argument.place in
     let e : ScriptErr = errors.Argument l p in
-    let h = placed c.deref.result.now c.args.script.now l p (subst (λ (x : ScriptErr). RefusesScript c.deref.result.now c.args.script.now x) c.in-Err-Argument.field-0-is c.in-Err-Argument.ensures.refused) in
+    let h = placed c.deref.result.now c.args.script.now l p (subst (λ (x : ScriptErr). RefusesScript c.deref.result.now c.args.script.now x)
+    c.in-Err-Argument.field-0-is c.in-Err-Argument.ensures.refused) in
     let a = ap length c.deref.ensures.value in
     let b = c.in-Ok-argument_widths.widths.ok.0 in
     let low = h.0 in
@@ -50,7 +53,8 @@ returns-in-Err-Argument-clause-refused c =
     let l = c.in-Err-Argument.line in
     let p = c.in-Err-Argument.place in
     let e : ScriptErr = errors.Argument l p in
-    let at_read : RefusesScript c.deref.result.now c.args.script.now e = subst (λ (x : ScriptErr). RefusesScript c.deref.result.now c.args.script.now x) c.in-Err-Argument.field-0-is c.in-Err-Argument.ensures.refused in
+    let at_read : RefusesScript c.deref.result.now c.args.script.now e = subst
+    (λ (x : ScriptErr). RefusesScript c.deref.result.now c.args.script.now x) c.in-Err-Argument.field-0-is c.in-Err-Argument.ensures.refused in
     let widths : c.deref.result.now ≡ argument_widths n.signals = c.deref.ensures.value ∙ c.in-Ok-argument_widths.ensures in
     let refused : RefusesScript (argument_widths n.signals) c.args.script.now e = subst (λ (ws : List ℕ). RefusesScript ws c.args.script.now e) widths at_read in
     let h = placed c.deref.result.now c.args.script.now l p at_read in
@@ -59,9 +63,11 @@ returns-in-Err-Argument-clause-refused c =
     let high = h.1 in
     let place = c.in-Err-Argument.place-is in
     let bound : p - 1 < length c.in-Ok-argument_widths.widths.items = omega (arith, a, low, high) in
-    let width = get_or_read c.in-Ok-argument_widths.widths.items _ c.index-width.result.now (subst (λ (k : ℕ). k - 1 < length c.in-Ok-argument_widths.widths.items) (sym place) bound) c.index-width.ensures 0
+    let width = get_or_read c.in-Ok-argument_widths.widths.items _ c.index-width.result.now
+    (subst (λ (k : ℕ). k - 1 < length c.in-Ok-argument_widths.widths.items) (sym place) bound) c.index-width.ensures 0
     ∙ ap (λ (k : ℕ). slice_index c.in-Ok-argument_widths.widths.items (k - 1)) place ∙ ap (λ (ws : List ℕ). slice_index ws (p - 1)) c.in-Ok-argument_widths.ensures in
-    inr (misscripted c.args.name.now c.args.source.now c.args.script.now n c.in-Ok.ensures.compiled e (argument_not_memory l p) refused _ (argument_told _ l _ p c.index-width.result.now (slice_index (argument_widths n.signals) (p - 1)) c.in-Err-Argument.line-is place width))
+    inr (misscripted c.args.name.now c.args.source.now c.args.script.now n c.in-Ok.ensures.compiled e (argument_not_memory l p) refused _
+    (argument_told _ l _ p c.index-width.result.now (slice_index (argument_widths n.signals) (p - 1)) c.in-Err-Argument.line-is place width))
 
 pub returns-in-Ok-new-2-clause-opened : goal.returns-in-Ok-new-2-clause-opened
 returns-in-Ok-new-2-clause-opened c =

@@ -17,7 +17,8 @@ run_until_done-requires-clause-fresh c = c.in-Ok.ensures.ready.fresh ∙ ap rese
 pub run_until_done-requires-clause-arguments : goal.run_until_done-requires-clause-arguments
 run_until_done-requires-clause-arguments c =
     subst (λ (l : List Word). AreArguments c.in-Ok.ready.sim.net l) (sym c.deref.ensures.value)
-    (subst (λ (n : Netlist). AreArguments n c.in-Ok.ready.words.items) (sym c.in-Ok.ensures.ready.net) (read_widths (argument_widths c.args.ordered.net.signals) (map string_bytes c.args.args.now) c.in-Ok.ready.words.items c.in-Ok.ensures.ready.read))
+    (subst (λ (n : Netlist). AreArguments n c.in-Ok.ready.words.items) (sym c.in-Ok.ensures.ready.net)
+    (read_widths (argument_widths c.args.ordered.net.signals) (map string_bytes c.args.args.now) c.in-Ok.ready.words.items c.in-Ok.ensures.ready.read))
 
 pub returns-in-Ok-run_until_done-clause-answer : goal.returns-in-Ok-run_until_done-clause-answer
 returns-in-Ok-run_until_done-clause-answer c = record {

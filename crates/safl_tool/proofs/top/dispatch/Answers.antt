@@ -14,7 +14,8 @@ pub returns-in-Err-clause-ends : goal.returns-in-Err-clause-ends
 returns-in-Err-clause-ends g c =
     let m : Option Command = command_of (map string_bytes c.args.words.now) in
     let old = world (g.S.Shelf.told c.args.shelf.now) (g.O.Sink.told c.args.out.now) (λ p. (goal.Probe-dyn g (p.vtable, p.value)).state p.value) c.args.probes.now.items in
-    refusal_ends (task_in m old) (Unprobed m old old) old.outside old.outside (g.E.Sink.told c.args.err.now) (g.E.Sink.told c.refuse.new.err) refusal.NoMemory c.refuse.result (starved (inl (record { files = refl; out = refl }))) c.refuse.ensures
+    refusal_ends (task_in m old) (Unprobed m old old) old.outside old.outside (g.E.Sink.told c.args.err.now) (g.E.Sink.told c.refuse.new.err)
+    refusal.NoMemory c.refuse.result (starved (inl (record { files = refl; out = refl }))) c.refuse.ensures
 
 pub returns-in-Err-clause-spares : goal.returns-in-Err-clause-spares
 returns-in-Err-clause-spares g c = spares_none _ _ _

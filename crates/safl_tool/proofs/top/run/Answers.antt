@@ -11,6 +11,20 @@ returns-clause-follows g c =
     let before : SinkState = g.E.Sink.told c.args.err.now in
     let after : SinkState = g.E.Sink.told c.dispatch.new.err in
     follows
-    (record { once = c.one_program_law.ensures; apart = c.not_both_law.ensures; one = c.one_netlist_law.ensures; free = c.not_both_law-2.ensures; trees = c.one_program_law-2.ensures; sound = c.no_fault_law.ensures; replies = c.session_law.ensures.replies; reset = c.session_law.ensures.reset; script = c.script_law.ensures.script; misread = c.script_law.ensures.not_both })
-    m (world (g.S.Shelf.told c.args.shelf.now) (g.O.Sink.told c.args.out.now) (λ p. (goal.Probe-dyn g (p.vtable, p.value)).state p.value) c.args.probes.now.items) (world (g.S.Shelf.told c.dispatch.new.shelf) (g.O.Sink.told c.dispatch.new.out) (λ p. (goal.Probe-dyn g (p.vtable, p.value)).state p.value) c.dispatch.new.probes.items)
+    (record {
+      once = c.one_program_law.ensures;
+      apart = c.not_both_law.ensures;
+      one = c.one_netlist_law.ensures;
+      free = c.not_both_law-2.ensures;
+      trees = c.one_program_law-2.ensures;
+      sound = c.no_fault_law.ensures;
+      replies = c.session_law.ensures.replies;
+      reset =
+          c.session_law.ensures.reset;
+      script = c.script_law.ensures.script;
+      misread = c.script_law.ensures.not_both;
+    })
+    m (world (g.S.Shelf.told c.args.shelf.now) (g.O.Sink.told c.args.out.now) (λ p. (goal.Probe-dyn g (p.vtable, p.value)).state p.value)
+    c.args.probes.now.items) (world (g.S.Shelf.told c.dispatch.new.shelf) (g.O.Sink.told c.dispatch.new.out)
+    (λ p. (goal.Probe-dyn g (p.vtable, p.value)).state p.value) c.dispatch.new.probes.items)
     before after c.dispatch.result c.dispatch.ensures.ends c.dispatch.ensures.spares

@@ -69,8 +69,10 @@ pub unwritten-requires-clause-there : goal.unwritten-requires-clause-there
 unwritten-requires-clause-there g c =
     let ps : List ProbeState = map (λ p. (goal.Probe-dyn g (p.vtable, p.value)).state p.value) c.args.probes.now.items in
     let qs : List ProbeState = map (λ p. (goal.Probe-dyn g (p.vtable, p.value)).state p.value) c.drive.new.probes.items in
-    let failed : WriteFailed c.in-Err-Write.place (asked c.args.files.now) (g.S.Shelf.told c.args.shelf.now) (g.S.Shelf.told c.drive.new.shelf) = rw c.in-Err-Write.field-0-is at c.in-Err-Write.ensures.stopped in
-    let lt = there (shown_traces c.args.run.traces.now) (asked c.args.files.now) ps qs c.requires.asked c.in-Err-Write.ensures.probes c.in-Err-Write.place (g.S.Shelf.told c.args.shelf.now) (g.S.Shelf.told c.drive.new.shelf) failed in
+    let failed : WriteFailed c.in-Err-Write.place (asked c.args.files.now) (g.S.Shelf.told c.args.shelf.now) (g.S.Shelf.told c.drive.new.shelf) = rw
+    c.in-Err-Write.field-0-is at c.in-Err-Write.ensures.stopped in
+    let lt = there (shown_traces c.args.run.traces.now) (asked c.args.files.now) ps qs c.requires.asked c.in-Err-Write.ensures.probes
+    c.in-Err-Write.place (g.S.Shelf.told c.args.shelf.now) (g.S.Shelf.told c.drive.new.shelf) failed in
     let long = length-map c.drive.new.probes.items (λ p. (goal.Probe-dyn g (p.vtable, p.value)).state p.value) in
     let same = ap (λ l. length l) c.deref-in-Err-Write.ensures.value in
     omega (arith, lt, long, same)
@@ -80,14 +82,20 @@ unwritten-requires-clause-named g c =
     let t : Traces = shown_traces c.args.run.traces.now in
     let ps : List ProbeState = map (λ p. (goal.Probe-dyn g (p.vtable, p.value)).state p.value) c.args.probes.now.items in
     let qs : List ProbeState = map (λ p. (goal.Probe-dyn g (p.vtable, p.value)).state p.value) c.drive.new.probes.items in
-    let failed : WriteFailed c.in-Err-Write.place (asked c.args.files.now) (g.S.Shelf.told c.args.shelf.now) (g.S.Shelf.told c.drive.new.shelf) = rw c.in-Err-Write.field-0-is at c.in-Err-Write.ensures.stopped in
-    subst (λ o. IsSome o) (sym (ap (λ xs. file_at t (map (λ p. (goal.Probe-dyn g (p.vtable, p.value)).state p.value) xs) c.in-Err-Write.place) c.deref-in-Err-Write.ensures.value ∙ its_file t (asked c.args.files.now) ps qs c.requires.asked c.in-Err-Write.ensures.probes c.in-Err-Write.place (g.S.Shelf.told c.args.shelf.now) (g.S.Shelf.told c.drive.new.shelf) failed)) refl
+    let failed : WriteFailed c.in-Err-Write.place (asked c.args.files.now) (g.S.Shelf.told c.args.shelf.now) (g.S.Shelf.told c.drive.new.shelf) = rw
+    c.in-Err-Write.field-0-is at c.in-Err-Write.ensures.stopped in
+    subst (λ o. IsSome o) (sym (ap (λ xs. file_at t (map (λ p. (goal.Probe-dyn g (p.vtable, p.value)).state p.value) xs) c.in-Err-Write.place)
+    c.deref-in-Err-Write.ensures.value ∙ its_file t (asked c.args.files.now) ps qs c.requires.asked c.in-Err-Write.ensures.probes
+    c.in-Err-Write.place (g.S.Shelf.told c.args.shelf.now) (g.S.Shelf.told c.drive.new.shelf) failed)) refl
 
 pub returns-in-Err-Write-clause-refused : goal.returns-in-Err-Write-clause-refused
 returns-in-Err-Write-clause-refused g c =
     let t : Traces = shown_traces c.args.run.traces.now in
     let ps : List ProbeState = map (λ p. (goal.Probe-dyn g (p.vtable, p.value)).state p.value) c.args.probes.now.items in
     let qs : List ProbeState = map (λ p. (goal.Probe-dyn g (p.vtable, p.value)).state p.value) c.drive.new.probes.items in
-    let failed : WriteFailed c.in-Err-Write.place (asked c.args.files.now) (g.S.Shelf.told c.args.shelf.now) (g.S.Shelf.told c.drive.new.shelf) = rw c.in-Err-Write.field-0-is at c.in-Err-Write.ensures.stopped in
-    wrote t (asked c.args.files.now) ps qs c.requires.asked c.in-Err-Write.ensures.probes c.in-Err-Write.place (g.S.Shelf.told c.args.shelf.now) (g.S.Shelf.told c.drive.new.shelf) failed c.unwritten.result
-    (subst (λ xs. IsWriting (file_at t (map (λ p. (goal.Probe-dyn g (p.vtable, p.value)).state p.value) xs) c.in-Err-Write.place) c.unwritten.result) c.deref-in-Err-Write.ensures.value c.unwritten.ensures)
+    let failed : WriteFailed c.in-Err-Write.place (asked c.args.files.now) (g.S.Shelf.told c.args.shelf.now) (g.S.Shelf.told c.drive.new.shelf) = rw
+    c.in-Err-Write.field-0-is at c.in-Err-Write.ensures.stopped in
+    wrote t (asked c.args.files.now) ps qs c.requires.asked c.in-Err-Write.ensures.probes c.in-Err-Write.place (g.S.Shelf.told c.args.shelf.now)
+    (g.S.Shelf.told c.drive.new.shelf) failed c.unwritten.result
+    (subst (λ xs. IsWriting (file_at t (map (λ p. (goal.Probe-dyn g (p.vtable, p.value)).state p.value) xs) c.in-Err-Write.place) c.unwritten.result)
+    c.deref-in-Err-Write.ensures.value c.unwritten.ensures)

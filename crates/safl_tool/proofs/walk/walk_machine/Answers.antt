@@ -28,6 +28,7 @@ returns-in-Ok-walk_with-clause-walks c =
       names = names_of c.in-Ok.checked;
       words = c.in-Ok-read_arguments.words.items;
       source_of = c.in-Ok.ensures.accepted;
-      read = subst (λ (l : List ℕ). AreArguments l (map string_bytes c.args.args.now) c.in-Ok-read_arguments.words.items) (c.deref.ensures.value ∙ c.in-Ok-main_widths.ensures) c.in-Ok-read_arguments.ensures.read;
+      read = subst (λ (l : List ℕ). AreArguments l (map string_bytes c.args.args.now) c.in-Ok-read_arguments.words.items)
+          (c.deref.ensures.value ∙ c.in-Ok-main_widths.ensures) c.in-Ok-read_arguments.ensures.read;
       walk = subst (λ (l : List Word). WalksFrom (program_of c.in-Ok.checked) l c.args.turns.seed c.args.turns.steps c.in-Ok-walk_with.walked) c.deref-2.ensures.value c.in-Ok-walk_with.ensures;
     }

@@ -53,7 +53,8 @@ answer_of-requires g c =
     let old : ShelfState = g.S.Shelf.told c.args.shelf.now in
     let is : shown_inputs c.deref.result.now ≡ t.inputs = ap shown_inputs c.deref.ensures.value ∙ c.in-Ok.ensures in
     subst (λ l. AreContents None t.inputs (shown_contents l)) (sym c.deref-2.ensures.value)
-    (contents_alone old.holds t.inputs (shown_contents c.in-Ok-read_inputs.contents.items) (subst (λ (l : List Input). AreContents old.holds l (shown_contents c.in-Ok-read_inputs.contents.items)) is c.in-Ok-read_inputs.ensures.read))
+    (contents_alone old.holds t.inputs (shown_contents c.in-Ok-read_inputs.contents.items)
+    (subst (λ (l : List Input). AreContents old.holds l (shown_contents c.in-Ok-read_inputs.contents.items)) is c.in-Ok-read_inputs.ensures.read))
 
 pub returns-in-Err-answer_of-clause-does : goal.returns-in-Err-answer_of-clause-does
 returns-in-Err-answer_of-clause-does g c =
@@ -65,7 +66,8 @@ returns-in-Err-answer_of-clause-does g c =
     let are : AreContents old.outside.shelf.holds t.inputs (shown_contents c.deref-2.result.now) =
     subst (λ l. AreContents old.outside.shelf.holds t.inputs (shown_contents l)) (sym c.deref-2.ensures.value)
     (subst (λ (l : List Input). AreContents old.outside.shelf.holds l (shown_contents c.in-Ok-read_inputs.contents.items)) is c.in-Ok-read_inputs.ensures.read) in
-    content_stops t (TellsProbe (asked c.args.files.now) ps ps) old.outside new.outside (shown_contents c.deref-2.result.now) are (quiet (shown c.args.command.now) (shown_contents c.deref-2.result.now))
+    content_stops t (TellsProbe (asked c.args.files.now) ps ps) old.outside new.outside (shown_contents c.deref-2.result.now) are
+    (quiet (shown c.args.command.now) (shown_contents c.deref-2.result.now))
     (record { files = c.in-Ok-read_inputs.ensures.only_reads.files; out = refl }) c.in-Err-answer_of.refusal c.in-Err-answer_of.ensures.refused
 
 pub returns-in-Err-answer_of-clause-spares : goal.returns-in-Err-answer_of-clause-spares
@@ -96,7 +98,8 @@ returns-clause-does g c =
     let are : AreContents old.outside.shelf.holds t.inputs (shown_contents c.deref-2.result.now) =
     subst (λ l. AreContents old.outside.shelf.holds t.inputs (shown_contents l)) (sym c.deref-2.ensures.value)
     (subst (λ (l : List Input). AreContents old.outside.shelf.holds l (shown_contents c.in-Ok-read_inputs.contents.items)) is c.in-Ok-read_inputs.ensures.read) in
-    gives_does t (asked c.args.files.now) old new mid c.in-Ok-read_inputs.ensures.only_reads (shown_contents c.deref-2.result.now) are c.in-Ok-answer_of.answer c.in-Ok-answer_of.ensures.answers c.give.result c.give.ensures.gives
+    gives_does t (asked c.args.files.now) old new mid c.in-Ok-read_inputs.ensures.only_reads (shown_contents c.deref-2.result.now) are
+    c.in-Ok-answer_of.answer c.in-Ok-answer_of.ensures.answers c.give.result c.give.ensures.gives
 
 pub returns-clause-spares : goal.returns-clause-spares
 returns-clause-spares g c =
@@ -105,4 +108,5 @@ returns-clause-spares g c =
     let mid : ShelfState = g.S.Shelf.told c.read_inputs.new.shelf in
     let new = world (g.S.Shelf.told c.give.new.shelf) (g.O.Sink.told c.give.new.out) (λ p. (goal.Probe-dyn g (p.vtable, p.value)).state p.value) c.give.new.probes.items in
     let is : shown_inputs c.deref.result.now ≡ t.inputs = ap shown_inputs c.deref.ensures.value ∙ c.in-Ok.ensures in
-    spares_given t (asked c.args.files.now) old new mid c.in-Ok-read_inputs.ensures.only_reads.files (shown_inputs c.deref.result.now) is c.in-Ok-read_inputs.ensures.no_stray c.give.ensures.same_strays c.give.ensures.unasked c.give.ensures.probes
+    spares_given t (asked c.args.files.now) old new mid c.in-Ok-read_inputs.ensures.only_reads.files (shown_inputs c.deref.result.now) is
+    c.in-Ok-read_inputs.ensures.no_stray c.give.ensures.same_strays c.give.ensures.unasked c.give.ensures.probes

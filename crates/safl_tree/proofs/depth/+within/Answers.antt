@@ -13,7 +13,8 @@ is_within-returns-in-Let t c =
 
 pub is_within-returns-in-Case : goal.is_within-returns-in-Case
 is_within-returns-in-Case t c =
-    let e = case_depth c.args.e.now.place c.args.e.now.node c.in-Case.scrutinee c.in-Case.arms c.in-Case.default _ _ _ c.in-Case.is c.deref-in-Case.ensures c.deref-in-Case-2.ensures.value c.deref-in-Case-3.ensures in
+    let e = case_depth c.args.e.now.place c.args.e.now.node c.in-Case.scrutinee c.in-Case.arms c.in-Case.default _ _ _ c.in-Case.is
+    c.deref-in-Case.ensures c.deref-in-Case-2.ensures.value c.deref-in-Case-3.ensures in
     (λ y. let h = c.is_case_within.ensures.0 y in omega (arith, e, h), λ h. c.is_case_within.ensures.1 (omega (arith, e, h)))
 
 pub is_within-returns-in-Op : goal.is_within-returns-in-Op

@@ -12,58 +12,109 @@ use Rattle.safl_tree.specs.Printable.{own, left_place, right_place}
 use Rattle.safl_tree.specs.Printed
 use Rattle.safl_tree.specs.Printed.{Word, separated, enclosed, part_words, bind_words, bound_words, labelled_words, words, Writes}
 use Rattle.safl_tree.proofs.Lists.{drop_at}
-use Rattle.safl_tree.proofs.Writing.{Leaves, behind, leaves_less, chain_3, chain_4, chain_6, chain_8, items_step, items_end, by_first, case_split, choice_words, let_words, case_words, op_words, call_words}
+use Rattle.safl_tree.proofs.Writing.{Leaves, behind, leaves_less, chain_3, chain_4, chain_6, chain_8, items_step, items_end, by_first, case_split}
+use Rattle.safl_tree.proofs.Writing.{choice_words, let_words, case_words, op_words, call_words}
 use Rattle.safl_tree.proofs.print_expression.+print.Goals as goal
 
 -- ---- an expression
 
 pub push_expr-returns-in_ok-push_key-in-If-3 : goal.push_expr-returns-in_ok-push_key-in-If-3
 push_expr-returns-in_ok-push_key-in-If-3 t c =
-    subst (λ (ws : List Word). OnOk c.push_expr-in-If-2.result (Writes c.args.out.now.items c.push_expr-in-If-2.new.out.items ws)) (choice_words c.args.e.now.node c.args.e.now.place c.in-If.c c.in-If.a c.in-If.b c.deref.result.now c.deref-in-If.result.now c.deref-in-If-2.result.now c.in-If.is c.deref.ensures c.deref-in-If.ensures c.deref-in-If-2.ensures)
-    (chain_6 c.push_expr-in-If-2.result c.args.out.now.items c.push_key.new.out.items c.push_expr.new.out.items c.push_key-in-If.new.out.items c.push_expr-in-If.new.out.items c.push_key-in-If-2.new.out.items c.push_expr-in-If-2.new.out.items (Printed.key keys.If ∷ []) (words (shown_tree c.deref.result.now)) (Printed.key keys.Then ∷ []) (words (shown_tree c.deref-in-If.result.now)) (Printed.key keys.Else ∷ []) (words (shown_tree c.deref-in-If-2.result.now)) c.in_ok-push_key-in-If.ensures c.in_ok-push_expr-in-If.ensures c.in_ok-push_key-in-If-2.ensures c.in_ok-push_expr-in-If-2.ensures c.in_ok-push_key-in-If-3.ensures c.push_expr-in-If-2.ensures)
+    subst (λ (ws : List Word). OnOk c.push_expr-in-If-2.result (Writes c.args.out.now.items c.push_expr-in-If-2.new.out.items ws))
+    (choice_words c.args.e.now.node c.args.e.now.place c.in-If.c c.in-If.a c.in-If.b c.deref.result.now c.deref-in-If.result.now
+    c.deref-in-If-2.result.now c.in-If.is c.deref.ensures c.deref-in-If.ensures c.deref-in-If-2.ensures)
+    (chain_6 c.push_expr-in-If-2.result c.args.out.now.items c.push_key.new.out.items c.push_expr.new.out.items c.push_key-in-If.new.out.items
+    c.push_expr-in-If.new.out.items c.push_key-in-If-2.new.out.items c.push_expr-in-If-2.new.out.items (Printed.key keys.If ∷ [])
+    (words (shown_tree c.deref.result.now)) (Printed.key keys.Then ∷ []) (words (shown_tree c.deref-in-If.result.now))
+    (Printed.key keys.Else ∷ []) (words (shown_tree c.deref-in-If-2.result.now)) c.in_ok-push_key-in-If.ensures c.in_ok-push_expr-in-If.ensures
+    c.in_ok-push_key-in-If-2.ensures c.in_ok-push_expr-in-If-2.ensures c.in_ok-push_key-in-If-3.ensures c.push_expr-in-If-2.ensures)
 
 pub push_expr-returns-in_ok-push_key-in-Let-2 : goal.push_expr-returns-in_ok-push_key-in-Let-2
 push_expr-returns-in_ok-push_key-in-Let-2 t c =
-    subst (λ (ws : List Word). OnOk c.push_expr-in-Let.result (Writes c.args.out.now.items c.push_expr-in-Let.new.out.items ws)) (let_words c.args.e.now.node c.args.e.now.place c.in-Let.bs c.in-Let.body c.deref-in-Let.result.now c.deref-in-Let-2.result.now c.in-Let.is c.deref-in-Let.ensures.value c.deref-in-Let-2.ensures)
-    (chain_4 c.push_expr-in-Let.result c.args.out.now.items c.push_key-in-Let.new.out.items c.push_bindings.new.out.items c.push_key-in-Let-2.new.out.items c.push_expr-in-Let.new.out.items (Printed.key keys.Let ∷ []) (separated (Printed.sym syms.Comma) (bind_words (binds_of (shown_bounds c.deref-in-Let.result.now)))) (Printed.key keys.In ∷ []) (words (shown_tree c.deref-in-Let-2.result.now)) c.in_ok-push_key-in-Let.ensures c.in_ok-push_bindings-in-Let.ensures c.in_ok-push_key-in-Let-2.ensures c.push_expr-in-Let.ensures)
+    subst (λ (ws : List Word). OnOk c.push_expr-in-Let.result (Writes c.args.out.now.items c.push_expr-in-Let.new.out.items ws))
+    (let_words c.args.e.now.node c.args.e.now.place c.in-Let.bs c.in-Let.body c.deref-in-Let.result.now c.deref-in-Let-2.result.now c.in-Let.is
+    c.deref-in-Let.ensures.value c.deref-in-Let-2.ensures)
+    (chain_4 c.push_expr-in-Let.result c.args.out.now.items c.push_key-in-Let.new.out.items c.push_bindings.new.out.items
+    c.push_key-in-Let-2.new.out.items c.push_expr-in-Let.new.out.items (Printed.key keys.Let ∷ [])
+    (separated (Printed.sym syms.Comma) (bind_words (binds_of (shown_bounds c.deref-in-Let.result.now)))) (Printed.key keys.In ∷ [])
+    (words (shown_tree c.deref-in-Let-2.result.now)) c.in_ok-push_key-in-Let.ensures c.in_ok-push_bindings-in-Let.ensures
+    c.in_ok-push_key-in-Let-2.ensures c.push_expr-in-Let.ensures)
 
 pub push_expr-returns-in_ok-push_expr-in-Case-2 : goal.push_expr-returns-in_ok-push_expr-in-Case-2
 push_expr-returns-in_ok-push_expr-in-Case-2 t c =
-    subst (λ (ws : List Word). OnOk c.push_sym-in-Case-2.result (Writes c.args.out.now.items c.push_sym-in-Case-2.new.out.items ws)) (ap (λ (ws : List Word). Printed.key keys.Case ∷ ws) (case_split (shown_tree c.deref-in-Case.result.now) (shown_tree c.deref-in-Case-3.result.now) (shown_labelled c.deref-in-Case-2.result.now)) ∙ case_words c.args.e.now.node c.args.e.now.place c.in-Case.scrutinee c.in-Case.arms c.in-Case.default c.deref-in-Case.result.now c.deref-in-Case-2.result.now c.deref-in-Case-3.result.now c.in-Case.is c.deref-in-Case.ensures c.deref-in-Case-2.ensures.value c.deref-in-Case-3.ensures)
-    (chain_8 c.push_sym-in-Case-2.result c.args.out.now.items c.push_key-in-Case.new.out.items c.push_expr-in-Case.new.out.items c.push_sym.new.out.items c.push_arms.new.out.items c.push_key-in-Case-2.new.out.items c.push_sym-in-Case.new.out.items c.push_expr-in-Case-2.new.out.items c.push_sym-in-Case-2.new.out.items (Printed.key keys.Case ∷ []) (words (shown_tree c.deref-in-Case.result.now)) (Printed.sym syms.OpenBrace ∷ []) (labelled_words (shown_labelled c.deref-in-Case-2.result.now)) (Printed.key keys.Default ∷ []) (Printed.sym syms.Arrow ∷ []) (words (shown_tree c.deref-in-Case-3.result.now)) (Printed.sym syms.CloseBrace ∷ []) c.in_ok-push_key-in-Case.ensures c.in_ok-push_expr-in-Case.ensures c.in_ok-push_sym-in-Case.ensures c.in_ok-push_arms-in-Case.ensures c.in_ok-push_key-in-Case-2.ensures c.in_ok-push_sym-in-Case-2.ensures c.in_ok-push_expr-in-Case-2.ensures c.push_sym-in-Case-2.ensures)
+    subst (λ (ws : List Word). OnOk c.push_sym-in-Case-2.result (Writes c.args.out.now.items c.push_sym-in-Case-2.new.out.items ws))
+    (ap (λ (ws : List Word). Printed.key keys.Case ∷ ws) (case_split (shown_tree c.deref-in-Case.result.now)
+    (shown_tree c.deref-in-Case-3.result.now) (shown_labelled c.deref-in-Case-2.result.now)) ∙ case_words c.args.e.now.node c.args.e.now.place
+    c.in-Case.scrutinee c.in-Case.arms c.in-Case.default c.deref-in-Case.result.now c.deref-in-Case-2.result.now c.deref-in-Case-3.result.now
+    c.in-Case.is c.deref-in-Case.ensures c.deref-in-Case-2.ensures.value c.deref-in-Case-3.ensures)
+    (chain_8 c.push_sym-in-Case-2.result c.args.out.now.items c.push_key-in-Case.new.out.items c.push_expr-in-Case.new.out.items
+    c.push_sym.new.out.items c.push_arms.new.out.items c.push_key-in-Case-2.new.out.items c.push_sym-in-Case.new.out.items
+    c.push_expr-in-Case-2.new.out.items c.push_sym-in-Case-2.new.out.items (Printed.key keys.Case ∷ [])
+    (words (shown_tree c.deref-in-Case.result.now)) (Printed.sym syms.OpenBrace ∷ [])
+    (labelled_words (shown_labelled c.deref-in-Case-2.result.now)) (Printed.key keys.Default ∷ []) (Printed.sym syms.Arrow ∷ [])
+    (words (shown_tree c.deref-in-Case-3.result.now)) (Printed.sym syms.CloseBrace ∷ []) c.in_ok-push_key-in-Case.ensures
+    c.in_ok-push_expr-in-Case.ensures c.in_ok-push_sym-in-Case.ensures c.in_ok-push_arms-in-Case.ensures c.in_ok-push_key-in-Case-2.ensures
+    c.in_ok-push_sym-in-Case-2.ensures c.in_ok-push_expr-in-Case-2.ensures c.push_sym-in-Case-2.ensures)
 
 pub push_expr-returns-in-Op : goal.push_expr-returns-in-Op
 push_expr-returns-in-Op t c =
-    subst (λ (ws : List Word). OnOk c.push_operation.result (Writes c.args.out.now.items c.push_operation.new.out.items ws)) (op_words c.args.e.now.node c.args.e.now.place c.in-Op.p c.in-Op.es c.deref-in-Op.result.now c.in-Op.is c.deref-in-Op.ensures.value) c.push_operation.ensures
+    subst (λ (ws : List Word). OnOk c.push_operation.result (Writes c.args.out.now.items c.push_operation.new.out.items ws))
+    (op_words c.args.e.now.node c.args.e.now.place c.in-Op.p c.in-Op.es c.deref-in-Op.result.now c.in-Op.is c.deref-in-Op.ensures.value) c.push_operation.ensures
 
 pub push_expr-returns-in-Call : goal.push_expr-returns-in-Call
 push_expr-returns-in-Call t c =
-    subst (λ (ws : List Word). OnOk c.push_call.result (Writes c.args.out.now.items c.push_call.new.out.items ws)) (call_words c.args.e.now.node c.args.e.now.place c.in-Call.f c.in-Call.es c.deref-in-Call.result.now c.in-Call.is c.deref-in-Call.ensures.value) c.push_call.ensures
+    subst (λ (ws : List Word). OnOk c.push_call.result (Writes c.args.out.now.items c.push_call.new.out.items ws))
+    (call_words c.args.e.now.node c.args.e.now.place c.in-Call.f c.in-Call.es c.deref-in-Call.result.now c.in-Call.is
+    c.deref-in-Call.ensures.value) c.push_call.ensures
 
 -- ---- calls and operators
 
 pub push_call-returns : goal.push_call-returns
 push_call-returns t c =
-    chain_4 c.push_sym-2.result c.args.out.now.items c.push_name.new.out.items c.push_sym.new.out.items c.push_parts.new.out.items c.push_sym-2.new.out.items (Printed.name c.args.f.now ∷ []) (Printed.sym syms.OpenParen ∷ []) (separated (Printed.sym syms.Comma) (part_words 8 8 (trees_of (shown_trees c.args.es.now)))) (Printed.sym syms.CloseParen ∷ []) c.in_ok-push_name.ensures c.in_ok-push_sym.ensures c.in_ok-push_parts.ensures c.push_sym-2.ensures
+    chain_4 c.push_sym-2.result c.args.out.now.items c.push_name.new.out.items c.push_sym.new.out.items c.push_parts.new.out.items
+    c.push_sym-2.new.out.items (Printed.name c.args.f.now ∷ []) (Printed.sym syms.OpenParen ∷ [])
+    (separated (Printed.sym syms.Comma) (part_words 8 8 (trees_of (shown_trees c.args.es.now)))) (Printed.sym syms.CloseParen ∷ [])
+    c.in_ok-push_name.ensures c.in_ok-push_sym.ensures c.in_ok-push_parts.ensures c.push_sym-2.ensures
 
 pub push_bits-returns : goal.push_bits-returns
 push_bits-returns t c =
-    chain_8 c.push_sym-4.result c.args.out.now.items c.push_key.new.out.items c.push_sym.new.out.items c.push_parts.new.out.items c.push_sym-2.new.out.items c.push_number.new.out.items c.push_sym-3.new.out.items c.push_number-2.new.out.items c.push_sym-4.new.out.items (Printed.key keys.Bits ∷ []) (Printed.sym syms.OpenParen ∷ []) (separated (Printed.sym syms.Comma) (part_words 8 8 (trees_of (shown_trees c.args.es.now)))) (Printed.sym syms.Comma ∷ []) (Printed.number c.args.high ∷ []) (Printed.sym syms.Comma ∷ []) (Printed.number c.args.low ∷ []) (Printed.sym syms.CloseParen ∷ []) c.in_ok-push_key.ensures c.in_ok-push_sym.ensures c.in_ok-push_parts.ensures c.in_ok-push_sym-2.ensures (subst (λ (n : ℕ). Writes c.push_sym-2.new.out.items c.push_number.new.out.items (Printed.number n ∷ [])) c.from.ensures c.in_ok-push_number.ensures) c.in_ok-push_sym-3.ensures (subst (λ (n : ℕ). Writes c.push_sym-3.new.out.items c.push_number-2.new.out.items (Printed.number n ∷ [])) c.from-2.ensures c.in_ok-push_number-2.ensures) c.push_sym-4.ensures
+    chain_8 c.push_sym-4.result c.args.out.now.items c.push_key.new.out.items c.push_sym.new.out.items c.push_parts.new.out.items
+    c.push_sym-2.new.out.items c.push_number.new.out.items c.push_sym-3.new.out.items c.push_number-2.new.out.items c.push_sym-4.new.out.items
+    (Printed.key keys.Bits ∷ []) (Printed.sym syms.OpenParen ∷ [])
+    (separated (Printed.sym syms.Comma) (part_words 8 8 (trees_of (shown_trees c.args.es.now)))) (Printed.sym syms.Comma ∷ [])
+    (Printed.number c.args.high ∷ []) (Printed.sym syms.Comma ∷ []) (Printed.number c.args.low ∷ []) (Printed.sym syms.CloseParen ∷ [])
+    c.in_ok-push_key.ensures c.in_ok-push_sym.ensures c.in_ok-push_parts.ensures c.in_ok-push_sym-2.ensures
+    (subst (λ (n : ℕ). Writes c.push_sym-2.new.out.items c.push_number.new.out.items (Printed.number n ∷ [])) c.from.ensures
+    c.in_ok-push_number.ensures) c.in_ok-push_sym-3.ensures (subst
+    (λ (n : ℕ). Writes c.push_sym-3.new.out.items c.push_number-2.new.out.items (Printed.number n ∷ [])) c.from-2.ensures
+    c.in_ok-push_number-2.ensures) c.push_sym-4.ensures
 
 pub push_ext-returns : goal.push_ext-returns
 push_ext-returns t c =
-    chain_6 c.push_sym-3.result c.args.out.now.items c.push_key.new.out.items c.push_sym.new.out.items c.push_parts.new.out.items c.push_sym-2.new.out.items c.push_number.new.out.items c.push_sym-3.new.out.items (Printed.key keys.Ext ∷ []) (Printed.sym syms.OpenParen ∷ []) (separated (Printed.sym syms.Comma) (part_words 8 8 (trees_of (shown_trees c.args.es.now)))) (Printed.sym syms.Comma ∷ []) (Printed.number c.args.width ∷ []) (Printed.sym syms.CloseParen ∷ []) c.in_ok-push_key.ensures c.in_ok-push_sym.ensures c.in_ok-push_parts.ensures c.in_ok-push_sym-2.ensures (subst (λ (n : ℕ). Writes c.push_sym-2.new.out.items c.push_number.new.out.items (Printed.number n ∷ [])) c.from.ensures c.in_ok-push_number.ensures) c.push_sym-3.ensures
+    chain_6 c.push_sym-3.result c.args.out.now.items c.push_key.new.out.items c.push_sym.new.out.items c.push_parts.new.out.items
+    c.push_sym-2.new.out.items c.push_number.new.out.items c.push_sym-3.new.out.items (Printed.key keys.Ext ∷ [])
+    (Printed.sym syms.OpenParen ∷ []) (separated (Printed.sym syms.Comma) (part_words 8 8 (trees_of (shown_trees c.args.es.now))))
+    (Printed.sym syms.Comma ∷ []) (Printed.number c.args.width ∷ []) (Printed.sym syms.CloseParen ∷ []) c.in_ok-push_key.ensures
+    c.in_ok-push_sym.ensures c.in_ok-push_parts.ensures c.in_ok-push_sym-2.ensures
+    (subst (λ (n : ℕ). Writes c.push_sym-2.new.out.items c.push_number.new.out.items (Printed.number n ∷ [])) c.from.ensures
+    c.in_ok-push_number.ensures) c.push_sym-3.ensures
 
 pub push_operation-returns-in_ok-push_parts-in-Cat : goal.push_operation-returns-in_ok-push_parts-in-Cat
 push_operation-returns-in_ok-push_parts-in-Cat t c =
-    subst (λ (p : Primitive). OnOk c.push_sym-in-Cat-2.result (Writes c.args.out.now.items c.push_sym-in-Cat-2.new.out.items (Printed.applied p (part_words (left_place p) (right_place p) (trees_of (shown_trees c.args.es.now)))))) (sym c.in-Cat.is)
-    (chain_4 c.push_sym-in-Cat-2.result c.args.out.now.items c.push_key.new.out.items c.push_sym-in-Cat.new.out.items c.push_parts-in-Cat.new.out.items c.push_sym-in-Cat-2.new.out.items (Printed.key keys.Cat ∷ []) (Printed.sym syms.OpenParen ∷ []) (separated (Printed.sym syms.Comma) (part_words 8 8 (trees_of (shown_trees c.args.es.now)))) (Printed.sym syms.CloseParen ∷ []) c.in_ok-push_key-in-Cat.ensures c.in_ok-push_sym-in-Cat.ensures c.in_ok-push_parts-in-Cat.ensures c.push_sym-in-Cat-2.ensures)
+    subst (λ (p : Primitive). OnOk c.push_sym-in-Cat-2.result (Writes c.args.out.now.items c.push_sym-in-Cat-2.new.out.items
+    (Printed.applied p (part_words (left_place p) (right_place p) (trees_of (shown_trees c.args.es.now)))))) (sym c.in-Cat.is)
+    (chain_4 c.push_sym-in-Cat-2.result c.args.out.now.items c.push_key.new.out.items c.push_sym-in-Cat.new.out.items
+    c.push_parts-in-Cat.new.out.items c.push_sym-in-Cat-2.new.out.items (Printed.key keys.Cat ∷ []) (Printed.sym syms.OpenParen ∷ [])
+    (separated (Printed.sym syms.Comma) (part_words 8 8 (trees_of (shown_trees c.args.es.now)))) (Printed.sym syms.CloseParen ∷ [])
+    c.in_ok-push_key-in-Cat.ensures c.in_ok-push_sym-in-Cat.ensures c.in_ok-push_parts-in-Cat.ensures c.push_sym-in-Cat-2.ensures)
 
 pub push_part-returns-in_ok-push_expr : goal.push_part-returns-in_ok-push_expr
 push_part-returns-in_ok-push_expr t c =
     let over : leb (own (shown_tree c.args.e.now)) c.args.place ≡ false = lt-leb (own (shown_tree c.args.e.now)) c.args.place (omega (arith, c.own.ensures, c.if-own-place.false)) in
     subst (λ (b : Bool). OnOk c.push_sym-else-own-place.result (Writes c.args.out.now.items c.push_sym-else-own-place.new.out.items (enclosed b (words (shown_tree c.args.e.now))))) (sym over)
-    (chain_3 c.push_sym-else-own-place.result c.args.out.now.items c.push_sym.new.out.items c.push_expr-else-own-place.new.out.items c.push_sym-else-own-place.new.out.items (Printed.sym syms.OpenParen ∷ []) (words (shown_tree c.args.e.now)) (Printed.sym syms.CloseParen ∷ []) c.in_ok-push_sym.ensures c.in_ok-push_expr.ensures c.push_sym-else-own-place.ensures)
+    (chain_3 c.push_sym-else-own-place.result c.args.out.now.items c.push_sym.new.out.items c.push_expr-else-own-place.new.out.items
+    c.push_sym-else-own-place.new.out.items (Printed.sym syms.OpenParen ∷ []) (words (shown_tree c.args.e.now)) (Printed.sym syms.CloseParen ∷ [])
+    c.in_ok-push_sym.ensures c.in_ok-push_expr.ensures c.push_sym-else-own-place.ensures)
 
 -- ---- loops
 
@@ -73,26 +124,49 @@ push_arms-loop-arm-preserved t c =
     let rest = drop (c.loop-arm.arm-index + 1) c.args.arms.now in
     let tail = labelled_words (shown_labelled rest) in
     let all = labelled_words (shown_labelled c.args.arms.now) in
-    let start = subst (λ (l : List Arm). Leaves c.loop-arm.out.items (labelled_words (shown_labelled l)) c.args.out.now.items all) (drop_at c.args.arms.now c.loop-arm.arm-index x c.loop-arm-test.true c.arm-item.is) c.loop-arm.invariant in
-    let one = leaves_less c.args.out.now.items c.loop-arm.out.items c.push_expr.new.out.items (words (shown_tree x.label)) (Printed.sym syms.Arrow ∷ (words (shown_tree x.value) ++ (Printed.sym syms.Comma ∷ tail))) all start c.in_ok-push_expr.ensures in
-    let two = leaves_less c.args.out.now.items c.push_expr.new.out.items c.push_sym.new.out.items (Printed.sym syms.Arrow ∷ []) (words (shown_tree x.value) ++ (Printed.sym syms.Comma ∷ tail)) all one c.in_ok-push_sym.ensures in
-    let three = leaves_less c.args.out.now.items c.push_sym.new.out.items c.push_expr-in-loop-arm.new.out.items (words (shown_tree x.value)) (Printed.sym syms.Comma ∷ tail) all two c.in_ok-push_expr-2.ensures in
+    let start = subst (λ (l : List Arm). Leaves c.loop-arm.out.items (labelled_words (shown_labelled l)) c.args.out.now.items all)
+    (drop_at c.args.arms.now c.loop-arm.arm-index x c.loop-arm-test.true c.arm-item.is) c.loop-arm.invariant in
+    let one = leaves_less c.args.out.now.items c.loop-arm.out.items c.push_expr.new.out.items (words (shown_tree x.label))
+    (Printed.sym syms.Arrow ∷ (words (shown_tree x.value) ++ (Printed.sym syms.Comma ∷ tail))) all start c.in_ok-push_expr.ensures in
+    let two = leaves_less c.args.out.now.items c.push_expr.new.out.items c.push_sym.new.out.items (Printed.sym syms.Arrow ∷ [])
+    (words (shown_tree x.value) ++ (Printed.sym syms.Comma ∷ tail)) all one c.in_ok-push_sym.ensures in
+    let three = leaves_less c.args.out.now.items c.push_sym.new.out.items c.push_expr-in-loop-arm.new.out.items (words (shown_tree x.value))
+    (Printed.sym syms.Comma ∷ tail) all two c.in_ok-push_expr-2.ensures in
     leaves_less c.args.out.now.items c.push_expr-in-loop-arm.new.out.items c.push_sym-in-loop-arm.new.out.items (Printed.sym syms.Comma ∷ []) tail all three c.in_ok-push_sym-2.ensures
 
 pub push_bindings-loop-b-preserved : goal.push_bindings-loop-b-preserved
 push_bindings-loop-b-preserved t c =
-    items_step (λ (b : Bind). bound_words b.name b.width (words (shown_tree b.value))) (λ (l : List Bind). bind_words (binds_of (shown_bounds l))) refl (λ b l. refl) (Printed.sym syms.Comma) (take (length c.args.bs.now - 1) (drop 1 c.args.bs.now)) c.loop-b.b-index c.b-item.result c.loop-b-test.true c.b-item.is c.push_binding.new.out.items c.loop-b.out.items c.push_sym.new.out.items c.push_binding-in-loop-b.new.out.items (behind (Printed.sym syms.Comma) (bind_words (binds_of (shown_bounds (take (length c.args.bs.now - 1) (drop 1 c.args.bs.now)))))) c.loop-b.invariant c.in_ok-push_sym.ensures c.in_ok-push_binding-2.ensures
+    items_step (λ (b : Bind). bound_words b.name b.width (words (shown_tree b.value))) (λ (l : List Bind). bind_words (binds_of (shown_bounds l)))
+    refl (λ b l. refl) (Printed.sym syms.Comma) (take (length c.args.bs.now - 1) (drop 1 c.args.bs.now)) c.loop-b.b-index c.b-item.result
+    c.loop-b-test.true c.b-item.is c.push_binding.new.out.items c.loop-b.out.items c.push_sym.new.out.items c.push_binding-in-loop-b.new.out.items
+    (behind (Printed.sym syms.Comma) (bind_words (binds_of (shown_bounds (take (length c.args.bs.now - 1) (drop 1 c.args.bs.now))))))
+    c.loop-b.invariant c.in_ok-push_sym.ensures c.in_ok-push_binding-2.ensures
 
 pub push_bindings-returns-after-loop-b : goal.push_bindings-returns-after-loop-b
 push_bindings-returns-after-loop-b t c =
-    subst (λ (l : List Bind). Writes c.args.out.now.items c.loop-b.out.items (separated (Printed.sym syms.Comma) (bind_words (binds_of (shown_bounds l))))) (sym (by_first c.args.bs.now c.first-item.result (omega arith) c.first-item.is))
-    (items_end (λ (b : Bind). bound_words b.name b.width (words (shown_tree b.value))) (λ (l : List Bind). bind_words (binds_of (shown_bounds l))) refl (λ b l. refl) (Printed.sym syms.Comma) (take (length c.args.bs.now - 1) (drop 1 c.args.bs.now)) c.loop-b.b-index c.loop-b-test.false c.args.out.now.items c.push_binding.new.out.items c.loop-b.out.items (bound_words c.first-item.result.name c.first-item.result.width (words (shown_tree c.first-item.result.value))) c.loop-b.invariant c.in_ok-push_binding.ensures)
+    subst (λ (l : List Bind). Writes c.args.out.now.items c.loop-b.out.items
+    (separated (Printed.sym syms.Comma) (bind_words (binds_of (shown_bounds l))))) (sym (by_first c.args.bs.now c.first-item.result (omega arith) c.first-item.is))
+    (items_end (λ (b : Bind). bound_words b.name b.width (words (shown_tree b.value))) (λ (l : List Bind). bind_words (binds_of (shown_bounds l)))
+    refl (λ b l. refl) (Printed.sym syms.Comma) (take (length c.args.bs.now - 1) (drop 1 c.args.bs.now)) c.loop-b.b-index c.loop-b-test.false
+    c.args.out.now.items c.push_binding.new.out.items c.loop-b.out.items
+    (bound_words c.first-item.result.name c.first-item.result.width (words (shown_tree c.first-item.result.value))) c.loop-b.invariant c.in_ok-push_binding.ensures)
 
 pub push_parts-loop-e-preserved : goal.push_parts-loop-e-preserved
 push_parts-loop-e-preserved t c =
-    items_step (λ (e : Expr). enclosed (leb (own (shown_tree e)) c.args.right) (words (shown_tree e))) (λ (l : List Expr). part_words c.args.right c.args.right (trees_of (shown_trees l))) refl (λ e l. refl) (Printed.sym c.args.between) (take (length c.args.es.now - 1) (drop 1 c.args.es.now)) c.loop-e.e-index c.e-item.result c.loop-e-test.true c.e-item.is c.push_part.new.out.items c.loop-e.out.items c.push_sym.new.out.items c.push_part-in-loop-e.new.out.items (behind (Printed.sym c.args.between) (part_words c.args.right c.args.right (trees_of (shown_trees (take (length c.args.es.now - 1) (drop 1 c.args.es.now)))))) c.loop-e.invariant c.in_ok-push_sym.ensures c.in_ok-push_part-2.ensures
+    items_step (λ (e : Expr). enclosed (leb (own (shown_tree e)) c.args.right) (words (shown_tree e)))
+    (λ (l : List Expr). part_words c.args.right c.args.right (trees_of (shown_trees l))) refl (λ e l. refl) (Printed.sym c.args.between)
+    (take (length c.args.es.now - 1) (drop 1 c.args.es.now)) c.loop-e.e-index c.e-item.result c.loop-e-test.true c.e-item.is
+    c.push_part.new.out.items c.loop-e.out.items c.push_sym.new.out.items c.push_part-in-loop-e.new.out.items
+    (behind (Printed.sym c.args.between) (part_words c.args.right c.args.right
+    (trees_of (shown_trees (take (length c.args.es.now - 1) (drop 1 c.args.es.now)))))) c.loop-e.invariant c.in_ok-push_sym.ensures c.in_ok-push_part-2.ensures
 
 pub push_parts-returns-after-loop-e : goal.push_parts-returns-after-loop-e
 push_parts-returns-after-loop-e t c =
-    subst (λ (l : List Expr). Writes c.args.out.now.items c.loop-e.out.items (separated (Printed.sym c.args.between) (part_words c.args.left c.args.right (trees_of (shown_trees l))))) (sym (by_first c.args.es.now c.first-item.result (omega arith) c.first-item.is))
-    (items_end (λ (e : Expr). enclosed (leb (own (shown_tree e)) c.args.right) (words (shown_tree e))) (λ (l : List Expr). part_words c.args.right c.args.right (trees_of (shown_trees l))) refl (λ e l. refl) (Printed.sym c.args.between) (take (length c.args.es.now - 1) (drop 1 c.args.es.now)) c.loop-e.e-index c.loop-e-test.false c.args.out.now.items c.push_part.new.out.items c.loop-e.out.items (enclosed (leb (own (shown_tree c.first-item.result)) c.args.left) (words (shown_tree c.first-item.result))) c.loop-e.invariant c.in_ok-push_part.ensures)
+    subst (λ (l : List Expr). Writes c.args.out.now.items c.loop-e.out.items
+    (separated (Printed.sym c.args.between) (part_words c.args.left c.args.right (trees_of (shown_trees l)))))
+    (sym (by_first c.args.es.now c.first-item.result (omega arith) c.first-item.is))
+    (items_end (λ (e : Expr). enclosed (leb (own (shown_tree e)) c.args.right) (words (shown_tree e)))
+    (λ (l : List Expr). part_words c.args.right c.args.right (trees_of (shown_trees l))) refl (λ e l. refl) (Printed.sym c.args.between)
+    (take (length c.args.es.now - 1) (drop 1 c.args.es.now)) c.loop-e.e-index c.loop-e-test.false c.args.out.now.items c.push_part.new.out.items
+    c.loop-e.out.items (enclosed (leb (own (shown_tree c.first-item.result)) c.args.left) (words (shown_tree c.first-item.result)))
+    c.loop-e.invariant c.in_ok-push_part.ensures)

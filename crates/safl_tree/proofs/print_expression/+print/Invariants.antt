@@ -11,7 +11,10 @@ abbrev pub invariant-push_arms-loop-arm : goal.invariant-push_arms-loop-arm
 invariant-push_arms-loop-arm l = Leaves l.out.items (labelled_words (shown_labelled (drop l.arm-index l.arms))) l.initial.out.items (labelled_words (shown_labelled l.arms))
 
 abbrev pub invariant-push_bindings-loop-b : goal.invariant-push_bindings-loop-b
-invariant-push_bindings-loop-b l = Leaves l.out.items (behind (sym syms.Comma) (bind_words (binds_of (shown_bounds (drop l.b-index l.rest))))) l.initial.out.items (behind (sym syms.Comma) (bind_words (binds_of (shown_bounds l.rest))))
+invariant-push_bindings-loop-b l = Leaves l.out.items (behind (sym syms.Comma) (bind_words (binds_of (shown_bounds (drop l.b-index l.rest)))))
+    l.initial.out.items (behind (sym syms.Comma) (bind_words (binds_of (shown_bounds l.rest))))
 
 abbrev pub invariant-push_parts-loop-e : goal.invariant-push_parts-loop-e
-invariant-push_parts-loop-e l = Leaves l.out.items (behind (sym l.between) (part_words l.right l.right (trees_of (shown_trees (drop l.e-index l.rest))))) l.initial.out.items (behind (sym l.between) (part_words l.right l.right (trees_of (shown_trees l.rest))))
+invariant-push_parts-loop-e l = Leaves l.out.items (behind (sym l.between)
+    (part_words l.right l.right (trees_of (shown_trees (drop l.e-index l.rest))))) l.initial.out.items
+    (behind (sym l.between) (part_words l.right l.right (trees_of (shown_trees l.rest))))

@@ -7,4 +7,5 @@ use Rattle.safl_tree.proofs.print_program.push_params.Given as goal
 
 -- with what is left the text is that of all
 abbrev pub invariant-loop-param : goal.invariant-loop-param
-invariant-loop-param l = Leaves l.out.items (behind (sym syms.Comma) (param_words (shown_parameters (drop l.param-index l.rest)))) l.initial.out.items (behind (sym syms.Comma) (param_words (shown_parameters l.rest)))
+invariant-loop-param l = Leaves l.out.items (behind (sym syms.Comma) (param_words (shown_parameters (drop l.param-index l.rest)))) l.initial.out.items
+    (behind (sym syms.Comma) (param_words (shown_parameters l.rest)))

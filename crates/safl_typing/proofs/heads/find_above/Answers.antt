@@ -10,7 +10,8 @@ loop-at-init c = sought_begins (λ (u : ℕ). nat_lt u c.args.unit) c.args.name.
 
 pub loop-at-smaller : goal.loop-at-smaller
 loop-at-smaller c =
-    sought_falls (λ (u : ℕ). nat_lt u c.args.unit) c.args.name.now c.args.heads.now c.loop-at.at c.loop-at.found c.before-at.result c.in-Some.number c.loop-at.invariant c.in-Some.is c.before-at.ensures
+    sought_falls (λ (u : ℕ). nat_lt u c.args.unit) c.args.name.now c.args.heads.now c.loop-at.at c.loop-at.found c.before-at.result c.in-Some.number
+    c.loop-at.invariant c.in-Some.is c.before-at.ensures
 
 pub loop-at-preserved : goal.loop-at-preserved
 loop-at-preserved c =

@@ -10,4 +10,7 @@ add_slots-requires t c =
     search rules
 
 pub returns : goal.returns
-returns t c = on_ok_weaker c.add_slots.result (λ h. slots_more c.args.all.now.items c.push.new.self.items c.add_slots.new.all.items c.args.bound.now c.in-Some.first.now c.in-Some.rest.now c.args.widths.now c.in-Some-split_first.width.now c.in-Some-split_first.others.now c.in_ok-name.name c.bytes.result.now c.in-Some.ensures.cases.0 c.in-Some-split_first.ensures.cases.0 (c.in_ok-name.ensures.bytes) c.bytes.ensures.bytes c.in_ok-push.ensures.items h) c.add_slots.ensures
+returns t c = on_ok_weaker c.add_slots.result (λ h. slots_more c.args.all.now.items c.push.new.self.items c.add_slots.new.all.items c.args.bound.now
+    c.in-Some.first.now c.in-Some.rest.now c.args.widths.now c.in-Some-split_first.width.now c.in-Some-split_first.others.now c.in_ok-name.name
+    c.bytes.result.now c.in-Some.ensures.cases.0 c.in-Some-split_first.ensures.cases.0 (c.in_ok-name.ensures.bytes) c.bytes.ensures.bytes
+    c.in_ok-push.ensures.items h) c.add_slots.ensures

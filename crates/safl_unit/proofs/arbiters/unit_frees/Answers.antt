@@ -62,7 +62,9 @@ loop-f-preserved c =
     record {
       tidy = c.unit_row.ensures.tidy;
       built = builds_within (3 * tally (λ u. length (row_at rows u)) (f + 1)) (builds_on c.loop-f.invariant.built c.in_ok-row.ensures.built) (omega (arith, d, t));
-      so_far = rows_more (program_of c.args.p.now.program) (choice_of c.args.p.now) c.loop-f.net c.unit_row.new.net (3 * length c.deref.result.now) us rows c.loop-f.out.items c.push.new.self.items f c.in_ok-row.row c.index-unit.result.now
+      so_far = rows_more (program_of c.args.p.now.program) (choice_of c.args.p.now) c.loop-f.net c.unit_row.new.net (3 * length c.deref.result.now) us
+          rows c.loop-f.out.items c.push.new.self.items f c.in_ok-row.row c.index-unit.result.now
           c.in_ok-row.ensures.built c.loop-f.invariant.so_far c.in_ok-push.ensures.items c.in_ok-row.ensures.fits at
-          (λ a. c.in_ok-row.ensures.long (c.arbiter-arbiter.ensures.entry ∙ a) ∙ d) (λ v w a. c.in_ok-row.ensures.value v w (c.arbiter-arbiter.ensures.entry ∙ a) ∙ ap (frees v (not (on v c.index-unit.result.now.run))) e);
+          (λ a. c.in_ok-row.ensures.long (c.arbiter-arbiter.ensures.entry ∙ a) ∙ d)
+          (λ v w a. c.in_ok-row.ensures.value v w (c.arbiter-arbiter.ensures.entry ∙ a) ∙ ap (frees v (not (on v c.index-unit.result.now.run))) e);
     }

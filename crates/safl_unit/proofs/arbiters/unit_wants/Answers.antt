@@ -42,7 +42,8 @@ loop-done-preserved c =
           ∙ ap (λ (t : Sig). site_row C ls u m ++ cond (u == unit_for C (suc m)) (t ∷ []) []) bit ∙ sym (row_next C ls u m);
       ranks_count = omega (arith, a, b, d);
       ranks = more_ranks (λ (k : ℕ). length (site_row C ls (unit_for C (suc k)) k)) c.loop-done.ranks.items c.push.new.self.items m (length c.deref-row.result.now) c.in_ok-push.ensures.items d
-          (ap (λ (xs : List Sig). length xs) (row_there c.loop-done.rows.items c.unit_of-unit.result c.index.result.now c.deref-row.result.now (omega (arith, w, x, n)) c.index.ensures c.deref-row.ensures.value ∙ j.rows c.unit_of-unit.result)
+          (ap (λ (xs : List Sig). length xs) (row_there c.loop-done.rows.items c.unit_of-unit.result c.index.result.now c.deref-row.result.now
+          (omega (arith, w, x, n)) c.index.ensures c.deref-row.ensures.value ∙ j.rows c.unit_of-unit.result)
           ∙ ap (λ (k : ℕ). length (site_row C ls k m)) unit)
           j.ranks;
     }

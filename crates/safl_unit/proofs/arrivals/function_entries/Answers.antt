@@ -16,7 +16,8 @@ loop-h-init c =
     record {
       tidy = c.requires.tidy;
       built = builds_same n n refl 0;
-      table = start_bits n c.in_ok-all.all.items C.functions (λ (v : Val) (i : ℕ). is_some (taken_from v xs i)) (λ (v : Val) (i h : ℕ). (i == h) && is_some (taken_from v c.args.outcomes.now.loops.items h))
+      table = start_bits n c.in_ok-all.all.items C.functions (λ (v : Val) (i : ℕ). is_some (taken_from v xs i))
+          (λ (v : Val) (i h : ℕ). (i == h) && is_some (taken_from v c.args.outcomes.now.loops.items h))
           (bits_of_loads n xs c.in_ok-all.all.items C.functions c.requires.loads.0 c.requires.count c.requires.loads.1 c.in_ok-all.ensures.bits);
     }
 
@@ -39,7 +40,8 @@ add_some-requires-clause-bit c =
     let l = c.loop-h-test.true in
     let k = c.function_count-functions.ensures.count in
     let g = loop_there C c.args.net.now c.args.outcomes.now c.loop-h.h c.index.result.now c.requires.outcomes (omega (arith, l, k)) c.index.ensures in
-    maybe_bit_kept c.loop-h.invariant.built c.load_bit-bit.result (loop_fits C c.args.net.now c.args.outcomes.now c.loop-h.h c.index.result.now c.load_bit-bit.result c.requires.outcomes g c.load_bit-bit.ensures)
+    maybe_bit_kept c.loop-h.invariant.built c.load_bit-bit.result
+    (loop_fits C c.args.net.now c.args.outcomes.now c.loop-h.h c.index.result.now c.load_bit-bit.result c.requires.outcomes g c.load_bit-bit.ensures)
 
 pub add_some-requires-clause-room : goal.add_some-requires-clause-room
 add_some-requires-clause-room c =
@@ -60,7 +62,8 @@ loop-h-preserved c =
     record {
       tidy = c.add_some.ensures.tidy;
       built = builds_on c.loop-h.invariant.built c.add_some.ensures.built;
-      table = more_bits c.loop-h.net c.add_some.new.net c.loop-h.all.items c.add_some.new.bits.items C.functions h 1 h (λ (v : Val). on_in v c.load_bit-bit.result) (λ (v : Val) (i : ℕ). is_some (taken_from v c.args.loads.now i))
+      table = more_bits c.loop-h.net c.add_some.new.net c.loop-h.all.items c.add_some.new.bits.items C.functions h 1 h
+          (λ (v : Val). on_in v c.load_bit-bit.result) (λ (v : Val) (i : ℕ). is_some (taken_from v c.args.loads.now i))
           (λ (v : Val) (i j : ℕ). (i == j) && is_some (taken_from v o.loops.items j))
           c.add_some.ensures.built c.loop-h.invariant.table c.add_some.ensures.count c.in_ok-add_some.ensures.fits c.in_ok-add_some.ensures.shows
           (λ v i w. loop_shown v o h i h h c.index.result.now c.load_bit-bit.result g c.load_bit-bit.ensures refl);
@@ -82,5 +85,7 @@ returns-clause-done c =
     let b = c.loop-h.auto.h-end in
     let k = c.function_count-functions.ensures.count in
     let e : c.loop-h.h ≡ C.functions = omega (arith, l, b, k) in
-    subst (λ (m : ℕ). ShowsBits c.loop-h.net c.loop-h.all.items C.functions (λ (v : Val) (i : ℕ). is_some (taken_from v c.args.loads.now i) || one_below (λ (h : ℕ). (i == h) && is_some (taken_from v c.args.outcomes.now.loops.items h)) m)) e
+    subst (λ (m : ℕ). ShowsBits c.loop-h.net c.loop-h.all.items C.functions
+    (λ (v : Val) (i : ℕ). is_some (taken_from v c.args.loads.now i) || one_below
+    (λ (h : ℕ). (i == h) && is_some (taken_from v c.args.outcomes.now.loops.items h)) m)) e
     c.loop-h.invariant.table

@@ -20,7 +20,8 @@ loop-k-init c =
     let none = total_bare load_joins rows refl c.in_ok-rows.ensures.bare in
     record {
       gates = omega (arith, none);
-      table = bare_load_rows c.args.net.now rows C.functions C.params (λ (v : Val) (f k : ℕ). gate ((f == C.callee k) && on v (pin c.args.goes.now k)) (operands_in v (slice_get c.args.outcomes.now.wants.items k)))
+      table = bare_load_rows c.args.net.now rows C.functions C.params
+          (λ (v : Val) (f k : ℕ). gate ((f == C.callee k) && on v (pin c.args.goes.now k)) (operands_in v (slice_get c.args.outcomes.now.wants.items k)))
           (c.in_ok-rows.ensures.count ∙ c.function_count-functions.ensures.count) c.in_ok-rows.ensures.bare;
     }
 
@@ -89,5 +90,6 @@ returns-clause-done c =
     let e : c.loop-k.k ≡ suc C.sites = omega (arith, l, b, s) in
     let says = λ (m : ℕ) (v : Val) (f : ℕ). first (λ (k : ℕ). gate ((f == C.callee k) && on v (pin c.args.goes.now k)) (operands_in v (slice_get c.args.outcomes.now.wants.items k))) m in
     let table = subst (λ (rows : List (Vec Load Global)). LoadRows n rows C.functions C.params (says c.loop-k.k)) (sym c.deref-2.ensures.value) c.loop-k.invariant.table in
-    let done = joined_loads n c.join_loads.new.net c.deref-2.result.now c.in_ok-all.all.items C.functions C.params (says c.loop-k.k) table c.in_ok-all.ensures.count (c.in_ok-all.ensures.fits C.params table.fits) c.in_ok-all.ensures.joined in
+    let done = joined_loads n c.join_loads.new.net c.deref-2.result.now c.in_ok-all.all.items C.functions C.params (says c.loop-k.k) table
+    c.in_ok-all.ensures.count (c.in_ok-all.ensures.fits C.params table.fits) c.in_ok-all.ensures.joined in
     subst (λ (m : ℕ). ShowsLoads c.join_loads.new.net c.in_ok-all.all.items C.functions C.params (says m)) e done

@@ -11,5 +11,6 @@ use Rattle.safl_unit.proofs.arrivals.function_loads.Given as goal
 abbrev pub invariant-loop-k : goal.invariant-loop-k
 invariant-loop-k l = record {
   gates : total load_joins l.rows.items ≤ 17 * l.k;
-  table : LoadRows l.net l.rows.items (program_of l.p.program).functions (program_of l.p.program).params (λ v f. first (λ k. gate ((f == (program_of l.p.program).callee k) && on v (pin l.goes k)) (operands_in v (slice_get l.outcomes.wants.items k))) l.k);
+  table : LoadRows l.net l.rows.items (program_of l.p.program).functions (program_of l.p.program).params
+      (λ v f. first (λ k. gate ((f == (program_of l.p.program).callee k) && on v (pin l.goes k)) (operands_in v (slice_get l.outcomes.wants.items k))) l.k);
 }

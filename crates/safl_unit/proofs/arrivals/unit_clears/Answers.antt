@@ -17,7 +17,9 @@ loop-h-init c =
     let none = load_rows_total rows (λ (i : ℕ). bit_of (load_in (slice_get xs i))) c.in_ok-rows.ensures.rows in
     record {
       gates = omega (arith, none);
-      table = start_load_rows c.args.net.now rows xs C.functions c.requires.ends.0 (λ (v : Val) (i h : ℕ). (i == C.unit h) && is_some (taken_from v c.args.outcomes.now.loops.items h)) (c.in_ok-rows.ensures.count ∙ c.function_count-functions.ensures.count)
+      table = start_load_rows c.args.net.now rows xs C.functions c.requires.ends.0
+          (λ (v : Val) (i h : ℕ). (i == C.unit h) && is_some (taken_from v c.args.outcomes.now.loops.items h))
+          (c.in_ok-rows.ensures.count ∙ c.function_count-functions.ensures.count)
           c.requires.ends.1 c.in_ok-rows.ensures.rows;
     }
 

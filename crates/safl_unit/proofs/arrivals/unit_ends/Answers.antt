@@ -45,7 +45,8 @@ loop-f-preserved c =
     let d = ap (λ (xs : List Sig). length xs) ops in
     let g = c.loop-f.invariant.gates in
     let more = c.in_ok-push_load.ensures.gates in
-    let fit = operands_fit n n 0 c.index-end.result.now.words.items c.index-end.result.now.words.items (C.result f ∷ []) (C.result c.unit_of-unit.result ∷ []) (builds_same n n refl 0) h.words refl (ap (λ (w : ℕ). w ∷ []) c.unit_of-unit.ensures.width) in
+    let fit = operands_fit n n 0 c.index-end.result.now.words.items c.index-end.result.now.words.items (C.result f ∷ [])
+    (C.result c.unit_of-unit.result ∷ []) (builds_same n n refl 0) h.words refl (ap (λ (w : ℕ). w ∷ []) c.unit_of-unit.ensures.width) in
     record {
       gates = omega (arith, one, d, g, more);
       table = more_load_rows n c.loop-f.rows.items c.push_load.new.rows.items C.functions c.unit_of-unit.result f c.in_ok-load.load (λ (u : ℕ). C.result u ∷ [])
@@ -90,5 +91,6 @@ returns-clause-done c =
     let ws = λ (u : ℕ). C.result u ∷ [] in
     let says = λ (m : ℕ) (v : Val) (u : ℕ). first (λ (f : ℕ). gate (u == C.unit f) (taken_at v c.args.outcomes.now.ends.items f)) m in
     let table = subst (λ (rows : List (Vec Load Global)). LoadRows n rows C.functions ws (says c.loop-f.f)) (sym c.deref-2.ensures.value) c.loop-f.invariant.table in
-    let done = joined_loads n c.join_loads.new.net c.deref-2.result.now c.in_ok-all.all.items C.functions ws (says c.loop-f.f) table c.in_ok-all.ensures.count (c.in_ok-all.ensures.fits ws table.fits) c.in_ok-all.ensures.joined in
+    let done = joined_loads n c.join_loads.new.net c.deref-2.result.now c.in_ok-all.all.items C.functions ws (says c.loop-f.f) table
+    c.in_ok-all.ensures.count (c.in_ok-all.ensures.fits ws table.fits) c.in_ok-all.ensures.joined in
     subst (λ (m : ℕ). ShowsLoads c.join_loads.new.net c.in_ok-all.all.items C.functions ws (says m)) e done

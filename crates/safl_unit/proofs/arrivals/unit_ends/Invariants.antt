@@ -10,5 +10,6 @@ use Rattle.safl_unit.proofs.arrivals.unit_ends.Given as goal
 abbrev pub invariant-loop-f : goal.invariant-loop-f
 invariant-loop-f l = record {
   gates : total load_joins l.rows.items ≤ 2 * l.f;
-  table : LoadRows l.net l.rows.items (program_of l.p.program).functions (λ u. (program_of l.p.program).result u ∷ []) (λ v u. first (λ f. gate (u == (program_of l.p.program).unit f) (taken_at v l.outcomes.ends.items f)) l.f);
+  table : LoadRows l.net l.rows.items (program_of l.p.program).functions (λ u. (program_of l.p.program).result u ∷ [])
+      (λ v u. first (λ f. gate (u == (program_of l.p.program).unit f) (taken_at v l.outcomes.ends.items f)) l.f);
 }

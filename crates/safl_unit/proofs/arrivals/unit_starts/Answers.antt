@@ -19,7 +19,8 @@ loop-k-init c =
     let none = total_bare bit_joins rows refl c.in_ok-rows.ensures.bare in
     record {
       gates = omega (arith, none);
-      table = bare_bit_rows c.args.net.now rows C.functions (λ (v : Val) (u k : ℕ). (u == unit_for C k) && on v (pin c.args.goes.now k)) (c.in_ok-rows.ensures.count ∙ c.function_count-functions.ensures.count) c.in_ok-rows.ensures.bare;
+      table = bare_bit_rows c.args.net.now rows C.functions (λ (v : Val) (u k : ℕ). (u == unit_for C k) && on v (pin c.args.goes.now k))
+          (c.in_ok-rows.ensures.count ∙ c.function_count-functions.ensures.count) c.in_ok-rows.ensures.bare;
     }
 
 pub push_at-requires : goal.push_at-requires
@@ -40,7 +41,8 @@ loop-k-preserved c =
     let more = c.in_ok-push_at.ensures.gates in
     record {
       gates = omega (arith, g, more);
-      table = more_bit_rows n c.loop-k.rows.items c.push_at.new.rows.items C.functions c.unit_of-unit.result k (pin c.args.goes.now k) (λ (v : Val) (u j : ℕ). (u == unit_for C j) && on v (pin c.args.goes.now j))
+      table = more_bit_rows n c.loop-k.rows.items c.push_at.new.rows.items C.functions c.unit_of-unit.result k (pin c.args.goes.now k)
+          (λ (v : Val) (u j : ℕ). (u == unit_for C j) && on v (pin c.args.goes.now j))
           c.loop-k.invariant.table c.push_at.ensures.count c.in_ok-push_at.ensures.rows (c.requires.goes k (omega (arith, l, s)))
           (λ v i. ap (λ (x : ℕ). (i == x) && on v (pin c.args.goes.now k)) (c.unit_of-unit.ensures.number ∙ ap C.unit c.callee_of-callee.ensures.number));
     }

@@ -22,8 +22,10 @@ lower-requires-clause-able c =
     let q : Ports = record { run = c.in_ok-run.run'; args = c.in_ok-args.args; sites = c.in_ok-sites.sites } in
     let b = c.requires.pins.bank.members_length in
     let l = c.requires.function in
-    let runs = subst (λ (x : CheckedProgram). InEachCycle (program_of x) P c.body_path.new.net c.args.pins.now (λ v r i. on v c.in_ok-run.run' ≡ path (program_of x) r c.args.f)) same (c.in_ok-run.ensures.shows P) in
-    let ports = subst (λ (x : CheckedProgram). AreOwnPorts x c.args.returns.now.ports.items c.args.f c.in_ok-sites.sites.items) same (subst (λ (xs : List SitePorts). AreOwnPorts c.program-c.result.now xs c.args.f c.in_ok-sites.sites.items) c.deref-2.ensures.value c.in_ok-sites.ensures) in
+    let runs = subst (λ (x : CheckedProgram). InEachCycle (program_of x) P c.body_path.new.net c.args.pins.now
+    (λ v r i. on v c.in_ok-run.run' ≡ path (program_of x) r c.args.f)) same (c.in_ok-run.ensures.shows P) in
+    let ports = subst (λ (x : CheckedProgram). AreOwnPorts x c.args.returns.now.ports.items c.args.f c.in_ok-sites.sites.items) same
+    (subst (λ (xs : List SitePorts). AreOwnPorts c.program-c.result.now xs c.args.f c.in_ok-sites.sites.items) c.deref-2.ensures.value c.in_ok-sites.ensures) in
     subst (λ (x : CheckedProgram). CanLower x c.args.f c.body_path.new.net q) (sym same)
     (body_able d c.program-c.ensures.checked P c.args.f l c.args.net.now c.body_path.new.net c.args.pins.now c.args.returns.now q c.index.result.now
     c.in_ok-run.ensures.built c.requires.pins c.requires.returns c.in_ok-run.ensures.fits runs
@@ -39,8 +41,10 @@ returns-clause-built c =
     let q : Ports = record { run = c.in_ok-run.run'; args = c.in_ok-args.args; sites = c.in_ok-sites.sites } in
     let b = c.requires.pins.bank.members_length in
     let l = c.requires.function in
-    let runs = subst (λ (x : CheckedProgram). InEachCycle (program_of x) P c.body_path.new.net c.args.pins.now (λ v r i. on v c.in_ok-run.run' ≡ path (program_of x) r c.args.f)) same (c.in_ok-run.ensures.shows P) in
-    let ports = subst (λ (x : CheckedProgram). AreOwnPorts x c.args.returns.now.ports.items c.args.f c.in_ok-sites.sites.items) same (subst (λ (xs : List SitePorts). AreOwnPorts c.program-c.result.now xs c.args.f c.in_ok-sites.sites.items) c.deref-2.ensures.value c.in_ok-sites.ensures) in
+    let runs = subst (λ (x : CheckedProgram). InEachCycle (program_of x) P c.body_path.new.net c.args.pins.now
+    (λ v r i. on v c.in_ok-run.run' ≡ path (program_of x) r c.args.f)) same (c.in_ok-run.ensures.shows P) in
+    let ports = subst (λ (x : CheckedProgram). AreOwnPorts x c.args.returns.now.ports.items c.args.f c.in_ok-sites.sites.items) same
+    (subst (λ (xs : List SitePorts). AreOwnPorts c.program-c.result.now xs c.args.f c.in_ok-sites.sites.items) c.deref-2.ensures.value c.in_ok-sites.ensures) in
     all_built d c.program-c.ensures.checked P c.args.f l c.args.net.now c.body_path.new.net c.args.pins.now c.args.returns.now q c.index.result.now
     c.in_ok-run.ensures.built c.requires.pins c.requires.returns c.in_ok-run.ensures.fits runs
     ports (slice_get_read c.args.pins.now.bank.members.items (length c.args.pins.now.bank.members.items) c.args.f c.index.result.now refl (omega (arith, b, l)) c.index.ensures)
@@ -55,8 +59,10 @@ returns-clause-done c =
     let q : Ports = record { run = c.in_ok-run.run'; args = c.in_ok-args.args; sites = c.in_ok-sites.sites } in
     let b = c.requires.pins.bank.members_length in
     let l = c.requires.function in
-    let runs = subst (λ (x : CheckedProgram). InEachCycle (program_of x) P c.body_path.new.net c.args.pins.now (λ v r i. on v c.in_ok-run.run' ≡ path (program_of x) r c.args.f)) same (c.in_ok-run.ensures.shows P) in
-    let ports = subst (λ (x : CheckedProgram). AreOwnPorts x c.args.returns.now.ports.items c.args.f c.in_ok-sites.sites.items) same (subst (λ (xs : List SitePorts). AreOwnPorts c.program-c.result.now xs c.args.f c.in_ok-sites.sites.items) c.deref-2.ensures.value c.in_ok-sites.ensures) in
+    let runs = subst (λ (x : CheckedProgram). InEachCycle (program_of x) P c.body_path.new.net c.args.pins.now
+    (λ v r i. on v c.in_ok-run.run' ≡ path (program_of x) r c.args.f)) same (c.in_ok-run.ensures.shows P) in
+    let ports = subst (λ (x : CheckedProgram). AreOwnPorts x c.args.returns.now.ports.items c.args.f c.in_ok-sites.sites.items) same
+    (subst (λ (xs : List SitePorts). AreOwnPorts c.program-c.result.now xs c.args.f c.in_ok-sites.sites.items) c.deref-2.ensures.value c.in_ok-sites.ensures) in
     all_has d c.program-c.ensures.checked P c.args.f l c.args.net.now c.body_path.new.net c.args.pins.now c.args.returns.now q c.index.result.now
     c.in_ok-run.ensures.built c.requires.pins c.requires.returns c.in_ok-run.ensures.fits runs
     ports (slice_get_read c.args.pins.now.bank.members.items (length c.args.pins.now.bank.members.items) c.args.f c.index.result.now refl (omega (arith, b, l)) c.index.ensures)

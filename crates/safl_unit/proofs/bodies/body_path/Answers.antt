@@ -19,7 +19,8 @@ alone false b m e = refl
 shared : (a b m : Bool) → m ≡ true → (a && b) ≡ (a && (not m || b))
 shared a b m e = ap (λ x. a && (not x || b)) (sym e)
 
-path_shown : {E : Type 0} (C : Program) (P : Choice) (n m : Netlist) (p : Pins) (f : _) (r : Result Sig E) (a b : Sig) → Builds n m 1 → many C f ≡ true → InEachCycle C P n p (λ v r i. on v a ≡ r.run (C.unit f)) → InEachCycle C P n p (λ v r i. on v b ≡ r.at f)
+path_shown : {E : Type 0} (C : Program) (P : Choice) (n m : Netlist) (p : Pins) (f : _) (r : Result Sig E) (a b : Sig) → Builds n m 1 → many C f ≡
+    true → InEachCycle C P n p (λ v r i. on v a ≡ r.run (C.unit f)) → InEachCycle C P n p (λ v r i. on v b ≡ r.at f)
     → IfOk r (λ s. (v : Val) → Wired m v → on v s ≡ (on v a && on v b)) → IfOk r (λ s. InEachCycle C P m p (λ v r i. on v s ≡ path C r f))
 path_shown C P n m p f (Ok s) a b g e x y h = λ v r i c.
     let d = cycle_before g c in

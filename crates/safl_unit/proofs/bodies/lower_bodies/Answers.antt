@@ -24,7 +24,8 @@ loop-f-init c =
     record {
       tidy = c.requires.tidy;
       built = builds_same c.args.net.now c.args.net.now refl _;
-      done = none_outcomes c.args.p.now.program (subst IsChecked same c.functions.ensures.checked) (choice_of c.args.p.now) c.args.net.now c.args.pins.now c.in_ok-all.all w.0 c.requires.pins e.ends (e.count ∙ count) e.rows w.1 w.2 w.3;
+      done = none_outcomes c.args.p.now.program (subst IsChecked same c.functions.ensures.checked) (choice_of c.args.p.now) c.args.net.now
+          c.args.pins.now c.in_ok-all.all w.0 c.requires.pins e.ends (e.count ∙ count) e.rows w.1 w.2 w.3;
     }
 
 pub body_of-requires-clause-pins : goal.body_of-requires-clause-pins
@@ -68,7 +69,8 @@ loop-f-preserved c =
     record {
       tidy = c.body_of.ensures.tidy;
       built = builds_within _ (builds_on c.loop-f.invariant.built built) (omega (arith, next));
-      done = next_outcomes c.args.p.now.program (subst IsChecked same c.functions.ensures.checked) (choice_of c.args.p.now) c.args.pins.now c.loop-f.f l c.loop-f.net c.body_of.new.net _ c.loop-f.all q body
+      done = next_outcomes c.args.p.now.program (subst IsChecked same c.functions.ensures.checked) (choice_of c.args.p.now) c.args.pins.now c.loop-f.f
+          l c.loop-f.net c.body_of.new.net _ c.loop-f.all q body
           c.loop-f.invariant.done built done c.in_ok-push.ensures.items c.in_ok-append.ensures.items pushed.count
           (subst (λ u. PushesLoads u (length body.loops.items) body.loops.items c.loop-f.all.rows.items c.push_loops.new.rows.items) unit pushed.pushed) pushed.gates;
     }

@@ -23,5 +23,6 @@ returns c =
     let long = part_length c.args.ports.now c.in_ok-own.own.items c.first_site-first.result c.own_sites.result c.in_ok-own.ensures.items within in
     record {
       count = omega (arith, long, e, g);
-      same = λ i m. part_get c.args.ports.now c.in_ok-own.own.items c.first_site-first.result c.own_sites.result i c.in_ok-own.ensures.items (omega (arith, long, m)) ∙ ap (λ k. slice_get c.args.ports.now (k + i)) e;
+      same = λ i m. part_get c.args.ports.now c.in_ok-own.own.items c.first_site-first.result c.own_sites.result i c.in_ok-own.ensures.items
+          (omega (arith, long, m)) ∙ ap (λ k. slice_get c.args.ports.now (k + i)) e;
     }

@@ -43,7 +43,8 @@ lower_bodies-requires-clause-room c =
     let f = h.limits.functions in
     let s = h.limits.sites in
     let m = few_nodes c.args.p.now.program h in
-    room_for c.args.p.now.program h P c.in_ok-declared.declared.net c.returns.new.net (5 * C.sites) (33 * body_nodes C C.functions + 33 * C.functions) d (c.in_ok-shown.ensures.built).count (omega (arith, f, s, m))
+    room_for c.args.p.now.program h P c.in_ok-declared.declared.net c.returns.new.net (5 * C.sites) (33 * body_nodes C C.functions + 33 * C.functions)
+    d (c.in_ok-shown.ensures.built).count (omega (arith, f, s, m))
 
 pub grants-requires-clause-pins : goal.grants-requires-clause-pins
 grants-requires-clause-pins c =
@@ -64,7 +65,9 @@ grants-requires-clause-room c =
     let f = h.limits.functions in
     let s = h.limits.sites in
     let m = few_nodes c.args.p.now.program h in
-    room_for c.args.p.now.program h P c.in_ok-declared.declared.net c.lower_bodies.new.net (5 * C.sites + (33 * body_nodes C C.functions + 33 * C.functions)) (5 * C.sites + 2) d (builds_on c.in_ok-shown.ensures.built c.in_ok-outcomes.ensures.built).count (omega (arith, f, s, m))
+    room_for c.args.p.now.program h P c.in_ok-declared.declared.net c.lower_bodies.new.net
+    (5 * C.sites + (33 * body_nodes C C.functions + 33 * C.functions)) (5 * C.sites + 2) d
+    (builds_on c.in_ok-shown.ensures.built c.in_ok-outcomes.ensures.built).count (omega (arith, f, s, m))
 
 pub edge-requires-clause-pins : goal.edge-requires-clause-pins
 edge-requires-clause-pins c =
@@ -107,7 +110,9 @@ edge-requires-clause-room c =
     let f = h.limits.functions in
     let s = h.limits.sites in
     let m = few_nodes c.args.p.now.program h in
-    room_for c.args.p.now.program h P c.in_ok-declared.declared.net c.grants.new.net ((5 * C.sites + (33 * body_nodes C C.functions + 33 * C.functions)) + (5 * C.sites + 2)) (64 * C.functions + 32 * C.sites + 32) d (builds_on (builds_on c.in_ok-shown.ensures.built c.in_ok-outcomes.ensures.built) (c.in_ok-goes.ensures.built)).count (omega (arith, f, s, m))
+    room_for c.args.p.now.program h P c.in_ok-declared.declared.net c.grants.new.net
+    ((5 * C.sites + (33 * body_nodes C C.functions + 33 * C.functions)) + (5 * C.sites + 2)) (64 * C.functions + 32 * C.sites + 32) d
+    (builds_on (builds_on c.in_ok-shown.ensures.built c.in_ok-outcomes.ensures.built) (c.in_ok-goes.ensures.built)).count (omega (arith, f, s, m))
 
 pub controls-requires-clause-room : goal.controls-requires-clause-room
 controls-requires-clause-room c =
@@ -119,7 +124,10 @@ controls-requires-clause-room c =
     let f = h.limits.functions in
     let s = h.limits.sites in
     let m = few_nodes c.args.p.now.program h in
-    room_for c.args.p.now.program h P c.in_ok-declared.declared.net c.edge.new.net (((5 * C.sites + (33 * body_nodes C C.functions + 33 * C.functions)) + (5 * C.sites + 2)) + (64 * C.functions + 32 * C.sites + 32)) (1) d (builds_on (builds_on (builds_on c.in_ok-shown.ensures.built c.in_ok-outcomes.ensures.built) (c.in_ok-goes.ensures.built)) (c.in_ok-next.ensures.built)).count (omega (arith, f, s, m))
+    room_for c.args.p.now.program h P c.in_ok-declared.declared.net c.edge.new.net
+    (((5 * C.sites + (33 * body_nodes C C.functions + 33 * C.functions)) + (5 * C.sites + 2)) + (64 * C.functions + 32 * C.sites + 32)) (1) d
+    (builds_on (builds_on (builds_on c.in_ok-shown.ensures.built c.in_ok-outcomes.ensures.built) (c.in_ok-goes.ensures.built))
+    (c.in_ok-next.ensures.built)).count (omega (arith, f, s, m))
 
 pub finish-requires-clause-room : goal.finish-requires-clause-room
 finish-requires-clause-room c =
@@ -130,7 +138,10 @@ finish-requires-clause-room c =
     let f = h.limits.functions in
     let s = h.limits.sites in
     let m = few_nodes c.args.p.now.program h in
-    room_for c.args.p.now.program h P c.in_ok-declared.declared.net c.controls.new.net ((((5 * C.sites + (33 * body_nodes C C.functions + 33 * C.functions)) + (5 * C.sites + 2)) + (64 * C.functions + 32 * C.sites + 32)) + 1) (0) d (builds_on (builds_on (builds_on (builds_on c.in_ok-shown.ensures.built c.in_ok-outcomes.ensures.built) (c.in_ok-goes.ensures.built)) (c.in_ok-next.ensures.built)) (c.in_ok-copied.ensures.built)).count (omega (arith, f, s, m))
+    room_for c.args.p.now.program h P c.in_ok-declared.declared.net c.controls.new.net
+    ((((5 * C.sites + (33 * body_nodes C C.functions + 33 * C.functions)) + (5 * C.sites + 2)) + (64 * C.functions + 32 * C.sites + 32)) + 1) (0)
+    d (builds_on (builds_on (builds_on (builds_on c.in_ok-shown.ensures.built c.in_ok-outcomes.ensures.built) (c.in_ok-goes.ensures.built))
+    (c.in_ok-next.ensures.built)) (c.in_ok-copied.ensures.built)).count (omega (arith, f, s, m))
 
 pub finish-requires-clause-grown : goal.finish-requires-clause-grown
 finish-requires-clause-grown c =
@@ -139,7 +150,9 @@ finish-requires-clause-grown c =
     let pins = c.in_ok-declared.declared.pins in
     let h = c.in_ok-declared.ensures.checked in
     let d = c.in_ok-declared.ensures.net in
-    subst (λ n. Grows n c.controls.new.net) d (builds_on (builds_on (builds_on (builds_on c.in_ok-shown.ensures.built c.in_ok-outcomes.ensures.built) (c.in_ok-goes.ensures.built)) (c.in_ok-next.ensures.built)) (c.in_ok-copied.ensures.built)).grows
+    subst (λ n. Grows n c.controls.new.net) d (builds_on (builds_on
+    (builds_on (builds_on c.in_ok-shown.ensures.built c.in_ok-outcomes.ensures.built) (c.in_ok-goes.ensures.built)) (c.in_ok-next.ensures.built))
+    (c.in_ok-copied.ensures.built)).grows
 
 pub finish-requires-clause-settled : goal.finish-requires-clause-settled
 finish-requires-clause-settled c =
@@ -148,7 +161,8 @@ finish-requires-clause-settled c =
     let pins = c.in_ok-declared.declared.pins in
     let h = c.in_ok-declared.ensures.checked in
     let d = c.in_ok-declared.ensures.net in
-    (builds_on (builds_on (builds_on (builds_on c.in_ok-shown.ensures.built c.in_ok-outcomes.ensures.built) (c.in_ok-goes.ensures.built)) (c.in_ok-next.ensures.built)) (c.in_ok-copied.ensures.built)).settles.settled c.in_ok-declared.ensures.settled
+    (builds_on (builds_on (builds_on (builds_on c.in_ok-shown.ensures.built c.in_ok-outcomes.ensures.built) (c.in_ok-goes.ensures.built))
+    (c.in_ok-next.ensures.built)) (c.in_ok-copied.ensures.built)).settles.settled c.in_ok-declared.ensures.settled
 
 pub finish-requires-clause-fits : goal.finish-requires-clause-fits
 finish-requires-clause-fits c =
@@ -157,7 +171,8 @@ finish-requires-clause-fits c =
     let pins = c.in_ok-declared.declared.pins in
     let h = c.in_ok-declared.ensures.checked in
     let d = c.in_ok-declared.ensures.net in
-    pins_kept (builds_on (builds_on (builds_on (builds_on c.in_ok-shown.ensures.built c.in_ok-outcomes.ensures.built) (c.in_ok-goes.ensures.built)) (c.in_ok-next.ensures.built)) (c.in_ok-copied.ensures.built)) c.in_ok-declared.ensures.fits
+    pins_kept (builds_on (builds_on (builds_on (builds_on c.in_ok-shown.ensures.built c.in_ok-outcomes.ensures.built) (c.in_ok-goes.ensures.built))
+    (c.in_ok-next.ensures.built)) (c.in_ok-copied.ensures.built)) c.in_ok-declared.ensures.fits
 
 pub finish-requires-clause-next : goal.finish-requires-clause-next
 finish-requires-clause-next c =
@@ -187,7 +202,13 @@ returns-clause-scheme c =
     let pins = c.in_ok-declared.declared.pins in
     let h = c.in_ok-declared.ensures.checked in
     let d = c.in_ok-declared.ensures.net in
-    finished_scheme c.args.p.now.program h P c.controls.new.net c.finish.new.net pins c.in_ok-next.next c.in_ok-copied.copied c.signals-signals.ensures.netlist (subst (λ n. Grows n c.controls.new.net) d (builds_on (builds_on (builds_on (builds_on c.in_ok-shown.ensures.built c.in_ok-outcomes.ensures.built) (c.in_ok-goes.ensures.built)) (c.in_ok-next.ensures.built)) (c.in_ok-copied.ensures.built)).grows) c.in_ok-declared.ensures.pins (pins_kept (builds_on (builds_on (builds_on (builds_on c.in_ok-shown.ensures.built c.in_ok-outcomes.ensures.built) (c.in_ok-goes.ensures.built)) (c.in_ok-next.ensures.built)) (c.in_ok-copied.ensures.built)) c.in_ok-declared.ensures.fits) (next_kept c.in_ok-copied.ensures.built c.in_ok-next.ensures.done) (c.in_ok-copied.ensures.done C P pins
+    finished_scheme c.args.p.now.program h P c.controls.new.net c.finish.new.net pins c.in_ok-next.next c.in_ok-copied.copied
+    c.signals-signals.ensures.netlist (subst (λ n. Grows n c.controls.new.net) d
+    (builds_on (builds_on (builds_on (builds_on c.in_ok-shown.ensures.built c.in_ok-outcomes.ensures.built) (c.in_ok-goes.ensures.built))
+    (c.in_ok-next.ensures.built)) (c.in_ok-copied.ensures.built)).grows) c.in_ok-declared.ensures.pins
+    (pins_kept (builds_on (builds_on (builds_on (builds_on c.in_ok-shown.ensures.built c.in_ok-outcomes.ensures.built)
+    (c.in_ok-goes.ensures.built)) (c.in_ok-next.ensures.built)) (c.in_ok-copied.ensures.built)) c.in_ok-declared.ensures.fits)
+    (next_kept c.in_ok-copied.ensures.built c.in_ok-next.ensures.done) (c.in_ok-copied.ensures.done C P pins
     (returns_kept (builds_on c.in_ok-outcomes.ensures.built (builds_on c.in_ok-goes.ensures.built c.in_ok-next.ensures.built)) c.in_ok-shown.ensures.done)
     (outcomes_kept (builds_on c.in_ok-goes.ensures.built c.in_ok-next.ensures.built) c.in_ok-outcomes.ensures.done)
     (goes_kept c.in_ok-next.ensures.built (subst (λ xs. HasGoes C P c.grants.new.net pins xs) (sym c.as_slice-starts.ensures.value) c.in_ok-goes.ensures.done))) c.in_ok-finish.ensures.done
@@ -199,7 +220,13 @@ returns-clause-plan c =
     let pins = c.in_ok-declared.declared.pins in
     let h = c.in_ok-declared.ensures.checked in
     let d = c.in_ok-declared.ensures.net in
-    finished_plan c.args.p.now.program h P c.controls.new.net c.finish.new.net pins c.in_ok-next.next c.in_ok-copied.copied c.signals-signals.ensures.netlist (subst (λ n. Grows n c.controls.new.net) d (builds_on (builds_on (builds_on (builds_on c.in_ok-shown.ensures.built c.in_ok-outcomes.ensures.built) (c.in_ok-goes.ensures.built)) (c.in_ok-next.ensures.built)) (c.in_ok-copied.ensures.built)).grows) c.in_ok-declared.ensures.pins (pins_kept (builds_on (builds_on (builds_on (builds_on c.in_ok-shown.ensures.built c.in_ok-outcomes.ensures.built) (c.in_ok-goes.ensures.built)) (c.in_ok-next.ensures.built)) (c.in_ok-copied.ensures.built)) c.in_ok-declared.ensures.fits) (next_kept c.in_ok-copied.ensures.built c.in_ok-next.ensures.done) (c.in_ok-copied.ensures.done C P pins
+    finished_plan c.args.p.now.program h P c.controls.new.net c.finish.new.net pins c.in_ok-next.next c.in_ok-copied.copied
+    c.signals-signals.ensures.netlist (subst (λ n. Grows n c.controls.new.net) d
+    (builds_on (builds_on (builds_on (builds_on c.in_ok-shown.ensures.built c.in_ok-outcomes.ensures.built) (c.in_ok-goes.ensures.built))
+    (c.in_ok-next.ensures.built)) (c.in_ok-copied.ensures.built)).grows) c.in_ok-declared.ensures.pins
+    (pins_kept (builds_on (builds_on (builds_on (builds_on c.in_ok-shown.ensures.built c.in_ok-outcomes.ensures.built)
+    (c.in_ok-goes.ensures.built)) (c.in_ok-next.ensures.built)) (c.in_ok-copied.ensures.built)) c.in_ok-declared.ensures.fits)
+    (next_kept c.in_ok-copied.ensures.built c.in_ok-next.ensures.done) (c.in_ok-copied.ensures.done C P pins
     (returns_kept (builds_on c.in_ok-outcomes.ensures.built (builds_on c.in_ok-goes.ensures.built c.in_ok-next.ensures.built)) c.in_ok-shown.ensures.done)
     (outcomes_kept (builds_on c.in_ok-goes.ensures.built c.in_ok-next.ensures.built) c.in_ok-outcomes.ensures.done)
     (goes_kept c.in_ok-next.ensures.built (subst (λ xs. HasGoes C P c.grants.new.net pins xs) (sym c.as_slice-starts.ensures.value) c.in_ok-goes.ensures.done))) c.in_ok-finish.ensures.done
@@ -212,7 +239,13 @@ returns-clause-circuit c =
     let h = c.in_ok-declared.ensures.checked in
     let d = c.in_ok-declared.ensures.net in
     c.circuit_law.ensures C (names_of c.args.p.now.program) P c.finish.new.net h.formed (c.plan_law.ensures C P.arbiter P.kept c.in_ok-declared.ensures.plan)
-    (finished_scheme c.args.p.now.program h P c.controls.new.net c.finish.new.net pins c.in_ok-next.next c.in_ok-copied.copied c.signals-signals.ensures.netlist (subst (λ n. Grows n c.controls.new.net) d (builds_on (builds_on (builds_on (builds_on c.in_ok-shown.ensures.built c.in_ok-outcomes.ensures.built) (c.in_ok-goes.ensures.built)) (c.in_ok-next.ensures.built)) (c.in_ok-copied.ensures.built)).grows) c.in_ok-declared.ensures.pins (pins_kept (builds_on (builds_on (builds_on (builds_on c.in_ok-shown.ensures.built c.in_ok-outcomes.ensures.built) (c.in_ok-goes.ensures.built)) (c.in_ok-next.ensures.built)) (c.in_ok-copied.ensures.built)) c.in_ok-declared.ensures.fits) (next_kept c.in_ok-copied.ensures.built c.in_ok-next.ensures.done) (c.in_ok-copied.ensures.done C P pins
+    (finished_scheme c.args.p.now.program h P c.controls.new.net c.finish.new.net pins c.in_ok-next.next c.in_ok-copied.copied
+    c.signals-signals.ensures.netlist (subst (λ n. Grows n c.controls.new.net) d
+    (builds_on (builds_on (builds_on (builds_on c.in_ok-shown.ensures.built c.in_ok-outcomes.ensures.built) (c.in_ok-goes.ensures.built))
+    (c.in_ok-next.ensures.built)) (c.in_ok-copied.ensures.built)).grows) c.in_ok-declared.ensures.pins
+    (pins_kept (builds_on (builds_on (builds_on (builds_on c.in_ok-shown.ensures.built c.in_ok-outcomes.ensures.built)
+    (c.in_ok-goes.ensures.built)) (c.in_ok-next.ensures.built)) (c.in_ok-copied.ensures.built)) c.in_ok-declared.ensures.fits)
+    (next_kept c.in_ok-copied.ensures.built c.in_ok-next.ensures.done) (c.in_ok-copied.ensures.done C P pins
     (returns_kept (builds_on c.in_ok-outcomes.ensures.built (builds_on c.in_ok-goes.ensures.built c.in_ok-next.ensures.built)) c.in_ok-shown.ensures.done)
     (outcomes_kept (builds_on c.in_ok-goes.ensures.built c.in_ok-next.ensures.built) c.in_ok-outcomes.ensures.done)
     (goes_kept c.in_ok-next.ensures.built (subst (λ xs. HasGoes C P c.grants.new.net pins xs) (sym c.as_slice-starts.ensures.value) c.in_ok-goes.ensures.done))) c.in_ok-finish.ensures.done)
@@ -232,7 +265,10 @@ returns-clause-in_order c =
     let P = choice_of c.args.p.now in
     let pins = c.in_ok-declared.declared.pins in
     let d = c.in_ok-declared.ensures.net in
-    finished_order C D P pins c.in_ok-next.next c.in_ok-copied.copied c.controls.new.net c.finish.new.net c.in_ok-finish.ensures.done (subst (λ n. Grows n c.controls.new.net) d (builds_on (builds_on (builds_on (builds_on c.in_ok-shown.ensures.built c.in_ok-outcomes.ensures.built) (c.in_ok-goes.ensures.built)) (c.in_ok-next.ensures.built)) (c.in_ok-copied.ensures.built)).grows)
+    finished_order C D P pins c.in_ok-next.next c.in_ok-copied.copied c.controls.new.net c.finish.new.net c.in_ok-finish.ensures.done
+    (subst (λ n. Grows n c.controls.new.net) d (builds_on (builds_on
+    (builds_on (builds_on c.in_ok-shown.ensures.built c.in_ok-outcomes.ensures.built) (c.in_ok-goes.ensures.built)) (c.in_ok-next.ensures.built))
+    (c.in_ok-copied.ensures.built)).grows)
 
 pub returns-clause-acyclic : goal.returns-clause-acyclic
 returns-clause-acyclic c = c.in_ok-finish.ensures.done.acyclic
@@ -247,11 +283,18 @@ returns-clause-count c =
     let f = h.limits.functions in
     let s = h.limits.sites in
     let m = few_nodes c.args.p.now.program h in
-    let n = finished_count c.args.p.now.program h P c.controls.new.net c.finish.new.net pins c.in_ok-next.next c.in_ok-copied.copied c.signals-signals.ensures.netlist (subst (λ n. Grows n c.controls.new.net) d (builds_on (builds_on (builds_on (builds_on c.in_ok-shown.ensures.built c.in_ok-outcomes.ensures.built) (c.in_ok-goes.ensures.built)) (c.in_ok-next.ensures.built)) (c.in_ok-copied.ensures.built)).grows) c.in_ok-declared.ensures.pins (pins_kept (builds_on (builds_on (builds_on (builds_on c.in_ok-shown.ensures.built c.in_ok-outcomes.ensures.built) (c.in_ok-goes.ensures.built)) (c.in_ok-next.ensures.built)) (c.in_ok-copied.ensures.built)) c.in_ok-declared.ensures.fits) (next_kept c.in_ok-copied.ensures.built c.in_ok-next.ensures.done) (c.in_ok-copied.ensures.done C P pins
+    let n = finished_count c.args.p.now.program h P c.controls.new.net c.finish.new.net pins c.in_ok-next.next c.in_ok-copied.copied
+    c.signals-signals.ensures.netlist (subst (λ n. Grows n c.controls.new.net) d
+    (builds_on (builds_on (builds_on (builds_on c.in_ok-shown.ensures.built c.in_ok-outcomes.ensures.built) (c.in_ok-goes.ensures.built))
+    (c.in_ok-next.ensures.built)) (c.in_ok-copied.ensures.built)).grows) c.in_ok-declared.ensures.pins
+    (pins_kept (builds_on (builds_on (builds_on (builds_on c.in_ok-shown.ensures.built c.in_ok-outcomes.ensures.built)
+    (c.in_ok-goes.ensures.built)) (c.in_ok-next.ensures.built)) (c.in_ok-copied.ensures.built)) c.in_ok-declared.ensures.fits)
+    (next_kept c.in_ok-copied.ensures.built c.in_ok-next.ensures.done) (c.in_ok-copied.ensures.done C P pins
     (returns_kept (builds_on c.in_ok-outcomes.ensures.built (builds_on c.in_ok-goes.ensures.built c.in_ok-next.ensures.built)) c.in_ok-shown.ensures.done)
     (outcomes_kept (builds_on c.in_ok-goes.ensures.built c.in_ok-next.ensures.built) c.in_ok-outcomes.ensures.done)
     (goes_kept c.in_ok-next.ensures.built (subst (λ xs. HasGoes C P c.grants.new.net pins xs) (sym c.as_slice-starts.ensures.value) c.in_ok-goes.ensures.done))) c.in_ok-finish.ensures.done in
-    let few = (builds_on (builds_on (builds_on (builds_on c.in_ok-shown.ensures.built c.in_ok-outcomes.ensures.built) (c.in_ok-goes.ensures.built)) (c.in_ok-next.ensures.built)) (c.in_ok-copied.ensures.built)).count in
+    let few = (builds_on (builds_on (builds_on (builds_on c.in_ok-shown.ensures.built c.in_ok-outcomes.ensures.built) (c.in_ok-goes.ensures.built))
+    (c.in_ok-next.ensures.built)) (c.in_ok-copied.ensures.built)).count in
     let first = declared_few c.args.p.now.program h P in
     let e = ap (λ (x : Netlist). length x.signals) d in
     omega (arith, f, s, m, n, few, first, e)

@@ -24,8 +24,10 @@ pub add_call_wires-requires-clause-free : goal.add_call_wires-requires-clause-fr
 add_call_wires-requires-clause-free c =
     let l = c.loop-k-test.true in
     let e = c.sites-k-end.ensures.count ∙ ap (λ x. (program_of x).sites) c.program-c.ensures.same in
-    lines_at open_wire c.args.net.now c.loop-k.net (site_wires (program_of c.args.p.now.program) (choice_of c.args.p.now)) c.loop-k.k (suc (program_of c.args.p.now.program).sites) (omega (arith, l, e)) c.requires.free c.loop-k.invariant
+    lines_at open_wire c.args.net.now c.loop-k.net (site_wires (program_of c.args.p.now.program) (choice_of c.args.p.now)) c.loop-k.k
+    (suc (program_of c.args.p.now.program).sites) (omega (arith, l, e)) c.requires.free c.loop-k.invariant
 
 pub loop-k-preserved : goal.loop-k-preserved
 loop-k-preserved c =
-    lines_next c.args.net.now c.loop-k.net c.add_call_wires.new.net open_wire (site_wires (program_of c.args.p.now.program) (choice_of c.args.p.now)) c.loop-k.k c.loop-k.invariant c.in_ok-add_call_wires.ensures
+    lines_next c.args.net.now c.loop-k.net c.add_call_wires.new.net open_wire (site_wires (program_of c.args.p.now.program) (choice_of c.args.p.now))
+    c.loop-k.k c.loop-k.invariant c.in_ok-add_call_wires.ensures

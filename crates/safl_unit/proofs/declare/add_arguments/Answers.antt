@@ -33,10 +33,13 @@ loop-i-preserved c =
     let below = c.loop-i-test.true in
     let end = c.params-i-end.ensures.count in
     record {
-      net = param_step c.args.c.now c.args.f c.loop-i.i c.param_width.result 0 c.param_name.result.now (of_param (names_of c.args.c.now) c.args.f) open_register c.args.net.now c.loop-i.net c.add_register.new.net
-          c.param_name.ensures c.param_width.ensures.width c.loop-i.invariant.net (c.in_ok-s.ensures.added ∙ ap (λ (z : List ℕ). with_signals c.loop-i.net (open_register (z, c.param_width.result) ∷ [])) named);
+      net = param_step c.args.c.now c.args.f c.loop-i.i c.param_width.result 0 c.param_name.result.now (of_param (names_of c.args.c.now) c.args.f)
+          open_register c.args.net.now c.loop-i.net c.add_register.new.net
+          c.param_name.ensures c.param_width.ensures.width c.loop-i.invariant.net
+          (c.in_ok-s.ensures.added ∙ ap (λ (z : List ℕ). with_signals c.loop-i.net (open_register (z, c.param_width.result) ∷ [])) named);
       args = c.in_ok-push.ensures.items ∙ numbered_next (length c.args.net.now.signals) c.loop-i.i c.loop-i.args.items c.in_ok-s.s c.loop-i.invariant.args
-          (c.in_ok-s.ensures.next ∙ param_count c.args.c.now c.args.f c.loop-i.i (of_param (names_of c.args.c.now) c.args.f) open_register c.args.net.now c.loop-i.net (omega (arith, below, end)) c.loop-i.invariant.net);
+          (c.in_ok-s.ensures.next ∙ param_count c.args.c.now c.args.f c.loop-i.i (of_param (names_of c.args.c.now) c.args.f) open_register
+          c.args.net.now c.loop-i.net (omega (arith, below, end)) c.loop-i.invariant.net);
     }
 
 pub returns-clause-added : goal.returns-clause-added

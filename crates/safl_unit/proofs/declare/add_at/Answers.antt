@@ -16,5 +16,6 @@ pub add_register-requires-clause-free : goal.add_register-requires-clause-free
 add_register-requires-clause-free c =
     let peers : many (program_of c.args.c.now) c.args.f ≡ true = cc in
     let line : Line = (of_function (names_of c.args.c.now) (codes "at$") c.args.f, 1) in
-    named_so c.args.net.now c.as_str.result.now (of_function (names_of c.args.c.now) (codes "at$") c.args.f) (c.as_str.ensures.value ∙ c.in_ok-name.ensures ∙ ap (λ (z : List ℕ). codes "at$" ++ z) c.name.ensures)
+    named_so c.args.net.now c.as_str.result.now (of_function (names_of c.args.c.now) (codes "at$") c.args.f)
+    (c.as_str.ensures.value ∙ c.in_ok-name.ensures ∙ ap (λ (z : List ℕ). codes "at$" ++ z) c.name.ensures)
     (may_now c.args.net.now (open_register line) [] (lines_if open_register c.args.net.now (many (program_of c.args.c.now) c.args.f) (line ∷ []) peers c.requires.free))

@@ -40,7 +40,8 @@ add_arbiter_wire-requires-clause-free c =
     let want : c.as_str.result.now ≡ of_site (codes "want$") k = c.as_str.ensures.value ∙ c.in_ok-numbered.ensures in
     let ret : c.as_str-2.result.now ≡ of_site (codes "ret$") k = c.as_str-2.ensures.value ∙ c.in_ok-numbered-2.ensures in
     let two = may_step c.args.net.now c.add_wire.new.net open_wire c.as_str.result.now (of_site (codes "want$") k) 1 _ want all c.in_ok-add_wire.ensures.added in
-    let three = may_step c.add_wire.new.net c.add_wire-2.new.net open_wire c.as_str-2.result.now (of_site (codes "ret$") k) 1 (map open_wire (arbiter_line C P k ++ (of_site (codes "go$") k, 1) ∷ [])) ret two c.in_ok-add_wire-2.ensures.added in
+    let three = may_step c.add_wire.new.net c.add_wire-2.new.net open_wire c.as_str-2.result.now (of_site (codes "ret$") k) 1
+    (map open_wire (arbiter_line C P k ++ (of_site (codes "go$") k, 1) ∷ [])) ret two c.in_ok-add_wire-2.ensures.added in
     lines_first open_wire c.add_wire-2.new.net (arbiter_line C P k) ((of_site (codes "go$") k, 1) ∷ []) three
 
 pub add_wire-requires-3-clause-free : goal.add_wire-requires-3-clause-free
@@ -53,7 +54,10 @@ add_wire-requires-3-clause-free c =
     let want : c.as_str.result.now ≡ of_site (codes "want$") k = c.as_str.ensures.value ∙ c.in_ok-numbered.ensures in
     let ret : c.as_str-2.result.now ≡ of_site (codes "ret$") k = c.as_str-2.ensures.value ∙ c.in_ok-numbered-2.ensures in
     let two = may_step c.args.net.now c.add_wire.new.net open_wire c.as_str.result.now (of_site (codes "want$") k) 1 _ want all c.in_ok-add_wire.ensures.added in
-    let three = may_step c.add_wire.new.net c.add_wire-2.new.net open_wire c.as_str-2.result.now (of_site (codes "ret$") k) 1 (map open_wire (arbiter_line C P k ++ (of_site (codes "go$") k, 1) ∷ [])) ret two c.in_ok-add_wire-2.ensures.added in
+    let three = may_step c.add_wire.new.net c.add_wire-2.new.net open_wire c.as_str-2.result.now (of_site (codes "ret$") k) 1
+    (map open_wire (arbiter_line C P k ++ (of_site (codes "go$") k, 1) ∷ [])) ret two c.in_ok-add_wire-2.ensures.added in
     let go : c.as_str-3.result.now ≡ of_site (codes "go$") k = c.as_str-3.ensures.value ∙ c.in_ok-numbered-3.ensures in
     named_so c.add_arbiter_wire.new.net c.as_str-3.result.now (of_site (codes "go$") k) go
-    (may_now c.add_arbiter_wire.new.net (open_wire (of_site (codes "go$") k, 1)) [] (lines_rest open_wire c.add_wire-2.new.net c.add_arbiter_wire.new.net (arbiter_line C P k) ((of_site (codes "go$") k, 1) ∷ []) three c.in_ok-add_arbiter_wire.ensures))
+    (may_now c.add_arbiter_wire.new.net (open_wire (of_site (codes "go$") k, 1)) []
+    (lines_rest open_wire c.add_wire-2.new.net c.add_arbiter_wire.new.net (arbiter_line C P k) ((of_site (codes "go$") k, 1) ∷ []) three
+    c.in_ok-add_arbiter_wire.ensures))

@@ -28,15 +28,18 @@ pub add_function-requires-clause-free : goal.add_function-requires-clause-free
 add_function-requires-clause-free c =
     let l = c.loop-f-test.true in
     let e = c.functions-f-end.ensures.count in
-    lines_at open_register c.args.net.now c.loop-f.net (function_lines (program_of c.args.c.now) (names_of c.args.c.now)) c.loop-f.f (program_of c.args.c.now).functions (omega (arith, l, e)) c.requires.free c.loop-f.invariant.net
+    lines_at open_register c.args.net.now c.loop-f.net (function_lines (program_of c.args.c.now) (names_of c.args.c.now)) c.loop-f.f
+    (program_of c.args.c.now).functions (omega (arith, l, e)) c.requires.free c.loop-f.invariant.net
 
 pub loop-f-preserved : goal.loop-f-preserved
 loop-f-preserved c =
     let l = c.loop-f-test.true in
     let e = c.functions-f-end.ensures.count in
     record {
-      net = lines_next c.args.net.now c.loop-f.net c.add_function.new.net open_register (function_lines (program_of c.args.c.now) (names_of c.args.c.now)) c.loop-f.f c.loop-f.invariant.net c.in_ok-pins.ensures.added;
-      pinned = more_pinned_at c.args.c.now c.functions-f-end.ensures.checked _ c.loop-f.f _ c.loop-f.units.items _ c.as_slice.result.now c.loop-f.members.items _ c.in_ok-pins.pins.unit c.in_ok-pins.pins.member (omega (arith, l, e))
+      net = lines_next c.args.net.now c.loop-f.net c.add_function.new.net open_register
+          (function_lines (program_of c.args.c.now) (names_of c.args.c.now)) c.loop-f.f c.loop-f.invariant.net c.in_ok-pins.ensures.added;
+      pinned = more_pinned_at c.args.c.now c.functions-f-end.ensures.checked _ c.loop-f.f _ c.loop-f.units.items _ c.as_slice.result.now
+          c.loop-f.members.items _ c.in_ok-pins.pins.unit c.in_ok-pins.pins.member (omega (arith, l, e))
           c.loop-f.invariant.pinned c.in_ok-pins.ensures.pinned c.as_slice.ensures.value c.in_ok-push.ensures.items c.in_ok-push-2.ensures.items
           (lines_count c.args.net.now c.loop-f.net open_register (lines (function_lines (program_of c.args.c.now) (names_of c.args.c.now)) c.loop-f.f) c.loop-f.invariant.net);
     }

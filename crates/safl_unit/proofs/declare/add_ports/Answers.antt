@@ -29,9 +29,11 @@ loop-i-preserved c =
     let end = c.params-i-end.ensures.count in
     record {
       net = param_step c.args.c.now c.args.f c.loop-i.i c.param_width.result 0 c.param_name.result.now (λ (x : List ℕ). codes "in$" ++ x) input_line c.args.net.now c.loop-i.net c.add_input.new.net
-          c.param_name.ensures c.param_width.ensures.width c.loop-i.invariant.net (c.in_ok-s.ensures.added ∙ ap (λ (z : List ℕ). with_signals c.loop-i.net (input_line (z, c.param_width.result) ∷ [])) named);
+          c.param_name.ensures c.param_width.ensures.width c.loop-i.invariant.net
+          (c.in_ok-s.ensures.added ∙ ap (λ (z : List ℕ). with_signals c.loop-i.net (input_line (z, c.param_width.result) ∷ [])) named);
       words = c.in_ok-push.ensures.items ∙ numbered_next (length c.args.net.now.signals) c.loop-i.i c.loop-i.words.items c.in_ok-s.s c.loop-i.invariant.words
-          (c.in_ok-s.ensures.next ∙ param_count c.args.c.now c.args.f c.loop-i.i (λ (x : List ℕ). codes "in$" ++ x) input_line c.args.net.now c.loop-i.net (omega (arith, below, end)) c.loop-i.invariant.net);
+          (c.in_ok-s.ensures.next ∙ param_count c.args.c.now c.args.f c.loop-i.i (λ (x : List ℕ). codes "in$" ++ x) input_line c.args.net.now
+          c.loop-i.net (omega (arith, below, end)) c.loop-i.invariant.net);
     }
 
 pub returns-clause-added : goal.returns-clause-added

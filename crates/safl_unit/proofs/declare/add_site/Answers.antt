@@ -43,4 +43,5 @@ add_register-requires-3-clause-free c =
     let three = may_step c.add_register.new.net c.add_register-2.new.net open_register c.as_str-2.result.now (of_site (codes "got$") k) 1 _ got two c.in_ok-got.ensures.added in
     let kept : P.kept k ≡ true = cc in
     named_so c.add_register-2.new.net c.as_str-3.result.now (of_site (codes "keep$") k) keep
-    (may_now c.add_register-2.new.net (open_register (of_site (codes "keep$") k, C.result (C.callee k))) [] (lines_if open_register c.add_register-2.new.net (P.kept k) ((of_site (codes "keep$") k, C.result (C.callee k)) ∷ []) kept three))
+    (may_now c.add_register-2.new.net (open_register (of_site (codes "keep$") k, C.result (C.callee k))) []
+    (lines_if open_register c.add_register-2.new.net (P.kept k) ((of_site (codes "keep$") k, C.result (C.callee k)) ∷ []) kept three))

@@ -19,8 +19,10 @@ add_functions-requires-clause-room c =
     let same = c.program-c.ensures.same in
     let checked = c.program-c.ensures.checked in
     let ports = subst (λ (x : CheckedProgram). c.add_ports.new.net ≡ with_signals c.add_input.new.net (map input_line (port_lines (program_of x) (names_of x) (program_of x).main))) same
-    (c.in_ok-words.ensures.added ∙ ap (λ f. with_signals c.add_input.new.net (map input_line (port_lines (program_of c.program-c.result.now) (names_of c.program-c.result.now) f))) c.main_function-main.ensures.number) in
-    let few : length c.add_ports.new.net.signals ≤ 17 = inputs_few c.args.p.now.program checked (program_of c.args.p.now.program).main c.new-net.result c.add_input.new.net c.add_ports.new.net c.new-net.ensures c.in_ok-start.ensures.added ports in
+    (c.in_ok-words.ensures.added ∙ ap (λ f. with_signals c.add_input.new.net
+    (map input_line (port_lines (program_of c.program-c.result.now) (names_of c.program-c.result.now) f))) c.main_function-main.ensures.number) in
+    let few : length c.add_ports.new.net.signals ≤ 17 = inputs_few c.args.p.now.program checked (program_of c.args.p.now.program).main
+    c.new-net.result c.add_input.new.net c.add_ports.new.net c.new-net.ensures c.in_ok-start.ensures.added ports in
     let k = (subst IsChecked (sym same) checked).limits.functions in
     omega (arith, few, k)
 
@@ -29,9 +31,12 @@ add_sites-requires-clause-room c =
     let same = c.program-c.ensures.same in
     let checked = c.program-c.ensures.checked in
     let ports = subst (λ (x : CheckedProgram). c.add_ports.new.net ≡ with_signals c.add_input.new.net (map input_line (port_lines (program_of x) (names_of x) (program_of x).main))) same
-    (c.in_ok-words.ensures.added ∙ ap (λ f. with_signals c.add_input.new.net (map input_line (port_lines (program_of c.program-c.result.now) (names_of c.program-c.result.now) f))) c.main_function-main.ensures.number) in
-    let few : length c.add_ports.new.net.signals ≤ 17 = inputs_few c.args.p.now.program checked (program_of c.args.p.now.program).main c.new-net.result c.add_input.new.net c.add_ports.new.net c.new-net.ensures c.in_ok-start.ensures.added ports in
-    let functions = subst (λ (x : CheckedProgram). c.add_functions.new.net ≡ with_signals c.add_ports.new.net (map open_register (lines (function_lines (program_of x) (names_of x)) (program_of x).functions))) same c.in_ok-functions.ensures.added in
+    (c.in_ok-words.ensures.added ∙ ap (λ f. with_signals c.add_input.new.net
+    (map input_line (port_lines (program_of c.program-c.result.now) (names_of c.program-c.result.now) f))) c.main_function-main.ensures.number) in
+    let few : length c.add_ports.new.net.signals ≤ 17 = inputs_few c.args.p.now.program checked (program_of c.args.p.now.program).main
+    c.new-net.result c.add_input.new.net c.add_ports.new.net c.new-net.ensures c.in_ok-start.ensures.added ports in
+    let functions = subst (λ (x : CheckedProgram). c.add_functions.new.net ≡ with_signals c.add_ports.new.net
+    (map open_register (lines (function_lines (program_of x) (names_of x)) (program_of x).functions))) same c.in_ok-functions.ensures.added in
     let fewer : length c.add_functions.new.net.signals ≤ 20017 = registers_few c.args.p.now.program checked c.add_ports.new.net c.add_functions.new.net few functions in
     let k = checked.limits.sites in
     omega (arith, fewer, k)
@@ -41,11 +46,15 @@ add_wires-requires-clause-room c =
     let same = c.program-c.ensures.same in
     let checked = c.program-c.ensures.checked in
     let ports = subst (λ (x : CheckedProgram). c.add_ports.new.net ≡ with_signals c.add_input.new.net (map input_line (port_lines (program_of x) (names_of x) (program_of x).main))) same
-    (c.in_ok-words.ensures.added ∙ ap (λ f. with_signals c.add_input.new.net (map input_line (port_lines (program_of c.program-c.result.now) (names_of c.program-c.result.now) f))) c.main_function-main.ensures.number) in
-    let few : length c.add_ports.new.net.signals ≤ 17 = inputs_few c.args.p.now.program checked (program_of c.args.p.now.program).main c.new-net.result c.add_input.new.net c.add_ports.new.net c.new-net.ensures c.in_ok-start.ensures.added ports in
-    let functions = subst (λ (x : CheckedProgram). c.add_functions.new.net ≡ with_signals c.add_ports.new.net (map open_register (lines (function_lines (program_of x) (names_of x)) (program_of x).functions))) same c.in_ok-functions.ensures.added in
+    (c.in_ok-words.ensures.added ∙ ap (λ f. with_signals c.add_input.new.net
+    (map input_line (port_lines (program_of c.program-c.result.now) (names_of c.program-c.result.now) f))) c.main_function-main.ensures.number) in
+    let few : length c.add_ports.new.net.signals ≤ 17 = inputs_few c.args.p.now.program checked (program_of c.args.p.now.program).main
+    c.new-net.result c.add_input.new.net c.add_ports.new.net c.new-net.ensures c.in_ok-start.ensures.added ports in
+    let functions = subst (λ (x : CheckedProgram). c.add_functions.new.net ≡ with_signals c.add_ports.new.net
+    (map open_register (lines (function_lines (program_of x) (names_of x)) (program_of x).functions))) same c.in_ok-functions.ensures.added in
     let fewer : length c.add_functions.new.net.signals ≤ 20017 = registers_few c.args.p.now.program checked c.add_ports.new.net c.add_functions.new.net few functions in
-    let fewest : length c.add_sites.new.net.signals ≤ 32020 = sites_few c.args.p.now.program checked (choice_of c.args.p.now) c.add_functions.new.net c.add_sites.new.net fewer c.in_ok-sites.ensures.added in
+    let fewest : length c.add_sites.new.net.signals ≤ 32020 = sites_few c.args.p.now.program checked (choice_of c.args.p.now) c.add_functions.new.net
+    c.add_sites.new.net fewer c.in_ok-sites.ensures.added in
     let k = checked.limits.sites in
     let m = checked.limits.functions in
     omega (arith, fewest, k, m)
@@ -55,84 +64,125 @@ returns-clause-net c =
     let same = c.program-c.ensures.same in
     let checked = c.program-c.ensures.checked in
     let ports = subst (λ (x : CheckedProgram). c.add_ports.new.net ≡ with_signals c.add_input.new.net (map input_line (port_lines (program_of x) (names_of x) (program_of x).main))) same
-    (c.in_ok-words.ensures.added ∙ ap (λ f. with_signals c.add_input.new.net (map input_line (port_lines (program_of c.program-c.result.now) (names_of c.program-c.result.now) f))) c.main_function-main.ensures.number) in
-    let functions = subst (λ (x : CheckedProgram). c.add_functions.new.net ≡ with_signals c.add_ports.new.net (map open_register (lines (function_lines (program_of x) (names_of x)) (program_of x).functions))) same c.in_ok-functions.ensures.added in
-    net_declared c.args.p.now.program checked (choice_of c.args.p.now) c.new-net.result c.add_input.new.net c.add_ports.new.net c.add_functions.new.net c.add_sites.new.net c.add_wires.new.net c.new-net.ensures c.in_ok-start.ensures.added ports functions c.in_ok-sites.ensures.added c.in_ok-add_wires.ensures
+    (c.in_ok-words.ensures.added ∙ ap (λ f. with_signals c.add_input.new.net
+    (map input_line (port_lines (program_of c.program-c.result.now) (names_of c.program-c.result.now) f))) c.main_function-main.ensures.number) in
+    let functions = subst (λ (x : CheckedProgram). c.add_functions.new.net ≡ with_signals c.add_ports.new.net
+    (map open_register (lines (function_lines (program_of x) (names_of x)) (program_of x).functions))) same c.in_ok-functions.ensures.added in
+    net_declared c.args.p.now.program checked (choice_of c.args.p.now) c.new-net.result c.add_input.new.net c.add_ports.new.net
+    c.add_functions.new.net c.add_sites.new.net c.add_wires.new.net c.new-net.ensures c.in_ok-start.ensures.added ports functions
+    c.in_ok-sites.ensures.added c.in_ok-add_wires.ensures
 
 pub returns-clause-pins : goal.returns-clause-pins
 returns-clause-pins c =
     let same = c.program-c.ensures.same in
     let checked = c.program-c.ensures.checked in
     let ports = subst (λ (x : CheckedProgram). c.add_ports.new.net ≡ with_signals c.add_input.new.net (map input_line (port_lines (program_of x) (names_of x) (program_of x).main))) same
-    (c.in_ok-words.ensures.added ∙ ap (λ f. with_signals c.add_input.new.net (map input_line (port_lines (program_of c.program-c.result.now) (names_of c.program-c.result.now) f))) c.main_function-main.ensures.number) in
-    let functions = subst (λ (x : CheckedProgram). c.add_functions.new.net ≡ with_signals c.add_ports.new.net (map open_register (lines (function_lines (program_of x) (names_of x)) (program_of x).functions))) same c.in_ok-functions.ensures.added in
-    let pinned = subst (λ (x : CheckedProgram). FunctionsPinned (program_of x) (names_of x) (length c.add_ports.new.net.signals) (program_of x).functions c.in_ok-functions.functions.units.items c.in_ok-functions.functions.members.items) same c.in_ok-functions.ensures.pinned in
-    let sited = subst (λ (us : List UnitPins). SitesPinned (program_of c.args.p.now.program) (choice_of c.args.p.now) (length c.add_functions.new.net.signals) (suc (program_of c.args.p.now.program).sites) us c.in_ok-sites.sites.items) c.as_slice.ensures.value c.in_ok-sites.ensures.pinned in
+    (c.in_ok-words.ensures.added ∙ ap (λ f. with_signals c.add_input.new.net
+    (map input_line (port_lines (program_of c.program-c.result.now) (names_of c.program-c.result.now) f))) c.main_function-main.ensures.number) in
+    let functions = subst (λ (x : CheckedProgram). c.add_functions.new.net ≡ with_signals c.add_ports.new.net
+    (map open_register (lines (function_lines (program_of x) (names_of x)) (program_of x).functions))) same c.in_ok-functions.ensures.added in
+    let pinned = subst (λ (x : CheckedProgram). FunctionsPinned (program_of x) (names_of x) (length c.add_ports.new.net.signals)
+    (program_of x).functions c.in_ok-functions.functions.units.items c.in_ok-functions.functions.members.items) same c.in_ok-functions.ensures.pinned in
+    let sited = subst (λ (us : List UnitPins). SitesPinned (program_of c.args.p.now.program) (choice_of c.args.p.now)
+    (length c.add_functions.new.net.signals) (suc (program_of c.args.p.now.program).sites) us c.in_ok-sites.sites.items) c.as_slice.ensures.value
+    c.in_ok-sites.ensures.pinned in
     let words = subst (λ (x : CheckedProgram). c.in_ok-words.words.items ≡ numbered (length c.add_input.new.net.signals) (arity (program_of x) (program_of x).main)) same
     (c.in_ok-words.ensures.order ∙ ap (λ f. numbered (length c.add_input.new.net.signals) (arity (program_of c.program-c.result.now) f)) c.main_function-main.ensures.number) in
-    pins_are c.args.p.now.program checked (choice_of c.args.p.now) c.new-net.result c.add_input.new.net c.add_ports.new.net c.add_functions.new.net c.add_sites.new.net c.add_wires.new.net c.new-net.ensures c.in_ok-start.ensures.added ports functions c.in_ok-sites.ensures.added c.in_ok-add_wires.ensures _ c.in_ok-start.ensures.next words c.signals-first_register.ensures.count c.signals-first_wire.ensures.count pinned sited
+    pins_are c.args.p.now.program checked (choice_of c.args.p.now) c.new-net.result c.add_input.new.net c.add_ports.new.net c.add_functions.new.net
+    c.add_sites.new.net c.add_wires.new.net c.new-net.ensures c.in_ok-start.ensures.added ports functions c.in_ok-sites.ensures.added
+    c.in_ok-add_wires.ensures _ c.in_ok-start.ensures.next words c.signals-first_register.ensures.count c.signals-first_wire.ensures.count pinned sited
 
 pub returns-clause-fits : goal.returns-clause-fits
 returns-clause-fits c =
     let same = c.program-c.ensures.same in
     let checked = c.program-c.ensures.checked in
     let ports = subst (λ (x : CheckedProgram). c.add_ports.new.net ≡ with_signals c.add_input.new.net (map input_line (port_lines (program_of x) (names_of x) (program_of x).main))) same
-    (c.in_ok-words.ensures.added ∙ ap (λ f. with_signals c.add_input.new.net (map input_line (port_lines (program_of c.program-c.result.now) (names_of c.program-c.result.now) f))) c.main_function-main.ensures.number) in
-    let functions = subst (λ (x : CheckedProgram). c.add_functions.new.net ≡ with_signals c.add_ports.new.net (map open_register (lines (function_lines (program_of x) (names_of x)) (program_of x).functions))) same c.in_ok-functions.ensures.added in
-    let pinned = subst (λ (x : CheckedProgram). FunctionsPinned (program_of x) (names_of x) (length c.add_ports.new.net.signals) (program_of x).functions c.in_ok-functions.functions.units.items c.in_ok-functions.functions.members.items) same c.in_ok-functions.ensures.pinned in
-    let sited = subst (λ (us : List UnitPins). SitesPinned (program_of c.args.p.now.program) (choice_of c.args.p.now) (length c.add_functions.new.net.signals) (suc (program_of c.args.p.now.program).sites) us c.in_ok-sites.sites.items) c.as_slice.ensures.value c.in_ok-sites.ensures.pinned in
+    (c.in_ok-words.ensures.added ∙ ap (λ f. with_signals c.add_input.new.net
+    (map input_line (port_lines (program_of c.program-c.result.now) (names_of c.program-c.result.now) f))) c.main_function-main.ensures.number) in
+    let functions = subst (λ (x : CheckedProgram). c.add_functions.new.net ≡ with_signals c.add_ports.new.net
+    (map open_register (lines (function_lines (program_of x) (names_of x)) (program_of x).functions))) same c.in_ok-functions.ensures.added in
+    let pinned = subst (λ (x : CheckedProgram). FunctionsPinned (program_of x) (names_of x) (length c.add_ports.new.net.signals)
+    (program_of x).functions c.in_ok-functions.functions.units.items c.in_ok-functions.functions.members.items) same c.in_ok-functions.ensures.pinned in
+    let sited = subst (λ (us : List UnitPins). SitesPinned (program_of c.args.p.now.program) (choice_of c.args.p.now)
+    (length c.add_functions.new.net.signals) (suc (program_of c.args.p.now.program).sites) us c.in_ok-sites.sites.items) c.as_slice.ensures.value
+    c.in_ok-sites.ensures.pinned in
     let words = subst (λ (x : CheckedProgram). c.in_ok-words.words.items ≡ numbered (length c.add_input.new.net.signals) (arity (program_of x) (program_of x).main)) same
     (c.in_ok-words.ensures.order ∙ ap (λ f. numbered (length c.add_input.new.net.signals) (arity (program_of c.program-c.result.now) f)) c.main_function-main.ensures.number) in
-    pins_fit c.args.p.now.program checked (choice_of c.args.p.now) c.add_wires.new.net _ (net_declared c.args.p.now.program checked (choice_of c.args.p.now) c.new-net.result c.add_input.new.net c.add_ports.new.net c.add_functions.new.net c.add_sites.new.net c.add_wires.new.net c.new-net.ensures c.in_ok-start.ensures.added ports functions c.in_ok-sites.ensures.added c.in_ok-add_wires.ensures)
-    (pins_are c.args.p.now.program checked (choice_of c.args.p.now) c.new-net.result c.add_input.new.net c.add_ports.new.net c.add_functions.new.net c.add_sites.new.net c.add_wires.new.net c.new-net.ensures c.in_ok-start.ensures.added ports functions c.in_ok-sites.ensures.added c.in_ok-add_wires.ensures _ c.in_ok-start.ensures.next words c.signals-first_register.ensures.count c.signals-first_wire.ensures.count pinned sited)
+    pins_fit c.args.p.now.program checked (choice_of c.args.p.now) c.add_wires.new.net _
+    (net_declared c.args.p.now.program checked (choice_of c.args.p.now) c.new-net.result c.add_input.new.net c.add_ports.new.net
+    c.add_functions.new.net c.add_sites.new.net c.add_wires.new.net c.new-net.ensures c.in_ok-start.ensures.added ports functions
+    c.in_ok-sites.ensures.added c.in_ok-add_wires.ensures)
+    (pins_are c.args.p.now.program checked (choice_of c.args.p.now) c.new-net.result c.add_input.new.net c.add_ports.new.net c.add_functions.new.net
+    c.add_sites.new.net c.add_wires.new.net c.new-net.ensures c.in_ok-start.ensures.added ports functions c.in_ok-sites.ensures.added
+    c.in_ok-add_wires.ensures _ c.in_ok-start.ensures.next words c.signals-first_register.ensures.count c.signals-first_wire.ensures.count pinned sited)
 
 pub returns-clause-tidy : goal.returns-clause-tidy
 returns-clause-tidy c =
     let same = c.program-c.ensures.same in
     let checked = c.program-c.ensures.checked in
     let ports = subst (λ (x : CheckedProgram). c.add_ports.new.net ≡ with_signals c.add_input.new.net (map input_line (port_lines (program_of x) (names_of x) (program_of x).main))) same
-    (c.in_ok-words.ensures.added ∙ ap (λ f. with_signals c.add_input.new.net (map input_line (port_lines (program_of c.program-c.result.now) (names_of c.program-c.result.now) f))) c.main_function-main.ensures.number) in
-    let functions = subst (λ (x : CheckedProgram). c.add_functions.new.net ≡ with_signals c.add_ports.new.net (map open_register (lines (function_lines (program_of x) (names_of x)) (program_of x).functions))) same c.in_ok-functions.ensures.added in
-    declared_tidy (program_of c.args.p.now.program) (names_of c.args.p.now.program) (choice_of c.args.p.now) c.add_wires.new.net (net_declared c.args.p.now.program checked (choice_of c.args.p.now) c.new-net.result c.add_input.new.net c.add_ports.new.net c.add_functions.new.net c.add_sites.new.net c.add_wires.new.net c.new-net.ensures c.in_ok-start.ensures.added ports functions c.in_ok-sites.ensures.added c.in_ok-add_wires.ensures)
+    (c.in_ok-words.ensures.added ∙ ap (λ f. with_signals c.add_input.new.net
+    (map input_line (port_lines (program_of c.program-c.result.now) (names_of c.program-c.result.now) f))) c.main_function-main.ensures.number) in
+    let functions = subst (λ (x : CheckedProgram). c.add_functions.new.net ≡ with_signals c.add_ports.new.net
+    (map open_register (lines (function_lines (program_of x) (names_of x)) (program_of x).functions))) same c.in_ok-functions.ensures.added in
+    declared_tidy (program_of c.args.p.now.program) (names_of c.args.p.now.program) (choice_of c.args.p.now) c.add_wires.new.net
+    (net_declared c.args.p.now.program checked (choice_of c.args.p.now) c.new-net.result c.add_input.new.net c.add_ports.new.net
+    c.add_functions.new.net c.add_sites.new.net c.add_wires.new.net c.new-net.ensures c.in_ok-start.ensures.added ports functions
+    c.in_ok-sites.ensures.added c.in_ok-add_wires.ensures)
 
 pub returns-clause-settled : goal.returns-clause-settled
 returns-clause-settled c =
     let same = c.program-c.ensures.same in
     let checked = c.program-c.ensures.checked in
     let ports = subst (λ (x : CheckedProgram). c.add_ports.new.net ≡ with_signals c.add_input.new.net (map input_line (port_lines (program_of x) (names_of x) (program_of x).main))) same
-    (c.in_ok-words.ensures.added ∙ ap (λ f. with_signals c.add_input.new.net (map input_line (port_lines (program_of c.program-c.result.now) (names_of c.program-c.result.now) f))) c.main_function-main.ensures.number) in
-    let functions = subst (λ (x : CheckedProgram). c.add_functions.new.net ≡ with_signals c.add_ports.new.net (map open_register (lines (function_lines (program_of x) (names_of x)) (program_of x).functions))) same c.in_ok-functions.ensures.added in
-    declared_settled (program_of c.args.p.now.program) (names_of c.args.p.now.program) (choice_of c.args.p.now) c.add_wires.new.net (net_declared c.args.p.now.program checked (choice_of c.args.p.now) c.new-net.result c.add_input.new.net c.add_ports.new.net c.add_functions.new.net c.add_sites.new.net c.add_wires.new.net c.new-net.ensures c.in_ok-start.ensures.added ports functions c.in_ok-sites.ensures.added c.in_ok-add_wires.ensures)
+    (c.in_ok-words.ensures.added ∙ ap (λ f. with_signals c.add_input.new.net
+    (map input_line (port_lines (program_of c.program-c.result.now) (names_of c.program-c.result.now) f))) c.main_function-main.ensures.number) in
+    let functions = subst (λ (x : CheckedProgram). c.add_functions.new.net ≡ with_signals c.add_ports.new.net
+    (map open_register (lines (function_lines (program_of x) (names_of x)) (program_of x).functions))) same c.in_ok-functions.ensures.added in
+    declared_settled (program_of c.args.p.now.program) (names_of c.args.p.now.program) (choice_of c.args.p.now) c.add_wires.new.net
+    (net_declared c.args.p.now.program checked (choice_of c.args.p.now) c.new-net.result c.add_input.new.net c.add_ports.new.net
+    c.add_functions.new.net c.add_sites.new.net c.add_wires.new.net c.new-net.ensures c.in_ok-start.ensures.added ports functions
+    c.in_ok-sites.ensures.added c.in_ok-add_wires.ensures)
 
 pub add_input-requires-clause-free : goal.add_input-requires-clause-free
-add_input-requires-clause-free c = may_now c.new-net.result _ _ (may_declare c.program-c.result.now (subst IsChecked (sym c.program-c.ensures.same) c.program-c.ensures.checked) (choice_of c.args.p.now) c.new-net.result c.new-net.ensures)
+add_input-requires-clause-free c = may_now c.new-net.result _ _
+    (may_declare c.program-c.result.now (subst IsChecked (sym c.program-c.ensures.same) c.program-c.ensures.checked) (choice_of c.args.p.now)
+    c.new-net.result c.new-net.ensures)
 
 pub add_ports-requires-clause-free : goal.add_ports-requires-clause-free
 add_ports-requires-clause-free c =
     let x = c.program-c.result.now in
     subst (λ f. MayAdd c.add_input.new.net (map input_line (port_lines (program_of x) (names_of x) f))) (sym c.main_function-main.ensures.number)
-    (may_ports x (subst IsChecked (sym c.program-c.ensures.same) c.program-c.ensures.checked) (choice_of c.args.p.now) c.new-net.result c.add_input.new.net c.new-net.ensures c.in_ok-start.ensures.added)
+    (may_ports x (subst IsChecked (sym c.program-c.ensures.same) c.program-c.ensures.checked) (choice_of c.args.p.now) c.new-net.result
+    c.add_input.new.net c.new-net.ensures c.in_ok-start.ensures.added)
 
 pub add_functions-requires-clause-free : goal.add_functions-requires-clause-free
 add_functions-requires-clause-free c =
     let x = c.program-c.result.now in
     let ports = c.in_ok-words.ensures.added ∙ ap (λ f. with_signals c.add_input.new.net (map input_line (port_lines (program_of x) (names_of x) f))) c.main_function-main.ensures.number in
-    may_functions x (subst IsChecked (sym c.program-c.ensures.same) c.program-c.ensures.checked) (choice_of c.args.p.now) c.new-net.result c.add_input.new.net c.add_ports.new.net c.new-net.ensures c.in_ok-start.ensures.added ports
+    may_functions x (subst IsChecked (sym c.program-c.ensures.same) c.program-c.ensures.checked) (choice_of c.args.p.now) c.new-net.result
+    c.add_input.new.net c.add_ports.new.net c.new-net.ensures c.in_ok-start.ensures.added ports
 
 pub add_sites-requires-clause-free : goal.add_sites-requires-clause-free
 add_sites-requires-clause-free c =
     let same = c.program-c.ensures.same in
     let checked = c.program-c.ensures.checked in
     let ports = subst (λ (x : CheckedProgram). c.add_ports.new.net ≡ with_signals c.add_input.new.net (map input_line (port_lines (program_of x) (names_of x) (program_of x).main))) same
-    (c.in_ok-words.ensures.added ∙ ap (λ f. with_signals c.add_input.new.net (map input_line (port_lines (program_of c.program-c.result.now) (names_of c.program-c.result.now) f))) c.main_function-main.ensures.number) in
-    let functions = subst (λ (x : CheckedProgram). c.add_functions.new.net ≡ with_signals c.add_ports.new.net (map open_register (lines (function_lines (program_of x) (names_of x)) (program_of x).functions))) same c.in_ok-functions.ensures.added in
-    may_sites c.args.p.now.program checked (choice_of c.args.p.now) c.new-net.result c.add_input.new.net c.add_ports.new.net c.new-net.ensures c.in_ok-start.ensures.added ports c.add_functions.new.net functions
+    (c.in_ok-words.ensures.added ∙ ap (λ f. with_signals c.add_input.new.net
+    (map input_line (port_lines (program_of c.program-c.result.now) (names_of c.program-c.result.now) f))) c.main_function-main.ensures.number) in
+    let functions = subst (λ (x : CheckedProgram). c.add_functions.new.net ≡ with_signals c.add_ports.new.net
+    (map open_register (lines (function_lines (program_of x) (names_of x)) (program_of x).functions))) same c.in_ok-functions.ensures.added in
+    may_sites c.args.p.now.program checked (choice_of c.args.p.now) c.new-net.result c.add_input.new.net c.add_ports.new.net c.new-net.ensures
+    c.in_ok-start.ensures.added ports c.add_functions.new.net functions
 
 pub add_wires-requires-clause-free : goal.add_wires-requires-clause-free
 add_wires-requires-clause-free c =
     let same = c.program-c.ensures.same in
     let checked = c.program-c.ensures.checked in
     let ports = subst (λ (x : CheckedProgram). c.add_ports.new.net ≡ with_signals c.add_input.new.net (map input_line (port_lines (program_of x) (names_of x) (program_of x).main))) same
-    (c.in_ok-words.ensures.added ∙ ap (λ f. with_signals c.add_input.new.net (map input_line (port_lines (program_of c.program-c.result.now) (names_of c.program-c.result.now) f))) c.main_function-main.ensures.number) in
-    let functions = subst (λ (x : CheckedProgram). c.add_functions.new.net ≡ with_signals c.add_ports.new.net (map open_register (lines (function_lines (program_of x) (names_of x)) (program_of x).functions))) same c.in_ok-functions.ensures.added in
-    may_wires c.args.p.now.program checked (choice_of c.args.p.now) c.new-net.result c.add_input.new.net c.add_ports.new.net c.new-net.ensures c.in_ok-start.ensures.added ports c.add_functions.new.net c.add_sites.new.net functions c.in_ok-sites.ensures.added
+    (c.in_ok-words.ensures.added ∙ ap (λ f. with_signals c.add_input.new.net
+    (map input_line (port_lines (program_of c.program-c.result.now) (names_of c.program-c.result.now) f))) c.main_function-main.ensures.number) in
+    let functions = subst (λ (x : CheckedProgram). c.add_functions.new.net ≡ with_signals c.add_ports.new.net
+    (map open_register (lines (function_lines (program_of x) (names_of x)) (program_of x).functions))) same c.in_ok-functions.ensures.added in
+    may_wires c.args.p.now.program checked (choice_of c.args.p.now) c.new-net.result c.add_input.new.net c.add_ports.new.net c.new-net.ensures
+    c.in_ok-start.ensures.added ports c.add_functions.new.net c.add_sites.new.net functions c.in_ok-sites.ensures.added

@@ -46,7 +46,8 @@ next_units-requires-clause-ends c =
     let C = program_of c.args.p.now.program in
     let P = choice_of c.args.p.now in
     let g = c.requires.goes in
-    subst (λ (xs : List (Option Load)). SomeFit c.edge_events.new.net xs (λ u. C.result u ∷ [])) (sym c.deref.ensures.value) (c.in_ok-events.ensures.done c.args.pins.now c.requires.outcomes g).ends.fits
+    subst (λ (xs : List (Option Load)). SomeFit c.edge_events.new.net xs (λ u. C.result u ∷ [])) (sym c.deref.ensures.value)
+    (c.in_ok-events.ensures.done c.args.pins.now c.requires.outcomes g).ends.fits
 
 pub next_units-requires-clause-starts_count : goal.next_units-requires-clause-starts_count
 next_units-requires-clause-starts_count c =
@@ -76,7 +77,8 @@ next_members-requires-clause-events c =
     let C = program_of c.args.p.now.program in
     let P = choice_of c.args.p.now in
     let g = c.requires.goes in
-    events_fit C P c.next_units.new.net c.args.pins.now c.in_ok-events.events (events_kept c.in_ok-units.ensures.built C P c.args.pins.now c.in_ok-events.events (c.in_ok-events.ensures.done c.args.pins.now c.requires.outcomes g))
+    events_fit C P c.next_units.new.net c.args.pins.now c.in_ok-events.events
+    (events_kept c.in_ok-units.ensures.built C P c.args.pins.now c.in_ok-events.events (c.in_ok-events.ensures.done c.args.pins.now c.requires.outcomes g))
 
 pub next_members-requires-clause-outcomes : goal.next_members-requires-clause-outcomes
 next_members-requires-clause-outcomes c = (outcomes_kept (builds_on c.in_ok-events.ensures.built c.in_ok-units.ensures.built) c.requires.outcomes).fits
@@ -123,7 +125,8 @@ next_sites-requires-clause-room c =
 pub returns-clause-built : goal.returns-clause-built
 returns-clause-built c =
     let C = program_of c.args.p.now.program in
-    builds_within (64 * C.functions + 32 * C.sites + 32) (builds_on (builds_on (builds_on c.in_ok-events.ensures.built c.in_ok-units.ensures.built) c.in_ok-members.ensures.built) c.in_ok-sites.ensures.built) (omega arith)
+    builds_within (64 * C.functions + 32 * C.sites + 32) (builds_on
+    (builds_on (builds_on c.in_ok-events.ensures.built c.in_ok-units.ensures.built) c.in_ok-members.ensures.built) c.in_ok-sites.ensures.built) (omega arith)
 
 pub returns-clause-done : goal.returns-clause-done
 returns-clause-done c =
@@ -134,11 +137,14 @@ returns-clause-done c =
     let back = builds_on (builds_on c.in_ok-units.ensures.built c.in_ok-members.ensures.built) c.in_ok-sites.ensures.built in
     let all = builds_on c.in_ok-events.ensures.built back in
     let events = c.in_ok-events.events in
-    has_next C P c.next_sites.new.net p c.args.returns.now c.args.outcomes.now c.args.goes.now events (record { units = c.in_ok-units.units; members = c.in_ok-members.members; sites = c.in_ok-sites.sites })
+    has_next C P c.next_sites.new.net p c.args.returns.now c.args.outcomes.now c.args.goes.now events
+    (record { units = c.in_ok-units.units; members = c.in_ok-members.members; sites = c.in_ok-sites.sites })
     c.next_units.ensures.checked.formed (pins_kept all c.requires.pins) (returns_kept all c.requires.returns) (outcomes_kept all c.requires.outcomes) (goes_kept all c.requires.goes)
     (events_kept back C P p events (c.in_ok-events.ensures.done p c.requires.outcomes g))
     (units_next_kept (builds_on c.in_ok-members.ensures.built c.in_ok-sites.ensures.built)
     (subst (λ (xs : List (Option Load)). UnitsNext C c.next_units.new.net p.bank.units.items xs events.starts.items c.in_ok-units.units.items C.functions) c.deref.ensures.value
-    (subst (λ (xs : List (Option Sig)). UnitsNext C c.next_units.new.net p.bank.units.items c.deref.result.now xs c.in_ok-units.units.items C.functions) c.deref-2.ensures.value c.in_ok-units.ensures.done)))
+    (subst (λ (xs : List (Option Sig)). UnitsNext C c.next_units.new.net p.bank.units.items c.deref.result.now xs c.in_ok-units.units.items
+    C.functions) c.deref-2.ensures.value c.in_ok-units.ensures.done)))
     (members_next_kept c.in_ok-sites.ensures.built c.in_ok-members.ensures.done)
-    (subst (λ (xs : List (Option Sig)). SitesNext C P c.next_sites.new.net p.bank.units.items p.bank.sites.items c.args.returns.now.ret.items c.args.goes.now xs c.in_ok-sites.sites.items C.sites) c.deref-3.ensures.value c.in_ok-sites.ensures.done)
+    (subst (λ (xs : List (Option Sig)). SitesNext C P c.next_sites.new.net p.bank.units.items p.bank.sites.items c.args.returns.now.ret.items
+    c.args.goes.now xs c.in_ok-sites.sites.items C.sites) c.deref-3.ensures.value c.in_ok-sites.ensures.done)

@@ -37,8 +37,10 @@ record Entries (C : Program) (a b : Netlist) (p : Pins) (e : Events) (o : Outcom
   fits : MemberFits b x (C.params f)
   count : length x.args.items ≡ arity C f
 
-entries_at : (C : Program) (a b : Netlist) (k : ℕ) (p : Pins) (e : Events) (o : Outcomes) (f : ℕ) (entry rival : Option Sig) (load looped : Option Load) (x : MemberPins) → Builds a b k → f < C.functions → PinsFit C a p → EventsFit C a e → OutcomesFit C a o
-    → entry ≡ slice_index_or e.entries.items f entry → rival ≡ slice_index_or e.rivals.items f rival → load ≡ slice_index_or e.loads.items f load → looped ≡ slice_index_or o.loops.items f looped → x ≡ slice_index_or p.bank.members.items f x
+entries_at : (C : Program) (a b : Netlist) (k : ℕ) (p : Pins) (e : Events) (o : Outcomes) (f : ℕ) (entry rival : Option Sig)
+    (load looped : Option Load) (x : MemberPins) → Builds a b k → f < C.functions → PinsFit C a p → EventsFit C a e → OutcomesFit C a o
+    → entry ≡ slice_index_or e.entries.items f entry → rival ≡ slice_index_or e.rivals.items f rival → load ≡ slice_index_or e.loads.items f load →
+    looped ≡ slice_index_or o.loops.items f looped → x ≡ slice_index_or p.bank.members.items f x
     → Entries C a b p e o f entry rival load looped x
 entries_at C a b k p e o f entry rival load looped x built l pf ef of q1 q2 q3 q4 q5 =
     let n1 = ef.entries_length in
@@ -72,7 +74,8 @@ loop-f-init c =
     record {
       tidy = c.requires.tidy;
       built = builds_same n n refl 0;
-      table = no_members (program_of c.args.p.now.program) n c.args.pins.now.bank.members.items e.entries.items e.rivals.items e.loads.items c.args.outcomes.now.loops.items c.new-all.result.items c.new-all.ensures.items;
+      table = no_members (program_of c.args.p.now.program) n c.args.pins.now.bank.members.items e.entries.items e.rivals.items e.loads.items
+          c.args.outcomes.now.loops.items c.new-all.result.items c.new-all.ensures.items;
     }
 
 pub next_member-requires-clause-tidy : goal.next_member-requires-clause-tidy
@@ -82,23 +85,29 @@ pub next_member-requires-clause-entry : goal.next_member-requires-clause-entry
 next_member-requires-clause-entry c =
     let l = c.loop-f-test.true in
     let k = c.function_count-functions.ensures.count in
-    (entries_at (program_of c.args.p.now.program) c.args.net.now c.loop-f.net (35 * c.loop-f.f) c.args.pins.now c.args.events.now c.args.outcomes.now c.loop-f.f c.index-own.result.now c.index-rival.result.now c.index-load.result.now c.index-looped.result.now
-    c.index-now.result.now c.loop-f.invariant.built (omega (arith, l, k)) c.requires.pins c.requires.events c.requires.outcomes c.index-own.ensures c.index-rival.ensures c.index-load.ensures c.index-looped.ensures c.index-now.ensures).entry_fits
+    (entries_at (program_of c.args.p.now.program) c.args.net.now c.loop-f.net (35 * c.loop-f.f) c.args.pins.now c.args.events.now c.args.outcomes.now
+    c.loop-f.f c.index-own.result.now c.index-rival.result.now c.index-load.result.now c.index-looped.result.now
+    c.index-now.result.now c.loop-f.invariant.built (omega (arith, l, k)) c.requires.pins c.requires.events c.requires.outcomes c.index-own.ensures
+    c.index-rival.ensures c.index-load.ensures c.index-looped.ensures c.index-now.ensures).entry_fits
 
 pub next_member-requires-clause-rival : goal.next_member-requires-clause-rival
 next_member-requires-clause-rival c =
     let l = c.loop-f-test.true in
     let k = c.function_count-functions.ensures.count in
-    (entries_at (program_of c.args.p.now.program) c.args.net.now c.loop-f.net (35 * c.loop-f.f) c.args.pins.now c.args.events.now c.args.outcomes.now c.loop-f.f c.index-own.result.now c.index-rival.result.now c.index-load.result.now c.index-looped.result.now
-    c.index-now.result.now c.loop-f.invariant.built (omega (arith, l, k)) c.requires.pins c.requires.events c.requires.outcomes c.index-own.ensures c.index-rival.ensures c.index-load.ensures c.index-looped.ensures c.index-now.ensures).rival_fits
+    (entries_at (program_of c.args.p.now.program) c.args.net.now c.loop-f.net (35 * c.loop-f.f) c.args.pins.now c.args.events.now c.args.outcomes.now
+    c.loop-f.f c.index-own.result.now c.index-rival.result.now c.index-load.result.now c.index-looped.result.now
+    c.index-now.result.now c.loop-f.invariant.built (omega (arith, l, k)) c.requires.pins c.requires.events c.requires.outcomes c.index-own.ensures
+    c.index-rival.ensures c.index-load.ensures c.index-looped.ensures c.index-now.ensures).rival_fits
 
 pub next_member-requires-clause-fits : goal.next_member-requires-clause-fits
 next_member-requires-clause-fits c =
     let C = program_of c.args.p.now.program in
     let l = c.loop-f-test.true in
     let k = c.function_count-functions.ensures.count in
-    let h = entries_at C c.args.net.now c.loop-f.net (35 * c.loop-f.f) c.args.pins.now c.args.events.now c.args.outcomes.now c.loop-f.f c.index-own.result.now c.index-rival.result.now c.index-load.result.now c.index-looped.result.now
-    c.index-now.result.now c.loop-f.invariant.built (omega (arith, l, k)) c.requires.pins c.requires.events c.requires.outcomes c.index-own.ensures c.index-rival.ensures c.index-load.ensures c.index-looped.ensures c.index-now.ensures in
+    let h = entries_at C c.args.net.now c.loop-f.net (35 * c.loop-f.f) c.args.pins.now c.args.events.now c.args.outcomes.now c.loop-f.f
+    c.index-own.result.now c.index-rival.result.now c.index-load.result.now c.index-looped.result.now
+    c.index-now.result.now c.loop-f.invariant.built (omega (arith, l, k)) c.requires.pins c.requires.events c.requires.outcomes c.index-own.ensures
+    c.index-rival.ensures c.index-load.ensures c.index-looped.ensures c.index-now.ensures in
     (C.params c.loop-f.f, h.load_fits, h.loop_fits, h.fits)
 
 pub next_member-requires-clause-room : goal.next_member-requires-clause-room
@@ -106,8 +115,10 @@ next_member-requires-clause-room c =
     let C = program_of c.args.p.now.program in
     let l = c.loop-f-test.true in
     let k = c.function_count-functions.ensures.count in
-    let h = (entries_at C c.args.net.now c.loop-f.net (35 * c.loop-f.f) c.args.pins.now c.args.events.now c.args.outcomes.now c.loop-f.f c.index-own.result.now c.index-rival.result.now c.index-load.result.now c.index-looped.result.now
-    c.index-now.result.now c.loop-f.invariant.built (omega (arith, l, k)) c.requires.pins c.requires.events c.requires.outcomes c.index-own.ensures c.index-rival.ensures c.index-load.ensures c.index-looped.ensures c.index-now.ensures).count in
+    let h = (entries_at C c.args.net.now c.loop-f.net (35 * c.loop-f.f) c.args.pins.now c.args.events.now c.args.outcomes.now c.loop-f.f
+    c.index-own.result.now c.index-rival.result.now c.index-load.result.now c.index-looped.result.now
+    c.index-now.result.now c.loop-f.invariant.built (omega (arith, l, k)) c.requires.pins c.requires.events c.requires.outcomes c.index-own.ensures
+    c.index-rival.ensures c.index-load.ensures c.index-looped.ensures c.index-now.ensures).count in
     let a = c.function_count-functions.ensures.checked.limits.params c.loop-f.f in
     let b = c.loop-f.invariant.built.count in
     let r = c.requires.room in
@@ -122,7 +133,8 @@ loop-f-preserved c =
     let e = c.args.events.now in
     let o = c.args.outcomes.now in
     let h = entries_at C c.args.net.now c.loop-f.net (35 * f) c.args.pins.now e o f c.index-own.result.now c.index-rival.result.now c.index-load.result.now c.index-looped.result.now
-    c.index-now.result.now c.loop-f.invariant.built (omega (arith, l, k)) c.requires.pins c.requires.events c.requires.outcomes c.index-own.ensures c.index-rival.ensures c.index-load.ensures c.index-looped.ensures c.index-now.ensures in
+    c.index-now.result.now c.loop-f.invariant.built (omega (arith, l, k)) c.requires.pins c.requires.events c.requires.outcomes c.index-own.ensures
+    c.index-rival.ensures c.index-load.ensures c.index-looped.ensures c.index-now.ensures in
     let n = h.count in
     let a = c.function_count-functions.ensures.checked.limits.params f in
     let x = c.index-now.result.now in
@@ -132,10 +144,12 @@ loop-f-preserved c =
     record {
       tidy = c.next_member.ensures.tidy;
       built = builds_within (35 * (f + 1)) (builds_on c.loop-f.invariant.built built) (omega (arith, n, a));
-      table = more_members C c.loop-f.net c.next_member.new.net (3 + 2 * length x.args.items) c.args.pins.now.bank.members.items e.entries.items e.rivals.items e.loads.items o.loops.items c.loop-f.all.items c.push.new.self.items f
+      table = more_members C c.loop-f.net c.next_member.new.net (3 + 2 * length x.args.items) c.args.pins.now.bank.members.items e.entries.items
+          e.rivals.items e.loads.items o.loops.items c.loop-f.all.items c.push.new.self.items f
           c.index-own.result.now c.index-rival.result.now c.index-load.result.now c.index-looped.result.now x y
           c.loop-f.invariant.table built h.at_entry h.at_rival h.at_load h.at_loop h.at (c.in_ok-next.ensures.fits (C.params f) h.load_fits h.loop_fits h.fits)
-          (λ v w. subst (λ (m : Bool). MemberStep v m (on_in v c.index-own.result.now) (on_in v c.index-rival.result.now) (taken_in v c.index-load.result.now) (taken_in v c.index-looped.result.now) x y) peers (c.in_ok-next.ensures.shows v w))
+          (λ v w. subst (λ (m : Bool). MemberStep v m (on_in v c.index-own.result.now) (on_in v c.index-rival.result.now)
+          (taken_in v c.index-load.result.now) (taken_in v c.index-looped.result.now) x y) peers (c.in_ok-next.ensures.shows v w))
           c.in_ok-push.ensures.items;
     }
 
@@ -155,4 +169,5 @@ returns-clause-done c =
     let b = c.loop-f.auto.f-end in
     let k = c.function_count-functions.ensures.count in
     let e : c.loop-f.f ≡ C.functions = omega (arith, l, b, k) in
-    subst (λ (m : ℕ). MembersNext C c.loop-f.net c.args.pins.now.bank.members.items c.args.events.now.entries.items c.args.events.now.rivals.items c.args.events.now.loads.items c.args.outcomes.now.loops.items c.loop-f.all.items m) e c.loop-f.invariant.table
+    subst (λ (m : ℕ). MembersNext C c.loop-f.net c.args.pins.now.bank.members.items c.args.events.now.entries.items c.args.events.now.rivals.items
+    c.args.events.now.loads.items c.args.outcomes.now.loops.items c.loop-f.all.items m) e c.loop-f.invariant.table

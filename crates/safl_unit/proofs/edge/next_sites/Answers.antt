@@ -34,8 +34,10 @@ record Site (C : Program) (b : Netlist) (p : Pins) (rets goes : List Sig) (clear
   res_fits : IsSource b u.res (C.result (C.callee k))
   fits : SiteFits b x (C.result (C.callee k))
 
-site_now : (C : Program) (a b : Netlist) (j : ℕ) (p : Pins) (s : Returns) (goes : List Sig) (clears : List (Option Sig)) (k callee owner : ℕ) (ret go : Sig) (clear : Option Sig) (u : UnitPins) (x : SitePins) → Builds a b j → 0 < k → k ≤ C.sites
-    → callee ≡ C.callee k → callee < C.functions → owner ≡ C.unit (C.caller k) → owner < C.functions → PinsFit C a p → ReturnsFit C a s → length goes ≡ suc C.sites → ((k : ℕ) → k ≤ C.sites → IsSource a (pin goes k) 1)
+site_now : (C : Program) (a b : Netlist) (j : ℕ) (p : Pins) (s : Returns) (goes : List Sig) (clears : List (Option Sig)) (k callee owner : ℕ)
+    (ret go : Sig) (clear : Option Sig) (u : UnitPins) (x : SitePins) → Builds a b j → 0 < k → k ≤ C.sites
+    → callee ≡ C.callee k → callee < C.functions → owner ≡ C.unit (C.caller k) → owner < C.functions → PinsFit C a p → ReturnsFit C a s → length goes
+    ≡ suc C.sites → ((k : ℕ) → k ≤ C.sites → IsSource a (pin goes k) 1)
     → length clears ≡ C.functions → BitsFit a clears → clear ≡ slice_index_or clears owner clear → u ≡ slice_index_or p.bank.units.items callee u → x ≡ slice_index_or p.bank.sites.items k x
     → ret ≡ slice_index_or s.ret.items k ret → go ≡ slice_index_or goes k go → Site C b p s.ret.items goes clears k ret go clear u x
 site_now C a b j p s goes clears k callee owner ret go clear u x built above most calls within owns below pf rf gc gf cc' cf q1 q2 q3 q4 q5 =
@@ -70,7 +72,8 @@ loop-done-init c =
     record {
       tidy = c.requires.tidy;
       built = builds_same n n refl 0;
-      table = no_sites (program_of c.args.p.now.program) (choice_of c.args.p.now) n p.bank.units.items p.bank.sites.items c.args.returns.now.ret.items c.args.goes.now c.args.clears.now c.in_ok-all.all.items c.in_ok-all.ensures.count;
+      table = no_sites (program_of c.args.p.now.program) (choice_of c.args.p.now) n p.bank.units.items p.bank.sites.items c.args.returns.now.ret.items
+          c.args.goes.now c.args.clears.now c.in_ok-all.all.items c.in_ok-all.ensures.count;
     }
 
 pub next_site-requires-clause-tidy : goal.next_site-requires-clause-tidy
@@ -83,10 +86,16 @@ next_site-requires-clause-ret c =
     let s = c.site_count-sites.ensures.count in
     let w = c.caller_of-caller.ensures.within in
     let u = c.unit_of-owner.ensures.within in
-    let h = site_now C c.args.net.now c.loop-done.net (7 * c.loop-done.done) c.args.pins.now c.args.returns.now c.args.goes.now c.args.clears.now (c.loop-done.done + 1) c.callee_of-callee.result c.unit_of-owner.result
-    c.index-ret.result.now (pin c.args.goes.now (c.loop-done.done + 1)) (slice_index_or c.args.clears.now c.unit_of-owner.result None) c.index-unit.result.now c.index-now.result.now c.loop-done.invariant.built (omega arith) (omega (arith, l, s)) c.callee_of-callee.ensures.number c.callee_of-callee.ensures.within
-    (c.unit_of-owner.ensures.number ∙ ap C.unit c.caller_of-caller.ensures.number) (omega (arith, w, u)) c.requires.pins c.requires.returns c.requires.goes_count c.requires.goes c.requires.clears_count c.requires.clears
-    (read_again c.args.clears.now c.unit_of-owner.result None (let m = c.requires.clears_count in omega (arith, w, u, m))) c.index-unit.ensures c.index-now.ensures c.index-ret.ensures (read_again c.args.goes.now (c.loop-done.done + 1) (record { 0 = 0 }) (let m = c.requires.goes_count in omega (arith, l, s, m))) in
+    let h = site_now C c.args.net.now c.loop-done.net (7 * c.loop-done.done) c.args.pins.now c.args.returns.now c.args.goes.now c.args.clears.now
+    (c.loop-done.done + 1) c.callee_of-callee.result c.unit_of-owner.result
+    c.index-ret.result.now (pin c.args.goes.now (c.loop-done.done + 1)) (slice_index_or c.args.clears.now c.unit_of-owner.result None)
+    c.index-unit.result.now c.index-now.result.now c.loop-done.invariant.built (omega arith) (omega (arith, l, s))
+    c.callee_of-callee.ensures.number c.callee_of-callee.ensures.within
+    (c.unit_of-owner.ensures.number ∙ ap C.unit c.caller_of-caller.ensures.number) (omega (arith, w, u)) c.requires.pins c.requires.returns
+    c.requires.goes_count c.requires.goes c.requires.clears_count c.requires.clears
+    (read_again c.args.clears.now c.unit_of-owner.result None (let m = c.requires.clears_count in omega (arith, w, u, m))) c.index-unit.ensures
+    c.index-now.ensures c.index-ret.ensures (read_again c.args.goes.now (c.loop-done.done + 1) (record { 0 = 0 })
+    (let m = c.requires.goes_count in omega (arith, l, s, m))) in
     h.ret_fits
 
 pub next_site-requires-clause-go : goal.next_site-requires-clause-go
@@ -96,10 +105,16 @@ next_site-requires-clause-go c =
     let s = c.site_count-sites.ensures.count in
     let w = c.caller_of-caller.ensures.within in
     let u = c.unit_of-owner.ensures.within in
-    let h = site_now C c.args.net.now c.loop-done.net (7 * c.loop-done.done) c.args.pins.now c.args.returns.now c.args.goes.now c.args.clears.now (c.loop-done.done + 1) c.callee_of-callee.result c.unit_of-owner.result
-    c.index-ret.result.now (pin c.args.goes.now (c.loop-done.done + 1)) (slice_index_or c.args.clears.now c.unit_of-owner.result None) c.index-unit.result.now c.index-now.result.now c.loop-done.invariant.built (omega arith) (omega (arith, l, s)) c.callee_of-callee.ensures.number c.callee_of-callee.ensures.within
-    (c.unit_of-owner.ensures.number ∙ ap C.unit c.caller_of-caller.ensures.number) (omega (arith, w, u)) c.requires.pins c.requires.returns c.requires.goes_count c.requires.goes c.requires.clears_count c.requires.clears
-    (read_again c.args.clears.now c.unit_of-owner.result None (let m = c.requires.clears_count in omega (arith, w, u, m))) c.index-unit.ensures c.index-now.ensures c.index-ret.ensures (read_again c.args.goes.now (c.loop-done.done + 1) (record { 0 = 0 }) (let m = c.requires.goes_count in omega (arith, l, s, m))) in
+    let h = site_now C c.args.net.now c.loop-done.net (7 * c.loop-done.done) c.args.pins.now c.args.returns.now c.args.goes.now c.args.clears.now
+    (c.loop-done.done + 1) c.callee_of-callee.result c.unit_of-owner.result
+    c.index-ret.result.now (pin c.args.goes.now (c.loop-done.done + 1)) (slice_index_or c.args.clears.now c.unit_of-owner.result None)
+    c.index-unit.result.now c.index-now.result.now c.loop-done.invariant.built (omega arith) (omega (arith, l, s))
+    c.callee_of-callee.ensures.number c.callee_of-callee.ensures.within
+    (c.unit_of-owner.ensures.number ∙ ap C.unit c.caller_of-caller.ensures.number) (omega (arith, w, u)) c.requires.pins c.requires.returns
+    c.requires.goes_count c.requires.goes c.requires.clears_count c.requires.clears
+    (read_again c.args.clears.now c.unit_of-owner.result None (let m = c.requires.clears_count in omega (arith, w, u, m))) c.index-unit.ensures
+    c.index-now.ensures c.index-ret.ensures (read_again c.args.goes.now (c.loop-done.done + 1) (record { 0 = 0 })
+    (let m = c.requires.goes_count in omega (arith, l, s, m))) in
     h.go_fits
 
 pub next_site-requires-clause-clear : goal.next_site-requires-clause-clear
@@ -109,10 +124,16 @@ next_site-requires-clause-clear c =
     let s = c.site_count-sites.ensures.count in
     let w = c.caller_of-caller.ensures.within in
     let u = c.unit_of-owner.ensures.within in
-    let h = site_now C c.args.net.now c.loop-done.net (7 * c.loop-done.done) c.args.pins.now c.args.returns.now c.args.goes.now c.args.clears.now (c.loop-done.done + 1) c.callee_of-callee.result c.unit_of-owner.result
-    c.index-ret.result.now (pin c.args.goes.now (c.loop-done.done + 1)) (slice_index_or c.args.clears.now c.unit_of-owner.result None) c.index-unit.result.now c.index-now.result.now c.loop-done.invariant.built (omega arith) (omega (arith, l, s)) c.callee_of-callee.ensures.number c.callee_of-callee.ensures.within
-    (c.unit_of-owner.ensures.number ∙ ap C.unit c.caller_of-caller.ensures.number) (omega (arith, w, u)) c.requires.pins c.requires.returns c.requires.goes_count c.requires.goes c.requires.clears_count c.requires.clears
-    (read_again c.args.clears.now c.unit_of-owner.result None (let m = c.requires.clears_count in omega (arith, w, u, m))) c.index-unit.ensures c.index-now.ensures c.index-ret.ensures (read_again c.args.goes.now (c.loop-done.done + 1) (record { 0 = 0 }) (let m = c.requires.goes_count in omega (arith, l, s, m))) in
+    let h = site_now C c.args.net.now c.loop-done.net (7 * c.loop-done.done) c.args.pins.now c.args.returns.now c.args.goes.now c.args.clears.now
+    (c.loop-done.done + 1) c.callee_of-callee.result c.unit_of-owner.result
+    c.index-ret.result.now (pin c.args.goes.now (c.loop-done.done + 1)) (slice_index_or c.args.clears.now c.unit_of-owner.result None)
+    c.index-unit.result.now c.index-now.result.now c.loop-done.invariant.built (omega arith) (omega (arith, l, s))
+    c.callee_of-callee.ensures.number c.callee_of-callee.ensures.within
+    (c.unit_of-owner.ensures.number ∙ ap C.unit c.caller_of-caller.ensures.number) (omega (arith, w, u)) c.requires.pins c.requires.returns
+    c.requires.goes_count c.requires.goes c.requires.clears_count c.requires.clears
+    (read_again c.args.clears.now c.unit_of-owner.result None (let m = c.requires.clears_count in omega (arith, w, u, m))) c.index-unit.ensures
+    c.index-now.ensures c.index-ret.ensures (read_again c.args.goes.now (c.loop-done.done + 1) (record { 0 = 0 })
+    (let m = c.requires.goes_count in omega (arith, l, s, m))) in
     h.clear_fits
 
 pub next_site-requires-clause-fits : goal.next_site-requires-clause-fits
@@ -122,10 +143,16 @@ next_site-requires-clause-fits c =
     let s = c.site_count-sites.ensures.count in
     let w = c.caller_of-caller.ensures.within in
     let u = c.unit_of-owner.ensures.within in
-    let h = site_now C c.args.net.now c.loop-done.net (7 * c.loop-done.done) c.args.pins.now c.args.returns.now c.args.goes.now c.args.clears.now (c.loop-done.done + 1) c.callee_of-callee.result c.unit_of-owner.result
-    c.index-ret.result.now (pin c.args.goes.now (c.loop-done.done + 1)) (slice_index_or c.args.clears.now c.unit_of-owner.result None) c.index-unit.result.now c.index-now.result.now c.loop-done.invariant.built (omega arith) (omega (arith, l, s)) c.callee_of-callee.ensures.number c.callee_of-callee.ensures.within
-    (c.unit_of-owner.ensures.number ∙ ap C.unit c.caller_of-caller.ensures.number) (omega (arith, w, u)) c.requires.pins c.requires.returns c.requires.goes_count c.requires.goes c.requires.clears_count c.requires.clears
-    (read_again c.args.clears.now c.unit_of-owner.result None (let m = c.requires.clears_count in omega (arith, w, u, m))) c.index-unit.ensures c.index-now.ensures c.index-ret.ensures (read_again c.args.goes.now (c.loop-done.done + 1) (record { 0 = 0 }) (let m = c.requires.goes_count in omega (arith, l, s, m))) in
+    let h = site_now C c.args.net.now c.loop-done.net (7 * c.loop-done.done) c.args.pins.now c.args.returns.now c.args.goes.now c.args.clears.now
+    (c.loop-done.done + 1) c.callee_of-callee.result c.unit_of-owner.result
+    c.index-ret.result.now (pin c.args.goes.now (c.loop-done.done + 1)) (slice_index_or c.args.clears.now c.unit_of-owner.result None)
+    c.index-unit.result.now c.index-now.result.now c.loop-done.invariant.built (omega arith) (omega (arith, l, s))
+    c.callee_of-callee.ensures.number c.callee_of-callee.ensures.within
+    (c.unit_of-owner.ensures.number ∙ ap C.unit c.caller_of-caller.ensures.number) (omega (arith, w, u)) c.requires.pins c.requires.returns
+    c.requires.goes_count c.requires.goes c.requires.clears_count c.requires.clears
+    (read_again c.args.clears.now c.unit_of-owner.result None (let m = c.requires.clears_count in omega (arith, w, u, m))) c.index-unit.ensures
+    c.index-now.ensures c.index-ret.ensures (read_again c.args.goes.now (c.loop-done.done + 1) (record { 0 = 0 })
+    (let m = c.requires.goes_count in omega (arith, l, s, m))) in
     (C.result (C.callee (c.loop-done.done + 1)), h.res_fits, h.fits)
 
 pub next_site-requires-clause-room : goal.next_site-requires-clause-room
@@ -143,10 +170,16 @@ loop-done-preserved c =
     let s = c.site_count-sites.ensures.count in
     let w = c.caller_of-caller.ensures.within in
     let u = c.unit_of-owner.ensures.within in
-    let h = site_now C c.args.net.now c.loop-done.net (7 * c.loop-done.done) c.args.pins.now c.args.returns.now c.args.goes.now c.args.clears.now (c.loop-done.done + 1) c.callee_of-callee.result c.unit_of-owner.result
-    c.index-ret.result.now (pin c.args.goes.now (c.loop-done.done + 1)) (slice_index_or c.args.clears.now c.unit_of-owner.result None) c.index-unit.result.now c.index-now.result.now c.loop-done.invariant.built (omega arith) (omega (arith, l, s)) c.callee_of-callee.ensures.number c.callee_of-callee.ensures.within
-    (c.unit_of-owner.ensures.number ∙ ap C.unit c.caller_of-caller.ensures.number) (omega (arith, w, u)) c.requires.pins c.requires.returns c.requires.goes_count c.requires.goes c.requires.clears_count c.requires.clears
-    (read_again c.args.clears.now c.unit_of-owner.result None (let m = c.requires.clears_count in omega (arith, w, u, m))) c.index-unit.ensures c.index-now.ensures c.index-ret.ensures (read_again c.args.goes.now (c.loop-done.done + 1) (record { 0 = 0 }) (let m = c.requires.goes_count in omega (arith, l, s, m))) in
+    let h = site_now C c.args.net.now c.loop-done.net (7 * c.loop-done.done) c.args.pins.now c.args.returns.now c.args.goes.now c.args.clears.now
+    (c.loop-done.done + 1) c.callee_of-callee.result c.unit_of-owner.result
+    c.index-ret.result.now (pin c.args.goes.now (c.loop-done.done + 1)) (slice_index_or c.args.clears.now c.unit_of-owner.result None)
+    c.index-unit.result.now c.index-now.result.now c.loop-done.invariant.built (omega arith) (omega (arith, l, s))
+    c.callee_of-callee.ensures.number c.callee_of-callee.ensures.within
+    (c.unit_of-owner.ensures.number ∙ ap C.unit c.caller_of-caller.ensures.number) (omega (arith, w, u)) c.requires.pins c.requires.returns
+    c.requires.goes_count c.requires.goes c.requires.clears_count c.requires.clears
+    (read_again c.args.clears.now c.unit_of-owner.result None (let m = c.requires.clears_count in omega (arith, w, u, m))) c.index-unit.ensures
+    c.index-now.ensures c.index-ret.ensures (read_again c.args.goes.now (c.loop-done.done + 1) (record { 0 = 0 })
+    (let m = c.requires.goes_count in omega (arith, l, s, m))) in
     let P = choice_of c.args.p.now in
     let p = c.args.pins.now in
     let rets = c.args.returns.now.ret.items in
@@ -161,12 +194,14 @@ loop-done-preserved c =
     record {
       tidy = c.next_site.ensures.tidy;
       built = builds_within (7 * (c.loop-done.done + 1)) (builds_on c.loop-done.invariant.built built) (omega arith);
-      table = more_sites C P c.loop-done.net c.next_site.new.net p.bank.units.items p.bank.sites.items rets goes clears c.loop-done.all.items c.push.new.self.items c.loop-done.done k (add-one c.loop-done.done) unit clear x y
+      table = more_sites C P c.loop-done.net c.next_site.new.net p.bank.units.items p.bank.sites.items rets goes clears c.loop-done.all.items
+          c.push.new.self.items c.loop-done.done k (add-one c.loop-done.done) unit clear x y
           c.loop-done.invariant.table built h.at_unit h.at_clear h.at (c.in_ok-next.ensures.fits (C.result (C.callee k)) h.res_fits h.fits)
           (λ v w.
           subst (λ (t : Sig). SiteStep v (P.kept k) (on v t) (on v (pin goes k)) (on_in v clear) (v unit.res.0) x y) (sym h.ret_is)
           (subst (λ (t : Sig). SiteStep v (P.kept k) (on v c.index-ret.result.now) (on v t) (on_in v clear) (v unit.res.0) x y) (sym h.go_is)
-          (subst (λ (b : Bool). SiteStep v b (on v c.index-ret.result.now) (on v (pin c.args.goes.now (c.loop-done.done + 1))) (on_in v clear) (v unit.res.0) x y) c.kept.ensures.entry (c.in_ok-next.ensures.shows v w))))
+          (subst (λ (b : Bool). SiteStep v b (on v c.index-ret.result.now) (on v (pin c.args.goes.now (c.loop-done.done + 1))) (on_in v clear)
+          (v unit.res.0) x y) c.kept.ensures.entry (c.in_ok-next.ensures.shows v w))))
           c.in_ok-push.ensures.items;
     }
 
@@ -187,4 +222,5 @@ returns-clause-done c =
     let b = c.loop-done.auto.done-end in
     let s = c.site_count-sites.ensures.count in
     let e : c.loop-done.done ≡ C.sites = omega (arith, l, b, s) in
-    subst (λ (m : ℕ). SitesNext C (choice_of c.args.p.now) c.loop-done.net p.bank.units.items p.bank.sites.items c.args.returns.now.ret.items c.args.goes.now c.args.clears.now c.loop-done.all.items m) e c.loop-done.invariant.table
+    subst (λ (m : ℕ). SitesNext C (choice_of c.args.p.now) c.loop-done.net p.bank.units.items p.bank.sites.items c.args.returns.now.ret.items
+    c.args.goes.now c.args.clears.now c.loop-done.all.items m) e c.loop-done.invariant.table

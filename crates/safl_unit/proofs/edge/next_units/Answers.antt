@@ -38,7 +38,8 @@ unit_after-requires-clause-fits c =
     let e = slice_get_read es (length es) u c.index-ends-unit.result refl (omega (arith, w, l, k, m)) c.index-ends-unit.is in
     let x = slice_get_read us (length us) u c.index-now.result.now refl (omega (arith, w, l, k, j)) c.index-now.ensures in (
       C.result u,
-      maybe_load_kept c.loop-f.invariant.built c.index-ends-unit.result (C.result u ∷ []) (subst (λ (o : Option (Option Load)). FitsIn c.args.net.now (load_in o) (C.result u ∷ [])) e (c.requires.ends u)),
+      maybe_load_kept c.loop-f.invariant.built c.index-ends-unit.result (C.result u ∷ [])
+          (subst (λ (o : Option (Option Load)). FitsIn c.args.net.now (load_in o) (C.result u ∷ [])) e (c.requires.ends u)),
       unit_kept c.loop-f.invariant.built (c.requires.pins.bank.units u c.index-now.result.now x),
     )
 
@@ -82,12 +83,14 @@ loop-f-preserved c =
     let of = c.unit_of-unit.ensures.number in
     let built = c.in_ok-next.ensures.built in
     let done = c.in_ok-next.ensures.done (C.result u)
-    (maybe_load_kept c.loop-f.invariant.built c.index-ends-unit.result (C.result u ∷ []) (subst (λ (o : Option (Option Load)). FitsIn c.args.net.now (load_in o) (C.result u ∷ [])) e (c.requires.ends u)))
+    (maybe_load_kept c.loop-f.invariant.built c.index-ends-unit.result (C.result u ∷ [])
+    (subst (λ (o : Option (Option Load)). FitsIn c.args.net.now (load_in o) (C.result u ∷ [])) e (c.requires.ends u)))
     (unit_kept c.loop-f.invariant.built (c.requires.pins.bank.units u c.index-now.result.now x)) in
     record {
       tidy = c.unit_after.ensures.tidy;
       built = builds_within (5 * (f + 1)) (builds_on c.loop-f.invariant.built built) (omega arith);
-      table = more_units C c.loop-f.net c.unit_after.new.net us es ss c.loop-f.all.items c.push.new.self.items f u c.index-ends-unit.result (slice_index_or ss u None) c.index-now.result.now c.in_ok-next.next
+      table = more_units C c.loop-f.net c.unit_after.new.net us es ss c.loop-f.all.items c.push.new.self.items f u c.index-ends-unit.result
+          (slice_index_or ss u None) c.index-now.result.now c.in_ok-next.next
           c.loop-f.invariant.table built of c.unit_of-unit.ensures.width (ap C.unit of ∙ first.1 ∙ sym of) e s x
           (⊎_elim (λ q. inl (ap (λ (xs : List UnitPins). slice_get xs u) (sym c.deref.ensures.value) ∙ q)) (λ q. inr q) done) c.in_ok-push.ensures.items;
     }

@@ -96,14 +96,16 @@ function_rivals-requires-clause-entries c = subst (λ (xs : List (Option Sig)). 
 pub function_rivals-requires-clause-room : goal.function_rivals-requires-clause-room
 function_rivals-requires-clause-room c =
     let r = c.requires.room in
-    let b = (builds_on (builds_on (builds_on (builds_on c.in_ok-ends.ensures.built c.in_ok-loads.ensures.built) c.in_ok-starts.ensures.built) c.in_ok-clears.ensures.built) c.in_ok-entries.ensures.built).count in
+    let b = (builds_on (builds_on (builds_on (builds_on c.in_ok-ends.ensures.built c.in_ok-loads.ensures.built) c.in_ok-starts.ensures.built)
+    c.in_ok-clears.ensures.built) c.in_ok-entries.ensures.built).count in
     omega (arith, r, b)
 
 pub returns-clause-built : goal.returns-clause-built
 returns-clause-built c =
     let C = program_of c.args.p.now.program in
     builds_within (11 * C.functions + 18 * C.sites + 18)
-    (builds_on (builds_on (builds_on (builds_on (builds_on c.in_ok-ends.ensures.built c.in_ok-loads.ensures.built) c.in_ok-starts.ensures.built) c.in_ok-clears.ensures.built) c.in_ok-entries.ensures.built) c.in_ok-rivals.ensures.built)
+    (builds_on (builds_on (builds_on (builds_on (builds_on c.in_ok-ends.ensures.built c.in_ok-loads.ensures.built) c.in_ok-starts.ensures.built)
+    c.in_ok-clears.ensures.built) c.in_ok-entries.ensures.built) c.in_ok-rivals.ensures.built)
     (omega arith)
 
 pub returns-clause-done : goal.returns-clause-done
@@ -126,10 +128,14 @@ returns-clause-done c = λ p q g.
     let started = has_starts C P c.unit_starts.new.net p c.args.goes.now c.in_ok-starts.starts.items (goes_kept b3 g) c.in_ok-starts.ensures.done in
     let mid = builds_on (builds_on c.in_ok-loads.ensures.built c.in_ok-starts.ensures.built) c.in_ok-clears.ensures.built in
     let cleared = has_clears C P c.unit_clears.new.net p o c.in_ok-ends.ends.items c.in_ok-clears.clears.items (outcomes_kept b4 q) (ends_kept mid ends)
-    (subst (λ (xs : List (Option Load)). ShowsBits c.unit_clears.new.net c.in_ok-clears.clears.items C.functions (λ v u. is_some (taken_from v xs u) || one_below (λ h. (u == C.unit h) && is_some (taken_from v o.loops.items h)) C.functions)) c.deref.ensures.value c.in_ok-clears.ensures.done) in
+    (subst (λ (xs : List (Option Load)). ShowsBits c.unit_clears.new.net c.in_ok-clears.clears.items C.functions
+    (λ v u. is_some (taken_from v xs u) || one_below (λ h. (u == C.unit h) && is_some (taken_from v o.loops.items h)) C.functions))
+    c.deref.ensures.value c.in_ok-clears.ensures.done) in
     let front = builds_on (builds_on c.in_ok-starts.ensures.built c.in_ok-clears.ensures.built) c.in_ok-entries.ensures.built in
     let entries = has_entries C P c.function_entries.new.net p o c.in_ok-loads.loads.items c.in_ok-entries.entries.items (outcomes_kept b5 q) (all_loads_kept front loads)
-    (subst (λ (xs : List (Option Load)). ShowsBits c.function_entries.new.net c.in_ok-entries.entries.items C.functions (λ v f. is_some (taken_from v xs f) || one_below (λ h. (f == h) && is_some (taken_from v o.loops.items h)) C.functions)) c.deref-2.ensures.value c.in_ok-entries.ensures.done) in
+    (subst (λ (xs : List (Option Load)). ShowsBits c.function_entries.new.net c.in_ok-entries.entries.items C.functions
+    (λ v f. is_some (taken_from v xs f) || one_below (λ h. (f == h) && is_some (taken_from v o.loops.items h)) C.functions))
+    c.deref-2.ensures.value c.in_ok-entries.ensures.done) in
     let kept = tests_kept l6 C P p c.in_ok-entries.entries.items (λ r i f. starts_it C P r i f) entries in
     record {
       ends = ends_kept l2 ends;
@@ -138,5 +144,6 @@ returns-clause-done c = λ p q g.
       clears = tests_kept l5 C P p c.in_ok-clears.clears.items (λ r i u. clears C P r u) cleared;
       entries = kept;
       rivals = has_rivals C P c.function_rivals.new.net p c.in_ok-entries.entries.items c.in_ok-rivals.rivals.items kept
-          (subst (λ (xs : List (Option Sig)). ShowsBelow c.function_rivals.new.net c.in_ok-rivals.rivals.items C.functions (λ v f. one_below (rival C (on_from v xs) f) C.functions)) c.deref-3.ensures.value c.in_ok-rivals.ensures.done);
+          (subst (λ (xs : List (Option Sig)). ShowsBelow c.function_rivals.new.net c.in_ok-rivals.rivals.items C.functions
+          (λ v f. one_below (rival C (on_from v xs) f) C.functions)) c.deref-3.ensures.value c.in_ok-rivals.ensures.done);
     }

@@ -19,5 +19,6 @@ loop-f-preserved c =
     more_listed c.args.all.now.items c.loop-f.all.items c.push-in-loop-f.new.self.items (body_ties (names_of c.args.c.now) T) c.loop-f.f c.loop-f.invariant
     (body_listed (names_of c.args.c.now) T c.loop-f.f c.index.result.now c.index-in-loop-f.result.now c.loop-f.all.items c.push.new.self.items c.push-in-loop-f.new.self.items
     (sym (pin_is T.ends.items c.loop-f.f c.index.result.now (slice_get_read T.ends.items (length T.ends.items) c.loop-f.f c.index.result.now refl (omega (arith, l, e, x)) c.index.ensures)))
-    (sym (pin_is T.loops.items c.loop-f.f c.index-in-loop-f.result.now (slice_get_read T.loops.items (length T.loops.items) c.loop-f.f c.index-in-loop-f.result.now refl (omega (arith, l, e, y)) c.index-in-loop-f.ensures)))
+    (sym (pin_is T.loops.items c.loop-f.f c.index-in-loop-f.result.now
+    (slice_get_read T.loops.items (length T.loops.items) c.loop-f.f c.index-in-loop-f.result.now refl (omega (arith, l, e, y)) c.index-in-loop-f.ensures)))
     c.in_ok-push.ensures.items c.in_ok-push-2.ensures.items)

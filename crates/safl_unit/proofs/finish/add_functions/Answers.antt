@@ -9,5 +9,6 @@ loop-f-init c = none_listed c.args.all.now.items (function_ties (program_of c.ar
 
 pub loop-f-preserved : goal.loop-f-preserved
 loop-f-preserved c =
-    more_listed c.args.all.now.items c.loop-f.all.items c.add_function.new.all.items (function_ties (program_of c.args.c.now) (names_of c.args.c.now) c.args.next.now.units.items c.args.next.now.members.items) c.loop-f.f c.loop-f.invariant
+    more_listed c.args.all.now.items c.loop-f.all.items c.add_function.new.all.items
+    (function_ties (program_of c.args.c.now) (names_of c.args.c.now) c.args.next.now.units.items c.args.next.now.members.items) c.loop-f.f c.loop-f.invariant
     c.in_ok-add_function.ensures

@@ -11,14 +11,16 @@ use Rattle.safl_unit.proofs.Outputs.{done_free, result_free}
 use Rattle.safl_unit.proofs.finish.finish.Goals as goal
 
 -- the registers of main's unit
-main_at : (a b : CheckedProgram) (us : List UnitPins) (m : ℕ) (u : UnitPins) → b ≡ a → m ≡ (program_of b).main → m < (program_of b).functions → length us ≡ (program_of a).functions → u ≡ slice_index_or us m u → slice_get us (program_of a).main ≡ Some u
+main_at : (a b : CheckedProgram) (us : List UnitPins) (m : ℕ) (u : UnitPins) → b ≡ a → m ≡ (program_of b).main → m < (program_of b).functions → length
+    us ≡ (program_of a).functions → u ≡ slice_index_or us m u → slice_get us (program_of a).main ≡ Some u
 main_at a b us m u same number inside long e =
     let f = ap (λ (x : CheckedProgram). (program_of x).functions) same in
     ap (slice_get us) (sym (number ∙ ap (λ (x : CheckedProgram). (program_of x).main) same)) ∙ slice_get_read us (length us) m u refl (omega (arith, inside, f, long)) e
 
 pub add_output-requires-clause-known : goal.add_output-requires-clause-known
 add_output-requires-clause-known c =
-    let at = main_at c.args.p.now.program c.program-c.result.now c.args.pins.now.bank.units.items c.main_function-main.result c.index-unit.result.now c.program-c.ensures.same c.main_function-main.ensures.number c.main_function-main.ensures.within
+    let at = main_at c.args.p.now.program c.program-c.result.now c.args.pins.now.bank.units.items c.main_function-main.result c.index-unit.result.now
+    c.program-c.ensures.same c.main_function-main.ensures.number c.main_function-main.ensures.within
     c.requires.pins.units_length c.index-unit.ensures in
     let l = within c.args.net.now c.index-unit.result.now.fin.0 1 (c.requires.fits.bank.units (program_of c.args.p.now.program).main c.index-unit.result.now at).fin.width in
     let n = c.in_ok-set_all.ensures.set.count in
@@ -27,7 +29,8 @@ add_output-requires-clause-known c =
 pub add_output-requires-2-clause-known : goal.add_output-requires-2-clause-known
 add_output-requires-2-clause-known c =
     let C = program_of c.args.p.now.program in
-    let at = main_at c.args.p.now.program c.program-c.result.now c.args.pins.now.bank.units.items c.main_function-main.result c.index-unit.result.now c.program-c.ensures.same c.main_function-main.ensures.number c.main_function-main.ensures.within
+    let at = main_at c.args.p.now.program c.program-c.result.now c.args.pins.now.bank.units.items c.main_function-main.result c.index-unit.result.now
+    c.program-c.ensures.same c.main_function-main.ensures.number c.main_function-main.ensures.within
     c.requires.pins.units_length c.index-unit.ensures in
     let l = within c.args.net.now c.index-unit.result.now.res.0 (C.result C.main) (c.requires.fits.bank.units C.main c.index-unit.result.now at).res.width in
     let n = c.in_ok-set_all.ensures.set.count in
@@ -36,9 +39,11 @@ add_output-requires-2-clause-known c =
 
 pub returns-clause-done : goal.returns-clause-done
 returns-clause-done c =
-    let at = main_at c.args.p.now.program c.program-c.result.now c.args.pins.now.bank.units.items c.main_function-main.result c.index-unit.result.now c.program-c.ensures.same c.main_function-main.ensures.number c.main_function-main.ensures.within
+    let at = main_at c.args.p.now.program c.program-c.result.now c.args.pins.now.bank.units.items c.main_function-main.result c.index-unit.result.now
+    c.program-c.ensures.same c.main_function-main.ensures.number c.main_function-main.ensures.within
     c.requires.pins.units_length c.index-unit.ensures in
-    finishes (program_of c.args.p.now.program) (names_of c.args.p.now.program) (choice_of c.args.p.now) c.args.pins.now c.args.next.now c.args.controls.now c.index-unit.result.now c.args.net.now c.set_all.new.net c.add_output.new.net c.add_output-2.new.net
+    finishes (program_of c.args.p.now.program) (names_of c.args.p.now.program) (choice_of c.args.p.now) c.args.pins.now c.args.next.now
+    c.args.controls.now c.index-unit.result.now c.args.net.now c.set_all.new.net c.add_output.new.net c.add_output-2.new.net
     c.in_ok-set_all.ensures.set c.requires.settled at c.in_ok-add_output.ensures.added c.in_ok-add_output-2.ensures.added
 
 pub add_output-requires-clause-free : goal.add_output-requires-clause-free

@@ -20,11 +20,13 @@ loop-k-init c =
 pub loop-k-preserved : goal.loop-k-preserved
 loop-k-preserved c =
     let C = program_of c.args.p.now.program in
-    more_listed (map sig_of (own_ties C (names_of c.args.p.now.program) c.args.next.now)) c.loop-k.all.items c.add_site.new.all.items (site_ties C (choice_of c.args.p.now) c.args.next.now.sites.items) c.loop-k.k c.loop-k.invariant c.in_ok-add_site.ensures
+    more_listed (map sig_of (own_ties C (names_of c.args.p.now.program) c.args.next.now)) c.loop-k.all.items c.add_site.new.all.items
+    (site_ties C (choice_of c.args.p.now) c.args.next.now.sites.items) c.loop-k.k c.loop-k.invariant c.in_ok-add_site.ensures
 
 pub returns : goal.returns
 returns c =
     let l = c.loop-k-test.false in
     let b = c.loop-k.auto.k-end in
     let e = c.sites-k-end.ensures.count ∙ ap (λ (x : CheckedProgram). (program_of x).sites) c.program-c.ensures.same in
-    registers_listed (program_of c.args.p.now.program) (names_of c.args.p.now.program) (choice_of c.args.p.now) c.args.next.now c.loop-k.k c.loop-k.all.items (omega (arith, l, b, e)) c.loop-k.invariant
+    registers_listed (program_of c.args.p.now.program) (names_of c.args.p.now.program) (choice_of c.args.p.now) c.args.next.now c.loop-k.k
+    c.loop-k.all.items (omega (arith, l, b, e)) c.loop-k.invariant

@@ -19,7 +19,8 @@ pub overflow_cast-place : goal.overflow_cast-place
 overflow_cast-place c =
     let l = c.loop-k-test.true in
     let e = c.sites-k-end.ensures.count ∙ ap (λ (x : CheckedProgram). (program_of x).sites) c.program-c.ensures.same in
-    let few = listed_within (program_of c.args.p.now.program) (names_of c.args.p.now.program) (choice_of c.args.p.now) c.args.first c.args.controls.now c.loop-k.k c.loop-k.all.items (omega (arith, l, e)) c.loop-k.invariant in
+    let few = listed_within (program_of c.args.p.now.program) (names_of c.args.p.now.program) (choice_of c.args.p.now) c.args.first
+    c.args.controls.now c.loop-k.k c.loop-k.all.items (omega (arith, l, e)) c.loop-k.invariant in
     let n = c.len.ensures in
     let r = c.requires.room in
     omega (arith, few, n, r)
@@ -28,14 +29,16 @@ pub overflow_add-place : goal.overflow_add-place
 overflow_add-place c =
     let l = c.loop-k-test.true in
     let e = c.sites-k-end.ensures.count ∙ ap (λ (x : CheckedProgram). (program_of x).sites) c.program-c.ensures.same in
-    let few = listed_within (program_of c.args.p.now.program) (names_of c.args.p.now.program) (choice_of c.args.p.now) c.args.first c.args.controls.now c.loop-k.k c.loop-k.all.items (omega (arith, l, e)) c.loop-k.invariant in
+    let few = listed_within (program_of c.args.p.now.program) (names_of c.args.p.now.program) (choice_of c.args.p.now) c.args.first
+    c.args.controls.now c.loop-k.k c.loop-k.all.items (omega (arith, l, e)) c.loop-k.invariant in
     let n = c.len.ensures in
     let r = c.requires.room in
     omega (arith, few, n, r)
 
 pub add_call-requires-clause-place : goal.add_call-requires-clause-place
 add_call-requires-clause-place c =
-    let long = listed_long (program_of c.args.p.now.program) (names_of c.args.p.now.program) (choice_of c.args.p.now) c.args.first c.args.controls.now c.loop-k.k c.loop-k.all.items c.loop-k.invariant in
+    let long = listed_long (program_of c.args.p.now.program) (names_of c.args.p.now.program) (choice_of c.args.p.now) c.args.first c.args.controls.now
+    c.loop-k.k c.loop-k.all.items c.loop-k.invariant in
     let n = c.len.ensures in
     omega (arith, long, n)
 
@@ -43,4 +46,5 @@ pub loop-k-preserved : goal.loop-k-preserved
 loop-k-preserved c =
     let C = program_of c.args.p.now.program in
     let T = c.args.controls.now in
-    more_listed (map sig_of (ties (body_ties (names_of c.args.p.now.program) T) C.functions)) c.loop-k.all.items c.add_call.new.all.items (call_ties C (choice_of c.args.p.now) c.args.first T) c.loop-k.k c.loop-k.invariant c.in_ok-add_call.ensures
+    more_listed (map sig_of (ties (body_ties (names_of c.args.p.now.program) T) C.functions)) c.loop-k.all.items c.add_call.new.all.items
+    (call_ties C (choice_of c.args.p.now) c.args.first T) c.loop-k.k c.loop-k.invariant c.in_ok-add_call.ensures

@@ -7,4 +7,5 @@ use Rattle.safl_unit.proofs.finish.wire_sources.Given as goal
 
 abbrev pub invariant-loop-k : goal.invariant-loop-k
 invariant-loop-k l =
-    l.all.items ≡ map sig_of (ties (body_ties (names_of l.p.program) l.controls) (program_of l.p.program).functions) ++ map sig_of (ties (call_ties (program_of l.p.program) (choice_of l.p) l.first l.controls) l.k)
+    l.all.items ≡ map sig_of (ties (body_ties (names_of l.p.program) l.controls) (program_of l.p.program).functions) ++ map sig_of
+    (ties (call_ties (program_of l.p.program) (choice_of l.p) l.first l.controls) l.k)

@@ -8,7 +8,8 @@ use Rattle.safl_lower.proofs.Cells.{get_there}
 use Rattle.safl_lower.proofs.JoinedRows.{bit_of_row}
 use Rattle.safl_unit.proofs.grants.site_grant.Goals as goal
 
-shown : {E : Type 0} (m : Netlist) (r : Result Sig E) (t : Bool) (want : Sig) (f g : Val → Bool) → t ≡ true → ((v : Val) → f v ≡ (on v want && g v)) → IfOk r (λ s. (v : Val) → Wired m v → on v s ≡ f v) → IfOk r (λ s. (v : Val) → Wired m v → on v s ≡ cond t (on v want && g v) (on v want))
+shown : {E : Type 0} (m : Netlist) (r : Result Sig E) (t : Bool) (want : Sig) (f g : Val → Bool) → t ≡ true → ((v : Val) → f v ≡ (on v want && g v)) →
+    IfOk r (λ s. (v : Val) → Wired m v → on v s ≡ f v) → IfOk r (λ s. (v : Val) → Wired m v → on v s ≡ cond t (on v want && g v) (on v want))
 shown m (Ok s) t want f g e q h = λ v w. h v w ∙ q v ∙ ap (λ (b : Bool). cond b (on v want && g v) (on v want)) (sym e)
 shown m (Err x) t want f g e q h = tt
 
@@ -17,7 +18,8 @@ bounds-frees-rank c = c.requires.rank c.if-not-arbiter.false
 
 pub both-requires-clause-second : goal.both-requires-clause-second
 both-requires-clause-second c =
-    bit_of_row c.args.net.now c.args.frees.now c.args.rank (slice_index_or c.args.frees.now c.args.rank (record { 0 = 0 })) c.requires.frees (get_there c.args.frees.now c.args.rank (record { 0 = 0 }) (c.requires.rank c.if-not-arbiter.false))
+    bit_of_row c.args.net.now c.args.frees.now c.args.rank (slice_index_or c.args.frees.now c.args.rank (record { 0 = 0 })) c.requires.frees
+    (get_there c.args.frees.now c.args.rank (record { 0 = 0 }) (c.requires.rank c.if-not-arbiter.false))
 
 pub returns-clause-value : goal.returns-clause-value
 returns-clause-value c =

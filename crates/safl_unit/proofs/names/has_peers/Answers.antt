@@ -9,7 +9,8 @@ returns-then-unit-f c = sym (peers_below _ c.functions-functions.ensures.checked
 pub returns-then-f-functions : goal.returns-then-f-functions
 returns-then-f-functions c =
     let count = c.functions-functions.ensures.count in
-    next_peer _ c.functions-functions.ensures.checked c.args.f _ c.requires (sym c.unit.ensures.number ∙ c.if-unit-f.false) (let q = c.if-f-functions.true in omega (arith, q, count)) c.unit-then-f-functions.ensures.number
+    next_peer _ c.functions-functions.ensures.checked c.args.f _ c.requires (sym c.unit.ensures.number ∙ c.if-unit-f.false)
+    (let q = c.if-f-functions.true in omega (arith, q, count)) c.unit-then-f-functions.ensures.number
 
 pub returns-else-f-functions : goal.returns-else-f-functions
 returns-else-f-functions c =

@@ -9,7 +9,8 @@ mux-requires-clause-branches c =
     (b.0, (only_word c.args.net.now c.in-Some.load.words.items b.0 c.index-other.result.now f.words c.index-other.ensures).0, b.2)
 
 pub returns-in-Some-clause-fits : goal.returns-in-Some-clause-fits
-returns-in-Some-clause-fits c = λ w p q. c.mux.ensures.fits w (only_word c.args.net.now c.in-Some.load.words.items w c.index-other.result.now (first_fits c.in-Some.is p).words c.index-other.ensures).0 q
+returns-in-Some-clause-fits c = λ w p q. c.mux.ensures.fits w
+    (only_word c.args.net.now c.in-Some.load.words.items w c.index-other.result.now (first_fits c.in-Some.is p).words c.index-other.ensures).0 q
 
 pub returns-in-Some-clause-value : goal.returns-in-Some-clause-value
 returns-in-Some-clause-value c =

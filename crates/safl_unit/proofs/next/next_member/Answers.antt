@@ -33,14 +33,16 @@ load_words-requires-2-clause-fits c =
     let b = c.requires.fits in
     let h = c.in_ok-at.ensures.built in
     let g = builds_on h c.load_words.ensures.built in
-    let kept = c.in_ok-kept.ensures.fits b.0 (maybe_load_kept h c.args.looped.now b.0 b.2) (subst (λ (xs : List Sig). AreSources c.next_at.new.net xs b.0) (sym c.deref.ensures.value) (sources_kept h b.3.args)) in
+    let kept = c.in_ok-kept.ensures.fits b.0 (maybe_load_kept h c.args.looped.now b.0 b.2)
+    (subst (λ (xs : List Sig). AreSources c.next_at.new.net xs b.0) (sym c.deref.ensures.value) (sources_kept h b.3.args)) in
     (b.0, maybe_load_kept g c.args.load.now b.0 b.1, subst (λ (xs : List Sig). AreSources c.load_words.new.net xs b.0) (sym c.deref-2.ensures.value) kept)
 
 pub load_words-requires-2-clause-room : goal.load_words-requires-2-clause-room
 load_words-requires-2-clause-room c =
     let b = c.requires.fits in
     let h = c.in_ok-at.ensures.built in
-    let kept = c.in_ok-kept.ensures.fits b.0 (maybe_load_kept h c.args.looped.now b.0 b.2) (subst (λ (xs : List Sig). AreSources c.next_at.new.net xs b.0) (sym c.deref.ensures.value) (sources_kept h b.3.args)) in
+    let kept = c.in_ok-kept.ensures.fits b.0 (maybe_load_kept h c.args.looped.now b.0 b.2)
+    (subst (λ (xs : List Sig). AreSources c.next_at.new.net xs b.0) (sym c.deref.ensures.value) (sources_kept h b.3.args)) in
     let same = as_many kept b.3.args in
     let d = ap (λ (xs : List Sig). length xs) c.deref.ensures.value in
     let e = ap (λ (xs : List Sig). length xs) c.deref-2.ensures.value in
@@ -53,7 +55,8 @@ pub returns-clause-built : goal.returns-clause-built
 returns-clause-built c =
     let b = c.requires.fits in
     let h = c.in_ok-at.ensures.built in
-    let kept = c.in_ok-kept.ensures.fits b.0 (maybe_load_kept h c.args.looped.now b.0 b.2) (subst (λ (xs : List Sig). AreSources c.next_at.new.net xs b.0) (sym c.deref.ensures.value) (sources_kept h b.3.args)) in
+    let kept = c.in_ok-kept.ensures.fits b.0 (maybe_load_kept h c.args.looped.now b.0 b.2)
+    (subst (λ (xs : List Sig). AreSources c.next_at.new.net xs b.0) (sym c.deref.ensures.value) (sources_kept h b.3.args)) in
     let same = as_many kept b.3.args in
     let d = ap (λ (xs : List Sig). length xs) c.deref.ensures.value in
     let e = ap (λ (xs : List Sig). length xs) c.deref-2.ensures.value in
@@ -63,7 +66,8 @@ pub returns-clause-fits : goal.returns-clause-fits
 returns-clause-fits c = λ ws p q m.
     let h = c.in_ok-at.ensures.built in
     let g = builds_on h c.load_words.ensures.built in
-    let kept = c.in_ok-kept.ensures.fits ws (maybe_load_kept h c.args.looped.now ws q) (subst (λ (xs : List Sig). AreSources c.next_at.new.net xs ws) (sym c.deref.ensures.value) (sources_kept h m.args)) in
+    let kept = c.in_ok-kept.ensures.fits ws (maybe_load_kept h c.args.looped.now ws q)
+    (subst (λ (xs : List Sig). AreSources c.next_at.new.net xs ws) (sym c.deref.ensures.value) (sources_kept h m.args)) in
     record {
       at = source_kept (builds_on c.load_words.ensures.built c.load_words-2.ensures.built) c.in_ok-at.ensures.fits;
       args = c.in_ok-args.ensures.fits ws (maybe_load_kept g c.args.load.now ws p) (subst (λ (xs : List Sig). AreSources c.load_words.new.net xs ws) (sym c.deref-2.ensures.value) kept);
@@ -77,5 +81,6 @@ returns-clause-shows c = λ v w.
       at = c.in_ok-at.ensures.value v w1;
       args = c.in_ok-args.ensures.shows v w ∙ word_is (taken_in v c.args.load.now) _
           ∙ ap (λ (xs : List Word). or_word (taken_in v c.args.load.now) xs)
-          (ap (words v) c.deref-2.ensures.value ∙ c.in_ok-kept.ensures.shows v w2 ∙ word_is (taken_in v c.args.looped.now) _ ∙ ap (λ (xs : List Sig). or_word (taken_in v c.args.looped.now) (words v xs)) c.deref.ensures.value);
+          (ap (words v) c.deref-2.ensures.value ∙ c.in_ok-kept.ensures.shows v w2 ∙ word_is (taken_in v c.args.looped.now) _ ∙ ap
+          (λ (xs : List Sig). or_word (taken_in v c.args.looped.now) (words v xs)) c.deref.ensures.value);
     }

@@ -49,4 +49,9 @@ pub returns-clause-shows : goal.returns-clause-shows
 returns-clause-shows c = λ v w.
     let w2 = wired_before c.site_word.ensures.built.grows w in
     let w1 = wired_before c.in_ok-got.ensures.built.grows w2 in
-    record { sent = c.in_ok-sent.ensures.value v w1; got = c.in_ok-got.ensures.value v w2; keep = λ m. c.in_ok-keep.ensures.value v w ∙ turned c.args.kept (on v c.args.ret) (v c.args.res.0) (v c.args.site.keep.0) m }
+    record {
+      sent = c.in_ok-sent.ensures.value v w1;
+      got = c.in_ok-got.ensures.value v w2;
+      keep = λ m. c.in_ok-keep.ensures.value v w ∙ turned
+          c.args.kept (on v c.args.ret) (v c.args.res.0) (v c.args.site.keep.0) m;
+    }

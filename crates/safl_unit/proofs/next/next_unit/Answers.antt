@@ -18,7 +18,8 @@ and_none-requires-clause-second c =
 pub some_bit-requires-clause-bit : goal.some_bit-requires-clause-bit
 some_bit-requires-clause-bit c =
     let b = c.requires.fits in
-    maybe_bit_kept (builds_on c.or_some.ensures.built c.and_none.ensures.built) c.load_bit-bit.result (load_bit_fits c.args.net.now c.args.end.now c.load_bit-bit.result (b.0 ∷ []) c.load_bit-bit.ensures b.1)
+    maybe_bit_kept (builds_on c.or_some.ensures.built c.and_none.ensures.built) c.load_bit-bit.result
+    (load_bit_fits c.args.net.now c.args.end.now c.load_bit-bit.result (b.0 ∷ []) c.load_bit-bit.ensures b.1)
 
 pub load_word-requires-clause-fits : goal.load_word-requires-clause-fits
 load_word-requires-clause-fits c =

@@ -24,11 +24,13 @@ site_return-requires-clause-fits c =
     let f = pins_kept c.loop-done.invariant.built c.requires.pins in (
       C.result (C.callee (suc c.loop-done.done)),
       f.bank.units (C.callee (suc c.loop-done.done)) c.index-unit.result.now
-          (unit_at c.args.p.now.program c.program-c.result.now c.args.pins.now.bank.units.items c.loop-done.done c.callee.result c.index-unit.result.now c.sites-sites.ensures.checked c.program-c.ensures.same
+          (unit_at c.args.p.now.program c.program-c.result.now c.args.pins.now.bank.units.items c.loop-done.done c.callee.result
+          c.index-unit.result.now c.sites-sites.ensures.checked c.program-c.ensures.same
           (let l = c.loop-done-test.true in let e = c.sites-sites.ensures.count in omega (arith, l, e)) c.callee.ensures.number c.requires.pins.bank.units_length c.index-unit.ensures),
       f.bank.sites (suc c.loop-done.done) c.index-site.result.now
           (site_at c.args.pins.now.bank.sites.items c.loop-done.done C.sites c.index-site.result.now
-          (let l = c.loop-done-test.true in let e = c.sites-sites.ensures.count ∙ ap (λ (x : CheckedProgram). (program_of x).sites) c.program-c.ensures.same in omega (arith, l, e)) c.requires.pins.bank.sites_length c.index-site.ensures) (omega arith),
+          (let l = c.loop-done-test.true in let e = c.sites-sites.ensures.count ∙ ap (λ (x : CheckedProgram). (program_of x).sites)
+          c.program-c.ensures.same in omega (arith, l, e)) c.requires.pins.bank.sites_length c.index-site.ensures) (omega arith),
     )
 
 pub site_return-requires-clause-room : goal.site_return-requires-clause-room
@@ -48,7 +50,8 @@ loop-done-preserved c =
     let l = c.loop-done-test.true in
     let e = c.sites-sites.ensures.count in
     let k = c.sites-sites.ensures.count ∙ ap (λ (x : CheckedProgram). (program_of x).sites) c.program-c.ensures.same in
-    let at = unit_at c.args.p.now.program c.program-c.result.now c.args.pins.now.bank.units.items m c.callee.result c.index-unit.result.now c.sites-sites.ensures.checked c.program-c.ensures.same (omega (arith, l, e)) c.callee.ensures.number
+    let at = unit_at c.args.p.now.program c.program-c.result.now c.args.pins.now.bank.units.items m c.callee.result c.index-unit.result.now
+    c.sites-sites.ensures.checked c.program-c.ensures.same (omega (arith, l, e)) c.callee.ensures.number
     c.requires.pins.bank.units_length c.index-unit.ensures in
     let own = site_at c.args.pins.now.bank.sites.items m C.sites c.index-site.result.now (omega (arith, l, k)) c.requires.pins.bank.sites_length c.index-site.ensures in
     let x = c.in_ok-next.ensures.fits (C.result (C.callee (suc m))) (f.bank.units (C.callee (suc m)) c.index-unit.result.now at) (f.bank.sites (suc m) c.index-site.result.now own (omega arith)) in
@@ -57,7 +60,8 @@ loop-done-preserved c =
       tidy = c.site_return.ensures.tidy;
       built = builds_within (5 * (m + 1)) (builds_on c.loop-done.invariant.built c.in_ok-next.ensures.built) (omega arith);
       so_far = subst (λ (i : ℕ). SoFar C P c.site_return.new.net c.args.pins.now (record { ret = c.push.new.self; ports = c.push-in-loop-done.new.self }) i) (sym (add-one m))
-          (more_so_far C P c.loop-done.net c.site_return.new.net c.args.pins.now c.loop-done.all (record { ret = c.push.new.self; ports = c.push-in-loop-done.new.self }) m c.index-unit.result.now c.index-site.result.now c.in_ok-next.next
+          (more_so_far C P c.loop-done.net c.site_return.new.net c.args.pins.now c.loop-done.all
+          (record { ret = c.push.new.self; ports = c.push-in-loop-done.new.self }) m c.index-unit.result.now c.index-site.result.now c.in_ok-next.next
           c.loop-done.invariant.so_far c.in_ok-next.ensures.built at own x.0 x.1
           (λ v w. subst (λ (b : Bool). SiteShown v b c.index-unit.result.now c.index-site.result.now c.in_ok-next.next) kept (c.in_ok-next.ensures.shows v w))
           c.in_ok-push.ensures.items c.in_ok-push-2.ensures.items);

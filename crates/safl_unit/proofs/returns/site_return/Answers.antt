@@ -38,7 +38,8 @@ returns-clause-shows c = λ v w.
     let w2 = wired_before c.both-2.ensures.built.grows w3 in
     let w1 = wired_before c.both.ensures.built.grows w2 in
     record {
-      ret = c.in_ok-ret.ensures.value v w3 ∙ ap (λ (x : Bool). on v c.args.unit.fin && x) (c.in_ok-awaited.ensures.value v w2 ∙ ap (λ (x : Bool). on v c.args.site.sent && x) (c.in_ok-open.ensures.value v w1));
+      ret = c.in_ok-ret.ensures.value v w3 ∙ ap (λ (x : Bool). on v c.args.unit.fin && x)
+          (c.in_ok-awaited.ensures.value v w2 ∙ ap (λ (x : Bool). on v c.args.site.sent && x) (c.in_ok-open.ensures.value v w1));
       sent = refl;
       returned = c.in_ok-returned.ensures.value v w4;
       value = c.in_ok-value.ensures.value v w;

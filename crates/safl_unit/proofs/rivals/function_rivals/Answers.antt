@@ -69,7 +69,8 @@ member_rival-requires-clause-own c =
     let k = c.function_count-functions.ensures.count in
     let m = c.requires.count in
     let g = slice_get-get_or es f None (omega (arith, l, k, m)) in
-    maybe_bit_kept (builds_on c.in_ok-several.ensures.built c.loop-f.invariant.built) (slice_index_or es f None) (subst (λ (o : Option (Option Sig)). IsBitIn c.args.net.now (sig_in o)) g (c.requires.entries f))
+    maybe_bit_kept (builds_on c.in_ok-several.ensures.built c.loop-f.invariant.built) (slice_index_or es f None)
+    (subst (λ (o : Option (Option Sig)). IsBitIn c.args.net.now (sig_in o)) g (c.requires.entries f))
 
 pub member_rival-requires-clause-room : goal.member_rival-requires-clause-room
 member_rival-requires-clause-room c =
@@ -108,7 +109,8 @@ loop-f-preserved c =
     record {
       tidy = c.member_rival.ensures.tidy;
       built = builds_within (3 * (f + 1)) (builds_on c.loop-f.invariant.built c.in_ok-rival.ensures.built) (omega arith);
-      table = below_one_more c.loop-f.net c.member_rival.new.net 3 f c.loop-f.all.items c.push.new.self.items c.in_ok-rival.rival says c.in_ok-rival.ensures.built c.loop-f.invariant.table c.in_ok-push.ensures.items c.in_ok-rival.ensures.fits
+      table = below_one_more c.loop-f.net c.member_rival.new.net 3 f c.loop-f.all.items c.push.new.self.items c.in_ok-rival.rival says
+          c.in_ok-rival.ensures.built c.loop-f.invariant.table c.in_ok-push.ensures.items c.in_ok-rival.ensures.fits
           (λ v q. c.in_ok-rival.ensures.value (entry_row C es u C.functions) joined v q
           ∙ ap (λ (y : ℕ). c.has_peers-many.result && others_on v (entry_row C es y C.functions) (slice_index_or es f None)) c.unit_of-unit.ensures.number
           ∙ rivals_are C v es f c.has_peers-many.result (slice_index_or es f None) (omega (arith, l, k)) peers entry);

@@ -32,7 +32,8 @@ pub returns-in_ok-rival-in-Some-clause-value : goal.returns-in_ok-rival-in-Some-
 returns-in_ok-rival-in-Some-clause-value c = λ row h v w.
     let w1 = wired_before c.in_ok-rival-in-Some.ensures.built.grows w in
     let w0 = wired_before c.in_ok-others-in-Some.ensures.built.grows w1 in
-    c.in_ok-rival-in-Some.ensures.value v w ∙ ap (λ (b : Bool). b || on v c.in_ok-others-in-Some.others) (h.two_shows v w0) ∙ ap (λ (b : Bool). on_two v row || b) (c.in_ok-others-in-Some.ensures.value v w1)
+    c.in_ok-rival-in-Some.ensures.value v w ∙ ap (λ (b : Bool). b || on v c.in_ok-others-in-Some.others) (h.two_shows v w0) ∙ ap
+    (λ (b : Bool). on_two v row || b) (c.in_ok-others-in-Some.ensures.value v w1)
     ∙ ap (λ (b : Bool). on_two v row || (b && not (on v c.in-Some.own))) (h.any_shows v w0) ∙ ap (λ (o : Option Sig). others_on v row o) (sym c.in-Some.is)
 
 pub returns-in_ok-rival-in-Some-clause-built : goal.returns-in_ok-rival-in-Some-clause-built

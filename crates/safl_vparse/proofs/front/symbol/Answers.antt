@@ -7,4 +7,5 @@ use Rattle.safl_vparse.proofs.front.symbol.Goals as goal
 pub returns-in-None : goal.returns-in-None
 returns-in-None c =
     let w = c.args.rest.now in
-    c.single-in-None.ensures ∙ sym (two_missing c.args.first (get_or w 0 0) (drop 1 w) c.in-None.ensures.none) ∙ ap (λ (l : List ℕ). measured (first_symbol c.args.first l)) (sym (first_and_rest w c.in-len1-up.len_at_least))
+    c.single-in-None.ensures ∙ sym (two_missing c.args.first (get_or w 0 0) (drop 1 w) c.in-None.ensures.none) ∙ ap
+    (λ (l : List ℕ). measured (first_symbol c.args.first l)) (sym (first_and_rest w c.in-len1-up.len_at_least))

@@ -6,7 +6,8 @@ use Rattle.safl_vparse.proofs.numbers.bounded.Goals as goal
 
 pub returns-in_err-number : goal.returns-in_err-number
 returns-in_err-number c =
-    rw c.from_residual.ensures (too_great c.args.base c.args.bytes.now c.loop-c.c-index c.loop-c.number c.requires c.loop-c-test.true c.loop-c.invariant.counted (λ h. let e = c.in_err-number.ensures.some.1 h in cc))
+    rw c.from_residual.ensures (too_great c.args.base c.args.bytes.now c.loop-c.c-index c.loop-c.number c.requires c.loop-c-test.true
+    c.loop-c.invariant.counted (λ h. let e = c.in_err-number.ensures.some.1 h in cc))
 
 pub loop-c-preserved : goal.loop-c-preserved
 loop-c-preserved c =
@@ -18,4 +19,5 @@ loop-c-preserved c =
     }
 
 pub returns : goal.returns
-returns c = all_read c.args.base c.args.bytes.now c.loop-c.c-index c.loop-c.number c.if-bytes-gt-DIGITS_MAX.false c.loop-c.auto.c-index-end c.loop-c-test.false c.loop-c.invariant.counted c.loop-c.invariant.small
+returns c = all_read c.args.base c.args.bytes.now c.loop-c.c-index c.loop-c.number c.if-bytes-gt-DIGITS_MAX.false c.loop-c.auto.c-index-end
+    c.loop-c-test.false c.loop-c.invariant.counted c.loop-c.invariant.small

@@ -11,7 +11,13 @@ use Rattle.safl_vread.proofs.StatementsDrive.{at_within, same_widths, widths_sma
 use Rattle.safl_vread.proofs.cells.expression_width.Goals as goal
 
 pub width_of-requires : goal.width_of-requires
-width_of-requires c = λ k d l. omega (arith, at_within (shown_declarations c.args.scope.now.text.now c.args.scope.now.declarations.now) (places_of c.args.places) (operands (shown_expression c.args.scope.now.text.now c.args.e.now)) c.requires.places k d l, length-map c.args.scope.now.declarations.now (shown_declaration c.args.scope.now.text.now))
+width_of-requires c = λ k d l. omega (
+  arith,
+  at_within (shown_declarations c.args.scope.now.text.now c.args.scope.now.declarations.now)
+      (places_of c.args.places) (operands (shown_expression c.args.scope.now.text.now c.args.e.now)) c.requires.places k d l,
+  length-map
+      c.args.scope.now.declarations.now (shown_declaration c.args.scope.now.text.now),
+)
 
 pub returns-in-Some-clause-width : goal.returns-in-Some-clause-width
 returns-in-Some-clause-width c =

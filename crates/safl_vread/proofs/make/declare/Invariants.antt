@@ -4,4 +4,8 @@ use Rattle.safl_vread.specs.Nets.{opened, signals_at}
 use Rattle.safl_vread.proofs.make.declare.Given as goal
 
 abbrev pub invariant-loop-place : goal.invariant-loop-place
-invariant-loop-place l = (ns : List ℕ) → l.net ≡ record { signals = map opened (signals_at (shown_declarations l.scope.text.now l.scope.declarations.now) l.drivers ns (take l.place-index l.order)); outputs = [] }
+invariant-loop-place l = (ns : List ℕ) → l.net ≡ record {
+  signals = map opened
+      (signals_at (shown_declarations l.scope.text.now l.scope.declarations.now) l.drivers ns (take l.place-index l.order));
+  outputs = [];
+}

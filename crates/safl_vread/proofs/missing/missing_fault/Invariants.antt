@@ -10,4 +10,5 @@ use Rattle.safl_vread.proofs.missing.missing_fault.Given as goal
 
 abbrev pub invariant-loop-i : goal.invariant-loop-i
 invariant-loop-i l = (ss : List Statement) → HasDrivers (shown_declarations l.scope.text.now l.scope.declarations.now) ss l.drivers
-    → first_from (shown_declaration l.scope.text.now) (missing_faults ss) l.scope.declarations.now l.i ≡ first (flat_map (missing_faults ss) (shown_declarations l.scope.text.now l.scope.declarations.now))
+    → first_from (shown_declaration l.scope.text.now) (missing_faults ss) l.scope.declarations.now l.i ≡ first
+    (flat_map (missing_faults ss) (shown_declarations l.scope.text.now l.scope.declarations.now))

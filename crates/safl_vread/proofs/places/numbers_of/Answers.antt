@@ -15,8 +15,11 @@ index_mut-requires c =
 pub loop-i-preserved : goal.loop-i-preserved
 loop-i-preserved c =
     let ds : List Declaration = shown_declarations c.args.scope.now.text.now c.args.scope.now.declarations.now in
-    goes_on_numbers c.args.order.now c.loop-i.numbers.items (length c.args.scope.now.declarations.now) c.loop-i.i (get_or c.args.order.now c.loop-i.i 0) (order_apart ds c.args.order.now (distinct_names ds c.args.scope.now.apart) c.requires.order)
-    (slice_get-get_or c.args.order.now c.loop-i.i 0 c.loop-i-test.true) c.loop-i-test.true (place_inside (shown_declaration c.args.scope.now.text.now) c.args.scope.now.declarations.now c.args.order.now c.requires.order c.loop-i.i c.loop-i-test.true) c.loop-i.invariant
+    goes_on_numbers c.args.order.now c.loop-i.numbers.items (length c.args.scope.now.declarations.now) c.loop-i.i
+    (get_or c.args.order.now c.loop-i.i 0) (order_apart ds c.args.order.now (distinct_names ds c.args.scope.now.apart) c.requires.order)
+    (slice_get-get_or c.args.order.now c.loop-i.i 0 c.loop-i-test.true) c.loop-i-test.true
+    (place_inside (shown_declaration c.args.scope.now.text.now) c.args.scope.now.declarations.now c.args.order.now c.requires.order c.loop-i.i
+    c.loop-i-test.true) c.loop-i.invariant
 
 pub returns : goal.returns
 returns c =

@@ -9,5 +9,7 @@ use Rattle.safl_vread.proofs.ports.undeclared_fault.Given as goal
 
 abbrev pub invariant-loop-x : goal.invariant-loop-x
 invariant-loop-x l =
-    first_from (shown_spot l.scope.text.now) (header_faults (without_statements (shown_spots l.scope.text.now l.header) (shown_declarations l.scope.text.now l.scope.declarations.now))) l.header l.x-index
-    ≡ first (flat_map (header_faults (without_statements (shown_spots l.scope.text.now l.header) (shown_declarations l.scope.text.now l.scope.declarations.now))) (shown_spots l.scope.text.now l.header))
+    first_from (shown_spot l.scope.text.now) (header_faults (without_statements (shown_spots l.scope.text.now l.header)
+    (shown_declarations l.scope.text.now l.scope.declarations.now))) l.header l.x-index
+    ≡ first (flat_map (header_faults (without_statements (shown_spots l.scope.text.now l.header)
+    (shown_declarations l.scope.text.now l.scope.declarations.now))) (shown_spots l.scope.text.now l.header))

@@ -9,5 +9,7 @@ use Rattle.safl_vread.proofs.ports.unlisted_fault.Given as goal
 
 abbrev pub invariant-loop-d : goal.invariant-loop-d
 invariant-loop-d l =
-    first_from (shown_declaration l.scope.text.now) (port_faults (without_statements (shown_spots l.scope.text.now l.header) (shown_declarations l.scope.text.now l.scope.declarations.now))) l.scope.declarations.now l.d-index
-    ≡ first (flat_map (port_faults (without_statements (shown_spots l.scope.text.now l.header) (shown_declarations l.scope.text.now l.scope.declarations.now))) (shown_declarations l.scope.text.now l.scope.declarations.now))
+    first_from (shown_declaration l.scope.text.now) (port_faults
+    (without_statements (shown_spots l.scope.text.now l.header) (shown_declarations l.scope.text.now l.scope.declarations.now))) l.scope.declarations.now l.d-index
+    ≡ first (flat_map (port_faults (without_statements (shown_spots l.scope.text.now l.header)
+    (shown_declarations l.scope.text.now l.scope.declarations.now))) (shown_declarations l.scope.text.now l.scope.declarations.now))

@@ -26,33 +26,49 @@ declared text t xs ds e f = ap (shown_declarations text) (sym f) ∙ ap (λ (k :
 pub net_of-requires-clause-fit : goal.net_of-requires-clause-fit
 net_of-requires-clause-fit c =
     let f : File = shown_file c.args.text.now c.in_ok-file.file in
-    let e = declared c.args.text.now c.in_ok-found.found.scope.text.now c.in_ok-found.found.scope.declarations.now c.in_ok-file.file.declarations.items c.in_ok-found.ensures.text c.in_ok-found.ensures.declarations in
-    text_fits f (shown_declarations c.in_ok-found.found.scope.text.now c.in_ok-found.found.scope.declarations.now) c.in_ok-found.found.drivers.items c.deref.result.now e c.deref.ensures.value c.in_ok-found.ensures.faults c.in_ok-found.ensures.drivers
+    let e = declared c.args.text.now c.in_ok-found.found.scope.text.now c.in_ok-found.found.scope.declarations.now
+    c.in_ok-file.file.declarations.items c.in_ok-found.ensures.text c.in_ok-found.ensures.declarations in
+    text_fits f (shown_declarations c.in_ok-found.found.scope.text.now c.in_ok-found.found.scope.declarations.now) c.in_ok-found.found.drivers.items
+    c.deref.result.now e c.deref.ensures.value c.in_ok-found.ensures.faults c.in_ok-found.ensures.drivers
 
 pub net_of-requires-clause-suit : goal.net_of-requires-clause-suit
 net_of-requires-clause-suit c =
     let f : File = shown_file c.args.text.now c.in_ok-file.file in
-    let e = declared c.args.text.now c.in_ok-found.found.scope.text.now c.in_ok-found.found.scope.declarations.now c.in_ok-file.file.declarations.items c.in_ok-found.ensures.text c.in_ok-found.ensures.declarations in
-    text_suits f (shown_declarations c.in_ok-found.found.scope.text.now c.in_ok-found.found.scope.declarations.now) c.in_ok-found.found.drivers.items c.deref.result.now e c.deref.ensures.value c.in_ok-found.ensures.drivers
+    let e = declared c.args.text.now c.in_ok-found.found.scope.text.now c.in_ok-found.found.scope.declarations.now
+    c.in_ok-file.file.declarations.items c.in_ok-found.ensures.text c.in_ok-found.ensures.declarations in
+    text_suits f (shown_declarations c.in_ok-found.found.scope.text.now c.in_ok-found.found.scope.declarations.now) c.in_ok-found.found.drivers.items
+    c.deref.result.now e c.deref.ensures.value c.in_ok-found.ensures.drivers
 
 pub net_of-requires-clause-names : goal.net_of-requires-clause-names
 net_of-requires-clause-names c =
     let f : File = shown_file c.args.text.now c.in_ok-file.file in
-    let e = declared c.args.text.now c.in_ok-found.found.scope.text.now c.in_ok-found.found.scope.declarations.now c.in_ok-file.file.declarations.items c.in_ok-found.ensures.text c.in_ok-found.ensures.declarations in
+    let e = declared c.args.text.now c.in_ok-found.found.scope.text.now c.in_ok-found.found.scope.declarations.now
+    c.in_ok-file.file.declarations.items c.in_ok-found.ensures.text c.in_ok-found.ensures.declarations in
     subst (λ (ds : List Declaration). GoodNames ds) e (good_names c.args.text.now f c.in_ok-file.ensures.parsed c.in_ok-found.ensures.faults)
 
 pub net_of-requires-clause-few : goal.net_of-requires-clause-few
 net_of-requires-clause-few c =
-    omega (arith, declared_few c.args.text.now (shown_file c.args.text.now c.in_ok-file.file) c.in_ok-file.ensures.parsed, length-map c.in_ok-file.file.declarations.items (shown_declaration c.args.text.now), ap length c.in_ok-found.ensures.declarations, c.requires)
+    omega (
+      arith,
+      declared_few c.args.text.now (shown_file c.args.text.now c.in_ok-file.file) c.in_ok-file.ensures.parsed,
+      length-map
+          c.in_ok-file.file.declarations.items (shown_declaration c.args.text.now),
+      ap length c.in_ok-found.ensures.declarations,
+      c.requires,
+    )
 
 pub net_of-requires-clause-some : goal.net_of-requires-clause-some
 net_of-requires-clause-some c =
     let f : File = shown_file c.args.text.now c.in_ok-file.file in
-    let e = declared c.args.text.now c.in_ok-found.found.scope.text.now c.in_ok-found.found.scope.declarations.now c.in_ok-file.file.declarations.items c.in_ok-found.ensures.text c.in_ok-found.ensures.declarations in
+    let e = declared c.args.text.now c.in_ok-found.found.scope.text.now c.in_ok-found.found.scope.declarations.now
+    c.in_ok-file.file.declarations.items c.in_ok-found.ensures.text c.in_ok-found.ensures.declarations in
     text_some c.args.text.now f (shown_declarations c.in_ok-found.found.scope.text.now c.in_ok-found.found.scope.declarations.now) e c.in_ok-file.ensures.parsed c.in_ok-found.ensures.faults
 
 pub returns-clause-whole : goal.returns-clause-whole
 returns-clause-whole c =
     let f : File = shown_file c.args.text.now c.in_ok-file.file in
-    let e = declared c.args.text.now c.in_ok-found.found.scope.text.now c.in_ok-found.found.scope.declarations.now c.in_ok-file.file.declarations.items c.in_ok-found.ensures.text c.in_ok-found.ensures.declarations in
-    text_whole c.args.text.now f (shown_declarations c.in_ok-found.found.scope.text.now c.in_ok-found.found.scope.declarations.now) c.in_ok-found.found.drivers.items c.deref.result.now c.in_ok-net_of.field-0 e c.deref.ensures.value c.in_ok-file.ensures.parsed c.in_ok-found.ensures.faults c.in_ok-found.ensures.drivers c.in_ok-net_of.ensures
+    let e = declared c.args.text.now c.in_ok-found.found.scope.text.now c.in_ok-found.found.scope.declarations.now
+    c.in_ok-file.file.declarations.items c.in_ok-found.ensures.text c.in_ok-found.ensures.declarations in
+    text_whole c.args.text.now f (shown_declarations c.in_ok-found.found.scope.text.now c.in_ok-found.found.scope.declarations.now)
+    c.in_ok-found.found.drivers.items c.deref.result.now c.in_ok-net_of.field-0 e c.deref.ensures.value c.in_ok-file.ensures.parsed
+    c.in_ok-found.ensures.faults c.in_ok-found.ensures.drivers c.in_ok-net_of.ensures

@@ -48,7 +48,8 @@ returns-else-k-sites c =
     let is = c.accepts.ensures
     ∙ (ap (λ (x : List Mode). (is_unsent (stage_at c.deref-in-Accept.result.now k) && wanted_at c.deref-in-Accept-2.result.now k) && is_idle (unit_at x (unit_for C k))) c.deref.ensures.value
     ∙ (ap (λ (x : List Stage). (is_unsent (stage_at x k) && wanted_at c.deref-in-Accept-2.result.now k) && is_idle (unit_at m.state.modes.items (unit_for C k))) c.deref-in-Accept.ensures.value
-    ∙ ap (λ (x : List (Option (List Word))). (is_unsent (stage_at m.state.stages.items k) && wanted_at x k) && is_idle (unit_at m.state.modes.items (unit_for C k))) c.deref-in-Accept-2.ensures.value)) in
+    ∙ ap (λ (x : List (Option (List Word))). (is_unsent (stage_at m.state.stages.items k) && wanted_at x k) && is_idle
+    (unit_at m.state.modes.items (unit_for C k))) c.deref-in-Accept-2.ensures.value)) in
     tested_as h c.args.self.now (Accept k) (event_of c.args.e) c.accepts.result c.self.view_is (ap event_of c.in-Accept.is)
     (accept_test h k 0 c.accepts.result (omega (arith, c.sites.ensures.count, c.if-k-sites.false)) is)
 

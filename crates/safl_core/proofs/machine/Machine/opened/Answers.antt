@@ -28,10 +28,12 @@ invariant_of-result c =
     (c.in_ok-answers.ensures.count ∙ c.functions-functions.ensures.count)
     (omega (arith, ap (λ (l : List (Option (List Word))). length l) c.new-3.ensures, c.in_ok-wants.ensures.count, c.sites.ensures.count))
     (omega (arith, c.in_ok-env.ensures)) in
-    let is = opens c.args.c.now c.new-2.result c.in_ok-modes.modes.items c.in_ok-stages.stages.items c.in_ok-answers.answers.items c.new-3.result.each.items (length c.in_ok-env.env.items) c.in_ok-modes.ensures.idle c.in_ok-stages.ensures.unsent in
+    let is = opens c.args.c.now c.new-2.result c.in_ok-modes.modes.items c.in_ok-stages.stages.items c.in_ok-answers.answers.items
+    c.new-3.result.each.items (length c.in_ok-env.env.items) c.in_ok-modes.ensures.idle c.in_ok-stages.ensures.unsent in
     record {
       kept = kept;
-      marked = subst (λ (s : State). AreMarked (program_of c.args.c.now) c.new-2.result s c.in_ok-sets.sets) (sym is) (marked_first (program_of c.args.c.now) c.new-2.result c.in_ok-sets.sets (sized kept) c.in_ok-sets.ensures);
+      marked = subst (λ (s : State). AreMarked (program_of c.args.c.now) c.new-2.result s c.in_ok-sets.sets) (sym is)
+          (marked_first (program_of c.args.c.now) c.new-2.result c.in_ok-sets.sets (sized kept) c.in_ok-sets.ensures);
       planned = subst (λ (n : ℕ). IsPlan (program_of c.args.c.now) c.in_ok-plan.plan n) (sym c.in_ok-kept.ensures) c.in_ok-plan.ensures;
       recalls = λ u. record {
         member = λ f k ws r. absurd (idle_runs f k ws (sym (c.in_ok-modes.ensures.idle u) ∙ r));
@@ -46,6 +48,7 @@ pub returns : goal.returns
 returns c = record {
   program = refl;
   given = c.new-2.ensures;
-  first = opens c.args.c.now c.new-2.result c.in_ok-modes.modes.items c.in_ok-stages.stages.items c.in_ok-answers.answers.items c.new-3.result.each.items (length c.in_ok-env.env.items) c.in_ok-modes.ensures.idle c.in_ok-stages.ensures.unsent;
+  first = opens c.args.c.now c.new-2.result c.in_ok-modes.modes.items c.in_ok-stages.stages.items c.in_ok-answers.answers.items
+      c.new-3.result.each.items (length c.in_ok-env.env.items) c.in_ok-modes.ensures.idle c.in_ok-stages.ensures.unsent;
   none = refl;
 }

@@ -33,7 +33,8 @@ pub returns-clause-fires : goal.returns-clause-fires
 returns-clause-fires c =
     let n = c.self.inside in
     let h = c.self.invariant in
-    subst (λ (m : Shown). CanFire m (event_of c.nth.result)) c.self.view_is (enabled_of (program_of n.checked.now) n.opening (calls_of n.state) (event_of c.nth.result) (nth_listed h.marked _ _ c.nth.ensures).1)
+    subst (λ (m : Shown). CanFire m (event_of c.nth.result)) c.self.view_is
+    (enabled_of (program_of n.checked.now) n.opening (calls_of n.state) (event_of c.nth.result) (nth_listed h.marked _ _ c.nth.ensures).1)
 
 pub returns-clause-none : goal.returns-clause-none
 returns-clause-none c =

@@ -26,5 +26,6 @@ returns-else-contains_key c =
     let x = c.args.name.now in
     let es = c.self.inside.signals.entries in
     let os = c.self.inside.outputs.entries in
-    second c.contains_key.result c.contains_key-else-contains_key.result (named_signal (signals_of es) x) (named_output (outputs_of os) x) (c.contains_key.ensures ∙ signal_found es x) c.if-contains_key.false (c.contains_key-else-contains_key.ensures ∙ output_found os x)
+    second c.contains_key.result c.contains_key-else-contains_key.result (named_signal (signals_of es) x) (named_output (outputs_of os) x)
+    (c.contains_key.ensures ∙ signal_found es x) c.if-contains_key.false (c.contains_key-else-contains_key.ensures ∙ output_found os x)
     ∙ ap (λ (n : Netlist). has_name n x) c.self.view_is

@@ -25,10 +25,17 @@ invariant_of-self-2 c =
     let es = c.self.inside.signals.entries in
     let os = c.self.inside.outputs.entries in
     let new : has_name (net_of es os) (string_bytes c.args.name) ≡ false = ap (λ (n : Netlist). has_name n (string_bytes c.args.name)) c.self.view_is ∙ c.requires.new in
-    let after : c.insert.new.self.entries ≡ es ++ (c.args.name, c.args.row) ∷ [] = c.in-Ok.ensures.entries ∙ insert_entry-new _ c.self.inside.signals c.args.name c.args.row (no_signal es os (string_bytes c.args.name) new) in
+    let after : c.insert.new.self.entries ≡ es ++ (c.args.name, c.args.row) ∷ [] = c.in-Ok.ensures.entries ∙ insert_entry-new _ c.self.inside.signals
+    c.args.name c.args.row (no_signal es os (string_bytes c.args.name) new) in
     let q = c.requires in
     let room : length (signals_of es) < 4294967295 = (let f = q.room in let g = ap (λ (n : Netlist). length n.signals) c.self.view_is in omega (arith, f, g)) in
-    let fits : SignalFits (net_of es os) (signal_of (string_bytes c.args.name) c.args.row) = record { good = q.good; some = q.some; most = q.most; kind = subst (λ (n : Netlist). KindFits n c.args.row.width (kind_of c.args.row.driver)) (sym c.self.view_is) q.kind } in
+    let fits : SignalFits (net_of es os) (signal_of (string_bytes c.args.name) c.args.row) = record {
+      good = q.good;
+      some = q.some;
+      most = q.most;
+      kind = subst (λ (n : Netlist). KindFits n c.args.row.width (kind_of c.args.row.driver))
+          (sym c.self.view_is) q.kind;
+    } in
     let kept = rows_kept es os c.self.inside.wires c.args.name c.args.row c.self.invariant room new fits q.reset in
     subst (λ (k : ℕ). Keeps c.insert.new.self.entries os (c.self.inside.wires + k)) (sym c.wire_count.ensures)
     (subst (λ (l : List (String Global × Row)). Keeps l os (c.self.inside.wires + one_wire (kind_of c.args.row.driver))) (sym after) kept)
@@ -38,7 +45,8 @@ returns-clause-added c =
     let es = c.self.inside.signals.entries in
     let os = c.self.inside.outputs.entries in
     let new : has_name (net_of es os) (string_bytes c.args.name) ≡ false = ap (λ (n : Netlist). has_name n (string_bytes c.args.name)) c.self.view_is ∙ c.requires.new in
-    let after : c.insert.new.self.entries ≡ es ++ (c.args.name, c.args.row) ∷ [] = c.in-Ok.ensures.entries ∙ insert_entry-new _ c.self.inside.signals c.args.name c.args.row (no_signal es os (string_bytes c.args.name) new) in
+    let after : c.insert.new.self.entries ≡ es ++ (c.args.name, c.args.row) ∷ [] = c.in-Ok.ensures.entries ∙ insert_entry-new _ c.self.inside.signals
+    c.args.name c.args.row (no_signal es os (string_bytes c.args.name) new) in
     ap (λ (l : List (String Global × Row)). net_of l c.self.inside.outputs.entries) after
     ∙ ap (λ (gs : List Signal). record { signals = gs; outputs = outputs_of c.self.inside.outputs.entries }) (signals_push c.self.inside.signals.entries c.args.name c.args.row)
     ∙ ap (λ (n : Netlist). with_signal n (signal_of (string_bytes c.args.name) c.args.row)) c.self.view_is

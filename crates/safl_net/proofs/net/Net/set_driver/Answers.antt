@@ -19,7 +19,8 @@ invariant_of-self c =
     let a = row_at es c.args.s.0 r here in
     let wide : width_of c.args.self.now c.args.s.0 ≡ r.width = ap (λ (n : Netlist). width_of n c.args.s.0) (sym c.self.view_is) ∙ ap width_in a.1 in
     let kind : kind_at c.args.self.now c.args.s.0 ≡ kind_of r.driver = ap (λ (n : Netlist). kind_at n c.args.s.0) (sym c.self.view_is) ∙ ap kind_in a.1 in
-    let fits : KindFits (net_of es os) r.width (kind_of c.args.driver) = subst (λ (w : ℕ). KindFits (net_of es os) w (kind_of c.args.driver)) wide (subst (λ (n : Netlist). KindFits n (width_of c.args.self.now c.args.s.0) (kind_of c.args.driver)) (sym c.self.view_is) c.requires.kind) in
+    let fits : KindFits (net_of es os) r.width (kind_of c.args.driver) = subst (λ (w : ℕ). KindFits (net_of es os) w (kind_of c.args.driver)) wide
+    (subst (λ (n : Netlist). KindFits n (width_of c.args.self.now c.args.s.0) (kind_of c.args.driver)) (sym c.self.view_is) c.requires.kind) in
     rows_set es os c.self.inside.wires c.args.s.0 r c.args.driver c.self.invariant here
     (c.requires.alike ∙ ap one_wire kind)
     fits

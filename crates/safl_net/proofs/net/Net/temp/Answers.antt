@@ -30,14 +30,18 @@ push-requires-clause-some c =
     let n = c.args.self.now in
     let k : IsNetlist n = subst IsNetlist c.self.view_is c.self.invariant.netlist in
     let e = ap is_some c.in-Some.is in
-    (op_bounds c.args.op (widths n (numbers c.args.operands.now)) c.in-Some.width (widths_are n (numbers c.args.operands.now) k (numbers_known n c.args.operands.now c.requires.known)) (c.width_on.ensures.word e) (sym c.width_on.ensures.width ∙ c.in-Some.is)).some
+    (op_bounds c.args.op (widths n (numbers c.args.operands.now)) c.in-Some.width
+    (widths_are n (numbers c.args.operands.now) k (numbers_known n c.args.operands.now c.requires.known)) (c.width_on.ensures.word e)
+    (sym c.width_on.ensures.width ∙ c.in-Some.is)).some
 
 pub push-requires-clause-most : goal.push-requires-clause-most
 push-requires-clause-most c =
     let n = c.args.self.now in
     let k : IsNetlist n = subst IsNetlist c.self.view_is c.self.invariant.netlist in
     let e = ap is_some c.in-Some.is in
-    (op_bounds c.args.op (widths n (numbers c.args.operands.now)) c.in-Some.width (widths_are n (numbers c.args.operands.now) k (numbers_known n c.args.operands.now c.requires.known)) (c.width_on.ensures.word e) (sym c.width_on.ensures.width ∙ c.in-Some.is)).most
+    (op_bounds c.args.op (widths n (numbers c.args.operands.now)) c.in-Some.width
+    (widths_are n (numbers c.args.operands.now) k (numbers_known n c.args.operands.now c.requires.known)) (c.width_on.ensures.word e)
+    (sym c.width_on.ensures.width ∙ c.in-Some.is)).most
 
 pub push-requires-clause-kind : goal.push-requires-clause-kind
 push-requires-clause-kind c =

@@ -12,8 +12,10 @@ invariant_of-self c =
     let bit : c.index.result.now ≡ get_or n.ones.items k 0 = get_or_read n.ones.items k _ lt c.index.ensures 0 in
     let zero : get_or n.ones.items k 0 ≡ 0 = omega (arith, h.bits k, bit, c.if-index-eq1.false) in
     let block : c.index_mut-2.result.now ≡ get_or n.blocks.items (k / 32) 0 = get_or_read n.blocks.items (k / 32) _ (omega (arith, lt, h.blocks.enough)) c.index_mut-2.ensures.value 0 in
-    let top : c.index_mut-3.result.now ≡ get_or n.tops.items (k / 32 / 32) 0 = get_or_read n.tops.items (k / 32 / 32) _ (omega (arith, lt, h.blocks.enough, h.tops.enough)) c.index_mut-3.ensures.value 0 in
-    set_counted n.ones.items n.blocks.items n.tops.items n.total h k 1 (c.index_mut-2.result.now + 1) (c.index_mut-3.result.now + 1) (n.total + 1) lt (omega arith) (omega (arith, zero, block)) (omega (arith, zero, top)) (omega (arith, zero))
+    let top : c.index_mut-3.result.now ≡ get_or n.tops.items (k / 32 / 32) 0 = get_or_read n.tops.items (k / 32 / 32) _
+    (omega (arith, lt, h.blocks.enough, h.tops.enough)) c.index_mut-3.ensures.value 0 in
+    set_counted n.ones.items n.blocks.items n.tops.items n.total h k 1 (c.index_mut-2.result.now + 1) (c.index_mut-3.result.now + 1) (n.total + 1) lt
+    (omega arith) (omega (arith, zero, block)) (omega (arith, zero, top)) (omega (arith, zero))
 
 pub overflow_add-index_mut : goal.overflow_add-index_mut
 overflow_add-index_mut c =

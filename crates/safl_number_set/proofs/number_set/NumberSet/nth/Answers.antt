@@ -22,7 +22,8 @@ find-block-requires-clause-start c =
     let top : t.before ≡ sum (take t.at n.tops.items) = c.find-top.ensures.start ∙ ap (λ (l : List ℕ). sum (take t.at l)) c.deref.ensures.value in
     let low : t.at < length n.tops.items = omega (arith, c.find-top.ensures.within, ap (λ (l : List ℕ). length l) c.deref.ensures.value) in
     let times : 32 * t.at ≡ t.at * 32 = omega arith in
-    top ∙ (sum_to n.blocks.items n.tops.items c.self.invariant.tops t.at (omega (arith, low)) ∙ (ap (λ i. sum (take i n.blocks.items)) times ∙ sym (ap (λ (l : List ℕ). sum (take (t.at * 32) l)) c.deref-2.ensures.value)))
+    top ∙ (sum_to n.blocks.items n.tops.items c.self.invariant.tops t.at (omega (arith, low)) ∙
+    (ap (λ i. sum (take i n.blocks.items)) times ∙ sym (ap (λ (l : List ℕ). sum (take (t.at * 32) l)) c.deref-2.ensures.value)))
 
 pub find-block-requires-clause-passed : goal.find-block-requires-clause-passed
 find-block-requires-clause-passed c =
@@ -43,7 +44,8 @@ find-requires-clause-start c =
     let block : t.before ≡ sum (take t.at n.blocks.items) = c.find-block.ensures.start ∙ ap (λ (l : List ℕ). sum (take t.at l)) c.deref-2.ensures.value in
     let low : t.at < length n.blocks.items = omega (arith, c.find-block.ensures.within, ap (λ (l : List ℕ). length l) c.deref-2.ensures.value) in
     let times : 32 * t.at ≡ t.at * 32 = omega arith in
-    block ∙ (sum_to n.ones.items n.blocks.items c.self.invariant.blocks t.at (omega (arith, low)) ∙ (ap (λ i. sum (take i n.ones.items)) times ∙ sym (ap (λ (l : List ℕ). sum (take (t.at * 32) l)) c.deref-3.ensures.value)))
+    block ∙ (sum_to n.ones.items n.blocks.items c.self.invariant.blocks t.at (omega (arith, low)) ∙
+    (ap (λ i. sum (take i n.ones.items)) times ∙ sym (ap (λ (l : List ℕ). sum (take (t.at * 32) l)) c.deref-3.ensures.value)))
 
 pub find-requires-clause-few : goal.find-requires-clause-few
 find-requires-clause-few c =

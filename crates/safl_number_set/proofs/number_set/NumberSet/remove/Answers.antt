@@ -17,7 +17,8 @@ invariant_of-self c =
     let a = part_least n.ones.items n.blocks.items k h.blocks lt in
     let b = part_least n.blocks.items n.tops.items (k / 32) h.tops in_blocks in
     let t = bit_least n.ones.items n.blocks.items n.tops.items n.total h k lt in
-    set_counted n.ones.items n.blocks.items n.tops.items n.total h k 0 (c.index_mut-2.result.now - 1) (c.index_mut-3.result.now - 1) (n.total - 1) lt (omega arith) (omega (arith, one, block, a)) (omega (arith, one, top, a, b)) (omega (arith, one, t))
+    set_counted n.ones.items n.blocks.items n.tops.items n.total h k 0 (c.index_mut-2.result.now - 1) (c.index_mut-3.result.now - 1) (n.total - 1) lt
+    (omega arith) (omega (arith, one, block, a)) (omega (arith, one, top, a, b)) (omega (arith, one, t))
 
 pub overflow_sub-index_mut : goal.overflow_sub-index_mut
 overflow_sub-index_mut c =

@@ -10,7 +10,8 @@ drain-requires c =
     let w = c.requires.walks in
     let t = c.args.root in
     let here = get_read o.marks.items t.0 c.index.result.now (let a = w.long in let b = c.requires.known in omega (arith, a, b)) c.index.ensures in
-    let m = moves_open n o.wires.items c.open.new.self.wires.items o.marks.items c.open.new.self.marks.items o.stack.items c.open.new.self.stack.items t c.open.result w (sym c.kind.ensures ∙ c.in-Wire.is) (here ∙ ap Some c.in-Unseen.is)
+    let m = moves_open n o.wires.items c.open.new.self.wires.items o.marks.items c.open.new.self.marks.items o.stack.items c.open.new.self.stack.items
+    t c.open.result w (sym c.kind.ensures ∙ c.in-Wire.is) (here ∙ ap Some c.in-Unseen.is)
     (no_looks n o.stack.items t.0 c.requires.empty) c.open.ensures.wires c.open.ensures.marks c.open.ensures.stack c.open.ensures.refused in
     m.walks
 
@@ -21,7 +22,8 @@ returns-in_ok-open-in-Unseen-clause-goes c =
     let w = c.requires.walks in
     let t = c.args.root in
     let here = get_read o.marks.items t.0 c.index.result.now (let a = w.long in let b = c.requires.known in omega (arith, a, b)) c.index.ensures in
-    let m = moves_open n o.wires.items c.open.new.self.wires.items o.marks.items c.open.new.self.marks.items o.stack.items c.open.new.self.stack.items t c.open.result w (sym c.kind.ensures ∙ c.in-Wire.is) (here ∙ ap Some c.in-Unseen.is)
+    let m = moves_open n o.wires.items c.open.new.self.wires.items o.marks.items c.open.new.self.marks.items o.stack.items c.open.new.self.stack.items
+    t c.open.result w (sym c.kind.ensures ∙ c.in-Wire.is) (here ∙ ap Some c.in-Unseen.is)
     (no_looks n o.stack.items t.0 c.requires.empty) c.open.ensures.wires c.open.ensures.marks c.open.ensures.stack c.open.ensures.refused in
     goes_on o.marks.items c.open.new.self.marks.items c.drain.new.self.marks.items m.goes c.drain.ensures.goes
 
@@ -33,7 +35,8 @@ returns-in_ok-open-in-Unseen-clause-done c =
     let t = c.args.root in
     let here = get_read o.marks.items t.0 c.index.result.now (let a = w.long in let b = c.requires.known in omega (arith, a, b)) c.index.ensures in
     done_after c.drain.result n c.drain.new.self.wires.items c.drain.new.self.marks.items c.drain.new.self.stack.items t.0 c.drain.ensures.walks c.drain.ensures.empty c.requires.known
-    (seen_open c.open.result c.in_ok-open-in-Unseen.field-0 o.marks.items c.open.new.self.marks.items c.drain.new.self.marks.items t.0 (length o.stack.items) c.in_ok-open-in-Unseen.was c.open.ensures.marks (here ∙ ap Some c.in-Unseen.is) c.drain.ensures.goes)
+    (seen_open c.open.result c.in_ok-open-in-Unseen.field-0 o.marks.items c.open.new.self.marks.items c.drain.new.self.marks.items t.0
+    (length o.stack.items) c.in_ok-open-in-Unseen.was c.open.ensures.marks (here ∙ ap Some c.in-Unseen.is) c.drain.ensures.goes)
 
 pub returns-in_default-index : goal.returns-in_default-index
 returns-in_default-index c =

@@ -84,19 +84,24 @@ abbrev pub decreases-last_arm : goal.decreases-last_arm
 decreases-last_arm l = 64 * l.levels + 1
 
 abbrev pub invariant-chained-chain : goal.invariant-chained-chain
-invariant-chained-chain l = read_many (comes (operators l.layer)) (read_joined l.layer (read_chain l.layer (read_unary (operand_at l.levels) (expr_at l.levels)))) (shown_tree l.left.expr) (terminals l.self.text.now l.rest) ≡ read_chained l.layer (read_chain l.layer (read_unary (operand_at l.levels) (expr_at l.levels))) (terminals l.self.text.now l.fn.tokens)
+invariant-chained-chain l = read_many (comes (operators l.layer))
+    (read_joined l.layer (read_chain l.layer (read_unary (operand_at l.levels) (expr_at l.levels)))) (shown_tree l.left.expr)
+    (terminals l.self.text.now l.rest) ≡ read_chained l.layer (read_chain l.layer (read_unary (operand_at l.levels) (expr_at l.levels)))
+    (terminals l.self.text.now l.fn.tokens)
 
 abbrev pub decreases-chained-chain : goal.decreases-chained-chain
 decreases-chained-chain l = length (terminals l.self.text.now l.rest)
 
 abbrev pub invariant-exprs-list : goal.invariant-exprs-list
-invariant-exprs-list l = read_many (comes comma) (read_another (expr_at l.levels)) (shown_trees l.parts.exprs.items) (terminals l.self.text.now l.rest) ≡ read_exprs (expr_at l.levels) (terminals l.self.text.now l.fn.tokens)
+invariant-exprs-list l = read_many (comes comma) (read_another (expr_at l.levels)) (shown_trees l.parts.exprs.items)
+    (terminals l.self.text.now l.rest) ≡ read_exprs (expr_at l.levels) (terminals l.self.text.now l.fn.tokens)
 
 abbrev pub decreases-exprs-list : goal.decreases-exprs-list
 decreases-exprs-list l = length (terminals l.self.text.now l.rest)
 
 abbrev pub invariant-binds-bound : goal.invariant-binds-bound
-invariant-binds-bound l = read_many (comes comma) (read_another_bind (expr_at l.levels)) (shown_bounds l.bindings.binds.items) (terminals l.self.text.now l.rest) ≡ read_binds (expr_at l.levels) (terminals l.self.text.now l.fn.tokens)
+invariant-binds-bound l = read_many (comes comma) (read_another_bind (expr_at l.levels)) (shown_bounds l.bindings.binds.items)
+    (terminals l.self.text.now l.rest) ≡ read_binds (expr_at l.levels) (terminals l.self.text.now l.fn.tokens)
 
 abbrev pub decreases-binds-bound : goal.decreases-binds-bound
 decreases-binds-bound l = length (terminals l.self.text.now l.rest)

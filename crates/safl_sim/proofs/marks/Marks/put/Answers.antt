@@ -15,7 +15,8 @@ invariant_of-self c =
     let known : w < length words = (let a = ap length c.self.view_is in let b = c.requires in omega (arith, a, b)) in
     let is = get_or_read filled (w / 64) _ (let a = c.self.invariant.0 in omega (arith, a, known)) c.index_mut-then-marks-eq0.ensures.value 0 in
     subst (λ y. Covers (set filled (w / 64) (bit_and y (bit_not w64 (1 * 2 ^ (w % 64) % 2 ^ 64)))) (set words w c.args.marks)) (sym is)
-    (subst (λ y. Covers (set filled (w / 64) (bit_and (slice_index filled (w / 64)) (bit_not w64 (1 * 2 ^ (w % 64) % 2 ^ 64)))) (set words w y)) (sym c.if-marks-eq0.true) (covers_taken filled words w c.self.invariant known))
+    (subst (λ y. Covers (set filled (w / 64) (bit_and (slice_index filled (w / 64)) (bit_not w64 (1 * 2 ^ (w % 64) % 2 ^ 64)))) (set words w y))
+    (sym c.if-marks-eq0.true) (covers_taken filled words w c.self.invariant known))
 
 pub invariant_of-self-else-marks-eq0 : goal.invariant_of-self-else-marks-eq0
 invariant_of-self-else-marks-eq0 c =

@@ -58,7 +58,8 @@ table_of-requires-clause-order c =
     (subst (λ (x : List ℕ). IsOrder c.args.ordered.now.net x) (sym c.wires.ensures.wires) c.wires.ensures.order)
 
 pub table_of-requires-clause-registers : goal.table_of-requires-clause-registers
-table_of-requires-clause-registers c = subst (λ (l : List Register). AreRegisters c.net-net.result.now (length c.net-net.result.now.signals) l) (sym c.as_slice-kept.ensures.value) c.in_ok-registers.ensures
+table_of-requires-clause-registers c = subst (λ (l : List Register). AreRegisters c.net-net.result.now (length c.net-net.result.now.signals) l)
+    (sym c.as_slice-kept.ensures.value) c.in_ok-registers.ensures
 
 pub returns-clause-keeps : goal.returns-clause-keeps
 returns-clause-keeps c =
@@ -76,7 +77,8 @@ returns-clause-keeps c =
     let waiting = c.in_ok-waiting.waiting in
     let states = c.in_ok-state.state.items in
     let are = subst (λ (m : Netlist). AreRegisters m (length m.signals) regs) e c.in_ok-registers.ensures in
-    let reset = subst (λ (l : List Register). AreReset o.net l (length l) states) kept (subst (λ (m : Netlist). AreReset m c.as_slice-kept.result.now (length c.as_slice-kept.result.now) states) e c.in_ok-state.ensures) in
+    let reset = subst (λ (l : List Register). AreReset o.net l (length l) states) kept
+    (subst (λ (m : Netlist). AreReset m c.as_slice-kept.result.now (length c.as_slice-kept.result.now) states) e c.in_ok-state.ensures) in
     record {
       long = reset.long;
       keeps = keeps_new o c.in_ok-made.made.steps.items c.in_ok-inputs_of.field-0.items regs starts readers marks waiting (placed (length o.net.signals) regs states) c.in_ok-values.values
@@ -88,7 +90,8 @@ returns-clause-keeps c =
           (subst (λ (m : Netlist). AreRegisters m (length m.signals) regs) e c.in_ok-registers.ensures)
           (subst (λ (k : ℕ). Lists starts readers (length o.net.signals) ((first_register k + length regs + 63) / 64)) many3
           (subst (λ (l : List Register). Lists starts readers (length o.net.signals) ((first_register (length c.wires.result.now) + length l + 63) / 64)) kept
-          (subst (λ (m : Netlist). Lists starts readers (length m.signals) ((first_register (length c.wires.result.now) + length c.as_slice-kept.result.now + 63) / 64)) e c.in_ok-table.ensures.lists)))
+          (subst (λ (m : Netlist). Lists starts readers (length m.signals)
+          ((first_register (length c.wires.result.now) + length c.as_slice-kept.result.now + 63) / 64)) e c.in_ok-table.ensures.lists)))
           (subst (λ (x : List ℕ). AreReaders o.net x regs starts readers) c.wires.ensures.wires
           (subst (λ (l : List Register). AreReaders o.net (numbers c.wires.result.now) l starts readers) kept
           (subst (λ (m : Netlist). AreReaders m (numbers c.wires.result.now) c.as_slice-kept.result.now starts readers) e c.in_ok-table.ensures.readers)))
@@ -112,7 +115,8 @@ returns-clause-state c =
     let kept = c.as_slice-kept.ensures.value in
     let states = c.in_ok-state.state.items in
     let are = subst (λ (m : Netlist). AreRegisters m (length m.signals) regs) e c.in_ok-registers.ensures in
-    let reset = subst (λ (l : List Register). AreReset o.net l (length l) states) kept (subst (λ (m : Netlist). AreReset m c.as_slice-kept.result.now (length c.as_slice-kept.result.now) states) e c.in_ok-state.ensures) in
+    let reset = subst (λ (l : List Register). AreReset o.net l (length l) states) kept
+    (subst (λ (m : Netlist). AreReset m c.as_slice-kept.result.now (length c.as_slice-kept.result.now) states) e c.in_ok-state.ensures) in
     placed_resets o.net regs states are reset
 
 pub states_of-requires : goal.states_of-requires

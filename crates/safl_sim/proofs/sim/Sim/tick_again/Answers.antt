@@ -10,9 +10,11 @@ pub invariant_of-self : goal.invariant_of-self
 invariant_of-self c =
     let s = c.self.inside in
     let w = some_words s.ordered.net s.values in
-    let t = cycle_through s.ordered s.plan s.marks s.marks s.waiting s.waiting w.0 s.state.items _ s.values s.values c.proceed-count.new.marks c.proceed-count.new.waiting c.proceed-count.new.state c.proceed-count.new.values
+    let t = cycle_through s.ordered s.plan s.marks s.marks s.waiting s.waiting w.0 s.state.items _ s.values s.values c.proceed-count.new.marks
+    c.proceed-count.new.waiting c.proceed-count.new.state c.proceed-count.new.values
     refl refl c.deref_mut.ensures.value refl (λ k. c.proceed-count.ensures s.ordered w.0 k w.1) c.self.invariant in
-    states_same s.ordered s.plan c.proceed-count.new.marks c.proceed-count.new.marks c.proceed-count.new.waiting c.proceed-count.new.waiting c.proceed-count.new.state _ c.proceed-count.new.values c.proceed-count.new.values
+    states_same s.ordered s.plan c.proceed-count.new.marks c.proceed-count.new.marks c.proceed-count.new.waiting c.proceed-count.new.waiting
+    c.proceed-count.new.state _ c.proceed-count.new.values c.proceed-count.new.values
     refl
     refl
     (with_items_is s.state c.proceed-count.new.state (let a = t.keeps.long in let b = c.self.invariant.long in let d = s.state.ok.0 in omega (arith, a, b, d)))
@@ -23,9 +25,11 @@ pub returns : goal.returns
 returns c = λ words has.
     let s = c.self.inside in
     let given = subst (λ (x : Simulation). HasWords x.net x.values words) (sym c.self.view_is) has in
-    let t = cycle_through s.ordered s.plan s.marks s.marks s.waiting s.waiting words s.state.items _ s.values s.values c.proceed-count.new.marks c.proceed-count.new.waiting c.proceed-count.new.state c.proceed-count.new.values
+    let t = cycle_through s.ordered s.plan s.marks s.marks s.waiting s.waiting words s.state.items _ s.values s.values c.proceed-count.new.marks
+    c.proceed-count.new.waiting c.proceed-count.new.state c.proceed-count.new.values
     refl refl c.deref_mut.ensures.value refl (λ k. c.proceed-count.ensures s.ordered words k given) c.self.invariant in
-    ticks_same s.ordered.net c.args.self.now (state_of s.ordered s.plan s.state.items) s.values (state_of s.ordered s.plan c.proceed-count.new.state) _ c.proceed-count.new.values c.proceed-count.new.values words c.self.view_is
+    ticks_same s.ordered.net c.args.self.now (state_of s.ordered s.plan s.state.items) s.values (state_of s.ordered s.plan c.proceed-count.new.state)
+    _ c.proceed-count.new.values c.proceed-count.new.values words c.self.view_is
     (ap (state_of s.ordered s.plan) (with_items_is s.state c.proceed-count.new.state (let a = t.keeps.long in let b = c.self.invariant.long in let d = s.state.ok.0 in omega (arith, a, b, d))))
     refl
     t.ticks

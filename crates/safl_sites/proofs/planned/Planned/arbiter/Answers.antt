@@ -15,6 +15,8 @@ returns-clause-exact c =
     let low : u < length c.self.inside.arbiters.items = omega (arith, within, c.unit.ensures.within, c.self.invariant.units) in
     let is : c.index.result.now ≡ get_or c.self.inside.arbiters.items u false = get_or_read c.self.inside.arbiters.items u c.index.result.now low c.index.ensures false in
     let both = c.self.invariant.plan.arbiters u in (
-      λ t. subst (λ (q : CheckedProgram). HasArbiter (program_of q) ((program_of q).unit f)) v (subst (λ (n : ℕ). HasArbiter (program_of c.self.inside.checked) n) c.unit.ensures.number (both.0 (sym is ∙ t))),
-      λ h. is ∙ both.1 (subst (λ (n : ℕ). HasArbiter (program_of c.self.inside.checked) n) (sym c.unit.ensures.number) (subst (λ (q : CheckedProgram). HasArbiter (program_of q) ((program_of q).unit f)) (sym v) h)),
+      λ t. subst (λ (q : CheckedProgram). HasArbiter (program_of q) ((program_of q).unit f)) v
+          (subst (λ (n : ℕ). HasArbiter (program_of c.self.inside.checked) n) c.unit.ensures.number (both.0 (sym is ∙ t))),
+      λ h. is ∙ both.1 (subst (λ (n : ℕ). HasArbiter (program_of c.self.inside.checked) n) (sym c.unit.ensures.number)
+          (subst (λ (q : CheckedProgram). HasArbiter (program_of q) ((program_of q).unit f)) (sym v) h)),
     )

@@ -25,7 +25,9 @@ loop-i-preserved c =
         | inl f ↦
             let set : get_or words (k / 64) 0 ≡ bit_or (get_or s.words i 0) common = get_or-set_at s.words i (k / 64) _ 0 f (omega arith) in
             let old : get_or s.words i 0 ≡ get_or r.words (k / 64) 0 = c.loop-i.invariant.above i (omega arith) ∙ ap (λ n. get_or r.words n 0) (sym f) in
-            let which : ((k / 64 ≡ e / 64 → ⊥) × (common ≡ bit_and (get_or a.words (k / 64) 0) (get_or b.words (k / 64) 0))) ⊎ ((k / 64 ≡ e / 64) × (common ≡ bit_and (bit_and (get_or a.words (k / 64) 0) (get_or b.words (k / 64) 0)) (bit_not w64 (1 * 2 ^ (e % 64) % 2 ^ 64)))) = elim c.if-i-except.branch [
+            let which : ((k / 64 ≡ e / 64 → ⊥) × (common ≡ bit_and (get_or a.words (k / 64) 0) (get_or b.words (k / 64) 0))) ⊎
+            ((k / 64 ≡ e / 64) × (common ≡ bit_and (bit_and (get_or a.words (k / 64) 0) (get_or b.words (k / 64) 0))
+            (bit_not w64 (1 * 2 ^ (e % 64) % 2 ^ 64)))) = elim c.if-i-except.branch [
               | then-i-except w ↦ inr (f ∙ w.if-i-except.true, w.common-is ∙ ap (λ n. bit_and (bit_and (get_or a.words n 0) (get_or b.words n 0)) (bit_not w64 (1 * 2 ^ (e % 64) % 2 ^ 64))) (sym f))
               | else-i-except w ↦ inl (λ q. w.if-i-except.false (sym f ∙ q), w.common-is ∙ ap (λ n. bit_and (get_or a.words n 0) (get_or b.words n 0)) (sym f))
             ] in

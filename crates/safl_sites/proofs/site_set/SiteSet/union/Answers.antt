@@ -12,5 +12,6 @@ returns c = λ j.
       | inl h ↦ c.loop-i.invariant.below (j / 64) h
       | inr h ↦
           let past : length c.args.other.now.words ≤ j / 64 = omega arith in
-          c.loop-i.invariant.above (j / 64) h ∙ (sym (or_zero_r (get_or c.args.self.now.words (j / 64) 0)) ∙ ap (bit_or (get_or c.args.self.now.words (j / 64) 0)) (sym (get_or_past c.args.other.now.words (j / 64) 0 past)))
+          c.loop-i.invariant.above (j / 64) h ∙ (sym (or_zero_r (get_or c.args.self.now.words (j / 64) 0)) ∙ ap
+          (bit_or (get_or c.args.self.now.words (j / 64) 0)) (sym (get_or_past c.args.other.now.words (j / 64) 0 past)))
     ])

@@ -14,7 +14,8 @@ known ls hs i e h = (h, omega (arith, e, h))
 pub returns-then-i-len-clause-no : goal.returns-then-i-len-clause-no
 returns-then-i-len-clause-no c = λ f e.
     let n = c.self.inside in
-    let past : length c.args.self.now ≤ c.args.i = (let a = ap length c.self.view_is in let b = joined_length n.low.items n.high.items c.self.invariant in let d = c.if-i-len.true in let l = c.len.ensures in let g = n.low.ok.0 in omega (arith, a, b, d, l, g)) in
+    let past : length c.args.self.now ≤ c.args.i = (let a = ap length c.self.view_is in let b = joined_length n.low.items n.high.items
+    c.self.invariant in let d = c.if-i-len.true in let l = c.len.ensures in let g = n.low.ok.0 in omega (arith, a, b, d, l, g)) in
     let z = index_past c.args.self.now c.args.i past in
     absurd (omega (arith, z, e))
 
