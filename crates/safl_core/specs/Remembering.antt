@@ -12,12 +12,15 @@ use Rattle.safl_core.specs.Modes.{unit_at}
 use Rattle.safl_evaluate.specs.Laying.{body_at}
 
 -- a unit runs one of its members alone, and what is kept of its body is right where these words have come back
-pub record Remembers (C : Program) (plan : Plan) (back : ℕ → Option Word) (modes : List Mode) (asks : List (Option (List Word))) (kept : List Kept) (u : ℕ) : Type 0 where
+pub record Remembers (C : Program) (plan : Plan) (back : ℕ → Option Word) (modes : List Mode) (asks : List (Option (List Word))) (kept : List Kept)
+    (u : ℕ) : Type 0 where
   pub member : (f k : ℕ) (ws : List Word) → unit_at modes u ≡ core.Runs f k ws → (C.unit f ≡ u) × (f < C.functions)
   pub holds : (f k : ℕ) (ws : List Word) → unit_at modes u ≡ core.Runs f k ws → Holds back ws asks kept (body_at plan f) (C.body f)
 
 -- The body that a unit runs is looked at for the first time, or what is kept of it was right before a site returned. No other
 -- site of the unit is asked for
-pub record MayRenew (C : Program) (plan : Plan) (back : ℕ → Option Word) (news : Option ℕ) (modes : List Mode) (asks : List (Option (List Word))) (kept : List Kept) (u : ℕ) : Type 0 where
+pub record MayRenew (C : Program) (plan : Plan) (back : ℕ → Option Word) (news : Option ℕ) (modes : List Mode) (asks : List (Option (List Word)))
+    (kept : List Kept) (u : ℕ) : Type 0 where
   pub stood : (f k : ℕ) (ws : List Word) → unit_at modes u ≡ core.Runs f k ws → Stood back news ws asks kept (body_at plan f) (C.body f)
-  pub quiet : (j : ℕ) → 0 < j → j ≤ C.sites → C.unit (C.caller j) ≡ u → ((f k : ℕ) (ws : List Word) → unit_at modes u ≡ core.Runs f k ws → Stands j (C.body f) → ⊥) → get_or asks j None ≡ None
+  pub quiet : (j : ℕ) → 0 < j → j ≤ C.sites → C.unit (C.caller j) ≡ u
+      → ((f k : ℕ) (ws : List Word) → unit_at modes u ≡ core.Runs f k ws → Stands j (C.body f) → ⊥) → get_or asks j None ≡ None

@@ -85,7 +85,8 @@ pub record Evaluates (C : Program) (plan : Plan) (u : ℕ) (s t : State) : Type 
   pub stages : t.stages.items ≡ s.stages.items
   pub answers : t.answers.items ≡ slice_set s.answers.items u (core.says C (calls_of s) u)
   pub asks : Asks s.wants t.wants
-  pub wants : (k : ℕ) → 0 < k → k ≤ C.sites → C.unit (C.caller k) ≡ u → get_or t.wants.each.items k None ≡ core.asked_as C (core.back (calls_of s)) ((calls_of s).unit u) (C.caller k) k
+  pub wants : (k : ℕ) → 0 < k → k ≤ C.sites → C.unit (C.caller k) ≡ u
+      → get_or t.wants.each.items k None ≡ core.asked_as C (core.back (calls_of s)) ((calls_of s).unit u) (C.caller k) k
   pub others : (k : ℕ) → 0 < k → k ≤ C.sites → (C.unit (C.caller k) ≡ u → ⊥) → get_or t.wants.each.items k None ≡ get_or s.wants.each.items k None
   pub recalls : (v : ℕ) → ((v ≡ u → ⊥) → Recalls C plan s v) → Recalls C plan t v
   pub cells : length t.kept.items ≡ length s.kept.items

@@ -11,6 +11,7 @@ use Rattle.safl_calls.proofs.Basics.{some_none}
 use Rattle.safl_calls.proofs.Locality.{answer_local, all_local}
 use Rattle.safl_evaluate.specs.declared.kept.Kept.{Kept}
 use Rattle.safl_evaluate.specs.Keeping.{cell, SelectsFirst, SelectsSecond, IsCell, Below, BelowIn}
+use Rattle.safl_evaluate.proofs.PlainByParts.{stands_not_body}
 use Rattle.safl_evaluate.proofs.RunsByParts.{not_wanted, not_wanted_in}
 
 abbrev Asks : Type 0
@@ -34,8 +35,9 @@ mutual
       → ((q : ℕ) → p < q → q < p + nodes t → cell W1 q ≡ cell W q) → ((k : ℕ) → Stands k t → get_or A1 k None ≡ get_or A k None) → Below B E A1 W1 p t
   below_frame B E A A1 W W1 p (Const w) h c a = tt
   below_frame B E A A1 W W1 p (Var i) h c a = tt
-  below_frame B E A A1 W W1 p (Op o ts) h c a = below_in_frame B E A A1 W W1 (p + 1) ts h (λ q x y. c q (omega (arith, x)) (omega (arith, y))) a
-  below_frame B E A A1 W W1 p (If d x y) h c a = (
+  below_frame B E A A1 W W1 p (Op o ts) h c a = λ calls. below_in_frame B E A A1 W W1 (p + 1) ts (h calls) (λ q x y. c q (omega (arith, x)) (omega
+      (arith, y))) a
+  below_frame B E A A1 W W1 p (If d x y) g c a = λ calls. let h = g calls in (
     (
       subst (λ (v : Kept). IsCell B E d v) (sym (c (p + 1) (omega arith) (omega (arith, own (p + 1) d)))) h.0.0,
       below_frame B E A A1 W W1 (p + 1) d
@@ -53,7 +55,7 @@ mutual
     ),
     λ s. record { none = λ k st. a k (inr (inr st)) ∙ (h.4 s).none k st },
   )
-  below_frame B E A A1 W W1 p (Let bs x) h c a = (
+  below_frame B E A A1 W W1 p (Let bs x) g c a = λ calls. let h = g calls in (
     below_in_frame B E A A1 W W1 (p + 1 + nodes x) bs h.0 (λ q m n. c q (omega (arith, m)) (omega (arith, n))) (λ k st. a k (inl st)),
     λ vs e. (
       subst (λ (v : Kept). IsCell B (E ++ vs) x v) (sym (c (p + 1) (omega arith) (omega (arith, own (p + 1) x)))) (h.1 vs e).0,
@@ -66,7 +68,8 @@ mutual
     a j (inl refl) ∙ h.0,
     below_in_frame B E A A1 W W1 (p + 1) ts h.1 (λ q m n. c q (omega (arith, m)) (omega (arith, n))) (λ k st. a k (inr st)),
   )
-  below_frame B E A A1 W W1 p (Loop m ts) h c a = below_in_frame B E A A1 W W1 (p + 1) ts h (λ q x y. c q (omega (arith, x)) (omega (arith, y))) a
+  below_frame B E A A1 W W1 p (Loop m ts) h c a = λ calls. below_in_frame B E A A1 W W1 (p + 1) ts (h calls) (λ q x y. c q (omega (arith, x)) (omega
+      (arith, y))) a
 
   pub below_in_frame : (B : ℕ → Option Word) (E : List Word) (A A1 : Asks) (W W1 : List Kept) (p : ℕ) (ts : Terms) → BelowIn B E A W p ts
       → ((q : ℕ) → p ≤ q → q < p + nodes_in ts → cell W1 q ≡ cell W q) → ((k : ℕ) → StandsIn k ts → get_or A1 k None ≡ get_or A k None) → BelowIn B E A1 W1 p ts
@@ -105,8 +108,9 @@ mutual
   pub below_local : (B B1 : ℕ → Option Word) (E : List Word) (A : Asks) (W : List Kept) (p : ℕ) (t : Term) → Below B E A W p t → ((k : ℕ) → Stands k t → B k ≡ B1 k) → Below B1 E A W p t
   below_local B B1 E A W p (Const w) h b = tt
   below_local B B1 E A W p (Var i) h b = tt
-  below_local B B1 E A W p (Op o ts) h b = below_in_local B B1 E A W (p + 1) ts h b
-  below_local B B1 E A W p (If d x y) h b =
+  below_local B B1 E A W p (Op o ts) h b = λ calls. below_in_local B B1 E A W (p + 1) ts (h calls) b
+  below_local B B1 E A W p (If d x y) g b = λ calls.
+      let h = g calls in
       let same : answer B1 E d ≡ answer B E d = sym (answer_local B B1 E d (λ k st. b k (inl st))) in (
         (cell_local B B1 E d (cell W (p + 1)) h.0.0 (λ k st. b k (inl st)), below_local B B1 E A W (p + 1) d h.0.1 (λ k st. b k (inl st))),
         λ s. (
@@ -121,14 +125,15 @@ mutual
         ),
         λ s. h.4 (λ z. s (subst (λ q. SelectsSecond q) (sym same) z)),
       )
-  below_local B B1 E A W p (Let bs x) h b =
+  below_local B B1 E A W p (Let bs x) g b = λ calls.
+      let h = g calls in
       let same : answers B E bs ≡ answers B1 E bs = all_local B B1 E bs (λ k st. b k (inl st)) in (
         below_in_local B B1 E A W (p + 1 + nodes x) bs h.0 (λ k st. b k (inl st)),
         λ vs e. (cell_local B B1 (E ++ vs) x (cell W (p + 1)) (h.1 vs (same ∙ e)).0 (λ k st. b k (inr st)), below_local B B1 (E ++ vs) A W (p + 1) x (h.1 vs (same ∙ e)).1 (λ k st. b k (inr st))),
         λ e. h.2 (same ∙ e),
       )
   below_local B B1 E A W p (Call f j ts) h b = (h.0 ∙ all_local B B1 E ts (λ k st. b k (inr st)), below_in_local B B1 E A W (p + 1) ts h.1 (λ k st. b k (inr st)))
-  below_local B B1 E A W p (Loop m ts) h b = below_in_local B B1 E A W (p + 1) ts h b
+  below_local B B1 E A W p (Loop m ts) h b = λ calls. below_in_local B B1 E A W (p + 1) ts (h calls) b
 
   pub below_in_local : (B B1 : ℕ → Option Word) (E : List Word) (A : Asks) (W : List Kept) (p : ℕ) (ts : Terms) → BelowIn B E A W p ts → ((k : ℕ) → StandsIn k ts → B k ≡ B1 k) → BelowIn B1 E A W p ts
   below_in_local B B1 E A W p Nil h b = tt
@@ -224,8 +229,8 @@ mutual
   pub asked_held : (B : ℕ → Option Word) (E : List Word) (A : Asks) (W : List Kept) (p : ℕ) (t : Term) → Once t → Below B E A W p t → (k : ℕ) → Stands k t → get_or A k None ≡ wanted B E t k
   asked_held B E A W p (Const w) once h k st = absurd st
   asked_held B E A W p (Var i) once h k st = absurd st
-  asked_held B E A W p (Op o ts) once h k st = asked_in_held B E A W (p + 1) ts once h k st
-  asked_held B E A W p (If d x y) once h k st = ⊎_elim
+  asked_held B E A W p (Op o ts) once h k st = asked_in_held B E A W (p + 1) ts once (h (stands_not_body k (Op o ts) st)) k st
+  asked_held B E A W p (If d x y) once g k st = let h = g (stands_not_body k (If d x y) st) in ⊎_elim
       (λ s. asked_held B E A W (p + 1) d once.0 h.0.1 k s ∙ sym
       (or_left (wanted B E d k) _ (ap (λ o. select (answer B E d) None o (wanted B E y k)) (not_wanted B E x k (λ z. once.3 k s (inl z))) ∙
       (ap (λ o. select (answer B E d) None None o) (not_wanted B E y k (λ z. once.3 k s (inr z))) ∙ select_same (answer B E d) None))))
@@ -244,7 +249,7 @@ mutual
       (second_or_not (answer B E d)))
       r)
       st
-  asked_held B E A W p (Let bs x) once h k st = ⊎_elim
+  asked_held B E A W p (Let bs x) once g k st = let h = g (stands_not_body k (Let bs x) st) in ⊎_elim
       (λ s. asked_in_held B E A W (p + 1 + nodes x) bs once.0 h.0 k s ∙ sym
       (or_left (wanted_in B E bs k) _ (none_with (answers B E bs) (λ vs. wanted B (E ++ vs) x k) (λ vs. not_wanted B (E ++ vs) x k (λ z. once.2 k s z)))))
       (λ s. by_bound B E A bs x k (λ vs e. asked_held B (E ++ vs) A W (p + 1) x once.1 (h.1 vs e).1 k s) (λ e. (h.2 e).none k s) (answers B E bs) refl
@@ -254,7 +259,7 @@ mutual
       (λ same. subst (λ n. get_or A n None ≡ cond (eqb j n) (answers B E ts) (wanted_in B E ts n)) same (h.0 ∙ sym (ap (λ b. cond b (answers B E ts) (wanted_in B E ts j)) (eq-eqb j j refl))))
       (λ ne. ⊎_elim (λ same. absurd (ne same)) (λ s. asked_in_held B E A W (p + 1) ts once.0 h.1 k s ∙ sym (ap (λ b. cond b (answers B E ts) (wanted_in B E ts k)) (ne_eqb j k ne))) st)
       (cases_eq j k)
-  asked_held B E A W p (Loop m ts) once h k st = asked_in_held B E A W (p + 1) ts once h k st
+  asked_held B E A W p (Loop m ts) once h k st = asked_in_held B E A W (p + 1) ts once (h (stands_not_body k (Loop m ts) st)) k st
 
   pub asked_in_held : (B : ℕ → Option Word) (E : List Word) (A : Asks) (W : List Kept) (p : ℕ) (ts : Terms) → OnceIn ts → BelowIn B E A W p ts →
       (k : ℕ) → StandsIn k ts → get_or A k None ≡ wanted_in B E ts k

@@ -1,5 +1,5 @@
 -- Where the nodes of a term lie, by its parts.
-use Rattle.std.proofs.Common.{◌≡◌, ℕ, ◌+◌, ◌<◌, ◌≤◌, ◌⊎◌, List, length, slice_set, inl, inr, sym, ap, ◌∙◌, subst, ⊎_elim, arith}
+use Rattle.std.proofs.Common.{◌≡◌, ℕ, ◌+◌, ◌<◌, ◌≤◌, ◌⊎◌, List, length, Bool, true, false, ◌&&◌, slice_set, inl, inr, sym, ap, ◌∙◌, subst, ⊎_elim, arith}
 use Rattle.std.proofs.lemmas.List.{get_or-set_other, get_or-set_same}
 use Rattle.safl_word.specs.Words.{Word}
 use Rattle.safl_word.specs.declared.primitive.Primitive.{Primitive}
@@ -74,44 +74,69 @@ outside_both h i = record { below = λ q m. i.below q m ∙ h.below q m; above =
 pub covered : {x y : Place} (k : ℕ) → Covers x y → (y.first ≤ k) × (k ≤ y.last) → (x.first ≤ k) × (k ≤ x.last)
 covered k c h = (omega (arith, c.first, h.0), omega (arith, c.last, h.1))
 
-pub place_if : {r ab a b d : Place} {p : ℕ} {c x y : Term} → IsPlace a (p + 1) c → IsPlace b (p + 1 + nodes c) x → IsPlace d (p + 1 + nodes c + nodes x) y
-    → Covers ab a → Covers ab b → Covers r ab → Covers r d → r.next ≡ d.next → IsPlace r p (If c x y)
+and_is : {a b x y : Bool} → a ≡ x → b ≡ y → (a && b) ≡ (x && y)
+and_is {a} {b} {x} {y} e f = ap (λ z. z && b) e ∙ ap (λ z. x && z) f
+
+pub place_if : {r bd a b d : Place} {p : ℕ} {c x y : Term} → IsPlace a (p + 1) c → IsPlace b (p + 1 + nodes c) x → IsPlace d (p + 1 + nodes c + nodes x) y
+    → Covers bd b → Covers bd d → Covers r a → Covers r bd → r.next ≡ bd.next → bd.next ≡ d.next
+    → bd.is_plain ≡ (b.is_plain && d.is_plain) → r.is_plain ≡ (a.is_plain && bd.is_plain)
+    → bd.is_plain_body ≡ (b.is_plain_body && d.is_plain_body) → r.is_plain_body ≡ (a.is_plain && bd.is_plain_body) → IsPlace r p (If c x y)
 unfolding Stands
-place_if {r} {ab} {a} {b} {d} {p} {c} {x} {y} ha hb hd ca cb cab cd e = record {
-  next = omega (arith, e, hd.next);
-  sites = λ k st. ⊎_elim (λ s. covered k cab (covered k ca (ha.sites k s))) (λ r. ⊎_elim (λ s. covered k cab (covered k cb (hb.sites k s))) (λ s. covered k cd (hd.sites k s)) r) st;
+place_if {r} {bd} {a} {b} {d} {p} {c} {x} {y} ha hb hd cb cd ca cbd e f g h i j = record {
+  next = omega (arith, e, f, hd.next);
+  plain = h ∙ and_is ha.plain (g ∙ and_is hb.plain hd.plain);
+  body = j ∙ and_is ha.plain (i ∙ and_is hb.body hd.body);
+  sites = λ k st. ⊎_elim (λ s. covered k ca (ha.sites k s)) (λ r. ⊎_elim (λ s. covered k cbd (covered k cb (hb.sites k s))) (λ s. covered k cbd (covered k cd
+      (hd.sites k s))) r) st;
 }
 
-pub place_let : {r a b : Place} {p : ℕ} {ts : Terms} {x : Term} → IsPlace a (p + 1) x → IsRoom b (p + 1 + nodes x) ts → Covers r a → Covers r b → r.next ≡ b.next → IsPlace r p (Let ts x)
+pub place_let : {r a b : Place} {p : ℕ} {ts : Terms} {x : Term} → IsPlace a (p + 1) x → IsRoom b (p + 1 + nodes x) ts → Covers r a → Covers r b
+    → r.next ≡ b.next
+    → r.is_plain ≡ (b.is_plain && a.is_plain) → r.is_plain_body ≡ (b.is_plain && a.is_plain_body) → IsPlace r p (Let ts x)
 unfolding Stands
-place_let {r} {a} {b} {p} {ts} {x} ha hb ca cb e = record {
+place_let {r} {a} {b} {p} {ts} {x} ha hb ca cb e f g = record {
   next = omega (arith, e, hb.next);
+  plain = f ∙ and_is hb.plain ha.plain;
+  body = g ∙ and_is hb.plain ha.body;
   sites = λ k st. ⊎_elim (λ s. covered k cb (hb.sites k s)) (λ s. covered k ca (ha.sites k s)) st;
 }
 
 pub place_op : {r : Place} {p : ℕ} {o : Primitive} {ts : Terms} → IsRoom r (p + 1) ts → IsPlace r p (Op o ts)
 unfolding Stands
-place_op h = record { next = omega (arith, h.next); sites = λ k st. h.sites k st }
+place_op h = record { next = omega (arith, h.next); plain = h.plain; body = h.body; sites = λ k st. h.sites k st }
 
-pub place_loop : {r : Place} {p m : ℕ} {ts : Terms} → IsRoom r (p + 1) ts → IsPlace r p (Loop m ts)
+pub place_loop : {r a : Place} {p m : ℕ} {ts : Terms} → IsRoom a (p + 1) ts → r ≡ record a { is_plain = false } → IsPlace r p (Loop m ts)
 unfolding Stands
-place_loop h = record { next = omega (arith, h.next); sites = λ k st. h.sites k st }
+place_loop {r} {a} {p} {m} {ts} h e = record {
+  next = omega (arith, ap (λ (x : Place). x.next) e, h.next);
+  plain = ap (λ (x : Place). x.is_plain) e;
+  body = ap (λ (x : Place). x.is_plain_body) e ∙ h.body;
+  sites = λ k st.
+      let s = h.sites k st in
+      (omega (arith, ap (λ (x : Place). x.first) e, s.0), omega (arith, ap (λ (x : Place). x.last) e, s.1));
+}
 
-pub place_call : {r a : Place} {p f j : ℕ} {ts : Terms} → IsRoom a (p + 1) ts → Covers r a → r.next ≡ a.next → r.first ≤ j → j ≤ r.last → IsPlace r p (Call f j ts)
+pub place_call : {r a : Place} {p f j : ℕ} {ts : Terms} → IsRoom a (p + 1) ts → Covers r a → r.next ≡ a.next → r.first ≤ j → j ≤ r.last → r.is_plain ≡ false
+    → r.is_plain_body ≡ false → IsPlace r p (Call f j ts)
 unfolding Stands
-place_call {r} {a} {p} {f} {j} {ts} h c e first last = record {
+place_call {r} {a} {p} {f} {j} {ts} h c e first last plain body = record {
   next = omega (arith, e, h.next);
+  plain = plain;
+  body = body;
   sites = λ k st. ⊎_elim (λ q. (omega (arith, first, q), omega (arith, last, q))) (λ s. covered k c (h.sites k s)) st;
 }
 
-pub room_nil : {r : Place} {p : ℕ} → r.next ≡ p → IsRoom r p Nil
+pub room_nil : {r : Place} {p : ℕ} → r.next ≡ p → r.is_plain ≡ true → r.is_plain_body ≡ true → IsRoom r p Nil
 unfolding StandsIn
-room_nil e = record { next = omega (arith, e); sites = λ k st. absurd st }
+room_nil e f g = record { next = omega (arith, e); plain = f; body = g; sites = λ k st. absurd st }
 
-pub room_more : {r a b : Place} {p : ℕ} {t : Term} {ts : Terms} → IsPlace a p t → IsRoom b (p + nodes t) ts → Covers r a → Covers r b → r.next ≡ b.next → IsRoom r p (Cons t ts)
+pub room_more : {r a b : Place} {p : ℕ} {t : Term} {ts : Terms} → IsPlace a p t → IsRoom b (p + nodes t) ts → Covers r a → Covers r b → r.next ≡ b.next
+    → r.is_plain ≡ (a.is_plain && b.is_plain) → r.is_plain_body ≡ (a.is_plain && b.is_plain_body) → IsRoom r p (Cons t ts)
 unfolding StandsIn
-room_more {r} {a} {b} {p} {t} {ts} ha hb ca cb e = record {
+room_more {r} {a} {b} {p} {t} {ts} ha hb ca cb e f g = record {
   next = omega (arith, e, hb.next);
+  plain = f ∙ and_is ha.plain hb.plain;
+  body = g ∙ and_is ha.plain hb.body;
   sites = λ k st. ⊎_elim (λ s. covered k ca (ha.sites k s)) (λ s. covered k cb (hb.sites k s)) st;
 }
 
@@ -202,10 +227,10 @@ pub in_nil : (P : List Place) (p : ℕ) → LaidIn P p Nil
 unfolding LaidIn
 in_nil P p = tt
 
-pub place_const : {r : Place} {p : ℕ} {w : Word} → r.next ≡ p + 1 → IsPlace r p (Const w)
+pub place_const : {r : Place} {p : ℕ} {w : Word} → r.next ≡ p + 1 → r.is_plain ≡ true → r.is_plain_body ≡ true → IsPlace r p (Const w)
 unfolding Stands
-place_const e = record { next = omega (arith, e); sites = λ k st. absurd st }
+place_const e f g = record { next = omega (arith, e); plain = f; body = g; sites = λ k st. absurd st }
 
-pub place_var : {r : Place} {p i : ℕ} → r.next ≡ p + 1 → IsPlace r p (Var i)
+pub place_var : {r : Place} {p i : ℕ} → r.next ≡ p + 1 → r.is_plain ≡ true → r.is_plain_body ≡ true → IsPlace r p (Var i)
 unfolding Stands
-place_var e = record { next = omega (arith, e); sites = λ k st. absurd st }
+place_var e f g = record { next = omega (arith, e); plain = f; body = g; sites = λ k st. absurd st }

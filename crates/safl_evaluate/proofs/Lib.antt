@@ -1,6 +1,7 @@
 pub mod Refilled
 pub mod RunsByParts
 pub mod AnswersByParts
+pub mod PlainByParts
 pub mod HeldByParts
 pub mod LaidByParts
 pub mod LooksByParts

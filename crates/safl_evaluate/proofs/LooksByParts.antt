@@ -18,10 +18,12 @@ use Rattle.safl_evaluate.specs.declared.kept.Kept.{Kept}
 use Rattle.safl_evaluate.specs.declared.places.Place.{Place}
 use Rattle.safl_evaluate.specs.declared.stage.Stage.{Stage}
 use Rattle.safl_evaluate.specs.Evaluating.{Unasked, UnaskedIn}
-use Rattle.safl_evaluate.specs.Keeping.{is_open, cell, SelectsFirst, SelectsSecond, Below, BelowIn, Holds, without, Stood, StoodIn, Only, MayLook, MayLookAll, Finds, FindsAll}
+use Rattle.safl_evaluate.specs.Keeping.{is_open, cell, SelectsFirst, SelectsSecond, Below, BelowIn, Holds, without, Stood, StoodIn, IsAnew, Only, MayLook, MayLookAll, Finds, FindsAll}
 use Rattle.safl_evaluate.specs.Laying.{place, LaidIn, LaidBelow}
+use Rattle.safl_evaluate.specs.Plain.{plain_term, plain_body, CanCompute, CanConclude}
 use Rattle.safl_evaluate.specs.Stages.{back_at}
 use Rattle.safl_evaluate.proofs.HeldByParts.{holds_frame, below_in_frame}
+use Rattle.safl_evaluate.proofs.PlainByParts.{stands_not_body, not_body}
 use Rattle.safl_evaluate.proofs.RunsByParts as may
 use Rattle.safl_evaluate.proofs.RunsByParts.{can_is, can_all_is, once, once_in}
 
@@ -127,30 +129,31 @@ pub none_second : (q : Answer) → None ≡ word_of q → SelectsSecond q → �
 none_second q e s = some_none s.0 (sym (e ∙ ap word_of s.1))
 
 module _ (B : ℕ → Option Word) (E : List Word) (A : Asks) (W : List Kept) (p : ℕ) where
-  pub stood_condition : (news : Option ℕ) (c a b : Term) → Stood B news E A W p (If c a b) → Stood B news E A W (p + 1) c
+  pub stood_condition : (news : Option ℕ) (c a b : Term) → IsAnew news (If c a b) → Stood B news E A W p (If c a b) → Stood B news E A W (p + 1) c
   unfolding Below BelowIn Stands StandsIn Once OnceIn
-  stood_condition None c a b h = may.unasked_condition c a b h
-  stood_condition (Some k) c a b h = h.1.0
+  stood_condition None c a b anew h = may.unasked_condition c a b h
+  stood_condition (Some k) c a b anew h = (h.1 (not_body k (If c a b) anew)).0
 
-  pub stood_bound : (news : Option ℕ) (ts : Terms) (b : Term) → Stood B news E A W p (Let ts b) → StoodIn B news E A W (p + 1 + nodes b) ts
+  pub stood_bound : (news : Option ℕ) (ts : Terms) (b : Term) → IsAnew news (Let ts b) → Stood B news E A W p (Let ts b)
+      → StoodIn B news E A W (p + 1 + nodes b) ts
   unfolding Below BelowIn Stands StandsIn Once OnceIn
-  stood_bound None ts b h = may.unasked_bound ts b h
-  stood_bound (Some k) ts b h = h.1.0
+  stood_bound None ts b anew h = may.unasked_bound ts b h
+  stood_bound (Some k) ts b anew h = (h.1 (not_body k (Let ts b) anew)).0
 
-  pub stood_op : (news : Option ℕ) (o : Primitive) (ts : Terms) → Stood B news E A W p (Op o ts) → StoodIn B news E A W (p + 1) ts
+  pub stood_op : (news : Option ℕ) (o : Primitive) (ts : Terms) → IsAnew news (Op o ts) → Stood B news E A W p (Op o ts) → StoodIn B news E A W (p + 1) ts
   unfolding Below BelowIn Stands StandsIn Once OnceIn
-  stood_op None o ts h = may.unasked_op o ts h
-  stood_op (Some k) o ts h = h.1
+  stood_op None o ts anew h = may.unasked_op o ts h
+  stood_op (Some k) o ts anew h = h.1 (not_body k (Op o ts) anew)
 
   pub stood_call : (news : Option ℕ) (f j : ℕ) (ts : Terms) → Stood B news E A W p (Call f j ts) → StoodIn B news E A W (p + 1) ts
   unfolding Below BelowIn Stands StandsIn Once OnceIn
   stood_call None f j ts h = may.unasked_call f j ts h
   stood_call (Some k) f j ts h = h.1.1
 
-  pub stood_loop : (news : Option ℕ) (m : ℕ) (ts : Terms) → Stood B news E A W p (Loop m ts) → StoodIn B news E A W (p + 1) ts
+  pub stood_loop : (news : Option ℕ) (m : ℕ) (ts : Terms) → IsAnew news (Loop m ts) → Stood B news E A W p (Loop m ts) → StoodIn B news E A W (p + 1) ts
   unfolding Below BelowIn Stands StandsIn Once OnceIn
-  stood_loop None m ts h = may.unasked_loop m ts h
-  stood_loop (Some k) m ts h = h.1
+  stood_loop None m ts anew h = may.unasked_loop m ts h
+  stood_loop (Some k) m ts anew h = h.1 (not_body k (Loop m ts) anew)
 
   pub stood_first : (news : Option ℕ) (t : Term) (ts : Terms) → StoodIn B news E A W p (Cons t ts) → Stood B news E A W p t
   unfolding Below BelowIn Stands StandsIn Once OnceIn
@@ -173,30 +176,34 @@ module _ (B : ℕ → Option Word) (E : List Word) (A : Asks) (W : List Kept) (p
       by (Some vs) e = absurd (off vs (grown_all B E k ts vs e))
 
   -- what was not selected was not asked for
-  pub rest_second : (news : Option ℕ) (c a b : Term) → Stood B news E A W p (If c a b) → (SelectsSecond (answer B E c) → ⊥) → Unasked A b
+  pub rest_second : (news : Option ℕ) (c a b : Term) → plain_body (If c a b) ≡ false → Stood B news E A W p (If c a b) → (SelectsSecond (answer B E c) → ⊥)
+      → Unasked A b
   unfolding Below BelowIn Stands StandsIn Once OnceIn
-  rest_second None c a b h off = record { none = λ k st. h.none k (inr (inr st)) }
-  rest_second (Some k) c a b h off = h.1.4 (λ s. off (selected_second B E k c s))
+  rest_second None c a b calls h off = record { none = λ k st. h.none k (inr (inr st)) }
+  rest_second (Some k) c a b calls h off = (h.1 calls).4 (λ s. off (selected_second B E k c s))
 
-  pub rest_first : (news : Option ℕ) (c a b : Term) → Stood B news E A W p (If c a b) → (SelectsFirst (answer B E c) → ⊥) → Unasked A a
+  pub rest_first : (news : Option ℕ) (c a b : Term) → plain_body (If c a b) ≡ false → Stood B news E A W p (If c a b) → (SelectsFirst (answer B E c) → ⊥)
+      → Unasked A a
   unfolding Below BelowIn Stands StandsIn Once OnceIn
-  rest_first None c a b h off = record { none = λ k st. h.none k (inr (inl st)) }
-  rest_first (Some k) c a b h off = h.1.2 (λ s. off (selected_first B E k c s))
+  rest_first None c a b calls h off = record { none = λ k st. h.none k (inr (inl st)) }
+  rest_first (Some k) c a b calls h off = (h.1 calls).2 (λ s. off (selected_first B E k c s))
 
-  pub rest_body : (news : Option ℕ) (ts : Terms) (b : Term) → Stood B news E A W p (Let ts b) → answers B E ts ≡ None → Unasked A b
+  pub rest_body : (news : Option ℕ) (ts : Terms) (b : Term) → plain_body (Let ts b) ≡ false → Stood B news E A W p (Let ts b) → answers B E ts ≡ None
+      → Unasked A b
   unfolding Below BelowIn Stands StandsIn Once OnceIn
-  rest_body None ts b h none = record { none = λ k st. h.none k (inr st) }
-  rest_body (Some k) ts b h none = by (answers (without B k) E ts) refl
+  rest_body None ts b calls h none = record { none = λ k st. h.none k (inr st) }
+  rest_body (Some k) ts b calls h none = by (answers (without B k) E ts) refl
     where
       by : (o : Option (List Word)) → answers (without B k) E ts ≡ o → Unasked A b
-      by None e = h.1.2 e
+      by None e = (h.1 calls).2 e
       by (Some vs) e = absurd (some_none vs (sym (grown_all B E k ts vs e) ∙ none))
 
   module _ {A1 : Asks} {W1 : List Kept} where
-    pub stood_then : (news : Option ℕ) (c a b : Term) → Once (If c a b) → Stood B news E A W p (If c a b) → SelectsFirst (answer B E c) → Only (p + 1) (p + 1 + nodes c) (λ k. Stands k c) A A1 W W1
+    pub stood_then : (news : Option ℕ) (c a b : Term) → IsAnew news (If c a b) → Once (If c a b) → Stood B news E A W p (If c a b)
+        → SelectsFirst (answer B E c) → Only (p + 1) (p + 1 + nodes c) (λ k. Stands k c) A A1 W W1
         → Stood B (cond (is_open (cell W1 p)) news None) E A1 W1 (p + 1 + nodes c) a
     unfolding Below BelowIn Stands StandsIn Once OnceIn
-    stood_then None c a b once h s o = by (is_open (cell W1 p))
+    stood_then None c a b anew once h s o = by (is_open (cell W1 p))
       where
         fresh : Unasked A1 a
         fresh = unasked_still o (record { none = λ k st. h.none k (inr (inl st)) }) (λ k st z. once.3 k z (inl st))
@@ -204,16 +211,19 @@ module _ (B : ℕ → Option Word) (E : List Word) (A : Asks) (W : List Kept) (p
         by : (x : Bool) → Stood B (cond x None None) E A1 W1 (p + 1 + nodes c) a
         by true = fresh
         by false = fresh
-    stood_then (Some k) c a b once h s o = by (is_open (cell W1 p)) (ap is_open (o.below p (omega arith)) ∙ h.0.1)
+    stood_then (Some k) c a b anew once h s o = by (is_open (cell W1 p)) (ap is_open (o.below p (omega arith)) ∙ h.0.1)
       where
         by : (x : Bool) → x ≡ is_some (word_of (answer (without B k) E c)) → Stood B (cond x (Some k) None) E A1 W1 (p + 1 + nodes c) a
-        by true e = holds_still o (without B k) E _ _ (h.1.1 (was_first B E k c s (sym e))) (inr (omega arith)) (λ j st z. once.3 j z (inl st))
-        by false e = unasked_still o (h.1.2 (λ z. false≢true (e ∙ ap (λ q. is_some (word_of q)) z.1))) (λ j st z. once.3 j z (inl st))
+        by true e = holds_still o (without B k) E _ _ ((h.1 (not_body k (If c a b) anew)).1 (was_first B E k c s (sym e))) (inr (omega arith))
+            (λ j st z. once.3 j z (inl st))
+        by false e = unasked_still o ((h.1 (not_body k (If c a b) anew)).2 (λ z. false≢true (e
+            ∙ ap (λ q. is_some (word_of q)) z.1))) (λ j st z. once.3 j z (inl st))
 
-    pub stood_else : (news : Option ℕ) (c a b : Term) → Once (If c a b) → Stood B news E A W p (If c a b) → SelectsSecond (answer B E c) → Only (p + 1) (p + 1 + nodes c) (λ k. Stands k c) A A1 W W1
+    pub stood_else : (news : Option ℕ) (c a b : Term) → IsAnew news (If c a b) → Once (If c a b) → Stood B news E A W p (If c a b)
+        → SelectsSecond (answer B E c) → Only (p + 1) (p + 1 + nodes c) (λ k. Stands k c) A A1 W W1
         → Stood B (cond (is_open (cell W1 p)) news None) E A1 W1 (p + 1 + nodes c + nodes a) b
     unfolding Below BelowIn Stands StandsIn Once OnceIn
-    stood_else None c a b once h s o = by (is_open (cell W1 p))
+    stood_else None c a b anew once h s o = by (is_open (cell W1 p))
       where
         fresh : Unasked A1 b
         fresh = unasked_still o (record { none = λ k st. h.none k (inr (inr st)) }) (λ k st z. once.3 k z (inr st))
@@ -221,17 +231,20 @@ module _ (B : ℕ → Option Word) (E : List Word) (A : Asks) (W : List Kept) (p
         by : (x : Bool) → Stood B (cond x None None) E A1 W1 (p + 1 + nodes c + nodes a) b
         by true = fresh
         by false = fresh
-    stood_else (Some k) c a b once h s o = by (is_open (cell W1 p)) (ap is_open (o.below p (omega arith)) ∙ h.0.1)
+    stood_else (Some k) c a b anew once h s o = by (is_open (cell W1 p)) (ap is_open (o.below p (omega arith)) ∙ h.0.1)
       where
         by : (x : Bool) → x ≡ is_some (word_of (answer (without B k) E c)) → Stood B (cond x (Some k) None) E A1 W1 (p + 1 + nodes c + nodes a) b
-        by true e = holds_still o (without B k) E _ _ (h.1.3 (was_second B E k c s (sym e))) (inr (omega arith)) (λ j st z. once.3 j z (inr st))
-        by false e = unasked_still o (h.1.4 (λ z. false≢true (e ∙ ap (λ q. is_some (word_of q)) z.1))) (λ j st z. once.3 j z (inr st))
+        by true e = holds_still o (without B k) E _ _ ((h.1 (not_body k (If c a b) anew)).3 (was_second B E k c s (sym e))) (inr (omega arith))
+            (λ j st z. once.3 j z (inr st))
+        by false e = unasked_still o ((h.1 (not_body k (If c a b) anew)).4 (λ z. false≢true (e
+            ∙ ap (λ q. is_some (word_of q)) z.1))) (λ j st z. once.3 j z (inr st))
 
-    pub stood_body : (news : Option ℕ) (ts : Terms) (b : Term) (vs : List Word) → Once (Let ts b) → Stood B news E A W p (Let ts b) → answers B E ts ≡
+    pub stood_body : (news : Option ℕ) (ts : Terms) (b : Term) (vs : List Word) → IsAnew news (Let ts b) → Once (Let ts b) → Stood B news E A W p (Let ts b)
+        → answers B E ts ≡
         Some vs → Only (p + 1 + nodes b) (p + 1 + nodes b + nodes_in ts) (λ k. StandsIn k ts) A A1 W W1
         → Stood B (cond (is_open (cell W1 p)) news None) (E ++ vs) A1 W1 (p + 1) b
     unfolding Below BelowIn Stands StandsIn Once OnceIn
-    stood_body None ts b vs once h s o = by (is_open (cell W1 p))
+    stood_body None ts b vs anew once h s o = by (is_open (cell W1 p))
       where
         fresh : Unasked A1 b
         fresh = unasked_still o (record { none = λ k st. h.none k (inr st) }) (λ k st z. once.2 k z st)
@@ -239,15 +252,16 @@ module _ (B : ℕ → Option Word) (E : List Word) (A : Asks) (W : List Kept) (p
         by : (x : Bool) → Stood B (cond x None None) (E ++ vs) A1 W1 (p + 1) b
         by true = fresh
         by false = fresh
-    stood_body (Some k) ts b vs once h s o = by (is_open (cell W1 p)) (ap is_open (o.below p (omega arith)) ∙ h.0.1)
+    stood_body (Some k) ts b vs anew once h s o = by (is_open (cell W1 p)) (ap is_open (o.below p (omega arith)) ∙ h.0.1)
       where
         with : (x : Option (List Word)) → answers (without B k) E ts ≡ x → is_some x ≡ true → answers (without B k) E ts ≡ Some vs
         with None q e = absurd (false≢true e)
         with (Some us) q e = q ∙ (sym (grown_all B E k ts us q) ∙ s)
 
         by : (x : Bool) → x ≡ is_some (answers (without B k) E ts) → Stood B (cond x (Some k) None) (E ++ vs) A1 W1 (p + 1) b
-        by true e = holds_still o (without B k) (E ++ vs) _ _ (h.1.1 vs (with (answers (without B k) E ts) refl (sym e))) (inl (omega arith)) (λ j st z. once.2 j z st)
-        by false e = unasked_still o (h.1.2 (none (answers (without B k) E ts) (sym e))) (λ j st z. once.2 j z st)
+        by true e = holds_still o (without B k) (E ++ vs) _ _ ((h.1 (not_body k (Let ts b) anew)).1 vs (with (answers (without B k) E ts) refl (sym e))) (inl
+            (omega arith)) (λ j st z. once.2 j z st)
+        by false e = unasked_still o ((h.1 (not_body k (Let ts b) anew)).2 (none (answers (without B k) E ts) (sym e))) (λ j st z. once.2 j z st)
           where
             none : (y : Option (List Word)) → is_some y ≡ false → y ≡ None
             none None q = refl
@@ -269,42 +283,67 @@ module _ {S : List Stage} {P : List Place} {A : Asks} {F : List Word} {W : List 
   pub look_all_is : {n p : ℕ} {news : Option ℕ} {ts us : Terms} → ts ≡ us → MayLookAll S P A F W n p news ts → MayLookAll S P A F W n p news us
   look_all_is {n} {p} {news} e h = subst (λ x. MayLookAll S P A F W n p news x) e h
 
+-- a term that may be looked at, and is plain, may be computed
+pub may_compute : {S : List Stage} {P : List Place} {A : Asks} {F : List Word} {W : List Kept} {n p : ℕ} {news : Option ℕ} {t : Term} →
+    MayLook S P A F W n p news t → plain_term t ≡ true → CanCompute F n t
+may_compute {S} {P} {A} h e = record { stages = S; sites = length A; can = h.can; room = h.room; plain = e }
+
+pub may_conclude : {S : List Stage} {P : List Place} {A : Asks} {F : List Word} {W : List Kept} {n p : ℕ} {news : Option ℕ} {t : Term} →
+    MayLook S P A F W n p news t → plain_body t ≡ true → CanConclude F n t
+may_conclude {S} {P} {A} h e = record { stages = S; sites = length A; can = h.can; room = h.room; plain = e }
+
+-- of the parts of a plain body nothing is kept
+pub may_anew : {S : List Stage} {P : List Place} {A : Asks} {F : List Word} {W : List Kept} {n p : ℕ} {news : Option ℕ} {t : Term} {flag : Bool} →
+    MayLook S P A F W n p news t → flag ≡ plain_body t → MayLook S P A F W n p (cond flag None news) t
+may_anew {S} {P} {A} {F} {W} {n} {p} {news} {t} {flag} h e = record {
+  can = h.can;
+  room = h.room;
+  laid = h.laid;
+  places = h.places;
+  cells = h.cells;
+  stood = by flag e;
+}
+  where
+    by : (b : Bool) → b ≡ plain_body t → Stood (back_at S) (cond b None news) (take n F) A W p t
+    by true q = record { none = λ k st. absurd (false≢true (sym (stands_not_body k t st) ∙ sym q)) }
+    by false q = h.stood
+
 -- the first words of a table, by their number under another name
 pub kept_at : {m n : ℕ} (F G : List Word) → m ≡ n → take m G ≡ take m F → take n G ≡ take n F
 kept_at {m} {n} F G e h = subst (λ i. take i G ≡ take i F) e h
 
 module _ {S : List Stage} {P : List Place} {A : Asks} {F : List Word} {W : List Kept} {n p : ℕ} {news : Option ℕ} where
-  pub may_condition : {c a b : Term} → MayLook S P A F W n p news (If c a b) → MayLook S P A F W n (p + 1) news c
+  pub may_condition : {c a b : Term} → IsAnew news (If c a b) → MayLook S P A F W n p news (If c a b) → MayLook S P A F W n (p + 1) news c
   unfolding LaidBelow LaidIn
-  may_condition {c} {a} {b} h = record {
+  may_condition {c} {a} {b} anew h = record {
     can = may.can_condition c a b h.can;
     room = omega (arith, h.room);
     laid = h.laid.1.0;
     places = omega (arith, h.places);
     cells = omega (arith, h.cells);
-    stood = stood_condition (back_at S) (take n F) A W p news c a b h.stood;
+    stood = stood_condition (back_at S) (take n F) A W p news c a b anew h.stood;
   }
 
-  pub may_bound : {ts : Terms} {b : Term} → MayLook S P A F W n p news (Let ts b) → MayLookAll S P A F W n (p + 1 + nodes b) news ts
+  pub may_bound : {ts : Terms} {b : Term} → IsAnew news (Let ts b) → MayLook S P A F W n p news (Let ts b) → MayLookAll S P A F W n (p + 1 + nodes b) news ts
   unfolding LaidBelow LaidIn
-  may_bound {ts} {b} h = record {
+  may_bound {ts} {b} anew h = record {
     can = may.can_bound ts b h.can;
     room = omega (arith, h.room);
     laid = h.laid.1.0;
     places = omega (arith, h.places);
     cells = omega (arith, h.cells);
-    stood = stood_bound (back_at S) (take n F) A W p news ts b h.stood;
+    stood = stood_bound (back_at S) (take n F) A W p news ts b anew h.stood;
   }
 
-  pub may_op : {o : Primitive} {ts : Terms} → MayLook S P A F W n p news (Op o ts) → MayLookAll S P A F W n (p + 1) news ts
+  pub may_op : {o : Primitive} {ts : Terms} → IsAnew news (Op o ts) → MayLook S P A F W n p news (Op o ts) → MayLookAll S P A F W n (p + 1) news ts
   unfolding LaidBelow LaidIn
-  may_op {o} {ts} h = record {
+  may_op {o} {ts} anew h = record {
     can = may.can_op o ts h.can;
     room = omega (arith, h.room);
     laid = h.laid.1;
     places = omega (arith, h.places);
     cells = omega (arith, h.cells);
-    stood = stood_op (back_at S) (take n F) A W p news o ts h.stood;
+    stood = stood_op (back_at S) (take n F) A W p news o ts anew h.stood;
   }
 
   pub may_call : {f j : ℕ} {ts : Terms} → MayLook S P A F W n p news (Call f j ts) → MayLookAll S P A F W n (p + 1) news ts
@@ -318,15 +357,15 @@ module _ {S : List Stage} {P : List Place} {A : Asks} {F : List Word} {W : List 
     stood = stood_call (back_at S) (take n F) A W p news f j ts h.stood;
   }
 
-  pub may_loop : {m : ℕ} {ts : Terms} → MayLook S P A F W n p news (Loop m ts) → MayLookAll S P A F W n (p + 1) news ts
+  pub may_loop : {m : ℕ} {ts : Terms} → IsAnew news (Loop m ts) → MayLook S P A F W n p news (Loop m ts) → MayLookAll S P A F W n (p + 1) news ts
   unfolding LaidBelow LaidIn
-  may_loop {m} {ts} h = record {
+  may_loop {m} {ts} anew h = record {
     can = may.can_loop m ts h.can;
     room = omega (arith, h.room);
     laid = h.laid.1;
     places = omega (arith, h.places);
     cells = omega (arith, h.cells);
-    stood = stood_loop (back_at S) (take n F) A W p news m ts h.stood;
+    stood = stood_loop (back_at S) (take n F) A W p news m ts anew h.stood;
   }
 
   pub may_first : {t : Term} {ts : Terms} → MayLookAll S P A F W n p news (Cons t ts) → MayLook S P A F W n p news t
@@ -365,43 +404,46 @@ module _ {S : List Stage} {P : List Place} {A : Asks} {F : List Word} {W : List 
   after_first h = h.laid.0.0.next
 
   module _ {A1 : Asks} {F1 : List Word} {W1 : List Kept} (la : length A1 ≡ length A) (lf : length F1 ≡ length F) (lw : length W1 ≡ length W) (kept : take n F1 ≡ take n F) where
-    pub may_then : {c a b : Term} (v : Word) → MayLook S P A F W n p news (If c a b) → Finds S A A1 F W W1 n (p + 1) c (Some v) → v.bits ≡ 1
+    pub may_then : {c a b : Term} (v : Word) → IsAnew news (If c a b) → MayLook S P A F W n p news (If c a b) → Finds S A A1 F W W1 n (p + 1) c (Some v)
+        → v.bits ≡ 1
         → {m q : ℕ} {x : Option ℕ} → m ≡ n → q ≡ p + 1 + nodes c → x ≡ cond (is_open (cell W1 p)) news None → MayLook S P A1 F1 W1 m q x a
     unfolding LaidBelow LaidIn Once OnceIn
-    may_then {c} {a} {b} v h fc one d e f = look_at d e f (record {
+    may_then {c} {a} {b} v anew h fc one d e f = look_at d e f (record {
       can = can_is (sym la) (sym kept) refl (may.can_then c a b h.can);
       room = omega (arith, h.room, lf);
       laid = h.laid.1.1;
       places = omega (arith, h.places);
       cells = omega (arith, h.cells, lw);
       stood = subst (λ l. Stood (back_at S) (cond (is_open (cell W1 p)) news None) l A1 W1 (p + 1 + nodes c) a) (sym kept)
-          (stood_then (back_at S) (take n F) A W p news c a b (once (If c a b) h.can) h.stood (v, found_ready _ v fc.word, one) fc.only);
+          (stood_then (back_at S) (take n F) A W p news c a b anew (once (If c a b) h.can) h.stood (v, found_ready _ v fc.word, one) fc.only);
     })
 
-    pub may_else : {c a b : Term} (v : Word) → MayLook S P A F W n p news (If c a b) → Finds S A A1 F W W1 n (p + 1) c (Some v) → (v.bits ≡ 1 → ⊥)
+    pub may_else : {c a b : Term} (v : Word) → IsAnew news (If c a b) → MayLook S P A F W n p news (If c a b) → Finds S A A1 F W W1 n (p + 1) c (Some v)
+        → (v.bits ≡ 1 → ⊥)
         → {m q : ℕ} {x : Option ℕ} → m ≡ n → q ≡ p + 1 + nodes c + nodes a → x ≡ cond (is_open (cell W1 p)) news None → MayLook S P A1 F1 W1 m q x b
     unfolding LaidBelow LaidIn Once OnceIn
-    may_else {c} {a} {b} v h fc other d e f = look_at d e f (record {
+    may_else {c} {a} {b} v anew h fc other d e f = look_at d e f (record {
       can = can_is (sym la) (sym kept) refl (may.can_else c a b h.can);
       room = omega (arith, h.room, lf);
       laid = h.laid.1.2;
       places = omega (arith, h.places);
       cells = omega (arith, h.cells, lw);
       stood = subst (λ l. Stood (back_at S) (cond (is_open (cell W1 p)) news None) l A1 W1 (p + 1 + nodes c + nodes a) b) (sym kept)
-          (stood_else (back_at S) (take n F) A W p news c a b (once (If c a b) h.can) h.stood (v, found_ready _ v fc.word, other) fc.only);
+          (stood_else (back_at S) (take n F) A W p news c a b anew (once (If c a b) h.can) h.stood (v, found_ready _ v fc.word, other) fc.only);
     })
 
-    pub may_body : {ts : Terms} {b : Term} (vs : List Word) → MayLook S P A F W n p news (Let ts b) → FindsAll S A A1 F W W1 n (p + 1 + nodes b) ts (Some vs)
+    pub may_body : {ts : Terms} {b : Term} (vs : List Word) → IsAnew news (Let ts b) → MayLook S P A F W n p news (Let ts b)
+        → FindsAll S A A1 F W W1 n (p + 1 + nodes b) ts (Some vs)
         → {m q : ℕ} {x : Option ℕ} → take m F1 ≡ take n F ++ vs → m + nodes b ≤ length F → q ≡ p + 1 → x ≡ cond (is_open (cell W1 p)) news None → MayLook S P A1 F1 W1 m q x b
     unfolding LaidBelow LaidIn Once OnceIn
-    may_body {ts} {b} vs h fs {m} d room e f = look_at refl e f (record {
+    may_body {ts} {b} vs anew h fs {m} d room e f = look_at refl e f (record {
       can = can_is (sym la) (sym d) refl (may.can_body ts b vs h.can fs.words);
       room = omega (arith, room, lf);
       laid = (h.laid.1.1, h.laid.1.2);
       places = omega (arith, h.places);
       cells = omega (arith, h.cells, lw);
       stood = subst (λ l. Stood (back_at S) (cond (is_open (cell W1 p)) news None) l A1 W1 (p + 1) b) (sym d)
-          (stood_body (back_at S) (take n F) A W p news ts b vs (once (Let ts b) h.can) h.stood fs.words fs.only);
+          (stood_body (back_at S) (take n F) A W p news ts b vs anew (once (Let ts b) h.can) h.stood fs.words fs.only);
     })
 
     pub may_rest : {t : Term} {ts : Terms} {o : Option Word} → MayLookAll S P A F W n p news (Cons t ts) → Finds S A A1 F W W1 n p t o

@@ -1,11 +1,11 @@
 -- What is found of a term, by what is found of its parts.
 use Rattle.std.proofs.Common.{◌≡◌, ℕ, ◌+◌, ◌<◌, ◌≤◌, List, [], ◌∷◌, ◌++◌, length, take, Option, Some, None, Bool, true, false, cond, is_some, get_or}
 use Rattle.std.proofs.Common.{slice_set, inl, inr, refl, sym, ap, ◌∙◌, subst, arith}
-use Rattle.std.proofs.lemmas.Bool.{ne_eqb}
+use Rattle.std.proofs.lemmas.Bool.{ne_eqb, false≢true}
 use Rattle.std.proofs.lemmas.List.{get_or-set_other, get_or-set_same}
 use Rattle.safl_word.specs.Words.{Word}
 use Rattle.safl_word.specs.declared.primitive.Primitive.{Primitive}
-use Rattle.safl_term.specs.Readiness.{answer, answers, word_of, apply_to}
+use Rattle.safl_term.specs.Readiness.{Answer, Ready, LoopTo, NotYet, answer, answers, word_of, apply_to, select, with_all}
 use Rattle.safl_term.specs.Sizes.{nodes, nodes_in}
 use Rattle.safl_term.specs.Standing.{Stands, StandsIn}
 use Rattle.safl_term.specs.Terms.{Term, Const, Var, Op, If, Let, Call, Loop, Terms, Nil, Cons}
@@ -19,9 +19,11 @@ use Rattle.safl_evaluate.specs.declared.stage.Stage.{Stage}
 use Rattle.safl_evaluate.specs.Finding.{cell_of, if_open, if_ready, is_ready}
 use Rattle.safl_evaluate.specs.Keeping.{word_kept, is_open, cell, SelectsFirst, SelectsSecond, IsCell, Below, BelowIn, Holds, without, Stood, Only}
 use Rattle.safl_evaluate.specs.Keeping.{MayLook, MayLookAll, opened_with, Looks, Finds, FindsAll}
+use Rattle.safl_evaluate.specs.Plain.{plain_term, plain_body, ComesTo, ConcludesIn}
 use Rattle.safl_evaluate.specs.Stages.{back_at}
 use Rattle.safl_evaluate.proofs.AnswersByParts as step
 use Rattle.safl_evaluate.proofs.HeldByParts.{holds_local, below_frame}
+use Rattle.safl_evaluate.proofs.PlainByParts.{two_words, concludes_word, plain_is_body}
 use Rattle.safl_evaluate.proofs.LooksByParts as part
 use Rattle.safl_evaluate.proofs.LooksByParts.{only_none, only_more, only_both, only_own, holds_still, below_in_still, unasked_still, either_branch}
 use Rattle.safl_evaluate.proofs.LooksByParts.{none_first, none_second, found_ready, rest_first, rest_second, rest_body}
@@ -54,21 +56,20 @@ kept_word v found.TheVariants.Shut r e = ap (λ b. cond b (Some v) None) e
 pub finds_with : {S : List Stage} {A A1 : Asks} {F : List Word} {W W1 : List Kept} {n p : ℕ} {t : Term} {o r : Option Word} → o ≡ r → Finds S A A1 F W W1 n p t r → Finds S A A1 F W W1 n p t o
 finds_with {S} {A} {A1} {F} {W} {W1} {n} {p} {t} {o} {r} e h = subst (λ z. Finds S A A1 F W W1 n p t z) (sym e) h
 
--- the first words of a table of two
+-- the first word of a table of two
 pub one_word : (ws : List Word) (r : Bool) (v : Word) → length ws ≡ 2 → cond r (Some (take 1 (slice_set ws 0 v))) None ≡ cond r (Some (v ∷ [])) None
 one_word [] r v e = absurd (omega (arith, e))
 one_word (w ∷ ws) r v e = refl
-
-pub two_words : (ws : List Word) (v w : Word) → length ws ≡ 2 → take 2 (slice_set (slice_set ws 0 v) 1 w) ≡ v ∷ w ∷ []
-two_words [] v w e = absurd (omega (arith, e))
-two_words (x ∷ []) v w e = absurd (omega (arith, e))
-two_words (x ∷ (y ∷ ws)) v w e = refl
 
 pub looks_is : {S : List Stage} {A A1 : Asks} {F : List Word} {W W1 : List Kept} {n p : ℕ} {t u : Term} {x : Kept} → t ≡ u → Looks S A A1 F W W1 n p u x → Looks S A A1 F W W1 n p t x
 looks_is {S} {A} {A1} {F} {W} {W1} {n} {p} {t} {u} {x} e h = subst (λ z. Looks S A A1 F W W1 n p z x) (sym e) h
 
 pub looks_with : {S : List Stage} {A A1 : Asks} {F : List Word} {W W1 : List Kept} {n p : ℕ} {t : Term} {x y : Kept} → x ≡ y → Looks S A A1 F W W1 n p t y → Looks S A A1 F W W1 n p t x
 looks_with {S} {A} {A1} {F} {W} {W1} {n} {p} {t} {x} {y} e h = subst (λ z. Looks S A A1 F W W1 n p t z) (sym e) h
+
+pub looks_slots : {S : List Stage} {A A1 : Asks} {F : List Word} {W W1 : List Kept} {n m p q : ℕ} {t : Term} {x : Kept} → m ≡ n → q ≡ p → Looks
+    S A A1 F W W1 m q t x → Looks S A A1 F W W1 n p t x
+looks_slots {S} {A} {A1} {F} {W} {W1} {n} {m} {p} {q} {t} {x} d e h = subst (λ i. Looks S A A1 F W W1 i p t x) d (subst (λ i. Looks S A A1 F W W1 m i t x) e h)
 
 pub looks_asks : {S : List Stage} {A A1 A2 : Asks} {F : List Word} {W W1 : List Kept} {n p : ℕ} {t : Term} {x : Kept} → A2 ≡ A1 → Looks S A A1 F W W1 n p t x → Looks S A A2 F W W1 n p t x
 looks_asks {S} {A} {A1} {A2} {F} {W} {W1} {n} {p} {t} {x} e h = subst (λ (l : Asks). Looks S A l F W W1 n p t x) (sym e) h
@@ -135,7 +136,7 @@ pub looks_op : {S : List Stage} {A A1 : Asks} {F : List Word} {W W1 : List Kept}
 unfolding Below BelowIn Stands StandsIn Once OnceIn
 looks_op {S} {A} {A1} {F} {W} {W1} {n} {p} {o} {ts} {x} {vs} fs e =
     let word : word_kept x ≡ word_of (answer (back_at S) (take n F) (Op o ts)) = e ∙ (ap (λ z. word_of (apply_to o z)) (sym fs.words) ∙ ap word_of (step.answer_op (back_at S) (take n F) ts o)) in
-    record { word = word; own = word; below = fs.holds; only = only_more fs.only (omega arith) (omega arith) (λ k z. z) }
+    record { word = word; own = word; below = λ calls. fs.holds; only = only_more fs.only (omega arith) (omega arith) (λ k z. z) }
 
 pub looks_loop : {S : List Stage} {A A1 : Asks} {F : List Word} {W W1 : List Kept} {n p : ℕ} {l : ℕ} {ts : Terms} {vs : Option (List Word)} → FindsAll
     S A A1 F W W1 n (p + 1) ts vs → Looks S A A1 F W W1 n p (Loop l ts) code.TheVariants.Shut
@@ -143,7 +144,7 @@ unfolding Below BelowIn Stands StandsIn Once OnceIn
 looks_loop {S} {A} {A1} {F} {W} {W1} {n} {p} {l} {ts} fs = record {
   word = step.word_loop (back_at S) (take n F) ts l;
   own = refl;
-  below = fs.holds;
+  below = λ calls. fs.holds;
   only = only_more fs.only (omega arith) (omega arith) (λ k z. z);
 }
 
@@ -195,6 +196,60 @@ pub finds_all_slots : {S : List Stage} {A A1 : Asks} {F : List Word} {W W1 : Lis
     q ≡ p → FindsAll S A A1 F W W1 m q ts o → FindsAll S A A1 F W W1 n p ts o
 finds_all_slots {S} {A} {A1} {F} {W} {W1} {n} {m} {p} {q} {ts} {o} d e h = subst (λ i. FindsAll S A A1 F W W1 i p ts o) d (subst (λ i. FindsAll S A A1 F W W1 m i ts o) e h)
 
+-- ---- a plain body
+
+condition_is_ready : (q a b r : Answer) → select q NotYet a b ≡ r → (r ≡ NotYet → ⊥) → is_some (word_of q) ≡ true
+condition_is_ready (Ready w) a b r e settled = refl
+condition_is_ready (LoopTo h vs) a b r e settled = absurd (settled (sym e))
+condition_is_ready NotYet a b r e settled = absurd (settled (sym e))
+
+bindings_are_ready : (o : Option (List Word)) (go : List Word → Answer) (r : Answer) → with_all o NotYet go ≡ r → (r ≡ NotYet → ⊥) → is_some o ≡ true
+bindings_are_ready None go r e settled = absurd (settled (sym e))
+bindings_are_ready (Some vs) go r e settled = refl
+
+module _ (B : ℕ → Option Word) (E : List Word) where
+  concluded_word : {t : Term} {q : Answer} → ConcludesIn E t q → word_kept (opened_with (word_of q)) ≡ word_of (answer B E t)
+  concluded_word {t} {q} h = opened_word (word_of q) ∙ ap word_of (sym (h.answer_is B))
+
+  concluded_cell : (t : Term) (q : Answer) → ConcludesIn E t q → plain_body t ≡ true → IsCell B E t (opened_with (word_of q))
+  unfolding answer
+  concluded_cell (Const w) q h plain = tt
+  concluded_cell (Var i) q h plain = tt
+  concluded_cell (Op o ts) q h plain = concluded_word h
+  concluded_cell (If c a b) q h plain = (
+    concluded_word h,
+    opened_open (word_of q) ∙ sym (condition_is_ready (answer B E c) (answer B E a) (answer B E b) q (h.answer_is B) h.settled),
+  )
+  concluded_cell (Let ts b) q h plain = (
+    concluded_word h,
+    opened_open (word_of q) ∙ sym (bindings_are_ready (answers B E ts) (λ vs. answer B (E ++ vs) b) q (h.answer_is B) h.settled),
+  )
+  concluded_cell (Call f j ts) q h plain = absurd (false≢true plain)
+  concluded_cell (Loop m ts) q h plain = concluded_word h ∙ sym (step.word_loop B E ts m)
+
+  plain_below : (A : Asks) (W : List Kept) (p : ℕ) (t : Term) → plain_body t ≡ true → Below B E A W p t
+  unfolding Below
+  plain_below A W p (Const w) plain = tt
+  plain_below A W p (Var i) plain = tt
+  plain_below A W p (Op o ts) plain = λ calls. absurd (false≢true (sym calls ∙ plain))
+  plain_below A W p (If c a b) plain = λ calls. absurd (false≢true (sym calls ∙ plain))
+  plain_below A W p (Let ts b) plain = λ calls. absurd (false≢true (sym calls ∙ plain))
+  plain_below A W p (Call f j ts) plain = absurd (false≢true plain)
+  plain_below A W p (Loop m ts) plain = λ calls. absurd (false≢true (sym calls ∙ plain))
+
+module _ {S : List Stage} {A : Asks} {F : List Word} {W : List Kept} {n p : ℕ} where
+  -- no site is asked for, and nothing of the parts is kept
+  pub looks_concluded : {t : Term} {q : Answer} → ConcludesIn (take n F) t q → plain_body t ≡ true → Looks S A A F W W n p t (opened_with (word_of q))
+  looks_concluded {t} {q} h plain = record {
+    word = concluded_word (back_at S) (take n F) h;
+    own = concluded_cell (back_at S) (take n F) t q h plain;
+    below = plain_below (back_at S) (take n F) A W p t plain;
+    only = only_none;
+  }
+
+  pub looks_plain : {t : Term} {v : Word} → ComesTo (take n F) t v → plain_term t ≡ true → Looks S A A F W W n p t (code.TheVariants.Ready v)
+  looks_plain {t} {v} h plain = looks_concluded (concludes_word h refl) (plain_is_body t plain)
+
 -- ---- results
 
 module _ {S : List Stage} {P : List Place} {A A1 A2 : Asks} {F G : List Word} {W W1 W2 : List Kept} {n m p q : ℕ} {news : Option ℕ} where
@@ -211,12 +266,13 @@ module _ {S : List Stage} {P : List Place} {A A1 A2 : Asks} {F G : List Word} {W
       record {
         word = word;
         own = (word, opened_open o ∙ ap is_some fc.word);
-        below = (
+        below = λ calls. (
           holds_still fa.2 B E _ _ fc.holds (inl (omega arith)) (λ k x y. apart.3 k x (inl y)),
           λ s. fa.1,
           λ s. absurd (s sel),
           λ s. absurd (either_branch (answer B E c) sel s),
-          λ s. unasked_still fa.2 (unasked_still fc.only (rest_second B E A W p news c a b h.stood s) (λ k x y. apart.3 k y (inr x))) (λ k x y. apart.4 k y x),
+          λ s. unasked_still fa.2 (unasked_still fc.only (rest_second B E A W p news c a b calls h.stood s) (λ k x y. apart.3 k y (inr x)))
+              (λ k x y. apart.4 k y x),
         );
         only = only_both (only_more fc.only (omega arith) (omega arith) (λ k z. inl z)) (only_more fa.2 (omega arith) (omega arith) (λ k z. inr (inl z)));
       }
@@ -234,10 +290,11 @@ module _ {S : List Stage} {P : List Place} {A A1 A2 : Asks} {F G : List Word} {W
       record {
         word = word;
         own = (word, opened_open o ∙ ap is_some fc.word);
-        below = (
+        below = λ calls. (
           holds_still fb.2 B E _ _ fc.holds (inl (omega arith)) (λ k x y. apart.3 k x (inr y)),
           λ s. absurd (either_branch (answer B E c) s sel),
-          λ s. unasked_still fb.2 (unasked_still fc.only (rest_first B E A W p news c a b h.stood s) (λ k x y. apart.3 k y (inl x))) (λ k x y. apart.4 k x y),
+          λ s. unasked_still fb.2 (unasked_still fc.only (rest_first B E A W p news c a b calls h.stood s) (λ k x y. apart.3 k y (inl x)))
+              (λ k x y. apart.4 k x y),
           λ s. fb.1,
           λ s. absurd (s sel),
         );
@@ -257,7 +314,7 @@ module _ {S : List Stage} {P : List Place} {A A1 A2 : Asks} {F G : List Word} {W
       record {
         word = word;
         own = (word, opened_open o ∙ sym (ap is_some fs.words));
-        below = (
+        below = λ calls. (
           below_in_still only B E _ _ fs.holds (inr (omega arith)) (λ k x y. apart.2 k x y),
           λ us g. subst (λ l. Holds B (E ++ l) A2 W2 (p + 1) b) (same vs us (sym fs.words ∙ g)) holds,
           λ g. absurd (some_none vs (sym fs.words ∙ g)),
@@ -279,12 +336,12 @@ module _ {S : List Stage} {P : List Place} {A A1 : Asks} {F : List Word} {W W1 :
       record {
         word = word;
         own = (word, ap is_some fc.word);
-        below = (
+        below = λ calls. (
           fc.holds,
           λ s. absurd (none_first (answer B E c) fc.word s),
-          λ s. unasked_still fc.only (rest_first B E A W p news c a b h.stood s) (λ k x y. apart.3 k y (inl x)),
+          λ s. unasked_still fc.only (rest_first B E A W p news c a b calls h.stood s) (λ k x y. apart.3 k y (inl x)),
           λ s. absurd (none_second (answer B E c) fc.word s),
-          λ s. unasked_still fc.only (rest_second B E A W p news c a b h.stood s) (λ k x y. apart.3 k y (inr x)),
+          λ s. unasked_still fc.only (rest_second B E A W p news c a b calls h.stood s) (λ k x y. apart.3 k y (inr x)),
         );
         only = only_more fc.only (omega arith) (omega arith) (λ k z. inl z);
       }
@@ -299,10 +356,10 @@ module _ {S : List Stage} {P : List Place} {A A1 : Asks} {F : List Word} {W W1 :
       record {
         word = word;
         own = (word, sym (ap is_some fs.words));
-        below = (
+        below = λ calls. (
           fs.holds,
           λ vs g. absurd (some_none vs (sym g ∙ fs.words)),
-          λ g. unasked_still fs.only (rest_body B E A W p news ts b h.stood g) (λ k x y. apart.2 k y x),
+          λ g. unasked_still fs.only (rest_body B E A W p news ts b calls h.stood g) (λ k x y. apart.2 k y x),
         );
         only = only_more fs.only (omega arith) (omega arith) (λ k z. inl z);
       }

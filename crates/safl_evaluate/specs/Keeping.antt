@@ -11,6 +11,7 @@ use Rattle.safl_evaluate.specs.declared.places.Place.{Place}
 use Rattle.safl_evaluate.specs.declared.stage.Stage.{Stage}
 use Rattle.safl_evaluate.specs.Evaluating.{CanRun, CanRunAll, Unasked, UnaskedIn}
 use Rattle.safl_evaluate.specs.Laying.{place, Laid, LaidIn}
+use Rattle.safl_evaluate.specs.Plain.{plain_body}
 use Rattle.safl_evaluate.specs.Stages.{back_at}
 
 -- the word that is kept
@@ -45,26 +46,30 @@ IsCell back env (Let ts b) x = (word_kept x ≡ word_of (answer back env (Let ts
 IsCell back env (Call f k ts) x = word_kept x ≡ back k
 IsCell back env (Loop h ts) x = word_kept x ≡ None
 
+abbrev pub UnlessPlain : Term → Type 0 → Type 0
+UnlessPlain t held = plain_body t ≡ false → held
+
 unfoldable mutual
   -- What is kept of the parts of a term, from place p on, is right where these words have come back: of a branch where the
-  -- condition is ready and selects it, and of a let's body where all bindings are ready. No site is asked for in what was not
-  -- looked at, and each other one with the words of its arguments, where they are ready
+  -- condition is ready and selects it, and of a let's body where all bindings are ready. Nothing has to be kept of the parts
+  -- of a plain body. No site is asked for in what was not looked at, and each other one with the words of its arguments, where
+  -- they are ready
   pub Below : (ℕ → Option Word) → List Word → List (Option (List Word)) → List Kept → ℕ → Term → Type 0
   Below back env A W p (Const w) = Unit {0}
   Below back env A W p (Var i) = Unit {0}
-  Below back env A W p (Op o ts) = BelowIn back env A W (p + 1) ts
-  Below back env A W p (If c a b) =
+  Below back env A W p (Op o ts) = UnlessPlain (Op o ts) (BelowIn back env A W (p + 1) ts)
+  Below back env A W p (If c a b) = UnlessPlain (If c a b) (
       (IsCell back env c (cell W (p + 1)) × Below back env A W (p + 1) c)
       × (SelectsFirst (answer back env c) → IsCell back env a (cell W (p + 1 + nodes c)) × Below back env A W (p + 1 + nodes c) a)
       × ((SelectsFirst (answer back env c) → ⊥) → Unasked A a)
       × (SelectsSecond (answer back env c) → IsCell back env b (cell W (p + 1 + nodes c + nodes a)) × Below back env A W (p + 1 + nodes c + nodes a) b)
-      × ((SelectsSecond (answer back env c) → ⊥) → Unasked A b)
-  Below back env A W p (Let ts b) =
+      × ((SelectsSecond (answer back env c) → ⊥) → Unasked A b))
+  Below back env A W p (Let ts b) = UnlessPlain (Let ts b) (
       BelowIn back env A W (p + 1 + nodes b) ts
       × ((vs : List Word) → answers back env ts ≡ Some vs → IsCell back (env ++ vs) b (cell W (p + 1)) × Below back (env ++ vs) A W (p + 1) b)
-      × (answers back env ts ≡ None → Unasked A b)
+      × (answers back env ts ≡ None → Unasked A b))
   Below back env A W p (Call f k ts) = (get_or A k None ≡ answers back env ts) × BelowIn back env A W (p + 1) ts
-  Below back env A W p (Loop h ts) = BelowIn back env A W (p + 1) ts
+  Below back env A W p (Loop h ts) = UnlessPlain (Loop h ts) (BelowIn back env A W (p + 1) ts)
 
   pub BelowIn : (ℕ → Option Word) → List Word → List (Option (List Word)) → List Kept → ℕ → Terms → Type 0
   BelowIn back env A W p Nil = Unit {0}
@@ -87,6 +92,10 @@ Stood back (Some k) env A W p t = Holds (without back k) env A W p t
 abbrev pub StoodIn : (ℕ → Option Word) → Option ℕ → List Word → List (Option (List Word)) → List Kept → ℕ → Terms → Type 0
 StoodIn back None env A W p ts = UnaskedIn A ts
 StoodIn back (Some k) env A W p ts = BelowIn (without back k) env A W p ts
+
+-- the parts of a plain body are looked at for the first time
+pub record IsAnew (news : Option ℕ) (t : Term) : Type 0 where
+  pub none : plain_body t ≡ true → news ≡ None
 
 -- the places from one on up to another, and these sites, are all that may differ
 pub record Only (from upto : ℕ) (site : ℕ → Type 0) (A A1 : List (Option (List Word))) (W W1 : List Kept) : Type 0 where

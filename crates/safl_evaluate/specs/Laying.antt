@@ -1,26 +1,32 @@
 -- Where the nodes of terms lie in a table.
-use Rattle.std.specs.Prelude.{◌≡◌, ℕ, ◌+◌, ◌<◌, ◌≤◌, List, length, get_or}
+use Rattle.std.specs.Prelude.{◌≡◌, ℕ, ◌+◌, ◌<◌, ◌≤◌, List, length, get_or, false}
 use Rattle.safl_term.specs.Program.{Program}
 use Rattle.safl_term.specs.Sizes.{nodes, nodes_in}
 use Rattle.safl_term.specs.Standing.{Stands, StandsIn}
 use Rattle.safl_term.specs.Terms.{Term, Const, Var, Op, If, Let, Call, Loop, Terms, Nil, Cons}
 use Rattle.safl_evaluate.specs.declared.places.Place.{Place}
 use Rattle.safl_evaluate.specs.declared.places.Plan.{Plan}
+use Rattle.safl_evaluate.specs.Plain.{plain_term, plain_terms, plain_body}
 
 abbrev pub nowhere : Place
-nowhere = record { next = 0; first = 0; last = 0 }
+nowhere = record { next = 0; first = 0; last = 0; is_plain = false; is_plain_body = false }
 
 abbrev pub place : List Place → ℕ → Place
 place P p = get_or P p nowhere
 
--- the place after a term's nodes, which lie from p on, and numbers between which all its sites are
+-- the place after a term's nodes, which lie from p on, numbers between which all its sites are, and whether
+-- it is a plain term, and a plain body
 pub record IsPlace (x : Place) (p : ℕ) (t : Term) : Type 0 where
   pub next : x.next ≡ p + nodes t
+  pub plain : x.is_plain ≡ plain_term t
+  pub body : x.is_plain_body ≡ plain_body t
   pub sites : (k : ℕ) → Stands k t → (x.first ≤ k) × (k ≤ x.last)
 
 -- the same of several terms
 pub record IsRoom (x : Place) (p : ℕ) (ts : Terms) : Type 0 where
   pub next : x.next ≡ p + nodes_in ts
+  pub plain : x.is_plain ≡ plain_terms ts
+  pub body : x.is_plain_body ≡ plain_terms ts
   pub sites : (k : ℕ) → StandsIn k ts → (x.first ≤ k) × (k ≤ x.last)
 
 unfoldable mutual

@@ -1,6 +1,7 @@
 pub mod Stages
 pub mod Answers
 pub mod Evaluating
+pub mod Plain
 pub mod Laying
 pub mod Finding
 pub mod Keeping

@@ -1,16 +1,18 @@
 //! Partial evaluation: what a running body comes to, and which calls it wants.
 
-ghost use Rattle.std.specs.Prelude.{◌≡◌, ℕ, ◌+◌, ◌<◌, ◌≤◌, ◌^◌, length, take, cond, Some, None, IsTrue};
+ghost use Rattle.std.specs.Prelude.{◌≡◌, ℕ, ◌+◌, ◌<◌, ◌≤◌, ◌^◌, length, take, cond, slice_set, Some, None, IsTrue};
 ghost use Rattle.safl_term.specs.Readiness.{answer, word_of};
 ghost use Rattle.safl_term.specs.Tree.{shown_term, shown_terms};
 ghost use Rattle.safl_evaluate.specs.Asking.{Asks};
 ghost use Rattle.safl_evaluate.specs.Finding.{cell_of};
-ghost use Rattle.safl_evaluate.specs.Keeping.{cell, is_open, IsSkipped};
-ghost use Rattle.safl_evaluate.specs.Looking.{CanLook, CanLookAll, HasLooked, HasFound, HasFoundAll, word_if, words_if, words_at, words_if_at};
+ghost use Rattle.safl_evaluate.specs.Keeping.{cell, is_open, IsAnew, IsSkipped};
+ghost use Rattle.safl_evaluate.specs.Looking.{CanLook, CanLookAll, HasLooked, HasFound, HasFoundAll, word_if, words_if, words_if_at};
 ghost use Rattle.safl_evaluate.specs.Laying.{place};
+ghost use Rattle.safl_evaluate.specs.Plain.{CanCompute, ComesTo};
 ghost use Rattle.safl_evaluate.specs.Stages.{back_at};
 
 use crate::answer::Answer;
+use crate::compute::{blank, compute, conclude, words};
 use crate::kept::{Found, Kept, is_open_at, keep, keep_told, opened, ready, recall, shut};
 use crate::places::Place;
 use crate::stage::Stage;
@@ -51,6 +53,11 @@ pub fn evaluate(
     ensures finds { HasFound facts.now asks.old asks.new env.old kept.old kept.new spot (shown_term t.now) (word_of told.new) }
     ensures asks { Asks asks.old asks.new }
 {
+    if is_plain_body_at(facts, spot.at) {
+        conclude(env, spot.slots, t, told);
+        keep_told(kept, spot.at, told);
+        return;
+    }
     match t {
         Term::Const(word) => told.settle(Some(*word)),
         Term::Var(slot) => told.settle(Some(env[*slot as usize])),
@@ -101,11 +108,6 @@ pub fn evaluate(
             }
         }
     }
-}
-
-// A word that is about to be overwritten.
-fn blank() -> Word {
-    Word::from_parts(1, 0)
 }
 
 // Where the first part of a term is looked at.
@@ -198,6 +200,48 @@ fn is_skipped(facts: &Facts, spot: Spot) -> bool
     }
 }
 
+// Whether the term at a place is plain.
+fn is_plain_at(facts: &Facts, at: usize) -> bool
+    requires { at < length facts.now.places.now }
+    ensures { result ≡ (place facts.now.places.now at).is_plain }
+{
+    facts.places[at].is_plain
+}
+
+// Whether the term at a place is a plain body.
+fn is_plain_body_at(facts: &Facts, at: usize) -> bool
+    requires { at < length facts.now.places.now }
+    ensures { result ≡ (place facts.now.places.now at).is_plain_body }
+{
+    facts.places[at].is_plain_body
+}
+
+// Of the parts of a plain body nothing is kept, so they are looked at for the first time.
+fn anew(facts: &Facts, spot: Spot) -> Spot
+    requires { spot.at < length facts.now.places.now }
+    ensures slots { result.slots ≡ spot.slots }
+    ensures at { result.at ≡ spot.at }
+    ensures news { result.news ≡ cond (place facts.now.places.now spot.at).is_plain_body None spot.news }
+{
+    if is_plain_body_at(facts, spot.at) {
+        Spot { news: None, ..spot }
+    } else {
+        spot
+    }
+}
+
+// Writes the word that a plain term comes to, and keeps it.
+fn compute_and_keep(env: &mut [Word], kept: &mut [Kept], spot: Spot, t: &Term, word: &mut Word)
+    requires can { CanCompute env.old spot.slots (shown_term t.now) }
+    requires at { spot.at < length kept.old }
+    ensures word { ComesTo (take spot.slots env.old) (shown_term t.now) word.new }
+    ensures keeps { kept.new ≡ slice_set kept.old spot.at (cell_of Found.Ready word.new) }
+    ensures kept { take spot.slots env.new ≡ take spot.slots env.old }
+{
+    compute(env, spot.slots, t, word);
+    keep(kept, spot.at, Found::Ready, word);
+}
+
 // Writes the word that a term comes to, if it does, to `word`, and says whether. Words are written in place, since a copy
 // of one costs more than most operators. A term is passed over in which no site has returned since it was looked at.
 #[cycle(find)]
@@ -218,11 +262,15 @@ fn find(
     if is_skipped(facts, spot) {
         return recall(kept, spot.at, word);
     }
-    let found = look(facts, asks, env, kept, spot, t, word);
+    if is_plain_at(facts, spot.at) {
+        compute_and_keep(env, kept, spot, t, word);
+        return true;
+    }
+    let found = look(facts, asks, env, kept, anew(facts, spot), t, word);
     keep(kept, spot.at, found, word)
 }
 
-// Looks at a term whose parts may have changed.
+// Looks at a term whose parts may have changed; those of a plain body are looked at for the first time.
 #[cycle(find)]
 fn look(
     facts: &Facts,
@@ -233,7 +281,8 @@ fn look(
     t: &Term,
     word: &mut Word,
 ) -> Found
-    requires { CanLook facts.now asks.old env.old kept.old spot (shown_term t.now) }
+    requires may { CanLook facts.now asks.old env.old kept.old spot (shown_term t.now) }
+    requires anew { IsAnew spot.news (shown_term t.now) }
     ensures looks { HasLooked facts.now asks.old asks.new env.old kept.old kept.new spot (shown_term t.now) (cell_of result word.new) }
     ensures asks { Asks asks.old asks.new }
     ensures kept { take spot.slots env.new ≡ take spot.slots env.old }
@@ -383,14 +432,6 @@ fn values(
     } else {
         false
     }
-}
-
-// So many words from a place on.
-fn words(env: &[Word], at: usize, count: usize) -> &[Word]
-    requires { at + count ≤ length env.now }
-    ensures { result.now ≡ words_at env.now at count }
-{
-    &env[at..at + count]
 }
 
 // The word of a site, where it has returned.

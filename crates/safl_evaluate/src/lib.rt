@@ -1,9 +1,10 @@
-//! Partial evaluation of running bodies. What is found of each node is kept, and looked at again only where a site has
-//! returned.
+//! Partial evaluation of running bodies. What is found of each node is kept, but for the parts of plain terms, and looked at
+//! again only where a site has returned.
 #![tactic(auto)]
 
 pub mod answer;
 pub mod args;
+pub mod compute;
 pub mod evaluate;
 pub mod kept;
 pub mod places;

@@ -1,6 +1,6 @@
 //! Where the nodes of a body lie in a table.
 
-ghost use Rattle.std.specs.Prelude.{◌≡◌, ℕ, ◌+◌, ◌<◌, ◌≤◌, ◌^◌, IfOk, length};
+ghost use Rattle.std.specs.Prelude.{◌≡◌, ℕ, ◌+◌, ◌<◌, ◌≤◌, ◌^◌, ◌&&◌, IfOk, length, true, false};
 ghost use Rattle.safl_term.specs.Checked.{program_of};
 ghost use Rattle.safl_term.specs.Sizes.{nodes, nodes_in};
 ghost use Rattle.safl_term.specs.Tree.{shown_term, shown_terms};
@@ -10,12 +10,15 @@ ghost use Rattle.safl_evaluate.specs.Laying.{IsPlan};
 use safl_term::{Checked, Term};
 use std::alloc::{AllocError, Global};
 
-/// The place after a term's nodes, and numbers between which all its sites are.
+/// The place after a term's nodes, numbers between which all its sites are, and whether the term is plain,
+/// and a plain body.
 #[derive(Clone, Copy)]
 pub struct Place {
     pub next: usize,
     pub first: u32,
     pub last: u32,
+    pub is_plain: bool,
+    pub is_plain_body: bool,
 }
 
 /// The places of the nodes of all bodies, and by function the place of its body.
@@ -69,16 +72,16 @@ fn lay_parts(t: &Term, at: usize, places: &mut [Place]) -> Place
             let first = lay(condition, at + 1, places);
             let second = lay(a, first.next, places);
             let third = lay(b, second.next, places);
-            followed(followed(first, second), third)
+            followed(first, either(second, third))
         }
         Term::Let(_, bound, body) => {
             let below = lay(body, at + 1, places);
             let bindings = lay_all(bound.as_slice(), below.next, places);
-            followed(below, bindings)
+            bound_in(below, bindings)
         }
         Term::Op(_, ts) => lay_all(ts.as_slice(), at + 1, places),
         Term::Call(_, k, ts) => with_site(lay_all(ts.as_slice(), at + 1, places), *k),
-        Term::Loop(_, ts) => lay_all(ts.as_slice(), at + 1, places),
+        Term::Loop(_, ts) => with_loop(lay_all(ts.as_slice(), at + 1, places)),
     }
 }
 
@@ -100,25 +103,61 @@ fn lay_all(ts: &[Term], at: usize, places: &mut [Place]) -> Place
 
 // No sites, and this place after them.
 fn empty(next: usize) -> Place
-    ensures { result.next ≡ next }
+    ensures next { result.next ≡ next }
+    ensures plain { result.is_plain ≡ true }
+    ensures body { result.is_plain_body ≡ true }
 {
     Place {
         next,
         first: u32::MAX,
         last: 0,
+        is_plain: true,
+        is_plain_body: true,
     }
 }
 
-// The sites of both, and the place after the second one.
+// The sites of both, and the place after the second one; the first stands in no tail position.
 fn followed(a: Place, b: Place) -> Place
     ensures next { result.next ≡ b.next }
     ensures first { Covers result a }
     ensures second { Covers result b }
+    ensures plain { result.is_plain ≡ (a.is_plain && b.is_plain) }
+    ensures body { result.is_plain_body ≡ (a.is_plain && b.is_plain_body) }
 {
     Place {
         next: b.next,
         first: a.first.min(b.first),
         last: a.last.max(b.last),
+        is_plain: a.is_plain && b.is_plain,
+        is_plain_body: a.is_plain && b.is_plain_body,
+    }
+}
+
+// The same of two branches.
+fn either(a: Place, b: Place) -> Place
+    ensures next { result.next ≡ b.next }
+    ensures first { Covers result a }
+    ensures second { Covers result b }
+    ensures plain { result.is_plain ≡ (a.is_plain && b.is_plain) }
+    ensures body { result.is_plain_body ≡ (a.is_plain_body && b.is_plain_body) }
+{
+    Place {
+        is_plain_body: a.is_plain_body && b.is_plain_body,
+        ..followed(a, b)
+    }
+}
+
+// The same of a let's body and the bindings, which lie after it.
+fn bound_in(body: Place, bindings: Place) -> Place
+    ensures next { result.next ≡ bindings.next }
+    ensures first { Covers result body }
+    ensures second { Covers result bindings }
+    ensures plain { result.is_plain ≡ (bindings.is_plain && body.is_plain) }
+    ensures body { result.is_plain_body ≡ (bindings.is_plain && body.is_plain_body) }
+{
+    Place {
+        next: bindings.next,
+        ..followed(bindings, body)
     }
 }
 
@@ -128,10 +167,24 @@ fn with_site(place: Place, k: u32) -> Place
     ensures others { Covers result place }
     ensures first { result.first ≤ k }
     ensures last { k ≤ result.last }
+    ensures plain { result.is_plain ≡ false }
+    ensures body { result.is_plain_body ≡ false }
 {
     Place {
         next: place.next,
         first: place.first.min(k),
         last: place.last.max(k),
+        is_plain: false,
+        is_plain_body: false,
+    }
+}
+
+// A tail call: no plain term, but a plain body where its arguments are plain.
+fn with_loop(place: Place) -> Place
+    ensures { result ≡ record place { is_plain = false } }
+{
+    Place {
+        is_plain: false,
+        ..place
     }
 }

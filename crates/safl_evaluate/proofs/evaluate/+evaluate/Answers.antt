@@ -1,4 +1,4 @@
-use Rattle.std.proofs.Common.{rules, ℕ, ◌<◌, List, length, take, drop, Some, refl, sym, ap, ◌∙◌, arith, ⊎_elim}
+use Rattle.std.proofs.Common.{rules, ◌≡◌, ℕ, ◌<◌, List, length, take, drop, Some, false, refl, sym, ap, ◌∙◌, arith, ⊎_elim}
 use Rattle.safl_word.specs.Words.{Word}
 use Rattle.safl_term.specs.Readiness.{answer, ready_from, word_of, Ready}
 use Rattle.safl_term.specs.Sizes.{nodes}
@@ -6,8 +6,10 @@ use Rattle.safl_term.specs.Tree.{shown_term, shown_terms}
 use Rattle.safl_term.proofs.PlainTrees.{shown_term-Op, shown_term-Call, shown_term-Loop, shown_term-Let}
 use Rattle.safl_sites.proofs.NodesOfTerms.{some_node}
 use Rattle.safl_evaluate.specs.Laying.{place}
+use Rattle.safl_evaluate.specs.Plain.{plain_body}
 use Rattle.safl_evaluate.specs.Stages.{back_at}
 use Rattle.safl_evaluate.proofs.AsksAlong.{asks_none, asks_both}
+use Rattle.safl_evaluate.proofs.PlainByParts.{says, anew_is, anew_as}
 use Rattle.safl_evaluate.proofs.RunsByParts as may
 use Rattle.safl_evaluate.proofs.AnswersByParts as step
 use Rattle.safl_evaluate.proofs.AnswersByParts.{if_by, let_by, loop_by, answer_is, forest_nodes}
@@ -17,15 +19,37 @@ use Rattle.safl_evaluate.proofs.LooksWhole as whole
 use Rattle.safl_evaluate.proofs.LooksWhole.{finds_is, finds_with}
 use Rattle.safl_evaluate.proofs.evaluate.+evaluate.Goals as goal
 
+-- ---- a plain body
+
+pub is_plain_body_at-requires : goal.is_plain_body_at-requires
+is_plain_body_at-requires t c = omega (arith, c.requires.places, some_node (shown_term c.args.t.now))
+
+pub keep_told-requires : goal.keep_told-requires
+keep_told-requires t c = omega (arith, c.requires.cells, some_node (shown_term c.args.t.now))
+
+pub conclude-requires : goal.conclude-requires
+conclude-requires t c = part.may_conclude c.requires (says c.is_plain_body_at.ensures c.requires.laid.0.body c.if-is_plain_body_at.true)
+
+pub returns-then-is_plain_body_at-clause-answer : goal.returns-then-is_plain_body_at-clause-answer
+returns-then-is_plain_body_at-clause-answer t c = sym (c.conclude.ensures.answer_is (back_at c.args.facts.now.stages.now))
+
+pub returns-then-is_plain_body_at-clause-finds : goal.returns-then-is_plain_body_at-clause-finds
+returns-then-is_plain_body_at-clause-finds t c =
+    finds_with (sym (whole.opened_word (word_of c.conclude.new.told)))
+    (whole.finds_kept (whole.looks_concluded c.conclude.ensures (says c.is_plain_body_at.ensures c.requires.laid.0.body c.if-is_plain_body_at.true))
+    (omega (arith, c.requires.cells, some_node (shown_term c.args.t.now))) c.keep_told.ensures)
+
 -- ---- conditions
 
 pub operand-requires : goal.operand-requires
 operand-requires t c =
+    let calls : plain_body (shown_term c.args.t.now) ≡ false = says c.is_plain_body_at.ensures c.requires.laid.0.body c.if-is_plain_body_at.false in
     let shape = if_by (ap shown_term c.in-If.is) (ap shown_term c.deref.ensures) refl refl in
-    look_at c.part.ensures.slots c.part.ensures.at c.part.ensures.news (part.may_condition (look_is shape c.requires))
+    look_at c.part.ensures.slots c.part.ensures.at c.part.ensures.news (part.may_condition (anew_is shape (anew_as calls)) (look_is shape c.requires))
 
 pub evaluate-requires : goal.evaluate-requires
 evaluate-requires t c =
+    let calls : plain_body (shown_term c.args.t.now) ≡ false = says c.is_plain_body_at.ensures c.requires.laid.0.body c.if-is_plain_body_at.false in
     let shape = if_by (ap shown_term c.in-If.is) (ap shown_term c.deref.ensures) (ap shown_term c.deref-then-bits-eq1.ensures) refl in
     let size = ap nodes shape in
     let h = look_is shape c.requires in
@@ -34,7 +58,7 @@ evaluate-requires t c =
     let smaller : nodes (shown_term c.deref-then-bits-eq1.result.now) < nodes (shown_term c.args.t.now) = omega (arith, size) in (
       search rules,
       part.may_then (omega (arith, c.operand.ensures.asks.long)) (omega (arith, c.operand.auto.env)) (omega (arith, c.operand.auto.kept))
-          kept c.operand.new.word h fc (sym c.bits.ensures.value ∙ c.if-bits-eq1.true) c.branch-second.ensures.slots
+          kept c.operand.new.word (anew_is shape (anew_as calls)) h fc (sym c.bits.ensures.value ∙ c.if-bits-eq1.true) c.branch-second.ensures.slots
           (c.branch-second.ensures.at ∙ part.after_condition h) c.branch-second.ensures.news,
     )
 
@@ -46,6 +70,7 @@ after-requires t c =
 
 pub evaluate-requires-else-bits-eq1 : goal.evaluate-requires-else-bits-eq1
 evaluate-requires-else-bits-eq1 t c =
+    let calls : plain_body (shown_term c.args.t.now) ≡ false = says c.is_plain_body_at.ensures c.requires.laid.0.body c.if-is_plain_body_at.false in
     let shape = if_by (ap shown_term c.in-If.is) (ap shown_term c.deref.ensures) refl (ap shown_term c.deref-else-bits-eq1.ensures) in
     let size = ap nodes shape in
     let h = look_is shape c.requires in
@@ -54,7 +79,8 @@ evaluate-requires-else-bits-eq1 t c =
     let smaller : nodes (shown_term c.deref-else-bits-eq1.result.now) < nodes (shown_term c.args.t.now) = omega (arith, size) in (
       search rules,
       part.may_else (omega (arith, c.operand.ensures.asks.long)) (omega (arith, c.operand.auto.env)) (omega (arith, c.operand.auto.kept))
-          kept c.operand.new.word h fc (λ q. c.if-bits-eq1.false (c.bits.ensures.value ∙ q)) (c.after.ensures.slots ∙ c.branch-second.ensures.slots)
+          kept c.operand.new.word (anew_is shape (anew_as calls)) h fc (λ q. c.if-bits-eq1.false (c.bits.ensures.value ∙ q)) (c.after.ensures.slots
+          ∙ c.branch-second.ensures.slots)
           (c.after.ensures.at ∙ (ap (λ (i : ℕ). (place c.args.facts.now.places.now i).next) (c.branch-second.ensures.at ∙ part.after_condition h) ∙
           part.after_then h)) (c.after.ensures.news ∙ c.branch-second.ensures.news),
     )
@@ -79,7 +105,8 @@ returns-then-bits-eq1-clause-finds t c =
     let slots = ap (λ (i : ℕ). take i c.operand.new.env) c.branch-second.ensures.slots ∙ kept in
     let looks = whole.looks_then c.operand.new.word h fc (sym c.bits.ensures.value ∙ c.if-bits-eq1.true) slots (c.branch-second.ensures.at ∙ part.after_condition h) c.evaluate.ensures.finds in
     finds_is shape (finds_with (sym (whole.opened_word (word_of c.evaluate.new.told)))
-    (whole.finds_kept looks (omega (arith, c.requires.cells, some_node (shown_term c.args.t.now), c.operand.auto.kept, c.evaluate.auto.kept)) c.keep_told.ensures))
+    (whole.finds_kept looks (omega (arith, c.requires.cells, some_node (shown_term c.args.t.now), c.operand.auto.kept, c.evaluate.auto.kept))
+    c.keep_told-then-bits-eq1.ensures))
 
 pub returns-else-bits-eq1-clause-answer : goal.returns-else-bits-eq1-clause-answer
 returns-else-bits-eq1-clause-answer t c =
@@ -138,11 +165,12 @@ after-bindings-requires t c =
 
 pub values-requires-clause-may : goal.values-requires-clause-may
 values-requires-clause-may t c =
+    let calls : plain_body (shown_term c.args.t.now) ≡ false = says c.is_plain_body_at.ensures c.requires.laid.0.body c.if-is_plain_body_at.false in
     let shape = let_by (ap shown_term c.in-Let.is ∙ shown_term-Let c.in-Let.field-0 c.in-Let.bound c.in-Let.body) (ap shown_terms c.as_slice-bound.ensures.value) refl in
     let h = look_is shape c.requires in
     look_all_at (c.after-bindings.ensures.slots ∙ c.part-in-Let.ensures.slots)
     (c.after-bindings.ensures.at ∙ (ap (λ (i : ℕ). (place c.args.facts.now.places.now i).next) c.part-in-Let.ensures.at ∙ part.after_body h))
-    (c.after-bindings.ensures.news ∙ c.part-in-Let.ensures.news) (part.may_bound h)
+    (c.after-bindings.ensures.news ∙ c.part-in-Let.ensures.news) (part.may_bound (anew_is shape (anew_as calls)) h)
 
 pub values-requires-clause-places : goal.values-requires-clause-places
 values-requires-clause-places t c =
@@ -152,6 +180,7 @@ values-requires-clause-places t c =
 
 pub evaluate-requires-then-values : goal.evaluate-requires-then-values
 evaluate-requires-then-values t c =
+    let calls : plain_body (shown_term c.args.t.now) ≡ false = says c.is_plain_body_at.ensures c.requires.laid.0.body c.if-is_plain_body_at.false in
     let shape = let_by (ap shown_term c.in-Let.is ∙ shown_term-Let c.in-Let.field-0 c.in-Let.bound c.in-Let.body)
     (ap shown_terms c.as_slice-bound.ensures.value) (ap shown_term c.deref-then-values.ensures) in
     let size = ap nodes shape in
@@ -164,7 +193,7 @@ evaluate-requires-then-values t c =
     let smaller : nodes (shown_term c.deref-then-values.result.now) < nodes (shown_term c.args.t.now) = omega (arith, size) in (
       search rules,
       part.may_body (omega (arith, c.values.ensures.asks.long)) (omega (arith, c.values.auto.env)) (omega (arith, c.values.auto.kept))
-          kept (take (length c.as_slice-bound.result.now) (drop c.args.spot.slots c.values.new.env)) h fs
+          kept (take (length c.as_slice-bound.result.now) (drop c.args.spot.slots c.values.new.env)) (anew_is shape (anew_as calls)) h fs
           (ap (λ (i : ℕ). take i c.values.new.env) c.within-below.ensures.slots ∙ step.slots_and c.values.new.env
           (take c.args.spot.slots c.args.env.now) c.args.spot.slots (length c.as_slice-bound.result.now) kept)
           (omega (arith, c.within-below.ensures.slots, count, h.room)) c.within-below.ensures.at c.within-below.ensures.news,
@@ -232,8 +261,10 @@ returns-else-values-clause-finds t c =
 
 pub values-requires-in-Loop-clause-may : goal.values-requires-in-Loop-clause-may
 values-requires-in-Loop-clause-may t c =
+    let calls : plain_body (shown_term c.args.t.now) ≡ false = says c.is_plain_body_at.ensures c.requires.laid.0.body c.if-is_plain_body_at.false in
     let shape = loop_by c.in-Loop.h (ap shown_term c.in-Loop.is ∙ shown_term-Loop c.in-Loop.h c.in-Loop.ts) (ap shown_terms c.as_slice-passed.ensures.value) in
-    look_all_at c.part-in-Loop.ensures.slots c.part-in-Loop.ensures.at c.part-in-Loop.ensures.news (part.may_loop (look_is shape c.requires))
+    look_all_at c.part-in-Loop.ensures.slots c.part-in-Loop.ensures.at c.part-in-Loop.ensures.news (part.may_loop (anew_is shape (anew_as calls))
+    (look_is shape c.requires))
 
 pub values-requires-in-Loop-clause-places : goal.values-requires-in-Loop-clause-places
 values-requires-in-Loop-clause-places t c =
@@ -330,6 +361,9 @@ returns-else-find-clause-answer t c =
     c.in-Op.is)
 
 -- ---- the sites that are asked for
+
+pub returns-then-is_plain_body_at-clause-asks : goal.returns-then-is_plain_body_at-clause-asks
+returns-then-is_plain_body_at-clause-asks t c = asks_none c.args.asks.now
 
 pub returns-then-bits-eq1-clause-asks : goal.returns-then-bits-eq1-clause-asks
 returns-then-bits-eq1-clause-asks t c = asks_both c.operand.ensures.asks c.evaluate.ensures.asks

@@ -17,6 +17,7 @@ use Rattle.safl_evaluate.proofs.LooksByParts as part
 use Rattle.safl_evaluate.proofs.LooksByParts.{look_is, look_all_is, look_at, look_all_at}
 use Rattle.safl_evaluate.proofs.LooksWhole as whole
 use Rattle.safl_evaluate.proofs.LooksWhole.{finds_is, finds_with, finds_all_is}
+use Rattle.safl_evaluate.proofs.PlainByParts.{says, anew_is}
 use Rattle.safl_evaluate.proofs.RunsByParts as may
 use Rattle.safl_evaluate.specs.Laying.{place}
 use Rattle.safl_evaluate.proofs.evaluate.+find.Goals as goal
@@ -36,7 +37,40 @@ find-returns-then-is_skipped-clause-finds t c =
 pub find-returns-clause-finds : goal.find-returns-clause-finds
 find-returns-clause-finds t c =
     finds_with (whole.kept_word c.look-found.new.word c.look-found.result c.keep.result c.keep.ensures.ready)
-    (whole.finds_kept c.look-found.ensures.looks (omega (arith, c.requires.cells, some_node (shown_term c.args.t.now), c.look-found.auto.kept)) c.keep.ensures.kept)
+    (whole.finds_kept (whole.looks_slots c.anew.ensures.slots c.anew.ensures.at c.look-found.ensures.looks)
+    (omega (arith, c.requires.cells, some_node (shown_term c.args.t.now), c.look-found.auto.kept)) c.keep.ensures.kept)
+
+pub find-returns-clause-kept : goal.find-returns-clause-kept
+find-returns-clause-kept t c = part.kept_at c.args.env.now c.look-found.new.env c.anew.ensures.slots c.look-found.ensures.kept
+
+pub find-is_plain_at-requires : goal.find-is_plain_at-requires
+find-is_plain_at-requires t c = omega (arith, c.requires.places, some_node (shown_term c.args.t.now))
+
+pub find-anew-requires : goal.find-anew-requires
+find-anew-requires t c = omega (arith, c.requires.places, some_node (shown_term c.args.t.now))
+
+pub find-compute_and_keep-requires-clause-at : goal.find-compute_and_keep-requires-clause-at
+find-compute_and_keep-requires-clause-at t c = omega (arith, c.requires.cells, some_node (shown_term c.args.t.now))
+
+pub find-compute_and_keep-requires-clause-can : goal.find-compute_and_keep-requires-clause-can
+find-compute_and_keep-requires-clause-can t c =
+    part.may_compute c.requires (says c.is_plain_at.ensures c.requires.laid.0.plain c.if-is_plain_at.true)
+
+pub find-returns-then-is_plain_at-clause-finds : goal.find-returns-then-is_plain_at-clause-finds
+find-returns-then-is_plain_at-clause-finds t c =
+    whole.finds_kept (whole.looks_plain c.compute_and_keep.ensures.word (says c.is_plain_at.ensures c.requires.laid.0.plain c.if-is_plain_at.true))
+    (omega (arith, c.requires.cells, some_node (shown_term c.args.t.now))) c.compute_and_keep.ensures.keeps
+
+pub find-look-found-requires : goal.find-look-found-requires
+find-look-found-requires t c =
+    let smaller : 4 * nodes (shown_term c.args.t.now) < 4 * nodes (shown_term c.args.t.now) + 1 = omega arith in
+    let body = c.requires.laid.0.body in (
+      search rules,
+      (
+        look_at c.anew.ensures.slots c.anew.ensures.at c.anew.ensures.news (part.may_anew c.requires body),
+        record { none = λ plain. c.anew.ensures.news ∙ ap (λ (b : Bool). cond b None c.args.spot.news) (body ∙ plain) },
+      ),
+    )
 
 -- ---- conditions
 
@@ -44,40 +78,44 @@ pub look-operand-requires : goal.look-operand-requires
 look-operand-requires t c =
     let shape = if_by (ap shown_term c.in-If.is) (ap shown_term c.deref.ensures) refl refl in
     let size = ap nodes shape in
-    let smaller : 4 * nodes (shown_term c.deref.result.now) + 2 < 4 * nodes (shown_term c.args.t.now) = omega (arith, size) in
-    (search rules, look_at c.part.ensures.slots c.part.ensures.at c.part.ensures.news (part.may_condition (look_is shape c.requires)))
+    let smaller : 4 * nodes (shown_term c.deref.result.now) + 2 < 4 * nodes (shown_term c.args.t.now) = omega (arith, size) in (
+      search rules,
+      look_at c.part.ensures.slots c.part.ensures.at c.part.ensures.news (part.may_condition (anew_is shape c.requires.anew)
+          (look_is shape c.requires.may)),
+    )
 
 pub look-operand-requires-then-bits-eq1 : goal.look-operand-requires-then-bits-eq1
 look-operand-requires-then-bits-eq1 t c =
     let shape = if_by (ap shown_term c.in-If.is) (ap shown_term c.deref.ensures) (ap shown_term c.deref-then-bits-eq1.ensures) refl in
     let size = ap nodes shape in
-    let h = look_is shape c.requires in
+    let h = look_is shape c.requires.may in
     let fc = whole.finds_slots c.part.ensures.slots c.part.ensures.at c.if-operand.ensures.finds in
     let kept = part.kept_at c.args.env.now c.operand.new.env c.part.ensures.slots c.if-operand.ensures.kept in
     let smaller : 4 * nodes (shown_term c.deref-then-bits-eq1.result.now) + 2 < 4 * nodes (shown_term c.args.t.now) = omega (arith, size) in (
       search rules,
       part.may_then (omega (arith, c.operand.ensures.asks.long)) (omega (arith, c.operand.auto.env)) (omega (arith, c.operand.auto.kept))
-          kept c.operand.new.word h fc (sym c.bits.ensures.value ∙ c.if-bits-eq1.true) c.branch-second.ensures.slots
+          kept c.operand.new.word (anew_is shape c.requires.anew) h fc (sym c.bits.ensures.value ∙ c.if-bits-eq1.true) c.branch-second.ensures.slots
           (c.branch-second.ensures.at ∙ part.after_condition h) c.branch-second.ensures.news,
     )
 
 pub look-after-requires : goal.look-after-requires
 look-after-requires t c =
     let shape = if_by (ap shown_term c.in-If.is) (ap shown_term c.deref.ensures) refl refl in
-    let h = look_is shape c.requires in
+    let h = look_is shape c.requires.may in
     omega (arith, c.branch-second.ensures.at, part.after_condition h, part.branch_place h)
 
 pub look-operand-requires-else-bits-eq1 : goal.look-operand-requires-else-bits-eq1
 look-operand-requires-else-bits-eq1 t c =
     let shape = if_by (ap shown_term c.in-If.is) (ap shown_term c.deref.ensures) refl (ap shown_term c.deref-else-bits-eq1.ensures) in
     let size = ap nodes shape in
-    let h = look_is shape c.requires in
+    let h = look_is shape c.requires.may in
     let fc = whole.finds_slots c.part.ensures.slots c.part.ensures.at c.if-operand.ensures.finds in
     let kept = part.kept_at c.args.env.now c.operand.new.env c.part.ensures.slots c.if-operand.ensures.kept in
     let smaller : 4 * nodes (shown_term c.deref-else-bits-eq1.result.now) + 2 < 4 * nodes (shown_term c.args.t.now) = omega (arith, size) in (
       search rules,
       part.may_else (omega (arith, c.operand.ensures.asks.long)) (omega (arith, c.operand.auto.env)) (omega (arith, c.operand.auto.kept))
-          kept c.operand.new.word h fc (λ q. c.if-bits-eq1.false (c.bits.ensures.value ∙ q)) (c.after.ensures.slots ∙ c.branch-second.ensures.slots)
+          kept c.operand.new.word (anew_is shape c.requires.anew) h fc (λ q. c.if-bits-eq1.false (c.bits.ensures.value ∙ q)) (c.after.ensures.slots
+          ∙ c.branch-second.ensures.slots)
           (c.after.ensures.at ∙ (ap (λ (i : ℕ). (place c.args.facts.now.places.now i).next) (c.branch-second.ensures.at ∙ part.after_condition h) ∙
           part.after_then h)) (c.after.ensures.news ∙ c.branch-second.ensures.news),
     )
@@ -85,7 +123,7 @@ look-operand-requires-else-bits-eq1 t c =
 pub look-returns-then-bits-eq1-clause-looks : goal.look-returns-then-bits-eq1-clause-looks
 look-returns-then-bits-eq1-clause-looks t c =
     let shape = if_by (ap shown_term c.in-If.is) (ap shown_term c.deref.ensures) (ap shown_term c.deref-then-bits-eq1.ensures) refl in
-    let h = look_is shape c.requires in
+    let h = look_is shape c.requires.may in
     let fc = whole.finds_slots c.part.ensures.slots c.part.ensures.at c.if-operand.ensures.finds in
     let kept = part.kept_at c.args.env.now c.operand.new.env c.part.ensures.slots c.if-operand.ensures.kept in
     let slots = ap (λ (i : ℕ). take i c.operand.new.env) c.branch-second.ensures.slots ∙ kept in
@@ -96,7 +134,7 @@ look-returns-then-bits-eq1-clause-looks t c =
 pub look-returns-else-bits-eq1-clause-looks : goal.look-returns-else-bits-eq1-clause-looks
 look-returns-else-bits-eq1-clause-looks t c =
     let shape = if_by (ap shown_term c.in-If.is) (ap shown_term c.deref.ensures) refl (ap shown_term c.deref-else-bits-eq1.ensures) in
-    let h = look_is shape c.requires in
+    let h = look_is shape c.requires.may in
     let fc = whole.finds_slots c.part.ensures.slots c.part.ensures.at c.if-operand.ensures.finds in
     let kept = part.kept_at c.args.env.now c.operand.new.env c.part.ensures.slots c.if-operand.ensures.kept in
     let slots = ap (λ (i : ℕ). take i c.operand.new.env) (c.after.ensures.slots ∙ c.branch-second.ensures.slots) ∙ kept in
@@ -109,7 +147,7 @@ look-returns-else-bits-eq1-clause-looks t c =
 pub look-returns-else-operand-clause-looks : goal.look-returns-else-operand-clause-looks
 look-returns-else-operand-clause-looks t c =
     let shape = if_by (ap shown_term c.in-If.is) (ap shown_term c.deref.ensures) refl refl in
-    let h = look_is shape c.requires in
+    let h = look_is shape c.requires.may in
     let fc = whole.finds_slots c.part.ensures.slots c.part.ensures.at c.if-operand.ensures.finds in
     whole.looks_is shape (whole.looks_shut h fc)
 
@@ -118,7 +156,7 @@ look-returns-else-operand-clause-looks t c =
 pub look-after-bindings-requires : goal.look-after-bindings-requires
 look-after-bindings-requires t c =
     let shape = let_by (ap shown_term c.in-Let.is ∙ shown_term-Let c.in-Let.field-0 c.in-Let.bound c.in-Let.body) (ap shown_terms c.as_slice-bound.ensures.value) refl in
-    let h = look_is shape c.requires in
+    let h = look_is shape c.requires.may in
     omega (arith, c.part-in-Let.ensures.at, part.body_place h)
 
 pub look-values-requires : goal.look-values-requires
@@ -126,13 +164,13 @@ look-values-requires t c =
     let shape = let_by (ap shown_term c.in-Let.is ∙ shown_term-Let c.in-Let.field-0 c.in-Let.bound c.in-Let.body) (ap shown_terms c.as_slice-bound.ensures.value) refl in
     let size = ap nodes shape in
     let count = forest_nodes c.as_slice-bound.result.now in
-    let h = look_is shape c.requires in
+    let h = look_is shape c.requires.may in
     let smaller : 4 * nodes_in (shown_terms c.as_slice-bound.result.now) + 3 < 4 * nodes (shown_term c.args.t.now) = omega (arith, size) in (
       search rules,
       (
         look_all_at (c.after-bindings.ensures.slots ∙ c.part-in-Let.ensures.slots)
             (c.after-bindings.ensures.at ∙ (ap (λ (i : ℕ). (place c.args.facts.now.places.now i).next) c.part-in-Let.ensures.at ∙ part.after_body h))
-            (c.after-bindings.ensures.news ∙ c.part-in-Let.ensures.news) (part.may_bound h),
+            (c.after-bindings.ensures.news ∙ c.part-in-Let.ensures.news) (part.may_bound (anew_is shape c.requires.anew) h),
         (omega (arith, count, h.room), omega (arith, c.after-bindings.ensures.slots, c.part-in-Let.ensures.slots)),
       ),
     )
@@ -143,7 +181,7 @@ look-operand-requires-then-values t c =
     (ap shown_terms c.as_slice-bound.ensures.value) (ap shown_term c.deref-then-values.ensures) in
     let size = ap nodes shape in
     let count = forest_nodes c.as_slice-bound.result.now in
-    let h = look_is shape c.requires in
+    let h = look_is shape c.requires.may in
     let fs = whole.finds_all_slots (c.after-bindings.ensures.slots ∙ c.part-in-Let.ensures.slots)
     (c.after-bindings.ensures.at ∙ (ap (λ (i : ℕ). (place c.args.facts.now.places.now i).next) c.part-in-Let.ensures.at ∙ part.after_body h))
     c.if-values.ensures.finds in
@@ -151,7 +189,7 @@ look-operand-requires-then-values t c =
     let smaller : 4 * nodes (shown_term c.deref-then-values.result.now) + 2 < 4 * nodes (shown_term c.args.t.now) = omega (arith, size) in (
       search rules,
       part.may_body (omega (arith, c.values.ensures.asks.long)) (omega (arith, c.values.auto.env)) (omega (arith, c.values.auto.kept))
-          kept (take (length c.as_slice-bound.result.now) (drop c.args.spot.slots c.values.new.env)) h fs
+          kept (take (length c.as_slice-bound.result.now) (drop c.args.spot.slots c.values.new.env)) (anew_is shape c.requires.anew) h fs
           (ap (λ (i : ℕ). take i c.values.new.env) c.within-below.ensures.slots ∙ step.slots_and c.values.new.env
           (take c.args.spot.slots c.args.env.now) c.args.spot.slots (length c.as_slice-bound.result.now) kept)
           (omega (arith, c.within-below.ensures.slots, count, h.room)) c.within-below.ensures.at c.within-below.ensures.news,
@@ -161,7 +199,7 @@ pub look-returns-then-values-clause-looks : goal.look-returns-then-values-clause
 look-returns-then-values-clause-looks t c =
     let shape = let_by (ap shown_term c.in-Let.is ∙ shown_term-Let c.in-Let.field-0 c.in-Let.bound c.in-Let.body)
     (ap shown_terms c.as_slice-bound.ensures.value) (ap shown_term c.deref-then-values.ensures) in
-    let h = look_is shape c.requires in
+    let h = look_is shape c.requires.may in
     let fs = whole.finds_all_slots (c.after-bindings.ensures.slots ∙ c.part-in-Let.ensures.slots)
     (c.after-bindings.ensures.at ∙ (ap (λ (i : ℕ). (place c.args.facts.now.places.now i).next) c.part-in-Let.ensures.at ∙ part.after_body h))
     c.if-values.ensures.finds in
@@ -176,7 +214,7 @@ pub look-returns-then-values-clause-kept : goal.look-returns-then-values-clause-
 look-returns-then-values-clause-kept t c =
     let shape = let_by (ap shown_term c.in-Let.is ∙ shown_term-Let c.in-Let.field-0 c.in-Let.bound c.in-Let.body)
     (ap shown_terms c.as_slice-bound.ensures.value) (ap shown_term c.deref-then-values.ensures) in
-    let h = look_is shape c.requires in
+    let h = look_is shape c.requires.may in
     step.slots_kept c.operand-then-values.new.env c.values.new.env c.args.spot.slots (length c.as_slice-bound.result.now)
     (part.kept_at c.values.new.env c.operand-then-values.new.env c.within-below.ensures.slots c.operand-then-values.ensures.kept) ∙ part.kept_at
     c.args.env.now c.values.new.env (c.after-bindings.ensures.slots ∙ c.part-in-Let.ensures.slots) c.if-values.ensures.kept
@@ -184,7 +222,7 @@ look-returns-then-values-clause-kept t c =
 pub look-returns-else-values-clause-looks : goal.look-returns-else-values-clause-looks
 look-returns-else-values-clause-looks t c =
     let shape = let_by (ap shown_term c.in-Let.is ∙ shown_term-Let c.in-Let.field-0 c.in-Let.bound c.in-Let.body) (ap shown_terms c.as_slice-bound.ensures.value) refl in
-    let h = look_is shape c.requires in
+    let h = look_is shape c.requires.may in
     let fs = whole.finds_all_slots (c.after-bindings.ensures.slots ∙ c.part-in-Let.ensures.slots)
     (c.after-bindings.ensures.at ∙ (ap (λ (i : ℕ). (place c.args.facts.now.places.now i).next) c.part-in-Let.ensures.at ∙ part.after_body h))
     c.if-values.ensures.finds in
@@ -196,16 +234,21 @@ pub look-pair-requires : goal.look-pair-requires
 look-pair-requires t c =
     let shape = op_by c.in-Op.p (ap shown_term c.in-Op.is ∙ shown_term-Op c.in-Op.p c.in-Op.ts) (ap shown_terms c.as_slice-operands.ensures.value) in
     let size = ap nodes shape in
-    let h = look_is shape c.requires in
+    let h = look_is shape c.requires.may in
     let few = may.op_few c.in-Op.p _ h.can in
     let count = step.count_forest c.as_slice-operands.result.now in
-    let smaller : 4 * nodes_in (shown_terms c.as_slice-operands.result.now) + 3 < 4 * nodes (shown_term c.args.t.now) = omega (arith, size) in
-    (search rules, (look_all_at c.part-in-Op.ensures.slots c.part-in-Op.ensures.at c.part-in-Op.ensures.news (part.may_op h), (omega (arith, count, few.0), (omega (arith, count, few.1), refl))))
+    let smaller : 4 * nodes_in (shown_terms c.as_slice-operands.result.now) + 3 < 4 * nodes (shown_term c.args.t.now) = omega (arith, size) in (
+      search rules,
+      (
+        look_all_at c.part-in-Op.ensures.slots c.part-in-Op.ensures.at c.part-in-Op.ensures.news (part.may_op (anew_is shape c.requires.anew) h),
+        (omega (arith, count, few.0), (omega (arith, count, few.1), refl)),
+      ),
+    )
 
 pub look-shared_whole_as_front-apply : goal.look-shared_whole_as_front-apply
 look-shared_whole_as_front-apply t c =
     let shape = op_by c.in-Op.p (ap shown_term c.in-Op.is ∙ shown_term-Op c.in-Op.p c.in-Op.ts) (ap shown_terms c.as_slice-operands.ensures.value) in
-    let h = look_is shape c.requires in
+    let h = look_is shape c.requires.may in
     let few = may.op_few c.in-Op.p _ h.can in
     let count = step.count_forest c.as_slice-operands.result.now in
     omega (arith, count, few.1, c.pair.auto.words)
@@ -213,7 +256,7 @@ look-shared_whole_as_front-apply t c =
 pub look-apply-requires : goal.look-apply-requires
 look-apply-requires t c =
     let shape = op_by c.in-Op.p (ap shown_term c.in-Op.is ∙ shown_term-Op c.in-Op.p c.in-Op.ts) (ap shown_terms c.as_slice-operands.ensures.value) in
-    let h = look_is shape c.requires in
+    let h = look_is shape c.requires.may in
     let fs = whole.finds_all_slots c.part-in-Op.ensures.slots c.part-in-Op.ensures.at c.if-pair.ensures.finds in
     may.op_fits c.in-Op.p _ (take (length c.as_slice-operands.result.now) c.pair.new.words) h.can fs.words
 
@@ -236,7 +279,7 @@ look-values-requires-in-Call t c =
     let shape = call_by c.in-Call.field-0 c.in-Call.k (ap shown_term c.in-Call.is ∙ shown_term-Call c.in-Call.field-0 c.in-Call.k c.in-Call.ts) (ap shown_terms c.as_slice-args.ensures.value) in
     let size = ap nodes shape in
     let count = forest_nodes c.as_slice-args.result.now in
-    let h = look_is shape c.requires in
+    let h = look_is shape c.requires.may in
     let smaller : 4 * nodes_in (shown_terms c.as_slice-args.result.now) + 3 < 4 * nodes (shown_term c.args.t.now) = omega (arith, size) in (
       search rules,
       (
@@ -248,20 +291,20 @@ look-values-requires-in-Call t c =
 pub look-ask-requires-clause-site : goal.look-ask-requires-clause-site
 look-ask-requires-clause-site t c =
     let shape = call_by c.in-Call.field-0 c.in-Call.k (ap shown_term c.in-Call.is ∙ shown_term-Call c.in-Call.field-0 c.in-Call.k c.in-Call.ts) (ap shown_terms c.as_slice-args.ensures.value) in
-    let h = look_is shape c.requires in
+    let h = look_is shape c.requires.may in
     omega (arith, may.call_place _ _ _ h.can, c.values-in-Call.ensures.asks.long)
 
 pub look-words-requires : goal.look-words-requires
 look-words-requires t c =
     let shape = call_by c.in-Call.field-0 c.in-Call.k (ap shown_term c.in-Call.is ∙ shown_term-Call c.in-Call.field-0 c.in-Call.k c.in-Call.ts) (ap shown_terms c.as_slice-args.ensures.value) in
     let count = forest_nodes c.as_slice-args.result.now in
-    let h = look_is shape c.requires in
+    let h = look_is shape c.requires.may in
     omega (arith, count, h.room, c.values-in-Call.auto.env)
 
 pub look-ask-requires-clause-few : goal.look-ask-requires-clause-few
 look-ask-requires-clause-few t c =
     let shape = call_by c.in-Call.field-0 c.in-Call.k (ap shown_term c.in-Call.is ∙ shown_term-Call c.in-Call.field-0 c.in-Call.k c.in-Call.ts) (ap shown_terms c.as_slice-args.ensures.value) in
-    let h = look_is shape c.requires in
+    let h = look_is shape c.requires.may in
     let few = may.call_few _ _ _ h.can in
     omega (
       arith,
@@ -275,13 +318,13 @@ look-ask-requires-clause-few t c =
 pub look-returned-requires-clause-within : goal.look-returned-requires-clause-within
 look-returned-requires-clause-within t c =
     let shape = call_by c.in-Call.field-0 c.in-Call.k (ap shown_term c.in-Call.is ∙ shown_term-Call c.in-Call.field-0 c.in-Call.k c.in-Call.ts) (ap shown_terms c.as_slice-args.ensures.value) in
-    let h = look_is shape c.requires in
+    let h = look_is shape c.requires.may in
     omega (arith, may.call_place _ _ _ h.can, h.can.all_sites)
 
 pub look-returns-after-values-2-clause-looks : goal.look-returns-after-values-2-clause-looks
 look-returns-after-values-2-clause-looks t c =
     let shape = call_by c.in-Call.field-0 c.in-Call.k (ap shown_term c.in-Call.is ∙ shown_term-Call c.in-Call.field-0 c.in-Call.k c.in-Call.ts) (ap shown_terms c.as_slice-args.ensures.value) in
-    let h = look_is shape c.requires in
+    let h = look_is shape c.requires.may in
     let back = whole.ready_cell c.returned.result c.returned.new.word c.ready-in-Call.result c.ready-in-Call.ensures ∙ c.returned.ensures in
     whole.looks_is shape (elim c.if-values-2.branch [
       | look-then-values-2 w ↦ whole.looks_asked (take (length c.as_slice-args.result.now) (drop c.args.spot.slots c.values-in-Call.new.env)) h
@@ -298,11 +341,11 @@ look-values-requires-in-Loop t c =
     let shape = loop_by c.in-Loop.field-0 (ap shown_term c.in-Loop.is ∙ shown_term-Loop c.in-Loop.field-0 c.in-Loop.ts) (ap shown_terms c.as_slice-passed.ensures.value) in
     let size = ap nodes shape in
     let count = forest_nodes c.as_slice-passed.result.now in
-    let h = look_is shape c.requires in
+    let h = look_is shape c.requires.may in
     let smaller : 4 * nodes_in (shown_terms c.as_slice-passed.result.now) + 3 < 4 * nodes (shown_term c.args.t.now) = omega (arith, size) in (
       search rules,
       (
-        look_all_at c.part-in-Loop.ensures.slots c.part-in-Loop.ensures.at c.part-in-Loop.ensures.news (part.may_loop h),
+        look_all_at c.part-in-Loop.ensures.slots c.part-in-Loop.ensures.at c.part-in-Loop.ensures.news (part.may_loop (anew_is shape c.requires.anew) h),
         (omega (arith, count, h.room), omega (arith, c.part-in-Loop.ensures.slots)),
       ),
     )
@@ -320,7 +363,7 @@ look-returns-in-Const-clause-looks t c =
 
 pub look-returns-in-Var-clause-looks : goal.look-returns-in-Var-clause-looks
 look-returns-in-Var-clause-looks t c =
-    let place = may.var_place c.in-Var.slot (may.can_is refl refl (ap shown_term c.in-Var.is) c.requires.can) in
+    let place = may.var_place c.in-Var.slot (may.can_is refl refl (ap shown_term c.in-Var.is) c.requires.may.can) in
     let read : c.index-env-slot.result ≡ _ = step.slot_is c.args.env.now c.args.spot.slots c.in-Var.slot _ place c.index-env-slot.is in
     whole.looks_is (ap shown_term c.in-Var.is) (whole.looks_var c.in-Var.slot (whole.ready_cell c.put-in-Var.result c.put-in-Var.new.word c.ready-in-Var.result c.ready-in-Var.ensures
     ∙ (c.put-in-Var.ensures ∙ (ap Some (sym c.index-env-slot.is ∙ read) ∙ ap word_of
@@ -467,6 +510,9 @@ values-returns-else-found-clause-finds t c =
 
 pub find-returns-then-is_skipped-clause-asks : goal.find-returns-then-is_skipped-clause-asks
 find-returns-then-is_skipped-clause-asks t c = asks_none c.args.asks.now
+
+pub find-returns-then-is_plain_at-clause-asks : goal.find-returns-then-is_plain_at-clause-asks
+find-returns-then-is_plain_at-clause-asks t c = asks_none c.args.asks.now
 
 pub find-returns-clause-asks : goal.find-returns-clause-asks
 find-returns-clause-asks t c = c.look-found.ensures.asks

@@ -28,7 +28,7 @@ lay_all-returns-in_default-clause-laid t c =
 pub lay_all-returns-in_default-clause-room : goal.lay_all-returns-in_default-clause-room
 lay_all-returns-in_default-clause-room t c =
     let shape = ap shown_terms (empty_list c.args.ts.now c.in_default.ensures.cases) in
-    part.room_is shape (part.room_nil c.empty.ensures)
+    part.room_is shape (part.room_nil c.empty.ensures.next c.empty.ensures.plain c.empty.ensures.body)
 
 pub lay_all-lay_all-others-requires : goal.lay_all-lay_all-others-requires
 lay_all-lay_all-others-requires t c =
@@ -49,7 +49,7 @@ pub lay_all-returns-clause-room : goal.lay_all-returns-clause-room
 lay_all-returns-clause-room t c =
     let shape = ap shown_terms c.in-Some.ensures.cases.0 in
     part.room_is shape (part.room_more c.lay-one.ensures.place (part.room_at c.lay-one.ensures.place.next c.lay_all-others.ensures.room)
-    c.followed.ensures.first c.followed.ensures.second c.followed.ensures.next)
+    c.followed.ensures.first c.followed.ensures.second c.followed.ensures.next c.followed.ensures.plain c.followed.ensures.body)
 
 pub lay_parts-lay_all-bindings-requires : goal.lay_parts-lay_all-bindings-requires
 lay_parts-lay_all-bindings-requires t c =
@@ -85,7 +85,7 @@ lay_parts-returns-in-Const-clause-laid t c =
 
 pub lay_parts-returns-in-Const-clause-place : goal.lay_parts-returns-in-Const-clause-place
 lay_parts-returns-in-Const-clause-place t c =
-    part.place_is (ap shown_term c.in-Const.is) (part.place_const c.empty.ensures)
+    part.place_is (ap shown_term c.in-Const.is) (part.place_const c.empty.ensures.next c.empty.ensures.plain c.empty.ensures.body)
 
 pub lay_parts-returns-in-Var-clause-laid : goal.lay_parts-returns-in-Var-clause-laid
 lay_parts-returns-in-Var-clause-laid t c =
@@ -93,7 +93,7 @@ lay_parts-returns-in-Var-clause-laid t c =
 
 pub lay_parts-returns-in-Var-clause-place : goal.lay_parts-returns-in-Var-clause-place
 lay_parts-returns-in-Var-clause-place t c =
-    part.place_is (ap shown_term c.in-Var.is) (part.place_var c.empty-in-Var.ensures)
+    part.place_is (ap shown_term c.in-Var.is) (part.place_var c.empty-in-Var.ensures.next c.empty-in-Var.ensures.plain c.empty-in-Var.ensures.body)
 
 pub lay_parts-returns-in-If-clause-laid : goal.lay_parts-returns-in-If-clause-laid
 lay_parts-returns-in-If-clause-laid t c =
@@ -115,8 +115,8 @@ lay_parts-returns-in-If-clause-place t c =
     let third : c.lay-second.result.next ≡ c.args.at + 1 + nodes (shown_term c.deref.result.now) + nodes (shown_term c.deref-in-If.result.now) = omega
     (arith, second, c.lay-second.ensures.place.next) in
     part.place_is shape (part.place_if c.lay-first.ensures.place (part.place_at second c.lay-second.ensures.place)
-    (part.place_at third c.lay-third.ensures.place) c.followed.ensures.first c.followed.ensures.second c.followed-in-If.ensures.first
-    c.followed-in-If.ensures.second c.followed-in-If.ensures.next)
+    (part.place_at third c.lay-third.ensures.place) c.either.ensures.first c.either.ensures.second c.followed.ensures.first c.followed.ensures.second
+    c.followed.ensures.next c.either.ensures.next c.either.ensures.plain c.followed.ensures.plain c.either.ensures.body c.followed.ensures.body)
 
 pub lay_parts-returns-in-Let-clause-laid : goal.lay_parts-returns-in-Let-clause-laid
 lay_parts-returns-in-Let-clause-laid t c =
@@ -131,8 +131,8 @@ pub lay_parts-returns-in-Let-clause-place : goal.lay_parts-returns-in-Let-clause
 lay_parts-returns-in-Let-clause-place t c =
     let shape = let_by (ap shown_term c.in-Let.is ∙ shown_term-Let c.in-Let.field-0 c.in-Let.bound c.in-Let.body) (ap shown_terms c.as_slice.ensures.value) (ap shown_term c.deref-in-Let.ensures) in
     let next = c.lay-below.ensures.place.next in
-    part.place_is shape (part.place_let c.lay-below.ensures.place (part.room_at next c.lay_all-bindings.ensures.room) c.followed-in-Let.ensures.first
-    c.followed-in-Let.ensures.second c.followed-in-Let.ensures.next)
+    part.place_is shape (part.place_let c.lay-below.ensures.place (part.room_at next c.lay_all-bindings.ensures.room) c.bound_in.ensures.first
+    c.bound_in.ensures.second c.bound_in.ensures.next c.bound_in.ensures.plain c.bound_in.ensures.body)
 
 pub lay_parts-returns-in-Let-clause-outside : goal.lay_parts-returns-in-Let-clause-outside
 lay_parts-returns-in-Let-clause-outside t c =
@@ -167,7 +167,8 @@ lay_parts-returns-in-Call-clause-laid t c =
 pub lay_parts-returns-in-Call-clause-place : goal.lay_parts-returns-in-Call-clause-place
 lay_parts-returns-in-Call-clause-place t c =
     let shape = call_by c.in-Call.field-0 c.in-Call.k (ap shown_term c.in-Call.is ∙ shown_term-Call c.in-Call.field-0 c.in-Call.k c.in-Call.ts) (ap shown_terms c.as_slice-in-Call.ensures.value) in
-    part.place_is shape (part.place_call c.lay_all-in-Call.ensures.room c.with_site.ensures.others c.with_site.ensures.next c.with_site.ensures.first c.with_site.ensures.last)
+    part.place_is shape (part.place_call c.lay_all-in-Call.ensures.room c.with_site.ensures.others c.with_site.ensures.next c.with_site.ensures.first
+    c.with_site.ensures.last c.with_site.ensures.plain c.with_site.ensures.body)
 
 pub lay_parts-returns-in-Call-clause-outside : goal.lay_parts-returns-in-Call-clause-outside
 lay_parts-returns-in-Call-clause-outside t c =
@@ -184,7 +185,7 @@ lay_parts-returns-in-Loop-clause-laid t c =
 pub lay_parts-returns-in-Loop-clause-place : goal.lay_parts-returns-in-Loop-clause-place
 lay_parts-returns-in-Loop-clause-place t c =
     let shape = loop_by c.in-Loop.field-0 (ap shown_term c.in-Loop.is ∙ shown_term-Loop c.in-Loop.field-0 c.in-Loop.ts) (ap shown_terms c.as_slice-in-Loop.ensures.value) in
-    part.place_is shape (part.place_loop c.lay_all-in-Loop.ensures.room)
+    part.place_is shape (part.place_loop c.lay_all-in-Loop.ensures.room c.with_loop.ensures)
 
 pub lay_parts-returns-in-Loop-clause-outside : goal.lay_parts-returns-in-Loop-clause-outside
 lay_parts-returns-in-Loop-clause-outside t c =

@@ -1,0 +1,137 @@
+use Rattle.std.proofs.Common.{rules, ◌<◌, List, length, take, drop, refl, sym, ap, ◌∙◌, arith}
+use Rattle.safl_word.specs.Words.{Word}
+use Rattle.safl_term.specs.Readiness.{LoopTo}
+use Rattle.safl_term.specs.Sizes.{nodes}
+use Rattle.safl_term.specs.Tree.{shown_term, shown_terms}
+use Rattle.safl_term.proofs.PlainTrees.{shown_term-Op, shown_term-Loop, shown_term-Let}
+use Rattle.safl_evaluate.proofs.AnswersByParts as step
+use Rattle.safl_evaluate.proofs.AnswersByParts.{if_by, let_by, loop_by, forest_nodes}
+use Rattle.safl_evaluate.proofs.PlainByParts as part
+use Rattle.safl_evaluate.proofs.PlainByParts.{conclude_is, comes_is, concludes_is}
+use Rattle.safl_evaluate.proofs.RunsByParts as may
+use Rattle.safl_evaluate.proofs.compute.+conclude.Goals as goal
+
+-- ---- conditions
+
+pub operand-requires : goal.operand-requires
+operand-requires t c =
+    let shape = if_by (ap shown_term c.in-If.is) (ap shown_term c.deref.ensures) refl refl in
+    part.conclude_condition (conclude_is shape c.requires)
+
+pub conclude-requires : goal.conclude-requires
+conclude-requires t c =
+    let shape = if_by (ap shown_term c.in-If.is) refl (ap shown_term c.deref-then-bits-eq1.ensures) refl in
+    let size = ap nodes shape in
+    let smaller : nodes (shown_term c.deref-then-bits-eq1.result.now) < nodes (shown_term c.args.t.now) = omega (arith, size) in
+    (search rules, part.conclude_then (omega (arith, c.operand.auto.env)) c.operand.ensures.kept (conclude_is shape c.requires))
+
+pub conclude-requires-else-bits-eq1 : goal.conclude-requires-else-bits-eq1
+conclude-requires-else-bits-eq1 t c =
+    let shape = if_by (ap shown_term c.in-If.is) refl refl (ap shown_term c.deref-else-bits-eq1.ensures) in
+    let size = ap nodes shape in
+    let smaller : nodes (shown_term c.deref-else-bits-eq1.result.now) < nodes (shown_term c.args.t.now) = omega (arith, size) in
+    (search rules, part.conclude_else (omega (arith, c.operand.auto.env)) c.operand.ensures.kept (conclude_is shape c.requires))
+
+pub returns-then-bits-eq1 : goal.returns-then-bits-eq1
+returns-then-bits-eq1 t c =
+    let shape = if_by (ap shown_term c.in-If.is) (ap shown_term c.deref.ensures) (ap shown_term c.deref-then-bits-eq1.ensures) refl in
+    concludes_is refl shape (part.concludes_then c.operand.ensures.word (sym c.bits.ensures.value ∙ c.if-bits-eq1.true)
+    (concludes_is (sym c.operand.ensures.kept) refl c.conclude.ensures))
+
+pub returns-else-bits-eq1 : goal.returns-else-bits-eq1
+returns-else-bits-eq1 t c =
+    let shape = if_by (ap shown_term c.in-If.is) (ap shown_term c.deref.ensures) refl (ap shown_term c.deref-else-bits-eq1.ensures) in
+    concludes_is refl shape (part.concludes_else c.operand.ensures.word (λ q. c.if-bits-eq1.false (c.bits.ensures.value ∙ q))
+    (concludes_is (sym c.operand.ensures.kept) refl c.conclude-else-bits-eq1.ensures))
+
+-- ---- bindings
+
+pub values-requires-clause-can : goal.values-requires-clause-can
+values-requires-clause-can t c =
+    let shape = let_by (ap shown_term c.in-Let.is ∙ shown_term-Let c.in-Let.field-0 c.in-Let.bound c.in-Let.body)
+    (ap shown_terms c.as_slice-bound.ensures.value) refl in
+    part.conclude_bound (conclude_is shape c.requires)
+
+pub values-requires-clause-places : goal.values-requires-clause-places
+values-requires-clause-places t c =
+    let shape = let_by (ap shown_term c.in-Let.is ∙ shown_term-Let c.in-Let.field-0 c.in-Let.bound c.in-Let.body)
+    (ap shown_terms c.as_slice-bound.ensures.value) refl in
+    let h = conclude_is shape c.requires in
+    omega (arith, forest_nodes c.as_slice-bound.result.now, h.room)
+
+pub conclude-requires-in-Let : goal.conclude-requires-in-Let
+conclude-requires-in-Let t c =
+    let shape = let_by (ap shown_term c.in-Let.is ∙ shown_term-Let c.in-Let.field-0 c.in-Let.bound c.in-Let.body)
+    (ap shown_terms c.as_slice-bound.ensures.value) (ap shown_term c.deref-in-Let.ensures) in
+    let size = ap nodes shape in
+    let h = conclude_is shape c.requires in
+    let slots = step.slots_and c.values.new.env (take c.args.slots c.args.env.now) c.args.slots (length c.as_slice-bound.result.now) c.values.ensures.kept in
+    let smaller : nodes (shown_term c.deref-in-Let.result.now) < nodes (shown_term c.args.t.now) = omega (arith, size) in (
+      search rules,
+      part.conclude_body (omega (arith, c.values.auto.env)) (take (length c.as_slice-bound.result.now)
+          (drop c.args.slots c.values.new.env)) h c.values.ensures.words
+          slots (omega (arith, forest_nodes c.as_slice-bound.result.now, h.room)),
+    )
+
+pub returns-in-Let : goal.returns-in-Let
+returns-in-Let t c =
+    let shape = let_by (ap shown_term c.in-Let.is ∙ shown_term-Let c.in-Let.field-0 c.in-Let.bound c.in-Let.body)
+    (ap shown_terms c.as_slice-bound.ensures.value) (ap shown_term c.deref-in-Let.ensures) in
+    let slots = step.slots_and c.values.new.env (take c.args.slots c.args.env.now) c.args.slots (length c.as_slice-bound.result.now) c.values.ensures.kept in
+    concludes_is refl shape (part.concludes_let c.values.ensures.words (concludes_is (sym slots) refl c.conclude-in-Let.ensures))
+
+-- ---- tail calls
+
+pub values-requires-in-Loop-clause-can : goal.values-requires-in-Loop-clause-can
+values-requires-in-Loop-clause-can t c =
+    let shape = loop_by c.in-Loop.h (ap shown_term c.in-Loop.is ∙ shown_term-Loop c.in-Loop.h c.in-Loop.ts) (ap shown_terms c.as_slice-passed.ensures.value) in
+    part.conclude_loop (conclude_is shape c.requires)
+
+pub values-requires-in-Loop-clause-places : goal.values-requires-in-Loop-clause-places
+values-requires-in-Loop-clause-places t c =
+    let shape = loop_by c.in-Loop.h (ap shown_term c.in-Loop.is ∙ shown_term-Loop c.in-Loop.h c.in-Loop.ts) (ap shown_terms c.as_slice-passed.ensures.value) in
+    let h = conclude_is shape c.requires in
+    omega (arith, forest_nodes c.as_slice-passed.result.now, h.room)
+
+pub words-requires : goal.words-requires
+words-requires t c =
+    let shape = loop_by c.in-Loop.h (ap shown_term c.in-Loop.is ∙ shown_term-Loop c.in-Loop.h c.in-Loop.ts) (ap shown_terms c.as_slice-passed.ensures.value) in
+    let h = conclude_is shape c.requires in
+    omega (arith, forest_nodes c.as_slice-passed.result.now, h.room, c.values-in-Loop.auto.env)
+
+pub pass-requires : goal.pass-requires
+pass-requires t c =
+    let shape = loop_by c.in-Loop.h (ap shown_term c.in-Loop.is ∙ shown_term-Loop c.in-Loop.h c.in-Loop.ts) (ap shown_terms c.as_slice-passed.ensures.value) in
+    let h = conclude_is shape c.requires in
+    let few = may.loop_few _ _ h.can in
+    omega (
+      arith,
+      few,
+      step.count_forest c.as_slice-passed.result.now,
+      ap (λ (l : List Word). length l) c.words.ensures,
+      step.part_few (length c.as_slice-passed.result.now) (drop c.args.slots c.values-in-Loop.new.env),
+    )
+
+pub returns-in-Loop : goal.returns-in-Loop
+returns-in-Loop t c =
+    let shape = loop_by c.in-Loop.h (ap shown_term c.in-Loop.is ∙ shown_term-Loop c.in-Loop.h c.in-Loop.ts) (ap shown_terms c.as_slice-passed.ensures.value) in
+    concludes_is refl shape (part.concludes_loop c.values-in-Loop.ensures.words (c.pass.ensures ∙ ap (LoopTo c.in-Loop.h) c.words.ensures))
+
+-- ---- words
+
+pub returns-in-Const : goal.returns-in-Const
+returns-in-Const t c = part.concludes_word (comes_is refl (ap shown_term c.in-Const.is) (part.comes_const c.in-Const.number)) c.settle.ensures
+
+pub returns-in-Var : goal.returns-in-Var
+returns-in-Var t c =
+    let place = may.var_place c.in-Var.slot (may.can_is refl refl (ap shown_term c.in-Var.is) c.requires.can) in
+    part.concludes_word (comes_is refl (ap shown_term c.in-Var.is) (part.comes_var c.in-Var.slot
+    (step.slot_is c.args.env.now c.args.slots c.in-Var.slot _ place c.index-env-slot.is))) c.settle-in-Var.ensures
+
+pub compute-requires : goal.compute-requires
+compute-requires t c =
+    let shape = ap shown_term c.in-Op.is ∙ shown_term-Op c.in-Op.field-0 c.in-Op.field-1 in
+    part.compute_is (sym shape) (part.conclude_op (conclude_is shape c.requires))
+
+pub returns-in-Op : goal.returns-in-Op
+returns-in-Op t c = part.concludes_word c.compute.ensures.word c.settle-in-Op.ensures

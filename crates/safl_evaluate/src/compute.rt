@@ -1,0 +1,147 @@
+//! What plain terms and plain bodies come to. Nothing of their parts is kept.
+
+ghost use Rattle.std.specs.Prelude.{◌≡◌, ◌+◌, ◌≤◌, length, take};
+ghost use Rattle.safl_term.specs.Tree.{shown_term, shown_terms};
+ghost use Rattle.safl_evaluate.specs.Looking.{words_at};
+ghost use Rattle.safl_evaluate.specs.Plain.{CanCompute, CanComputeAll, CanConclude, ComesTo, ComeTo, ConcludesIn};
+
+use crate::answer::Answer;
+use safl_term::Term;
+use safl_word::{Word, apply};
+
+/// A word that is about to be overwritten.
+pub fn blank() -> Word {
+    Word::from_parts(1, 0)
+}
+
+/// Notes what a plain body comes to: the word of a plain term, or a tail call.
+pub fn conclude(env: &mut [Word], slots: usize, t: &Term, told: &mut Answer)
+    requires { CanConclude env.old slots (shown_term t.now) }
+    ensures { ConcludesIn (take slots env.old) (shown_term t.now) told.new }
+{
+    let mut word = blank();
+    match t {
+        Term::If(condition, a, b) => {
+            operand(env, slots, condition, &mut word);
+            if word.bits() == 1 {
+                conclude(env, slots, a, told);
+            } else {
+                conclude(env, slots, b, told);
+            }
+        }
+        Term::Let(_, bound, body) => {
+            let bound = bound.as_slice();
+            values(env, slots, slots, bound);
+            conclude(env, slots + bound.len(), body, told);
+        }
+        Term::Loop(h, ts) => {
+            let passed = ts.as_slice();
+            values(env, slots, slots, passed);
+            told.pass(*h, words(env, slots, passed.len()));
+        }
+        Term::Const(number) => told.settle(Some(*number)),
+        Term::Var(slot) => told.settle(Some(env[*slot as usize])),
+        Term::Op(_, _) => {
+            compute(env, slots, t, &mut word);
+            told.settle(Some(word));
+        }
+        Term::Call(_, _, _) => unreachable!(),
+    }
+}
+
+/// So many words from a place on.
+pub fn words(env: &[Word], at: usize, count: usize) -> &[Word]
+    requires { at + count ≤ length env.now }
+    ensures { result.now ≡ words_at env.now at count }
+{
+    &env[at..at + count]
+}
+
+/// Writes the word that a plain term comes to, where the first `slots` words of `env` are those of its slots. Those from
+/// `slots` on are overwritten.
+#[cycle(compute)]
+pub fn compute(env: &mut [Word], slots: usize, t: &Term, word: &mut Word)
+    requires { CanCompute env.old slots (shown_term t.now) }
+    ensures word { ComesTo (take slots env.old) (shown_term t.now) word.new }
+    ensures kept { take slots env.new ≡ take slots env.old }
+{
+    match t {
+        Term::Const(number) => *word = *number,
+        Term::Var(slot) => *word = env[*slot as usize],
+        Term::If(condition, a, b) => {
+            operand(env, slots, condition, word);
+            if word.bits() == 1 {
+                operand(env, slots, a, word);
+            } else {
+                operand(env, slots, b, word);
+            }
+        }
+        Term::Let(_, bound, body) => {
+            let bound = bound.as_slice();
+            values(env, slots, slots, bound);
+            operand(env, slots + bound.len(), body, word);
+        }
+        Term::Op(p, ts) => {
+            let operands = ts.as_slice();
+            let mut words = [*word, *word];
+            pair(env, slots, operands, &mut words);
+            *word = apply(*p, &words[..operands.len()]);
+        }
+        Term::Call(_, _, _) => unreachable!(),
+        Term::Loop(_, _) => unreachable!(),
+    }
+}
+
+// The same as `compute`, where constants and slots need no call.
+#[cycle(compute)]
+fn operand(env: &mut [Word], slots: usize, t: &Term, word: &mut Word)
+    requires { CanCompute env.old slots (shown_term t.now) }
+    ensures word { ComesTo (take slots env.old) (shown_term t.now) word.new }
+    ensures kept { take slots env.new ≡ take slots env.old }
+{
+    match t {
+        Term::Const(number) => *word = *number,
+        Term::Var(slot) => *word = env[*slot as usize],
+        _ => compute(env, slots, t, word),
+    }
+}
+
+// The words of one operand or two. None of them goes by way of `env`.
+#[cycle(compute)]
+fn pair(env: &mut [Word], slots: usize, ts: &[Term], words: &mut [Word])
+    requires can { CanComputeAll env.old slots (shown_terms ts.now) }
+    requires least { 1 ≤ length ts.now }
+    requires most { length ts.now ≤ 2 }
+    requires room { length words.old ≡ 2 }
+    ensures words { ComeTo (take slots env.old) (shown_terms ts.now) (take (length ts.now) words.new) }
+    ensures kept { take slots env.new ≡ take slots env.old }
+{
+    match ts {
+        [] => unreachable!(),
+        [only] => operand(env, slots, only, &mut words[0]),
+        [a, b] => {
+            operand(env, slots, a, &mut words[0]);
+            operand(env, slots, b, &mut words[1]);
+        }
+        [_, _, _, ..] => unreachable!(),
+    }
+}
+
+// Puts what each term comes to into `env` from place `to` on. A term may overwrite what stands from `slots` on, so each
+// word is put there after those that follow it.
+#[cycle(compute)]
+fn values(env: &mut [Word], slots: usize, to: usize, ts: &[Term])
+    requires can { CanComputeAll env.old slots (shown_terms ts.now) }
+    requires places { to + length ts.now ≤ length env.old }
+    requires after { slots ≤ to }
+    ensures words { ComeTo (take slots env.old) (shown_terms ts.now) (words_at env.new to (length ts.now)) }
+    ensures kept { take slots env.new ≡ take slots env.old }
+{
+    let Some((first, rest)) = ts.split_first() else {
+        return;
+    };
+    let mut word = blank();
+    operand(env, slots, first, &mut word);
+    values(env, slots, to + 1, rest);
+    env[to] = word;
+}
