@@ -1,13 +1,14 @@
 //! What plain terms and plain bodies come to. Nothing of their parts is kept.
 
-ghost use Rattle.std.specs.Prelude.{◌≡◌, ◌+◌, ◌≤◌, length, take};
+ghost use Rattle.std.specs.Prelude.{◌≡◌, ◌+◌, ◌≤◌, length, map, take, IsSome};
 ghost use Rattle.safl_term.specs.Tree.{shown_term, shown_terms};
+ghost use Rattle.safl_word.specs.Primitives.{apply_prim, result_width};
 ghost use Rattle.safl_evaluate.specs.Looking.{words_at};
 ghost use Rattle.safl_evaluate.specs.Plain.{CanCompute, CanComputeAll, CanConclude, ComesTo, ComeTo, ConcludesIn};
 
 use crate::answer::Answer;
 use safl_term::Term;
-use safl_word::{Word, apply};
+use safl_word::{Primitive, Word, apply};
 
 /// A word that is about to be overwritten.
 pub fn blank() -> Word {
@@ -49,6 +50,15 @@ pub fn conclude(env: &mut [Word], slots: usize, t: &Term, told: &mut Answer)
     }
 }
 
+/// Writes what a primitive gives on these words. Its code stands here alone, and writes in place.
+#[inline(never)]
+pub fn applied(p: Primitive, operands: &[Word], word: &mut Word)
+    requires { IsSome (result_width p (map (λ v. v.width) operands.now)) }
+    ensures { word.new ≡ apply_prim p operands.now }
+{
+    *word = apply(p, operands);
+}
+
 /// So many words from a place on.
 pub fn words(env: &[Word], at: usize, count: usize) -> &[Word]
     requires { at + count ≤ length env.now }
@@ -85,7 +95,7 @@ pub fn compute(env: &mut [Word], slots: usize, t: &Term, word: &mut Word)
             let operands = ts.as_slice();
             let mut words = [*word, *word];
             pair(env, slots, operands, &mut words);
-            *word = apply(*p, &words[..operands.len()]);
+            applied(*p, &words[..operands.len()], word);
         }
         Term::Call(_, _, _) => unreachable!(),
         Term::Loop(_, _) => unreachable!(),

@@ -12,13 +12,13 @@ ghost use Rattle.safl_evaluate.specs.Plain.{CanCompute, ComesTo};
 ghost use Rattle.safl_evaluate.specs.Stages.{back_at};
 
 use crate::answer::Answer;
-use crate::compute::{blank, compute, conclude, words};
+use crate::compute::{applied, blank, compute, conclude, words};
 use crate::kept::{Found, Kept, is_open_at, keep, keep_told, opened, ready, recall, shut};
 use crate::places::Place;
 use crate::stage::Stage;
 use crate::wants::Wants;
 use safl_term::Term;
-use safl_word::{Word, apply};
+use safl_word::Word;
 
 /// What stays the same while terms are looked at: the stages of the sites, and the places of the nodes.
 #[derive(Clone, Copy)]
@@ -316,7 +316,7 @@ fn look(
             let operands = ts.as_slice();
             let mut words = [blank(), blank()];
             if pair(facts, asks, env, kept, part(spot), operands, &mut words) {
-                *word = apply(*p, &words[..operands.len()]);
+                applied(*p, &words[..operands.len()], word);
                 Found::Ready
             } else {
                 Found::Shut

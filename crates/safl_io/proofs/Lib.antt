@@ -1,5 +1,6 @@
 pub mod Telling
 pub mod Pieces
+pub mod Keeping
 pub mod Writing
 pub mod Reading
 pub mod Files

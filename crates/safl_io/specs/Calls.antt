@@ -1,6 +1,8 @@
 -- Calls of a shelf or a sink in memory, of which some are to fail.
-use Rattle.std.specs.Prelude.{ℕ, List, [], ◌∷◌, ◌++◌, Contains}
+use Rattle.std.specs.Prelude.{ℕ, ◌≡◌, List, [], ◌∷◌, ◌++◌, Contains, Result, Ok, Err}
 use Rattle.safl_io.specs.Counts.{raised}
+use Rattle.safl_io.specs.declared.fault.OutErr.{OutErr}
+use Rattle.safl_io.specs.declared.fault.OutErr.TheVariants.{Failed, NoMemory}
 
 -- how many calls there were, and the numbers of those that are to fail
 pub record Calls : Type 0 where
@@ -26,3 +28,15 @@ no_calls = record { failing = []; made = 0 }
 -- with one more call that is to fail
 abbrev pub with_failing : ℕ → Calls → Calls
 with_failing call calls = record calls { failing = calls.failing ++ call ∷ [] }
+
+-- out of memory aside, a call fails exactly where this holds
+abbrev pub FailsWhere : Type 0 → Result Unit OutErr → Type 0
+FailsWhere P (Ok x) = ¬ P
+FailsWhere P (Err Failed) = P
+FailsWhere P (Err NoMemory) = Unit {0}
+
+-- the count of faults after a call: one more where it failed, and otherwise the same
+abbrev pub CountsFault : Result Unit OutErr → ℕ → ℕ → Type 0
+CountsFault (Ok x) before now = now ≡ before
+CountsFault (Err Failed) before now = now ≡ raised before
+CountsFault (Err NoMemory) before now = now ≡ before

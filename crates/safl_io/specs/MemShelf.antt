@@ -1,6 +1,6 @@
 -- A shelf in memory.
-use Rattle.std.specs.Prelude.{ℕ, ◌≡◌, ◌⊎◌, ◌++◌, ◌/◌, List, length, take, IsNone, option_map}
-use Rattle.safl_io.specs.Shelf.{Files, file_of}
+use Rattle.std.specs.Prelude.{ℕ, ◌≡◌, ◌⊎◌, ◌++◌, ◌/◌, List, length, take, Some, IsNone, option_map}
+use Rattle.safl_io.specs.Shelf.{Files, ShelfState, file_of}
 use Rattle.safl_io.specs.Calls.{Calls, Fails}
 
 -- its files, its calls and its counts
@@ -10,6 +10,10 @@ pub record Memory : Type 0 where
   pub read_faults : ℕ
   pub write_faults : ℕ
   pub strays : ℕ
+
+-- what it tells: all of its files
+abbrev pub told_by : Memory → ShelfState
+told_by shelf = record { holds = Some shelf.files; read_faults = shelf.read_faults; write_faults = shelf.write_faults; strays = shelf.strays }
 
 -- the next call is to fail, or no file has that name
 abbrev pub FailsAt : Memory → List ℕ → Type 0

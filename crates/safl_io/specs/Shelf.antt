@@ -67,6 +67,19 @@ abbrev pub CountsStray : Option Files → List ℕ → ℕ → ℕ → Type 0
 CountsStray None name before now = now ≡ before
 CountsStray (Some files) name before now = MatchOption (file_of files name) (Rose before now) (λ _. now ≡ before)
 
+-- what a read leaves, whatever comes: what the shelf holds and its count of failed writes are the same, and no other count of it fell
+pub record SameFiles (old new : ShelfState) : Type 0 where
+  pub holds : new.holds ≡ old.holds
+  pub reads : old.read_faults ≤ new.read_faults
+  pub writes : new.write_faults ≡ old.write_faults
+  pub strays : old.strays ≤ new.strays
+
+-- what a write leaves, whatever comes: the shelf's count of failed reads is the same, and no other count of it fell
+pub record SameReads (old new : ShelfState) : Type 0 where
+  pub reads : new.read_faults ≡ old.read_faults
+  pub writes : old.write_faults ≤ new.write_faults
+  pub strays : old.strays ≤ new.strays
+
 -- where the shelf tells what it holds, no name was used of which it holds no file
 abbrev pub UsesNoStray : ShelfState → ShelfState → Type 0
 UsesNoStray old new = OnSome old.holds (new.strays ≡ old.strays)

@@ -1,11 +1,10 @@
 // A shelf in memory, for tests.
-ghost use Rattle.std.specs.Prelude.{◌≡◌, ◌≤◌, ◌-◌, ◌+◌, ◌++◌, ◌↔◌, ◌⊎◌, [], ◌∷◌, length, min, IfOk, IfSome, OnOk, OnErr, IsErr, IsNone, IsErrOf};
+ghost use Rattle.std.specs.Prelude.{◌≡◌, ◌≤◌, ◌-◌, ◌↔◌, [], length, min, IfOk, IfSome, OnOk, OnErr, IsErr, IsErrOf};
 ghost use Rattle.std.specs.Option.{option_copied};
 ghost use Rattle.safl_io.specs.Counts.{Rose, raised};
-ghost use Rattle.safl_io.specs.Told.{TellsOn};
-ghost use Rattle.safl_io.specs.Shelf.{file_of, Leaves, LeavesOldOrEmpty, Appends, AppendsPart, Reads, ReadsFrom, IsStray, CountsStray};
-ghost use Rattle.safl_io.specs.Calls.{Fails, called, no_calls, with_failing};
-ghost use Rattle.safl_io.specs.MemShelf.{FailsAt, AppendsHalf};
+ghost use Rattle.safl_io.specs.Shelf.{file_of, Leaves, Appends, AppendsPart, Reads, ReadsFrom, IsStray, CountsStray, SameFiles, SameReads};
+ghost use Rattle.safl_io.specs.Calls.{Fails, FailsWhere, CountsFault, called, no_calls, with_failing};
+ghost use Rattle.safl_io.specs.MemShelf.{FailsAt, AppendsHalf, told_by};
 
 use crate::calls::{CallPlan, raise};
 use crate::fault::{Failed, OutErr};
@@ -87,32 +86,20 @@ impl MemShelf {
 }
 
 impl Shelf for MemShelf {
-    ghost use Rattle.std.specs.Prelude.{Some};
+    ghost told = { told_by };
 
-    ghost told = { λ shelf. record {
-      holds = Some shelf.files;
-      read_faults = shelf.read_faults;
-      write_faults = shelf.write_faults;
-      strays = shelf.strays;
-    } };
-
+    // It fails exactly on a listed call or a missing name, counts one fault then and none else, and reads as much as there
+    // is room for.
     fn read_at(&mut self, name: &str, at: u64, buf: &mut [u8]) -> Result<usize, Failed>
-        ensures within { IfOk result (λ count. count ≤ length buf.old) }
-        ensures read { IfOk result (λ count. Reads name.now at count buf.new self.old.files) }
-        ensures failed { OnErr result (Rose self.old.read_faults self.new.read_faults) }
-        ensures same_files { self.new.files ≡ self.old.files }
-        ensures reads_later { self.old.read_faults ≤ self.new.read_faults }
-        ensures same_writes { self.new.write_faults ≡ self.old.write_faults }
-        ensures stray { CountsStray (Some self.old.files) name.now self.old.strays self.new.strays }
-        ensures strays_later { self.old.strays ≤ self.new.strays }
-
-        // It fails exactly on a listed call or a missing name, counts one fault then and none else, and reads as much as
-        // there is room for.
         ensures fails { IsErr result ↔ FailsAt self.old name.now }
-        ensures counts { OnErr result (self.new.read_faults ≡ raised self.old.read_faults) }
-        ensures quiet { OnOk result (self.new.read_faults ≡ self.old.read_faults) }
+        ensures read { IfOk result (λ count. Reads name.now at count buf.new self.old.files) }
         ensures all { IfOk result (λ count. IfSome (file_of self.old.files name.now) (λ file.
             count ≡ min (length buf.old) (length file - at))) }
+        ensures within { IfOk result (λ count. count ≤ length buf.old) }
+        ensures counts { OnErr result (self.new.read_faults ≡ raised self.old.read_faults) }
+        ensures quiet { OnOk result (self.new.read_faults ≡ self.old.read_faults) }
+        ensures same_files { SameFiles (told_by self.old) (told_by self.new) }
+        ensures stray { CountsStray (Some self.old.files) name.now self.old.strays self.new.strays }
         ensures called { self.new.calls ≡ called self.old.calls }
     {
         let fails = self.calls.next_fails();
@@ -130,19 +117,14 @@ impl Shelf for MemShelf {
         }
     }
 
+    // It fails exactly on a listed call, and counts one fault then and none else.
     fn create(&mut self, name: &str) -> Result<(), OutErr>
+        ensures fails { IsErrOf result OutErr.Failed ↔ Fails self.old.calls }
         ensures created { OnOk result (Leaves name.now [] self.old.files self.new.files) }
         ensures not_created { OnErr result (self.new.files ≡ self.old.files) }
-        ensures failed { IsErrOf result OutErr.Failed → Rose self.old.write_faults self.new.write_faults }
-        ensures same_reads { self.new.read_faults ≡ self.old.read_faults }
-        ensures writes_later { self.old.write_faults ≤ self.new.write_faults }
+        ensures counts { CountsFault result self.old.write_faults self.new.write_faults }
+        ensures same_reads { SameReads (told_by self.old) (told_by self.new) }
         ensures same_strays { self.new.strays ≡ self.old.strays }
-
-        // It fails exactly on a listed call, and counts one fault then and none else.
-        ensures fails { IsErrOf result OutErr.Failed ↔ Fails self.old.calls }
-        ensures counts { IsErrOf result OutErr.Failed → self.new.write_faults ≡ raised self.old.write_faults }
-        ensures quiet { OnOk result (self.new.write_faults ≡ self.old.write_faults) }
-        ensures starved { IsErrOf result OutErr.NoMemory → self.new.write_faults ≡ self.old.write_faults }
         ensures called { self.new.calls ≡ called self.old.calls }
     {
         if self.calls.next_fails() {
@@ -153,25 +135,18 @@ impl Shelf for MemShelf {
         Ok(())
     }
 
+    // It fails exactly on a listed call or a missing name, out of memory aside, and counts one fault then and none else.
     fn append(&mut self, name: &str, bytes: &[u8]) -> Result<(), OutErr>
+        ensures fails { FailsWhere (FailsAt self.old name.now) result }
         ensures appended { OnOk result (Appends name.now bytes.now self.old.files self.new.files) }
         ensures not_appended { OnErr result (AppendsPart name.now bytes.now self.old.files self.new.files) }
-        ensures failed { IsErrOf result OutErr.Failed → Rose self.old.write_faults self.new.write_faults }
-        ensures missing { IsStray (Some self.old.files) name.now →
-            Rose self.old.write_faults self.new.write_faults }
-        ensures same_reads { self.new.read_faults ≡ self.old.read_faults }
-        ensures writes_later { self.old.write_faults ≤ self.new.write_faults }
-        ensures stray { CountsStray (Some self.old.files) name.now self.old.strays self.new.strays }
-        ensures strays_later { self.old.strays ≤ self.new.strays }
-
-        // It fails exactly on a listed call or a missing name, lack of memory aside, and counts one fault then and none else.
-        ensures fails { IsErrOf result OutErr.Failed → FailsAt self.old name.now }
-        ensures succeeds { OnOk result (¬ FailsAt self.old name.now) }
-        ensures counts { IsErrOf result OutErr.Failed → self.new.write_faults ≡ raised self.old.write_faults }
-        ensures quiet { OnOk result (self.new.write_faults ≡ self.old.write_faults) }
-        ensures starved { IsErrOf result OutErr.NoMemory → self.new.write_faults ≡ self.old.write_faults }
         ensures half { IsErrOf result OutErr.Failed →
             AppendsHalf name.now bytes.now self.old.files self.new.files }
+        ensures counts { CountsFault result self.old.write_faults self.new.write_faults }
+        ensures missing { IsStray (Some self.old.files) name.now →
+            Rose self.old.write_faults self.new.write_faults }
+        ensures same_reads { SameReads (told_by self.old) (told_by self.new) }
+        ensures stray { CountsStray (Some self.old.files) name.now self.old.strays self.new.strays }
         ensures called { self.new.calls ≡ called self.old.calls }
     {
         let fails = self.calls.next_fails();

@@ -1,8 +1,7 @@
 // A sink in memory, for tests.
-ghost use Rattle.std.specs.Prelude.{◌≡◌, ◌≤◌, ◌++◌, ◌↔◌, [], ◌∷◌, OnOk, OnErr, IsErrOf};
-ghost use Rattle.safl_io.specs.Counts.{Rose, raised};
+ghost use Rattle.std.specs.Prelude.{◌≡◌, ◌≤◌, [], OnOk, OnErr, IsErrOf};
 ghost use Rattle.safl_io.specs.Sink.{Sends, SendsPart};
-ghost use Rattle.safl_io.specs.Calls.{Fails, called, no_calls, with_failing};
+ghost use Rattle.safl_io.specs.Calls.{Fails, FailsWhere, CountsFault, called, no_calls, with_failing};
 ghost use Rattle.safl_io.specs.MemSink.{SendsHalf};
 
 use crate::calls::{CallPlan, raise};
@@ -62,19 +61,14 @@ impl Sink for MemSink {
 
     ghost told = { λ sink. record { sent = Some sink.bytes; faults = sink.faults } };
 
+    // It fails exactly on a listed call, out of memory aside, and counts one fault then and none else.
     fn put(&mut self, bytes: &[u8]) -> Result<(), OutErr>
+        ensures fails { FailsWhere (Fails self.old.calls) result }
         ensures sent { OnOk result (Sends bytes.now self.old.bytes self.new.bytes) }
         ensures part { OnErr result (SendsPart bytes.now self.old.bytes self.new.bytes) }
-        ensures failed { IsErrOf result OutErr.Failed → Rose self.old.faults self.new.faults }
-        ensures faults_later { self.old.faults ≤ self.new.faults }
-
-        // It fails exactly on a listed call, lack of memory aside, and counts one fault then and none else.
-        ensures fails { IsErrOf result OutErr.Failed → Fails self.old.calls }
-        ensures succeeds { OnOk result (¬ Fails self.old.calls) }
-        ensures counts { IsErrOf result OutErr.Failed → self.new.faults ≡ raised self.old.faults }
-        ensures quiet { OnOk result (self.new.faults ≡ self.old.faults) }
-        ensures starved { IsErrOf result OutErr.NoMemory → self.new.faults ≡ self.old.faults }
         ensures half { IsErrOf result OutErr.Failed → SendsHalf bytes.now self.old.bytes self.new.bytes }
+        ensures counts { CountsFault result self.old.faults self.new.faults }
+        ensures faults_later { self.old.faults ≤ self.new.faults }
         ensures called { self.new.calls ≡ called self.old.calls }
     {
         if self.calls.next_fails() {

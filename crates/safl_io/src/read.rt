@@ -1,7 +1,7 @@
 // Whole files, read from a shelf.
 ghost use Rattle.std.specs.Prelude.{◌≡◌, ◌≤◌, ◌<◌, ◌+◌, length, IfOk, IfSome, OnOk, IsErrOf};
 ghost use Rattle.safl_io.specs.Counts.{Rose};
-ghost use Rattle.safl_io.specs.Shelf.{IsStray};
+ghost use Rattle.safl_io.specs.Shelf.{IsStray, SameFiles};
 ghost use Rattle.safl_io.specs.Reading.{HasFile, HasLonger, IsReadSoFar, IsReadToEnd};
 ghost use Rattle.safl_io.specs.declared.read.ReadErr.TheVariants as why;
 
@@ -49,13 +49,8 @@ pub fn read_file<S: Shelf>(
     ensures within { IfOk result (λ text. length text.items ≤ limit) }
     ensures too_long { IsErrOf result ReadErr.TooLong → IfSome (S.told shelf.old).holds (HasLonger name.now limit) }
     ensures failed { IsErrOf result ReadErr.Failed → Rose (S.told shelf.old).read_faults (S.told shelf.new).read_faults }
-
-    // Nothing held changes.
-    ensures same_files { (S.told shelf.new).holds ≡ (S.told shelf.old).holds }
-    ensures reads_later { (S.told shelf.old).read_faults ≤ (S.told shelf.new).read_faults }
-    ensures same_writes { (S.told shelf.new).write_faults ≡ (S.told shelf.old).write_faults }
+    ensures same_files { SameFiles (S.told shelf.old) (S.told shelf.new) }
     ensures same_strays { ¬ IsStray (S.told shelf.old).holds name.now → (S.told shelf.new).strays ≡ (S.told shelf.old).strays }
-    ensures strays_later { (S.told shelf.old).strays ≤ (S.told shelf.new).strays }
 {
     let mut text = Vec::new(alloc);
     let mut buffer = zeros(alloc, PIECE)?;
@@ -89,11 +84,8 @@ fn read_more<S: Shelf>(
     ensures end { IfOk result (IsReadToEnd (S.told shelf.old).holds name.now text.old.items text.new.items) }
     ensures not_too_long { IsErrOf result ReadErr.TooLong → ⊥ }
     ensures failed { IsErrOf result ReadErr.Failed → Rose (S.told shelf.old).read_faults (S.told shelf.new).read_faults }
-    ensures same_files { (S.told shelf.new).holds ≡ (S.told shelf.old).holds }
-    ensures reads_later { (S.told shelf.old).read_faults ≤ (S.told shelf.new).read_faults }
-    ensures same_writes { (S.told shelf.new).write_faults ≡ (S.told shelf.old).write_faults }
+    ensures same_files { SameFiles (S.told shelf.old) (S.told shelf.new) }
     ensures same_strays { ¬ IsStray (S.told shelf.old).holds name.now → (S.told shelf.new).strays ≡ (S.told shelf.old).strays }
-    ensures strays_later { (S.told shelf.old).strays ≤ (S.told shelf.new).strays }
 {
     let count = shelf.read_at(name, text.len() as u64, buffer)?;
     text.extend_from_slice(&buffer[..count])?;

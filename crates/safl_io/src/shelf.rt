@@ -1,8 +1,8 @@
 // Named files, as the compiler reads and writes them.
-ghost use Rattle.std.specs.Prelude.{◌≡◌, ◌≤◌, List, [], ℕ, Option, length, IfOk, IfSome, OnOk, OnErr, IsErrOf};
+ghost use Rattle.std.specs.Prelude.{◌≡◌, ◌≤◌, [], length, IfOk, IfSome, OnOk, OnErr, IsErrOf};
 ghost use Rattle.safl_io.specs.Counts.{Rose};
 ghost use Rattle.safl_io.specs.Told.{TellsOn};
-ghost use Rattle.safl_io.specs.Shelf.{ShelfState, Leaves, LeavesOldOrEmpty, Appends, AppendsPart, Reads, IsStray, CountsStray};
+ghost use Rattle.safl_io.specs.Shelf.{ShelfState, Leaves, LeavesOldOrEmpty, Appends, AppendsPart, Reads, IsStray, CountsStray, SameFiles, SameReads};
 
 use crate::fault::{Failed, OutErr};
 
@@ -20,13 +20,8 @@ pub trait Shelf {
         ensures within { IfOk result (λ count. count ≤ length buf.old) }
         ensures read { IfOk result (λ count. IfSome (told self.old).holds (Reads name.now at count buf.new)) }
         ensures failed { OnErr result (Rose (told self.old).read_faults (told self.new).read_faults) }
-
-        // Nothing held changes.
-        ensures same_files { (told self.new).holds ≡ (told self.old).holds }
-        ensures reads_later { (told self.old).read_faults ≤ (told self.new).read_faults }
-        ensures same_writes { (told self.new).write_faults ≡ (told self.old).write_faults }
-        ensures stray { CountsStray (told self.old).holds name.now (told self.old).strays (told self.new).strays }
-        ensures strays_later { (told self.old).strays ≤ (told self.new).strays };
+        ensures same_files { SameFiles (told self.old) (told self.new) }
+        ensures stray { CountsStray (told self.old).holds name.now (told self.old).strays (told self.new).strays };
 
     /// Makes an empty file, in place of an old one of that name.
     /// After an error the old file or an empty one stands there. Other files stay as they were.
@@ -34,9 +29,7 @@ pub trait Shelf {
         ensures created { OnOk result (TellsOn (Leaves name.now []) (told self.old).holds (told self.new).holds) }
         ensures not_created { OnErr result (TellsOn (LeavesOldOrEmpty name.now) (told self.old).holds (told self.new).holds) }
         ensures failed { IsErrOf result OutErr.Failed → Rose (told self.old).write_faults (told self.new).write_faults }
-
-        ensures same_reads { (told self.new).read_faults ≡ (told self.old).read_faults }
-        ensures writes_later { (told self.old).write_faults ≤ (told self.new).write_faults }
+        ensures same_reads { SameReads (told self.old) (told self.new) }
         ensures same_strays { (told self.new).strays ≡ (told self.old).strays };
 
     /// Adds bytes at the end of a file. After an error the old bytes and a prefix of the piece stand there.
@@ -46,9 +39,6 @@ pub trait Shelf {
         ensures not_appended { OnErr result (TellsOn (AppendsPart name.now bytes.now) (told self.old).holds (told self.new).holds) }
         ensures failed { IsErrOf result OutErr.Failed → Rose (told self.old).write_faults (told self.new).write_faults }
         ensures missing { IsStray (told self.old).holds name.now → Rose (told self.old).write_faults (told self.new).write_faults }
-
-        ensures same_reads { (told self.new).read_faults ≡ (told self.old).read_faults }
-        ensures writes_later { (told self.old).write_faults ≤ (told self.new).write_faults }
-        ensures stray { CountsStray (told self.old).holds name.now (told self.old).strays (told self.new).strays }
-        ensures strays_later { (told self.old).strays ≤ (told self.new).strays };
+        ensures same_reads { SameReads (told self.old) (told self.new) }
+        ensures stray { CountsStray (told self.old).holds name.now (told self.old).strays (told self.new).strays };
 }

@@ -1,8 +1,8 @@
 // Whole files, written to a shelf.
-ghost use Rattle.std.specs.Prelude.{◌≡◌, ◌≤◌, OnOk, OnErr, IsErrOf};
+ghost use Rattle.std.specs.Prelude.{OnOk, OnErr, IsErrOf};
 ghost use Rattle.safl_io.specs.Counts.{Rose};
 ghost use Rattle.safl_io.specs.Told.{TellsOn};
-ghost use Rattle.safl_io.specs.Shelf.{Leaves, LeavesOldOrPart, UsesNoStray};
+ghost use Rattle.safl_io.specs.Shelf.{Leaves, LeavesOldOrPart, SameReads, UsesNoStray};
 
 use crate::fault::OutErr;
 use crate::shelf::Shelf;
@@ -17,13 +17,10 @@ pub fn write_file<S: Shelf>(shelf: &mut S, name: &str, bytes: &[u8]) -> Result<(
     ensures written { OnOk result (TellsOn (Leaves name.now bytes.now) (S.told shelf.old).holds (S.told shelf.new).holds) }
     ensures not_written { OnErr result (TellsOn (LeavesOldOrPart name.now bytes.now) (S.told shelf.old).holds (S.told shelf.new).holds) }
     ensures failed { IsErrOf result OutErr.Failed → Rose (S.told shelf.old).write_faults (S.told shelf.new).write_faults }
-
-    ensures same_reads { (S.told shelf.new).read_faults ≡ (S.told shelf.old).read_faults }
-    ensures writes_later { (S.told shelf.old).write_faults ≤ (S.told shelf.new).write_faults }
+    ensures same_reads { SameReads (S.told shelf.old) (S.told shelf.new) }
 
     // A shelf that tells what it holds is asked for no stray name.
     ensures same_strays { UsesNoStray (S.told shelf.old) (S.told shelf.new) }
-    ensures strays_later { (S.told shelf.old).strays ≤ (S.told shelf.new).strays }
 {
     shelf.create(name)?;
     let mut at = 0;

@@ -71,7 +71,7 @@ impl Net {
     ghost use Rattle.safl_net.specs.Making.{with_signal, with_kind, with_output, cell_on, width_on, temporary, refusal};
     ghost use Rattle.safl_net.specs.Making.{Refuses, kind_at, name_at, numbers, sort_of, next_in, cell_in, found};
     ghost use Rattle.safl_net.specs.Valuations.{reset_state};
-    ghost use Rattle.safl_net.specs.Rules.{IsNetlist, KindFits};
+    ghost use Rattle.safl_net.specs.Rules.{IsNetlist, KindFits, SignalFits};
     ghost use Rattle.safl_net.specs.Stored.{signal_of, kind_of, ResetFits, number_of, maybe_cell};
 
     /// No signals.
@@ -488,11 +488,8 @@ impl Net {
     // One more signal, of a name that is good and new.
     fn push(&mut self, name: String, row: Row) -> Result<Sig, NoMemory>
         requires room { length self.old.signals < 4294967295 }
-        requires good { is_good (string_bytes name) ≡ true }
         requires new { has_name self.old (string_bytes name) ≡ false }
-        requires some { 1 ≤ row.width }
-        requires most { row.width ≤ 128 }
-        requires kind { KindFits self.old row.width (kind_of row.driver) }
+        requires fits { SignalFits self.old (signal_of (string_bytes name) row) }
         requires reset { ResetFits row.width row.driver }
         ensures added { OnOk result (self.new ≡ with_signal self.old (signal_of (string_bytes name) row)) }
         ensures numbered { IfOk result (λ s. s.0 ≡ length self.old.signals) }

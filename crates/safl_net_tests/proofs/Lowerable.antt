@@ -20,6 +20,7 @@ use Rattle.safl_lower.specs.declared.parts.SitePorts.{SitePorts}
 use Rattle.safl_lower.specs.declared.parts.Ports.{Ports}
 use Rattle.safl_lower.specs.Lowering.{Sited}
 use Rattle.safl_lower.specs.Bodies.{CanLower}
+use Rattle.safl_net_tests.specs.Choices.{ChoosesCall, ArePorts}
 
 -- ---- inputs may be read
 
@@ -62,18 +63,22 @@ few_nodes c f h = let a : nodes ((program_of c).body f) ≤ 1 + sum_by size c.fu
 -- ---- a function of one byte with two sites
 
 pub able : (c : CheckedProgram) (f : ℕ) (n : Netlist) (P : Ports) (a : Sig) (p q : SitePorts) → IsChecked c → length n.signals ≤ 1000
-    → IsSource n P.run 1 → P.args.items ≡ a ∷ [] → IsSource n a 8 → P.sites.items ≡ p ∷ q ∷ [] → Sited n p 8 → Sited n q 8
-    → (program_of c).params f ≡ 8 ∷ [] → first_site_of c f ≡ 1 → first_site_of c f + 2 ≡ first_site_of c (suc f)
-    → (program_of c).result ((program_of c).callee 1) ≡ 8 → (program_of c).result ((program_of c).callee 2) ≡ 8 → CanLower c f n P
-able c f n P a p q h small run args arg sites first second params from own one two = record {
-  run = run;
-  args = subst (λ (xs : List Sig). AreSources n xs ((program_of c).params f)) (sym args) (subst (AreSources n (a ∷ [])) (sym params) (one_source arg));
-  count = ap (λ (ps : List SitePorts). first_site_of c f + length ps) sites ∙ own;
-  sites = λ i x at. subst (λ (k : ℕ). Sited n x ((program_of c).result ((program_of c).callee (k + i)))) (sym from) (by i x (ap (λ (ps : List SitePorts). slice_get ps i) (sym sites) ∙ at));
+    → ArePorts n P.run a p q → P.args.items ≡ a ∷ [] → P.sites.items ≡ p ∷ q ∷ [] → ChoosesCall c f → CanLower c f n P
+able c f n P a p q h small ports arg sites chooses = record {
+  run = ports.run_bit;
+  args = subst (λ (xs : List Sig). AreSources n xs ((program_of c).params f)) (sym arg) (subst (AreSources n (a ∷ [])) (sym chooses.params) (one_source ports.parameter));
+  count = ap (λ (ps : List SitePorts). first_site_of c f + length ps) sites ∙ chooses.own;
+  sites = λ i x at.
+      subst (λ (k : ℕ). Sited n x ((program_of c).result ((program_of c).callee (k + i)))) (sym chooses.first)
+      (by i x (ap (λ (ps : List SitePorts). slice_get ps i) (sym sites) ∙ at));
   room = let k = few_nodes c f h in omega (arith, k, small);
 }
   where
     by : (i : ℕ) (x : SitePorts) → slice_get (p ∷ q ∷ []) i ≡ Some x → Sited n x ((program_of c).result ((program_of c).callee (1 + i)))
-    by zero x e = let same : p ≡ x = cc in subst (λ (y : SitePorts). Sited n y ((program_of c).result ((program_of c).callee 1))) same (subst (Sited n p) (sym one) first)
-    by (suc zero) x e = let same : q ≡ x = cc in subst (λ (y : SitePorts). Sited n y ((program_of c).result ((program_of c).callee 2))) same (subst (Sited n q) (sym two) second)
+    by zero x e =
+        let same : p ≡ x = cc in
+        subst (λ (y : SitePorts). Sited n y ((program_of c).result ((program_of c).callee 1))) same (subst (Sited n p) (sym chooses.one) ports.first_site)
+    by (suc zero) x e =
+        let same : q ≡ x = cc in
+        subst (λ (y : SitePorts). Sited n y ((program_of c).result ((program_of c).callee 2))) same (subst (Sited n q) (sym chooses.two) ports.second_site)
     by (suc (suc i)) x e = absurd (cc)

@@ -1,10 +1,11 @@
 //! The circuit of a function's body, and what it shows for given words of its ports.
 
-ghost use Rattle.std.specs.Prelude.{◌≡◌, suc, ◌+◌, ◌<◌, ◌≤◌, [], ◌∷◌, map, length, IsTrue, IfSome};
+ghost use Rattle.std.specs.Prelude.{◌≡◌, suc, ◌+◌, ◌<◌, ◌≤◌, [], ◌∷◌, length, IsTrue, IfSome};
 ghost use Rattle.safl_term.specs.Checked.{program_of, first_site_of};
 ghost use Rattle.safl_net.specs.Names.{IsTidy};
 ghost use Rattle.safl_lower.specs.Sources.{IsSource};
 ghost use Rattle.safl_lower.specs.Lowering.{Sited};
+ghost use Rattle.safl_net_tests.specs.Choices.{ChoosesCall, ArePorts};
 
 use crate::smaller_nets::Line::Input;
 use crate::smaller_nets::{Fault, Line, made};
@@ -134,10 +135,7 @@ struct Inputs {
 }
 
 fn inputs_of(net: &Net) -> Option<Inputs>
-    ensures run { IfSome result (λ p. IsSource net.now p.run 1) }
-    ensures a { IfSome result (λ p. IsSource net.now p.a 8) }
-    ensures first { IfSome result (λ p. Sited net.now p.first 8) }
-    ensures second { IfSome result (λ p. Sited net.now p.second 8) }
+    ensures { IfSome result (λ p. ArePorts net.now p.run p.a p.first p.second) }
 {
     let run = port(net, 0, 1)?;
     let a = port(net, 1, 8)?;
@@ -176,15 +174,8 @@ fn lowered_between(
     requires main { main < (program_of c.now).functions }
     requires tidy { IsTidy net.old }
     requires few { length net.old.signals ≤ 1000 }
-    requires run { IsSource net.old inputs.run 1 }
-    requires a { IsSource net.old inputs.a 8 }
-    requires first { Sited net.old inputs.first 8 }
-    requires second { Sited net.old inputs.second 8 }
-    requires params { (program_of c.now).params main ≡ 8 ∷ [] }
-    requires first_site { first_site_of c.now main ≡ 1 }
-    requires own { first_site_of c.now main + 2 ≡ first_site_of c.now (suc main) }
-    requires one { (program_of c.now).result ((program_of c.now).callee 1) ≡ 8 }
-    requires two { (program_of c.now).result ((program_of c.now).callee 2) ≡ 8 }
+    requires ports { ArePorts net.old inputs.run inputs.a inputs.first inputs.second }
+    requires chooses { ChoosesCall c.now main }
 {
     let _count = c.functions();
     let Inputs {

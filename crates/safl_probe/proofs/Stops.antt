@@ -1,15 +1,15 @@
 -- Why a run stopped, and what it left, stated from before it.
-use Rattle.std.proofs.Common.{◌≡◌, ℕ, List, map, Option, Result, Ok, Err, OnOk, OnErr, IfErr, sym, subst, ◌∙◌}
+use Rattle.std.proofs.Common.{◌≡◌, ℕ, List, map, Option, sym, subst, ◌∙◌}
 use Rattle.safl_word.specs.Words.{Word}
 use Rattle.safl_io.specs.Told.{TellsOn}
-use Rattle.safl_io.specs.Shelf.{Files, ShelfState}
+use Rattle.safl_io.specs.Shelf.{Files, ShelfState, SameReads}
 use Rattle.safl_net.specs.Netlist.{Netlist}
 use Rattle.safl_net.specs.Valuations.{Valuation}
 use Rattle.safl_probe.specs.Probing.{ProbeState}
-use Rattle.safl_probe.specs.Asked.{Asked, AreApart, SameUnasked, probe_at}
+use Rattle.safl_probe.specs.Asked.{Asked, AreApart, probe_at}
 use Rattle.safl_probe.specs.Growth.{AllGrow, Relation}
 use Rattle.safl_probe.specs.Runs.{IsRunOf, trace_at}
-use Rattle.safl_probe.specs.Stopping.{Stopped, SameProbes, SameReads}
+use Rattle.safl_probe.specs.Stopping.{Stopped, SameProbes, KeepsProbes}
 use Rattle.safl_probe.specs.declared.drive_err.DriveErr.{DriveErr}
 use Rattle.safl_probe.specs.declared.drive_err.DriveErr.TheVariants as why
 use Rattle.safl_probe.proofs.Telling.{rose_later}
@@ -28,27 +28,14 @@ stopped_later why.NoMemory names ps qs rs a b c s r h = tt
 
 -- the probes of a list, of which a slice was lent
 module _ (P : Type 0) (st : P → ProbeState) (old lent new back : List P) (e : lent ≡ old) (f : back ≡ new) where
-  pub lent_unasked : (names : Asked) → SameUnasked names lent new → SameUnasked names old back
-  lent_unasked names h = subst (λ (l : List P). SameUnasked names l back) e (subst (λ (l : List P). SameUnasked names lent l) (sym f) h)
+  pub lent_probes : (names : Asked) → KeepsProbes names st lent new → KeepsProbes names st old back
+  lent_probes names h = subst (λ (l : List P). KeepsProbes names st l back) e (subst (λ (l : List P). KeepsProbes names st lent l) (sym f) h)
 
-  pub lent_probes : SameProbes (map st lent) (map st new) → SameProbes (map st old) (map st back)
-  lent_probes h = subst (λ (l : List P). SameProbes (map st l) (map st back)) e (subst (λ (l : List P). SameProbes (map st lent) (map st l)) (sym f) h)
-
-  pub lent_stopped : {T : Type 0} (r : Result T DriveErr) (names : Asked) (a b : ShelfState) → IfErr r
-      (λ k. Stopped k names (map st lent) (map st new) a b) → IfErr r (λ k. Stopped k names (map st old) (map st back) a b)
-  lent_stopped (Ok x) names a b h = tt
-  lent_stopped (Err k) names a b h =
+  pub lent_stopped : (k : DriveErr) (names : Asked) (a b : ShelfState) → Stopped k names (map st lent) (map st new) a b → Stopped k names (map st old) (map st back) a b
+  lent_stopped k names a b h =
       subst (λ (l : List P). Stopped k names (map st l) (map st back) a b) e (subst (λ (l : List P). Stopped k names (map st lent) (map st l) a b) (sym f) h)
 
   pub lent_traces : (R : Relation) (n : Netlist) (args : List Word) (limit : ℕ) (names : Asked) (x y : Option Files)
       → ((vs : List Valuation) → IsRunOf n args limit vs → AreApart names → TellsOn (AllGrow R names (trace_at n vs (map st lent))) x y)
       → (vs : List Valuation) → IsRunOf n args limit vs → AreApart names → TellsOn (AllGrow R names (trace_at n vs (map st old))) x y
   lent_traces R n args limit names x y h vs r apart = subst (λ (l : List P). TellsOn (AllGrow R names (trace_at n vs (map st l))) x y) e (h vs r apart)
-
-pub on_ok : {T E : Type 0} (r : Result T E) (P Q : Type 0) → (P → Q) → OnOk r P → OnOk r Q
-on_ok (Ok x) P Q f p = f p
-on_ok (Err e) P Q f p = tt
-
-pub on_err : {T E : Type 0} (r : Result T E) (P Q : Type 0) → (P → Q) → OnErr r P → OnErr r Q
-on_err (Ok x) P Q f p = tt
-on_err (Err e) P Q f p = f p

@@ -4,13 +4,13 @@ use Rattle.std.specs.declared.alloc.Global.{Global}
 use Rattle.std.proofs.lemmas.List.{map-set, length-map, length-set, get_or-set_same, get_or-set_other, get_or-map}
 use Rattle.std.proofs.lemmas.Bool.{cases_eq}
 use Rattle.safl_io.specs.Counts.{Rose}
-use Rattle.safl_io.specs.Shelf.{ShelfState}
+use Rattle.safl_io.specs.Shelf.{ShelfState, SameReads}
 use Rattle.safl_net.specs.Netlist.{Netlist}
 use Rattle.safl_net.specs.Valuations.{Valuation}
 use Rattle.safl_probe.specs.Probing.{ProbeState, Tells, fresh}
 use Rattle.safl_probe.specs.Asked.{Asked, IsAsked, SameUnasked, asked, probe_at}
 use Rattle.safl_probe.specs.Moments.{CanTell, text_at, state_at}
-use Rattle.safl_probe.specs.Stopping.{Blames, Stopped, SameProbes, SameReads}
+use Rattle.safl_probe.specs.Stopping.{Blames, Stopped, SameProbes, KeepsProbes}
 use Rattle.safl_probe.specs.declared.moment.Moment.{Moment}
 use Rattle.safl_probe.specs.declared.drive_err.DriveErr.{DriveErr}
 use Rattle.safl_probe.specs.declared.drive_err.DriveErr.TheVariants as why
@@ -19,16 +19,6 @@ use Rattle.safl_probe.proofs.Growing.{less}
 pub rose_later : (a b c : ℕ) → a ≤ b → Rose b c → Rose a c
 rose_later a b c le (inl lt) = inl (omega (arith, le, lt))
 rose_later a b c le (inr e) = inr e
-
-pub reads_then : (a b c : ShelfState) → SameReads a b → SameReads b c → SameReads a c
-reads_then a b c f g = record {
-  reads = g.reads ∙ f.reads;
-  writes = let p = f.writes in let q = g.writes in omega (arith, p, q);
-  strays = let p = f.strays in let q = g.strays in omega (arith, p, q);
-}
-
-pub reads_same : (a b : ShelfState) → a ≡ b → SameReads a b
-reads_same a b e = subst (λ (s : ShelfState). SameReads a s) e (record { reads = refl; writes = omega arith; strays = omega arith })
 
 module _ (P : Type 0) (st : P → ProbeState) where
   abbrev states : List P → List ProbeState
@@ -56,7 +46,7 @@ module _ (P : Type 0) (st : P → ProbeState) where
   pub same_probes : (ps : List P) → SameProbes (states ps) (states ps)
   same_probes ps = record { count = refl; kinds = λ i. refl; faults = λ i. omega arith }
 
-  pub same_more : (ps qs : List P) (i : ℕ) (q x : P) → i < length qs → q ≡ get_or qs i q → (st x).kind ≡ (st q).kind → (st q).faults ≤ (st x).faults →
+  same_more : (ps qs : List P) (i : ℕ) (q x : P) → i < length qs → q ≡ get_or qs i q → (st x).kind ≡ (st q).kind → (st q).faults ≤ (st x).faults →
       SameProbes (states ps) (states qs) → SameProbes (states ps) (states (set qs i x))
   same_more ps qs i q x lt e kind faults s =
       let was : probe_at (states qs) i ≡ st q = at_place qs i q lt e in
@@ -70,17 +60,23 @@ module _ (P : Type 0) (st : P → ProbeState) where
             (let a : (probe_at (states ps) i).faults ≤ (st q).faults = subst (λ (t : ProbeState). (probe_at (states ps) i).faults ≤ t.faults) was (s.faults i) in omega (arith, a, faults)) s.faults;
       }
 
-  pub unasked_more : (names : Asked) (ps qs : List P) (i : ℕ) (name : List ℕ) (x : P) → IsAsked names i name → SameUnasked names ps qs → SameUnasked names ps (set qs i x)
+  unasked_more : (names : Asked) (ps qs : List P) (i : ℕ) (name : List ℕ) (x : P) → IsAsked names i name → SameUnasked names ps qs → SameUnasked names ps (set qs i x)
   unasked_more names ps qs i name x asked s j none p =
       get_or-set_other qs i j x p (λ e. let f = sym asked ∙ subst (λ k. get_or names k None ≡ None) e none in absurd (cc)) ∙ s j none p
+
+  pub keeps_more : (names : Asked) (ps qs : List P) (i : ℕ) (name : List ℕ) (q x : P) → i < length qs → q ≡ get_or qs i q → IsAsked names i name →
+      (st x).kind ≡ (st q).kind → (st q).faults ≤ (st x).faults → KeepsProbes names st ps qs → KeepsProbes names st ps (set qs i x)
+  keeps_more names ps qs i name q x lt e asked kind faults k = record {
+    probes = same_more ps qs i q x lt e kind faults k.probes;
+    unasked = unasked_more names ps qs i name x asked k.unasked;
+  }
 
   -- the probes below a place were told, and the others are as they were
   pub record ToldTo (m : Moment) (n : Netlist) (v : Valuation) (names : Asked) (ps qs : List P) (count : ℕ) : Type 0 where
     pub long : length qs ≡ length ps
     pub told : (i : ℕ) (name : List ℕ) → i < count → IsAsked names i name → Tells (state_at m n v (probe_at (states ps) i)) (probe_at (states qs) i)
     pub rest : (i : ℕ) → count ≤ i → probe_at (states qs) i ≡ probe_at (states ps) i
-    pub unasked : SameUnasked names ps qs
-    pub same : SameProbes (states ps) (states qs)
+    pub kept : KeepsProbes names st ps qs
 
   module _ (m : Moment) (n : Netlist) (v : Valuation) (names : Asked) (ps : List P) where
     pub none_told : ToldTo m n v names ps ps 0
@@ -88,8 +84,7 @@ module _ (P : Type 0) (st : P → ProbeState) where
       long = refl;
       told = λ i name lt k. absurd (omega (arith, lt));
       rest = λ i le. refl;
-      unasked = λ i none p. refl;
-      same = same_probes ps;
+      kept = record { probes = same_probes ps; unasked = λ i none p. refl };
     }
 
     pub skip_told : (qs : List P) (i : ℕ) → get_or names i None ≡ None → ToldTo m n v names ps qs i → ToldTo m n v names ps qs (i + 1)
@@ -100,8 +95,7 @@ module _ (P : Type 0) (st : P → ProbeState) where
         | inr e ↦ absurd (let f = sym (subst (λ l. get_or names l None ≡ Some name) e k) ∙ none in cc)
       ];
       rest = λ j le. t.rest j (omega (arith, le));
-      unasked = t.unasked;
-      same = t.same;
+      kept = t.kept;
     }
 
     pub more_told : (qs : List P) (i : ℕ) (name : List ℕ) (q x : P) → i < length qs → q ≡ get_or qs i q → IsAsked names i name → Tells
@@ -119,8 +113,7 @@ module _ (P : Type 0) (st : P → ProbeState) where
                 (subst (λ s. Tells (state_at m n v (probe_at (states ps) i)) s) (sym (at_written qs i x lt)) (subst (λ s. Tells (state_at m n v s) (st x)) (sym was) tells))
           ];
           rest = λ j le. at_other qs i j x (λ f. omega (arith, le, f)) ∙ t.rest j (omega (arith, le));
-          unasked = unasked_more names ps qs i name x asked t.unasked;
-          same = same_more ps qs i q x lt e kind faults t.same;
+          kept = keeps_more names ps qs i name q x lt e asked kind faults t.kept;
         }
 
     -- the text of the probe at a place is that of what it told at first, and it may be told

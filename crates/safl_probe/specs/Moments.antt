@@ -1,16 +1,16 @@
 -- Moments of a run of which a probe is told.
-use Rattle.std.specs.Prelude.{◌≡◌, ◌<◌, IsSome}
+use Rattle.std.specs.Prelude.{IsSome}
 use Rattle.safl_net.specs.Netlist.{Netlist}
 use Rattle.safl_net.specs.Valuations.{Valuation}
 use Rattle.safl_probe.specs.Texts.{Text}
-use Rattle.safl_probe.specs.Probing.{ProbeState, FrameFits, begun, after_frame, begin_text, cycle_text, finish_text}
+use Rattle.safl_probe.specs.Probing.{ProbeState, TakesFrame, begun, after_frame, begin_text, cycle_text, finish_text}
 use Rattle.safl_probe.specs.declared.moment.Moment.{Moment}
 use Rattle.safl_probe.specs.declared.moment.Moment.TheVariants.{Beginning, Frame, End}
 
 -- a probe may be told of it
 abbrev pub CanTell : Moment → Valuation → ProbeState → Type 0
 CanTell Beginning v s = Unit {0}
-CanTell (Frame t) v s = FrameFits s.shape v × (t ≡ s.turn) × (t < 0xffff_ffff_ffff_ffff)
+CanTell (Frame t) v s = TakesFrame t v s
 CanTell End v s = IsSome s.shape
 
 -- the text that it gives, and what it tells afterwards

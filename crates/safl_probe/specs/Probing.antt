@@ -1,5 +1,5 @@
 -- What a probe tells, and what its calls add.
-use Rattle.std.specs.Prelude.{◌≡◌, ℕ, ◌+◌, List, [], length, Option, Some, None}
+use Rattle.std.specs.Prelude.{◌≡◌, ◌≤◌, ◌<◌, ℕ, ◌+◌, List, [], length, Option, Some, None}
 use Rattle.safl_net.specs.Netlist.{Netlist}
 use Rattle.safl_net.specs.Valuations.{Valuation}
 use Rattle.safl_probe.specs.Watching.{Shape, kind_of, shape_of, seen}
@@ -22,10 +22,21 @@ fresh kind = record { kind = kind; shape = None; last = None; turn = 0; faults =
 abbrev pub Tells : ProbeState → ProbeState → Type 0
 Tells want now = now ≡ record want { faults = now.faults }
 
+-- it is of the same kind, and its count of faults did not fall
+pub record SameProbe (old new : ProbeState) : Type 0 where
+  pub kind : new.kind ≡ old.kind
+  pub faults : old.faults ≤ new.faults
+
 -- it was begun, and the frame has a number for each signal
 abbrev pub FrameFits : Option Shape → Valuation → Type 0
 FrameFits None frame = ⊥
 FrameFits (Some shape) frame = length frame ≡ shape.signals
+
+-- it may be given the frame of cycle t: the frame fits, and t is the number of frames so far, and not the last one of 64 bits
+pub record TakesFrame (t : ℕ) (frame : Valuation) (s : ProbeState) : Type 0 where
+  pub fits : FrameFits s.shape frame
+  pub turn : t ≡ s.turn
+  pub room : t < 0xffff_ffff_ffff_ffff
 
 -- after it was begun on a net
 abbrev pub begun : Netlist → ProbeState → ProbeState

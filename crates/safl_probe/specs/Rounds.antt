@@ -14,21 +14,26 @@ use Rattle.safl_sim.specs.declared.done.Done.{Done}
 use Rattle.safl_probe.specs.Probing.{ProbeState, FrameFits, Tells}
 use Rattle.safl_probe.specs.Calls.{cycle_texts, after_frames}
 use Rattle.safl_probe.specs.Asked.{Asked, FileNames, IsAsked, AreApart, asked, probe_at}
-use Rattle.safl_probe.specs.Growth.{AllGrow, Longer, LongerPart}
+use Rattle.safl_probe.specs.Growth.{AllGrow, Longer, LongerPart, AllThere, NowThere}
+use Rattle.safl_probe.specs.Stopping.{StopsRun}
+use Rattle.safl_probe.specs.declared.drive_err.DriveErr.{DriveErr}
+use Rattle.safl_probe.specs.declared.moment.Moment.TheVariants.{End}
 
 -- a probe that was begun on a net, and has seen no frame
 pub record IsReady (n : Netlist) (s : ProbeState) : Type 0 where
   pub fits : (frame : Valuation) → length frame ≡ length n.signals → FrameFits s.shape frame
   pub turn : s.turn ≡ 0
 
--- each asked probe is
-abbrev pub AllReady : {P : Type 0} → Netlist → FileNames → (P → ProbeState) → List P → Type 0
-AllReady n names tell ps = (i : ℕ) (name : List ℕ) → IsAsked (asked names) i name → IsReady n (probe_at (map tell ps) i)
+-- each probe has its place among the names, and each asked one is ready
+pub record AllReady {P : Type 0} (n : Netlist) (names : FileNames) (tell : P → ProbeState) (ps : List P) : Type 0 where
+  pub files : length names ≡ length ps
+  pub ready : (i : ℕ) (name : List ℕ) → IsAsked (asked names) i name → IsReady n (probe_at (map tell ps) i)
 
--- the asked probes were shown these frames, and their files have the texts of these more
+-- the asked probes were shown these frames, their files have the texts of these more, and where the files were there they still are
 pub record Shown (frames : List Valuation) (names : Asked) (ps qs : List ProbeState) (old new : Option Files) : Type 0 where
   pub told : (i : ℕ) (name : List ℕ) → IsAsked names i name → Tells (after_frames frames (probe_at ps i)) (probe_at qs i)
   pub files : AreApart names → TellsOn (AllGrow Longer names (λ i. cycle_texts frames (probe_at ps i))) old new
+  pub there : AllThere End names old → TellsOn (λ _ now. NowThere names now) old new
 
 -- a call was answered, and the asked probes were shown its cycles
 pub record Watches (n : Netlist) (state : ℕ → ℕ) (args : List Word) (limit : ℕ) (names : Asked) (ps qs : List ProbeState)
@@ -52,8 +57,9 @@ Shows sim after harness limit names tell ps qs old new answer =
     (args : List Word) → IsCalled sim.net args harness
     → Watches sim.net (slice_index sim.state) args limit (asked names) (map tell ps) (map tell qs) old.holds new.holds answer (slice_index after.state)
 
--- it was watched up to an error
-abbrev pub ShowsPart : {P : Type 0} → Simulation → Harness → ℕ → FileNames → (P → ProbeState) → List P → ShelfState → ShelfState → Type 0
-ShowsPart sim harness limit names tell ps old new =
-    (args : List Word) → IsCalled sim.net args harness
-    → BreaksOff sim.net (slice_index sim.state) args limit (asked names) (map tell ps) old.holds new.holds
+-- it was watched up to an error, and this is why
+pub record ShowsPart {P : Type 0} (sim : Simulation) (harness : Harness) (limit : ℕ) (names : FileNames) (tell : P → ProbeState) (ps qs : List P)
+    (old new : ShelfState) (why : DriveErr) : Type 0 where
+  pub broken : (args : List Word) → IsCalled sim.net args harness
+      → BreaksOff sim.net (slice_index sim.state) args limit (asked names) (map tell ps) old.holds new.holds
+  pub stopped : StopsRun names tell ps qs old new why

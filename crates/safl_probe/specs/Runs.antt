@@ -4,12 +4,22 @@ use Rattle.safl_word.specs.Words.{Word}
 use Rattle.safl_io.specs.Shelf.{ShelfState}
 use Rattle.safl_io.specs.Told.{TellsOn}
 use Rattle.safl_net.specs.Netlist.{Netlist}
+use Rattle.safl_net.specs.Arguments.{AreArguments}
 use Rattle.safl_net.specs.Valuations.{Valuation, read_output}
+use Rattle.safl_net.specs.Whole.{IsWhole}
 use Rattle.safl_sim.specs.Outcomes.{IsRun}
+use Rattle.safl_sim.specs.Places.{resets}
+use Rattle.safl_sim.specs.Simulation.{Simulation}
 use Rattle.safl_probe.specs.Probing.{ProbeState}
 use Rattle.safl_probe.specs.Texts.{Text, trace}
 use Rattle.safl_probe.specs.Asked.{FileNames, AreApart, asked, probe_at}
 use Rattle.safl_probe.specs.Growth.{AllGrow, Relation}
+
+-- what a run begins with: a whole net at its reset, and words for its inputs other than `start`
+pub record BeginsRun (sim : Simulation) (args : List Word) : Type 0 where
+  pub whole : IsWhole sim.net
+  pub fresh : sim.state ≡ resets sim.net
+  pub arguments : AreArguments sim.net args
 
 -- a run of so many cycles, in which all inputs are 0 after cycle 0; a net without loops has exactly one
 pub record IsRunOf (n : Netlist) (args : List Word) (count : ℕ) (vs : List Valuation) : Type 0 where

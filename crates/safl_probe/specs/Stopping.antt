@@ -1,13 +1,13 @@
 -- Why a run that probes watch stopped, and what stays whatever comes.
 use Rattle.std.specs.Prelude.{ℕ, ◌≡◌, ◌≤◌, List, map, length}
 use Rattle.safl_io.specs.Counts.{Rose}
-use Rattle.safl_io.specs.Shelf.{ShelfState}
+use Rattle.safl_io.specs.Shelf.{ShelfState, SameReads, UsesNoStray}
 use Rattle.safl_probe.specs.Probing.{ProbeState}
 use Rattle.safl_io.specs.declared.fault.OutErr.{OutErr}
 use Rattle.safl_io.specs.declared.fault.OutErr.TheVariants as out
 use Rattle.safl_probe.specs.declared.probe.ProbeErr.{ProbeErr}
 use Rattle.safl_probe.specs.declared.probe.ProbeErr.TheVariants as probe
-use Rattle.safl_probe.specs.Asked.{Asked, FileNames, IsAsked, asked, probe_at}
+use Rattle.safl_probe.specs.Asked.{Asked, FileNames, IsAsked, SameUnasked, asked, probe_at}
 use Rattle.safl_probe.specs.declared.drive_err.DriveErr.{DriveErr}
 use Rattle.safl_probe.specs.declared.drive_err.DriveErr.TheVariants as why
 
@@ -55,8 +55,12 @@ pub record SameProbes (old new : List ProbeState) : Type 0 where
   pub kinds : (i : ℕ) → (probe_at new i).kind ≡ (probe_at old i).kind
   pub faults : (i : ℕ) → (probe_at old i).faults ≤ (probe_at new i).faults
 
--- a shelf's count of failed reads is the same, and no other count of it fell
-pub record SameReads (old new : ShelfState) : Type 0 where
-  pub reads : new.read_faults ≡ old.read_faults
-  pub writes : old.write_faults ≤ new.write_faults
-  pub strays : old.strays ≤ new.strays
+-- the same, and those that aren't asked are as they were
+pub record KeepsProbes {P : Type 0} (names : Asked) (tell : P → ProbeState) (old new : List P) : Type 0 where
+  pub probes : SameProbes (map tell old) (map tell new)
+  pub unasked : SameUnasked names old new
+
+-- a shelf's count of failed reads is the same, no other count of it fell, and where it tells what it holds no stray name was used
+pub record KeepsShelf (old new : ShelfState) : Type 0 where
+  pub reads : SameReads old new
+  pub strays : UsesNoStray old new

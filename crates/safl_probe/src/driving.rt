@@ -1,15 +1,11 @@
 //! A run until `done` is 1, which probes may watch.
 
-ghost use Rattle.std.specs.Prelude.{◌≡◌, map, length, IfOk, IfErr, OnOk, OnErr};
-ghost use Rattle.safl_io.specs.Shelf.{UsesNoStray};
-ghost use Rattle.safl_net.specs.Whole.{IsWhole};
-ghost use Rattle.safl_sim.specs.Places.{resets};
-ghost use Rattle.safl_net.specs.Arguments.{AreArguments};
+ghost use Rattle.std.specs.Prelude.{◌≡◌, length, IfOk, IfErr, OnOk, OnErr};
 ghost use Rattle.safl_sim.specs.Outcomes.{IsOutcome};
-ghost use Rattle.safl_probe.specs.Asked.{SameUnasked, asked};
+ghost use Rattle.safl_probe.specs.Asked.{asked};
 ghost use Rattle.safl_probe.specs.Growth.{Made, OldOrPart};
-ghost use Rattle.safl_probe.specs.Runs.{TracesGrow};
-ghost use Rattle.safl_probe.specs.Stopping.{SameProbes, SameReads, StopsRun};
+ghost use Rattle.safl_probe.specs.Runs.{BeginsRun, TracesGrow};
+ghost use Rattle.safl_probe.specs.Stopping.{KeepsProbes, KeepsShelf, StopsRun};
 
 use crate::drive_err::DriveErr;
 use crate::moment::Moment;
@@ -38,9 +34,7 @@ pub fn drive<S: Shelf>(
     files: &[Option<String>],
     shelf: &mut S,
 ) -> Result<Option<Done>, DriveErr>
-    requires whole { IsWhole sim.old.net }
-    requires fresh { sim.old.state ≡ resets sim.old.net }
-    requires arguments { AreArguments sim.old.net args.now }
+    requires begins { BeginsRun sim.old args.now }
     requires files { length files.now ≡ length probes.old.items }
     ensures outcome { IfOk result (IsOutcome sim.old.net args.now limit) }
     ensures net { sim.new.net ≡ sim.old.net }
@@ -51,48 +45,17 @@ pub fn drive<S: Shelf>(
     ensures part { OnErr result (TracesGrow OldOrPart sim.old.net args.now limit files.now (λ p. state p) probes.old.items
         (S.told shelf.old) (S.told shelf.new)) }
 
-    // Each probe that isn't asked is as it was.
-    ensures unasked { SameUnasked (asked files.now) probes.old.items probes.new.items }
-    // There are as many probes, of the same kinds in order, and none has fewer faults.
-    ensures probes { SameProbes (map (λ p. state p) probes.old.items) (map (λ p. state p) probes.new.items) }
+    // There are as many probes, of the same kinds in order, and none has fewer faults. Each that isn't asked is as it was.
+    ensures probes { KeepsProbes (asked files.now) (λ p. state p) probes.old.items probes.new.items }
     ensures stopped { IfErr result (StopsRun files.now (λ p. state p) probes.old.items probes.new.items (S.told shelf.old) (S.told shelf.new)) }
-    ensures reads { SameReads (S.told shelf.old) (S.told shelf.new) }
-
-    // A shelf that tells what it holds is asked for no stray name.
-    ensures strays { UsesNoStray (S.told shelf.old) (S.told shelf.new) }
-{
-    drive_all(alloc, sim, args, limit, probes, files, shelf)
-}
-
-// The same for the probes of a slice.
-fn drive_all<S: Shelf>(
-    alloc: Global,
-    sim: &mut Sim,
-    args: &[Word],
-    limit: u64,
-    probes: &mut [Box<dyn Probe>],
-    files: &[Option<String>],
-    shelf: &mut S,
-) -> Result<Option<Done>, DriveErr>
-    requires whole { IsWhole sim.old.net }
-    requires fresh { sim.old.state ≡ resets sim.old.net }
-    requires arguments { AreArguments sim.old.net args.now }
-    requires files { length files.now ≡ length probes.old }
-    ensures outcome { IfOk result (IsOutcome sim.old.net args.now limit) }
-    ensures net { sim.new.net ≡ sim.old.net }
-    ensures traced { OnOk result (TracesGrow Made sim.old.net args.now limit files.now (λ p. state p) probes.old (S.told shelf.old) (S.told shelf.new)) }
-    ensures part { OnErr result (TracesGrow OldOrPart sim.old.net args.now limit files.now (λ p. state p) probes.old (S.told shelf.old) (S.told shelf.new)) }
-    ensures unasked { SameUnasked (asked files.now) probes.old probes.new }
-    ensures probes { SameProbes (map (λ p. state p) probes.old) (map (λ p. state p) probes.new) }
-    ensures stopped { IfErr result (StopsRun files.now (λ p. state p) probes.old probes.new (S.told shelf.old) (S.told shelf.new)) }
-    ensures reads { SameReads (S.told shelf.old) (S.told shelf.new) }
-    ensures strays { UsesNoStray (S.told shelf.old) (S.told shelf.new) }
+    ensures shelf { KeepsShelf (S.told shelf.old) (S.told shelf.new) }
 {
     let net = sim.net();
     let _ordered = sim.ordered().net();
     let mut harness = Harness::new(alloc, net)?;
     take_arguments(&mut harness, net, args);
     let mut room = make_room(alloc, sim)?;
+    let probes = probes.as_mut_slice();
     tell_all(probes, files, Moment::Beginning, net, shelf, &mut room)?;
     let done = watch(sim, &harness, limit, probes, files, shelf, &mut room)?;
     tell_all(probes, files, Moment::End, sim.net(), shelf, &mut room)?;

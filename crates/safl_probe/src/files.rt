@@ -2,9 +2,8 @@
 
 ghost use Rattle.std.specs.Prelude.{◌≡◌, OnOk, OnErr, IsErrOf, []};
 ghost use Rattle.safl_io.specs.Counts.{Rose};
-ghost use Rattle.safl_io.specs.Shelf.{UsesNoStray};
+ghost use Rattle.safl_io.specs.Shelf.{SameReads, UsesNoStray};
 ghost use Rattle.safl_io.specs.Told.{TellsOn};
-ghost use Rattle.safl_probe.specs.Stopping.{SameReads};
 ghost use Rattle.safl_probe.specs.Growth.{Grows, Longer, LongerPart, OldOrPart, Opens, IsThere};
 ghost use Rattle.safl_probe.specs.declared.moment.Moment.TheVariants as moments;
 

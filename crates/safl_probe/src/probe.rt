@@ -1,9 +1,9 @@
 // What watches a simulation and gives text.
-ghost use Rattle.std.specs.Prelude.{◌≡◌, ◌≤◌, ◌<◌, OnOk, OnErr, IsErrOf, IsSome};
+ghost use Rattle.std.specs.Prelude.{◌≡◌, OnOk, OnErr, IsErrOf, IsSome};
 ghost use Rattle.safl_io.specs.Counts.{Rose};
 ghost use Rattle.safl_io.specs.Sink.{Sends, SendsPart};
 ghost use Rattle.safl_probe.specs.Watching.{shown_frame};
-ghost use Rattle.safl_probe.specs.Probing.{ProbeState, Tells, FrameFits, begun, after_frame, begin_text, cycle_text, finish_text};
+ghost use Rattle.safl_probe.specs.Probing.{ProbeState, Tells, SameProbe, TakesFrame, begun, after_frame, begin_text, cycle_text, finish_text};
 ghost use Rattle.safl_probe.specs.declared.probe.ProbeErr.TheVariants as why;
 
 use safl_net::Net;
@@ -46,21 +46,17 @@ pub trait Probe: Drop {
         ensures added { OnOk result (Sends (begin_text net.now (state self.old)) out.old.items out.new.items) }
         ensures part { OnErr result (SendsPart (begin_text net.now (state self.old)) out.old.items out.new.items) }
         ensures tells { OnOk result (Tells (begun net.now (state self.old)) (state self.new)) }
-        ensures same_kind { (state self.new).kind ≡ (state self.old).kind }
-        ensures failed { IsErrOf result ProbeErr.Failed → Rose (state self.old).faults (state self.new).faults }
-        ensures faults_later { (state self.old).faults ≤ (state self.new).faults };
+        ensures same_probe { SameProbe (state self.old) (state self.new) }
+        ensures failed { IsErrOf result ProbeErr.Failed → Rose (state self.old).faults (state self.new).faults };
 
     /// Takes the frame of cycle `t`, which is the number of frames so far, and appends its text.
     fn cycle(&mut self, t: u64, frame: &[Word], out: &mut Vec<u8>) -> Result<(), ProbeErr>
-        requires fits { FrameFits (state self.old).shape (shown_frame frame.now) }
-        requires turn { t ≡ (state self.old).turn }
-        requires room { t < 0xffff_ffff_ffff_ffff }
+        requires takes { TakesFrame t (shown_frame frame.now) (state self.old) }
         ensures added { OnOk result (Sends (cycle_text (shown_frame frame.now) (state self.old)) out.old.items out.new.items) }
         ensures part { OnErr result (SendsPart (cycle_text (shown_frame frame.now) (state self.old)) out.old.items out.new.items) }
         ensures tells { OnOk result (Tells (after_frame (shown_frame frame.now) (state self.old)) (state self.new)) }
-        ensures same_kind { (state self.new).kind ≡ (state self.old).kind }
-        ensures failed { IsErrOf result ProbeErr.Failed → Rose (state self.old).faults (state self.new).faults }
-        ensures faults_later { (state self.old).faults ≤ (state self.new).faults };
+        ensures same_probe { SameProbe (state self.old) (state self.new) }
+        ensures failed { IsErrOf result ProbeErr.Failed → Rose (state self.old).faults (state self.new).faults };
 
     /// Appends the text of the end.
     fn finish(&mut self, out: &mut Vec<u8>) -> Result<(), ProbeErr>
@@ -68,7 +64,6 @@ pub trait Probe: Drop {
         ensures added { OnOk result (Sends (finish_text (state self.old)) out.old.items out.new.items) }
         ensures part { OnErr result (SendsPart (finish_text (state self.old)) out.old.items out.new.items) }
         ensures tells { OnOk result (Tells (state self.old) (state self.new)) }
-        ensures same_kind { (state self.new).kind ≡ (state self.old).kind }
-        ensures failed { IsErrOf result ProbeErr.Failed → Rose (state self.old).faults (state self.new).faults }
-        ensures faults_later { (state self.old).faults ≤ (state self.new).faults };
+        ensures same_probe { SameProbe (state self.old) (state self.new) }
+        ensures failed { IsErrOf result ProbeErr.Failed → Rose (state self.old).faults (state self.new).faults };
 }

@@ -66,11 +66,11 @@ impl StubProbe {
 }
 
 impl Probe for StubProbe {
-    ghost use Rattle.std.specs.Prelude.{◌≡◌, ◌↔◌, ◌≤◌, ◌<◌, OnOk, OnErr, IsErrOf};
+    ghost use Rattle.std.specs.Prelude.{◌↔◌, OnOk, OnErr, IsErrOf};
     ghost use Rattle.safl_io.specs.Counts.{Rose};
     ghost use Rattle.safl_io.specs.Sink.{Sends, SendsPart};
     ghost use Rattle.safl_probe.specs.Watching.{shown_frame};
-    ghost use Rattle.safl_probe.specs.Probing.{Tells, FrameFits, begun, after_frame, begin_text, cycle_text, finish_text};
+    ghost use Rattle.safl_probe.specs.Probing.{Tells, SameProbe, TakesFrame, begun, after_frame, begin_text, cycle_text, finish_text};
     ghost use Rattle.safl_probe.specs.Stubs.{FailsNext, CountsCall};
 
     ghost state = { λ stub. stub.probe };
@@ -83,9 +83,8 @@ impl Probe for StubProbe {
         ensures added { OnOk result (Sends (begin_text net.now self.old.probe) out.old.items out.new.items) }
         ensures part { OnErr result (SendsPart (begin_text net.now self.old.probe) out.old.items out.new.items) }
         ensures tells { OnOk result (Tells (begun net.now self.old.probe) self.new.probe) }
-        ensures same_kind { self.new.probe.kind ≡ self.old.probe.kind }
+        ensures same_probe { SameProbe self.old.probe self.new.probe }
         ensures failed { IsErrOf result ProbeErr.Failed → Rose self.old.probe.faults self.new.probe.faults }
-        ensures faults_later { self.old.probe.faults ≤ self.new.probe.faults }
         ensures fails { IsErrOf result ProbeErr.Failed ↔ FailsNext self.old }
         ensures counts { CountsCall self.old self.new }
     {
@@ -97,15 +96,12 @@ impl Probe for StubProbe {
     }
 
     fn cycle(&mut self, t: u64, frame: &[Word], out: &mut Vec<u8>) -> Result<(), ProbeErr>
-        requires fits { FrameFits self.old.probe.shape (shown_frame frame.now) }
-        requires turn { t ≡ self.old.probe.turn }
-        requires room { t < 0xffff_ffff_ffff_ffff }
+        requires takes { TakesFrame t (shown_frame frame.now) self.old.probe }
         ensures added { OnOk result (Sends (cycle_text (shown_frame frame.now) self.old.probe) out.old.items out.new.items) }
         ensures part { OnErr result (SendsPart (cycle_text (shown_frame frame.now) self.old.probe) out.old.items out.new.items) }
         ensures tells { OnOk result (Tells (after_frame (shown_frame frame.now) self.old.probe) self.new.probe) }
-        ensures same_kind { self.new.probe.kind ≡ self.old.probe.kind }
+        ensures same_probe { SameProbe self.old.probe self.new.probe }
         ensures failed { IsErrOf result ProbeErr.Failed → Rose self.old.probe.faults self.new.probe.faults }
-        ensures faults_later { self.old.probe.faults ≤ self.new.probe.faults }
         ensures fails { IsErrOf result ProbeErr.Failed ↔ FailsNext self.old }
         ensures counts { CountsCall self.old self.new }
     {
@@ -120,9 +116,8 @@ impl Probe for StubProbe {
         ensures added { OnOk result (Sends (finish_text self.old.probe) out.old.items out.new.items) }
         ensures part { OnErr result (SendsPart (finish_text self.old.probe) out.old.items out.new.items) }
         ensures tells { OnOk result (Tells (self.old.probe) self.new.probe) }
-        ensures same_kind { self.new.probe.kind ≡ self.old.probe.kind }
+        ensures same_probe { SameProbe self.old.probe self.new.probe }
         ensures failed { IsErrOf result ProbeErr.Failed → Rose self.old.probe.faults self.new.probe.faults }
-        ensures faults_later { self.old.probe.faults ≤ self.new.probe.faults }
         ensures fails { IsErrOf result ProbeErr.Failed ↔ FailsNext self.old }
         ensures counts { CountsCall self.old self.new }
     {

@@ -1,14 +1,14 @@
 //! Telling asked probes of a moment of a run.
 
-ghost use Rattle.std.specs.Prelude.{◌≡◌, ◌≤◌, map, length, IfErr, OnOk, OnErr, IsErrOf};
+ghost use Rattle.std.specs.Prelude.{◌≡◌, IfErr, OnOk, OnErr, IsErrOf};
 ghost use Rattle.safl_io.specs.Counts.{Rose};
-ghost use Rattle.safl_io.specs.Shelf.{UsesNoStray};
-ghost use Rattle.safl_probe.specs.Probing.{Tells};
-ghost use Rattle.safl_probe.specs.Asked.{SameUnasked, asked};
+ghost use Rattle.safl_io.specs.Shelf.{SameReads, UsesNoStray};
+ghost use Rattle.safl_probe.specs.Probing.{SameProbe, Tells};
+ghost use Rattle.safl_probe.specs.Asked.{asked};
 ghost use Rattle.safl_probe.specs.Moments.{CanTell, text_at, state_at};
-ghost use Rattle.safl_probe.specs.Growth.{Grown, GrownPart, IsThere, AllThere, LeavesAllThere};
-ghost use Rattle.safl_probe.specs.Telling.{frame_in, AllCanTell, AllTell, GrowsAt, AllGrowAt};
-ghost use Rattle.safl_probe.specs.Stopping.{Blames, SameProbes, SameReads, StopsRun};
+ghost use Rattle.safl_probe.specs.Growth.{Grown, GrownPart, IsThere, AllThere};
+ghost use Rattle.safl_probe.specs.Telling.{frame_in, AllCanTell, AllTold, ToldPart, GrowsAt};
+ghost use Rattle.safl_probe.specs.Stopping.{Blames, KeepsProbes};
 
 use crate::drive_err::{DriveErr, unprobed, unwritten};
 use crate::files::{append, open};
@@ -28,9 +28,8 @@ pub(crate) fn tell(
     requires { CanTell moment (frame_in room.old) (state probe.old) }
     ensures text { OnOk result (room.new.text.items ≡ text_at moment net.now (frame_in room.old) (state probe.old)) }
     ensures tells { OnOk result (Tells (state_at moment net.now (frame_in room.old) (state probe.old)) (state probe.new)) }
-    ensures same_kind { (state probe.new).kind ≡ (state probe.old).kind }
+    ensures same_probe { SameProbe (state probe.old) (state probe.new) }
     ensures failed { IsErrOf result ProbeErr.Failed → Rose (state probe.old).faults (state probe.new).faults }
-    ensures faults_later { (state probe.old).faults ≤ (state probe.new).faults }
     ensures same_frame { room.new.frame ≡ room.old.frame }
 {
     room.text.clear();
@@ -55,8 +54,7 @@ pub(crate) fn tell_one<S: Shelf>(
     ensures grown { OnOk result (GrowsAt Grown moment net.now (frame_in room.old) name.now (state probe.old) (S.told shelf.old) (S.told shelf.new)) }
     ensures part { OnErr result (GrowsAt GrownPart moment net.now (frame_in room.old) name.now (state probe.old) (S.told shelf.old) (S.told shelf.new)) }
     ensures tells { OnOk result (Tells (state_at moment net.now (frame_in room.old) (state probe.old)) (state probe.new)) }
-    ensures same_kind { (state probe.new).kind ≡ (state probe.old).kind }
-    ensures faults_later { (state probe.old).faults ≤ (state probe.new).faults }
+    ensures same_probe { SameProbe (state probe.old) (state probe.new) }
     ensures same_frame { room.new.frame ≡ room.old.frame }
     ensures blames { IfErr result (λ why. Blames why place (state probe.old) (state probe.new) (S.told shelf.old) (S.told shelf.new)) }
     ensures reads { SameReads (S.told shelf.old) (S.told shelf.new) }
@@ -78,19 +76,15 @@ pub(crate) fn tell_all<S: Shelf>(
     shelf: &mut S,
     room: &mut Room,
 ) -> Result<(), DriveErr>
-    requires files { length files.now ≡ length probes.old }
-    requires can { AllCanTell moment (frame_in room.old) files.now (λ p. state p) probes.old }
-    ensures grown { OnOk result (AllGrowAt Grown moment net.now (frame_in room.old) files.now (λ p. state p) probes.old (S.told shelf.old) (S.told shelf.new)) }
-    ensures part { OnErr result (AllGrowAt GrownPart moment net.now (frame_in room.old) files.now (λ p. state p) probes.old
+    requires { AllCanTell moment (frame_in room.old) files.now (λ p. state p) probes.old }
+    ensures told { OnOk result (AllTold moment net.now (frame_in room.old) files.now (λ p. state p) probes.old probes.new
         (S.told shelf.old) (S.told shelf.new)) }
-    ensures tells { OnOk result (AllTell files.now (state_at moment net.now (frame_in room.old)) (λ p. state p) probes.old probes.new) }
-    ensures unasked { SameUnasked (asked files.now) probes.old probes.new }
-    ensures probes { SameProbes (map (λ p. state p) probes.old) (map (λ p. state p) probes.new) }
+    ensures part { IfErr result (ToldPart moment net.now (frame_in room.old) files.now (λ p. state p) probes.old probes.new
+        (S.told shelf.old) (S.told shelf.new)) }
+    ensures probes { KeepsProbes (asked files.now) (λ p. state p) probes.old probes.new }
     ensures same_frame { room.new.frame ≡ room.old.frame }
-    ensures stopped { IfErr result (StopsRun files.now (λ p. state p) probes.old probes.new (S.told shelf.old) (S.told shelf.new)) }
     ensures reads { SameReads (S.told shelf.old) (S.told shelf.new) }
     ensures strays { AllThere moment (asked files.now) (S.told shelf.old).holds → UsesNoStray (S.told shelf.old) (S.told shelf.new) }
-    ensures there { OnOk result (LeavesAllThere moment files.now (S.told shelf.old) (S.told shelf.new)) }
 {
     'probes: for i in 0..probes.len() {
         if let Some(name) = &files[i] {

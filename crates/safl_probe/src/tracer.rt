@@ -32,9 +32,9 @@ impl Model for Tracer {
 }
 
 impl Tracer {
-    ghost use Rattle.std.specs.Prelude.{◌≡◌, ◌<◌, ◌++◌, OnOk, OnErr};
+    ghost use Rattle.std.specs.Prelude.{◌≡◌, ◌++◌, OnOk, OnErr};
     ghost use Rattle.safl_probe.specs.Watching.{shown_frame};
-    ghost use Rattle.safl_probe.specs.Probing.{fresh, begun, after_frame, FrameFits, begin_text, cycle_text, finish_text};
+    ghost use Rattle.safl_probe.specs.Probing.{fresh, begun, after_frame, TakesFrame, begin_text, cycle_text, finish_text};
 
     pub(crate) fn new(alloc: Global, kind: u8) -> Self
         ensures { result ≡ fresh kind }
@@ -81,9 +81,7 @@ impl Tracer {
         frame: &[Word],
         out: &mut Vec<u8>,
     ) -> Result<(), NoMemory>
-        requires fits { FrameFits self.old.shape (shown_frame frame.now) }
-        requires turn { t ≡ self.old.turn }
-        requires room { t < 0xffff_ffff_ffff_ffff }
+        requires { TakesFrame t (shown_frame frame.now) self.old }
         ensures added { OnOk result (out.new.items ≡ out.old.items ++ cycle_text (shown_frame frame.now) self.old) }
         ensures same { OnErr result (out.new.items ≡ out.old.items) }
         ensures told { OnOk result (self.new ≡ after_frame (shown_frame frame.now) self.old) }

@@ -1,11 +1,11 @@
 //! The loop of a run: a tick, what the probes are shown, and a look at `done`.
 
-ghost use Rattle.std.specs.Prelude.{◌≡◌, List, map, length, IfOk, IfErr, OnOk, OnErr};
-ghost use Rattle.safl_io.specs.Shelf.{UsesNoStray};
+ghost use Rattle.std.specs.Prelude.{◌≡◌, List, IfOk, IfErr};
+ghost use Rattle.safl_io.specs.Shelf.{SameReads, UsesNoStray};
 ghost use Rattle.safl_probe.specs.Rooms.{HasWidths};
-ghost use Rattle.safl_probe.specs.Asked.{SameUnasked, asked};
-ghost use Rattle.safl_probe.specs.Growth.{AllThere, LeavesAllThere};
-ghost use Rattle.safl_probe.specs.Stopping.{SameProbes, SameReads, StopsRun};
+ghost use Rattle.safl_probe.specs.Asked.{asked};
+ghost use Rattle.safl_probe.specs.Growth.{AllThere};
+ghost use Rattle.safl_probe.specs.Stopping.{KeepsProbes};
 ghost use Rattle.safl_word.specs.Words.{Word};
 ghost use Rattle.safl_run.specs.Steps.{IsCalled};
 ghost use Rattle.safl_probe.specs.Rounds.{AllReady, Shows, ShowsPart};
@@ -30,19 +30,16 @@ pub(crate) fn watch<S: Shelf>(
     room: &mut Room,
 ) -> Result<Option<Done>, DriveErr>
     requires called { (args : List Word) × IsCalled sim.old.net args harness.now }
-    requires files { length files.now ≡ length probes.old }
     requires ready { AllReady sim.old.net files.now (λ p. state p) probes.old }
     requires room { HasWidths sim.old.net room.old.frame.items }
     ensures watched { IfOk result (Shows sim.old sim.new harness.now limit files.now (λ p. state p) probes.old probes.new
         (S.told shelf.old) (S.told shelf.new)) }
-    ensures broken { OnErr result (ShowsPart sim.old harness.now limit files.now (λ p. state p) probes.old (S.told shelf.old) (S.told shelf.new)) }
+    ensures broken { IfErr result (ShowsPart sim.old harness.now limit files.now (λ p. state p) probes.old probes.new
+        (S.told shelf.old) (S.told shelf.new)) }
     ensures net { sim.new.net ≡ sim.old.net }
-    ensures unasked { SameUnasked (asked files.now) probes.old probes.new }
-    ensures probes { SameProbes (map (λ p. state p) probes.old) (map (λ p. state p) probes.new) }
-    ensures stopped { IfErr result (StopsRun files.now (λ p. state p) probes.old probes.new (S.told shelf.old) (S.told shelf.new)) }
+    ensures probes { KeepsProbes (asked files.now) (λ p. state p) probes.old probes.new }
     ensures reads { SameReads (S.told shelf.old) (S.told shelf.new) }
     ensures strays { AllThere moments.End (asked files.now) (S.told shelf.old).holds → UsesNoStray (S.told shelf.old) (S.told shelf.new) }
-    ensures there { OnOk result (LeavesAllThere moments.End files.now (S.told shelf.old) (S.told shelf.new)) }
 {
     'cycles: for cycle in 0..limit {
         let done = step(sim, harness, cycle);

@@ -96,16 +96,16 @@ compute-pair-requires t c =
     let smaller : 3 * nodes_in (shown_terms c.as_slice-operands.result.now) + 2 < 3 * nodes (shown_term c.args.t.now) = omega (arith, size) in
     (search rules, (part.compute_op h, (omega (arith, count, few.0), (omega (arith, count, few.1), refl))))
 
-pub compute-shared_whole_as_front-apply : goal.compute-shared_whole_as_front-apply
-compute-shared_whole_as_front-apply t c =
+pub compute-shared_whole_as_front-applied : goal.compute-shared_whole_as_front-applied
+compute-shared_whole_as_front-applied t c =
     let shape = op_by c.in-Op.p (ap shown_term c.in-Op.is ∙ shown_term-Op c.in-Op.p c.in-Op.ts) (ap shown_terms c.as_slice-operands.ensures.value) in
     let h = compute_is shape c.requires in
     let few = may.op_few c.in-Op.p _ h.can in
     let count = step.count_forest c.as_slice-operands.result.now in
     omega (arith, count, few.1, c.pair.auto.words)
 
-pub compute-apply-requires : goal.compute-apply-requires
-compute-apply-requires t c =
+pub compute-applied-requires : goal.compute-applied-requires
+compute-applied-requires t c =
     let shape = op_by c.in-Op.p (ap shown_term c.in-Op.is ∙ shown_term-Op c.in-Op.p c.in-Op.ts) (ap shown_terms c.as_slice-operands.ensures.value) in
     let h = compute_is shape c.requires in
     may.op_fits c.in-Op.p _ (take (length c.as_slice-operands.result.now) c.pair.new.words) h.can (c.pair.ensures.words.words (back_at h.stages))
@@ -113,7 +113,7 @@ compute-apply-requires t c =
 pub compute-returns-in-Op-clause-word : goal.compute-returns-in-Op-clause-word
 compute-returns-in-Op-clause-word t c =
     let shape = op_by c.in-Op.p (ap shown_term c.in-Op.is ∙ shown_term-Op c.in-Op.p c.in-Op.ts) (ap shown_terms c.as_slice-operands.ensures.value) in
-    comes_is refl shape (part.comes_op c.pair.ensures.words c.apply.ensures)
+    comes_is refl shape (part.comes_op c.pair.ensures.words c.applied.ensures)
 
 -- ---- constants and slots
 

@@ -245,16 +245,16 @@ look-pair-requires t c =
       ),
     )
 
-pub look-shared_whole_as_front-apply : goal.look-shared_whole_as_front-apply
-look-shared_whole_as_front-apply t c =
+pub look-shared_whole_as_front-applied : goal.look-shared_whole_as_front-applied
+look-shared_whole_as_front-applied t c =
     let shape = op_by c.in-Op.p (ap shown_term c.in-Op.is ∙ shown_term-Op c.in-Op.p c.in-Op.ts) (ap shown_terms c.as_slice-operands.ensures.value) in
     let h = look_is shape c.requires.may in
     let few = may.op_few c.in-Op.p _ h.can in
     let count = step.count_forest c.as_slice-operands.result.now in
     omega (arith, count, few.1, c.pair.auto.words)
 
-pub look-apply-requires : goal.look-apply-requires
-look-apply-requires t c =
+pub look-applied-requires : goal.look-applied-requires
+look-applied-requires t c =
     let shape = op_by c.in-Op.p (ap shown_term c.in-Op.is ∙ shown_term-Op c.in-Op.p c.in-Op.ts) (ap shown_terms c.as_slice-operands.ensures.value) in
     let h = look_is shape c.requires.may in
     let fs = whole.finds_all_slots c.part-in-Op.ensures.slots c.part-in-Op.ensures.at c.if-pair.ensures.finds in
@@ -264,7 +264,7 @@ pub look-returns-then-pair-clause-looks : goal.look-returns-then-pair-clause-loo
 look-returns-then-pair-clause-looks t c =
     let shape = op_by c.in-Op.p (ap shown_term c.in-Op.is ∙ shown_term-Op c.in-Op.p c.in-Op.ts) (ap shown_terms c.as_slice-operands.ensures.value) in
     let fs = whole.finds_all_slots c.part-in-Op.ensures.slots c.part-in-Op.ensures.at c.if-pair.ensures.finds in
-    whole.looks_is shape (whole.looks_op fs (ap Some c.apply.ensures))
+    whole.looks_is shape (whole.looks_op fs (ap Some c.applied.ensures))
 
 pub look-returns-else-pair-clause-looks : goal.look-returns-else-pair-clause-looks
 look-returns-else-pair-clause-looks t c =

@@ -1,5 +1,6 @@
-use Rattle.std.proofs.Common.{rules, arith, ◌<◌, length, ◌∙◌}
+use Rattle.std.proofs.Common.{rules, arith, ◌<◌, length, refl, ◌∙◌}
 use Rattle.std.proofs.lemmas.Grind.{common_steps}
+use Rattle.safl_io.proofs.Keeping.{files_same, files_then}
 use Rattle.safl_io.proofs.Reading.{read_start, read_longer}
 use Rattle.safl_io.proofs.read.read_file.Goals as goal
 
@@ -7,25 +8,19 @@ pub loop-text-init : goal.loop-text-init
 loop-text-init g c = record {
   room = search rules;
   read = rw c.new-text.ensures.items (read_start _ _);
-  same_files = search rules;
-  reads_later = omega arith;
-  same_writes = search rules;
+  same_files = files_same _ _ refl;
   same_strays = search rules;
-  strays_later = omega arith;
 }
 
 pub loop-text-preserved : goal.loop-text-preserved
 loop-text-preserved g c =
-    let more = rw c.loop-text.invariant.same_files at c.in_ok-count.ensures.more in
-    let strays = rw c.loop-text.invariant.same_files at c.in_ok-count.ensures.same_strays in
+    let more = rw c.loop-text.invariant.same_files.holds at c.in_ok-count.ensures.more in
+    let strays = rw c.loop-text.invariant.same_files.holds at c.in_ok-count.ensures.same_strays in
     record {
       room = grind (arith, common_steps);
       read = more c.loop-text.invariant.read;
-      same_files = c.in_ok-count.ensures.same_files ∙ c.loop-text.invariant.same_files;
-      reads_later = omega arith;
-      same_writes = c.in_ok-count.ensures.same_writes ∙ c.loop-text.invariant.same_writes;
+      same_files = files_then _ _ _ c.loop-text.invariant.same_files c.in_ok-count.ensures.same_files;
       same_strays = λ held. strays held ∙ c.loop-text.invariant.same_strays held;
-      strays_later = omega arith;
     }
 
 pub returns-clause-too_long : goal.returns-clause-too_long

@@ -1,21 +1,18 @@
-use Rattle.std.proofs.Common.{◌≡◌, ◌≤◌, ℕ, ◌<◌, List, map, get_or, length, Option, Some, None, Vec, Global, String, string_bytes, option_map, Result, Ok, Err, OnErr, refl, sym, ap, subst, ◌∙◌, arith}
+use Rattle.std.proofs.Common.{◌≡◌, ◌≤◌, ℕ, ◌<◌, List, map, get_or, length, Option, Some, None, Vec, Global, String, string_bytes, option_map, refl, sym, ap, subst, ◌∙◌, arith}
 use Rattle.std.proofs.lemmas.List.{get_or-map, length-map}
 use Rattle.std.proofs.lemmas.Result.{err_from_is_err_and}
 use Rattle.safl_word.specs.Words.{Word}
 use Rattle.safl_net.specs.Netlist.{Netlist}
+use Rattle.safl_io.proofs.Keeping.{reads_same, reads_then}
 use Rattle.safl_probe.specs.Probing.{ProbeState, Tells}
 use Rattle.safl_probe.specs.Asked.{Asked, IsAsked, asked, probe_at}
 use Rattle.safl_probe.specs.Moments.{CanTell, text_at, state_at}
 use Rattle.safl_probe.specs.Growth.{Grown}
 use Rattle.safl_probe.specs.declared.moment.Moment.{Moment}
 use Rattle.safl_probe.proofs.Growing.{told_none, told_more, told_skip, told_all, told_part, there_none, told_there_more, told_there_skip, told_there_all, strays_none, strays_more, is_within}
-use Rattle.safl_probe.proofs.Telling.{ToldTo, none_told, skip_told, more_told, reads_same, reads_then, can_tell, same_more, stopped_at, text_was, asked_at}
+use Rattle.safl_probe.proofs.Telling.{ToldTo, none_told, skip_told, more_told, can_tell, keeps_more, stopped_at, text_was, asked_at}
 use Rattle.safl_probe.proofs.tell.tell_all.Goals as goal
 use Rattle.safl_probe.proofs.tell.tell_all.Goals.{in-Some+in_ok-tell_one, in_default}
-
-on_err : {T E : Type 0} (r : Result T E) (P : Type 0) → P → OnErr r P
-on_err (Ok x) P p = tt
-on_err (Err e) P p = p
 
 -- the name that a probe is asked for, and a place where none is
 asked_here : (files : List (Option (String Global))) (i : ℕ) (o : Option (String Global)) (name : String Global) (bytes : List ℕ) → i < length files →
@@ -75,27 +72,26 @@ returns-in_err-tell_one-clause-part g c =
     let name = asked_here c.args.files.now c.probes.i c.index-files-i.result c.in-Some.name c.deref.result.now lf c.index-files-i.is c.in-Some.is c.deref.ensures in
     let piece = piece_is c.args.moment c.args.net.now c.probes.room.frame c.args.room.now.frame c.probes.invariant.same_frame _ _ _ _ _ c.probes.i
     (get_or c.probes.probes c.probes.i c.index-probes-i.result) lt (ap (get_or c.probes.probes c.probes.i) c.index-probes-i.is) t in
-    on_err c.from_residual.result _
-    (λ apart. told_part c.args.moment (asked c.args.files.now) _ c.probes.i c.deref.result.now _ _ _ _ apart name piece (c.probes.invariant.grown apart) c.in_err-tell_one.ensures.part)
+    let p = err_from_is_err_and c.from_residual.result c.from_residual.ensures.1 in
+    rw (p.1, p.2)
+    (record {
+      grown = λ apart. told_part c.args.moment (asked c.args.files.now) _ c.probes.i c.deref.result.now _ _ _ _ apart name piece (c.probes.invariant.grown apart) c.in_err-tell_one.ensures.part;
+      stopped = stopped_at _ _ _ _ _ _ _ _ c.probes.i c.deref.result.now (get_or c.probes.probes c.probes.i c.index-probes-i.result) c.tell_one.new.probe
+          c.in_err-tell_one.field-0.0 _ _ _ lt (ap (get_or c.probes.probes c.probes.i) c.index-probes-i.is) name t c.probes.invariant.reads
+          c.in_err-tell_one.ensures.blames;
+    })
 
 pub returns-in_err-tell_one-clause-probes : goal.returns-in_err-tell_one-clause-probes
 returns-in_err-tell_one-clause-probes g c =
     let t = c.probes.invariant.told in
     let lt : c.probes.i < length c.probes.probes = let a = c.probes-test.true in let b = t.long in omega (arith, a, b) in
-    same_more _ _ _ _ c.probes.i (get_or c.probes.probes c.probes.i c.index-probes-i.result) c.tell_one.new.probe lt
-    (ap (get_or c.probes.probes c.probes.i) c.index-probes-i.is) c.in_err-tell_one.ensures.same_kind c.in_err-tell_one.ensures.faults_later t.same
-
-pub returns-in_err-tell_one-clause-stopped : goal.returns-in_err-tell_one-clause-stopped
-returns-in_err-tell_one-clause-stopped g c =
-    let t = c.probes.invariant.told in
-    let lt : c.probes.i < length c.probes.probes = let a = c.probes-test.true in let b = t.long in omega (arith, a, b) in
     let lf : c.probes.i < length c.args.files.now = let a = c.probes-test.true in let b = c.requires.files in omega (arith, a, b) in
     let name = asked_here c.args.files.now c.probes.i c.index-files-i.result c.in-Some.name c.deref.result.now lf c.index-files-i.is c.in-Some.is c.deref.ensures in
-    let p = err_from_is_err_and c.from_residual.result c.from_residual.ensures.1 in
-    rw (p.1, p.2)
-    (stopped_at _ _ _ _ _ _ _ _ c.probes.i c.deref.result.now (get_or c.probes.probes c.probes.i c.index-probes-i.result) c.tell_one.new.probe
-    c.in_err-tell_one.field-0.0 _ _ _ lt (ap (get_or c.probes.probes c.probes.i) c.index-probes-i.is) name t c.probes.invariant.reads
-    c.in_err-tell_one.ensures.blames)
+    keeps_more _ _ _ _ _ c.probes.i c.deref.result.now (get_or c.probes.probes c.probes.i c.index-probes-i.result) c.tell_one.new.probe lt
+    (ap (get_or c.probes.probes c.probes.i) c.index-probes-i.is) name c.in_err-tell_one.ensures.same_probe.kind c.in_err-tell_one.ensures.same_probe.faults t.kept
+
+pub returns-in_err-tell_one-clause-reads : goal.returns-in_err-tell_one-clause-reads
+returns-in_err-tell_one-clause-reads g c = reads_then _ _ _ c.probes.invariant.reads c.in_err-tell_one.ensures.reads
 
 pub probes-preserved : goal.probes-preserved
 probes-preserved g c =
@@ -112,7 +108,7 @@ probes-preserved g c =
             told = more_told _ _ _ _ _ _ _ _ c.probes.i w.deref.result.now (get_or c.probes.probes c.probes.i w.index-probes-i.result)
                 w.tell_one.new.probe lt (ap (get_or c.probes.probes c.probes.i) w.index-probes-i.is) name
                 (tells_here c.args.moment c.args.net.now c.probes.room.frame c.args.room.now.frame c.probes.invariant.same_frame _ _ w.in_ok-tell_one.ensures.tells)
-                w.in_ok-tell_one.ensures.same_kind w.in_ok-tell_one.ensures.faults_later t;
+                w.in_ok-tell_one.ensures.same_probe.kind w.in_ok-tell_one.ensures.same_probe.faults t;
             grown = λ apart. told_more (Grown c.args.moment) (asked c.args.files.now) _ c.probes.i w.deref.result.now _ _ _ _ apart name piece
                 (c.probes.invariant.grown apart) w.in_ok-tell_one.ensures.grown;
             same_frame = w.in_ok-tell_one.ensures.same_frame ∙ c.probes.invariant.same_frame;
@@ -134,20 +130,15 @@ probes-preserved g c =
           })
     ]
 
-pub returns-clause-grown : goal.returns-clause-grown
-returns-clause-grown g c = λ apart.
+pub returns-clause-told : goal.returns-clause-told
+returns-clause-told g c =
     let long : length (asked c.args.files.now) ≤ c.probes.i =
     let a = c.probes-test.false in let b = within c.args.files.now _ c.requires.files in omega (arith, a, b) in
-    told_all (Grown c.args.moment) (asked c.args.files.now) _ c.probes.i _ _ long (c.probes.invariant.grown apart)
-
-pub returns-clause-tells : goal.returns-clause-tells
-returns-clause-tells g c = λ i name k.
-    let w = is_within (asked c.args.files.now) i name k in
-    let lt : i < c.probes.i = let a = c.probes-test.false in let b = within c.args.files.now _ c.requires.files in omega (arith, a, b, w) in
-    c.probes.invariant.told.told i name lt k
-
-pub returns-clause-there : goal.returns-clause-there
-returns-clause-there g c = λ h.
-    let long : length (asked c.args.files.now) ≤ c.probes.i =
-    let a = c.probes-test.false in let b = within c.args.files.now _ c.requires.files in omega (arith, a, b) in
-    told_there_all c.args.moment (asked c.args.files.now) c.probes.i _ _ long (c.probes.invariant.there h)
+    record {
+      grown = λ apart. told_all (Grown c.args.moment) (asked c.args.files.now) _ c.probes.i _ _ long (c.probes.invariant.grown apart);
+      tells = λ i name k.
+          let w = is_within (asked c.args.files.now) i name k in
+          let lt : i < c.probes.i = omega (arith, w, long) in
+          c.probes.invariant.told.told i name lt k;
+      there = λ h. told_there_all c.args.moment (asked c.args.files.now) c.probes.i _ _ long (c.probes.invariant.there h);
+    }

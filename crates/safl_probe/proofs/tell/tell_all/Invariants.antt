@@ -1,12 +1,11 @@
 use Rattle.std.proofs.Common.{◌≡◌, map, Option, OnSome}
 use Rattle.safl_word.specs.Words.{Word}
 use Rattle.safl_io.specs.Told.{TellsOn}
-use Rattle.safl_io.specs.Shelf.{Files}
+use Rattle.safl_io.specs.Shelf.{Files, SameReads}
 use Rattle.safl_net.specs.Valuations.{Valuation}
 use Rattle.safl_probe.specs.Asked.{Asked, AreApart, asked, probe_at}
 use Rattle.safl_probe.specs.Moments.{text_at}
 use Rattle.safl_probe.specs.Growth.{FirstGrow, Grown, AllThere}
-use Rattle.safl_probe.specs.Stopping.{SameReads}
 use Rattle.safl_probe.proofs.Growing.{ThereTo}
 use Rattle.safl_probe.proofs.Telling.{ToldTo}
 use Rattle.safl_probe.proofs.tell.tell_all.Given as goal

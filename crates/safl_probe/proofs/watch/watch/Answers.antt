@@ -1,4 +1,6 @@
-use Rattle.std.proofs.Common.{◌≡◌, ◌+◌, [], ◌∷◌, ◌++◌, length, slice_index, Result, Ok, Err, OnErr, refl, sym, ap, subst, ◌∙◌, arith, inl, inr}
+use Rattle.std.proofs.Common.{◌≡◌, ◌+◌, [], ◌∷◌, ◌++◌, length, slice_index, refl, sym, ap, subst, ◌∙◌, arith, inl, inr}
+use Rattle.std.proofs.lemmas.Result.{err_from_is_err_and}
+use Rattle.safl_io.proofs.Keeping.{reads_same, reads_then}
 use Rattle.safl_net.specs.Netlist.{Netlist}
 use Rattle.safl_net.specs.Valuations.{Valuation}
 use Rattle.safl_net.proofs.Naming.{pushed}
@@ -8,14 +10,10 @@ use Rattle.safl_run.proofs.Stepping.{goes_along, goes_call, goes_on, replied}
 use Rattle.safl_probe.specs.Rooms.{HasWidths}
 use Rattle.safl_probe.specs.Asked.{asked}
 use Rattle.safl_probe.proofs.Growing.{strays_none}
-use Rattle.safl_probe.proofs.Telling.{same_probes, reads_same, reads_then}
+use Rattle.safl_probe.proofs.Stops.{stopped_later}
 use Rattle.safl_probe.proofs.Frames.{fits_more, turn_more}
-use Rattle.safl_probe.proofs.Rounds.{shown_along, shown_none, shown_more, shown_part, same_then, unasked_then, unasked_same, there_now, there_then, strays_then}
+use Rattle.safl_probe.proofs.Rounds.{cycle_grown, cycle_part, shown_along, shown_none, shown_more, shown_part, kept_then, kept_same, strays_then}
 use Rattle.safl_probe.proofs.watch.watch.Goals as goal
-
-on_err : {T E : Type 0} (r : Result T E) (P : Type 0) → P → OnErr r P
-on_err (Ok x) P p = tt
-on_err (Err e) P p = p
 
 pub cycles-init : goal.cycles-init
 cycles-init g c = record {
@@ -27,11 +25,9 @@ cycles-init g c = record {
   shown = shown_none (asked c.args.files.now) _ _;
   room = c.requires.room;
   long = refl;
-  unasked = unasked_same (asked c.args.files.now) _;
-  probes = same_probes _ _ _;
+  probes = kept_same (asked c.args.files.now) _ _;
   reads = reads_same _ _ refl;
   strays = λ h. strays_none _ _;
-  there = λ h. there_now (asked c.args.files.now) _ h;
 }
 
 pub step-done-requires-clause-called : goal.step-done-requires-clause-called
@@ -52,33 +48,35 @@ cycles-preserved g c =
           (goes_along n (slice_index c.args.sim.now.state) args i.frames c.args.harness.now c.cycles.cycle c.cycles.sim c.step-done.new.sim
           c.step-done.result i.net c.step-done.ensures.goes called i.count (i.going args called));
       given = λ h. c.step-done.ensures.given (omega (arith, h));
-      shown = shown_more (asked c.args.files.now) _ i.frames v _ _ _ _ _ i.shown c.in_ok-show.ensures.tells c.in_ok-show.ensures.grown;
+      shown =
+          shown_more (asked c.args.files.now) _ i.frames v _ _ _ _ _ i.shown c.in_ok-show.ensures.shown.tells
+          (cycle_grown c.cycles.cycle v (asked c.args.files.now) _ _ _ c.in_ok-show.ensures.shown.grown) c.in_ok-show.ensures.shown.there;
       room = subst (λ (m : Netlist). HasWidths m c.show.new.room.frame.items) (c.step-done.ensures.net ∙ i.net) c.in_ok-show.ensures.room;
       long = c.show.auto.probes ∙ i.long;
-      unasked = unasked_then (asked c.args.files.now) _ _ _ i.unasked c.in_ok-show.ensures.unasked;
-      probes = same_then _ _ _ i.probes c.in_ok-show.ensures.probes;
+      probes = kept_then (asked c.args.files.now) _ _ _ _ i.probes c.in_ok-show.ensures.probes;
       reads = reads_then _ _ _ i.reads c.in_ok-show.ensures.reads;
-      strays = λ h. strays_then (asked c.args.files.now) _ _ _ _ _ (i.strays h) (i.there h) c.in_ok-show.ensures.strays;
-      there = λ h. there_then (asked c.args.files.now) _ _ _ (i.there h) c.in_ok-show.ensures.there;
+      strays = λ h. strays_then (asked c.args.files.now) _ _ _ _ _ (i.strays h) (i.shown.there h) c.in_ok-show.ensures.strays;
     }
 
 pub returns-in_err-show-clause-probes : goal.returns-in_err-show-clause-probes
-returns-in_err-show-clause-probes g c = same_then _ _ _ c.cycles.invariant.probes c.in_err-show.ensures.probes
+returns-in_err-show-clause-probes g c = kept_then (asked c.args.files.now) _ _ _ _ c.cycles.invariant.probes c.in_err-show.ensures.probes
 
 pub returns-in_err-show-clause-strays : goal.returns-in_err-show-clause-strays
 returns-in_err-show-clause-strays g c = λ h.
-    let i = c.cycles.invariant in strays_then (asked c.args.files.now) _ _ _ _ _ (i.strays h) (i.there h) c.in_err-show.ensures.strays
+    let i = c.cycles.invariant in strays_then (asked c.args.files.now) _ _ _ _ _ (i.strays h) (i.shown.there h) c.in_err-show.ensures.strays
+
+pub returns-in_err-show-clause-reads : goal.returns-in_err-show-clause-reads
+returns-in_err-show-clause-reads g c = reads_then _ _ _ c.cycles.invariant.reads c.in_err-show.ensures.reads
+
+pub returns-then-is_some-clause-reads : goal.returns-then-is_some-clause-reads
+returns-then-is_some-clause-reads g c = reads_then _ _ _ c.cycles.invariant.reads c.in_ok-show.ensures.reads
 
 pub returns-then-is_some-clause-probes : goal.returns-then-is_some-clause-probes
-returns-then-is_some-clause-probes g c = same_then _ _ _ c.cycles.invariant.probes c.in_ok-show.ensures.probes
+returns-then-is_some-clause-probes g c = kept_then (asked c.args.files.now) _ _ _ _ c.cycles.invariant.probes c.in_ok-show.ensures.probes
 
 pub returns-then-is_some-clause-strays : goal.returns-then-is_some-clause-strays
 returns-then-is_some-clause-strays g c = λ h.
-    let i = c.cycles.invariant in strays_then (asked c.args.files.now) _ _ _ _ _ (i.strays h) (i.there h) c.in_ok-show.ensures.strays
-
-pub returns-then-is_some-clause-there : goal.returns-then-is_some-clause-there
-returns-then-is_some-clause-there g c = λ h.
-    let i = c.cycles.invariant in there_then (asked c.args.files.now) _ _ _ (i.there h) c.in_ok-show.ensures.there
+    let i = c.cycles.invariant in strays_then (asked c.args.files.now) _ _ _ _ _ (i.strays h) (i.shown.there h) c.in_ok-show.ensures.strays
 
 pub returns-in_err-show-clause-broken : goal.returns-in_err-show-clause-broken
 returns-in_err-show-clause-broken g c =
@@ -86,17 +84,21 @@ returns-in_err-show-clause-broken g c =
     let n : Netlist = c.args.sim.now.net in
     let v : Valuation = c.step-done.new.sim.values in
     let long : length (i.frames ++ v ∷ []) ≡ length i.frames + 1 = long_more i.frames v in
-    on_err c.from_residual.result _
-    (λ args called.
-    let goes : Goes n (slice_index c.args.sim.now.state) args i.frames c.step-done.new.sim c.step-done.result =
-    goes_along n (slice_index c.args.sim.now.state) args i.frames c.args.harness.now c.cycles.cycle c.cycles.sim c.step-done.new.sim
-    c.step-done.result i.net c.step-done.ensures.goes called i.count (i.going args called) in
-    record {
-      frames = i.frames ++ v ∷ [];
-      call = goes_call n (slice_index c.args.sim.now.state) args i.frames c.step-done.new.sim c.step-done.result goes;
-      in_time = let a = i.count in let b = c.cycles-test.true in omega (arith, a, b, long);
-      off = λ x w below f. elim (pushed i.frames v w x f) [ inl h ↦ (i.going args called).not_done x w h | inr h ↦ absurd (let p = h.0 in omega (arith, p, below, long)) ];
-      files = shown_part (asked c.args.files.now) _ i.frames v _ _ _ _ i.shown c.in_err-show.ensures.part;
+    let p = err_from_is_err_and c.from_residual.result c.from_residual.ensures.1 in
+    rw (p.1, p.2)
+    (record {
+      broken = λ args called.
+          let goes : Goes n (slice_index c.args.sim.now.state) args i.frames c.step-done.new.sim c.step-done.result =
+          goes_along n (slice_index c.args.sim.now.state) args i.frames c.args.harness.now c.cycles.cycle c.cycles.sim c.step-done.new.sim
+          c.step-done.result i.net c.step-done.ensures.goes called i.count (i.going args called) in
+          record {
+            frames = i.frames ++ v ∷ [];
+            call = goes_call n (slice_index c.args.sim.now.state) args i.frames c.step-done.new.sim c.step-done.result goes;
+            in_time = let a = i.count in let b = c.cycles-test.true in omega (arith, a, b, long);
+            off = λ x w below f. elim (pushed i.frames v w x f) [ inl h ↦ (i.going args called).not_done x w h | inr h ↦ absurd (let p = h.0 in omega (arith, p, below, long)) ];
+            files = shown_part (asked c.args.files.now) _ i.frames v _ _ _ _ i.shown (cycle_part c.cycles.cycle v (asked c.args.files.now) _ _ _ c.in_err-show.ensures.part.grown);
+          };
+      stopped = stopped_later c.in_err-show.field-0.0 (asked c.args.files.now) _ _ _ _ _ _ i.probes.probes i.reads c.in_err-show.ensures.part.stopped;
     })
 
 pub returns-clause-watched : goal.returns-clause-watched
@@ -123,19 +125,24 @@ returns-then-is_some-clause-watched g c = λ args called.
     (let a = i.count in let b = c.cycles-test.true in omega (arith, a, b)) goes in
     record {
       answers = r.0;
-      shown = shown_along _ _ (asked c.args.files.now) _ _ _ _ r.1 (shown_more (asked c.args.files.now) _ i.frames v _ _ _ _ _ i.shown c.in_ok-show.ensures.tells c.in_ok-show.ensures.grown);
+      shown = shown_along _ _ (asked c.args.files.now) _ _ _ _ r.1 (shown_more (asked c.args.files.now) _ i.frames v _ _ _ _ _ i.shown c.in_ok-show.ensures.shown.tells
+          (cycle_grown c.cycles.cycle v (asked c.args.files.now) _ _ _ c.in_ok-show.ensures.shown.grown) c.in_ok-show.ensures.shown.there);
     }
 
 pub show-requires-clause-can : goal.show-requires-clause-can
-show-requires-clause-can g c = λ j name k.
+show-requires-clause-can g c =
     let i = c.cycles.invariant in
     let b = c.cycles-test.true in
-    let f = c.ranges.limit.fits in (
-      fits_more c.args.sim.now.net i.frames c.step-done.new.sim.values _ _ (c.requires.ready j name k) (i.shown.told j name k)
-          (c.step-done.ensures.full ∙ ap (λ (m : Netlist). length m.signals) (c.step-done.ensures.net ∙ i.net)),
-      turn_more c.args.sim.now.net i.frames _ _ c.cycles.cycle (c.requires.ready j name k) (i.shown.told j name k) i.count,
-      omega (arith, b, f),
-    )
+    let f = c.ranges.limit.fits in
+    record {
+      files = c.requires.ready.files ∙ sym i.long;
+      can = λ j name k. record {
+        fits = fits_more c.args.sim.now.net i.frames c.step-done.new.sim.values _ _ (c.requires.ready.ready j name k) (i.shown.told j name k)
+            (c.step-done.ensures.full ∙ ap (λ (m : Netlist). length m.signals) (c.step-done.ensures.net ∙ i.net));
+        turn = turn_more c.args.sim.now.net i.frames _ _ c.cycles.cycle (c.requires.ready.ready j name k) (i.shown.told j name k) i.count;
+        room = omega (arith, b, f);
+      };
+    }
 
 pub show-requires-clause-room : goal.show-requires-clause-room
 show-requires-clause-room g c =

@@ -1,11 +1,10 @@
 use Rattle.std.proofs.Common.{◌≡◌, ◌<◌, List, map, length, slice_index, Option, OnSome}
-use Rattle.safl_io.specs.Told.{TellsOn}
-use Rattle.safl_io.specs.Shelf.{Files}
+use Rattle.safl_io.specs.Shelf.{Files, SameReads}
 use Rattle.safl_net.specs.Valuations.{Valuation}
 use Rattle.safl_probe.specs.Rooms.{HasWidths}
-use Rattle.safl_probe.specs.Asked.{Asked, SameUnasked, asked}
-use Rattle.safl_probe.specs.Growth.{AllThere, NowThere}
-use Rattle.safl_probe.specs.Stopping.{SameProbes, SameReads}
+use Rattle.safl_probe.specs.Asked.{Asked, asked}
+use Rattle.safl_probe.specs.Growth.{AllThere}
+use Rattle.safl_probe.specs.Stopping.{KeepsProbes}
 use Rattle.safl_probe.specs.Rounds.{Shown}
 use Rattle.safl_word.specs.Words.{Word}
 use Rattle.safl_sim.specs.Places.{HasWords}
@@ -27,9 +26,7 @@ invariant-cycles g l =
       shown : Shown frames names (map (λ p. (goal.Probe-dyn g (p.vtable, p.value)).state p.value) l.fn.probes) (map (λ p. (goal.Probe-dyn g (p.vtable, p.value)).state p.value) l.probes) x y;
       room : HasWidths l.fn.sim.net l.room.frame.items;
       long : length l.probes ≡ length l.fn.probes;
-      unasked : SameUnasked names l.fn.probes l.probes;
-      probes : SameProbes (map (λ p. (goal.Probe-dyn g (p.vtable, p.value)).state p.value) l.fn.probes) (map (λ p. (goal.Probe-dyn g (p.vtable, p.value)).state p.value) l.probes);
+      probes : KeepsProbes names (λ p. (goal.Probe-dyn g (p.vtable, p.value)).state p.value) l.fn.probes l.probes;
       reads : SameReads (g.S.Shelf.told l.fn.shelf) (g.S.Shelf.told l.shelf);
       strays : AllThere moments.End names x → OnSome x ((g.S.Shelf.told l.shelf).strays ≡ (g.S.Shelf.told l.fn.shelf).strays);
-      there : AllThere moments.End names x → TellsOn (λ _ now. NowThere names now) x y;
     }

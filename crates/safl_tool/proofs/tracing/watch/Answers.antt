@@ -15,14 +15,12 @@ use Rattle.safl_tool.proofs.Asked.{files_long, handed, there, its_file, wrote}
 use Rattle.safl_tool.proofs.Traced.{asked_are_apart}
 use Rattle.safl_tool.proofs.tracing.watch.Goals as goal
 
-pub drive-requires-clause-arguments : goal.drive-requires-clause-arguments
-drive-requires-clause-arguments g c = subst (λ (l : List Word). AreArguments c.args.run.ready.sim.net l) (sym c.deref.ensures.value) c.requires.can.fit
-
-pub drive-requires-clause-whole : goal.drive-requires-clause-whole
-drive-requires-clause-whole g c = c.requires.can.whole
-
-pub drive-requires-clause-fresh : goal.drive-requires-clause-fresh
-drive-requires-clause-fresh g c = c.requires.can.fresh
+pub drive-requires-clause-begins : goal.drive-requires-clause-begins
+drive-requires-clause-begins g c = record {
+  whole = c.requires.can.whole;
+  fresh = c.requires.can.fresh;
+  arguments = subst (λ (l : List Word). AreArguments c.args.run.ready.sim.net l) (sym c.deref.ensures.value) c.requires.can.fit;
+}
 
 pub drive-requires-clause-files : goal.drive-requires-clause-files
 drive-requires-clause-files g c = files_long (λ p. (goal.Probe-dyn g (p.vtable, p.value)).state p.value) c.args.probes.now.items (shown_traces c.args.run.traces.now) c.args.files.now c.requires.asked
@@ -71,7 +69,7 @@ unwritten-requires-clause-there g c =
     let qs : List ProbeState = map (λ p. (goal.Probe-dyn g (p.vtable, p.value)).state p.value) c.drive.new.probes.items in
     let failed : WriteFailed c.in-Err-Write.place (asked c.args.files.now) (g.S.Shelf.told c.args.shelf.now) (g.S.Shelf.told c.drive.new.shelf) = rw
     c.in-Err-Write.field-0-is at c.in-Err-Write.ensures.stopped in
-    let lt = there (shown_traces c.args.run.traces.now) (asked c.args.files.now) ps qs c.requires.asked c.in-Err-Write.ensures.probes
+    let lt = there (shown_traces c.args.run.traces.now) (asked c.args.files.now) ps qs c.requires.asked c.in-Err-Write.ensures.probes.probes
     c.in-Err-Write.place (g.S.Shelf.told c.args.shelf.now) (g.S.Shelf.told c.drive.new.shelf) failed in
     let long = length-map c.drive.new.probes.items (λ p. (goal.Probe-dyn g (p.vtable, p.value)).state p.value) in
     let same = ap (λ l. length l) c.deref-in-Err-Write.ensures.value in
@@ -85,7 +83,7 @@ unwritten-requires-clause-named g c =
     let failed : WriteFailed c.in-Err-Write.place (asked c.args.files.now) (g.S.Shelf.told c.args.shelf.now) (g.S.Shelf.told c.drive.new.shelf) = rw
     c.in-Err-Write.field-0-is at c.in-Err-Write.ensures.stopped in
     subst (λ o. IsSome o) (sym (ap (λ xs. file_at t (map (λ p. (goal.Probe-dyn g (p.vtable, p.value)).state p.value) xs) c.in-Err-Write.place)
-    c.deref-in-Err-Write.ensures.value ∙ its_file t (asked c.args.files.now) ps qs c.requires.asked c.in-Err-Write.ensures.probes
+    c.deref-in-Err-Write.ensures.value ∙ its_file t (asked c.args.files.now) ps qs c.requires.asked c.in-Err-Write.ensures.probes.probes
     c.in-Err-Write.place (g.S.Shelf.told c.args.shelf.now) (g.S.Shelf.told c.drive.new.shelf) failed)) refl
 
 pub returns-in-Err-Write-clause-refused : goal.returns-in-Err-Write-clause-refused
@@ -95,7 +93,7 @@ returns-in-Err-Write-clause-refused g c =
     let qs : List ProbeState = map (λ p. (goal.Probe-dyn g (p.vtable, p.value)).state p.value) c.drive.new.probes.items in
     let failed : WriteFailed c.in-Err-Write.place (asked c.args.files.now) (g.S.Shelf.told c.args.shelf.now) (g.S.Shelf.told c.drive.new.shelf) = rw
     c.in-Err-Write.field-0-is at c.in-Err-Write.ensures.stopped in
-    wrote t (asked c.args.files.now) ps qs c.requires.asked c.in-Err-Write.ensures.probes c.in-Err-Write.place (g.S.Shelf.told c.args.shelf.now)
+    wrote t (asked c.args.files.now) ps qs c.requires.asked c.in-Err-Write.ensures.probes.probes c.in-Err-Write.place (g.S.Shelf.told c.args.shelf.now)
     (g.S.Shelf.told c.drive.new.shelf) failed c.unwritten.result
     (subst (λ xs. IsWriting (file_at t (map (λ p. (goal.Probe-dyn g (p.vtable, p.value)).state p.value) xs) c.in-Err-Write.place) c.unwritten.result)
     c.deref-in-Err-Write.ensures.value c.unwritten.ensures)
