@@ -1,8 +1,9 @@
 #!/usr/bin/env python3
 """Prints the definitions that the contract of `run` reaches, by name, as the table of docs/TRUSTED.md: a row for each file of
 specs/ with the lines of its reached definitions (with the comments above them), the lines of the whole file, and the names.
-A row stands below those of the files that it reads, and else the lower crate stands first. A second table has how much of it
-the promises of each command alone reach, with the refusal of all other words.
+A row stands below those of the files that it reads, and else the lower crate stands first. A second table has how much each
+clause of `run` reaches, and a third how much of `ends` and `follows` is about each command alone, with the refusal of all
+other words. With --of WORDS it prints the first table for what these clauses alone reach.
 
 A definition reaches each definition whose name stands in it; the name of a case stands for its list of cases. Types that the
 code declares and definitions of the standard library are not listed."""
@@ -32,9 +33,11 @@ COMMANDS = {
     "aig": ["aig_task"],
     "aigstat": ["aigstat_task"],
 }
+COMMAND_CLAUSES = ("ends", "follows")
 USE = re.compile(r"use Rattle\.(safl_\w+)\.specs\.([\w.]+?)(?:\.\{(.*)\}| as (\w+))?;?$")
-HEAD = re.compile(r"(?:(?:abbrev|unfoldable|total|pub|record|data) )+([^\s:]+)|mutual$|module ")
-MEMBER = re.compile(r"\s+((?:(?:abbrev|unfoldable|pub|record|data) )*)([^\s:]+)(?: [({].*)? :")
+HEAD = re.compile(r"(?:(?:abbrev|unfoldable|total|pub|record|data) )+([^\s:]+)|mutual$")
+MEMBER = re.compile(r"\s+((?:(?:abbrev|unfoldable|pub|record|data) )*)(?!λ)([^\W\d][^\s:]*)(?: [({].*)? :")
+COMMENT = re.compile(r"(?:^|\s)--\s.*")
 WORD = re.compile(r"[^\s(){}\[\],;.]+(?:\.[^\s(){}\[\],;.]+)?")
 
 
@@ -52,7 +55,7 @@ class File:
     """A file of definitions: its items, by name the item that defines it, and the files and names that it imports."""
 
     def __init__(self, path):
-        self.lines = path.read_text().splitlines()
+        self.lines = without_module(path.read_text().splitlines())
         self.imports, self.aliases = imports_of(self.lines)
         self.items, self.owner, self.fields = [], {}, set()
         comment = None
@@ -84,10 +87,19 @@ class File:
 
     def words(self, item):
         lines = self.lines[self.items[item].first:self.items[item].end]
-        return {w for line in lines if not line.startswith("--") for w in WORD.findall(line)}
+        return {w for line in lines for w in WORD.findall(COMMENT.sub("", line))}
 
     def size(self, items):
         return sum(self.items[i].end - self.items[i].first for i in items)
+
+
+def without_module(lines):
+    """The lines, where those of a module with parameters stand as those outside of it."""
+    inside, found = False, []
+    for line in lines:
+        inside = line.startswith("module ") or inside and line[:1] in ("", " ")
+        found.append("" if line.startswith("module ") else line[2:] if inside else line)
+    return found
 
 
 def imports_of(lines):
@@ -116,9 +128,18 @@ def meaning(file, crate, module, word):
     return file.imports.get(head)
 
 
-def reached(files, commands):
-    """The items that the contract of `run` reaches for these commands, by file."""
-    found, left = {}, list(imports_of(TOP.read_text().splitlines())[0].values())
+def clauses():
+    """The clauses of `run`, each with the definitions that it names."""
+    text = TOP.read_text()
+    imports, _ = imports_of(text.splitlines())
+    contract = re.search(r"^pub fn run\b.*?^\{", text, re.M | re.S)[0]
+    _, *parts = re.split(r"\bensures (\w+) ", re.sub(r"//.*", "", contract))
+    return {name: [imports[word] for word in WORD.findall(term) if word in imports] for name, term in zip(parts[::2], parts[1::2])}
+
+
+def reached(files, names, commands):
+    """The items that these clauses of `run` reach for these commands, by file."""
+    found, left = {}, [root for name in names for root in clauses()[name]]
     others = {(*TASKS, task) for command in COMMANDS if command not in commands for task in COMMANDS[command]}
     while left:
         crate, module, name = target = left.pop()
@@ -177,24 +198,30 @@ def table_of_files(files, found):
     return "\n".join(rows) + "\n"
 
 
-def table_of_commands(files, found):
-    """A row for each command, and one for all."""
-    rows = ["| for | definitions | lines | files |", "|---|---|---|---|"]
-    rows += ["| {} | {:,} | {:,} | {} |".format(command, *sums(files, reached(files, [command]))) for command in COMMANDS]
-    return "\n".join(rows + ["| all commands | {:,} | {:,} | {} |".format(*sums(files, found))]) + "\n"
+def table_of_sums(files, what, found):
+    """A row for each of these, with how much it reaches."""
+    rows = [f"| {what} | definitions | lines | files |", "|---|---|---|---|"]
+    return "\n".join(rows + ["| {} | {:,} | {:,} | {} |".format(name, *sums(files, items)) for name, items in found.items()]) + "\n"
+
+
+def definitions():
+    return {(p.parent.parent.name, p.stem): File(p) for p in ROOT.glob("crates/*/specs/*.antt")}
 
 
 @functools.cache
 def tables():
-    """The two tables of docs/TRUSTED.md."""
-    files = {(p.parent.parent.name, p.stem): File(p) for p in ROOT.glob("crates/*/specs/*.antt")}
-    found = reached(files, COMMANDS)
-    return table_of_files(files, found), table_of_commands(files, found)
+    """The three tables of docs/TRUSTED.md."""
+    files = definitions()
+    found = reached(files, clauses(), COMMANDS)
+    by_clause = {f"`{name}`": reached(files, [name], COMMANDS) for name in clauses()}
+    by_command = {command: reached(files, COMMAND_CLAUSES, [command]) for command in COMMANDS}
+    return (table_of_files(files, found), table_of_sums(files, "clause", {**by_clause, "all clauses": found}),
+            table_of_sums(files, "command", by_command))
 
 
 def in_words():
     """How many definitions these are, with how many lines in how many files, as README.md says it."""
-    return "{} definitions with {} lines in {} files".format(*re.search(r"^\| all commands \| (.*) \| (.*) \| (.*) \|$", tables()[1], re.M).groups())
+    return "{} definitions with {} lines in {} files".format(*re.search(r"^\| all clauses \| (.*) \| (.*) \| (.*) \|$", tables()[1], re.M).groups())
 
 
 def put():
@@ -209,8 +236,13 @@ def put():
 
 def main():
     reader = parser(__doc__)
+    reader.add_argument("--of", nargs="+", choices=clauses(), metavar="CLAUSE", help="print what these clauses of `run` alone reach")
     reader.add_argument("--write", action="store_true", help="put the tables into docs/TRUSTED.md and their sum into README.md")
-    if reader.parse_args().write:
+    given = reader.parse_args()
+    if given.of:
+        files = definitions()
+        print(table_of_files(files, reached(files, given.of, COMMANDS)), end="")
+    elif given.write:
         put()
     else:
         print("\n".join(tables()), end="")

@@ -8,4 +8,4 @@ use Rattle.safl_aiger.specs.Texts.{written}
 use Rattle.safl_aig.specs.BitLevel.{IsBitLevel, IsLight, IsTextOf}
 
 pub text_of : WrittenReads → (n : Netlist) (a : Circuit) (text : List ℕ) → IsLight n → IsBitLevel n a → IsCircuit a → text ≡ written a → IsTextOf n text
-text_of law n a text light bits is e = record { light = light; circuit = a; bits = bits; reads = subst (λ (t : List ℕ). AigReads t a) (sym e) (law a is) }
+text_of law n a text light bits is e = record { light = light; circuit = a; bits = bits; is = e; reads = subst (λ (t : List ℕ). AigReads t a) (sym e) (law a is) }

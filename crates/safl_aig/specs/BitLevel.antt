@@ -1,8 +1,9 @@
 -- The bit-level circuit of a netlist, and its text.
-use Rattle.std.specs.Prelude.{ℕ, ◌*◌, ◌≤◌, List, length, Err}
+use Rattle.std.specs.Prelude.{◌≡◌, ℕ, ◌*◌, ◌≤◌, List, length, Err}
 use Rattle.safl_net.specs.Netlist.{Netlist}
 use Rattle.safl_aiger.specs.Circuits.{Circuit}
 use Rattle.safl_aiger.specs.Reads.{AigReads}
+use Rattle.safl_aiger.specs.Texts.{written}
 use Rattle.safl_aig.specs.Mirrors.{SameBits}
 use Rattle.safl_aig.specs.Places.{HasNames, Answers}
 use Rattle.safl_aig.specs.Weights.{weight, most_weight, AllZero}
@@ -20,11 +21,12 @@ pub record IsLight (n : Netlist) : Type 0 where
   pub zero : AllZero n
   pub light : weight n ≤ most_weight
 
--- the text reads as a bit-level circuit of the netlist, which is one that has some
+-- the text is that of a bit-level circuit of the netlist, which is one that has some, and reads as that circuit
 pub record IsTextOf (n : Netlist) (text : List ℕ) : Type 0 where
   pub light : IsLight n
   pub circuit : Circuit
   pub bits : IsBitLevel n circuit
+  pub is : text ≡ written circuit
   pub reads : AigReads text circuit
 
 -- why the netlist is made no circuit: its least register that does not reset to 0; or all do, and its weight is too great; or

@@ -18,39 +18,25 @@ use Rattle.safl_probe.specs.Growth.{Longer, LongerPart, Made, OldOrPart, Relatio
 use Rattle.safl_probe.specs.Rounds.{IsReady}
 use Rattle.safl_probe.proofs.Growing.{told_weaker}
 
--- ---- counts of faults don't matter
-
-text_free : (frame : Valuation) (kind : ℕ) (shape : Option Shape) (last : Option (List ℕ)) (turn a b : ℕ)
-    → cycle_text frame (record { kind = kind; shape = shape; last = last; turn = turn; faults = a }) ≡ cycle_text frame (record { kind = kind; shape = shape; last = last; turn = turn; faults = b })
-text_free frame kind None last turn a b = refl
-text_free frame kind (Some x) last turn a b = refl
+-- ---- a probe that tells the same
 
 pub same_text : (frame : Valuation) (s q : ProbeState) → Tells s q → cycle_text frame q ≡ cycle_text frame s
-same_text frame s q t = ap (cycle_text frame) t ∙ text_free frame s.kind s.shape s.last s.turn q.faults s.faults
+same_text frame s q t = ap (cycle_text frame) t
 
 pub same_finish : (s q : ProbeState) → Tells s q → finish_text q ≡ finish_text s
 same_finish s q t = ap finish_text t
 
 pub tells_after : (frame : Valuation) (s q x : ProbeState) → Tells s q → Tells (after_frame frame q) x → Tells (after_frame frame s) x
-tells_after frame s q x t u = u ∙ ap (λ (y : ProbeState). record (after_frame frame y) { faults = x.faults }) t
+tells_after frame s q x t u = u ∙ ap (after_frame frame) t
 
 pub tells_self : (s : ProbeState) → Tells s s
 tells_self s = refl
 
-texts_free : (fs : List Valuation) (s : ProbeState) (k : ℕ) → cycle_texts fs (record s { faults = k }) ≡ cycle_texts fs s
-texts_free [] s k = refl
-texts_free (f ∷ fs) s k =
-    ap (λ t. t ++ cycle_texts fs (record (after_frame f s) { faults = k })) (text_free f s.kind s.shape s.last s.turn k s.faults) ∙ ap (λ t. cycle_text f s ++ t) (texts_free fs (after_frame f s) k)
-
-frames_free : (fs : List Valuation) (s : ProbeState) (k : ℕ) → after_frames fs (record s { faults = k }) ≡ record (after_frames fs s) { faults = k }
-frames_free [] s k = refl
-frames_free (f ∷ fs) s k = frames_free fs (after_frame f s) k
-
 pub same_texts : (fs : List Valuation) (s q : ProbeState) → Tells s q → cycle_texts fs q ≡ cycle_texts fs s
-same_texts fs s q t = ap (cycle_texts fs) t ∙ texts_free fs s q.faults
+same_texts fs s q t = ap (cycle_texts fs) t
 
 pub tells_frames : (fs : List Valuation) (s q x : ProbeState) → Tells s q → Tells (after_frames fs q) x → Tells (after_frames fs s) x
-tells_frames fs s q x t u = u ∙ ap (λ (y : ProbeState). record (after_frames fs y) { faults = x.faults }) t ∙ ap (λ (y : ProbeState). record y { faults = x.faults }) (frames_free fs s q.faults)
+tells_frames fs s q x t u = u ∙ ap (after_frames fs) t
 
 -- ---- one frame more
 
@@ -68,7 +54,7 @@ text_more fs v s q t =
     texts_more fs (v ∷ []) s ∙ ap (λ l. cycle_texts fs s ++ l) (append-nil (cycle_text v (after_frames fs s)) ∙ sym (same_text v (after_frames fs s) q t))
 
 pub told_more : (fs : List Valuation) (v : Valuation) (s q x : ProbeState) → Tells (after_frames fs s) q → Tells (after_frame v q) x → Tells (after_frames (fs ++ v ∷ []) s) x
-told_more fs v s q x t u = tells_after v (after_frames fs s) q x t u ∙ ap (λ (y : ProbeState). record y { faults = x.faults }) (sym (after_more fs (v ∷ []) s))
+told_more fs v s q x t u = tells_after v (after_frames fs s) q x t u ∙ sym (after_more fs (v ∷ []) s)
 
 pub shape_stays : (fs : List Valuation) (s : ProbeState) → (after_frames fs s).shape ≡ s.shape
 shape_stays [] s = refl

@@ -8,7 +8,7 @@ use Rattle.safl_net.specs.Valuations.{Valuation}
 use Rattle.safl_probe.specs.Probing.{ProbeState}
 use Rattle.safl_probe.specs.Asked.{Asked, AreApart, probe_at}
 use Rattle.safl_probe.specs.Growth.{AllGrow, Relation}
-use Rattle.safl_probe.specs.Runs.{IsRunOf, trace_at}
+use Rattle.safl_probe.specs.Runs.{AreShown, IsRunOf, trace_at, until_done}
 use Rattle.safl_probe.specs.Stopping.{Stopped, SameProbes, KeepsProbes}
 use Rattle.safl_probe.specs.declared.drive_err.DriveErr.{DriveErr}
 use Rattle.safl_probe.specs.declared.drive_err.DriveErr.TheVariants as why
@@ -39,3 +39,10 @@ module _ (P : Type 0) (st : P → ProbeState) (old lent new back : List P) (e : 
       → ((vs : List Valuation) → IsRunOf n args limit vs → AreApart names → TellsOn (AllGrow R names (trace_at n vs (map st lent))) x y)
       → (vs : List Valuation) → IsRunOf n args limit vs → AreApart names → TellsOn (AllGrow R names (trace_at n vs (map st old))) x y
   lent_traces R n args limit names x y h vs r apart = subst (λ (l : List P). TellsOn (AllGrow R names (trace_at n vs (map st l))) x y) e (h vs r apart)
+
+  pub lent_told : (n : Netlist) (args : List Word) (limit : ℕ) (names : Asked)
+      → ((vs : List Valuation) → IsRunOf n args limit vs → AreShown n (until_done n vs) names (map st lent) (map st new))
+      → (vs : List Valuation) → IsRunOf n args limit vs → AreShown n (until_done n vs) names (map st old) (map st back)
+  lent_told n args limit names h vs r =
+      subst (λ (l : List P). AreShown n (until_done n vs) names (map st l) (map st back)) e
+      (subst (λ (l : List P). AreShown n (until_done n vs) names (map st lent) (map st l)) (sym f) (h vs r))

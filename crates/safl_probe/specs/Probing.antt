@@ -5,8 +5,8 @@ use Rattle.safl_net.specs.Valuations.{Valuation}
 use Rattle.safl_probe.specs.Watching.{Shape, kind_of, shape_of, seen}
 use Rattle.safl_probe.specs.Texts.{Text, opening, frame_text, closing}
 
--- its kind; what it watches, once it was begun; the numbers that it saw in the last frame, if there was one; how many frames
--- it was given; and how often it failed
+-- its kind; what it watches, once it was begun, and nothing after an error; the numbers that it saw in the last frame, if there was
+-- one; how many frames it was given; and how often it failed
 pub record ProbeState : Type 0 where
   pub kind : ℕ
   pub shape : Option Shape
@@ -18,9 +18,9 @@ pub record ProbeState : Type 0 where
 abbrev pub fresh : ℕ → ProbeState
 fresh kind = record { kind = kind; shape = None; last = None; turn = 0; faults = 0 }
 
--- it tells this, whatever its count of faults is
+-- it tells this
 abbrev pub Tells : ProbeState → ProbeState → Type 0
-Tells want now = now ≡ record want { faults = now.faults }
+Tells want now = now ≡ want
 
 -- it is of the same kind, and its count of faults did not fall
 pub record SameProbe (old new : ProbeState) : Type 0 where

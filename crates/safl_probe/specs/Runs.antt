@@ -1,5 +1,6 @@
 -- The cycles of a run that are shown, and their traces.
-use Rattle.std.specs.Prelude.{ℕ, ◌≡◌, List, [], ◌∷◌, map, length, ◌==◌, if◌then◌else◌, codes}
+use Rattle.std.specs.Prelude.{ℕ, ◌≡◌, List, [], ◌∷◌, map, length, Vec, ◌==◌, if◌then◌else◌, codes}
+use Rattle.std.specs.declared.alloc.Global.{Global}
 use Rattle.safl_word.specs.Words.{Word}
 use Rattle.safl_io.specs.Shelf.{ShelfState}
 use Rattle.safl_io.specs.Told.{TellsOn}
@@ -10,10 +11,11 @@ use Rattle.safl_net.specs.Whole.{IsWhole}
 use Rattle.safl_sim.specs.Outcomes.{IsRun}
 use Rattle.safl_sim.specs.Places.{resets}
 use Rattle.safl_sim.specs.Simulation.{Simulation}
-use Rattle.safl_probe.specs.Probing.{ProbeState}
+use Rattle.safl_probe.specs.Probing.{ProbeState, Tells, begun}
+use Rattle.safl_probe.specs.Calls.{after_frames}
 use Rattle.safl_probe.specs.Texts.{Text, trace}
-use Rattle.safl_probe.specs.Asked.{FileNames, AreApart, asked, probe_at}
-use Rattle.safl_probe.specs.Growth.{AllGrow, Relation}
+use Rattle.safl_probe.specs.Asked.{Asked, FileNames, IsAsked, AreApart, asked, probe_at}
+use Rattle.safl_probe.specs.Growth.{AllGrow, Made, Relation}
 
 -- what a run begins with: a whole net at its reset, and words for its inputs other than `start`
 pub record BeginsRun (sim : Simulation) (args : List Word) : Type 0 where
@@ -35,9 +37,24 @@ until_done n (v ∷ vs) = if read_output n v (codes "done") == 1 then v ∷ [] e
 abbrev pub trace_at : Netlist → List Valuation → List ProbeState → ℕ → Text
 trace_at n vs ps i = trace (probe_at ps i).kind n (until_done n vs)
 
+-- each asked probe was begun on the net and shown these cycles, and no others
+abbrev pub AreShown : Netlist → List Valuation → Asked → List ProbeState → List ProbeState → Type 0
+AreShown n frames names ps qs = (i : ℕ) (name : List ℕ) → IsAsked names i name → Tells (after_frames frames (begun n (probe_at ps i))) (probe_at qs i)
+
+-- of a run of so many cycles each asked probe was shown those up to the first with `done` at 1
+abbrev pub RunIsShown : {P : Type 0} → Netlist → List Word → ℕ → FileNames → (P → ProbeState) → List P → List P → Type 0
+RunIsShown n args count names tell ps qs =
+    (vs : List Valuation) → IsRunOf n args count vs → AreShown n (until_done n vs) (asked names) (map tell ps) (map tell qs)
+
 -- of a run of so many cycles the files of the asked probes are so by their traces, where no two are asked for one file and the
 -- shelf tells
 abbrev pub TracesGrow : {P : Type 0} → Relation → Netlist → List Word → ℕ → FileNames → (P → ProbeState) → List P → ShelfState → ShelfState → Type 0
 TracesGrow R n args count names tell ps old new =
     (vs : List Valuation) → IsRunOf n args count vs → AreApart (asked names)
     → TellsOn (AllGrow R (asked names) (trace_at n vs (map tell ps))) old.holds new.holds
+
+-- what a run leaves that came to its end: each asked file has its whole trace, and each asked probe was shown the run
+pub record RunIsTraced {P : Type 0} (n : Netlist) (args : List Word) (count : ℕ) (names : FileNames) (tell : P → ProbeState) (ps qs : Vec P Global)
+    (old new : ShelfState) : Type 0 where
+  pub files : TracesGrow Made n args count names tell ps.items old new
+  pub shown : RunIsShown n args count names tell ps.items qs.items

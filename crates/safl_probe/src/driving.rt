@@ -3,8 +3,8 @@
 ghost use Rattle.std.specs.Prelude.{◌≡◌, length, IfOk, IfErr, OnOk, OnErr};
 ghost use Rattle.safl_sim.specs.Outcomes.{IsOutcome};
 ghost use Rattle.safl_probe.specs.Asked.{asked};
-ghost use Rattle.safl_probe.specs.Growth.{Made, OldOrPart};
-ghost use Rattle.safl_probe.specs.Runs.{BeginsRun, TracesGrow};
+ghost use Rattle.safl_probe.specs.Growth.{OldOrPart};
+ghost use Rattle.safl_probe.specs.Runs.{BeginsRun, RunIsTraced, TracesGrow};
 ghost use Rattle.safl_probe.specs.Stopping.{KeepsProbes, KeepsShelf, StopsRun};
 
 use crate::drive_err::DriveErr;
@@ -39,9 +39,11 @@ pub fn drive<S: Shelf>(
     ensures outcome { IfOk result (IsOutcome sim.old.net args.now limit) }
     ensures net { sim.new.net ≡ sim.old.net }
 
-    // Of the run of `limit` cycles, each asked file holds the trace of the cycles up to the first with `done` at 1. After
-    // an error it is as it was, or holds a prefix of that. All other files are as they were.
-    ensures traced { OnOk result (TracesGrow Made sim.old.net args.now limit files.now (λ p. state p) probes.old.items (S.told shelf.old) (S.told shelf.new)) }
+    // Of the run of `limit` cycles, each asked file holds the trace of the cycles up to the first with `done` at 1, and each
+    // asked probe was begun and was shown them. After an error the file is as it was, or holds a prefix of that. All other
+    // files are as they were.
+    ensures traced { OnOk result (RunIsTraced sim.old.net args.now limit files.now (λ p. state p) probes.old probes.new
+        (S.told shelf.old) (S.told shelf.new)) }
     ensures part { OnErr result (TracesGrow OldOrPart sim.old.net args.now limit files.now (λ p. state p) probes.old.items
         (S.told shelf.old) (S.told shelf.new)) }
 

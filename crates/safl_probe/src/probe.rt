@@ -1,5 +1,5 @@
 // What watches a simulation and gives text.
-ghost use Rattle.std.specs.Prelude.{◌≡◌, OnOk, OnErr, IsErrOf, IsSome};
+ghost use Rattle.std.specs.Prelude.{◌≡◌, OnOk, OnErr, IsErrOf, IsNone, IsSome};
 ghost use Rattle.safl_io.specs.Counts.{Rose};
 ghost use Rattle.safl_io.specs.Sink.{Sends, SendsPart};
 ghost use Rattle.safl_probe.specs.Watching.{shown_frame};
@@ -31,8 +31,9 @@ impl From<NoMemory> for ProbeErr {
 /// Watches a simulation and gives text: first that of the beginning, then that of each frame, and then that of the end.
 ///
 /// A frame is the words of all signals in a cycle, in the order of their numbers. A call fails only where the probe counts
-/// a fault. The count never falls, and may stand still at 2^64 - 1. After an error a prefix of the text was appended, and
-/// the probe is used no more.
+/// a fault, and a call that gives its text counts none. The count never falls, and may stand still at 2^64 - 1. After an
+/// error a prefix of the text was appended, and the probe watches nothing: it takes no frame and no end until it is begun
+/// anew.
 pub trait Probe: Drop {
     /// What the probe tells: its kind, what it watches, what it saw last, how many frames it was given, and its faults.
     ghost state: { Self → ProbeState };
@@ -46,6 +47,7 @@ pub trait Probe: Drop {
         ensures added { OnOk result (Sends (begin_text net.now (state self.old)) out.old.items out.new.items) }
         ensures part { OnErr result (SendsPart (begin_text net.now (state self.old)) out.old.items out.new.items) }
         ensures tells { OnOk result (Tells (begun net.now (state self.old)) (state self.new)) }
+        ensures ended { OnErr result (IsNone (state self.new).shape) }
         ensures same_probe { SameProbe (state self.old) (state self.new) }
         ensures failed { IsErrOf result ProbeErr.Failed → Rose (state self.old).faults (state self.new).faults };
 
@@ -55,6 +57,7 @@ pub trait Probe: Drop {
         ensures added { OnOk result (Sends (cycle_text (shown_frame frame.now) (state self.old)) out.old.items out.new.items) }
         ensures part { OnErr result (SendsPart (cycle_text (shown_frame frame.now) (state self.old)) out.old.items out.new.items) }
         ensures tells { OnOk result (Tells (after_frame (shown_frame frame.now) (state self.old)) (state self.new)) }
+        ensures ended { OnErr result (IsNone (state self.new).shape) }
         ensures same_probe { SameProbe (state self.old) (state self.new) }
         ensures failed { IsErrOf result ProbeErr.Failed → Rose (state self.old).faults (state self.new).faults };
 
@@ -64,6 +67,7 @@ pub trait Probe: Drop {
         ensures added { OnOk result (Sends (finish_text (state self.old)) out.old.items out.new.items) }
         ensures part { OnErr result (SendsPart (finish_text (state self.old)) out.old.items out.new.items) }
         ensures tells { OnOk result (Tells (state self.old) (state self.new)) }
+        ensures ended { OnErr result (IsNone (state self.new).shape) }
         ensures same_probe { SameProbe (state self.old) (state self.new) }
         ensures failed { IsErrOf result ProbeErr.Failed → Rose (state self.old).faults (state self.new).faults };
 }

@@ -27,6 +27,7 @@ impl Model for StubProbe {
 
 impl StubProbe {
     ghost use Rattle.std.specs.Prelude.{◌≡◌, ◌↔◌, ◌≤◌, IsTrue};
+    ghost use Rattle.std.specs.Bool.{OnFalse};
     ghost use Rattle.safl_io.specs.Counts.{Rose, raised};
     ghost use Rattle.safl_probe.specs.Probing.{fresh};
     ghost use Rattle.safl_probe.specs.Stubs.{Stub, FailsNext};
@@ -54,6 +55,7 @@ impl StubProbe {
           calls = self.new.calls;
         } }
         ensures rose { IsTrue result → Rose self.old.probe.faults self.new.probe.faults }
+        ensures quiet { OnFalse result (self.new.probe.faults ≡ self.old.probe.faults) }
         ensures later { self.old.probe.faults ≤ self.new.probe.faults }
     {
         self.calls = self.calls.saturating_add(1);
@@ -66,7 +68,7 @@ impl StubProbe {
 }
 
 impl Probe for StubProbe {
-    ghost use Rattle.std.specs.Prelude.{◌↔◌, OnOk, OnErr, IsErrOf};
+    ghost use Rattle.std.specs.Prelude.{◌↔◌, OnOk, OnErr, IsErrOf, IsNone};
     ghost use Rattle.safl_io.specs.Counts.{Rose};
     ghost use Rattle.safl_io.specs.Sink.{Sends, SendsPart};
     ghost use Rattle.safl_probe.specs.Watching.{shown_frame};
@@ -83,12 +85,14 @@ impl Probe for StubProbe {
         ensures added { OnOk result (Sends (begin_text net.now self.old.probe) out.old.items out.new.items) }
         ensures part { OnErr result (SendsPart (begin_text net.now self.old.probe) out.old.items out.new.items) }
         ensures tells { OnOk result (Tells (begun net.now self.old.probe) self.new.probe) }
+        ensures ended { OnErr result (IsNone self.new.probe.shape) }
         ensures same_probe { SameProbe self.old.probe self.new.probe }
         ensures failed { IsErrOf result ProbeErr.Failed → Rose self.old.probe.faults self.new.probe.faults }
         ensures fails { IsErrOf result ProbeErr.Failed ↔ FailsNext self.old }
         ensures counts { CountsCall self.old self.new }
     {
         if self.next_fails() {
+            self.tracer.stop();
             return Err(ProbeErr::Failed);
         }
         self.tracer.begin(net, out)?;
@@ -100,12 +104,14 @@ impl Probe for StubProbe {
         ensures added { OnOk result (Sends (cycle_text (shown_frame frame.now) self.old.probe) out.old.items out.new.items) }
         ensures part { OnErr result (SendsPart (cycle_text (shown_frame frame.now) self.old.probe) out.old.items out.new.items) }
         ensures tells { OnOk result (Tells (after_frame (shown_frame frame.now) self.old.probe) self.new.probe) }
+        ensures ended { OnErr result (IsNone self.new.probe.shape) }
         ensures same_probe { SameProbe self.old.probe self.new.probe }
         ensures failed { IsErrOf result ProbeErr.Failed → Rose self.old.probe.faults self.new.probe.faults }
         ensures fails { IsErrOf result ProbeErr.Failed ↔ FailsNext self.old }
         ensures counts { CountsCall self.old self.new }
     {
         if self.next_fails() {
+            self.tracer.stop();
             return Err(ProbeErr::Failed);
         }
         self.tracer.cycle(t, frame, out)?;
@@ -116,12 +122,14 @@ impl Probe for StubProbe {
         ensures added { OnOk result (Sends (finish_text self.old.probe) out.old.items out.new.items) }
         ensures part { OnErr result (SendsPart (finish_text self.old.probe) out.old.items out.new.items) }
         ensures tells { OnOk result (Tells (self.old.probe) self.new.probe) }
+        ensures ended { OnErr result (IsNone self.new.probe.shape) }
         ensures same_probe { SameProbe self.old.probe self.new.probe }
         ensures failed { IsErrOf result ProbeErr.Failed → Rose self.old.probe.faults self.new.probe.faults }
         ensures fails { IsErrOf result ProbeErr.Failed ↔ FailsNext self.old }
         ensures counts { CountsCall self.old self.new }
     {
         if self.next_fails() {
+            self.tracer.stop();
             return Err(ProbeErr::Failed);
         }
         self.tracer.finish(out)?;

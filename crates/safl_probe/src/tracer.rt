@@ -32,7 +32,7 @@ impl Model for Tracer {
 }
 
 impl Tracer {
-    ghost use Rattle.std.specs.Prelude.{◌≡◌, ◌++◌, OnOk, OnErr};
+    ghost use Rattle.std.specs.Prelude.{◌≡◌, ◌++◌, OnOk, OnErr, IsNone};
     ghost use Rattle.safl_probe.specs.Watching.{shown_frame};
     ghost use Rattle.safl_probe.specs.Probing.{fresh, begun, after_frame, TakesFrame, begin_text, cycle_text, finish_text};
 
@@ -61,8 +61,10 @@ impl Tracer {
         ensures added { OnOk result (out.new.items ≡ out.old.items ++ begin_text net.now self.old) }
         ensures same { OnErr result (out.new.items ≡ out.old.items) }
         ensures told { OnOk result (self.new ≡ begun net.now self.old) }
+        ensures ended { OnErr result (IsNone self.new.shape) }
         ensures kind { self.new.kind ≡ self.old.kind }
     {
+        self.begun = false;
         let kind = kind_of(self.kind);
         let entries = entries_of(self.alloc, kind, net)?;
         let spots = spots_of(self.alloc, &entries)?;
@@ -85,8 +87,11 @@ impl Tracer {
         ensures added { OnOk result (out.new.items ≡ out.old.items ++ cycle_text (shown_frame frame.now) self.old) }
         ensures same { OnErr result (out.new.items ≡ out.old.items) }
         ensures told { OnOk result (self.new ≡ after_frame (shown_frame frame.now) self.old) }
+        ensures ended { OnErr result (IsNone self.new.shape) }
         ensures kind { self.new.kind ≡ self.old.kind }
     {
+        let begun = self.begun;
+        self.begun = false;
         send_frame(
             &mut self.text,
             kind_of(self.kind),
@@ -96,6 +101,7 @@ impl Tracer {
             frame,
             out,
         )?;
+        self.begun = begun;
         self.turn = t + 1;
         Ok(())
     }
@@ -103,8 +109,22 @@ impl Tracer {
     pub(crate) fn finish(&mut self, out: &mut Vec<u8>) -> Result<(), NoMemory>
         ensures added { OnOk result (out.new.items ≡ out.old.items ++ finish_text self.old) }
         ensures same { OnErr result (out.new.items ≡ out.old.items) }
-        ensures told { self.new ≡ self.old }
+        ensures told { OnOk result (self.new ≡ self.old) }
+        ensures ended { OnErr result (IsNone self.new.shape) }
+        ensures kind { self.new.kind ≡ self.old.kind }
     {
-        send_closing(&mut self.text, kind_of(self.kind), self.turn, out)
+        let begun = self.begun;
+        self.begun = false;
+        send_closing(&mut self.text, kind_of(self.kind), self.turn, out)?;
+        self.begun = begun;
+        Ok(())
+    }
+
+    /// Watches nothing until it is begun.
+    pub(crate) fn stop(&mut self)
+        ensures ended { IsNone self.new.shape }
+        ensures kind { self.new.kind ≡ self.old.kind }
+    {
+        self.begun = false;
     }
 }

@@ -66,6 +66,13 @@ module _ (t : Task) (Unprobed : List ℕ → Type 0) (old new : Outside) where
   no_result _ _ (unprobed line failed began) e = elim e [ inl a ↦ cc | inr a ↦ cc ]
   no_result _ _ (starved left) e = elim e [ inl a ↦ cc | inr a ↦ cc ]
 
+  -- at Ok all was given
+  pub gave_at_ok : (before after : SinkState) (s : Status) → Ends t Unprobed old new before after s → s ≡ status.Ok
+      → (g : Given) × Gave t old new g × (end_of g ≡ status.Ok)
+  gave_at_ok before after _ (gave g h same) e = (g, h, e)
+  gave_at_ok before after _ (told s line stops g) e = absurd (no_result s line stops (inl e))
+  gave_at_ok before after _ (cut s line stops p) e = absurd (cc)
+
   got_part : (line : List ℕ) (before after : SinkState) → Got line before after → TellsOn (SendsPart line) before.sent after.sent
   got_part line before after g = elim g [ inl s ↦ whole_part line before.sent after.sent s | inr p ↦ p.1 ]
 

@@ -32,7 +32,7 @@ use Rattle.safl_tool.specs.Tracing.{one_given, given_files, files_for, traces_of
 
 -- ---- the files of the kinds
 
-still : (a b : TraceKind) (t : Traces) (name : List ℕ) → file_of_kind (without t a) b ≡ Some name → file_of_kind t b ≡ Some name
+pub still : (a b : TraceKind) (t : Traces) (name : List ℕ) → file_of_kind (without t a) b ≡ Some name → file_of_kind t b ≡ Some name
 still Vcd Vcd t name e = absurd (cc)
 still Vcd Starts t name e = e
 still Vcd Toggles t name e = e
@@ -47,7 +47,7 @@ still Toggles Toggles t name e = absurd (cc)
 still Toggles Silent t name e = e
 still Silent b t name e = e
 
-gone : (a : TraceKind) (t : Traces) (name : List ℕ) → file_of_kind (without t a) a ≡ Some name → ⊥
+pub gone : (a : TraceKind) (t : Traces) (name : List ℕ) → file_of_kind (without t a) a ≡ Some name → ⊥
 gone Vcd t name e = cc
 gone Starts t name e = cc
 gone Toggles t name e = cc

@@ -13,7 +13,10 @@ pub mod Joining
 pub mod Reshaped
 pub mod Kept
 pub mod Asked
+pub mod AskedFirst
 pub mod Traced
 pub mod Performed
+pub mod Watched
 pub mod Followed
+pub mod Promised
 pub mod Answered

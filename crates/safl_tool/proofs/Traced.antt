@@ -124,7 +124,7 @@ module _ (run : TracedRun) (can : CanRun run.ready) (asks : Asked) (ps : List Pr
   abbrev Watched : (Option (List ℕ) → List ℕ → Option (List ℕ) → Type 0) → ShelfState → Type 0
   Watched R after = (vs : List Valuation) → IsRunOf net words run.limit vs → TellsOn (AllGrow R asks (trace_at net vs ps)) old.shelf.holds after.holds
 
-  ending : Ending net words run.limit
+  pub ending : Ending net words run.limit
   ending = law net can.made can.whole can.acyclic words can.words can.fit run.limit
 
   abbrev texts : List (List ℕ)

@@ -11,6 +11,7 @@ use Rattle.safl_task.specs.Endings.{outside}
 use Rattle.safl_task.specs.declared.status.Status.{Status}
 use Rattle.safl_tool.specs.CommandTasks.{command_task}
 use Rattle.safl_tool.specs.Answers.{GivesBy}
+use Rattle.safl_tool.specs.Watched.{Attended, Attends, AttendsFor, ShowsAnswer}
 use Rattle.safl_tool.specs.Worlds.{Does, DoesCommand, EndsBy, Follows, Spares, SparesFor, world}
 use Rattle.safl_tool.specs.declared.answer.Answer.{Answer}
 use Rattle.safl_tool.specs.declared.refusal.Refusal.{Refusal}
@@ -32,6 +33,22 @@ abbrev pub SparesAskedOn : {S O P : Type 0} → Command → FileNames → (S →
     → (P → ProbeState) → Vec P Global → Vec P Global → Type 0
 SparesAskedOn m names shelf s s' out o o' tell ps qs =
     Spares (command_task m) (asked names) (world (shelf s) (out o) tell ps.items) (world (shelf s') (out o') tell qs.items)
+
+-- the asked probes were shown the run of an answer
+abbrev pub ShownOn : {P : Type 0} → Answer → FileNames → (P → ProbeState) → Vec P Global → Vec P Global → Type 0
+ShownOn a names tell ps qs = ShowsAnswer a (asked names) (map tell ps.items) (map tell qs.items)
+
+-- what became of the probes, where they are asked for these files; by what the words ask for; and by the words and the status
+abbrev pub AttendsAskedOn : {S P : Type 0} → Command → FileNames → (S → ShelfState) → S → (P → ProbeState) → Vec P Global → Vec P Global
+    → Result Status Refusal → Type 0
+AttendsAskedOn m names shelf s tell ps qs r = Attends m (asked names) (shelf s).holds ps.items qs.items (map tell ps.items) (map tell qs.items) r
+
+abbrev pub AttendsOn : {S P : Type 0} → Option Command → (S → ShelfState) → S → (P → ProbeState) → Vec P Global → Vec P Global → Result Status Refusal → Type 0
+AttendsOn m shelf s tell ps qs r = AttendsFor m (shelf s).holds ps.items qs.items (map tell ps.items) (map tell qs.items) r
+
+abbrev pub AttendedOn : {S P : Type 0} → List (String Global) → (S → ShelfState) → S → (P → ProbeState) → Vec P Global → Vec P Global → Status → Type 0
+AttendedOn words shelf s tell ps qs status =
+    Attended (command_of (map string_bytes words)) (shelf s).holds ps.items qs.items (map tell ps.items) (map tell qs.items) status
 
 -- what the words ask for was done or it stops, and what stays whatever comes
 abbrev pub DoesOn : {S O P : Type 0} → Option Command → (S → ShelfState) → S → S → (O → SinkState) → O → O

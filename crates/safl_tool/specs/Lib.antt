@@ -10,6 +10,7 @@ pub mod Walking
 pub mod Running
 pub mod Calling
 pub mod Tracing
+pub mod Laws
 pub mod BitLevel
 pub mod CommandTasks
 pub mod Refusals
@@ -18,5 +19,8 @@ pub mod Asking
 pub mod Readiness
 pub mod Reading
 pub mod Answers
+pub mod Headline
+pub mod Promises
+pub mod Watched
 pub mod Worlds
 pub mod Changes

@@ -12,6 +12,7 @@ use Rattle.safl_task.specs.declared.status.Status.{Status}
 use Rattle.safl_tool.specs.CommandTasks.{task_of, asks_of}
 use Rattle.safl_tool.specs.Refusals.{StopsBy, TellsProbe}
 use Rattle.safl_tool.specs.Tracing.{kinds_of}
+use Rattle.safl_tool.specs.Watched.{Attended}
 use Rattle.safl_tool.specs.declared.refusal.Refusal.{Refusal}
 
 -- what the shelf and the output tell at one moment; the probes, and what they tell
@@ -63,7 +64,8 @@ EndsBy m old new = Ends (task_in m old) (Unprobed m old new) old.outside new.out
 -- What follows. At every status but Ok, NoResult, WriteFault, ProbeFault and NoMemory no file has changed, and nothing was printed
 -- (`keeps`). At every status each file that is no output is as it was (`others`); each output is as it was or holds a prefix of its
 -- text, and the output got a prefix of its text (`left`). `tells` says what the sink of refusals got. Where a result is promised,
--- and no count rose, it came or memory ran out (`completes`).
+-- and no count rose, it came or memory ran out (`completes`). `attended` says what became of the probes: the asked ones were shown
+-- the run, and at the statuses of `keeps` all are as they were.
 pub record Follows {P : Type 0} (m : Option Command) (old new : World P) (before after : SinkState) (s : Status) : Type 0 where
   pub keeps : KeepsAll s old.outside new.outside
   pub others : KeepsOthers (task_in m old) old.outside new.outside
@@ -71,5 +73,6 @@ pub record Follows {P : Type 0} (m : Option Command) (old new : World P) (before
   pub tells : Tells (task_in m old) (Unprobed m old new) old.outside new.outside before after s
   pub no_stray : SameStrays (task_in m old) old.outside.shelf new.outside.shelf
   pub completes : Completes (task_in m old) (Unprobed m old new) old.outside new.outside s
+  pub attended : Attended m old.outside.shelf.holds old.probes new.probes old.states new.states s
   pub unasked : SameUnasked (asks_in m old) old.probes new.probes
   pub probes : SameProbes old.states new.states

@@ -1,11 +1,11 @@
 //! What a command gives, and how it is given.
 
-ghost use Rattle.std.specs.Prelude.{◌≡◌, Ok, Err, MatchResult, map};
+ghost use Rattle.std.specs.Prelude.{◌≡◌, Ok, Err, MatchResult, OnOk, map};
 ghost use Rattle.safl_io.specs.Shelf.{UsesNoStray};
-ghost use Rattle.safl_probe.specs.Asked.{SameUnasked, asked};
-ghost use Rattle.safl_probe.specs.Stopping.{SameProbes};
+ghost use Rattle.safl_probe.specs.Asked.{asked};
+ghost use Rattle.safl_probe.specs.Stopping.{KeepsProbes};
 ghost use Rattle.safl_tool.specs.Answers.{CanBeGiven, traces_for, GivesByPrinting, GivesByWriting};
-ghost use Rattle.safl_tool.specs.Changes.{GivesOn};
+ghost use Rattle.safl_tool.specs.Changes.{GivesOn, ShownOn};
 ghost use Rattle.safl_tool.specs.Tracing.{AreAskedFor};
 
 use crate::ready::Ready;
@@ -106,9 +106,9 @@ pub fn give<'a, S: Shelf, O: Sink>(
     requires can { CanBeGiven answer }
     requires asked { AreAskedFor (traces_for answer) (asked files.now) (map (λ p. state p) probes.old.items) }
     ensures gives { GivesOn answer.entry files.now S.told shelf.old shelf.new O.told out.old out.new (λ p. state p) probes.old probes.new result }
+    ensures told { OnOk result (ShownOn answer.entry files.now (λ p. state p) probes.old probes.new) }
     ensures same_strays { UsesNoStray (S.told shelf.old) (S.told shelf.new) }
-    ensures unasked { SameUnasked (asked files.now) probes.old.items probes.new.items }
-    ensures probes { SameProbes (map (λ p. state p) probes.old.items) (map (λ p. state p) probes.new.items) }
+    ensures probes { KeepsProbes (asked files.now) (λ p. state p) probes.old.items probes.new.items }
 {
     match answer {
         Answer::Printed(lines) => print(out, lines),

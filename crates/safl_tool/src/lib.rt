@@ -7,6 +7,7 @@ mod asking;
 mod bit_level;
 mod build;
 mod check;
+pub mod laws;
 mod made;
 mod ready;
 mod refusal;

@@ -2,7 +2,9 @@
 
 ghost use Rattle.std.specs.Prelude.{map, option_map, string_bytes};
 ghost use Rattle.safl_command.specs.Commands.{command_of, shown};
-ghost use Rattle.safl_tool.specs.Changes.{DoesOn, EndsOn, FollowsOn, SparesOn};
+ghost use Rattle.safl_tool.specs.Changes.{AttendedOn, AttendsOn, DoesOn, EndsOn, FollowsOn, SparesOn};
+ghost use Rattle.safl_tool.specs.Headline.{Builds};
+ghost use Rattle.safl_tool.specs.Promises.{Checks, Simulates, Converses, Converts};
 ghost use Rattle.safl_tool.specs.Refusals.{SendsLine, SendsRefusal};
 
 use crate::refusal::Refusal;
@@ -31,6 +33,16 @@ pub fn run<S: Shelf, O: Sink, E: Sink>(
     err: &mut E,
     probes: &mut Vec<Box<dyn Probe>>,
 ) -> Status
+    // Where `build IN OUT` ends with Ok, OUT reads as a netlist that is correct for the program whose source IN held.
+    ensures headline { Builds words.now S.told shelf.old shelf.new result }
+    // Where `check` ends with Ok, IN held the source of a program, with the printed numbers of functions and call sites.
+    ensures check { Checks words.now S.told shelf.old O.told out.old out.new result }
+    // Where `sim` ends with Ok, main of the program whose source IN held gives the printed value, in the printed cycle.
+    ensures sim { Simulates words.now S.told shelf.old O.told out.old out.new result }
+    // Where `session` ends with Ok, main gives the printed values from the arguments on the lines of SCRIPT, in the printed cycles.
+    ensures session { Converses words.now S.told shelf.old O.told out.old out.new result }
+    // Where `aig` ends with Ok, OUT is the text of a bit-level circuit of the netlist that FILE's text reads as.
+    ensures aig { Converts words.now S.told shelf.old shelf.new result }
     // The cause of each status, what was given, and what `err` got.
     ensures ends { EndsOn words.now S.told shelf.old shelf.new O.told out.old out.new E.told err.old err.new (λ p. state p) probes.old probes.new result }
     // What follows of every command.
@@ -58,6 +70,7 @@ fn dispatch<S: Shelf, O: Sink, E: Sink>(
 ) -> Status
     ensures ends { EndsOn words.now S.told shelf.old shelf.new O.told out.old out.new E.told err.old err.new (λ p. state p) probes.old probes.new result }
     ensures spares { SparesOn (command_of (map string_bytes words.now)) S.told shelf.old shelf.new O.told out.old out.new (λ p. state p) probes.old probes.new }
+    ensures attended { AttendedOn words.now S.told shelf.old (λ p. state p) probes.old probes.new result }
 {
     let command = match read_words(alloc, words) {
         Ok(command) => command,
@@ -79,6 +92,7 @@ fn obey<'a, S: Shelf, O: Sink>(
 ) -> Result<Status, Refusal<'a>>
     ensures does { DoesOn (option_map shown command.now) S.told shelf.old shelf.new O.told out.old out.new (λ p. state p) probes.old probes.new result }
     ensures spares { SparesOn (option_map shown command.now) S.told shelf.old shelf.new O.told out.old out.new (λ p. state p) probes.old probes.new }
+    ensures attends { AttendsOn (option_map shown command.now) S.told shelf.old (λ p. state p) probes.old probes.new result }
 {
     match command {
         Some(command) => perform(alloc, command, shelf, out, probes),

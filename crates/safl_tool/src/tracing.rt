@@ -3,14 +3,15 @@
 ghost use Rattle.std.specs.Prelude.{◌<◌, IsSome, length, map, IfOk, IfErr, OnOk, OnErr};
 ghost use Rattle.safl_io.specs.Shelf.{UsesNoStray};
 ghost use Rattle.safl_sim.specs.Outcomes.{IsOutcome};
-ghost use Rattle.safl_probe.specs.Asked.{SameUnasked, asked};
+ghost use Rattle.safl_probe.specs.Asked.{asked};
 ghost use Rattle.safl_probe.specs.Growth.{Made, OldOrPart};
-ghost use Rattle.safl_probe.specs.Stopping.{SameProbes};
+ghost use Rattle.safl_probe.specs.Stopping.{KeepsProbes};
 ghost use Rattle.safl_command.specs.Traces.{shown as shown_traces};
 ghost use Rattle.safl_tool.specs.Answers.{CanRun, FilesGrow};
-ghost use Rattle.safl_tool.specs.Changes.{GivesOn};
+ghost use Rattle.safl_tool.specs.Changes.{GivesOn, ShownOn};
 ghost use Rattle.safl_tool.specs.Refusals.{IsWriting, FailsToWatch};
 ghost use Rattle.safl_tool.specs.Tracing.{AreAskedFor, file_at};
+ghost use Rattle.safl_tool.specs.Watched.{ShowsRun};
 ghost use Rattle.safl_tool.specs.declared.answer.Answer.{Answer};
 
 use crate::answer::print;
@@ -47,9 +48,9 @@ pub fn trace<'a, S: Shelf, O: Sink>(
     requires can { CanRun run.ready }
     requires asked { AreAskedFor (shown_traces run.traces.now) (asked files.now) (map (λ p. state p) probes.old.items) }
     ensures gives { GivesOn (Answer.Traced run.entry) files.now S.told shelf.old shelf.new O.told out.old out.new (λ p. state p) probes.old probes.new result }
+    ensures told { OnOk result (ShownOn (Answer.Traced run.entry) files.now (λ p. state p) probes.old probes.new) }
     ensures same_strays { UsesNoStray (S.told shelf.old) (S.told shelf.new) }
-    ensures unasked { SameUnasked (asked files.now) probes.old.items probes.new.items }
-    ensures probes { SameProbes (map (λ p. state p) probes.old.items) (map (λ p. state p) probes.new.items) }
+    ensures probes { KeepsProbes (asked files.now) (λ p. state p) probes.old.items probes.new.items }
 {
     end_law();
     let limit = run.limit;
@@ -75,9 +76,9 @@ fn watch<'a, S: Shelf>(
     requires asked { AreAskedFor (shown_traces run.traces.now) (asked files.now) (map (λ p. state p) probes.old.items) }
     ensures outcome { IfOk result (IsOutcome run.entry.ready.sim.net run.entry.ready.words.items run.entry.limit) }
     ensures traced { OnOk result (FilesGrow Made run.entry files.now (λ p. state p) probes.old.items (S.told shelf.old) (S.told shelf.new)) }
+    ensures told { OnOk result (ShowsRun run.entry files.now (λ p. state p) probes.old.items probes.new.items) }
     ensures part { OnErr result (FilesGrow OldOrPart run.entry files.now (λ p. state p) probes.old.items (S.told shelf.old) (S.told shelf.new)) }
-    ensures unasked { SameUnasked (asked files.now) probes.old.items probes.new.items }
-    ensures probes { SameProbes (map (λ p. state p) probes.old.items) (map (λ p. state p) probes.new.items) }
+    ensures probes { KeepsProbes (asked files.now) (λ p. state p) probes.old.items probes.new.items }
     ensures refused { IfErr result (FailsToWatch files.now (λ p. state p) probes.old.items probes.new.items (S.told shelf.old) (S.told shelf.new)) }
     ensures strays { UsesNoStray (S.told shelf.old) (S.told shelf.new) }
 {

@@ -7,11 +7,12 @@ ghost use Rattle.safl_task.specs.Inputs.{shown_inputs, shown_contents};
 ghost use Rattle.safl_task.specs.Tasks.{AreContents};
 ghost use Rattle.safl_tool.specs.Answers.{Answers, traces_for};
 ghost use Rattle.safl_tool.specs.Asking.{traces_given};
-ghost use Rattle.safl_tool.specs.Changes.{DoesOn, DoesAskedOn, SparesOn, SparesAskedOn};
+ghost use Rattle.safl_tool.specs.Changes.{AttendsOn, AttendsAskedOn, DoesOn, DoesAskedOn, SparesOn, SparesAskedOn};
 ghost use Rattle.safl_tool.specs.CommandTasks.{command_task, traces_in};
 ghost use Rattle.safl_tool.specs.Reading.{content_at};
 ghost use Rattle.safl_tool.specs.Refusals.{Declines};
 ghost use Rattle.safl_tool.specs.Tracing.{AreAskedFor};
+ghost use Rattle.safl_tool.specs.Watched.{ShowsFor};
 
 use crate::answer::{Answer, give, printed, replied, traced, written};
 use crate::asking::asked_files;
@@ -43,6 +44,7 @@ pub fn perform<'a, S: Shelf, O: Sink>(
 ) -> Result<Status, Refusal<'a>>
     ensures does { DoesOn (Some (shown command.now)) S.told shelf.old shelf.new O.told out.old out.new (λ p. state p) probes.old probes.new result }
     ensures spares { SparesOn (Some (shown command.now)) S.told shelf.old shelf.new O.told out.old out.new (λ p. state p) probes.old probes.new }
+    ensures attends { AttendsOn (Some (shown command.now)) S.told shelf.old (λ p. state p) probes.old probes.new result }
 {
     match asked_files(alloc, traces_of(command), probes) {
         Ok(Some(files)) => carry_out(alloc, command, &files, shelf, out, probes),
@@ -73,6 +75,7 @@ fn carry_out<'a, S: Shelf, O: Sink>(
     requires { AreAskedFor (traces_in (shown command.now)) (asked files.now) (map (λ p. state p) probes.old.items) }
     ensures does { DoesAskedOn (shown command.now) files.now S.told shelf.old shelf.new O.told out.old out.new (λ p. state p) probes.old probes.new result }
     ensures spares { SparesAskedOn (shown command.now) files.now S.told shelf.old shelf.new O.told out.old out.new (λ p. state p) probes.old probes.new }
+    ensures attends { AttendsAskedOn (shown command.now) files.now S.told shelf.old (λ p. state p) probes.old probes.new result }
 {
     let Ok(inputs) = inputs_of(alloc, command) else {
         return Err(Refusal::NoMemory);
@@ -134,6 +137,7 @@ fn answer_of<'a>(
     requires { AreContents None (command_task (shown command.now)).inputs (shown_contents contents.now) }
     ensures answers { IfOk result (Answers (command_task (shown command.now)) (shown_contents contents.now)) }
     ensures traces { IfOk result (λ a. traces_for a ≡ traces_in (shown command.now)) }
+    ensures shows { IfOk result (ShowsFor (shown command.now) (shown_contents contents.now)) }
     ensures refused { IfErr result (Declines (command_task (shown command.now)) (shown_contents contents.now)) }
 {
     let first = content(contents, 0);

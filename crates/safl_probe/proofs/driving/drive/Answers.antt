@@ -1,4 +1,4 @@
-use Rattle.std.proofs.Common.{List, map, slice_index, Vec, Global, Option, Result, Ok, Err, OnErr, refl, sym, subst, ◌∙◌, arith}
+use Rattle.std.proofs.Common.{◌≡◌, List, [], map, slice_index, Vec, Global, Option, Result, Ok, Err, OnErr, refl, sym, subst, ◌∙◌, arith}
 use Rattle.std.proofs.lemmas.List.{with_items_is}
 use Rattle.std.proofs.lemmas.Result.{err_from_is_err_and}
 use Rattle.safl_word.specs.Words.{Word}
@@ -10,15 +10,17 @@ use Rattle.safl_net.specs.Valuations.{Valuation, IsAcyclic, reset_state}
 use Rattle.safl_run.specs.Calls.{cycles_of}
 use Rattle.safl_run.specs.Steps.{IsCalled}
 use Rattle.safl_run.proofs.OneAnswer.{outcome, answers_along, from_reset}
-use Rattle.safl_probe.specs.Probing.{ProbeState}
+use Rattle.safl_probe.specs.Calls.{after_frames}
+use Rattle.safl_probe.specs.Probing.{ProbeState, Tells, begun}
 use Rattle.safl_probe.specs.Rooms.{HasWidths}
 use Rattle.safl_probe.specs.Asked.{Asked, asked, probe_at}
 use Rattle.safl_probe.specs.Growth.{Made, OldOrPart}
+use Rattle.safl_probe.specs.Runs.{until_done}
 use Rattle.safl_probe.proofs.Ends.{opened_whole, opened_part, told_begun, closed_whole, closed_part, can_finish}
-use Rattle.safl_probe.proofs.Frames.{ready, all_untouched}
+use Rattle.safl_probe.proofs.Frames.{ready, all_untouched, tells_frames}
 use Rattle.safl_probe.proofs.Growing.{strays_none}
 use Rattle.safl_probe.proofs.Rounds.{kept_then, kept_same, there_then, strays_then}
-use Rattle.safl_probe.proofs.Stops.{stopped_later, lent_probes, lent_stopped, lent_traces}
+use Rattle.safl_probe.proofs.Stops.{stopped_later, lent_probes, lent_stopped, lent_told, lent_traces}
 use Rattle.safl_probe.proofs.Whole.{going_begins, watched_are, traced, end_torn, run_torn, begin_torn}
 use Rattle.safl_probe.proofs.driving.drive.Goals as goal
 
@@ -246,18 +248,37 @@ returns-clause-traced g c =
     let ps : List ProbeState = map (λ p. (goal.Probe-dyn g (p.vtable, p.value)).state p.value) c.as_mut_slice-probes.result.now in
     let qs : List ProbeState = map (λ p. (goal.Probe-dyn g (p.vtable, p.value)).state p.value) c.tell_all.new.probes in
     let rs : List ProbeState = map (λ p. (goal.Probe-dyn g (p.vtable, p.value)).state p.value) c.watch.new.probes in
+    let ws : List ProbeState = map (λ p. (goal.Probe-dyn g (p.vtable, p.value)).state p.value) c.tell_all-2.new.probes in
     let y : Option Files = (g.S.Shelf.told c.tell_all.new.shelf).holds in
     let z : Option Files = (g.S.Shelf.told c.watch.new.shelf).holds in
     let w : Option Files = (g.S.Shelf.told c.tell_all-2.new.shelf).holds in
     let d = c.in_ok-done.ensures.watched c.args.args.now (subst (λ m. IsCalled m c.args.args.now c.take_arguments.new.harness) c.net-net.ensures c.take_arguments.ensures) in
+    let frames : List Valuation = cycles_of n c.args.limit (slice_index c.args.sim.now.state) c.args.args.now c.in_ok-done.done (slice_index c.watch.new.sim.state) d.answers in
     let back = with_items_is c.args.probes.now c.tell_all-2.new.probes
     (let l = c.as_mut_slice-probes.ensures.len in let a = c.tell_all-2.auto.probes in let b = c.watch.auto.probes in let d = c.tell_all.auto.probes in omega (arith, l, a, b, d)) in
-    lent_traces _ (λ p. (goal.Probe-dyn g (p.vtable, p.value)).state p.value) _ _ _ _ c.as_mut_slice-probes.ensures.value back Made n c.args.args.now c.args.limit names _ w
-    (λ vs r.
-    traced n names vs ps qs (told_begun c.net-net.result.now n c.net-net.ensures names ps qs c.in_ok-tell_all.ensures.told.tells) _ y _ rs z w
-    (watched_are n c.args.args.now c.args.limit (subst (λ m. IsNetlist m) c.net-net.ensures c.in_ok-harness.ensures.made) c.requires.begins.whole
-    (subst (λ m. IsAcyclic m) c.ordered.ensures c.net-ordered.ensures.acyclic) c.args.sim.now.state c.requires.begins.fresh _ _ d.answers vs r)
-    (opened_whole c.net-net.result.now n c.net-net.ensures names ps _ y c.in_ok-tell_all.ensures.told.grown) d.shown (closed_whole names rs z w c.in_ok-tell_all-2.ensures.told.grown))
+    record {
+      files =
+          lent_traces _ (λ p. (goal.Probe-dyn g (p.vtable, p.value)).state p.value) _ _ _ _ c.as_mut_slice-probes.ensures.value back Made n c.args.args.now c.args.limit names _ w
+          (λ vs r.
+          traced n names vs ps qs (told_begun c.net-net.result.now n c.net-net.ensures names ps qs c.in_ok-tell_all.ensures.told.tells) _ y _ rs z w
+          (watched_are n c.args.args.now c.args.limit (subst (λ m. IsNetlist m) c.net-net.ensures c.in_ok-harness.ensures.made) c.requires.begins.whole
+          (subst (λ m. IsAcyclic m) c.ordered.ensures c.net-ordered.ensures.acyclic) c.args.sim.now.state c.requires.begins.fresh _ _ d.answers vs r)
+          (opened_whole c.net-net.result.now n c.net-net.ensures names ps _ y c.in_ok-tell_all.ensures.told.grown) d.shown
+          (closed_whole names rs z w c.in_ok-tell_all-2.ensures.told.grown));
+      shown =
+          lent_told _ (λ p. (goal.Probe-dyn g (p.vtable, p.value)).state p.value) _ _ _ _ c.as_mut_slice-probes.ensures.value back n c.args.args.now c.args.limit names
+          (λ vs r i name k.
+          let same : until_done n vs ≡ frames =
+              watched_are n c.args.args.now c.args.limit (subst (λ m. IsNetlist m) c.net-net.ensures c.in_ok-harness.ensures.made) c.requires.begins.whole
+              (subst (λ m. IsAcyclic m) c.ordered.ensures c.net-ordered.ensures.acyclic) c.args.sim.now.state c.requires.begins.fresh _ _ d.answers vs r in
+          let p : ProbeState = begun n (probe_at ps i) in
+          let begins : Tells p (probe_at qs i) =
+              told_begun c.net-net.result.now n c.net-net.ensures names ps qs c.in_ok-tell_all.ensures.told.tells i name k in
+          let shows : Tells (after_frames frames p) (probe_at rs i) = tells_frames frames p (probe_at qs i) (probe_at rs i) begins (d.shown.told i name k) in
+          let ends : Tells (after_frames frames p) (probe_at ws i) =
+              tells_frames [] (after_frames frames p) (probe_at rs i) (probe_at ws i) shows (c.in_ok-tell_all-2.ensures.told.tells i name k) in
+          subst (λ (fs : List Valuation). Tells (after_frames fs p) (probe_at ws i)) (sym same) ends);
+    }
 
 pub returns-clause-probes : goal.returns-clause-probes
 returns-clause-probes g c =

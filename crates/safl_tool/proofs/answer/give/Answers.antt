@@ -3,13 +3,15 @@ use Rattle.safl_io.specs.Shelf.{ShelfState}
 use Rattle.safl_io.specs.Sink.{SinkState}
 use Rattle.safl_probe.specs.Probing.{ProbeState}
 use Rattle.safl_probe.specs.Asked.{Asked, asked}
-use Rattle.safl_probe.proofs.Rounds.{unasked_same}
-use Rattle.safl_probe.proofs.Telling.{same_probes}
+use Rattle.safl_probe.proofs.Rounds.{kept_same}
 use Rattle.safl_task.specs.Endings.{outside}
 use Rattle.safl_tool.specs.Answers.{CanBeGiven, GivesBy, traces_for}
 use Rattle.safl_tool.specs.Tracing.{AreAskedFor}
 use Rattle.safl_tool.specs.declared.answer.Answer.{Answer}
+use Rattle.std.specs.Prelude.{OnOk}
+use Rattle.safl_tool.specs.Watched.{ShowsAnswer}
 use Rattle.safl_tool.proofs.Performed.{same_strays}
+use Rattle.safl_tool.proofs.Watched.{when_ok}
 use Rattle.safl_tool.proofs.answer.give.Goals as goal
 
 -- ---- Printed
@@ -26,11 +28,13 @@ returns-in-Printed-clause-gives g c =
 pub returns-in-Printed-clause-same_strays : goal.returns-in-Printed-clause-same_strays
 returns-in-Printed-clause-same_strays g c = same_strays (g.S.Shelf.told c.args.shelf.now)
 
-pub returns-in-Printed-clause-unasked : goal.returns-in-Printed-clause-unasked
-returns-in-Printed-clause-unasked g c = unasked_same _ _
+pub returns-in-Printed-clause-told : goal.returns-in-Printed-clause-told
+returns-in-Printed-clause-told g c =
+    let ps : List ProbeState = map (λ p. (goal.Probe-dyn g (p.vtable, p.value)).state p.value) c.args.probes.now.items in
+    when_ok c.print.result _ (subst (λ (a : Answer). ShowsAnswer a (asked c.args.files.now) ps ps) (sym c.in-Printed.is) tt)
 
 pub returns-in-Printed-clause-probes : goal.returns-in-Printed-clause-probes
-returns-in-Printed-clause-probes g c = same_probes _ _ _
+returns-in-Printed-clause-probes g c = kept_same (asked c.args.files.now) (λ p. (goal.Probe-dyn g (p.vtable, p.value)).state p.value) c.args.probes.now.items
 
 -- ---- File
 
@@ -43,11 +47,13 @@ returns-in-File-clause-gives g c =
     let asks : Asked = asked c.args.files.now in
     subst (λ (a : Answer). GivesBy a asks ps ps (outside shelf out) (outside shelf' out) c.write.result) (sym c.in-File.is) (c.write.ensures.gives out asks ps ps)
 
-pub returns-in-File-clause-unasked : goal.returns-in-File-clause-unasked
-returns-in-File-clause-unasked g c = unasked_same _ _
+pub returns-in-File-clause-told : goal.returns-in-File-clause-told
+returns-in-File-clause-told g c =
+    let ps : List ProbeState = map (λ p. (goal.Probe-dyn g (p.vtable, p.value)).state p.value) c.args.probes.now.items in
+    when_ok c.write.result _ (subst (λ (a : Answer). ShowsAnswer a (asked c.args.files.now) ps ps) (sym c.in-File.is) tt)
 
 pub returns-in-File-clause-probes : goal.returns-in-File-clause-probes
-returns-in-File-clause-probes g c = same_probes _ _ _
+returns-in-File-clause-probes g c = kept_same (asked c.args.files.now) (λ p. (goal.Probe-dyn g (p.vtable, p.value)).state p.value) c.args.probes.now.items
 
 -- ---- Replies
 
@@ -69,11 +75,13 @@ returns-in-Replies-clause-gives g c =
 pub returns-in-Replies-clause-same_strays : goal.returns-in-Replies-clause-same_strays
 returns-in-Replies-clause-same_strays g c = same_strays (g.S.Shelf.told c.args.shelf.now)
 
-pub returns-in-Replies-clause-unasked : goal.returns-in-Replies-clause-unasked
-returns-in-Replies-clause-unasked g c = unasked_same _ _
+pub returns-in-Replies-clause-told : goal.returns-in-Replies-clause-told
+returns-in-Replies-clause-told g c =
+    let ps : List ProbeState = map (λ p. (goal.Probe-dyn g (p.vtable, p.value)).state p.value) c.args.probes.now.items in
+    when_ok c.converse.result _ (subst (λ (a : Answer). ShowsAnswer a (asked c.args.files.now) ps ps) (sym c.in-Replies.is) tt)
 
 pub returns-in-Replies-clause-probes : goal.returns-in-Replies-clause-probes
-returns-in-Replies-clause-probes g c = same_probes _ _ _
+returns-in-Replies-clause-probes g c = kept_same (asked c.args.files.now) (λ p. (goal.Probe-dyn g (p.vtable, p.value)).state p.value) c.args.probes.now.items
 
 -- ---- Traced
 
@@ -94,3 +102,9 @@ returns-in-Traced-clause-gives g c =
     let out : SinkState = g.O.Sink.told c.args.out.now in
     let out' : SinkState = g.O.Sink.told c.trace.new.out in
     subst (λ (a : Answer). GivesBy a (asked c.args.files.now) ps qs (outside shelf out) (outside shelf' out') c.trace.result) (sym c.in-Traced.is) c.trace.ensures.gives
+
+pub returns-in-Traced-clause-told : goal.returns-in-Traced-clause-told
+returns-in-Traced-clause-told g c =
+    let ps : List ProbeState = map (λ p. (goal.Probe-dyn g (p.vtable, p.value)).state p.value) c.args.probes.now.items in
+    let qs : List ProbeState = map (λ p. (goal.Probe-dyn g (p.vtable, p.value)).state p.value) c.trace.new.probes.items in
+    subst (λ (a : Answer). OnOk c.trace.result (ShowsAnswer a (asked c.args.files.now) ps qs)) (sym c.in-Traced.is) c.trace.ensures.told

@@ -1,4 +1,4 @@
-use Rattle.std.proofs.Common.{map, string_bytes, refl, subst, inl, Option}
+use Rattle.std.proofs.Common.{List, map, string_bytes, refl, subst, inl, Option}
 use Rattle.std.specs.Prelude.{option_map}
 use Rattle.safl_io.specs.Sink.{SinkState}
 use Rattle.safl_command.specs.Commands.{Command, command_of, shown}
@@ -6,8 +6,11 @@ use Rattle.safl_task.specs.Endings.{starved}
 use Rattle.safl_task.proofs.Ending.{ended_ends}
 use Rattle.safl_tool.specs.Worlds.{world, EndsBy, SparesFor, Unprobed, task_in}
 use Rattle.safl_tool.specs.declared.refusal.Refusal.TheVariants as refusal
+use Rattle.safl_probe.specs.Probing.{ProbeState}
+use Rattle.safl_tool.specs.Watched.{Attended}
 use Rattle.safl_tool.proofs.Performed.{spares_none}
 use Rattle.safl_tool.proofs.Refusing.{refusal_ends}
+use Rattle.safl_tool.proofs.Watched.{end_attended, refusal_attended}
 use Rattle.safl_tool.proofs.top.dispatch.Goals as goal
 
 pub returns-in-Err-clause-ends : goal.returns-in-Err-clause-ends
@@ -50,3 +53,29 @@ returns-clause-spares g c =
     let old = world (g.S.Shelf.told c.args.shelf.now) (g.O.Sink.told c.args.out.now) (λ p. (goal.Probe-dyn g (p.vtable, p.value)).state p.value) c.args.probes.now.items in
     let new = world (g.S.Shelf.told c.obey.new.shelf) (g.O.Sink.told c.obey.new.out) (λ p. (goal.Probe-dyn g (p.vtable, p.value)).state p.value) c.obey.new.probes.items in
     subst (λ (m : Option Command). SparesFor m old new) c.in-Ok.ensures c.in-Err-obey.ensures.spares
+
+-- ---- the probes
+
+pub returns-in-Err-clause-attended : goal.returns-in-Err-clause-attended
+returns-in-Err-clause-attended g c =
+    let ps : List ProbeState = map (λ p. (goal.Probe-dyn g (p.vtable, p.value)).state p.value) c.args.probes.now.items in
+    refusal_attended (command_of (map string_bytes c.args.words.now)) (g.S.Shelf.told c.args.shelf.now).holds c.args.probes.now.items c.args.probes.now.items ps ps
+    refusal.NoMemory (g.E.Sink.told c.args.err.now) (g.E.Sink.told c.refuse.new.err) c.refuse.result (λ e. refl) c.refuse.ensures
+
+pub returns-in-Ok-obey-clause-attended : goal.returns-in-Ok-obey-clause-attended
+returns-in-Ok-obey-clause-attended g c =
+    let old = world (g.S.Shelf.told c.args.shelf.now) (g.O.Sink.told c.args.out.now) (λ p. (goal.Probe-dyn g (p.vtable, p.value)).state p.value) c.args.probes.now.items in
+    let new = world (g.S.Shelf.told c.obey.new.shelf) (g.O.Sink.told c.obey.new.out) (λ p. (goal.Probe-dyn g (p.vtable, p.value)).state p.value) c.obey.new.probes.items in
+    let m : Option Command = option_map shown c.in-Ok.command in
+    subst (λ (m : Option Command). Attended m old.outside.shelf.holds old.probes new.probes old.states new.states c.in-Ok-obey.status) c.in-Ok.ensures
+    (end_attended m old.outside.shelf.holds old.probes new.probes old.states new.states (task_in m old) old.outside new.outside c.in-Ok-obey.status
+    c.in-Ok-obey.ensures.does c.in-Ok-obey.ensures.attends)
+
+pub returns-clause-attended : goal.returns-clause-attended
+returns-clause-attended g c =
+    let old = world (g.S.Shelf.told c.args.shelf.now) (g.O.Sink.told c.args.out.now) (λ p. (goal.Probe-dyn g (p.vtable, p.value)).state p.value) c.args.probes.now.items in
+    let new = world (g.S.Shelf.told c.obey.new.shelf) (g.O.Sink.told c.obey.new.out) (λ p. (goal.Probe-dyn g (p.vtable, p.value)).state p.value) c.obey.new.probes.items in
+    let m : Option Command = option_map shown c.in-Ok.command in
+    subst (λ (m : Option Command). Attended m old.outside.shelf.holds old.probes new.probes old.states new.states c.refuse-in-Err-obey.result) c.in-Ok.ensures
+    (refusal_attended m old.outside.shelf.holds old.probes new.probes old.states new.states c.in-Err-obey.refusal (g.E.Sink.told c.args.err.now)
+    (g.E.Sink.told c.refuse-in-Err-obey.new.err) c.refuse-in-Err-obey.result c.in-Err-obey.ensures.attends c.refuse-in-Err-obey.ensures)

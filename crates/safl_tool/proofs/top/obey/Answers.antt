@@ -1,4 +1,4 @@
-use Rattle.std.proofs.Common.{[], Option, refl, sym, subst}
+use Rattle.std.proofs.Common.{[], List, Option, map, refl, sym, subst}
 use Rattle.std.specs.Prelude.{option_map, Err}
 use Rattle.safl_command.specs.Commands.{shown}
 use Rattle.safl_command.specs.declared.command.Command.{Command}
@@ -7,6 +7,8 @@ use Rattle.safl_task.specs.declared.status.Status.TheVariants as status
 use Rattle.safl_tool.specs.Lines.{usage_line}
 use Rattle.safl_tool.specs.Worlds.{world, DoesCommand, SparesFor}
 use Rattle.safl_tool.specs.declared.refusal.Refusal.TheVariants as refusal
+use Rattle.safl_probe.specs.Probing.{ProbeState}
+use Rattle.safl_tool.specs.Watched.{AttendsFor}
 use Rattle.safl_tool.proofs.Performed.{spares_none}
 use Rattle.safl_tool.proofs.top.obey.Goals as goal
 
@@ -30,3 +32,13 @@ returns-in-None-clause-does g c =
 
 pub returns-in-None-clause-spares : goal.returns-in-None-clause-spares
 returns-in-None-clause-spares g c = spares_none _ _ _
+
+pub returns-in-Some-clause-attends : goal.returns-in-Some-clause-attends
+returns-in-Some-clause-attends g c =
+    let ps : List ProbeState = map (λ p. (goal.Probe-dyn g (p.vtable, p.value)).state p.value) c.args.probes.now.items in
+    let qs : List ProbeState = map (λ p. (goal.Probe-dyn g (p.vtable, p.value)).state p.value) c.perform.new.probes.items in
+    subst (λ (m : Option Command). AttendsFor (option_map shown m) (g.S.Shelf.told c.args.shelf.now).holds c.args.probes.now.items
+    c.perform.new.probes.items ps qs c.perform.result) (sym c.in-Some.is) c.perform.ensures.attends
+
+pub returns-in-None-clause-attends : goal.returns-in-None-clause-attends
+returns-in-None-clause-attends g c = λ e. refl

@@ -3,7 +3,53 @@ use Rattle.safl_io.specs.Sink.{SinkState}
 use Rattle.safl_command.specs.Commands.{Command, command_of}
 use Rattle.safl_tool.specs.Worlds.{world}
 use Rattle.safl_tool.proofs.Followed.{follows}
+use Rattle.safl_tool.proofs.Promised.{builds, checks, simulates, converses, converts}
 use Rattle.safl_tool.proofs.top.run.Goals as goal
+
+pub returns-clause-headline : goal.returns-clause-headline
+returns-clause-headline g c = λ input output say ok.
+    builds (map string_bytes c.args.words.now)
+    (world (g.S.Shelf.told c.args.shelf.now) (g.O.Sink.told c.args.out.now) (λ p. (goal.Probe-dyn g (p.vtable, p.value)).state p.value)
+    c.args.probes.now.items)
+    (world (g.S.Shelf.told c.dispatch.new.shelf) (g.O.Sink.told c.dispatch.new.out) (λ p. (goal.Probe-dyn g (p.vtable, p.value)).state p.value)
+    c.dispatch.new.probes.items)
+    (g.E.Sink.told c.args.err.now) (g.E.Sink.told c.dispatch.new.err) c.dispatch.result c.dispatch.ensures.ends ok input output say
+
+pub returns-clause-check : goal.returns-clause-check
+returns-clause-check g c = λ input say ok.
+    checks (map string_bytes c.args.words.now)
+    (world (g.S.Shelf.told c.args.shelf.now) (g.O.Sink.told c.args.out.now) (λ p. (goal.Probe-dyn g (p.vtable, p.value)).state p.value)
+    c.args.probes.now.items)
+    (world (g.S.Shelf.told c.dispatch.new.shelf) (g.O.Sink.told c.dispatch.new.out) (λ p. (goal.Probe-dyn g (p.vtable, p.value)).state p.value)
+    c.dispatch.new.probes.items)
+    (g.E.Sink.told c.args.err.now) (g.E.Sink.told c.dispatch.new.err) c.dispatch.result c.dispatch.ensures.ends ok input say
+
+pub returns-clause-sim : goal.returns-clause-sim
+returns-clause-sim g c = λ input limit traces args say ok.
+    simulates (map string_bytes c.args.words.now)
+    (world (g.S.Shelf.told c.args.shelf.now) (g.O.Sink.told c.args.out.now) (λ p. (goal.Probe-dyn g (p.vtable, p.value)).state p.value)
+    c.args.probes.now.items)
+    (world (g.S.Shelf.told c.dispatch.new.shelf) (g.O.Sink.told c.dispatch.new.out) (λ p. (goal.Probe-dyn g (p.vtable, p.value)).state p.value)
+    c.dispatch.new.probes.items)
+    (g.E.Sink.told c.args.err.now) (g.E.Sink.told c.dispatch.new.err) c.dispatch.result c.dispatch.ensures.ends ok input limit traces args say
+
+pub returns-clause-session : goal.returns-clause-session
+returns-clause-session g c = λ input script limit say ok.
+    converses (map string_bytes c.args.words.now)
+    (world (g.S.Shelf.told c.args.shelf.now) (g.O.Sink.told c.args.out.now) (λ p. (goal.Probe-dyn g (p.vtable, p.value)).state p.value)
+    c.args.probes.now.items)
+    (world (g.S.Shelf.told c.dispatch.new.shelf) (g.O.Sink.told c.dispatch.new.out) (λ p. (goal.Probe-dyn g (p.vtable, p.value)).state p.value)
+    c.dispatch.new.probes.items)
+    (g.E.Sink.told c.args.err.now) (g.E.Sink.told c.dispatch.new.err) c.dispatch.result c.dispatch.ensures.ends ok input script limit say
+
+pub returns-clause-aig : goal.returns-clause-aig
+returns-clause-aig g c = λ input output say ok.
+    converts (map string_bytes c.args.words.now)
+    (world (g.S.Shelf.told c.args.shelf.now) (g.O.Sink.told c.args.out.now) (λ p. (goal.Probe-dyn g (p.vtable, p.value)).state p.value)
+    c.args.probes.now.items)
+    (world (g.S.Shelf.told c.dispatch.new.shelf) (g.O.Sink.told c.dispatch.new.out) (λ p. (goal.Probe-dyn g (p.vtable, p.value)).state p.value)
+    c.dispatch.new.probes.items)
+    (g.E.Sink.told c.args.err.now) (g.E.Sink.told c.dispatch.new.err) c.dispatch.result c.dispatch.ensures.ends ok input output say
 
 pub returns-clause-follows : goal.returns-clause-follows
 returns-clause-follows g c =
@@ -27,4 +73,4 @@ returns-clause-follows g c =
     m (world (g.S.Shelf.told c.args.shelf.now) (g.O.Sink.told c.args.out.now) (λ p. (goal.Probe-dyn g (p.vtable, p.value)).state p.value)
     c.args.probes.now.items) (world (g.S.Shelf.told c.dispatch.new.shelf) (g.O.Sink.told c.dispatch.new.out)
     (λ p. (goal.Probe-dyn g (p.vtable, p.value)).state p.value) c.dispatch.new.probes.items)
-    before after c.dispatch.result c.dispatch.ensures.ends c.dispatch.ensures.spares
+    before after c.dispatch.result c.dispatch.ensures.ends c.dispatch.ensures.spares c.dispatch.ensures.attended

@@ -7,6 +7,7 @@ use Rattle.safl_net.specs.Arguments.{AreArguments}
 use Rattle.safl_sim.specs.Outcomes.{IsOutcome}
 use Rattle.safl_probe.specs.Asked.{Asked, asked}
 use Rattle.safl_probe.specs.Growth.{Made, OldOrPart}
+use Rattle.safl_probe.specs.Runs.{RunIsShown}
 use Rattle.safl_probe.specs.Stopping.{WriteFailed}
 use Rattle.safl_command.specs.Traces.{Traces, shown as shown_traces}
 use Rattle.safl_tool.specs.Refusals.{IsWriting}
@@ -35,7 +36,12 @@ returns-in-Ok-clause-traced g c =
     let ps : List ProbeState = map (λ p. (goal.Probe-dyn g (p.vtable, p.value)).state p.value) c.args.probes.now.items in
     let names : Asked = asked c.args.files.now in
     handed Made c.args.run.ready.sim.net c.deref.result.now c.args.run.ready.words.items c.args.run.limit names ps (g.S.Shelf.told c.args.shelf.now).holds (g.S.Shelf.told c.drive.new.shelf).holds
-    c.deref.ensures.value (asked_are_apart (shown_traces c.args.run.traces.now) names ps c.args.run.traces.now.separate c.requires.asked) c.in-Ok.ensures.traced
+    c.deref.ensures.value (asked_are_apart (shown_traces c.args.run.traces.now) names ps c.args.run.traces.now.separate c.requires.asked) c.in-Ok.ensures.traced.files
+
+pub returns-in-Ok-clause-told : goal.returns-in-Ok-clause-told
+returns-in-Ok-clause-told g c =
+    subst (λ (l : List Word). RunIsShown c.args.run.ready.sim.net l c.args.run.limit c.args.files.now (λ p. (goal.Probe-dyn g (p.vtable, p.value)).state p.value)
+    c.args.probes.now.items c.drive.new.probes.items) c.deref.ensures.value c.in-Ok.ensures.traced.shown
 
 pub returns-in-Err-Probe-clause-part : goal.returns-in-Err-Probe-clause-part
 returns-in-Err-Probe-clause-part g c =
@@ -57,6 +63,20 @@ returns-clause-part g c =
     let names : Asked = asked c.args.files.now in
     handed OldOrPart c.args.run.ready.sim.net c.deref.result.now c.args.run.ready.words.items c.args.run.limit names ps (g.S.Shelf.told c.args.shelf.now).holds (g.S.Shelf.told c.drive.new.shelf).holds
     c.deref.ensures.value (asked_are_apart (shown_traces c.args.run.traces.now) names ps c.args.run.traces.now.separate c.requires.asked) c.in-Err-NoMemory.ensures.part
+
+-- ---- the shelf
+
+pub returns-in-Ok-clause-strays : goal.returns-in-Ok-clause-strays
+returns-in-Ok-clause-strays g c = c.in-Ok.ensures.shelf.strays
+
+pub returns-in-Err-Probe-clause-strays : goal.returns-in-Err-Probe-clause-strays
+returns-in-Err-Probe-clause-strays g c = c.in-Err-Probe.ensures.shelf.strays
+
+pub returns-in-Err-Write-clause-strays : goal.returns-in-Err-Write-clause-strays
+returns-in-Err-Write-clause-strays g c = c.in-Err-Write.ensures.shelf.strays
+
+pub returns-clause-strays : goal.returns-clause-strays
+returns-clause-strays g c = c.in-Err-NoMemory.ensures.shelf.strays
 
 -- ---- why it was not
 

@@ -24,6 +24,8 @@ use Rattle.safl_tool.specs.Tracing.{files_for, no_traces}
 use Rattle.safl_tool.specs.declared.answer.Answer.TheVariants as answer
 use Rattle.safl_tool.specs.declared.ready.Ready.{Ready}
 use Rattle.safl_tool.specs.declared.session.Opening.{Opening}
+use Rattle.safl_tool.specs.Watched.{ShowsFor}
+use Rattle.safl_tool.proofs.Watched.{HasNoRun, shows_none, shows_run}
 use Rattle.safl_tool.proofs.Answered.{one_within, two_within, prints, writes, answers_with, declines, both_answers, both_declines, traces_on, given_on, refused_on}
 use Rattle.safl_tool.proofs.Conversed.{ready, calls_fit, gives_replies}
 use Rattle.safl_tool.proofs.Traced.{can_run, gives_traces}
@@ -50,6 +52,9 @@ pub returns-in-Check-clause-traces : goal.returns-in-Check-clause-traces
 returns-in-Check-clause-traces c =
     subst (λ (m : Command). IfOk c.printed.result (λ a. traces_for a ≡ traces_in (shown m))) (sym c.in-Check.is)
     (traces_on answer.Printed c.check_lines.result c.printed.result c.printed.ensures no_traces (λ l. refl))
+
+pub returns-in-Check-clause-shows : goal.returns-in-Check-clause-shows
+returns-in-Check-clause-shows c = shows_none c.printed.result c.args.command.now (shown_contents c.args.contents.now) (subst HasNoRun (sym c.in-Check.is) tt)
 
 pub returns-in-Check-clause-refused : goal.returns-in-Check-clause-refused
 returns-in-Check-clause-refused c =
@@ -80,6 +85,9 @@ returns-in-Build-clause-traces c =
     subst (λ (m : Command). IfOk c.written.result (λ a. traces_for a ≡ traces_in (shown m))) (sym c.in-Build.is)
     (traces_on (answer.File c.deref-in-Build.result) c.circuit_text.result c.written.result c.written.ensures no_traces (λ l. refl))
 
+pub returns-in-Build-clause-shows : goal.returns-in-Build-clause-shows
+returns-in-Build-clause-shows c = shows_none c.written.result c.args.command.now (shown_contents c.args.contents.now) (subst HasNoRun (sym c.in-Build.is) tt)
+
 pub returns-in-Build-clause-refused : goal.returns-in-Build-clause-refused
 returns-in-Build-clause-refused c =
     subst (λ (m : Command). IfErr c.written.result (Declines (task m) (shown_contents c.args.contents.now))) (sym c.in-Build.is)
@@ -109,6 +117,9 @@ pub returns-in-Optimise-clause-traces : goal.returns-in-Optimise-clause-traces
 returns-in-Optimise-clause-traces c =
     subst (λ (m : Command). IfOk c.written-in-Optimise.result (λ a. traces_for a ≡ traces_in (shown m))) (sym c.in-Optimise.is)
     (traces_on (answer.File c.deref-in-Optimise.result) c.optimised_text.result c.written-in-Optimise.result c.written-in-Optimise.ensures no_traces (λ l. refl))
+
+pub returns-in-Optimise-clause-shows : goal.returns-in-Optimise-clause-shows
+returns-in-Optimise-clause-shows c = shows_none c.written-in-Optimise.result c.args.command.now (shown_contents c.args.contents.now) (subst HasNoRun (sym c.in-Optimise.is) tt)
 
 pub returns-in-Optimise-clause-refused : goal.returns-in-Optimise-clause-refused
 returns-in-Optimise-clause-refused c =
@@ -146,6 +157,15 @@ returns-in-Sim-clause-traces c =
     subst (λ (m : Command). IfOk c.traced.result (λ a. traces_for a ≡ traces_in (shown m))) (sym c.in-Sim.is)
     (traces_on (λ (d : Ready). answer.Traced (record { ready = d; limit = c.in-Sim.limit; traces = _ })) c.ready_source.result c.traced.result
     c.traced.ensures (shown_traces c.in-Sim.traces) (λ d. refl))
+
+pub returns-in-Sim-clause-shows : goal.returns-in-Sim-clause-shows
+returns-in-Sim-clause-shows c =
+    subst (λ (m : Command). IfOk c.traced.result (ShowsFor (shown m) (shown_contents c.args.contents.now))) (sym c.in-Sim.is)
+    (shows_run (source_file (string_bytes c.in-Sim.input)) (shown_contents c.args.contents.now)
+    (subst (λ (m : Command). AreContents None (task m).inputs (shown_contents c.args.contents.now)) c.in-Sim.is c.requires)
+    c.content-first.result.now c.content-first.ensures (map string_bytes c.in-Sim.args.items) c.in-Sim.limit _ (string_bytes c.in-Sim.input)
+    (shown_traces c.in-Sim.traces) c.ready_source.result c.traced.result c.traced.ensures
+    (subst (λ (x : List (String Global)). IfOk c.ready_source.result (IsReadyOf c.content-first.result.now (map string_bytes x))) c.deref-in-Sim-2.ensures.value c.ready_source.ensures.ready))
 
 pub returns-in-Sim-clause-refused : goal.returns-in-Sim-clause-refused
 returns-in-Sim-clause-refused c =
@@ -185,6 +205,9 @@ returns-in-Walk-clause-traces c =
     subst (λ (m : Command). IfOk c.printed-in-Walk.result (λ a. traces_for a ≡ traces_in (shown m))) (sym c.in-Walk.is)
     (traces_on answer.Printed c.walk_lines.result c.printed-in-Walk.result c.printed-in-Walk.ensures no_traces (λ l. refl))
 
+pub returns-in-Walk-clause-shows : goal.returns-in-Walk-clause-shows
+returns-in-Walk-clause-shows c = shows_none c.printed-in-Walk.result c.args.command.now (shown_contents c.args.contents.now) (subst HasNoRun (sym c.in-Walk.is) tt)
+
 pub returns-in-Walk-clause-refused : goal.returns-in-Walk-clause-refused
 returns-in-Walk-clause-refused c =
     subst (λ (m : Command). IfErr c.printed-in-Walk.result (Declines (task m) (shown_contents c.args.contents.now))) (sym c.in-Walk.is)
@@ -221,6 +244,9 @@ returns-in-Run-clause-traces c =
     subst (λ (m : Command). IfOk c.printed-in-Run.result (λ a. traces_for a ≡ traces_in (shown m))) (sym c.in-Run.is)
     (traces_on answer.Printed c.run_lines.result c.printed-in-Run.result c.printed-in-Run.ensures no_traces (λ l. refl))
 
+pub returns-in-Run-clause-shows : goal.returns-in-Run-clause-shows
+returns-in-Run-clause-shows c = shows_none c.printed-in-Run.result c.args.command.now (shown_contents c.args.contents.now) (subst HasNoRun (sym c.in-Run.is) tt)
+
 pub returns-in-Run-clause-refused : goal.returns-in-Run-clause-refused
 returns-in-Run-clause-refused c =
     subst (λ (m : Command). IfErr c.printed-in-Run.result (Declines (task m) (shown_contents c.args.contents.now))) (sym c.in-Run.is)
@@ -253,6 +279,9 @@ returns-in-Report-clause-traces c =
     subst (λ (m : Command). IfOk c.printed-in-Report.result (λ a. traces_for a ≡ traces_in (shown m))) (sym c.in-Report.is)
     (traces_on answer.Printed c.report_lines.result c.printed-in-Report.result c.printed-in-Report.ensures no_traces (λ l. refl))
 
+pub returns-in-Report-clause-shows : goal.returns-in-Report-clause-shows
+returns-in-Report-clause-shows c = shows_none c.printed-in-Report.result c.args.command.now (shown_contents c.args.contents.now) (subst HasNoRun (sym c.in-Report.is) tt)
+
 pub returns-in-Report-clause-refused : goal.returns-in-Report-clause-refused
 returns-in-Report-clause-refused c =
     subst (λ (m : Command). IfErr c.printed-in-Report.result (Declines (task m) (shown_contents c.args.contents.now))) (sym c.in-Report.is)
@@ -277,6 +306,9 @@ pub returns-in-Gen-clause-traces : goal.returns-in-Gen-clause-traces
 returns-in-Gen-clause-traces c =
     subst (λ (m : Command). IfOk c.printed-in-Gen.result (λ a. traces_for a ≡ traces_in (shown m))) (sym c.in-Gen.is)
     (traces_on answer.Printed c.gen_lines.result c.printed-in-Gen.result c.printed-in-Gen.ensures no_traces (λ l. refl))
+
+pub returns-in-Gen-clause-shows : goal.returns-in-Gen-clause-shows
+returns-in-Gen-clause-shows c = shows_none c.printed-in-Gen.result c.args.command.now (shown_contents c.args.contents.now) (subst HasNoRun (sym c.in-Gen.is) tt)
 
 pub returns-in-Gen-clause-refused : goal.returns-in-Gen-clause-refused
 returns-in-Gen-clause-refused c =
@@ -304,6 +336,9 @@ pub returns-in-Bench-clause-traces : goal.returns-in-Bench-clause-traces
 returns-in-Bench-clause-traces c =
     subst (λ (m : Command). IfOk c.printed-in-Bench.result (λ a. traces_for a ≡ traces_in (shown m))) (sym c.in-Bench.is)
     (traces_on answer.Printed c.bench_lines.result c.printed-in-Bench.result c.printed-in-Bench.ensures no_traces (λ l. refl))
+
+pub returns-in-Bench-clause-shows : goal.returns-in-Bench-clause-shows
+returns-in-Bench-clause-shows c = shows_none c.printed-in-Bench.result c.args.command.now (shown_contents c.args.contents.now) (subst HasNoRun (sym c.in-Bench.is) tt)
 
 pub returns-in-Bench-clause-refused : goal.returns-in-Bench-clause-refused
 returns-in-Bench-clause-refused c =
@@ -333,6 +368,9 @@ pub returns-in-CopySite-clause-traces : goal.returns-in-CopySite-clause-traces
 returns-in-CopySite-clause-traces c =
     subst (λ (m : Command). IfOk c.written-in-CopySite.result (λ a. traces_for a ≡ traces_in (shown m))) (sym c.in-CopySite.is)
     (traces_on (answer.File c.deref-in-CopySite.result) c.copy_text.result c.written-in-CopySite.result c.written-in-CopySite.ensures no_traces (λ l. refl))
+
+pub returns-in-CopySite-clause-shows : goal.returns-in-CopySite-clause-shows
+returns-in-CopySite-clause-shows c = shows_none c.written-in-CopySite.result c.args.command.now (shown_contents c.args.contents.now) (subst HasNoRun (sym c.in-CopySite.is) tt)
 
 pub returns-in-CopySite-clause-refused : goal.returns-in-CopySite-clause-refused
 returns-in-CopySite-clause-refused c =
@@ -367,6 +405,9 @@ pub returns-in-UnfoldSite-clause-traces : goal.returns-in-UnfoldSite-clause-trac
 returns-in-UnfoldSite-clause-traces c =
     subst (λ (m : Command). IfOk c.written-in-UnfoldSite.result (λ a. traces_for a ≡ traces_in (shown m))) (sym c.in-UnfoldSite.is)
     (traces_on (answer.File c.deref-in-UnfoldSite.result) c.unfold_text.result c.written-in-UnfoldSite.result c.written-in-UnfoldSite.ensures no_traces (λ l. refl))
+
+pub returns-in-UnfoldSite-clause-shows : goal.returns-in-UnfoldSite-clause-shows
+returns-in-UnfoldSite-clause-shows c = shows_none c.written-in-UnfoldSite.result c.args.command.now (shown_contents c.args.contents.now) (subst HasNoRun (sym c.in-UnfoldSite.is) tt)
 
 pub returns-in-UnfoldSite-clause-refused : goal.returns-in-UnfoldSite-clause-refused
 returns-in-UnfoldSite-clause-refused c =
@@ -411,6 +452,9 @@ returns-in-Session-clause-traces c =
     subst (λ (m : Command). IfOk c.replied.result (λ a. traces_for a ≡ traces_in (shown m))) (sym c.in-Session.is)
     (traces_on (λ (o : Opening). answer.Replies o c.in-Session.limit) c.opening_of.result c.replied.result c.replied.ensures no_traces (λ o. refl))
 
+pub returns-in-Session-clause-shows : goal.returns-in-Session-clause-shows
+returns-in-Session-clause-shows c = shows_none c.replied.result c.args.command.now (shown_contents c.args.contents.now) (subst HasNoRun (sym c.in-Session.is) tt)
+
 pub returns-in-Session-clause-refused : goal.returns-in-Session-clause-refused
 returns-in-Session-clause-refused c =
     subst (λ (m : Command). IfErr c.replied.result (Declines (task m) (shown_contents c.args.contents.now))) (sym c.in-Session.is)
@@ -442,6 +486,9 @@ returns-in-Aig-clause-traces c =
     subst (λ (m : Command). IfOk c.written-in-Aig.result (λ a. traces_for a ≡ traces_in (shown m))) (sym c.in-Aig.is)
     (traces_on (answer.File c.deref-in-Aig.result) c.aig_text.result c.written-in-Aig.result c.written-in-Aig.ensures no_traces (λ l. refl))
 
+pub returns-in-Aig-clause-shows : goal.returns-in-Aig-clause-shows
+returns-in-Aig-clause-shows c = shows_none c.written-in-Aig.result c.args.command.now (shown_contents c.args.contents.now) (subst HasNoRun (sym c.in-Aig.is) tt)
+
 pub returns-in-Aig-clause-refused : goal.returns-in-Aig-clause-refused
 returns-in-Aig-clause-refused c =
     subst (λ (m : Command). IfErr c.written-in-Aig.result (Declines (task m) (shown_contents c.args.contents.now))) (sym c.in-Aig.is)
@@ -470,6 +517,9 @@ pub returns-in-Aigstat-clause-traces : goal.returns-in-Aigstat-clause-traces
 returns-in-Aigstat-clause-traces c =
     subst (λ (m : Command). IfOk c.printed-in-Aigstat.result (λ a. traces_for a ≡ traces_in (shown m))) (sym c.in-Aigstat.is)
     (traces_on answer.Printed c.aigstat_lines.result c.printed-in-Aigstat.result c.printed-in-Aigstat.ensures no_traces (λ l. refl))
+
+pub returns-in-Aigstat-clause-shows : goal.returns-in-Aigstat-clause-shows
+returns-in-Aigstat-clause-shows c = shows_none c.printed-in-Aigstat.result c.args.command.now (shown_contents c.args.contents.now) (subst HasNoRun (sym c.in-Aigstat.is) tt)
 
 pub returns-in-Aigstat-clause-refused : goal.returns-in-Aigstat-clause-refused
 returns-in-Aigstat-clause-refused c =

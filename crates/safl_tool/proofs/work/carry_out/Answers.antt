@@ -4,7 +4,7 @@ use Rattle.safl_probe.specs.Probing.{ProbeState}
 use Rattle.safl_probe.specs.Asked.{asked}
 use Rattle.safl_command.specs.Commands.{shown}
 use Rattle.safl_command.specs.Traces.{Traces}
-use Rattle.safl_task.specs.Endings.{starved}
+use Rattle.safl_task.specs.Endings.{outside, starved}
 use Rattle.safl_task.specs.Inputs.{AreUnread, shown_inputs, shown_contents}
 use Rattle.safl_task.specs.Tasks.{Input, Task, AreContents}
 use Rattle.safl_tool.specs.CommandTasks.{command_task}
@@ -15,12 +15,16 @@ use Rattle.safl_tool.proofs.Answered.{contents_alone}
 use Rattle.safl_tool.proofs.Performed.{gives_does, spares_none, spares_read, spares_given}
 use Rattle.safl_tool.proofs.Quiet.{quiet}
 use Rattle.safl_tool.proofs.Refusing.{unread_stops, content_stops}
+use Rattle.safl_tool.proofs.Watched.{attends_given}
 use Rattle.safl_tool.proofs.work.carry_out.Goals as goal
 
 -- ---- no memory for the inputs
 
 pub returns-in_default-clause-does : goal.returns-in_default-clause-does
 returns-in_default-clause-does g c = starved (inl (record { files = refl; out = refl }))
+
+pub returns-in_default-clause-attends : goal.returns-in_default-clause-attends
+returns-in_default-clause-attends g c = λ e. refl
 
 pub returns-in_default-clause-spares : goal.returns-in_default-clause-spares
 returns-in_default-clause-spares g c = spares_none _ _ _
@@ -36,6 +40,9 @@ returns-in-Err-clause-does g c =
     let is : shown_inputs c.deref.result.now ≡ t.inputs = ap shown_inputs c.deref.ensures.value ∙ c.in-Ok.ensures in
     unread_stops t (TellsProbe (asked c.args.files.now) ps ps) old.outside new.outside (record { files = c.in-Err.ensures.only_reads.files; out = refl }) c.in-Err.unread
     (subst (λ (l : List Input). AreUnread l old.outside.shelf new.outside.shelf c.in-Err.unread) is c.in-Err.ensures.refused) c.of_unread.result c.of_unread.ensures
+
+pub returns-in-Err-clause-attends : goal.returns-in-Err-clause-attends
+returns-in-Err-clause-attends g c = λ e. refl
 
 pub returns-in-Err-clause-spares : goal.returns-in-Err-clause-spares
 returns-in-Err-clause-spares g c =
@@ -69,6 +76,9 @@ returns-in-Err-answer_of-clause-does g c =
     content_stops t (TellsProbe (asked c.args.files.now) ps ps) old.outside new.outside (shown_contents c.deref-2.result.now) are
     (quiet (shown c.args.command.now) (shown_contents c.deref-2.result.now))
     (record { files = c.in-Ok-read_inputs.ensures.only_reads.files; out = refl }) c.in-Err-answer_of.refusal c.in-Err-answer_of.ensures.refused
+
+pub returns-in-Err-answer_of-clause-attends : goal.returns-in-Err-answer_of-clause-attends
+returns-in-Err-answer_of-clause-attends g c = λ e. refl
 
 pub returns-in-Err-answer_of-clause-spares : goal.returns-in-Err-answer_of-clause-spares
 returns-in-Err-answer_of-clause-spares g c =
@@ -109,4 +119,18 @@ returns-clause-spares g c =
     let new = world (g.S.Shelf.told c.give.new.shelf) (g.O.Sink.told c.give.new.out) (λ p. (goal.Probe-dyn g (p.vtable, p.value)).state p.value) c.give.new.probes.items in
     let is : shown_inputs c.deref.result.now ≡ t.inputs = ap shown_inputs c.deref.ensures.value ∙ c.in-Ok.ensures in
     spares_given t (asked c.args.files.now) old new mid c.in-Ok-read_inputs.ensures.only_reads.files (shown_inputs c.deref.result.now) is
-    c.in-Ok-read_inputs.ensures.no_stray c.give.ensures.same_strays c.give.ensures.unasked c.give.ensures.probes
+    c.in-Ok-read_inputs.ensures.no_stray c.give.ensures.same_strays c.give.ensures.probes.unasked c.give.ensures.probes.probes
+
+pub returns-clause-attends : goal.returns-clause-attends
+returns-clause-attends g c =
+    let t : Task = command_task (shown c.args.command.now) in
+    let old = world (g.S.Shelf.told c.args.shelf.now) (g.O.Sink.told c.args.out.now) (λ p. (goal.Probe-dyn g (p.vtable, p.value)).state p.value) c.args.probes.now.items in
+    let mid : ShelfState = g.S.Shelf.told c.read_inputs.new.shelf in
+    let new = world (g.S.Shelf.told c.give.new.shelf) (g.O.Sink.told c.give.new.out) (λ p. (goal.Probe-dyn g (p.vtable, p.value)).state p.value) c.give.new.probes.items in
+    let is : shown_inputs c.deref.result.now ≡ t.inputs = ap shown_inputs c.deref.ensures.value ∙ c.in-Ok.ensures in
+    let are : AreContents old.outside.shelf.holds t.inputs (shown_contents c.deref-2.result.now) =
+    subst (λ l. AreContents old.outside.shelf.holds t.inputs (shown_contents l)) (sym c.deref-2.ensures.value)
+    (subst (λ (l : List Input). AreContents old.outside.shelf.holds l (shown_contents c.in-Ok-read_inputs.contents.items)) is c.in-Ok-read_inputs.ensures.read) in
+    attends_given (shown c.args.command.now) (asked c.args.files.now) old.outside.shelf.holds old.probes new.probes old.states new.states
+    (shown_contents c.deref-2.result.now) are c.in-Ok-answer_of.answer c.in-Ok-answer_of.ensures.shows (outside mid old.outside.out) new.outside
+    c.give.result c.give.ensures.gives c.give.ensures.told

@@ -9,6 +9,7 @@ use Rattle.safl_tool.specs.CommandTasks.{traces_in}
 use Rattle.safl_tool.specs.Tracing.{AreAskedFor, have_probes, kinds_of}
 use Rattle.safl_tool.specs.Worlds.{world}
 use Rattle.safl_tool.proofs.Performed.{spares_none, not_asked, does_asked, spares_asked}
+use Rattle.safl_tool.proofs.Watched.{attends_asked}
 use Rattle.safl_tool.proofs.work.perform.Goals as goal
 
 -- the files are those that the command asks for
@@ -49,6 +50,18 @@ returns-in-Ok-Some-clause-spares g c =
     (ap (λ l. map (λ p. (goal.Probe-dyn g (p.vtable, p.value)).state p.value) l) c.deref.ensures.value) (rw c.in-Ok-Some.field-0-is at c.in-Ok-Some.ensures)))
     c.carry_out.ensures.spares
 
+pub returns-in-Ok-Some-clause-attends : goal.returns-in-Ok-Some-clause-attends
+returns-in-Ok-Some-clause-attends g c =
+    let ps : List ProbeState = map (λ p. (goal.Probe-dyn g (p.vtable, p.value)).state p.value) c.args.probes.now.items in
+    let qs : List ProbeState = map (λ p. (goal.Probe-dyn g (p.vtable, p.value)).state p.value) c.deref.result.now in
+    let rs : List ProbeState = map (λ p. (goal.Probe-dyn g (p.vtable, p.value)).state p.value) c.carry_out.new.probes.items in
+    attends_asked (shown c.args.command.now) (g.S.Shelf.told c.args.shelf.now).holds c.args.probes.now.items c.carry_out.new.probes.items ps rs
+    (asked c.deref-in-Ok-Some.result.now)
+    (subst (λ l. AreAskedFor (traces_in (shown c.args.command.now)) (asked l) ps) (sym c.deref-in-Ok-Some.ensures.value)
+    (handed _ (traces_in (shown c.args.command.now)) ps qs (asked c.in-Ok-Some.files.items) c.traces_of.ensures
+    (ap (λ l. map (λ p. (goal.Probe-dyn g (p.vtable, p.value)).state p.value) l) c.deref.ensures.value) (rw c.in-Ok-Some.field-0-is at c.in-Ok-Some.ensures)))
+    c.carry_out.result c.carry_out.ensures.attends
+
 pub returns-in-Ok-None-clause-does : goal.returns-in-Ok-None-clause-does
 returns-in-Ok-None-clause-does g c =
     not_asked (shown c.args.command.now) (world (g.S.Shelf.told c.args.shelf.now) (g.O.Sink.told c.args.out.now) (λ p. (goal.Probe-dyn g (p.vtable, p.value)).state p.value) c.args.probes.now.items)
@@ -57,11 +70,17 @@ returns-in-Ok-None-clause-does g c =
     (kinds_of (map (λ p. (goal.Probe-dyn g (p.vtable, p.value)).state p.value) l))) (sym c.deref.ensures.value) ∙
     (rw c.in-Ok-None.field-0-is at c.in-Ok-None.ensures))
 
+pub returns-in-Ok-None-clause-attends : goal.returns-in-Ok-None-clause-attends
+returns-in-Ok-None-clause-attends g c = λ e. refl
+
 pub returns-in-Ok-None-clause-spares : goal.returns-in-Ok-None-clause-spares
 returns-in-Ok-None-clause-spares g c = spares_none _ _ _
 
 pub returns-in-Err-clause-does : goal.returns-in-Err-clause-does
 returns-in-Err-clause-does g c = starved (inl (record { files = refl; out = refl }))
+
+pub returns-in-Err-clause-attends : goal.returns-in-Err-clause-attends
+returns-in-Err-clause-attends g c = λ e. refl
 
 pub returns-in-Err-clause-spares : goal.returns-in-Err-clause-spares
 returns-in-Err-clause-spares g c = spares_none _ _ _

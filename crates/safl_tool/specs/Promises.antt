@@ -1,0 +1,117 @@
+-- What `check`, `sim`, `session` and `aig` come to, said of words, files, what is printed and the status alone.
+use Rattle.std.specs.Prelude.{◌≡◌, ℕ, List, [], ◌∷◌, ◌++◌, length, map, true, codes, string_bytes}
+use Rattle.std.specs.declared.string.String.{String}
+use Rattle.std.specs.declared.alloc.Global.{Global}
+use Rattle.safl_word.specs.Words.{Word}
+use Rattle.safl_io.specs.Shelf.{ShelfState}
+use Rattle.safl_io.specs.Sink.{SinkState, Sends}
+use Rattle.safl_io.specs.Told.{TellsOn}
+use Rattle.safl_net.specs.Netlist.{Netlist}
+use Rattle.safl_sim.specs.declared.done.Done.{Done as Reply}
+use Rattle.safl_aig.specs.BitLevel.{IsTextOf}
+use Rattle.safl_term.specs.Program.{Program}
+use Rattle.safl_circuit.specs.Names.{Names}
+use Rattle.safl_circuit.specs.Correct.{IsResult}
+use Rattle.safl_session.specs.Lines.{AreArguments}
+use Rattle.safl_session.specs.Scripts.{IsScript}
+use Rattle.safl_session.specs.Circuits.{IsMainReply}
+use Rattle.safl_session.specs.Transcripts.{reply_lines, calls_line}
+use Rattle.safl_compiler.specs.Sources.{IsSourceOf}
+use Rattle.safl_command.specs.Apart.{Traces, are_apart}
+use Rattle.safl_command.specs.Arranged.{GivenOption, Arranged}
+use Rattle.safl_command.specs.Laws.{IsName, IsLimit, option, trace_options}
+use Rattle.safl_task.specs.Tasks.{OfFile}
+use Rattle.safl_task.specs.declared.status.Status.{Status}
+use Rattle.safl_task.specs.declared.status.Status.TheVariants.{Ok}
+use Rattle.safl_tool.specs.Printed.{program_lines, done_lines}
+use Rattle.safl_tool.specs.Running.{IsRunnable}
+use Rattle.safl_tool.specs.Headline.{Turns}
+
+-- the words are a command's own, and then these words in order, with these options at any place
+abbrev pub Say : List ℕ → List (List ℕ) → List GivenOption → List (List ℕ) → Type 0
+Say command names options words = (line : List (List ℕ)) × Arranged names options line × (words ≡ command ∷ line)
+
+-- where the sink tells what was sent, this was: a text that is so
+abbrev pub IsPrinted : (List ℕ → Type 0) → SinkState → SinkState → Type 0
+IsPrinted Q before after = TellsOn (λ old new. (text : List ℕ) × Q text × Sends text old new) before.sent after.sent
+
+-- ---- `check IN`
+
+-- the source is that of a program, and the text tells how many functions and call sites it has
+abbrev pub IsChecked : List ℕ → List ℕ → Type 0
+IsChecked source text = (C : Program) × (D : Names) × IsSourceOf source C D × (text ≡ program_lines C.functions C.sites)
+
+abbrev pub SayCheck : List ℕ → List (List ℕ) → Type 0
+SayCheck input words = IsName input × Say (codes "check") (input ∷ []) [] words
+
+abbrev pub Checks : {S O : Type 0} → List (String Global) → (S → ShelfState) → S → (O → SinkState) → O → O → Status → Type 0
+Checks words shelf s out o o' status =
+    (input : List ℕ) → SayCheck input (map string_bytes words) → status ≡ Ok
+    → OfFile (shelf s).holds input (λ source. IsPrinted (IsChecked source) (out o) (out o'))
+
+-- ---- `sim IN --cycles L [--vcd F1] [--starts F2] [--toggles F3] [ARG..]`
+
+-- the source is that of a program, the arguments are words for main's parameters, and the text tells main's value and the cycle in
+-- which it came
+pub record IsSimulated (args : List (List ℕ)) (source text : List ℕ) : Type 0 where
+  pub program : Program
+  pub names : Names
+  pub words : List Word
+  pub value : Word
+  pub cycle : ℕ
+  pub source_of : IsSourceOf source program names
+  pub read : AreArguments (program.params program.main) args words
+  pub result : IsResult program words value cycle
+  pub is : text ≡ done_lines value.bits cycle
+
+abbrev pub SaySim : List ℕ → List ℕ → Traces → List (List ℕ) → List (List ℕ) → Type 0
+SaySim input limit traces args words =
+    IsName input × IsLimit limit × (are_apart traces ≡ true)
+    × Say (codes "sim") (input ∷ args) (option (codes "cycles") limit (trace_options traces)) words
+
+abbrev pub Simulates : {S O : Type 0} → List (String Global) → (S → ShelfState) → S → (O → SinkState) → O → O → Status → Type 0
+Simulates words shelf s out o o' status =
+    (input limit : List ℕ) (traces : Traces) (args : List (List ℕ)) → SaySim input limit traces args (map string_bytes words) → status ≡ Ok
+    → OfFile (shelf s).holds input (λ source. IsPrinted (IsSimulated args source) (out o) (out o'))
+
+-- ---- `session IN SCRIPT --cycles L`
+
+-- each call has its reply, and this is main's value and the cycle in which it came
+abbrev pub EachReply : Program → List (List Word) → List Reply → Type 0
+EachReply C [] [] = Unit {0}
+EachReply C (args ∷ calls) (r ∷ rs) = IsMainReply C args r × EachReply C calls rs
+EachReply C _ _ = ⊥
+
+-- the source is that of a program, the script has these calls of main, and the text has a line for the reply to each
+pub record IsSession (source script text : List ℕ) : Type 0 where
+  pub program : Program
+  pub names : Names
+  pub calls : List (List Word)
+  pub replies : List Reply
+  pub source_of : IsSourceOf source program names
+  pub read : IsScript (program.params program.main) script calls
+  pub each : EachReply program calls replies
+  pub is : text ≡ reply_lines replies ++ calls_line (length calls)
+
+abbrev pub SaySession : List ℕ → List ℕ → List ℕ → List (List ℕ) → Type 0
+SaySession input script limit words =
+    IsName input × IsName script × IsLimit limit × Say (codes "session") (input ∷ script ∷ []) (option (codes "cycles") limit []) words
+
+abbrev pub Converses : {S O : Type 0} → List (String Global) → (S → ShelfState) → S → (O → SinkState) → O → O → Status → Type 0
+Converses words shelf s out o o' status =
+    (input script limit : List ℕ) → SaySession input script limit (map string_bytes words) → status ≡ Ok
+    → OfFile (shelf s).holds input (λ source. OfFile (shelf s).holds script (λ lines. IsPrinted (IsSession source lines) (out o) (out o')))
+
+-- ---- `aig FILE OUT`
+
+-- the text of a Verilog file reads as a netlist without a loop, and the other text is that of its bit-level circuit
+abbrev pub IsConverted : List ℕ → List ℕ → Type 0
+IsConverted verilog text = (n : Netlist) × IsRunnable verilog n × IsTextOf n text
+
+abbrev pub SayAig : List ℕ → List ℕ → List (List ℕ) → Type 0
+SayAig input output words = IsName input × IsName output × Say (codes "aig") (input ∷ output ∷ []) [] words
+
+abbrev pub Converts : {S : Type 0} → List (String Global) → (S → ShelfState) → S → S → Status → Type 0
+Converts words shelf s s' status =
+    (input output : List ℕ) → SayAig input output (map string_bytes words) → status ≡ Ok
+    → TellsOn (Turns IsConverted input output) (shelf s).holds (shelf s').holds
