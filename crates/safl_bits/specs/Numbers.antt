@@ -6,6 +6,7 @@ use Rattle.safl_aiger.specs.Literals.{Assignment, on, shown}
 use Rattle.safl_bits.specs.declared.words.Column.{Column}
 use Rattle.safl_bits.specs.declared.words.Side.{Side}
 use Rattle.safl_bits.specs.declared.words.Sum.{Sum}
+use Rattle.safl_bits.specs.Gates.{Gates, IsLiteral, AreLiterals, Holds}
 use Rattle.safl_bits.specs.Operators.{moved}
 
 -- at a place of a sum: its bit and twice the carry are the sum of the three bits
@@ -15,6 +16,13 @@ AddsBits m a b c r = bit_of (on m r.bit) + 2 * bit_of (on m r.carry) ≡ bit_of 
 -- of a whole sum: its bits, and the carry beyond them, are the sum of two words and a bit
 abbrev pub AddsWords : Assignment → List Lit → List Lit → Lit → Sum → Type 0
 AddsWords m a b c r = shown m r.bits.items + 2 ^ length a * bit_of (on m r.carry) ≡ shown m a + shown m b + bit_of (on m c)
+
+-- the sum of two words and a bit, whose bits are as many as those of the first word
+pub record IsSum (g : Gates) (a b : List Lit) (c : Lit) (r : Sum) : Type 0 where
+  pub bits : AreLiterals g r.bits.items
+  pub carry : IsLiteral g r.carry
+  pub long : length r.bits.items ≡ length a
+  pub value : (m : Assignment) → Holds g m → AddsWords m a b c r
 
 -- the total with a row of a product: with a word moved to a place, where the bit is true
 abbrev pub with_row : Assignment → List Lit → List Lit → Lit → ℕ → ℕ

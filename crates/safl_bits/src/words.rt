@@ -5,7 +5,7 @@ ghost use Rattle.safl_word.specs.Primitives.{bit_of};
 ghost use Rattle.safl_aiger.specs.Literals.{Assignment, on, shown};
 ghost use Rattle.safl_bits.specs.Gates.{Gates, IsLiteral, AreLiterals, HasRoom, Grows, Holds};
 ghost use Rattle.safl_bits.specs.Operators.{gate_bit, gate_number};
-ghost use Rattle.safl_bits.specs.Numbers.{AddsBits, AddsWords, with_row, moved_by, shifted};
+ghost use Rattle.safl_bits.specs.Numbers.{AddsBits, IsSum, with_row, moved_by, shifted};
 
 use crate::gates::{differ, either, mux};
 use crate::graph::{Graph, inverse};
@@ -206,10 +206,7 @@ pub fn add(
     requires alike { length a.now ≡ length b.now }
     requires room { HasRoom g.old (9 * length a.now) }
     ensures built { Grows g.old g.new (9 * length a.now) }
-    ensures bits { IfOk result (λ r. AreLiterals g.new r.bits.items) }
-    ensures carry { IfOk result (λ r. IsLiteral g.new r.carry) }
-    ensures long { IfOk result (λ r. length r.bits.items ≡ length a.now) }
-    ensures value { IfOk result (λ r. (m : Assignment) → Holds g.new m → AddsWords m a.now b.now first r) }
+    ensures sum { IfOk result (IsSum g.new a.now b.now first) }
 {
     let mut bits = Vec::new(alloc);
     let mut carry = first;

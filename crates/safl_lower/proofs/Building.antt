@@ -1,14 +1,16 @@
 -- Nets that are built on nets.
-use Rattle.std.proofs.Common.{◌≡◌, ℕ, ◌+◌, ◌≤◌, List, ◌++◌, length, ap, arith}
+use Rattle.std.proofs.Common.{◌≡◌, ℕ, ◌+◌, ◌≤◌, List, ◌++◌, length, ap, sym, subst, arith}
 use Rattle.safl_net.specs.declared.cell.Sig.{Sig}
 use Rattle.safl_net.specs.Netlist.{Netlist}
+use Rattle.safl_net.specs.Names.{IsTidy}
 use Rattle.safl_net.specs.Growth.{Grows}
 use Rattle.safl_net.proofs.Growth.{grows_on, grows_same, width_kept, sized_kept, sized_more}
 use Rattle.safl_net.proofs.Settling.{settles_same, settles_on, are_steady_on, steady_grown, are_steady_grown, are_steady_more}
 use Rattle.safl_lower.specs.Sources.{IsSource, AreSources, Builds}
 
-pub builds_same : (n m : Netlist) → m ≡ n → (most : ℕ) → Builds n m most
-builds_same n m e most = record {
+pub builds_same : (n m : Netlist) → IsTidy n → m ≡ n → (most : ℕ) → Builds n m most
+builds_same n m t e most = record {
+  tidy = subst IsTidy (sym e) t;
   grows = grows_same n m e;
   settles = settles_same n m e;
   count = let q = ap (λ (x : Netlist). length x.signals) e in omega (arith, q);
@@ -16,13 +18,14 @@ builds_same n m e most = record {
 
 pub builds_on : {a b c : Netlist} {j k : ℕ} → Builds a b j → Builds b c k → Builds a c (j + k)
 builds_on g h = record {
+  tidy = h.tidy;
   grows = grows_on g.grows h.grows;
   settles = settles_on g.settles h.settles;
   count = let p = g.count in let q = h.count in omega (arith, p, q);
 }
 
 pub builds_within : {a b : Netlist} {j : ℕ} (k : ℕ) → Builds a b j → j ≤ k → Builds a b k
-builds_within k g le = record { grows = g.grows; settles = g.settles; count = let p = g.count in omega (arith, p, le) }
+builds_within k g le = record { tidy = g.tidy; grows = g.grows; settles = g.settles; count = let p = g.count in omega (arith, p, le) }
 
 -- as the net grows
 pub source_grown : {a b : Netlist} → Grows a b → (s : Sig) (w : ℕ) → IsSource a s w → IsSource b s w

@@ -4,6 +4,7 @@ use Rattle.std.proofs.Common.{take, slice_get, slice_index_or, suc, zero, ◌+�
 use Rattle.safl_net.specs.declared.cell.Sig.{Sig}
 use Rattle.safl_net.specs.declared.cell.Op.{Op}
 use Rattle.safl_net.specs.Netlist.{Netlist}
+use Rattle.safl_net.specs.Names.{IsTidy}
 use Rattle.safl_net.specs.Making.{with_signal, temporary}
 use Rattle.safl_net.specs.Widths.{op_width}
 use Rattle.safl_net.specs.Growth.{Val, words, Wired, width_at}
@@ -30,8 +31,8 @@ module _ {E : Type 0} (n m : Netlist) (r : Result Sig E) (op : Op) (xs : List Si
   pub cell_made : (ws : List ℕ) (w : ℕ) → AreSources n xs ws → op_width op ws ≡ Some w → Made n m r w op xs
   cell_made ws w h e = made n m r w op xs (sized_gives n op xs ws w h.widths e) added numbered refused
 
-  pub cell_builds : (ws : List ℕ) (w : ℕ) → AreSources n xs ws → op_width op ws ≡ Some w → Builds n m 1
-  cell_builds ws w h e = let k = cell_made ws w h e in record { grows = k.grows; settles = settles_made n m r op xs h.steady added refused; count = k.count }
+  pub cell_builds : (ws : List ℕ) (w : ℕ) → AreSources n xs ws → op_width op ws ≡ Some w → IsTidy m → Builds n m 1
+  cell_builds ws w h e t = let k = cell_made ws w h e in record { tidy = t; grows = k.grows; settles = settles_made n m r op xs h.steady added refused; count = k.count }
 
   pub cell_source : (ws : List ℕ) (w : ℕ) → AreSources n xs ws → op_width op ws ≡ Some w → IfOk r (λ s. IsSource m s w)
   cell_source ws w h e = source_made n m r op xs w added numbered (cell_made ws w h e).width

@@ -6,6 +6,7 @@ use Rattle.std.specs.Option.{option_or}
 use Rattle.safl_word.specs.Words.{Word}
 use Rattle.safl_term.specs.Readiness.{or_else}
 use Rattle.safl_net.specs.Netlist.{Netlist}
+use Rattle.safl_net.specs.Names.{IsTidy}
 use Rattle.safl_net.specs.Growth.{Val, words, Wired}
 use Rattle.safl_net.specs.Bits.{on, gate}
 use Rattle.safl_net.proofs.Growth.{wired_before}
@@ -86,9 +87,10 @@ pub record Merging (first count : ℕ) (old cur : Netlist) (all : List TailCall)
   pub idle : (i : ℕ) → ¬ Listed (first + i) (map member_of (take j all)) → load_in (slice_get xs i) ≡ None
   pub told : (v : Val) → Wired cur v → (i : ℕ) → taken_from v xs i ≡ taken_to v (take j all) (first + i)
 
-pub merging_start : (first count : ℕ) (n : Netlist) (all : List TailCall) (xs : List (Option Load)) → length xs ≡ count → ((i : ℕ) → load_in (slice_get xs i) ≡ None) → Merging first count n n all 0 xs
-merging_start first count n all xs e h = record {
-  built = builds_same n n refl 0;
+pub merging_start : (first count : ℕ) (n : Netlist) → IsTidy n → (all : List TailCall) (xs : List (Option Load))
+    → length xs ≡ count → ((i : ℕ) → load_in (slice_get xs i) ≡ None) → Merging first count n n all 0 xs
+merging_start first count n t all xs e h = record {
+  built = builds_same n n t refl 0;
   size = e;
   fits = λ F x i. none_fits n xs i (member_widths F first i) (h i);
   paid = let z = no_cost xs h in omega (arith, z);

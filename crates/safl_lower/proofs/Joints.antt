@@ -27,6 +27,19 @@ pub none_any : (n : Netlist) (xs : List Sig) → length xs ≡ 0 → IsAnyOf n x
 none_any n [] e = record { fits = tt; shows = λ v w. refl; height = λ h l. tt }
 none_any n (x ∷ xs) e = absurd (omega (arith, e))
 
+pub alone_any : (n : Netlist) (xs : List Sig) → AreBits n xs → length xs ≡ 1 → IsAnyOf n xs (Some (slice_index_or xs 0 (record { 0 = 0 })))
+alone_any n [] h e = absurd (omega (arith, e))
+alone_any n (x ∷ y ∷ xs) h e = absurd (omega (arith, e))
+alone_any n (x ∷ []) h e = record {
+  fits = h.0;
+  shows = λ v w. alone_on (on v x);
+  height = λ k l. (alone_within n (x ∷ []) (record { 0 = 0 }) k refl, tt);
+}
+  where
+    alone_on : (b : Bool) → b ≡ (b || false)
+    alone_on true = refl
+    alone_on false = refl
+
 pub any_kept : {a b : Netlist} {k : ℕ} → Builds a b k → (row : List Sig) (o : Option Sig) → IsAnyOf a row o → IsAnyOf b row o
 any_kept g row o q = record {
   fits = maybe_bit_kept g o q.fits;

@@ -132,6 +132,7 @@ module _ (c : CheckedProgram) (hc : IsChecked c) (f : ℕ) (l : f < (program_of 
       let ty = (own_body c hc f l).typed in
       record {
         built = record {
+          tidy = joined.tidy;
           grows = grows_on h.grows (grows_on ended.grows joined.grows);
           settles = settles_on h.settles (settles_on ended.settles joined.settles);
           count = let i = h.count in let j = merge_cost ew el (own_given c hc f l n0 P able) h in let c2 = ended.count in let c3 = joined.count in omega (arith, i, j, c2, c3);

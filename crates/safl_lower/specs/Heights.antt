@@ -1,5 +1,5 @@
 -- How many gates stand one after another above given signals.
-use Rattle.std.specs.Prelude.{◌≡◌, ℕ, zero, suc, ◌+◌, ◌≤◌, ◌^◌, ◌⊎◌, List, [], ◌∷◌, ◌++◌, length, Option, None, Some, Result, OnOk, slice_get}
+use Rattle.std.specs.Prelude.{◌≡◌, ℕ, zero, suc, ◌+◌, ◌≤◌, ◌^◌, ◌⊎◌, List, [], ◌∷◌, ◌++◌, length, Option, None, Some, slice_get}
 use Rattle.safl_net.specs.declared.cell.Sig.{Sig}
 use Rattle.safl_net.specs.Netlist.{Netlist, Signal, Kind, Input, Reg, Wire}
 use Rattle.safl_net.specs.Making.{numbers}
@@ -57,8 +57,3 @@ pub record Stands (n : Netlist) (from row : List Sig) (free : Sig) (f h m : ℕ)
   pub room : f + h ≤ m
   pub bits : AllWithin n from 0 row
   pub base : Within n from f free.0
-
--- on success, what stood at most m gates above signals still does, with the bits of such a row
-abbrev pub StaysWithin : {A E : Type 0} → Result A E → Netlist → Netlist → List Sig → Sig → List Sig → List Sig → Type 0
-StaysWithin r n n' row free old new = (from : List Sig) (f h m : ℕ) → Stands n from row free f h m
-    → AllWithin n from m old → OnOk r (AllWithin n' from m new)

@@ -1,5 +1,5 @@
 -- What a row of bits, or of loads, is joined to.
-use Rattle.std.specs.Prelude.{◌≡◌, ℕ, ◌*◌, ◌≤◌, ◌^◌, List, length, Option, None, Some}
+use Rattle.std.specs.Prelude.{◌≡◌, ℕ, ◌+◌, ◌*◌, ◌≤◌, ◌^◌, ◌++◌, List, map, length, Option, None, Some}
 use Rattle.safl_net.specs.declared.cell.Sig.{Sig}
 use Rattle.safl_net.specs.Netlist.{Netlist}
 use Rattle.safl_net.specs.Growth.{Val, Wired}
@@ -8,14 +8,22 @@ use Rattle.safl_lower.specs.declared.loads.Load.{Load}
 use Rattle.safl_lower.specs.declared.trees.Several.{Several}
 use Rattle.safl_lower.specs.Sources.{IsSource}
 use Rattle.safl_lower.specs.Tables.{taken_in, on_in, IsBitIn}
-use Rattle.safl_lower.specs.Rows.{on_any, on_two, first_taken, maybe_one}
-use Rattle.safl_lower.specs.Heights.{Within, AllWithin, load_parts, parts}
+use Rattle.safl_lower.specs.Rows.{AreBits, on_any, on_two, frees, first_taken, maybe_one}
+use Rattle.safl_lower.specs.Heights.{Within, AllWithin, Stands, load_parts, parts}
 
 -- the bit that is 1 where one of a row is; of at most 2 ^ h bits, at most h gates above them
 pub record IsAnyOf (n : Netlist) (row : List Sig) (b : Option Sig) : Type 0 where
   pub fits : IsBitIn n b
   pub shows : (v : Val) → Wired n v → on_in v b ≡ on_any v row
   pub height : (h : ℕ) → length row ≤ 2 ^ h → AllWithin n row h (maybe_one b)
+
+-- after the bits that were there, for each bit of a row that it is free and none before it is 1; all are at most m gates
+-- above signals where the earlier bits were and the row stands low enough
+pub record AddsFrees (old new : Netlist) (row : List Sig) (free : Sig) (before after : List Sig) : Type 0 where
+  pub fits : AreBits new after
+  pub long : length after ≡ length before + length row
+  pub shows : (v : Val) → Wired new v → map (on v) after ≡ map (on v) before ++ frees v (on v free) row
+  pub height : (from : List Sig) (f h m : ℕ) → Stands old from row free f h m → AllWithin old from m before → AllWithin new from m after
 
 -- the first load of a row that is taken; of at most 2 ^ h loads, at most h gates above their bits and words
 pub record IsFirstOf (n : Netlist) (row : List Load) (o : Option Load) : Type 0 where

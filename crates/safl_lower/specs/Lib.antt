@@ -7,6 +7,7 @@ pub mod Loads
 pub mod Bodies
 pub mod Shifts
 pub mod Sources
+pub mod Operations
 pub mod Tables
 pub mod Rows
 pub mod Heights

@@ -2,6 +2,7 @@
 use Rattle.std.specs.Prelude.{◌≡◌, ℕ, ◌+◌, ◌≤◌, ◌<◌, List, length, Some}
 use Rattle.safl_net.specs.declared.cell.Sig.{Sig}
 use Rattle.safl_net.specs.Netlist.{Netlist}
+use Rattle.safl_net.specs.Names.{IsTidy}
 use Rattle.safl_net.specs.Growth.{width_at, Sized, Grows}
 use Rattle.safl_net.specs.Settled.{IsSteady, AreSteady, Settles}
 
@@ -15,8 +16,10 @@ pub record AreSources (n : Netlist) (xs : List Sig) (ws : List ℕ) : Type 0 whe
   pub widths : Sized n xs ws
   pub steady : AreSteady n xs
 
--- the net has more temporaries, at most so many; its cells read no loop and no wire without a cell, if they did not before
+-- the net has more temporaries, at most so many, and is tidy; its cells read no loop and no wire without a cell, if they
+-- did not before
 pub record Builds (old new : Netlist) (most : ℕ) : Type 0 where
+  pub tidy : IsTidy new
   pub grows : Grows old new
   pub settles : Settles old new
   pub count : length new.signals ≤ length old.signals + most
@@ -24,3 +27,8 @@ pub record Builds (old new : Netlist) (most : ℕ) : Type 0 where
 -- there is room for so many signals
 abbrev pub HasRoom : Netlist → ℕ → Type 0
 HasRoom n most = length n.signals + most < 4294967295
+
+-- the net is tidy, with room for so many more signals
+pub record CanGrow (n : Netlist) (most : ℕ) : Type 0 where
+  pub tidy : IsTidy n
+  pub room : HasRoom n most

@@ -6,7 +6,7 @@ ghost use Rattle.safl_word.specs.Words.{max_width};
 ghost use Rattle.safl_net.specs.Names.{IsTidy};
 ghost use Rattle.safl_net.specs.Growth.{Val, Wired, Grows};
 ghost use Rattle.safl_net.specs.Bits.{on, gate};
-ghost use Rattle.safl_lower.specs.Sources.{IsSource, Builds, HasRoom};
+ghost use Rattle.safl_lower.specs.Sources.{IsSource, Builds, CanGrow};
 ghost use Rattle.safl_lower.specs.Tables.{taken, one_word, LoadFits};
 ghost use Rattle.safl_lower.specs.Bits.{ReadyAt};
 ghost use Rattle.safl_lower.specs.Bodies.{CanLower, IsLowered};
@@ -69,13 +69,11 @@ pub fn lower(
 // How a body ends, whose group has results of this width: where it runs and is ready, with its word. One that only
 // makes tail calls has a bit that is 0.
 fn end(alloc: Global, net: &mut Net, run: Sig, width: u8, body: Lowered) -> Result<Load, NoMemory>
-    requires tidy { IsTidy net.old }
     requires run { IsSource net.old run 1 }
     requires some { 1 ≤ width }
     requires most { width ≤ max_width }
     requires ready { ReadyAt net.old body.ready }
-    requires room { HasRoom net.old 2 }
-    ensures tidy { IsTidy net.new }
+    requires room { CanGrow net.old 2 }
     ensures built { Builds net.old net.new 2 }
     ensures fits { (w : ℕ) → Shaped net.old body w → (body.ready ≡ Readiness.Never → w ≡ width) → IfOk result (λ l. LoadFits net.new l (w ∷ [])) }
     ensures value { IfOk result (λ l. (v : Val) → Wired net.new v → taken v l ≡ one_word (gate (on v run) (shown v body))) }
@@ -106,11 +104,9 @@ fn one_load(alloc: Global, bit: Sig, value: Sig) -> Result<Load, AllocError>
 
 // What stands for the word of a body that only makes tail calls. Nothing reads it.
 fn no_value(net: &mut Net, width: u8) -> Result<Sig, NoMemory>
-    requires tidy { IsTidy net.old }
     requires some { 1 ≤ width }
     requires most { width ≤ max_width }
-    requires room { HasRoom net.old 1 }
-    ensures tidy { IsTidy net.new }
+    requires room { CanGrow net.old 1 }
     ensures built { Builds net.old net.new 1 }
     ensures fits { IfOk result (λ s. IsSource net.new s width) }
 {

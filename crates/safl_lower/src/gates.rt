@@ -1,13 +1,13 @@
 //! Gates: one temporary each, over signals that may be read.
 
 ghost use Rattle.std.specs.Prelude.{◌≡◌, ℕ, ◌+◌, ◌≤◌, ◌&&◌, ◌||◌, List, [], ◌∷◌, ◌++◌, not, cond, false, length, Some, IfOk};
-ghost use Rattle.safl_net.specs.Names.{IsTidy};
 ghost use Rattle.safl_word.specs.Primitives.{apply_prim};
 ghost use Rattle.safl_net.specs.Widths.{op_width, prim_width};
 ghost use Rattle.safl_net.specs.Valuations.{cell_word};
 ghost use Rattle.safl_net.specs.Growth.{Val, words, Wired};
 ghost use Rattle.safl_net.specs.Bits.{on};
-ghost use Rattle.safl_lower.specs.Sources.{IsSource, AreSources, Builds, HasRoom};
+ghost use Rattle.safl_lower.specs.Sources.{IsSource, AreSources, Builds, CanGrow};
+ghost use Rattle.safl_lower.specs.Operations.{CanOperate, GivesWord};
 ghost use Rattle.safl_lower.specs.Tables.{IsBitIn, on_in};
 ghost use Rattle.safl_lower.specs.Rows.{maybe_one};
 ghost use Rattle.safl_lower.specs.Heights.{IsGateOf, Within, AllWithin};
@@ -18,13 +18,10 @@ use std::alloc::Global;
 
 // The temporary with this cell.
 fn cell(net: &mut Net, op: Op, operands: &[Sig]) -> Result<Sig, NoMemory>
-    requires tidy { IsTidy net.old }
-    requires operands { (ws : List ℕ) × (w : ℕ) × AreSources net.old operands.now ws × (op_width op ws ≡ Some w) }
-    requires room { HasRoom net.old 1 }
-    ensures tidy { IsTidy net.new }
+    requires operands { CanOperate net.old (op_width op) operands.now }
+    requires room { CanGrow net.old 1 }
     ensures built { Builds net.old net.new 1 }
-    ensures fits { (ws : List ℕ) (w : ℕ) → AreSources net.old operands.now ws → op_width op ws ≡ Some w → IfOk result (λ s. IsSource net.new s w) }
-    ensures value { IfOk result (λ s. (v : Val) → Wired net.new v → v s.0 ≡ cell_word op (words v operands.now)) }
+    ensures word { GivesWord result net.old net.new (op_width op) (cell_word op) operands.now }
     ensures gate { IfOk result (λ s. IsGateOf net.new s operands.now) }
 {
     net.temp(op, operands)
@@ -32,9 +29,7 @@ fn cell(net: &mut Net, op: Op, operands: &[Sig]) -> Result<Sig, NoMemory>
 
 /// A word that never changes.
 pub fn constant(net: &mut Net, word: Word) -> Result<Sig, NoMemory>
-    requires tidy { IsTidy net.old }
-    requires room { HasRoom net.old 1 }
-    ensures tidy { IsTidy net.new }
+    requires room { CanGrow net.old 1 }
     ensures built { Builds net.old net.new 1 }
     ensures fits { IfOk result (λ s. IsSource net.new s word.width) }
     ensures value { IfOk result (λ s. (v : Val) → Wired net.new v → v s.0 ≡ word) }
@@ -44,13 +39,10 @@ pub fn constant(net: &mut Net, word: Word) -> Result<Sig, NoMemory>
 
 /// The word of a primitive of which there is a cell: each but `Ext`.
 pub fn operate(net: &mut Net, primitive: Primitive, operands: &[Sig]) -> Result<Sig, NoMemory>
-    requires tidy { IsTidy net.old }
-    requires operands { (ws : List ℕ) × (w : ℕ) × AreSources net.old operands.now ws × (prim_width primitive ws ≡ Some w) }
-    requires room { HasRoom net.old 1 }
-    ensures tidy { IsTidy net.new }
+    requires operands { CanOperate net.old (prim_width primitive) operands.now }
+    requires room { CanGrow net.old 1 }
     ensures built { Builds net.old net.new 1 }
-    ensures fits { (ws : List ℕ) (w : ℕ) → AreSources net.old operands.now ws → prim_width primitive ws ≡ Some w → IfOk result (λ s. IsSource net.new s w) }
-    ensures value { IfOk result (λ s. (v : Val) → Wired net.new v → v s.0 ≡ apply_prim primitive (words v operands.now)) }
+    ensures word { GivesWord result net.old net.new (prim_width primitive) (apply_prim primitive) operands.now }
     ensures gate { IfOk result (λ s. IsGateOf net.new s operands.now) }
 {
     cell(net, Op::Apply(primitive), operands)
@@ -58,9 +50,7 @@ pub fn operate(net: &mut Net, primitive: Primitive, operands: &[Sig]) -> Result<
 
 /// The bit that never is 1.
 pub fn zero(net: &mut Net) -> Result<Sig, NoMemory>
-    requires tidy { IsTidy net.old }
-    requires room { HasRoom net.old 1 }
-    ensures tidy { IsTidy net.new }
+    requires room { CanGrow net.old 1 }
     ensures built { Builds net.old net.new 1 }
     ensures fits { IfOk result (λ s. IsSource net.new s 1) }
     ensures value { IfOk result (λ s. (v : Val) → Wired net.new v → on v s ≡ false) }
@@ -70,10 +60,8 @@ pub fn zero(net: &mut Net) -> Result<Sig, NoMemory>
 
 /// The bit that is 1 where the other is 0.
 pub fn inverse(net: &mut Net, a: Sig) -> Result<Sig, NoMemory>
-    requires tidy { IsTidy net.old }
     requires bit { IsSource net.old a 1 }
-    requires room { HasRoom net.old 1 }
-    ensures tidy { IsTidy net.new }
+    requires room { CanGrow net.old 1 }
     ensures built { Builds net.old net.new 1 }
     ensures fits { IfOk result (λ s. IsSource net.new s 1) }
     ensures value { IfOk result (λ s. (v : Val) → Wired net.new v → on v s ≡ not (on v a)) }
@@ -84,11 +72,9 @@ pub fn inverse(net: &mut Net, a: Sig) -> Result<Sig, NoMemory>
 
 /// The bit that is 1 where both are.
 pub fn both(net: &mut Net, a: Sig, b: Sig) -> Result<Sig, NoMemory>
-    requires tidy { IsTidy net.old }
     requires first { IsSource net.old a 1 }
     requires second { IsSource net.old b 1 }
-    requires room { HasRoom net.old 1 }
-    ensures tidy { IsTidy net.new }
+    requires room { CanGrow net.old 1 }
     ensures built { Builds net.old net.new 1 }
     ensures fits { IfOk result (λ s. IsSource net.new s 1) }
     ensures value { IfOk result (λ s. (v : Val) → Wired net.new v → on v s ≡ (on v a && on v b)) }
@@ -99,11 +85,9 @@ pub fn both(net: &mut Net, a: Sig, b: Sig) -> Result<Sig, NoMemory>
 
 /// The bit that is 1 where one is.
 pub fn either(net: &mut Net, a: Sig, b: Sig) -> Result<Sig, NoMemory>
-    requires tidy { IsTidy net.old }
     requires first { IsSource net.old a 1 }
     requires second { IsSource net.old b 1 }
-    requires room { HasRoom net.old 1 }
-    ensures tidy { IsTidy net.new }
+    requires room { CanGrow net.old 1 }
     ensures built { Builds net.old net.new 1 }
     ensures fits { IfOk result (λ s. IsSource net.new s 1) }
     ensures value { IfOk result (λ s. (v : Val) → Wired net.new v → on v s ≡ (on v a || on v b)) }
@@ -114,11 +98,9 @@ pub fn either(net: &mut Net, a: Sig, b: Sig) -> Result<Sig, NoMemory>
 
 /// The bit that is 1 if the first is and the second is not.
 pub fn and_not(net: &mut Net, a: Sig, b: Sig) -> Result<Sig, NoMemory>
-    requires tidy { IsTidy net.old }
     requires first { IsSource net.old a 1 }
     requires second { IsSource net.old b 1 }
-    requires room { HasRoom net.old 2 }
-    ensures tidy { IsTidy net.new }
+    requires room { CanGrow net.old 2 }
     ensures built { Builds net.old net.new 2 }
     ensures fits { IfOk result (λ s. IsSource net.new s 1) }
     ensures value { IfOk result (λ s. (v : Val) → Wired net.new v → on v s ≡ (on v a && not (on v b))) }
@@ -129,11 +111,9 @@ pub fn and_not(net: &mut Net, a: Sig, b: Sig) -> Result<Sig, NoMemory>
 
 /// The bit that is 1 if the first is or the second is not.
 pub fn or_not(net: &mut Net, a: Sig, b: Sig) -> Result<Sig, NoMemory>
-    requires tidy { IsTidy net.old }
     requires first { IsSource net.old a 1 }
     requires second { IsSource net.old b 1 }
-    requires room { HasRoom net.old 2 }
-    ensures tidy { IsTidy net.new }
+    requires room { CanGrow net.old 2 }
     ensures built { Builds net.old net.new 2 }
     ensures fits { IfOk result (λ s. IsSource net.new s 1) }
     ensures value { IfOk result (λ s. (v : Val) → Wired net.new v → on v s ≡ (on v a || not (on v b))) }
@@ -144,11 +124,9 @@ pub fn or_not(net: &mut Net, a: Sig, b: Sig) -> Result<Sig, NoMemory>
 
 /// The word of `a` where `c` is 1, else the word of `b`.
 pub fn mux(net: &mut Net, c: Sig, a: Sig, b: Sig) -> Result<Sig, NoMemory>
-    requires tidy { IsTidy net.old }
     requires test { IsSource net.old c 1 }
     requires branches { (w : ℕ) × IsSource net.old a w × IsSource net.old b w }
-    requires room { HasRoom net.old 1 }
-    ensures tidy { IsTidy net.new }
+    requires room { CanGrow net.old 1 }
     ensures built { Builds net.old net.new 1 }
     ensures fits { (w : ℕ) → IsSource net.old a w → IsSource net.old b w → IfOk result (λ s. IsSource net.new s w) }
     ensures value { IfOk result (λ s. (v : Val) → Wired net.new v → v s.0 ≡ cond (on v c) (v a.0) (v b.0)) }
@@ -165,11 +143,9 @@ pub fn mux_all(
     a: &[Sig],
     b: &[Sig],
 ) -> Result<Vec<Sig>, NoMemory>
-    requires tidy { IsTidy net.old }
     requires test { IsSource net.old c 1 }
     requires branches { (ws : List ℕ) × AreSources net.old a.now ws × AreSources net.old b.now ws }
-    requires room { HasRoom net.old (length a.now) }
-    ensures tidy { IsTidy net.new }
+    requires room { CanGrow net.old (length a.now) }
     ensures built { Builds net.old net.new (length a.now) }
     ensures fits { (ws : List ℕ) → AreSources net.old a.now ws → AreSources net.old b.now ws → IfOk result (λ xs. AreSources net.new xs.items ws) }
     ensures value { IfOk result (λ xs. (v : Val) → Wired net.new v → words v xs.items ≡ cond (on v c) (words v a.now) (words v b.now)) }
@@ -185,11 +161,9 @@ pub fn mux_all(
 
 /// The bit that is 1 where one is, of which the first may not be there.
 pub fn or_some(net: &mut Net, a: Option<Sig>, b: Sig) -> Result<Sig, NoMemory>
-    requires tidy { IsTidy net.old }
     requires first { IsBitIn net.old a }
     requires second { IsSource net.old b 1 }
-    requires room { HasRoom net.old 1 }
-    ensures tidy { IsTidy net.new }
+    requires room { CanGrow net.old 1 }
     ensures built { Builds net.old net.new 1 }
     ensures fits { IfOk result (λ s. IsSource net.new s 1) }
     ensures value { IfOk result (λ s. (v : Val) → Wired net.new v → on v s ≡ (on_in v a || on v b)) }
@@ -203,11 +177,9 @@ pub fn or_some(net: &mut Net, a: Option<Sig>, b: Sig) -> Result<Sig, NoMemory>
 
 /// The bit that is 1 where the first is, and not the second, where there is one.
 pub fn and_none(net: &mut Net, a: Sig, b: Option<Sig>) -> Result<Sig, NoMemory>
-    requires tidy { IsTidy net.old }
     requires first { IsSource net.old a 1 }
     requires second { IsBitIn net.old b }
-    requires room { HasRoom net.old 2 }
-    ensures tidy { IsTidy net.new }
+    requires room { CanGrow net.old 2 }
     ensures built { Builds net.old net.new 2 }
     ensures fits { IfOk result (λ s. IsSource net.new s 1) }
     ensures value { IfOk result (λ s. (v : Val) → Wired net.new v → on v s ≡ (on v a && not (on_in v b))) }

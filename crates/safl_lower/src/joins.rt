@@ -2,14 +2,13 @@
 
 ghost use Rattle.std.specs.Prelude.{◌≡◌, ◌⊎◌, true, ℕ, ◌<◌, cond, IfOk, OnOk};
 ghost use Rattle.safl_term.specs.Tree.{shown_term};
-ghost use Rattle.safl_net.specs.Names.{IsTidy};
 ghost use Rattle.safl_net.specs.Growth.{Val, Wired};
 ghost use Rattle.safl_net.specs.Bits.{on, gate};
 ghost use Rattle.safl_lower.specs.Bits.{is_ready, ReadyAt};
 ghost use Rattle.safl_lower.specs.Typing.{holds_calls};
 ghost use Rattle.safl_lower.specs.Lowering.{shown, HasPorts, Shaped, Shows, Enters, Leaves};
 ghost use Rattle.safl_lower.specs.Joining.{is_reached, selects_yes, selects_no, selected_ready, selected_word, BothNever, AddsCall, AddsTailCall};
-ghost use Rattle.safl_lower.specs.Sources.{IsSource, Builds, HasRoom};
+ghost use Rattle.safl_lower.specs.Sources.{IsSource, Builds, CanGrow};
 
 use crate::gates::{and_not, both, inverse, mux};
 use crate::holding::holds_calls;
@@ -35,12 +34,10 @@ pub fn branch_paths(
     yes: &Term,
     no: &Term,
 ) -> Result<Paths, NoMemory>
-    requires tidy { IsTidy net.old }
     requires path { IsSource net.old path 1 }
     requires ready { ReadyAt net.old test.ready }
     requires test { IsSource net.old test.value 1 }
-    requires room { HasRoom net.old 4 }
-    ensures tidy { IsTidy net.new }
+    requires room { CanGrow net.old 4 }
     ensures built { Builds net.old net.new 4 }
     ensures widths { IfOk result (λ p. IsSource net.new p.yes 1 × IsSource net.new p.no 1) }
     ensures yes { IfOk result (λ p. holds_calls (shown_term yes.now) ≡ true → (v : Val) → Wired net.new v → on v p.yes ≡ selects_yes v path test) }
@@ -73,11 +70,9 @@ pub fn branch_paths(
 /// The path of the body of a let: where the let has its path and the bindings are ready. A body that holds no calls
 /// keeps the let's path.
 pub fn body_path(net: &mut Net, path: Sig, bound: Readiness, body: &Term) -> Result<Sig, NoMemory>
-    requires tidy { IsTidy net.old }
     requires path { IsSource net.old path 1 }
     requires ready { ReadyAt net.old bound }
-    requires room { HasRoom net.old 1 }
-    ensures tidy { IsTidy net.new }
+    requires room { CanGrow net.old 1 }
     ensures built { Builds net.old net.new 1 }
     ensures fits { IfOk result (λ s. IsSource net.new s 1) }
     ensures value { IfOk result (λ s. holds_calls (shown_term body.now) ≡ true → (v : Val) → Wired net.new v → on v s ≡ is_reached v path bound) }
@@ -91,12 +86,10 @@ pub fn body_path(net: &mut Net, path: Sig, bound: Readiness, body: &Term) -> Res
 
 /// The value and the readiness of a choice.
 pub fn choose(net: &mut Net, test: Lowered, yes: Lowered, no: Lowered) -> Result<Lowered, NoMemory>
-    requires tidy { IsTidy net.old }
     requires ready { ReadyAt net.old test.ready }
     requires test { IsSource net.old test.value 1 }
     requires branches { (w : ℕ) × Shaped net.old yes w × Shaped net.old no w }
-    requires room { HasRoom net.old 5 }
-    ensures tidy { IsTidy net.new }
+    requires room { CanGrow net.old 5 }
     ensures built { Builds net.old net.new 5 }
     ensures shape { (w : ℕ) → Shaped net.old yes w → Shaped net.old no w → IfOk result (λ r. Shaped net.new r w) }
     ensures value { IfOk result (λ r. (v : Val) → Wired net.new v
@@ -111,11 +104,9 @@ pub fn choose(net: &mut Net, test: Lowered, yes: Lowered, no: Lowered) -> Result
 
 // The value of a choice: that of the branch that the bit selects, where it is ready.
 fn choose_value(net: &mut Net, c: Sig, yes: Lowered, no: Lowered) -> Result<Sig, NoMemory>
-    requires tidy { IsTidy net.old }
     requires test { IsSource net.old c 1 }
     requires branches { (w : ℕ) × Shaped net.old yes w × Shaped net.old no w }
-    requires room { HasRoom net.old 1 }
-    ensures tidy { IsTidy net.new }
+    requires room { CanGrow net.old 1 }
     ensures built { Builds net.old net.new 1 }
     ensures fits { (w : ℕ) → Shaped net.old yes w → Shaped net.old no w → IfOk result (λ s. (BothNever yes no → ⊥) → IsSource net.new s w) }
     ensures value { IfOk result (λ s. (v : Val) → Wired net.new v → selected_ready v c yes no ≡ true → v s.0 ≡ selected_word v c yes no) }
@@ -137,12 +128,10 @@ pub fn ask(
     site: u32,
     all: LoweredAll,
 ) -> Result<Lowered, NoMemory>
-    requires tidy { IsTidy net.old }
     requires path { IsSource net.old path 1 }
     requires all { ReadyAt net.old all.ready }
     requires site { HasPorts net.old sites.now site }
-    requires room { HasRoom net.old 3 }
-    ensures tidy { IsTidy net.new }
+    requires room { CanGrow net.old 3 }
     ensures built { Builds net.old net.new 3 }
     ensures given { IfOk result (λ r. Shows sites.now site r) }
     ensures entry { IfOk result (λ _. Enters net.new out.old.wants.items out.new.wants.items site all) }
@@ -172,11 +161,9 @@ pub fn go_on(
     member: u32,
     all: LoweredAll,
 ) -> Result<Lowered, NoMemory>
-    requires tidy { IsTidy net.old }
     requires path { IsSource net.old path 1 }
     requires all { ReadyAt net.old all.ready }
-    requires room { HasRoom net.old 1 }
-    ensures tidy { IsTidy net.new }
+    requires room { CanGrow net.old 1 }
     ensures built { Builds net.old net.new 1 }
     ensures never { IfOk result (λ r. r.ready ≡ Readiness.Never) }
     ensures entry { IfOk result (λ _. Leaves net.new out.old.loops.items out.new.loops.items path member all) }

@@ -2,10 +2,9 @@
 
 ghost use Rattle.std.specs.Prelude.{◌≡◌, ℕ, ◌+◌, ◌<◌, ◌++◌, List, ◌∷◌, Some, length, IfOk, OnOk};
 ghost use Rattle.std.specs.Option.{option_or, unwrap_or};
-ghost use Rattle.safl_net.specs.Names.{IsTidy};
 ghost use Rattle.safl_net.specs.Growth.{Val, words, Wired};
 ghost use Rattle.safl_net.specs.Bits.{on, gate};
-ghost use Rattle.safl_lower.specs.Sources.{IsSource, AreSources, Builds, HasRoom};
+ghost use Rattle.safl_lower.specs.Sources.{IsSource, AreSources, Builds, CanGrow};
 ghost use Rattle.safl_lower.specs.Heights.{AllWithin, own_parts, load_parts};
 ghost use Rattle.safl_lower.specs.Tables.{taken, taken_in, LoadFits, FitsIn, SomeFit, BitsFit, JoinsBit, JoinsLoad, KeepsWidths};
 
@@ -37,12 +36,10 @@ pub fn add_bit(
     place: usize,
     bit: Sig,
 ) -> Result<(), NoMemory>
-    requires tidy { IsTidy net.old }
     requires place { place < length bits.old.items }
     requires fits { BitsFit net.old bits.old.items }
     requires bit { IsSource net.old bit 1 }
-    requires room { HasRoom net.old 1 }
-    ensures tidy { IsTidy net.new }
+    requires room { CanGrow net.old 1 }
     ensures built { Builds net.old net.new 1 }
     ensures count { length bits.new.items ≡ length bits.old.items }
     ensures fits { OnOk result (BitsFit net.new bits.new.items) }
@@ -62,12 +59,10 @@ pub fn add_load(
     bit: Sig,
     operands: &[Sig],
 ) -> Result<(), NoMemory>
-    requires tidy { IsTidy net.old }
     requires place { place < length loads.old.items }
     requires fits { (ws : ℕ → List ℕ) × SomeFit net.old loads.old.items ws × AreSources net.old operands.now (ws place) }
     requires bit { IsSource net.old bit 1 }
-    requires room { HasRoom net.old (1 + length operands.now) }
-    ensures tidy { IsTidy net.new }
+    requires room { CanGrow net.old (1 + length operands.now) }
     ensures built { Builds net.old net.new (1 + length operands.now) }
     ensures count { length loads.new.items ≡ length loads.old.items }
     ensures fits { KeepsWidths result net.old net.new place operands.now loads.old.items loads.new.items }
@@ -86,11 +81,9 @@ pub fn joined(
     bit: Sig,
     operands: &[Sig],
 ) -> Result<Load, NoMemory>
-    requires tidy { IsTidy net.old }
     requires fits { (ws : List ℕ) × FitsIn net.old load.now ws × AreSources net.old operands.now ws }
     requires bit { IsSource net.old bit 1 }
-    requires room { HasRoom net.old (1 + length operands.now) }
-    ensures tidy { IsTidy net.new }
+    requires room { CanGrow net.old (1 + length operands.now) }
     ensures built { Builds net.old net.new (1 + length operands.now) }
     ensures fits { (ws : List ℕ) → FitsIn net.old load.now ws → AreSources net.old operands.now ws → IfOk result (λ l. LoadFits net.new l ws) }
     ensures shows { IfOk result (λ l. (v : Val) → Wired net.new v
@@ -117,10 +110,8 @@ pub fn load_words(
     load: &Option<Load>,
     operands: &[Sig],
 ) -> Result<Vec<Sig>, NoMemory>
-    requires tidy { IsTidy net.old }
     requires fits { (ws : List ℕ) × FitsIn net.old load.now ws × AreSources net.old operands.now ws }
-    requires room { HasRoom net.old (length operands.now) }
-    ensures tidy { IsTidy net.new }
+    requires room { CanGrow net.old (length operands.now) }
     ensures built { Builds net.old net.new (length operands.now) }
     ensures fits { (ws : List ℕ) → FitsIn net.old load.now ws → AreSources net.old operands.now ws → IfOk result (λ xs. AreSources net.new xs.items ws) }
     ensures shows { IfOk result (λ xs. (v : Val) → Wired net.new v → words v xs.items ≡ unwrap_or (taken_in v load.now) (words v operands.now)) }

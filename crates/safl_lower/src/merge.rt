@@ -3,7 +3,7 @@
 ghost use Rattle.std.specs.Prelude.{◌+◌, IfOk, OnOk, map};
 ghost use Rattle.safl_net.specs.Names.{IsTidy};
 ghost use Rattle.safl_net.specs.Growth.{Grows};
-ghost use Rattle.safl_lower.specs.Sources.{Builds, HasRoom};
+ghost use Rattle.safl_lower.specs.Sources.{Builds, CanGrow};
 ghost use Rattle.safl_lower.specs.Typing.{Owner};
 ghost use Rattle.safl_lower.specs.Entries.{Between, member_of, LoopsFit, cost};
 ghost use Rattle.safl_lower.specs.Loads.{Merged};
@@ -23,10 +23,9 @@ pub fn merge(
     members: u32,
     calls: &[TailCall],
 ) -> Result<Vec<Option<Load>>, NoMemory>
-    requires tidy { IsTidy net.old }
     requires fit { (F : Owner) × LoopsFit F net.old calls.now }
     requires within { Between first (first + members) (map member_of calls.now) }
-    requires room { HasRoom net.old (cost calls.now) }
+    requires room { CanGrow net.old (cost calls.now) }
     ensures tidy { IsTidy net.new }
     ensures grows { Grows net.old net.new }
     ensures built { OnOk result (Builds net.old net.new (cost calls.now)) }

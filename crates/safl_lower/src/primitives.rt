@@ -3,9 +3,9 @@
 ghost use Rattle.std.specs.Prelude.{◌≡◌, ℕ, ◌<◌, ◌≤◌, List, Some, IfOk};
 ghost use Rattle.safl_word.specs.Words.{max_width};
 ghost use Rattle.safl_word.specs.Primitives.{apply_prim, result_width};
-ghost use Rattle.safl_net.specs.Names.{IsTidy};
-ghost use Rattle.safl_net.specs.Growth.{Val, words, Wired};
-ghost use Rattle.safl_lower.specs.Sources.{IsSource, AreSources, Builds, HasRoom};
+ghost use Rattle.safl_net.specs.Growth.{Val, Wired};
+ghost use Rattle.safl_lower.specs.Sources.{IsSource, Builds, CanGrow};
+ghost use Rattle.safl_lower.specs.Operations.{CanOperate, GivesWord};
 
 use crate::gates::{constant, operate};
 use crate::shifts::shift;
@@ -14,13 +14,10 @@ use safl_word::{NoMemory, Primitive, Word};
 
 /// The word of a primitive.
 pub fn apply(net: &mut Net, primitive: Primitive, operands: &[Sig]) -> Result<Sig, NoMemory>
-    requires tidy { IsTidy net.old }
-    requires sized { (ws : List ℕ) × (w : ℕ) × AreSources net.old operands.now ws × (result_width primitive ws ≡ Some w) }
-    requires room { HasRoom net.old 5 }
-    ensures tidy { IsTidy net.new }
+    requires sized { CanOperate net.old (result_width primitive) operands.now }
+    requires room { CanGrow net.old 5 }
     ensures built { Builds net.old net.new 5 }
-    ensures fits { (ws : List ℕ) (w : ℕ) → AreSources net.old operands.now ws → result_width primitive ws ≡ Some w → IfOk result (λ s. IsSource net.new s w) }
-    ensures value { IfOk result (λ s. (v : Val) → Wired net.new v → v s.0 ≡ apply_prim primitive (words v operands.now)) }
+    ensures word { GivesWord result net.old net.new (result_width primitive) (apply_prim primitive) operands.now }
 {
     match primitive {
         Primitive::Ext(width) => extend(net, operands[0], width),
@@ -31,11 +28,9 @@ pub fn apply(net: &mut Net, primitive: Primitive, operands: &[Sig]) -> Result<Si
 
 // The word with zeros before it, `width` bits in all; the word itself where it has as many.
 fn extend(net: &mut Net, a: Sig, width: u8) -> Result<Sig, NoMemory>
-    requires tidy { IsTidy net.old }
     requires narrow { (w : ℕ) × IsSource net.old a w × (1 ≤ w) × (w ≤ width) }
     requires bounded { width ≤ max_width }
-    requires room { HasRoom net.old 2 }
-    ensures tidy { IsTidy net.new }
+    requires room { CanGrow net.old 2 }
     ensures built { Builds net.old net.new 2 }
     ensures fits { IfOk result (λ s. IsSource net.new s width) }
     ensures value { IfOk result (λ s. (v : Val) → Wired net.new v → v s.0 ≡ record { width = width; bits = (v a.0).bits }) }

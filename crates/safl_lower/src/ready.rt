@@ -1,11 +1,10 @@
 //! Readiness, of which most needs no cell.
 
 ghost use Rattle.std.specs.Prelude.{◌≡◌, ◌⊎◌, ◌↔◌, ◌<◌, ◌&&◌, cond, IfOk};
-ghost use Rattle.safl_net.specs.Names.{IsTidy};
 ghost use Rattle.safl_net.specs.Growth.{Val, Wired};
 ghost use Rattle.safl_net.specs.Bits.{on};
 ghost use Rattle.safl_lower.specs.Bits.{is_ready, ReadyAt};
-ghost use Rattle.safl_lower.specs.Sources.{IsSource, Builds, HasRoom};
+ghost use Rattle.safl_lower.specs.Sources.{IsSource, Builds, CanGrow};
 
 use crate::gates::{and_not, both, either, inverse, mux, or_not, zero};
 use crate::parts::Readiness;
@@ -14,11 +13,9 @@ use safl_word::NoMemory;
 
 /// The bit that is 1 where the first is and the other is ready.
 pub fn and_ready(net: &mut Net, a: Sig, r: Readiness) -> Result<Sig, NoMemory>
-    requires tidy { IsTidy net.old }
     requires first { IsSource net.old a 1 }
     requires second { ReadyAt net.old r }
-    requires room { HasRoom net.old 1 }
-    ensures tidy { IsTidy net.new }
+    requires room { CanGrow net.old 1 }
     ensures built { Builds net.old net.new 1 }
     ensures fits { IfOk result (λ s. IsSource net.new s 1) }
     ensures value { IfOk result (λ s. (v : Val) → Wired net.new v → on v s ≡ (on v a && is_ready v r)) }
@@ -32,11 +29,9 @@ pub fn and_ready(net: &mut Net, a: Sig, r: Readiness) -> Result<Sig, NoMemory>
 
 /// Ready where both are.
 pub fn both_ready(net: &mut Net, q: Readiness, r: Readiness) -> Result<Readiness, NoMemory>
-    requires tidy { IsTidy net.old }
     requires first { ReadyAt net.old q }
     requires second { ReadyAt net.old r }
-    requires room { HasRoom net.old 1 }
-    ensures tidy { IsTidy net.new }
+    requires room { CanGrow net.old 1 }
     ensures built { Builds net.old net.new 1 }
     ensures fits { IfOk result (λ s. ReadyAt net.new s) }
     ensures value { IfOk result (λ s. (v : Val) → Wired net.new v → is_ready v s ≡ (is_ready v q && is_ready v r)) }
@@ -57,12 +52,10 @@ pub fn either_ready(
     yes: Readiness,
     no: Readiness,
 ) -> Result<Readiness, NoMemory>
-    requires tidy { IsTidy net.old }
     requires test { IsSource net.old c 1 }
     requires yes { ReadyAt net.old yes }
     requires no { ReadyAt net.old no }
-    requires room { HasRoom net.old 2 }
-    ensures tidy { IsTidy net.new }
+    requires room { CanGrow net.old 2 }
     ensures built { Builds net.old net.new 2 }
     ensures fits { IfOk result (λ s. ReadyAt net.new s) }
     ensures value { IfOk result (λ s. (v : Val) → Wired net.new v → is_ready v s ≡ cond (on v c) (is_ready v yes) (is_ready v no)) }

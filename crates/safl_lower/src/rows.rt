@@ -2,7 +2,7 @@
 
 ghost use Rattle.std.specs.Prelude.{◌≡◌, ℕ, ◌+◌, ◌*◌, ◌<◌, ◌≤◌, ◌==◌, ◌++◌, List, [], ◌∷◌, cond, length, slice_get, IfOk, OnOk};
 ghost use Rattle.safl_net.specs.Names.{IsTidy};
-ghost use Rattle.safl_lower.specs.Sources.{Builds, HasRoom};
+ghost use Rattle.safl_lower.specs.Sources.{Builds, CanGrow};
 ghost use Rattle.safl_lower.specs.Tables.{FitsIn, SomeFit, load_in, sig_in};
 ghost use Rattle.safl_lower.specs.Rows.{AreBits, AllFit, maybe_one, bit_joins, load_joins, row_at, total, RowsAreBits, RowsFit};
 ghost use Rattle.safl_lower.specs.Joints.{IsAnyOf, IsFirstOf, IsSeveralIn, several_in};
@@ -74,9 +74,8 @@ pub fn push_load(rows: &mut Vec<Vec<Load>>, place: usize, load: Load) -> Result<
 
 /// The bit that is 1 where one of these is; none where there are none.
 pub fn any_or_none(net: &mut Net, bits: &[Sig]) -> Result<Option<Sig>, NoMemory>
-    requires tidy { IsTidy net.old }
     requires bits { AreBits net.old bits.now }
-    requires room { HasRoom net.old (bit_joins bits.now) }
+    requires room { CanGrow net.old (bit_joins bits.now) }
     ensures tidy { IsTidy net.new }
     ensures built { OnOk result (Builds net.old net.new (bit_joins bits.now)) }
     ensures joined { IfOk result (λ b. IsAnyOf net.new bits.now b) }
@@ -90,9 +89,8 @@ pub fn any_or_none(net: &mut Net, bits: &[Sig]) -> Result<Option<Sig>, NoMemory>
 
 /// The first of these loads that is taken; none where there are none.
 pub fn first_or_none(alloc: Global, net: &mut Net, loads: &[Load]) -> Result<Option<Load>, NoMemory>
-    requires tidy { IsTidy net.old }
     requires fits { (ws : List ℕ) × AllFit net.old loads.now ws }
-    requires room { HasRoom net.old (load_joins loads.now) }
+    requires room { CanGrow net.old (load_joins loads.now) }
     ensures tidy { IsTidy net.new }
     ensures built { OnOk result (Builds net.old net.new (load_joins loads.now)) }
     ensures fits { (ws : List ℕ) → AllFit net.old loads.now ws → IfOk result (λ o. FitsIn net.new o ws) }
@@ -111,9 +109,8 @@ pub fn join_bits(
     net: &mut Net,
     rows: &[Vec<Sig>],
 ) -> Result<Vec<Option<Sig>>, NoMemory>
-    requires tidy { IsTidy net.old }
     requires fits { RowsAreBits net.old rows.now }
-    requires room { HasRoom net.old (total bit_joins rows.now) }
+    requires room { CanGrow net.old (total bit_joins rows.now) }
     ensures tidy { IsTidy net.new }
     ensures built { OnOk result (Builds net.old net.new (total bit_joins rows.now)) }
     ensures count { IfOk result (λ bits. length bits.items ≡ length rows.now) }
@@ -133,9 +130,8 @@ pub fn join_loads(
     net: &mut Net,
     rows: &[Vec<Load>],
 ) -> Result<Vec<Option<Load>>, NoMemory>
-    requires tidy { IsTidy net.old }
     requires fits { (ws : ℕ → List ℕ) × RowsFit net.old rows.now ws }
-    requires room { HasRoom net.old (total load_joins rows.now) }
+    requires room { CanGrow net.old (total load_joins rows.now) }
     ensures tidy { IsTidy net.new }
     ensures built { OnOk result (Builds net.old net.new (total load_joins rows.now)) }
     ensures count { IfOk result (λ all. length all.items ≡ length rows.now) }
@@ -152,9 +148,8 @@ pub fn join_loads(
 
 /// Whether one of these bits is 1, and whether two are; none where there are no bits.
 pub fn several_or_none(net: &mut Net, bits: &[Sig]) -> Result<Option<Several>, NoMemory>
-    requires tidy { IsTidy net.old }
     requires bits { AreBits net.old bits.now }
-    requires room { HasRoom net.old (4 * bit_joins bits.now) }
+    requires room { CanGrow net.old (4 * bit_joins bits.now) }
     ensures tidy { IsTidy net.new }
     ensures built { OnOk result (Builds net.old net.new (4 * bit_joins bits.now)) }
     ensures joined { IfOk result (λ s. IsSeveralIn net.new bits.now s) }
@@ -172,9 +167,8 @@ pub fn join_several(
     net: &mut Net,
     rows: &[Vec<Sig>],
 ) -> Result<Vec<Option<Several>>, NoMemory>
-    requires tidy { IsTidy net.old }
     requires fits { RowsAreBits net.old rows.now }
-    requires room { HasRoom net.old (4 * total bit_joins rows.now) }
+    requires room { CanGrow net.old (4 * total bit_joins rows.now) }
     ensures tidy { IsTidy net.new }
     ensures built { OnOk result (Builds net.old net.new (4 * total bit_joins rows.now)) }
     ensures count { IfOk result (λ all. length all.items ≡ length rows.now) }

@@ -3,9 +3,9 @@
 ghost use Rattle.std.specs.Prelude.{◌≡◌, ℕ, ◌≤◌, List, Some, IfOk, slice_index_or};
 ghost use Rattle.safl_word.specs.Words.{max_width};
 ghost use Rattle.safl_word.specs.Primitives.{apply_prim, result_width};
-ghost use Rattle.safl_net.specs.Names.{IsTidy};
-ghost use Rattle.safl_net.specs.Growth.{Val, words, Wired};
-ghost use Rattle.safl_lower.specs.Sources.{IsSource, AreSources, Builds, HasRoom};
+ghost use Rattle.safl_net.specs.Growth.{Val, Wired};
+ghost use Rattle.safl_lower.specs.Sources.{IsSource, Builds, CanGrow};
+ghost use Rattle.safl_lower.specs.Operations.{CanOperate, GivesWord};
 ghost use Rattle.safl_lower.specs.Shifts.{IsShift, ShiftAlike, IsAmount, ShiftsIt};
 
 use crate::gates::{constant, operate};
@@ -17,14 +17,11 @@ const WIDEST_AMOUNT: u8 = 32;
 
 /// The word of a shift, whose cell reads an amount of at most 32 bits.
 pub fn shift(net: &mut Net, primitive: Primitive, operands: &[Sig]) -> Result<Sig, NoMemory>
-    requires tidy { IsTidy net.old }
     requires kind { IsShift primitive }
-    requires sized { (ws : List ℕ) × (w : ℕ) × AreSources net.old operands.now ws × (result_width primitive ws ≡ Some w) }
-    requires room { HasRoom net.old 5 }
-    ensures tidy { IsTidy net.new }
+    requires sized { CanOperate net.old (result_width primitive) operands.now }
+    requires room { CanGrow net.old 5 }
     ensures built { Builds net.old net.new 5 }
-    ensures fits { (ws : List ℕ) (w : ℕ) → AreSources net.old operands.now ws → result_width primitive ws ≡ Some w → IfOk result (λ s. IsSource net.new s w) }
-    ensures value { IfOk result (λ s. (v : Val) → Wired net.new v → v s.0 ≡ apply_prim primitive (words v operands.now)) }
+    ensures word { GivesWord result net.old net.new (result_width primitive) (apply_prim primitive) operands.now }
     ensures narrow { IfOk result (λ s. ShiftsIt net.new s (slice_index_or operands.now 0 (record { 0 = 0 }))) }
 {
     let amount = cut_down(net, operands[1])?;
@@ -34,10 +31,8 @@ pub fn shift(net: &mut Net, primitive: Primitive, operands: &[Sig]) -> Result<Si
 // A signal of at most 32 bits that shifts as `b` does: `b` itself if it is as narrow, and else its low 8 bits, after a
 // bit that is 1 where they do not hold all of it. No word has 256 bits, so that bit moves each bit out.
 fn cut_down(net: &mut Net, b: Sig) -> Result<Sig, NoMemory>
-    requires tidy { IsTidy net.old }
     requires sized { (u : ℕ) × IsSource net.old b u × (1 ≤ u) × (u ≤ max_width) }
-    requires room { HasRoom net.old 4 }
-    ensures tidy { IsTidy net.new }
+    requires room { CanGrow net.old 4 }
     ensures built { Builds net.old net.new 4 }
     ensures narrow { IfOk result (λ s. IsAmount net.new s) }
     ensures value { IfOk result (λ s. (v : Val) → Wired net.new v → ShiftAlike (v b.0).bits (v s.0).bits) }

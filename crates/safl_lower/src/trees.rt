@@ -1,14 +1,14 @@
 //! Trees: bits and loads in a row are joined by halves, so that few gates stand one after another.
 
-ghost use Rattle.std.specs.Prelude.{◌≡◌, ℕ, ◌+◌, ◌*◌, ◌<◌, ◌≤◌, ◌^◌, ◌++◌, List, map, length, IfOk, OnOk};
+ghost use Rattle.std.specs.Prelude.{◌≡◌, ℕ, ◌+◌, ◌*◌, ◌<◌, ◌≤◌, ◌^◌, ◌++◌, List, map, length, Some, IfOk, OnOk};
 ghost use Rattle.safl_net.specs.Names.{IsTidy};
 ghost use Rattle.safl_net.specs.Growth.{Val, Wired};
 ghost use Rattle.safl_net.specs.Bits.{on};
-ghost use Rattle.safl_lower.specs.Sources.{IsSource, Builds, HasRoom};
+ghost use Rattle.safl_lower.specs.Sources.{IsSource, Builds, CanGrow};
 ghost use Rattle.safl_lower.specs.Tables.{taken, LoadFits};
-ghost use Rattle.safl_lower.specs.Heights.{Within, AllWithin, StaysWithin, own_parts, parts};
-ghost use Rattle.safl_lower.specs.Joints.{IsSeveralOf};
-ghost use Rattle.safl_lower.specs.Rows.{AreBits, on_any, frees, AllFit, first_taken, bit_joins, load_joins};
+ghost use Rattle.safl_lower.specs.Heights.{Within, AllWithin, own_parts, parts};
+ghost use Rattle.safl_lower.specs.Joints.{IsAnyOf, IsSeveralOf, AddsFrees};
+ghost use Rattle.safl_lower.specs.Rows.{AreBits, on_any, AllFit, first_taken, bit_joins, load_joins};
 
 use crate::gates::{both, either, inverse, or_some};
 use crate::loads::{Load, joined};
@@ -18,10 +18,9 @@ use std::alloc::Global;
 
 /// The bit that is 1 where one of these is. Of at most 2 ^ h bits, it stands at most h gates above them.
 pub fn any_of(net: &mut Net, bits: &[Sig]) -> Result<Sig, NoMemory>
-    requires tidy { IsTidy net.old }
     requires some { 0 < length bits.now }
     requires bits { AreBits net.old bits.now }
-    requires room { HasRoom net.old (bit_joins bits.now) }
+    requires room { CanGrow net.old (bit_joins bits.now) }
     ensures tidy { IsTidy net.new }
     ensures built { OnOk result (Builds net.old net.new (bit_joins bits.now)) }
     ensures fits { IfOk result (λ s. IsSource net.new s 1) }
@@ -47,10 +46,9 @@ pub struct Several {
 
 /// Whether one of these bits is 1, and whether two are.
 pub fn several_of(net: &mut Net, bits: &[Sig]) -> Result<Several, NoMemory>
-    requires tidy { IsTidy net.old }
     requires some { 0 < length bits.now }
     requires bits { AreBits net.old bits.now }
-    requires room { HasRoom net.old (4 * bit_joins bits.now) }
+    requires room { CanGrow net.old (4 * bit_joins bits.now) }
     ensures tidy { IsTidy net.new }
     ensures built { OnOk result (Builds net.old net.new (4 * bit_joins bits.now)) }
     ensures joined { IfOk result (λ s. IsSeveralOf net.new bits.now s) }
@@ -83,21 +81,15 @@ pub fn free_before(
     free: Sig,
     out: &mut Vec<Sig>,
 ) -> Result<Sig, NoMemory>
-    requires tidy { IsTidy net.old }
     requires some { 0 < length bits.now }
     requires bits { AreBits net.old bits.now }
     requires free { IsSource net.old free 1 }
     requires out { AreBits net.old out.old.items }
-    requires room { HasRoom net.old (3 * bit_joins bits.now) }
+    requires room { CanGrow net.old (3 * bit_joins bits.now) }
     ensures tidy { IsTidy net.new }
     ensures built { OnOk result (Builds net.old net.new (3 * bit_joins bits.now)) }
-    ensures fits { IfOk result (λ s. IsSource net.new s 1) }
-    ensures out { OnOk result (AreBits net.new out.new.items) }
-    ensures long { OnOk result (length out.new.items ≡ length out.old.items + length bits.now) }
-    ensures value { IfOk result (λ s. (v : Val) → Wired net.new v → on v s ≡ on_any v bits.now) }
-    ensures frees { OnOk result ((v : Val) → Wired net.new v → map (on v) out.new.items ≡ map (on v) out.old.items ++ frees v (on v free) bits.now) }
-    ensures height { (h : ℕ) → length bits.now ≤ 2 ^ h → IfOk result (λ s. Within net.new bits.now h s.0) }
-    ensures deep { StaysWithin result net.old net.new bits.now free out.old.items out.new.items }
+    ensures any { IfOk result (λ s. IsAnyOf net.new bits.now (Some s)) }
+    ensures frees { OnOk result (AddsFrees net.old net.new bits.now free out.old.items out.new.items) }
 {
     if bits.len() == 1 {
         out.push(free)?;
@@ -115,10 +107,9 @@ pub fn free_before(
 /// A load of several, of which the first that is taken counts. Of at most 2 ^ h loads, its bit and its words stand at
 /// most h gates above theirs.
 pub fn first_of(alloc: Global, net: &mut Net, loads: &[Load]) -> Result<Load, NoMemory>
-    requires tidy { IsTidy net.old }
     requires some { 0 < length loads.now }
     requires fits { (ws : List ℕ) × AllFit net.old loads.now ws }
-    requires room { HasRoom net.old (load_joins loads.now) }
+    requires room { CanGrow net.old (load_joins loads.now) }
     ensures tidy { IsTidy net.new }
     ensures built { OnOk result (Builds net.old net.new (load_joins loads.now)) }
     ensures fits { (ws : List ℕ) → AllFit net.old loads.now ws → IfOk result (λ l. LoadFits net.new l ws) }

@@ -1,5 +1,5 @@
 -- The states of the registers, by register and by place.
-use Rattle.std.specs.Prelude.{◌≡◌, ℕ, ◌^◌, ◌<◌, List, [], ◌∷◌, length, replicate, Some, true, slice_get, slice_set, slice_index}
+use Rattle.std.specs.Prelude.{◌≡◌, ℕ, ◌*◌, ◌^◌, ◌<◌, ◌≤◌, List, [], ◌∷◌, length, replicate, Some, true, slice_get, slice_set, slice_index}
 use Rattle.safl_net.specs.Netlist.{Netlist}
 use Rattle.safl_net.specs.Valuations.{kind_reset}
 use Rattle.safl_net.specs.Making.{kind_at}
@@ -35,6 +35,27 @@ AreLow regs values numbers = (k : ℕ) (r : Register) → slice_get regs k ≡ S
 -- and so have their next signals
 abbrev pub HaveLowNexts : List Register → List ℕ → Type 0
 HaveLowNexts regs values = (k : ℕ) (r : Register) → slice_get regs k ≡ Some r → r.narrow ≡ true → slice_index values r.next.0 < 2 ^ 64
+
+-- these values and states can be those of the registers: no place is beyond the values, and none is of two registers
+pub record CanShow (regs : List Register) (values state : List ℕ) : Type 0 where
+  pub within : AreBelow regs (length values)
+  pub once : AreOnce regs
+  pub low : AreLow regs values state
+
+-- the registers can take their next states from these values: each has a state and a mark to wait by
+pub record CanKeep (regs : List Register) (values state marks waiting : List ℕ) : Type 0 where
+  pub few : length marks ≤ 2 ^ 32
+  pub room : length regs ≤ length waiting * 64
+  pub states : length state ≡ length regs
+  pub within : AreBelow regs (length values)
+  pub next : HaveNextsBelow regs (length values)
+  pub low : HaveLowNexts regs values
+  pub once : AreOnce regs
+
+-- there are as many words of marks as before, and of marks by which registers wait
+pub record AsManyMarks (old new wait wait' : List ℕ) : Type 0 where
+  pub marks : length new ≡ length old
+  pub waiting : length wait' ≡ length wait
 
 -- the first of the registers have their number at reset
 pub record AreReset (n : Netlist) (regs : List Register) (count : ℕ) (numbers : List ℕ) : Type 0 where

@@ -9,7 +9,7 @@ ghost use Rattle.safl_sim.specs.Places.{AreInputs};
 ghost use Rattle.safl_sim.specs.Marks.{marked, first_register};
 ghost use Rattle.safl_sim.specs.Steps.{Waits, Ready, LowStep, is_low, action_number};
 ghost use Rattle.safl_sim.specs.Cycles.{KeepsStates, CyclesAgain, CyclesWith};
-ghost use Rattle.safl_sim.specs.States.{AreAt, AreOnce, AreLow, HaveLowNexts, AreBelow, HaveNextsBelow};
+ghost use Rattle.safl_sim.specs.States.{AreAt, AreLow, HaveLowNexts, HaveNextsBelow, CanShow, CanKeep, AsManyMarks};
 ghost use Rattle.safl_sim.specs.Writes.{HasPut, after_steps, AllReady, IsKeeping, KeepsUpTo};
 ghost use Rattle.safl_sim.specs.Plans.{Gives, HasLists, InputsGoOn, HasGroup, IsShowing, ShowsUpTo, RegistersGoOn};
 ghost use Rattle.safl_sim.specs.Plans.{ShowsAll, Evaluates, HasMask, IsRunning, RunsUpTo, RunsAll, RunsPlan};
@@ -126,12 +126,9 @@ pub fn show_word(
     requires word { word < length waiting.old }
     requires few { length waiting.old ≤ 2 ^ 32 }
     requires lists { HasLists plan.now values.old marks.old }
-    requires within { AreBelow plan.now.registers.items (length values.old) }
-    requires once { AreOnce plan.now.registers.items }
-    requires low { AreLow plan.now.registers.items values.old state.now }
+    requires registers { CanShow plan.now.registers.items values.old state.now }
     requires shows { IsShowing plan.now state.now (word * 64) values.old waiting.old }
-    ensures long { length marks.new ≡ length marks.old }
-    ensures room { length waiting.new ≡ length waiting.old }
+    ensures count { AsManyMarks marks.old marks.new waiting.old waiting.new }
     ensures low { AreLow plan.now.registers.items values.new state.now }
     ensures shows { ShowsUpTo plan.now state.now (word * 64) ((word + 1) * 64) values.old values.new waiting.old waiting.new }
     ensures goes { RegistersGoOn plan.now state.now values.old values.new marks.old marks.new }
@@ -165,12 +162,9 @@ pub fn show_registers(
     state: &[Raw],
 )
     requires lists { HasLists plan.now values.old marks.old }
-    requires within { AreBelow plan.now.registers.items (length values.old) }
-    requires once { AreOnce plan.now.registers.items }
-    requires low { AreLow plan.now.registers.items values.old state.now }
+    requires registers { CanShow plan.now.registers.items values.old state.now }
     requires waits { (now : List ℕ) × AreAt plan.now.registers.items state.now now × Waits plan.now.registers.items now values.old waiting.old }
-    ensures long { length marks.new ≡ length marks.old }
-    ensures room { length waiting.new ≡ length waiting.old }
+    ensures count { AsManyMarks marks.old marks.new waiting.old waiting.new }
     ensures none { (k : ℕ) → marked waiting.new k ≡ 0 }
     ensures shown { ShowsAll plan.now state.now values.old values.new waiting.old }
     ensures goes { RegistersGoOn plan.now state.now values.old values.new marks.old marks.new }
@@ -224,16 +218,9 @@ pub fn keep_word(
 )
     requires after { first ≤ word }
     requires word { word < length marks.old }
-    requires few { length marks.old ≤ 2 ^ 32 }
-    requires room { length registers.now ≤ length waiting.old * 64 }
-    requires states { length state.old ≡ length registers.now }
-    requires within { AreBelow registers.now (length values.now) }
-    requires next { HaveNextsBelow registers.now (length values.now) }
-    requires low { HaveLowNexts registers.now values.now }
-    requires once { AreOnce registers.now }
+    requires registers { CanKeep registers.now values.now state.old marks.old waiting.old }
     requires keeps { (start was : List ℕ) × IsKeeping first registers.now values.now word start was state.old marks.old waiting.old }
-    ensures long { length marks.new ≡ length marks.old }
-    ensures room { length waiting.new ≡ length waiting.old }
+    ensures count { AsManyMarks marks.old marks.new waiting.old waiting.new }
     ensures keeps { KeepsUpTo first registers.now values.now word (word + 1) state.old state.new marks.old marks.new waiting.old waiting.new }
 {
     let mut held = marks.get(word);
@@ -260,16 +247,9 @@ pub fn keep_registers(
     first: usize,
 )
     requires first { first ≤ length marks.old }
-    requires few { length marks.old ≤ 2 ^ 32 }
-    requires room { length registers.now ≤ length waiting.old * 64 }
-    requires states { length state.old ≡ length registers.now }
-    requires within { AreBelow registers.now (length values.now) }
-    requires next { HaveNextsBelow registers.now (length values.now) }
-    requires low { HaveLowNexts registers.now values.now }
-    requires once { AreOnce registers.now }
+    requires registers { CanKeep registers.now values.now state.old marks.old waiting.old }
     requires keeps { (start was : List ℕ) × IsKeeping first registers.now values.now first start was state.old marks.old waiting.old }
-    ensures long { length marks.new ≡ length marks.old }
-    ensures room { length waiting.new ≡ length waiting.old }
+    ensures count { AsManyMarks marks.old marks.new waiting.old waiting.new }
     ensures keeps { KeepsUpTo first registers.now values.now first (length marks.new) state.old state.new marks.old marks.new waiting.old waiting.new }
 {
     let end = marks.count();

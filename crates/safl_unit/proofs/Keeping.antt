@@ -21,7 +21,7 @@ use Rattle.safl_unit.specs.declared.parts.Returns.{Returns}
 use Rattle.safl_unit.specs.declared.parts.Outcomes.{Outcomes}
 use Rattle.safl_unit.specs.declared.parts.Controls.{Controls}
 use Rattle.safl_unit.specs.Cycles.{UnitFits, MemberFits, SiteFits, BankFits, PinsFit, Cycle}
-use Rattle.safl_unit.specs.Stages.{PortFits, HasReturns, HasOutcomes, HasGoes, HasEnds, HasLoads, HasBits, HasNext}
+use Rattle.safl_unit.specs.Stages.{PortFits, GoesFit, HasReturns, HasOutcomes, HasGoes, HasEnds, HasLoads, HasBits, HasNext}
 use Rattle.safl_unit.specs.Finished.{ControlsFit}
 
 module _ {a b : Netlist} {most : ℕ} (h : Builds a b most) where
@@ -69,6 +69,9 @@ module _ {a b : Netlist} {most : ℕ} (h : Builds a b most) where
     };
     shows = λ v r i c. q.shows v r i (cycle_before c);
   }
+
+  pub goes_fit_kept : {C : Program} {goes : List Sig} → GoesFit C a goes → GoesFit C b goes
+  goes_fit_kept q = record { count = q.count; each = λ k l. source_kept h (q.each k l) }
 
   pub outcomes_kept : {C : Program} {P : Choice} {p : Pins} {o : Outcomes} → HasOutcomes C P a p o → HasOutcomes C P b p o
   outcomes_kept {C} {P} {p} {o} q = record {

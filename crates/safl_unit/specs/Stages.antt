@@ -75,12 +75,27 @@ pub record HasOutcomes (C : Program) (P : Choice) (n : Netlist) (p : Pins) (o : 
 
 -- ---- which sites start, main's call with number 0
 
+-- a bit for each site
+pub record GoesFit (C : Program) (n : Netlist) (goes : List Sig) : Type 0 where
+  pub count : length goes ≡ suc C.sites
+  pub each : (k : ℕ) → k ≤ C.sites → IsSource n (pin goes k) 1
+
 pub record HasGoes (C : Program) (P : Choice) (n : Netlist) (p : Pins) (goes : List Sig) : Type 0 where
   pub count : length goes ≡ suc C.sites
   pub fits : (k : ℕ) → k ≤ C.sites → IsSource n (pin goes k) 1
   pub shows : InEachCycle C P n p (λ v r i. (k : ℕ) → k ≤ C.sites → on v (pin goes k) ≡ go C P r i k)
 
 -- ---- the edge
+
+-- by unit, a load of its results' width, where there is one
+pub record EndsFit (C : Program) (n : Netlist) (all : List (Option Load)) : Type 0 where
+  pub count : length all ≡ C.functions
+  pub each : SomeFit n all (λ u. C.result u ∷ [])
+
+-- by unit or by function, a bit, where there is one
+pub record TestsFit (C : Program) (n : Netlist) (bits : List (Option Sig)) : Type 0 where
+  pub count : length bits ≡ C.functions
+  pub each : BitsFit n bits
 
 -- by unit: the word of the first member that ends
 pub record HasEnds (C : Program) (P : Choice) (n : Netlist) (p : Pins) (all : List (Option Load)) : Type 0 where

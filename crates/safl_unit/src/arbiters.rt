@@ -4,7 +4,7 @@ ghost use Rattle.std.specs.Prelude.{◌≡◌, ℕ, suc, ◌+◌, ◌*◌, ◌^�
 ghost use Rattle.safl_net.specs.Names.{IsTidy};
 ghost use Rattle.safl_net.specs.Growth.{Val, Wired};
 ghost use Rattle.safl_net.specs.Bits.{on};
-ghost use Rattle.safl_lower.specs.Sources.{IsSource, Builds, HasRoom};
+ghost use Rattle.safl_lower.specs.Sources.{IsSource, Builds, CanGrow};
 ghost use Rattle.safl_lower.specs.Heights.{AllWithin};
 ghost use Rattle.safl_lower.specs.Rows.{AreBits, frees, row_at};
 ghost use Rattle.safl_unit.specs.Arbiters.{site_row, tally, AreRanks, AllRowsFree};
@@ -61,10 +61,9 @@ pub fn unit_row(
     wants: &[Sig],
     run: Sig,
 ) -> Result<Vec<Sig>, NoMemory>
-    requires tidy { IsTidy net.old }
     requires wants { AreBits net.old wants.now }
     requires run { IsSource net.old run 1 }
-    requires room { HasRoom net.old (3 * length wants.now) }
+    requires room { CanGrow net.old (3 * length wants.now) }
     ensures tidy { IsTidy net.new }
     ensures built { OnOk result (Builds net.old net.new (3 * length wants.now)) }
     ensures fits { IfOk result (λ row. AreBits net.new row.items) }
@@ -92,11 +91,10 @@ pub fn unit_frees(
     pins: &Pins,
     rows: &Vec<Vec<Sig>>,
 ) -> Result<Vec<Vec<Sig>>, NoMemory>
-    requires tidy { IsTidy net.old }
     requires pins { PinsFit (program_in p.now) net.old pins.now }
     requires count { length rows.now.items ≡ (program_in p.now).functions }
     requires rows { (u : ℕ) → AreBits net.old (row_at rows.now.items u) }
-    requires room { HasRoom net.old (3 * tally (λ u. length (row_at rows.now.items u)) (program_in p.now).functions) }
+    requires room { CanGrow net.old (3 * tally (λ u. length (row_at rows.now.items u)) (program_in p.now).functions) }
     ensures tidy { IsTidy net.new }
     ensures built { OnOk result (Builds net.old net.new (3 * tally (λ u. length (row_at rows.now.items u)) (program_in p.now).functions)) }
     ensures done { IfOk result (λ out. AllRowsFree (program_in p.now) (choice_of p.now) net.new pins.now rows.now.items out.items) }

@@ -5,10 +5,10 @@ ghost use Rattle.safl_term.specs.Checked.{IsChecked};
 ghost use Rattle.safl_sites.specs.Plan.{IsPlan};
 ghost use Rattle.safl_sites.specs.Planned.{arbiter_of, kept_of};
 ghost use Rattle.safl_net.specs.Names.{IsTidy};
-ghost use Rattle.safl_lower.specs.Sources.{IsSource, Builds, HasRoom};
+ghost use Rattle.safl_lower.specs.Sources.{Builds, CanGrow};
 ghost use Rattle.safl_lower.specs.Rows.{maybe_one, row_at};
-ghost use Rattle.safl_lower.specs.Tables.{pin, load_in, IsBitIn, BitsFit, SomeFit, JoinsSome};
-ghost use Rattle.safl_unit.specs.Stages.{OutcomesFit};
+ghost use Rattle.safl_lower.specs.Tables.{load_in, IsBitIn, BitsFit, SomeFit, JoinsSome};
+ghost use Rattle.safl_unit.specs.Stages.{OutcomesFit, GoesFit};
 ghost use Rattle.safl_unit.specs.Edges.{bit_of, ShowsEnds, ShowsArguments, ShowsStarts, ShowsClears, ShowsEntries};
 ghost use Rattle.safl_unit.specs.Cycles.{program_in};
 
@@ -30,9 +30,8 @@ pub fn unit_ends(
     p: &Planned,
     outcomes: &Outcomes,
 ) -> Result<Vec<Option<Load>>, NoMemory>
-    requires tidy { IsTidy net.old }
     requires outcomes { OutcomesFit (program_in p.now) net.old outcomes.now }
-    requires room { HasRoom net.old (2 * (program_in p.now).functions) }
+    requires room { CanGrow net.old (2 * (program_in p.now).functions) }
     ensures tidy { IsTidy net.new }
     ensures built { OnOk result (Builds net.old net.new (2 * (program_in p.now).functions)) }
     ensures done { IfOk result (λ all. ShowsEnds (program_in p.now) net.new outcomes.now all.items) }
@@ -57,11 +56,9 @@ pub fn function_loads(
     outcomes: &Outcomes,
     goes: &[Sig],
 ) -> Result<Vec<Option<Load>>, NoMemory>
-    requires tidy { IsTidy net.old }
     requires outcomes { OutcomesFit (program_in p.now) net.old outcomes.now }
-    requires count { length goes.now ≡ suc (program_in p.now).sites }
-    requires goes { (k : ℕ) → k ≤ (program_in p.now).sites → IsSource net.old (pin goes.now k) 1 }
-    requires room { HasRoom net.old (17 * (program_in p.now).sites + 17) }
+    requires goes { GoesFit (program_in p.now) net.old goes.now }
+    requires room { CanGrow net.old (17 * (program_in p.now).sites + 17) }
     ensures tidy { IsTidy net.new }
     ensures built { OnOk result (Builds net.old net.new (17 * (program_in p.now).sites + 17)) }
     ensures done { IfOk result (λ all. ShowsArguments (program_in p.now) net.new outcomes.now goes.now all.items) }
@@ -87,10 +84,8 @@ pub fn unit_starts(
     p: &Planned,
     goes: &[Sig],
 ) -> Result<Vec<Option<Sig>>, NoMemory>
-    requires tidy { IsTidy net.old }
-    requires count { length goes.now ≡ suc (program_in p.now).sites }
-    requires goes { (k : ℕ) → k ≤ (program_in p.now).sites → IsSource net.old (pin goes.now k) 1 }
-    requires room { HasRoom net.old ((program_in p.now).sites + 1) }
+    requires goes { GoesFit (program_in p.now) net.old goes.now }
+    requires room { CanGrow net.old ((program_in p.now).sites + 1) }
     ensures tidy { IsTidy net.new }
     ensures built { OnOk result (Builds net.old net.new ((program_in p.now).sites + 1)) }
     ensures done { IfOk result (λ bits. ShowsStarts (program_in p.now) net.new goes.now bits.items) }
@@ -116,11 +111,10 @@ pub fn unit_clears(
     outcomes: &Outcomes,
     ends: &[Option<Load>],
 ) -> Result<Vec<Option<Sig>>, NoMemory>
-    requires tidy { IsTidy net.old }
     requires outcomes { OutcomesFit (program_in p.now) net.old outcomes.now }
     requires count { length ends.now ≡ (program_in p.now).functions }
     requires ends { (ws : ℕ → List ℕ) × SomeFit net.old ends.now ws }
-    requires room { HasRoom net.old (program_in p.now).functions }
+    requires room { CanGrow net.old (program_in p.now).functions }
     ensures tidy { IsTidy net.new }
     ensures built { OnOk result (Builds net.old net.new (program_in p.now).functions) }
     ensures done { IfOk result (λ bits. ShowsClears (program_in p.now) net.new outcomes.now ends.now bits.items) }
@@ -144,11 +138,10 @@ pub fn function_entries(
     outcomes: &Outcomes,
     loads: &[Option<Load>],
 ) -> Result<Vec<Option<Sig>>, NoMemory>
-    requires tidy { IsTidy net.old }
     requires outcomes { OutcomesFit (program_in p.now) net.old outcomes.now }
     requires count { length loads.now ≡ (program_in p.now).functions }
     requires loads { (ws : ℕ → List ℕ) × SomeFit net.old loads.now ws }
-    requires room { HasRoom net.old (program_in p.now).functions }
+    requires room { CanGrow net.old (program_in p.now).functions }
     ensures tidy { IsTidy net.new }
     ensures built { OnOk result (Builds net.old net.new (program_in p.now).functions) }
     ensures done { IfOk result (λ bits. ShowsEntries (program_in p.now) net.new outcomes.now loads.now bits.items) }
@@ -281,12 +274,10 @@ pub fn add_some(
     place: usize,
     bit: Option<Sig>,
 ) -> Result<(), NoMemory>
-    requires tidy { IsTidy net.old }
     requires place { place < length bits.old.items }
     requires fits { BitsFit net.old bits.old.items }
     requires bit { IsBitIn net.old bit }
-    requires room { HasRoom net.old 1 }
-    ensures tidy { IsTidy net.new }
+    requires room { CanGrow net.old 1 }
     ensures built { Builds net.old net.new 1 }
     ensures count { length bits.new.items ≡ length bits.old.items }
     ensures fits { OnOk result (BitsFit net.new bits.new.items) }

@@ -6,7 +6,7 @@ ghost use Rattle.safl_term.specs.Sizes.{nodes};
 ghost use Rattle.safl_net.specs.Names.{IsTidy};
 ghost use Rattle.safl_net.specs.Bits.{on};
 ghost use Rattle.safl_lower.specs.declared.loads.Load.{Load as load};
-ghost use Rattle.safl_lower.specs.Sources.{IsSource, Builds, HasRoom};
+ghost use Rattle.safl_lower.specs.Sources.{IsSource, Builds, CanGrow};
 ghost use Rattle.safl_lower.specs.Rows.{load_joins, row_at, total};
 ghost use Rattle.safl_lower.specs.Loads.{load_cost, loads_cost};
 ghost use Rattle.safl_circuit.specs.Equations.{Choice, path};
@@ -46,10 +46,9 @@ pub fn lower_bodies(
     pins: &Pins,
     returns: &Returns,
 ) -> Result<Outcomes, NoMemory>
-    requires tidy { IsTidy net.old }
     requires pins { PinsFit (program_in p.now) net.old pins.now }
     requires returns { HasReturns (program_in p.now) (choice_of p.now) net.old pins.now returns.now }
-    requires room { HasRoom net.old (33 * body_nodes (program_in p.now) (program_in p.now).functions + 33 * (program_in p.now).functions) }
+    requires room { CanGrow net.old (33 * body_nodes (program_in p.now) (program_in p.now).functions + 33 * (program_in p.now).functions) }
     ensures tidy { IsTidy net.new }
     ensures built { OnOk result (Builds net.old net.new (33 * body_nodes (program_in p.now) (program_in p.now).functions + 33 * (program_in p.now).functions)) }
     ensures done { IfOk result (λ o. HasOutcomes (program_in p.now) (choice_of p.now) net.new pins.now o) }
@@ -108,11 +107,10 @@ fn body_of(
     pins: &Pins,
     returns: &Returns,
 ) -> Result<Body, NoMemory>
-    requires tidy { IsTidy net.old }
     requires function { f < (program_in p.now).functions }
     requires pins { PinsFit (program_in p.now) net.old pins.now }
     requires returns { HasReturns (program_in p.now) (choice_of p.now) net.old pins.now returns.now }
-    requires room { HasRoom net.old (32 * nodes ((program_in p.now).body f) + 33) }
+    requires room { CanGrow net.old (32 * nodes ((program_in p.now).body f) + 33) }
     ensures tidy { IsTidy net.new }
     ensures built { OnOk result (Builds net.old net.new (32 * nodes ((program_in p.now).body f) + 33)) }
     ensures done { IfOk result (λ b. HasBody p.now.program (choice_of p.now) net.new pins.now f b) }
@@ -126,10 +124,9 @@ fn body_of(
 
 // The bit that a function's body runs.
 fn body_path(net: &mut Net, c: &Checked, f: u32, pins: &Pins) -> Result<Sig, NoMemory>
-    requires tidy { IsTidy net.old }
     requires function { f < (program_of c.now).functions }
     requires pins { PinsFit (program_of c.now) net.old pins.now }
-    requires room { HasRoom net.old 1 }
+    requires room { CanGrow net.old 1 }
     ensures tidy { IsTidy net.new }
     ensures built { OnOk result (Builds net.old net.new 1) }
     ensures fits { IfOk result (λ s. IsSource net.new s 1) }

@@ -2,7 +2,7 @@
 
 ghost use Rattle.std.specs.Prelude.{◌≡◌, map, IfOk, OnOk};
 ghost use Rattle.safl_net.specs.Names.{IsTidy};
-ghost use Rattle.safl_lower.specs.Sources.{Builds, HasRoom};
+ghost use Rattle.safl_lower.specs.Sources.{Builds, CanGrow};
 ghost use Rattle.safl_lower.specs.Tables.{load_bit, bit_or};
 ghost use Rattle.safl_unit.specs.Finished.{GivesControls};
 
@@ -22,8 +22,7 @@ pub fn controls(
     outcomes: &Outcomes,
     goes: &[Sig],
 ) -> Result<Controls, NoMemory>
-    requires tidy { IsTidy net.old }
-    requires room { HasRoom net.old 1 }
+    requires room { CanGrow net.old 1 }
     ensures tidy { IsTidy net.new }
     ensures built { OnOk result (Builds net.old net.new 1) }
     ensures done { GivesControls result net.old net.new returns.now outcomes.now goes.now }

@@ -3,10 +3,10 @@
 ghost use Rattle.std.specs.Prelude.{◌≡◌, ℕ, suc, ◌+◌, ◌*◌, ◌≤◌, [], ◌∷◌, length, IfOk, OnOk};
 ghost use Rattle.safl_term.specs.Checked.{IsChecked};
 ghost use Rattle.safl_net.specs.Names.{IsTidy};
-ghost use Rattle.safl_lower.specs.Sources.{IsSource, Builds, HasRoom};
-ghost use Rattle.safl_lower.specs.Tables.{pin, FitsIn, SomeFit, IsBitIn, BitsFit};
+ghost use Rattle.safl_lower.specs.Sources.{Builds, CanGrow};
+ghost use Rattle.safl_lower.specs.Tables.{FitsIn, IsBitIn};
 ghost use Rattle.safl_unit.specs.Cycles.{UnitFits, PinsFit, choice_of, program_in};
-ghost use Rattle.safl_unit.specs.Stages.{ReturnsFit, OutcomesFit, HasReturns, HasOutcomes, HasGoes, HasNext};
+ghost use Rattle.safl_unit.specs.Stages.{ReturnsFit, OutcomesFit, GoesFit, EndsFit, TestsFit, HasReturns, HasOutcomes, HasGoes, HasNext};
 ghost use Rattle.safl_unit.specs.Coming.{EventsFit};
 ghost use Rattle.safl_unit.specs.Steps.{AllUnitsNext, GivesUnit, AllMembersNext, AllSitesNext};
 
@@ -31,12 +31,11 @@ pub fn edge(
     outcomes: &Outcomes,
     goes: &[Sig],
 ) -> Result<Bank, NoMemory>
-    requires tidy { IsTidy net.old }
     requires pins { PinsFit (program_in p.now) net.old pins.now }
     requires returns { HasReturns (program_in p.now) (choice_of p.now) net.old pins.now returns.now }
     requires outcomes { HasOutcomes (program_in p.now) (choice_of p.now) net.old pins.now outcomes.now }
     requires goes { HasGoes (program_in p.now) (choice_of p.now) net.old pins.now goes.now }
-    requires room { HasRoom net.old (64 * (program_in p.now).functions + 32 * (program_in p.now).sites + 32) }
+    requires room { CanGrow net.old (64 * (program_in p.now).functions + 32 * (program_in p.now).sites + 32) }
     ensures tidy { IsTidy net.new }
     ensures built { OnOk result (Builds net.old net.new (64 * (program_in p.now).functions + 32 * (program_in p.now).sites + 32)) }
     ensures done { IfOk result (λ b. HasNext (program_in p.now) (choice_of p.now) net.new pins.now b) }
@@ -61,13 +60,10 @@ pub fn next_units(
     ends: &[Option<Load>],
     starts: &[Option<Sig>],
 ) -> Result<Vec<UnitPins>, NoMemory>
-    requires tidy { IsTidy net.old }
     requires pins { PinsFit (program_in p.now) net.old pins.now }
-    requires ends_count { length ends.now ≡ (program_in p.now).functions }
-    requires ends { SomeFit net.old ends.now (λ u. (program_in p.now).result u ∷ []) }
-    requires starts_count { length starts.now ≡ (program_in p.now).functions }
-    requires starts { BitsFit net.old starts.now }
-    requires room { HasRoom net.old (5 * (program_in p.now).functions) }
+    requires ends { EndsFit (program_in p.now) net.old ends.now }
+    requires starts { TestsFit (program_in p.now) net.old starts.now }
+    requires room { CanGrow net.old (5 * (program_in p.now).functions) }
     ensures tidy { IsTidy net.new }
     ensures built { OnOk result (Builds net.old net.new (5 * (program_in p.now).functions)) }
     ensures checked { IsChecked p.now.program }
@@ -95,10 +91,9 @@ fn unit_after(
     start: Option<Sig>,
     now: UnitPins,
 ) -> Result<UnitPins, NoMemory>
-    requires tidy { IsTidy net.old }
     requires fits { (w : ℕ) × FitsIn net.old end.now (w ∷ []) × UnitFits net.old now w }
     requires start { IsBitIn net.old start }
-    requires room { HasRoom net.old 5 }
+    requires room { CanGrow net.old 5 }
     ensures tidy { IsTidy net.new }
     ensures built { OnOk result (Builds net.old net.new 5) }
     ensures done { GivesUnit result net.old net.new all.now unit end.now start now }
@@ -119,11 +114,10 @@ pub fn next_members(
     events: &Events,
     outcomes: &Outcomes,
 ) -> Result<Vec<MemberPins>, NoMemory>
-    requires tidy { IsTidy net.old }
     requires pins { PinsFit (program_in p.now) net.old pins.now }
     requires events { EventsFit (program_in p.now) net.old events.now }
     requires outcomes { OutcomesFit (program_in p.now) net.old outcomes.now }
-    requires room { HasRoom net.old (35 * (program_in p.now).functions) }
+    requires room { CanGrow net.old (35 * (program_in p.now).functions) }
     ensures tidy { IsTidy net.new }
     ensures built { OnOk result (Builds net.old net.new (35 * (program_in p.now).functions)) }
     ensures done { IfOk result (λ all. AllMembersNext (program_in p.now) net.new pins.now events.now outcomes.now all.items) }
@@ -154,14 +148,11 @@ pub fn next_sites(
     goes: &[Sig],
     clears: &[Option<Sig>],
 ) -> Result<Vec<SitePins>, NoMemory>
-    requires tidy { IsTidy net.old }
     requires pins { PinsFit (program_in p.now) net.old pins.now }
     requires returns { ReturnsFit (program_in p.now) net.old returns.now }
-    requires goes_count { length goes.now ≡ suc (program_in p.now).sites }
-    requires goes { (k : ℕ) → k ≤ (program_in p.now).sites → IsSource net.old (pin goes.now k) 1 }
-    requires clears_count { length clears.now ≡ (program_in p.now).functions }
-    requires clears { BitsFit net.old clears.now }
-    requires room { HasRoom net.old (7 * (program_in p.now).sites) }
+    requires goes { GoesFit (program_in p.now) net.old goes.now }
+    requires clears { TestsFit (program_in p.now) net.old clears.now }
+    requires room { CanGrow net.old (7 * (program_in p.now).sites) }
     ensures tidy { IsTidy net.new }
     ensures built { OnOk result (Builds net.old net.new (7 * (program_in p.now).sites)) }
     ensures done { IfOk result (λ all. AllSitesNext (program_in p.now) (choice_of p.now) net.new pins.now returns.now goes.now clears.now all.items) }

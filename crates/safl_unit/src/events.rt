@@ -2,10 +2,9 @@
 
 ghost use Rattle.std.specs.Prelude.{◌≡◌, ℕ, suc, ◌+◌, ◌*◌, ◌≤◌, length, OnOk};
 ghost use Rattle.safl_net.specs.Names.{IsTidy};
-ghost use Rattle.safl_lower.specs.Sources.{IsSource, Builds, HasRoom};
-ghost use Rattle.safl_lower.specs.Tables.{pin};
+ghost use Rattle.safl_lower.specs.Sources.{Builds, CanGrow};
 ghost use Rattle.safl_unit.specs.Cycles.{choice_of, program_in};
-ghost use Rattle.safl_unit.specs.Stages.{OutcomesFit};
+ghost use Rattle.safl_unit.specs.Stages.{OutcomesFit, GoesFit};
 ghost use Rattle.safl_unit.specs.Coming.{GivesEvents};
 
 use crate::arrivals::{function_entries, function_loads, unit_clears, unit_ends, unit_starts};
@@ -40,11 +39,9 @@ pub fn edge_events(
     outcomes: &Outcomes,
     goes: &[Sig],
 ) -> Result<Events, NoMemory>
-    requires tidy { IsTidy net.old }
     requires outcomes { OutcomesFit (program_in p.now) net.old outcomes.now }
-    requires count { length goes.now ≡ suc (program_in p.now).sites }
-    requires goes { (k : ℕ) → k ≤ (program_in p.now).sites → IsSource net.old (pin goes.now k) 1 }
-    requires room { HasRoom net.old (11 * (program_in p.now).functions + 18 * (program_in p.now).sites + 18) }
+    requires goes { GoesFit (program_in p.now) net.old goes.now }
+    requires room { CanGrow net.old (11 * (program_in p.now).functions + 18 * (program_in p.now).sites + 18) }
     ensures tidy { IsTidy net.new }
     ensures built { OnOk result (Builds net.old net.new (11 * (program_in p.now).functions + 18 * (program_in p.now).sites + 18)) }
     ensures done { GivesEvents result (program_in p.now) (choice_of p.now) net.old net.new outcomes.now goes.now }

@@ -10,7 +10,7 @@ ghost use Rattle.safl_net.specs.Settled.{IsSettled};
 ghost use Rattle.safl_net.specs.Growth.{Grows};
 ghost use Rattle.safl_circuit.specs.Names.{names_of};
 ghost use Rattle.safl_circuit.specs.Layout.{layout_wires};
-ghost use Rattle.safl_lower.specs.Sources.{HasRoom};
+ghost use Rattle.safl_lower.specs.Sources.{CanGrow};
 ghost use Rattle.safl_lower.specs.Tables.{EachAt};
 ghost use Rattle.safl_unit.specs.Cycles.{choice_of, BankFits, PinsFit, program_in};
 ghost use Rattle.safl_unit.specs.Ties.{sig_of, unit_ties, site_ties, register_ties, ties, want_wire, body_ties, call_ties, wire_ties};
@@ -233,8 +233,7 @@ fn set_all(
     next: &Bank,
     controls: &Controls,
 ) -> Result<(), AllocError>
-    requires tidy { IsTidy net.old }
-    requires room { HasRoom net.old 0 }
+    requires room { CanGrow net.old 0 }
     requires grown { Grows (declared_net (program_in p.now) (names_of p.now.program) (choice_of p.now)) net.old }
     requires pins { ArePins (program_in p.now) (names_of p.now.program) (choice_of p.now) pins.now }
     requires next { BankFits (program_in p.now) net.old next.now }
@@ -276,8 +275,7 @@ pub fn finish(
     next: &Bank,
     controls: &Controls,
 ) -> Result<(), NoMemory>
-    requires tidy { IsTidy net.old }
-    requires room { HasRoom net.old 0 }
+    requires room { CanGrow net.old 0 }
     requires grown { Grows (declared_net (program_in p.now) (names_of p.now.program) (choice_of p.now)) net.old }
     requires settled { IsSettled net.old }
     requires pins { ArePins (program_in p.now) (names_of p.now.program) (choice_of p.now) pins.now }

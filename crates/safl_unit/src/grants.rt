@@ -4,7 +4,7 @@ ghost use Rattle.std.specs.Prelude.{◌≡◌, ℕ, ◌+◌, ◌*◌, ◌<◌, �
 ghost use Rattle.safl_net.specs.Names.{IsTidy};
 ghost use Rattle.safl_net.specs.Growth.{Val, Wired};
 ghost use Rattle.safl_net.specs.Bits.{on};
-ghost use Rattle.safl_lower.specs.Sources.{IsSource, Builds, HasRoom};
+ghost use Rattle.safl_lower.specs.Sources.{IsSource, Builds, CanGrow};
 ghost use Rattle.safl_lower.specs.Tables.{on_in};
 ghost use Rattle.safl_lower.specs.Rows.{AreBits};
 ghost use Rattle.safl_unit.specs.Cycles.{choice_of, PinsFit, program_in};
@@ -26,10 +26,9 @@ pub fn grants(
     pins: &Pins,
     outcomes: &Outcomes,
 ) -> Result<Vec<Sig>, NoMemory>
-    requires tidy { IsTidy net.old }
     requires pins { PinsFit (program_in p.now) net.old pins.now }
     requires outcomes { HasOutcomes (program_in p.now) (choice_of p.now) net.old pins.now outcomes.now }
-    requires room { HasRoom net.old (5 * (program_in p.now).sites + 2) }
+    requires room { CanGrow net.old (5 * (program_in p.now).sites + 2) }
     ensures tidy { IsTidy net.new }
     ensures built { OnOk result (Builds net.old net.new (5 * (program_in p.now).sites + 2)) }
     ensures done { IfOk result (λ s. HasGoes (program_in p.now) (choice_of p.now) net.new pins.now s.items) }
@@ -56,10 +55,9 @@ pub fn grants(
 
 // Main starts by its call from outside, while its unit rests.
 fn main_grant(net: &mut Net, start: Sig, run: Sig) -> Result<Sig, NoMemory>
-    requires tidy { IsTidy net.old }
     requires start { IsSource net.old start 1 }
     requires run { IsSource net.old run 1 }
-    requires room { HasRoom net.old 2 }
+    requires room { CanGrow net.old 2 }
     ensures tidy { IsTidy net.new }
     ensures built { OnOk result (Builds net.old net.new 2) }
     ensures fits { IfOk result (λ s. IsSource net.new s 1) }
@@ -77,11 +75,10 @@ fn site_grant(
     frees: &[Sig],
     rank: usize,
 ) -> Result<Sig, NoMemory>
-    requires tidy { IsTidy net.old }
     requires want { IsSource net.old want 1 }
     requires frees { AreBits net.old frees.now }
     requires rank { arbiter ≡ true → rank < length frees.now }
-    requires room { HasRoom net.old 1 }
+    requires room { CanGrow net.old 1 }
     ensures tidy { IsTidy net.new }
     ensures built { OnOk result (Builds net.old net.new 1) }
     ensures fits { IfOk result (λ s. IsSource net.new s 1) }

@@ -5,7 +5,7 @@ ghost use Rattle.safl_net.specs.Names.{IsTidy};
 ghost use Rattle.safl_net.specs.Growth.{Val, Wired};
 ghost use Rattle.safl_net.specs.Bits.{on};
 ghost use Rattle.safl_circuit.specs.Equations.{or_word};
-ghost use Rattle.safl_lower.specs.Sources.{IsSource, Builds, HasRoom};
+ghost use Rattle.safl_lower.specs.Sources.{IsSource, Builds, CanGrow};
 ghost use Rattle.safl_lower.specs.Tables.{taken_in, on_in, FitsIn, IsBitIn};
 ghost use Rattle.safl_unit.specs.Cycles.{UnitFits, MemberFits, SiteFits};
 ghost use Rattle.safl_unit.specs.Steps.{UnitStep, SiteStep, KeepsMember, IsNextMember};
@@ -26,10 +26,9 @@ pub fn next_unit(
     start: Option<Sig>,
     unit: UnitPins,
 ) -> Result<UnitPins, NoMemory>
-    requires tidy { IsTidy net.old }
     requires fits { (w : ℕ) × FitsIn net.old end.now (w ∷ []) × UnitFits net.old unit w }
     requires start { IsBitIn net.old start }
-    requires room { HasRoom net.old 5 }
+    requires room { CanGrow net.old 5 }
     ensures tidy { IsTidy net.new }
     ensures built { OnOk result (Builds net.old net.new 5) }
     ensures fits { (w : ℕ) → FitsIn net.old end.now (w ∷ []) → UnitFits net.old unit w → IfOk result (λ y. UnitFits net.new y w) }
@@ -60,11 +59,10 @@ pub fn next_member(
     looped: &Option<Load>,
     member: &MemberPins,
 ) -> Result<MemberPins, NoMemory>
-    requires tidy { IsTidy net.old }
     requires entry { IsBitIn net.old entry.own }
     requires rival { IsBitIn net.old entry.rival }
     requires fits { (ws : List ℕ) × FitsIn net.old load.now ws × FitsIn net.old looped.now ws × MemberFits net.old member.now ws }
-    requires room { HasRoom net.old (3 + 2 * length member.now.args.items) }
+    requires room { CanGrow net.old (3 + 2 * length member.now.args.items) }
     ensures tidy { IsTidy net.new }
     ensures built { OnOk result (Builds net.old net.new (3 + 2 * length member.now.args.items)) }
     ensures fits { KeepsMember result net.old net.new load.now looped.now member.now }
@@ -86,12 +84,11 @@ pub fn next_site(
     res: Sig,
     site: SitePins,
 ) -> Result<SitePins, NoMemory>
-    requires tidy { IsTidy net.old }
     requires ret { IsSource net.old ret 1 }
     requires go { IsSource net.old go 1 }
     requires clear { IsBitIn net.old clear }
     requires fits { (w : ℕ) × IsSource net.old res w × SiteFits net.old site w }
-    requires room { HasRoom net.old 7 }
+    requires room { CanGrow net.old 7 }
     ensures tidy { IsTidy net.new }
     ensures built { OnOk result (Builds net.old net.new 7) }
     ensures fits { (w : ℕ) → IsSource net.old res w → SiteFits net.old site w → IfOk result (λ y. SiteFits net.new y w) }
@@ -111,11 +108,10 @@ fn next_at(
     rival: Option<Sig>,
     at: Sig,
 ) -> Result<Sig, NoMemory>
-    requires tidy { IsTidy net.old }
     requires entry { IsBitIn net.old entry }
     requires rival { IsBitIn net.old rival }
     requires at { IsSource net.old at 1 }
-    requires room { HasRoom net.old 3 }
+    requires room { CanGrow net.old 3 }
     ensures tidy { IsTidy net.new }
     ensures built { OnOk result (Builds net.old net.new 3) }
     ensures fits { IfOk result (λ s. IsSource net.new s 1) }
@@ -131,11 +127,10 @@ fn next_at(
 
 // A bit that is set, and cleared where there is a clear.
 fn next_bit(net: &mut Net, now: Sig, set: Sig, clear: Option<Sig>) -> Result<Sig, NoMemory>
-    requires tidy { IsTidy net.old }
     requires now { IsSource net.old now 1 }
     requires set { IsSource net.old set 1 }
     requires clear { IsBitIn net.old clear }
-    requires room { HasRoom net.old 3 }
+    requires room { CanGrow net.old 3 }
     ensures tidy { IsTidy net.new }
     ensures built { OnOk result (Builds net.old net.new 3) }
     ensures fits { IfOk result (λ s. IsSource net.new s 1) }
@@ -148,10 +143,8 @@ fn next_bit(net: &mut Net, now: Sig, set: Sig, clear: Option<Sig>) -> Result<Sig
 
 // A bit, or 0 where it is not there.
 fn some_bit(net: &mut Net, bit: Option<Sig>) -> Result<Sig, NoMemory>
-    requires tidy { IsTidy net.old }
     requires bit { IsBitIn net.old bit }
-    requires room { HasRoom net.old 1 }
-    ensures tidy { IsTidy net.new }
+    requires room { CanGrow net.old 1 }
     ensures built { Builds net.old net.new 1 }
     ensures fits { IfOk result (λ s. IsSource net.new s 1) }
     ensures value { IfOk result (λ s. (v : Val) → Wired net.new v → on v s ≡ on_in v bit) }
@@ -164,10 +157,8 @@ fn some_bit(net: &mut Net, bit: Option<Sig>) -> Result<Sig, NoMemory>
 
 // The word of a load where it is there and is taken, or else this one.
 fn load_word(net: &mut Net, load: &Option<Load>, word: Sig) -> Result<Sig, NoMemory>
-    requires tidy { IsTidy net.old }
     requires fits { (w : ℕ) × FitsIn net.old load.now (w ∷ []) × IsSource net.old word w }
-    requires room { HasRoom net.old 1 }
-    ensures tidy { IsTidy net.new }
+    requires room { CanGrow net.old 1 }
     ensures built { Builds net.old net.new 1 }
     ensures fits { (w : ℕ) → FitsIn net.old load.now (w ∷ []) → IsSource net.old word w → IfOk result (λ s. IsSource net.new s w) }
     ensures value { IfOk result (λ s. (v : Val) → Wired net.new v → v s.0 ∷ [] ≡ or_word (taken_in v load.now) (v word.0 ∷ [])) }

@@ -4,7 +4,7 @@ ghost use Rattle.std.specs.Prelude.{◌≡◌, ℕ, suc, ◌+◌, ◌*◌, ◌�
 ghost use Rattle.safl_net.specs.Names.{IsTidy};
 ghost use Rattle.safl_net.specs.Growth.{Val, Wired};
 ghost use Rattle.safl_net.specs.Bits.{on};
-ghost use Rattle.safl_lower.specs.Sources.{IsSource, Builds, HasRoom};
+ghost use Rattle.safl_lower.specs.Sources.{IsSource, Builds, CanGrow};
 ghost use Rattle.safl_unit.specs.Cycles.{choice_of, UnitFits, SiteFits, PinsFit, program_in};
 ghost use Rattle.safl_unit.specs.Stages.{PortFits, HasReturns};
 ghost use Rattle.safl_unit.specs.Returning.{SiteShown};
@@ -27,9 +27,8 @@ pub struct SiteReturn {
 
 /// What each site shows.
 pub fn returns(alloc: Global, net: &mut Net, p: &Planned, pins: &Pins) -> Result<Returns, NoMemory>
-    requires tidy { IsTidy net.old }
     requires pins { PinsFit (program_in p.now) net.old pins.now }
-    requires room { HasRoom net.old (5 * (program_in p.now).sites) }
+    requires room { CanGrow net.old (5 * (program_in p.now).sites) }
     ensures tidy { IsTidy net.new }
     ensures built { OnOk result (Builds net.old net.new (5 * (program_in p.now).sites)) }
     ensures done { IfOk result (λ s. HasReturns (program_in p.now) (choice_of p.now) net.new pins.now s) }
@@ -70,9 +69,8 @@ fn site_return(
     unit: UnitPins,
     site: SitePins,
 ) -> Result<SiteReturn, NoMemory>
-    requires tidy { IsTidy net.old }
     requires fits { (w : ℕ) × UnitFits net.old unit w × SiteFits net.old site w }
-    requires room { HasRoom net.old 5 }
+    requires room { CanGrow net.old 5 }
     ensures tidy { IsTidy net.new }
     ensures built { OnOk result (Builds net.old net.new 5) }
     ensures fits { (w : ℕ) → UnitFits net.old unit w → SiteFits net.old site w → IfOk result (λ s. IsSource net.new s.ret 1 × PortFits net.new s.ports w) }
@@ -95,11 +93,9 @@ fn site_return(
 
 /// The word of a site's unit, or the kept one if the site keeps its word and is not delivered to.
 pub fn site_word(net: &mut Net, kept: bool, ret: Sig, res: Sig, keep: Sig) -> Result<Sig, NoMemory>
-    requires tidy { IsTidy net.old }
     requires ret { IsSource net.old ret 1 }
     requires words { (w : ℕ) × IsSource net.old res w × IsSource net.old keep w }
-    requires room { HasRoom net.old 1 }
-    ensures tidy { IsTidy net.new }
+    requires room { CanGrow net.old 1 }
     ensures built { Builds net.old net.new 1 }
     ensures fits { (w : ℕ) → IsSource net.old res w → IsSource net.old keep w → IfOk result (λ s. IsSource net.new s w) }
     ensures value { IfOk result (λ s. (v : Val) → Wired net.new v → v s.0 ≡ cond (kept && not (on v ret)) (v keep.0) (v res.0)) }

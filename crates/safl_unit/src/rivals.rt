@@ -4,10 +4,11 @@ ghost use Rattle.std.specs.Prelude.{◌≡◌, ℕ, ◌+◌, ◌*◌, ◌<◌, �
 ghost use Rattle.safl_net.specs.declared.cell.Sig.{Sig};
 ghost use Rattle.safl_net.specs.Names.{IsTidy};
 ghost use Rattle.safl_net.specs.Growth.{Val, Wired};
-ghost use Rattle.safl_lower.specs.Sources.{Builds, HasRoom};
-ghost use Rattle.safl_lower.specs.Tables.{on_in, IsBitIn, BitsFit};
+ghost use Rattle.safl_lower.specs.Sources.{Builds, CanGrow};
+ghost use Rattle.safl_lower.specs.Tables.{on_in, IsBitIn};
 ghost use Rattle.safl_lower.specs.Rows.{bit_joins, row_at, total};
 ghost use Rattle.safl_lower.specs.Joints.{IsSeveralOf, IsSeveralIn};
+ghost use Rattle.safl_unit.specs.Stages.{TestsFit};
 ghost use Rattle.safl_unit.specs.Edges.{entry_row, others_on, ShowsRivals, ShowsOthers};
 ghost use Rattle.safl_unit.specs.Cycles.{program_in};
 
@@ -28,10 +29,8 @@ pub fn function_rivals(
     p: &Planned,
     entries: &[Option<Sig>],
 ) -> Result<Vec<Option<Sig>>, NoMemory>
-    requires tidy { IsTidy net.old }
-    requires count { length entries.now ≡ (program_in p.now).functions }
-    requires entries { BitsFit net.old entries.now }
-    requires room { HasRoom net.old (7 * (program_in p.now).functions) }
+    requires entries { TestsFit (program_in p.now) net.old entries.now }
+    requires room { CanGrow net.old (7 * (program_in p.now).functions) }
     ensures tidy { IsTidy net.new }
     ensures built { OnOk result (Builds net.old net.new (7 * (program_in p.now).functions)) }
     ensures done { IfOk result (λ bits. ShowsRivals (program_in p.now) net.new entries.now bits.items) }
@@ -78,10 +77,9 @@ fn member_rival(
     several: &Option<Several>,
     own: Option<Sig>,
 ) -> Result<Option<Sig>, NoMemory>
-    requires tidy { IsTidy net.old }
     requires several { (row : List Sig) × IsSeveralIn net.old row several.now }
     requires own { IsBitIn net.old own }
-    requires room { HasRoom net.old 3 }
+    requires room { CanGrow net.old 3 }
     ensures tidy { IsTidy net.new }
     ensures built { OnOk result (Builds net.old net.new 3) }
     ensures fits { IfOk result (λ o. IsBitIn net.new o) }
@@ -98,10 +96,9 @@ fn member_rival(
 
 // The same of several bits.
 fn several_rival(net: &mut Net, several: Several, own: Option<Sig>) -> Result<Option<Sig>, NoMemory>
-    requires tidy { IsTidy net.old }
     requires several { (row : List Sig) × IsSeveralOf net.old row several }
     requires own { IsBitIn net.old own }
-    requires room { HasRoom net.old 3 }
+    requires room { CanGrow net.old 3 }
     ensures tidy { IsTidy net.new }
     ensures built { OnOk result (Builds net.old net.new 3) }
     ensures fits { IfOk result (λ o. IsBitIn net.new o) }

@@ -16,7 +16,6 @@ returns-in_ok-load-in-Never c =
     let n = c.in_ok-value-in-Never.ensures in
     let l = c.in_ok-load-in-Never.ensures in
     record {
-      tidy = n.tidy;
       built = builds_on z.built n.built;
       fits = λ w s e. one_load_fits c.in_ok-load-in-Never.load l.bit l.operands (source_kept n.built z.fits)
           (subst (λ k. IsSource c.no_value.new.net c.in_ok-value-in-Never.value k) (sym (e c.in-Never.is)) n.fits);
@@ -31,7 +30,6 @@ returns-in_ok-load-in_default c =
     let e = c.in_ok-bit-in_default.ensures in
     let l = c.in_ok-load-in_default.ensures in
     record {
-      tidy = e.tidy;
       built = builds_within 2 e.built (omega arith);
       fits = λ w s n. one_load_fits c.in_ok-load-in_default.load l.bit l.operands e.fits (source_grown e.built.grows c.args.body.value w (s.width c.in_default.not-Never));
       value = λ v w.

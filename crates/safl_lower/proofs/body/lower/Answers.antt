@@ -36,7 +36,7 @@ end-requires-clause-room c =
     let h = renumbered c.first_site.result (first_site_of c.args.c.now c.args.f) c.first_site.ensures c.body.ensures.term c.in_ok-lowered.ensures.done in
     let i = h.count in
     let r = c.requires.able.room in
-    omega (arith, i, r)
+    record { tidy = c.in_ok-lowered.ensures.tidy; room = omega (arith, i, r) }
 
 pub spread-requires-clause-apart : goal.spread-requires-clause-apart
 spread-requires-clause-apart c =
@@ -91,7 +91,7 @@ merge-requires-clause-room c =
     let i = h.count in
     let e = c.in_ok-ending.ensures.built.count in
     let r = c.requires.able.room in
-    omega (arith, k, d, i, e, r)
+    record { tidy = c.in_ok-ending.ensures.built.tidy; room = omega (arith, k, d, i, e, r) }
 
 pub returns-in_err-ending-clause-kept : goal.returns-in_err-ending-clause-kept
 returns-in_err-ending-clause-kept c = grows_on c.lower_term.ensures.kept c.end.ensures.built.grows

@@ -10,9 +10,8 @@ pub returns : goal.returns
 returns c =
     let e = c.operate.ensures in
     record {
-      tidy = e.tidy;
       built = e.built;
-      fits = e.fits (1 ∷ 1 ∷ []) 1 (two_sources c.requires.first c.requires.second) refl;
-      value = and_on c.args.net.now c.operate.new.net c.operate.result c.args.a c.args.b c.requires.first.width c.requires.second.width e.built.grows e.value;
+      fits = e.word.fits (1 ∷ 1 ∷ []) 1 (two_sources c.requires.first c.requires.second) refl;
+      value = and_on c.args.net.now c.operate.new.net c.operate.result c.args.a c.args.b c.requires.first.width c.requires.second.width e.built.grows e.word.value;
       gate = e.gate;
     }

@@ -14,9 +14,10 @@ returns c =
     let e = c.temp.ensures in
     let b = c.requires.operands in
     record {
-      tidy = e.tidy;
-      built = cell_builds c.args.net.now c.temp.new.self c.temp.result c.args.op c.args.operands.now e.added e.numbered e.refused b.0 b.1 b.2 b.3;
-      fits = cell_source c.args.net.now c.temp.new.self c.temp.result c.args.op c.args.operands.now e.added e.numbered e.refused;
-      value = (cell_made c.args.net.now c.temp.new.self c.temp.result c.args.op c.args.operands.now e.added e.numbered e.refused b.0 b.1 b.2 b.3).word;
+      built = cell_builds c.args.net.now c.temp.new.self c.temp.result c.args.op c.args.operands.now e.added e.numbered e.refused b.0 b.1 b.2 b.3 e.tidy;
+      word = record {
+        fits = cell_source c.args.net.now c.temp.new.self c.temp.result c.args.op c.args.operands.now e.added e.numbered e.refused;
+        value = (cell_made c.args.net.now c.temp.new.self c.temp.result c.args.op c.args.operands.now e.added e.numbered e.refused b.0 b.1 b.2 b.3).word;
+      };
       gate = gate_made c.args.net.now c.temp.new.self c.temp.result c.args.op c.args.operands.now e.added e.numbered;
     }

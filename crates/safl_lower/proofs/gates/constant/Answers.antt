@@ -6,4 +6,4 @@ pub cell-requires-clause-operands : goal.cell-requires-clause-operands
 cell-requires-clause-operands c = ([], c.args.word.width, no_sources c.args.net.now, refl)
 
 pub returns : goal.returns
-returns c = let e = c.cell.ensures in record { tidy = e.tidy; built = e.built; fits = e.fits [] c.args.word.width (no_sources c.args.net.now) refl; value = e.value }
+returns c = let e = c.cell.ensures in record { built = e.built; fits = e.word.fits [] c.args.word.width (no_sources c.args.net.now) refl; value = e.word.value }

@@ -10,10 +10,9 @@ pub returns : goal.returns
 returns c =
     let e = c.operate.ensures in
     record {
-      tidy = e.tidy;
       built = e.built;
-      fits = e.fits (1 ∷ []) 1 (one_source c.requires.bit) refl;
+      fits = e.word.fits (1 ∷ []) 1 (one_source c.requires.bit) refl;
       value = not_on c.args.net.now
-          c.operate.new.net c.operate.result c.args.a c.requires.bit.width e.built.grows e.value;
+          c.operate.new.net c.operate.result c.args.a c.requires.bit.width e.built.grows e.word.value;
       gate = e.gate;
     }

@@ -10,9 +10,8 @@ pub returns : goal.returns
 returns c =
     let e = c.cell.ensures in
     record {
-      tidy = e.tidy;
       built = e.built;
-      fits = λ w p q. e.fits (1 ∷ w ∷ w ∷ []) w (three_sources c.requires.test p q) (mux_width w);
-      value = mux_value c.cell.new.net c.cell.result c.args.c c.args.a c.args.b e.value;
+      fits = λ w p q. e.word.fits (1 ∷ w ∷ w ∷ []) w (three_sources c.requires.test p q) (mux_width w);
+      value = mux_value c.cell.new.net c.cell.result c.args.c c.args.a c.args.b e.word.value;
       gate = e.gate;
     }

@@ -63,7 +63,6 @@ loop-i-preserved c =
     let g0 = sources_length c.args.net.now b ws0.0 ws0.2 in
     let m : c.loop-i.i < length b = omega (arith, f0, g0, l) in
     record {
-      tidy = c.mux.ensures.tidy;
       built = builds_on j.built built;
       fits = λ ws p q.
           let o = operands c.args.net.now a b ws c.loop-i.i p q l in

@@ -1,5 +1,4 @@
 use Rattle.std.proofs.Common.{◌≡◌, ℕ, List, ◌∷◌, ◌++◌, cond, take}
-use Rattle.safl_net.specs.Names.{IsTidy}
 use Rattle.safl_net.specs.Growth.{Val, words, Wired}
 use Rattle.safl_net.specs.Bits.{on}
 use Rattle.safl_lower.specs.Sources.{AreSources, Builds}
@@ -8,7 +7,6 @@ use Rattle.safl_lower.proofs.gates.mux_all.Given as goal
 
 abbrev pub invariant-loop-i : goal.invariant-loop-i
 invariant-loop-i l = record {
-  tidy : IsTidy l.net;
   built : Builds l.initial.net l.net l.i;
   fits : (ws : List ℕ) → AreSources l.initial.net l.a ws → AreSources l.initial.net l.b ws → AreSources l.net l.all.items (take l.i ws);
   value : (v : Val) → Wired l.net v → words v l.all.items ≡ cond (on v l.c) (words v (take l.i l.a)) (words v (take l.i l.b));

@@ -4,4 +4,4 @@ pub cell-requires-clause-operands : goal.cell-requires-clause-operands
 cell-requires-clause-operands c = c.requires.operands
 
 pub returns : goal.returns
-returns c = let e = c.cell.ensures in record { tidy = e.tidy; built = e.built; fits = e.fits; value = e.value; gate = e.gate }
+returns c = let e = c.cell.ensures in record { built = e.built; word = record { fits = e.word.fits; value = e.word.value }; gate = e.gate }

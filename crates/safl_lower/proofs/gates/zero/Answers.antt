@@ -17,7 +17,6 @@ returns c =
     let e = c.constant.ensures in
     let is = c.from_low_bits.ensures in
     record {
-      tidy = e.tidy;
       built = e.built;
       fits = subst (λ (w : Word). IfOk c.constant.result (λ s. IsSource c.constant.new.net s w.width)) is e.fits;
       value = never c.constant.new.net c.constant.result c.from_low_bits.result is e.value;

@@ -12,7 +12,6 @@ returns-then-holds_calls c =
     let e = c.and_ready.ensures in
     let m = c.and_ready.new.net in
     record {
-      tidy = e.tidy;
       built = e.built;
       fits = e.fits;
       value = weaker c.and_ready.result (λ s. (v : Val) → Wired m v → on v s ≡ (on v c.args.path && is_ready v c.args.bound))

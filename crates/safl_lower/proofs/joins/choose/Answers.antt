@@ -10,6 +10,12 @@ use Rattle.safl_lower.proofs.Building.{source_grown, builds_on, builds_within}
 pub returns-in_err-selected-clause-built : goal.returns-in_err-selected-clause-built
 returns-in_err-selected-clause-built c = builds_within 5 (builds_on c.choose_value.ensures.built c.either_ready.ensures.built) (omega arith)
 
+pub either_ready-requires-clause-yes : goal.either_ready-requires-clause-yes
+either_ready-requires-clause-yes c = ready_kept c.choose_value.ensures.built.grows c.args.yes.ready c.requires.branches.1.ready
+
+pub either_ready-requires-clause-no : goal.either_ready-requires-clause-no
+either_ready-requires-clause-no c = ready_kept c.choose_value.ensures.built.grows c.args.no.ready c.requires.branches.2.ready
+
 pub both_ready-requires-clause-first : goal.both_ready-requires-clause-first
 both_ready-requires-clause-first c = ready_kept (grows_on c.choose_value.ensures.built.grows c.either_ready.ensures.built.grows) c.args.test.ready c.requires.ready
 

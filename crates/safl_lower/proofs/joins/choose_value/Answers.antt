@@ -13,7 +13,6 @@ returns-in_default c =
     let r = c.mux.result in
     let m = c.mux.new.net in
     record {
-      tidy = e.tidy;
       built = e.built;
       fits = λ w y n. weaker r (λ s. IsSource m s w) (λ s. ((c.args.yes.ready ≡ Never) × (c.args.no.ready ≡ Never) → ⊥) → IsSource m s w) (λ s h k. h)
           (e.fits w (y.width c.in_default.not-Never-0) (n.width c.in_default.not-Never-1));

@@ -21,8 +21,8 @@ mux_all-requires-clause-room c =
     let e = as_many (first_fits c.in-Some.is b.1).words b.2 in
     let d = ap (λ (xs : List Sig). length xs) c.deref.ensures.value in
     let k = c.either.ensures.built.count in
-    let r = c.requires.room in
-    omega (arith, e, d, k, r)
+    let r = c.requires.room.room in
+    record { tidy = c.either.ensures.built.tidy; room = omega (arith, e, d, k, r) }
 
 pub returns-in_err-words-in-Some-clause-built : goal.returns-in_err-words-in-Some-clause-built
 returns-in_err-words-in-Some-clause-built c =

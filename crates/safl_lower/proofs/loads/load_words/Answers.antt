@@ -10,8 +10,8 @@ mux_all-requires-clause-room c =
     let b = c.requires.fits in
     let e = as_many (first_fits c.in-Some.is b.1).words b.2 in
     let d = ap (λ (xs : List Sig). length xs) c.deref.ensures.value in
-    let r = c.requires.room in
-    omega (arith, e, d, r)
+    let r = c.requires.room.room in
+    record { tidy = c.requires.room.tidy; room = omega (arith, e, d, r) }
 
 pub returns-in-Some-clause-built : goal.returns-in-Some-clause-built
 returns-in-Some-clause-built c =

@@ -13,8 +13,7 @@ use Rattle.safl_lower.proofs.merge.merge.Goals as goal
 
 pub loop-call-init : goal.loop-call-init
 loop-call-init c = record {
-  tidy = c.requires.tidy;
-  merging = merging_start c.args.first c.args.members c.args.net.now c.args.calls.now
+  merging = merging_start c.args.first c.args.members c.args.net.now c.requires.room.tidy c.args.calls.now
       c.in_ok-loads.loads.items c.in_ok-loads.ensures.size c.in_ok-loads.ensures.none;
 }
 
@@ -48,8 +47,8 @@ pub add_load-requires-clause-room : goal.add_load-requires-clause-room
 add_load-requires-clause-room c =
     let at = slice_get_read c.args.calls.now (length c.args.calls.now) c.loop-call.call-index c.call-item.result refl c.loop-call-test.true c.call-item.is in
     let d = ap (λ (xs : List Sig). length xs) c.deref.ensures.value in
-    let r = call_room c.call-item.result at c.loop-call.invariant.merging c.requires.within c.requires.room in
-    omega (arith, d, r)
+    let r = call_room c.call-item.result at c.loop-call.invariant.merging c.requires.within c.requires.room.room in
+    record { tidy = c.loop-call.invariant.merging.built.tidy; room = omega (arith, d, r) }
 
 pub loop-call-preserved : goal.loop-call-preserved
 loop-call-preserved c =
@@ -58,7 +57,6 @@ loop-call-preserved c =
     let d = c.deref.ensures.value in
     let a = c.in_ok-add_load.ensures in
     record {
-      tidy = a.tidy;
       merging = merging_step e at c.loop-call.invariant.merging c.requires.within c.add_load.new.loads.items c.requires.fit.0 c.requires.fit.1
           (subst (λ (xs : List Sig). Builds c.loop-call.net c.add_load.new.net (1 + length xs)) d a.built) a.count
           (λ ws x y. a.fits ws x (subst (λ (xs : List Sig). AreSources c.loop-call.net xs (ws (e.member - c.args.first))) (sym d) y))

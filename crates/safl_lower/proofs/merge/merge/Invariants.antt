@@ -1,9 +1,7 @@
-use Rattle.safl_net.specs.Names.{IsTidy}
 use Rattle.safl_lower.proofs.Gathering.{Merging}
 use Rattle.safl_lower.proofs.merge.merge.Given as goal
 
 abbrev pub invariant-loop-call : goal.invariant-loop-call
 invariant-loop-call l = record {
-  tidy : IsTidy l.net;
   merging : Merging l.fn.first l.fn.members l.initial.net l.net l.calls l.call-index l.loads.items;
 }

@@ -40,7 +40,7 @@ returns-clause-fits c =
     let top = c.requires.bounded in
     let all : c.in-Some.zeros.width + r.0 ≡ c.args.width = omega (arith, w, e, z, le) in
     subst (λ (k : ℕ). IfOk c.operate.result (λ s. IsSource c.operate.new.net s k)) all
-    (c.operate.ensures.fits (c.in-Some.zeros.width ∷ r.0 ∷ []) (c.in-Some.zeros.width + r.0)
+    (c.operate.ensures.word.fits (c.in-Some.zeros.width ∷ r.0 ∷ []) (c.in-Some.zeros.width + r.0)
     (two_sources c.in_ok-before-in-Some.ensures.fits (source_grown c.constant.ensures.built.grows c.args.a r.0 r.1))
     (joined_width c.in-Some.zeros.width r.0 (omega (arith, w, e, z, le)) r.2 (omega (arith, w, e, z, le, top))))
 
@@ -52,4 +52,4 @@ returns-clause-value c =
     let le = r.3 in
     extended c.args.net.now c.constant.new.net c.operate.new.net c.operate.result c.in_ok-before-in-Some.before c.args.a c.in-Some.zeros
     (c.args.width - c.width-narrow.result) r.0 c.args.width c.operate.ensures.built.grows c.constant.ensures.built.grows r.1
-    c.in-Some.ensures.value (omega (arith, w, e, le)) c.in_ok-before-in-Some.ensures.value c.operate.ensures.value
+    c.in-Some.ensures.value (omega (arith, w, e, le)) c.in_ok-before-in-Some.ensures.value c.operate.ensures.word.value

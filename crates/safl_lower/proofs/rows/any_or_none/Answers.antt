@@ -5,7 +5,7 @@ use Rattle.safl_lower.proofs.Joints.{none_any}
 use Rattle.safl_lower.proofs.rows.any_or_none.Goals as goal
 
 pub returns-then-bits-eq0-clause-built : goal.returns-then-bits-eq0-clause-built
-returns-then-bits-eq0-clause-built c = builds_same c.args.net.now c.args.net.now refl (bit_joins c.args.bits.now)
+returns-then-bits-eq0-clause-built c = builds_same c.args.net.now c.args.net.now c.requires.room.tidy refl (bit_joins c.args.bits.now)
 
 pub returns-then-bits-eq0-clause-joined : goal.returns-then-bits-eq0-clause-joined
 returns-then-bits-eq0-clause-joined c = none_any c.args.net.now c.args.bits.now c.if-bits-eq0.true

@@ -5,7 +5,7 @@ use Rattle.safl_lower.proofs.Joints.{none_first}
 use Rattle.safl_lower.proofs.rows.first_or_none.Goals as goal
 
 pub returns-then-loads-eq0-clause-built : goal.returns-then-loads-eq0-clause-built
-returns-then-loads-eq0-clause-built c = builds_same c.args.net.now c.args.net.now refl (load_joins c.args.loads.now)
+returns-then-loads-eq0-clause-built c = builds_same c.args.net.now c.args.net.now c.requires.room.tidy refl (load_joins c.args.loads.now)
 
 pub returns-then-loads-eq0-clause-joined : goal.returns-then-loads-eq0-clause-joined
 returns-then-loads-eq0-clause-joined c = none_first c.args.net.now c.args.loads.now c.if-loads-eq0.true

@@ -1,5 +1,4 @@
 use Rattle.std.proofs.Common.{◌≡◌, ℕ, length, take, slice_get}
-use Rattle.safl_net.specs.Names.{IsTidy}
 use Rattle.safl_lower.specs.Sources.{Builds}
 use Rattle.safl_lower.specs.Tables.{sig_in}
 use Rattle.safl_lower.specs.Rows.{bit_joins, row_at, total}
@@ -8,7 +7,6 @@ use Rattle.safl_lower.proofs.rows.join_bits.Given as goal
 
 abbrev pub invariant-loop-i : goal.invariant-loop-i
 invariant-loop-i l = record {
-  tidy : IsTidy l.net;
   built : Builds l.initial.net l.net (total bit_joins (take l.i l.rows));
   count : length l.bits.items ≡ l.i;
   joined : (j : ℕ) → IsAnyOf l.net (row_at (take l.i l.rows) j) (sig_in (slice_get l.bits.items j));

@@ -13,17 +13,13 @@ use Rattle.safl_lower.proofs.rows.join_loads.Goals as goal
 
 pub loop-i-init : goal.loop-i-init
 loop-i-init c = record {
-  tidy = c.requires.tidy;
-  built = builds_same c.args.net.now c.args.net.now refl (total load_joins (take 0 c.args.rows.now));
+  built = builds_same c.args.net.now c.args.net.now c.requires.room.tidy refl (total load_joins (take 0 c.args.rows.now));
   count = ap (λ (l : List (Option Load)). length l) c.new-all.ensures.items;
   fits = λ ws h. subst (λ (l : List (Option Load)). SomeFit c.args.net.now l ws) (sym c.new-all.ensures.items) (λ j. tt);
   joined = λ j.
       subst (λ (l : List (Option Load)). IsFirstOf c.args.net.now (row_at (take 0 c.args.rows.now) j) (load_in (slice_get l j))) (sym c.new-all.ensures.items)
       (none_first c.args.net.now (row_at (take 0 c.args.rows.now) j) refl);
 }
-
-pub first_or_none-requires-clause-tidy : goal.first_or_none-requires-clause-tidy
-first_or_none-requires-clause-tidy c = c.loop-i.invariant.tidy
 
 pub first_or_none-requires-clause-fits : goal.first_or_none-requires-clause-fits
 first_or_none-requires-clause-fits c =
@@ -42,8 +38,8 @@ first_or_none-requires-clause-room c =
     let most = total_front load_joins rows (suc i) in
     let own = ap load_joins c.deref.ensures.value in
     let b = c.loop-i.invariant.built.count in
-    let r = c.requires.room in
-    omega (arith, next, most, own, b, r)
+    let r = c.requires.room.room in
+    record { tidy = c.loop-i.invariant.built.tidy; room = omega (arith, next, most, own, b, r) }
 
 pub loop-i-preserved : goal.loop-i-preserved
 loop-i-preserved c =
@@ -58,7 +54,6 @@ loop-i-preserved c =
     let long = length-take-le i rows (omega (arith, l)) in
     let n = c.loop-i.invariant.count in
     record {
-      tidy = c.first_or_none.ensures.tidy;
       built = builds_within (total load_joins (take (i + 1) rows)) (builds_on c.loop-i.invariant.built c.in_ok-load.ensures.built) (omega (arith, next, own, up));
       count = let p = ap (λ (l : List (Option Load)). length l) c.in_ok-push.ensures.items in let q = length_push c.loop-i.all.items c.in_ok-load.load in omega (arith, p, q, n);
       fits = λ ws h.

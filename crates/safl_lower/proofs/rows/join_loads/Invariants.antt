@@ -1,5 +1,4 @@
 use Rattle.std.proofs.Common.{◌≡◌, ℕ, List, length, take, slice_get}
-use Rattle.safl_net.specs.Names.{IsTidy}
 use Rattle.safl_lower.specs.Sources.{Builds}
 use Rattle.safl_lower.specs.Tables.{load_in, SomeFit}
 use Rattle.safl_lower.specs.Rows.{load_joins, row_at, total, RowsFit}
@@ -8,7 +7,6 @@ use Rattle.safl_lower.proofs.rows.join_loads.Given as goal
 
 abbrev pub invariant-loop-i : goal.invariant-loop-i
 invariant-loop-i l = record {
-  tidy : IsTidy l.net;
   built : Builds l.initial.net l.net (total load_joins (take l.i l.rows));
   count : length l.all.items ≡ l.i;
   fits : (ws : ℕ → List ℕ) → RowsFit l.initial.net l.rows ws → SomeFit l.net l.all.items ws;

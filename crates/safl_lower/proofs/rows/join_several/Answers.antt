@@ -12,16 +12,12 @@ use Rattle.safl_lower.proofs.rows.join_several.Goals as goal
 
 pub loop-i-init : goal.loop-i-init
 loop-i-init c = record {
-  tidy = c.requires.tidy;
-  built = builds_same c.args.net.now c.args.net.now refl (4 * total bit_joins (take 0 c.args.rows.now));
+  built = builds_same c.args.net.now c.args.net.now c.requires.room.tidy refl (4 * total bit_joins (take 0 c.args.rows.now));
   count = ap (λ (l : List (Option Several)). length l) c.new-all.ensures.items;
   joined = λ j.
       subst (λ (l : List (Option Several)). IsSeveralIn c.args.net.now (row_at (take 0 c.args.rows.now) j) (several_in (slice_get l j))) (sym c.new-all.ensures.items)
       refl;
 }
-
-pub several_or_none-requires-clause-tidy : goal.several_or_none-requires-clause-tidy
-several_or_none-requires-clause-tidy c = c.loop-i.invariant.tidy
 
 pub several_or_none-requires-clause-bits : goal.several_or_none-requires-clause-bits
 several_or_none-requires-clause-bits c =
@@ -39,8 +35,8 @@ several_or_none-requires-clause-room c =
     let most = total_front bit_joins rows (suc i) in
     let own = ap bit_joins c.deref.ensures.value in
     let b = c.loop-i.invariant.built.count in
-    let r = c.requires.room in
-    omega (arith, next, most, own, b, r)
+    let r = c.requires.room.room in
+    record { tidy = c.loop-i.invariant.built.tidy; room = omega (arith, next, most, own, b, r) }
 
 pub loop-i-preserved : goal.loop-i-preserved
 loop-i-preserved c =
@@ -55,7 +51,6 @@ loop-i-preserved c =
     let long = length-take-le i rows (omega (arith, l)) in
     let n = c.loop-i.invariant.count in
     record {
-      tidy = c.several_or_none.ensures.tidy;
       built = builds_within (4 * total bit_joins (take (i + 1) rows)) (builds_on c.loop-i.invariant.built c.in_ok-several.ensures.built) (omega (arith, next, own, up));
       count = let p = ap (λ (l : List (Option Several)). length l) c.in_ok-push.ensures.items in let q = length_push c.loop-i.all.items c.in_ok-several.several in omega (arith, p, q, n);
       joined = λ j.

@@ -39,8 +39,8 @@ operate-requires-3-clause-operands c =
     let limit = subst (λ (k : ℕ). IsSource c.constant.new.net c.in_ok-limit.limit k) (ap (λ (x : Word). x.width) c.from_low_bits.ensures ∙ e) c.in_ok-limit.ensures.fits in
     let compared = two_sources (source_grown c.constant.ensures.built.grows c.args.b q.0 q.1) limit in
     let read = one_source (source_grown (grows_on c.constant.ensures.built.grows c.operate.ensures.built.grows) c.args.b q.0 q.1) in
-    let over = c.in_ok-over.ensures.fits (q.0 ∷ q.0 ∷ []) 1 compared (compared_width q.0 q.2 q.3) in
-    let both = two_sources (source_grown c.operate-2.ensures.built.grows c.in_ok-over.over 1 over) (c.in_ok-low.ensures.fits (q.0 ∷ []) 8 read (low_width q.0 wide q.3)) in
+    let over = c.in_ok-over.ensures.word.fits (q.0 ∷ q.0 ∷ []) 1 compared (compared_width q.0 q.2 q.3) in
+    let both = two_sources (source_grown c.operate-2.ensures.built.grows c.in_ok-over.over 1 over) (c.in_ok-low.ensures.word.fits (q.0 ∷ []) 8 read (low_width q.0 wide q.3)) in
     (1 ∷ 8 ∷ [], 9, both, refl)
 
 pub returns-clause-built : goal.returns-clause-built
@@ -55,9 +55,9 @@ returns-clause-narrow c =
     let limit = subst (λ (k : ℕ). IsSource c.constant.new.net c.in_ok-limit.limit k) (ap (λ (x : Word). x.width) c.from_low_bits.ensures ∙ e) c.in_ok-limit.ensures.fits in
     let compared = two_sources (source_grown c.constant.ensures.built.grows c.args.b q.0 q.1) limit in
     let read = one_source (source_grown (grows_on c.constant.ensures.built.grows c.operate.ensures.built.grows) c.args.b q.0 q.1) in
-    let over = c.in_ok-over.ensures.fits (q.0 ∷ q.0 ∷ []) 1 compared (compared_width q.0 q.2 q.3) in
-    let both = two_sources (source_grown c.operate-2.ensures.built.grows c.in_ok-over.over 1 over) (c.in_ok-low.ensures.fits (q.0 ∷ []) 8 read (low_width q.0 wide q.3)) in
-    cut_narrow c.operate-3.new.net c.operate-3.result (c.operate-3.ensures.fits (1 ∷ 8 ∷ []) 9 both refl)
+    let over = c.in_ok-over.ensures.word.fits (q.0 ∷ q.0 ∷ []) 1 compared (compared_width q.0 q.2 q.3) in
+    let both = two_sources (source_grown c.operate-2.ensures.built.grows c.in_ok-over.over 1 over) (c.in_ok-low.ensures.word.fits (q.0 ∷ []) 8 read (low_width q.0 wide q.3)) in
+    cut_narrow c.operate-3.new.net c.operate-3.result (c.operate-3.ensures.word.fits (1 ∷ 8 ∷ []) 9 both refl)
 
 pub returns-clause-value : goal.returns-clause-value
 returns-clause-value c =
@@ -68,4 +68,4 @@ returns-clause-value c =
     cut_value c.constant.new.net c.operate.new.net c.operate-2.new.net c.operate-3.new.net c.operate-3.result c.args.b c.in_ok-limit.limit
     c.in_ok-over.over c.in_ok-low.low q.0 wide c.operate.ensures.built.grows c.operate-2.ensures.built.grows c.operate-3.ensures.built.grows
     (λ v x. c.in_ok-limit.ensures.value v x ∙ c.from_low_bits.ensures ∙ ap (λ (k : ℕ). record { width = k; bits = 255 % 2 ^ k }) e)
-    c.in_ok-over.ensures.value c.in_ok-low.ensures.value c.operate-3.ensures.value
+    c.in_ok-over.ensures.word.value c.in_ok-low.ensures.word.value c.operate-3.ensures.word.value

@@ -31,21 +31,21 @@ operate-requires-clause-operands c =
 pub returns-clause-built : goal.returns-clause-built
 returns-clause-built c = builds_on c.cut_down.ensures.built c.operate.ensures.built
 
-pub returns-clause-fits : goal.returns-clause-fits
-returns-clause-fits c = λ ws w p e.
-    let o = operands c.args.net.now c.args.primitive c.args.operands.now ws (record { 0 = 0 }) w c.requires.kind p e in
-    let a = c.in_ok-amount.ensures.narrow in
-    let narrow = a.narrow in
-    c.operate.ensures.fits (w ∷ a.width ∷ []) w (two_sources (source_grown c.cut_down.ensures.built.grows
-    (slice_index_or c.args.operands.now 0 (record { 0 = 0 })) w o.word) a.source)
-    (cell_width c.args.primitive c.requires.kind w a.width o.wide a.some (omega (arith, narrow)))
-
-pub returns-clause-value : goal.returns-clause-value
-returns-clause-value c =
-    let q = c.requires.sized in
-    let o = operands c.args.net.now c.args.primitive c.args.operands.now q.0 (record { 0 = 0 }) q.1 c.requires.kind q.2 q.3 in
-    shift_value c.args.net.now c.cut_down.new.net c.operate.new.net c.operate.result c.args.primitive c.args.operands.now (record { 0 = 0 })
-    c.in_ok-amount.amount q.1 c.requires.kind o c.cut_down.ensures.built.grows c.operate.ensures.built.grows c.in_ok-amount.ensures.value c.operate.ensures.value
+pub returns-clause-word : goal.returns-clause-word
+returns-clause-word c = record {
+  fits = λ ws w p e.
+      let o = operands c.args.net.now c.args.primitive c.args.operands.now ws (record { 0 = 0 }) w c.requires.kind p e in
+      let a = c.in_ok-amount.ensures.narrow in
+      let narrow = a.narrow in
+      c.operate.ensures.word.fits (w ∷ a.width ∷ []) w (two_sources (source_grown c.cut_down.ensures.built.grows
+      (slice_index_or c.args.operands.now 0 (record { 0 = 0 })) w o.word) a.source)
+      (cell_width c.args.primitive c.requires.kind w a.width o.wide a.some (omega (arith, narrow)));
+  value =
+      let q = c.requires.sized in
+      let o = operands c.args.net.now c.args.primitive c.args.operands.now q.0 (record { 0 = 0 }) q.1 c.requires.kind q.2 q.3 in
+      shift_value c.args.net.now c.cut_down.new.net c.operate.new.net c.operate.result c.args.primitive c.args.operands.now (record { 0 = 0 })
+      c.in_ok-amount.amount q.1 c.requires.kind o c.cut_down.ensures.built.grows c.operate.ensures.built.grows c.in_ok-amount.ensures.value c.operate.ensures.word.value;
+}
 
 pub returns-clause-narrow : goal.returns-clause-narrow
 returns-clause-narrow c = shifts_it c.cut_down.new.net c.operate.new.net c.operate.result (slice_index_or c.args.operands.now 0 (record { 0 = 0 }))

@@ -61,13 +61,13 @@ lower_all-both_ready-requires-clause-room t c =
     let able = subst (λ (x : Terms). LowerableAll c.args.net.now c.args.sites.now c.args.slots.now.items c.args.path x) (forest_at c.args.ts.now c.loop-t.t-index c.t-item.result at) c.requires.able in
     let a = (Able.able_at (shown_terms (drop (suc c.loop-t.t-index) c.args.ts.now)) able c.loop-t.invariant.lowered).room in
     let b = c.in_ok-one.ensures.done.count in
-    omega (arith, a, b)
+    record { tidy = c.in_ok-one.ensures.tidy; room = omega (arith, a, b) }
 
 pub lower_all-loop-t-preserved : goal.lower_all-loop-t-preserved
 lower_all-loop-t-preserved t c =
     let at = slice_get_read c.args.ts.now (length c.args.ts.now) c.loop-t.t-index c.t-item.result refl c.loop-t-test.true c.t-item.is in
     record {
-      tidy = c.in_ok-ready.ensures.tidy;
+      tidy = c.in_ok-ready.ensures.built.tidy;
       lowered = subst (λ (x : Terms). LowersAll c.args.sites.now c.args.slots.now.items c.args.path c.args.net.now c.both_ready.new.net c.args.out.now
           c.lower_term.new.out (record { ready = c.in_ok-ready.ready; values = c.push.new.self }) x)
           (sym (forest_more c.args.ts.now c.loop-t.t-index c.t-item.result at))
@@ -142,7 +142,7 @@ lower_term-apply-requires-clause-room t c =
     let a = subst (λ (x : Term). Lowerable c.args.net.now c.args.sites.now c.args.slots.now.items c.args.path x) e c.requires.able in
     let r = a.room in
     let b = hs.count in
-    omega (arith, r, b)
+    record { tidy = c.in_ok-all-in-Op.ensures.tidy; room = omega (arith, r, b) }
 
 pub lower_term-returns-in_ok-value-in-Op-clause-done : goal.lower_term-returns-in_ok-value-in-Op-clause-done
 lower_term-returns-in_ok-value-in-Op-clause-done t c =
@@ -152,8 +152,8 @@ lower_term-returns-in_ok-value-in-Op-clause-done t c =
     let d = c.deref-in-Op-2.ensures.value in
     subst (λ (x : Term). Lowers c.args.sites.now c.args.slots.now.items c.args.path c.args.net.now c.apply.new.net c.args.out.now
     c.lower_all-in-Op.new.out (record { ready = c.in_ok-all-in-Op.all.ready; value = c.in_ok-value-in-Op.value }) x) (sym e)
-    (lowers_op hs h.built (λ ws w p q. h.fits ws w (subst (λ (xs : List Sig). AreSources c.lower_all-in-Op.new.net xs ws) (sym d) p) q)
-    (λ v w. h.value v w ∙ ap (λ (xs : List Sig). apply_prim c.in-Op.p (words v xs)) d))
+    (lowers_op hs h.built (λ ws w p q. h.word.fits ws w (subst (λ (xs : List Sig). AreSources c.lower_all-in-Op.new.net xs ws) (sym d) p) q)
+    (λ v w. h.word.value v w ∙ ap (λ (xs : List Sig). apply_prim c.in-Op.p (words v xs)) d))
 
 -- ---- a call
 
@@ -191,7 +191,7 @@ lower_term-ask-requires-clause-room t c =
     let a = subst (λ (x : Term). Lowerable c.args.net.now c.args.sites.now c.args.slots.now.items c.args.path x) e c.requires.able in
     let r = a.room in
     let b = hs.count in
-    omega (arith, r, b)
+    record { tidy = c.in_ok-all-in-Call.ensures.tidy; room = omega (arith, r, b) }
 
 pub lower_term-returns-in_ok-all-in-Call-clause-done : goal.lower_term-returns-in_ok-all-in-Call-clause-done
 lower_term-returns-in_ok-all-in-Call-clause-done t c =
@@ -230,7 +230,7 @@ lower_term-go_on-requires-clause-room t c =
     let a = subst (λ (x : Term). Lowerable c.args.net.now c.args.sites.now c.args.slots.now.items c.args.path x) e c.requires.able in
     let r = a.room in
     let b = hs.count in
-    omega (arith, r, b)
+    record { tidy = c.in_ok-all-in-Loop.ensures.tidy; room = omega (arith, r, b) }
 
 pub lower_term-returns-in_ok-all-in-Loop-clause-done : goal.lower_term-returns-in_ok-all-in-Loop-clause-done
 lower_term-returns-in_ok-all-in-Loop-clause-done t c =
@@ -383,7 +383,7 @@ lower_term-choose-requires-clause-room t c =
     let l = hp.count in
     let m = ha.count in
     let n = hb.count in
-    omega (arith, r, k, l, m, n)
+    record { tidy = c.in_ok-no-in-If.ensures.tidy; room = omega (arith, r, k, l, m, n) }
 
 pub lower_term-returns-in_ok-no-in-If-clause-done : goal.lower_term-returns-in_ok-no-in-If-clause-done
 lower_term-returns-in_ok-no-in-If-clause-done t c =
@@ -439,7 +439,7 @@ lower_term-body_path-requires-clause-room t c =
     let hs = renamed_all refl c.deref-in-Let.ensures.value c.in_ok-bound-in-Let.ensures.done in
     let r = a.room in
     let b = hs.count in
-    omega (arith, r, b)
+    record { tidy = c.in_ok-bound-in-Let.ensures.tidy; room = omega (arith, r, b) }
 
 pub lower_term-lower_term-requires-in-Let : goal.lower_term-lower_term-requires-in-Let
 lower_term-lower_term-requires-in-Let t c =
@@ -515,7 +515,7 @@ lower_term-both_ready-requires-clause-room t c =
     let k = hs.count in
     let l = hi.count in
     let m = hb.count in
-    omega (arith, r, k, l, m)
+    record { tidy = c.in_ok-body-in-Let.ensures.tidy; room = omega (arith, r, k, l, m) }
 
 pub lower_term-returns-in_ok-ready-in-Let-clause-done : goal.lower_term-returns-in_ok-ready-in-Let-clause-done
 lower_term-returns-in_ok-ready-in-Let-clause-done t c =

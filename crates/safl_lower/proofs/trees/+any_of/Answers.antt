@@ -28,9 +28,14 @@ any_of-requires t c =
     let bl = cut.back_len in
     let some = c.requires.some in
     let many = c.if-bits-eq1.false in
-    let r = c.requires.room in
-    let d = c.decreases in
-    (omega (arith, fl, some, many, d), (c.requires.tidy, (omega (arith, fl, some, many), (low_bits c.args.net.now c.args.bits.now low high e c.requires.bits, omega (arith, fl, r)))))
+    let r = c.requires.room.room in
+    let d = c.decreases in (
+      omega (arith, fl, some, many, d),
+      (
+        omega (arith, fl, some, many),
+        (low_bits c.args.net.now c.args.bits.now low high e c.requires.bits, record { tidy = c.requires.room.tidy; room = omega (arith, fl, r) }),
+      ),
+    )
 
 pub any_of-requires-2 : goal.any_of-requires-2
 any_of-requires-2 t c =
@@ -42,20 +47,16 @@ any_of-requires-2 t c =
     let bl = cut.back_len in
     let some = c.requires.some in
     let many = c.if-bits-eq1.false in
-    let r = c.requires.room in
+    let r = c.requires.room.room in
     let d = c.decreases in
     let b = c.in_ok-a.ensures.built in
     let k = b.count in (
       omega (arith, fl, bl, some, many, d),
       (
-        c.any_of.ensures.tidy,
+        omega (arith, fl, bl, some, many),
         (
-          omega (arith, fl, bl, some, many),
-          (
-            row_kept b high (high_bits c.args.net.now c.args.bits.now low high e c.requires.bits),
-            omega
-                (arith, fl, bl, r, k, some, many),
-          ),
+          row_kept b high (high_bits c.args.net.now c.args.bits.now low high e c.requires.bits),
+          record { tidy = b.tidy; room = omega (arith, fl, bl, r, k, some, many) },
         ),
       ),
     )

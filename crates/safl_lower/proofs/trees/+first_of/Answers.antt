@@ -30,11 +30,16 @@ first_of-requires t c =
     let bl = cut.back_len in
     let some = c.requires.some in
     let many = c.if-loads-eq1.false in
-    let r = c.requires.room in
+    let r = c.requires.room.room in
     let d = c.decreases in
     let f = c.requires.fits in
-    let g = gates_of c.args.net.now c.args.loads.now low high e f.0 f.1 (omega (arith, fl, some, many)) (omega (arith, fl, bl, some, many)) in
-    (omega (arith, fl, some, many, d), (c.requires.tidy, (omega (arith, fl, some, many), ((f.0, low_fit c.args.net.now c.args.loads.now low high e f.0 f.1), omega (arith, g, r)))))
+    let g = gates_of c.args.net.now c.args.loads.now low high e f.0 f.1 (omega (arith, fl, some, many)) (omega (arith, fl, bl, some, many)) in (
+      omega (arith, fl, some, many, d),
+      (
+        omega (arith, fl, some, many),
+        ((f.0, low_fit c.args.net.now c.args.loads.now low high e f.0 f.1), record { tidy = c.requires.room.tidy; room = omega (arith, g, r) }),
+      ),
+    )
 
 pub first_of-requires-2 : goal.first_of-requires-2
 first_of-requires-2 t c =
@@ -46,7 +51,7 @@ first_of-requires-2 t c =
     let bl = cut.back_len in
     let some = c.requires.some in
     let many = c.if-loads-eq1.false in
-    let r = c.requires.room in
+    let r = c.requires.room.room in
     let d = c.decreases in
     let f = c.requires.fits in
     let b = c.in_ok-a.ensures.built in
@@ -54,8 +59,8 @@ first_of-requires-2 t c =
     let g = gates_of c.args.net.now c.args.loads.now low high e f.0 f.1 (omega (arith, fl, some, many)) (omega (arith, fl, bl, some, many)) in (
       omega (arith, fl, bl, some, many, d),
       (
-        c.first_of.ensures.tidy,
-        (omega (arith, fl, bl, some, many), ((f.0, fit_kept b high f.0 (high_fit c.args.net.now c.args.loads.now low high e f.0 f.1)), omega (arith, g, r, k))),
+        omega (arith, fl, bl, some, many),
+        ((f.0, fit_kept b high f.0 (high_fit c.args.net.now c.args.loads.now low high e f.0 f.1)), record { tidy = b.tidy; room = omega (arith, g, r, k) }),
       ),
     )
 
@@ -97,7 +102,7 @@ joined-requires-clause-room t c =
     let bl = cut.back_len in
     let some = c.requires.some in
     let many = c.if-loads-eq1.false in
-    let r = c.requires.room in
+    let r = c.requires.room.room in
     let f = c.requires.fits in
     let g = gates_of c.args.net.now c.args.loads.now low high e f.0 f.1 (omega (arith, fl, some, many)) (omega (arith, fl, bl, some, many)) in
     let b = c.in_ok-b.ensures.fits f.0 (fit_kept c.in_ok-a.ensures.built high f.0 (high_fit c.args.net.now c.args.loads.now low high e f.0 f.1)) in
@@ -105,7 +110,7 @@ joined-requires-clause-room t c =
     let v = ap (λ (xs : List Sig). length xs) c.deref-2.ensures.value in
     let j = c.in_ok-a.ensures.built.count in
     let k = c.in_ok-b.ensures.built.count in
-    omega (arith, g, r, s, v, j, k)
+    record { tidy = c.in_ok-b.ensures.built.tidy; room = omega (arith, g, r, s, v, j, k) }
 
 pub returns-clause-built : goal.returns-clause-built
 returns-clause-built t c =

@@ -23,9 +23,14 @@ several_of-requires t c =
     let fl = cut.front_len in
     let some = c.requires.some in
     let many = c.if-bits-eq1.false in
-    let r = c.requires.room in
-    let d = c.decreases in
-    (omega (arith, fl, some, many, d), (c.requires.tidy, (omega (arith, fl, some, many), (low_bits c.args.net.now c.args.bits.now low high e c.requires.bits, omega (arith, fl, r)))))
+    let r = c.requires.room.room in
+    let d = c.decreases in (
+      omega (arith, fl, some, many, d),
+      (
+        omega (arith, fl, some, many),
+        (low_bits c.args.net.now c.args.bits.now low high e c.requires.bits, record { tidy = c.requires.room.tidy; room = omega (arith, fl, r) }),
+      ),
+    )
 
 pub several_of-requires-2 : goal.several_of-requires-2
 several_of-requires-2 t c =
@@ -37,20 +42,16 @@ several_of-requires-2 t c =
     let bl = cut.back_len in
     let some = c.requires.some in
     let many = c.if-bits-eq1.false in
-    let r = c.requires.room in
+    let r = c.requires.room.room in
     let d = c.decreases in
     let b = c.in_ok-a.ensures.built in
     let k = b.count in (
       omega (arith, fl, bl, some, many, d),
       (
-        c.several_of.ensures.tidy,
+        omega (arith, fl, bl, some, many),
         (
-          omega (arith, fl, bl, some, many),
-          (
-            row_kept b high (high_bits c.args.net.now c.args.bits.now low high e c.requires.bits),
-            omega
-                (arith, fl, bl, r, k, some, many),
-          ),
+          row_kept b high (high_bits c.args.net.now c.args.bits.now low high e c.requires.bits),
+          record { tidy = b.tidy; room = omega (arith, fl, bl, r, k, some, many) },
         ),
       ),
     )
@@ -68,9 +69,9 @@ either-requires-clause-room t c =
     let bl = cut.back_len in
     let some = c.requires.some in
     let many = c.if-bits-eq1.false in
-    let r = c.requires.room in
+    let r = c.requires.room.room in
     let k = (builds_on c.in_ok-a.ensures.built c.in_ok-b.ensures.built).count in
-    omega (arith, fl, bl, some, many, r, k)
+    record { tidy = c.in_ok-b.ensures.built.tidy; room = omega (arith, fl, bl, some, many, r, k) }
 
 pub both-requires-clause-first : goal.both-requires-clause-first
 both-requires-clause-first t c = source_kept (builds_on c.in_ok-b.ensures.built c.in_ok-any.ensures.built) c.in_ok-a.ensures.joined.any_fits
@@ -85,9 +86,9 @@ both-requires-clause-room t c =
     let bl = cut.back_len in
     let some = c.requires.some in
     let many = c.if-bits-eq1.false in
-    let r = c.requires.room in
+    let r = c.requires.room.room in
     let k = (builds_on (builds_on c.in_ok-a.ensures.built c.in_ok-b.ensures.built) c.in_ok-any.ensures.built).count in
-    omega (arith, fl, bl, some, many, r, k)
+    record { tidy = c.in_ok-any.ensures.built.tidy; room = omega (arith, fl, bl, some, many, r, k) }
 
 pub or_some-requires-clause-first : goal.or_some-requires-clause-first
 or_some-requires-clause-first t c = maybe_bit_kept (builds_on (builds_on c.in_ok-b.ensures.built c.in_ok-any.ensures.built)
@@ -100,9 +101,9 @@ or_some-requires-clause-room t c =
     let bl = cut.back_len in
     let some = c.requires.some in
     let many = c.if-bits-eq1.false in
-    let r = c.requires.room in
+    let r = c.requires.room.room in
     let k = (builds_on (builds_on (builds_on c.in_ok-a.ensures.built c.in_ok-b.ensures.built) c.in_ok-any.ensures.built) c.in_ok-pair.ensures.built).count in
-    omega (arith, fl, bl, some, many, r, k)
+    record { tidy = c.in_ok-pair.ensures.built.tidy; room = omega (arith, fl, bl, some, many, r, k) }
 
 pub or_some-requires-2-clause-first : goal.or_some-requires-2-clause-first
 or_some-requires-2-clause-first t c = maybe_bit_kept (builds_on (builds_on c.in_ok-any.ensures.built c.in_ok-pair.ensures.built)
@@ -115,9 +116,9 @@ or_some-requires-2-clause-room t c =
     let bl = cut.back_len in
     let some = c.requires.some in
     let many = c.if-bits-eq1.false in
-    let r = c.requires.room in
+    let r = c.requires.room.room in
     let k = (builds_on (builds_on (builds_on (builds_on c.in_ok-a.ensures.built c.in_ok-b.ensures.built) c.in_ok-any.ensures.built) c.in_ok-pair.ensures.built) c.in_ok-first.ensures.built).count in
-    omega (arith, fl, bl, some, many, r, k)
+    record { tidy = c.in_ok-first.ensures.built.tidy; room = omega (arith, fl, bl, some, many, r, k) }
 
 pub returns-clause-built : goal.returns-clause-built
 returns-clause-built t c =

@@ -3,7 +3,7 @@ use Rattle.safl_sim.specs.declared.step.Register.{Register}
 use Rattle.safl_sim.specs.Marks.{marked, holding, HasTaken}
 use Rattle.safl_sim.specs.States.{placed}
 use Rattle.safl_sim.specs.Writes.{KeepsOn}
-use Rattle.safl_sim.proofs.Written.{get_at, same_or_not}
+use Rattle.safl_sim.proofs.Written.{get_at, same_or_not, set_length}
 use Rattle.safl_sim.proofs.MarksByOne.{taken_after}
 use Rattle.safl_sim.proofs.Nearing.{joined, holding_all, no_marks}
 use Rattle.safl_sim.proofs.Placing.{placed_long, placed_set, next_once}
@@ -49,7 +49,7 @@ registers-init c =
       wait = λ k at e.
           subst (λ l. marked l k ≡ 1) (sym (joins c.args.marks.now c.args.waiting.now c.join.new.self c.args.word c.args.first c.get-held.result c.get-held.ensures c.join.ensures))
           (joined_waits c.args.first c.args.registers.now c.args.values.now (c.args.word * 64) c.args.word q.0 q.1
-          (placed (length c.args.values.now) c.args.registers.now c.args.state.now) c.args.marks.now c.args.waiting.now c.requires.after q.2 c.requires.room k at
+          (placed (length c.args.values.now) c.args.registers.now c.args.state.now) c.args.marks.now c.args.waiting.now c.requires.after q.2 c.requires.registers.room k at
           (ap (λ l. marked l (c.args.first * 64 + k)) (sym (holding_all c.args.marks.now c.args.word)) ∙ ap
           (λ h. marked (holding c.args.marks.now c.args.word h) (c.args.first * 64 + k)) (sym c.get-held.ensures) ∙ e));
       keeps = λ start was w.
@@ -108,9 +108,9 @@ registers-preserved c =
     let e = number c.args.first c.args.word c.in-Some.taken.bit c.requires.after in
     let r = get_or c.args.registers.now k none in
     let here : slice_get c.args.registers.now k ≡ Some r = get_at c.args.registers.now k none f in
-    let long = c.registers.invariant.state ∙ c.requires.states in
+    let long = c.registers.invariant.state ∙ c.requires.registers.states in
     let known : r.signal.0 < length (placed (length c.args.values.now) c.args.registers.now c.registers.state) =
-    (let a = c.requires.within k r here in let b = placed_long (length c.args.values.now) c.args.registers.now c.registers.state in omega (arith, a, b)) in
+    (let a = c.requires.registers.within k r here in let b = placed_long (length c.args.values.now) c.args.registers.now c.registers.state in omega (arith, a, b)) in
     let taken = subst (λ i. HasTaken (holding c.args.marks.now c.args.word c.registers.held) (holding c.args.marks.now c.args.word c.in-Some.taken.left) c.args.word i) (sym e) t in
     let waits : marked c.join.new.self k ≡ 1 = c.registers.invariant.wait k (let a = t.within in omega (arith, a, e)) taken.was in
     record {
@@ -125,10 +125,16 @@ registers-preserved c =
           (placed (length c.args.values.now) c.args.registers.now c.registers.state)
           (placed (length c.args.values.now) c.args.registers.now c.keep.new.state) (holding c.args.marks.now c.args.word c.registers.held)
           (holding c.args.marks.now c.args.word c.in-Some.taken.left) c.join.new.self (c.registers.invariant.keeps start was w) early
-          c.registers.invariant.from taken here known (next_once c.args.registers.now c.requires.once)
+          c.registers.invariant.from taken here known (next_once c.args.registers.now c.requires.registers.once)
           (ap (placed (length c.args.values.now) c.args.registers.now) (c.keep.ensures r here) ∙ placed_set (length c.args.values.now)
-          c.args.registers.now c.registers.state k r (slice_index c.args.values.now r.next.0) c.requires.once long here) waits);
+          c.args.registers.now c.registers.state k r (slice_index c.args.values.now r.next.0) c.requires.registers.once long here) waits);
     }
+
+pub returns-clause-count : goal.returns-clause-count
+returns-clause-count c = record {
+  marks = ap length c.put.ensures ∙ set_length c.args.marks.now c.args.word 0;
+  waiting = ap length c.join.ensures ∙ set_length c.args.waiting.now (c.args.word - c.args.first) _;
+}
 
 pub returns-clause-keeps : goal.returns-clause-keeps
 returns-clause-keeps c = λ start was w.

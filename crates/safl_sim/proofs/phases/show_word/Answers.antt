@@ -72,7 +72,7 @@ show-requires-clause-within c =
     let f = found c.args.plan.now.registers.items r.0 _ c.args.word (c.args.word * 64 + c.in-Some.taken.bit) r.1 c.registers.values
     (holding c.args.waiting.now c.args.word c.registers.held) (holding c.args.waiting.now c.args.word c.in-Some.taken.left)
     (c.registers.invariant.shows r.0 r.1 r.2 r.3) (c.in-Some.ensures.some c.args.word c.args.waiting.now c.requires.word) in
-    let a = c.requires.within i c.index.result.now (get_read c.args.plan.now.registers.items i c.index.result.now f c.index.ensures) in
+    let a = c.requires.registers.within i c.index.result.now (get_read c.args.plan.now.registers.items i c.index.result.now f c.index.ensures) in
     let b = c.registers.invariant.wide in
     omega (arith, a, b)
 
@@ -111,7 +111,7 @@ registers-preserved c =
     (c.registers.invariant.shows r.0 r.1 r.2 r.3) t in
     let own = c.index.result.now in
     let at = get_read p.registers.items i own f c.index.ensures in
-    let known : own.signal.0 < length c.registers.values = (let a = c.requires.within i own at in let b = c.registers.invariant.wide in omega (arith, a, b)) in
+    let known : own.signal.0 < length c.registers.values = (let a = c.requires.registers.within i own at in let b = c.registers.invariant.wide in omega (arith, a, b)) in
     let x = slice_index c.args.state.now i in
     let told = c.show.ensures in
     record {
@@ -119,7 +119,7 @@ registers-preserved c =
       wide = (let a = c.registers.invariant.wide in let b = ap length told.is in let d = set_length c.registers.values own.signal.0 x in omega (arith, a, b, d));
       long = told.long ∙ c.registers.invariant.long;
       low = subst (λ l. AreLow p.registers.items l c.args.state.now) (sym told.is)
-          (low_shown p.registers.items c.registers.values c.args.state.now i own c.requires.once c.registers.invariant.low at known);
+          (low_shown p.registers.items c.registers.values c.args.state.now i own c.requires.registers.once c.registers.invariant.low at known);
       shows = λ now start are w. shows_step p.registers.items now c.registers.place c.args.word i own start c.registers.values c.show.new.values
           (holding c.args.waiting.now c.args.word c.registers.held) (holding c.args.waiting.now c.args.word c.in-Some.taken.left)
           (c.registers.invariant.shows now start are w) c.registers.invariant.from t at known
@@ -135,7 +135,7 @@ registers-init c = record {
   from = omega arith;
   wide = refl;
   long = refl;
-  low = c.requires.low;
+  low = c.requires.registers.low;
   shows = λ now start at w.
       let p = c.args.plan.now in
       subst (λ h. Shows p.registers.items now (c.args.word * 64) start c.args.values.now (holding c.args.waiting.now c.args.word h)) (sym c.get-held.ensures)
@@ -143,8 +143,8 @@ registers-init c = record {
   goes = λ n ws now away at r are state fits h. (fits, h);
 }
 
-pub returns-clause-room : goal.returns-clause-room
-returns-clause-room c = ap length c.put.ensures ∙ holding_long c.args.waiting.now c.args.word 0
+pub returns-clause-count : goal.returns-clause-count
+returns-clause-count c = record { marks = c.registers.invariant.long; waiting = ap length c.put.ensures ∙ holding_long c.args.waiting.now c.args.word 0 }
 
 pub returns-clause-shows : goal.returns-clause-shows
 returns-clause-shows c = λ now start at w.

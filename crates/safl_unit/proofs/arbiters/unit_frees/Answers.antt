@@ -43,8 +43,8 @@ unit_row-requires-clause-room c =
     let d = ap (λ (xs : List Sig). length xs) e in
     let t = tally_room (λ u. length (row_at rows u)) f (program_of c.args.p.now.program).functions (omega (arith, l, k)) in
     let b = c.loop-f.invariant.built.count in
-    let r = c.requires.room in
-    omega (arith, d, t, b, r)
+    let r = c.requires.room.room in
+    record { tidy = c.loop-f.invariant.built.tidy; room = omega (arith, d, t, b, r) }
 
 pub loop-f-preserved : goal.loop-f-preserved
 loop-f-preserved c =
@@ -60,7 +60,6 @@ loop-f-preserved c =
     let t = tally_next (λ u. length (row_at rows u)) f in
     let at = slice_get_read us (length us) f c.index-unit.result.now refl (omega (arith, l, k, m)) c.index-unit.ensures in
     record {
-      tidy = c.unit_row.ensures.tidy;
       built = builds_within (3 * tally (λ u. length (row_at rows u)) (f + 1)) (builds_on c.loop-f.invariant.built c.in_ok-row.ensures.built) (omega (arith, d, t));
       so_far = rows_more (program_of c.args.p.now.program) (choice_of c.args.p.now) c.loop-f.net c.unit_row.new.net (3 * length c.deref.result.now) us
           rows c.loop-f.out.items c.push.new.self.items f c.in_ok-row.row c.index-unit.result.now

@@ -19,12 +19,12 @@ returns-clause-built c =
 
 pub returns-clause-value : goal.returns-clause-value
 returns-clause-value c = λ v w a.
-    c.in_ok-free_before.ensures.frees v w ∙ ap (λ (xs : List Sig). map (on v) xs ++ frees v (on v c.in_ok-rests.rests) c.args.wants.now) c.new-row.ensures.items
+    c.in_ok-free_before.ensures.frees.shows v w ∙ ap (λ (xs : List Sig). map (on v) xs ++ frees v (on v c.in_ok-rests.rests) c.args.wants.now) c.new-row.ensures.items
     ∙ ap (λ (b : Bool). frees v b c.args.wants.now) (c.in_ok-rests.ensures.value v (wired_before c.in_ok-free_before.ensures.built.grows w))
 
 pub returns-clause-long : goal.returns-clause-long
 returns-clause-long c = λ a.
-    let p = c.in_ok-free_before.ensures.long in
+    let p = c.in_ok-free_before.ensures.frees.long in
     let q = ap (λ (xs : List Sig). length xs) c.new-row.ensures.items in
     omega (arith, p, q)
 
@@ -43,4 +43,4 @@ returns-clause-height c = λ h few.
       bits = all_own n from 0 ws (λ s q. inr q);
       base = within_up n from 1 (suc h) rests.0 (omega arith) one;
     } in
-    c.in_ok-free_before.ensures.deep from (suc h) h m stands (subst (λ (xs : List Sig). AllWithin n from m xs) (sym c.new-row.ensures.items) tt)
+    c.in_ok-free_before.ensures.frees.height from (suc h) h m stands (subst (λ (xs : List Sig). AllWithin n from m xs) (sym c.new-row.ensures.items) tt)

@@ -14,15 +14,11 @@ loop-h-init c =
     let n = c.args.net.now in
     let xs = c.args.loads.now in
     record {
-      tidy = c.requires.tidy;
-      built = builds_same n n refl 0;
+      built = builds_same n n c.requires.room.tidy refl 0;
       table = start_bits n c.in_ok-all.all.items C.functions (λ (v : Val) (i : ℕ). is_some (taken_from v xs i))
           (λ (v : Val) (i h : ℕ). (i == h) && is_some (taken_from v c.args.outcomes.now.loops.items h))
           (bits_of_loads n xs c.in_ok-all.all.items C.functions c.requires.loads.0 c.requires.count c.requires.loads.1 c.in_ok-all.ensures.bits);
     }
-
-pub add_some-requires-clause-tidy : goal.add_some-requires-clause-tidy
-add_some-requires-clause-tidy c = c.loop-h.invariant.tidy
 
 pub add_some-requires-clause-place : goal.add_some-requires-clause-place
 add_some-requires-clause-place c =
@@ -48,8 +44,8 @@ add_some-requires-clause-room c =
     let l = c.loop-h-test.true in
     let k = c.function_count-functions.ensures.count in
     let b = c.loop-h.invariant.built.count in
-    let r = c.requires.room in
-    omega (arith, b, r, l, k)
+    let r = c.requires.room.room in
+    record { tidy = c.loop-h.invariant.built.tidy; room = omega (arith, b, r, l, k) }
 
 pub loop-h-preserved : goal.loop-h-preserved
 loop-h-preserved c =
@@ -60,7 +56,6 @@ loop-h-preserved c =
     let o = c.args.outcomes.now in
     let g = loop_there C c.args.net.now o h c.index.result.now c.requires.outcomes (omega (arith, l, k)) c.index.ensures in
     record {
-      tidy = c.add_some.ensures.tidy;
       built = builds_on c.loop-h.invariant.built c.add_some.ensures.built;
       table = more_bits c.loop-h.net c.add_some.new.net c.loop-h.all.items c.add_some.new.bits.items C.functions h 1 h
           (λ (v : Val). on_in v c.load_bit-bit.result) (λ (v : Val) (i : ℕ). is_some (taken_from v c.args.loads.now i))
@@ -70,7 +65,7 @@ loop-h-preserved c =
     }
 
 pub returns-clause-tidy : goal.returns-clause-tidy
-returns-clause-tidy c = c.loop-h.invariant.tidy
+returns-clause-tidy c = c.loop-h.invariant.built.tidy
 
 pub returns-clause-built : goal.returns-clause-built
 returns-clause-built c =

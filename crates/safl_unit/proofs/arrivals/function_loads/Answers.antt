@@ -47,13 +47,14 @@ loop-k-preserved c =
     let d = ap (λ (xs : List Sig). length xs) ops in
     let g = c.loop-k.invariant.gates in
     let more = c.in_ok-push_load.ensures.gates in
-    let fit = operands_fit n n 0 own own (C.params (C.callee k)) (C.params c.callee_of-callee.result) (builds_same n n refl 0) h.words refl (ap C.params c.callee_of-callee.ensures.number) in
+    let fit = operands_fit n n 0 own own (C.params (C.callee k)) (C.params c.callee_of-callee.result) (builds_same n n c.requires.room.tidy refl 0)
+    h.words refl (ap C.params c.callee_of-callee.ensures.number) in
     record {
       gates = omega (arith, one, few, d, g, more);
       table = more_load_rows n c.loop-k.rows.items c.push_load.new.rows.items C.functions c.callee_of-callee.result k c.in_ok-load.load C.params
           (λ (v : Val) (f j : ℕ). gate ((f == C.callee j) && on v (pin c.args.goes.now j)) (operands_in v (slice_get c.args.outcomes.now.wants.items j)))
           c.loop-k.invariant.table c.push_load.ensures.count c.in_ok-push_load.ensures.rows
-          (load_fits n c.in_ok-load.load go own (C.params c.callee_of-callee.result) c.in_ok-load.ensures.bit ops (c.requires.goes k (omega (arith, l, s))) fit)
+          (load_fits n c.in_ok-load.load go own (C.params c.callee_of-callee.result) c.in_ok-load.ensures.bit ops (c.requires.goes.each k (omega (arith, l, s))) fit)
           (λ v i. taken_shown v c.in_ok-load.load (i == c.callee_of-callee.result) go own c.in_ok-load.ensures.bit ops
           ∙ want_shown C v n c.args.outcomes.now k i c.callee_of-callee.result c.index-want.result.now own go h refl c.callee_of-callee.ensures.number);
     }
@@ -69,8 +70,8 @@ join_loads-requires-clause-room c =
     let g = c.loop-k.invariant.gates in
     let b = c.loop-k.auto.k-end in
     let s = c.site_count-sites.ensures.count in
-    let r = c.requires.room in
-    omega (arith, d, g, b, s, r)
+    let r = c.requires.room.room in
+    record { tidy = c.requires.room.tidy; room = omega (arith, d, g, b, s, r) }
 
 pub returns-clause-built : goal.returns-clause-built
 returns-clause-built c =

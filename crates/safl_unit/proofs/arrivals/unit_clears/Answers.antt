@@ -59,8 +59,8 @@ join_bits-requires-clause-room c =
     let g = c.loop-h.invariant.gates in
     let b = c.loop-h.auto.h-end in
     let k = c.function_count-functions.ensures.count in
-    let r = c.requires.room in
-    omega (arith, d, g, b, k, r)
+    let r = c.requires.room.room in
+    record { tidy = c.requires.room.tidy; room = omega (arith, d, g, b, k, r) }
 
 pub returns-clause-built : goal.returns-clause-built
 returns-clause-built c =

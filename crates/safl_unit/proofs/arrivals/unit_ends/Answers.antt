@@ -46,7 +46,7 @@ loop-f-preserved c =
     let g = c.loop-f.invariant.gates in
     let more = c.in_ok-push_load.ensures.gates in
     let fit = operands_fit n n 0 c.index-end.result.now.words.items c.index-end.result.now.words.items (C.result f ∷ [])
-    (C.result c.unit_of-unit.result ∷ []) (builds_same n n refl 0) h.words refl (ap (λ (w : ℕ). w ∷ []) c.unit_of-unit.ensures.width) in
+    (C.result c.unit_of-unit.result ∷ []) (builds_same n n c.requires.room.tidy refl 0) h.words refl (ap (λ (w : ℕ). w ∷ []) c.unit_of-unit.ensures.width) in
     record {
       gates = omega (arith, one, d, g, more);
       table = more_load_rows n c.loop-f.rows.items c.push_load.new.rows.items C.functions c.unit_of-unit.result f c.in_ok-load.load (λ (u : ℕ). C.result u ∷ [])
@@ -69,8 +69,8 @@ join_loads-requires-clause-room c =
     let g = c.loop-f.invariant.gates in
     let b = c.loop-f.auto.f-end in
     let k = c.function_count-functions.ensures.count in
-    let r = c.requires.room in
-    omega (arith, d, g, b, k, r)
+    let r = c.requires.room.room in
+    record { tidy = c.requires.room.tidy; room = omega (arith, d, g, b, k, r) }
 
 pub returns-clause-built : goal.returns-clause-built
 returns-clause-built c =

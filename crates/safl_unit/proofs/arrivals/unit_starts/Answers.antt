@@ -43,7 +43,7 @@ loop-k-preserved c =
       gates = omega (arith, g, more);
       table = more_bit_rows n c.loop-k.rows.items c.push_at.new.rows.items C.functions c.unit_of-unit.result k (pin c.args.goes.now k)
           (λ (v : Val) (u j : ℕ). (u == unit_for C j) && on v (pin c.args.goes.now j))
-          c.loop-k.invariant.table c.push_at.ensures.count c.in_ok-push_at.ensures.rows (c.requires.goes k (omega (arith, l, s)))
+          c.loop-k.invariant.table c.push_at.ensures.count c.in_ok-push_at.ensures.rows (c.requires.goes.each k (omega (arith, l, s)))
           (λ v i. ap (λ (x : ℕ). (i == x) && on v (pin c.args.goes.now k)) (c.unit_of-unit.ensures.number ∙ ap C.unit c.callee_of-callee.ensures.number));
     }
 
@@ -56,8 +56,8 @@ join_bits-requires-clause-room c =
     let g = c.loop-k.invariant.gates in
     let b = c.loop-k.auto.k-end in
     let s = c.site_count-sites.ensures.count in
-    let r = c.requires.room in
-    omega (arith, d, g, b, s, r)
+    let r = c.requires.room.room in
+    record { tidy = c.requires.room.tidy; room = omega (arith, d, g, b, s, r) }
 
 pub returns-clause-built : goal.returns-clause-built
 returns-clause-built c =

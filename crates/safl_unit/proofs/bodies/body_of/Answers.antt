@@ -31,7 +31,7 @@ lower-requires-clause-able c =
     c.in_ok-run.ensures.built c.requires.pins c.requires.returns c.in_ok-run.ensures.fits runs
     ports (slice_get_read c.args.pins.now.bank.members.items (length c.args.pins.now.bank.members.items) c.args.f c.index.result.now refl (omega (arith, b, l)) c.index.ensures)
     (c.in_ok-args.ensures.items ∙ c.deref.ensures.value)
-    c.requires.room)
+    c.requires.room.room)
 
 pub returns-clause-built : goal.returns-clause-built
 returns-clause-built c =

@@ -22,8 +22,7 @@ loop-f-init c =
     let e = c.in_ok-all.ensures in
     let w = e.wants in
     record {
-      tidy = c.requires.tidy;
-      built = builds_same c.args.net.now c.args.net.now refl _;
+      built = builds_same c.args.net.now c.args.net.now c.requires.room.tidy refl _;
       done = none_outcomes c.args.p.now.program (subst IsChecked same c.functions.ensures.checked) (choice_of c.args.p.now) c.args.net.now
           c.args.pins.now c.in_ok-all.all w.0 c.requires.pins e.ends (e.count ∙ count) e.rows w.1 w.2 w.3;
     }
@@ -42,8 +41,8 @@ body_of-requires-clause-room c =
     let l : c.loop-f.f < (program_of c.args.p.now.program).functions = omega (arith, count, t) in
     let within = nodes_within (program_of c.args.p.now.program) c.loop-f.f (program_of c.args.p.now.program).functions l in
     let built = c.loop-f.invariant.built.count in
-    let room = c.requires.room in
-    omega (arith, l, within, built, room)
+    let room = c.requires.room.room in
+    record { tidy = c.loop-f.invariant.built.tidy; room = omega (arith, l, within, built, room) }
 
 pub push_loops-requires : goal.push_loops-requires
 push_loops-requires c =
@@ -67,7 +66,6 @@ loop-f-preserved c =
     let next = nodes_next (program_of c.args.p.now.program) c.loop-f.f in
     let q : Gathered = record { ends = c.push.new.self; wants = c.append.new.self; rows = c.push_loops.new.rows } in
     record {
-      tidy = c.body_of.ensures.tidy;
       built = builds_within _ (builds_on c.loop-f.invariant.built built) (omega (arith, next));
       done = next_outcomes c.args.p.now.program (subst IsChecked same c.functions.ensures.checked) (choice_of c.args.p.now) c.args.pins.now c.loop-f.f
           l c.loop-f.net c.body_of.new.net _ c.loop-f.all q body
@@ -91,8 +89,8 @@ join_loads-requires-clause-room c =
     let d = ap (total load_joins) c.deref.ensures.value in
     let gates = c.loop-f.invariant.done.gates in
     let built = c.loop-f.invariant.built.count in
-    let room = c.requires.room in
-    omega (arith, e, nodes, d, gates, built, room)
+    let room = c.requires.room.room in
+    record { tidy = c.loop-f.invariant.built.tidy; room = omega (arith, e, nodes, d, gates, built, room) }
 
 pub returns-clause-built : goal.returns-clause-built
 returns-clause-built c =

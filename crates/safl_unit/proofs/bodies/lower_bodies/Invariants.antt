@@ -1,6 +1,5 @@
 use Rattle.std.proofs.Common.{◌+◌, ◌*◌}
 use Rattle.safl_term.specs.Checked.{program_of}
-use Rattle.safl_net.specs.Names.{IsTidy}
 use Rattle.safl_lower.specs.Sources.{Builds}
 use Rattle.safl_unit.specs.Cycles.{choice_of}
 use Rattle.safl_unit.specs.Stages.{body_nodes}
@@ -9,7 +8,6 @@ use Rattle.safl_unit.proofs.bodies.lower_bodies.Given as goal
 
 abbrev pub invariant-loop-f : goal.invariant-loop-f
 invariant-loop-f l = record {
-  tidy : IsTidy l.net;
   built : Builds l.initial.net l.net (32 * body_nodes (program_of l.p.program) l.f + 33 * l.f);
   done : OutcomesUpTo l.p.program (choice_of l.p) l.net l.pins l.f l.all;
 }

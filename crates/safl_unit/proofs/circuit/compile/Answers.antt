@@ -22,7 +22,11 @@ returns-requires-clause-room c =
     let f = h.limits.functions in
     let s = h.limits.sites in
     let m = few_nodes c.args.p.now.program h in
-    room_for c.args.p.now.program h P c.in_ok-declared.declared.net c.in_ok-declared.declared.net 0 (5 * C.sites) d (omega arith) (omega (arith, f, s))
+    record {
+      tidy = c.in_ok-declared.ensures.tidy;
+      room =
+          room_for c.args.p.now.program h P c.in_ok-declared.declared.net c.in_ok-declared.declared.net 0 (5 * C.sites) d (omega arith) (omega (arith, f, s));
+    }
 
 pub lower_bodies-requires-clause-pins : goal.lower_bodies-requires-clause-pins
 lower_bodies-requires-clause-pins c =
@@ -43,8 +47,12 @@ lower_bodies-requires-clause-room c =
     let f = h.limits.functions in
     let s = h.limits.sites in
     let m = few_nodes c.args.p.now.program h in
-    room_for c.args.p.now.program h P c.in_ok-declared.declared.net c.returns.new.net (5 * C.sites) (33 * body_nodes C C.functions + 33 * C.functions)
-    d (c.in_ok-shown.ensures.built).count (omega (arith, f, s, m))
+    record {
+      tidy = c.in_ok-shown.ensures.built.tidy;
+      room =
+          room_for c.args.p.now.program h P c.in_ok-declared.declared.net c.returns.new.net (5 * C.sites) (33 * body_nodes C C.functions + 33 * C.functions)
+          d (c.in_ok-shown.ensures.built).count (omega (arith, f, s, m));
+    }
 
 pub grants-requires-clause-pins : goal.grants-requires-clause-pins
 grants-requires-clause-pins c =
@@ -65,9 +73,13 @@ grants-requires-clause-room c =
     let f = h.limits.functions in
     let s = h.limits.sites in
     let m = few_nodes c.args.p.now.program h in
-    room_for c.args.p.now.program h P c.in_ok-declared.declared.net c.lower_bodies.new.net
-    (5 * C.sites + (33 * body_nodes C C.functions + 33 * C.functions)) (5 * C.sites + 2) d
-    (builds_on c.in_ok-shown.ensures.built c.in_ok-outcomes.ensures.built).count (omega (arith, f, s, m))
+    record {
+      tidy = c.in_ok-outcomes.ensures.built.tidy;
+      room =
+          room_for c.args.p.now.program h P c.in_ok-declared.declared.net c.lower_bodies.new.net
+          (5 * C.sites + (33 * body_nodes C C.functions + 33 * C.functions)) (5 * C.sites + 2) d
+          (builds_on c.in_ok-shown.ensures.built c.in_ok-outcomes.ensures.built).count (omega (arith, f, s, m));
+    }
 
 pub edge-requires-clause-pins : goal.edge-requires-clause-pins
 edge-requires-clause-pins c =
@@ -110,9 +122,13 @@ edge-requires-clause-room c =
     let f = h.limits.functions in
     let s = h.limits.sites in
     let m = few_nodes c.args.p.now.program h in
-    room_for c.args.p.now.program h P c.in_ok-declared.declared.net c.grants.new.net
-    ((5 * C.sites + (33 * body_nodes C C.functions + 33 * C.functions)) + (5 * C.sites + 2)) (64 * C.functions + 32 * C.sites + 32) d
-    (builds_on (builds_on c.in_ok-shown.ensures.built c.in_ok-outcomes.ensures.built) (c.in_ok-goes.ensures.built)).count (omega (arith, f, s, m))
+    record {
+      tidy = c.in_ok-goes.ensures.built.tidy;
+      room =
+          room_for c.args.p.now.program h P c.in_ok-declared.declared.net c.grants.new.net
+          ((5 * C.sites + (33 * body_nodes C C.functions + 33 * C.functions)) + (5 * C.sites + 2)) (64 * C.functions + 32 * C.sites + 32) d
+          (builds_on (builds_on c.in_ok-shown.ensures.built c.in_ok-outcomes.ensures.built) (c.in_ok-goes.ensures.built)).count (omega (arith, f, s, m));
+    }
 
 pub controls-requires-clause-room : goal.controls-requires-clause-room
 controls-requires-clause-room c =
@@ -124,10 +140,14 @@ controls-requires-clause-room c =
     let f = h.limits.functions in
     let s = h.limits.sites in
     let m = few_nodes c.args.p.now.program h in
-    room_for c.args.p.now.program h P c.in_ok-declared.declared.net c.edge.new.net
-    (((5 * C.sites + (33 * body_nodes C C.functions + 33 * C.functions)) + (5 * C.sites + 2)) + (64 * C.functions + 32 * C.sites + 32)) (1) d
-    (builds_on (builds_on (builds_on c.in_ok-shown.ensures.built c.in_ok-outcomes.ensures.built) (c.in_ok-goes.ensures.built))
-    (c.in_ok-next.ensures.built)).count (omega (arith, f, s, m))
+    record {
+      tidy = c.in_ok-next.ensures.built.tidy;
+      room =
+          room_for c.args.p.now.program h P c.in_ok-declared.declared.net c.edge.new.net
+          (((5 * C.sites + (33 * body_nodes C C.functions + 33 * C.functions)) + (5 * C.sites + 2)) + (64 * C.functions + 32 * C.sites + 32)) (1) d
+          (builds_on (builds_on (builds_on c.in_ok-shown.ensures.built c.in_ok-outcomes.ensures.built) (c.in_ok-goes.ensures.built))
+          (c.in_ok-next.ensures.built)).count (omega (arith, f, s, m));
+    }
 
 pub finish-requires-clause-room : goal.finish-requires-clause-room
 finish-requires-clause-room c =
@@ -138,10 +158,14 @@ finish-requires-clause-room c =
     let f = h.limits.functions in
     let s = h.limits.sites in
     let m = few_nodes c.args.p.now.program h in
-    room_for c.args.p.now.program h P c.in_ok-declared.declared.net c.controls.new.net
-    ((((5 * C.sites + (33 * body_nodes C C.functions + 33 * C.functions)) + (5 * C.sites + 2)) + (64 * C.functions + 32 * C.sites + 32)) + 1) (0)
-    d (builds_on (builds_on (builds_on (builds_on c.in_ok-shown.ensures.built c.in_ok-outcomes.ensures.built) (c.in_ok-goes.ensures.built))
-    (c.in_ok-next.ensures.built)) (c.in_ok-copied.ensures.built)).count (omega (arith, f, s, m))
+    record {
+      tidy = c.in_ok-copied.ensures.built.tidy;
+      room =
+          room_for c.args.p.now.program h P c.in_ok-declared.declared.net c.controls.new.net
+          ((((5 * C.sites + (33 * body_nodes C C.functions + 33 * C.functions)) + (5 * C.sites + 2)) + (64 * C.functions + 32 * C.sites + 32)) + 1) (0)
+          d (builds_on (builds_on (builds_on (builds_on c.in_ok-shown.ensures.built c.in_ok-outcomes.ensures.built) (c.in_ok-goes.ensures.built))
+          (c.in_ok-next.ensures.built)) (c.in_ok-copied.ensures.built)).count (omega (arith, f, s, m));
+    }
 
 pub finish-requires-clause-grown : goal.finish-requires-clause-grown
 finish-requires-clause-grown c =

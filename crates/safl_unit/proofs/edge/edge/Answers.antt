@@ -14,60 +14,37 @@ use Rattle.safl_unit.proofs.edge.edge.Goals as goal
 pub edge_events-requires-clause-outcomes : goal.edge_events-requires-clause-outcomes
 edge_events-requires-clause-outcomes c = c.requires.outcomes.fits
 
-pub edge_events-requires-clause-count : goal.edge_events-requires-clause-count
-edge_events-requires-clause-count c =
-    let C = program_of c.args.p.now.program in
-    let P = choice_of c.args.p.now in
-    let g = c.requires.goes in
-    g.count
-
 pub edge_events-requires-clause-goes : goal.edge_events-requires-clause-goes
-edge_events-requires-clause-goes c =
-    let C = program_of c.args.p.now.program in
-    let P = choice_of c.args.p.now in
-    let g = c.requires.goes in
-    g.fits
+edge_events-requires-clause-goes c = record { count = c.requires.goes.count; each = c.requires.goes.fits }
 
 pub edge_events-requires-clause-room : goal.edge_events-requires-clause-room
-edge_events-requires-clause-room c = let r = c.requires.room in omega (arith, r)
+edge_events-requires-clause-room c = let r = c.requires.room.room in record { tidy = c.requires.room.tidy; room = omega (arith, r) }
 
 pub next_units-requires-clause-pins : goal.next_units-requires-clause-pins
 next_units-requires-clause-pins c = pins_kept c.in_ok-events.ensures.built c.requires.pins
 
-pub next_units-requires-clause-ends_count : goal.next_units-requires-clause-ends_count
-next_units-requires-clause-ends_count c =
-    let C = program_of c.args.p.now.program in
-    let P = choice_of c.args.p.now in
-    let g = c.requires.goes in
-    ap (λ (xs : List (Option Load)). length xs) c.deref.ensures.value ∙ (c.in_ok-events.ensures.done c.args.pins.now c.requires.outcomes g).ends.count
-
 pub next_units-requires-clause-ends : goal.next_units-requires-clause-ends
 next_units-requires-clause-ends c =
     let C = program_of c.args.p.now.program in
-    let P = choice_of c.args.p.now in
-    let g = c.requires.goes in
-    subst (λ (xs : List (Option Load)). SomeFit c.edge_events.new.net xs (λ u. C.result u ∷ [])) (sym c.deref.ensures.value)
-    (c.in_ok-events.ensures.done c.args.pins.now c.requires.outcomes g).ends.fits
-
-pub next_units-requires-clause-starts_count : goal.next_units-requires-clause-starts_count
-next_units-requires-clause-starts_count c =
-    let C = program_of c.args.p.now.program in
-    let P = choice_of c.args.p.now in
-    let g = c.requires.goes in
-    ap (λ (xs : List (Option Sig)). length xs) c.deref-2.ensures.value ∙ (c.in_ok-events.ensures.done c.args.pins.now c.requires.outcomes g).starts.count
+    let e = (c.in_ok-events.ensures.done c.args.pins.now c.requires.outcomes c.requires.goes).ends in
+    record {
+      count = ap (λ (xs : List (Option Load)). length xs) c.deref.ensures.value ∙ e.count;
+      each = subst (λ (xs : List (Option Load)). SomeFit c.edge_events.new.net xs (λ u. C.result u ∷ [])) (sym c.deref.ensures.value) e.fits;
+    }
 
 pub next_units-requires-clause-starts : goal.next_units-requires-clause-starts
 next_units-requires-clause-starts c =
-    let C = program_of c.args.p.now.program in
-    let P = choice_of c.args.p.now in
-    let g = c.requires.goes in
-    subst (λ (xs : List (Option Sig)). BitsFit c.edge_events.new.net xs) (sym c.deref-2.ensures.value) (c.in_ok-events.ensures.done c.args.pins.now c.requires.outcomes g).starts.fits
+    let e = (c.in_ok-events.ensures.done c.args.pins.now c.requires.outcomes c.requires.goes).starts in
+    record {
+      count = ap (λ (xs : List (Option Sig)). length xs) c.deref-2.ensures.value ∙ e.count;
+      each = subst (λ (xs : List (Option Sig)). BitsFit c.edge_events.new.net xs) (sym c.deref-2.ensures.value) e.fits;
+    }
 
 pub next_units-requires-clause-room : goal.next_units-requires-clause-room
 next_units-requires-clause-room c =
-    let r = c.requires.room in
+    let r = c.requires.room.room in
     let b = c.in_ok-events.ensures.built.count in
-    omega (arith, r, b)
+    record { tidy = c.in_ok-events.ensures.built.tidy; room = omega (arith, r, b) }
 
 pub next_members-requires-clause-pins : goal.next_members-requires-clause-pins
 next_members-requires-clause-pins c = pins_kept (builds_on c.in_ok-events.ensures.built c.in_ok-units.ensures.built) c.requires.pins
@@ -85,9 +62,9 @@ next_members-requires-clause-outcomes c = (outcomes_kept (builds_on c.in_ok-even
 
 pub next_members-requires-clause-room : goal.next_members-requires-clause-room
 next_members-requires-clause-room c =
-    let r = c.requires.room in
+    let r = c.requires.room.room in
     let b = (builds_on c.in_ok-events.ensures.built c.in_ok-units.ensures.built).count in
-    omega (arith, r, b)
+    record { tidy = c.in_ok-units.ensures.built.tidy; room = omega (arith, r, b) }
 
 pub next_sites-requires-clause-pins : goal.next_sites-requires-clause-pins
 next_sites-requires-clause-pins c = pins_kept (builds_on (builds_on c.in_ok-events.ensures.built c.in_ok-units.ensures.built) c.in_ok-members.ensures.built) c.requires.pins
@@ -95,32 +72,25 @@ next_sites-requires-clause-pins c = pins_kept (builds_on (builds_on c.in_ok-even
 pub next_sites-requires-clause-returns : goal.next_sites-requires-clause-returns
 next_sites-requires-clause-returns c = (returns_kept (builds_on (builds_on c.in_ok-events.ensures.built c.in_ok-units.ensures.built) c.in_ok-members.ensures.built) c.requires.returns).fits
 
-pub next_sites-requires-clause-goes_count : goal.next_sites-requires-clause-goes_count
-next_sites-requires-clause-goes_count c = c.requires.goes.count
-
 pub next_sites-requires-clause-goes : goal.next_sites-requires-clause-goes
-next_sites-requires-clause-goes c = (goes_kept (builds_on (builds_on c.in_ok-events.ensures.built c.in_ok-units.ensures.built) c.in_ok-members.ensures.built) c.requires.goes).fits
-
-pub next_sites-requires-clause-clears_count : goal.next_sites-requires-clause-clears_count
-next_sites-requires-clause-clears_count c =
-    let C = program_of c.args.p.now.program in
-    let P = choice_of c.args.p.now in
-    let g = c.requires.goes in
-    ap (λ (xs : List (Option Sig)). length xs) c.deref-3.ensures.value ∙ (c.in_ok-events.ensures.done c.args.pins.now c.requires.outcomes g).clears.count
+next_sites-requires-clause-goes c =
+    let built = builds_on (builds_on c.in_ok-events.ensures.built c.in_ok-units.ensures.built) c.in_ok-members.ensures.built in
+    record { count = c.requires.goes.count; each = (goes_kept built c.requires.goes).fits }
 
 pub next_sites-requires-clause-clears : goal.next_sites-requires-clause-clears
 next_sites-requires-clause-clears c =
-    let C = program_of c.args.p.now.program in
-    let P = choice_of c.args.p.now in
-    let g = c.requires.goes in
-    subst (λ (xs : List (Option Sig)). BitsFit c.next_members.new.net xs) (sym c.deref-3.ensures.value)
-    (bits_kept (builds_on c.in_ok-units.ensures.built c.in_ok-members.ensures.built) c.in_ok-events.events.clears.items (c.in_ok-events.ensures.done c.args.pins.now c.requires.outcomes g).clears.fits)
+    let e = (c.in_ok-events.ensures.done c.args.pins.now c.requires.outcomes c.requires.goes).clears in
+    record {
+      count = ap (λ (xs : List (Option Sig)). length xs) c.deref-3.ensures.value ∙ e.count;
+      each = subst (λ (xs : List (Option Sig)). BitsFit c.next_members.new.net xs) (sym c.deref-3.ensures.value)
+          (bits_kept (builds_on c.in_ok-units.ensures.built c.in_ok-members.ensures.built) c.in_ok-events.events.clears.items e.fits);
+    }
 
 pub next_sites-requires-clause-room : goal.next_sites-requires-clause-room
 next_sites-requires-clause-room c =
-    let r = c.requires.room in
+    let r = c.requires.room.room in
     let b = (builds_on (builds_on c.in_ok-events.ensures.built c.in_ok-units.ensures.built) c.in_ok-members.ensures.built).count in
-    omega (arith, r, b)
+    record { tidy = c.in_ok-members.ensures.built.tidy; room = omega (arith, r, b) }
 
 pub returns-clause-built : goal.returns-clause-built
 returns-clause-built c =

@@ -72,14 +72,10 @@ loop-f-init c =
     let n = c.args.net.now in
     let e = c.args.events.now in
     record {
-      tidy = c.requires.tidy;
-      built = builds_same n n refl 0;
+      built = builds_same n n c.requires.room.tidy refl 0;
       table = no_members (program_of c.args.p.now.program) n c.args.pins.now.bank.members.items e.entries.items e.rivals.items e.loads.items
           c.args.outcomes.now.loops.items c.new-all.result.items c.new-all.ensures.items;
     }
-
-pub next_member-requires-clause-tidy : goal.next_member-requires-clause-tidy
-next_member-requires-clause-tidy c = c.loop-f.invariant.tidy
 
 pub next_member-requires-clause-entry : goal.next_member-requires-clause-entry
 next_member-requires-clause-entry c =
@@ -121,8 +117,8 @@ next_member-requires-clause-room c =
     c.index-rival.ensures c.index-load.ensures c.index-looped.ensures c.index-now.ensures).count in
     let a = c.function_count-functions.ensures.checked.limits.params c.loop-f.f in
     let b = c.loop-f.invariant.built.count in
-    let r = c.requires.room in
-    omega (arith, l, k, h, a, b, r)
+    let r = c.requires.room.room in
+    record { tidy = c.loop-f.invariant.built.tidy; room = omega (arith, l, k, h, a, b, r) }
 
 pub loop-f-preserved : goal.loop-f-preserved
 loop-f-preserved c =
@@ -142,7 +138,6 @@ loop-f-preserved c =
     let built = c.in_ok-next.ensures.built in
     let peers : c.has_peers-many.result ≡ many C f = c.has_peers-many.ensures ∙ ap (λ (q : CheckedProgram). many (program_of q) f) c.checked.ensures.same in
     record {
-      tidy = c.next_member.ensures.tidy;
       built = builds_within (35 * (f + 1)) (builds_on c.loop-f.invariant.built built) (omega (arith, n, a));
       table = more_members C c.loop-f.net c.next_member.new.net (3 + 2 * length x.args.items) c.args.pins.now.bank.members.items e.entries.items
           e.rivals.items e.loads.items o.loops.items c.loop-f.all.items c.push.new.self.items f
@@ -154,7 +149,7 @@ loop-f-preserved c =
     }
 
 pub returns-clause-tidy : goal.returns-clause-tidy
-returns-clause-tidy c = c.loop-f.invariant.tidy
+returns-clause-tidy c = c.loop-f.invariant.built.tidy
 
 pub returns-clause-built : goal.returns-clause-built
 returns-clause-built c =

@@ -1,13 +1,11 @@
 use Rattle.std.proofs.Common.{◌*◌}
 use Rattle.safl_term.specs.Checked.{program_of}
-use Rattle.safl_net.specs.Names.{IsTidy}
 use Rattle.safl_lower.specs.Sources.{Builds}
 use Rattle.safl_unit.specs.Steps.{MembersNext}
 use Rattle.safl_unit.proofs.edge.next_members.Given as goal
 
 abbrev pub invariant-loop-f : goal.invariant-loop-f
 invariant-loop-f l = record {
-  tidy : IsTidy l.net;
   built : Builds l.initial.net l.net (35 * l.f);
   table : MembersNext (program_of l.p.program) l.net l.pins.bank.members.items l.events.entries.items l.events.rivals.items l.events.loads.items l.outcomes.loops.items l.all.items l.f;
 }

@@ -70,14 +70,10 @@ loop-done-init c =
     let n = c.args.net.now in
     let p = c.args.pins.now in
     record {
-      tidy = c.requires.tidy;
-      built = builds_same n n refl 0;
+      built = builds_same n n c.requires.room.tidy refl 0;
       table = no_sites (program_of c.args.p.now.program) (choice_of c.args.p.now) n p.bank.units.items p.bank.sites.items c.args.returns.now.ret.items
           c.args.goes.now c.args.clears.now c.in_ok-all.all.items c.in_ok-all.ensures.count;
     }
-
-pub next_site-requires-clause-tidy : goal.next_site-requires-clause-tidy
-next_site-requires-clause-tidy c = c.loop-done.invariant.tidy
 
 pub next_site-requires-clause-ret : goal.next_site-requires-clause-ret
 next_site-requires-clause-ret c =
@@ -92,10 +88,10 @@ next_site-requires-clause-ret c =
     c.index-unit.result.now c.index-now.result.now c.loop-done.invariant.built (omega arith) (omega (arith, l, s))
     c.callee_of-callee.ensures.number c.callee_of-callee.ensures.within
     (c.unit_of-owner.ensures.number ∙ ap C.unit c.caller_of-caller.ensures.number) (omega (arith, w, u)) c.requires.pins c.requires.returns
-    c.requires.goes_count c.requires.goes c.requires.clears_count c.requires.clears
-    (read_again c.args.clears.now c.unit_of-owner.result None (let m = c.requires.clears_count in omega (arith, w, u, m))) c.index-unit.ensures
+    c.requires.goes.count c.requires.goes.each c.requires.clears.count c.requires.clears.each
+    (read_again c.args.clears.now c.unit_of-owner.result None (let m = c.requires.clears.count in omega (arith, w, u, m))) c.index-unit.ensures
     c.index-now.ensures c.index-ret.ensures (read_again c.args.goes.now (c.loop-done.done + 1) (record { 0 = 0 })
-    (let m = c.requires.goes_count in omega (arith, l, s, m))) in
+    (let m = c.requires.goes.count in omega (arith, l, s, m))) in
     h.ret_fits
 
 pub next_site-requires-clause-go : goal.next_site-requires-clause-go
@@ -111,10 +107,10 @@ next_site-requires-clause-go c =
     c.index-unit.result.now c.index-now.result.now c.loop-done.invariant.built (omega arith) (omega (arith, l, s))
     c.callee_of-callee.ensures.number c.callee_of-callee.ensures.within
     (c.unit_of-owner.ensures.number ∙ ap C.unit c.caller_of-caller.ensures.number) (omega (arith, w, u)) c.requires.pins c.requires.returns
-    c.requires.goes_count c.requires.goes c.requires.clears_count c.requires.clears
-    (read_again c.args.clears.now c.unit_of-owner.result None (let m = c.requires.clears_count in omega (arith, w, u, m))) c.index-unit.ensures
+    c.requires.goes.count c.requires.goes.each c.requires.clears.count c.requires.clears.each
+    (read_again c.args.clears.now c.unit_of-owner.result None (let m = c.requires.clears.count in omega (arith, w, u, m))) c.index-unit.ensures
     c.index-now.ensures c.index-ret.ensures (read_again c.args.goes.now (c.loop-done.done + 1) (record { 0 = 0 })
-    (let m = c.requires.goes_count in omega (arith, l, s, m))) in
+    (let m = c.requires.goes.count in omega (arith, l, s, m))) in
     h.go_fits
 
 pub next_site-requires-clause-clear : goal.next_site-requires-clause-clear
@@ -130,10 +126,10 @@ next_site-requires-clause-clear c =
     c.index-unit.result.now c.index-now.result.now c.loop-done.invariant.built (omega arith) (omega (arith, l, s))
     c.callee_of-callee.ensures.number c.callee_of-callee.ensures.within
     (c.unit_of-owner.ensures.number ∙ ap C.unit c.caller_of-caller.ensures.number) (omega (arith, w, u)) c.requires.pins c.requires.returns
-    c.requires.goes_count c.requires.goes c.requires.clears_count c.requires.clears
-    (read_again c.args.clears.now c.unit_of-owner.result None (let m = c.requires.clears_count in omega (arith, w, u, m))) c.index-unit.ensures
+    c.requires.goes.count c.requires.goes.each c.requires.clears.count c.requires.clears.each
+    (read_again c.args.clears.now c.unit_of-owner.result None (let m = c.requires.clears.count in omega (arith, w, u, m))) c.index-unit.ensures
     c.index-now.ensures c.index-ret.ensures (read_again c.args.goes.now (c.loop-done.done + 1) (record { 0 = 0 })
-    (let m = c.requires.goes_count in omega (arith, l, s, m))) in
+    (let m = c.requires.goes.count in omega (arith, l, s, m))) in
     h.clear_fits
 
 pub next_site-requires-clause-fits : goal.next_site-requires-clause-fits
@@ -149,10 +145,10 @@ next_site-requires-clause-fits c =
     c.index-unit.result.now c.index-now.result.now c.loop-done.invariant.built (omega arith) (omega (arith, l, s))
     c.callee_of-callee.ensures.number c.callee_of-callee.ensures.within
     (c.unit_of-owner.ensures.number ∙ ap C.unit c.caller_of-caller.ensures.number) (omega (arith, w, u)) c.requires.pins c.requires.returns
-    c.requires.goes_count c.requires.goes c.requires.clears_count c.requires.clears
-    (read_again c.args.clears.now c.unit_of-owner.result None (let m = c.requires.clears_count in omega (arith, w, u, m))) c.index-unit.ensures
+    c.requires.goes.count c.requires.goes.each c.requires.clears.count c.requires.clears.each
+    (read_again c.args.clears.now c.unit_of-owner.result None (let m = c.requires.clears.count in omega (arith, w, u, m))) c.index-unit.ensures
     c.index-now.ensures c.index-ret.ensures (read_again c.args.goes.now (c.loop-done.done + 1) (record { 0 = 0 })
-    (let m = c.requires.goes_count in omega (arith, l, s, m))) in
+    (let m = c.requires.goes.count in omega (arith, l, s, m))) in
     (C.result (C.callee (c.loop-done.done + 1)), h.res_fits, h.fits)
 
 pub next_site-requires-clause-room : goal.next_site-requires-clause-room
@@ -160,8 +156,8 @@ next_site-requires-clause-room c =
     let l = c.loop-done-test.true in
     let s = c.site_count-sites.ensures.count in
     let b = c.loop-done.invariant.built.count in
-    let r = c.requires.room in
-    omega (arith, l, s, b, r)
+    let r = c.requires.room.room in
+    record { tidy = c.loop-done.invariant.built.tidy; room = omega (arith, l, s, b, r) }
 
 pub loop-done-preserved : goal.loop-done-preserved
 loop-done-preserved c =
@@ -176,10 +172,10 @@ loop-done-preserved c =
     c.index-unit.result.now c.index-now.result.now c.loop-done.invariant.built (omega arith) (omega (arith, l, s))
     c.callee_of-callee.ensures.number c.callee_of-callee.ensures.within
     (c.unit_of-owner.ensures.number ∙ ap C.unit c.caller_of-caller.ensures.number) (omega (arith, w, u)) c.requires.pins c.requires.returns
-    c.requires.goes_count c.requires.goes c.requires.clears_count c.requires.clears
-    (read_again c.args.clears.now c.unit_of-owner.result None (let m = c.requires.clears_count in omega (arith, w, u, m))) c.index-unit.ensures
+    c.requires.goes.count c.requires.goes.each c.requires.clears.count c.requires.clears.each
+    (read_again c.args.clears.now c.unit_of-owner.result None (let m = c.requires.clears.count in omega (arith, w, u, m))) c.index-unit.ensures
     c.index-now.ensures c.index-ret.ensures (read_again c.args.goes.now (c.loop-done.done + 1) (record { 0 = 0 })
-    (let m = c.requires.goes_count in omega (arith, l, s, m))) in
+    (let m = c.requires.goes.count in omega (arith, l, s, m))) in
     let P = choice_of c.args.p.now in
     let p = c.args.pins.now in
     let rets = c.args.returns.now.ret.items in
@@ -192,7 +188,6 @@ loop-done-preserved c =
     let clear = (slice_index_or c.args.clears.now c.unit_of-owner.result None) in
     let built = c.in_ok-next.ensures.built in
     record {
-      tidy = c.next_site.ensures.tidy;
       built = builds_within (7 * (c.loop-done.done + 1)) (builds_on c.loop-done.invariant.built built) (omega arith);
       table = more_sites C P c.loop-done.net c.next_site.new.net p.bank.units.items p.bank.sites.items rets goes clears c.loop-done.all.items
           c.push.new.self.items c.loop-done.done k (add-one c.loop-done.done) unit clear x y
@@ -206,7 +201,7 @@ loop-done-preserved c =
     }
 
 pub returns-clause-tidy : goal.returns-clause-tidy
-returns-clause-tidy c = c.loop-done.invariant.tidy
+returns-clause-tidy c = c.loop-done.invariant.built.tidy
 
 pub returns-clause-built : goal.returns-clause-built
 returns-clause-built c =

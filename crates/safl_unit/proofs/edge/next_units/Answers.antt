@@ -16,13 +16,9 @@ pub loop-f-init : goal.loop-f-init
 loop-f-init c =
     let n = c.args.net.now in
     record {
-      tidy = c.requires.tidy;
-      built = builds_same n n refl 0;
+      built = builds_same n n c.requires.room.tidy refl 0;
       table = no_units (program_of c.args.p.now.program) n c.args.pins.now.bank.units.items c.args.ends.now c.args.starts.now c.new-all.result.items c.new-all.ensures.items;
     }
-
-pub unit_after-requires-clause-tidy : goal.unit_after-requires-clause-tidy
-unit_after-requires-clause-tidy c = c.loop-f.invariant.tidy
 
 pub unit_after-requires-clause-fits : goal.unit_after-requires-clause-fits
 unit_after-requires-clause-fits c =
@@ -33,13 +29,13 @@ unit_after-requires-clause-fits c =
     let k = c.function_count-functions.ensures.count in
     let es = c.args.ends.now in
     let us = c.args.pins.now.bank.units.items in
-    let m = c.requires.ends_count in
+    let m = c.requires.ends.count in
     let j = c.requires.pins.bank.units_length in
     let e = slice_get_read es (length es) u c.index-ends-unit.result refl (omega (arith, w, l, k, m)) c.index-ends-unit.is in
     let x = slice_get_read us (length us) u c.index-now.result.now refl (omega (arith, w, l, k, j)) c.index-now.ensures in (
       C.result u,
       maybe_load_kept c.loop-f.invariant.built c.index-ends-unit.result (C.result u ∷ [])
-          (subst (λ (o : Option (Option Load)). FitsIn c.args.net.now (load_in o) (C.result u ∷ [])) e (c.requires.ends u)),
+          (subst (λ (o : Option (Option Load)). FitsIn c.args.net.now (load_in o) (C.result u ∷ [])) e (c.requires.ends.each u)),
       unit_kept c.loop-f.invariant.built (c.requires.pins.bank.units u c.index-now.result.now x),
     )
 
@@ -50,17 +46,17 @@ unit_after-requires-clause-start c =
     let l = c.loop-f-test.true in
     let k = c.function_count-functions.ensures.count in
     let ss = c.args.starts.now in
-    let m = c.requires.starts_count in
+    let m = c.requires.starts.count in
     let s = slice_get-get_or ss u None (omega (arith, w, l, k, m)) in
-    maybe_bit_kept c.loop-f.invariant.built (slice_index_or ss u None) (subst (λ (o : Option (Option Sig)). IsBitIn c.args.net.now (sig_in o)) s (c.requires.starts u))
+    maybe_bit_kept c.loop-f.invariant.built (slice_index_or ss u None) (subst (λ (o : Option (Option Sig)). IsBitIn c.args.net.now (sig_in o)) s (c.requires.starts.each u))
 
 pub unit_after-requires-clause-room : goal.unit_after-requires-clause-room
 unit_after-requires-clause-room c =
     let l = c.loop-f-test.true in
     let k = c.function_count-functions.ensures.count in
     let b = c.loop-f.invariant.built.count in
-    let r = c.requires.room in
-    omega (arith, b, r, l, k)
+    let r = c.requires.room.room in
+    record { tidy = c.loop-f.invariant.built.tidy; room = omega (arith, b, r, l, k) }
 
 pub loop-f-preserved : goal.loop-f-preserved
 loop-f-preserved c =
@@ -73,8 +69,8 @@ loop-f-preserved c =
     let es = c.args.ends.now in
     let ss = c.args.starts.now in
     let us = c.args.pins.now.bank.units.items in
-    let m = c.requires.ends_count in
-    let n = c.requires.starts_count in
+    let m = c.requires.ends.count in
+    let n = c.requires.starts.count in
     let j = c.requires.pins.bank.units_length in
     let e = slice_get_read es (length es) u c.index-ends-unit.result refl (omega (arith, w, l, k, m)) c.index-ends-unit.is in
     let s = slice_get-get_or ss u None (omega (arith, w, l, k, n)) in
@@ -84,10 +80,9 @@ loop-f-preserved c =
     let built = c.in_ok-next.ensures.built in
     let done = c.in_ok-next.ensures.done (C.result u)
     (maybe_load_kept c.loop-f.invariant.built c.index-ends-unit.result (C.result u ∷ [])
-    (subst (λ (o : Option (Option Load)). FitsIn c.args.net.now (load_in o) (C.result u ∷ [])) e (c.requires.ends u)))
+    (subst (λ (o : Option (Option Load)). FitsIn c.args.net.now (load_in o) (C.result u ∷ [])) e (c.requires.ends.each u)))
     (unit_kept c.loop-f.invariant.built (c.requires.pins.bank.units u c.index-now.result.now x)) in
     record {
-      tidy = c.unit_after.ensures.tidy;
       built = builds_within (5 * (f + 1)) (builds_on c.loop-f.invariant.built built) (omega arith);
       table = more_units C c.loop-f.net c.unit_after.new.net us es ss c.loop-f.all.items c.push.new.self.items f u c.index-ends-unit.result
           (slice_index_or ss u None) c.index-now.result.now c.in_ok-next.next
@@ -96,7 +91,7 @@ loop-f-preserved c =
     }
 
 pub returns-clause-tidy : goal.returns-clause-tidy
-returns-clause-tidy c = c.loop-f.invariant.tidy
+returns-clause-tidy c = c.loop-f.invariant.built.tidy
 
 pub returns-clause-built : goal.returns-clause-built
 returns-clause-built c =

@@ -1,13 +1,11 @@
 use Rattle.std.proofs.Common.{◌*◌}
 use Rattle.safl_term.specs.Checked.{program_of}
-use Rattle.safl_net.specs.Names.{IsTidy}
 use Rattle.safl_lower.specs.Sources.{Builds}
 use Rattle.safl_unit.specs.Steps.{UnitsNext}
 use Rattle.safl_unit.proofs.edge.next_units.Given as goal
 
 abbrev pub invariant-loop-f : goal.invariant-loop-f
 invariant-loop-f l = record {
-  tidy : IsTidy l.net;
   built : Builds l.initial.net l.net (5 * l.f);
   table : UnitsNext (program_of l.p.program) l.net l.pins.bank.units.items l.ends l.starts l.all.items l.f;
 }

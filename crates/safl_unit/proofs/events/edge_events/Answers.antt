@@ -3,11 +3,11 @@ use Rattle.safl_term.specs.Checked.{program_of}
 use Rattle.safl_net.specs.declared.cell.Sig.{Sig}
 use Rattle.safl_lower.specs.declared.loads.Load.{Load}
 use Rattle.safl_lower.specs.Tables.{SomeFit, BitsFit, taken_from, on_from}
-use Rattle.safl_lower.proofs.Building.{builds_on, builds_within, source_kept}
+use Rattle.safl_lower.proofs.Building.{builds_on, builds_within}
 use Rattle.safl_lower.proofs.KnownLoads.{some_kept}
 use Rattle.safl_unit.specs.Cycles.{choice_of}
 use Rattle.safl_unit.specs.Edges.{one_below, rival, ShowsBits, ShowsBelow}
-use Rattle.safl_unit.proofs.Keeping.{outcomes_kept, goes_kept, ends_kept, all_loads_kept, tests_kept}
+use Rattle.safl_unit.proofs.Keeping.{outcomes_kept, goes_fit_kept, goes_kept, ends_kept, all_loads_kept, tests_kept}
 use Rattle.safl_circuit.specs.Equations.{starts, clears, starts_it}
 use Rattle.safl_unit.proofs.Crossing.{outcomes_fit_kept, has_ends, has_loads, has_starts, has_clears, has_entries, has_rivals}
 use Rattle.safl_unit.proofs.events.edge_events.Goals as goal
@@ -16,34 +16,28 @@ pub unit_ends-requires-clause-outcomes : goal.unit_ends-requires-clause-outcomes
 unit_ends-requires-clause-outcomes c = c.requires.outcomes
 
 pub unit_ends-requires-clause-room : goal.unit_ends-requires-clause-room
-unit_ends-requires-clause-room c = let r = c.requires.room in omega (arith, r)
+unit_ends-requires-clause-room c = let r = c.requires.room.room in record { tidy = c.requires.room.tidy; room = omega (arith, r) }
 
 pub function_loads-requires-clause-outcomes : goal.function_loads-requires-clause-outcomes
 function_loads-requires-clause-outcomes c = outcomes_fit_kept c.in_ok-ends.ensures.built c.requires.outcomes
 
-pub function_loads-requires-clause-count : goal.function_loads-requires-clause-count
-function_loads-requires-clause-count c = c.requires.count
-
 pub function_loads-requires-clause-goes : goal.function_loads-requires-clause-goes
-function_loads-requires-clause-goes c = λ k l. source_kept c.in_ok-ends.ensures.built (c.requires.goes k l)
+function_loads-requires-clause-goes c = goes_fit_kept c.in_ok-ends.ensures.built c.requires.goes
 
 pub function_loads-requires-clause-room : goal.function_loads-requires-clause-room
 function_loads-requires-clause-room c =
-    let r = c.requires.room in
+    let r = c.requires.room.room in
     let b = c.in_ok-ends.ensures.built.count in
-    omega (arith, r, b)
-
-pub unit_starts-requires-clause-count : goal.unit_starts-requires-clause-count
-unit_starts-requires-clause-count c = c.requires.count
+    record { tidy = c.in_ok-ends.ensures.built.tidy; room = omega (arith, r, b) }
 
 pub unit_starts-requires-clause-goes : goal.unit_starts-requires-clause-goes
-unit_starts-requires-clause-goes c = λ k l. source_kept (builds_on c.in_ok-ends.ensures.built c.in_ok-loads.ensures.built) (c.requires.goes k l)
+unit_starts-requires-clause-goes c = goes_fit_kept (builds_on c.in_ok-ends.ensures.built c.in_ok-loads.ensures.built) c.requires.goes
 
 pub unit_starts-requires-clause-room : goal.unit_starts-requires-clause-room
 unit_starts-requires-clause-room c =
-    let r = c.requires.room in
+    let r = c.requires.room.room in
     let b = (builds_on c.in_ok-ends.ensures.built c.in_ok-loads.ensures.built).count in
-    omega (arith, r, b)
+    record { tidy = c.in_ok-loads.ensures.built.tidy; room = omega (arith, r, b) }
 
 pub unit_clears-requires-clause-outcomes : goal.unit_clears-requires-clause-outcomes
 unit_clears-requires-clause-outcomes c = outcomes_fit_kept (builds_on (builds_on c.in_ok-ends.ensures.built c.in_ok-loads.ensures.built) c.in_ok-starts.ensures.built) c.requires.outcomes
@@ -62,9 +56,9 @@ unit_clears-requires-clause-ends c =
 
 pub unit_clears-requires-clause-room : goal.unit_clears-requires-clause-room
 unit_clears-requires-clause-room c =
-    let r = c.requires.room in
+    let r = c.requires.room.room in
     let b = (builds_on (builds_on c.in_ok-ends.ensures.built c.in_ok-loads.ensures.built) c.in_ok-starts.ensures.built).count in
-    omega (arith, r, b)
+    record { tidy = c.in_ok-starts.ensures.built.tidy; room = omega (arith, r, b) }
 
 pub function_entries-requires-clause-outcomes : goal.function_entries-requires-clause-outcomes
 function_entries-requires-clause-outcomes c =
@@ -83,22 +77,22 @@ function_entries-requires-clause-loads c =
 
 pub function_entries-requires-clause-room : goal.function_entries-requires-clause-room
 function_entries-requires-clause-room c =
-    let r = c.requires.room in
+    let r = c.requires.room.room in
     let b = (builds_on (builds_on (builds_on c.in_ok-ends.ensures.built c.in_ok-loads.ensures.built) c.in_ok-starts.ensures.built) c.in_ok-clears.ensures.built).count in
-    omega (arith, r, b)
-
-pub function_rivals-requires-clause-count : goal.function_rivals-requires-clause-count
-function_rivals-requires-clause-count c = ap (λ (xs : List (Option Sig)). length xs) c.deref-3.ensures.value ∙ c.in_ok-entries.ensures.done.entries
+    record { tidy = c.in_ok-clears.ensures.built.tidy; room = omega (arith, r, b) }
 
 pub function_rivals-requires-clause-entries : goal.function_rivals-requires-clause-entries
-function_rivals-requires-clause-entries c = subst (λ (xs : List (Option Sig)). BitsFit c.function_entries.new.net xs) (sym c.deref-3.ensures.value) c.in_ok-entries.ensures.done.fits
+function_rivals-requires-clause-entries c = record {
+  count = ap (λ (xs : List (Option Sig)). length xs) c.deref-3.ensures.value ∙ c.in_ok-entries.ensures.done.entries;
+  each = subst (λ (xs : List (Option Sig)). BitsFit c.function_entries.new.net xs) (sym c.deref-3.ensures.value) c.in_ok-entries.ensures.done.fits;
+}
 
 pub function_rivals-requires-clause-room : goal.function_rivals-requires-clause-room
 function_rivals-requires-clause-room c =
-    let r = c.requires.room in
+    let r = c.requires.room.room in
     let b = (builds_on (builds_on (builds_on (builds_on c.in_ok-ends.ensures.built c.in_ok-loads.ensures.built) c.in_ok-starts.ensures.built)
     c.in_ok-clears.ensures.built) c.in_ok-entries.ensures.built).count in
-    omega (arith, r, b)
+    record { tidy = c.in_ok-entries.ensures.built.tidy; room = omega (arith, r, b) }
 
 pub returns-clause-built : goal.returns-clause-built
 returns-clause-built c =

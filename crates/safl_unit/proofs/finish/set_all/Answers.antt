@@ -24,7 +24,7 @@ set_nexts-requires-clause-room c =
     c.requires.grown c.requires.pins c.requires.next c.requires.controls in
     let z = all_long c.args.p.now.program h (choice_of c.args.p.now) c.args.net.now c.args.pins.now c.args.next.now c.args.controls.now
     c.requires.grown c.requires.pins c.requires.next c.requires.controls in
-    let few = c.requires.room in
+    let few = c.requires.room.room in
     omega (arith, x, y, z, few)
 
 pub set_copies-requires-clause-open : goal.set_copies-requires-clause-open
@@ -41,7 +41,7 @@ set_copies-requires-clause-room c =
     c.as_slice.result.now c.as_slice-2.result.now (c.as_slice.ensures.value ∙ c.in_ok-nexts.ensures) (c.as_slice-2.ensures.value ∙ c.in_ok-copies.ensures) in
     let z = all_long c.args.p.now.program h (choice_of c.args.p.now) c.args.net.now c.args.pins.now c.args.next.now c.args.controls.now
     c.requires.grown c.requires.pins c.requires.next c.requires.controls in
-    let few = c.requires.room in
+    let few = c.requires.room.room in
     omega (arith, x, z, few)
 
 pub returns-clause-tidy : goal.returns-clause-tidy
@@ -49,7 +49,7 @@ returns-clause-tidy c =
     all_tidy c.args.p.now.program c.program-c.ensures.checked (choice_of c.args.p.now) c.args.net.now c.args.pins.now c.args.next.now
     c.args.controls.now c.requires.grown c.requires.pins c.requires.next c.requires.controls
     c.as_slice.result.now c.as_slice-2.result.now (c.as_slice.ensures.value ∙ c.in_ok-nexts.ensures)
-    (c.as_slice-2.ensures.value ∙ c.in_ok-copies.ensures) c.set_nexts.new.net c.set_nexts.ensures c.set_copies.new.net c.set_copies.ensures c.requires.tidy
+    (c.as_slice-2.ensures.value ∙ c.in_ok-copies.ensures) c.set_nexts.new.net c.set_nexts.ensures c.set_copies.new.net c.set_copies.ensures c.requires.room.tidy
 
 pub returns-clause-set : goal.returns-clause-set
 returns-clause-set c =

@@ -38,9 +38,9 @@ unit_frees-requires-clause-room c =
     (λ u. length (site_row (program_of c.args.p.now.program) c.args.outcomes.now.wants.items u (program_of c.args.p.now.program).sites))
     (program_of c.args.p.now.program).functions (λ u. ap (λ (x : List Sig). length x) (c.in_ok-wants.ensures.rows u)) in
     let most = rows_tally (program_of c.args.p.now.program) c.args.outcomes.now.wants.items (program_of c.args.p.now.program).sites (program_of c.args.p.now.program).functions in
-    let r = c.requires.room in
+    let r = c.requires.room.room in
     let b = c.in_ok-main.ensures.built.count in
-    omega (arith, few, most, r, b)
+    record { tidy = c.in_ok-main.ensures.built.tidy; room = omega (arith, few, most, r, b) }
 
 pub loop-done-init : goal.loop-done-init
 loop-done-init c =
@@ -48,8 +48,7 @@ loop-done-init c =
     let at = main_at c.args.p.now.program c.checked-c.result.now c.args.pins.now.bank.units.items c.functions-functions.result c.index.result.now
     c.functions-functions.ensures.checked c.checked-c.ensures.same c.functions-functions.ensures.count c.requires.pins.bank.units_length c.index.ensures in
     record {
-      tidy = c.unit_frees.ensures.tidy;
-      since = builds_same c.unit_frees.new.net c.unit_frees.new.net refl 0;
+      since = builds_same c.unit_frees.new.net c.unit_frees.new.net c.unit_frees.ensures.tidy refl 0;
       so_far = granted_on C (choice_of c.args.p.now) c.main_grant.new.net c.unit_frees.new.net c.args.pins.now c.in_ok-goes.goes.items 0 _ c.in_ok-frees.ensures.built
           (none_granted C (choice_of c.args.p.now) c.main_grant.new.net c.args.pins.now c.in_ok-goes.goes.items c.in_ok-main.main c.in_ok-goes.ensures.items c.in_ok-main.ensures.fits
           (λ v r i d. c.in_ok-main.ensures.value v d.wired ∙ ap (λ (x : Bool). x && not (on v c.index.result.now.run)) d.start ∙ ap
@@ -122,11 +121,11 @@ site_grant-requires-clause-room c =
     let most = rows_tally (program_of c.args.p.now.program) c.args.outcomes.now.wants.items (program_of c.args.p.now.program).sites (program_of c.args.p.now.program).functions in
     let l = c.loop-done-test.true in
     let k = c.sites-sites.ensures.count ∙ ap (λ (x : CheckedProgram). (program_of x).sites) c.checked-c.ensures.same in
-    let r = c.requires.room in
+    let r = c.requires.room.room in
     let a = c.in_ok-main.ensures.built.count in
     let b = c.in_ok-frees.ensures.built.count in
     let d = c.loop-done.invariant.since.count in
-    omega (arith, few, most, l, k, r, a, b, d)
+    record { tidy = c.loop-done.invariant.since.tidy; room = omega (arith, few, most, l, k, r, a, b, d) }
 
 pub loop-done-preserved : goal.loop-done-preserved
 loop-done-preserved c =
@@ -159,7 +158,6 @@ loop-done-preserved c =
     let built = builds_on (builds_on c.in_ok-main.ensures.built c.in_ok-frees.ensures.built) (builds_on c.loop-done.invariant.since c.in_ok-go.ensures.built) in
     let one = unit_first c.args.p.now.program c.checked-c.result.now m c.functions-functions.ensures.checked c.checked-c.ensures.same (omega (arith, l, e)) in
     record {
-      tidy = c.site_grant.ensures.tidy;
       since = builds_on c.loop-done.invariant.since c.in_ok-go.ensures.built;
       so_far = subst (λ (i : ℕ). Granted C P c.site_grant.new.net c.args.pins.now c.push.new.self.items i) (sym (add-one m))
           (more_granted C P c.loop-done.net c.site_grant.new.net c.args.pins.now c.loop-done.goes.items c.push.new.self.items m 1 c.in_ok-go.go

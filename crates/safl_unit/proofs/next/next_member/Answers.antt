@@ -25,8 +25,8 @@ pub load_words-requires-clause-room : goal.load_words-requires-clause-room
 load_words-requires-clause-room c =
     let d = ap (λ (xs : List Sig). length xs) c.deref.ensures.value in
     let k = c.in_ok-at.ensures.built.count in
-    let r = c.requires.room in
-    omega (arith, d, k, r)
+    let r = c.requires.room.room in
+    record { tidy = c.in_ok-at.ensures.built.tidy; room = omega (arith, d, k, r) }
 
 pub load_words-requires-2-clause-fits : goal.load_words-requires-2-clause-fits
 load_words-requires-2-clause-fits c =
@@ -48,8 +48,8 @@ load_words-requires-2-clause-room c =
     let e = ap (λ (xs : List Sig). length xs) c.deref-2.ensures.value in
     let k = h.count in
     let j = c.load_words.ensures.built.count in
-    let r = c.requires.room in
-    omega (arith, d, e, k, j, r, same)
+    let r = c.requires.room.room in
+    record { tidy = c.load_words.ensures.built.tidy; room = omega (arith, d, e, k, j, r, same) }
 
 pub returns-clause-built : goal.returns-clause-built
 returns-clause-built c =

@@ -10,13 +10,9 @@ use Rattle.safl_unit.proofs.returns.returns.Goals as goal
 
 pub loop-done-init : goal.loop-done-init
 loop-done-init c = record {
-  tidy = c.requires.tidy;
-  built = builds_same c.args.net.now c.args.net.now refl 0;
+  built = builds_same c.args.net.now c.args.net.now c.requires.room.tidy refl 0;
   so_far = none_so_far (program_of c.args.p.now.program) (choice_of c.args.p.now) c.args.net.now c.args.pins.now c.in_ok-all.all c.in_ok-all.ensures.ret c.in_ok-all.ensures.ports;
 }
-
-pub site_return-requires-clause-tidy : goal.site_return-requires-clause-tidy
-site_return-requires-clause-tidy c = c.loop-done.invariant.tidy
 
 pub site_return-requires-clause-fits : goal.site_return-requires-clause-fits
 site_return-requires-clause-fits c =
@@ -36,10 +32,10 @@ site_return-requires-clause-fits c =
 pub site_return-requires-clause-room : goal.site_return-requires-clause-room
 site_return-requires-clause-room c =
     let b = c.loop-done.invariant.built.count in
-    let r = c.requires.room in
+    let r = c.requires.room.room in
     let l = c.loop-done-test.true in
     let e = c.sites-sites.ensures.count ∙ ap (λ (x : CheckedProgram). (program_of x).sites) c.program-c.ensures.same in
-    omega (arith, b, r, l, e)
+    record { tidy = c.loop-done.invariant.built.tidy; room = omega (arith, b, r, l, e) }
 
 pub loop-done-preserved : goal.loop-done-preserved
 loop-done-preserved c =
@@ -57,7 +53,6 @@ loop-done-preserved c =
     let x = c.in_ok-next.ensures.fits (C.result (C.callee (suc m))) (f.bank.units (C.callee (suc m)) c.index-unit.result.now at) (f.bank.sites (suc m) c.index-site.result.now own (omega arith)) in
     let kept : c.kept.result ≡ P.kept (suc m) = c.kept.ensures.entry ∙ ap P.kept (add-one m) in
     record {
-      tidy = c.site_return.ensures.tidy;
       built = builds_within (5 * (m + 1)) (builds_on c.loop-done.invariant.built c.in_ok-next.ensures.built) (omega arith);
       so_far = subst (λ (i : ℕ). SoFar C P c.site_return.new.net c.args.pins.now (record { ret = c.push.new.self; ports = c.push-in-loop-done.new.self }) i) (sym (add-one m))
           (more_so_far C P c.loop-done.net c.site_return.new.net c.args.pins.now c.loop-done.all
@@ -68,7 +63,7 @@ loop-done-preserved c =
     }
 
 pub returns-clause-tidy : goal.returns-clause-tidy
-returns-clause-tidy c = c.loop-done.invariant.tidy
+returns-clause-tidy c = c.loop-done.invariant.built.tidy
 
 pub returns-clause-built : goal.returns-clause-built
 returns-clause-built c =

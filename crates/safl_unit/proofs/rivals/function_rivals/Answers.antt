@@ -20,22 +20,21 @@ join_several-requires-clause-fits c = λ u.
     let C = program_of c.args.p.now.program in
     let n = c.args.net.now in
     subst (λ (rows : List (Vec Sig Global)). AreBits n (row_at rows u)) (sym c.deref.ensures.value)
-    (subst (AreBits n) (sym (c.in_ok-rows.ensures.rows u)) (entries_fit C n c.args.entries.now u c.requires.entries C.functions))
+    (subst (AreBits n) (sym (c.in_ok-rows.ensures.rows u)) (entries_fit C n c.args.entries.now u c.requires.entries.each C.functions))
 
 pub join_several-requires-clause-room : goal.join_several-requires-clause-room
 join_several-requires-clause-room c =
     let d = ap (total bit_joins) c.deref.ensures.value in
     let g = c.in_ok-rows.ensures.gates in
-    let r = c.requires.room in
-    omega (arith, d, g, r)
+    let r = c.requires.room.room in
+    record { tidy = c.requires.room.tidy; room = omega (arith, d, g, r) }
 
 pub loop-f-init : goal.loop-f-init
 loop-f-init c =
     let C = program_of c.args.p.now.program in
     let n = c.join_several.new.net in
     record {
-      tidy = c.join_several.ensures.tidy;
-      built = builds_same n n refl 0;
+      built = builds_same n n c.join_several.ensures.tidy refl 0;
       table = below_none_yet n c.new-all.result.items (λ (v : Val) (f : ℕ). one_below (rival C (on_from v c.args.entries.now) f) C.functions) c.new-all.ensures.items;
     }
 
@@ -67,10 +66,10 @@ member_rival-requires-clause-own c =
     let f = c.loop-f.f in
     let l = c.loop-f-test.true in
     let k = c.function_count-functions.ensures.count in
-    let m = c.requires.count in
+    let m = c.requires.entries.count in
     let g = slice_get-get_or es f None (omega (arith, l, k, m)) in
     maybe_bit_kept (builds_on c.in_ok-several.ensures.built c.loop-f.invariant.built) (slice_index_or es f None)
-    (subst (λ (o : Option (Option Sig)). IsBitIn c.args.net.now (sig_in o)) g (c.requires.entries f))
+    (subst (λ (o : Option (Option Sig)). IsBitIn c.args.net.now (sig_in o)) g (c.requires.entries.each f))
 
 pub member_rival-requires-clause-room : goal.member_rival-requires-clause-room
 member_rival-requires-clause-room c =
@@ -80,8 +79,8 @@ member_rival-requires-clause-room c =
     let k = c.function_count-functions.ensures.count in
     let a = c.in_ok-several.ensures.built.count in
     let b = c.loop-f.invariant.built.count in
-    let r = c.requires.room in
-    omega (arith, d, g, l, k, a, b, r)
+    let r = c.requires.room.room in
+    record { tidy = c.loop-f.invariant.built.tidy; room = omega (arith, d, g, l, k, a, b, r) }
 
 pub loop-f-preserved : goal.loop-f-preserved
 loop-f-preserved c =
@@ -102,12 +101,11 @@ loop-f-preserved c =
     let is = ap (λ (rs : List (Vec Sig Global)). row_at rs u) c.deref.ensures.value ∙ c.in_ok-rows.ensures.rows u in
     let said = subst (λ (o : Option (Option Several)). IsSeveralIn n (row_at c.deref.result.now u) (several_in o)) at (c.in_ok-several.ensures.joined u) in
     let joined = several_in_kept c.loop-f.invariant.built (entry_row C es u C.functions) x (subst (λ (xs : List Sig). IsSeveralIn n xs x) is said) in
-    let m = c.requires.count in
+    let m = c.requires.entries.count in
     let entry = slice_get-get_or es f None (omega (arith, l, k, m)) in
     let peers : c.has_peers-many.result ≡ many C f = c.has_peers-many.ensures ∙ ap (λ (q : CheckedProgram). many (program_of q) f) c.checked.ensures.same in
     let says = λ (v : Val) (i : ℕ). one_below (rival C (on_from v es) i) C.functions in
     record {
-      tidy = c.member_rival.ensures.tidy;
       built = builds_within (3 * (f + 1)) (builds_on c.loop-f.invariant.built c.in_ok-rival.ensures.built) (omega arith);
       table = below_one_more c.loop-f.net c.member_rival.new.net 3 f c.loop-f.all.items c.push.new.self.items c.in_ok-rival.rival says
           c.in_ok-rival.ensures.built c.loop-f.invariant.table c.in_ok-push.ensures.items c.in_ok-rival.ensures.fits

@@ -1,6 +1,5 @@
 use Rattle.std.proofs.Common.{◌*◌}
 use Rattle.safl_term.specs.Checked.{program_of}
-use Rattle.safl_net.specs.Names.{IsTidy}
 use Rattle.safl_lower.specs.Sources.{Builds}
 use Rattle.safl_lower.specs.Tables.{on_from}
 use Rattle.safl_unit.specs.Edges.{one_below, rival, ShowsBelow}
@@ -8,7 +7,6 @@ use Rattle.safl_unit.proofs.rivals.function_rivals.Given as goal
 
 abbrev pub invariant-loop-f : goal.invariant-loop-f
 invariant-loop-f l = record {
-  tidy : IsTidy l.net;
   built : Builds l.initial.net l.net (3 * l.f);
   table : ShowsBelow l.net l.all.items l.f (λ v f. one_below (rival (program_of l.p.program) (on_from v l.entries) f) (program_of l.p.program).functions);
 }
