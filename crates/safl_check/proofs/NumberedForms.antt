@@ -6,14 +6,16 @@ use Rattle.std.specs.String.{string_bytes}
 use Rattle.std.proofs.lemmas.List.{length-map}
 use Rattle.std.proofs.lemmas.Option.{slice_get-map}
 use Rattle.safl_word.specs.Words.{no_word}
-use Rattle.safl_term.specs.Checked as checked
-use Rattle.safl_term.specs.Checked.{CheckedProgram, program_of, name_of}
+use Rattle.safl_term.specs.Checked.{CheckedProgram}
+use Rattle.safl_term.specs.Tables as tables
+use Rattle.safl_term.specs.Tables.{Tables, program_of, name_of}
+use Rattle.safl_term.proofs.HeldByChecked.{each_checked}
 use Rattle.safl_term.specs.Terms.{Const}
 use Rattle.safl_term.specs.Tree.{shown_term}
-use Rattle.safl_term.specs.declared.checked.Function.{Function}
-use Rattle.safl_term.specs.declared.checked.Parameter.{Parameter}
-use Rattle.safl_term.specs.declared.checked.Site.{Site}
-use Rattle.safl_typing.specs.Forms.{FunctionForm, shown, shown_function, shown_param}
+use Rattle.safl_term.specs.declared.tables.Function.{Function}
+use Rattle.safl_term.specs.declared.tables.Parameter.{Parameter}
+use Rattle.safl_term.specs.declared.tables.Site.{Site}
+use Rattle.safl_typing.specs.Forms.{FunctionForm, form_of, shown_function, shown_param}
 use Rattle.safl_check.specs.Numbered.{of_function, of_site, program_in, name_in, param_names_in}
 use Rattle.safl_check.specs.Laws.{IsNumbered}
 
@@ -23,11 +25,11 @@ at_shown own has d None h = refl
 at_shown own has d (Some f) h = h f
 
 -- what a function has is what its form has
-function_shown : {A : Type 0} (own : Function → A) (has : FunctionForm → A) (d : A) (c : CheckedProgram) →
-    ((f : Function) → own f ≡ has (shown_function f)) → (i : ℕ) → checked.of_function own d c i ≡ of_function has d (shown c) i
+function_shown : {A : Type 0} (own : Function → A) (has : FunctionForm → A) (d : A) (c : Tables) →
+    ((f : Function) → own f ≡ has (shown_function f)) → (i : ℕ) → tables.of_function own d c i ≡ of_function has d (form_of c) i
 function_shown own has d c h i = at_shown own has d (slice_get c.functions i) h ∙ ap (λ (o : Option FunctionForm). option_map_or has o d) (sym (slice_get-map shown_function c.functions i))
 
-site_shown : (has : Site → ℕ) (m n : ℕ) (c : CheckedProgram) → m ≡ n → (k : ℕ) → checked.of_site has m c k ≡ of_site has n (shown c) k
+site_shown : (has : Site → ℕ) (m n : ℕ) (c : Tables) → m ≡ n → (k : ℕ) → tables.of_site has m c k ≡ of_site has n (form_of c) k
 site_shown has m n c e zero = e
 site_shown has m n c e (suc k) = refl
 
@@ -39,7 +41,7 @@ names_shown : (ps : List Parameter) → map (λ p. string_bytes p.name) ps ≡ m
 names_shown [] = refl
 names_shown (p ∷ ps) = ap (λ (l : List (List ℕ)). string_bytes p.name ∷ l) (names_shown ps)
 
-program_shown : (c : CheckedProgram) → program_of c ≡ program_in (shown c)
+program_shown : (c : Tables) → program_of c ≡ program_in (form_of c)
 unfolding program_of program_in
 program_shown c =
     let count : length c.functions ≡ length (map shown_function c.functions) = sym (length-map c.functions shown_function) in
@@ -56,13 +58,13 @@ program_shown c =
       callee = λ s. site_shown (λ t. t.callee) _ _ c last s k;
     }
 
-name_shown : (c : CheckedProgram) → name_of c ≡ name_in (shown c)
+name_shown : (c : Tables) → name_of c ≡ name_in (form_of c)
 unfolding name_of name_in
 name_shown c = λ k f. function_shown (λ g. string_bytes g.name) (λ g. g.name) [] c (λ g. refl) f k
 
-params_shown : (c : CheckedProgram) → checked.param_names c ≡ param_names_in (shown c)
-unfolding checked.param_names param_names_in
+params_shown : (c : Tables) → tables.param_names c ≡ param_names_in (form_of c)
+unfolding tables.param_names param_names_in
 params_shown c = λ k f. function_shown (λ g. map (λ p. string_bytes p.name) g.params.items) (λ g. map (λ p. p.name) g.params) [] c (λ g. names_shown g.params.items) f k
 
 pub numbered : (c : CheckedProgram) → IsNumbered c
-numbered c = record { program = program_shown c; names = name_shown c; params = params_shown c }
+numbered = each_checked IsNumbered (λ t. record { program = program_shown t; names = λ k. record { name = name_shown t k; params = params_shown t k } })

@@ -10,7 +10,7 @@ use Rattle.safl_tree.specs.Shown.{shown_definition, shown_definitions}
 use Rattle.safl_tree.specs.declared.tree.Def.{Def}
 use Rattle.safl_tree.specs.Printable.{IsFormedProgram}
 use Rattle.safl_typing.specs.Heads.{Head, heads, unit_of}
-use Rattle.safl_typing.specs.Forms.{FunctionForm, Form, AreFunctionsOf, AreShallow, IsFormOf, all_sites, shown, shown_function, max_functions}
+use Rattle.safl_typing.specs.Forms.{FunctionForm, Form, AreFunctionsOf, AreShallow, IsFormOf, all_sites, form_of, shown_function, max_functions}
 use Rattle.safl_typing.specs.Laws.{WalkGivesForm}
 use Rattle.safl_typing.specs.PlainTyped.{Refuses}
 use Rattle.safl_term.specs.Readiness.{or_else}
@@ -87,7 +87,7 @@ is_form law ds fs formed e p m = (law ds (form_of fs) formed).0 (outcome_ok ds f
 -- the form of a program with these functions and sites
 pub form_shown : WalkGivesForm → (ds : List Definition) (fs : List Function) (sites : List Site) → IsFormedProgram ds → limits ds ≡ None →
     functions_from (heads ds) [] 0 0 1 ds ≡ Ok (map shown_function fs) → main_fault ds ≡ None
-    → sites ≡ all_sites 0 (map shown_function fs) → IsFormOf ds (shown (record { functions = fs; sites = sites }))
+    → sites ≡ all_sites 0 (map shown_function fs) → IsFormOf ds (form_of (record { functions = fs; sites = sites }))
 form_shown law ds fs sites formed e p m s =
     subst (λ (l : List Site). IsFormOf ds (record { functions = map shown_function fs; sites = l })) (sym s) (is_form law ds (map shown_function fs) formed e p m)
 
@@ -98,7 +98,7 @@ as_many all n u w lo hi (d ∷ ds) [] h = absurd h
 as_many all n u w lo hi (d ∷ ds) (f ∷ fs) (m, is, j, rest) = ap (λ k. suc k) (as_many all (suc n) (unit_of n u d) d.width m hi ds fs rest)
 
 -- the functions of a form are not too many
-pub few_functions : (ds : List Definition) (fs : List Function) (sites : List Site) → IsFormOf ds (shown (record { functions = fs; sites = sites })) → length fs ≤ 1000
+pub few_functions : (ds : List Definition) (fs : List Function) (sites : List Site) → IsFormOf ds (form_of (record { functions = fs; sites = sites })) → length fs ≤ 1000
 few_functions ds fs sites h =
     let count = as_many (heads ds) 0 0 0 1 (suc h.last_site) ds (map shown_function fs) h.functions in
     omega (arith, h.few_functions, count, length-map fs shown_function)

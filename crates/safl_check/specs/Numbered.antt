@@ -2,6 +2,7 @@
 use Rattle.std.specs.Prelude.{ℕ, zero, suc, ◌-◌, List, [], length, map, slice_get}
 use Rattle.std.specs.Option.{option_map_or}
 use Rattle.safl_word.specs.Words.{no_word}
+use Rattle.safl_term.specs.Names.{Names}
 use Rattle.safl_term.specs.Program.{Program}
 use Rattle.safl_term.specs.Terms.{Const}
 use Rattle.safl_term.specs.declared.checked.Site.{Site}
@@ -40,3 +41,6 @@ name_in = of_function (λ f. f.name) []
 
 unfoldable pub param_names_in : Form → ℕ → List (List ℕ)
 param_names_in = of_function (λ f. map (λ p. p.name) f.params) []
+
+abbrev pub names_in : Form → Names
+names_in c = record { name = name_in c; params = param_names_in c }

@@ -2,7 +2,7 @@
 
 ghost use Rattle.std.specs.Prelude.{◌≡◌, IfOk, length, map, string_bytes};
 ghost use Rattle.safl_word.specs.Tokens.{IsName};
-ghost use Rattle.safl_term.specs.Checked.{BodyHasSlots};
+ghost use Rattle.safl_term.specs.Tables.{BodyHasSlots};
 ghost use Rattle.safl_term.specs.Slots.{HasSlots};
 ghost use Rattle.safl_term.specs.Tree.{shown_term};
 ghost use Rattle.safl_tree.specs.Shown.{shown_definition, shown_parameters};

@@ -2,7 +2,7 @@
 
 ghost use Rattle.std.specs.Prelude.{◌≡◌, ◌↔◌, [], None, IfOk, IsTrue};
 ghost use Rattle.std.specs.List.{All};
-ghost use Rattle.safl_term.specs.Checked.{BodyHasSlots};
+ghost use Rattle.safl_term.specs.Tables.{BodyHasSlots};
 ghost use Rattle.safl_tree.specs.Shown.{shown_definition, shown_definitions};
 ghost use Rattle.safl_tree.specs.Printable.{IsFormedDefinition, IsFormedProgram};
 ghost use Rattle.safl_typing.specs.Forms.{AreShallow};

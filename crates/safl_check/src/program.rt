@@ -2,7 +2,8 @@
 
 ghost use Rattle.std.specs.Prelude.{◌≡◌, [], None, Ok, map, IfOk, OnOk, IfErr};
 ghost use Rattle.std.specs.List.{All};
-ghost use Rattle.safl_term.specs.Checked.{BodyHasSlots, IsChecked};
+ghost use Rattle.safl_term.specs.Checked.{IsChecked};
+ghost use Rattle.safl_term.specs.Tables.{BodyHasSlots};
 ghost use Rattle.safl_tree.specs.Shown.{shown_definitions, shown_program};
 ghost use Rattle.safl_tree.specs.Printable.{IsFormedProgram};
 ghost use Rattle.safl_typing.specs.Heads.{heads};

@@ -1,10 +1,11 @@
 -- The Accepts of a cycle.
 use Rattle.std.proofs.Common.{◌≡◌, ℕ, zero, suc, ◌<◌, ◌≤◌, List, [], length, Option, Some, None, Bool, true, false, cond, not, ◌&&◌, ◌==◌, nat_lt}
+use Rattle.safl_sites.specs.Plan.{Choice}
 use Rattle.std.proofs.Common.{nat_le, is_some, refl, sym, ap, ◌∙◌, subst, inl, inr, ⊎_elim, ◌⊎◌, arith}
 use Rattle.std.proofs.Math.Path.{fun_ext}
 use Rattle.std.proofs.lemmas.Bool.{cases_Bool, cases_eq, cases_order, eqb-true, eq-eqb, le-ltb, leb-true, and_parts, not-true, true≢false}
 use Rattle.safl_circuit.proofs.Middle.{member_says}
-use Rattle.safl_circuit.specs.Equations.{Registers, Inputs, Choice, accepts, body_says, body_wants, want, wants_at, go, go_words, go_in, or_word}
+use Rattle.safl_circuit.specs.Equations.{Registers, Inputs, accepts, body_says, body_wants, want, wants_at, go, go_words, go_in, or_word}
 use Rattle.safl_circuit.specs.Steps.{is_running, is_delivering}
 use Rattle.safl_calls.proofs.Basics.{put_at, put_off, sweep, first_none, first_only, first_skip, first_zero, all_none, none_of, some_none, some_of}
 use Rattle.safl_calls.proofs.Basics.{some_is, cond_some, unsent_is, mask_other, mask_skip, mask_at}

@@ -1,5 +1,6 @@
 -- The words on the argument registers are the arguments of the events.
 use Rattle.std.proofs.Common.{◌≡◌, ℕ, zero, suc, ◌<◌, ◌≤◌, List, [], ◌∷◌, ◌++◌, length, Option, Some, None, Bool, true, false, cond, ◌||◌, nat_lt}
+use Rattle.safl_sites.specs.Plan.{Choice}
 use Rattle.std.proofs.Common.{is_some, refl, sym, ap, ◌∙◌, subst, ⊎_elim, ◌⊎◌, arith, append-nil, append_assoc, length-append}
 use Rattle.std.proofs.lemmas.Bool.{cases_eq, eq-eqb, ne_eqb, true≢false, lt-ltb, le-ltb}
 use Rattle.safl_circuit.proofs.Accepts.{Meets, Started, accepted_to, asked_same, go_asks, go_one, go_idle}
@@ -9,7 +10,7 @@ use Rattle.safl_circuit.proofs.Edge.{load_found}
 use Rattle.safl_circuit.proofs.Ends.{Ended, Moved, moved_to, loop_says, loop_found, running, Running, goes_yet}
 use Rattle.safl_circuit.proofs.Fate.{Holds}
 use Rattle.safl_circuit.proofs.WordsSeen.{words_seen}
-use Rattle.safl_circuit.specs.Equations.{Registers, Inputs, Choice, ret, go, go_words, load_in, loads, loop_words, returns, accepts, finishes}
+use Rattle.safl_circuit.specs.Equations.{Registers, Inputs, ret, go, go_words, load_in, loads, loop_words, returns, accepts, finishes}
 use Rattle.safl_circuit.specs.Equations.{goes_on, cycle_events, next, end_word, starts_it, or_word}
 use Rattle.safl_circuit.specs.Steps.{Quiet, StepsAt, input_at, registers_at, history}
 use Rattle.safl_calls.proofs.Basics.{first_some, first_only, first_skip, first_zero, all_none, not_some, none_of, some_of, some_is}

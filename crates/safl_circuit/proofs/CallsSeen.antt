@@ -1,5 +1,6 @@
 -- The words on the argument registers are the argument lists of the evaluation.
 use Rattle.std.proofs.Common.{◌≡◌, ℕ, zero, suc, ◌+◌, ◌-◌, ◌<◌, ◌≤◌, List, [], ◌∷◌, ◌++◌, length, Bool, true, cond, refl, sym, ap, ◌∙◌, subst, arith, ⊎_elim, append-nil, append_assoc}
+use Rattle.safl_sites.specs.Plan.{Choice}
 use Rattle.std.specs.List.Sorted.{IsPermutation}
 use Rattle.std.proofs.lemmas.Bool.{cases_eq}
 use Rattle.safl_word.specs.Words.{Word}
@@ -14,7 +15,7 @@ use Rattle.safl_calls.proofs.FromWellFormed.{numbered}
 use Rattle.safl_calls.proofs.Basics.{after_append, legal_front, put_at}
 use Rattle.safl_calls.proofs.MachineLaws.{stops, same_calls}
 use Rattle.safl_calls.specs.Interference.{OneInUse, ShownWordsServe}
-use Rattle.safl_circuit.specs.Equations.{Registers, Choice, ret, accepts, finishes, goes_on, cycle_events}
+use Rattle.safl_circuit.specs.Equations.{Registers, ret, accepts, finishes, goes_on, cycle_events}
 use Rattle.safl_circuit.specs.Steps.{Quiet, input_at, registers_at, history}
 use Rattle.safl_circuit.proofs.DoneOnce.{DoneOnce}
 use Rattle.safl_circuit.proofs.WordsSeen.{words_seen}

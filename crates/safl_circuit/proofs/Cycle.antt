@@ -1,5 +1,6 @@
 -- A cycle of the circuit is a list of events of the machine.
 use Rattle.std.proofs.Common.{◌≡◌, ℕ, zero, suc, ◌+◌, ◌<◌, List, [], ◌∷◌, ◌++◌, Bool, true, false, cond, ◌||◌, refl, sym, ap, ◌∙◌, subst, ⊎_elim, arith, length}
+use Rattle.safl_sites.specs.Plan.{Choice}
 use Rattle.std.proofs.lemmas.Bool.{and_parts, false≢true}
 use Rattle.safl_circuit.proofs.Accepts.{Meets, Started, accepted, go_one, go_idle}
 use Rattle.safl_circuit.proofs.Claims.{Steps}
@@ -9,7 +10,7 @@ use Rattle.safl_circuit.proofs.Fate.{Holds}
 use Rattle.safl_circuit.proofs.Middle.{quiet, unit_quiet, site_came, says_it, wants_it, last_returns}
 use Rattle.safl_circuit.proofs.Progress.{moves}
 use Rattle.safl_circuit.proofs.Start.{Back, returned, ret_delivers}
-use Rattle.safl_circuit.specs.Equations.{Registers, Inputs, Choice, ret, go, returns, accepts, finishes, goes_on, cycle_events, next, ends, or_word, end_in}
+use Rattle.safl_circuit.specs.Equations.{Registers, Inputs, ret, go, returns, accepts, finishes, goes_on, cycle_events, next, ends, or_word, end_in}
 use Rattle.safl_circuit.specs.Steps.{Shows, Quiet, is_running, is_delivering, was_sent, is_returned, input_at, registers_at, history}
 use Rattle.safl_calls.proofs.Basics.{moves_append, after_append, legal_append, last_append, mask_all}
 use Rattle.safl_calls.proofs.Invariant.{Inv, inv_after, unsent_at_rest}

@@ -1,6 +1,7 @@
 -- done comes once, in time, with main's value.
 use Rattle.std.specs.Prelude.{◌≡◌, ◌≢◌, ℕ, ◌<◌, ◌≤◌, List, true, false}
-use Rattle.safl_circuit.specs.Equations.{Registers, Choice, ret, go}
+use Rattle.safl_sites.specs.Plan.{Choice}
+use Rattle.safl_circuit.specs.Equations.{Registers, ret, go}
 use Rattle.safl_circuit.specs.Steps.{registers_at, input_at}
 use Rattle.safl_calls.specs.Machine.{Event, opening, Enabled, Legal, after}
 use Rattle.safl_calls.specs.Moves.{moves_count}

@@ -1,10 +1,11 @@
 -- The registers after the edge show the state after the cycle.
 use Rattle.std.proofs.Common.{◌≡◌, ℕ, zero, suc, ◌<◌, ◌≤◌, List, [], Option, Some, None, Bool, true, false, cond, ◌||◌, ◌==◌, is_some, refl, sym, ap, ◌∙◌, ⊎_elim, arith}
+use Rattle.safl_sites.specs.Plan.{Choice}
 use Rattle.std.proofs.lemmas.Bool.{cases_eq, eqb-true, eqb-false, eq-eqb, ne_eqb, and_parts, true≢false, not-true}
 use Rattle.safl_circuit.proofs.Accepts.{Meets, Started, asked_parts, go_within, go_one, go_asks}
 use Rattle.safl_circuit.proofs.Ends.{Ended, Moved, loops_at}
 use Rattle.safl_circuit.proofs.Fate.{Holds, Fate, Stays, Starts, EndsWith, LoopsTo, fate, delivers_runs, runs_delivers}
-use Rattle.safl_circuit.specs.Equations.{Registers, Inputs, Choice, many, end_in, loop_words, loop_in, or_word, go, go_in, go_words, load_in, loads}
+use Rattle.safl_circuit.specs.Equations.{Registers, Inputs, many, end_in, loop_words, loop_in, or_word, go, go_in, go_words, load_in, loads}
 use Rattle.safl_circuit.specs.Equations.{ends, loops, starts, clears, starts_it, if_other, starts_other, next}
 use Rattle.safl_circuit.specs.Steps.{is_running, is_delivering, was_sent, is_returned}
 use Rattle.safl_calls.proofs.Basics.{first_none, first_only, all_none, some_none, some_is, cond_some, not_some, mask_all}

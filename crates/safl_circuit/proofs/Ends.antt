@@ -1,11 +1,12 @@
 -- The Finishes and the Loops of a cycle.
 use Rattle.std.proofs.Common.{◌≡◌, ℕ, zero, suc, ◌<◌, ◌≤◌, List, [], ◌∷◌, ◌++◌, Option, Some, None, Bool, true, false, cond, ◌&&◌, ◌==◌, is_some}
+use Rattle.safl_sites.specs.Plan.{Choice}
 use Rattle.std.proofs.Common.{refl, sym, ap, ◌∙◌, subst, inl, inr, ⊎_elim, ◌⊎◌, arith}
 use Rattle.std.proofs.Math.Path.{fun_ext}
 use Rattle.std.proofs.lemmas.Bool.{cases_Bool, cases_eq, eqb-true, eq-eqb, ne_eqb, and_parts, true≢false}
 use Rattle.safl_circuit.proofs.Accepts.{Meets, Started, begun, not_started, back_same}
 use Rattle.safl_circuit.proofs.Middle.{member_says}
-use Rattle.safl_circuit.specs.Equations.{Registers, Inputs, Choice, body_says, end_word, end_in, goes_to, loop_words, loop_in, finishes, goes_on, or_word}
+use Rattle.safl_circuit.specs.Equations.{Registers, Inputs, body_says, end_word, end_in, goes_to, loop_words, loop_in, finishes, goes_on, or_word}
 use Rattle.safl_calls.proofs.Basics.{put_at, put_off, sweep, last_append, first_some, first_only, first_skip, first_zero, all_none, none_of, some_none, some_of, some_is, cond_some, not_some}
 use Rattle.safl_calls.proofs.Invariant.{Inv}
 use Rattle.safl_calls.proofs.Locality.{answer_local}

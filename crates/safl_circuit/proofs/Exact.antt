@@ -1,5 +1,6 @@
 -- Where no two calls can overlap, done comes in the last cycle in which it may.
 use Rattle.std.proofs.Common.{◌≡◌, ℕ, zero, suc, ◌≤◌, List, ◌++◌, length, true, sym, ap, ◌∙◌, ⊎_elim, arith}
+use Rattle.safl_sites.specs.Plan.{Choice}
 use Rattle.std.proofs.lemmas.Bool.{cases_eq, false≢true}
 use Rattle.safl_circuit.proofs.CallsSeen.{done_events}
 use Rattle.safl_circuit.proofs.CoreOf.{core_of}
@@ -8,7 +9,7 @@ use Rattle.safl_circuit.proofs.DoneOnce.{DoneOnce}
 use Rattle.safl_circuit.proofs.Once.{in_time, after_done}
 use Rattle.safl_circuit.proofs.OneMove.{one_move}
 use Rattle.safl_circuit.specs.Correct.{latest}
-use Rattle.safl_circuit.specs.Equations.{Registers, Choice, ret, returns, cycle_events}
+use Rattle.safl_circuit.specs.Equations.{Registers, ret, returns, cycle_events}
 use Rattle.safl_circuit.specs.Steps.{Quiet, StepsAt, input_at, registers_at, history}
 use Rattle.safl_calls.proofs.Basics.{moves_append}
 use Rattle.safl_calls.proofs.FromWellFormed.{numbered}

@@ -1,8 +1,9 @@
 -- What becomes of each unit in a cycle.
 use Rattle.std.proofs.Common.{◌≡◌, ℕ, suc, ◌<◌, ◌≤◌, List, [], Option, Some, None, true, cond, ◌||◌, ◌==◌, is_some, refl, sym, ap, ◌∙◌, arith}
+use Rattle.safl_sites.specs.Plan.{Choice}
 use Rattle.safl_circuit.proofs.Accepts.{Meets, Started, begun, not_started, go_found}
 use Rattle.safl_circuit.proofs.Ends.{Ended, done_as, Moved, moved_as, running, end_found, loop_found, loop_in_found, no_end, ready_yet, goes_yet, Running}
-use Rattle.safl_circuit.specs.Equations.{Registers, Inputs, Choice, ret, many, body_says, end_in, loop_words, loop_in, or_word, go, go_in, go_words}
+use Rattle.safl_circuit.specs.Equations.{Registers, Inputs, ret, many, body_says, end_in, loop_words, loop_in, or_word, go, go_in, go_words}
 use Rattle.safl_circuit.specs.Steps.{is_running, was_sent, is_returned}
 use Rattle.safl_calls.proofs.Basics.{first_some, some_none, some_of, not_some}
 use Rattle.safl_calls.proofs.Invariant.{Inv}

@@ -1,9 +1,10 @@
 -- After the Returns of a cycle the wires say what the machine's bodies say.
 use Rattle.std.proofs.Common.{◌≡◌, ℕ, zero, suc, ◌<◌, List, [], ◌∷◌, ◌++◌, Option, Some, None, Bool, true, false, cond, not, ◌&&◌, ◌||◌, ◌==◌, nat_lt, nat_le, refl, sym, ap, ◌∙◌, ⊎_elim, arith}
+use Rattle.safl_sites.specs.Plan.{Choice}
 use Rattle.std.proofs.Math.Path.{fun_ext}
 use Rattle.std.proofs.lemmas.Bool.{cases_eq, eqb-true, eq-eqb, ne_eqb, lt-ltb, leb-true, and_parts, and_right}
 use Rattle.safl_circuit.proofs.Start.{home, Back, ret_delivers}
-use Rattle.safl_circuit.specs.Equations.{Registers, Choice, ret, returns, many, other_than, path, on_wires, body_says, body_wants}
+use Rattle.safl_circuit.specs.Equations.{Registers, ret, returns, many, other_than, path, on_wires, body_says, body_wants}
 use Rattle.safl_circuit.specs.Steps.{Shows, was_sent, is_returned}
 use Rattle.safl_calls.proofs.Basics.{last_append, first_none, cond_cong, none_of, some_none, unsent_is}
 use Rattle.safl_calls.proofs.Invariant.{Inv}

@@ -7,8 +7,8 @@ use Rattle.safl_term.specs.Program.{Program, unit_for}
 use Rattle.safl_net.specs.Netlist.{Netlist, Signal, Kind, Input, Reg, Wire}
 use Rattle.safl_net.specs.Names.{is_temp, temp_name, one_wire, wires, IsTidy}
 use Rattle.safl_net.specs.Arranged.{IsInput, IsRegister, Each}
-use Rattle.safl_circuit.specs.Equations.{Choice}
-use Rattle.safl_circuit.specs.Names.{Names}
+use Rattle.safl_sites.specs.Plan.{Choice}
+use Rattle.safl_term.specs.Names.{Names}
 use Rattle.safl_circuit.specs.Layout.{Line, lines, function_wires, site_wires, layout_wires, input_kind, register_kind, wire_kind, each_line, temporaries}
 use Rattle.safl_net.specs.Mirrors.{input_line, register_line, wire_line, IsNamed, IsTemp, IsLaidOut}
 

@@ -1,5 +1,6 @@
 -- Registers and inputs of cycles that show the same.
 use Rattle.std.proofs.Common.{◌≡◌, ℕ, suc, List, [], ◌∷◌, ◌++◌, map, length, Bool, true, false, cond, slice_get, slice_index, Some, refl, sym, ap, ◌∙◌, arith, inl, inr, ◌⊎◌}
+use Rattle.safl_term.specs.Names.{Names}
 use Rattle.std.specs.Prelude.{codes}
 use Rattle.std.proofs.Math.Path.{fun_ext}
 use Rattle.std.specs.List.{flat_map}
@@ -10,7 +11,7 @@ use Rattle.safl_net.specs.Runs.{is_argument, input_numbers, start_number}
 use Rattle.safl_net.specs.Valuations.{Valuation, Fits, read, read_next}
 use Rattle.safl_net.proofs.Reading.{read_word}
 use Rattle.safl_circuit.specs.Equations.{Inputs}
-use Rattle.safl_circuit.specs.Names.{Names, view, registers_now, registers_next, input_now, one, as_words}
+use Rattle.safl_circuit.specs.Names.{view, registers_now, registers_next, input_now, one, as_words}
 use Rattle.safl_net.specs.Mirrors.{Line, input_line, inputs_in, Shows}
 use Rattle.safl_net.proofs.GatheredLists.{Member, map_members}
 use Rattle.safl_net.proofs.Twins.{input_lasts}

@@ -1,5 +1,7 @@
 -- Schemes and plans carry over.
 use Rattle.std.proofs.Common.{◌≡◌, ℕ, suc, ◌+◌, List, [], ◌∷◌, ◌++◌, map, length, Option, Some, None, Bool, true, false, cond, bytes_eq, slice_get, refl, sym, ap, subst, ◌∙◌, arith, append_assoc}
+use Rattle.safl_term.specs.Names.{Names}
+use Rattle.safl_sites.specs.Plan.{Choice}
 use Rattle.std.proofs.lemmas.List.{append-nil}
 use Rattle.std.proofs.lemmas.Slice.Eq.{bytes_eq-Decides}
 use Rattle.std.specs.Prelude.{codes}
@@ -11,8 +13,8 @@ use Rattle.safl_net.specs.Names.{is_temp}
 use Rattle.safl_net.specs.Making.{kind_in, name_in, name_at}
 use Rattle.safl_net.specs.Valuations.{Valuation, Fits, reset_number, reset_state, kind_reset}
 use Rattle.safl_net.proofs.Reading.{place_of}
-use Rattle.safl_circuit.specs.Equations.{Choice, next}
-use Rattle.safl_circuit.specs.Names.{Names, of_function, of_site, registers_now, registers_next, input_now}
+use Rattle.safl_circuit.specs.Equations.{next}
+use Rattle.safl_circuit.specs.Names.{of_function, of_site, registers_now, registers_next, input_now}
 use Rattle.safl_circuit.specs.Layout.{Line, layout_wires, register_kind, wire_kind, each_line, temporaries, IsCopy, HasPlan}
 use Rattle.safl_circuit.specs.Scheme.{Agree, Wires, Scheme}
 use Rattle.safl_net.specs.Mirrors.{Shows}

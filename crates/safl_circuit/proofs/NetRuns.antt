@@ -1,5 +1,7 @@
 -- In a run of the netlist the named registers are those of the circuit, and the ports do what they should.
 use Rattle.std.proofs.Common.{◌≡◌, ◌≢◌, ℕ, zero, suc, ◌+◌, ◌*◌, ◌<◌, ◌≤◌, List, [], ◌∷◌, ◌++◌, length, Option, Some, None, Bool, true, false, cond}
+use Rattle.safl_term.specs.Names.{Names}
+use Rattle.safl_sites.specs.Plan.{Choice}
 use Rattle.std.proofs.Common.{◌&&◌, ◌||◌, ◌==◌, is_some, refl, sym, ap, ◌∙◌, subst, arith, get_or}
 use Rattle.std.specs.Prelude.{slice_get, codes}
 use Rattle.std.specs.List.Sorted.{IsPermutation}
@@ -20,12 +22,12 @@ use Rattle.safl_calls.proofs.Invariant.{inv_open}
 use Rattle.safl_calls.proofs.MachineLaws.{right, started}
 use Rattle.safl_calls.proofs.Counts.{total, at_most}
 use Rattle.safl_calls.specs.Interference.{OneInUse, ShownWordsServe}
-use Rattle.safl_circuit.specs.Equations.{Registers, Inputs, Choice, ret, go, body_wants, go_words, load_in, loads, loop_words, starts_it, next}
+use Rattle.safl_circuit.specs.Equations.{Registers, Inputs, ret, go, body_wants, go_words, load_in, loads, loop_words, starts_it, next}
 use Rattle.safl_circuit.specs.Steps.{Quiet, input_at, registers_at, history}
 use Rattle.safl_net.specs.Netlist.{Netlist}
 use Rattle.safl_net.specs.Valuations.{Valuation, Fits, read, read_output, next_state}
 use Rattle.safl_net.specs.Runs.{RunFrom, GoesOn, start_number}
-use Rattle.safl_circuit.specs.Names.{Names, of_function, one, bit, is_unit, as_word, as_words, numbers, registers_now, input_now}
+use Rattle.safl_circuit.specs.Names.{of_function, one, bit, is_unit, as_word, as_words, numbers, registers_now, input_now}
 use Rattle.safl_circuit.specs.Scheme.{Scheme, go_up}
 use Rattle.safl_circuit.proofs.WordsSeen.{words_seen}
 use Rattle.safl_circuit.proofs.DoneOnce.{DoneOnce, Exclusive}

@@ -1,5 +1,7 @@
 -- The law at the names of a netlist.
 use Rattle.std.proofs.Common.{◌≡◌, ℕ, zero, suc, ◌<◌, List, [], ◌∷◌, ◌++◌, map, length, Bool, true, false, cond, ◌&&◌, is_some, refl, sym, ap, ◌∙◌, subst, arith}
+use Rattle.safl_term.specs.Names.{Names}
+use Rattle.safl_sites.specs.Plan.{Choice}
 use Rattle.std.specs.Prelude.{slice_index, codes}
 use Rattle.std.specs.List.{All}
 use Rattle.std.proofs.lemmas.Bool.{false≢true}
@@ -7,9 +9,9 @@ use Rattle.std.proofs.lemmas.List.Elements.{All-head, All-tail}
 use Rattle.safl_circuit.proofs.Cycle.{legal_next, shows_next, lasts_next}
 use Rattle.safl_circuit.proofs.Laid.{IsRegister, Laid, laid}
 use Rattle.safl_circuit.proofs.Same.{Same}
-use Rattle.safl_circuit.specs.Equations.{Registers, Inputs, Choice, ret, go, end_word, loop_words, cycle_events, next}
+use Rattle.safl_circuit.specs.Equations.{Registers, Inputs, ret, go, end_word, loop_words, cycle_events, next}
 use Rattle.safl_circuit.specs.Correct.{StepsFrom}
-use Rattle.safl_circuit.specs.Names.{Names, of_function, of_param, one, bit, is_unit, is_site, registers_now, registers_next, input_now, as_word, as_words, numbers}
+use Rattle.safl_circuit.specs.Names.{of_function, of_param, one, bit, is_unit, is_site, registers_now, registers_next, input_now, as_word, as_words, numbers}
 use Rattle.safl_net.specs.Netlist.{Netlist}
 use Rattle.safl_net.specs.Valuations.{Valuation, Holds, Fits, read, read_next, reset_state, next_state, next_at, number_at}
 use Rattle.safl_net.specs.Runs.{start_number, Run, GoesOn}

@@ -1,12 +1,13 @@
 -- done comes once, in time.
 use Rattle.std.proofs.Common.{◌≡◌, ◌≢◌, ℕ, zero, suc, ◌+◌, ◌-◌, ◌<◌, ◌≤◌, List, ◌++◌, length, Bool, true, false, cond, not, refl, sym, ap, ◌∙◌, subst, ⊎_elim, arith}
+use Rattle.safl_sites.specs.Plan.{Choice}
 use Rattle.std.proofs.lemmas.Bool.{cases_order, and_parts, false≢true, false_from_ne_true}
 use Rattle.safl_circuit.proofs.Claims.{InTime, QuietAfter, NoTwoStarts}
 use Rattle.safl_circuit.proofs.Cycle.{steps, start_at, outer_next, legal_all, came, progress, one_start, start_rests}
 use Rattle.safl_circuit.proofs.Progress.{some_up}
 use Rattle.safl_circuit.proofs.Rest.{quiet_if}
 use Rattle.safl_circuit.proofs.Start.{ret_delivers}
-use Rattle.safl_circuit.specs.Equations.{Registers, Choice, ret, go, returns, cycle_events}
+use Rattle.safl_circuit.specs.Equations.{Registers, ret, go, returns, cycle_events}
 use Rattle.safl_circuit.proofs.DoneOnce.{Core, DoneOnce, Exclusive}
 use Rattle.safl_circuit.specs.Steps.{StepsAt, Quiet, input_at, registers_at, history}
 use Rattle.safl_calls.proofs.Basics.{moves_append, cond_some}

@@ -1,10 +1,11 @@
 -- Where at most one event is enabled after the Returns of a cycle, the cycle has at most one event besides them.
 use Rattle.std.proofs.Common.{◌≡◌, ℕ, zero, suc, ◌+◌, ◌<◌, ◌≤◌, List, [], ◌∷◌, ◌++◌, Bool, true, false, cond, is_some, refl, sym, ap, ◌∙◌, ⊎_elim, arith}
+use Rattle.safl_sites.specs.Plan.{Choice}
 use Rattle.std.proofs.lemmas.Bool.{cases_Bool, false_from_ne_true}
 use Rattle.safl_circuit.proofs.Accepts.{Meets, go_asks, go_idle}
 use Rattle.safl_circuit.proofs.Ends.{ready_of, ready_yet, goes_yet, running, loop_found}
 use Rattle.safl_circuit.proofs.Progress.{some_up}
-use Rattle.safl_circuit.specs.Equations.{Registers, Inputs, Choice, ret, go, returns, accepts, finishes, goes_on, cycle_events, end_word, loop_words}
+use Rattle.safl_circuit.specs.Equations.{Registers, Inputs, ret, go, returns, accepts, finishes, goes_on, cycle_events, end_word, loop_words}
 use Rattle.safl_calls.proofs.Basics.{moves_append, some_of}
 use Rattle.safl_calls.proofs.Invariant.{Inv}
 use Rattle.safl_calls.proofs.Numbered.{Numbered}

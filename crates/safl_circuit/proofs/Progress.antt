@@ -1,9 +1,10 @@
 -- Where an event is enabled after the Returns of a cycle, the cycle has another event.
 use Rattle.std.proofs.Common.{◌≡◌, ℕ, zero, suc, ◌<◌, ◌≤◌, List, [], ◌∷◌, ◌+◌, Option, Some, None, Bool, true, false, cond, not, ◌&&◌, is_some, refl, sym, ap, ◌∙◌, inl, inr, ⊎_elim, ◌⊎◌, arith}
+use Rattle.safl_sites.specs.Plan.{Choice}
 use Rattle.std.proofs.lemmas.Bool.{cases_Bool, cases_eq, eqb-true, eq-eqb, and_parts, and_from, true≢false}
 use Rattle.safl_circuit.proofs.Accepts.{Meets, asked_parts}
 use Rattle.safl_circuit.proofs.Middle.{member_says}
-use Rattle.safl_circuit.specs.Equations.{Registers, Inputs, Choice, accepts, finishes, goes_on, body_says, want, wants_at, go, end_word, loop_from, loop_words}
+use Rattle.safl_circuit.specs.Equations.{Registers, Inputs, accepts, finishes, goes_on, body_says, want, wants_at, go, end_word, loop_from, loop_words}
 use Rattle.safl_circuit.specs.Steps.{is_running, is_delivering}
 use Rattle.safl_calls.proofs.Basics.{moves_append, first_none, some_none, cond_some}
 use Rattle.safl_calls.proofs.Bodies.{goes_stands}

@@ -1,6 +1,7 @@
 -- After main has returned all units rest.
 use Rattle.std.proofs.Common.{◌≡◌, ◌≢◌, ℕ, zero, suc, ◌+◌, ◌<◌, ◌≤◌, List, Some, refl, sym, ap, ◌∙◌, arith}
-use Rattle.safl_circuit.specs.Equations.{Registers, Choice}
+use Rattle.safl_sites.specs.Plan.{Choice}
+use Rattle.safl_circuit.specs.Equations.{Registers}
 use Rattle.safl_circuit.specs.Steps.{Shows, Quiet, is_running, is_delivering, was_sent, is_returned}
 use Rattle.safl_calls.proofs.Invariant.{Inv}
 use Rattle.safl_calls.proofs.Numbered.{Numbered}

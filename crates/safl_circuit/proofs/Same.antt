@@ -1,7 +1,8 @@
 -- Registers that are equal where they exist.
 use Rattle.std.specs.Prelude.{◌≡◌, ℕ, ◌<◌, ◌≤◌, true}
+use Rattle.safl_sites.specs.Plan.{Choice}
 use Rattle.safl_term.specs.Program.{Program}
-use Rattle.safl_circuit.specs.Equations.{Registers, Choice, many}
+use Rattle.safl_circuit.specs.Equations.{Registers, many}
 
 pub record Same (C : Program) (P : Choice) (r q : Registers) : Type 0 where
   pub run : (u : ℕ) → r.run u ≡ q.run u

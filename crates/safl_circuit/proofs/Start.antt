@@ -1,7 +1,8 @@
 -- The Returns of a cycle.
 use Rattle.std.proofs.Common.{◌≡◌, ℕ, zero, suc, ◌<◌, List, Some, true, false, cond, ◌&&◌, nat_lt, refl, sym, ap, ◌∙◌, subst, ⊎_elim, arith}
+use Rattle.safl_sites.specs.Plan.{Choice}
 use Rattle.std.proofs.lemmas.Bool.{cases_Bool, cases_eq, lt-ltb, le-ltb, ltb-true, ltb-false, and_parts, not-true, false≢true, true≢false, and_right}
-use Rattle.safl_circuit.specs.Equations.{Registers, Choice, ret, returns}
+use Rattle.safl_circuit.specs.Equations.{Registers, ret, returns}
 use Rattle.safl_circuit.specs.Steps.{Shows, is_delivering, was_sent, is_returned}
 use Rattle.safl_calls.proofs.Basics.{put_at, put_off, sweep}
 use Rattle.safl_calls.proofs.Invariant.{Inv}

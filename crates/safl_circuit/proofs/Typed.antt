@@ -1,5 +1,7 @@
 -- The registers hold words of their widths, in every cycle.
 use Rattle.std.proofs.Common.{◌≡◌, ℕ, zero, suc, ◌<◌, ◌≤◌, List, [], ◌∷◌, ◌++◌, map, length, Option, Some, None, Bool, true, false, cond, not, ◌&&◌, refl, sym, ap, ◌∙◌, subst, arith, bytes_eq}
+use Rattle.safl_term.specs.Names.{Names}
+use Rattle.safl_sites.specs.Plan.{Choice}
 use Rattle.std.specs.Prelude.{codes}
 use Rattle.std.proofs.lemmas.Slice.Eq.{bytes_eq-Decides}
 use Rattle.std.proofs.lemmas.Bool.{eqb-true, false_from_ne_true}
@@ -13,12 +15,12 @@ use Rattle.safl_term.proofs.Widths.{answer_width, loop_widths, wanted_widths}
 use Rattle.safl_calls.proofs.Numbered.{Numbered}
 use Rattle.safl_calls.proofs.FromWellFormed.{numbered}
 use Rattle.safl_calls.proofs.Basics.{first_some, cond_some, some_is, some_none}
-use Rattle.safl_circuit.specs.Equations.{Registers, Inputs, Choice, ret, word_on, on_wires, path, body_says, body_wants, go_words, goes_to, loop_from}
+use Rattle.safl_circuit.specs.Equations.{Registers, Inputs, ret, word_on, on_wires, path, body_says, body_wants, go_words, goes_to, loop_from}
 use Rattle.safl_circuit.specs.Equations.{loop_words, end_in, load_in, ends, loads, or_word, next}
 use Rattle.safl_net.specs.Netlist.{Netlist, Signal, Kind, Input, Reg, Wire}
 use Rattle.safl_net.specs.Valuations.{Valuation, Fits, read, read_next}
 use Rattle.safl_net.specs.Runs.{is_argument, input_numbers}
-use Rattle.safl_circuit.specs.Names.{Names, of_param, as_word, as_words, numbers, view, registers_now, registers_next, input_now}
+use Rattle.safl_circuit.specs.Names.{of_param, as_word, as_words, numbers, view, registers_now, registers_next, input_now}
 use Rattle.safl_circuit.specs.Layout.{Line, named, input_kind, each_line}
 use Rattle.safl_circuit.specs.Scheme.{Scheme, Agree}
 use Rattle.safl_circuit.proofs.Same.{Same}

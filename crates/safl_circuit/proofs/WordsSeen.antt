@@ -1,6 +1,7 @@
 -- The arguments with which functions start.
 use Rattle.std.specs.Prelude.{ℕ, zero, suc, List, [], ◌∷◌, ◌++◌, cond}
-use Rattle.safl_circuit.specs.Equations.{Registers, Choice, starts_it}
+use Rattle.safl_sites.specs.Plan.{Choice}
+use Rattle.safl_circuit.specs.Equations.{Registers, starts_it}
 use Rattle.safl_circuit.specs.Steps.{registers_at, input_at}
 use Rattle.safl_term.specs.Program.{Program}
 use Rattle.safl_word.specs.Words.{Word}

@@ -1,5 +1,6 @@
 -- What a netlist does in its runs, by its ports and names.
 use Rattle.std.specs.Prelude.{◌≡◌, ◌≢◌, ℕ, zero, suc, ◌+◌, ◌-◌, ◌*◌, ◌<◌, ◌≤◌, List, [], ◌∷◌, ◌++◌, length, Option, Some, None, Bool, true, cond, is_some, slice_get, codes, ◌==◌, ◌&&◌, ◌||◌}
+use Rattle.safl_term.specs.Names.{Names}
 use Rattle.std.specs.List.Sorted.{IsPermutation}
 use Rattle.safl_word.specs.Words.{Word}
 use Rattle.safl_term.specs.Program.{Program, unit_for}
@@ -12,10 +13,10 @@ use Rattle.safl_calls.specs.Picks.{first}
 use Rattle.safl_net.specs.Netlist.{Netlist, AllSet}
 use Rattle.safl_net.specs.Valuations.{Valuation, read, read_output, IsAcyclic, Fits, reset_state}
 use Rattle.safl_net.specs.Runs.{RunFrom}
-use Rattle.safl_circuit.specs.Equations.{Choice}
+use Rattle.safl_sites.specs.Plan.{Choice}
 use Rattle.safl_circuit.specs.Steps.{Shows, Quiet}
 use Rattle.safl_circuit.specs.Layout.{each_line, input_kind, register_kind, wire_kind, layout_inputs, output_lines, layout_outputs, Has}
-use Rattle.safl_circuit.specs.Names.{Names, of_function, one, as_word, numbers, registers_now, of_site}
+use Rattle.safl_circuit.specs.Names.{of_function, one, as_word, numbers, registers_now, of_site}
 use Rattle.safl_circuit.specs.Scheme.{go_up, net_events}
 
 -- it holds of all arguments, words of main's widths, and of all runs with them from a state

@@ -3,6 +3,7 @@ use Rattle.std.specs.Prelude.{ℕ, zero, suc, ◌++◌, List, Option, Some, None
 use Rattle.safl_calls.specs.Machine.{Event, Accept, Finish, Return, LoopInto}
 use Rattle.safl_term.specs.Readiness.{Answer, Ready, LoopTo, NotYet, answer, wanted, word_of, or_else}
 use Rattle.safl_term.specs.Program.{Program, unit_for}
+use Rattle.safl_sites.specs.Plan.{Choice}
 use Rattle.safl_word.specs.Words.{Word}
 use Rattle.safl_calls.specs.Picks.{first, picks}
 
@@ -24,11 +25,6 @@ pub record Registers : Type 0 where
 pub record Inputs : Type 0 where
   pub start : Bool
   pub words : List Word
-
--- which units have arbiters, and which sites keep their words
-pub record Choice : Type 0 where
-  pub arbiter : ℕ → Bool
-  pub kept : ℕ → Bool
 
 -- the unit of f has another member
 abbrev pub other_than : Program → ℕ → ℕ → Option ℕ

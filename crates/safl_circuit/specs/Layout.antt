@@ -1,11 +1,13 @@
 -- The layout of a circuit: its ports, registers and named wires, in their order, with their widths.
 use Rattle.std.specs.Prelude.{ℕ, zero, suc, ◌<◌, ◌≤◌, List, [], ◌∷◌, ◌++◌, map, length, Some, false, cond, ◌==◌, nat_lt, codes, slice_get, ◌≡◌, ◌⊎◌}
+use Rattle.safl_term.specs.Names.{Names}
+use Rattle.safl_sites.specs.Plan.{Choice}
 use Rattle.std.specs.Fmt.{decimal}
 use Rattle.safl_term.specs.Program.{Program, unit_for}
-use Rattle.safl_circuit.specs.Equations.{Choice, many}
+use Rattle.safl_circuit.specs.Equations.{many}
 use Rattle.safl_net.specs.declared.cell.Op.TheVariants.{Copy}
 use Rattle.safl_net.specs.Netlist.{Netlist, Signal, Kind, Input, Reg, Wire, width_in, place}
-use Rattle.safl_circuit.specs.Names.{Names, of_function, of_site, of_param, is_unit}
+use Rattle.safl_circuit.specs.Names.{of_function, of_site, of_param, is_unit}
 
 -- a name and its width
 abbrev pub Line : Type 0

@@ -4,8 +4,8 @@ use Rattle.safl_net.specs.Netlist.{Netlist, AllSet}
 use Rattle.safl_net.specs.Names.{IsTidy}
 use Rattle.safl_net.specs.Rules.{IsNetlist}
 use Rattle.safl_net.specs.Valuations.{IsAcyclic}
-use Rattle.safl_circuit.specs.Equations.{Choice}
-use Rattle.safl_circuit.specs.Names.{Names}
+use Rattle.safl_sites.specs.Plan.{Choice}
+use Rattle.safl_term.specs.Names.{Names}
 use Rattle.safl_circuit.specs.Layout.{HasPlan}
 use Rattle.safl_circuit.specs.Scheme.{Scheme}
 use Rattle.safl_net.specs.Mirrors.{Alike, Mirrors, IsLaidOut}

@@ -2,21 +2,12 @@
 use Rattle.std.specs.Prelude.{ℕ, List, [], ◌∷◌, ◌++◌, map, Bool, cond, ◌==◌, ◌&&◌, nat_lt, nat_le, codes}
 use Rattle.std.specs.Fmt.{decimal}
 use Rattle.safl_word.specs.Words.{Word}
-use Rattle.safl_term.specs.Checked.{CheckedProgram, name_of, param_names}
+use Rattle.safl_term.specs.Names.{Names}
 use Rattle.safl_term.specs.Program.{Program}
 use Rattle.safl_circuit.specs.Equations.{Registers, Inputs}
 use Rattle.safl_net.specs.Netlist.{Netlist}
 use Rattle.safl_net.specs.Valuations.{Valuation, read, read_next}
 use Rattle.safl_net.specs.Runs.{start_number, input_numbers}
-
--- the names of a program's functions, and of their parameters
-pub record Names : Type 0 where
-  pub name : ℕ → List ℕ
-  pub params : ℕ → List (List ℕ)
-
--- those of a checked program
-abbrev pub names_of : CheckedProgram → Names
-names_of c = record { name = name_of c; params = param_names c }
 
 -- a name with a head: of a function, of a site, and of the register of a parameter
 abbrev pub of_function : Names → List ℕ → ℕ → List ℕ

@@ -1,12 +1,14 @@
 -- The scheme of a circuit: what a netlist has to be and to do in each cycle, for any state and any inputs.
 use Rattle.std.specs.Prelude.{◌≡◌, ℕ, zero, suc, ◌<◌, ◌≤◌, List, ◌++◌, length, Some, Bool, true, is_some, slice_get, codes}
+use Rattle.safl_term.specs.Names.{Names}
+use Rattle.safl_sites.specs.Plan.{Choice}
 use Rattle.safl_term.specs.Program.{Program, unit_for}
 use Rattle.safl_calls.specs.Machine.{Event, Accept, Finish, Return, LoopInto}
 use Rattle.safl_calls.specs.Picks.{picks}
-use Rattle.safl_circuit.specs.Equations.{Registers, Inputs, Choice, many, ret, want, go, end_word, loop_words, next}
+use Rattle.safl_circuit.specs.Equations.{Registers, Inputs, many, ret, want, go, end_word, loop_words, next}
 use Rattle.safl_net.specs.Netlist.{Netlist, Signal, AllSet}
 use Rattle.safl_net.specs.Valuations.{Valuation, Fits, read, read_output, reset_state, IsAcyclic}
-use Rattle.safl_circuit.specs.Names.{Names, of_function, of_site, one, bit, numbers, registers_now, registers_next, input_now}
+use Rattle.safl_circuit.specs.Names.{of_function, of_site, one, bit, numbers, registers_now, registers_next, input_now}
 use Rattle.safl_circuit.specs.Layout.{Line, layout_registers, layout_wires, layout_inputs, layout_outputs, input_kind, register_kind, wire_kind, each_line, output_lines}
 
 -- the registers hold equal numbers, where they exist: at in units of several members, keep at kept sites

@@ -1,6 +1,7 @@
 -- What registers show of the machine, cycle by cycle: each cycle is a list of events.
 use Rattle.std.specs.Prelude.{◌≡◌, ℕ, zero, suc, ◌<◌, ◌++◌, List, [], Bool, true, false, ◌==◌}
-use Rattle.safl_circuit.specs.Equations.{Registers, Inputs, Choice, many, next, cycle_events}
+use Rattle.safl_sites.specs.Plan.{Choice}
+use Rattle.safl_circuit.specs.Equations.{Registers, Inputs, many, next, cycle_events}
 use Rattle.safl_calls.specs.Machine.{State, Mode, Idle, Runs, Delivers, Event, opening, CallerRests, Legal, after, last_word}
 use Rattle.safl_term.specs.Readiness.{Stage, Unsent, Sent, Returned}
 use Rattle.safl_term.specs.Program.{Program}

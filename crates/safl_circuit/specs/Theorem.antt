@@ -4,13 +4,13 @@ use Rattle.safl_word.specs.Words.{Word}
 use Rattle.safl_term.specs.Program.{Program, arity}
 use Rattle.safl_term.specs.Meaning.{Main, main_cost}
 use Rattle.safl_term.specs.WellFormed.{IsWellFormed}
-use Rattle.safl_sites.specs.Plan.{Suffices}
+use Rattle.safl_sites.specs.Plan.{Suffices, Choice}
 use Rattle.safl_calls.specs.Interference.{OneInUse, ShownWordsServe}
-use Rattle.safl_circuit.specs.Equations.{Registers, Choice}
+use Rattle.safl_circuit.specs.Equations.{Registers}
 use Rattle.safl_circuit.specs.Steps.{Quiet, StepsAt}
 use Rattle.safl_net.specs.Netlist.{Netlist}
 use Rattle.safl_net.specs.Valuations.{reset_state}
-use Rattle.safl_circuit.specs.Names.{Names}
+use Rattle.safl_term.specs.Names.{Names}
 use Rattle.safl_circuit.specs.Scheme.{Scheme}
 use Rattle.safl_circuit.specs.Correct.{Behaves, Correct, IsQuietState, Steps, QuietAfterDone, SameCalls, latest}
 

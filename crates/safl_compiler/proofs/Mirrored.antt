@@ -6,7 +6,7 @@ use Rattle.safl_net.specs.Netlist.{Netlist, Signal, AllSet, IsSet}
 use Rattle.safl_net.specs.Making.{kind_at, kind_in}
 use Rattle.safl_net.specs.Arranged.{IsWire, Each, IsInOrder}
 use Rattle.safl_sites.specs.Plan.{IsPlan, Suffices}
-use Rattle.safl_circuit.specs.Names.{Names}
+use Rattle.safl_term.specs.Names.{Names}
 use Rattle.safl_circuit.specs.Theorem.{SchemesAreCircuits}
 use Rattle.safl_net.specs.Mirrors.{IsLaidOut, IsNamed, IsTemp}
 use Rattle.safl_circuit.specs.Mirrored.{AreMirrors, MirrorsKeepSchemes, MirrorsKeepPlans}

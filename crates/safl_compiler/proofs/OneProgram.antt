@@ -12,10 +12,10 @@ use Rattle.safl_typing.specs.Walk.{first_fault}
 use Rattle.safl_typing.specs.declared.typed.CheckErr.{CheckErr}
 use Rattle.safl_typing.specs.declared.typed.CheckErr.TheVariants as errors
 use Rattle.safl_check.specs.Answers.{RefusesProgram}
-use Rattle.safl_check.specs.Numbered.{program_in}
-use Rattle.safl_circuit.specs.Names.{Names}
+use Rattle.safl_check.specs.Numbered.{program_in, names_in}
+use Rattle.safl_term.specs.Names.{Names}
 use Rattle.safl_compiler.specs.Laws.{OneProgram, ProgramOrFault, NotBoth, OneFault}
-use Rattle.safl_compiler.specs.Sources.{IsSourceOf, HasFirstFault, syntax_fault, check_fault, RefusesSource, names_in}
+use Rattle.safl_compiler.specs.Sources.{IsSourceOf, HasFirstFault, syntax_fault, check_fault, RefusesSource}
 
 some_is : (f g : Fault) → Some f ≡ Some g → f ≡ g
 some_is f g e = cc

@@ -2,15 +2,14 @@
 use Rattle.std.proofs.Common.{◌≡◌, ℕ, List, [], ◌∷◌, ◌++◌, map, length, Bool, true, false, cond, bytes_eq, refl, ap, ◌∙◌, arith}
 use Rattle.std.specs.Prelude.{codes}
 use Rattle.std.proofs.lemmas.Slice.Eq.{bytes_eq-Decides}
-use Rattle.safl_term.specs.Checked.{CheckedProgram, program_of}
+use Rattle.safl_term.specs.Checked.{CheckedProgram}
+use Rattle.safl_term.proofs.HeldByChecked.{params_named}
 use Rattle.safl_net.specs.Netlist.{Netlist, Signal, Kind, Input, Reg, Wire}
 use Rattle.safl_net.specs.Runs.{is_argument}
 use Rattle.safl_net.specs.Arguments.{argument_widths}
-use Rattle.safl_circuit.specs.Equations.{Choice}
-use Rattle.safl_circuit.specs.Names.{names_of}
+use Rattle.safl_sites.specs.Plan.{Choice}
 use Rattle.safl_circuit.specs.Layout.{Line, named, each_line, input_kind}
 use Rattle.safl_circuit.specs.Scheme.{Scheme}
-use Rattle.safl_unit.proofs.Declaring.{params_long}
 use Rattle.safl_unit.proofs.Layers.{not_start}
 
 -- the widths of the lines whose name is not `start`
@@ -44,10 +43,10 @@ named_ports (x ∷ names) (w ∷ ws) e =
     let rest = port_widths (named (map (λ y. codes "in$" ++ y) names) ws) in
     ap (λ b. cond b rest (w ∷ rest)) (not_start x) ∙ ap (λ l. w ∷ l) (named_ports names ws (omega (arith, e)))
 
-pub ports : (c : CheckedProgram) (P : Choice) (n : Netlist) → Scheme (program_of c) (names_of c) P n → argument_widths n.signals ≡ (program_of c).params (program_of c).main
+pub ports : (c : CheckedProgram) (P : Choice) (n : Netlist) → Scheme c.program c.names P n → argument_widths n.signals ≡ c.program.params c.program.main
 ports c P n s =
-    let C = program_of c in
-    let rest = named (map (λ x. codes "in$" ++ x) ((names_of c).params C.main)) (C.params C.main) in
+    let C = c.program in
+    let rest = named (map (λ x. codes "in$" ++ x) (c.names.params C.main)) (C.params C.main) in
     input_ports n.signals ∙ ap port_widths s.inputs
     ∙ ap (λ b. cond b (port_widths rest) (1 ∷ port_widths rest)) ((bytes_eq-Decides (codes "start") (codes "start")).1 refl)
-    ∙ named_ports ((names_of c).params C.main) (C.params C.main) (params_long c C.main)
+    ∙ named_ports (c.names.params C.main) (C.params C.main) (params_named c C.main)

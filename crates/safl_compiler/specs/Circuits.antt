@@ -1,9 +1,8 @@
 -- The circuit of a program.
 use Rattle.safl_term.specs.Program.{Program}
 use Rattle.safl_net.specs.Netlist.{Netlist}
-use Rattle.safl_sites.specs.Plan.{IsPlan}
-use Rattle.safl_circuit.specs.Equations.{Choice}
-use Rattle.safl_circuit.specs.Names.{Names}
+use Rattle.safl_sites.specs.Plan.{IsPlan, Choice}
+use Rattle.safl_term.specs.Names.{Names}
 use Rattle.safl_circuit.specs.Layout.{HasPlan}
 use Rattle.safl_circuit.specs.Scheme.{Scheme}
 use Rattle.safl_circuit.specs.Theorem.{IsCircuit}

@@ -2,7 +2,7 @@
 use Rattle.std.specs.Prelude.{◌≡◌, ℕ, List, ◌⊎◌}
 use Rattle.safl_word.specs.declared.fault.Fault.{Fault}
 use Rattle.safl_term.specs.Program.{Program}
-use Rattle.safl_circuit.specs.Names.{Names}
+use Rattle.safl_term.specs.Names.{Names}
 use Rattle.safl_compiler.specs.Sources.{IsSourceOf, HasFirstFault}
 
 -- one program at most, with its names

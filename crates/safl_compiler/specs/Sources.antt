@@ -8,12 +8,8 @@ use Rattle.safl_typing.specs.Forms.{Form, IsFormOf, max_sites}
 use Rattle.safl_typing.specs.Walk.{first_fault}
 use Rattle.safl_typing.specs.declared.typed.CheckErr.{CheckErr}
 use Rattle.safl_typing.specs.declared.typed.CheckErr.TheVariants as errors
-use Rattle.safl_check.specs.Numbered.{program_in, name_in, param_names_in}
-use Rattle.safl_circuit.specs.Names.{Names}
-
--- the names of a form
-abbrev pub names_in : Form → Names
-names_in c = record { name = name_in c; params = param_names_in c }
+use Rattle.safl_check.specs.Numbered.{program_in, names_in}
+use Rattle.safl_term.specs.Names.{Names}
 
 -- the source spells definitions whose numbered form is this program in numbers, with these names
 pub record IsSourceOf (source : List ℕ) (C : Program) (D : Names) : Type 0 where

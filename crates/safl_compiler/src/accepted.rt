@@ -2,12 +2,10 @@
 
 ghost use Rattle.std.specs.Prelude.{◌≤◌, length, IfOk, IfErr};
 ghost use Rattle.safl_word.specs.declared.word.TheConstants.{SOURCE_MAX};
-ghost use Rattle.safl_term.specs.Checked.{program_of};
 ghost use Rattle.safl_tree.specs.Shown.{shown_program};
 ghost use Rattle.safl_tree.specs.Printable.{IsPrintable};
 ghost use Rattle.safl_tree.specs.Source.{SpellsProgram};
 ghost use Rattle.safl_typing.specs.Forms.{IsFormOf, shown};
-ghost use Rattle.safl_circuit.specs.Names.{names_of};
 ghost use Rattle.safl_compiler.specs.Sources.{HasFewSites, IsSourceOf, RefusesSource};
 
 use safl_check::laws::forms_are_numbered_law;
@@ -30,7 +28,7 @@ pub struct Accepted {
 /// grammar, E01 to E05, or else that of checking, E05 to E16.
 pub fn accept(alloc: Global, source: &[u8]) -> Result<Checked, CheckErr>
     requires { length source.now ≤ SOURCE_MAX }
-    ensures accepted { IfOk result (λ c. IsSourceOf source.now (program_of c) (names_of c)) }
+    ensures accepted { IfOk result (λ c. IsSourceOf source.now c.program c.names) }
     ensures refused { IfErr result (RefusesSource source.now) }
 {
     forms_are_numbered_law();

@@ -1,12 +1,10 @@
 //! The circuit of a checked program.
 
 ghost use Rattle.std.specs.Prelude.{◌≡◌, ◌≤◌, length, IfOk};
-ghost use Rattle.safl_term.specs.Checked.{program_of};
 ghost use Rattle.safl_net.specs.Names.{IsTidy};
 ghost use Rattle.safl_net.specs.Whole.{IsWhole};
 ghost use Rattle.safl_net.specs.Arranged.{IsInOrder};
 ghost use Rattle.safl_net.specs.Arguments.{argument_widths};
-ghost use Rattle.safl_circuit.specs.Names.{names_of};
 ghost use Rattle.safl_compiler.specs.Circuits.{IsCircuitOf};
 
 use safl_net::Net;
@@ -19,11 +17,11 @@ use std::alloc::Global;
 /// The netlist of a checked program, with arbiters and kept words exactly as its plan has them. Fails only
 /// if out of memory.
 pub fn circuit_of(alloc: Global, checked: Checked) -> Result<Net, NoMemory>
-    ensures circuit { IfOk result (λ n. IsCircuitOf (program_of checked) (names_of checked) n) }
+    ensures circuit { IfOk result (λ n. IsCircuitOf checked.program checked.names n) }
     ensures tidy { IfOk result (λ n. IsTidy n) }
     ensures whole { IfOk result IsWhole }
     ensures in_order { IfOk result IsInOrder }
-    ensures params { IfOk result (λ n. argument_widths n.signals ≡ (program_of checked).params (program_of checked).main) }
+    ensures params { IfOk result (λ n. argument_widths n.signals ≡ checked.program.params checked.program.main) }
     ensures count { IfOk result (λ n. length n.signals ≤ SIGNALS_MAX) }
 {
     let planned = plan_of(alloc, checked)?;
@@ -32,7 +30,7 @@ pub fn circuit_of(alloc: Global, checked: Checked) -> Result<Net, NoMemory>
 
 /// A checked program with its plan. Fails only if out of memory.
 pub fn plan_of(alloc: Global, checked: Checked) -> Result<Planned, NoMemory>
-    ensures { IfOk result (λ p. p.program ≡ checked) }
+    ensures { IfOk result (λ p. p.checked ≡ checked) }
 {
     match plan(alloc, checked) {
         Ok(planned) => Ok(planned),
@@ -44,11 +42,11 @@ pub fn plan_of(alloc: Global, checked: Checked) -> Result<Planned, NoMemory>
 /// if out of memory.
 #[tactic(auto, using(crate::proofs::Ports::ports))]
 pub fn planned_circuit(alloc: Global, p: &Planned) -> Result<Net, NoMemory>
-    ensures circuit { IfOk result (λ n. IsCircuitOf (program_of p.now.program) (names_of p.now.program) n) }
+    ensures circuit { IfOk result (λ n. IsCircuitOf p.now.program p.now.names n) }
     ensures tidy { IfOk result (λ n. IsTidy n) }
     ensures whole { IfOk result IsWhole }
     ensures in_order { IfOk result IsInOrder }
-    ensures params { IfOk result (λ n. argument_widths n.signals ≡ (program_of p.now.program).params (program_of p.now.program).main) }
+    ensures params { IfOk result (λ n. argument_widths n.signals ≡ p.now.program.params p.now.program.main) }
     ensures count { IfOk result (λ n. length n.signals ≤ SIGNALS_MAX) }
 {
     let _checked = p.checked();

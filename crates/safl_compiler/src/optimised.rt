@@ -1,12 +1,10 @@
 //! The optimised circuit of a checked program.
 
 ghost use Rattle.std.specs.Prelude.{◌≡◌, IfOk};
-ghost use Rattle.safl_term.specs.Checked.{program_of};
 ghost use Rattle.safl_net.specs.Arranged.{IsInOrder};
 ghost use Rattle.safl_net.specs.Netlist.{AllSet};
 ghost use Rattle.safl_net.specs.Valuations.{IsAcyclic};
 ghost use Rattle.safl_net.specs.Whole.{IsWhole};
-ghost use Rattle.safl_circuit.specs.Names.{names_of};
 ghost use Rattle.safl_opt.specs.Lean.{Lean};
 ghost use Rattle.safl_compiler.specs.Circuits.{IsCircuitOf};
 
@@ -24,7 +22,7 @@ use std::alloc::Global;
 /// The netlist of a checked program without the temporary wires that can be spared. Like the netlist that it is made of, it
 /// has arbiters and kept words exactly as the plan has them, and does what the program means. Fails only if out of memory.
 pub fn optimised_circuit_of(alloc: Global, checked: Checked) -> Result<Net, NoMemory>
-    ensures circuit { IfOk result (λ n. IsCircuitOf (program_of checked) (names_of checked) n) }
+    ensures circuit { IfOk result (λ n. IsCircuitOf checked.program checked.names n) }
     ensures lean { IfOk result Lean }
     ensures whole { IfOk result IsWhole }
     ensures in_order { IfOk result IsInOrder }

@@ -15,7 +15,6 @@ use Rattle.safl_core.specs.Testing.{can}
 use Rattle.safl_core.specs.Shown.{Shown, state, CanFire, IsKept}
 use Rattle.safl_core.specs.Outcomes.{IsOver}
 use Rattle.safl_term.specs.Readiness.{Answer as Kept}
-use Rattle.safl_term.specs.Checked.{program_of}
 use Rattle.safl_sites.proofs.NodesOfTerms.{empty_list}
 use Rattle.safl_core.proofs.KeptByEvents.{finish_in, return_in, looping}
 
@@ -226,18 +225,18 @@ module _ (C : Program) (args : List Word) (s : State) where
 -- ---- where nothing is listed, nothing is enabled
 
 module _ {m : Shown} {answers : List Kept} {wants : List (Option (List Word))} {room : ℕ} (h : IsKept m answers wants room) where
-  pub event_place : (e : Event) → CanFire m e → (i : ℕ) × (i < suc (program_of m.program).sites +
-      ((program_of m.program).functions + (suc (program_of m.program).sites + (program_of m.program).functions))) × (event_at (program_of m.program) i ≡ e)
+  pub event_place : (e : Event) → CanFire m e → (i : ℕ) × (i < suc m.program.sites +
+      (m.program.functions + (suc m.program.sites + m.program.functions))) × (event_at m.program i ≡ e)
   event_place (Accept k) q =
-      let C = program_of m.program in
+      let C = m.program in
       let le = accept_within h k q in
       (k, omega (arith, le), below C m.args (state m) k (omega (arith, le)))
   event_place (Finish f) q =
-      let C = program_of m.program in
+      let C = m.program in
       let lt = finish_in h f q.0 q.1 q.3 in
       (suc C.sites + f, omega (arith, lt), first C m.args (state m) f ∙ ap (λ b. cond b (Finish f) (after_finishes C m.args (state m) (f - C.functions))) (lt-ltb f C.functions lt))
   event_place (Return k) q =
-      let C = program_of m.program in
+      let C = m.program in
       let le = return_in h k q.0 q.1 in
       let lt : k < suc C.sites = omega (arith, le) in (
         suc C.sites + (C.functions + k),
@@ -246,7 +245,7 @@ module _ {m : Shown} {answers : List Kept} {wants : List (Option (List Word))} {
             (second C m.args (state m) k ∙ ap (λ b. cond b (Return k) (LoopInto (k - suc C.sites))) (lt-ltb k (suc C.sites) lt)),
       )
   event_place (LoopInto n) q =
-      let C = program_of m.program in
+      let C = m.program in
       let lt = (looping h n q.0 q.1).within in (
         suc C.sites + (C.functions + (suc C.sites + n)),
         omega (arith, lt),
@@ -254,9 +253,9 @@ module _ {m : Shown} {answers : List Kept} {wants : List (Option (List Word))} {
             (second C m.args (state m) (suc C.sites + n) ∙ third C m.args (state m) n),
       )
 
-  pub none_listed : length (listed (program_of m.program) m.args (state m)) ≡ 0 → IsOver m
+  pub none_listed : length (listed m.program m.args (state m)) ≡ 0 → IsOver m
   none_listed none e q =
-      let C = program_of m.program in
+      let C = m.program in
       let at = event_place e q in
       let can_at : can C m.args (state m) (event_at C at.0) ≡ true = ap (can C m.args (state m)) at.2 ∙ enabled_can C m.args (state m) e q in
       let p = picked_at (test_at C m.args (state m)) (event_at C) at.0 (suc C.sites + (C.functions + (suc C.sites + C.functions))) at.1 can_at in
@@ -270,9 +269,9 @@ module _ {m : Shown} {answers : List Kept} {wants : List (Option (List Word))} {
       never i x e = absurd (no_event x e)
 
   -- what is listed are the enabled events, in their order
-  pub listing : IsListing (program_of m.program) m.args (state m) (listed (program_of m.program) m.args (state m))
+  pub listing : IsListing m.program m.args (state m) (listed m.program m.args (state m))
   listing =
-      let C = program_of m.program in
+      let C = m.program in
       let n = places C in
       let p = test_at C m.args (state m) in
       let same : picks (test_at C m.args (state m)) (event_at C) (places C) ≡ listed C m.args (state m) = all_listed C m.args (state m) (places C) refl in

@@ -1,19 +1,14 @@
 -- What a machine keeps at first.
 use Rattle.std.proofs.Common.{◌≡◌, ℕ, zero, suc, ◌+◌, ◌<◌, ◌≤◌, List, [], ◌∷◌, ◌++◌, length, take, Bool, true, false, Option, Some, None, get_or, refl, sym, ap, ◌∙◌, arith}
-use Rattle.std.specs.Prelude.{slice_get, sum_by, IsTrue}
+use Rattle.std.specs.Prelude.{slice_get, IsTrue}
 use Rattle.std.proofs.lemmas.Bool.{false≢true}
 use Rattle.std.proofs.lemmas.List.{get_or-map, get_or_read, take_all}
 use Rattle.std.proofs.Math.Seq.{take-suc}
-use Rattle.std.proofs.lemmas.List.Sums.{get_or-le-sum_by}
-use Rattle.std.specs.Option.{option_map_or}
 use Rattle.std.proofs.Math.Path.{fun_ext}
 use Rattle.safl_word.specs.Words.{Word, no_word}
-use Rattle.safl_term.specs.Checked.{CheckedProgram, IsChecked, program_of}
-use Rattle.safl_term.specs.declared.checked.Function.{Function}
+use Rattle.safl_term.specs.Checked.{CheckedProgram, IsChecked}
 use Rattle.safl_term.specs.Readiness as plain
-use Rattle.safl_term.specs.Sizes.{nodes}
-use Rattle.safl_term.specs.Terms.{Const}
-use Rattle.safl_term.specs.Tree.{shown_term}
+use Rattle.safl_term.proofs.HeldByChecked.{few_nodes}
 use Rattle.safl_calls.specs.Machine as core
 use Rattle.safl_core.specs.declared.mode.Mode.{Mode}
 use Rattle.safl_evaluate.specs.declared.stage.Stage.{Stage}
@@ -24,21 +19,8 @@ use Rattle.safl_core.specs.Shown.{shown_of, IsKept, IsReached}
 use Rattle.safl_evaluate.specs.Stages.{stage_at}
 use Rattle.safl_core.proofs.WritesAreSteps.{state_is}
 
-abbrev size : Function → ℕ
-size f = nodes (shown_term f.body)
-
-body_at : (fs : List Function) (f : ℕ) (d : Function) → f < length fs → nodes (option_map_or (λ g. shown_term g.body) (slice_get fs f) (Const no_word)) ≡ size (get_or fs f d)
-body_at [] f d lt = absurd (omega (arith, lt))
-body_at (x ∷ xs) zero d lt = refl
-body_at (x ∷ xs) (suc f) d lt = body_at xs f d (omega (arith, lt))
-
-body_size : (fs : List Function) (f : ℕ) → f < length fs → nodes (option_map_or (λ g. shown_term g.body) (slice_get fs f) (Const no_word)) ≤ sum_by size fs
-body_size [] f lt = absurd (omega (arith, lt))
-body_size (x ∷ xs) f lt = omega (arith, body_at (x ∷ xs) f x lt, get_or-le-sum_by size (x ∷ xs) f x lt)
-
-pub enough_room : (c : CheckedProgram) (room : ℕ) → IsChecked c → 50016 ≤ room → HasRoom (program_of c) room
-unfolding program_of
-enough_room c room h le = λ f lt. omega (arith, h.limits.params f, h.limits.nodes, body_size c.functions f lt, le)
+pub enough_room : (c : CheckedProgram) (room : ℕ) → IsChecked c → 50016 ≤ room → HasRoom c.program room
+enough_room c room h le = λ f lt. omega (arith, h.limits.params f, few_nodes c h f, le)
 
 module _ (c : CheckedProgram) (args : List Word) (units : List Mode) (sites : List Stage) (answers : List plain.Answer) (wants : List (Option (List Word))) (room : ℕ) where
   pub opens : ((u : ℕ) → unit_at units u ≡ core.Idle) → ((k : ℕ) → stage_at sites k ≡ plain.Unsent) → state_of units sites ≡ core.opening
@@ -49,15 +31,15 @@ module _ (c : CheckedProgram) (args : List Word) (units : List Mode) (sites : Li
   first_reached e = record { list = []; count = refl; legal = tt; ends = sym e }
 
   first_known : ((u : ℕ) → unit_at units u ≡ core.Idle) → ((u : ℕ) → get_or answers u plain.NotYet ≡ plain.NotYet) →
-      ((k : ℕ) → get_or wants k None ≡ None) → (u : ℕ) → IsKnown (program_of c) (state_of units sites) answers wants u
+      ((k : ℕ) → get_or wants k None ≡ None) → (u : ℕ) → IsKnown c.program (state_of units sites) answers wants u
   first_known idle none unwanted u = record {
-    outcome = none u ∙ ap (core.says_as (program_of c) (core.back (state_of units sites))) (sym (idle u));
-    wants = λ k pos le on. unwanted k ∙ ap (λ m. core.asked_as (program_of c) (core.back (state_of units sites)) m ((program_of c).caller k) k) (sym (idle u));
+    outcome = none u ∙ ap (core.says_as c.program (core.back (state_of units sites))) (sym (idle u));
+    wants = λ k pos le on. unwanted k ∙ ap (λ m. core.asked_as c.program (core.back (state_of units sites)) m (c.program.caller k) k) (sym (idle u));
   }
 
-  pub kept_open : IsChecked c → widths args ≡ (program_of c).params (program_of c).main
+  pub kept_open : IsChecked c → widths args ≡ c.program.params c.program.main
       → ((u : ℕ) → unit_at units u ≡ core.Idle) → ((k : ℕ) → stage_at sites k ≡ plain.Unsent) → ((u : ℕ) → get_or answers u plain.NotYet ≡ plain.NotYet) → ((k : ℕ) → get_or wants k None ≡ None)
-      → length units ≡ (program_of c).functions → length sites ≡ suc (program_of c).sites → length answers ≡ (program_of c).functions → length wants ≡ suc (program_of c).sites → 50016 ≤ room
+      → length units ≡ c.program.functions → length sites ≡ suc c.program.sites → length answers ≡ c.program.functions → length wants ≡ suc c.program.sites → 50016 ≤ room
       → IsKept (shown_of c args units sites 0) answers wants room
   kept_open checked given idle unsent none unwanted l1 l2 l3 l4 le = record {
     checked = checked;

@@ -2,7 +2,7 @@
 use Rattle.std.proofs.Common.{◌≡◌, ◌≢◌, ℕ, zero, suc, ◌+◌, ◌<◌, ◌≤◌, List, [], ◌∷◌, ◌++◌, length, cond, eqb, Option, Some, None, get_or, refl, sym, ap, ◌∙◌, subst, ⊎_elim, arith}
 use Rattle.std.proofs.lemmas.Bool.{cases_eq, ne_eqb}
 use Rattle.safl_word.specs.Words.{Word}
-use Rattle.safl_term.specs.Checked.{program_of}
+use Rattle.safl_term.specs.Checked.{CheckedProgram}
 use Rattle.safl_term.specs.Program.{Program, unit_for}
 use Rattle.safl_term.specs.Readiness.{Unsent, Sent, Returned, Answer, Ready, LoopTo, NotYet, answer, wanted, back_word, word_of}
 use Rattle.safl_calls.specs.Machine.{State, Mode, Idle, Runs, Delivers, Event, Finish, Return, LoopInto, opening, put, back, says, says_as, asked}
@@ -23,43 +23,43 @@ use Rattle.safl_core.proofs.WritesAreSteps.{core_state}
 use Rattle.safl_core.proofs.WordsFit.{Fits, fits_after, fits_fire}
 
 module _ {m : Shown} {answers : List Answer} {wants : List (Option (List Word))} {room : ℕ} where
-  pub good : IsKept m answers wants room → Numbered (program_of m.program)
-  good h = numbered (program_of m.program) h.checked.formed
+  pub good : IsKept m answers wants room → Numbered m.program
+  good h = numbered m.program h.checked.formed
 
-  pub inv : IsKept m answers wants room → Inv (program_of m.program) (state m)
-  inv h = subst (λ s. Inv (program_of m.program) s) h.reached.ends (inv_after (program_of m.program) m.args (good h) h.reached.list h.reached.legal)
+  pub inv : IsKept m answers wants room → Inv m.program (state m)
+  inv h = subst (λ s. Inv m.program s) h.reached.ends (inv_after m.program m.args (good h) h.reached.list h.reached.legal)
 
-  pub fits : IsKept m answers wants room → Fits (program_of m.program) (state m)
-  fits h = subst (λ s. Fits (program_of m.program) s) h.reached.ends (fits_after (program_of m.program) h.checked.formed m.args h.reached.list h.given h.reached.legal)
+  pub fits : IsKept m answers wants room → Fits m.program (state m)
+  fits h = subst (λ s. Fits m.program s) h.reached.ends (fits_after m.program h.checked.formed m.args h.reached.list h.given h.reached.legal)
 
   module _ (h : IsKept m answers wants room) (e : Event) (can : CanFire m e) (modes : List modes_declared.Mode) (stages : List stages_declared.Stage)
-      (is : state_of modes stages ≡ fire (program_of m.program) m.args (state m) e) where
-    next_inv : Inv (program_of m.program) (state_of modes stages)
-    next_inv = subst (λ s. Inv (program_of m.program) s) (sym is) (inv_fire (program_of m.program) m.args (good h) (state m) e (inv h) can)
+      (is : state_of modes stages ≡ fire m.program m.args (state m) e) where
+    next_inv : Inv m.program (state_of modes stages)
+    next_inv = subst (λ s. Inv m.program s) (sym is) (inv_fire m.program m.args (good h) (state m) e (inv h) can)
 
-    next_fits : Fits (program_of m.program) (state_of modes stages)
-    next_fits = subst (λ s. Fits (program_of m.program) s) (sym is) (fits_fire (program_of m.program) h.checked.formed m.args h.given (state m) (inv h) (fits h) e can)
+    next_fits : Fits m.program (state_of modes stages)
+    next_fits = subst (λ s. Fits m.program s) (sym is) (fits_fire m.program h.checked.formed m.args h.given (state m) (inv h) (fits h) e can)
 
-    pub next_member : (u : ℕ) → RunsMember (program_of m.program) modes u
+    pub next_member : (u : ℕ) → RunsMember m.program modes u
     next_member u f k ws q = let a = next_inv.member u f k ws q in (a.0, a.1, next_fits.runs u f k ws q)
 
-    pub next_back : BackFits (program_of m.program) stages
+    pub next_back : BackFits m.program stages
     next_back k v q = next_fits.back k v q
 
-    pub next_reached : (n : Shown) → n.program ≡ m.program → n.args ≡ m.args → state n ≡ state_of modes stages → n.events ≡ m.events + 1 → IsReached n
+    pub next_reached : (n : Shown) → n.checked ≡ m.checked → n.args ≡ m.args → state n ≡ state_of modes stages → n.events ≡ m.events + 1 → IsReached n
     next_reached n p a s c = record {
       list = h.reached.list ++ e ∷ [];
       count = more h.reached.list e ∙ (ap (λ x. x + 1) h.reached.count ∙ sym c);
-      legal = subst (λ C. Legal (program_of C) n.args opening (h.reached.list ++ e ∷ [])) (sym p)
-          (subst (λ xs. Legal (program_of m.program) xs opening (h.reached.list ++ e ∷ [])) (sym a)
-          (legal_append (program_of m.program) m.args opening h.reached.list (e ∷ []) h.reached.legal
-          (legal_one (program_of m.program) m.args (after (program_of m.program) m.args opening h.reached.list) e
-          (subst (λ t. Enabled (program_of m.program) m.args t e) (sym h.reached.ends) can))));
-      ends = ap (λ C. after (program_of C) n.args opening (h.reached.list ++ e ∷ [])) p
-          ∙ (ap (λ xs. after (program_of m.program) xs opening (h.reached.list ++ e ∷ [])) a
-          ∙ (after_append (program_of m.program) m.args opening h.reached.list (e ∷ [])
-          ∙ (after_one (program_of m.program) m.args (after (program_of m.program) m.args opening h.reached.list) e
-          ∙ (ap (λ t. fire (program_of m.program) m.args t e) h.reached.ends ∙ (sym is ∙ sym s)))));
+      legal = subst (λ (C : CheckedProgram). Legal C.program n.args opening (h.reached.list ++ e ∷ [])) (sym p)
+          (subst (λ xs. Legal m.program xs opening (h.reached.list ++ e ∷ [])) (sym a)
+          (legal_append m.program m.args opening h.reached.list (e ∷ []) h.reached.legal
+          (legal_one m.program m.args (after m.program m.args opening h.reached.list) e
+          (subst (λ t. Enabled m.program m.args t e) (sym h.reached.ends) can))));
+      ends = ap (λ (C : CheckedProgram). after C.program n.args opening (h.reached.list ++ e ∷ [])) p
+          ∙ (ap (λ xs. after m.program xs opening (h.reached.list ++ e ∷ [])) a
+          ∙ (after_append m.program m.args opening h.reached.list (e ∷ [])
+          ∙ (after_one m.program m.args (after m.program m.args opening h.reached.list) e
+          ∙ (ap (λ t. fire m.program m.args t e) h.reached.ends ∙ (sym is ∙ sym s)))));
     }
       where
         more : (xs : List Event) (x : Event) → length (xs ++ x ∷ []) ≡ length xs + 1
@@ -157,22 +157,22 @@ pub record Looping (C : Program) (s : State) (h : ℕ) : Type 0 where
   pub within : h < C.functions
 
 module _ {m : Shown} {answers : List Answer} {wants : List (Option (List Word))} {room : ℕ} (h : IsKept m answers wants room) where
-  pub accept_words : (k : ℕ) (ws words : List Word) → asked (program_of m.program) m.args (state m) k ≡ Some ws → (k ≡ 0 → words ≡ m.args) →
-      ((k ≡ 0 → ⊥) → get_or wants k None ≡ Some words) → asked (program_of m.program) m.args (state m) k ≡ Some words
+  pub accept_words : (k : ℕ) (ws words : List Word) → asked m.program m.args (state m) k ≡ Some ws → (k ≡ 0 → words ≡ m.args) →
+      ((k ≡ 0 → ⊥) → get_or wants k None ≡ Some words) → asked m.program m.args (state m) k ≡ Some words
   accept_words zero ws words e first other = e ∙ ap Some (sym (some_same m.args ws (cond_some _ _ ws e).1) ∙ sym (first refl))
   accept_words (suc k) ws words e first other =
-      let C = program_of m.program in
+      let C = m.program in
       let f = found C m.args (state m) (suc k) ws e in
       e ∙ (sym (cond_some _ _ ws e).1 ∙ (sym ((h.known (C.unit (C.caller (suc k)))).wants (suc k) (omega arith) f.within refl) ∙ other (λ q. absurd (omega (arith, q)))))
 
-  pub finish_in : (f k : ℕ) (ws : List Word) → (state m).unit ((program_of m.program).unit f) ≡ Runs f k ws → f < (program_of m.program).functions
-  finish_in f k ws e = ((inv h).member ((program_of m.program).unit f) f k ws e).1
+  pub finish_in : (f k : ℕ) (ws : List Word) → (state m).unit (m.program.unit f) ≡ Runs f k ws → f < m.program.functions
+  finish_in f k ws e = ((inv h).member (m.program.unit f) f k ws e).1
 
-  pub finish_is : (f k : ℕ) (ws : List Word) (v : Word) → (state m).unit ((program_of m.program).unit f) ≡ Runs f k ws → says (program_of m.program) (state m) ((program_of m.program).unit f) ≡ Ready v
-      → (u site : ℕ) (word : Word) → u ≡ (program_of m.program).unit f → site ≡ serves_of ((state m).unit u) → Some word ≡ word_of (get_or answers u NotYet)
-      → core_state (put (state m).unit u (Delivers site word)) (ended (program_of m.program) u (state m).site) ≡ fire (program_of m.program) m.args (state m) (Finish f)
+  pub finish_is : (f k : ℕ) (ws : List Word) (v : Word) → (state m).unit (m.program.unit f) ≡ Runs f k ws → says m.program (state m) (m.program.unit f) ≡ Ready v
+      → (u site : ℕ) (word : Word) → u ≡ m.program.unit f → site ≡ serves_of ((state m).unit u) → Some word ≡ word_of (get_or answers u NotYet)
+      → core_state (put (state m).unit u (Delivers site word)) (ended m.program u (state m).site) ≡ fire m.program m.args (state m) (Finish f)
   finish_is f k ws v runs is u site word at serving ready =
-      let C = program_of m.program in
+      let C = m.program in
       let s = state m in
       let same_site : site ≡ k = serving ∙ (ap (λ n. serves_of (s.unit n)) at ∙ ap serves_of runs) in
       let same_word : word ≡ v = some_same word v (ready ∙ (ap word_of ((h.known u).outcome ∙ ap (says C s) at ∙ is))) in
@@ -181,34 +181,34 @@ module _ {m : Shown} {answers : List Answer} {wants : List (Option (List Word))}
       ∙ (ap (λ w. core_state (put s.unit (C.unit f) (Delivers k w)) (ended C (C.unit f) s.site)) same_word
       ∙ sym (ap (λ x. finish C s (C.unit f) x (says C s (C.unit f))) runs ∙ ap (λ a. finish C s (C.unit f) (Runs f k ws) a) is)))
 
-  pub return_in : (k : ℕ) (v : Word) → (state m).unit (unit_for (program_of m.program) k) ≡ Delivers k v → k ≤ (program_of m.program).sites
-  return_in k v e = ((inv h).serving (unit_for (program_of m.program) k) k (ap serves e)).2
+  pub return_in : (k : ℕ) (v : Word) → (state m).unit (unit_for m.program k) ≡ Delivers k v → k ≤ m.program.sites
+  return_in k v e = ((inv h).serving (unit_for m.program k) k (ap serves e)).2
 
-  pub return_is : (k : ℕ) (v : Word) → (state m).unit (unit_for (program_of m.program) k) ≡ Delivers k v → (u : ℕ) (word : Word) → u ≡ unit_for
-      (program_of m.program) k → Some word ≡ word_given ((state m).unit u) → word ≡ v
+  pub return_is : (k : ℕ) (v : Word) → (state m).unit (unit_for m.program k) ≡ Delivers k v → (u : ℕ) (word : Word) → u ≡ unit_for
+      m.program k → Some word ≡ word_given ((state m).unit u) → word ≡ v
   return_is k v e u word at given = some_same word v (given ∙ (ap (λ n. word_given ((state m).unit n)) at ∙ ap word_given e))
 
-  pub return_next : (k : ℕ) (v : Word) → (state m).unit (unit_for (program_of m.program) k) ≡ Delivers k v → (word : Word) → word ≡ v → give_back
-      (program_of m.program) (state m) k (Delivers k word) ≡ fire (program_of m.program) m.args (state m) (Return k)
-  return_next k v e word same = ap (λ w. give_back (program_of m.program) (state m) k (Delivers k w)) same ∙ ap (give_back (program_of m.program) (state m) k) (sym e)
+  pub return_next : (k : ℕ) (v : Word) → (state m).unit (unit_for m.program k) ≡ Delivers k v → (word : Word) → word ≡ v → give_back
+      m.program (state m) k (Delivers k word) ≡ fire m.program m.args (state m) (Return k)
+  return_next k v e word same = ap (λ w. give_back m.program (state m) k (Delivers k w)) same ∙ ap (give_back m.program (state m) k) (sym e)
 
-  pub looping : (n : ℕ) (vs : List Word) → says (program_of m.program) (state m) ((program_of m.program).unit n) ≡ LoopTo n vs → Looping (program_of m.program) (state m) n
-  looping n vs e = by ((state m).unit ((program_of m.program).unit n)) refl
+  pub looping : (n : ℕ) (vs : List Word) → says m.program (state m) (m.program.unit n) ≡ LoopTo n vs → Looping m.program (state m) n
+  looping n vs e = by ((state m).unit (m.program.unit n)) refl
     where
-      by : (x : Mode) → (state m).unit ((program_of m.program).unit n) ≡ x → Looping (program_of m.program) (state m) n
-      by Idle q = not_loop n vs (sym (ap (says_as (program_of m.program) (back (state m))) q) ∙ e)
-      by (Delivers j w) q = not_loop n vs (sym (ap (says_as (program_of m.program) (back (state m))) q) ∙ e)
+      by : (x : Mode) → (state m).unit (m.program.unit n) ≡ x → Looping m.program (state m) n
+      by Idle q = not_loop n vs (sym (ap (says_as m.program (back (state m))) q) ∙ e)
+      by (Delivers j w) q = not_loop n vs (sym (ap (says_as m.program (back (state m))) q) ∙ e)
       by (Runs f j ws) q =
-          let C = program_of m.program in
+          let C = m.program in
           let a = (inv h).member (C.unit n) f j ws q in
           let body : answer (back (state m)) ws (C.body f) ≡ LoopTo n vs = sym (ap (says_as C (back (state m))) q) ∙ e in
           record { member = f; site = j; args = ws; runs = q; within = ((good h).loops f n a.1 (goes_stands (back (state m)) ws (C.body f) n vs body)).0 }
 
-  pub loop_is : (n : ℕ) (vs : List Word) → says (program_of m.program) (state m) ((program_of m.program).unit n) ≡ LoopTo n vs
-      → (u site : ℕ) (words : List Word) → u ≡ (program_of m.program).unit n → site ≡ serves_of ((state m).unit u) → Some words ≡ args_given (get_or answers u NotYet)
-      → core_state (put (state m).unit u (Runs n site words)) (ended (program_of m.program) u (state m).site) ≡ fire (program_of m.program) m.args (state m) (LoopInto n)
+  pub loop_is : (n : ℕ) (vs : List Word) → says m.program (state m) (m.program.unit n) ≡ LoopTo n vs
+      → (u site : ℕ) (words : List Word) → u ≡ m.program.unit n → site ≡ serves_of ((state m).unit u) → Some words ≡ args_given (get_or answers u NotYet)
+      → core_state (put (state m).unit u (Runs n site words)) (ended m.program u (state m).site) ≡ fire m.program m.args (state m) (LoopInto n)
   loop_is n vs is u site words at serving given =
-      let C = program_of m.program in
+      let C = m.program in
       let s = state m in
       let l = looping n vs is in
       let same_site : site ≡ l.site = serving ∙ (ap (λ n. serves_of (s.unit n)) at ∙ ap serves_of l.runs) in

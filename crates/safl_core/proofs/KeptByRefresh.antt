@@ -3,7 +3,7 @@ use Rattle.std.proofs.Common.{◌≡◌, ◌≢◌, ℕ, suc, ◌<◌, ◌≤◌
 use Rattle.std.proofs.lemmas.Bool.{cases_eq, eq-eqb, ne_eqb}
 use Rattle.std.proofs.lemmas.List.{get_or-set_other, get_or-set_same}
 use Rattle.safl_word.specs.Words.{Word}
-use Rattle.safl_term.specs.Checked.{CheckedProgram, IsChecked, program_of}
+use Rattle.safl_term.specs.Checked.{CheckedProgram, IsChecked}
 use Rattle.safl_term.specs.Program.{Program}
 use Rattle.safl_term.specs.Readiness.{Answer, NotYet, wanted}
 use Rattle.safl_term.specs.WellFormed.{HasWidth}
@@ -18,10 +18,10 @@ use Rattle.safl_core.specs.States.{ChangesWithin}
 use Rattle.safl_evaluate.proofs.RunsByParts.{not_wanted}
 
 -- a function's body may be evaluated with arguments of the widths of its parameters
-pub body_can : (c : CheckedProgram) (S : List Stage) (n : ℕ) (E : List Word) (f : ℕ) → IsChecked c → f < (program_of c).functions → widths E ≡
-    (program_of c).params f → BackFits (program_of c) S → length S ≡ suc (program_of c).sites → n ≡ suc (program_of c).sites → CanRun S n E ((program_of c).body f)
+pub body_can : (c : CheckedProgram) (S : List Stage) (n : ℕ) (E : List Word) (f : ℕ) → IsChecked c → f < c.program.functions → widths E ≡
+    c.program.params f → BackFits c.program S → length S ≡ suc c.program.sites → n ≡ suc c.program.sites → CanRun S n E (c.program.body f)
 body_can c S n E f checked lt fits back sites places =
-    let C = program_of c in
+    let C = c.program in
     let b = checked.formed.numbered.bodies f in
     record {
       program = C;

@@ -8,7 +8,6 @@ use Rattle.safl_calls.proofs.Invariant.{found}
 use Rattle.safl_evaluate.specs.declared.stage.Stage as declared
 use Rattle.safl_evaluate.specs.Stages.{stage_of, stage_at}
 use Rattle.safl_word.specs.Words.{Word}
-use Rattle.safl_term.specs.Checked.{program_of}
 use Rattle.safl_term.specs.Meaning.{loops}
 use Rattle.safl_term.specs.Program.{Program, arity, unit_for}
 use Rattle.safl_term.specs.Readiness.{Stage, Unsent, Sent, Returned, Answer, Ready, LoopTo, NotYet, back_word}
@@ -35,27 +34,27 @@ returned_is Sent v e = absurd (none v e) where
 returned_is (Returned w) v e = ap Returned (some_is w v e)
 
 module _ {m : Shown} {answers : List Answer} {wants : List (Option (List Word))} {room : ℕ} (h : IsKept m answers wants room) where
-  ends : (v : Word) → back_word ((state m).site 0) ≡ Some v → (after (program_of m.program) m.args opening h.reached.list).site 0 ≡ Returned v
+  ends : (v : Word) → back_word ((state m).site 0) ≡ Some v → (after m.program m.args opening h.reached.list).site 0 ≡ Returned v
   ends v e = ap (λ s. s.site 0) h.reached.ends ∙ returned_is ((state m).site 0) v e
 
-  pub sized : length m.args ≡ arity (program_of m.program) (program_of m.program).main
+  pub sized : length m.args ≡ arity m.program m.program.main
   sized = sym (widths_long m.args) ∙ ap (λ (x : List ℕ). length x) h.given
 
   pub value_of : (v : Word) → back_word ((state m).site 0) ≡ Some v → IsValue m v
   value_of v e =
-      let C = program_of m.program in
+      let C = m.program in
       let r = law.right C C.functions (numbered C h.checked.formed) h.checked.formed.numbered m.args h.reached.list h.reached.legal v (ends v e) in
       (r.0, ap (λ n. n + 2 * loops C r.0) (sym h.reached.count) ∙ r.1)
 
   pub bounded : IsBounded m
   bounded v d =
-      let C = program_of m.program in
+      let C = m.program in
       let b = law.bounded C C.functions (numbered C h.checked.formed) h.checked.formed.numbered m.args h.reached.list h.reached.legal v d in
       omega (arith, b, h.reached.count)
 
   pub goes_on : back_word ((state m).site 0) ≡ None → GoesOn m
   goes_on e =
-      let C = program_of m.program in
+      let C = m.program in
       let q = law.goes_on C C.functions (numbered C h.checked.formed) h.checked.formed.numbered m.args h.reached.list h.reached.legal sized
       (λ v r. never v (sym e ∙ ap back_word (sym (ap (λ s. s.site 0) h.reached.ends) ∙ r))) in
       (q.0, subst (λ s. Enabled C m.args s q.0) h.reached.ends q.1)
@@ -65,7 +64,7 @@ module _ {m : Shown} {answers : List Answer} {wants : List (Option (List Word))}
 
   pub over : (v : Word) → back_word ((state m).site 0) ≡ Some v → IsOver m
   over v e = λ x q.
-      let C = program_of m.program in
+      let C = m.program in
       law.stops C C.functions (numbered C h.checked.formed) h.checked.formed.numbered m.args h.reached.list h.reached.legal v x (ends v e) (subst (λ s. Enabled C m.args s x) (sym h.reached.ends) q)
 
 -- the stage that was read first
@@ -142,16 +141,16 @@ module _ (C : Program) (args : List Word) (s : State) where
 
 module _ {m : Shown} {answers : List Answer} {wants : List (Option (List Word))} {room : ℕ} (h : IsKept m answers wants room) where
   -- a site waits where it is unsent and wanted
-  pub waits_test : (k : ℕ) → k ≤ (program_of m.program).sites → (is_unsent ((state m).site k) && wanted_at wants k)
-      ≡ is_some (asked (program_of m.program) m.args (state m) k)
+  pub waits_test : (k : ℕ) → k ≤ m.program.sites → (is_unsent ((state m).site k) && wanted_at wants k)
+      ≡ is_some (asked m.program m.args (state m) k)
   waits_test zero le =
-      first (is_unsent ((state m).site 0)) (eqb (length m.args) (arity (program_of m.program) (program_of m.program).main)) (eq-eqb _ _ (sized h))
+      first (is_unsent ((state m).site 0)) (eqb (length m.args) (arity m.program m.program.main)) (eq-eqb _ _ (sized h))
     where
       first : (x y : Bool) → y ≡ true → (x && true) ≡ is_some (cond (x && y) (Some m.args) None)
       first true y q = ap (λ z. is_some (cond z (Some m.args) None)) (sym q)
       first false y q = refl
   waits_test (suc k) le =
-      let C = program_of m.program in
+      let C = m.program in
       rest (is_unsent ((state m).site (suc k))) (nat_le (suc k) C.sites) (get_or wants (suc k) None)
       (asked_as C (back (state m)) ((state m).unit (C.unit (C.caller (suc k)))) (C.caller (suc k)) (suc k))
       (le-leb (suc k) C.sites le) ((h.known (C.unit (C.caller (suc k)))).wants (suc k) (omega arith) le refl)
@@ -160,21 +159,21 @@ module _ {m : Shown} {answers : List Answer} {wants : List (Option (List Word))}
       rest true y o p q r = ap is_some r ∙ ap (λ z. is_some (cond z p None)) (sym q)
       rest false y o p q r = refl
 
-  pub accept_test : (k : ℕ) (u : ℕ) (b : Bool) → k ≤ (program_of m.program).sites
-      → b ≡ ((is_unsent ((state m).site k) && wanted_at wants k) && is_idle ((state m).unit (unit_for (program_of m.program) k)))
-      → b ≡ can (program_of m.program) m.args (state m) (Accept k)
-  accept_test k u b le e = e ∙ ap (λ x. x && is_idle ((state m).unit (unit_for (program_of m.program) k))) (waits_test k le)
+  pub accept_test : (k : ℕ) (u : ℕ) (b : Bool) → k ≤ m.program.sites
+      → b ≡ ((is_unsent ((state m).site k) && wanted_at wants k) && is_idle ((state m).unit (unit_for m.program k)))
+      → b ≡ can m.program m.args (state m) (Accept k)
+  accept_test k u b le e = e ∙ ap (λ x. x && is_idle ((state m).unit (unit_for m.program k))) (waits_test k le)
 
-  pub finish_test : (f u : ℕ) (b : Bool) → u ≡ (program_of m.program).unit f → b ≡ (runs ((state m).unit u) f && is_ready (get_or answers u NotYet)) →
-      b ≡ can (program_of m.program) m.args (state m) (Finish f)
+  pub finish_test : (f u : ℕ) (b : Bool) → u ≡ m.program.unit f → b ≡ (runs ((state m).unit u) f && is_ready (get_or answers u NotYet)) →
+      b ≡ can m.program m.args (state m) (Finish f)
   finish_test f u b at e =
-      let C = program_of m.program in
+      let C = m.program in
       e ∙ (ap (λ a. runs ((state m).unit u) f && is_ready a) (h.known u).outcome ∙ ap (λ n. runs ((state m).unit n) f && is_ready (says C (state m) n)) at)
 
   -- a site that a unit delivers to is sent
-  pub return_test : (k : ℕ) (b : Bool) → b ≡ (is_sent ((state m).site k) && delivers_to ((state m).unit (unit_for (program_of m.program) k)) k) → b ≡
-      can (program_of m.program) m.args (state m) (Return k)
-  return_test k b e = e ∙ by ((state m).unit (unit_for (program_of m.program) k)) refl
+  pub return_test : (k : ℕ) (b : Bool) → b ≡ (is_sent ((state m).site k) && delivers_to ((state m).unit (unit_for m.program k)) k) → b ≡
+      can m.program m.args (state m) (Return k)
+  return_test k b e = e ∙ by ((state m).unit (unit_for m.program k)) refl
     where
       never : (x : Bool) → (x && false) ≡ false
       never true = refl
@@ -184,27 +183,27 @@ module _ {m : Shown} {answers : List Answer} {wants : List (Option (List Word))}
       sent x true q = ap (λ z. z && true) (q refl)
       sent x false q = never x
 
-      by : (x : Mode) → (state m).unit (unit_for (program_of m.program) k) ≡ x → (is_sent ((state m).site k) && delivers_to x k) ≡ delivers_to x k
+      by : (x : Mode) → (state m).unit (unit_for m.program k) ≡ x → (is_sent ((state m).site k) && delivers_to x k) ≡ delivers_to x k
       by Idle q = never (is_sent ((state m).site k))
       by (Runs f j ws) q = never (is_sent ((state m).site k))
       by (Delivers j v) q = sent (is_sent ((state m).site k)) (eqb j k)
-          (λ t. ap is_sent ((inv h).serving (unit_for (program_of m.program) k) k (ap serves q ∙ ap Some (eqb-true j k t))).0)
+          (λ t. ap is_sent ((inv h).serving (unit_for m.program k) k (ap serves q ∙ ap Some (eqb-true j k t))).0)
 
-  pub loop_test : (n u : ℕ) (b : Bool) → u ≡ (program_of m.program).unit n → b ≡ loops_to (get_or answers u NotYet) n → b ≡ can (program_of m.program) m.args (state m) (LoopInto n)
+  pub loop_test : (n u : ℕ) (b : Bool) → u ≡ m.program.unit n → b ≡ loops_to (get_or answers u NotYet) n → b ≡ can m.program m.args (state m) (LoopInto n)
   loop_test n u b at e =
-      let C = program_of m.program in
+      let C = m.program in
       e ∙ (ap (λ a. loops_to a n) (h.known u).outcome ∙ ap (λ i. loops_to (says C (state m) i) n) at)
 
   -- numbers that are too great
-  pub accept_within : (k : ℕ) → CanFire m (Accept k) → k ≤ (program_of m.program).sites
-  accept_within k q = (found (program_of m.program) m.args (state m) k q.0 q.1).within
+  pub accept_within : (k : ℕ) → CanFire m (Accept k) → k ≤ m.program.sites
+  accept_within k q = (found m.program m.args (state m) k q.0 q.1).within
 
-  pub tested_as : (n : Shown) (e x : Event) (b : Bool) → m ≡ n → x ≡ e → b ≡ can (program_of m.program) m.args (state m) e → (IsTrue b → CanFire n x) × (CanFire n x → IsTrue b)
+  pub tested_as : (n : Shown) (e x : Event) (b : Bool) → m ≡ n → x ≡ e → b ≡ can m.program m.args (state m) e → (IsTrue b → CanFire n x) × (CanFire n x → IsTrue b)
   tested_as n e x b is same q =
       subst (λ y. (IsTrue b → CanFire n y) × (CanFire n y → IsTrue b)) (sym same)
-      (subst (λ z. (IsTrue b → CanFire z e) × (CanFire z e → IsTrue b)) is (tested (program_of m.program) m.args (state m) e b q))
+      (subst (λ z. (IsTrue b → CanFire z e) × (CanFire z e → IsTrue b)) is (tested m.program m.args (state m) e b q))
 
   pub refused_as : (n : Shown) (e x : Event) → m ≡ n → x ≡ e → (CanFire m e → ⊥) → (IsTrue false → CanFire n x) × (CanFire n x → IsTrue false)
   refused_as n e x is same never =
       subst (λ y. (IsTrue false → CanFire n y) × (CanFire n y → IsTrue false)) (sym same)
-      (subst (λ z. (IsTrue false → CanFire z e) × (CanFire z e → IsTrue false)) is (refused (program_of m.program) m.args (state m) e never))
+      (subst (λ z. (IsTrue false → CanFire z e) × (CanFire z e → IsTrue false)) is (refused m.program m.args (state m) e never))

@@ -3,7 +3,6 @@ use Rattle.std.proofs.Common.{◌≡◌, ◌≢◌, ℕ, zero, suc, ◌<◌, ◌
 use Rattle.std.specs.Prelude.{not}
 use Rattle.std.proofs.lemmas.Bool.{cases_eq, ne_eqb, eqb-true, true≢false}
 use Rattle.safl_word.specs.Words.{Word}
-use Rattle.safl_term.specs.Checked.{program_of}
 use Rattle.safl_term.specs.Program.{Program, unit_for}
 use Rattle.safl_term.specs.Readiness.{Unsent, Sent, Returned, Ready, LoopTo, back_word}
 use Rattle.safl_calls.specs.Machine.{State, Mode, Idle, Runs, Delivers, Event, Accept, Finish, Return, LoopInto, put, back, says, says_as, asked, fire, accept, finish, give_back, loop_into, ended}
@@ -70,25 +69,25 @@ local_return C s k word w is = record {
         (cases_eq k (suc j))
 
 module _ {m : Shown} {answers : List Answer} {wants : List (Option (List Word))} {room : ℕ} (h : IsKept m answers wants room) where
-  pub local_fire : (e : Event) → CanFire m e → (u w : ℕ) → Concerns (program_of m.program) e u w → Local (program_of m.program) (state m) (fire (program_of m.program) m.args (state m) e) u w
+  pub local_fire : (e : Event) → CanFire m e → (u w : ℕ) → Concerns m.program e u w → Local m.program (state m) (fire m.program m.args (state m) e) u w
   local_fire (Accept k) q u w p =
-      let C = program_of m.program in
+      let C = m.program in
       subst (λ n. Local C (state m) (fire C m.args (state m) (Accept k)) n w) (sym p.0)
       (subst (λ (o : Option (List Word)). Local C (state m) (accept C (state m) k o) (unit_for C k) w) (sym q.1) (local_accept C m.args (state m) k q.0 w q.1))
   local_fire (Finish f) q u w p =
-      let C = program_of m.program in
+      let C = m.program in
       let s = state m in
       let is : finish C s (C.unit f) (s.unit (C.unit f)) (says C s (C.unit f)) ≡ finish C s (C.unit f) (Runs f q.0 q.1) (Ready q.2) =
       ap (λ x. finish C s (C.unit f) x (says C s (C.unit f))) q.3 ∙ ap (λ a. finish C s (C.unit f) (Runs f q.0 q.1) a) q.4 in
       subst (λ n. Local C s (fire C m.args s (Finish f)) n w) (sym p.0)
       (subst (λ (t : State). Local C s t (C.unit f) w) (sym is) (local_end C s (C.unit f) (Delivers q.0 q.2) w))
   local_fire (Return k) q u w p =
-      let C = program_of m.program in
+      let C = m.program in
       let s = state m in
       subst (λ n. Local C s (fire C m.args s (Return k)) n w) (sym p.0)
       (subst (λ (x : Mode). Local C s (give_back C s k x) (unit_for C k) w) (sym q.1) (local_return C s k q.0 w p.1))
   local_fire (LoopInto n) q u w p =
-      let C = program_of m.program in
+      let C = m.program in
       let s = state m in
       let l = looping h n q.0 q.1 in
       let is : loop_into C s (C.unit n) (s.unit (C.unit n)) (says C s (C.unit n)) ≡ loop_into C s (C.unit n) (Runs l.member l.site l.args) (LoopTo n q.0) =
@@ -97,7 +96,7 @@ module _ {m : Shown} {answers : List Answer} {wants : List (Option (List Word))}
       (subst (λ (t : State). Local C s t (C.unit n) w) (sym is) (local_end C s (C.unit n) (Runs n l.site q.0) w))
 
   -- what is enabled is an event of the program
-  pub there : (e : Event) → CanFire m e → IsThere (program_of m.program) e
+  pub there : (e : Event) → CanFire m e → IsThere m.program e
   there (Accept k) q = accept_within h k q
   there (Finish f) q = finish_in h f q.0 q.1 q.3
   there (Return k) q = return_in h k q.0 q.1

@@ -1,7 +1,7 @@
 -- The state that the code keeps, from one event to the next.
 use Rattle.std.proofs.Common.{◌≡◌, ◌<◌, ◌≢◌, ℕ, ◌+◌, List, Option, None, get_or, slice_set, refl, sym, ap, ◌∙◌, subst, arith}
 use Rattle.safl_word.specs.Words.{Word}
-use Rattle.safl_term.specs.Checked.{CheckedProgram, program_of}
+use Rattle.safl_term.specs.Checked.{CheckedProgram}
 use Rattle.safl_term.specs.Program.{Program}
 use Rattle.safl_calls.specs.Machine as core
 use Rattle.safl_term.specs.Readiness.{Answer}
@@ -17,8 +17,8 @@ use Rattle.safl_core.specs.States.{Keeps, CanRefresh, ChangesWithin, EndsBody, S
 use Rattle.safl_core.proofs.KeptByEvents.{next_reached, next_member, next_back}
 
 -- after the step of an event each unit may be looked at anew
-pub can_refresh : (c : CheckedProgram) (args : List Word) (n : ℕ) (s t : State) (h : Keeps c args n s) (e : core.Event) → core.Enabled (program_of c) args (calls_of s) e
-    → (later : core.State) → Steps (program_of c) s t later → later ≡ core.fire (program_of c) args (calls_of s) e → (u : ℕ) → u < (program_of c).functions → CanRefresh c u t
+pub can_refresh : (c : CheckedProgram) (args : List Word) (n : ℕ) (s t : State) (h : Keeps c args n s) (e : core.Event) → core.Enabled c.program args (calls_of s) e
+    → (later : core.State) → Steps c.program s t later → later ≡ core.fire c.program args (calls_of s) e → (u : ℕ) → u < c.program.functions → CanRefresh c u t
 can_refresh c args n s t h e can later step is u lt = record {
   checked = h.checked;
   unit = lt;
@@ -44,23 +44,23 @@ known_as C s r u a v modes stages answers h =
 
 -- a step, and the unit that sees it looked at anew
 pub leads : (c : CheckedProgram) (args : List Word) (e : core.Event) (touched : Span) (s t r : State) (later : core.State) (u : ℕ)
-    → Steps (program_of c) s t later → Refreshes (program_of c) u touched t r → later ≡ core.fire (program_of c) args (calls_of s) e
-    → ((v : ℕ) → EndsBody (program_of c) e v → IsSpan (program_of c) v touched) → ((v : ℕ) → v ≢ u → IsKnown (program_of c) later s.answers.items s.wants.each.items v) → Leads c args e touched s r
+    → Steps c.program s t later → Refreshes c.program u touched t r → later ≡ core.fire c.program args (calls_of s) e
+    → ((v : ℕ) → EndsBody c.program e v → IsSpan c.program v touched) → ((v : ℕ) → v ≢ u → IsKnown c.program later s.answers.items s.wants.each.items v) → Leads c args e touched s r
 leads c args e touched s t r later u step anew is ends others = record {
   next = ap (λ (x : List Mode). state_of x r.stages.items) anew.modes ∙ (ap (λ (x : List Stage). state_of t.modes.items x) anew.stages ∙ (step.next ∙ is));
-  known = λ v. anew.known v (λ ne. known_after (program_of c) s t later v step (others v ne));
-  wants = subst (λ (x : List (Option (List Word))). ChangesWithin (program_of c) touched x r.wants.each.items) step.wants anew.wants;
+  known = λ v. anew.known v (λ ne. known_after c.program s t later v step (others v ne));
+  wants = subst (λ (x : List (Option (List Word))). ChangesWithin c.program touched x r.wants.each.items) step.wants anew.wants;
   ended = ends;
   sized = anew.sized;
 }
 
 -- a step of which no unit sees anything
 pub leads_unseen : (c : CheckedProgram) (args : List Word) (e : core.Event) (touched : Span) (s t : State) (later : core.State) → touched.end ≡ 1
-    → Steps (program_of c) s t later → later ≡ core.fire (program_of c) args (calls_of s) e → ((v : ℕ) → EndsBody (program_of c) e v → ⊥)
-    → ((v : ℕ) → IsKnown (program_of c) later s.answers.items s.wants.each.items v) → Leads c args e touched s t
+    → Steps c.program s t later → later ≡ core.fire c.program args (calls_of s) e → ((v : ℕ) → EndsBody c.program e v → ⊥)
+    → ((v : ℕ) → IsKnown c.program later s.answers.items s.wants.each.items v) → Leads c args e touched s t
 leads_unseen c args e touched s t later none step is ends others = record {
   next = step.next ∙ is;
-  known = λ v. known_after (program_of c) s t later v step (others v);
+  known = λ v. known_after c.program s t later v step (others v);
   wants = record {
     most = omega (arith, none);
     others = λ k pos le out. ap (λ (x : List (Option (List Word))). get_or x k None) step.wants;
@@ -69,7 +69,7 @@ leads_unseen c args e touched s t later none step is ends others = record {
   sized = step.sized;
 }
 
-pub keeps_next : (c : CheckedProgram) (args : List Word) (n : ℕ) (touched : Span) (s t : State) (h : Keeps c args n s) (e : core.Event) → core.Enabled (program_of c) args (calls_of s) e
+pub keeps_next : (c : CheckedProgram) (args : List Word) (n : ℕ) (touched : Span) (s t : State) (h : Keeps c args n s) (e : core.Event) → core.Enabled c.program args (calls_of s) e
     → Leads c args e touched s t → Keeps c args (n + 1) t
 keeps_next c args n touched s t h e can l = record {
   checked = h.checked;

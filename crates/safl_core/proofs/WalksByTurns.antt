@@ -6,7 +6,7 @@ use Rattle.safl_core.specs.declared.event.Event as machine_event
 use Rattle.safl_core.proofs.LawsOfKept.{goes_on, over}
 use Rattle.std.proofs.lemmas.Bool.{false≢true}
 use Rattle.safl_word.specs.Words.{Word}
-use Rattle.safl_term.specs.Checked.{CheckedProgram, program_of}
+use Rattle.safl_term.specs.Checked.{CheckedProgram}
 use Rattle.safl_term.specs.Meaning.{Main, main_cost, loops}
 use Rattle.safl_calls.specs.Machine.{Event, opening, after, fire, Enabled}
 use Rattle.safl_calls.proofs.Basics.{legal_append, legal_one}
@@ -19,20 +19,20 @@ use Rattle.safl_core.specs.Outcomes.{GoesOn, IsOver}
 use Rattle.safl_core.specs.Shown.{Shown, state, event_of, CanFire, Fires, IsKept}
 use Rattle.safl_core.specs.Walking.{number_after, Walked, start, turn, IsShort}
 
-pub first_turn : (m : Shown) (seed u : ℕ) → u ≡ busy (program_of m.program) (state m) → Walked (program_of m.program) m.args (state m) seed 0 (state m) seed u
-first_turn m seed u e = subst (λ w. Walked (program_of m.program) m.args (state m) seed 0 (state m) seed w) (sym e) start
+pub first_turn : (m : Shown) (seed u : ℕ) → u ≡ busy m.program (state m) → Walked m.program m.args (state m) seed 0 (state m) seed u
+first_turn m seed u e = subst (λ w. Walked m.program m.args (state m) seed 0 (state m) seed w) (sym e) start
 
-pub one_turn : (m0 m m1 : Shown) (seed n x u y w b : ℕ) (e : Event) → m.program ≡ m0.program → m.args ≡ m0.args → Walked (program_of m0.program) m0.args (state m0) seed n (state m) x u
-    → Fires m e m1 → y ≡ number_after x → IsPicked (program_of m.program) m.args (state m) y e → b ≡ busy (program_of m1.program) (state m1) → w ≡ max u b
-    → Walked (program_of m0.program) m0.args (state m0) seed (n + 1) (state m1) y w
+pub one_turn : (m0 m m1 : Shown) (seed n x u y w b : ℕ) (e : Event) → m.checked ≡ m0.checked → m.args ≡ m0.args → Walked m0.program m0.args (state m0) seed n (state m) x u
+    → Fires m e m1 → y ≡ number_after x → IsPicked m.program m.args (state m) y e → b ≡ busy m1.program (state m1) → w ≡ max u b
+    → Walked m0.program m0.args (state m0) seed (n + 1) (state m1) y w
 one_turn m0 m m1 seed n x u y w b e p a walked f ey pick eb ew =
-    let C = program_of m0.program in
+    let C = m0.program in
     let A = m0.args in
-    let by_number : IsPicked (program_of m.program) m.args (state m) (number_after x) e = subst (λ z. IsPicked (program_of m.program) m.args (state m) z e) ey pick in
-    let by_args : IsPicked (program_of m.program) A (state m) (number_after x) e = subst (λ X. IsPicked (program_of m.program) X (state m) (number_after x) e) a by_number in
-    let at : IsPicked C A (state m) (number_after x) e = subst (λ P. IsPicked (program_of P) A (state m) (number_after x) e) p by_args in
-    let next : state m1 ≡ fire C A (state m) e = f.next ∙ (ap (λ P. fire (program_of P) m.args (state m) e) p ∙ ap (λ X. fire C X (state m) e) a) in
-    let units : w ≡ max u (busy C (fire C A (state m) e)) = ew ∙ ap (max u) (eb ∙ (ap (λ P. busy (program_of P) (state m1)) (f.program ∙ p) ∙ ap (busy C) next)) in
+    let by_number : IsPicked m.program m.args (state m) (number_after x) e = subst (λ z. IsPicked m.program m.args (state m) z e) ey pick in
+    let by_args : IsPicked m.program A (state m) (number_after x) e = subst (λ X. IsPicked m.program X (state m) (number_after x) e) a by_number in
+    let at : IsPicked C A (state m) (number_after x) e = subst (λ (P : CheckedProgram). IsPicked P.program A (state m) (number_after x) e) p by_args in
+    let next : state m1 ≡ fire C A (state m) e = f.next ∙ (ap (λ (P : CheckedProgram). fire P.program m.args (state m) e) p ∙ ap (λ X. fire C X (state m) e) a) in
+    let units : w ≡ max u (busy C (fire C A (state m) e)) = ew ∙ ap (max u) (eb ∙ (ap (λ (P : CheckedProgram). busy P.program (state m1)) (f.program ∙ p) ∙ ap (busy C) next)) in
     subst (λ t. Walked C A (state m0) seed (n + 1) t y w) (sym next)
     (subst (λ z. Walked C A (state m0) seed (n + 1) (fire C A (state m) e) z w) (sym ey)
     (subst (λ z. Walked C A (state m0) seed (n + 1) (fire C A (state m) e) (number_after x) z) (sym units) (turn walked at)))
@@ -44,7 +44,7 @@ one_longer (y ∷ ys) x = let r = one_longer ys x in omega (arith, r)
 -- where some event is enabled, main gives no value in the events so far
 pub short_of : {m : Shown} {answers : List Kept} {wants : List (Option (List Word))} {room : ℕ} → IsKept m answers wants room → GoesOn m → IsShort m m.events
 short_of {m} h on = λ v d.
-    let C = program_of m.program in
+    let C = m.program in
     let e = on.0 in
     let can = subst (λ s. Enabled C m.args s e) (sym h.reached.ends) on.1 in
     let legal = legal_append C m.args opening h.reached.list (e ∷ []) h.reached.legal (legal_one C m.args (after C m.args opening h.reached.list) e can) in
@@ -52,11 +52,11 @@ short_of {m} h on = λ v d.
     omega (arith, b, one_longer h.reached.list e, h.reached.count)
 
 abbrev ShortBy : CheckedProgram → List Word → ℕ → Type 0
-ShortBy c args n = (v : Word) (d : Main (program_of c) args v) → n + 2 * loops (program_of c) d < 3 * main_cost (program_of c) args d
+ShortBy c args n = (v : Word) (d : Main c.program args v) → n + 2 * loops c.program d < 3 * main_cost c.program args d
 
-pub short_is : (m0 m : Shown) (n k : ℕ) → m.program ≡ m0.program → m.args ≡ m0.args → n ≡ k → IsShort m n → IsShort m0 k
+pub short_is : (m0 m : Shown) (n k : ℕ) → m.checked ≡ m0.checked → m.args ≡ m0.args → n ≡ k → IsShort m n → IsShort m0 k
 short_is m0 m n k p a e h =
-    subst (λ P. ShortBy P m0.args k) p (subst (λ X. ShortBy m.program X k) a (subst (ShortBy m.program m.args) e h))
+    subst (λ P. ShortBy P m0.args k) p (subst (λ X. ShortBy m.checked X k) a (subst (ShortBy m.checked m.args) e h))
 
 -- where main has not returned, all turns were taken
 pub short_end : (o q : Option Word) {T A R : Type 0} → o ≡ q → T ⊎ IsSome q → (T → A → R) → IfNone o A → IfNone o R

@@ -1,7 +1,7 @@
 -- What a machine keeps, with the sets of its events.
 use Rattle.std.specs.Prelude.{ℕ, List, length}
 use Rattle.safl_word.specs.Words.{Word}
-use Rattle.safl_term.specs.Checked.{CheckedProgram, program_of}
+use Rattle.safl_term.specs.Checked.{CheckedProgram}
 use Rattle.safl_core.specs.declared.enabled.Enabled.{Enabled}
 use Rattle.safl_evaluate.specs.declared.places.Plan.{Plan}
 use Rattle.safl_core.specs.declared.state.State.{State}
@@ -13,6 +13,6 @@ use Rattle.safl_core.specs.States.{Keeps, Recalls, calls_of}
 -- lie as planned, and what is kept of those that run is right
 pub record IsHeld (c : CheckedProgram) (args : List Word) (events : ℕ) (s : State) (e : Enabled) (plan : Plan) : Type 0 where
   pub kept : Keeps c args events s
-  pub marked : AreMarked (program_of c) args (calls_of s) e
-  pub planned : IsPlan (program_of c) plan (length s.kept.items)
-  pub recalls : (u : ℕ) → Recalls (program_of c) plan s u
+  pub marked : AreMarked c.program args (calls_of s) e
+  pub planned : IsPlan c.program plan (length s.kept.items)
+  pub recalls : (u : ℕ) → Recalls c.program plan s u

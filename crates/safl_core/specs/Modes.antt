@@ -1,6 +1,6 @@
 -- The modes that the code keeps, as those of the definitions.
 use Rattle.std.specs.Prelude.{ℕ, List, get_or}
-use Rattle.safl_term.specs.Checked.{CheckedProgram, program_of}
+use Rattle.safl_term.specs.Checked.{CheckedProgram}
 use Rattle.safl_term.specs.Program.{unit_for}
 use Rattle.safl_calls.specs.Machine as machine
 use Rattle.safl_core.specs.declared.mode.Mode.{Mode}
@@ -19,7 +19,7 @@ unit_at modes u = mode_of (get_or modes u Idle)
 
 -- that of the unit for a site
 abbrev pub unit_at_site : CheckedProgram → List Mode → ℕ → machine.Mode
-unit_at_site c modes k = unit_at modes (unit_for (program_of c) k)
+unit_at_site c modes k = unit_at modes (unit_for c.program k)
 
 abbrev pub state_of : List Mode → List Stage → machine.State
 state_of modes sites = record { unit = unit_at modes; site = stage_at sites }

@@ -1,7 +1,7 @@
 -- What a machine shows, and what it keeps.
 use Rattle.std.specs.Prelude.{◌≡◌, ℕ, suc, ◌+◌, List, length, Option, Some, None}
 use Rattle.safl_word.specs.Words.{Word}
-use Rattle.safl_term.specs.Checked.{CheckedProgram, IsChecked, program_of}
+use Rattle.safl_term.specs.Checked.{CheckedProgram, IsChecked}
 use Rattle.safl_term.specs.Readiness.{Answer}
 use Rattle.safl_calls.specs.Machine as core
 use Rattle.safl_core.specs.declared.event.Event.{Event}
@@ -14,14 +14,15 @@ use Rattle.safl_core.specs.Modes.{state_of}
 
 -- the program, the arguments of main, the units and sites, and how many events were fired
 pub record Shown : Type 0 where
-  pub program : CheckedProgram
+  pub checked : CheckedProgram
+  pub open checked use *
   pub args : List Word
   pub units : List Mode
   pub sites : List Stage
   pub events : ℕ
 
 abbrev pub shown_of : CheckedProgram → List Word → List Mode → List Stage → ℕ → Shown
-shown_of c args units sites events = record { program = c; args = args; units = units; sites = sites; events = events }
+shown_of c args units sites events = record { checked = c; args = args; units = units; sites = sites; events = events }
 
 -- the state that a machine is in
 abbrev pub state : Shown → core.State
@@ -37,12 +38,12 @@ event_of (Loop h) = core.LoopInto h
 pub record IsReached (m : Shown) : Type 0 where
   pub list : List core.Event
   pub count : length list ≡ m.events
-  pub legal : core.Legal (program_of m.program) m.args core.opening list
-  pub ends : core.after (program_of m.program) m.args core.opening list ≡ state m
+  pub legal : core.Legal m.program m.args core.opening list
+  pub ends : core.after m.program m.args core.opening list ≡ state m
 
 -- the event is enabled now
 abbrev pub CanFire : Shown → core.Event → Type 0
-CanFire m e = core.Enabled (program_of m.program) m.args (state m) e
+CanFire m e = core.Enabled m.program m.args (state m) e
 
 -- the site that a unit serves, or else 0
 abbrev pub serves_of : core.Mode → ℕ
@@ -58,26 +59,26 @@ word_given (core.Delivers k v) = Some v
 
 -- the machine afterwards: the event was fired, and the program and the arguments are the same
 pub record Fires (m : Shown) (e : core.Event) (n : Shown) : Type 0 where
-  pub program : n.program ≡ m.program
+  pub program : n.checked ≡ m.checked
   pub args : n.args ≡ m.args
-  pub next : state n ≡ core.fire (program_of m.program) m.args (state m) e
+  pub next : state n ≡ core.fire m.program m.args (state m) e
   pub events : n.events ≡ m.events + 1
 
 -- what is kept beside what is shown: what the bodies come to, the words with which they want their sites, and room
 pub record IsKept (m : Shown) (answers : List Answer) (wants : List (Option (List Word))) (room : ℕ) : Type 0 where
-  pub checked : IsChecked m.program
-  pub units : length m.units ≡ (program_of m.program).functions
-  pub sites : length m.sites ≡ suc (program_of m.program).sites
-  pub answers_all : length answers ≡ (program_of m.program).functions
-  pub wants_all : length wants ≡ suc (program_of m.program).sites
-  pub given : widths m.args ≡ (program_of m.program).params (program_of m.program).main
-  pub room_all : HasRoom (program_of m.program) room
+  pub checked : IsChecked m.checked
+  pub units : length m.units ≡ m.program.functions
+  pub sites : length m.sites ≡ suc m.program.sites
+  pub answers_all : length answers ≡ m.program.functions
+  pub wants_all : length wants ≡ suc m.program.sites
+  pub given : widths m.args ≡ m.program.params m.program.main
+  pub room_all : HasRoom m.program room
   pub reached : IsReached m
-  pub known : (u : ℕ) → IsKnown (program_of m.program) (state m) answers wants u
+  pub known : (u : ℕ) → IsKnown m.program (state m) answers wants u
 
 -- a machine at first: all units are idle, and main was not accepted
 pub record Opens (c : CheckedProgram) (args : List Word) (m : Shown) : Type 0 where
-  pub program : m.program ≡ c
+  pub program : m.checked ≡ c
   pub given : m.args ≡ args
   pub first : state m ≡ core.opening
   pub none : m.events ≡ 0

@@ -1,7 +1,7 @@
 -- The state that the code keeps, and what an event does to it.
 use Rattle.std.specs.Prelude.{◌≡◌, ◌==◌, ℕ, suc, ◌<◌, ◌≤◌, List, Option, None, Some, cond, length, get_or, slice_set}
 use Rattle.safl_word.specs.Words.{Word}
-use Rattle.safl_term.specs.Checked.{CheckedProgram, IsChecked, program_of}
+use Rattle.safl_term.specs.Checked.{CheckedProgram, IsChecked}
 use Rattle.safl_term.specs.Program.{Program}
 use Rattle.safl_term.specs.Readiness.{NotYet}
 use Rattle.safl_calls.specs.Machine as core
@@ -40,10 +40,10 @@ pub record IsSized (C : Program) (s : State) : Type 0 where
 -- a unit may be looked at anew: if it runs, then one of its members, with words of the widths of its parameters
 pub record CanRefresh (c : CheckedProgram) (u : ℕ) (s : State) : Type 0 where
   pub checked : IsChecked c
-  pub unit : u < (program_of c).functions
-  pub sized : IsSized (program_of c) s
-  pub member : RunsMember (program_of c) s.modes.items u
-  pub back : BackFits (program_of c) s.stages.items
+  pub unit : u < c.program.functions
+  pub sized : IsSized c.program s
+  pub member : RunsMember c.program s.modes.items u
+  pub back : BackFits c.program s.stages.items
 
 -- what is kept of a unit is what its body comes to and wants now
 abbrev pub Knows : Program → State → ℕ → Type 0
@@ -117,8 +117,8 @@ EndsBody C (core.LoopInto h) u = u ≡ C.unit h
 -- evaluation is that of this state; only sites of the span may be wanted otherwise than before, and where a body ends, the
 -- span has the sites of its unit
 pub record Leads (c : CheckedProgram) (args : List Word) (e : core.Event) (touched : Span) (s t : State) : Type 0 where
-  pub next : calls_of t ≡ core.fire (program_of c) args (calls_of s) e
-  pub known : (u : ℕ) → Knows (program_of c) t u
-  pub wants : ChangesWithin (program_of c) touched s.wants.each.items t.wants.each.items
-  pub ended : (u : ℕ) → EndsBody (program_of c) e u → IsSpan (program_of c) u touched
-  pub sized : IsSized (program_of c) t
+  pub next : calls_of t ≡ core.fire c.program args (calls_of s) e
+  pub known : (u : ℕ) → Knows c.program t u
+  pub wants : ChangesWithin c.program touched s.wants.each.items t.wants.each.items
+  pub ended : (u : ℕ) → EndsBody c.program e u → IsSpan c.program u touched
+  pub sized : IsSized c.program t

@@ -1,7 +1,6 @@
 -- Walks: the events that a row of numbers picks.
 use Rattle.std.specs.Prelude.{◌≡◌, ℕ, ◌+◌, ◌*◌, ◌%◌, ◌^◌, ◌<◌, ◌≤◌, List, max, IsSome, ◌⊎◌}
 use Rattle.safl_word.specs.Words.{Word}
-use Rattle.safl_term.specs.Checked.{program_of}
 use Rattle.safl_term.specs.Meaning.{Main, main_cost, loops}
 use Rattle.safl_term.specs.Program.{Program}
 use Rattle.safl_term.specs.Readiness.{back_word}
@@ -23,15 +22,15 @@ pub data Walked (C : Program) (args : List Word) (from : State) (seed : ℕ) : �
 
 -- a walk of this many turns, or fewer where main has returned
 pub record IsWalk (m : Shown) (seed steps : ℕ) (n : Shown) (units : ℕ) : Type 0 where
-  pub program : n.program ≡ m.program
+  pub program : n.checked ≡ m.checked
   pub args : n.args ≡ m.args
   pub turns : ℕ
   pub number : ℕ
-  pub walked : Walked (program_of m.program) m.args (state m) seed turns (state n) number units
+  pub walked : Walked m.program m.args (state m) seed turns (state n) number units
   pub events : n.events ≡ m.events + turns
   pub within : turns ≤ steps
   pub ends : (turns ≡ steps) ⊎ IsSome (back_word ((state n).site 0))
 
 -- main gives no value in so many events
 abbrev pub IsShort : Shown → ℕ → Type 0
-IsShort m events = (v : Word) (d : Main (program_of m.program) m.args v) → events + 2 * loops (program_of m.program) d < 3 * main_cost (program_of m.program) m.args d
+IsShort m events = (v : Word) (d : Main m.program m.args v) → events + 2 * loops m.program d < 3 * main_cost m.program m.args d

@@ -1,7 +1,6 @@
 //! Which events are enabled.
 
 ghost use Rattle.std.specs.Prelude.{◌≡◌, ◌<◌, ◌≤◌, ◌&&◌, suc, length, get_or, not, None};
-ghost use Rattle.safl_term.specs.Checked.{program_of};
 ghost use Rattle.safl_term.specs.Readiness as plain;
 ghost use Rattle.safl_calls.specs.Machine as core;
 ghost use Rattle.safl_core.specs.Modes.{unit_at, unit_at_site};
@@ -15,10 +14,10 @@ use safl_term::Checked;
 
 /// Whether a site is unsent and wanted, and its unit idle. Most units are busy, so that most sites stay unread.
 pub fn accepts(c: &Checked, modes: &[Mode], stages: &[Stage], wants: &[Want], k: u32) -> bool
-    requires site { k ≤ (program_of c.now).sites }
-    requires units { length modes.now ≡ (program_of c.now).functions }
-    requires stages { length stages.now ≡ suc (program_of c.now).sites }
-    requires wants { length wants.now ≡ suc (program_of c.now).sites }
+    requires site { k ≤ c.now.program.sites }
+    requires units { length modes.now ≡ c.now.program.functions }
+    requires stages { length stages.now ≡ suc c.now.program.sites }
+    requires wants { length wants.now ≡ suc c.now.program.sites }
     ensures { result ≡ ((core.is_unsent (stage_at stages.now k) && test.wanted_at wants.now k) && test.is_idle (unit_at_site c.now modes.now k)) }
 {
     is_idle(modes, c.unit_for(k)) && waits(stages, wants, k)
@@ -44,9 +43,9 @@ pub fn finishes(modes: &[Mode], answers: &[Answer], u: u32, f: u32) -> bool
 
 /// Whether a site is sent, and its unit delivers a word to it. Few sites are sent, so that most units stay unread.
 pub fn returns(c: &Checked, modes: &[Mode], stages: &[Stage], k: u32) -> bool
-    requires site { k ≤ (program_of c.now).sites }
-    requires units { length modes.now ≡ (program_of c.now).functions }
-    requires stages { length stages.now ≡ suc (program_of c.now).sites }
+    requires site { k ≤ c.now.program.sites }
+    requires units { length modes.now ≡ c.now.program.functions }
+    requires stages { length stages.now ≡ suc c.now.program.sites }
     ensures { result ≡ (test.is_sent (stage_at stages.now k) && test.delivers_to (unit_at_site c.now modes.now k) k) }
 {
     is_sent(stages, k) && delivers(modes, c.unit_for(k), k)

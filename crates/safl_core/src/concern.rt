@@ -1,7 +1,6 @@
 //! The units whose events an event changes.
 
 ghost use Rattle.std.specs.Prelude.{◌≡◌, ◌<◌};
-ghost use Rattle.safl_term.specs.Checked.{program_of};
 ghost use Rattle.safl_core.specs.Marking.{Concerns, IsThere};
 ghost use Rattle.safl_core.specs.Shown.{event_of};
 
@@ -28,10 +27,10 @@ impl TwoUnits {
 /// The units that an event concerns: the one that serves the site, finishes or loops, and the one in whose body a site
 /// stands that gets its word.
 pub fn concerned(c: &Checked, e: Event) -> TwoUnits
-    requires { IsThere (program_of c.now) (event_of e) }
-    ensures concerns { Concerns (program_of c.now) (event_of e) result.unit result.other }
-    ensures unit { result.unit < (program_of c.now).functions }
-    ensures other { result.other < (program_of c.now).functions }
+    requires { IsThere c.now.program (event_of e) }
+    ensures concerns { Concerns c.now.program (event_of e) result.unit result.other }
+    ensures unit { result.unit < c.now.program.functions }
+    ensures other { result.other < c.now.program.functions }
 {
     match e {
         Event::Accept(k) => TwoUnits::alone(c.unit_for(k)),

@@ -1,7 +1,6 @@
 //! The enabled events, as sets of numbers.
 
 ghost use Rattle.std.specs.Prelude.{◌≡◌, ℕ, suc, ◌<◌, ◌≤◌, Some};
-ghost use Rattle.safl_term.specs.Checked.{program_of};
 ghost use Rattle.safl_core.specs.Marking.{HasPlaces, IsThere, Relists, RelistsAfter, RelistsBoth, RelistsCalls, RelistsService, RelistsUnit, Nothing};
 ghost use Rattle.safl_core.specs.Shown.{event_of};
 ghost use Rattle.safl_core.specs.Spans.{InSpan};
@@ -32,13 +31,12 @@ pub struct Enabled {
 
 impl Enabled {
     ghost use Rattle.std.specs.Prelude.{◌≡◌, ◌<◌, IfOk};
-    ghost use Rattle.safl_term.specs.Checked.{program_of};
     ghost use Rattle.safl_core.specs.Marking.{IsNth, OpensWith, marked};
     ghost use Rattle.safl_core.specs.Shown.{event_of};
 
     /// The sets of a machine whose main waits to be accepted.
     pub fn new(alloc: Global, c: &Checked) -> Result<Enabled, AllocError>
-        ensures { IfOk result (λ e. OpensWith (program_of c.now) e) }
+        ensures { IfOk result (λ e. OpensWith c.now.program e) }
     {
         let functions = c.functions() as usize;
         let sites = c.sites() as usize + 1;
@@ -100,10 +98,10 @@ pub fn relist_after(
     enabled: &mut Enabled,
 )
     requires kept { (n : ℕ) × Keeps c.now opening.now n state.now }
-    requires unit { concerned.unit < (program_of c.now).functions }
-    requires other { concerned.other < (program_of c.now).functions }
-    requires places { HasPlaces (program_of c.now) enabled.old }
-    ensures { RelistsAfter (program_of c.now) opening.now (calls_of state.now) concerned.unit concerned.other before enabled.old enabled.new }
+    requires unit { concerned.unit < c.now.program.functions }
+    requires other { concerned.other < c.now.program.functions }
+    requires places { HasPlaces c.now.program enabled.old }
+    ensures { RelistsAfter c.now.program opening.now (calls_of state.now) concerned.unit concerned.other before enabled.old enabled.new }
 {
     relist_both(c, opening, state, concerned, enabled);
     relist_service(c, opening, state, concerned.unit, before, enabled);
@@ -120,10 +118,10 @@ pub fn relist_calls(
     enabled: &mut Enabled,
 )
     requires kept { (n : ℕ) × Keeps c.now opening.now n state.now }
-    requires span { touched.end ≤ suc (program_of c.now).sites }
-    requires there { IsThere (program_of c.now) (event_of e) }
-    requires places { HasPlaces (program_of c.now) enabled.old }
-    ensures { RelistsCalls (program_of c.now) opening.now (calls_of state.now) touched (event_of e) enabled.old enabled.new }
+    requires span { touched.end ≤ suc c.now.program.sites }
+    requires there { IsThere c.now.program (event_of e) }
+    requires places { HasPlaces c.now.program enabled.old }
+    ensures { RelistsCalls c.now.program opening.now (calls_of state.now) touched (event_of e) enabled.old enabled.new }
 {
     relist_touched(c, opening, state, touched, enabled);
     if let Event::Accept(k) = e {
@@ -140,10 +138,10 @@ fn relist_both(
     enabled: &mut Enabled,
 )
     requires kept { (n : ℕ) × Keeps c.now opening.now n state.now }
-    requires unit { concerned.unit < (program_of c.now).functions }
-    requires other { concerned.other < (program_of c.now).functions }
-    requires places { HasPlaces (program_of c.now) enabled.old }
-    ensures { RelistsBoth (program_of c.now) opening.now (calls_of state.now) concerned.unit concerned.other enabled.old enabled.new }
+    requires unit { concerned.unit < c.now.program.functions }
+    requires other { concerned.other < c.now.program.functions }
+    requires places { HasPlaces c.now.program enabled.old }
+    ensures { RelistsBoth c.now.program opening.now (calls_of state.now) concerned.unit concerned.other enabled.old enabled.new }
 {
     relist(c, opening, state, concerned.unit, enabled);
     if concerned.other == concerned.unit {
@@ -155,9 +153,9 @@ fn relist_both(
 // Whether a unit is idle, and the events of its members.
 fn relist(c: &Checked, opening: &Args, state: &State, u: u32, enabled: &mut Enabled)
     requires kept { (n : ℕ) × Keeps c.now opening.now n state.now }
-    requires unit { u < (program_of c.now).functions }
-    requires places { HasPlaces (program_of c.now) enabled.old }
-    ensures { RelistsUnit (program_of c.now) opening.now (calls_of state.now) u enabled.old enabled.new }
+    requires unit { u < c.now.program.functions }
+    requires places { HasPlaces c.now.program enabled.old }
+    ensures { RelistsUnit c.now.program opening.now (calls_of state.now) u enabled.old enabled.new }
 {
     relist_unit(c, opening, state, u, enabled);
     relist_members(c, opening, state, u, enabled);
@@ -166,9 +164,9 @@ fn relist(c: &Checked, opening: &Args, state: &State, u: u32, enabled: &mut Enab
 // Whether a unit is idle.
 fn relist_unit(c: &Checked, opening: &Args, state: &State, u: u32, enabled: &mut Enabled)
     requires kept { (n : ℕ) × Keeps c.now opening.now n state.now }
-    requires unit { u < (program_of c.now).functions }
-    requires places { HasPlaces (program_of c.now) enabled.old }
-    ensures { Relists (program_of c.now) opening.now (calls_of state.now) Nothing Nothing Nothing (λ v. v ≡ u) enabled.old enabled.new }
+    requires unit { u < c.now.program.functions }
+    requires places { HasPlaces c.now.program enabled.old }
+    ensures { Relists c.now.program opening.now (calls_of state.now) Nothing Nothing Nothing (λ v. v ≡ u) enabled.old enabled.new }
 {
     let idle = check::is_idle(&state.modes, u);
     enabled.accepts.turn(u, idle);
@@ -178,9 +176,9 @@ fn relist_unit(c: &Checked, opening: &Args, state: &State, u: u32, enabled: &mut
 // The events of the members of a unit.
 fn relist_members(c: &Checked, opening: &Args, state: &State, u: u32, enabled: &mut Enabled)
     requires kept { (n : ℕ) × Keeps c.now opening.now n state.now }
-    requires unit { u < (program_of c.now).functions }
-    requires places { HasPlaces (program_of c.now) enabled.old }
-    ensures { Relists (program_of c.now) opening.now (calls_of state.now) Nothing Nothing (λ f. (program_of c.now).unit f ≡ u) Nothing enabled.old enabled.new }
+    requires unit { u < c.now.program.functions }
+    requires places { HasPlaces c.now.program enabled.old }
+    ensures { Relists c.now.program opening.now (calls_of state.now) Nothing Nothing (λ f. c.now.program.unit f ≡ u) Nothing enabled.old enabled.new }
 {
     for f in u..members_end(c, u) {
         relist_member(c, opening, state, f, enabled);
@@ -189,9 +187,9 @@ fn relist_members(c: &Checked, opening: &Args, state: &State, u: u32, enabled: &
 
 fn relist_member(c: &Checked, opening: &Args, state: &State, f: u32, enabled: &mut Enabled)
     requires kept { (n : ℕ) × Keeps c.now opening.now n state.now }
-    requires function { f < (program_of c.now).functions }
-    requires places { HasPlaces (program_of c.now) enabled.old }
-    ensures { Relists (program_of c.now) opening.now (calls_of state.now) Nothing Nothing (λ g. g ≡ f) Nothing enabled.old enabled.new }
+    requires function { f < c.now.program.functions }
+    requires places { HasPlaces c.now.program enabled.old }
+    ensures { Relists c.now.program opening.now (calls_of state.now) Nothing Nothing (λ g. g ≡ f) Nothing enabled.old enabled.new }
 {
     let unit = c.unit(f);
     enabled
@@ -203,9 +201,9 @@ fn relist_member(c: &Checked, opening: &Args, state: &State, f: u32, enabled: &m
 // The calls of the sites of a span.
 fn relist_touched(c: &Checked, opening: &Args, state: &State, touched: Span, enabled: &mut Enabled)
     requires kept { (n : ℕ) × Keeps c.now opening.now n state.now }
-    requires span { touched.end ≤ suc (program_of c.now).sites }
-    requires places { HasPlaces (program_of c.now) enabled.old }
-    ensures { Relists (program_of c.now) opening.now (calls_of state.now) (λ k. InSpan touched k) Nothing Nothing Nothing enabled.old enabled.new }
+    requires span { touched.end ≤ suc c.now.program.sites }
+    requires places { HasPlaces c.now.program enabled.old }
+    ensures { Relists c.now.program opening.now (calls_of state.now) (λ k. InSpan touched k) Nothing Nothing Nothing enabled.old enabled.new }
 {
     for k in touched.first..touched.end {
         relist_call(c, opening, state, k, enabled);
@@ -215,9 +213,9 @@ fn relist_touched(c: &Checked, opening: &Args, state: &State, touched: Span, ena
 // Whether the call of a site waits.
 fn relist_call(c: &Checked, opening: &Args, state: &State, k: u32, enabled: &mut Enabled)
     requires kept { (n : ℕ) × Keeps c.now opening.now n state.now }
-    requires site { k ≤ (program_of c.now).sites }
-    requires places { HasPlaces (program_of c.now) enabled.old }
-    ensures { Relists (program_of c.now) opening.now (calls_of state.now) (λ j. j ≡ k) Nothing Nothing Nothing enabled.old enabled.new }
+    requires site { k ≤ c.now.program.sites }
+    requires places { HasPlaces c.now.program enabled.old }
+    ensures { Relists c.now.program opening.now (calls_of state.now) (λ j. j ≡ k) Nothing Nothing Nothing enabled.old enabled.new }
 {
     let waits = check::waits(&state.stages, &state.wants.each, k);
     enabled.accepts.put(k, waits);
@@ -233,9 +231,9 @@ fn relist_service(
     enabled: &mut Enabled,
 )
     requires kept { (n : ℕ) × Keeps c.now opening.now n state.now }
-    requires unit { u < (program_of c.now).functions }
-    requires places { HasPlaces (program_of c.now) enabled.old }
-    ensures { RelistsService (program_of c.now) opening.now (calls_of state.now) u before enabled.old enabled.new }
+    requires unit { u < c.now.program.functions }
+    requires places { HasPlaces c.now.program enabled.old }
+    ensures { RelistsService c.now.program opening.now (calls_of state.now) u before enabled.old enabled.new }
 {
     relist_return(c, opening, state, before, enabled);
     relist_return(c, opening, state, delivered_to(&state.modes, u), enabled);
@@ -250,8 +248,8 @@ fn relist_return(
     enabled: &mut Enabled,
 )
     requires kept { (n : ℕ) × Keeps c.now opening.now n state.now }
-    requires places { HasPlaces (program_of c.now) enabled.old }
-    ensures { Relists (program_of c.now) opening.now (calls_of state.now) Nothing (λ j. site ≡ Some j) Nothing Nothing enabled.old enabled.new }
+    requires places { HasPlaces c.now.program enabled.old }
+    ensures { Relists c.now.program opening.now (calls_of state.now) Nothing (λ j. site ≡ Some j) Nothing Nothing enabled.old enabled.new }
 {
     let Some(k) = site else {
         return;

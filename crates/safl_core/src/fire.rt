@@ -1,7 +1,6 @@
 //! Events are fired.
 
 ghost use Rattle.std.specs.Prelude.{◌≡◌, ℕ, ◌<◌, ◌≤◌, length, Some, None, IsSome, get_or};
-ghost use Rattle.safl_term.specs.Checked.{program_of};
 ghost use Rattle.safl_term.specs.Readiness as plain;
 ghost use Rattle.safl_calls.specs.Machine as core;
 ghost use Rattle.safl_core.specs.Modes.{unit_at};
@@ -24,11 +23,11 @@ use safl_word::Word;
 /// evaluation is that of this state. Answers the sites that may be wanted otherwise than before.
 pub fn fire(c: &Checked, plan: &Plan, opening: &Args, state: &mut State, e: Event) -> Span
     requires kept { (n : ℕ) × Keeps c.now opening.now n state.old }
-    requires plan { IsPlan (program_of c.now) plan.now (length state.old.kept.items) }
-    requires recalls { (u : ℕ) → Recalls (program_of c.now) plan.now state.old u }
-    requires can { core.Enabled (program_of c.now) opening.now (calls_of state.old) (event_of e) }
+    requires plan { IsPlan c.now.program plan.now (length state.old.kept.items) }
+    requires recalls { (u : ℕ) → Recalls c.now.program plan.now state.old u }
+    requires can { core.Enabled c.now.program opening.now (calls_of state.old) (event_of e) }
     ensures leads { Leads c.now opening.now (event_of e) result state.old state.new }
-    ensures recalls { (u : ℕ) → Recalls (program_of c.now) plan.now state.new u }
+    ensures recalls { (u : ℕ) → Recalls c.now.program plan.now state.new u }
     ensures cells { length state.new.kept.items ≡ length state.old.kept.items }
 {
     match e {
@@ -42,11 +41,11 @@ pub fn fire(c: &Checked, plan: &Plan, opening: &Args, state: &mut State, e: Even
 // A site's call is accepted.
 fn accept(c: &Checked, plan: &Plan, opening: &Args, state: &mut State, k: u32) -> Span
     requires kept { (n : ℕ) × Keeps c.now opening.now n state.old }
-    requires plan { IsPlan (program_of c.now) plan.now (length state.old.kept.items) }
-    requires recalls { (u : ℕ) → Recalls (program_of c.now) plan.now state.old u }
-    requires can { core.Enabled (program_of c.now) opening.now (calls_of state.old) (core.Accept k) }
+    requires plan { IsPlan c.now.program plan.now (length state.old.kept.items) }
+    requires recalls { (u : ℕ) → Recalls c.now.program plan.now state.old u }
+    requires can { core.Enabled c.now.program opening.now (calls_of state.old) (core.Accept k) }
     ensures leads { Leads c.now opening.now (core.Accept k) result state.old state.new }
-    ensures recalls { (u : ℕ) → Recalls (program_of c.now) plan.now state.new u }
+    ensures recalls { (u : ℕ) → Recalls c.now.program plan.now state.new u }
     ensures cells { length state.new.kept.items ≡ length state.old.kept.items }
 {
     let words = if k == 0 {
@@ -62,11 +61,11 @@ fn accept(c: &Checked, plan: &Plan, opening: &Args, state: &mut State, k: u32) -
 // A function finishes.
 fn finish(c: &Checked, plan: &Plan, opening: &Args, state: &mut State, f: u32) -> Span
     requires kept { (n : ℕ) × Keeps c.now opening.now n state.old }
-    requires plan { IsPlan (program_of c.now) plan.now (length state.old.kept.items) }
-    requires recalls { (u : ℕ) → Recalls (program_of c.now) plan.now state.old u }
-    requires can { core.Enabled (program_of c.now) opening.now (calls_of state.old) (core.Finish f) }
+    requires plan { IsPlan c.now.program plan.now (length state.old.kept.items) }
+    requires recalls { (u : ℕ) → Recalls c.now.program plan.now state.old u }
+    requires can { core.Enabled c.now.program opening.now (calls_of state.old) (core.Finish f) }
     ensures leads { Leads c.now opening.now (core.Finish f) result state.old state.new }
-    ensures recalls { (u : ℕ) → Recalls (program_of c.now) plan.now state.new u }
+    ensures recalls { (u : ℕ) → Recalls c.now.program plan.now state.new u }
     ensures cells { length state.new.kept.items ≡ length state.old.kept.items }
 {
     let unit = c.unit(f);
@@ -81,11 +80,11 @@ fn finish(c: &Checked, plan: &Plan, opening: &Args, state: &mut State, f: u32) -
 // A site gets its word. Of the body in which it stands, what the word changes is found anew.
 fn give_back(c: &Checked, plan: &Plan, opening: &Args, state: &mut State, k: u32) -> Span
     requires kept { (n : ℕ) × Keeps c.now opening.now n state.old }
-    requires plan { IsPlan (program_of c.now) plan.now (length state.old.kept.items) }
-    requires recalls { (u : ℕ) → Recalls (program_of c.now) plan.now state.old u }
-    requires can { core.Enabled (program_of c.now) opening.now (calls_of state.old) (core.Return k) }
+    requires plan { IsPlan c.now.program plan.now (length state.old.kept.items) }
+    requires recalls { (u : ℕ) → Recalls c.now.program plan.now state.old u }
+    requires can { core.Enabled c.now.program opening.now (calls_of state.old) (core.Return k) }
     ensures leads { Leads c.now opening.now (core.Return k) result state.old state.new }
-    ensures recalls { (u : ℕ) → Recalls (program_of c.now) plan.now state.new u }
+    ensures recalls { (u : ℕ) → Recalls c.now.program plan.now state.new u }
     ensures cells { length state.new.kept.items ≡ length state.old.kept.items }
 {
     let unit = c.unit_for(k);
@@ -104,11 +103,11 @@ fn give_back(c: &Checked, plan: &Plan, opening: &Args, state: &mut State, k: u32
 // A unit loops to a member.
 fn loop_into(c: &Checked, plan: &Plan, opening: &Args, state: &mut State, h: u32) -> Span
     requires kept { (n : ℕ) × Keeps c.now opening.now n state.old }
-    requires plan { IsPlan (program_of c.now) plan.now (length state.old.kept.items) }
-    requires recalls { (u : ℕ) → Recalls (program_of c.now) plan.now state.old u }
-    requires can { core.Enabled (program_of c.now) opening.now (calls_of state.old) (core.LoopInto h) }
+    requires plan { IsPlan c.now.program plan.now (length state.old.kept.items) }
+    requires recalls { (u : ℕ) → Recalls c.now.program plan.now state.old u }
+    requires can { core.Enabled c.now.program opening.now (calls_of state.old) (core.LoopInto h) }
     ensures leads { Leads c.now opening.now (core.LoopInto h) result state.old state.new }
-    ensures recalls { (u : ℕ) → Recalls (program_of c.now) plan.now state.new u }
+    ensures recalls { (u : ℕ) → Recalls c.now.program plan.now state.new u }
     ensures cells { length state.new.kept.items ≡ length state.old.kept.items }
 {
     let unit = c.unit(h);

@@ -52,7 +52,6 @@ impl<'a> Model for Machine<'a> {
 impl<'a> Machine<'a> {
     ghost use Rattle.std.specs.Prelude.{◌≡◌, ◌+◌, ◌-◌, ◌^◌, ◌<◌, ◌≤◌, ◌↔◌, Err, IsTrue, IfOk, IfSome, IfNone, IsNone, IsSome, suc, length};
     ghost use Rattle.safl_calls.specs.Machine as core;
-    ghost use Rattle.safl_term.specs.Checked.{program_of};
     ghost use Rattle.safl_term.specs.Readiness.{back_word};
     ghost use Rattle.safl_evaluate.specs.Evaluating.{widths};
     ghost use Rattle.safl_core.specs.Listing.{busy};
@@ -63,7 +62,7 @@ impl<'a> Machine<'a> {
 
     /// A machine whose units are idle, and whose main waits to be accepted with these arguments.
     pub fn new(alloc: Global, c: &'a Checked, args: &[Word]) -> Result<Machine<'a>, MachineErr>
-        ensures bad_args { result ≡ Err MachineErr.BadArgs ↔ (widths args.now ≡ (program_of c.now).params (program_of c.now).main → ⊥) }
+        ensures bad_args { result ≡ Err MachineErr.BadArgs ↔ (widths args.now ≡ c.now.program.params c.now.program.main → ⊥) }
         ensures opens { IfOk result (λ m. Opens c.now args.now m) }
     {
         if !make::fits(c, args) {
@@ -76,7 +75,7 @@ impl<'a> Machine<'a> {
     }
 
     fn opened(alloc: Global, c: &'a Checked, args: &[Word]) -> Result<Machine<'a>, AllocError>
-        requires { widths args.now ≡ (program_of c.now).params (program_of c.now).main }
+        requires { widths args.now ≡ c.now.program.params c.now.program.main }
         ensures { IfOk result (λ m. Opens c.now args.now m) }
     {
         let functions = c.functions() as usize;
@@ -173,7 +172,7 @@ impl<'a> Machine<'a> {
 
     /// The number of units that are not idle.
     pub fn busy(&self) -> u32
-        ensures { result ≡ busy (program_of self.now.program) (state self.now) }
+        ensures { result ≡ busy self.now.program (state self.now) }
     {
         self.sets.busy.len()
     }
@@ -181,7 +180,7 @@ impl<'a> Machine<'a> {
     /// The event at place `x` modulo their number among the enabled ones, which are listed as accepts, finishes,
     /// returns and loops, each by rising number: None where none is enabled, which is where main has returned.
     pub fn pick(&self, x: u64) -> Option<Event>
-        ensures picked { IfSome result (λ e. IsPicked (program_of self.now.program) self.now.args (state self.now) x (event_of e)) }
+        ensures picked { IfSome result (λ e. IsPicked self.now.program self.now.args (state self.now) x (event_of e)) }
         ensures fires { IfSome result (λ e. CanFire self.now (event_of e)) }
         ensures none { IsNone result ↔ IsSome (back_word ((state self.now).site 0)) }
     {

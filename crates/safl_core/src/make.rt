@@ -1,7 +1,6 @@
 //! What a machine begins with.
 
 ghost use Rattle.std.specs.Prelude.{◌≡◌, ◌↔◌, ℕ, IsTrue, IfOk, length, get_or, None};
-ghost use Rattle.safl_term.specs.Checked.{program_of};
 ghost use Rattle.safl_term.specs.Readiness as plain;
 ghost use Rattle.safl_calls.specs.Machine as core;
 ghost use Rattle.safl_core.specs.Called.{AreCalled};
@@ -17,7 +16,7 @@ use std::alloc::{AllocError, Global};
 
 /// Whether these are as many words as main has parameters, each of its width.
 pub fn fits(c: &Checked, args: &[Word]) -> bool
-    ensures { IsTrue result ↔ (widths args.now ≡ (program_of c.now).params (program_of c.now).main) }
+    ensures { IsTrue result ↔ (widths args.now ≡ c.now.program.params c.now.program.main) }
 {
     let main = c.main();
     let count = c.params(main);
@@ -82,7 +81,7 @@ pub fn unsent(alloc: Global, count: usize) -> Result<Vec<Stage>, AllocError>
 
 /// By site the unit that it calls.
 pub fn called(alloc: Global, c: &Checked) -> Result<Vec<u32>, AllocError>
-    ensures { IfOk result (λ v. AreCalled (program_of c.now) v.items) }
+    ensures { IfOk result (λ v. AreCalled c.now.program v.items) }
 {
     let mut units = Vec::new(alloc);
     for k in 0..c.sites() + 1 {

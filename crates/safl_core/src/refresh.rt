@@ -1,7 +1,6 @@
 //! What is kept of partial evaluation, found anew for a unit.
 
 ghost use Rattle.std.specs.Prelude.{◌≡◌, ℕ, suc, ◌<◌, ◌≤◌, List, length, take, Some, IfSome, IfNone};
-ghost use Rattle.safl_term.specs.Checked.{program_of};
 ghost use Rattle.safl_calls.specs.Machine as core;
 ghost use Rattle.safl_core.specs.Modes.{unit_at};
 ghost use Rattle.safl_evaluate.specs.Laying.{IsPlan};
@@ -19,10 +18,10 @@ use safl_word::Word;
 
 /// Forgets the words with which a unit wanted its sites. Answers these sites.
 pub fn clear(c: &Checked, asks: &mut [Want], u: u32) -> Span
-    requires unit { u < (program_of c.now).functions }
-    requires sized { length asks.old ≡ suc (program_of c.now).sites }
-    ensures clears { Clears (program_of c.now) u asks.old asks.new }
-    ensures own { IsSpan (program_of c.now) u result }
+    requires unit { u < c.now.program.functions }
+    requires sized { length asks.old ≡ suc c.now.program.sites }
+    ensures clears { Clears c.now.program u asks.old asks.new }
+    ensures own { IsSpan c.now.program u result }
 {
     let own = own_sites(c, u);
     for k in own.first..own.end {
@@ -46,10 +45,10 @@ fn fill(env: &mut [Word], words: &[Word]) -> usize
 /// units stays. Answers the sites of the unit, since they alone may be wanted otherwise than before.
 pub fn refresh(c: &Checked, plan: &Plan, state: &mut State, u: u32) -> Span
     requires can { CanRefresh c.now u state.old }
-    requires plan { IsPlan (program_of c.now) plan.now (length state.old.kept.items) }
-    ensures refreshes { Refreshes (program_of c.now) u result state.old state.new }
-    ensures own { IsSpan (program_of c.now) u result }
-    ensures recalls { (v : ℕ) → ((v ≡ u → ⊥) → Recalls (program_of c.now) plan.now state.old v) → Recalls (program_of c.now) plan.now state.new v }
+    requires plan { IsPlan c.now.program plan.now (length state.old.kept.items) }
+    ensures refreshes { Refreshes c.now.program u result state.old state.new }
+    ensures own { IsSpan c.now.program u result }
+    ensures recalls { (v : ℕ) → ((v ≡ u → ⊥) → Recalls c.now.program plan.now state.old v) → Recalls c.now.program plan.now state.new v }
     ensures cells { length state.new.kept.items ≡ length state.old.kept.items }
 {
     let own = clear(c, &mut state.wants.each, u);
@@ -61,10 +60,10 @@ pub fn refresh(c: &Checked, plan: &Plan, state: &mut State, u: u32) -> Span
 /// wanted otherwise than before.
 pub fn renew(c: &Checked, plan: &Plan, state: &mut State, u: u32, k: u32) -> Span
     requires can { CanRefresh c.now u state.old }
-    requires plan { IsPlan (program_of c.now) plan.now (length state.old.kept.items) }
-    requires stood { CanRenew (program_of c.now) plan.now (Some k) state.old u }
-    ensures refreshes { Refreshes (program_of c.now) u result state.old state.new }
-    ensures recalls { (v : ℕ) → ((v ≡ u → ⊥) → Recalls (program_of c.now) plan.now state.old v) → Recalls (program_of c.now) plan.now state.new v }
+    requires plan { IsPlan c.now.program plan.now (length state.old.kept.items) }
+    requires stood { CanRenew c.now.program plan.now (Some k) state.old u }
+    ensures refreshes { Refreshes c.now.program u result state.old state.new }
+    ensures recalls { (v : ℕ) → ((v ≡ u → ⊥) → Recalls c.now.program plan.now state.old v) → Recalls c.now.program plan.now state.new v }
     ensures cells { length state.new.kept.items ≡ length state.old.kept.items }
 {
     state.wants.begin();
@@ -74,8 +73,8 @@ pub fn renew(c: &Checked, plan: &Plan, state: &mut State, u: u32, k: u32) -> Spa
 
 // The sites from the first to the last one that were asked for.
 fn between(c: &Checked, wants: &Wants) -> Span
-    ensures most { result.end ≤ suc (program_of c.now).sites }
-    ensures all { (k : ℕ) → k ≤ (program_of c.now).sites → IsAsked wants.now k → InSpan result k }
+    ensures most { result.end ≤ suc c.now.program.sites }
+    ensures all { (k : ℕ) → k ≤ c.now.program.sites → IsAsked wants.now k → InSpan result k }
 {
     Span {
         first: wants.first,
@@ -86,9 +85,9 @@ fn between(c: &Checked, wants: &Wants) -> Span
 // Notes what a unit's body comes to, and the words with which it wants its sites.
 fn evaluated(c: &Checked, plan: &Plan, state: &mut State, u: u32, news: Option<u32>)
     requires can { CanRefresh c.now u state.old }
-    requires plan { IsPlan (program_of c.now) plan.now (length state.old.kept.items) }
-    requires stood { CanRenew (program_of c.now) plan.now news state.old u }
-    ensures { Evaluates (program_of c.now) plan.now u state.old state.new }
+    requires plan { IsPlan c.now.program plan.now (length state.old.kept.items) }
+    requires stood { CanRenew c.now.program plan.now news state.old u }
+    ensures { Evaluates c.now.program plan.now u state.old state.new }
 {
     match running(&state.modes, u) {
         Some((f, args)) => {

@@ -1,7 +1,7 @@
 //! The members of a unit, and the sites in their bodies.
 
 ghost use Rattle.std.specs.Prelude.{◌≡◌, ℕ, suc, ◌<◌, ◌≤◌};
-ghost use Rattle.safl_term.specs.Checked.{IsChecked, program_of, first_site_of};
+ghost use Rattle.safl_term.specs.Checked.{IsChecked};
 ghost use Rattle.safl_core.specs.Spans.{IsSpan, EndsMembers};
 
 use safl_term::Checked;
@@ -27,8 +27,8 @@ impl Span {
 
 /// The number after the last member of a unit.
 pub fn members_end(c: &Checked, u: u32) -> u32
-    requires { u < (program_of c.now).functions }
-    ensures ends { EndsMembers (program_of c.now) u result }
+    requires { u < c.now.program.functions }
+    ensures ends { EndsMembers c.now.program u result }
     ensures checked { IsChecked c.now }
 {
     let functions = c.functions();
@@ -42,8 +42,8 @@ pub fn members_end(c: &Checked, u: u32) -> u32
 
 /// The sites in the bodies of a unit's members.
 pub fn own_sites(c: &Checked, u: u32) -> Span
-    requires { u < (program_of c.now).functions }
-    ensures { IsSpan (program_of c.now) u result }
+    requires { u < c.now.program.functions }
+    ensures { IsSpan c.now.program u result }
 {
     Span {
         first: c.first_site(u),
@@ -53,8 +53,8 @@ pub fn own_sites(c: &Checked, u: u32) -> Span
 
 // The number of the first site of a function and of those that follow it.
 fn sites_before(c: &Checked, f: u32) -> u32
-    requires { f ≤ (program_of c.now).functions }
-    ensures { result ≡ first_site_of c.now f }
+    requires { f ≤ c.now.program.functions }
+    ensures { result ≡ c.now.first_site f }
 {
     if f < c.functions() {
         c.first_site(f)

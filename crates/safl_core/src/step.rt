@@ -1,7 +1,6 @@
 //! The steps of units and sites.
 
 ghost use Rattle.std.specs.Prelude.{◌≡◌, ℕ, suc, ◌<◌, ◌≤◌, List, Some, IsSome, get_or, length};
-ghost use Rattle.safl_term.specs.Checked.{program_of};
 ghost use Rattle.safl_term.specs.Readiness as plain;
 ghost use Rattle.safl_word.specs.Words.{Word as a_word};
 ghost use Rattle.safl_calls.specs.Machine as core;
@@ -19,9 +18,9 @@ use safl_word::Word;
 
 /// A call is accepted: the site is sent, and its unit runs the callee for it.
 pub fn accept(c: &Checked, state: &mut State, k: u32, words: Args)
-    requires site { k ≤ (program_of c.now).sites }
-    requires sized { IsSized (program_of c.now) state.old }
-    ensures { Steps (program_of c.now) state.old state.new (core.accept (program_of c.now) (calls_of state.old) k (Some words)) }
+    requires site { k ≤ c.now.program.sites }
+    requires sized { IsSized c.now.program state.old }
+    ensures { Steps c.now.program state.old state.new (core.accept c.now.program (calls_of state.old) k (Some words)) }
 {
     state.modes[c.unit_for(k) as usize] = Mode::Runs(c.callee(k), k, words);
     state.stages[k as usize] = Stage::Sent;
@@ -29,9 +28,9 @@ pub fn accept(c: &Checked, state: &mut State, k: u32, words: Args)
 
 /// A unit ends: its mode is this one from now on, and the sites of its members are unsent again.
 pub fn end(c: &Checked, state: &mut State, u: u32, mode: Mode)
-    requires unit { u < (program_of c.now).functions }
-    requires sized { IsSized (program_of c.now) state.old }
-    ensures { Steps (program_of c.now) state.old state.new (ended_with (program_of c.now) state.old u (mode_of mode)) }
+    requires unit { u < c.now.program.functions }
+    requires sized { IsSized c.now.program state.old }
+    ensures { Steps c.now.program state.old state.new (ended_with c.now.program state.old u (mode_of mode)) }
 {
     state.modes[u as usize] = mode;
     end_sites(c, &mut state.stages, u);
@@ -40,11 +39,11 @@ pub fn end(c: &Checked, state: &mut State, u: u32, mode: Mode)
 /// A unit that runs a member loops: it runs this one with the arguments that its body comes to, for the same site, and
 /// the sites of its members are unsent again.
 pub fn restart(c: &Checked, state: &mut State, u: u32, h: u32)
-    requires unit { u < (program_of c.now).functions }
-    requires sized { IsSized (program_of c.now) state.old }
+    requires unit { u < c.now.program.functions }
+    requires sized { IsSized c.now.program state.old }
     requires runs { (f : ℕ) × (k : ℕ) × (ws : List a_word) × (unit_at state.old.modes.items u ≡ core.Runs f k ws) }
     requires passes { IsSome (args_given (get_or state.old.answers.items u plain.NotYet)) }
-    ensures { Restarts (program_of c.now) u h state.old state.new }
+    ensures { Restarts c.now.program u h state.old state.new }
 {
     let Some(args) = state.answers[u as usize].passed() else {
         unreachable!()
@@ -55,9 +54,9 @@ pub fn restart(c: &Checked, state: &mut State, u: u32, h: u32)
 
 // The sites of a unit's members are unsent again.
 fn end_sites(c: &Checked, stages: &mut [Stage], u: u32)
-    requires unit { u < (program_of c.now).functions }
-    requires sized { length stages.old ≡ suc (program_of c.now).sites }
-    ensures { (k : ℕ) → stage_at stages.new k ≡ core.ended (program_of c.now) u (stage_at stages.old) k }
+    requires unit { u < c.now.program.functions }
+    requires sized { length stages.old ≡ suc c.now.program.sites }
+    ensures { (k : ℕ) → stage_at stages.new k ≡ core.ended c.now.program u (stage_at stages.old) k }
 {
     let own = own_sites(c, u);
     for k in own.first..own.end {
@@ -67,9 +66,9 @@ fn end_sites(c: &Checked, stages: &mut [Stage], u: u32)
 
 /// A site gets its word, and its unit is idle.
 pub fn give_back(c: &Checked, state: &mut State, k: u32, word: Word)
-    requires site { k ≤ (program_of c.now).sites }
-    requires sized { IsSized (program_of c.now) state.old }
-    ensures { Steps (program_of c.now) state.old state.new (core.give_back (program_of c.now) (calls_of state.old) k (core.Delivers k word)) }
+    requires site { k ≤ c.now.program.sites }
+    requires sized { IsSized c.now.program state.old }
+    ensures { Steps c.now.program state.old state.new (core.give_back c.now.program (calls_of state.old) k (core.Delivers k word)) }
 {
     state.modes[c.unit_for(k) as usize] = Mode::Idle;
     state.stages[k as usize] = Stage::Returned(word);

@@ -1,7 +1,6 @@
 //! Where the nodes of a body lie in a table.
 
 ghost use Rattle.std.specs.Prelude.{◌≡◌, ℕ, ◌+◌, ◌<◌, ◌≤◌, ◌^◌, ◌&&◌, IfOk, length, true, false};
-ghost use Rattle.safl_term.specs.Checked.{program_of};
 ghost use Rattle.safl_term.specs.Sizes.{nodes, nodes_in};
 ghost use Rattle.safl_term.specs.Tree.{shown_term, shown_terms};
 ghost use Rattle.safl_evaluate.specs.Laying.{IsPlace, IsRoom, Laid, LaidIn, LaidBelow, SameOutside, Covers};
@@ -30,7 +29,7 @@ pub struct Plan {
 
 /// The plan of a program: its bodies lie one after the other in 50,000 places.
 pub fn planned(alloc: Global, c: &Checked) -> Result<Plan, AllocError>
-    ensures { IfOk result (λ plan. IsPlan (program_of c.now) plan 50000) }
+    ensures { IfOk result (λ plan. IsPlan c.now.program plan 50000) }
 {
     let blank = empty(0);
     let mut places = vec![in alloc; blank; 50_000]?;

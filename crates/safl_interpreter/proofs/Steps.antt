@@ -2,19 +2,17 @@
 use Rattle.std.proofs.Common.{◌≡◌, ℕ, zero, suc, ◌+◌, ◌<◌, ◌≤◌, List, [], ◌∷◌, ◌++◌, length, drop, get_or, Option, Some, Result, Ok, Err, IfOk, Vec}
 use Rattle.std.proofs.Common.{Global, ◌⊎◌, inl, inr, ⊎_elim, append_assoc, add-one, refl, sym, ap, ◌∙◌, subst, arith}
 use Rattle.std.proofs.lemmas.List.{get_or_read}
-use Rattle.std.proofs.lemmas.List.Sums.{sum_by-cons}
-use Rattle.std.specs.Prelude.{slice_get, IsSome, sum_by, ◌-◌}
-use Rattle.std.specs.Option.{option_map_or}
+use Rattle.std.specs.Prelude.{slice_get, IsSome, ◌-◌}
 use Rattle.safl_word.specs.Words.{Word, no_word, pick}
 use Rattle.safl_word.specs.declared.primitive.Primitive.{Primitive}
 use Rattle.safl_word.specs.Primitives.{apply_prim, result_width}
-use Rattle.safl_term.specs.Checked.{CheckedProgram, IsChecked, program_of}
+use Rattle.safl_term.specs.Checked.{CheckedProgram, IsChecked}
+use Rattle.safl_term.proofs.HeldByChecked.{main_is_last}
 use Rattle.safl_term.specs.Fuel.{Outcome, Nothing, Gave, Outcomes, NoWords, Words, with_word, with_words, with_rest, with_head, eval, eval_all, apply}
 use Rattle.safl_term.specs.Program.{Program}
 use Rattle.safl_term.specs.Sizes.{nodes, nodes_in}
-use Rattle.safl_term.specs.Terms.{Term, Const, Var, If, Let, Op, Call, Loop, Terms, Cons}
+use Rattle.safl_term.specs.Terms.{Term, Var, If, Let, Op, Call, Loop, Terms, Cons}
 use Rattle.safl_term.specs.Tree.{shown_term, shown_terms}
-use Rattle.safl_term.specs.declared.checked.Function.{Function}
 use Rattle.safl_term.specs.declared.term.Term as declared
 use Rattle.safl_term.specs.WellFormed.{HasWidth, HaveWidths, IsWellFormed}
 use Rattle.safl_term.proofs.PlainTrees.{shown_term-Call, shown_term-Loop}
@@ -30,16 +28,6 @@ use Rattle.safl_interpreter.proofs.Meanings.{one_call, terms_typed}
 -- more than three for each node of a body, and one more
 abbrev pub call_size : ℕ
 call_size = 150001
-
-sum_from : (fs : List Function) (i k : ℕ) → 1 ≤ k → sum_by (λ (f : Function). nodes (shown_term f.body)) fs ≤ k → nodes
-    (option_map_or (λ (f : Function). shown_term f.body) (slice_get fs i) (Const no_word)) ≤ k
-sum_from [] i k one h = one
-sum_from (f ∷ fs) zero k one h = omega (arith, h, sum_by-cons (λ (g : Function). nodes (shown_term g.body)) f fs)
-sum_from (f ∷ fs) (suc i) k one h = sum_from fs i k one (omega (arith, h, sum_by-cons (λ (g : Function). nodes (shown_term g.body)) f fs))
-
-pub few_nodes : (c : CheckedProgram) → IsChecked c → (f : ℕ) → nodes ((program_of c).body f) ≤ 50000
-unfolding program_of
-few_nodes c h f = sum_from c.functions f 50000 (omega arith) h.limits.nodes
 
 -- ---- a term by parts that are known under other names
 
@@ -241,14 +229,13 @@ one_step C n f us E t s some e b h =
 
 -- ---- main
 
-pub main_is : (c : CheckedProgram) (n : ℕ) → n ≡ (program_of c).functions → n - 1 ≡ (program_of c).main
-unfolding program_of
-main_is c n e = ap (λ k. k - 1) e
+pub main_is : (c : CheckedProgram) (n : ℕ) → n ≡ c.program.functions → n - 1 ≡ c.program.main
+main_is c n e = ap (λ k. k - 1) e ∙ sym (main_is_last c)
 
-pub main_gives : {X : Type 0} (c : CheckedProgram) (n m : ℕ) (us vs : List Word) → IsChecked c → m ≡ (program_of c).main → us ≡ vs →
-    (r : Result (Option Answer) X) → IfOk r (λ a. shown a ≡ applied (program_of c) n m us) → IfOk r (λ a. shown a ≡ apply (program_of c) n n ((program_of c).callee 0) vs)
+pub main_gives : {X : Type 0} (c : CheckedProgram) (n m : ℕ) (us vs : List Word) → IsChecked c → m ≡ c.program.main → us ≡ vs →
+    (r : Result (Option Answer) X) → IfOk r (λ a. shown a ≡ applied c.program n m us) → IfOk r (λ a. shown a ≡ apply c.program n n (c.program.callee 0) vs)
 unfolding applied
 main_gives c n m us vs h e f (Ok a) g =
-    let C = program_of c in
+    let C = c.program in
     g ∙ (ap (λ k. apply C n n k us) (e ∙ sym h.formed.main) ∙ ap (apply C n n (C.callee 0)) f)
 main_gives c n m us vs h e f (Err x) g = tt

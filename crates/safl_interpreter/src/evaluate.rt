@@ -1,7 +1,7 @@
 //! Evaluation, by recursion over terms. Tail calls are made by a loop.
 
 ghost use Rattle.std.specs.Prelude.{◌≡◌, ◌<◌, IfOk};
-ghost use Rattle.safl_term.specs.Checked.{program_of, IsChecked};
+ghost use Rattle.safl_term.specs.Checked.{IsChecked};
 ghost use Rattle.safl_term.specs.Fuel.{eval, eval_all};
 ghost use Rattle.safl_term.specs.Tree.{shown_term, shown_terms};
 ghost use Rattle.safl_interpreter.specs.Interpreting.{widths, shown, shown_all, applied, IsStep, IsTyped, AreTyped};
@@ -21,9 +21,9 @@ pub fn call(
     left: u32,
 ) -> Result<Option<Answer>, NoMemory>
     requires checked { IsChecked c.now }
-    requires function { f < (program_of c.now).functions }
-    requires fit { widths args.items ≡ (program_of c.now).params f }
-    ensures { IfOk result (λ answer. shown answer ≡ applied (program_of c.now) left f args.items) }
+    requires function { f < c.now.program.functions }
+    requires fit { widths args.items ≡ c.now.program.params f }
+    ensures { IfOk result (λ answer. shown answer ≡ applied c.now.program left f args.items) }
 {
     let mut function = f;
     let mut words = args;
@@ -46,8 +46,8 @@ pub fn call(
 #[cycle(evaluate)]
 fn evaluate(alloc: Global, c: &Checked, env: &[Word], t: &Term, left: u32) -> Result<Step, NoMemory>
     requires checked { IsChecked c.now }
-    requires typed { IsTyped (program_of c.now) env.now (shown_term t.now) }
-    ensures { IfOk result (λ s. IsStep (program_of c.now) env.now (shown_term t.now) left s) }
+    requires typed { IsTyped c.now.program env.now (shown_term t.now) }
+    ensures { IfOk result (λ s. IsStep c.now.program env.now (shown_term t.now) left s) }
 {
     match t {
         Term::Const(word) => Ok(Step::Done(Answer { word: *word, left })),
@@ -98,8 +98,8 @@ fn value(
     left: u32,
 ) -> Result<Option<Answer>, NoMemory>
     requires checked { IsChecked c.now }
-    requires typed { IsTyped (program_of c.now) env.now (shown_term t.now) }
-    ensures { IfOk result (λ answer. shown answer ≡ eval (program_of c.now) (applied (program_of c.now)) (shown_term t.now) left env.now) }
+    requires typed { IsTyped c.now.program env.now (shown_term t.now) }
+    ensures { IfOk result (λ answer. shown answer ≡ eval c.now.program (applied c.now.program) (shown_term t.now) left env.now) }
 {
     match evaluate(alloc, c, env, t, left)? {
         Step::Done(answer) => Ok(Some(answer)),
@@ -118,8 +118,8 @@ fn values(
     left: u32,
 ) -> Result<Option<Operands>, NoMemory>
     requires checked { IsChecked c.now }
-    requires typed { AreTyped (program_of c.now) env.now (shown_terms ts.now) }
-    ensures { IfOk result (λ operands. shown_all operands ≡ eval_all (program_of c.now) (applied (program_of c.now)) (shown_terms ts.now) left env.now) }
+    requires typed { AreTyped c.now.program env.now (shown_terms ts.now) }
+    ensures { IfOk result (λ operands. shown_all operands ≡ eval_all c.now.program (applied c.now.program) (shown_terms ts.now) left env.now) }
 {
     let mut words = Vec::new(alloc);
     let mut rest = left;

@@ -1,7 +1,6 @@
 //! The meaning of main.
 
 ghost use Rattle.std.specs.Prelude.{◌≡◌, IfOk};
-ghost use Rattle.safl_term.specs.Checked.{program_of};
 ghost use Rattle.safl_term.specs.Fuel.{apply};
 ghost use Rattle.safl_interpreter.specs.Interpreting.{widths, shown};
 
@@ -23,8 +22,8 @@ pub fn interpret(
     args: &[Word],
     budget: u32,
 ) -> Result<Option<Answer>, NoMemory>
-    requires { widths args.now ≡ (program_of c.now).params (program_of c.now).main }
-    ensures { IfOk result (λ answer. shown answer ≡ apply (program_of c.now) budget budget ((program_of c.now).callee 0) args.now) }
+    requires { widths args.now ≡ c.now.program.params c.now.program.main }
+    ensures { IfOk result (λ answer. shown answer ≡ apply c.now.program budget budget (c.now.program.callee 0) args.now) }
 {
     let main = c.functions() - 1;
     call(alloc, c, main, args.to_vec(alloc)?, budget)

@@ -4,7 +4,7 @@ use Rattle.safl_term.specs.Program.{Program}
 use Rattle.safl_term.specs.Terms.{Term}
 use Rattle.safl_term.specs.Sizes.{nodes}
 use Rattle.safl_term.specs.WellFormed.{IsWellFormed}
-use Rattle.safl_term.specs.Checked.{CheckedProgram, IsChecked, program_of, first_site_of}
+use Rattle.safl_term.specs.Checked.{CheckedProgram, IsChecked}
 use Rattle.safl_net.specs.declared.cell.Sig.{Sig}
 use Rattle.safl_net.specs.Netlist.{Netlist}
 use Rattle.safl_lower.specs.Sources.{HasRoom}
@@ -40,29 +40,29 @@ one_width C w f h l m e = sym (w.first h m).2 ∙ ap C.result e ∙ (w.first f l
 
 -- a function of a checked program, as the owner of its body
 abbrev pub owner_of : CheckedProgram → ℕ → Owner
-owner_of c f = record { program = program_of c; function = f; first = first_site_of c f; last = first_site_of c (suc f) }
+owner_of c f = record { program = c.program; function = f; first = c.first_site f; last = c.first_site (suc f) }
 
 -- the ports of its sites
 abbrev pub table_of : CheckedProgram → ℕ → Ports → SiteTable
-table_of c f P = record { first = first_site_of c f; ports = P.sites }
+table_of c f P = record { first = c.first_site f; ports = P.sites }
 
-module _ (c : CheckedProgram) (h : IsChecked c) (f : ℕ) (l : f < (program_of c).functions) where
-  pub own_body : IsBody (owner_of c f) ((program_of c).params f) ((program_of c).body f) ((program_of c).result f)
+module _ (c : CheckedProgram) (h : IsChecked c) (f : ℕ) (l : f < c.program.functions) where
+  pub own_body : IsBody (owner_of c f) (c.program.params f) (c.program.body f) (c.program.result f)
   own_body = record {
-    typed = record { low = first_site_of c f; high = first_site_of c (suc f); from = omega arith; upto = omega arith; spans = h.own_sites f l; width = h.formed.widths f l };
+    typed = record { low = c.first_site f; high = c.first_site (suc f); from = omega arith; upto = omega arith; spans = h.own_sites f l; width = h.formed.widths f l };
     from = refl;
     upto = refl;
   }
 
-  pub own_setting : (n : Netlist) (P : Ports) → CanLower c f n P → Setting n (owner_of c f) (table_of c f P) P.args.items ((program_of c).params f) P.run
+  pub own_setting : (n : Netlist) (P : Ports) → CanLower c f n P → Setting n (owner_of c f) (table_of c f P) P.args.items (c.program.params f) P.run
   own_setting n P able = record {
     path_bit = able.run;
     slots_sized = able.args;
     first = refl;
     last = able.count;
     sites_sized = able.sites;
-    one_width = λ g m e. one_width (program_of c) h.formed f g l m e;
+    one_width = λ g m e. one_width c.program h.formed f g l m e;
   }
 
-  pub own_given : (n : Netlist) (P : Ports) → CanLower c f n P → Given n (table_of c f P) P.args.items P.run ((program_of c).body f)
-  own_given n P able = record { owner = owner_of c f; env = (program_of c).params f; width = (program_of c).result f; setting = own_setting n P able; body = own_body; room = able.room }
+  pub own_given : (n : Netlist) (P : Ports) → CanLower c f n P → Given n (table_of c f P) P.args.items P.run (c.program.body f)
+  own_given n P able = record { owner = owner_of c f; env = c.program.params f; width = c.program.result f; setting = own_setting n P able; body = own_body; room = able.room }

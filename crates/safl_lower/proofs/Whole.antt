@@ -3,7 +3,7 @@ use Rattle.std.proofs.Common.{Vec, Global, ◌≡◌, ℕ, zero, suc, ◌+◌, �
 use Rattle.safl_word.specs.Words.{Word}
 use Rattle.safl_term.specs.Terms.{Term}
 use Rattle.safl_term.specs.Sizes.{nodes}
-use Rattle.safl_term.specs.Checked.{CheckedProgram, IsChecked, program_of, first_site_of}
+use Rattle.safl_term.specs.Checked.{CheckedProgram, IsChecked}
 use Rattle.safl_term.specs.Readiness.{answer, wanted, or_else}
 use Rattle.safl_net.specs.declared.cell.Sig.{Sig}
 use Rattle.safl_net.specs.Netlist.{Netlist}
@@ -90,12 +90,12 @@ module _ {P : SiteTable} {slots : List Sig} {path : Sig} {n0 n1 : Netlist} {o p 
   result_ready = (h.shape c.owner true c.env c.width c.setting c.body.typed).ready
 
 -- each tail call of a function's body goes to a member of its group
-pub merge_within : (c : CheckedProgram) (hc : IsChecked c) (f : ℕ) (l : f < (program_of c).functions) (P : Ports) {n0 n1 : Netlist} {o p : Out} {r : Lowered} → CanLower c f n0 P → o.loops.items ≡ []
-    → Lowers (table_of c f P) P.args.items P.run n0 n1 o p r ((program_of c).body f)
-    → (a b : ℕ) → ((g : ℕ) → g < (program_of c).functions → (program_of c).unit g ≡ (program_of c).unit f → (a ≤ g) × (g < b)) → Between a b (map member_of p.loops.items)
+pub merge_within : (c : CheckedProgram) (hc : IsChecked c) (f : ℕ) (l : f < c.program.functions) (P : Ports) {n0 n1 : Netlist} {o p : Out} {r : Lowered} → CanLower c f n0 P → o.loops.items ≡ []
+    → Lowers (table_of c f P) P.args.items P.run n0 n1 o p r (c.program.body f)
+    → (a b : ℕ) → ((g : ℕ) → g < c.program.functions → c.program.unit g ≡ c.program.unit f → (a ≤ g) × (g < b)) → Between a b (map member_of p.loops.items)
 merge_within c hc f l P {n0} {n1} {o} {p} {r} able el h a b inside =
     mates_between (owner_of c f) a b (map member_of p.loops.items) inside
-    (h.within (owner_of c f) true ((program_of c).params f) ((program_of c).result f) (own_setting c hc f l n0 P able) (own_body c hc f l).typed
+    (h.within (owner_of c f) true (c.program.params f) (c.program.result f) (own_setting c hc f l n0 P able) (own_body c hc f l).typed
     (subst (λ (q : List TailCall). Mates (owner_of c f) (map member_of q)) (sym el) tt))
 
 to_gate : (h : ℕ) (b : Bool) (x : Option (ℕ × List Word)) → to_member h (gate b x) ≡ gate b (to_member h x)
@@ -110,24 +110,24 @@ renumbered {sites} {slots} {path} {n} {m} {o} {p} {r} {x} {y} k j e f h =
 
 -- ---- the circuit of a function's body
 
-module _ (c : CheckedProgram) (hc : IsChecked c) (f : ℕ) (l : f < (program_of c).functions) (P : Ports) {n0 n1 n2 n3 : Netlist} {o p : Out} {r : Lowered} (b : Body) (width count : ℕ)
-    (ew : o.wants.items ≡ []) (el : o.loops.items ≡ []) (able : CanLower c f n0 P) (h : Lowers (table_of c f P) P.args.items P.run n0 n1 o p r ((program_of c).body f))
-    (ended : Builds n1 n2 2) (wide : (w : ℕ) → Shaped n1 r w → (r.ready ≡ Never → w ≡ width) → LoadFits n2 b.end (w ∷ [])) (same : width ≡ (program_of c).result f)
+module _ (c : CheckedProgram) (hc : IsChecked c) (f : ℕ) (l : f < c.program.functions) (P : Ports) {n0 n1 n2 n3 : Netlist} {o p : Out} {r : Lowered} (b : Body) (width count : ℕ)
+    (ew : o.wants.items ≡ []) (el : o.loops.items ≡ []) (able : CanLower c f n0 P) (h : Lowers (table_of c f P) P.args.items P.run n0 n1 o p r (c.program.body f))
+    (ended : Builds n1 n2 2) (wide : (w : ℕ) → Shaped n1 r w → (r.ready ≡ Never → w ≡ width) → LoadFits n2 b.end (w ∷ [])) (same : width ≡ c.program.result f)
     (is : (v : Val) → Wired n2 v → taken v b.end ≡ one_word (gate (on v P.run) (shown v r)))
-    (sp : Spreads (first_site_of c f) (length P.sites.items) p.wants.items b.wants.items)
-    (group : IsGroup (program_of c) f count)
-    (joined : Builds n2 n3 (cost p.loops.items)) (me : Merged ((program_of c).unit f) count n2 n3 p.loops.items b.loops.items) where
+    (sp : Spreads (c.first_site f) (length P.sites.items) p.wants.items b.wants.items)
+    (group : IsGroup c.program f count)
+    (joined : Builds n2 n3 (cost p.loops.items)) (me : Merged (c.program.unit f) count n2 n3 p.loops.items b.loops.items) where
   before : (v : Val) → Wired n3 v → Wired n1 v
   before v w = wired_before ended.grows (wired_before joined.grows w)
 
   out_fits : OutFits (owner_of c f) n1 p
-  out_fits = h.fits (owner_of c f) true ((program_of c).params f) ((program_of c).result f) (own_setting c hc f l n0 P able) (own_body c hc f l).typed (empty_fits (owner_of c f) n0 o ew el)
+  out_fits = h.fits (owner_of c f) true (c.program.params f) (c.program.result f) (own_setting c hc f l n0 P able) (own_body c hc f l).typed (empty_fits (owner_of c f) n0 o ew el)
 
   pub lowered : IsLowered c f P n0 n3 b
   lowered =
       let F = owner_of c f in
-      let env = (program_of c).params f in
-      let w = (program_of c).result f in
+      let env = c.program.params f in
+      let w = c.program.result f in
       let st = own_setting c hc f l n0 P able in
       let ty = (own_body c hc f l).typed in
       record {
@@ -137,25 +137,25 @@ module _ (c : CheckedProgram) (hc : IsChecked c) (f : ℕ) (l : f < (program_of 
           settles = settles_on h.settles (settles_on ended.settles joined.settles);
           count = let i = h.count in let j = merge_cost ew el (own_given c hc f l n0 P able) h in let c2 = ended.count in let c3 = joined.count in omega (arith, i, j, c2, c3);
         };
-        count = ap (λ (n : ℕ). first_site_of c f + n) sp.size ∙ able.count;
-        group = subst (IsGroup (program_of c) f) (sym me.size) group;
+        count = ap (λ (n : ℕ). c.first_site f + n) sp.size ∙ able.count;
+        group = subst (IsGroup c.program f) (sym me.size) group;
         fits = record {
           end = load_kept joined (wide w (h.shape F true env w st ty) (λ no. h.wide F true env w st ty no ∙ sym same));
           wants = sp.fits F n3 (wants_kept F p.wants.items (grows_on ended.grows joined.grows) out_fits.wants);
           loops = me.fits F (loops_kept F p.loops.items ended.grows out_fits.loops);
         };
         idle = λ i no.
-            let to = h.tails F true env w ty ∙ ap (λ (q : List TailCall). map member_of q ++ tails_of ((program_of c).body f)) el in
-            me.idle i (λ q. no (subst (Listed ((program_of c).unit f + i)) to q));
+            let to = h.tails F true env w ty ∙ ap (λ (q : List TailCall). map member_of q ++ tails_of (c.program.body f)) el in
+            me.idle i (λ q. no (subst (Listed (c.program.unit f + i)) to q));
         tails = let i = h.cheap F true env w ty in let j = ap cost el in let k = me.paid in omega (arith, i, j, k);
         end = λ v w3. is v (wired_before joined.grows w3) ∙ ap (λ (x : Option Word). one_word (gate (on v P.run) x)) (h.value v (before v w3));
         wants = λ v w3 i.
-            let k = first_site_of c f + i in
+            let k = c.first_site f + i in
             sp.told v i ∙ h.wants F true env w ty v (before v w3) k
-            ∙ ap (λ (q : List Want). or_else (asked v q k) (gate (open_at v (table_of c f P) P.run k) (wanted (back_of v (table_of c f P)) (words v P.args.items) ((program_of c).body f) k))) ew;
+            ∙ ap (λ (q : List Want). or_else (asked v q k) (gate (open_at v (table_of c f P) P.run k) (wanted (back_of v (table_of c f P)) (words v P.args.items) (c.program.body f) k))) ew;
         loops = λ v w3 i.
-            let k = (program_of c).unit f + i in
-            let a = goes_of (answer (back_of v (table_of c f P)) (words v P.args.items) ((program_of c).body f)) in
+            let k = c.program.unit f + i in
+            let a = goes_of (answer (back_of v (table_of c f P)) (words v P.args.items) (c.program.body f)) in
             let x = gate (on v P.run) a in
             let told = subst (λ (q : List TailCall). Told v q x) (sym (h.loops_more ∙ ap (λ (q : List TailCall). q ++ h.more) el)) (h.told F true env w ty v (before v w3)) in
             let first = h.loops F true env w ty v (before v w3) ∙ ap (λ (q : List TailCall). or_else (went v q) x) el in

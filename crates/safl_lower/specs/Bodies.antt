@@ -2,7 +2,7 @@
 use Rattle.std.specs.Prelude.{◌≡◌, ℕ, suc, ◌+◌, ◌-◌, ◌*◌, ◌<◌, ◌≤◌, List, [], ◌∷◌, length, Option, Some, None, Bool, not, ◌&&◌, slice_get}
 use Rattle.safl_word.specs.Words.{Word}
 use Rattle.safl_term.specs.Program.{Program}
-use Rattle.safl_term.specs.Checked.{CheckedProgram, program_of, first_site_of}
+use Rattle.safl_term.specs.Checked.{CheckedProgram}
 use Rattle.safl_term.specs.Sizes.{nodes}
 use Rattle.safl_term.specs.Readiness.{Answer, word_of, answer, wanted}
 use Rattle.safl_net.specs.Netlist.{Netlist}
@@ -21,10 +21,10 @@ use Rattle.safl_lower.specs.Loads.{Listed, to_member, loads_cost}
 -- the net has room for the circuit
 pub record CanLower (c : CheckedProgram) (f : ℕ) (n : Netlist) (P : Ports) : Type 0 where
   pub run : IsSource n P.run 1
-  pub args : AreSources n P.args.items ((program_of c).params f)
-  pub count : first_site_of c f + length P.sites.items ≡ first_site_of c (suc f)
-  pub sites : (i : ℕ) (p : SitePorts) → slice_get P.sites.items i ≡ Some p → Sited n p ((program_of c).result ((program_of c).callee (first_site_of c f + i)))
-  pub room : HasRoom n (32 * nodes ((program_of c).body f) + 32)
+  pub args : AreSources n P.args.items (c.program.params f)
+  pub count : c.first_site f + length P.sites.items ≡ c.first_site (suc f)
+  pub sites : (i : ℕ) (p : SitePorts) → slice_get P.sites.items i ≡ Some p → Sited n p (c.program.result (c.program.callee (c.first_site f + i)))
+  pub room : HasRoom n (32 * nodes (c.program.body f) + 32)
 
 -- f's group has so many members, numbered from its unit on
 pub record IsGroup (C : Program) (f count : ℕ) : Type 0 where
@@ -38,9 +38,9 @@ GroupIsBelow C f end = (h : ℕ) → h < C.functions → C.unit h ≡ C.unit f �
 
 -- the end has the body's width, a site's arguments those of its callee, and a member's arguments those of the member
 pub record BodyFits (c : CheckedProgram) (f : ℕ) (n : Netlist) (b : Body) : Type 0 where
-  pub end : LoadFits n b.end ((program_of c).result f ∷ [])
-  pub wants : LoadsFit n b.wants.items (λ i. (program_of c).params ((program_of c).callee (first_site_of c f + i)))
-  pub loops : SomeFit n b.loops.items (λ i. (program_of c).params ((program_of c).unit f + i))
+  pub end : LoadFits n b.end (c.program.result f ∷ [])
+  pub wants : LoadsFit n b.wants.items (λ i. c.program.params (c.program.callee (c.first_site f + i)))
+  pub loops : SomeFit n b.loops.items (λ i. c.program.params (c.program.unit f + i))
 
 -- what the ports show of site k, where the first site is `first`: its word, where it has returned, and that it was sent
 abbrev pub back_at : Val → ℕ → List SitePorts → ℕ → Option Word
@@ -51,27 +51,27 @@ sent_at v first sites k = was_sent v (slice_get sites (k - first))
 
 -- f's answer, and the arguments with which it wants site k, by what the ports show
 abbrev pub answer_at : CheckedProgram → ℕ → Val → Ports → Answer
-answer_at c f v P = answer (back_at v (first_site_of c f) P.sites.items) (words v P.args.items) ((program_of c).body f)
+answer_at c f v P = answer (back_at v (c.first_site f) P.sites.items) (words v P.args.items) (c.program.body f)
 
 abbrev pub wanted_at : CheckedProgram → ℕ → Val → Ports → ℕ → Option (List Word)
-wanted_at c f v P k = wanted (back_at v (first_site_of c f) P.sites.items) (words v P.args.items) ((program_of c).body f) k
+wanted_at c f v P k = wanted (back_at v (c.first_site f) P.sites.items) (words v P.args.items) (c.program.body f) k
 
 -- the circuit of f's body between these ports
 pub record IsLowered (c : CheckedProgram) (f : ℕ) (P : Ports) (old new : Netlist) (b : Body) : Type 0 where
-  pub built : Builds old new (32 * nodes ((program_of c).body f) + 32)
+  pub built : Builds old new (32 * nodes (c.program.body f) + 32)
   -- a load for each own site, and a place for each member of the group
-  pub count : first_site_of c f + length b.wants.items ≡ first_site_of c (suc f)
-  pub group : IsGroup (program_of c) f (length b.loops.items)
+  pub count : c.first_site f + length b.wants.items ≡ c.first_site (suc f)
+  pub group : IsGroup c.program f (length b.loops.items)
   pub fits : BodyFits c f new b
   -- a member to which no tail call of the body goes has none
-  pub idle : (i : ℕ) → ¬ Listed ((program_of c).unit f + i) (tails_of ((program_of c).body f)) → load_in (slice_get b.loops.items i) ≡ None
+  pub idle : (i : ℕ) → ¬ Listed (c.program.unit f + i) (tails_of (c.program.body f)) → load_in (slice_get b.loops.items i) ≡ None
   -- the tail calls have no more bits and arguments than the body has terms
-  pub tails : loads_cost b.loops.items ≤ nodes ((program_of c).body f)
+  pub tails : loads_cost b.loops.items ≤ nodes (c.program.body f)
   -- the body ends where it runs and is ready, with its word
   pub end : (v : Val) → Wired new v → taken v b.end ≡ one_word (gate (on v P.run) (word_of (answer_at c f v P)))
   -- an own site is wanted where the body runs, the site wasn't sent and the body wants it, with the same words
   pub wants : (v : Val) → Wired new v → (i : ℕ) → taken_at v b.wants.items i
-      ≡ gate (on v P.run && not (sent_at v (first_site_of c f) P.sites.items (first_site_of c f + i))) (wanted_at c f v P (first_site_of c f + i))
+      ≡ gate (on v P.run && not (sent_at v (c.first_site f) P.sites.items (c.first_site f + i))) (wanted_at c f v P (c.first_site f + i))
   -- a member is gone on to where the body runs and goes on to it, with the same words
   pub loops : (v : Val) → Wired new v → (i : ℕ) → taken_from v b.loops.items i
-      ≡ gate (on v P.run) (to_member ((program_of c).unit f + i) (goes_of (answer_at c f v P)))
+      ≡ gate (on v P.run) (to_member (c.program.unit f + i) (goes_of (answer_at c f v P)))

@@ -1,7 +1,6 @@
 //! Whole bodies.
 
 ghost use Rattle.std.specs.Prelude.{◌≡◌, ℕ, ◌<◌, ◌≤◌, [], ◌∷◌, IfOk};
-ghost use Rattle.safl_term.specs.Checked.{program_of};
 ghost use Rattle.safl_word.specs.Words.{max_width};
 ghost use Rattle.safl_net.specs.Names.{IsTidy};
 ghost use Rattle.safl_net.specs.Growth.{Val, Wired, Grows};
@@ -35,7 +34,7 @@ pub fn lower(
     net: &mut Net,
     ports: Ports,
 ) -> Result<Body, NoMemory>
-    requires function { f < (program_of c.now).functions }
+    requires function { f < c.now.program.functions }
     requires tidy { IsTidy net.old }
     requires able { CanLower c.now f net.old ports }
     ensures tidy { IsTidy net.new }

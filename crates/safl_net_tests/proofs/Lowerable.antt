@@ -1,13 +1,7 @@
 -- The body of a function between ports that are inputs.
-use Rattle.std.proofs.Common.{◌≡◌, ℕ, zero, suc, ◌+◌, ◌≤◌, ◌<◌, List, [], ◌∷◌, length, slice_get, Some, sum_by, sym, ap, subst, ◌∙◌, arith}
-use Rattle.std.specs.Option.{option_map_or}
-use Rattle.std.proofs.lemmas.List.Sums.{sum_by-cons}
-use Rattle.safl_word.specs.Words.{no_word}
-use Rattle.safl_term.specs.declared.checked.Function.{Function}
-use Rattle.safl_term.specs.Checked.{CheckedProgram, IsChecked, program_of, first_site_of}
-use Rattle.safl_term.specs.Terms.{Const}
-use Rattle.safl_term.specs.Tree.{shown_term}
-use Rattle.safl_term.specs.Sizes.{nodes}
+use Rattle.std.proofs.Common.{◌≡◌, ℕ, zero, suc, ◌+◌, ◌≤◌, ◌<◌, List, [], ◌∷◌, length, slice_get, Some, sym, ap, subst, ◌∙◌, arith}
+use Rattle.safl_term.specs.Checked.{CheckedProgram, IsChecked}
+use Rattle.safl_term.proofs.HeldByChecked.{few_nodes}
 use Rattle.safl_net.specs.declared.cell.Sig.{Sig}
 use Rattle.safl_net.specs.declared.cell.SigKind.{SigKind}
 use Rattle.safl_net.specs.Netlist.{Netlist, Signal, Kind, Input, Reg, Wire, width_of, width_in}
@@ -45,40 +39,25 @@ one_byte [] e g = absurd (cc)
 one_byte (w ∷ []) e g = let q : w ≡ 8 = cc in ap (λ x. x ∷ []) q
 one_byte (w ∷ v ∷ ws) e g = absurd (omega (arith, e))
 
-abbrev size : Function → ℕ
-size x = nodes (shown_term x.body)
-
-abbrev size_at : List Function → ℕ → ℕ
-size_at fs f = nodes (option_map_or (λ (x : Function). shown_term x.body) (slice_get fs f) (Const no_word))
-
-held : (fs : List Function) (f : ℕ) → size_at fs f ≤ 1 + sum_by size fs
-held [] f = omega arith
-held (x ∷ fs) zero = let s = sum_by-cons size x fs in let h : size x ≤ 1 + sum_by size (x ∷ fs) = omega (arith, s) in h
-held (x ∷ fs) (suc f) = let s = sum_by-cons size x fs in let a = held fs f in let h : size_at fs f ≤ 1 + sum_by size (x ∷ fs) = omega (arith, s, a) in h
-
-few_nodes : (c : CheckedProgram) (f : ℕ) → IsChecked c → nodes ((program_of c).body f) ≤ 50001
-unfolding program_of
-few_nodes c f h = let a : nodes ((program_of c).body f) ≤ 1 + sum_by size c.functions = held c.functions f in let b : sum_by size c.functions ≤ 50000 = h.limits.nodes in omega (arith, a, b)
-
 -- ---- a function of one byte with two sites
 
 pub able : (c : CheckedProgram) (f : ℕ) (n : Netlist) (P : Ports) (a : Sig) (p q : SitePorts) → IsChecked c → length n.signals ≤ 1000
     → ArePorts n P.run a p q → P.args.items ≡ a ∷ [] → P.sites.items ≡ p ∷ q ∷ [] → ChoosesCall c f → CanLower c f n P
 able c f n P a p q h small ports arg sites chooses = record {
   run = ports.run_bit;
-  args = subst (λ (xs : List Sig). AreSources n xs ((program_of c).params f)) (sym arg) (subst (AreSources n (a ∷ [])) (sym chooses.params) (one_source ports.parameter));
-  count = ap (λ (ps : List SitePorts). first_site_of c f + length ps) sites ∙ chooses.own;
+  args = subst (λ (xs : List Sig). AreSources n xs (c.program.params f)) (sym arg) (subst (AreSources n (a ∷ [])) (sym chooses.params) (one_source ports.parameter));
+  count = ap (λ (ps : List SitePorts). c.first_site f + length ps) sites ∙ chooses.own;
   sites = λ i x at.
-      subst (λ (k : ℕ). Sited n x ((program_of c).result ((program_of c).callee (k + i)))) (sym chooses.first)
+      subst (λ (k : ℕ). Sited n x (c.program.result (c.program.callee (k + i)))) (sym chooses.first)
       (by i x (ap (λ (ps : List SitePorts). slice_get ps i) (sym sites) ∙ at));
-  room = let k = few_nodes c f h in omega (arith, k, small);
+  room = let k = few_nodes c h f in omega (arith, k, small);
 }
   where
-    by : (i : ℕ) (x : SitePorts) → slice_get (p ∷ q ∷ []) i ≡ Some x → Sited n x ((program_of c).result ((program_of c).callee (1 + i)))
+    by : (i : ℕ) (x : SitePorts) → slice_get (p ∷ q ∷ []) i ≡ Some x → Sited n x (c.program.result (c.program.callee (1 + i)))
     by zero x e =
         let same : p ≡ x = cc in
-        subst (λ (y : SitePorts). Sited n y ((program_of c).result ((program_of c).callee 1))) same (subst (Sited n p) (sym chooses.one) ports.first_site)
+        subst (λ (y : SitePorts). Sited n y (c.program.result (c.program.callee 1))) same (subst (Sited n p) (sym chooses.one) ports.first_site)
     by (suc zero) x e =
         let same : q ≡ x = cc in
-        subst (λ (y : SitePorts). Sited n y ((program_of c).result ((program_of c).callee 2))) same (subst (Sited n q) (sym chooses.two) ports.second_site)
+        subst (λ (y : SitePorts). Sited n y (c.program.result (c.program.callee 2))) same (subst (Sited n q) (sym chooses.two) ports.second_site)
     by (suc (suc i)) x e = absurd (cc)

@@ -1,6 +1,6 @@
 -- A body that chooses one of two calls, and the ports of its circuit.
 use Rattle.std.specs.Prelude.{ℕ, suc, ◌≡◌, ◌+◌, [], ◌∷◌}
-use Rattle.safl_term.specs.Checked.{CheckedProgram, program_of, first_site_of}
+use Rattle.safl_term.specs.Checked.{CheckedProgram}
 use Rattle.safl_net.specs.Netlist.{Netlist}
 use Rattle.safl_net.specs.declared.cell.Sig.{Sig}
 use Rattle.safl_lower.specs.Sources.{IsSource}
@@ -9,11 +9,11 @@ use Rattle.safl_lower.specs.declared.parts.SitePorts.{SitePorts}
 
 -- the function has one parameter, of 8 bits, and two sites, the first two of the program, whose calls give 8 bits
 pub record ChoosesCall (c : CheckedProgram) (f : ℕ) : Type 0 where
-  pub params : (program_of c).params f ≡ 8 ∷ []
-  pub first : first_site_of c f ≡ 1
-  pub own : first_site_of c f + 2 ≡ first_site_of c (suc f)
-  pub one : (program_of c).result ((program_of c).callee 1) ≡ 8
-  pub two : (program_of c).result ((program_of c).callee 2) ≡ 8
+  pub params : c.program.params f ≡ 8 ∷ []
+  pub first : c.first_site f ≡ 1
+  pub own : c.first_site f + 2 ≡ c.first_site (suc f)
+  pub one : c.program.result (c.program.callee 1) ≡ 8
+  pub two : c.program.result (c.program.callee 2) ≡ 8
 
 -- the circuit of such a body may read its run bit, its parameter and both sites from these signals
 pub record ArePorts (n : Netlist) (run a : Sig) (first second : SitePorts) : Type 0 where

@@ -1,7 +1,6 @@
 //! The circuit of a function's body, and what it shows for given words of its ports.
 
 ghost use Rattle.std.specs.Prelude.{◌≡◌, suc, ◌+◌, ◌<◌, ◌≤◌, [], ◌∷◌, length, IsTrue, IfSome};
-ghost use Rattle.safl_term.specs.Checked.{program_of, first_site_of};
 ghost use Rattle.safl_net.specs.Names.{IsTidy};
 ghost use Rattle.safl_lower.specs.Sources.{IsSource};
 ghost use Rattle.safl_lower.specs.Lowering.{Sited};
@@ -109,12 +108,12 @@ fn site(net: &Net, places: [u32; 3]) -> Option<SitePorts>
 // Whether main has one parameter, of 8 bits, and two sites, the first two, whose calls give 8 bits.
 #[tactic(auto, using(crate::proofs::Lowerable::one_byte))]
 fn chooses_a_call(c: &Checked, main: u32) -> bool
-    requires { main < (program_of c.now).functions }
-    ensures params { IsTrue result → (program_of c.now).params main ≡ 8 ∷ [] }
-    ensures first { IsTrue result → first_site_of c.now main ≡ 1 }
-    ensures own { IsTrue result → first_site_of c.now main + 2 ≡ first_site_of c.now (suc main) }
-    ensures one { IsTrue result → (program_of c.now).result ((program_of c.now).callee 1) ≡ 8 }
-    ensures two { IsTrue result → (program_of c.now).result ((program_of c.now).callee 2) ≡ 8 }
+    requires { main < c.now.program.functions }
+    ensures params { IsTrue result → c.now.program.params main ≡ 8 ∷ [] }
+    ensures first { IsTrue result → c.now.first_site main ≡ 1 }
+    ensures own { IsTrue result → c.now.first_site main + 2 ≡ c.now.first_site (suc main) }
+    ensures one { IsTrue result → c.now.program.result (c.now.program.callee 1) ≡ 8 }
+    ensures two { IsTrue result → c.now.program.result (c.now.program.callee 2) ≡ 8 }
 {
     if c.params(main) != 1 || c.param_width(main, 0) != 8 {
         return false;
@@ -171,7 +170,7 @@ fn lowered_between(
     net: &mut Net,
     inputs: Inputs,
 ) -> Result<Body, Fault>
-    requires main { main < (program_of c.now).functions }
+    requires main { main < c.now.program.functions }
     requires tidy { IsTidy net.old }
     requires few { length net.old.signals ≤ 1000 }
     requires ports { ArePorts net.old inputs.run inputs.a inputs.first inputs.second }

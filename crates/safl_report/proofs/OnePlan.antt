@@ -3,7 +3,6 @@ use Rattle.std.proofs.Math.Path.{fun_ext}
 use Rattle.std.proofs.Common.{◌≡◌, ℕ, zero, suc, ◌+◌, ◌<◌, ◌≤◌, Bool, true, false, ◌++◌, map, refl, sym, ap, ◌∙◌, arith}
 use Rattle.std.specs.Prelude.{◌↔◌}
 use Rattle.std.specs.List.{concat, range_with_len}
-use Rattle.safl_term.specs.Checked.{program_of, name_of}
 use Rattle.safl_sites.specs.Kept.{Kept}
 use Rattle.safl_sites.specs.Plan.{HasArbiter}
 use Rattle.safl_report.specs.Report.{Text, calls_of, function_text, function_line, function_lines, site_text, site_line, site_lines, register_line, summary_lines}
@@ -25,13 +24,13 @@ same_lines f g a (suc n) h =
 
 pub report_once : ReportOnce
 report_once c n s t p q =
-    let C = program_of c in
+    let C = c.program in
     let arbiters = λ (u : ℕ). same_test (p.arbiter u) (q.arbiter u) (HasArbiter C u) (p.plan.arbiters u) (q.plan.arbiters u) in
     let keeps = λ (k : ℕ) (least : 0 < k) (most : k ≤ C.sites). same_test (p.kept k) (q.kept k) (Kept C k) (p.plan.keeps k least most) (q.plan.keeps k least most) in
     let functions = same_lines (function_line c p.arbiter) (function_line c q.arbiter) 0 C.functions
-    (λ f least below. ap (λ (b : Bool). function_text (name_of c f) (calls_of C f) b) (arbiters (C.unit f))) in
+    (λ f least below. ap (λ (b : Bool). function_text (c.name f) (calls_of C f) b) (arbiters (C.unit f))) in
     let sites = same_lines (site_line c p.kept) (site_line c q.kept) 1 C.sites
-    (λ k least below. ap (λ (b : Bool). site_text k (name_of c (C.callee k)) (name_of c (C.caller k)) b) (keeps k (omega arith) (omega arith))) in
+    (λ k least below. ap (λ (b : Bool). site_text k (c.name (C.callee k)) (c.name (C.caller k)) b) (keeps k (omega arith) (omega arith))) in
     p.lines
     ∙ ap (λ (l : Text). (l ++ site_lines c p.kept) ++ register_line n) functions
     ∙ ap (λ (l : Text). (function_lines c q.arbiter ++ l) ++ register_line n) sites
@@ -39,6 +38,6 @@ report_once c n s t p q =
 
 pub summary_once : SummaryOnce
 summary_once c n s t p q =
-    let C = program_of c in
+    let C = c.program in
     let arbiters : p.arbiter ≡ q.arbiter = fun_ext (λ (u : ℕ). same_test (p.arbiter u) (q.arbiter u) (HasArbiter C u) (p.plan.arbiters u) (q.plan.arbiters u)) in
     p.lines ∙ ap (λ (a : ℕ → Bool). summary_lines c a n) arbiters ∙ sym q.lines

@@ -1,7 +1,7 @@
 -- What is printed of a program's plan, and of a netlist's registers.
 use Rattle.std.specs.Prelude.{◌≡◌, ℕ, ◌++◌, ◌==◌, List, length, map, filter, count_by, sum_by, Bool, true, false, codes, decimal}
 use Rattle.std.specs.List.{concat, range_with_len}
-use Rattle.safl_term.specs.Checked.{CheckedProgram, program_of, name_of}
+use Rattle.safl_term.specs.Checked.{CheckedProgram}
 use Rattle.safl_term.specs.Program.{Program}
 use Rattle.safl_sites.specs.Plan.{IsPlan}
 use Rattle.safl_net.specs.Netlist.{Netlist, Signal, Kind, Input, Reg, Wire}
@@ -23,7 +23,7 @@ function_text name calls arbiter =
     codes "function " ++ name ++ codes " sites " ++ decimal calls ++ codes " arbiter " ++ answer arbiter ++ codes "\n"
 
 abbrev pub function_line : CheckedProgram → (ℕ → Bool) → ℕ → Text
-function_line c arbiter f = function_text (name_of c f) (calls_of (program_of c) f) (arbiter ((program_of c).unit f))
+function_line c arbiter f = function_text (c.name f) (calls_of c.program f) (arbiter (c.program.unit f))
 
 -- the line of a site: its number, the names of the function that it calls and of that in which it stands, and whether
 -- it keeps its word
@@ -32,7 +32,7 @@ site_text k callee caller kept =
     codes "site " ++ decimal k ++ codes " " ++ callee ++ codes " in " ++ caller ++ codes " kept " ++ answer kept ++ codes "\n"
 
 abbrev pub site_line : CheckedProgram → (ℕ → Bool) → ℕ → Text
-site_line c kept k = site_text k (name_of c ((program_of c).callee k)) (name_of c ((program_of c).caller k)) (kept k)
+site_line c kept k = site_text k (c.name (c.program.callee k)) (c.name (c.program.caller k)) (kept k)
 
 -- the registers of a netlist
 abbrev pub is_register : Kind → Bool
@@ -55,10 +55,10 @@ register_line n = register_text (length (registers n.signals)) (bits_of (registe
 
 -- the lines of the functions, by number from 0, and of the sites, by number from 1
 abbrev pub function_lines : CheckedProgram → (ℕ → Bool) → Text
-function_lines c arbiter = concat (map (function_line c arbiter) (range_with_len 0 (program_of c).functions))
+function_lines c arbiter = concat (map (function_line c arbiter) (range_with_len 0 c.program.functions))
 
 abbrev pub site_lines : CheckedProgram → (ℕ → Bool) → Text
-site_lines c kept = concat (map (site_line c kept) (range_with_len 1 (program_of c).sites))
+site_lines c kept = concat (map (site_line c kept) (range_with_len 1 c.program.sites))
 
 abbrev pub report_lines : CheckedProgram → (ℕ → Bool) → (ℕ → Bool) → Netlist → Text
 report_lines c arbiter kept n = function_lines c arbiter ++ site_lines c kept ++ register_line n
@@ -68,7 +68,7 @@ report_lines c arbiter kept n = function_lines c arbiter ++ site_lines c kept ++
 pub record IsReport (c : CheckedProgram) (n : Netlist) (text : Text) : Type 0 where
   pub arbiter : ℕ → Bool
   pub kept : ℕ → Bool
-  pub plan : IsPlan (program_of c) arbiter kept
+  pub plan : IsPlan c.program arbiter kept
   pub lines : text ≡ report_lines c arbiter kept n
 
 -- of how many functions the unit has an arbiter
@@ -76,11 +76,11 @@ abbrev pub arbiters_of : Program → (ℕ → Bool) → ℕ
 arbiters_of C arbiter = count_by arbiter (map C.unit (range_with_len 0 C.functions))
 
 abbrev pub summary_lines : CheckedProgram → (ℕ → Bool) → Netlist → Text
-summary_lines c arbiter n = codes "arbiters " ++ decimal (arbiters_of (program_of c) arbiter) ++ codes "\n" ++ register_line n
+summary_lines c arbiter n = codes "arbiters " ++ decimal (arbiters_of c.program arbiter) ++ codes "\n" ++ register_line n
 
 -- the text is the summary of a netlist, and of the program's one plan
 pub record IsSummary (c : CheckedProgram) (n : Netlist) (text : Text) : Type 0 where
   pub arbiter : ℕ → Bool
   pub kept : ℕ → Bool
-  pub plan : IsPlan (program_of c) arbiter kept
+  pub plan : IsPlan c.program arbiter kept
   pub lines : text ≡ summary_lines c arbiter n

@@ -1,7 +1,6 @@
 //! How many sites call each function.
 
 ghost use Rattle.std.specs.Prelude.{IfOk};
-ghost use Rattle.safl_term.specs.Checked.{program_of};
 ghost use Rattle.safl_report.specs.Counting.{AreCalls};
 
 use safl_sites::Planned;
@@ -9,7 +8,7 @@ use std::alloc::{AllocError, Global};
 
 /// By function, how many sites call it.
 pub fn count_calls(alloc: Global, p: &Planned) -> Result<Vec<u32>, AllocError>
-    ensures { IfOk result (λ calls. AreCalls (program_of p.now.program) (program_of p.now.program).sites calls.items) }
+    ensures { IfOk result (λ calls. AreCalls p.now.program p.now.program.sites calls.items) }
 {
     let c = p.checked();
     let mut calls = vec![in alloc; 0; c.functions() as usize]?;

@@ -1,9 +1,7 @@
 //! The lines of all functions and of all sites.
 
 ghost use Rattle.std.specs.Prelude.{◌≡◌, ◌++◌, OnOk};
-ghost use Rattle.safl_term.specs.Checked.{program_of};
 ghost use Rattle.safl_sites.specs.Plan.{IsPlan};
-ghost use Rattle.safl_sites.specs.Planned.{arbiter_of, kept_of};
 ghost use Rattle.safl_report.specs.Counting.{AreCalls};
 ghost use Rattle.safl_report.specs.Report.{function_lines, site_lines, arbiters_of};
 
@@ -13,9 +11,9 @@ use safl_word::NoMemory;
 
 /// Appends the lines of the functions. The table has for each how many sites call it.
 pub fn push_functions(out: &mut Vec<u8>, p: &Planned, calls: &[u32]) -> Result<(), NoMemory>
-    requires { AreCalls (program_of p.now.program) (program_of p.now.program).sites calls.now }
-    ensures lines { OnOk result (out.new.items ≡ out.old.items ++ function_lines p.now.program (arbiter_of p.now)) }
-    ensures plan { IsPlan (program_of p.now.program) (arbiter_of p.now) (kept_of p.now) }
+    requires { AreCalls p.now.program p.now.program.sites calls.now }
+    ensures lines { OnOk result (out.new.items ≡ out.old.items ++ function_lines p.now.checked p.now.arbiter) }
+    ensures plan { IsPlan p.now.program p.now.arbiter p.now.kept }
 {
     let c = p.checked();
     for f in 0..c.functions() {
@@ -26,7 +24,7 @@ pub fn push_functions(out: &mut Vec<u8>, p: &Planned, calls: &[u32]) -> Result<(
 
 /// Appends the lines of the sites.
 pub fn push_sites(out: &mut Vec<u8>, p: &Planned) -> Result<(), NoMemory>
-    ensures { OnOk result (out.new.items ≡ out.old.items ++ site_lines p.now.program (kept_of p.now)) }
+    ensures { OnOk result (out.new.items ≡ out.old.items ++ site_lines p.now.checked p.now.kept) }
 {
     let c = p.checked();
     for done in 0..c.sites() {
@@ -40,8 +38,8 @@ pub fn push_sites(out: &mut Vec<u8>, p: &Planned) -> Result<(), NoMemory>
 
 /// Of how many functions the unit has an arbiter.
 pub fn count_arbiters(p: &Planned) -> u32
-    ensures count { result ≡ arbiters_of (program_of p.now.program) (arbiter_of p.now) }
-    ensures plan { IsPlan (program_of p.now.program) (arbiter_of p.now) (kept_of p.now) }
+    ensures count { result ≡ arbiters_of p.now.program p.now.arbiter }
+    ensures plan { IsPlan p.now.program p.now.arbiter p.now.kept }
 {
     let mut count = 0;
     for f in 0..p.checked().functions() {

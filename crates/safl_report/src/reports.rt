@@ -15,7 +15,7 @@ use std::alloc::Global;
 /// A line for each function, with how many sites call it and whether its unit has an arbiter; one for each site, with
 /// whether it keeps its word; and how many registers the net has, with their bits. Fails only if out of memory.
 pub fn report(alloc: Global, p: &Planned, n: &Net) -> Result<Vec<u8>, NoMemory>
-    ensures { IfOk result (λ text. IsReport p.now.program n.now text.items) }
+    ensures { IfOk result (λ text. IsReport p.now.checked n.now text.items) }
 {
     let calls = count_calls(alloc, p)?;
     let total = count_registers(n);
@@ -29,7 +29,7 @@ pub fn report(alloc: Global, p: &Planned, n: &Net) -> Result<Vec<u8>, NoMemory>
 /// How many functions have a unit with an arbiter, and how many registers the net has, with their bits: a line each.
 /// Fails only if out of memory.
 pub fn summary(alloc: Global, p: &Planned, n: &Net) -> Result<Vec<u8>, NoMemory>
-    ensures { IfOk result (λ text. IsSummary p.now.program n.now text.items) }
+    ensures { IfOk result (λ text. IsSummary p.now.checked n.now text.items) }
 {
     let total = count_registers(n);
     let mut out = Vec::new(alloc);

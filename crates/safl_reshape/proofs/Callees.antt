@@ -5,7 +5,9 @@ use Rattle.std.specs.List.{list_any}
 use Rattle.std.specs.Str.{bytes_eq}
 use Rattle.std.proofs.lemmas.Option.{slice_get_cases, slice_get_read}
 use Rattle.safl_term.specs.Program.{Program}
-use Rattle.safl_term.specs.Checked.{CheckedProgram, IsChecked, program_of}
+use Rattle.safl_term.specs.Checked.{CheckedProgram, IsChecked}
+use Rattle.safl_term.specs.Tables.{Tables, program_of}
+use Rattle.safl_term.proofs.HeldByChecked.{each_checked}
 use Rattle.safl_term.specs.declared.checked.Function.{Function}
 use Rattle.safl_tree.specs.declared.tree.Def.{Def}
 use Rattle.safl_tree.specs.Tree.{Definition}
@@ -36,14 +38,17 @@ pub shown_functions : (fs : List Function) → length (map shown_function fs) �
 shown_functions [] = refl
 shown_functions (f ∷ fs) = ap (λ (z : ℕ). suc z) (shown_functions fs)
 
-functions_are : (c : CheckedProgram) → (program_of c).functions ≡ length c.functions
+tables_long : (t : Tables) → (program_of t).functions ≡ length t.functions
 unfolding program_of
-functions_are c = refl
+tables_long t = refl
 
-as_many : (ds : List Definition) (c : CheckedProgram) → IsFormOf ds (shown c) → (program_of c).functions ≡ length ds
-as_many ds c is = functions_are c ∙ (sym (shown_functions c.functions) ∙ lengths (heads ds) 0 0 0 1 (suc is.last_site) ds (map shown_function c.functions) is.functions)
+functions_are : (c : CheckedProgram) → c.program.functions ≡ length c.tables.functions
+functions_are = each_checked (λ c. c.program.functions ≡ length c.tables.functions) tables_long
 
-pub callee_within : (ds : List Definition) (c : CheckedProgram) (k : ℕ) → IsFormOf ds (shown c) → IsChecked c → HasSite (program_of c) k → (program_of c).callee k < length ds
+as_many : (ds : List Definition) (c : CheckedProgram) → IsFormOf ds (shown c) → c.program.functions ≡ length ds
+as_many ds c is = functions_are c ∙ (sym (shown_functions c.tables.functions) ∙ lengths (heads ds) 0 0 0 1 (suc is.last_site) ds (map shown_function c.tables.functions) is.functions)
+
+pub callee_within : (ds : List Definition) (c : CheckedProgram) (k : ℕ) → IsFormOf ds (shown c) → IsChecked c → HasSite c.program k → c.program.callee k < length ds
 callee_within ds c k is ok s = let q = ok.formed.calls k s.from s.to in let m = as_many ds c is in omega (arith, q.1, m)
 
 unjoined : (o : Option Definition) → joined_at o ≡ false → Unjoined o
@@ -53,10 +58,10 @@ unjoined (Some d) e = e
 there : {A : Type 0} (xs : List A) (i : ℕ) → i < length xs → (x : A) × (slice_get xs i ≡ Some x)
 there xs i lt = ⊎_elim (λ q. (q.0, q.2)) (λ q. absurd (omega (arith, q.0, lt))) (slice_get_cases xs i).1
 
-pub copyable : (ds : List Definition) (c : CheckedProgram) (k : ℕ) → IsFormOf ds (shown c) → IsChecked c → program_of c ≡ program_in (shown c) → MayCopy (program_of c) ds k
-    → (d : Definition) × (slice_get ds ((program_of c).callee k) ≡ Some d) × IsCopyable ds (shown c) k ((program_of c).callee k) d (copy_name d.name k)
+pub copyable : (ds : List Definition) (c : CheckedProgram) (k : ℕ) → IsFormOf ds (shown c) → IsChecked c → c.program ≡ program_in (shown c) → MayCopy c.program ds k
+    → (d : Definition) × (slice_get ds (c.program.callee k) ≡ Some d) × IsCopyable ds (shown c) k (c.program.callee k) d (copy_name d.name k)
 copyable ds c k is ok e may =
-    let C = program_of c in
+    let C = c.program in
     let j = C.callee k in
     let q = ok.formed.calls k may.site.from may.site.to in
     let m = as_many ds c is in

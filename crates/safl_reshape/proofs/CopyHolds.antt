@@ -2,7 +2,7 @@
 use Rattle.std.proofs.Common.{◌≡◌, ℕ, ◌<◌, ◌≤◌, ◌^◌, List, length, Option, false, sym, ap, ◌∙◌, subst, arith}
 use Rattle.safl_word.specs.Tokens.{IsName}
 use Rattle.safl_term.specs.Program.{Program}
-use Rattle.safl_term.specs.Checked.{CheckedProgram, IsChecked, program_of}
+use Rattle.safl_term.specs.Checked.{CheckedProgram, IsChecked}
 use Rattle.safl_tree.specs.Tree.{Definition}
 use Rattle.safl_tree.specs.Printable.{IsFormedProgram}
 use Rattle.safl_typing.specs.Forms.{Form, IsFormOf, shown}
@@ -18,8 +18,8 @@ use Rattle.safl_reshape.proofs.Callees.{copyable}
 use Rattle.safl_reshape.proofs.FormedTrees.{formed_at, copy_named, copy_formed, unfold_formed}
 
 -- each form of the definitions is that of the checked program
-pub any_form : (ds : List Definition) (c : CheckedProgram) → IsFormOf ds (shown c) → OneForm → program_of c ≡ program_in (shown c) →
-    (P : Program → Type 0) → P (program_of c) → (f : Form) → IsFormOf ds f → P (program_in f)
+pub any_form : (ds : List Definition) (c : CheckedProgram) → IsFormOf ds (shown c) → OneForm → c.program ≡ program_in (shown c) →
+    (P : Program → Type 0) → P c.program → (f : Form) → IsFormOf ds f → P (program_in f)
 any_form ds c is one e P p f h = subst P (e ∙ ap program_in (one ds (shown c) f is h)) p
 
 pub limit_refused : (C : Program) (ds es : List Definition) (k : ℕ) (e : ReshapeErr) → MayCopy C ds k → es ≡ copied ds k (C.callee k) → RefusesLimit es e → RefusesCopy C ds k e
@@ -39,10 +39,10 @@ pub record IsGoodCopy (ds : List Definition) (c : CheckedProgram) (es : List Def
   pub alike : IsAlike (program_in (shown c)) (program_in form)
 
 pub good_copy : (ds : List Definition) (c : CheckedProgram) (k : ℕ) (es : List Definition) → IsFormedProgram ds → IsFormOf ds (shown c) → IsChecked c
-    → program_of c ≡ program_in (shown c) → CopyIsAlike → k < 2 ^ 128 → MayCopy (program_of c) ds k → es ≡ copied ds k ((program_of c).callee k) →
+    → c.program ≡ program_in (shown c) → CopyIsAlike → k < 2 ^ 128 → MayCopy c.program ds k → es ≡ copied ds k (c.program.callee k) →
     KeepsLimits es → IsGoodCopy ds c es
 good_copy ds c k es formed is ok e law lt may q kept =
-    let j = (program_of c).callee k in
+    let j = c.program.callee k in
     let d = copyable ds c k is ok e may in
     let new = copy_name d.0.name k in
     let p : es ≡ copied_under new ds k j d.0 = q ∙ ap (λ (o : Option Definition). copied_as o ds k j) d.1 in
@@ -76,7 +76,7 @@ pub record IsGoodUnfolding (k : ℕ) (ds : List Definition) (c : CheckedProgram)
   pub spares : Spares k (program_in (shown c)) (program_in form)
 
 pub good_unfolding : (ds : List Definition) (c : CheckedProgram) (k : ℕ) (es : List Definition) → IsFormedProgram ds → IsFormOf ds (shown c) →
-    program_of c ≡ program_in (shown c) → UnfoldingSpares → MayUnfold (program_of c) ds k → es ≡ unfolded ds k → KeepsLimits es → IsGoodUnfolding k ds c es
+    c.program ≡ program_in (shown c) → UnfoldingSpares → MayUnfold c.program ds k → es ≡ unfolded ds k → KeepsLimits es → IsGoodUnfolding k ds c es
 good_unfolding ds c k es formed is e law may q kept =
     let al : is_recursive ds ((program_in (shown c)).callee k) ≡ false = subst (λ (z : Program). is_recursive ds (z.callee k) ≡ false) e may.alone in
     let r = law ds (shown c) k is al (subst KeepsLimits q kept) in

@@ -1,7 +1,7 @@
 //! A function that is copied for one of its calls.
 
 ghost use Rattle.std.specs.Prelude.{◌≡◌, ◌<◌, ◌≤◌, ◌^◌, ℕ, Some, IsTrue, length, slice_get, IfOk, OnOk, IfErr};
-ghost use Rattle.safl_term.specs.Checked.{IsChecked, program_of};
+ghost use Rattle.safl_term.specs.Checked.{IsChecked};
 ghost use Rattle.safl_tree.specs.Tree.{Definition};
 ghost use Rattle.safl_tree.specs.Shown.{shown_definition, shown_definitions, shown_program};
 ghost use Rattle.safl_tree.specs.Printable.{IsFormedProgram, IsPrintable};
@@ -35,9 +35,9 @@ pub fn copied_defs(
 ) -> Result<Vec<Def>, ReshapeErr>
     requires form { IsFormOf (shown_definitions defs.now) (shown checked.now) }
     ensures checked { OnOk result (IsChecked checked.now) }
-    ensures may { IfOk result (λ es. MayCopy (program_of checked.now) (shown_definitions defs.now) site) }
-    ensures copied { IfOk result (λ es. shown_definitions es.items ≡ copied (shown_definitions defs.now) site ((program_of checked.now).callee site)) }
-    ensures refused { IfErr result (RefusesCopy (program_of checked.now) (shown_definitions defs.now) site) }
+    ensures may { IfOk result (λ es. MayCopy checked.now.program (shown_definitions defs.now) site) }
+    ensures copied { IfOk result (λ es. shown_definitions es.items ≡ copied (shown_definitions defs.now) site (checked.now.program.callee site)) }
+    ensures refused { IfErr result (RefusesCopy checked.now.program (shown_definitions defs.now) site) }
 {
     forms_are_numbered_law();
     let sites = checked.sites();

@@ -1,7 +1,6 @@
 //! Definitions in which the call of one site is replaced by the body of its callee.
 
 ghost use Rattle.std.specs.Prelude.{◌≡◌, IfOk, IfErr};
-ghost use Rattle.safl_term.specs.Checked.{program_of};
 ghost use Rattle.safl_tree.specs.Shown.{shown_definitions};
 ghost use Rattle.safl_typing.specs.Forms.{IsFormOf, shown};
 ghost use Rattle.safl_reshape.specs.Reshaped.{unfolded};
@@ -24,9 +23,9 @@ pub fn unfolded_defs(
     site: u32,
 ) -> Result<Vec<Def>, ReshapeErr>
     requires form { IsFormOf (shown_definitions defs.now) (shown checked.now) }
-    ensures may { IfOk result (λ es. MayUnfold (program_of checked.now) (shown_definitions defs.now) site) }
+    ensures may { IfOk result (λ es. MayUnfold checked.now.program (shown_definitions defs.now) site) }
     ensures unfolded { IfOk result (λ es. shown_definitions es.items ≡ unfolded (shown_definitions defs.now) site) }
-    ensures refused { IfErr result (RefusesUnfolding (program_of checked.now) (shown_definitions defs.now) site) }
+    ensures refused { IfErr result (RefusesUnfolding checked.now.program (shown_definitions defs.now) site) }
 {
     let sites = checked.sites();
     if site == 0 || site > sites {

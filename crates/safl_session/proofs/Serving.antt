@@ -1,5 +1,6 @@
 -- A circuit serves one call after another.
 use Rattle.std.proofs.Common.{◌≡◌, ℕ, suc, ◌+◌, List, [], ◌∷◌, ◌++◌, length, Option, None, Some, slice_get, slice_index, refl, sym, ap, subst, ◌∙◌, arith, codes}
+use Rattle.safl_term.specs.Names.{Names}
 use Rattle.std.specs.Prelude.{All}
 use Rattle.std.proofs.lemmas.Nat.{pow_pos}
 use Rattle.std.proofs.lemmas.List.Elements.{All-head, All-tail}
@@ -18,8 +19,8 @@ use Rattle.safl_net.proofs.Existence.{exactly_one}
 use Rattle.safl_sim.specs.Outcomes.{word_at}
 use Rattle.safl_sim.proofs.Giving.{bits}
 use Rattle.safl_sim.proofs.Names.{place_at}
-use Rattle.safl_circuit.specs.Equations.{Choice}
-use Rattle.safl_circuit.specs.Names.{Names, as_word, registers_now}
+use Rattle.safl_sites.specs.Plan.{Choice}
+use Rattle.safl_circuit.specs.Names.{as_word, registers_now}
 use Rattle.safl_circuit.specs.Scheme.{Scheme}
 use Rattle.safl_circuit.specs.Steps.{Quiet}
 use Rattle.safl_circuit.specs.Correct.{IsQuietState, IsResult, DoneIn, latest}

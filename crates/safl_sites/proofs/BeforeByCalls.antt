@@ -3,7 +3,7 @@ use Rattle.std.proofs.Common.{◌≡◌, ℕ, suc, ◌<◌, ◌≤◌, ◌⊎◌
 use Rattle.std.proofs.lemmas.Bool.{cases_eq}
 use Rattle.std.proofs.lemmas.Grind.{get_or-set_at}
 use Rattle.std.proofs.lemmas.List.{get_or-set_other}
-use Rattle.safl_term.specs.Checked.{CheckedProgram, program_of, IsChecked}
+use Rattle.safl_term.specs.Checked.{CheckedProgram, IsChecked}
 use Rattle.safl_term.specs.Program.{Program, unit_for}
 use Rattle.safl_term.specs.Standing.{Stands, StandsIn}
 use Rattle.safl_term.specs.Terms.{Term, Terms, Const, Var, Op, If, Let, Call, Loop, Nil, Cons}
@@ -92,7 +92,7 @@ pub record ComesLater (C : Program) (x k : ℕ) : Type 0 where
 
 module _ (p : CheckedProgram) (h : IsChecked p) where
   abbrev C : Program
-  C = program_of p
+  C = p.program
 
   -- a site that is reached stands in the term, or is called from the last site on the way
   ends : (k : ℕ) {t : Term} → ((a : ℕ) → Stands a t → IsSited p a) → Reaches C k t → Stands k t ⊎ ((a : ℕ) × Reaches C a t × IsSited p a × (unit_for C a ≡ C.unit (C.caller k)))

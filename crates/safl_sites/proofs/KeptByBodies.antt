@@ -1,7 +1,7 @@
 -- The sites of one more body that are kept.
 use Rattle.std.proofs.Common.{◌≡◌, ℕ, suc, ◌+◌, ◌<◌, ◌≤◌, Bool, true, false, List, [], ◌∷◌, length, replicate, refl, sym, ap, subst, ◌∙◌, inl, inr, arith}
 use Rattle.std.proofs.lemmas.Bool.{cases_eq}
-use Rattle.safl_term.specs.Checked.{CheckedProgram, program_of, IsChecked, first_site_of}
+use Rattle.safl_term.specs.Checked.{CheckedProgram, IsChecked}
 use Rattle.safl_term.specs.Program.{Program, unit_for, arity}
 use Rattle.safl_sites.specs.declared.keep.Keeping.{Keeping}
 use Rattle.safl_sites.specs.declared.site_set.SiteSet.{SiteSet}
@@ -51,7 +51,7 @@ below_more C g k x y =
 
 module _ (p : CheckedProgram) (h : IsChecked p) where
   abbrev C : Program
-  C = program_of p
+  C = p.program
 
   pub body_may_keep : (g : ℕ) (units peers : List SiteSet) → g < C.functions → UnitTable C units → ArePeers C C.sites peers → MayKeep C units peers (arity C g) (C.body g)
   body_may_keep g units peers within t sites = record {
@@ -69,7 +69,7 @@ module _ (p : CheckedProgram) (h : IsChecked p) where
       length slots ≡ arity C g → ((i k : ℕ) → HasAt slots i k → ⊥)
       → ((k : ℕ) → has a.decides k ≡ false) → ((k : ℕ) → has a.held k ≡ false) → Walks C slots f f' a b (C.body g) →
       ((k : ℕ) → (Has reach k → Reaches C k (C.body g)) × (Reaches C k (C.body g) → Has reach k))
-      → (k : ℕ) {X Y : Type 0} → Adds X Y (IsOwnKept C reach peers b (first_site_of p g) (first_site_of p (suc g)) k) → Adds X Y (IsBodyKept C g k)
+      → (k : ℕ) {X Y : Type 0} → Adds X Y (IsOwnKept C reach peers b (p.first_site g) (p.first_site (suc g)) k) → Adds X Y (IsBodyKept C g k)
   body_kept g slots peers reach d e f f' a b within sites count empty none_decides none_held w table k =
       let scope : fed_by k slots ≡ replicate (arity C g) false = fed_empty k slots (λ i. empty i k) ∙ ap (λ n. replicate n false) count in
       let decided = subst (λ l. Adds (Has a.decides k) (Has b.decides k) (Decides k l (C.body g))) scope (w.decided k) in
@@ -96,8 +96,8 @@ module _ (p : CheckedProgram) (h : IsChecked p) where
       let s = sited p h k x.least x.most in
       let kept = subst (λ l. Adds (Has a.held k) (Has b.held k) (IsHeld C k l (C.body g))) scope (w.kept k x.least x.most) in
       record {
-        from_on = subst (λ n. first_site_of p n ≤ k) x.caller s.from;
-        before = subst (λ n. k < first_site_of p (suc n)) x.caller s.below;
+        from_on = subst (λ n. p.first_site n ≤ k) x.caller s.from;
+        before = subst (λ n. k < p.first_site (suc n)) x.caller s.below;
         must = elim x.why [
           | inr y ↦ inl (kept.joins (record { other = x.because; differs = x.other; same = x.same; held = y }))
           | inl (y, z) ↦

@@ -1,6 +1,6 @@
 -- What a let's body reaches are sites of the program.
 use Rattle.std.proofs.Common.{◌≡◌, ℕ, ◌+◌, ◌<◌, ◌≤◌, ◌⊎◌, List, get_or, refl, sym, ap, subst, ◌∙◌, inl, inr, arith}
-use Rattle.safl_term.specs.Checked.{CheckedProgram, program_of, IsChecked}
+use Rattle.safl_term.specs.Checked.{CheckedProgram, IsChecked}
 use Rattle.safl_term.specs.Program.{Program, unit_for}
 use Rattle.safl_term.specs.Standing.{Stands}
 use Rattle.safl_term.specs.Terms.{Term, Terms, Const, Var, Op, If, Let, Call, Loop}
@@ -23,7 +23,7 @@ use Rattle.safl_word.specs.declared.primitive.Primitive.{Primitive}
 
 module _ (p : CheckedProgram) (h : IsChecked p) where
   abbrev C : Program
-  C = program_of p
+  C = p.program
 
   pub reached_site : (k : ℕ) {t : Term} → ((a : ℕ) → Stands a t → IsSited p a) → Reaches C k t → IsSited p k
   reached_site k own (Here s) = own k s
@@ -84,9 +84,9 @@ looked_more C slots low body old now next done k e l (inr (same, none)) = record
 }
 
 module _ (p : CheckedProgram) (h : IsChecked p) (units slots peers : List SiteSet) (n low : ℕ) (body : Term)
-    (m : MayReach (program_of p) units n body) (sites : ArePeers (program_of p) (program_of p).sites peers) where
+    (m : MayReach p.program units n body) (sites : ArePeers p.program p.program.sites peers) where
   abbrev D : Program
-  D = program_of p
+  D = p.program
 
   pub held_here : (used within : SiteSet) (k : ℕ) → (Has used k → IsTouched slots low k body) → ((j : ℕ) → Has within j → InBody D j body) → Has used
       k → Meets within (get_or peers (unit_for D k) no_row) k → IsHeldHere D slots low k body
@@ -144,5 +144,5 @@ not_op e = cc
 pub not_loop : {h : ℕ} {bs : Terms} {f j : ℕ} {ts : Terms} → Loop h bs ≡ Call f j ts → ⊥
 not_loop e = cc
 
-pub body_reached : (p : CheckedProgram) → IsChecked p → (g k : ℕ) → g < (program_of p).functions → Reaches (program_of p) k ((program_of p).body g) → IsSited p k
+pub body_reached : (p : CheckedProgram) → IsChecked p → (g k : ℕ) → g < p.program.functions → Reaches p.program k (p.program.body g) → IsSited p k
 body_reached p h g k within r = reached_site p h k (λ a s. (site_of_body p h g a within s).0) r

@@ -1,7 +1,7 @@
 -- Units, functions and sites of a checked program follow each other.
 use Rattle.std.proofs.Common.{◌≡◌, ℕ, zero, suc, ◌<◌, ◌≤◌, Bool, true, sym, subst, inl, inr, arith}
 use Rattle.std.proofs.lemmas.Bool.{cases_lt, cases_eq}
-use Rattle.safl_term.specs.Checked.{CheckedProgram, program_of, IsChecked, first_site_of}
+use Rattle.safl_term.specs.Checked.{CheckedProgram, IsChecked}
 use Rattle.safl_term.specs.Program.{Program}
 use Rattle.safl_term.specs.Standing.{Stands, StandsIn}
 use Rattle.safl_term.specs.Terms.{Term, Terms, Const, Var, Op, If, Let, Call, Loop, Nil, Cons}
@@ -32,15 +32,15 @@ mutual
 -- a site, where it stands
 pub record IsSited (p : CheckedProgram) (k : ℕ) : Type 0 where
   pub least : 1 ≤ k
-  pub most : k ≤ (program_of p).sites
-  pub within : (program_of p).caller k < (program_of p).functions
-  pub from : first_site_of p ((program_of p).caller k) ≤ k
-  pub below : k < first_site_of p (suc ((program_of p).caller k))
-  pub stands : Stands k ((program_of p).body ((program_of p).caller k))
+  pub most : k ≤ p.program.sites
+  pub within : p.program.caller k < p.program.functions
+  pub from : p.first_site (p.program.caller k) ≤ k
+  pub below : k < p.first_site (suc (p.program.caller k))
+  pub stands : Stands k (p.program.body (p.program.caller k))
 
 module _ (p : CheckedProgram) (h : IsChecked p) where
   abbrev C : Program
-  C = program_of p
+  C = p.program
 
   -- a function of a lower unit stands before
   pub lower_before : (f g : ℕ) → f < C.functions → g < C.functions → C.unit f < C.unit g → f < g
@@ -49,20 +49,20 @@ module _ (p : CheckedProgram) (h : IsChecked p) where
     | inr l ↦ let e = h.groups g f x (omega (arith, (h.formed.first g y).0)) l in absurd (omega arith)
   ]
 
-  sited_at : (f k : ℕ) → f < C.functions → Stands k (C.body f) → (C.caller k ≡ f) × (first_site_of p f ≤ k) × (k < first_site_of p (suc f))
+  sited_at : (f k : ℕ) → f < C.functions → Stands k (C.body f) → (C.caller k ≡ f) × (p.first_site f ≤ k) × (k < p.first_site (suc f))
   sited_at f k within s = let w = stands_within C f true _ _ (C.body f) k (h.own_sites f within) s in (w.caller, w.above, w.below)
 
-  rises : (f g : ℕ) → f ≤ g → g ≤ C.functions → first_site_of p f ≤ first_site_of p g
-  rises f zero le within = let e : f ≡ 0 = omega arith in subst (λ n. first_site_of p n ≤ first_site_of p 0) (sym e) (omega arith)
+  rises : (f g : ℕ) → f ≤ g → g ≤ C.functions → p.first_site f ≤ p.first_site g
+  rises f zero le within = let e : f ≡ 0 = omega arith in subst (λ n. p.first_site n ≤ p.first_site 0) (sym e) (omega arith)
   rises f (suc g) le within = elim (cases_eq f (suc g)) [
-    | inl e ↦ subst (λ n. first_site_of p n ≤ first_site_of p (suc g)) (sym e) (omega arith)
+    | inl e ↦ subst (λ n. p.first_site n ≤ p.first_site (suc g)) (sym e) (omega arith)
     | inr n ↦ let a = rises f g (omega arith) (omega arith) in let b = first_site_rises p g h (omega arith) in omega arith
   ]
 
   -- the function in whose interval the site is
-  find : (f k : ℕ) → f ≤ C.functions → 1 ≤ k → k < first_site_of p f → (g : ℕ) × (g < f) × (first_site_of p g ≤ k) × (k < first_site_of p (suc g))
+  find : (f k : ℕ) → f ≤ C.functions → 1 ≤ k → k < p.first_site f → (g : ℕ) × (g < f) × (p.first_site g ≤ k) × (k < p.first_site (suc g))
   find zero k within least below = absurd (omega (arith, h.first_site))
-  find (suc f) k within least below = elim (cases_lt k (first_site_of p f)) [
+  find (suc f) k within least below = elim (cases_lt k (p.first_site f)) [
     | inl l ↦ let (g, less, a, b) = find f k (omega arith) least l in (g, omega arith, a, b)
     | inr l ↦ (f, omega arith, l, below)
   ]
@@ -76,8 +76,8 @@ module _ (p : CheckedProgram) (h : IsChecked p) where
         least = least;
         most = most;
         within = subst (λ n. n < C.functions) (sym e) within;
-        from = subst (λ n. first_site_of p n ≤ k) (sym e) a;
-        below = subst (λ n. k < first_site_of p (suc n)) (sym e) b;
+        from = subst (λ n. p.first_site n ≤ k) (sym e) a;
+        below = subst (λ n. k < p.first_site (suc n)) (sym e) b;
         stands = subst (λ n. Stands k (C.body n)) (sym e) s;
       }
 
@@ -94,5 +94,5 @@ module _ (p : CheckedProgram) (h : IsChecked p) where
   later_site j k a b less = let r = rises (suc (C.caller j)) (C.caller k) (omega arith) (omega (arith, b.within)) in omega (arith, a.below, b.from)
 
   -- a site in a function's interval is one of its own
-  pub own_site : (g k : ℕ) → g < C.functions → first_site_of p g ≤ k → k < first_site_of p (suc g) → IsSited p k × (C.caller k ≡ g)
+  pub own_site : (g k : ℕ) → g < C.functions → p.first_site g ≤ k → k < p.first_site (suc g) → IsSited p k × (C.caller k ≡ g)
   own_site g k within a b = site_of_body g k within (spans_stand C g true _ _ (C.body g) k (h.own_sites g within) a b)

@@ -1,17 +1,17 @@
 -- One more site in the rows of its unit.
 use Rattle.std.proofs.Common.{◌≡◌, ℕ, suc, ◌<◌, ◌≤◌, List, length, length-set, slice_set, sym, ap, ◌∙◌, inl, inr, arith}
 use Rattle.std.proofs.lemmas.Bool.{cases_eq}
-use Rattle.safl_term.specs.Checked.{CheckedProgram, program_of, IsChecked}
+use Rattle.safl_term.specs.Checked.{CheckedProgram, IsChecked}
 use Rattle.safl_term.specs.Program.{Program, unit_for}
 use Rattle.safl_sites.specs.declared.site_set.SiteSet.{SiteSet}
 use Rattle.safl_sites.specs.Peers.{ArePeers}
 use Rattle.safl_sites.specs.Rows.{Has, HasAt, Adds}
 use Rattle.safl_sites.proofs.RowsJoined.{row_more}
 
-pub unit_within : (p : CheckedProgram) → IsChecked p → (k : ℕ) → 1 ≤ k → k ≤ (program_of p).sites → unit_for (program_of p) k < (program_of p).functions
+pub unit_within : (p : CheckedProgram) → IsChecked p → (k : ℕ) → 1 ≤ k → k ≤ p.program.sites → unit_for p.program k < p.program.functions
 unit_within p h k least most =
     let calls = h.formed.calls k (omega arith) most in
-    omega (arith, (h.formed.first ((program_of p).callee k) calls.1).0, calls.1)
+    omega (arith, (h.formed.first (p.program.callee k) calls.1).0, calls.1)
 
 pub peers_more : (C : Program) (m k : ℕ) (peers : List SiteSet) (row : SiteSet) → k ≡ suc m → unit_for C k < C.functions → ArePeers C m peers →
     ((j : ℕ) → Adds (HasAt peers (unit_for C k) j) (Has row j) (j ≡ k)) → ArePeers C k (slice_set peers (unit_for C k) row)

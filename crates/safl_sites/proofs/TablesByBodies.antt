@@ -3,7 +3,7 @@ use Rattle.std.proofs.Common.{◌≡◌, ℕ, zero, suc, ◌<◌, ◌⊎◌, tru
 use Rattle.std.proofs.lemmas.Bool.{cases_eq}
 use Rattle.std.proofs.lemmas.Grind.{get_or-set_at}
 use Rattle.std.proofs.lemmas.List.{get_or-set_other}
-use Rattle.safl_term.specs.Checked.{CheckedProgram, program_of, IsChecked}
+use Rattle.safl_term.specs.Checked.{CheckedProgram, IsChecked}
 use Rattle.safl_term.specs.Program.{Program}
 use Rattle.safl_sites.specs.declared.site_set.SiteSet.{SiteSet}
 use Rattle.safl_sites.specs.Conflicts.{Reaches}
@@ -25,7 +25,7 @@ empty_table (suc n) r none (suc i) k h = empty_table n r none i k h
 
 module _ (p : CheckedProgram) (h : IsChecked p) where
   abbrev C : Program
-  C = program_of p
+  C = p.program
 
   -- the body of a function is a part of it
   pub body_part : (f : ℕ) → f < C.functions → IsPart C f (length (C.params f)) (C.body f)

@@ -1,6 +1,6 @@
 -- The tables decide the plan.
 use Rattle.std.proofs.Common.{◌≡◌, ℕ, suc, ◌<◌, ◌⊎◌, false, replicate, get_or, refl, sym, ap, subst, ◌∙◌, inl, inr, arith}
-use Rattle.safl_term.specs.Checked.{CheckedProgram, program_of, IsChecked}
+use Rattle.safl_term.specs.Checked.{CheckedProgram, IsChecked}
 use Rattle.safl_term.specs.Program.{Program, unit_for, arity}
 use Rattle.safl_term.specs.Standing.{Stands, StandsIn}
 use Rattle.safl_term.specs.Terms.{Term, Terms, Const, Var, Op, If, Let, Call, Loop, Nil, Cons}
@@ -11,7 +11,7 @@ use Rattle.safl_sites.specs.Conflicts.{Reaches, Conflict}
 use Rattle.safl_sites.specs.Kept.{Kept, Decides, Held}
 use Rattle.safl_sites.specs.Parallel.{After, AfterIn, ComesBefore}
 use Rattle.safl_sites.specs.Plan.{IsPlan}
-use Rattle.safl_sites.specs.Planned.{PlannedProgram, arbiter_of, kept_of}
+use Rattle.safl_sites.specs.Planned.{Flags, choice_of}
 use Rattle.safl_sites.specs.Rows.{has, Has, Adds}
 use Rattle.safl_sites.proofs.EarlierConflicts.{conflict_of, conflict_by}
 use Rattle.safl_sites.proofs.LetsReach.{body_reached}
@@ -47,7 +47,7 @@ module _ (C : Program) (x b : ℕ) where
 
 module _ (p : CheckedProgram) (h : IsChecked p) where
   abbrev C : Program
-  C = program_of p
+  C = p.program
 
   -- both are sites of the program
   comes_sited : (j k : ℕ) → ComesBefore C j k → IsSited p j × IsSited p k
@@ -82,11 +82,11 @@ module _ (p : CheckedProgram) (h : IsChecked p) where
   body_of : (k : ℕ) → IsKeptBelow C C.functions k → Kept C k
   body_of k y = body_at y.body k y.kept
 
-  pub plan_is : (program : PlannedProgram) (kept all : SiteSet) → program.program ≡ p → IsCollected C C.sites program.arbiters kept →
+  pub plan_is : (flags : Flags) (kept all : SiteSet) → IsCollected C C.sites flags.arbiters kept →
       ((k : ℕ) → Adds (Has kept k) (Has all k) (IsKeptBelow C C.functions k))
-      → ((k : ℕ) → k < suc C.sites → get_or program.keeps k false ≡ has all k) → IsPlan C (arbiter_of program) (kept_of program)
-  unfolding arbiter_of kept_of
-  plan_is program kept all same t more listed = record {
+      → ((k : ℕ) → k < suc C.sites → get_or flags.keeps k false ≡ has all k) → IsPlan C (choice_of flags).arbiter (choice_of flags).kept
+  unfolding choice_of
+  plan_is flags kept all t more listed = record {
     arbiters = λ u. (
       λ x. let c = (t.units u).0 x in record { one = c.later; other = c.earlier; conflict = of_collision c.later c.earlier c.collides; unit = c.unit },
       λ x. (t.units u).1 (elim (conflict_by C x.one x.other x.conflict) [

@@ -4,6 +4,11 @@ use Rattle.safl_term.specs.Program.{Program, unit_for}
 use Rattle.safl_sites.specs.Conflicts.{Conflict}
 use Rattle.safl_sites.specs.Kept.{Kept}
 
+-- which units have arbiters, and which sites keep their words
+pub record Choice : Type 0 where
+  pub arbiter : ℕ → Bool
+  pub kept : ℕ → Bool
+
 -- unit u needs an arbiter: two of its sites conflict
 pub record HasArbiter (C : Program) (u : ℕ) : Type 0 where
   pub one : ℕ

@@ -1,7 +1,7 @@
 //! The sites that conflict, and their units.
 
 ghost use Rattle.std.specs.Prelude.{◌≡◌, ℕ, suc, ◌-◌, ◌≤◌, length, false, get_or};
-ghost use Rattle.safl_term.specs.Checked.{IsChecked, program_of};
+ghost use Rattle.safl_term.specs.Checked.{IsChecked};
 ghost use Rattle.safl_sites.specs.Collecting.{IsCollected};
 ghost use Rattle.safl_sites.specs.Peers.{ArePeers};
 ghost use Rattle.safl_sites.specs.Planned.{BeforeTable};
@@ -20,11 +20,11 @@ pub fn collect_site(
 )
     requires checked { IsChecked c.now }
     requires least { 1 ≤ k }
-    requires most { k ≤ (program_of c.now).sites }
-    requires conflicts { BeforeTable (program_of c.now) before.now }
-    requires peers { ArePeers (program_of c.now) (program_of c.now).sites peers.now }
-    requires collected { IsCollected (program_of c.now) (k - 1) arbiters.old kept.old }
-    ensures { IsCollected (program_of c.now) k arbiters.new kept.new }
+    requires most { k ≤ c.now.program.sites }
+    requires conflicts { BeforeTable c.now.program before.now }
+    requires peers { ArePeers c.now.program c.now.program.sites peers.now }
+    requires collected { IsCollected c.now.program (k - 1) arbiters.old kept.old }
+    ensures { IsCollected c.now.program k arbiters.new kept.new }
 {
     let unit = c.unit_for(k) as usize;
     let row = before[k as usize];

@@ -1,7 +1,6 @@
 //! The tables of what is in reach of the bodies.
 
 ghost use Rattle.std.specs.Prelude.{◌≡◌, ℕ, suc, ◌<◌, length, IfOk};
-ghost use Rattle.safl_term.specs.Checked.{program_of};
 ghost use Rattle.safl_sites.specs.Filling.{IsFilled};
 ghost use Rattle.safl_sites.specs.Rows.{HasAt};
 
@@ -32,7 +31,7 @@ pub fn empty_rows(alloc: Global, count: usize) -> Result<Vec<SiteSet>, AllocErro
 
 /// Fills the tables. A callee's unit is below its caller's, so that the bodies go upwards.
 pub fn fill(alloc: Global, c: &Checked) -> Result<Tables, AllocError>
-    ensures { IfOk result (λ t. IsFilled (program_of c.now) (program_of c.now).functions t.bodies.items t.units.items t.after.items) }
+    ensures { IfOk result (λ t. IsFilled c.now.program c.now.program.functions t.bodies.items t.units.items t.after.items) }
 {
     let functions = c.functions();
     let mut bodies = empty_rows(alloc, functions as usize)?;
@@ -55,9 +54,9 @@ fn fill_body(
     units: &mut [SiteSet],
     after: &mut [SiteSet],
 )
-    requires within { f < (program_of c.now).functions }
-    requires filled { IsFilled (program_of c.now) f bodies.old units.old after.old }
-    ensures { IsFilled (program_of c.now) (suc f) bodies.new units.new after.new }
+    requires within { f < c.now.program.functions }
+    requires filled { IsFilled c.now.program f bodies.old units.old after.old }
+    ensures { IsFilled c.now.program (suc f) bodies.new units.new after.new }
 {
     let body = c.body(f);
     let mut row = SiteSet::new();

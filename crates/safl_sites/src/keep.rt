@@ -1,7 +1,7 @@
 //! Which sites' words decide a condition, or are held while the body of a let runs.
 
 ghost use Rattle.std.specs.Prelude.{◌≡◌, ℕ, length, OnOk};
-ghost use Rattle.safl_term.specs.Checked.{program_of, IsChecked};
+ghost use Rattle.safl_term.specs.Checked.{IsChecked};
 ghost use Rattle.safl_term.specs.Tree.{shown_term, shown_terms};
 ghost use Rattle.safl_sites.specs.Kept.{InBody};
 ghost use Rattle.safl_sites.specs.Keeping.{MayKeep, MayKeepIn, Walks, WalksIn, Binds, HoldsHere};
@@ -34,9 +34,9 @@ pub fn walk(
     feeds: &mut SiteSet,
     keeps: &mut Keeping,
 ) -> Result<(), AllocError>
-    requires { MayKeep (program_of c.now) units.now peers.now (length slots.old.items) (shown_term t.now) }
+    requires { MayKeep c.now.program units.now peers.now (length slots.old.items) (shown_term t.now) }
     ensures same { OnOk result (slots.new.items ≡ slots.old.items) }
-    ensures done { OnOk result (Walks (program_of c.now) slots.old.items feeds.old feeds.new keeps.old keeps.new (shown_term t.now)) }
+    ensures done { OnOk result (Walks c.now.program slots.old.items feeds.old feeds.new keeps.old keeps.new (shown_term t.now)) }
 {
     match t {
         Term::Const(_) => Ok(()),
@@ -89,9 +89,9 @@ fn walk_all(
     feeds: &mut SiteSet,
     keeps: &mut Keeping,
 ) -> Result<(), AllocError>
-    requires { MayKeepIn (program_of c.now) units.now peers.now (length slots.old.items) (shown_terms ts.now) }
+    requires { MayKeepIn c.now.program units.now peers.now (length slots.old.items) (shown_terms ts.now) }
     ensures same { OnOk result (slots.new.items ≡ slots.old.items) }
-    ensures done { OnOk result (WalksIn (program_of c.now) slots.old.items feeds.old feeds.new keeps.old keeps.new (shown_terms ts.now)) }
+    ensures done { OnOk result (WalksIn c.now.program slots.old.items feeds.old feeds.new keeps.old keeps.new (shown_terms ts.now)) }
 {
     let Some((first, rest)) = ts.split_first() else {
         return Ok(());
@@ -111,8 +111,8 @@ fn bind_all(
     ts: &[Term],
     keeps: &mut Keeping,
 ) -> Result<(), AllocError>
-    requires { MayKeepIn (program_of c.now) units.now peers.now (length slots.old.items) (shown_terms ts.now) }
-    ensures { OnOk result (Binds (program_of c.now) slots.old.items slots.new.items keeps.old keeps.new (shown_terms ts.now)) }
+    requires { MayKeepIn c.now.program units.now peers.now (length slots.old.items) (shown_terms ts.now) }
+    ensures { OnOk result (Binds c.now.program slots.old.items slots.new.items keeps.old keeps.new (shown_terms ts.now)) }
 {
     let Some((first, rest)) = ts.split_first() else {
         return Ok(());
@@ -136,8 +136,8 @@ fn hold(
     body: &Term,
     held: &mut SiteSet,
 )
-    requires { (n : ℕ) × MayKeep (program_of c.now) units.now peers.now n (shown_term body.now) }
-    ensures { HoldsHere (program_of c.now) slots.now low (shown_term body.now) held.old held.new }
+    requires { (n : ℕ) × MayKeep c.now.program units.now peers.now n (shown_term body.now) }
+    ensures { HoldsHere c.now.program slots.now low (shown_term body.now) held.old held.new }
 {
     let mut used = SiteSet::new();
     touch(slots, low, body, &mut used);
@@ -154,8 +154,8 @@ fn hold(
 
 // Puts into a set the sites in reach of a let's body, or of its arguments where it is a call.
 fn reach_body(c: &Checked, units: &[SiteSet], body: &Term, row: &mut SiteSet)
-    requires { (n : ℕ) × MayReach (program_of c.now) units.now n (shown_term body.now) }
-    ensures { Gains row.old row.new (λ k. InBody (program_of c.now) k (shown_term body.now)) }
+    requires { (n : ℕ) × MayReach c.now.program units.now n (shown_term body.now) }
+    ensures { Gains row.old row.new (λ k. InBody c.now.program k (shown_term body.now)) }
 {
     match body {
         Term::Call(_, _, ts) => reach_in(c, units, ts, row),

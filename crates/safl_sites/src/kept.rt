@@ -1,7 +1,7 @@
 //! Which sites of a body keep their words for its conditions and bindings.
 
 ghost use Rattle.std.specs.Prelude.{◌≡◌, suc, ◌≤◌, ◌<◌, ◌↔◌, IsTrue, OnOk};
-ghost use Rattle.safl_term.specs.Checked.{IsChecked, program_of, first_site_of};
+ghost use Rattle.safl_term.specs.Checked.{IsChecked};
 ghost use Rattle.safl_sites.specs.Bodies.{UnitTable, MustKeep, IsOwnKept, IsBodyKept, IsKeptBelow};
 ghost use Rattle.safl_sites.specs.Peers.{ArePeers};
 ghost use Rattle.safl_sites.specs.Planned.{ReachTable};
@@ -22,10 +22,10 @@ pub fn keep_all(
     peers: &[SiteSet],
     kept: &mut SiteSet,
 ) -> Result<(), AllocError>
-    requires units { UnitTable (program_of c.now) units.now }
-    requires bodies { ReachTable (program_of c.now) bodies.now }
-    requires peers { ArePeers (program_of c.now) (program_of c.now).sites peers.now }
-    ensures { OnOk result (Gains kept.old kept.new (IsKeptBelow (program_of c.now) (program_of c.now).functions)) }
+    requires units { UnitTable c.now.program units.now }
+    requires bodies { ReachTable c.now.program bodies.now }
+    requires peers { ArePeers c.now.program c.now.program.sites peers.now }
+    ensures { OnOk result (Gains kept.old kept.new (IsKeptBelow c.now.program c.now.program.functions)) }
 {
     let functions = c.functions();
     for g in 0..functions {
@@ -43,11 +43,11 @@ fn keep_body(
     peers: &[SiteSet],
     kept: &mut SiteSet,
 ) -> Result<(), AllocError>
-    requires within { g < (program_of c.now).functions }
-    requires units { UnitTable (program_of c.now) units.now }
-    requires bodies { ReachTable (program_of c.now) bodies.now }
-    requires peers { ArePeers (program_of c.now) (program_of c.now).sites peers.now }
-    ensures { OnOk result (Gains kept.old kept.new (IsBodyKept (program_of c.now) g)) }
+    requires within { g < c.now.program.functions }
+    requires units { UnitTable c.now.program units.now }
+    requires bodies { ReachTable c.now.program bodies.now }
+    requires peers { ArePeers c.now.program c.now.program.sites peers.now }
+    ensures { OnOk result (Gains kept.old kept.new (IsBodyKept c.now.program g)) }
 {
     let mut slots = empty_rows(alloc, c.params(g) as usize)?;
     let mut feeds = SiteSet::new();
@@ -77,9 +77,9 @@ fn keep_own(
     kept: &mut SiteSet,
 )
     requires checked { IsChecked c.now }
-    requires within { g < (program_of c.now).functions }
-    requires peers { ArePeers (program_of c.now) (program_of c.now).sites peers.now }
-    ensures { Gains kept.old kept.new (IsOwnKept (program_of c.now) reach.now peers.now keeps.now (first_site_of c.now g) (first_site_of c.now (suc g))) }
+    requires within { g < c.now.program.functions }
+    requires peers { ArePeers c.now.program c.now.program.sites peers.now }
+    ensures { Gains kept.old kept.new (IsOwnKept c.now.program reach.now peers.now keeps.now (c.now.first_site g) (c.now.first_site (suc g))) }
 {
     let first = c.first_site(g);
     let count = c.own_sites(g);
@@ -94,9 +94,9 @@ fn keep_own(
 fn must_keep(c: &Checked, k: u32, reach: &SiteSet, peers: &[SiteSet], keeps: &Keeping) -> bool
     requires checked { IsChecked c.now }
     requires least { 1 ≤ k }
-    requires most { k ≤ (program_of c.now).sites }
-    requires peers { ArePeers (program_of c.now) (program_of c.now).sites peers.now }
-    ensures { IsTrue result ↔ MustKeep (program_of c.now) reach.now peers.now keeps.now k }
+    requires most { k ≤ c.now.program.sites }
+    requires peers { ArePeers c.now.program c.now.program.sites peers.now }
+    ensures { IsTrue result ↔ MustKeep c.now.program reach.now peers.now keeps.now k }
 {
     if keeps.held.contains(k) {
         return true;

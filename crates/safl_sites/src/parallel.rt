@@ -1,7 +1,6 @@
 //! Which sites are in reach of a term that stands before a parallel one.
 
 ghost use Rattle.std.specs.Prelude.{ℕ, ◌<◌, List, length};
-ghost use Rattle.safl_term.specs.Checked.{program_of};
 ghost use Rattle.safl_term.specs.Tree.{shown_term, shown_terms};
 ghost use Rattle.safl_sites.specs.Parallel.{Marked, MarkedIn};
 ghost use Rattle.safl_sites.specs.Reach.{MayReach, MayReachIn};
@@ -15,9 +14,9 @@ use safl_term::{Checked, Term};
 /// term, and of those around it, which `before` has.
 #[cycle(mark)]
 pub fn mark(c: &Checked, units: &[SiteSet], t: &Term, before: &SiteSet, rows: &mut [SiteSet])
-    requires may { (slots : ℕ) × MayReach (program_of c.now) units.now slots (shown_term t.now) }
-    requires room { (program_of c.now).sites < length rows.old }
-    ensures { (b k : ℕ) → Adds (HasAt rows.old b k) (HasAt rows.new b k) (Marked (program_of c.now) (Has before.now k) k b (shown_term t.now)) }
+    requires may { (slots : ℕ) × MayReach c.now.program units.now slots (shown_term t.now) }
+    requires room { c.now.program.sites < length rows.old }
+    ensures { (b k : ℕ) → Adds (HasAt rows.old b k) (HasAt rows.new b k) (Marked c.now.program (Has before.now k) k b (shown_term t.now)) }
 {
     match t {
         Term::Const(_) => {}
@@ -42,9 +41,9 @@ pub fn mark(c: &Checked, units: &[SiteSet], t: &Term, before: &SiteSet, rows: &m
 
 #[cycle(mark)]
 fn mark_in(c: &Checked, units: &[SiteSet], ts: &[Term], before: &SiteSet, rows: &mut [SiteSet])
-    requires may { (slots : ℕ) × MayReachIn (program_of c.now) units.now slots (shown_terms ts.now) }
-    requires room { (program_of c.now).sites < length rows.old }
-    ensures { (b k : ℕ) → Adds (HasAt rows.old b k) (HasAt rows.new b k) (MarkedIn (program_of c.now) (Has before.now k) k b (shown_terms ts.now)) }
+    requires may { (slots : ℕ) × MayReachIn c.now.program units.now slots (shown_terms ts.now) }
+    requires room { c.now.program.sites < length rows.old }
+    ensures { (b k : ℕ) → Adds (HasAt rows.old b k) (HasAt rows.new b k) (MarkedIn c.now.program (Has before.now k) k b (shown_terms ts.now)) }
 {
     if let Some((first, rest)) = ts.split_first() {
         mark(c, units, first, before, rows);

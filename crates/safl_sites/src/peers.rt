@@ -1,7 +1,6 @@
 //! The sites of each unit.
 
 ghost use Rattle.std.specs.Prelude.{IfOk};
-ghost use Rattle.safl_term.specs.Checked.{program_of};
 ghost use Rattle.safl_sites.specs.Peers.{ArePeers};
 
 use crate::fill::empty_rows;
@@ -11,7 +10,7 @@ use std::alloc::{AllocError, Global};
 
 /// By unit, the sites that call it.
 pub fn peers(alloc: Global, c: &Checked) -> Result<Vec<SiteSet>, AllocError>
-    ensures { IfOk result (λ v. ArePeers (program_of c.now) (program_of c.now).sites v.items) }
+    ensures { IfOk result (λ v. ArePeers c.now.program c.now.program.sites v.items) }
 {
     let mut peers = empty_rows(alloc, c.functions() as usize)?;
     let sites = c.sites();

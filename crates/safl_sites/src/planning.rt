@@ -1,11 +1,10 @@
 //! The plan of a checked program.
 
 ghost use Rattle.std.specs.Prelude.{◌≡◌, ℕ, suc, ◌<◌, length, Bool, false, get_or, IfOk, IfErr};
-ghost use Rattle.safl_term.specs.Checked.{program_of};
 ghost use Rattle.safl_sites.specs.Collecting.{IsCollected};
 ghost use Rattle.safl_sites.specs.Peers.{ArePeers};
 ghost use Rattle.safl_sites.specs.Plan.{IsPlan};
-ghost use Rattle.safl_sites.specs.Planned.{BeforeTable, IsPlanned, arbiter_of, kept_of};
+ghost use Rattle.safl_sites.specs.Planned.{BeforeTable, IsPlanned};
 ghost use Rattle.safl_sites.specs.Rows.{has};
 
 use crate::collect::collect_site;
@@ -21,8 +20,8 @@ use std::alloc::{AllocError, Global};
 /// The plan of a checked program: for each unit whether it needs an arbiter, and for each site whether it keeps its
 /// word. Err is lack of memory alone, and hands the program back.
 pub fn plan(alloc: Global, c: Checked) -> Result<Planned, Checked>
-    ensures ok { IfOk result (λ p. p.program ≡ c) }
-    ensures plan { IfOk result (λ p. IsPlan (program_of c) (arbiter_of p) (kept_of p)) }
+    ensures ok { IfOk result (λ p. p.checked ≡ c) }
+    ensures plan { IfOk result (λ p. IsPlan c.program p.arbiter p.kept) }
     ensures err { IfErr result (λ back. back ≡ c) }
 {
     match find(alloc, &c) {
@@ -41,7 +40,7 @@ pub struct Findings {
 }
 
 fn find(alloc: Global, c: &Checked) -> Result<Findings, AllocError>
-    ensures { IfOk result (λ f. IsPlanned (record { program = c.now; arbiters = f.arbiters.items; keeps = f.keeps.items }) f.bodies.items f.before.items) }
+    ensures { IfOk result (λ f. IsPlanned c.now (record { arbiters = f.arbiters.items; keeps = f.keeps.items }) f.bodies.items f.before.items) }
 {
     let Tables {
         bodies,
@@ -71,10 +70,10 @@ fn collect(
     peers: &[SiteSet],
     kept: &mut SiteSet,
 ) -> Result<Vec<bool>, AllocError>
-    requires conflicts { BeforeTable (program_of c.now) before.now }
-    requires peers { ArePeers (program_of c.now) (program_of c.now).sites peers.now }
+    requires conflicts { BeforeTable c.now.program before.now }
+    requires peers { ArePeers c.now.program c.now.program.sites peers.now }
     requires empty { (k : ℕ) → has kept.old k ≡ false }
-    ensures { IfOk result (λ v. IsCollected (program_of c.now) (program_of c.now).sites v.items kept.new) }
+    ensures { IfOk result (λ v. IsCollected c.now.program c.now.program.sites v.items kept.new) }
 {
     let mut arbiters = vec![in alloc; false; c.functions() as usize]?;
     let sites = c.sites();

@@ -1,7 +1,7 @@
 //! Which sites are in reach of a term.
 
 ghost use Rattle.std.specs.Prelude.{◌≡◌, ℕ};
-ghost use Rattle.safl_term.specs.Checked.{program_of, IsChecked};
+ghost use Rattle.safl_term.specs.Checked.{IsChecked};
 ghost use Rattle.safl_term.specs.Tree.{shown_term, shown_terms};
 ghost use Rattle.safl_sites.specs.Conflicts.{Reaches, ReachesIn};
 ghost use Rattle.safl_sites.specs.Reach.{MayReach, MayReachIn};
@@ -13,8 +13,8 @@ use safl_term::{Checked, Term};
 /// Puts the sites in reach of a term into a set. `units` has the sites in reach of the bodies of each unit.
 #[cycle(reach)]
 pub fn reach(c: &Checked, units: &[SiteSet], t: &Term, row: &mut SiteSet)
-    requires { (slots : ℕ) × MayReach (program_of c.now) units.now slots (shown_term t.now) }
-    ensures { Gains row.old row.new (λ k. Reaches (program_of c.now) k (shown_term t.now)) }
+    requires { (slots : ℕ) × MayReach c.now.program units.now slots (shown_term t.now) }
+    ensures { Gains row.old row.new (λ k. Reaches c.now.program k (shown_term t.now)) }
 {
     match t {
         Term::Const(_) => {}
@@ -40,8 +40,8 @@ pub fn reach(c: &Checked, units: &[SiteSet], t: &Term, row: &mut SiteSet)
 
 #[cycle(reach)]
 pub fn reach_in(c: &Checked, units: &[SiteSet], ts: &[Term], row: &mut SiteSet)
-    requires { (slots : ℕ) × MayReachIn (program_of c.now) units.now slots (shown_terms ts.now) }
-    ensures { Gains row.old row.new (λ k. ReachesIn (program_of c.now) k (shown_terms ts.now)) }
+    requires { (slots : ℕ) × MayReachIn c.now.program units.now slots (shown_terms ts.now) }
+    ensures { Gains row.old row.new (λ k. ReachesIn c.now.program k (shown_terms ts.now)) }
 {
     if let Some((first, rest)) = ts.split_first() {
         reach(c, units, first, row);

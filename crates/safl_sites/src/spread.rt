@@ -1,7 +1,7 @@
 //! What comes before a site, through all callers.
 
 ghost use Rattle.std.specs.Prelude.{◌≡◌, ℕ, suc, ◌-◌, ◌≤◌, length, OnOk, ◌↔◌};
-ghost use Rattle.safl_term.specs.Checked.{IsChecked, program_of};
+ghost use Rattle.safl_term.specs.Checked.{IsChecked};
 ghost use Rattle.safl_sites.specs.Filling.{StandsAfter};
 ghost use Rattle.safl_sites.specs.Planned.{BeforeTable};
 ghost use Rattle.safl_sites.specs.Rows.{HasAt};
@@ -15,9 +15,9 @@ use std::alloc::{AllocError, Global};
 /// Adds to the row of each site what comes before the sites that call the unit of its function. A callee's unit is
 /// below its caller's, so that the sites go downwards.
 pub fn spread(alloc: Global, c: &Checked, rows: &mut [SiteSet]) -> Result<(), AllocError>
-    requires count { length rows.old ≡ suc (program_of c.now).sites }
-    requires after { (j k : ℕ) → HasAt rows.old k j ↔ StandsAfter (program_of c.now) (program_of c.now).functions j k }
-    ensures { OnOk result (BeforeTable (program_of c.now) rows.new) }
+    requires count { length rows.old ≡ suc c.now.program.sites }
+    requires after { (j k : ℕ) → HasAt rows.old k j ↔ StandsAfter c.now.program c.now.program.functions j k }
+    ensures { OnOk result (BeforeTable c.now.program rows.new) }
 {
     let mut handed = empty_rows(alloc, c.functions() as usize)?;
     let sites = c.sites();
@@ -30,9 +30,9 @@ pub fn spread(alloc: Global, c: &Checked, rows: &mut [SiteSet]) -> Result<(), Al
 fn spread_site(c: &Checked, k: u32, handed: &mut [SiteSet], rows: &mut [SiteSet])
     requires checked { IsChecked c.now }
     requires least { 1 ≤ k }
-    requires most { k ≤ (program_of c.now).sites }
-    requires spread { IsSpread (program_of c.now) k rows.old handed.old }
-    ensures { IsSpread (program_of c.now) (k - 1) rows.new handed.new }
+    requires most { k ≤ c.now.program.sites }
+    requires spread { IsSpread c.now.program k rows.old handed.old }
+    ensures { IsSpread c.now.program (k - 1) rows.new handed.new }
 {
     let mut row = rows[k as usize];
     row.union(&handed[c.unit(c.caller(k)) as usize]);

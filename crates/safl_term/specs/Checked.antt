@@ -1,59 +1,49 @@
--- A checked program, with its names, and the program in numbers that it is.
-use Rattle.std.specs.Prelude.{◌≡◌, ℕ, zero, suc, ◌-◌, ◌<◌, ◌≤◌, List, [], length, map, sum_by, Some, slice_get, true, codes}
-use Rattle.std.specs.List.{All}
-use Rattle.std.specs.Option.{option_map_or}
-use Rattle.std.specs.String.{string_bytes}
-use Rattle.safl_word.specs.Words.{no_word, max_width}
-use Rattle.safl_term.specs.declared.checked.Function.{Function}
-use Rattle.safl_term.specs.declared.checked.Site.{Site}
+-- A checked program: the program in numbers, and its names.
+use Rattle.std.specs.Prelude.{◌≡◌, ℕ, suc, ◌<◌, ◌≤◌, List, Some, slice_get, true, codes, refl}
+use Rattle.std.specs.Coded.{Coded, code_by}
+use mathlib.Core.Path.{path_j}
 use Rattle.safl_word.specs.Tokens.{IsName}
+use Rattle.safl_word.specs.Words.{max_width}
+use Rattle.safl_term.specs.Names.{Names}
 use Rattle.safl_term.specs.Program.{Program, arity}
-use Rattle.safl_term.specs.Sizes.{nodes, depth, max_depth, HasShortLets}
-use Rattle.safl_term.specs.Slots.{HasSlots}
-use Rattle.safl_term.specs.Terms as plain
-use Rattle.safl_term.specs.Tree.{shown_term}
+use Rattle.safl_term.specs.Sizes.{body_nodes, depth, max_depth, HasShortLets}
+use Rattle.safl_term.specs.Tables.{Tables, program_of, names_of, first_site_of}
 use Rattle.safl_term.specs.WellFormed.{IsWellFormed, Spans}
 
+-- the tables are those of this program, with these names and these first sites
+unfoldable pub AreTablesOf : Program → Names → (ℕ → ℕ) → Tables → Type 0
+AreTablesOf C D first t = ◌≡◌ {A = Program × Names × (ℕ → ℕ)} (program_of t, names_of t, first_site_of t) (C, D, first)
+
 pub record CheckedProgram : Type 0 where
-  pub functions : List Function
-  pub sites : List Site
+  pub program : Program
+  pub names : Names
+  pub open names use {name, params as param_names}
+  -- the number of the first site of a function and of those that follow it
+  pub first_site : ℕ → ℕ
+  -- what it is stored as
+  pub tables : Tables
+  pub stored : AreTablesOf program names first_site tables
 
--- what a function has, or a default where it is not there
-abbrev pub of_function : {A : Type 0} → (Function → A) → A → CheckedProgram → ℕ → A
-of_function has default c f = option_map_or has (slice_get c.functions f) default
+-- ---- the program that tables are
 
--- what a site has, where sites are numbered from 1; site 0 has a number of its own
-abbrev pub of_site : (Site → ℕ) → ℕ → CheckedProgram → ℕ → ℕ
-of_site has outside c zero = outside
-of_site has outside c (suc k) = option_map_or has (slice_get c.sites k) 0
+pub own_tables : (t : Tables) → AreTablesOf (program_of t) (names_of t) (first_site_of t) t
+unfolding AreTablesOf
+own_tables t = refl
 
--- the last function
-abbrev pub main_of : CheckedProgram → ℕ
-main_of c = length c.functions - 1
+abbrev pub checked_of : Tables → CheckedProgram
+checked_of t = record { program = program_of t; names = names_of t; first_site = first_site_of t; tables = t; stored = own_tables t }
 
-unfoldable pub program_of : CheckedProgram → Program
-program_of c = record {
-  functions = length c.functions;
-  sites = length c.sites;
-  main = main_of c;
-  unit = of_function (λ f. f.unit) 0 c;
-  body = of_function (λ f. shown_term f.body) (plain.Const no_word) c;
-  params = of_function (λ f. map (λ p. p.width) f.params.items) [] c;
-  result = of_function (λ f. f.width) 0 c;
-  caller = of_site (λ s. s.caller) 0 c;
-  callee = of_site (λ s. s.callee) (main_of c) c;
-}
+pub tables_again : (c : CheckedProgram) → checked_of c.tables ≡ c
+unfolding AreTablesOf own_tables
+tables_again c =
+    path_j (λ (q : Program × Names × (ℕ → ℕ)) (e : ◌≡◌ {A = Program × Names × (ℕ → ℕ)} (program_of c.tables, names_of c.tables, first_site_of c.tables) q).
+    checked_of c.tables ≡ record { program = q.0; names = q.1; first_site = q.2; tables = c.tables; stored = e }) refl c.stored
 
--- the bytes of the names
-unfoldable pub name_of : CheckedProgram → ℕ → List ℕ
-name_of = of_function (λ f. string_bytes f.name) []
+-- a checked program is known by its tables
+abbrev pub checked_code : Coded Tables → Coded CheckedProgram
+checked_code code = code_by Tables code (λ c. c.tables) checked_of tables_again
 
-unfoldable pub param_names : CheckedProgram → ℕ → List (List ℕ)
-param_names = of_function (λ f. map (λ p. string_bytes p.name) f.params.items) []
-
--- the number of the first site of a function and of those that follow it
-unfoldable pub first_site_of : CheckedProgram → ℕ → ℕ
-first_site_of c = of_function (λ f. f.first_site) (suc (length c.sites)) c
+-- ---- what is checked
 
 -- the bounds of what a circuit is made of
 abbrev pub functions_max : ℕ
@@ -68,41 +58,36 @@ sites_max = 4000
 abbrev pub nodes_max : ℕ
 nodes_max = 50000
 
-pub record IsWithinLimits (c : CheckedProgram) : Type 0 where
-  pub functions : (program_of c).functions ≤ functions_max
-  pub params : (f : ℕ) → arity (program_of c) f ≤ params_max
-  pub sites : (program_of c).sites ≤ sites_max
-  pub nodes : sum_by (λ f. nodes (shown_term f.body)) c.functions ≤ nodes_max
-  pub bindings : (f : ℕ) → HasShortLets ((program_of c).body f)
+pub record IsWithinLimits (C : Program) : Type 0 where
+  pub functions : C.functions ≤ functions_max
+  pub params : (f : ℕ) → arity C f ≤ params_max
+  pub sites : C.sites ≤ sites_max
+  pub nodes : body_nodes C C.functions ≤ nodes_max
+  pub bindings : (f : ℕ) → HasShortLets (C.body f)
   -- what recurses on a body has a stack that is large enough
-  pub depth : (f : ℕ) → depth ((program_of c).body f) ≤ max_depth
+  pub depth : (f : ℕ) → depth (C.body f) ≤ max_depth
 
 -- each name is one of the language, no two functions have one name, and no two parameters of a function
 pub record AreNamed (c : CheckedProgram) : Type 0 where
-  pub of_functions : (f : ℕ) → f < (program_of c).functions → IsName (name_of c f)
-  pub of_main : name_of c (program_of c).main ≡ codes "main"
-  pub of_functions_differ : (f g : ℕ) → f < (program_of c).functions → g < (program_of c).functions → name_of c f ≡ name_of c g → f ≡ g
-  pub of_params : (f i : ℕ) (name : List ℕ) → slice_get (param_names c f) i ≡ Some name → IsName name
-  pub of_params_differ : (f i j : ℕ) (name : List ℕ) → slice_get (param_names c f) i ≡ Some name → slice_get (param_names c f) j ≡ Some name → i ≡ j
+  pub of_functions : (f : ℕ) → f < c.program.functions → IsName (c.name f)
+  pub of_main : c.name c.program.main ≡ codes "main"
+  pub of_functions_differ : (f g : ℕ) → f < c.program.functions → g < c.program.functions → c.name f ≡ c.name g → f ≡ g
+  pub of_params : (f i : ℕ) (name : List ℕ) → slice_get (c.param_names f) i ≡ Some name → IsName name
+  pub of_params_differ : (f i j : ℕ) (name : List ℕ) → slice_get (c.param_names f) i ≡ Some name → slice_get (c.param_names f) j ≡ Some name → i ≡ j
 
 -- each width of a result and of a parameter is one that a word has
 pub record HasWordWidths (C : Program) : Type 0 where
   pub results : (f : ℕ) → f < C.functions → (1 ≤ C.result f) × (C.result f ≤ max_width)
   pub params : (f i w : ℕ) → slice_get (C.params f) i ≡ Some w → (1 ≤ w) × (w ≤ max_width)
 
--- a body's lets name their slots; the parameters come first
-abbrev pub BodyHasSlots : Function → Type 0
-BodyHasSlots f = HasSlots (length f.params.items) f.body
-
 -- the program is well formed, within limits, and in the order of the text
 pub record IsChecked (c : CheckedProgram) : Type 0 where
-  pub formed : IsWellFormed (program_of c)
-  pub widths : HasWordWidths (program_of c)
-  pub limits : IsWithinLimits c
+  pub formed : IsWellFormed c.program
+  pub widths : HasWordWidths c.program
+  pub limits : IsWithinLimits c.program
   -- the members of a group follow each other
-  pub groups : (f g : ℕ) → g < (program_of c).functions → (program_of c).unit g ≤ f → f ≤ g → (program_of c).unit f ≡ (program_of c).unit g
+  pub groups : (f g : ℕ) → g < c.program.functions → c.program.unit g ≤ f → f ≤ g → c.program.unit f ≡ c.program.unit g
   -- the sites of a body follow those of the bodies before it, and all sites stand in bodies
-  pub first_site : first_site_of c 0 ≡ 1
-  pub own_sites : (f : ℕ) → f < (program_of c).functions → Spans (program_of c) f true (first_site_of c f) (first_site_of c (suc f)) ((program_of c).body f)
+  pub first_site : c.first_site 0 ≡ 1
+  pub own_sites : (f : ℕ) → f < c.program.functions → Spans c.program f true (c.first_site f) (c.first_site (suc f)) (c.program.body f)
   pub names : AreNamed c
-  pub slots : All BodyHasSlots c.functions

@@ -2,6 +2,7 @@ pub mod Terms
 pub mod Tree
 pub mod Slots
 pub mod Program
+pub mod Names
 pub mod Readiness
 pub mod Meaning
 pub mod Fuel
@@ -9,5 +10,6 @@ pub mod Standing
 pub mod WellFormed
 pub mod Laws
 pub mod Sizes
+pub mod Tables
 pub mod Checked
 pub mod Weights

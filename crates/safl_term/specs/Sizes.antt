@@ -1,5 +1,6 @@
 -- How many nodes a term has, how deep it is, and how many bindings its lets have.
-use Rattle.std.specs.Prelude.{ℕ, suc, ◌+◌, ◌≤◌, max}
+use Rattle.std.specs.Prelude.{ℕ, zero, suc, ◌+◌, ◌≤◌, max}
+use Rattle.safl_term.specs.Program.{Program}
 use Rattle.safl_term.specs.Slots.{count}
 use Rattle.safl_term.specs.Terms.{Term, Terms, Const, Var, Op, If, Let, Call, Loop, Nil, Cons}
 
@@ -16,6 +17,11 @@ abbrev mutual
   pub nodes_in : Terms → ℕ
   nodes_in Nil = 0
   nodes_in (Cons t ts) = nodes t + nodes_in ts
+
+-- the nodes of the bodies before a function's
+unfoldable pub body_nodes : Program → ℕ → ℕ
+body_nodes C zero = 0
+body_nodes C (suc f) = body_nodes C f + nodes (C.body f)
 
 -- how deep a checked body is at most, and how many bindings a let has at most
 abbrev pub max_depth : ℕ

@@ -38,39 +38,44 @@ pub struct Checked {
 }
 
 impl Model for Checked {
-    ghost use Rattle.safl_term.specs.Checked.{CheckedProgram, IsChecked};
+    ghost use Rattle.safl_term.specs.Checked.{CheckedProgram, IsChecked, checked_of, checked_code};
+    ghost use Rattle.safl_term.specs.Tables.{BodyHasSlots};
     ghost use Rattle.safl_term.specs.contracts.term.Term as term;
     ghost use Rattle.std.specs.Coded.{codes};
+    ghost use Rattle.std.specs.List.{All};
 
     ghost Value = { CheckedProgram };
 
-    ghost coded = { Prim.hlevel (codes, term.the_row.coded) };
+    ghost coded = { checked_code (Prim.hlevel (codes, term.the_row.coded)) };
 
-    ghost view = { λ c. record { functions = c.functions.items; sites = c.sites.items } };
+    ghost view = { λ c. checked_of (record { functions = c.functions.items; sites = c.sites.items }) };
 
-    ghost invariant = { λ c. IsChecked (record { functions = c.functions.items; sites = c.sites.items }) };
+    ghost invariant = { λ c. IsChecked (checked_of (record { functions = c.functions.items; sites = c.sites.items })) × All BodyHasSlots c.functions.items };
 }
 
-#[tactic(auto, using(std::proofs::lemmas::Option::slice_get_read), unfolding(crate::specs::Checked::program_of, crate::specs::Checked::name_of, crate::specs::Checked::param_names, crate::specs::Checked::first_site_of))]
+#[tactic(auto, using(std::proofs::lemmas::Option::slice_get_read), unfolding(crate::specs::Tables::program_of, crate::specs::Tables::name_of, crate::specs::Tables::param_names, crate::specs::Tables::first_site_of))]
 impl Checked {
     ghost use Rattle.std.specs.Prelude.{◌≡◌, ◌+◌, ◌<◌, ◌≤◌, suc, slice_get, Some};
-    ghost use Rattle.safl_term.specs.Checked.{IsChecked, program_of, name_of, param_names, first_site_of, functions_max, params_max, sites_max};
+    ghost use Rattle.std.specs.List.{All};
+    ghost use Rattle.safl_term.specs.Checked.{IsChecked, checked_of, functions_max, params_max, sites_max};
     ghost use Rattle.safl_term.specs.Program.{arity, unit_for};
-    ghost use Rattle.safl_word.specs.Words.{max_width};
     ghost use Rattle.safl_term.specs.Slots.{HasSlots};
+    ghost use Rattle.safl_term.specs.Tables.{BodyHasSlots};
     ghost use Rattle.safl_term.specs.Tree.{shown_term};
+    ghost use Rattle.safl_word.specs.Words.{max_width};
 
     /// The program of these functions and sites, which are in order.
     pub fn new(functions: Vec<Function>, sites: Vec<Site>) -> Checked
-        requires { IsChecked (record { functions = functions.items; sites = sites.items }) }
-        ensures { result ≡ record { functions = functions.items; sites = sites.items } }
+        requires checked { IsChecked (checked_of (record { functions = functions.items; sites = sites.items })) }
+        requires slots { All BodyHasSlots functions.items }
+        ensures { result ≡ checked_of (record { functions = functions.items; sites = sites.items }) }
     {
         Checked { functions, sites }
     }
 
     /// The number of functions.
     pub fn functions(&self) -> u32
-        ensures count { result ≡ (program_of self.now).functions }
+        ensures count { result ≡ self.now.program.functions }
         ensures least { 1 ≤ result }
         ensures most { result ≤ functions_max }
         ensures checked { IsChecked self.now }
@@ -80,7 +85,7 @@ impl Checked {
 
     /// The number of call sites.
     pub fn sites(&self) -> u32
-        ensures count { result ≡ (program_of self.now).sites }
+        ensures count { result ≡ self.now.program.sites }
         ensures most { result ≤ sites_max }
         ensures checked { IsChecked self.now }
     {
@@ -88,25 +93,26 @@ impl Checked {
     }
 
     /// The number of main, the last function.
+    #[tactic(auto, using(crate::proofs::HeldByChecked::main_is_last))]
     pub fn main(&self) -> u32
-        ensures number { result ≡ (program_of self.now).main }
-        ensures within { result < (program_of self.now).functions }
+        ensures number { result ≡ self.now.program.main }
+        ensures within { result < self.now.program.functions }
     {
         self.functions() - 1
     }
 
     /// The name of a function.
     pub fn name(&self, f: u32) -> &[u8]
-        requires { f < (program_of self.now).functions }
-        ensures { result.now ≡ name_of self.now f }
+        requires { f < self.now.program.functions }
+        ensures { result.now ≡ self.now.name f }
     {
         self.functions[f as usize].name.as_bytes()
     }
 
     /// The number of a function's parameters.
     pub fn params(&self, f: u32) -> u32
-        requires { f < (program_of self.now).functions }
-        ensures count { result ≡ arity (program_of self.now) f }
+        requires { f < self.now.program.functions }
+        ensures count { result ≡ arity self.now.program f }
         ensures most { result ≤ params_max }
     {
         self.functions[f as usize].params.len() as u32
@@ -114,9 +120,9 @@ impl Checked {
 
     /// The name of a parameter.
     pub fn param_name(&self, f: u32, i: u32) -> &[u8]
-        requires function { f < (program_of self.now).functions }
-        requires param { i < arity (program_of self.now) f }
-        ensures { slice_get (param_names self.now f) i ≡ Some result.now }
+        requires function { f < self.now.program.functions }
+        requires param { i < arity self.now.program f }
+        ensures { slice_get (self.now.param_names f) i ≡ Some result.now }
     {
         self.functions[f as usize].params[i as usize]
             .name
@@ -125,9 +131,9 @@ impl Checked {
 
     /// The width of a parameter, in bits.
     pub fn param_width(&self, f: u32, i: u32) -> u8
-        requires function { f < (program_of self.now).functions }
-        requires param { i < arity (program_of self.now) f }
-        ensures width { slice_get ((program_of self.now).params f) i ≡ Some result }
+        requires function { f < self.now.program.functions }
+        requires param { i < arity self.now.program f }
+        ensures width { slice_get (self.now.program.params f) i ≡ Some result }
         ensures least { 1 ≤ result }
         ensures most { result ≤ max_width }
     {
@@ -136,8 +142,8 @@ impl Checked {
 
     /// The width of a function's result, in bits.
     pub fn width(&self, f: u32) -> u8
-        requires { f < (program_of self.now).functions }
-        ensures width { result ≡ (program_of self.now).result f }
+        requires { f < self.now.program.functions }
+        ensures width { result ≡ self.now.program.result f }
         ensures least { 1 ≤ result }
         ensures most { result ≤ max_width }
     {
@@ -146,19 +152,19 @@ impl Checked {
 
     /// The number of the first member of a function's group. It has the width of all members.
     pub fn unit(&self, f: u32) -> u32
-        requires { f < (program_of self.now).functions }
-        ensures number { result ≡ (program_of self.now).unit f }
+        requires { f < self.now.program.functions }
+        ensures number { result ≡ self.now.program.unit f }
         ensures within { result ≤ f }
-        ensures width { (program_of self.now).result result ≡ (program_of self.now).result f }
+        ensures width { self.now.program.result result ≡ self.now.program.result f }
     {
         self.functions[f as usize].unit
     }
 
     /// The body of a function.
     pub fn body(&self, f: u32) -> &Term
-        requires { f < (program_of self.now).functions }
-        ensures term { shown_term result.now ≡ (program_of self.now).body f }
-        ensures slots { HasSlots (arity (program_of self.now) f) result.now }
+        requires { f < self.now.program.functions }
+        ensures term { shown_term result.now ≡ self.now.program.body f }
+        ensures slots { HasSlots (arity self.now.program f) result.now }
         ensures checked { IsChecked self.now }
     {
         &self.functions[f as usize].body
@@ -166,8 +172,8 @@ impl Checked {
 
     /// The number of the first site in a function's body, and in the bodies that follow it.
     pub fn first_site(&self, f: u32) -> u32
-        requires { f < (program_of self.now).functions }
-        ensures { result ≡ first_site_of self.now f }
+        requires { f < self.now.program.functions }
+        ensures { result ≡ self.now.first_site f }
     {
         self.functions[f as usize].first_site
     }
@@ -175,16 +181,16 @@ impl Checked {
     /// The number of sites in a function's body.
     #[tactic(auto, using(crate::proofs::HeldByChecked::first_site_rises))]
     pub fn own_sites(&self, f: u32) -> u32
-        requires { f < (program_of self.now).functions }
-        ensures { first_site_of self.now f + result ≡ first_site_of self.now (suc f) }
+        requires { f < self.now.program.functions }
+        ensures { self.now.first_site f + result ≡ self.now.first_site (suc f) }
     {
         self.next_site(f) - self.first_site(f)
     }
 
     // The number of the first site after a function's body.
     fn next_site(&self, f: u32) -> u32
-        requires { f < (program_of self.now).functions }
-        ensures number { result ≡ first_site_of self.now (suc f) }
+        requires { f < self.now.program.functions }
+        ensures number { result ≡ self.now.first_site (suc f) }
         ensures checked { IsChecked self.now }
     {
         match self.functions.get(f as usize + 1) {
@@ -196,18 +202,18 @@ impl Checked {
     /// The function in whose body a site stands.
     pub fn caller(&self, k: u32) -> u32
         requires least { 1 ≤ k }
-        requires most { k ≤ (program_of self.now).sites }
-        ensures number { result ≡ (program_of self.now).caller k }
-        ensures within { result < (program_of self.now).functions }
+        requires most { k ≤ self.now.program.sites }
+        ensures number { result ≡ self.now.program.caller k }
+        ensures within { result < self.now.program.functions }
     {
         self.sites[k as usize - 1].caller
     }
 
     /// The function that a site calls; site 0 is the call of main from outside.
     pub fn callee(&self, k: u32) -> u32
-        requires { k ≤ (program_of self.now).sites }
-        ensures number { result ≡ (program_of self.now).callee k }
-        ensures within { result < (program_of self.now).functions }
+        requires { k ≤ self.now.program.sites }
+        ensures number { result ≡ self.now.program.callee k }
+        ensures within { result < self.now.program.functions }
     {
         if k == 0 {
             return self.main();
@@ -217,9 +223,9 @@ impl Checked {
 
     /// The unit that serves a site.
     pub fn unit_for(&self, k: u32) -> u32
-        requires { k ≤ (program_of self.now).sites }
-        ensures number { result ≡ unit_for (program_of self.now) k }
-        ensures within { result < (program_of self.now).functions }
+        requires { k ≤ self.now.program.sites }
+        ensures number { result ≡ unit_for self.now.program k }
+        ensures within { result < self.now.program.functions }
     {
         self.unit(self.callee(k))
     }

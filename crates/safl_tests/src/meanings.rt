@@ -1,7 +1,6 @@
 //! What main comes to by the meaning of programs, and how many calls that takes.
 
 ghost use Rattle.std.specs.Prelude.{◌≡◌, IfOk};
-ghost use Rattle.safl_term.specs.Checked.{program_of};
 ghost use Rattle.safl_interpreter.specs.Interpreting.{widths};
 
 use safl_compiler::accept;
@@ -19,7 +18,7 @@ fun main(a:8, b:8):8 = mul(a, b, 0)";
 
 // Main's arguments: these numbers, in the widths of its parameters.
 fn words_of(alloc: Global, c: &Checked, numbers: &[Raw]) -> Result<Vec<Word>, AllocError>
-    ensures { IfOk result (λ words. widths words.items ≡ (program_of c.now).params (program_of c.now).main) }
+    ensures { IfOk result (λ words. widths words.items ≡ c.now.program.params c.now.program.main) }
 {
     let main = c.functions() - 1;
     let mut words = Vec::new(alloc);

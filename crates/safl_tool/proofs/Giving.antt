@@ -10,7 +10,7 @@ use Rattle.safl_net.specs.Rules.{IsNetlist}
 use Rattle.safl_net.specs.Whole.{IsWhole}
 use Rattle.safl_net.specs.Arranged.{IsInOrder}
 use Rattle.safl_term.specs.Program.{Program}
-use Rattle.safl_circuit.specs.Names.{Names}
+use Rattle.safl_term.specs.Names.{Names}
 use Rattle.safl_compiler.specs.Sources.{IsSourceOf}
 use Rattle.safl_compiler.specs.Circuits.{IsCircuitOf}
 use Rattle.safl_sim.specs.declared.done.Done.{Done}

@@ -2,8 +2,7 @@
 use Rattle.std.proofs.Common.{◌≡◌, ℕ, zero, suc, List, [], ◌∷◌, length, Option, Some, None, true, slice_get, refl, sym, ap, subst, ◌∙◌, arith, inl, inr, codes}
 use Rattle.safl_word.specs.Words.{Word}
 use Rattle.safl_term.specs.Program.{Program}
-use Rattle.safl_term.specs.Checked.{program_of}
-use Rattle.safl_circuit.specs.Names.{Names, names_of}
+use Rattle.safl_term.specs.Names.{Names}
 use Rattle.safl_term.specs.Meaning.{Main}
 use Rattle.safl_net.specs.Netlist.{Netlist}
 use Rattle.safl_net.specs.Valuations.{IsAcyclic}
@@ -34,8 +33,8 @@ use Rattle.safl_tool.specs.Calling.{GivesReplies, EvaluatesEach}
 use Rattle.safl_session.specs.Circuits.{CircuitsReply, ResetIsQuiet}
 use Rattle.safl_session.specs.Laws as sessions
 use Rattle.safl_tree.specs.Laws.{OneProgram as OneTree}
-use Rattle.safl_check.specs.Numbered.{program_in}
-use Rattle.safl_compiler.specs.Sources.{names_in, IsSourceOf}
+use Rattle.safl_check.specs.Numbered.{program_in, names_in}
+use Rattle.safl_compiler.specs.Sources.{IsSourceOf}
 use Rattle.safl_tool.specs.Reshaping.{Reshaping, copies, unfolds, IsReshapable, GivesReshaped}
 use Rattle.safl_tool.proofs.Reshaped.{IsOnce, copying_once, unfolding_once, reshapable_not_refused}
 use Rattle.safl_tool.specs.Reporting.{GivesReport, Measures, made_source, made_args}
@@ -219,8 +218,8 @@ run_comes one args limit g text f (Some d, r, is) = ap (λ (x : Given). x.comes)
 -- the run that was measured
 measured_run : (source : List ℕ) (args : List (List ℕ)) (limit : ℕ) (head : List ℕ) (answer : Option Done) → Measures source args limit head answer → Simulates source args limit answer
 measured_run source args limit head answer m = record {
-  program = program_of m.program;
-  names = names_of m.program;
+  program = m.checked.program;
+  names = m.checked.names;
   net = m.net;
   words = m.words;
   source_of = m.source_of;

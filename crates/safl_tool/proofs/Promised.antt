@@ -1,5 +1,6 @@
 -- What commands come to at status Ok, from how a call ends.
 use Rattle.std.proofs.Common.{◌≡◌, ◌∙◌, ℕ, List, [], ◌∷◌, ◌++◌, length, Bool, true, false, Option, Some, None, bytes_eq, if◌then◌else◌, refl, sym, ap, subst, inl, inr, codes}
+use Rattle.safl_term.specs.Names.{Names}
 use Rattle.std.specs.Prelude.{IsSomeAnd}
 use Rattle.std.specs.Option.{option_or}
 use Rattle.std.proofs.lemmas.Bool.{eqb-true}
@@ -14,7 +15,7 @@ use Rattle.safl_net.specs.Written.{written}
 use Rattle.safl_sim.specs.declared.done.Done.{Done as Reply}
 use Rattle.safl_opt.specs.Lean.{Lean}
 use Rattle.safl_term.specs.Program.{Program}
-use Rattle.safl_circuit.specs.Names.{Names, as_word}
+use Rattle.safl_circuit.specs.Names.{as_word}
 use Rattle.safl_session.specs.Circuits.{Serves}
 use Rattle.safl_session.specs.Transcripts.{reply_lines, calls_line, late_line, are_all}
 use Rattle.safl_command.specs.Arranged.{GivenOption, IsUnhyphened, Arranged, ends, then_word, then_option}

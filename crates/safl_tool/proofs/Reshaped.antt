@@ -7,14 +7,14 @@ use Rattle.safl_tree.specs.Printable.{IsPrintable, AllKeepLevels}
 use Rattle.safl_tree.specs.Laws.{OneProgram as OneTree}
 use Rattle.safl_term.specs.Program.{Program}
 use Rattle.safl_typing.specs.Forms.{Form, IsFormOf}
-use Rattle.safl_check.specs.Numbered.{program_in}
+use Rattle.safl_check.specs.Numbered.{program_in, names_in}
 use Rattle.safl_reshape.specs.declared.error.ReshapeErr.{ReshapeErr}
 use Rattle.safl_reshape.specs.declared.error.ReshapeErr.TheVariants as errors
 use Rattle.safl_reshape.specs.Laws.{PrintedKeepsForm}
 use Rattle.safl_reshape.specs.Limits.{KeepsLimits}
 use Rattle.safl_reshape.specs.Reshaped.{copied, unfolded, is_recursive}
 use Rattle.safl_reshape.specs.Refusals.{CopyRefused, UnfoldingRefused, RefusesCopy, RefusesUnfolding, MayCopy, MayUnfold, PassesLimit, is_grouped, is_taken, name_for}
-use Rattle.safl_compiler.specs.Sources.{names_in, HasForm, HasFewSites}
+use Rattle.safl_compiler.specs.Sources.{HasForm, HasFewSites}
 use Rattle.safl_tool.specs.CommandTasks.{RefusesSourceOf, RefusesReshaping}
 use Rattle.safl_task.specs.Limits.{source_max}
 use Rattle.safl_tool.specs.Refusals.{RefusesBy}

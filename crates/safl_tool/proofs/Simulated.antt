@@ -1,5 +1,6 @@
 -- What a run of a compiled source says.
 use Rattle.std.proofs.Common.{◌≡◌, ℕ, List, [], ◌∷◌, map, Option, Some, None, false, refl, sym, ap, subst, ◌∙◌, inl, inr, codes}
+use Rattle.safl_term.specs.Names.{Names}
 use Rattle.safl_word.specs.Words.{Word}
 use Rattle.safl_net.specs.Netlist.{Netlist, output_place}
 use Rattle.safl_net.specs.Valuations.{Valuation, number_at, read_output}
@@ -8,8 +9,8 @@ use Rattle.safl_net.specs.Arguments.{argument_widths, AreArguments}
 use Rattle.safl_sim.specs.Outcomes.{IsDone, IsOutcome, word_at}
 use Rattle.safl_term.specs.Program.{Program}
 use Rattle.safl_term.specs.WellFormed.{AreWordsOf}
-use Rattle.safl_term.specs.Checked.{CheckedProgram, program_of}
-use Rattle.safl_circuit.specs.Names.{Names, names_of, as_word}
+use Rattle.safl_term.specs.Checked.{CheckedProgram}
+use Rattle.safl_circuit.specs.Names.{as_word}
 use Rattle.safl_circuit.specs.Correct.{Correct, IsResult}
 use Rattle.safl_compiler.specs.Sources.{IsSourceOf}
 use Rattle.safl_compiler.specs.Circuits.{IsCircuitOf}
@@ -93,14 +94,14 @@ module _ (source : List ℕ) (n : Netlist) (c : IsCompiled source n) (args : Lis
       }
 
 -- what a run of the circuit of a planned program says, after its head
-pub measures : (source : List ℕ) (p : CheckedProgram) (n : Netlist) → IsSourceOf source (program_of p) (names_of p) → IsCircuitOf (program_of p) (names_of p) n
-    → argument_widths n.signals ≡ (program_of p).params (program_of p).main → (args : List (List ℕ)) (limit : ℕ) (answer : Option Done) → Gives n args limit answer
+pub measures : (source : List ℕ) (p : CheckedProgram) (n : Netlist) → IsSourceOf source p.program p.names → IsCircuitOf p.program p.names n
+    → argument_widths n.signals ≡ p.program.params p.program.main → (args : List (List ℕ)) (limit : ℕ) (answer : Option Done) → Gives n args limit answer
     → (head : List ℕ) → HasHead p n head → Measures source args limit head answer
 measures source p n of circuit params args limit answer g head begins =
-    let C = program_of p in
+    let C = p.program in
     let read : AreRead (C.params C.main) args g.words = subst (λ l. AreRead l args g.words) params g.read in
     record {
-      program = p;
+      checked = p;
       net = n;
       words = g.words;
       source_of = of;
@@ -108,7 +109,7 @@ measures source p n of circuit params args limit answer g head begins =
       begins = begins;
       read = read;
       outcome = g.outcome;
-      value = has_value C (names_of p) n circuit.circuit.correct g.words (read_words (C.params C.main) args g.words read) limit answer g.outcome;
+      value = has_value C p.names n circuit.circuit.correct g.words (read_words (C.params C.main) args g.words read) limit answer g.outcome;
     }
 
 -- what refuses the arguments of a program refuses the source with them

@@ -13,7 +13,7 @@ use Rattle.safl_vwrite.specs.Torn.{IsTornOrWhole}
 use Rattle.safl_term.specs.Program.{Program}
 use Rattle.safl_sim.specs.declared.done.Done.{Done}
 use Rattle.safl_core.specs.declared.walking.Walked.{Walked}
-use Rattle.safl_circuit.specs.Names.{Names}
+use Rattle.safl_term.specs.Names.{Names}
 use Rattle.safl_compiler.specs.Sources.{IsSourceOf}
 use Rattle.safl_compiler.specs.Circuits.{IsCircuitOf}
 use Rattle.safl_tool.specs.Sources.{IsFaultLine, IsAccepted}

@@ -7,7 +7,7 @@ use Rattle.safl_io.specs.Told.{TellsOn}
 use Rattle.safl_net.specs.Netlist.{Netlist}
 use Rattle.safl_verilog.specs.Reads.{Reads}
 use Rattle.safl_term.specs.Program.{Program}
-use Rattle.safl_circuit.specs.Names.{Names}
+use Rattle.safl_term.specs.Names.{Names}
 use Rattle.safl_circuit.specs.Correct.{Correct}
 use Rattle.safl_compiler.specs.Sources.{IsSourceOf}
 use Rattle.safl_command.specs.Laws.{IsPlain}

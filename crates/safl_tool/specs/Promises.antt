@@ -10,7 +10,7 @@ use Rattle.safl_net.specs.Netlist.{Netlist}
 use Rattle.safl_sim.specs.declared.done.Done.{Done as Reply}
 use Rattle.safl_aig.specs.BitLevel.{IsTextOf}
 use Rattle.safl_term.specs.Program.{Program}
-use Rattle.safl_circuit.specs.Names.{Names}
+use Rattle.safl_term.specs.Names.{Names}
 use Rattle.safl_circuit.specs.Correct.{IsResult}
 use Rattle.safl_session.specs.Lines.{AreArguments}
 use Rattle.safl_session.specs.Scripts.{IsScript}

@@ -6,9 +6,8 @@ use Rattle.safl_gen.specs.Source as made
 use Rattle.safl_net.specs.Netlist.{Netlist}
 use Rattle.safl_sim.specs.declared.done.Done.{Done}
 use Rattle.safl_sim.specs.Outcomes.{IsOutcome}
-use Rattle.safl_term.specs.Checked.{CheckedProgram, program_of}
+use Rattle.safl_term.specs.Checked.{CheckedProgram}
 use Rattle.safl_report.specs.Report.{IsReport, IsSummary}
-use Rattle.safl_circuit.specs.Names.{names_of}
 use Rattle.safl_compiler.specs.Sources.{IsSourceOf}
 use Rattle.safl_compiler.specs.Circuits.{IsCircuitOf}
 use Rattle.safl_session.specs.Lines.{AreArguments}
@@ -19,15 +18,15 @@ use Rattle.safl_task.specs.Tasks.{Given, only_prints}
 -- the text is the report of a program and of a netlist that is its circuit
 pub record Reports (c : CheckedProgram) (text : List ℕ) : Type 0 where
   pub net : Netlist
-  pub circuit : IsCircuitOf (program_of c) (names_of c) net
+  pub circuit : IsCircuitOf c.program c.names net
   pub report : IsReport c net text
 
 -- what `report` gives of a source
 pub record GivesReport (source : List ℕ) (g : Given) : Type 0 where
-  pub program : CheckedProgram
-  pub source_of : IsSourceOf source (program_of program) (names_of program)
+  pub checked : CheckedProgram
+  pub source_of : IsSourceOf source checked.program checked.names
   pub text : List ℕ
-  pub reports : Reports program text
+  pub reports : Reports checked text
   pub is : g ≡ only_prints true text
 
 -- ---- sources that are made from numbers
@@ -44,17 +43,17 @@ made_args seed count = decimal (seed % 65536) ∷ decimal count ∷ []
 pub record HasHead (c : CheckedProgram) (n : Netlist) (head : List ℕ) : Type 0 where
   pub summary : List ℕ
   pub is_summary : IsSummary c n summary
-  pub is : head ≡ program_lines (program_of c).functions (program_of c).sites ++ summary
+  pub is : head ≡ program_lines c.program.functions c.program.sites ++ summary
 
 -- Of a source: the numbers of its program and the summary of its plan, and then what the run of its circuit with these arguments
 -- shows, in which all inputs are 0 after cycle 0
 pub record Measures (source : List ℕ) (args : List (List ℕ)) (limit : ℕ) (head : List ℕ) (answer : Option Done) : Type 0 where
-  pub program : CheckedProgram
+  pub checked : CheckedProgram
   pub net : Netlist
   pub words : List Word
-  pub source_of : IsSourceOf source (program_of program) (names_of program)
-  pub circuit : IsCircuitOf (program_of program) (names_of program) net
-  pub begins : HasHead program net head
-  pub read : AreArguments ((program_of program).params (program_of program).main) args words
+  pub source_of : IsSourceOf source checked.program checked.names
+  pub circuit : IsCircuitOf checked.program checked.names net
+  pub begins : HasHead checked net head
+  pub read : AreArguments (checked.program.params checked.program.main) args words
   pub outcome : IsOutcome net words limit answer
-  pub value : HasValue (program_of program) words answer
+  pub value : HasValue checked.program words answer

@@ -4,7 +4,7 @@ use Rattle.safl_tree.specs.Tree.{Definition}
 use Rattle.safl_tree.specs.Source.{SpellsProgram}
 use Rattle.safl_tree.specs.Printed.{printed}
 use Rattle.safl_term.specs.Program.{Program}
-use Rattle.safl_circuit.specs.Names.{Names}
+use Rattle.safl_term.specs.Names.{Names}
 use Rattle.safl_reshape.specs.declared.error.ReshapeErr.{ReshapeErr}
 use Rattle.safl_reshape.specs.declared.error.ReshapeErr.TheVariants as errors
 use Rattle.safl_reshape.specs.Laws.{IsAlike, Spares}

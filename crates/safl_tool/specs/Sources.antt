@@ -7,7 +7,7 @@ use Rattle.safl_net.specs.Whole.{IsWhole}
 use Rattle.safl_net.specs.Arranged.{IsInOrder}
 use Rattle.safl_net.specs.Arguments.{argument_widths}
 use Rattle.safl_term.specs.Program.{Program}
-use Rattle.safl_circuit.specs.Names.{Names}
+use Rattle.safl_term.specs.Names.{Names}
 use Rattle.safl_compiler.specs.Sources.{IsSourceOf, HasFirstFault}
 use Rattle.safl_compiler.specs.Circuits.{IsCircuitOf}
 use Rattle.safl_tool.specs.Lines.{source_line}

@@ -7,7 +7,7 @@ use Rattle.safl_term.specs.Readiness.{back_word}
 use Rattle.safl_calls.specs.Machine.{State, opening}
 use Rattle.safl_core.specs.Walking as turns
 use Rattle.safl_core.specs.declared.walking.Walked.{Walked}
-use Rattle.safl_circuit.specs.Names.{Names}
+use Rattle.safl_term.specs.Names.{Names}
 use Rattle.safl_compiler.specs.Sources.{IsSourceOf}
 use Rattle.safl_session.specs.Lines.{AreArguments}
 

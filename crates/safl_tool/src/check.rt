@@ -1,7 +1,6 @@
 //! What `check IN` prints: the numbers of a source's program.
 
 ghost use Rattle.std.specs.Prelude.{◌≡◌, ◌≤◌, ◌++◌, OnOk, IfOk, IfErr, length};
-ghost use Rattle.safl_term.specs.Checked.{program_of};
 ghost use Rattle.safl_tool.specs.Answers.{printed};
 ghost use Rattle.safl_tool.specs.CommandTasks.{GivesNumbers, RefusesSourceOf};
 ghost use Rattle.safl_task.specs.Limits.{source_max};
@@ -32,7 +31,7 @@ pub fn check_lines<'a>(alloc: Global, name: &'a str, source: &[u8]) -> Result<Li
 }
 
 fn text_of(alloc: Global, checked: &Checked) -> Result<Vec<u8>, NoMemory>
-    ensures { IfOk result (λ text. text.items ≡ program_lines (program_of checked.now).functions (program_of checked.now).sites) }
+    ensures { IfOk result (λ text. text.items ≡ program_lines checked.now.program.functions checked.now.program.sites) }
 {
     let mut text = Vec::new(alloc);
     push_program(&mut text, checked.functions(), checked.sites())?;

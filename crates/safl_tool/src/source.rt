@@ -1,12 +1,10 @@
 //! From a source to its program and its circuit.
 
 ghost use Rattle.std.specs.Prelude.{◌≡◌, ◌≤◌, length, IfOk, IfErr};
-ghost use Rattle.safl_circuit.specs.Names.{names_of};
 ghost use Rattle.safl_compiler.specs.Sources.{HasFewSites, IsSourceOf};
 ghost use Rattle.safl_tree.specs.Printable.{IsPrintable};
 ghost use Rattle.safl_tree.specs.Shown.{shown_program};
 ghost use Rattle.safl_tree.specs.Source.{SpellsProgram};
-ghost use Rattle.safl_term.specs.Checked.{program_of};
 ghost use Rattle.safl_typing.specs.Forms.{IsFormOf, shown};
 ghost use Rattle.safl_tool.specs.CommandTasks.{RefusesSourceOf};
 ghost use Rattle.safl_task.specs.Limits.{source_max};
@@ -26,7 +24,7 @@ use std::alloc::Global;
 /// The checked program of a source, or why the source in the file of this name is refused.
 pub fn check_source<'a>(alloc: Global, name: &'a str, source: &[u8]) -> Result<Checked, Refusal<'a>>
     requires { length source.now ≤ source_max }
-    ensures accepted { IfOk result (λ c. IsSourceOf source.now (program_of c) (names_of c)) }
+    ensures accepted { IfOk result (λ c. IsSourceOf source.now c.program c.names) }
     ensures refused { IfErr result (RefusesBy (RefusesSourceOf name.now source.now)) }
 {
     match accept(alloc, source) {
@@ -58,7 +56,7 @@ pub fn compile<'a>(alloc: Global, name: &'a str, source: &[u8]) -> Result<Net, R
 /// The planned program of a source, or why the source in the file of this name is refused.
 pub fn plan_source<'a>(alloc: Global, name: &'a str, source: &[u8]) -> Result<Planned, Refusal<'a>>
     requires { length source.now ≤ source_max }
-    ensures planned { IfOk result (λ p. IsSourceOf source.now (program_of p.program) (names_of p.program)) }
+    ensures planned { IfOk result (λ p. IsSourceOf source.now p.program p.names) }
     ensures refused { IfErr result (RefusesBy (RefusesSourceOf name.now source.now)) }
 {
     let checked = match check_source(alloc, name, source) {

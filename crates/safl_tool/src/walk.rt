@@ -1,7 +1,6 @@
 //! What `walk IN --order SEED --steps N [ARG..]` prints: what a walk of the call machine of a source gives.
 
 ghost use Rattle.std.specs.Prelude.{◌≡◌, ◌≤◌, ◌++◌, [], length, map, OnOk, IfOk, IfErr, string_bytes};
-ghost use Rattle.safl_term.specs.Checked.{program_of};
 ghost use Rattle.safl_tool.specs.Answers.{printed};
 ghost use Rattle.safl_tool.specs.CommandTasks.{end_of_walk, GivesWalk, RefusesGiven};
 ghost use Rattle.safl_task.specs.Limits.{source_max};
@@ -78,8 +77,8 @@ fn walk_with(
     seed: u64,
     steps: u32,
 ) -> Result<Walked, NoMemory>
-    requires { map (λ w. w.width) words.now ≡ (program_of checked.now).params (program_of checked.now).main }
-    ensures { IfOk result (WalksFrom (program_of checked.now) words.now seed steps) }
+    requires { map (λ w. w.width) words.now ≡ checked.now.program.params checked.now.program.main }
+    ensures { IfOk result (WalksFrom checked.now.program words.now seed steps) }
 {
     match Machine::new(alloc, checked, words) {
         Ok(mut machine) => Ok(walk(&mut machine, seed, u64::from(steps))),
@@ -90,7 +89,7 @@ fn walk_with(
 
 // The widths of main's parameters, in bits.
 fn main_widths(alloc: Global, checked: &Checked) -> Result<Vec<u8>, AllocError>
-    ensures { IfOk result (λ widths. widths.items ≡ (program_of checked.now).params (program_of checked.now).main) }
+    ensures { IfOk result (λ widths. widths.items ≡ checked.now.program.params checked.now.program.main) }
 {
     let main = checked.functions() - 1;
     let mut widths = Vec::new(alloc);

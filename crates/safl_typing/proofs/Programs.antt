@@ -4,7 +4,6 @@ use Rattle.std.specs.Prelude.{slice_get, codes}
 use Rattle.std.specs.Option.{option_map}
 use Rattle.std.specs.String.{string_bytes}
 use Rattle.std.proofs.lemmas.Option.{slice_get_cases, slice_get_within, slice_get-map}
-use Rattle.std.specs.List.{All}
 use Rattle.safl_word.specs.Words.{no_word, max_width}
 use Rattle.safl_word.specs.Tokens.{IsName}
 use Rattle.safl_term.specs.declared.checked.Function.{Function}
@@ -14,16 +13,18 @@ use Rattle.safl_term.specs.Program.{arity}
 use Rattle.safl_term.specs.Terms as plain
 use Rattle.safl_term.specs.Tree.{shown_term}
 use Rattle.safl_term.specs.WellFormed.{Spans, HasWidth, IsNumbered, IsWellFormed}
-use Rattle.safl_term.specs.Checked as checked
-use Rattle.safl_term.specs.Checked.{CheckedProgram, of_function, of_site, main_of, program_of, name_of, first_site_of, IsWithinLimits, AreNamed, HasWordWidths, BodyHasSlots, IsChecked}
+use Rattle.safl_term.specs.Checked.{CheckedProgram, IsWithinLimits, AreNamed, HasWordWidths, IsChecked, checked_of}
+use Rattle.safl_term.specs.Tables as tables
+use Rattle.safl_term.specs.Tables.{Tables, of_function, of_site, main_of, program_of, name_of, first_site_of}
 use Rattle.safl_term.specs.Sizes as sizes
 use Rattle.safl_term.specs.Sizes.{max_depth}
+use Rattle.safl_term.proofs.HeldByChecked.{each_checked, table_nodes}
 use Rattle.safl_tree.specs.Tree.{Definition, Parameter, depth}
 use Rattle.safl_tree.specs.Printable.{AreFormedParameters, IsFormedDefinition, AreFormedDefinitions, IsFormedProgram}
 use Rattle.safl_typing.specs.Rewriting.{rewritten}
 use Rattle.safl_typing.specs.Heads.{Slot, Head, params_of, head_of, heads}
 use Rattle.safl_typing.specs.Typing.{widths_of}
-use Rattle.safl_typing.specs.Forms.{shown_param, shown_function, shown, sites_of, all_sites, param_names, IsLast, function_names, AreShallow, IsFormOf}
+use Rattle.safl_typing.specs.Forms.{shown_param, shown_function, form_of, shown, sites_of, all_sites, param_names, IsLast, function_names, AreShallow, IsFormOf}
 use Rattle.safl_typing.proofs.Names.{some_is}
 use Rattle.safl_typing.specs.Ranges.{IsWide}
 use Rattle.safl_typing.proofs.Formed.{width_wide, heads_wide, params_wide}
@@ -34,10 +35,10 @@ use Rattle.safl_typing.proofs.Units.{Steps, unit_below, unit_monotone, unit_firs
 use Rattle.safl_typing.proofs.Placing.{AreShown, At, next_first, place_at, step_at, lengths_same, sites_length, nodes_same, heads_length, AllGood, good_at, has_good, all_good, noted_from}
 
 -- what a function that is there has, and what one has that is not
-field_of : {A : Type 0} (has : Function → A) (default : A) (c : CheckedProgram) (i : ℕ) (f : Function) → slice_get c.functions i ≡ Some f → of_function has default c i ≡ has f
+field_of : {A : Type 0} (has : Function → A) (default : A) (c : Tables) (i : ℕ) (f : Function) → slice_get c.functions i ≡ Some f → of_function has default c i ≡ has f
 field_of has default c i f e = rw e refl
 
-field_past : {A : Type 0} (has : Function → A) (default : A) (c : CheckedProgram) (i : ℕ) → slice_get c.functions i ≡ None → of_function has default c i ≡ default
+field_past : {A : Type 0} (has : Function → A) (default : A) (c : Tables) (i : ℕ) → slice_get c.functions i ≡ None → of_function has default c i ≡ default
 field_past has default c i e = rw e refl
 
 -- whether a function is there
@@ -95,20 +96,20 @@ some_last x (d ∷ ds) h = omega arith
 -- ---- the program of a form
 
 -- function i of the program, with its definition
-abbrev pub Here : CheckedProgram → List Definition → ℕ → Type 0
+abbrev pub Here : Tables → List Definition → ℕ → Type 0
 Here c ds i = At (program_of c) (heads ds) 0 0 1 (suc (length c.sites)) ds c.functions i
 
 -- what is known: the form, with its last site
-pub record IsBased (c : CheckedProgram) (ds : List Definition) : Type 0 where
+pub record IsBased (c : Tables) (ds : List Definition) : Type 0 where
   pub formed : AreFormedDefinitions ds
-  pub form : IsFormOf ds (shown c)
+  pub form : IsFormOf ds (form_of c)
   pub functions : AreShown (heads ds) 0 0 0 1 (suc (length c.sites)) ds c.functions
   pub last : form.last_site ≡ length c.sites
   pub count : length c.functions ≡ length ds
   pub some : 0 < length c.functions
   pub noted : Noted (program_of c) 1 (all_sites 0 (map shown_function c.functions))
 
-based : (ds : List Definition) (c : CheckedProgram) → IsFormedProgram ds → IsFormOf ds (shown c) → IsBased c ds
+based : (ds : List Definition) (c : Tables) → IsFormedProgram ds → IsFormOf ds (form_of c) → IsBased c ds
 unfolding program_of
 based ds c formed form =
     let l : suc form.last_site ≡ 1 + length (all_sites 0 (map shown_function c.functions)) = sites_length (heads ds) 0 0 0 1 (suc form.last_site) ds (map shown_function c.functions) form.functions in
@@ -126,22 +127,22 @@ based ds c formed form =
           (ap (of_site (λ (s : Site). s.caller) 0 c) r ∙ rw q refl, ap (of_site (λ (s : Site). s.callee) (main_of c) c) r ∙ rw q refl)));
     }
 
-here : (c : CheckedProgram) (ds : List Definition) (i : ℕ) → IsBased c ds → i < length c.functions → Here c ds i
+here : (c : Tables) (ds : List Definition) (i : ℕ) → IsBased c ds → i < length c.functions → Here c ds i
 here c ds i b h = place_at (program_of c) (heads ds) 0 0 0 1 (suc (length c.sites)) ds c.functions i h b.functions b.noted
 
 -- the fields of function i
-pub record HasFields (c : CheckedProgram) (ds : List Definition) (i : ℕ) (h : Here c ds i) : Type 0 where
+pub record HasFields (c : Tables) (ds : List Definition) (i : ℕ) (h : Here c ds i) : Type 0 where
   pub unit : (program_of c).unit i ≡ h.unit
   pub result : (program_of c).result i ≡ h.def.width
   pub params : (program_of c).params i ≡ widths_of (params_of h.def)
   pub body : (program_of c).body i ≡ shown_term h.function.body
   pub name : name_of c i ≡ h.def.name
-  pub param_names : checked.param_names c i ≡ param_names h.def
+  pub param_names : tables.param_names c i ≡ param_names h.def
   pub first : first_site_of c i ≡ h.first
   pub next : first_site_of c (suc i) ≡ h.end
 
-fields : (c : CheckedProgram) (ds : List Definition) (i : ℕ) (h : Here c ds i) → HasFields c ds i h
-unfolding program_of name_of checked.param_names first_site_of
+fields : (c : Tables) (ds : List Definition) (i : ℕ) (h : Here c ds i) → HasFields c ds i h
+unfolding program_of name_of tables.param_names first_site_of
 fields c ds i h =
     record {
       unit = field_of (λ (f : Function). f.unit) 0 c i h.function h.stands ∙ h.is.unit;
@@ -156,7 +157,7 @@ fields c ds i h =
     }
 
 -- the heads are those of the program's functions
-agrees : (c : CheckedProgram) (ds : List Definition) → IsBased c ds → Agrees (program_of c) (heads ds)
+agrees : (c : Tables) (ds : List Definition) → IsBased c ds → Agrees (program_of c) (heads ds)
 unfolding program_of
 agrees c ds b i hd e =
     let l : i < length c.functions = omega (arith, slice_get_within (heads ds) i hd e, heads_length 0 0 ds, b.count) in
@@ -180,12 +181,12 @@ first_head_unit : (ds : List Definition) (hd : Head) → slice_get (heads ds) 0 
 first_head_unit [] hd e = absurd cc
 first_head_unit (d ∷ ds) hd e = sym (ap (λ (z : Head). z.unit) (some_is _ hd e)) ∙ zero_unit d.joined
 
-first_unit : (c : CheckedProgram) (ds : List Definition) → IsBased c ds → (program_of c).unit 0 ≡ 0
+first_unit : (c : Tables) (ds : List Definition) → IsBased c ds → (program_of c).unit 0 ≡ 0
 first_unit c ds b =
     let h = here c ds 0 b b.some in
     (fields c ds 0 h).unit ∙ first_head_unit ds (head_of h.unit h.def) h.head
 
-steps : (c : CheckedProgram) (ds : List Definition) → IsBased c ds → Steps (program_of c).unit (program_of c).result (length c.functions)
+steps : (c : Tables) (ds : List Definition) → IsBased c ds → Steps (program_of c).unit (program_of c).result (length c.functions)
 unfolding program_of
 steps c ds b i lt =
     let l : i < length c.functions = omega (arith, lt) in
@@ -203,7 +204,7 @@ shallow_at [] i d h e = absurd cc
 shallow_at (x ∷ ds) zero d h e = subst (λ (z : Definition). depth z.body ≤ max_depth) (some_is x d e) h.0
 shallow_at (x ∷ ds) (suc i) d h e = shallow_at ds i d h.1 e
 
-module _ (c : CheckedProgram) (ds : List Definition) (b : IsBased c ds) (shallow : AreShallow ds) where
+module _ (c : Tables) (ds : List Definition) (b : IsBased c ds) (shallow : AreShallow ds) where
   below : (i : ℕ) → i < length c.functions → (program_of c).unit i ≤ i
   below = unit_below (program_of c).unit (program_of c).result (length c.functions) (first_unit c ds b) (steps c ds b)
 
@@ -329,13 +330,13 @@ module _ (c : CheckedProgram) (ds : List Definition) (b : IsBased c ds) (shallow
       (λ e. omega (arith, ap (λ (t : plain.Term). sizes.depth t) (past_body i e)))
       (there c.functions i)
 
-  limited : IsWithinLimits c
+  limited : IsWithinLimits (program_of c)
   unfolding program_of
   limited = record {
     functions = omega (arith, b.count, b.form.few_functions);
     params = few_params;
     sites = omega (arith, b.last, b.form.few_sites);
-    nodes = omega (arith, nodes_same (heads ds) 0 0 0 1 (suc (length c.sites)) ds c.functions b.functions, b.form.few_nodes);
+    nodes = omega (arith, table_nodes c, nodes_same (heads ds) 0 0 0 1 (suc (length c.sites)) ds c.functions b.functions, b.form.few_nodes);
     bindings = short_lets;
     depth = few_levels;
   }
@@ -359,30 +360,30 @@ module _ (c : CheckedProgram) (ds : List Definition) (b : IsBased c ds) (shallow
       let e : length c.functions - 1 ≡ length ds - 1 = omega (arith, b.count) in
       (fields c ds (main_of c) h).name ∙ last_name (codes "main") ds h.def b.form.main (subst (λ (i : ℕ). slice_get ds i ≡ Some h.def) e h.defined)
 
-  past_names : (i : ℕ) → slice_get c.functions i ≡ None → checked.param_names c i ≡ []
-  unfolding checked.param_names
+  past_names : (i : ℕ) → slice_get c.functions i ≡ None → tables.param_names c i ≡ []
+  unfolding tables.param_names
   past_names i e = field_past (λ (f : Function). map (λ p. string_bytes p.name) f.params.items) [] c i e
 
   nothing_there : {A P : Type 0} (xs : List A) (i : ℕ) (x : A) → xs ≡ [] → slice_get xs i ≡ Some x → P
   nothing_there [] i x e q = absurd cc
   nothing_there (y ∷ ys) i x e q = absurd cc
 
-  params_named : (f i : ℕ) (name : List ℕ) → slice_get (checked.param_names c f) i ≡ Some name → IsName name
+  params_named : (f i : ℕ) (name : List ℕ) → slice_get (tables.param_names c f) i ≡ Some name → IsName name
   params_named f i name e = ⊎_elim
       (λ q. let h = here c ds f b q.2 in
       param_named h.def.params i name (formed_at ds f h.def b.formed h.defined).1 (subst (λ (l : List (List ℕ)). slice_get l i ≡ Some name) (fields c ds f h).param_names e))
-      (λ q. nothing_there (checked.param_names c f) i name (past_names f q) e)
+      (λ q. nothing_there (tables.param_names c f) i name (past_names f q) e)
       (there c.functions f)
 
-  params_differ : (f i j : ℕ) (name : List ℕ) → slice_get (checked.param_names c f) i ≡ Some name → slice_get (checked.param_names c f) j ≡ Some name → i ≡ j
+  params_differ : (f i j : ℕ) (name : List ℕ) → slice_get (tables.param_names c f) i ≡ Some name → slice_get (tables.param_names c f) j ≡ Some name → i ≡ j
   params_differ f i j name e g = ⊎_elim
       (λ q. let h = here c ds f b q.2 in
       let p = (fields c ds f h).param_names in
       h.is.params_differ i j name (subst (λ (l : List (List ℕ)). slice_get l i ≡ Some name) p e) (subst (λ (l : List (List ℕ)). slice_get l j ≡ Some name) p g))
-      (λ q. nothing_there (checked.param_names c f) i name (past_names f q) e)
+      (λ q. nothing_there (tables.param_names c f) i name (past_names f q) e)
       (there c.functions f)
 
-  all_named : AreNamed c
+  all_named : AreNamed (checked_of c)
   unfolding program_of
   all_named = record { of_functions = named; of_main = main_named; of_functions_differ = names_differ; of_params = params_named; of_params_differ = params_differ }
 
@@ -417,9 +418,9 @@ module _ (c : CheckedProgram) (ds : List Definition) (b : IsBased c ds) (shallow
       subst (λ (z : ℕ). Spans (program_of c) f true z (first_site_of c (suc f)) ((program_of c).body f)) (sym q.first)
       (subst (λ (z : ℕ). Spans (program_of c) f true h.first z ((program_of c).body f)) (sym q.next) (body_spans f h))
 
-  is_checked : All BodyHasSlots c.functions → IsChecked c
+  is_checked : IsChecked (checked_of c)
   unfolding program_of
-  is_checked slotted = record {
+  is_checked = record {
     formed = well_formed;
     widths = word_widths;
     limits = limited;
@@ -427,8 +428,10 @@ module _ (c : CheckedProgram) (ds : List Definition) (b : IsBased c ds) (shallow
     first_site = first_is;
     own_sites = own_sites;
     names = all_named;
-    slots = slotted;
   }
 
-pub form_checked : (ds : List Definition) (c : CheckedProgram) → IsFormedProgram ds → AreShallow ds → IsFormOf ds (shown c) → All BodyHasSlots c.functions → IsChecked c
-form_checked ds c formed shallow form = is_checked c ds (based ds c formed form) shallow
+tables_checked : (ds : List Definition) (t : Tables) → IsFormedProgram ds → AreShallow ds → IsFormOf ds (form_of t) → IsChecked (checked_of t)
+tables_checked ds t formed shallow form = is_checked t ds (based ds t formed form) shallow
+
+pub form_checked : (ds : List Definition) (c : CheckedProgram) → IsFormedProgram ds → AreShallow ds → IsFormOf ds (shown c) → IsChecked c
+form_checked ds = each_checked (λ c. IsFormedProgram ds → AreShallow ds → IsFormOf ds (shown c) → IsChecked c) (tables_checked ds)

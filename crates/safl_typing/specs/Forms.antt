@@ -6,6 +6,7 @@ use Rattle.safl_term.specs.declared.checked.Site.{Site}
 use Rattle.safl_term.specs.declared.checked.Function.{Function}
 use Rattle.safl_term.specs.declared.checked.Parameter as code
 use Rattle.safl_term.specs.Checked.{CheckedProgram}
+use Rattle.safl_term.specs.Tables.{Tables}
 use Rattle.safl_term.specs.Terms as terms
 use Rattle.safl_term.specs.Terms.{Term, Const, Var, Loop, Terms, Nil, Cons}
 use Rattle.safl_term.specs.Sizes.{max_bindings, max_depth}
@@ -35,8 +36,11 @@ shown_param p = record { name = string_bytes p.name; width = p.width }
 abbrev pub shown_function : Function → FunctionForm
 shown_function f = record { name = string_bytes f.name; params = map shown_param f.params.items; width = f.width; unit = f.unit; first_site = f.first_site; body = shown_term f.body }
 
+abbrev pub form_of : Tables → Form
+form_of t = record { functions = map shown_function t.functions; sites = t.sites }
+
 abbrev pub shown : CheckedProgram → Form
-shown c = record { functions = map shown_function c.functions; sites = c.sites }
+shown c = form_of c.tables
 
 -- the sites of the body of g, in order
 abbrev mutual

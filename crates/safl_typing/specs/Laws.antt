@@ -1,9 +1,8 @@
 -- What is claimed of checking.
 use Rattle.std.specs.Prelude.{◌≡◌, ◌↔◌, ℕ, List, [], ◌∷◌, Some, None, Ok, slice_get, false}
-use Rattle.std.specs.List.{All}
 use Rattle.safl_tree.specs.Tree.{Definition}
 use Rattle.safl_tree.specs.Printable.{IsFormedProgram}
-use Rattle.safl_term.specs.Checked.{CheckedProgram, BodyHasSlots, IsChecked}
+use Rattle.safl_term.specs.Checked.{CheckedProgram, IsChecked}
 use Rattle.safl_typing.specs.Forms.{FunctionForm, Form, AreShallow, IsFormOf, shown}
 use Rattle.safl_typing.specs.Walk.{outcome, first_fault}
 
@@ -19,10 +18,9 @@ FaultOrForm = (ds : List Definition) → IsFormedProgram ds → (first_fault ds 
 abbrev pub OneForm : Type 0
 OneForm = (ds : List Definition) (c d : Form) → IsFormOf ds c → IsFormOf ds d → c ≡ d
 
--- a program with a form, whose bodies are shallow and whose lets name their slots, is well formed, within limits, and in the
--- order of the text
+-- a program with a form, whose bodies are shallow, is well formed, within limits, and in the order of the text
 abbrev pub FormsAreChecked : Type 0
-FormsAreChecked = (ds : List Definition) (c : CheckedProgram) → IsFormedProgram ds → AreShallow ds → IsFormOf ds (shown c) → All BodyHasSlots c.functions → IsChecked c
+FormsAreChecked = (ds : List Definition) (c : CheckedProgram) → IsFormedProgram ds → AreShallow ds → IsFormOf ds (shown c) → IsChecked c
 
 -- no definition belongs to the group of the one before it
 abbrev pub NoneJoined : List Definition → Type 0

@@ -1,16 +1,18 @@
 -- Registers that a bank shows agree with those that its names show.
 use Rattle.std.proofs.Common.{◌≡◌, ℕ, zero, suc, ◌<◌, List, Some, None, Bool, true, false, cond, not, slice_get, ◌==◌, ◌&&◌, ◌||◌, nat_lt, nat_le, is_some, refl, sym, ap, subst, ◌∙◌, arith}
+use Rattle.safl_term.specs.Names.{Names}
+use Rattle.safl_sites.specs.Plan.{Choice}
 use Rattle.std.specs.Prelude.{codes}
 use Rattle.std.proofs.lemmas.Bool.{eq-eqb, eqb-true, ne_eqb, lt-ltb, ltb-true, leb-true, and_parts, and_right, false≢true}
 use Rattle.safl_word.specs.Words.{Word}
 use Rattle.safl_term.specs.Program.{Program, unit_for}
-use Rattle.safl_term.specs.Checked.{CheckedProgram, IsChecked, program_of}
+use Rattle.safl_term.specs.Checked.{CheckedProgram, IsChecked}
 use Rattle.safl_term.specs.Readiness.{wanted}
 use Rattle.safl_calls.specs.Picks.{first}
 use Rattle.safl_calls.proofs.Basics.{all_none}
 use Rattle.safl_net.specs.Growth.{Val}
-use Rattle.safl_circuit.specs.Equations.{Registers, Inputs, Choice, ends, starts, end_in, go_in, end_word, go, want, body_wants, path, on_wires, ret, wants_at, clears, or_word, next}
-use Rattle.safl_circuit.specs.Names.{Names, names_of, of_function, of_site, is_unit, is_site, numbers, view}
+use Rattle.safl_circuit.specs.Equations.{Registers, Inputs, ends, starts, end_in, go_in, end_word, go, want, body_wants, path, on_wires, ret, wants_at, clears, or_word, next}
+use Rattle.safl_circuit.specs.Names.{of_function, of_site, is_unit, is_site, numbers, view}
 use Rattle.safl_circuit.specs.Scheme.{Agree}
 use Rattle.safl_unit.specs.declared.parts.UnitPins.{UnitPins}
 use Rattle.safl_unit.specs.declared.parts.SitePins.{SitePins}
@@ -26,10 +28,10 @@ cond_none false = refl
 
 module _ (c : CheckedProgram) (h : IsChecked c) (P : Choice) where
   abbrev C : Program
-  C = program_of c
+  C = c.program
 
   abbrev D : Names
-  D = names_of c
+  D = c.names
 
   -- what a function's unit is
   unit_is : (f : ℕ) → f < C.functions → is_unit C (C.unit f) ≡ true

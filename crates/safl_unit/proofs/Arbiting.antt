@@ -1,11 +1,12 @@
 -- The sites of a unit in a row, one by one.
 use Rattle.std.proofs.Common.{◌≡◌, ℕ, zero, suc, ◌+◌, ◌-◌, ◌<◌, ◌≤◌, ◌==◌, ◌||◌, ◌&&◌, List, [], ◌∷◌, ◌++◌, length, length-append, map, take, cond}
+use Rattle.safl_sites.specs.Plan.{Choice}
 use Rattle.std.proofs.Common.{not, ◌⊎◌, Bool, true, false, Option, Some, Vec, Global, is_some, slice_get, slice_index_or, inl, inr, refl, sym, ap}
 use Rattle.std.proofs.Common.{subst, ◌∙◌, add-one, arith}
 use Rattle.std.proofs.lemmas.Bool.{eq-eqb, ne_eqb, cases_eq}
 use Rattle.std.proofs.lemmas.Option.{slice_get_read}
 use Rattle.std.proofs.Math.Seq.{take-append_seam}
-use Rattle.safl_term.specs.Checked.{CheckedProgram, IsChecked, program_of}
+use Rattle.safl_term.specs.Checked.{CheckedProgram, IsChecked}
 use Rattle.safl_term.specs.Program.{Program, unit_for}
 use Rattle.safl_calls.specs.Picks.{first}
 use Rattle.safl_net.specs.declared.cell.Sig.{Sig}
@@ -14,7 +15,7 @@ use Rattle.safl_net.specs.Growth.{Val, Wired}
 use Rattle.safl_net.proofs.Growth.{wired_before}
 use Rattle.safl_net.proofs.Naming.{pushed}
 use Rattle.safl_net.specs.Bits.{on}
-use Rattle.safl_circuit.specs.Equations.{Registers, Inputs, Choice, want, wants_at, go}
+use Rattle.safl_circuit.specs.Equations.{Registers, Inputs, want, wants_at, go}
 use Rattle.safl_lower.specs.declared.loads.Load.{Load}
 use Rattle.safl_lower.specs.Tables.{bit_or, on_in, taken_at, LoadsFit}
 use Rattle.safl_lower.specs.Sources.{IsSource, Builds}
@@ -283,8 +284,8 @@ pub want_on : (C : Program) (P : Choice) (r : Registers) (i : Inputs) (v : Val) 
 want_on C P r i v ls k e l h = let t = there ls (suc k) (omega (arith, e, l)) in ap (λ (s : Sig). on v s) (ap (bit_or (record { 0 = 0 })) t.1) ∙ want_shown C P r i v ls k t.0 t.1 h
 
 -- a unit's first member is of the unit
-pub unit_first : (a b : CheckedProgram) (m : ℕ) → IsChecked b → b ≡ a → m < (program_of b).sites → (program_of a).unit (unit_for (program_of a) (suc m)) ≡ unit_for (program_of a) (suc m)
+pub unit_first : (a b : CheckedProgram) (m : ℕ) → IsChecked b → b ≡ a → m < b.program.sites → a.program.unit (unit_for a.program (suc m)) ≡ unit_for a.program (suc m)
 unit_first a b m checked same l =
     let n = (checked.formed.calls (suc m) (omega arith) (omega (arith, l))).1 in
-    let u = (checked.formed.first ((program_of b).callee (suc m)) n).1 in
-    subst (λ (x : CheckedProgram). (program_of x).unit (unit_for (program_of x) (suc m)) ≡ unit_for (program_of x) (suc m)) same u
+    let u = (checked.formed.first (b.program.callee (suc m)) n).1 in
+    subst (λ (x : CheckedProgram). x.program.unit (unit_for x.program (suc m)) ≡ unit_for x.program (suc m)) same u

@@ -11,8 +11,8 @@ use Rattle.safl_net.specs.Whole.{IsWhole}
 use Rattle.safl_net.specs.Arranged.{IsInput, IsRegister, IsWire, Each, IsInOrder}
 use Rattle.safl_net.specs.Making.{kind_in}
 use Rattle.safl_net.proofs.Reading.{place_of, output_place_of}
-use Rattle.safl_circuit.specs.Equations.{Choice}
-use Rattle.safl_circuit.specs.Names.{Names}
+use Rattle.safl_sites.specs.Plan.{Choice}
+use Rattle.safl_term.specs.Names.{Names}
 use Rattle.safl_circuit.specs.Layout.{Line, layout_inputs}
 use Rattle.safl_circuit.specs.Scheme.{Scheme}
 use Rattle.safl_unit.specs.declared.parts.Bank.{Bank}

@@ -1,12 +1,13 @@
 -- The bits that the named wires copy.
 use Rattle.std.proofs.Common.{◌≡◌, ℕ, zero, suc, ◌+◌, ◌<◌, ◌≤◌, List, [], ◌∷◌, ◌++◌, length, map, take, slice_get, Option, Some, None, false, is_some, refl, sym, ap, subst, ◌∙◌, add-one, arith}
+use Rattle.safl_sites.specs.Plan.{Choice}
 use Rattle.safl_word.specs.Words.{Word}
 use Rattle.safl_term.specs.Program.{Program}
 use Rattle.safl_net.specs.declared.cell.Sig.{Sig}
 use Rattle.safl_net.specs.Netlist.{Netlist}
 use Rattle.safl_net.specs.Growth.{Val, Wired}
 use Rattle.safl_net.specs.Bits.{on}
-use Rattle.safl_circuit.specs.Equations.{Registers, Inputs, Choice, want}
+use Rattle.safl_circuit.specs.Equations.{Registers, Inputs, want}
 use Rattle.safl_lower.specs.declared.loads.Load.{Load}
 use Rattle.safl_lower.specs.Sources.{IsSource, Builds}
 use Rattle.safl_lower.specs.Tables.{pin, load_bit, bit_or, load_in, taken_in, one_word, FitsIn}

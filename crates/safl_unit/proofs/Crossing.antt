@@ -1,5 +1,6 @@
 -- The tables of an edge show what the equations say.
 use Rattle.std.proofs.Common.{◌≡◌, ℕ, zero, suc, ◌<◌, List, [], ◌∷◌, Option, Some, None, Bool, true, false, cond, not, ◌&&◌, ◌||◌, ◌==◌, slice_get, is_some, refl, sym, ap, ◌∙◌, arith}
+use Rattle.safl_sites.specs.Plan.{Choice}
 use Rattle.std.proofs.lemmas.Bool.{false≢true, eq-eqb, eqb-true, and_parts, and_from}
 use Rattle.safl_word.specs.Words.{Word}
 use Rattle.safl_term.specs.Program.{Program, unit_for}
@@ -9,7 +10,7 @@ use Rattle.safl_net.specs.declared.cell.Sig.{Sig}
 use Rattle.safl_net.specs.Netlist.{Netlist}
 use Rattle.safl_net.specs.Growth.{Val, words}
 use Rattle.safl_net.specs.Bits.{on, gate}
-use Rattle.safl_circuit.specs.Equations.{Registers, Inputs, Choice, body_wants, want, wants_at, go, go_words, end_word, loop_words, end_in, loop_in}
+use Rattle.safl_circuit.specs.Equations.{Registers, Inputs, body_wants, want, wants_at, go, go_words, end_word, loop_words, end_in, loop_in}
 use Rattle.safl_circuit.specs.Equations.{go_in, load_in as loads_from, ends, loops, starts, loads, starts_it, if_other}
 use Rattle.safl_lower.specs.declared.loads.Load.{Load}
 use Rattle.safl_lower.specs.Sources.{Builds}

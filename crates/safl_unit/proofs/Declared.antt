@@ -2,11 +2,11 @@
 use Rattle.std.proofs.Common.{◌≡◌, ℕ, suc, ◌+◌, ◌≤◌, List, [], ◌∷◌, ◌++◌, map, length, length-append, sym, ap, ◌∙◌, arith, append_assoc}
 use Rattle.std.specs.Prelude.{codes}
 use Rattle.safl_term.specs.Program.{Program, arity}
-use Rattle.safl_term.specs.Checked.{CheckedProgram, IsChecked, program_of}
+use Rattle.safl_term.specs.Checked.{CheckedProgram, IsChecked}
 use Rattle.safl_net.specs.declared.cell.Sig.{Sig}
 use Rattle.safl_net.specs.Netlist.{Netlist, Signal}
-use Rattle.safl_circuit.specs.Equations.{Choice}
-use Rattle.safl_circuit.specs.Names.{Names, names_of}
+use Rattle.safl_sites.specs.Plan.{Choice}
+use Rattle.safl_term.specs.Names.{Names}
 use Rattle.safl_circuit.specs.Layout.{lines, site_lines, layout_inputs, layout_registers, layout_wires}
 use Rattle.safl_unit.specs.declared.parts.Pins.{Pins}
 use Rattle.safl_unit.specs.Finished.{input_line, open_register, open_wire, declared_net, ArePins}
@@ -23,15 +23,15 @@ sig_is s n e = ap (λ (x : ℕ). record { 0 = x }) e
 module _ (c : CheckedProgram) (checked : IsChecked c) (P : Choice) (n a b d e g : Netlist)
     (none : n ≡ record { signals = []; outputs = [] })
     (start : a ≡ with_signals n (input_line (codes "start", 1) ∷ []))
-    (ports : b ≡ with_signals a (map input_line (port_lines (program_of c) (names_of c) (program_of c).main)))
-    (functions : d ≡ with_signals b (map open_register (lines (function_lines (program_of c) (names_of c)) (program_of c).functions)))
-    (sites : e ≡ with_signals d (map open_register (lines (site_lines (program_of c) P) (suc (program_of c).sites))))
-    (wires : g ≡ with_signals e (map open_wire (layout_wires (program_of c) (names_of c) P))) where
+    (ports : b ≡ with_signals a (map input_line (port_lines c.program c.names c.program.main)))
+    (functions : d ≡ with_signals b (map open_register (lines (function_lines c.program c.names) c.program.functions)))
+    (sites : e ≡ with_signals d (map open_register (lines (site_lines c.program P) (suc c.program.sites))))
+    (wires : g ≡ with_signals e (map open_wire (layout_wires c.program c.names P))) where
   abbrev C : Program
-  C = program_of c
+  C = c.program
 
   abbrev D : Names
-  D = names_of c
+  D = c.names
 
   inputs_are : b ≡ with_signals n (map input_line (layout_inputs C D))
   inputs_are = lines_on n a b input_line ((codes "start", 1) ∷ []) (port_lines C D C.main) start ports
@@ -93,26 +93,26 @@ module _ (c : CheckedProgram) (checked : IsChecked c) (P : Choice) (n a b d e g 
 
 -- how many signals there are on the way
 pub inputs_few : (c : CheckedProgram) → IsChecked c → (f : ℕ) (n a b : Netlist) → n ≡ record { signals = []; outputs = [] } → a ≡ with_signals n (input_line (codes "start", 1) ∷ [])
-    → b ≡ with_signals a (map input_line (port_lines (program_of c) (names_of c) f)) → length b.signals ≤ 17
+    → b ≡ with_signals a (map input_line (port_lines c.program c.names f)) → length b.signals ≤ 17
 inputs_few c h f n a b none start ports =
     let z = ap (λ (m : Netlist). length m.signals) none in
     let p = lines_count n a input_line ((codes "start", 1) ∷ []) start in
-    let q = lines_count a b input_line (port_lines (program_of c) (names_of c) f) ports in
+    let q = lines_count a b input_line (port_lines c.program c.names f) ports in
     let l = param_lines_long c f (λ x. codes "in$" ++ x) in
     let k = h.limits.params f in
     omega (arith, z, p, q, l, k)
 
 pub registers_few : (c : CheckedProgram) → IsChecked c → (b d : Netlist) → length b.signals ≤ 17
-    → d ≡ with_signals b (map open_register (lines (function_lines (program_of c) (names_of c)) (program_of c).functions)) → length d.signals ≤ 20017
+    → d ≡ with_signals b (map open_register (lines (function_lines c.program c.names) c.program.functions)) → length d.signals ≤ 20017
 registers_few c h b d l e =
-    let a = functions_count c h b d (program_of c).functions e in
+    let a = functions_count c h b d c.program.functions e in
     let k = h.limits.functions in
     omega (arith, a, k, l)
 
 pub sites_few : (c : CheckedProgram) → IsChecked c → (P : Choice) (d e : Netlist) → length d.signals ≤ 20017
-    → e ≡ with_signals d (map open_register (lines (site_lines (program_of c) P) (suc (program_of c).sites))) → length e.signals ≤ 32020
+    → e ≡ with_signals d (map open_register (lines (site_lines c.program P) (suc c.program.sites))) → length e.signals ≤ 32020
 sites_few c h P d e l q =
-    let a = lines_count d e open_register (lines (site_lines (program_of c) P) (suc (program_of c).sites)) q in
-    let b = few_sites (program_of c) P (suc (program_of c).sites) in
+    let a = lines_count d e open_register (lines (site_lines c.program P) (suc c.program.sites)) q in
+    let b = few_sites c.program P (suc c.program.sites) in
     let k = h.limits.sites in
     omega (arith, a, b, k, l)

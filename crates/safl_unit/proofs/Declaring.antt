@@ -5,7 +5,9 @@ use Rattle.std.specs.String.{string_bytes}
 use Rattle.std.specs.Option.{option_map_or}
 use Rattle.std.proofs.lemmas.Str.{IsUtf8-nil, IsUtf8-string_bytes}
 use Rattle.std.proofs.lemmas.List.{append-nil}
-use Rattle.safl_term.specs.Checked.{CheckedProgram, program_of, name_of, param_names}
+use Rattle.safl_term.specs.Checked.{CheckedProgram}
+use Rattle.safl_term.specs.Tables.{Tables, name_of, param_names}
+use Rattle.safl_term.proofs.HeldByChecked.{each_checked, params_named}
 use Rattle.safl_term.specs.declared.checked.Function.{Function}
 use Rattle.safl_term.specs.declared.checked.Parameter.{Parameter}
 use Rattle.safl_net.specs.declared.cell.Sig.{Sig}
@@ -20,9 +22,12 @@ no_text : (o : _) → IsUtf8 (option_map_or (λ (f : Function). string_bytes f.n
 no_text None = IsUtf8-nil
 no_text (Some f) = IsUtf8-string_bytes f.name
 
-pub name_text : (c : CheckedProgram) (f : ℕ) (x : List ℕ) → x ≡ name_of c f → IsUtf8 x
+table_name : (t : Tables) (f : ℕ) → IsUtf8 (name_of t f)
 unfolding name_of
-name_text c f x e = subst IsUtf8 (sym e) (no_text (slice_get c.functions f))
+table_name t f = no_text (slice_get t.functions f)
+
+pub name_text : (c : CheckedProgram) (f : ℕ) (x : List ℕ) → x ≡ c.name f → IsUtf8 x
+name_text c f x e = subst IsUtf8 (sym e) (each_checked (λ c. IsUtf8 (c.name f)) (λ t. table_name t f) c)
 
 param_in : (ps : List Parameter) (i : ℕ) (x : List ℕ) → slice_get (map (λ (p : Parameter). string_bytes p.name) ps) i ≡ Some x → IsUtf8 x
 param_in [] i x e = absurd (cc)
@@ -33,9 +38,12 @@ params_in : (o : _) (i : ℕ) (x : List ℕ) → slice_get (option_map_or (λ (f
 params_in None i x e = absurd (cc)
 params_in (Some f) i x e = param_in f.params.items i x e
 
-pub param_text : (c : CheckedProgram) (f i : ℕ) (x : List ℕ) → slice_get (param_names c f) i ≡ Some x → IsUtf8 x
+table_param : (t : Tables) (f i : ℕ) (x : List ℕ) → slice_get (param_names t f) i ≡ Some x → IsUtf8 x
 unfolding param_names
-param_text c f i x e = params_in (slice_get c.functions f) i x e
+table_param t f i x e = params_in (slice_get t.functions f) i x e
+
+pub param_text : (c : CheckedProgram) (f i : ℕ) (x : List ℕ) → slice_get (c.param_names f) i ≡ Some x → IsUtf8 x
+param_text c f = each_checked (λ c. (i : ℕ) (x : List ℕ) → slice_get (c.param_names f) i ≡ Some x → IsUtf8 x) (λ t. table_param t f) c
 
 -- ---- more signals
 
@@ -105,40 +113,26 @@ named_long [] (w ∷ ws) e = absurd (omega (arith, e))
 named_long (x ∷ xs) [] e = absurd (omega (arith, e))
 named_long (x ∷ xs) (w ∷ ws) e = ap suc (named_long xs ws (omega (arith, e)))
 
-as_many : (ps : List Parameter) → length (map (λ (p : Parameter). string_bytes p.name) ps) ≡ length (map (λ (p : Parameter). p.width) ps)
-as_many [] = refl
-as_many (p ∷ ps) = ap suc (as_many ps)
-
-as_many_in : (o : _) → length (option_map_or (λ (f : Function). map (λ (p : Parameter). string_bytes p.name) f.params.items) o []) ≡ length
-    (option_map_or (λ (f : Function). map (λ (p : Parameter). p.width) f.params.items) o [])
-as_many_in None = refl
-as_many_in (Some f) = as_many f.params.items
-
--- each parameter has a name
-pub params_long : (c : CheckedProgram) (f : ℕ) → length (param_names c f) ≡ length ((program_of c).params f)
-unfolding param_names program_of
-params_long c f = as_many_in (slice_get c.functions f)
-
 -- the lines of a function's parameters, with these names
-pub param_lines_long : (c : CheckedProgram) (f : ℕ) (g : List ℕ → List ℕ) → length (named (map g (param_names c f)) ((program_of c).params f)) ≡ length ((program_of c).params f)
-param_lines_long c f g = named_long (map g (param_names c f)) ((program_of c).params f) (map_long g (param_names c f) ∙ params_long c f)
+pub param_lines_long : (c : CheckedProgram) (f : ℕ) (g : List ℕ → List ℕ) → length (named (map g (c.param_names f)) (c.program.params f)) ≡ length (c.program.params f)
+param_lines_long c f g = named_long (map g (c.param_names f)) (c.program.params f) (map_long g (c.param_names f) ∙ params_named c f)
 
 -- one more of them
 pub param_step : (c : CheckedProgram) (f i w s : ℕ) (x : List ℕ) (g : List ℕ → List ℕ) (h : Line → Signal) (n m k : Netlist)
-    → slice_get (param_names c f) i ≡ Some x → slice_get ((program_of c).params f) i ≡ Some w
-    → m ≡ with_signals n (map h (take i (named (map g (param_names c f)) ((program_of c).params f)))) → k ≡ with_signals m (h (g x, w) ∷ [])
-    → k ≡ with_signals n (map h (take (i + 1) (named (map g (param_names c f)) ((program_of c).params f))))
+    → slice_get (c.param_names f) i ≡ Some x → slice_get (c.program.params f) i ≡ Some w
+    → m ≡ with_signals n (map h (take i (named (map g (c.param_names f)) (c.program.params f)))) → k ≡ with_signals m (h (g x, w) ∷ [])
+    → k ≡ with_signals n (map h (take (i + 1) (named (map g (c.param_names f)) (c.program.params f))))
 param_step c f i w s x g h n m k a b e q =
-    let ls = named (map g (param_names c f)) ((program_of c).params f) in
-    let here = named_get (map g (param_names c f)) ((program_of c).params f) i (g x) w (map_get g (param_names c f) i x a) b in
+    let ls = named (map g (c.param_names f)) (c.program.params f) in
+    let here = named_get (map g (c.param_names f)) (c.program.params f) i (g x) w (map_get g (c.param_names f) i x a) b in
     lines_on n m k h (take i ls) ((g x, w) ∷ []) e q
     ∙ ap (λ l. with_signals n (map h l)) (sym (take_next ls i (g x, w) here))
     ∙ ap (λ j. with_signals n (map h (take j ls))) (let r : suc i ≡ i + 1 = omega arith in r)
 
 -- how many there are so far
-pub param_count : (c : CheckedProgram) (f i : ℕ) (g : List ℕ → List ℕ) (h : Line → Signal) (n m : Netlist) → i ≤ length ((program_of c).params f)
-    → m ≡ with_signals n (map h (take i (named (map g (param_names c f)) ((program_of c).params f)))) → length m.signals ≡ length n.signals + i
+pub param_count : (c : CheckedProgram) (f i : ℕ) (g : List ℕ → List ℕ) (h : Line → Signal) (n m : Netlist) → i ≤ length (c.program.params f)
+    → m ≡ with_signals n (map h (take i (named (map g (c.param_names f)) (c.program.params f)))) → length m.signals ≡ length n.signals + i
 param_count c f i g h n m l e =
-    let ls = named (map g (param_names c f)) ((program_of c).params f) in
+    let ls = named (map g (c.param_names f)) (c.program.params f) in
     let long = param_lines_long c f g in
     lines_count n m h (take i ls) e ∙ ap (λ a. length n.signals + a) (take_long ls i (omega (arith, l, long)))

@@ -1,10 +1,12 @@
 -- Where the registers and named wires of a circuit stand, and what they take.
 use Rattle.std.proofs.Common.{◌≡◌, ℕ, zero, suc, ◌+◌, ◌-◌, ◌<◌, ◌≤◌, List, [], ◌∷◌, ◌++◌, map, length, length-append, Option, Some, None, Bool, true}
+use Rattle.safl_term.specs.Names.{Names}
+use Rattle.safl_sites.specs.Plan.{Choice}
 use Rattle.std.proofs.Common.{false, cond, slice_get, nat_lt, ◌==◌, ◌⊎◌, inl, inr, refl, sym, ap, subst, ◌∙◌, arith, append_assoc}
 use Rattle.std.specs.Prelude.{codes}
 use Rattle.std.proofs.lemmas.Bool.{ltb-true}
 use Rattle.safl_term.specs.Program.{Program, unit_for}
-use Rattle.safl_term.specs.Checked.{CheckedProgram, IsChecked, program_of}
+use Rattle.safl_term.specs.Checked.{CheckedProgram, IsChecked}
 use Rattle.safl_net.specs.declared.cell.Sig.{Sig}
 use Rattle.safl_net.specs.Netlist.{Netlist, Signal, Reg, Wire, width_in, width_of}
 use Rattle.safl_net.specs.Making.{kind_in, with_output}
@@ -14,8 +16,8 @@ use Rattle.safl_net.specs.Growth.{Grows, Says}
 use Rattle.safl_net.proofs.Growth.{within, width_is}
 use Rattle.safl_net.proofs.Settling.{settles_on, settles_output}
 use Rattle.safl_net.proofs.Saying.{says_on, says_output}
-use Rattle.safl_circuit.specs.Equations.{Choice, many}
-use Rattle.safl_circuit.specs.Names.{Names, names_of, of_function, of_site, of_param}
+use Rattle.safl_circuit.specs.Equations.{many}
+use Rattle.safl_circuit.specs.Names.{of_function, of_site, of_param}
 use Rattle.safl_circuit.specs.Layout.{named, layout_inputs, layout_registers, layout_wires}
 use Rattle.safl_lower.specs.Sources.{IsSource, AreSources}
 use Rattle.safl_lower.specs.Tables.{pin, EachAt}
@@ -162,13 +164,13 @@ module _ (C : Program) (D : Names) (P : Choice) (n : Netlist) (first : ℕ) (T :
 
 -- ---- the net when all is set
 
-module _ (c : CheckedProgram) (h : IsChecked c) (P : Choice) (old : Netlist) (p : Pins) (next : Bank) (T : Controls) (grown : Grows (declared_net (program_of c) (names_of c) P) old)
-    (pins : ArePins (program_of c) (names_of c) P p) (bank : BankFits (program_of c) old next) (controls : ControlsFit (program_of c) old T) where
+module _ (c : CheckedProgram) (h : IsChecked c) (P : Choice) (old : Netlist) (p : Pins) (next : Bank) (T : Controls) (grown : Grows (declared_net c.program c.names P) old)
+    (pins : ArePins c.program c.names P p) (bank : BankFits c.program old next) (controls : ControlsFit c.program old T) where
   abbrev C : Program
-  C = program_of c
+  C = c.program
 
   abbrev D : Names
-  D = names_of c
+  D = c.names
 
   abbrev rts : List Tie
   rts = register_ties C D P next

@@ -1,17 +1,20 @@
 -- The pins of the declared net have the widths of the registers.
 use Rattle.std.proofs.Common.{◌≡◌, ℕ, suc, ◌<◌, List, [], ◌∷◌, ◌++◌, map, length, length-append, append_assoc, Some, Bool, true, false, cond}
+use Rattle.safl_term.specs.Names.{Names}
+use Rattle.safl_sites.specs.Plan.{Choice}
 use Rattle.std.proofs.Common.{slice_get, nat_lt, inl, inr, refl, sym, ap, subst, ◌∙◌, arith}
 use Rattle.std.specs.Prelude.{codes}
 use Rattle.std.proofs.lemmas.Option.{slice_get_within}
 use Rattle.std.proofs.lemmas.Bool.{eq-eqb, lt-ltb}
 use Rattle.safl_term.specs.Program.{Program}
-use Rattle.safl_term.specs.Checked.{CheckedProgram, IsChecked, program_of}
+use Rattle.safl_term.specs.Checked.{CheckedProgram, IsChecked}
+use Rattle.safl_term.proofs.HeldByChecked.{params_named}
 use Rattle.safl_net.specs.declared.cell.Sig.{Sig}
 use Rattle.safl_net.specs.Netlist.{Netlist, Signal}
 use Rattle.safl_net.specs.Growth.{maybe_width}
 use Rattle.safl_net.proofs.Settling.{steady_by}
-use Rattle.safl_circuit.specs.Equations.{Choice, many}
-use Rattle.safl_circuit.specs.Names.{Names, names_of, of_function, of_site, of_param}
+use Rattle.safl_circuit.specs.Equations.{many}
+use Rattle.safl_circuit.specs.Names.{of_function, of_site, of_param}
 use Rattle.safl_circuit.specs.Layout.{named, layout_inputs, layout_registers, layout_wires}
 use Rattle.safl_lower.specs.Sources.{IsSource, AreSources}
 use Rattle.safl_unit.specs.declared.parts.UnitPins.{UnitPins}
@@ -21,7 +24,7 @@ use Rattle.safl_unit.specs.declared.parts.Pins.{Pins}
 use Rattle.safl_unit.specs.Cycles.{UnitFits, MemberFits, SiteFits, PinsFit}
 use Rattle.safl_unit.specs.Ties.{Tie, line_of, tied, ties, numbered, unit_ties, member_ties, function_ties, call_registers, site_ties, register_ties}
 use Rattle.safl_unit.specs.Finished.{input_line, open_register, open_wire, declared_net, ArePins}
-use Rattle.safl_unit.proofs.Declaring.{map_long, params_long}
+use Rattle.safl_unit.proofs.Declaring.{map_long}
 use Rattle.safl_unit.proofs.Members.{Among, among_left, among_right, among_ties, among_cond, made_there, get_at}
 use Rattle.safl_unit.proofs.Lining.{IsFull, register_lines, there}
 
@@ -55,12 +58,12 @@ inputs_there n front back (x ∷ names) (w ∷ ws) e l =
     let r = subst (λ k. AreSources n (numbered k (length ws)) ws) (let q : length (front ++ input_line (x, w) ∷ []) ≡ suc (length front) = omega (arith, more) in q) rest in
     record { widths = (ap maybe_width at, r.widths); steady = (steady_by n (length front) (input_line (x, w)) at tt, r.steady) }
 
-module _ (c : CheckedProgram) (h : IsChecked c) (P : Choice) (n : Netlist) (p : Pins) (net : n ≡ declared_net (program_of c) (names_of c) P) (pins : ArePins (program_of c) (names_of c) P p) where
+module _ (c : CheckedProgram) (h : IsChecked c) (P : Choice) (n : Netlist) (p : Pins) (net : n ≡ declared_net c.program c.names P) (pins : ArePins c.program c.names P p) where
   abbrev C : Program
-  C = program_of c
+  C = c.program
 
   abbrev D : Names
-  D = names_of c
+  D = c.names
 
   abbrev all : List Tie
   all = register_ties C D P p.bank
@@ -121,7 +124,7 @@ module _ (c : CheckedProgram) (h : IsChecked c) (P : Choice) (n : Netlist) (p : 
 
       arguments : AreSources n m.args.items (C.params f)
       arguments =
-          args_sources n (map (of_param D f) (D.params f)) (C.params f) m.args.items (map_long (of_param D f) (D.params f) ∙ params_long c f) (pins.args f m e)
+          args_sources n (map (of_param D f) (D.params f)) (C.params f) m.args.items (map_long (of_param D f) (D.params f) ∙ params_named c f) (pins.args f m e)
           (λ t a. in_member f m t l e (among_right t (cond (many C f) (((of_function D (codes "at$") f, 1), m.at) ∷ []) []) _ a))
 
   in_site : (k : ℕ) (s : SitePins) (t : Tie) → k < suc C.sites → slice_get p.bank.sites.items k ≡ Some s → Among t (call_registers C P k (Some s)) → IsSource n t.1 t.0.1
@@ -159,7 +162,7 @@ module _ (c : CheckedProgram) (h : IsChecked c) (P : Choice) (n : Netlist) (p : 
         subst (λ xs. AreSources n xs (C.params C.main)) (sym pins.words)
         (inputs_there n (input_line (codes "start", 1) ∷ []) (map open_register (layout_registers C D P) ++ map open_wire (layout_wires C D P))
         (map (λ x. codes "in$" ++ x) (D.params C.main)) (C.params C.main) (ap (λ (m : Netlist). m.signals) net)
-        (map_long (λ x. codes "in$" ++ x) (D.params C.main) ∙ params_long c C.main));
+        (map_long (λ x. codes "in$" ++ x) (D.params C.main) ∙ params_named c C.main));
     bank = record {
       units_length = pins.units_length;
       members_length = pins.members_length;

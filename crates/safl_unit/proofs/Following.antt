@@ -1,10 +1,11 @@
 -- The next words of the registers are those of the equations.
 use Rattle.std.proofs.Common.{◌≡◌, ℕ, List, [], ◌∷◌, Option, Some, None, Bool, true, false, cond, not, ◌&&◌, ◌||◌, is_some, refl, ap, ◌∙◌}
+use Rattle.safl_sites.specs.Plan.{Choice}
 use Rattle.safl_word.specs.Words.{Word}
 use Rattle.safl_term.specs.Program.{Program, unit_for}
 use Rattle.safl_term.specs.Readiness.{or_else}
 use Rattle.safl_net.specs.Growth.{Val, words}
-use Rattle.safl_circuit.specs.Equations.{Registers, Inputs, Choice, many, ret, go, ends, starts, loads, loop_words, clears, starts_it, starts_other, or_word, next}
+use Rattle.safl_circuit.specs.Equations.{Registers, Inputs, many, ret, go, ends, starts, loads, loop_words, clears, starts_it, starts_other, or_word, next}
 use Rattle.safl_lower.specs.Tables.{one_word}
 use Rattle.safl_unit.specs.declared.parts.UnitPins.{UnitPins}
 use Rattle.safl_unit.specs.declared.parts.MemberPins.{MemberPins}

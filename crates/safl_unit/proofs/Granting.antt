@@ -1,5 +1,6 @@
 -- Which sites start, one by one.
 use Rattle.std.proofs.Common.{◌≡◌, ℕ, zero, suc, ◌≤◌, List, [], ◌∷◌, ◌++◌, length, slice_get, subst, Option, Some, None, Bool, true, false, ◌&&◌}
+use Rattle.safl_sites.specs.Plan.{Choice}
 use Rattle.std.proofs.Common.{◌||◌, ◌==◌, not, cond, is_some, Result, Ok, Err, IfOk, OnOk, refl, sym, ap, ◌∙◌, arith}
 use Rattle.std.proofs.lemmas.Bool.{eqb-true, ne_eqb}
 use Rattle.safl_term.specs.Program.{Program, unit_for}
@@ -12,7 +13,7 @@ use Rattle.safl_net.proofs.Growth.{wired_before}
 use Rattle.safl_net.specs.Bits.{on}
 use Rattle.safl_net.specs.Bits.{gate}
 use Rattle.safl_lower.proofs.BitWords.{same}
-use Rattle.safl_circuit.specs.Equations.{Registers, Inputs, Choice, want, wants_at, go}
+use Rattle.safl_circuit.specs.Equations.{Registers, Inputs, want, wants_at, go}
 use Rattle.safl_lower.specs.declared.loads.Load.{Load}
 use Rattle.safl_lower.specs.Sources.{IsSource, Builds}
 use Rattle.safl_lower.specs.Tables.{EachAt, taken_at, taken_in, pin}

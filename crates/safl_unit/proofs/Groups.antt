@@ -2,7 +2,7 @@
 use Rattle.std.proofs.Common.{◌≡◌, ℕ, ◌+◌, ◌<◌, ◌≤◌, Option, Some, None, Bool, true, false, cond, not, ◌&&◌, ◌==◌, is_some, refl, sym, ap, ◌∙◌, arith}
 use Rattle.std.proofs.lemmas.Bool.{ne_eqb, eq-eqb, eqb-true}
 use Rattle.safl_term.specs.Program.{Program}
-use Rattle.safl_term.specs.Checked.{CheckedProgram, IsChecked, program_of}
+use Rattle.safl_term.specs.Checked.{CheckedProgram, IsChecked}
 use Rattle.safl_calls.specs.Picks.{first}
 use Rattle.safl_calls.proofs.Basics.{first_none, all_none, some_none}
 use Rattle.safl_circuit.specs.Equations.{other_than, many}
@@ -30,30 +30,30 @@ many_false C f alone = ap is_some (all_none (other_than C f) C.functions (λ g l
     by g l true false p q = absurd (alone g l (eqb-true (C.unit g) (C.unit f) p) (λ e. absurd (let r : (g == f) ≡ true = eq-eqb g f e in cc)))
 
 -- a function that isn't the first of its group
-pub peers_below : (c : CheckedProgram) → IsChecked c → (f : ℕ) → f < (program_of c).functions → ((program_of c).unit f ≡ f → ⊥) → many (program_of c) f ≡ true
+pub peers_below : (c : CheckedProgram) → IsChecked c → (f : ℕ) → f < c.program.functions → (c.program.unit f ≡ f → ⊥) → many c.program f ≡ true
 peers_below c h f l other =
     let q = h.formed.first f l in
-    many_true (program_of c) f ((program_of c).unit f) (let a = q.0 in omega (arith, a, l)) q.1 other
+    many_true c.program f (c.program.unit f) (let a = q.0 in omega (arith, a, l)) q.1 other
 
 -- one whose next function is in its group
-pub peers_next : (c : CheckedProgram) → (f : ℕ) → f + 1 < (program_of c).functions → (program_of c).unit f ≡ f → (program_of c).unit (f + 1) ≡ f → many (program_of c) f ≡ true
-peers_next c f l own next = many_true (program_of c) f (f + 1) l (next ∙ sym own) (λ e. absurd (omega (arith, e)))
+pub peers_next : (c : CheckedProgram) → (f : ℕ) → f + 1 < c.program.functions → c.program.unit f ≡ f → c.program.unit (f + 1) ≡ f → many c.program f ≡ true
+peers_next c f l own next = many_true c.program f (f + 1) l (next ∙ sym own) (λ e. absurd (omega (arith, e)))
 
 -- one that is first, and no function or one of another group is next
-pub no_peers : (c : CheckedProgram) → IsChecked c → (f : ℕ) → f < (program_of c).functions → (program_of c).unit f ≡ f
-    → (f + 1 < (program_of c).functions → (program_of c).unit (f + 1) ≡ f → ⊥) → many (program_of c) f ≡ false
+pub no_peers : (c : CheckedProgram) → IsChecked c → (f : ℕ) → f < c.program.functions → c.program.unit f ≡ f
+    → (f + 1 < c.program.functions → c.program.unit (f + 1) ≡ f → ⊥) → many c.program f ≡ false
 no_peers c h f l own next =
-    many_false (program_of c) f (λ g m same other.
+    many_false c.program f (λ g m same other.
     let a = (h.formed.first g m).0 in
-    let b : (program_of c).unit g ≡ f = same ∙ own in
+    let b : c.program.unit g ≡ f = same ∙ own in
     let above : f + 1 ≤ g = omega (arith, a, b, other) in
     next (omega (arith, above, m)) (h.groups (f + 1) g m (omega (arith, b)) above ∙ b))
 
 -- whether the next function is in the group of a first member
-pub next_peer : (c : CheckedProgram) → IsChecked c → (f r : ℕ) → f < (program_of c).functions → (program_of c).unit f ≡ f → f + 1 < (program_of c).functions
-    → r ≡ (program_of c).unit (f + 1) → (r == f) ≡ many (program_of c) f
+pub next_peer : (c : CheckedProgram) → IsChecked c → (f r : ℕ) → f < c.program.functions → c.program.unit f ≡ f → f + 1 < c.program.functions
+    → r ≡ c.program.unit (f + 1) → (r == f) ≡ many c.program f
 next_peer c h f r l own next e = by (r == f) refl
   where
-    by : (b : Bool) → (r == f) ≡ b → b ≡ many (program_of c) f
+    by : (b : Bool) → (r == f) ≡ b → b ≡ many c.program f
     by true q = sym (peers_next c f next own (sym e ∙ eqb-true r f q))
     by false q = sym (no_peers c h f l own (λ m same. let t : (r == f) ≡ true = eq-eqb r f (e ∙ same) in absurd (cc)))

@@ -3,7 +3,7 @@ use Rattle.std.proofs.Common.{◌≡◌, ℕ, zero, suc, ◌+◌, ◌-◌, ◌<�
 use Rattle.std.proofs.Common.{None, Bool, true, false, ◌==◌, ◌⊎◌, inl, inr, add-one, slice_get, refl, sym, ap, subst, ◌∙◌, arith}
 use Rattle.std.proofs.lemmas.Bool.{eq-eqb, ne_eqb, eqb-true, eqb-false}
 use Rattle.safl_term.specs.Program.{Program}
-use Rattle.safl_term.specs.Sizes.{nodes}
+use Rattle.safl_term.specs.Sizes.{nodes, body_nodes}
 use Rattle.safl_term.specs.Readiness.{or_else}
 use Rattle.safl_net.specs.Netlist.{Netlist}
 use Rattle.safl_net.specs.Growth.{Val}
@@ -12,30 +12,11 @@ use Rattle.safl_lower.specs.Tables.{EachAt, taken_in, load_in, FitsIn, SomeFit}
 use Rattle.safl_lower.specs.Rows.{AllFit, first_taken, row_at, RowsFit}
 use Rattle.safl_lower.proofs.JoinedRows.{append_none, fit_push, first_pushed}
 use Rattle.safl_lower.specs.Loads.{load_cost, loads_cost}
-use Rattle.safl_unit.specs.Stages.{body_nodes}
 use Rattle.safl_unit.specs.Outcomes.{PushesLoads, maybe_load}
 use Rattle.safl_unit.proofs.Options.{first_is}
 use Rattle.safl_lower.proofs.FromProgram.{side}
 
 -- ---- counts
-
-pub nodes_rise : (C : Program) (f d : ℕ) → body_nodes C f ≤ body_nodes C (d + f)
-unfolding body_nodes
-nodes_rise C f zero = let z : 0 + f ≡ f = omega arith in let e : body_nodes C (0 + f) ≡ body_nodes C f = ap (body_nodes C) z in omega (arith, e)
-nodes_rise C f (suc d) =
-    let z : suc d + f ≡ suc (d + f) = omega arith in
-    let e : body_nodes C (suc d + f) ≡ body_nodes C (suc (d + f)) = ap (body_nodes C) z in
-    let h : body_nodes C f ≤ body_nodes C (d + f) = nodes_rise C f d in
-    omega (arith, e, h)
-
--- one more body is among those of all functions
-pub nodes_within : (C : Program) (f n : ℕ) → f < n → body_nodes C f + nodes (C.body f) ≤ body_nodes C n
-unfolding body_nodes
-nodes_within C f n l =
-    let h : body_nodes C f + nodes (C.body f) ≤ body_nodes C ((n - suc f) + suc f) = nodes_rise C (suc f) (n - suc f) in
-    let z : (n - suc f) + suc f ≡ n = omega (arith, l) in
-    let e : body_nodes C ((n - suc f) + suc f) ≡ body_nodes C n = ap (body_nodes C) z in
-    omega (arith, e, h)
 
 pub nodes_next : (C : Program) (f : ℕ) → body_nodes C (f + 1) ≡ body_nodes C f + nodes (C.body f)
 unfolding body_nodes

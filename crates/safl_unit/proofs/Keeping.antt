@@ -1,12 +1,13 @@
 -- What is known of a net is known of what is built on it.
 use Rattle.std.proofs.Common.{ℕ, List, Option, Bool, slice_get}
+use Rattle.safl_sites.specs.Plan.{Choice}
 use Rattle.safl_term.specs.Program.{Program}
 use Rattle.safl_net.specs.declared.cell.Sig.{Sig}
 use Rattle.safl_net.specs.Netlist.{Netlist}
 use Rattle.safl_net.specs.Growth.{Val}
 use Rattle.safl_net.proofs.Growth.{wired_before}
 use Rattle.safl_lower.specs.declared.parts.SitePorts.{SitePorts}
-use Rattle.safl_circuit.specs.Equations.{Registers, Inputs, Choice}
+use Rattle.safl_circuit.specs.Equations.{Registers, Inputs}
 use Rattle.safl_lower.specs.declared.loads.Load.{Load}
 use Rattle.safl_lower.specs.Sources.{Builds}
 use Rattle.safl_lower.specs.Tables.{load_in}

@@ -1,11 +1,13 @@
 -- The lines of the ties of a bank are those of the layout.
 use Rattle.std.proofs.Common.{◌≡◌, ℕ, zero, suc, ◌<◌, List, [], ◌∷◌, ◌++◌, map, length, Some, Bool, true, false, cond, slice_get, ◌==◌, nat_lt, refl, sym, ap, ◌∙◌, arith}
+use Rattle.safl_term.specs.Names.{Names}
+use Rattle.safl_sites.specs.Plan.{Choice}
 use Rattle.std.specs.Prelude.{codes}
 use Rattle.safl_term.specs.Program.{Program}
-use Rattle.safl_term.specs.Checked.{CheckedProgram, IsChecked, program_of}
+use Rattle.safl_term.specs.Checked.{CheckedProgram, IsChecked}
 use Rattle.safl_net.specs.declared.cell.Sig.{Sig}
-use Rattle.safl_circuit.specs.Equations.{Choice, many}
-use Rattle.safl_circuit.specs.Names.{Names, names_of, of_function, of_param}
+use Rattle.safl_circuit.specs.Equations.{many}
+use Rattle.safl_circuit.specs.Names.{of_function, of_param}
 use Rattle.safl_circuit.specs.Layout.{Line, lines, unit_lines, site_lines, layout_registers}
 use Rattle.safl_lower.specs.Tables.{EachAt}
 use Rattle.safl_unit.specs.declared.parts.UnitPins.{UnitPins}
@@ -55,8 +57,8 @@ pub record IsFull (C : Program) (b : Bank) : Type 0 where
   pub sites : length b.sites.items ≡ suc C.sites
   pub args : EachAt b.members.items (λ f m. length m.args.items ≡ length (C.params f))
 
-pub register_lines : (c : CheckedProgram) → IsChecked c → (P : Choice) (b : Bank) → IsFull (program_of c) b → map line_of
-    (register_ties (program_of c) (names_of c) P b) ≡ layout_registers (program_of c) (names_of c) P
+pub register_lines : (c : CheckedProgram) → IsChecked c → (P : Choice) (b : Bank) → IsFull c.program b → map line_of
+    (register_ties c.program c.names P b) ≡ layout_registers c.program c.names P
 register_lines c h P b full =
     map_more line_of (ties (function_ties C D b.units.items b.members.items) C.functions) (ties (site_ties C P b.sites.items) (suc C.sites))
     ∙ ap (λ l. l ++ map line_of (ties (site_ties C P b.sites.items) (suc C.sites)))
@@ -67,10 +69,10 @@ register_lines c h P b full =
     (ties_lines (site_ties C P b.sites.items) (site_lines C P) (suc C.sites) (λ k l. of_call k (there b.sites.items k (suc C.sites) full.sites l)))
   where
     C : Program
-    C = program_of c
+    C = c.program
 
     D : Names
-    D = names_of c
+    D = c.names
 
     of_one : (f : ℕ) → ((u : UnitPins) × (slice_get b.units.items f ≡ Some u)) → ((m : MemberPins) × (slice_get b.members.items f ≡ Some m)) → map
         line_of (function_ties C D b.units.items b.members.items f) ≡ function_lines C D f

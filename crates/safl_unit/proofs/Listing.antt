@@ -1,14 +1,15 @@
 -- The signals that registers and named wires take, listed one after another.
 use Rattle.std.proofs.Common.{◌≡◌, ℕ, zero, suc, ◌+◌, ◌*◌, ◌≤◌, List, [], ◌∷◌, ◌++◌, map, length, length-append, Option, Some, None, Bool, true}
+use Rattle.safl_term.specs.Names.{Names}
 use Rattle.std.proofs.Common.{false, cond, slice_get, ◌==◌, nat_lt, refl, sym, ap, ◌∙◌, arith, append_assoc}
 use Rattle.std.specs.Prelude.{codes}
 use Rattle.std.proofs.lemmas.Bool.{eqb-true, eqb-false}
 use Rattle.std.proofs.lemmas.List.{append-nil}
 use Rattle.safl_term.specs.Program.{Program, unit_for}
-use Rattle.safl_term.specs.Checked.{CheckedProgram, program_of}
+use Rattle.safl_term.specs.Checked.{CheckedProgram}
 use Rattle.safl_net.specs.declared.cell.Sig.{Sig}
-use Rattle.safl_circuit.specs.Equations.{Choice}
-use Rattle.safl_circuit.specs.Names.{Names, names_of, of_param}
+use Rattle.safl_sites.specs.Plan.{Choice}
+use Rattle.safl_circuit.specs.Names.{of_param}
 use Rattle.safl_circuit.specs.Layout.{Line, lines, function_wires, site_wires, layout_wires}
 use Rattle.safl_lower.specs.Tables.{pin}
 use Rattle.safl_unit.specs.declared.parts.UnitPins.{UnitPins}
@@ -50,12 +51,12 @@ no_site_zero C P ss = by (slice_get ss 0)
 -- ---- the registers
 
 pub function_listed : (c : CheckedProgram) (us : List UnitPins) (ms : List MemberPins) (f : ℕ) (u : UnitPins) (m : MemberPins) (xs a b e : List Sig)
-    → slice_get us f ≡ Some u → slice_get ms f ≡ Some m → length m.args.items ≡ length ((program_of c).params f)
-    → a ≡ xs ++ map sig_of (unit_ties (program_of c) (names_of c) f (Some u)) → b ≡ a ++ map sig_of (at_ties (program_of c) (names_of c) f m.at) → e ≡ b ++ m.args.items
-    → e ≡ xs ++ map sig_of (function_ties (program_of c) (names_of c) us ms f)
+    → slice_get us f ≡ Some u → slice_get ms f ≡ Some m → length m.args.items ≡ length (c.program.params f)
+    → a ≡ xs ++ map sig_of (unit_ties c.program c.names f (Some u)) → b ≡ a ++ map sig_of (at_ties c.program c.names f m.at) → e ≡ b ++ m.args.items
+    → e ≡ xs ++ map sig_of (function_ties c.program c.names us ms f)
 function_listed c us ms f u m xs a b e atu atm long ea eb ee =
-    let C = program_of c in
-    let D = names_of c in
+    let C = c.program in
+    let D = c.names in
     let ut = map sig_of (unit_ties C D f (Some u)) in
     let at = map sig_of (at_ties C D f m.at) in
     let g = argument_lines C D f in

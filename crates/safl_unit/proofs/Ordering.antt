@@ -1,11 +1,12 @@
 -- The registers of the layout, which stand by unit, in the order of the functions.
 use Rattle.std.proofs.Common.{◌≡◌, ℕ, zero, suc, ◌<◌, ◌≤◌, List, [], ◌∷◌, ◌++◌, Bool, true, false, cond, ◌==◌, ◌&&◌, nat_lt, refl, sym, ap, ◌∙◌, arith, append_assoc}
+use Rattle.safl_term.specs.Names.{Names}
 use Rattle.std.specs.Prelude.{codes}
 use Rattle.std.proofs.lemmas.Bool.{eqb-true, eqb-false, eq-eqb, ne_eqb, lt-ltb}
 use Rattle.std.proofs.lemmas.List.{append-nil}
 use Rattle.safl_term.specs.Program.{Program}
-use Rattle.safl_term.specs.Checked.{CheckedProgram, IsChecked, program_of}
-use Rattle.safl_circuit.specs.Names.{Names, names_of, of_function, is_unit}
+use Rattle.safl_term.specs.Checked.{CheckedProgram, IsChecked}
+use Rattle.safl_circuit.specs.Names.{of_function, is_unit}
 use Rattle.safl_circuit.specs.Layout.{Line, lines, member_lines, unit_lines}
 use Rattle.safl_unit.specs.Declaring.{at_line, argument_lines, function_lines}
 
@@ -21,10 +22,10 @@ no_lines g (suc n) e = ap (λ l. l ++ g n) (no_lines g n (λ i l. e i (omega (ar
 
 module _ (c : CheckedProgram) (h : IsChecked c) where
   abbrev C : Program
-  C = program_of c
+  C = c.program
 
   abbrev D : Names
-  D = names_of c
+  D = c.names
 
   -- the registers of unit u and of its members below n
   abbrev upto : ℕ → ℕ → List Line

@@ -2,13 +2,12 @@
 use Rattle.std.proofs.Common.{◌≡◌, ℕ, suc, ◌≤◌, List, [], ◌∷◌, ◌++◌, map, None, Bool, true, false, ◌||◌, bytes_eq, refl, sym, ap, subst, ◌∙◌, arith}
 use Rattle.std.specs.Prelude.{codes}
 use Rattle.std.proofs.lemmas.Slice.Eq.{bytes_eq-Decides}
-use Rattle.safl_term.specs.Checked.{CheckedProgram, IsChecked, program_of}
+use Rattle.safl_term.specs.Checked.{CheckedProgram, IsChecked}
 use Rattle.safl_net.specs.Netlist.{Netlist, Signal}
 use Rattle.safl_net.specs.Names.{is_good, is_reserved, is_temp, has_name, named_signal, named_output, wires}
 use Rattle.safl_net.specs.Growth.{AreTemps, Grows}
 use Rattle.safl_net.specs.Making.{refusal, with_output}
-use Rattle.safl_circuit.specs.Equations.{Choice}
-use Rattle.safl_circuit.specs.Names.{names_of}
+use Rattle.safl_sites.specs.Plan.{Choice}
 use Rattle.safl_circuit.specs.Layout.{lines, site_lines, layout_inputs, layout_wires}
 use Rattle.safl_unit.specs.Finished.{input_line, open_register, open_wire, declared_signals, declared_net}
 use Rattle.safl_unit.proofs.Ordering.{units_in_order}
@@ -52,29 +51,29 @@ temps_named i (g ∷ gs) x e h = by (bytes_eq x g.name) refl (temps_named (suc i
     by false q r = r
 
 module _ (c : CheckedProgram) (checked : IsChecked c) (P : Choice) where
-  declared_same : declared_signals (program_of c) (names_of c) P ≡ signals c checked P
+  declared_same : declared_signals c.program c.names P ≡ signals c checked P
   declared_same =
-      ap (λ ls. map input_line (layout_inputs (program_of c) (names_of c)) ++
-      (map open_register (ls ++ lines (site_lines (program_of c) P) (suc (program_of c).sites)) ++ map open_wire (layout_wires (program_of c) (names_of c) P)))
+      ap (λ ls. map input_line (layout_inputs c.program c.names) ++
+      (map open_register (ls ++ lines (site_lines c.program P) (suc c.program.sites)) ++ map open_wire (layout_wires c.program c.names P)))
       (units_in_order c checked)
 
   -- a name without one of the heads
-  declared_none : (h : Signal) → 16 ≤ head_of h.name → named_signal (declared_signals (program_of c) (names_of c) P) h.name ≡ false
+  declared_none : (h : Signal) → 16 ≤ head_of h.name → named_signal (declared_signals c.program c.names P) h.name ≡ false
   declared_none h l =
       ap (λ gs. named_signal gs h.name) declared_same
       ∙ other_names (signals c checked P) h
       (subst (Each (λ l. h.name ≡ l.0 → ⊥)) (sym (lines_are c checked P))
-      (each_weaker (λ l. Between 0 16 l.0) (λ l. h.name ≡ l.0 → ⊥) (all_lines (program_of c) (names_of c) P (titled c checked))
+      (each_weaker (λ l. Between 0 16 l.0) (λ l. h.name ≡ l.0 → ⊥) (all_lines c.program c.names P (titled c checked))
       (λ x b e. let s = ap head_of e in let m = b.most in absurd (omega (arith, s, m, l)))
-      (all_heads (program_of c) (names_of c) P (titled c checked))))
+      (all_heads c.program c.names P (titled c checked))))
 
-  module _ (old m : Netlist) (grown : Grows (declared_net (program_of c) (names_of c) P) old) (same : names m.signals ≡ names old.signals) where
+  module _ (old m : Netlist) (grown : Grows (declared_net c.program c.names P) old) (same : names m.signals ≡ names old.signals) where
     unused : (h : Signal) → 16 ≤ head_of h.name → is_temp h.name ≡ false → named_signal m.signals h.name ≡ false
     unused h l e =
         same_names m.signals old.signals h.name same
         ∙ ap (λ gs. named_signal gs h.name) grown.is
-        ∙ named_more (declared_signals (program_of c) (names_of c) P) grown.more h.name (declared_none h l)
-        (temps_named (wires (declared_signals (program_of c) (names_of c) P)) grown.more h.name e grown.temps)
+        ∙ named_more (declared_signals c.program c.names P) grown.more h.name (declared_none h l)
+        (temps_named (wires (declared_signals c.program c.names P)) grown.more h.name e grown.temps)
 
     neither : (a b : Bool) → a ≡ false → b ≡ false → (a || b) ≡ false
     neither true b e f = absurd (cc)

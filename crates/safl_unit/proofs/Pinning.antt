@@ -1,15 +1,18 @@
 -- The registers of functions, in the order of their lines.
 use Rattle.std.proofs.Common.{◌≡◌, ℕ, zero, suc, ◌+◌, ◌-◌, ◌*◌, ◌<◌, ◌≤◌, List, [], ◌∷◌, ◌++◌, map, length, length-append, Some, Bool, true, false}
+use Rattle.safl_term.specs.Names.{Names}
+use Rattle.safl_sites.specs.Plan.{Choice}
 use Rattle.std.proofs.Common.{cond, slice_get, ◌==◌, nat_lt, inl, inr, refl, sym, ap, subst, ◌∙◌, arith}
 use Rattle.std.proofs.lemmas.Bool.{eqb-true, eqb-false}
 use Rattle.std.proofs.lemmas.Option.{slice_get_within}
 use Rattle.safl_net.proofs.Naming.{pushed}
 use Rattle.safl_term.specs.Program.{Program, arity, unit_for}
-use Rattle.safl_term.specs.Checked.{CheckedProgram, IsChecked, program_of}
+use Rattle.safl_term.specs.Checked.{CheckedProgram, IsChecked}
+use Rattle.safl_term.proofs.HeldByChecked.{main_is_last}
 use Rattle.safl_net.specs.declared.cell.Sig.{Sig}
 use Rattle.safl_net.specs.Netlist.{Netlist, Signal}
-use Rattle.safl_circuit.specs.Equations.{Choice, many}
-use Rattle.safl_circuit.specs.Names.{Names, names_of, of_function, of_param, of_site}
+use Rattle.safl_circuit.specs.Equations.{many}
+use Rattle.safl_circuit.specs.Names.{of_function, of_param, of_site}
 use Rattle.std.specs.Prelude.{codes}
 use Rattle.safl_circuit.specs.Layout.{Line, lines, site_lines, function_wires, site_wires}
 use Rattle.safl_unit.specs.declared.parts.UnitPins.{UnitPins}
@@ -39,10 +42,10 @@ numbered_long s (suc n) = ap suc (numbered_long (suc s) n)
 
 module _ (c : CheckedProgram) where
   abbrev C : Program
-  C = program_of c
+  C = c.program
 
   abbrev D : Names
-  D = names_of c
+  D = c.names
 
   pub pinned : (f : ℕ) (n a b e : Netlist) (us : List UnitPins) (u : UnitPins) (m : MemberPins)
       → a ≡ with_signals n (map open_register (unit_head C D f)) → map sig_of (unit_ties C D f (Some u)) ≡ numbered (length n.signals)
@@ -250,19 +253,19 @@ lines_from_one n g h e = lines_none n g ∙ ap (λ l. with_signals n (map g l)) 
 pub none_pinned_at : (C : Program) (D : Names) (first : ℕ) (us : List UnitPins) (ms : List MemberPins) → us ≡ [] → ms ≡ [] → FunctionsPinned C D first 0 us ms
 none_pinned_at C D first us ms e q = subst (λ x. FunctionsPinned C D first 0 x ms) (sym e) (subst (λ x. FunctionsPinned C D first 0 [] x) (sym q) (none_pinned C D first))
 
-pub more_pinned_at : (c : CheckedProgram) → IsChecked c → (first f next : ℕ) (us us' slice : List UnitPins) (ms ms' : List MemberPins) (u : UnitPins) (m : MemberPins) → f < (program_of c).functions
-    → FunctionsPinned (program_of c) (names_of c) first f us ms → Pinned (program_of c) (names_of c) f next slice u m → slice ≡ us → us' ≡ us ++ u ∷ [] → ms' ≡ ms ++ m ∷ []
-    → next ≡ first + length (lines (function_lines (program_of c) (names_of c)) f) → FunctionsPinned (program_of c) (names_of c) first (f + 1) us' ms'
+pub more_pinned_at : (c : CheckedProgram) → IsChecked c → (first f next : ℕ) (us us' slice : List UnitPins) (ms ms' : List MemberPins) (u : UnitPins) (m : MemberPins) → f < c.program.functions
+    → FunctionsPinned c.program c.names first f us ms → Pinned c.program c.names f next slice u m → slice ≡ us → us' ≡ us ++ u ∷ [] → ms' ≡ ms ++ m ∷ []
+    → next ≡ first + length (lines (function_lines c.program c.names) f) → FunctionsPinned c.program c.names first (f + 1) us' ms'
 more_pinned_at c h first f next us us' slice ms ms' u m l all one e p q n =
-    subst (λ x. FunctionsPinned (program_of c) (names_of c) first (f + 1) x ms') (sym p)
-    (subst (λ x. FunctionsPinned (program_of c) (names_of c) first (f + 1) (us ++ u ∷ []) x) (sym q)
-    (subst (λ x. FunctionsPinned (program_of c) (names_of c) first x (us ++ u ∷ []) (ms ++ m ∷ [])) (let r : suc f ≡ f + 1 = omega arith in r)
-    (more_pinned (program_of c) (names_of c) first f next us ms u m all (subst (λ x. Pinned (program_of c) (names_of c) f next x u m) e one) n (λ g k. (h.formed.first g (omega (arith, k, l))).0))))
+    subst (λ x. FunctionsPinned c.program c.names first (f + 1) x ms') (sym p)
+    (subst (λ x. FunctionsPinned c.program c.names first (f + 1) (us ++ u ∷ []) x) (sym q)
+    (subst (λ x. FunctionsPinned c.program c.names first x (us ++ u ∷ []) (ms ++ m ∷ [])) (let r : suc f ≡ f + 1 = omega arith in r)
+    (more_pinned c.program c.names first f next us ms u m all (subst (λ x. Pinned c.program c.names f next x u m) e one) n (λ g k. (h.formed.first g (omega (arith, k, l))).0))))
 
 pub functions_count : (c : CheckedProgram) → IsChecked c → (n m : Netlist) (f : ℕ) → m ≡ with_signals n
-    (map open_register (lines (function_lines (program_of c) (names_of c)) f)) → length m.signals ≤ length n.signals + 20 * f
+    (map open_register (lines (function_lines c.program c.names) f)) → length m.signals ≤ length n.signals + 20 * f
 functions_count c h n m f e =
-    let a = lines_count n m open_register (lines (function_lines (program_of c) (names_of c)) f) e in
+    let a = lines_count n m open_register (lines (function_lines c.program c.names) f) e in
     let b = few_below c h f in
     omega (arith, a, b)
 
@@ -302,6 +305,5 @@ few_calls C P (suc k) =
     omega (arith, a, b, p)
 
 -- main is the last function
-pub main_is : (c : CheckedProgram) (n : ℕ) → n ≡ (program_of c).functions → n - 1 ≡ (program_of c).main
-unfolding program_of
-main_is c n e = ap (λ x. x - 1) e
+pub main_is : (c : CheckedProgram) (n : ℕ) → n ≡ c.program.functions → n - 1 ≡ c.program.main
+main_is c n e = ap (λ x. x - 1) e ∙ sym (main_is_last c)

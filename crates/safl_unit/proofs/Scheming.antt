@@ -1,11 +1,14 @@
 -- A circuit that is finished keeps its scheme and has its plan.
 use Rattle.std.proofs.Common.{◌≡◌, ℕ, zero, suc, ◌+◌, ◌*◌, ◌<◌, ◌≤◌, List, [], ◌∷◌, ◌++◌, map, length, length-append, Some, Bool, true, false, cond}
+use Rattle.safl_term.specs.Names.{Names}
+use Rattle.safl_sites.specs.Plan.{Choice}
 use Rattle.std.proofs.Common.{slice_get, nat_lt, ◌==◌, inl, inr, refl, sym, ap, subst, ◌∙◌, arith, append_assoc}
 use Rattle.std.specs.Prelude.{codes}
 use Rattle.std.proofs.lemmas.Bool.{lt-ltb, eqb-true, eqb-false}
 use Rattle.safl_word.specs.Words.{Word}
 use Rattle.safl_term.specs.Program.{Program, unit_for}
-use Rattle.safl_term.specs.Checked.{CheckedProgram, IsChecked, program_of}
+use Rattle.safl_term.specs.Checked.{CheckedProgram, IsChecked}
+use Rattle.safl_term.proofs.HeldByChecked.{params_named}
 use Rattle.safl_net.specs.declared.cell.Sig.{Sig}
 use Rattle.safl_net.specs.declared.cell.Op.TheVariants.{Copy}
 use Rattle.safl_net.specs.Netlist.{Netlist, Signal, Wire, width_in, width_of}
@@ -16,8 +19,8 @@ use Rattle.safl_net.specs.Valuations.{Valuation, Fits, signal_word, read, read_n
 use Rattle.safl_net.proofs.Growth.{width_is}
 use Rattle.safl_net.proofs.CellWords.{wired_shown}
 use Rattle.safl_net.proofs.Reading.{read_output_word}
-use Rattle.safl_circuit.specs.Equations.{Registers, Inputs, Choice, next}
-use Rattle.safl_circuit.specs.Names.{Names, names_of, of_function, of_site, registers_now, registers_next, input_now}
+use Rattle.safl_circuit.specs.Equations.{Registers, Inputs, next}
+use Rattle.safl_circuit.specs.Names.{of_function, of_site, registers_now, registers_next, input_now}
 use Rattle.safl_circuit.specs.Layout.{Line, lines, site_wires, each_line, input_kind, register_kind, wire_kind, output_lines, layout_inputs}
 use Rattle.safl_circuit.specs.Layout.{layout_registers, layout_wires, layout_outputs, temporaries, IsCopy, HasPlan}
 use Rattle.safl_circuit.specs.Scheme.{Agree, Wires, Scheme}
@@ -30,7 +33,7 @@ use Rattle.safl_unit.specs.Cycles.{PinsFit, Cycle}
 use Rattle.safl_unit.specs.Stages.{HasNext}
 use Rattle.safl_unit.specs.Ties.{Tie, line_of, sig_of, numbered, ties, register_ties, want_wire, body_ties, call_ties, wire_ties}
 use Rattle.safl_unit.specs.Finished.{input_line, open_register, open_wire, set_register, set_wire, declared_signals, declared_net, ArePins, HasControls, Finishes}
-use Rattle.safl_unit.proofs.Declaring.{map_long, map_get, params_long}
+use Rattle.safl_unit.proofs.Declaring.{map_long, map_get}
 use Rattle.safl_unit.proofs.Tables.{get_front}
 use Rattle.safl_unit.proofs.Members.{Among, among_left, among_right, among_ties, among_cond}
 use Rattle.safl_unit.proofs.Lining.{IsFull, register_lines}
@@ -100,14 +103,14 @@ all_wires [] = refl
 all_wires (l ∷ ls) = let q = all_wires ls in omega (arith, q)
 
 module _ (c : CheckedProgram) (h : IsChecked c) (P : Choice) (old new : Netlist) (p : Pins) (b : Bank) (T : Controls) (netlist : IsNetlist new)
-    (grown : Grows (declared_net (program_of c) (names_of c) P) old)
-    (pins : ArePins (program_of c) (names_of c) P p) (fits : PinsFit (program_of c) old p) (nexts : HasNext (program_of c) P old p b) (controls : HasControls (program_of c) P old p T)
-    (f : Finishes (program_of c) (names_of c) P p b T old new) where
+    (grown : Grows (declared_net c.program c.names P) old)
+    (pins : ArePins c.program c.names P p) (fits : PinsFit c.program old p) (nexts : HasNext c.program P old p b) (controls : HasControls c.program P old p T)
+    (f : Finishes c.program c.names P p b T old new) where
   abbrev C : Program
-  C = program_of c
+  C = c.program
 
   abbrev D : Names
-  D = names_of c
+  D = c.names
 
   abbrev rts : List Tie
   rts = register_ties C D P b
@@ -256,7 +259,7 @@ module _ (c : CheckedProgram) (h : IsChecked c) (P : Choice) (old new : Netlist)
       start =
           ap (λ (s : Sig). (w s.0).bits == 1) pins.start
           ∙ ap (λ x. x == 1) (sym (read_is new v 0 (input_line (codes "start", 1)) (codes "start") netlist (ap (λ l. slice_get l 0) f.signals) refl));
-      words = ap (words w) pins.words ∙ input_words (D.params C.main) (C.params C.main) rts wts (length (layout_wires C D P)) f.more new v temps (params_long c C.main) fit.full f.signals;
+      words = ap (words w) pins.words ∙ input_words (D.params C.main) (C.params C.main) rts wts (length (layout_wires C D P)) f.more new v temps (params_named c C.main) fit.full f.signals;
       bank = bank_shows c h P p.bank full_pins w (read new v) pin_reads pins.unit;
     }
 
@@ -313,7 +316,7 @@ module _ (c : CheckedProgram) (h : IsChecked c) (P : Choice) (old new : Netlist)
   finished_scheme = record {
     whole = is_set (layout_inputs C D) rts wts (length (layout_wires C D P)) f.more new temps f.signals;
     acyclic = f.acyclic;
-    params = λ g l. params_long c g;
+    params = λ g l. params_named c g;
     distinct = netlist.apart;
     outputs = outputs_are;
     inputs = ap (each_line input_kind) f.signals ∙ input_lines (layout_inputs C D) rts wts (length (layout_wires C D P)) f.more temps;

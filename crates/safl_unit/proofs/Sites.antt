@@ -1,10 +1,11 @@
 -- What a site shows, by its registers.
 use Rattle.std.proofs.Common.{◌≡◌, ℕ, zero, suc, ◌<◌, ◌≤◌, List, [], ◌∷◌, ◌++◌, length, slice_get, length-append, subst, Some, Bool, true, false, ◌&&◌, ◌||◌, not, cond, refl, sym, ap, ◌∙◌, arith}
+use Rattle.safl_sites.specs.Plan.{Choice}
 use Rattle.safl_word.specs.Words.{Word}
 use Rattle.safl_term.specs.Program.{Program, unit_for}
 use Rattle.safl_net.specs.Growth.{Val}
 use Rattle.safl_net.specs.Bits.{on, gate}
-use Rattle.safl_circuit.specs.Equations.{Registers, Choice, ret, on_wires, word_on}
+use Rattle.safl_circuit.specs.Equations.{Registers, ret, on_wires, word_on}
 use Rattle.safl_lower.specs.Sources.{IsSource, Builds}
 use Rattle.safl_lower.specs.Tables.{EachAt, pin}
 use Rattle.safl_lower.proofs.Building.{source_kept}

@@ -1,5 +1,6 @@
 -- The next words of the registers, by one entry more.
 use Rattle.std.proofs.Common.{◌≡◌, ℕ, suc, ◌+◌, ◌<◌, List, [], ◌∷◌, ◌++◌, length, length-append, Option, Some, Bool, true, false, cond, Result, Ok}
+use Rattle.safl_sites.specs.Plan.{Choice}
 use Rattle.std.proofs.Common.{Err, IfOk, slice_get, slice_index_or, ◌⊎◌, ⊎_elim, refl, sym, ap, subst, ◌∙◌, arith}
 use Rattle.safl_term.specs.Program.{Program}
 use Rattle.safl_calls.proofs.Basics.{some_is}
@@ -8,7 +9,7 @@ use Rattle.safl_net.specs.Netlist.{Netlist}
 use Rattle.safl_net.specs.Growth.{Val, Wired, words}
 use Rattle.safl_word.specs.Words.{Word}
 use Rattle.safl_net.specs.Bits.{on}
-use Rattle.safl_circuit.specs.Equations.{Choice, many, or_word}
+use Rattle.safl_circuit.specs.Equations.{many, or_word}
 use Rattle.safl_net.proofs.Growth.{wired_before}
 use Rattle.safl_lower.specs.declared.loads.Load.{Load}
 use Rattle.safl_lower.specs.Sources.{IsSource, AreSources, Builds}

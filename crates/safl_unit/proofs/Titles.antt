@@ -1,14 +1,16 @@
 -- The names of a circuit's layout are good, and all different.
 use Rattle.std.proofs.Common.{◌≡◌, ℕ, suc, ◌<◌, ◌≤◌, List, [], ◌∷◌, ◌++◌, length-append, Some, true, false, cond, ◌==◌, nat_lt, slice_get, decimal, refl, sym, ap, ◌∙◌, arith}
+use Rattle.safl_term.specs.Names.{Names}
+use Rattle.safl_sites.specs.Plan.{Choice}
 use Rattle.std.specs.Prelude.{codes}
 use Rattle.std.specs.List.{list_all}
 use Rattle.std.proofs.lemmas.Fmt.{decimal_injective}
 use Rattle.safl_word.specs.Numerals.{between}
 use Rattle.safl_term.specs.Program.{Program, unit_for}
-use Rattle.safl_term.specs.Checked.{CheckedProgram, IsChecked, program_of, name_of}
+use Rattle.safl_term.specs.Checked.{CheckedProgram, IsChecked}
 use Rattle.safl_net.specs.Names.{is_good, is_reserved}
-use Rattle.safl_circuit.specs.Equations.{Choice, many}
-use Rattle.safl_circuit.specs.Names.{Names, names_of, of_site, of_param}
+use Rattle.safl_circuit.specs.Equations.{many}
+use Rattle.safl_circuit.specs.Names.{of_site, of_param}
 use Rattle.safl_circuit.specs.Layout.{Line, lines, site_lines, function_wires, site_wires, layout_inputs, layout_wires}
 use Rattle.safl_unit.specs.Declaring.{unit_head, at_line, argument_lines, function_lines}
 use Rattle.safl_unit.proofs.Legal.{IsPiece, name_piece, decimal_piece, decimal_digits, good_headed, pair_parts, after_mark, piece_before, piece_after}
@@ -23,11 +25,11 @@ pub record AreTitled (C : Program) (D : Names) : Type 0 where
   pub params_differ : (f i j : ℕ) (x : List ℕ) → slice_get (D.params f) i ≡ Some x → slice_get (D.params f) j ≡ Some x → i ≡ j
   pub sites : C.sites < 4294967295
 
-pub titled : (c : CheckedProgram) → IsChecked c → AreTitled (program_of c) (names_of c)
+pub titled : (c : CheckedProgram) → IsChecked c → AreTitled c.program c.names
 titled c h =
     let few = h.limits.sites in
     record {
-      name = λ f l. name_piece (name_of c f) (h.names.of_functions f l);
+      name = λ f l. name_piece (c.name f) (h.names.of_functions f l);
       names_differ = h.names.of_functions_differ;
       param = λ f i x e. name_piece x (h.names.of_params f i x e);
       params_differ = h.names.of_params_differ;

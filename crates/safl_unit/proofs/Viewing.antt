@@ -1,15 +1,18 @@
 -- A bank whose signals have the numbers of its registers shows the registers of these numbers.
 use Rattle.std.proofs.Common.{◌≡◌, ℕ, suc, ◌<◌, List, [], ◌∷◌, map, length, Some, true, cond, slice_get, ◌==◌, ◌&&◌, nat_le, inl, inr, refl, sym, ap, subst, ◌∙◌, arith}
+use Rattle.safl_term.specs.Names.{Names}
+use Rattle.safl_sites.specs.Plan.{Choice}
 use Rattle.std.specs.Prelude.{codes}
 use Rattle.std.proofs.lemmas.Option.{slice_get_within}
 use Rattle.std.proofs.lemmas.Bool.{eq-eqb, lt-ltb, le-leb}
 use Rattle.safl_word.specs.Words.{Word}
 use Rattle.safl_term.specs.Program.{Program}
-use Rattle.safl_term.specs.Checked.{CheckedProgram, IsChecked, program_of}
+use Rattle.safl_term.specs.Checked.{CheckedProgram, IsChecked}
+use Rattle.safl_term.proofs.HeldByChecked.{params_named}
 use Rattle.safl_net.specs.declared.cell.Sig.{Sig}
 use Rattle.safl_net.specs.Growth.{Val, words}
-use Rattle.safl_circuit.specs.Equations.{Registers, Choice, many}
-use Rattle.safl_circuit.specs.Names.{Names, names_of, of_function, of_site, of_param, is_unit, is_site, as_word, as_words, view}
+use Rattle.safl_circuit.specs.Equations.{Registers, many}
+use Rattle.safl_circuit.specs.Names.{of_function, of_site, of_param, is_unit, is_site, as_word, as_words, view}
 use Rattle.safl_circuit.specs.Layout.{named}
 use Rattle.safl_lower.specs.Tables.{EachAt}
 use Rattle.safl_unit.specs.declared.parts.UnitPins.{UnitPins}
@@ -18,7 +21,6 @@ use Rattle.safl_unit.specs.declared.parts.SitePins.{SitePins}
 use Rattle.safl_unit.specs.declared.parts.Bank.{Bank}
 use Rattle.safl_unit.specs.Cycles.{UnitShows, MemberShows, SiteShows, BankShows}
 use Rattle.safl_unit.specs.Ties.{Tie, tied, ties, unit_ties, member_ties, function_ties, call_registers, site_ties, register_ties}
-use Rattle.safl_unit.proofs.Declaring.{params_long}
 use Rattle.safl_unit.proofs.Members.{Among, among_left, among_right, among_ties, among_cond}
 use Rattle.safl_unit.proofs.Lining.{IsFull}
 
@@ -47,13 +49,13 @@ pub record FirstsShow (C : Program) (P : Choice) (b : Bank) (v : Val) (r : Regis
   pub members : EachAt b.members.items (λ f m. MemberShows C v m r f)
   pub sites : EachAt b.sites.items (λ k s. 0 < k → SiteShows P v s r k)
 
-module _ (c : CheckedProgram) (h : IsChecked c) (P : Choice) (b : Bank) (full : IsFull (program_of c) b) (w : Val) (get : List ℕ → ℕ)
-    (read : (t : Tie) → Among t (register_ties (program_of c) (names_of c) P b) → Reads get w t) where
+module _ (c : CheckedProgram) (h : IsChecked c) (P : Choice) (b : Bank) (full : IsFull c.program b) (w : Val) (get : List ℕ → ℕ)
+    (read : (t : Tie) → Among t (register_ties c.program c.names P b) → Reads get w t) where
   abbrev C : Program
-  C = program_of c
+  C = c.program
 
   abbrev D : Names
-  D = names_of c
+  D = c.names
 
   in_function : (f : ℕ) (t : Tie) → f < C.functions → Among t (function_ties C D b.units.items b.members.items f) → Reads get w t
   in_function f t l a = read t (among_left t (ties (function_ties C D b.units.items b.members.items) C.functions) _ (among_ties t (function_ties C D b.units.items b.members.items) f C.functions l a))
@@ -93,7 +95,7 @@ module _ (c : CheckedProgram) (h : IsChecked c) (P : Choice) (b : Bank) (full : 
       record {
         at = λ q. ap (λ y. y == 1) (sym (in_member f m ((of_function D (codes "at$") f, 1), m.at) l e (among_left _ _ _ (among_cond _ (many C f) _ q (inl refl)))).number);
         arg =
-            args_read get w (of_param D f) (D.params f) (C.params f) m.args.items (params_long c f) (full.args f m e)
+            args_read get w (of_param D f) (D.params f) (C.params f) m.args.items (params_named c f) (full.args f m e)
             (λ t a. in_member f m t l e (among_right t (cond (many C f) (((of_function D (codes "at$") f, 1), m.at) ∷ []) []) _ a));
       }
 

@@ -1,5 +1,6 @@
 -- All registers after the edge.
 use Rattle.std.proofs.Common.{ℕ, ◌<◌, ◌≤◌, List, Option, is_some, subst, arith}
+use Rattle.safl_sites.specs.Plan.{Choice}
 use Rattle.std.proofs.lemmas.Option.{slice_get_within}
 use Rattle.safl_term.specs.Program.{Program}
 use Rattle.safl_term.specs.WellFormed.{IsWellFormed}
@@ -7,7 +8,7 @@ use Rattle.safl_net.specs.declared.cell.Sig.{Sig}
 use Rattle.safl_net.specs.Netlist.{Netlist}
 use Rattle.safl_net.specs.Bits.{on}
 use Rattle.safl_net.proofs.Growth.{wired_before}
-use Rattle.safl_circuit.specs.Equations.{Choice, starts, clears, starts_it, starts_other}
+use Rattle.safl_circuit.specs.Equations.{starts, clears, starts_it, starts_other}
 use Rattle.safl_lower.specs.declared.loads.Load.{Load}
 use Rattle.safl_lower.specs.Tables.{pin, taken_from, on_from}
 use Rattle.safl_lower.specs.Sources.{Builds}

@@ -1,5 +1,7 @@
 -- Named wires that copy what the controls show are as the equations say.
 use Rattle.std.proofs.Common.{◌≡◌, ℕ, zero, suc, ◌<◌, ◌≤◌, Some, Bool, true, false, cond, not, is_some, slice_get, ◌==◌, ◌&&◌, refl, sym, ap, ◌∙◌, arith}
+use Rattle.safl_term.specs.Names.{Names}
+use Rattle.safl_sites.specs.Plan.{Choice}
 use Rattle.std.specs.Prelude.{codes}
 use Rattle.safl_word.specs.Words.{Word}
 use Rattle.safl_term.specs.Program.{Program, unit_for}
@@ -9,9 +11,9 @@ use Rattle.safl_net.specs.Valuations.{Valuation, read, read_output}
 use Rattle.safl_net.specs.Growth.{Val, Wired}
 use Rattle.safl_net.proofs.Growth.{fits}
 use Rattle.safl_net.specs.Bits.{on}
-use Rattle.safl_circuit.specs.Equations.{Registers, Inputs, Choice, want, wants_at, go}
+use Rattle.safl_circuit.specs.Equations.{Registers, Inputs, want, wants_at, go}
 use Rattle.safl_calls.specs.Picks.{first}
-use Rattle.safl_circuit.specs.Names.{Names, of_function, of_site, bit}
+use Rattle.safl_circuit.specs.Names.{of_function, of_site, bit}
 use Rattle.safl_circuit.specs.Scheme.{Wires}
 use Rattle.safl_lower.specs.Sources.{IsSource}
 use Rattle.safl_lower.specs.Tables.{pin}

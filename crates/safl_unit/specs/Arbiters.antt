@@ -6,7 +6,7 @@ use Rattle.safl_net.specs.declared.cell.Sig.{Sig}
 use Rattle.safl_net.specs.Netlist.{Netlist}
 use Rattle.safl_net.specs.Growth.{Val, Wired}
 use Rattle.safl_net.specs.Bits.{on}
-use Rattle.safl_circuit.specs.Equations.{Choice}
+use Rattle.safl_sites.specs.Plan.{Choice}
 use Rattle.safl_lower.specs.declared.loads.Load.{Load}
 use Rattle.safl_lower.specs.Tables.{bit_or}
 use Rattle.safl_lower.specs.Rows.{AreBits, frees, row_at}

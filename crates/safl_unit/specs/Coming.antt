@@ -3,7 +3,7 @@ use Rattle.std.specs.Prelude.{◌≡◌, List, [], ◌∷◌, length, Result, If
 use Rattle.safl_term.specs.Program.{Program}
 use Rattle.safl_net.specs.declared.cell.Sig.{Sig}
 use Rattle.safl_net.specs.Netlist.{Netlist}
-use Rattle.safl_circuit.specs.Equations.{Choice}
+use Rattle.safl_sites.specs.Plan.{Choice}
 use Rattle.safl_lower.specs.Tables.{SomeFit, BitsFit}
 use Rattle.safl_unit.specs.declared.parts.Pins.{Pins}
 use Rattle.safl_unit.specs.declared.parts.Outcomes.{Outcomes}

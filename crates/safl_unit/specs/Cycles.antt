@@ -1,12 +1,11 @@
 -- What the ports and registers of a circuit show in a cycle.
 use Rattle.std.specs.Prelude.{◌≡◌, ℕ, suc, ◌<◌, List, length, true}
 use Rattle.safl_term.specs.Program.{Program}
-use Rattle.safl_term.specs.Checked.{program_of}
+use Rattle.safl_sites.specs.Plan.{Choice}
 use Rattle.safl_net.specs.Netlist.{Netlist}
 use Rattle.safl_net.specs.Growth.{Val, words, Wired}
 use Rattle.safl_net.specs.Bits.{on}
-use Rattle.safl_sites.specs.Planned.{PlannedProgram, arbiter_of, kept_of}
-use Rattle.safl_circuit.specs.Equations.{Registers, Inputs, Choice, many}
+use Rattle.safl_circuit.specs.Equations.{Registers, Inputs, many}
 use Rattle.safl_lower.specs.Sources.{IsSource, AreSources}
 use Rattle.safl_lower.specs.Tables.{EachAt}
 use Rattle.safl_unit.specs.declared.parts.UnitPins.{UnitPins}
@@ -14,14 +13,6 @@ use Rattle.safl_unit.specs.declared.parts.MemberPins.{MemberPins}
 use Rattle.safl_unit.specs.declared.parts.SitePins.{SitePins}
 use Rattle.safl_unit.specs.declared.parts.Bank.{Bank}
 use Rattle.safl_unit.specs.declared.parts.Pins.{Pins}
-
--- the program of a plan
-abbrev pub program_in : PlannedProgram → Program
-program_in p = program_of p.program
-
--- the arbiters and the kept words of a plan
-abbrev pub choice_of : PlannedProgram → Choice
-choice_of p = record { arbiter = arbiter_of p; kept = kept_of p }
 
 -- signals of the registers' widths
 pub record UnitFits (n : Netlist) (u : UnitPins) (w : ℕ) : Type 0 where

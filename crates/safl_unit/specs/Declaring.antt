@@ -1,11 +1,13 @@
 -- The lines of a circuit in the order in which they are declared.
 use Rattle.std.specs.Prelude.{◌≡◌, ℕ, suc, ◌<◌, List, [], ◌∷◌, ◌++◌, map, length, Some, None, false, cond, ◌==◌, codes, slice_get}
+use Rattle.safl_term.specs.Names.{Names}
+use Rattle.safl_sites.specs.Plan.{Choice}
 use Rattle.safl_term.specs.Program.{Program, unit_for}
 use Rattle.safl_net.specs.declared.cell.Sig.{Sig}
 use Rattle.safl_net.specs.Netlist.{Netlist, Signal}
 use Rattle.safl_net.specs.Making.{refusal}
-use Rattle.safl_circuit.specs.Equations.{Choice, many}
-use Rattle.safl_circuit.specs.Names.{Names, of_function, of_param, of_site}
+use Rattle.safl_circuit.specs.Equations.{many}
+use Rattle.safl_circuit.specs.Names.{of_function, of_param, of_site}
 use Rattle.safl_circuit.specs.Layout.{Line, lines, named, site_lines, site_wires}
 use Rattle.safl_lower.specs.Tables.{EachAt}
 use Rattle.safl_unit.specs.declared.parts.UnitPins.{UnitPins}

@@ -1,5 +1,6 @@
 -- The circuit before its temporaries are made, and when all is set.
 use Rattle.std.specs.Prelude.{◌≡◌, ℕ, suc, ◌+◌, ◌<◌, ◌≤◌, List, [], ◌∷◌, ◌++◌, map, length, Some, None, Result, IfOk, codes, is_some, slice_get, false}
+use Rattle.safl_term.specs.Names.{Names}
 use Rattle.safl_term.specs.Program.{Program}
 use Rattle.safl_net.specs.declared.cell.Op.TheVariants.{Copy}
 use Rattle.safl_net.specs.declared.cell.Sig.{Sig}
@@ -7,8 +8,8 @@ use Rattle.safl_net.specs.Netlist.{Netlist, Signal, Input, Reg, Wire}
 use Rattle.safl_net.specs.Valuations.{IsAcyclic}
 use Rattle.safl_net.specs.Growth.{Says}
 use Rattle.safl_net.specs.Bits.{on}
-use Rattle.safl_circuit.specs.Equations.{Choice, many, end_word, loop_words, want, ret, go}
-use Rattle.safl_circuit.specs.Names.{Names}
+use Rattle.safl_circuit.specs.Equations.{many, end_word, loop_words, want, ret, go}
+use Rattle.safl_sites.specs.Plan.{Choice}
 use Rattle.safl_circuit.specs.Layout.{Line, layout_inputs, layout_registers, layout_wires}
 use Rattle.safl_lower.specs.Sources.{IsSource}
 use Rattle.safl_lower.specs.Tables.{pin, EachAt}

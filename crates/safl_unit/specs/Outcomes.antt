@@ -1,7 +1,8 @@
 -- The circuit of one body in the circuit of its program, and how its tail calls come after those of the bodies before it.
 use Rattle.std.specs.Prelude.{◌≡◌, ℕ, suc, ◌+◌, ◌<◌, ◌≤◌, ◌⊎◌, List, [], ◌∷◌, ◌++◌, length, Option, None, Some, Vec, slice_get}
+use Rattle.safl_sites.specs.Plan.{Choice}
 use Rattle.std.specs.Global.{Global}
-use Rattle.safl_term.specs.Checked.{CheckedProgram, program_of, first_site_of}
+use Rattle.safl_term.specs.Checked.{CheckedProgram}
 use Rattle.safl_term.specs.Sizes.{nodes}
 use Rattle.safl_net.specs.Netlist.{Netlist}
 use Rattle.safl_net.specs.Growth.{Val}
@@ -12,28 +13,28 @@ use Rattle.safl_lower.specs.declared.parts.SitePorts.{SitePorts}
 use Rattle.safl_lower.specs.declared.parts.Body.{Body}
 use Rattle.safl_lower.specs.Loads.{loads_cost}
 use Rattle.safl_lower.specs.Bodies.{IsGroup, BodyFits}
-use Rattle.safl_circuit.specs.Equations.{Registers, Choice, end_word, body_wants, loop_from}
+use Rattle.safl_circuit.specs.Equations.{Registers, end_word, body_wants, loop_from}
 use Rattle.safl_unit.specs.declared.parts.Pins.{Pins}
 use Rattle.safl_unit.specs.Cycles.{InEachCycle}
 
 -- the ports of f's own sites
 pub record AreOwnPorts (c : CheckedProgram) (all : List SitePorts) (f : ℕ) (own : List SitePorts) : Type 0 where
-  pub count : first_site_of c f + length own ≡ first_site_of c (suc f)
-  pub same : (i : ℕ) → i < length own → slice_get own i ≡ slice_get all (first_site_of c f + i)
+  pub count : c.first_site f + length own ≡ c.first_site (suc f)
+  pub same : (i : ℕ) → i < length own → slice_get own i ≡ slice_get all (c.first_site f + i)
 
 -- the body ends, its own sites are wanted and it goes on as the equations say
 pub record BodyShows (c : CheckedProgram) (P : Choice) (f : ℕ) (b : Body) (v : Val) (r : Registers) : Type 0 where
-  pub end : taken v b.end ≡ one_word (end_word (program_of c) P r f)
-  pub wants : (i : ℕ) → i < length b.wants.items → taken_at v b.wants.items i ≡ body_wants (program_of c) P r (first_site_of c f + i)
-  pub loops : (i : ℕ) → i < length b.loops.items → taken_from v b.loops.items i ≡ loop_from (program_of c) P r ((program_of c).unit f + i) f
+  pub end : taken v b.end ≡ one_word (end_word c.program P r f)
+  pub wants : (i : ℕ) → i < length b.wants.items → taken_at v b.wants.items i ≡ body_wants c.program P r (c.first_site f + i)
+  pub loops : (i : ℕ) → i < length b.loops.items → taken_from v b.loops.items i ≡ loop_from c.program P r (c.program.unit f + i) f
 
 -- the circuit of f's body, with a load for each own site, and a place for each member of its group
 pub record HasBody (c : CheckedProgram) (P : Choice) (n : Netlist) (p : Pins) (f : ℕ) (b : Body) : Type 0 where
-  pub count : first_site_of c f + length b.wants.items ≡ first_site_of c (suc f)
-  pub group : IsGroup (program_of c) f (length b.loops.items)
-  pub tails : loads_cost b.loops.items ≤ nodes ((program_of c).body f)
+  pub count : c.first_site f + length b.wants.items ≡ c.first_site (suc f)
+  pub group : IsGroup c.program f (length b.loops.items)
+  pub tails : loads_cost b.loops.items ≤ nodes (c.program.body f)
   pub fits : BodyFits c f n b
-  pub shows : InEachCycle (program_of c) P n p (λ v r i. BodyShows c P f b v r)
+  pub shows : InEachCycle c.program P n p (λ v r i. BodyShows c P f b v r)
 
 -- a load alone, where it is there
 abbrev pub maybe_load : Option Load → List Load

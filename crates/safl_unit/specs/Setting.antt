@@ -1,5 +1,7 @@
 -- Registers and wires that are set one after another.
 use Rattle.std.specs.Prelude.{◌≡◌, ℕ, suc, ◌<◌, List, [], ◌∷◌, ◌++◌, map, Some, length, cond, codes}
+use Rattle.safl_term.specs.Names.{Names}
+use Rattle.safl_sites.specs.Plan.{Choice}
 use Rattle.safl_term.specs.Program.{Program}
 use Rattle.safl_net.specs.declared.cell.Sig.{Sig}
 use Rattle.safl_net.specs.declared.cell.Op.TheVariants.{Copy}
@@ -7,8 +9,8 @@ use Rattle.safl_net.specs.Netlist.{Netlist, Signal, Kind, Reg, Wire, width_of}
 use Rattle.safl_net.specs.Making.{with_kind, kind_at, cell_on}
 use Rattle.safl_net.specs.Growth.{Says}
 use Rattle.safl_net.specs.Settled.{Settles}
-use Rattle.safl_circuit.specs.Equations.{Choice, many}
-use Rattle.safl_circuit.specs.Names.{Names, of_function}
+use Rattle.safl_circuit.specs.Equations.{many}
+use Rattle.safl_circuit.specs.Names.{of_function}
 use Rattle.safl_circuit.specs.Layout.{layout_inputs}
 use Rattle.safl_unit.specs.declared.parts.Bank.{Bank}
 use Rattle.safl_unit.specs.declared.parts.Pins.{Pins}

@@ -1,5 +1,6 @@
 -- What the parts of a circuit show in each cycle.
 use Rattle.std.specs.Prelude.{◌≡◌, ℕ, zero, suc, ◌+◌, ◌<◌, ◌≤◌, List, [], ◌∷◌, length, Option, Some, None, Bool, cond, slice_get, is_some}
+use Rattle.safl_sites.specs.Plan.{Choice}
 use Rattle.safl_word.specs.Words.{Word}
 use Rattle.safl_term.specs.Program.{Program}
 use Rattle.safl_net.specs.declared.cell.Sig.{Sig}
@@ -7,9 +8,8 @@ use Rattle.safl_net.specs.Netlist.{Netlist}
 use Rattle.safl_net.specs.Growth.{Val}
 use Rattle.safl_lower.specs.declared.parts.SitePorts.{SitePorts}
 use Rattle.safl_net.specs.Bits.{on}
-use Rattle.safl_term.specs.Sizes.{nodes}
 use Rattle.safl_lower.specs.Lowering.{returned_word, was_sent}
-use Rattle.safl_circuit.specs.Equations.{Registers, Inputs, Choice, ret, on_wires, body_wants, end_word, loop_words}
+use Rattle.safl_circuit.specs.Equations.{Registers, Inputs, ret, on_wires, body_wants, end_word, loop_words}
 use Rattle.safl_circuit.specs.Equations.{go, ends, loads, starts, clears, starts_it, starts_other, next}
 use Rattle.safl_lower.specs.declared.loads.Load.{Load}
 use Rattle.safl_lower.specs.Sources.{IsSource}
@@ -45,11 +45,6 @@ pub record HasReturns (C : Program) (P : Choice) (n : Netlist) (p : Pins) (s : R
   pub shows : InEachCycle C P n p (λ v r i. ReturnsShow C P s v r)
 
 -- ---- what the bodies come to
-
--- the number of terms in the bodies of the functions below one
-unfoldable pub body_nodes : Program → ℕ → ℕ
-body_nodes C zero = 0
-body_nodes C (suc f) = body_nodes C f + nodes (C.body f)
 
 -- a call is wanted, with these words; the call of main from outside by start
 abbrev pub called : Program → Choice → Registers → Inputs → ℕ → Option (List Word)

@@ -1,12 +1,13 @@
 -- The next words of registers: those of now, and those after the edge.
 use Rattle.std.specs.Prelude.{◌≡◌, ℕ, suc, ◌<◌, List, [], ◌∷◌, length, Option, Some, Result, IfOk, Bool, true, ◌&&◌, ◌||◌, ◌⊎◌, not, cond, is_some, slice_get}
+use Rattle.safl_sites.specs.Plan.{Choice}
 use Rattle.safl_word.specs.Words.{Word}
 use Rattle.safl_term.specs.Program.{Program}
 use Rattle.safl_net.specs.declared.cell.Sig.{Sig}
 use Rattle.safl_net.specs.Netlist.{Netlist}
 use Rattle.safl_net.specs.Growth.{Val, Wired, words}
 use Rattle.safl_net.specs.Bits.{on}
-use Rattle.safl_circuit.specs.Equations.{Choice, many, or_word}
+use Rattle.safl_circuit.specs.Equations.{many, or_word}
 use Rattle.safl_lower.specs.declared.loads.Load.{Load}
 use Rattle.safl_lower.specs.Tables.{EachAt, pin, taken_in, taken_from, on_in, on_from, FitsIn}
 use Rattle.safl_unit.specs.declared.parts.UnitPins.{UnitPins}

@@ -1,9 +1,11 @@
 -- The lines of a circuit's layout, each with a signal.
 use Rattle.std.specs.Prelude.{ℕ, zero, suc, ◌+◌, ◌*◌, List, [], ◌∷◌, ◌++◌, map, length, Option, Some, None, cond, ◌==◌, nat_lt, slice_get, codes}
+use Rattle.safl_term.specs.Names.{Names}
+use Rattle.safl_sites.specs.Plan.{Choice}
 use Rattle.safl_term.specs.Program.{Program, unit_for}
 use Rattle.safl_net.specs.declared.cell.Sig.{Sig}
-use Rattle.safl_circuit.specs.Equations.{Choice, many}
-use Rattle.safl_circuit.specs.Names.{Names, of_function, of_site, of_param}
+use Rattle.safl_circuit.specs.Equations.{many}
+use Rattle.safl_circuit.specs.Names.{of_function, of_site, of_param}
 use Rattle.safl_circuit.specs.Layout.{Line, lines, named, site_wires}
 use Rattle.safl_lower.specs.Tables.{pin}
 use Rattle.safl_unit.specs.declared.parts.UnitPins.{UnitPins}

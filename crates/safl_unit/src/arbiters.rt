@@ -8,7 +8,7 @@ ghost use Rattle.safl_lower.specs.Sources.{IsSource, Builds, CanGrow};
 ghost use Rattle.safl_lower.specs.Heights.{AllWithin};
 ghost use Rattle.safl_lower.specs.Rows.{AreBits, frees, row_at};
 ghost use Rattle.safl_unit.specs.Arbiters.{site_row, tally, AreRanks, AllRowsFree};
-ghost use Rattle.safl_unit.specs.Cycles.{PinsFit, choice_of, program_in};
+ghost use Rattle.safl_unit.specs.Cycles.{PinsFit};
 
 use crate::arrivals::{callee_of, function_count, site_count, unit_of};
 use crate::parts::{Outcomes, Pins};
@@ -29,11 +29,11 @@ pub struct Wants {
 
 /// The sites of each unit.
 pub fn unit_wants(alloc: Global, p: &Planned, outcomes: &Outcomes) -> Result<Wants, NoMemory>
-    requires wants { length outcomes.now.wants.items ≡ suc (program_in p.now).sites }
-    ensures count { IfOk result (λ w. length w.rows.items ≡ (program_in p.now).functions) }
-    ensures rows { IfOk result (λ w. (u : ℕ) → row_at w.rows.items u ≡ site_row (program_in p.now) outcomes.now.wants.items u (program_in p.now).sites) }
-    ensures ranks_count { IfOk result (λ w. length w.ranks.items ≡ suc (program_in p.now).sites) }
-    ensures ranks { IfOk result (λ w. AreRanks (program_in p.now) outcomes.now.wants.items w.ranks.items) }
+    requires wants { length outcomes.now.wants.items ≡ suc p.now.program.sites }
+    ensures count { IfOk result (λ w. length w.rows.items ≡ p.now.program.functions) }
+    ensures rows { IfOk result (λ w. (u : ℕ) → row_at w.rows.items u ≡ site_row p.now.program outcomes.now.wants.items u p.now.program.sites) }
+    ensures ranks_count { IfOk result (λ w. length w.ranks.items ≡ suc p.now.program.sites) }
+    ensures ranks { IfOk result (λ w. AreRanks p.now.program outcomes.now.wants.items w.ranks.items) }
 {
     let functions = function_count(p);
     let mut rows = no_rows(alloc, functions)?;
@@ -91,13 +91,13 @@ pub fn unit_frees(
     pins: &Pins,
     rows: &Vec<Vec<Sig>>,
 ) -> Result<Vec<Vec<Sig>>, NoMemory>
-    requires pins { PinsFit (program_in p.now) net.old pins.now }
-    requires count { length rows.now.items ≡ (program_in p.now).functions }
+    requires pins { PinsFit p.now.program net.old pins.now }
+    requires count { length rows.now.items ≡ p.now.program.functions }
     requires rows { (u : ℕ) → AreBits net.old (row_at rows.now.items u) }
-    requires room { CanGrow net.old (3 * tally (λ u. length (row_at rows.now.items u)) (program_in p.now).functions) }
+    requires room { CanGrow net.old (3 * tally (λ u. length (row_at rows.now.items u)) p.now.program.functions) }
     ensures tidy { IsTidy net.new }
-    ensures built { OnOk result (Builds net.old net.new (3 * tally (λ u. length (row_at rows.now.items u)) (program_in p.now).functions)) }
-    ensures done { IfOk result (λ out. AllRowsFree (program_in p.now) (choice_of p.now) net.new pins.now rows.now.items out.items) }
+    ensures built { OnOk result (Builds net.old net.new (3 * tally (λ u. length (row_at rows.now.items u)) p.now.program.functions)) }
+    ensures done { IfOk result (λ out. AllRowsFree p.now.program p.now.choice net.new pins.now rows.now.items out.items) }
 {
     let functions = function_count(p);
     let mut out = Vec::new(alloc);

@@ -3,14 +3,12 @@
 ghost use Rattle.std.specs.Prelude.{◌≡◌, ℕ, suc, ◌+◌, ◌*◌, ◌<◌, ◌≤◌, List, length, map, Option, Some, None, IfOk, OnOk, slice_get};
 ghost use Rattle.safl_term.specs.Checked.{IsChecked};
 ghost use Rattle.safl_sites.specs.Plan.{IsPlan};
-ghost use Rattle.safl_sites.specs.Planned.{arbiter_of, kept_of};
 ghost use Rattle.safl_net.specs.Names.{IsTidy};
 ghost use Rattle.safl_lower.specs.Sources.{Builds, CanGrow};
 ghost use Rattle.safl_lower.specs.Rows.{maybe_one, row_at};
 ghost use Rattle.safl_lower.specs.Tables.{load_in, IsBitIn, BitsFit, SomeFit, JoinsSome};
 ghost use Rattle.safl_unit.specs.Stages.{OutcomesFit, GoesFit};
 ghost use Rattle.safl_unit.specs.Edges.{bit_of, ShowsEnds, ShowsArguments, ShowsStarts, ShowsClears, ShowsEntries};
-ghost use Rattle.safl_unit.specs.Cycles.{program_in};
 
 use crate::parts::Outcomes;
 use safl_lower::loads::{Load, add_bit, load_of};
@@ -30,11 +28,11 @@ pub fn unit_ends(
     p: &Planned,
     outcomes: &Outcomes,
 ) -> Result<Vec<Option<Load>>, NoMemory>
-    requires outcomes { OutcomesFit (program_in p.now) net.old outcomes.now }
-    requires room { CanGrow net.old (2 * (program_in p.now).functions) }
+    requires outcomes { OutcomesFit p.now.program net.old outcomes.now }
+    requires room { CanGrow net.old (2 * p.now.program.functions) }
     ensures tidy { IsTidy net.new }
-    ensures built { OnOk result (Builds net.old net.new (2 * (program_in p.now).functions)) }
-    ensures done { IfOk result (λ all. ShowsEnds (program_in p.now) net.new outcomes.now all.items) }
+    ensures built { OnOk result (Builds net.old net.new (2 * p.now.program.functions)) }
+    ensures done { IfOk result (λ all. ShowsEnds p.now.program net.new outcomes.now all.items) }
 {
     let functions = function_count(p);
     let mut rows = no_load_rows(alloc, functions)?;
@@ -56,12 +54,12 @@ pub fn function_loads(
     outcomes: &Outcomes,
     goes: &[Sig],
 ) -> Result<Vec<Option<Load>>, NoMemory>
-    requires outcomes { OutcomesFit (program_in p.now) net.old outcomes.now }
-    requires goes { GoesFit (program_in p.now) net.old goes.now }
-    requires room { CanGrow net.old (17 * (program_in p.now).sites + 17) }
+    requires outcomes { OutcomesFit p.now.program net.old outcomes.now }
+    requires goes { GoesFit p.now.program net.old goes.now }
+    requires room { CanGrow net.old (17 * p.now.program.sites + 17) }
     ensures tidy { IsTidy net.new }
-    ensures built { OnOk result (Builds net.old net.new (17 * (program_in p.now).sites + 17)) }
-    ensures done { IfOk result (λ all. ShowsArguments (program_in p.now) net.new outcomes.now goes.now all.items) }
+    ensures built { OnOk result (Builds net.old net.new (17 * p.now.program.sites + 17)) }
+    ensures done { IfOk result (λ all. ShowsArguments p.now.program net.new outcomes.now goes.now all.items) }
 {
     let functions = function_count(p);
     let mut rows = no_load_rows(alloc, functions)?;
@@ -84,11 +82,11 @@ pub fn unit_starts(
     p: &Planned,
     goes: &[Sig],
 ) -> Result<Vec<Option<Sig>>, NoMemory>
-    requires goes { GoesFit (program_in p.now) net.old goes.now }
-    requires room { CanGrow net.old ((program_in p.now).sites + 1) }
+    requires goes { GoesFit p.now.program net.old goes.now }
+    requires room { CanGrow net.old (p.now.program.sites + 1) }
     ensures tidy { IsTidy net.new }
-    ensures built { OnOk result (Builds net.old net.new ((program_in p.now).sites + 1)) }
-    ensures done { IfOk result (λ bits. ShowsStarts (program_in p.now) net.new goes.now bits.items) }
+    ensures built { OnOk result (Builds net.old net.new (p.now.program.sites + 1)) }
+    ensures done { IfOk result (λ bits. ShowsStarts p.now.program net.new goes.now bits.items) }
 {
     let functions = function_count(p);
     let mut rows = no_rows(alloc, functions)?;
@@ -111,13 +109,13 @@ pub fn unit_clears(
     outcomes: &Outcomes,
     ends: &[Option<Load>],
 ) -> Result<Vec<Option<Sig>>, NoMemory>
-    requires outcomes { OutcomesFit (program_in p.now) net.old outcomes.now }
-    requires count { length ends.now ≡ (program_in p.now).functions }
+    requires outcomes { OutcomesFit p.now.program net.old outcomes.now }
+    requires count { length ends.now ≡ p.now.program.functions }
     requires ends { (ws : ℕ → List ℕ) × SomeFit net.old ends.now ws }
-    requires room { CanGrow net.old (program_in p.now).functions }
+    requires room { CanGrow net.old p.now.program.functions }
     ensures tidy { IsTidy net.new }
-    ensures built { OnOk result (Builds net.old net.new (program_in p.now).functions) }
-    ensures done { IfOk result (λ bits. ShowsClears (program_in p.now) net.new outcomes.now ends.now bits.items) }
+    ensures built { OnOk result (Builds net.old net.new p.now.program.functions) }
+    ensures done { IfOk result (λ bits. ShowsClears p.now.program net.new outcomes.now ends.now bits.items) }
 {
     let functions = function_count(p);
     let mut rows = load_rows(alloc, ends, functions)?;
@@ -138,13 +136,13 @@ pub fn function_entries(
     outcomes: &Outcomes,
     loads: &[Option<Load>],
 ) -> Result<Vec<Option<Sig>>, NoMemory>
-    requires outcomes { OutcomesFit (program_in p.now) net.old outcomes.now }
-    requires count { length loads.now ≡ (program_in p.now).functions }
+    requires outcomes { OutcomesFit p.now.program net.old outcomes.now }
+    requires count { length loads.now ≡ p.now.program.functions }
     requires loads { (ws : ℕ → List ℕ) × SomeFit net.old loads.now ws }
-    requires room { CanGrow net.old (program_in p.now).functions }
+    requires room { CanGrow net.old p.now.program.functions }
     ensures tidy { IsTidy net.new }
-    ensures built { OnOk result (Builds net.old net.new (program_in p.now).functions) }
-    ensures done { IfOk result (λ bits. ShowsEntries (program_in p.now) net.new outcomes.now loads.now bits.items) }
+    ensures built { OnOk result (Builds net.old net.new p.now.program.functions) }
+    ensures done { IfOk result (λ bits. ShowsEntries p.now.program net.new outcomes.now loads.now bits.items) }
 {
     let functions = function_count(p);
     let mut all = load_bits(alloc, loads, functions)?;
@@ -157,9 +155,9 @@ pub fn function_entries(
 
 /// The program of a plan.
 pub fn program(p: &Planned) -> &Checked
-    ensures same { result.now ≡ p.now.program }
-    ensures checked { IsChecked p.now.program }
-    ensures plan { IsPlan (program_in p.now) (arbiter_of p.now) (kept_of p.now) }
+    ensures same { result.now ≡ p.now.checked }
+    ensures checked { IsChecked p.now.checked }
+    ensures plan { IsPlan p.now.program p.now.arbiter p.now.kept }
 {
     let c = p.checked();
     let functions = c.functions();
@@ -169,15 +167,15 @@ pub fn program(p: &Planned) -> &Checked
 
 /// The number of functions.
 pub fn function_count(p: &Planned) -> u32
-    ensures count { result ≡ (program_in p.now).functions }
-    ensures checked { IsChecked p.now.program }
+    ensures count { result ≡ p.now.program.functions }
+    ensures checked { IsChecked p.now.checked }
 {
     program(p).functions()
 }
 
 /// The number of sites.
 pub fn site_count(p: &Planned) -> u32
-    ensures count { result ≡ (program_in p.now).sites }
+    ensures count { result ≡ p.now.program.sites }
     ensures small { result ≤ 4000 }
 {
     program(p).sites()
@@ -185,19 +183,19 @@ pub fn site_count(p: &Planned) -> u32
 
 /// The unit of a function.
 pub fn unit_of(p: &Planned, f: u32) -> u32
-    requires { f < (program_in p.now).functions }
-    ensures number { result ≡ (program_in p.now).unit f }
+    requires { f < p.now.program.functions }
+    ensures number { result ≡ p.now.program.unit f }
     ensures within { result ≤ f }
-    ensures width { (program_in p.now).result result ≡ (program_in p.now).result f }
+    ensures width { p.now.program.result result ≡ p.now.program.result f }
 {
     program(p).unit(f)
 }
 
 /// The function that a site calls; site 0 is the call of main from outside.
 pub fn callee_of(p: &Planned, k: u32) -> u32
-    requires { k ≤ (program_in p.now).sites }
-    ensures number { result ≡ (program_in p.now).callee k }
-    ensures within { result < (program_in p.now).functions }
+    requires { k ≤ p.now.program.sites }
+    ensures number { result ≡ p.now.program.callee k }
+    ensures within { result < p.now.program.functions }
 {
     program(p).callee(k)
 }
@@ -205,9 +203,9 @@ pub fn callee_of(p: &Planned, k: u32) -> u32
 /// The function in whose body a site stands.
 pub fn caller_of(p: &Planned, k: u32) -> u32
     requires least { 1 ≤ k }
-    requires most { k ≤ (program_in p.now).sites }
-    ensures number { result ≡ (program_in p.now).caller k }
-    ensures within { result < (program_in p.now).functions }
+    requires most { k ≤ p.now.program.sites }
+    ensures number { result ≡ p.now.program.caller k }
+    ensures within { result < p.now.program.functions }
 {
     program(p).caller(k)
 }

@@ -1,17 +1,18 @@
 //! The circuits of all bodies, and what they come to.
 
 ghost use Rattle.std.specs.Prelude.{◌≡◌, ℕ, suc, ◌+◌, ◌*◌, ◌<◌, ◌≤◌, ◌==◌, ◌++◌, List, [], ◌∷◌, cond, length, IfOk, OnOk};
-ghost use Rattle.safl_term.specs.Checked.{IsChecked, program_of};
-ghost use Rattle.safl_term.specs.Sizes.{nodes};
+ghost use Rattle.safl_sites.specs.Plan.{Choice};
+ghost use Rattle.safl_term.specs.Checked.{IsChecked};
+ghost use Rattle.safl_term.specs.Sizes.{nodes, body_nodes};
 ghost use Rattle.safl_net.specs.Names.{IsTidy};
 ghost use Rattle.safl_net.specs.Bits.{on};
 ghost use Rattle.safl_lower.specs.declared.loads.Load.{Load as load};
 ghost use Rattle.safl_lower.specs.Sources.{IsSource, Builds, CanGrow};
 ghost use Rattle.safl_lower.specs.Rows.{load_joins, row_at, total};
 ghost use Rattle.safl_lower.specs.Loads.{load_cost, loads_cost};
-ghost use Rattle.safl_circuit.specs.Equations.{Choice, path};
-ghost use Rattle.safl_unit.specs.Cycles.{choice_of, PinsFit, InEachCycle, program_in};
-ghost use Rattle.safl_unit.specs.Stages.{body_nodes, HasReturns, HasOutcomes};
+ghost use Rattle.safl_circuit.specs.Equations.{path};
+ghost use Rattle.safl_unit.specs.Cycles.{PinsFit, InEachCycle};
+ghost use Rattle.safl_unit.specs.Stages.{HasReturns, HasOutcomes};
 ghost use Rattle.safl_unit.specs.Outcomes.{AreOwnPorts, HasBody, PushesLoads, maybe_load};
 
 use crate::arrivals::program;
@@ -46,12 +47,12 @@ pub fn lower_bodies(
     pins: &Pins,
     returns: &Returns,
 ) -> Result<Outcomes, NoMemory>
-    requires pins { PinsFit (program_in p.now) net.old pins.now }
-    requires returns { HasReturns (program_in p.now) (choice_of p.now) net.old pins.now returns.now }
-    requires room { CanGrow net.old (33 * body_nodes (program_in p.now) (program_in p.now).functions + 33 * (program_in p.now).functions) }
+    requires pins { PinsFit p.now.program net.old pins.now }
+    requires returns { HasReturns p.now.program p.now.choice net.old pins.now returns.now }
+    requires room { CanGrow net.old (33 * body_nodes p.now.program p.now.program.functions + 33 * p.now.program.functions) }
     ensures tidy { IsTidy net.new }
-    ensures built { OnOk result (Builds net.old net.new (33 * body_nodes (program_in p.now) (program_in p.now).functions + 33 * (program_in p.now).functions)) }
-    ensures done { IfOk result (λ o. HasOutcomes (program_in p.now) (choice_of p.now) net.new pins.now o) }
+    ensures built { OnOk result (Builds net.old net.new (33 * body_nodes p.now.program p.now.program.functions + 33 * p.now.program.functions)) }
+    ensures done { IfOk result (λ o. HasOutcomes p.now.program p.now.choice net.new pins.now o) }
 {
     let c = p.checked();
     let mut all = no_outcomes(alloc, c.functions(), pins)?;
@@ -107,13 +108,13 @@ fn body_of(
     pins: &Pins,
     returns: &Returns,
 ) -> Result<Body, NoMemory>
-    requires function { f < (program_in p.now).functions }
-    requires pins { PinsFit (program_in p.now) net.old pins.now }
-    requires returns { HasReturns (program_in p.now) (choice_of p.now) net.old pins.now returns.now }
-    requires room { CanGrow net.old (32 * nodes ((program_in p.now).body f) + 33) }
+    requires function { f < p.now.program.functions }
+    requires pins { PinsFit p.now.program net.old pins.now }
+    requires returns { HasReturns p.now.program p.now.choice net.old pins.now returns.now }
+    requires room { CanGrow net.old (32 * nodes (p.now.program.body f) + 33) }
     ensures tidy { IsTidy net.new }
-    ensures built { OnOk result (Builds net.old net.new (32 * nodes ((program_in p.now).body f) + 33)) }
-    ensures done { IfOk result (λ b. HasBody p.now.program (choice_of p.now) net.new pins.now f b) }
+    ensures built { OnOk result (Builds net.old net.new (32 * nodes (p.now.program.body f) + 33)) }
+    ensures done { IfOk result (λ b. HasBody p.now.checked p.now.choice net.new pins.now f b) }
 {
     let c = program(p);
     let run = body_path(net, c, f, pins)?;
@@ -124,13 +125,13 @@ fn body_of(
 
 // The bit that a function's body runs.
 fn body_path(net: &mut Net, c: &Checked, f: u32, pins: &Pins) -> Result<Sig, NoMemory>
-    requires function { f < (program_of c.now).functions }
-    requires pins { PinsFit (program_of c.now) net.old pins.now }
+    requires function { f < c.now.program.functions }
+    requires pins { PinsFit c.now.program net.old pins.now }
     requires room { CanGrow net.old 1 }
     ensures tidy { IsTidy net.new }
     ensures built { OnOk result (Builds net.old net.new 1) }
     ensures fits { IfOk result (λ s. IsSource net.new s 1) }
-    ensures shows { (P : Choice) → IfOk result (λ s. InEachCycle (program_of c.now) P net.new pins.now (λ v r i. on v s ≡ path (program_of c.now) r f)) }
+    ensures shows { (P : Choice) → IfOk result (λ s. InEachCycle c.now.program P net.new pins.now (λ v r i. on v s ≡ path c.now.program r f)) }
 {
     let run = pins.bank.units[f as usize].run;
     if !has_peers(c, f) {
@@ -147,8 +148,8 @@ fn own_ports(
     ports: &[SitePorts],
 ) -> Result<Vec<SitePorts>, AllocError>
     requires checked { IsChecked c.now }
-    requires function { f < (program_of c.now).functions }
-    requires ports { length ports.now ≡ suc (program_of c.now).sites }
+    requires function { f < c.now.program.functions }
+    requires ports { length ports.now ≡ suc c.now.program.sites }
     ensures { IfOk result (λ own. AreOwnPorts c.now ports.now f own.items) }
 {
     let first = c.first_site(f) as usize;

@@ -6,12 +6,9 @@ ghost use Rattle.safl_net.specs.Valuations.{IsAcyclic};
 ghost use Rattle.safl_net.specs.Whole.{IsWhole};
 ghost use Rattle.safl_net.specs.Arranged.{IsInOrder};
 ghost use Rattle.safl_sites.specs.Plan.{IsPlan};
-ghost use Rattle.safl_sites.specs.Planned.{arbiter_of, kept_of};
-ghost use Rattle.safl_circuit.specs.Names.{names_of};
 ghost use Rattle.safl_circuit.specs.Layout.{HasPlan};
 ghost use Rattle.safl_circuit.specs.Scheme.{Scheme};
 ghost use Rattle.safl_circuit.specs.Theorem.{IsCircuit};
-ghost use Rattle.safl_unit.specs.Cycles.{choice_of, program_in};
 
 use crate::bodies::lower_bodies;
 use crate::controls::controls;
@@ -59,15 +56,15 @@ impl Circuit {
 /// Its netlist is whole and free of loops, and has its inputs first, then its registers and then its wires. Fails only
 /// if out of memory.
 pub fn compile(alloc: Global, p: &Planned) -> Result<Circuit, NoMemory>
-    ensures scheme { IfOk result (λ n. Scheme (program_in p.now) (names_of p.now.program) (choice_of p.now) n) }
-    ensures plan { IfOk result (λ n. HasPlan (program_in p.now) (names_of p.now.program) (choice_of p.now) n) }
-    ensures circuit { IfOk result (λ n. IsCircuit (program_in p.now) (names_of p.now.program) (choice_of p.now) n) }
+    ensures scheme { IfOk result (λ n. Scheme p.now.program p.now.names p.now.choice n) }
+    ensures plan { IfOk result (λ n. HasPlan p.now.program p.now.names p.now.choice n) }
+    ensures circuit { IfOk result (λ n. IsCircuit p.now.program p.now.names p.now.choice n) }
     ensures tidy { IfOk result (λ n. IsTidy n) }
     ensures whole { IfOk result IsWhole }
     ensures in_order { IfOk result IsInOrder }
     ensures acyclic { IfOk result IsAcyclic }
     ensures count { IfOk result (λ n. length n.signals ≤ SIGNALS_MAX) }
-    ensures chosen { IsPlan (program_in p.now) (arbiter_of p.now) (kept_of p.now) }
+    ensures chosen { IsPlan p.now.program p.now.arbiter p.now.kept }
 {
     circuit_law();
     plan_law();

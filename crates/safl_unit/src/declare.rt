@@ -2,17 +2,16 @@
 
 ghost use Rattle.std.specs.Prelude.{◌≡◌, ◌+◌, ◌*◌, ◌<◌, ◌≤◌, ◌++◌, [], ◌∷◌, map, length, Some, None, false, slice_get, codes, IfOk, OnOk};
 ghost use Rattle.safl_term.specs.Program.{arity};
-ghost use Rattle.safl_term.specs.Checked.{IsChecked, program_of, param_names};
+ghost use Rattle.safl_term.specs.Checked.{IsChecked};
 ghost use Rattle.safl_sites.specs.Plan.{IsPlan};
-ghost use Rattle.safl_sites.specs.Planned.{arbiter_of, kept_of};
 ghost use Rattle.safl_circuit.specs.Equations.{many};
-ghost use Rattle.safl_circuit.specs.Names.{names_of, of_function};
+ghost use Rattle.safl_circuit.specs.Names.{of_function};
 ghost use Rattle.safl_circuit.specs.Layout.{lines, named, site_lines, function_wires, site_wires, layout_wires};
 ghost use Rattle.safl_net.specs.Names.{IsTidy};
 ghost use Rattle.safl_net.specs.Making.{refusal};
 ghost use Rattle.safl_net.specs.Settled.{IsSettled};
 ghost use Rattle.safl_lower.specs.Sources.{HasRoom};
-ghost use Rattle.safl_unit.specs.Cycles.{choice_of, PinsFit, program_in};
+ghost use Rattle.safl_unit.specs.Cycles.{PinsFit};
 ghost use Rattle.safl_unit.specs.Ties.{numbered};
 ghost use Rattle.safl_unit.specs.Finished.{input_line, open_register, open_wire, declared_net, ArePins};
 ghost use Rattle.safl_unit.specs.Declaring.{with_signals, MayAdd, unit_head, at_line, argument_lines, function_lines, port_lines, arbiter_line, Pinned};
@@ -81,13 +80,13 @@ fn add_unit(
     f: u32,
     units: &[UnitPins],
 ) -> Result<UnitPins, NoMemory>
-    requires function { f < (program_of c.now).functions }
+    requires function { f < c.now.program.functions }
     requires before { length units.now ≡ f }
     requires room { HasRoom net.old 3 }
-    requires free { MayAdd net.old (map open_register (unit_head (program_of c.now) (names_of c.now) f)) }
-    ensures added { OnOk result (net.new ≡ with_signals net.old (map open_register (unit_head (program_of c.now) (names_of c.now) f))) }
-    ensures order { IfOk result (λ u. UnitPinned (program_of c.now) (names_of c.now) f (length net.old.signals) u) }
-    ensures same { IfOk result (λ u. ((program_of c.now).unit f ≡ f → ⊥) → slice_get units.now ((program_of c.now).unit f) ≡ Some u) }
+    requires free { MayAdd net.old (map open_register (unit_head c.now.program c.now.names f)) }
+    ensures added { OnOk result (net.new ≡ with_signals net.old (map open_register (unit_head c.now.program c.now.names f))) }
+    ensures order { IfOk result (λ u. UnitPinned c.now.program c.now.names f (length net.old.signals) u) }
+    ensures same { IfOk result (λ u. (c.now.program.unit f ≡ f → ⊥) → slice_get units.now (c.now.program.unit f) ≡ Some u) }
 {
     let unit = c.unit(f);
     if unit != f {
@@ -102,12 +101,12 @@ fn add_unit(
 
 // The register that says that a function runs, where its unit has other members.
 fn add_at(alloc: Global, net: &mut Net, c: &Checked, f: u32, run: Sig) -> Result<Sig, NoMemory>
-    requires function { f < (program_of c.now).functions }
+    requires function { f < c.now.program.functions }
     requires room { HasRoom net.old 1 }
-    requires free { MayAdd net.old (map open_register (at_line (program_of c.now) (names_of c.now) f)) }
-    ensures added { OnOk result (net.new ≡ with_signals net.old (map open_register (at_line (program_of c.now) (names_of c.now) f))) }
-    ensures order { IfOk result (λ s. AtPinned (program_of c.now) (names_of c.now) f (length net.old.signals) s) }
-    ensures lone { IfOk result (λ s. many (program_of c.now) f ≡ false → s ≡ run) }
+    requires free { MayAdd net.old (map open_register (at_line c.now.program c.now.names f)) }
+    ensures added { OnOk result (net.new ≡ with_signals net.old (map open_register (at_line c.now.program c.now.names f))) }
+    ensures order { IfOk result (λ s. AtPinned c.now.program c.now.names f (length net.old.signals) s) }
+    ensures lone { IfOk result (λ s. many c.now.program f ≡ false → s ≡ run) }
 {
     if !has_peers(c, f) {
         return Ok(run);
@@ -118,11 +117,11 @@ fn add_at(alloc: Global, net: &mut Net, c: &Checked, f: u32, run: Sig) -> Result
 
 // The registers of a function's arguments.
 fn add_arguments(alloc: Global, net: &mut Net, c: &Checked, f: u32) -> Result<Vec<Sig>, NoMemory>
-    requires function { f < (program_of c.now).functions }
-    requires room { HasRoom net.old (arity (program_of c.now) f) }
-    requires free { MayAdd net.old (map open_register (argument_lines (program_of c.now) (names_of c.now) f)) }
-    ensures added { OnOk result (net.new ≡ with_signals net.old (map open_register (argument_lines (program_of c.now) (names_of c.now) f))) }
-    ensures order { IfOk result (λ v. v.items ≡ numbered (length net.old.signals) (arity (program_of c.now) f)) }
+    requires function { f < c.now.program.functions }
+    requires room { HasRoom net.old (arity c.now.program f) }
+    requires free { MayAdd net.old (map open_register (argument_lines c.now.program c.now.names f)) }
+    ensures added { OnOk result (net.new ≡ with_signals net.old (map open_register (argument_lines c.now.program c.now.names f))) }
+    ensures order { IfOk result (λ v. v.items ≡ numbered (length net.old.signals) (arity c.now.program f)) }
 {
     let mut args = Vec::new(alloc);
     for i in 0..c.params(f) {
@@ -148,12 +147,12 @@ fn add_function(
     f: u32,
     units: &[UnitPins],
 ) -> Result<FunctionPins, NoMemory>
-    requires function { f < (program_of c.now).functions }
+    requires function { f < c.now.program.functions }
     requires before { length units.now ≡ f }
-    requires room { HasRoom net.old (4 + arity (program_of c.now) f) }
-    requires free { MayAdd net.old (map open_register (function_lines (program_of c.now) (names_of c.now) f)) }
-    ensures added { OnOk result (net.new ≡ with_signals net.old (map open_register (function_lines (program_of c.now) (names_of c.now) f))) }
-    ensures pinned { IfOk result (λ r. Pinned (program_of c.now) (names_of c.now) f (length net.old.signals) units.now r.unit r.member) }
+    requires room { HasRoom net.old (4 + arity c.now.program f) }
+    requires free { MayAdd net.old (map open_register (function_lines c.now.program c.now.names f)) }
+    ensures added { OnOk result (net.new ≡ with_signals net.old (map open_register (function_lines c.now.program c.now.names f))) }
+    ensures pinned { IfOk result (λ r. Pinned c.now.program c.now.names f (length net.old.signals) units.now r.unit r.member) }
 {
     let unit = add_unit(alloc, net, c, f, units)?;
     let at = add_at(alloc, net, c, f, unit.run)?;
@@ -172,10 +171,10 @@ struct Functions {
 }
 
 fn add_functions(alloc: Global, net: &mut Net, c: &Checked) -> Result<Functions, NoMemory>
-    requires room { HasRoom net.old (20 * (program_of c.now).functions) }
-    requires free { MayAdd net.old (map open_register (own_lines (program_of c.now) (names_of c.now))) }
-    ensures added { OnOk result (net.new ≡ with_signals net.old (map open_register (own_lines (program_of c.now) (names_of c.now)))) }
-    ensures pinned { IfOk result (λ r. AllFunctionsPinned (program_of c.now) (names_of c.now) (length net.old.signals) r.units.items r.members.items) }
+    requires room { HasRoom net.old (20 * c.now.program.functions) }
+    requires free { MayAdd net.old (map open_register (own_lines c.now.program c.now.names)) }
+    ensures added { OnOk result (net.new ≡ with_signals net.old (map open_register (own_lines c.now.program c.now.names))) }
+    ensures pinned { IfOk result (λ r. AllFunctionsPinned c.now.program c.now.names (length net.old.signals) r.units.items r.members.items) }
 {
     let mut units = Vec::new(alloc);
     let mut members = Vec::new(alloc);
@@ -196,12 +195,12 @@ fn add_site(
     units: &[UnitPins],
 ) -> Result<SitePins, NoMemory>
     requires least { 1 ≤ k }
-    requires most { k ≤ (program_in p.now).sites }
-    requires units { length units.now ≡ (program_in p.now).functions }
+    requires most { k ≤ p.now.program.sites }
+    requires units { length units.now ≡ p.now.program.functions }
     requires room { HasRoom net.old 3 }
-    requires free { MayAdd net.old (map open_register (site_lines (program_in p.now) (choice_of p.now) k)) }
-    ensures added { OnOk result (net.new ≡ with_signals net.old (map open_register (site_lines (program_in p.now) (choice_of p.now) k))) }
-    ensures pinned { IfOk result (λ s. SitePinned (program_in p.now) (choice_of p.now) k (length net.old.signals) units.now s) }
+    requires free { MayAdd net.old (map open_register (site_lines p.now.program p.now.choice k)) }
+    ensures added { OnOk result (net.new ≡ with_signals net.old (map open_register (site_lines p.now.program p.now.choice k))) }
+    ensures pinned { IfOk result (λ s. SitePinned p.now.program p.now.choice k (length net.old.signals) units.now s) }
 {
     let c = program(p);
     let callee = c.callee(k);
@@ -222,11 +221,11 @@ fn add_sites(
     p: &Planned,
     units: &[UnitPins],
 ) -> Result<Vec<SitePins>, NoMemory>
-    requires units { length units.now ≡ (program_in p.now).functions }
-    requires room { HasRoom net.old (3 * (program_in p.now).sites + 3) }
-    requires free { MayAdd net.old (map open_register (call_lines (program_in p.now) (choice_of p.now))) }
-    ensures added { OnOk result (net.new ≡ with_signals net.old (map open_register (call_lines (program_in p.now) (choice_of p.now)))) }
-    ensures pinned { IfOk result (λ s. AllSitesPinned (program_in p.now) (choice_of p.now) (length net.old.signals) units.now s.items) }
+    requires units { length units.now ≡ p.now.program.functions }
+    requires room { HasRoom net.old (3 * p.now.program.sites + 3) }
+    requires free { MayAdd net.old (map open_register (call_lines p.now.program p.now.choice)) }
+    ensures added { OnOk result (net.new ≡ with_signals net.old (map open_register (call_lines p.now.program p.now.choice))) }
+    ensures pinned { IfOk result (λ s. AllSitesPinned p.now.program p.now.choice (length net.old.signals) units.now s.items) }
 {
     let c = program(p);
     let mut sites = Vec::new(alloc);
@@ -244,10 +243,10 @@ fn add_sites(
 
 // The named wires of a function.
 fn add_body_wires(alloc: Global, net: &mut Net, c: &Checked, f: u32) -> Result<(), NoMemory>
-    requires function { f < (program_of c.now).functions }
+    requires function { f < c.now.program.functions }
     requires room { HasRoom net.old 2 }
-    requires free { MayAdd net.old (map open_wire (function_wires (names_of c.now) f)) }
-    ensures { OnOk result (net.new ≡ with_signals net.old (map open_wire (function_wires (names_of c.now) f))) }
+    requires free { MayAdd net.old (map open_wire (function_wires c.now.names f)) }
+    ensures { OnOk result (net.new ≡ with_signals net.old (map open_wire (function_wires c.now.names f))) }
 {
     let name = c.name(f);
     add_wire(net, headed(alloc, "end$", name)?.as_str())?;
@@ -257,9 +256,9 @@ fn add_body_wires(alloc: Global, net: &mut Net, c: &Checked, f: u32) -> Result<(
 
 // The named wires of all functions.
 fn add_all_body_wires(alloc: Global, net: &mut Net, c: &Checked) -> Result<(), NoMemory>
-    requires room { HasRoom net.old (2 * (program_of c.now).functions) }
-    requires free { MayAdd net.old (map open_wire (lines (function_wires (names_of c.now)) (program_of c.now).functions)) }
-    ensures { OnOk result (net.new ≡ with_signals net.old (map open_wire (lines (function_wires (names_of c.now)) (program_of c.now).functions))) }
+    requires room { HasRoom net.old (2 * c.now.program.functions) }
+    requires free { MayAdd net.old (map open_wire (lines (function_wires c.now.names) c.now.program.functions)) }
+    ensures { OnOk result (net.new ≡ with_signals net.old (map open_wire (lines (function_wires c.now.names) c.now.program.functions))) }
 {
     for f in 0..c.functions() {
         add_body_wires(alloc, net, c, f)?;
@@ -275,11 +274,11 @@ fn add_arbiter_wire(
     k: u32,
     callee: u32,
 ) -> Result<(), NoMemory>
-    requires callee { callee ≡ (program_in p.now).callee k }
-    requires function { callee < (program_in p.now).functions }
+    requires callee { callee ≡ p.now.program.callee k }
+    requires function { callee < p.now.program.functions }
     requires room { HasRoom net.old 1 }
-    requires free { MayAdd net.old (map open_wire (arbiter_line (program_in p.now) (choice_of p.now) k)) }
-    ensures { OnOk result (net.new ≡ with_signals net.old (map open_wire (arbiter_line (program_in p.now) (choice_of p.now) k))) }
+    requires free { MayAdd net.old (map open_wire (arbiter_line p.now.program p.now.choice k)) }
+    ensures { OnOk result (net.new ≡ with_signals net.old (map open_wire (arbiter_line p.now.program p.now.choice k))) }
 {
     if !p.arbiter(callee) {
         return Ok(());
@@ -291,10 +290,10 @@ fn add_arbiter_wire(
 // The named wires of a site.
 fn add_call_wires(alloc: Global, net: &mut Net, p: &Planned, k: u32) -> Result<(), NoMemory>
     requires least { 1 ≤ k }
-    requires most { k ≤ (program_in p.now).sites }
+    requires most { k ≤ p.now.program.sites }
     requires room { HasRoom net.old 4 }
-    requires free { MayAdd net.old (map open_wire (site_wires (program_in p.now) (choice_of p.now) k)) }
-    ensures { OnOk result (net.new ≡ with_signals net.old (map open_wire (site_wires (program_in p.now) (choice_of p.now) k))) }
+    requires free { MayAdd net.old (map open_wire (site_wires p.now.program p.now.choice k)) }
+    ensures { OnOk result (net.new ≡ with_signals net.old (map open_wire (site_wires p.now.program p.now.choice k))) }
 {
     let c = program(p);
     let callee = c.callee(k);
@@ -307,9 +306,9 @@ fn add_call_wires(alloc: Global, net: &mut Net, p: &Planned, k: u32) -> Result<(
 
 // The named wires of all sites.
 fn add_all_call_wires(alloc: Global, net: &mut Net, p: &Planned) -> Result<(), NoMemory>
-    requires room { HasRoom net.old (4 * (program_in p.now).sites + 4) }
-    requires free { MayAdd net.old (map open_wire (call_wires (program_in p.now) (choice_of p.now))) }
-    ensures { OnOk result (net.new ≡ with_signals net.old (map open_wire (call_wires (program_in p.now) (choice_of p.now)))) }
+    requires room { HasRoom net.old (4 * p.now.program.sites + 4) }
+    requires free { MayAdd net.old (map open_wire (call_wires p.now.program p.now.choice)) }
+    ensures { OnOk result (net.new ≡ with_signals net.old (map open_wire (call_wires p.now.program p.now.choice))) }
 {
     let c = program(p);
     for k in 1..c.sites() + 1 {
@@ -320,11 +319,11 @@ fn add_all_call_wires(alloc: Global, net: &mut Net, p: &Planned) -> Result<(), N
 
 // The ports of a function's arguments.
 fn add_ports(alloc: Global, net: &mut Net, c: &Checked, f: u32) -> Result<Vec<Sig>, NoMemory>
-    requires function { f < (program_of c.now).functions }
-    requires room { HasRoom net.old (arity (program_of c.now) f) }
-    requires free { MayAdd net.old (map input_line (port_lines (program_of c.now) (names_of c.now) f)) }
-    ensures added { OnOk result (net.new ≡ with_signals net.old (map input_line (port_lines (program_of c.now) (names_of c.now) f))) }
-    ensures order { IfOk result (λ v. v.items ≡ numbered (length net.old.signals) (arity (program_of c.now) f)) }
+    requires function { f < c.now.program.functions }
+    requires room { HasRoom net.old (arity c.now.program f) }
+    requires free { MayAdd net.old (map input_line (port_lines c.now.program c.now.names f)) }
+    ensures added { OnOk result (net.new ≡ with_signals net.old (map input_line (port_lines c.now.program c.now.names f))) }
+    ensures order { IfOk result (λ v. v.items ≡ numbered (length net.old.signals) (arity c.now.program f)) }
 {
     let mut words = Vec::new(alloc);
     for i in 0..c.params(f) {
@@ -337,9 +336,9 @@ fn add_ports(alloc: Global, net: &mut Net, c: &Checked, f: u32) -> Result<Vec<Si
 
 // All named wires.
 fn add_wires(alloc: Global, net: &mut Net, p: &Planned) -> Result<(), NoMemory>
-    requires room { HasRoom net.old (2 * (program_in p.now).functions + 4 * (program_in p.now).sites + 5) }
-    requires free { MayAdd net.old (map open_wire (layout_wires (program_in p.now) (names_of p.now.program) (choice_of p.now))) }
-    ensures { OnOk result (net.new ≡ with_signals net.old (map open_wire (layout_wires (program_in p.now) (names_of p.now.program) (choice_of p.now)))) }
+    requires room { HasRoom net.old (2 * p.now.program.functions + 4 * p.now.program.sites + 5) }
+    requires free { MayAdd net.old (map open_wire (layout_wires p.now.program p.now.names p.now.choice)) }
+    ensures { OnOk result (net.new ≡ with_signals net.old (map open_wire (layout_wires p.now.program p.now.names p.now.choice))) }
 {
     add_all_body_wires(alloc, net, p.checked())?;
     add_all_call_wires(alloc, net, p)?;
@@ -357,13 +356,13 @@ pub struct Declared {
 /// The ports, registers and named wires of a program's circuit in their order, the registers without next signals and
 /// the wires without cells.
 pub fn declare(alloc: Global, p: &Planned) -> Result<Declared, NoMemory>
-    ensures net { IfOk result (λ d. d.net ≡ declared_net (program_in p.now) (names_of p.now.program) (choice_of p.now)) }
-    ensures pins { IfOk result (λ d. ArePins (program_in p.now) (names_of p.now.program) (choice_of p.now) d.pins) }
-    ensures fits { IfOk result (λ d. PinsFit (program_in p.now) d.net d.pins) }
+    ensures net { IfOk result (λ d. d.net ≡ declared_net p.now.program p.now.names p.now.choice) }
+    ensures pins { IfOk result (λ d. ArePins p.now.program p.now.names p.now.choice d.pins) }
+    ensures fits { IfOk result (λ d. PinsFit p.now.program d.net d.pins) }
     ensures tidy { IfOk result (λ d. IsTidy d.net) }
     ensures settled { IfOk result (λ d. IsSettled d.net) }
-    ensures checked { IsChecked p.now.program }
-    ensures plan { IsPlan (program_in p.now) (arbiter_of p.now) (kept_of p.now) }
+    ensures checked { IsChecked p.now.checked }
+    ensures plan { IsPlan p.now.program p.now.arbiter p.now.kept }
 {
     let c = program(p);
     let main = main_function(c);

@@ -5,7 +5,7 @@ ghost use Rattle.safl_term.specs.Checked.{IsChecked};
 ghost use Rattle.safl_net.specs.Names.{IsTidy};
 ghost use Rattle.safl_lower.specs.Sources.{Builds, CanGrow};
 ghost use Rattle.safl_lower.specs.Tables.{FitsIn, IsBitIn};
-ghost use Rattle.safl_unit.specs.Cycles.{UnitFits, PinsFit, choice_of, program_in};
+ghost use Rattle.safl_unit.specs.Cycles.{UnitFits, PinsFit};
 ghost use Rattle.safl_unit.specs.Stages.{ReturnsFit, OutcomesFit, GoesFit, EndsFit, TestsFit, HasReturns, HasOutcomes, HasGoes, HasNext};
 ghost use Rattle.safl_unit.specs.Coming.{EventsFit};
 ghost use Rattle.safl_unit.specs.Steps.{AllUnitsNext, GivesUnit, AllMembersNext, AllSitesNext};
@@ -31,14 +31,14 @@ pub fn edge(
     outcomes: &Outcomes,
     goes: &[Sig],
 ) -> Result<Bank, NoMemory>
-    requires pins { PinsFit (program_in p.now) net.old pins.now }
-    requires returns { HasReturns (program_in p.now) (choice_of p.now) net.old pins.now returns.now }
-    requires outcomes { HasOutcomes (program_in p.now) (choice_of p.now) net.old pins.now outcomes.now }
-    requires goes { HasGoes (program_in p.now) (choice_of p.now) net.old pins.now goes.now }
-    requires room { CanGrow net.old (64 * (program_in p.now).functions + 32 * (program_in p.now).sites + 32) }
+    requires pins { PinsFit p.now.program net.old pins.now }
+    requires returns { HasReturns p.now.program p.now.choice net.old pins.now returns.now }
+    requires outcomes { HasOutcomes p.now.program p.now.choice net.old pins.now outcomes.now }
+    requires goes { HasGoes p.now.program p.now.choice net.old pins.now goes.now }
+    requires room { CanGrow net.old (64 * p.now.program.functions + 32 * p.now.program.sites + 32) }
     ensures tidy { IsTidy net.new }
-    ensures built { OnOk result (Builds net.old net.new (64 * (program_in p.now).functions + 32 * (program_in p.now).sites + 32)) }
-    ensures done { IfOk result (λ b. HasNext (program_in p.now) (choice_of p.now) net.new pins.now b) }
+    ensures built { OnOk result (Builds net.old net.new (64 * p.now.program.functions + 32 * p.now.program.sites + 32)) }
+    ensures done { IfOk result (λ b. HasNext p.now.program p.now.choice net.new pins.now b) }
 {
     let events = edge_events(alloc, net, p, outcomes, goes)?;
     let units = next_units(alloc, net, p, pins, &events.ends, &events.starts)?;
@@ -60,14 +60,14 @@ pub fn next_units(
     ends: &[Option<Load>],
     starts: &[Option<Sig>],
 ) -> Result<Vec<UnitPins>, NoMemory>
-    requires pins { PinsFit (program_in p.now) net.old pins.now }
-    requires ends { EndsFit (program_in p.now) net.old ends.now }
-    requires starts { TestsFit (program_in p.now) net.old starts.now }
-    requires room { CanGrow net.old (5 * (program_in p.now).functions) }
+    requires pins { PinsFit p.now.program net.old pins.now }
+    requires ends { EndsFit p.now.program net.old ends.now }
+    requires starts { TestsFit p.now.program net.old starts.now }
+    requires room { CanGrow net.old (5 * p.now.program.functions) }
     ensures tidy { IsTidy net.new }
-    ensures built { OnOk result (Builds net.old net.new (5 * (program_in p.now).functions)) }
-    ensures checked { IsChecked p.now.program }
-    ensures done { IfOk result (λ all. AllUnitsNext (program_in p.now) net.new pins.now ends.now starts.now all.items) }
+    ensures built { OnOk result (Builds net.old net.new (5 * p.now.program.functions)) }
+    ensures checked { IsChecked p.now.checked }
+    ensures done { IfOk result (λ all. AllUnitsNext p.now.program net.new pins.now ends.now starts.now all.items) }
 {
     let functions = function_count(p);
     let mut all = Vec::new(alloc);
@@ -114,13 +114,13 @@ pub fn next_members(
     events: &Events,
     outcomes: &Outcomes,
 ) -> Result<Vec<MemberPins>, NoMemory>
-    requires pins { PinsFit (program_in p.now) net.old pins.now }
-    requires events { EventsFit (program_in p.now) net.old events.now }
-    requires outcomes { OutcomesFit (program_in p.now) net.old outcomes.now }
-    requires room { CanGrow net.old (35 * (program_in p.now).functions) }
+    requires pins { PinsFit p.now.program net.old pins.now }
+    requires events { EventsFit p.now.program net.old events.now }
+    requires outcomes { OutcomesFit p.now.program net.old outcomes.now }
+    requires room { CanGrow net.old (35 * p.now.program.functions) }
     ensures tidy { IsTidy net.new }
-    ensures built { OnOk result (Builds net.old net.new (35 * (program_in p.now).functions)) }
-    ensures done { IfOk result (λ all. AllMembersNext (program_in p.now) net.new pins.now events.now outcomes.now all.items) }
+    ensures built { OnOk result (Builds net.old net.new (35 * p.now.program.functions)) }
+    ensures done { IfOk result (λ all. AllMembersNext p.now.program net.new pins.now events.now outcomes.now all.items) }
 {
     let functions = function_count(p);
     let mut all = Vec::new(alloc);
@@ -148,14 +148,14 @@ pub fn next_sites(
     goes: &[Sig],
     clears: &[Option<Sig>],
 ) -> Result<Vec<SitePins>, NoMemory>
-    requires pins { PinsFit (program_in p.now) net.old pins.now }
-    requires returns { ReturnsFit (program_in p.now) net.old returns.now }
-    requires goes { GoesFit (program_in p.now) net.old goes.now }
-    requires clears { TestsFit (program_in p.now) net.old clears.now }
-    requires room { CanGrow net.old (7 * (program_in p.now).sites) }
+    requires pins { PinsFit p.now.program net.old pins.now }
+    requires returns { ReturnsFit p.now.program net.old returns.now }
+    requires goes { GoesFit p.now.program net.old goes.now }
+    requires clears { TestsFit p.now.program net.old clears.now }
+    requires room { CanGrow net.old (7 * p.now.program.sites) }
     ensures tidy { IsTidy net.new }
-    ensures built { OnOk result (Builds net.old net.new (7 * (program_in p.now).sites)) }
-    ensures done { IfOk result (λ all. AllSitesNext (program_in p.now) (choice_of p.now) net.new pins.now returns.now goes.now clears.now all.items) }
+    ensures built { OnOk result (Builds net.old net.new (7 * p.now.program.sites)) }
+    ensures done { IfOk result (λ all. AllSitesNext p.now.program p.now.choice net.new pins.now returns.now goes.now clears.now all.items) }
 {
     let first = pins.bank.sites[0];
     let mut all = one_site(alloc, first)?;

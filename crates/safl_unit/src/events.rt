@@ -3,7 +3,6 @@
 ghost use Rattle.std.specs.Prelude.{◌≡◌, ℕ, suc, ◌+◌, ◌*◌, ◌≤◌, length, OnOk};
 ghost use Rattle.safl_net.specs.Names.{IsTidy};
 ghost use Rattle.safl_lower.specs.Sources.{Builds, CanGrow};
-ghost use Rattle.safl_unit.specs.Cycles.{choice_of, program_in};
 ghost use Rattle.safl_unit.specs.Stages.{OutcomesFit, GoesFit};
 ghost use Rattle.safl_unit.specs.Coming.{GivesEvents};
 
@@ -39,12 +38,12 @@ pub fn edge_events(
     outcomes: &Outcomes,
     goes: &[Sig],
 ) -> Result<Events, NoMemory>
-    requires outcomes { OutcomesFit (program_in p.now) net.old outcomes.now }
-    requires goes { GoesFit (program_in p.now) net.old goes.now }
-    requires room { CanGrow net.old (11 * (program_in p.now).functions + 18 * (program_in p.now).sites + 18) }
+    requires outcomes { OutcomesFit p.now.program net.old outcomes.now }
+    requires goes { GoesFit p.now.program net.old goes.now }
+    requires room { CanGrow net.old (11 * p.now.program.functions + 18 * p.now.program.sites + 18) }
     ensures tidy { IsTidy net.new }
-    ensures built { OnOk result (Builds net.old net.new (11 * (program_in p.now).functions + 18 * (program_in p.now).sites + 18)) }
-    ensures done { GivesEvents result (program_in p.now) (choice_of p.now) net.old net.new outcomes.now goes.now }
+    ensures built { OnOk result (Builds net.old net.new (11 * p.now.program.functions + 18 * p.now.program.sites + 18)) }
+    ensures done { GivesEvents result p.now.program p.now.choice net.old net.new outcomes.now goes.now }
 {
     let ends = unit_ends(alloc, net, p, outcomes)?;
     let loads = function_loads(alloc, net, p, outcomes, goes)?;

@@ -2,17 +2,15 @@
 
 ghost use Rattle.std.specs.Prelude.{◌≡◌, ℕ, suc, ◌+◌, ◌*◌, ◌<◌, ◌≤◌, ◌++◌, [], ◌∷◌, map, length, Some, None, false, codes, IfOk, OnOk, OnErr};
 ghost use Rattle.safl_term.specs.Program.{arity};
-ghost use Rattle.safl_term.specs.Checked.{program_of};
 ghost use Rattle.safl_net.specs.Netlist.{Reg, Wire};
 ghost use Rattle.safl_net.specs.Making.{with_kind, with_output, refusal};
 ghost use Rattle.safl_net.specs.Names.{is_temp, IsTidy};
 ghost use Rattle.safl_net.specs.Settled.{IsSettled};
 ghost use Rattle.safl_net.specs.Growth.{Grows};
-ghost use Rattle.safl_circuit.specs.Names.{names_of};
 ghost use Rattle.safl_circuit.specs.Layout.{layout_wires};
 ghost use Rattle.safl_lower.specs.Sources.{CanGrow};
 ghost use Rattle.safl_lower.specs.Tables.{EachAt};
-ghost use Rattle.safl_unit.specs.Cycles.{choice_of, BankFits, PinsFit, program_in};
+ghost use Rattle.safl_unit.specs.Cycles.{BankFits, PinsFit};
 ghost use Rattle.safl_unit.specs.Ties.{sig_of, unit_ties, site_ties, register_ties, ties, want_wire, body_ties, call_ties, wire_ties};
 ghost use Rattle.safl_unit.specs.Finished.{declared_net, ArePins, ControlsFit, Finishes};
 ghost use Rattle.safl_unit.specs.Setting.{with_kinds, next_kind, copy_kind, Takes, at_ties, IsSet, own_ties, bank_ties};
@@ -72,8 +70,8 @@ fn set_copies(net: &mut Net, first: u32, all: &[Sig])
 
 // The next signals of a unit's registers, at its first member.
 fn add_unit(all: &mut Vec<Sig>, c: &Checked, f: u32, unit: UnitPins) -> Result<(), AllocError>
-    requires { f < (program_of c.now).functions }
-    ensures { OnOk result (all.new.items ≡ all.old.items ++ map sig_of (unit_ties (program_of c.now) (names_of c.now) f (Some unit))) }
+    requires { f < c.now.program.functions }
+    ensures { OnOk result (all.new.items ≡ all.old.items ++ map sig_of (unit_ties c.now.program c.now.names f (Some unit))) }
 {
     if c.unit(f) != f {
         return Ok(());
@@ -84,8 +82,8 @@ fn add_unit(all: &mut Vec<Sig>, c: &Checked, f: u32, unit: UnitPins) -> Result<(
 
 // The next signal of the register that says that a function runs, where its unit has other members.
 fn add_at(all: &mut Vec<Sig>, c: &Checked, f: u32, at: Sig) -> Result<(), AllocError>
-    requires { f < (program_of c.now).functions }
-    ensures { OnOk result (all.new.items ≡ all.old.items ++ map sig_of (at_ties (program_of c.now) (names_of c.now) f at)) }
+    requires { f < c.now.program.functions }
+    ensures { OnOk result (all.new.items ≡ all.old.items ++ map sig_of (at_ties c.now.program c.now.names f at)) }
 {
     if !has_peers(c, f) {
         return Ok(());
@@ -96,11 +94,11 @@ fn add_at(all: &mut Vec<Sig>, c: &Checked, f: u32, at: Sig) -> Result<(), AllocE
 
 // The next signals of a function's registers, after those of its unit where it is the first member.
 fn add_function(all: &mut Vec<Sig>, c: &Checked, next: &Bank, f: u32) -> Result<(), AllocError>
-    requires function { f < (program_of c.now).functions }
-    requires units { length next.now.units.items ≡ (program_of c.now).functions }
-    requires members { length next.now.members.items ≡ (program_of c.now).functions }
-    requires args { EachAt next.now.members.items (λ g m. length m.args.items ≡ arity (program_of c.now) g) }
-    ensures { OnOk result (all.new.items ≡ all.old.items ++ map sig_of (bank_ties (program_of c.now) (names_of c.now) next.now f)) }
+    requires function { f < c.now.program.functions }
+    requires units { length next.now.units.items ≡ c.now.program.functions }
+    requires members { length next.now.members.items ≡ c.now.program.functions }
+    requires args { EachAt next.now.members.items (λ g m. length m.args.items ≡ arity c.now.program g) }
+    ensures { OnOk result (all.new.items ≡ all.old.items ++ map sig_of (bank_ties c.now.program c.now.names next.now f)) }
 {
     let unit = next.units[f as usize];
     let member = &next.members[f as usize];
@@ -112,10 +110,10 @@ fn add_function(all: &mut Vec<Sig>, c: &Checked, next: &Bank, f: u32) -> Result<
 
 // Those of all functions.
 fn add_functions(all: &mut Vec<Sig>, c: &Checked, next: &Bank) -> Result<(), AllocError>
-    requires units { length next.now.units.items ≡ (program_of c.now).functions }
-    requires members { length next.now.members.items ≡ (program_of c.now).functions }
-    requires args { EachAt next.now.members.items (λ g m. length m.args.items ≡ arity (program_of c.now) g) }
-    ensures { OnOk result (all.new.items ≡ all.old.items ++ map sig_of (own_ties (program_of c.now) (names_of c.now) next.now)) }
+    requires units { length next.now.units.items ≡ c.now.program.functions }
+    requires members { length next.now.members.items ≡ c.now.program.functions }
+    requires args { EachAt next.now.members.items (λ g m. length m.args.items ≡ arity c.now.program g) }
+    ensures { OnOk result (all.new.items ≡ all.old.items ++ map sig_of (own_ties c.now.program c.now.names next.now)) }
 {
     for f in 0..c.functions() {
         add_function(all, c, next, f)?;
@@ -126,9 +124,9 @@ fn add_functions(all: &mut Vec<Sig>, c: &Checked, next: &Bank) -> Result<(), All
 // The next signals of a site's registers.
 fn add_site(all: &mut Vec<Sig>, p: &Planned, next: &Bank, k: u32) -> Result<(), AllocError>
     requires least { 1 ≤ k }
-    requires most { k ≤ (program_in p.now).sites }
-    requires sites { length next.now.sites.items ≡ suc (program_in p.now).sites }
-    ensures { OnOk result (all.new.items ≡ all.old.items ++ map sig_of (site_ties (program_in p.now) (choice_of p.now) next.now.sites.items k)) }
+    requires most { k ≤ p.now.program.sites }
+    requires sites { length next.now.sites.items ≡ suc p.now.program.sites }
+    ensures { OnOk result (all.new.items ≡ all.old.items ++ map sig_of (site_ties p.now.program p.now.choice next.now.sites.items k)) }
 {
     let site = next.sites[k as usize];
     if !p.kept(k) {
@@ -141,11 +139,11 @@ fn add_site(all: &mut Vec<Sig>, p: &Planned, next: &Bank, k: u32) -> Result<(), 
 
 // The next signals of all registers, in their order.
 fn register_sources(alloc: Global, p: &Planned, next: &Bank) -> Result<Vec<Sig>, AllocError>
-    requires units { length next.now.units.items ≡ (program_in p.now).functions }
-    requires members { length next.now.members.items ≡ (program_in p.now).functions }
-    requires args { EachAt next.now.members.items (λ g m. length m.args.items ≡ arity (program_in p.now) g) }
-    requires sites { length next.now.sites.items ≡ suc (program_in p.now).sites }
-    ensures { IfOk result (λ v. v.items ≡ map sig_of (register_ties (program_in p.now) (names_of p.now.program) (choice_of p.now) next.now)) }
+    requires units { length next.now.units.items ≡ p.now.program.functions }
+    requires members { length next.now.members.items ≡ p.now.program.functions }
+    requires args { EachAt next.now.members.items (λ g m. length m.args.items ≡ arity p.now.program g) }
+    requires sites { length next.now.sites.items ≡ suc p.now.program.sites }
+    ensures { IfOk result (λ v. v.items ≡ map sig_of (register_ties p.now.program p.now.names p.now.choice next.now)) }
 {
     let c = program(p);
     let mut all = Vec::new(alloc);
@@ -158,9 +156,9 @@ fn register_sources(alloc: Global, p: &Planned, next: &Bank) -> Result<Vec<Sig>,
 
 // What the named wires of the bodies copy.
 fn add_bodies(all: &mut Vec<Sig>, c: &Checked, controls: &Controls) -> Result<(), AllocError>
-    requires ends { length controls.now.ends.items ≡ (program_of c.now).functions }
-    requires loops { length controls.now.loops.items ≡ (program_of c.now).functions }
-    ensures { OnOk result (all.new.items ≡ all.old.items ++ map sig_of (ties (body_ties (names_of c.now) controls.now) (program_of c.now).functions)) }
+    requires ends { length controls.now.ends.items ≡ c.now.program.functions }
+    requires loops { length controls.now.loops.items ≡ c.now.program.functions }
+    ensures { OnOk result (all.new.items ≡ all.old.items ++ map sig_of (ties (body_ties c.now.names controls.now) c.now.program.functions)) }
 {
     for f in 0..c.functions() {
         all.push(controls.ends[f as usize])?;
@@ -179,12 +177,12 @@ fn add_call(
     place: Sig,
 ) -> Result<(), AllocError>
     requires least { 1 ≤ k }
-    requires most { k ≤ (program_in p.now).sites }
-    requires wants { length controls.now.wants.items ≡ suc (program_in p.now).sites }
-    requires rets { length controls.now.rets.items ≡ suc (program_in p.now).sites }
-    requires goes { length controls.now.goes.items ≡ suc (program_in p.now).sites }
-    requires place { place.0 ≡ want_wire (program_in p.now) (choice_of p.now) first k }
-    ensures { OnOk result (all.new.items ≡ all.old.items ++ map sig_of (call_ties (program_in p.now) (choice_of p.now) first controls.now k)) }
+    requires most { k ≤ p.now.program.sites }
+    requires wants { length controls.now.wants.items ≡ suc p.now.program.sites }
+    requires rets { length controls.now.rets.items ≡ suc p.now.program.sites }
+    requires goes { length controls.now.goes.items ≡ suc p.now.program.sites }
+    requires place { place.0 ≡ want_wire p.now.program p.now.choice first k }
+    ensures { OnOk result (all.new.items ≡ all.old.items ++ map sig_of (call_ties p.now.program p.now.choice first controls.now k)) }
 {
     let c = program(p);
     let want = controls.wants[k as usize];
@@ -205,13 +203,13 @@ fn wire_sources(
     controls: &Controls,
     first: u32,
 ) -> Result<Vec<Sig>, AllocError>
-    requires ends { length controls.now.ends.items ≡ (program_in p.now).functions }
-    requires loops { length controls.now.loops.items ≡ (program_in p.now).functions }
-    requires wants { length controls.now.wants.items ≡ suc (program_in p.now).sites }
-    requires rets { length controls.now.rets.items ≡ suc (program_in p.now).sites }
-    requires goes { length controls.now.goes.items ≡ suc (program_in p.now).sites }
-    requires room { first + length (layout_wires (program_in p.now) (names_of p.now.program) (choice_of p.now)) < 4294967296 }
-    ensures { IfOk result (λ v. v.items ≡ map sig_of (wire_ties (program_in p.now) (names_of p.now.program) (choice_of p.now) first controls.now)) }
+    requires ends { length controls.now.ends.items ≡ p.now.program.functions }
+    requires loops { length controls.now.loops.items ≡ p.now.program.functions }
+    requires wants { length controls.now.wants.items ≡ suc p.now.program.sites }
+    requires rets { length controls.now.rets.items ≡ suc p.now.program.sites }
+    requires goes { length controls.now.goes.items ≡ suc p.now.program.sites }
+    requires room { first + length (layout_wires p.now.program p.now.names p.now.choice) < 4294967296 }
+    ensures { IfOk result (λ v. v.items ≡ map sig_of (wire_ties p.now.program p.now.names p.now.choice first controls.now)) }
 {
     let c = program(p);
     let mut all = Vec::new(alloc);
@@ -234,12 +232,12 @@ fn set_all(
     controls: &Controls,
 ) -> Result<(), AllocError>
     requires room { CanGrow net.old 0 }
-    requires grown { Grows (declared_net (program_in p.now) (names_of p.now.program) (choice_of p.now)) net.old }
-    requires pins { ArePins (program_in p.now) (names_of p.now.program) (choice_of p.now) pins.now }
-    requires next { BankFits (program_in p.now) net.old next.now }
-    requires controls { ControlsFit (program_in p.now) net.old controls.now }
+    requires grown { Grows (declared_net p.now.program p.now.names p.now.choice) net.old }
+    requires pins { ArePins p.now.program p.now.names p.now.choice pins.now }
+    requires next { BankFits p.now.program net.old next.now }
+    requires controls { ControlsFit p.now.program net.old controls.now }
     ensures tidy { IsTidy net.new }
-    ensures set { OnOk result (IsSet (program_in p.now) (names_of p.now.program) (choice_of p.now) pins.now next.now controls.now net.old net.new) }
+    ensures set { OnOk result (IsSet p.now.program p.now.names p.now.choice pins.now next.now controls.now net.old net.new) }
 {
     let c = program(p);
     let nexts = register_sources(alloc, p, next)?;
@@ -276,14 +274,14 @@ pub fn finish(
     controls: &Controls,
 ) -> Result<(), NoMemory>
     requires room { CanGrow net.old 0 }
-    requires grown { Grows (declared_net (program_in p.now) (names_of p.now.program) (choice_of p.now)) net.old }
+    requires grown { Grows (declared_net p.now.program p.now.names p.now.choice) net.old }
     requires settled { IsSettled net.old }
-    requires pins { ArePins (program_in p.now) (names_of p.now.program) (choice_of p.now) pins.now }
-    requires fits { PinsFit (program_in p.now) net.old pins.now }
-    requires next { BankFits (program_in p.now) net.old next.now }
-    requires controls { ControlsFit (program_in p.now) net.old controls.now }
+    requires pins { ArePins p.now.program p.now.names p.now.choice pins.now }
+    requires fits { PinsFit p.now.program net.old pins.now }
+    requires next { BankFits p.now.program net.old next.now }
+    requires controls { ControlsFit p.now.program net.old controls.now }
     ensures tidy { IsTidy net.new }
-    ensures done { OnOk result (Finishes (program_in p.now) (names_of p.now.program) (choice_of p.now) pins.now next.now controls.now net.old net.new) }
+    ensures done { OnOk result (Finishes p.now.program p.now.names p.now.choice pins.now next.now controls.now net.old net.new) }
 {
     let c = program(p);
     let main = main_function(c);

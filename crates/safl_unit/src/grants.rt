@@ -7,7 +7,7 @@ ghost use Rattle.safl_net.specs.Bits.{on};
 ghost use Rattle.safl_lower.specs.Sources.{IsSource, Builds, CanGrow};
 ghost use Rattle.safl_lower.specs.Tables.{on_in};
 ghost use Rattle.safl_lower.specs.Rows.{AreBits};
-ghost use Rattle.safl_unit.specs.Cycles.{choice_of, PinsFit, program_in};
+ghost use Rattle.safl_unit.specs.Cycles.{PinsFit};
 ghost use Rattle.safl_unit.specs.Stages.{HasOutcomes, HasGoes};
 
 use crate::arbiters::{unit_frees, unit_wants};
@@ -26,12 +26,12 @@ pub fn grants(
     pins: &Pins,
     outcomes: &Outcomes,
 ) -> Result<Vec<Sig>, NoMemory>
-    requires pins { PinsFit (program_in p.now) net.old pins.now }
-    requires outcomes { HasOutcomes (program_in p.now) (choice_of p.now) net.old pins.now outcomes.now }
-    requires room { CanGrow net.old (5 * (program_in p.now).sites + 2) }
+    requires pins { PinsFit p.now.program net.old pins.now }
+    requires outcomes { HasOutcomes p.now.program p.now.choice net.old pins.now outcomes.now }
+    requires room { CanGrow net.old (5 * p.now.program.sites + 2) }
     ensures tidy { IsTidy net.new }
-    ensures built { OnOk result (Builds net.old net.new (5 * (program_in p.now).sites + 2)) }
-    ensures done { IfOk result (λ s. HasGoes (program_in p.now) (choice_of p.now) net.new pins.now s.items) }
+    ensures built { OnOk result (Builds net.old net.new (5 * p.now.program.sites + 2)) }
+    ensures done { IfOk result (λ s. HasGoes p.now.program p.now.choice net.new pins.now s.items) }
 {
     let c = p.checked();
     let functions = c.functions();

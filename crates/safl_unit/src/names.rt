@@ -2,7 +2,6 @@
 
 ghost use Rattle.std.specs.Prelude.{◌≡◌, ◌<◌, ◌++◌, IfOk, string_bytes, codes, decimal};
 ghost use Rattle.std.specs.Str.{IsUtf8};
-ghost use Rattle.safl_term.specs.Checked.{program_of};
 ghost use Rattle.safl_circuit.specs.Equations.{many};
 
 use safl_term::Checked;
@@ -42,8 +41,8 @@ pub fn argument_name(alloc: Global, function: &[u8], param: &[u8]) -> Result<Str
 
 /// Whether a function's unit has another member.
 pub fn has_peers(c: &Checked, f: u32) -> bool
-    requires { f < (program_of c.now).functions }
-    ensures { result ≡ many (program_of c.now) f }
+    requires { f < c.now.program.functions }
+    ensures { result ≡ many c.now.program f }
 {
     let functions = c.functions();
     if c.unit(f) != f {
@@ -54,8 +53,8 @@ pub fn has_peers(c: &Checked, f: u32) -> bool
 
 /// The number of main.
 pub fn main_function(c: &Checked) -> u32
-    ensures number { result ≡ (program_of c.now).main }
-    ensures within { result < (program_of c.now).functions }
+    ensures number { result ≡ c.now.program.main }
+    ensures within { result < c.now.program.functions }
 {
     c.functions() - 1
 }

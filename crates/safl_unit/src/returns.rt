@@ -5,7 +5,7 @@ ghost use Rattle.safl_net.specs.Names.{IsTidy};
 ghost use Rattle.safl_net.specs.Growth.{Val, Wired};
 ghost use Rattle.safl_net.specs.Bits.{on};
 ghost use Rattle.safl_lower.specs.Sources.{IsSource, Builds, CanGrow};
-ghost use Rattle.safl_unit.specs.Cycles.{choice_of, UnitFits, SiteFits, PinsFit, program_in};
+ghost use Rattle.safl_unit.specs.Cycles.{UnitFits, SiteFits, PinsFit};
 ghost use Rattle.safl_unit.specs.Stages.{PortFits, HasReturns};
 ghost use Rattle.safl_unit.specs.Returning.{SiteShown};
 
@@ -27,11 +27,11 @@ pub struct SiteReturn {
 
 /// What each site shows.
 pub fn returns(alloc: Global, net: &mut Net, p: &Planned, pins: &Pins) -> Result<Returns, NoMemory>
-    requires pins { PinsFit (program_in p.now) net.old pins.now }
-    requires room { CanGrow net.old (5 * (program_in p.now).sites) }
+    requires pins { PinsFit p.now.program net.old pins.now }
+    requires room { CanGrow net.old (5 * p.now.program.sites) }
     ensures tidy { IsTidy net.new }
-    ensures built { OnOk result (Builds net.old net.new (5 * (program_in p.now).sites)) }
-    ensures done { IfOk result (λ s. HasReturns (program_in p.now) (choice_of p.now) net.new pins.now s) }
+    ensures built { OnOk result (Builds net.old net.new (5 * p.now.program.sites)) }
+    ensures done { IfOk result (λ s. HasReturns p.now.program p.now.choice net.new pins.now s) }
 {
     let c = program(p);
     let mut all = no_returns(alloc, pins.start)?;

@@ -10,7 +10,6 @@ ghost use Rattle.safl_lower.specs.Rows.{bit_joins, row_at, total};
 ghost use Rattle.safl_lower.specs.Joints.{IsSeveralOf, IsSeveralIn};
 ghost use Rattle.safl_unit.specs.Stages.{TestsFit};
 ghost use Rattle.safl_unit.specs.Edges.{entry_row, others_on, ShowsRivals, ShowsOthers};
-ghost use Rattle.safl_unit.specs.Cycles.{program_in};
 
 use crate::arrivals::{function_count, unit_of};
 use crate::names::has_peers;
@@ -29,11 +28,11 @@ pub fn function_rivals(
     p: &Planned,
     entries: &[Option<Sig>],
 ) -> Result<Vec<Option<Sig>>, NoMemory>
-    requires entries { TestsFit (program_in p.now) net.old entries.now }
-    requires room { CanGrow net.old (7 * (program_in p.now).functions) }
+    requires entries { TestsFit p.now.program net.old entries.now }
+    requires room { CanGrow net.old (7 * p.now.program.functions) }
     ensures tidy { IsTidy net.new }
-    ensures built { OnOk result (Builds net.old net.new (7 * (program_in p.now).functions)) }
-    ensures done { IfOk result (λ bits. ShowsRivals (program_in p.now) net.new entries.now bits.items) }
+    ensures built { OnOk result (Builds net.old net.new (7 * p.now.program.functions)) }
+    ensures done { IfOk result (λ bits. ShowsRivals p.now.program net.new entries.now bits.items) }
 {
     let functions = function_count(p);
     let rows = unit_entries(alloc, p, entries)?;
@@ -55,10 +54,10 @@ fn unit_entries(
     p: &Planned,
     entries: &[Option<Sig>],
 ) -> Result<Vec<Vec<Sig>>, NoMemory>
-    requires count { length entries.now ≡ (program_in p.now).functions }
-    ensures count { IfOk result (λ rows. length rows.items ≡ (program_in p.now).functions) }
-    ensures rows { IfOk result (λ rows. (u : ℕ) → row_at rows.items u ≡ entry_row (program_in p.now) entries.now u (program_in p.now).functions) }
-    ensures gates { IfOk result (λ rows. total bit_joins rows.items ≤ (program_in p.now).functions) }
+    requires count { length entries.now ≡ p.now.program.functions }
+    ensures count { IfOk result (λ rows. length rows.items ≡ p.now.program.functions) }
+    ensures rows { IfOk result (λ rows. (u : ℕ) → row_at rows.items u ≡ entry_row p.now.program entries.now u p.now.program.functions) }
+    ensures gates { IfOk result (λ rows. total bit_joins rows.items ≤ p.now.program.functions) }
 {
     let functions = function_count(p);
     let mut rows = no_rows(alloc, functions)?;

@@ -1,5 +1,5 @@
 use Rattle.std.proofs.Common.{sym, ap, ◌∙◌}
-use Rattle.safl_check.specs.Numbered.{program_in, name_in, param_names_in}
+use Rattle.safl_check.specs.Numbered.{program_in, names_in}
 use Rattle.safl_check.proofs.NumberedForms.{numbered}
 use Rattle.safl_check.proofs.laws.forms_tell_programs_law.Goals as goal
 
@@ -9,6 +9,5 @@ returns c = λ a b e.
     let q = numbered b in
     record {
       program = p.program ∙ ap program_in e ∙ sym q.program;
-      names = p.names ∙ ap name_in e ∙ sym q.names;
-      params = p.params ∙ ap param_names_in e ∙ sym q.params;
+      names = p.names ∙ ap names_in e ∙ sym q.names;
     }

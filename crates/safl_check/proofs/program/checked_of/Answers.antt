@@ -14,12 +14,12 @@ sites_of-requires c =
     let form = form_shown c.walk_law.ensures (shown_definitions c.args.defs.now) c.args.functions.items _ c.requires.formed c.requires.within c.requires.functions (sym c.in_default.ensures) refl in
     subst (λ (l : List Function). length l ≤ 1000) (sym c.deref.ensures.value) (few_functions _ _ _ form)
 
-pub new-requires : goal.new-requires
-new-requires c =
+pub new-requires-clause-checked : goal.new-requires-clause-checked
+new-requires-clause-checked c =
     let sites = c.in_ok-sites.ensures ∙ ap (λ (l : List Function). all_sites 0 (map shown_function l)) c.deref.ensures.value in
     let form = form_shown c.walk_law.ensures (shown_definitions c.args.defs.now) c.args.functions.items c.in_ok-sites.sites.items c.requires.formed
     c.requires.within c.requires.functions (sym c.in_default.ensures) sites in
-    c.forms_are_checked_law.ensures (shown_definitions c.args.defs.now) _ c.requires.formed c.requires.shallow form c.requires.slots
+    c.forms_are_checked_law.ensures (shown_definitions c.args.defs.now) _ c.requires.formed c.requires.shallow form
 
 pub returns-clause-form : goal.returns-clause-form
 returns-clause-form c =
@@ -33,4 +33,4 @@ returns-clause-checked c =
     let sites = c.in_ok-sites.ensures ∙ ap (λ (l : List Function). all_sites 0 (map shown_function l)) c.deref.ensures.value in
     let form = form_shown c.walk_law.ensures (shown_definitions c.args.defs.now) c.args.functions.items c.in_ok-sites.sites.items c.requires.formed
     c.requires.within c.requires.functions (sym c.in_default.ensures) sites in
-    subst IsChecked (sym c.new.ensures) (c.forms_are_checked_law.ensures (shown_definitions c.args.defs.now) _ c.requires.formed c.requires.shallow form c.requires.slots)
+    subst IsChecked (sym c.new.ensures) (c.forms_are_checked_law.ensures (shown_definitions c.args.defs.now) _ c.requires.formed c.requires.shallow form)

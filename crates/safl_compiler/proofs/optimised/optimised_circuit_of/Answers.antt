@@ -1,7 +1,6 @@
 use Rattle.std.proofs.Common.{subst, sym, ap}
 use Rattle.safl_net.specs.Netlist.{Netlist}
-use Rattle.safl_term.specs.Checked.{IsChecked, program_of}
-use Rattle.safl_circuit.specs.Names.{names_of}
+use Rattle.safl_term.specs.Checked.{IsChecked}
 use Rattle.safl_circuit.specs.Mirrored.{AreMirrors}
 use Rattle.safl_opt.specs.Smaller.{IsSmaller}
 use Rattle.safl_compiler.proofs.Mirrored.{mirrored, laid_in_order}
@@ -23,7 +22,7 @@ returns-in-Ok-clause-circuit c =
       alike = s.alike;
       mirrors = s.mirrors;
     } in
-    mirrored c.circuit_law.ensures c.plan_law.ensures c.scheme_carries_over.ensures c.plan_carries_over.ensures (program_of c.args.checked) (names_of c.args.checked) n m
+    mirrored c.circuit_law.ensures c.plan_law.ensures c.scheme_carries_over.ensures c.plan_carries_over.ensures c.args.checked.program c.args.checked.names n m
     c.functions-functions.ensures.checked.formed c.in_ok-first.ensures.circuit mirrors
 
 pub returns-in-Ok-clause-whole : goal.returns-in-Ok-clause-whole

@@ -1,7 +1,6 @@
 use Rattle.std.proofs.Common.{◌&&◌, is_some, List, Option, ap, ◌∙◌, arith}
 use Rattle.std.specs.Prelude.{not}
 use Rattle.safl_word.specs.Words.{Word}
-use Rattle.safl_term.specs.Checked.{program_of}
 use Rattle.safl_calls.specs.Machine.{Finish, Return, LoopInto, asked, is_unsent}
 use Rattle.safl_evaluate.specs.declared.stage.Stage.{Stage}
 use Rattle.safl_evaluate.specs.Stages.{stage_at}
@@ -16,7 +15,7 @@ put-requires c = omega (arith, c.requires.site, c.requires.places.called.long)
 
 pub returns : goal.returns
 returns c =
-    let C = program_of c.args.c.now in
+    let C = c.args.c.now.program in
     let args = c.args.opening.now in
     let s = c.args.state.now in
     let e = c.args.enabled.now in

@@ -1,6 +1,5 @@
 use Rattle.std.proofs.Common.{is_some, refl, ◌&&◌, List, get_or, ap, ◌∙◌}
 use Rattle.std.specs.Prelude.{not}
-use Rattle.safl_term.specs.Checked.{program_of}
 use Rattle.safl_calls.specs.Machine.{Finish, Return, LoopInto, asked}
 use Rattle.safl_term.specs.Readiness.{Answer, NotYet}
 use Rattle.safl_core.specs.declared.mode.Mode.{Mode}
@@ -14,7 +13,7 @@ use Rattle.safl_core.proofs.enabled.relist_member.Goals as goal
 
 pub returns : goal.returns
 returns c =
-    let C = program_of c.args.c.now in
+    let C = c.args.c.now.program in
     let args = c.args.opening.now in
     let s = c.args.state.now in
     let e = c.args.enabled.now in

@@ -1,6 +1,5 @@
 use Rattle.std.proofs.Common.{is_some, refl, ◌≡◌, ◌&&◌, List, sym, ap, ◌∙◌, arith}
 use Rattle.std.specs.Prelude.{not}
-use Rattle.safl_term.specs.Checked.{program_of}
 use Rattle.safl_term.specs.Program.{unit_for}
 use Rattle.safl_calls.specs.Machine.{Finish, Return, LoopInto, asked}
 use Rattle.safl_core.specs.declared.mode.Mode.{Mode}
@@ -34,7 +33,7 @@ returns-then-k-sites c =
 
 pub returns : goal.returns
 returns c =
-    let C = program_of c.args.c.now in
+    let C = c.args.c.now.program in
     let args = c.args.opening.now in
     let s = c.args.state.now in
     let e = c.args.enabled.now in

@@ -1,9 +1,8 @@
 use Rattle.std.proofs.Common.{◌≤◌, ◌<◌}
-use Rattle.safl_term.specs.Checked.{program_of}
 use Rattle.safl_core.specs.Marking.{Relists, Nothing}
 use Rattle.safl_core.specs.States.{calls_of}
 use Rattle.safl_core.proofs.enabled.relist_touched.Given as goal
 
 abbrev pub invariant-loop-k : goal.invariant-loop-k
-invariant-loop-k l = Relists (program_of l.c) l.opening (calls_of l.state) (λ j. (l.fn.touched.first ≤ j) × (j < l.k)) Nothing Nothing Nothing
+invariant-loop-k l = Relists l.c.program l.opening (calls_of l.state) (λ j. (l.fn.touched.first ≤ j) × (j < l.k)) Nothing Nothing Nothing
     l.fn.enabled l.enabled

@@ -1,5 +1,4 @@
 use Rattle.std.proofs.Common.{◌≡◌, ℕ, List, length, Some, sym, ap, ◌∙◌, subst}
-use Rattle.safl_term.specs.Checked.{program_of}
 use Rattle.safl_calls.specs.Machine as core
 use Rattle.safl_evaluate.specs.declared.kept.Kept.{Kept}
 use Rattle.safl_evaluate.specs.Laying.{IsPlan}
@@ -13,7 +12,7 @@ use Rattle.safl_core.proofs.fire.accept.Goals.{then-k-eq0, else-k-eq0}
 
 pub refresh-requires-clause-can : goal.refresh-requires-clause-can
 refresh-requires-clause-can c =
-    let C = program_of c.args.c.now in
+    let C = c.args.c.now.program in
     let s = calls_of c.args.state.now in
     let h = c.requires.kept.1 in
     let words : core.asked C c.args.opening.now s c.args.k ≡ Some c.if-k-eq0.words = elim c.if-k-eq0.branch [
@@ -25,7 +24,7 @@ refresh-requires-clause-can c =
 
 pub returns-clause-leads : goal.returns-clause-leads
 returns-clause-leads c =
-    let C = program_of c.args.c.now in
+    let C = c.args.c.now.program in
     let s = calls_of c.args.state.now in
     let h = c.requires.kept.1 in
     let words : core.asked C c.args.opening.now s c.args.k ≡ Some c.if-k-eq0.words = elim c.if-k-eq0.branch [
@@ -38,11 +37,11 @@ returns-clause-leads c =
     c.if-k-eq0.words words v (λ q. ne (q ∙ sym c.unit_for-unit.ensures.number)))
 
 pub refresh-requires-clause-plan : goal.refresh-requires-clause-plan
-refresh-requires-clause-plan c = subst (λ (n : ℕ). IsPlan (program_of c.args.c.now) c.args.plan.now n) (sym (ap (λ (x : List Kept). length x) c.accept.ensures.kept)) c.requires.plan
+refresh-requires-clause-plan c = subst (λ (n : ℕ). IsPlan c.args.c.now.program c.args.plan.now n) (sym (ap (λ (x : List Kept). length x) c.accept.ensures.kept)) c.requires.plan
 
 pub returns-clause-recalls : goal.returns-clause-recalls
 returns-clause-recalls c =
-    let C = program_of c.args.c.now in
+    let C = c.args.c.now.program in
     let s = calls_of c.args.state.now in
     let h = c.requires.kept.1 in
     let words : core.asked C c.args.opening.now s c.args.k ≡ Some c.if-k-eq0.words = elim c.if-k-eq0.branch [

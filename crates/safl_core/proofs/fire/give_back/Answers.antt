@@ -1,5 +1,4 @@
 use Rattle.std.proofs.Common.{◌≡◌, ◌<◌, ℕ, List, length, Some, sym, ap, ◌∙◌, subst, arith}
-use Rattle.safl_term.specs.Checked.{program_of}
 use Rattle.safl_calls.specs.Machine as core
 use Rattle.safl_term.specs.Program.{unit_for}
 use Rattle.safl_evaluate.specs.declared.kept.Kept.{Kept}
@@ -21,7 +20,7 @@ caller-caller-requires-clause-most c = return_in c.requires.kept.1 c.args.k c.re
 
 pub returns-then-k-eq0-clause-leads : goal.returns-then-k-eq0-clause-leads
 returns-then-k-eq0-clause-leads c =
-    let C = program_of c.args.c.now in
+    let C = c.args.c.now.program in
     let s = calls_of c.args.state.now in
     let h = c.requires.kept.1 in
     let can = c.requires.can in
@@ -33,7 +32,7 @@ returns-then-k-eq0-clause-leads c =
 
 pub returns-then-k-eq0-clause-recalls : goal.returns-then-k-eq0-clause-recalls
 returns-then-k-eq0-clause-recalls c =
-    let C = program_of c.args.c.now in
+    let C = c.args.c.now.program in
     let s = calls_of c.args.state.now in
     let k = c.args.k in
     let h = c.requires.kept.1 in
@@ -55,11 +54,11 @@ renew-requires-clause-can c =
     (return_next h c.args.k can.0 can.1 _ word) _ (omega (arith, c.unit-waiting.ensures.within, c.caller-caller.ensures.within))
 
 pub renew-requires-clause-plan : goal.renew-requires-clause-plan
-renew-requires-clause-plan c = subst (λ (n : ℕ). IsPlan (program_of c.args.c.now) c.args.plan.now n) (sym (ap (λ (x : List Kept). length x) c.give_back.ensures.kept)) c.requires.plan
+renew-requires-clause-plan c = subst (λ (n : ℕ). IsPlan c.args.c.now.program c.args.plan.now n) (sym (ap (λ (x : List Kept). length x) c.give_back.ensures.kept)) c.requires.plan
 
 pub renew-requires-clause-stood : goal.renew-requires-clause-stood
 renew-requires-clause-stood c =
-    let C = program_of c.args.c.now in
+    let C = c.args.c.now.program in
     let s = calls_of c.args.state.now in
     let k = c.args.k in
     let h = c.requires.kept.1 in
@@ -74,7 +73,7 @@ renew-requires-clause-stood c =
 
 pub returns-clause-leads : goal.returns-clause-leads
 returns-clause-leads c =
-    let C = program_of c.args.c.now in
+    let C = c.args.c.now.program in
     let s = calls_of c.args.state.now in
     let h = c.requires.kept.1 in
     let can = c.requires.can in
@@ -87,7 +86,7 @@ returns-clause-leads c =
 
 pub returns-clause-recalls : goal.returns-clause-recalls
 returns-clause-recalls c =
-    let C = program_of c.args.c.now in
+    let C = c.args.c.now.program in
     let s = calls_of c.args.state.now in
     let k = c.args.k in
     let h = c.requires.kept.1 in

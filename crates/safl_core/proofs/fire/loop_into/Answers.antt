@@ -1,5 +1,4 @@
 use Rattle.std.proofs.Common.{ℕ, List, length, refl, ap, ◌∙◌, rules, subst, sym}
-use Rattle.safl_term.specs.Checked.{program_of}
 use Rattle.safl_calls.specs.Machine.{LoopInto}
 use Rattle.safl_evaluate.specs.declared.kept.Kept.{Kept}
 use Rattle.safl_evaluate.specs.Laying.{IsPlan}
@@ -22,7 +21,7 @@ restart-requires-clause-runs c =
 
 pub refresh-requires-clause-can : goal.refresh-requires-clause-can
 refresh-requires-clause-can c =
-    let C = program_of c.args.c.now in
+    let C = c.args.c.now.program in
     let s = calls_of c.args.state.now in
     let h = c.requires.kept.1 in
     let can = c.requires.can in
@@ -31,7 +30,7 @@ refresh-requires-clause-can c =
 
 pub returns-clause-leads : goal.returns-clause-leads
 returns-clause-leads c =
-    let C = program_of c.args.c.now in
+    let C = c.args.c.now.program in
     let s = calls_of c.args.state.now in
     let h = c.requires.kept.1 in
     let can = c.requires.can in
@@ -41,11 +40,11 @@ returns-clause-leads c =
     after_end C c.args.opening.now (good h) s (inv h) c.args.state.now.answers.items c.args.state.now.wants.each.items h.known c.unit-unit.result _ v ne)
 
 pub refresh-requires-clause-plan : goal.refresh-requires-clause-plan
-refresh-requires-clause-plan c = subst (λ (n : ℕ). IsPlan (program_of c.args.c.now) c.args.plan.now n) (sym (ap (λ (x : List Kept). length x) c.restart.ensures.steps.kept)) c.requires.plan
+refresh-requires-clause-plan c = subst (λ (n : ℕ). IsPlan c.args.c.now.program c.args.plan.now n) (sym (ap (λ (x : List Kept). length x) c.restart.ensures.steps.kept)) c.requires.plan
 
 pub returns-clause-recalls : goal.returns-clause-recalls
 returns-clause-recalls c =
-    let C = program_of c.args.c.now in
+    let C = c.args.c.now.program in
     let s = calls_of c.args.state.now in
     let h = c.requires.kept.1 in
     let local = local_end C s c.unit-unit.result _ c.unit-unit.result in

@@ -1,7 +1,6 @@
 use Rattle.std.proofs.Common.{◌≡◌, take}
-use Rattle.safl_term.specs.Checked.{program_of}
 use Rattle.safl_evaluate.specs.Evaluating.{widths}
 use Rattle.safl_core.proofs.make.fits.Given as goal
 
 abbrev pub invariant-loop-i : goal.invariant-loop-i
-invariant-loop-i l = take l.i (widths l.args) ≡ take l.i ((program_of l.c).params (program_of l.c).main)
+invariant-loop-i l = take l.i (widths l.args) ≡ take l.i (l.c.program.params l.c.program.main)

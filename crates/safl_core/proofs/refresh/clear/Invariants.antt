@@ -1,9 +1,8 @@
 use Rattle.std.proofs.Common.{◌≡◌, ℕ, ◌<◌, ◌≤◌, ◌==◌, None, cond, get_or}
-use Rattle.safl_term.specs.Checked.{program_of}
 use Rattle.safl_core.proofs.refresh.clear.Given as goal
 
 abbrev pub invariant-loop-k : goal.invariant-loop-k
 invariant-loop-k l = record {
-  below : (j : ℕ) → 0 < j → j < l.k → get_or l.asks j None ≡ cond ((program_of l.c).unit ((program_of l.c).caller j) == l.u) None (get_or l.initial.asks j None);
+  below : (j : ℕ) → 0 < j → j < l.k → get_or l.asks j None ≡ cond (l.c.program.unit (l.c.program.caller j) == l.u) None (get_or l.initial.asks j None);
   above : (j : ℕ) → l.k ≤ j → get_or l.asks j None ≡ get_or l.initial.asks j None;
 }

@@ -2,7 +2,6 @@ use Rattle.std.proofs.Common.{◌≡◌, ℕ, ◌+◌, ◌≤◌, length, take, 
 use Rattle.std.proofs.lemmas.List.{get_or_read}
 use Rattle.std.specs.Vec.{with_items}
 use Rattle.safl_word.specs.Words.{Word}
-use Rattle.safl_term.specs.Checked.{program_of}
 use Rattle.safl_term.specs.Readiness.{answer}
 use Rattle.safl_term.specs.Sizes.{nodes}
 use Rattle.safl_term.specs.Tree.{shown_term}
@@ -39,7 +38,7 @@ index-at-requires c =
 
 pub evaluate-requires : goal.evaluate-requires
 evaluate-requires c =
-    let C = program_of c.args.c.now in
+    let C = c.args.c.now.program in
     let s = c.args.state.now in
     let f = c.in-Some.f in
     let args = c.in-Some.args.now in
@@ -71,7 +70,7 @@ evaluate-requires c =
 
 pub returns-in-Some : goal.returns-in-Some
 returns-in-Some c =
-    let C = program_of c.args.c.now in
+    let C = c.args.c.now.program in
     let s = c.args.state.now in
     let f = c.in-Some.f in
     let args = c.in-Some.args.now in
@@ -115,7 +114,7 @@ returns-in-Some c =
 
 pub returns-in-None : goal.returns-in-None
 returns-in-None c =
-    let C = program_of c.args.c.now in
+    let C = c.args.c.now.program in
     let s = c.args.state.now in
     let B = back_at s.stages.items in
     let idle : (f k : ℕ) (ws : List Word) → unit_at s.modes.items c.args.u ≡ core.Runs f k ws → ⊥ = λ f k ws r. c.in-None.ensures.none f k ws

@@ -1,6 +1,5 @@
 use Rattle.std.proofs.Common.{ℕ, ◌≡◌, ◌<◌, ◌≤◌, length, List, Option, None, get_or, refl, sym, ap, ◌∙◌, arith}
 use Rattle.safl_word.specs.Words.{Word}
-use Rattle.safl_term.specs.Checked.{program_of}
 use Rattle.safl_calls.specs.Machine as core
 use Rattle.safl_calls.proofs.FromWellFormed.{numbered}
 use Rattle.safl_evaluate.specs.Stages.{back_at}
@@ -13,7 +12,7 @@ use Rattle.safl_core.proofs.refresh.refresh.Goals as goal
 
 pub evaluated-requires-clause-stood : goal.evaluated-requires-clause-stood
 evaluated-requires-clause-stood c =
-    let C = program_of c.args.c.now in
+    let C = c.args.c.now.program in
     let asks = refilled c.args.state.now.wants.each c.clear-own.new.asks c.deref_mut.result.now c.clear-own.auto.asks c.deref_mut.ensures.value in
     let here : (k : ℕ) → 0 < k → k ≤ C.sites → C.unit (C.caller k) ≡ c.args.u → get_or _ k None ≡ None = λ k pos le on.
     ap (λ (l : List (Option (List Word))). get_or l k None) asks ∙ cleared_here C c.args.u c.deref_mut.result.now c.clear-own.new.asks c.clear-own.ensures.clears k pos le on in
@@ -26,7 +25,7 @@ evaluated-requires-clause-stood c =
 
 pub returns-clause-refreshes : goal.returns-clause-refreshes
 returns-clause-refreshes c =
-    let C = program_of c.args.c.now in
+    let C = c.args.c.now.program in
     let s = c.args.state.now in
     let r = c.evaluated.new.state in
     let u = c.args.u in
@@ -49,7 +48,7 @@ returns-clause-refreshes c =
 
 pub returns-clause-recalls : goal.returns-clause-recalls
 returns-clause-recalls c =
-    let C = program_of c.args.c.now in
+    let C = c.args.c.now.program in
     let s = c.args.state.now in
     let u = c.args.u in
     let B = back_at s.stages.items in

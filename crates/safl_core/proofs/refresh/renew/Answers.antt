@@ -1,6 +1,5 @@
 use Rattle.std.proofs.Common.{ℕ, ◌≡◌, ◌<◌, ◌≤◌, List, Option, None, Some, length, get_or, refl, sym, ap, ◌∙◌, subst, arith}
 use Rattle.safl_word.specs.Words.{Word}
-use Rattle.safl_term.specs.Checked.{program_of}
 use Rattle.safl_calls.specs.Machine as core
 use Rattle.safl_evaluate.specs.Stages.{back_at}
 use Rattle.safl_core.specs.Remembering.{MayRenew}
@@ -30,12 +29,12 @@ evaluated-requires-clause-can c =
 pub evaluated-requires-clause-stood : goal.evaluated-requires-clause-stood
 evaluated-requires-clause-stood c =
     let s = c.args.state.now in
-    subst (λ (l : List (Option (List Word))). MayRenew (program_of c.args.c.now) c.args.plan.now (back_at s.stages.items) (Some c.args.k)
+    subst (λ (l : List (Option (List Word))). MayRenew c.args.c.now.program c.args.plan.now (back_at s.stages.items) (Some c.args.k)
     s.modes.items l s.kept.items c.args.u) (sym c.begin.ensures) c.requires.stood
 
 pub returns-clause-refreshes : goal.returns-clause-refreshes
 returns-clause-refreshes c =
-    let C = program_of c.args.c.now in
+    let C = c.args.c.now.program in
     let s = c.args.state.now in
     let r = c.evaluated.new.state in
     let u = c.args.u in

@@ -1,5 +1,4 @@
 use Rattle.std.proofs.Common.{◌<◌, length, refl, ap, ◌∙◌, rules, arith}
-use Rattle.safl_term.specs.Checked.{program_of}
 use Rattle.safl_calls.specs.Machine as core
 use Rattle.safl_core.specs.declared.mode.Mode.TheVariants.{Runs}
 use Rattle.safl_evaluate.specs.declared.stage.Stage.TheVariants.{Sent}
@@ -9,7 +8,7 @@ use Rattle.safl_core.proofs.step.accept.Goals as goal
 
 pub returns : goal.returns
 returns c =
-    let C = program_of c.args.c.now in
+    let C = c.args.c.now.program in
     let s = c.args.state.now in
     let k = c.args.k in
     let unit : c.unit_for.result < length s.modes.items = omega (arith, c.unit_for.ensures.within, c.requires.sized.units) in

@@ -1,17 +1,16 @@
 use Rattle.std.proofs.Common.{◌<◌, ◌≤◌, length, refl, arith}
-use Rattle.safl_term.specs.Checked.{program_of}
 use Rattle.safl_core.proofs.WritesAreSteps.{end_site, end_front, end_back}
 use Rattle.safl_core.proofs.step.end_sites.Goals as goal
 
 pub loop-k-init : goal.loop-k-init
 loop-k-init c = record {
-  below = end_front (program_of c.args.c.now) c.args.u c.own_sites-own.result c.own_sites-own.ensures c.args.stages.now;
+  below = end_front c.args.c.now.program c.args.u c.own_sites-own.result c.own_sites-own.ensures c.args.stages.now;
   above = λ j le. refl;
 }
 
 pub loop-k-preserved : goal.loop-k-preserved
 loop-k-preserved c =
-    let C = program_of c.args.c.now in
+    let C = c.args.c.now.program in
     let k = c.loop-k.k in
     let s = c.own_sites-own.ensures in
     let from : c.own_sites-own.result.first ≤ k = omega arith in
@@ -21,5 +20,5 @@ loop-k-preserved c =
     record { below = both.0; above = both.1 }
 
 pub returns : goal.returns
-returns c = end_back (program_of c.args.c.now) c.args.u c.own_sites-own.result c.own_sites-own.ensures c.loop-k.k c.args.stages.now c.loop-k.stages
+returns c = end_back c.args.c.now.program c.args.u c.own_sites-own.result c.own_sites-own.ensures c.loop-k.k c.args.stages.now c.loop-k.stages
     c.requires.sized (omega (arith, c.loop-k-test.false)) c.loop-k.invariant.below c.loop-k.invariant.above

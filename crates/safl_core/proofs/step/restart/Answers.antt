@@ -1,7 +1,6 @@
 use Rattle.std.proofs.Common.{◌≡◌, ◌<◌, List, length, get_or, refl, ap, ◌∙◌, rules, arith}
 use Rattle.std.proofs.Math.Path.{fun_ext}
 use Rattle.std.proofs.lemmas.List.{get_or_read}
-use Rattle.safl_term.specs.Checked.{program_of}
 use Rattle.safl_calls.specs.Machine as core
 use Rattle.safl_term.specs.Readiness.{NotYet}
 use Rattle.safl_core.specs.declared.mode.Mode.{Mode}
@@ -17,7 +16,7 @@ use Rattle.safl_core.proofs.step.restart.Goals as goal
 
 pub returns : goal.returns
 returns c =
-    let C = program_of c.args.c.now in
+    let C = c.args.c.now.program in
     let s = c.args.state.now in
     let u = c.args.u in
     let unit : u < length s.modes.items = omega (arith, c.requires.unit, c.requires.sized.units) in

@@ -1,5 +1,4 @@
 use Rattle.std.proofs.Common.{◌≡◌, ℕ, suc, ◌+◌, ◌<◌, List, length, rules, sym, ap, ◌∙◌, subst, slice_set, arith}
-use Rattle.safl_term.specs.Checked.{program_of}
 use Rattle.safl_term.specs.Sizes.{nodes}
 use Rattle.safl_term.specs.Terms.{Term}
 use Rattle.safl_term.specs.Tree.{shown_term}
@@ -15,12 +14,12 @@ loop-f-init c = record { planned = planned_none c.args.c.now c.in_ok-places.plac
 pub lay-at-requires : goal.lay-at-requires
 lay-at-requires c =
     let f = c.loop-f.f in
-    let lt : f < (program_of c.args.c.now).functions = omega (arith, c.loop-f-test.true, c.functions-f-end.ensures.count, c.loop-f.auto.f-end) in
+    let lt : f < c.args.c.now.program.functions = omega (arith, c.loop-f-test.true, c.functions-f-end.ensures.count, c.loop-f.auto.f-end) in
     let long = ap (λ (l : List Place). length l) c.deref_mut.ensures.value in
     omega (
       arith,
-      before_most c.args.c.now c.body.ensures.checked (suc f),
-      before_next c.args.c.now f lt,
+      before_most c.args.c.now c.body.ensures.checked (suc f) (omega (arith, lt)),
+      before_next c.args.c.now f,
       c.loop-f.invariant.planned.count,
       ap nodes
           c.body.ensures.term,
@@ -30,7 +29,7 @@ lay-at-requires c =
 
 pub loop-f-preserved : goal.loop-f-preserved
 loop-f-preserved c =
-    let C = program_of c.args.c.now in
+    let C = c.args.c.now.program in
     let f = c.loop-f.f in
     let at = c.loop-f.at in
     let P = c.loop-f.places.items in
@@ -55,13 +54,13 @@ loop-f-preserved c =
 pub returns : goal.returns
 returns c =
     let h = c.loop-f.invariant.planned in
-    let C = program_of c.args.c.now in
+    let C = c.args.c.now.program in
     let f = c.loop-f.f in
     let all : (g : ℕ) → g < C.functions → g < f = λ g lt. omega (arith, lt, c.loop-f-test.false, c.functions-f-end.ensures.count, c.loop-f.auto.f-end) in
     record {
       bodies = c.loop-f.invariant.bodies;
       places = c.loop-f.invariant.places;
       laid = λ g lt. h.laid g (all g lt);
-      within = λ g lt. omega (arith, h.within g (all g lt), h.count, before_most c.args.c.now c.functions.ensures.checked f);
+      within = λ g lt. omega (arith, h.within g (all g lt), h.count, before_most c.args.c.now c.functions.ensures.checked f (omega (arith, c.functions-f-end.ensures.count, c.loop-f.auto.f-end)));
       apart = λ g k l lt. h.apart g k l (all k lt);
     }

@@ -3,7 +3,6 @@ use Rattle.std.proofs.lemmas.Option.{slice_get_read}
 use Rattle.std.specs.Prelude.{IsSome}
 use Rattle.safl_word.specs.Words.{Word}
 use Rattle.safl_word.specs.Primitives.{apply_prim, result_width}
-use Rattle.safl_term.specs.Checked.{program_of}
 use Rattle.safl_term.specs.Fuel.{eval, eval_all, Gave, Words, NoWords}
 use Rattle.safl_term.specs.Sizes.{nodes, nodes_in}
 use Rattle.safl_term.specs.Tree.{shown_term, shown_terms}
@@ -12,14 +11,15 @@ use Rattle.safl_interpreter.specs.Interpreting.{widths, shown, shown_all, applie
 use Rattle.safl_interpreter.proofs.Meanings.{term_saves, terms_save}
 use Rattle.safl_interpreter.proofs.Steps
 use Rattle.safl_interpreter.proofs.evaluate.+evaluate.Goals as goal
+use Rattle.safl_term.proofs.HeldByChecked.{few_nodes}
 
 -- ---- applications
 
 pub call-evaluate-requires : goal.call-evaluate-requires
 call-evaluate-requires t c =
-    let C = program_of c.args.c.now in
+    let C = c.args.c.now.program in
     let i = c.loop-calls.invariant in
-    let few : nodes (shown_term c.body.result.now) ≤ 50000 = subst (λ x. nodes x ≤ 50000) (sym c.body.ensures.term) (Steps.few_nodes c.args.c.now c.requires.checked c.loop-calls.function) in
+    let few : nodes (shown_term c.body.result.now) ≤ 50000 = subst (λ x. nodes x ≤ 50000) (sym c.body.ensures.term) (few_nodes c.args.c.now c.requires.checked c.loop-calls.function) in
     let smaller : 150001 * (c.loop-calls.calls - 1) + 3 * nodes (shown_term c.body.result.now) < 150001 * c.args.left = omega (arith, few, i.within, c.loop-calls-test.true) in (
       search rules,
       (
@@ -31,14 +31,14 @@ call-evaluate-requires t c =
 
 pub call-returns-in-Done : goal.call-returns-in-Done
 call-returns-in-Done t c =
-    let C = program_of c.args.c.now in
+    let C = c.args.c.now.program in
     sym (ap (finished C) c.in-Done.is)
     ∙ (Steps.one_step C c.loop-calls.calls c.loop-calls.function c.loop-calls.words.items _ _ _ (omega (arith, c.loop-calls-test.true)) c.deref.ensures.value c.body.ensures.term c.in_ok-answer.ensures
     ∙ sym c.loop-calls.invariant.same)
 
 pub call-loop-calls-preserved : goal.call-loop-calls-preserved
 call-loop-calls-preserved t c =
-    let C = program_of c.args.c.now in
+    let C = c.args.c.now.program in
     let i = c.loop-calls.invariant in
     let goes = subst (GoesOn C (c.loop-calls.calls - 1)) c.in-Tail.is c.in_ok-answer.ensures.goes in
     record {
@@ -51,21 +51,21 @@ call-loop-calls-preserved t c =
 
 pub call-returns-in-Spent : goal.call-returns-in-Spent
 call-returns-in-Spent t c =
-    let C = program_of c.args.c.now in
+    let C = c.args.c.now.program in
     sym (ap (finished C) c.in-Spent.is)
     ∙ (Steps.one_step C c.loop-calls.calls c.loop-calls.function c.loop-calls.words.items _ _ _ (omega (arith, c.loop-calls-test.true)) c.deref.ensures.value c.body.ensures.term c.in_ok-answer.ensures
     ∙ sym c.loop-calls.invariant.same)
 
 pub call-returns : goal.call-returns
 call-returns t c =
-    let C = program_of c.args.c.now in
+    let C = c.args.c.now.program in
     Steps.none_left C c.loop-calls.calls c.loop-calls.function c.loop-calls.words.items (omega (arith, c.loop-calls-test.false)) ∙ sym c.loop-calls.invariant.same
 
 -- ---- conditions
 
 pub evaluate-evaluate-requires : goal.evaluate-evaluate-requires
 evaluate-evaluate-requires t c =
-    let C = program_of c.args.c.now in
+    let C = c.args.c.now.program in
     let E = c.args.env.now in
     let n = c.args.left in
     let shape = Steps.if_by (ap shown_term c.in-If.is) (ap shown_term c.deref.ensures) (ap shown_term c.deref-then-bits-eq1.ensures) refl in
@@ -79,7 +79,7 @@ evaluate-evaluate-requires t c =
 
 pub evaluate-evaluate-requires-else-bits-eq1 : goal.evaluate-evaluate-requires-else-bits-eq1
 evaluate-evaluate-requires-else-bits-eq1 t c =
-    let C = program_of c.args.c.now in
+    let C = c.args.c.now.program in
     let E = c.args.env.now in
     let n = c.args.left in
     let shape = Steps.if_by (ap shown_term c.in-If.is) (ap shown_term c.deref.ensures) refl (ap shown_term c.deref-else-bits-eq1.ensures) in
@@ -93,7 +93,7 @@ evaluate-evaluate-requires-else-bits-eq1 t c =
 
 pub evaluate-returns-then-bits-eq1 : goal.evaluate-returns-then-bits-eq1
 evaluate-returns-then-bits-eq1 t c =
-    let C = program_of c.args.c.now in
+    let C = c.args.c.now.program in
     let E = c.args.env.now in
     let n = c.args.left in
     let shape = Steps.if_by (ap shown_term c.in-If.is) (ap shown_term c.deref.ensures) (ap shown_term c.deref-then-bits-eq1.ensures) refl in
@@ -107,7 +107,7 @@ evaluate-returns-then-bits-eq1 t c =
 
 pub evaluate-returns-else-bits-eq1 : goal.evaluate-returns-else-bits-eq1
 evaluate-returns-else-bits-eq1 t c =
-    let C = program_of c.args.c.now in
+    let C = c.args.c.now.program in
     let E = c.args.env.now in
     let n = c.args.left in
     let shape = Steps.if_by (ap shown_term c.in-If.is) (ap shown_term c.deref.ensures) refl (ap shown_term c.deref-else-bits-eq1.ensures) in
@@ -130,7 +130,7 @@ evaluate-values-requires t c =
 
 pub evaluate-evaluate-requires-in-Some-2 : goal.evaluate-evaluate-requires-in-Some-2
 evaluate-evaluate-requires-in-Some-2 t c =
-    let C = program_of c.args.c.now in
+    let C = c.args.c.now.program in
     let E = c.args.env.now in
     let n = c.args.left in
     let shape = Steps.let_by (ap shown_term c.in-Let.is ∙ shown_term-Let c.in-Let.field-0 c.in-Let.ts c.in-Let.body)
@@ -149,7 +149,7 @@ evaluate-evaluate-requires-in-Some-2 t c =
 
 pub evaluate-returns-in_ok-extend_from_slice-in-Some-2 : goal.evaluate-returns-in_ok-extend_from_slice-in-Some-2
 evaluate-returns-in_ok-extend_from_slice-in-Some-2 t c =
-    let C = program_of c.args.c.now in
+    let C = c.args.c.now.program in
     let E = c.args.env.now in
     let n = c.args.left in
     let shape = Steps.let_by (ap shown_term c.in-Let.is ∙ shown_term-Let c.in-Let.field-0 c.in-Let.ts c.in-Let.body)
@@ -168,7 +168,7 @@ evaluate-returns-in_ok-extend_from_slice-in-Some-2 t c =
 
 pub evaluate-returns-in-None-2 : goal.evaluate-returns-in-None-2
 evaluate-returns-in-None-2 t c =
-    let C = program_of c.args.c.now in
+    let C = c.args.c.now.program in
     let E = c.args.env.now in
     let n = c.args.left in
     let shape = Steps.let_by (ap shown_term c.in-Let.is ∙ shown_term-Let c.in-Let.field-0 c.in-Let.ts c.in-Let.body) (ap shown_terms c.deref-in-Let.ensures.value) refl in
@@ -187,7 +187,7 @@ evaluate-values-requires-in-Op t c =
 
 pub evaluate-apply-word-requires : goal.evaluate-apply-word-requires
 evaluate-apply-word-requires t c =
-    let C = program_of c.args.c.now in
+    let C = c.args.c.now.program in
     let E = c.args.env.now in
     let n = c.args.left in
     let shape = Steps.op_by c.in-Op.p (ap shown_term c.in-Op.is ∙ shown_term-Op c.in-Op.p c.in-Op.ts) (ap shown_terms c.deref-in-Op.ensures.value) in
@@ -200,7 +200,7 @@ evaluate-apply-word-requires t c =
 
 pub evaluate-returns-in-Some-3 : goal.evaluate-returns-in-Some-3
 evaluate-returns-in-Some-3 t c =
-    let C = program_of c.args.c.now in
+    let C = c.args.c.now.program in
     let E = c.args.env.now in
     let n = c.args.left in
     let shape = Steps.op_by c.in-Op.p (ap shown_term c.in-Op.is ∙ shown_term-Op c.in-Op.p c.in-Op.ts) (ap shown_terms c.deref-in-Op.ensures.value) in
@@ -213,7 +213,7 @@ evaluate-returns-in-Some-3 t c =
 
 pub evaluate-returns-in-None-3 : goal.evaluate-returns-in-None-3
 evaluate-returns-in-None-3 t c =
-    let C = program_of c.args.c.now in
+    let C = c.args.c.now.program in
     let E = c.args.env.now in
     let n = c.args.left in
     let shape = Steps.op_by c.in-Op.p (ap shown_term c.in-Op.is ∙ shown_term-Op c.in-Op.p c.in-Op.ts) (ap shown_terms c.deref-in-Op.ensures.value) in
@@ -232,7 +232,7 @@ evaluate-values-requires-in-Call t c =
 
 pub evaluate-returns-in-Some-4 : goal.evaluate-returns-in-Some-4
 evaluate-returns-in-Some-4 t c =
-    let C = program_of c.args.c.now in
+    let C = c.args.c.now.program in
     let E = c.args.env.now in
     let n = c.args.left in
     let shape = Steps.applies_by c.in-Call.f c.in-Call.ts c.in-Call.is (ap shown_terms c.deref-in-Call.ensures.value) in
@@ -245,7 +245,7 @@ evaluate-returns-in-Some-4 t c =
 
 pub evaluate-returns-in-None-4 : goal.evaluate-returns-in-None-4
 evaluate-returns-in-None-4 t c =
-    let C = program_of c.args.c.now in
+    let C = c.args.c.now.program in
     let E = c.args.env.now in
     let n = c.args.left in
     let shape = Steps.applies_by c.in-Call.f c.in-Call.ts c.in-Call.is (ap shown_terms c.deref-in-Call.ensures.value) in
@@ -257,7 +257,7 @@ evaluate-returns-in-None-4 t c =
 
 pub evaluate-returns-in-Var : goal.evaluate-returns-in-Var
 evaluate-returns-in-Var t c =
-    let C = program_of c.args.c.now in
+    let C = c.args.c.now.program in
     let E = c.args.env.now in
     let n = c.args.left in
     let shape = ap shown_term c.in-Var.is in
@@ -276,7 +276,7 @@ values-value-requires t c =
 
 pub values-loop-t-preserved : goal.values-loop-t-preserved
 values-loop-t-preserved t c =
-    let C = program_of c.args.c.now in
+    let C = c.args.c.now.program in
     let E = c.args.env.now in
     let n = c.loop-t.rest in
     let at = slice_get_read c.args.ts.now (length c.args.ts.now) c.loop-t.t-index c.t-item.result refl c.loop-t-test.true c.t-item.is in

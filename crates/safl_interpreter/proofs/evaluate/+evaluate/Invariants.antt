@@ -1,5 +1,4 @@
 use Rattle.std.proofs.Common.{◌≡◌, ◌<◌, ◌+◌, ◌*◌, ◌≤◌, drop}
-use Rattle.safl_term.specs.Checked.{program_of}
 use Rattle.safl_term.specs.Fuel.{eval_all}
 use Rattle.safl_term.specs.Sizes.{nodes, nodes_in}
 use Rattle.safl_term.specs.Tree.{shown_term, shown_terms}
@@ -21,10 +20,10 @@ decreases-values l = call_size * l.left + 3 * nodes_in (shown_terms l.ts.now) + 
 
 abbrev pub invariant-call-loop-calls : goal.invariant-call-loop-calls
 invariant-call-loop-calls l = record {
-  function : l.function < (program_of l.c).functions;
-  fit : widths l.words.items ≡ (program_of l.c).params l.function;
+  function : l.function < l.c.program.functions;
+  fit : widths l.words.items ≡ l.c.program.params l.function;
   within : l.calls ≤ l.left;
-  same : applied (program_of l.c) l.left l.fn.f l.fn.args.items ≡ applied (program_of l.c) l.calls l.function l.words.items;
+  same : applied l.c.program l.left l.fn.f l.fn.args.items ≡ applied l.c.program l.calls l.function l.words.items;
 }
 
 abbrev pub decreases-call-loop-calls : goal.decreases-call-loop-calls
@@ -33,6 +32,6 @@ decreases-call-loop-calls l = l.calls
 abbrev pub invariant-values-loop-t : goal.invariant-values-loop-t
 invariant-values-loop-t l = record {
   within : l.rest ≤ l.left;
-  same : eval_all (program_of l.c) (applied (program_of l.c)) (shown_terms l.ts) l.left l.env ≡ after l.words.items
-      (eval_all (program_of l.c) (applied (program_of l.c)) (shown_terms (drop l.t-index l.ts)) l.rest l.env);
+  same : eval_all l.c.program (applied l.c.program) (shown_terms l.ts) l.left l.env ≡ after l.words.items
+      (eval_all l.c.program (applied l.c.program) (shown_terms (drop l.t-index l.ts)) l.rest l.env);
 }

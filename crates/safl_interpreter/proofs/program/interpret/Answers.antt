@@ -1,12 +1,11 @@
 use Rattle.std.proofs.Common.{sym, ap, ◌∙◌}
-use Rattle.safl_term.specs.Checked.{program_of}
 use Rattle.safl_interpreter.specs.Interpreting.{widths}
 use Rattle.safl_interpreter.proofs.Steps.{main_is, main_gives}
 use Rattle.safl_interpreter.proofs.program.interpret.Goals as goal
 
 pub call-requires-clause-fit : goal.call-requires-clause-fit
 call-requires-clause-fit c =
-    let C = program_of c.args.c.now in
+    let C = c.args.c.now.program in
     ap widths (c.in_ok-to_vec.ensures.items_if_clones_equal (λ x y h. h)) ∙ (c.requires ∙ sym (ap C.params (main_is c.args.c.now _ c.functions-main.ensures.count)))
 
 pub returns : goal.returns

@@ -1,7 +1,6 @@
 use Rattle.std.proofs.Common.{◌≡◌, ◌+◌, ◌-◌, ◌<◌, ℕ, List, map, ap, subst, sym, length, arith}
 use Rattle.safl_term.specs.Terms.{Term}
 use Rattle.safl_term.specs.Tree.{shown_term}
-use Rattle.safl_term.specs.Checked.{program_of, first_site_of}
 use Rattle.safl_net.proofs.Growth.{grows_on}
 use Rattle.safl_lower.specs.Sources.{Builds}
 use Rattle.safl_lower.proofs.Building.{source_grown}
@@ -27,13 +26,13 @@ end-requires-clause-run c = source_grown c.lower_term.ensures.kept c.args.ports.
 pub end-requires-clause-ready : goal.end-requires-clause-ready
 end-requires-clause-ready c =
     let g = own_given c.args.c.now c.body.ensures.checked c.args.f c.requires.function c.args.net.now c.args.ports c.requires.able in
-    let h = renumbered c.first_site.result (first_site_of c.args.c.now c.args.f) c.first_site.ensures c.body.ensures.term c.in_ok-lowered.ensures.done in
+    let h = renumbered c.first_site.result (c.args.c.now.first_site c.args.f) c.first_site.ensures c.body.ensures.term c.in_ok-lowered.ensures.done in
     result_ready c.new.ensures.items c.new-2.ensures.items g h
 
 pub end-requires-clause-room : goal.end-requires-clause-room
 end-requires-clause-room c =
     let g = own_given c.args.c.now c.body.ensures.checked c.args.f c.requires.function c.args.net.now c.args.ports c.requires.able in
-    let h = renumbered c.first_site.result (first_site_of c.args.c.now c.args.f) c.first_site.ensures c.body.ensures.term c.in_ok-lowered.ensures.done in
+    let h = renumbered c.first_site.result (c.args.c.now.first_site c.args.f) c.first_site.ensures c.body.ensures.term c.in_ok-lowered.ensures.done in
     let i = h.count in
     let r = c.requires.able.room in
     record { tidy = c.in_ok-lowered.ensures.tidy; room = omega (arith, i, r) }
@@ -41,39 +40,39 @@ end-requires-clause-room c =
 pub spread-requires-clause-apart : goal.spread-requires-clause-apart
 spread-requires-clause-apart c =
     let g = own_given c.args.c.now c.body.ensures.checked c.args.f c.requires.function c.args.net.now c.args.ports c.requires.able in
-    let h = renumbered c.first_site.result (first_site_of c.args.c.now c.args.f) c.first_site.ensures c.body.ensures.term c.in_ok-lowered.ensures.done in
+    let h = renumbered c.first_site.result (c.args.c.now.first_site c.args.f) c.first_site.ensures c.body.ensures.term c.in_ok-lowered.ensures.done in
     spread_apart c.new.ensures.items c.new-2.ensures.items g h
 
 pub spread-requires-clause-within : goal.spread-requires-clause-within
 spread-requires-clause-within c =
     let g = own_given c.args.c.now c.body.ensures.checked c.args.f c.requires.function c.args.net.now c.args.ports c.requires.able in
-    let h = renumbered c.first_site.result (first_site_of c.args.c.now c.args.f) c.first_site.ensures c.body.ensures.term c.in_ok-lowered.ensures.done in
+    let h = renumbered c.first_site.result (c.args.c.now.first_site c.args.f) c.first_site.ensures c.body.ensures.term c.in_ok-lowered.ensures.done in
     let n = c.len.ensures in
     let k : c.len.result ≡ length c.args.ports.sites.items = omega (arith, n, c.args.ports.sites.ok.0) in
     subst (λ (j : ℕ). Between j (j + c.len.result) (map site_of c.lower_term.new.out.wants.items)) (sym c.first_site.ensures)
-    (subst (λ (j : ℕ). Between (first_site_of c.args.c.now c.args.f) (first_site_of c.args.c.now c.args.f + j)
+    (subst (λ (j : ℕ). Between (c.args.c.now.first_site c.args.f) (c.args.c.now.first_site c.args.f + j)
     (map site_of c.lower_term.new.out.wants.items)) (sym k) (spread_within c.new.ensures.items c.new-2.ensures.items g h))
 
 pub spread-requires-clause-called : goal.spread-requires-clause-called
 spread-requires-clause-called c =
     let g = own_given c.args.c.now c.body.ensures.checked c.args.f c.requires.function c.args.net.now c.args.ports c.requires.able in
-    let h = renumbered c.first_site.result (first_site_of c.args.c.now c.args.f) c.first_site.ensures c.body.ensures.term c.in_ok-lowered.ensures.done in
+    let h = renumbered c.first_site.result (c.args.c.now.first_site c.args.f) c.first_site.ensures c.body.ensures.term c.in_ok-lowered.ensures.done in
     let n = c.len.ensures in
     let k : c.len.result ≡ length c.args.ports.sites.items = omega (arith, n, c.args.ports.sites.ok.0) in
     subst (λ (j : ℕ). (i : ℕ) → i < c.len.result → Listed (j + i) (map site_of c.lower_term.new.out.wants.items)) (sym c.first_site.ensures)
-    (subst (λ (j : ℕ). (i : ℕ) → i < j → Listed (first_site_of c.args.c.now c.args.f + i) (map site_of c.lower_term.new.out.wants.items)) (sym k)
+    (subst (λ (j : ℕ). (i : ℕ) → i < j → Listed (c.args.c.now.first_site c.args.f + i) (map site_of c.lower_term.new.out.wants.items)) (sym k)
     (spread_called c.new.ensures.items c.new-2.ensures.items g h))
 
 pub merge-requires-clause-fit : goal.merge-requires-clause-fit
 merge-requires-clause-fit c =
     let g = own_given c.args.c.now c.body.ensures.checked c.args.f c.requires.function c.args.net.now c.args.ports c.requires.able in
-    let h = renumbered c.first_site.result (first_site_of c.args.c.now c.args.f) c.first_site.ensures c.body.ensures.term c.in_ok-lowered.ensures.done in
+    let h = renumbered c.first_site.result (c.args.c.now.first_site c.args.f) c.first_site.ensures c.body.ensures.term c.in_ok-lowered.ensures.done in
     subst (λ (es : List TailCall). (F : Owner) × LoopsFit F c.end.new.net es) (sym c.deref.ensures.value)
     (merge_fit c.new.ensures.items c.new-2.ensures.items g h c.end.new.net c.end.ensures.built.grows)
 
 pub merge-requires-clause-within : goal.merge-requires-clause-within
 merge-requires-clause-within c =
-    let h = renumbered c.first_site.result (first_site_of c.args.c.now c.args.f) c.first_site.ensures c.body.ensures.term c.in_ok-lowered.ensures.done in
+    let h = renumbered c.first_site.result (c.args.c.now.first_site c.args.f) c.first_site.ensures c.body.ensures.term c.in_ok-lowered.ensures.done in
     let a = c.unit-first_member.result in
     let u = c.unit-first_member.ensures.number in
     let most = c.group_end.ensures.above in
@@ -85,7 +84,7 @@ merge-requires-clause-within c =
 pub merge-requires-clause-room : goal.merge-requires-clause-room
 merge-requires-clause-room c =
     let g = own_given c.args.c.now c.body.ensures.checked c.args.f c.requires.function c.args.net.now c.args.ports c.requires.able in
-    let h = renumbered c.first_site.result (first_site_of c.args.c.now c.args.f) c.first_site.ensures c.body.ensures.term c.in_ok-lowered.ensures.done in
+    let h = renumbered c.first_site.result (c.args.c.now.first_site c.args.f) c.first_site.ensures c.body.ensures.term c.in_ok-lowered.ensures.done in
     let k = merge_cost c.new.ensures.items c.new-2.ensures.items g h in
     let d = ap cost c.deref.ensures.value in
     let i = h.count in
@@ -108,7 +107,7 @@ returns-clause-kept c = grows_on c.lower_term.ensures.kept (grows_on c.end.ensur
 pub returns-clause-done : goal.returns-clause-done
 returns-clause-done c =
     let g = own_given c.args.c.now c.body.ensures.checked c.args.f c.requires.function c.args.net.now c.args.ports c.requires.able in
-    let h = renumbered c.first_site.result (first_site_of c.args.c.now c.args.f) c.first_site.ensures c.body.ensures.term c.in_ok-lowered.ensures.done in
+    let h = renumbered c.first_site.result (c.args.c.now.first_site c.args.f) c.first_site.ensures c.body.ensures.term c.in_ok-lowered.ensures.done in
     let n = c.len.ensures in
     let k : c.len.result ≡ length c.args.ports.sites.items = omega (arith, n, c.args.ports.sites.ok.0) in
     let e = c.in_ok-ending.ensures in
@@ -119,7 +118,7 @@ returns-clause-done c =
     let most = c.group_end.ensures.above in
     let top = c.group_end.ensures.within in
     let low = c.unit-first_member.ensures.within in
-    let group : IsGroup (program_of c.args.c.now) c.args.f (c.group_end.result - a) = record {
+    let group : IsGroup c.args.c.now.program c.args.f (c.group_end.result - a) = record {
       within = omega (arith, u, top, most, low);
       inside = λ i x y. c.group_end.ensures.inside i x (omega (arith, y, u, most, low));
       members = λ i x y. let q = c.group_end.ensures.members i x y in let q0 = q.0 in let q1 = q.1 in (q0, omega (arith, q1, u, most, low));

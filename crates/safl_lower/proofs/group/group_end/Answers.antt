@@ -1,5 +1,4 @@
 use Rattle.std.proofs.Common.{◌≡◌, subst, sym, ◌∙◌, ⊎_elim, arith}
-use Rattle.safl_term.specs.Checked.{program_of}
 use Rattle.safl_lower.proofs.FromProgram.{side}
 use Rattle.safl_lower.proofs.group.group_end.Goals as goal
 
@@ -10,5 +9,5 @@ returns-then-unit-clause-inside c = λ h a b.
 pub loop-g-preserved : goal.loop-g-preserved
 loop-g-preserved c = λ h a b.
     ⊎_elim (λ l. c.loop-g.invariant h a l)
-    (λ l. subst (λ x. (program_of c.args.c.now).unit x ≡ (program_of c.args.c.now).unit c.args.f) (omega (arith, b, l))
+    (λ l. subst (λ x. c.args.c.now.program.unit x ≡ c.args.c.now.program.unit c.args.f) (omega (arith, b, l))
     (sym c.unit.ensures.number ∙ c.if-unit.false ∙ c.unit-unit.ensures.number)) (side h c.loop-g.g)

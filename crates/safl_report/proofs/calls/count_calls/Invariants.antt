@@ -1,6 +1,5 @@
-use Rattle.safl_term.specs.Checked.{program_of}
 use Rattle.safl_report.specs.Counting.{AreCalls}
 use Rattle.safl_report.proofs.calls.count_calls.Given as goal
 
 abbrev pub invariant-loop-done : goal.invariant-loop-done
-invariant-loop-done l = AreCalls (program_of l.p.program) l.done l.calls.items
+invariant-loop-done l = AreCalls l.p.program l.done l.calls.items

@@ -2,17 +2,15 @@ use Rattle.std.proofs.Common.{◌≡◌, ℕ, ◌+◌, ◌≤◌, cond, map, sym
 use Rattle.std.specs.Prelude.{count_by}
 use Rattle.std.specs.Int.{from_bool}
 use Rattle.std.specs.List.{range_with_len}
-use Rattle.safl_term.specs.Checked.{program_of}
-use Rattle.safl_sites.specs.Planned.{arbiter_of}
 use Rattle.safl_report.proofs.CountsByOne.{count_more, count_most, bool_number, bool_few}
 use Rattle.safl_report.proofs.lines.count_arbiters.Goals as goal
 
 pub loop-f-preserved : goal.loop-f-preserved
 loop-f-preserved c =
     let p = c.args.p.now in
-    let C = program_of p.program in
+    let C = p.program in
     let f = c.loop-f.f in
-    let arbiter = arbiter_of p in
+    let arbiter = p.arbiter in
     let one : c.from-count.result ≡ cond (arbiter (C.unit f)) 1 0 = c.from-count.ensures ∙ ap from_bool c.arbiter.ensures.entry ∙ bool_number (arbiter (C.unit f)) in
     let count : c.loop-f.count + c.from-count.result ≡ count_by arbiter (map C.unit (range_with_len 0 (f + 1))) =
     ap (λ (m : ℕ). m + c.from-count.result) c.loop-f.invariant.count ∙ ap (λ (m : ℕ). count_by arbiter (map C.unit (range_with_len 0 f)) + m) one

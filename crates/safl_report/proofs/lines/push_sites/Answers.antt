@@ -1,6 +1,5 @@
 use Rattle.std.proofs.Common.{◌+◌, ℕ, List, ◌++◌, ap, ◌∙◌, arith}
-use Rattle.safl_term.specs.Checked.{CheckedProgram, program_of, name_of}
-use Rattle.safl_sites.specs.Planned.{kept_of}
+use Rattle.safl_term.specs.Checked.{CheckedProgram}
 use Rattle.safl_report.specs.Report.{site_line}
 use Rattle.safl_report.proofs.OneLineMore.{line_more, same_site}
 use Rattle.safl_report.proofs.lines.push_sites.Goals as goal
@@ -11,7 +10,7 @@ loop-done-preserved c =
     let program = c.checked-c.result.now in
     let k = c.loop-done.done + 1 in
     let same = c.checked-c.ensures.same in
-    let callee = c.name-callee.ensures ∙ ap (λ (f : ℕ). name_of program f) c.callee.ensures.number ∙ ap (λ (q : CheckedProgram). name_of q ((program_of q).callee k)) same in
-    let caller = c.name-caller.ensures ∙ ap (λ (f : ℕ). name_of program f) c.caller.ensures.number ∙ ap (λ (q : CheckedProgram). name_of q ((program_of q).caller k)) same in
-    line_more (site_line p.program (kept_of p)) 1 c.loop-done.done k c.args.out.now.items c.loop-done.out.items c.push_site.new.out.items (omega arith) c.loop-done.invariant
+    let callee = c.name-callee.ensures ∙ ap (λ (f : ℕ). program.name f) c.callee.ensures.number ∙ ap (λ (q : CheckedProgram). q.name (q.program.callee k)) same in
+    let caller = c.name-caller.ensures ∙ ap (λ (f : ℕ). program.name f) c.caller.ensures.number ∙ ap (λ (q : CheckedProgram). q.name (q.program.caller k)) same in
+    line_more (site_line p.checked p.kept) 1 c.loop-done.done k c.args.out.now.items c.loop-done.out.items c.push_site.new.out.items (omega arith) c.loop-done.invariant
     (c.in_ok-push_site.ensures ∙ ap (λ (l : List ℕ). c.loop-done.out.items ++ l) (same_site k _ _ _ _ _ _ callee caller c.kept.ensures.entry))

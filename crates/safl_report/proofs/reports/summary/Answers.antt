@@ -1,7 +1,5 @@
 use Rattle.std.proofs.Common.{ℕ, ◌++◌, ap, ◌∙◌, append_assoc}
 use Rattle.std.specs.Prelude.{codes, decimal}
-use Rattle.safl_term.specs.Checked.{program_of}
-use Rattle.safl_sites.specs.Planned.{arbiter_of, kept_of}
 use Rattle.safl_report.specs.Report.{Text, arbiters_of, register_line}
 use Rattle.safl_report.proofs.OneLineMore.{three_parts, same_registers}
 use Rattle.safl_report.proofs.reports.summary.Goals as goal
@@ -12,10 +10,10 @@ returns c =
     let n = c.args.n.now in
     let total = c.count_registers-total in
     record {
-      arbiter = arbiter_of p;
-      kept = kept_of p;
+      arbiter = p.arbiter;
+      kept = p.kept;
       plan = c.count_arbiters.ensures.plan;
-      lines = three_parts (codes "arbiters " ++ decimal (arbiters_of (program_of p.program) (arbiter_of p))) (codes "\n") (register_line n)
+      lines = three_parts (codes "arbiters " ++ decimal (arbiters_of p.program p.arbiter)) (codes "\n") (register_line n)
           c.new-out.result.items c.push_number.new.out.items c.push_end.new.out.items c.push_registers.new.out.items
           c.new-out.ensures.items
           (c.in_ok-push_number.ensures ∙ append_assoc c.new-out.result.items (codes "arbiters ") (decimal c.from.result)

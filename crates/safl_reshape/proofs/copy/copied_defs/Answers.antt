@@ -1,7 +1,6 @@
 use Rattle.std.proofs.Common.{◌≡◌, ◌<◌, ℕ, List, Option, Some, false, ap, sym, refl, ◌∙◌, arith, length}
 use Rattle.std.proofs.lemmas.Option.{slice_get_read}
 use Rattle.safl_tree.specs.declared.tree.Def.{Def}
-use Rattle.safl_term.specs.Checked.{program_of}
 use Rattle.safl_tree.specs.Tree.{Definition}
 use Rattle.safl_tree.specs.Shown.{shown_definition, shown_definitions}
 use Rattle.safl_reshape.specs.Reshaped.{copy_name, copied, copied_as, copied_under}
@@ -12,30 +11,30 @@ use Rattle.safl_reshape.proofs.copy.copied_defs.Goals as goal
 
 pub is_grouped-requires : goal.is_grouped-requires
 is_grouped-requires c =
-    let s : HasSite (program_of c.args.checked.now) c.args.site = record { from = omega arith; to = omega (arith, c.sites-sites.ensures) } in
-    let w : ((program_of c.args.checked.now).callee c.args.site) < length (shown_definitions c.args.defs.now) = callee_within
+    let s : HasSite c.args.checked.now.program c.args.site = record { from = omega arith; to = omega (arith, c.sites-sites.ensures) } in
+    let w : (c.args.checked.now.program.callee c.args.site) < length (shown_definitions c.args.defs.now) = callee_within
     (shown_definitions c.args.defs.now) c.args.checked.now c.args.site c.requires.form c.sites-sites.ensures.checked s in
     let lt : c.callee-callee.result < length c.args.defs.now = omega (arith, w, shown_length c.args.defs.now, c.callee-callee.ensures.number) in
     lt
 
 pub bounds-defs-callee : goal.bounds-defs-callee
 bounds-defs-callee c =
-    let s : HasSite (program_of c.args.checked.now) c.args.site = record { from = omega arith; to = omega (arith, c.sites-sites.ensures) } in
-    let w : ((program_of c.args.checked.now).callee c.args.site) < length (shown_definitions c.args.defs.now) = callee_within
+    let s : HasSite c.args.checked.now.program c.args.site = record { from = omega arith; to = omega (arith, c.sites-sites.ensures) } in
+    let w : (c.args.checked.now.program.callee c.args.site) < length (shown_definitions c.args.defs.now) = callee_within
     (shown_definitions c.args.defs.now) c.args.checked.now c.args.site c.requires.form c.sites-sites.ensures.checked s in
     let lt : c.callee-callee.result < length c.args.defs.now = omega (arith, w, shown_length c.args.defs.now, c.callee-callee.ensures.number) in
     lt
 
 pub returns-then-bytes-gt-NAME_MAX-clause-refused : goal.returns-then-bytes-gt-NAME_MAX-clause-refused
 returns-then-bytes-gt-NAME_MAX-clause-refused c =
-    let s : HasSite (program_of c.args.checked.now) c.args.site = record { from = omega arith; to = omega (arith, c.sites-sites.ensures) } in
-    let w : ((program_of c.args.checked.now).callee c.args.site) < length (shown_definitions c.args.defs.now) = callee_within
+    let s : HasSite c.args.checked.now.program c.args.site = record { from = omega arith; to = omega (arith, c.sites-sites.ensures) } in
+    let w : (c.args.checked.now.program.callee c.args.site) < length (shown_definitions c.args.defs.now) = callee_within
     (shown_definitions c.args.defs.now) c.args.checked.now c.args.site c.requires.form c.sites-sites.ensures.checked s in
     let lt : c.callee-callee.result < length c.args.defs.now = omega (arith, w, shown_length c.args.defs.now, c.callee-callee.ensures.number) in
-    let g : is_grouped (shown_definitions c.args.defs.now) ((program_of c.args.checked.now).callee c.args.site) ≡ false = sym
+    let g : is_grouped (shown_definitions c.args.defs.now) (c.args.checked.now.program.callee c.args.site) ≡ false = sym
     (ap (λ (n : ℕ). is_grouped (shown_definitions c.args.defs.now) n) c.callee-callee.ensures.number) ∙ (sym c.is_grouped.ensures ∙ c.if-is_grouped.false) in
-    let n : name_for (shown_definitions c.args.defs.now) c.args.site ((program_of c.args.checked.now).callee c.args.site) ≡ c.in_ok-name.name =
-    name_shown c.args.defs.now c.callee-callee.result ((program_of c.args.checked.now).callee c.args.site) c.args.site c.index-defs-callee.result
+    let n : name_for (shown_definitions c.args.defs.now) c.args.site (c.args.checked.now.program.callee c.args.site) ≡ c.in_ok-name.name =
+    name_shown c.args.defs.now c.callee-callee.result (c.args.checked.now.program.callee c.args.site) c.args.site c.index-defs-callee.result
     lt c.index-defs-callee.is c.callee-callee.ensures.number ∙ (ap (λ (z : Def). copy_name z.name c.args.site) c.index-defs-callee.is ∙ sym c.in_ok-name.ensures) in
     let b = ap (λ (x : List ℕ). length x) c.bytes.ensures.bytes in
     let q = ap (λ (x : List ℕ). length x) n in
@@ -43,14 +42,14 @@ returns-then-bytes-gt-NAME_MAX-clause-refused c =
 
 pub returns-then-is_taken-clause-refused : goal.returns-then-is_taken-clause-refused
 returns-then-is_taken-clause-refused c =
-    let s : HasSite (program_of c.args.checked.now) c.args.site = record { from = omega arith; to = omega (arith, c.sites-sites.ensures) } in
-    let w : ((program_of c.args.checked.now).callee c.args.site) < length (shown_definitions c.args.defs.now) = callee_within
+    let s : HasSite c.args.checked.now.program c.args.site = record { from = omega arith; to = omega (arith, c.sites-sites.ensures) } in
+    let w : (c.args.checked.now.program.callee c.args.site) < length (shown_definitions c.args.defs.now) = callee_within
     (shown_definitions c.args.defs.now) c.args.checked.now c.args.site c.requires.form c.sites-sites.ensures.checked s in
     let lt : c.callee-callee.result < length c.args.defs.now = omega (arith, w, shown_length c.args.defs.now, c.callee-callee.ensures.number) in
-    let g : is_grouped (shown_definitions c.args.defs.now) ((program_of c.args.checked.now).callee c.args.site) ≡ false = sym
+    let g : is_grouped (shown_definitions c.args.defs.now) (c.args.checked.now.program.callee c.args.site) ≡ false = sym
     (ap (λ (n : ℕ). is_grouped (shown_definitions c.args.defs.now) n) c.callee-callee.ensures.number) ∙ (sym c.is_grouped.ensures ∙ c.if-is_grouped.false) in
-    let n : name_for (shown_definitions c.args.defs.now) c.args.site ((program_of c.args.checked.now).callee c.args.site) ≡ c.in_ok-name.name =
-    name_shown c.args.defs.now c.callee-callee.result ((program_of c.args.checked.now).callee c.args.site) c.args.site c.index-defs-callee.result
+    let n : name_for (shown_definitions c.args.defs.now) c.args.site (c.args.checked.now.program.callee c.args.site) ≡ c.in_ok-name.name =
+    name_shown c.args.defs.now c.callee-callee.result (c.args.checked.now.program.callee c.args.site) c.args.site c.index-defs-callee.result
     lt c.index-defs-callee.is c.callee-callee.ensures.number ∙ (ap (λ (z : Def). copy_name z.name c.args.site) c.index-defs-callee.is ∙ sym c.in_ok-name.ensures) in
     let b = ap (λ (x : List ℕ). length x) c.bytes.ensures.bytes in
     let q = ap (λ (x : List ℕ). length x) n in
@@ -58,22 +57,22 @@ returns-then-is_taken-clause-refused c =
 
 pub copy_function-requires-clause-within : goal.copy_function-requires-clause-within
 copy_function-requires-clause-within c =
-    let s : HasSite (program_of c.args.checked.now) c.args.site = record { from = omega arith; to = omega (arith, c.sites-sites.ensures) } in
-    let w : ((program_of c.args.checked.now).callee c.args.site) < length (shown_definitions c.args.defs.now) = callee_within
+    let s : HasSite c.args.checked.now.program c.args.site = record { from = omega arith; to = omega (arith, c.sites-sites.ensures) } in
+    let w : (c.args.checked.now.program.callee c.args.site) < length (shown_definitions c.args.defs.now) = callee_within
     (shown_definitions c.args.defs.now) c.args.checked.now c.args.site c.requires.form c.sites-sites.ensures.checked s in
     let lt : c.callee-callee.result < length c.args.defs.now = omega (arith, w, shown_length c.args.defs.now, c.callee-callee.ensures.number) in
     lt
 
 pub returns-clause-may : goal.returns-clause-may
 returns-clause-may c =
-    let s : HasSite (program_of c.args.checked.now) c.args.site = record { from = omega arith; to = omega (arith, c.sites-sites.ensures) } in
-    let w : ((program_of c.args.checked.now).callee c.args.site) < length (shown_definitions c.args.defs.now) = callee_within
+    let s : HasSite c.args.checked.now.program c.args.site = record { from = omega arith; to = omega (arith, c.sites-sites.ensures) } in
+    let w : (c.args.checked.now.program.callee c.args.site) < length (shown_definitions c.args.defs.now) = callee_within
     (shown_definitions c.args.defs.now) c.args.checked.now c.args.site c.requires.form c.sites-sites.ensures.checked s in
     let lt : c.callee-callee.result < length c.args.defs.now = omega (arith, w, shown_length c.args.defs.now, c.callee-callee.ensures.number) in
-    let g : is_grouped (shown_definitions c.args.defs.now) ((program_of c.args.checked.now).callee c.args.site) ≡ false = sym
+    let g : is_grouped (shown_definitions c.args.defs.now) (c.args.checked.now.program.callee c.args.site) ≡ false = sym
     (ap (λ (n : ℕ). is_grouped (shown_definitions c.args.defs.now) n) c.callee-callee.ensures.number) ∙ (sym c.is_grouped.ensures ∙ c.if-is_grouped.false) in
-    let n : name_for (shown_definitions c.args.defs.now) c.args.site ((program_of c.args.checked.now).callee c.args.site) ≡ c.in_ok-name.name =
-    name_shown c.args.defs.now c.callee-callee.result ((program_of c.args.checked.now).callee c.args.site) c.args.site c.index-defs-callee.result
+    let n : name_for (shown_definitions c.args.defs.now) c.args.site (c.args.checked.now.program.callee c.args.site) ≡ c.in_ok-name.name =
+    name_shown c.args.defs.now c.callee-callee.result (c.args.checked.now.program.callee c.args.site) c.args.site c.index-defs-callee.result
     lt c.index-defs-callee.is c.callee-callee.ensures.number ∙ (ap (λ (z : Def). copy_name z.name c.args.site) c.index-defs-callee.is ∙ sym c.in_ok-name.ensures) in
     let b = ap (λ (x : List ℕ). length x) c.bytes.ensures.bytes in
     let q = ap (λ (x : List ℕ). length x) n in
@@ -87,8 +86,8 @@ returns-clause-may c =
 
 pub returns-clause-copied : goal.returns-clause-copied
 returns-clause-copied c =
-    let s : HasSite (program_of c.args.checked.now) c.args.site = record { from = omega arith; to = omega (arith, c.sites-sites.ensures) } in
-    let w : ((program_of c.args.checked.now).callee c.args.site) < length (shown_definitions c.args.defs.now) = callee_within
+    let s : HasSite c.args.checked.now.program c.args.site = record { from = omega arith; to = omega (arith, c.sites-sites.ensures) } in
+    let w : (c.args.checked.now.program.callee c.args.site) < length (shown_definitions c.args.defs.now) = callee_within
     (shown_definitions c.args.defs.now) c.args.checked.now c.args.site c.requires.form c.sites-sites.ensures.checked s in
     let lt : c.callee-callee.result < length c.args.defs.now = omega (arith, w, shown_length c.args.defs.now, c.callee-callee.ensures.number) in
     let st = def_shown c.args.defs.now c.callee-callee.result (Some c.index-defs-callee.result)

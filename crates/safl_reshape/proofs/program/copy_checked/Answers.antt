@@ -1,7 +1,6 @@
 use Rattle.std.proofs.Common.{◌≡◌, sym, subst, List, arith}
 use Rattle.std.proofs.lemmas.Result.{err_from_is_err_and}
 use Rattle.safl_term.specs.Program.{Program}
-use Rattle.safl_term.specs.Checked.{program_of}
 use Rattle.safl_tree.specs.declared.tree.Def.{Def}
 use Rattle.safl_tree.specs.Shown.{shown_definitions, shown_program}
 use Rattle.safl_tree.specs.Printable.{AllKeepLevels}
@@ -17,35 +16,35 @@ use Rattle.safl_reshape.proofs.program.copy_checked.Goals as goal
 pub returns-in_err-defs-clause-refused : goal.returns-in_err-defs-clause-refused
 returns-in_err-defs-clause-refused c =
     let p = err_from_is_err_and c.from_residual.result c.from_residual.ensures.1 in
-    let n : program_of c.args.checked.now ≡ program_in (shown c.args.checked.now) = (c.forms_are_numbered_law.ensures c.args.checked.now).program in
-    let r = subst (λ (l : List Def). RefusesCopy (program_of c.args.checked.now) (shown_definitions l) c.args.site c.in_err-defs.field-0.0) c.deref.ensures.value c.in_err-defs.ensures.refused in
+    let n : c.args.checked.now.program ≡ program_in (shown c.args.checked.now) = (c.forms_are_numbered_law.ensures c.args.checked.now).program in
+    let r = subst (λ (l : List Def). RefusesCopy c.args.checked.now.program (shown_definitions l) c.args.site c.in_err-defs.field-0.0) c.deref.ensures.value c.in_err-defs.ensures.refused in
     rw (p.1, p.2) (any_form (shown_program c.args.program.now) c.args.checked.now c.requires.form c.one_form_law.ensures n
     (λ (z : Program). RefusesCopy z (shown_program c.args.program.now) c.args.site c.in_err-defs.field-0.0) r)
 
 pub returns-in_err-look_at_limits-clause-refused : goal.returns-in_err-look_at_limits-clause-refused
 returns-in_err-look_at_limits-clause-refused c =
     let p = err_from_is_err_and c.from_residual-in_err-look_at_limits.result c.from_residual-in_err-look_at_limits.ensures.1 in
-    let n : program_of c.args.checked.now ≡ program_in (shown c.args.checked.now) = (c.forms_are_numbered_law.ensures c.args.checked.now).program in
-    let m : MayCopy (program_of c.args.checked.now) (shown_program c.args.program.now) c.args.site = subst
-    (λ (l : List Def). MayCopy (program_of c.args.checked.now) (shown_definitions l) c.args.site) c.deref.ensures.value c.in_ok-defs.ensures.may in
+    let n : c.args.checked.now.program ≡ program_in (shown c.args.checked.now) = (c.forms_are_numbered_law.ensures c.args.checked.now).program in
+    let m : MayCopy c.args.checked.now.program (shown_program c.args.program.now) c.args.site = subst
+    (λ (l : List Def). MayCopy c.args.checked.now.program (shown_definitions l) c.args.site) c.deref.ensures.value c.in_ok-defs.ensures.may in
     let q : (shown_definitions c.in_ok-defs.defs.items) ≡ copied (shown_program c.args.program.now) c.args.site
-    ((program_of c.args.checked.now).callee c.args.site) = subst
+    (c.args.checked.now.program.callee c.args.site) = subst
     (λ (l : List Def). (shown_definitions c.in_ok-defs.defs.items) ≡ copied (shown_definitions l) c.args.site
-    ((program_of c.args.checked.now).callee c.args.site)) c.deref.ensures.value c.in_ok-defs.ensures.copied in
+    (c.args.checked.now.program.callee c.args.site)) c.deref.ensures.value c.in_ok-defs.ensures.copied in
     let l = subst (λ (l : List Def). RefusesLimit (shown_definitions l) c.in_err-look_at_limits.field-0.0) c.deref-2.ensures.value c.in_err-look_at_limits.ensures.refused in
-    let r = limit_refused (program_of c.args.checked.now) (shown_program c.args.program.now) (shown_definitions c.in_ok-defs.defs.items) c.args.site c.in_err-look_at_limits.field-0.0 m q l in
+    let r = limit_refused c.args.checked.now.program (shown_program c.args.program.now) (shown_definitions c.in_ok-defs.defs.items) c.args.site c.in_err-look_at_limits.field-0.0 m q l in
     rw (p.1, p.2) (any_form (shown_program c.args.program.now) c.args.checked.now c.requires.form c.one_form_law.ensures n
     (λ (z : Program). RefusesCopy z (shown_program c.args.program.now) c.args.site c.in_err-look_at_limits.field-0.0) r)
 
 pub returns-then-not-levels_ok-clause-refused : goal.returns-then-not-levels_ok-clause-refused
 returns-then-not-levels_ok-clause-refused c =
-    let n : program_of c.args.checked.now ≡ program_in (shown c.args.checked.now) = (c.forms_are_numbered_law.ensures c.args.checked.now).program in
-    let m : MayCopy (program_of c.args.checked.now) (shown_program c.args.program.now) c.args.site = subst
-    (λ (l : List Def). MayCopy (program_of c.args.checked.now) (shown_definitions l) c.args.site) c.deref.ensures.value c.in_ok-defs.ensures.may in
+    let n : c.args.checked.now.program ≡ program_in (shown c.args.checked.now) = (c.forms_are_numbered_law.ensures c.args.checked.now).program in
+    let m : MayCopy c.args.checked.now.program (shown_program c.args.program.now) c.args.site = subst
+    (λ (l : List Def). MayCopy c.args.checked.now.program (shown_definitions l) c.args.site) c.deref.ensures.value c.in_ok-defs.ensures.may in
     let q : (shown_definitions c.in_ok-defs.defs.items) ≡ copied (shown_program c.args.program.now) c.args.site
-    ((program_of c.args.checked.now).callee c.args.site) = subst
+    (c.args.checked.now.program.callee c.args.site) = subst
     (λ (l : List Def). (shown_definitions c.in_ok-defs.defs.items) ≡ copied (shown_definitions l) c.args.site
-    ((program_of c.args.checked.now).callee c.args.site)) c.deref.ensures.value c.in_ok-defs.ensures.copied in
+    (c.args.checked.now.program.callee c.args.site)) c.deref.ensures.value c.in_ok-defs.ensures.copied in
     let k : KeepsLimits (shown_definitions c.in_ok-defs.defs.items) = subst (λ (l : List Def). KeepsLimits (shown_definitions l)) c.deref-2.ensures.value c.in_ok-look_at_limits.ensures.kept in
     any_form (shown_program c.args.program.now) c.args.checked.now c.requires.form c.one_form_law.ensures n
     (λ (z : Program). MayCopy z (shown_program c.args.program.now) c.args.site × KeepsLimits
@@ -55,13 +54,13 @@ returns-then-not-levels_ok-clause-refused c =
 
 pub returns-clause-copied : goal.returns-clause-copied
 returns-clause-copied c =
-    let n : program_of c.args.checked.now ≡ program_in (shown c.args.checked.now) = (c.forms_are_numbered_law.ensures c.args.checked.now).program in
-    let m : MayCopy (program_of c.args.checked.now) (shown_program c.args.program.now) c.args.site = subst
-    (λ (l : List Def). MayCopy (program_of c.args.checked.now) (shown_definitions l) c.args.site) c.deref.ensures.value c.in_ok-defs.ensures.may in
+    let n : c.args.checked.now.program ≡ program_in (shown c.args.checked.now) = (c.forms_are_numbered_law.ensures c.args.checked.now).program in
+    let m : MayCopy c.args.checked.now.program (shown_program c.args.program.now) c.args.site = subst
+    (λ (l : List Def). MayCopy c.args.checked.now.program (shown_definitions l) c.args.site) c.deref.ensures.value c.in_ok-defs.ensures.may in
     let q : (shown_definitions c.in_ok-defs.defs.items) ≡ copied (shown_program c.args.program.now) c.args.site
-    ((program_of c.args.checked.now).callee c.args.site) = subst
+    (c.args.checked.now.program.callee c.args.site) = subst
     (λ (l : List Def). (shown_definitions c.in_ok-defs.defs.items) ≡ copied (shown_definitions l) c.args.site
-    ((program_of c.args.checked.now).callee c.args.site)) c.deref.ensures.value c.in_ok-defs.ensures.copied in
+    (c.args.checked.now.program.callee c.args.site)) c.deref.ensures.value c.in_ok-defs.ensures.copied in
     let k : KeepsLimits (shown_definitions c.in_ok-defs.defs.items) = subst (λ (l : List Def). KeepsLimits (shown_definitions l)) c.deref-2.ensures.value c.in_ok-look_at_limits.ensures.kept in
     any_form (shown_program c.args.program.now) c.args.checked.now c.requires.form c.one_form_law.ensures n
     (λ (z : Program). MayCopy z (shown_program c.args.program.now) c.args.site × KeepsLimits (shown_definitions c.in_ok-defs.defs.items) ×
@@ -71,13 +70,13 @@ returns-clause-copied c =
 
 pub returns-clause-printable : goal.returns-clause-printable
 returns-clause-printable c =
-    let n : program_of c.args.checked.now ≡ program_in (shown c.args.checked.now) = (c.forms_are_numbered_law.ensures c.args.checked.now).program in
-    let m : MayCopy (program_of c.args.checked.now) (shown_program c.args.program.now) c.args.site = subst
-    (λ (l : List Def). MayCopy (program_of c.args.checked.now) (shown_definitions l) c.args.site) c.deref.ensures.value c.in_ok-defs.ensures.may in
+    let n : c.args.checked.now.program ≡ program_in (shown c.args.checked.now) = (c.forms_are_numbered_law.ensures c.args.checked.now).program in
+    let m : MayCopy c.args.checked.now.program (shown_program c.args.program.now) c.args.site = subst
+    (λ (l : List Def). MayCopy c.args.checked.now.program (shown_definitions l) c.args.site) c.deref.ensures.value c.in_ok-defs.ensures.may in
     let q : (shown_definitions c.in_ok-defs.defs.items) ≡ copied (shown_program c.args.program.now) c.args.site
-    ((program_of c.args.checked.now).callee c.args.site) = subst
+    (c.args.checked.now.program.callee c.args.site) = subst
     (λ (l : List Def). (shown_definitions c.in_ok-defs.defs.items) ≡ copied (shown_definitions l) c.args.site
-    ((program_of c.args.checked.now).callee c.args.site)) c.deref.ensures.value c.in_ok-defs.ensures.copied in
+    (c.args.checked.now.program.callee c.args.site)) c.deref.ensures.value c.in_ok-defs.ensures.copied in
     let k : KeepsLimits (shown_definitions c.in_ok-defs.defs.items) = subst (λ (l : List Def). KeepsLimits (shown_definitions l)) c.deref-2.ensures.value c.in_ok-look_at_limits.ensures.kept in
     let g = good_copy (shown_program c.args.program.now) c.args.checked.now c.args.site (shown_definitions c.in_ok-defs.defs.items)
     c.requires.printable.formed c.requires.form c.in_ok-defs.ensures.checked n c.copy_law.ensures (omega (arith, c.ranges.site.fits)) m q k in
@@ -85,13 +84,13 @@ returns-clause-printable c =
 
 pub returns-clause-alike : goal.returns-clause-alike
 returns-clause-alike c =
-    let n : program_of c.args.checked.now ≡ program_in (shown c.args.checked.now) = (c.forms_are_numbered_law.ensures c.args.checked.now).program in
-    let m : MayCopy (program_of c.args.checked.now) (shown_program c.args.program.now) c.args.site = subst
-    (λ (l : List Def). MayCopy (program_of c.args.checked.now) (shown_definitions l) c.args.site) c.deref.ensures.value c.in_ok-defs.ensures.may in
+    let n : c.args.checked.now.program ≡ program_in (shown c.args.checked.now) = (c.forms_are_numbered_law.ensures c.args.checked.now).program in
+    let m : MayCopy c.args.checked.now.program (shown_program c.args.program.now) c.args.site = subst
+    (λ (l : List Def). MayCopy c.args.checked.now.program (shown_definitions l) c.args.site) c.deref.ensures.value c.in_ok-defs.ensures.may in
     let q : (shown_definitions c.in_ok-defs.defs.items) ≡ copied (shown_program c.args.program.now) c.args.site
-    ((program_of c.args.checked.now).callee c.args.site) = subst
+    (c.args.checked.now.program.callee c.args.site) = subst
     (λ (l : List Def). (shown_definitions c.in_ok-defs.defs.items) ≡ copied (shown_definitions l) c.args.site
-    ((program_of c.args.checked.now).callee c.args.site)) c.deref.ensures.value c.in_ok-defs.ensures.copied in
+    (c.args.checked.now.program.callee c.args.site)) c.deref.ensures.value c.in_ok-defs.ensures.copied in
     let k : KeepsLimits (shown_definitions c.in_ok-defs.defs.items) = subst (λ (l : List Def). KeepsLimits (shown_definitions l)) c.deref-2.ensures.value c.in_ok-look_at_limits.ensures.kept in
     let g = good_copy (shown_program c.args.program.now) c.args.checked.now c.args.site (shown_definitions c.in_ok-defs.defs.items)
     c.requires.printable.formed c.requires.form c.in_ok-defs.ensures.checked n c.copy_law.ensures (omega (arith, c.ranges.site.fits)) m q k in

@@ -1,5 +1,4 @@
 use Rattle.std.proofs.Common.{◌≡◌, ℕ, ◌-◌, true, get_or, slice_set, arith, sym, ◌∙◌, ap, subst}
-use Rattle.safl_term.specs.Checked.{program_of}
 use Rattle.safl_term.specs.Program.{unit_for}
 use Rattle.safl_sites.specs.Collecting.{IsCollected}
 use Rattle.safl_sites.specs.Rows.{Has, Adds, IsCommon, Meets, no_row}
@@ -10,7 +9,7 @@ use Rattle.safl_sites.proofs.collect.collect_site.Goals as goal
 
 pub returns-then-meets : goal.returns-then-meets
 returns-then-meets c =
-    let C = program_of c.args.c.now in
+    let C = c.args.c.now.program in
     let k = c.args.k in
     let B = c.args.before.now in
     let P = c.args.peers.now in
@@ -26,7 +25,7 @@ returns-then-meets c =
 
 pub returns-else-meets : goal.returns-else-meets
 returns-else-meets c =
-    let C = program_of c.args.c.now in
+    let C = c.args.c.now.program in
     let k = c.args.k in
     let B = c.args.before.now in
     let P = c.args.peers.now in

@@ -1,5 +1,4 @@
 use Rattle.std.proofs.Common.{◌≡◌, ℕ, suc, length, slice_set, sym, subst, arith}
-use Rattle.safl_term.specs.Checked.{program_of}
 use Rattle.safl_term.specs.Terms.{Term}
 use Rattle.safl_sites.specs.Conflicts.{Reaches}
 use Rattle.safl_sites.specs.Filling.{IsFilled}
@@ -12,25 +11,25 @@ use Rattle.safl_sites.proofs.fill.fill_body.Goals as goal
 
 pub reach-requires : goal.reach-requires
 reach-requires c =
-    let C = program_of c.args.c.now in
+    let C = c.args.c.now.program in
     subst (λ (x : Term). (n : ℕ) × MayReach C c.args.units.now n x) (sym c.body-body.ensures.term)
     (body_may_reach c.args.c.now c.body-body.ensures.checked c.args.f _ _ _ c.requires.within c.requires.filled)
 
 pub mark-requires-clause-may : goal.mark-requires-clause-may
 mark-requires-clause-may c =
-    let C = program_of c.args.c.now in
+    let C = c.args.c.now.program in
     subst (λ (x : Term). (n : ℕ) × MayReach C c.args.units.now n x) (sym c.body-body.ensures.term)
     (body_may_reach c.args.c.now c.body-body.ensures.checked c.args.f _ _ _ c.requires.within c.requires.filled)
 
 pub bounds-units-unit : goal.bounds-units-unit
 bounds-units-unit c =
-    let C = program_of c.args.c.now in
+    let C = c.args.c.now.program in
     let e = (c.body-body.ensures.checked.formed.first c.args.f c.requires.within).0 in
     omega (arith, e, c.requires.filled.units_count)
 
 pub returns : goal.returns
 returns c =
-    let C = program_of c.args.c.now in
+    let C = c.args.c.now.program in
     let f = c.args.f in
     let low = (c.body-body.ensures.checked.formed.first f c.requires.within).0 in
     let e = c.body-body.ensures.term in

@@ -1,5 +1,4 @@
 use Rattle.std.proofs.Common.{rules, ◌≡◌, ℕ, ◌+◌, ◌*◌, ◌<◌, ◌≤◌, List, [], ◌∷◌, ◌++◌, length, refl, sym, ap, subst, ◌∙◌, arith}
-use Rattle.safl_term.specs.Checked.{program_of}
 use Rattle.safl_term.specs.declared.term.Term as declared
 use Rattle.safl_term.specs.Sizes.{nodes, nodes_in}
 use Rattle.safl_term.specs.Terms.{Term, Cons}
@@ -19,7 +18,7 @@ use Rattle.safl_sites.proofs.keep.+keep.Goals as goal
 
 pub walk-walk-requires : goal.walk-walk-requires
 walk-walk-requires t c =
-    let C = program_of c.args.c.now in
+    let C = c.args.c.now.program in
     let U = c.args.units.now in
     let P = c.args.peers.now in
     let R = c.args.slots.now.items in
@@ -31,7 +30,7 @@ walk-walk-requires t c =
 
 pub walk-walk-requires-in-If : goal.walk-walk-requires-in-If
 walk-walk-requires-in-If t c =
-    let C = program_of c.args.c.now in
+    let C = c.args.c.now.program in
     let U = c.args.units.now in
     let P = c.args.peers.now in
     let R = c.args.slots.now.items in
@@ -45,7 +44,7 @@ walk-walk-requires-in-If t c =
 
 pub walk-walk-requires-in-If-2 : goal.walk-walk-requires-in-If-2
 walk-walk-requires-in-If-2 t c =
-    let C = program_of c.args.c.now in
+    let C = c.args.c.now.program in
     let U = c.args.units.now in
     let P = c.args.peers.now in
     let R = c.args.slots.now.items in
@@ -59,7 +58,7 @@ walk-walk-requires-in-If-2 t c =
 
 pub walk-bind_all-requires : goal.walk-bind_all-requires
 walk-bind_all-requires t c =
-    let C = program_of c.args.c.now in
+    let C = c.args.c.now.program in
     let U = c.args.units.now in
     let P = c.args.peers.now in
     let R = c.args.slots.now.items in
@@ -72,7 +71,7 @@ walk-bind_all-requires t c =
 
 pub walk-hold-requires : goal.walk-hold-requires
 walk-hold-requires t c =
-    let C = program_of c.args.c.now in
+    let C = c.args.c.now.program in
     let U = c.args.units.now in
     let P = c.args.peers.now in
     let R = c.args.slots.now.items in
@@ -82,7 +81,7 @@ walk-hold-requires t c =
 
 pub walk-walk-requires-in-Let : goal.walk-walk-requires-in-Let
 walk-walk-requires-in-Let t c =
-    let C = program_of c.args.c.now in
+    let C = c.args.c.now.program in
     let U = c.args.units.now in
     let P = c.args.peers.now in
     let R = c.args.slots.now.items in
@@ -97,7 +96,7 @@ walk-walk-requires-in-Let t c =
 
 pub walk-walk_all-requires : goal.walk-walk_all-requires
 walk-walk_all-requires t c =
-    let C = program_of c.args.c.now in
+    let C = c.args.c.now.program in
     let U = c.args.units.now in
     let P = c.args.peers.now in
     let R = c.args.slots.now.items in
@@ -110,7 +109,7 @@ walk-walk_all-requires t c =
 
 pub walk-walk_all-requires-in-Call : goal.walk-walk_all-requires-in-Call
 walk-walk_all-requires-in-Call t c =
-    let C = program_of c.args.c.now in
+    let C = c.args.c.now.program in
     let U = c.args.units.now in
     let P = c.args.peers.now in
     let R = c.args.slots.now.items in
@@ -123,7 +122,7 @@ walk-walk_all-requires-in-Call t c =
 
 pub walk-walk_all-requires-in-Loop : goal.walk-walk_all-requires-in-Loop
 walk-walk_all-requires-in-Loop t c =
-    let C = program_of c.args.c.now in
+    let C = c.args.c.now.program in
     let U = c.args.units.now in
     let P = c.args.peers.now in
     let R = c.args.slots.now.items in
@@ -136,7 +135,7 @@ walk-walk_all-requires-in-Loop t c =
 
 pub walk-insert-requires : goal.walk-insert-requires
 walk-insert-requires t c =
-    let C = program_of c.args.c.now in
+    let C = c.args.c.now.program in
     let U = c.args.units.now in
     let P = c.args.peers.now in
     let R = c.args.slots.now.items in
@@ -146,7 +145,7 @@ walk-insert-requires t c =
 
 pub walk-returns-in-Const-clause-done : goal.walk-returns-in-Const-clause-done
 walk-returns-in-Const-clause-done t c =
-    let C = program_of c.args.c.now in
+    let C = c.args.c.now.program in
     let U = c.args.units.now in
     let P = c.args.peers.now in
     let R = c.args.slots.now.items in
@@ -157,7 +156,7 @@ walk-returns-in-Const-clause-done t c =
 
 pub walk-returns-in-Var-clause-done : goal.walk-returns-in-Var-clause-done
 walk-returns-in-Var-clause-done t c =
-    let C = program_of c.args.c.now in
+    let C = c.args.c.now.program in
     let U = c.args.units.now in
     let P = c.args.peers.now in
     let R = c.args.slots.now.items in
@@ -171,7 +170,7 @@ walk-returns-in-Var-clause-done t c =
 
 pub walk-index-requires : goal.walk-index-requires
 walk-index-requires t c =
-    let C = program_of c.args.c.now in
+    let C = c.args.c.now.program in
     let U = c.args.units.now in
     let P = c.args.peers.now in
     let R = c.args.slots.now.items in
@@ -182,7 +181,7 @@ walk-index-requires t c =
 
 pub walk-returns-in_ok-walk-in-If-3-clause-done : goal.walk-returns-in_ok-walk-in-If-3-clause-done
 walk-returns-in_ok-walk-in-If-3-clause-done t c =
-    let C = program_of c.args.c.now in
+    let C = c.args.c.now.program in
     let U = c.args.units.now in
     let P = c.args.peers.now in
     let R = c.args.slots.now.items in
@@ -198,7 +197,7 @@ walk-returns-in_ok-walk-in-If-3-clause-done t c =
 
 pub walk-returns-in_ok-walk-in-Let-clause-done : goal.walk-returns-in_ok-walk-in-Let-clause-done
 walk-returns-in_ok-walk-in-Let-clause-done t c =
-    let C = program_of c.args.c.now in
+    let C = c.args.c.now.program in
     let U = c.args.units.now in
     let P = c.args.peers.now in
     let R = c.args.slots.now.items in
@@ -218,7 +217,7 @@ walk-returns-in_ok-walk-in-Let-clause-done t c =
 
 pub walk-returns-in_ok-walk_all-in-Op-clause-done : goal.walk-returns-in_ok-walk_all-in-Op-clause-done
 walk-returns-in_ok-walk_all-in-Op-clause-done t c =
-    let C = program_of c.args.c.now in
+    let C = c.args.c.now.program in
     let U = c.args.units.now in
     let P = c.args.peers.now in
     let R = c.args.slots.now.items in
@@ -230,7 +229,7 @@ walk-returns-in_ok-walk_all-in-Op-clause-done t c =
 
 pub walk-returns-in_ok-walk_all-in-Call-clause-done : goal.walk-returns-in_ok-walk_all-in-Call-clause-done
 walk-returns-in_ok-walk_all-in-Call-clause-done t c =
-    let C = program_of c.args.c.now in
+    let C = c.args.c.now.program in
     let U = c.args.units.now in
     let P = c.args.peers.now in
     let R = c.args.slots.now.items in
@@ -242,7 +241,7 @@ walk-returns-in_ok-walk_all-in-Call-clause-done t c =
 
 pub walk-returns-in_ok-walk_all-in-Loop-clause-done : goal.walk-returns-in_ok-walk_all-in-Loop-clause-done
 walk-returns-in_ok-walk_all-in-Loop-clause-done t c =
-    let C = program_of c.args.c.now in
+    let C = c.args.c.now.program in
     let U = c.args.units.now in
     let P = c.args.peers.now in
     let R = c.args.slots.now.items in
@@ -254,7 +253,7 @@ walk-returns-in_ok-walk_all-in-Loop-clause-done t c =
 
 pub bind_all-walk-requires : goal.bind_all-walk-requires
 bind_all-walk-requires t c =
-    let C = program_of c.args.c.now in
+    let C = c.args.c.now.program in
     let U = c.args.units.now in
     let P = c.args.peers.now in
     let R = c.args.slots.now.items in
@@ -266,7 +265,7 @@ bind_all-walk-requires t c =
 
 pub walk_all-walk-requires : goal.walk_all-walk-requires
 walk_all-walk-requires t c =
-    let C = program_of c.args.c.now in
+    let C = c.args.c.now.program in
     let U = c.args.units.now in
     let P = c.args.peers.now in
     let R = c.args.slots.now.items in
@@ -278,7 +277,7 @@ walk_all-walk-requires t c =
 
 pub bind_all-bind_all-requires : goal.bind_all-bind_all-requires
 bind_all-bind_all-requires t c =
-    let C = program_of c.args.c.now in
+    let C = c.args.c.now.program in
     let U = c.args.units.now in
     let P = c.args.peers.now in
     let R = c.args.slots.now.items in
@@ -291,7 +290,7 @@ bind_all-bind_all-requires t c =
 
 pub walk_all-walk_all-requires : goal.walk_all-walk_all-requires
 walk_all-walk_all-requires t c =
-    let C = program_of c.args.c.now in
+    let C = c.args.c.now.program in
     let U = c.args.units.now in
     let P = c.args.peers.now in
     let R = c.args.slots.now.items in
@@ -304,7 +303,7 @@ walk_all-walk_all-requires t c =
 
 pub walk_all-returns-in_default-clause-done : goal.walk_all-returns-in_default-clause-done
 walk_all-returns-in_default-clause-done t c =
-    let C = program_of c.args.c.now in
+    let C = c.args.c.now.program in
     let U = c.args.units.now in
     let P = c.args.peers.now in
     let R = c.args.slots.now.items in
@@ -313,7 +312,7 @@ walk_all-returns-in_default-clause-done t c =
 
 pub bind_all-returns-in_default : goal.bind_all-returns-in_default
 bind_all-returns-in_default t c =
-    let C = program_of c.args.c.now in
+    let C = c.args.c.now.program in
     let U = c.args.units.now in
     let P = c.args.peers.now in
     let R = c.args.slots.now.items in
@@ -322,7 +321,7 @@ bind_all-returns-in_default t c =
 
 pub walk_all-returns-clause-done : goal.walk_all-returns-clause-done
 walk_all-returns-clause-done t c =
-    let C = program_of c.args.c.now in
+    let C = c.args.c.now.program in
     let U = c.args.units.now in
     let P = c.args.peers.now in
     let R = c.args.slots.now.items in
@@ -334,7 +333,7 @@ walk_all-returns-clause-done t c =
 
 pub bind_all-returns : goal.bind_all-returns
 bind_all-returns t c =
-    let C = program_of c.args.c.now in
+    let C = c.args.c.now.program in
     let U = c.args.units.now in
     let P = c.args.peers.now in
     let R = c.args.slots.now.items in

@@ -1,5 +1,4 @@
 use Rattle.std.proofs.Common.{◌≡◌, ℕ, ◌+◌, ◌⊎◌, get_or, refl, sym, ◌∙◌, ap, subst, inl, inr, arith}
-use Rattle.safl_term.specs.Checked.{program_of}
 use Rattle.safl_term.specs.Program.{unit_for}
 use Rattle.safl_term.specs.Tree.{shown_term}
 use Rattle.safl_sites.specs.declared.site_set.SiteSet.{SiteSet}
@@ -22,7 +21,7 @@ loop-done-init c = record { looked = λ k least most. absurd (omega arith); rest
 pub loop-done-preserved : goal.loop-done-preserved
 loop-done-preserved c =
     let p = c.args.c.now in
-    let C = program_of p in
+    let C = p.program in
     let h = c.sites-sites.ensures.checked in
     let U = c.args.units.now in
     let S = c.args.slots.now in

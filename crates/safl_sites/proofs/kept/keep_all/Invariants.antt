@@ -1,8 +1,7 @@
 use Rattle.std.proofs.Common.{ℕ}
-use Rattle.safl_term.specs.Checked.{program_of}
 use Rattle.safl_sites.specs.Bodies.{IsKeptBelow}
 use Rattle.safl_sites.specs.Rows.{Has, Adds}
 use Rattle.safl_sites.proofs.kept.keep_all.Given as goal
 
 abbrev pub invariant-loop-g : goal.invariant-loop-g
-invariant-loop-g l = (k : ℕ) → Adds (Has l.fn.kept k) (Has l.kept k) (IsKeptBelow (program_of l.c) l.g k)
+invariant-loop-g l = (k : ℕ) → Adds (Has l.fn.kept k) (Has l.kept k) (IsKeptBelow l.c.program l.g k)

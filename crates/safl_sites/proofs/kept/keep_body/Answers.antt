@@ -1,5 +1,4 @@
 use Rattle.std.proofs.Common.{◌≡◌, ℕ, length, get_or, sym, ◌∙◌, subst}
-use Rattle.safl_term.specs.Checked.{program_of}
 use Rattle.safl_term.specs.Program.{arity}
 use Rattle.safl_term.specs.Terms.{Term}
 use Rattle.safl_term.specs.Tree.{shown_term}
@@ -11,7 +10,7 @@ use Rattle.safl_sites.proofs.kept.keep_body.Goals as goal
 
 pub walk-requires : goal.walk-requires
 walk-requires c =
-    let C = program_of c.args.c.now in
+    let C = c.args.c.now.program in
     let U = c.args.units.now in
     let P = c.args.peers.now in
     let g = c.args.g in
@@ -22,7 +21,7 @@ walk-requires c =
 pub returns : goal.returns
 returns c = λ k.
     let p = c.args.c.now in
-    let C = program_of p in
+    let C = p.program in
     let g = c.args.g in
     let S = c.in_ok-slots.slots.items in
     let count : length S ≡ arity C g = c.in_ok-slots.ensures.count ∙ c.params.ensures.count in

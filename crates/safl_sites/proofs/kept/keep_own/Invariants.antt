@@ -1,8 +1,7 @@
 use Rattle.std.proofs.Common.{ℕ, ◌+◌}
-use Rattle.safl_term.specs.Checked.{program_of}
 use Rattle.safl_sites.specs.Bodies.{IsOwnKept}
 use Rattle.safl_sites.specs.Rows.{Has, Adds}
 use Rattle.safl_sites.proofs.kept.keep_own.Given as goal
 
 abbrev pub invariant-loop-i : goal.invariant-loop-i
-invariant-loop-i l = (k : ℕ) → Adds (Has l.fn.kept k) (Has l.kept k) (IsOwnKept (program_of l.c) l.reach l.peers l.keeps l.first (l.first + l.i) k)
+invariant-loop-i l = (k : ℕ) → Adds (Has l.fn.kept k) (Has l.kept k) (IsOwnKept l.c.program l.reach l.peers l.keeps l.first (l.first + l.i) k)

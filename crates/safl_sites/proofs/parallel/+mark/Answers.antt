@@ -1,5 +1,4 @@
 use Rattle.std.proofs.Common.{rules, ◌≡◌, ℕ, ◌+◌, ◌*◌, ◌<◌, List, [], ◌∷◌, length, length-set, slice_set, sym, ap, subst, ◌∙◌, arith}
-use Rattle.safl_term.specs.Checked.{program_of}
 use Rattle.safl_term.specs.declared.term.Term as declared
 use Rattle.safl_term.specs.Sizes.{nodes, nodes_in}
 use Rattle.safl_term.specs.Terms.{Term}
@@ -16,7 +15,7 @@ use Rattle.safl_sites.proofs.parallel.+mark.Goals as goal
 
 pub mark-mark-requires : goal.mark-mark-requires
 mark-mark-requires t c =
-    let C = program_of c.args.c.now in
+    let C = c.args.c.now.program in
     let U = c.args.units.now in
     let n = c.requires.may.0 in
     let e = ap shown_term c.in-If.is in
@@ -28,7 +27,7 @@ mark-mark-requires t c =
 
 pub mark-mark-requires-in-If : goal.mark-mark-requires-in-If
 mark-mark-requires-in-If t c =
-    let C = program_of c.args.c.now in
+    let C = c.args.c.now.program in
     let U = c.args.units.now in
     let n = c.requires.may.0 in
     let e = ap shown_term c.in-If.is in
@@ -41,7 +40,7 @@ mark-mark-requires-in-If t c =
 
 pub mark-mark-requires-in-If-2 : goal.mark-mark-requires-in-If-2
 mark-mark-requires-in-If-2 t c =
-    let C = program_of c.args.c.now in
+    let C = c.args.c.now.program in
     let U = c.args.units.now in
     let n = c.requires.may.0 in
     let e = ap shown_term c.in-If.is in
@@ -54,7 +53,7 @@ mark-mark-requires-in-If-2 t c =
 
 pub mark-mark_in-requires : goal.mark-mark_in-requires
 mark-mark_in-requires t c =
-    let C = program_of c.args.c.now in
+    let C = c.args.c.now.program in
     let U = c.args.units.now in
     let n = c.requires.may.0 in
     let e = ap shown_term c.in-Let.is ∙ shown_term-Let c.in-Let.field-0 c.in-Let.bound c.in-Let.body in
@@ -67,7 +66,7 @@ mark-mark_in-requires t c =
 
 pub mark-mark-requires-in-Let : goal.mark-mark-requires-in-Let
 mark-mark-requires-in-Let t c =
-    let C = program_of c.args.c.now in
+    let C = c.args.c.now.program in
     let U = c.args.units.now in
     let n = c.requires.may.0 in
     let e = ap shown_term c.in-Let.is ∙ shown_term-Let c.in-Let.field-0 c.in-Let.bound c.in-Let.body in
@@ -80,7 +79,7 @@ mark-mark-requires-in-Let t c =
 
 pub mark-mark_in-requires-in-Op : goal.mark-mark_in-requires-in-Op
 mark-mark_in-requires-in-Op t c =
-    let C = program_of c.args.c.now in
+    let C = c.args.c.now.program in
     let U = c.args.units.now in
     let n = c.requires.may.0 in
     let e = ap shown_term c.in-Op.is ∙ shown_term-Op c.in-Op.field-0 c.in-Op.ts in
@@ -93,7 +92,7 @@ mark-mark_in-requires-in-Op t c =
 
 pub mark-mark_in-requires-in-Call : goal.mark-mark_in-requires-in-Call
 mark-mark_in-requires-in-Call t c =
-    let C = program_of c.args.c.now in
+    let C = c.args.c.now.program in
     let U = c.args.units.now in
     let n = c.requires.may.0 in
     let e = ap shown_term c.in-Call.is ∙ shown_term-Call c.in-Call.field-0 c.in-Call.k c.in-Call.ts in
@@ -106,7 +105,7 @@ mark-mark_in-requires-in-Call t c =
 
 pub mark-mark_in-requires-in-Loop : goal.mark-mark_in-requires-in-Loop
 mark-mark_in-requires-in-Loop t c =
-    let C = program_of c.args.c.now in
+    let C = c.args.c.now.program in
     let U = c.args.units.now in
     let n = c.requires.may.0 in
     let e = ap shown_term c.in-Loop.is ∙ shown_term-Loop c.in-Loop.field-0 c.in-Loop.ts in
@@ -119,7 +118,7 @@ mark-mark_in-requires-in-Loop t c =
 
 pub mark-returns-in-If : goal.mark-returns-in-If
 mark-returns-in-If t c = λ b k.
-    let C = program_of c.args.c.now in
+    let C = c.args.c.now.program in
     let B = Has c.args.before.now k in
     let e = ap shown_term c.in-If.is in
     subst (λ (x : Term). Adds (HasAt c.args.rows.now b k) (HasAt c.mark-in-If-2.new.rows b k) (Marked C B k b x)) (sym e)
@@ -128,7 +127,7 @@ mark-returns-in-If t c = λ b k.
 
 pub mark-returns-in-Let : goal.mark-returns-in-Let
 mark-returns-in-Let t c = λ b k.
-    let C = program_of c.args.c.now in
+    let C = c.args.c.now.program in
     let B = Has c.args.before.now k in
     let e = ap shown_term c.in-Let.is ∙ shown_term-Let c.in-Let.field-0 c.in-Let.bound c.in-Let.body in
     subst (λ (x : Term). Adds (HasAt c.args.rows.now b k) (HasAt c.mark-in-Let.new.rows b k) (Marked C B k b x)) (sym e)
@@ -136,7 +135,7 @@ mark-returns-in-Let t c = λ b k.
 
 pub mark-returns-in-Op : goal.mark-returns-in-Op
 mark-returns-in-Op t c = λ b k.
-    let C = program_of c.args.c.now in
+    let C = c.args.c.now.program in
     let B = Has c.args.before.now k in
     let e = ap shown_term c.in-Op.is ∙ shown_term-Op c.in-Op.field-0 c.in-Op.ts in
     subst (λ (x : Term). Adds (HasAt c.args.rows.now b k) (HasAt c.mark_in-in-Op.new.rows b k) (Marked C B k b x)) (sym e)
@@ -144,7 +143,7 @@ mark-returns-in-Op t c = λ b k.
 
 pub mark-returns-in-Loop : goal.mark-returns-in-Loop
 mark-returns-in-Loop t c = λ b k.
-    let C = program_of c.args.c.now in
+    let C = c.args.c.now.program in
     let B = Has c.args.before.now k in
     let e = ap shown_term c.in-Loop.is ∙ shown_term-Loop c.in-Loop.field-0 c.in-Loop.ts in
     subst (λ (x : Term). Adds (HasAt c.args.rows.now b k) (HasAt c.mark_in-in-Loop.new.rows b k) (Marked C B k b x)) (sym e)
@@ -152,7 +151,7 @@ mark-returns-in-Loop t c = λ b k.
 
 pub mark-bounds-rows-k : goal.mark-bounds-rows-k
 mark-bounds-rows-k t c =
-    let C = program_of c.args.c.now in
+    let C = c.args.c.now.program in
     let U = c.args.units.now in
     let n = c.requires.may.0 in
     let e = ap shown_term c.in-Call.is ∙ shown_term-Call c.in-Call.field-0 c.in-Call.k c.in-Call.ts in
@@ -161,7 +160,7 @@ mark-bounds-rows-k t c =
 
 pub mark-returns-in-Call : goal.mark-returns-in-Call
 mark-returns-in-Call t c = λ b k.
-    let C = program_of c.args.c.now in
+    let C = c.args.c.now.program in
     let U = c.args.units.now in
     let n = c.requires.may.0 in
     let e = ap shown_term c.in-Call.is ∙ shown_term-Call c.in-Call.field-0 c.in-Call.k c.in-Call.ts in
@@ -175,18 +174,18 @@ mark-returns-in-Call t c = λ b k.
 pub mark-returns-in-Const : goal.mark-returns-in-Const
 mark-returns-in-Const t c = λ b k.
     subst (λ (x : Term). Adds (HasAt c.args.rows.now b k) (HasAt c.args.rows.now b k)
-    (Marked (program_of c.args.c.now) (Has c.args.before.now k) k b x)) (sym (ap shown_term c.in-Const.is))
-    (adds_none (mark_const (program_of c.args.c.now) (Has c.args.before.now k) k b _))
+    (Marked c.args.c.now.program (Has c.args.before.now k) k b x)) (sym (ap shown_term c.in-Const.is))
+    (adds_none (mark_const c.args.c.now.program (Has c.args.before.now k) k b _))
 
 pub mark-returns-in-Var : goal.mark-returns-in-Var
 mark-returns-in-Var t c = λ b k.
     subst (λ (x : Term). Adds (HasAt c.args.rows.now b k) (HasAt c.args.rows.now b k)
-    (Marked (program_of c.args.c.now) (Has c.args.before.now k) k b x)) (sym (ap shown_term c.in-Var.is))
-    (adds_none (mark_var (program_of c.args.c.now) (Has c.args.before.now k) k b _))
+    (Marked c.args.c.now.program (Has c.args.before.now k) k b x)) (sym (ap shown_term c.in-Var.is))
+    (adds_none (mark_var c.args.c.now.program (Has c.args.before.now k) k b _))
 
 pub mark_in-mark-requires : goal.mark_in-mark-requires
 mark_in-mark-requires t c =
-    let C = program_of c.args.c.now in
+    let C = c.args.c.now.program in
     let U = c.args.units.now in
     let n = c.requires.may.0 in
     let e : c.args.ts.now ≡ c.in-Some.first.now ∷ c.in-Some.rest.now = c.in-Some.ensures.cases.0 in
@@ -198,7 +197,7 @@ mark_in-mark-requires t c =
 
 pub mark_in-reach-requires : goal.mark_in-reach-requires
 mark_in-reach-requires t c =
-    let C = program_of c.args.c.now in
+    let C = c.args.c.now.program in
     let U = c.args.units.now in
     let n = c.requires.may.0 in
     let e : c.args.ts.now ≡ c.in-Some.first.now ∷ c.in-Some.rest.now = c.in-Some.ensures.cases.0 in
@@ -207,7 +206,7 @@ mark_in-reach-requires t c =
 
 pub mark_in-mark_in-requires : goal.mark_in-mark_in-requires
 mark_in-mark_in-requires t c =
-    let C = program_of c.args.c.now in
+    let C = c.args.c.now.program in
     let U = c.args.units.now in
     let n = c.requires.may.0 in
     let e : c.args.ts.now ≡ c.in-Some.first.now ∷ c.in-Some.rest.now = c.in-Some.ensures.cases.0 in
@@ -220,7 +219,7 @@ mark_in-mark_in-requires t c =
 
 pub mark_in-returns-in-Some : goal.mark_in-returns-in-Some
 mark_in-returns-in-Some t c = λ b k.
-    let C = program_of c.args.c.now in
+    let C = c.args.c.now.program in
     let e : c.args.ts.now ≡ c.in-Some.first.now ∷ c.in-Some.rest.now = c.in-Some.ensures.cases.0 in
     subst (λ (x : List declared.Term). Adds (HasAt c.args.rows.now b k) (HasAt c.mark_in.new.rows b k) (MarkedIn C (Has c.args.before.now k) k b (shown_terms x))) (sym e)
     (mark_more C (Has c.args.before.now k) k b _ _ (c.reach.ensures k) (adds_then (c.mark.ensures b k) (c.mark_in.ensures b k)))
@@ -229,5 +228,5 @@ pub mark_in-returns-in_default : goal.mark_in-returns-in_default
 mark_in-returns-in_default t c = λ b k.
     let e : c.args.ts.now ≡ [] = empty_list c.args.ts.now c.in_default.ensures.cases in
     subst (λ (x : List declared.Term). Adds (HasAt c.args.rows.now b k) (HasAt c.args.rows.now b k)
-    (MarkedIn (program_of c.args.c.now) (Has c.args.before.now k) k b (shown_terms x))) (sym e)
-    (adds_none (mark_nil (program_of c.args.c.now) (Has c.args.before.now k) k b))
+    (MarkedIn c.args.c.now.program (Has c.args.before.now k) k b (shown_terms x))) (sym e)
+    (adds_none (mark_nil c.args.c.now.program (Has c.args.before.now k) k b))

@@ -1,5 +1,4 @@
 use Rattle.std.proofs.Common.{◌≡◌, ℕ, ◌+◌, ◌<◌, length, slice_set, arith, sym, ◌∙◌, ap, subst}
-use Rattle.safl_term.specs.Checked.{program_of}
 use Rattle.safl_term.specs.Program.{unit_for}
 use Rattle.safl_sites.specs.declared.site_set.SiteSet.{SiteSet}
 use Rattle.safl_sites.specs.Peers.{ArePeers}
@@ -10,7 +9,7 @@ use Rattle.safl_sites.proofs.peers.peers.Goals as goal
 
 pub loop-done-preserved : goal.loop-done-preserved
 loop-done-preserved c =
-    let C = program_of c.args.c.now in
+    let C = c.args.c.now.program in
     let k = c.loop-done.done + 1 in
     let peers = c.loop-done.peers.items in
     let to = c.unit_for.ensures.number in

@@ -1,6 +1,5 @@
-use Rattle.safl_term.specs.Checked.{program_of}
 use Rattle.safl_sites.specs.Collecting.{IsCollected}
 use Rattle.safl_sites.proofs.planning.collect.Given as goal
 
 abbrev pub invariant-loop-done : goal.invariant-loop-done
-invariant-loop-done l = IsCollected (program_of l.c) l.done l.arbiters.items l.kept
+invariant-loop-done l = IsCollected l.c.program l.done l.arbiters.items l.kept

@@ -1,8 +1,7 @@
 use Rattle.std.proofs.Common.{◌≡◌, ℕ, suc, ◌<◌, ◌++◌, false, List, length, take, drop, get_or, arith, refl, sym, ◌∙◌, ap, subst}
 use Rattle.std.proofs.Math.Seq.{take-append_seam}
-use Rattle.safl_term.specs.Checked.{program_of}
 use Rattle.safl_sites.specs.declared.site_set.SiteSet.{SiteSet}
-use Rattle.safl_sites.specs.Planned.{PlannedProgram, BeforeTable}
+use Rattle.safl_sites.specs.Planned.{Flags, BeforeTable}
 use Rattle.safl_sites.specs.Rows.{has}
 use Rattle.safl_sites.proofs.TablesDecide.{plan_is}
 use Rattle.safl_sites.proofs.planning.find.Goals as goal
@@ -16,20 +15,20 @@ listed-requires c = omega (arith, c.sites.ensures.most)
 pub returns : goal.returns
 returns c =
     let p = c.args.c.now in
-    let C = program_of p in
+    let C = p.program in
     let filled = c.in_ok-bodies.ensures in
     let rows = c.spread.new.rows in
     let old = c.in_ok-bodies.field-0.after in
     let long : old.len ≡ length rows = omega (arith, old.ok.0) in
     let same : take old.len (rows ++ drop (length rows) old.items) ≡ rows = ap (λ n. take n (rows ++ drop (length rows) old.items)) long ∙ take-append_seam rows (drop (length rows) old.items) in
-    let planned : PlannedProgram = record { program = p; arbiters = c.in_ok-arbiters.arbiters.items; keeps = c.in_ok-keeps.keeps.items } in
+    let flags : Flags = record { arbiters = c.in_ok-arbiters.arbiters.items; keeps = c.in_ok-keeps.keeps.items } in
     let all = c.keep_all.new.kept in
-    let listed : (k : ℕ) → k < suc C.sites → get_or planned.keeps k false ≡ has all k = λ k less. c.in_ok-keeps.ensures.items k (omega (arith, c.sites.ensures.count)) in
+    let listed : (k : ℕ) → k < suc C.sites → get_or flags.keeps k false ≡ has all k = λ k less. c.in_ok-keeps.ensures.items k (omega (arith, c.sites.ensures.count)) in
     record {
       checked = c.sites.ensures.checked;
       reach = record { count = filled.bodies_count; rows = λ f k within. filled.body_rows f k within };
       conflicts = subst (λ (l : List SiteSet). BeforeTable C l) (sym same) c.in_ok-spread.ensures;
       units = c.in_ok-arbiters.ensures.count;
       sites = omega (arith, c.in_ok-keeps.ensures.count, c.sites.ensures.count);
-      plan = plan_is p c.sites.ensures.checked planned c.collect.new.kept all refl c.in_ok-arbiters.ensures c.in_ok-keep_all.ensures listed;
+      plan = plan_is p c.sites.ensures.checked flags c.collect.new.kept all c.in_ok-arbiters.ensures c.in_ok-keep_all.ensures listed;
     }

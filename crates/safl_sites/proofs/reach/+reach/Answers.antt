@@ -1,5 +1,4 @@
 use Rattle.std.proofs.Common.{rules, ◌≡◌, ℕ, ◌+◌, ◌*◌, ◌<◌, List, [], ◌∷◌, sym, ap, subst, ◌∙◌, arith}
-use Rattle.safl_term.specs.Checked.{program_of}
 use Rattle.safl_term.specs.declared.term.Term as declared
 use Rattle.safl_term.specs.Sizes.{nodes, nodes_in}
 use Rattle.safl_term.specs.Terms.{Term}
@@ -17,7 +16,7 @@ use Rattle.safl_sites.proofs.reach.+reach.Goals as goal
 
 pub reach-reach-requires : goal.reach-reach-requires
 reach-reach-requires t c =
-    let C = program_of c.args.c.now in
+    let C = c.args.c.now.program in
     let U = c.args.units.now in
     let n = c.requires.0 in
     let e = ap shown_term c.in-If.is in
@@ -28,7 +27,7 @@ reach-reach-requires t c =
 
 pub reach-reach-requires-in-If : goal.reach-reach-requires-in-If
 reach-reach-requires-in-If t c =
-    let C = program_of c.args.c.now in
+    let C = c.args.c.now.program in
     let U = c.args.units.now in
     let n = c.requires.0 in
     let e = ap shown_term c.in-If.is in
@@ -40,7 +39,7 @@ reach-reach-requires-in-If t c =
 
 pub reach-reach-requires-in-If-2 : goal.reach-reach-requires-in-If-2
 reach-reach-requires-in-If-2 t c =
-    let C = program_of c.args.c.now in
+    let C = c.args.c.now.program in
     let U = c.args.units.now in
     let n = c.requires.0 in
     let e = ap shown_term c.in-If.is in
@@ -52,7 +51,7 @@ reach-reach-requires-in-If-2 t c =
 
 pub reach-reach_in-requires : goal.reach-reach_in-requires
 reach-reach_in-requires t c =
-    let C = program_of c.args.c.now in
+    let C = c.args.c.now.program in
     let U = c.args.units.now in
     let n = c.requires.0 in
     let e = ap shown_term c.in-Let.is ∙ shown_term-Let c.in-Let.field-0 c.in-Let.bound c.in-Let.body in
@@ -64,7 +63,7 @@ reach-reach_in-requires t c =
 
 pub reach-reach-requires-in-Let : goal.reach-reach-requires-in-Let
 reach-reach-requires-in-Let t c =
-    let C = program_of c.args.c.now in
+    let C = c.args.c.now.program in
     let U = c.args.units.now in
     let n = c.requires.0 in
     let e = ap shown_term c.in-Let.is ∙ shown_term-Let c.in-Let.field-0 c.in-Let.bound c.in-Let.body in
@@ -76,7 +75,7 @@ reach-reach-requires-in-Let t c =
 
 pub reach-reach_in-requires-in-Op : goal.reach-reach_in-requires-in-Op
 reach-reach_in-requires-in-Op t c =
-    let C = program_of c.args.c.now in
+    let C = c.args.c.now.program in
     let U = c.args.units.now in
     let n = c.requires.0 in
     let e = ap shown_term c.in-Op.is ∙ shown_term-Op c.in-Op.field-0 c.in-Op.ts in
@@ -88,7 +87,7 @@ reach-reach_in-requires-in-Op t c =
 
 pub reach-reach_in-requires-in-Call : goal.reach-reach_in-requires-in-Call
 reach-reach_in-requires-in-Call t c =
-    let C = program_of c.args.c.now in
+    let C = c.args.c.now.program in
     let U = c.args.units.now in
     let n = c.requires.0 in
     let e = ap shown_term c.in-Call.is ∙ shown_term-Call c.in-Call.f c.in-Call.k c.in-Call.ts in
@@ -100,7 +99,7 @@ reach-reach_in-requires-in-Call t c =
 
 pub reach-reach_in-requires-in-Loop : goal.reach-reach_in-requires-in-Loop
 reach-reach_in-requires-in-Loop t c =
-    let C = program_of c.args.c.now in
+    let C = c.args.c.now.program in
     let U = c.args.units.now in
     let n = c.requires.0 in
     let e = ap shown_term c.in-Loop.is ∙ shown_term-Loop c.in-Loop.field-0 c.in-Loop.ts in
@@ -112,7 +111,7 @@ reach-reach_in-requires-in-Loop t c =
 
 pub reach-returns-in-If : goal.reach-returns-in-If
 reach-returns-in-If t c = λ k.
-    let C = program_of c.args.c.now in
+    let C = c.args.c.now.program in
     let e = ap shown_term c.in-If.is in
     subst (λ (x : Term). Adds (Has c.args.row.now k) (Has c.reach-in-If-2.new.row k) (Reaches C k x)) (sym e)
     (reach_if (adds_then (adds_then (same_tree C k c.deref.ensures (c.reach.ensures k))
@@ -120,28 +119,28 @@ reach-returns-in-If t c = λ k.
 
 pub reach-returns-in-Let : goal.reach-returns-in-Let
 reach-returns-in-Let t c = λ k.
-    let C = program_of c.args.c.now in
+    let C = c.args.c.now.program in
     let e = ap shown_term c.in-Let.is ∙ shown_term-Let c.in-Let.field-0 c.in-Let.bound c.in-Let.body in
     subst (λ (x : Term). Adds (Has c.args.row.now k) (Has c.reach-in-Let.new.row k) (Reaches C k x)) (sym e)
     (reach_let (adds_then (same_forest C k c.deref-in-Let.ensures.value (c.reach_in.ensures k)) (same_tree C k c.deref-in-Let-2.ensures (c.reach-in-Let.ensures k))))
 
 pub reach-returns-in-Op : goal.reach-returns-in-Op
 reach-returns-in-Op t c = λ k.
-    let C = program_of c.args.c.now in
+    let C = c.args.c.now.program in
     let e = ap shown_term c.in-Op.is ∙ shown_term-Op c.in-Op.field-0 c.in-Op.ts in
     subst (λ (x : Term). Adds (Has c.args.row.now k) (Has c.reach_in-in-Op.new.row k) (Reaches C k x)) (sym e)
     (reach_op (same_forest C k c.deref-in-Op.ensures.value (c.reach_in-in-Op.ensures k)))
 
 pub reach-returns-in-Loop : goal.reach-returns-in-Loop
 reach-returns-in-Loop t c = λ k.
-    let C = program_of c.args.c.now in
+    let C = c.args.c.now.program in
     let e = ap shown_term c.in-Loop.is ∙ shown_term-Loop c.in-Loop.field-0 c.in-Loop.ts in
     subst (λ (x : Term). Adds (Has c.args.row.now k) (Has c.reach_in-in-Loop.new.row k) (Reaches C k x)) (sym e)
     (reach_loop (same_forest C k c.deref-in-Loop.ensures.value (c.reach_in-in-Loop.ensures k)))
 
 pub reach-insert-requires : goal.reach-insert-requires
 reach-insert-requires t c =
-    let C = program_of c.args.c.now in
+    let C = c.args.c.now.program in
     let U = c.args.units.now in
     let n = c.requires.0 in
     let e = ap shown_term c.in-Call.is ∙ shown_term-Call c.in-Call.f c.in-Call.k c.in-Call.ts in
@@ -150,7 +149,7 @@ reach-insert-requires t c =
 
 pub reach-bounds-units-unit : goal.reach-bounds-units-unit
 reach-bounds-units-unit t c =
-    let C = program_of c.args.c.now in
+    let C = c.args.c.now.program in
     let U = c.args.units.now in
     let n = c.requires.0 in
     let e = ap shown_term c.in-Call.is ∙ shown_term-Call c.in-Call.f c.in-Call.k c.in-Call.ts in
@@ -161,7 +160,7 @@ reach-bounds-units-unit t c =
 
 pub reach-returns-in-Call : goal.reach-returns-in-Call
 reach-returns-in-Call t c = λ k.
-    let C = program_of c.args.c.now in
+    let C = c.args.c.now.program in
     let U = c.args.units.now in
     let n = c.requires.0 in
     let e = ap shown_term c.in-Call.is ∙ shown_term-Call c.in-Call.f c.in-Call.k c.in-Call.ts in
@@ -172,15 +171,15 @@ reach-returns-in-Call t c = λ k.
 
 pub reach-returns-in-Const : goal.reach-returns-in-Const
 reach-returns-in-Const t c = λ k.
-    subst (λ (x : Term). Adds (Has c.args.row.now k) (Has c.args.row.now k) (Reaches (program_of c.args.c.now) k x)) (sym (ap shown_term c.in-Const.is)) (reach_leaf _ (none_const _))
+    subst (λ (x : Term). Adds (Has c.args.row.now k) (Has c.args.row.now k) (Reaches c.args.c.now.program k x)) (sym (ap shown_term c.in-Const.is)) (reach_leaf _ (none_const _))
 
 pub reach-returns-in-Var : goal.reach-returns-in-Var
 reach-returns-in-Var t c = λ k.
-    subst (λ (x : Term). Adds (Has c.args.row.now k) (Has c.args.row.now k) (Reaches (program_of c.args.c.now) k x)) (sym (ap shown_term c.in-Var.is)) (reach_leaf _ (none_var _))
+    subst (λ (x : Term). Adds (Has c.args.row.now k) (Has c.args.row.now k) (Reaches c.args.c.now.program k x)) (sym (ap shown_term c.in-Var.is)) (reach_leaf _ (none_var _))
 
 pub reach_in-reach-requires : goal.reach_in-reach-requires
 reach_in-reach-requires t c =
-    let C = program_of c.args.c.now in
+    let C = c.args.c.now.program in
     let U = c.args.units.now in
     let n = c.requires.0 in
     let e : c.args.ts.now ≡ c.in-Some.first.now ∷ c.in-Some.rest.now = c.in-Some.ensures.cases.0 in
@@ -191,7 +190,7 @@ reach_in-reach-requires t c =
 
 pub reach_in-reach_in-requires : goal.reach_in-reach_in-requires
 reach_in-reach_in-requires t c =
-    let C = program_of c.args.c.now in
+    let C = c.args.c.now.program in
     let U = c.args.units.now in
     let n = c.requires.0 in
     let e : c.args.ts.now ≡ c.in-Some.first.now ∷ c.in-Some.rest.now = c.in-Some.ensures.cases.0 in
@@ -204,10 +203,10 @@ reach_in-reach_in-requires t c =
 pub reach_in-returns-in-Some : goal.reach_in-returns-in-Some
 reach_in-returns-in-Some t c = λ k.
     let e : c.args.ts.now ≡ c.in-Some.first.now ∷ c.in-Some.rest.now = c.in-Some.ensures.cases.0 in
-    subst (λ (x : List declared.Term). Adds (Has c.args.row.now k) (Has c.reach_in.new.row k) (ReachesIn (program_of c.args.c.now) k (shown_terms x))) (sym e)
+    subst (λ (x : List declared.Term). Adds (Has c.args.row.now k) (Has c.reach_in.new.row k) (ReachesIn c.args.c.now.program k (shown_terms x))) (sym e)
     (reach_more _ _ (adds_then (c.reach.ensures k) (c.reach_in.ensures k)))
 
 pub reach_in-returns-in_default : goal.reach_in-returns-in_default
 reach_in-returns-in_default t c = λ k.
     let e : c.args.ts.now ≡ [] = empty_list c.args.ts.now c.in_default.ensures.cases in
-    subst (λ (x : List declared.Term). Adds (Has c.args.row.now k) (Has c.args.row.now k) (ReachesIn (program_of c.args.c.now) k (shown_terms x))) (sym e) (adds_none (none_nil _ k))
+    subst (λ (x : List declared.Term). Adds (Has c.args.row.now k) (Has c.args.row.now k) (ReachesIn c.args.c.now.program k (shown_terms x))) (sym e) (adds_none (none_nil _ k))

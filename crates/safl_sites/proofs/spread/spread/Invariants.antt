@@ -1,7 +1,6 @@
 use Rattle.std.proofs.Common.{◌-◌}
-use Rattle.safl_term.specs.Checked.{program_of}
 use Rattle.safl_sites.specs.Spreading.{IsSpread}
 use Rattle.safl_sites.proofs.spread.spread.Given as goal
 
 abbrev pub invariant-loop-done : goal.invariant-loop-done
-invariant-loop-done l = IsSpread (program_of l.c) (l.sites - l.done) l.rows l.handed.items
+invariant-loop-done l = IsSpread l.c.program (l.sites - l.done) l.rows l.handed.items

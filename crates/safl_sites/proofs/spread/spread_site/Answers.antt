@@ -1,5 +1,4 @@
 use Rattle.std.proofs.Common.{◌≡◌, ℕ, ◌-◌, slice_set, sym, ap, subst, ◌∙◌, arith}
-use Rattle.safl_term.specs.Checked.{program_of}
 use Rattle.safl_term.specs.Program.{unit_for}
 use Rattle.safl_sites.specs.Rows.{Has, HasAt, Adds}
 use Rattle.safl_sites.specs.Spreading.{IsSpread}
@@ -8,7 +7,7 @@ use Rattle.safl_sites.proofs.spread.spread_site.Goals as goal
 
 pub returns : goal.returns
 returns c =
-    let C = program_of c.args.c.now in
+    let C = c.args.c.now.program in
     let k = c.args.k in
     let h = c.requires.checked in
     let from : c.unit.result ≡ C.unit (C.caller k) = c.unit.ensures.number ∙ ap C.unit c.caller.ensures.number in

@@ -1,14 +1,13 @@
 use Rattle.std.proofs.Common.{◌-◌, ◌++◌, ◌∷◌, [], ℕ, List, take, ap, sym, ◌∙◌, arith}
 use Rattle.std.proofs.lemmas.List.{take_all}
 use Rattle.safl_word.specs.Words.{Word}
-use Rattle.safl_term.specs.Checked.{program_of}
 use Rattle.safl_interpreter.specs.Interpreting.{widths}
 use Rattle.safl_tests.proofs.Words.{widths_push, last_function, take_next}
 use Rattle.safl_tests.proofs.meanings.words_of.Goals as goal
 
 pub params-preserved : goal.params-preserved
 params-preserved c =
-    let params : List ℕ = (program_of c.args.c.now).params (c.functions-main.result - 1) in
+    let params : List ℕ = c.args.c.now.program.params (c.functions-main.result - 1) in
     ap widths c.in_ok-push.ensures.items
     ∙ widths_push c.params.words.items c.from_low_bits.result
     ∙ ap (λ (l : List ℕ). l ++ c.from_low_bits.result.width ∷ []) c.params.invariant
@@ -18,5 +17,5 @@ params-preserved c =
 pub returns : goal.returns
 returns c =
     c.params.invariant
-    ∙ take_all c.params.i ((program_of c.args.c.now).params (c.functions-main.result - 1)) (let a = c.params-test.false in let b = c.params-i-end.ensures.count in omega (arith, a, b))
-    ∙ ap (λ (k : ℕ). (program_of c.args.c.now).params k) (last_function c.args.c.now c.functions-main.result c.functions-main.ensures.count)
+    ∙ take_all c.params.i (c.args.c.now.program.params (c.functions-main.result - 1)) (let a = c.params-test.false in let b = c.params-i-end.ensures.count in omega (arith, a, b))
+    ∙ ap (λ (k : ℕ). c.args.c.now.program.params k) (last_function c.args.c.now c.functions-main.result c.functions-main.ensures.count)

@@ -1,7 +1,6 @@
 use Rattle.std.proofs.Common.{◌≡◌, take}
-use Rattle.safl_term.specs.Checked.{program_of}
 use Rattle.safl_interpreter.specs.Interpreting.{widths}
 use Rattle.safl_tests.proofs.meanings.words_of.Given as goal
 
 abbrev pub invariant-params : goal.invariant-params
-invariant-params l = widths l.words.items ≡ take l.i ((program_of l.c).params l.main)
+invariant-params l = widths l.words.items ≡ take l.i (l.c.program.params l.main)

@@ -1,5 +1,3 @@
-use Rattle.safl_circuit.specs.Names.{names_of}
-use Rattle.safl_term.specs.Checked.{program_of}
 use Rattle.safl_tool.proofs.Giving.{writes}
 use Rattle.safl_tool.proofs.build.optimised_text.Goals as goal
 
@@ -9,7 +7,7 @@ returns-in-Ok-text_of-clause-gives c =
     let n = c.in-Ok-optimised_circuit_of.net in
     let is = c.in-Ok-optimised_circuit_of.ensures in (
       n,
-      writes c.args.source.now (program_of checked) (names_of checked) n c.written_reads_law.ensures c.no_shorter_text_law.ensures
+      writes c.args.source.now checked.program checked.names n c.written_reads_law.ensures c.no_shorter_text_law.ensures
           c.in-Ok.ensures.accepted is.circuit c.signals-count.ensures.netlist is.whole is.in_order c.in-Ok-text_of.text.items c.in-Ok-text_of.ensures.written,
       is.lean,
     )

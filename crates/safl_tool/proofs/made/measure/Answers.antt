@@ -1,7 +1,5 @@
 use Rattle.std.proofs.Common.{map, string_bytes}
 use Rattle.safl_net.specs.Arguments.{argument_widths}
-use Rattle.safl_term.specs.Checked.{program_of}
-use Rattle.safl_circuit.specs.Names.{names_of}
 use Rattle.safl_tool.proofs.Giving.{outcome_given}
 use Rattle.safl_tool.proofs.Simulated.{measures, arguments_refused, source_refused}
 use Rattle.safl_tool.proofs.made.measure.Goals as goal
@@ -11,13 +9,13 @@ returns-in-Err-clause-refused c = source_refused c.args.name.now c.args.source.n
 
 pub returns-in-Err-run_circuit-clause-refused : goal.returns-in-Err-run_circuit-clause-refused
 returns-in-Err-run_circuit-clause-refused c =
-    let p = c.in-Ok.planned.program in
-    arguments_refused c.args.name.now c.args.source.now (program_of p) (names_of p) (map string_bytes c.args.args.now) (argument_widths c.in-Ok-planned_circuit.net.signals)
+    let p = c.in-Ok.planned.checked in
+    arguments_refused c.args.name.now c.args.source.now p.program p.names (map string_bytes c.args.args.now) (argument_widths c.in-Ok-planned_circuit.net.signals)
     c.in-Ok-planned_circuit.ensures.params c.in-Ok.ensures.planned c.in-Err-run_circuit.refusal c.in-Err-run_circuit.ensures.refused
 
 pub returns-in-Ok-push_outcome-clause-gives : goal.returns-in-Ok-push_outcome-clause-gives
 returns-in-Ok-push_outcome-clause-gives c =
-    let p = c.in-Ok.planned.program in
+    let p = c.in-Ok.planned.checked in
     let n = c.in-Ok-planned_circuit.net in
     let head = c.in-Ok-head_of.text.items in
     let done = c.in-Ok-run_circuit.done in (

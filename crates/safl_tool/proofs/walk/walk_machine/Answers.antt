@@ -1,7 +1,5 @@
 use Rattle.std.proofs.Common.{ℕ, List, map, string_bytes, ap, subst, ◌∙◌}
 use Rattle.safl_word.specs.Words.{Word}
-use Rattle.safl_term.specs.Checked.{program_of}
-use Rattle.safl_circuit.specs.Names.{names_of}
 use Rattle.safl_session.specs.Lines.{AreArguments}
 use Rattle.safl_tool.specs.Walking.{WalksFrom}
 use Rattle.safl_tool.proofs.Simulated.{read_widths, arguments_refused, source_refused}
@@ -12,7 +10,7 @@ returns-in-Err-clause-refused c = source_refused c.args.name.now c.args.source.n
 
 pub returns-in-Err-read_arguments-clause-refused : goal.returns-in-Err-read_arguments-clause-refused
 returns-in-Err-read_arguments-clause-refused c =
-    arguments_refused c.args.name.now c.args.source.now (program_of c.in-Ok.checked) (names_of c.in-Ok.checked) (map string_bytes c.args.args.now) c.deref.result.now
+    arguments_refused c.args.name.now c.args.source.now c.in-Ok.checked.program c.in-Ok.checked.names (map string_bytes c.args.args.now) c.deref.result.now
     (c.deref.ensures.value ∙ c.in-Ok-main_widths.ensures) c.in-Ok.ensures.accepted c.in-Err-read_arguments.refusal c.in-Err-read_arguments.ensures.refused
 
 pub walk_with-requires : goal.walk_with-requires
@@ -24,11 +22,11 @@ walk_with-requires c =
 pub returns-in-Ok-walk_with-clause-walks : goal.returns-in-Ok-walk_with-clause-walks
 returns-in-Ok-walk_with-clause-walks c =
     record {
-      program = program_of c.in-Ok.checked;
-      names = names_of c.in-Ok.checked;
+      program = c.in-Ok.checked.program;
+      names = c.in-Ok.checked.names;
       words = c.in-Ok-read_arguments.words.items;
       source_of = c.in-Ok.ensures.accepted;
       read = subst (λ (l : List ℕ). AreArguments l (map string_bytes c.args.args.now) c.in-Ok-read_arguments.words.items)
           (c.deref.ensures.value ∙ c.in-Ok-main_widths.ensures) c.in-Ok-read_arguments.ensures.read;
-      walk = subst (λ (l : List Word). WalksFrom (program_of c.in-Ok.checked) l c.args.turns.seed c.args.turns.steps c.in-Ok-walk_with.walked) c.deref-2.ensures.value c.in-Ok-walk_with.ensures;
+      walk = subst (λ (l : List Word). WalksFrom c.in-Ok.checked.program l c.args.turns.seed c.args.turns.steps c.in-Ok-walk_with.walked) c.deref-2.ensures.value c.in-Ok-walk_with.ensures;
     }

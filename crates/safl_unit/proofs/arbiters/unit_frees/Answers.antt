@@ -1,12 +1,10 @@
 use Rattle.std.proofs.Common.{◌+◌, ◌*◌, List, not, length, refl, sym, ap, subst, ◌∙◌, arith}
 use Rattle.std.proofs.lemmas.Option.{slice_get_read}
-use Rattle.safl_term.specs.Checked.{program_of}
 use Rattle.safl_net.specs.declared.cell.Sig.{Sig}
 use Rattle.safl_net.specs.Bits.{on}
 use Rattle.safl_lower.specs.Rows.{AreBits, frees, row_at}
 use Rattle.safl_lower.proofs.Building.{builds_on, builds_within}
 use Rattle.safl_lower.proofs.JoinedRows.{row_kept}
-use Rattle.safl_unit.specs.Cycles.{choice_of}
 use Rattle.safl_unit.specs.Arbiters.{tally}
 use Rattle.safl_unit.proofs.Keeping.{pins_kept}
 use Rattle.safl_unit.proofs.Arbiting.{row_there, tally_next, tally_room, rows_more}
@@ -41,7 +39,7 @@ unit_row-requires-clause-room c =
     let n = c.requires.count in
     let e = row_there rows f c.index.result.now c.deref.result.now (omega (arith, l, k, n)) c.index.ensures c.deref.ensures.value in
     let d = ap (λ (xs : List Sig). length xs) e in
-    let t = tally_room (λ u. length (row_at rows u)) f (program_of c.args.p.now.program).functions (omega (arith, l, k)) in
+    let t = tally_room (λ u. length (row_at rows u)) f c.args.p.now.program.functions (omega (arith, l, k)) in
     let b = c.loop-f.invariant.built.count in
     let r = c.requires.room.room in
     record { tidy = c.loop-f.invariant.built.tidy; room = omega (arith, d, t, b, r) }
@@ -61,7 +59,7 @@ loop-f-preserved c =
     let at = slice_get_read us (length us) f c.index-unit.result.now refl (omega (arith, l, k, m)) c.index-unit.ensures in
     record {
       built = builds_within (3 * tally (λ u. length (row_at rows u)) (f + 1)) (builds_on c.loop-f.invariant.built c.in_ok-row.ensures.built) (omega (arith, d, t));
-      so_far = rows_more (program_of c.args.p.now.program) (choice_of c.args.p.now) c.loop-f.net c.unit_row.new.net (3 * length c.deref.result.now) us
+      so_far = rows_more c.args.p.now.program c.args.p.now.choice c.loop-f.net c.unit_row.new.net (3 * length c.deref.result.now) us
           rows c.loop-f.out.items c.push.new.self.items f c.in_ok-row.row c.index-unit.result.now
           c.in_ok-row.ensures.built c.loop-f.invariant.so_far c.in_ok-push.ensures.items c.in_ok-row.ensures.fits at
           (λ a. c.in_ok-row.ensures.long (c.arbiter-arbiter.ensures.entry ∙ a) ∙ d)

@@ -1,5 +1,4 @@
 use Rattle.std.proofs.Common.{◌≡◌, ℕ, suc, ◌==◌, List, [], ◌∷◌, ◌++◌, length, length-append, cond, sym, ap, ◌∙◌, add-one, arith}
-use Rattle.safl_term.specs.Checked.{program_of}
 use Rattle.safl_term.specs.Program.{unit_for}
 use Rattle.safl_net.specs.declared.cell.Sig.{Sig}
 use Rattle.safl_lower.specs.Tables.{bit_or}
@@ -11,14 +10,14 @@ use Rattle.safl_unit.proofs.arbiters.unit_wants.Goals as goal
 pub loop-done-init : goal.loop-done-init
 loop-done-init c = record {
   count = c.in_ok-rows.ensures.count ∙ c.function_count-functions.ensures.count;
-  rows = λ u. c.in_ok-rows.ensures.bare u ∙ sym (row_zero (program_of c.args.p.now.program) c.args.outcomes.now.wants.items u);
+  rows = λ u. c.in_ok-rows.ensures.bare u ∙ sym (row_zero c.args.p.now.program c.args.outcomes.now.wants.items u);
   ranks_count = ap (λ (xs : List ℕ). length xs) c.in_ok-ranks.ensures.items;
   ranks = λ m q e. absurd (no_rank c.in_ok-ranks.ranks.items 0 m q c.in_ok-ranks.ensures.items e);
 }
 
 pub loop-done-preserved : goal.loop-done-preserved
 loop-done-preserved c =
-    let C = program_of c.args.p.now.program in
+    let C = c.args.p.now.program in
     let ls = c.args.outcomes.now.wants.items in
     let m = c.loop-done.done in
     let j = c.loop-done.invariant in

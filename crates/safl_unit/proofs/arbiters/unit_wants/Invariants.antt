@@ -1,5 +1,4 @@
 use Rattle.std.proofs.Common.{◌≡◌, ℕ, suc, length, Some, slice_get}
-use Rattle.safl_term.specs.Checked.{program_of}
 use Rattle.safl_term.specs.Program.{unit_for}
 use Rattle.safl_lower.specs.Rows.{row_at}
 use Rattle.safl_unit.specs.Arbiters.{site_row}
@@ -7,8 +6,8 @@ use Rattle.safl_unit.proofs.arbiters.unit_wants.Given as goal
 
 abbrev pub invariant-loop-done : goal.invariant-loop-done
 invariant-loop-done l = record {
-  count : length l.rows.items ≡ (program_of l.p.program).functions;
-  rows : (u : ℕ) → row_at l.rows.items u ≡ site_row (program_of l.p.program) l.outcomes.wants.items u l.done;
+  count : length l.rows.items ≡ l.p.program.functions;
+  rows : (u : ℕ) → row_at l.rows.items u ≡ site_row l.p.program l.outcomes.wants.items u l.done;
   ranks_count : length l.ranks.items ≡ suc l.done;
-  ranks : (m : ℕ) (q : ℕ) → slice_get l.ranks.items (suc m) ≡ Some q → q ≡ length (site_row (program_of l.p.program) l.outcomes.wants.items (unit_for (program_of l.p.program) (suc m)) m);
+  ranks : (m : ℕ) (q : ℕ) → slice_get l.ranks.items (suc m) ≡ Some q → q ≡ length (site_row l.p.program l.outcomes.wants.items (unit_for l.p.program (suc m)) m);
 }

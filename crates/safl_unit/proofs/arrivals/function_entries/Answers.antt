@@ -1,5 +1,4 @@
 use Rattle.std.proofs.Common.{◌≡◌, ℕ, ◌==◌, ◌&&◌, ◌||◌, is_some, refl, subst, arith}
-use Rattle.safl_term.specs.Checked.{program_of}
 use Rattle.safl_net.specs.Growth.{Val}
 use Rattle.safl_lower.specs.Tables.{taken_from, on_in}
 use Rattle.safl_lower.proofs.Building.{builds_same, builds_on, builds_within}
@@ -10,7 +9,7 @@ use Rattle.safl_unit.proofs.arrivals.function_entries.Goals as goal
 
 pub loop-h-init : goal.loop-h-init
 loop-h-init c =
-    let C = program_of c.args.p.now.program in
+    let C = c.args.p.now.program in
     let n = c.args.net.now in
     let xs = c.args.loads.now in
     record {
@@ -32,7 +31,7 @@ add_some-requires-clause-fits c = c.loop-h.invariant.table.fits
 
 pub add_some-requires-clause-bit : goal.add_some-requires-clause-bit
 add_some-requires-clause-bit c =
-    let C = program_of c.args.p.now.program in
+    let C = c.args.p.now.program in
     let l = c.loop-h-test.true in
     let k = c.function_count-functions.ensures.count in
     let g = loop_there C c.args.net.now c.args.outcomes.now c.loop-h.h c.index.result.now c.requires.outcomes (omega (arith, l, k)) c.index.ensures in
@@ -49,7 +48,7 @@ add_some-requires-clause-room c =
 
 pub loop-h-preserved : goal.loop-h-preserved
 loop-h-preserved c =
-    let C = program_of c.args.p.now.program in
+    let C = c.args.p.now.program in
     let h = c.loop-h.h in
     let l = c.loop-h-test.true in
     let k = c.function_count-functions.ensures.count in
@@ -71,11 +70,11 @@ pub returns-clause-built : goal.returns-clause-built
 returns-clause-built c =
     let b = c.loop-h.auto.h-end in
     let k = c.function_count-functions.ensures.count in
-    builds_within (program_of c.args.p.now.program).functions c.loop-h.invariant.built (omega (arith, b, k))
+    builds_within c.args.p.now.program.functions c.loop-h.invariant.built (omega (arith, b, k))
 
 pub returns-clause-done : goal.returns-clause-done
 returns-clause-done c =
-    let C = program_of c.args.p.now.program in
+    let C = c.args.p.now.program in
     let l = c.loop-h-test.false in
     let b = c.loop-h.auto.h-end in
     let k = c.function_count-functions.ensures.count in

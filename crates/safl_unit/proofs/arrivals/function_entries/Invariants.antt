@@ -1,5 +1,4 @@
 use Rattle.std.proofs.Common.{◌==◌, ◌&&◌, ◌||◌, is_some}
-use Rattle.safl_term.specs.Checked.{program_of}
 use Rattle.safl_lower.specs.Sources.{Builds}
 use Rattle.safl_lower.specs.Tables.{taken_from}
 use Rattle.safl_unit.specs.Edges.{one_below, ShowsBits}
@@ -8,5 +7,5 @@ use Rattle.safl_unit.proofs.arrivals.function_entries.Given as goal
 abbrev pub invariant-loop-h : goal.invariant-loop-h
 invariant-loop-h l = record {
   built : Builds l.initial.net l.net l.h;
-  table : ShowsBits l.net l.all.items (program_of l.p.program).functions (λ v i. is_some (taken_from v l.loads i) || one_below (λ h. (i == h) && is_some (taken_from v l.outcomes.loops.items h)) l.h);
+  table : ShowsBits l.net l.all.items l.p.program.functions (λ v i. is_some (taken_from v l.loads i) || one_below (λ h. (i == h) && is_some (taken_from v l.outcomes.loops.items h)) l.h);
 }

@@ -1,5 +1,4 @@
 use Rattle.std.proofs.Common.{◌≡◌, ℕ, suc, ◌+◌, ◌*◌, ◌==◌, ◌&&◌, List, length, Vec, Global, slice_get, refl, sym, ap, subst, ◌∙◌, arith}
-use Rattle.safl_term.specs.Checked.{program_of}
 use Rattle.safl_calls.specs.Picks.{first}
 use Rattle.safl_net.specs.declared.cell.Sig.{Sig}
 use Rattle.safl_net.specs.Growth.{Val}
@@ -15,7 +14,7 @@ use Rattle.safl_unit.proofs.arrivals.function_loads.Goals as goal
 
 pub loop-k-init : goal.loop-k-init
 loop-k-init c =
-    let C = program_of c.args.p.now.program in
+    let C = c.args.p.now.program in
     let rows = c.in_ok-rows.rows.items in
     let none = total_bare load_joins rows refl c.in_ok-rows.ensures.bare in
     record {
@@ -33,7 +32,7 @@ push_load-requires c =
 
 pub loop-k-preserved : goal.loop-k-preserved
 loop-k-preserved c =
-    let C = program_of c.args.p.now.program in
+    let C = c.args.p.now.program in
     let n = c.args.net.now in
     let k = c.loop-k.k in
     let l = c.loop-k-test.true in
@@ -61,7 +60,7 @@ loop-k-preserved c =
 
 pub join_loads-requires-clause-fits : goal.join_loads-requires-clause-fits
 join_loads-requires-clause-fits c =
-    let ws = (program_of c.args.p.now.program).params in
+    let ws = c.args.p.now.program.params in
     (ws, subst (λ (rows : List (Vec Load Global)). RowsFit c.args.net.now rows ws) (sym c.deref-2.ensures.value) c.loop-k.invariant.table.fits)
 
 pub join_loads-requires-clause-room : goal.join_loads-requires-clause-room
@@ -79,11 +78,11 @@ returns-clause-built c =
     let g = c.loop-k.invariant.gates in
     let b = c.loop-k.auto.k-end in
     let s = c.site_count-sites.ensures.count in
-    builds_within (17 * (program_of c.args.p.now.program).sites + 17) c.in_ok-all.ensures.built (omega (arith, d, g, b, s))
+    builds_within (17 * c.args.p.now.program.sites + 17) c.in_ok-all.ensures.built (omega (arith, d, g, b, s))
 
 pub returns-clause-done : goal.returns-clause-done
 returns-clause-done c =
-    let C = program_of c.args.p.now.program in
+    let C = c.args.p.now.program in
     let n = c.args.net.now in
     let l = c.loop-k-test.false in
     let b = c.loop-k.auto.k-end in

@@ -1,5 +1,4 @@
 use Rattle.std.proofs.Common.{◌≤◌, ◌*◌, ◌==◌, ◌&&◌, slice_get}
-use Rattle.safl_term.specs.Checked.{program_of}
 use Rattle.safl_calls.specs.Picks.{first}
 use Rattle.safl_net.specs.Bits.{on, gate}
 use Rattle.safl_lower.specs.Tables.{pin}
@@ -11,6 +10,6 @@ use Rattle.safl_unit.proofs.arrivals.function_loads.Given as goal
 abbrev pub invariant-loop-k : goal.invariant-loop-k
 invariant-loop-k l = record {
   gates : total load_joins l.rows.items ≤ 17 * l.k;
-  table : LoadRows l.net l.rows.items (program_of l.p.program).functions (program_of l.p.program).params
-      (λ v f. first (λ k. gate ((f == (program_of l.p.program).callee k) && on v (pin l.goes k)) (operands_in v (slice_get l.outcomes.wants.items k))) l.k);
+  table : LoadRows l.net l.rows.items l.p.program.functions l.p.program.params
+      (λ v f. first (λ k. gate ((f == l.p.program.callee k) && on v (pin l.goes k)) (operands_in v (slice_get l.outcomes.wants.items k))) l.k);
 }

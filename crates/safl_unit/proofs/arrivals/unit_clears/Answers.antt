@@ -1,5 +1,4 @@
 use Rattle.std.proofs.Common.{◌≡◌, ℕ, ◌==◌, ◌&&◌, ◌||◌, List, Vec, Global, is_some, slice_get, sym, ap, subst, ◌∙◌, arith}
-use Rattle.safl_term.specs.Checked.{program_of}
 use Rattle.safl_net.specs.declared.cell.Sig.{Sig}
 use Rattle.safl_net.specs.Growth.{Val}
 use Rattle.safl_lower.specs.Tables.{load_in, taken_from}
@@ -11,7 +10,7 @@ use Rattle.safl_unit.proofs.arrivals.unit_clears.Goals as goal
 
 pub loop-h-init : goal.loop-h-init
 loop-h-init c =
-    let C = program_of c.args.p.now.program in
+    let C = c.args.p.now.program in
     let xs = c.args.ends.now in
     let rows = c.in_ok-rows.rows.items in
     let none = load_rows_total rows (λ (i : ℕ). bit_of (load_in (slice_get xs i))) c.in_ok-rows.ensures.rows in
@@ -33,7 +32,7 @@ push_some-requires c =
 
 pub loop-h-preserved : goal.loop-h-preserved
 loop-h-preserved c =
-    let C = program_of c.args.p.now.program in
+    let C = c.args.p.now.program in
     let n = c.args.net.now in
     let h = c.loop-h.h in
     let l = c.loop-h-test.true in
@@ -68,11 +67,11 @@ returns-clause-built c =
     let g = c.loop-h.invariant.gates in
     let b = c.loop-h.auto.h-end in
     let k = c.function_count-functions.ensures.count in
-    builds_within (program_of c.args.p.now.program).functions c.in_ok-all.ensures.built (omega (arith, d, g, b, k))
+    builds_within c.args.p.now.program.functions c.in_ok-all.ensures.built (omega (arith, d, g, b, k))
 
 pub returns-clause-done : goal.returns-clause-done
 returns-clause-done c =
-    let C = program_of c.args.p.now.program in
+    let C = c.args.p.now.program in
     let n = c.args.net.now in
     let l = c.loop-h-test.false in
     let b = c.loop-h.auto.h-end in

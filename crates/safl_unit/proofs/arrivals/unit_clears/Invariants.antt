@@ -1,5 +1,4 @@
 use Rattle.std.proofs.Common.{◌≤◌, ◌==◌, ◌&&◌, ◌||◌, is_some}
-use Rattle.safl_term.specs.Checked.{program_of}
 use Rattle.safl_lower.specs.Tables.{taken_from}
 use Rattle.safl_lower.specs.Rows.{bit_joins, total}
 use Rattle.safl_unit.specs.Edges.{one_below}
@@ -9,6 +8,6 @@ use Rattle.safl_unit.proofs.arrivals.unit_clears.Given as goal
 abbrev pub invariant-loop-h : goal.invariant-loop-h
 invariant-loop-h l = record {
   gates : total bit_joins l.rows.items ≤ l.h;
-  table : BitRows l.net l.rows.items (program_of l.p.program).functions
-      (λ v u. is_some (taken_from v l.ends u) || one_below (λ h. (u == (program_of l.p.program).unit h) && is_some (taken_from v l.outcomes.loops.items h)) l.h);
+  table : BitRows l.net l.rows.items l.p.program.functions
+      (λ v u. is_some (taken_from v l.ends u) || one_below (λ h. (u == l.p.program.unit h) && is_some (taken_from v l.outcomes.loops.items h)) l.h);
 }

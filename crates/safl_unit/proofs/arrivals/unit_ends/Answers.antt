@@ -1,5 +1,4 @@
 use Rattle.std.proofs.Common.{◌≡◌, ℕ, ◌*◌, ◌==◌, List, [], ◌∷◌, length, Vec, Global, refl, sym, ap, subst, ◌∙◌, arith}
-use Rattle.safl_term.specs.Checked.{program_of}
 use Rattle.safl_calls.specs.Picks.{first}
 use Rattle.safl_net.specs.declared.cell.Sig.{Sig}
 use Rattle.safl_net.specs.Growth.{Val}
@@ -15,7 +14,7 @@ use Rattle.safl_unit.proofs.arrivals.unit_ends.Goals as goal
 
 pub loop-f-init : goal.loop-f-init
 loop-f-init c =
-    let C = program_of c.args.p.now.program in
+    let C = c.args.p.now.program in
     let rows = c.in_ok-rows.rows.items in
     let none = total_bare load_joins rows refl c.in_ok-rows.ensures.bare in
     record {
@@ -34,7 +33,7 @@ push_load-requires c =
 
 pub loop-f-preserved : goal.loop-f-preserved
 loop-f-preserved c =
-    let C = program_of c.args.p.now.program in
+    let C = c.args.p.now.program in
     let n = c.args.net.now in
     let f = c.loop-f.f in
     let l = c.loop-f-test.true in
@@ -59,7 +58,7 @@ loop-f-preserved c =
 
 pub join_loads-requires-clause-fits : goal.join_loads-requires-clause-fits
 join_loads-requires-clause-fits c =
-    let C = program_of c.args.p.now.program in
+    let C = c.args.p.now.program in
     let ws = λ (u : ℕ). C.result u ∷ [] in
     (ws, subst (λ (rows : List (Vec Load Global)). RowsFit c.args.net.now rows ws) (sym c.deref-2.ensures.value) c.loop-f.invariant.table.fits)
 
@@ -78,11 +77,11 @@ returns-clause-built c =
     let g = c.loop-f.invariant.gates in
     let b = c.loop-f.auto.f-end in
     let k = c.function_count-functions.ensures.count in
-    builds_within (2 * (program_of c.args.p.now.program).functions) c.in_ok-all.ensures.built (omega (arith, d, g, b, k))
+    builds_within (2 * c.args.p.now.program.functions) c.in_ok-all.ensures.built (omega (arith, d, g, b, k))
 
 pub returns-clause-done : goal.returns-clause-done
 returns-clause-done c =
-    let C = program_of c.args.p.now.program in
+    let C = c.args.p.now.program in
     let n = c.args.net.now in
     let l = c.loop-f-test.false in
     let b = c.loop-f.auto.f-end in

@@ -1,5 +1,4 @@
 use Rattle.std.proofs.Common.{◌≤◌, ◌*◌, ◌==◌, [], ◌∷◌}
-use Rattle.safl_term.specs.Checked.{program_of}
 use Rattle.safl_calls.specs.Picks.{first}
 use Rattle.safl_net.specs.Bits.{gate}
 use Rattle.safl_lower.specs.Tables.{taken_at}
@@ -10,6 +9,6 @@ use Rattle.safl_unit.proofs.arrivals.unit_ends.Given as goal
 abbrev pub invariant-loop-f : goal.invariant-loop-f
 invariant-loop-f l = record {
   gates : total load_joins l.rows.items ≤ 2 * l.f;
-  table : LoadRows l.net l.rows.items (program_of l.p.program).functions (λ u. (program_of l.p.program).result u ∷ [])
-      (λ v u. first (λ f. gate (u == (program_of l.p.program).unit f) (taken_at v l.outcomes.ends.items f)) l.f);
+  table : LoadRows l.net l.rows.items l.p.program.functions (λ u. l.p.program.result u ∷ [])
+      (λ v u. first (λ f. gate (u == l.p.program.unit f) (taken_at v l.outcomes.ends.items f)) l.f);
 }

@@ -1,5 +1,4 @@
 use Rattle.std.proofs.Common.{◌≡◌, ℕ, suc, ◌+◌, ◌==◌, ◌&&◌, List, Vec, Global, refl, sym, ap, subst, ◌∙◌, arith}
-use Rattle.safl_term.specs.Checked.{program_of}
 use Rattle.safl_term.specs.Program.{unit_for}
 use Rattle.safl_net.specs.declared.cell.Sig.{Sig}
 use Rattle.safl_net.specs.Growth.{Val}
@@ -14,7 +13,7 @@ use Rattle.safl_unit.proofs.arrivals.unit_starts.Goals as goal
 
 pub loop-k-init : goal.loop-k-init
 loop-k-init c =
-    let C = program_of c.args.p.now.program in
+    let C = c.args.p.now.program in
     let rows = c.in_ok-rows.rows.items in
     let none = total_bare bit_joins rows refl c.in_ok-rows.ensures.bare in
     record {
@@ -32,7 +31,7 @@ push_at-requires c =
 
 pub loop-k-preserved : goal.loop-k-preserved
 loop-k-preserved c =
-    let C = program_of c.args.p.now.program in
+    let C = c.args.p.now.program in
     let n = c.args.net.now in
     let k = c.loop-k.k in
     let l = c.loop-k-test.true in
@@ -65,11 +64,11 @@ returns-clause-built c =
     let g = c.loop-k.invariant.gates in
     let b = c.loop-k.auto.k-end in
     let s = c.site_count-sites.ensures.count in
-    builds_within ((program_of c.args.p.now.program).sites + 1) c.in_ok-all.ensures.built (omega (arith, d, g, b, s))
+    builds_within (c.args.p.now.program.sites + 1) c.in_ok-all.ensures.built (omega (arith, d, g, b, s))
 
 pub returns-clause-done : goal.returns-clause-done
 returns-clause-done c =
-    let C = program_of c.args.p.now.program in
+    let C = c.args.p.now.program in
     let n = c.args.net.now in
     let l = c.loop-k-test.false in
     let b = c.loop-k.auto.k-end in

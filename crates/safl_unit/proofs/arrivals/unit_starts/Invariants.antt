@@ -1,5 +1,4 @@
 use Rattle.std.proofs.Common.{◌≤◌, ◌==◌, ◌&&◌}
-use Rattle.safl_term.specs.Checked.{program_of}
 use Rattle.safl_term.specs.Program.{unit_for}
 use Rattle.safl_net.specs.Bits.{on}
 use Rattle.safl_lower.specs.Tables.{pin}
@@ -11,5 +10,5 @@ use Rattle.safl_unit.proofs.arrivals.unit_starts.Given as goal
 abbrev pub invariant-loop-k : goal.invariant-loop-k
 invariant-loop-k l = record {
   gates : total bit_joins l.rows.items ≤ l.k;
-  table : BitRows l.net l.rows.items (program_of l.p.program).functions (λ v u. one_below (λ k. (u == unit_for (program_of l.p.program) k) && on v (pin l.goes k)) l.k);
+  table : BitRows l.net l.rows.items l.p.program.functions (λ v u. one_below (λ k. (u == unit_for l.p.program k) && on v (pin l.goes k)) l.k);
 }

@@ -1,11 +1,12 @@
 use Rattle.std.proofs.Common.{◌≡◌, length, IfOk, Result, Ok, Err, Bool, true, false, not, ◌&&◌, ◌||◌, refl, sym, ap, ◌∙◌, arith}
+use Rattle.safl_sites.specs.Plan.{Choice}
 use Rattle.std.proofs.lemmas.Option.{slice_get_read}
 use Rattle.safl_term.specs.Program.{Program}
 use Rattle.safl_net.specs.declared.cell.Sig.{Sig}
 use Rattle.safl_net.specs.Netlist.{Netlist}
 use Rattle.safl_net.specs.Growth.{Val, Wired}
 use Rattle.safl_net.specs.Bits.{on}
-use Rattle.safl_circuit.specs.Equations.{Choice, many, path}
+use Rattle.safl_circuit.specs.Equations.{many, path}
 use Rattle.safl_lower.specs.Sources.{Builds}
 use Rattle.safl_unit.specs.declared.parts.Pins.{Pins}
 use Rattle.safl_unit.specs.Cycles.{InEachCycle}

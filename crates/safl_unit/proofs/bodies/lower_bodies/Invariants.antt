@@ -1,13 +1,11 @@
 use Rattle.std.proofs.Common.{◌+◌, ◌*◌}
-use Rattle.safl_term.specs.Checked.{program_of}
+use Rattle.safl_term.specs.Sizes.{body_nodes}
 use Rattle.safl_lower.specs.Sources.{Builds}
-use Rattle.safl_unit.specs.Cycles.{choice_of}
-use Rattle.safl_unit.specs.Stages.{body_nodes}
 use Rattle.safl_unit.proofs.Outcoming.{OutcomesUpTo}
 use Rattle.safl_unit.proofs.bodies.lower_bodies.Given as goal
 
 abbrev pub invariant-loop-f : goal.invariant-loop-f
 invariant-loop-f l = record {
-  built : Builds l.initial.net l.net (32 * body_nodes (program_of l.p.program) l.f + 33 * l.f);
-  done : OutcomesUpTo l.p.program (choice_of l.p) l.net l.pins l.f l.all;
+  built : Builds l.initial.net l.net (32 * body_nodes l.p.program l.f + 33 * l.f);
+  done : OutcomesUpTo l.p.checked l.p.choice l.net l.pins l.f l.all;
 }

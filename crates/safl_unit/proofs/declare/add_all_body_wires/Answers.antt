@@ -1,20 +1,18 @@
 use Rattle.std.proofs.Common.{arith}
-use Rattle.safl_circuit.specs.Names.{names_of}
 use Rattle.safl_circuit.specs.Layout.{lines, function_wires}
 use Rattle.safl_unit.specs.Finished.{open_wire}
 use Rattle.safl_unit.proofs.Declaring.{lines_count}
 use Rattle.safl_unit.proofs.Pinning.{lines_start, lines_next, body_wires_count}
 use Rattle.safl_unit.proofs.Adding.{lines_at}
-use Rattle.safl_term.specs.Checked.{program_of}
 use Rattle.safl_unit.proofs.declare.add_all_body_wires.Goals as goal
 
 pub loop-f-init : goal.loop-f-init
-loop-f-init c = lines_start c.args.net.now open_wire (function_wires (names_of c.args.c.now))
+loop-f-init c = lines_start c.args.net.now open_wire (function_wires c.args.c.now.names)
 
 pub add_body_wires-requires-clause-room : goal.add_body_wires-requires-clause-room
 add_body_wires-requires-clause-room c =
-    let a = lines_count c.args.net.now c.loop-f.net open_wire (lines (function_wires (names_of c.args.c.now)) c.loop-f.f) c.loop-f.invariant in
-    let b = body_wires_count (names_of c.args.c.now) c.loop-f.f in
+    let a = lines_count c.args.net.now c.loop-f.net open_wire (lines (function_wires c.args.c.now.names) c.loop-f.f) c.loop-f.invariant in
+    let b = body_wires_count c.args.c.now.names c.loop-f.f in
     let l = c.loop-f-test.true in
     let e = c.functions-f-end.ensures.count in
     let r = c.requires.room in
@@ -24,7 +22,7 @@ pub add_body_wires-requires-clause-free : goal.add_body_wires-requires-clause-fr
 add_body_wires-requires-clause-free c =
     let l = c.loop-f-test.true in
     let e = c.functions-f-end.ensures.count in
-    lines_at open_wire c.args.net.now c.loop-f.net (function_wires (names_of c.args.c.now)) c.loop-f.f (program_of c.args.c.now).functions (omega (arith, l, e)) c.requires.free c.loop-f.invariant
+    lines_at open_wire c.args.net.now c.loop-f.net (function_wires c.args.c.now.names) c.loop-f.f c.args.c.now.program.functions (omega (arith, l, e)) c.requires.free c.loop-f.invariant
 
 pub loop-f-preserved : goal.loop-f-preserved
-loop-f-preserved c = lines_next c.args.net.now c.loop-f.net c.add_body_wires.new.net open_wire (function_wires (names_of c.args.c.now)) c.loop-f.f c.loop-f.invariant c.in_ok-add_body_wires.ensures
+loop-f-preserved c = lines_next c.args.net.now c.loop-f.net c.add_body_wires.new.net open_wire (function_wires c.args.c.now.names) c.loop-f.f c.loop-f.invariant c.in_ok-add_body_wires.ensures

@@ -1,9 +1,8 @@
 use Rattle.std.proofs.Common.{◌≡◌, map}
-use Rattle.safl_circuit.specs.Names.{names_of}
 use Rattle.safl_circuit.specs.Layout.{lines, function_wires}
 use Rattle.safl_unit.specs.Finished.{open_wire}
 use Rattle.safl_unit.specs.Declaring.{with_signals}
 use Rattle.safl_unit.proofs.declare.add_all_body_wires.Given as goal
 
 abbrev pub invariant-loop-f : goal.invariant-loop-f
-invariant-loop-f l = l.net ≡ with_signals l.initial.net (map open_wire (lines (function_wires (names_of l.c)) l.f))
+invariant-loop-f l = l.net ≡ with_signals l.initial.net (map open_wire (lines (function_wires l.c.names) l.f))

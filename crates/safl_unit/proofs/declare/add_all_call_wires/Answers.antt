@@ -1,7 +1,6 @@
 use Rattle.std.proofs.Common.{suc, ◌∙◌, refl, ap, arith}
-use Rattle.safl_term.specs.Checked.{program_of}
+use Rattle.safl_term.specs.Checked.{CheckedProgram}
 use Rattle.safl_circuit.specs.Layout.{lines, site_wires}
-use Rattle.safl_unit.specs.Cycles.{choice_of}
 use Rattle.safl_unit.specs.Finished.{open_wire}
 use Rattle.safl_unit.proofs.Declaring.{lines_count}
 use Rattle.safl_unit.proofs.Pinning.{lines_from_one, lines_next, few_calls}
@@ -9,25 +8,25 @@ use Rattle.safl_unit.proofs.Adding.{lines_at}
 use Rattle.safl_unit.proofs.declare.add_all_call_wires.Goals as goal
 
 pub loop-k-init : goal.loop-k-init
-loop-k-init c = lines_from_one c.args.net.now open_wire (site_wires (program_of c.args.p.now.program) (choice_of c.args.p.now)) refl
+loop-k-init c = lines_from_one c.args.net.now open_wire (site_wires c.args.p.now.program c.args.p.now.choice) refl
 
 pub add_call_wires-requires-clause-room : goal.add_call_wires-requires-clause-room
 add_call_wires-requires-clause-room c =
-    let a = lines_count c.args.net.now c.loop-k.net open_wire (lines (site_wires (program_of c.args.p.now.program) (choice_of c.args.p.now)) c.loop-k.k) c.loop-k.invariant in
-    let b = few_calls (program_of c.args.p.now.program) (choice_of c.args.p.now) c.loop-k.k in
+    let a = lines_count c.args.net.now c.loop-k.net open_wire (lines (site_wires c.args.p.now.program c.args.p.now.choice) c.loop-k.k) c.loop-k.invariant in
+    let b = few_calls c.args.p.now.program c.args.p.now.choice c.loop-k.k in
     let l = c.loop-k-test.true in
-    let e = c.sites-k-end.ensures.count ∙ ap (λ x. (program_of x).sites) c.program-c.ensures.same in
+    let e = c.sites-k-end.ensures.count ∙ ap (λ (x : CheckedProgram). x.program.sites) c.program-c.ensures.same in
     let r = c.requires.room in
     omega (arith, a, b, l, e, r)
 
 pub add_call_wires-requires-clause-free : goal.add_call_wires-requires-clause-free
 add_call_wires-requires-clause-free c =
     let l = c.loop-k-test.true in
-    let e = c.sites-k-end.ensures.count ∙ ap (λ x. (program_of x).sites) c.program-c.ensures.same in
-    lines_at open_wire c.args.net.now c.loop-k.net (site_wires (program_of c.args.p.now.program) (choice_of c.args.p.now)) c.loop-k.k
-    (suc (program_of c.args.p.now.program).sites) (omega (arith, l, e)) c.requires.free c.loop-k.invariant
+    let e = c.sites-k-end.ensures.count ∙ ap (λ (x : CheckedProgram). x.program.sites) c.program-c.ensures.same in
+    lines_at open_wire c.args.net.now c.loop-k.net (site_wires c.args.p.now.program c.args.p.now.choice) c.loop-k.k
+    (suc c.args.p.now.program.sites) (omega (arith, l, e)) c.requires.free c.loop-k.invariant
 
 pub loop-k-preserved : goal.loop-k-preserved
 loop-k-preserved c =
-    lines_next c.args.net.now c.loop-k.net c.add_call_wires.new.net open_wire (site_wires (program_of c.args.p.now.program) (choice_of c.args.p.now))
+    lines_next c.args.net.now c.loop-k.net c.add_call_wires.new.net open_wire (site_wires c.args.p.now.program c.args.p.now.choice)
     c.loop-k.k c.loop-k.invariant c.in_ok-add_call_wires.ensures

@@ -1,9 +1,7 @@
 use Rattle.std.proofs.Common.{◌≡◌, [], ◌∷◌, true, ◌∙◌}
 use Rattle.std.specs.Prelude.{codes}
-use Rattle.safl_term.specs.Checked.{program_of}
 use Rattle.safl_circuit.specs.Names.{of_site}
 use Rattle.safl_unit.specs.Finished.{open_wire}
-use Rattle.safl_unit.specs.Cycles.{choice_of}
 use Rattle.safl_unit.proofs.Adding.{named_so, may_now, lines_if}
 use Rattle.safl_term.specs.Program.{unit_for}
 use Rattle.safl_circuit.specs.Layout.{Line}
@@ -11,8 +9,8 @@ use Rattle.safl_unit.proofs.declare.add_arbiter_wire.Goals as goal
 
 pub add_wire-requires-clause-free : goal.add_wire-requires-clause-free
 add_wire-requires-clause-free c =
-    let C = program_of c.args.p.now.program in
-    let P = choice_of c.args.p.now in
+    let C = c.args.p.now.program in
+    let P = c.args.p.now.choice in
     let line : Line = (of_site (codes "arb$") c.args.k, 1) in
     let arb : P.arbiter (unit_for C c.args.k) ≡ true = cc in
     named_so c.args.net.now c.as_str.result.now (of_site (codes "arb$") c.args.k) (c.as_str.ensures.value ∙ c.in_ok-numbered.ensures)

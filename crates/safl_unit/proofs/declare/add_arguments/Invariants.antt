@@ -1,6 +1,4 @@
 use Rattle.std.proofs.Common.{◌≡◌, map, take, length}
-use Rattle.safl_term.specs.Checked.{program_of}
-use Rattle.safl_circuit.specs.Names.{names_of}
 use Rattle.safl_unit.specs.Ties.{numbered}
 use Rattle.safl_unit.specs.Finished.{open_register}
 use Rattle.safl_unit.specs.Declaring.{with_signals, argument_lines}
@@ -8,6 +6,6 @@ use Rattle.safl_unit.proofs.declare.add_arguments.Given as goal
 
 abbrev pub invariant-loop-i : goal.invariant-loop-i
 invariant-loop-i l = record {
-  net : l.net ≡ with_signals l.initial.net (map open_register (take l.i (argument_lines (program_of l.c) (names_of l.c) l.f)));
+  net : l.net ≡ with_signals l.initial.net (map open_register (take l.i (argument_lines l.c.program l.c.names l.f)));
   args : l.args.items ≡ numbered (length l.initial.net.signals) l.i;
 }

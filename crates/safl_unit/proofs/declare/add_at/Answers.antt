@@ -1,8 +1,7 @@
 use Rattle.std.proofs.Common.{◌≡◌, ◌++◌, [], ◌∷◌, List, ℕ, true, ap, ◌∙◌}
 use Rattle.std.specs.Prelude.{codes}
-use Rattle.safl_term.specs.Checked.{program_of}
 use Rattle.safl_circuit.specs.Equations.{many}
-use Rattle.safl_circuit.specs.Names.{names_of, of_function}
+use Rattle.safl_circuit.specs.Names.{of_function}
 use Rattle.safl_circuit.specs.Layout.{Line}
 use Rattle.safl_unit.specs.Finished.{open_register}
 use Rattle.safl_unit.proofs.Declaring.{name_text}
@@ -14,8 +13,8 @@ headed-requires c = name_text c.args.c.now c.args.f _ c.name.ensures
 
 pub add_register-requires-clause-free : goal.add_register-requires-clause-free
 add_register-requires-clause-free c =
-    let peers : many (program_of c.args.c.now) c.args.f ≡ true = cc in
-    let line : Line = (of_function (names_of c.args.c.now) (codes "at$") c.args.f, 1) in
-    named_so c.args.net.now c.as_str.result.now (of_function (names_of c.args.c.now) (codes "at$") c.args.f)
+    let peers : many c.args.c.now.program c.args.f ≡ true = cc in
+    let line : Line = (of_function c.args.c.now.names (codes "at$") c.args.f, 1) in
+    named_so c.args.net.now c.as_str.result.now (of_function c.args.c.now.names (codes "at$") c.args.f)
     (c.as_str.ensures.value ∙ c.in_ok-name.ensures ∙ ap (λ (z : List ℕ). codes "at$" ++ z) c.name.ensures)
-    (may_now c.args.net.now (open_register line) [] (lines_if open_register c.args.net.now (many (program_of c.args.c.now) c.args.f) (line ∷ []) peers c.requires.free))
+    (may_now c.args.net.now (open_register line) [] (lines_if open_register c.args.net.now (many c.args.c.now.program c.args.f) (line ∷ []) peers c.requires.free))

@@ -1,6 +1,6 @@
 use Rattle.std.proofs.Common.{◌≡◌, ◌++◌, [], ◌∷◌, List, ℕ, ap, ◌∙◌}
 use Rattle.std.specs.Prelude.{codes}
-use Rattle.safl_circuit.specs.Names.{names_of, of_function}
+use Rattle.safl_circuit.specs.Names.{of_function}
 use Rattle.safl_unit.specs.Finished.{open_wire}
 use Rattle.safl_unit.proofs.Adding.{named_so, may_now, may_step}
 use Rattle.safl_unit.proofs.Declaring.{name_text}
@@ -14,7 +14,7 @@ headed-requires-2 c = name_text c.args.c.now c.args.f _ c.name-name.ensures
 
 pub add_wire-requires-clause-free : goal.add_wire-requires-clause-free
 add_wire-requires-clause-free c =
-    let D = names_of c.args.c.now in
+    let D = c.args.c.now.names in
     let f = c.args.f in
     let end : c.as_str.result.now ≡ of_function D (codes "end$") f = c.as_str.ensures.value ∙ c.in_ok-headed.ensures ∙ ap (λ (z : List ℕ). codes "end$" ++ z) c.name-name.ensures in
     named_so c.args.net.now c.as_str.result.now (of_function D (codes "end$") f) end
@@ -22,7 +22,7 @@ add_wire-requires-clause-free c =
 
 pub add_wire-requires-2-clause-free : goal.add_wire-requires-2-clause-free
 add_wire-requires-2-clause-free c =
-    let D = names_of c.args.c.now in
+    let D = c.args.c.now.names in
     let f = c.args.f in
     let end : c.as_str.result.now ≡ of_function D (codes "end$") f = c.as_str.ensures.value ∙ c.in_ok-headed.ensures ∙ ap (λ (z : List ℕ). codes "end$" ++ z) c.name-name.ensures in
     let loop : c.as_str-2.result.now ≡ of_function D (codes "loop$") f = c.as_str-2.ensures.value ∙ c.in_ok-headed-2.ensures ∙ ap (λ (z : List ℕ). codes "loop$" ++ z) c.name-name.ensures in

@@ -1,18 +1,16 @@
 use Rattle.std.proofs.Common.{◌≡◌, ◌++◌, [], ◌∷◌, map, ◌∙◌}
 use Rattle.std.specs.Prelude.{codes}
-use Rattle.safl_term.specs.Checked.{program_of}
-use Rattle.safl_circuit.specs.Names.{names_of, of_site}
+use Rattle.safl_circuit.specs.Names.{of_site}
 use Rattle.safl_unit.specs.Finished.{open_wire}
-use Rattle.safl_unit.specs.Cycles.{choice_of}
 use Rattle.safl_unit.proofs.Adding.{named_so, may_now, may_step, may_call, lines_first, lines_rest}
 use Rattle.safl_unit.specs.Declaring.{arbiter_line}
 use Rattle.safl_unit.proofs.declare.add_call_wires.Goals as goal
 
 pub add_wire-requires-clause-free : goal.add_wire-requires-clause-free
 add_wire-requires-clause-free c =
-    let C = program_of c.args.p.now.program in
-    let D = names_of c.args.p.now.program in
-    let P = choice_of c.args.p.now in
+    let C = c.args.p.now.program in
+    let D = c.args.p.now.names in
+    let P = c.args.p.now.choice in
     let k = c.args.k in
     let all = may_call C D P c.args.net.now k c.requires.least c.requires.free in
     let want : c.as_str.result.now ≡ of_site (codes "want$") k = c.as_str.ensures.value ∙ c.in_ok-numbered.ensures in
@@ -20,9 +18,9 @@ add_wire-requires-clause-free c =
 
 pub add_wire-requires-2-clause-free : goal.add_wire-requires-2-clause-free
 add_wire-requires-2-clause-free c =
-    let C = program_of c.args.p.now.program in
-    let D = names_of c.args.p.now.program in
-    let P = choice_of c.args.p.now in
+    let C = c.args.p.now.program in
+    let D = c.args.p.now.names in
+    let P = c.args.p.now.choice in
     let k = c.args.k in
     let all = may_call C D P c.args.net.now k c.requires.least c.requires.free in
     let want : c.as_str.result.now ≡ of_site (codes "want$") k = c.as_str.ensures.value ∙ c.in_ok-numbered.ensures in
@@ -32,9 +30,9 @@ add_wire-requires-2-clause-free c =
 
 pub add_arbiter_wire-requires-clause-free : goal.add_arbiter_wire-requires-clause-free
 add_arbiter_wire-requires-clause-free c =
-    let C = program_of c.args.p.now.program in
-    let D = names_of c.args.p.now.program in
-    let P = choice_of c.args.p.now in
+    let C = c.args.p.now.program in
+    let D = c.args.p.now.names in
+    let P = c.args.p.now.choice in
     let k = c.args.k in
     let all = may_call C D P c.args.net.now k c.requires.least c.requires.free in
     let want : c.as_str.result.now ≡ of_site (codes "want$") k = c.as_str.ensures.value ∙ c.in_ok-numbered.ensures in
@@ -46,9 +44,9 @@ add_arbiter_wire-requires-clause-free c =
 
 pub add_wire-requires-3-clause-free : goal.add_wire-requires-3-clause-free
 add_wire-requires-3-clause-free c =
-    let C = program_of c.args.p.now.program in
-    let D = names_of c.args.p.now.program in
-    let P = choice_of c.args.p.now in
+    let C = c.args.p.now.program in
+    let D = c.args.p.now.names in
+    let P = c.args.p.now.choice in
     let k = c.args.k in
     let all = may_call C D P c.args.net.now k c.requires.least c.requires.free in
     let want : c.as_str.result.now ≡ of_site (codes "want$") k = c.as_str.ensures.value ∙ c.in_ok-numbered.ensures in

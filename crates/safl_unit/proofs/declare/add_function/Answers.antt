@@ -1,5 +1,3 @@
-use Rattle.safl_term.specs.Checked.{program_of}
-use Rattle.safl_circuit.specs.Names.{names_of}
 use Rattle.safl_unit.specs.Finished.{open_register}
 use Rattle.safl_unit.specs.Declaring.{unit_head, at_line, argument_lines}
 use Rattle.std.proofs.Common.{◌++◌}
@@ -17,15 +15,15 @@ returns-clause-pinned c =
 
 pub add_at-requires-clause-free : goal.add_at-requires-clause-free
 add_at-requires-clause-free c =
-    let C = program_of c.args.c.now in
-    let D = names_of c.args.c.now in
+    let C = c.args.c.now.program in
+    let D = c.args.c.now.names in
     lines_first open_register c.add_unit.new.net (at_line C D c.args.f) (argument_lines C D c.args.f)
     (lines_rest open_register c.args.net.now c.add_unit.new.net (unit_head C D c.args.f) (at_line C D c.args.f ++ argument_lines C D c.args.f) c.requires.free c.in_ok-unit.ensures.added)
 
 pub add_arguments-requires-clause-free : goal.add_arguments-requires-clause-free
 add_arguments-requires-clause-free c =
-    let C = program_of c.args.c.now in
-    let D = names_of c.args.c.now in
+    let C = c.args.c.now.program in
+    let D = c.args.c.now.names in
     lines_rest open_register c.add_unit.new.net c.add_at.new.net (at_line C D c.args.f) (argument_lines C D c.args.f)
     (lines_rest open_register c.args.net.now c.add_unit.new.net (unit_head C D c.args.f) (at_line C D c.args.f ++ argument_lines C D c.args.f) c.requires.free c.in_ok-unit.ensures.added)
     c.in_ok-at.ensures.added

@@ -1,7 +1,5 @@
 use Rattle.std.proofs.Common.{◌≡◌, ◌++◌, [], ◌∷◌, List, ℕ, map, length, ap, ◌∙◌, arith}
 use Rattle.std.specs.Prelude.{codes}
-use Rattle.safl_term.specs.Checked.{program_of}
-use Rattle.safl_circuit.specs.Names.{names_of}
 use Rattle.safl_unit.specs.Finished.{input_line}
 use Rattle.safl_unit.specs.Declaring.{with_signals, port_lines}
 use Rattle.safl_unit.proofs.Declaring.{param_text, param_step, param_count, numbered_next, take_whole, param_lines_long, named_get, map_get}
@@ -13,8 +11,8 @@ headed-requires c = param_text c.args.c.now c.args.f c.loop-i.i _ c.param_name.e
 
 pub add_input-requires-clause-free : goal.add_input-requires-clause-free
 add_input-requires-clause-free c =
-    let C = program_of c.args.c.now in
-    let D = names_of c.args.c.now in
+    let C = c.args.c.now.program in
+    let D = c.args.c.now.names in
     let named : c.as_str.result.now ≡ codes "in$" ++ c.param_name.result.now = c.as_str.ensures.value ∙ c.in_ok-name.ensures in
     named_so c.loop-i.net c.as_str.result.now (codes "in$" ++ c.param_name.result.now) named
     (line_at input_line c.args.net.now c.loop-i.net (port_lines C D c.args.f) c.loop-i.i (codes "in$" ++ c.param_name.result.now, c.param_width.result)
@@ -42,4 +40,4 @@ returns-clause-added c =
     let end = c.params-i-end.ensures.count in
     let long = param_lines_long c.args.c.now c.args.f (λ (x : List ℕ). codes "in$" ++ x) in
     c.loop-i.invariant.net
-    ∙ ap (λ ls. with_signals c.args.net.now (map input_line ls)) (take_whole (port_lines (program_of c.args.c.now) (names_of c.args.c.now) c.args.f) c.loop-i.i (omega (arith, past, end, long)))
+    ∙ ap (λ ls. with_signals c.args.net.now (map input_line ls)) (take_whole (port_lines c.args.c.now.program c.args.c.now.names c.args.f) c.loop-i.i (omega (arith, past, end, long)))

@@ -1,17 +1,15 @@
 use Rattle.std.proofs.Common.{◌≡◌, [], ◌∷◌, true, ◌∙◌}
 use Rattle.std.specs.Prelude.{codes}
-use Rattle.safl_term.specs.Checked.{program_of}
-use Rattle.safl_circuit.specs.Names.{names_of, of_site}
+use Rattle.safl_circuit.specs.Names.{of_site}
 use Rattle.safl_unit.specs.Finished.{open_register}
-use Rattle.safl_unit.specs.Cycles.{choice_of}
 use Rattle.safl_unit.proofs.Adding.{named_so, may_now, may_step, may_site, lines_if}
 use Rattle.safl_unit.proofs.declare.add_site.Goals as goal
 
 pub add_register-requires-clause-free : goal.add_register-requires-clause-free
 add_register-requires-clause-free c =
-    let C = program_of c.args.p.now.program in
-    let D = names_of c.args.p.now.program in
-    let P = choice_of c.args.p.now in
+    let C = c.args.p.now.program in
+    let D = c.args.p.now.names in
+    let P = c.args.p.now.choice in
     let k = c.args.k in
     let all = may_site C D P c.args.net.now k c.requires.least c.requires.free in
     let sent : c.as_str.result.now ≡ of_site (codes "sent$") k = c.as_str.ensures.value ∙ c.in_ok-numbered.ensures in
@@ -19,9 +17,9 @@ add_register-requires-clause-free c =
 
 pub add_register-requires-2-clause-free : goal.add_register-requires-2-clause-free
 add_register-requires-2-clause-free c =
-    let C = program_of c.args.p.now.program in
-    let D = names_of c.args.p.now.program in
-    let P = choice_of c.args.p.now in
+    let C = c.args.p.now.program in
+    let D = c.args.p.now.names in
+    let P = c.args.p.now.choice in
     let k = c.args.k in
     let all = may_site C D P c.args.net.now k c.requires.least c.requires.free in
     let sent : c.as_str.result.now ≡ of_site (codes "sent$") k = c.as_str.ensures.value ∙ c.in_ok-numbered.ensures in
@@ -31,9 +29,9 @@ add_register-requires-2-clause-free c =
 
 pub add_register-requires-3-clause-free : goal.add_register-requires-3-clause-free
 add_register-requires-3-clause-free c =
-    let C = program_of c.args.p.now.program in
-    let D = names_of c.args.p.now.program in
-    let P = choice_of c.args.p.now in
+    let C = c.args.p.now.program in
+    let D = c.args.p.now.names in
+    let P = c.args.p.now.choice in
     let k = c.args.k in
     let all = may_site C D P c.args.net.now k c.requires.least c.requires.free in
     let sent : c.as_str.result.now ≡ of_site (codes "sent$") k = c.as_str.ensures.value ∙ c.in_ok-numbered.ensures in

@@ -1,7 +1,6 @@
 use Rattle.std.proofs.Common.{◌≡◌, ◌++◌, List, ℕ, true, ap, ◌∙◌, arith}
 use Rattle.std.specs.Prelude.{codes}
-use Rattle.safl_term.specs.Checked.{program_of}
-use Rattle.safl_circuit.specs.Names.{names_of, of_function}
+use Rattle.safl_circuit.specs.Names.{of_function}
 use Rattle.safl_unit.specs.Finished.{open_register}
 use Rattle.safl_unit.proofs.Adding.{named_so, may_now, may_step, may_unit}
 use Rattle.safl_unit.proofs.Declaring.{name_text}
@@ -18,8 +17,8 @@ headed-requires-3 c = name_text c.args.c.now c.args.f _ c.name-name.ensures
 
 pub add_register-requires-clause-free : goal.add_register-requires-clause-free
 add_register-requires-clause-free c =
-    let C = program_of c.args.c.now in
-    let D = names_of c.args.c.now in
+    let C = c.args.c.now.program in
+    let D = c.args.c.now.names in
     let f = c.args.f in
     let first : C.unit f ≡ f = omega (arith, c.unit-unit.ensures.number, c.if-unit-f.false) in
     let all = may_unit C D (record { arbiter = λ u. true; kept = λ k. true }) c.args.net.now f first c.requires.free in
@@ -28,8 +27,8 @@ add_register-requires-clause-free c =
 
 pub add_register-requires-2-clause-free : goal.add_register-requires-2-clause-free
 add_register-requires-2-clause-free c =
-    let C = program_of c.args.c.now in
-    let D = names_of c.args.c.now in
+    let C = c.args.c.now.program in
+    let D = c.args.c.now.names in
     let f = c.args.f in
     let first : C.unit f ≡ f = omega (arith, c.unit-unit.ensures.number, c.if-unit-f.false) in
     let all = may_unit C D (record { arbiter = λ u. true; kept = λ k. true }) c.args.net.now f first c.requires.free in
@@ -40,8 +39,8 @@ add_register-requires-2-clause-free c =
 
 pub add_register-requires-3-clause-free : goal.add_register-requires-3-clause-free
 add_register-requires-3-clause-free c =
-    let C = program_of c.args.c.now in
-    let D = names_of c.args.c.now in
+    let C = c.args.c.now.program in
+    let D = c.args.c.now.names in
     let f = c.args.f in
     let first : C.unit f ≡ f = omega (arith, c.unit-unit.ensures.number, c.if-unit-f.false) in
     let all = may_unit C D (record { arbiter = λ u. true; kept = λ k. true }) c.args.net.now f first c.requires.free in

@@ -1,11 +1,9 @@
 use Rattle.std.proofs.Common.{◌+◌, ◌*◌, List, [], ◌∷◌, Option, length, sym, ap, subst, ◌∙◌, arith}
-use Rattle.safl_term.specs.Checked.{program_of}
 use Rattle.safl_net.specs.declared.cell.Sig.{Sig}
 use Rattle.safl_lower.specs.declared.loads.Load.{Load}
 use Rattle.safl_lower.specs.Tables.{SomeFit, BitsFit}
 use Rattle.safl_lower.proofs.Building.{builds_on, builds_within}
 use Rattle.safl_lower.proofs.KnownLoads.{bits_kept}
-use Rattle.safl_unit.specs.Cycles.{choice_of}
 use Rattle.safl_unit.specs.Steps.{UnitsNext, SitesNext}
 use Rattle.safl_unit.proofs.Keeping.{pins_kept, returns_kept, outcomes_kept, goes_kept}
 use Rattle.safl_unit.proofs.Whole.{events_kept, events_fit, units_next_kept, members_next_kept, has_next}
@@ -25,7 +23,7 @@ next_units-requires-clause-pins c = pins_kept c.in_ok-events.ensures.built c.req
 
 pub next_units-requires-clause-ends : goal.next_units-requires-clause-ends
 next_units-requires-clause-ends c =
-    let C = program_of c.args.p.now.program in
+    let C = c.args.p.now.program in
     let e = (c.in_ok-events.ensures.done c.args.pins.now c.requires.outcomes c.requires.goes).ends in
     record {
       count = ap (λ (xs : List (Option Load)). length xs) c.deref.ensures.value ∙ e.count;
@@ -51,8 +49,8 @@ next_members-requires-clause-pins c = pins_kept (builds_on c.in_ok-events.ensure
 
 pub next_members-requires-clause-events : goal.next_members-requires-clause-events
 next_members-requires-clause-events c =
-    let C = program_of c.args.p.now.program in
-    let P = choice_of c.args.p.now in
+    let C = c.args.p.now.program in
+    let P = c.args.p.now.choice in
     let g = c.requires.goes in
     events_fit C P c.next_units.new.net c.args.pins.now c.in_ok-events.events
     (events_kept c.in_ok-units.ensures.built C P c.args.pins.now c.in_ok-events.events (c.in_ok-events.ensures.done c.args.pins.now c.requires.outcomes g))
@@ -94,14 +92,14 @@ next_sites-requires-clause-room c =
 
 pub returns-clause-built : goal.returns-clause-built
 returns-clause-built c =
-    let C = program_of c.args.p.now.program in
+    let C = c.args.p.now.program in
     builds_within (64 * C.functions + 32 * C.sites + 32) (builds_on
     (builds_on (builds_on c.in_ok-events.ensures.built c.in_ok-units.ensures.built) c.in_ok-members.ensures.built) c.in_ok-sites.ensures.built) (omega arith)
 
 pub returns-clause-done : goal.returns-clause-done
 returns-clause-done c =
-    let C = program_of c.args.p.now.program in
-    let P = choice_of c.args.p.now in
+    let C = c.args.p.now.program in
+    let P = c.args.p.now.choice in
     let g = c.requires.goes in
     let p = c.args.pins.now in
     let back = builds_on (builds_on c.in_ok-units.ensures.built c.in_ok-members.ensures.built) c.in_ok-sites.ensures.built in

@@ -1,6 +1,6 @@
 use Rattle.std.proofs.Common.{◌≡◌, ℕ, ◌+◌, ◌*◌, ◌<◌, length, Option, Bool, Some, slice_get, slice_index_or, refl, ap, subst, ◌∙◌, arith}
 use Rattle.std.proofs.lemmas.Option.{slice_get_read}
-use Rattle.safl_term.specs.Checked.{CheckedProgram, program_of}
+use Rattle.safl_term.specs.Checked.{CheckedProgram}
 use Rattle.safl_term.specs.Program.{Program, arity}
 use Rattle.safl_net.specs.declared.cell.Sig.{Sig}
 use Rattle.safl_net.specs.Netlist.{Netlist}
@@ -73,7 +73,7 @@ loop-f-init c =
     let e = c.args.events.now in
     record {
       built = builds_same n n c.requires.room.tidy refl 0;
-      table = no_members (program_of c.args.p.now.program) n c.args.pins.now.bank.members.items e.entries.items e.rivals.items e.loads.items
+      table = no_members c.args.p.now.program n c.args.pins.now.bank.members.items e.entries.items e.rivals.items e.loads.items
           c.args.outcomes.now.loops.items c.new-all.result.items c.new-all.ensures.items;
     }
 
@@ -81,7 +81,7 @@ pub next_member-requires-clause-entry : goal.next_member-requires-clause-entry
 next_member-requires-clause-entry c =
     let l = c.loop-f-test.true in
     let k = c.function_count-functions.ensures.count in
-    (entries_at (program_of c.args.p.now.program) c.args.net.now c.loop-f.net (35 * c.loop-f.f) c.args.pins.now c.args.events.now c.args.outcomes.now
+    (entries_at c.args.p.now.program c.args.net.now c.loop-f.net (35 * c.loop-f.f) c.args.pins.now c.args.events.now c.args.outcomes.now
     c.loop-f.f c.index-own.result.now c.index-rival.result.now c.index-load.result.now c.index-looped.result.now
     c.index-now.result.now c.loop-f.invariant.built (omega (arith, l, k)) c.requires.pins c.requires.events c.requires.outcomes c.index-own.ensures
     c.index-rival.ensures c.index-load.ensures c.index-looped.ensures c.index-now.ensures).entry_fits
@@ -90,14 +90,14 @@ pub next_member-requires-clause-rival : goal.next_member-requires-clause-rival
 next_member-requires-clause-rival c =
     let l = c.loop-f-test.true in
     let k = c.function_count-functions.ensures.count in
-    (entries_at (program_of c.args.p.now.program) c.args.net.now c.loop-f.net (35 * c.loop-f.f) c.args.pins.now c.args.events.now c.args.outcomes.now
+    (entries_at c.args.p.now.program c.args.net.now c.loop-f.net (35 * c.loop-f.f) c.args.pins.now c.args.events.now c.args.outcomes.now
     c.loop-f.f c.index-own.result.now c.index-rival.result.now c.index-load.result.now c.index-looped.result.now
     c.index-now.result.now c.loop-f.invariant.built (omega (arith, l, k)) c.requires.pins c.requires.events c.requires.outcomes c.index-own.ensures
     c.index-rival.ensures c.index-load.ensures c.index-looped.ensures c.index-now.ensures).rival_fits
 
 pub next_member-requires-clause-fits : goal.next_member-requires-clause-fits
 next_member-requires-clause-fits c =
-    let C = program_of c.args.p.now.program in
+    let C = c.args.p.now.program in
     let l = c.loop-f-test.true in
     let k = c.function_count-functions.ensures.count in
     let h = entries_at C c.args.net.now c.loop-f.net (35 * c.loop-f.f) c.args.pins.now c.args.events.now c.args.outcomes.now c.loop-f.f
@@ -108,7 +108,7 @@ next_member-requires-clause-fits c =
 
 pub next_member-requires-clause-room : goal.next_member-requires-clause-room
 next_member-requires-clause-room c =
-    let C = program_of c.args.p.now.program in
+    let C = c.args.p.now.program in
     let l = c.loop-f-test.true in
     let k = c.function_count-functions.ensures.count in
     let h = (entries_at C c.args.net.now c.loop-f.net (35 * c.loop-f.f) c.args.pins.now c.args.events.now c.args.outcomes.now c.loop-f.f
@@ -122,7 +122,7 @@ next_member-requires-clause-room c =
 
 pub loop-f-preserved : goal.loop-f-preserved
 loop-f-preserved c =
-    let C = program_of c.args.p.now.program in
+    let C = c.args.p.now.program in
     let f = c.loop-f.f in
     let l = c.loop-f-test.true in
     let k = c.function_count-functions.ensures.count in
@@ -136,7 +136,7 @@ loop-f-preserved c =
     let x = c.index-now.result.now in
     let y = c.in_ok-next.next in
     let built = c.in_ok-next.ensures.built in
-    let peers : c.has_peers-many.result ≡ many C f = c.has_peers-many.ensures ∙ ap (λ (q : CheckedProgram). many (program_of q) f) c.checked.ensures.same in
+    let peers : c.has_peers-many.result ≡ many C f = c.has_peers-many.ensures ∙ ap (λ (q : CheckedProgram). many q.program f) c.checked.ensures.same in
     record {
       built = builds_within (35 * (f + 1)) (builds_on c.loop-f.invariant.built built) (omega (arith, n, a));
       table = more_members C c.loop-f.net c.next_member.new.net (3 + 2 * length x.args.items) c.args.pins.now.bank.members.items e.entries.items
@@ -155,11 +155,11 @@ pub returns-clause-built : goal.returns-clause-built
 returns-clause-built c =
     let b = c.loop-f.auto.f-end in
     let k = c.function_count-functions.ensures.count in
-    builds_within (35 * (program_of c.args.p.now.program).functions) c.loop-f.invariant.built (omega (arith, b, k))
+    builds_within (35 * c.args.p.now.program.functions) c.loop-f.invariant.built (omega (arith, b, k))
 
 pub returns-clause-done : goal.returns-clause-done
 returns-clause-done c =
-    let C = program_of c.args.p.now.program in
+    let C = c.args.p.now.program in
     let l = c.loop-f-test.false in
     let b = c.loop-f.auto.f-end in
     let k = c.function_count-functions.ensures.count in

@@ -1,5 +1,4 @@
 use Rattle.std.proofs.Common.{◌*◌}
-use Rattle.safl_term.specs.Checked.{program_of}
 use Rattle.safl_lower.specs.Sources.{Builds}
 use Rattle.safl_unit.specs.Steps.{MembersNext}
 use Rattle.safl_unit.proofs.edge.next_members.Given as goal
@@ -7,5 +6,5 @@ use Rattle.safl_unit.proofs.edge.next_members.Given as goal
 abbrev pub invariant-loop-f : goal.invariant-loop-f
 invariant-loop-f l = record {
   built : Builds l.initial.net l.net (35 * l.f);
-  table : MembersNext (program_of l.p.program) l.net l.pins.bank.members.items l.events.entries.items l.events.rivals.items l.events.loads.items l.outcomes.loops.items l.all.items l.f;
+  table : MembersNext l.p.program l.net l.pins.bank.members.items l.events.entries.items l.events.rivals.items l.events.loads.items l.outcomes.loops.items l.all.items l.f;
 }

@@ -1,6 +1,5 @@
 use Rattle.std.proofs.Common.{◌≡◌, ℕ, suc, ◌+◌, ◌*◌, ◌<◌, ◌≤◌, List, length, Option, Bool, Some, None, slice_get, slice_index_or, refl, sym, ap, subst, ◌∙◌, add-one, arith}
 use Rattle.std.proofs.lemmas.Option.{slice_get_read}
-use Rattle.safl_term.specs.Checked.{program_of}
 use Rattle.safl_term.specs.Program.{Program}
 use Rattle.safl_net.specs.declared.cell.Sig.{Sig}
 use Rattle.safl_net.specs.Netlist.{Netlist}
@@ -13,7 +12,7 @@ use Rattle.safl_unit.specs.declared.parts.UnitPins.{UnitPins}
 use Rattle.safl_unit.specs.declared.parts.SitePins.{SitePins}
 use Rattle.safl_unit.specs.declared.parts.Pins.{Pins}
 use Rattle.safl_unit.specs.declared.parts.Returns.{Returns}
-use Rattle.safl_unit.specs.Cycles.{choice_of, SiteFits, PinsFit}
+use Rattle.safl_unit.specs.Cycles.{SiteFits, PinsFit}
 use Rattle.safl_unit.specs.Stages.{ReturnsFit}
 use Rattle.safl_unit.specs.Steps.{SiteStep, SitesNext}
 use Rattle.safl_unit.proofs.Keeping.{site_kept}
@@ -71,13 +70,13 @@ loop-done-init c =
     let p = c.args.pins.now in
     record {
       built = builds_same n n c.requires.room.tidy refl 0;
-      table = no_sites (program_of c.args.p.now.program) (choice_of c.args.p.now) n p.bank.units.items p.bank.sites.items c.args.returns.now.ret.items
+      table = no_sites c.args.p.now.program c.args.p.now.choice n p.bank.units.items p.bank.sites.items c.args.returns.now.ret.items
           c.args.goes.now c.args.clears.now c.in_ok-all.all.items c.in_ok-all.ensures.count;
     }
 
 pub next_site-requires-clause-ret : goal.next_site-requires-clause-ret
 next_site-requires-clause-ret c =
-    let C = program_of c.args.p.now.program in
+    let C = c.args.p.now.program in
     let l = c.loop-done-test.true in
     let s = c.site_count-sites.ensures.count in
     let w = c.caller_of-caller.ensures.within in
@@ -96,7 +95,7 @@ next_site-requires-clause-ret c =
 
 pub next_site-requires-clause-go : goal.next_site-requires-clause-go
 next_site-requires-clause-go c =
-    let C = program_of c.args.p.now.program in
+    let C = c.args.p.now.program in
     let l = c.loop-done-test.true in
     let s = c.site_count-sites.ensures.count in
     let w = c.caller_of-caller.ensures.within in
@@ -115,7 +114,7 @@ next_site-requires-clause-go c =
 
 pub next_site-requires-clause-clear : goal.next_site-requires-clause-clear
 next_site-requires-clause-clear c =
-    let C = program_of c.args.p.now.program in
+    let C = c.args.p.now.program in
     let l = c.loop-done-test.true in
     let s = c.site_count-sites.ensures.count in
     let w = c.caller_of-caller.ensures.within in
@@ -134,7 +133,7 @@ next_site-requires-clause-clear c =
 
 pub next_site-requires-clause-fits : goal.next_site-requires-clause-fits
 next_site-requires-clause-fits c =
-    let C = program_of c.args.p.now.program in
+    let C = c.args.p.now.program in
     let l = c.loop-done-test.true in
     let s = c.site_count-sites.ensures.count in
     let w = c.caller_of-caller.ensures.within in
@@ -161,7 +160,7 @@ next_site-requires-clause-room c =
 
 pub loop-done-preserved : goal.loop-done-preserved
 loop-done-preserved c =
-    let C = program_of c.args.p.now.program in
+    let C = c.args.p.now.program in
     let l = c.loop-done-test.true in
     let s = c.site_count-sites.ensures.count in
     let w = c.caller_of-caller.ensures.within in
@@ -176,7 +175,7 @@ loop-done-preserved c =
     (read_again c.args.clears.now c.unit_of-owner.result None (let m = c.requires.clears.count in omega (arith, w, u, m))) c.index-unit.ensures
     c.index-now.ensures c.index-ret.ensures (read_again c.args.goes.now (c.loop-done.done + 1) (record { 0 = 0 })
     (let m = c.requires.goes.count in omega (arith, l, s, m))) in
-    let P = choice_of c.args.p.now in
+    let P = c.args.p.now.choice in
     let p = c.args.pins.now in
     let rets = c.args.returns.now.ret.items in
     let goes = c.args.goes.now in
@@ -207,15 +206,15 @@ pub returns-clause-built : goal.returns-clause-built
 returns-clause-built c =
     let b = c.loop-done.auto.done-end in
     let s = c.site_count-sites.ensures.count in
-    builds_within (7 * (program_of c.args.p.now.program).sites) c.loop-done.invariant.built (omega (arith, b, s))
+    builds_within (7 * c.args.p.now.program.sites) c.loop-done.invariant.built (omega (arith, b, s))
 
 pub returns-clause-done : goal.returns-clause-done
 returns-clause-done c =
-    let C = program_of c.args.p.now.program in
+    let C = c.args.p.now.program in
     let p = c.args.pins.now in
     let l = c.loop-done-test.false in
     let b = c.loop-done.auto.done-end in
     let s = c.site_count-sites.ensures.count in
     let e : c.loop-done.done ≡ C.sites = omega (arith, l, b, s) in
-    subst (λ (m : ℕ). SitesNext C (choice_of c.args.p.now) c.loop-done.net p.bank.units.items p.bank.sites.items c.args.returns.now.ret.items
+    subst (λ (m : ℕ). SitesNext C c.args.p.now.choice c.loop-done.net p.bank.units.items p.bank.sites.items c.args.returns.now.ret.items
     c.args.goes.now c.args.clears.now c.loop-done.all.items m) e c.loop-done.invariant.table

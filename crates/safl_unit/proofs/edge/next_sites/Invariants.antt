@@ -1,12 +1,10 @@
 use Rattle.std.proofs.Common.{◌*◌}
-use Rattle.safl_term.specs.Checked.{program_of}
 use Rattle.safl_lower.specs.Sources.{Builds}
-use Rattle.safl_unit.specs.Cycles.{choice_of}
 use Rattle.safl_unit.specs.Steps.{SitesNext}
 use Rattle.safl_unit.proofs.edge.next_sites.Given as goal
 
 abbrev pub invariant-loop-done : goal.invariant-loop-done
 invariant-loop-done l = record {
   built : Builds l.initial.net l.net (7 * l.done);
-  table : SitesNext (program_of l.p.program) (choice_of l.p) l.net l.pins.bank.units.items l.pins.bank.sites.items l.returns.ret.items l.goes l.clears l.all.items l.done;
+  table : SitesNext l.p.program l.p.choice l.net l.pins.bank.units.items l.pins.bank.sites.items l.returns.ret.items l.goes l.clears l.all.items l.done;
 }

@@ -1,6 +1,5 @@
 use Rattle.std.proofs.Common.{◌≡◌, ℕ, ◌+◌, ◌*◌, ◌⊎◌, List, [], ◌∷◌, length, Option, None, slice_get, slice_index_or, inl, inr, ⊎_elim, refl, sym, ap, subst, ◌∙◌, arith}
 use Rattle.std.proofs.lemmas.Option.{slice_get_read, slice_get-get_or}
-use Rattle.safl_term.specs.Checked.{program_of}
 use Rattle.safl_net.specs.declared.cell.Sig.{Sig}
 use Rattle.safl_lower.specs.declared.loads.Load.{Load}
 use Rattle.safl_lower.specs.Tables.{load_in, sig_in, FitsIn, IsBitIn}
@@ -17,12 +16,12 @@ loop-f-init c =
     let n = c.args.net.now in
     record {
       built = builds_same n n c.requires.room.tidy refl 0;
-      table = no_units (program_of c.args.p.now.program) n c.args.pins.now.bank.units.items c.args.ends.now c.args.starts.now c.new-all.result.items c.new-all.ensures.items;
+      table = no_units c.args.p.now.program n c.args.pins.now.bank.units.items c.args.ends.now c.args.starts.now c.new-all.result.items c.new-all.ensures.items;
     }
 
 pub unit_after-requires-clause-fits : goal.unit_after-requires-clause-fits
 unit_after-requires-clause-fits c =
-    let C = program_of c.args.p.now.program in
+    let C = c.args.p.now.program in
     let u = c.unit_of-unit.result in
     let w = c.unit_of-unit.ensures.within in
     let l = c.loop-f-test.true in
@@ -60,7 +59,7 @@ unit_after-requires-clause-room c =
 
 pub loop-f-preserved : goal.loop-f-preserved
 loop-f-preserved c =
-    let C = program_of c.args.p.now.program in
+    let C = c.args.p.now.program in
     let f = c.loop-f.f in
     let u = c.unit_of-unit.result in
     let w = c.unit_of-unit.ensures.within in
@@ -97,11 +96,11 @@ pub returns-clause-built : goal.returns-clause-built
 returns-clause-built c =
     let b = c.loop-f.auto.f-end in
     let k = c.function_count-functions.ensures.count in
-    builds_within (5 * (program_of c.args.p.now.program).functions) c.loop-f.invariant.built (omega (arith, b, k))
+    builds_within (5 * c.args.p.now.program.functions) c.loop-f.invariant.built (omega (arith, b, k))
 
 pub returns-clause-done : goal.returns-clause-done
 returns-clause-done c =
-    let C = program_of c.args.p.now.program in
+    let C = c.args.p.now.program in
     let l = c.loop-f-test.false in
     let b = c.loop-f.auto.f-end in
     let k = c.function_count-functions.ensures.count in

@@ -1,5 +1,4 @@
 use Rattle.std.proofs.Common.{◌*◌}
-use Rattle.safl_term.specs.Checked.{program_of}
 use Rattle.safl_lower.specs.Sources.{Builds}
 use Rattle.safl_unit.specs.Steps.{UnitsNext}
 use Rattle.safl_unit.proofs.edge.next_units.Given as goal
@@ -7,5 +6,5 @@ use Rattle.safl_unit.proofs.edge.next_units.Given as goal
 abbrev pub invariant-loop-f : goal.invariant-loop-f
 invariant-loop-f l = record {
   built : Builds l.initial.net l.net (5 * l.f);
-  table : UnitsNext (program_of l.p.program) l.net l.pins.bank.units.items l.ends l.starts l.all.items l.f;
+  table : UnitsNext l.p.program l.net l.pins.bank.units.items l.ends l.starts l.all.items l.f;
 }

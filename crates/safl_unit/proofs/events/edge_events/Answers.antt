@@ -1,11 +1,9 @@
 use Rattle.std.proofs.Common.{ℕ, ◌+◌, ◌*◌, ◌==◌, ◌&&◌, ◌||◌, List, [], ◌∷◌, Option, length, is_some, sym, ap, subst, ◌∙◌, arith}
-use Rattle.safl_term.specs.Checked.{program_of}
 use Rattle.safl_net.specs.declared.cell.Sig.{Sig}
 use Rattle.safl_lower.specs.declared.loads.Load.{Load}
 use Rattle.safl_lower.specs.Tables.{SomeFit, BitsFit, taken_from, on_from}
 use Rattle.safl_lower.proofs.Building.{builds_on, builds_within}
 use Rattle.safl_lower.proofs.KnownLoads.{some_kept}
-use Rattle.safl_unit.specs.Cycles.{choice_of}
 use Rattle.safl_unit.specs.Edges.{one_below, rival, ShowsBits, ShowsBelow}
 use Rattle.safl_unit.proofs.Keeping.{outcomes_kept, goes_fit_kept, goes_kept, ends_kept, all_loads_kept, tests_kept}
 use Rattle.safl_circuit.specs.Equations.{starts, clears, starts_it}
@@ -47,7 +45,7 @@ unit_clears-requires-clause-count c = ap (λ (xs : List (Option Load)). length x
 
 pub unit_clears-requires-clause-ends : goal.unit_clears-requires-clause-ends
 unit_clears-requires-clause-ends c =
-    let C = program_of c.args.p.now.program in
+    let C = c.args.p.now.program in
     let ws = λ (u : ℕ). C.result u ∷ [] in (
       ws,
       subst (λ (xs : List (Option Load)). SomeFit c.unit_starts.new.net xs ws) (sym c.deref.ensures.value)
@@ -69,7 +67,7 @@ function_entries-requires-clause-count c = ap (λ (xs : List (Option Load)). len
 
 pub function_entries-requires-clause-loads : goal.function_entries-requires-clause-loads
 function_entries-requires-clause-loads c =
-    let C = program_of c.args.p.now.program in (
+    let C = c.args.p.now.program in (
       C.params,
       subst (λ (xs : List (Option Load)). SomeFit c.unit_clears.new.net xs C.params) (sym c.deref-2.ensures.value)
           (some_kept (builds_on c.in_ok-starts.ensures.built c.in_ok-clears.ensures.built) c.in_ok-loads.loads.items C.params c.in_ok-loads.ensures.done.fits),
@@ -96,7 +94,7 @@ function_rivals-requires-clause-room c =
 
 pub returns-clause-built : goal.returns-clause-built
 returns-clause-built c =
-    let C = program_of c.args.p.now.program in
+    let C = c.args.p.now.program in
     builds_within (11 * C.functions + 18 * C.sites + 18)
     (builds_on (builds_on (builds_on (builds_on (builds_on c.in_ok-ends.ensures.built c.in_ok-loads.ensures.built) c.in_ok-starts.ensures.built)
     c.in_ok-clears.ensures.built) c.in_ok-entries.ensures.built) c.in_ok-rivals.ensures.built)
@@ -104,8 +102,8 @@ returns-clause-built c =
 
 pub returns-clause-done : goal.returns-clause-done
 returns-clause-done c = λ p q g.
-    let C = program_of c.args.p.now.program in
-    let P = choice_of c.args.p.now in
+    let C = c.args.p.now.program in
+    let P = c.args.p.now.choice in
     let o = c.args.outcomes.now in
     let b1 = c.in_ok-ends.ensures.built in
     let b2 = builds_on b1 c.in_ok-loads.ensures.built in

@@ -1,11 +1,8 @@
 use Rattle.std.proofs.Common.{◌≡◌, ◌++◌, map}
-use Rattle.safl_term.specs.Checked.{program_of}
-use Rattle.safl_circuit.specs.Names.{names_of}
-use Rattle.safl_unit.specs.Cycles.{choice_of}
 use Rattle.safl_unit.specs.Ties.{sig_of, ties, body_ties, call_ties}
 use Rattle.safl_unit.proofs.finish.wire_sources.Given as goal
 
 abbrev pub invariant-loop-k : goal.invariant-loop-k
 invariant-loop-k l =
-    l.all.items ≡ map sig_of (ties (body_ties (names_of l.p.program) l.controls) (program_of l.p.program).functions) ++ map sig_of
-    (ties (call_ties (program_of l.p.program) (choice_of l.p) l.first l.controls) l.k)
+    l.all.items ≡ map sig_of (ties (body_ties l.p.names l.controls) l.p.program.functions) ++ map sig_of
+    (ties (call_ties l.p.program l.p.choice l.first l.controls) l.k)

@@ -1,8 +1,7 @@
 use Rattle.std.proofs.Common.{◌≡◌, ℕ, suc, Bool, ◌+◌, ◌*◌, refl, sym, ap, subst, ◌∙◌, add-one, arith}
-use Rattle.safl_term.specs.Checked.{CheckedProgram, program_of}
+use Rattle.safl_term.specs.Checked.{CheckedProgram}
 use Rattle.safl_lower.proofs.Building.{builds_same, builds_on, builds_within}
 use Rattle.safl_unit.specs.Returning.{SiteShown}
-use Rattle.safl_unit.specs.Cycles.{choice_of}
 use Rattle.safl_unit.proofs.Keeping.{pins_kept}
 use Rattle.safl_unit.proofs.Indexing.{unit_at, site_at}
 use Rattle.safl_unit.proofs.Sites.{SoFar, none_so_far, more_so_far, all_returns}
@@ -11,21 +10,21 @@ use Rattle.safl_unit.proofs.returns.returns.Goals as goal
 pub loop-done-init : goal.loop-done-init
 loop-done-init c = record {
   built = builds_same c.args.net.now c.args.net.now c.requires.room.tidy refl 0;
-  so_far = none_so_far (program_of c.args.p.now.program) (choice_of c.args.p.now) c.args.net.now c.args.pins.now c.in_ok-all.all c.in_ok-all.ensures.ret c.in_ok-all.ensures.ports;
+  so_far = none_so_far c.args.p.now.program c.args.p.now.choice c.args.net.now c.args.pins.now c.in_ok-all.all c.in_ok-all.ensures.ret c.in_ok-all.ensures.ports;
 }
 
 pub site_return-requires-clause-fits : goal.site_return-requires-clause-fits
 site_return-requires-clause-fits c =
-    let C = program_of c.args.p.now.program in
+    let C = c.args.p.now.program in
     let f = pins_kept c.loop-done.invariant.built c.requires.pins in (
       C.result (C.callee (suc c.loop-done.done)),
       f.bank.units (C.callee (suc c.loop-done.done)) c.index-unit.result.now
-          (unit_at c.args.p.now.program c.program-c.result.now c.args.pins.now.bank.units.items c.loop-done.done c.callee.result
+          (unit_at c.args.p.now.checked c.program-c.result.now c.args.pins.now.bank.units.items c.loop-done.done c.callee.result
           c.index-unit.result.now c.sites-sites.ensures.checked c.program-c.ensures.same
           (let l = c.loop-done-test.true in let e = c.sites-sites.ensures.count in omega (arith, l, e)) c.callee.ensures.number c.requires.pins.bank.units_length c.index-unit.ensures),
       f.bank.sites (suc c.loop-done.done) c.index-site.result.now
           (site_at c.args.pins.now.bank.sites.items c.loop-done.done C.sites c.index-site.result.now
-          (let l = c.loop-done-test.true in let e = c.sites-sites.ensures.count ∙ ap (λ (x : CheckedProgram). (program_of x).sites)
+          (let l = c.loop-done-test.true in let e = c.sites-sites.ensures.count ∙ ap (λ (x : CheckedProgram). x.program.sites)
           c.program-c.ensures.same in omega (arith, l, e)) c.requires.pins.bank.sites_length c.index-site.ensures) (omega arith),
     )
 
@@ -34,19 +33,19 @@ site_return-requires-clause-room c =
     let b = c.loop-done.invariant.built.count in
     let r = c.requires.room.room in
     let l = c.loop-done-test.true in
-    let e = c.sites-sites.ensures.count ∙ ap (λ (x : CheckedProgram). (program_of x).sites) c.program-c.ensures.same in
+    let e = c.sites-sites.ensures.count ∙ ap (λ (x : CheckedProgram). x.program.sites) c.program-c.ensures.same in
     record { tidy = c.loop-done.invariant.built.tidy; room = omega (arith, b, r, l, e) }
 
 pub loop-done-preserved : goal.loop-done-preserved
 loop-done-preserved c =
-    let C = program_of c.args.p.now.program in
-    let P = choice_of c.args.p.now in
+    let C = c.args.p.now.program in
+    let P = c.args.p.now.choice in
     let m = c.loop-done.done in
     let f = pins_kept c.loop-done.invariant.built c.requires.pins in
     let l = c.loop-done-test.true in
     let e = c.sites-sites.ensures.count in
-    let k = c.sites-sites.ensures.count ∙ ap (λ (x : CheckedProgram). (program_of x).sites) c.program-c.ensures.same in
-    let at = unit_at c.args.p.now.program c.program-c.result.now c.args.pins.now.bank.units.items m c.callee.result c.index-unit.result.now
+    let k = c.sites-sites.ensures.count ∙ ap (λ (x : CheckedProgram). x.program.sites) c.program-c.ensures.same in
+    let at = unit_at c.args.p.now.checked c.program-c.result.now c.args.pins.now.bank.units.items m c.callee.result c.index-unit.result.now
     c.sites-sites.ensures.checked c.program-c.ensures.same (omega (arith, l, e)) c.callee.ensures.number
     c.requires.pins.bank.units_length c.index-unit.ensures in
     let own = site_at c.args.pins.now.bank.sites.items m C.sites c.index-site.result.now (omega (arith, l, k)) c.requires.pins.bank.sites_length c.index-site.ensures in
@@ -69,14 +68,14 @@ pub returns-clause-built : goal.returns-clause-built
 returns-clause-built c =
     let l = c.loop-done-test.false in
     let b = c.loop-done.auto.done-end in
-    let e = c.sites-sites.ensures.count ∙ ap (λ (x : CheckedProgram). (program_of x).sites) c.program-c.ensures.same in
-    builds_within (5 * (program_of c.args.p.now.program).sites) c.loop-done.invariant.built (omega (arith, l, b, e))
+    let e = c.sites-sites.ensures.count ∙ ap (λ (x : CheckedProgram). x.program.sites) c.program-c.ensures.same in
+    builds_within (5 * c.args.p.now.program.sites) c.loop-done.invariant.built (omega (arith, l, b, e))
 
 pub returns-clause-done : goal.returns-clause-done
 returns-clause-done c =
     let l = c.loop-done-test.false in
     let b = c.loop-done.auto.done-end in
-    let e = c.sites-sites.ensures.count ∙ ap (λ (x : CheckedProgram). (program_of x).sites) c.program-c.ensures.same in
-    let k : c.loop-done.done ≡ (program_of c.args.p.now.program).sites = omega (arith, l, b, e) in
-    all_returns (program_of c.args.p.now.program) (choice_of c.args.p.now) c.loop-done.net c.args.pins.now c.loop-done.all
-    (subst (λ (m : ℕ). SoFar (program_of c.args.p.now.program) (choice_of c.args.p.now) c.loop-done.net c.args.pins.now c.loop-done.all m) k c.loop-done.invariant.so_far)
+    let e = c.sites-sites.ensures.count ∙ ap (λ (x : CheckedProgram). x.program.sites) c.program-c.ensures.same in
+    let k : c.loop-done.done ≡ c.args.p.now.program.sites = omega (arith, l, b, e) in
+    all_returns c.args.p.now.program c.args.p.now.choice c.loop-done.net c.args.pins.now c.loop-done.all
+    (subst (λ (m : ℕ). SoFar c.args.p.now.program c.args.p.now.choice c.loop-done.net c.args.pins.now c.loop-done.all m) k c.loop-done.invariant.so_far)

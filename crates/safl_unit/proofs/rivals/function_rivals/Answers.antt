@@ -1,6 +1,6 @@
 use Rattle.std.proofs.Common.{◌≡◌, ℕ, ◌+◌, ◌*◌, ◌&&◌, List, length, Vec, Global, Option, None, slice_index_or, refl, sym, ap, subst, ◌∙◌, arith}
 use Rattle.std.proofs.lemmas.Option.{slice_get-get_or, slice_get_read}
-use Rattle.safl_term.specs.Checked.{CheckedProgram, program_of}
+use Rattle.safl_term.specs.Checked.{CheckedProgram}
 use Rattle.safl_net.specs.declared.cell.Sig.{Sig}
 use Rattle.safl_net.specs.Growth.{Val}
 use Rattle.safl_circuit.specs.Equations.{many}
@@ -17,7 +17,7 @@ use Rattle.safl_unit.proofs.rivals.function_rivals.Goals as goal
 
 pub join_several-requires-clause-fits : goal.join_several-requires-clause-fits
 join_several-requires-clause-fits c = λ u.
-    let C = program_of c.args.p.now.program in
+    let C = c.args.p.now.program in
     let n = c.args.net.now in
     subst (λ (rows : List (Vec Sig Global)). AreBits n (row_at rows u)) (sym c.deref.ensures.value)
     (subst (AreBits n) (sym (c.in_ok-rows.ensures.rows u)) (entries_fit C n c.args.entries.now u c.requires.entries.each C.functions))
@@ -31,7 +31,7 @@ join_several-requires-clause-room c =
 
 pub loop-f-init : goal.loop-f-init
 loop-f-init c =
-    let C = program_of c.args.p.now.program in
+    let C = c.args.p.now.program in
     let n = c.join_several.new.net in
     record {
       built = builds_same n n c.join_several.ensures.tidy refl 0;
@@ -41,7 +41,7 @@ loop-f-init c =
 -- what was joined for a member's unit
 several_at : goal.member_rival-requires-clause-several
 several_at c =
-    let C = program_of c.args.p.now.program in
+    let C = c.args.p.now.program in
     let n = c.join_several.new.net in
     let u = c.unit_of-unit.result in
     let all = c.in_ok-several.several.items in
@@ -84,7 +84,7 @@ member_rival-requires-clause-room c =
 
 pub loop-f-preserved : goal.loop-f-preserved
 loop-f-preserved c =
-    let C = program_of c.args.p.now.program in
+    let C = c.args.p.now.program in
     let es = c.args.entries.now in
     let f = c.loop-f.f in
     let u = c.unit_of-unit.result in
@@ -103,7 +103,7 @@ loop-f-preserved c =
     let joined = several_in_kept c.loop-f.invariant.built (entry_row C es u C.functions) x (subst (λ (xs : List Sig). IsSeveralIn n xs x) is said) in
     let m = c.requires.entries.count in
     let entry = slice_get-get_or es f None (omega (arith, l, k, m)) in
-    let peers : c.has_peers-many.result ≡ many C f = c.has_peers-many.ensures ∙ ap (λ (q : CheckedProgram). many (program_of q) f) c.checked.ensures.same in
+    let peers : c.has_peers-many.result ≡ many C f = c.has_peers-many.ensures ∙ ap (λ (q : CheckedProgram). many q.program f) c.checked.ensures.same in
     let says = λ (v : Val) (i : ℕ). one_below (rival C (on_from v es) i) C.functions in
     record {
       built = builds_within (3 * (f + 1)) (builds_on c.loop-f.invariant.built c.in_ok-rival.ensures.built) (omega arith);
@@ -120,11 +120,11 @@ returns-clause-built c =
     let g = c.in_ok-rows.ensures.gates in
     let b = c.loop-f.auto.f-end in
     let k = c.function_count-functions.ensures.count in
-    builds_within (7 * (program_of c.args.p.now.program).functions) (builds_on c.in_ok-several.ensures.built c.loop-f.invariant.built) (omega (arith, d, g, b, k))
+    builds_within (7 * c.args.p.now.program.functions) (builds_on c.in_ok-several.ensures.built c.loop-f.invariant.built) (omega (arith, d, g, b, k))
 
 pub returns-clause-done : goal.returns-clause-done
 returns-clause-done c =
-    let C = program_of c.args.p.now.program in
+    let C = c.args.p.now.program in
     let l = c.loop-f-test.false in
     let b = c.loop-f.auto.f-end in
     let k = c.function_count-functions.ensures.count in

@@ -1,5 +1,4 @@
 use Rattle.std.proofs.Common.{◌*◌}
-use Rattle.safl_term.specs.Checked.{program_of}
 use Rattle.safl_lower.specs.Sources.{Builds}
 use Rattle.safl_lower.specs.Tables.{on_from}
 use Rattle.safl_unit.specs.Edges.{one_below, rival, ShowsBelow}
@@ -8,5 +7,5 @@ use Rattle.safl_unit.proofs.rivals.function_rivals.Given as goal
 abbrev pub invariant-loop-f : goal.invariant-loop-f
 invariant-loop-f l = record {
   built : Builds l.initial.net l.net (3 * l.f);
-  table : ShowsBelow l.net l.all.items l.f (λ v f. one_below (rival (program_of l.p.program) (on_from v l.entries) f) (program_of l.p.program).functions);
+  table : ShowsBelow l.net l.all.items l.f (λ v f. one_below (rival l.p.program (on_from v l.entries) f) l.p.program.functions);
 }

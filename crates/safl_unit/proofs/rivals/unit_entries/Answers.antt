@@ -1,6 +1,5 @@
 use Rattle.std.proofs.Common.{◌≡◌, ℕ, ◌==◌, ◌++◌, List, [], cond, Option, None, slice_index_or, refl, sym, ap, ◌∙◌, arith}
 use Rattle.std.proofs.lemmas.Option.{slice_get-get_or}
-use Rattle.safl_term.specs.Checked.{program_of}
 use Rattle.safl_net.specs.declared.cell.Sig.{Sig}
 use Rattle.safl_lower.specs.Tables.{sig_in}
 use Rattle.safl_lower.specs.Rows.{maybe_one, bit_joins}
@@ -14,7 +13,7 @@ loop-f-init c =
     let none = total_bare bit_joins c.in_ok-rows.rows.items refl c.in_ok-rows.ensures.bare in
     record {
       count = c.in_ok-rows.ensures.count ∙ c.function_count-functions.ensures.count;
-      rows = λ u. c.in_ok-rows.ensures.bare u ∙ sym (entry_zero (program_of c.args.p.now.program) c.args.entries.now u);
+      rows = λ u. c.in_ok-rows.ensures.bare u ∙ sym (entry_zero c.args.p.now.program c.args.entries.now u);
       gates = omega (arith, none);
     }
 
@@ -28,7 +27,7 @@ push_some-requires c =
 
 pub loop-f-preserved : goal.loop-f-preserved
 loop-f-preserved c =
-    let C = program_of c.args.p.now.program in
+    let C = c.args.p.now.program in
     let es = c.args.entries.now in
     let f = c.loop-f.f in
     let l = c.loop-f-test.true in
@@ -48,7 +47,7 @@ loop-f-preserved c =
 
 pub returns-clause-rows : goal.returns-clause-rows
 returns-clause-rows c = λ u.
-    let C = program_of c.args.p.now.program in
+    let C = c.args.p.now.program in
     let l = c.loop-f-test.false in
     let b = c.loop-f.auto.f-end in
     let k = c.function_count-functions.ensures.count in

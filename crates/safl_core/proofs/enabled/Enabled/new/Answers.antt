@@ -1,5 +1,4 @@
 use Rattle.std.proofs.Common.{◌≡◌, ℕ, suc, ◌+◌, true, List, replicate, ap, ◌∙◌, arith}
-use Rattle.safl_term.specs.Checked.{program_of}
 use Rattle.safl_number_set.specs.Groups.{Grouped, put_in, none_of}
 use Rattle.safl_core.proofs.enabled.Enabled.new.Goals as goal
 
@@ -8,7 +7,7 @@ zeros_of n = replicate n 0
 
 pub returns : goal.returns
 returns c =
-    let C = program_of c.args.c.now in
+    let C = c.args.c.now.program in
     let sites : c.sites.result + 1 ≡ suc C.sites = omega (arith, c.sites.ensures.count) in
     record {
       units = c.in_ok-units.units.items;

@@ -1,9 +1,8 @@
 use Rattle.std.proofs.Common.{sym, ap, ◌∙◌}
-use Rattle.safl_term.specs.Checked.{program_of}
 use Rattle.safl_core.specs.Listing.{busy}
 use Rattle.safl_core.specs.Shown.{Shown, state}
 use Rattle.safl_core.proofs.EventAtPlace.{busy_marked}
 use Rattle.safl_core.proofs.machine.Machine.busy.Goals as goal
 
 pub returns : goal.returns
-returns c = c.len.ensures.count ∙ (sym (busy_marked c.self.invariant.marked) ∙ ap (λ (m : Shown). busy (program_of m.program) (state m)) c.self.view_is)
+returns c = c.len.ensures.count ∙ (sym (busy_marked c.self.invariant.marked) ∙ ap (λ (m : Shown). busy m.program (state m)) c.self.view_is)

@@ -1,6 +1,5 @@
 use Rattle.std.proofs.Common.{◌&&◌, List, Option, get_or, ap, ◌∙◌, arith}
 use Rattle.safl_word.specs.Words.{Word}
-use Rattle.safl_term.specs.Checked.{program_of}
 use Rattle.safl_term.specs.Program.{unit_for}
 use Rattle.safl_calls.specs.Machine.{Accept, Finish, Return, LoopInto, is_unsent}
 use Rattle.safl_term.specs.Readiness.{Answer, NotYet}
@@ -43,7 +42,7 @@ pub returns-else-k-sites : goal.returns-else-k-sites
 returns-else-k-sites c =
     let h = c.self.invariant.kept in
     let m = c.self.inside in
-    let C = program_of m.checked.now in
+    let C = m.checked.now.program in
     let k = c.in-Accept.k in
     let is = c.accepts.ensures
     ∙ (ap (λ (x : List Mode). (is_unsent (stage_at c.deref-in-Accept.result.now k) && wanted_at c.deref-in-Accept-2.result.now k) && is_idle (unit_at x (unit_for C k))) c.deref.ensures.value
@@ -68,7 +67,7 @@ pub returns-else-k-sites-2 : goal.returns-else-k-sites-2
 returns-else-k-sites-2 c =
     let h = c.self.invariant.kept in
     let m = c.self.inside in
-    let C = program_of m.checked.now in
+    let C = m.checked.now.program in
     let k = c.in-Return.k in
     let is = c.returns.ensures
     ∙ (ap (λ (x : List Mode). is_sent (stage_at c.deref-in-Return-2.result.now k) && delivers_to (unit_at x (unit_for C k)) k) c.deref-in-Return.ensures.value

@@ -1,5 +1,4 @@
 use Rattle.std.proofs.Common.{ℕ, ◌+◌, List, ap, ◌∙◌, sym, subst}
-use Rattle.safl_term.specs.Checked.{program_of}
 use Rattle.safl_calls.specs.Machine.{State}
 use Rattle.safl_core.specs.declared.mode.Mode.{Mode}
 use Rattle.safl_core.specs.Modes.{unit_at}
@@ -55,7 +54,7 @@ pub invariant_of-self : goal.invariant_of-self
 invariant_of-self c =
     let m = c.self.inside in
     let h = c.self.invariant in
-    let C = program_of m.checked.now in
+    let C = m.checked.now.program in
     let can = subst (λ x. CanFire x (event_of c.args.e)) (sym c.self.view_is) c.requires.can in
     let kept = h.kept in
     let u = c.concerned-concerned.result.unit in

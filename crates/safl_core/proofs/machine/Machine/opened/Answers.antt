@@ -1,5 +1,4 @@
 use Rattle.std.proofs.Common.{◌≡◌, ℕ, List, Option, None, get_or, ◌∙◌, ap, refl, sym, subst, length, arith}
-use Rattle.safl_term.specs.Checked.{program_of}
 use Rattle.safl_word.specs.Words.{Word}
 use Rattle.safl_calls.specs.Machine.{State}
 use Rattle.safl_calls.specs.Machine as core
@@ -32,9 +31,9 @@ invariant_of-result c =
     c.new-3.result.each.items (length c.in_ok-env.env.items) c.in_ok-modes.ensures.idle c.in_ok-stages.ensures.unsent in
     record {
       kept = kept;
-      marked = subst (λ (s : State). AreMarked (program_of c.args.c.now) c.new-2.result s c.in_ok-sets.sets) (sym is)
-          (marked_first (program_of c.args.c.now) c.new-2.result c.in_ok-sets.sets (sized kept) c.in_ok-sets.ensures);
-      planned = subst (λ (n : ℕ). IsPlan (program_of c.args.c.now) c.in_ok-plan.plan n) (sym c.in_ok-kept.ensures) c.in_ok-plan.ensures;
+      marked = subst (λ (s : State). AreMarked c.args.c.now.program c.new-2.result s c.in_ok-sets.sets) (sym is)
+          (marked_first c.args.c.now.program c.new-2.result c.in_ok-sets.sets (sized kept) c.in_ok-sets.ensures);
+      planned = subst (λ (n : ℕ). IsPlan c.args.c.now.program c.in_ok-plan.plan n) (sym c.in_ok-kept.ensures) c.in_ok-plan.ensures;
       recalls = λ u. record {
         member = λ f k ws r. absurd (idle_runs f k ws (sym (c.in_ok-modes.ensures.idle u) ∙ r));
         holds = λ f k ws r. absurd (idle_runs f k ws (sym (c.in_ok-modes.ensures.idle u) ∙ r));
@@ -42,7 +41,7 @@ invariant_of-result c =
     }
 
 pub new-requires-2 : goal.new-requires-2
-new-requires-2 c = omega (arith, widths_long c.args.args.now, ap (λ (l : List ℕ). length l) c.requires, c.functions-functions.ensures.checked.limits.params (program_of c.args.c.now).main)
+new-requires-2 c = omega (arith, widths_long c.args.args.now, ap (λ (l : List ℕ). length l) c.requires, c.functions-functions.ensures.checked.limits.params c.args.c.now.program.main)
 
 pub returns : goal.returns
 returns c = record {

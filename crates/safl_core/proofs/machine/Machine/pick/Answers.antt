@@ -1,6 +1,5 @@
 use Rattle.std.proofs.Common.{◌≡◌, ◌%◌, None, Some, subst, sym, ap, ◌∙◌, length}
 use Rattle.std.specs.Prelude.{slice_get}
-use Rattle.safl_term.specs.Checked.{program_of}
 use Rattle.safl_core.specs.Listing.{listed}
 use Rattle.safl_core.specs.Picking.{IsPicked}
 use Rattle.safl_core.specs.Shown.{Shown, state, event_of, CanFire}
@@ -20,10 +19,10 @@ pub returns-clause-picked : goal.returns-clause-picked
 returns-clause-picked c =
     let n = c.self.inside in
     let h = c.self.invariant in
-    let C = program_of n.checked.now in
+    let C = n.checked.now.program in
     let s = calls_of n.state in
     let at : c.args.x % length (listed C n.opening s) ≡ c.args.x % c.from.result = ap (λ z. c.args.x % z) (listed_long h.marked ∙ (sym c.count-count.ensures ∙ sym c.from.ensures)) in
-    subst (λ (m : Shown). IsPicked (program_of m.program) m.args (state m) c.args.x (event_of c.nth.result)) c.self.view_is (record {
+    subst (λ (m : Shown). IsPicked m.program m.args (state m) c.args.x (event_of c.nth.result)) c.self.view_is (record {
       list = listed C n.opening s;
       lists = listing h.kept;
       there = ap (slice_get (listed C n.opening s)) at ∙ (nth_listed h.marked _ _ c.nth.ensures).0;
@@ -34,11 +33,11 @@ returns-clause-fires c =
     let n = c.self.inside in
     let h = c.self.invariant in
     subst (λ (m : Shown). CanFire m (event_of c.nth.result)) c.self.view_is
-    (enabled_of (program_of n.checked.now) n.opening (calls_of n.state) (event_of c.nth.result) (nth_listed h.marked _ _ c.nth.ensures).1)
+    (enabled_of n.checked.now.program n.opening (calls_of n.state) (event_of c.nth.result) (nth_listed h.marked _ _ c.nth.ensures).1)
 
 pub returns-clause-none : goal.returns-clause-none
 returns-clause-none c =
     let n = c.self.inside in
     let h = c.self.invariant in
-    let can = enabled_of (program_of n.checked.now) n.opening (calls_of n.state) (event_of c.nth.result) (nth_listed h.marked _ _ c.nth.ensures).1 in
+    let can = enabled_of n.checked.now.program n.opening (calls_of n.state) (event_of c.nth.result) (nth_listed h.marked _ _ c.nth.ensures).1 in
     subst (λ (m : Shown). Ends (Some c.nth.result) m) c.self.view_is (some_ends h.kept c.nth.result can)

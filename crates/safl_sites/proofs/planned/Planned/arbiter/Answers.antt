@@ -1,22 +1,22 @@
 use Rattle.std.proofs.Common.{◌≡◌, ◌<◌, ℕ, false, length, get_or, sym, ap, ◌∙◌, subst, arith}
 use Rattle.std.proofs.lemmas.List.{get_or_read}
-use Rattle.safl_term.specs.Checked.{CheckedProgram, program_of}
+use Rattle.safl_term.specs.Checked.{CheckedProgram}
 use Rattle.safl_sites.specs.Plan.{HasArbiter}
-use Rattle.safl_sites.specs.Planned.{PlannedProgram, arbiter_of}
+use Rattle.safl_sites.specs.Planned.{PlannedProgram, choice_of}
 use Rattle.safl_sites.proofs.planned.Planned.arbiter.Goals as goal
 
 pub returns-clause-exact : goal.returns-clause-exact
-unfolding arbiter_of
+unfolding choice_of
 returns-clause-exact c =
     let f = c.args.f in
     let u = c.unit.result in
-    let v = ap (λ (p : PlannedProgram). p.program) c.self.view_is in
-    let within : f < (program_of c.self.inside.checked).functions = subst (λ (q : CheckedProgram). f < (program_of q).functions) (sym v) c.requires in
+    let v = ap (λ (p : PlannedProgram). p.checked) c.self.view_is in
+    let within : f < c.self.inside.checked.program.functions = subst (λ (q : CheckedProgram). f < q.program.functions) (sym v) c.requires in
     let low : u < length c.self.inside.arbiters.items = omega (arith, within, c.unit.ensures.within, c.self.invariant.units) in
     let is : c.index.result.now ≡ get_or c.self.inside.arbiters.items u false = get_or_read c.self.inside.arbiters.items u c.index.result.now low c.index.ensures false in
     let both = c.self.invariant.plan.arbiters u in (
-      λ t. subst (λ (q : CheckedProgram). HasArbiter (program_of q) ((program_of q).unit f)) v
-          (subst (λ (n : ℕ). HasArbiter (program_of c.self.inside.checked) n) c.unit.ensures.number (both.0 (sym is ∙ t))),
-      λ h. is ∙ both.1 (subst (λ (n : ℕ). HasArbiter (program_of c.self.inside.checked) n) (sym c.unit.ensures.number)
-          (subst (λ (q : CheckedProgram). HasArbiter (program_of q) ((program_of q).unit f)) (sym v) h)),
+      λ t. subst (λ (q : CheckedProgram). HasArbiter q.program (q.program.unit f)) v
+          (subst (λ (n : ℕ). HasArbiter c.self.inside.checked.program n) c.unit.ensures.number (both.0 (sym is ∙ t))),
+      λ h. is ∙ both.1 (subst (λ (n : ℕ). HasArbiter c.self.inside.checked.program n) (sym c.unit.ensures.number)
+          (subst (λ (q : CheckedProgram). HasArbiter q.program (q.program.unit f)) (sym v) h)),
     )

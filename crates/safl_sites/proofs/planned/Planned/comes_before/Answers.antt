@@ -1,5 +1,5 @@
 use Rattle.std.proofs.Common.{◌<◌, ◌≤◌, length, arith, sym, ◌∙◌, ap, subst}
-use Rattle.safl_term.specs.Checked.{CheckedProgram, program_of}
+use Rattle.safl_term.specs.Checked.{CheckedProgram}
 use Rattle.safl_sites.specs.Parallel.{ComesBefore}
 use Rattle.safl_sites.specs.Rows.{has}
 use Rattle.safl_sites.specs.declared.site_set.SiteSet.{SiteSet}
@@ -8,15 +8,15 @@ use Rattle.safl_sites.proofs.planned.Planned.comes_before.Goals as goal
 
 pub returns : goal.returns
 returns c =
-    let D = program_of c.self.inside.checked in
+    let D = c.self.inside.checked.program in
     let k = c.args.k in
     let o = c.args.other in
-    let v = ap (λ p. p.program) c.self.view_is in
+    let v = ap (λ p. p.checked) c.self.view_is in
     let table = c.self.invariant.conflicts in
-    let most : o ≤ D.sites = subst (λ (q : CheckedProgram). o ≤ (program_of q).sites) (sym v) c.requires.most in
+    let most : o ≤ D.sites = subst (λ (q : CheckedProgram). o ≤ q.program.sites) (sym v) c.requires.most in
     let within : o < length c.self.inside.before.items = omega (arith, table.count) in
     let row = row_at c.self.inside.before.items o c.index.result.now within c.index.ensures in
     let both = table.rows k o c.requires.least most in (
-      λ h. subst (λ (q : CheckedProgram). ComesBefore (program_of q) k o) v (both.0 (ap (λ (r : SiteSet). has r k) (sym row) ∙ (sym c.contains.ensures ∙ h))),
-      λ h. c.contains.ensures ∙ (ap (λ (r : SiteSet). has r k) row ∙ both.1 (subst (λ (q : CheckedProgram). ComesBefore (program_of q) k o) (sym v) h)),
+      λ h. subst (λ (q : CheckedProgram). ComesBefore q.program k o) v (both.0 (ap (λ (r : SiteSet). has r k) (sym row) ∙ (sym c.contains.ensures ∙ h))),
+      λ h. c.contains.ensures ∙ (ap (λ (r : SiteSet). has r k) row ∙ both.1 (subst (λ (q : CheckedProgram). ComesBefore q.program k o) (sym v) h)),
     )

@@ -1,12 +1,13 @@
 use Rattle.std.proofs.Common.{◌≡◌, ℕ, ◌<◌, subst, sym, arith}
 use Rattle.std.proofs.lemmas.Option.{slice_get_read}
-use Rattle.safl_term.specs.Checked.{IsChecked, program_of}
+use Rattle.safl_term.specs.Checked.{IsChecked}
+use Rattle.safl_term.specs.Tables.{program_of}
 use Rattle.safl_term.proofs.HeldByChecked.{caller_in}
 use Rattle.safl_term.proofs.checked.Checked.caller.Goals as goal
 
 pub returns-clause-within : goal.returns-clause-within
 unfolding program_of
 returns-clause-within c =
-    let is : c.index.result.now.caller ≡ (program_of c.args.self.now).caller c.args.k = grind (arith, slice_get_read) in
-    subst (λ (f : ℕ). f < (program_of c.args.self.now).functions) (sym is)
-    (caller_in c.args.self.now c.args.k (subst IsChecked c.self.view_is c.self.invariant) c.requires.least c.requires.most)
+    let is : c.index.result.now.caller ≡ c.args.self.now.program.caller c.args.k = grind (arith, slice_get_read) in
+    subst (λ (f : ℕ). f < c.args.self.now.program.functions) (sym is)
+    (caller_in c.args.self.now c.args.k (subst IsChecked c.self.view_is c.self.invariant.0) c.requires.least c.requires.most)

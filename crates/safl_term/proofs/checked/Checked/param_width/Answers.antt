@@ -1,15 +1,22 @@
-use Rattle.std.proofs.Common.{◌≡◌, ◌≤◌, subst, get_or}
-use Rattle.safl_term.specs.Checked.{CheckedProgram, IsChecked}
+use Rattle.std.proofs.Common.{◌≡◌, ℕ, ◌<◌, ◌≤◌, Some, slice_get, subst, sym}
+use Rattle.safl_term.specs.Checked.{CheckedProgram}
+use Rattle.safl_term.specs.Program.{arity}
 use Rattle.safl_word.specs.Words.{max_width}
-use Rattle.safl_term.proofs.HeldByChecked.{param_fits}
+use Rattle.safl_term.proofs.HeldByChecked.{param_fits, param_read}
 use Rattle.safl_term.proofs.checked.Checked.param_width.Goals as goal
+
+pub returns-clause-width : goal.returns-clause-width
+returns-clause-width c =
+    subst (λ (p : CheckedProgram). slice_get (p.program.params c.args.f) c.args.i ≡ Some c.index-2.result.now.width) c.self.view_is
+    (param_read _ c.args.f c.args.i c.index.result.now c.index-2.result.now
+    (subst (λ (p : CheckedProgram). c.args.f < p.program.functions) (sym c.self.view_is) c.requires.function)
+    (subst (λ (p : CheckedProgram). c.args.i < arity p.program c.args.f) (sym c.self.view_is) c.requires.param) c.index.ensures c.index-2.ensures)
 
 fits : (c : goal.After-index-2) → (1 ≤ c.index-2.result.now.width) × (c.index-2.result.now.width ≤ max_width)
 fits c =
-    param_fits c.args.self.now c.args.f c.args.i c.index.result.now c.index-2.result.now
-    (subst IsChecked c.self.view_is c.self.invariant) c.requires.function c.requires.param
-    (subst (λ (p : CheckedProgram). c.index.result.now ≡ get_or p.functions c.args.f c.index.result.now) c.self.view_is c.index.ensures)
-    c.index-2.ensures
+    param_fits _ c.args.f c.args.i c.index.result.now c.index-2.result.now c.self.invariant.0
+    (subst (λ (p : CheckedProgram). c.args.f < p.program.functions) (sym c.self.view_is) c.requires.function)
+    (subst (λ (p : CheckedProgram). c.args.i < arity p.program c.args.f) (sym c.self.view_is) c.requires.param) c.index.ensures c.index-2.ensures
 
 pub returns-clause-least : goal.returns-clause-least
 returns-clause-least c = (fits c).0
