@@ -12,7 +12,7 @@ use Rattle.safl_term.specs.Program.{Program, unit_for, arity}
 use Rattle.safl_term.specs.Readiness.{Returned, or_else}
 use Rattle.safl_term.specs.Meaning.{Main, main_cost, main_calls}
 use Rattle.safl_term.specs.WellFormed.{IsWellFormed, AreWordsOf}
-use Rattle.safl_term.proofs.Fuelled.{agree_from}
+use Rattle.safl_sites.specs.Conflicts.{IsSequential}
 use Rattle.safl_calls.specs.Machine.{opening, after}
 use Rattle.safl_calls.specs.Picks.{first}
 use Rattle.safl_calls.proofs.Numbered.{Numbered}
@@ -196,15 +196,17 @@ module _ (C : Program) (D : Names) (P : Choice) (n : Netlist) (wf : IsWellFormed
         let prompt : c ≤ latest C args d = at_most_or c (latest C args d) (not_early x d c w e up) in
         record {
           by = d;
-          gives = agree_from C args x d;
           prompt = prompt;
           soon = omega (arith, prompt);
-          exact = λ seq. exactly C P wf seq h1 h2 r0 quiet args many later x d c is;
           few = subst (λ k. main_cost C args d ≤ C.functions * k) (plus_one c) (omega (arith, count, sum, few));
         }
       where
         plus_one : (c : ℕ) → suc c ≡ c + 1
         plus_one c = omega arith
+
+    pub exact : IsSequential C → (c : ℕ) (w : Valuation) → slice_get (v0 ∷ vs) c ≡ Some w → read_output n w (codes "done") ≡ 1 → (v : Word) (d : Main C args v)
+        → c ≡ latest C args d
+    exact seq c w e up v d = exactly C P wf seq h1 h2 r0 quiet args many later v d c (is_done c w e up)
 
     pub alone : (c : ℕ) (w : Valuation) → slice_get (v0 ∷ vs) c ≡ Some w → (j k : ℕ) → j ≤ C.sites → k ≤ C.sites → go_up n w j ≡ true → go_up n w k ≡ true → unit_for C j ≡ unit_for C k → j ≡ k
     alone c w e j k lej lek a b same =

@@ -5,9 +5,7 @@ use Rattle.std.specs.Prelude.{slice_get, codes}
 use Rattle.safl_word.specs.Words.{Word}
 use Rattle.safl_term.specs.Program.{Program, unit_for}
 use Rattle.safl_term.specs.Meaning.{Main}
-use Rattle.safl_term.specs.Fuel.{GivesInCalls}
 use Rattle.safl_term.specs.WellFormed.{IsWellFormed, AreWordsOf}
-use Rattle.safl_term.proofs.Fuelled.{agree_to}
 use Rattle.safl_calls.proofs.FromWellFormed.{numbered}
 use Rattle.safl_calls.proofs.Basics.{some_none}
 use Rattle.safl_calls.specs.Interference.{OneInUse, ShownWordsServe}
@@ -19,7 +17,7 @@ use Rattle.safl_net.specs.Valuations.{Valuation, read, read_output, reset_state}
 use Rattle.safl_net.specs.Runs.{RunFrom}
 use Rattle.safl_circuit.specs.Names.{of_function, as_word, numbers, of_site}
 use Rattle.safl_circuit.specs.Scheme.{Scheme, go_up}
-use Rattle.safl_circuit.specs.Correct.{DoneIn, IsResult, latest, QuietAfterDone, SameCalls, Behaves, IsQuietState}
+use Rattle.safl_circuit.specs.Correct.{DoneIn, IsExact, IsResult, latest, QuietAfterDone, SameCalls, Behaves, IsQuietState}
 use Rattle.safl_circuit.specs.Theorem.{IsCircuit, SchemesAreCircuits, ServingSchemesAreCircuits, CyclesAreEvents, LatestIsSoon, Runs}
 use Rattle.safl_circuit.proofs.Cycle as cycle
 use Rattle.safl_circuit.proofs.NetSteps.{first_run, first_quiet}
@@ -36,14 +34,6 @@ module _ (C : Program) (D : Names) (P : Choice) (n : Netlist) (wf : IsWellFormed
     prompt args sized [] r v d long = absurd (omega (arith, long))
     prompt args sized (v0 ∷ vs) r v d long = run.prompt C D P n wf h1 h2 scheme args sized state quiet0 v0 vs r v d long
 
-    comes : (args : List Word) → AreWordsOf args (C.params C.main) → (vs : List Valuation) → RunFrom n state (numbers args) vs → (v : Word) (m : ℕ) →
-        GivesInCalls C args v m → 3 * m ≤ length vs → DoneIn n vs v (3 * m)
-    comes args sized vs r v m gives long =
-        let d = agree_to C args v m gives in
-        let cost = d.1 in
-        let y : DoneIn n vs v (suc (latest C args d.0)) = prompt args sized vs r v d.0 (omega (arith, cost, long)) in
-        record { cycle = y.cycle; in_time = (let t = y.in_time in omega (arith, cost, t)); words = y.words; there = y.there; done = y.done; result = y.result; once = y.once }
-
     only : (args : List Word) → AreWordsOf args (C.params C.main) → (vs : List Valuation) → RunFrom n state (numbers args) vs → (c : ℕ)
         (w : Valuation) → slice_get vs c ≡ Some w → read_output n w (codes "done") ≡ 1 → IsResult C args (as_word (C.result C.main) (read_output n w (codes "result"))) c
     only args sized [] r c w e up = absurd (some_none w (sym e))
@@ -59,6 +49,10 @@ module _ (C : Program) (D : Names) (P : Choice) (n : Netlist) (wf : IsWellFormed
     rests args sized [] r c w e k le up is = some_none w (sym e)
     rests args sized (v0 ∷ vs) r c w e k le up is = run.rests C D P n wf h1 h2 scheme args sized state quiet0 v0 vs r c w e k le up is
 
+    exact : IsExact C n state
+    exact seq args sized [] r c w e up v d = absurd (some_none w (sym e))
+    exact seq args sized (v0 ∷ vs) r c w e up v d = run.exact C D P n wf h1 h2 scheme args sized state quiet0 v0 vs r seq c w e up v d
+
     quiet : QuietAfterDone C D n state
     quiet args sized [] r a c v w ea ec up lt = absurd (some_none v (sym ea))
     quiet args sized (v0 ∷ vs) r a c v w ea ec up lt = run.quiet_then C D P n wf h1 h2 scheme args sized state quiet0 v0 vs r a c v w ea ec up lt
@@ -68,10 +62,10 @@ module _ (C : Program) (D : Names) (P : Choice) (n : Netlist) (wf : IsWellFormed
     calls args sized (v0 ∷ vs) r v d c le long f lt = run.same_lists C D P n wf h1 h2 scheme args sized state quiet0 v0 vs r v d c le long f lt
 
     behaves : Behaves C D n state
-    behaves = record { comes = comes; prompt = prompt; only = only; alone = alone; rests = rests }
+    behaves = record { prompt = prompt; only = only; alone = alone; rests = rests }
 
     runs : Runs C D n state
-    runs = record { behaves = behaves; quiet = quiet; calls = calls }
+    runs = record { behaves = behaves; exact = exact; quiet = quiet; calls = calls }
 
   reset_quiet : IsQuietState C D n (reset_state n)
   reset_quiet v fits = first_quiet C D P n wf h1 h2 scheme [] v fits

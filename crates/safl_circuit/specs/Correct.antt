@@ -5,7 +5,6 @@ use Rattle.std.specs.List.Sorted.{IsPermutation}
 use Rattle.safl_word.specs.Words.{Word}
 use Rattle.safl_term.specs.Program.{Program, unit_for}
 use Rattle.safl_term.specs.Meaning.{Main, main_cost, main_calls, loops}
-use Rattle.safl_term.specs.Fuel.{GivesInCalls}
 use Rattle.safl_term.specs.WellFormed.{AreWordsOf}
 use Rattle.safl_sites.specs.Conflicts.{IsSequential}
 use Rattle.safl_calls.specs.Machine.{Event, opening, Legal, after, last_word}
@@ -45,21 +44,22 @@ pub record DoneIn (n : Netlist) (vs : List Valuation) (v : Word) (bound : ℕ) :
 abbrev pub latest : (C : Program) (args : List Word) {v : Word} → Main C args v → ℕ
 latest C args d = 2 * main_cost C args d - loops C d
 
--- main gives the word by an evaluation of m calls, of which l are loops, and the cycle is at most 2m - l, so below 3m; where no
--- two calls of the program can overlap it is just that, and in any program the cycle bounds the calls
+-- main gives the word by an evaluation of m calls, of which l are loops, the cycle is at most 2m - l, so below 3m, and the cycle
+-- bounds the calls
 pub record IsResult (C : Program) (args : List Word) (v : Word) (cycle : ℕ) : Type 0 where
   pub by : Main C args v
-  pub gives : GivesInCalls C args v (main_cost C args by)
   pub prompt : cycle ≤ latest C args by
   pub soon : cycle < 3 * main_cost C args by
-  pub exact : IsSequential C → cycle ≡ latest C args by
   pub few : main_cost C args by ≤ C.functions * (cycle + 1)
+
+-- and where no two calls of the program can overlap, the cycle is just 2m - l
+pub record IsExactResult (C : Program) (args : List Word) (v : Word) (cycle : ℕ) : Type 0 where
+  pub result : IsResult C args v cycle
+  pub exact : IsSequential C → cycle ≡ latest C args result.by
 
 -- of all runs from a state
 pub record Behaves (C : Program) (D : Names) (n : Netlist) (state : ℕ → ℕ) : Type 0 where
-  -- where main gives v in m calls, done comes once, before cycle 3m, with v
-  pub comes : EachRun C n state (λ args vs. (v : Word) (m : ℕ) → GivesInCalls C args v m → 3 * m ≤ length vs → DoneIn n vs v (3 * m))
-  -- sharply: where main gives v by an evaluation of m calls of which l are loops, done comes in no cycle after 2m - l
+  -- where main gives v by an evaluation of m calls of which l are loops, done comes once, in no cycle after 2m - l, with v
   pub prompt : EachRun C n state (λ args vs. (v : Word) (d : Main C args v) → latest C args d < length vs → DoneIn n vs v (suc (latest C args d)))
   -- where done comes, it has that cycle's result
   pub only : EachCycle C n state (λ args c w. is_done n w ≡ 1 → IsResult C args (as_word (C.result C.main) (read_output n w (codes "result"))) c)
@@ -111,6 +111,11 @@ go_at C n v f k = cond (C.callee k == f && go_up n v k) (Some k) None
 
 abbrev pub is_started : Program → Names → Netlist → Valuation → ℕ → Bool
 is_started C D n v f = is_some (first (go_at C n v f) (suc C.sites)) || one (read n v (of_function D (codes "loop$") f))
+
+-- where no two calls of the program can overlap, done comes in the last cycle in which it may
+abbrev pub IsExact : Program → Netlist → (ℕ → ℕ) → Type 0
+IsExact C n state =
+    IsSequential C → EachCycle C n state (λ args c w. is_done n w ≡ 1 → (v : Word) (d : Main C args v) → c ≡ latest C args d)
 
 -- the words on f's argument registers in the cycle after one in which f is started
 abbrev pub seen_at : Program → Names → Netlist → ℕ → Option Valuation → Option Valuation → List (List Word)

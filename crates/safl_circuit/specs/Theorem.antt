@@ -12,12 +12,14 @@ use Rattle.safl_net.specs.Netlist.{Netlist}
 use Rattle.safl_net.specs.Valuations.{reset_state}
 use Rattle.safl_term.specs.Names.{Names}
 use Rattle.safl_circuit.specs.Scheme.{Scheme}
-use Rattle.safl_circuit.specs.Correct.{Behaves, Correct, IsQuietState, Steps, QuietAfterDone, SameCalls, latest}
+use Rattle.safl_circuit.specs.Correct.{Behaves, Correct, IsExact, IsQuietState, Steps, QuietAfterDone, SameCalls, latest}
 
 -- From a state: done comes once, in time, with main's value, and never without one, and no unit starts while it runs or
--- twice at once; after done all is quiet; the argument registers see the calls of the evaluation
+-- twice at once; where no two calls can overlap, its cycle is known; after done all is quiet; the argument registers see the calls
+-- of the evaluation
 pub record Runs (C : Program) (D : Names) (n : Netlist) (state : ℕ → ℕ) : Type 0 where
   pub behaves : Behaves C D n state
+  pub exact : IsExact C n state
   pub quiet : QuietAfterDone C D n state
   pub calls : SameCalls C D n state
 

@@ -80,6 +80,11 @@ pub record SameReads (old new : ShelfState) : Type 0 where
   pub writes : old.write_faults ≤ new.write_faults
   pub strays : old.strays ≤ new.strays
 
+-- no count of faults changed
+pub record SameFaults (old new : ShelfState) : Type 0 where
+  pub reads : new.read_faults ≡ old.read_faults
+  pub writes : new.write_faults ≡ old.write_faults
+
 -- where the shelf tells what it holds, no name was used of which it holds no file
 abbrev pub UsesNoStray : ShelfState → ShelfState → Type 0
 UsesNoStray old new = OnSome old.holds (new.strays ≡ old.strays)

@@ -49,6 +49,7 @@ pub fn read_file<S: Shelf>(
     ensures within { IfOk result (λ text. length text.items ≤ limit) }
     ensures too_long { IsErrOf result ReadErr.TooLong → IfSome (S.told shelf.old).holds (HasLonger name.now limit) }
     ensures failed { IsErrOf result ReadErr.Failed → Rose (S.told shelf.old).read_faults (S.told shelf.new).read_faults }
+    ensures quiet { OnOk result ((S.told shelf.new).read_faults ≡ (S.told shelf.old).read_faults) }
     ensures same_files { SameFiles (S.told shelf.old) (S.told shelf.new) }
     ensures same_strays { ¬ IsStray (S.told shelf.old).holds name.now → (S.told shelf.new).strays ≡ (S.told shelf.old).strays }
 {
@@ -84,6 +85,7 @@ fn read_more<S: Shelf>(
     ensures end { IfOk result (IsReadToEnd (S.told shelf.old).holds name.now text.old.items text.new.items) }
     ensures not_too_long { IsErrOf result ReadErr.TooLong → ⊥ }
     ensures failed { IsErrOf result ReadErr.Failed → Rose (S.told shelf.old).read_faults (S.told shelf.new).read_faults }
+    ensures quiet { OnOk result ((S.told shelf.new).read_faults ≡ (S.told shelf.old).read_faults) }
     ensures same_files { SameFiles (S.told shelf.old) (S.told shelf.new) }
     ensures same_strays { ¬ IsStray (S.told shelf.old).holds name.now → (S.told shelf.new).strays ≡ (S.told shelf.old).strays }
 {

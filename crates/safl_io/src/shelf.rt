@@ -9,7 +9,7 @@ use crate::fault::{Failed, OutErr};
 /// A shelf of named files.
 ///
 /// A shelf that tells what it holds before a call tells it afterwards too. A call fails only where it counts
-/// a fault. A count never falls, and may stand still at 2^64 - 1.
+/// a fault, and one that succeeds counts none. A count never falls, and may stand still at 2^64 - 1.
 pub trait Shelf {
     /// What the shelf tells: the pairs of a name and the bytes of its file, where it tells them, and its counts.
     ghost told: { Self → ShelfState };
@@ -20,6 +20,7 @@ pub trait Shelf {
         ensures within { IfOk result (λ count. count ≤ length buf.old) }
         ensures read { IfOk result (λ count. IfSome (told self.old).holds (Reads name.now at count buf.new)) }
         ensures failed { OnErr result (Rose (told self.old).read_faults (told self.new).read_faults) }
+        ensures quiet { OnOk result ((told self.new).read_faults ≡ (told self.old).read_faults) }
         ensures same_files { SameFiles (told self.old) (told self.new) }
         ensures stray { CountsStray (told self.old).holds name.now (told self.old).strays (told self.new).strays };
 
@@ -29,6 +30,7 @@ pub trait Shelf {
         ensures created { OnOk result (TellsOn (Leaves name.now []) (told self.old).holds (told self.new).holds) }
         ensures not_created { OnErr result (TellsOn (LeavesOldOrEmpty name.now) (told self.old).holds (told self.new).holds) }
         ensures failed { IsErrOf result OutErr.Failed → Rose (told self.old).write_faults (told self.new).write_faults }
+        ensures quiet { OnOk result ((told self.new).write_faults ≡ (told self.old).write_faults) }
         ensures same_reads { SameReads (told self.old) (told self.new) }
         ensures same_strays { (told self.new).strays ≡ (told self.old).strays };
 
@@ -38,6 +40,7 @@ pub trait Shelf {
         ensures appended { OnOk result (TellsOn (Appends name.now bytes.now) (told self.old).holds (told self.new).holds) }
         ensures not_appended { OnErr result (TellsOn (AppendsPart name.now bytes.now) (told self.old).holds (told self.new).holds) }
         ensures failed { IsErrOf result OutErr.Failed → Rose (told self.old).write_faults (told self.new).write_faults }
+        ensures quiet { OnOk result ((told self.new).write_faults ≡ (told self.old).write_faults) }
         ensures missing { IsStray (told self.old).holds name.now → Rose (told self.old).write_faults (told self.new).write_faults }
         ensures same_reads { SameReads (told self.old) (told self.new) }
         ensures stray { CountsStray (told self.old).holds name.now (told self.old).strays (told self.new).strays };

@@ -17,6 +17,7 @@ pub fn write_file<S: Shelf>(shelf: &mut S, name: &str, bytes: &[u8]) -> Result<(
     ensures written { OnOk result (TellsOn (Leaves name.now bytes.now) (S.told shelf.old).holds (S.told shelf.new).holds) }
     ensures not_written { OnErr result (TellsOn (LeavesOldOrPart name.now bytes.now) (S.told shelf.old).holds (S.told shelf.new).holds) }
     ensures failed { IsErrOf result OutErr.Failed → Rose (S.told shelf.old).write_faults (S.told shelf.new).write_faults }
+    ensures quiet { OnOk result ((S.told shelf.new).write_faults ≡ (S.told shelf.old).write_faults) }
     ensures same_reads { SameReads (S.told shelf.old) (S.told shelf.new) }
 
     // A shelf that tells what it holds is asked for no stray name.

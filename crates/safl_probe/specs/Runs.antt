@@ -2,7 +2,7 @@
 use Rattle.std.specs.Prelude.{ℕ, ◌≡◌, List, [], ◌∷◌, map, length, Vec, ◌==◌, if◌then◌else◌, codes}
 use Rattle.std.specs.declared.alloc.Global.{Global}
 use Rattle.safl_word.specs.Words.{Word}
-use Rattle.safl_io.specs.Shelf.{ShelfState}
+use Rattle.safl_io.specs.Shelf.{ShelfState, SameFaults}
 use Rattle.safl_io.specs.Told.{TellsOn}
 use Rattle.safl_net.specs.Netlist.{Netlist}
 use Rattle.safl_net.specs.Arguments.{AreArguments}
@@ -53,8 +53,10 @@ TracesGrow R n args count names tell ps old new =
     (vs : List Valuation) → IsRunOf n args count vs → AreApart (asked names)
     → TellsOn (AllGrow R (asked names) (trace_at n vs (map tell ps))) old.holds new.holds
 
--- what a run leaves that came to its end: each asked file has its whole trace, and each asked probe was shown the run
+-- what a run leaves that came to its end: each asked file has its whole trace, each asked probe was shown the run, and no read or
+-- write failed
 pub record RunIsTraced {P : Type 0} (n : Netlist) (args : List Word) (count : ℕ) (names : FileNames) (tell : P → ProbeState) (ps qs : Vec P Global)
     (old new : ShelfState) : Type 0 where
   pub files : TracesGrow Made n args count names tell ps.items old new
   pub shown : RunIsShown n args count names tell ps.items qs.items
+  pub quiet : SameFaults old new

@@ -16,6 +16,7 @@ pub(crate) fn open<S: Shelf>(moment: Moment, name: &str, shelf: &mut S) -> Resul
     ensures not_opened { OnErr result (TellsOn (Grows OldOrPart name.now []) (S.told shelf.old).holds (S.told shelf.new).holds) }
     ensures at_beginning { OnErr result (moment ≡ moments.Beginning) }
     ensures failed { IsErrOf result OutErr.Failed → Rose (S.told shelf.old).write_faults (S.told shelf.new).write_faults }
+    ensures quiet { OnOk result ((S.told shelf.new).write_faults ≡ (S.told shelf.old).write_faults) }
     ensures reads { SameReads (S.told shelf.old) (S.told shelf.new) }
     ensures strays { (S.told shelf.new).strays ≡ (S.told shelf.old).strays }
 {
@@ -30,6 +31,7 @@ pub(crate) fn append<S: Shelf>(name: &str, text: &[u8], shelf: &mut S) -> Result
     ensures appended { OnOk result (TellsOn (Grows Longer name.now text.now) (S.told shelf.old).holds (S.told shelf.new).holds) }
     ensures not_appended { OnErr result (TellsOn (Grows LongerPart name.now text.now) (S.told shelf.old).holds (S.told shelf.new).holds) }
     ensures failed { IsErrOf result OutErr.Failed → Rose (S.told shelf.old).write_faults (S.told shelf.new).write_faults }
+    ensures quiet { OnOk result ((S.told shelf.new).write_faults ≡ (S.told shelf.old).write_faults) }
     ensures reads { SameReads (S.told shelf.old) (S.told shelf.new) }
     ensures strays { IsThere moments.End name.now (S.told shelf.old).holds → UsesNoStray (S.told shelf.old) (S.told shelf.new) }
 {

@@ -30,7 +30,7 @@ pub record HeldTo (o : Opened) (calls : List (List Word)) (limit count : ℕ) (n
   pub opened : now.is_open ≡ true
   pub state : FitWidths o.net (slice_index now.state)
   pub sent : TellsOn (Sends (reply_lines replies)) old.sent new.sent
-  pub later : old.faults ≤ new.faults
+  pub quiet : new.faults ≡ old.faults
 
 pub held_none : (o : Opened) (calls : List (List Word)) (limit : ℕ) (sink : SinkState) → IsReady o → HeldTo o calls limit 0 o sink sink
 held_none o calls limit sink ready = record {
@@ -40,7 +40,7 @@ held_none o calls limit sink ready = record {
   opened = ready.opened;
   state = ready.state;
   sent = nothing_sent sink.sent;
-  later = omega arith;
+  quiet = refl;
 }
 
 -- the arguments of the next call fit its net
@@ -63,7 +63,7 @@ module _ (o : Opened) (calls : List (List Word)) (limit : ℕ) (ready : IsReady 
 
   module _ (i : ℕ) (now : Opened) (old mid new : SinkState) (h : HeldTo o calls limit i now old mid) where
     pub later_fault : Rose mid.faults new.faults → Rose old.faults new.faults
-    later_fault rose = rose_later old.faults mid.faults new.faults h.later rose
+    later_fault rose = rose_later old.faults mid.faults new.faults (let a = h.quiet in omega (arith, a)) rose
 
     -- the next call has its reply
     module _ (args : List Word) (at : slice_get calls i ≡ Some args) (r : Reply) (after : Opened) (replies : Replies now.net limit (slice_index now.state) args r (slice_index after.state)) where
@@ -77,15 +77,16 @@ module _ (o : Opened) (calls : List (List Word)) (limit : ℕ) (ready : IsReady 
       state : FitWidths o.net (slice_index after.state)
       state = after_fits o.net ready.made limit (slice_index now.state) (slice_index after.state) args r reply
 
-      pub held_more : after.net ≡ now.net → after.is_open ≡ true → TellsOn (Sends (reply_line r)) mid.sent new.sent → mid.faults ≤ new.faults → HeldTo o calls limit (i + 1) after old new
-      held_more net opened sent later = record {
+      pub held_more : after.net ≡ now.net → after.is_open ≡ true → TellsOn (Sends (reply_line r)) mid.sent new.sent → new.faults ≡ mid.faults
+          → HeldTo o calls limit (i + 1) after old new
+      held_more net opened sent quiet = record {
         replies = h.replies ++ r ∷ [];
         replied = more;
         net = net ∙ h.net;
         opened = opened;
         state = state;
         sent = subst (λ (l : List ℕ). TellsOn (Sends l) old.sent new.sent) (sym (lines_more h.replies r)) (both_sent (reply_lines h.replies) (reply_line r) old.sent mid.sent new.sent h.sent sent);
-        later = (let a = h.later in omega (arith, a, later));
+        quiet = quiet ∙ h.quiet;
       }
 
       -- a part of its line was sent

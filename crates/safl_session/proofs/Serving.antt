@@ -73,7 +73,13 @@ module _ (C : Program) (D : Names) (P : Choice) (n : Netlist) (scheme : Scheme C
           let x = runs.behaves.only args sized cycles p.call.run (length p.before) p.last (at_seam p.before p.last [] (length p.before) refl) p.done in
           let given : Word = as_word (C.result C.main) (read_output n p.last (codes "result")) in
           let same : read_output n p.last (codes "result") ≡ r.result.bits = sym (ap (λ (w : Word). w.bits) p.result ∙ word_bits n p.last (output_place n.outputs (codes "result"))) in
-          subst (λ k. IsResult C args (as_word (C.result C.main) k) r.cycle) same (subst (λ k. IsResult C args given k) p.long x)
+          let at : slice_get cycles (length p.before) ≡ Some p.last = at_seam p.before p.last [] (length p.before) refl in
+          let y : IsResult C args (as_word (C.result C.main) r.result.bits) r.cycle =
+              subst (λ k. IsResult C args (as_word (C.result C.main) k) r.cycle) same (subst (λ k. IsResult C args given k) p.long x) in
+          record {
+            result = y;
+            exact = λ seq. sym p.long ∙ runs.exact seq args sized cycles p.call.run (length p.before) p.last at p.done (as_word (C.result C.main) r.result.bits) y.by;
+          }
 
       quiet_after : IsQuietState C D n after
       quiet_after w fits =

@@ -13,7 +13,7 @@ use Rattle.safl_net.specs.Whole.{IsWhole}
 use Rattle.safl_sites.specs.Plan.{Choice}
 use Rattle.safl_circuit.specs.Names.{as_word}
 use Rattle.safl_circuit.specs.Scheme.{Scheme}
-use Rattle.safl_circuit.specs.Correct.{IsQuietState, IsResult, latest}
+use Rattle.safl_circuit.specs.Correct.{IsExactResult, IsQuietState, latest}
 use Rattle.safl_circuit.specs.Theorem.{IsCircuit}
 use Rattle.safl_sim.specs.declared.done.Done.{Done as Reply}
 use Rattle.safl_run.specs.Calls.{Replies, IsSilent}
@@ -21,7 +21,7 @@ use Rattle.safl_session.specs.Replies.{AreReplies}
 
 -- the reply is main's from the arguments, in time
 abbrev pub IsMainReply : Program → List Word → Reply → Type 0
-IsMainReply C args r = IsResult C args (as_word (C.result C.main) r.result.bits) r.cycle
+IsMainReply C args r = IsExactResult C args (as_word (C.result C.main) r.result.bits) r.cycle
 
 -- from a state, one after the other: each call starts in a quiet state, and its reply is main's
 abbrev pub Serves : Program → Names → Netlist → ℕ → (ℕ → ℕ) → List (List Word) → List Reply → Type 0

@@ -1,6 +1,6 @@
 //! A session that is held, with its transcript sent line by line.
 
-ghost use Rattle.std.specs.Prelude.{OnErr, IfOk, IsErrOf};
+ghost use Rattle.std.specs.Prelude.{◌≡◌, OnOk, OnErr, IfOk, IsErrOf};
 ghost use Rattle.safl_io.specs.Counts.{Rose};
 ghost use Rattle.safl_session.specs.Laws.{AreCallsOf};
 ghost use Rattle.safl_session.specs.Holding.{IsReady, IsHeld, IsBegun};
@@ -28,6 +28,7 @@ pub fn send_transcript<O: Sink>(
     ensures held { IfOk result (IsHeld session.old script.now limit (O.told out.old).sent (O.told out.new).sent) }
     ensures begun { OnErr result (IsBegun session.old script.now limit (O.told out.old).sent (O.told out.new).sent) }
     ensures failed { IsErrOf result OutErr.Failed → Rose (O.told out.old).faults (O.told out.new).faults }
+    ensures quiet { OnOk result ((O.told out.new).faults ≡ (O.told out.old).faults) }
 {
     let mut text = Vec::new(alloc);
     'calls: for call in 0..script.len() {

@@ -1,6 +1,6 @@
 //! The lines of a transcript.
 
-ghost use Rattle.std.specs.Prelude.{◌≡◌, ◌≤◌, ◌++◌, OnOk, OnErr, IsErrOf};
+ghost use Rattle.std.specs.Prelude.{◌≡◌, ◌++◌, OnOk, OnErr, IsErrOf};
 ghost use Rattle.safl_io.specs.Counts.{Rose};
 ghost use Rattle.safl_io.specs.Sink.{Sends, SendsPart};
 ghost use Rattle.safl_io.specs.Told.{TellsOn};
@@ -26,7 +26,7 @@ pub fn send_line<O: Sink>(text: &mut Vec<u8>, line: Line, out: &mut O) -> Result
     ensures sent { OnOk result (TellsOn (Sends (line_text line)) (O.told out.old).sent (O.told out.new).sent) }
     ensures part { OnErr result (TellsOn (SendsPart (line_text line)) (O.told out.old).sent (O.told out.new).sent) }
     ensures failed { IsErrOf result OutErr.Failed → Rose (O.told out.old).faults (O.told out.new).faults }
-    ensures later { (O.told out.old).faults ≤ (O.told out.new).faults }
+    ensures quiet { OnOk result ((O.told out.new).faults ≡ (O.told out.old).faults) }
 {
     match write_line(text, line) {
         Ok(()) => out.put(text),

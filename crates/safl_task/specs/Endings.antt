@@ -2,7 +2,7 @@
 use Rattle.std.specs.Prelude.{◌≡◌, ℕ, ◌<◌, ◌⊎◌, List, length, take, Some, IsSome, IsSomeAnd, Contains, Bool, true, false}
 use Rattle.std.specs.Option.{option_or}
 use Rattle.safl_io.specs.Counts.{Rose}
-use Rattle.safl_io.specs.Shelf.{Files, ShelfState, file_of}
+use Rattle.safl_io.specs.Shelf.{Files, ShelfState, SameFaults, file_of}
 use Rattle.safl_io.specs.Told.{TellsOn}
 use Rattle.safl_io.specs.Sink.{SinkState, Sends, SendsPart}
 use Rattle.safl_task.specs.Lines.{memory_line, read_line, write_line, long_line, output_line}
@@ -23,6 +23,11 @@ pub record Untouched (old new : Outside) : Type 0 where
   pub files : new.shelf.holds ≡ old.shelf.holds
   pub out : new.out ≡ old.out
 
+-- no count of faults changed: none of the shelf, and not the sink's
+pub record SameCounts (old new : Outside) : Type 0 where
+  pub shelf : SameFaults old.shelf new.shelf
+  pub prints : new.out.faults ≡ old.out.faults
+
 -- each file with a text holds it, and all others are as they were
 abbrev pub LeavesAll : Files → Files → Files → Type 0
 LeavesAll texts old new = (name : List ℕ) → file_of new name ≡ option_or (file_of texts name) (file_of old name)
@@ -32,11 +37,12 @@ abbrev pub LeavesParts : Files → Files → Files → Type 0
 LeavesParts texts old new =
     (name : List ℕ) → (file_of new name ≡ file_of old name) ⊎ IsSomeAnd (file_of texts name) (λ text. (count : ℕ) × (file_of new name ≡ Some (take count text)))
 
--- the command gave this, all of it
+-- the command gave this, all of it, and nothing failed
 pub record Gave (t : Task) (old new : Outside) (g : Given) : Type 0 where
   pub given : OfInputs old.shelf.holds t.inputs (λ contents. t.Gives contents g)
   pub files : TellsOn (LeavesAll (files_of t.outputs g.texts)) old.shelf.holds new.shelf.holds
   pub printed : TellsOn (Sends g.printed) old.out.sent new.out.sent
+  pub counts : SameCounts old new
 
 -- it gave a part of what it gives
 pub record Began (t : Task) (old new : Outside) : Type 0 where

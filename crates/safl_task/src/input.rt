@@ -1,6 +1,6 @@
 //! The files that a command reads.
 
-ghost use Rattle.std.specs.Prelude.{◌≡◌, ◌≤◌, length, IfOk, IfErr, IfSome};
+ghost use Rattle.std.specs.Prelude.{◌≡◌, ◌≤◌, length, IfOk, IfErr, IfSome, OnOk};
 ghost use Rattle.safl_io.specs.Reading.{HasFile};
 ghost use Rattle.safl_io.specs.Shelf.{UsesNoStray};
 ghost use Rattle.safl_task.specs.Inputs.{shown_input, shown_inputs, shown_contents, source_file, script_file, verilog_file, aig_file};
@@ -89,6 +89,7 @@ pub fn read_inputs<'a, S: Shelf>(
 ) -> Result<Vec<Vec<u8>>, Unread<'a>>
     ensures read { IfOk result (λ contents. AreContents (S.told shelf.old).holds (shown_inputs inputs.now) (shown_contents contents.items)) }
     ensures refused { IfErr result (AreUnread (shown_inputs inputs.now) (S.told shelf.old) (S.told shelf.new)) }
+    ensures quiet { OnOk result ((S.told shelf.new).read_faults ≡ (S.told shelf.old).read_faults) }
     ensures only_reads { OnlyReads (S.told shelf.old) (S.told shelf.new) }
     // No name is used that the shelf tells it doesn't hold, where it holds all of them.
     ensures no_stray { SameStraysWith (shown_inputs inputs.now) (S.told shelf.old) (S.told shelf.new) }
@@ -114,6 +115,7 @@ fn read_input<'a, S: Shelf>(
     ensures read { IfOk result (λ bytes. IfSome (S.told shelf.old).holds (HasFile input.entry.name.now bytes.items)) }
     ensures small { IfOk result (λ bytes. length bytes.items ≤ input.entry.limit) }
     ensures refused { IfErr result (IsUnreadAt (shown_input input.entry) (S.told shelf.old) (S.told shelf.new)) }
+    ensures quiet { OnOk result ((S.told shelf.new).read_faults ≡ (S.told shelf.old).read_faults) }
     ensures only_reads { OnlyReads (S.told shelf.old) (S.told shelf.new) }
     ensures no_stray { OfFile (S.told shelf.old).holds input.entry.name.now (λ bytes. Unit {0}) → UsesNoStray (S.told shelf.old) (S.told shelf.new) }
 {

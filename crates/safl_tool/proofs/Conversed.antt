@@ -139,12 +139,13 @@ module _ (source script : List ℕ) (o : Opening) (is : IsOpening source script 
 -- ---- the transcript was sent
 
 module _ (o : Opening) (limit : ℕ) (shelf : ShelfState) (out out' : SinkState) where
-  pub held_given : (complete : Bool) → IsHeld o.session o.calls limit out.sent out'.sent complete → (s : Status) → s ≡ status_if complete → IsGiven
+  pub held_given : (complete : Bool) → IsHeld o.session o.calls limit out.sent out'.sent complete → out'.faults ≡ out.faults → (s : Status) → s ≡ status_if complete → IsGiven
       (answer.Replies o limit) (outside shelf out) (outside shelf out') s
-  held_given complete h s e = record {
+  held_given complete h quiet s e = record {
     given = told limit o.calls h.replies;
     will = record { replies = h.replies; are = h.are; is = refl };
     all = record { files = same_all shelf.holds shelf.holds refl; printed = h.sent };
+    counts = record { shelf = record { reads = refl; writes = refl }; prints = quiet };
     is = e ∙ ap (λ (b : Bool). status_if b) h.is;
   }
 

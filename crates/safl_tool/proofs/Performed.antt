@@ -1,5 +1,5 @@
 -- A command is done, by what its parts answer.
-use Rattle.std.proofs.Common.{◌≡◌, ℕ, List, Bool, true, false, Option, Some, None, Result, Ok, Err, Contains, refl, sym, ap, subst, inr, get_or, [], arith}
+use Rattle.std.proofs.Common.{◌≡◌, ◌∙◌, ℕ, List, Bool, true, false, Option, Some, None, Result, Ok, Err, Contains, refl, sym, ap, subst, inr, get_or, [], arith}
 use Rattle.std.specs.Prelude.{OnSome}
 use Rattle.std.proofs.lemmas.Bool.{false≢true}
 use Rattle.safl_io.specs.Counts.{Rose}
@@ -28,7 +28,7 @@ use Rattle.safl_tool.specs.declared.refusal.Refusal.TheVariants as refusal
 -- the files were read, and the answer to them was given
 module _ {P : Type 0} (t : Task) (asks : Asked) (old new : World P) (mid : ShelfState) (reads : OnlyReads old.outside.shelf mid)
     (contents : List (List ℕ)) (are : AreContents old.outside.shelf.holds t.inputs contents)
-    (a : Answer) (answers : Answers t contents a) where
+    (a : Answer) (answers : Answers t contents a) (quiet : mid.read_faults ≡ old.outside.shelf.read_faults) where
   ended : (s : Status) → IsGiven a (outside mid old.outside.out) new.outside s → Ended t old.outside new.outside s
   ended s h = (
     h.given,
@@ -37,6 +37,10 @@ module _ {P : Type 0} (t : Task) (asks : Asked) (old new : World P) (mid : Shelf
       files = subst (λ (x : Option Files). TellsOn (LeavesAll (files_of t.outputs h.given.texts)) x new.outside.shelf.holds) reads.files
           (subst (λ (l : List (List ℕ)). TellsOn (LeavesAll (files_of l h.given.texts)) mid.holds new.outside.shelf.holds) (sym answers.outputs) h.all.files);
       printed = h.all.printed;
+      counts = record {
+        shelf = record { reads = h.counts.shelf.reads ∙ quiet; writes = h.counts.shelf.writes ∙ reads.writes };
+        prints = h.counts.prints;
+      };
     },
     sym h.is,
   )

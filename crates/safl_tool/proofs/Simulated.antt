@@ -11,7 +11,9 @@ use Rattle.safl_term.specs.Program.{Program}
 use Rattle.safl_term.specs.WellFormed.{AreWordsOf}
 use Rattle.safl_term.specs.Checked.{CheckedProgram}
 use Rattle.safl_circuit.specs.Names.{as_word}
-use Rattle.safl_circuit.specs.Correct.{Correct, IsResult}
+use Rattle.safl_circuit.specs.Correct.{IsResult}
+use Rattle.safl_sites.specs.Plan.{Choice}
+use Rattle.safl_circuit.specs.Theorem.{IsCircuit}
 use Rattle.safl_compiler.specs.Sources.{IsSourceOf}
 use Rattle.safl_compiler.specs.Circuits.{IsCircuitOf}
 use Rattle.safl_tool.specs.Sources.{IsCompiled}
@@ -57,16 +59,21 @@ word_bits n v None = refl
 word_bits n v (Some s) = refl
 
 -- the first done is main's value
-pub is_value : (C : Program) (D : Names) (n : Netlist) → Correct C D n → (words : List Word) → AreWordsOf words (C.params C.main) → (limit : ℕ) (d : Done) → IsDone n words limit d → IsValue C words d
-is_value C D n correct words are limit d o =
-    let x = correct.behaves.only words are o.run o.only.is.run d.cycle o.last o.there o.done in
+pub is_value : (C : Program) (D : Names) (P : Choice) (n : Netlist) → IsCircuit C D P n → (words : List Word) → AreWordsOf words (C.params C.main) → (limit : ℕ) (d : Done)
+    → IsDone n words limit d → IsValue C words d
+is_value C D P n circuit words are limit d o =
+    let x = circuit.correct.behaves.only words are o.run o.only.is.run d.cycle o.last o.there o.done in
     let same : read_output n o.last (codes "result") ≡ d.result.bits = sym (ap (λ (w : Word). w.bits) o.result ∙ word_bits n o.last (output_place n.outputs (codes "result"))) in
-    subst (λ k. IsResult C words (as_word (C.result C.main) k) d.cycle) same x
+    let y : IsResult C words (as_word (C.result C.main) d.result.bits) d.cycle = subst (λ k. IsResult C words (as_word (C.result C.main) k) d.cycle) same x in
+    record {
+      result = y;
+      exact = λ seq. circuit.first.exact seq words are o.run o.only.is.run d.cycle o.last o.there o.done (as_word (C.result C.main) d.result.bits) y.by;
+    }
 
-pub has_value : (C : Program) (D : Names) (n : Netlist) → Correct C D n → (words : List Word) → AreWordsOf words (C.params C.main) → (limit : ℕ)
+pub has_value : (C : Program) (D : Names) (P : Choice) (n : Netlist) → IsCircuit C D P n → (words : List Word) → AreWordsOf words (C.params C.main) → (limit : ℕ)
     (answer : Option Done) → IsOutcome n words limit answer → HasValue C words answer
-has_value C D n correct words are limit None o = tt
-has_value C D n correct words are limit (Some d) o = is_value C D n correct words are limit d o
+has_value C D P n circuit words are limit None o = tt
+has_value C D P n circuit words are limit (Some d) o = is_value C D P n circuit words are limit d o
 
 -- words that are read for a netlist's inputs are its arguments
 pub read_arguments_are : (n : Netlist) (args : List (List ℕ)) (widths : List ℕ) → widths ≡ argument_widths n.signals → (words given : List Word) →
@@ -90,7 +97,7 @@ module _ (source : List ℕ) (n : Netlist) (c : IsCompiled source n) (args : Lis
         circuit = c.circuit;
         read = p;
         outcome = q;
-        value = has_value c.program c.names n c.circuit.circuit.correct words (read_words (c.program.params c.program.main) args words p) limit answer q;
+        value = has_value c.program c.names c.circuit.choice n c.circuit.circuit words (read_words (c.program.params c.program.main) args words p) limit answer q;
       }
 
 -- what a run of the circuit of a planned program says, after its head
@@ -109,7 +116,7 @@ measures source p n of circuit params args limit answer g head begins =
       begins = begins;
       read = read;
       outcome = g.outcome;
-      value = has_value C p.names n circuit.circuit.correct g.words (read_words (C.params C.main) args g.words read) limit answer g.outcome;
+      value = has_value C p.names circuit.choice n circuit.circuit g.words (read_words (C.params C.main) args g.words read) limit answer g.outcome;
     }
 
 -- what refuses the arguments of a program refuses the source with them

@@ -2,7 +2,7 @@
 use Rattle.std.proofs.Common.{◌≡◌, ◌⊎◌, ℕ, List, [], ◌∷◌, take, true, Option, Some, None, Result, Ok, Err, refl, sym, ap, subst, ◌∙◌, inl, inr, arith}
 use Rattle.std.specs.Prelude.{IsSomeAnd}
 use Rattle.safl_word.specs.Words.{Word, AreWords}
-use Rattle.safl_io.specs.Shelf.{Files, ShelfState, file_of}
+use Rattle.safl_io.specs.Shelf.{Files, ShelfState, SameFaults, file_of}
 use Rattle.safl_io.specs.Sink.{Sends, SendsPart}
 use Rattle.safl_io.specs.Told.{TellsOn}
 use Rattle.safl_io.proofs.Telling.{TellsOn-then}
@@ -98,7 +98,7 @@ module _ (source : List ℕ) (args : List (List ℕ)) (r : Ready) (of : IsReadyO
           circuit = c.circuit;
           read = p;
           outcome = k.outcome;
-          value = has_value c.program c.names of.net c.circuit.circuit.correct r.words.items (read_words widths args r.words.items p) limit k.done k.outcome;
+          value = has_value c.program c.names c.circuit.choice of.net c.circuit.circuit r.words.items (read_words widths args r.words.items p) limit k.done k.outcome;
         };
         run = k.run;
         is_run = k.is_run;
@@ -160,7 +160,8 @@ module _ (run : TracedRun) (can : CanRun run.ready) (asks : Asked) (ps : List Pr
   torn_fails qs after h _ never = absurd never
 
   -- it was watched to its end
-  module _ (qs : List ProbeState) (after : ShelfState) (h : Watched Made after) (done : Option Done) (o : IsOutcome net words run.limit done) where
+  module _ (qs : List ProbeState) (after : ShelfState) (h : Watched Made after) (done : Option Done) (o : IsOutcome net words run.limit done)
+      (quiet : SameFaults old.shelf after) where
     begun : (new : Outside) → TellsOn (LeavesParts []) after.holds new.shelf.holds → TellsOn (SendsPart (outcome run.limit done).printed) old.out.sent
         new.out.sent → IsGivenInPart (answer.Traced run) old new
     begun new kept sent = record {
@@ -183,6 +184,10 @@ module _ (run : TracedRun) (can : CanRun run.ready) (asks : Asked) (ps : List Pr
           files = whole_then _ old.shelf.holds after.holds new.shelf.holds (files after h)
               (subst (λ (g : Given). TellsOn (LeavesAll (files_of [] g.texts)) after.holds new.shelf.holds) (p.will ∙ is) p.all.files);
           printed = subst (λ (g : Given). TellsOn (Sends g.printed) old.out.sent new.out.sent) (p.will ∙ is) p.all.printed;
+        };
+        counts = record {
+          shelf = record { reads = p.counts.shelf.reads ∙ quiet.reads; writes = p.counts.shelf.writes ∙ quiet.writes };
+          prints = p.counts.prints;
         };
         is = p.is ∙ ap end_of (p.will ∙ is);
       }

@@ -58,7 +58,7 @@ shown_run source args limit r of asks ps qs told =
         circuit = c.circuit;
         read = p;
         outcome = k.outcome;
-        value = has_value c.program c.names of.net c.circuit.circuit.correct r.words.items (read_words widths args r.words.items p) limit k.answer k.outcome;
+        value = has_value c.program c.names c.circuit.choice of.net c.circuit.circuit r.words.items (read_words widths args r.words.items p) limit k.answer k.outcome;
       };
       run = k.run;
       is_run = k.is_run;

@@ -23,7 +23,7 @@ use Rattle.safl_session.specs.Replies.{AreReplies}
 use Rattle.safl_sim.specs.declared.done.Done.{Done as Reply}
 use Rattle.safl_session.specs.Holding.{IsReady}
 use Rattle.safl_command.specs.Traces.{Traces, shown as shown_traces}
-use Rattle.safl_task.specs.Endings.{Outside, outside, LeavesAll, LeavesParts}
+use Rattle.safl_task.specs.Endings.{Outside, outside, LeavesAll, LeavesParts, SameCounts}
 use Rattle.safl_task.specs.Tasks.{Given, Task, only_prints, only_writes, end_of, files_of}
 use Rattle.safl_task.specs.declared.status.Status.{Status}
 use Rattle.safl_tool.specs.Calling.{told}
@@ -116,11 +116,12 @@ pub record GivesPart (outputs : List (List ℕ)) (g : Given) (old new : Outside)
   pub files : TellsOn (LeavesParts (files_of outputs g.texts)) old.shelf.holds new.shelf.holds
   pub printed : TellsOn (SendsPart g.printed) old.out.sent new.out.sent
 
--- all that the answer gives was given, with this status
+-- all that the answer gives was given, with this status, and nothing failed
 pub record IsGiven (a : Answer) (old new : Outside) (s : Status) : Type 0 where
   pub given : Given
   pub will : WillGive a given
   pub all : GivesAll (outputs_of a) given old new
+  pub counts : SameCounts old new
   pub is : s ≡ end_of given
 
 -- or a part of it

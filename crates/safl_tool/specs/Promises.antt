@@ -11,7 +11,7 @@ use Rattle.safl_sim.specs.declared.done.Done.{Done as Reply}
 use Rattle.safl_aig.specs.BitLevel.{IsTextOf}
 use Rattle.safl_term.specs.Program.{Program}
 use Rattle.safl_term.specs.Names.{Names}
-use Rattle.safl_circuit.specs.Correct.{IsResult}
+use Rattle.safl_circuit.specs.Correct.{IsExactResult}
 use Rattle.safl_session.specs.Lines.{AreArguments}
 use Rattle.safl_session.specs.Scripts.{IsScript}
 use Rattle.safl_session.specs.Circuits.{IsMainReply}
@@ -61,7 +61,7 @@ pub record IsSimulated (args : List (List ℕ)) (source text : List ℕ) : Type 
   pub cycle : ℕ
   pub source_of : IsSourceOf source program names
   pub read : AreArguments (program.params program.main) args words
-  pub result : IsResult program words value cycle
+  pub result : IsExactResult program words value cycle
   pub is : text ≡ done_lines value.bits cycle
 
 abbrev pub SaySim : List ℕ → List ℕ → Traces → List (List ℕ) → List (List ℕ) → Type 0

@@ -8,7 +8,7 @@ use Rattle.safl_sim.specs.Outcomes.{IsOutcome}
 use Rattle.safl_term.specs.Program.{Program}
 use Rattle.safl_term.specs.Meaning.{Main, main_cost, loops}
 use Rattle.safl_circuit.specs.Names.{as_word}
-use Rattle.safl_circuit.specs.Correct.{IsResult, latest}
+use Rattle.safl_circuit.specs.Correct.{IsExactResult, latest}
 use Rattle.safl_compiler.specs.Sources.{IsSourceOf}
 use Rattle.safl_compiler.specs.Circuits.{IsCircuitOf}
 use Rattle.safl_session.specs.Lines.{AreArguments}
@@ -16,7 +16,7 @@ use Rattle.safl_tool.specs.Arguments.{HaveFault}
 
 -- it is main's result, in time
 abbrev pub IsValue : Program → List Word → Done → Type 0
-IsValue C words d = IsResult C words (as_word (C.result C.main) d.result.bits) d.cycle
+IsValue C words d = IsExactResult C words (as_word (C.result C.main) d.result.bits) d.cycle
 
 abbrev pub HasValue : Program → List Word → Option Done → Type 0
 HasValue C words None = Unit {0}

@@ -1,6 +1,6 @@
 -- What becomes of the probes that a command asks.
 use Rattle.std.specs.Prelude.{◌≡◌, ◌⊎◌, ℕ, List, Option, IfSome, Result, Ok, Err, false}
-use Rattle.safl_io.specs.Shelf.{Files}
+use Rattle.safl_io.specs.Shelf.{Files, ShelfState, SameFaults}
 use Rattle.safl_word.specs.Words.{Word}
 use Rattle.safl_net.specs.Netlist.{Netlist}
 use Rattle.safl_net.specs.Valuations.{Valuation}
@@ -41,9 +41,10 @@ pub record IsShown (n : Netlist) (words : List Word) (limit : ℕ) (asks : Asked
   pub is_run : IsRunOf n words limit run
   pub shown : AreShown n (until_done n run) asks ps qs
 
--- the asked probes were shown it
-abbrev pub ShowsRun : {P : Type 0} → TracedRun → FileNames → (P → ProbeState) → List P → List P → Type 0
-ShowsRun r names tell ps qs = RunIsShown r.ready.sim.net r.ready.words.items r.limit names tell ps qs
+-- the asked probes were shown it, and no read or write failed
+pub record ShowsRun {P : Type 0} (r : TracedRun) (names : FileNames) (tell : P → ProbeState) (ps qs : List P) (old new : ShelfState) : Type 0 where
+  pub shown : RunIsShown r.ready.sim.net r.ready.words.items r.limit names tell ps qs
+  pub quiet : SameFaults old new
 
 -- ---- a command
 

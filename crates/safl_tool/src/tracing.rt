@@ -76,7 +76,7 @@ fn watch<'a, S: Shelf>(
     requires asked { AreAskedFor (shown_traces run.traces.now) (asked files.now) (map (λ p. state p) probes.old.items) }
     ensures outcome { IfOk result (IsOutcome run.entry.ready.sim.net run.entry.ready.words.items run.entry.limit) }
     ensures traced { OnOk result (FilesGrow Made run.entry files.now (λ p. state p) probes.old.items (S.told shelf.old) (S.told shelf.new)) }
-    ensures told { OnOk result (ShowsRun run.entry files.now (λ p. state p) probes.old.items probes.new.items) }
+    ensures told { OnOk result (ShowsRun run.entry files.now (λ p. state p) probes.old.items probes.new.items (S.told shelf.old) (S.told shelf.new)) }
     ensures part { OnErr result (FilesGrow OldOrPart run.entry files.now (λ p. state p) probes.old.items (S.told shelf.old) (S.told shelf.new)) }
     ensures probes { KeepsProbes (asked files.now) (λ p. state p) probes.old.items probes.new.items }
     ensures refused { IfErr result (FailsToWatch files.now (λ p. state p) probes.old.items probes.new.items (S.told shelf.old) (S.told shelf.new)) }

@@ -8,6 +8,7 @@ pub loop-text-init : goal.loop-text-init
 loop-text-init g c = record {
   room = search rules;
   read = rw c.new-text.ensures.items (read_start _ _);
+  quiet = search rules;
   same_files = files_same _ _ refl;
   same_strays = search rules;
 }
@@ -19,6 +20,7 @@ loop-text-preserved g c =
     record {
       room = grind (arith, common_steps);
       read = more c.loop-text.invariant.read;
+      quiet = c.in_ok-count.ensures.quiet ∙ c.loop-text.invariant.quiet;
       same_files = files_then _ _ _ c.loop-text.invariant.same_files c.in_ok-count.ensures.same_files;
       same_strays = λ held. strays held ∙ c.loop-text.invariant.same_strays held;
     }

@@ -1,4 +1,4 @@
-use Rattle.std.proofs.Common.{ℕ, subst, arith}
+use Rattle.std.proofs.Common.{ℕ, ◌∙◌, subst, arith}
 use Rattle.safl_io.specs.Sink.{Sends, SendsPart}
 use Rattle.safl_io.specs.Told.{TellsOn}
 use Rattle.safl_session.specs.Holding.{IsBegun}
@@ -28,6 +28,9 @@ returns-in_default-clause-held g c =
     c.words.ensures
     c.in_default.ensures.none c.in_ok-send_line.ensures.sent
 
+pub returns-in_default-clause-quiet : goal.returns-in_default-clause-quiet
+returns-in_default-clause-quiet g c = c.in_ok-send_line.ensures.quiet ∙ c.calls.invariant.quiet
+
 pub returns-in_err-send_line-2-clause-begun : goal.returns-in_err-send_line-2-clause-begun
 returns-in_err-send_line-2-clause-begun g c =
     on_err (IsBegun c.args.session.now c.args.script.now c.args.limit (g.O.Sink.told c.args.out.now).sent (g.O.Sink.told c.send_line-in-calls.new.out).sent) c.from_residual-in_err-send_line-2.result
@@ -41,7 +44,7 @@ calls-preserved g c =
     held_more c.args.session.now c.args.script.now c.args.limit c.requires.ready c.requires.calls c.calls.call c.calls.session
     (g.O.Sink.told c.args.out.now) (g.O.Sink.told c.calls.out) (g.O.Sink.told c.send_line-in-calls.new.out) c.calls.invariant c.words.result.now
     c.words.ensures
-    c.in-Some.reply c.call.new.self c.in-Some.ensures.reply c.call.ensures.net c.in-Some.ensures.is_open c.in_ok-send_line-2.ensures.sent c.send_line-in-calls.ensures.later
+    c.in-Some.reply c.call.new.self c.in-Some.ensures.reply c.call.ensures.net c.in-Some.ensures.is_open c.in_ok-send_line-2.ensures.sent c.in_ok-send_line-2.ensures.quiet
 
 pub returns-in_err-send_line-3-clause-begun : goal.returns-in_err-send_line-3-clause-begun
 returns-in_err-send_line-3-clause-begun g c =
@@ -57,3 +60,6 @@ returns-clause-held g c =
     (g.O.Sink.told c.args.out.now) (g.O.Sink.told c.calls.out) (g.O.Sink.told c.send_line-2.new.out) c.calls.invariant
     (let a = c.calls-test.false in let b = c.len-call-end.ensures in omega (arith, a, b))
     (subst (λ (k : ℕ). TellsOn (Sends (calls_line k)) (g.O.Sink.told c.calls.out).sent (g.O.Sink.told c.send_line-2.new.out).sent) c.len.ensures c.in_ok-send_line-3.ensures.sent)
+
+pub returns-clause-quiet : goal.returns-clause-quiet
+returns-clause-quiet g c = c.in_ok-send_line-3.ensures.quiet ∙ c.calls.invariant.quiet

@@ -1,3 +1,4 @@
+use Rattle.std.proofs.Common.{◌∙◌}
 use Rattle.safl_io.specs.Shelf.{ShelfState}
 use Rattle.safl_task.specs.Inputs.{shown_contents}
 use Rattle.safl_task.proofs.Reading.{refused_next, strays_next, contents_next, reads_on}
@@ -26,6 +27,7 @@ inputs-preserved g c =
     record {
       read = contents_next c.args.inputs.now c.inputs.i _ c.inputs-test.true old mid c.inputs.invariant.only_reads.files c.inputs.contents.items
           c.push.new.self.items c.in-Ok.bytes c.in-Ok-push.ensures.items c.inputs.invariant.read c.in-Ok.ensures.small c.in-Ok.ensures.read;
+      quiet = c.in-Ok.ensures.quiet ∙ c.inputs.invariant.quiet;
       only_reads = reads_on old mid new c.inputs.invariant.only_reads c.in-Ok.ensures.only_reads;
       no_stray = strays_next c.args.inputs.now c.inputs.i _ c.inputs-test.true old mid new c.inputs.invariant.only_reads.files c.inputs.invariant.no_stray c.in-Ok.ensures.no_stray;
     }

@@ -9,7 +9,7 @@ returns-in-Ok g c = λ shelf asks ps qs.
     let out : SinkState = g.O.Sink.told c.args.out.now in
     let out' : SinkState = g.O.Sink.told c.put.new.self in
     lines_given shelf out out' c.args.lines c.status_if.result c.status_if.ensures
-    (subst (λ (text : List ℕ). TellsOn (Sends text) out.sent out'.sent) c.deref.ensures.value c.in-Ok.ensures.sent)
+    (subst (λ (text : List ℕ). TellsOn (Sends text) out.sent out'.sent) c.deref.ensures.value c.in-Ok.ensures.sent) c.in-Ok.ensures.quiet
 
 pub returns-in-Err-Failed : goal.returns-in-Err-Failed
 returns-in-Err-Failed g c = λ shelf asks ps qs.

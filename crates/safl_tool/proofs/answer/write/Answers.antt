@@ -10,6 +10,7 @@ returns-in-Ok-clause-gives g c = λ out asks ps qs.
     let shelf' : ShelfState = g.S.Shelf.told c.write_file.new.shelf in
     file_given shelf shelf' out c.args.name c.args.text _ refl
     (subst (λ (text : List ℕ). TellsOn (Leaves c.args.name.now text) shelf.holds shelf'.holds) c.deref.ensures.value c.in-Ok.ensures.written)
+    c.in-Ok.ensures.same_reads.reads c.in-Ok.ensures.quiet
 
 pub returns-in-Err-Failed-clause-gives : goal.returns-in-Err-Failed-clause-gives
 returns-in-Err-Failed-clause-gives g c = λ out asks ps qs.

@@ -25,7 +25,7 @@ returns-in-Ok-outcome-clause-gives g c =
     let old : Outside = outside (g.S.Shelf.told c.args.shelf.now) (g.O.Sink.told c.args.out.now) in
     let after : ShelfState = g.S.Shelf.told c.watch.new.shelf in
     let new : Outside = outside after (g.O.Sink.told c.print.new.out) in
-    outcome_gives c.args.run c.requires.can asks ps c.requires.asked c.end_law.ensures old qs after c.in-Ok.ensures.traced c.in-Ok.done c.in-Ok.ensures.outcome
+    outcome_gives c.args.run c.requires.can asks ps c.requires.asked c.end_law.ensures old qs after c.in-Ok.ensures.traced c.in-Ok.done c.in-Ok.ensures.outcome c.in-Ok.ensures.told.quiet
     c.in-Ok-outcome.lines c.in-Ok-outcome.ensures new c.print.result (c.print.ensures after asks ps qs)
 
 pub returns-in-Ok-outcome-clause-told : goal.returns-in-Ok-outcome-clause-told
@@ -36,7 +36,7 @@ returns-in-Ok-outcome-clause-told g c =
     let old : Outside = outside (g.S.Shelf.told c.args.shelf.now) (g.O.Sink.told c.args.out.now) in
     let end = ending c.args.run c.requires.can asks ps c.requires.asked c.end_law.ensures old in
     let told : IsShown c.args.run.ready.sim.net c.args.run.ready.words.items c.args.run.limit asks ps qs =
-        record { answer = c.in-Ok.done; outcome = c.in-Ok.ensures.outcome; run = end.run; is_run = end.is_run; shown = c.in-Ok.ensures.told end.run end.is_run } in
+        record { answer = c.in-Ok.done; outcome = c.in-Ok.ensures.outcome; run = end.run; is_run = end.is_run; shown = c.in-Ok.ensures.told.shown end.run end.is_run } in
     when_ok c.print.result _ told
 
 pub returns-in-Err-outcome-clause-gives : goal.returns-in-Err-outcome-clause-gives
@@ -46,4 +46,4 @@ returns-in-Err-outcome-clause-gives g c =
     let asks : Asked = asked c.args.files.now in
     let old : Outside = outside (g.S.Shelf.told c.args.shelf.now) (g.O.Sink.told c.args.out.now) in
     let after : ShelfState = g.S.Shelf.told c.watch.new.shelf in
-    unprinted c.args.run c.requires.can asks ps c.requires.asked c.end_law.ensures old qs after c.in-Ok.ensures.traced c.in-Ok.done c.in-Ok.ensures.outcome
+    unprinted c.args.run c.requires.can asks ps c.requires.asked c.end_law.ensures old qs after c.in-Ok.ensures.traced c.in-Ok.done c.in-Ok.ensures.outcome c.in-Ok.ensures.told.quiet

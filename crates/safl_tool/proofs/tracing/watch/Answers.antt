@@ -39,9 +39,12 @@ returns-in-Ok-clause-traced g c =
     c.deref.ensures.value (asked_are_apart (shown_traces c.args.run.traces.now) names ps c.args.run.traces.now.separate c.requires.asked) c.in-Ok.ensures.traced.files
 
 pub returns-in-Ok-clause-told : goal.returns-in-Ok-clause-told
-returns-in-Ok-clause-told g c =
-    subst (λ (l : List Word). RunIsShown c.args.run.ready.sim.net l c.args.run.limit c.args.files.now (λ p. (goal.Probe-dyn g (p.vtable, p.value)).state p.value)
-    c.args.probes.now.items c.drive.new.probes.items) c.deref.ensures.value c.in-Ok.ensures.traced.shown
+returns-in-Ok-clause-told g c = record {
+  shown =
+      subst (λ (l : List Word). RunIsShown c.args.run.ready.sim.net l c.args.run.limit c.args.files.now (λ p. (goal.Probe-dyn g (p.vtable, p.value)).state p.value)
+      c.args.probes.now.items c.drive.new.probes.items) c.deref.ensures.value c.in-Ok.ensures.traced.shown;
+  quiet = c.in-Ok.ensures.traced.quiet;
+}
 
 pub returns-in-Err-Probe-clause-part : goal.returns-in-Err-Probe-clause-part
 returns-in-Err-Probe-clause-part g c =

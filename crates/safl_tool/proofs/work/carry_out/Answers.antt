@@ -109,7 +109,7 @@ returns-clause-does g c =
     subst (λ l. AreContents old.outside.shelf.holds t.inputs (shown_contents l)) (sym c.deref-2.ensures.value)
     (subst (λ (l : List Input). AreContents old.outside.shelf.holds l (shown_contents c.in-Ok-read_inputs.contents.items)) is c.in-Ok-read_inputs.ensures.read) in
     gives_does t (asked c.args.files.now) old new mid c.in-Ok-read_inputs.ensures.only_reads (shown_contents c.deref-2.result.now) are
-    c.in-Ok-answer_of.answer c.in-Ok-answer_of.ensures.answers c.give.result c.give.ensures.gives
+    c.in-Ok-answer_of.answer c.in-Ok-answer_of.ensures.answers c.in-Ok-read_inputs.ensures.quiet c.give.result c.give.ensures.gives
 
 pub returns-clause-spares : goal.returns-clause-spares
 returns-clause-spares g c =
