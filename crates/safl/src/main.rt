@@ -10,7 +10,7 @@ use std::os::fd::AsRawFd;
 use std::process::ExitCode;
 use std::{env, fs, io};
 
-// The status where the words can't be had.
+// The exit status if the words of the command line cannot be read.
 const NO_WORDS: u8 = 20;
 
 // The number of standard error, the last of the three standard descriptors.
@@ -28,8 +28,9 @@ fn main(rt: HostRuntime) -> ExitCode {
     ExitCode::from(status.number())
 }
 
-// Takes the lowest standard descriptor that is closed, if one is, so that no file that is opened later gets its number and, with
-// it, what is printed. A folder can neither be written nor read as a file, so what is printed there fails, as it should.
+// Opens a folder on the lowest standard descriptor that is closed, if there is one. Otherwise a file that is opened
+// later would get that number, and what is printed would go into the file. A folder can be neither read nor written as
+// a file, so printing there fails, as it should.
 fn hold_closed(rt: &HostRuntime) -> Option<File> {
     let file = match fs::open(rt, "/") {
         Ok(file) => file,
@@ -42,7 +43,7 @@ fn hold_closed(rt: &HostRuntime) -> Option<File> {
     }
 }
 
-// Does what the words ask for, with one probe of each kind.
+// Runs a command line with one probe of each kind.
 fn run_with_probes(rt: &HostRuntime, words: &[String]) -> Result<Status, AllocError> {
     let alloc = rt.alloc();
     let mut probes: Vec<Box<dyn Probe>> = Vec::new(alloc);
@@ -55,7 +56,7 @@ fn run_with_probes(rt: &HostRuntime, words: &[String]) -> Result<Status, AllocEr
     Ok(run(alloc, words, &mut shelf, &mut out, &mut err, &mut probes))
 }
 
-// The words after the program's name.
+// The words of the command line after the program's name.
 fn words_of(rt: &HostRuntime) -> io::Result<Vec<String>> {
     let mut words = Vec::new(rt.alloc());
     for word in env::args(rt)?.skip(1) {

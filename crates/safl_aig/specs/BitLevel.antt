@@ -9,14 +9,15 @@ use Rattle.safl_aig.specs.Places.{HasNames, Answers}
 use Rattle.safl_aig.specs.Weights.{weight, most_weight, AllZero}
 use Rattle.safl_aig.specs.declared.conversion.BlastErr.{BlastErr}
 
--- In every cycle, for every list of inputs, each bit of each register and output of the circuit is the netlist's; its inputs,
--- latches and outputs are named for the netlist's bits, and it has at most 16 ANDs for each unit of the netlist's weight.
+-- In every cycle, for every list of inputs, each bit of each register and output of the circuit is that of the netlist. The
+-- circuit's inputs, latches and outputs are named after the netlist's bits. It has at most 16 ANDs for each unit of the netlist's
+-- weight.
 pub record IsBitLevel (n : Netlist) (a : Circuit) : Type 0 where
   pub same : SameBits n a
   pub named : HasNames n a
   pub few : length a.ands ≤ 16 * weight n
 
--- all registers of the netlist reset to 0, and it is light enough
+-- all registers of the netlist reset to 0, and its weight is within the limit
 pub record IsLight (n : Netlist) : Type 0 where
   pub zero : AllZero n
   pub light : weight n ≤ most_weight
@@ -29,7 +30,7 @@ pub record IsTextOf (n : Netlist) (text : List ℕ) : Type 0 where
   pub is : text ≡ written circuit
   pub reads : AigReads text circuit
 
--- why the netlist is made no circuit: its least register that does not reset to 0; or all do, and its weight is too great; or
--- neither, and memory ran out
+-- Why a netlist has no circuit: its first register that does not reset to 0; or, if all do, a weight that is too great; or, if it
+-- is light, out of memory.
 abbrev pub IsRefused : Netlist → BlastErr → Type 0
 IsRefused n e = Answers n (Err e)

@@ -1,4 +1,4 @@
--- The bits of signals, in the net's order.
+-- The bits of signals, in the order of the net.
 use Rattle.std.specs.Prelude.{ℕ, zero, suc, ◌+◌, List, [], ◌++◌, length, Bool, true, false, cond, Option, Some, None, slice_get}
 use Rattle.safl_net.specs.Netlist.{Netlist, Kind, Input, Reg, Wire, width_of}
 use Rattle.safl_net.specs.Making.{kind_at}
@@ -19,17 +19,17 @@ is_wire Input = false
 is_wire (Reg init next) = false
 is_wire (Wire cell) = true
 
--- the lists for the first numbers, one after another
+-- the lists of the numbers below n, joined in order
 abbrev pub gathered : {A : Type 0} → (ℕ → List A) → ℕ → List A
 gathered f zero = []
 gathered f (suc k) = gathered f k ++ f k
 
--- the sum over the first numbers
+-- the sum of f over the numbers below n
 abbrev pub summed : (ℕ → ℕ) → ℕ → ℕ
 summed f zero = 0
 summed f (suc k) = summed f k + f k
 
--- what stands for the signals of a kind
+-- the list for a signal of a kind, empty for signals of other kinds
 abbrev pub of_kind : {A : Type 0} → (Kind → Bool) → Netlist → (ℕ → List A) → ℕ → List A
 of_kind test n f s = cond (test (kind_at n s)) (f s) []
 
@@ -50,6 +50,6 @@ output_at n i = shown_in (slice_get n.outputs i)
 abbrev pub for_outputs : {A : Type 0} → Netlist → (ℕ → List A) → List A
 for_outputs n f = gathered (λ i. f (output_at n i)) (length n.outputs)
 
--- the bits of a signal, where signals have these numbers
+-- the bits of a signal, given the numbers of all signals
 abbrev pub signal_bits : Netlist → (ℕ → ℕ) → ℕ → List Bool
 signal_bits n f s = bits_of (width_of n s) (f s)

@@ -1,4 +1,4 @@
--- What is claimed of nets and bit-level circuits.
+-- The laws of nets and bit-level circuits.
 use Rattle.safl_net.specs.Netlist.{Netlist}
 use Rattle.safl_aiger.specs.Circuits.{Circuit}
 use Rattle.safl_aig.specs.Mirrors.{Mirrors, SameBits}

@@ -8,7 +8,7 @@ use Rattle.safl_aiger.specs.Circuits.{Circuit, latches, base}
 use Rattle.safl_aiger.specs.Runs.{Wired, input_bits, latch_bits, output_bits, next_bits, Runs}
 use Rattle.safl_aig.specs.Bits.{for_inputs, for_registers, for_outputs, signal_bits}
 
--- one cycle after another from a state, with any inputs
+-- the valuations are the cycles of a run from some state, with any inputs
 abbrev pub RunsOn : Netlist → (ℕ → ℕ) → List Valuation → Type 0
 RunsOn n state [] = Unit {0}
 RunsOn n state (v ∷ vs) = Fits n state v × RunsOn n (next_state n v) vs
@@ -17,18 +17,18 @@ RunsOn n state (v ∷ vs) = Fits n state v × RunsOn n (next_state n v) vs
 abbrev pub given_bits : Netlist → Valuation → List Bool
 given_bits n v = for_inputs n (signal_bits n (slice_index v))
 
--- in one cycle, each bit of each register and output
+-- in one cycle, each bit of each register and output is the same
 pub record EqualBits (n : Netlist) (a : Circuit) (v : Valuation) (m : Assignment) : Type 0 where
   pub registers : latch_bits a m ≡ for_registers n (signal_bits n (slice_index v))
   pub outputs : output_bits a m ≡ for_outputs n (signal_bits n (slice_index v))
 
--- in every cycle, for every list of inputs
+-- in every cycle, for every list of inputs, the bits are the same
 abbrev pub SameBits : Netlist → Circuit → Type 0
 SameBits n a =
     (vs : List Valuation) (ms : List Assignment) → RunsOn n (reset_state n) vs → Runs a (map (given_bits n) vs) ms → AllZip (EqualBits n a) vs ms
 
--- What has to be shown of one cycle: where inputs and latches have the bits of inputs and registers, outputs have those of
--- outputs, and latches those of registers in the next cycle.
+-- What has to be shown of one cycle: if inputs and latches have the bits of the net's inputs and registers, then the circuit's
+-- outputs have the bits of the net's outputs, and in the next cycle its latches those of the net's registers.
 pub record Mirrors (n : Netlist) (a : Circuit) : Type 0 where
   pub resets : (s : ℕ) → reset_state n s ≡ 0
   pub count : latches a ≡ length (for_registers n (signal_bits n (reset_state n)))

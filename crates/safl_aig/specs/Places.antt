@@ -1,4 +1,4 @@
--- Names and literals of the places of a bit-level circuit.
+-- Names and literals of inputs, latches and outputs.
 use Rattle.std.specs.Prelude.{◌≡◌, ℕ, zero, suc, ◌<◌, ◌≤◌, List, [], ◌∷◌, ◌++◌, length, Option, Some, None, Result, Ok, Err, codes, decimal, unwrap_or, slice_get}
 use Rattle.safl_net.specs.Netlist.{Netlist, width_of}
 use Rattle.safl_net.specs.Making.{kind_at, name_at, next_in}
@@ -15,18 +15,18 @@ use Rattle.safl_aig.specs.Tables.{lits_at}
 abbrev pub next_sig : Netlist → ℕ → ℕ
 next_sig n s = unwrap_or (next_in (kind_at n s)) 0
 
--- what latches and outputs take
+-- the literals that latches take in the next cycle, and those of outputs
 abbrev pub next_lits : Netlist → List Pins → List Lit
 next_lits n table = for_registers n (λ s. lits_at table (next_sig n s))
 
 abbrev pub output_lits : Netlist → List Pins → List Lit
 output_lits n table = for_outputs n (lits_at table)
 
--- the name of a bit is the signal's or output's and the bit's number in brackets
+-- the name of a bit: that of its signal or output, and the number of the bit in brackets
 abbrev pub bit_name : List ℕ → ℕ → List ℕ
 bit_name name b = name ++ codes "[" ++ decimal b ++ codes "]"
 
--- the names of so many bits
+-- the names of the bits of a signal or output of width w
 abbrev pub bit_names : List ℕ → ℕ → List (List ℕ)
 bit_names name zero = []
 bit_names name (suc k) = bit_names name k ++ bit_name name k ∷ []
@@ -46,7 +46,7 @@ pub record HasNames (n : Netlist) (a : Circuit) : Type 0 where
   pub latches : a.latch_names ≡ for_registers n (signal_names n)
   pub outputs : a.output_names ≡ gathered (output_names n) (length n.outputs)
 
--- each answer exactly if it has to come; out of memory alone is free
+-- each answer of the conversion comes exactly if it has to, except that out of memory may always come
 abbrev pub Answers : Netlist → Result Circuit BlastErr → Type 0
 Answers n (Ok a) = AllZero n × (weight n ≤ most_weight)
 Answers n (Err (InitNotZero s)) = IsLeastNonzero n s.0

@@ -1,4 +1,4 @@
--- Tables of literals by signal.
+-- Tables with the literals of each signal.
 use Rattle.std.specs.Prelude.{◌≡◌, ℕ, zero, suc, ◌+◌, ◌*◌, List, map, [], ◌∷◌, length, Option, Some, None, Bool, cond, slice_get}
 use Rattle.safl_word.specs.Words.{Word}
 use Rattle.safl_net.specs.Netlist.{Netlist, Kind, Input, Reg, Wire, Cell, width_of}
@@ -25,21 +25,21 @@ lits_in (Some p) = p.bits.items
 abbrev pub lits_at : List Pins → ℕ → List Lit
 lits_at table s = lits_in (slice_get table s)
 
--- a literal for each bit, all of the graph
+-- the signal has a literal for each bit, and the graph has all their variables
 pub record Ready (n : Netlist) (g : Gates) (table : List Pins) (s : ℕ) : Type 0 where
   pub long : length (lits_at table s) ≡ width_of n s
   pub fits : AreLiterals g (lits_at table s)
 
--- the literals show the signal's number
+-- the literals of the signal show its number
 abbrev pub Agrees : Assignment → (ℕ → ℕ) → List Pins → ℕ → Type 0
 Agrees m f table s = shown m (lits_at table s) ≡ f s
 
--- the variables from a number on, as literals
+-- the literals of so many variables, from a number on
 abbrev pub variable_lits : ℕ → ℕ → List Lit
 variable_lits first zero = []
 variable_lits first (suc k) = record { 0 = 2 * first } ∷ variable_lits (suc first) k
 
--- the width of a signal of a kind, else 0
+-- the width of a signal if it is of a kind, else 0
 abbrev pub width_if : (Kind → Bool) → Netlist → ℕ → ℕ
 width_if test n s = cond (test (kind_at n s)) (width_of n s) 0
 
@@ -56,7 +56,7 @@ latch_count n = bits_before is_register n (length n.signals)
 abbrev pub first_and : Netlist → ℕ
 first_and n = 1 + input_count n + latch_count n
 
--- the variables of a signal's bits: inputs first, then registers; a wire has none
+-- the literals of a signal's bits. The variables of inputs come first, then those of registers; a wire has none yet
 abbrev pub kind_lits : Netlist → ℕ → Kind → List Lit
 kind_lits n s Input = variable_lits (1 + bits_before is_input n s) (width_of n s)
 kind_lits n s (Reg init next) = variable_lits (1 + input_count n + bits_before is_register n s) (width_of n s)
@@ -65,34 +65,34 @@ kind_lits n s (Wire cell) = []
 abbrev pub source_lits : Netlist → ℕ → List Lit
 source_lits n s = kind_lits n s (kind_at n s)
 
--- a signal is of this sort
+-- whether a signal is of this kind
 abbrev pub kind_test : SigKind → Kind → Bool
 kind_test sorts.Input k = is_input k
 kind_test sorts.Reg k = is_register k
 kind_test sorts.Wire k = is_wire k
 
--- the operands of a cell are ready
+-- the operands of a cell have their literals
 abbrev pub AreReady : Netlist → Gates → List Pins → Cell → Type 0
 AreReady n g table c = (k t : ℕ) → slice_get c.operands k ≡ Some t → Ready n g table t
 
 abbrev pub word_of : Netlist → (ℕ → ℕ) → ℕ → Word
 word_of n f t = record { width = width_of n t; bits = f t }
 
--- literals for a cell's word, on whatever its operands show
+-- the literals show the cell's word, whatever numbers its operands show
 pub record CellMade (n : Netlist) (g : Gates) (table : List Pins) (c : Cell) (r : List Lit) : Type 0 where
   pub fits : AreLiterals g r
   pub long : (w : ℕ) → CellFits n w c → length r ≡ w
   pub value : (m : Assignment) (f : ℕ → ℕ) → Holds g m → ((k t : ℕ) → slice_get c.operands k ≡ Some t → Agrees m f table t)
       → shown m r ≡ (cell_word c.op (map (word_of n f) c.operands)).bits
 
--- there is room for what the cell may take, and no more is taken
+-- The graph has room for what a cell may take, and a cell takes no more than that.
 abbrev pub RoomFor : Netlist → Gates → Cell → Type 0
 RoomFor n g c = (w : ℕ) × CellFits n w c × HasRoom g (16 * op_weight c.op w (widths n c.operands))
 
 abbrev pub GrowsFor : Netlist → Gates → Gates → Cell → Type 0
 GrowsFor n old new c = (w : ℕ) → CellFits n w c → Grows old new (16 * op_weight c.op w (widths n c.operands))
 
--- literals for the word of an operation on words
+-- the literals show the result of an operation on words
 pub record OpMade (op : Op) (gs : List (List Lit)) (g : Gates) (r : List Lit) : Type 0 where
   pub fits : AreLiterals g r
   pub long : op_width op (map length gs) ≡ Some (length r)

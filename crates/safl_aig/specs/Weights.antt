@@ -1,4 +1,4 @@
--- How heavy a net is.
+-- The weight of a net.
 use Rattle.std.specs.Prelude.{◌≡◌, ℕ, ◌≢◌, ◌+◌, ◌<◌, List, ◌∷◌, length, Some, None}
 use Rattle.safl_net.specs.declared.cell.Op.{Op}
 use Rattle.safl_net.specs.declared.cell.Op.TheVariants.{Const, Copy, Mux, Apply}
@@ -8,7 +8,7 @@ use Rattle.safl_net.specs.Valuations.{reset_state}
 use Rattle.safl_bits.specs.Weights.{greatest, apply_weight}
 use Rattle.safl_aig.specs.Bits.{summed, output_at}
 
--- by the operation, the width of its word and those of its operands
+-- the weight of an operation, by the width of its result and those of its operands
 abbrev pub op_weight : Op → ℕ → List ℕ → ℕ
 op_weight (Const x) w ws = greatest (w ∷ ws)
 op_weight Copy w ws = greatest (w ∷ ws)
@@ -30,7 +30,7 @@ output_weight n i = width_of n (output_at n i)
 abbrev pub weight : Netlist → ℕ
 weight n = summed (signal_weight n) (length n.signals) + summed (output_weight n) (length n.outputs)
 
--- the greatest weight of a net that is made a bit-level circuit
+-- the greatest weight of a net that is converted
 abbrev pub most_weight : ℕ
 most_weight = 1000000
 
@@ -41,7 +41,7 @@ IsNonzero n s = reset_state n s ≢ 0
 abbrev pub AllZero : Netlist → Type 0
 AllZero n = (s : ℕ) → reset_state n s ≡ 0
 
--- the register's word at reset is not 0, and no register's before it
+-- the register's word at reset is not 0, and that of every register before it is
 pub record IsLeastNonzero (n : Netlist) (s : ℕ) : Type 0 where
   pub known : s < length n.signals
   pub nonzero : IsNonzero n s

@@ -13,22 +13,22 @@ use Rattle.safl_aig.specs.Tables.{lits_at, Ready, Agrees, source_lits, first_and
 abbrev pub OperandsReady : Netlist → Gates → List Pins → ℕ → Type 0
 OperandsReady n g table s = (k t : ℕ) → slice_get (operands_of n s) k ≡ Some t → Ready n g table t
 
--- the operands of a wire show their numbers
+-- the literals of a wire's operands show their numbers
 abbrev pub OperandsAgree : Netlist → Assignment → Valuation → List Pins → ℕ → Type 0
 OperandsAgree n m v table s = (k t : ℕ) → slice_get (operands_of n s) k ≡ Some t → Agrees m (slice_index v) table t
 
--- literals for a wire
+-- the literals of a wire show its number if those of its operands do
 pub record WireMade (n : Netlist) (g : Gates) (table : List Pins) (s : ℕ) (r : List Lit) : Type 0 where
   pub fits : AreLiterals g r
   pub long : length r ≡ width_of n s
   pub value : (m : Assignment) (state : ℕ → ℕ) (v : Valuation) → Holds g m → Fits n state v → OperandsAgree n m v table s → shown m r ≡ slice_index v s
 
--- inputs and registers show their numbers
+-- the literals of inputs and registers show their numbers
 abbrev pub SourcesAgree : Netlist → Assignment → Valuation → List Pins → Type 0
 SourcesAgree n m v table = (s : ℕ) → s < length n.signals → ¬ (IsWire n s) → Agrees m (slice_index v) table s
 
--- Each signal has its literals: inputs and registers their variables, and wires what shows their number where inputs and
--- registers show theirs.
+-- Each signal has its literals: inputs and registers their variables. The literals of a wire show its number if those of inputs
+-- and registers show theirs.
 pub record Connected (n : Netlist) (g : Gates) (table : List Pins) : Type 0 where
   pub first : g.first ≡ first_and n
   pub few : length g.ands ≤ 16 * weight n

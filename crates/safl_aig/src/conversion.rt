@@ -15,20 +15,21 @@ use safl_order::Ordered;
 use safl_word::NoMemory;
 use std::alloc::Global;
 
-/// The greatest weight of a net that is made a bit-level circuit.
+/// The greatest weight of a net that `blast` converts.
 pub const WEIGHT_MAX: u64 = 1_000_000;
 
-/// Why a net is made no bit-level circuit.
+/// Why `blast` makes no bit-level circuit of a net.
 #[derive(Clone, Copy, Debug, PartialEq, Eq)]
 pub enum BlastErr {
-    /// The least register whose word at reset is not 0.
+    /// The first register whose word at reset is not 0.
     InitNotZero(Sig),
     /// The net's weight, which is above `WEIGHT_MAX`.
     TooLarge(u64),
     NoMemory,
 }
 
-/// The bit-level circuit of a net: for every list of inputs, in every cycle each bit of each register and output is the net's.
+/// The bit-level circuit of a net. For every list of inputs, in every cycle, each bit of each register and output has
+/// the value that it has in the net.
 pub fn blast(alloc: Global, o: &Ordered) -> Result<Aig, BlastErr>
     ensures answers { Answers o.now.net result }
     ensures mirrors { IfOk result (λ a. Mirrors o.now.net a) }
@@ -50,7 +51,7 @@ pub fn blast(alloc: Global, o: &Ordered) -> Result<Aig, BlastErr>
     }
 }
 
-// The circuit of a light net whose registers reset to 0.
+// The circuit of a net that is within the limit of weight and whose registers are all 0 at reset.
 fn circuit(alloc: Global, o: &Ordered) -> Result<Aig, NoMemory>
     requires zero { AllZero o.now.net }
     requires light { weight o.now.net ≤ most_weight }

@@ -2,7 +2,7 @@
 
 ghost use Rattle.safl_aig.specs.Laws.{MirrorLaw};
 
-/// A circuit that mirrors each cycle of a net mirrors its runs, for every list of inputs.
+/// If a circuit mirrors a net in every cycle, it mirrors the net's runs, for every list of inputs.
 pub fn mirror_law()
     ensures { MirrorLaw }
 {}

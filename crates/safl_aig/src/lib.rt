@@ -1,5 +1,4 @@
-//! From a netlist to a bit-level circuit and its text, and lines that tell of circuits. The calls of `safl_aiger` on circuits are called
-//! by this name too.
+//! Bit-level circuits of netlists, their AIGER texts, and what the program prints about them.
 #![tactic(auto)]
 
 pub mod conversion;

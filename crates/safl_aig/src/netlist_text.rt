@@ -10,7 +10,7 @@ use safl_order::Ordered;
 use safl_word::NoMemory;
 use std::alloc::Global;
 
-/// The text of the bit-level circuit of a net, or why it has none.
+/// The AIGER text of a net's bit-level circuit, or why the net has none.
 pub fn aiger_text(alloc: Global, o: &Ordered) -> Result<Vec<u8>, BlastErr>
     ensures text { IfOk result (λ text. IsTextOf o.now.net text.items) }
     ensures refused { IfErr result (IsRefused o.now.net) }

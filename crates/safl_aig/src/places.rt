@@ -1,4 +1,4 @@
-//! Names and literals of the places of a bit-level circuit.
+//! The names of a bit-level circuit's inputs, latches and outputs, and the literals that latches and outputs take.
 
 ghost use Rattle.std.specs.Prelude.{◌≡◌, ℕ, ◌+◌, ◌<◌, ◌≤◌, ◌++◌, length, OnOk, IfOk};
 ghost use Rattle.safl_net.specs.Netlist.{AllSet, width_of};
@@ -15,7 +15,7 @@ use safl_net::{Net, Sig, SigKind};
 use safl_word::{NoMemory, push_decimal};
 use std::alloc::{AllocError, Global};
 
-/// The literals of the registers' next signals.
+/// The literals of the registers' next signals, bit by bit.
 pub fn next_lits(alloc: Global, net: &Net, table: &[Pins]) -> Result<Vec<Lit>, AllocError>
     requires set { AllSet net.now }
     requires long { length table.now ≡ length net.now.signals }
@@ -47,7 +47,7 @@ fn push_next(all: &mut Vec<Lit>, net: &Net, table: &[Pins], s: Sig) -> Result<()
     }
 }
 
-/// The literals of the outputs.
+/// The literals of the outputs, bit by bit.
 pub fn output_lits(alloc: Global, net: &Net, table: &[Pins]) -> Result<Vec<Lit>, AllocError>
     requires netlist { IsNetlist net.now }
     requires long { length table.now ≡ length net.now.signals }
@@ -60,7 +60,7 @@ pub fn output_lits(alloc: Global, net: &Net, table: &[Pins]) -> Result<Vec<Lit>,
     Ok(all)
 }
 
-/// The names of all places.
+/// The names of all inputs, latches and outputs.
 pub fn names(alloc: Global, net: &Net) -> Result<Names, NoMemory>
     ensures inputs { IfOk result (λ r. names_of r.inputs.items ≡ for_inputs net.now (signal_names net.now)) }
     ensures latches { IfOk result (λ r. names_of r.latches.items ≡ for_registers net.now (signal_names net.now)) }
@@ -111,7 +111,7 @@ fn output_names(alloc: Global, net: &Net) -> Result<Vec<Name>, NoMemory>
     Ok(all)
 }
 
-// Appends the names of so many bits.
+// Appends a name for each bit of the signal `name`.
 fn push_names(alloc: Global, all: &mut Vec<Name>, name: &str, width: u8) -> Result<(), NoMemory>
     ensures { OnOk result (names_of all.new.items ≡ names_of all.old.items ++ bit_names name.now width) }
 {

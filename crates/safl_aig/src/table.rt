@@ -23,7 +23,7 @@ pub fn literals(table: &[Pins], s: Sig) -> &[Lit]
     &table[s.0 as usize].bits
 }
 
-/// The number of bits of all signals of a sort.
+/// The number of bits of all signals of one kind.
 pub fn count_bits(net: &Net, sort: SigKind) -> u64
     ensures { result ≡ bits_before (kind_test sort) net.now (length net.now.signals) }
 {
@@ -34,7 +34,7 @@ pub fn count_bits(net: &Net, sort: SigKind) -> u64
     sum
 }
 
-// The width of a signal of that sort, else 0.
+// The width of a signal if it is of this kind, else 0.
 fn width_if(net: &Net, sort: SigKind, s: Sig) -> u32
     requires { s.0 < length net.now.signals }
     ensures width { result ≡ width_if (kind_test sort) net.now s.0 }
@@ -47,7 +47,8 @@ fn width_if(net: &Net, sort: SigKind, s: Sig) -> u32
     }
 }
 
-/// Variables for the bits of inputs and registers, and nothing for wires.
+/// A table with variables for the bits of inputs and registers. Wires have no literals yet. `inputs` is the number of
+/// bits of all inputs: the variables of registers follow theirs.
 pub fn sources(alloc: Global, net: &Net, inputs: u32) -> Result<Vec<Pins>, AllocError>
     requires inputs { inputs ≡ input_count net.now }
     requires few { first_and net.now ≤ 1073741824 }
@@ -66,7 +67,7 @@ pub fn sources(alloc: Global, net: &Net, inputs: u32) -> Result<Vec<Pins>, Alloc
     Ok(table)
 }
 
-// The variables of a signal, where the next input and the next latch have these.
+// The variables of an input or a register. `input` and `latch` are the next free variables of each kind.
 fn source(alloc: Global, net: &Net, s: Sig, input: u32, latch: u32) -> Result<Vec<Lit>, AllocError>
     requires known { s.0 < length net.now.signals }
     requires input { input ≡ 1 + bits_before is_input net.now s.0 }
@@ -82,7 +83,7 @@ fn source(alloc: Global, net: &Net, s: Sig, input: u32, latch: u32) -> Result<Ve
     }
 }
 
-// So many variables as literals.
+// The literals of `count` variables, from `first` on.
 fn variables(alloc: Global, first: u32, count: u8) -> Result<Vec<Lit>, AllocError>
     requires { first + count ≤ 1073741824 }
     ensures { IfOk result (λ r. r.items ≡ variable_lits first count) }

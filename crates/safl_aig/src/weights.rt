@@ -1,4 +1,4 @@
-//! How heavy a net is, and whether its registers reset to 0.
+//! The weight of a net, which bounds the ANDs that it takes, and the test that all registers reset to 0.
 
 ghost use Rattle.std.specs.Prelude.{◌≡◌, ℕ, ◌+◌, ◌*◌, ◌<◌, ◌≤◌, ◌∷◌, ◌↔◌, List, length, IsNone, IfSome, IsTrue};
 ghost use Rattle.safl_net.specs.Netlist.{width_of};
@@ -12,7 +12,7 @@ ghost use Rattle.safl_aig.specs.Weights.{op_weight, signal_weight, output_weight
 use safl_net::{Cell, Net, Op, Sig, SigKind};
 use safl_word::Primitive;
 
-/// The least register whose word at reset is not 0.
+/// The first register whose word at reset is not 0.
 pub fn first_nonzero(net: &Net) -> Option<Sig>
     ensures none { IsNone result ↔ AllZero net.now }
     ensures least { IfSome result (λ s. IsLeastNonzero net.now s.0) }
@@ -35,7 +35,7 @@ fn is_nonzero(net: &Net, s: Sig) -> bool
     }
 }
 
-/// The weight of a net.
+/// The weight of a net: the sum of the weights of its signals and outputs.
 pub fn weight(net: &Net) -> u64
     ensures { result ≡ weight net.now }
 {
@@ -126,7 +126,8 @@ fn cell_weight(net: &Net, cell: &Cell, width: u64) -> u64
     }
 }
 
-// The weight of an operation by the width of its word and of its second operand, and the greatest width of its operands.
+// The weight of an operation whose result has width `width`. `other` is the width of its second operand, `most` the
+// greatest width of an operand.
 fn op_weight(op: &Op, width: u64, other: u64, most: u64) -> u64
     requires width { width ≤ 128 }
     requires second { other ≤ 128 }

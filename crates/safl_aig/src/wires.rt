@@ -21,7 +21,7 @@ use safl_bits::words::{choice, constant};
 use safl_net::{Cell, Net, Op, Sig};
 use std::alloc::{AllocError, Global};
 
-/// The literals of a cell's word.
+/// The literals of the word that a cell computes.
 pub fn cell_bits(
     alloc: Global,
     g: &mut Graph,
@@ -55,7 +55,7 @@ pub fn cell_bits(
     }
 }
 
-// The word of an operation without operands, on one, on two and on three.
+// The literals of an operation without operands. The next three functions are for one, two and three operands.
 fn none_made(alloc: Global, g: &Graph, op: &Op) -> Result<Vec<Lit>, AllocError>
     requires taken { (w : ℕ) × (op_width op.now [] ≡ Some w) }
     ensures made { IfOk result (λ r. OpMade op.now [] g.now r.items) }
@@ -119,7 +119,7 @@ fn three_made(
     }
 }
 
-/// The literals of a wire, where its operands have theirs.
+/// The literals of a wire whose operands have theirs in the table.
 pub fn wire_bits(
     alloc: Global,
     g: &mut Graph,

@@ -11,14 +11,14 @@ use safl_bits::Graph;
 use safl_order::Ordered;
 use std::alloc::{AllocError, Global};
 
-/// The literals of all signals, and the ANDs behind them.
+/// The literals of all signals, and the ANDs that compute them.
 #[derive(Drop)]
 pub struct Wiring {
     pub graph: Graph,
     pub table: Vec<Pins>,
 }
 
-/// Connects all signals. The numbers are those of the bits of inputs and of registers.
+/// Connects all signals of a net. `inputs` and `latches` are the numbers of bits of its inputs and registers.
 pub fn connect(alloc: Global, o: &Ordered, inputs: u32, latches: u32) -> Result<Wiring, AllocError>
     requires inputs { inputs ≡ input_count o.now.net }
     requires latches { latches ≡ latch_count o.now.net }

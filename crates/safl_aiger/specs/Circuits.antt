@@ -4,7 +4,7 @@ use Rattle.safl_aiger.specs.declared.literal.Lit.{Lit}
 use Rattle.safl_aiger.specs.declared.circuit.Name.{Name}
 use Rattle.safl_aiger.specs.declared.circuit.Names.{Names}
 
--- The variables are numbered inputs, latches, ANDs from 1. A latch has its next literal, an AND its two operands.
+-- Variables are numbered from 1: inputs, then latches, then ANDs. A latch has its next literal, an AND its two operands.
 pub record Circuit : Type 0 where
   pub inputs : ℕ
   pub nexts : List Lit
@@ -14,11 +14,11 @@ pub record Circuit : Type 0 where
   pub latch_names : List (List ℕ)
   pub output_names : List (List ℕ)
 
--- the bytes of names
+-- the names as lists of bytes
 abbrev pub names_of : List Name → List (List ℕ)
 names_of xs = map (λ (n : Name). n.bytes.items) xs
 
--- the circuit that the parts make
+-- the circuit that is made of these parts
 abbrev pub circuit_of : List Lit → List Lit → List (Lit × Lit) → Names → Circuit
 circuit_of nexts outputs ands names =
     record {
@@ -38,15 +38,15 @@ latches a = length a.nexts
 abbrev pub base : Circuit → ℕ
 base a = 1 + a.inputs + latches a
 
--- the number of variables that aren't false for good
+-- the number of variables other than variable 0
 abbrev pub variables : Circuit → ℕ
 variables a = a.inputs + latches a + length a.ands
 
--- a name of a place: it may be empty, and has no line feed
+-- a name of an input, latch or output: it has no line feed, and may be empty
 abbrev pub IsLine : List ℕ → Type 0
 IsLine name = All (λ c. c ≢ 10) name
 
--- the operands of each AND are below its own literal
+-- the operands of each AND have lower literals than the AND itself
 abbrev pub AreBelow : ℕ → List (Lit × Lit) → Type 0
 AreBelow first ands = (k : ℕ) (p : Lit × Lit) → slice_get ands k ≡ Some p → (p.0.0 < 2 * (first + k)) × (p.1.0 < 2 * (first + k))
 

@@ -1,4 +1,4 @@
--- Literals, and numbers that lists of them stand for.
+-- Literals, and the numbers that lists of them show.
 use Rattle.std.specs.Prelude.{ℕ, zero, suc, ◌+◌, ◌*◌, ◌/◌, ◌%◌, List, [], ◌∷◌, map, Bool, not, cond, ◌==◌}
 use Rattle.safl_word.specs.Primitives.{bit_of}
 use Rattle.safl_aiger.specs.declared.literal.Lit.{Lit}
@@ -17,16 +17,16 @@ on m l = on_number m l.0
 abbrev pub values : Assignment → List Lit → List Bool
 values m ls = map (on m) ls
 
--- the number of these bits, the lowest first
+-- the number with these bits, the lowest first
 abbrev pub number : List Bool → ℕ
 number [] = 0
 number (b ∷ bs) = bit_of b + 2 * number bs
 
--- the number that literals show, the lowest first
+-- the number that literals show, the lowest bit first
 abbrev pub shown : Assignment → List Lit → ℕ
 shown m ls = number (values m ls)
 
--- the lowest bits of a number, so many
+-- whether a number is odd, and its lowest bits
 abbrev pub is_odd : ℕ → Bool
 is_odd n = n % 2 == 1
 

@@ -1,10 +1,10 @@
--- What is claimed of texts that are read.
+-- The laws of reading.
 use Rattle.std.specs.Prelude.{◌≡◌, ◌⊎◌, ℕ, List}
 use Rattle.safl_aiger.specs.declared.reading.AigRule.{AigRule}
 use Rattle.safl_aiger.specs.Circuits.{Circuit}
 use Rattle.safl_aiger.specs.Reads.{AigReads, HasFault}
 
--- a text is at most one circuit
+-- a text reads as at most one circuit
 abbrev pub OneReading : Type 0
 OneReading = (text : List ℕ) (a b : Circuit) → AigReads text a → AigReads text b → a ≡ b
 
@@ -12,11 +12,11 @@ OneReading = (text : List ℕ) (a b : Circuit) → AigReads text a → AigReads 
 abbrev pub OneFault : Type 0
 OneFault = (text : List ℕ) (e d : AigRule) (n m : ℕ) → HasFault text e n → HasFault text d m → (e ≡ d) × (n ≡ m)
 
--- a text that is a circuit has no fault
+-- a text that reads as a circuit has no fault
 abbrev pub NoFault : Type 0
 NoFault = (text : List ℕ) (a : Circuit) (e : AigRule) (n : ℕ) → AigReads text a → ¬ (HasFault text e n)
 
--- a text is a circuit or has a fault
+-- every text reads as a circuit or has a fault
 abbrev pub ReadsOrFails : Type 0
 ReadsOrFails =
     (text : List ℕ) → ((a : Circuit) × AigReads text a) ⊎ ((e : AigRule) × (n : ℕ) × HasFault text e n)

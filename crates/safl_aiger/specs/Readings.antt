@@ -1,10 +1,10 @@
--- Why a text is read as no circuit.
+-- The errors of reading a text.
 use Rattle.std.specs.Prelude.{ℕ, List}
 use Rattle.safl_aiger.specs.declared.read.AigErr.{AigErr}
 use Rattle.safl_aiger.specs.declared.read.AigErr.TheVariants.{Refused, NoMemory}
 use Rattle.safl_aiger.specs.Reads.{HasFault}
 
--- the text has that first fault, or memory ran out
+-- the error is the text's first fault, or out of memory
 abbrev pub HasThatFault : List ℕ → AigErr → Type 0
 HasThatFault text (Refused e n) = HasFault text e n
 HasThatFault text NoMemory = Unit {0}

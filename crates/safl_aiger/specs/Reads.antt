@@ -1,4 +1,4 @@
--- Which circuit a text is, and its first fault.
+-- Which circuit a text reads as, and its first fault.
 use Rattle.std.specs.Prelude.{◌≡◌, ◌≢◌, ◌⊎◌, ℕ, zero, suc, ◌+◌, ◌*◌, ◌<◌, ◌≤◌, List, [], ◌∷◌, ◌++◌, map, length, replicate, Some, slice_get, slice_set, codes, decimal}
 use Rattle.safl_aiger.specs.declared.literal.Lit.{Lit}
 use Rattle.safl_aiger.specs.declared.reading.AigRule.{AigRule}
@@ -12,7 +12,7 @@ use Rattle.safl_aiger.specs.declared.reading.Found.{Found}
 use Rattle.safl_aiger.specs.Circuits.{Circuit, latches, variables, base, IsCircuit}
 use Rattle.safl_aiger.specs.Lines.{lines, HasNumbers, HasCount}
 
--- the numbers of a header, without that of variables
+-- the counts of a header, without the number of variables
 pub record Counts : Type 0 where
   pub inputs : ℕ
   pub latches : ℕ
@@ -22,29 +22,30 @@ pub record Counts : Type 0 where
 abbrev pub total : Counts → ℕ
 total c = c.inputs + c.latches + c.ands
 
--- as the code keeps them
+-- the counts that the code keeps
 abbrev pub counts : Header → Counts
 counts h = record { inputs = h.inputs; latches = h.latches; outputs = h.outputs; ands = h.ands }
 
--- `aag`, a space and five numbers, the first of which is the sum of three others
+-- `aag`, a space and five numbers. The first is the sum of inputs, latches and ANDs
 abbrev pub IsHeader : List ℕ → Counts → Type 0
 IsHeader line c = (rest : List ℕ) × (line ≡ codes "aag " ++ rest) × HasNumbers rest (total c ∷ c.inputs ∷ c.latches ∷ c.outputs ∷ c.ands ∷ [])
 
--- how many numbers such a line has
+-- how many numbers a line of this kind has
 abbrev pub size : LineKind → ℕ
 size (Input v) = 1
 size (Latch v) = 2
 size Output = 1
 size (And v) = 3
 
--- the numbers that were found of such a line
+-- the numbers that the code has found in a line of this kind
 abbrev pub numbers_found : LineKind → Found → List ℕ
 numbers_found (Input v) f = f.first ∷ []
 numbers_found (Latch v) f = f.first ∷ f.second ∷ []
 numbers_found Output f = f.first ∷ []
 numbers_found (And v) f = f.first ∷ f.second ∷ f.third ∷ []
 
--- its own literal, literals of the circuit's variables, and operands below the own literal
+-- what the numbers of a line have to be: its own literal, literals of the circuit's variables, and, for an AND, operands below
+-- its own literal
 abbrev pub IsGood : ℕ → LineKind → List ℕ → Type 0
 IsGood most (Input v) (x ∷ []) = x ≡ 2 * v
 IsGood most (Latch v) (x ∷ (n ∷ [])) = (x ≡ 2 * v) × (n ≤ 2 * most + 1)
@@ -56,12 +57,12 @@ abbrev pub kinds_from : (ℕ → LineKind) → ℕ → ℕ → List LineKind
 kinds_from f first zero = []
 kinds_from f first (suc k) = f first ∷ kinds_from f (suc first) k
 
--- the lines after the header
+-- the kinds of the lines after the header
 abbrev pub line_kinds : Counts → List LineKind
 line_kinds c =
     kinds_from Input 1 c.inputs ++ (kinds_from Latch (1 + c.inputs) c.latches ++ (replicate c.outputs Output ++ kinds_from And (1 + c.inputs + c.latches) c.ands))
 
--- lines are as they have to be, with these numbers
+-- the lines are of these kinds, and their numbers are good
 abbrev pub AreGood : ℕ → List LineKind → List (List ℕ) → List (List ℕ) → Type 0
 AreGood most [] [] [] = Unit {0}
 AreGood most (w ∷ ws) (l ∷ ls) (ns ∷ nss) = HasNumbers l ns × IsGood most w ns × AreGood most ws ls nss
@@ -86,7 +87,7 @@ and_numbers first (p ∷ ps) = (2 * first ∷ p.0.0 ∷ p.1.0 ∷ []) ∷ and_nu
 abbrev pub body_numbers : Circuit → List (List ℕ)
 body_numbers a = own_numbers 1 a.inputs ++ (latch_numbers (1 + a.inputs) a.nexts ++ (output_numbers a.outputs ++ and_numbers (base a) a.ands))
 
--- names so far
+-- the names of inputs, latches and outputs given so far
 pub record Named : Type 0 where
   pub inputs : List (List ℕ)
   pub latches : List (List ℕ)
@@ -95,7 +96,7 @@ pub record Named : Type 0 where
 abbrev pub unnamed : Counts → Named
 unnamed c = record { inputs = replicate c.inputs []; latches = replicate c.latches []; outputs = replicate c.outputs [] }
 
--- the names of a sort of places, and a place of that sort with another name
+-- the names of one sort; and the names of all sorts, with those of one sort replaced
 abbrev pub names_for : Sort → Named → List (List ℕ)
 names_for sorts.Input n = n.inputs
 names_for sorts.Latch n = n.latches
@@ -106,17 +107,16 @@ with_name sorts.Input k name n = record n { inputs = slice_set n.inputs k name }
 with_name sorts.Latch k name n = record n { latches = slice_set n.latches k name }
 with_name sorts.Output k name n = record n { outputs = slice_set n.outputs k name }
 
--- the letter of a sort of places
 abbrev pub letter : Sort → ℕ
 letter sorts.Input = 105
 letter sorts.Latch = 108
 letter sorts.Output = 111
 
--- the letter, a place, a space and a name
+-- a symbol line: the letter, the number, a space and the name
 abbrev pub symbol_line : Sort → ℕ → List ℕ → List ℕ
 symbol_line sort k name = (letter sort ∷ decimal k) ++ 32 ∷ name
 
--- a symbol line names a place in range that has no name yet
+-- a symbol line gives a name to something of the circuit that has no name yet
 pub record NamesPlace (line : List ℕ) (old new : Named) : Type 0 where
   pub sort : Sort
   pub place : ℕ
@@ -126,21 +126,21 @@ pub record NamesPlace (line : List ℕ) (old new : Named) : Type 0 where
   pub some : name ≢ []
   pub sets : new ≡ with_name sort place name old
 
--- the line names no place that has no name yet
+-- the line gives no name to anything of the circuit without a name
 abbrev pub Refuses : List ℕ → Named → Type 0
 Refuses line old = (new : Named) → ¬ (NamesPlace line old new)
 
--- symbol lines one after another
+-- each of these lines gives a name
 abbrev pub NamePlaces : List (List ℕ) → Named → Named → Type 0
 NamePlaces [] old new = new ≡ old
 NamePlaces (l ∷ ls) old new = (middle : Named) × NamesPlace l old middle × NamePlaces ls middle new
 
--- the end, or a line `c`
+-- there are no more lines, or the next line is `c`
 abbrev pub Ends : List (List ℕ) → Type 0
 Ends [] = Unit {0}
 Ends (l ∷ ls) = l ≡ codes "c"
 
--- the first line is a header with these counts, and these lines follow
+-- the first line is a header with these counts, and these lines follow it
 pub record Begins (text : List ℕ) (c : Counts) (ls : List (List ℕ)) : Type 0 where
   pub head : List ℕ
   pub lines_are : lines text ≡ head ∷ ls
@@ -152,7 +152,7 @@ counts_of a = record { inputs = a.inputs; latches = latches a; outputs = length 
 abbrev pub named_of : Circuit → Named
 named_of a = record { inputs = a.input_names; latches = a.latch_names; outputs = a.output_names }
 
--- the text is a header, the lines of a body, symbol lines, and whatever stands from a line `c` on
+-- the text is a header, the lines of a body, symbol lines, and anything from a line `c` on
 pub record AigReads (text : List ℕ) (a : Circuit) : Type 0 where
   pub circuit : IsCircuit a
   pub body : List (List ℕ)
@@ -163,31 +163,31 @@ pub record AigReads (text : List ℕ) (a : Circuit) : Type 0 where
   pub names : NamePlaces symbols (unnamed (counts_of a)) (named_of a)
   pub ends : Ends rest
 
--- the line has not as many numbers as its kind, or has numbers that are not good
+-- the line does not have as many numbers as its kind, or they are not good
 abbrev pub IsBad : ℕ → LineKind → List ℕ → AigRule → Type 0
 IsBad most w l e =
     ((e ≡ B02) × (¬ (HasCount l (size w))))
     ⊎ ((e ≡ B03) × ((ns : List ℕ) × HasNumbers l ns × (length ns ≡ size w) × (¬ (IsGood most w ns))))
 
--- no line is left, or the next one is bad
+-- there is no next line, or the next line is bad
 abbrev pub Breaks : ℕ → LineKind → List (List ℕ) → AigRule → Type 0
 Breaks most w [] e = e ≡ B02
 Breaks most w (l ∷ ls) e = IsBad most w l e
 
--- so many lines are of their kinds, and the next one breaks this rule
+-- so many lines are of their kinds, and the line after them breaks this rule
 abbrev pub LineFault : ℕ → List LineKind → List (List ℕ) → AigRule → ℕ → Type 0
 LineFault most [] ls e k = ⊥
 LineFault most (w ∷ ws) ls e zero = Breaks most w ls e
 LineFault most (w ∷ ws) [] e (suc k) = ⊥
 LineFault most (w ∷ ws) (l ∷ ls) e (suc k) = (ns : List ℕ) × HasNumbers l ns × IsGood most w ns × LineFault most ws ls e k
 
--- so many lines name places, and the next one is no `c` and names none
+-- so many lines give names, and the line after them gives none and is not `c`
 abbrev pub SymbolFault : List (List ℕ) → Named → ℕ → Type 0
 SymbolFault [] old k = ⊥
 SymbolFault (l ∷ ls) old zero = (l ≢ codes "c") × Refuses l old
 SymbolFault (l ∷ ls) old (suc k) = (new : Named) × NamesPlace l old new × SymbolFault ls new k
 
--- the first line that breaks a rule, counted from 1
+-- the number of the first line that breaks a rule, counted from 1, and that rule
 pub data HasFault (text : List ℕ) (e : AigRule) (n : ℕ) : Type 0 where
   bad_header : ((c : Counts) (ls : List (List ℕ)) → ¬ (Begins text c ls)) → e ≡ B01 → n ≡ 1 → HasFault text e n
   bad_line : (c : Counts) (ls : List (List ℕ)) (k : ℕ) → Begins text c ls

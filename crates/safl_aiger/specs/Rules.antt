@@ -1,4 +1,4 @@
--- The texts of the rules of AIGER texts.
+-- The texts of the rules on AIGER files.
 use Rattle.std.specs.Prelude.{ℕ, List, codes}
 use Rattle.safl_aiger.specs.declared.reading.AigRule.{AigRule}
 use Rattle.safl_aiger.specs.declared.reading.AigRule.TheVariants as rules

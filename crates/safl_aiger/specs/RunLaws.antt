@@ -1,15 +1,15 @@
--- What is claimed of runs.
+-- The laws of runs.
 use Rattle.std.specs.Prelude.{◌≡◌, ℕ, ◌≤◌, List, length, Bool}
 use Rattle.std.specs.List.{AllByRecursion}
 use Rattle.safl_aiger.specs.Literals.{Assignment}
 use Rattle.safl_aiger.specs.Circuits.{Circuit, latches, variables, IsCircuit}
 use Rattle.safl_aiger.specs.Runs.{Fits, Runs}
 
--- a state and inputs have values that fit
+-- some values fit each state and inputs
 abbrev pub SomeFit : Type 0
 SomeFit = (a : Circuit) → IsCircuit a → (state given : List Bool) → length state ≡ latches a → length given ≡ a.inputs → (m : Assignment) × Fits a state given m
 
--- and no others, on the circuit's variables
+-- on the circuit's variables, at most one valuation fits a state and inputs
 abbrev pub OneFit : Type 0
 OneFit =
     (a : Circuit) → IsCircuit a → (state given : List Bool) (m n : Assignment) → Fits a state given m → Fits a state given n → (v : ℕ) → v ≤ variables a → m v ≡ n v

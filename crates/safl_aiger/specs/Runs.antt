@@ -1,15 +1,15 @@
--- What a bit-level circuit means: in each cycle a set of equations.
+-- The meaning of a bit-level circuit: a set of equations for each cycle.
 use Rattle.std.specs.Prelude.{◌≡◌, ℕ, zero, suc, ◌+◌, List, [], ◌∷◌, Bool, false, ◌&&◌, Some, slice_get}
 use Rattle.safl_aiger.specs.declared.literal.Lit.{Lit}
 use Rattle.safl_aiger.specs.Literals.{Assignment, on, values}
 use Rattle.safl_aiger.specs.Circuits.{Circuit, latches, base}
 
--- variable 0 is false, and each AND is the conjunction of its operands; the first AND is the variable of this number
+-- Variable 0 is false, and each AND is the conjunction of its operands. The first AND has the variable `first`.
 pub record Wired (first : ℕ) (ands : List (Lit × Lit)) (m : Assignment) : Type 0 where
   pub bottom : m 0 ≡ false
   pub each : (k : ℕ) (p : Lit × Lit) → slice_get ands k ≡ Some p → m (first + k) ≡ (on m p.0 && on m p.1)
 
--- the values of so many variables, the first the variable of this number
+-- the values of so many variables, from a number on
 abbrev pub variable_bits : Assignment → ℕ → ℕ → List Bool
 variable_bits m first zero = []
 variable_bits m first (suc k) = m first ∷ variable_bits m (suc first) k
@@ -20,25 +20,25 @@ input_bits a m = variable_bits m 1 a.inputs
 abbrev pub latch_bits : Circuit → Assignment → List Bool
 latch_bits a m = variable_bits m (1 + a.inputs) (latches a)
 
--- the values fit the latches' state and the inputs
+-- the values fit the state of the latches, the inputs and the ANDs
 pub record Fits (a : Circuit) (state given : List Bool) (m : Assignment) : Type 0 where
   pub inputs : input_bits a m ≡ given
   pub latches : latch_bits a m ≡ state
   pub wired : Wired (base a) a.ands m
 
--- all latches are false at the beginning
+-- so many latches, all false, as at the beginning
 abbrev pub all_false : ℕ → List Bool
 all_false zero = []
 all_false (suc n) = false ∷ all_false n
 
--- the next value of a latch is that of its next literal
+-- the next values of the latches: those of their next literals
 abbrev pub next_bits : Circuit → Assignment → List Bool
 next_bits a m = values m a.nexts
 
 abbrev pub output_bits : Circuit → Assignment → List Bool
 output_bits a m = values m a.outputs
 
--- a cycle after another from a state, one for each list of inputs
+-- the cycles of a run from a state, one for each list of inputs
 abbrev pub RunsFrom : Circuit → List Bool → List (List Bool) → List Assignment → Type 0
 RunsFrom a state [] [] = Unit {0}
 RunsFrom a state [] (m ∷ ms) = ⊥

@@ -1,4 +1,4 @@
--- Lines of a text that are read one after another.
+-- Sections of a text: lines that are read one after another.
 use Rattle.std.specs.Prelude.{◌+◌, ◌<◌, ◌≡◌, ℕ, List, ◌∷◌, ◌++◌, length, drop}
 use Rattle.safl_aiger.specs.declared.reading.AigRule.{AigRule}
 use Rattle.safl_aiger.specs.declared.reading.LineKind.{LineKind}
@@ -8,13 +8,13 @@ use Rattle.safl_aiger.specs.Lines.{lines}
 use Rattle.safl_aiger.specs.declared.sections.Body.{Body}
 use Rattle.safl_aiger.specs.Reads.{AreGood, Breaks, Counts, total, line_kinds, own_numbers, latch_numbers, output_numbers, and_numbers}
 
--- the lines from a place on are as they have to be, with these numbers, up to another place
+-- the lines between two places of the text are of these kinds, with these numbers, which are good
 pub record Passes (text : List ℕ) (most at : ℕ) (ws : List LineKind) (nss : List (List ℕ)) (next : ℕ) : Type 0 where
   pub front : List (List ℕ)
   pub lines_are : lines (drop at text) ≡ front ++ lines (drop next text)
   pub good : AreGood most ws front nss
 
--- lines from a place on are as they have to be, and then one breaks a rule, that of this number, counted from 0
+-- from a place on, k lines are of their kinds, and the next one breaks a rule
 pub record Stops (text : List ℕ) (most at : ℕ) (ws : List LineKind) (e : AigRule) (k : ℕ) : Type 0 where
   pub done : List LineKind
   pub kind : LineKind
@@ -26,17 +26,17 @@ pub record Stops (text : List ℕ) (most at : ℕ) (ws : List LineKind) (e : Aig
   pub count : length done ≡ k
   pub breaks : Breaks most kind (lines (drop next text)) e
 
--- a section stops, or memory runs out
+-- the section stops at a line that breaks a rule, or memory runs out
 abbrev pub Fails : List ℕ → ℕ → ℕ → List LineKind → SectionErr → Type 0
 Fails text most at ws (Stopped s) = Stops text most at ws s.rule s.place
 Fails text most at ws NoMemory = Unit {0}
 
--- the line that stops is one of so many
+-- the line that breaks a rule is one of the first so many
 abbrev pub IsWithin : ℕ → SectionErr → Type 0
 IsWithin count (Stopped s) = s.place < count
 IsWithin count NoMemory = Unit {0}
 
--- the same error, so many lines later
+-- the same error with so many lines before it
 abbrev pub Later : ℕ → SectionErr → SectionErr → Type 0
 Later k (Stopped s) (Stopped t) = (t.rule ≡ s.rule) × (t.place ≡ k + s.place)
 Later k (Stopped s) NoMemory = ⊥

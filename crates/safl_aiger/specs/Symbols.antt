@@ -1,4 +1,4 @@
--- Symbol lines that are read one after another.
+-- Symbol lines, as the code reads them.
 use Rattle.std.specs.Prelude.{◌≡◌, ◌≢◌, ℕ, ◌+◌, ◌^◌, ◌<◌, List, [], ◌++◌, length, drop, Some, slice_get, slice_set}
 use Rattle.safl_aiger.specs.declared.circuit.Names.{Names}
 use Rattle.safl_aiger.specs.declared.symbols.Sort.{Sort}
@@ -10,23 +10,22 @@ use Rattle.safl_aiger.specs.declared.symbols.SymbolsErr.TheVariants.{Stopped, No
 use Rattle.safl_aiger.specs.Circuits.{names_of}
 use Rattle.safl_aiger.specs.Reads.{Named, NamePlaces, Refuses, SymbolFault, symbol_line, Ends}
 
--- names as the code keeps them
+-- the names that the code keeps
 abbrev pub named : Names → Named
 named n = record { inputs = names_of n.inputs.items; latches = names_of n.latches.items; outputs = names_of n.outputs.items }
 
--- no more places of a sort than a header can count
+-- there are no more names of a sort than a header can count
 pub record IsSmall (n : Named) : Type 0 where
   pub inputs : length n.inputs < 2 ^ 31
   pub latches : length n.latches < 2 ^ 31
   pub outputs : length n.outputs < 2 ^ 31
 
--- the line is that symbol, with a name of at least one byte
+-- the line is this symbol, with a name of at least one byte
 pub record IsSymbol (line : List ℕ) (s : Symbol) : Type 0 where
   pub few : s.place < 2 ^ 31
   pub within : s.start < length line
   pub is : line ≡ symbol_line s.sort s.place (drop s.start line)
 
--- it is some symbol
 pub record IsSymbolLine (line : List ℕ) : Type 0 where
   pub sort : Sort
   pub place : ℕ
@@ -35,13 +34,13 @@ pub record IsSymbolLine (line : List ℕ) : Type 0 where
   pub some : name ≢ []
   pub is : line ≡ symbol_line sort place name
 
--- a place without a name has got one
+-- the list after number k, which had no name, got this one
 pub record Sets (old : List (List ℕ)) (k : ℕ) (name : List ℕ) (new : List (List ℕ)) : Type 0 where
   pub free : slice_get old k ≡ Some []
   pub some : name ≢ []
   pub sets : new ≡ slice_set old k name
 
--- why a place gets no name: it has one, or is no place
+-- why number k gets no name: it has one already, or there is no such number
 abbrev pub IsTaken : List (List ℕ) → ℕ → SymbolErr → Type 0
 IsTaken old k failures.Refused = ¬ (slice_get old k ≡ Some [])
 IsTaken old k failures.NoMemory = Unit {0}
@@ -50,17 +49,17 @@ abbrev pub IsRefused : List ℕ → Named → SymbolErr → Type 0
 IsRefused line old failures.Refused = Refuses line old
 IsRefused line old failures.NoMemory = Unit {0}
 
--- symbol lines, up to these others
+-- these lines give names, up to the ones that are left
 pub record NamesUpTo (ls : List (List ℕ)) (old new : Named) (left : List (List ℕ)) : Type 0 where
   pub symbols : List (List ℕ)
   pub lines_are : ls ≡ symbols ++ left
   pub names : NamePlaces symbols old new
 
--- all lines are symbol lines, up to the end or a line `c`
+-- all lines give names, up to the end or a line `c`
 abbrev pub SymbolsPass : List (List ℕ) → Named → Named → Type 0
 SymbolsPass ls old new = (left : List (List ℕ)) × NamesUpTo ls old new left × Ends left
 
--- the first line that names no place has this number, where so many lines stand before them all
+-- The number of the first line that gives no name. So many lines of the text come before these.
 abbrev pub SymbolsFail : List (List ℕ) → ℕ → Named → SymbolsErr → Type 0
 SymbolsFail ls before old (Stopped n) = (k : ℕ) × SymbolFault ls old k × (n ≡ before + k + 1)
 SymbolsFail ls before old NoMemory = Unit {0}

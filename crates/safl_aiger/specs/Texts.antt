@@ -4,20 +4,21 @@ use Rattle.std.specs.List.{flat_map}
 use Rattle.safl_aiger.specs.declared.literal.Lit.{Lit}
 use Rattle.safl_aiger.specs.Circuits.{Circuit, latches, variables, base}
 
--- lines, each with its line feed
+-- the lines, each followed by a line feed
 abbrev pub joined : List (List ℕ) → List ℕ
 joined [] = []
 joined (l ∷ ls) = (l ++ 10 ∷ []) ++ joined ls
 
--- numbers in decimal, with a space between
+-- numbers in decimal, with a space between them
 abbrev pub numbers_line : ℕ → List ℕ → List ℕ
 numbers_line n ns = decimal n ++ flat_map (λ k. 32 ∷ decimal k) ns
 
--- `aag`, and the numbers of variables, inputs, latches, outputs and ANDs
+-- the header: `aag`, and the numbers of variables, inputs, latches, outputs and ANDs
 abbrev pub header_line : Circuit → List ℕ
 header_line a = codes "aag " ++ numbers_line (variables a) (a.inputs ∷ latches a ∷ length a.outputs ∷ length a.ands ∷ [])
 
--- the own literal of each input, latch and AND, the first the variable of this number, with the literals that it has
+-- The lines of inputs, latches, outputs and ANDs. The first variable of a section is this number; a line has the own literal, if
+-- there is one, and the other literals.
 abbrev pub input_text : ℕ → ℕ → List (List ℕ)
 input_text first zero = []
 input_text first (suc k) = numbers_line (2 * first) [] ∷ input_text (suc first) k
@@ -34,7 +35,7 @@ abbrev pub and_text : ℕ → List (Lit × Lit) → List (List ℕ)
 and_text first [] = []
 and_text first (p ∷ ps) = numbers_line (2 * first) (p.0.0 ∷ p.1.0 ∷ []) ∷ and_text (suc first) ps
 
--- a place with a name has a symbol line: a letter and its number, a space and the name
+-- the symbol line of something that has a name: the letter and its number, a space and the name
 abbrev pub symbol_text : ℕ → ℕ → List ℕ → List (List ℕ)
 symbol_text letter k [] = []
 symbol_text letter k (c ∷ cs) = (letter ∷ decimal k ++ 32 ∷ c ∷ cs) ∷ []
@@ -50,7 +51,7 @@ written_lines a =
 abbrev pub written : Circuit → List ℕ
 written a = joined (written_lines a)
 
--- the lines after the header, up to the symbols, and those of symbols
+-- the lines between the header and the symbols, and the lines of symbols
 abbrev pub body_text : Circuit → List (List ℕ)
 body_text a = input_text 1 a.inputs ++ (latch_text (1 + a.inputs) a.nexts ++ (output_text a.outputs ++ and_text (base a) a.ands))
 

@@ -6,13 +6,13 @@ ghost use Rattle.safl_aiger.specs.Circuits.{IsCircuit, latches, circuit_of, name
 use crate::literal::Lit;
 use std::marker::Model;
 
-/// The name of a place: bytes without a line feed, perhaps none.
+/// The name of an input, a latch or an output. It has no line feed, and may be empty.
 #[derive(Drop)]
 pub struct Name {
     pub bytes: Vec<u8>,
 }
 
-/// The names of places, each list in the order of its places.
+/// The names of inputs, latches and outputs, each list in the circuit's order.
 #[derive(Drop)]
 pub struct Names {
     pub inputs: Vec<Name>,
@@ -20,8 +20,9 @@ pub struct Names {
     pub outputs: Vec<Name>,
 }
 
-/// A bit-level circuit: inputs, latches with their next literals, outputs, and ANDs of two literals below their own.
-/// Its variables are the inputs, the latches and the ANDs, numbered from 1 in this order.
+/// A bit-level circuit: inputs, latches with their next literals, outputs, and ANDs of two literals. Its variables are
+/// the inputs, the latches and the ANDs, numbered from 1 in this order. The operands of an AND have lower variables
+/// than the AND itself.
 #[derive(Drop)]
 pub struct Aig {
     nexts: Vec<Lit>,
@@ -41,7 +42,8 @@ impl Model for Aig {
 }
 
 impl Aig {
-    /// The circuit of these parts: a latch for each next literal, and as many names as places.
+    /// The circuit with these parts. It has a latch for each next literal, and `names` has a name for each input, latch
+    /// and output.
     pub fn new(nexts: Vec<Lit>, outputs: Vec<Lit>, ands: Vec<(Lit, Lit)>, names: Names) -> Aig
         requires { IsCircuit (circuit_of nexts.items outputs.items ands.items names) }
         ensures { result ≡ circuit_of nexts.items outputs.items ands.items names }

@@ -4,12 +4,12 @@ ghost use Rattle.safl_aiger.specs.ReadLaws.{OneReading, OneFault, NoFault, Reads
 ghost use Rattle.safl_aiger.specs.RunLaws.{SomeFit, OneFit, SomeRun};
 ghost use Rattle.safl_aiger.specs.TextLaws.{WrittenReads};
 
-/// A state and inputs have values that fit.
+/// Some values fit each state and inputs.
 pub fn some_fit_law()
     ensures { SomeFit }
 {}
 
-/// A state and inputs have no two values that fit.
+/// No two different values fit one state and inputs.
 pub fn one_fit_law()
     ensures { OneFit }
 {}
@@ -19,12 +19,12 @@ pub fn some_run_law()
     ensures { SomeRun }
 {}
 
-/// What is written of a circuit reads as it.
+/// The text that is written for a circuit reads as that circuit.
 pub fn written_reads_law()
     ensures { WrittenReads }
 {}
 
-/// A text is at most one circuit.
+/// A text reads as at most one circuit.
 pub fn one_reading_law()
     ensures { OneReading }
 {}
@@ -34,12 +34,12 @@ pub fn one_fault_law()
     ensures { OneFault }
 {}
 
-/// A text that is a circuit has no fault.
+/// A text that reads as a circuit has no fault.
 pub fn no_fault_law()
     ensures { NoFault }
 {}
 
-/// A text that is no circuit has a fault.
+/// A text that reads as no circuit has a fault.
 pub fn reads_or_fails_law()
     ensures { ReadsOrFails }
 {}

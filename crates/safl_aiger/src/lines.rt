@@ -6,7 +6,7 @@ ghost use Rattle.safl_aiger.specs.Lines.{lines, fields, HasNumbers, HasCount};
 
 use safl_word::numeral;
 
-/// Where the line that begins at a place ends: its line feed, or the end of the text.
+/// Where the line that begins at `at` ends: at its line feed, or else at the end of the text.
 pub fn line_end(text: &[u8], at: usize) -> usize
     requires { at < length text.now }
     ensures within { result ≤ length text.now }
@@ -20,7 +20,7 @@ pub fn line_end(text: &[u8], at: usize) -> usize
     end
 }
 
-// The first space, or the end.
+// The place of the first space of a line, or else its end.
 pub fn space(line: &[u8]) -> usize
     ensures within { result ≤ length line.now }
     ensures some { result < length line.now → fields line.now ≡ take result line.now ∷ fields (drop (result + 1) line.now) }
@@ -33,7 +33,7 @@ pub fn space(line: &[u8]) -> usize
     end
 }
 
-// The number of a field.
+// The number that a field spells.
 pub fn number(field: &[u8]) -> Option<u32>
     ensures some { IsSome result ↔ IsBounded 10 10 (2 ^ 31) field.now }
     ensures value { IfSome result (λ n. n ≡ value 10 field.now) }
@@ -45,7 +45,7 @@ pub fn number(field: &[u8]) -> Option<u32>
     None
 }
 
-/// The number of a line of one number.
+/// The number of a line that is one number.
 pub fn one_number(line: &[u8]) -> Option<u32>
     ensures some { IfSome result (λ n. HasNumbers line.now (n ∷ [])) }
     ensures none { IsNone result → ¬ (HasCount line.now 1) }
@@ -56,7 +56,7 @@ pub fn one_number(line: &[u8]) -> Option<u32>
     number(line)
 }
 
-/// The numbers of a line of two.
+/// The numbers of a line that is two numbers, with a space between them.
 pub fn two_numbers(line: &[u8]) -> Option<(u32, u32)>
     ensures some { IfSome result (λ n. HasNumbers line.now (n.0 ∷ n.1 ∷ [])) }
     ensures none { IsNone result → ¬ (HasCount line.now 2) }
@@ -70,7 +70,7 @@ pub fn two_numbers(line: &[u8]) -> Option<(u32, u32)>
     Some((first, second))
 }
 
-/// The numbers of a line of three.
+/// The numbers of a line that is three numbers, with spaces between them.
 pub fn three_numbers(line: &[u8]) -> Option<(u32, u32, u32)>
     ensures some { IfSome result (λ n. HasNumbers line.now (n.0 ∷ n.1 ∷ n.2 ∷ [])) }
     ensures none { IsNone result → ¬ (HasCount line.now 3) }

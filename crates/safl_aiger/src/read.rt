@@ -13,7 +13,7 @@ use crate::sections::{Body, SectionErr, read_body};
 use crate::symbols::{SymbolsErr, no_names, read_symbols};
 use std::alloc::Global;
 
-/// Why a text is read as no circuit.
+/// Why a text does not read as a circuit.
 #[derive(Clone, Copy, Debug, PartialEq, Eq)]
 pub enum AigErr {
     /// The rule that the first faulty line breaks, and the number of that line, from 1.
@@ -21,7 +21,7 @@ pub enum AigErr {
     NoMemory,
 }
 
-/// The circuit that a text is, or its first fault.
+/// The circuit that a text spells, or the text's first fault.
 pub fn read_aig(alloc: Global, text: &[u8]) -> Result<Aig, AigErr>
     requires { length text.now < 2 ^ 32 }
     ensures reads { IfOk result (AigReads text.now) }
@@ -37,7 +37,7 @@ pub fn read_aig(alloc: Global, text: &[u8]) -> Result<Aig, AigErr>
     }
 }
 
-// The circuit of the lines after a header.
+// Reads what follows the header, from `at` on.
 fn read_rest(alloc: Global, text: &[u8], at: usize, h: Header) -> Result<Aig, AigErr>
     requires short { length text.now < 2 ^ 32 }
     requires begins { Begins text.now (counts h) (lines (drop at text.now)) }
@@ -53,7 +53,7 @@ fn read_rest(alloc: Global, text: &[u8], at: usize, h: Header) -> Result<Aig, Ai
     }
 }
 
-// The circuit of a body and the names after it.
+// Reads the names after the body, from `at` on, and makes the circuit.
 fn read_names(alloc: Global, text: &[u8], at: usize, h: Header, body: Body) -> Result<Aig, AigErr>
     requires short { length text.now < 2 ^ 32 }
     requires begins { Begins text.now (counts h) (lines (drop at text.now)) }

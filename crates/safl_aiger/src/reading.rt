@@ -6,7 +6,7 @@ ghost use Rattle.safl_aiger.specs.Reads.{Counts, IsHeader, size, IsGood, IsBad, 
 
 use crate::lines::{number, one_number, space, three_numbers, two_numbers};
 
-/// The rules of a text: its header, the form of its lines, its literals, its symbols.
+/// The rules that a text has to keep: of its header, the form of its lines, its literals, and its symbols.
 #[derive(Clone, Copy, Debug, PartialEq, Eq)]
 pub enum AigRule {
     B01,
@@ -15,7 +15,7 @@ pub enum AigRule {
     B04,
 }
 
-/// The numbers of a header, without that of variables.
+/// The counts of a header. The number of variables, which the header has too, is the sum of inputs, latches and ANDs.
 #[derive(Clone, Copy)]
 pub struct Header {
     pub inputs: u32,
@@ -24,7 +24,7 @@ pub struct Header {
     pub ands: u32,
 }
 
-/// What a line has to be: of an input, a latch or an AND, each with its variable, or of an output.
+/// The kind of a line: an input, a latch or an AND, each with its variable, or an output.
 #[derive(Clone, Copy)]
 pub enum LineKind {
     Input(u32),
@@ -33,7 +33,7 @@ pub enum LineKind {
     And(u32),
 }
 
-/// The numbers of a line, the first of which are as many as it has to have.
+/// The numbers of a line. The kind of the line says how many there are; they come first.
 #[derive(Clone, Copy)]
 pub struct Found {
     pub first: u32,
@@ -41,7 +41,7 @@ pub struct Found {
     pub third: u32,
 }
 
-/// The counts of a header.
+/// The counts that a header line gives.
 pub fn read_header(line: &[u8]) -> Option<Header>
     ensures some { IfSome result (λ h. IsHeader line.now (counts h)) }
     ensures small { IfSome result (λ h. h.inputs + h.latches + h.ands < 2 ^ 31) }
@@ -93,7 +93,7 @@ fn four_numbers(line: &[u8]) -> Option<(u32, (u32, u32, u32))>
     Some((first, rest))
 }
 
-/// The numbers of a line that is of its kind, in a circuit of so many variables.
+/// The numbers of a line, in a circuit of `variables` variables. The rule is the one that the line breaks.
 pub fn check_line(line: &[u8], kind: LineKind, variables: u32) -> Result<Found, AigRule>
     requires { variables < 2 ^ 31 }
     ensures ok { IfOk result (λ f. HasNumbers line.now (numbers_found kind f) × IsGood variables kind (numbers_found kind f)) }

@@ -5,7 +5,7 @@ ghost use Rattle.safl_aiger.specs.Rules.{rule_text};
 
 use crate::reading::AigRule;
 
-/// A rule's number and its text, as `B01 bad header`.
+/// The number of a rule and its text, such as `B01 bad header`.
 pub fn rule_text(rule: AigRule) -> &'static str
     ensures { result.now ≡ rule_text rule }
 {

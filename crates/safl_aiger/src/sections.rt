@@ -1,4 +1,4 @@
-//! The sections of a text of a bit-level circuit.
+//! The sections of a text: the lines of inputs, latches, outputs and ANDs.
 
 ghost use Rattle.std.specs.Prelude.{◌≡◌, ℕ, ◌+◌, ◌-◌, ◌*◌, ◌^◌, ◌<◌, ◌≤◌, [], ◌∷◌, ◌++◌, length, drop, replicate, OnOk, IfOk, IfErr};
 ghost use Rattle.safl_aiger.specs.Lines.{lines};
@@ -10,28 +10,28 @@ use crate::literal::Lit;
 use crate::reading::{AigRule, Found, Header, LineKind, check_line};
 use std::alloc::Global;
 
-/// What a line has, and where the next one begins.
+/// The numbers of a line, and where the next line begins.
 #[derive(Clone, Copy)]
 pub struct Step {
     pub found: Found,
     pub next: usize,
 }
 
-/// The rule that a line breaks, and which of a section's lines it is, counted from 0.
+/// The rule that a line breaks, and the number of that line within its section, from 0.
 #[derive(Clone, Copy)]
 pub struct Stop {
     pub rule: AigRule,
     pub place: u32,
 }
 
-/// Why a section is not read.
+/// Why a section cannot be read.
 #[derive(Clone, Copy)]
 pub enum SectionErr {
     Stopped(Stop),
     NoMemory,
 }
 
-/// Reads the line at a place.
+/// Reads the line that begins at `at`.
 pub fn read_step(text: &[u8], at: usize, kind: LineKind, variables: u32) -> Result<Step, AigRule>
     requires { variables < 2 ^ 31 }
     ensures ok { IfOk result (λ s. Passes text.now variables at (kind ∷ []) (numbers_found kind s.found ∷ []) s.next) }
@@ -49,7 +49,7 @@ pub fn read_step(text: &[u8], at: usize, kind: LineKind, variables: u32) -> Resu
     })
 }
 
-/// Reads the lines of inputs.
+/// Reads `count` lines of inputs, from `at` on. The result is where the next line begins.
 pub fn read_inputs(text: &[u8], at: usize, count: u32, variables: u32) -> Result<usize, Stop>
     requires small { variables < 2 ^ 31 }
     requires few { count ≤ variables }
@@ -67,7 +67,7 @@ pub fn read_inputs(text: &[u8], at: usize, count: u32, variables: u32) -> Result
     Ok(place)
 }
 
-/// Reads the lines of latches.
+/// Reads `count` lines of latches, from `at` on.
 pub fn read_latches(
     text: &[u8],
     at: usize,
@@ -99,7 +99,7 @@ pub fn read_latches(
     Ok(place)
 }
 
-/// Reads the lines of outputs.
+/// Reads `count` lines of outputs, from `at` on.
 pub fn read_outputs(
     text: &[u8],
     at: usize,
@@ -129,7 +129,7 @@ pub fn read_outputs(
     Ok(place)
 }
 
-/// Reads the lines of ANDs.
+/// Reads `count` lines of ANDs, from `at` on.
 pub fn read_ands(
     text: &[u8],
     at: usize,
@@ -161,7 +161,7 @@ pub fn read_ands(
     Ok(place)
 }
 
-/// The body of a text, and where what follows it begins.
+/// The body of a text, and where the text after the body begins.
 #[derive(Drop)]
 pub struct Body {
     pub nexts: Vec<Lit>,
@@ -170,7 +170,7 @@ pub struct Body {
     pub next: usize,
 }
 
-// The same stop, so many lines later.
+// The same error, counted in a longer section: `lines` lines stand before the ones that it counts.
 fn later(e: SectionErr, lines: u32) -> SectionErr
     requires { IsWithin (4294967296 - lines) e }
     ensures { Later lines e result }
@@ -184,7 +184,7 @@ fn later(e: SectionErr, lines: u32) -> SectionErr
     }
 }
 
-/// Reads the lines after a header, up to the symbols.
+/// Reads the lines between the header and the symbols.
 pub fn read_body(alloc: Global, text: &[u8], at: usize, h: Header) -> Result<Body, SectionErr>
     requires sum { h.inputs + h.latches + h.ands < 2 ^ 31 }
     requires outputs { h.outputs < 2 ^ 31 }

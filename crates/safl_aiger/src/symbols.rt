@@ -1,4 +1,4 @@
-//! The symbol lines of a text of a bit-level circuit, which give places their names.
+//! Symbol lines, which name inputs, latches and outputs.
 
 ghost use Rattle.std.specs.Prelude.{◌≡◌, ◌≢◌, ℕ, ◌+◌, ◌^◌, ◌<◌, ◌≤◌, [], length, drop, replicate, decimal, slice_index, ◌↔◌, IsTrue, IsNone, IfSome, IfOk, IfErr, OnOk};
 ghost use Rattle.safl_aiger.specs.Circuits.{names_of};
@@ -20,7 +20,7 @@ pub enum Sort {
     Output,
 }
 
-/// A symbol line: what it names, its number among its sort, and where in the line the name begins.
+/// A symbol line: what kind of thing it names, its number among those, and where in the line the name begins.
 #[derive(Clone, Copy)]
 pub struct Symbol {
     pub sort: Sort,
@@ -28,22 +28,22 @@ pub struct Symbol {
     pub start: usize,
 }
 
-/// Why a symbol line names nothing.
+/// Why a symbol line is refused.
 #[derive(Clone, Copy)]
 pub enum SymbolErr {
     Refused,
     NoMemory,
 }
 
-/// Why symbol lines are not read.
+/// Why the symbol lines cannot be read.
 #[derive(Clone, Copy)]
 pub enum SymbolsErr {
-    /// The number of the first line that names no place.
+    /// The number of the first line that names nothing of the circuit.
     Stopped(u32),
     NoMemory,
 }
 
-/// The symbol that a line is.
+/// The symbol that a line spells.
 pub fn read_symbol(line: &[u8]) -> Option<Symbol>
     ensures some { IfSome result (IsSymbol line.now) }
     ensures none { IsNone result → ¬ (IsSymbolLine line.now) }
@@ -77,7 +77,7 @@ fn sort_of(first: u8) -> Option<Sort>
     }
 }
 
-// The number of a shortest decimal.
+// The number that a field spells in as few digits as possible.
 fn place_number(field: &[u8]) -> Option<u32>
     ensures some { IfSome result (λ n. (n < 2 ^ 31) × (field.now ≡ decimal n)) }
     ensures none { IsNone result → (n : ℕ) → n < 2 ^ 31 → field.now ≢ decimal n }
@@ -88,14 +88,14 @@ fn place_number(field: &[u8]) -> Option<u32>
     number(field)
 }
 
-// Whether a zero stands before other digits.
+// Whether a field has a zero before other digits.
 fn is_padded(field: &[u8]) -> bool
     ensures { IsTrue result ↔ ((1 < length field.now) × (slice_index field.now 0 ≡ 48)) }
 {
     field.len() > 1 && field[0] == b'0'
 }
 
-/// Names that are all empty, for places so many as a header says.
+/// An empty name for each input, latch and output that a header counts.
 pub fn no_names(alloc: Global, h: Header) -> Result<Names, NoMemory>
     ensures { IfOk result (λ n. named n ≡ unnamed (counts h)) }
 {
@@ -118,7 +118,7 @@ fn empty_names(alloc: Global, count: u32) -> Result<Vec<Name>, NoMemory>
     Ok(all)
 }
 
-// Gives a place its name.
+// Sets the name at `place` in a list.
 fn set_name(alloc: Global, list: &mut Vec<Name>, place: u32, name: &[u8]) -> Result<(), SymbolErr>
     requires { 1 ≤ length name.now }
     ensures ok { OnOk result (Sets (names_of list.old.items) place name.now (names_of list.new.items)) }
@@ -138,7 +138,7 @@ fn set_name(alloc: Global, list: &mut Vec<Name>, place: u32, name: &[u8]) -> Res
     Ok(())
 }
 
-/// Gives the place of a symbol line its name.
+/// Gives an input, a latch or an output the name that a symbol line spells.
 pub fn name_place(alloc: Global, names: &mut Names, line: &[u8]) -> Result<(), SymbolErr>
     requires { IsSmall (named names.old) }
     ensures ok { OnOk result (NamesPlace line.now (named names.old) (named names.new)) }
@@ -155,7 +155,7 @@ pub fn name_place(alloc: Global, names: &mut Names, line: &[u8]) -> Result<(), S
     }
 }
 
-/// Reads the symbol lines from a place on, after so many lines.
+/// Reads the symbol lines from `at` on. The text has `before` lines before them.
 pub fn read_symbols(
     alloc: Global,
     text: &[u8],

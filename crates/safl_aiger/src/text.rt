@@ -9,7 +9,8 @@ use crate::literal::Lit;
 use safl_word::{NoMemory, push_decimal};
 use std::alloc::Global;
 
-/// The text of a circuit: its header, then a line for each input, latch, output and AND, and one for each place that has a name.
+/// The text of a circuit: its header, then a line for each input, latch, output and AND, then a line for each name that
+/// is not empty.
 pub fn aig_text(alloc: Global, a: &Aig) -> Result<Vec<u8>, NoMemory>
     ensures { IfOk result (λ text. text.items ≡ written a.now) }
 {
@@ -103,7 +104,7 @@ fn push_symbol(out: &mut Vec<u8>, letter: u8, place: usize, name: &[u8]) -> Resu
     Ok(())
 }
 
-// A line of numbers.
+// Appends a line of numbers, with spaces between them.
 fn push_numbers(out: &mut Vec<u8>, first: u32, rest: &[u32]) -> Result<(), NoMemory>
     ensures { OnOk result (out.new.items ≡ out.old.items ++ joined (numbers_line first rest.now ∷ [])) }
 {

@@ -4,13 +4,13 @@ use Rattle.safl_net.specs.Netlist.{Netlist}
 use Rattle.safl_net.specs.Names.{IsTidy}
 use Rattle.safl_net.specs.Growth.{width_at}
 
--- there is a signal, and each is of one bit
+-- there is at least one signal, and each signal has one bit
 pub record OfBits (n : Netlist) : Type 0 where
   pub tidy : IsTidy n
   pub some : 0 < length n.signals
   pub bit : (s : ℕ) → s < length n.signals → width_at n s ≡ Some 1
 
--- so many widths of one bit
+-- the widths of so many bits
 abbrev pub ones : ℕ → List ℕ
 ones zero = []
 ones (suc k) = 1 ∷ ones k

@@ -1,5 +1,7 @@
-//! Benchmarks of libraries. The first word of the command line names one: `sim` runs nets of many wires, `opt` makes a net of many
-//! wires smaller, and `plan` plans a source of many call sites; the further words are its own. With no word all three are done.
+//! Benchmarks of the libraries.
+//!
+//! The first word of the command line picks one: `sim` runs large nets, `opt` optimises a large net, `plan` plans a
+//! source with many call sites. The other words are that benchmark's own. Without words all three are done.
 #![tactic(auto)]
 
 mod many_sites;
@@ -20,7 +22,7 @@ fn main(rt: HostRuntime) -> io::Result<()> {
     }
 }
 
-// The words of the command line.
+// The words of the command line after the program's name.
 fn words(rt: &HostRuntime) -> io::Result<Vec<String>> {
     let mut words = Vec::new(rt.alloc());
     for word in env::args(rt)?.skip(1) {

@@ -1,4 +1,4 @@
-//! A source of many call sites, and its plan.
+//! A source with many call sites, and its plan.
 
 ghost use Rattle.std.specs.Prelude.{◌≤◌};
 
@@ -7,14 +7,14 @@ use safl_sites::{Planned, plan};
 use safl_term::Checked;
 use std::alloc::{AllocError, Global};
 
-/// How many functions have an arbiter at their unit, and how many sites keep their words.
+/// How many functions have an arbiter at their unit, and how many call sites keep their words.
 #[derive(Clone, Copy)]
 pub struct Totals {
     pub arbiters: u32,
     pub kept: u32,
 }
 
-/// The checked program of the source.
+/// The checked program of the source. None if the source has a fault.
 pub fn checked(alloc: Global) -> Result<Option<Checked>, AllocError> {
     let text = source(alloc)?;
     if text.len() > 1_048_576 {
@@ -23,7 +23,7 @@ pub fn checked(alloc: Global) -> Result<Option<Checked>, AllocError> {
     Ok(accept(alloc, text.as_bytes()).ok())
 }
 
-/// What the plan of a program has.
+/// Plans a program, and counts its arbiters and kept words.
 pub fn planned(alloc: Global, checked: Checked) -> Option<Totals> {
     let planned = plan(alloc, checked).ok()?;
     Some(Totals {
@@ -48,7 +48,7 @@ fn count_kept(planned: &Planned) -> u32 {
     count
 }
 
-// Functions without calls, and functions that call four of those before them.
+// The source: first functions without calls, then functions that call four of the functions before them.
 fn source(alloc: Global) -> Result<String, AllocError> {
     let mut text = String::new(alloc);
     for i in 0..4 {
@@ -62,7 +62,7 @@ fn source(alloc: Global) -> Result<String, AllocError> {
     Ok(text)
 }
 
-// The body of a function, by its number.
+// The body of function `i`.
 fn body(alloc: Global, i: u32) -> Result<String, AllocError>
     requires { 4 ≤ i }
 {

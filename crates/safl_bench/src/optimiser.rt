@@ -1,6 +1,7 @@
-//! Makes a net of many wires at random, orders it and makes it smaller, and prints how many signals it has before and after.
-//! The words are the number of wires and a seed. With a third one it stops after the order, so that the two runs tell what making it
-//! smaller takes.
+//! Makes a random net of many wires, orders it, optimises it, and prints how many signals it has before and after.
+//!
+//! The words are the number of wires and a seed. With a third word it stops after the order, so the difference of the
+//! two times is that of optimising.
 
 use crate::random_nets::{WIRES_MAX, ordered};
 use safl_opt::optimise;
@@ -11,7 +12,7 @@ const WIRES: u64 = 1_000;
 
 const SEED: u64 = 1;
 
-/// Makes the net that the words ask for smaller.
+/// Optimises the net that the words ask for.
 pub fn run(rt: &HostRuntime, words: &[String]) -> io::Result<()> {
     let wires = number_at(words, 0).unwrap_or(WIRES);
     let seed = number_at(words, 1).unwrap_or(SEED);
@@ -29,7 +30,7 @@ pub fn run(rt: &HostRuntime, words: &[String]) -> io::Result<()> {
     }
 }
 
-// The number that the word at a place is.
+// The number that the word at `place` spells.
 fn number_at(words: &[String], place: usize) -> Option<u64> {
     decimal(words.get(place)?.as_bytes())
 }

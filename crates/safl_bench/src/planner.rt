@@ -1,10 +1,11 @@
-//! Plans a source of 1,000 functions with nearly 4,000 call sites, and prints what its plan has. With a word, as `check`, it stops
-//! before the plan, so that the two runs tell what the plan takes.
+//! Plans a source of 1,000 functions with nearly 4,000 call sites, and prints what the plan has.
+//!
+//! With a word, such as `check`, it stops before the plan, so the difference of the two times is that of planning.
 
 use crate::many_sites::{checked, planned};
 use std::io;
 
-/// Plans the source, or checks it alone.
+/// Checks the source, and plans it if there is no word.
 pub fn run(rt: &HostRuntime, words: &[String]) -> io::Result<()> {
     let Ok(Some(checked)) = checked(rt.alloc()) else {
         return println!(rt; "out of memory");

@@ -1,4 +1,4 @@
-//! Nets of single bits, mixed at random.
+//! Nets of wires of one bit, with random operators and operands.
 
 ghost use Rattle.std.specs.Prelude.{◌≡◌, ◌+◌, ◌<◌, ◌≤◌, ◌^◌, All, Some, length, IfOk};
 ghost use Rattle.safl_net.specs.Names.{IsTidy};
@@ -10,18 +10,18 @@ use safl_order::{Ordered, order};
 use safl_word::{NoMemory, Primitive, Word};
 use std::alloc::Global;
 
-/// The most wires of a net.
+/// The greatest number of wires of a net.
 pub const WIRES_MAX: u32 = 1_000_000_000;
 
-// Operands are among so many signals that came last.
+// Operands are chosen among this many of the latest signals.
 const NEAR: u32 = 32;
 
-// The next number of the sequence.
+// The next number of the random sequence.
 fn next(number: u32) -> u32 {
     number.wrapping_mul(1_664_525).wrapping_add(1_013_904_223)
 }
 
-// One of the signals that came last.
+// One of the latest signals, chosen by a random number.
 fn near(count: u32, number: u32) -> Sig
     requires { 0 < count }
     ensures { result.0 < count }
@@ -41,7 +41,8 @@ fn operator(number: u32) -> Primitive
     }
 }
 
-// One wire more, on operands near it, or on the input and one of them: so that not all of the net comes to constants.
+// Adds a wire, on operands near it, or on the input and one of those. Without the input most of the net would come to
+// constants.
 fn add_wire(net: &mut Net, number: u32) -> Result<Sig, NoMemory>
     requires bits { OfBits net.old }
     requires room { length net.old.signals < 4294967295 }
@@ -81,7 +82,7 @@ fn wire(net: &mut Net, op: Op, operands: &[Sig]) -> Result<Sig, NoMemory>
     net.temp(op, operands)
 }
 
-// An input, and so many wires, the last of which is shown.
+// A net with an input and `wires` wires, whose last wire is an output.
 fn mixed(alloc: Global, wires: u32, seed: u32) -> Result<Net, NoMemory>
     requires few { wires ≤ WIRES_MAX }
     ensures tidy { IfOk result (λ n. IsTidy n) }
@@ -103,7 +104,7 @@ fn mixed(alloc: Global, wires: u32, seed: u32) -> Result<Net, NoMemory>
     Ok(net)
 }
 
-/// A net of so many wires in order.
+/// A random net of `wires` wires, in order of evaluation.
 pub fn ordered(alloc: Global, wires: u32, seed: u32) -> Result<Ordered, NoMemory>
     requires few { wires ≤ WIRES_MAX }
     ensures tidy { IfOk result (λ o. IsTidy o.net) }

@@ -1,14 +1,15 @@
-//! Runs nets of many wires, mixed over the operators, for some cycles, and prints what the last wires showed.
+//! Runs nets of many wires, with all operators, for some cycles, and prints the words of their last wires.
 //!
-//! There are three nets. A number from 1 to 3 runs that one alone. With the word `net` nets are made and not run, and with `sim` their
-//! simulators are made too, so that two runs tell what it takes to order a net and to make its simulator.
+//! There are three nets; a number from 1 to 3 runs only that one. With the word `net` the nets are made but not run.
+//! With `sim` their simulators are made too. So the differences of the times are those of ordering a net and of making
+//! its simulator.
 
 ghost use Rattle.std.specs.Prelude.{◌<◌, ◌≤◌};
 
 use crate::wide_nets;
 use std::io;
 
-/// What the words ask for: one of the nets, or all, and how far to go.
+/// What the words ask for: one net or all, and how far to go.
 #[derive(Clone, Copy)]
 struct Wanted {
     number: Option<u8>,
@@ -62,7 +63,7 @@ fn is_wanted(wanted: Wanted, number: u8) -> bool {
     }
 }
 
-// How many cycles a net runs that has a simulator.
+// For how many cycles a net is run that has a simulator.
 fn ticks(wanted: Wanted, count: u32) -> Option<u32> {
     match wanted.stage {
         Stage::Net => None,
@@ -71,7 +72,7 @@ fn ticks(wanted: Wanted, count: u32) -> Option<u32> {
     }
 }
 
-// Runs a net of so many turns of 5 wires for so many cycles, or only makes it.
+// Runs a net of `turns` turns for `ticks` cycles, or only makes it.
 fn show(rt: &HostRuntime, width: u8, turns: u32, ticks: Option<u32>) -> io::Result<()>
     requires wide { 8 ≤ width }
     requires most { width ≤ 128 }

@@ -1,4 +1,4 @@
-//! Turns: a few wires from two words to two words, mixed over all operations.
+//! Turns: groups of a few wires that take two words to two words. Together they use all operations.
 
 ghost use Rattle.std.specs.Prelude.{◌≡◌, ℕ, ◌+◌, ◌*◌, ◌<◌, ◌≤◌, List, [], ◌∷◌, length, Some, IfOk};
 ghost use Rattle.safl_net.specs.Names.{IsTidy};
@@ -10,20 +10,20 @@ ghost use Rattle.safl_bench.specs.WideNets.{Has, Gives, Turns};
 use safl_net::{Net, Op, Sig};
 use safl_word::{NoMemory, Primitive, Raw, Word};
 
-/// The most wires of a turn. Eight turns in a row have 40.
+/// The greatest number of wires of a turn. Eight turns, one after another, have 40.
 pub const TURN_MAX: u32 = 6;
 
-/// Two words that a turn goes on from.
+/// The two words that the next turn takes.
 #[derive(Clone, Copy)]
 pub struct Ends {
     pub last: Sig,
     pub other: Sig,
 }
 
-// An odd number, whose multiples have bits in all places.
+// An odd number whose multiples have bits in all places.
 const ODD: Raw = 0x9E37_79B9_7F4A_7C15_F39C_C060_5CED_C835;
 
-/// The word of a number, spread over the width.
+/// A word made of a number, with its bits spread over the width.
 pub fn spread(width: u8, number: u32) -> Word
     requires some { 1 ≤ width }
     requires most { width ≤ 128 }
@@ -32,7 +32,7 @@ pub fn spread(width: u8, number: u32) -> Word
     Word::from_low_bits(width, Raw::from(number).wrapping_mul(ODD))
 }
 
-// An operator on two words of one width, which gives a word of it.
+// An operator that takes two words of one width to a word of that width.
 fn operator(i: u32) -> Primitive
     ensures { (w : ℕ) → 1 ≤ w → w ≤ 128 → op_width (Op.Apply result) (w ∷ w ∷ []) ≡ Some w }
 {
@@ -46,7 +46,7 @@ fn operator(i: u32) -> Primitive
     }
 }
 
-// A comparison of two words of one width, which gives a bit.
+// A comparison of two words of one width. It gives a bit.
 fn comparison(i: u32) -> Primitive
     ensures { (w : ℕ) → 1 ≤ w → w ≤ 128 → op_width (Op.Apply result) (w ∷ w ∷ []) ≡ Some 1 }
 {
@@ -60,7 +60,7 @@ fn comparison(i: u32) -> Primitive
     }
 }
 
-// A shift of a word by 7 bits of another.
+// A shift of a word by an amount of 7 bits.
 fn shift(i: u32) -> Primitive
     ensures { (w : ℕ) → 1 ≤ w → w ≤ 128 → op_width (Op.Apply result) (w ∷ 7 ∷ []) ≡ Some w }
 {
@@ -71,14 +71,14 @@ fn shift(i: u32) -> Primitive
     }
 }
 
-// By turns the other word and the input.
+// The second operand of a turn: in turn the other word and the input.
 fn second(i: u32, other: Sig, input: Sig) -> Sig
     ensures { (n : Netlist) (w : ℕ) → Has n w other → Has n w input → Has n w result }
 {
     if i % 2 == 0 { other } else { input }
 }
 
-// A wire.
+// Adds a wire with this cell.
 fn wire(net: &mut Net, op: Op, operands: &[Sig]) -> Result<Sig, NoMemory>
     requires tidy { IsTidy net.old }
     requires fits { (ws : List ℕ) × (w : ℕ) × Sized net.old operands.now ws × (op_width op ws ≡ Some w) }
@@ -90,7 +90,7 @@ fn wire(net: &mut Net, op: Op, operands: &[Sig]) -> Result<Sig, NoMemory>
     net.temp(op, operands)
 }
 
-// An operator's word, and it or the last word, as a comparison decides.
+// Adds an operator's wire, and a choice between it and the last word, which a comparison makes.
 fn choose(net: &mut Net, width: u8, i: u32, input: Sig, ends: Ends) -> Result<Ends, NoMemory>
     requires some { 1 ≤ width }
     requires most { width ≤ 128 }
@@ -108,7 +108,7 @@ fn choose(net: &mut Net, width: u8, i: u32, input: Sig, ends: Ends) -> Result<En
     Ok(Ends { last, other: word })
 }
 
-// A word that is shifted by 7 bits of another.
+// Adds a shift of `a` by 7 bits of `b`.
 fn shifted(net: &mut Net, width: u8, i: u32, a: Sig, b: Sig) -> Result<Sig, NoMemory>
     requires wide { 8 ≤ width }
     requires most { width ≤ 128 }
@@ -122,7 +122,7 @@ fn shifted(net: &mut Net, width: u8, i: u32, a: Sig, b: Sig) -> Result<Sig, NoMe
     wire(net, Op::Apply(shift(i)), &[a, amount])
 }
 
-// The low half of a word before the high half of another.
+// Adds the concatenation of the low half of one word and the high half of the other.
 fn joined(net: &mut Net, width: u8, a: Sig, b: Sig) -> Result<Sig, NoMemory>
     requires wide { 8 ≤ width }
     requires most { width ≤ 128 }
@@ -138,7 +138,7 @@ fn joined(net: &mut Net, width: u8, a: Sig, b: Sig) -> Result<Sig, NoMemory>
     wire(net, Op::Apply(Primitive::Cat), &[low, high])
 }
 
-// A word that is changed by a constant.
+// Adds an operation on a word and a constant.
 fn changed(net: &mut Net, width: u8, i: u32, a: Sig) -> Result<Sig, NoMemory>
     requires wide { 8 ≤ width }
     requires most { width ≤ 128 }
@@ -151,7 +151,7 @@ fn changed(net: &mut Net, width: u8, i: u32, a: Sig) -> Result<Sig, NoMemory>
     wire(net, Op::Apply(Primitive::Xor), &[a, constant])
 }
 
-// A word of two words, otherwise in each turn.
+// Adds an operation on two words, another one in each turn.
 fn mix(net: &mut Net, width: u8, i: u32, a: Sig, b: Sig) -> Result<Sig, NoMemory>
     requires wide { 8 ≤ width }
     requires most { width ≤ 128 }
@@ -170,7 +170,7 @@ fn mix(net: &mut Net, width: u8, i: u32, a: Sig, b: Sig) -> Result<Sig, NoMemory
     }
 }
 
-/// A turn.
+/// Adds the wires of turn `i`.
 pub fn turn(net: &mut Net, width: u8, i: u32, input: Sig, ends: Ends) -> Result<Ends, NoMemory>
     requires wide { 8 ≤ width }
     requires most { width ≤ 128 }

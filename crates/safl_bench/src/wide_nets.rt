@@ -1,4 +1,4 @@
-//! Nets of wires mixed over all operations.
+//! Nets with all operations, and their runs.
 
 ghost use Rattle.std.specs.Prelude.{◌≡◌, ◌+◌, ◌*◌, ◌<◌, ◌≤◌, length, IfOk, OnOk};
 ghost use Rattle.safl_net.specs.Names.{IsTidy};
@@ -12,14 +12,14 @@ use safl_sim::Sim;
 use safl_word::{NoMemory, Raw};
 use std::alloc::Global;
 
-/// The wires of a net, and the exclusive or of what its last wire showed.
+/// The number of wires of a net, and the exclusive or of the words of its last wire.
 #[derive(Clone, Copy)]
 pub struct Shown {
     pub wires: u32,
     pub bits: Raw,
 }
 
-// So many turns.
+// Adds `turns` turns. The result is the last wire.
 fn chain(net: &mut Net, width: u8, input: Sig, turns: u32) -> Result<Sig, NoMemory>
     requires wide { 8 ≤ width }
     requires most { width ≤ 128 }
@@ -39,7 +39,7 @@ fn chain(net: &mut Net, width: u8, input: Sig, turns: u32) -> Result<Sig, NoMemo
     Ok(ends.last)
 }
 
-// A net of one input and so many turns, with its last wire.
+// A net with one input and `turns` turns, and its last wire.
 fn mixed(alloc: Global, width: u8, turns: u32) -> Result<(Net, Sig), NoMemory>
     requires wide { 8 ≤ width }
     requires most { width ≤ 128 }
@@ -55,7 +55,7 @@ fn mixed(alloc: Global, width: u8, turns: u32) -> Result<(Net, Sig), NoMemory>
     Ok((net, last))
 }
 
-/// Runs a net of so many turns for so many cycles, or only makes the net. Widths are from 8 to 128 bits.
+/// Runs a net of `turns` turns for `ticks` cycles, or only makes it. Widths are from 8 to 128 bits.
 pub fn run(alloc: Global, width: u8, turns: u32, ticks: Option<u32>) -> Result<Shown, NoMemory>
     requires wide { 8 ≤ width }
     requires most { width ≤ 128 }

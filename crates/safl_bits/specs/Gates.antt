@@ -5,12 +5,12 @@ use Rattle.safl_aiger.specs.Literals.{Assignment, on}
 use Rattle.safl_aiger.specs.Circuits.{AreBelow}
 use Rattle.safl_aiger.specs.Runs.{Wired}
 
--- ANDs, the first of which is the variable of this number
+-- a graph of ANDs, the first of which has the variable `first`
 pub record Gates : Type 0 where
   pub first : ℕ
   pub ands : List (Lit × Lit)
 
--- the variables so far, with variable 0
+-- the number of variables, including variable 0
 abbrev pub count : Gates → ℕ
 count g = g.first + length g.ands
 
@@ -19,18 +19,18 @@ pub record IsGates (g : Gates) : Type 0 where
   pub few : count g ≤ 1073741824
   pub below : AreBelow g.first g.ands
 
--- a literal of a variable so far
+-- the literal belongs to a variable of the graph
 abbrev pub IsLiteral : Gates → Lit → Type 0
 IsLiteral g l = l.0 < 2 * count g
 
 abbrev pub AreLiterals : Gates → List Lit → Type 0
 AreLiterals g ls = All (IsLiteral g) ls
 
--- there is room for so many ANDs
+-- so many more ANDs have numbers of 31 bits
 abbrev pub HasRoom : Gates → ℕ → Type 0
 HasRoom g most = count g + most ≤ 1073741824
 
--- there are more ANDs, at most so many
+-- the new graph has all ANDs of the old one, and at most so many more
 pub record Grows (old new : Gates) (most : ℕ) : Type 0 where
   pub first : new.first ≡ old.first
   pub more : List (Lit × Lit)
@@ -38,20 +38,20 @@ pub record Grows (old new : Gates) (most : ℕ) : Type 0 where
   pub some : length old.ands ≤ length new.ands
   pub few : length new.ands ≤ length old.ands + most
 
--- variable 0 is false, and each AND the conjunction of its operands
+-- variable 0 is false, and each AND has the conjunction of its operands
 abbrev pub Holds : Gates → Assignment → Type 0
 Holds g m = Wired g.first g.ands m
 
--- the literal is the other's opposite, of the same variable
+-- the literal is the negation of the other
 pub record Inverts (a l : Lit) : Type 0 where
   pub value : (m : Assignment) → on m l ≡ not (on m a)
   pub variable : l.0 / 2 ≡ a.0 / 2
 
--- the literal is the conjunction of two where variable 0 is false
+-- given that variable 0 is false, the literal is the conjunction of the other two
 pub record Folds (a b l : Lit) : Type 0 where
   pub value : (m : Assignment) → m 0 ≡ false → on m l ≡ (on m a && on m b)
   pub known : (n : ℕ) → a.0 < 2 * n → b.0 < 2 * n → l.0 < 2 * n
 
--- exactly one is true
+-- whether exactly one is true
 abbrev pub differ : Bool → Bool → Bool
 differ a b = cond a (not b) b

@@ -4,7 +4,7 @@ use Rattle.std.specs.Hash as fed
 use Rattle.safl_aiger.specs.declared.literal.Lit.{Lit}
 use Rattle.safl_bits.specs.declared.graph.Operands.{Operands}
 
--- what a hash takes of them
+-- the bytes that a hash takes of a pair of operands
 abbrev pub operands_input : Operands → List (List ℕ)
 operands_input o = fed.u32 o.low.0 ++ fed.u32 o.high.0
 

@@ -8,7 +8,7 @@ use crate::graph::{Graph, inverse};
 use safl_aiger::Lit;
 use std::alloc::AllocError;
 
-/// The literal that is true where one is.
+/// The literal that is true if `a` or `b` is.
 pub fn either(g: &mut Graph, a: Lit, b: Lit) -> Result<Lit, AllocError>
     requires first { IsLiteral g.old a }
     requires second { IsLiteral g.old b }
@@ -21,7 +21,7 @@ pub fn either(g: &mut Graph, a: Lit, b: Lit) -> Result<Lit, AllocError>
     Ok(inverse(neither))
 }
 
-/// The literal that is true where exactly one is.
+/// The literal that is true if exactly one of `a` and `b` is.
 pub fn differ(g: &mut Graph, a: Lit, b: Lit) -> Result<Lit, AllocError>
     requires first { IsLiteral g.old a }
     requires second { IsLiteral g.old b }
@@ -35,7 +35,7 @@ pub fn differ(g: &mut Graph, a: Lit, b: Lit) -> Result<Lit, AllocError>
     g.both(inverse(two), inverse(none))
 }
 
-/// The literal that is `a` where `c` is true, else `b`.
+/// The literal that is `a` if `c` is true, else `b`.
 pub fn mux(g: &mut Graph, c: Lit, a: Lit, b: Lit) -> Result<Lit, AllocError>
     requires test { IsLiteral g.old c }
     requires first { IsLiteral g.old a }

@@ -1,4 +1,4 @@
-//! Graphs of ANDs that grow.
+//! Graphs of ANDs, which grow gate by gate.
 
 ghost use Rattle.std.specs.Prelude.{◌≡◌, ℕ, ◌+◌, ◌*◌, ◌<◌, ◌≤◌, ◌&&◌, ◌++◌, ◌∷◌, [], not, false, length, IfOk, IfSome, OnErr, OnOk};
 ghost use Rattle.std.specs.Cmp.Rules.{hashing};
@@ -13,7 +13,7 @@ use std::alloc::{AllocError, Global};
 use std::hash::{Hash, Hasher};
 use std::marker::Model;
 
-/// The operands of an AND, of which the first is not the greater one.
+/// The two operands of an AND, the lower one first.
 #[derive(Clone, Copy, Debug, PartialEq, Eq)]
 struct Operands {
     low: Lit,
@@ -31,7 +31,7 @@ impl Hash for Operands {
     }
 }
 
-/// The ANDs over variables whose values are given: those below the first AND's. No two have the same operands.
+/// ANDs over variables. The variables below the first AND have given values. No two ANDs have the same operands.
 #[derive(Drop)]
 pub struct Graph {
     first: u32,
@@ -50,7 +50,7 @@ impl Model for Graph {
 }
 
 impl Graph {
-    /// No ANDs yet; the first is the variable of this number.
+    /// A graph without ANDs. The first AND will have the variable `first`.
     pub fn new(alloc: Global, first: u32) -> Graph
         requires some { 1 ≤ first }
         requires few { first ≤ 1073741824 }
@@ -62,7 +62,7 @@ impl Graph {
         }
     }
 
-    /// The operands of the ANDs, in order.
+    /// The operands of the ANDs, in the order of their variables.
     pub fn ands(&self, alloc: Global) -> Result<Vec<(Lit, Lit)>, AllocError>
         ensures ands { IfOk result (λ r. r.items ≡ self.now.ands) }
         ensures gates { IsGates self.now }
@@ -75,7 +75,7 @@ impl Graph {
         Ok(all)
     }
 
-    /// The literal that never is true.
+    /// The literal that is always false.
     pub fn bottom(&self) -> Lit
         ensures fits { IsLiteral self.now result }
         ensures value { (m : Assignment) → Holds self.now m → on m result ≡ false }
@@ -84,7 +84,7 @@ impl Graph {
         Lit(0)
     }
 
-    /// The literal that is true where both are.
+    /// The literal that is true if `a` and `b` are.
     pub fn both(&mut self, a: Lit, b: Lit) -> Result<Lit, AllocError>
         requires first { IsLiteral self.old a }
         requires second { IsLiteral self.old b }
@@ -102,7 +102,7 @@ impl Graph {
         self.gate(a, b)
     }
 
-    // The AND of these operands, which is new where there is none.
+    // The AND of two literals: the one that is there already, or else a new one.
     fn gate(&mut self, low: Lit, high: Lit) -> Result<Lit, AllocError>
         requires first { IsLiteral self.old low }
         requires second { IsLiteral self.old high }
@@ -116,7 +116,7 @@ impl Graph {
     }
 }
 
-/// The literal that is true where the other is not.
+/// The negation of a literal.
 pub fn inverse(a: Lit) -> Lit
     ensures { Inverts a result }
 {
@@ -127,7 +127,7 @@ pub fn inverse(a: Lit) -> Lit
     }
 }
 
-// The conjunction of two literals where it needs no gate.
+// The conjunction of two literals, if it needs no gate.
 fn folded(a: Lit, b: Lit) -> Option<Lit>
     ensures { IfSome result (Folds a b) }
 {

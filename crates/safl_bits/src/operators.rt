@@ -1,4 +1,4 @@
-//! Operators on words of literals.
+//! Operators on words that are lists of literals.
 
 ghost use Rattle.std.specs.Prelude.{◌≡◌, ℕ, ◌+◌, ◌*◌, ◌%◌, ◌^◌, ◌<◌, ◌≤◌, [], ◌∷◌, ◌++◌, length, IfOk};
 ghost use Rattle.safl_aiger.specs.Literals.{Assignment, on, shown};
@@ -13,7 +13,7 @@ use safl_aiger::Lit;
 use safl_word::Primitive;
 use std::alloc::{AllocError, Global};
 
-/// What an operator makes of two words of widths that it takes.
+/// The word that an operator with two operands gives. It takes operands of these widths.
 pub fn apply_to_two(
     alloc: Global,
     g: &mut Graph,
@@ -66,7 +66,7 @@ pub fn apply_to_two(
     }
 }
 
-/// What an operator makes of a word of a width that it takes.
+/// The word that an operator with one operand gives. It takes an operand of this width.
 pub fn apply_to_one(alloc: Global, p: Primitive, a: &[Lit]) -> Result<Vec<Lit>, AllocError>
     requires taken { MayTake p (length a.now) }
     ensures made { (g : Gates) → AreLiterals g a.now → IfOk result (λ r. MakesOne p a.now g r.items) }
@@ -78,7 +78,7 @@ pub fn apply_to_one(alloc: Global, p: Primitive, a: &[Lit]) -> Result<Vec<Lit>, 
     }
 }
 
-// One literal as a word.
+// A literal as a word of one bit.
 fn single(alloc: Global, l: Lit) -> Result<Vec<Lit>, AllocError>
     ensures { IfOk result (λ r. r.items ≡ l ∷ []) }
 {
@@ -87,7 +87,7 @@ fn single(alloc: Global, l: Lit) -> Result<Vec<Lit>, AllocError>
     Ok(all)
 }
 
-// Two words, the first in the lower places.
+// The concatenation of two words; `low` has the lower bits.
 fn joined(alloc: Global, low: &[Lit], high: &[Lit]) -> Result<Vec<Lit>, AllocError>
     requires { length low.now + length high.now < 4294967296 }
     ensures { IfOk result (λ r. r.items ≡ low.now ++ high.now) }
@@ -97,7 +97,7 @@ fn joined(alloc: Global, low: &[Lit], high: &[Lit]) -> Result<Vec<Lit>, AllocErr
     Ok(all)
 }
 
-// The bits of a sum.
+// The sum of two words, without its carry.
 fn total(alloc: Global, g: &mut Graph, a: &[Lit], b: &[Lit]) -> Result<Vec<Lit>, AllocError>
     requires first { AreLiterals g.old a.now }
     requires second { AreLiterals g.old b.now }

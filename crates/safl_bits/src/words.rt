@@ -1,4 +1,4 @@
-//! Words as lists of literals, the lowest bit first, and what operators make of them.
+//! Operators on words, as lists of literals with the lowest bit first.
 
 ghost use Rattle.std.specs.Prelude.{◌≡◌, ℕ, ◌+◌, ◌-◌, ◌*◌, ◌/◌, ◌%◌, ◌^◌, ◌<◌, ◌≤◌, ◌==◌, ◌&&◌, ◌||◌, not, false, cond, nat_le, replicate, length, IfOk};
 ghost use Rattle.safl_word.specs.Primitives.{bit_of};
@@ -13,7 +13,7 @@ use safl_aiger::Lit;
 use safl_word::{Raw, Word};
 use std::alloc::{AllocError, Global};
 
-/// A gate of two literals.
+/// A gate with two inputs.
 #[derive(Clone, Copy, Debug, PartialEq, Eq)]
 pub enum Gate {
     Both,
@@ -21,28 +21,28 @@ pub enum Gate {
     Differ,
 }
 
-/// Whither a word is moved.
+/// The direction of a shift.
 #[derive(Clone, Copy, Debug, PartialEq, Eq)]
 pub enum Side {
     Left,
     Right,
 }
 
-/// The bit of a place of a sum, and what is carried to the next.
+/// The sum of one column of an addition: its bit, and the carry into the next column.
 #[derive(Clone, Copy)]
 pub struct Column {
     pub bit: Lit,
     pub carry: Lit,
 }
 
-/// The bits of a sum, and what is carried beyond them.
+/// The bits of a sum, and the carry out of the highest column.
 #[derive(Drop)]
 pub struct Sum {
     pub bits: Vec<Lit>,
     pub carry: Lit,
 }
 
-// One gate.
+// A gate of this kind on two literals.
 fn connect(g: &mut Graph, kind: Gate, a: Lit, b: Lit) -> Result<Lit, AllocError>
     requires first { IsLiteral g.old a }
     requires second { IsLiteral g.old b }
@@ -58,7 +58,7 @@ fn connect(g: &mut Graph, kind: Gate, a: Lit, b: Lit) -> Result<Lit, AllocError>
     }
 }
 
-/// The gate at each place of two words.
+/// The word with a gate of this kind at each place of two words.
 pub fn bitwise(
     alloc: Global,
     g: &mut Graph,
@@ -83,7 +83,7 @@ pub fn bitwise(
     Ok(all)
 }
 
-/// The word with each bit turned.
+/// The word with each bit inverted.
 pub fn complement(alloc: Global, a: &[Lit]) -> Result<Vec<Lit>, AllocError>
     ensures fits { (g : Gates) → AreLiterals g a.now → IfOk result (λ r. AreLiterals g r.items) }
     ensures long { IfOk result (λ r. length r.items ≡ length a.now) }
@@ -96,7 +96,7 @@ pub fn complement(alloc: Global, a: &[Lit]) -> Result<Vec<Lit>, AllocError>
     Ok(all)
 }
 
-/// The word of `a` where `c` is true, else that of `b`.
+/// The word `a` if `c` is true, else `b`.
 pub fn choice(
     alloc: Global,
     g: &mut Graph,
@@ -122,7 +122,7 @@ pub fn choice(
     Ok(all)
 }
 
-/// The word where `c` is true, else 0.
+/// The word `a` if `c` is true, else 0.
 pub fn masked(alloc: Global, g: &mut Graph, c: Lit, a: &[Lit]) -> Result<Vec<Lit>, AllocError>
     requires test { IsLiteral g.old c }
     requires word { AreLiterals g.old a.now }
@@ -140,7 +140,7 @@ pub fn masked(alloc: Global, g: &mut Graph, c: Lit, a: &[Lit]) -> Result<Vec<Lit
     Ok(all)
 }
 
-/// The literal that is true where a bit of the word is.
+/// The literal that is true if some bit of the word is.
 pub fn any(g: &mut Graph, a: &[Lit]) -> Result<Lit, AllocError>
     requires word { AreLiterals g.old a.now }
     requires room { HasRoom g.old (length a.now) }
@@ -155,7 +155,7 @@ pub fn any(g: &mut Graph, a: &[Lit]) -> Result<Lit, AllocError>
     Ok(found)
 }
 
-/// The literal that is true where the words are equal.
+/// The literal that is true if the two words are equal.
 pub fn equal(g: &mut Graph, a: &[Lit], b: &[Lit]) -> Result<Lit, AllocError>
     requires first { AreLiterals g.old a.now }
     requires second { AreLiterals g.old b.now }
@@ -173,7 +173,7 @@ pub fn equal(g: &mut Graph, a: &[Lit], b: &[Lit]) -> Result<Lit, AllocError>
     Ok(inverse(apart))
 }
 
-// One place of a sum.
+// A full adder: the sum of one column.
 fn add_place(g: &mut Graph, a: Lit, b: Lit, c: Lit) -> Result<Column, AllocError>
     requires first { IsLiteral g.old a }
     requires second { IsLiteral g.old b }
@@ -192,7 +192,7 @@ fn add_place(g: &mut Graph, a: Lit, b: Lit, c: Lit) -> Result<Column, AllocError
     Ok(Column { bit, carry })
 }
 
-/// The sum of two words and a bit.
+/// The sum of two words and a carry.
 pub fn add(
     alloc: Global,
     g: &mut Graph,
@@ -218,7 +218,7 @@ pub fn add(
     Ok(Sum { bits, carry })
 }
 
-/// The difference of two words.
+/// The difference of two words, of their width.
 pub fn subtract(alloc: Global, g: &mut Graph, a: &[Lit], b: &[Lit]) -> Result<Vec<Lit>, AllocError>
     requires first { AreLiterals g.old a.now }
     requires second { AreLiterals g.old b.now }
@@ -236,7 +236,7 @@ pub fn subtract(alloc: Global, g: &mut Graph, a: &[Lit], b: &[Lit]) -> Result<Ve
     Ok(sum.bits)
 }
 
-/// The literal that is true where the first word is at least the second.
+/// The literal that is true if `a` is at least `b`.
 pub fn covers(g: &mut Graph, a: &[Lit], b: &[Lit]) -> Result<Lit, AllocError>
     requires first { AreLiterals g.old a.now }
     requires second { AreLiterals g.old b.now }
@@ -253,7 +253,8 @@ pub fn covers(g: &mut Graph, a: &[Lit], b: &[Lit]) -> Result<Lit, AllocError>
     Ok(holds)
 }
 
-// Whether a word is at least another, where their highest bits are these and the bits below are so.
+// Whether one word is at least another. `a` and `b` are their highest bits, and `below` says whether it holds of the
+// bits below these.
 fn covers_with(g: &mut Graph, a: Lit, b: Lit, below: Lit) -> Result<Lit, AllocError>
     requires first { IsLiteral g.old a }
     requires second { IsLiteral g.old b }
@@ -269,7 +270,7 @@ fn covers_with(g: &mut Graph, a: Lit, b: Lit, below: Lit) -> Result<Lit, AllocEr
     either(g, above, kept)
 }
 
-// A literal so many times.
+// A list of `count` copies of a literal.
 fn repeated(alloc: Global, l: Lit, count: usize) -> Result<Vec<Lit>, AllocError>
     ensures { IfOk result (λ r. r.items ≡ replicate count l) }
 {
@@ -277,7 +278,7 @@ fn repeated(alloc: Global, l: Lit, count: usize) -> Result<Vec<Lit>, AllocError>
     Ok(all)
 }
 
-// The word with zeros below, of the same width.
+// The word shifted to the left by `by` places, of the same width.
 fn raise(alloc: Global, zero: Lit, a: &[Lit], by: usize) -> Result<Vec<Lit>, AllocError>
     ensures fits { (g : Gates) → IsLiteral g zero → AreLiterals g a.now → IfOk result (λ r. AreLiterals g r.items) }
     ensures long { IfOk result (λ r. length r.items ≡ length a.now) }
@@ -289,7 +290,7 @@ fn raise(alloc: Global, zero: Lit, a: &[Lit], by: usize) -> Result<Vec<Lit>, All
     Ok(all)
 }
 
-// The word without its lowest bits, with zeros above.
+// The word shifted to the right by `by` places, of the same width.
 fn lower(alloc: Global, zero: Lit, a: &[Lit], by: usize) -> Result<Vec<Lit>, AllocError>
     ensures fits { (g : Gates) → IsLiteral g zero → AreLiterals g a.now → IfOk result (λ r. AreLiterals g r.items) }
     ensures long { IfOk result (λ r. length r.items ≡ length a.now) }
@@ -302,7 +303,7 @@ fn lower(alloc: Global, zero: Lit, a: &[Lit], by: usize) -> Result<Vec<Lit>, All
     Ok(all)
 }
 
-// A row of a product, added to what the rows before it gave.
+// Adds one row of a product to the sum of the rows before it.
 fn add_row(
     alloc: Global,
     g: &mut Graph,
@@ -328,7 +329,7 @@ fn add_row(
     Ok(sum.bits)
 }
 
-/// The product of two words, of their width.
+/// The product of two words of one width, of that width.
 pub fn multiply(alloc: Global, g: &mut Graph, a: &[Lit], b: &[Lit]) -> Result<Vec<Lit>, AllocError>
     requires first { AreLiterals g.old a.now }
     requires second { AreLiterals g.old b.now }
@@ -347,7 +348,7 @@ pub fn multiply(alloc: Global, g: &mut Graph, a: &[Lit], b: &[Lit]) -> Result<Ve
     Ok(total)
 }
 
-// The word moved by a number of places.
+// The word shifted by a constant number of places.
 fn displace(
     alloc: Global,
     zero: Lit,
@@ -365,7 +366,7 @@ fn displace(
     }
 }
 
-// The word moved by a number of places where a bit is true.
+// The word shifted by a constant number of places if a literal is true, else the word itself.
 fn displace_where(
     alloc: Global,
     g: &mut Graph,
@@ -387,7 +388,8 @@ fn displace_where(
     choice(alloc, g, test, &away, a)
 }
 
-// How many bits of an amount are looked at, at most: two to this number is no less than the width.
+// How many bits of the amount a shift looks at, at most. Two to this power is at least the width, so a higher bit moves
+// all bits out.
 fn stages(width: usize) -> usize
     requires { width ≤ 128 }
     ensures few { result ≤ 7 }
@@ -405,7 +407,7 @@ fn stages(width: usize) -> usize
     }
 }
 
-/// The word moved by an amount, 0 where the amount is the width or more.
+/// The word shifted by an amount. It is 0 if the amount is at least the width.
 pub fn shift(
     alloc: Global,
     g: &mut Graph,
@@ -431,7 +433,7 @@ pub fn shift(
     masked(alloc, g, inverse(over), &all)
 }
 
-/// A word as literals.
+/// A constant word as literals.
 pub fn constant(alloc: Global, zero: Lit, word: Word) -> Result<Vec<Lit>, AllocError>
     ensures fits { (g : Gates) → IsLiteral g zero → IfOk result (λ r. AreLiterals g r.items) }
     ensures long { IfOk result (λ r. length r.items ≡ word.width) }
@@ -445,7 +447,7 @@ pub fn constant(alloc: Global, zero: Lit, word: Word) -> Result<Vec<Lit>, AllocE
     Ok(all)
 }
 
-// The literal of a bit of a number.
+// The literal of one bit of a number.
 fn constant_bit(zero: Lit, bits: Raw, place: u8) -> Lit
     requires { place < 128 }
     ensures fits { (g : Gates) → IsLiteral g zero → IsLiteral g result }

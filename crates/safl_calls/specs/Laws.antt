@@ -1,4 +1,4 @@
--- What is claimed of the machine, for every legal list of events.
+-- The laws of the call machine. They hold for every legal list of events.
 use Rattle.std.specs.Prelude.{◌≡◌, ℕ, ◌+◌, ◌*◌, ◌<◌, ◌≤◌, List, length}
 use Rattle.std.specs.List.Sorted.{IsPermutation}
 use Rattle.safl_word.specs.Words.{Word}
@@ -13,39 +13,39 @@ use Rattle.safl_calls.specs.Moves.{moves_count}
 abbrev pub HasReturned : Program → List Word → List Event → Word → Type 0
 HasReturned C args es v = (after C args opening es).site 0 ≡ Returned v
 
--- what main has returned is its value, and the list has three events for each call but two less for each tail call
+-- A word that main has returned is main's value. The list then has three events for each call, less two for each tail call.
 abbrev pub Right : Program → Type 0
 Right C = EachList C (λ args es. (v : Word) → HasReturned C args es v → (d : Main C args v) × (length es + 2 * loops C d ≡ 3 * main_cost C args d))
 
--- until main has returned some event is enabled, where main has as many arguments as parameters
+-- If main has as many arguments as parameters, some event is enabled until main has returned.
 abbrev pub GoesOn : Program → Type 0
 GoesOn C =
     EachList C (λ args es. length args ≡ arity C C.main → ((v : Word) → HasReturned C args es v → ⊥)
     → (e : Event) × Enabled C args (after C args opening es) e)
 
--- and afterwards none is
+-- after main has returned no event is enabled
 abbrev pub Stops : Program → Type 0
 Stops C = EachList C (λ args es. (v : Word) (e : Event) → HasReturned C args es v → Enabled C args (after C args opening es) e → ⊥)
 
--- where main has a value, no legal list is longer than its calls and tail calls allow
+-- if main has a value, the numbers of its calls and tail calls bound the length of a legal list
 abbrev pub Bounded : Program → Type 0
 Bounded C = EachList C (λ args es. (v : Word) (d : Main C args v) → length es + 2 * loops C d ≤ 3 * main_cost C args d)
 
--- where main has a value, a legal list has at most two events besides Returns for each call, but one less for each tail call
+-- if main has a value, a legal list has no more events other than Returns than two for each call, less one for each tail call
 abbrev pub FewMoves : Program → Type 0
 FewMoves C = EachList C (λ args es. (v : Word) (d : Main C args v) → moves_count es + loops C d ≤ 2 * main_cost C args d)
 
--- and exactly so many where main has returned
+-- if main has returned, a legal list has exactly two events other than Returns for each call, less one for each tail call
 abbrev pub AllMoves : Program → Type 0
 AllMoves C = EachList C (λ args es. (v w : Word) (d : Main C args w) → HasReturned C args es v → moves_count es + loops C d ≡ 2 * main_cost C args d)
 
--- where main has returned, each function was started with the argument lists of the evaluation, in some order
+-- if main has returned, each function was started with the argument lists of the evaluation, in some order
 abbrev pub SameCalls : Program → Type 0
 SameCalls C =
     EachList C (λ args es. (v w : Word) (d : Main C args w) → HasReturned C args es v
     → (f : ℕ) → IsPermutation (main_calls C args d f) (starts_of C args opening es f))
 
--- and as often as the evaluation makes calls
+-- if main has returned, functions were started exactly as often as the evaluation makes calls
 abbrev pub SameNumber : Program → Type 0
 SameNumber C = EachList C (λ args es. (v w : Word) (d : Main C args w) → HasReturned C args es v → starts_count es ≡ main_cost C args d)
 

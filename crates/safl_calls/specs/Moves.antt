@@ -1,8 +1,8 @@
--- The events besides Returns: a cycle of a circuit has at least one of them.
+-- The moves: the events other than Returns. A cycle of a circuit has at least one of them.
 use Rattle.std.specs.Prelude.{ℕ, ◌+◌, List, [], ◌∷◌}
 use Rattle.safl_calls.specs.Machine.{Event, Accept, Finish, Return, LoopInto}
 
--- how many events of a list are an Accept, a Finish or a Loop
+-- 1 for an Accept, a Finish or a Loop, 0 for a Return; and the sum over a list
 abbrev pub move_count : Event → ℕ
 move_count (Accept k) = 1
 move_count (Finish f) = 1

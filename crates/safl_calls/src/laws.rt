@@ -8,43 +8,43 @@ ghost use Rattle.safl_calls.specs.Interference.{BusySitesConflict, OneInUse, Sho
 ghost use Rattle.safl_calls.specs.Laws.{AllMoves, Bounded, FewMoves, GoesOn, OneEvent, Right, SameCalls, SameNumber, SitesRest, Stops};
 ghost use Rattle.safl_sites.specs.Conflicts.{IsSequential};
 
-/// What main has returned is its value, and the list has three events for each call but two less for each
+/// If main has returned a word, it is main's value. The list then has three events for each call, less two for each
 /// tail call.
 pub fn right_law()
     ensures { (C : Program) → IsWellFormed C → Right C }
 {}
 
-/// Until main has returned some event is enabled, and afterwards none is.
+/// Some event is enabled until main has returned, and none is afterwards.
 pub fn progress_law()
     ensures goes_on { (C : Program) → IsWellFormed C → GoesOn C }
     ensures stops { (C : Program) → IsWellFormed C → Stops C }
 {}
 
-/// Where main has a value, no list of events is longer than its calls allow.
+/// If main has a value, its number of calls bounds the length of every list of events.
 pub fn bound_law()
     ensures { (C : Program) → IsWellFormed C → Bounded C }
 {}
 
-/// Where main has a value, no list has more events besides Returns than two for each call but one less for each
-/// tail call, and where main has returned the list has as many.
+/// If main has a value, no list has more events other than Returns than two for each call, less one for each tail call.
+/// If main has returned, the list has exactly that many.
 pub fn moves_law()
     ensures most { (C : Program) → IsWellFormed C → FewMoves C }
     ensures all { (C : Program) → IsWellFormed C → AllMoves C }
 {}
 
-/// Where main has returned, each function was started with the argument lists of the evaluation, and all of them
-/// as often as it makes calls.
+/// If main has returned, each function was started with exactly the argument lists of the evaluation, each as often as
+/// the evaluation makes that call.
 pub fn calls_law()
     ensures lists { (C : Program) → IsWellFormed C → SameCalls C }
     ensures number { (C : Program) → IsWellFormed C → SameNumber C }
 {}
 
-/// A site of a function that does not run is unsent.
+/// A site is unsent if its function does not run.
 pub fn rest_law()
     ensures { (C : Program) → IsWellFormed C → SitesRest C }
 {}
 
-/// Two sites of a unit that are wanted or in flight at once conflict.
+/// Two sites of one unit that are both wanted or in flight conflict.
 pub fn conflict_law()
     ensures { (C : Program) → IsWellFormed C → BusySitesConflict C }
 {}
@@ -54,13 +54,13 @@ pub fn arbiter_law()
     ensures { (C : Program) (arbiter kept : ℕ → Bool) → IsWellFormed C → Suffices C arbiter kept → OneInUse C arbiter }
 {}
 
-/// The words that a circuit shows, which keeps those of some sites alone, give the same answers and the same
-/// wants as all the words that were returned.
+/// A circuit keeps the returned words of some sites only. What it shows gives the same answers and the same wants as
+/// all returned words do.
 pub fn kept_law()
     ensures { (C : Program) (arbiter kept : ℕ → Bool) → IsWellFormed C → Suffices C arbiter kept → ShownWordsServe C kept }
 {}
 
-/// Where no two calls of a program can overlap, at most one event is enabled.
+/// If no two calls of a program can overlap, at most one event is enabled.
 pub fn sequence_law()
     ensures { (C : Program) → IsWellFormed C → IsSequential C → OneEvent C }
 {}

@@ -1,4 +1,4 @@
-//! The entries of a case file, done one after the other.
+//! Runs the entries of a case file, one after the other.
 
 use crate::calls::{EACH_KIND, call, plain_call};
 use crate::entries::Entry;
@@ -13,7 +13,8 @@ use safl_io::{MemShelf, MemSink};
 use safl_word::NoMemory;
 use std::alloc::Global;
 
-/// The files of a case as it places them, its shelf, its probes, and the calls of the next call's sinks that are to fail.
+/// A case: the files that it places, its shelf, its probes, and which calls of the sinks fail in the next call of the
+/// program.
 #[derive(Drop)]
 struct Case<'a> {
     placed: Vec<Placed>,
@@ -35,7 +36,7 @@ impl Case<'_> {
     }
 }
 
-/// Does what the entries say, and counts.
+/// Does what the entries say, and counts which of them agree.
 pub fn run_entries(
     rt: &HostRuntime,
     entries: &[Entry<'_>],
@@ -88,14 +89,15 @@ fn place(alloc: Global, case: &mut Case<'_>, name: &str, bytes: &[u8]) -> Result
     Ok(())
 }
 
-// `A by WORDS`: A is what this call prints.
+// Entry `A by WORDS`: places file A with what this call of the program prints.
 fn place_printed(alloc: Global, case: &mut Case<'_>, rest: &str) -> Result<(), NoMemory> {
     let (name, words) = rest.split_once(" by ").unwrap_or((rest, ""));
     let ended = plain_call(alloc, words, &mut case.shelf)?;
     place(alloc, case, name, ended.out.bytes())
 }
 
-// `A as B`: B is A spread out; `A as B after PIECE`: B is A up to this piece, which it ends with.
+// Entry `A as B`: makes file B of A, spread out. Entry `A as B after PIECE`: B is the part of A up to the end of this
+// piece.
 fn make_file(
     alloc: Global,
     case: &mut Case<'_>,
@@ -116,7 +118,7 @@ fn make_file(
     place(alloc, case, to, &made)
 }
 
-// `shelf N`, `out N` and `err N`.
+// Entries `shelf N`, `out N` and `err N`: the Nth call of the shelf or of this sink fails.
 fn fail(case: &mut Case<'_>, rest: &str) -> Result<(), NoMemory> {
     let (what, number) = rest.split_once(' ').unwrap_or((rest, ""));
     let number = number.parse::<u64>().unwrap_or(0);
@@ -142,8 +144,9 @@ fn run_call(
     tally.count_call(entry.number, ended.agrees(&wanted), &ended)
 }
 
-// Whether a file begins with the lines, ends with them, holds each of them or is they; begins as another one, with so
-// many bytes; isn't there; or reads as a netlist, whose text it is, or which is lean.
+// Whether a file is as an entry says: that it begins with the lines, ends with them, holds each of them or consists of
+// them; begins with as many bytes of another file; does not exist; or reads as a netlist, which is lean or of which it
+// is the text.
 fn stands(
     alloc: Global,
     shelf: &MemShelf,
@@ -176,7 +179,7 @@ fn holds_lines(text: &[u8], lines: &[&str]) -> bool {
         .all(|line| text.lines().any(|other| other == *line))
 }
 
-// `A of B N`: A is the first N bytes of B.
+// Entry `A of B N`: whether A is the first N bytes of B.
 fn is_part(shelf: &MemShelf, rest: &str) -> bool {
     let (names, count) = rest.rsplit_once(' ').unwrap_or((rest, ""));
     let (part, whole) = names.split_once(" of ").unwrap_or((names, ""));
@@ -205,7 +208,7 @@ fn run_failing(
     fail_in_turn(alloc, &case.placed, failing, words, entry, tally)
 }
 
-// A table: `KIND NAME: WORDS` or `KIND: WORDS`.
+// Runs a table, `KIND NAME: WORDS` or `KIND: WORDS`.
 fn run_table(
     alloc: Global,
     case: &mut Case<'_>,

@@ -7,7 +7,7 @@ use safl_tool::run;
 use safl_word::NoMemory;
 use std::alloc::Global;
 
-/// What a call left: its status, what it printed and what it told.
+/// How a call ended: its status, what it printed, and what it sent to standard error.
 #[derive(Drop)]
 pub struct Ended {
     pub status: u8,
@@ -16,7 +16,7 @@ pub struct Ended {
 }
 
 impl Ended {
-    /// Whether the call ended as wanted: one of the two sinks got the wanted text, and the other one nothing.
+    /// Whether the call ended as wanted: the right one of the two sinks got the wanted text, and the other one nothing.
     pub fn agrees(&self, wanted: &Wanted) -> bool {
         let (told, silent) = if prints(self.status) {
             (&self.out, &self.err)
@@ -26,7 +26,7 @@ impl Ended {
         self.status == wanted.status && silent.bytes().is_empty() && wanted.fits(told.bytes())
     }
 
-    /// Whether the other call ended in the same way.
+    /// Whether another call ended in the same way.
     pub fn is_same(&self, other: &Ended) -> bool {
         self.status == other.status
             && self.out.bytes() == other.out.bytes()
@@ -34,10 +34,10 @@ impl Ended {
     }
 }
 
-/// The probes that a call is given if nothing else is said: one of each kind.
+/// The probes that a call is given unless a case says otherwise: one of each kind.
 pub const EACH_KIND: &str = "vcd starts toggles";
 
-/// Calls the program with these words and probes, separated by spaces, and answers its status. The word `""` is the empty one. A
+/// Calls the program and returns its status. `words` and `probes` are separated by spaces; the word `""` is empty. A
 /// probe is written as its kind; a kind with `:N` is a stub of that kind whose Nth call fails.
 pub fn run_words<S: Shelf, O: Sink, E: Sink>(
     alloc: Global,
@@ -68,7 +68,7 @@ pub fn run_words<S: Shelf, O: Sink, E: Sink>(
     Ok(run(alloc, &owned, shelf, out, err, &mut probes) as u8)
 }
 
-// The number of a kind of traces, and 0 if it is none.
+// The number of a kind of traces, or 0 if there is no such kind.
 fn kind_of(kind: &str) -> u8 {
     match kind {
         "vcd" => 1,
@@ -91,7 +91,7 @@ pub fn call<S: Shelf>(
     Ok(Ended { status, out, err })
 }
 
-/// The same with one probe of each kind and sinks that do not fail.
+/// Calls the program with one probe of each kind, over sinks that do not fail.
 pub fn plain_call<S: Shelf>(alloc: Global, words: &str, shelf: &mut S) -> Result<Ended, NoMemory> {
     let (out, err) = (MemSink::new(alloc), MemSink::new(alloc));
     call(alloc, words, EACH_KIND, shelf, out, err)

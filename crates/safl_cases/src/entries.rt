@@ -2,8 +2,8 @@
 
 use std::alloc::{AllocError, Global};
 
-/// A line that begins at the margin, its number from 1, and the lines below it that are indented by four spaces, each
-/// without these.
+/// An entry: a line that begins at the margin, its number from 1, and the lines below it that are indented by four
+/// spaces, without that indent.
 #[derive(Drop)]
 pub struct Entry<'a> {
     pub number: usize,
@@ -11,7 +11,7 @@ pub struct Entry<'a> {
     pub body: Vec<&'a str>,
 }
 
-/// The entries of a text. Blank lines, and lines that begin with `//`, are left out.
+/// The entries of a text. Blank lines and lines that begin with `//` are skipped.
 pub fn entries(alloc: Global, text: &str) -> Result<Vec<Entry<'_>>, AllocError> {
     let mut found: Vec<Entry<'_>> = Vec::new(alloc);
     for (number, line) in text.lines().enumerate() {

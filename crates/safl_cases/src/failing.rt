@@ -1,4 +1,4 @@
-//! Calls of the program in which the calls of its shelf, of a sink or of a probe fail in turn.
+//! Calls of the program in which each call of its shelf, of a sink or of a probe fails in turn.
 
 use crate::calls::{EACH_KIND, Ended, call, plain_call};
 use crate::entries::Entry;
@@ -9,7 +9,7 @@ use safl_io::{MemShelf, MemSink};
 use safl_word::NoMemory;
 use std::alloc::Global;
 
-/// What fails.
+/// What fails: the shelf, a sink, or a probe.
 #[derive(Clone, Copy)]
 pub enum Failing<'a> {
     Shelf,
@@ -19,11 +19,11 @@ pub enum Failing<'a> {
     Probe(&'a str),
 }
 
-// The most calls that fail in turn.
+// How many calls may fail in turn, at most.
 const CALLS_MAX: u64 = 10_000;
 
-// The call of the program that is tried: what fails in it, its words and the files of its shelf, and how it ends
-// undisturbed, with the shelf then.
+// A call of the program that is tried: what fails in it, its words, the files of its shelf, and how it ends
+// undisturbed, with the shelf afterwards.
 #[derive(Drop)]
 struct Trial<'a> {
     failing: Failing<'a>,
@@ -33,7 +33,7 @@ struct Trial<'a> {
     left: MemShelf,
 }
 
-// How a call ended in which something failed, and the shelf then.
+// How a call of the program ended in which something failed, and the shelf afterwards.
 #[derive(Drop)]
 struct Disturbed {
     ended: Ended,
@@ -41,7 +41,8 @@ struct Disturbed {
 }
 
 /// Makes call 1, 2, 3 and so on fail, each on a new shelf with these files, until nothing fails. The rows say how these
-/// calls of the program end; after each the same call on the same shelf must end as an undisturbed one.
+/// calls of the program end. After each, the same call of the program on the same shelf must end as an undisturbed one
+/// does.
 pub fn fail_in_turn(
     alloc: Global,
     placed: &[Placed],
@@ -89,13 +90,14 @@ fn disturb(alloc: Global, trial: &Trial<'_>, number: u64) -> Result<Disturbed, N
     Ok(Disturbed { ended, shelf })
 }
 
-// One probe of each kind, with a stub in place of the one of this kind, whose call of this number fails.
+// One probe of each kind. In place of the probe of kind `kind` stands a stub whose call `number` fails.
 fn with_stub(alloc: Global, kind: &str, number: u64) -> Result<String, NoMemory> {
     let (before, after) = EACH_KIND.split_once(kind).unwrap_or((EACH_KIND, ""));
     Ok(format!(in alloc; "{before}{kind}:{number}{after}")?)
 }
 
-// The row of this number: that in whose list it stands, or the one of `more`; and the one of `end` where nothing fails.
+// The row for a call number: the row in whose list it stands, or else the row of `more`. If nothing failed, the row of
+// `end`.
 fn row_of<'a>(rows: &[&'a str], number: u64, is_over: bool) -> &'a str {
     for row in rows {
         let (which, right) = row.split_once(" -> ").unwrap_or((*row, ""));
@@ -114,7 +116,8 @@ fn row_of<'a>(rows: &[&'a str], number: u64, is_over: bool) -> &'a str {
     ""
 }
 
-// Whether a call ended as its row says: a status and a line, and after `; ` what is in the files that it writes.
+// Whether a call ended as its row says. A row has a status and a line, and after `; ` the state of the files that the
+// call writes.
 fn judge(
     alloc: Global,
     trial: &Trial<'_>,
@@ -141,14 +144,14 @@ fn judge(
     Ok(ended.status == wanted.status && fits && begins && has_state(trial, &disturbed.shelf, state))
 }
 
-// Whether these bytes are the first ones of the others, and not all.
+// Whether these bytes are a prefix of the others, and not all of them.
 fn is_cut(bytes: &[u8], whole: &[u8]) -> bool {
     bytes.len() < whole.len() && whole.starts_with(bytes)
 }
 
-// Whether this is in the files that the call writes: `none` is there, what was there `before`, the `whole` texts, or texts that
-// are `cut` off: each file is as before or has a prefix of its text, and some file has changed and some isn't whole. The other
-// files that the call names are as before.
+// Whether the files that the call writes are in this state. `none`: no file is there. `before`: all are as before.
+// `whole`: all have their whole texts. `cut`: each is as before or has a prefix of its text, some have changed, and
+// some are not whole. All other files that the call names must be as before.
 fn has_state(trial: &Trial<'_>, shelf: &MemShelf, state: &str) -> bool {
     let mut are_missing = true;
     let mut are_before = true;
@@ -179,7 +182,7 @@ fn has_state(trial: &Trial<'_>, shelf: &MemShelf, state: &str) -> bool {
     }
 }
 
-// What is in a file before the call.
+// The bytes of a file before the call.
 fn text_before<'a>(trial: &Trial<'a>, name: &str) -> Option<&'a [u8]> {
     let file = trial.placed.iter().find(|file| file.name.as_str() == name)?;
     Some(&file.bytes)

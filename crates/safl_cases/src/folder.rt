@@ -1,4 +1,4 @@
-//! Calls over the files of the system, compared with the same calls over files in memory.
+//! Calls over the system's files, compared with the same calls over files in memory.
 
 use crate::calls::{EACH_KIND, plain_call, run_words};
 use crate::entries::Entry;
@@ -7,11 +7,11 @@ use crate::tally::Tally;
 use safl_io::{DirShelf, MemShelf, StdSink, read_file, write_file};
 use safl_word::NoMemory;
 
-// The most bytes of a file that is compared.
+// The greatest length in bytes of a file that is compared.
 const FILE_MAX: u64 = 1_048_576;
 
-/// Writes the files to the current folder, makes the calls of the rows there and over files in memory, and counts where
-/// they end in the same way. A row `NAME` of one word compares the file of that name.
+/// Writes the files to the current folder, makes the calls of the rows both there and over files in memory, and counts
+/// those that end in the same way. A row of one word compares the file of that name.
 pub fn compare_with_folder(
     rt: &HostRuntime,
     placed: &[Placed],
@@ -54,8 +54,8 @@ fn is_same_file(rt: &HostRuntime, memory: &MemShelf, name: &str) -> bool {
     }
 }
 
-/// Makes the calls of the rows over the files of the current folder. What they print and what they tell goes to the
-/// standard output.
+/// Makes the calls of the rows over the files of the current folder. What they print on either stream goes to standard
+/// output.
 pub fn show_calls(rt: &HostRuntime, rows: &[&str]) -> Result<(), NoMemory> {
     let mut shelf = DirShelf::new(rt);
     let mut out = StdSink::new(rt.stdout());

@@ -1,4 +1,4 @@
-//! Runs the cases of the case files that its words name, and prints how many of each file agree and what differs.
+//! Runs the case files that the command line names, and prints how many cases of each agree, and what differs.
 #![tactic(auto)]
 
 mod bench;
@@ -21,7 +21,7 @@ use safl_word::NoMemory;
 use std::process::ExitCode;
 use std::{env, io};
 
-// The most bytes of a case file.
+// The greatest length of a case file in bytes.
 const CASES_MAX: u64 = 1_048_576;
 
 fn main(rt: HostRuntime) -> io::Result<ExitCode> {
@@ -42,7 +42,7 @@ fn main(rt: HostRuntime) -> io::Result<ExitCode> {
     Ok(ExitCode::from(if differing == 0 { 0 } else { 1 }))
 }
 
-// The counts of a case file, where it can be read and memory suffices.
+// Runs a case file. None if it cannot be read, or if memory runs out.
 fn run_file(rt: &HostRuntime, name: &str) -> Option<Tally> {
     let bytes = read_file(rt.alloc(), &mut DirShelf::new(rt), name, CASES_MAX).ok()?;
     let text = str::from_utf8(&bytes).ok()?;

@@ -1,4 +1,4 @@
-//! Netlists that files read as.
+//! What the cases ask of netlists in files.
 
 use safl_net::Net;
 use safl_opt::lean;
@@ -7,7 +7,7 @@ use safl_vread::read_net;
 use safl_vwrite::text_of;
 use std::alloc::Global;
 
-/// Whether a text reads as a netlist that is lean.
+/// Whether a text reads as a netlist, and that netlist is lean.
 pub fn is_lean(alloc: Global, text: &[u8]) -> bool {
     let Some(net) = net_of(alloc, text) else {
         return false;
@@ -18,7 +18,7 @@ pub fn is_lean(alloc: Global, text: &[u8]) -> bool {
     }
 }
 
-/// Whether a text is that of the netlist that it reads as.
+/// Whether a text reads as a netlist and is exactly the text that is written for it.
 pub fn is_text_of_net(alloc: Global, text: &[u8]) -> bool {
     let Some(net) = net_of(alloc, text) else {
         return false;

@@ -1,4 +1,4 @@
-//! What the file of a source shows of its plan.
+//! The plan of a source, as far as its built file shows it.
 
 use crate::calls::plain_call;
 use crate::texts::bytes_of;
@@ -6,8 +6,8 @@ use safl_io::MemShelf;
 use safl_word::NoMemory;
 use std::alloc::Global;
 
-/// The sites that have an arbiter's wire and those that have a kept word, by number, and the numbers of registers and of
-/// their bits, as the file `v` says that this call builds of the source `p`.
+/// The plan that a built file shows: the sites that have an arbiter's wire, those that have a kept word, and the
+/// numbers of registers and of their bits. The words `build` write the file `v` from the source `p`.
 pub fn plan_of(alloc: Global, build: &str, source: &str) -> Result<String, NoMemory> {
     let mut shelf = MemShelf::new(alloc);
     shelf.add("p", &bytes_of(alloc, source, 0)?)?;
@@ -23,7 +23,7 @@ pub fn plan_of(alloc: Global, build: &str, source: &str) -> Result<String, NoMem
     Ok(told)
 }
 
-// The numbers at the end of the lines that begin so.
+// Appends the numbers at the end of those lines of a text that begin with `start`.
 fn push_sites(told: &mut String, text: &str, start: &str) -> Result<(), NoMemory> {
     for line in text.lines() {
         if let Some(rest) = line.strip_prefix(start) {
@@ -47,7 +47,7 @@ fn push_kept(told: &mut String, text: &str) -> Result<(), NoMemory> {
     Ok(())
 }
 
-// How many registers there are, and how many bits they have.
+// The number of registers of a text, and the number of their bits.
 fn registers_of(text: &str) -> (usize, usize) {
     let mut registers: usize = 0;
     let mut bits: usize = 0;

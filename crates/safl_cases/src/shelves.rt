@@ -1,11 +1,11 @@
-//! The files of a case, and files made of other files.
+//! The files of a case, and how files are made of other files.
 
 use crate::texts::bytes_of;
 use safl_io::MemShelf;
 use safl_word::NoMemory;
 use std::alloc::Global;
 
-/// A file that a case puts on the shelf.
+/// A file that a case places on the shelf.
 #[derive(Drop)]
 pub struct Placed {
     pub name: String,
@@ -21,7 +21,7 @@ pub fn shelf_of(alloc: Global, files: &[Placed]) -> Result<MemShelf, NoMemory> {
     Ok(shelf)
 }
 
-/// The lines, each ended by a line feed, or with line feeds between them alone.
+/// The lines joined by line feeds, with one after the last line too if `is_ended`.
 pub fn joined(alloc: Global, lines: &[&str], is_ended: bool) -> Result<Vec<u8>, NoMemory> {
     let mut bytes = Vec::new(alloc);
     for (place, line) in lines.iter().enumerate() {
@@ -36,7 +36,7 @@ pub fn joined(alloc: Global, lines: &[&str], is_ended: bool) -> Result<Vec<u8>, 
     Ok(bytes)
 }
 
-/// The pieces of these rows one after the other: a row is how often its piece stands there, and the piece.
+/// The pieces of the rows, one after the other. Each row has a number and a piece, which is repeated that many times.
 pub fn repeated(alloc: Global, rows: &[&str]) -> Result<Vec<u8>, NoMemory> {
     let mut bytes = Vec::new(alloc);
     for row in rows {
@@ -53,7 +53,8 @@ pub fn repeated(alloc: Global, rows: &[&str]) -> Result<Vec<u8>, NoMemory> {
     Ok(bytes)
 }
 
-// Adds so many of a piece, a thousand at a time while there are as many.
+// Appends `count` copies of a piece. It appends a thousand at a time as long as it can, so that long texts are made
+// fast.
 fn repeat(alloc: Global, bytes: &mut Vec<u8>, count: usize, piece: &[u8]) -> Result<(), NoMemory> {
     let mut block = Vec::new(alloc);
     if count >= 1000 {
@@ -87,7 +88,7 @@ pub fn spread(alloc: Global, text: &[u8]) -> Result<Vec<u8>, NoMemory> {
     Ok(out)
 }
 
-/// Where a piece first stands in a text, and what stands before and after it.
+/// The parts of a text before and after the first occurrence of a piece.
 pub fn split_at_piece<'a>(text: &'a [u8], piece: &[u8]) -> Option<(&'a [u8], &'a [u8])> {
     let place = text
         .windows(piece.len().max(1))
@@ -97,8 +98,8 @@ pub fn split_at_piece<'a>(text: &'a [u8], piece: &[u8]) -> Option<(&'a [u8], &'a
     Some((before, after))
 }
 
-/// The text with the first of each of these pieces made another one: changes `OLD => NEW` with ` ;; ` between them.
-/// Nothing where a piece doesn't stand there.
+/// The text after some changes `OLD => NEW`, separated by ` ;; `: in each, the first OLD becomes NEW. None if one of
+/// them does not occur.
 pub fn changed(alloc: Global, text: &[u8], changes: &str) -> Result<Option<Vec<u8>>, NoMemory> {
     let mut now = Vec::from_slice(alloc, text)?;
     for change in changes.split(" ;; ") {

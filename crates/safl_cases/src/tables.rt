@@ -1,4 +1,4 @@
-//! Tables: cases of one line each.
+//! Tables, in which each row is a case.
 
 use crate::calls::{Ended, plain_call};
 use crate::entries::Entry;
@@ -13,20 +13,21 @@ use std::alloc::Global;
 /// What the rows of a table are.
 #[derive(Clone, Copy)]
 pub enum Rows<'a> {
-    /// Sources, each of which is put in this file; `with` and arguments may follow.
+    /// Sources, each of which is written to this file. `with` and arguments may follow.
     Sources(&'a str),
     /// Changes of this file.
     Changes(&'a str),
-    /// Words that follow those of the table, on the case's own shelf.
+    /// Words that follow the words of the table. The calls use the case's own shelf.
     Words,
-    /// Sources that are simulated, and built and run, with and without `--opt`, and run with the built file spread out, all to
-    /// the same end.
+    /// Sources. Each is simulated; built and run, with and without `--opt`; and run from the built file spread out. All
+    /// have to end in the same way.
     Circuits,
-    /// Sources that are built, with and without `--opt`, and what of both files shows their plan.
+    /// Sources. Each is built with and without `--opt`, and both files have to show the same plan.
     Plans,
 }
 
-/// Does what the rows say. Rows of words are calls on this shelf, one after the other; each other row has a shelf of its own.
+/// Runs the rows of a table. Rows of words are calls on this shelf, one after the other; every other row has a shelf of
+/// its own.
 pub fn run_rows(
     alloc: Global,
     shelf: &mut MemShelf,
@@ -65,7 +66,7 @@ fn compare_plans(
     Ok(())
 }
 
-// The call of a row of sources, changes or words.
+// Makes the call of a row of sources, changes or words.
 fn run_row(
     alloc: Global,
     shelf: &mut MemShelf,
@@ -94,7 +95,8 @@ fn run_row(
     }
 }
 
-// Simulates the source of a row, builds it with and without `--opt`, runs the files, and runs the plain one spread out.
+// Simulates the source of a row, builds it with and without `--opt`, runs both files, and runs the plain one spread
+// out.
 fn run_circuit(
     alloc: Global,
     words: &str,

@@ -4,7 +4,7 @@ use crate::calls::Ended;
 use safl_word::NoMemory;
 use std::alloc::Global;
 
-/// How many cases were tried, how many of them differ, and a line for each of these.
+/// How many cases were tried and how many differ, with a line for each that differs.
 #[derive(Drop)]
 pub struct Tally {
     alloc: Global,
@@ -23,7 +23,7 @@ impl Tally {
         }
     }
 
-    /// Counts a case of this line, where something differs with what it is.
+    /// Counts the case of line `number`. If it does not agree, `what` says what differs.
     pub fn count(&mut self, number: usize, agrees: bool, what: &str) -> Result<(), NoMemory> {
         self.tried = self.tried.saturating_add(1);
         if !agrees {
@@ -34,7 +34,7 @@ impl Tally {
         Ok(())
     }
 
-    /// Counts a call of this line, where it differs with how it ended.
+    /// Counts the call of line `number`. If it does not agree, the way it ended is noted.
     pub fn count_call(
         &mut self,
         number: usize,

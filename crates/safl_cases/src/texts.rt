@@ -1,9 +1,10 @@
-//! Texts within a line, and what a row wants of a call.
+//! Texts in the lines of a case file, and how a call is wanted to end.
 
 use safl_word::{NoMemory, numeral};
 use std::alloc::Global;
 
-/// What a row wants: a status, and the text that is printed, or told where the status is that of a refusal.
+/// How a call is wanted to end: its status, and what it prints. If the status is that of a refusal, the text goes to
+/// standard error.
 #[derive(Drop)]
 pub struct Wanted {
     pub status: u8,
@@ -11,7 +12,7 @@ pub struct Wanted {
 }
 
 impl Wanted {
-    /// The one that a row writes: a status, and after a space the lines that are printed, with `, ` between them, or the line of a refusal.
+    /// Reads a row: a status, then after a space the printed lines, separated by `, `, or the line of a refusal.
     pub fn of_row(alloc: Global, row: &str) -> Result<Wanted, NoMemory> {
         let (number, rest) = row.split_once(' ').unwrap_or((row, ""));
         let status = status_of(number);
@@ -26,7 +27,7 @@ impl Wanted {
         Ok(Wanted { status, text })
     }
 
-    /// The one of a status and lines.
+    /// The wanted end with this status and these lines.
     pub fn of_lines(alloc: Global, number: &str, lines: &[&str]) -> Result<Wanted, NoMemory> {
         let mut text = String::new(alloc);
         for line in lines {
@@ -38,7 +39,7 @@ impl Wanted {
         })
     }
 
-    /// Whether these bytes are the wanted text, or begin with it where it ends with ` ..`.
+    /// Whether these bytes are the wanted text. If that ends with ` ..`, they only have to begin with it.
     pub fn fits(&self, got: &[u8]) -> bool {
         match self.text.as_str().strip_suffix(" ..\n") {
             Some(start) => got.starts_with(start.as_bytes()),
@@ -47,12 +48,12 @@ impl Wanted {
     }
 }
 
-/// Whether a call that ends with this status prints lines, and tells none.
+/// Whether a call with this status prints to standard output, and nothing to standard error.
 pub fn prints(status: u8) -> bool {
     status == 0 || status == 6
 }
 
-// A status that no call has, where the text is no number.
+// The status that a text spells. If it is no number, a status that no call has.
 fn status_of(number: &str) -> u8 {
     number.parse::<u8>().unwrap_or(255)
 }
@@ -65,8 +66,8 @@ fn push_line(text: &mut String, line: &str) -> Result<(), NoMemory> {
     Ok(())
 }
 
-/// The bytes that a piece of a line stands for: what is between double quotes, or all of it, with `\n`, `\t` and `\r`
-/// for these bytes, `\x` and two hexadecimal digits for any byte, and `\#` for this number.
+/// The bytes that a piece of a line stands for: all of it, or what is between its double quotes. `
+/// `, `\t` and `\r` stand for these bytes, `\x` and two hexadecimal digits for any byte, and `\#` for `number`.
 pub fn bytes_of(alloc: Global, piece: &str, number: usize) -> Result<Vec<u8>, NoMemory> {
     let inner = piece
         .strip_prefix('"')
@@ -83,7 +84,7 @@ pub fn bytes_of(alloc: Global, piece: &str, number: usize) -> Result<Vec<u8>, No
     Ok(bytes)
 }
 
-// What follows a `\`.
+// Appends the bytes that the characters after a `\` stand for.
 fn push_escaped(
     alloc: Global,
     bytes: &mut Vec<u8>,

@@ -1,4 +1,4 @@
--- What the checker answers.
+-- The answers of the checker.
 use Rattle.std.specs.Prelude.{Vec, ◌≡◌, ◌⊎◌, List, map, Some, None, Result, Ok, Err}
 use Rattle.std.specs.Global.{Global}
 use Rattle.safl_word.specs.declared.fault.Fault.{Fault}
@@ -10,7 +10,7 @@ use Rattle.safl_typing.specs.Walk.{limits, first_fault}
 use Rattle.safl_typing.specs.declared.typed.CheckErr.{CheckErr}
 use Rattle.safl_typing.specs.declared.typed.CheckErr.TheVariants as errors
 
--- the functions of the code are those of the walk, or its fault is
+-- the functions that the code gives are those of the definition of checking, or the faults are the same
 abbrev pub SaysFunctions : Result (Vec Function Global) CheckErr → Result (List FunctionForm) Fault → Type 0
 SaysFunctions (Ok fs) r = r ≡ Ok (map shown_function fs.items)
 SaysFunctions (Err e) r = Refuses e r
@@ -19,11 +19,11 @@ SaysFunctions (Err e) r = Refuses e r
 abbrev pub IsTooDeep : List Definition → Type 0
 IsTooDeep ds = (limits ds ≡ None) × ¬ (AreShallow ds)
 
--- a refusal is the first fault of the program: of a limit, or of a program whose bodies are all shallow
+-- the first fault of the program: of a limit, or, if all bodies are shallow, of a head or a body
 abbrev pub IsRefused : List Definition → Fault → Type 0
 IsRefused ds f = (first_fault ds ≡ Some f) × (limits ds ≡ Some f ⊎ AreShallow ds)
 
--- the same of limits alone, and of a program whose bodies are shallow
+-- each error that the limits give, and, in a program with shallow bodies, the heads
 abbrev pub RefusesLimits : List Definition → CheckErr → Type 0
 RefusesLimits ds (errors.Refused f) = limits ds ≡ Some f
 RefusesLimits ds errors.TooDeep = ⊥
@@ -34,12 +34,12 @@ RefusesShallow ds (errors.Refused f) = first_fault ds ≡ Some f
 RefusesShallow ds errors.TooDeep = ⊥
 RefusesShallow ds errors.NoMemory = Unit {0}
 
--- each error with its cause; out of memory has none
+-- each error of the checker comes only for its cause. Out of memory needs no cause
 abbrev pub RefusesProgram : List Definition → CheckErr → Type 0
 RefusesProgram ds (errors.Refused f) = IsRefused ds f
 RefusesProgram ds errors.TooDeep = IsTooDeep ds
 RefusesProgram ds errors.NoMemory = Unit {0}
 
--- too deep, or out of memory
+-- the answer is too deep, or out of memory
 abbrev pub FindsTooDeep : {A : Type 0} → Result A CheckErr → Type 0
 FindsTooDeep r = (r ≡ Err errors.TooDeep) ⊎ (r ≡ Err errors.NoMemory)

@@ -8,7 +8,7 @@ abbrev pub name_in : Option Definition → List ℕ
 name_in None = []
 name_in (Some d) = d.name
 
--- the names of the first so many definitions, the last one first
+-- the names of the definitions before number n, the last one first
 abbrev pub earlier : List Definition → ℕ → List (List ℕ)
 earlier ds zero = []
 earlier ds (suc n) = name_in (slice_get ds n) ∷ earlier ds n
@@ -18,6 +18,6 @@ abbrev pub first_group_fault : List (List ℕ) → List Definition → Option Fa
 first_group_fault names [] = None
 first_group_fault names (d ∷ ds) = group_fault names d ds
 
--- the same of the definition of a number
+-- the first fault of the heads of the group that begins with definition n
 abbrev pub group_fault_at : List Definition → ℕ → Option Fault
 group_fault_at ds n = first_group_fault (earlier ds n) (drop n ds)

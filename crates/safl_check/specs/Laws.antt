@@ -1,10 +1,10 @@
--- What is claimed of forms.
+-- The laws of numbered forms.
 use Rattle.std.specs.Prelude.{◌≡◌}
 use Rattle.safl_term.specs.Checked.{CheckedProgram}
 use Rattle.safl_typing.specs.Forms.{shown}
 use Rattle.safl_check.specs.Numbered.{program_in, names_in}
 
--- one form, one program in numbers and the same names
+-- the two programs are the same in numbers, and have the same names
 pub record IsSameProgram (c d : CheckedProgram) : Type 0 where
   pub program : c.program ≡ d.program
   pub names : c.names ≡ d.names
@@ -12,7 +12,7 @@ pub record IsSameProgram (c d : CheckedProgram) : Type 0 where
 abbrev pub FormsTellPrograms : Type 0
 FormsTellPrograms = (c d : CheckedProgram) → shown c ≡ shown d → IsSameProgram c d
 
--- a checked program is in numbers what its form is, with the same names
+-- a checked program is, in numbers, the program of its form, and has the same names
 pub record IsNumbered (c : CheckedProgram) : Type 0 where
   pub program : c.program ≡ program_in (shown c)
   pub names : c.names ≡ names_in (shown c)

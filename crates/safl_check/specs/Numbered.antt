@@ -1,4 +1,4 @@
--- The program in numbers that a form is.
+-- The program in numbers that belongs to a form.
 use Rattle.std.specs.Prelude.{ℕ, zero, suc, ◌-◌, List, [], length, map, slice_get}
 use Rattle.std.specs.Option.{option_map_or}
 use Rattle.safl_word.specs.Words.{no_word}
@@ -8,16 +8,16 @@ use Rattle.safl_term.specs.Terms.{Const}
 use Rattle.safl_term.specs.declared.checked.Site.{Site}
 use Rattle.safl_typing.specs.Forms.{FunctionForm, Form}
 
--- what a function of the form has, or a default where it is not there
+-- something of function f of the form, or a default if there is no such function
 abbrev pub of_function : {A : Type 0} → (FunctionForm → A) → A → Form → ℕ → A
 of_function has default c f = option_map_or has (slice_get c.functions f) default
 
--- what a site has, where sites are numbered from 1; site 0 has a number of its own
+-- something of a site. Sites are numbered from 1; for site 0 it is this number
 abbrev pub of_site : (Site → ℕ) → ℕ → Form → ℕ → ℕ
 of_site has outside c zero = outside
 of_site has outside c (suc k) = option_map_or has (slice_get c.sites k) 0
 
--- the last function
+-- the number of the last function
 abbrev pub main_in : Form → ℕ
 main_in c = length c.functions - 1
 
@@ -35,7 +35,7 @@ program_in c = record {
   callee = of_site (λ s. s.callee) (main_in c) c;
 }
 
--- the names of its functions, and of their parameters
+-- the names of functions, and those of their parameters
 unfoldable pub name_in : Form → ℕ → List ℕ
 name_in = of_function (λ f. f.name) []
 

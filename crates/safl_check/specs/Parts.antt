@@ -1,4 +1,4 @@
--- The parts of an expression, and what each expression counts by itself towards a limit.
+-- The parts of an expression, and what it adds by itself to the counts of rule E16.
 use Rattle.std.specs.Prelude.{ℕ, ◌+◌, ◌*◌, List, [], ◌∷◌, ◌++◌, map, Option, None, nat_le}
 use denote.Ref.{Bor}
 use Rattle.safl_word.specs.declared.fault.Fault.{Fault}
@@ -15,7 +15,7 @@ use Rattle.safl_typing.specs.Heads.{Known, callee, is_site}
 use Rattle.safl_typing.specs.Rewriting.{rewritten, rewritten_binds, nodes}
 use Rattle.safl_typing.specs.Walk.{excess, fault_with, needs, placed}
 
--- operands or arguments, one by one
+-- the expressions of a list of operands or arguments
 abbrev pub trees_in : Trees → List Tree
 trees_in no_tree = []
 trees_in (a_tree t ts) = t ∷ trees_in ts
@@ -24,7 +24,7 @@ abbrev pub values_in : Binds → List Tree
 values_in no_bind = []
 values_in (a_bind p x w t bs) = t ∷ values_in bs
 
--- each label before its value, and last the default
+-- the label and the value of each arm, and then the default
 abbrev pub arms_in : Arms → List Tree
 arms_in (default_arm t) = t ∷ []
 arms_in (an_arm l t arms) = l ∷ (t ∷ arms_in arms)
@@ -44,7 +44,8 @@ abbrev pub arm_count : Arms → ℕ
 arm_count (default_arm t) = 0
 arm_count (an_arm l t arms) = 1 + arm_count arms
 
--- without its parts: a case is a let, and for each labelled arm an if, a test and the test's variable
+-- the nodes of the expression itself, without its parts. A case counts as a let, and for each labelled arm an if, a test and the
+-- test's variable
 abbrev pub own_nodes : Tree → ℕ
 own_nodes (Number p n) = 1
 own_nodes (Sized p w n) = 1
@@ -65,7 +66,7 @@ own_sites k (Cases p e arms) = 0
 own_sites k (Op p o ts) = 0
 own_sites k (Call p f ts) = is_site (callee k f)
 
--- the place of the binding that is one too many, where the expression is itself such a let
+-- the place of the first binding beyond the limit, if the expression itself is a let with too many
 abbrev pub own_long_let : Tree → Option ℕ
 own_long_let (Number p n) = None
 own_long_let (Sized p w n) = None
@@ -76,12 +77,12 @@ own_long_let (Cases p e arms) = None
 own_long_let (Op p o ts) = None
 own_long_let (Call p f ts) = None
 
--- what stands on a stack, from its top, the last one, down
+-- the expressions on a stack, from its top, which is the end of the list, down
 abbrev pub pending : List (Bor Expr) → List Tree
 pending [] = []
 pending (e ∷ es) = pending es ++ shown_tree e.now ∷ []
 
--- the values of bindings, and the labels and values of arms
+-- the values of bindings; the labels and values of arms
 abbrev pub values_of : List Bind → List Tree
 values_of bs = map (λ b. shown_tree b.value) bs
 
@@ -89,12 +90,12 @@ abbrev pub arms_of : List Arm → List Tree
 arms_of [] = []
 arms_of (a ∷ arms) = shown_tree a.label ∷ (shown_tree a.value ∷ arms_of arms)
 
--- how many nodes several expressions have, where each `case` is rewritten
+-- the number of nodes of several expressions after each `case` is rewritten
 abbrev pub total_nodes : List Tree → ℕ
 total_nodes [] = 0
 total_nodes (t ∷ ts) = nodes (rewritten t) + total_nodes ts
 
--- a fault at this place, up to which too many sites or too many nodes stand
+-- E16 at this place, if there are too many sites or too many nodes up to it
 abbrev pub sum_fault : (place in_all nodes_all : ℕ) → Option Fault
 sum_fault place in_all nodes_all =
     or_else (needs (nat_le in_all max_sites) (fault_with rules.E16 place 4 max_sites))

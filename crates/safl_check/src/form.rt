@@ -16,7 +16,7 @@ use safl_tree::{Def, Name, Param};
 use safl_word::NoMemory;
 use std::alloc::Global;
 
-/// The function of a definition: a member of this group, whose sites are numbered from `first_site` on.
+/// The checked form of a definition: a function of group `unit`, whose call sites are numbered from `first_site` on.
 pub fn function_of(
     alloc: Global,
     def: &Def,
@@ -57,7 +57,6 @@ fn parameters_of(alloc: Global, params: &[Param]) -> Result<Vec<Parameter>, NoMe
     Ok(all)
 }
 
-// A name as text.
 #[tactic(auto, using(crate::proofs::NamesAsText::utf8_name))]
 fn text_of(alloc: Global, name: &Name) -> Result<String, NoMemory>
     requires { IsName name.now }

@@ -29,11 +29,11 @@ use safl_typing::typed::{CheckErr, Wanted};
 use safl_typing::walk::check_expression;
 use std::alloc::Global;
 
-// How deep a body may be: what recurses on one has a stack that is large enough. A source's are at most 1,100 deep, by a
-// law on what keeps the levels.
+// The greatest depth of a body: the functions that recurse on bodies have a stack that is large enough for it. The body
+// of a source is at most 1,100 deep, as a law on nesting levels says.
 const DEPTH_MAX: u32 = 2_000;
 
-/// Whether no body is deeper than 2,000.
+/// Whether no body is deeper than `DEPTH_MAX`.
 pub fn are_shallow(defs: &[Def]) -> bool
     ensures { IsTrue result ↔ AreShallow (shown_definitions defs.now) }
 {
@@ -74,7 +74,7 @@ pub fn check_functions(
     Ok(functions)
 }
 
-// The function of a definition with its own head, whose sites are numbered from `first_site` on.
+// Checks a definition against its own head. Its call sites are numbered from `first_site` on.
 fn check_function(
     alloc: Global,
     heads: &Heads,

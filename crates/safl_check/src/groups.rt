@@ -1,4 +1,4 @@
-//! The heads of groups: names that stand twice, and members of another width.
+//! The heads of groups: functions defined twice, results of different widths, and repeated parameters.
 
 ghost use Rattle.std.specs.Prelude.{◌≡◌, ◌<◌, [], length, slice_get, IfSome};
 ghost use Rattle.std.specs.List.{list_any};
@@ -13,8 +13,9 @@ use safl_tree::{Def, Name, Param};
 use safl_typing::heads::Heads;
 use safl_word::{Fault, Rule};
 
-/// The first fault of the heads of the group that begins with this definition, member by member: E06 (function defined
-/// twice), E12 (another width than the group's) and E07 (parameter named twice). None where it is joined to a group.
+/// The first fault of the heads of the group that begins at definition `number`, member by member: E06 (function
+/// defined twice), E12 (width differs from the group's) and E07 (parameter named twice). None if the definition
+/// continues a group.
 pub fn find_group_fault(defs: &[Def], all_heads: &Heads, number: usize) -> Option<Fault>
     requires number { number < length defs.now }
     requires heads { shown_heads all_heads.now ≡ heads (shown_definitions defs.now) }
@@ -39,7 +40,7 @@ pub fn find_group_fault(defs: &[Def], all_heads: &Heads, number: usize) -> Optio
     None
 }
 
-// The first fault of the head of the definition of this number, in a group of this width.
+// The first fault of the head of definition `number`, whose group has results of width `width`.
 fn find_head_fault(defs: &[Def], all_heads: &Heads, number: usize, width: u8) -> Option<Fault>
     requires number { number < length defs.now }
     requires heads { shown_heads all_heads.now ≡ heads (shown_definitions defs.now) }
@@ -57,7 +58,7 @@ fn find_head_fault(defs: &[Def], all_heads: &Heads, number: usize, width: u8) ->
     find_repeated_param(def)
 }
 
-// E07 at the first parameter whose name stands earlier in the list.
+// E07 at the first parameter whose name stands earlier in the list, if there is one.
 fn find_repeated_param(def: &Def) -> Option<Fault>
     ensures { result ≡ repeated [] (placed_params (shown_definition def.now)) }
 {
@@ -71,7 +72,7 @@ fn find_repeated_param(def: &Def) -> Option<Fault>
     None
 }
 
-// Whether one of these parameters has the name.
+// Whether one of these parameters has this name.
 fn is_named(before: &[Param], name: &Name) -> bool
     ensures { result ≡ list_any (λ p. bytes_eq name.now p.name) before.now }
 {

@@ -19,7 +19,7 @@ pub fn heads_of(alloc: Global, defs: &[Def]) -> Result<Heads, NoMemory>
     Ok(Heads::new(alloc, list)?)
 }
 
-/// The group of the definition of this number, where that of the definition before it is `unit`.
+/// The group of definition `number`. `unit` is the group of the definition before it.
 pub fn next_unit(number: u32, unit: u32, def: &Def) -> u32
     ensures { result ≡ unit_of number unit (shown_definition def.now) }
 {

@@ -1,4 +1,4 @@
-//! Limits: E16 at the first place that passes one. And E15, where the last definition is not `main`.
+//! Limits: E16 at the first place that passes one. Also E15, if the last definition is not `main`.
 
 ghost use Rattle.std.specs.Prelude.{◌≡◌, ◌≤◌, length, map, IfOk};
 ghost use Rattle.safl_word.specs.declared.fault.Rule.TheVariants as rules;
@@ -28,7 +28,7 @@ const NODES_MAX: u32 = 50_000;
 
 const MAIN: &[u8] = b"main";
 
-/// E16 at the definition that is one too many.
+/// E16 at the first definition beyond the limit, if there are too many.
 pub fn find_function_fault(defs: &[Def]) -> Option<Fault>
     ensures { result ≡ limit 1 max_functions (excess max_functions (map (λ d. d.place) (shown_definitions defs.now))) }
 {
@@ -36,7 +36,7 @@ pub fn find_function_fault(defs: &[Def]) -> Option<Fault>
     Some(past_limit(def.place, 1, FUNCTIONS_MAX as u32))
 }
 
-/// The first E16 of definitions whose number is within the limit: parameters, bindings, call sites, nodes.
+/// The first E16 of definitions that are not too many: for too many parameters, bindings, call sites or nodes.
 pub fn find_limit_fault(
     alloc: Global,
     defs: &[Def],
@@ -64,7 +64,7 @@ pub fn find_limit_fault(
     Ok(None)
 }
 
-// Too many parameters, or too many bindings of one let.
+// E16 for too many parameters, or for too many bindings of a let.
 fn find_list_fault(params: &[Param], long_let: Option<u32>) -> Option<Fault>
     ensures { result ≡ or_else (limit 2 max_params (excess max_params (map (λ p. p.place) (shown_parameters params.now)))) (limit 3 max_bindings long_let) }
 {
@@ -75,7 +75,7 @@ fn find_list_fault(params: &[Param], long_let: Option<u32>) -> Option<Fault>
     Some(past_limit(place, 3, BINDINGS_MAX as u32))
 }
 
-// Too many sites or nodes, up to the definition at this place.
+// E16 at `place` for too many call sites or nodes up to the end of this definition.
 fn find_sum_fault(place: u32, sites: u32, nodes: u32) -> Option<Fault>
     ensures { result ≡ sum_fault place sites nodes }
 {
@@ -94,7 +94,7 @@ fn past_limit(place: u32, number: u32, value: u32) -> Fault
     Fault::with(Rule::E16, place, number, value)
 }
 
-/// E15 at the last definition where it is not `main`, or at place 0 where there is none.
+/// E15 at the last definition if it is not `main`, or at place 0 if there are no definitions.
 pub fn find_main_fault(defs: &[Def]) -> Option<Fault>
     ensures { result ≡ main_fault (shown_definitions defs.now) }
 {

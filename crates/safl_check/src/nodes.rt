@@ -1,4 +1,4 @@
-//! What rule E16 limits in a body, counted node by node on a stack: a tree may be of any depth.
+//! What rule E16 limits in a body, counted on a stack and not by recursion: a tree may be of any depth.
 
 ghost use Rattle.std.specs.Prelude.{◌≡◌, ◌+◌, ◌*◌, ◌≤◌, ◌++◌, map, min, IfOk, OnOk};
 ghost use Rattle.safl_tree.specs.Shown.{shown_tree, shown_trees};
@@ -15,24 +15,24 @@ use safl_typing::sites::{SITES_COUNTED, sites_of_callee};
 use safl_word::NoMemory;
 use std::alloc::Global;
 
-/// The most bindings of a let.
+/// The greatest number of bindings of a let.
 pub const BINDINGS_MAX: usize = 16;
 
-// The most nodes that are counted: one more than a program may have.
+// The counter of nodes stops here: one above the number that a program may have.
 const NODES_COUNTED: u32 = 50_001;
 
-/// What rule E16 limits, up to the end of a body.
+/// What rule E16 limits, counted up to the end of a body.
 #[derive(Clone, Copy)]
 pub struct Measures {
-    /// The place of the binding that is one too many, of the body's first let that has one.
+    /// The place of the first binding beyond the limit, in the first let of the body that has too many.
     pub long_let: Option<u32>,
-    /// How many call sites, up to 4,001.
+    /// The number of call sites, up to 4,001.
     pub sites: u32,
-    /// How many nodes where each `case` is rewritten, up to 50,001.
+    /// The number of nodes after each `case` is rewritten, up to 50,001.
     pub nodes: u32,
 }
 
-/// Measures a body of this group, where so many sites and nodes stand before it.
+/// Measures a body of group `unit`. The program has `sites` call sites and `nodes` nodes before it.
 pub fn measure(
     alloc: Global,
     heads: &Heads,
@@ -65,7 +65,7 @@ pub fn measure(
     })
 }
 
-// The place of the binding that is one too many, where this is a let that has one.
+// The place of the first binding beyond the limit, if this is a let with too many.
 fn find_excess_binding(e: &Expr) -> Option<u32>
     ensures { result ≡ own_long_let (shown_tree e.now) }
 {
@@ -88,7 +88,7 @@ fn find_excess(binds: &[Bind]) -> Option<u32>
     Some(bind.place)
 }
 
-// Whether this is a call of a function of another group: 1, or else 0.
+// 1 for a call of a function of another group, which is a call site; 0 for any other node.
 fn sites_at(heads: &Heads, unit: u32, e: &Expr) -> u32
     ensures { result ≡ own_sites (known heads.now unit) (shown_tree e.now) }
 {
@@ -104,7 +104,8 @@ fn sites_at(heads: &Heads, unit: u32, e: &Expr) -> u32
     }
 }
 
-// A node, or those that a `case` stands for: a let, and for each labelled arm an if and its test of two nodes.
+// The number of nodes that an expression adds. A `case` stands for a let, and for each labelled arm an if and its test
+// of two nodes.
 fn nodes_at(e: &Expr) -> u32
     ensures { result ≡ min 50001 (own_nodes (shown_tree e.now)) }
 {
@@ -130,7 +131,7 @@ fn nodes_of_case(arms: usize) -> u32
     }
 }
 
-// Puts the parts of an expression on the stack, the first one on top.
+// Pushes the parts of an expression, so that the first one is on top of the stack.
 fn push_parts<'a>(stack: &mut Vec<&'a Expr>, e: &'a Expr) -> Result<(), NoMemory>
     ensures { OnOk result (pending stack.new.items ≡ parts (shown_tree e.now) ++ pending stack.old.items) }
 {

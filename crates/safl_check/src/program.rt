@@ -23,9 +23,10 @@ use safl_typing::laws::{forms_are_checked_law, walk_law};
 use safl_typing::typed::CheckErr;
 use std::alloc::Global;
 
-/// The checked program of a tree: functions numbered from 0 and sites from 1 in the order of the text. Refused is the
-/// first fault of E05 to E16 in the order of checking; there is one exactly where the program has no numbered form.
-/// TooDeep is answered where no limit is passed and a body is more than 2,000 deep; a source's are at most 1,100 deep.
+/// The checked program of a tree: functions are numbered from 0 and call sites from 1, in the order of the text.
+/// `Refused` has the first fault of E05 to E16 in the order of checking; it comes exactly if the program has no
+/// numbered form. `TooDeep` comes if no limit is passed and a body is more than 2,000 deep; a source's bodies are at
+/// most 1,100 deep.
 pub fn check(alloc: Global, program: Program) -> Result<Checked, CheckErr>
     requires { IsFormedProgram (shown_program program) }
     ensures form { IfOk result (λ c. IsFormOf (shown_program program) (shown c)) }
@@ -37,7 +38,7 @@ pub fn check(alloc: Global, program: Program) -> Result<Checked, CheckErr>
     check_defs(alloc, &program.defs)
 }
 
-/// The same of a program's definitions, which are only read.
+/// The checked program of these definitions, as `check` gives it. They are only read.
 pub fn check_defs(alloc: Global, defs: &[Def]) -> Result<Checked, CheckErr>
     requires { IsFormedProgram (shown_definitions defs.now) }
     ensures form { IfOk result (λ c. IsFormOf (shown_definitions defs.now) (shown c)) }
@@ -54,7 +55,7 @@ pub fn check_defs(alloc: Global, defs: &[Def]) -> Result<Checked, CheckErr>
     checked_of(alloc, defs, functions)
 }
 
-// The heads of definitions that pass no limit. Limits come first.
+// The heads of the definitions. Limits are checked before heads.
 fn heads_within(alloc: Global, defs: &[Def]) -> Result<Heads, CheckErr>
     ensures heads { IfOk result (λ all. shown_heads all ≡ heads (shown_definitions defs.now)) }
     ensures within { OnOk result (limits (shown_definitions defs.now) ≡ None) }
@@ -70,7 +71,7 @@ fn heads_within(alloc: Global, defs: &[Def]) -> Result<Heads, CheckErr>
     Ok(heads)
 }
 
-// The program of checked functions, whose last one is `main`.
+// The program of checked functions. The last one is `main`.
 fn checked_of(alloc: Global, defs: &[Def], functions: Vec<Function>) -> Result<Checked, CheckErr>
     requires formed { IsFormedProgram (shown_definitions defs.now) }
     requires within { limits (shown_definitions defs.now) ≡ None }

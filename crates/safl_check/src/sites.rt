@@ -8,7 +8,7 @@ use safl_term::{Function, Site, Term};
 use safl_word::NoMemory;
 use std::alloc::Global;
 
-/// The call sites of the functions' bodies, in the order of the text.
+/// The call sites of all bodies, in the order of the text.
 pub fn sites_of(alloc: Global, functions: &[Function]) -> Result<Vec<Site>, NoMemory>
     requires { length functions.now ≤ 1000 }
     ensures { IfOk result (λ sites. sites.items ≡ all_sites 0 (map shown_function functions.now)) }
@@ -20,7 +20,7 @@ pub fn sites_of(alloc: Global, functions: &[Function]) -> Result<Vec<Site>, NoMe
     Ok(sites)
 }
 
-// Adds the sites of a term in the body of `caller`.
+// Appends the call sites of a term in the body of `caller`.
 #[cycle(sites)]
 fn push_sites(sites: &mut Vec<Site>, caller: u32, term: &Term) -> Result<(), NoMemory>
     ensures { OnOk result (sites.new.items ≡ sites.old.items ++ sites_of caller (shown_term term.now)) }
@@ -49,7 +49,7 @@ fn push_sites(sites: &mut Vec<Site>, caller: u32, term: &Term) -> Result<(), NoM
     }
 }
 
-// Adds the sites of several terms, in order.
+// Appends the call sites of several terms in the body of `caller`, in order.
 #[cycle(sites)]
 fn push_all(sites: &mut Vec<Site>, caller: u32, terms: &[Term]) -> Result<(), NoMemory>
     ensures { OnOk result (sites.new.items ≡ sites.old.items ++ sites_of_all caller (shown_terms terms.now)) }

@@ -18,19 +18,19 @@ use Rattle.safl_circuit.specs.Layout.{each_line, input_kind, register_kind, wire
 use Rattle.safl_circuit.specs.Names.{of_function, one, as_word, numbers, registers_now, of_site}
 use Rattle.safl_circuit.specs.Scheme.{go_up, net_events}
 
--- it holds of all arguments, words of main's widths, and of all runs with them from a state
+-- a statement holds for all arguments of main's widths, and all runs with them from a state
 abbrev pub EachRun : Program → Netlist → (ℕ → ℕ) → (List Word → List Valuation → Type 0) → Type 0
 EachRun C n state Q =
     (args : List Word) → AreWordsOf args (C.params C.main) → (vs : List Valuation) → RunFrom n state (numbers args) vs → Q args vs
 
--- it holds of each cycle of all these runs
+-- a statement holds for each cycle of all such runs
 abbrev pub EachCycle : Program → Netlist → (ℕ → ℕ) → (List Word → ℕ → Valuation → Type 0) → Type 0
 EachCycle C n state Q = EachRun C n state (λ args vs. (c : ℕ) (w : Valuation) → slice_get vs c ≡ Some w → Q args c w)
 
 abbrev pub is_done : Netlist → Valuation → ℕ
 is_done n v = read_output n v (codes "done")
 
--- done is 1 in one cycle below the bound, with this word as result, and 0 in all others
+-- `done` is 1 in exactly one of the cycles, which is below the bound, and the result then is this word
 pub record DoneIn (n : Netlist) (vs : List Valuation) (v : Word) (bound : ℕ) : Type 0 where
   pub cycle : ℕ
   pub in_time : cycle < bound
@@ -40,37 +40,37 @@ pub record DoneIn (n : Netlist) (vs : List Valuation) (v : Word) (bound : ℕ) :
   pub result : read_output n words (codes "result") ≡ v.bits
   pub once : (c : ℕ) (w : Valuation) → slice_get vs c ≡ Some w → c ≢ cycle → is_done n w ≡ 0
 
--- the last cycle in which done may come: twice the calls of the evaluation, less those that are loops
+-- the last cycle in which `done` may come: two cycles for each call of the evaluation, less one for each loop
 abbrev pub latest : (C : Program) (args : List Word) {v : Word} → Main C args v → ℕ
 latest C args d = 2 * main_cost C args d - loops C d
 
--- main gives the word by an evaluation of m calls, of which l are loops, the cycle is at most 2m - l, so below 3m, and the cycle
--- bounds the calls
+-- Main gives the word by an evaluation of m calls, of which l are loops, and the cycle is at most 2m - l, and so below 3m. The
+-- cycle bounds the number of calls.
 pub record IsResult (C : Program) (args : List Word) (v : Word) (cycle : ℕ) : Type 0 where
   pub by : Main C args v
   pub prompt : cycle ≤ latest C args by
   pub soon : cycle < 3 * main_cost C args by
   pub few : main_cost C args by ≤ C.functions * (cycle + 1)
 
--- and where no two calls of the program can overlap, the cycle is just 2m - l
+-- such a result; and if no two calls of the program can overlap, the cycle is exactly 2m - l
 pub record IsExactResult (C : Program) (args : List Word) (v : Word) (cycle : ℕ) : Type 0 where
   pub result : IsResult C args v cycle
   pub exact : IsSequential C → cycle ≡ latest C args result.by
 
--- of all runs from a state
+-- what all runs from a state do
 pub record Behaves (C : Program) (D : Names) (n : Netlist) (state : ℕ → ℕ) : Type 0 where
-  -- where main gives v by an evaluation of m calls of which l are loops, done comes once, in no cycle after 2m - l, with v
+  -- if main gives v by an evaluation of m calls of which l are loops, `done` comes once, in no cycle after 2m - l, with the result v
   pub prompt : EachRun C n state (λ args vs. (v : Word) (d : Main C args v) → latest C args d < length vs → DoneIn n vs v (suc (latest C args d)))
-  -- where done comes, it has that cycle's result
+  -- if `done` comes, the result in that cycle is main's
   pub only : EachCycle C n state (λ args c w. is_done n w ≡ 1 → IsResult C args (as_word (C.result C.main) (read_output n w (codes "result"))) c)
-  -- no unit is started by two sites at once, main's call from outside counted
+  -- no unit is started by two sites at once, where site 0 is the call of main from outside
   pub alone : EachCycle C n state (λ args c w. (j k : ℕ) → j ≤ C.sites → k ≤ C.sites
       → go_up n w j ≡ true → go_up n w k ≡ true → unit_for C j ≡ unit_for C k → j ≡ k)
-  -- nor while it runs
+  -- no unit is started while it runs
   pub rests : EachCycle C n state (λ args c w. (k : ℕ) → k ≤ C.sites → go_up n w k ≡ true → read n w (of_function D (codes "run$") (unit_for C k)) ≢ 1)
 
--- The netlist is whole and acyclic, has the ports of the program, and behaves in all runs from reset; and the registers
--- and wires of which that speaks are there, with width 1
+-- The netlist is whole and acyclic, has the ports of the program, and behaves in all runs from reset. The registers and wires
+-- that this speaks of are there, and have width 1.
 pub record Correct (C : Program) (D : Names) (n : Netlist) : Type 0 where
   pub whole : AllSet n
   pub acyclic : IsAcyclic n
@@ -85,8 +85,8 @@ pub record Correct (C : Program) (D : Names) (n : Netlist) : Type 0 where
 abbrev pub IsQuietState : Program → Names → Netlist → (ℕ → ℕ) → Type 0
 IsQuietState C D n state = (v : Valuation) → Fits n state v → Quiet (registers_now C D n v)
 
--- The cycles of a run are steps of the machine, where these events came before: the registers show its state, each res
--- holds the word that its unit finished last, or 0, and the events of the cycle are enabled in turn
+-- The cycles of a run are steps of the machine, after these events: the registers show its state, each res holds the word that
+-- its unit finished last, or 0, and the events of the cycle are enabled in turn.
 abbrev pub StepsFrom : Program → Names → Choice → Netlist → List Word → List Event → List Valuation → Type 0
 StepsFrom C D P n args es [] = Unit {0}
 StepsFrom C D P n args es (v ∷ vs) =
@@ -95,17 +95,17 @@ StepsFrom C D P n args es (v ∷ vs) =
     × Legal C args opening (es ++ net_events C D n v)
     × StepsFrom C D P n args (es ++ net_events C D n v) vs
 
--- the same of all runs from reset, from the opening state on
+-- the cycles of all runs from reset are steps of the machine, from its opening state
 abbrev pub Steps : Program → Names → Choice → Netlist → Type 0
 Steps C D P n = EachRun C n (reset_state n) (λ args vs. StepsFrom C D P n args [] vs)
 
--- in each cycle after one with done the registers are quiet
+-- in each cycle after one with `done` the registers are quiet
 abbrev pub QuietAfterDone : Program → Names → Netlist → (ℕ → ℕ) → Type 0
 QuietAfterDone C D n state =
     EachRun C n state (λ args vs. (a c : ℕ) (v w : Valuation) → slice_get vs a ≡ Some v → slice_get vs c ≡ Some w
     → is_done n v ≡ 1 → a < c → Quiet (registers_now C D n w))
 
--- f is started in a cycle: the go wire of a site of f is 1, or f's loop wire
+-- the sites whose go wire is 1 and that start f, and whether a loop wire starts f, in a cycle
 abbrev pub go_at : Program → Netlist → Valuation → ℕ → ℕ → Option ℕ
 go_at C n v f k = cond (C.callee k == f && go_up n v k) (Some k) None
 
@@ -117,17 +117,17 @@ abbrev pub IsExact : Program → Netlist → (ℕ → ℕ) → Type 0
 IsExact C n state =
     IsSequential C → EachCycle C n state (λ args c w. is_done n w ≡ 1 → (v : Word) (d : Main C args v) → c ≡ latest C args d)
 
--- the words on f's argument registers in the cycle after one in which f is started
+-- the words of f's argument registers in the cycle after one that starts f
 abbrev pub seen_at : Program → Names → Netlist → ℕ → Option Valuation → Option Valuation → List (List Word)
 seen_at C D n f (Some v) (Some w) = cond (is_started C D n v f) ((registers_now C D n w).arg f ∷ []) []
 seen_at C D n f _ _ = []
 
--- those after the cycles before c, in order
+-- the words that f's argument registers show after those cycles before c that start f, in order
 unfoldable pub words_seen_in : Program → Names → Netlist → List Valuation → ℕ → ℕ → List (List Word)
 words_seen_in C D n vs f zero = []
 words_seen_in C D n vs f (suc c) = words_seen_in C D n vs f c ++ seen_at C D n f (slice_get vs c) (slice_get vs (suc c))
 
--- where main has a value and the run is long enough, they are the argument lists of the evaluation, in some order
+-- if main has a value and the run is long enough, these words are the argument lists of the evaluation, in some order
 abbrev pub SameCalls : Program → Names → Netlist → (ℕ → ℕ) → Type 0
 SameCalls C D n state =
     EachRun C n state (λ args vs. (v : Word) (d : Main C args v) (c : ℕ) → c < length vs → latest C args d ≤ c

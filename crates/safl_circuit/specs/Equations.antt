@@ -1,4 +1,4 @@
--- The equations of a circuit: its wires from its registers, and the registers after the edge, without names.
+-- The equations of a circuit, without names: its wires from its registers, and its registers after the edge.
 use Rattle.std.specs.Prelude.{ℕ, zero, suc, ◌++◌, List, Option, Some, None, Bool, false, cond, not, ◌==◌, ◌&&◌, ◌||◌, nat_le, is_some}
 use Rattle.safl_calls.specs.Machine.{Event, Accept, Finish, Return, LoopInto}
 use Rattle.safl_term.specs.Readiness.{Answer, Ready, LoopTo, NotYet, answer, wanted, word_of, or_else}
@@ -7,26 +7,26 @@ use Rattle.safl_sites.specs.Plan.{Choice}
 use Rattle.safl_word.specs.Words.{Word}
 use Rattle.safl_calls.specs.Picks.{first, picks}
 
--- what the registers of a cycle hold
+-- what the registers hold in a cycle
 pub record Registers : Type 0 where
-  -- of a unit: it runs, it has just finished, and the word with which it finished last
+  -- of a unit: whether it runs, whether it has just finished, and the word with which it finished last
   pub run : ℕ → Bool
   pub fin : ℕ → Bool
   pub res : ℕ → Word
-  -- of a function: its unit runs it, and its arguments
+  -- of a function: whether its unit runs it, and its arguments
   pub at : ℕ → Bool
   pub arg : ℕ → List Word
-  -- of a site: its call has started, it has returned, and its word
+  -- of a site: whether its call was sent, whether it has returned, and its word
   pub sent : ℕ → Bool
   pub got : ℕ → Bool
   pub keep : ℕ → Word
 
--- the inputs of a cycle: start, and the words on main's argument ports
+-- the inputs of a cycle: `start`, and the words of main's argument ports
 pub record Inputs : Type 0 where
   pub start : Bool
   pub words : List Word
 
--- the unit of f has another member
+-- the functions of f's unit other than f
 abbrev pub other_than : Program → ℕ → ℕ → Option ℕ
 other_than C f g = cond (C.unit g == C.unit f && not (g == f)) (Some g) None
 
@@ -34,16 +34,17 @@ other_than C f g = cond (C.unit g == C.unit f && not (g == f)) (Some g) None
 abbrev pub many : Program → ℕ → Bool
 many C f = is_some (first (other_than C f) C.functions)
 
--- ret: site k's unit has just finished, and the site was sent and has not got its word. For main's call it is done
+-- ret: the unit of site k has just finished, and the site was sent and has not got its word. For the call of main it is `done`
 abbrev pub ret : Program → Registers → ℕ → Bool
 ret C r zero = r.fin (C.unit C.main)
 ret C r (suc k) = r.fin (unit_for C (suc k)) && (r.sent (suc k) && not (r.got (suc k)))
 
--- the word of a site that has returned: its unit's, or the kept one where the site is kept and not returning now
+-- the word that a site shows after it has returned: that of its unit, or the kept word if the site is kept and is not returning
+-- now
 abbrev pub word_on : Program → Choice → Registers → ℕ → Word
 word_on C P r k = cond (P.kept k && not (ret C r k)) (r.keep k) (r.res (unit_for C k))
 
--- a site has returned where it has got its word or gets it now
+-- what a site shows: its word if it has got it or gets it now
 abbrev pub on_wires : Program → Choice → Registers → ℕ → Option Word
 on_wires C P r zero = None
 on_wires C P r (suc k) = cond (r.got (suc k) || ret C r (suc k)) (Some (word_on C P r (suc k))) None
@@ -52,24 +53,24 @@ on_wires C P r (suc k) = cond (r.got (suc k) || ret C r (suc k)) (Some (word_on 
 abbrev pub path : Program → Registers → ℕ → Bool
 path C r f = r.run (C.unit f) && (not (many C f) || r.at f)
 
--- what the body of f comes to, and the words with which site k, unsent, is wanted
+-- what the body of f comes to, and the words with which it wants the unsent site k
 unfoldable pub body_says : Program → Choice → Registers → ℕ → Answer
 body_says C P r f = cond (path C r f) (answer (on_wires C P r) (r.arg f) (C.body f)) NotYet
 
 unfoldable pub body_wants : Program → Choice → Registers → ℕ → Option (List Word)
 body_wants C P r k = cond (not (r.sent k) && nat_le k C.sites) (cond (path C r (C.caller k)) (wanted (on_wires C P r) (r.arg (C.caller k)) (C.body (C.caller k)) k) None) None
 
--- want: the call has its path, its arguments are ready, and it was not sent
+-- want: the path of the call is 1, its arguments are ready, and it was not sent
 abbrev pub want : Program → Choice → Registers → ℕ → Bool
 want C P r k = is_some (body_wants C P r k)
 
--- a lower site of the same unit wants
+-- a site of the same unit with a lower number wants
 abbrev pub wants_at : Program → Choice → Registers → ℕ → ℕ → Option ℕ
 wants_at C P r u zero = None
 wants_at C P r u (suc j) = cond (unit_for C (suc j) == u && want C P r (suc j)) (Some (suc j)) None
 
--- go: a site starts where it wants; where its unit has an arbiter, only while the unit rests and no lower site of the
--- unit wants. Main starts by `start`, while its unit rests
+-- go: a site starts if it wants. If its unit has an arbiter, the unit also has to rest, and no lower site of the unit may want.
+-- Main starts by `start`, if its unit rests
 unfoldable pub go : Program → Choice → Registers → Inputs → ℕ → Bool
 go C P r i zero = i.start && not (r.run (C.unit C.main))
 go C P r i (suc k) =
@@ -77,13 +78,13 @@ go C P r i (suc k) =
     (want C P r (suc k) && (not (r.run (unit_for C (suc k))) && not (is_some (first (wants_at C P r (unit_for C (suc k))) (suc k)))))
     (want C P r (suc k))
 
--- the arguments that a starting site loads
+-- the arguments of a site that starts
 abbrev pub go_words : Program → Choice → Registers → Inputs → ℕ → Option (List Word)
 go_words C P r i zero = cond (go C P r i 0) (Some i.words) None
 go_words C P r i (suc k) = cond (go C P r i (suc k)) (body_wants C P r (suc k)) None
 
--- end: the body of f is ready, with this word. loop: a tail call to h in the body of a member of its unit has its path
--- and ready arguments, which are these, of the earliest such member
+-- end: the body of f is ready, with this word. loop: the body of a function of h's unit makes a tail call to h, so its path is 1
+-- and its arguments, which are these, are ready; if several do, the first function counts
 abbrev pub end_word : Program → Choice → Registers → ℕ → Option Word
 end_word C P r f = word_of (body_says C P r f)
 
@@ -98,8 +99,8 @@ loop_from C P r h g = cond (C.unit g == C.unit h) (goes_to h (body_says C P r g)
 abbrev pub loop_words : Program → Choice → Registers → ℕ → Option (List Word)
 loop_words C P r h = first (loop_from C P r h) C.functions
 
--- in unit u: the word of a member that ends, a member that is looped to, a site that starts; and the arguments that a
--- starting site of f loads
+-- in unit u: the word of function f if it ends, the function f if it is looped to, the site k if it starts the unit; and the
+-- arguments of site k if it starts f
 abbrev pub end_in : Program → Choice → Registers → ℕ → ℕ → Option Word
 end_in C P r u f = cond (C.unit f == u) (end_word C P r f) None
 
@@ -112,7 +113,8 @@ go_in C P r i u k = cond (unit_for C k == u && go C P r i k) (Some k) None
 abbrev pub load_in : Program → Choice → Registers → Inputs → ℕ → ℕ → Option (List Word)
 load_in C P r i f k = cond (C.callee k == f) (go_words C P r i k) None
 
--- of several the first: the earlier member ends, and the site of the least number loads
+-- if there are several, the first counts: the function with the lowest number ends, and the site with the lowest number loads its
+-- arguments
 unfoldable pub ends : Program → Choice → Registers → ℕ → Option Word
 ends C P r u = first (end_in C P r u) C.functions
 
@@ -125,11 +127,11 @@ starts C P r i u = first (go_in C P r i u) (suc C.sites)
 unfoldable pub loads : Program → Choice → Registers → Inputs → ℕ → Option (List Word)
 loads C P r i f = first (load_in C P r i f) (suc C.sites)
 
--- the own sites of u's members are cleared: a member ends or is looped to
+-- clear: the own sites of u's functions are cleared, since one of the functions ends or is looped to
 abbrev pub clears : Program → Choice → Registers → ℕ → Bool
 clears C P r u = is_some (ends C P r u) || is_some (loops C P r u)
 
--- a go or a loop starts f; or starts another member of its unit
+-- a site or a tail call starts f; and one starts another function of f's unit
 abbrev pub starts_it : Program → Choice → Registers → Inputs → ℕ → Bool
 starts_it C P r i f = is_some (loads C P r i f) || is_some (loop_words C P r f)
 
@@ -139,16 +141,17 @@ if_other C P r i f g = cond (C.unit g == C.unit f && (not (g == f) && starts_it 
 abbrev pub starts_other : Program → Choice → Registers → Inputs → ℕ → Bool
 starts_other C P r i f = is_some (first (if_other C P r i f) C.functions)
 
--- what is there, or else the other
+-- the value if there is one, else the other
 abbrev pub or_word : {A : Type 0} → Option A → A → A
 or_word None d = d
 or_word (Some v) d = v
 
--- The registers after the edge; clearing wins over setting, and all else stays.
--- run: set by a go, cleared by an end. fin: 1 after an end alone. res: loaded by an end.
--- at: set by a go or loop to the function, cleared by one to another member. arg: loaded by a go, and else by a loop.
--- sent and got: set by go and by ret, cleared by an end or loop of the unit in which the site stands.
--- keep: loaded by ret, from the unit's res
+-- The registers after the edge. Clearing wins over setting, and everything else stays.
+-- run: set by a go, cleared by an end. fin: 1 exactly after an end. res: loaded by an end.
+-- at: set by a go or loop to the function, cleared by one to another function of the unit. arg: loaded by a go, otherwise by a
+-- loop.
+-- sent and got: set by go and by ret, cleared by an end or loop of the unit whose function has the site.
+-- keep: loaded by ret, from the unit's res.
 unfoldable pub next : Program → Choice → Inputs → Registers → Registers
 next C P i r = record {
   run = λ u. cond (is_some (ends C P r u)) false (r.run u || is_some (starts C P r i u));

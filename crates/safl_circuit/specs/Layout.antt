@@ -9,11 +9,11 @@ use Rattle.safl_net.specs.declared.cell.Op.TheVariants.{Copy}
 use Rattle.safl_net.specs.Netlist.{Netlist, Signal, Kind, Input, Reg, Wire, width_in, place}
 use Rattle.safl_circuit.specs.Names.{of_function, of_site, of_param, is_unit}
 
--- a name and its width
+-- a name and a width
 abbrev pub Line : Type 0
 Line = List ℕ × ℕ
 
--- lines for the numbers below n, in order
+-- the lines of the numbers below n, in order
 unfoldable pub lines : (ℕ → List Line) → ℕ → List Line
 lines g zero = []
 lines g (suc n) = lines g n ++ g n
@@ -24,7 +24,7 @@ named [] ws = []
 named (x ∷ xs) [] = []
 named (x ∷ xs) (w ∷ ws) = (x, w) ∷ named xs ws
 
--- the registers of a member: at, where its unit has others, and one for each parameter
+-- the registers of a function: `at` if its unit has other functions, and one for each parameter
 abbrev pub member_lines : Program → Names → ℕ → ℕ → List Line
 member_lines C D u f =
     cond (C.unit f == u)
@@ -32,7 +32,7 @@ member_lines C D u f =
     ++ named (map (of_param D f) (D.params f)) (C.params f))
     []
 
--- of a unit: run, fin and res, and then those of its members
+-- the registers of a unit: run, fin and res, then those of its functions
 abbrev pub unit_lines : Program → Names → ℕ → List Line
 unit_lines C D u =
     cond (is_unit C u)
@@ -42,7 +42,7 @@ unit_lines C D u =
     ∷ lines (member_lines C D u) C.functions)
     []
 
--- of a site: sent and got, and keep where it is kept
+-- the registers of a site: sent and got, and keep if it is kept
 abbrev pub site_lines : Program → Choice → ℕ → List Line
 site_lines C P k =
     cond (nat_lt 0 k)
@@ -51,11 +51,11 @@ site_lines C P k =
     ∷ cond (P.kept k) ((of_site (codes "keep$") k, C.result (C.callee k)) ∷ []) [])
     []
 
--- the registers: the units in order, and then the sites
+-- all registers: those of the units in order, then those of the sites
 abbrev pub layout_registers : Program → Names → Choice → List Line
 layout_registers C D P = lines (unit_lines C D) C.functions ++ lines (site_lines C P) (suc C.sites)
 
--- the named wires of a function, and of a site: arb where its unit has an arbiter
+-- the named wires of a function; and those of a site, with arb if its unit has an arbiter
 abbrev pub function_wires : Names → ℕ → List Line
 function_wires D f = (of_function D (codes "end$") f, 1) ∷ (of_function D (codes "loop$") f, 1) ∷ []
 
@@ -69,15 +69,15 @@ site_wires C P k =
     ∷ []))
     []
 
--- the named wires: the functions in order, the sites, and main's go
+-- all named wires: those of the functions in order, those of the sites, and main's go
 abbrev pub layout_wires : Program → Names → Choice → List Line
 layout_wires C D P = lines (function_wires D) C.functions ++ (lines (site_wires C P) (suc C.sites) ++ (codes "go$main", 1) ∷ [])
 
--- the inputs: start, and a port for each parameter of main
+-- the inputs: `start`, and a port for each parameter of main
 abbrev pub layout_inputs : Program → Names → List Line
 layout_inputs C D = (codes "start", 1) ∷ named (map (λ x. codes "in$" ++ x) (D.params C.main)) (C.params C.main)
 
--- the lines of a net, by the kind of its signals
+-- the line of a signal if it is of a kind
 abbrev pub input_kind : Line → Kind → List Line
 input_kind l Input = l ∷ []
 input_kind l (Reg init next) = []
@@ -93,7 +93,7 @@ wire_kind l Input = []
 wire_kind l (Reg init next) = []
 wire_kind l (Wire cell) = l ∷ []
 
--- those of one kind, in order
+-- the lines of all signals of a kind, in order
 unfoldable pub each_line : (Line → Kind → List Line) → List Signal → List Line
 each_line f [] = []
 each_line f (g ∷ gs) = f (g.name, g.width) g.kind ++ each_line f gs
@@ -102,21 +102,21 @@ each_line f (g ∷ gs) = f (g.name, g.width) g.kind ++ each_line f gs
 abbrev pub output_lines : Netlist → List Line
 output_lines n = map (λ o. (o.0, width_in (slice_get n.signals o.1))) n.outputs
 
--- the outputs
+-- the outputs of a circuit
 abbrev pub layout_outputs : Program → List Line
 layout_outputs C = (codes "done", 1) ∷ (codes "result", C.result C.main) ∷ []
 
--- the line stands in the list
+-- the line is in the list
 abbrev pub Has : Line → List Line → Type 0
 Has x [] = ⊥
 Has x (y ∷ ys) = (y ≡ x) ⊎ Has x ys
 
--- the wires after the named ones, from wire i on: each is named `n$` and its number among the wires
+-- the wires after the named ones. The one at place i among all wires has the name `n$` and i
 abbrev pub temporaries : ℕ → List ℕ → List Line
 temporaries i [] = []
 temporaries i (w ∷ ws) = (codes "n$" ++ decimal i, w) ∷ temporaries (suc i) ws
 
--- the signal of the one name is a copy of the signal of the other
+-- the signal with the one name is a copy of the signal with the other
 pub record IsCopy (n : Netlist) (name from : List ℕ) : Type 0 where
   pub number : ℕ
   pub signal : Signal
@@ -126,8 +126,8 @@ pub record IsCopy (n : Netlist) (name from : List ℕ) : Type 0 where
   pub source_named : place n.signals from 0 ≡ Some source
   pub copied : signal.kind ≡ Wire (Some (record { op = Copy; operands = source ∷ [] }))
 
--- The registers are those of the layout and no others, the wires begin with the named ones, all further wires are
--- temporaries, and a site whose unit has no arbiter starts by a copy of its want.
+-- The registers are exactly those of the layout. The wires begin with the named ones, and all other wires are temporaries. A site
+-- whose unit has no arbiter starts by a copy of its want.
 pub record HasPlan (C : Program) (D : Names) (P : Choice) (n : Netlist) : Type 0 where
   pub registers : each_line register_kind n.signals ≡ layout_registers C D P
   pub widths : List ℕ

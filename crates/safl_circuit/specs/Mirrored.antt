@@ -1,4 +1,4 @@
--- What is claimed of nets that mirror a circuit.
+-- The laws of nets that mirror a circuit.
 use Rattle.safl_term.specs.Program.{Program}
 use Rattle.safl_net.specs.Netlist.{Netlist, AllSet}
 use Rattle.safl_net.specs.Names.{IsTidy}
@@ -10,7 +10,7 @@ use Rattle.safl_circuit.specs.Layout.{HasPlan}
 use Rattle.safl_circuit.specs.Scheme.{Scheme}
 use Rattle.safl_net.specs.Mirrors.{Alike, Mirrors, IsLaidOut}
 
--- two nets, of which the second mirrors the first
+-- two nets, the second of which mirrors the first
 pub record AreMirrors (n m : Netlist) : Type 0 where
   pub old : IsNetlist n
   pub new : IsNetlist m
@@ -22,10 +22,10 @@ pub record AreMirrors (n m : Netlist) : Type 0 where
   pub alike : Alike n m
   pub mirrors : Mirrors n m
 
--- the second has the scheme of a circuit where the first does
+-- a net that mirrors one with the scheme of a circuit has that scheme
 abbrev pub MirrorsKeepSchemes : Type 0
 MirrorsKeepSchemes = (C : Program) (D : Names) (P : Choice) (n m : Netlist) → AreMirrors n m → Scheme C D P n → Scheme C D P m
 
--- and what its plan has
+-- a net that mirrors one with the registers and wires of a plan has these too
 abbrev pub MirrorsKeepPlans : Type 0
 MirrorsKeepPlans = (C : Program) (D : Names) (P : Choice) (n m : Netlist) → AreMirrors n m → HasPlan C D P n → HasPlan C D P m

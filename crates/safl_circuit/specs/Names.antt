@@ -9,7 +9,7 @@ use Rattle.safl_net.specs.Netlist.{Netlist}
 use Rattle.safl_net.specs.Valuations.{Valuation, read, read_next}
 use Rattle.safl_net.specs.Runs.{start_number, input_numbers}
 
--- a name with a head: of a function, of a site, and of the register of a parameter
+-- a prefix and a name: of a function, of a site, and of the register of a parameter
 abbrev pub of_function : Names → List ℕ → ℕ → List ℕ
 of_function D head f = head ++ D.name f
 
@@ -19,21 +19,21 @@ of_site head k = head ++ decimal k
 abbrev pub of_param : Names → ℕ → List ℕ → List ℕ
 of_param D f p = codes "arg$" ++ (D.name f ++ (codes "$" ++ p))
 
--- a number of one bit as a truth value, and back
+-- a number of one bit as a truth value, and a truth value as such a number
 abbrev pub one : ℕ → Bool
 one w = w == 1
 
 abbrev pub bit : Bool → ℕ
 bit b = cond b 1 0
 
--- u is the number of a unit; k is the number of a site
+-- whether u is the number of a unit; whether k is the number of a site
 abbrev pub is_unit : Program → ℕ → Bool
 is_unit C u = nat_lt u C.functions && C.unit u == u
 
 abbrev pub is_site : Program → ℕ → Bool
 is_site C k = nat_lt 0 k && nat_le k C.sites
 
--- numbers as words of these widths, and back
+-- numbers as words of these widths, and words as numbers
 abbrev pub as_word : ℕ → ℕ → Word
 as_word width bits = record { width = width; bits = bits }
 
@@ -45,7 +45,7 @@ as_words (w ∷ ws) (b ∷ bs) = as_word w b ∷ as_words ws bs
 abbrev pub numbers : List Word → List ℕ
 numbers vs = map (λ v. v.bits) vs
 
--- the registers by their names, where `get` gives each name its number; what is no unit or site has no registers
+-- the registers by their names, where `get` gives the number of each name. Numbers that are no unit or site have no registers
 abbrev pub view : Program → Names → (List ℕ → ℕ) → Registers
 view C D get = record {
   run = λ u. is_unit C u && one (get (of_function D (codes "run$") u));
@@ -58,7 +58,7 @@ view C D get = record {
   keep = λ k. as_word (C.result (C.callee k)) (get (of_site (codes "keep$") k));
 }
 
--- the registers of a cycle, and those that it leaves
+-- the registers in a cycle, and the registers after it
 abbrev pub registers_now : Program → Names → Netlist → Valuation → Registers
 registers_now C D n v = view C D (read n v)
 

@@ -1,4 +1,4 @@
--- The scheme of a circuit: what a netlist has to be and to do in each cycle, for any state and any inputs.
+-- The scheme of a circuit: what a netlist has to be, and what it has to do in each cycle, for any state and any inputs.
 use Rattle.std.specs.Prelude.{◌≡◌, ℕ, zero, suc, ◌<◌, ◌≤◌, List, ◌++◌, length, Some, Bool, true, is_some, slice_get, codes}
 use Rattle.safl_term.specs.Names.{Names}
 use Rattle.safl_sites.specs.Plan.{Choice}
@@ -11,7 +11,7 @@ use Rattle.safl_net.specs.Valuations.{Valuation, Fits, read, read_output, reset_
 use Rattle.safl_circuit.specs.Names.{of_function, of_site, one, bit, numbers, registers_now, registers_next, input_now}
 use Rattle.safl_circuit.specs.Layout.{Line, layout_registers, layout_wires, layout_inputs, layout_outputs, input_kind, register_kind, wire_kind, each_line, output_lines}
 
--- the registers hold equal numbers, where they exist: at in units of several members, keep at kept sites
+-- The two hold equal numbers, as far as the registers exist: at exists in units of several functions, and keep at kept sites.
 pub record Agree (C : Program) (P : Choice) (r q : Registers) : Type 0 where
   pub run : (u : ℕ) → r.run u ≡ q.run u
   pub fin : (u : ℕ) → r.fin u ≡ q.fin u
@@ -22,7 +22,7 @@ pub record Agree (C : Program) (P : Choice) (r q : Registers) : Type 0 where
   pub got : (k : ℕ) → 0 < k → r.got k ≡ q.got k
   pub keep : (k : ℕ) → 0 < k → k ≤ C.sites → P.kept k ≡ true → (r.keep k).bits ≡ (q.keep k).bits
 
--- the named wires and outputs of a cycle have the numbers that the registers and inputs give them
+-- the named wires and the outputs have the numbers that the equations give for the registers and the inputs
 pub record Wires (C : Program) (D : Names) (P : Choice) (n : Netlist) (v : Valuation) (r : Registers) (i : Inputs) : Type 0 where
   pub ends : (f : ℕ) → f < C.functions → read n v (of_function D (codes "end$") f) ≡ bit (is_some (end_word C P r f))
   pub loops : (f : ℕ) → f < C.functions → read n v (of_function D (codes "loop$") f) ≡ bit (is_some (loop_words C P r f))
@@ -34,26 +34,26 @@ pub record Wires (C : Program) (D : Names) (P : Choice) (n : Netlist) (v : Valua
   pub done : read_output n v (codes "done") ≡ bit (ret C r 0)
   pub result : read_output n v (codes "result") ≡ (r.res (C.unit C.main)).bits
 
--- The netlist is whole and acyclic, has the ports, registers and named wires of the layout, and resets to 0. In every
--- valuation that fits any state the named wires are as the equations say, and each register's next number too
+-- The netlist is whole and acyclic, has the ports, registers and named wires of the layout, and resets to 0. In every valuation
+-- that fits any state, the named wires and the next numbers of the registers are as the equations say.
 pub record Scheme (C : Program) (D : Names) (P : Choice) (n : Netlist) : Type 0 where
   pub whole : AllSet n
   pub acyclic : IsAcyclic n
   -- each parameter has a name
   pub params : (f : ℕ) → f < C.functions → length (D.params f) ≡ length (C.params f)
-  -- no two signals have one name
+  -- no two signals have the same name
   pub distinct : (s t : ℕ) (g h : Signal) → slice_get n.signals s ≡ Some g → slice_get n.signals t ≡ Some h → g.name ≡ h.name → s ≡ t
   pub outputs : output_lines n ≡ layout_outputs C
   pub inputs : each_line input_kind n.signals ≡ layout_inputs C D
   pub registers : each_line register_kind n.signals ≡ layout_registers C D P
-  -- the named wires come first
+  -- the named wires come before all other wires
   pub others : List Line
   pub named : each_line wire_kind n.signals ≡ layout_wires C D P ++ others
   pub resets : (s : ℕ) → reset_state n s ≡ 0
   pub wires : (v : Valuation) (state : ℕ → ℕ) → Fits n state v → Wires C D P n v (registers_now C D n v) (input_now C n v)
   pub edge : (v : Valuation) (state : ℕ → ℕ) → Fits n state v → Agree C P (registers_next C D n v) (next C P (input_now C n v) (registers_now C D n v))
 
--- the events of a cycle, by its named wires
+-- the events of a cycle, as its named wires show them
 abbrev pub ret_on : Netlist → Valuation → ℕ → Bool
 ret_on n v zero = one (read_output n v (codes "done"))
 ret_on n v (suc k) = one (read n v (of_site (codes "ret$") (suc k)))

@@ -1,4 +1,4 @@
--- What registers show of the machine, cycle by cycle: each cycle is a list of events.
+-- How registers show the state of the machine, cycle by cycle. Each cycle is a list of events.
 use Rattle.std.specs.Prelude.{◌≡◌, ℕ, zero, suc, ◌<◌, ◌++◌, List, [], Bool, true, false, ◌==◌}
 use Rattle.safl_sites.specs.Plan.{Choice}
 use Rattle.safl_circuit.specs.Equations.{Registers, Inputs, many, next, cycle_events}
@@ -17,7 +17,7 @@ is_delivering Idle = false
 is_delivering (Runs f k ws) = false
 is_delivering (Delivers k v) = true
 
--- sent, and perhaps returned by now
+-- the site was sent, and may have returned
 abbrev pub was_sent : Stage → Bool
 was_sent Unsent = false
 was_sent Sent = true
@@ -28,10 +28,10 @@ is_returned Unsent = false
 is_returned Sent = false
 is_returned (Returned v) = true
 
--- The registers show the state. run is 1 exactly for running units, and fin for delivering ones, whose res holds the
--- word. In a running unit of several members at is 1 exactly for the one that runs, and its arguments are on its
--- registers. sent is 0 exactly for unsent sites, and got is 1 exactly for those that have returned; where such a site is
--- kept, keep holds its word. The sites of a function that does not run are neither sent nor returned
+-- The registers show the state. run is 1 exactly for running units, and fin exactly for delivering ones, whose res holds the
+-- word. In a running unit with several functions, at is 1 exactly for the one that runs, and its arguments are in its registers.
+-- sent is 0 exactly for unsent sites, and got is 1 exactly for those that have returned; if such a site is kept, keep holds its
+-- word. The sites of a function that does not run are neither sent nor returned.
 pub record Shows (C : Program) (P : Choice) (s : State) (r : Registers) : Type 0 where
   pub run : (u : ℕ) → r.run u ≡ is_running (s.unit u)
   pub fin : (u : ℕ) → r.fin u ≡ is_delivering (s.unit u)
@@ -43,19 +43,19 @@ pub record Shows (C : Program) (P : Choice) (s : State) (r : Registers) : Type 0
   pub keep : (k : ℕ) (v : Word) → 0 < k → P.kept k ≡ true → s.site k ≡ Returned v → r.keep k ≡ v
   pub others : (k : ℕ) → 0 < k → CallerRests C s k → (r.sent k ≡ false) × (r.got k ≡ false)
 
--- quiet registers: nothing runs, nothing has just finished, and no site is sent or returned; what else they hold is free
+-- Quiet registers: no unit runs or has just finished, and no site is sent or has returned. What else the registers hold is free.
 pub record Quiet (r : Registers) : Type 0 where
   pub run : (u : ℕ) → r.run u ≡ false
   pub fin : (u : ℕ) → r.fin u ≡ false
   pub sent : (k : ℕ) → 0 < k → r.sent k ≡ false
   pub got : (k : ℕ) → 0 < k → r.got k ≡ false
 
--- the inputs of a run: start is 1 in cycle 0 alone, the ports hold the arguments there, and any words later
+-- the inputs of a run: `start` is 1 exactly in cycle 0, when the ports hold the arguments; later they hold any words
 abbrev pub input_at : List Word → (ℕ → List Word) → ℕ → Inputs
 input_at args later zero = record { start = true; words = args }
 input_at args later (suc c) = record { start = false; words = later c }
 
--- the registers of cycle c, from those of cycle 0, and the events of the cycles before c
+-- the registers of cycle c, given those of cycle 0; and the events of the cycles before c
 unfoldable pub registers_at : Program → Choice → Registers → List Word → (ℕ → List Word) → ℕ → Registers
 registers_at C P r0 args later zero = r0
 registers_at C P r0 args later (suc c) = next C P (input_at args later c) (registers_at C P r0 args later c)
@@ -65,8 +65,8 @@ unfolding registers_at
 history C P r0 args later zero = []
 history C P r0 args later (suc c) = history C P r0 args later c ++ cycle_events C P (registers_at C P r0 args later c) (input_at args later c)
 
--- The events of the cycles before c are legal, the registers of cycle c show the state to which they lead, and each res
--- holds the word that its unit finished last, or what it held in cycle 0
+-- The events of the cycles before c are legal, the registers of cycle c show the state that they lead to, and each res holds the
+-- word that its unit finished last, or what it held in cycle 0.
 pub record StepsAt (C : Program) (P : Choice) (r0 : Registers) (args : List Word) (later : ℕ → List Word) (c : ℕ) : Type 0 where
   pub legal : Legal C args opening (history C P r0 args later c)
   pub shows : Shows C P (after C args opening (history C P r0 args later c)) (registers_at C P r0 args later c)

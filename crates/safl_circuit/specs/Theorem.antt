@@ -1,4 +1,4 @@
--- The main theorem: a netlist with the scheme of a well-formed program does what the program means.
+-- The main theorem: a netlist with the scheme of a well-formed program computes what the program means.
 use Rattle.std.specs.Prelude.{◌≡◌, ℕ, ◌*◌, ◌<◌, List, length}
 use Rattle.safl_word.specs.Words.{Word}
 use Rattle.safl_term.specs.Program.{Program, arity}
@@ -14,38 +14,39 @@ use Rattle.safl_term.specs.Names.{Names}
 use Rattle.safl_circuit.specs.Scheme.{Scheme}
 use Rattle.safl_circuit.specs.Correct.{Behaves, Correct, IsExact, IsQuietState, Steps, QuietAfterDone, SameCalls, latest}
 
--- From a state: done comes once, in time, with main's value, and never without one, and no unit starts while it runs or
--- twice at once; where no two calls can overlap, its cycle is known; after done all is quiet; the argument registers see the calls
--- of the evaluation
+-- In runs from a state: `done` comes once, in time, with main's value, and never if main has none. No unit starts while it runs,
+-- or twice at once. If no two calls can overlap, its cycle is known. After `done` all is quiet. The argument registers show the
+-- calls of the evaluation.
 pub record Runs (C : Program) (D : Names) (n : Netlist) (state : ℕ → ℕ) : Type 0 where
   pub behaves : Behaves C D n state
   pub exact : IsExact C n state
   pub quiet : QuietAfterDone C D n state
   pub calls : SameCalls C D n state
 
--- so from reset and from every quiet state; and from reset the cycles are steps of the machine
+-- This holds from reset and from every quiet state; and from reset the cycles are steps of the machine.
 pub record IsCircuit (C : Program) (D : Names) (P : Choice) (n : Netlist) : Type 0 where
   pub correct : Correct C D n
   pub steps : Steps C D P n
   pub first : Runs C D n (reset_state n)
   pub again : (state : ℕ → ℕ) → IsQuietState C D n state → Runs C D n state
 
--- for all arbiters and kept words that the machine's states allow
+-- for all choices of arbiters and kept words that the states of the machine allow
 abbrev pub ServingSchemesAreCircuits : Type 0
 ServingSchemesAreCircuits =
     (C : Program) (D : Names) (P : Choice) (n : Netlist) → IsWellFormed C → OneInUse C P.arbiter → ShownWordsServe C P.kept → Scheme C D P n → IsCircuit C D P n
 
--- which is so where each unit with sites in conflict has an arbiter, and each site that has to keep its word does
+-- It is enough that each unit with sites in conflict has an arbiter, and each site that has to keep its word keeps it.
 abbrev pub SchemesAreCircuits : Type 0
 SchemesAreCircuits =
     (C : Program) (D : Names) (P : Choice) (n : Netlist) → IsWellFormed C → Suffices C P.arbiter P.kept → Scheme C D P n → IsCircuit C D P n
 
--- the same of the registers alone, from any quiet state, and for all choices that the machine's states allow
+-- The cycles of the registers are events of the machine, from any quiet state and for all choices that the states of the machine
+-- allow.
 abbrev pub CyclesAreEvents : Type 0
 CyclesAreEvents =
     (C : Program) (P : Choice) → IsWellFormed C → OneInUse C P.arbiter → ShownWordsServe C P.kept → (r0 : Registers) → Quiet r0
     → (args : List Word) → length args ≡ arity C C.main → (later : ℕ → List Word) (c : ℕ) → StepsAt C P r0 args later c
 
--- the last cycle in which done may come is below three cycles for each call
+-- the last cycle in which `done` may come is below three cycles for each call
 abbrev pub LatestIsSoon : Type 0
 LatestIsSoon = (C : Program) (args : List Word) (v : Word) (d : Main C args v) → latest C args d < 3 * main_cost C args d

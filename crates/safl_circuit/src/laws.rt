@@ -3,33 +3,34 @@
 ghost use Rattle.safl_circuit.specs.Theorem.{CyclesAreEvents, LatestIsSoon, SchemesAreCircuits, ServingSchemesAreCircuits};
 ghost use Rattle.safl_circuit.specs.Mirrored.{MirrorsKeepPlans, MirrorsKeepSchemes};
 
-/// A netlist with the scheme of a well-formed program, whose arbiters and kept words suffice, does what the program
-/// means.
+/// A netlist that has the scheme of a well-formed program, and enough arbiters and kept words, computes what the
+/// program means.
 pub fn circuit_law()
     ensures { SchemesAreCircuits }
 {}
 
-/// The same for all arbiters and kept words with which no two sites of a unit meet and shown words serve.
+/// A netlist with the scheme of a well-formed program computes what the program means for any choice of arbiters and
+/// kept words, as long as no two sites of a unit meet without an arbiter and the shown words serve.
 pub fn serving_law()
     ensures { ServingSchemesAreCircuits }
 {}
 
-/// The cycles of the registers are events of the call machine, from any quiet state.
+/// From any quiet state, the cycles of the registers are events of the call machine.
 pub fn cycle_law()
     ensures { CyclesAreEvents }
 {}
 
-/// The last cycle in which done may come, `2n - l` for `n` calls of which `l` are loops, is below `3n`.
+/// The last cycle in which `done` may come is `2n - l` for `n` calls of which `l` are tail calls. It is below `3n`.
 pub fn latest_law()
     ensures { LatestIsSoon }
 {}
 
-/// A net that mirrors one with the scheme of a circuit has that scheme.
+/// A net that mirrors a net with the scheme of a circuit has that scheme too.
 pub fn scheme_carries_over()
     ensures { MirrorsKeepSchemes }
 {}
 
-/// A net that mirrors one with what a plan has has that too.
+/// A net that mirrors a net with exactly the arbiters and kept words of a plan has them too.
 pub fn plan_carries_over()
     ensures { MirrorsKeepPlans }
 {}

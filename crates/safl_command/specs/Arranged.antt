@@ -1,24 +1,24 @@
--- How the words and the options of a command may stand on a line.
+-- How the words and options of a command may be arranged on a line.
 use Rattle.std.specs.Prelude.{◌≡◌, ◌≢◌, ◌⊎◌, ℕ, List, [], ◌∷◌, ◌++◌, Option, Some, None, codes}
 
--- an option that is given, by its name without hyphens, and its value if it takes one
+-- an option that is given: its name without hyphens, and its value if it takes one
 pub record GivenOption : Type 0 where
   pub name : List ℕ
   pub value : Option (List ℕ)
 
--- the word is empty, or begins with another character than a hyphen
+-- the word is empty or does not begin with a hyphen
 abbrev pub IsUnhyphened : List ℕ → Type 0
 IsUnhyphened [] = Unit {0}
 IsUnhyphened (c ∷ cs) = c ≢ 45
 
--- an option is written `--NAME`, and with a value `--NAME VALUE` or `--NAME=VALUE`
+-- the ways to write an option: `--NAME`, or with a value `--NAME VALUE` or `--NAME=VALUE`
 abbrev pub IsWritten : List ℕ → Option (List ℕ) → List (List ℕ) → Type 0
 IsWritten name None written = written ≡ (codes "--" ++ name) ∷ []
 IsWritten name (Some value) written =
     (IsUnhyphened value × (written ≡ (codes "--" ++ name) ∷ value ∷ [])) ⊎ (written ≡ (codes "--" ++ name ++ codes "=" ++ value) ∷ [])
 
--- A line has these words, in order, and these options, in any order and at any place. `--` may stand before the last words, and after it
--- a word may begin with a hyphen
+-- A line has these words, in order, and these options, in any order and at any place. `--` may come before the last words; words
+-- after it may begin with a hyphen.
 pub data Arranged : List (List ℕ) → List GivenOption → List (List ℕ) → Type 0 where
   ends : Arranged [] [] []
   then_word : (word : List ℕ) (words : List (List ℕ)) (options : List GivenOption) (line : List (List ℕ)) → IsUnhyphened word

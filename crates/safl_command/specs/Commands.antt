@@ -1,4 +1,4 @@
--- Which words are a command.
+-- Which words form which command.
 use Rattle.std.specs.Prelude.{ℕ, List, [], ◌∷◌, map, Option, Some, None, Bool, option_map, option_and_then}
 use Rattle.std.specs.Prelude.{bytes_eq, if◌then◌else◌, codes, string_bytes}
 use Rattle.std.specs.Borrow.{Bor}
@@ -10,38 +10,40 @@ use Rattle.safl_command.specs.declared.command.Command as code
 use Rattle.safl_command.specs.declared.command.Command.TheVariants as code_of
 
 pub data Command : Type 0 where
-  -- reads the source of the name
+  -- reads and checks a source
   Check : (input : List ℕ) → Command
-  -- reads the source of the first name, and writes its circuit to the file of the second
+  -- reads a source, and writes its circuit to a file
   Build : (input output : List ℕ) → Command
-  -- the same with the optimised circuit
+  -- reads a source, and writes its optimised circuit to a file
   Optimise : (input output : List ℕ) → Command
-  -- reads the source of the name, runs its circuit for so many cycles with these arguments, and writes traces of the run to the files that are given
+  -- reads a source, runs its circuit for at most `limit` cycles with these arguments, and writes traces of the run to the files
+  -- that are given
   Sim : (input : List ℕ) (limit : ℕ) (traces : Traces) (args : List (List ℕ)) → Command
-  -- reads the source of the name, and walks with these arguments for so many events at most, by the numbers that the seed begins
+  -- reads a source, and walks its call machine with these arguments for at most `steps` events, which are picked by the numbers
+  -- of a seed
   Walk : (input : List ℕ) (seed steps : ℕ) (args : List (List ℕ)) → Command
-  -- reads the Verilog file of the name, and runs its netlist for so many cycles with these arguments
+  -- reads a Verilog file, and runs its netlist for at most `limit` cycles with these arguments
   Run : (input : List ℕ) (limit : ℕ) (args : List (List ℕ)) → Command
-  -- reads the source of the name, and reports its plan
+  -- reads a source, and reports its plan
   Report : (input : List ℕ) → Command
-  -- makes a source of so many functions from a seed
+  -- makes a source of `count` functions from a seed
   Gen : (seed count : ℕ) → Command
-  -- makes the same, and runs its circuit for so many cycles
+  -- makes a source of `count` functions from a seed, and runs its circuit for at most `limit` cycles
   Bench : (seed count limit : ℕ) → Command
-  -- reads the source of the first name, and writes it to the file of the second with a copy of a function for one site
+  -- reads a source, and writes it to a file with a function copied for one call site
   CopySite : (input output : List ℕ) (site : ℕ) → Command
-  -- the same with the body of a function in place of one site
+  -- reads a source, and writes it to a file with the call at a site replaced by the function's body
   UnfoldSite : (input output : List ℕ) (site : ℕ) → Command
-  -- reads the source of the first name, and calls main once for each line of the file of the second, for so many cycles each
+  -- reads a source and a script, and calls main once for each line of the script, for at most `limit` cycles each
   Session : (input script : List ℕ) (limit : ℕ) → Command
-  -- reads the Verilog file of the first name, and writes its bit-level circuit to the file of the second
+  -- reads a Verilog file, and writes its bit-level circuit to a file
   Aig : (input output : List ℕ) → Command
-  -- reads the bit-level circuit of the name
+  -- reads a bit-level circuit, and reports its size
   Aigstat : (input : List ℕ) → Command
 
--- ---- the commands, by the values of their arguments
+-- ---- the commands from the values of their arguments
 
--- a command of two files
+-- a command with two files
 abbrev pub files_in : List ℕ → List ℕ → (List ℕ → List ℕ → Option Command) → List Row → Option Command
 files_in first second make rows = option_and_then (λ input. option_and_then (make input) (name_in second rows)) (name_in first rows)
 
@@ -54,7 +56,7 @@ build_or_optimise optimised input output = if optimised then Optimise input outp
 abbrev pub build_in : List Row → Option Command
 build_in rows = files_in (codes "IN") (codes "OUT") (λ input output. Some (build_or_optimise (has_flag (codes "opt") rows) input output)) rows
 
--- the files for traces
+-- the files for traces, if their names differ
 abbrev pub traces_in : List Row → Option Traces
 traces_in rows = if_apart (record { vcd = first_of (codes "vcd") rows; starts = first_of (codes "starts") rows; toggles = first_of (codes "toggles") rows })
 
@@ -85,11 +87,11 @@ bench_in rows =
     option_and_then (λ count. option_map (Bench seed count) (limit_in (codes "cycles") rows)) (count_in (codes "COUNT") rows))
     (number_in (codes "SEED") rows)
 
--- the word of an option, where there is one
+-- the word that an option has, if there is one
 abbrev pub word_of : Option (Bor (List ℕ)) → Option (List ℕ)
 word_of given = option_map (λ (w : Bor (List ℕ)). w.now) given
 
--- exactly one of the two options is given, with the number of a site
+-- the reshaping, if exactly one of the two options is given, with the number of a site
 abbrev pub reshaped : List ℕ → List ℕ → Option (List ℕ) → Option (List ℕ) → Option Command
 reshaped input output (Some copied) None = option_map (CopySite input output) (number_of copied)
 reshaped input output None (Some unfolded) = option_map (UnfoldSite input output) (number_of unfolded)
@@ -111,7 +113,7 @@ aig_in rows = files_in (codes "FILE") (codes "OUT") (λ input output. Some (Aig 
 abbrev pub aigstat_in : List Row → Option Command
 aigstat_in rows = option_map Aigstat (name_in (codes "FILE") rows)
 
--- the command of a word, by what its arguments say
+-- the command of a subcommand, from the values of its arguments
 abbrev pub command_in : List ℕ → List Row → Option Command
 command_in word rows =
     if bytes_eq word (codes "check") then check_in rows
@@ -128,25 +130,26 @@ command_in word rows =
     else if bytes_eq word (codes "aigstat") then aigstat_in rows
     else None
 
--- the command of the subcommand that was entered
+-- the command of the subcommand that was found
 abbrev pub entered_command : Option (List ℕ × List Row) → Option Command
 entered_command None = None
 entered_command (Some entered) = command_in entered.0 entered.1
 
--- the same, where no fault was found
+-- the command that was found, if `clap` found no fault
 abbrev pub faultless : Kinds → Option (List ℕ × List Row) → Option Command
 faultless [] entered = entered_command entered
 faultless _ entered = None
 
--- a whole line, the program's name first, is a command where `clap` finds no fault in it, and the values that it finds are in range
+-- The command that a whole line is, with the program's name first. It is one if `clap` finds no fault in it and the values that
+-- it finds are in range.
 unfoldable pub command_of_line : List (List ℕ) → Option Command
 command_of_line line = faultless (fault_of app line) (subcommand_of app line)
 
--- the command that the words after the program's name say
+-- the command that the words after the program's name form
 abbrev pub command_of : List (List ℕ) → Option Command
 command_of words = command_of_line (codes "safl" ∷ words)
 
--- the command that a value of the code is
+-- the command that a value of the code stands for
 abbrev pub shown : code.Command → Command
 shown (code_of.Check input) = Check (string_bytes input)
 shown (code_of.Build input output) = Build (string_bytes input) (string_bytes output)

@@ -1,4 +1,4 @@
--- The forms of the commands, as `clap` reads them.
+-- The forms of the commands, as `clap` takes them.
 use Rattle.std.specs.Prelude.{ℕ, List, [], ◌∷◌, map, Some, true, codes}
 use Rattle.clap.specs.declared.builder.action.ArgAction.TheVariants.{Append, SetTrue}
 use Rattle.clap.specs.Words.{App, Shape, Rule, new_app, new_rule, with_rule, with_subcommand}
@@ -6,25 +6,25 @@ use Rattle.safl_command.specs.declared.forms.Argument as code
 use Rattle.safl_command.specs.declared.forms.Argument.TheVariants as code_of
 use Rattle.safl_command.specs.declared.forms.Form as code_form
 
--- a word after a command's own
+-- what may follow a command's own word
 pub data Argument : Type 0 where
-  -- a word that has to be given, as `IN`
+  -- a word that is required, such as `IN`
   Name : (id : List ℕ) → Argument
-  -- an option that has to be given, with a value, as `--cycles L`
+  -- an option with a value that is required, such as `--cycles L`
   Option : (id : List ℕ) → Argument
-  -- an option that may be left out, with a value, as `--copy K`
+  -- an option with a value that may be left out, such as `--copy K`
   Choice : (id : List ℕ) → Argument
-  -- an option that may be left out, without a value, as `--opt`
+  -- an option without a value, such as `--opt`
   Flag : (id : List ℕ) → Argument
-  -- any words, as `[ARG..]`
+  -- any number of words, as in `[ARG..]`
   Rest : (id : List ℕ) → Argument
 
--- a command's own word and what stands after it
+-- a command's own word, and what may follow it
 pub record Form : Type 0 where
   pub word : List ℕ
   pub arguments : List Argument
 
--- the commands
+-- the forms of all commands
 abbrev pub forms : List Form
 forms =
     (record { word = codes "check"; arguments = Name (codes "IN") ∷ [] })
@@ -51,7 +51,7 @@ rule (Choice id) = record (new_rule id) { long = Some id }
 rule (Flag id) = record (new_rule id) { long = Some id; action = Some SetTrue }
 rule (Rest id) = record (new_rule id) { action = Some Append }
 
--- with these arguments, in order
+-- a command of `clap` with these arguments added, in order
 abbrev pub with_rules : App → List Argument → App
 with_rules a [] = a
 with_rules a (x ∷ xs) = with_rules (with_rule a (rule x)) xs
@@ -59,16 +59,16 @@ with_rules a (x ∷ xs) = with_rules (with_rule a (rule x)) xs
 abbrev pub form_shape : Form → Shape
 form_shape f = (with_rules (new_app f.word) f.arguments).top
 
--- with these subcommands, in order
+-- a command of `clap` with these subcommands added, in order
 abbrev pub with_forms : App → List Form → App
 with_forms a [] = a
 with_forms a (f ∷ fs) = with_forms (with_subcommand a (form_shape f)) fs
 
--- the program, which has to be given a subcommand
+-- the program as a command of `clap` that requires a subcommand
 abbrev pub bare : App
 bare = let a = new_app (codes "safl") in record a { top = record a.top { subcommand_required = true } }
 
--- the program's command
+-- the program as a command of `clap`, with all its subcommands
 unfoldable pub app : App
 app = with_forms bare forms
 

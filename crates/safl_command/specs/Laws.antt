@@ -1,5 +1,6 @@
--- Which words are which command, said of the words alone. Of each form of words there are two laws: one of the words as the usage has
--- them (`..Words`), and one of each line on which these words and options are arranged in another way (`..Lines`).
+-- Laws of command lines: which words are which command, said of the words alone.
+-- For each form there are two laws: one of the words in the order of the usage line (`..Words`), and one of each line on which
+-- these words and options are arranged otherwise (`..Lines`).
 use Rattle.std.specs.Prelude.{◌≡◌, ℕ, List, [], ◌∷◌, Option, Some, None, codes, true}
 use Rattle.safl_word.specs.Numerals.{value}
 use Rattle.safl_command.specs.Limits.{cycles_max, functions_max}
@@ -8,7 +9,7 @@ use Rattle.safl_command.specs.Traces.{Traces, are_apart}
 use Rattle.safl_command.specs.Values.{is_number, is_within}
 use Rattle.safl_command.specs.Commands.{Check, Build, Optimise, Sim, Walk, Run, Report, Gen, Bench, CopySite, UnfoldSite, Session, Aig, Aigstat, command_of}
 
--- a name is not empty, and a plain one does not begin with a hyphen either
+-- a name is not empty; a plain one does not begin with a hyphen either
 abbrev pub IsName : List ℕ → Type 0
 IsName [] = ⊥
 IsName (c ∷ cs) = Unit {0}
@@ -20,7 +21,7 @@ abbrev pub AreUnhyphened : List (List ℕ) → Type 0
 AreUnhyphened [] = Unit {0}
 AreUnhyphened (w ∷ ws) = IsUnhyphened w × AreUnhyphened ws
 
--- 1 to 20 digits, whose number is below 2^64; and one that is 1 to 10^9, or 1 to 900
+-- 1 to 20 digits of a number below 2^64; of one from 1 to 10^9; of one from 1 to 900
 abbrev pub IsNumber : List ℕ → Type 0
 IsNumber word = is_number word ≡ true
 
@@ -30,7 +31,7 @@ IsLimit word = is_within cycles_max word ≡ true
 abbrev pub IsCount : List ℕ → Type 0
 IsCount word = is_within functions_max word ≡ true
 
--- these options, before others
+-- an option with a value, and one without, before other options
 abbrev pub option : List ℕ → List ℕ → List GivenOption → List GivenOption
 option name value others = record { name = name; value = Some value } ∷ others
 
@@ -41,11 +42,10 @@ abbrev pub option_if : List ℕ → Option (List ℕ) → List GivenOption → L
 option_if name None others = others
 option_if name (Some value) others = option name value others
 
--- the options for traces
 abbrev pub trace_options : Traces → List GivenOption
 trace_options t = option_if (codes "vcd") t.vcd (option_if (codes "starts") t.starts (option_if (codes "toggles") t.toggles []))
 
--- an option with its value, where it is given, before other words
+-- an option with its value, if it is given, before other words
 abbrev pub words_if : List ℕ → Option (List ℕ) → List (List ℕ) → List (List ℕ)
 words_if flag None more = more
 words_if flag (Some file) more = flag ∷ file ∷ more
@@ -53,7 +53,7 @@ words_if flag (Some file) more = flag ∷ file ∷ more
 abbrev pub trace_words : Traces → List (List ℕ) → List (List ℕ)
 trace_words t more = words_if (codes "--vcd") t.vcd (words_if (codes "--starts") t.starts (words_if (codes "--toggles") t.toggles more))
 
--- no file for traces has a name that begins with a hyphen
+-- the name, if it is given, does not begin with a hyphen
 abbrev pub IsUnhyphenedIf : Option (List ℕ) → Type 0
 IsUnhyphenedIf None = Unit {0}
 IsUnhyphenedIf (Some file) = IsUnhyphened file
@@ -90,7 +90,7 @@ OptimiseLines =
     (input output : List ℕ) (line : List (List ℕ)) → IsName input → IsName output
     → Arranged (input ∷ output ∷ []) (flag (codes "opt") []) line → command_of (codes "build" ∷ line) ≡ Some (Optimise input output)
 
--- `sim IN --cycles L [--vcd F1] [--starts F2] [--toggles F3] [ARG..]`, where F1, F2 and F3 are not empty, and no two of them are the same
+-- `sim IN --cycles L [--vcd F1] [--starts F2] [--toggles F3] [ARG..]`, where F1, F2 and F3 are not empty and all different
 abbrev pub SimWords : Type 0
 SimWords =
     (input limit : List ℕ) (t : Traces) (args : List (List ℕ)) → IsPlain input → IsLimit limit → HaveUnhyphened t → are_apart t ≡ true → AreUnhyphened args

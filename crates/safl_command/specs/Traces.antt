@@ -6,6 +6,6 @@ pub use Rattle.safl_command.specs.Apart.{Traces, files, is_named, differ, are_ap
 abbrev pub shown : code.Traces → Traces
 shown t = files t.vcd t.starts t.toggles
 
--- these files, where they are apart
+-- the traces with these files, if their names differ
 abbrev pub if_apart : Traces → Option Traces
 if_apart t = if are_apart t then Some t else None

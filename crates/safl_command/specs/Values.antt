@@ -1,4 +1,4 @@
--- What the values of an argument say.
+-- The values of a command's arguments.
 use Rattle.std.specs.Prelude.{ℕ, List, [], ◌∷◌, length, Option, Some, None, Bool, false, ◌&&◌, ◌^◌, option_and_then, unwrap_or}
 use Rattle.std.specs.Prelude.{nat_le, nat_lt, bytes_eq, if◌then◌else◌, codes}
 use Rattle.std.specs.List.{list_all}
@@ -7,16 +7,16 @@ use Rattle.clap.specs.Words.{Row, first_of, all_of}
 use Rattle.safl_word.specs.Numerals.{value, is_digit}
 use Rattle.safl_command.specs.Limits.{cycles_max, functions_max}
 
--- a name, which is not empty
+-- the name, if it is not empty
 abbrev pub filled : List ℕ → Option (List ℕ)
 filled [] = None
 filled (c ∷ cs) = Some (c ∷ cs)
 
--- 1 to 20 digits, whose number is below 2^64
+-- 1 to 20 digits of a number below 2^64
 abbrev pub is_number : List ℕ → Bool
 is_number word = nat_le 1 (length word) && (list_all (is_digit 10) word && (nat_le (length word) 20 && nat_lt (value 10 word) (2 ^ 64)))
 
--- the same, whose number is 1 to `most`
+-- 1 to 20 digits of a number from 1 to `most`
 abbrev pub is_within : ℕ → List ℕ → Bool
 is_within most word = is_number word && (nat_le 1 (value 10 word) && nat_le (value 10 word) most)
 
@@ -32,24 +32,24 @@ number_within most word = number_if (is_within most word) word
 abbrev pub name_in : List ℕ → List Row → Option (List ℕ)
 name_in id rows = option_and_then filled (first_of id rows)
 
--- any decimal number: a seed, or the number of a site
+-- the decimal number that an argument gives: a seed, or the number of a site
 abbrev pub number_in : List ℕ → List Row → Option ℕ
 number_in id rows = option_and_then number_of (first_of id rows)
 
 abbrev pub within_in : ℕ → List ℕ → List Row → Option ℕ
 within_in most id rows = option_and_then (number_within most) (first_of id rows)
 
--- a number of cycles or events, and one of functions
+-- the number of cycles or events that an argument gives; and the number of functions
 abbrev pub limit_in : List ℕ → List Row → Option ℕ
 limit_in = within_in cycles_max
 
 abbrev pub count_in : List ℕ → List Row → Option ℕ
 count_in = within_in functions_max
 
--- a flag that was given
+-- whether a flag was given
 abbrev pub has_flag : List ℕ → List Row → Bool
 has_flag id rows = option_map_or (λ word. bytes_eq word (codes "true")) (first_of id rows) false
 
--- any words
+-- the words of an argument that takes any number of them
 abbrev pub args_in : List Row → List (List ℕ)
 args_in rows = unwrap_or (all_of (codes "ARG") rows) []

@@ -1,4 +1,4 @@
-//! What the values of the arguments say.
+//! The values of a command's arguments.
 
 ghost use Rattle.std.specs.Prelude.{◌≡◌, ◌≤◌, ◌↔◌, true, IfOk, IsSome, IfSome, Some, map, option_map, string_bytes, codes, bytes_eq};
 ghost use Rattle.clap.specs.Words.{found_of, rows_of, first_of};
@@ -10,7 +10,7 @@ use clap::ArgMatches;
 use safl_word::{NoMemory, decimal};
 use std::alloc::Global;
 
-/// The name that an argument gives.
+/// The name that an argument gives. None if it gives none, or an empty one.
 pub fn name_in(alloc: Global, values: &ArgMatches<'_>, id: &str) -> Result<Option<String>, NoMemory>
     ensures { IfOk result (λ name. option_map string_bytes name ≡ name_in id.now (rows_of (found_of values.now))) }
 {
@@ -20,7 +20,7 @@ pub fn name_in(alloc: Global, values: &ArgMatches<'_>, id: &str) -> Result<Optio
     }
 }
 
-// A word that is not empty.
+// The word, unless it is empty.
 fn filled(alloc: Global, word: &str) -> Result<Option<String>, NoMemory>
     ensures { IfOk result (λ name. option_map string_bytes name ≡ filled word.now) }
 {
@@ -31,7 +31,7 @@ fn filled(alloc: Global, word: &str) -> Result<Option<String>, NoMemory>
     Ok(Some(name))
 }
 
-/// The word that an argument gives, which may be empty.
+/// The word that an argument gives. It may be empty.
 pub fn word_in(alloc: Global, values: &ArgMatches<'_>, id: &str) -> Result<Option<String>, NoMemory>
     ensures { IfOk result (λ word. option_map string_bytes word ≡ first_of id.now (rows_of (found_of values.now))) }
 {
@@ -58,7 +58,7 @@ pub fn number_in(values: &ArgMatches<'_>, id: &str) -> Option<u64>
     }
 }
 
-/// The number of a decimal word.
+/// The number that a decimal word spells.
 pub fn number_of(word: &str) -> Option<u64>
     ensures some { IsSome result ↔ (is_number word.now ≡ true) }
     ensures number { IfSome result (λ n. n ≡ value 10 word.now) }
@@ -66,7 +66,7 @@ pub fn number_of(word: &str) -> Option<u64>
     decimal(word.as_bytes())
 }
 
-/// The number of cycles or events that an argument gives.
+/// The number of cycles or events that an argument gives, if it is in range.
 pub fn limit_in(values: &ArgMatches<'_>, id: &str) -> Option<u64>
     ensures number { result ≡ limit_in id.now (rows_of (found_of values.now)) }
     ensures least { IfSome result (λ n. 1 ≤ n) }
@@ -75,7 +75,7 @@ pub fn limit_in(values: &ArgMatches<'_>, id: &str) -> Option<u64>
     within_in(values, id, CYCLES_MAX)
 }
 
-/// The number of functions that an argument gives.
+/// The number of functions that an argument gives, if it is in range.
 pub fn count_in(values: &ArgMatches<'_>, id: &str) -> Option<Count>
     ensures { option_map (λ c. c.functions) result ≡ count_in id.now (rows_of (found_of values.now)) }
 {
@@ -87,7 +87,7 @@ pub fn count_in(values: &ArgMatches<'_>, id: &str) -> Option<Count>
     }
 }
 
-// The number from 1 to `most` that an argument gives.
+// The number that an argument gives, if it is from 1 to `most`.
 fn within_in(values: &ArgMatches<'_>, id: &str, most: u64) -> Option<u64>
     ensures number { result ≡ within_in most id.now (rows_of (found_of values.now)) }
     ensures least { IfSome result (λ n. 1 ≤ n) }
@@ -127,7 +127,7 @@ fn is_true(word: &str) -> bool
     word == "true"
 }
 
-/// Any words.
+/// The words that an argument of any number of words gives.
 pub fn args_in(alloc: Global, values: &ArgMatches<'_>) -> Result<Vec<String>, NoMemory>
     ensures { IfOk result (λ args. map string_bytes args.items ≡ args_in (rows_of (found_of values.now))) }
 {

@@ -1,17 +1,17 @@
-//! What the words of a command line ask for.
+//! The commands of a command line.
 
 ghost use Rattle.std.specs.Prelude.{◌≤◌};
 ghost use Rattle.safl_command.specs.Limits.{functions_max};
 
 use crate::traces::Traces;
 
-/// The most cycles of a run, and events of a walk.
+/// The greatest number of cycles of a run, and of events of a walk.
 pub const CYCLES_MAX: u64 = 1_000_000_000;
 
-/// The most functions of a generated source, besides main.
+/// The greatest number of functions of a generated source, besides main.
 pub const FUNCTIONS_MAX: u64 = 900;
 
-/// How a walk goes: for at most `steps` events, 1 to `CYCLES_MAX`, by the numbers that `seed` begins.
+/// How a walk goes: it picks events by the numbers that follow from `seed`, at most `steps` of them, 1 to `CYCLES_MAX`.
 #[derive(Clone, Copy)]
 pub struct Turns {
     pub seed: u64,
@@ -26,7 +26,7 @@ pub struct Count {
     pub ghost most: { functions ≤ functions_max },
 }
 
-/// A command with its words.
+/// A command, with its arguments.
 #[derive(Drop)]
 pub enum Command {
     /// Reads and checks the source of `input`.
@@ -67,24 +67,26 @@ pub enum Command {
     Report {
         input: String,
     },
-    /// Makes a source of `count` functions and main from the numbers that `seed` begins.
+    /// Makes a source of `count` functions and main from the numbers that follow from `seed`.
     Gen {
         seed: u64,
         count: Count,
     },
-    /// Makes the same source, and runs its circuit for at most `limit` cycles, 1 to `CYCLES_MAX`.
+    /// Makes the source that `Gen` makes, and runs its circuit for at most `limit` cycles, 1 to `CYCLES_MAX`.
     Bench {
         seed: u64,
         count: Count,
         limit: u64,
     },
-    /// Reads a source from `input` and writes it to `output` with a copy of the function that a site calls, for this site alone.
+    /// Reads a source from `input` and writes it to `output` with a copy of the function that call site `site` calls.
+    /// This site alone calls the copy.
     CopySite {
         input: String,
         output: String,
         site: u64,
     },
-    /// Reads a source from `input` and writes it to `output` with the body of the function that a site calls in place of the call.
+    /// Reads a source from `input` and writes it to `output`. The body of the called function stands in place of the
+    /// call at `site`.
     UnfoldSite {
         input: String,
         output: String,

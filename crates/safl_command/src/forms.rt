@@ -1,4 +1,4 @@
-//! The forms of the commands, as `clap` reads them.
+//! The forms of the commands, as `clap` takes them.
 
 ghost use Rattle.std.specs.Prelude.{◌≡◌, IfOk, false, map};
 ghost use Rattle.clap.specs.Words.{rule_of, app_of, shape_of};
@@ -8,29 +8,29 @@ ghost use Rattle.safl_command.specs.Forms.{rule, shown, shown_form, form_shape, 
 use clap::{Arg, ArgAction, Command};
 use std::alloc::{AllocError, Global};
 
-/// A word after a command's own.
+/// What may follow a command's own word.
 #[derive(Clone, Copy)]
 pub enum Argument<'a> {
-    /// A word that has to be given, as `IN`.
+    /// A word that is required, such as `IN`.
     Name(&'a str),
-    /// An option that has to be given, with a value, as `--cycles L`.
+    /// An option with a value that is required, such as `--cycles L`.
     Option(&'a str),
-    /// An option that may be left out, with a value, as `--copy K`.
+    /// An option with a value that may be left out, such as `--copy K`.
     Choice(&'a str),
-    /// An option that may be left out, without a value, as `--opt`.
+    /// An option without a value, such as `--opt`.
     Flag(&'a str),
-    /// Any words, as `[ARG..]`.
+    /// Any number of words, as in `[ARG..]`.
     Rest(&'a str),
 }
 
-/// A command's own word and what may follow it.
+/// A command's own word, and what may follow it.
 #[derive(Clone, Copy)]
 pub struct Form<'a> {
     pub word: &'a str,
     pub arguments: &'a [Argument<'a>],
 }
 
-/// The commands.
+/// The forms of all commands.
 static FORMS: [Form<'static>; 12] = [
     Form {
         word: "check",
@@ -139,7 +139,7 @@ fn subcommand_of<'a>(alloc: Global, form: Form<'a>) -> Result<Command<'a>, Alloc
     Ok(command)
 }
 
-/// The program's command, whose subcommands are the commands.
+/// The program as a command of `clap`, with a subcommand for each form.
 pub fn program<'a>(alloc: Global) -> Result<Command<'a>, AllocError>
     ensures { IfOk result (λ c. app_of c ≡ app) }
 {

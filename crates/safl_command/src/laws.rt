@@ -1,4 +1,4 @@
-//! Laws of words: which are which command.
+//! Laws of command lines: which words are which command.
 
 ghost use Rattle.safl_command.specs.Laws.{CheckWords, CheckLines, BuildWords, BuildLines, OptimiseWords, OptimiseLines, SimWords, SimLines, WalkWords, WalkLines, RunWords, RunLines, ReportWords, ReportLines, GenWords, GenLines, BenchWords, BenchLines, CopyWords, CopyLines, UnfoldWords, UnfoldLines, SessionWords, SessionLines, AigWords, AigLines, AigstatWords, AigstatLines};
 

@@ -1,4 +1,4 @@
-//! The commands, and how the words of a command line ask for one.
+//! The commands, and how the words of a command line are read as one.
 #![tactic(auto)]
 
 mod arguments;

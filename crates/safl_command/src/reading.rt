@@ -1,4 +1,4 @@
-//! How words are read as a command.
+//! From the words of a command line to a command.
 
 ghost use Rattle.std.specs.Prelude.{◌≡◌, ◌∷◌, IfOk, map, option_map, string_bytes, codes};
 ghost use Rattle.clap.specs.Words.{found_of, rows_of, subcommand_rows_of};
@@ -17,7 +17,7 @@ use clap::error::ErrorKind;
 use safl_word::NoMemory;
 use std::alloc::Global;
 
-/// The command that the words say, where they are one.
+/// The command that the words spell. None if they spell none.
 pub fn read_words(alloc: Global, words: &[String]) -> Result<Option<Command>, NoMemory>
     ensures { IfOk result (λ c. option_map shown c ≡ command_of (map string_bytes words.now)) }
 {
@@ -25,7 +25,7 @@ pub fn read_words(alloc: Global, words: &[String]) -> Result<Option<Command>, No
     read_line(alloc, &line)
 }
 
-// The words with the program's name before them.
+// The words, after a program name.
 fn line_of<'a>(alloc: Global, words: &'a [String]) -> Result<Vec<&'a str>, NoMemory>
     ensures { IfOk result (λ line. map (λ word. word.now) line.items ≡ codes "safl" ∷ map string_bytes words.now) }
 {
@@ -37,7 +37,7 @@ fn line_of<'a>(alloc: Global, words: &'a [String]) -> Result<Vec<&'a str>, NoMem
     Ok(line)
 }
 
-// The command that a line says, the program's name first.
+// The command that a line spells. The line begins with the program's name.
 fn read_line<'a>(alloc: Global, line: &'a [&'a str]) -> Result<Option<Command>, NoMemory>
     ensures { IfOk result (λ c. option_map shown c ≡ command_of_line (map (λ word. word.now) line.now)) }
 {
@@ -49,7 +49,7 @@ fn read_line<'a>(alloc: Global, line: &'a [&'a str]) -> Result<Option<Command>, 
     }
 }
 
-// The command of the subcommand that was entered.
+// The command of the subcommand that `clap` found.
 fn read_matches(alloc: Global, matches: &ArgMatches<'_>) -> Result<Option<Command>, NoMemory>
     ensures { IfOk result (λ c. option_map shown c ≡ entered_command (subcommand_rows_of matches.now)) }
 {
@@ -59,7 +59,7 @@ fn read_matches(alloc: Global, matches: &ArgMatches<'_>) -> Result<Option<Comman
     }
 }
 
-// The command of a word, by the values of its arguments.
+// The command of this name, with the values of its arguments.
 fn command_in(
     alloc: Global,
     word: &str,
@@ -141,7 +141,7 @@ fn sim_in(alloc: Global, values: &ArgMatches<'_>) -> Result<Option<Command>, NoM
     }))
 }
 
-// The files for traces.
+// The files for traces. None if one of their names is empty or two are the same.
 fn traces_in(alloc: Global, values: &ArgMatches<'_>) -> Result<Option<Traces>, NoMemory>
     ensures { IfOk result (λ t. option_map shown_traces t ≡ traces_in (rows_of (found_of values.now))) }
 {
@@ -232,7 +232,7 @@ fn reshape_in(alloc: Global, values: &ArgMatches<'_>) -> Result<Option<Command>,
     Ok(change_in(values, input, output))
 }
 
-// One site is given, of one of the two kinds.
+// The reshaping that the options ask for. None unless exactly one site is given, to be copied or to be unfolded.
 fn change_in(values: &ArgMatches<'_>, input: String, output: String) -> Option<Command>
     ensures { option_map shown result ≡ change_in (string_bytes input) (string_bytes output) (rows_of (found_of values.now)) }
 {

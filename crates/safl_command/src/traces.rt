@@ -3,15 +3,15 @@
 ghost use Rattle.std.specs.Prelude.{◌≡◌, true, option_map, string_bytes};
 ghost use Rattle.safl_command.specs.Apart.{are_apart, files, is_named, differ};
 
-/// The names of the files for the traces of each kind, each of which may be left out. No name is empty, and no two are the
-/// same.
+/// The files for the traces of a run, one for each kind of trace; each may be left out. No name is empty, and no two
+/// are the same.
 #[derive(Drop)]
 pub struct Traces {
-    /// For a value change dump.
+    /// The file for a value change dump.
     pub vcd: Option<String>,
-    /// For the cycles in which calls start.
+    /// The file for the cycles in which calls start.
     pub starts: Option<String>,
-    /// For the bits of registers that change.
+    /// The file for the numbers of register bits that change.
     pub toggles: Option<String>,
     pub ghost separate: { are_apart (files vcd starts toggles) ≡ true },
 }
@@ -21,7 +21,7 @@ impl Traces {
     ghost use Rattle.safl_command.specs.Apart.{files};
     ghost use Rattle.safl_command.specs.Traces.{shown, if_apart};
 
-    /// The files of these names. None exactly where a name is empty or two are the same.
+    /// The traces with these files. None exactly if a name is empty or two are the same.
     pub fn new(
         vcd: Option<String>,
         starts: Option<String>,

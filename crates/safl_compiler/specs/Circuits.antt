@@ -7,8 +7,8 @@ use Rattle.safl_circuit.specs.Layout.{HasPlan}
 use Rattle.safl_circuit.specs.Scheme.{Scheme}
 use Rattle.safl_circuit.specs.Theorem.{IsCircuit}
 
--- The netlist has exactly the arbiters and kept words of the program's plan: no other registers and named wires, each cycle as
--- the equations say, and in its runs it does what the program means
+-- The netlist has exactly the arbiters and kept words of the program's plan: no other registers and named wires. Each cycle is as
+-- the equations say, and in its runs the netlist computes what the program means.
 pub record IsCircuitOf (C : Program) (D : Names) (n : Netlist) : Type 0 where
   pub choice : Choice
   pub plan : IsPlan C choice.arbiter choice.kept

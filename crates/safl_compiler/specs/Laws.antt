@@ -1,11 +1,11 @@
--- What is claimed of sources.
+-- The laws of sources.
 use Rattle.std.specs.Prelude.{◌≡◌, ℕ, List, ◌⊎◌}
 use Rattle.safl_word.specs.declared.fault.Fault.{Fault}
 use Rattle.safl_term.specs.Program.{Program}
 use Rattle.safl_term.specs.Names.{Names}
 use Rattle.safl_compiler.specs.Sources.{IsSourceOf, HasFirstFault}
 
--- one program at most, with its names
+-- a source spells at most one program, with its names
 abbrev pub OneProgram : Type 0
 OneProgram = (source : List ℕ) (C B : Program) (D E : Names) → IsSourceOf source C D → IsSourceOf source B E → (C ≡ B) × (D ≡ E)
 

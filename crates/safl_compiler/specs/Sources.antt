@@ -1,4 +1,4 @@
--- Which program a source is that of, and its first fault.
+-- Which program a source spells, and its first fault.
 use Rattle.std.specs.Prelude.{◌≡◌, ℕ, ◌≤◌, List, Some}
 use Rattle.safl_word.specs.declared.fault.Fault.{Fault}
 use Rattle.safl_tree.specs.Tree.{Definition}
@@ -11,7 +11,7 @@ use Rattle.safl_typing.specs.declared.typed.CheckErr.TheVariants as errors
 use Rattle.safl_check.specs.Numbered.{program_in, names_in}
 use Rattle.safl_term.specs.Names.{Names}
 
--- the source spells definitions whose numbered form is this program in numbers, with these names
+-- The source spells definitions whose numbered form is this program, with these names.
 pub record IsSourceOf (source : List ℕ) (C : Program) (D : Names) : Type 0 where
   pub definitions : List Definition
   pub spelled : SpellsProgram source definitions
@@ -25,7 +25,7 @@ pub data HasFirstFault (source : List ℕ) (f : Fault) : Type 0 where
   syntax_fault : SyntaxFault source f → HasFirstFault source f
   check_fault : (ds : List Definition) → SpellsProgram source ds → first_fault ds ≡ Some f → HasFirstFault source f
 
--- a refusal is the first fault of the source; no source is too deep, and out of memory says nothing
+-- The error is the first fault of the source, or out of memory. No source is too deep.
 abbrev pub RefusesSource : List ℕ → CheckErr → Type 0
 RefusesSource source (errors.Refused f) = HasFirstFault source f
 RefusesSource source errors.TooDeep = ⊥
@@ -35,6 +35,6 @@ RefusesSource source errors.NoMemory = Unit {0}
 abbrev pub HasForm : List Definition → Type 0
 HasForm ds = (c : Form) × IsFormOf ds c
 
--- and no more call sites than a program may have
+-- the definitions have no more call sites than a program may have
 abbrev pub HasFewSites : List Definition → Type 0
 HasFewSites ds = (c : Form) → IsFormOf ds c → (program_in c).sites ≤ max_sites

@@ -17,15 +17,15 @@ use safl_tree::laws::{printable_law, shallow_law};
 use safl_typing::laws::one_form_law;
 use std::alloc::Global;
 
-/// An accepted program, as a tree and in numbers.
+/// An accepted program, as a tree and in numbered form.
 #[derive(Drop)]
 pub struct Accepted {
     pub program: Program,
     pub checked: Checked,
 }
 
-/// The checked program of a source of at most `SOURCE_MAX` bytes, or the source's first fault: that of its tokens and its
-/// grammar, E01 to E05, or else that of checking, E05 to E16.
+/// The checked program of a source of at most `SOURCE_MAX` bytes, or the source's first fault: a fault of tokens or
+/// grammar, E01 to E05, or else a fault of checking, E05 to E16.
 pub fn accept(alloc: Global, source: &[u8]) -> Result<Checked, CheckErr>
     requires { length source.now ≤ SOURCE_MAX }
     ensures accepted { IfOk result (λ c. IsSourceOf source.now c.program c.names) }
@@ -54,7 +54,7 @@ pub fn accepted_program(alloc: Global, source: &[u8]) -> Result<Accepted, CheckE
     Ok(Accepted { program, checked })
 }
 
-// The program that a source spells, or its first fault of tokens and grammar.
+// The program that a source spells, or its first fault of tokens or grammar.
 fn spelled(alloc: Global, source: &[u8]) -> Result<Program, CheckErr>
     requires { length source.now ≤ SOURCE_MAX }
     ensures spelled { IfOk result (λ p. SpellsProgram source.now (shown_program p)) }

@@ -14,8 +14,8 @@ use safl_unit::{SIGNALS_MAX, compile};
 use safl_word::NoMemory;
 use std::alloc::Global;
 
-/// The netlist of a checked program, with arbiters and kept words exactly as its plan has them. Fails only
-/// if out of memory.
+/// The netlist of a checked program. It has arbiters and kept words exactly where its plan says. Fails only if out of
+/// memory.
 pub fn circuit_of(alloc: Global, checked: Checked) -> Result<Net, NoMemory>
     ensures circuit { IfOk result (λ n. IsCircuitOf checked.program checked.names n) }
     ensures tidy { IfOk result (λ n. IsTidy n) }
@@ -38,8 +38,8 @@ pub fn plan_of(alloc: Global, checked: Checked) -> Result<Planned, NoMemory>
     }
 }
 
-/// The netlist of a program by its plan, with arbiters and kept words exactly as the plan has them. Fails only
-/// if out of memory.
+/// The netlist of a program by its plan. It has arbiters and kept words exactly where the plan says. Fails only if out
+/// of memory.
 #[tactic(auto, using(crate::proofs::Ports::ports))]
 pub fn planned_circuit(alloc: Global, p: &Planned) -> Result<Net, NoMemory>
     ensures circuit { IfOk result (λ n. IsCircuitOf p.now.program p.now.names n) }

@@ -5,7 +5,7 @@ ghost use Rattle.safl_compiler.specs.Laws.{OneProgram, ProgramOrFault, NotBoth, 
 use safl_tree::laws as grammar;
 use safl_typing::laws as checking;
 
-/// A source is that of one program at most.
+/// A source spells at most one program.
 pub fn one_program_law()
     ensures { OneProgram }
 {
@@ -13,7 +13,7 @@ pub fn one_program_law()
     checking::one_form_law();
 }
 
-/// A source is that of a program, or has a first fault.
+/// A source spells an accepted program or has a first fault.
 pub fn program_or_fault_law()
     ensures { ProgramOrFault }
 {
@@ -22,7 +22,7 @@ pub fn program_or_fault_law()
     checking::fault_or_form_law();
 }
 
-/// A source of a program has no first fault.
+/// A source that spells an accepted program has no first fault.
 pub fn not_both_law()
     ensures { NotBoth }
 {
@@ -32,7 +32,7 @@ pub fn not_both_law()
     checking::fault_or_form_law();
 }
 
-/// A source has one first fault at most.
+/// A source has at most one first fault.
 pub fn one_fault_law()
     ensures { OneFault }
 {

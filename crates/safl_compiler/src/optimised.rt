@@ -19,8 +19,9 @@ use safl_term::Checked;
 use safl_word::NoMemory;
 use std::alloc::Global;
 
-/// The netlist of a checked program without the temporary wires that can be spared. Like the netlist that it is made of, it
-/// has arbiters and kept words exactly as the plan has them, and does what the program means. Fails only if out of memory.
+/// The netlist of a checked program without the temporary wires that can be spared. Like the netlist that it is made
+/// of, it has arbiters and kept words exactly where the plan says, and computes what the program means. Fails only if
+/// out of memory.
 pub fn optimised_circuit_of(alloc: Global, checked: Checked) -> Result<Net, NoMemory>
     ensures circuit { IfOk result (λ n. IsCircuitOf checked.program checked.names n) }
     ensures lean { IfOk result Lean }
@@ -44,7 +45,7 @@ pub fn optimised_circuit_of(alloc: Global, checked: Checked) -> Result<Net, NoMe
     }
 }
 
-/// A circuit with its wires in an order of evaluation. Fails only if out of memory.
+/// A circuit with an order of evaluation of its wires. Fails only if out of memory.
 pub fn ordered(alloc: Global, net: Net) -> Result<Ordered, NoMemory>
     requires set { AllSet net }
     requires acyclic { IsAcyclic net }

@@ -1,4 +1,4 @@
--- What a machine keeps, with the sets of its events.
+-- What holds of a machine between two events.
 use Rattle.std.specs.Prelude.{ℕ, List, length}
 use Rattle.safl_word.specs.Words.{Word}
 use Rattle.safl_term.specs.Checked.{CheckedProgram}
@@ -9,8 +9,8 @@ use Rattle.safl_core.specs.Marking.{AreMarked}
 use Rattle.safl_evaluate.specs.Laying.{IsPlan}
 use Rattle.safl_core.specs.States.{Keeps, Recalls, calls_of}
 
--- the state is that of a machine after so many events, the sets are those of its enabled events and busy units, the bodies
--- lie as planned, and what is kept of those that run is right
+-- The state is one that a machine has after so many events, and the sets are those of its enabled events and busy units. The
+-- bodies lie as planned, and what is kept of those that run is right.
 pub record IsHeld (c : CheckedProgram) (args : List Word) (events : ℕ) (s : State) (e : Enabled) (plan : Plan) : Type 0 where
   pub kept : Keeps c args events s
   pub marked : AreMarked c.program args (calls_of s) e

@@ -1,4 +1,4 @@
--- The enabled events in order, and the units that are busy.
+-- The enabled events in order, and the number of busy units.
 use Rattle.std.specs.Prelude.{ℕ, zero, suc, ◌+◌, ◌-◌, List, ◌++◌, Bool, cond, not, nat_lt}
 use Rattle.safl_word.specs.Words.{Word}
 use Rattle.safl_term.specs.Program.{Program}
@@ -6,7 +6,7 @@ use Rattle.safl_calls.specs.Machine.{State, Event, Accept, Finish, Return, LoopI
 use Rattle.safl_calls.specs.Picks.{picks}
 use Rattle.safl_core.specs.Testing.{can, is_idle}
 
--- the accepts that are enabled, the finishes, the returns and the loops, each by rising number
+-- the enabled accepts, then finishes, returns and loops, each by rising number
 abbrev pub listed : Program → List Word → State → List Event
 listed C args s =
     picks (λ k. can C args s (Accept k)) Accept (suc C.sites)
@@ -14,7 +14,7 @@ listed C args s =
     ++ (picks (λ k. can C args s (Return k)) Return (suc C.sites)
     ++ picks (λ h. can C args s (LoopInto h)) LoopInto C.functions))
 
--- all events of a program in that order
+-- all events of a program, enabled or not, in that order
 abbrev pub event_at : Program → ℕ → Event
 event_at C i =
     cond (nat_lt i (suc C.sites)) (Accept i)
@@ -22,7 +22,7 @@ event_at C i =
     (cond (nat_lt (i - suc C.sites - C.functions) (suc C.sites)) (Return (i - suc C.sites - C.functions))
     (LoopInto (i - suc C.sites - C.functions - suc C.sites))))
 
--- how many events there are, enabled or not
+-- how many events a program has, enabled or not
 abbrev pub places : Program → ℕ
 places C = suc C.sites + (C.functions + (suc C.sites + C.functions))
 

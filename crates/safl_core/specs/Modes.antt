@@ -1,4 +1,4 @@
--- The modes that the code keeps, as those of the definitions.
+-- The modes that the code keeps, as modes of the definitions.
 use Rattle.std.specs.Prelude.{ℕ, List, get_or}
 use Rattle.safl_term.specs.Checked.{CheckedProgram}
 use Rattle.safl_term.specs.Program.{unit_for}
@@ -13,11 +13,11 @@ mode_of Idle = machine.Idle
 mode_of (Runs f k ws) = machine.Runs f k ws
 mode_of (Delivers k v) = machine.Delivers k v
 
--- the mode of a unit; a unit that is not there is idle
+-- the mode of a unit. A unit that does not exist is idle
 abbrev pub unit_at : List Mode → ℕ → machine.Mode
 unit_at modes u = mode_of (get_or modes u Idle)
 
--- that of the unit for a site
+-- the mode of the unit that a site calls
 abbrev pub unit_at_site : CheckedProgram → List Mode → ℕ → machine.Mode
 unit_at_site c modes k = unit_at modes (unit_for c.program k)
 

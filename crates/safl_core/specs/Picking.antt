@@ -16,17 +16,17 @@ number (Finish f) = f
 number (Return k) = k
 number (LoopInto h) = h
 
--- accepts come before finishes, these before returns, and loops come last; each kind by rising number
+-- accepts come before finishes, these before returns, and these before loops; events of one kind are in rising order
 abbrev pub Precedes : Event → Event → Type 0
 Precedes d e = (rank d < rank e) ⊎ ((rank d ≡ rank e) × (number d < number e))
 
--- the list has all enabled events and no others, in this order, and so each once
+-- the list has exactly the enabled events, each once and in this order
 pub record IsListing (C : Program) (args : List Word) (s : State) (es : List Event) : Type 0 where
   pub enabled : (i : ℕ) (e : Event) → slice_get es i ≡ Some e → Enabled C args s e
   pub all : (e : Event) → Enabled C args s e → (i : ℕ) × (slice_get es i ≡ Some e)
   pub order : (i j : ℕ) (d e : Event) → slice_get es i ≡ Some d → slice_get es j ≡ Some e → i < j → Precedes d e
 
--- the event stands there at the place that a number has modulo their number
+-- the event at the place x, modulo the number of enabled events
 pub record IsPicked (C : Program) (args : List Word) (s : State) (x : ℕ) (e : Event) : Type 0 where
   pub list : List Event
   pub lists : IsListing C args s list

@@ -12,7 +12,7 @@ use Rattle.safl_evaluate.specs.Evaluating.{widths}
 use Rattle.safl_core.specs.Knowing.{IsKnown, HasRoom}
 use Rattle.safl_core.specs.Modes.{state_of}
 
--- the program, the arguments of main, the units and sites, and how many events were fired
+-- what is shown of a machine: the program, the arguments of main, the modes and stages, and the number of events fired
 pub record Shown : Type 0 where
   pub checked : CheckedProgram
   pub open checked use *
@@ -24,7 +24,7 @@ pub record Shown : Type 0 where
 abbrev pub shown_of : CheckedProgram → List Word → List Mode → List Stage → ℕ → Shown
 shown_of c args units sites events = record { checked = c; args = args; units = units; sites = sites; events = events }
 
--- the state that a machine is in
+-- the state of the machine that is shown
 abbrev pub state : Shown → core.State
 state m = state_of m.units m.sites
 
@@ -45,7 +45,7 @@ pub record IsReached (m : Shown) : Type 0 where
 abbrev pub CanFire : Shown → core.Event → Type 0
 CanFire m e = core.Enabled m.program m.args (state m) e
 
--- the site that a unit serves, or else 0
+-- the site that a unit serves, or 0
 abbrev pub serves_of : core.Mode → ℕ
 serves_of core.Idle = 0
 serves_of (core.Runs f k ws) = k
@@ -57,14 +57,14 @@ word_given core.Idle = None
 word_given (core.Runs f k ws) = None
 word_given (core.Delivers k v) = Some v
 
--- the machine afterwards: the event was fired, and the program and the arguments are the same
+-- the machine after an event: the event was fired, and the program and the arguments are the same
 pub record Fires (m : Shown) (e : core.Event) (n : Shown) : Type 0 where
   pub program : n.checked ≡ m.checked
   pub args : n.args ≡ m.args
   pub next : state n ≡ core.fire m.program m.args (state m) e
   pub events : n.events ≡ m.events + 1
 
--- what is kept beside what is shown: what the bodies come to, the words with which they want their sites, and room
+-- what is kept besides: what the bodies come to, the words with which they want their sites, and room for slots
 pub record IsKept (m : Shown) (answers : List Answer) (wants : List (Option (List Word))) (room : ℕ) : Type 0 where
   pub checked : IsChecked m.checked
   pub units : length m.units ≡ m.program.functions
@@ -76,7 +76,7 @@ pub record IsKept (m : Shown) (answers : List Answer) (wants : List (Option (Lis
   pub reached : IsReached m
   pub known : (u : ℕ) → IsKnown m.program (state m) answers wants u
 
--- a machine at first: all units are idle, and main was not accepted
+-- a new machine: all units are idle, and main was not accepted
 pub record Opens (c : CheckedProgram) (args : List Word) (m : Shown) : Type 0 where
   pub program : m.checked ≡ c
   pub given : m.args ≡ args

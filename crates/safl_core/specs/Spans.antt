@@ -3,18 +3,18 @@ use Rattle.std.specs.Prelude.{◌≡◌, ℕ, suc, ◌<◌, ◌≤◌}
 use Rattle.safl_term.specs.Program.{Program}
 use Rattle.safl_core.specs.declared.spans.Span.{Span}
 
--- the members of the unit are the functions from its number on, up to this one
+-- the functions of unit u are those from u to this number, which is not one of them
 pub record EndsMembers (C : Program) (u end : ℕ) : Type 0 where
   pub above : u ≤ end
   pub most : end ≤ C.functions
   pub members : (f : ℕ) → u ≤ f → f < end → C.unit f ≡ u
   pub all : (f : ℕ) → f < C.functions → C.unit f ≡ u → (u ≤ f) × (f < end)
 
--- the site is one of the span
+-- the site is in the span
 abbrev pub InSpan : Span → ℕ → Type 0
 InSpan s k = (s.first ≤ k) × (k < s.end)
 
--- the sites in the bodies of the unit's members are those of the span
+-- the span has exactly the sites in the bodies of the unit's functions
 pub record IsSpan (C : Program) (u : ℕ) (s : Span) : Type 0 where
   pub least : 1 ≤ s.first
   pub order : s.first ≤ s.end

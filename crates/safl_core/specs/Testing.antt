@@ -1,4 +1,4 @@
--- Which events are enabled, by tests.
+-- Tests of which events are enabled.
 use Rattle.std.specs.Prelude.{ℕ, zero, suc, List, Option, None, Some, Bool, true, false, ◌==◌, ◌&&◌, is_some, get_or}
 use Rattle.safl_word.specs.Words.{Word}
 use Rattle.safl_term.specs.Program.{Program, unit_for}
@@ -39,7 +39,7 @@ can C args s (Finish f) = runs (s.unit (C.unit f)) f && is_ready (says C s (C.un
 can C args s (Return k) = delivers_to (s.unit (unit_for C k)) k
 can C args s (LoopInto h) = loops_to (says C s (C.unit h)) h
 
--- whether a site other than main's is wanted by its caller's body
+-- whether a site is wanted; site 0, the call of main from outside, always is
 abbrev pub wanted_at : List (Option (List Word)) → ℕ → Bool
 wanted_at wants zero = true
 wanted_at wants (suc k) = is_some (get_or wants (suc k) None)

@@ -1,4 +1,4 @@
-//! Which events are enabled.
+//! Tests of which events are enabled.
 
 ghost use Rattle.std.specs.Prelude.{◌≡◌, ◌<◌, ◌≤◌, ◌&&◌, suc, length, get_or, not, None};
 ghost use Rattle.safl_term.specs.Readiness as plain;
@@ -12,7 +12,8 @@ use crate::mode::Mode;
 use safl_evaluate::{Answer, Stage, Want};
 use safl_term::Checked;
 
-/// Whether a site is unsent and wanted, and its unit idle. Most units are busy, so that most sites stay unread.
+/// Whether a site is unsent and wanted, and its unit is idle. The unit is looked at first: most are busy, so most sites
+/// need not be read.
 pub fn accepts(c: &Checked, modes: &[Mode], stages: &[Stage], wants: &[Want], k: u32) -> bool
     requires site { k ≤ c.now.program.sites }
     requires units { length modes.now ≡ c.now.program.functions }
@@ -32,7 +33,7 @@ pub fn waits(stages: &[Stage], wants: &[Want], k: u32) -> bool
     is_unsent(stages, k) && is_wanted(wants, k)
 }
 
-/// Whether a unit runs a member, and its body is ready.
+/// Whether unit `u` runs function `f`, and its body is ready.
 pub fn finishes(modes: &[Mode], answers: &[Answer], u: u32, f: u32) -> bool
     requires units { u < length modes.now }
     requires answers { u < length answers.now }
@@ -41,7 +42,8 @@ pub fn finishes(modes: &[Mode], answers: &[Answer], u: u32, f: u32) -> bool
     runs(modes, u, f) && is_ready(answers, u)
 }
 
-/// Whether a site is sent, and its unit delivers a word to it. Few sites are sent, so that most units stay unread.
+/// Whether a site is sent and its unit delivers a word to it. The site is looked at first: few are sent, so most units
+/// need not be read.
 pub fn returns(c: &Checked, modes: &[Mode], stages: &[Stage], k: u32) -> bool
     requires site { k ≤ c.now.program.sites }
     requires units { length modes.now ≡ c.now.program.functions }
@@ -51,7 +53,7 @@ pub fn returns(c: &Checked, modes: &[Mode], stages: &[Stage], k: u32) -> bool
     is_sent(stages, k) && delivers(modes, c.unit_for(k), k)
 }
 
-// Whether a unit delivers a word to a site.
+// Whether unit `u` delivers a word to site `k`.
 fn delivers(modes: &[Mode], u: u32, k: u32) -> bool
     requires { u < length modes.now }
     ensures { result ≡ test.delivers_to (unit_at modes.now u) k }
@@ -63,7 +65,7 @@ fn delivers(modes: &[Mode], u: u32, k: u32) -> bool
     }
 }
 
-/// Whether a unit's body comes to a tail call of a member.
+/// Whether the body of unit `u` comes to a tail call of function `h`.
 pub fn loops(answers: &[Answer], u: u32, h: u32) -> bool
     requires { u < length answers.now }
     ensures { result ≡ told.loops_to (get_or answers.now u plain.NotYet) h }
@@ -71,7 +73,7 @@ pub fn loops(answers: &[Answer], u: u32, h: u32) -> bool
     answers[u as usize].loops_to(h)
 }
 
-/// The site to which a unit delivers a word.
+/// The site to which a unit delivers a word, if it delivers one.
 pub fn delivered_to(modes: &[Mode], u: u32) -> Option<u32>
     requires { u < length modes.now }
     ensures { result ≡ test.delivered (unit_at modes.now u) }
@@ -135,7 +137,7 @@ fn is_sent(stages: &[Stage], k: u32) -> bool
     }
 }
 
-// Main's site is wanted from outside.
+// Whether a site is wanted. Site 0, the call of main from outside, always is.
 fn is_wanted(wants: &[Want], k: u32) -> bool
     requires { k < length wants.now }
     ensures { result ≡ test.wanted_at wants.now k }

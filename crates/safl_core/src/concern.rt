@@ -1,4 +1,4 @@
-//! The units whose events an event changes.
+//! The units that an event changes.
 
 ghost use Rattle.std.specs.Prelude.{◌≡◌, ◌<◌};
 ghost use Rattle.safl_core.specs.Marking.{Concerns, IsThere};
@@ -7,7 +7,7 @@ ghost use Rattle.safl_core.specs.Shown.{event_of};
 use crate::event::Event;
 use safl_term::Checked;
 
-/// Two units, or twice the same one.
+/// Two units. They may be the same.
 #[derive(Clone, Copy)]
 pub struct TwoUnits {
     pub unit: u32,
@@ -15,7 +15,7 @@ pub struct TwoUnits {
 }
 
 impl TwoUnits {
-    // One unit alone.
+    // A single unit.
     fn alone(unit: u32) -> TwoUnits
         ensures unit { result.unit ≡ unit }
         ensures other { result.other ≡ unit }
@@ -24,8 +24,8 @@ impl TwoUnits {
     }
 }
 
-/// The units that an event concerns: the one that serves the site, finishes or loops, and the one in whose body a site
-/// stands that gets its word.
+/// The units that an event concerns. For a return these are the unit that served the site and the unit whose body has
+/// the site; for other events the unit that accepts, finishes or loops.
 pub fn concerned(c: &Checked, e: Event) -> TwoUnits
     requires { IsThere c.now.program (event_of e) }
     ensures concerns { Concerns c.now.program (event_of e) result.unit result.other }

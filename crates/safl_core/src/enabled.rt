@@ -1,4 +1,4 @@
-//! The enabled events, as sets of numbers.
+//! The enabled events, as sets that are updated after each event.
 
 ghost use Rattle.std.specs.Prelude.{◌≡◌, ℕ, suc, ◌<◌, ◌≤◌, Some};
 ghost use Rattle.safl_core.specs.Marking.{HasPlaces, IsThere, Relists, RelistsAfter, RelistsBoth, RelistsCalls, RelistsService, RelistsUnit, Nothing};
@@ -17,9 +17,10 @@ use safl_number_set::{GroupedSet, NumberSet};
 use safl_term::Checked;
 use std::alloc::{AllocError, Global};
 
-/// The sites that are unsent and wanted, each in the group of the unit that it calls, where the groups of idle units are
-/// open: the calls of the sites that are counted can be accepted. Then the functions that can finish, the sites that can get
-/// their word, the members to which units can loop, and the units that are busy.
+/// The enabled events of each kind, and the busy units. `accepts` has the sites that are unsent and wanted. Each
+/// belongs to the group of the unit that it calls, and the groups of idle units are open, so the sites that it counts
+/// are those whose calls can be accepted. `finishes` has the functions that can finish, `returns` the sites that can
+/// get their word, `loops` the functions to which a unit can loop.
 #[derive(Drop)]
 pub struct Enabled {
     pub accepts: GroupedSet,
@@ -34,7 +35,7 @@ impl Enabled {
     ghost use Rattle.safl_core.specs.Marking.{IsNth, OpensWith, marked};
     ghost use Rattle.safl_core.specs.Shown.{event_of};
 
-    /// The sets of a machine whose main waits to be accepted.
+    /// The sets at the start, when main waits to be accepted.
     pub fn new(alloc: Global, c: &Checked) -> Result<Enabled, AllocError>
         ensures { IfOk result (λ e. OpensWith c.now.program e) }
     {
@@ -63,8 +64,8 @@ impl Enabled {
         self.accepts.len() + self.finishes.len() + self.returns.len() + self.loops.len()
     }
 
-    /// The event that has so many before it, where accepts come first, then finishes, returns and loops, each by rising
-    /// number.
+    /// The event at a place among the enabled ones. Accepts come first, then finishes, returns and loops, each by
+    /// rising number.
     pub fn nth(&self, place: u32) -> Event
         requires { place < marked self.now }
         ensures { IsNth self.now place (event_of result) }
@@ -87,8 +88,9 @@ impl Enabled {
     }
 }
 
-/// Finds anew which units are idle and which events of the bodies are enabled after an event that concerns these units, and
-/// for which site there is a word. The first unit delivered to this site before.
+/// After an event that concerned these units, updates which units are idle, which events of their bodies are enabled,
+/// and whether a site can get its word. `before` is the site to which the first of the units delivered before the
+/// event.
 pub fn relist_after(
     c: &Checked,
     opening: &Args,
@@ -107,8 +109,7 @@ pub fn relist_after(
     relist_service(c, opening, state, concerned.unit, before, enabled);
 }
 
-/// Finds anew which calls wait after an event: those of the sites that may be wanted otherwise than before, and one that was
-/// accepted.
+/// After an event, updates which calls wait: of the sites that the event touched, and of the site that was accepted.
 pub fn relist_calls(
     c: &Checked,
     opening: &Args,
@@ -129,7 +130,7 @@ pub fn relist_calls(
     }
 }
 
-// Finds anew which units are idle and which events of the bodies of two units are enabled.
+// Updates which of two units are idle, and which events of their bodies are enabled.
 fn relist_both(
     c: &Checked,
     opening: &Args,
@@ -150,7 +151,7 @@ fn relist_both(
     relist(c, opening, state, concerned.other, enabled);
 }
 
-// Whether a unit is idle, and the events of its members.
+// Updates whether a unit is idle, and the events of its members.
 fn relist(c: &Checked, opening: &Args, state: &State, u: u32, enabled: &mut Enabled)
     requires kept { (n : ℕ) × Keeps c.now opening.now n state.now }
     requires unit { u < c.now.program.functions }
@@ -161,7 +162,7 @@ fn relist(c: &Checked, opening: &Args, state: &State, u: u32, enabled: &mut Enab
     relist_members(c, opening, state, u, enabled);
 }
 
-// Whether a unit is idle.
+// Updates whether a unit is idle.
 fn relist_unit(c: &Checked, opening: &Args, state: &State, u: u32, enabled: &mut Enabled)
     requires kept { (n : ℕ) × Keeps c.now opening.now n state.now }
     requires unit { u < c.now.program.functions }
@@ -173,7 +174,7 @@ fn relist_unit(c: &Checked, opening: &Args, state: &State, u: u32, enabled: &mut
     enabled.busy.put(u, !idle);
 }
 
-// The events of the members of a unit.
+// Updates the events of a unit's members.
 fn relist_members(c: &Checked, opening: &Args, state: &State, u: u32, enabled: &mut Enabled)
     requires kept { (n : ℕ) × Keeps c.now opening.now n state.now }
     requires unit { u < c.now.program.functions }
@@ -198,7 +199,7 @@ fn relist_member(c: &Checked, opening: &Args, state: &State, f: u32, enabled: &m
     enabled.loops.put(f, check::loops(&state.answers, unit, f));
 }
 
-// The calls of the sites of a span.
+// Updates which calls of a span of sites wait.
 fn relist_touched(c: &Checked, opening: &Args, state: &State, touched: Span, enabled: &mut Enabled)
     requires kept { (n : ℕ) × Keeps c.now opening.now n state.now }
     requires span { touched.end ≤ suc c.now.program.sites }
@@ -210,7 +211,7 @@ fn relist_touched(c: &Checked, opening: &Args, state: &State, touched: Span, ena
     }
 }
 
-// Whether the call of a site waits.
+// Updates whether the call of a site waits.
 fn relist_call(c: &Checked, opening: &Args, state: &State, k: u32, enabled: &mut Enabled)
     requires kept { (n : ℕ) × Keeps c.now opening.now n state.now }
     requires site { k ≤ c.now.program.sites }
@@ -221,7 +222,8 @@ fn relist_call(c: &Checked, opening: &Args, state: &State, k: u32, enabled: &mut
     enabled.accepts.put(k, waits);
 }
 
-// Whether there is a word for the site to which a unit delivered before, and for the one to which it delivers now.
+// Updates whether a unit has a word, for the site to which it delivered before and for the one to which it delivers
+// now.
 fn relist_service(
     c: &Checked,
     opening: &Args,
@@ -239,7 +241,7 @@ fn relist_service(
     relist_return(c, opening, state, delivered_to(&state.modes, u), enabled);
 }
 
-// Whether a site can get its word, where there is one.
+// Updates whether a site, if there is one, can get its word.
 fn relist_return(
     c: &Checked,
     opening: &Args,

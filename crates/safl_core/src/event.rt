@@ -1,7 +1,7 @@
 //! Events of the call machine.
 
-/// A site's call is accepted, a function finishes, a site gets its word, or a unit loops to a member. Site 0 is
-/// the call of main from outside.
+/// An event: a site's call is accepted, a function finishes, a site gets its word, or a unit loops to a function of its
+/// group. Site 0 is the call of main from outside.
 #[derive(Clone, Copy, Debug, PartialEq, Eq)]
 pub enum Event {
     Accept(u32),

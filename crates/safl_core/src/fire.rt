@@ -1,4 +1,4 @@
-//! Events are fired.
+//! Firing an event.
 
 ghost use Rattle.std.specs.Prelude.{◌≡◌, ℕ, ◌<◌, ◌≤◌, length, Some, None, IsSome, get_or};
 ghost use Rattle.safl_term.specs.Readiness as plain;
@@ -19,8 +19,8 @@ use safl_evaluate::{Args, Plan};
 use safl_term::Checked;
 use safl_word::Word;
 
-/// Fires an event that is enabled: the modes and stages are those of the next state, and what is kept of partial
-/// evaluation is that of this state. Answers the sites that may be wanted otherwise than before.
+/// Fires an enabled event. Modes, stages and the results of partial evaluation become those of the next state. Returns
+/// the sites that may now be wanted with other words than before.
 pub fn fire(c: &Checked, plan: &Plan, opening: &Args, state: &mut State, e: Event) -> Span
     requires kept { (n : ℕ) × Keeps c.now opening.now n state.old }
     requires plan { IsPlan c.now.program plan.now (length state.old.kept.items) }
@@ -38,7 +38,7 @@ pub fn fire(c: &Checked, plan: &Plan, opening: &Args, state: &mut State, e: Even
     }
 }
 
-// A site's call is accepted.
+// Fires the acceptance of a site's call.
 fn accept(c: &Checked, plan: &Plan, opening: &Args, state: &mut State, k: u32) -> Span
     requires kept { (n : ℕ) × Keeps c.now opening.now n state.old }
     requires plan { IsPlan c.now.program plan.now (length state.old.kept.items) }
@@ -58,7 +58,7 @@ fn accept(c: &Checked, plan: &Plan, opening: &Args, state: &mut State, k: u32) -
     refresh(c, plan, state, unit)
 }
 
-// A function finishes.
+// Fires the end of a function.
 fn finish(c: &Checked, plan: &Plan, opening: &Args, state: &mut State, f: u32) -> Span
     requires kept { (n : ℕ) × Keeps c.now opening.now n state.old }
     requires plan { IsPlan c.now.program plan.now (length state.old.kept.items) }
@@ -77,7 +77,7 @@ fn finish(c: &Checked, plan: &Plan, opening: &Args, state: &mut State, f: u32) -
     refresh(c, plan, state, unit)
 }
 
-// A site gets its word. Of the body in which it stands, what the word changes is found anew.
+// Fires the return of a word to a site. Of the body with this site, only what the word changes is evaluated again.
 fn give_back(c: &Checked, plan: &Plan, opening: &Args, state: &mut State, k: u32) -> Span
     requires kept { (n : ℕ) × Keeps c.now opening.now n state.old }
     requires plan { IsPlan c.now.program plan.now (length state.old.kept.items) }
@@ -100,7 +100,7 @@ fn give_back(c: &Checked, plan: &Plan, opening: &Args, state: &mut State, k: u32
     renew(c, plan, state, waiting, k)
 }
 
-// A unit loops to a member.
+// Fires a loop of a unit to a function of its group.
 fn loop_into(c: &Checked, plan: &Plan, opening: &Args, state: &mut State, h: u32) -> Span
     requires kept { (n : ℕ) × Keeps c.now opening.now n state.old }
     requires plan { IsPlan c.now.program plan.now (length state.old.kept.items) }
@@ -127,7 +127,7 @@ fn asked(state: &State, k: u32) -> Args
     }
 }
 
-// The site that a unit serves, or else 0.
+// The site that a unit serves, or 0 if it serves none.
 fn served(state: &State, u: u32) -> u32
     requires { u < length state.now.modes.items }
     ensures { result ≡ serves_of (unit_at state.now.modes.items u) }

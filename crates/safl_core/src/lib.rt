@@ -1,4 +1,4 @@
-//! The call machine, as code.
+//! The call machine, as code that fires one event at a time.
 #![tactic(auto)]
 
 mod check;

@@ -1,4 +1,4 @@
-//! The call machine.
+//! The call machine of a program.
 
 use crate::concern::concerned;
 use crate::enabled::{Enabled, relist_after, relist_calls};
@@ -11,19 +11,21 @@ use safl_word::Word;
 use std::alloc::{AllocError, Global};
 use std::marker::Model;
 
-/// The nodes of all bodies, and the words of the slots of any body: at most as many as its parameters and nodes.
+/// The greatest number of nodes of all bodies, and below it that of the slots of a body: its parameters, at most 16,
+/// and at most one for each node.
 const NODES: usize = 50_000;
 
 const ROOM: usize = 50_016;
 
-/// Why there is no machine: the arguments differ from main's parameters in number or in a width, or no memory is left.
+/// Why a machine cannot be made: the arguments differ from main's parameters in number or in a width, or memory ran
+/// out.
 #[derive(Clone, Copy, Debug, PartialEq, Eq)]
 pub enum MachineErr {
     BadArgs,
     NoMemory,
 }
 
-/// Units that serve the calls of a program, one event at a time. Once made it takes no memory.
+/// A call machine: units that serve the calls of a program, one event at a time. Once made it takes no memory.
 #[derive(Drop)]
 pub struct Machine<'a> {
     checked: &'a Checked,
@@ -60,7 +62,7 @@ impl<'a> Machine<'a> {
     ghost use Rattle.safl_core.specs.Walking.{IsShort};
     ghost use Rattle.safl_core.specs.Shown.{state, event_of, IsReached, CanFire, Fires, Opens};
 
-    /// A machine whose units are idle, and whose main waits to be accepted with these arguments.
+    /// A machine whose units are all idle, and whose main waits to be accepted with these arguments.
     pub fn new(alloc: Global, c: &'a Checked, args: &[Word]) -> Result<Machine<'a>, MachineErr>
         ensures bad_args { result ≡ Err MachineErr.BadArgs ↔ (widths args.now ≡ c.now.program.params c.now.program.main → ⊥) }
         ensures opens { IfOk result (λ m. Opens c.now args.now m) }
@@ -105,7 +107,7 @@ impl<'a> Machine<'a> {
         })
     }
 
-    /// The number of events that were fired.
+    /// The number of events fired so far.
     pub fn events(&self) -> u64
         ensures count { result ≡ self.now.events }
         ensures reached { IsReached self.now }
@@ -114,8 +116,8 @@ impl<'a> Machine<'a> {
         self.events
     }
 
-    /// What main has returned: its value, in three events for each call but two less for each tail call. Until
-    /// then some event is enabled, and afterwards none is.
+    /// The word that main has returned: its value, after three events for each call, less two for each tail call. Until
+    /// main has returned some event is enabled, and afterwards none is.
     pub fn result(&self) -> Option<Word>
         ensures returned { result ≡ back_word ((state self.now).site 0) }
         ensures value { IfSome result (λ v. IsValue self.now v) }
@@ -170,15 +172,15 @@ impl<'a> Machine<'a> {
         }
     }
 
-    /// The number of units that are not idle.
+    /// The number of busy units.
     pub fn busy(&self) -> u32
         ensures { result ≡ busy self.now.program (state self.now) }
     {
         self.sets.busy.len()
     }
 
-    /// The event at place `x` modulo their number among the enabled ones, which are listed as accepts, finishes,
-    /// returns and loops, each by rising number: None where none is enabled, which is where main has returned.
+    /// The event at place `x` modulo the number of enabled events. They are listed as accepts, finishes, returns and
+    /// loops, each by rising number. None if no event is enabled, which is so exactly after main has returned.
     pub fn pick(&self, x: u64) -> Option<Event>
         ensures picked { IfSome result (λ e. IsPicked self.now.program self.now.args (state self.now) x (event_of e)) }
         ensures fires { IfSome result (λ e. CanFire self.now (event_of e)) }
@@ -191,7 +193,7 @@ impl<'a> Machine<'a> {
         Some(self.sets.nth((x % u64::from(count)) as u32))
     }
 
-    /// Fires an event that is enabled.
+    /// Fires an enabled event.
     pub fn fire(&mut self, e: Event)
         requires can { CanFire self.old (event_of e) }
         requires few { self.old.events < 2 ^ 64 - 1 }

@@ -1,4 +1,4 @@
-//! What a machine begins with.
+//! The parts of a machine at its start.
 
 ghost use Rattle.std.specs.Prelude.{◌≡◌, ◌↔◌, ℕ, IsTrue, IfOk, length, get_or, None};
 ghost use Rattle.safl_term.specs.Readiness as plain;
@@ -14,7 +14,7 @@ use safl_term::Checked;
 use safl_word::Word;
 use std::alloc::{AllocError, Global};
 
-/// Whether these are as many words as main has parameters, each of its width.
+/// Whether there are as many words as main has parameters, each of its parameter's width.
 pub fn fits(c: &Checked, args: &[Word]) -> bool
     ensures { IsTrue result ↔ (widths args.now ≡ c.now.program.params c.now.program.main) }
 {
@@ -31,7 +31,7 @@ pub fn fits(c: &Checked, args: &[Word]) -> bool
     true
 }
 
-/// So many idle units.
+/// `count` idle units.
 pub fn idle(alloc: Global, count: usize) -> Result<Vec<Mode>, AllocError>
     ensures count { IfOk result (λ v. length v.items ≡ count) }
     ensures idle { IfOk result (λ v. (u : ℕ) → unit_at v.items u ≡ core.Idle) }
@@ -43,7 +43,7 @@ pub fn idle(alloc: Global, count: usize) -> Result<Vec<Mode>, AllocError>
     Ok(modes)
 }
 
-/// So many bodies that come to nothing yet.
+/// `count` bodies that have come to nothing yet.
 pub fn unanswered(alloc: Global, count: usize) -> Result<Vec<Answer>, AllocError>
     ensures count { IfOk result (λ v. length v.items ≡ count) }
     ensures none { IfOk result (λ v. (u : ℕ) → get_or v.items u plain.NotYet ≡ plain.NotYet) }
@@ -55,7 +55,7 @@ pub fn unanswered(alloc: Global, count: usize) -> Result<Vec<Answer>, AllocError
     Ok(answers)
 }
 
-/// So many sites that are not wanted.
+/// `count` sites that are not wanted.
 pub fn unwanted(alloc: Global, count: usize) -> Result<Vec<Want>, AllocError>
     ensures count { IfOk result (λ v. length v.items ≡ count) }
     ensures none { IfOk result (λ v. (k : ℕ) → get_or v.items k None ≡ None) }
@@ -67,7 +67,7 @@ pub fn unwanted(alloc: Global, count: usize) -> Result<Vec<Want>, AllocError>
     Ok(wants)
 }
 
-/// So many unsent sites.
+/// `count` unsent sites.
 pub fn unsent(alloc: Global, count: usize) -> Result<Vec<Stage>, AllocError>
     ensures count { IfOk result (λ v. length v.items ≡ count) }
     ensures unsent { IfOk result (λ v. (k : ℕ) → stage_at v.items k ≡ plain.Unsent) }
@@ -79,7 +79,7 @@ pub fn unsent(alloc: Global, count: usize) -> Result<Vec<Stage>, AllocError>
     Ok(stages)
 }
 
-/// By site the unit that it calls.
+/// For each site the unit that it calls.
 pub fn called(alloc: Global, c: &Checked) -> Result<Vec<u32>, AllocError>
     ensures { IfOk result (λ v. AreCalled c.now.program v.items) }
 {
@@ -90,7 +90,7 @@ pub fn called(alloc: Global, c: &Checked) -> Result<Vec<u32>, AllocError>
     Ok(units)
 }
 
-/// Room for so many words.
+/// Room for `count` words.
 pub fn room(alloc: Global, count: usize) -> Result<Vec<Word>, AllocError>
     ensures { IfOk result (λ v. length v.items ≡ count) }
 {
@@ -101,7 +101,7 @@ pub fn room(alloc: Global, count: usize) -> Result<Vec<Word>, AllocError>
     Ok(words)
 }
 
-/// So many places at which nothing is kept.
+/// `count` nodes of which nothing is kept.
 pub fn nothing_kept(alloc: Global, count: usize) -> Result<Vec<Kept>, AllocError>
     ensures { IfOk result (λ v. length v.items ≡ count) }
 {

@@ -3,12 +3,12 @@
 use safl_evaluate::Args;
 use safl_word::Word;
 
-/// A unit is idle, or runs a member with its arguments for the site that it serves, or delivers a word to that
-/// site.
+/// The mode of a unit: it is idle, runs a function with arguments for the site that it serves, or delivers a word to
+/// that site.
 #[derive(Drop)]
 pub enum Mode {
     Idle,
-    /// The member, the site, and the arguments.
+    /// The function, the site, and the arguments.
     Runs(u32, u32, Args),
     /// The site, and the word.
     Delivers(u32, Word),
@@ -21,7 +21,7 @@ impl Mode {
     ghost use Rattle.safl_core.specs.Modes.{mode_of};
     ghost use Rattle.safl_core.specs.Shown.{serves_of};
 
-    /// The unit, which runs a member, runs this one from now on, with these arguments and for the same site.
+    /// Lets a running unit go on with this function and these arguments, for the same site.
     pub fn enter(&mut self, member: u32, words: &[Word])
         requires few { length words.now ≤ 16 }
         requires runs { (f : ℕ) × (k : ℕ) × (ws : List a_word) × (mode_of self.old ≡ core.Runs f k ws) }

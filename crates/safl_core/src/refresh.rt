@@ -1,4 +1,4 @@
-//! What is kept of partial evaluation, found anew for a unit.
+//! Evaluates the body of a unit again after an event.
 
 ghost use Rattle.std.specs.Prelude.{◌≡◌, ℕ, suc, ◌<◌, ◌≤◌, List, length, take, Some, IfSome, IfNone};
 ghost use Rattle.safl_calls.specs.Machine as core;
@@ -16,7 +16,7 @@ use safl_evaluate::{Answer, Args, Plan, Want, Wants};
 use safl_term::Checked;
 use safl_word::Word;
 
-/// Forgets the words with which a unit wanted its sites. Answers these sites.
+/// Forgets the words with which a unit wanted its sites. Returns these sites.
 pub fn clear(c: &Checked, asks: &mut [Want], u: u32) -> Span
     requires unit { u < c.now.program.functions }
     requires sized { length asks.old ≡ suc c.now.program.sites }
@@ -30,7 +30,7 @@ pub fn clear(c: &Checked, asks: &mut [Want], u: u32) -> Span
     own
 }
 
-// Puts words into the first slots, and says how many they are.
+// Copies words to the first slots. Returns how many they are.
 fn fill(env: &mut [Word], words: &[Word]) -> usize
     requires { length words.now ≤ length env.old }
     ensures count { result ≡ length words.now }
@@ -41,8 +41,8 @@ fn fill(env: &mut [Word], words: &[Word]) -> usize
     slots
 }
 
-/// Finds anew what a unit's body comes to, and with which words it wants its sites. What is kept for the other
-/// units stays. Answers the sites of the unit, since they alone may be wanted otherwise than before.
+/// Evaluates the body of a unit from the beginning: what it comes to, and the words with which it wants its sites. What
+/// is kept of other units stays. Returns the unit's sites, since no others may be wanted otherwise than before.
 pub fn refresh(c: &Checked, plan: &Plan, state: &mut State, u: u32) -> Span
     requires can { CanRefresh c.now u state.old }
     requires plan { IsPlan c.now.program plan.now (length state.old.kept.items) }
@@ -56,8 +56,8 @@ pub fn refresh(c: &Checked, plan: &Plan, state: &mut State, u: u32) -> Span
     own
 }
 
-/// Finds anew what changes of it since site `k` of the unit has returned. Answers sites among which are all that may be
-/// wanted otherwise than before.
+/// Evaluates those parts of a unit's body that may have changed since its site `k` returned. Returns sites that include
+/// all that may be wanted otherwise than before.
 pub fn renew(c: &Checked, plan: &Plan, state: &mut State, u: u32, k: u32) -> Span
     requires can { CanRefresh c.now u state.old }
     requires plan { IsPlan c.now.program plan.now (length state.old.kept.items) }
@@ -71,7 +71,7 @@ pub fn renew(c: &Checked, plan: &Plan, state: &mut State, u: u32, k: u32) -> Spa
     between(c, &state.wants)
 }
 
-// The sites from the first to the last one that were asked for.
+// The sites from the first to the last one that was asked for.
 fn between(c: &Checked, wants: &Wants) -> Span
     ensures most { result.end ≤ suc c.now.program.sites }
     ensures all { (k : ℕ) → k ≤ c.now.program.sites → IsAsked wants.now k → InSpan result k }
@@ -82,7 +82,8 @@ fn between(c: &Checked, wants: &Wants) -> Span
     }
 }
 
-// Notes what a unit's body comes to, and the words with which it wants its sites.
+// Notes what a unit's body comes to, and the words with which it wants its sites. `news` is the site that has returned
+// since the last evaluation; None evaluates everything.
 fn evaluated(c: &Checked, plan: &Plan, state: &mut State, u: u32, news: Option<u32>)
     requires can { CanRefresh c.now u state.old }
     requires plan { IsPlan c.now.program plan.now (length state.old.kept.items) }
@@ -111,7 +112,7 @@ fn evaluated(c: &Checked, plan: &Plan, state: &mut State, u: u32, news: Option<u
     }
 }
 
-// The member that a unit runs, with its arguments.
+// The function that a unit runs, with its arguments.
 fn running(modes: &[Mode], u: u32) -> Option<(u32, &Args)>
     requires { u < length modes.now }
     ensures runs { IfSome result (λ r. (k : ℕ) × (unit_at modes.now u ≡ core.Runs r.0 k r.1.now)) }

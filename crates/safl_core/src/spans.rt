@@ -6,7 +6,7 @@ ghost use Rattle.safl_core.specs.Spans.{IsSpan, EndsMembers};
 
 use safl_term::Checked;
 
-/// Sites that follow each other: the first one, and the number after the last one.
+/// Consecutive sites: the first one, and the number after the last one.
 #[derive(Clone, Copy)]
 pub struct Span {
     pub first: u32,
@@ -16,7 +16,7 @@ pub struct Span {
 impl Span {
     ghost use Rattle.std.specs.Prelude.{◌≡◌};
 
-    /// No sites.
+    /// The empty span.
     pub fn none() -> Span
         ensures first { result.first ≡ 1 }
         ensures end { result.end ≡ 1 }
@@ -51,7 +51,7 @@ pub fn own_sites(c: &Checked, u: u32) -> Span
     }
 }
 
-// The number of the first site of a function and of those that follow it.
+// The number of the first site of function `f`, if it has one, and else that of the first site after it.
 fn sites_before(c: &Checked, f: u32) -> u32
     requires { f ≤ c.now.program.functions }
     ensures { result ≡ c.now.first_site f }

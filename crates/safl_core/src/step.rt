@@ -1,4 +1,4 @@
-//! The steps of units and sites.
+//! What events do to units and sites.
 
 ghost use Rattle.std.specs.Prelude.{◌≡◌, ℕ, suc, ◌<◌, ◌≤◌, List, Some, IsSome, get_or, length};
 ghost use Rattle.safl_term.specs.Readiness as plain;
@@ -16,7 +16,7 @@ use safl_evaluate::{Args, Stage};
 use safl_term::Checked;
 use safl_word::Word;
 
-/// A call is accepted: the site is sent, and its unit runs the callee for it.
+/// A call is accepted: the site is sent, and its unit runs the called function for it.
 pub fn accept(c: &Checked, state: &mut State, k: u32, words: Args)
     requires site { k ≤ c.now.program.sites }
     requires sized { IsSized c.now.program state.old }
@@ -26,7 +26,7 @@ pub fn accept(c: &Checked, state: &mut State, k: u32, words: Args)
     state.stages[k as usize] = Stage::Sent;
 }
 
-/// A unit ends: its mode is this one from now on, and the sites of its members are unsent again.
+/// A unit ends its body: `mode` is its mode from now on, and the sites of its members are unsent again.
 pub fn end(c: &Checked, state: &mut State, u: u32, mode: Mode)
     requires unit { u < c.now.program.functions }
     requires sized { IsSized c.now.program state.old }
@@ -36,7 +36,7 @@ pub fn end(c: &Checked, state: &mut State, u: u32, mode: Mode)
     end_sites(c, &mut state.stages, u);
 }
 
-/// A unit that runs a member loops: it runs this one with the arguments that its body comes to, for the same site, and
+/// A running unit loops: it goes on with function `h` and the arguments of its body's tail call, for the same site, and
 /// the sites of its members are unsent again.
 pub fn restart(c: &Checked, state: &mut State, u: u32, h: u32)
     requires unit { u < c.now.program.functions }
@@ -52,7 +52,7 @@ pub fn restart(c: &Checked, state: &mut State, u: u32, h: u32)
     end_sites(c, &mut state.stages, u);
 }
 
-// The sites of a unit's members are unsent again.
+// Makes the sites of a unit's members unsent again.
 fn end_sites(c: &Checked, stages: &mut [Stage], u: u32)
     requires unit { u < c.now.program.functions }
     requires sized { length stages.old ≡ suc c.now.program.sites }
@@ -64,7 +64,7 @@ fn end_sites(c: &Checked, stages: &mut [Stage], u: u32)
     }
 }
 
-/// A site gets its word, and its unit is idle.
+/// A site gets its word, and its unit becomes idle.
 pub fn give_back(c: &Checked, state: &mut State, k: u32, word: Word)
     requires site { k ≤ c.now.program.sites }
     requires sized { IsSized c.now.program state.old }

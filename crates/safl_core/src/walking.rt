@@ -1,4 +1,4 @@
-//! Walks: events are picked by a row of numbers.
+//! Walks: runs of a call machine whose events are picked by a sequence of pseudo-random numbers.
 
 ghost use Rattle.std.specs.Prelude.{◌≡◌, ◌+◌, ◌-◌, ◌^◌, ◌<◌, IfSome, IfNone};
 ghost use Rattle.safl_term.specs.Readiness.{back_word};
@@ -9,8 +9,8 @@ ghost use Rattle.safl_core.specs.Walking.{number_after, IsWalk, IsShort};
 use crate::machine::Machine;
 use safl_word::Word;
 
-/// What a walk came to: what main has returned, how many events were fired, and the greatest number of units that
-/// were busy in a state on the way, the first and the last one included.
+/// The outcome of a walk: what main has returned, the number of events fired, and the greatest number of units that
+/// were busy at once, in any state from the first to the last.
 #[derive(Clone, Copy, Debug, PartialEq, Eq)]
 pub struct Walked {
     pub result: Option<Word>,
@@ -18,8 +18,8 @@ pub struct Walked {
     pub units: u32,
 }
 
-/// Fires so many events, or fewer where main has returned before. Each turn asks the machine to pick by the next
-/// number of the row that the seed begins.
+/// Fires `steps` events, or fewer if main returns before. Each event is picked by the next number of the sequence that
+/// begins with the seed.
 pub fn walk(machine: &mut Machine, seed: u64, steps: u64) -> Walked
     requires { machine.old.events + steps < 2 ^ 64 - 1 }
     ensures walk { IsWalk machine.old seed steps machine.new result.units }
@@ -45,7 +45,7 @@ pub fn walk(machine: &mut Machine, seed: u64, steps: u64) -> Walked
     }
 }
 
-// The number after x in the row.
+// The number after `x` in the sequence.
 fn following(x: u64) -> u64
     ensures { result ≡ number_after x }
 {

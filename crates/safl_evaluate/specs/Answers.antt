@@ -1,17 +1,17 @@
--- What the bodies of units come to.
+-- What the body of a unit comes to.
 use Rattle.std.specs.Prelude.{ℕ, List, Option, Some, None, Bool, true, false, ◌==◌}
 use Rattle.safl_word.specs.Words.{Word}
 use Rattle.safl_term.specs.Readiness.{Answer, Ready, LoopTo, NotYet}
 use Rattle.safl_evaluate.specs.declared.answer.Kind.{Kind}
 use Rattle.safl_evaluate.specs.declared.answer.Kind as code
 
--- an answer of this kind, where a tail call has these words
+-- the answer of this kind, where a tail call has these words
 abbrev pub answer_of : Kind → List Word → Answer
 answer_of (code.TheVariants.Ready v) ws = Ready v
 answer_of (code.TheVariants.Loop h) ws = LoopTo h ws
 answer_of code.TheVariants.NotYet ws = NotYet
 
--- the arguments of a tail call
+-- the arguments of an answer that is a tail call
 abbrev pub args_given : Answer → Option (List Word)
 args_given (Ready v) = None
 args_given (LoopTo h vs) = Some vs

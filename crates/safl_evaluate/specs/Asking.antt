@@ -1,4 +1,4 @@
--- Which sites are asked for while terms are looked at.
+-- Which sites are asked for during an evaluation.
 use Rattle.std.specs.Prelude.{◌≡◌, ℕ, ◌≤◌, None, length, get_or}
 use Rattle.safl_evaluate.specs.declared.wants.Wants.{Wants}
 
@@ -6,7 +6,7 @@ use Rattle.safl_evaluate.specs.declared.wants.Wants.{Wants}
 abbrev pub IsAsked : Wants → ℕ → Type 0
 IsAsked w k = (w.first ≤ k) × (k ≤ w.last)
 
--- before and after: only sites that were asked for may be wanted otherwise
+-- before and after an evaluation: only sites that were asked for may be wanted otherwise
 pub record Asks (v w : Wants) : Type 0 where
   pub long : length w.each.items ≡ length v.each.items
   pub first : w.first ≤ v.first

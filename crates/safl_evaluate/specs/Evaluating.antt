@@ -13,8 +13,8 @@ use Rattle.safl_evaluate.specs.Stages.{back_at}
 abbrev pub widths : List Word → List ℕ
 widths vs = map (λ v. v.width) vs
 
--- A part of a body of a well-formed program: its sites are those of the program, its slots hold these words, and each
--- word that has come back has its callee's width
+-- A part of a body of a well-formed program: its sites are those of the program, its slots hold these words, and each word that
+-- has come back has the width of the called function.
 pub record CanRun (sites : List Stage) (places : ℕ) (env : List Word) (t : Term) : Type 0 where
   pub program : Program
   pub caller : ℕ
@@ -51,13 +51,13 @@ pub record Unasked (asks : List (Option (List Word))) (t : Term) : Type 0 where
 pub record UnaskedIn (asks : List (Option (List Word))) (ts : Terms) : Type 0 where
   pub none : (k : ℕ) → StandsIn k ts → get_or asks k None ≡ None
 
--- A term may be evaluated whose slots have the first words of a table: the table has a place for each node of the term, and
--- none of its sites is asked for.
+-- A term may be evaluated: its slots have the first words of a table, which has a place for each node of the term, and none of
+-- its sites is asked for.
 pub record CanEvaluate (sites : List Stage) (asks : List (Option (List Word))) (env : List Word) (slots : ℕ) (t : Term) : Type 0 where
   pub can : CanRun sites (length asks) (take slots env) t
   pub room : slots + nodes t ≤ length env
   pub unasked : Unasked asks t
 
--- what was asked before, and what is wanted besides
+-- the wants after an evaluation: those before it, and these besides
 pub record Notes (before after : List (Option (List Word))) (wants : ℕ → Option (List Word)) : Type 0 where
   pub each : (k : ℕ) → get_or after k None ≡ or_else (get_or before k None) (wants k)

@@ -1,4 +1,4 @@
--- What is found of a term that is looked at.
+-- What evaluating a term finds.
 use Rattle.std.specs.Prelude.{Bool, true, false}
 use Rattle.safl_word.specs.Words.{Word}
 use Rattle.safl_evaluate.specs.declared.kept.Found.{Found}
@@ -6,7 +6,7 @@ use Rattle.safl_evaluate.specs.declared.kept.Found.TheVariants.{Ready, Open, Shu
 use Rattle.safl_evaluate.specs.declared.kept.Kept as kept
 use Rattle.safl_evaluate.specs.declared.kept.Kept.{Kept}
 
--- what is kept of it, with its word
+-- what is kept of a term, with its word
 abbrev pub cell_of : Found → Word → Kept
 cell_of Ready v = kept.TheVariants.Ready v
 cell_of Open v = kept.TheVariants.Open
@@ -17,7 +17,7 @@ is_ready Ready = true
 is_ready Open = false
 is_ready Shut = false
 
--- what is found of an if or a let that is open, and of any other term
+-- what is found of an if or a let that is open; and of any other term
 abbrev pub if_open : Bool → Found
 if_open true = Ready
 if_open false = Open

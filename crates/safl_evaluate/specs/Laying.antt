@@ -1,4 +1,4 @@
--- Where the nodes of terms lie in a table.
+-- Places: where the nodes of terms lie in a table.
 use Rattle.std.specs.Prelude.{◌≡◌, ℕ, ◌+◌, ◌<◌, ◌≤◌, List, length, get_or, false}
 use Rattle.safl_term.specs.Program.{Program}
 use Rattle.safl_term.specs.Sizes.{nodes, nodes_in}
@@ -14,15 +14,15 @@ nowhere = record { next = 0; first = 0; last = 0; is_plain = false; is_plain_bod
 abbrev pub place : List Place → ℕ → Place
 place P p = get_or P p nowhere
 
--- the place after a term's nodes, which lie from p on, numbers between which all its sites are, and whether
--- it is a plain term, and a plain body
+-- The place of a term whose nodes lie from p on: the place after them, two numbers between which all its sites are, and whether
+-- it is a plain term and whether it is a plain body.
 pub record IsPlace (x : Place) (p : ℕ) (t : Term) : Type 0 where
   pub next : x.next ≡ p + nodes t
   pub plain : x.is_plain ≡ plain_term t
   pub body : x.is_plain_body ≡ plain_body t
   pub sites : (k : ℕ) → Stands k t → (x.first ≤ k) × (k ≤ x.last)
 
--- the same of several terms
+-- the same facts for several terms, one after the other
 pub record IsRoom (x : Place) (p : ℕ) (ts : Terms) : Type 0 where
   pub next : x.next ≡ p + nodes_in ts
   pub plain : x.is_plain ≡ plain_terms ts
@@ -30,8 +30,8 @@ pub record IsRoom (x : Place) (p : ℕ) (ts : Terms) : Type 0 where
   pub sites : (k : ℕ) → StandsIn k ts → (x.first ≤ k) × (k ≤ x.last)
 
 unfoldable mutual
-  -- the nodes of the parts of a term lie after its own at p, in the order of the text, but
-  -- for the bindings of a let, which lie after its body
+  -- the nodes of the parts of a term lie after its own node at p, in the order of the text, but the bindings of a let after its
+  -- body
   pub LaidBelow : List Place → ℕ → Term → Type 0
   LaidBelow P p (Const w) = Unit {0}
   LaidBelow P p (Var i) = Unit {0}
@@ -52,12 +52,12 @@ unfoldable mutual
 abbrev pub Laid : List Place → ℕ → Term → Type 0
 Laid P p t = IsPlace (place P p) p t × LaidBelow P p t
 
--- the places outside of these are the same
+-- the places outside these two numbers are the same
 pub record SameOutside (from upto : ℕ) (P P1 : List Place) : Type 0 where
   pub below : (q : ℕ) → q < from → place P1 q ≡ place P q
   pub above : (q : ℕ) → upto ≤ q → place P1 q ≡ place P q
 
--- the numbers of one are between those of the other
+-- the two numbers of one place are between those of the other
 pub record Covers (x y : Place) : Type 0 where
   pub first : x.first ≤ y.first
   pub last : y.last ≤ x.last
@@ -66,7 +66,7 @@ pub record Covers (x y : Place) : Type 0 where
 abbrev pub body_at : Plan → ℕ → ℕ
 body_at plan f = get_or plan.bodies.items f 0
 
--- the bodies lie one after the other in a table of so many places
+-- the bodies lie one after the other in a table of `count` places
 pub record IsPlan (C : Program) (plan : Plan) (count : ℕ) : Type 0 where
   pub bodies : length plan.bodies.items ≡ C.functions
   pub places : length plan.places.items ≡ count

@@ -1,4 +1,4 @@
--- Plain terms, in which no call and no tail call stands, plain bodies, and what they come to.
+-- Plain terms and plain bodies, and what they come to.
 use Rattle.std.specs.Prelude.{◌≡◌, ◌+◌, ℕ, ◌≤◌, ◌&&◌, List, length, take, Option, Some, Bool, true, false}
 use Rattle.safl_word.specs.Words.{Word}
 use Rattle.safl_term.specs.Readiness.{Answer, Ready, NotYet, answer, answers}
@@ -7,7 +7,7 @@ use Rattle.safl_term.specs.Terms.{Term, Const, Var, Op, If, Let, Call, Loop, Ter
 use Rattle.safl_evaluate.specs.declared.stage.Stage.{Stage}
 use Rattle.safl_evaluate.specs.Evaluating.{CanRun, CanRunAll}
 
--- no call and no tail call stands in the term
+-- the term is plain: no call and no tail call stands in it
 abbrev mutual
   pub plain_term : Term → Bool
   plain_term (Const w) = true
@@ -22,7 +22,7 @@ abbrev mutual
   plain_terms Nil = true
   plain_terms (Cons t ts) = plain_term t && plain_terms ts
 
--- no call stands in the term, and a tail call in tail position alone
+-- The term is a plain body: no call stands in it, and tail calls stand in tail position only, with plain arguments.
 abbrev pub plain_body : Term → Bool
 plain_body (Const w) = true
 plain_body (Var i) = true
@@ -32,21 +32,21 @@ plain_body (Let ts b) = plain_terms ts && plain_body b
 plain_body (Call f k ts) = false
 plain_body (Loop h ts) = plain_terms ts
 
--- the term comes to this word, whatever has come back
+-- the term comes to this word, whichever sites have returned
 pub record ComesTo (env : List Word) (t : Term) (v : Word) : Type 0 where
   pub word : (back : ℕ → Option Word) → answer back env t ≡ Ready v
 
--- the terms come to these words
+-- the terms come to these words, whichever sites have returned
 pub record ComeTo (env : List Word) (ts : Terms) (vs : List Word) : Type 0 where
   pub words : (back : ℕ → Option Word) → answers back env ts ≡ Some vs
 
--- the body comes to this answer, which is a word or a tail call
+-- the body comes to this answer, a word or a tail call, whichever sites have returned
 pub record ConcludesIn (env : List Word) (t : Term) (q : Answer) : Type 0 where
   pub answer_is : (back : ℕ → Option Word) → answer back env t ≡ q
   pub settled : q ≡ NotYet → ⊥
 
--- A plain term may be computed whose slots have the first words of a table: it is a part of a body of a well-formed program,
--- and the table has a place for each of its nodes
+-- A plain term may be computed: it can run with the first `slots` words of `env` in its slots, and `env` has room for one more
+-- word for each of its nodes.
 pub record CanCompute (env : List Word) (slots : ℕ) (t : Term) : Type 0 where
   pub stages : List Stage
   pub sites : ℕ
@@ -61,7 +61,7 @@ pub record CanComputeAll (env : List Word) (slots : ℕ) (ts : Terms) : Type 0 w
   pub room : slots + nodes_in ts ≤ length env
   pub plain : plain_terms ts ≡ true
 
--- a plain body, in the same way
+-- a plain body may be computed, under the same conditions
 pub record CanConclude (env : List Word) (slots : ℕ) (t : Term) : Type 0 where
   pub stages : List Stage
   pub sites : ℕ

@@ -1,4 +1,4 @@
--- The stages that the code keeps, as those of the definitions.
+-- The stages that the code keeps, as stages of the definitions.
 use Rattle.std.specs.Prelude.{ℕ, List, Option, get_or}
 use Rattle.safl_calls.specs.Machine as machine
 use Rattle.safl_word.specs.Words.{Word}
@@ -11,7 +11,7 @@ stage_of Unsent = plain.Unsent
 stage_of Sent = plain.Sent
 stage_of (Returned v) = plain.Returned v
 
--- the stage of a site; a site that is not there is unsent
+-- the stage of a site. A site that does not exist is unsent
 abbrev pub stage_at : List Stage → ℕ → plain.Stage
 stage_at sites k = stage_of (get_or sites k Unsent)
 

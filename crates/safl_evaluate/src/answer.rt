@@ -1,4 +1,4 @@
-//! What the bodies of units come to.
+//! What the body of a unit comes to.
 
 ghost use Rattle.std.specs.Prelude.{◌≡◌, ◌≤◌, IfSome, is_some, length, Some};
 ghost use Rattle.safl_term.specs.Readiness as plain;
@@ -9,7 +9,7 @@ use crate::args::Args;
 use safl_word::Word;
 use std::marker::Model;
 
-/// A word, a tail call of a member, or nothing yet.
+/// What a body comes to: a word, a tail call of a function of its group, or nothing yet.
 #[derive(Clone, Copy)]
 pub enum Kind {
     Ready(Word),
@@ -17,7 +17,7 @@ pub enum Kind {
     NotYet,
 }
 
-/// What the body comes to that a unit runs. The arguments of a tail call are written in place.
+/// What the body that a unit runs comes to. The arguments of a tail call are written in place.
 #[derive(Drop)]
 pub struct Answer {
     kind: Kind,
@@ -34,7 +34,7 @@ impl Model for Answer {
 }
 
 impl Answer {
-    /// Nothing yet.
+    /// The answer of a body that has come to nothing yet.
     pub fn new() -> Answer
         ensures { result ≡ plain.NotYet }
     {
@@ -44,7 +44,7 @@ impl Answer {
         }
     }
 
-    /// The body comes to this word, or else to nothing yet.
+    /// Notes that the body comes to this word, or to nothing yet if there is none.
     pub fn settle(&mut self, word: Option<Word>)
         ensures { self.new ≡ plain.ready_from word }
     {
@@ -54,7 +54,7 @@ impl Answer {
         };
     }
 
-    /// The body comes to a tail call of a member with these words.
+    /// Notes that the body comes to a tail call of function `member` with these words.
     pub fn pass(&mut self, member: u32, words: &[Word])
         requires { length words.now ≤ 16 }
         ensures { self.new ≡ plain.LoopTo member words.now }
@@ -97,7 +97,7 @@ impl Answer {
         }
     }
 
-    /// Whether the body comes to a tail call of a member.
+    /// Whether the body comes to a tail call of function `h`.
     pub fn loops_to(&self, h: u32) -> bool
         ensures { result ≡ shown.loops_to self.now h }
     {

@@ -1,14 +1,14 @@
-//! The arguments of a call.
+//! The arguments of a call, in place.
 
 ghost use Rattle.std.specs.Prelude.{◌≡◌, ◌≤◌, length};
 
 use safl_word::Word;
 use std::marker::Model;
 
-/// The most arguments of a call.
+/// The greatest number of arguments of a call.
 pub const ARGS_MAX: usize = 16;
 
-/// At most `ARGS_MAX` words, which take no memory of their own.
+/// At most `ARGS_MAX` words, held without memory of their own.
 #[derive(Drop)]
 pub struct Args {
     words: [Word; ARGS_MAX],
@@ -27,7 +27,7 @@ impl Model for Args {
 }
 
 impl Args {
-    /// These words.
+    /// Arguments that are these words.
     pub fn new(words: &[Word]) -> Args
         requires { length words.now ≤ 16 }
         ensures { result ≡ words.now }
@@ -38,7 +38,7 @@ impl Args {
         Args { words: held, count }
     }
 
-    /// The words.
+    /// The words of the arguments.
     pub fn words(&self) -> &[Word]
         ensures words { result.now ≡ self.now }
         ensures few { length self.now ≤ 16 }
@@ -46,7 +46,7 @@ impl Args {
         &self.words[..self.count]
     }
 
-    /// Holds these words from now on.
+    /// Replaces the arguments by these words.
     pub fn set(&mut self, words: &[Word])
         requires { length words.now ≤ 16 }
         ensures { self.new ≡ words.now }
@@ -56,7 +56,7 @@ impl Args {
         self.count = count;
     }
 
-    /// The same words once more.
+    /// A copy of the arguments.
     pub fn again(&self) -> Args
         ensures { result ≡ self.now }
     {

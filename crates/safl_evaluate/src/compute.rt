@@ -1,4 +1,7 @@
-//! What plain terms and plain bodies come to. Nothing of their parts is kept.
+//! Evaluation of plain terms and plain bodies.
+//!
+//! A plain term has no calls and no tail calls. A plain body may have tail calls, in tail position. Neither waits for a site,
+//! so nothing is kept of their parts.
 
 ghost use Rattle.std.specs.Prelude.{◌≡◌, ◌+◌, ◌≤◌, length, map, take, IsSome};
 ghost use Rattle.safl_term.specs.Tree.{shown_term, shown_terms};
@@ -10,12 +13,13 @@ use crate::answer::Answer;
 use safl_term::Term;
 use safl_word::{Primitive, Word, apply};
 
-/// A word that is about to be overwritten.
+/// A word that will be overwritten.
 pub fn blank() -> Word {
     Word::from_parts(1, 0)
 }
 
-/// Notes what a plain body comes to: the word of a plain term, or a tail call.
+/// Writes what a plain body comes to, a word or a tail call, to `told`. Its slots have the first `slots` words of `env`; the
+/// words from there on are overwritten.
 pub fn conclude(env: &mut [Word], slots: usize, t: &Term, told: &mut Answer)
     requires { CanConclude env.old slots (shown_term t.now) }
     ensures { ConcludesIn (take slots env.old) (shown_term t.now) told.new }
@@ -59,7 +63,7 @@ pub fn applied(p: Primitive, operands: &[Word], word: &mut Word)
     *word = apply(p, operands);
 }
 
-/// So many words from a place on.
+/// The `count` words of `env` from `at` on.
 pub fn words(env: &[Word], at: usize, count: usize) -> &[Word]
     requires { at + count ≤ length env.now }
     ensures { result.now ≡ words_at env.now at count }
@@ -67,8 +71,8 @@ pub fn words(env: &[Word], at: usize, count: usize) -> &[Word]
     &env[at..at + count]
 }
 
-/// Writes the word that a plain term comes to, where the first `slots` words of `env` are those of its slots. Those from
-/// `slots` on are overwritten.
+/// Writes the word that a plain term comes to. Its slots have the first `slots` words of `env`; the words from there on are
+/// overwritten.
 #[cycle(compute)]
 pub fn compute(env: &mut [Word], slots: usize, t: &Term, word: &mut Word)
     requires { CanCompute env.old slots (shown_term t.now) }
@@ -102,7 +106,7 @@ pub fn compute(env: &mut [Word], slots: usize, t: &Term, word: &mut Word)
     }
 }
 
-// The same as `compute`, where constants and slots need no call.
+// Does the same as `compute`, but needs no call for constants and slots.
 #[cycle(compute)]
 fn operand(env: &mut [Word], slots: usize, t: &Term, word: &mut Word)
     requires { CanCompute env.old slots (shown_term t.now) }
@@ -116,7 +120,7 @@ fn operand(env: &mut [Word], slots: usize, t: &Term, word: &mut Word)
     }
 }
 
-// The words of one operand or two. None of them goes by way of `env`.
+// Writes the words of one or two operands. None of them is written to `env`.
 #[cycle(compute)]
 fn pair(env: &mut [Word], slots: usize, ts: &[Term], words: &mut [Word])
     requires can { CanComputeAll env.old slots (shown_terms ts.now) }
@@ -137,8 +141,8 @@ fn pair(env: &mut [Word], slots: usize, ts: &[Term], words: &mut [Word])
     }
 }
 
-// Puts what each term comes to into `env` from place `to` on. A term may overwrite what stands from `slots` on, so each
-// word is put there after those that follow it.
+// Writes the words of terms to `env` from `to` on. Computing a term may overwrite `env` from `slots` on, so the word of each
+// term is written after those of the terms that follow it.
 #[cycle(compute)]
 fn values(env: &mut [Word], slots: usize, to: usize, ts: &[Term])
     requires can { CanComputeAll env.old slots (shown_terms ts.now) }

@@ -1,4 +1,4 @@
-//! Partial evaluation: what a running body comes to, and which calls it wants.
+//! Partial evaluation: what a running body comes to so far, and which calls it wants.
 
 ghost use Rattle.std.specs.Prelude.{◌≡◌, ℕ, ◌+◌, ◌<◌, ◌≤◌, ◌^◌, length, take, cond, slice_set, Some, None, IsTrue};
 ghost use Rattle.safl_term.specs.Readiness.{answer, word_of};
@@ -20,15 +20,15 @@ use crate::wants::Wants;
 use safl_term::Term;
 use safl_word::Word;
 
-/// What stays the same while terms are looked at: the stages of the sites, and the places of the nodes.
+/// What stays the same during an evaluation: the stages of the sites, and the places of the nodes.
 #[derive(Clone, Copy)]
 pub struct Facts<'a> {
     pub stages: &'a [Stage],
     pub places: &'a [Place],
 }
 
-/// Where a term is looked at: how many slots it sees, its place, and the site that has returned since it was looked at last,
-/// None where it is looked at for the first time.
+/// Where a term is looked at: the number of slots that it sees, its place, and the news. The news is the site that has
+/// returned since the term was last looked at, or None if it is looked at for the first time.
 #[derive(Clone, Copy)]
 pub struct Spot {
     pub slots: usize,
@@ -36,9 +36,9 @@ pub struct Spot {
     pub news: Option<u32>,
 }
 
-/// Notes in `told` what a term comes to where the first `slots` words of `env` are those of its slots, and in `asks` the
-/// words with which it wants its sites. What is found is kept for the next time. The words of `env` from `slots` on are
-/// overwritten.
+/// Evaluates a term whose slots have the first `slots` words of `env`: writes what it comes to to `told`, and the words
+/// with which it wants its sites to `asks`. What is found is kept for the next time. The words of `env` from `slots` on
+/// are overwritten.
 pub fn evaluate(
     facts: &Facts,
     asks: &mut Wants,
@@ -110,7 +110,7 @@ pub fn evaluate(
     }
 }
 
-// Where the first part of a term is looked at.
+// The spot of a term's first part.
 fn part(spot: Spot) -> Spot
     requires { spot.at + 1 < 2 ^ 64 }
     ensures slots { result.slots ≡ spot.slots }
@@ -123,7 +123,7 @@ fn part(spot: Spot) -> Spot
     }
 }
 
-// Where what follows a term is looked at.
+// The spot of what follows a term.
 fn after(facts: &Facts, spot: Spot) -> Spot
     requires { spot.at < length facts.now.places.now }
     ensures slots { result.slots ≡ spot.slots }
@@ -136,7 +136,7 @@ fn after(facts: &Facts, spot: Spot) -> Spot
     }
 }
 
-// The place after the nodes of a term.
+// The place after the nodes of the term at a place.
 fn next(facts: &Facts, at: usize) -> usize
     requires { at < length facts.now.places.now }
     ensures { result ≡ (place facts.now.places.now at).next }
@@ -144,7 +144,8 @@ fn next(facts: &Facts, at: usize) -> usize
     facts.places[at].next
 }
 
-// The news for what is below an if or a let: it was looked at before where the condition or the bindings were ready.
+// The news for what is below an if or a let. That was looked at before only if the condition or the bindings were
+// ready; if they were not, it is looked at for the first time.
 fn news_below(kept: &[Kept], spot: Spot) -> Option<u32>
     requires { spot.at < length kept.now }
     ensures { result ≡ cond (is_open (cell kept.now spot.at)) spot.news None }
@@ -156,7 +157,7 @@ fn news_below(kept: &[Kept], spot: Spot) -> Option<u32>
     }
 }
 
-// Where the first branch of an if is looked at.
+// The spot of the first branch of an if.
 fn branch(facts: &Facts, kept: &[Kept], spot: Spot) -> Spot
     requires places { spot.at + 1 < length facts.now.places.now }
     requires kept { spot.at < length kept.now }
@@ -171,7 +172,7 @@ fn branch(facts: &Facts, kept: &[Kept], spot: Spot) -> Spot
     }
 }
 
-// Where the body of a let with so many bindings is looked at.
+// The spot of the body of a let with `count` bindings.
 fn within(kept: &[Kept], spot: Spot, count: usize) -> Spot
     requires few { spot.slots + count < 2 ^ 64 }
     requires kept { spot.at < length kept.now }
@@ -186,7 +187,7 @@ fn within(kept: &[Kept], spot: Spot, count: usize) -> Spot
     }
 }
 
-// Whether the site that has returned stands outside of a term that was looked at before, and has parts.
+// Whether a term can be skipped: it was looked at before, has parts, and the site that has returned is none of its own.
 fn is_skipped(facts: &Facts, spot: Spot) -> bool
     requires { spot.at < length facts.now.places.now }
     ensures { IsTrue result → IsSkipped facts.now.places.now spot.at spot.news }
@@ -200,7 +201,7 @@ fn is_skipped(facts: &Facts, spot: Spot) -> bool
     }
 }
 
-// Whether the term at a place is plain.
+// Whether the term at a place is a plain term.
 fn is_plain_at(facts: &Facts, at: usize) -> bool
     requires { at < length facts.now.places.now }
     ensures { result ≡ (place facts.now.places.now at).is_plain }
@@ -216,7 +217,8 @@ fn is_plain_body_at(facts: &Facts, at: usize) -> bool
     facts.places[at].is_plain_body
 }
 
-// Of the parts of a plain body nothing is kept, so they are looked at for the first time.
+// The spot of a term as it is looked at. A plain body is looked at as if for the first time, since nothing is kept of its
+// parts.
 fn anew(facts: &Facts, spot: Spot) -> Spot
     requires { spot.at < length facts.now.places.now }
     ensures slots { result.slots ≡ spot.slots }
@@ -242,8 +244,8 @@ fn compute_and_keep(env: &mut [Word], kept: &mut [Kept], spot: Spot, t: &Term, w
     keep(kept, spot.at, Found::Ready, word);
 }
 
-// Writes the word that a term comes to, if it does, to `word`, and says whether. Words are written in place, since a copy
-// of one costs more than most operators. A term is passed over in which no site has returned since it was looked at.
+// Writes the word of a term to `word`, and says whether it has one. The word is written in place, since a copy of a
+// word costs more than most operators. A term is skipped if none of its sites has returned since it was last looked at.
 #[cycle(find)]
 fn find(
     facts: &Facts,
@@ -270,7 +272,7 @@ fn find(
     keep(kept, spot.at, found, word)
 }
 
-// Looks at a term whose parts may have changed; those of a plain body are looked at for the first time.
+// Looks at a term whose parts may have changed. A plain body has to be looked at as if for the first time.
 #[cycle(find)]
 fn look(
     facts: &Facts,
@@ -337,7 +339,7 @@ fn look(
     }
 }
 
-// Writes a word that is found at once.
+// Writes a word that is known already.
 fn put(word: &mut Word, found: &Word) -> bool
     ensures { cond result (Some word.new) None ≡ Some found.now }
 {
@@ -345,7 +347,7 @@ fn put(word: &mut Word, found: &Word) -> bool
     true
 }
 
-// The same as `find`, where constants and slots need no call.
+// Does the same as `find`, but needs no call for constants and slots.
 #[cycle(find)]
 fn operand(
     facts: &Facts,
@@ -368,7 +370,7 @@ fn operand(
     }
 }
 
-// The words of one operand or two, where they are ready. None of them goes by way of `env`.
+// Writes the words of one or two operands, and says whether all are ready. None of them is written to `env`.
 #[cycle(find)]
 fn pair(
     facts: &Facts,
@@ -400,8 +402,8 @@ fn pair(
     }
 }
 
-// Puts what each term comes to into `env` from place `to` on, where all of them are ready. A term may overwrite what
-// stands from `slots` on, so each word is put there after those that follow it.
+// Writes the words of terms to `env` from `to` on, and says whether all are ready. Evaluating a term may overwrite
+// `env` from `slots` on, so the word of each term is written after those of the terms that follow it.
 #[cycle(find)]
 fn values(
     facts: &Facts,
@@ -434,7 +436,7 @@ fn values(
     }
 }
 
-// The word of a site, where it has returned.
+// Writes the word that a site has returned, and says whether it has returned.
 fn returned(stages: &[Stage], k: u32, word: &mut Word) -> bool
     requires least { 1 ≤ k }
     requires within { k < length stages.now }

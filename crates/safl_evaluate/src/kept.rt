@@ -1,4 +1,4 @@
-//! What is kept of partial evaluation.
+//! What is kept of each node between two partial evaluations.
 
 ghost use Rattle.std.specs.Prelude.{◌≡◌, ◌<◌, cond, Some, None, length, slice_set};
 ghost use Rattle.safl_evaluate.specs.Keeping.{cell, word_kept, is_open, opened_with};
@@ -8,8 +8,8 @@ ghost use Rattle.safl_evaluate.specs.Finding.{cell_of, is_ready, if_open, if_rea
 use crate::answer::Answer;
 use safl_word::Word;
 
-/// What was found of a term when it was looked at last: its word; or no word yet, but the condition of an if or the bindings
-/// of a let are ready, so that what is below was looked at; or neither.
+/// What was found of a term when it was last looked at. `Ready`: its word. `Open`: no word yet, but the condition of
+/// this if or the bindings of this let are ready, so what is below was looked at. `Shut`: neither.
 #[derive(Clone, Copy)]
 pub enum Kept {
     Ready(Word),
@@ -17,7 +17,7 @@ pub enum Kept {
     Shut,
 }
 
-/// What is found of a term, whose word, if it has one, was written in place.
+/// What is found of a term. Its word, if it has one, was written in place.
 #[derive(Clone, Copy)]
 pub enum Found {
     Ready,
@@ -25,21 +25,21 @@ pub enum Found {
     Shut,
 }
 
-/// What is found of an if or a let that is open.
+/// What is found of an if or a let whose condition or bindings are ready.
 pub fn opened(found: bool) -> Found
     ensures { result ≡ if_open found }
 {
     if found { Found::Ready } else { Found::Open }
 }
 
-/// What is found of any other term.
+/// What is found of a term that is no open if or let.
 pub fn ready(found: bool) -> Found
     ensures { result ≡ if_ready found }
 {
     if found { Found::Ready } else { Found::Shut }
 }
 
-/// Writes the word that is kept at a place, if there is one, and says whether.
+/// Writes the word that is kept at a place, and says whether there is one.
 pub fn recall(kept: &[Kept], at: usize, word: &mut Word) -> bool
     requires { at < length kept.now }
     ensures { cond result (Some word.new) None ≡ word_kept (cell kept.now at) }
@@ -54,7 +54,7 @@ pub fn recall(kept: &[Kept], at: usize, word: &mut Word) -> bool
     }
 }
 
-/// Keeps at a place what was found of a term, and says whether it has a word.
+/// Keeps what was found of the term at a place, and says whether it has a word.
 pub fn keep(kept: &mut [Kept], at: usize, found: Found, word: &Word) -> bool
     requires { at < length kept.old }
     ensures kept { kept.new ≡ slice_set kept.old at (cell_of found word.now) }
@@ -76,7 +76,7 @@ pub fn keep(kept: &mut [Kept], at: usize, found: Found, word: &Word) -> bool
     }
 }
 
-/// Whether an if or a let is open at a place.
+/// Whether the if or the let at a place is open.
 pub fn is_open_at(kept: &[Kept], at: usize) -> bool
     requires { at < length kept.now }
     ensures { result ≡ is_open (cell kept.now at) }
@@ -88,7 +88,7 @@ pub fn is_open_at(kept: &[Kept], at: usize) -> bool
     }
 }
 
-/// Keeps of an if or a let that is open what it comes to.
+/// Keeps what an open if or let comes to.
 pub fn keep_told(kept: &mut [Kept], at: usize, told: &Answer)
     requires { at < length kept.old }
     ensures { kept.new ≡ slice_set kept.old at (opened_with (word_of told.now)) }

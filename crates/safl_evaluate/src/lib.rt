@@ -1,5 +1,7 @@
-//! Partial evaluation of running bodies. What is found of each node is kept, but for the parts of plain terms, and looked at
-//! again only where a site has returned.
+//! Partial evaluation of running bodies.
+//!
+//! What is found of each node is kept, except of the parts of plain terms and plain bodies, which wait for no site. A node is
+//! looked at again only if one of its sites has returned.
 #![tactic(auto)]
 
 pub mod answer;

@@ -1,4 +1,4 @@
-//! Where the nodes of a body lie in a table.
+//! Places: where the nodes of a body lie in a table.
 
 ghost use Rattle.std.specs.Prelude.{◌≡◌, ℕ, ◌+◌, ◌<◌, ◌≤◌, ◌^◌, ◌&&◌, IfOk, length, true, false};
 ghost use Rattle.safl_term.specs.Sizes.{nodes, nodes_in};
@@ -9,8 +9,8 @@ ghost use Rattle.safl_evaluate.specs.Laying.{IsPlan};
 use safl_term::{Checked, Term};
 use std::alloc::{AllocError, Global};
 
-/// The place after a term's nodes, numbers between which all its sites are, and whether the term is plain,
-/// and a plain body.
+/// Of a term: the place after its nodes, two numbers between which all its sites are, and whether it is a plain term and
+/// whether it is a plain body.
 #[derive(Clone, Copy)]
 pub struct Place {
     pub next: usize,
@@ -20,14 +20,14 @@ pub struct Place {
     pub is_plain_body: bool,
 }
 
-/// The places of the nodes of all bodies, and by function the place of its body.
+/// The places of the nodes of all bodies, and for each function the place of its body.
 #[derive(Drop)]
 pub struct Plan {
     pub places: Vec<Place>,
     pub bodies: Vec<usize>,
 }
 
-/// The plan of a program: its bodies lie one after the other in 50,000 places.
+/// The plan of a program. Its bodies lie one after the other in 50,000 places.
 pub fn planned(alloc: Global, c: &Checked) -> Result<Plan, AllocError>
     ensures { IfOk result (λ plan. IsPlan c.now.program plan 50000) }
 {
@@ -42,8 +42,8 @@ pub fn planned(alloc: Global, c: &Checked) -> Result<Plan, AllocError>
     Ok(Plan { places, bodies })
 }
 
-/// Lays the nodes of a term from a place on, and answers its own: first the term's, then those of its parts, but for the
-/// bindings of a let, which follow its body.
+/// Lays out the nodes of a term from `at` on: first the term's own, then those of its parts in order, but the bindings
+/// of a let after its body. Returns the place of the term itself.
 #[cycle(lay)]
 pub fn lay(t: &Term, at: usize, places: &mut [Place]) -> Place
     requires { at + nodes (shown_term t.now) ≤ length places.old }
@@ -56,7 +56,7 @@ pub fn lay(t: &Term, at: usize, places: &mut [Place]) -> Place
     place
 }
 
-// Lays the parts of a term, and answers what its own place is to be.
+// Lays out the parts of a term. Returns what the term's own place has to be.
 #[cycle(lay)]
 fn lay_parts(t: &Term, at: usize, places: &mut [Place]) -> Place
     requires { at + nodes (shown_term t.now) ≤ length places.old }
@@ -84,7 +84,7 @@ fn lay_parts(t: &Term, at: usize, places: &mut [Place]) -> Place
     }
 }
 
-// Lays the nodes of several terms one after the other.
+// Lays out the nodes of several terms, one after the other.
 #[cycle(lay)]
 fn lay_all(ts: &[Term], at: usize, places: &mut [Place]) -> Place
     requires { at + nodes_in (shown_terms ts.now) ≤ length places.old }
@@ -100,7 +100,7 @@ fn lay_all(ts: &[Term], at: usize, places: &mut [Place]) -> Place
     followed(one, others)
 }
 
-// No sites, and this place after them.
+// A place without sites. `next` is the place after it.
 fn empty(next: usize) -> Place
     ensures next { result.next ≡ next }
     ensures plain { result.is_plain ≡ true }
@@ -115,7 +115,8 @@ fn empty(next: usize) -> Place
     }
 }
 
-// The sites of both, and the place after the second one; the first stands in no tail position.
+// Two terms, one after the other, of which only the second may be in tail position: the sites of both, and the place after
+// the second.
 fn followed(a: Place, b: Place) -> Place
     ensures next { result.next ≡ b.next }
     ensures first { Covers result a }
@@ -132,7 +133,7 @@ fn followed(a: Place, b: Place) -> Place
     }
 }
 
-// The same of two branches.
+// Two branches, one after the other. Both may be in tail position.
 fn either(a: Place, b: Place) -> Place
     ensures next { result.next ≡ b.next }
     ensures first { Covers result a }
@@ -146,7 +147,7 @@ fn either(a: Place, b: Place) -> Place
     }
 }
 
-// The same of a let's body and the bindings, which lie after it.
+// The body of a let and its bindings, which lie after it. Only the body may be in tail position.
 fn bound_in(body: Place, bindings: Place) -> Place
     ensures next { result.next ≡ bindings.next }
     ensures first { Covers result body }
@@ -160,7 +161,7 @@ fn bound_in(body: Place, bindings: Place) -> Place
     }
 }
 
-// One more site.
+// The place with one more site.
 fn with_site(place: Place, k: u32) -> Place
     ensures next { result.next ≡ place.next }
     ensures others { Covers result place }
@@ -178,7 +179,7 @@ fn with_site(place: Place, k: u32) -> Place
     }
 }
 
-// A tail call: no plain term, but a plain body where its arguments are plain.
+// The place of a tail call, from that of its arguments: no plain term, but a plain body if they are plain.
 fn with_loop(place: Place) -> Place
     ensures { result ≡ record place { is_plain = false } }
 {

@@ -2,7 +2,7 @@
 
 use safl_word::Word;
 
-/// A call site: its call has not started, or it runs, or it has returned this word.
+/// The stage of a call site: its call has not started, is running, or has returned this word.
 #[derive(Clone, Copy, Debug, PartialEq, Eq)]
 pub enum Stage {
     Unsent,

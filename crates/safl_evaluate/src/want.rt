@@ -1,4 +1,4 @@
-//! What sites ask for.
+//! What a site asks for.
 
 ghost use Rattle.std.specs.Prelude.{◌≡◌, ◌≤◌, None, Some, IfSome, is_some, length};
 
@@ -23,7 +23,7 @@ impl Model for Want {
 }
 
 impl Want {
-    /// A site that is not wanted.
+    /// The want of a site that is not wanted.
     pub fn new() -> Want
         ensures { result ≡ None }
     {
@@ -33,7 +33,7 @@ impl Want {
         }
     }
 
-    /// The site is wanted with these words.
+    /// Notes that the site is wanted with these words.
     pub fn ask(&mut self, words: &[Word])
         requires { length words.now ≤ 16 }
         ensures { self.new ≡ Some words.now }
@@ -42,7 +42,7 @@ impl Want {
         self.is_wanted = true;
     }
 
-    /// The site is not wanted.
+    /// Notes that the site is not wanted.
     pub fn forget(&mut self)
         ensures { self.new ≡ None }
     {

@@ -1,12 +1,12 @@
-//! What the sites ask for.
+//! What all sites ask for.
 
 ghost use Rattle.std.specs.Prelude.{◌≡◌, ◌<◌, ◌≤◌, Some, length, min, max, slice_set};
 
 use crate::want::Want;
 use safl_word::Word;
 
-/// The words with which each site is wanted, if it is, and numbers between which all sites are that were asked for since
-/// `begin`.
+/// The words with which each site is wanted, if it is. Beside them are two numbers: all sites that were asked for since
+/// `begin` lie between them.
 #[derive(Drop)]
 pub struct Wants {
     pub each: Vec<Want>,
@@ -17,7 +17,7 @@ pub struct Wants {
 impl Wants {
     ghost use Rattle.std.specs.Prelude.{◌≡◌, ◌<◌, ◌≤◌, Some, length, min, max, slice_set};
 
-    /// These sites, of which none was asked for.
+    /// The wants of these sites. None has been asked for since `begin`.
     pub fn new(each: Vec<Want>) -> Wants
         ensures { result.each.items ≡ each.items }
     {
@@ -28,7 +28,7 @@ impl Wants {
         }
     }
 
-    /// From now on it is noted anew which sites are asked for.
+    /// Starts to note anew which sites are asked for.
     pub fn begin(&mut self)
         ensures { self.new.each.items ≡ self.old.each.items }
     {
@@ -36,7 +36,7 @@ impl Wants {
         self.last = 0;
     }
 
-    /// The site is wanted with these words.
+    /// Notes that site `k` is wanted with these words.
     pub fn ask(&mut self, k: u32, words: &[Word])
         requires site { k < length self.old.each.items }
         requires few { length words.now ≤ 16 }

@@ -1,11 +1,11 @@
--- The text of a source that is made from draws.
+-- The text of a generated source.
 use Rattle.std.specs.Prelude.{ℕ, zero, suc, ◌+◌, ◌-◌, ◌*◌, ◌%◌, ◌++◌, List, map, codes, decimal, nat_lt, if◌then◌else◌}
 use Rattle.std.specs.List.{concat, range_with_len}
 
 abbrev pub Text : Type 0
 Text = List ℕ
 
--- The bodies of the first four functions, with a number k. Function i calls none but itself
+-- the bodies of the first four functions, with a constant k. Function i calls at most itself
 abbrev pub scaled_sum : ℕ → Text
 scaled_sum k = codes "x + y * " ++ decimal k
 
@@ -20,7 +20,7 @@ first_body zero i k = scaled_sum k
 first_body (suc zero) i k = halving i k
 first_body (suc (suc form)) i k = masked_sum k
 
--- The bodies of the others, with a number k. They call the function before, p, and one of the first four, j
+-- the bodies of the other functions, with a constant k. They call the function before them, p, and one of the first four, j
 abbrev pub sum_of_calls : ℕ → ℕ → ℕ → Text
 sum_of_calls p j k = codes "f" ++ decimal p ++ codes "(x + " ++ decimal k ++ codes ", y) + f" ++ decimal j ++ codes "(x, y)"
 
@@ -41,7 +41,7 @@ later_body (suc zero) p j k = call_in_call p j k
 later_body (suc (suc zero)) p j k = bound_call p j k
 later_body (suc (suc (suc form))) p j k = compared_call p j k
 
--- the number k is 1 to 16, and j is one of the first four functions
+-- the constant k, from 1 to 16; and j, one of the first four functions
 abbrev pub constant_of : ℕ → ℕ
 constant_of d = d % 16 + 1
 
@@ -62,10 +62,10 @@ function_line i form constant first =
 abbrev pub main_line : ℕ → Text
 main_line last = codes "fun main(a:16, b:16):16 = f" ++ decimal last ++ codes "(a, b)\n"
 
--- each function has three draws
+-- the line of function i, made from its three draws
 abbrev pub drawn_line : (ℕ → ℕ) → ℕ → Text
 drawn_line draws i = function_line i (draws (3 * i)) (draws (3 * i + 1)) (draws (3 * i + 2))
 
--- The source of so many functions, and of main, which calls the last of them
+-- the source with so many functions, and with main, which calls the last of them
 abbrev pub source : (ℕ → ℕ) → ℕ → Text
 source draws count = concat (map (drawn_line draws) (range_with_len 0 count)) ++ main_line (count - 1)

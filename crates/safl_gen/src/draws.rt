@@ -1,9 +1,9 @@
-//! The draws of a seed.
+//! Pseudo-random draws from a seed.
 
 ghost use Rattle.std.specs.Prelude.{◌≡◌, ◌/◌, ◌<◌, ◌^◌};
 ghost use Rattle.safl_gen.specs.Draws.{number_after};
 
-/// The number of a seed after which the next draw comes.
+/// A sequence of draws: the number that the next draw follows from.
 #[derive(Drop)]
 pub struct Draws {
     pub number: u32,
@@ -14,7 +14,7 @@ impl Draws {
     ghost use Rattle.std.specs.Prelude.{◌≡◌, ◌/◌, ◌%◌, ◌^◌};
     ghost use Rattle.safl_gen.specs.Draws.{number_after};
 
-    /// The draws of a seed.
+    /// The draws that follow from a seed.
     pub fn new(seed: u64) -> Draws
         ensures { result.number ≡ seed % 2 ^ 31 }
     {
@@ -34,7 +34,7 @@ impl Draws {
     }
 }
 
-/// What is drawn for a function.
+/// The three draws that make a function.
 #[derive(Drop)]
 pub struct Drawn {
     pub form: u32,
@@ -42,7 +42,7 @@ pub struct Drawn {
     pub first: u32,
 }
 
-/// Three draws, for the next function.
+/// The draws for the next function.
 pub fn draw_function(draws: &mut Draws) -> Drawn
     ensures form { result.form ≡ number_after draws.old.number / 65536 }
     ensures constant { result.constant ≡ number_after (number_after draws.old.number) / 65536 }

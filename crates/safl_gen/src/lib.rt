@@ -1,4 +1,4 @@
-//! Sources of any length, each made from a number.
+//! Random sources of any length, each made from a seed.
 #![tactic(auto)]
 
 mod draws;

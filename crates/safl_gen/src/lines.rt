@@ -1,4 +1,4 @@
-//! The lines of a source.
+//! The lines of a generated source.
 
 ghost use Rattle.std.specs.Prelude.{◌≡◌, ◌<◌, ◌++◌, OnOk, string_bytes};
 ghost use Rattle.safl_gen.specs.Source.{first_body, scaled_sum, halving, masked_sum, later_body, sum_of_calls, call_in_call, bound_call, compared_call, body, function_line, main_line};
@@ -6,7 +6,7 @@ ghost use Rattle.safl_gen.specs.Source.{first_body, scaled_sum, halving, masked_
 use crate::draws::Drawn;
 use std::alloc::AllocError;
 
-/// Appends the definition of function i.
+/// Appends the definition of function `i`.
 pub fn push_function(out: &mut String, i: u32, drawn: &Drawn) -> Result<(), AllocError>
     ensures { OnOk result (string_bytes out.new ≡ string_bytes out.old ++ function_line i drawn.now.form drawn.now.constant drawn.now.first) }
 {
@@ -96,7 +96,7 @@ fn push_compared_call(out: &mut String, p: u32, j: u32, k: u32) -> Result<(), Al
     write!(out, "if f{j}(x, {k}) == y then x else f{p}(y, x + {k})")
 }
 
-/// Appends the definition of main, which calls the function of that number.
+/// Appends the definition of main, which calls function `last`.
 pub fn push_main(out: &mut String, last: u32) -> Result<(), AllocError>
     ensures { OnOk result (string_bytes out.new ≡ string_bytes out.old ++ main_line last) }
 {

@@ -1,4 +1,4 @@
-//! Whole sources.
+//! Whole generated sources.
 
 ghost use Rattle.std.specs.Prelude.{◌≡◌, ◌<◌, ◌≤◌, ◌↔◌, ◌⊎◌, Err, IfOk, length, string_bytes};
 ghost use Rattle.safl_word.specs.declared.word.TheConstants.{SOURCE_MAX};
@@ -9,10 +9,10 @@ use crate::draws::{Draws, draw_function};
 use crate::lines::{push_function, push_main};
 use std::alloc::{AllocError, Global};
 
-/// The most functions of a source, besides main.
+/// The greatest number of functions of a source, besides main.
 pub const COUNT_MAX: u32 = 900;
 
-/// Why no source is made.
+/// Why a source is not generated.
 #[derive(Clone, Copy, Debug, PartialEq, Eq, thiserror::Error)]
 pub enum GenErr {
     #[error("the number of functions is not 1 to 900")]
@@ -21,8 +21,8 @@ pub enum GenErr {
     NoMemory,
 }
 
-/// The source that this seed and this number of functions make, which is no longer than a source may be. Count exactly
-/// where the number is not 1 to `COUNT_MAX`.
+/// The source for a seed and a number of functions. It is no longer than a source may be. `Count` comes exactly if the
+/// number is not 1 to `COUNT_MAX`.
 pub fn generate(alloc: Global, seed: u64, count: u32) -> Result<Vec<u8>, GenErr>
     ensures source { IfOk result (λ text. text.items ≡ source (draw seed) count) }
     ensures short { IfOk result (λ text. length text.items ≤ SOURCE_MAX) }

@@ -1,4 +1,4 @@
--- What is claimed of sets of codes.
+-- The laws of sets of codes.
 use Rattle.std.specs.Prelude.{◌≡◌, ℕ, true, false}
 use Rattle.safl_grammar.specs.Sets.{Set, within, subset, apart, union}
 

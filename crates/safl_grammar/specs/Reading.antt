@@ -1,4 +1,4 @@
--- Reading tokens from left to right: the value and what is left, or the first fault and what is left there.
+-- Reading tokens from left to right. A reader gives a value and the rest, or the first fault and the rest there.
 use Rattle.std.specs.Prelude.{ℕ, zero, suc, List, [], ◌∷◌, length, Option, Some, None, Result, Ok, Err, Bool, if◌then◌else◌}
 use Rattle.safl_grammar.specs.Syntax.{Rule, Deep, Unexpected}
 
@@ -9,7 +9,7 @@ Read T A = Result (A × List T) (Rule × List T)
 abbrev pub Reading : Type 0 → Type 0 → Type 0
 Reading T A = List T → Read T A
 
--- go on from what was read
+-- goes on with what was read
 infixl 10 ◌>>=◌
 abbrev pub ◌>>=◌ : {T A B : Type 0} → Read T A → (A × List T → Read T B) → Read T B
 (Ok x) >>= f = f x
@@ -40,19 +40,19 @@ read_limited rule fits class w = read_token class w >>= checked rule fits w
 abbrev pub read_follows : {T A B : Type 0} → Reading T A → (A → Reading T B) → Reading T B
 read_follows p q w = p w >>= λ x. q x.0 x.1
 
--- the test on the next token chooses
+-- a test on the next token chooses between two readers
 abbrev pub read_either : {T A : Type 0} → (Option T → Bool) → Reading T A → Reading T A → Reading T A
 read_either g p q w = if g (head_of w) then p w else q w
 
--- turns go on while the test holds of the next token; a number bounds them
+-- repeats a reader as long as the test holds for the next token, at most so many times
 abbrev pub read_turns : {T A : Type 0} → ℕ → (Option T → Bool) → (A → Reading T A) → A → Reading T A
 read_turns zero g go a w = Ok (a, w)
 read_turns (suc k) g go a w = if g (head_of w) then (go a w >>= λ x. read_turns k g go x.0 x.1) else Ok (a, w)
 
--- more turns than there are tokens are never made
+-- repeats a reader as long as the test holds for the next token. More turns than tokens are never made
 unfoldable pub read_many : {T A : Type 0} → (Option T → Bool) → (A → Reading T A) → A → Reading T A
 read_many g go a w = read_turns (suc (length w)) g go a w
 
--- no level is left
+-- the fault that no level of nesting is left
 abbrev pub read_below : {T A : Type 0} → Reading T A
 read_below w = Err (Deep, w)

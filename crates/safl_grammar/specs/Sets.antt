@@ -1,4 +1,4 @@
--- Sets of codes of tokens, which compute.
+-- Sets of codes of tokens, with which one can compute.
 use Rattle.std.specs.Prelude.{ℕ, List, [], ◌∷◌, ◌++◌, Bool, true, false, ◌==◌, if◌then◌else◌}
 
 pub data Set : Type 0 where
@@ -17,7 +17,7 @@ abbrev pub all_in : List ℕ → List ℕ → Bool
 all_in [] ys = true
 all_in (x ∷ xs) ys = if member x ys then all_in xs ys else false
 
--- each code of the first is one of the second
+-- whether each code of the first set is in the second
 abbrev pub subset : Set → Set → Bool
 subset A Every = true
 subset Every (Only ys) = false
@@ -32,12 +32,12 @@ abbrev pub none_in : List ℕ → Set → Bool
 none_in [] B = true
 none_in (x ∷ xs) B = if within B x then false else none_in xs B
 
--- no code is in both
+-- whether no code is in both sets
 abbrev pub apart : Set → Set → Bool
 apart Every B = false
 apart (Only xs) B = none_in xs B
 
--- the second as well, where the test holds
+-- the first set, and the second as well if the test holds
 abbrev pub union_if : Bool → Set → Set → Set
 union_if true A B = union A B
 union_if false A B = A

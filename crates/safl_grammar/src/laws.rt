@@ -1,18 +1,18 @@
-//! Laws of the sets of codes by which a reader looks ahead.
+//! Laws of the sets of codes that a reader compares the next token with.
 
 ghost use Rattle.safl_grammar.specs.Laws.{SubsetsHold, ApartShareNone, UnionsHoldBoth};
 
-/// A code within a subset is within the set.
+/// Each code of a subset is in the set.
 pub fn subset_law()
     ensures { SubsetsHold }
 {}
 
-/// Sets that are apart share no code.
+/// Two disjoint sets share no code.
 pub fn apart_law()
     ensures { ApartShareNone }
 {}
 
-/// A union holds what either set holds.
+/// A union has exactly the codes of both sets.
 pub fn union_law()
     ensures { UnionsHoldBoth }
 {}

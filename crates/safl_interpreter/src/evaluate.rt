@@ -1,4 +1,4 @@
-//! Evaluation, by recursion over terms. Tail calls are made by a loop.
+//! Evaluation by recursion over terms. Tail calls are made by a loop.
 
 ghost use Rattle.std.specs.Prelude.{◌≡◌, ◌<◌, IfOk};
 ghost use Rattle.safl_term.specs.Checked.{IsChecked};
@@ -11,7 +11,7 @@ use safl_term::{Checked, Term};
 use safl_word::{NoMemory, Word, apply};
 use std::alloc::Global;
 
-/// What a function gives on these arguments, where so many calls are left.
+/// The result of function `f` on these arguments, with a budget of `left` calls. None if the budget does not suffice.
 #[cycle(evaluate)]
 pub fn call(
     alloc: Global,
@@ -42,7 +42,7 @@ pub fn call(
     Ok(None)
 }
 
-// What a term comes to where the slots hold the words of `env`.
+// Evaluates a term whose slots hold the words of `env`, with a budget of `left` calls.
 #[cycle(evaluate)]
 fn evaluate(alloc: Global, c: &Checked, env: &[Word], t: &Term, left: u32) -> Result<Step, NoMemory>
     requires checked { IsChecked c.now }
@@ -88,7 +88,7 @@ fn evaluate(alloc: Global, c: &Checked, env: &[Word], t: &Term, left: u32) -> Re
     }
 }
 
-// The word of a term, where it has one with so many calls.
+// The word of a term. None if the budget of `left` calls does not suffice.
 #[cycle(evaluate)]
 fn value(
     alloc: Global,
@@ -108,7 +108,7 @@ fn value(
     }
 }
 
-// The words of some terms, where each has one; what one leaves is given to the next.
+// The words of several terms. Each gets what the term before it leaves of the budget; None if that does not suffice.
 #[cycle(evaluate)]
 fn values(
     alloc: Global,

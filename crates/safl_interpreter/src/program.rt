@@ -10,12 +10,12 @@ use safl_term::Checked;
 use safl_word::{NoMemory, Word};
 use std::alloc::Global;
 
-/// Main's word on these arguments and how many calls are left of the budget, where the evaluation makes at most
-/// so many calls, the call of main included; else none.
+/// The result of main on these arguments, and how many calls are left of the budget. None if the evaluation makes more
+/// calls than the budget, the call of main included.
 ///
 /// # Errors
 ///
-/// There is no memory left.
+/// Out of memory.
 pub fn interpret(
     alloc: Global,
     c: &Checked,

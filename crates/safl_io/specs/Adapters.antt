@@ -1,4 +1,4 @@
--- Adapters over the system, which tell nothing but their counts.
+-- Adapters over the system, which tell only their counts of faults.
 use Rattle.std.specs.Prelude.{ℕ}
 
 -- how often reading and writing failed

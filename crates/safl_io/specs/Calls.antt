@@ -1,15 +1,15 @@
--- Calls of a shelf or a sink in memory, of which some are to fail.
+-- Calls of a shelf or a sink in memory, some of which are to fail.
 use Rattle.std.specs.Prelude.{ℕ, ◌≡◌, List, [], ◌∷◌, ◌++◌, Contains, Result, Ok, Err}
 use Rattle.safl_io.specs.Counts.{raised}
 use Rattle.safl_io.specs.declared.fault.OutErr.{OutErr}
 use Rattle.safl_io.specs.declared.fault.OutErr.TheVariants.{Failed, NoMemory}
 
--- how many calls there were, and the numbers of those that are to fail
+-- the number of calls so far, and the numbers of those that are to fail
 pub record Calls : Type 0 where
   pub failing : List ℕ
   pub made : ℕ
 
--- the number of the next call; the first one is 1
+-- the number of the next call. The first call has number 1
 abbrev pub next_call : Calls → ℕ
 next_call calls = raised calls.made
 
@@ -17,15 +17,15 @@ next_call calls = raised calls.made
 abbrev pub Fails : Calls → Type 0
 Fails calls = Contains calls.failing (next_call calls)
 
--- after one more call
+-- the calls after one more
 abbrev pub called : Calls → Calls
 called calls = record calls { made = next_call calls }
 
--- before the first call, where none is to fail
+-- no call so far, and none that is to fail
 abbrev pub no_calls : Calls
 no_calls = record { failing = []; made = 0 }
 
--- with one more call that is to fail
+-- the calls with one more that is to fail
 abbrev pub with_failing : ℕ → Calls → Calls
 with_failing call calls = record calls { failing = calls.failing ++ call ∷ [] }
 

@@ -7,7 +7,7 @@ use Rattle.safl_io.specs.declared.stored.StoredFile.{StoredFile}
 abbrev pub pairs_of : List StoredFile → Files
 pairs_of files = map (λ file. (string_bytes file.name, file.bytes.items)) files
 
--- the first of the files with that name stands at that place
+-- the first file with this name is at this place of the list
 pub record IsPlace (files : List StoredFile) (name : List ℕ) (place : ℕ) : Type 0 where
   pub within : place < length files
   pub named : (other : StoredFile) → string_bytes (get_or files place other).name ≡ name

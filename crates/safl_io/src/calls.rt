@@ -1,4 +1,4 @@
-// Calls that are to fail, for shelves and sinks in memory.
+//! Calls that are to fail, for shelves and sinks in memory.
 ghost use Rattle.std.specs.Prelude.{◌≡◌, ◌++◌, ◌≤◌, ◌↔◌, [], ◌∷◌, IsTrue, OnOk, OnErr, Contains};
 ghost use Rattle.safl_io.specs.Counts.{Rose, raised};
 ghost use Rattle.safl_io.specs.Calls.{Calls, Fails, called, no_calls, with_failing};
@@ -6,7 +6,7 @@ ghost use Rattle.safl_io.specs.Calls.{Calls, Fails, called, no_calls, with_faili
 use std::alloc::{AllocError, Global};
 use std::marker::Model;
 
-/// One more fault, or the same count at the end of its type.
+/// A count of faults after one more. It stays at the maximum of its type.
 pub(crate) fn raise(count: u64) -> u64
     ensures raised { result ≡ raised count }
     ensures rose { Rose count result }
@@ -15,7 +15,7 @@ pub(crate) fn raise(count: u64) -> u64
     count.saturating_add(1)
 }
 
-// How many calls there were, and the numbers of those that are to fail.
+// The number of calls so far, and the numbers of the calls that are to fail.
 #[derive(Drop)]
 pub(crate) struct CallPlan {
     failing: Vec<u64>,
@@ -46,7 +46,7 @@ impl CallPlan {
         Ok(())
     }
 
-    /// Counts a call, and answers whether it is to fail.
+    /// Counts a call, and says whether it is to fail.
     pub(crate) fn next_fails(&mut self) -> bool
         ensures fails { IsTrue result ↔ Fails self.old }
         ensures called { self.new ≡ called self.old }

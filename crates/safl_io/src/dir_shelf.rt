@@ -1,4 +1,4 @@
-// A shelf over the files of the system.
+//! A shelf over the system's files.
 ghost use Rattle.std.specs.Prelude.{◌≡◌};
 
 use crate::calls::raise;
@@ -10,14 +10,14 @@ use crate::shelf::Shelf;
 use std::marker::Model;
 use std::rt::Files;
 
-/// A shelf over the files of the system. A name is a path, which the system reads from the current folder.
-/// It tells nothing of what it holds. Each error that the system reports is a counted fault.
+/// A shelf over the system's files. A name is a path, which the system resolves from the current folder. The shelf
+/// tells nothing of what it holds. Each error that the system reports is a counted fault.
 ///
-/// A file is opened once for reads that follow one another, so they are reads of one file, which may be a pipe. It is closed
-/// when its end was read, a read failed or begins elsewhere, or its name is created anew.
+/// A file is opened once for reads that follow one another, so they all read one file, which may be a pipe. It is
+/// closed after its end was read, when a read fails or begins elsewhere, or when its name is created anew.
 ///
-/// Up to 8 files stay open that were created or appended to, each until its name is created anew, an append to it fails, or
-/// the shelf is dropped. All bytes go to the system at once, so a read sees them.
+/// Up to 8 files that were created or appended to stay open, each until its name is created anew, an append to it
+/// fails, or the shelf is dropped. All bytes are passed to the system at once, so a read sees them.
 #[derive(Drop)]
 pub struct DirShelf<'a, R: Files + Alloc> {
     rt: &'a R,
@@ -36,7 +36,7 @@ impl<'a, R: Files + Alloc> Model for DirShelf<'a, R> {
 }
 
 impl<'a, R: Files + Alloc> DirShelf<'a, R> {
-    /// A shelf over the runtime's files, with no faults.
+    /// A shelf over the runtime's files, without faults.
     pub fn new(rt: &'a R) -> Self
         ensures no_faults { result ≡ record { reads = 0; writes = 0 } }
     {

@@ -1,11 +1,11 @@
-// What a call on the outside may answer in place of its result.
+//! Why a call to the outside may fail.
 ghost use Rattle.std.specs.Prelude.{◌≡◌};
 ghost use Rattle.safl_io.specs.declared.fault.OutErr.TheVariants as why;
 
 use std::alloc::AllocError;
 use thiserror::Error;
 
-/// The outside failed. The object that was called has counted it.
+/// A call to the outside failed. The object that was called has counted the fault.
 #[derive(Clone, Copy, Debug, PartialEq, Eq, Error)]
 #[error("reading failed")]
 pub struct Failed;
@@ -13,7 +13,7 @@ pub struct Failed;
 /// Why something could not be written.
 #[derive(Clone, Copy, Debug, PartialEq, Eq, Error)]
 pub enum OutErr {
-    /// The outside failed. The object that was called has counted it.
+    /// The call failed. The object that was called has counted the fault.
     #[error("writing failed")]
     Failed,
     #[error("out of memory")]

@@ -1,4 +1,4 @@
-//! Where sources are read and netlists written: a shelf of named files, and sinks for text.
+//! Input and output: a shelf of named files, and sinks for text.
 #![tactic(auto)]
 
 mod calls;

@@ -1,4 +1,4 @@
-// A shelf in memory, for tests.
+//! A shelf in memory, for tests.
 ghost use Rattle.std.specs.Prelude.{◌≡◌, ◌≤◌, ◌-◌, ◌↔◌, [], length, min, IfOk, IfSome, OnOk, OnErr, IsErr, IsErrOf};
 ghost use Rattle.std.specs.Option.{option_copied};
 ghost use Rattle.safl_io.specs.Counts.{Rose, raised};
@@ -39,7 +39,7 @@ impl Model for MemShelf {
 }
 
 impl MemShelf {
-    /// A shelf with no files, no faults and no call that is to fail.
+    /// A shelf without files and faults. No call is to fail.
     pub fn new(alloc: Global) -> Self
         ensures { result ≡ record {
           files = [];
@@ -58,7 +58,7 @@ impl MemShelf {
         }
     }
 
-    /// Puts a file there, in place of an old one of that name.
+    /// Adds a file, in place of an old one of that name.
     pub fn add(&mut self, name: &str, bytes: &[u8]) -> Result<(), NoMemory>
         ensures added { OnOk result (Leaves name.now bytes.now self.old.files self.new.files) }
         ensures rest { self.new ≡ record self.old { files = self.new.files } }
@@ -68,7 +68,7 @@ impl MemShelf {
         Ok(())
     }
 
-    /// Lists the number of a call of the trait that is to fail. Calls are numbered from 1.
+    /// Lets the call of this number fail. Only calls of the trait are counted, from 1.
     pub fn fail_call(&mut self, call: u64) -> Result<(), NoMemory>
         ensures listed { OnOk result (self.new ≡ record self.old { calls = with_failing call self.old.calls }) }
         ensures same { OnErr result (self.new ≡ self.old) }
@@ -77,7 +77,7 @@ impl MemShelf {
         Ok(())
     }
 
-    /// The bytes of a file, if there is one of that name. This is no call of the trait.
+    /// The bytes of the file of this name, if there is one. This is no call of the trait.
     pub fn file(&self, name: &str) -> Option<&[u8]>
         ensures { option_copied result ≡ file_of self.now.files name.now }
     {
@@ -165,7 +165,7 @@ impl Shelf for MemShelf {
     }
 }
 
-// Copies bytes of a file, from an offset on, to the front of a buffer, and answers how many.
+// Copies the bytes of a file from an offset on to the beginning of a buffer. Returns how many.
 fn copy_from(file: &[u8], at: u64, buf: &mut [u8]) -> usize
     ensures all { result ≡ min (length buf.old) (length file.now - at) }
     ensures read { ReadsFrom at result buf.new file.now }

@@ -1,4 +1,4 @@
-// A sink in memory, for tests.
+//! A sink in memory, for tests.
 ghost use Rattle.std.specs.Prelude.{◌≡◌, ◌≤◌, [], OnOk, OnErr, IsErrOf};
 ghost use Rattle.safl_io.specs.Sink.{Sends, SendsPart};
 ghost use Rattle.safl_io.specs.Calls.{Fails, FailsWhere, CountsFault, called, no_calls, with_failing};
@@ -28,7 +28,7 @@ impl Model for MemSink {
 }
 
 impl MemSink {
-    /// A sink to which nothing was sent, with no faults and no call that is to fail.
+    /// A sink to which nothing was sent, without faults. No call is to fail.
     pub fn new(alloc: Global) -> Self
         ensures { result ≡ record { bytes = []; calls = no_calls; faults = 0 } }
     {
@@ -39,7 +39,7 @@ impl MemSink {
         }
     }
 
-    /// Lists the number of a call of the trait that is to fail. Calls are numbered from 1.
+    /// Lets the call of this number fail. Only calls of the trait are counted, from 1.
     pub fn fail_call(&mut self, call: u64) -> Result<(), NoMemory>
         ensures listed { OnOk result (self.new ≡ record self.old { calls = with_failing call self.old.calls }) }
         ensures same { OnErr result (self.new ≡ self.old) }

@@ -1,4 +1,4 @@
-// Files of the system that stay open from one call of a shelf to the next.
+//! Files of the system that stay open from one call of a shelf to the next.
 ghost use Rattle.std.specs.Prelude.{◌≤◌, length, IfOk};
 
 use crate::transfer::{read_once, write_whole};
@@ -9,16 +9,16 @@ use std::io::{ErrorKind, Seek, SeekFrom};
 use std::rt::Files;
 use std::{fs, io};
 
-// The bytes of the longest path that the system opens.
+// The length in bytes of the longest path that the system opens.
 const PATH_MAX: usize = 4095;
 
-// How many written files stay open at most.
+// How many written files stay open, at most.
 const WRITTEN_MAX: usize = 8;
 
-/// A file that is being read.
+/// The file that is being read.
 #[derive(Drop)]
 pub(crate) struct ReadFile<F> {
-    // It stands in the value itself, so that no read asks for memory.
+    // Held in the value itself, so that no read takes memory.
     name: ArrayString<PATH_MAX>,
     file: F,
     at: u64,
@@ -36,8 +36,8 @@ pub(crate) type WrittenFiles<R> = Vec<
     <R as Alloc>::A,
 >;
 
-/// Goes on in the file that is being read if its next byte is the one at this place, and else opens the file of this name.
-/// The file stays open until a read finds its end or fails.
+/// Goes on with the file that is being read if this is its name and its next byte is the one at `at`; otherwise opens
+/// the file of this name. The file stays open until a read finds its end or fails.
 pub(crate) fn read_on<R: Files>(
     rt: &R,
     reading: &mut Option<ReadFile<R::File>>,
@@ -59,14 +59,14 @@ pub(crate) fn read_on<R: Files>(
     Ok(count)
 }
 
-/// Closes the file that is being read if it has this name.
+/// Closes the file that is being read if this is its name.
 pub(crate) fn stop_reading<F: Drop>(reading: &mut Option<ReadFile<F>>, name: &str) {
     if matches!(reading, Some(open) if open.name.as_str() == name) {
         *reading = None;
     }
 }
 
-// A pipe is opened at its beginning only, as it can't seek.
+// Opens a file for reading from `at` on. At 0 it does not seek, since a pipe cannot.
 fn open_at<R: Files>(rt: &R, name: &str, at: u64) -> io::Result<ReadFile<R::File>> {
     let Ok(own_name) = ArrayString::from(name) else {
         return Err(io::Error::from(ErrorKind::InvalidInput));
@@ -82,8 +82,8 @@ fn open_at<R: Files>(rt: &R, name: &str, at: u64) -> io::Result<ReadFile<R::File
     })
 }
 
-/// A new file of this name, or an old one with nothing left in it, for writing at its end.
-/// Only a file with a length of its own is cut: a pipe or a terminal is taken as it is.
+/// Opens a new file, or an old one with its contents removed, for writing at its end. Only a file with a length of its
+/// own is cut: a pipe or a terminal is taken as it is.
 pub(crate) fn open_empty<R: Files>(rt: &R, name: &str) -> io::Result<R::File> {
     let file = OpenOptions::new().append(true).create(true).open(rt, name)?;
     if file.metadata()?.is_file() {
@@ -92,7 +92,7 @@ pub(crate) fn open_empty<R: Files>(rt: &R, name: &str) -> io::Result<R::File> {
     Ok(file)
 }
 
-/// Writes at the end of a file, which stays open if there is memory for its entry.
+/// Writes at the end of a file. The file stays open if there is memory to note it.
 pub(crate) fn append_to_file<R: Files + Alloc>(
     rt: &R,
     written: &mut WrittenFiles<R>,
@@ -108,7 +108,7 @@ pub(crate) fn append_to_file<R: Files + Alloc>(
     Ok(())
 }
 
-/// Keeps a written file open, in place of the oldest one if there are as many as may be.
+/// Keeps a written file open, in place of the oldest one if there are as many as allowed.
 pub(crate) fn keep<R: Files + Alloc>(
     rt: &R,
     written: &mut WrittenFiles<R>,
@@ -123,7 +123,7 @@ pub(crate) fn keep<R: Files + Alloc>(
     Ok(())
 }
 
-/// Closes the written file of a name.
+/// Closes the written file of this name.
 pub(crate) fn forget<F: Drop, A: Allocator>(written: &mut Vec<WrittenFile<F, A>, A>, name: &str) {
     written.retain(|open| open.name.as_str() != name);
 }

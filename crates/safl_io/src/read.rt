@@ -1,4 +1,4 @@
-// Whole files, read from a shelf.
+//! Reading whole files from a shelf.
 ghost use Rattle.std.specs.Prelude.{◌≡◌, ◌≤◌, ◌<◌, ◌+◌, length, IfOk, IfSome, OnOk, IsErrOf};
 ghost use Rattle.safl_io.specs.Counts.{Rose};
 ghost use Rattle.safl_io.specs.Shelf.{IsStray, SameFiles};
@@ -15,7 +15,7 @@ const PIECE: usize = 65_536;
 /// Why a file could not be read.
 #[derive(Clone, Copy, Debug, PartialEq, Eq)]
 pub enum ReadErr {
-    /// The shelf failed, and has counted it.
+    /// The shelf failed, and has counted the fault.
     Failed,
     /// The file has more bytes than the limit.
     TooLong,
@@ -71,7 +71,7 @@ fn zeros(alloc: Global, count: usize) -> Result<Vec<u8>, AllocError>
     vec![in alloc; 0u8; count]
 }
 
-// Reads the next bytes of a file, of which `text` was read so far, and adds them to it.
+// Reads the next bytes of a file and appends them to `text`, which has those before them.
 fn read_more<S: Shelf>(
     shelf: &mut S,
     name: &str,

@@ -1,4 +1,4 @@
-// Named files, as the compiler reads and writes them.
+//! Named files, as the compiler reads and writes them.
 ghost use Rattle.std.specs.Prelude.{◌≡◌, ◌≤◌, [], length, IfOk, IfSome, OnOk, OnErr, IsErrOf};
 ghost use Rattle.safl_io.specs.Counts.{Rose};
 ghost use Rattle.safl_io.specs.Told.{TellsOn};
@@ -8,14 +8,14 @@ use crate::fault::{Failed, OutErr};
 
 /// A shelf of named files.
 ///
-/// A shelf that tells what it holds before a call tells it afterwards too. A call fails only where it counts
-/// a fault, and one that succeeds counts none. A count never falls, and may stand still at 2^64 - 1.
+/// A shelf that tells what it holds goes on to tell it after every call. A call fails only if it counts a fault, and
+/// one that succeeds counts none. A count never falls, and stays at 2^64 - 1 once it is there.
 pub trait Shelf {
-    /// What the shelf tells: the pairs of a name and the bytes of its file, where it tells them, and its counts.
+    /// What the shelf tells: its counts, and the names and bytes of its files if it tells them.
     ghost told: { Self → ShelfState };
 
-    /// Reads bytes of a file, from an offset on, into the front of `buf`, and answers how many.
-    /// Where `buf` isn't empty, it answers 0 only at or past the file's end.
+    /// Reads bytes of a file from offset `at` on to the beginning of `buf`. Returns how many. If `buf` is not empty,
+    /// this is 0 only at or past the file's end.
     fn read_at(&mut self, name: &str, at: u64, buf: &mut [u8]) -> Result<usize, Failed>
         ensures within { IfOk result (λ count. count ≤ length buf.old) }
         ensures read { IfOk result (λ count. IfSome (told self.old).holds (Reads name.now at count buf.new)) }
@@ -24,8 +24,8 @@ pub trait Shelf {
         ensures same_files { SameFiles (told self.old) (told self.new) }
         ensures stray { CountsStray (told self.old).holds name.now (told self.old).strays (told self.new).strays };
 
-    /// Makes an empty file, in place of an old one of that name.
-    /// After an error the old file or an empty one stands there. Other files stay as they were.
+    /// Makes an empty file, in place of an old one of that name. After an error the old file or an empty one is there.
+    /// Other files stay as they were.
     fn create(&mut self, name: &str) -> Result<(), OutErr>
         ensures created { OnOk result (TellsOn (Leaves name.now []) (told self.old).holds (told self.new).holds) }
         ensures not_created { OnErr result (TellsOn (LeavesOldOrEmpty name.now) (told self.old).holds (told self.new).holds) }
@@ -34,8 +34,8 @@ pub trait Shelf {
         ensures same_reads { SameReads (told self.old) (told self.new) }
         ensures same_strays { (told self.new).strays ≡ (told self.old).strays };
 
-    /// Adds bytes at the end of a file. After an error the old bytes and a prefix of the piece stand there.
-    /// Other files stay as they were.
+    /// Appends bytes to a file. After an error the file has its old bytes and a prefix of the new ones. Other files
+    /// stay as they were.
     fn append(&mut self, name: &str, bytes: &[u8]) -> Result<(), OutErr>
         ensures appended { OnOk result (TellsOn (Appends name.now bytes.now) (told self.old).holds (told self.new).holds) }
         ensures not_appended { OnErr result (TellsOn (AppendsPart name.now bytes.now) (told self.old).holds (told self.new).holds) }

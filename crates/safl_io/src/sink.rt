@@ -1,4 +1,4 @@
-// Where lines of text go.
+//! Sinks, to which text is sent.
 ghost use Rattle.std.specs.Prelude.{◌≡◌, ◌≤◌, List, ℕ, Option, OnOk, OnErr, IsErrOf};
 ghost use Rattle.safl_io.specs.Counts.{Rose};
 ghost use Rattle.safl_io.specs.Told.{TellsOn};
@@ -8,10 +8,10 @@ use crate::fault::OutErr;
 
 /// A sink of bytes.
 ///
-/// A sink that tells what was sent before a call tells it afterwards too. A call fails only where it counts
-/// a fault, and one that succeeds counts none. The count never falls, and may stand still at 2^64 - 1.
+/// A sink that tells what was sent goes on to tell it after every call. A call fails only if it counts a fault, and
+/// one that succeeds counts none. The count never falls, and stays at 2^64 - 1 once it is there.
 pub trait Sink {
-    /// What the sink tells: what was sent so far, where it tells it, and how often sending failed.
+    /// What the sink tells: how often sending failed, and what was sent so far if it tells that.
     ghost told: { Self → SinkState };
 
     /// Sends all the bytes. After an error a prefix of them was sent.

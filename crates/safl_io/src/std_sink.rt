@@ -1,4 +1,4 @@
-// A sink over a writer of the system.
+//! A sink over a writer of the system.
 ghost use Rattle.std.specs.Prelude.{◌≡◌, ℕ};
 
 use crate::calls::raise;
@@ -8,8 +8,8 @@ use crate::transfer::write_whole;
 use std::io::Write;
 use std::marker::Model;
 
-/// A sink over a writer. It tells nothing of what was sent. Each error of the writer is a counted fault,
-/// as is a write that takes nothing of a piece that isn't empty.
+/// A sink over a writer. It tells nothing of what was sent. Each error of the writer is a counted fault, and so is a
+/// write that takes no byte of a piece that is not empty.
 #[derive(Drop)]
 pub struct StdSink<W: Write + Drop> {
     writer: W,
@@ -23,7 +23,7 @@ impl<W: Write + Drop> Model for StdSink<W> {
 }
 
 impl<W: Write + Drop> StdSink<W> {
-    /// A sink over the writer, with no faults.
+    /// A sink over the writer, without faults.
     pub fn new(w: W) -> Self
         ensures no_faults { result ≡ 0 }
     {

@@ -1,4 +1,4 @@
-// Files in memory, in the order in which they were made.
+//! Files in memory, in the order in which they were made.
 ghost use Rattle.std.specs.Prelude.{◌≡◌, ◌++◌, [], OnOk, OnErr, IsSome, IsNone, IfSome, IfNone};
 ghost use Rattle.std.specs.Option.{option_copied};
 ghost use Rattle.safl_io.specs.Shelf.{file_of, Leaves, Appends};
@@ -48,7 +48,7 @@ impl StoredFiles {
         }
     }
 
-    /// Puts a file there, in place of an old one of that name.
+    /// Puts a file into the list, in place of an old one of that name.
     pub(crate) fn put(&mut self, name: &str, bytes: &[u8]) -> Result<(), AllocError>
         ensures put { OnOk result (Leaves name.now bytes.now self.old self.new) }
         ensures same { OnErr result (self.new ≡ self.old) }
@@ -64,7 +64,7 @@ impl StoredFiles {
         Ok(())
     }
 
-    /// Adds bytes at the end of a file that is there.
+    /// Appends bytes to a file that is there.
     pub(crate) fn append(&mut self, name: &str, bytes: &[u8]) -> Result<(), AllocError>
         requires { IsSome (file_of self.old name.now) }
         ensures appended { OnOk result (Appends name.now bytes.now self.old self.new) }

@@ -1,10 +1,10 @@
-// Bytes that come from the system and go there.
+//! Reading bytes from the system and writing them to it.
 ghost use Rattle.std.specs.Prelude.{◌≤◌, length, IfOk};
 
 use std::io;
 use std::io::{ErrorKind, Read, Write};
 
-/// Reads once, and again if a signal interrupted it.
+/// Reads once, and again if a signal interrupted the read.
 pub(crate) fn read_once<F: Read>(file: &mut F, buf: &mut [u8]) -> io::Result<usize>
     ensures within { IfOk result (λ count. count ≤ length buf.old) }
 {
@@ -17,7 +17,7 @@ pub(crate) fn read_once<F: Read>(file: &mut F, buf: &mut [u8]) -> io::Result<usi
     Err(io::Error::from(ErrorKind::Interrupted))
 }
 
-/// Writes all the bytes. A write that takes nothing of a piece that isn't empty is an error.
+/// Writes all the bytes. A write that takes no byte of a piece that is not empty is an error.
 pub(crate) fn write_whole<W: Write>(w: &mut W, bytes: &[u8]) -> io::Result<()> {
     let mut rest = bytes;
     while !rest.is_empty() {
@@ -30,7 +30,7 @@ pub(crate) fn write_whole<W: Write>(w: &mut W, bytes: &[u8]) -> io::Result<()> {
     w.flush()
 }
 
-// Writes once, and again if a signal interrupted it.
+// Writes once, and again if a signal interrupted the write.
 fn write_once<W: Write>(w: &mut W, bytes: &[u8]) -> io::Result<usize>
     ensures within { IfOk result (λ count. count ≤ length bytes.now) }
 {

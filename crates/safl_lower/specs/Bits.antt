@@ -7,7 +7,7 @@ use Rattle.safl_lower.specs.declared.parts.Readiness.{Readiness}
 use Rattle.safl_lower.specs.declared.parts.Readiness.TheVariants.{Always, Never, When}
 use Rattle.safl_lower.specs.Sources.{IsSource}
 
--- it is ready, under the valuation
+-- whether it is ready under a valuation
 abbrev pub is_ready : Val → Readiness → Bool
 is_ready v Always = true
 is_ready v Never = false

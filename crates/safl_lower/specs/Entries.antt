@@ -1,4 +1,4 @@
--- The calls and the tail calls of a body, as they are gathered, under a valuation.
+-- The calls and tail calls of a body, as they are collected, under a valuation.
 use Rattle.std.specs.Prelude.{◌≡◌, ℕ, ◌+◌, ◌<◌, ◌≤◌, List, [], ◌∷◌, length, Option, Some, None, true, ◌&&◌, ◌==◌}
 use Rattle.safl_word.specs.Words.{Word}
 use Rattle.safl_term.specs.Readiness.{or_else}
@@ -11,16 +11,16 @@ use Rattle.safl_net.specs.Bits.{on, gate}
 use Rattle.safl_lower.specs.Typing.{Owner}
 use Rattle.safl_lower.specs.Sources.{IsSource, AreSources}
 
--- the words that one call asks site k for
+-- the words with which a call asks for site k
 abbrev pub asks : Val → Want → ℕ → Option (List Word)
 asks v e k = gate ((e.site == k) && on v e.want) (Some (words v e.args.items))
 
--- the words that the first of the calls asks site k for
+-- the words with which the first of the calls to do so asks for site k
 abbrev pub asked : Val → List Want → ℕ → Option (List Word)
 asked v [] k = None
 asked v (e ∷ es) k = or_else (asks v e k) (asked v es k)
 
--- where one tail call goes, and where the first goes that is made
+-- where a tail call goes if it is made; and where the first one goes that is made
 abbrev pub goes : Val → TailCall → Option (ℕ × List Word)
 goes v e = gate (on v e.taken) (Some (e.member, words v e.args.items))
 
@@ -28,7 +28,7 @@ abbrev pub went : Val → List TailCall → Option (ℕ × List Word)
 went v [] = None
 went v (e ∷ es) = or_else (goes v e) (went v es)
 
--- each tail call that is made goes there
+-- every tail call that is made goes there
 abbrev pub Told : Val → List TailCall → Option (ℕ × List Word) → Type 0
 Told v [] x = Unit {0}
 Told v (e ∷ es) x = (on v e.taken ≡ true → Some (e.member, words v e.args.items) ≡ x) × Told v es x
@@ -39,7 +39,7 @@ site_of e = e.site
 abbrev pub member_of : TailCall → ℕ
 member_of e = e.member
 
--- each number is `low` or more, and less than `high`
+-- each number is at least `low` and less than `high`
 abbrev pub Between : ℕ → ℕ → List ℕ → Type 0
 Between low high [] = Unit {0}
 Between low high (k ∷ ks) = (low ≤ k) × (k < high) × Between low high ks
@@ -49,12 +49,12 @@ abbrev pub Mates : Owner → List ℕ → Type 0
 Mates F [] = Unit {0}
 Mates F (h ∷ hs) = (h < F.program.functions) × (F.program.unit h ≡ F.program.unit F.function) × Mates F hs
 
--- a call has a bit, and arguments of its callee's widths
+-- a call has a bit, and arguments of the widths of the called function's parameters
 pub record WantFits (F : Owner) (n : Netlist) (e : Want) : Type 0 where
   pub bit : IsSource n e.want 1
   pub sized : AreSources n e.args.items (F.program.params (F.program.callee e.site))
 
--- a tail call has a bit, and arguments of its member's widths
+-- a tail call has a bit, and arguments of the widths of its function's parameters
 pub record LoopFits (F : Owner) (n : Netlist) (e : TailCall) : Type 0 where
   pub bit : IsSource n e.taken 1
   pub sized : AreSources n e.args.items (F.program.params e.member)
@@ -71,7 +71,7 @@ pub record OutFits (F : Owner) (n : Netlist) (o : Out) : Type 0 where
   pub wants : WantsFit F n o.wants.items
   pub loops : LoopsFit F n o.loops.items
 
--- the most signals that it takes to merge the tail calls: a bit and its arguments for each
+-- the greatest number of signals that merging the tail calls takes: for each its bit and its arguments
 abbrev pub cost : List TailCall → ℕ
 cost [] = 0
 cost (e ∷ es) = 1 + length e.args.items + cost es

@@ -1,4 +1,4 @@
--- What a row of bits, or of loads, is joined to.
+-- What a row of bits or of loads is joined to.
 use Rattle.std.specs.Prelude.{◌≡◌, ℕ, ◌+◌, ◌*◌, ◌≤◌, ◌^◌, ◌++◌, List, map, length, Option, None, Some}
 use Rattle.safl_net.specs.declared.cell.Sig.{Sig}
 use Rattle.safl_net.specs.Netlist.{Netlist}
@@ -11,7 +11,7 @@ use Rattle.safl_lower.specs.Tables.{taken_in, on_in, IsBitIn}
 use Rattle.safl_lower.specs.Rows.{AreBits, on_any, on_two, frees, first_taken, maybe_one}
 use Rattle.safl_lower.specs.Heights.{Within, AllWithin, Stands, load_parts, parts}
 
--- the bit that is 1 where one of a row is; of at most 2 ^ h bits, at most h gates above them
+-- The bit that is 1 if one of the row is. With at most 2^h bits, it is at most h gates above them.
 pub record IsAnyOf (n : Netlist) (row : List Sig) (b : Option Sig) : Type 0 where
   pub fits : IsBitIn n b
   pub shows : (v : Val) → Wired n v → on_in v b ≡ on_any v row
@@ -25,12 +25,12 @@ pub record AddsFrees (old new : Netlist) (row : List Sig) (free : Sig) (before a
   pub shows : (v : Val) → Wired new v → map (on v) after ≡ map (on v) before ++ frees v (on v free) row
   pub height : (from : List Sig) (f h m : ℕ) → Stands old from row free f h m → AllWithin old from m before → AllWithin new from m after
 
--- the first load of a row that is taken; of at most 2 ^ h loads, at most h gates above their bits and words
+-- The first load of the row that is taken. With at most 2^h loads, it is at most h gates above their bits and words.
 pub record IsFirstOf (n : Netlist) (row : List Load) (o : Option Load) : Type 0 where
   pub shows : (v : Val) → Wired n v → taken_in v o ≡ first_taken v row
   pub height : (h : ℕ) → length row ≤ 2 ^ h → AllWithin n (parts row) h (load_parts o)
 
--- whether one bit of a row is 1, and whether two are; of at most 2 ^ h bits, these are at most h and 3 h gates above them
+-- Whether one bit of the row is 1, and whether two are. With at most 2^h bits, these are at most h and 3h gates above them.
 pub record IsSeveralOf (n : Netlist) (row : List Sig) (s : Several) : Type 0 where
   pub any_fits : IsSource n s.any 1
   pub two_fits : IsBitIn n s.two
@@ -39,12 +39,12 @@ pub record IsSeveralOf (n : Netlist) (row : List Sig) (s : Several) : Type 0 whe
   pub height : (h : ℕ) → length row ≤ 2 ^ h → Within n row h s.any.0
   pub two_height : (h : ℕ) → length row ≤ 2 ^ h → AllWithin n row (3 * h) (maybe_one s.two)
 
--- none of an empty row
+-- an empty row has no such bits
 abbrev pub IsSeveralIn : Netlist → List Sig → Option Several → Type 0
 IsSeveralIn n row None = length row ≡ 0
 IsSeveralIn n row (Some s) = IsSeveralOf n row s
 
--- the entry of a number, where there is one
+-- the entry of a number, if there is one
 abbrev pub several_in : Option (Option Several) → Option Several
 several_in None = None
 several_in (Some o) = o

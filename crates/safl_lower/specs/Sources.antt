@@ -6,12 +6,12 @@ use Rattle.safl_net.specs.Names.{IsTidy}
 use Rattle.safl_net.specs.Growth.{width_at, Sized, Grows}
 use Rattle.safl_net.specs.Settled.{IsSteady, AreSteady, Settles}
 
--- an input, a register or a wire with a cell, of this width
+-- the signal is an input, a register or a wire with a cell, of this width
 pub record IsSource (n : Netlist) (s : Sig) (w : ℕ) : Type 0 where
   pub width : width_at n s.0 ≡ Some w
   pub steady : IsSteady n s.0
 
--- such signals, of these widths
+-- the signals are sources of these widths
 pub record AreSources (n : Netlist) (xs : List Sig) (ws : List ℕ) : Type 0 where
   pub widths : Sized n xs ws
   pub steady : AreSteady n xs
@@ -24,7 +24,7 @@ pub record Builds (old new : Netlist) (most : ℕ) : Type 0 where
   pub settles : Settles old new
   pub count : length new.signals ≤ length old.signals + most
 
--- there is room for so many signals
+-- the net has room for so many more signals
 abbrev pub HasRoom : Netlist → ℕ → Type 0
 HasRoom n most = length n.signals + most < 4294967295
 

@@ -4,15 +4,15 @@ use Rattle.safl_term.specs.Program.{Program}
 use Rattle.safl_term.specs.Terms.{Term, Const, Var, Op, If, Let, Call, Loop, Terms, Nil, Cons}
 use Rattle.safl_term.specs.WellFormed.{Spans, SpansAll, HasWidth, HaveWidths}
 
--- a function of a program, whose body's sites are `first` up to `last`
+-- a function of a program, and the sites of its body, which are numbered from `first` up to `last`
 pub record Owner : Type 0 where
   pub program : Program
   pub function : ℕ
   pub first : ℕ
   pub last : ℕ
 
--- in the owner's body, at a tail position or not, the term's sites stand in text order among the body's, and it
--- has this width where the slots have these
+-- In the owner's body, in tail position or not: the sites of the term are in the order of the text, and the term has this width
+-- if the slots have these.
 pub record Typed (F : Owner) (tail : Bool) (slots : List ℕ) (t : Term) (w : ℕ) : Type 0 where
   pub low : ℕ
   pub high : ℕ
@@ -30,7 +30,7 @@ pub record TypedAll (F : Owner) (slots : List ℕ) (ts : Terms) (ws : List ℕ) 
   pub widths : HaveWidths F.program slots ts ws
 
 abbrev mutual
-  -- the sites of a term, each call after its arguments
+  -- the sites of a term, the site of each call after those of its arguments
   pub sites_of : Term → List ℕ
   sites_of (Const w) = []
   sites_of (Var i) = []
@@ -44,7 +44,7 @@ abbrev mutual
   sites_in Nil = []
   sites_in (Cons t ts) = sites_of t ++ sites_in ts
 
--- the members to which the tail calls of a term go
+-- the functions to which the tail calls of a term go
 abbrev pub tails_of : Term → List ℕ
 tails_of (Const w) = []
 tails_of (Var i) = []
@@ -55,7 +55,7 @@ tails_of (Call f k ts) = []
 tails_of (Loop h ts) = h ∷ []
 
 abbrev mutual
-  -- a call or a tail call stands somewhere in the term
+  -- whether the term contains a call or a tail call
   pub holds_calls : Term → Bool
   holds_calls (Const w) = false
   holds_calls (Var i) = false

@@ -1,4 +1,4 @@
-//! Whole bodies.
+//! The circuit of a whole body.
 
 ghost use Rattle.std.specs.Prelude.{◌≡◌, ℕ, ◌<◌, ◌≤◌, [], ◌∷◌, IfOk};
 ghost use Rattle.safl_word.specs.Words.{max_width};
@@ -24,9 +24,9 @@ use safl_term::Checked;
 use safl_word::{NoMemory, Word};
 use std::alloc::{AllocError, Global};
 
-/// The circuit of a function's body between these ports. It adds temporaries alone, at most 32 for each of the body's
-/// terms and 32 more, and they close no loop of cells. The net is tidy before and after. Fails only if out of memory;
-/// some temporaries may then remain in the net.
+/// The circuit of a function's body between these ports. It adds only temporaries, at most 32 for each term of the body
+/// and 32 more, and they close no loop of cells. The net is tidy before and after. Fails only if out of memory; some
+/// temporaries may then remain in the net.
 pub fn lower(
     alloc: Global,
     c: &Checked,
@@ -65,8 +65,8 @@ pub fn lower(
     })
 }
 
-// How a body ends, whose group has results of this width: where it runs and is ready, with its word. One that only
-// makes tail calls has a bit that is 0.
+// The end of a body whose group has results of width `width`: its bit is 1 if the body runs and is ready, and it has
+// the body's word. A body that only makes tail calls is never ready: its bit is 0.
 fn end(alloc: Global, net: &mut Net, run: Sig, width: u8, body: Lowered) -> Result<Load, NoMemory>
     requires run { IsSource net.old run 1 }
     requires some { 1 ≤ width }
@@ -101,7 +101,7 @@ fn one_load(alloc: Global, bit: Sig, value: Sig) -> Result<Load, AllocError>
     Ok(Load { bit, words })
 }
 
-// What stands for the word of a body that only makes tail calls. Nothing reads it.
+// Stands for the word of a body that only makes tail calls. Nothing reads it.
 fn no_value(net: &mut Net, width: u8) -> Result<Sig, NoMemory>
     requires some { 1 ≤ width }
     requires most { width ≤ max_width }

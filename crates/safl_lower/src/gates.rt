@@ -1,4 +1,4 @@
-//! Gates: one temporary each, over signals that may be read.
+//! Gates: one temporary each, over signals that the temporaries of a body may read.
 
 ghost use Rattle.std.specs.Prelude.{◌≡◌, ℕ, ◌+◌, ◌≤◌, ◌&&◌, ◌||◌, List, [], ◌∷◌, ◌++◌, not, cond, false, length, Some, IfOk};
 ghost use Rattle.safl_word.specs.Primitives.{apply_prim};
@@ -16,7 +16,7 @@ use safl_net::{Net, Op, Sig};
 use safl_word::{NoMemory, Primitive, Word};
 use std::alloc::Global;
 
-// The temporary with this cell.
+// Adds a temporary with this cell.
 fn cell(net: &mut Net, op: Op, operands: &[Sig]) -> Result<Sig, NoMemory>
     requires operands { CanOperate net.old (op_width op) operands.now }
     requires room { CanGrow net.old 1 }
@@ -27,7 +27,7 @@ fn cell(net: &mut Net, op: Op, operands: &[Sig]) -> Result<Sig, NoMemory>
     net.temp(op, operands)
 }
 
-/// A word that never changes.
+/// A constant word.
 pub fn constant(net: &mut Net, word: Word) -> Result<Sig, NoMemory>
     requires room { CanGrow net.old 1 }
     ensures built { Builds net.old net.new 1 }
@@ -37,7 +37,7 @@ pub fn constant(net: &mut Net, word: Word) -> Result<Sig, NoMemory>
     cell(net, Op::Const(word), &[])
 }
 
-/// The word of a primitive of which there is a cell: each but `Ext`.
+/// The result of a primitive other than `Ext`, which has no cell.
 pub fn operate(net: &mut Net, primitive: Primitive, operands: &[Sig]) -> Result<Sig, NoMemory>
     requires operands { CanOperate net.old (prim_width primitive) operands.now }
     requires room { CanGrow net.old 1 }
@@ -48,7 +48,7 @@ pub fn operate(net: &mut Net, primitive: Primitive, operands: &[Sig]) -> Result<
     cell(net, Op::Apply(primitive), operands)
 }
 
-/// The bit that never is 1.
+/// The bit that is always 0.
 pub fn zero(net: &mut Net) -> Result<Sig, NoMemory>
     requires room { CanGrow net.old 1 }
     ensures built { Builds net.old net.new 1 }
@@ -58,7 +58,7 @@ pub fn zero(net: &mut Net) -> Result<Sig, NoMemory>
     constant(net, Word::from_low_bits(1, 0))
 }
 
-/// The bit that is 1 where the other is 0.
+/// The bit that is 1 if `a` is 0.
 pub fn inverse(net: &mut Net, a: Sig) -> Result<Sig, NoMemory>
     requires bit { IsSource net.old a 1 }
     requires room { CanGrow net.old 1 }
@@ -70,7 +70,7 @@ pub fn inverse(net: &mut Net, a: Sig) -> Result<Sig, NoMemory>
     operate(net, Primitive::Not, &[a])
 }
 
-/// The bit that is 1 where both are.
+/// The bit that is 1 if `a` and `b` are.
 pub fn both(net: &mut Net, a: Sig, b: Sig) -> Result<Sig, NoMemory>
     requires first { IsSource net.old a 1 }
     requires second { IsSource net.old b 1 }
@@ -83,7 +83,7 @@ pub fn both(net: &mut Net, a: Sig, b: Sig) -> Result<Sig, NoMemory>
     operate(net, Primitive::And, &[a, b])
 }
 
-/// The bit that is 1 where one is.
+/// The bit that is 1 if `a` or `b` is.
 pub fn either(net: &mut Net, a: Sig, b: Sig) -> Result<Sig, NoMemory>
     requires first { IsSource net.old a 1 }
     requires second { IsSource net.old b 1 }
@@ -96,7 +96,7 @@ pub fn either(net: &mut Net, a: Sig, b: Sig) -> Result<Sig, NoMemory>
     operate(net, Primitive::Or, &[a, b])
 }
 
-/// The bit that is 1 if the first is and the second is not.
+/// The bit that is 1 if `a` is 1 and `b` is 0.
 pub fn and_not(net: &mut Net, a: Sig, b: Sig) -> Result<Sig, NoMemory>
     requires first { IsSource net.old a 1 }
     requires second { IsSource net.old b 1 }
@@ -109,7 +109,7 @@ pub fn and_not(net: &mut Net, a: Sig, b: Sig) -> Result<Sig, NoMemory>
     both(net, a, other)
 }
 
-/// The bit that is 1 if the first is or the second is not.
+/// The bit that is 1 if `a` is 1 or `b` is 0.
 pub fn or_not(net: &mut Net, a: Sig, b: Sig) -> Result<Sig, NoMemory>
     requires first { IsSource net.old a 1 }
     requires second { IsSource net.old b 1 }
@@ -122,7 +122,7 @@ pub fn or_not(net: &mut Net, a: Sig, b: Sig) -> Result<Sig, NoMemory>
     either(net, a, other)
 }
 
-/// The word of `a` where `c` is 1, else the word of `b`.
+/// The word `a` if `c` is 1, else `b`.
 pub fn mux(net: &mut Net, c: Sig, a: Sig, b: Sig) -> Result<Sig, NoMemory>
     requires test { IsSource net.old c 1 }
     requires branches { (w : ℕ) × IsSource net.old a w × IsSource net.old b w }
@@ -135,7 +135,7 @@ pub fn mux(net: &mut Net, c: Sig, a: Sig, b: Sig) -> Result<Sig, NoMemory>
     cell(net, Op::Mux, &[c, a, b])
 }
 
-/// The words of `a` where `c` is 1, else those of `b`.
+/// The words `a` if `c` is 1, else the words `b`.
 pub fn mux_all(
     alloc: Global,
     net: &mut Net,
@@ -159,7 +159,7 @@ pub fn mux_all(
     Ok(all)
 }
 
-/// The bit that is 1 where one is, of which the first may not be there.
+/// The bit that is 1 if `a` or `b` is. It is `b` itself if there is no `a`.
 pub fn or_some(net: &mut Net, a: Option<Sig>, b: Sig) -> Result<Sig, NoMemory>
     requires first { IsBitIn net.old a }
     requires second { IsSource net.old b 1 }
@@ -175,7 +175,7 @@ pub fn or_some(net: &mut Net, a: Option<Sig>, b: Sig) -> Result<Sig, NoMemory>
     }
 }
 
-/// The bit that is 1 where the first is, and not the second, where there is one.
+/// The bit that is 1 if `a` is 1 and `b` is 0. It is `a` itself if there is no `b`.
 pub fn and_none(net: &mut Net, a: Sig, b: Option<Sig>) -> Result<Sig, NoMemory>
     requires first { IsSource net.old a 1 }
     requires second { IsBitIn net.old b }

@@ -1,4 +1,4 @@
-//! Which terms hold calls.
+//! Which terms contain calls.
 
 ghost use Rattle.std.specs.Prelude.{◌≡◌};
 ghost use Rattle.safl_term.specs.Tree.{shown_term, shown_terms};
@@ -6,7 +6,7 @@ ghost use Rattle.safl_lower.specs.Typing.{holds_calls, hold_calls};
 
 use safl_term::Term;
 
-/// Whether a call or a tail call stands somewhere in the term.
+/// Whether the term contains a call or a tail call.
 #[cycle(holding)]
 pub fn holds_calls(t: &Term) -> bool
     ensures { result ≡ holds_calls (shown_term t.now) }
@@ -22,7 +22,7 @@ pub fn holds_calls(t: &Term) -> bool
     }
 }
 
-// Whether one of the terms does.
+// Whether one of the terms contains a call or a tail call.
 #[cycle(holding)]
 fn hold_calls(ts: &[Term]) -> bool
     ensures { result ≡ hold_calls (shown_terms ts.now) }

@@ -1,4 +1,4 @@
-//! What a branch, a call and a tail call add to the circuits of their parts.
+//! The gates that a branch, a call or a tail call adds to the circuits of its parts.
 
 ghost use Rattle.std.specs.Prelude.{◌≡◌, ◌⊎◌, true, ℕ, ◌<◌, cond, IfOk, OnOk};
 ghost use Rattle.safl_term.specs.Tree.{shown_term};
@@ -18,15 +18,16 @@ use safl_net::{Net, Sig};
 use safl_term::Term;
 use safl_word::NoMemory;
 
-/// The paths of two branches.
+/// The paths of the two branches of an if.
 #[derive(Clone, Copy)]
 pub struct Paths {
     pub yes: Sig,
     pub no: Sig,
 }
 
-/// The paths of the branches of a test: where the test has its path and is ready, one of them by its word. A branch
-/// that holds no calls asks for nothing: it keeps the test's path, which needs no gates.
+/// The paths of the branches of an if. `path` is that of its test; if it is 1 and the test is ready, the test's word
+/// makes one of the two paths 1. A branch without calls asks for nothing, so it keeps the test's path, which takes no
+/// gates.
 pub fn branch_paths(
     net: &mut Net,
     path: Sig,
@@ -67,8 +68,8 @@ pub fn branch_paths(
     }
 }
 
-/// The path of the body of a let: where the let has its path and the bindings are ready. A body that holds no calls
-/// keeps the let's path.
+/// The path of a let's body: 1 if the let's path is and the bindings are ready. A body without calls keeps the let's
+/// path, which takes no gates.
 pub fn body_path(net: &mut Net, path: Sig, bound: Readiness, body: &Term) -> Result<Sig, NoMemory>
     requires path { IsSource net.old path 1 }
     requires ready { ReadyAt net.old bound }
@@ -84,7 +85,7 @@ pub fn body_path(net: &mut Net, path: Sig, bound: Readiness, body: &Term) -> Res
     }
 }
 
-/// The value and the readiness of a choice.
+/// The value and the readiness of an if, from those of its parts.
 pub fn choose(net: &mut Net, test: Lowered, yes: Lowered, no: Lowered) -> Result<Lowered, NoMemory>
     requires ready { ReadyAt net.old test.ready }
     requires test { IsSource net.old test.value 1 }
@@ -102,7 +103,7 @@ pub fn choose(net: &mut Net, test: Lowered, yes: Lowered, no: Lowered) -> Result
     Ok(Lowered { ready, value })
 }
 
-// The value of a choice: that of the branch that the bit selects, where it is ready.
+// The value of an if: that of the branch that `c` selects, if that branch is ready.
 fn choose_value(net: &mut Net, c: Sig, yes: Lowered, no: Lowered) -> Result<Sig, NoMemory>
     requires test { IsSource net.old c 1 }
     requires branches { (w : ℕ) × Shaped net.old yes w × Shaped net.old no w }
@@ -118,8 +119,8 @@ fn choose_value(net: &mut Net, c: Sig, yes: Lowered, no: Lowered) -> Result<Sig,
     }
 }
 
-/// A call: its want, which is its path where its arguments are ready and it wasn't sent, and what its site
-/// shows.
+/// The circuit of a call: its want, which is 1 if its path is, its arguments are ready and it was not sent; and what
+/// its site shows.
 pub fn ask(
     net: &mut Net,
     out: &mut Out,
@@ -153,7 +154,7 @@ pub fn ask(
     })
 }
 
-/// A tail call, which never is ready. Nothing reads its value.
+/// The circuit of a tail call. It is never ready, and nothing reads its value.
 pub fn go_on(
     net: &mut Net,
     out: &mut Out,

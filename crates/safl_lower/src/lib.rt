@@ -1,5 +1,7 @@
-//! Bodies of functions as circuits, and the gates and trees of which circuits are made: a temporary for each gate, tables of bits
-//! and words by number, to which more is joined one after another, and rows by number, which are joined by halves.
+//! From the bodies of functions to circuits.
+//!
+//! This crate has the gates, one temporary each, and the ways to join them: tables of bits and words, whose entries are
+//! joined one after another, and rows, whose entries are joined by halves.
 #![tactic(auto)]
 
 mod body;

@@ -1,4 +1,6 @@
-//! Bits and words by number, to which those of one number after another are joined: of several the first counts.
+//! Tables of bits and words, to whose entries more are joined one after another.
+//!
+//! Of several loads that are joined, the first that is taken counts.
 
 ghost use Rattle.std.specs.Prelude.{◌≡◌, ℕ, ◌+◌, ◌<◌, ◌++◌, List, ◌∷◌, Some, length, IfOk, OnOk};
 ghost use Rattle.std.specs.Option.{option_or, unwrap_or};
@@ -13,14 +15,14 @@ use safl_net::{Net, Sig};
 use safl_word::NoMemory;
 use std::alloc::Global;
 
-/// Words that are taken where a bit is 1.
+/// Words that are taken if a bit is 1.
 #[derive(Drop)]
 pub struct Load {
     pub bit: Sig,
     pub words: Vec<Sig>,
 }
 
-/// A load of this bit and these words.
+/// The load of this bit and these words.
 pub fn load_of(alloc: Global, bit: Sig, operands: &[Sig]) -> Result<Load, NoMemory>
     ensures bit { IfOk result (λ l. l.bit ≡ bit) }
     ensures operands { IfOk result (λ l. l.words.items ≡ operands.now) }
@@ -29,7 +31,7 @@ pub fn load_of(alloc: Global, bit: Sig, operands: &[Sig]) -> Result<Load, NoMemo
     Ok(Load { bit, words })
 }
 
-/// Joins a bit to that of a number.
+/// Joins a bit to the one at `place`.
 pub fn add_bit(
     net: &mut Net,
     bits: &mut Vec<Option<Sig>>,
@@ -50,7 +52,7 @@ pub fn add_bit(
     Ok(())
 }
 
-/// Joins a load to that of a number: the earlier one wins.
+/// Joins a load to the one at `place`. If both are taken, the earlier one counts.
 pub fn add_load(
     alloc: Global,
     net: &mut Net,
@@ -73,7 +75,7 @@ pub fn add_load(
     Ok(())
 }
 
-/// A load, joined with another that follows it.
+/// A load joined with the one that follows it. If both are taken, the first counts.
 pub fn joined(
     alloc: Global,
     net: &mut Net,
@@ -103,7 +105,7 @@ pub fn joined(
     }
 }
 
-/// The words of a load where it is there and is taken, or else these.
+/// The words of a load if it is there and is taken, else `operands`.
 pub fn load_words(
     alloc: Global,
     net: &mut Net,

@@ -1,4 +1,4 @@
-//! The tail calls of a body, merged by the member that they go to.
+//! The tail calls of a body, merged by the function that they go to.
 
 ghost use Rattle.std.specs.Prelude.{◌+◌, IfOk, OnOk, map};
 ghost use Rattle.safl_net.specs.Names.{IsTidy};
@@ -15,7 +15,8 @@ use safl_net::Net;
 use safl_word::NoMemory;
 use std::alloc::Global;
 
-/// The tail calls to each of `members` members, numbered from `first`; of several to one, the first that is made.
+/// The tail calls to each of the `members` functions from `first` on. Of several to one function, the first that is
+/// made counts.
 pub fn merge(
     alloc: Global,
     net: &mut Net,

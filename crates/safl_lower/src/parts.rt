@@ -1,10 +1,10 @@
-//! What lowering is given, and what it gives.
+//! The ports of a body, and the parts of its circuit.
 
 use crate::loads::Load;
 use safl_net::Sig;
 
-/// The ports of a call site: the bits that say whether its call was sent and whether it has returned, and
-/// the word that it shows then.
+/// The ports of a call site: a bit that says whether its call was sent, one that says whether it has returned, and the
+/// word that the site then shows.
 #[derive(Clone, Copy)]
 pub struct SitePorts {
     pub sent: Sig,
@@ -12,8 +12,8 @@ pub struct SitePorts {
     pub value: Sig,
 }
 
-/// The ports of a body: it runs where `run` is 1, has its parameters on `args`, and finds what its own sites show on
-/// `sites`, by rising number.
+/// The ports of a body. It runs if `run` is 1, has its parameters on `args`, and finds on `sites` what its own sites
+/// show, by rising number.
 #[derive(Drop)]
 pub struct Ports {
     pub run: Sig,
@@ -28,11 +28,12 @@ pub struct SiteTable {
     pub ports: Vec<SitePorts>,
 }
 
-/// The circuit of a body, as loads: words that are taken where a bit is 1.
+/// The circuit of a body, as loads: words that are taken if a bit is 1.
 ///
-/// `end` is taken where the body runs and is ready, with its word. By own site, `wants` is taken where the site is
-/// wanted, with the arguments of its call. By member of the group, `loops` is taken where the body goes on to the
-/// member, with the arguments of the tail call; there is none for a member to which no tail call of the body goes.
+/// `end` has the body's word, and is taken if the body runs and is ready. `wants` has for each own site the arguments
+/// of its call, and is taken if the site is wanted. `loops` has for each function of the group the arguments of the
+/// tail calls to it, and is taken if the body makes one; it has no load for a function to which the body makes no tail
+/// calls.
 #[derive(Drop)]
 pub struct Body {
     pub end: Load,
@@ -40,7 +41,7 @@ pub struct Body {
     pub loops: Vec<Option<Load>>,
 }
 
-/// Where a term is ready: always, as an operator on constants; never, as a tail call; or where a bit is 1.
+/// When a term is ready: always, as an operator on constants; never, as a tail call; or if a bit is 1.
 #[derive(Clone, Copy)]
 pub enum Readiness {
     Always,
@@ -48,21 +49,21 @@ pub enum Readiness {
     When(Sig),
 }
 
-/// A term's readiness, and its value. Where the term never is ready, the value is any signal, of any width.
+/// The readiness and the value of a term. If the term is never ready, the value is any signal, of any width.
 #[derive(Clone, Copy)]
 pub struct Lowered {
     pub ready: Readiness,
     pub value: Sig,
 }
 
-/// The same of a list of terms: all are ready, and their values.
+/// The readiness and the values of several terms: they are ready if all of them are.
 #[derive(Drop)]
 pub struct LoweredAll {
     pub ready: Readiness,
     pub values: Vec<Sig>,
 }
 
-/// A call: its site, the bit that it is wanted, and its arguments.
+/// A call: its site, the bit that is 1 if it is wanted, and its arguments.
 #[derive(Drop)]
 pub struct Want {
     pub site: u32,
@@ -70,7 +71,7 @@ pub struct Want {
     pub args: Vec<Sig>,
 }
 
-/// A tail call: the member that it goes to, the bit that it is made, and its arguments.
+/// A tail call: the function that it goes to, the bit that is 1 if it is made, and its arguments.
 #[derive(Drop)]
 pub struct TailCall {
     pub member: u32,
@@ -78,7 +79,7 @@ pub struct TailCall {
     pub args: Vec<Sig>,
 }
 
-/// The calls and the tail calls so far.
+/// The calls and tail calls found so far.
 #[derive(Drop)]
 pub struct Out {
     pub wants: Vec<Want>,

@@ -1,4 +1,4 @@
-//! Primitives on signals, those of which there is no cell too.
+//! Primitives on signals, including `Ext`, which has no cell.
 
 ghost use Rattle.std.specs.Prelude.{◌≡◌, ℕ, ◌<◌, ◌≤◌, List, Some, IfOk};
 ghost use Rattle.safl_word.specs.Words.{max_width};
@@ -12,7 +12,7 @@ use crate::shifts::shift;
 use safl_net::{Net, Sig};
 use safl_word::{NoMemory, Primitive, Word};
 
-/// The word of a primitive.
+/// The result of a primitive.
 pub fn apply(net: &mut Net, primitive: Primitive, operands: &[Sig]) -> Result<Sig, NoMemory>
     requires sized { CanOperate net.old (result_width primitive) operands.now }
     requires room { CanGrow net.old 5 }
@@ -26,7 +26,7 @@ pub fn apply(net: &mut Net, primitive: Primitive, operands: &[Sig]) -> Result<Si
     }
 }
 
-// The word with zeros before it, `width` bits in all; the word itself where it has as many.
+// The word with zeros above it, `width` bits in all; the word itself if it has that width already.
 fn extend(net: &mut Net, a: Sig, width: u8) -> Result<Sig, NoMemory>
     requires narrow { (w : ℕ) × IsSource net.old a w × (1 ≤ w) × (w ≤ width) }
     requires bounded { width ≤ max_width }

@@ -1,4 +1,4 @@
-//! Readiness, of which most needs no cell.
+//! Readiness of combined terms. Most cases need no cell.
 
 ghost use Rattle.std.specs.Prelude.{◌≡◌, ◌⊎◌, ◌↔◌, ◌<◌, ◌&&◌, cond, IfOk};
 ghost use Rattle.safl_net.specs.Growth.{Val, Wired};
@@ -11,7 +11,7 @@ use crate::parts::Readiness;
 use safl_net::{Net, Sig};
 use safl_word::NoMemory;
 
-/// The bit that is 1 where the first is and the other is ready.
+/// The bit that is 1 if `a` is and `r` is ready.
 pub fn and_ready(net: &mut Net, a: Sig, r: Readiness) -> Result<Sig, NoMemory>
     requires first { IsSource net.old a 1 }
     requires second { ReadyAt net.old r }
@@ -27,7 +27,7 @@ pub fn and_ready(net: &mut Net, a: Sig, r: Readiness) -> Result<Sig, NoMemory>
     }
 }
 
-/// Ready where both are.
+/// Ready if both are.
 pub fn both_ready(net: &mut Net, q: Readiness, r: Readiness) -> Result<Readiness, NoMemory>
     requires first { ReadyAt net.old q }
     requires second { ReadyAt net.old r }
@@ -45,7 +45,7 @@ pub fn both_ready(net: &mut Net, q: Readiness, r: Readiness) -> Result<Readiness
     }
 }
 
-/// Ready where the branch is that the bit selects.
+/// Ready if the branch that `c` selects is.
 pub fn either_ready(
     net: &mut Net,
     c: Sig,

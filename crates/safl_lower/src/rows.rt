@@ -1,4 +1,4 @@
-//! Rows of bits and of loads by number, and what each row is joined to.
+//! Rows of bits and of loads. Each row is collected first and then joined by halves.
 
 ghost use Rattle.std.specs.Prelude.{◌≡◌, ℕ, ◌+◌, ◌*◌, ◌<◌, ◌≤◌, ◌==◌, ◌++◌, List, [], ◌∷◌, cond, length, slice_get, IfOk, OnOk};
 ghost use Rattle.safl_net.specs.Names.{IsTidy};
@@ -13,7 +13,7 @@ use safl_net::{Net, Sig};
 use safl_word::NoMemory;
 use std::alloc::Global;
 
-/// So many rows of bits, all empty.
+/// `count` empty rows of bits.
 pub fn no_rows(alloc: Global, count: u32) -> Result<Vec<Vec<Sig>>, NoMemory>
     ensures count { IfOk result (λ rows. length rows.items ≡ count) }
     ensures bare { IfOk result (λ rows. (i : ℕ) → row_at rows.items i ≡ []) }
@@ -25,7 +25,7 @@ pub fn no_rows(alloc: Global, count: u32) -> Result<Vec<Vec<Sig>>, NoMemory>
     Ok(rows)
 }
 
-/// So many rows of loads, all empty.
+/// `count` empty rows of loads.
 pub fn no_load_rows(alloc: Global, count: u32) -> Result<Vec<Vec<Load>>, NoMemory>
     ensures count { IfOk result (λ rows. length rows.items ≡ count) }
     ensures bare { IfOk result (λ rows. (i : ℕ) → row_at rows.items i ≡ []) }
@@ -37,7 +37,7 @@ pub fn no_load_rows(alloc: Global, count: u32) -> Result<Vec<Vec<Load>>, NoMemor
     Ok(rows)
 }
 
-/// Puts a signal at the end of the row of a number.
+/// Appends a signal to the row at `place`.
 pub fn push_at(rows: &mut Vec<Vec<Sig>>, place: usize, s: Sig) -> Result<(), NoMemory>
     requires place { place < length rows.old.items }
     ensures count { length rows.new.items ≡ length rows.old.items }
@@ -48,7 +48,7 @@ pub fn push_at(rows: &mut Vec<Vec<Sig>>, place: usize, s: Sig) -> Result<(), NoM
     Ok(())
 }
 
-/// Puts a signal, where there is one, at the end of the row of a number.
+/// Appends a signal, if there is one, to the row at `place`.
 pub fn push_some(rows: &mut Vec<Vec<Sig>>, place: usize, s: Option<Sig>) -> Result<(), NoMemory>
     requires place { place < length rows.old.items }
     ensures count { length rows.new.items ≡ length rows.old.items }
@@ -61,7 +61,7 @@ pub fn push_some(rows: &mut Vec<Vec<Sig>>, place: usize, s: Option<Sig>) -> Resu
     }
 }
 
-/// Puts a load at the end of the row of a number.
+/// Appends a load to the row at `place`.
 pub fn push_load(rows: &mut Vec<Vec<Load>>, place: usize, load: Load) -> Result<(), NoMemory>
     requires place { place < length rows.old.items }
     ensures count { length rows.new.items ≡ length rows.old.items }
@@ -72,7 +72,7 @@ pub fn push_load(rows: &mut Vec<Vec<Load>>, place: usize, load: Load) -> Result<
     Ok(())
 }
 
-/// The bit that is 1 where one of these is; none where there are none.
+/// The bit that is 1 if one of these is. None if there are no bits.
 pub fn any_or_none(net: &mut Net, bits: &[Sig]) -> Result<Option<Sig>, NoMemory>
     requires bits { AreBits net.old bits.now }
     requires room { CanGrow net.old (bit_joins bits.now) }
@@ -87,7 +87,7 @@ pub fn any_or_none(net: &mut Net, bits: &[Sig]) -> Result<Option<Sig>, NoMemory>
     Ok(Some(any))
 }
 
-/// The first of these loads that is taken; none where there are none.
+/// The first of these loads that is taken. None if there are no loads.
 pub fn first_or_none(alloc: Global, net: &mut Net, loads: &[Load]) -> Result<Option<Load>, NoMemory>
     requires fits { (ws : List ℕ) × AllFit net.old loads.now ws }
     requires room { CanGrow net.old (load_joins loads.now) }
@@ -103,7 +103,7 @@ pub fn first_or_none(alloc: Global, net: &mut Net, loads: &[Load]) -> Result<Opt
     Ok(Some(first))
 }
 
-/// By number, the bit that is 1 where one of its row is.
+/// For each row, the bit that is 1 if one of the row is.
 pub fn join_bits(
     alloc: Global,
     net: &mut Net,
@@ -124,7 +124,7 @@ pub fn join_bits(
     Ok(bits)
 }
 
-/// By number, the first load of its row that is taken.
+/// For each row, its first load that is taken.
 pub fn join_loads(
     alloc: Global,
     net: &mut Net,
@@ -146,7 +146,7 @@ pub fn join_loads(
     Ok(all)
 }
 
-/// Whether one of these bits is 1, and whether two are; none where there are no bits.
+/// Whether one of these bits is 1, and whether two are. None if there are no bits.
 pub fn several_or_none(net: &mut Net, bits: &[Sig]) -> Result<Option<Several>, NoMemory>
     requires bits { AreBits net.old bits.now }
     requires room { CanGrow net.old (4 * bit_joins bits.now) }
@@ -161,7 +161,7 @@ pub fn several_or_none(net: &mut Net, bits: &[Sig]) -> Result<Option<Several>, N
     Ok(Some(several))
 }
 
-/// By number, whether one bit of its row is 1, and whether two are.
+/// For each row, whether one of its bits is 1, and whether two are.
 pub fn join_several(
     alloc: Global,
     net: &mut Net,

@@ -12,10 +12,10 @@ use crate::gates::{constant, operate};
 use safl_net::{Net, Sig};
 use safl_word::{NoMemory, Primitive, Word};
 
-// The most bits that a cell's amount has. Simulators are known that compute some shifts by wider signals wrongly.
+// The greatest width of the amount in a shift's cell. Some simulators compute shifts by wider signals wrongly.
 const WIDEST_AMOUNT: u8 = 32;
 
-/// The word of a shift, whose cell reads an amount of at most 32 bits.
+/// The result of a shift. The amount in its cell has at most 32 bits.
 pub fn shift(net: &mut Net, primitive: Primitive, operands: &[Sig]) -> Result<Sig, NoMemory>
     requires kind { IsShift primitive }
     requires sized { CanOperate net.old (result_width primitive) operands.now }
@@ -28,8 +28,8 @@ pub fn shift(net: &mut Net, primitive: Primitive, operands: &[Sig]) -> Result<Si
     operate(net, primitive, &[operands[0], amount])
 }
 
-// A signal of at most 32 bits that shifts as `b` does: `b` itself if it is as narrow, and else its low 8 bits, after a
-// bit that is 1 where they do not hold all of it. No word has 256 bits, so that bit moves each bit out.
+// A signal of at most 32 bits that shifts as `b` does. If `b` is not that narrow, it is the low 8 bits of `b` below a
+// bit that is 1 if they are not all of its number. No word has 256 bits, so that bit shifts every bit out.
 fn cut_down(net: &mut Net, b: Sig) -> Result<Sig, NoMemory>
     requires sized { (u : ℕ) × IsSource net.old b u × (1 ≤ u) × (u ≤ max_width) }
     requires room { CanGrow net.old 4 }

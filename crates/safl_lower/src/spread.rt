@@ -1,4 +1,4 @@
-//! The calls of a body, laid out by own site.
+//! The calls of a body, in the order of its sites.
 
 ghost use Rattle.std.specs.Prelude.{ℕ, ◌+◌, ◌<◌, map, IfOk};
 ghost use Rattle.safl_lower.specs.Entries.{site_of, Between};
@@ -9,7 +9,7 @@ use crate::parts::Want;
 use crate::tables::{all_loads, no_loads};
 use std::alloc::{AllocError, Global};
 
-/// The calls of `count` sites, numbered from `first`, each of which is called once.
+/// The calls of the `count` sites from `first` on, each of which has one call.
 pub fn spread(
     alloc: Global,
     first: u32,
@@ -25,7 +25,7 @@ pub fn spread(
     all_loads(alloc, table)
 }
 
-// Each call in its site's place.
+// A table with each call at the place of its site.
 fn placed(
     alloc: Global,
     first: u32,

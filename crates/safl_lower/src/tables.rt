@@ -7,7 +7,7 @@ ghost use Rattle.safl_lower.specs.Tables.{load_in};
 use crate::loads::Load;
 use std::alloc::{AllocError, Global};
 
-/// A table of `count` numbers, none of which has a load.
+/// A table of `count` places without loads.
 pub fn no_loads(alloc: Global, count: usize) -> Result<Vec<Option<Load>>, AllocError>
     ensures size { IfOk result (λ xs. length xs.items ≡ count) }
     ensures none { IfOk result (λ xs. (i : ℕ) → load_in (slice_get xs.items i) ≡ None) }
@@ -19,7 +19,7 @@ pub fn no_loads(alloc: Global, count: usize) -> Result<Vec<Option<Load>>, AllocE
     Ok(loads)
 }
 
-/// The loads of a table, where each number has one.
+/// The loads of a table that has one at every place.
 pub fn all_loads(alloc: Global, table: Vec<Option<Load>>) -> Result<Vec<Load>, AllocError>
     requires { (i : ℕ) → i < length table.items → load_in (slice_get table.items i) ≢ None }
     ensures { IfOk result (λ xs. map (λ (l : load). Some l) xs.items ≡ table.items) }

@@ -1,4 +1,4 @@
-//! Terms as circuits.
+//! The circuits of terms.
 
 ghost use Rattle.std.specs.Prelude.{◌≡◌, ◌*◌, ◌<◌, IfOk, OnOk};
 ghost use Rattle.safl_term.specs.Tree.{shown_term, shown_terms};
@@ -16,7 +16,8 @@ use safl_term::Term;
 use safl_word::NoMemory;
 use std::alloc::Global;
 
-/// The circuit of a term, whose path is `path`; `slots` hold the parameters and the bindings around it.
+/// The circuit of a term. `slots` are the parameters and the bindings around it. `path` is a bit that is 1 only if
+/// control has come to the term.
 #[cycle(terms)]
 pub fn lower_term(
     alloc: Global,
@@ -85,7 +86,7 @@ pub fn lower_term(
     }
 }
 
-// The circuits of a list of terms, all with the same path.
+// The circuits of several terms with the same path.
 #[cycle(terms)]
 fn lower_all(
     alloc: Global,

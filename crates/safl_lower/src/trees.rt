@@ -1,4 +1,4 @@
-//! Trees: bits and loads in a row are joined by halves, so that few gates stand one after another.
+//! Trees of gates: bits and loads are joined by halves, so that few gates follow one another.
 
 ghost use Rattle.std.specs.Prelude.{◌≡◌, ℕ, ◌+◌, ◌*◌, ◌<◌, ◌≤◌, ◌^◌, ◌++◌, List, map, length, Some, IfOk, OnOk};
 ghost use Rattle.safl_net.specs.Names.{IsTidy};
@@ -16,7 +16,7 @@ use safl_net::{Net, Sig};
 use safl_word::NoMemory;
 use std::alloc::Global;
 
-/// The bit that is 1 where one of these is. Of at most 2 ^ h bits, it stands at most h gates above them.
+/// The bit that is 1 if one of these is. With at most 2^h bits, its depth above them is at most h gates.
 pub fn any_of(net: &mut Net, bits: &[Sig]) -> Result<Sig, NoMemory>
     requires some { 0 < length bits.now }
     requires bits { AreBits net.old bits.now }
@@ -37,7 +37,7 @@ pub fn any_of(net: &mut Net, bits: &[Sig]) -> Result<Sig, NoMemory>
     Ok(any)
 }
 
-/// Whether one of several bits is 1, and whether two are, which is not there for one bit alone.
+/// Whether one of several bits is 1, and whether two are. A single bit has no second signal.
 #[derive(Clone, Copy)]
 pub struct Several {
     pub any: Sig,
@@ -72,9 +72,9 @@ pub fn several_of(net: &mut Net, bits: &[Sig]) -> Result<Several, NoMemory>
     })
 }
 
-/// The bit that is 1 where one of these is; and for each of them, that it is free and none before it is 1. Of at most
-/// 2 ^ h bits, the first stands at most h gates above them, and the others at most h gates above `free`, if that stands
-/// h gates or more above them.
+/// The bit that is 1 if one of these is; and for each of them the bit that is 1 if `free` is and none of the bits
+/// before it. With at most 2^h bits, the first result is at most h gates above them. The others are at most h gates
+/// above `free`, if that is h gates or more above the bits.
 pub fn free_before(
     net: &mut Net,
     bits: &[Sig],
@@ -104,8 +104,8 @@ pub fn free_before(
     Ok(any)
 }
 
-/// A load of several, of which the first that is taken counts. Of at most 2 ^ h loads, its bit and its words stand at
-/// most h gates above theirs.
+/// The first of several loads that is taken, as one load. With at most 2^h loads, its bit and words are at most h gates
+/// above theirs.
 pub fn first_of(alloc: Global, net: &mut Net, loads: &[Load]) -> Result<Load, NoMemory>
     requires some { 0 < length loads.now }
     requires fits { (ws : List ℕ) × AllFit net.old loads.now ws }

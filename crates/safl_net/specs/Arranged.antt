@@ -1,8 +1,8 @@
--- In which order the signals of a net stand.
+-- The order of the signals of a net.
 use Rattle.std.specs.Prelude.{◌≡◌, ℕ, List, [], ◌∷◌, ◌++◌, Option}
 use Rattle.safl_net.specs.Netlist.{Netlist, Signal, Cell, Input, Reg, Wire}
 
--- what a signal is
+-- the signal is an input; is a register; is a wire
 abbrev pub IsInput : Signal → Type 0
 IsInput g = g.kind ≡ Input
 
@@ -16,7 +16,7 @@ abbrev pub Each : {X : Type 0} → (X → Type 0) → List X → Type 0
 Each P [] = Unit {0}
 Each P (x ∷ xs) = P x × Each P xs
 
--- the signals stand as inputs, then registers, then wires
+-- the inputs come first, then the registers, then the wires
 pub record IsInOrder (n : Netlist) : Type 0 where
   pub inputs : List Signal
   pub registers : List Signal

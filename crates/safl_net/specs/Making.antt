@@ -1,4 +1,4 @@
--- What the makers of a netlist make, and what the queries show.
+-- Building a netlist, and asking about it.
 use Rattle.std.specs.Prelude.{◌≡◌, ℕ, zero, suc, List, [], ◌∷◌, ◌++◌, map, Option, Some, None, Result, Ok, Err, cond, unwrap_or, slice_get}
 use Rattle.std.specs.Option.{option_or}
 use Rattle.safl_net.specs.declared.cell.Sig.{Sig}
@@ -10,14 +10,14 @@ use Rattle.safl_net.specs.Netlist.{Netlist, Signal, Kind, Input, Reg, Wire, Cell
 use Rattle.safl_net.specs.Names.{is_good, has_name, temp_name, wires}
 use Rattle.safl_net.specs.Widths.{op_width}
 
--- one more signal, and one more output
+-- the net with one more signal; and with one more output
 abbrev pub with_signal : Netlist → Signal → Netlist
 with_signal n g = record { signals = n.signals ++ g ∷ []; outputs = n.outputs }
 
 abbrev pub with_output : Netlist → List ℕ → ℕ → Netlist
 with_output n name s = record { signals = n.signals; outputs = n.outputs ++ (name, s) ∷ [] }
 
--- the signal of a number is of another kind
+-- the signals, with another kind for the one at a place
 abbrev pub set_kind : List Signal → ℕ → Kind → List Signal
 set_kind [] s k = []
 set_kind (g ∷ gs) zero k = record { name = g.name; width = g.width; kind = k } ∷ gs
@@ -37,29 +37,29 @@ cell_on op xs = record { op = op; operands = numbers xs }
 abbrev pub widths : Netlist → List ℕ → List ℕ
 widths n xs = map (width_of n) xs
 
--- a wire with a cell
+-- the signal of a wire with a cell
 abbrev pub wired : List ℕ → ℕ → Cell → Signal
 wired name width c = record { name = name; width = width; kind = Wire (Some c) }
 
--- the width of an operation on signals
+-- the width of an operation on these signals, if they fit
 abbrev pub width_on : Netlist → Op → List Sig → Option ℕ
 width_on n op xs = op_width op (widths n (numbers xs))
 
--- the next temporary: a wire of that cell, named `n$` and its number among the wires
+-- the next temporary: a wire with this cell, named `n$` and its number among the wires
 abbrev pub temporary : Netlist → Op → List Sig → Signal
 temporary n op xs = wired (temp_name (wires n.signals)) (unwrap_or (width_on n op xs) 0) (cell_on op xs)
 
--- why a name is refused: it isn't good, or else it is taken
+-- why a name is refused: it is not good, or it is taken
 abbrev pub refusal : Netlist → List ℕ → Option NetErr
 refusal n name = cond (is_good name) (cond (has_name n name) (Some NameTaken) None) (Some BadName)
 
--- that refusal exactly, and without one nothing but lack of memory
+-- the result is exactly this refusal. If there is none, it may only be out of memory
 abbrev pub Refuses : {A : Type 0} → Option NetErr → Result A NetErr → Type 0
 Refuses (Some e) r = r ≡ Err e
 Refuses None (Ok x) = Unit {0}
 Refuses None (Err e) = e ≡ NoMemory
 
--- the kind and the name of a signal; an input without a name where there is none
+-- the kind of a signal, or an input if there is no signal; and its name, or an empty one
 abbrev pub kind_in : Option Signal → Kind
 kind_in None = Input
 kind_in (Some g) = g.kind
@@ -74,13 +74,13 @@ name_in (Some g) = g.name
 abbrev pub name_at : Netlist → ℕ → List ℕ
 name_at n s = name_in (slice_get n.signals s)
 
--- what a signal is
+-- the kind of a signal, as the code says it
 abbrev pub sort_of : Kind → SigKind
 sort_of Input = SigKind.Input
 sort_of (Reg init next) = SigKind.Reg
 sort_of (Wire cell) = SigKind.Wire
 
--- the next signal of a register, and the cell of a wire
+-- the next signal of a register; and the cell of a wire
 abbrev pub next_in : Kind → Option ℕ
 next_in Input = None
 next_in (Reg init next) = next
@@ -91,6 +91,6 @@ cell_in Input = None
 cell_in (Reg init next) = None
 cell_in (Wire cell) = cell
 
--- the signal of a name, or else what the output of the name shows
+-- the signal with a name, or else the one that the output with that name shows
 abbrev pub found : Netlist → List ℕ → Option ℕ
 found n name = option_or (place n.signals name 0) (output_place n.outputs name)

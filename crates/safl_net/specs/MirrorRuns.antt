@@ -1,4 +1,4 @@
--- Runs with the same inputs.
+-- Runs of two nets with the same inputs.
 use Rattle.std.specs.Prelude.{◌≡◌, ℕ, List, [], ◌∷◌}
 use Rattle.safl_net.specs.Netlist.{Netlist, Signal, Kind, Input, Reg, Wire, AllSet}
 use Rattle.safl_net.specs.Names.{IsTidy}
@@ -17,24 +17,24 @@ numbers_of_inputs [] v = []
 numbers_of_inputs (g ∷ gs) [] = []
 numbers_of_inputs (g ∷ gs) (w ∷ ws) = with_input g.kind w (numbers_of_inputs gs ws)
 
--- the cycles from a state on, in which the inputs have these numbers
+-- the cycles of a run from a state, in which the inputs have these numbers
 abbrev pub Goes : Netlist → (ℕ → ℕ) → List (List ℕ) → List Valuation → Type 0
 Goes n state [] [] = Unit {0}
 Goes n state [] (v ∷ vs) = ⊥
 Goes n state (is ∷ given) [] = ⊥
 Goes n state (is ∷ given) (v ∷ vs) = Fits n state v × (numbers_of_inputs n.signals v ≡ is) × Goes n (next_state n v) given vs
 
--- cycle by cycle
+-- cycle by cycle, the second net shows what the first does
 abbrev pub AllShow : Netlist → Netlist → List Valuation → List Valuation → Type 0
 AllShow n m [] [] = Unit {0}
 AllShow n m [] (w ∷ ws) = ⊥
 AllShow n m (v ∷ vs) [] = ⊥
 AllShow n m (v ∷ vs) (w ∷ ws) = Shows n m v w × AllShow n m vs ws
 
--- for every list of inputs, in each cycle from reset all that isn't temporary has the same number in both
+-- for every list of inputs, in each cycle from reset, all signals but temporary wires have the same number in both nets
 abbrev pub RunsAlike : Netlist → Netlist → Type 0
 RunsAlike n m = (given : List (List ℕ)) (vs ws : List Valuation) → Goes n (reset_state n) given vs → Goes m (reset_state m) given ws → AllShow n m vs ws
 
--- it follows from single cycles
+-- if a net mirrors another in each single cycle, their runs are alike
 abbrev pub MirrorsRunAlike : Type 0
 MirrorsRunAlike = (n m : Netlist) → IsNetlist n → IsNetlist m → IsTidy n → AllSet n → IsAcyclic n → Alike n m → Mirrors n m → RunsAlike n m

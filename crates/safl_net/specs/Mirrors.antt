@@ -1,4 +1,4 @@
--- What a smaller net has of the net from which it was made: all but temporary wires, and all their numbers.
+-- When a net mirrors another: it has all its signals other than temporary wires, and all their numbers.
 use Rattle.std.specs.Prelude.{◌≡◌, ℕ, List, [], ◌∷◌, ◌++◌, map, length, Some, true, false, cond, slice_get, slice_index}
 use Rattle.std.specs.List.{flat_map}
 use Rattle.safl_net.specs.Netlist.{Netlist, Signal, Kind, Input, Reg, Wire, Cell, width_of}
@@ -9,7 +9,7 @@ use Rattle.safl_net.specs.Arranged.{IsInput, IsRegister, IsWire, Each}
 
 -- ---- inputs, registers, named wires and outputs
 
--- a name and its width
+-- a name and a width
 abbrev pub Line : Type 0
 Line = List ℕ × ℕ
 
@@ -28,7 +28,7 @@ wire_line g Input = []
 wire_line g (Reg init next) = []
 wire_line g (Wire cell) = cond (is_temp g.name) [] ((g.name, g.width) ∷ [])
 
--- the inputs; the registers with their numbers at reset; the wires that are not temporary; each in order
+-- the inputs; the registers with their numbers at reset; and the wires that are not temporary; each in order
 abbrev pub inputs_in : Netlist → List Line
 inputs_in n = flat_map (λ g. input_line g g.kind) n.signals
 
@@ -41,14 +41,14 @@ wires_in n = flat_map (λ g. wire_line g g.kind) n.signals
 abbrev pub outputs_in : Netlist → List Line
 outputs_in n = map (λ o. (o.0, width_of n o.1)) n.outputs
 
--- the cell d of m has the operator of the cell c of n and as many operands, and each operand that isn't temporary
--- stands in its place
+-- The cell d of m has the operation of the cell c of n and as many operands. Each operand that is not temporary is the same in
+-- both.
 pub record KeepsCell (n m : Netlist) (c d : Cell) : Type 0 where
   pub op : d.op ≡ c.op
   pub count : length d.operands ≡ length c.operands
   pub operands : (i s t : ℕ) → slice_get c.operands i ≡ Some s → slice_get d.operands i ≡ Some t → is_temp (name_at n s) ≡ false → name_at m t ≡ name_at n s
 
--- the wire of this name is in m, with a cell that keeps that of n
+-- the wire with this name is in m, with a cell that keeps that of n
 pub record KeepsWire (n m : Netlist) (name : List ℕ) (c : Cell) : Type 0 where
   pub number : ℕ
   pub cell : Cell
@@ -66,17 +66,17 @@ pub record Alike (n m : Netlist) : Type 0 where
 
 -- ---- their numbers
 
--- in these cycles of n and m all that isn't temporary has the same number, now and after the cycle
+-- in these cycles of n and m all signals but temporary wires have the same number, now and after the cycle
 pub record Shows (n m : Netlist) (v w : Valuation) : Type 0 where
   pub now : (name : List ℕ) → is_temp name ≡ false → read m w name ≡ read n v name
   pub next : (name : List ℕ) → is_temp name ≡ false → read_next m w name ≡ read_next n v name
   pub outputs : (name : List ℕ) → read_output m w name ≡ read_output n v name
 
--- a valuation fits the state that it shows
+-- the valuation fits the state that it shows itself
 abbrev pub IsCycle : Netlist → Valuation → Type 0
 IsCycle n v = Fits n (slice_index v) v
 
--- each cycle of m, in whatever state and with whatever inputs, shows one of n
+-- each cycle of m, from any state and with any inputs, shows some cycle of n
 abbrev pub Mirrors : Netlist → Netlist → Type 0
 Mirrors n m = (w : Valuation) → IsCycle m w → (v : Valuation) × IsCycle n v × Shows n m v w
 
@@ -88,7 +88,7 @@ IsNamed g = IsWire g × (is_temp g.name ≡ false)
 abbrev pub IsTemp : Signal → Type 0
 IsTemp g = IsWire g × (is_temp g.name ≡ true)
 
--- inputs, then registers, then named wires, then temporary ones
+-- the inputs come first, then the registers, then the named wires, then the temporary ones
 pub record IsLaidOut (n : Netlist) : Type 0 where
   pub inputs : List Signal
   pub registers : List Signal

@@ -3,11 +3,11 @@ use Rattle.std.specs.Prelude.{◌≡◌, ℕ, ◌+◌, List, [], ◌∷◌, Bool
 use Rattle.std.proofs.Common.{bytes_eq}
 use Rattle.safl_net.specs.Netlist.{Netlist, Signal, Kind, Input, Reg, Wire}
 
--- a letter or `_`
+-- the byte is a letter or `_`
 abbrev pub is_start : ℕ → Bool
 is_start b = (nat_le 65 b && nat_le b 90) || (nat_le 97 b && nat_le b 122) || (b == 95)
 
--- a letter, `_`, a digit or `$`
+-- the byte is a letter, `_`, a digit or `$`
 abbrev pub is_part : ℕ → Bool
 is_part b = is_start b || (nat_le 48 b && nat_le b 57) || (b == 36)
 
@@ -15,7 +15,7 @@ abbrev pub are_parts : List ℕ → Bool
 are_parts [] = true
 are_parts (b ∷ bs) = is_part b && are_parts bs
 
--- a simple identifier
+-- the name is a simple identifier
 abbrev pub is_identifier : List ℕ → Bool
 is_identifier [] = false
 is_identifier (b ∷ bs) = is_start b && are_parts bs
@@ -24,17 +24,17 @@ abbrev pub one_of : List (List ℕ) → List ℕ → Bool
 one_of [] name = false
 one_of (k ∷ ks) name = bytes_eq name k || one_of ks name
 
--- the words that name nothing
+-- the reserved words, which cannot be names
 unfoldable pub is_reserved : List ℕ → Bool
 is_reserved name =
     one_of (codes "clk" ∷ codes "rst" ∷ codes "module" ∷ codes "endmodule" ∷ codes "input" ∷ codes "output" ∷ codes "reg" ∷ codes "wire"
     ∷ codes "assign" ∷ codes "always" ∷ codes "posedge" ∷ codes "if" ∷ codes "else" ∷ []) name
 
--- a simple identifier of at most 200 bytes, and no reserved word
+-- the name is a simple identifier of at most 200 bytes, and no reserved word
 unfoldable pub is_good : List ℕ → Bool
 is_good name = is_identifier name && nat_le (length name) 200 && not (is_reserved name)
 
--- a signal or an output has the name
+-- whether a signal has this name; whether a signal or an output has it
 abbrev pub named_signal : List Signal → List ℕ → Bool
 named_signal [] name = false
 named_signal (g ∷ gs) name = bytes_eq name g.name || named_signal gs name
@@ -46,7 +46,7 @@ named_output (o ∷ os) name = bytes_eq name o.0 || named_output os name
 abbrev pub has_name : Netlist → List ℕ → Bool
 has_name n name = named_signal n.signals name || named_output n.outputs name
 
--- the name begins with `n$`
+-- whether a name begins with `n$`
 abbrev pub is_second : List ℕ → Bool
 is_second [] = false
 is_second (b ∷ bs) = b == 36
@@ -55,11 +55,11 @@ abbrev pub is_temp : List ℕ → Bool
 is_temp [] = false
 is_temp (b ∷ bs) = (b == 110) && is_second bs
 
--- `n$` and the number in decimal
+-- the name of a temporary: `n$` and the number in decimal
 abbrev pub temp_name : ℕ → List ℕ
 temp_name i = 110 ∷ 36 ∷ decimal i
 
--- the number of wires
+-- the number of wires of a net
 abbrev pub one_wire : Kind → ℕ
 one_wire Input = 0
 one_wire (Reg init next) = 0
@@ -69,7 +69,7 @@ abbrev pub wires : List Signal → ℕ
 wires [] = 0
 wires (g ∷ gs) = one_wire g.kind + wires gs
 
--- a name that begins with `n$` is that of a wire, by the number of wires before it
+-- A name that begins with `n$` is that of a wire, and the number in it is the number of wires before that wire.
 pub record IsTidy (n : Netlist) : Type 0 where
   pub signals : (s : ℕ) (g : Signal) → slice_get n.signals s ≡ Some g → is_temp g.name ≡ true
       → (one_wire g.kind ≡ 1) × (g.name ≡ temp_name (wires (take s n.signals)))

@@ -1,9 +1,9 @@
--- Netlists: signals in order, each with what it is, and outputs.
+-- Netlists: a list of signals, each with its kind, and a list of outputs.
 use Rattle.std.specs.Prelude.{◌≡◌, ℕ, suc, List, [], ◌∷◌, Option, None, Some, cond, slice_get}
 use Rattle.std.proofs.Common.{bytes_eq}
 use Rattle.safl_net.specs.declared.cell.Op.{Op}
 
--- an operation, and the numbers of the signals on which it works
+-- an operation, and the numbers of its operands
 pub record Cell : Type 0 where
   pub op : Op
   pub operands : List ℕ
@@ -19,12 +19,12 @@ pub record Signal : Type 0 where
   pub width : ℕ
   pub kind : Kind
 
--- an output is a name and the number of a signal
+-- signals, and outputs, which are a name and the number of a signal
 pub record Netlist : Type 0 where
   pub signals : List Signal
   pub outputs : List (List ℕ × ℕ)
 
--- the width of a signal, or 0 where there is none
+-- the width of a signal, or 0 if there is none
 abbrev pub width_in : Option Signal → ℕ
 width_in None = 0
 width_in (Some g) = g.width
@@ -32,7 +32,7 @@ width_in (Some g) = g.width
 abbrev pub width_of : Netlist → ℕ → ℕ
 width_of n s = width_in (slice_get n.signals s)
 
--- a register has a next signal, and a wire a cell
+-- a register has a next signal, and a wire has a cell
 abbrev pub IsSet : Kind → Type 0
 IsSet Input = Unit {0}
 IsSet (Reg init None) = ⊥
@@ -43,7 +43,7 @@ IsSet (Wire (Some c)) = Unit {0}
 abbrev pub AllSet : Netlist → Type 0
 AllSet n = (s : ℕ) (g : Signal) → slice_get n.signals s ≡ Some g → IsSet g.kind
 
--- the place of the first signal of a name, counted from i on
+-- the place of the first signal with a name, counted from i on
 unfoldable pub place : List Signal → List ℕ → ℕ → Option ℕ
 place [] name i = None
 place (g ∷ gs) name i = cond (bytes_eq g.name name) (Some i) (place gs name (suc i))

@@ -1,4 +1,4 @@
--- What holds of every netlist.
+-- The rules that every netlist keeps.
 use Rattle.std.specs.Prelude.{◌≡◌, ℕ, ◌<◌, ◌≤◌, ◌^◌, List, length, true, Some, None, All, slice_get}
 use Rattle.safl_word.specs.Words.{max_width}
 use Rattle.safl_net.specs.Netlist.{Netlist, Signal, Kind, Input, Reg, Wire, Cell, width_of}
@@ -6,13 +6,13 @@ use Rattle.safl_net.specs.Names.{is_good}
 use Rattle.safl_net.specs.Widths.{op_width, HasWord}
 use Rattle.safl_net.specs.Making.{widths}
 
--- the cell gives a word of the width, from signals of the net
+-- the operands of the cell are signals of the net, and its result has this width
 pub record CellFits (n : Netlist) (width : ℕ) (c : Cell) : Type 0 where
   pub known : All (λ s. s < length n.signals) c.operands
   pub gives : op_width c.op (widths n c.operands) ≡ Some width
   pub word : HasWord c.op
 
--- a reset number fits the width, a next signal is one of the net and has the width, and so a cell
+-- the reset number fits the width; the next signal is one of the net and has the width; and the cell has the width
 abbrev pub KindFits : Netlist → ℕ → Kind → Type 0
 KindFits n width Input = Unit {0}
 KindFits n width (Reg init None) = init < 2 ^ width
@@ -26,7 +26,7 @@ pub record SignalFits (n : Netlist) (g : Signal) : Type 0 where
   pub most : g.width ≤ max_width
   pub kind : KindFits n g.width g.kind
 
--- names are good and all different, and signals and outputs are as they may be
+-- names are good and all different, and signals and outputs keep the rules
 pub record IsNetlist (n : Netlist) : Type 0 where
   pub few : length n.signals < 2 ^ 32
   pub few_outputs : length n.outputs < 2 ^ 32

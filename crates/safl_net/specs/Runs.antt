@@ -1,16 +1,16 @@
--- Runs of a netlist: one valuation for each cycle.
+-- Runs of a netlist, with one valuation for each cycle.
 use Rattle.std.specs.Prelude.{◌≡◌, ℕ, List, [], ◌∷◌, Bool, true, false, cond, codes}
 use Rattle.std.proofs.Common.{bytes_eq}
 use Rattle.safl_net.specs.Netlist.{Netlist, Signal, Kind, Input, Reg, Wire}
 use Rattle.safl_net.specs.Valuations.{Valuation, Fits, read, reset_state, next_state}
 
--- an input other than `start`
+-- whether a signal is an input other than `start`
 abbrev pub is_argument : List ℕ → Kind → Bool
 is_argument name Input = cond (bytes_eq name (codes "start")) false true
 is_argument name (Reg init next) = false
 is_argument name (Wire cell) = false
 
--- the numbers of these inputs, in order
+-- the numbers of the inputs other than `start`, in order
 unfoldable pub input_numbers : List Signal → Valuation → List ℕ
 input_numbers [] v = []
 input_numbers (g ∷ gs) [] = []
@@ -19,7 +19,7 @@ input_numbers (g ∷ gs) (w ∷ ws) = cond (is_argument g.name g.kind) (w ∷ in
 abbrev pub start_number : Netlist → Valuation → ℕ
 start_number n v = read n v (codes "start")
 
--- the cycles after the first, from a state: `start` is 0, and the other inputs are free
+-- the cycles of a run after the first one, from a state: `start` is 0, and the other inputs are free
 abbrev pub GoesOn : Netlist → (ℕ → ℕ) → List Valuation → Type 0
 GoesOn n state [] = Unit {0}
 GoesOn n state (v ∷ vs) = Fits n state v × (start_number n v ≡ 0) × GoesOn n (next_state n v) vs

@@ -1,4 +1,4 @@
--- The netlist that a table of signals and a table of outputs hold.
+-- The netlist that the tables of a net hold.
 use Rattle.std.specs.Prelude.{◌≡◌, ℕ, List, map, Option, Some, None, slice_get, String, string_bytes}
 use Rattle.std.specs.declared.alloc.Global.{Global}
 use Rattle.safl_net.specs.declared.cell.Sig.{Sig}
@@ -45,7 +45,7 @@ ResetFits width driver.Input = Unit {0}
 ResetFits width (driver.Reg init next) = init.width ≡ width
 ResetFits width (driver.Wire cell) = Unit {0}
 
--- what a net keeps: its netlist is one, and it knows the number of its wires
+-- what a net keeps: its tables hold a netlist, and it knows how many wires that has
 pub record Keeps (es : List (String Global × Row)) (os : List (String Global × Sig)) (count : ℕ) : Type 0 where
   pub netlist : IsNetlist (net_of es os)
   pub resets : (i : ℕ) (e : String Global × Row) → slice_get es i ≡ Some e → ResetFits e.1.width e.1.driver

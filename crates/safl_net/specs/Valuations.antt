@@ -1,4 +1,4 @@
--- What a netlist means: in each cycle a set of equations, without an order.
+-- The meaning of a netlist: a set of equations for each cycle, without an order.
 use Rattle.std.specs.Prelude.{◌≡◌, ℕ, ◌<◌, ◌^◌, List, [], ◌∷◌, map, length, Option, Some, None, slice_get, slice_index}
 use Rattle.safl_word.specs.Words.{Word, no_word, choose}
 use Rattle.safl_word.specs.Primitives.{apply_prim}
@@ -6,11 +6,10 @@ use Rattle.safl_net.specs.declared.cell.Op.{Op}
 use Rattle.safl_net.specs.declared.cell.Op.TheVariants.{Const, Copy, Mux, Apply}
 use Rattle.safl_net.specs.Netlist.{Netlist, Signal, Kind, Input, Reg, Wire, Cell, width_of, place, output_place}
 
--- a valuation has a number for each signal, in their order
+-- a valuation has a number for each signal, in the order of the signals
 abbrev pub Valuation : Type 0
 Valuation = List ℕ
 
--- the word that a signal has
 abbrev pub signal_word : Netlist → Valuation → ℕ → Word
 signal_word n v s = record { width = width_of n s; bits = slice_index v s }
 
@@ -19,7 +18,7 @@ copied [] = no_word
 copied (a ∷ []) = a
 copied (a ∷ (b ∷ vs)) = no_word
 
--- the second where the first is 1, else the third
+-- the second word if the first is 1, else the third
 abbrev pub chosen : List Word → Word
 chosen (c ∷ a ∷ b ∷ []) = choose c a b
 chosen _ = no_word
@@ -30,15 +29,15 @@ cell_word Copy vs = copied vs
 cell_word Mux vs = chosen vs
 cell_word (Apply p) vs = apply_prim p vs
 
--- what a signal's number must be; inputs and wires without a cell are free
+-- the number that the kind of a signal demands. Inputs and wires without a cell are free
 abbrev pub Holds : Netlist → Valuation → ℕ → ℕ → Kind → Type 0
 Holds n v state w Input = Unit {0}
 Holds n v state w (Reg init next) = w ≡ state
 Holds n v state w (Wire None) = Unit {0}
 Holds n v state w (Wire (Some c)) = w ≡ (cell_word c.op (map (signal_word n v) c.operands)).bits
 
--- The valuation fits a state, which gives the register of each number its number: each signal has a number that
--- fits its width, each register its state, and each wire the value of its cell.
+-- The valuation fits a state, which has a number for each register: each signal has a number that fits its width, each register
+-- its number in the state, and each wire the value of its cell.
 pub record Fits (n : Netlist) (state : ℕ → ℕ) (v : Valuation) : Type 0 where
   pub full : length v ≡ length n.signals
   pub each : (s : ℕ) (g : Signal) → slice_get n.signals s ≡ Some g → (slice_index v s < 2 ^ g.width) × Holds n v (state s) (slice_index v s) g.kind
@@ -70,7 +69,7 @@ next_number v (Some g) = kind_next v g.kind
 abbrev pub next_state : Netlist → Valuation → ℕ → ℕ
 next_state n v s = next_number v (slice_get n.signals s)
 
--- the number at a place, in a valuation and in the state after it
+-- the number at a place of a valuation; and of the state after it
 abbrev pub number_at : Valuation → Option ℕ → ℕ
 number_at v None = 0
 number_at v (Some s) = slice_index v s
@@ -79,7 +78,7 @@ abbrev pub next_at : Netlist → Valuation → Option ℕ → ℕ
 next_at n v None = 0
 next_at n v (Some s) = next_state n v s
 
--- the number of the signal of a name, and the next number of the register of a name
+-- the number of the signal with a name; and the next number of the register with a name
 abbrev pub read : Netlist → Valuation → List ℕ → ℕ
 read n v name = number_at v (place n.signals name 0)
 
@@ -90,7 +89,7 @@ read_next n v name = next_at n v (place n.signals name 0)
 abbrev pub read_output : Netlist → Valuation → List ℕ → ℕ
 read_output n v name = number_at v (output_place n.outputs name)
 
--- the wires can be numbered such that each is above those of its operands that are wires
+-- the wires can be ranked so that each is above those of its operands that are wires
 pub record IsAcyclic (n : Netlist) : Type 0 where
   pub rank : ℕ → ℕ
   pub rises : (s t i : ℕ) (g h : Signal) (c : Cell) (d : Option Cell) → slice_get n.signals s ≡ Some g → g.kind ≡ Wire (Some c)

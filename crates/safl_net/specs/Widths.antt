@@ -1,4 +1,4 @@
--- The width of an operation's word.
+-- The width of an operation's result.
 use Rattle.std.specs.Prelude.{ℕ, List, [], ◌∷◌, Option, Some, None, cond, ◌==◌, ◌&&◌}
 use Rattle.safl_word.specs.Words.{IsWord}
 use Rattle.safl_word.specs.Primitives.{result_width}
@@ -17,7 +17,7 @@ one_operand [] = None
 one_operand (a ∷ []) = Some a
 one_operand (a ∷ (b ∷ ws)) = None
 
--- a condition of width 1, and two of one width
+-- a condition of width 1, and two operands of one width
 abbrev pub mux_operands : List ℕ → Option ℕ
 mux_operands [] = None
 mux_operands (c ∷ []) = None
@@ -25,7 +25,7 @@ mux_operands (c ∷ (a ∷ [])) = None
 mux_operands (c ∷ (a ∷ (b ∷ []))) = cond ((c == 1) && (a == b)) (Some a) None
 mux_operands (c ∷ (a ∷ (b ∷ (d ∷ ws)))) = None
 
--- no cell extends a word: the zeros are put before it by `Cat`
+-- the width of a primitive's cell. `Ext` has no cell: `Cat` puts the zeros before the word
 abbrev pub prim_width : Primitive → List ℕ → Option ℕ
 prim_width (Ext w) ws = None
 prim_width p ws = result_width p ws
@@ -36,7 +36,7 @@ op_width Copy ws = one_operand ws
 op_width Mux ws = mux_operands ws
 op_width (Apply p) ws = prim_width p ws
 
--- the word of a constant is one
+-- the operation is no constant, or its word is one
 abbrev pub HasWord : Op → Type 0
 HasWord (Const w) = IsWord w
 HasWord Copy = Unit {0}

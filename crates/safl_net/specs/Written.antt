@@ -1,4 +1,4 @@
--- The Verilog text of a netlist, byte by byte.
+-- The Verilog text that is written for a netlist, byte by byte.
 use Rattle.std.specs.Prelude.{ℕ, ◌-◌, List, [], ◌∷◌, ◌++◌, None, Some, codes}
 use Rattle.std.specs.List.{flat_map}
 use Rattle.std.specs.Fmt.{decimal}
@@ -12,19 +12,19 @@ use Rattle.safl_net.specs.Making.{name_at}
 abbrev pub Text : Type 0
 Text = List ℕ
 
--- a number of a width: its width, 'd, and its decimal
+-- a sized number: its width, 'd, and its decimal digits
 abbrev pub literal : ℕ → ℕ → Text
 literal width bits = decimal width ++ codes "'d" ++ decimal bits
 
--- the range of a width
+-- the range of bits of a width
 abbrev pub range : ℕ → Text
 range width = codes "[" ++ decimal (width - 1) ++ codes ":0]"
 
--- a declaration, of a keyword, a width and a name
+-- the declaration of a name with a keyword and a width
 abbrev pub declaration : Text → ℕ → Text → Text
 declaration keyword width name = codes "  " ++ keyword ++ codes " " ++ range width ++ codes " " ++ name ++ codes ";\n"
 
--- the sign of an operator of two operands
+-- the symbol of an operator with two operands
 abbrev pub sign : Primitive → Text
 sign Add = codes "+"
 sign Sub = codes "-"
@@ -45,7 +45,7 @@ sign Cat = []
 sign (Bits high low) = []
 sign (Ext width) = []
 
--- an operator on operands of these names
+-- an operator on operands with these names
 abbrev pub two_operands : Text → List Text → Text
 two_operands s (a ∷ b ∷ []) = a ++ codes " " ++ s ++ codes " " ++ b
 two_operands s _ = []
@@ -80,7 +80,7 @@ abbrev pub selected : List Text → Text
 selected (c ∷ a ∷ b ∷ []) = c ++ codes " ? " ++ a ++ codes " : " ++ b
 selected _ = []
 
--- an operation on operands of these names
+-- an operation on operands with these names
 abbrev pub operation : Op → List Text → Text
 operation (Const w) names = literal w.width w.bits
 operation Copy names = plain names
@@ -106,7 +106,7 @@ if_wire Input t = []
 if_wire (Reg init next) t = []
 if_wire (Wire cell) t = t
 
--- a port of the header: each input, and each output
+-- the ports of the header: the inputs, and the outputs
 abbrev pub port : Text → Text
 port name = codes ", " ++ name
 
@@ -116,7 +116,7 @@ input_port g = if_input g.kind (port g.name)
 abbrev pub output_port : List ℕ × ℕ → Text
 output_port o = port o.0
 
--- the declarations
+-- the declarations of signals and outputs
 abbrev pub input_declaration : Signal → Text
 input_declaration g = if_input g.kind (declaration (codes "input") g.width g.name)
 
@@ -145,7 +145,7 @@ wire_assignment n g = cell_assignment n g.name g.kind
 abbrev pub output_assignment : Netlist → List ℕ × ℕ → Text
 output_assignment n o = assignment o.0 (name_at n o.1)
 
--- the update of a register at the clock's edge: its word at reset, and else its next signal
+-- the update of a register at the clock's edge: its word at reset, and otherwise its next signal
 abbrev pub reset : Text → Text → Text
 reset name word = codes "  always @(posedge clk) if (rst) " ++ name ++ codes " <= " ++ word ++ codes "; else "
 
@@ -175,7 +175,7 @@ abbrev pub statements : Netlist → Text
 statements n =
     flat_map (wire_assignment n) n.signals ++ flat_map (output_assignment n) n.outputs ++ flat_map (register_update n) n.signals
 
--- The text: the header with the clock, the reset, inputs and outputs; the declarations of these, then of registers,
--- then of wires; the assignments of wires, then of outputs; the updates of registers.
+-- The whole text: the header with the clock, the reset, inputs and outputs; the declarations of these, then of registers, then of
+-- wires; the assignments of wires, then of outputs; the updates of registers.
 unfoldable pub written : Netlist → Text
 written n = header n ++ declarations n ++ statements n ++ codes "endmodule\n"

@@ -18,7 +18,7 @@ pub fn argument_widths(alloc: Global, net: &Net) -> Result<Vec<u8>, AllocError>
     Ok(widths)
 }
 
-// Appends a signal's width, where it is such an input.
+// Appends the width of a signal if it is an input other than `start`.
 fn push_width(widths: &mut Vec<u8>, net: &Net, signal: Sig) -> Result<(), AllocError>
     requires { signal.0 < length net.now.signals }
     ensures { OnOk result (widths.new.items ≡ widths.old.items ++ argument_width net.now signal.0) }

@@ -7,7 +7,7 @@ use safl_word::{Primitive, Word};
 #[derive(Clone, Copy, Debug, Default, PartialEq, Eq)]
 pub struct Sig(pub u32);
 
-/// What a signal is.
+/// The kind of a signal.
 #[derive(Clone, Copy, Debug, PartialEq, Eq)]
 pub enum SigKind {
     Input,
@@ -15,8 +15,8 @@ pub enum SigKind {
     Wire,
 }
 
-/// What a cell does with its operands: a constant has none, a copy one, and a multiplexer three, the
-/// condition of width 1 first, then what is selected where it is 1, and else.
+/// The operation of a cell. A constant has no operands and a copy one. A multiplexer has three: the condition, of width
+/// 1; what is selected if it is 1; and what is selected otherwise.
 #[derive(Clone, Copy, Debug, PartialEq, Eq)]
 pub enum Op {
     Const(Word),
@@ -25,15 +25,15 @@ pub enum Op {
     Apply(Primitive),
 }
 
-/// What gives a wire its word.
+/// The cell that gives a wire its word: an operation and its operands.
 #[derive(Drop)]
 pub struct Cell {
     pub op: Op,
     pub operands: ArrayVec<Sig, 3>,
 }
 
-/// The refusal of a cell or a next signal: the width that is wanted, and the one that was found, which is
-/// 0 for an operation that its operands don't fit.
+/// The widths of a cell or a next signal do not fit: the width that is needed, and the one that was found. The latter
+/// is 0 if the operands do not fit the operation.
 #[derive(Clone, Copy, Debug, PartialEq, Eq, thiserror::Error)]
 #[error("the width is {found} and not {wanted}")]
 pub struct WidthsDiffer {

@@ -1,4 +1,4 @@
-//! Netlists, and when one does what another does, by the names of what is no temporary wire.
+//! Netlists, and when one netlist does the same as another: by the names of all signals other than temporary wires.
 #![tactic(auto)]
 
 pub mod arguments;

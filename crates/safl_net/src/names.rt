@@ -3,11 +3,11 @@
 ghost use Rattle.std.specs.Prelude.{◌≡◌};
 ghost use Rattle.safl_net.specs.Names.{is_good, is_identifier, is_reserved, is_start, is_part, are_parts};
 
-/// The most bytes of a name.
+/// The greatest length of a name in bytes.
 pub const NAME_MAX: usize = 200;
 
-/// A letter or `_`, then letters, digits, `_` and `$`; at most `NAME_MAX` bytes, and no word of Verilog's
-/// that a written netlist uses.
+/// Whether a name is good: a letter or `_`, then letters, digits, `_` and `$`; at most `NAME_MAX` bytes; and none of
+/// the Verilog words that a written netlist uses.
 #[tactic(auto, unfolding(crate::specs::Names::is_good))]
 pub fn is_good_name(name: &str) -> bool
     ensures { result ≡ is_good name.now }

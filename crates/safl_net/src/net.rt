@@ -1,4 +1,4 @@
-//! Nets.
+//! Netlists, and the calls that build and read them.
 
 ghost use Rattle.std.specs.Prelude.{◌≡◌, ◌≤◌, length, IfOk, string_bytes};
 ghost use Rattle.safl_net.specs.Names.{one_wire, temp_name};
@@ -30,7 +30,7 @@ struct Row {
     driver: Driver,
 }
 
-// A register with its reset word and its next signal, or a wire with its cell.
+// What gives a signal its word: a register has its word at reset and its next signal, a wire its cell.
 #[derive(Drop)]
 enum Driver {
     Input,
@@ -38,7 +38,7 @@ enum Driver {
     Wire(Option<Cell>),
 }
 
-/// Why a signal or an output isn't made.
+/// Why a signal or an output is not added.
 #[derive(Clone, Copy, Debug, PartialEq, Eq, thiserror::Error)]
 pub enum NetErr {
     #[error("the name is taken")]
@@ -74,7 +74,7 @@ impl Net {
     ghost use Rattle.safl_net.specs.Rules.{IsNetlist, KindFits, SignalFits};
     ghost use Rattle.safl_net.specs.Stored.{signal_of, kind_of, ResetFits, number_of, maybe_cell};
 
-    /// No signals.
+    /// A net without signals.
     pub fn new(alloc: Global) -> Net
         ensures { result ≡ record { signals = []; outputs = [] } }
     {
@@ -86,8 +86,8 @@ impl Net {
         }
     }
 
-    /// The next signal, an input of this width, 1 to 128 bits. `BadName` exactly where the name isn't good, else
-    /// `NameTaken` exactly where a signal or an output has it; a refusal leaves the net as it was.
+    /// Adds an input of this width, 1 to 128 bits, as the next signal. `BadName` comes exactly if the name is not good;
+    /// otherwise `NameTaken` exactly if a signal or an output has it. A refusal leaves the net as it was.
     pub fn input(&mut self, name: &str, width: u8) -> Result<Sig, NetErr>
         requires some { 1 ≤ width }
         requires most { width ≤ 128 }
@@ -106,7 +106,7 @@ impl Net {
         )
     }
 
-    /// The next signal, a register with this word at reset and without a next signal. Refusals as for `input`.
+    /// Adds a register with this word at reset and without a next signal, as the next signal. Refusals as for `input`.
     pub fn reg(&mut self, name: &str, init: Word) -> Result<Sig, NetErr>
         requires room { length self.old.signals < 4294967295 }
         ensures added { OnOk result (self.new ≡ with_signal self.old (record { name = name.now; width = init.width; kind = Reg init.bits None })) }
@@ -124,7 +124,7 @@ impl Net {
         )
     }
 
-    /// The next signal, a wire of this width, 1 to 128 bits, without a cell. Refusals as for `input`.
+    /// Adds a wire of this width, 1 to 128 bits, and without a cell, as the next signal. Refusals as for `input`.
     pub fn wire(&mut self, name: &str, width: u8) -> Result<Sig, NetErr>
         requires some { 1 ≤ width }
         requires most { width ≤ 128 }
@@ -143,8 +143,8 @@ impl Net {
         )
     }
 
-    /// The next wire, with that cell, of the width that the operation has on the operands; its name is `n$` and
-    /// its number among the wires. The net is tidy before and after. Fails only if out of memory.
+    /// Adds a temporary, which is a wire with this cell. It has the width that the operation has on the operands; its
+    /// name is `n$` and its number among the wires. The net is tidy before and after. Fails only if out of memory.
     pub fn temp(&mut self, op: Op, operands: &[Sig]) -> Result<Sig, NoMemory>
         requires tidy { IsTidy self.old }
         requires known { All (λ s. s.0 < length self.old.signals) operands.now }
@@ -171,8 +171,8 @@ impl Net {
         }
     }
 
-    /// Gives a wire without a cell its cell. It takes no memory. `WidthsDiffer` exactly where the operation's width
-    /// isn't the wire's; the net then stays as it was.
+    /// Gives a wire without a cell its cell. Takes no memory. `WidthsDiffer` comes exactly if the operation's width is
+    /// not the wire's; the net then stays as it was.
     pub fn set_cell(&mut self, s: Sig, op: Op, operands: &[Sig]) -> Result<(), WidthsDiffer>
         requires open { kind_at self.old s.0 ≡ Wire None }
         requires known { All (λ x. x.0 < length self.old.signals) operands.now }
@@ -194,7 +194,7 @@ impl Net {
         Ok(())
     }
 
-    /// Gives a register without a next signal its next signal. It takes no memory. `WidthsDiffer` exactly where the
+    /// Gives a register without a next signal its next signal. Takes no memory. `WidthsDiffer` comes exactly if the
     /// widths differ; the net then stays as it was.
     pub fn set_next(&mut self, r: Sig, s: Sig) -> Result<(), WidthsDiffer>
         requires open { (kind_at self.old r.0 ≡ Reg (reset_state self.old r.0) None) }
@@ -214,7 +214,7 @@ impl Net {
         Ok(())
     }
 
-    /// The next output, which shows that signal. Refusals as for `input`.
+    /// Adds an output that shows signal `s`, after the others. Refusals as for `input`.
     pub fn output(&mut self, name: &str, s: Sig) -> Result<(), NetErr>
         requires known { s.0 < length self.old.signals }
         requires room { length self.old.outputs < 4294967295 }
@@ -264,7 +264,7 @@ impl Net {
         }
     }
 
-    /// What a signal is.
+    /// The kind of a signal.
     pub fn kind(&self, s: Sig) -> SigKind
         requires { s.0 < length self.now.signals }
         ensures { result ≡ sort_of (kind_at self.now s.0) }
@@ -287,7 +287,7 @@ impl Net {
         }
     }
 
-    /// The next signal of a register, where it has one.
+    /// The next signal of a register, if it is set.
     pub fn next(&self, r: Sig) -> Option<Sig>
         requires { sort_of (kind_at self.now r.0) ≡ SigKind.Reg }
         ensures { number_of result ≡ next_in (kind_at self.now r.0) }
@@ -298,7 +298,7 @@ impl Net {
         }
     }
 
-    /// The cell of a wire, where it has one.
+    /// The cell of a wire, if it is set.
     pub fn cell(&self, s: Sig) -> Option<&Cell>
         requires { sort_of (kind_at self.now s.0) ≡ SigKind.Wire }
         ensures { maybe_cell (option_copied result) ≡ cell_in (kind_at self.now s.0) }
@@ -309,7 +309,7 @@ impl Net {
         }
     }
 
-    /// The signal of that name, or else the signal that the output of that name shows.
+    /// The signal of this name, or else the signal that the output of this name shows.
     pub fn find(&self, name: &str) -> Option<Sig>
         ensures { number_of result ≡ found self.now name.now }
     {
@@ -344,7 +344,7 @@ impl Net {
         self.first_unset().is_none() && self.has_start() && self.has_done() && self.has_result()
     }
 
-    /// The least wire without a cell or register without a next signal.
+    /// The first wire without a cell or register without a next signal.
     pub fn first_unset(&self) -> Option<Sig>
         ensures none { IsNone result ↔ AllSet self.now }
         ensures least { IfSome result (λ s. IsLeastUnset self.now s.0) }
@@ -421,7 +421,7 @@ impl Net {
         }
     }
 
-    // What is kept of a signal.
+    // The row of a signal.
     fn row(&self, s: Sig) -> &Row
         requires { s.0 < length self.now.signals }
         ensures width { result.now.width ≡ width_of self.now s.0 }
@@ -434,7 +434,7 @@ impl Net {
         }
     }
 
-    // The width of an operation on signals.
+    // The width that an operation has on these operands.
     fn width_on(&self, op: &Op, operands: &[Sig]) -> Option<u8>
         requires { All (λ s. s.0 < length self.now.signals) operands.now }
         ensures width { result ≡ width_on self.now op.now operands.now }
@@ -451,14 +451,14 @@ impl Net {
         op_width(*op, widths.as_slice())
     }
 
-    // A signal or an output has the name.
+    // Whether a signal or an output has this name.
     fn has_name(&self, name: &str) -> bool
         ensures { result ≡ has_name self.now name.now }
     {
         self.signals.contains_key(name) || self.outputs.contains_key(name)
     }
 
-    // One more signal, where the name may be given.
+    // Adds a signal, if its name is good and not taken.
     fn add(&mut self, name: &str, row: Row) -> Result<Sig, NetErr>
         requires room { length self.old.signals < 4294967295 }
         requires some { 1 ≤ row.width }
@@ -485,7 +485,7 @@ impl Net {
         }
     }
 
-    // One more signal, of a name that is good and new.
+    // Adds a signal whose name is good and not taken.
     fn push(&mut self, name: String, row: Row) -> Result<Sig, NoMemory>
         requires room { length self.old.signals < 4294967295 }
         requires new { has_name self.old (string_bytes name) ≡ false }
@@ -504,7 +504,7 @@ impl Net {
         Ok(Sig(number))
     }
 
-    // A signal's word comes from elsewhere; what gives it is of the same sort.
+    // Replaces what gives a signal its word by something of the same kind.
     fn set_driver(&mut self, s: Sig, driver: Driver)
         requires known { s.0 < length self.old.signals }
         requires alike { one_wire (kind_of driver) ≡ one_wire (kind_at self.old s.0) }
@@ -519,7 +519,7 @@ impl Net {
     }
 }
 
-// The operation on these operands.
+// The cell of an operation on these operands.
 fn make_cell(op: Op, operands: &[Sig]) -> Cell
     requires { length operands.now ≤ 3 }
     ensures { cell_of result ≡ cell_on op operands.now }

@@ -1,4 +1,4 @@
-//! The width of an operation's word.
+//! The width of an operation's result.
 
 ghost use Rattle.std.specs.Prelude.{◌≡◌};
 ghost use Rattle.safl_net.specs.Widths.{op_width, no_operand, HasWord};
@@ -7,9 +7,9 @@ ghost use Rattle.safl_word.specs.Words.{IsWord};
 use crate::cell::Op;
 use safl_word::{Primitive, Word, result_width};
 
-/// The width of the word of an operation on operands of these widths, in bits. A constant has no operand, a
-/// copy one, a multiplexer a condition of width 1 and two of equal width; a primitive as its table says.
-/// None where the operands don't fit, and for `Ext`, of which there are no cells.
+/// The width in bits of an operation's result, on operands of these widths. A constant has no operand, a copy one, a
+/// multiplexer a condition of width 1 and two of equal width; for a primitive its table decides. None if the operands
+/// do not fit, and for `Ext`, which has no cells.
 pub fn op_width(op: Op, widths: &[u8]) -> Option<u8>
     ensures width { result ≡ op_width op widths.now }
     ensures word { HasWord op }

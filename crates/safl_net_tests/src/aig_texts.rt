@@ -1,10 +1,10 @@
-//! Short texts, with what is written of their circuits.
+//! Short AIGER texts, and what is written for the circuits that they spell.
 
 use safl_aiger::{Aig, aig_text, read_aig};
 use std::alloc::Global;
 use std::test::Fail;
 
-// The numbers of a circuit's places and ANDs.
+// The numbers of a circuit's inputs, latches, outputs and ANDs.
 #[derive(Clone, Copy, Debug, PartialEq, Eq)]
 struct Numbers {
     inputs: u32,
@@ -13,7 +13,7 @@ struct Numbers {
     ands: u32,
 }
 
-// A text, what is written of its circuit, and the circuit's numbers.
+// A text, the text that is written for its circuit, and the circuit's numbers.
 struct Right {
     text: &'static [u8],
     written: &'static [u8],

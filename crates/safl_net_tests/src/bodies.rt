@@ -22,8 +22,8 @@ use std::test::Fail;
 const CHOICE: &[u8] =
     b"fun f(x:8):8 = x + 1 fun g(x:8):8 = x fun main(a:8):8 = if a == 0 then f(a) else g(a)";
 
-// The bit that main's body runs and its parameter; and for both sites the bits that the call was sent and that it has
-// returned, and the word that it returned.
+// The inputs of main's circuit: the bit that says whether main runs, and its parameter; then for both sites the bits
+// that say whether the call was sent and whether it has returned, and the returned word.
 static PORTS: [Line; 8] = [
     Input("run", 1),
     Input("a", 8),
@@ -35,7 +35,7 @@ static PORTS: [Line; 8] = [
     Input("value2", 8),
 ];
 
-// The words of the ports, whether both sites are wanted, and what the body gives, if it ends.
+// The words of the ports, whether each site is wanted, and the body's word if it ends.
 struct Row {
     given: [Raw; 8],
     wants: [bool; 2],
@@ -65,7 +65,7 @@ static ROWS: [Row; 4] = [
     },
 ];
 
-// The numbered form of a source.
+// The checked form of a source.
 fn checked(alloc: Global, source: &[u8]) -> Result<Checked, Fault> {
     printable_law();
     shallow_law();
@@ -78,7 +78,7 @@ fn checked(alloc: Global, source: &[u8]) -> Result<Checked, Fault> {
     }
 }
 
-// An input of this width.
+// The input at a place, which has to have this width.
 #[tactic(auto, using(crate::proofs::Lowerable::input_source))]
 fn port(net: &Net, place: u32, width: u8) -> Option<Sig>
     ensures { IfSome result (λ s. IsSource net.now s width) }
@@ -91,7 +91,7 @@ fn port(net: &Net, place: u32, width: u8) -> Option<Sig>
     }
 }
 
-// The ports of a site whose word has 8 bits, from this input on.
+// The ports of a site whose word has 8 bits, from these three inputs.
 fn site(net: &Net, places: [u32; 3]) -> Option<SitePorts>
     ensures { IfSome result (λ p. Sited net.now p 8) }
 {
@@ -105,7 +105,7 @@ fn site(net: &Net, places: [u32; 3]) -> Option<SitePorts>
     })
 }
 
-// Whether main has one parameter, of 8 bits, and two sites, the first two, whose calls give 8 bits.
+// Whether main has one parameter, of 8 bits, and the first two sites of the program, whose calls give 8 bits.
 #[tactic(auto, using(crate::proofs::Lowerable::one_byte))]
 fn chooses_a_call(c: &Checked, main: u32) -> bool
     requires { main < c.now.program.functions }
@@ -124,7 +124,7 @@ fn chooses_a_call(c: &Checked, main: u32) -> bool
     c.width(c.callee(1)) == 8 && c.width(c.callee(2)) == 8
 }
 
-// The ports of main's body: the bit that it runs, its parameter, and those of both sites.
+// The ports of main's body: the bit that says whether it runs, its parameter, and the ports of both sites.
 #[derive(Clone, Copy)]
 struct Inputs {
     run: Sig,
@@ -162,7 +162,7 @@ fn lowered(alloc: Global, c: &Checked, net: &mut Net) -> Result<Body, Fault>
     }
 }
 
-// The same between these ports.
+// The circuit of main's body between these ports.
 fn lowered_between(
     alloc: Global,
     c: &Checked,
@@ -192,7 +192,7 @@ fn lowered_between(
     lower(alloc, c, main, net, Ports { run, args, sites }).map_err(|_| Fault::NoMemory)
 }
 
-// The word of each signal, where the inputs have these words and no cell reads a later signal.
+// The word of each signal for these words of the inputs. No cell may read a later signal.
 fn words_of(alloc: Global, net: &Net, given: &[Raw]) -> Result<Vec<Word>, Fault> {
     let mut words: Vec<Word> = Vec::new(alloc);
     for i in 0..net.signals() {
@@ -213,7 +213,7 @@ fn word_of(net: &Net, s: Sig, given: &[Raw], words: &[Word]) -> Option<Word> {
     }
 }
 
-// The word of a cell's wire.
+// The word that a cell gives.
 fn value_of(cell: &Cell, words: &[Word]) -> Option<Word> {
     let operands = cell.operands.as_slice();
     match cell.op {
@@ -255,7 +255,7 @@ fn at(words: &[Word], s: Sig) -> Option<Word> {
     words.get(s.0 as usize).copied()
 }
 
-// What a primitive gives on these words, of these widths.
+// The result of a primitive on these words of these widths.
 fn given(p: Primitive, args: &[Word], widths: &[u8]) -> Option<Word>
     requires { widths.now ≡ map (λ w. w.width) args.now }
 {
@@ -265,7 +265,7 @@ fn given(p: Primitive, args: &[Word], widths: &[u8]) -> Option<Word>
     }
 }
 
-// The first word of a load, if it is taken.
+// The first word of a load, if the load is taken.
 fn taken(load: &Load, words: &[Word]) -> Option<Raw> {
     if at(words, load.bit)?.bits() == 1 {
         Some(at(words, *load.words.first()?)?.bits())

@@ -1,6 +1,6 @@
 //! Nets that are built by hand, and their bit-level circuits.
 //!
-//! What the calls of a net require is tested as the tests run, so that their proofs need to know nothing of the net.
+//! What the calls of a net require is tested when the tests run, so that their proofs need to know nothing of the net.
 
 use safl_aig::{BlastErr, blast};
 use safl_aiger::{Aig, Lit, aig_text};
@@ -10,7 +10,7 @@ use safl_word::{Primitive, Word};
 use std::alloc::{AllocError, Global};
 use std::test::Fail;
 
-/// Why a net is not built, or made no circuit.
+/// Why a net is not built, or not converted.
 #[derive(Clone, Copy, Debug, PartialEq, Eq)]
 pub enum Fault {
     Unfit,
@@ -20,7 +20,7 @@ pub enum Fault {
     Refused(BlastErr),
 }
 
-/// The next signal: a wire of this width, without a cell.
+/// Adds a wire of this width without a cell.
 pub fn add_wire(net: &mut Net, name: &str, width: u8) -> Result<Sig, Fault> {
     if width == 0 || width > 128 || net.signals() == u32::MAX {
         return Err(Fault::Unfit);
@@ -57,7 +57,7 @@ fn circuit(alloc: Global, net: Net) -> Result<Aig, Fault> {
     }
 }
 
-// An input, and a register of one bit with its inverse as its next word.
+// A net of an input and a register of one bit, whose next word is its inverse.
 fn toggle(alloc: Global, init: Word) -> Result<Net, Fault> {
     let mut net = Net::new(alloc);
     let Ok(_start) = net.input("start", 1) else {
@@ -78,7 +78,7 @@ fn toggle(alloc: Global, init: Word) -> Result<Net, Fault> {
     Ok(net)
 }
 
-// So many squares of an input of 64 bits.
+// A net of `count` squares of an input of 64 bits.
 fn squares(alloc: Global, count: u32) -> Result<Net, Fault> {
     let mut net = Net::new(alloc);
     let a = net.input("a", 64).map_err(Fault::Name)?;
@@ -114,7 +114,7 @@ fn a_register_that_toggles(rt: HostRuntime) -> Result<(), Fail> {
     Ok(())
 }
 
-// A net with an output that shows what an operator makes of two inputs of 4 bits.
+// A net whose output shows the result of an operator on two inputs of 4 bits.
 fn operation(alloc: Global, p: Primitive, width: u8) -> Result<Net, Fault> {
     let mut net = Net::new(alloc);
     let a = net.input("a", 4).map_err(Fault::Name)?;
@@ -128,7 +128,7 @@ fn operation(alloc: Global, p: Primitive, width: u8) -> Result<Net, Fault> {
     Ok(net)
 }
 
-// Whether a literal is true, where the variables have these values.
+// Whether a literal is true for these values of the variables.
 fn is_on(values: &[bool], l: Lit) -> bool {
     match values.get((l.0 / 2) as usize) {
         Some(value) => *value != (l.0 % 2 == 1),
@@ -136,7 +136,7 @@ fn is_on(values: &[bool], l: Lit) -> bool {
     }
 }
 
-// The number that the outputs show for two inputs of 4 bits.
+// The number that the outputs show for the inputs `a` and `b` of 4 bits.
 fn shown(alloc: Global, circuit: &Aig, a: u8, b: u8) -> Result<u64, AllocError> {
     let mut values = Vec::new(alloc);
     values.push(false)?;
@@ -156,7 +156,7 @@ fn shown(alloc: Global, circuit: &Aig, a: u8, b: u8) -> Result<u64, AllocError> 
     Ok(number)
 }
 
-// An operator, the width of its word, and what it makes of 11 and 6, of 11 and 2, and of 6 and 6.
+// An operator, the width of its result, and its results on 11 and 6, on 11 and 2, and on 6 and 6.
 #[derive(Clone, Copy)]
 struct Row {
     p: Primitive,

@@ -31,7 +31,7 @@ const LONG: &str =
 const LONGER: &str =
     "q_23456789a_23456789b_23456789c_23456789d_23456789e_23456789f_23456789g_23456789h_23456789i_23456789j_23456789k_23456789l_23456789m_23456789n_23456789o_23456789";
 
-// A net whose text has more than 1,024 bytes and fewer than 2,048.
+// A net whose text has from 1,025 to 2,047 bytes, so two pieces are written.
 fn long_net(alloc: Global) -> Result<Net, NetErr> {
     let mut net = Net::new(alloc);
     let start = net.input("start", 1)?;
@@ -42,7 +42,7 @@ fn long_net(alloc: Global) -> Result<Net, NetErr> {
     Ok(net)
 }
 
-// The first call creates the file, and the third appends the second piece. Half of a piece is left where its call fails.
+// The first call creates the file, and the third appends the second piece. A call that fails leaves half of its piece.
 #[test]
 fn an_append_that_fails(rt: HostRuntime) -> Result<(), Fail> {
     let net = long_net(rt.alloc())?;

@@ -1,6 +1,6 @@
-//! Nets in order and in cycles, nets that are made smaller, circuits of bodies, traces of nets, their texts and files, and bit-level
-//! circuits and their texts.
+//! Tests of nets.
 //!
+//! They are about order, cycles, optimisation, circuits of bodies, traces, texts and files, and bit-level circuits.
 //! Tests are in a crate above the libraries, since a library with tests is proved twice.
 #![tactic(auto)]
 

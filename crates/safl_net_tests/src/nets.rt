@@ -1,4 +1,4 @@
-//! Nets that are built by hand, put in order and simulated, and what a net does not take.
+//! Nets that are built by hand, put in order and simulated, and what the calls of a net refuse.
 
 ghost use Rattle.std.specs.Prelude.{◌≡◌, ◌<◌, ◌++◌, [], length, map, IfOk, OnOk};
 ghost use Rattle.safl_net.specs.Netlist.{width_of};
@@ -13,7 +13,8 @@ use safl_word::{Primitive, Raw, Word};
 use std::alloc::{AllocError, Global};
 use std::test::Fail;
 
-// Wires of one bit: a is the complement of b, b may be a copy of c, and c is a copy of a.
+// A net of three wires of one bit: `a` is the complement of `b`, `c` is a copy of `a`, and `b` is a copy of `c` if the
+// ring is closed.
 fn ring(alloc: Global, is_closed: bool) -> Result<(Net, [Sig; 3]), Fault> {
     let mut net = Net::new(alloc);
     let a = add_wire(&mut net, "a", 1)?;

@@ -1,4 +1,4 @@
-//! Cases: the lines of a net, and those of the net that it comes to.
+//! Cases: the lines of a net, and those of its optimised net.
 
 ghost use Rattle.std.specs.Prelude.{◌<◌, ◌^◌, length, IfOk};
 ghost use Rattle.safl_net.specs.Names.{IsTidy};
@@ -17,7 +17,7 @@ use std::test::Fail;
 struct Case {
     name: &'static str,
     before: &'static [Line],
-    // What the net comes to, or nothing if it is lean and stays as it is.
+    // The optimised net, or None if the net is lean and stays as it is.
     after: Option<&'static [Line]>,
 }
 
@@ -210,7 +210,7 @@ static CASES: [Case; 10] = [
     },
 ];
 
-// Whether the net of a case is lean if the case says so and only then, and comes to the lean net that the case says.
+// Whether the net of a case is lean exactly if the case says so, and its optimised net is lean and as the case says.
 fn agrees(alloc: Global, case: &Case) -> Result<bool, Fault> {
     let ordered = order_of(alloc, case.before)?;
     let is_lean = lean(ordered.net());
@@ -233,7 +233,7 @@ fn order_of(alloc: Global, lines: &[Line]) -> Result<Ordered, Fault>
     }
 }
 
-// Where memory runs out, the net is handed back as it was.
+// Whether the net is optimised as the case says, or is handed back as it was if out of memory.
 fn is_made(alloc: Global, ordered: Ordered, case: &Case) -> Result<bool, Fault>
     requires few { length ordered.net.signals < 2 ^ 31 }
     requires tidy { IsTidy ordered.net }
@@ -252,7 +252,6 @@ fn is_lean_net(alloc: Global, net: &Net, lines: &[Line]) -> Result<bool, Fault>
     Ok(is_lean && comes)
 }
 
-// Whether a net is that of the lines.
 fn is_net(alloc: Global, net: &Net, lines: &[Line]) -> Result<bool, Fault> {
     let wanted = made(alloc, lines)?;
     Ok(is_same(net, &wanted))

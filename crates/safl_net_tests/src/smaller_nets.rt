@@ -1,6 +1,6 @@
 //! Nets as lists of lines.
 //!
-//! What the calls of a net require is tested as the tests run, so that their proofs need to know nothing of the net.
+//! What the calls of a net require is tested when the tests run, so that their proofs need to know nothing of the net.
 
 ghost use Rattle.std.specs.Prelude.{◌≡◌, ◌<◌, All, None, false, length, IfOk, IsSome};
 ghost use Rattle.safl_net.specs.Netlist.{Reg, Wire};
@@ -13,7 +13,7 @@ use safl_net::{Net, NetErr, Op, Sig, SigKind, WidthsDiffer, op_width};
 use safl_word::{Primitive, Raw, Word};
 use std::alloc::Global;
 
-/// What a cell does.
+/// The operation of a cell.
 #[derive(Clone, Copy)]
 pub enum Does {
     Const(u8, Raw),
@@ -22,13 +22,13 @@ pub enum Does {
     Apply(Primitive),
 }
 
-/// A line of a net. Signals are numbered in order.
+/// A line of a net: a signal, a cell, a next signal or an output. Signals are numbered in order.
 #[derive(Clone, Copy)]
 pub enum Line {
     Input(&'static str, u8),
-    /// A register with its width and its number at reset.
+    /// A register: its name, its width, and its number at reset.
     Reg(&'static str, u8, Raw),
-    /// A named wire of a width, without a cell.
+    /// A named wire of this width, without a cell.
     Wire(&'static str, u8),
     Temp(Does, &'static [Sig]),
     Set(Sig, Does, &'static [Sig]),
@@ -36,7 +36,7 @@ pub enum Line {
     Output(&'static str, Sig),
 }
 
-/// Why a line isn't made.
+/// Why the net of some lines is not built.
 #[derive(Clone, Copy, Debug, PartialEq, Eq)]
 pub enum Fault {
     Unfit,
@@ -73,14 +73,14 @@ fn add(net: &mut Net, line: &Line) -> Result<(), Fault>
     }
 }
 
-// The name begins with `n$`.
+// Whether the name begins with `n$`.
 fn is_temp(name: &str) -> bool
     ensures { result ≡ is_temp name.now }
 {
     matches!(name.as_bytes(), [b'n', b'$', ..])
 }
 
-// The next signal, of the width of the word, which a register has at reset.
+// Adds a signal with the width of `word`. A register has that word at reset.
 fn add_signal(net: &mut Net, kind: SigKind, name: &str, word: Option<Word>) -> Result<(), Fault>
     requires { IsTidy net.old }
     ensures { IsTidy net.new }
@@ -237,7 +237,7 @@ fn set_open_next(net: &mut Net, r: Sig, s: Sig) -> Result<(), Fault>
     }
 }
 
-/// Both have the same signals and the same outputs, in order.
+/// Whether both nets have the same signals and the same outputs, in the same order.
 pub fn is_same(a: &Net, b: &Net) -> bool {
     if a.signals() != b.signals() || a.outputs() != b.outputs() {
         return false;

@@ -1,4 +1,4 @@
-//! Traces of a net by each kind of probe.
+//! Traces of a net, by each kind of probe.
 
 use safl_net::{Net, NetErr};
 use safl_probe::{Probe, ProbeErr, StartsProbe, StubProbe, ToggleProbe, VcdProbe};
@@ -9,11 +9,11 @@ use std::test::Fail;
 #[derive(Clone, Copy, Debug, PartialEq, Eq)]
 enum TraceErr {
     Probe(ProbeErr),
-    // A frame of another length than the net.
+    // A frame has another length than the net has signals.
     Frame,
 }
 
-// A whole trace by any probe, known by the trait's contracts alone.
+// The whole trace of some frames by any probe. Only the contracts of the trait are known of the probe.
 fn trace<P: Probe>(
     probe: &mut P,
     net: &Net,
@@ -33,7 +33,7 @@ fn trace<P: Probe>(
     probe.finish(out).map_err(TraceErr::Probe)
 }
 
-// The net of a function that takes nothing and gives 7, without cells.
+// A net with the signals of a function that takes nothing and gives 7. It has no cells.
 fn seven(alloc: Global) -> Result<Net, NetErr> {
     let mut net = Net::new(alloc);
     let bit = Word::from_low_bits(1, 0);
@@ -59,7 +59,7 @@ fn frame(alloc: Global, numbers: &[Raw]) -> Result<Vec<Word>, AllocError> {
     Ok(words)
 }
 
-// Its three cycles.
+// The numbers of the net's signals in its three cycles.
 const CYCLES: [[Raw; 8]; 3] = [
     [1, 0, 0, 0, 0, 0, 1, 7],
     [0, 1, 0, 0, 1, 0, 0, 7],
@@ -160,7 +160,7 @@ fn a_call_that_fails(rt: HostRuntime) -> Result<(), Fail> {
     Ok(())
 }
 
-// So many inputs of a width.
+// A net of `count` inputs of a width.
 fn wide(alloc: Global, count: u32, width: u8) -> Result<Net, NetErr> {
     let mut net = Net::new(alloc);
     for i in 0..count {

@@ -1,4 +1,4 @@
--- Sets of numbers that belong to groups, and what is kept of them.
+-- Sets of numbers that belong to groups, and how they are stored.
 use Rattle.std.specs.Prelude.{◌≡◌, ◌==◌, ℕ, ◌*◌, ◌/◌, ◌<◌, ◌≤◌, List, [], ◌∷◌, Bool, cond, length, sum, get_or, slice_set, replicate}
 use Rattle.std.specs.Int.{from_bool}
 use Rattle.safl_number_set.specs.Numbers.{AreSums, part}
@@ -13,38 +13,38 @@ pub record Grouped : Type 0 where
   pub within : List ℕ
   pub opened : List ℕ
 
--- each number's bit, times the weight of its group
+-- the bit of each number, times the weight of its group
 unfoldable pub weighed : (ℕ → ℕ) → List ℕ → List ℕ → List ℕ
 weighed weight [] bits = []
 weighed weight (g ∷ gs) [] = []
 weighed weight (g ∷ gs) (b ∷ bits) = b * weight g ∷ weighed weight gs bits
 
--- 1 for each number that is in the set and whose group is open, and 0 for the others
+-- 1 for each number that is in the set and whose group is open, 0 for the others
 abbrev pub counted : Grouped → List ℕ
 counted s = weighed (λ g. get_or s.opened g 0) s.group s.within
 
--- the set after a number was put in or taken out, and after a group was opened or closed
+-- the set after a number is put in or taken out; and after a group is opened or closed
 abbrev pub put_in : Grouped → ℕ → Bool → Grouped
 put_in s k is_in = record s { within = slice_set s.within k (from_bool is_in) }
 
 abbrev pub turned : Grouped → ℕ → Bool → Grouped
 turned s g is_open = record s { opened = slice_set s.opened g (from_bool is_open) }
 
--- numbers that belong to one of so many groups; none is in, and all groups are open
+-- the empty set of numbers that belong to one of `count` groups, all of which are open
 abbrev pub none_of : List ℕ → ℕ → Grouped
 none_of group count = record { group = group; within = replicate (length group) 0; opened = replicate count 1 }
 
--- ---- what is kept
+-- ---- how they are stored
 
 abbrev pub shown : Groups → Grouped
 shown s = record { group = s.group.items; within = s.within.items; opened = s.opened.items }
 
--- 1 for this group alone
+-- 1 for this group, 0 for all others
 abbrev pub only : ℕ → ℕ → ℕ
 only g h = cond (h == g) 1 0
 
--- the bits are bits, the numbers are linked, and with the last number of a group in a block stands how many of the group's
--- numbers in this block are in the set
+-- The bits are 0 or 1, the numbers are linked, and at the last number of a group in a block stands how many of the group's
+-- numbers in that block are in the set.
 pub record AreGrouped (s : Groups) : Type 0 where
   pub few : length s.group.items ≤ 5000
   pub below : AreBelow (length s.opened.items) s.group.items
@@ -57,12 +57,12 @@ pub record AreGrouped (s : Groups) : Type 0 where
   pub parts : (k : ℕ) → k < length s.group.items
       → get_or s.parts.items (get_or s.links.ends.items k 0) 0 ≡ sum (part (k / 32) (weighed (only (get_or s.group.items k 0)) s.group.items s.within.items))
 
--- the sums are those of a list of numbers
+-- the sums are those of this list of numbers
 pub record Tallies (low : List ℕ) (t : Tally) : Type 0 where
   pub blocks : AreSums low t.blocks.items
   pub summed : AreSummed t
 
--- the set after a number was put in or taken out
+-- the stored set before and after a number is put in or taken out
 pub record Puts (s : Groups) (k : ℕ) (is_in : Bool) (t : Groups) : Type 0 where
   pub grouped : AreGrouped t
   pub now : shown t ≡ put_in (shown s) k is_in

@@ -1,13 +1,13 @@
--- The blocks of 32 numbers in which each group has numbers.
+-- Links from one block of 32 numbers that has numbers of a group to the next.
 use Rattle.std.specs.Prelude.{◌≡◌, ℕ, suc, ◌/◌, ◌<◌, ◌≤◌, List, length, get_or}
 use Rattle.safl_number_set.specs.declared.links.Links.{Links}
 
--- each number has one of so many groups
+-- each number has one of `count` groups
 abbrev pub AreBelow : ℕ → List ℕ → Type 0
 AreBelow count group = (k : ℕ) → k < length group → get_or group k 0 < count
 
--- Of the numbers from low on, k is the last one of group g in its block, and none of the group stands in an earlier block
--- from this one on. Where the group has none in these blocks, k is no number
+-- Of the numbers from low on, k is the last one of group g in its block, and no number of the group is in an earlier block, from
+-- this block on. If no number of the group is in these blocks, k is past all numbers.
 pub record Follows (low : ℕ) (gs lasts : List ℕ) (g block k : ℕ) : Type 0 where
   pub above : k < length gs → low ≤ k
   pub group : k < length gs → get_or gs k 0 ≡ g
@@ -15,7 +15,7 @@ pub record Follows (low : ℕ) (gs lasts : List ℕ) (g block k : ℕ) : Type 0 
   pub from : k < length gs → block ≤ k / 32
   pub least : (j : ℕ) → low ≤ j → j < length gs → get_or gs j 0 ≡ g → block ≤ j / 32 → (k < length gs) × (k / 32 ≤ j / 32)
 
--- r stands in the block and in the group of number k
+-- r is in the block and in the group of number k
 pub record IsBeside (gs : List ℕ) (k r : ℕ) : Type 0 where
   pub number : r < length gs
   pub block : r / 32 ≡ k / 32

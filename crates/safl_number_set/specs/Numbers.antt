@@ -1,16 +1,16 @@
--- Sets of numbers below a bound, as lists of bits, and the sums beside them.
+-- Sets of numbers below a bound, as lists of bits with their sums.
 use Rattle.std.specs.Prelude.{◌≡◌, ℕ, ◌*◌, ◌≤◌, List, length, sum, take, drop, get_or}
 
--- the 32 numbers of a list that have this place among all such blocks
+-- block k of a list, of 32 numbers
 abbrev pub part : ℕ → List ℕ → List ℕ
 part b low = take 32 (drop (32 * b) low)
 
--- the upper numbers are the sums of each 32 of the lower ones
+-- the upper numbers are the sums of the lower ones over blocks of 32
 pub record AreSums (low high : List ℕ) : Type 0 where
   pub each : (b : ℕ) → get_or high b 0 ≡ sum (part b low)
   pub enough : length low ≤ 32 * length high
 
--- bits, the sums of each 32 of them, the sums of each 32 of those, and the sum of all
+-- bits, their sums over blocks of 32, the sums of those over 32 blocks, and the sum of all
 pub record IsCounted (low middle high : List ℕ) (all : ℕ) : Type 0 where
   pub bits : (k : ℕ) → get_or low k 0 ≤ 1
   pub few : length low ≤ 5000

@@ -1,4 +1,4 @@
-//! Sets of numbers that belong to groups, which are open or closed.
+//! Sets of numbers that belong to groups. Only the numbers of open groups are counted.
 
 use crate::groups::{self, Groups, bit, grouped};
 use crate::places::{Found, SPAN, find};
@@ -6,7 +6,8 @@ use crate::tally::{Tally, zero_tally};
 use std::alloc::{AllocError, Global};
 use std::marker::Model;
 
-/// A set of numbers below a bound, each of which belongs to a group. The numbers of open groups alone are counted.
+/// A set of numbers below a bound. Each number belongs to a group, which is open or closed. Only the numbers of open
+/// groups are counted.
 #[derive(Drop)]
 pub struct GroupedSet {
     groups: Groups,
@@ -28,7 +29,7 @@ impl GroupedSet {
     ghost use Rattle.safl_number_set.specs.Groups.{counted, none_of, put_in, turned};
     ghost use Rattle.safl_number_set.specs.Linking.{AreBelow};
 
-    /// The empty set of numbers that belong to these groups, of so many. All groups are open.
+    /// The empty set. `group` has the group of each number, and there are `count` groups, all open.
     pub fn new(alloc: Global, group: Vec<u32>, count: usize) -> Result<GroupedSet, AllocError>
         requires few { length group.items ≤ 5000 }
         requires below { AreBelow count group.items }
@@ -39,7 +40,7 @@ impl GroupedSet {
         Ok(GroupedSet { groups, tally })
     }
 
-    /// How many numbers in the set belong to open groups.
+    /// How many numbers of open groups are in the set.
     pub fn len(&self) -> u32
         ensures count { result ≡ sum (counted self.now) }
         ensures few { result ≤ 5000 }
@@ -75,7 +76,7 @@ impl GroupedSet {
         self.groups.opened[g] = bit(is_open);
     }
 
-    /// The number in the set, of an open group, that has so many such numbers below it.
+    /// The number at a place among those in the set that belong to open groups, in rising order.
     pub fn nth(&self, place: u32) -> u32
         requires { place < sum (counted self.now) }
         ensures within { slice_index (counted self.now) result ≡ 1 }

@@ -1,4 +1,4 @@
-//! Numbers that belong to groups.
+//! The members of a set by group, with their numbers in each block.
 
 ghost use Rattle.std.specs.Prelude.{◌≡◌, ℕ, ◌+◌, ◌<◌, ◌≤◌, IfOk, length, sum, take, get_or, slice_set, not};
 ghost use Rattle.std.specs.Int.{from_bool};
@@ -10,8 +10,9 @@ use crate::places::{Found, SPAN};
 use crate::tally::{Tally, shifted};
 use std::alloc::{AllocError, Global};
 
-/// The group of each number, 1 for each number that is in the set, 1 for each group that is open, and the links of the
-/// groups. With the last number of a group in a block stands how many of the group's numbers in this block are in.
+/// The state of a grouped set: the group of each number, 1 or 0 for whether a number is in the set, 1 or 0 for whether
+/// a group is open, and the links of the groups. `parts` has at the last number of a group in a block how many of the
+/// group's numbers in that block are in the set.
 #[derive(Drop)]
 pub struct Groups {
     pub group: Vec<u32>,
@@ -21,7 +22,7 @@ pub struct Groups {
     pub parts: Vec<u32>,
 }
 
-/// Numbers that belong to these groups, of so many. None is in, and all groups are open.
+/// The state of the empty set. `group` has the group of each number, and there are `count` groups, all open.
 pub fn grouped(alloc: Global, group: Vec<u32>, count: usize) -> Result<Groups, AllocError>
     requires few { length group.items ≤ 5000 }
     requires below { AreBelow count group.items }
@@ -42,7 +43,7 @@ pub fn grouped(alloc: Global, group: Vec<u32>, count: usize) -> Result<Groups, A
     })
 }
 
-/// Puts a number in or takes it out.
+/// Puts a number into the set, or takes it out.
 pub fn put(s: &mut Groups, k: usize, is_in: bool)
     requires grouped { AreGrouped s.old }
     requires number { k < length s.old.group.items }
@@ -54,7 +55,7 @@ pub fn put(s: &mut Groups, k: usize, is_in: bool)
     s.parts[end] = shifted(s.parts[end], 1, is_in);
 }
 
-/// Counts the numbers of a group that are in, which was closed, or those of an open one no more.
+/// Adds the members of a closed group to the counted ones, or takes those of an open group out of them.
 pub fn count(s: &Groups, g: usize, more: bool, tally: &mut Tally)
     requires grouped { AreGrouped s.now }
     requires group { g < length s.now.opened.items }
@@ -70,7 +71,7 @@ pub fn count(s: &Groups, g: usize, more: bool, tally: &mut Tally)
     }
 }
 
-/// The number, from a place on, with which the sum of the first counted ones passes a place.
+/// The number at a place among the counted ones, searched from `from` on.
 pub fn find_counted(s: &Groups, from: Found, place: u32) -> usize
     requires grouped { AreGrouped s.now }
     requires start { from.before ≡ sum (take from.at (counted (shown s.now))) }
@@ -90,7 +91,7 @@ pub fn find_counted(s: &Groups, from: Found, place: u32) -> usize
     unreachable!()
 }
 
-/// 1 if a number is in and its group is open, else 0.
+/// 1 if a number is in the set and its group is open, else 0.
 pub fn counts(s: &Groups, k: usize) -> u32
     requires grouped { AreGrouped s.now }
     requires number { k < length s.now.group.items }
@@ -99,7 +100,7 @@ pub fn counts(s: &Groups, k: usize) -> u32
     s.within[k] * s.opened[s.group[k] as usize]
 }
 
-/// 1 or 0.
+/// 1 for true, 0 for false.
 pub fn bit(is: bool) -> u32
     ensures { result ≡ from_bool is }
 {

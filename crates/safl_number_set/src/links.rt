@@ -1,4 +1,4 @@
-//! The blocks of 32 numbers in which each group has numbers.
+//! Links from one block of 32 numbers that has numbers of a group to the next.
 
 ghost use Rattle.std.specs.Prelude.{◌≡◌, ℕ, suc, ◌<◌, ◌≤◌, length, get_or, IfOk};
 ghost use Rattle.safl_number_set.specs.Linking.{AreBelow, AreLinked, AreLinkedFrom};
@@ -6,8 +6,9 @@ ghost use Rattle.safl_number_set.specs.Linking.{AreBelow, AreLinked, AreLinkedFr
 use crate::places::SPAN;
 use std::alloc::{AllocError, Global};
 
-/// By number the last number of its group in its block. By group that number of the first block that has one, and by
-/// such a number that of the next block. Where there is none stands the number after the last one.
+/// `ends` has for each number the last number of its group in its block. `heads` has for each group that number of the
+/// first block with numbers of the group, and `nexts` has for each such number the one of the next block with some. If
+/// there is none, the entry is the number after the last one.
 #[derive(Drop)]
 pub struct Links {
     pub ends: Vec<u32>,
@@ -15,7 +16,7 @@ pub struct Links {
     pub nexts: Vec<u32>,
 }
 
-/// The links of numbers that belong to these groups, of so many.
+/// The links for `count` groups. `group` has the group of each number.
 pub fn linked(alloc: Global, group: &[u32], count: usize) -> Result<Links, AllocError>
     requires few { length group.now ≤ 5000 }
     requires below { AreBelow count group.now }
@@ -33,7 +34,7 @@ pub fn linked(alloc: Global, group: &[u32], count: usize) -> Result<Links, Alloc
     Ok(links)
 }
 
-// Links a number, where those after it are linked.
+// Links number `k`. The numbers after it are linked already.
 fn link(group: &[u32], links: &mut Links, k: usize)
     requires few { length group.now ≤ 5000 }
     requires below { AreBelow (length links.old.heads.items) group.now }

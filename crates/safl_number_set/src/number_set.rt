@@ -1,11 +1,11 @@
-//! Sets of numbers below a bound, with the number at a place in their order.
+//! Sets of numbers below a bound, which can find the number at a place in their order.
 
 use crate::places::{SPAN, find};
 use std::alloc::{AllocError, Global};
 use std::marker::Model;
 
-/// A set of numbers: 1 for each number that is in it, and 0 for the others. Beside these are the sums of each 32 of
-/// them, the sums of each 32 of those sums, and the sum of all.
+/// A set of numbers: 1 for each number that is in it, and 0 for the others. Beside these are their sums over blocks of
+/// 32, the sums of these over 32 blocks, and the sum of all. So a number is found by its place in few steps.
 #[derive(Drop)]
 pub struct NumberSet {
     ones: Vec<u32>,
@@ -29,7 +29,7 @@ impl NumberSet {
     ghost use Rattle.std.specs.Prelude.{◌≡◌, ℕ, ◌<◌, ◌≤◌, length, IfOk, replicate, sum, take, slice_set, slice_index};
     ghost use Rattle.std.specs.Int.{from_bool};
 
-    /// The empty set, for numbers below a bound.
+    /// The empty set of numbers below a bound.
     pub fn new(alloc: Global, bound: usize) -> Result<NumberSet, AllocError>
         requires { bound ≤ 5000 }
         ensures { IfOk result (λ s. s ≡ replicate bound 0) }
@@ -96,7 +96,7 @@ impl NumberSet {
         self.total -= 1;
     }
 
-    /// The number in the set that has so many below it.
+    /// The number at a place in the set, in rising order.
     pub fn nth(&self, place: u32) -> u32
         requires { place < sum self.now }
         ensures within { slice_index self.now result ≡ 1 }

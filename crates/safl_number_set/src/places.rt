@@ -1,18 +1,19 @@
-//! Places in lists of sums.
+//! Places in a list, found by sums.
 
 ghost use Rattle.std.specs.Prelude.{◌≡◌, ◌+◌, ◌<◌, ◌≤◌, length, sum, take, slice_index};
 
-/// So many neighbours have one sum.
+/// How many neighbours are summed to one number.
 pub const SPAN: usize = 32;
 
-/// Where a number of a list lies, and the sum of those before it.
+/// A place in a list, and the sum of the numbers before it.
 #[derive(Clone, Copy)]
 pub struct Found {
     pub at: usize,
     pub before: u32,
 }
 
-/// The number of a list, from a place on, with which the sum of the first ones passes a place.
+/// The first place, from `from` on, with which the sum of a list from its beginning exceeds `place`. `before` is the
+/// sum before `from`.
 pub fn find(counts: &[u32], from: usize, before: u32, place: u32) -> Found
     requires start { before ≡ sum (take from counts.now) }
     requires reached { before ≤ place }

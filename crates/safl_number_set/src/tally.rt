@@ -1,4 +1,4 @@
-//! The sums beside a list of numbers.
+//! The sums over the blocks of a list of numbers.
 
 ghost use Rattle.std.specs.Prelude.{◌≡◌, ◌+◌, ◌/◌, ◌<◌, ◌≤◌, ◌^◌, IfOk, IsTrue, cond, length, sum, replicate, get_or};
 ghost use Rattle.safl_number_set.specs.Tallies.{AreSummed, Shifts, shift_of};
@@ -6,7 +6,7 @@ ghost use Rattle.safl_number_set.specs.Tallies.{AreSummed, Shifts, shift_of};
 use crate::places::SPAN;
 use std::alloc::{AllocError, Global};
 
-/// The sums of each 32 of the numbers, the sums of each 32 of those, and the sum of all.
+/// The sums over blocks of 32 numbers, the sums of these over 32 blocks, and the sum of all.
 #[derive(Drop)]
 pub struct Tally {
     pub blocks: Vec<u32>,
@@ -14,7 +14,7 @@ pub struct Tally {
     pub total: u32,
 }
 
-/// The sums beside so many zeros.
+/// The sums of `bound` zeros.
 pub fn zero_tally(alloc: Global, bound: usize) -> Result<Tally, AllocError>
     requires { bound ≤ 5000 }
     ensures blocks { IfOk result (λ t. t.blocks.items ≡ replicate (bound / 32 + 1) 0) }
@@ -31,7 +31,7 @@ pub fn zero_tally(alloc: Global, bound: usize) -> Result<Tally, AllocError>
 }
 
 impl Tally {
-    /// Counts so many more of a block, or fewer.
+    /// Adds `by` to the sum of a block, or subtracts it.
     pub fn shift(&mut self, block: usize, by: u32, more: bool)
         requires summed { AreSummed self.old }
         requires within { block < length self.old.blocks.items }
@@ -45,7 +45,7 @@ impl Tally {
     }
 }
 
-/// A count with so many more, or fewer.
+/// A count with `by` added or subtracted.
 pub fn shifted(count: u32, by: u32, more: bool) -> u32
     requires few { count + by < 2 ^ 32 }
     requires enough { cond more 0 by ≤ count }

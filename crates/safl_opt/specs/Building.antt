@@ -19,32 +19,32 @@ read_at [] i = false
 read_at (b ∷ bs) zero = b
 read_at (b ∷ bs) (suc i) = read_at bs i
 
--- an output shows it, a register has it next, or a named wire reads it
+-- an output shows the signal, a register has it as its next signal, or a named wire reads it
 pub data IsRoot (n : Netlist) (s : ℕ) : Type 0 where
   shown : (i : ℕ) (o : List ℕ × ℕ) → slice_get n.outputs i ≡ Some o → o.1 ≡ s → IsRoot n s
   kept : (r init : ℕ) → kind_at n r ≡ Reg init (Some s) → IsRoot n s
   named : (a : ℕ) → IsWire n a → is_numbered (name_at n a) ≡ false → Reads n a s → IsRoot n s
 
--- what roots have is read, and what the nodes of values that are read have
+-- the values of roots are read, and so are the operands of the nodes of values that are read
 pub record AreRead (n : Netlist) (f : Values) (read : List Bool) : Type 0 where
   pub long : length read ≡ length f.signals.items
   pub roots : (s : ℕ) → IsRoot n s → read_at read (sig_at f.ids.items s) ≡ true
   pub nodes : (j i y : ℕ) (node : Node) → slice_get f.nodes j ≡ Some node → read_at read (f.kept + j) ≡ true
       → slice_get (node_operands node) i ≡ Some y → read_at read y ≡ true
 
--- a root has it, or the node of a value that is read
+-- the value belongs to a root, or is an operand of the node of a value that is read
 pub data IsNeeded (n : Netlist) (f : Values) (read : List Bool) (x : ℕ) : Type 0 where
   by_root : (s : ℕ) → IsRoot n s → sig_at f.ids.items s ≡ x → IsNeeded n f read x
   by_node : (j i : ℕ) (node : Node) → slice_get f.nodes j ≡ Some node → read_at read (f.kept + j) ≡ true → slice_get (node_operands node) i ≡ Some x
       → IsNeeded n f read x
 
--- and nothing else is read
+-- only needed values are read
 pub record AreNeeded (n : Netlist) (f : Values) (read : List Bool) : Type 0 where
   pub each : (x : ℕ) → read_at read x ≡ true → IsNeeded n f read x
 
 -- ---- the net
 
--- the number of a signal's value
+-- the new number of a signal's value
 abbrev pub new_number : Values → List Sig → ℕ → ℕ
 new_number f made s = sig_at made (sig_at f.ids.items s)
 
@@ -58,21 +58,20 @@ new_kind f made (Reg init (Some t)) = Reg init (Some (new_number f made t))
 new_kind f made (Wire None) = Wire None
 new_kind f made (Wire (Some c)) = Wire (Some (new_cell f made c))
 
--- a signal that is kept
+-- the new signal of a kept one
 abbrev pub kept_signal : Netlist → Values → List Sig → ℕ → Signal
 kept_signal n f made s = record { name = name_at n s; width = width_of n s; kind = new_kind f made (kind_at n s) }
 
--- the cell of a node
 abbrev pub node_cell : List Sig → Node → Cell
 node_cell made node = record { op = node_op node; operands = map (sig_at made) (node_operands node) }
 
--- a temporary with the cell of the node of the value x
+-- the signal is a temporary with the cell of the node of value x
 pub record IsNodeOf (n : Netlist) (f : Values) (made : List Sig) (x : ℕ) (node : Node) (g : Signal) : Type 0 where
   pub name : is_temp g.name ≡ true
   pub width : g.width ≡ value_width n f.signals.items x
   pub kind : g.kind ≡ Wire (Some (node_cell made node))
 
--- the signals are those that are kept, and then one for each node that is read
+-- the signals are the kept ones, and then one for each node that is read
 pub record Builds (n : Netlist) (f : Values) (read : List Bool) (made : List Sig) (m : Netlist) : Type 0 where
   pub own : (x : ℕ) → x < f.kept → sig_at made x ≡ x
   pub kept : (x : ℕ) → x < f.kept → slice_get m.signals x ≡ Some (kept_signal n f made (sig_at f.signals.items x))
@@ -85,9 +84,9 @@ pub record Builds (n : Netlist) (f : Values) (read : List Bool) (made : List Sig
       → sig_at made (f.kept + i) ≡ sig_at made (f.kept + j) → i ≡ j
   pub outputs : m.outputs ≡ map (λ o. (o.0, new_number f made o.1)) n.outputs
 
--- ---- marks that are set one after another
+-- ---- setting marks one after another
 
--- those that were set stay, and the new ones are those of P
+-- marks that were set stay, and the new ones are exactly those of P
 pub record Marks (old new : List Bool) (P : ℕ → Type 0) : Type 0 where
   pub long : length new ≡ length old
   pub stays : (x : ℕ) → read_at old x ≡ true → read_at new x ≡ true
@@ -103,21 +102,21 @@ pub record HasValues (n : Netlist) (f : Values) (bound : ℕ) : Type 0 where
   pub full : length f.ids.items ≡ length n.signals
   pub known : (s : ℕ) → s < length n.signals → sig_at f.ids.items s < bound
 
--- what a signal that is kept reads: a register its next signal, a named wire its operands
+-- what a kept signal reads: a register its next signal, a named wire its operands
 pub data ReadBy (n : Netlist) (a s : ℕ) : Type 0 where
   as_next : (init : ℕ) → kind_at n a ≡ Reg init (Some s) → ReadBy n a s
   as_operand : IsWire n a → is_numbered (name_at n a) ≡ false → Reads n a s → ReadBy n a s
 
--- an operand of the node of that place, where that node's value is marked
+-- s is an operand of the node at this place, and the value of that node is marked
 abbrev pub IsOperandAt : Values → List Bool → ℕ → ℕ → Type 0
 IsOperandAt f read place x =
     (node : Node) × (i : ℕ) × (slice_get f.nodes place ≡ Some node) × (slice_get (node_operands node) i ≡ Some x) × (read_at read (f.kept + place) ≡ true)
 
--- the node of that place has values before its own as operands
+-- the operands of the node at this place are values before its own
 abbrev pub ReadsLower : Values → ℕ → Type 0
 ReadsLower f place = (node : Node) (i x : ℕ) → slice_get f.nodes place ≡ Some node → slice_get (node_operands node) i ≡ Some x → x < f.kept + place
 
--- the values of these
+-- x is the value of a signal that kept signal a reads; and of an operand of wire a
 pub record HasReader (n : Netlist) (f : Values) (a x : ℕ) : Type 0 where
   pub signal : ℕ
   pub reads : ReadBy n a signal
@@ -128,13 +127,13 @@ pub record HasOperand (n : Netlist) (f : Values) (a x : ℕ) : Type 0 where
   pub reads : Reads n a signal
   pub is : IsValueOf f signal x
 
--- the values of the signals that kept signals below a read
+-- x is the value of a signal that some kept signal below a reads
 pub record HasReaderBelow (n : Netlist) (f : Values) (a x : ℕ) : Type 0 where
   pub reader : ℕ
   pub below : reader < a
   pub has : HasReader n f reader x
 
--- the operands of the node of a value that is marked
+-- x is an operand of a node, at place j or later, whose value is marked
 pub record HasNodeAbove (f : Values) (read : List Bool) (j x : ℕ) : Type 0 where
   pub place : ℕ
   pub above : j ≤ place
@@ -153,7 +152,7 @@ pub record HasOutputBelow (n : Netlist) (f : Values) (count x : ℕ) : Type 0 wh
   pub there : slice_get n.outputs index ≡ Some output
   pub is : IsValueOf f output.1 x
 
--- these are marked, and no others
+-- exactly the values of P are marked
 pub record Marked (count : ℕ) (read : List Bool) (P : ℕ → Type 0) : Type 0 where
   pub long : length read ≡ count
   pub sets : (x : ℕ) → P x → read_at read x ≡ true
@@ -162,18 +161,18 @@ pub record Marked (count : ℕ) (read : List Bool) (P : ℕ → Type 0) : Type 0
 abbrev pub IsRootBelow : Netlist → Values → ℕ → ℕ → Type 0
 IsRootBelow n f count x = HasReaderBelow n f (length n.signals) x ⊎ HasOutputBelow n f count x
 
--- ---- the signals that are declared
+-- ---- declaring signals
 
 abbrev pub open_kind : Kind → Kind
 open_kind Input = Input
 open_kind (Reg init next) = Reg init None
 open_kind (Wire cell) = Wire None
 
--- a signal with the name, the width and the sort of another, and nothing set
+-- a signal with the name, the width and the kind of another, which is not set
 abbrev pub open_signal : Netlist → ℕ → Signal
 open_signal n s = record { name = name_at n s; width = width_of n s; kind = open_kind (kind_at n s) }
 
--- one more temporary, with this cell
+-- the new net has one more temporary, with this cell
 pub record IsAdded (old new : Netlist) (c : Cell) : Type 0 where
   pub width : ℕ
   pub gives : op_width c.op (map (width_of old) c.operands) ≡ Some width

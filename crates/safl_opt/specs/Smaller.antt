@@ -1,4 +1,4 @@
--- What `optimise` makes of a net.
+-- The result of `optimise`.
 use Rattle.safl_net.specs.Netlist.{Netlist, AllSet}
 use Rattle.safl_net.specs.Names.{IsTidy}
 use Rattle.safl_net.specs.Valuations.{IsAcyclic}
@@ -7,7 +7,8 @@ use Rattle.safl_net.specs.Mirrors.{Alike, Mirrors, IsLaidOut}
 use Rattle.safl_opt.specs.Lean.{Lean}
 use Rattle.safl_net.specs.MirrorRuns.{RunsAlike}
 
--- it has all but the temporary wires, in order, and all its numbers, cycle by cycle and run by run; and it is lean
+-- The new net has everything of the old one but temporary wires, in the same order, and the same numbers, cycle by cycle and run
+-- by run. It is lean.
 pub record IsSmaller (n m : Netlist) : Type 0 where
   pub alike : Alike n m
   pub mirrors : Mirrors n m

@@ -1,4 +1,4 @@
--- The values of a net: its wires by numbers, such that wires with one number have one word in every cycle.
+-- The values of a net. Wires with the same value have the same word in every cycle.
 use Rattle.std.specs.Prelude.{◌≡◌, ◌≢◌, ℕ, zero, suc, ◌+◌, ◌-◌, ◌<◌, ◌≤◌, List, [], ◌∷◌, ◌++◌, map, length, Option}
 use Rattle.std.specs.Prelude.{Some, None, Bool, true, false, cond, not, ◌&&◌, nat_lt, ◌⊎◌, slice_get, slice_set}
 use Rattle.safl_word.specs.Words.{Word, IsWord}
@@ -17,7 +17,7 @@ use Rattle.safl_opt.specs.declared.fold.Made.TheVariants.{Same, New}
 use Rattle.safl_opt.specs.Lean.{is_numbered, is_constant, IsTemporary}
 use Rattle.safl_opt.specs.Nodes.{node_op, node_operands}
 
--- ---- the signals that are kept
+-- ---- the kept signals
 
 abbrev pub is_input : Kind → Bool
 is_input Input = true
@@ -45,7 +45,7 @@ inputs_below n i = below (λ s. is_input (kind_at n s)) i
 abbrev pub registers_below : Netlist → ℕ → List ℕ
 registers_below n i = below (λ s. is_register (kind_at n s)) i
 
--- a wire with a name of its own
+-- the signal is a wire with a name of its own
 abbrev pub is_named_wire : Netlist → ℕ → Bool
 is_named_wire n s = is_wire (kind_at n s) && not (is_numbered (name_at n s))
 
@@ -64,14 +64,14 @@ sig_at [] i = 0
 sig_at (x ∷ xs) zero = x.0
 sig_at (x ∷ xs) (suc i) = sig_at xs i
 
--- the word of a value, as that of its signal
+-- the word of a value, which is that of a signal with the value
 abbrev pub value_word : Val → List Sig → ℕ → Word
 value_word v signals x = v (sig_at signals x)
 
 abbrev pub value_width : Netlist → List Sig → ℕ → ℕ
 value_width n signals x = width_of n (sig_at signals x)
 
--- a value is a constant's
+-- whether a value is that of a constant
 abbrev pub is_const_node : Option Node → Bool
 is_const_node None = false
 is_const_node (Some (Const w)) = true
@@ -82,25 +82,26 @@ is_const_node (Some (Two p a b)) = false
 abbrev pub is_fixed : Netlist → ℕ → List Sig → List Node → ℕ → Bool
 is_fixed n kept signals nodes x = cond (nat_lt x kept) (is_constant n (sig_at signals x)) (is_const_node (slice_get nodes (x - kept)))
 
--- a is no wire, or stands before place p of the order
+-- a is no wire, or comes before place p of the order
 abbrev pub Before : Netlist → List ℕ → ℕ → ℕ → Type 0
 Before n ws a p = (¬ IsWire n a) ⊎ ((i : ℕ) × (i < p) × (slice_get ws i ≡ Some a))
 
--- the value x is that of the signal s: it has its width, its word in every cycle, and stands no later
+-- x is the value of signal s: its own signal has the width and, in every cycle, the word of s, and comes no later
 pub record HasValue (n : Netlist) (ws : List ℕ) (signals : List Sig) (s x : ℕ) : Type 0 where
   pub known : x < length signals
   pub width : value_width n signals x ≡ width_of n s
   pub word : (v : Val) → Wired n v → value_word v signals x ≡ v s
   pub early : (p : ℕ) → Before n ws s p → Before n ws (sig_at signals x) p
 
--- a node that could not be spared: some operand of a primitive is no constant, and a choice is by none and between two
+-- the node could not be spared: a primitive has an operand that is no constant, and the condition of a choice between two values
+-- is no constant
 abbrev pub IsLeanNode : (ℕ → Bool) → Node → Type 0
 IsLeanNode fixed (Const w) = Unit {0}
 IsLeanNode fixed (Mux c a b) = (fixed c.0 ≡ false) × (a.0 ≢ b.0)
 IsLeanNode fixed (One p a) = fixed a.0 ≡ false
 IsLeanNode fixed (Two p a b) = (fixed a.0 && fixed b.0) ≡ false
 
--- the value x, of the node, has the node's word in every cycle; the operands are values before it
+-- The value x of the node has the node's word in every cycle. The operands are values before x.
 pub record IsMade (n : Netlist) (ws : List ℕ) (count kept : ℕ) (signals : List Sig) (nodes : List Node) (x : ℕ) (node : Node) : Type 0 where
   pub place : ℕ
   pub past : place < count
@@ -111,11 +112,11 @@ pub record IsMade (n : Netlist) (ws : List ℕ) (count kept : ℕ) (signals : Li
   pub good : HasWord (node_op node)
   pub lean : IsLeanNode (is_fixed n kept signals nodes) node
 
--- the signal has its value: it is kept, or one of the first of the order
+-- the signal has its value: it is kept, or is one of the first in the order
 abbrev pub IsDone : Netlist → List ℕ → ℕ → ℕ → Type 0
 IsDone n ws count s = (s < length n.signals) × ((¬ IsTemporary n s) ⊎ ((i : ℕ) × (i < count) × (slice_get ws i ≡ Some s)))
 
--- the first values are those of the signals that are kept, and each other one has its node
+-- the first values are those of the kept signals, and every other value has its node
 pub record Folds (n : Netlist) (ws : List ℕ) (count : ℕ) (f : Values) : Type 0 where
   pub rest : List ℕ
   pub first : numbers f.signals.items ≡ kept_in n ++ rest
@@ -127,17 +128,17 @@ pub record Folds (n : Netlist) (ws : List ℕ) (count : ℕ) (f : Values) : Type
   pub values : (s : ℕ) → IsDone n ws count s → HasValue n ws f.signals.items s (sig_at f.ids.items s)
   pub made : (j : ℕ) (node : Node) → slice_get f.nodes j ≡ Some node → IsMade n ws count f.kept f.signals.items f.nodes (f.kept + j) node
 
--- the wire stands next in the order
+-- the wire is the next in the order
 abbrev pub IsNext : Netlist → Values → ℕ → Type 0
 IsNext n f wire = (ws : List ℕ) × (count : ℕ) × IsOrder n ws × Folds n ws count f × (slice_get ws count ≡ Some wire)
 
--- and then it has its value
+-- the wire was the next in the order, and now has its value
 abbrev pub Adds : Netlist → Values → ℕ → Values → Type 0
 Adds n f wire g = (ws : List ℕ) (count : ℕ) → IsOrder n ws → Folds n ws count f → slice_get ws count ≡ Some wire → Folds n ws (count + 1) g
 
 -- ---- what a cell comes to
 
--- the value of an operand, with the cell's word in every cycle
+-- the cell has, in every cycle, the word of value x, which is that of an operand
 pub record IsSame (n : Netlist) (f : Values) (c : Cell) (x : ℕ) : Type 0 where
   pub place : ℕ
   pub operand : ℕ
@@ -146,7 +147,7 @@ pub record IsSame (n : Netlist) (f : Values) (c : Cell) (x : ℕ) : Type 0 where
   pub word : (v : Val) → Wired n v → value_word v f.signals.items x ≡ cell_word c.op (map v c.operands)
   pub gives : op_width c.op (widths n c.operands) ≡ Some (value_width n f.signals.items x)
 
--- a node with the cell's word in every cycle, over values of the cell's operands
+-- the node has, in every cycle, the word of the cell, and its operands are values of the cell's operands
 pub record IsNew (n : Netlist) (f : Values) (c : Cell) (node : Node) : Type 0 where
   pub operands : (i x : ℕ) → slice_get (node_operands node) i ≡ Some x → (k : ℕ) × (s : ℕ) × (slice_get c.operands k ≡ Some s) × (sig_at f.ids.items s ≡ x)
   pub word : (v : Val) → Wired n v → cell_word (node_op node) (map (value_word v f.signals.items) (node_operands node)) ≡ cell_word c.op (map v c.operands)
@@ -168,15 +169,15 @@ pub record IsReady (n : Netlist) (f : Values) (c : Cell) : Type 0 where
   pub good : HasWord c.op
   pub operands : (i s : ℕ) → slice_get c.operands i ≡ Some s → IsDone n ws count s
 
--- the word of a value that is a constant's
+-- value x is a constant with word w
 pub record IsFixed (n : Netlist) (f : Values) (x : ℕ) (w : Word) : Type 0 where
   pub word : (v : Val) → Wired n v → value_word v f.signals.items x ≡ w
   pub width : w.width ≡ value_width n f.signals.items x
   pub is : IsWord w
 
--- ---- what is added
+-- ---- adding values
 
--- the node has the value of that number, and the wire is that value's signal where the node is new
+-- the value with this number is that of the node. If the node is new, the wire is the signal of the value
 pub record IsPut (old new : Values) (wire : Sig) (node : Node) (x : ℕ) : Type 0 where
   pub place : ℕ
   pub number : x ≡ old.kept + place

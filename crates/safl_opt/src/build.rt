@@ -1,4 +1,4 @@
-//! The net of values.
+//! The optimised net, built from the values of a net.
 
 ghost use Rattle.std.specs.Prelude.{◌≡◌, ◌<◌, ◌≤◌, ◌+◌, ◌^◌, ℕ, List, [], ◌∷◌, ◌++◌, Some, None, All, map, length, slice_get, IfOk, OnOk, OnErr};
 ghost use Rattle.safl_net.specs.Netlist.{Input, Reg, Wire, width_of};
@@ -21,7 +21,7 @@ use safl_net::{Net, NetErr, Op, Sig, SigKind};
 use safl_word::{NoMemory, Word};
 use std::alloc::Global;
 
-/// The net of the values that are read: what is kept, in order, then a temporary for each node that is read.
+/// The net of the values that are read: first the kept signals, in order, then a temporary for each node that is read.
 pub fn build(alloc: Global, old: &Net, values: &Values, read: &[bool]) -> Result<Net, NoMemory>
     requires few { length old.now.signals < 2 ^ 31 }
     requires tidy { IsTidy old.now }
@@ -40,7 +40,7 @@ pub fn build(alloc: Global, old: &Net, values: &Values, read: &[bool]) -> Result
     Ok(net)
 }
 
-// The signals that are kept, with nothing set.
+// Adds the kept signals. Their cells and next signals are set later.
 fn declare_kept(net: &mut Net, old: &Net, values: &Values) -> Result<(), NoMemory>
     requires few { length old.now.signals < 2 ^ 31 }
     requires folds { (ws : List ℕ) × Folds old.now ws (length ws) values.now }
@@ -54,7 +54,7 @@ fn declare_kept(net: &mut Net, old: &Net, values: &Values) -> Result<(), NoMemor
     Ok(())
 }
 
-// The next signal has the name, width and kind of this one, and nothing is set.
+// Adds a signal with the name, width and kind of `s`, which is set later.
 fn declare(net: &mut Net, old: &Net, s: Sig) -> Result<(), NoMemory>
     requires known { s.0 < length old.now.signals }
     requires room { length net.old.signals < 4294967295 }
@@ -109,7 +109,7 @@ fn declare_wire(net: &mut Net, name: &str, width: u8) -> Result<(), NoMemory>
     }
 }
 
-// A temporary for each node that is read; the signals of all values.
+// Adds a temporary for each node that is read. Returns the signals of all values.
 fn make_nodes(
     alloc: Global,
     net: &mut Net,
@@ -133,7 +133,7 @@ fn make_nodes(
     Ok(made)
 }
 
-// The signals that are kept have their values as their numbers.
+// The new signals of the kept values: each has the number of its value. There is room for `count` signals.
 fn own_numbers(alloc: Global, kept: u32, count: usize) -> Result<Vec<Sig>, NoMemory>
     ensures long { IfOk result (λ made. length made.items ≡ kept) }
     ensures own { IfOk result (λ made. (x : ℕ) → x < kept → sig_at made.items x ≡ x) }
@@ -145,7 +145,7 @@ fn own_numbers(alloc: Global, kept: u32, count: usize) -> Result<Vec<Sig>, NoMem
     Ok(made)
 }
 
-// The temporary of a node, or any signal where it is not read.
+// The temporary of the node at `place`, or any signal if the node is not read.
 fn place_node(
     net: &mut Net,
     old: &Net,
@@ -189,7 +189,7 @@ fn make_node(net: &mut Net, made: &[Sig], node: Node) -> Result<Sig, NoMemory>
     }
 }
 
-// The number of a signal's value.
+// The new signal that has the value of `s`.
 fn new_number(values: &Values, made: &[Sig], s: Sig) -> Sig
     requires known { s.0 < length values.now.ids.items }
     requires listed { sig_at values.now.ids.items s.0 < length made.now }
@@ -198,7 +198,7 @@ fn new_number(values: &Values, made: &[Sig], s: Sig) -> Sig
     made[values.ids[s.0 as usize].0 as usize]
 }
 
-// Each register that is kept gets its next signal, and each wire its cell.
+// Sets the next signal of each kept register and the cell of each kept wire.
 fn set_kept(net: &mut Net, old: &Net, values: &Values, read: &[bool], made: &[Sig])
     requires folds { (ws : List ℕ) × IsOrder old.now ws × Folds old.now ws (length ws) values.now }
     requires read { AreRead old.now values.now read.now }
@@ -287,7 +287,7 @@ fn set_cell(net: &mut Net, s: Sig, op: Op, operands: &[Sig])
     }
 }
 
-// The outputs, each with the number of its signal's value.
+// Adds the outputs. Each shows the new signal of its value.
 fn show_outputs(net: &mut Net, old: &Net, values: &Values, made: &[Sig]) -> Result<(), NoMemory>
     requires tidy { IsTidy old.now }
     requires numbers { HaveNumbers old.now values.now made.now net.old }

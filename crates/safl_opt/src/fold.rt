@@ -1,4 +1,4 @@
-//! Values of a net: each wire's value by a number, equal cells by one, and constants folded.
+//! The values of a net. Each wire has a value by its number; equal cells have one value, and constants are folded.
 
 ghost use Rattle.std.specs.Prelude.{◌≡◌, ◌<◌, ◌≤◌, ◌+◌, ◌++◌, ℕ, List, [], ◌∷◌, ◌^◌, Some, length, slice_get, is_some, cond, IfOk, OnOk, IfSome};
 ghost use Rattle.safl_word.specs.Words.{Word};
@@ -19,27 +19,27 @@ use safl_net::{Cell, Net, Op, Sig, SigKind};
 use safl_word::{Word, apply};
 use std::alloc::{AllocError, Global};
 
-/// The values of a net. The first are those of the signals that are kept: inputs, registers and named wires, in order.
-/// Each other one is given by a node.
+/// The values of a net. The first are those of the kept signals: inputs, registers and named wires, in order. Every
+/// other value is given by a node.
 #[derive(Drop)]
 pub struct Values {
-    /// The number of signals that are kept.
+    /// The number of kept signals.
     pub kept: u32,
-    /// A signal with the value.
+    /// For each value, a signal that has it.
     pub signals: Vec<Sig>,
     pub nodes: Nodes,
-    /// The value of each signal.
+    /// For each signal, its value.
     pub ids: Vec<Sig>,
 }
 
-/// What a cell comes to: a value that is there, or what a node gives.
+/// What a cell comes to: a value that is there already, or the node of another one.
 #[derive(Clone, Copy)]
 pub enum Made {
     Same(Sig),
     New(Node),
 }
 
-/// The values of a net whose wires stand in this order of evaluation.
+/// The values of a net, found in an order of evaluation of its wires.
 pub fn fold(alloc: Global, net: &Net, wires: &[Sig]) -> Result<Values, AllocError>
     requires few { length net.now.signals < 2 ^ 31 }
     requires order { IsOrder net.now (numbers wires.now) }
@@ -53,7 +53,7 @@ pub fn fold(alloc: Global, net: &Net, wires: &[Sig]) -> Result<Values, AllocErro
 }
 
 impl Values {
-    // The values of the signals that are kept.
+    // The values of the kept signals.
     fn new(alloc: Global, net: &Net) -> Result<Values, AllocError>
         requires { length net.now.signals < 2 ^ 31 }
         ensures { IfOk result (λ f. (ws : List ℕ) → Folds net.now ws 0 f) }
@@ -68,7 +68,7 @@ impl Values {
         })
     }
 
-    // The value of a wire whose operands have theirs.
+    // Adds the value of a wire whose operands have theirs.
     fn add(&mut self, net: &Net, wire: Sig) -> Result<(), AllocError>
         requires few { length net.now.signals < 2 ^ 31 }
         requires next { IsNext net.now self.old wire.0 }
@@ -94,7 +94,7 @@ impl Values {
         }
     }
 
-    // The value of a node that has the value of this wire.
+    // The value of a node. If it is a new one, `wire` is the signal that has it.
     fn put(&mut self, wire: Sig, node: Node) -> Result<Sig, AllocError>
         requires counted { length self.old.signals.items ≡ self.old.kept + length self.old.nodes }
         requires room { self.old.kept + length self.old.nodes < 2 ^ 32 }
@@ -115,7 +115,7 @@ impl Values {
         self.ids[wire.0 as usize] = id;
     }
 
-    // The word of a value that is a constant's.
+    // The word of a value that is a constant.
     fn constant(&self, net: &Net, id: Sig) -> Option<Word>
         requires folds { (ws : List ℕ) × (count : ℕ) × Folds net.now ws count self.now }
         requires known { id.0 < length self.now.signals.items }
@@ -212,7 +212,7 @@ impl Values {
     }
 }
 
-// A table in which each of the signals has its place as its value.
+// A table in which the value of each of these signals is its place in the list.
 fn number(alloc: Global, count: usize, signals: &[Sig]) -> Result<Vec<Sig>, AllocError>
     requires known { (x : ℕ) → x < length signals.now → sig_at signals.now x < count }
     requires apart { (x y : ℕ) → x < length signals.now → y < length signals.now → sig_at signals.now x ≡ sig_at signals.now y → x ≡ y }

@@ -1,4 +1,4 @@
-//! Smaller netlists: constants are folded, equal cells shared, and wires that nothing reads left out.
+//! Optimisation of netlists: constants are folded, equal cells are shared, and wires that nothing reads are left out.
 #![tactic(auto)]
 
 mod build;

@@ -1,4 +1,4 @@
-//! The values that are read.
+//! Liveness: which values are read.
 
 ghost use Rattle.std.specs.Prelude.{◌≡◌, ◌<◌, ◌≤◌, ◌+◌, ℕ, List, true, false, length, IfOk};
 ghost use Rattle.safl_net.specs.Rules.{IsNetlist};
@@ -25,7 +25,7 @@ pub fn read_values(alloc: Global, net: &Net, values: &Values) -> Result<Vec<bool
     Ok(read)
 }
 
-// Those that are read, where nothing is marked.
+// Marks the values that are read. Nothing is marked before.
 fn mark_values(read: &mut [bool], net: &Net, values: &Values)
     requires folds { (ws : List ℕ) × IsOrder net.now ws × Folds net.now ws (length ws) values.now }
     requires long { length read.old ≡ length values.now.signals.items }
@@ -47,7 +47,7 @@ fn mark_values(read: &mut [bool], net: &Net, values: &Values)
     }
 }
 
-// The value of a signal.
+// Marks the value of a signal.
 fn mark(read: &mut [bool], values: &Values, s: Sig)
     requires known { s.0 < length values.now.ids.items }
     requires within { sig_at values.now.ids.items s.0 < length read.old }
@@ -56,7 +56,7 @@ fn mark(read: &mut [bool], values: &Values, s: Sig)
     read[values.ids[s.0 as usize].0 as usize] = true;
 }
 
-// What a signal that is kept reads.
+// Marks what a kept signal reads.
 fn mark_signal(read: &mut [bool], net: &Net, values: &Values, s: Sig)
     requires known { s.0 < length net.now.signals }
     requires values { HasValues net.now values.now (length read.old) }
@@ -100,7 +100,7 @@ fn mark_all(read: &mut [bool], values: &Values, all: &[Sig])
     }
 }
 
-// What the node of a value that is read reads.
+// Marks what the node at a place reads, if its own value is read.
 fn mark_node(read: &mut [bool], values: &Values, place: usize)
     requires place { place < length values.now.nodes }
     requires room { values.now.kept + length values.now.nodes ≤ length read.old }

@@ -1,4 +1,4 @@
-//! Smaller nets.
+//! The optimiser.
 
 ghost use Rattle.std.specs.Prelude.{◌≡◌, ◌<◌, ◌^◌, length, IfOk, IfErr};
 ghost use Rattle.safl_net.specs.Names.{IsTidy};
@@ -12,10 +12,10 @@ use safl_order::Ordered;
 use safl_word::NoMemory;
 use std::alloc::Global;
 
-/// A smaller net that does the same: constants are folded, equal cells shared, copies followed, choices by constants made,
-/// and temporary wires that nothing reads left out. It has the same inputs, registers, named wires and outputs, in this
-/// order before all temporary wires, and in every cycle the same words for them. Time and memory are linear but for the
-/// table of cells. `Err` comes only if out of memory, and hands the net back as it was.
+/// A smaller net that does the same: constants are folded, equal cells shared, copies followed, choices by constants
+/// made, and temporary wires that nothing reads left out. Inputs, registers, named wires and outputs stay. They are in
+/// the same order, before all temporary wires, and have the same words in every cycle. Time and memory are linear,
+/// apart from the table of cells. `Err` comes only if out of memory, and hands the net back as it was.
 pub fn optimise(alloc: Global, o: Ordered) -> Result<Net, Ordered>
     requires few { length o.net.signals < 2 ^ 31 }
     requires tidy { IsTidy o.net }

@@ -1,4 +1,4 @@
-//! Lean nets.
+//! Lean nets: no temporary wire could be spared.
 
 ghost use Rattle.std.specs.Prelude.{◌≡◌, ◌≢◌, ◌<◌, ℕ, List, false, Some, All, IsTrue, ◌↔◌, ◌⊎◌, length, slice_get};
 ghost use Rattle.safl_net.specs.Netlist.{Reg, Wire};
@@ -13,9 +13,10 @@ ghost use Rattle.safl_opt.specs.Spare.{IsChoice, IsNeeded, IsAlone, IsReader, Is
 use crate::names::is_temporary;
 use safl_net::{Cell, Net, Op, Sig, SigKind};
 
-/// Whether none of the temporary wires of a net without loops could be spared: each that is no constant has an operand
-/// that is none, no two have one cell, none is a copy, none a choice by a constant or between one signal and the same,
-/// and each is reached from an output, a register or a named wire. It takes no memory, and its time is quadratic.
+/// Whether no temporary wire of a net without loops could be spared. Each temporary that is no constant has an operand
+/// that is no constant; no two temporaries have the same cell; none is a copy, a choice by a constant, or a choice
+/// between a signal and itself; and each is reached from an output, a register or a named wire. Takes no memory. Its
+/// time is quadratic.
 pub fn lean(n: &Net) -> bool
     requires { IsAcyclic n.now }
     ensures { IsTrue result ↔ Lean n.now }
@@ -28,7 +29,7 @@ pub fn lean(n: &Net) -> bool
     true
 }
 
-// A temporary is wanted.
+// Whether a signal is no temporary, or one that could not be spared.
 fn is_fine(n: &Net, s: Sig) -> bool
     requires { s.0 < length n.now.signals }
     ensures { IsTrue result ↔ (IsTemporary n.now s.0 → IsWanted n.now s.0) }
@@ -121,7 +122,7 @@ fn is_constant(n: &Net, s: Sig) -> bool
     }
 }
 
-// No other temporary has the cell.
+// Whether no other temporary has this cell.
 fn is_alone(n: &Net, s: Sig, cell: &Cell) -> bool
     ensures { IsTrue result ↔ IsAlone n.now s.0 (cell_of cell.now) }
 {
@@ -133,7 +134,7 @@ fn is_alone(n: &Net, s: Sig, cell: &Cell) -> bool
     true
 }
 
-// The signal is that one, or no temporary with the cell.
+// Whether `t` is `s`, or no temporary with this cell.
 fn is_other(n: &Net, t: Sig, s: Sig, cell: &Cell) -> bool
     requires { t.0 < length n.now.signals }
     ensures { IsTrue result ↔ (HasCell n.now t.0 (cell_of cell.now) → t.0 ≡ s.0) }
@@ -195,7 +196,7 @@ fn is_equal(a: Sig, b: Sig) -> bool
     a.0 == b.0
 }
 
-// An output shows it, a register has it next, or a wire has it as an operand.
+// Whether an output shows the signal, a register has it as its next signal, or a wire has it as an operand.
 fn is_read(n: &Net, s: Sig) -> bool
     ensures { IsTrue result ↔ HasReader n.now s.0 }
 {

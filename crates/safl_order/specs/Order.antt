@@ -8,7 +8,7 @@ abbrev pub operands_in : Option Cell → List ℕ
 operands_in None = []
 operands_in (Some c) = c.operands
 
--- the operands of the cell of a wire
+-- the operands of a wire's cell
 abbrev pub operands_of : Netlist → ℕ → List ℕ
 operands_of n s = operands_in (cell_in (kind_at n s))
 
@@ -19,13 +19,13 @@ IsWire n s = sort_of (kind_at n s) ≡ SigKind.Wire
 abbrev pub Reads : Netlist → ℕ → ℕ → Type 0
 Reads n a b = (i : ℕ) × (slice_get (operands_of n a) i ≡ Some b)
 
--- each has the next as an operand, and the last has t
+-- each wire of the list has the next one as an operand, and the last one has t
 abbrev pub Leads : Netlist → List ℕ → ℕ → Type 0
 Leads n [] t = Unit {0}
 Leads n (a ∷ []) t = Reads n a t
 Leads n (a ∷ (b ∷ ws)) t = Reads n a b × Leads n (b ∷ ws) t
 
--- different wires, each with the next as an operand and the last with the first; the first is the least
+-- different wires, each with the next one as an operand, and the last with the first. The first has the least number
 pub record IsLoop (n : Netlist) (ws : List ℕ) : Type 0 where
   pub first : ℕ
   pub rest : List ℕ
@@ -34,7 +34,7 @@ pub record IsLoop (n : Netlist) (ws : List ℕ) : Type 0 where
   pub apart : (i j s : ℕ) → slice_get ws i ≡ Some s → slice_get ws j ≡ Some s → i ≡ j
   pub least : (i s : ℕ) → slice_get ws i ≡ Some s → first ≤ s
 
--- all is set, and each wire stands once, after those of its operands that are wires
+-- everything is set, and each wire is in the list once, after those of its operands that are wires
 pub record IsOrder (n : Netlist) (ws : List ℕ) : Type 0 where
   pub set : AllSet n
   pub wires : (i s : ℕ) → slice_get ws i ≡ Some s → IsWire n s

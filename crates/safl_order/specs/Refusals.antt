@@ -7,7 +7,7 @@ use Rattle.safl_order.specs.declared.ordered.OrderErr.{OrderErr}
 use Rattle.safl_order.specs.declared.ordered.OrderErr.TheVariants.{Loop, Unset, NoMemory}
 use Rattle.safl_order.specs.Order.{IsLoop}
 
--- the net comes back; something is unset exactly where that is said, and a loop is shown
+-- The error hands the net back. It says that something is unset exactly if it is, and shows a loop if there is one.
 abbrev pub Refuses : Netlist → OrderErr → Type 0
 Refuses n (Loop ws m) = (m ≡ n) × AllSet n × IsLoop n (numbers ws.items)
 Refuses n (Unset s m) = (m ≡ n) × IsLeastUnset n s.0

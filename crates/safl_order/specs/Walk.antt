@@ -12,7 +12,7 @@ use Rattle.safl_order.specs.declared.walk.Stop.TheVariants.{Loop, NoMemory}
 use Rattle.safl_order.specs.declared.walk.Walk.{Walk}
 use Rattle.safl_order.specs.Order.{operands_of, IsWire}
 
--- the number of signals that are not seen
+-- the number of signals that the walk has not reached
 abbrev pub one_unseen : Mark → ℕ
 one_unseen Unseen = 1
 one_unseen (Open k) = 0
@@ -22,26 +22,26 @@ abbrev pub unseen : List Mark → ℕ
 unseen [] = 0
 unseen (m ∷ ms) = one_unseen m + unseen ms
 
--- the wire is done, at a place below this
+-- the wire is finished, at a place below this one
 abbrev pub DoneBelow : List Mark → ℕ → ℕ → Type 0
 DoneBelow marks i t = (j : ℕ) × (j < i) × (slice_get marks t ≡ Some (Done j))
 
--- the operands of a wire as the walk looks at them: from the last to the first
+-- the operands of a wire in the order in which the walk looks at them: from the last to the first
 abbrev pub looked_at : Netlist → ℕ → List ℕ
 looked_at n s = reverse (operands_of n s)
 
--- the next operand of a frame
+-- t is the next operand that the frame looks at
 abbrev pub Looks : Netlist → Frame → ℕ → Type 0
 Looks n f t = slice_get (looked_at n f.wire.0) f.next ≡ Some t
 
--- a wire whose operands that were looked at before the next one are done where they are wires
+-- a wire on the stack. Those operands that come before the next one are finished if they are wires
 pub record FrameFits (n : Netlist) (marks : List Mark) (count : ℕ) (f : Frame) : Type 0 where
   pub wire : IsWire n f.wire.0
   pub within : f.next ≤ length (looked_at n f.wire.0)
   pub few : f.next ≤ 3
   pub past : (i t : ℕ) → i < f.next → slice_get (looked_at n f.wire.0) i ≡ Some t → IsWire n t → DoneBelow marks count t
 
--- the marks say where wires stand among those done and on the stack, and each wire on the stack looks at the next
+-- The marks say where wires are, among the finished ones or on the stack. Each wire on the stack looks at the one above it.
 pub record Walks (n : Netlist) (done : List Sig) (marks : List Mark) (stack : List Frame) : Type 0 where
   pub made : IsNetlist n
   pub long : length marks ≡ length n.signals
@@ -55,7 +55,7 @@ pub record Walks (n : Netlist) (done : List Sig) (marks : List Mark) (stack : Li
   pub count : length done + length stack + unseen marks ≡ length marks
   pub path : (k : ℕ) (f g : Frame) → slice_get stack k ≡ Some f → slice_get stack (suc k) ≡ Some g → Looks n f g.wire.0
 
--- what the stack has still to look at
+-- how many operands the stack still has to look at
 abbrev pub stack_work : List Frame → ℕ
 stack_work [] = 0
 stack_work (f ∷ fs) = (4 - f.next) + stack_work fs
@@ -63,29 +63,28 @@ stack_work (f ∷ fs) = (4 - f.next) + stack_work fs
 abbrev pub work : List Mark → List Frame → ℕ
 work marks stack = 5 * unseen marks + stack_work stack
 
--- what is done stays, and nothing is forgotten
+-- finished wires stay finished, and every signal that was reached stays so
 pub record Goes (old new : List Mark) : Type 0 where
   pub done : (s i : ℕ) → slice_get old s ≡ Some (Done i) → slice_get new s ≡ Some (Done i)
   pub seen : (s : ℕ) → slice_get new s ≡ Some Unseen → slice_get old s ≡ Some Unseen
 
--- the frame on top of the stack
 pub record IsTop (stack : List Frame) (f : Frame) : Type 0 where
   pub place : ℕ
   pub last : suc place ≡ length stack
   pub at : slice_get stack place ≡ Some f
 
--- the place on top of a stack, and the frame that stands there
+-- the place of the top of a stack; and the frame there
 abbrev pub top_place : Vec Frame Global → ℕ
 top_place stack = vec_len stack - 1
 
 abbrev pub HasTop : Vec Frame Global → Frame → Type 0
 HasTop stack f = slice_get stack.items (top_place stack) ≡ Some f
 
--- a frame that is past one more operand
+-- the frame after one more operand
 abbrev pub passed : Frame → Frame
 passed f = record { wire = f.wire; next = f.next + 1 }
 
--- out of memory, and the marks and the stack stay; and so do the wires that are done
+-- out of memory: the marks and the stack are as they were; and so are the finished wires
 abbrev pub LeavesPath : Walk → Walk → Stop → Type 0
 LeavesPath old new e = (e ≡ NoMemory) × (new.marks.items ≡ old.marks.items) × (new.stack.items ≡ old.stack.items)
 
@@ -93,14 +92,14 @@ abbrev pub LeavesAll : Walk → Walk → Stop → Type 0
 LeavesAll old new e =
     (e ≡ NoMemory) × (new.wires.items ≡ old.wires.items) × (new.marks.items ≡ old.marks.items) × (new.stack.items ≡ old.stack.items)
 
--- the wire on top looks at t, which is not its fourth operand
+-- the wire on top looks at t, which is one of its first three operands
 pub record LooksAt (n : Netlist) (stack : List Frame) (t : ℕ) : Type 0 where
   pub top : Frame
   pub is_top : IsTop stack top
   pub looks : Looks n top t
   pub few : top.next < 3
 
--- the wire on top of the stack looks at the wire at a place of it
+-- the wire on top of the stack looks at the wire at place k of the stack
 pub record IsOpenLoop (n : Netlist) (stack : List Frame) (k : ℕ) : Type 0 where
   pub top : Frame
   pub is_top : IsTop stack top
@@ -112,13 +111,13 @@ abbrev pub IsStop : Netlist → List Frame → Stop → Type 0
 IsStop n stack (Loop k) = IsOpenLoop n stack k
 IsStop n stack NoMemory = Unit {0}
 
--- the frames from a place on, whose wire is the least, round to it
+-- the frames of a loop, turned so that the one with the least wire comes first
 pub record IsTurned (fs : List Frame) (ws : List Sig) : Type 0 where
   pub place : ℕ
   pub within : place < length fs
   pub is : ws ≡ map (λ (f : Frame). f.wire) (drop place fs ++ take place fs)
   pub least : (i : ℕ) (f g : Frame) → slice_get fs place ≡ Some f → slice_get fs i ≡ Some g → f.wire.0 ≤ g.wire.0
 
--- all wires below this are done
+-- all wires with lower numbers are finished
 abbrev pub AllDone : Netlist → List Mark → ℕ → Type 0
 AllDone n marks count = (s : ℕ) → s < count → IsWire n s → (i : ℕ) × (slice_get marks s ≡ Some (Done i))

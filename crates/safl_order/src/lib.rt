@@ -1,4 +1,4 @@
-//! The order in which the wires of a net are evaluated.
+//! An order in which the wires of a net can be evaluated.
 #![tactic(auto)]
 
 pub mod laws;

@@ -12,8 +12,8 @@ use safl_net::{Net, Sig};
 use std::alloc::Global;
 use std::marker::Model;
 
-/// A net whose wires and registers are set and in which no wire depends on itself, with its wires in an order in
-/// which each stands after its operands.
+/// A net with an order of evaluation: its wires, each after its operands. All wires and registers of the net are set,
+/// and no wire depends on itself.
 #[derive(Drop)]
 pub struct Ordered {
     net: Net,
@@ -32,12 +32,13 @@ impl Model for Ordered {
     ghost invariant = { λ o. IsOrder o.net (numbers o.wires.items) };
 }
 
-/// Why a net has no order. Each hands the net back.
+/// Why a net has no order. Every error hands the net back.
 #[derive(Drop)]
 pub enum OrderErr {
-    /// Different wires, each of which has the next as an operand, and the last the first, which is the least.
+    /// A loop: different wires, each of which has the next one as an operand, and the last one the first. The first has
+    /// the least number.
     Loop(Vec<Sig>, Net),
-    /// The least wire without a cell or register without a next signal.
+    /// The first wire without a cell or register without a next signal.
     Unset(Sig, Net),
     NoMemory(Net),
 }
@@ -61,8 +62,8 @@ impl Ordered {
     }
 }
 
-/// Orders the wires of a net. `Unset` comes exactly where something is unset, and `Loop` exactly where, all being
-/// set, wires depend on themselves. Time and memory are linear in cells and operands.
+/// Orders the wires of a net. `Unset` comes exactly if something is unset, and `Loop` exactly if all is set and some
+/// wires depend on themselves. Time and memory are linear in cells and operands.
 pub fn order(alloc: Global, net: Net) -> Result<Ordered, OrderErr>
     ensures ordered { IfOk result (λ o. o.net ≡ net) }
     ensures set { OnOk result (AllSet net) }

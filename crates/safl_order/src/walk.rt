@@ -1,5 +1,7 @@
-//! A walk from wires to their operands, deepest first, on a stack of its own. It looks at the operands of a wire from
-//! the last to the first: so what changes together in a simulation stands nearer together in the order.
+//! A walk from wires to their operands, deepest first, on a stack of its own.
+//!
+//! It looks at the operands of a wire from the last to the first. So what changes together in a simulation is closer
+//! together in the order.
 
 ghost use Rattle.std.specs.Prelude.{◌≡◌, ℕ, ◌+◌, ◌<◌, ◌≤◌, ◌^◌, [], ◌∷◌, ◌++◌, map, length, take, drop, Some};
 ghost use Rattle.std.specs.Prelude.{None, IfOk, IfErr, OnOk, IfSome, slice_get, slice_set, vec_len};
@@ -12,8 +14,8 @@ ghost use Rattle.safl_order.specs.Walk.{IsTurned, work, top_place, HasTop, passe
 use safl_net::{Net, Sig, SigKind};
 use std::alloc::{AllocError, Global};
 
-/// What is known of a signal: a wire on the stack with its place there, or one that is done with its place
-/// in the order.
+/// What is known of a signal that the walk has reached: a wire on the stack, with its place there, or a finished one,
+/// with its place in the order.
 #[derive(Clone, Copy)]
 pub enum Mark {
     Unseen,
@@ -21,21 +23,21 @@ pub enum Mark {
     Done(u32),
 }
 
-/// A wire on the stack, and how many of its operands are done, the last ones first.
+/// A wire on the stack, and how many of its operands are finished. The last operands are looked at first.
 #[derive(Clone, Copy)]
 pub struct Frame {
     pub wire: Sig,
     pub next: u8,
 }
 
-/// Why a walk ends early: the wire on top of the stack reads the one at this place of it.
+/// Why a walk ends early. A loop has the place on the stack of the wire that the top one reads.
 #[derive(Clone, Copy)]
 pub enum Stop {
     Loop(u32),
     NoMemory,
 }
 
-/// The wires that are done, in order of evaluation, and those on the stack.
+/// The finished wires, in order of evaluation, and the wires on the stack.
 #[derive(Drop)]
 pub struct Walk {
     pub wires: Vec<Sig>,
@@ -44,7 +46,7 @@ pub struct Walk {
 }
 
 impl Walk {
-    /// Nothing is seen.
+    /// A walk that has reached nothing yet.
     pub fn new(alloc: Global, net: &Net) -> Result<Walk, AllocError>
         ensures walks { IfOk result (λ w. Walks net.now w.wires.items w.marks.items w.stack.items) }
         ensures empty { IfOk result (λ w. w.stack.items ≡ []) }
@@ -57,8 +59,8 @@ impl Walk {
         })
     }
 
-    /// Walks from each wire, and from what each register needs first: so what a register needs stands together, as much
-    /// as it can.
+    /// Walks first from what each register needs, then from each wire. So the wires that a register needs are together,
+    /// as far as possible.
     pub fn run(&mut self, net: &Net) -> Result<(), Stop>
         requires walks { Walks net.now self.old.wires.items self.old.marks.items self.old.stack.items }
         requires empty { self.old.stack.items ≡ [] }
@@ -87,7 +89,7 @@ impl Walk {
         Ok(())
     }
 
-    // Walks from the next signal of a register; from any other signal it does not walk.
+    // Walks from the next signal of a register. Other signals have none.
     fn visit_next(&mut self, net: &Net, s: Sig) -> Result<(), Stop>
         requires walks { Walks net.now self.old.wires.items self.old.marks.items self.old.stack.items }
         requires empty { self.old.stack.items ≡ [] }
@@ -105,7 +107,7 @@ impl Walk {
         }
     }
 
-    /// The wires on the stack from that place on, beginning at the least and going round.
+    /// The wires on the stack from `place` on, as a cycle that begins at the least one.
     pub fn cycle(&self, alloc: Global, place: u32) -> Result<Vec<Sig>, AllocError>
         requires { place < vec_len self.now.stack }
         ensures { IfOk result (λ ws. IsTurned (drop place self.now.stack.items) ws.items) }
@@ -141,7 +143,7 @@ impl Walk {
         }
     }
 
-    // Walks until nothing is on the stack.
+    // Walks until the stack is empty.
     fn drain(&mut self, net: &Net) -> Result<(), Stop>
         requires { Walks net.now self.old.wires.items self.old.marks.items self.old.stack.items }
         ensures walks { Walks net.now self.new.wires.items self.new.marks.items self.new.stack.items }
@@ -155,7 +157,7 @@ impl Walk {
         Ok(())
     }
 
-    // Looks at the next operand of the wire on top, which is done where it has none.
+    // Looks at the next operand of the wire on top, or finishes the wire if it has no more.
     fn step(&mut self, net: &Net) -> Result<(), Stop>
         requires walks { Walks net.now self.old.wires.items self.old.marks.items self.old.stack.items }
         requires some { 0 < vec_len self.old.stack }
@@ -171,7 +173,7 @@ impl Walk {
         }
     }
 
-    // Goes to a wire that is not seen yet, and past what is no wire or is done.
+    // Puts a wire that was not reached yet on the stack. Passes over a finished wire and over any other signal.
     fn look(&mut self, net: &Net, t: Sig) -> Result<(), Stop>
         requires walks { Walks net.now self.old.wires.items self.old.marks.items self.old.stack.items }
         requires looks { LooksAt net.now self.old.stack.items t.0 }
@@ -214,7 +216,7 @@ impl Walk {
         Ok(())
     }
 
-    // Passes an operand of the wire on top.
+    // Counts one more operand of the wire on top as finished.
     fn pass(&mut self)
         requires some { 0 < vec_len self.old.stack }
         requires few { (f : Frame) → HasTop self.old.stack f → f.next < 255 }
@@ -230,7 +232,7 @@ impl Walk {
         };
     }
 
-    // The wire on top is done.
+    // Finishes the wire on top: it is next in the order.
     fn close(&mut self, wire: Sig) -> Result<(), Stop>
         requires known { wire.0 < vec_len self.old.marks }
         requires room { vec_len self.old.wires < 2 ^ 32 }
@@ -251,7 +253,7 @@ impl Walk {
     }
 }
 
-// The operand of a wire that the walk looks at after `index` others: the last one is looked at first.
+// The operand of a wire that the walk looks at after `index` others. The last operand comes first.
 fn operand(net: &Net, wire: Sig, index: usize) -> Option<Sig>
     requires wire { IsWire net.now wire.0 }
     requires known { wire.0 < length net.now.signals }
@@ -271,7 +273,7 @@ fn operand(net: &Net, wire: Sig, index: usize) -> Option<Sig>
     }
 }
 
-// The place of the frame of the least wire.
+// The place of the frame whose wire has the least number.
 fn least(frames: &[Frame]) -> usize
     requires { 0 < length frames.now }
     ensures within { result < length frames.now }
@@ -286,7 +288,6 @@ fn least(frames: &[Frame]) -> usize
     best
 }
 
-// Appends the wires of frames.
 fn push_wires(wires: &mut Vec<Sig>, frames: &[Frame]) -> Result<(), AllocError>
     ensures { OnOk result (wires.new.items ≡ wires.old.items ++ map (λ (f : Frame). f.wire) frames.now) }
 {

@@ -1,4 +1,4 @@
--- What parsing a source answers.
+-- The answers of parsing a source.
 use Rattle.std.specs.Prelude.{◌≡◌, ℕ, List, Result, Ok, Err}
 use Rattle.safl_word.specs.declared.fault.Fault.{Fault}
 use Rattle.safl_tree.specs.Tree.{Definition}
@@ -9,21 +9,21 @@ use Rattle.safl_parse.specs.TokenAnswers.{OnlyNoMemory}
 use Rattle.safl_parse.specs.declared.syntax.ParseErr.{ParseErr}
 use Rattle.safl_parse.specs.declared.syntax.ParseErr.TheVariants as answers
 
--- it keeps the source, and a program that the source spells
+-- the result has the source, and the program that the source spells
 abbrev pub Spells : List ℕ → Parsed → Type 0
 Spells text p = (source_of p ≡ text) × SpellsProgram text (program_of p)
 
--- a refusal is the first fault of the source
+-- the error is the first fault of the source, or out of memory
 abbrev pub RefusedFirst : List ℕ → ParseErr → Type 0
 RefusedFirst text (answers.Refused f) = SyntaxFault text f
 RefusedFirst text answers.NoMemory = Unit {0}
 
--- this program, or lack of memory
+-- the answer is this program, or out of memory
 abbrev pub SpelledUnlessNoMemory : List Definition → Result Parsed ParseErr → Type 0
 SpelledUnlessNoMemory p (Ok s) = program_of s ≡ p
 SpelledUnlessNoMemory p (Err e) = OnlyNoMemory e
 
--- this fault, or lack of memory
+-- the answer is this fault, or out of memory
 abbrev pub FaultUnlessNoMemory : Fault → Result Parsed ParseErr → Type 0
 FaultUnlessNoMemory f (Ok s) = ⊥
 FaultUnlessNoMemory f (Err (answers.Refused g)) = g ≡ f

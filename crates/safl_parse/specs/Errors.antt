@@ -1,4 +1,4 @@
--- The answers of lexing among those of parsing.
+-- The errors of the lexer as errors of the parser.
 use Rattle.safl_text.specs.declared.error.LexErr.{LexErr}
 use Rattle.safl_text.specs.declared.error.LexErr.TheVariants as lexing
 use Rattle.safl_parse.specs.declared.syntax.ParseErr.{ParseErr}

@@ -1,4 +1,4 @@
--- What a function returned is what a reading gives, unless memory ran out.
+-- A function returns what a reader gives, unless memory runs out.
 use Rattle.std.specs.Prelude.{◌≡◌, ℕ, List, Result, Ok, Err}
 use Rattle.safl_grammar.specs.Syntax.{Rule, Deep, Unexpected, Range}
 use Rattle.safl_grammar.specs.Reading.{Read}
@@ -14,12 +14,12 @@ rule_of causes.Deep = Deep
 rule_of causes.Unexpected = Unexpected
 rule_of causes.Range = Range
 
--- a refusal names the first fault by its rule and what is left there
+-- the error is the first fault that the reader gives: its rule, and the rest of the tokens there
 abbrev pub Fails : {Y : Type 0} → List ℕ → ReadError → Read Terminal Y → Type 0
 Fails text errors.NoMemory read = Unit {0}
 Fails text (errors.Refused e rest) read = read ≡ Err (rule_of e, terminals text rest.now)
 
--- a view shows the value that was read and the tokens that are left
+-- the result, seen by this view, is the value that the reader gives and the rest of the tokens
 abbrev pub Gives : {X Y : Type 0} → List ℕ → (X → Y × List Token) → Result X ReadError → Read Terminal Y → Type 0
 Gives text view (Ok x) read = read ≡ Ok ((view x).0, terminals text (view x).1)
 Gives text view (Err e) read = Fails text e read

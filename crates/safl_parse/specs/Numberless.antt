@@ -1,8 +1,8 @@
--- Kinds of tokens that a kind alone tells apart.
+-- Kinds of tokens without a number.
 use Rattle.safl_word.specs.declared.token.TokenKind.{TokenKind}
 use Rattle.safl_word.specs.declared.token.TokenKind.TheVariants as kinds
 
--- neither a number nor a sized number
+-- the kind is neither that of a number nor that of a sized number
 abbrev pub HasNoNumber : TokenKind → Type 0
 HasNoNumber (kinds.Num n) = ⊥
 HasNoNumber (kinds.Sized w n) = ⊥

@@ -1,4 +1,4 @@
--- What a function of the parser returned is what a reading gives on the tokens.
+-- A function of the parser returns what a reader gives for the tokens.
 use Rattle.std.specs.Prelude.{List, Result, Vec}
 use Rattle.std.specs.Global.{Global}
 use Rattle.std.specs.Borrow.{Bor}
@@ -17,11 +17,11 @@ use Rattle.safl_parse.specs.declared.part.Part.{Part}
 use Rattle.safl_parse.specs.declared.part.Parts.{Parts}
 use Rattle.safl_parse.specs.Gives.{Gives}
 
--- seen by a view that shows the value and the tokens that are left
+-- the result, seen by this view, is the value that the reader gives and the rest of the tokens
 abbrev pub Reads : {X Y : Type 0} → Parser → List Token → (X → Y × List Token) → Result X ReadError → Reading Terminal Y → Type 0
 Reads p ts view result reading = Gives p.text.now view result (reading (terminals p.text.now ts))
 
--- an expression
+-- an expression is read
 abbrev pub ReadsTree : Parser → List Token → Result (Part × Bor (List Token)) ReadError → Reading Terminal Tree → Type 0
 ReadsTree p ts result reading = Reads p ts (λ x. (shown_tree x.0.expr, x.1.now)) result reading
 
@@ -29,7 +29,6 @@ ReadsTree p ts result reading = Reads p ts (λ x. (shown_tree x.0.expr, x.1.now)
 abbrev pub ReadsTrees : Parser → List Token → Result (Parts × Bor (List Token)) ReadError → Reading Terminal (List Tree) → Type 0
 ReadsTrees p ts result reading = Reads p ts (λ x. (shown_trees x.0.exprs.items, x.1.now)) result reading
 
--- bindings are read
 abbrev pub ReadsBindings : Parser → List Token → Result (Bindings × Bor (List Token)) ReadError → Reading Terminal (List Bound) → Type 0
 ReadsBindings p ts result reading = Reads p ts (λ x. (shown_bounds x.0.binds.items, x.1.now)) result reading
 
@@ -38,6 +37,5 @@ abbrev pub ReadsArms : Parser → List Token → Result (AllArms × Bor (List To
 ReadsArms p ts result reading =
     Reads p ts (λ x. (record { labelled = shown_labelled x.0.arms.items; default = shown_tree x.0.default }, x.1.now)) result reading
 
--- definitions are read
 abbrev pub ReadsDefinitions : Parser → List Token → Result (Vec Def Global × Bor (List Token)) ReadError → Reading Terminal (List Definition) → Type 0
 ReadsDefinitions p ts result reading = Reads p ts (λ x. (shown_definitions x.0.items, x.1.now)) result reading

@@ -1,4 +1,4 @@
-//! Why a list of tokens is not read.
+//! Why some tokens cannot be read.
 
 ghost use Rattle.std.specs.Prelude.{◌≡◌};
 ghost use Rattle.safl_parse.specs.declared.error.ReadError.TheVariants as errors;
@@ -6,7 +6,7 @@ ghost use Rattle.safl_parse.specs.declared.error.ReadError.TheVariants as errors
 use safl_word::{NoMemory, Token};
 use std::alloc::{AllocError, AllocFailed};
 
-/// What is wrong at a token: it would begin too deep, it is unexpected, or a number is out of range.
+/// What is wrong at a token: it is nested too deep, it is unexpected, or a number is out of range.
 #[derive(Clone, Copy, Debug, PartialEq, Eq)]
 pub enum Cause {
     Deep,
@@ -14,14 +14,15 @@ pub enum Cause {
     Range,
 }
 
-/// Memory ran out, or something is wrong at the first of these tokens, or at the end where none is left.
+/// Memory ran out, or something is wrong at the first of these tokens. If there are none, it is wrong at the end of the
+/// source.
 #[derive(Debug, Drop)]
 pub enum ReadError<'a> {
     NoMemory,
     Refused(Cause, &'a [Token]),
 }
 
-/// The value at the beginning of some tokens and the tokens after it, or why it is not read.
+/// What some tokens begin with and the tokens after it, or why they cannot be read.
 pub type Read<'a, T> = Result<(T, &'a [Token]), ReadError<'a>>;
 
 impl<'a> From<AllocError> for ReadError<'a> {

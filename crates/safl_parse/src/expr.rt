@@ -1,4 +1,4 @@
-//! Expressions, by descent: one function for each symbol of the grammar.
+//! Expressions, by recursive descent: one function for each symbol of the grammar.
 
 ghost use Rattle.std.specs.Prelude.{◌≡◌, [], ◌∷◌, min, IfOk};
 ghost use Rattle.safl_tree.specs.Tree.{depth as tree_depth};
@@ -19,11 +19,11 @@ use safl_word::{Key, Primitive, Sym, Token, TokenKind};
 /// The number of layers of binary operators.
 const LAYERS: u8 = 7;
 
-/// The layer of the comparisons, which don't chain.
+/// The layer of the comparisons, which do not chain.
 const COMPARISONS: u8 = 3;
 
 impl<'s> Parser<'s> {
-    /// A number.
+    /// Reads a number.
     #[tactic(auto, unfolding(safl_tree::specs::Reader::read_literal))]
     fn literal<'a>(&self, tokens: &'a [Token]) -> Read<'a, Part>
         ensures { ReadsTree self.now tokens.now result read_literal }
@@ -39,7 +39,7 @@ impl<'s> Parser<'s> {
         ))
     }
 
-    /// A sized number.
+    /// Reads a sized number.
     #[tactic(auto, unfolding(safl_tree::specs::Reader::read_sized_literal))]
     fn sized_literal<'a>(&self, tokens: &'a [Token]) -> Read<'a, Part>
         ensures { ReadsTree self.now tokens.now result read_sized_literal }
@@ -55,7 +55,7 @@ impl<'s> Parser<'s> {
         ))
     }
 
-    /// An expression, where so many levels are left.
+    /// Reads an expression. `levels` more levels of nesting are allowed.
     #[cycle(descent)]
     #[tactic(auto, unfolding(safl_tree::specs::Reader::expr_at, safl_tree::specs::Reader::read_expr))]
     pub fn expr<'a>(&self, levels: u8, tokens: &'a [Token]) -> Read<'a, Part>
@@ -76,7 +76,7 @@ impl<'s> Parser<'s> {
         }
     }
 
-    /// The operand of "~", where so many levels are left.
+    /// Reads the operand of `~`.
     #[cycle(descent)]
     #[tactic(auto, unfolding(safl_tree::specs::Reader::operand_at))]
     fn operand<'a>(&self, levels: u8, tokens: &'a [Token]) -> Read<'a, Part>
@@ -88,7 +88,7 @@ impl<'s> Parser<'s> {
         self.unary(levels - 1, tokens)
     }
 
-    /// An if.
+    /// Reads an if.
     #[cycle(descent)]
     #[tactic(auto, unfolding(safl_tree::specs::Reader::read_choice))]
     fn choice<'a>(&self, levels: u8, tokens: &'a [Token]) -> Read<'a, Part>
@@ -103,7 +103,7 @@ impl<'s> Parser<'s> {
         Ok((chosen(self.alloc, place, condition, first, second)?, rest))
     }
 
-    /// Operators of so many layers, the closest first.
+    /// Reads an expression with the operators of `layers` layers, those that bind the closest.
     #[cycle(descent)]
     fn chain<'a>(&self, layers: u8, levels: u8, tokens: &'a [Token]) -> Read<'a, Part>
         ensures { ReadsTree self.now tokens.now result (read_chain layers (read_unary (operand_at levels) (expr_at levels))) }
@@ -119,7 +119,7 @@ impl<'s> Parser<'s> {
         }
     }
 
-    /// An operator of this layer and its right operand, after its left one.
+    /// Reads an operator of this layer and its right operand, after its left operand.
     #[cycle(descent)]
     #[tactic(auto, unfolding(safl_tree::specs::Reader::read_joined))]
     fn joined<'a>(&self, layer: u8, levels: u8, left: Part, tokens: &'a [Token]) -> Read<'a, Part>
@@ -136,7 +136,7 @@ impl<'s> Parser<'s> {
         Ok((applied(place, op, operands), rest))
     }
 
-    /// One comparison at most.
+    /// Reads an expression with at most one comparison.
     #[cycle(descent)]
     #[tactic(auto, unfolding(safl_tree::specs::Reader::read_compared))]
     fn compared<'a>(&self, layer: u8, levels: u8, tokens: &'a [Token]) -> Read<'a, Part>
@@ -150,7 +150,7 @@ impl<'s> Parser<'s> {
         }
     }
 
-    /// Operators of one layer, grouped to the left.
+    /// Reads operands and operators of one layer, grouped to the left.
     #[cycle(descent)]
     #[tactic(auto, unfolding(safl_tree::specs::Reader::read_chained))]
     fn chained<'a>(&self, layer: u8, levels: u8, tokens: &'a [Token]) -> Read<'a, Part>
@@ -165,7 +165,7 @@ impl<'s> Parser<'s> {
         Ok((left, rest))
     }
 
-    /// "~" and its operand, or a primary expression.
+    /// Reads `~` and its operand, or a primary expression.
     #[cycle(descent)]
     #[tactic(auto, unfolding(safl_tree::specs::Reader::read_unary))]
     fn unary<'a>(&self, levels: u8, tokens: &'a [Token]) -> Read<'a, Part>
@@ -189,7 +189,7 @@ impl<'s> Parser<'s> {
         Ok((applied(place, Primitive::Not, operands), rest))
     }
 
-    /// What no operator joins.
+    /// Reads a primary expression: one that no operator divides.
     #[cycle(descent)]
     #[tactic(auto, unfolding(safl_tree::specs::Reader::read_primary))]
     fn primary<'a>(&self, levels: u8, tokens: &'a [Token]) -> Read<'a, Part>
@@ -230,7 +230,7 @@ impl<'s> Parser<'s> {
         ))
     }
 
-    /// A concatenation.
+    /// Reads a concatenation.
     #[cycle(descent)]
     #[tactic(auto, unfolding(safl_tree::specs::Reader::read_cat))]
     fn cat<'a>(&self, levels: u8, tokens: &'a [Token]) -> Read<'a, Part>
@@ -246,7 +246,7 @@ impl<'s> Parser<'s> {
         Ok((applied(place, Primitive::Cat, operands), rest))
     }
 
-    /// A slice of bits.
+    /// Reads a slice of bits.
     #[cycle(descent)]
     #[tactic(auto, unfolding(safl_tree::specs::Reader::read_bits))]
     fn bits<'a>(&self, levels: u8, tokens: &'a [Token]) -> Read<'a, Part>
@@ -264,7 +264,7 @@ impl<'s> Parser<'s> {
         Ok((applied(place, Primitive::Bits(high, low), operands), rest))
     }
 
-    /// An extension with zeros.
+    /// Reads an extension with zeros.
     #[cycle(descent)]
     #[tactic(auto, unfolding(safl_tree::specs::Reader::read_ext))]
     fn ext<'a>(&self, levels: u8, tokens: &'a [Token]) -> Read<'a, Part>
@@ -280,7 +280,7 @@ impl<'s> Parser<'s> {
         Ok((applied(place, Primitive::Ext(width), operands), rest))
     }
 
-    /// A variable or a call.
+    /// Reads a variable or a call.
     #[cycle(descent)]
     #[tactic(auto, unfolding(safl_tree::specs::Reader::read_named))]
     fn named<'a>(&self, levels: u8, tokens: &'a [Token]) -> Read<'a, Part>
@@ -301,7 +301,7 @@ impl<'s> Parser<'s> {
         }
     }
 
-    /// The arguments of a call, in their parentheses.
+    /// Reads the arguments of a call, in their parentheses.
     #[cycle(descent)]
     #[tactic(auto, unfolding(safl_tree::specs::Reader::read_call, safl_tree::specs::Reader::read_arguments, safl_tree::specs::Reader::read_no_arguments))]
     fn call<'a>(&self, levels: u8, place: u32, name: Name, tokens: &'a [Token]) -> Read<'a, Part>
@@ -322,7 +322,7 @@ impl<'s> Parser<'s> {
         }
     }
 
-    /// Expressions with commas between them.
+    /// Reads expressions with commas between them.
     #[cycle(descent)]
     #[tactic(auto, unfolding(safl_tree::specs::Reader::read_exprs))]
     fn exprs<'a>(&self, levels: u8, tokens: &'a [Token]) -> Read<'a, Parts>
@@ -339,7 +339,7 @@ impl<'s> Parser<'s> {
         Ok((parts, rest))
     }
 
-    /// One more, after a comma.
+    /// Reads one more expression, after a comma.
     #[cycle(descent)]
     #[tactic(auto, unfolding(safl_tree::specs::Reader::read_another))]
     fn another<'a>(&self, levels: u8, parts: Parts, tokens: &'a [Token]) -> Read<'a, Parts>
@@ -350,7 +350,7 @@ impl<'s> Parser<'s> {
         Ok((push(parts, next)?, rest))
     }
 
-    /// A let.
+    /// Reads a let.
     #[cycle(descent)]
     #[tactic(auto, unfolding(safl_tree::specs::Reader::read_binding))]
     fn binding<'a>(&self, levels: u8, tokens: &'a [Token]) -> Read<'a, Part>
@@ -363,7 +363,7 @@ impl<'s> Parser<'s> {
         Ok((bound(self.alloc, place, bindings, body)?, rest))
     }
 
-    /// A width after a colon, where it is written.
+    /// Reads a colon and a width, if a colon comes next.
     #[tactic(auto, unfolding(safl_tree::specs::Reader::read_written))]
     fn written<'a>(&self, tokens: &'a [Token]) -> Read<'a, Option<u8>>
         ensures { Reads self.now tokens.now (λ x. (x.0, x.1.now)) result read_written }
@@ -377,7 +377,7 @@ impl<'s> Parser<'s> {
         }
     }
 
-    /// A binding, and the depth of its value up to the limit.
+    /// Reads a binding. The second result is the depth of its value, up to the limit.
     #[cycle(descent)]
     #[tactic(auto, unfolding(safl_tree::specs::Reader::read_bind))]
     fn bind<'a>(&self, levels: u8, tokens: &'a [Token]) -> Read<'a, (Bind, u8)>
@@ -398,7 +398,7 @@ impl<'s> Parser<'s> {
         Ok(((bind, depth), rest))
     }
 
-    /// Bindings with commas between them.
+    /// Reads bindings with commas between them.
     #[cycle(descent)]
     #[tactic(auto, unfolding(safl_tree::specs::Reader::read_binds))]
     fn binds<'a>(&self, levels: u8, tokens: &'a [Token]) -> Read<'a, Bindings>
@@ -415,7 +415,7 @@ impl<'s> Parser<'s> {
         Ok((bindings, rest))
     }
 
-    /// One more, after a comma.
+    /// Reads one more binding, after a comma.
     #[cycle(descent)]
     #[tactic(auto, unfolding(safl_tree::specs::Reader::read_another_bind))]
     fn another_bind<'a>(
@@ -431,7 +431,7 @@ impl<'s> Parser<'s> {
         Ok((push_bind(bindings, next, depth)?, rest))
     }
 
-    /// The label of an arm.
+    /// Reads the label of an arm.
     #[tactic(auto, unfolding(safl_tree::specs::Reader::read_label))]
     fn label<'a>(&self, tokens: &'a [Token]) -> Read<'a, Part>
         ensures { ReadsTree self.now tokens.now result read_label }
@@ -443,7 +443,7 @@ impl<'s> Parser<'s> {
         }
     }
 
-    /// A case.
+    /// Reads a case.
     #[cycle(descent)]
     #[tactic(auto, unfolding(safl_tree::specs::Reader::read_cases))]
     fn cases<'a>(&self, levels: u8, tokens: &'a [Token]) -> Read<'a, Part>
@@ -457,7 +457,8 @@ impl<'s> Parser<'s> {
         Ok((cased(self.alloc, place, scrutinee, arms)?, rest))
     }
 
-    /// The arms of a case after these ones, where so many levels are left above the next one's value.
+    /// Reads the arms of a case after those in `so_far`. `levels` more levels are allowed above the value of the next
+    /// arm.
     #[cycle(descent)]
     #[tactic(auto, unfolding(safl_tree::specs::Reader::arms_at, safl_tree::specs::Reader::read_arms))]
     fn arms<'a>(&self, levels: u8, so_far: Labels, tokens: &'a [Token]) -> Read<'a, AllArms>
@@ -470,7 +471,7 @@ impl<'s> Parser<'s> {
         }
     }
 
-    /// A labelled arm, and those after it.
+    /// Reads a labelled arm and the arms after it.
     #[cycle(descent)]
     #[tactic(auto, unfolding(safl_tree::specs::Reader::arm_value_at, safl_tree::specs::Reader::read_arm, safl_tree::specs::Reader::arms_at))]
     fn arm<'a>(&self, levels: u8, so_far: Labels, tokens: &'a [Token]) -> Read<'a, AllArms>
@@ -488,7 +489,7 @@ impl<'s> Parser<'s> {
         self.arms(below, labels, rest)
     }
 
-    /// The default.
+    /// Reads the default of a case.
     #[cycle(descent)]
     #[tactic(auto, unfolding(safl_tree::specs::Reader::arm_value_at, safl_tree::specs::Reader::read_last_arm))]
     fn last_arm<'a>(&self, levels: u8, so_far: Labels, tokens: &'a [Token]) -> Read<'a, AllArms>

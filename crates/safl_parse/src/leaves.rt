@@ -1,4 +1,4 @@
-//! Single tokens.
+//! Reading single tokens.
 
 ghost use Rattle.std.specs.Prelude.{◌≡◌, [], ◌∷◌, ◌-◌, min, take, drop};
 ghost use Rattle.safl_grammar.specs.Sets.{Only, within};
@@ -39,7 +39,6 @@ fn primitive_of(symbol: Sym) -> Primitive
     }
 }
 
-/// Whether a symbol is an operator of this layer.
 fn is_operator(symbol: Sym, layer: u8) -> bool
     ensures { result ≡ within (Only (operators layer)) (symbol_code symbol) }
 {
@@ -62,7 +61,7 @@ fn is_operator(symbol: Sym, layer: u8) -> bool
     }
 }
 
-/// Whether a token is of this kind, which is not that of a number.
+/// Whether a token is of this kind. The kind is not that of a number.
 #[tactic(auto, using(crate::proofs::KindCodes::class_of))]
 fn is_of(token: &Token, kind: TokenKind) -> bool
     requires { HasNoNumber kind }
@@ -78,7 +77,7 @@ fn lesser(a: usize, b: usize) -> usize
 }
 
 impl<'s> Parser<'s> {
-    /// Whether a token of this kind comes next, which is not that of a number.
+    /// Whether a token of this kind comes next. The kind is not that of a number.
     pub fn comes(&self, tokens: &[Token], kind: TokenKind) -> bool
         requires { HasNoNumber kind }
         ensures { result ≡ comes (code_of kind ∷ []) (head_of (terminals self.now.text.now tokens.now)) }
@@ -89,7 +88,7 @@ impl<'s> Parser<'s> {
         }
     }
 
-    /// A token of this kind: its place.
+    /// Reads a token of this kind. Returns its place.
     fn of_kind<'a>(&self, tokens: &'a [Token], kind: TokenKind) -> Read<'a, u32>
         requires { HasNoNumber kind }
         ensures { Reads self.now tokens.now (λ x. (x.0, x.1.now)) result (read_token (marked (code_of kind))) }
@@ -100,14 +99,14 @@ impl<'s> Parser<'s> {
         }
     }
 
-    /// A key: its place.
+    /// Reads a keyword. Returns its place.
     pub fn word<'a>(&self, tokens: &'a [Token], key: Key) -> Read<'a, u32>
         ensures { Reads self.now tokens.now (λ x. (x.0, x.1.now)) result (read_word key) }
     {
         self.of_kind(tokens, TokenKind::Key(key))
     }
 
-    /// A symbol: its place.
+    /// Reads a symbol. Returns its place.
     pub fn symbol<'a>(&self, tokens: &'a [Token], symbol: Sym) -> Read<'a, u32>
         ensures { Reads self.now tokens.now (λ x. (x.0, x.1.now)) result (read_symbol symbol) }
     {
@@ -123,7 +122,7 @@ impl<'s> Parser<'s> {
         &self.text[start..stop]
     }
 
-    /// A name and its place.
+    /// Reads a name. Returns its place and the name.
     pub fn name<'a>(&self, tokens: &'a [Token]) -> Read<'a, (u32, Name)>
         ensures { Reads self.now tokens.now (λ x. (record { place = x.0.0; name = x.0.1 }, x.1.now)) result (read_token name) }
     {
@@ -156,7 +155,7 @@ impl<'s> Parser<'s> {
         }
     }
 
-    /// A number: its place and its value.
+    /// Reads a number. Returns its place and its value.
     pub fn number<'a>(&self, tokens: &'a [Token]) -> Read<'a, (u32, Raw)>
         ensures { Reads self.now tokens.now (λ x. (record { place = x.0.0; value = x.0.1 }, x.1.now)) result (read_token number) }
     {
@@ -173,7 +172,7 @@ impl<'s> Parser<'s> {
         }
     }
 
-    /// A width, which is 1 to the greatest.
+    /// Reads a width, from 1 to the greatest width. Returns its place and its value.
     pub fn width<'a>(&self, tokens: &'a [Token]) -> Read<'a, (u32, u8)>
         ensures { Reads self.now tokens.now (λ x. (record { place = x.0.0; value = x.0.1 }, x.1.now)) result read_width }
     {
@@ -184,7 +183,7 @@ impl<'s> Parser<'s> {
         Ok(((place, width as u8), rest))
     }
 
-    /// The number of a bit, which is below the greatest width.
+    /// Reads the number of a bit, which is below the greatest width. Returns its place and its value.
     pub fn index<'a>(&self, tokens: &'a [Token]) -> Read<'a, (u32, u8)>
         ensures { Reads self.now tokens.now (λ x. (record { place = x.0.0; value = x.0.1 }, x.1.now)) result read_index }
     {
@@ -195,7 +194,7 @@ impl<'s> Parser<'s> {
         Ok(((place, index as u8), rest))
     }
 
-    /// A sized number: its place, its width, which is 1 to the greatest, and its value.
+    /// Reads a sized number. Returns its place, its width, from 1 to the greatest width, and its value.
     pub fn sized<'a>(&self, tokens: &'a [Token]) -> Read<'a, (u32, u8, Raw)>
         ensures { Reads self.now tokens.now (λ x. (record { place = x.0.0; width = x.0.1; value = x.0.2 }, x.1.now)) result
             (read_limited Range fits_sized sized) }
@@ -234,7 +233,7 @@ impl<'s> Parser<'s> {
         }
     }
 
-    /// An operator of this layer.
+    /// Reads an operator of this layer.
     pub fn operator<'a>(&self, tokens: &'a [Token], layer: u8) -> Read<'a, Primitive>
         ensures { Reads self.now tokens.now (λ x. (x.0, x.1.now)) result (read_token (operator layer)) }
     {

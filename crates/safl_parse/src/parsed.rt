@@ -15,7 +15,7 @@ use safl_text::lex;
 use safl_tree::Program;
 use std::alloc::Global;
 
-/// A source and the program that it spells.
+/// A source, and the program that it spells.
 #[derive(Drop)]
 pub struct Parsed {
     source: Vec<u8>,
@@ -38,9 +38,9 @@ impl Parsed {
     }
 }
 
-/// The program that a source of at most `SOURCE_MAX` bytes spells, or else its first fault: E01 (foreign byte) and E03
-/// (name or number too long) before all others, and then, at the earliest token that breaks a rule, E04 (nesting too
-/// deep) before E02 (unexpected token) before E05 (bad width or range).
+/// The program that a source of at most `SOURCE_MAX` bytes spells, or the source's first fault. E01 (foreign byte) and
+/// E03 (name or number too long) come before all others. Then, at the first token that breaks a rule, E04 (nesting too
+/// deep) comes before E02 (unexpected token), and that before E05 (bad width or range).
 pub fn parse_program(alloc: Global, source: &[u8]) -> Result<Program, ParseErr>
     requires { length source.now ≤ SOURCE_MAX }
     ensures program { IfOk result (λ p. SpellsProgram source.now (shown_program p)) }
@@ -52,7 +52,7 @@ pub fn parse_program(alloc: Global, source: &[u8]) -> Result<Program, ParseErr>
     parse_tokens(alloc, source, tokens.as_slice())
 }
 
-/// The program of `parse_program`, with a copy of its source.
+/// The program that `parse_program` gives, with a copy of its source.
 pub fn parse(alloc: Global, source: &[u8]) -> Result<Parsed, ParseErr>
     requires { length source.now ≤ SOURCE_MAX }
     ensures program { IfOk result (λ p. Spells source.now p) }

@@ -2,7 +2,7 @@
 
 use std::alloc::Global;
 
-/// A source that is parsed: its bytes, and where memory comes from.
+/// The parser of a source: the source's bytes, and the allocator.
 #[derive(Clone, Copy)]
 pub struct Parser<'s> {
     pub alloc: Global,

@@ -1,4 +1,4 @@
-//! Expressions with their depths, up to the limit of a left operand.
+//! Expressions with their depths. Depths are counted up to the limit of a left operand.
 
 ghost use Rattle.std.specs.Prelude.{◌≡◌, [], ◌∷◌, ◌++◌, ◌+◌, ◌≤◌, min, max, IfOk};
 ghost use Rattle.safl_tree.specs.Tree.{depth as tree_depth, deepest, deepest_bind, deepest_arm, trees_of, binds_of, arms_of, Op, Call, Let, Cases, If};
@@ -12,7 +12,7 @@ use std::alloc::{AllocError, Global};
 /// One more than the greatest depth of a left operand.
 pub const DEPTH_LIMIT: u8 = 100;
 
-/// An expression and its depth, or the limit if that is less.
+/// An expression and its depth, up to `DEPTH_LIMIT`.
 #[derive(Drop)]
 pub struct Part {
     pub expr: Expr,
@@ -29,7 +29,7 @@ impl Part {
     }
 }
 
-/// Expressions, and the greatest depth of one, or the limit if that is less.
+/// Expressions, and the greatest of their depths, up to `DEPTH_LIMIT`.
 #[derive(Drop)]
 pub struct Parts {
     pub exprs: Vec<Expr>,
@@ -37,7 +37,7 @@ pub struct Parts {
     ghost capped: { depth ≡ min (deepest (trees_of (shown_trees exprs.items))) 100 },
 }
 
-/// Bindings, and the greatest depth of a value, or the limit if that is less.
+/// Bindings, and the greatest depth of a value, up to `DEPTH_LIMIT`.
 #[derive(Drop)]
 pub struct Bindings {
     pub binds: Vec<Bind>,
@@ -45,7 +45,7 @@ pub struct Bindings {
     ghost capped: { depth ≡ min (deepest_bind (binds_of (shown_bounds binds.items))) 100 },
 }
 
-/// Labelled arms, and the depth of their ifs, the default aside, or the limit if that is less.
+/// Labelled arms, and the depth of the ifs that they stand for without the default, up to `DEPTH_LIMIT`.
 #[derive(Drop)]
 pub struct Labels {
     pub arms: Vec<Arm>,
@@ -53,7 +53,7 @@ pub struct Labels {
     ghost capped: { depth ≡ min (labelled_depth (shown_labelled arms.items)) 100 },
 }
 
-/// All arms of a case, and the depth of their ifs, or the limit if that is less.
+/// All arms of a case, and the depth of the ifs that they stand for, up to `DEPTH_LIMIT`.
 #[derive(Drop)]
 pub struct AllArms {
     pub arms: Vec<Arm>,
@@ -62,7 +62,7 @@ pub struct AllArms {
     ghost capped: { depth ≡ min (deepest_arm (arms_of (shown_labelled arms.items) (shown_tree default))) 100 },
 }
 
-/// One more, or the limit if that is less.
+/// One more than a depth, up to `DEPTH_LIMIT`.
 pub fn above(depth: u8) -> u8
     requires { depth ≤ 100 }
     ensures { result ≡ min (1 + depth) 100 }
@@ -80,7 +80,7 @@ pub fn greater(a: u8, b: u8) -> u8
     if a < b { b } else { a }
 }
 
-/// One expression alone.
+/// A list of one expression.
 pub fn single(alloc: Global, part: Part) -> Result<Parts, AllocError>
     ensures { IfOk result (λ x. shown_trees x.exprs.items ≡ shown_tree part.expr ∷ []) }
 {
@@ -89,7 +89,7 @@ pub fn single(alloc: Global, part: Part) -> Result<Parts, AllocError>
     Ok(Parts { exprs, depth })
 }
 
-/// One more at the end.
+/// The expressions with one more at the end.
 pub fn push(parts: Parts, next: Part) -> Result<Parts, AllocError>
     ensures { IfOk result (λ x. shown_trees x.exprs.items ≡ shown_trees parts.exprs.items ++ shown_tree next.expr ∷ []) }
 {
@@ -99,7 +99,7 @@ pub fn push(parts: Parts, next: Part) -> Result<Parts, AllocError>
     Ok(Parts { exprs, depth })
 }
 
-/// One binding alone.
+/// A list of one binding. `depth` is that of its value.
 pub fn single_bind(alloc: Global, bind: Bind, depth: u8) -> Result<Bindings, AllocError>
     requires { depth ≡ min (tree_depth (shown_tree bind.value)) 100 }
     ensures { IfOk result (λ x. shown_bounds x.binds.items ≡ shown_bind bind ∷ []) }
@@ -108,7 +108,7 @@ pub fn single_bind(alloc: Global, bind: Bind, depth: u8) -> Result<Bindings, All
     Ok(Bindings { binds, depth })
 }
 
-/// One more at the end.
+/// The bindings with one more at the end. `depth` is that of its value.
 pub fn push_bind(bindings: Bindings, next: Bind, depth: u8) -> Result<Bindings, AllocError>
     requires { depth ≡ min (tree_depth (shown_tree next.value)) 100 }
     ensures { IfOk result (λ x. shown_bounds x.binds.items ≡ shown_bounds bindings.binds.items ++ shown_bind next ∷ []) }
@@ -119,7 +119,7 @@ pub fn push_bind(bindings: Bindings, next: Bind, depth: u8) -> Result<Bindings, 
     Ok(Bindings { binds, depth })
 }
 
-/// An operator and its operands.
+/// An operator with its operands.
 pub fn applied(place: u32, op: Primitive, operands: Parts) -> Part
     ensures { shown_tree result.expr ≡ Op place op (trees_of (shown_trees operands.exprs.items)) }
 {
@@ -133,7 +133,7 @@ pub fn applied(place: u32, op: Primitive, operands: Parts) -> Part
     }
 }
 
-/// A call.
+/// A call of this name with these arguments.
 pub fn called(place: u32, name: Name, arguments: Parts) -> Part
     ensures { shown_tree result.expr ≡ Call place name (trees_of (shown_trees arguments.exprs.items)) }
 {
@@ -147,7 +147,7 @@ pub fn called(place: u32, name: Name, arguments: Parts) -> Part
     }
 }
 
-/// A let.
+/// A let of these bindings around a body.
 pub fn bound(alloc: Global, place: u32, bindings: Bindings, body: Part) -> Result<Part, AllocError>
     ensures { IfOk result (λ x. shown_tree x.expr ≡ Let place (binds_of (shown_bounds bindings.binds.items)) (shown_tree body.expr)) }
 {
@@ -162,7 +162,7 @@ pub fn bound(alloc: Global, place: u32, bindings: Bindings, body: Part) -> Resul
     })
 }
 
-/// No arm yet.
+/// A list without arms.
 pub fn no_labels(alloc: Global) -> Labels
     ensures { shown_labelled result.arms.items ≡ [] }
 {
@@ -172,7 +172,8 @@ pub fn no_labels(alloc: Global) -> Labels
     }
 }
 
-/// The depth of an if after so many arms, whose branch has this depth, or the limit if that is less.
+/// The depth of the if that an arm stands for, with `before` arms before it and a value of depth `depth`, up to
+/// `DEPTH_LIMIT`.
 fn arm_depth(before: usize, depth: u8) -> u8
     requires { depth ≤ 100 }
     ensures { result ≡ min (before + 1 + max 2 depth) 100 }
@@ -189,7 +190,7 @@ fn arm_depth(before: usize, depth: u8) -> u8
     }
 }
 
-/// One more arm at the end.
+/// The arms with one more at the end.
 pub fn push_arm(labels: Labels, label: Expr, value: Part) -> Result<Labels, AllocError>
     ensures { IfOk result (λ x. shown_labelled x.arms.items ≡ with_arm (shown_labelled labels.arms.items) label value.expr) }
 {
@@ -202,7 +203,7 @@ pub fn push_arm(labels: Labels, label: Expr, value: Part) -> Result<Labels, Allo
     Ok(Labels { arms, depth })
 }
 
-/// The depth of a default after so many arms, or the limit if that is less.
+/// The depth of a default after `before` arms, up to `DEPTH_LIMIT`.
 fn default_depth(before: usize, depth: u8) -> u8
     requires { depth ≤ 100 }
     ensures { result ≡ min (before + depth) 100 }
@@ -219,7 +220,7 @@ fn default_depth(before: usize, depth: u8) -> u8
     }
 }
 
-/// The default at the end.
+/// The arms with a default at the end.
 pub fn with_default(labels: Labels, default: Part) -> AllArms
     ensures labelled { shown_labelled result.arms.items ≡ shown_labelled labels.arms.items }
     ensures default { shown_tree result.default ≡ shown_tree default.expr }
@@ -235,7 +236,7 @@ pub fn with_default(labels: Labels, default: Part) -> AllArms
     }
 }
 
-/// A case.
+/// A case over these arms.
 pub fn cased(alloc: Global, place: u32, scrutinee: Part, arms: AllArms) -> Result<Part, AllocError>
     ensures { IfOk result (λ x.
         shown_tree x.expr ≡ Cases place (shown_tree scrutinee.expr) (arms_of (shown_labelled arms.arms.items) (shown_tree arms.default))) }
@@ -252,7 +253,7 @@ pub fn cased(alloc: Global, place: u32, scrutinee: Part, arms: AllArms) -> Resul
     })
 }
 
-/// An if.
+/// An if of these three parts.
 pub fn chosen(
     alloc: Global,
     place: u32,

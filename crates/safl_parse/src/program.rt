@@ -1,4 +1,4 @@
-//! Whole programs.
+//! Reading whole programs.
 
 ghost use Rattle.std.specs.Prelude.{◌≡◌, [], ◌∷◌, ◌++◌, true, false, IfOk};
 ghost use Rattle.safl_tree.specs.Terminals.{terminals};
@@ -12,10 +12,10 @@ use safl_tree::{Def, Param, Program};
 use safl_word::{Key, Sym, Token, TokenKind};
 use std::alloc::AllocError;
 
-/// The levels of a body and of what nests in it.
+/// How many levels of nesting a body may have.
 const LEVELS: u8 = 100;
 
-/// One more parameter at the end.
+/// The parameters with one more at the end.
 fn push_param(params: Vec<Param>, next: Param) -> Result<Vec<Param>, AllocError>
     ensures { IfOk result (λ x. shown_parameters x.items ≡ shown_parameters params.items ++ shown_parameter next ∷ []) }
 {
@@ -24,7 +24,7 @@ fn push_param(params: Vec<Param>, next: Param) -> Result<Vec<Param>, AllocError>
     Ok(params)
 }
 
-/// One more definition at the end.
+/// The definitions with one more at the end.
 fn push_def(defs: Vec<Def>, next: Def) -> Result<Vec<Def>, AllocError>
     ensures { IfOk result (λ x. shown_definitions x.items ≡ shown_definitions defs.items ++ shown_definition next ∷ []) }
 {
@@ -44,7 +44,7 @@ impl<'s> Parser<'s> {
         Ok((Param { place, name, width }, rest))
     }
 
-    /// One more parameter, after a comma.
+    /// Reads one more parameter, after a comma.
     #[tactic(auto, unfolding(safl_tree::specs::Reader::read_another_param))]
     fn another_param<'a>(&self, params: Vec<Param>, tokens: &'a [Token]) -> Read<'a, Vec<Param>>
         ensures { Reads self.now tokens.now (λ x. (shown_parameters x.0.items, x.1.now)) result (read_another_param (shown_parameters params.items)) }
@@ -54,7 +54,7 @@ impl<'s> Parser<'s> {
         Ok((push_param(params, next)?, rest))
     }
 
-    /// Parameters with commas between them, or none.
+    /// Reads parameters with commas between them, or none.
     #[tactic(auto, unfolding(safl_tree::specs::Reader::read_params))]
     fn params<'a>(&self, tokens: &'a [Token]) -> Read<'a, Vec<Param>>
         ensures { Reads self.now tokens.now (λ x. (shown_parameters x.0.items, x.1.now)) result read_params }
@@ -73,7 +73,7 @@ impl<'s> Parser<'s> {
         Ok((params, rest))
     }
 
-    /// A definition after `fun` or `and`.
+    /// Reads a definition after its `fun` or `and`. `joined` says that it was `and`.
     #[tactic(auto, unfolding(safl_tree::specs::Reader::read_one))]
     fn one<'a>(&self, joined: bool, tokens: &'a [Token]) -> Read<'a, Def>
         ensures { Reads self.now tokens.now (λ x. (shown_definition x.0, x.1.now)) result (read_one joined (expr_at 100)) }
@@ -97,7 +97,7 @@ impl<'s> Parser<'s> {
         Ok((def, rest))
     }
 
-    /// One more member of a group, after `and`.
+    /// Reads one more definition of a group, after `and`.
     #[tactic(auto, unfolding(safl_tree::specs::Reader::read_another_one))]
     fn another_one<'a>(&self, defs: Vec<Def>, tokens: &'a [Token]) -> Read<'a, Vec<Def>>
         ensures { ReadsDefinitions self.now tokens.now result (read_another_one (expr_at 100) (shown_definitions defs.items)) }
@@ -107,7 +107,7 @@ impl<'s> Parser<'s> {
         Ok((push_def(defs, next)?, rest))
     }
 
-    /// A group of definitions.
+    /// Reads a group of definitions, and appends them to `defs`.
     #[tactic(auto, unfolding(safl_tree::specs::Reader::read_group))]
     fn group<'a>(&self, defs: Vec<Def>, tokens: &'a [Token]) -> Read<'a, Vec<Def>>
         ensures { ReadsDefinitions self.now tokens.now result (read_group (expr_at 100) (shown_definitions defs.items)) }
@@ -124,7 +124,7 @@ impl<'s> Parser<'s> {
         Ok((defs, rest))
     }
 
-    /// One more group, with its semicolon where there is one.
+    /// Reads one more group, with a semicolon after it if there is one, and appends its definitions to `defs`.
     #[tactic(auto, unfolding(safl_tree::specs::Reader::read_another_group, safl_tree::specs::Reader::read_ended))]
     fn another_group<'a>(&self, defs: Vec<Def>, tokens: &'a [Token]) -> Read<'a, Vec<Def>>
         ensures { ReadsDefinitions self.now tokens.now result (read_another_group (expr_at 100) (shown_definitions defs.items)) }
@@ -138,7 +138,7 @@ impl<'s> Parser<'s> {
         }
     }
 
-    /// All groups that stand at the start.
+    /// Reads all groups that come next.
     #[tactic(auto, unfolding(safl_tree::specs::Reader::read_program))]
     fn groups<'a>(&self, tokens: &'a [Token]) -> Read<'a, Vec<Def>>
         ensures { ReadsDefinitions self.now tokens.now result (read_program (expr_at 100)) }
@@ -153,7 +153,7 @@ impl<'s> Parser<'s> {
         Ok((defs, rest))
     }
 
-    /// The whole text.
+    /// Reads the whole text.
     #[tactic(auto, unfolding(safl_tree::specs::Reader::read_source))]
     pub fn whole<'a>(&self, tokens: &'a [Token]) -> Read<'a, Program>
         ensures { Reads self.now tokens.now (λ x. (shown_program x.0, x.1.now)) result read_source }

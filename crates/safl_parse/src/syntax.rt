@@ -17,7 +17,7 @@ use safl_tree::Program;
 use safl_word::{Fault, Rule, Token};
 use std::alloc::Global;
 
-/// Why a source is not parsed: its first fault, or memory ran out.
+/// Why a source cannot be parsed: its first fault, or out of memory.
 #[derive(Clone, Copy, Debug, PartialEq, Eq)]
 pub enum ParseErr {
     Refused(Fault),
@@ -35,7 +35,7 @@ impl From<LexErr> for ParseErr {
     }
 }
 
-/// The rule of a cause.
+/// The rule that belongs to a cause.
 fn rule_of(cause: Cause) -> Rule
     ensures { result ≡ rule_of (grammar_rule cause) }
 {
@@ -46,7 +46,7 @@ fn rule_of(cause: Cause) -> Rule
     }
 }
 
-/// The fault at the first of these tokens, or at the end of the source where none is left.
+/// The fault at the first of the tokens in `rest`, or at the end of the source if there are none.
 fn fault_at(source: &[u8], cause: Cause, rest: &[Token]) -> Fault
     requires { length source.now < 2 ^ 32 }
     ensures { result ≡ fault_at (rule_of (grammar_rule cause)) (place_in source.now (terminals source.now rest.now)) }
@@ -58,8 +58,8 @@ fn fault_at(source: &[u8], cause: Cause, rest: &[Token]) -> Fault
     Fault::new(rule_of(cause), place)
 }
 
-/// The program that the tokens of a source spell, or else their first fault: at the earliest token that breaks a
-/// rule, E04 (nesting too deep) before E02 (unexpected token) before E05 (bad width or range).
+/// The program that the tokens of a source spell, or their first fault. At the first token that breaks a rule, E04
+/// (nesting too deep) comes before E02 (unexpected token), and that before E05 (bad width or range).
 pub fn parse_tokens(alloc: Global, source: &[u8], tokens: &[Token]) -> Result<Program, ParseErr>
     requires { length source.now < 2 ^ 32 }
     ensures program { IfOk result (λ p. TokensSpell source.now tokens.now (shown_program p)) }

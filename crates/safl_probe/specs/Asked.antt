@@ -4,37 +4,37 @@ use Rattle.std.specs.declared.string.String.{String}
 use Rattle.std.specs.declared.alloc.Global.{Global}
 use Rattle.safl_probe.specs.Probing.{ProbeState, fresh}
 
--- for each probe the name of the file that it is asked for, if it is asked
+-- for each probe the name of the file that it is asked to write, if it is asked
 abbrev pub Asked : Type 0
 Asked = List (Option (List ℕ))
 
--- the same, as the code has it
+-- these names, as the code has them
 abbrev pub FileNames : Type 0
 FileNames = List (Option (String Global))
 
 abbrev pub asked : FileNames → Asked
 asked files = map (option_map string_bytes) files
 
--- the probe at that place is asked for the file of that name
+-- the probe at this place is asked to write the file with this name
 abbrev pub IsAsked : Asked → ℕ → List ℕ → Type 0
 IsAsked names i name = get_or names i None ≡ Some name
 
--- no probe is asked for a file of that name
+-- no probe is asked to write the file with this name
 abbrev pub IsUnnamed : Asked → List ℕ → Type 0
 IsUnnamed names name = (i : ℕ) → IsAsked names i name → ⊥
 
--- none is asked
+-- no probe is asked
 abbrev pub NoneAsked : Asked → Type 0
 NoneAsked names = (name : List ℕ) → IsUnnamed names name
 
--- no two probes are asked for one file
+-- no two probes are asked to write the same file
 abbrev pub AreApart : Asked → Type 0
 AreApart names = (i j : ℕ) (name : List ℕ) → IsAsked names i name → IsAsked names j name → i ≡ j
 
--- what the probe at that place tells
+-- what the probe at this place tells
 abbrev pub probe_at : List ProbeState → ℕ → ProbeState
 probe_at ps i = get_or ps i (fresh 0)
 
--- probes that aren't asked are as they were
+-- probes that are not asked are as they were
 abbrev pub SameUnasked : {P : Type 0} → Asked → List P → List P → Type 0
 SameUnasked {P} names old new = (i : ℕ) → get_or names i None ≡ None → (p : P) → get_or new i p ≡ get_or old i p

@@ -1,4 +1,4 @@
--- That runs and their outcomes exist, so that no claim of all runs is empty.
+-- Runs and their outcomes exist, so that no statement about all runs is empty.
 use Rattle.std.specs.Prelude.{ℕ, List, Option}
 use Rattle.safl_word.specs.Words.{Word, AreWords}
 use Rattle.safl_net.specs.Netlist.{Netlist}
@@ -10,13 +10,13 @@ use Rattle.safl_sim.specs.Outcomes.{IsOutcome}
 use Rattle.safl_sim.specs.declared.done.Done.{Done}
 use Rattle.safl_probe.specs.Runs.{IsRunOf}
 
--- a run of so many cycles, and what it shows
+-- a run of `limit` cycles, and its outcome
 pub record Ending (n : Netlist) (args : List Word) (limit : ℕ) : Type 0 where
   pub run : List Valuation
   pub is_run : IsRunOf n args limit run
   pub answer : Option Done
   pub outcome : IsOutcome n args limit answer
 
--- a whole net without loops has one for any arguments of the widths of its inputs
+-- a whole net without loops has such a run for any arguments of the widths of its inputs
 abbrev pub RunsEnd : Type 0
 RunsEnd = (n : Netlist) → IsNetlist n → IsWhole n → IsAcyclic n → (args : List Word) → AreWords args → AreArguments n args → (limit : ℕ) → Ending n args limit

@@ -1,5 +1,5 @@
--- What is seen by who follows the text of a value change dump from its beginning: each number stands until the next change of
--- its code.
+-- What a reader of a value change dump sees.
+-- The dump is read from its beginning, and each number holds until the next change of its code.
 use Rattle.std.specs.Prelude.{◌≡◌, ℕ, ◌-◌, ◌<◌, ◌^◌, List, [], ◌∷◌, map, length, Option, Some, None, Bool, false, if◌then◌else◌, ◌==◌, nat_lt, slice_get, slice_index}
 use Rattle.std.proofs.Common.{bytes_eq}
 use Rattle.std.specs.Option.{option_or}
@@ -22,7 +22,7 @@ abbrev pub lines : Text → List Text
 lines [] = []
 lines (c ∷ cs) = if c == 10 then [] ∷ lines cs else before_first c (lines cs)
 
--- the parts of a line before its first space and after it
+-- the part of a line before its first space; and the part after it
 abbrev pub before_space : Text → Text
 before_space [] = []
 before_space (c ∷ cs) = if c == 32 then [] else c ∷ before_space cs
@@ -31,13 +31,13 @@ abbrev pub behind_space : Text → Text
 behind_space [] = []
 behind_space (c ∷ cs) = if c == 32 then cs else behind_space cs
 
--- what a line tells: a time, or the number of a code from now on, or nothing of these
+-- what a line says: a time, or the number that a code has from now on, or something else
 pub data Line : Type 0 where
   Time : (t : ℕ) → Line
   Change : (number : ℕ) (code : Text) → Line
   Other : Line
 
--- `#` and a decimal; `b`, binary digits, a space and a code; a digit 0 or 1 and a code
+-- the forms of lines: `#` and a decimal; `b`, binary digits, a space and a code; a digit 0 or 1 and a code
 abbrev pub binary_number : Text → ℕ
 binary_number digits = number_from_digits 2 (map (λ c. c - 48) digits)
 
@@ -46,7 +46,7 @@ told_by [] = Other
 told_by (c ∷ cs) =
     if c == 35 then Time (counted 10 cs) else if c == 98 then Change (binary_number (before_space cs)) (behind_space cs) else if between 48 49 c then Change (c - 48) cs else Other
 
--- the lines up to a time: those before the first that tells a later one
+-- the lines up to a time: those before the first line that says a later one
 abbrev pub is_later : ℕ → Line → Bool
 is_later t (Time s) = nat_lt t s
 is_later t (Change number code) = false
@@ -56,7 +56,7 @@ abbrev pub up_to : ℕ → List Line → List Line
 up_to t [] = []
 up_to t (l ∷ ls) = if is_later t l then [] else l ∷ up_to t ls
 
--- the number at which a code stands after some lines: that of its last change
+-- the number that a code has after some lines: that of its last change
 abbrev pub change_of : Text → Line → Option ℕ
 change_of code (Time t) = None
 change_of code (Change number other) = if bytes_eq other code then Some number else None
@@ -66,7 +66,7 @@ abbrev pub stands : Text → List Line → Option ℕ
 stands code [] = None
 stands code (l ∷ ls) = option_or (stands code ls) (change_of code l)
 
--- the number of a code at a time of a text
+-- the number that a code has at a time
 abbrev pub shown : Text → ℕ → Text → Option ℕ
 shown text t code = stands code (up_to t (map told_by (lines text)))
 
@@ -74,7 +74,7 @@ shown text t code = stands code (up_to t (map told_by (lines text)))
 abbrev pub FramesFit : Netlist → List Valuation → Type 0
 FramesFit n frames = (t : ℕ) (frame : Valuation) → slice_get frames t ≡ Some frame → FitWidths n (slice_index frame)
 
--- at each time below the number of frames each traced signal has its number in that frame
+-- at each time below the number of frames, each traced signal has its number in that frame
 abbrev pub DumpsShowFrames : Type 0
 DumpsShowFrames =
     (n : Netlist) → IsNetlist n → (frames : List Valuation) → FramesFit n frames → length frames < 2 ^ 64

@@ -1,4 +1,4 @@
--- Moments of a run of which a probe is told.
+-- The moments of a run at which a probe writes text.
 use Rattle.std.specs.Prelude.{IsSome}
 use Rattle.safl_net.specs.Netlist.{Netlist}
 use Rattle.safl_net.specs.Valuations.{Valuation}
@@ -7,13 +7,13 @@ use Rattle.safl_probe.specs.Probing.{ProbeState, TakesFrame, begun, after_frame,
 use Rattle.safl_probe.specs.declared.moment.Moment.{Moment}
 use Rattle.safl_probe.specs.declared.moment.Moment.TheVariants.{Beginning, Frame, End}
 
--- a probe may be told of it
+-- a probe may be told of this moment
 abbrev pub CanTell : Moment → Valuation → ProbeState → Type 0
 CanTell Beginning v s = Unit {0}
 CanTell (Frame t) v s = TakesFrame t v s
 CanTell End v s = IsSome s.shape
 
--- the text that it gives, and what it tells afterwards
+-- the text that a probe gives at this moment; and what it tells afterwards
 abbrev pub text_at : Moment → Netlist → Valuation → ProbeState → Text
 text_at Beginning n v s = begin_text n s
 text_at (Frame t) n v s = cycle_text v s

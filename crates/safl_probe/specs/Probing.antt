@@ -1,4 +1,4 @@
--- What a probe tells, and what its calls add.
+-- What a probe tells, and what its calls append.
 use Rattle.std.specs.Prelude.{◌≡◌, ◌≤◌, ◌<◌, ℕ, ◌+◌, List, [], length, Option, Some, None}
 use Rattle.safl_net.specs.Netlist.{Netlist}
 use Rattle.safl_net.specs.Valuations.{Valuation}
@@ -14,7 +14,7 @@ pub record ProbeState : Type 0 where
   pub turn : ℕ
   pub faults : ℕ
 
--- before it was begun
+-- a probe before it begins
 abbrev pub fresh : ℕ → ProbeState
 fresh kind = record { kind = kind; shape = None; last = None; turn = 0; faults = 0 }
 
@@ -27,7 +27,7 @@ pub record SameProbe (old new : ProbeState) : Type 0 where
   pub kind : new.kind ≡ old.kind
   pub faults : old.faults ≤ new.faults
 
--- it was begun, and the frame has a number for each signal
+-- the probe has begun, and the frame has a number for each signal
 abbrev pub FrameFits : Option Shape → Valuation → Type 0
 FrameFits None frame = ⊥
 FrameFits (Some shape) frame = length frame ≡ shape.signals
@@ -38,11 +38,11 @@ pub record TakesFrame (t : ℕ) (frame : Valuation) (s : ProbeState) : Type 0 wh
   pub turn : t ≡ s.turn
   pub room : t < 0xffff_ffff_ffff_ffff
 
--- after it was begun on a net
+-- a probe after it has begun on a net
 abbrev pub begun : Netlist → ProbeState → ProbeState
 begun n s = record s { shape = Some (shape_of s.kind n); last = None; turn = 0 }
 
--- after a frame
+-- a probe after a frame
 abbrev pub last_seen : Option Shape → Valuation → Option (List ℕ)
 last_seen None frame = None
 last_seen (Some shape) frame = Some (seen shape.watched frame)
@@ -50,7 +50,7 @@ last_seen (Some shape) frame = Some (seen shape.watched frame)
 abbrev pub after_frame : Valuation → ProbeState → ProbeState
 after_frame frame s = record s { last = last_seen s.shape frame; turn = s.turn + 1 }
 
--- the text of a net's beginning, of a frame, and of the end
+-- the text of the beginning on a net; of a frame; and of the end
 abbrev pub opening_on : ℕ → Shape → Text
 opening_on number shape = opening (kind_of number) shape.watched
 

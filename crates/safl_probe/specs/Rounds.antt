@@ -1,4 +1,4 @@
--- What is watched of a run, cycle by cycle.
+-- What probes are shown of a call, cycle by cycle.
 use Rattle.std.specs.Prelude.{ℕ, ◌≡◌, ◌<◌, ◌≤◌, ◌+◌, List, map, length, Option, Some, slice_get, slice_index, codes}
 use Rattle.safl_word.specs.Words.{Word}
 use Rattle.safl_io.specs.Shelf.{Files, ShelfState}
@@ -19,7 +19,7 @@ use Rattle.safl_probe.specs.Stopping.{StopsRun}
 use Rattle.safl_probe.specs.declared.drive_err.DriveErr.{DriveErr}
 use Rattle.safl_probe.specs.declared.moment.Moment.TheVariants.{End}
 
--- a probe that was begun on a net, and has seen no frame
+-- the probe has begun on the net, and has seen no frame
 pub record IsReady (n : Netlist) (s : ProbeState) : Type 0 where
   pub fits : (frame : Valuation) → length frame ≡ length n.signals → FrameFits s.shape frame
   pub turn : s.turn ≡ 0
@@ -41,8 +41,8 @@ pub record Watches (n : Netlist) (state : ℕ → ℕ) (args : List Word) (limit
   pub answers : Answers n limit state args answer after
   pub shown : Shown (cycles_of n limit state args answer after answers) names ps qs old new
 
--- a call was watched up to an error, at which the files have a part of the texts of its cycles; `done` was 0 in them, perhaps but
--- for the last one
+-- A call was watched up to an error. The files have a part of the texts of its cycles, and `done` was 0 in all of these but
+-- perhaps the last.
 pub record BreaksOff (n : Netlist) (state : ℕ → ℕ) (args : List Word) (limit : ℕ) (names : Asked) (ps : List ProbeState) (old new : Option Files) : Type 0 where
   pub frames : List Valuation
   pub call : IsCallRun n state args frames

@@ -1,4 +1,4 @@
--- The cycles of a run that are shown, and their traces.
+-- The cycles of a run that probes are shown, and their traces.
 use Rattle.std.specs.Prelude.{ℕ, ◌≡◌, List, [], ◌∷◌, map, length, Vec, ◌==◌, if◌then◌else◌, codes}
 use Rattle.std.specs.declared.alloc.Global.{Global}
 use Rattle.safl_word.specs.Words.{Word}
@@ -23,17 +23,17 @@ pub record BeginsRun (sim : Simulation) (args : List Word) : Type 0 where
   pub fresh : sim.state ≡ resets sim.net
   pub arguments : AreArguments sim.net args
 
--- a run of so many cycles, in which all inputs are 0 after cycle 0; a net without loops has exactly one
+-- a run of so many cycles, in which all inputs are 0 after cycle 0. A net without loops has exactly one
 pub record IsRunOf (n : Netlist) (args : List Word) (count : ℕ) (vs : List Valuation) : Type 0 where
   pub run : IsRun n args vs
   pub long : length vs ≡ count
 
--- its cycles up to the first in which `done` is 1, with that one
+-- the cycles up to the first in which `done` is 1, including that one
 abbrev pub until_done : Netlist → List Valuation → List Valuation
 until_done n [] = []
 until_done n (v ∷ vs) = if read_output n v (codes "done") == 1 then v ∷ [] else v ∷ until_done n vs
 
--- the trace of these cycles, for the probe at that place
+-- the trace of these cycles for the probe at this place
 abbrev pub trace_at : Netlist → List Valuation → List ProbeState → ℕ → Text
 trace_at n vs ps i = trace (probe_at ps i).kind n (until_done n vs)
 
@@ -46,8 +46,8 @@ abbrev pub RunIsShown : {P : Type 0} → Netlist → List Word → ℕ → FileN
 RunIsShown n args count names tell ps qs =
     (vs : List Valuation) → IsRunOf n args count vs → AreShown n (until_done n vs) (asked names) (map tell ps) (map tell qs)
 
--- of a run of so many cycles the files of the asked probes are so by their traces, where no two are asked for one file and the
--- shelf tells
+-- In a run of so many cycles, the file of each asked probe is in this relation to its old text, with the probe's trace. This is
+-- claimed if no two probes are asked to write the same file and the shelf tells.
 abbrev pub TracesGrow : {P : Type 0} → Relation → Netlist → List Word → ℕ → FileNames → (P → ProbeState) → List P → ShelfState → ShelfState → Type 0
 TracesGrow R n args count names tell ps old new =
     (vs : List Valuation) → IsRunOf n args count vs → AreApart (asked names)

@@ -1,4 +1,4 @@
--- Why a run that probes watch stopped, and what stays whatever comes.
+-- Why a run that probes watch stopped, and what holds in any case.
 use Rattle.std.specs.Prelude.{ℕ, ◌≡◌, ◌≤◌, List, map, length}
 use Rattle.safl_io.specs.Counts.{Rose}
 use Rattle.safl_io.specs.Shelf.{ShelfState, SameReads, UsesNoStray}
@@ -11,7 +11,7 @@ use Rattle.safl_probe.specs.Asked.{Asked, FileNames, IsAsked, SameUnasked, asked
 use Rattle.safl_probe.specs.declared.drive_err.DriveErr.{DriveErr}
 use Rattle.safl_probe.specs.declared.drive_err.DriveErr.TheVariants as why
 
--- why a file is not written any further, and why a probe gives no more text
+-- the error of a file that cannot be written further; and the error of a probe that gives no more text
 abbrev pub unwritten : ℕ → OutErr → DriveErr
 unwritten place out.Failed = why.Write place
 unwritten place out.NoMemory = why.NoMemory
@@ -20,13 +20,13 @@ abbrev pub unprobed : ℕ → ProbeErr → DriveErr
 unprobed kind probe.Failed = why.Probe kind
 unprobed kind probe.NoMemory = why.NoMemory
 
--- the one probe failed, or the file at its place was not written
+-- this one probe failed, or the file at its place was not written
 abbrev pub Blames : DriveErr → ℕ → ProbeState → ProbeState → ShelfState → ShelfState → Type 0
 Blames (why.Probe kind) place p q old new = (p.kind ≡ kind) × Rose p.faults q.faults
 Blames (why.Write i) place p q old new = (i ≡ place) × Rose old.write_faults new.write_faults
 Blames why.NoMemory place p q old new = Unit {0}
 
--- an asked probe of that kind failed
+-- an asked probe of this kind failed
 pub record ProbeFailed (kind : ℕ) (names : Asked) (old new : List ProbeState) : Type 0 where
   pub place : ℕ
   pub name : List ℕ
@@ -34,7 +34,7 @@ pub record ProbeFailed (kind : ℕ) (names : Asked) (old new : List ProbeState) 
   pub of_kind : (probe_at old place).kind ≡ kind
   pub rose : Rose (probe_at old place).faults (probe_at new place).faults
 
--- the file of the asked probe at that place was not written
+-- the file of the asked probe at this place was not written
 pub record WriteFailed (place : ℕ) (names : Asked) (old new : ShelfState) : Type 0 where
   pub name : List ℕ
   pub asked : IsAsked names place name
@@ -45,11 +45,11 @@ Stopped (why.Probe kind) names ps qs old new = ProbeFailed kind names ps qs
 Stopped (why.Write place) names ps qs old new = WriteFailed place names old new
 Stopped why.NoMemory names ps qs old new = Unit {0}
 
--- why a run stopped, by the files that the probes are asked for, and what they and the shelf tell before and after
+-- why a run stopped, said by what the probes and the shelf tell before and after
 abbrev pub StopsRun : {P : Type 0} → FileNames → (P → ProbeState) → List P → List P → ShelfState → ShelfState → DriveErr → Type 0
 StopsRun names tell ps qs old new e = Stopped e (asked names) (map tell ps) (map tell qs) old new
 
--- the probes are as many as before and of the same kinds, and no count of faults fell
+-- there are as many probes as before, of the same kinds, and no count of faults fell
 pub record SameProbes (old new : List ProbeState) : Type 0 where
   pub count : length new ≡ length old
   pub kinds : (i : ℕ) → (probe_at new i).kind ≡ (probe_at old i).kind

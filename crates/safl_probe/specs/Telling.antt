@@ -1,4 +1,4 @@
--- Asked probes that are told of a moment, and their files.
+-- Asked probes that are told of a moment of the run, and their files.
 use Rattle.std.specs.Prelude.{ℕ, ◌≡◌, List, map, length}
 use Rattle.safl_io.specs.Shelf.{ShelfState}
 use Rattle.safl_io.specs.Told.{TellsOn}
@@ -16,7 +16,7 @@ use Rattle.safl_probe.specs.declared.moment.Moment.{Moment}
 use Rattle.safl_probe.specs.declared.moment.Moment.TheVariants.{Frame}
 use Rattle.safl_probe.specs.declared.room.Room.{Room}
 
--- the frame in a room
+-- the frame that a room holds
 abbrev pub frame_in : Room → Valuation
 frame_in room = shown_frame room.frame.items
 
@@ -25,15 +25,15 @@ pub record AllCanTell {P : Type 0} (moment : Moment) (frame : Valuation) (names 
   pub files : length names ≡ length ps
   pub can : (i : ℕ) (name : List ℕ) → IsAsked (asked names) i name → CanTell moment frame (probe_at (map tell ps) i)
 
--- each asked probe tells afterwards what a step makes of what it told before
+-- what each asked probe tells is this step of what it told before
 abbrev pub AllTell : {P : Type 0} → FileNames → (ProbeState → ProbeState) → (P → ProbeState) → List P → List P → Type 0
 AllTell names step tell ps qs = (i : ℕ) (name : List ℕ) → IsAsked (asked names) i name → Tells (step (probe_at (map tell ps) i)) (probe_at (map tell qs) i)
 
--- at a moment the file of a name is in such a relation to what it was, by the text that a probe gives, where the shelf tells
+-- at a moment, the file with a name is in this relation to its old text, with the text that the probe gives, if the shelf tells
 abbrev pub GrowsAt : (Moment → Relation) → Moment → Netlist → Valuation → List ℕ → ProbeState → ShelfState → ShelfState → Type 0
 GrowsAt R moment n frame name s old new = TellsOn (Grows (R moment) name (text_at moment n frame s)) old.holds new.holds
 
--- those of all asked probes are
+-- at a moment, the files of all asked probes are in this relation to their old texts
 abbrev pub AllGrowAt : {P : Type 0} → (Moment → Relation) → Moment → Netlist → Valuation → FileNames → (P → ProbeState) → List P
     → ShelfState → ShelfState → Type 0
 AllGrowAt R moment n frame names tell ps old new = FilesGrow (R moment) names (text_at moment n frame) tell ps old new

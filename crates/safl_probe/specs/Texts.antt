@@ -14,20 +14,21 @@ Text = List ℕ
 
 -- ---- VCD
 
--- the code of the i-th watched signal: the digits of i in base 94, lowest first and at least one, each as the character 33
--- plus the digit
+-- The code of watched signal i: the digits of i in base 94, at least one, the lowest first. Each is written as the character 33
+-- plus the digit.
 unfoldable pub code : ℕ → Text
 code i = if i == 0 then codes "!" else map (λ d. 33 + d) (reverse (digits_of 94 i))
 
--- the line of a number of the i-th: of one bit its digit and the code, and of more a `b`, the shortest binary, a space and the code
+-- The line with a number of signal i. A number of one bit is its digit and the code; any other is `b`, as few binary digits as
+-- possible, a space and the code.
 abbrev pub value : ℕ → ℕ → ℕ → Text
 value i width number = (if width == 1 then binary number else codes "b" ++ binary number ++ codes " ") ++ code i ++ codes "\n"
 
--- the declaration of the i-th
+-- the declaration of signal i
 abbrev pub variable : ℕ → Watched → Text
 variable i w = codes "$var wire " ++ decimal w.width ++ codes " " ++ code i ++ codes " " ++ w.name ++ codes " $end\n"
 
--- the declarations from the i-th on, the lines of all numbers, and those of the numbers that changed
+-- the declarations of the signals from i on; the lines with all their numbers; and the lines with those that changed
 abbrev pub variables : ℕ → List Watched → Text
 variables i [] = []
 variables i (w ∷ ws) = variable i w ++ variables (suc i) ws
@@ -46,7 +47,7 @@ changes i _ _ _ = []
 abbrev pub header : List Watched → Text
 header ws = codes "$timescale 1 ns $end\n$scope module safl $end\n" ++ variables 0 ws ++ codes "$upscope $end\n$enddefinitions $end\n"
 
--- the time of a frame, and that time before a text that isn't empty
+-- the line with the time of a frame; and that line before a text, unless the text is empty
 abbrev pub time : ℕ → Text
 time t = codes "#" ++ decimal t ++ codes "\n"
 
@@ -67,7 +68,7 @@ abbrev pub starts : ℕ → List Watched → List ℕ → Text
 starts t (w ∷ ws) (x ∷ now) = start t w.name x ++ starts t ws now
 starts t _ _ = []
 
--- how many bits differ
+-- how many bits of the numbers differ
 abbrev pub toggled : List ℕ → List ℕ → ℕ
 toggled (x ∷ last) (y ∷ now) = count_ones (bit_xor x y) + toggled last now
 toggled _ _ = 0
@@ -75,16 +76,16 @@ toggled _ _ = 0
 abbrev pub toggles : ℕ → ℕ → Text
 toggles t count = decimal t ++ codes " " ++ decimal count ++ codes "\n"
 
--- ---- what a probe of a kind writes
+-- ---- what a probe of each kind writes
 
--- at the beginning
+-- the text of the beginning
 abbrev pub opening : TraceKind → List Watched → Text
 opening Vcd ws = header ws
 opening Starts ws = []
 opening Toggles ws = []
 opening Silent ws = []
 
--- in cycle t, where the watched signals have these numbers, and had those in the frame before, if there is one
+-- the text of cycle t. The watched signals have these numbers, and had those in the frame before, if there was one
 abbrev pub frame_text : TraceKind → List Watched → ℕ → Option (List ℕ) → List ℕ → Text
 frame_text Vcd ws t None now = dump t ws now
 frame_text Vcd ws t (Some last) now = timed t (changes 0 ws last now)
@@ -93,14 +94,14 @@ frame_text Toggles ws t None now = toggles t 0
 frame_text Toggles ws t (Some last) now = toggles t (toggled last now)
 frame_text Silent ws t last now = []
 
--- at the end, after so many frames
+-- the text of the end, after so many frames
 abbrev pub closing : TraceKind → ℕ → Text
 closing Vcd turn = time turn
 closing Starts turn = []
 closing Toggles turn = []
 closing Silent turn = []
 
--- the frames from cycle t on
+-- the texts of the frames from cycle t on
 abbrev pub frames_text : TraceKind → List Watched → ℕ → Option (List ℕ) → List Valuation → Text
 frames_text kind ws t last [] = []
 frames_text kind ws t last (f ∷ fs) = frame_text kind ws t last (seen ws f) ++ frames_text kind ws (suc t) (Some (seen ws f)) fs

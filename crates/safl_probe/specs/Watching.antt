@@ -1,4 +1,4 @@
--- What a probe watches of a net.
+-- Which signals of a net a probe watches.
 use Rattle.std.specs.Prelude.{ℕ, suc, List, [], ◌∷◌, ◌++◌, map, length, Bool, true, false, not, cond, ◌==◌, if◌then◌else◌, codes, nat_eq, slice_index}
 use Rattle.std.specs.List.{starts_with}
 use Rattle.safl_word.specs.Words.{Word}
@@ -13,17 +13,17 @@ use Rattle.safl_probe.specs.declared.kind.TraceKind.TheVariants.{Vcd, Starts, To
 use Rattle.safl_probe.specs.declared.kind.Group.{Group}
 use Rattle.safl_probe.specs.declared.kind.Group.TheVariants.{Inputs, Registers, NamedWires, StartWires}
 
--- the kind of a number: 1 is VCD, 2 is starts, 3 is toggles, and any other kind writes nothing
+-- the kind with this number: 1 is VCD, 2 is starts, 3 is toggles, and any other kind writes nothing
 abbrev pub kind_of : ℕ → TraceKind
 kind_of number = if number == 1 then Vcd else if number == 2 then Starts else if number == 3 then Toggles else Silent
 
--- a signal that is watched: the name under which it is shown, its number, and its width
+-- a signal that is watched: its name in the trace, its number, and its width
 pub record Watched : Type 0 where
   pub name : List ℕ
   pub signal : ℕ
   pub width : ℕ
 
--- the signals of a group: the inputs; the registers; the wires whose name doesn't begin with `n$`; the wires whose name
+-- whether a signal is in a group: the inputs; the registers; the wires whose name does not begin with `n$`; the wires whose name
 -- begins with `go$`
 abbrev pub belongs : Group → SigKind → List ℕ → Bool
 belongs Inputs Input name = true
@@ -39,7 +39,7 @@ belongs StartWires Input name = false
 belongs StartWires Reg name = false
 belongs StartWires Wire name = starts_with nat_eq name (codes "go$")
 
--- the signals of a group, counted from i on
+-- the signals of a group. The first signal has the number i
 abbrev pub one_watched : Group → Signal → ℕ → List Watched
 one_watched group g i = cond (belongs group (sort_of g.kind) g.name) (record { name = g.name; signal = i; width = g.width } ∷ []) []
 
@@ -50,14 +50,14 @@ group_from group (g ∷ gs) i = one_watched group g i ++ group_from group gs (su
 abbrev pub output_watched : Netlist → List ℕ × ℕ → Watched
 output_watched n o = record { name = o.0; signal = o.1; width = width_of n o.1 }
 
--- what each kind watches: for VCD the inputs, the registers, the named wires and the outputs, each in order
+-- what a probe of each kind watches: for VCD the inputs, the registers, the named wires and the outputs, each in order
 abbrev pub watched_by : TraceKind → Netlist → List Watched
 watched_by Vcd n = group_from Inputs n.signals 0 ++ group_from Registers n.signals 0 ++ group_from NamedWires n.signals 0 ++ map (output_watched n) n.outputs
 watched_by Starts n = group_from StartWires n.signals 0
 watched_by Toggles n = group_from Registers n.signals 0
 watched_by Silent n = []
 
--- a net as a probe sees it: how many signals there are, and those that it watches
+-- a net as a probe sees it: the number of its signals, and those that are watched
 pub record Shape : Type 0 where
   pub signals : ℕ
   pub watched : List Watched
@@ -65,11 +65,11 @@ pub record Shape : Type 0 where
 abbrev pub shape_of : ℕ → Netlist → Shape
 shape_of number n = record { signals = length n.signals; watched = watched_by (kind_of number) n }
 
--- the signal of a number
+-- the signal with a number
 abbrev pub signal_at : Netlist → ℕ → Signal
 signal_at n s = record { name = name_at n s; width = width_of n s; kind = kind_at n s }
 
--- a frame, by its words
+-- the numbers of a frame's words
 abbrev pub shown_frame : List Word → Valuation
 shown_frame words = map (λ (w : Word). w.bits) words
 

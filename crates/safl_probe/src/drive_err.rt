@@ -1,4 +1,4 @@
-//! Why a run stopped before its end.
+//! Errors of runs that probes watch.
 
 ghost use Rattle.std.specs.Prelude.{◌≡◌};
 ghost use Rattle.safl_probe.specs.declared.drive_err.DriveErr.TheVariants as why;
@@ -13,10 +13,10 @@ use thiserror::Error;
 /// Why a run that probes watch stopped before its end.
 #[derive(Clone, Copy, Debug, PartialEq, Eq, Error)]
 pub enum DriveErr {
-    /// A probe of this kind failed. It has counted that.
+    /// A probe of this kind failed, and has counted the fault.
     #[error("a probe failed")]
     Probe(u8),
-    /// The file at this place in the list was not written. The shelf has counted that.
+    /// The file at this place of the list was not written, and the shelf has counted the fault.
     #[error("a trace was not written")]
     Write(u64),
     #[error("out of memory")]
@@ -39,7 +39,7 @@ impl From<AllocError> for DriveErr {
     }
 }
 
-/// Why the file at a place is not written any further.
+/// The error of a file that cannot be written further. `place` is its place in the list.
 pub(crate) fn unwritten(place: usize, why: OutErr) -> DriveErr
     ensures { result ≡ unwritten place why }
 {
@@ -49,7 +49,7 @@ pub(crate) fn unwritten(place: usize, why: OutErr) -> DriveErr
     }
 }
 
-/// Why a probe of a kind gives no more text.
+/// The error of a probe of kind `kind` that gives no more text.
 pub(crate) fn unprobed(kind: u8, why: ProbeErr) -> DriveErr
     ensures { result ≡ unprobed kind why }
 {

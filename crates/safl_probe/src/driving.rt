@@ -19,12 +19,13 @@ use safl_sim::{Done, Sim};
 use safl_word::Word;
 use std::alloc::Global;
 
-/// Simulates a net from reset until `done` is 1, but at most `limit` cycles, and answers the first such cycle. In
-/// cycle 0 `start` is 1 and the other inputs have the arguments in order; after it all inputs are 0.
+/// Simulates a net from reset until `done` is 1, for at most `limit` cycles, and returns the first such cycle. In cycle
+/// 0 `start` is 1 and the other inputs have the arguments in order; later all inputs are 0.
 ///
-/// A probe is asked where there is the name of a file at its place. For each asked probe in order the file is made, with
-/// the text of the beginning; after each tick each asked probe's text of that cycle is appended as one piece, and at the
-/// end the texts of the end. An empty text is not appended. After an error each file holds a prefix of its text.
+/// A probe is asked if there is the name of a file at its place. For each asked probe, in order, the file is created
+/// with the text of the probe's beginning. After each tick the text of each asked probe for that cycle is appended as
+/// one piece, and at the end the texts of the end. An empty text is not appended. After an error each file holds a
+/// prefix of its text.
 pub fn drive<S: Shelf>(
     alloc: Global,
     sim: &mut Sim,

@@ -1,4 +1,4 @@
-//! What is kept of a watched signal.
+//! What a probe notes of a signal that it watches.
 
 ghost use Rattle.std.specs.Prelude.{◌≡◌, IfOk};
 ghost use Rattle.safl_probe.specs.Entries.{watched_in, spot_of};
@@ -15,8 +15,8 @@ pub struct Entry {
     pub width: u8,
 }
 
-/// What a frame needs of a watched signal: its number among the signals, its width in bits, and its number in the last
-/// frame.
+/// What a probe needs of a watched signal for each frame: its number, its width in bits, and the number that it had in
+/// the last frame.
 #[derive(Clone, Copy)]
 pub struct Spot {
     pub signal: u32,
@@ -24,7 +24,7 @@ pub struct Spot {
     pub number: Raw,
 }
 
-/// The entry of a signal.
+/// The entry of a signal with this name in the trace.
 pub(crate) fn make_entry(
     alloc: Global,
     name: &str,

@@ -1,4 +1,4 @@
-//! Pieces of text that go into the files of a shelf.
+//! Writing the texts of probes to the files of a shelf.
 
 ghost use Rattle.std.specs.Prelude.{◌≡◌, OnOk, OnErr, IsErrOf, []};
 ghost use Rattle.safl_io.specs.Counts.{Rose};
@@ -10,7 +10,7 @@ ghost use Rattle.safl_probe.specs.declared.moment.Moment.TheVariants as moments;
 use crate::moment::Moment;
 use safl_io::{OutErr, Shelf};
 
-/// Makes a file where a run begins.
+/// Creates the file if this is the beginning of the run.
 pub(crate) fn open<S: Shelf>(moment: Moment, name: &str, shelf: &mut S) -> Result<(), OutErr>
     ensures opened { OnOk result (Opens moment name.now (S.told shelf.old).holds (S.told shelf.new).holds) }
     ensures not_opened { OnErr result (TellsOn (Grows OldOrPart name.now []) (S.told shelf.old).holds (S.told shelf.new).holds) }
@@ -26,7 +26,7 @@ pub(crate) fn open<S: Shelf>(moment: Moment, name: &str, shelf: &mut S) -> Resul
     }
 }
 
-/// Appends a text that isn't empty, as one piece.
+/// Appends a text as one piece, if it is not empty.
 pub(crate) fn append<S: Shelf>(name: &str, text: &[u8], shelf: &mut S) -> Result<(), OutErr>
     ensures appended { OnOk result (TellsOn (Grows Longer name.now text.now) (S.told shelf.old).holds (S.told shelf.new).holds) }
     ensures not_appended { OnErr result (TellsOn (Grows LongerPart name.now text.now) (S.told shelf.old).holds (S.told shelf.new).holds) }

@@ -6,7 +6,7 @@ ghost use Rattle.safl_probe.specs.Watching.{kind_of, belongs};
 
 use safl_net::SigKind;
 
-/// What a probe writes.
+/// The kind of trace that a probe writes.
 #[derive(Clone, Copy, Debug, PartialEq, Eq)]
 pub enum TraceKind {
     Vcd,
@@ -15,7 +15,7 @@ pub enum TraceKind {
     Silent,
 }
 
-/// Signals that are watched together.
+/// A group of signals that a probe watches together.
 #[derive(Clone, Copy, Debug, PartialEq, Eq)]
 pub enum Group {
     Inputs,
@@ -24,7 +24,7 @@ pub enum Group {
     StartWires,
 }
 
-/// The kind of a number: 1 is Vcd, 2 is Starts, 3 is Toggles, and any other is Silent.
+/// The kind with this number: 1 is `Vcd`, 2 is `Starts`, 3 is `Toggles`, and any other is `Silent`.
 pub fn kind_of(number: u8) -> TraceKind
     ensures { result ≡ kind_of number }
 {
@@ -36,7 +36,7 @@ pub fn kind_of(number: u8) -> TraceKind
     }
 }
 
-/// Whether a signal is one of a group.
+/// Whether a signal belongs to a group.
 pub(crate) fn belongs(group: Group, sort: SigKind, name: &str) -> bool
     ensures { result ≡ belongs group sort name.now }
 {

@@ -1,4 +1,4 @@
-//! Traces: probes that watch a simulation and give text, and runs until `done` is 1 whose traces go into files of a shelf.
+//! Traces: probes that watch a simulation and write text, and runs whose traces go to files of a shelf.
 #![tactic(auto)]
 
 pub mod drive_err;

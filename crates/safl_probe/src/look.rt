@@ -1,4 +1,4 @@
-//! What a probe watches of a net, and what it sees in a frame.
+//! Which signals of a net a probe watches, and what it sees of them in a frame.
 
 ghost use Rattle.std.specs.Prelude.{◌≡◌, ◌++◌, ◌<◌, length, map, slice_get, slice_index, IfOk, OnOk};
 ghost use Rattle.safl_probe.specs.Watching.{watched_by, group_from, one_watched, output_watched, signal_at, shown_frame};
@@ -10,7 +10,7 @@ use safl_net::{Net, Sig};
 use safl_word::{NoMemory, Raw, Word};
 use std::alloc::{AllocError, Global};
 
-/// The entries of what a probe of a kind watches.
+/// The entries of all signals that a probe of this kind watches.
 pub(crate) fn entries_of(alloc: Global, kind: TraceKind, net: &Net) -> Result<Vec<Entry>, NoMemory>
     ensures { IfOk result (λ v. watched_all v.items ≡ watched_by kind net.now) }
 {
@@ -33,7 +33,7 @@ fn watch_traced(alloc: Global, entries: &mut Vec<Entry>, net: &Net) -> Result<()
     watch_outputs(alloc, entries, net)
 }
 
-// Watches the signals of a group.
+// Appends the entries of the signals of a group.
 fn watch_group(
     alloc: Global,
     entries: &mut Vec<Entry>,
@@ -48,7 +48,7 @@ fn watch_group(
     Ok(())
 }
 
-// Watches a signal, where it is one of the group.
+// Appends the entry of a signal, if it belongs to the group.
 fn watch_signal(
     alloc: Global,
     entries: &mut Vec<Entry>,
@@ -80,7 +80,7 @@ fn watch_outputs(alloc: Global, entries: &mut Vec<Entry>, net: &Net) -> Result<(
     Ok(())
 }
 
-/// The spots of entries, before the first frame.
+/// The spots of some entries, before the first frame.
 pub(crate) fn spots_of(alloc: Global, entries: &[Entry]) -> Result<Vec<Spot>, AllocError>
     ensures { IfOk result (λ v. v.items ≡ map spot_of entries.now) }
 {
@@ -101,7 +101,7 @@ pub(crate) fn entry_name(entries: &[Entry], i: usize) -> &str
     }
 }
 
-/// Sees a frame: each spot takes the number that its signal has in it.
+/// Looks at a frame: each spot takes the number that its signal has there.
 pub(crate) fn look(spots: &mut [Spot], frame: &[Word])
     ensures { spots.new ≡ looked_all (shown_frame frame.now) spots.old }
 {
@@ -116,7 +116,7 @@ fn see(spot: &mut Spot, frame: &[Word])
     spot.number = number_at(frame, spot.signal);
 }
 
-/// The number of a signal in a frame, and 0 where there is no such signal.
+/// The number of a signal in a frame, or 0 if the frame has no such signal.
 pub(crate) fn number_at(frame: &[Word], signal: u32) -> Raw
     ensures { result ≡ slice_index (shown_frame frame.now) signal }
 {

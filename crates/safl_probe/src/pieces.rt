@@ -1,11 +1,11 @@
-//! Pieces of text, appended to a buffer.
+//! Appending pieces of text to a buffer.
 
 ghost use Rattle.std.specs.Prelude.{◌≡◌, ◌++◌, OnOk, OnErr};
 ghost use Rattle.safl_probe.specs.Texts.{code, value, time};
 
 use safl_word::{NoMemory, Raw, push_binary, push_decimal};
 
-/// Appends a piece, or nothing where memory runs out.
+/// Appends a piece, or nothing if out of memory.
 pub(crate) fn push(out: &mut Vec<u8>, piece: &[u8]) -> Result<(), NoMemory>
     ensures added { OnOk result (out.new.items ≡ out.old.items ++ piece.now) }
     ensures same { OnErr result (out.new.items ≡ out.old.items) }
@@ -14,7 +14,7 @@ pub(crate) fn push(out: &mut Vec<u8>, piece: &[u8]) -> Result<(), NoMemory>
     Ok(())
 }
 
-/// Appends the time of a frame.
+/// Appends the line with the time of a frame.
 pub(crate) fn push_time(out: &mut Vec<u8>, t: u64) -> Result<(), NoMemory>
     ensures { OnOk result (out.new.items ≡ out.old.items ++ time t) }
 {
@@ -23,7 +23,7 @@ pub(crate) fn push_time(out: &mut Vec<u8>, t: u64) -> Result<(), NoMemory>
     push(out, b"\n")
 }
 
-/// Appends the code of the i-th watched signal.
+/// Appends the code of watched signal `i`.
 pub(crate) fn push_code(out: &mut Vec<u8>, i: usize) -> Result<(), NoMemory>
     ensures { OnOk result (out.new.items ≡ out.old.items ++ code i) }
 {
@@ -36,7 +36,7 @@ pub(crate) fn push_code(out: &mut Vec<u8>, i: usize) -> Result<(), NoMemory>
     Ok(())
 }
 
-/// Appends the line of a number of the i-th watched signal.
+/// Appends the line with a value of watched signal `i`.
 pub(crate) fn push_value(
     out: &mut Vec<u8>,
     i: usize,

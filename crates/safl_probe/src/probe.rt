@@ -1,4 +1,4 @@
-// What watches a simulation and gives text.
+//! The trait of probes.
 ghost use Rattle.std.specs.Prelude.{◌≡◌, OnOk, OnErr, IsErrOf, IsNone, IsSome};
 ghost use Rattle.safl_io.specs.Counts.{Rose};
 ghost use Rattle.safl_io.specs.Sink.{Sends, SendsPart};
@@ -13,7 +13,7 @@ use thiserror::Error;
 /// Why a probe gave no text.
 #[derive(Clone, Copy, Debug, PartialEq, Eq, Error)]
 pub enum ProbeErr {
-    /// The probe failed. It has counted that.
+    /// The probe failed, and has counted the fault.
     #[error("the probe failed")]
     Failed,
     #[error("out of memory")]
@@ -28,14 +28,16 @@ impl From<NoMemory> for ProbeErr {
     }
 }
 
-/// Watches a simulation and gives text: first that of the beginning, then that of each frame, and then that of the end.
+/// A probe watches a simulation and writes text: first that of the beginning, then that of each frame, then that of the
+/// end.
 ///
-/// A frame is the words of all signals in a cycle, in the order of their numbers. A call fails only where the probe counts
+/// A frame is the words of all signals in a cycle, in the order of their numbers. A call fails only if the probe counts
 /// a fault, and a call that gives its text counts none. The count never falls, and may stand still at 2^64 - 1. After an
 /// error a prefix of the text was appended, and the probe watches nothing: it takes no frame and no end until it is begun
 /// anew.
 pub trait Probe: Drop {
-    /// What the probe tells: its kind, what it watches, what it saw last, how many frames it was given, and its faults.
+    /// What the probe tells: its kind, what it watches, what it saw last, how many frames it was given, and its count
+    /// of faults.
     ghost state: { Self → ProbeState };
 
     /// The kind: 1 is VCD, 2 is starts, 3 is toggles. Any other kind writes nothing.
@@ -51,7 +53,7 @@ pub trait Probe: Drop {
         ensures same_probe { SameProbe (state self.old) (state self.new) }
         ensures failed { IsErrOf result ProbeErr.Failed → Rose (state self.old).faults (state self.new).faults };
 
-    /// Takes the frame of cycle `t`, which is the number of frames so far, and appends its text.
+    /// Takes the frame of cycle `t`, and appends its text. `t` has to be the number of frames taken so far.
     fn cycle(&mut self, t: u64, frame: &[Word], out: &mut Vec<u8>) -> Result<(), ProbeErr>
         requires takes { TakesFrame t (shown_frame frame.now) (state self.old) }
         ensures added { OnOk result (Sends (cycle_text (shown_frame frame.now) (state self.old)) out.old.items out.new.items) }

@@ -1,4 +1,4 @@
-//! Room for what a probe is shown and for what it writes.
+//! The room for frames, and for the texts that probes write.
 
 ghost use Rattle.std.specs.Prelude.{◌≡◌, length, IfOk};
 ghost use Rattle.safl_probe.specs.Watching.{shown_frame};
@@ -9,14 +9,14 @@ use safl_sim::Sim;
 use safl_word::Word;
 use std::alloc::{AllocError, Global};
 
-/// Room for the words of a frame, and for a text.
+/// Room for the words of one frame, and for one text.
 #[derive(Drop)]
 pub struct Room {
     pub frame: Vec<Word>,
     pub text: Vec<u8>,
 }
 
-/// Room for the frames of a net.
+/// Room for the frames of a simulator's net.
 pub(crate) fn make_room(alloc: Global, sim: &Sim) -> Result<Room, AllocError>
     ensures { IfOk result (λ room. HasWidths sim.now.net room.frame.items) }
 {
@@ -30,7 +30,7 @@ pub(crate) fn make_room(alloc: Global, sim: &Sim) -> Result<Room, AllocError>
     })
 }
 
-/// Shows the values of the last cycle.
+/// Fills a frame with the values of the last cycle.
 pub(crate) fn fill(frame: &mut [Word], sim: &Sim)
     requires frame { HasWidths sim.now.net frame.old }
     requires values { length sim.now.values ≡ length sim.now.net.signals }
@@ -42,7 +42,8 @@ pub(crate) fn fill(frame: &mut [Word], sim: &Sim)
     }
 }
 
-// Puts a word in the place of one of the same width. The width is not written, so that it need not be looked up.
+// Replaces the number of a word by that of a word of the same width. The width is not written, so it need not be looked
+// up.
 #[inline(always)]
 fn renew(word: &mut Word, now: Word)
     requires { word.old.width ≡ now.width }

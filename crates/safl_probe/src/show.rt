@@ -43,7 +43,7 @@ pub(crate) fn show<S: Shelf>(
     tell_all(probes, files, Moment::Frame(cycle), sim.net(), shelf, room)
 }
 
-// Whether a probe is asked.
+// Whether any probe is asked.
 fn is_any_asked(files: &[Option<String>]) -> bool
     ensures { result ≡ false → NoneAsked (asked files.now) }
 {

@@ -7,8 +7,8 @@ use safl_word::Word;
 use std::alloc::Global;
 use std::marker::Model;
 
-/// A probe of any kind, which gives the texts of that kind. One call fails, counts that, and appends nothing: that whose
-/// number is the one that was given.
+/// A probe of any kind, with the texts of that kind, of which one call fails. That call counts a fault and appends
+/// nothing.
 #[derive(Drop)]
 pub struct StubProbe {
     tracer: Tracer,
@@ -32,7 +32,7 @@ impl StubProbe {
     ghost use Rattle.safl_probe.specs.Probing.{fresh};
     ghost use Rattle.safl_probe.specs.Stubs.{Stub, FailsNext};
 
-    /// A probe of this kind, of which the call of this number fails. Calls of `begin`, `cycle` and `finish` are numbered
+    /// A probe of this kind whose call number `fail_at` fails. All calls of `begin`, `cycle` and `finish` are counted,
     /// from 1.
     pub fn new(alloc: Global, kind: u8, fail_at: u64) -> StubProbe
         ensures { result ≡ record { probe = fresh kind; fail_at = fail_at; calls = 0 } }
@@ -45,7 +45,7 @@ impl StubProbe {
         }
     }
 
-    // Counts a call, and answers whether it fails, which it counts too.
+    // Counts a call, and a fault if the call is to fail. Says whether it is to fail.
     fn next_fails(&mut self) -> bool
         ensures fails { IsTrue result ↔ FailsNext self.old }
         ensures calls { self.new.calls ≡ raised self.old.calls }

@@ -10,7 +10,7 @@ use crate::look::{entry_name, number_at};
 use crate::pieces::push;
 use safl_word::{NoMemory, Raw, Word, push_decimal};
 
-/// Appends a line for each signal that is 1.
+/// Appends a line for each watched signal that is 1.
 pub(crate) fn push_starts(
     out: &mut Vec<u8>,
     t: u64,
@@ -43,7 +43,7 @@ fn push_start(
     push(out, b"\n")
 }
 
-/// Appends how many bits differ.
+/// Appends the line with the number of bits that have changed.
 pub(crate) fn push_toggles(out: &mut Vec<u8>, t: u64, count: Raw) -> Result<(), NoMemory>
     ensures { OnOk result (out.new.items ≡ out.old.items ++ toggles t count) }
 {
@@ -53,7 +53,7 @@ pub(crate) fn push_toggles(out: &mut Vec<u8>, t: u64, count: Raw) -> Result<(), 
     push(out, b"\n")
 }
 
-/// Sees a frame, and answers how many bits differ from the frame before.
+/// Looks at a frame, and counts the bits that differ from the frame before.
 pub(crate) fn toggle(spots: &mut [Spot], frame: &[Word]) -> Raw
     ensures count { result ≡ toggled (numbers spots.old) (seen (nameless spots.old) (shown_frame frame.now)) }
     ensures now { spots.new ≡ looked_all (shown_frame frame.now) spots.old }

@@ -1,4 +1,4 @@
-//! Telling asked probes of a moment of a run.
+//! Telling the asked probes of a moment of the run.
 
 ghost use Rattle.std.specs.Prelude.{◌≡◌, IfErr, OnOk, OnErr, IsErrOf};
 ghost use Rattle.safl_io.specs.Counts.{Rose};
@@ -18,7 +18,7 @@ use crate::room::Room;
 use safl_io::Shelf;
 use safl_net::Net;
 
-/// Tells a probe of a moment. Its text stands in the room alone.
+/// Tells a probe of a moment. Its text is put into the room, and nowhere else.
 pub(crate) fn tell(
     probe: &mut Box<dyn Probe>,
     moment: Moment,
@@ -40,7 +40,7 @@ pub(crate) fn tell(
     }
 }
 
-/// Tells a probe of a moment, and appends its text to the file of a name, which is made at the beginning.
+/// Tells a probe of a moment, and appends its text to the file `name`. At the beginning it creates the file.
 pub(crate) fn tell_one<S: Shelf>(
     probe: &mut Box<dyn Probe>,
     name: &str,

@@ -1,4 +1,4 @@
-//! What a probe of a kind writes.
+//! The texts that a probe of any kind writes.
 
 ghost use Rattle.std.specs.Prelude.{◌≡◌, ◌++◌, Some, None, OnOk, OnErr};
 ghost use Rattle.safl_probe.specs.Watching.{shown_frame};
@@ -13,9 +13,9 @@ use crate::tables::{push_starts, push_toggles, toggle};
 use crate::vcd_text::{push_change, push_dump, push_header};
 use safl_word::{NoMemory, Word};
 
-// The text of each call is made in a buffer of its own first, so that all of it is appended or nothing.
+// Each call makes its text in a buffer of its own first, so that it appends all of the text or nothing.
 
-/// Appends the text of the beginning, or nothing where memory runs out.
+/// Appends the text of the beginning, or nothing if out of memory.
 pub(crate) fn send_opening(
     text: &mut Vec<u8>,
     kind: TraceKind,
@@ -30,7 +30,7 @@ pub(crate) fn send_opening(
     push(out, text)
 }
 
-/// Sees a frame, and appends its text, or nothing where memory runs out.
+/// Looks at a frame and appends its text, or nothing if out of memory.
 pub(crate) fn send_frame(
     text: &mut Vec<u8>,
     kind: TraceKind,
@@ -49,7 +49,7 @@ pub(crate) fn send_frame(
     push(out, text)
 }
 
-/// Appends the text of the end, or nothing where memory runs out.
+/// Appends the text of the end, or nothing if out of memory.
 pub(crate) fn send_closing(
     text: &mut Vec<u8>,
     kind: TraceKind,

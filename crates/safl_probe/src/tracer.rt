@@ -1,4 +1,4 @@
-//! A probe of any kind that never fails but for lack of memory.
+//! A probe of any kind, which fails only if out of memory.
 
 use crate::entry::{Entry, Spot};
 use crate::kind::kind_of;

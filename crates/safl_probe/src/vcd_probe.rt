@@ -1,4 +1,4 @@
-//! A probe that gives a dump, and does not fail.
+//! The probe of value change dumps.
 
 use crate::probe::{Probe, ProbeErr};
 use crate::tracer::Tracer;
@@ -7,7 +7,7 @@ use safl_word::Word;
 use std::alloc::Global;
 use std::marker::Model;
 
-/// The probe of value change dumps. It fails only if out of memory: its faults stay 0.
+/// The probe of value change dumps. It fails only if out of memory; its count of faults stays 0.
 #[derive(Drop)]
 pub struct VcdProbe {
     tracer: Tracer,

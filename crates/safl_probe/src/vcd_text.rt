@@ -10,7 +10,7 @@ use crate::look::number_at;
 use crate::pieces::{push, push_code, push_time, push_value};
 use safl_word::{NoMemory, Raw, Word, push_decimal};
 
-/// Appends the header.
+/// Appends the header of a dump.
 pub(crate) fn push_header(out: &mut Vec<u8>, entries: &[Entry]) -> Result<(), NoMemory>
     ensures { OnOk result (out.new.items ≡ out.old.items ++ header (watched_all entries.now)) }
 {
@@ -41,7 +41,7 @@ fn push_variable(out: &mut Vec<u8>, i: usize, entry: &Entry) -> Result<(), NoMem
     push(out, b" $end\n")
 }
 
-/// Appends the first frame, which the spots have seen.
+/// Appends the first frame, as the spots have seen it.
 pub(crate) fn push_dump(out: &mut Vec<u8>, t: u64, spots: &[Spot]) -> Result<(), NoMemory>
     ensures { OnOk result (out.new.items ≡ out.old.items ++ dump t (nameless spots.now) (numbers spots.now)) }
 {
@@ -66,7 +66,7 @@ fn push_number(out: &mut Vec<u8>, i: usize, spot: &Spot) -> Result<(), NoMemory>
     push_value(out, i, spot.width, spot.number)
 }
 
-/// Sees a later frame, and appends its time and what changed, where something did.
+/// Looks at a later frame. If something has changed, appends the frame's time and the changes.
 pub(crate) fn push_change(
     out: &mut Vec<u8>,
     t: u64,
@@ -97,7 +97,7 @@ fn push_changes(out: &mut Vec<u8>, spots: &mut [Spot], frame: &[Word]) -> Result
     Ok(())
 }
 
-// Sees a frame, and appends the number where it changed.
+// Looks at a frame, and appends the number of a watched signal if it has changed.
 #[inline(always)]
 fn push_changed(
     out: &mut Vec<u8>,

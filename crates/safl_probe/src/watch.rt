@@ -1,4 +1,4 @@
-//! The loop of a run: a tick, what the probes are shown, and a look at `done`.
+//! The loop of a run that probes watch.
 
 ghost use Rattle.std.specs.Prelude.{◌≡◌, List, IfOk, IfErr};
 ghost use Rattle.safl_io.specs.Shelf.{SameReads, UsesNoStray};

@@ -1,4 +1,4 @@
--- Counts by function.
+-- Counts for each function.
 use Rattle.std.specs.Prelude.{◌≡◌, ℕ, ◌<◌, ◌==◌, List, length, map, count_by, slice_index}
 use Rattle.std.specs.List.{range_with_len}
 use Rattle.safl_term.specs.Program.{Program}

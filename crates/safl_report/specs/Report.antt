@@ -1,4 +1,4 @@
--- What is printed of a program's plan, and of a netlist's registers.
+-- What is printed about a program's plan and a netlist's registers.
 use Rattle.std.specs.Prelude.{◌≡◌, ℕ, ◌++◌, ◌==◌, List, length, map, filter, count_by, sum_by, Bool, true, false, codes, decimal}
 use Rattle.std.specs.List.{concat, range_with_len}
 use Rattle.safl_term.specs.Checked.{CheckedProgram}
@@ -25,8 +25,8 @@ function_text name calls arbiter =
 abbrev pub function_line : CheckedProgram → (ℕ → Bool) → ℕ → Text
 function_line c arbiter f = function_text (c.name f) (calls_of c.program f) (arbiter (c.program.unit f))
 
--- the line of a site: its number, the names of the function that it calls and of that in which it stands, and whether
--- it keeps its word
+-- the line of a site: its number, the names of the function that it calls and of the one whose body has it, and whether it keeps
+-- its word
 abbrev pub site_text : ℕ → Text → Text → Bool → Text
 site_text k callee caller kept =
     codes "site " ++ decimal k ++ codes " " ++ callee ++ codes " in " ++ caller ++ codes " kept " ++ answer kept ++ codes "\n"
@@ -34,7 +34,7 @@ site_text k callee caller kept =
 abbrev pub site_line : CheckedProgram → (ℕ → Bool) → ℕ → Text
 site_line c kept k = site_text k (c.name (c.program.callee k)) (c.name (c.program.caller k)) (kept k)
 
--- the registers of a netlist
+-- whether a signal is a register
 abbrev pub is_register : Kind → Bool
 is_register Input = false
 is_register (Reg init next) = true
@@ -43,7 +43,7 @@ is_register (Wire cell) = false
 abbrev pub registers : List Signal → List Signal
 registers signals = filter (λ g. is_register g.kind) signals
 
--- how many bits signals have together
+-- the number of bits of the registers among some signals
 abbrev pub bits_of : List Signal → ℕ
 bits_of signals = sum_by (λ g. g.width) signals
 
@@ -53,7 +53,7 @@ register_text count bits = codes "registers " ++ decimal count ++ codes " bits "
 abbrev pub register_line : Netlist → Text
 register_line n = register_text (length (registers n.signals)) (bits_of (registers n.signals))
 
--- the lines of the functions, by number from 0, and of the sites, by number from 1
+-- the lines of the functions, numbered from 0; and those of the sites, numbered from 1
 abbrev pub function_lines : CheckedProgram → (ℕ → Bool) → Text
 function_lines c arbiter = concat (map (function_line c arbiter) (range_with_len 0 c.program.functions))
 
@@ -63,22 +63,22 @@ site_lines c kept = concat (map (site_line c kept) (range_with_len 1 c.program.s
 abbrev pub report_lines : CheckedProgram → (ℕ → Bool) → (ℕ → Bool) → Netlist → Text
 report_lines c arbiter kept n = function_lines c arbiter ++ site_lines c kept ++ register_line n
 
--- the text is the report of a netlist, and of the program's one plan: which units need an arbiter, and which sites keep
--- their words
+-- The text is the report of a netlist and of the program's only plan, which says which units need an arbiter and which sites keep
+-- their words.
 pub record IsReport (c : CheckedProgram) (n : Netlist) (text : Text) : Type 0 where
   pub arbiter : ℕ → Bool
   pub kept : ℕ → Bool
   pub plan : IsPlan c.program arbiter kept
   pub lines : text ≡ report_lines c arbiter kept n
 
--- of how many functions the unit has an arbiter
+-- how many functions have a unit with an arbiter
 abbrev pub arbiters_of : Program → (ℕ → Bool) → ℕ
 arbiters_of C arbiter = count_by arbiter (map C.unit (range_with_len 0 C.functions))
 
 abbrev pub summary_lines : CheckedProgram → (ℕ → Bool) → Netlist → Text
 summary_lines c arbiter n = codes "arbiters " ++ decimal (arbiters_of c.program arbiter) ++ codes "\n" ++ register_line n
 
--- the text is the summary of a netlist, and of the program's one plan
+-- the text is the summary of a netlist and of the program's only plan
 pub record IsSummary (c : CheckedProgram) (n : Netlist) (text : Text) : Type 0 where
   pub arbiter : ℕ → Bool
   pub kept : ℕ → Bool

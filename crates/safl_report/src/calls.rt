@@ -6,7 +6,7 @@ ghost use Rattle.safl_report.specs.Counting.{AreCalls};
 use safl_sites::Planned;
 use std::alloc::{AllocError, Global};
 
-/// By function, how many sites call it.
+/// For each function, how many sites call it.
 pub fn count_calls(alloc: Global, p: &Planned) -> Result<Vec<u32>, AllocError>
     ensures { IfOk result (λ calls. AreCalls p.now.program p.now.program.sites calls.items) }
 {

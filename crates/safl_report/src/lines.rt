@@ -1,4 +1,4 @@
-//! The lines of all functions and of all sites.
+//! The lines of a report for all functions and for all sites.
 
 ghost use Rattle.std.specs.Prelude.{◌≡◌, ◌++◌, OnOk};
 ghost use Rattle.safl_sites.specs.Plan.{IsPlan};
@@ -9,7 +9,7 @@ use crate::pieces::{push_function, push_site};
 use safl_sites::Planned;
 use safl_word::NoMemory;
 
-/// Appends the lines of the functions. The table has for each how many sites call it.
+/// Appends a line for each function. `calls` has for each how many sites call it.
 pub fn push_functions(out: &mut Vec<u8>, p: &Planned, calls: &[u32]) -> Result<(), NoMemory>
     requires { AreCalls p.now.program p.now.program.sites calls.now }
     ensures lines { OnOk result (out.new.items ≡ out.old.items ++ function_lines p.now.checked p.now.arbiter) }
@@ -22,7 +22,7 @@ pub fn push_functions(out: &mut Vec<u8>, p: &Planned, calls: &[u32]) -> Result<(
     Ok(())
 }
 
-/// Appends the lines of the sites.
+/// Appends a line for each site.
 pub fn push_sites(out: &mut Vec<u8>, p: &Planned) -> Result<(), NoMemory>
     ensures { OnOk result (out.new.items ≡ out.old.items ++ site_lines p.now.checked p.now.kept) }
 {
@@ -36,7 +36,7 @@ pub fn push_sites(out: &mut Vec<u8>, p: &Planned) -> Result<(), NoMemory>
     Ok(())
 }
 
-/// Of how many functions the unit has an arbiter.
+/// The number of functions whose unit has an arbiter.
 pub fn count_arbiters(p: &Planned) -> u32
     ensures count { result ≡ arbiters_of p.now.program p.now.arbiter }
     ensures plan { IsPlan p.now.program p.now.arbiter p.now.kept }

@@ -1,4 +1,4 @@
-//! Pieces of lines, each after its label.
+//! Pieces of a line: labels and numbers.
 
 ghost use Rattle.std.specs.Prelude.{◌≡◌, ◌++◌, OnOk, codes, decimal};
 ghost use Rattle.safl_report.specs.Report.{answer, function_text, site_text, register_text};
@@ -19,7 +19,7 @@ fn push_name(out: &mut Vec<u8>, label: &str, name: &[u8]) -> Result<(), NoMemory
     Ok(())
 }
 
-/// Appends a number after its label.
+/// Appends a label and a number.
 pub fn push_number(out: &mut Vec<u8>, label: &str, number: u64) -> Result<(), NoMemory>
     ensures { OnOk result (out.new.items ≡ out.old.items ++ label.now ++ decimal number) }
 {
@@ -35,7 +35,7 @@ fn push_answer(out: &mut Vec<u8>, label: &str, is_so: bool) -> Result<(), NoMemo
     Ok(())
 }
 
-/// Ends a line.
+/// Appends the end of a line.
 pub fn push_end(out: &mut Vec<u8>) -> Result<(), NoMemory>
     ensures { OnOk result (out.new.items ≡ out.old.items ++ codes "\n") }
 {
@@ -58,8 +58,8 @@ pub fn push_function(
     push_end(out)
 }
 
-/// Appends the line of a site: its number, the names of the function that it calls and of that in which it stands, and
-/// whether it keeps its word.
+/// Appends the line of a site: its number, the names of the function that it calls and of the one whose body has it,
+/// and whether it keeps its word.
 pub fn push_site(
     out: &mut Vec<u8>,
     k: u32,
@@ -76,7 +76,7 @@ pub fn push_site(
     push_end(out)
 }
 
-/// Appends the line of registers: how many there are, and how many bits they have.
+/// Appends the line that says how many registers there are, and how many bits they have.
 pub fn push_registers(out: &mut Vec<u8>, count: u32, bits: u64) -> Result<(), NoMemory>
     ensures { OnOk result (out.new.items ≡ out.old.items ++ register_text count bits) }
 {

@@ -8,14 +8,14 @@ ghost use Rattle.safl_report.specs.Report.{is_register, registers, bits_of};
 
 use safl_net::{Net, Sig, SigKind};
 
-/// How many registers there are, and how many bits they have together.
+/// The number of registers, and the number of their bits.
 #[derive(Clone, Copy, Debug, PartialEq, Eq)]
 pub struct Total {
     pub count: u32,
     pub bits: u64,
 }
 
-/// Counts the registers of a net, and their bits.
+/// Counts the registers of a net and their bits.
 pub fn count_registers(n: &Net) -> Total
     ensures count { result.count ≡ length (registers n.now.signals) }
     ensures bits { result.bits ≡ bits_of (registers n.now.signals) }
@@ -27,7 +27,7 @@ pub fn count_registers(n: &Net) -> Total
     total
 }
 
-// Counts a signal, if it is a register.
+// Adds a signal to the total if it is a register.
 fn with_signal(total: Total, n: &Net, s: Sig) -> Total
     requires netlist { IsNetlist n.now }
     requires known { s.0 < length n.now.signals }

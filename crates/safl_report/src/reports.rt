@@ -12,8 +12,9 @@ use safl_sites::Planned;
 use safl_word::NoMemory;
 use std::alloc::Global;
 
-/// A line for each function, with how many sites call it and whether its unit has an arbiter; one for each site, with
-/// whether it keeps its word; and how many registers the net has, with their bits. Fails only if out of memory.
+/// The report of a program. It has a line for each function, with how many sites call it and whether its unit has an
+/// arbiter; a line for each site, with whether it keeps its word; and the numbers of registers and of their bits. Fails
+/// only if out of memory.
 pub fn report(alloc: Global, p: &Planned, n: &Net) -> Result<Vec<u8>, NoMemory>
     ensures { IfOk result (λ text. IsReport p.now.checked n.now text.items) }
 {
@@ -26,8 +27,8 @@ pub fn report(alloc: Global, p: &Planned, n: &Net) -> Result<Vec<u8>, NoMemory>
     Ok(out)
 }
 
-/// How many functions have a unit with an arbiter, and how many registers the net has, with their bits: a line each.
-/// Fails only if out of memory.
+/// The summary of a program: a line with the number of functions whose unit has an arbiter, and one with the numbers of
+/// registers and of their bits. Fails only if out of memory.
 pub fn summary(alloc: Global, p: &Planned, n: &Net) -> Result<Vec<u8>, NoMemory>
     ensures { IfOk result (λ text. IsSummary p.now.checked n.now text.items) }
 {

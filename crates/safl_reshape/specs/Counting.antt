@@ -1,20 +1,20 @@
--- Numbers of call sites and nodes that are counted on.
+-- Adding to counts of call sites and nodes.
 use Rattle.std.specs.Prelude.{◌≡◌, ℕ, ◌+◌, min, List, [], ◌∷◌}
 use Rattle.safl_tree.specs.Tree.{Tree, Bound, Labelled}
 use Rattle.safl_typing.specs.Rewriting.{rewritten}
 use Rattle.safl_typing.specs.Rewriting as plain
 use Rattle.safl_reshape.specs.declared.counts.Counts.{Counts}
 
--- a number as far as its type counts
+-- a number, or the maximum of its type if that is less
 abbrev pub saturated : ℕ → ℕ
 saturated n = min 4294967295 n
 
--- so many sites and nodes more, as far as the type counts
+-- the new counts have so many more sites and nodes, up to the maximum of the type
 pub record Adds (old new : Counts) (s n : ℕ) : Type 0 where
   pub sites : saturated new.sites ≡ saturated (old.sites + s)
   pub nodes : saturated new.nodes ≡ saturated (old.nodes + n)
 
--- the nodes of lists of expressions; an arm stands for an if, its test and the test's variable
+-- the number of nodes of lists of expressions. An arm stands for an if, its test and the test's variable
 abbrev pub nodes_list : List Tree → ℕ
 nodes_list [] = 0
 nodes_list (t ∷ ts) = plain.nodes (rewritten t) + nodes_list ts

@@ -9,7 +9,7 @@ abbrev pub one_if : Bool → ℕ
 one_if true = 1
 one_if false = 0
 
--- how many calls at sites of this kind it makes
+-- how often an evaluation makes a call at a site of this kind
 abbrev mutual
   pub executions : (C : Program) (at : ℕ → Bool) {env : List Word} {t : Term} {v : Word} → Gives C env t v → ℕ
   executions C at gives_const = 0
@@ -24,6 +24,6 @@ abbrev mutual
   executions_all C at gives_nil = 0
   executions_all C at (gives_cons d ds) = executions C at d + executions_all C at ds
 
--- how often main on args makes the call of site k
+-- how often the evaluation of main on these arguments makes the call of site k
 abbrev pub main_executions : (C : Program) (args : List Word) {v : Word} → Main C args v → ℕ → ℕ
 main_executions C args d k = executions C (λ j. j == k) d

@@ -1,4 +1,4 @@
--- What is claimed of reshaped programs.
+-- The laws of reshaped programs.
 use Rattle.std.specs.Prelude.{◌≡◌, ℕ, ◌+◌, List, false}
 use Rattle.safl_word.specs.Words.{Word}
 use Rattle.safl_term.specs.Program.{Program}
@@ -15,14 +15,14 @@ use Rattle.safl_reshape.specs.Executions.{main_executions}
 use Rattle.safl_reshape.specs.Reshaped.{unfolded, is_recursive, copied_under, IsCopyable}
 use Rattle.safl_reshape.specs.Limits.{KeepsLimits, KeepsLists}
 
--- On words of its parameters main gives a word in B where it gives it in C, and nowhere else: in as many calls
+-- On words of its parameters' widths, main gives a word in B exactly if it gives it in C, in as many calls.
 pub record IsAlike (C B : Program) : Type 0 where
   pub params : B.params B.main ≡ C.params C.main
   pub gives : (args : List Word) (v : Word) (d : Main C args v) → AreWordsOf args (C.params C.main) → (e : Main B args v) × (main_cost B args e ≡ main_cost C args d)
   pub only : (args : List Word) (v : Word) (e : Main B args v) → AreWordsOf args (C.params C.main) → (d : Main C args v) × (main_cost B args e ≡ main_cost C args d)
 
--- The same in one call less for each time that it makes the call of site k in C. A cost is never 0, since main's own
--- application counts
+-- Main gives the same in B as in C, in one call less for each time that it makes the call of site k in C. A cost is never 0,
+-- since the application of main counts too.
 pub record Spares (k : ℕ) (C B : Program) : Type 0 where
   pub params : B.params B.main ≡ C.params C.main
   pub gives : (args : List Word) (v : Word) (d : Main C args v) → AreWordsOf args (C.params C.main)
@@ -32,21 +32,21 @@ pub record Spares (k : ℕ) (C B : Program) : Type 0 where
 
 -- ---- the two laws, on sources as trees
 
--- Where the callee of site k calls no member of its group, and the program with the call unfolded keeps the limits, it has
--- a form, which gives the same in one call less for each time that the call is made
+-- If the function that site k calls makes no call in its own group, and the program with the call unfolded keeps the limits, then
+-- that program has a form. It gives the same, in one call less each time that the call was made.
 abbrev pub UnfoldingSpares : Type 0
 UnfoldingSpares = (ds : List Definition) (c : Form) (k : ℕ) → IsFormOf ds c → is_recursive ds ((program_in c).callee k) ≡ false → KeepsLimits (unfolded ds k)
     → (e : Form) × IsFormOf (unfolded ds k) e × Spares k (program_in c) (program_in e)
 
--- Where function j, the callee of site k, is a group by itself and not the last one, the new name is no function's, and the
--- program with the copy keeps the limits, it has a form, which gives the same in as many calls
+-- If function j, which site k calls, is a group of its own and not the last function, no function has the new name, and the
+-- program with the copy keeps the limits, then that program has a form. It gives the same, in as many calls.
 abbrev pub CopyIsAlike : Type 0
 CopyIsAlike =
     (ds : List Definition) (c : Form) (k j : ℕ) (d : Definition) (new : List ℕ)
     → IsFormOf ds c → IsCopyable ds c k j d new → KeepsLimits (copied_under new ds k j d)
     → (e : Form) × IsFormOf (copied_under new ds k j d) e × IsAlike (program_in c) (program_in e)
 
--- An unfolding and a copy never pass the limits on parameters and bindings
+-- Unfolding and copying never pass the limits on parameters and bindings.
 abbrev pub ReshapedKeepsLists : Type 0
 ReshapedKeepsLists = (ds : List Definition) (c : Form) (k : ℕ) → IsFormOf ds c
     → (is_recursive ds ((program_in c).callee k) ≡ false → KeepsLists (unfolded ds k))
@@ -54,11 +54,11 @@ ReshapedKeepsLists = (ds : List Definition) (c : Form) (k : ℕ) → IsFormOf ds
 
 -- ---- places
 
--- Programs that differ in places alone have the same form
+-- Programs that differ only in places have the same form.
 abbrev pub FormsHaveNoPlaces : Type 0
 FormsHaveNoPlaces = (ds es : List Definition) (c : Form) → unplaced_program ds ≡ unplaced_program es → IsFormOf ds c → IsFormOf es c
 
--- The text of a printable program spells a program with the form of that program; it is the same one, places aside
+-- The text of a printable program spells a program with the same form, which is the same program apart from places.
 abbrev pub PrintedKeepsForm : Type 0
 PrintedKeepsForm = (ds : List Definition) (c : Form) → IsPrintable ds → IsFormOf ds c
     → (es : List Definition) × SpellsProgram (printed ds) es × (unplaced_program es ≡ unplaced_program ds) × IsFormOf es c

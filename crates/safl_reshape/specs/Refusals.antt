@@ -1,4 +1,4 @@
--- What refuses a reshaping, in order.
+-- Why a reshaping is refused, in the order of the checks.
 use Rattle.std.specs.Prelude.{◌≡◌, ℕ, suc, ◌<◌, ◌≤◌, List, [], length, Option, Some, None, Bool, true, false, ◌||◌, ◌⊎◌, slice_get}
 use Rattle.std.specs.List.{list_any}
 use Rattle.std.specs.Str.{bytes_eq}
@@ -15,7 +15,7 @@ use Rattle.safl_reshape.specs.Laws.{IsAlike, Spares}
 use Rattle.safl_reshape.specs.Limits.{site_total, KeepsLimits}
 use Rattle.safl_reshape.specs.Reshaped.{copy_name, copied, unfolded, is_recursive}
 
--- a program with a form
+-- the definitions are a program with a form
 abbrev pub HasForm : List Definition → Type 0
 HasForm ds = (c : Form) × IsFormOf ds c
 
@@ -42,7 +42,7 @@ name_for ds k j = copy_name (name_at (slice_get ds j)) k
 abbrev pub is_taken : List Definition → List ℕ → Bool
 is_taken ds x = list_any (bytes_eq x) (function_names ds)
 
--- there is a site, whose callee may be copied
+-- site k exists, and the function that it calls may be copied
 pub record MayCopy (C : Program) (ds : List Definition) (k : ℕ) : Type 0 where
   pub site : HasSite C k
   pub alone : is_grouped ds (C.callee k) ≡ false
@@ -56,7 +56,7 @@ PassesLimit ds i =
     ⊎ (((i ≡ 4) × (length ds ≤ max_functions) × (max_sites < site_total (heads ds) 0 0 ds))
     ⊎ ((i ≡ 5) × (length ds ≤ max_functions) × (site_total (heads ds) 0 0 ds ≤ max_sites) × (max_nodes < nodes_of ds)))
 
--- why a copy is refused: the first that holds
+-- why a copy is refused: each error says that it is the first to apply
 abbrev pub RefusesCopy : Program → List Definition → ℕ → ReshapeErr → Type 0
 RefusesCopy C ds k errors.NoSite = HasSite C k → ⊥
 RefusesCopy C ds k errors.Grouped = HasSite C k × (is_grouped ds (C.callee k) ≡ true)
@@ -68,24 +68,24 @@ RefusesCopy C ds k (errors.Limit i) = MayCopy C ds k × PassesLimit (copied ds k
 RefusesCopy C ds k errors.TooDeep = MayCopy C ds k × KeepsLimits (copied ds k (C.callee k)) × (AllKeepLevels (copied ds k (C.callee k)) → ⊥)
 RefusesCopy C ds k errors.NoMemory = Unit {0}
 
--- the same of the program's form
+-- why a copy is refused, said of the program's form
 abbrev pub CopyRefused : List Definition → ℕ → ReshapeErr → Type 0
 CopyRefused ds k e = (c : Form) → IsFormOf ds c → RefusesCopy (program_in c) ds k e
 
--- nothing refuses the copy, and this is it
+-- nothing refuses the copy, and es is the program with it
 abbrev pub IsCopied : List Definition → ℕ → List Definition → Type 0
 IsCopied ds k es = (c : Form) → IsFormOf ds c → MayCopy (program_in c) ds k × KeepsLimits es × AllKeepLevels es × (es ≡ copied ds k ((program_in c).callee k))
 
--- the second program has a form, and gives the same as the first in as many calls
+-- the second program has a form, and gives the same as the first, in as many calls
 abbrev pub GivesAlike : List Definition → List Definition → Type 0
 GivesAlike ds es = (c : Form) → IsFormOf ds c → (e : Form) × IsFormOf es e × IsAlike (program_in c) (program_in e)
 
--- there is a site, whose callee may be unfolded
+-- site k exists, and the function that it calls may be unfolded
 pub record MayUnfold (C : Program) (ds : List Definition) (k : ℕ) : Type 0 where
   pub site : HasSite C k
   pub alone : is_recursive ds (C.callee k) ≡ false
 
--- why an unfolding is refused: the first that holds
+-- why an unfolding is refused: each error says that it is the first to apply
 abbrev pub RefusesUnfolding : Program → List Definition → ℕ → ReshapeErr → Type 0
 RefusesUnfolding C ds k errors.NoSite = HasSite C k → ⊥
 RefusesUnfolding C ds k errors.Grouped = ⊥
@@ -99,15 +99,15 @@ RefusesUnfolding C ds k errors.NoMemory = Unit {0}
 abbrev pub UnfoldingRefused : List Definition → ℕ → ReshapeErr → Type 0
 UnfoldingRefused ds k e = (c : Form) → IsFormOf ds c → RefusesUnfolding (program_in c) ds k e
 
--- nothing refuses the unfolding, and this is it
+-- nothing refuses the unfolding, and es is the program with it
 abbrev pub IsUnfolded : List Definition → ℕ → List Definition → Type 0
 IsUnfolded ds k es = (c : Form) → IsFormOf ds c → MayUnfold (program_in c) ds k × KeepsLimits es × AllKeepLevels es × (es ≡ unfolded ds k)
 
--- the second program has a form, and gives the same as the first in one call less for each time that site k's is made
+-- the second program has a form, and gives the same as the first, in one call less each time that the call of site k was made
 abbrev pub GivesSparing : ℕ → List Definition → List Definition → Type 0
 GivesSparing k ds es = (c : Form) → IsFormOf ds c → (e : Form) × IsFormOf es e × Spares k (program_in c) (program_in e)
 
--- the limit that a refusal names is passed
+-- if the error names a limit, the program passes it
 abbrev pub RefusesLimit : List Definition → ReshapeErr → Type 0
 RefusesLimit ds errors.NoSite = ⊥
 RefusesLimit ds errors.Grouped = ⊥

@@ -1,4 +1,4 @@
-//! A function that is copied for one of its calls.
+//! Copying a function for one of its calls.
 
 ghost use Rattle.std.specs.Prelude.{◌≡◌, ◌<◌, ◌≤◌, ◌^◌, ℕ, Some, IsTrue, length, slice_get, IfOk, OnOk, IfErr};
 ghost use Rattle.safl_term.specs.Checked.{IsChecked};
@@ -23,10 +23,10 @@ use safl_typing::heads::Heads;
 use safl_word::{NoMemory, Raw, push_decimal};
 use std::alloc::Global;
 
-// The most bytes of a name.
+// The greatest length of a name in bytes.
 const NAME_MAX: usize = 64;
 
-/// The definitions with the callee of this site copied for its call.
+/// The definitions with the function that a site calls copied for that call.
 pub fn copied_defs(
     alloc: Global,
     checked: &Checked,
@@ -58,7 +58,7 @@ pub fn copied_defs(
     Ok(copy_function(alloc, defs, callee, site, name)?)
 }
 
-// Whether the group of this function has two or more members.
+// Whether the group of a function has two or more members.
 fn is_grouped(defs: &[Def], number: usize) -> bool
     requires { number < length defs.now }
     ensures { result ≡ is_grouped (shown_definitions defs.now) number }
@@ -84,7 +84,7 @@ fn is_taken(defs: &[Def], name: &Name) -> bool
     false
 }
 
-// The name of the copy of a function for this site.
+// The name of the copy: that of the function, `_` and the number of the site.
 fn name_for(alloc: Global, name: &Name, site: u32) -> Result<Name, NoMemory>
     ensures { IfOk result (λ new. new ≡ copy_name name.now site) }
 {
@@ -95,7 +95,7 @@ fn name_for(alloc: Global, name: &Name, site: u32) -> Result<Name, NoMemory>
     Name::new(alloc, bytes.as_slice())
 }
 
-// A function copied under a new name for the call of this site.
+// The definitions with one function copied under a new name, for the call of this site.
 fn copy_function(
     alloc: Global,
     defs: &[Def],
@@ -115,7 +115,7 @@ fn copy_function(
     Ok(all)
 }
 
-// The copy of a definition under a new name.
+// The copy of a definition under a new name. Its calls of itself become calls of the copy.
 fn copy_def(
     alloc: Global,
     all_heads: &Heads,

@@ -1,4 +1,4 @@
-//! How many call sites and nodes expressions have.
+//! Counting the call sites and nodes of expressions.
 
 ghost use Rattle.safl_tree.specs.Shown.{shown_tree, shown_trees, shown_bounds, shown_labelled};
 ghost use Rattle.safl_typing.specs.Rewriting.{rewritten, nodes};
@@ -11,8 +11,7 @@ use safl_tree::{Arm, Bind, Expr, Node};
 use safl_typing::heads::{Heads, find_callee};
 use safl_typing::sites::sites_of_callee;
 
-/// So many call sites, and so many nodes where each `case` is rewritten. A number that would pass the end of its type
-/// stays there.
+/// Numbers of call sites and of nodes, after each `case` is rewritten. A number stays at the maximum of its type.
 #[derive(Clone, Copy)]
 pub struct Counts {
     pub sites: u32,
@@ -22,7 +21,7 @@ pub struct Counts {
 impl Counts {
     ghost use Rattle.safl_reshape.specs.Counting.{Adds};
 
-    /// So many more.
+    /// The counts with `sites` more call sites and `nodes` more nodes.
     pub fn plus(self, sites: u32, nodes: u32) -> Counts
         ensures { Adds self result sites nodes }
     {
@@ -33,7 +32,8 @@ impl Counts {
     }
 }
 
-/// Those of an expression of a body of this group, and those before it. It recurses as deep as the expression is.
+/// The counts with those of an expression added, which belongs to a body of group `unit`. The recursion is as deep as
+/// the expression.
 #[cycle(counting)]
 pub fn count(heads: &Heads, unit: u32, before: Counts, e: &Expr) -> Counts
     ensures { Adds before result (sites_in_tree (known heads.now unit) (shown_tree e.now)) (nodes (rewritten (shown_tree e.now))) }
@@ -64,7 +64,7 @@ pub fn count(heads: &Heads, unit: u32, before: Counts, e: &Expr) -> Counts
     }
 }
 
-// Operands or arguments.
+// The counts with those of several expressions added.
 #[cycle(counting)]
 fn count_all(heads: &Heads, unit: u32, before: Counts, es: &[Expr]) -> Counts
     ensures { Adds before result (sites_list (known heads.now unit) (shown_trees es.now)) (nodes_list (shown_trees es.now)) }
@@ -87,7 +87,8 @@ fn count_binds(heads: &Heads, unit: u32, before: Counts, binds: &[Bind]) -> Coun
     counts
 }
 
-// A labelled arm stands for an if, its test and the test's variable beside its label and its value.
+// The counts with those of labelled arms added. An arm stands for an if whose test compares a variable with the label:
+// three nodes beside the label and the value.
 #[cycle(counting)]
 fn count_arms(heads: &Heads, unit: u32, before: Counts, arms: &[Arm]) -> Counts
     ensures { Adds before result (sites_labelled (known heads.now unit) (shown_labelled arms.now)) (nodes_labelled (shown_labelled arms.now)) }

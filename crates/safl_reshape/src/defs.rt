@@ -1,4 +1,4 @@
-//! Definitions in which calls are changed.
+//! Changing calls in definitions.
 
 ghost use Rattle.std.specs.Prelude.{◌≡◌, ◌≤◌, length, IfOk};
 ghost use Rattle.safl_tree.specs.Shown.{shown_tree, shown_definition, shown_definitions, shown_parameters};
@@ -15,7 +15,7 @@ use safl_typing::heads::Heads;
 use safl_word::NoMemory;
 use std::alloc::Global;
 
-/// The same definitions with calls changed, where this site is meant.
+/// The definitions with calls changed. `site` is the one that is meant.
 pub fn change_defs(
     alloc: Global,
     all_heads: &Heads,
@@ -40,7 +40,7 @@ pub fn change_defs(
     Ok(all)
 }
 
-// The same definition with another body.
+// The definition with another body.
 fn with_other_body(alloc: Global, def: &Def, body: Expr) -> Result<Def, NoMemory>
     ensures { IfOk result (λ d. shown_definition d ≡ with_body (shown_definition def.now) (shown_tree body)) }
 {
@@ -56,7 +56,7 @@ fn with_other_body(alloc: Global, def: &Def, body: Expr) -> Result<Def, NoMemory
     })
 }
 
-/// The same parameters.
+/// A copy of parameters.
 pub fn copy_params(alloc: Global, params: &[Param]) -> Result<Vec<Param>, NoMemory>
     ensures { IfOk result (λ all. shown_parameters all.items ≡ shown_parameters params.now) }
 {

@@ -1,4 +1,4 @@
-//! Definitions in which the call of one site is replaced by the body of its callee.
+//! Unfolding one call in the definitions of a program.
 
 ghost use Rattle.std.specs.Prelude.{◌≡◌, IfOk, IfErr};
 ghost use Rattle.safl_tree.specs.Shown.{shown_definitions};
@@ -15,7 +15,7 @@ use safl_term::Checked;
 use safl_tree::Def;
 use std::alloc::Global;
 
-/// The definitions with the call of this site replaced by the body of its callee.
+/// The definitions with the call at a site replaced by the body of the called function.
 pub fn unfolded_defs(
     alloc: Global,
     checked: &Checked,

@@ -1,4 +1,4 @@
-//! Sources that are reshaped: a function copied for one of its calls, and a call replaced by the function's body.
+//! Reshaping sources: a function is copied for one of its calls, or a call is replaced by the function's body.
 #![tactic(auto)]
 
 mod change;

@@ -1,4 +1,4 @@
-//! The limits that a reshaped program may pass.
+//! The limits that a reshaped program might pass.
 
 ghost use Rattle.std.specs.Prelude.{◌≡◌, ◌≤◌, length, OnOk, IfErr};
 ghost use Rattle.safl_tree.specs.Shown.{shown_definitions};
@@ -22,7 +22,8 @@ const SITES_MAX: u32 = 4_000;
 
 const NODES_MAX: u32 = 50_000;
 
-/// Refuses definitions that pass a limit on functions, call sites or nodes: the first of these that is passed.
+/// Refuses definitions that pass a limit on functions, call sites or nodes. If they pass several, the error is the
+/// first of these.
 pub fn look_at_limits(alloc: Global, defs: &[Def]) -> Result<(), ReshapeErr>
     ensures kept { OnOk result (KeepsLimits (shown_definitions defs.now)) }
     ensures refused { IfErr result (RefusesLimit (shown_definitions defs.now)) }
@@ -41,7 +42,7 @@ pub fn look_at_limits(alloc: Global, defs: &[Def]) -> Result<(), ReshapeErr>
     Ok(())
 }
 
-// The call sites and nodes of all bodies.
+// The numbers of call sites and of nodes of all bodies.
 fn count_defs(all_heads: &Heads, defs: &[Def]) -> Counts
     requires few { length defs.now ≤ 1000 }
     requires heads { shown_heads all_heads.now ≡ heads (shown_definitions defs.now) }

@@ -1,4 +1,4 @@
-//! Programs that are reshaped.
+//! Reshaping whole programs.
 
 ghost use Rattle.std.specs.Prelude.{IfOk, IfErr};
 ghost use Rattle.safl_tree.specs.Shown.{shown_program};
@@ -20,9 +20,9 @@ use safl_typing::laws::{fault_or_form_law, one_form_law};
 use safl_word::NoMemory;
 use std::alloc::Global;
 
-/// The program in which the callee of a site is copied for its call: right after the callee stands the copy, whose name
-/// is the callee's, `_` and the number of the site. It has a form, and main gives the same words in as many calls. A
-/// refusal is the first that holds.
+/// The program with the function that a site calls copied for that call. The copy comes right after the function; its
+/// name is the function's, `_` and the number of the site. The new program has a form, and main gives the same words in
+/// as many calls. If several refusals apply, the error is the first of them.
 pub fn copy_site(alloc: Global, program: Program, site: u32) -> Result<Program, ReshapeErr>
     requires printable { IsPrintable (shown_program program) }
     requires form { HasForm (shown_program program) }
@@ -35,7 +35,7 @@ pub fn copy_site(alloc: Global, program: Program, site: u32) -> Result<Program, 
     copy_checked(alloc, &program, &checked, site)
 }
 
-/// The same of a program that has been checked.
+/// Does what `copy_site` does, for a program that has been checked.
 pub fn copy_checked(
     alloc: Global,
     program: &Program,
@@ -61,9 +61,9 @@ pub fn copy_checked(
     Ok(copy)
 }
 
-/// The program in which the call of a site is replaced by `let r:w = B in r`, where B is the body of the callee under a
-/// let of its parameters, and w the callee's width. It has a form, and main gives the same words, in one call less for
-/// each time that it made the call. A refusal is the first that holds.
+/// The program with the call at a site replaced by `let r:w = B in r`. Here B is the body of the called function under
+/// a let of its parameters, and w is the function's width. The new program has a form, and main gives the same words,
+/// in one call less each time that it made this call. If several refusals apply, the error is the first of them.
 pub fn unfold_site(alloc: Global, program: Program, site: u32) -> Result<Program, ReshapeErr>
     requires printable { IsPrintable (shown_program program) }
     requires form { HasForm (shown_program program) }
@@ -76,7 +76,7 @@ pub fn unfold_site(alloc: Global, program: Program, site: u32) -> Result<Program
     unfold_checked(alloc, &program, &checked, site)
 }
 
-/// The same of a program that has been checked.
+/// Does what `unfold_site` does, for a program that has been checked.
 pub fn unfold_checked(
     alloc: Global,
     program: &Program,
@@ -102,7 +102,7 @@ pub fn unfold_checked(
     Ok(unfolded)
 }
 
-// The checked program of a printable one that has a form.
+// The checked form of a program that is printable and has a form.
 #[tactic(auto, using(crate::proofs::Checkable::never_refused, crate::proofs::Checkable::never_deep))]
 fn checked_of(alloc: Global, program: &Program) -> Result<Checked, NoMemory>
     requires printable { IsPrintable (shown_program program.now) }

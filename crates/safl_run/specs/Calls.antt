@@ -1,4 +1,4 @@
--- Calls of a net: what it replies, and the cycles that it goes through.
+-- Calls of a net: its replies, and the cycles that it goes through.
 use Rattle.std.specs.Prelude.{◌≡◌, ℕ, ◌<◌, List, [], ◌∷◌, ◌++◌, length, Option, Some, None, codes}
 use Rattle.safl_word.specs.Words.{Word}
 use Rattle.safl_net.specs.Netlist.{Netlist}
@@ -6,8 +6,8 @@ use Rattle.safl_net.specs.Valuations.{Valuation, read_output, next_state}
 use Rattle.safl_sim.specs.Outcomes.{IsCallRun, NotDoneBefore, output_word}
 use Rattle.safl_sim.specs.declared.done.Done.{Done}
 
--- The reply to a call from a state: its cycle is the first with done, below the limit, and its word is the result in that cycle.
--- And the state after that cycle
+-- The reply to a call from a state. Its cycle is the first with `done`, and is below the limit; its word is the result in that
+-- cycle. Also the state after that cycle.
 pub record Replies (n : Netlist) (limit : ℕ) (state : ℕ → ℕ) (args : List Word) (r : Done) (after : ℕ → ℕ) : Type 0 where
   pub in_time : r.cycle < limit
   pub before : List Valuation
@@ -19,19 +19,19 @@ pub record Replies (n : Netlist) (limit : ℕ) (state : ℕ → ℕ) (args : Lis
   pub result : r.result ≡ output_word n last (codes "result")
   pub leads : (s : ℕ) → after s ≡ next_state n last s
 
--- no reply: done is 0 in all cycles below the limit
+-- there is no reply: `done` is 0 in all cycles below the limit
 pub record IsSilent (n : Netlist) (limit : ℕ) (state : ℕ → ℕ) (args : List Word) : Type 0 where
   pub cycles : List Valuation
   pub call : IsCallRun n state args cycles
   pub long : length cycles ≡ limit
   pub not_done : NotDoneBefore n cycles limit
 
--- a reply and the state after it, or none
+-- the answer to a call is a reply and the state after it, or there is none
 abbrev pub Answers : Netlist → ℕ → (ℕ → ℕ) → List Word → Option Done → (ℕ → ℕ) → Type 0
 Answers n limit state args None after = IsSilent n limit state args
 Answers n limit state args (Some r) after = Replies n limit state args r after
 
--- the cycles up to the reply, or all below the limit
+-- the cycles of a call up to the reply, or all below the limit if there is none
 abbrev pub cycles_of : (n : Netlist) (limit : ℕ) (state : ℕ → ℕ) (args : List Word) (answer : Option Done) (after : ℕ → ℕ) → Answers n limit state args answer after → List Valuation
 cycles_of n limit state args None after a = a.cycles
 cycles_of n limit state args (Some r) after a = a.before ++ a.last ∷ []

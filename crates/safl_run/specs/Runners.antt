@@ -6,12 +6,12 @@ use Rattle.safl_net.specs.Whole.{IsWhole}
 use Rattle.safl_run.specs.declared.harness.Harness.{Harness}
 use Rattle.safl_run.specs.Rooms.{IsRoom}
 
--- its net, and its registers' state by the numbers of signals
+-- the net, and the state of its registers by the numbers of signals
 pub record Running : Type 0 where
   pub net : Netlist
   pub state : List ℕ
 
--- the net is whole, there is room for its inputs' words, and these signals are shown as `done` and `result`
+-- the net is whole, there is room for the words of its inputs, and the harness has the signals of `done` and `result`
 pub record IsHarness (n : Netlist) (h : Harness) : Type 0 where
   pub made : IsNetlist n
   pub whole : IsWhole n

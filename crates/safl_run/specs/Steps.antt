@@ -1,4 +1,4 @@
--- One cycle of a call after the other.
+-- The cycles of a call, one after another.
 use Rattle.std.specs.Prelude.{◌≡◌, ℕ, List, [], ◌∷◌, ◌++◌, length, Option, Some, None, slice_get, slice_index, codes}
 use Rattle.safl_word.specs.Words.{Word}
 use Rattle.safl_net.specs.Netlist.{Netlist}
@@ -18,13 +18,13 @@ pub record IsCalled (n : Netlist) (args : List Word) (h : Harness) : Type 0 wher
   pub arguments : AreArguments n args
   pub first : h.room.first.items ≡ input_words n.signals (bit_word 1) args
 
--- cycles of a call, in all of which `done` is 0, and the state after them
+-- cycles of a call so far, with `done` at 0 in all of them, and the state after them
 pub record IsGoing (n : Netlist) (state : ℕ → ℕ) (args : List Word) (vs : List Valuation) (now : ℕ → ℕ) : Type 0 where
   pub call : IsCallRun n state args vs
   pub not_done : (c : ℕ) (v : Valuation) → slice_get vs c ≡ Some v → read_output n v (codes "done") ≡ 0
   pub after : (s : ℕ) → now s ≡ state_after n state vs s
 
--- one more cycle, in which `done` is 1
+-- one more cycle of the call, with `done` at 1
 pub record Ends (n : Netlist) (state : ℕ → ℕ) (args : List Word) (frames : List Valuation) (new : Simulation) (d : Done) : Type 0 where
   pub call : IsCallRun n state args (frames ++ new.values ∷ [])
   pub cycle : length frames ≡ d.cycle
@@ -32,12 +32,12 @@ pub record Ends (n : Netlist) (state : ℕ → ℕ) (args : List Word) (frames :
   pub result : d.result ≡ output_word n new.values (codes "result")
   pub leads : (s : ℕ) → slice_index new.state s ≡ next_state n new.values s
 
--- one more cycle, in which it is 0 or 1
+-- one more cycle of the call, with `done` at 0 or 1
 abbrev pub Goes : Netlist → (ℕ → ℕ) → List Word → List Valuation → Simulation → Option Done → Type 0
 Goes n state args frames new None = IsGoing n state args (frames ++ new.values ∷ []) (slice_index new.state)
 Goes n state args frames new (Some d) = Ends n state args frames new d
 
--- after so many cycles of a call with the words of the harness, in all of which it is 0, there is one more
+-- if a call with the words of the harness has had so many cycles, with `done` at 0 in all of them, it has one more
 abbrev pub GoesOn : Simulation → Simulation → Harness → ℕ → Option Done → Type 0
 GoesOn old new harness cycle answer =
     (state : ℕ → ℕ) (args : List Word) (frames : List Valuation) → IsCalled old.net args harness → length frames ≡ cycle

@@ -1,4 +1,4 @@
-//! What a net is called with: the words of its inputs, the signals that are looked at, and the loop.
+//! The harness of a net that is called: the words of its inputs, the signals that are watched, and the loop of a call.
 
 ghost use Rattle.std.specs.Prelude.{◌≡◌, ◌<◌, List, length, IfOk, IfErr, slice_index};
 ghost use Rattle.safl_word.specs.Words.{Word};
@@ -26,7 +26,7 @@ pub struct Harness {
 }
 
 impl Harness {
-    /// The harness of a net. It makes the room for the words of every cycle.
+    /// The harness of a net. All memory that calls need is taken here.
     pub fn new(alloc: Global, net: &Net) -> Result<Harness, NoMemory>
         requires { IsWhole net.now }
         ensures { IfOk result (λ h. IsHarness net.now h) }
@@ -39,8 +39,8 @@ impl Harness {
     }
 }
 
-/// Calls a net: in cycle 0 `start` is 1 and the other inputs have the arguments in order, and later all inputs are 0. The
-/// answer is that of the first cycle in which `done` is 1; there is none where `done` is 0 in all cycles below `limit`.
+/// Calls a net: in cycle 0 `start` is 1 and the other inputs have the arguments in order; later all inputs are 0. The
+/// result is that of the first cycle in which `done` is 1, or None if `done` is 0 in all cycles below `limit`.
 pub fn call(sim: &mut Sim, harness: &mut Harness, args: &[Word], limit: u64) -> Option<Done>
     requires harness { IsHarness sim.old.net harness.old }
     requires arguments { AreArguments sim.old.net args.now }
@@ -67,7 +67,7 @@ pub fn take_arguments(harness: &mut Harness, net: &Net, args: &[Word])
     put_arguments(&mut harness.room.first, harness.room.start, args);
 }
 
-/// A cycle of the call, and the answer where `done` is 1 in it.
+/// Runs a cycle of the call. Returns the result if `done` is 1 in it.
 #[inline(always)]
 pub fn step(sim: &mut Sim, harness: &Harness, cycle: u64) -> Option<Done>
     requires called { (args : List Word) × IsCalled sim.old.net args harness.now }
@@ -88,7 +88,7 @@ pub fn step(sim: &mut Sim, harness: &Harness, cycle: u64) -> Option<Done>
     }
 }
 
-// A tick with the words of a cycle. From cycle 2 on the inputs have these already.
+// Ticks with the words of a cycle. From cycle 2 on the inputs have their words already.
 #[inline(always)]
 fn tick(sim: &mut Sim, cycle: u64, first: &[Word], later: &[Word])
     requires first { AreInputs sim.old.net first.now }

@@ -2,8 +2,8 @@
 
 ghost use Rattle.safl_run.specs.Laws.{CallsAreOne, AnswersExist, AnswersOnce, AnswersAreOutcomes};
 
-/// A whole net without loops has only one call of so many cycles with these arguments from a state. It has exactly one answer to it,
-/// and what it answers from reset is its outcome.
+/// From a given state, with given arguments, a whole net without loops has exactly one call of each length. The call
+/// has exactly one answer; from reset, that answer is the outcome of the run.
 pub fn call_law()
     ensures one { CallsAreOne }
     ensures exist { AnswersExist }

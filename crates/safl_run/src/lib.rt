@@ -1,4 +1,4 @@
-//! Runs of a net: calls, one after another, each until `done` is 1 or a limit of cycles is reached.
+//! Calls of a net, one after another, each until `done` is 1 or a limit of cycles is reached.
 #![tactic(auto)]
 
 pub mod harness;

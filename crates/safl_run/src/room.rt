@@ -1,4 +1,4 @@
-//! The room for the words of a net's inputs.
+//! The words of a net's inputs during a call.
 
 ghost use Rattle.std.specs.Prelude.{◌≡◌, ◌<◌, ◌≤◌, ◌+◌, ◌∷◌, ◌++◌, length, take, drop, Some, IsSome, IfOk, OnOk, slice_get};
 ghost use Rattle.safl_word.specs.Words.{Word};
@@ -12,8 +12,8 @@ use safl_net::{Net, Sig, SigKind};
 use safl_word::{NoMemory, Word};
 use std::alloc::Global;
 
-/// The words of a call's first cycle, in the order of the inputs, and those of its later cycles, which are 0. In the first
-/// ones `start` is 1 and stands at the place `start`.
+/// The words of the inputs in the first cycle of a call, in order, and those in its later cycles, which are 0. In the
+/// first cycle `start` is 1; its place among the inputs is `start`.
 #[derive(Drop)]
 pub struct Room {
     pub first: Vec<Word>,
@@ -39,7 +39,7 @@ impl Room {
     }
 }
 
-/// The signal of a name, or the one that the output of that name shows.
+/// The signal of this name, or the one that the output of this name shows.
 pub fn signal_of(net: &Net, name: &str) -> Sig
     requires { IsSome (found net.now name.now) }
     ensures signal { Some result.0 ≡ found net.now name.now }
@@ -63,7 +63,7 @@ fn zeros(alloc: Global, net: &Net) -> Result<Vec<Word>, NoMemory>
     Ok(words)
 }
 
-// Appends the word 0, where the signal is an input.
+// Appends the word 0 if the signal is an input.
 fn push_zero(words: &mut Vec<Word>, net: &Net, signal: Sig) -> Result<(), NoMemory>
     requires known { signal.0 < length net.now.signals }
     requires netlist { IsNetlist net.now }
@@ -76,7 +76,7 @@ fn push_zero(words: &mut Vec<Word>, net: &Net, signal: Sig) -> Result<(), NoMemo
     Ok(())
 }
 
-// How many inputs stand before a signal.
+// How many inputs come before a signal.
 fn inputs_before(net: &Net, signal: Sig) -> usize
     requires { signal.0 < length net.now.signals }
     ensures { result ≡ length (zeros_of (take signal.0 net.now.signals)) }
@@ -88,7 +88,7 @@ fn inputs_before(net: &Net, signal: Sig) -> usize
     count
 }
 
-// One where the signal is an input, and else none.
+// 1 if the signal is an input, else 0.
 fn inputs_at(net: &Net, signal: Sig) -> usize
     requires { signal.0 < length net.now.signals }
     ensures count { result ≡ length (own_zero (kind_at net.now signal.0) (width_of net.now signal.0)) }
@@ -101,7 +101,7 @@ fn inputs_at(net: &Net, signal: Sig) -> usize
     }
 }
 
-/// Puts the arguments round the word at this place.
+/// Puts the arguments before and after the word at `place`.
 pub fn put_arguments(words: &mut [Word], place: usize, args: &[Word])
     requires within { place ≤ length args.now }
     requires room { length words.old ≡ length args.now + 1 }

@@ -1,4 +1,4 @@
-//! Runners: a simulator whose net is called again and again.
+//! Runners, which call a net again and again.
 
 use crate::harness::{Harness, call};
 use safl_sim::{Done, Sim};
@@ -31,8 +31,8 @@ impl Runner {
     ghost use Rattle.safl_net.specs.Arguments.{AreArguments};
     ghost use Rattle.safl_run.specs.Calls.{Answers};
 
-    /// A runner of a net, from the state that its simulator has. It makes the room for the words of every later cycle.
-    /// The error is lack of memory and hands the simulator back.
+    /// A runner of a net, from the state of its simulator. All memory that calls need is taken here. The error is out
+    /// of memory, and hands the simulator back.
     pub fn new(alloc: Global, sim: Sim) -> Result<Runner, Sim>
         requires { IsWhole sim.net }
         ensures made { IfOk result (λ r. r ≡ record { net = sim.net; state = sim.state }) }
@@ -44,9 +44,9 @@ impl Runner {
         Ok(Runner { sim, harness })
     }
 
-    /// Calls the net: in cycle 0 `start` is 1 and the other inputs have the arguments in order, and later all inputs are
-    /// 0. The answer is that of the first cycle in which `done` is 1, and the next call goes on from the state after it.
-    /// There is none where `done` is 0 in all cycles below `limit`.
+    /// Calls the net: in cycle 0 `start` is 1 and the other inputs have the arguments in order; later all inputs are 0.
+    /// The result is that of the first cycle in which `done` is 1; the next call goes on from the state after it. None
+    /// if `done` is 0 in all cycles below `limit`.
     pub fn call(&mut self, args: &[Word], limit: u64) -> Option<Done>
         requires { AreArguments self.old.net args.now }
         ensures answers { Answers self.old.net limit (slice_index self.old.state) args.now result (slice_index self.new.state) }

@@ -11,9 +11,9 @@ use safl_sim::{Done, Sim};
 use safl_word::{NoMemory, Word};
 use std::alloc::Global;
 
-/// Simulates a net from reset until `done` is 1, but at most `limit` cycles, and answers the first such cycle. In
-/// cycle 0 `start` is 1 and the other inputs have the arguments in order; after it all inputs are 0. Only the room
-/// for the words of the inputs is memory that may lack; the simulator is then as it was.
+/// Simulates a net from reset until `done` is 1, for at most `limit` cycles, and returns the first such cycle. In cycle
+/// 0 `start` is 1 and the other inputs have the arguments in order; later all inputs are 0. Only the room for the words
+/// of the inputs takes memory; if there is none, the simulator is as it was.
 pub fn run_until_done(
     alloc: Global,
     sim: &mut Sim,

@@ -19,11 +19,11 @@ use Rattle.safl_sim.specs.declared.done.Done.{Done as Reply}
 use Rattle.safl_run.specs.Calls.{Replies, IsSilent}
 use Rattle.safl_session.specs.Replies.{AreReplies}
 
--- the reply is main's from the arguments, in time
+-- the reply is that of main for these arguments, in time
 abbrev pub IsMainReply : Program → List Word → Reply → Type 0
 IsMainReply C args r = IsExactResult C args (as_word (C.result C.main) r.result.bits) r.cycle
 
--- from a state, one after the other: each call starts in a quiet state, and its reply is main's
+-- from a state, one call after another: each starts in a quiet state, and its reply is main's
 abbrev pub Serves : Program → Names → Netlist → ℕ → (ℕ → ℕ) → List (List Word) → List Reply → Type 0
 Serves C D n limit state [] [] = IsQuietState C D n state
 Serves C D n limit state [] (r ∷ rs) = ⊥
@@ -31,22 +31,22 @@ Serves C D n limit state (args ∷ calls) [] = IsQuietState C D n state × IsSil
 Serves C D n limit state (args ∷ calls) (r ∷ rs) =
     IsQuietState C D n state × IsMainReply C args r × ((after : ℕ → ℕ) × Replies n limit state args r after × Serves C D n limit after calls rs)
 
--- a circuit serves calls with words for main's parameters, from any quiet state
+-- a circuit serves calls with words of the widths of main's parameters, from any quiet state
 abbrev pub CircuitsServe : Type 0
 CircuitsServe =
     (C : Program) (D : Names) (P : Choice) (n : Netlist) → Scheme C D P n → IsCircuit C D P n → IsNetlist n → IsWhole n
     → (limit : ℕ) (state : ℕ → ℕ) → IsQuietState C D n state → (calls : List (List Word)) → All (λ args. AreWordsOf args (C.params C.main)) calls
     → (rs : List Reply) → AreReplies n limit state calls rs → Serves C D n limit state calls rs
 
--- main gives a value, and the last cycle in which done may come is below the limit
+-- main gives a value, and the last cycle in which `done` may come is below the limit
 abbrev pub IsInTime : Program → ℕ → List Word → Type 0
 IsInTime C limit args = (v : Word) × (d : Main C args v) × (latest C args d < limit)
 
--- which is so where main gives a value in as many calls as there are three cycles for below the limit
+-- if main gives a value in m calls and 3m is at most the limit, it is in time
 abbrev pub BudgetsAreInTime : Type 0
 BudgetsAreInTime = (C : Program) (args : List Word) (v : Word) (n limit : ℕ) → GivesInCalls C args v n → 3 * n ≤ limit → IsInTime C limit args
 
--- and replies to each of the calls from which main gives a value in time
+-- a circuit replies to each of the calls if main is in time for each
 abbrev pub CircuitsReply : Type 0
 CircuitsReply =
     (C : Program) (D : Names) (P : Choice) (n : Netlist) → Scheme C D P n → IsCircuit C D P n → IsNetlist n → IsWhole n

@@ -1,4 +1,4 @@
--- What was sent of a session.
+-- What was sent during a session.
 use Rattle.std.specs.Prelude.{◌≡◌, ℕ, List, length, Option, Bool, true, slice_index}
 use Rattle.safl_io.specs.Sink.{Sends, SendsPart}
 use Rattle.safl_io.specs.Told.{TellsOn}
@@ -12,7 +12,7 @@ use Rattle.safl_session.specs.Sessions.{Opened}
 use Rattle.safl_word.specs.Words.{Word}
 use Rattle.safl_session.specs.Transcripts.{are_all, transcript}
 
--- the session can be called, its net is whole and without loops, and its state is of the net's widths
+-- the session can be called, its net is whole and has no loops, and its state has the widths of the net
 pub record IsReady (o : Opened) : Type 0 where
   pub opened : o.is_open ≡ true
   pub made : IsNetlist o.net
@@ -20,7 +20,7 @@ pub record IsReady (o : Opened) : Type 0 where
   pub acyclic : IsAcyclic o.net
   pub state : FitWidths o.net (slice_index o.state)
 
--- the transcript of the replies to these calls was sent, and this says whether each call has its reply
+-- the transcript of the replies to these calls was sent. `complete` says whether each call has its reply
 pub record IsHeld (o : Opened) (calls : List (List Word)) (limit : ℕ) (old new : Option (List ℕ)) (complete : Bool) : Type 0 where
   pub replies : List Reply
   pub are : AreReplies o.net limit (slice_index o.state) calls replies

@@ -1,4 +1,4 @@
--- Lines of a script: each has the arguments of a call.
+-- Lines of a script. Each has the arguments of a call.
 use Rattle.std.specs.Prelude.{◌≡◌, ◌≢◌, ℕ, ◌+◌, ◌<◌, ◌^◌, ◌⊎◌, List, [], ◌∷◌, ◌++◌, length, Some, slice_get}
 use Rattle.safl_word.specs.Words.{Word, IsWord}
 use Rattle.safl_word.specs.Numerals.{IsBounded, value}
@@ -12,17 +12,17 @@ pub record IsArgument (width : ℕ) (text : List ℕ) (v : Word) : Type 0 where
   pub is : v ≡ record { width = width; bits = value 10 text }
   pub word : IsWord v
 
--- one argument for each width, and one text for each argument
+-- there is one argument for each width, and one text for each argument
 abbrev pub AreArguments : List ℕ → List (List ℕ) → List Word → Type 0
 AreArguments [] [] [] = Unit {0}
 AreArguments (w ∷ ws) (t ∷ ts) (v ∷ vs) = IsArgument w t v × AreArguments ws ts vs
 AreArguments _ _ _ = ⊥
 
--- the words of the line are these arguments
+-- the words of the line spell these arguments
 abbrev pub IsCall : List ℕ → List ℕ → List Word → Type 0
 IsCall widths line args = (words : List (List ℕ)) × HasWords line words × AreArguments widths words args
 
--- the arguments of a call are appended, and these are the words of the line
+-- the arguments that the words of the line spell are appended
 abbrev pub AppendsCall : List ℕ → List ℕ → List Word → List Word → Type 0
 AppendsCall widths line old new = (args : List Word) × IsCall widths line args × (new ≡ old ++ args)
 
@@ -30,11 +30,11 @@ AppendsCall widths line old new = (args : List Word) × IsCall widths line args 
 abbrev pub IsLong : List ℕ → ℕ → Type 0
 IsLong line count = (words : List (List ℕ)) × HasWords line words × (length words ≡ count)
 
--- the line has so many words, and not one for each width
+-- the line has so many words, which is not the number of widths
 abbrev pub IsMiscounted : List ℕ → List ℕ → ℕ → Type 0
 IsMiscounted widths line given = IsLong line given × (given ≢ length widths)
 
--- the line has a word for each width, and the word of this number, from 1, is the first that is no argument of its width
+-- The line has a word for each width. The first that is no argument of its width has this number, counted from 1.
 pub record IsMisread (widths line : List ℕ) (number : ℕ) : Type 0 where
   pub words : List (List ℕ)
   pub has : HasWords line words
@@ -48,12 +48,12 @@ pub record IsMisread (widths line : List ℕ) (number : ℕ) : Type 0 where
   pub bad : (v : Word) → IsArgument width text v → ⊥
   pub before : (i w : ℕ) (t : List ℕ) → i < index → slice_get widths i ≡ Some w → slice_get words i ≡ Some t → (v : Word) × IsArgument w t v
 
--- the line of this number has this fault: the count of its words, or else a word
+-- the line has this fault: a wrong number of words, or otherwise a word that does not fit
 abbrev pub HasFault : List ℕ → List ℕ → ℕ → ScriptErr → Type 0
 HasFault widths line number (errors.Count l given) = (l ≡ number) × IsMiscounted widths line given
 HasFault widths line number (errors.Argument l place) = (l ≡ number) × IsMisread widths line place
 HasFault widths line number errors.NoMemory = ⊥
 
--- out of memory, or else the fault of the line of this number
+-- the error is the fault of the line, or out of memory
 abbrev pub RefusesLine : List ℕ → List ℕ → ℕ → ScriptErr → Type 0
 RefusesLine widths line number e = (e ≡ errors.NoMemory) ⊎ HasFault widths line number e

@@ -6,7 +6,7 @@ use Rattle.safl_session.specs.declared.script.ScriptErr.TheVariants as errors
 use Rattle.safl_session.specs.Pieces.{HasLines}
 use Rattle.safl_session.specs.Lines.{IsCall, HasFault}
 
--- a call on each line
+-- each line has the arguments of a call
 abbrev pub AreCalls : List ℕ → List (List ℕ) → List (List Word) → Type 0
 AreCalls widths [] [] = Unit {0}
 AreCalls widths (line ∷ lines) (args ∷ calls) = IsCall widths line args × AreCalls widths lines calls
@@ -16,7 +16,7 @@ AreCalls widths _ _ = ⊥
 abbrev pub IsScript : List ℕ → List ℕ → List (List Word) → Type 0
 IsScript widths text calls = (lines : List (List ℕ)) × HasLines text lines × AreCalls widths lines calls
 
--- the first line that is no call has this fault
+-- the fault of the first line that is no call
 pub record IsScriptFault (widths text : List ℕ) (e : ScriptErr) : Type 0 where
   pub before : List (List ℕ)
   pub line : List ℕ
@@ -26,11 +26,11 @@ pub record IsScriptFault (widths text : List ℕ) (e : ScriptErr) : Type 0 where
   pub good : AreCalls widths before calls
   pub fault : HasFault widths line (length before + 1) e
 
--- out of memory, or else the fault of the script
+-- the error is the fault of the script, or out of memory
 abbrev pub RefusesScript : List ℕ → List ℕ → ScriptErr → Type 0
 RefusesScript widths text e = (e ≡ errors.NoMemory) ⊎ IsScriptFault widths text e
 
--- so many calls of so many words each, which stand one after the other
+-- a list of words, cut into so many calls with so many words each
 abbrev pub calls_of : ℕ → ℕ → List Word → List (List Word)
 calls_of zero arity words = []
 calls_of (suc count) arity words = take arity words ∷ calls_of count arity (drop arity words)

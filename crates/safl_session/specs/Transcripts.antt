@@ -13,11 +13,11 @@ abbrev pub reply_lines : List Reply → List ℕ
 reply_lines [] = []
 reply_lines (r ∷ rs) = reply_line r ++ reply_lines rs
 
--- this many calls were made
+-- the line with the number of calls that were made
 abbrev pub calls_line : ℕ → List ℕ
 calls_line count = codes "calls " ++ decimal count ++ codes "\n"
 
--- no result came within this many cycles
+-- the line that no result came within this many cycles
 abbrev pub late_line : ℕ → List ℕ
 late_line limit = codes "no result in " ++ decimal limit ++ codes " cycles\n"
 
@@ -26,10 +26,10 @@ line_text (line.Replied reply) = reply_line reply
 line_text (line.Counted count) = calls_line count
 line_text (line.Late limit) = late_line limit
 
--- each of this many calls has its reply
+-- whether each of this many calls has its reply
 abbrev pub are_all : ℕ → List Reply → Bool
 are_all count rs = length rs == count
 
--- a line for each reply, and then the number of calls, or, where a call has no reply, that none came
+-- The transcript: a line for each reply, and then the number of calls or, if a call has no reply, the line that says so.
 abbrev pub transcript : ℕ → ℕ → List Reply → List ℕ
 transcript limit count rs = reply_lines rs ++ (if are_all count rs then calls_line count else late_line limit)

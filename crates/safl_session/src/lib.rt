@@ -1,5 +1,6 @@
-//! Sessions: several calls of one circuit, each after the one before is done; the scripts that hold the calls, and the transcripts that
-//! tell of the replies.
+//! Sessions: several calls of one circuit, each after the one before is done.
+//!
+//! The calls are read from scripts, and the replies are printed as transcripts.
 #![tactic(auto)]
 
 pub mod laws;

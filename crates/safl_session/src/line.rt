@@ -8,7 +8,7 @@ use crate::pieces::next_word;
 use crate::script::ScriptErr;
 use safl_word::{Word, argument};
 
-/// Appends the words of a line for inputs of these widths. The line has this number.
+/// Appends the words of line `number` of a script, for inputs of these widths.
 pub fn read_line(
     words: &mut Vec<Word>,
     number: u32,
@@ -45,7 +45,8 @@ pub fn read_line(
     }
 }
 
-/// The word of an argument for a parameter of this width: None exactly where the text is no numeral of a number of so many bits.
+/// The word of an argument for a parameter of this width. None exactly if the text is not a numeral of a number that
+/// fits the width.
 pub fn read_argument(width: u8, text: &[u8]) -> Option<Word>
     ensures read { IfSome result (IsArgument width text.now) }
     ensures none { IfNone result ((v : Word) → IsArgument width text.now v → ⊥) }

@@ -1,10 +1,11 @@
-//! Pieces of a text between bytes of one kind.
+//! Cutting a text into pieces.
 
 ghost use Rattle.std.specs.Prelude.{◌==◌, not, IfNone, IfSome};
 ghost use Rattle.safl_word.specs.Runs.{IsRun};
 ghost use Rattle.safl_session.specs.Pieces.{IsCut, Blank, StartsWith};
 
-/// The piece before the first byte of this kind, and what follows that byte; or all of the text, and nothing.
+/// The piece of a text before the first byte `end`, and what follows that byte. If there is no such byte, all of the
+/// text and nothing.
 pub fn cut(text: &[u8], end: u8) -> (&[u8], &[u8])
     ensures { IsCut end text.now result.0.now result.1.now }
 {
@@ -16,7 +17,7 @@ pub fn cut(text: &[u8], end: u8) -> (&[u8], &[u8])
     }
 }
 
-// How many bytes stand before the first byte of this kind, or the end.
+// How many bytes come before the first byte `end`, or before the end of the text.
 fn piece_length(text: &[u8], end: u8) -> usize
     ensures { IsRun (λ c. not (c == end)) text.now result }
 {
@@ -28,7 +29,7 @@ fn piece_length(text: &[u8], end: u8) -> usize
     text.len()
 }
 
-/// The first word of a text, and what follows the space after it; none if the text is only spaces.
+/// The first word of a text, and what follows the space after it. None if the text has only spaces.
 pub fn next_word(text: &[u8]) -> Option<(&[u8], &[u8])>
     ensures none { IfNone result (Blank text.now) }
     ensures some { IfSome result (λ r. StartsWith text.now r.0.now r.1.now) }

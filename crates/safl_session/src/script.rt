@@ -12,15 +12,15 @@ use std::marker::Model;
 /// Why a script is refused. Lines and arguments are counted from 1.
 #[derive(Clone, Copy, Debug, PartialEq, Eq)]
 pub enum ScriptErr {
-    /// This line has so many words, which are not as many as there are widths.
+    /// A line has the wrong number of words: the line, and how many words it has.
     Count(u32, u32),
-    /// This line has as many words as there are widths, but the word of this number is no number that fits its width:
-    /// it is not 1 to 39 digits of a number below 2 to the width. All words before it are.
+    /// A line has the right number of words, but one of them does not fit its width: the line, and the first such word.
+    /// The word is not 1 to 39 digits of a number below 2 to the width.
     Argument(u32, u32),
     NoMemory,
 }
 
-/// The calls of a script, each with equally many words. The words of all calls are one list.
+/// The calls of a script, which all have the same number of words. The words of all calls are in one list.
 #[derive(Drop)]
 pub struct Script {
     words: Vec<Word>,
@@ -45,14 +45,14 @@ impl Model for Script {
 impl Script {
     ghost use Rattle.std.specs.Prelude.{◌≡◌, ◌<◌, Some, length, slice_get};
 
-    /// How many calls there are.
+    /// The number of calls.
     pub fn len(&self) -> usize
         ensures { result ≡ length self.now }
     {
         self.calls
     }
 
-    /// The words of a call. Calls are counted from 0.
+    /// The words of call `call`, counted from 0.
     pub fn words(&self, call: usize) -> &[Word]
         requires { call < length self.now }
         ensures { slice_get self.now call ≡ Some result.now }
@@ -64,9 +64,9 @@ impl Script {
 
 /// The calls of a script, for inputs of these widths in bits: a call for each line, with a word for each width.
 ///
-/// Lines end with a line feed; a last line without one counts where it isn't empty. The words of a line are its longest
-/// pieces without a space, so that an empty line and a line of spaces are calls without arguments. The error is that of
-/// the first faulty line. Time is linear in the bytes.
+/// Lines end with a line feed; a last line without one counts if it is not empty. The words of a line are its longest
+/// pieces without spaces, so an empty line and a line of spaces are calls without arguments. The error is that of the
+/// first faulty line. Time is linear in the bytes.
 pub fn read_script(alloc: Global, bytes: &[u8], widths: &[u8]) -> Result<Script, ScriptErr>
     requires { length bytes.now < 2 ^ 32 }
     ensures read { IfOk result (IsScript widths.now bytes.now) }

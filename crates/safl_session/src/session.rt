@@ -9,7 +9,7 @@ use std::marker::Model;
 /// The cycle in which `done` is 1, counted from 0 in the cycle of the call's `start`, and the word of `result` in it.
 pub use safl_sim::Done as Reply;
 
-/// A simulator whose net is called again and again.
+/// A simulator whose net is called again and again, as long as each call has a reply.
 #[derive(Drop)]
 pub struct Session {
     runner: Runner,
@@ -30,8 +30,8 @@ impl Session {
     ghost use Rattle.safl_net.specs.Arguments.{AreArguments};
     ghost use Rattle.safl_run.specs.Calls.{Replies, IsSilent};
 
-    /// A session of a net, from the state that its simulator has. It makes the room for the words of every later cycle.
-    /// The error is lack of memory and hands the simulator back.
+    /// A session of a net, from the state of its simulator. All memory that calls need is taken here. The error is out
+    /// of memory, and hands the simulator back.
     pub fn new(alloc: Global, sim: Sim) -> Result<Session, Sim>
         requires { IsWhole sim.net }
         ensures made { IfOk result (λ s. s ≡ record { net = sim.net; state = sim.state; is_open = true }) }
@@ -50,9 +50,9 @@ impl Session {
         self.opened
     }
 
-    /// Calls the net: in cycle 0 `start` is 1 and the other inputs have the arguments in order, and later all inputs are
-    /// 0. The reply is that of the first cycle in which `done` is 1, and the next call goes on from the state after it.
-    /// There is none, and no further call, where `done` is 0 in all cycles below `limit`.
+    /// Calls the net: in cycle 0 `start` is 1 and the other inputs have the arguments in order; later all inputs are 0.
+    /// The reply is that of the first cycle in which `done` is 1; the next call goes on from the state after it. None
+    /// if `done` is 0 in all cycles below `limit`; then no further call can be made.
     pub fn call(&mut self, args: &[Word], limit: u64) -> Option<Reply>
         requires is_open { self.old.is_open ≡ true }
         requires arguments { AreArguments self.old.net args.now }

@@ -1,4 +1,4 @@
-//! A session that is held, with its transcript sent line by line.
+//! Running a session and sending its transcript, line by line.
 
 ghost use Rattle.std.specs.Prelude.{◌≡◌, OnOk, OnErr, IfOk, IsErrOf};
 ghost use Rattle.safl_io.specs.Counts.{Rose};
@@ -11,9 +11,9 @@ use crate::transcript_line::{Line, send_line};
 use safl_io::{OutErr, Sink};
 use std::alloc::Global;
 
-/// Makes the calls of a script one after the other, each for at most `limit` cycles, and sends a line for each reply as it
-/// comes; then the number of calls. Where a call has no reply the line that says so comes in place of that, and no further
-/// call is made. The answer is whether each call had its reply.
+/// Makes the calls of a script one after another, each for at most `limit` cycles, and sends a line for each reply as
+/// it comes; at the end a line with the number of calls. If a call has no reply, the last line says so instead, and no
+/// further call is made. The result says whether each call had a reply.
 ///
 /// After an error a prefix of the whole transcript was sent.
 pub fn send_transcript<O: Sink>(

@@ -21,7 +21,7 @@ pub enum Line {
     Late(u64),
 }
 
-/// Sends a line. It is made in `text`, whose room serves for the next line.
+/// Sends a line. The line is made in `text`, whose room is used again for the next one.
 pub fn send_line<O: Sink>(text: &mut Vec<u8>, line: Line, out: &mut O) -> Result<(), OutErr>
     ensures sent { OnOk result (TellsOn (Sends (line_text line)) (O.told out.old).sent (O.told out.new).sent) }
     ensures part { OnErr result (TellsOn (SendsPart (line_text line)) (O.told out.old).sent (O.told out.new).sent) }
@@ -64,7 +64,7 @@ fn push_count(text: &mut Vec<u8>, count: usize) -> Result<(), NoMemory>
     Ok(())
 }
 
-/// Appends the line that says that no result came within this many cycles.
+/// Appends the line that says that no result came within `limit` cycles.
 pub fn push_late(text: &mut Vec<u8>, limit: u64) -> Result<(), NoMemory>
     ensures { OnOk result (text.new.items ≡ text.old.items ++ late_line limit) }
 {

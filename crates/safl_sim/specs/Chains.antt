@@ -1,14 +1,14 @@
--- Lists of numbers as links in one array.
+-- Lists of numbers, linked in one array.
 use Rattle.std.specs.Prelude.{ℕ, zero, suc, ◌≤◌, List, [], ◌∷◌, map, length, slice_index}
 use Rattle.safl_sim.specs.declared.chains.Link.{Link}
 
--- the numbers of a list whose first link is link k, counted from 1: at most so many, and none from 0
+-- the numbers of the list whose first link is k, at most so many. Links are numbered from 1, and 0 is the end of a list
 abbrev pub chain_of : ℕ → List ℕ → List ℕ → ℕ → List ℕ
 chain_of zero numbers nexts k = []
 chain_of (suc most) numbers nexts zero = []
 chain_of (suc most) numbers nexts (suc i) = slice_index numbers i ∷ chain_of most numbers nexts (slice_index nexts i)
 
--- a link leads to earlier ones alone, so that link k begins a list of k links at most
+-- the numbers of the list that begins with link k. A link leads only to earlier ones, so the list has at most k links
 abbrev pub chain : List ℕ → List ℕ → ℕ → List ℕ
 chain numbers nexts k = chain_of k numbers nexts k
 

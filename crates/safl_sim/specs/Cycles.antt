@@ -8,26 +8,26 @@ use Rattle.safl_sim.specs.Simulation.{Ticks}
 use Rattle.safl_sim.specs.States.{placed}
 use Rattle.safl_sim.specs.Steps.{Keeps}
 
--- what a simulator keeps, by its plan
+-- what holds of a simulator between two cycles, in terms of its plan
 abbrev pub KeepsPlan : Order → Plan → List ℕ → List ℕ → List ℕ → List ℕ → Type 0
 KeepsPlan o p marks waiting now shown = Keeps o p.steps.items p.inputs.items p.registers.items p.starts.items p.readers.items marks waiting now shown
 
--- the state by place of registers that have these numbers
+-- the state by signal, given the number of each register
 abbrev pub state_of : Order → Plan → List ℕ → List ℕ
 state_of o p numbers = placed (length o.net.signals) p.registers.items numbers
 
--- the same, with a number for each register
+-- what holds of a simulator between two cycles, with a number for each register
 pub record KeepsStates (o : Order) (p : Plan) (marks waiting numbers shown : List ℕ) : Type 0 where
   pub long : length numbers ≡ length p.registers.items
   pub keeps : KeepsPlan o p marks waiting (state_of o p numbers) shown
 
--- the simulator keeps what it keeps, and goes on by a cycle
+-- a simulator goes on by a cycle, and what holds between cycles still holds
 pub record Cycles (o : Order) (p : Plan) (given : List Word) (numbers shown marks waiting next after : List ℕ) : Type 0 where
   pub keeps : KeepsStates o p marks waiting next after
   pub ticks : Ticks (record { net = o.net; state = state_of o p numbers; values = shown })
       (record { net = o.net; state = state_of o p next; values = after }) given
 
--- a simulator that keeps what it keeps goes on by a cycle with these words, or with those that its inputs have
+-- a simulator goes on by a cycle with these words; and with the words that its inputs have
 abbrev pub CyclesWith : Plan → List Word → List ℕ → List ℕ → List ℕ → List ℕ → List ℕ → List ℕ → List ℕ → List ℕ → Type 0
 CyclesWith p words numbers next shown after marks marks' waiting waiting' = (o : Order)
     → KeepsStates o p marks waiting numbers shown → AreInputs o.net words → Cycles o p words numbers shown marks' waiting' next after

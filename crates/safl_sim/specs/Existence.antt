@@ -1,4 +1,4 @@
--- That there are runs, so that no claim of all runs is empty.
+-- Runs exist, so that no statement about all runs is empty.
 use Rattle.std.specs.Prelude.{◌≡◌, ℕ, List, map, length}
 use Rattle.safl_word.specs.Words.{Word, AreWords}
 use Rattle.safl_net.specs.Laws.{FitWidths}
@@ -10,15 +10,15 @@ use Rattle.safl_net.specs.Whole.{IsWhole}
 use Rattle.safl_net.specs.Arguments.{AreArguments}
 use Rattle.safl_sim.specs.Outcomes.{IsOnlyRun}
 
--- in a whole net without loops there is a run of any length, from any state of the widths and with any arguments of
--- the widths of the inputs
+-- a whole net without loops has a run of any length, from any state of the right widths and with any arguments of the inputs'
+-- widths
 abbrev pub RunsExist : Type 0
 RunsExist =
     (n : Netlist) → IsNetlist n → IsWhole n → IsAcyclic n → (state : ℕ → ℕ) → FitWidths n state
     → (args : List Word) → AreWords args → AreArguments n args → (count : ℕ)
     → (vs : List Valuation) × RunFrom n state (map (λ (w : Word). w.bits) args) vs × (length vs ≡ count)
 
--- the state at reset is of the widths
+-- the state at reset has the right widths
 abbrev pub ResetFits : Type 0
 ResetFits = (n : Netlist) → IsNetlist n → FitWidths n (reset_state n)
 

@@ -1,4 +1,4 @@
--- When the readers of a place look at it.
+-- Guards: when a reader of a place looks at the place.
 use Rattle.std.specs.Prelude.{◌≡◌, ℕ, ◌+◌, ◌<◌, ◌≤◌, List, length, Some, slice_get, slice_index}
 use Rattle.std.specs.Coded.{×_prop, Π_prop, le_prop}
 use mathlib.Core.HLevel.{⊥_prop}
@@ -9,22 +9,22 @@ use Rattle.safl_sim.specs.declared.step.Guard.TheVariants.{Always, If, Unless}
 use Rattle.safl_sim.specs.declared.step.Step.{Step}
 use Rattle.safl_sim.specs.Readers.{IsBlind, Blind}
 
--- the guard says that a reader does not look
+-- the guard says that its reader does not look
 abbrev pub Unseen : (ℕ → ℕ) → Guard → Type 0
 Unseen f Always = ⊥
 Unseen f (If c) = ¬ (f c ≡ 1)
 Unseen f (Unless c) = f c ≡ 1
 
--- where it says so, reader k is blind to place p
+-- if the guard says so, reader k is blind to place p
 abbrev pub IsGuard : List Step → ℕ → ℕ → Guard → Type 0
 IsGuard steps p k g = (values : List ℕ) → Unseen (slice_index values) g → Blind steps values p k
 
--- the readers of each place have such guards
+-- each reader of each place has such a guard
 abbrev pub AreGuards : List Step → List ℕ → List ℕ → List Guard → Type 0
 AreGuards steps starts readers guards = (p j k : ℕ) (g : Guard) → p + 1 < length starts → slice_index starts p ≤ j → j < slice_index starts (p + 1)
     → slice_get readers j ≡ Some k → slice_get guards j ≡ Some g → IsGuard steps p k g
 
--- there is one guard for each reader
+-- each reader has such a guard, and there are as many guards as readers
 abbrev pub AreGuarded : List Step → List ℕ → List ℕ → List Guard → Type 0
 AreGuarded steps starts readers guards = (length guards ≡ length readers) × AreGuards steps starts readers guards
 

@@ -1,4 +1,4 @@
--- What a run shows until `done` is 1.
+-- What a run shows up to the cycle in which `done` is 1.
 use Rattle.std.specs.Prelude.{◌≡◌, ℕ, suc, ◌+◌, ◌<◌, List, map, length, Option, Some, None, slice_get, codes}
 use Rattle.safl_word.specs.Words.{Word, no_word}
 use Rattle.safl_net.specs.Netlist.{Netlist, output_place}
@@ -6,7 +6,8 @@ use Rattle.safl_net.specs.Valuations.{Valuation, signal_word, read_output, reset
 use Rattle.safl_net.specs.Runs.{RunFrom, input_numbers}
 use Rattle.safl_sim.specs.declared.done.Done.{Done}
 
--- cycles of a call from a state: in the first `start` is 1 and the other inputs have the arguments, and later all inputs are 0
+-- the cycles of a call from a state: in the first one `start` is 1 and the other inputs have the arguments; later all inputs are
+-- 0
 pub record IsCallRun (n : Netlist) (state : ℕ → ℕ) (args : List Word) (vs : List Valuation) : Type 0 where
   pub run : RunFrom n state (map (λ (w : Word). w.bits) args) vs
   pub zeros : (c : ℕ) (v : Valuation) → slice_get vs (suc c) ≡ Some v → input_numbers n.signals v ≡ map (λ (w : Word). 0) args
@@ -15,7 +16,7 @@ pub record IsCallRun (n : Netlist) (state : ℕ → ℕ) (args : List Word) (vs 
 abbrev pub IsRun : Netlist → List Word → List Valuation → Type 0
 IsRun n args vs = IsCallRun n (reset_state n) args vs
 
--- it has that many cycles, and no other run has
+-- a run of `count` cycles, which is the only one
 pub record IsOnlyRun (n : Netlist) (args : List Word) (count : ℕ) (vs : List Valuation) : Type 0 where
   pub is : IsRun n args vs
   pub long : length vs ≡ count
@@ -33,7 +34,7 @@ output_word n v name = word_at n v (output_place n.outputs name)
 abbrev pub NotDoneBefore : Netlist → List Valuation → ℕ → Type 0
 NotDoneBefore n vs count = (c : ℕ) (v : Valuation) → c < count → slice_get vs c ≡ Some v → read_output n v (codes "done") ≡ 0
 
--- done is 1 in that cycle of the run, with that word as result, and 0 before
+-- in this cycle of the run `done` is 1 and the result has this word, and before it `done` is 0
 pub record IsDone (n : Netlist) (args : List Word) (limit : ℕ) (d : Done) : Type 0 where
   pub in_time : d.cycle < limit
   pub run : List Valuation
@@ -44,7 +45,7 @@ pub record IsDone (n : Netlist) (args : List Word) (limit : ℕ) (d : Done) : Ty
   pub result : d.result ≡ output_word n last (codes "result")
   pub before : NotDoneBefore n run d.cycle
 
--- done is 0 in all cycles of the run below the limit
+-- `done` is 0 in all cycles of the run below the limit
 pub record IsNotDone (n : Netlist) (args : List Word) (limit : ℕ) : Type 0 where
   pub run : List Valuation
   pub only : IsOnlyRun n args limit run

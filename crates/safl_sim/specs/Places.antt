@@ -1,4 +1,4 @@
--- Inputs and registers of a net, and its words at reset and after a cycle.
+-- The inputs and registers of a net, and its numbers at reset.
 use Rattle.std.specs.Prelude.{◌≡◌, ℕ, suc, List, [], ◌∷◌, map, slice_index}
 use Rattle.safl_word.specs.Words.{Word}
 use Rattle.safl_net.specs.Netlist.{Netlist, Signal, Kind, Input, Reg, Wire, width_of}
@@ -17,7 +17,7 @@ inputs_from (g ∷ gs) i = with_input g.kind i (inputs_from gs (suc i))
 abbrev pub inputs_of : Netlist → List ℕ
 inputs_of n = inputs_from n.signals 0
 
--- words of the widths of the inputs
+-- one word for each input, of the input's width
 abbrev pub AreInputs : Netlist → List Word → Type 0
 AreInputs n words = map (λ (w : Word). w.width) words ≡ map (width_of n) (inputs_of n)
 
@@ -25,6 +25,6 @@ AreInputs n words = map (λ (w : Word). w.width) words ≡ map (width_of n) (inp
 abbrev pub HasWords : Netlist → Valuation → List Word → Type 0
 HasWords n v words = map (slice_index v) (inputs_of n) ≡ map (λ (w : Word). w.bits) words
 
--- each register's number at reset, and 0 for all else
+-- the number of each register at reset, and 0 for all other signals
 abbrev pub resets : Netlist → List ℕ
 resets n = map (λ (g : Signal). kind_reset g.kind) n.signals

@@ -5,13 +5,13 @@ use Rattle.safl_net.specs.Netlist.{Netlist}
 use Rattle.safl_net.specs.Valuations.{Valuation, Fits, next_state}
 use Rattle.safl_sim.specs.Places.{HasWords}
 
--- its net, its registers' state, and the valuation of the last cycle, each by the numbers of signals
+-- the net of a simulator, the state of its registers, and the valuation of the last cycle, both by the numbers of signals
 pub record Simulation : Type 0 where
   pub net : Netlist
   pub state : List ℕ
   pub values : List ℕ
 
--- a cycle: the valuation fits the state and the inputs and is the only one that does, and the state is the next one
+-- A cycle. The new valuation fits the state and the inputs, and is the only one that does; the new state is the next one.
 pub record Ticks (old new : Simulation) (words : List Word) : Type 0 where
   pub net : new.net ≡ old.net
   pub fits : Fits old.net (slice_index old.state) new.values

@@ -1,38 +1,38 @@
--- The states of the registers, by register and by place.
+-- The states of registers, by register and by signal.
 use Rattle.std.specs.Prelude.{◌≡◌, ℕ, ◌*◌, ◌^◌, ◌<◌, ◌≤◌, List, [], ◌∷◌, length, replicate, Some, true, slice_get, slice_set, slice_index}
 use Rattle.safl_net.specs.Netlist.{Netlist}
 use Rattle.safl_net.specs.Valuations.{kind_reset}
 use Rattle.safl_net.specs.Making.{kind_at}
 use Rattle.safl_sim.specs.declared.step.Register.{Register}
 
--- the numbers of the registers at their places, and 0 at all others
+-- the numbers of the registers at their signals, and 0 for all other signals
 abbrev pub placed : ℕ → List Register → List ℕ → List ℕ
 placed count [] numbers = replicate count 0
 placed count (r ∷ rs) [] = replicate count 0
 placed count (r ∷ rs) (x ∷ xs) = slice_set (placed count rs xs) r.signal.0 x
 
--- a number for each register, which is at its place too
+-- there is a number for each register, which its signal has too
 pub record AreAt (regs : List Register) (numbers now : List ℕ) : Type 0 where
   pub long : length numbers ≡ length regs
   pub each : (k : ℕ) (r : Register) → slice_get regs k ≡ Some r → slice_index now r.signal.0 ≡ slice_index numbers k
 
--- the places of the registers are below this, and so are those of their next signals
+-- the signals of the registers and their next signals are below this number
 abbrev pub AreBelow : List Register → ℕ → Type 0
 AreBelow regs count = (k : ℕ) (r : Register) → slice_get regs k ≡ Some r → r.signal.0 < count
 
 abbrev pub HaveNextsBelow : List Register → ℕ → Type 0
 HaveNextsBelow regs count = (k : ℕ) (r : Register) → slice_get regs k ≡ Some r → r.next.0 < count
 
--- no two registers have one place
+-- no two registers have the same signal
 abbrev pub AreOnce : List Register → Type 0
 AreOnce regs = (i j : ℕ) (r q : Register) → slice_get regs i ≡ Some r → slice_get regs j ≡ Some q → r.signal.0 ≡ q.signal.0 → i ≡ j
 
--- the narrow registers have at most 64 bits, as they are shown and as their states
+-- narrow registers have numbers of at most 64 bits, both as they are shown and as their states
 abbrev pub AreLow : List Register → List ℕ → List ℕ → Type 0
 AreLow regs values numbers = (k : ℕ) (r : Register) → slice_get regs k ≡ Some r → r.narrow ≡ true
     → (slice_index values r.signal.0 < 2 ^ 64) × (slice_index numbers k < 2 ^ 64)
 
--- and so have their next signals
+-- the next signals of narrow registers have numbers of at most 64 bits
 abbrev pub HaveLowNexts : List Register → List ℕ → Type 0
 HaveLowNexts regs values = (k : ℕ) (r : Register) → slice_get regs k ≡ Some r → r.narrow ≡ true → slice_index values r.next.0 < 2 ^ 64
 
@@ -57,7 +57,7 @@ pub record AsManyMarks (old new wait wait' : List ℕ) : Type 0 where
   pub marks : length new ≡ length old
   pub waiting : length wait' ≡ length wait
 
--- the first of the registers have their number at reset
+-- the first `count` registers have their numbers at reset
 pub record AreReset (n : Netlist) (regs : List Register) (count : ℕ) (numbers : List ℕ) : Type 0 where
   pub long : length numbers ≡ count
   pub each : (k : ℕ) (r : Register) → k < count → slice_get regs k ≡ Some r → slice_index numbers k ≡ kind_reset (kind_at n r.signal.0)

@@ -1,4 +1,4 @@
--- Steps that are prepared for evaluation.
+-- Steps: the cells of a net, prepared for evaluation.
 use Rattle.std.specs.Prelude.{◌≡◌, ℕ, ◌+◌, ◌*◌, ◌<◌, ◌≤◌, ◌^◌, List, [], ◌∷◌, map, length, Some, IsSome, Bool, true, false, slice_get, slice_index}
 use Rattle.safl_word.specs.Words.{IsWord, pick}
 use Rattle.safl_word.specs.Primitives.{result_width, apply_prim}
@@ -22,7 +22,7 @@ use Rattle.safl_sim.specs.Marks.{marked, first_register}
 use Rattle.safl_sim.specs.Readers.{Lists, AreReaders, Holding, Shown}
 use Rattle.safl_sim.specs.States.{AreOnce}
 
--- an action in its plain form: a constant, a choice, or a primitive on one operand or on two
+-- an action in plain form: a constant, a choice, or a primitive on one or two operands
 pub data Plain : Type 0 where
   Constant : (x : ℕ) → Plain
   Choice : (c a b : ℕ) → Plain
@@ -48,7 +48,7 @@ plain (WideChoose c a b) = Choice c a b
 plain (WideOne p w a) = Unary p w a
 plain (WideTwo p w v a b) = Binary p w v a b
 
--- what it gives, where the signals have these numbers
+-- the number that an action gives, if the signals have these numbers
 abbrev pub plain_number : (ℕ → ℕ) → Plain → ℕ
 plain_number f (Constant x) = x
 plain_number f (Choice c a b) = pick (f c) (f a) (f b)
@@ -58,7 +58,7 @@ plain_number f (Binary p w v a b) = (apply_prim p (word_of w (f a) ∷ word_of v
 abbrev pub action_number : (ℕ → ℕ) → Action → ℕ
 action_number f action = plain_number f (plain action)
 
--- its operands are at hand, as words that it takes
+-- the operands of an action exist, and are words that it takes
 abbrev pub PlainReady : List ℕ → Plain → Type 0
 PlainReady values (Constant x) = Unit {0}
 PlainReady values (Choice c a b) = (c < length values) × (a < length values) × (b < length values)
@@ -70,7 +70,7 @@ PlainReady values (Binary p w v a b) = (a < length values) × (b < length values
 abbrev pub Ready : List ℕ → Action → Type 0
 Ready values action = PlainReady values (plain action)
 
--- what it works on has at most 64 bits, and so has what it gives
+-- the numbers that an action takes and gives have at most 64 bits
 abbrev pub PlainLow : List ℕ → Plain → Type 0
 PlainLow values (Constant x) = x < 2 ^ 64
 PlainLow values (Choice c a b) = (slice_index values c < 2 ^ 64) × (slice_index values a < 2 ^ 64) × (slice_index values b < 2 ^ 64)
@@ -80,7 +80,7 @@ PlainLow values (Binary p w v a b) = (slice_index values a < 2 ^ 64) × (slice_i
 abbrev pub Low : List ℕ → Action → Type 0
 Low values action = PlainLow values (plain action)
 
--- an action for at most 64 bits
+-- whether an action is one for at most 64 bits
 abbrev pub is_low : Action → Bool
 is_low (Const a b c d) = false
 is_low (WideChoose c a b) = false
@@ -88,7 +88,7 @@ is_low (WideOne p w a) = false
 is_low (WideTwo p w v a b) = false
 is_low action = true
 
--- what such an action works on and gives has at most 64 bits
+-- if an action is one for at most 64 bits, what it takes and gives has no more
 abbrev pub LowOf : List ℕ → Action → Type 0
 LowOf values (Const a b c d) = Unit {0}
 LowOf values (WideChoose c a b) = Unit {0}
@@ -96,12 +96,12 @@ LowOf values (WideOne p w a) = Unit {0}
 LowOf values (WideTwo p w v a b) = Unit {0}
 LowOf values action = Low values action
 
--- a wire of at most 64 bits, and so are the operands of its cell
+-- a wire and all operands of its cell have at most 64 bits
 pub record IsNarrow (n : Netlist) (s : ℕ) (c : Cell) : Type 0 where
   pub wire : width_of n s ≤ 64
   pub operands : (i t : ℕ) → slice_get c.operands i ≡ Some t → width_of n t ≤ 64
 
--- the action of a cell: it is ready at words that fit, and gives the cell's word
+-- the action of a cell: it is ready for all words that fit, and gives the cell's word
 pub record Performs (n : Netlist) (c : Cell) (action : Action) : Type 0 where
   pub gives : (f : ℕ → ℕ) → FitWidths n f → action_number f action ≡ (cell_word c.op (map (λ t. word_of (width_of n t) (f t)) c.operands)).bits
   pub ready : (values : List ℕ) → length values ≡ length n.signals → FitWidths n (slice_index values) → Ready values action
@@ -114,11 +114,11 @@ pub record IsStep (n : Netlist) (s : ℕ) (step : Step) : Type 0 where
   pub performs : Performs n cell step.action
   pub narrow : is_low step.action ≡ true → IsNarrow n s cell
 
--- and so has the wire of its step
+-- if a step's action is one for at most 64 bits, what it takes and gives has no more, and neither has its wire
 abbrev pub LowStep : List ℕ → Step → Type 0
 LowStep values step = LowOf values step.action × (is_low step.action ≡ true → slice_index values step.wire.0 < 2 ^ 64)
 
--- the steps of wires, in their order
+-- the steps of these wires, in this order
 pub record AreSteps (n : Netlist) (wires : List ℕ) (steps : List Step) : Type 0 where
   pub long : length steps ≡ length wires
   pub each : (k s : ℕ) (step : Step) → slice_get wires k ≡ Some s → slice_get steps k ≡ Some step → IsStep n s step
@@ -128,7 +128,7 @@ IsReg Input = ⊥
 IsReg (Reg init next) = Unit {0}
 IsReg (Wire cell) = ⊥
 
--- each register with its next signal
+-- all registers below a number, each with its next signal
 pub record AreRegisters (n : Netlist) (count : ℕ) (registers : List Register) : Type 0 where
   pub each : (k : ℕ) (r : Register) → slice_get registers k ≡ Some r → (init : ℕ) × (kind_at n r.signal.0 ≡ Reg init (Some r.next.0))
   pub all : (s : ℕ) → s < count → IsReg (kind_at n s) → (k : ℕ) × (r : Register) × (slice_get registers k ≡ Some r) × (r.signal.0 ≡ s)
@@ -137,19 +137,21 @@ pub record AreRegisters (n : Netlist) (count : ℕ) (registers : List Register) 
   pub below : (k : ℕ) (r : Register) → slice_get registers k ≡ Some r → r.signal.0 < count
   pub once : AreOnce registers
 
--- where numbers are given to places that are no wires, they go on to fit, and what holds goes on to hold
+-- when numbers are written to places that are no wires, all numbers still fit, and what holds of steps and registers without
+-- marks still holds
 abbrev pub Goes : Netlist → List ℕ → List Step → List Register → List ℕ → List ℕ → List ℕ → List ℕ → List ℕ → List ℕ → List ℕ → Type 0
 Goes n ws steps regs now starts readers values values' marks marks' = AreReaders n ws regs starts readers → AreSteps n ws steps → FitWidths n (slice_index now)
     → FitWidths n (slice_index values) → Holding n ws regs now values marks → FitWidths n (slice_index values') × Holding n ws regs now values' marks'
 
--- the registers that do not wait show their state
+-- every register that does not wait shows its state
 pub record Waits (regs : List Register) (now values waiting : List ℕ) : Type 0 where
   pub room : length regs ≤ length waiting * 64
   pub few : length waiting ≤ 2 ^ 32
   pub shown : Shown regs now values waiting
   pub within : (k : ℕ) → marked waiting k ≡ 1 → k < length regs
 
--- what a simulator keeps: its parts are those of the net, and what is not marked holds
+-- What holds of a simulator between two cycles: its parts are those of the net, and steps, registers and the registers that wait
+-- are as their marks say.
 pub record Keeps (o : Order) (all : List Step) (places : List Sig) (regs : List Register) (starts readers marks waiting now shown : List ℕ) : Type 0 where
   pub made : IsNetlist o.net
   pub order : IsOrder o.net o.wires
@@ -168,7 +170,7 @@ pub record Keeps (o : Order) (all : List Step) (places : List Sig) (regs : List 
   pub holding : Holding o.net o.wires regs now shown marks
   pub waits : Waits regs now shown waiting
 
--- while the marked steps run, and none before a place is marked any longer
+-- while the marked steps are being run, and none before a place is marked any longer
 pub record Runs (o : Order) (all : List Step) (regs : List Register) (now starts readers start : List ℕ) (place : ℕ) (values marks : List ℕ) : Type 0 where
   pub made : IsNetlist o.net
   pub order : IsOrder o.net o.wires

@@ -9,7 +9,7 @@ abbrev pub state_after : Netlist → (ℕ → ℕ) → List Valuation → ℕ �
 state_after n state [] = state
 state_after n state (v ∷ vs) = state_after n (next_state n v) vs
 
--- the words of a cycle
+-- the words of the inputs in a cycle: the first words in cycle 0, the later ones afterwards
 abbrev pub words_of : ℕ → List Word → List Word → List Word
 words_of zero first later = first
 words_of (suc c) first later = later

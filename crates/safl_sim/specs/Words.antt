@@ -1,17 +1,17 @@
--- The words that a net's inputs are given in a cycle.
+-- The words of a net's inputs in a cycle.
 use Rattle.std.specs.Prelude.{ℕ, List, [], ◌∷◌, ◌++◌, take, drop, Bool, true, false, codes}
 use Rattle.std.proofs.Common.{bytes_eq}
 use Rattle.safl_word.specs.Words.{Word}
 use Rattle.safl_net.specs.Netlist.{Signal, Kind, Input, Reg, Wire}
 
--- a signal's word, where it is an input: that of `start`, or else the first of the arguments
+-- the word of a signal, if it is an input: that of `start`, or the first of the arguments that are left
 abbrev pub own_word : Kind → Bool → Word → List Word → List Word
 own_word Input true start args = start ∷ []
 own_word Input false start args = take 1 args
 own_word (Reg init next) b start args = []
 own_word (Wire cell) b start args = []
 
--- the arguments for the signals after it
+-- the arguments that are left for the signals after it
 abbrev pub others : Kind → Bool → List Word → List Word
 others Input true args = args
 others Input false args = drop 1 args
@@ -29,6 +29,5 @@ input_words (g ∷ gs) start args = own_word g.kind (is_start g.name) start args
 abbrev pub zero_of : Word → Word
 zero_of w = record { width = w.width; bits = 0 }
 
--- one bit
 abbrev pub bit_word : ℕ → Word
 bit_word b = record { width = 1; bits = b }

@@ -1,17 +1,17 @@
-//! Lists of numbers as links in one array.
+//! Lists of numbers, linked in one array.
 
 use std::alloc::{AllocError, Global};
 use std::marker::Model;
 
-/// A number on a list, and the link after it: by its number from 1 on, and 0 where the list ends.
+/// A number of a list, and the link after it. Links are numbered from 1; 0 is the end of the list.
 #[derive(Clone, Copy)]
 pub struct Link {
     pub number: u32,
     pub next: u32,
 }
 
-/// A list of numbers for each place. All links stand in one array, so that the lists take no memory of their own; each
-/// number is put in front.
+/// A list of numbers for each place. All links are in one array, so a list takes no memory of its own. Each number is
+/// added at the front.
 #[derive(Drop)]
 pub struct Chains {
     heads: Vec<u32>,
@@ -32,7 +32,7 @@ impl Model for Chains {
 impl Chains {
     ghost use Rattle.std.specs.Prelude.{◌≡◌, ◌++◌, ◌∷◌, [], ◌<◌, ℕ, List, length, slice_get, slice_set, Some, IfOk, OnOk};
 
-    /// An empty list for each of so many places.
+    /// Empty lists for `count` places.
     pub fn new(alloc: Global, count: usize) -> Result<Chains, AllocError>
         ensures long { IfOk result (λ c. length c ≡ count) }
         ensures none { IfOk result (λ c. (p : ℕ) (v : List ℕ) → slice_get c p ≡ Some v → v ≡ []) }
@@ -47,7 +47,7 @@ impl Chains {
         })
     }
 
-    /// Puts a number in front of the list of a place. More links than 32 bits can number would not fit into memory.
+    /// Adds a number at the front of a list. More links than 32 bits can number would not fit into memory.
     pub fn push(&mut self, place: usize, number: u32) -> Result<(), AllocError>
         requires { place < length self.old }
         ensures long { length self.new ≡ length self.old }
@@ -63,7 +63,7 @@ impl Chains {
         Ok(())
     }
 
-    /// Appends the list of a place.
+    /// Appends the numbers of a list to `out`.
     pub fn append(&self, place: usize, out: &mut Vec<u32>) -> Result<(), AllocError>
         requires { place < length self.now }
         ensures { OnOk result ((v : List ℕ) → slice_get self.now place ≡ Some v → out.new.items ≡ out.old.items ++ v) }

@@ -1,8 +1,8 @@
-//! When a run is done.
+//! The result of a run.
 
 use safl_word::Word;
 
-/// The cycle, from 0, in which `done` is 1, and the word of `result` in it.
+/// The first cycle, counted from 0, in which `done` is 1, and the word of `result` in it.
 #[derive(Clone, Copy, Debug, PartialEq, Eq)]
 pub struct Done {
     pub cycle: u64,

@@ -1,4 +1,4 @@
-//! When the readers of a place look at it.
+//! Guards: when a reader of a place looks at the place.
 
 ghost use Rattle.std.specs.Prelude.{◌≡◌, ◌⊎◌, ℕ, ◌+◌, ◌<◌, ◌≤◌, length, Some, IfOk, slice_get};
 ghost use Rattle.safl_sim.specs.declared.step.Guard.{Guard};
@@ -26,7 +26,7 @@ pub fn guards_of(
     Ok(guards)
 }
 
-// The guards of a part of the readers, that of a place.
+// Sets the guards of the readers of one place, which are those from `from` to `to`.
 fn guard_part(
     guards: &mut [Guard],
     steps: &[Step],
@@ -62,7 +62,7 @@ fn guard_of(steps: &[Step], k: usize, place: usize) -> Guard
     }
 }
 
-// That of a choice: it looks at its condition, and at a branch only if the condition selects it.
+// The guard of a choice. It always looks at its condition `c`, but at a branch only if the condition selects it.
 fn guard_in(place: usize, c: u32, a: u32, b: u32) -> Guard
     ensures { (f : ℕ → ℕ) → Unseen f result → IsBlind f place (Choose c a b) }
 {

@@ -2,8 +2,8 @@
 
 ghost use Rattle.safl_sim.specs.Existence.{OneRunExists, ResetFits, RunsExist};
 
-/// A whole net without loops has a run of any length, from any state of the widths and with any arguments of the
-/// inputs' widths; the state at reset is such a state, and from it one run alone has all inputs 0 after cycle 0.
+/// From any state of the right widths, with any arguments of the inputs' widths, a whole net without loops has a run of
+/// any length. The state at reset is such a state, and from it exactly one run has all inputs 0 after cycle 0.
 pub fn run_law()
     ensures exist { RunsExist }
     ensures reset { ResetFits }

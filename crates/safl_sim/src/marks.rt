@@ -1,4 +1,4 @@
-//! Marks of steps and registers, a bit for each.
+//! Marks of steps and registers, one bit for each.
 
 ghost use Rattle.std.specs.Prelude.{◌≡◌, ℕ, ◌+◌, ◌*◌, ◌/◌, ◌<◌, ◌≤◌, ◌^◌, List, length, IfSome, IfNone};
 ghost use Rattle.safl_sim.specs.Marks.{TakesFirst};
@@ -6,7 +6,7 @@ ghost use Rattle.safl_sim.specs.Marks.{TakesFirst};
 use std::alloc::{AllocError, Global};
 use std::marker::Model;
 
-/// How many words have a bit for each of so many numbers.
+/// How many words hold `count` bits.
 pub fn word_count(count: usize) -> usize
     requires { count < 2 ^ 63 }
     ensures { result ≡ (count + 63) / 64 }
@@ -14,14 +14,14 @@ pub fn word_count(count: usize) -> usize
     (count + 63) / 64
 }
 
-/// The bit of a mark in its word, and what of the word is left without it.
+/// The place of a mark in its word, and the word without it.
 #[derive(Clone, Copy)]
 pub struct Taken {
     pub bit: usize,
     pub left: u64,
 }
 
-/// Takes the first mark of a word away, of which all marks are held apart.
+/// Takes the first mark out of a word.
 #[inline(always)]
 pub fn take_held(held: u64) -> Option<Taken>
     ensures none { IfNone result (held ≡ 0) }
@@ -39,8 +39,8 @@ pub fn take_held(held: u64) -> Option<Taken>
     }
 }
 
-/// Marks of numbers, a bit for each, in words of 64; and beside them a bit for each word, which is 1 if the word is not 0. So a
-/// search for marks looks at 64 words at a time.
+/// Marks of numbers, one bit for each, in words of 64; and a second layer with a bit for each word, which is 1 if the
+/// word is not 0. So a search for marks looks at 64 words at a time.
 #[derive(Drop)]
 pub struct Marks {
     words: Vec<u64>,
@@ -62,7 +62,7 @@ impl Marks {
     ghost use Rattle.std.specs.Prelude.{◌≡◌, ℕ, ◌+◌, ◌*◌, ◌/◌, ◌<◌, ◌≤◌, ◌^◌, length, slice_index, slice_set, bit_or, IfOk};
     ghost use Rattle.safl_sim.specs.Marks.{marked, HasMark, NoneBetween, HasRange};
 
-    /// So many words, in which no number is marked.
+    /// `count` words without marks.
     pub fn new(alloc: Global, count: usize) -> Result<Marks, AllocError>
         requires { count < 2 ^ 40 }
         ensures long { IfOk result (λ m. length m ≡ count) }
@@ -74,7 +74,7 @@ impl Marks {
         })
     }
 
-    /// How many words there are.
+    /// The number of words.
     #[inline(always)]
     pub fn count(&self) -> usize
         ensures { result ≡ length self.now }
@@ -98,7 +98,8 @@ impl Marks {
         ensures { self.new ≡ slice_set self.old word marks }
     {
         self.words[word] = marks;
-        // The bit may be 1 already. To ask for that would be a jump that the processor often guesses wrong.
+        // The bit of the second layer may be 1 already. A test for that would be a jump that the processor often
+        // guesses wrong.
         if marks == 0 {
             self.filled[word / 64] &= !(1u64 << (word % 64));
         } else {
@@ -106,7 +107,7 @@ impl Marks {
         }
     }
 
-    /// Marks the numbers of a word that have a bit here, if there is such a word.
+    /// Adds marks to a word, if there is such a word.
     #[inline(always)]
     pub fn join(&mut self, word: usize, marks: u64)
         ensures { self.new ≡ slice_set self.old word (bit_or (slice_index self.old word) marks) }
@@ -129,7 +130,7 @@ impl Marks {
         self.put(word, marks);
     }
 
-    /// The first word that has a mark, of those from a word up to an end; or the end.
+    /// The first word with a mark, from word `from` on; or `end` if no word before that has one.
     #[inline(always)]
     pub fn next(&self, from: usize, end: usize) -> usize
         requires ordered { from ≤ end }
@@ -141,7 +142,8 @@ impl Marks {
         if from == end {
             return end;
         }
-        // So that what is done with the word does not wait for a search: small circuits have all their marks in one word.
+        // The word at `from` is tested first, so that the work on it does not wait for a search. Small circuits have
+        // all their marks in one word.
         if self.get(from) != 0 {
             return from;
         }
@@ -159,7 +161,7 @@ impl Marks {
         end
     }
 
-    /// Marks a range of numbers.
+    /// Marks the numbers from `from` to `to`, without `to` itself.
     pub fn mark_range(&mut self, from: usize, to: usize)
         requires ordered { from ≤ to }
         requires room { to ≤ length self.old * 64 }
@@ -170,7 +172,7 @@ impl Marks {
         }
     }
 
-    /// Takes all marks away.
+    /// Removes all marks.
     pub fn clear(&mut self)
         ensures long { length self.new ≡ length self.old }
         ensures none { (k : ℕ) → marked self.new k ≡ 0 }

@@ -1,4 +1,7 @@
-//! Readers that have their marks in one word: that of the step that writes what they read, or of a register's first reader.
+//! Near readers.
+//!
+//! The near readers of a step's wire have their marks in one word with the step, those of a register in one word with
+//! its first reader.
 
 ghost use Rattle.std.specs.Prelude.{ℕ, ◌+◌, ◌≤◌, List, length, IfOk, slice_index};
 ghost use Rattle.safl_sim.specs.Nears.{IsNear, AreGrouped};
@@ -8,7 +11,7 @@ ghost use Rattle.safl_sim.specs.States.{AreBelow};
 use crate::step::{Group, Near, Register};
 use std::alloc::{AllocError, Global};
 
-/// Of a part of the readers, those that stand in a word.
+/// Splits a part of the readers into those whose marks are in word `word` and the others.
 pub fn near_of(readers: &[u32], from: u32, to: u32, word: usize) -> Near
     requires ordered { from ≤ to }
     requires within { to ≤ length readers.now }
@@ -31,7 +34,7 @@ pub fn near_of(readers: &[u32], from: u32, to: u32, word: usize) -> Near
     }
 }
 
-/// A group of readers for each register.
+/// The group of the near readers of each register.
 pub fn groups_of(
     alloc: Global,
     registers: &[Register],
@@ -49,7 +52,7 @@ pub fn groups_of(
     Ok(groups)
 }
 
-// Of a part of the readers, those that stand in the word of the first.
+// Splits a part of the readers into those whose marks are in one word with the first, and the others.
 fn group_of(readers: &[u32], from: u32, to: u32) -> Group
     requires ordered { from ≤ to }
     requires within { to ≤ length readers.now }

@@ -1,4 +1,4 @@
-//! The parts of a simulator, prepared from a net in an order.
+//! The parts of a simulator, made from an ordered net.
 
 ghost use Rattle.std.specs.Prelude.{◌≡◌, ℕ, ◌+◌, ◌*◌, ◌^◌, ◌<◌, ◌≤◌, [], ◌++◌, length, OnOk, slice_get, Some, true, IfOk, IfSome, IfNone};
 ghost use Rattle.safl_net.specs.Netlist.{AllSet, Reg, width_of};
@@ -26,8 +26,8 @@ use safl_word::{LOW_MAX, Numbers, Raw};
 use std::alloc::{AllocError, Global};
 use std::mem::drop;
 
-/// The parts of a simulator: its plan, the marks of steps and registers, the registers that wait to be shown, their
-/// state, and the number of each signal.
+/// The parts of a simulator: its plan, the marks of steps and registers, the registers that wait to be shown, the
+/// registers' state, and the number of each signal.
 #[derive(Drop)]
 pub struct Parts {
     pub plan: Plan,
@@ -48,11 +48,11 @@ impl Parts {
         let _count = net.signals();
         let numbers = resets(alloc, net)?;
         let values = Numbers::new(alloc, &numbers)?;
-        // The other parts need the memory.
+        // Freed early, since the other parts need the memory.
         drop(numbers);
         let registers = registers_of(alloc, net)?;
         let kept = registers.as_slice();
-        // First the table: while it is made, it takes more than what stays of it.
+        // The table comes first: while it is made, it takes more memory than later.
         let table = table_of(alloc, net, ordered.wires(), kept)?;
         let made = steps_of(alloc, net, &table.starts, &table.readers, ordered.wires())?;
         let steps = made.steps;
@@ -81,7 +81,7 @@ impl Parts {
     }
 }
 
-// Marks of so many steps and registers, all of them there.
+// Marks of `steps` steps and `registers` registers, all of them set.
 fn all_marked(alloc: Global, steps: usize, registers: usize) -> Result<Marks, AllocError>
     requires few { steps < 2 ^ 32 }
     requires some { registers < 2 ^ 32 }
@@ -97,14 +97,14 @@ fn all_marked(alloc: Global, steps: usize, registers: usize) -> Result<Marks, Al
     Ok(marks)
 }
 
-// Steps with the masks of their near readers.
+// The steps, with the masks of their near readers.
 #[derive(Drop)]
 struct Steps {
     steps: Vec<Step>,
     masks: Vec<u64>,
 }
 
-// The steps of wires, in their order.
+// The steps of wires, in this order.
 fn steps_of(
     alloc: Global,
     net: &Net,
@@ -150,7 +150,7 @@ fn step_of(net: &Net, starts: &[u32], wire: Sig, near: Near) -> Step
     }
 }
 
-// The inputs, in order.
+// The inputs of a net, in order.
 fn inputs_of(alloc: Global, net: &Net) -> Result<Vec<Sig>, AllocError>
     ensures { IfOk result (λ v. numbers v.items ≡ inputs_of net.now) }
 {
@@ -174,7 +174,7 @@ fn push_input(inputs: &mut Vec<Sig>, net: &Net, signal: Sig) -> Result<(), Alloc
     }
 }
 
-// The registers, with their next signals.
+// The registers of a net, in order, with their next signals.
 fn registers_of(alloc: Global, net: &Net) -> Result<Vec<Register>, AllocError>
     requires { AllSet net.now }
     ensures { IfOk result (λ v. AreRegisters net.now (length net.now.signals) v.items) }
@@ -232,7 +232,7 @@ fn states_of(alloc: Global, net: &Net, registers: &[Register]) -> Result<Vec<Raw
     Ok(numbers)
 }
 
-// Each register's number at reset, and 0 for all else.
+// The number of each signal at reset: a register's reset number, and 0 for other signals.
 fn resets(alloc: Global, net: &Net) -> Result<Vec<Raw>, AllocError>
     ensures { IfOk result (λ v. v.items ≡ resets net.now) }
 {

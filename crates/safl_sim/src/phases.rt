@@ -1,4 +1,6 @@
 //! The phases of a cycle.
+//!
+//! The inputs get their words, the registers are shown, the steps are evaluated, and the next state is kept.
 
 ghost use Rattle.std.specs.Prelude.{◌≡◌, ℕ, ◌+◌, ◌*◌, ◌<◌, ◌≤◌, ◌^◌, List, length, Some, slice_get, slice_set, slice_index, false, true};
 ghost use Rattle.safl_net.specs.declared.cell.Sig.{Sig};
@@ -21,7 +23,7 @@ use crate::step::{Action, Group, Register, Step, act, act_low, choose};
 use safl_net::Sig;
 use safl_word::{Numbers, Raw, Word, low_half};
 
-/// Gives a place its number, and marks its readers where that is new.
+/// Writes a number to a place, and marks the place's readers if the number is new there.
 #[inline(always)]
 pub fn give(values: &mut Numbers, marks: &mut Marks, plan: &Plan, place: u32, number: Raw)
     requires lists { HasLists plan.now values.old marks.old }
@@ -34,7 +36,7 @@ pub fn give(values: &mut Numbers, marks: &mut Marks, plan: &Plan, place: u32, nu
     }
 }
 
-// Writes a number to a place, and answers whether it is new there.
+// Writes a number to a place, and says whether it is new there.
 #[inline(always)]
 fn renew(values: &mut Numbers, place: usize, number: Raw) -> bool
     requires { place < length values.old }
@@ -48,7 +50,8 @@ fn renew(values: &mut Numbers, place: usize, number: Raw) -> bool
     true
 }
 
-// The same where both numbers have at most 64 bits. It has no jump that depends on the numbers.
+// Writes a number of at most 64 bits to a place that has at most 64 bits, and says whether it is new there. No jump
+// depends on the numbers.
 #[inline(always)]
 fn renew_low(values: &mut Numbers, place: usize, number: u64) -> bool
     requires within { place < length values.old }
@@ -61,7 +64,7 @@ fn renew_low(values: &mut Numbers, place: usize, number: u64) -> bool
     new
 }
 
-// The same where the place is a register's.
+// Writes a number to the place of a register, and says whether it is new there.
 #[inline(always)]
 fn renew_register(values: &mut Numbers, register: Register, number: Raw) -> bool
     requires within { register.signal.0 < length values.old }
@@ -77,7 +80,7 @@ fn renew_register(values: &mut Numbers, register: Register, number: Raw) -> bool
     }
 }
 
-/// Writes the words to the inputs.
+/// Writes the words of a cycle to the inputs.
 pub fn put_words(values: &mut Numbers, marks: &mut Marks, plan: &Plan, words: &[Word])
     requires lists { HasLists plan.now values.old marks.old }
     requires long { length plan.now.inputs.items ≡ length words.now }
@@ -92,7 +95,7 @@ pub fn put_words(values: &mut Numbers, marks: &mut Marks, plan: &Plan, words: &[
     }
 }
 
-/// Shows a number as that of a register.
+/// Writes the number of a register to its place, so that its readers see it.
 #[inline(always)]
 pub fn show(
     values: &mut Numbers,
@@ -113,7 +116,7 @@ pub fn show(
     }
 }
 
-/// Shows the waiting registers of a word.
+/// Shows those registers of a word of marks that wait to be shown.
 #[inline(always)]
 pub fn show_word(
     values: &mut Numbers,
@@ -134,7 +137,7 @@ pub fn show_word(
     ensures goes { RegistersGoOn plan.now state.now values.old values.new marks.old marks.new }
 {
     let mut held = waiting.get(word);
-    // No register before this one waits any longer. It tells why the loop ends, as in `run_word`.
+    // No register before this one waits any longer. As in `run_word`, this is only there to tell why the loop ends.
     let mut place = word * 64;
     'registers: while let Some(taken) = take_held(held) {
         let i = word * 64 + taken.bit;
@@ -152,7 +155,7 @@ pub fn show_word(
     waiting.put(word, 0);
 }
 
-/// Shows the registers that wait.
+/// Shows all registers that wait to be shown.
 #[inline(always)]
 pub fn show_registers(
     values: &mut Numbers,
@@ -177,7 +180,7 @@ pub fn show_registers(
     }
 }
 
-// The number of a register's next signal.
+// The number that a register's next signal has.
 #[inline(always)]
 fn next_number(values: &Numbers, register: Register) -> Raw
     requires within { register.next.0 < length values.now }
@@ -192,7 +195,7 @@ fn next_number(values: &Numbers, register: Register) -> Raw
     }
 }
 
-/// Keeps the number of a register's next signal as its state.
+/// Keeps the number of a register's next signal as the register's state.
 #[inline(always)]
 pub fn keep(state: &mut [Raw], registers: &[Register], values: &Numbers, k: usize)
     requires known { k < length registers.now }
@@ -204,8 +207,8 @@ pub fn keep(state: &mut [Raw], registers: &[Register], values: &Numbers, k: usiz
     state[k] = next_number(values, registers[k]);
 }
 
-/// Keeps the marked registers of a word of marks, and lets them wait to be shown. The marks of registers begin with a word of
-/// their own, so that those of a word wait all at once.
+/// Keeps the state of the marked registers of a word of marks, and lets them wait to be shown. The marks of registers
+/// begin with a word of their own, so those of a word wait all at once.
 #[inline(always)]
 pub fn keep_word(
     state: &mut [Raw],
@@ -225,7 +228,7 @@ pub fn keep_word(
 {
     let mut held = marks.get(word);
     waiting.join(word - first, held);
-    // No register before this one is marked any longer. It tells why the loop ends, as in `run_word`.
+    // No register before this one is marked any longer. As in `run_word`, this is only there to tell why the loop ends.
     let mut place = word * 64;
     'registers: while let Some(taken) = take_held(held) {
         let k = (word - first) * 64 + taken.bit;
@@ -236,7 +239,7 @@ pub fn keep_word(
     marks.put(word, 0);
 }
 
-/// Keeps the numbers of the next signals as the state of the registers that are marked, and lets these wait.
+/// Keeps the numbers of next signals as the state of all marked registers, and lets these wait to be shown.
 #[inline(always)]
 pub fn keep_registers(
     state: &mut [Raw],
@@ -260,7 +263,7 @@ pub fn keep_registers(
     }
 }
 
-// Evaluates a step, and answers whether its wire's number is new.
+// Evaluates a step, and says whether its wire's number is new.
 #[inline(always)]
 fn act_anew(values: &mut Numbers, step: &Step) -> bool
     requires within { step.now.wire.0 < length values.old }
@@ -275,7 +278,8 @@ fn act_anew(values: &mut Numbers, step: &Step) -> bool
     }
 }
 
-// The same where there may be more than 64 bits. It stands apart, so that the loop over narrow steps keeps what it needs in registers.
+// Evaluates a step that may have more than 64 bits, and says whether its wire's number is new. It is a function of its
+// own so that the loop over narrow steps keeps what it needs in registers.
 #[inline(never)]
 fn act_wide(values: &mut Numbers, step: &Step) -> bool
     requires within { step.now.wire.0 < length values.old }
@@ -288,8 +292,8 @@ fn act_wide(values: &mut Numbers, step: &Step) -> bool
     renew(values, step.wire.0 as usize, number)
 }
 
-/// Evaluates a step with a mask of its near readers. Where its wire's number is new, it marks what else reads the wire, and
-/// answers the mask.
+/// Evaluates a step. If its wire's number is new, marks the readers of the wire that are not near, and returns the mask
+/// of the near ones.
 #[inline(always)]
 pub fn evaluate(values: &mut Numbers, marks: &mut Marks, plan: &Plan, step: &Step, near: u64) -> u64
     requires lists { HasLists plan.now values.old marks.old }
@@ -300,7 +304,8 @@ pub fn evaluate(values: &mut Numbers, marks: &mut Marks, plan: &Plan, step: &Ste
     ensures long { length marks.new ≡ length marks.old }
     ensures given { Evaluates plan.now step.now near result values.old values.new marks.old marks.new }
 {
-    // A choice, as most steps are, has the rest of the way for itself: no jump leads from it to what all others share.
+    // Most steps are choices. What follows a choice is written out for it, so that no jump leads to the code that the
+    // others share.
     if let Action::Choose(c, a, b) = step.action {
         let chosen = choose(Raw::from(values.get_low(c as usize)), a, b);
         let number = values.get_low(chosen as usize);
@@ -317,18 +322,18 @@ pub fn evaluate(values: &mut Numbers, marks: &mut Marks, plan: &Plan, step: &Ste
     near
 }
 
-/// How the steps of a cycle are run.
+/// Which steps are evaluated in a cycle.
 #[derive(Clone, Copy, PartialEq, Eq)]
 pub enum Pace {
     /// All steps, marked or not.
     All,
-    /// The marked steps.
+    /// Only the marked steps.
     Marked,
-    /// The marked steps, and they are counted.
+    /// Only the marked steps, and they are counted.
     Counted,
 }
 
-/// Evaluates the marked steps of a word, and answers how many there were, if they are counted.
+/// Evaluates the marked steps of a word of marks. Returns their number if they are counted, else 0.
 #[inline(always)]
 pub fn run_word(
     values: &mut Numbers,
@@ -350,10 +355,11 @@ pub fn run_word(
     let mut held = marks.get(word);
     let turn = usize::from(counted);
     let mut count = 0;
-    // No step before this one is marked any longer. Nothing that runs reads it: it tells why the loop ends.
+    // No step before this one is marked any longer. The program does not read it: it is only there to tell why the loop
+    // ends.
     let mut place = word * 64;
     'steps: while let Some(taken) = take_held(held) {
-        // The mask is read before the step is: which step comes next is not known without it.
+        // The mask is read before the step, since which step comes next is not known without the mask.
         let near = masks[taken.bit];
         held = taken.left | evaluate(values, marks, plan, &steps[taken.bit], near);
         count += turn;
@@ -363,8 +369,8 @@ pub fn run_word(
     count
 }
 
-/// Evaluates the marked steps in turn, and answers how many there were, if they are counted.
-// So that there is a loop without a count.
+/// Evaluates the marked steps in order. Returns their number if they are counted, else 0.
+// Inlined, so that one of its two copies has a loop that does not count.
 #[inline(always)]
 pub fn run_marked(values: &mut Numbers, marks: &mut Marks, plan: &Plan, counted: bool) -> usize
     requires few { length marks.old ≤ 2 ^ 32 }
@@ -382,7 +388,7 @@ pub fn run_marked(values: &mut Numbers, marks: &mut Marks, plan: &Plan, counted:
     count
 }
 
-/// Evaluates all steps in turn.
+/// Evaluates all steps in order.
 pub fn run_all(values: &mut Numbers, steps: &[Step])
     requires { AllReady steps.now values.old }
     ensures { values.new ≡ after_steps steps.now values.old }
@@ -392,7 +398,7 @@ pub fn run_all(values: &mut Numbers, steps: &[Step])
     }
 }
 
-// Evaluates a step.
+// Evaluates a step, and marks nothing.
 #[inline(always)]
 fn write(values: &mut Numbers, step: &Step)
     requires within { step.now.wire.0 < length values.old }
@@ -410,8 +416,8 @@ fn write(values: &mut Numbers, step: &Step)
     }
 }
 
-/// Evaluates all steps, and marks all registers, or the marked steps alone, and answers how many were marked, if they
-/// are counted.
+/// Evaluates all steps and marks all registers, or evaluates only the marked steps. Returns the number of marked steps
+/// if they are counted, else 0.
 pub fn run_steps(values: &mut Numbers, marks: &mut Marks, plan: &Plan, pace: Pace) -> usize
     requires few { length marks.old ≤ 2 ^ 32 }
     requires runs { (o : Order) × (held : List ℕ) × (start : List ℕ) × RunsPlan o plan.now plan.now.registers.items held start 0 values.old marks.old }
@@ -432,8 +438,8 @@ pub fn run_steps(values: &mut Numbers, marks: &mut Marks, plan: &Plan, pace: Pac
     }
 }
 
-/// The rest of a cycle in which the inputs have their words. It evaluates all steps, or those that are marked, and
-/// answers how many were marked, if they are counted.
+/// Runs the rest of a cycle whose inputs have their words. `pace` says which steps are evaluated. Returns the number of
+/// marked steps if they are counted, else 0.
 #[inline(always)]
 pub fn proceed(
     values: &mut Numbers,
@@ -454,7 +460,8 @@ pub fn proceed(
     count
 }
 
-/// A cycle. It evaluates all steps, or those that are marked, and answers how many were marked, if they are counted.
+/// Runs a cycle with these words of the inputs. `pace` says which steps are evaluated. Returns the number of marked
+/// steps if they are counted, else 0.
 pub fn cycle(
     values: &mut Numbers,
     state: &mut [Raw],

@@ -1,4 +1,4 @@
-//! What a simulator keeps as it is.
+//! The plan of a simulation: the parts of a simulator that never change.
 
 ghost use Rattle.safl_sim.specs.Nears.{AreNear, AreGrouped};
 ghost use Rattle.std.specs.Prelude.{◌≡◌, length};
@@ -7,9 +7,11 @@ ghost use Rattle.safl_sim.specs.Guards.{AreGuards, AreGuards-prop};
 use crate::step::{Group, Guard, Register, Step};
 use safl_net::Sig;
 
-/// The steps in an order of evaluation with the masks of their near readers, the inputs, the registers with a group of
-/// their readers, and what reads each place. That of place `p` is `readers[starts[p]..starts[p + 1]]`, by its mark: of
-/// steps that have it as an operand, and of registers that have it as their next signal. Each reader has a guard.
+/// The plan of a simulation: the steps, in an order of evaluation, with the masks of their near readers; the inputs;
+/// the registers, with the groups of their near readers; and the readers of each place.
+///
+/// The readers of place `p` are `readers[starts[p]..starts[p + 1]]`, by the numbers of their marks: steps with the
+/// place as an operand, and registers with it as their next signal. Each reader has a guard.
 #[derive(Drop)]
 pub struct Plan {
     pub steps: Vec<Step>,

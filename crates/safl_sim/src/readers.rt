@@ -1,4 +1,4 @@
-//! Which readers of a place are marked where its number is new.
+//! Marking the readers of a place whose number is new.
 
 ghost use Rattle.std.specs.Prelude.{◌≡◌, ℕ, ◌+◌, ◌/◌, ◌<◌, ◌≤◌, length, Some, slice_get, slice_index, false};
 ghost use Rattle.safl_sim.specs.Guards.{Unseen};
@@ -10,10 +10,10 @@ use crate::plan::Plan;
 use crate::step::{Group, Guard};
 use safl_word::Numbers;
 
-// Of so many readers and more, those that are blind to the place are sought. It is a matter of speed alone.
+// With at least this many readers, those that are blind to the place are left out. This matters for speed alone.
 const MANY: u32 = 8;
 
-/// Marks a part of the readers of a place, but where they are many, no step that is blind to the place.
+/// Marks some of the readers of a place. If they are many, it leaves out steps that are blind to the place.
 #[inline(always)]
 pub fn mark_readers(values: &Numbers, marks: &mut Marks, plan: &Plan, from: u32, to: u32)
     requires ordered { from ≤ to }
@@ -21,7 +21,7 @@ pub fn mark_readers(values: &Numbers, marks: &mut Marks, plan: &Plan, from: u32,
     requires known { (j k : ℕ) → slice_get plan.now.readers.items j ≡ Some k → k / 64 < length marks.old }
     ensures { (p : ℕ) → IsPart plan.now.starts.items p from to → MarksPart plan.now from to p values.now marks.old marks.new }
 {
-    // Not `==`: so the compiler knows that the loop has a first reader.
+    // Not `==`, so that the compiler knows that the loop has a first reader.
     if from >= to {
         return;
     }
@@ -34,7 +34,8 @@ pub fn mark_readers(values: &Numbers, marks: &mut Marks, plan: &Plan, from: u32,
     }
 }
 
-// The same, but no step that is blind to the place. It stands apart, as few places have many readers.
+// Marks some of the readers of a place, but no step that is blind to the place. It is a function of its own, as few
+// places have many readers.
 #[inline(never)]
 fn mark_seeing(values: &Numbers, marks: &mut Marks, plan: &Plan, from: u32, to: u32)
     requires ordered { from ≤ to }
@@ -49,7 +50,7 @@ fn mark_seeing(values: &Numbers, marks: &mut Marks, plan: &Plan, from: u32, to: 
     }
 }
 
-// Whether a guard lets a reader look.
+// Whether a guard lets its reader look.
 #[inline(always)]
 fn sees(values: &Numbers, guard: Guard) -> bool
     ensures { result ≡ false → Unseen (slice_index values.now) guard }
@@ -61,7 +62,7 @@ fn sees(values: &Numbers, guard: Guard) -> bool
     }
 }
 
-/// Marks a group of the readers of a place at once, and its others as `mark_readers` does.
+/// Marks the near readers of a register at once, and its other readers as `mark_readers` does.
 #[inline(always)]
 pub fn mark_group(values: &Numbers, marks: &mut Marks, plan: &Plan, group: Group)
     requires group { (p : ℕ) × (p + 1 < length plan.now.starts.items) × HasGroup plan.now p group }

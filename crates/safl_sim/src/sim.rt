@@ -10,16 +10,16 @@ use safl_word::{Numbers, Raw, Word};
 use std::alloc::Global;
 use std::marker::Model;
 
-// After a tick that counts the marked steps, so many evaluate all steps, or the marked ones without a count.
+// After a tick that counts the marked steps, this many ticks evaluate all steps, or the marked ones without counting.
 const TICKS_A_COUNT: u8 = 15;
 
-// In the first tick all steps are marked, whatever the net, so the second is the first that counts.
+// In the first tick all steps are marked in any net, so the second tick is the first that counts.
 const FIRST: Turns = Turns {
     pace: Pace::Marked,
     more: 0,
 };
 
-// The pace of a tick, and how many more ticks have the same.
+// The pace of the next tick, and how many more ticks have the same pace.
 #[derive(Clone, Copy)]
 struct Turns {
     pace: Pace,
@@ -34,7 +34,7 @@ pub struct Sim {
     marks: Marks,
     waiting: Marks,
     turns: Turns,
-    // by register
+    // For each register, its state.
     state: Vec<Raw>,
     values: Numbers,
 }
@@ -58,7 +58,7 @@ impl Sim {
     ghost use Rattle.safl_sim.specs.Places.{AreInputs, HasWords, resets};
     ghost use Rattle.safl_sim.specs.Simulation.{Ticks};
 
-    /// The simulator of a net at reset. The error is lack of memory; no other call takes any.
+    /// The simulator of a net at reset. The error is out of memory; no other call takes memory.
     pub fn new(alloc: Global, ordered: Ordered) -> Result<Sim, Ordered>
         ensures made { IfOk result (λ s. s ≡ record { net = ordered.net; state = resets ordered.net; values = resets ordered.net }) }
         ensures refused { IfErr result (λ o. o ≡ ordered) }
@@ -84,14 +84,15 @@ impl Sim {
         self.ordered.net()
     }
 
-    /// The net with its order, so without loops.
+    /// The net with its order of evaluation, which shows that it has no loops.
     pub fn ordered(&self) -> &Ordered
         ensures { result.now.net ≡ self.now.net }
     {
         &self.ordered
     }
 
-    /// The word of a signal in the cycle of the last tick; before the first, a register's word at reset, and else 0.
+    /// The word of a signal in the last cycle. Before the first tick it is a register's word at reset, and 0 for other
+    /// signals.
     pub fn value(&self, s: Sig) -> Word
         requires { s.0 < length self.now.net.signals }
         ensures { result ≡ record { width = width_of self.now.net s.0; bits = slice_index self.now.values s.0 } }
@@ -99,7 +100,7 @@ impl Sim {
         Word::from_parts(self.ordered.net().width(s), self.values.get(s.0 as usize))
     }
 
-    /// Whether a signal of one bit is 1 in the cycle of the last tick.
+    /// Whether a signal of one bit is 1 in the last cycle.
     #[inline(always)]
     pub fn is_on(&self, s: Sig) -> bool
         requires known { s.0 < length self.now.net.signals }
@@ -110,8 +111,8 @@ impl Sim {
         self.values.is_one(s.0 as usize)
     }
 
-    /// A cycle: the values become the one valuation that fits the register state and the inputs, one word for each
-    /// in order, and the register state becomes the next one.
+    /// Runs a cycle. `inputs` has a word for each input, in order. The values become the one valuation that fits the
+    /// register state and these words, and the register state becomes the next one.
     pub fn tick(&mut self, inputs: &[Word])
         requires { AreInputs self.old.net inputs.now }
         ensures { Ticks self.old self.new inputs.now }
@@ -128,8 +129,9 @@ impl Sim {
         self.turns = next_turns(self.turns, count, self.plan.steps.len());
     }
 
-    /// A cycle in which the inputs keep their words.
-    // It stands apart, so that each program has the same code for it.
+    /// Runs a cycle in which the inputs keep their words.
+    // Never inlined, so that where its code lies does not depend on its caller: speed depends on that. The loops over
+    // steps are not in it but in `run_steps`, which `tick` calls too.
     #[inline(never)]
     pub fn tick_again(&mut self)
         ensures { (words : List Word) → HasWords self.old.net self.old.values words → Ticks self.old self.new words }
@@ -146,9 +148,8 @@ impl Sim {
     }
 }
 
-// The pace of the tick after one that had the pace of these turns. Where most steps are marked, looking for marks takes
-// longer than it saves, so all are evaluated then. A count takes time too, so one tick in sixteen counts. It is a matter
-// of speed alone.
+// The pace of the tick after these turns. If most steps are marked, looking for marks takes longer than it saves, so
+// all steps are evaluated. Counting takes time too, so only one tick in sixteen counts. This matters for speed alone.
 fn next_turns(turns: Turns, marked: usize, steps: usize) -> Turns {
     if turns.more > 0 {
         return Turns {

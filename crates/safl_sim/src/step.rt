@@ -1,4 +1,4 @@
-//! Steps that are prepared for evaluation.
+//! Steps: the cells of a net, prepared for evaluation.
 
 ghost use Rattle.std.specs.Prelude.{◌≡◌, ◌⊎◌, ℕ, ◌+◌, ◌*◌, ◌^◌, ◌<◌, [], ◌∷◌, length, slice_index, Some, IsSome, IfSome, IfNone, true, false};
 ghost use Rattle.safl_word.specs.Words.{Word, pick};
@@ -13,19 +13,19 @@ ghost use Rattle.safl_sim.specs.Steps.{PlainReady, Ready, PlainLow, LowOf, is_lo
 use safl_net::{Cell, Net, Op, Sig};
 use safl_word::{LOW_MAX, Numbers, Primitive, Raw, Word, apply, narrow_one, narrow_two};
 
-// 2 to the 32nd, one more than the greatest quarter of a number.
+// 2^32: one more than the greatest quarter of a number.
 const QUARTER: Raw = 0x1_0000_0000;
 
-/// What a step does, on the numbers at places. But for the last four, an action works on at most 64 bits, and gives no
-/// more.
+/// What a step does with the numbers at some places. All actions but the last four take and give at most 64 bits.
 #[derive(Clone, Copy)]
 pub enum Action {
-    /// A condition, what is taken where it is 1, and else. A copy is the choice between a place and itself.
+    /// The place of the condition, the place that is taken if it is 1, and the place that is taken otherwise. A copy is
+    /// the choice between a place and itself.
     Choose(u32, u32, u32),
-    /// A primitive on an operand of a width, and on two.
+    /// A primitive on an operand of this width.
     One(Primitive, u8, u32),
     Two(Primitive, u8, u8, u32, u32),
-    /// The commonest primitives have variants of their own, so that a step is evaluated with one jump.
+    /// The most frequent primitives have variants of their own, so that evaluating a step takes one jump.
     Not(u8, u32),
     Add(u8, u8, u32, u32),
     Sub(u8, u8, u32, u32),
@@ -35,18 +35,18 @@ pub enum Action {
     Eq(u8, u8, u32, u32),
     Shl(u8, u8, u32, u32),
     Shr(u8, u8, u32, u32),
-    /// The ends of a slice, the high one first, and the width and the place of its operand.
+    /// The high and the low end of a slice, and the width and the place of its operand.
     Bits(u8, u8, u8, u32),
-    /// The quarters of a number of 128 bits, the lowest first. As halves they would make every step longer by 8 bytes.
+    /// The four quarters of a number of 128 bits, the lowest first. Two halves would make every step 8 bytes longer.
     Const(u32, u32, u32, u32),
-    /// A choice, and a primitive on one operand and on two, where there may be more than 64 bits.
+    /// A choice, and primitives on one and on two operands, that may have more than 64 bits.
     WideChoose(u32, u32, u32),
     WideOne(Primitive, u8, u32),
     WideTwo(Primitive, u8, u8, u32, u32),
 }
 
-/// Which of the steps that read a step's wire stand in the step's own word of marks, by a bit for each, and where its
-/// other readers begin and end.
+/// The readers of a step's wire: for those whose marks are in the step's own word, a bit for each; for the others,
+/// where they begin and end in the list of readers.
 #[derive(Clone, Copy)]
 pub struct Near {
     pub mask: u64,
@@ -54,16 +54,16 @@ pub struct Near {
     pub end: u32,
 }
 
-/// Those of a register's readers that have their marks in the word of its first reader, by a bit for each, and where its
-/// other readers begin and end.
+/// The readers of a register: for those whose marks are in one word with the first reader, that word and a bit for
+/// each; for the others, where they begin and end in the list of readers.
 #[derive(Clone, Copy)]
 pub struct Group {
     pub word: u32,
     pub near: Near,
 }
 
-/// When a reader of a place looks at it: always, or only if the number at a place is 1, or only if it is not. Any other
-/// time it is blind to the place.
+/// When a reader of a place looks at the place: always, only if the number at another place is 1, or only if it is not.
+/// Otherwise the reader is blind to the place.
 #[derive(Clone, Copy)]
 pub enum Guard {
     Always,
@@ -71,7 +71,7 @@ pub enum Guard {
     Unless(u32),
 }
 
-/// A wire, what gives it its number, and where its readers that are not near begin and end.
+/// A wire, the action that gives its number, and where its readers that are not near begin and end.
 #[derive(Clone, Copy)]
 pub struct Step {
     pub wire: Sig,
@@ -88,8 +88,8 @@ pub struct Register {
     pub narrow: bool,
 }
 
-/// The number that an action gives, where there may be more than 64 bits.
-// Both loops over the steps call this and `act_low`: without the attribute they are inlined in neither.
+/// The number that an action gives. It may have more than 64 bits.
+// Both loops over the steps call this and `act_low`. Without the attribute the compiler inlines them in neither.
 #[inline(always)]
 pub fn act(action: &Action, values: &Numbers) -> Raw
     requires ready { Ready values.now action.now }
@@ -111,8 +111,8 @@ pub fn act(action: &Action, values: &Numbers) -> Raw
     }
 }
 
-/// The number that an action gives, if it is one for at most 64 bits. So one jump tells what a step does, and whether it
-/// is narrow.
+/// The number that an action gives, if it is one for at most 64 bits. So a single jump decides what a step does and
+/// whether it is narrow.
 #[inline(always)]
 pub fn act_low(action: &Action, values: &Numbers) -> Option<u64>
     requires ready { Ready values.now action.now }
@@ -149,7 +149,7 @@ pub fn act_low(action: &Action, values: &Numbers) -> Option<u64>
     })
 }
 
-/// The first place where the condition is 1, and else the second: so one number is read and no jump is guessed.
+/// Place `a` if the condition is 1, else place `b`. So only one number is read, and no jump is guessed.
 #[inline(always)]
 pub fn choose(condition: Raw, a: u32, b: u32) -> u32
     ensures { result ≡ pick condition a b }
@@ -164,7 +164,7 @@ fn apply_one(p: Primitive, a: Word) -> Raw
     apply(p, &[a]).bits()
 }
 
-// What a primitive gives on the numbers at two places.
+// The result of a primitive on the numbers at two places.
 fn wide_pair(values: &Numbers, p: Primitive, width: u8, other: u8, a: u32, b: u32) -> Raw
     requires { PlainReady values.now (Binary p width other a b) }
     ensures { result ≡ plain_number (slice_index values.now) (Binary p width other a b) }
@@ -174,7 +174,8 @@ fn wide_pair(values: &Numbers, p: Primitive, width: u8, other: u8, a: u32, b: u3
     apply(p, &[first, second]).bits()
 }
 
-// The same, where all that it works on and gives has at most 64 bits. Where the primitive is known, its match is no jump.
+// The result of a primitive on the numbers at two places, if operands and result have at most 64 bits. Where the
+// primitive is known, the match takes no jump.
 #[inline(always)]
 fn low_pair(values: &Numbers, p: Primitive, width: u8, other: u8, a: u32, b: u32) -> u64
     requires ready { PlainReady values.now (Binary p width other a b) }
@@ -190,7 +191,7 @@ fn low_pair(values: &Numbers, p: Primitive, width: u8, other: u8, a: u32, b: u32
     )
 }
 
-/// The action of a wire's cell: one for at most 64 bits only if the wire and the operands have no more.
+/// The action of a wire's cell. It is one for at most 64 bits only if the wire and all operands have no more.
 pub fn fitting_action(net: &Net, starts: &[u32], wire: Sig, cell: &Cell) -> Action
     requires netlist { IsNetlist net.now }
     requires known { wire.0 < length net.now.signals }
@@ -206,7 +207,7 @@ pub fn fitting_action(net: &Net, starts: &[u32], wire: Sig, cell: &Cell) -> Acti
     }
 }
 
-// What does the same where there may be more than 64 bits.
+// The action that does the same with numbers of more than 64 bits.
 fn widened(action: Action) -> Action
     ensures same { plain result ≡ plain action }
     ensures wide { is_low result ≡ false }
@@ -232,7 +233,6 @@ fn widened(action: Action) -> Action
     }
 }
 
-// The action of a cell.
 fn action_of(net: &Net, starts: &[u32], cell: &Cell) -> Action
     requires netlist { IsNetlist net.now }
     requires fits { (width : ℕ) × CellFits net.now width (cell_of cell.now) }
@@ -253,7 +253,7 @@ fn action_of(net: &Net, starts: &[u32], cell: &Cell) -> Action
     }
 }
 
-// The action of a primitive on two operands. "And" and "or" of single bits are choices, as most steps are.
+// The action of a primitive on two operands. "And" and "or" of single bits become choices, as most steps are.
 fn pair(net: &Net, starts: &[u32], p: Primitive, a: Sig, b: Sig) -> Action
     requires netlist { IsNetlist net.now }
     requires fits { (width : ℕ) × CellFits net.now width (cell_on (Op.Apply p) (a ∷ b ∷ [])) }
@@ -267,7 +267,7 @@ fn pair(net: &Net, starts: &[u32], p: Primitive, a: Sig, b: Sig) -> Action
     }
 }
 
-// The action of a primitive on an operand of a width.
+// The action of a primitive on one operand of this width.
 fn one(p: Primitive, width: u8, a: u32) -> Action
     ensures { plain result ≡ Unary p width a }
 {
@@ -295,8 +295,8 @@ fn two(p: Primitive, width: u8, other: u8, a: u32, b: u32) -> Action
     }
 }
 
-// The "and" of two bits. Where its condition is 0, it is blind to the other bit; so the condition is the one that has
-// fewer readers. It is a matter of speed alone.
+// The "and" of two bits, as a choice. When its condition is 0, it is blind to the other bit, so the condition is the
+// bit with fewer readers. This matters for speed alone.
 fn both(starts: &[u32], a: Sig, b: Sig) -> Action
     ensures { (result ≡ Action.Choose a.0 b.0 a.0) ⊎ (result ≡ Action.Choose b.0 a.0 b.0) }
 {
@@ -310,7 +310,7 @@ fn both(starts: &[u32], a: Sig, b: Sig) -> Action
     Action::Choose(a.0, b.0, a.0)
 }
 
-// The action of a constant.
+// The action of a cell that is a constant.
 fn constant(op: &Op) -> Action
     requires { (w : Word) × (op.now ≡ Op.Const w) }
     ensures { (w : Word) → op.now ≡ Op.Const w → plain result ≡ Constant w.bits }
@@ -336,7 +336,7 @@ fn from_quarters(a: u32, b: u32, c: u32, d: u32) -> Raw
     Raw::from(a) + QUARTER * (Raw::from(b) + QUARTER * (Raw::from(c) + QUARTER * Raw::from(d)))
 }
 
-// Whether a wire has at most 64 bits, and so have the operands of its cell.
+// Whether a wire and all operands of its cell have at most 64 bits.
 fn is_narrow(net: &Net, wire: Sig, cell: &Cell) -> bool
     requires known { wire.0 < length net.now.signals }
     requires fits { (width : ℕ) × CellFits net.now width (cell_of cell.now) }

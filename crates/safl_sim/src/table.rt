@@ -1,4 +1,4 @@
-//! What reads each place.
+//! The table of what reads each place.
 
 ghost use Rattle.std.specs.Prelude.{◌≡◌, ℕ, ◌+◌, ◌^◌, ◌<◌, List, length, slice_get, Some, IfOk};
 ghost use Rattle.safl_net.specs.Netlist.{AllSet};
@@ -16,14 +16,14 @@ use crate::step::Register;
 use safl_net::{Net, Sig};
 use std::alloc::{AllocError, Global};
 
-/// What reads each place, place by place.
+/// The readers of all places, place by place.
 #[derive(Drop)]
 pub struct Table {
     pub starts: Vec<u32>,
     pub readers: Vec<u32>,
 }
 
-/// The table of a net's steps and registers. A list is made from its last number on, so that it ascends.
+/// The table of a net's steps and registers. Each list is made from its last number to its first, so that it ascends.
 pub fn table_of(
     alloc: Global,
     net: &Net,
@@ -47,7 +47,7 @@ pub fn table_of(
     Ok(table)
 }
 
-// Puts the marks of the registers, which begin with `first`, on the lists of their next signals.
+// Puts registers on the lists of their next signals. Their marks are numbered from `first` on.
 fn push_nexts(lists: &mut Chains, registers: &[Register], first: usize) -> Result<(), AllocError>
     requires few { first + length registers.now < 2 ^ 40 }
     requires within { HaveNextsBelow registers.now (length lists.old) }
@@ -63,7 +63,7 @@ fn push_nexts(lists: &mut Chains, registers: &[Register], first: usize) -> Resul
     Ok(())
 }
 
-// Puts the steps of wires on the lists of their operands.
+// Puts steps on the lists of their operands.
 fn push_steps(lists: &mut Chains, net: &Net, wires: &[Sig]) -> Result<(), AllocError>
     requires few { length wires.now < 2 ^ 32 }
     requires netlist { IsNetlist net.now }
@@ -105,7 +105,7 @@ fn push_operands(lists: &mut Chains, operands: &[Sig], k: u32) -> Result<(), All
     Ok(())
 }
 
-// The lists laid out one after another.
+// The lists, laid out one after another.
 fn flatten(alloc: Global, lists: &Chains, count: u32) -> Result<Table, AllocError>
     requires { length lists.now ≡ count }
     ensures { IfOk result (λ t. AreFlat lists.now t.starts.items t.readers.items (length lists.now)) }
@@ -122,7 +122,7 @@ fn flatten(alloc: Global, lists: &Chains, count: u32) -> Result<Table, AllocErro
     Ok(Table { starts, readers })
 }
 
-// A number in 32 bits. Tables that had more would not fit into memory.
+// A number in 32 bits. A larger table would not fit into memory.
 fn narrowed(number: usize) -> Result<u32, AllocError>
     ensures { IfOk result (λ k. k ≡ number) }
 {

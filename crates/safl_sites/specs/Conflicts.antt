@@ -1,16 +1,16 @@
--- Which sites a term reaches, and which of them conflict.
+-- Which sites are in reach of a term, and which sites conflict.
 use Rattle.std.specs.Prelude.{◌≡◌, ◌≢◌, ℕ, ◌<◌, ◌⊎◌}
 use Rattle.safl_term.specs.Program.{Program, unit_for}
 use Rattle.safl_term.specs.Terms.{Term, Terms, Const, Var, Op, If, Let, Call, Loop, Nil, Cons}
 use Rattle.safl_term.specs.Standing.{Stands}
 
--- site k is in reach of a term: it stands there, or it is in reach of the body of a member of a group that is called
--- there. A loop adds nothing but the sites in its arguments
+-- Site k is in reach of a term: it is in the term, or in reach of the body of a function in a group that the term calls. A loop
+-- adds nothing but the sites in its arguments.
 pub data Reaches (C : Program) (k : ℕ) : Term → Type 0 where
   Here : {t : Term} → Stands k t → Reaches C k t
   Through : {t : Term} (a g : ℕ) → Stands a t → g < C.functions → C.unit g ≡ C.unit (C.callee a) → Reaches C k (C.body g) → Reaches C k t
 
--- in reach of one of the terms
+-- site k is in reach of one of the terms
 unfoldable pub ReachesIn : Program → ℕ → Terms → Type 0
 ReachesIn C k Nil = ⊥
 ReachesIn C k (Cons t ts) = Reaches C k t ⊎ ReachesIn C k ts
@@ -18,8 +18,8 @@ ReachesIn C k (Cons t ts) = Reaches C k t ⊎ ReachesIn C k ts
 unfoldable mutual
   unfolding ReachesIn
 
-  -- Two parallel terms in this term have j in reach of the one and k in reach of the other. Parallel are different
-  -- operands of an operator, arguments of a call or loop, and bindings of a let
+  -- Two parallel terms within the term have j in reach of the one and k in reach of the other. Parallel terms are different
+  -- operands of an operator, arguments of a call or loop, or bindings of a let.
   pub Apart : Program → ℕ → ℕ → Term → Type 0
   Apart C j k (Const n) = ⊥
   Apart C j k (Var i) = ⊥
@@ -33,7 +33,7 @@ unfoldable mutual
   ApartIn C j k Nil = ⊥
   ApartIn C j k (Cons t ts) = (Apart C j k t ⊎ ApartIn C j k ts) ⊎ ((Reaches C j t × ReachesIn C k ts) ⊎ (Reaches C k t × ReachesIn C j ts))
 
--- j and k are different sites of one unit, which two parallel terms of some body have in reach
+-- j and k are different sites of one unit, and two parallel terms of some body have them in reach
 pub record Conflict (C : Program) (j k : ℕ) : Type 0 where
   pub other : j ≢ k
   pub same : unit_for C j ≡ unit_for C k
@@ -41,6 +41,6 @@ pub record Conflict (C : Program) (j k : ℕ) : Type 0 where
   pub is_body : body < C.functions
   pub apart : Apart C j k (C.body body)
 
--- in no body do two parallel terms both have a site in reach: no two of the program's calls can overlap
+-- In no body do two parallel terms both have a site in reach, so no two of the program's calls can overlap.
 abbrev pub IsSequential : Program → Type 0
 IsSequential C = (f j k : ℕ) → f < C.functions → Apart C j k (C.body f) → ⊥

@@ -1,4 +1,4 @@
--- What a walk down a term finds of the sites whose words are kept, slot by slot.
+-- What a walk down a term finds about sites that keep their words, slot by slot.
 use Rattle.std.specs.Prelude.{◌≡◌, ◌≢◌, ℕ, ◌≤◌, List, ◌++◌, length, map, Bool, true}
 use Rattle.safl_term.specs.Program.{Program, unit_for}
 use Rattle.safl_term.specs.Terms.{Term, Terms}
@@ -11,11 +11,11 @@ use Rattle.safl_sites.specs.Reach.{MayReach, MayReachIn}
 use Rattle.safl_sites.specs.Rows.{has, Has, Adds}
 use Rattle.safl_sites.specs.Touched.{IsTouched}
 
--- of each slot, whether its row has the site
+-- for each slot, whether its set has the site
 abbrev pub fed_by : ℕ → List SiteSet → List Bool
 fed_by k rows = map (λ r. has r k) rows
 
--- k is held for another site of its unit
+-- site k is held in the term because of another site of its unit
 pub record IsHeld (C : Program) (k : ℕ) (fe : List Bool) (t : Term) : Type 0 where
   pub other : ℕ
   pub differs : k ≢ other
@@ -28,7 +28,7 @@ pub record IsHeldIn (C : Program) (k : ℕ) (fe : List Bool) (ts : Terms) : Type
   pub same : unit_for C k ≡ unit_for C other
   pub held : HeldIn C k other fe ts
 
--- k is in the row of a slot, from this one on, that is used in a let's body, which has another site of its unit in reach
+-- site k is in the set of a slot, from `low` on, that the body of a let uses, and the body has another site of its unit in reach
 pub record IsHeldHere (C : Program) (rows : List SiteSet) (low k : ℕ) (body : Term) : Type 0 where
   pub other : ℕ
   pub differs : k ≢ other
@@ -36,7 +36,7 @@ pub record IsHeldHere (C : Program) (rows : List SiteSet) (low k : ℕ) (body : 
   pub touched : IsTouched rows low k body
   pub reached : InBody C other body
 
--- the sites of the program that join a row are those that are held here
+-- the sites of the program that join a set are exactly those that are held here
 abbrev pub HoldsHere : Program → List SiteSet → ℕ → Term → SiteSet → SiteSet → Type 0
 HoldsHere C rows low body old new = (k : ℕ) → 1 ≤ k → k ≤ C.sites → Adds (Has old k) (Has new k) (IsHeldHere C rows low k body)
 
@@ -48,7 +48,7 @@ pub record MayKeepIn (C : Program) (units peers : List SiteSet) (slots : ℕ) (t
   pub reach : MayReachIn C units slots ts
   pub sites : ArePeers C C.sites peers
 
--- what a walk down a term joins to the sites that feed it, that decide and that are held
+-- what a walk down a term adds to the sites that feed it, to those that decide, and to those that are held
 pub record Walks (C : Program) (rows : List SiteSet) (f g : SiteSet) (a b : Keeping) (t : Term) : Type 0 where
   pub fed : (k : ℕ) → Adds (Has f k) (Has g k) (feeds k (fed_by k rows) t ≡ true)
   pub decided : (k : ℕ) → Adds (Has a.decides k) (Has b.decides k) (Decides k (fed_by k rows) t)
@@ -59,7 +59,7 @@ pub record WalksIn (C : Program) (rows : List SiteSet) (f g : SiteSet) (a b : Ke
   pub decided : (k : ℕ) → Adds (Has a.decides k) (Has b.decides k) (DecidesIn k (fed_by k rows) ts)
   pub kept : (k : ℕ) → 1 ≤ k → k ≤ C.sites → Adds (Has a.held k) (Has b.held k) (IsHeldIn C k (fed_by k rows) ts)
 
--- the slots get a row for each binding
+-- the slots get a set for each binding
 pub record Binds (C : Program) (rows next : List SiteSet) (a b : Keeping) (ts : Terms) : Type 0 where
   pub bound : List SiteSet
   pub joined : next ≡ rows ++ bound

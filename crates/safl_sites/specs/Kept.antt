@@ -1,19 +1,19 @@
--- Whose words a term passes on, and which sites keep their words.
+-- Which sites feed a term, and which sites keep their words.
 use Rattle.std.specs.Prelude.{◌≡◌, ◌≢◌, ℕ, zero, suc, ◌+◌, List, [], ◌∷◌, ◌++◌, length, replicate, Bool, true, false, ◌||◌, ◌==◌, ◌⊎◌}
 use Rattle.safl_term.specs.Program.{Program, unit_for, arity}
 use Rattle.safl_term.specs.Terms.{Term, Terms, Const, Var, Op, If, Let, Call, Loop, Nil, Cons}
 use Rattle.safl_sites.specs.Conflicts.{Reaches, ReachesIn, Conflict}
 
--- the i-th of a list, or false
+-- element i of a list, or false if there is none
 abbrev pub bool_at : List Bool → ℕ → Bool
 bool_at [] i = false
 bool_at (b ∷ bs) zero = b
 bool_at (b ∷ bs) (suc i) = bool_at bs i
 
 unfoldable mutual
-  -- Site k feeds the term, where the list says of each slot in scope whether k feeds it: a call is fed by its own site
-  -- alone, an operator and an if by what feeds their parts, a let by what feeds its body, a variable by what feeds its
-  -- binding; a constant, a parameter and a loop by nothing
+  -- Whether site k feeds the term. The list says of each slot in scope whether k feeds it. A call is fed by its own site alone,
+  -- an operator and an if by what feeds their parts, a let by what feeds its body, and a variable by what feeds its binding. A
+  -- constant, a parameter and a loop are fed by nothing.
   pub feeds : ℕ → List Bool → Term → Bool
   feeds k fe (Const n) = false
   feeds k fe (Var i) = bool_at fe i
@@ -32,7 +32,7 @@ unfoldable mutual
   feeds_each k fe (Cons t ts) = feeds k fe t ∷ feeds_each k fe ts
 
 unfoldable mutual
-  -- the slot is used in the term
+  -- the term uses the slot
   pub Uses : ℕ → Term → Type 0
   Uses i (Const n) = ⊥
   Uses i (Var j) = j ≡ i
@@ -49,7 +49,7 @@ unfoldable mutual
 unfoldable mutual
   unfolding feeds
 
-  -- k feeds the condition of an if in the term
+  -- k feeds the condition of an if within the term
   pub Decides : ℕ → List Bool → Term → Type 0
   Decides k fe (Const n) = ⊥
   Decides k fe (Var i) = ⊥
@@ -63,7 +63,7 @@ unfoldable mutual
   DecidesIn k fe Nil = ⊥
   DecidesIn k fe (Cons t ts) = Decides k fe t ⊎ DecidesIn k fe ts
 
--- k is in reach of a let's body; where the body is itself a call, of one of its arguments
+-- k is in reach of the body of a let. If the body is itself a call, k is in reach of one of its arguments
 unfoldable pub InBody : Program → ℕ → Term → Type 0
 unfolding ReachesIn
 InBody C k (Const n) = Reaches C k (Const n)
@@ -77,7 +77,7 @@ InBody C k (Loop h ts) = Reaches C k (Loop h ts)
 unfoldable mutual
   unfolding feeds InBody Uses
 
-  -- in a let of the term k feeds the binding of a slot that is used in the body, and j is in reach of that body
+  -- in a let within the term, k feeds the binding of a slot that the body uses, and j is in reach of that body
   pub Held : Program → ℕ → ℕ → List Bool → Term → Type 0
   Held C k j fe (Const n) = ⊥
   Held C k j fe (Var i) = ⊥
@@ -91,16 +91,16 @@ unfoldable mutual
   HeldIn C k j fe Nil = ⊥
   HeldIn C k j fe (Cons t ts) = Held C k j fe t ⊎ HeldIn C k j fe ts
 
--- the body in which site k stands, and its parameters, which no site feeds
+-- the body that has site k; and its parameters, which no site feeds
 abbrev pub home : Program → ℕ → Term
 home C k = C.body (C.caller k)
 
 abbrev pub unfed : Program → ℕ → List Bool
 unfed C k = replicate (arity C (C.caller k)) false
 
--- Why site k keeps its word: because of another site of its unit, with which it conflicts; or which is in reach of the
--- body in which k stands, where k feeds a condition of that body; or which is in reach of the body of a let there, where
--- k feeds a binding that this body uses
+-- Why site k keeps its word: because of another site of its unit. Either the two conflict; or k feeds a condition of the body
+-- that has k, and the other is in reach of that body; or k feeds a binding of a let there that the let's body uses, and the other
+-- is in reach of the let's body.
 pub record Kept (C : Program) (k : ℕ) : Type 0 where
   pub because : ℕ
   pub other : k ≢ because

@@ -1,4 +1,4 @@
--- Parallel terms, the earlier before the later.
+-- The order of parallel terms.
 use Rattle.std.specs.Prelude.{ℕ, ◌<◌, ◌⊎◌}
 use Rattle.safl_term.specs.Program.{Program}
 use Rattle.safl_term.specs.Standing.{Stands, StandsIn}
@@ -6,7 +6,7 @@ use Rattle.safl_term.specs.Terms.{Term, Terms, Const, Var, Op, If, Let, Call, Lo
 use Rattle.safl_sites.specs.Conflicts.{Reaches, ReachesIn}
 
 unfoldable mutual
-  -- two parallel terms in t have k in reach of the earlier, and have site b in the later
+  -- two parallel terms within t have k in reach of the earlier one, and site b in the later one
   pub After : Program → ℕ → ℕ → Term → Type 0
   After C k b (Const n) = ⊥
   After C k b (Var i) = ⊥
@@ -20,7 +20,8 @@ unfoldable mutual
   AfterIn C k b Nil = ⊥
   AfterIn C k b (Cons t ts) = (After C k b t ⊎ AfterIn C k b ts) ⊎ (Reaches C k t × StandsIn b ts)
 
--- what joins the row of a site that stands in the term, where those before it are parallel
+-- what joins the set of a site in the term: what the terms before it have, if they are parallel, and what earlier parallel terms
+-- within the term have
 abbrev pub Marked : Program → Type 0 → ℕ → ℕ → Term → Type 0
 Marked C before k b t = (Stands b t × before) ⊎ After C k b t
 
@@ -28,7 +29,7 @@ abbrev pub MarkedIn : Program → Type 0 → ℕ → ℕ → Terms → Type 0
 MarkedIn C before k b ts = (StandsIn b ts × before) ⊎ AfterIn C k b ts
 
 unfoldable mutual
-  -- two parallel terms in t have j in reach of the earlier and k in reach of the later
+  -- two parallel terms within t have j in reach of the earlier one and k in reach of the later one
   pub Before : Program → ℕ → ℕ → Term → Type 0
   Before C j k (Const n) = ⊥
   Before C j k (Var i) = ⊥
@@ -42,7 +43,7 @@ unfoldable mutual
   BeforeIn C j k Nil = ⊥
   BeforeIn C j k (Cons t ts) = (Before C j k t ⊎ BeforeIn C j k ts) ⊎ (Reaches C j t × ReachesIn C k ts)
 
--- in some body, j is in reach of a term and k of a later one that is parallel to it
+-- in some body, j is in reach of a term, and k is in reach of a later term that is parallel to it
 pub record ComesBefore (C : Program) (j k : ℕ) : Type 0 where
   pub body : ℕ
   pub is_body : body < C.functions

@@ -1,4 +1,4 @@
--- The terms of a well-formed body, and how they stand in it.
+-- The terms within a well-formed body, and where they are.
 use Rattle.std.specs.Prelude.{◌≡◌, ℕ, suc, ◌≤◌, List, length, Bool}
 use Rattle.safl_term.specs.Program.{Program}
 use Rattle.safl_term.specs.Terms.{Term, Terms, Nil, Cons}
@@ -9,7 +9,7 @@ abbrev pub terms_in : Terms → ℕ
 terms_in Nil = 0
 terms_in (Cons t ts) = suc (terms_in ts)
 
--- the term is part of a body of g, where so many slots are in scope
+-- the term is part of the body of g, with so many slots in scope
 pub record IsPart (C : Program) (g slots : ℕ) (t : Term) : Type 0 where
   pub tail : Bool
   pub lo : ℕ
@@ -22,7 +22,7 @@ pub record IsPart (C : Program) (g slots : ℕ) (t : Term) : Type 0 where
   pub width : ℕ
   pub typed : HasWidth C scope t width
 
--- and so are these terms, which are parallel
+-- the terms are parallel parts of the body of g, with so many slots in scope
 pub record ArePart (C : Program) (g slots : ℕ) (ts : Terms) : Type 0 where
   pub lo : ℕ
   pub hi : ℕ

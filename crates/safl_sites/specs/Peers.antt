@@ -1,10 +1,10 @@
--- The sites of each unit, as rows.
+-- The sites of each unit, as sets.
 use Rattle.std.specs.Prelude.{◌≡◌, ℕ, ◌≤◌, List, length, ◌↔◌}
 use Rattle.safl_term.specs.Program.{Program, unit_for}
 use Rattle.safl_sites.specs.declared.site_set.SiteSet.{SiteSet}
 use Rattle.safl_sites.specs.Rows.{HasAt}
 
--- site k, which is at most this one, calls unit u
+-- site k, which is at most `top`, calls unit u
 pub record IsSiteOf (C : Program) (top u k : ℕ) : Type 0 where
   pub least : 1 ≤ k
   pub most : k ≤ top

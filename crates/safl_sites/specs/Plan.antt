@@ -1,4 +1,4 @@
--- Which units have arbiters, and which sites keep their words.
+-- Plans: which units have arbiters, and which sites keep their words.
 use Rattle.std.specs.Prelude.{◌≡◌, ℕ, ◌<◌, ◌≤◌, Bool, true, ◌↔◌}
 use Rattle.safl_term.specs.Program.{Program, unit_for}
 use Rattle.safl_sites.specs.Conflicts.{Conflict}
@@ -16,12 +16,12 @@ pub record HasArbiter (C : Program) (u : ℕ) : Type 0 where
   pub conflict : Conflict C one other
   pub unit : unit_for C one ≡ u
 
--- arbiter tells exactly which units need one, and kept which sites keep their words
+-- `arbiter` says exactly which units need an arbiter, and `kept` exactly which sites keep their words
 pub record IsPlan (C : Program) (arbiter kept : ℕ → Bool) : Type 0 where
   pub arbiters : (u : ℕ) → (arbiter u ≡ true) ↔ HasArbiter C u
   pub keeps : (k : ℕ) → 0 < k → k ≤ C.sites → (kept k ≡ true) ↔ Kept C k
 
--- each unit that needs an arbiter has one, and each site that has to keep its word does
+-- each unit that needs an arbiter has one, and each site that has to keep its word keeps it
 pub record Suffices (C : Program) (arbiter kept : ℕ → Bool) : Type 0 where
   pub arbiters : (j k : ℕ) → Conflict C j k → arbiter (unit_for C j) ≡ true
   pub keeps : (k : ℕ) → 0 < k → k ≤ C.sites → Kept C k → kept k ≡ true

@@ -54,12 +54,12 @@ planned_code code = code_by (CheckedProgram × Flags) (coded× code flags_code) 
 
 -- ---- the tables
 
--- the rows of the bodies have what is in reach of them
+-- the set of each body has the sites in reach of it
 pub record ReachTable (C : Program) (bodies : List SiteSet) : Type 0 where
   pub count : length bodies ≡ C.functions
   pub rows : (f k : ℕ) → f < C.functions → HasAt bodies f k ↔ Reaches C k (C.body f)
 
--- the rows of the sites have what comes before them
+-- the set of each site has the sites that come before it
 pub record BeforeTable (C : Program) (before : List SiteSet) : Type 0 where
   pub count : length before ≡ suc C.sites
   pub rows : (j k : ℕ) → 1 ≤ k → k ≤ C.sites → HasAt before k j ↔ ComesBefore C j k

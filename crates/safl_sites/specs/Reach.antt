@@ -1,4 +1,4 @@
--- The sites in reach of the bodies of a unit, as a row.
+-- The sites in reach of the bodies of a unit, as sets.
 use Rattle.std.specs.Prelude.{◌≡◌, ℕ, ◌<◌, ◌≤◌, List, length, ◌↔◌}
 use Rattle.safl_term.specs.Program.{Program}
 use Rattle.safl_term.specs.Terms.{Term, Terms}
@@ -7,20 +7,20 @@ use Rattle.safl_sites.specs.Conflicts.{Reaches}
 use Rattle.safl_sites.specs.Parts.{IsPart, ArePart}
 use Rattle.safl_sites.specs.Rows.{HasAt}
 
--- site k is in reach of a body of a member of unit u
+-- site k is in reach of the body of some function of unit u
 pub record IsInReach (C : Program) (u k : ℕ) : Type 0 where
   pub member : ℕ
   pub is_member : member < C.functions
   pub unit : C.unit member ≡ u
   pub reached : Reaches C k (C.body member)
 
--- the rows have what is in reach of each unit below this one
+-- the set of each unit below u has the sites in reach of the unit
 pub record ReachBelow (C : Program) (units : List SiteSet) (u : ℕ) : Type 0 where
   pub count : length units ≡ C.functions
   pub top : u < C.functions
   pub rows : (v k : ℕ) → v < u → HasAt units v k ↔ IsInReach C v k
 
--- a term of a body under so many slots, where the rows of all units that it may call are known
+-- A term of a body, with so many slots in scope. The sets of all units that the term may call are known.
 pub record MayReach (C : Program) (units : List SiteSet) (slots : ℕ) (t : Term) : Type 0 where
   pub caller : ℕ
   pub part : IsPart C caller slots t

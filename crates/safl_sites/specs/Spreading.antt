@@ -1,4 +1,4 @@
--- What comes before a site, from the sites that call the unit of the function where it stands.
+-- What comes before a site, handed on from the sites that call the unit of its function.
 use Rattle.std.specs.Prelude.{◌≡◌, ℕ, suc, ◌≤◌, ◌<◌, List, length, ◌↔◌}
 use Rattle.safl_term.specs.Program.{Program, unit_for}
 use Rattle.safl_sites.specs.declared.site_set.SiteSet.{SiteSet}
@@ -6,7 +6,7 @@ use Rattle.safl_sites.specs.Filling.{StandsAfter}
 use Rattle.safl_sites.specs.Parallel.{ComesBefore}
 use Rattle.safl_sites.specs.Rows.{HasAt}
 
--- site j comes before a site after todo that calls the unit
+-- site j comes before a site after `todo` that calls the unit
 pub record HandsDown (C : Program) (todo u j : ℕ) : Type 0 where
   pub site : ℕ
   pub later : todo < site
@@ -14,7 +14,7 @@ pub record HandsDown (C : Program) (todo u j : ℕ) : Type 0 where
   pub unit : unit_for C site ≡ u
   pub before : ComesBefore C j site
 
--- the rows of the sites after todo have what comes before them, and those of the units what they hand down
+-- the sets of the sites after `todo` have what comes before them, and those of the units have what they hand on
 pub record IsSpread (C : Program) (todo : ℕ) (rows handed : List SiteSet) : Type 0 where
   pub rows_count : length rows ≡ suc C.sites
   pub handed_count : length handed ≡ C.functions

@@ -1,11 +1,11 @@
--- The rows of the slots that a term uses.
+-- The sets of the slots that a term uses.
 use Rattle.std.specs.Prelude.{ℕ, ◌≤◌, List}
 use Rattle.safl_term.specs.Terms.{Term, Terms}
 use Rattle.safl_sites.specs.declared.site_set.SiteSet.{SiteSet}
 use Rattle.safl_sites.specs.Kept.{Uses, UsesIn}
 use Rattle.safl_sites.specs.Rows.{HasAt}
 
--- site k is in the row of a slot, from this one on, that is used in the term
+-- site k is in the set of a slot, from `low` on, that the term uses
 pub record IsTouched (rows : List SiteSet) (low k : ℕ) (t : Term) : Type 0 where
   pub slot : ℕ
   pub from : low ≤ slot

@@ -1,4 +1,4 @@
-//! The sites that conflict, and their units.
+//! Collecting the sites that conflict, and their units.
 
 ghost use Rattle.std.specs.Prelude.{◌≡◌, ℕ, suc, ◌-◌, ◌≤◌, length, false, get_or};
 ghost use Rattle.safl_term.specs.Checked.{IsChecked};
@@ -9,7 +9,7 @@ ghost use Rattle.safl_sites.specs.Planned.{BeforeTable};
 use crate::site_set::SiteSet;
 use safl_term::Checked;
 
-/// Marks the unit of a site that conflicts with one that comes before it, and both sites.
+/// If a site conflicts with a site before it, marks the site's unit and both sites.
 pub fn collect_site(
     c: &Checked,
     k: u32,

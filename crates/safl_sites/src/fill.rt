@@ -1,4 +1,4 @@
-//! The tables of what is in reach of the bodies.
+//! Tables of the sites in reach of bodies.
 
 ghost use Rattle.std.specs.Prelude.{◌≡◌, ℕ, suc, ◌<◌, length, IfOk};
 ghost use Rattle.safl_sites.specs.Filling.{IsFilled};
@@ -10,8 +10,8 @@ use crate::site_set::SiteSet;
 use safl_term::Checked;
 use std::alloc::{AllocError, Global};
 
-/// By function, what is in reach of its body; by unit, what is in reach of the bodies of its members; and by site,
-/// what is in reach of the parallel terms before it.
+/// For each function, the sites in reach of its body; for each unit, those in reach of its members' bodies; and for
+/// each site, those in reach of the parallel terms before it.
 #[derive(Drop)]
 pub struct Tables {
     pub bodies: Vec<SiteSet>,
@@ -19,7 +19,7 @@ pub struct Tables {
     pub after: Vec<SiteSet>,
 }
 
-/// A table of empty rows.
+/// A table of `count` empty sets.
 pub fn empty_rows(alloc: Global, count: usize) -> Result<Vec<SiteSet>, AllocError>
     ensures count { IfOk result (λ v. length v.items ≡ count) }
     ensures empty { IfOk result (λ v. (i k : ℕ) → HasAt v.items i k → ⊥) }
@@ -29,7 +29,8 @@ pub fn empty_rows(alloc: Global, count: usize) -> Result<Vec<SiteSet>, AllocErro
     Ok(rows)
 }
 
-/// Fills the tables. A callee's unit is below its caller's, so that the bodies go upwards.
+/// Fills the tables. The unit of a called function is below that of its caller, so the bodies are taken in rising
+/// order.
 pub fn fill(alloc: Global, c: &Checked) -> Result<Tables, AllocError>
     ensures { IfOk result (λ t. IsFilled c.now.program c.now.program.functions t.bodies.items t.units.items t.after.items) }
 {

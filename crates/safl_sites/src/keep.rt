@@ -1,4 +1,4 @@
-//! Which sites' words decide a condition, or are held while the body of a let runs.
+//! Sites whose words decide a condition, or are held while the body of a let runs.
 
 ghost use Rattle.std.specs.Prelude.{◌≡◌, ℕ, length, OnOk};
 ghost use Rattle.safl_term.specs.Checked.{IsChecked};
@@ -14,16 +14,16 @@ use crate::touched::touch;
 use safl_term::{Checked, Term};
 use std::alloc::AllocError;
 
-/// The sites that decide a condition, and those that are held for another site of their unit.
+/// The sites whose words decide a condition, and those that are held for another site of their unit.
 #[derive(Drop)]
 pub struct Keeping {
     pub decides: SiteSet,
     pub held: SiteSet,
 }
 
-/// Walks down a term. `slots` has for each slot the sites whose words it may be; those whose words the term may
-/// be join `feeds`, and those that are kept `keeps`. `units` has the sites in reach of each unit, and `peers`
-/// the sites of each.
+/// Walks down a term. `slots` has for each slot the sites whose words it may be. The sites whose words the term may be
+/// join `feeds`, and those that have to be kept join `keeps`. `units` has the sites in reach of each unit, and `peers`
+/// the sites of each unit.
 #[cycle(keep)]
 pub fn walk(
     c: &Checked,
@@ -101,7 +101,7 @@ fn walk_all(
     Ok(())
 }
 
-// Adds a slot for each binding, with the sites whose words it may be.
+// Adds a slot for each binding, with the sites whose words the binding may be.
 #[cycle(keep)]
 fn bind_all(
     c: &Checked,
@@ -125,8 +125,8 @@ fn bind_all(
     Ok(())
 }
 
-// Puts into `held` the sites in the rows of the slots from `low` on that a let's body uses, where the body has
-// another site of their unit in reach.
+// Adds to `held` the sites of the slots from `low` on that the body of a let uses, if the body has another site of
+// their unit in reach.
 fn hold(
     c: &Checked,
     units: &[SiteSet],
@@ -152,7 +152,7 @@ fn hold(
     }
 }
 
-// Puts into a set the sites in reach of a let's body, or of its arguments where it is a call.
+// Adds to a set the sites in reach of the body of a let, or of its arguments if the body is a call.
 fn reach_body(c: &Checked, units: &[SiteSet], body: &Term, row: &mut SiteSet)
     requires { (n : ℕ) × MayReach c.now.program units.now n (shown_term body.now) }
     ensures { Gains row.old row.new (λ k. InBody c.now.program k (shown_term body.now)) }

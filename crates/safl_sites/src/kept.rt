@@ -1,4 +1,4 @@
-//! Which sites of a body keep their words for its conditions and bindings.
+//! Sites of a body that keep their words for its conditions and bindings.
 
 ghost use Rattle.std.specs.Prelude.{◌≡◌, suc, ◌≤◌, ◌<◌, ◌↔◌, IsTrue, OnOk};
 ghost use Rattle.safl_term.specs.Checked.{IsChecked};
@@ -13,7 +13,7 @@ use crate::site_set::SiteSet;
 use safl_term::Checked;
 use std::alloc::{AllocError, Global};
 
-/// Puts into `kept` the sites of all bodies that keep their words for a condition or a binding.
+/// Adds to `kept` the sites of all bodies that keep their words for a condition or a binding.
 pub fn keep_all(
     alloc: Global,
     c: &Checked,

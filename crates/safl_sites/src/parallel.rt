@@ -1,4 +1,4 @@
-//! Which sites are in reach of a term that stands before a parallel one.
+//! Sites in reach of a term before a parallel one.
 
 ghost use Rattle.std.specs.Prelude.{ℕ, ◌<◌, List, length};
 ghost use Rattle.safl_term.specs.Tree.{shown_term, shown_terms};
@@ -10,8 +10,8 @@ use crate::reach::reach;
 use crate::site_set::SiteSet;
 use safl_term::{Checked, Term};
 
-/// Puts into the row of each site in a term what is in reach of the parallel terms before it: of those in the
-/// term, and of those around it, which `before` has.
+/// Adds to the set of each site in a term the sites in reach of the parallel terms before it: those within the term,
+/// and those around it, which `before` has.
 #[cycle(mark)]
 pub fn mark(c: &Checked, units: &[SiteSet], t: &Term, before: &SiteSet, rows: &mut [SiteSet])
     requires may { (slots : ℕ) × MayReach c.now.program units.now slots (shown_term t.now) }

@@ -8,7 +8,7 @@ use crate::site_set::SiteSet;
 use safl_term::Checked;
 use std::alloc::{AllocError, Global};
 
-/// By unit, the sites that call it.
+/// For each unit, the sites that call it.
 pub fn peers(alloc: Global, c: &Checked) -> Result<Vec<SiteSet>, AllocError>
     ensures { IfOk result (λ v. ArePeers c.now.program c.now.program.sites v.items) }
 {

@@ -5,8 +5,8 @@ use crate::site_set::SiteSet;
 use safl_term::Checked;
 use std::marker::Model;
 
-/// A checked program, what is in reach of each body, which sites conflict, which units have an arbiter, and which
-/// sites keep their words.
+/// A checked program, the sites in reach of each body, the sites that conflict, the units that have an arbiter, and the
+/// sites that keep their words.
 #[derive(Drop)]
 pub struct Planned {
     checked: Checked,
@@ -38,7 +38,7 @@ impl Planned {
     ghost use Rattle.safl_sites.specs.Plan.{HasArbiter, IsPlan};
     ghost use Rattle.safl_sites.specs.Planned.{IsPlanned};
 
-    /// The program with what was found of it.
+    /// The program with these findings.
     pub fn new(checked: Checked, found: Findings) -> Planned
         requires { IsPlanned checked (record { arbiters = found.arbiters.items; keeps = found.keeps.items }) found.bodies.items found.before.items }
         ensures program { result.checked ≡ checked }
@@ -61,7 +61,7 @@ impl Planned {
         &self.checked
     }
 
-    /// Whether a site is in reach of a function's body.
+    /// Whether site `k` is in reach of the body of function `f`.
     pub fn reach(&self, f: u32, k: u32) -> bool
         requires function { f < self.now.program.functions }
         requires site { k ≤ self.now.program.sites }
@@ -85,7 +85,7 @@ impl Planned {
         self.comes_before(k, other) || self.comes_before(other, k)
     }
 
-    // Whether the first site is in reach of a term that stands before a parallel one with the second in reach.
+    // Whether the first site is in reach of a term that comes before a parallel one with the second in reach.
     fn comes_before(&self, k: u32, other: u32) -> bool
         requires least { 1 ≤ other }
         requires most { other ≤ self.now.program.sites }

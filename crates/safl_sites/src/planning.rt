@@ -18,7 +18,7 @@ use safl_term::Checked;
 use std::alloc::{AllocError, Global};
 
 /// The plan of a checked program: for each unit whether it needs an arbiter, and for each site whether it keeps its
-/// word. Err is lack of memory alone, and hands the program back.
+/// word. The error is out of memory, and hands the program back.
 pub fn plan(alloc: Global, c: Checked) -> Result<Planned, Checked>
     ensures ok { IfOk result (λ p. p.checked ≡ c) }
     ensures plan { IfOk result (λ p. IsPlan c.program p.arbiter p.kept) }
@@ -30,7 +30,7 @@ pub fn plan(alloc: Global, c: Checked) -> Result<Planned, Checked>
     }
 }
 
-/// What a plan is made of.
+/// What is found of a program for its plan.
 #[derive(Drop)]
 pub struct Findings {
     pub bodies: Vec<SiteSet>,
@@ -62,7 +62,7 @@ fn find(alloc: Global, c: &Checked) -> Result<Findings, AllocError>
     })
 }
 
-// By unit, whether two of its sites conflict; and the sites that conflict.
+// For each unit, whether two of its sites conflict. All sites that conflict join `kept`.
 fn collect(
     alloc: Global,
     c: &Checked,
@@ -83,7 +83,7 @@ fn collect(
     Ok(arbiters)
 }
 
-// Whether each number below a bound is in a set.
+// For each number below a bound, whether it is in a set.
 fn listed(alloc: Global, row: &SiteSet, count: u32) -> Result<Vec<bool>, AllocError>
     requires { count < 4033 }
     ensures count { IfOk result (λ v. length v.items ≡ count) }

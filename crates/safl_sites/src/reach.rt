@@ -1,4 +1,4 @@
-//! Which sites are in reach of a term.
+//! Sites in reach of a term.
 
 ghost use Rattle.std.specs.Prelude.{◌≡◌, ℕ};
 ghost use Rattle.safl_term.specs.Checked.{IsChecked};
@@ -10,7 +10,7 @@ ghost use Rattle.safl_sites.specs.Rows.{Gains};
 use crate::site_set::SiteSet;
 use safl_term::{Checked, Term};
 
-/// Puts the sites in reach of a term into a set. `units` has the sites in reach of the bodies of each unit.
+/// Adds the sites in reach of a term to a set. `units` has the sites in reach of the bodies of each unit.
 #[cycle(reach)]
 pub fn reach(c: &Checked, units: &[SiteSet], t: &Term, row: &mut SiteSet)
     requires { (slots : ℕ) × MayReach c.now.program units.now slots (shown_term t.now) }

@@ -1,12 +1,12 @@
-//! Sets of sites.
+//! Sets of call sites.
 
 ghost use Rattle.std.specs.Prelude.{◌≡◌, ◌<◌, ◌↔◌, ℕ, false, IsTrue};
 ghost use Rattle.safl_sites.specs.Rows.{has, Has, IsCommon, Meets, Gains};
 
-/// The machine words of a set: a bit for each number of a site, of which there are 4,000.
+/// The number of machine words of a set. It has a bit for each site number, up to 4,000.
 const WORDS: usize = 63;
 
-/// A set of sites: a bit for each.
+/// A set of sites, with a bit for each.
 #[derive(Clone, Copy)]
 pub struct SiteSet {
     words: [u64; WORDS],
@@ -36,7 +36,7 @@ impl SiteSet {
         self.words[k as usize / 64] |= 1 << (k % 64);
     }
 
-    /// Puts each site of another set into this one.
+    /// Adds each site of another set to this one.
     pub fn union(&mut self, other: &SiteSet)
         ensures { Gains self.old self.new (Has other.now) }
     {
@@ -45,7 +45,7 @@ impl SiteSet {
         }
     }
 
-    /// Whether a site beside this one is in both sets.
+    /// Whether a site other than `except` is in both sets.
     pub fn meets(&self, other: &SiteSet, except: u32) -> bool
         ensures { IsTrue result ↔ Meets self.now other.now except }
     {
@@ -61,7 +61,7 @@ impl SiteSet {
         false
     }
 
-    /// Puts each site that is in two other sets, but for this one, into this set.
+    /// Adds each site that is in both `a` and `b`, other than `except`.
     pub fn add_common(&mut self, a: &SiteSet, b: &SiteSet, except: u32)
         ensures { Gains self.old self.new (IsCommon a.now b.now except) }
     {

@@ -1,4 +1,4 @@
-//! What comes before a site, through all callers.
+//! Handing on what comes before a site, from callers to the functions that they call.
 
 ghost use Rattle.std.specs.Prelude.{◌≡◌, ℕ, suc, ◌-◌, ◌≤◌, length, OnOk, ◌↔◌};
 ghost use Rattle.safl_term.specs.Checked.{IsChecked};
@@ -12,8 +12,8 @@ use crate::site_set::SiteSet;
 use safl_term::Checked;
 use std::alloc::{AllocError, Global};
 
-/// Adds to the row of each site what comes before the sites that call the unit of its function. A callee's unit is
-/// below its caller's, so that the sites go downwards.
+/// Adds to the set of each site what comes before the sites that call the unit of its function. The unit of a called
+/// function is below that of its caller, so the sites are taken in falling order.
 pub fn spread(alloc: Global, c: &Checked, rows: &mut [SiteSet]) -> Result<(), AllocError>
     requires count { length rows.old ≡ suc c.now.program.sites }
     requires after { (j k : ℕ) → HasAt rows.old k j ↔ StandsAfter c.now.program c.now.program.functions j k }

@@ -1,4 +1,4 @@
-//! Which sites' words are in the slots that a term uses.
+//! Sites whose words are in the slots that a term uses.
 
 ghost use Rattle.safl_term.specs.Tree.{shown_term, shown_terms};
 ghost use Rattle.safl_sites.specs.Rows.{Gains};
@@ -7,7 +7,7 @@ ghost use Rattle.safl_sites.specs.Touched.{IsTouched, IsTouchedIn};
 use crate::site_set::SiteSet;
 use safl_term::Term;
 
-/// Puts into a set what the rows of the slots have that are used in a term, from a first slot on.
+/// Adds to a set the sites of those slots from `low` on that a term uses.
 #[cycle(touch)]
 pub fn touch(slots: &[SiteSet], low: usize, t: &Term, row: &mut SiteSet)
     ensures { Gains row.old row.new (λ k. IsTouched slots.now low k (shown_term t.now)) }

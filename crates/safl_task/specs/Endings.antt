@@ -28,11 +28,11 @@ pub record SameCounts (old new : Outside) : Type 0 where
   pub shelf : SameFaults old.shelf new.shelf
   pub prints : new.out.faults ≡ old.out.faults
 
--- each file with a text holds it, and all others are as they were
+-- each file with a text has that text, and all other files are as they were
 abbrev pub LeavesAll : Files → Files → Files → Type 0
 LeavesAll texts old new = (name : List ℕ) → file_of new name ≡ option_or (file_of texts name) (file_of old name)
 
--- each file is as it was, or has a text and holds a prefix of it
+-- each file is as it was, or has a text and is a prefix of that text
 abbrev pub LeavesParts : Files → Files → Files → Type 0
 LeavesParts texts old new =
     (name : List ℕ) → (file_of new name ≡ file_of old name) ⊎ IsSomeAnd (file_of texts name) (λ text. (count : ℕ) × (file_of new name ≡ Some (take count text)))
@@ -44,18 +44,18 @@ pub record Gave (t : Task) (old new : Outside) (g : Given) : Type 0 where
   pub printed : TellsOn (Sends g.printed) old.out.sent new.out.sent
   pub counts : SameCounts old new
 
--- it gave a part of what it gives
+-- a part of what the command gives was given
 pub record Began (t : Task) (old new : Outside) : Type 0 where
   pub whole : Given
   pub given : OfInputs old.shelf.holds t.inputs (λ contents. t.Gives contents whole)
   pub files : TellsOn (LeavesParts (files_of t.outputs whole.texts)) old.shelf.holds new.shelf.holds
   pub printed : TellsOn (SendsPart whole.printed) old.out.sent new.out.sent
 
--- it left all as it was, or gave a part
+-- everything is as it was, or a part of what the command gives was given
 abbrev pub Left : Task → Outside → Outside → Type 0
 Left t old new = Untouched old new ⊎ Began t old new
 
--- the statuses at which something may have been given
+-- whether something may have been given if the command ends with this status
 abbrev pub may_give : Status → Bool
 may_give status.Ok = true
 may_give status.NoResult = true
@@ -64,75 +64,75 @@ may_give status.ProbeFault = true
 may_give status.NoMemory = true
 may_give _ = false
 
--- Why a command stops with a status and a line, and what it leaves. `Unprobed` says which lines tell of a probe that failed.
+-- Why a command stops with a status and a line, and what it leaves. `Unprobed` holds of the lines that say that a probe failed.
 pub data Stops (t : Task) (Unprobed : List ℕ → Type 0) (old new : Outside) : Status → List ℕ → Type 0 where
-  -- it refuses what the files contain
+  -- the command refuses what its files contain
   refused : (s : Status) (line : List ℕ) → may_give s ≡ false → OfInputs old.shelf.holds t.inputs (λ contents. t.Refuses contents s line) → Untouched old new
       → Stops t Unprobed old new s line
   -- a read failed
   unread : (i : Input) → Reaches t.inputs old.shelf.holds i → Rose old.shelf.read_faults new.shelf.read_faults → Untouched old new
       → Stops t Unprobed old new status.ReadFault (read_line i.name)
-  -- a file has more bytes than its limit
+  -- a file is longer than its limit
   long : (i : Input) → Reaches t.inputs old.shelf.holds i → OfFile old.shelf.holds i.name (λ bytes. i.limit < length bytes) → Untouched old new
       → Stops t Unprobed old new status.TooLong (long_line i.name i.limit)
   -- a write failed
   unwritten : (name : List ℕ) → Contains t.outputs name → Rose old.shelf.write_faults new.shelf.write_faults → Began t old new
       → Stops t Unprobed old new status.WriteFault (write_line name)
-  -- printing failed
+  -- what is printed could not be sent
   unprinted : Rose old.out.faults new.out.faults → Began t old new → Stops t Unprobed old new status.WriteFault output_line
   -- an asked probe failed
   unprobed : (line : List ℕ) → Unprobed line → Began t old new → Stops t Unprobed old new status.ProbeFault line
   -- memory ran out
   starved : Left t old new → Stops t Unprobed old new status.NoMemory memory_line
 
--- it gave all with this status, which is Ok or NoResult
+-- the command gave everything, and this is the status, Ok or NoResult
 abbrev pub Ended : Task → Outside → Outside → Status → Type 0
 Ended t old new s = (g : Given) × Gave t old new g × (end_of g ≡ s)
 
--- the whole line was sent, or the sink failed after a prefix
+-- the whole line was sent, or the sink failed after a prefix of it
 abbrev pub Got : List ℕ → SinkState → SinkState → Type 0
 Got line before after = TellsOn (Sends line) before.sent after.sent ⊎ (Rose before.faults after.faults × TellsOn (SendsPart line) before.sent after.sent)
 
--- How a call ends, with the sink of refusals before it and after it.
+-- How a call of the program ends, with what was sent to standard error before and after it.
 pub data Ends (t : Task) (Unprobed : List ℕ → Type 0) (old new : Outside) (before after : SinkState) : Status → Type 0 where
-  -- it gave what it gives, and refused nothing
+  -- it gave everything, and sent no refusal
   gave : (g : Given) → Gave t old new g → after ≡ before → Ends t Unprobed old new before after (end_of g)
-  -- it told why it stops
+  -- it sent the line that says why it stops
   told : (s : Status) (line : List ℕ) → Stops t Unprobed old new s line → Got line before after → Ends t Unprobed old new before after s
-  -- memory ran out in sending why
+  -- memory ran out while the line was sent
   cut : (s : Status) (line : List ℕ) → Stops t Unprobed old new s line → TellsOn (SendsPart line) before.sent after.sent → Ends t Unprobed old new before after status.NoMemory
 
--- ---- what follows of every command
+-- ---- what holds of every command
 
--- at the statuses at which nothing may have been given, no file has changed, and nothing was printed
+-- if the status is one at which nothing may have been given, no file has changed and nothing was printed
 abbrev pub KeepsAll : Status → Outside → Outside → Type 0
 KeepsAll s old new = may_give s ≡ false → Untouched old new
 
--- each file that is no output is as it was
+-- each file that is no output file is as it was
 abbrev pub KeepsOthers : Task → Outside → Outside → Type 0
 KeepsOthers t old new =
     (name : List ℕ) → ¬ Contains t.outputs name → TellsOn (λ before after. file_of after name ≡ file_of before name) old.shelf.holds new.shelf.holds
 
--- The sink of refusals got nothing at Ok and where no result came; at NoMemory a prefix of the line of a cause that is there; and
--- else the whole line of the status's cause, or the sink failed after a prefix of it.
+-- What was sent to standard error. If the status is Ok or NoResult, nothing. If it is NoMemory, a prefix of the line of some
+-- cause. Otherwise the whole line of the cause of the status, or a prefix of it if the sink failed.
 abbrev pub Tells : Task → (List ℕ → Type 0) → Outside → Outside → SinkState → SinkState → Status → Type 0
 Tells t Unprobed old new before after status.Ok = after ≡ before
 Tells t Unprobed old new before after status.NoResult = after ≡ before
 Tells t Unprobed old new before after status.NoMemory = (s : Status) × (line : List ℕ) × Stops t Unprobed old new s line × TellsOn (SendsPart line) before.sent after.sent
 Tells t Unprobed old new before after s = (line : List ℕ) × Stops t Unprobed old new s line × Got line before after
 
--- no name was used that the shelf tells it doesn't hold, where it held the inputs
+-- no stray name was used, on a shelf that had all input files
 abbrev pub SameStrays : Task → ShelfState → ShelfState → Type 0
 SameStrays t old new = SameStraysWith t.inputs old new
 
--- no count rose: none of the shelf or of the sink, and no asked probe failed
+-- no count of faults of the shelf or of the sink rose, and no asked probe failed
 pub record NoFault (Unprobed : List ℕ → Type 0) (old new : Outside) : Type 0 where
   pub reads : ¬ Rose old.shelf.read_faults new.shelf.read_faults
   pub writes : ¬ Rose old.shelf.write_faults new.shelf.write_faults
   pub prints : ¬ Rose old.out.faults new.out.faults
   pub probes : (line : List ℕ) → ¬ Unprobed line
 
--- where a result is promised of what the shelf tells, and no count rose, it came, or memory ran out
+-- If a result is promised for what the shelf tells, and nothing failed, the result came or memory ran out.
 abbrev pub Completes : Task → (List ℕ → Type 0) → Outside → Outside → Status → Type 0
 Completes t Unprobed old new s =
     IsSome old.shelf.holds → OfInputs old.shelf.holds t.inputs t.Promises → NoFault Unprobed old new → (s ≡ status.Ok) ⊎ (s ≡ status.NoMemory)

@@ -10,7 +10,7 @@ use Rattle.safl_task.specs.declared.input.Input as code
 use Rattle.safl_task.specs.declared.input.Unread.{Unread}
 use Rattle.safl_task.specs.declared.input.Unread.TheVariants as unread
 
--- a file that holds a source, one that holds a script, one that holds a Verilog text, and one that holds an AIGER text
+-- a file with a source; with a script; with a Verilog text; with an AIGER text
 abbrev pub source_file : List ℕ → Input
 source_file name = record { name = name; limit = source_max }
 
@@ -29,22 +29,22 @@ shown_input i = record { name = i.name.now; limit = i.limit }
 abbrev pub shown_inputs : List code.Input → List Input
 shown_inputs is = map shown_input is
 
--- the bytes of contents
+-- the contents of files as lists of bytes
 abbrev pub shown_contents : List (Vec ℕ Global) → List (List ℕ)
 shown_contents contents = map (λ (v : Vec ℕ Global). v.items) contents
 
--- why one of the files is not read: the shelf failed, or the file has more bytes than its limit, or memory ran out
+-- why one of the files was not read: the shelf failed, the file is longer than its limit, or memory ran out
 abbrev pub IsUnreadAt : Input → ShelfState → ShelfState → Unread → Type 0
 IsUnreadAt i old new (unread.Failed name) = (name.now ≡ i.name) × Rose old.read_faults new.read_faults
 IsUnreadAt i old new (unread.TooLong name limit) = (name.now ≡ i.name) × (limit ≡ i.limit) × OfFile old.holds i.name (λ bytes. i.limit < length bytes)
 IsUnreadAt i old new unread.NoMemory = Unit {0}
 
--- why the files are not read
+-- why some files were not read
 abbrev pub AreUnread : List Input → ShelfState → ShelfState → Unread → Type 0
 AreUnread inputs old new unread.NoMemory = Unit {0}
 AreUnread inputs old new why = (i : Input) × Reaches inputs old.holds i × IsUnreadAt i old new why
 
--- what reading leaves on the shelf
+-- what reading files leaves on the shelf
 pub record OnlyReads (old new : ShelfState) : Type 0 where
   pub files : new.holds ≡ old.holds
   pub writes : new.write_faults ≡ old.write_faults

@@ -1,18 +1,18 @@
 -- The limits of input files.
 use Rattle.std.specs.Prelude.{ℕ}
 
--- the most bytes of a source
+-- the greatest length of a source in bytes
 abbrev pub source_max : ℕ
 source_max = 1048576
 
--- the most bytes of a script
+-- the greatest length of a script in bytes
 abbrev pub script_max : ℕ
 script_max = 1048576
 
--- the most bytes of a Verilog file
+-- the greatest length of a Verilog file in bytes
 abbrev pub verilog_max : ℕ
 verilog_max = 67108864
 
--- the most bytes of an AIGER file
+-- the greatest length of an AIGER file in bytes
 abbrev pub aig_max : ℕ
 aig_max = 536870912

@@ -1,4 +1,4 @@
--- The statuses as numbers.
+-- The numbers of the exit statuses.
 use Rattle.std.specs.Prelude.{ℕ}
 use Rattle.safl_task.specs.declared.status.Status.{Status}
 use Rattle.safl_task.specs.declared.status.Status.TheVariants as status

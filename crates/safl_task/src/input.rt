@@ -10,19 +10,19 @@ ghost use Rattle.safl_task.specs.Tasks.{OfFile, AreContents, SameStraysWith};
 use safl_io::{ReadErr, Shelf, read_file};
 use std::alloc::Global;
 
-/// The most bytes of a source.
+/// The greatest length of a source in bytes.
 pub const SOURCE_MAX: u64 = 1_048_576;
 
-/// The most bytes of a script.
+/// The greatest length of a script in bytes.
 pub const SCRIPT_MAX: u64 = 1_048_576;
 
-/// The most bytes of a Verilog file.
+/// The greatest length of a Verilog file in bytes.
 const VERILOG_MAX: u64 = 67_108_864;
 
-/// The most bytes of an AIGER file.
+/// The greatest length of an AIGER file in bytes.
 const AIG_MAX: u64 = 536_870_912;
 
-/// A file that is read, and the most bytes that it may have.
+/// A file that a command reads, and its greatest length in bytes.
 #[derive(Clone, Copy)]
 pub struct Input<'a> {
     pub name: &'a str,
@@ -30,7 +30,7 @@ pub struct Input<'a> {
 }
 
 impl<'a> Input<'a> {
-    /// The file of a source.
+    /// A file with a source.
     pub fn source(name: &'a str) -> Self
         ensures { shown_input result ≡ source_file name.now }
     {
@@ -40,7 +40,7 @@ impl<'a> Input<'a> {
         }
     }
 
-    /// The file of a script.
+    /// A file with a script.
     pub fn script(name: &'a str) -> Self
         ensures { shown_input result ≡ script_file name.now }
     {
@@ -50,7 +50,7 @@ impl<'a> Input<'a> {
         }
     }
 
-    /// The file of a Verilog text.
+    /// A file with a Verilog text.
     pub fn verilog(name: &'a str) -> Self
         ensures { shown_input result ≡ verilog_file name.now }
     {
@@ -60,7 +60,7 @@ impl<'a> Input<'a> {
         }
     }
 
-    /// The file of an AIGER text.
+    /// A file with an AIGER text.
     pub fn aig(name: &'a str) -> Self
         ensures { shown_input result ≡ aig_file name.now }
     {
@@ -71,17 +71,18 @@ impl<'a> Input<'a> {
     }
 }
 
-/// Why a file is not read.
+/// Why a file was not read.
 #[derive(Clone, Copy)]
 pub enum Unread<'a> {
     /// The file of this name could not be read.
     Failed(&'a str),
-    /// The file of this name has more bytes than this limit.
+    /// The file of this name is longer than this limit.
     TooLong(&'a str, u64),
     NoMemory,
 }
 
-/// The bytes of the files, each within its limit. They are read in order, and none is read after one that could not be.
+/// The bytes of the files, each within its limit. They are read in order, and reading ends at the first file that
+/// cannot be read.
 pub fn read_inputs<'a, S: Shelf>(
     alloc: Global,
     shelf: &mut S,
@@ -91,7 +92,7 @@ pub fn read_inputs<'a, S: Shelf>(
     ensures refused { IfErr result (AreUnread (shown_inputs inputs.now) (S.told shelf.old) (S.told shelf.new)) }
     ensures quiet { OnOk result ((S.told shelf.new).read_faults ≡ (S.told shelf.old).read_faults) }
     ensures only_reads { OnlyReads (S.told shelf.old) (S.told shelf.new) }
-    // No name is used that the shelf tells it doesn't hold, where it holds all of them.
+    // On a shelf that tells what it holds, and holds all these files, no missing file is read.
     ensures no_stray { SameStraysWith (shown_inputs inputs.now) (S.told shelf.old) (S.told shelf.new) }
 {
     let mut contents = Vec::new(alloc);

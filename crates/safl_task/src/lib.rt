@@ -1,4 +1,4 @@
-//! The form of a command: the files that it reads, what it gives, how it ends, and the statuses of its ends.
+//! The form of a command: the files that it reads, what it gives, the ways in which it ends, and their exit statuses.
 #![tactic(auto)]
 
 mod input;

@@ -45,7 +45,7 @@ checked_code code = code_by Tables code (λ c. c.tables) checked_of tables_again
 
 -- ---- what is checked
 
--- the bounds of what a circuit is made of
+-- the limits of a program from which a circuit is made
 abbrev pub functions_max : ℕ
 functions_max = 1000
 
@@ -64,10 +64,10 @@ pub record IsWithinLimits (C : Program) : Type 0 where
   pub sites : C.sites ≤ sites_max
   pub nodes : body_nodes C C.functions ≤ nodes_max
   pub bindings : (f : ℕ) → HasShortLets (C.body f)
-  -- what recurses on a body has a stack that is large enough
+  -- the functions that recurse on a body have a stack that is large enough
   pub depth : (f : ℕ) → depth (C.body f) ≤ max_depth
 
--- each name is one of the language, no two functions have one name, and no two parameters of a function
+-- each name is one of the language. No two functions have the same name, and no two parameters of one function
 pub record AreNamed (c : CheckedProgram) : Type 0 where
   pub of_functions : (f : ℕ) → f < c.program.functions → IsName (c.name f)
   pub of_main : c.name c.program.main ≡ codes "main"
@@ -75,19 +75,19 @@ pub record AreNamed (c : CheckedProgram) : Type 0 where
   pub of_params : (f i : ℕ) (name : List ℕ) → slice_get (c.param_names f) i ≡ Some name → IsName name
   pub of_params_differ : (f i j : ℕ) (name : List ℕ) → slice_get (c.param_names f) i ≡ Some name → slice_get (c.param_names f) j ≡ Some name → i ≡ j
 
--- each width of a result and of a parameter is one that a word has
+-- the widths of results and parameters are widths of words
 pub record HasWordWidths (C : Program) : Type 0 where
   pub results : (f : ℕ) → f < C.functions → (1 ≤ C.result f) × (C.result f ≤ max_width)
   pub params : (f i w : ℕ) → slice_get (C.params f) i ≡ Some w → (1 ≤ w) × (w ≤ max_width)
 
--- the program is well formed, within limits, and in the order of the text
+-- the program is well formed, within the limits, and in the order of the text
 pub record IsChecked (c : CheckedProgram) : Type 0 where
   pub formed : IsWellFormed c.program
   pub widths : HasWordWidths c.program
   pub limits : IsWithinLimits c.program
-  -- the members of a group follow each other
+  -- the functions of a group follow one another
   pub groups : (f g : ℕ) → g < c.program.functions → c.program.unit g ≤ f → f ≤ g → c.program.unit f ≡ c.program.unit g
-  -- the sites of a body follow those of the bodies before it, and all sites stand in bodies
+  -- the sites of a body follow those of the bodies before it, and every site is in a body
   pub first_site : c.first_site 0 ≡ 1
   pub own_sites : (f : ℕ) → f < c.program.functions → Spans c.program f true (c.first_site f) (c.first_site (suc f)) (c.program.body f)
   pub names : AreNamed c

@@ -1,11 +1,11 @@
--- The same meaning as a function: it is given a number of calls, and hands on how many are left.
+-- The meaning once more, as a function of a number of calls. It gives how many calls are left.
 use Rattle.std.specs.Prelude.{◌≡◌, ℕ, zero, suc, List, [], ◌∷◌, ◌++◌}
 use Rattle.safl_term.specs.Program.{Program}
 use Rattle.safl_term.specs.Terms.{Term, Const, Var, If, Let, Op, Call, Loop, Terms, Nil, Cons}
 use Rattle.safl_word.specs.Primitives.{apply_prim}
 use Rattle.safl_word.specs.Words.{choose, Word, slot}
 
--- a word and what is left, or nothing
+-- a word and the number of calls left, or nothing
 pub data Outcome : Type 0 where
   Nothing : Outcome
   Gave : (word : Word) (left : ℕ) → Outcome
@@ -30,11 +30,11 @@ abbrev pub with_head : Outcome → (ℕ → Outcomes) → Outcomes
 with_head Nothing go = NoWords
 with_head (Gave v m) go = with_rest (go m) v
 
--- the meaning of applications: what is left, the function and its arguments
+-- what applications mean, by the number of calls left, the function and its arguments
 abbrev pub Apply : Type 0
 Apply = ℕ → ℕ → List Word → Outcome
 
--- parts are evaluated from left to right, and each is given what the one before it left
+-- evaluation: parts are evaluated from left to right, and each is given the calls that the one before it left
 abbrev mutual
   pub eval : Program → Apply → Term → ℕ → List Word → Outcome
   eval C ap (Const w) n env = Gave w n
@@ -49,13 +49,13 @@ abbrev mutual
   eval_all C ap Nil n env = Words [] n
   eval_all C ap (Cons t ts) n env = with_head (eval C ap t n env) (λ m. eval_all C ap ts m env)
 
--- Without a call left there is nothing. Else an application takes one, and the body is evaluated with the arguments as
--- env. At most d applications are open at a time; since each takes one of n, d = n is deep enough
+-- An application without a call left gives nothing. Otherwise it takes one, and evaluates the body with the arguments as env. At
+-- most d applications are open at a time. Since each of them takes one of the n calls, d = n is deep enough.
 abbrev pub apply : Program → ℕ → Apply
 apply C zero n f us = Nothing
 apply C (suc d) zero f us = Nothing
 apply C (suc d) (suc n) f us = eval C (apply C d) (C.body f) n us
 
--- main on args gives v in n calls: nothing is left of n
+-- main on args gives v in exactly n calls: none of n calls is left
 abbrev pub GivesInCalls : Program → List Word → Word → ℕ → Type 0
 GivesInCalls C args v n = apply C n n (C.callee 0) args ≡ Gave v 0

@@ -1,4 +1,4 @@
--- What a program means, as derivations: words and calls, without units or time.
+-- The meaning of programs, as derivations: words and calls, without units and without time.
 use Rattle.std.specs.Prelude.{ℕ, suc, ◌+◌, List, [], ◌∷◌, ◌++◌, if◌then◌else◌, ◌==◌}
 use Rattle.safl_term.specs.Program.{Program}
 use Rattle.safl_term.specs.Terms.{Term, Const, Var, If, Let, Op, Call, Loop, Terms, Nil, Cons}
@@ -7,9 +7,9 @@ use Rattle.safl_word.specs.Primitives.{apply_prim}
 use Rattle.safl_word.specs.Words.{choose, Word, slot}
 
 mutual
-  -- Where the slots hold the words of env, the term evaluates to the word: a constant to its word and a variable to its
-  -- slot's, an operator to its primitive's result, an if to what the selected branch gives, a let to what its body
-  -- gives where the words of the bindings follow env, and a call or loop to what the body of the function gives
+  -- If the slots hold the words of env, the term evaluates to the word: a constant to its word; a variable to that of its slot;
+  -- an operator to the result of its primitive; an if to what the selected branch gives; a let to what its body gives with the
+  -- words of the bindings after env; a call or loop to what the body of the function gives.
   pub data Gives (C : Program) : List Word → Term → Word → Type 0 where
     gives_const : {env : List Word} {w : Word} → Gives C env (Const w) w
     gives_var : {env : List Word} {i : ℕ} → Gives C env (Var i) (slot env i)
@@ -19,7 +19,7 @@ mutual
     gives_call : {env : List Word} {f k : ℕ} {ts : Terms} {us : List Word} {v : Word} → GivesAll C env ts us → Gives C us (C.body f) v → Gives C env (Call f k ts) v
     gives_loop : {env : List Word} {h : ℕ} {ts : Terms} {us : List Word} {v : Word} → GivesAll C env ts us → Gives C us (C.body h) v → Gives C env (Loop h ts) v
 
-  -- each term to its word
+  -- each of the terms evaluates to its word
   pub data GivesAll (C : Program) : List Word → Terms → List Word → Type 0 where
     gives_nil : {env : List Word} → GivesAll C env Nil []
     gives_cons : {env : List Word} {t : Term} {ts : Terms} {v : Word} {vs : List Word} → Gives C env t v → GivesAll C env ts vs → GivesAll C env (Cons t ts) (v ∷ vs)
@@ -39,7 +39,7 @@ abbrev mutual
   costs C gives_nil = 0
   costs C (gives_cons d ds) = cost C d + costs C ds
 
--- how many of them are by a Loop
+-- how many of the applications of an evaluation are made by a loop
 abbrev mutual
   pub loops : (C : Program) {env : List Word} {t : Term} {v : Word} → Gives C env t v → ℕ
   loops C gives_const = 0
@@ -54,11 +54,11 @@ abbrev mutual
   loops_all C gives_nil = 0
   loops_all C (gives_cons d ds) = loops C d + loops_all C ds
 
--- the argument list, where g is f
+-- the argument list of an application of g, if g is f
 abbrev pub at_function : ℕ → ℕ → List Word → List (List Word)
 at_function f g us = if g == f then us ∷ [] else []
 
--- the argument lists with which an evaluation applies f
+-- the argument lists of all applications of f in an evaluation
 abbrev mutual
   pub calls : (C : Program) (f : ℕ) {env : List Word} {t : Term} {v : Word} → Gives C env t v → List (List Word)
   calls C f gives_const = []

@@ -1,47 +1,46 @@
--- Readiness: what a running body comes to, and which calls it wants, while some of its sites have returned.
+-- Readiness: what a running body comes to and which calls it wants, once some of its sites have returned.
 use Rattle.std.specs.Prelude.{ℕ, List, [], ◌∷◌, ◌++◌, Option, Some, None, cond, ◌==◌}
 use Rattle.safl_word.specs.Words.{Word, choose, slot}
 use Rattle.safl_word.specs.declared.primitive.Primitive.{Primitive}
 use Rattle.safl_word.specs.Primitives.{apply_prim}
 use Rattle.safl_term.specs.Terms.{Term, Const, Var, Op, If, Let, Call, Loop, Terms, Nil, Cons}
 
--- a site of a running body: its call has not started, or it runs, or it has returned this word
+-- the stage of a site of a running body: its call has not started, is running, or has returned this word
 pub data Stage : Type 0 where
   Unsent : Stage
   Sent : Stage
   Returned : (word : Word) → Stage
 
--- the word that has come back
+-- the word that a site has returned, if it has
 abbrev pub back_word : Stage → Option Word
 back_word Unsent = None
 back_word Sent = None
 back_word (Returned v) = Some v
 
--- what a body comes to: a word, a tail call of a member with these words, or nothing yet
+-- what a body comes to: a word, a tail call of a function of its group with these words, or nothing yet
 pub data Answer : Type 0 where
   Ready : (word : Word) → Answer
   LoopTo : (member : ℕ) (args : List Word) → Answer
   NotYet : Answer
 
--- the word of an answer
 abbrev pub word_of : Answer → Option Word
 word_of (Ready v) = Some v
 word_of (LoopTo h vs) = None
 word_of NotYet = None
 
--- the words of one part and of the rest
+-- the words of one part and of the rest, if all are ready
 abbrev pub both : Answer → Option (List Word) → Option (List Word)
 both (Ready v) None = None
 both (Ready v) (Some vs) = Some (v ∷ vs)
 both (LoopTo h ws) o = None
 both NotYet o = None
 
--- a site's word, where it has returned
+-- the answer that is this word, or nothing yet if there is none
 abbrev pub ready_from : Option Word → Answer
 ready_from None = NotYet
 ready_from (Some v) = Ready v
 
--- a primitive's result, and a tail call, where all words are there
+-- the answer that is a primitive's result, or a tail call, if all words are ready
 abbrev pub apply_to : Primitive → Option (List Word) → Answer
 apply_to p None = NotYet
 apply_to p (Some vs) = Ready (apply_prim p vs)
@@ -50,27 +49,26 @@ abbrev pub loop_to : ℕ → Option (List Word) → Answer
 loop_to h None = NotYet
 loop_to h (Some vs) = LoopTo h vs
 
--- what the branch gives that a condition selects, where the condition is ready
+-- what belongs to the branch that a condition selects, or a third value if the condition is not ready
 abbrev pub select : {A : Type 0} → Answer → A → A → A → A
 select (Ready u) none a b = choose u a b
 select (LoopTo h vs) none a b = none
 select NotYet none a b = none
 
--- where all words are there
+-- what follows from all words, or another value if they are not all ready
 abbrev pub with_all : {A : Type 0} → Option (List Word) → A → (List Word → A) → A
 with_all None none go = none
 with_all (Some vs) none go = go vs
 
--- the first of two, where it is there
+-- the first of two values, or the second if there is no first
 abbrev pub or_else : {A : Type 0} → Option A → Option A → Option A
 or_else None o = o
 or_else (Some x) o = Some x
 
 unfoldable mutual
-  -- What a term comes to, where `back` has the words of the sites that have returned. A constant and a variable are ready
-  -- always; an operator where all operands are; an if where its condition is and the branch that it selects is; a let
-  -- where all bindings and its body are; a call where its site has returned. A loop is never ready: it loops where all
-  -- arguments are ready
+  -- What a term comes to. `back` has the words of the sites that have returned. Constants and variables are always ready; an
+  -- operator if all its operands are; an if if its condition and the branch that it selects are; a let if all its bindings and
+  -- its body are; a call if its site has returned. A loop is never ready: it loops if all its arguments are ready.
   pub answer : (ℕ → Option Word) → List Word → Term → Answer
   answer back env (Const w) = Ready w
   answer back env (Var i) = Ready (slot env i)
@@ -85,9 +83,9 @@ unfoldable mutual
   answers back env (Cons t ts) = both (answer back env t) (answers back env ts)
 
 unfoldable mutual
-  -- The words with which site k is wanted: its call has its path, and its arguments are ready. Parts have their term's
-  -- path, but for a branch of an if, which has it where the condition is ready and selects it, and the body of a let,
-  -- which has it where all bindings are ready
+  -- The words with which the term wants site k: the call has its path, and its arguments are ready. A part has the path of its
+  -- term. But a branch of an if has it only if the condition is ready and selects the branch, and the body of a let only if all
+  -- bindings are ready.
   pub wanted : (ℕ → Option Word) → List Word → Term → ℕ → Option (List Word)
   wanted back env (Const w) k = None
   wanted back env (Var i) k = None

@@ -1,4 +1,4 @@
--- How many nodes a term has, how deep it is, and how many bindings its lets have.
+-- The number of nodes of a term, its depth, and the number of bindings of its lets.
 use Rattle.std.specs.Prelude.{ℕ, zero, suc, ◌+◌, ◌≤◌, max}
 use Rattle.safl_term.specs.Program.{Program}
 use Rattle.safl_term.specs.Slots.{count}
@@ -23,14 +23,15 @@ unfoldable pub body_nodes : Program → ℕ → ℕ
 body_nodes C zero = 0
 body_nodes C (suc f) = body_nodes C f + nodes (C.body f)
 
--- how deep a checked body is at most, and how many bindings a let has at most
+-- the greatest depth of a checked body; the greatest number of bindings of a let
 abbrev pub max_depth : ℕ
 max_depth = 2000
 
 abbrev pub max_bindings : ℕ
 max_bindings = 16
 
--- a constant, a variable, and a call or loop without arguments have depth 1, any other term one more than its deepest part
+-- the depth of a term. Constants, variables, and calls and loops without arguments have depth 1; any other term is one deeper
+-- than its deepest part
 abbrev mutual
   pub depth : Term → ℕ
   depth (Const w) = 1
@@ -45,7 +46,7 @@ abbrev mutual
   deepest Nil = 0
   deepest (Cons t ts) = max (depth t) (deepest ts)
 
--- each let has one binding at least, and few enough
+-- each let has at least one binding, and not too many
 abbrev mutual
   pub HasShortLets : Term → Type 0
   HasShortLets (Const w) = Unit {0}

@@ -1,17 +1,17 @@
--- In which slots the lets of a term bind.
+-- The slots to which the lets of a term bind.
 use Rattle.std.specs.Prelude.{◌≡◌, ℕ, suc, ◌+◌}
 use Rattle.safl_term.specs.Terms as plain
 use Rattle.safl_term.specs.Tree.{shown_row}
 use Rattle.safl_term.specs.declared.term.Term.{Term, Const, Var, If', Let', Op', Call', Loop', Row_of-Term, end_of-Term, more_of-Term}
 
--- how many terms
+-- how many terms these are
 abbrev pub count : plain.Terms → ℕ
 count plain.Nil = 0
 count (plain.Cons t ts) = suc (count ts)
 
 unfoldable mutual
-  -- In a term that sees n slots, each let names slot n, that of its first binding. Its bindings see n slots too, and its
-  -- body those of the bindings as well. All other parts see what their term sees
+  -- In a term with n slots in scope, each let names slot n, which is that of its first binding. Its bindings have n slots in
+  -- scope too, and its body also those of the bindings. All other parts have the slots of their term in scope.
   pub HasSlots : ℕ → Term → Type 0
   HasSlots n (Const w) = Unit {0}
   HasSlots n (Var i) = Unit {0}

@@ -1,9 +1,9 @@
--- Which sites stand in a term.
+-- Which sites are in a term.
 use Rattle.std.specs.Prelude.{◌≡◌, ℕ, ◌⊎◌}
 use Rattle.safl_term.specs.Terms.{Term, Const, Var, Op, If, Let, Call, Loop, Terms, Nil, Cons}
 
 unfoldable mutual
-  -- site k stands in the term: it is the site of a call there
+  -- site k is in the term: it is the site of a call there
   pub Stands : ℕ → Term → Type 0
   Stands k (Const n) = ⊥
   Stands k (Var i) = ⊥

@@ -4,8 +4,8 @@ use Rattle.safl_word.specs.Words.{Word}
 use Rattle.safl_word.specs.declared.primitive.Primitive.{Primitive}
 
 mutual
-  -- Slots count the parameters first, then the bindings of the lets around, the outer ones first.
-  -- A call has the function and its site; a loop is a tail call of a member of the own group, and no site
+  -- Slots are numbered from the parameters on; then come the bindings of the lets around the term, the outer ones first.
+  -- A call has the called function and its site. A loop is a tail call of a function of the own group, and has no site.
   pub data Term : Type 0 where
     Const : (word : Word) → Term
     Var : (slot : ℕ) → Term

@@ -1,10 +1,10 @@
--- The plain tree that a term of the code shows.
+-- The plain tree of a term of the code.
 use Rattle.std.specs.Prelude.{List, [], ◌∷◌}
 use Rattle.safl_term.specs.Terms as plain
 use Rattle.safl_term.specs.declared.term.Term.{Term, Const, Var, If', Let', Op', Call', Loop', Row_of-Term, end_of-Term, more_of-Term}
 
 abbrev mutual
-  -- a term's own tree: the slot of the first binding of a `Let` is not part of it
+  -- the tree of a term. The slot of the first binding of a `Let` is not part of it
   pub shown_term : Term → plain.Term
   shown_term (Const w) = plain.Const w
   shown_term (Var i) = plain.Var i
@@ -14,7 +14,7 @@ abbrev mutual
   shown_term (Call' f k shape ts) = plain.Call f k (shown_row ts)
   shown_term (Loop' h shape ts) = plain.Loop h (shown_row ts)
 
-  -- the trees of the terms that stand in a term's list
+  -- the trees of the terms in a term's list
   pub shown_row : {m : _} → Row_of-Term m → plain.Terms
   shown_row end_of-Term = plain.Nil
   shown_row (more_of-Term t rest) = plain.Cons (shown_term t) (shown_row rest)

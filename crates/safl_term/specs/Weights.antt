@@ -1,11 +1,12 @@
--- How much there is to take apart in a term.
+-- The weight of a term: how much work it is to free it.
 use Rattle.std.specs.Prelude.{ℕ, ◌+◌, ◌*◌}
 use Rattle.safl_term.specs.declared.dismantle.At.{At}
 use Rattle.safl_term.specs.declared.term.Term as code
 use Rattle.safl_term.specs.Terms.{Term, Terms, Const, Var, Op, If, Let, Call, Loop, Nil, Cons}
 use Rattle.safl_term.specs.Tree.{shown_term}
 
--- an operator, a call and a loop count for two, so that they are no leaves without parts, and a first branch counts twice
+-- the weight of a term. Operators, calls and loops count two, so that they are no leaves even without parts, and a first branch
+-- counts twice
 abbrev mutual
   pub weight : Term → ℕ
   weight (Const w) = 1
@@ -23,7 +24,8 @@ abbrev mutual
 abbrev pub code_weight : code.Term → ℕ
 code_weight t = weight (shown_term t)
 
--- what is left to do, where so much is below and so much above: a step down leaves their sum, and a step up makes it less
+-- the work that is left with so much below and so much above. A step down keeps the sum of the weights, and a step up makes it
+-- less
 abbrev pub work : ℕ → ℕ → ℕ
 work below above = (below + above) * (below + above) + below
 

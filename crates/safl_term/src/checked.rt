@@ -10,8 +10,8 @@ pub struct Parameter {
     pub width: u8,
 }
 
-/// A function: its name, its parameters, the width of its result in bits, the number of the first member
-/// of its group, the number of the first site of its body and of those that follow, and its body.
+/// A function: its name, its parameters, the width of its result in bits, the number of the first function of its
+/// group, the number of the first site of its body and of those that follow it, and its body.
 #[derive(Drop)]
 pub struct Function {
     pub name: String,
@@ -22,15 +22,15 @@ pub struct Function {
     pub body: Term,
 }
 
-/// A call site: the function in whose body it stands, and the function that it calls.
+/// A call site: the function whose body has it, and the function that it calls.
 #[derive(Clone, Copy, Debug, PartialEq, Eq)]
 pub struct Site {
     pub caller: u32,
     pub callee: u32,
 }
 
-/// A well-formed program in numbers. Functions are numbered from 0 in the order of the text, and sites from 1
-/// in the order of the called names.
+/// A well-formed program in numbers. Functions are numbered from 0 in the order of the text, and sites from 1 in the
+/// order of the called names in the text.
 #[derive(Drop)]
 pub struct Checked {
     functions: Vec<Function>,
@@ -64,7 +64,7 @@ impl Checked {
     ghost use Rattle.safl_term.specs.Tree.{shown_term};
     ghost use Rattle.safl_word.specs.Words.{max_width};
 
-    /// The program of these functions and sites, which are in order.
+    /// The program of these functions and sites. They must be in order.
     pub fn new(functions: Vec<Function>, sites: Vec<Site>) -> Checked
         requires checked { IsChecked (checked_of (record { functions = functions.items; sites = sites.items })) }
         requires slots { All BodyHasSlots functions.items }
@@ -150,7 +150,7 @@ impl Checked {
         self.functions[f as usize].width
     }
 
-    /// The number of the first member of a function's group. It has the width of all members.
+    /// The number of the first function of a function's group. Its width is that of the whole group.
     pub fn unit(&self, f: u32) -> u32
         requires { f < self.now.program.functions }
         ensures number { result ≡ self.now.program.unit f }
@@ -170,7 +170,7 @@ impl Checked {
         &self.functions[f as usize].body
     }
 
-    /// The number of the first site in a function's body, and in the bodies that follow it.
+    /// The number of the first site in the body of `f` and in the bodies after it.
     pub fn first_site(&self, f: u32) -> u32
         requires { f < self.now.program.functions }
         ensures { result ≡ self.now.first_site f }
@@ -178,7 +178,7 @@ impl Checked {
         self.functions[f as usize].first_site
     }
 
-    /// The number of sites in a function's body.
+    /// The number of sites in the body of `f`.
     #[tactic(auto, using(crate::proofs::HeldByChecked::first_site_rises))]
     pub fn own_sites(&self, f: u32) -> u32
         requires { f < self.now.program.functions }
@@ -187,7 +187,7 @@ impl Checked {
         self.next_site(f) - self.first_site(f)
     }
 
-    // The number of the first site after a function's body.
+    // The number of the first site after the body of `f`.
     fn next_site(&self, f: u32) -> u32
         requires { f < self.now.program.functions }
         ensures number { result ≡ self.now.first_site (suc f) }
@@ -199,7 +199,7 @@ impl Checked {
         }
     }
 
-    /// The function in whose body a site stands.
+    /// The function whose body has a site.
     pub fn caller(&self, k: u32) -> u32
         requires least { 1 ≤ k }
         requires most { k ≤ self.now.program.sites }
@@ -209,7 +209,7 @@ impl Checked {
         self.sites[k as usize - 1].caller
     }
 
-    /// The function that a site calls; site 0 is the call of main from outside.
+    /// The function that a site calls. Site 0 is the call of main from outside.
     pub fn callee(&self, k: u32) -> u32
         requires { k ≤ self.now.program.sites }
         ensures number { result ≡ self.now.program.callee k }

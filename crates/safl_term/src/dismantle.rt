@@ -1,5 +1,7 @@
-//! Taking a term apart without recursion and without memory. The way back up is kept in the term itself: the first part
-//! of what is above is what is above that, and so on up to a leaf.
+//! Freeing a term without recursion and without memory.
+//!
+//! The way back up is kept in the term itself: the first part of the term above is replaced by the term above that, and
+//! so on up to a leaf. `safl_tree` frees expressions in the same way.
 
 ghost use Rattle.std.specs.Prelude.{◌≡◌, ◌+◌, ◌*◌, ◌<◌, ◌≤◌, IfSome, vec_len};
 ghost use Rattle.std.specs.List.{sum_by};
@@ -10,13 +12,13 @@ use crate::term::Term;
 use safl_word::Primitive;
 use std::mem::replace;
 
-// What is taken apart next, and what is above it.
+// The term that is freed next, and the one above it.
 pub(crate) struct At {
     pub here: Term,
     pub above: Term,
 }
 
-/// Frees a term, which may be of any depth.
+/// Frees a term of any depth.
 pub(crate) fn dismantle(t: Term) {
     let mut at = At {
         here: t,
@@ -69,7 +71,7 @@ pub(crate) fn enter_let(bound: Vec<Term>, mut body: Box<Term>, above: Term) -> A
     }
 }
 
-// Operands or arguments: where there are none, the way goes up.
+// Goes down to the first of several operands or arguments. If there are none, the way goes up.
 pub(crate) fn enter_parts(mut parts: Vec<Term>, above: Term) -> Option<At>
     ensures { IfSome result (λ next. work_at next < work (2 + sum_by code_weight parts.items) (code_weight above)) }
 {
@@ -93,7 +95,7 @@ fn replace_first(parts: &mut Vec<Term>, t: Term) -> Term
     replace(&mut parts[0], t)
 }
 
-// The first branch, or the second one if the first is a leaf.
+// Goes on to the first branch of an if, or to the second one if the first is a leaf.
 pub(crate) fn leave_if(link: Box<Term>, mut first: Box<Term>, second: Box<Term>) -> At
     ensures { code_weight result.here + code_weight result.above ≤ 1 + (code_weight link.value + (2 * code_weight first.value + code_weight second.value)) }
 {
@@ -130,7 +132,7 @@ pub(crate) fn leave_let(mut bound: Vec<Term>, link: Box<Term>) -> At
     }
 }
 
-// The last operand or argument is next; the first one is what is above.
+// Goes on to the last operand or argument. The first one is the way up.
 pub(crate) fn leave_parts(mut parts: Vec<Term>) -> Option<At>
     ensures { IfSome result (λ next. code_weight next.here + code_weight next.above ≤ 2 + sum_by code_weight parts.items) }
 {

@@ -4,15 +4,15 @@ ghost use Rattle.safl_term.specs.Laws.{GivesWords, OneAnswer, OneEvaluation, One
 ghost use Rattle.safl_term.specs.Program.{Program};
 ghost use Rattle.safl_term.specs.WellFormed.{IsWellFormed};
 
-/// The derivations and the function of a number of calls are one meaning, and by it main gives at most one
-/// word, in one number of calls. All evaluations of main on the same arguments make the same calls and loops.
+/// The meaning by derivations and the meaning by a function with a number of calls agree. Main gives at most one word,
+/// in one number of calls. All evaluations of main on the same arguments make the same calls and loops.
 pub fn meaning_law()
     ensures same { (C : Program) → OneAnswer C }
     ensures pair { (C : Program) → OnePair C }
     ensures evaluation { (C : Program) → OneEvaluation C }
 {}
 
-/// On words of main's widths a well-formed program gives a word of main's width.
+/// On words of the widths of main's parameters a well-formed program gives a word of main's width.
 pub fn values_law()
     ensures { (C : Program) → IsWellFormed C → GivesWords C }
 {}

@@ -1,4 +1,4 @@
-//! Checked programs: their terms, their meaning, and what makes a program well formed.
+//! Checked programs: their terms, their meaning, and when a program is well formed.
 #![tactic(auto)]
 
 pub mod checked;

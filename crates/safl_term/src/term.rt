@@ -1,36 +1,38 @@
-//! Terms of the bodies of functions.
+//! Terms, of which the bodies of functions are made.
 
 use crate::dismantle::{
     At, dismantle, enter_if, enter_let, enter_parts, leave_if, leave_let, leave_parts,
 };
 use safl_word::{Primitive, Word};
 
-/// A term of a function's body. Its words are in slots: the parameters first, then the bindings around it.
+/// A term of a function's body. Its variables are slots: first the function's parameters, then the bindings around the
+/// term.
 pub enum Term {
     /// A constant.
     Const(Word),
-    /// The word of a slot.
+    /// The word of this slot.
     Var(u32),
-    /// A condition of width 1, and the branches where it is 1 and where it is 0.
+    /// A condition of width 1, the branch that is taken if it is 1, and the branch that is taken if it is 0.
     If(Box<Term>, Box<Term>, Box<Term>),
-    /// The slot of the first binding, what is bound in this slot and those that follow, and the term below.
+    /// The slot of the first binding, the terms that are bound to this slot and those that follow, and the body.
     Let(u32, Vec<Term>, Box<Term>),
     /// A primitive and its operands.
     Op(Primitive, Vec<Term>),
-    /// The number of the function that is called, the number of the site, and the arguments.
+    /// The number of the called function, the number of the site, and the arguments.
     Call(u32, u32, Vec<Term>),
-    /// A tail call of a member of the own group: its number, and the arguments.
+    /// A tail call of a function of the own group: its number, and the arguments.
     Loop(u32, Vec<Term>),
 }
 
-// A term may be deeper than the stack of calls allows.
+// Written by hand, since a term may be deeper than the stack allows.
 impl Drop for Term {
     fn drop(self) {
         dismantle(self);
     }
 }
 
-// Parts of `dismantle`: only methods of a type that is dropped by hand take its values apart.
+// These are parts of `dismantle`. They are methods because only methods of a type with its own `drop` may take its
+// values apart.
 impl Term {
     ghost use Rattle.std.specs.Prelude.{◌≡◌, ◌+◌, ◌<◌, ◌≤◌, IfSome};
     ghost use Rattle.safl_term.specs.Weights.{code_weight, work, work_at};
@@ -49,7 +51,7 @@ impl Term {
         }
     }
 
-    // The next part of what is above, if that is no leaf.
+    // Goes on to the next part of the term above, if that is no leaf.
     pub(crate) fn leave(self) -> Option<At>
         ensures { IfSome result (λ next. code_weight next.here + code_weight next.above ≤ code_weight self) }
     {
@@ -64,7 +66,7 @@ impl Term {
         }
     }
 
-    // None if the term is a leaf.
+    // Frees the term if it is a leaf, and hands it back otherwise.
     pub(crate) fn discard_leaf(self) -> Option<Term>
         ensures { IfSome result (λ x. (x ≡ self) × (2 ≤ code_weight x)) }
     {

@@ -1,9 +1,9 @@
-//! The command that words say.
+//! Which command some words form.
 
 use safl_command::{Command, read_words};
 use std::test::Fail;
 
-// The cycles of a `sim` and how many arguments it has.
+// The cycles of a `sim` command, and its number of arguments.
 fn sim_of(command: &Option<Command>) -> Option<(u64, usize)> {
     match command {
         Some(Command::Sim { limit, args, .. }) => Some((*limit, args.len())),

@@ -1,4 +1,4 @@
-//! Terms of any depth are dropped without recursion.
+//! Terms of any depth are freed without recursion.
 
 use safl_term::Term;
 use safl_word::{NoMemory, Primitive};
@@ -7,7 +7,7 @@ use std::test::Fail;
 
 const LEVELS: u32 = 1_000_000;
 
-// One level over a term; each kind of term has its turn, and each part of it.
+// Adds a level above a term. Each kind of term has its turn, and in it each of its parts.
 fn over(alloc: Global, level: u32, t: Term) -> Result<Term, NoMemory> {
     match level % 9 {
         0 => Ok(Term::Op(Primitive::Not, vec![in alloc; t]?)),

@@ -1,4 +1,4 @@
-//! Trees of any depth are dropped without recursion.
+//! Trees of any depth are freed without recursion.
 
 use safl_tree::{Arm, Bind, Def, Expr, Name, Node, Program, levels_ok};
 use safl_word::{NoMemory, Primitive};
@@ -16,7 +16,7 @@ fn leaf() -> Expr {
     }
 }
 
-// One level over an expression; each kind of node has its turn, and each part of it.
+// Adds a level above an expression. Each kind of node has its turn, and in it each of its parts.
 fn over(alloc: Global, level: u32, e: Expr) -> Result<Expr, NoMemory> {
     let node = match level % 10 {
         0 => Node::Op(Primitive::Not, vec![in alloc; e]?),
@@ -55,7 +55,7 @@ fn bind(alloc: Global, value: Expr, body: Expr) -> Result<Node, NoMemory> {
     Ok(Node::Let(vec![in alloc; bind]?, boxed(alloc, body)?))
 }
 
-// No text has such a label, but a tree may.
+// A case with such a label. No text has one, but a tree may.
 fn case(alloc: Global, label: Expr, value: Expr) -> Result<Node, NoMemory> {
     let arms = vec![in alloc; Arm { label, value }]?;
     Ok(Node::Case(boxed(alloc, leaf())?, arms, boxed(alloc, leaf())?))

@@ -1,4 +1,4 @@
-//! Bodies as deep as the stack is taken to hold, and deeper ones.
+//! Bodies of the greatest depth that the stack has to hold, and deeper ones.
 
 ghost use Rattle.std.specs.Prelude.{IfOk};
 ghost use Rattle.safl_tree.specs.Printable.{IsFormed, IsFormedProgram};
@@ -11,7 +11,7 @@ use safl_word::{Fault, NoMemory, Primitive, Raw, Rule};
 use std::alloc::Global;
 use std::test::Fail;
 
-// So many `~` over a number.
+// `levels` times `~` over a number.
 fn nested(alloc: Global, levels: u32) -> Result<Expr, NoMemory>
     ensures { IfOk result (λ e. IsFormed (shown_tree e)) }
 {
@@ -29,7 +29,7 @@ fn nested(alloc: Global, levels: u32) -> Result<Expr, NoMemory>
     Ok(e)
 }
 
-// A program of one function without parameters whose name stands at place 4.
+// A program of one function without parameters, whose name is at place 4.
 fn program_of(alloc: Global, body: Expr) -> Result<Program, NoMemory>
     requires { IsFormed (shown_tree body) }
     ensures { IfOk result (λ p. IsFormedProgram (shown_program p)) }

@@ -1,4 +1,4 @@
-//! Sources that were worked out by hand.
+//! Generated sources, compared with ones that were worked out by hand.
 
 use safl_gen::generate;
 use std::test::Fail;

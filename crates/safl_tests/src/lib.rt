@@ -1,8 +1,9 @@
-//! Calls of several crates by themselves: words, tokens and trees of sources, whole programs with their meanings,
-//! machines, plans and printed texts, sources that are made, the words of the command line, a shelf over files, and a sink
-//! over a writer.
+//! Tests that call one crate or a few.
 //!
-//! Tests are in a crate above the libraries, since a library with tests is proved twice. Whole calls of the program are
+//! They are about words, tokens and trees of sources, whole programs and their meaning, call machines, plans, printed
+//! texts, generated sources, command lines, a shelf over files, and a sink over a writer.
+//!
+//! Tests are in a crate above the libraries, since a library with tests is proved twice. Calls of the whole program are
 //! cases (`docs/CASES.md`).
 #![tactic(auto)]
 

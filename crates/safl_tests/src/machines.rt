@@ -1,4 +1,4 @@
-//! Machines and plans of programs, by their own calls.
+//! Call machines and plans of programs.
 
 use safl_compiler::accept;
 use safl_core::{Machine, MachineErr};
@@ -8,7 +8,7 @@ use safl_word::Word;
 use std::alloc::Global;
 use std::test::Fail;
 
-// Multiplication by shifts and sums.
+// Multiplication by shifts and additions.
 const PRODUCT: &[u8] = b"fun mul(x:8, y:8, acc:8):8 =
   if (x==0)|(y==0) then acc
   else mul(x<<1, y>>1, if bits(y,0,0)==1 then acc+x else acc)
@@ -17,7 +17,7 @@ fun main(a:8, b:8):8 = mul(a, b, 0)";
 const LEVELS: &[u8] =
     b"fun f(x:8):8 = x + 1 fun g(x:8):8 = f(x) fun h(x:8):8 = f(x + 1) fun main(a:8):8 = g(a) + h(a)";
 
-// Whether a machine of the program refuses words of these widths.
+// Whether a machine of the program refuses arguments of these widths.
 fn is_refused(alloc: Global, checked: &Checked, widths: &[u8]) -> Result<bool, Fail> {
     let mut words = Vec::new(alloc);
     for width in widths {

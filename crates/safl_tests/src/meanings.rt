@@ -1,4 +1,4 @@
-//! What main comes to by the meaning of programs, and how many calls that takes.
+//! The result of main by the meaning of programs, and how many calls it takes.
 
 ghost use Rattle.std.specs.Prelude.{◌≡◌, IfOk};
 ghost use Rattle.safl_interpreter.specs.Interpreting.{widths};
@@ -10,13 +10,13 @@ use safl_word::{Raw, Word};
 use std::alloc::{AllocError, Global};
 use std::test::Fail;
 
-// Multiplication by shifts and sums.
+// Multiplication by shifts and additions.
 const PRODUCT: &[u8] = b"fun mul(x:8, y:8, acc:8):8 =
   if (x==0)|(y==0) then acc
   else mul(x<<1, y>>1, if bits(y,0,0)==1 then acc+x else acc)
 fun main(a:8, b:8):8 = mul(a, b, 0)";
 
-// Main's arguments: these numbers, in the widths of its parameters.
+// The arguments of main: these numbers, in the widths of its parameters.
 fn words_of(alloc: Global, c: &Checked, numbers: &[Raw]) -> Result<Vec<Word>, AllocError>
     ensures { IfOk result (λ words. widths words.items ≡ c.now.program.params c.now.program.main) }
 {
@@ -29,7 +29,7 @@ fn words_of(alloc: Global, c: &Checked, numbers: &[Raw]) -> Result<Vec<Word>, Al
     Ok(words)
 }
 
-// What main comes to with so many calls.
+// The result of main with a budget of `budget` calls.
 fn meaning(
     alloc: Global,
     source: &[u8],

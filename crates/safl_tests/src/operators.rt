@@ -1,4 +1,4 @@
-//! Words: what operators give, and numbers and faults as texts.
+//! Words: the results of operators, and the texts of numbers and faults.
 
 use safl_word::{
     Fault, Key, Primitive, Raw, Rule, Sym, Word, apply, argument, decimal, numeral, push_decimal,
@@ -7,10 +7,10 @@ use safl_word::{
 use std::process::Abort;
 use std::test::Fail;
 
-// A width and a number.
+// A width and a number below 2 to that width.
 type Pair = (u8, Raw);
 
-// An operator, its two operands, and what it gives: worked out by Python's whole numbers. More of them are cases
+// An operator, its two operands, and its result, worked out with Python's whole numbers. More of these are cases
 // (`docs/CASES.md`).
 static TWO: [(Primitive, Pair, Pair, Pair); 15] = [
     (Primitive::Add, (1, 0x0), (1, 0x1), (1, 0x1)),
@@ -65,7 +65,7 @@ static TWO: [(Primitive, Pair, Pair, Pair); 15] = [
     ),
 ];
 
-// The same with one operand.
+// An operator, its operand, and its result.
 static ONE: [(Primitive, Pair, Pair); 3] = [
     (Primitive::Not, (1, 0x1), (1, 0x0)),
     (

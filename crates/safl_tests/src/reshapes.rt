@@ -1,5 +1,6 @@
-//! Sources that are reshaped by calls of their own. What other sources are reshaped to, what they come to then, and what is
-//! refused are cases (`docs/CASES.md`).
+//! Sources that are reshaped by calls of the libraries.
+//!
+//! More sources, the results of their programs, and refusals are cases (`docs/CASES.md`).
 
 ghost use Rattle.std.specs.Prelude.{◌≤◌, length, IfOk};
 ghost use Rattle.safl_tree.specs.Shown.{shown_program};
@@ -15,7 +16,7 @@ use safl_tree::{Program, print};
 use std::alloc::Global;
 use std::test::Fail;
 
-// What is done at a site.
+// How a program is reshaped at a site.
 #[derive(Clone, Copy)]
 enum Change {
     Copy,
@@ -34,7 +35,6 @@ const UNFOLDED: &[u8] = b"fun f ( x : 8 ) : 8 = x + 1
 fun main ( a : 8 ) : 8 = let r : 8 = let x : 8 = f ( a ) in x + 1 in r
 ";
 
-// The program that a source spells.
 fn spelled(alloc: Global, source: &[u8]) -> Result<Program, Fail>
     requires { length source.now ≤ 1048576 }
     ensures { IfOk result (λ p. SpellsProgram source.now (shown_program p)) }
@@ -45,7 +45,7 @@ fn spelled(alloc: Global, source: &[u8]) -> Result<Program, Fail>
     }
 }
 
-// The program that a source spells, where the checker accepts it.
+// The program that a source spells, if the checker accepts it.
 #[tactic(auto, using(crate::proofs::Forms::has_form))]
 fn accepted(alloc: Global, source: &[u8]) -> Result<Program, Fail>
     ensures printable { IfOk result (λ p. IsPrintable (shown_program p)) }

@@ -1,4 +1,4 @@
-//! A shelf over files of a system that interrupts, and gives and takes little at a time.
+//! A shelf over the files of a system that interrupts calls, and reads and writes little at a time.
 
 use crate::slow_files::{Asked, SlowSystem};
 use safl_io::{DirShelf, Failed, OutErr, ReadErr, Shelf, read_file, write_file};
@@ -37,7 +37,7 @@ fn reads_at_places(rt: HostRuntime) -> Result<(), Fail> {
     let system = (SlowSystem { asked: &asked }, rt.alloc());
     let mut shelf = DirShelf::new(&system);
     let mut buffer = [0; 4];
-    // the name, the place, what is answered, and how many files were opened by then
+    // the name, the offset, what is read, and how many files were opened by then
     let rows = [
         ("file", 5, Ok(1), 1),
         ("file", 6, Ok(1), 1),

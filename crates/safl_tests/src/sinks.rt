@@ -1,11 +1,11 @@
-//! A sink over a writer that takes little at a time.
+//! A sink over a writer that takes few bytes at a time.
 
 use safl_io::{OutErr, Sink, StdSink};
 use std::io;
 use std::io::Write;
 use std::test::Fail;
 
-// Takes two bytes at a time, and nothing more after six.
+// A writer that takes two bytes at a time, and none after six.
 #[derive(Drop)]
 struct Slow<'a> {
     taken: &'a mut Vec<u8>,

@@ -1,4 +1,4 @@
-//! Files of a system that interrupts every second call, and gives and takes one byte at a time.
+//! Files of a system that interrupts every second call, and reads and writes one byte at a time.
 
 use std::alloc::Allocator;
 use std::cell::Cell;
@@ -7,7 +7,7 @@ use std::io;
 use std::io::{ErrorKind, Read, Seek, SeekFrom, Write};
 use std::rt::Files;
 
-/// How many bytes a file has: 0, 1, 2 and so on.
+/// The length of a file in bytes. Its bytes are 0, 1, 2 and so on.
 pub const LENGTH: u64 = 7;
 
 /// What the system was asked for.
@@ -15,7 +15,7 @@ pub const LENGTH: u64 = 7;
 pub struct Asked {
     pub opened: Cell<u32>,
     pub cut: Cell<u32>,
-    // the bytes that were taken, as digits to base 10
+    // the bytes that were written, as decimal digits of one number
     pub taken: Cell<u64>,
 }
 
@@ -29,7 +29,7 @@ impl Asked {
     }
 }
 
-/// Each name but `none` is that of a file of its own; `pipe` can't seek and has no length.
+/// A system in which each name but `none` has a file of its own. The file `pipe` cannot seek and has no length.
 #[derive(Drop)]
 pub struct SlowSystem<'a> {
     pub asked: &'a Asked,
@@ -53,7 +53,7 @@ impl Read for NoFolder {
 }
 
 impl<'a> SlowFile<'a> {
-    // Whether this call is interrupted: the first, the third and so on.
+    // Whether this call is interrupted. The first call is, the third, and so on.
     fn interrupts(&mut self) -> bool {
         self.is_interrupted = !self.is_interrupted;
         self.is_interrupted

@@ -1,4 +1,4 @@
-//! Wrong texts with their places, and the public calls. More texts are cases (`docs/CASES.md`).
+//! Faulty texts with their places, and the public calls on sources. More texts are cases (`docs/CASES.md`).
 
 use safl_parse::{ParseErr, Parsed, parse};
 use safl_tree::laws::printable_law;
@@ -8,7 +8,7 @@ use std::alloc::Global;
 use std::process::Abort;
 use std::test::Fail;
 
-// A text and the rule and place of its first fault.
+// A text, and the rule and the place of its first fault.
 static WRONG: [(&[u8], Rule, u32); 4] = [
     (b"fun m(x:8", Rule::E02, 9),
     (b"fun m():8 = bits(1,1,128", Rule::E05, 21),
@@ -16,7 +16,7 @@ static WRONG: [(&[u8], Rule, u32); 4] = [
     (b"fun m():8 = 1 + $", Rule::E01, 16),
 ];
 
-// The first fault, if the source has one.
+// The first fault of a source, if it has one.
 fn fault(rt: &impl Abort, alloc: Global, source: &[u8]) -> Option<(Rule, u32)> {
     assert!(rt; source.len() <= SOURCE_MAX);
     match parse(alloc, source) {
@@ -53,7 +53,7 @@ fn a_group_and_a_definition(rt: HostRuntime) -> Result<(), Fail> {
     Ok(())
 }
 
-// Sources, and the texts of their programs with least parentheses.
+// Sources, and the texts of their programs with as few parentheses as possible.
 static PRINTED: [(&[u8], &[u8]); 4] = [
     (b"fun main():8=7;", b"fun main ( ) : 8 = 7\n"),
     (

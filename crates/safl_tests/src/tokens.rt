@@ -1,4 +1,4 @@
-//! Tokens of sources, and their first faults. More texts are cases (`docs/CASES.md`).
+//! Tokens of sources, and first lexical faults. More texts are cases (`docs/CASES.md`).
 
 use safl_text::{Key, LexErr, Sym, Token, TokenKind, lex};
 use safl_word::{Fault, Rule, SOURCE_MAX};

@@ -1,4 +1,4 @@
--- What stands at the front of a text.
+-- What a text begins with.
 use Rattle.std.specs.Prelude.{◌≡◌, ◌≢◌, ℕ, ◌<◌, ◌≤◌, ◌==◌, ◌&&◌, List, [], ◌∷◌, ◌++◌, length, take, drop, slice_index, Bool, false, Some}
 use Rattle.safl_word.specs.Numerals.{is_digit, IsNumeral}
 use Rattle.safl_word.specs.Runs.{IsRun}
@@ -8,7 +8,7 @@ use Rattle.safl_word.specs.declared.token.Token.{Token}
 use Rattle.safl_text.specs.declared.front.Front.{Front}
 use Rattle.safl_text.specs.declared.front.Front.TheVariants as fronts
 
--- a `'`, the letter of a base and a run of its digits
+-- the text begins with a `'`, the letter of a base and a run of its digits
 pub record HasSize (text : List ℕ) (base n : ℕ) : Type 0 where
   pub letter : ℕ
   pub digits : List ℕ
@@ -20,17 +20,17 @@ pub record HasSize (text : List ℕ) (base n : ℕ) : Type 0 where
 abbrev pub HasNoSize : List ℕ → Type 0
 HasNoSize text = (letter base : ℕ) (digits rest : List ℕ) → base_of letter ≡ Some base → IsNumeral base digits → text ≡ 39 ∷ letter ∷ (digits ++ rest) → ⊥
 
--- two slashes
+-- whether the text begins with two slashes
 abbrev pub begins_comment : List ℕ → Bool
 begins_comment [] = false
 begins_comment (c ∷ []) = false
 begins_comment (c ∷ (d ∷ rest)) = (c == 47) && (d == 47)
 
--- no symbol is the first two bytes
+-- the first two bytes are no symbol
 abbrev pub HasNoPair : List ℕ → Type 0
 HasNoPair text = (c d : ℕ) (rest : List ℕ) (s : Sym) → text ≡ c ∷ d ∷ rest → c ∷ d ∷ [] ≢ sym_text s
 
--- the first byte is no blank, begins no name and is no digit
+-- the first byte is no blank, no digit, and cannot begin a name
 pub record IsOther (text : List ℕ) : Type 0 where
   pub some : 0 < length text
   pub no_blank : is_blank (slice_index text 0) ≡ false
@@ -43,19 +43,19 @@ pub record HasPiece (text : List ℕ) (n : ℕ) (x : Piece) : Type 0 where
   pub is : text_of x ≡ take n text
   pub stands : StandsBefore x (drop n text)
 
--- it is neither a token nor empty
+-- the piece is a blank or a comment
 abbrev pub IsGap : Piece → Type 0
 IsGap (Blank c) = Unit {0}
 IsGap (Comment w) = Unit {0}
 IsGap (Lexeme k w) = ⊥
 
--- a blank or a comment, a token, or a broken rule
+-- the text begins with a blank or a comment, with a token, or with something that breaks a rule
 abbrev pub Begins : List ℕ → Front → Type 0
 Begins text (fronts.Gap n) = (x : Piece) × HasPiece text n x × IsGap x
 Begins text (fronts.Found k n) = HasPiece text n (Lexeme k (take n text))
 Begins text (fronts.Broken e) = BreaksAtFirst e text
 
--- the bytes up to a place are cut, and these are their tokens
+-- the bytes up to place p are cut into pieces, and these are their tokens
 pub record IsCutUpTo (text : List ℕ) (p : ℕ) (ts : List Token) : Type 0 where
   pub pieces : List Piece
   pub joined : text ≡ text_of_all pieces ++ drop p text

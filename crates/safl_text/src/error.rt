@@ -6,7 +6,7 @@ ghost use Rattle.safl_text.specs.declared.error.LexErr.TheVariants.{NoMemory};
 use safl_word::Fault;
 use std::alloc::{AllocError, AllocFailed};
 
-/// The first lexical fault, or lack of memory.
+/// Why a source has no tokens: its first lexical fault, or out of memory.
 #[derive(Clone, Copy, Debug, PartialEq, Eq)]
 pub enum LexErr {
     Refused(Fault),

@@ -1,4 +1,4 @@
-//! What stands at the start of a text.
+//! What a text begins with.
 
 ghost use Rattle.std.specs.Prelude.{◌≡◌, ◌+◌, ◌<◌, ◌≤◌, ◌∷◌, ◌==◌, not, length, take, drop, slice_index, true, false, IfSome, IfNone};
 ghost use Rattle.safl_word.specs.Numerals.{is_digit, IsNumeral};
@@ -11,10 +11,10 @@ use safl_word::bytes::{base_of, digits_length, is_blank, is_digit, line_length};
 use safl_word::word::DIGITS_MAX;
 use safl_word::{Rule, Sym, TokenKind, numeral};
 
-// The most bytes of a name.
+// The greatest length of a name in bytes.
 const NAME_MAX: usize = 64;
 
-/// What a text begins with: so many bytes of a blank or a comment, a token of so many bytes, or a fault.
+/// What a text begins with: a blank or a comment of so many bytes, a token and its length in bytes, or a fault.
 #[derive(Clone, Copy, Debug, PartialEq, Eq)]
 pub enum Front {
     Gap(usize),
@@ -66,7 +66,7 @@ fn number(text: &[u8]) -> Front
     }
 }
 
-// The base of the digits after a `'`, and how many they are.
+// The base of the digits after a `'` and a letter, and the number of these digits.
 fn size_of(text: &[u8]) -> Option<(u8, usize)>
     ensures some { IfSome result (λ s. HasSize text.now s.0 s.1) }
     ensures none { IfNone result (HasNoSize text.now) }
@@ -141,7 +141,7 @@ fn symbol(text: &[u8]) -> Front
     }
 }
 
-// The symbol of the first two bytes.
+// The symbol of the first two bytes, if they are one.
 fn pair_at(text: &[u8]) -> Option<Sym>
     ensures some { IfSome result (λ s. (2 ≤ length text.now) × (take 2 text.now ≡ sym_text s)) }
     ensures none { IfNone result (HasNoPair text.now) }
@@ -152,21 +152,21 @@ fn pair_at(text: &[u8]) -> Option<Sym>
     }
 }
 
-// A letter or `_`.
+// Whether a byte may begin a name: a letter or `_`.
 fn begins_name(c: u8) -> bool
     ensures { result ≡ begins_name c }
 {
     matches!(c, b'A'..=b'Z' | b'a'..=b'z' | b'_')
 }
 
-// A letter, a digit or `_`.
+// Whether a byte may be in a name: a letter, a digit or `_`.
 fn in_name(c: u8) -> bool
     ensures { result ≡ in_name c }
 {
     matches!(c, b'A'..=b'Z' | b'a'..=b'z' | b'_' | b'0'..=b'9')
 }
 
-// How many bytes of a name the text begins with.
+// The length of the name that a text begins with, in bytes.
 fn name_length(text: &[u8]) -> usize
     ensures { IsRun in_name text.now result }
 {

@@ -1,4 +1,4 @@
-//! From bytes to tokens.
+//! The lexer: from bytes to tokens.
 
 ghost use Rattle.std.specs.Prelude.{◌≡◌, ◌≤◌, length, IfOk, IfErr};
 ghost use Rattle.safl_word.specs.declared.word.TheConstants.{SOURCE_MAX};
@@ -11,7 +11,7 @@ use crate::front::{Front, front_of};
 use safl_word::{Fault, Token};
 use std::alloc::Global;
 
-/// The tokens of a source of at most `SOURCE_MAX` bytes, in order, or the first lexical fault.
+/// The tokens of a source of at most `SOURCE_MAX` bytes, in order, or the source's first lexical fault.
 pub fn lex(alloc: Global, source: &[u8]) -> Result<Vec<Token>, LexErr>
     requires { length source.now ≤ SOURCE_MAX }
     ensures tokens { IfOk result (λ tokens. HasTokens source.now tokens.items) }

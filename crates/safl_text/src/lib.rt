@@ -1,4 +1,4 @@
-//! The tokens of a source.
+//! The lexer of sources.
 #![tactic(auto)]
 
 pub mod error;

@@ -1,4 +1,4 @@
-//! Symbols and keys by their texts.
+//! Keywords and symbols by their texts.
 
 ghost use Rattle.std.specs.Prelude.{◌≡◌, ◌≢◌, ◌<◌, [], ◌∷◌, IfSome, IfNone};
 ghost use Rattle.safl_word.specs.Tokens.{key_text, sym_text};
@@ -7,7 +7,7 @@ ghost use Rattle.safl_word.specs.declared.token.Sym.{Sym};
 
 use safl_word::{Key, Sym};
 
-/// The key of this text, if there is one.
+/// The keyword with this text, if there is one.
 pub fn key_of(text: &[u8]) -> Option<Key>
     ensures some { IfSome result (λ k. text.now ≡ key_text k) }
     ensures none { IfNone result ((k : Key) → text.now ≢ key_text k) }
@@ -29,7 +29,7 @@ pub fn key_of(text: &[u8]) -> Option<Key>
     }
 }
 
-/// The symbol of this one byte, if there is one.
+/// The symbol of this single byte, if there is one.
 pub fn lone_symbol(c: u8) -> Option<Sym>
     ensures some { IfSome result (λ s. c ∷ [] ≡ sym_text s) }
     ensures none { IfNone result ((s : Sym) → c ∷ [] ≢ sym_text s) }

@@ -1,4 +1,4 @@
--- What a command's answer gives.
+-- What the answer of a command gives, and how it is given.
 use Rattle.std.specs.Prelude.{◌≡◌, ℕ, List, [], ◌∷◌, map, slice_index, Option, Contains, Result, Ok, Err}
 use Rattle.safl_io.specs.Counts.{Rose}
 use Rattle.safl_io.specs.Shelf.{ShelfState}
@@ -38,13 +38,13 @@ use Rattle.safl_tool.specs.declared.refusal.Refusal.TheVariants as refusal
 use Rattle.safl_tool.specs.declared.session.Opening.{Opening}
 use Rattle.safl_tool.specs.declared.tracing.TracedRun.{TracedRun}
 
--- ---- what is given
+-- ---- what an answer gives
 
--- lines are printed
+-- an answer that prints lines gives them
 abbrev pub printed : Lines → Given
 printed l = only_prints l.comes l.text.items
 
--- the transcript of the replies to the calls, one after the other
+-- the transcript of the replies to the calls
 pub record IsTranscript (o : Opening) (limit : ℕ) (g : Given) : Type 0 where
   pub replies : List Reply
   pub are : AreReplies o.session.net limit (slice_index o.session.state) o.calls replies
@@ -64,7 +64,7 @@ WillGive (answer.File name text) g = g ≡ only_writes text.items
 WillGive (answer.Replies opening limit) g = IsTranscript opening limit g
 WillGive (answer.Traced run) g = IsTraced run.ready.sim.net run.ready.words.items run.limit (shown_traces run.traces.now) g
 
--- the files that are written, and those for traces among them
+-- the files that an answer writes; and those for traces among them
 abbrev pub outputs_of : Answer → List (List ℕ)
 outputs_of (answer.Printed lines) = []
 outputs_of (answer.File name text) = name.now ∷ []
@@ -86,7 +86,7 @@ pub record CanRun (r : Ready) : Type 0 where
   pub words : AreWords r.words.items
   pub fit : AreArguments r.sim.net r.words.items
 
--- the files that the probes are asked for grew so in its run
+-- in the run, the file of each asked probe is in this relation to its old text, with the probe's trace
 abbrev pub FilesGrow : {P : Type 0} → Relation → TracedRun → FileNames → (P → ProbeState) → List P → ShelfState → ShelfState → Type 0
 FilesGrow R run names tell ps old new =
     (vs : List Valuation) → IsRunOf run.ready.sim.net run.ready.words.items run.limit vs
@@ -98,20 +98,20 @@ CanBeGiven (answer.File name text) = Unit {0}
 CanBeGiven (answer.Replies opening limit) = IsReady opening.session × AreCallsOf opening.session.net opening.calls
 CanBeGiven (answer.Traced run) = CanRun run.ready
 
--- it is an answer to these contents: all that it gives is what the task gives of them
+-- the answer fits these contents: all that it gives is what the task gives for them
 pub record Answers (t : Task) (contents : List (List ℕ)) (a : Answer) : Type 0 where
   pub gives : (g : Given) → WillGive a g → t.Gives contents g
   pub outputs : t.outputs ≡ outputs_of a
   pub can : CanBeGiven a
 
--- ---- how it is given
+-- ---- how an answer is given
 
--- the files have their texts, and the text for the output was sent
+-- the files have their texts, and the printed text was sent
 pub record GivesAll (outputs : List (List ℕ)) (g : Given) (old new : Outside) : Type 0 where
   pub files : TellsOn (LeavesAll (files_of outputs g.texts)) old.shelf.holds new.shelf.holds
   pub printed : TellsOn (Sends g.printed) old.out.sent new.out.sent
 
--- or parts of them
+-- each file is as it was or has a prefix of its text, and a prefix of the printed text was sent
 pub record GivesPart (outputs : List (List ℕ)) (g : Given) (old new : Outside) : Type 0 where
   pub files : TellsOn (LeavesParts (files_of outputs g.texts)) old.shelf.holds new.shelf.holds
   pub printed : TellsOn (SendsPart g.printed) old.out.sent new.out.sent
@@ -124,13 +124,13 @@ pub record IsGiven (a : Answer) (old new : Outside) (s : Status) : Type 0 where
   pub counts : SameCounts old new
   pub is : s ≡ end_of given
 
--- or a part of it
+-- a part of what the answer gives was given
 pub record IsGivenInPart (a : Answer) (old new : Outside) : Type 0 where
   pub whole : Given
   pub will : WillGive a whole
   pub part : GivesPart (outputs_of a) whole old new
 
--- why it was a part: the sink, the shelf or an asked probe failed, or memory ran out
+-- why only a part was given: the sink, the shelf or an asked probe failed, or memory ran out
 abbrev pub GivingFails : Answer → Asked → List ProbeState → List ProbeState → Outside → Outside → Refusal → Type 0
 GivingFails a asks ps qs old new refusal.Output = Rose old.out.faults new.out.faults × IsGivenInPart a old new
 GivingFails a asks ps qs old new (refusal.Write name) =
@@ -139,17 +139,17 @@ GivingFails a asks ps qs old new (refusal.Probe kind) = ProbeFailed kind asks ps
 GivingFails a asks ps qs old new refusal.NoMemory = IsGivenInPart a old new
 GivingFails a asks ps qs old new _ = ⊥
 
--- an answer was given, or not
+-- the answer was given, or only a part of it for one of these reasons
 abbrev pub GivesBy : Answer → Asked → List ProbeState → List ProbeState → Outside → Outside → Result Status Refusal → Type 0
 GivesBy a asks ps qs old new (Ok s) = IsGiven a old new s
 GivesBy a asks ps qs old new (Err r) = GivingFails a asks ps qs old new r
 
--- whatever the shelf and the probes tell, it was given by the output alone
+-- the answer was given, or not, by printing alone: this holds whatever the shelf and the probes tell
 abbrev pub GivesByPrinting : Answer → SinkState → SinkState → Result Status Refusal → Type 0
 GivesByPrinting a before after r =
     (shelf : ShelfState) (asks : Asked) (ps qs : List ProbeState) → GivesBy a asks ps qs (outside shelf before) (outside shelf after) r
 
--- whatever the output and the probes tell, it was given by the shelf alone
+-- the answer was given, or not, by writing a file alone: this holds whatever the output and the probes tell
 abbrev pub GivesByWriting : Answer → ShelfState → ShelfState → Result Status Refusal → Type 0
 GivesByWriting a before after r =
     (out : SinkState) (asks : Asked) (ps qs : List ProbeState) → GivesBy a asks ps qs (outside before out) (outside after out) r

@@ -1,4 +1,4 @@
--- Which probes are asked, as the code has it.
+-- Which probes the code asks.
 use Rattle.std.specs.Prelude.{◌≡◌, ℕ, List, Option, Some, None, MatchOption, Vec, false}
 use Rattle.std.specs.Borrow.{Bor}
 use Rattle.std.specs.declared.string.String.{String}
@@ -12,11 +12,11 @@ use Rattle.safl_tool.specs.Tracing.{AreAskedFor, have_probes, kinds_of, no_trace
 abbrev pub shown_name : Bor (List ℕ) → List ℕ
 shown_name name = name.now
 
--- the files for traces, where there are some
+-- the files for traces, if a command can have any
 abbrev pub traces_given : Option (Bor given.Traces) → Traces
 traces_given None = no_traces
 traces_given (Some traces) = shown_traces traces.now
 
--- the probes are asked for the files of these traces, or there is no answer, if a file has no probe
+-- the probes are asked for the files of these traces. If some file has no probe, there is no answer
 abbrev pub AsksFor : Traces → List ProbeState → Option (Vec (Option (String Global)) Global) → Type 0
 AsksFor t ps answer = MatchOption answer (have_probes t (kinds_of ps) ≡ false) (λ files. AreAskedFor t (asked files.items) ps)

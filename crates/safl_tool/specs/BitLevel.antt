@@ -1,4 +1,4 @@
--- Bit-level circuits: those of the netlists of Verilog files, and those of AIGER files.
+-- Bit-level circuits of netlists in Verilog files, and of AIGER files.
 use Rattle.std.specs.Prelude.{◌≡◌, ℕ, ◌<◌, ◌⊎◌, List, true}
 use Rattle.safl_net.specs.Netlist.{Netlist}
 use Rattle.safl_net.specs.Making.{name_at}
@@ -15,7 +15,7 @@ use Rattle.safl_task.specs.declared.status.Status.TheVariants as status
 
 -- ---- from a Verilog file to an AIGER file
 
--- what `aig` gives of the text of a Verilog file: a text that reads as a bit-level circuit of the netlist that the file's reads as
+-- `aig` gives, for a Verilog file, a text that reads as a bit-level circuit of the netlist that the file reads as
 pub record GivesBits (text : List ℕ) (g : Given) : Type 0 where
   pub net : Netlist
   pub runnable : IsRunnable text net
@@ -23,30 +23,30 @@ pub record GivesBits (text : List ℕ) (g : Given) : Type 0 where
   pub is_text : IsTextOf net out
   pub is : g ≡ only_writes out
 
--- the least register that does not reset to 0 is named; if all do, the weight is told, which is too great
+-- the line names the first register that does not reset to 0; or, if all do, it says that the weight is too great
 pub data RefusesNetlist (n : Netlist) (s : Status) (line : List ℕ) : Type 0 where
   nonzero : (r : ℕ) → IsLeastNonzero n r → s ≡ status.NotZero → line ≡ register_line (name_at n r) → RefusesNetlist n s line
   heavy : AllZero n → most_weight < weight n → s ≡ status.CircuitTooLarge → line ≡ weight_line (weight n) → RefusesNetlist n s line
 
--- the text in the file of this name is none of a netlist without a loop, or its netlist is refused so
+-- the Verilog file with this name reads as no netlist without a loop, or its netlist is refused
 abbrev pub RefusesBitsOf : List ℕ → List ℕ → Status → List ℕ → Type 0
 RefusesBitsOf name text s line =
     ((s ≡ status.VerilogRefused) × IsUnrunnable name text line) ⊎ ((n : Netlist) × IsRunnable text n × RefusesNetlist n s line)
 
--- the text is that of a netlist without a loop, which is light and all of whose registers reset to 0
+-- the text reads as a netlist without a loop, of a weight within the limit, all of whose registers reset to 0
 abbrev pub HasBits : List ℕ → Type 0
 HasBits text = (n : Netlist) × IsRunnable text n × IsLight n
 
 -- ---- AIGER files
 
--- what `aigstat` gives: the numbers of the circuit that the text is
+-- `aigstat` gives the counts of the circuit that the text reads as
 abbrev pub GivesCounts : List ℕ → Given → Type 0
 GivesCounts text g = (a : Circuit) × AigReads text a × (g ≡ only_prints true (counts_lines a))
 
--- the text in the file of this name has a first fault, which the line tells
+-- the AIGER file with this name has a first fault, which the line reports
 abbrev pub RefusesAig : List ℕ → List ℕ → Status → List ℕ → Type 0
 RefusesAig name text s line = (s ≡ status.AigRefused) × (e : AigRule) × (n : ℕ) × HasFault text e n × (line ≡ fault_line name n e)
 
--- the text is a circuit
+-- the text reads as a circuit
 abbrev pub IsAig : List ℕ → Type 0
 IsAig text = (a : Circuit) × AigReads text a

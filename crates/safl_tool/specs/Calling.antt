@@ -1,4 +1,4 @@
--- What a session of the circuit of a source gives.
+-- What a session of a source's circuit gives.
 use Rattle.std.specs.Prelude.{◌≡◌, ℕ, ◌-◌, List, [], length, All, slice_index}
 use Rattle.safl_word.specs.Words.{Word}
 use Rattle.safl_net.specs.Netlist.{Netlist}
@@ -19,8 +19,8 @@ use Rattle.safl_session.specs.Transcripts.{are_all, transcript}
 use Rattle.safl_tool.specs.Lines.{count_line, argument_line, numbered_line}
 use Rattle.safl_task.specs.Tasks.{Given, only_prints}
 
--- The source is a program's, each line of the script has words for main's parameters, and these are the replies of a netlist that
--- is the program's circuit, from reset, one call after the other: each reply is main's, and each call starts in a quiet state
+-- The source spells a program, each line of the script has words for main's parameters, and these are the replies of a netlist
+-- that is the program's circuit, from reset, one call after another. Each reply is main's, and each call starts in a quiet state.
 pub record Converses (source script : List ℕ) (limit : ℕ) (calls : List (List Word)) (replies : List Reply) : Type 0 where
   pub program : Program
   pub names : Names
@@ -33,21 +33,21 @@ pub record Converses (source script : List ℕ) (limit : ℕ) (calls : List (Lis
   pub replied : AreReplies net limit (reset_state net) calls replies
   pub serves : Serves program names net limit (reset_state net) calls replies
 
--- the transcript of the replies to calls, which is a result where each call has its reply
+-- a session gives the transcript of the replies. It is a result if each call has its reply
 abbrev pub told : ℕ → List (List Word) → List Reply → Given
 told limit calls replies = only_prints (are_all (length calls) replies) (transcript limit (length calls) replies)
 
--- what a session gives
+-- what a session of the source gives for a script
 abbrev pub GivesReplies : ℕ → List ℕ → List ℕ → Given → Type 0
 GivesReplies limit source script g = (calls : List (List Word)) × (replies : List Reply) × Converses source script limit calls replies × (g ≡ told limit calls replies)
 
--- the line of a script's fault, for parameters of these widths
+-- the line that reports a fault of a script, for parameters of these widths
 abbrev pub script_line : List ℕ → ScriptErr → List ℕ
 script_line widths (errors.Count line given) = numbered_line line (count_line (length widths) given)
 script_line widths (errors.Argument line place) = numbered_line line (argument_line place (slice_index widths (place - 1)))
 script_line widths errors.NoMemory = []
 
--- the source is a program's, and the script has a first faulty line for main's parameters, which the line tells
+-- the source spells a program, and the script has a first faulty line for main's parameters, which the line reports
 pub record IsMisscripted (source script line : List ℕ) : Type 0 where
   pub program : Program
   pub names : Names
@@ -56,8 +56,8 @@ pub record IsMisscripted (source script line : List ℕ) : Type 0 where
   pub first : IsScriptFault (program.params program.main) script fault
   pub is : line ≡ script_line (program.params program.main) fault
 
--- the source is a program's, and from the words of each line main gives a value, where the last cycle in which done may come is
--- below the limit
+-- The source spells a program, and main gives a value for the words of each line, with the last cycle in which `done` may come
+-- below the limit.
 pub record EvaluatesEach (source script : List ℕ) (limit : ℕ) : Type 0 where
   pub program : Program
   pub names : Names

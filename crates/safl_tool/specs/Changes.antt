@@ -1,4 +1,4 @@
--- How a call changes a shelf, the output and the probes: the relations of worlds, by what each of them tells before and after.
+-- How a call changes a shelf, the output and the probes, by what each of them tells before and after.
 use Rattle.std.specs.Prelude.{List, map, Option, Result, Vec, string_bytes}
 use Rattle.std.specs.declared.string.String.{String}
 use Rattle.std.specs.declared.alloc.Global.{Global}
@@ -16,19 +16,19 @@ use Rattle.safl_tool.specs.Worlds.{Does, DoesCommand, EndsBy, Follows, Spares, S
 use Rattle.safl_tool.specs.declared.answer.Answer.{Answer}
 use Rattle.safl_tool.specs.declared.refusal.Refusal.{Refusal}
 
--- an answer was given or not, where the probes are asked for these files
+-- the answer was given, or not, when the probes are asked for these files
 abbrev pub GivesOn : {S O P : Type 0} → Answer → FileNames → (S → ShelfState) → S → S → (O → SinkState) → O → O
     → (P → ProbeState) → Vec P Global → Vec P Global → Result Status Refusal → Type 0
 GivesOn a names shelf s s' out o o' tell ps qs r =
     GivesBy a (asked names) (map tell ps.items) (map tell qs.items) (outside (shelf s) (out o)) (outside (shelf s') (out o')) r
 
--- a command was done or it stops, where the probes are asked for these files
+-- the command was done, or it stops, when the probes are asked for these files
 abbrev pub DoesAskedOn : {S O P : Type 0} → Command → FileNames → (S → ShelfState) → S → S → (O → SinkState) → O → O
     → (P → ProbeState) → Vec P Global → Vec P Global → Result Status Refusal → Type 0
 DoesAskedOn m names shelf s s' out o o' tell ps qs r =
     Does (command_task m) (asked names) (world (shelf s) (out o) tell ps.items) (world (shelf s') (out o') tell qs.items) r
 
--- and what stays whatever comes
+-- what stays in any case, when the probes are asked for these files
 abbrev pub SparesAskedOn : {S O P : Type 0} → Command → FileNames → (S → ShelfState) → S → S → (O → SinkState) → O → O
     → (P → ProbeState) → Vec P Global → Vec P Global → Type 0
 SparesAskedOn m names shelf s s' out o o' tell ps qs =
@@ -50,7 +50,7 @@ abbrev pub AttendedOn : {S P : Type 0} → List (String Global) → (S → Shelf
 AttendedOn words shelf s tell ps qs status =
     Attended (command_of (map string_bytes words)) (shelf s).holds ps.items qs.items (map tell ps.items) (map tell qs.items) status
 
--- what the words ask for was done or it stops, and what stays whatever comes
+-- what the words ask for was done, or it stops; and what stays in any case
 abbrev pub DoesOn : {S O P : Type 0} → Option Command → (S → ShelfState) → S → S → (O → SinkState) → O → O
     → (P → ProbeState) → Vec P Global → Vec P Global → Result Status Refusal → Type 0
 DoesOn m shelf s s' out o o' tell ps qs r = DoesCommand m (world (shelf s) (out o) tell ps.items) (world (shelf s') (out o') tell qs.items) r
@@ -59,7 +59,7 @@ abbrev pub SparesOn : {S O P : Type 0} → Option Command → (S → ShelfState)
     → (P → ProbeState) → Vec P Global → Vec P Global → Type 0
 SparesOn m shelf s s' out o o' tell ps qs = SparesFor m (world (shelf s) (out o) tell ps.items) (world (shelf s') (out o') tell qs.items)
 
--- how a call with these words ends, with the sink of refusals too, and what follows of it
+-- how a call of the program with these words ends, with what was sent to standard error; and what follows from it
 abbrev pub EndsOn : {S O E P : Type 0} → List (String Global) → (S → ShelfState) → S → S → (O → SinkState) → O → O
     → (E → SinkState) → E → E → (P → ProbeState) → Vec P Global → Vec P Global → Status → Type 0
 EndsOn words shelf s s' out o o' err e e' tell ps qs status =

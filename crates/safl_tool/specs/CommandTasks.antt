@@ -1,4 +1,4 @@
--- What each command reads, refuses and gives.
+-- The task of each command: what it reads, refuses and gives.
 use Rattle.std.specs.Prelude.{◌≡◌, ℕ, ◌⊎◌, List, [], ◌++◌, take, Option, Some, None, is_some, true, false, Bool, codes}
 use Rattle.safl_word.specs.Words.{Word}
 use Rattle.safl_net.specs.Netlist.{Netlist}
@@ -36,42 +36,42 @@ use Rattle.safl_task.specs.Tasks.{Given, Task, only_prints, only_writes, reading
 use Rattle.safl_task.specs.declared.status.Status.{Status}
 use Rattle.safl_task.specs.declared.status.Status.TheVariants as status
 
--- a text that is printed with a result, and one that tells that none came
+-- a command prints a text as its result; or a text that says that no result came
 abbrev pub result : List ℕ → Given
 result text = only_prints true text
 
 abbrev pub no_result : List ℕ → Given
 no_result text = only_prints false text
 
--- the source in the file of this name has a first fault, which the line tells
+-- the source with this name has a first fault, which the line reports
 abbrev pub RefusesSourceOf : List ℕ → List ℕ → Status → List ℕ → Type 0
 RefusesSourceOf name source s line = (s ≡ status.SourceRefused) × IsFaultLine name line source
 
--- or it has none, and the arguments have one
+-- the source is refused; or it is accepted, and the arguments do not fit main's parameters
 abbrev pub RefusesGiven : List ℕ → List (List ℕ) → List ℕ → Status → List ℕ → Type 0
 RefusesGiven name args source s line = RefusesSourceOf name source s line ⊎ ((s ≡ status.BadArgs) × IsMisgiven source args line)
 
--- the text in the file of this name is none of a netlist without a loop
+-- the Verilog file with this name reads as no netlist without a loop, and the line says why
 abbrev pub RefusesNet : List ℕ → List ℕ → Status → List ℕ → Type 0
 RefusesNet name text s line = (s ≡ status.VerilogRefused) × IsUnrunnable name text line
 
--- or it is, and the arguments have a fault for it
+-- the Verilog file is refused; or it reads as a netlist without a loop, and the arguments do not fit its inputs
 abbrev pub RefusesText : List ℕ → List (List ℕ) → List ℕ → Status → List ℕ → Type 0
 RefusesText name args text s line = RefusesNet name text s line ⊎ ((s ≡ status.BadArgs) × IsMisrun text args line)
 
--- words that are no command
+-- the task of words that do not form a command
 abbrev pub usage_task : Task
 usage_task = making (λ s line. (s ≡ status.Usage) × (line ≡ usage_line)) (λ g. ⊥) ⊥
 
--- what `check` gives of a source: the numbers of its program
+-- `check` gives, for a source, the numbers of its program
 abbrev pub GivesNumbers : List ℕ → Given → Type 0
 GivesNumbers source g = (C : Program) × (D : Names) × IsSourceOf source C D × (g ≡ result (program_lines C.functions C.sites))
 
 abbrev pub check_task : List ℕ → Task
 check_task input = printing (source_file input) (RefusesSourceOf input) GivesNumbers IsAccepted
 
--- What is given is the text of this netlist, which is the circuit of the source's program. It is a netlist, whole and in order,
--- and the text reads as it; no prefix of the text reads as a netlist, but for one without the last line feed alone.
+-- The text of this netlist is given, and the netlist is the circuit of the source's program. It is whole and in order, and the
+-- text reads as it. No proper prefix of the text reads as a netlist, except for the text without its last line feed.
 pub record WritesCircuit (source : List ℕ) (net : Netlist) (g : Given) : Type 0 where
   pub program : Program
   pub names : Names
@@ -84,11 +84,11 @@ pub record WritesCircuit (source : List ℕ) (net : Netlist) (g : Given) : Type 
   pub torn : (count : ℕ) → IsTornOrWhole net (take count (written net))
   pub is : g ≡ only_writes (written net)
 
--- what `build` gives of a source
+-- what `build` gives for a source
 abbrev pub GivesCircuit : List ℕ → Given → Type 0
 GivesCircuit source g = (net : Netlist) × WritesCircuit source net g
 
--- and what it gives with `--opt`: a circuit none of whose temporary wires could be spared
+-- what `build` gives for a source with `--opt`: a circuit none of whose temporary wires could be spared
 abbrev pub GivesOptimised : List ℕ → Given → Type 0
 GivesOptimised source g = (net : Netlist) × WritesCircuit source net g × Lean net
 
@@ -98,7 +98,7 @@ build_task input output = writing (source_file input) output (RefusesSourceOf in
 abbrev pub optimise_task : List ℕ → List ℕ → Task
 optimise_task input output = writing (source_file input) output (RefusesSourceOf input) GivesOptimised IsAccepted
 
--- some lines, and then those of the outcome of a run, which is a result where done came
+-- some lines, and then those of the outcome of a run. They are a result if `done` came
 abbrev pub outcome_after : List ℕ → ℕ → Option Done → Given
 outcome_after head limit answer = only_prints (is_some answer) (head ++ outcome_lines limit answer)
 
@@ -109,7 +109,7 @@ outcome = outcome_after []
 abbrev pub traced : ℕ → Option Done → List (List ℕ) → Given
 traced limit answer texts = record (outcome limit answer) { texts = texts }
 
--- what a run of the circuit of a source gives, with the traces of its cycles up to the first with `done` at 1
+-- what a run of a source's circuit gives, with the traces of its cycles up to the first with `done` at 1
 pub record GivesTraces (traces : Traces) (args : List (List ℕ)) (limit : ℕ) (source : List ℕ) (g : Given) : Type 0 where
   pub answer : Option Done
   pub simulates : Simulates source args limit answer
@@ -125,14 +125,14 @@ abbrev pub end_of_walk : ℕ → Walked → Option Word → Given
 end_of_walk steps w (Some v) = result (walk_lines v.bits w.events w.units)
 end_of_walk steps w None = no_result (short_line steps)
 
--- what a walk of the call machine of a source gives
+-- what a walk of a source's call machine gives
 abbrev pub GivesWalk : List (List ℕ) → ℕ → ℕ → List ℕ → Given → Type 0
 GivesWalk args seed steps source g = (w : Walked) × Walks source args seed steps w × (g ≡ end_of_walk steps w w.result)
 
 abbrev pub walk_task : List ℕ → ℕ → ℕ → List (List ℕ) → Task
 walk_task input seed steps args = printing (source_file input) (RefusesGiven input args) (GivesWalk args seed steps) (λ source. Evaluates source args (InEvents steps))
 
--- what a run of the netlist of a text gives
+-- what a run of the netlist of a Verilog file gives
 abbrev pub GivesRun : List (List ℕ) → ℕ → List ℕ → Given → Type 0
 GivesRun args limit text g = (answer : Option Done) × RunsText text args limit answer × (g ≡ outcome limit answer)
 
@@ -149,24 +149,24 @@ NeverRefuses s line = ⊥
 abbrev pub gen_task : ℕ → ℕ → Task
 gen_task seed count = making NeverRefuses (λ g. g ≡ result (made_source seed count)) (Unit {0})
 
--- of a source: the numbers of its program, the summary of its plan, and the outcome of a run of its circuit
+-- what `bench` gives for a source: the numbers of its program, the summary of its plan, and the outcome of a run of its circuit
 abbrev pub GivesMeasure : List (List ℕ) → ℕ → List ℕ → Given → Type 0
 GivesMeasure args limit source g = (head : List ℕ) × (answer : Option Done) × Measures source args limit head answer × (g ≡ outcome_after head limit answer)
 
--- a made source is refused as any other; its file would have the name `bench`
+-- the task of `bench`. A generated source is refused as any other is; its name would be `bench`
 abbrev pub bench_task : ℕ → ℕ → ℕ → Task
 bench_task seed count limit =
     making (RefusesGiven (codes "bench") (made_args seed count) (made_source seed count)) (GivesMeasure (made_args seed count) limit (made_source seed count))
     (Evaluates (made_source seed count) (made_args seed count) (InCycles limit))
 
--- the source has a fault, or its program is not reshaped at the site
+-- the source is refused, or its program cannot be reshaped at the site
 abbrev pub RefusesReshaping : Reshaping → List ℕ → ℕ → List ℕ → Status → List ℕ → Type 0
 RefusesReshaping r name site source s line = RefusesSourceOf name source s line ⊎ IsUnshaped r site source s line
 
 abbrev pub reshape_task : Reshaping → List ℕ → List ℕ → ℕ → Task
 reshape_task r input output site = writing (source_file input) output (RefusesReshaping r input site) (GivesReshaped r) (IsReshapable r)
 
--- the source has a fault, or else the script has one for main's parameters
+-- the source is refused; or it is accepted, and the script has a fault for main's parameters
 abbrev pub RefusesSession : List ℕ → List ℕ → List ℕ → Status → List ℕ → Type 0
 RefusesSession name source script s line = RefusesSourceOf name source s line ⊎ ((s ≡ status.BadArgs) × IsMisscripted source script line)
 
@@ -180,7 +180,6 @@ aig_task input output = writing (verilog_file input) output (RefusesBitsOf input
 abbrev pub aigstat_task : List ℕ → Task
 aigstat_task input = printing (aig_file input) (RefusesAig input) GivesCounts IsAig
 
--- the task of a command
 abbrev pub command_task : Command → Task
 command_task (Check input) = check_task input
 command_task (Build input output) = build_task input output
@@ -207,13 +206,13 @@ abbrev pub task_if : Bool → Task → Task → Task
 task_if true first second = first
 task_if false first second = second
 
--- The task of the words of a command, where there are probes of these kinds. Each file for traces has a probe of its kind; words for
--- which this is not so, and those that are no command, are refused.
+-- The task of the words of a command line, with probes of these kinds. Words that form no command are refused, and so is a
+-- command with a file for traces that no probe can write.
 abbrev pub task_of : List ℕ → Option Command → Task
 task_of kinds None = usage_task
 task_of kinds (Some m) = task_if (have_probes (traces_in m) kinds) (command_task m) usage_task
 
--- the probes that they ask, and for which files
+-- which probes a command asks, and for which files
 abbrev pub asks_of : List ℕ → Option Command → Asked
 asks_of kinds None = []
 asks_of kinds (Some m) = asked_by (traces_in m) kinds

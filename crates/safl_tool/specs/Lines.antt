@@ -1,4 +1,4 @@
--- The lines that tell why a command refuses what it reads, or that a probe failed, each with its line feed.
+-- The lines that say why a command refuses what it reads, or that a probe failed. Each ends with its line feed.
 use Rattle.std.specs.Prelude.{ℕ, ◌+◌, List, ◌++◌, take, not, ◌==◌, count_by, codes}
 use Rattle.std.specs.List.{suffix_len}
 use Rattle.std.specs.Fmt.{decimal}
@@ -8,31 +8,31 @@ use Rattle.safl_word.specs.Faults.{fault_text}
 abbrev pub usage_line : List ℕ
 usage_line = codes "usage: safl check IN | build IN OUT | sim IN --cycles L [ARG..] | run FILE --cycles L [ARG..] | walk IN --order SEED --steps N [ARG..] | report IN | gen SEED COUNT | bench SEED COUNT --cycles L\n"
 
--- how many parameters main has, and how many arguments there are
+-- main has so many parameters, and there are so many arguments
 abbrev pub count_line : ℕ → ℕ → List ℕ
 count_line params given = codes "main takes " ++ decimal params ++ codes " arguments, " ++ decimal given ++ codes " given\n"
 
--- the number of an argument, from 1, and the bits of its parameter
+-- the argument of this number, counted from 1, is no number of so many bits
 abbrev pub argument_line : ℕ → ℕ → List ℕ
 argument_line index width = codes "argument " ++ decimal index ++ codes " is no number of " ++ decimal width ++ codes " bits\n"
 
--- what is said of the line of this number, from 1, of a script
+-- a text about a line of a script, after the number of the line, counted from 1
 abbrev pub numbered_line : ℕ → List ℕ → List ℕ
 numbered_line number text = codes "line " ++ decimal number ++ codes ": " ++ text
 
--- that a probe of a kind failed
+-- a probe of this kind failed
 abbrev pub probe_line : ℕ → List ℕ
 probe_line kind = codes "probe " ++ decimal kind ++ codes " failed\n"
 
--- why a site is not reshaped
+-- the site cannot be reshaped, for this reason
 abbrev pub site_line : ℕ → List ℕ → List ℕ
 site_line site text = codes "site " ++ decimal site ++ codes ": " ++ text ++ codes "\n"
 
--- one more than the line feeds before the place
+-- the line of a place: one more than the number of line feeds before it
 abbrev pub line_at : List ℕ → ℕ → ℕ
 line_at source place = count_by (λ c. c == 10) (take place source) + 1
 
--- one more than the bytes between the last line feed before the place, or the beginning, and the place
+-- the column of a place: one more than the number of bytes between the last line feed before it, or the beginning, and the place
 abbrev pub column_at : List ℕ → ℕ → ℕ
 column_at source place = suffix_len (λ c. not (c == 10)) (take place source) + 1
 

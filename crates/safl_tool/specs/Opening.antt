@@ -1,4 +1,4 @@
--- A session in which no call was made.
+-- A session before its first call.
 use Rattle.std.specs.Prelude.{◌≡◌, ℕ, List, true}
 use Rattle.safl_net.specs.Netlist.{Netlist}
 use Rattle.safl_net.specs.Arguments.{argument_widths}
@@ -7,7 +7,7 @@ use Rattle.safl_session.specs.Scripts.{IsScript}
 use Rattle.safl_tool.specs.Sources.{IsCompiled}
 use Rattle.safl_tool.specs.declared.session.Opening as code
 
--- it is one of a netlist that the source is compiled to, at reset, and its calls are the script's
+-- the session is that of a netlist that the source is compiled to, at reset, and its calls are those of the script
 pub record IsOpening (source script : List ℕ) (o : code.Opening) : Type 0 where
   pub net : Netlist
   pub compiled : IsCompiled source net

@@ -1,4 +1,4 @@
--- What a refusal says.
+-- What refusals say.
 use Rattle.std.specs.Prelude.{◌≡◌, ◌⊎◌, ℕ, List, map, Option, Some, string_bytes}
 use Rattle.safl_io.specs.Counts.{Rose}
 use Rattle.safl_io.specs.Shelf.{ShelfState}
@@ -62,64 +62,64 @@ line_of (refusal.Register name) = register_line (string_bytes name)
 line_of (refusal.Probe kind) = probe_line kind
 line_of refusal.NoMemory = memory_line
 
--- it is that of a file that is not read
+-- the refusal of a file that was not read
 abbrev pub IsOfUnread : Unread → Refusal → Type 0
 IsOfUnread (unread.Failed name) r = r ≡ refusal.Read name
 IsOfUnread (unread.TooLong name limit) r = r ≡ refusal.TooLong name limit
 IsOfUnread unread.NoMemory r = r ≡ refusal.NoMemory
 
--- the refusal has a status and a line of these, or memory ran out
+-- the refusal has a status and a line with property R, or it is out of memory
 abbrev pub RefusesBy : (Status → List ℕ → Type 0) → Refusal → Type 0
 RefusesBy R r = (r ≡ refusal.NoMemory) ⊎ R (status_of r) (line_of r)
 
--- this is the status, and this the line
+-- the status and the line are these
 abbrev pub HasLine : Status → List ℕ → Status → List ℕ → Type 0
 HasLine status line s l = (s ≡ status) × (l ≡ line)
 
--- the task refuses these contents so, or memory ran out
+-- the refusal is one of the task for these contents, or out of memory
 abbrev pub Declines : Task → List (List ℕ) → Refusal → Type 0
 Declines t contents = RefusesBy (t.Refuses contents)
 
--- a command stops with the refusal's status and line
+-- the command stops with the status and the line of the refusal
 abbrev pub StopsBy : Task → (List ℕ → Type 0) → Outside → Outside → Refusal → Type 0
 StopsBy t Unprobed old new r = Stops t Unprobed old new (status_of r) (line_of r)
 
--- the line tells that an asked probe failed
+-- the line says that an asked probe failed
 abbrev pub TellsProbe : Asked → List ProbeState → List ProbeState → List ℕ → Type 0
 TellsProbe asks ps qs line = (kind : ℕ) × ProbeFailed kind asks ps qs × (line ≡ probe_line kind)
 
--- why a run was not watched to its end: an asked probe failed, or one of their files was not written, or memory ran out
+-- why a run was not watched to its end: an asked probe failed, one of their files was not written, or memory ran out
 abbrev pub WatchingFails : Asked → List ProbeState → List ProbeState → ShelfState → ShelfState → Refusal → Type 0
 WatchingFails names ps qs old new (refusal.Probe kind) = ProbeFailed kind names ps qs
 WatchingFails names ps qs old new (refusal.Write name) = ((i : ℕ) × IsAsked names i name.now) × Rose old.write_faults new.write_faults
 WatchingFails names ps qs old new refusal.NoMemory = Unit {0}
 WatchingFails names ps qs old new _ = ⊥
 
--- the same, by the files that the probes are asked for, and what they tell
+-- why a run was not watched to its end, said by the names of files that the probes are asked to write, and what they tell
 abbrev pub FailsToWatch : {P : Type 0} → FileNames → (P → ProbeState) → List P → List P → ShelfState → ShelfState → Refusal → Type 0
 FailsToWatch names tell ps qs old new r = WatchingFails (asked names) (map tell ps) (map tell qs) old new r
 
--- it says that the file of this name was not written
+-- the refusal says that this file was not written
 abbrev pub IsWriting : Option (List ℕ) → Refusal → Type 0
 IsWriting file (refusal.Write name) = file ≡ Some name.now
 IsWriting file _ = ⊥
 
--- a text is printed
+-- a text was printed
 abbrev pub Prints : List ℕ → SinkState → SinkState → Type 0
 Prints text before after = TellsOn (Sends text) before.sent after.sent
 
--- why it is not: the sink failed after a prefix, or memory ran out after one
+-- why a text was not printed: the sink failed after a prefix of it, or memory ran out after one
 abbrev pub PrintFails : List ℕ → SinkState → SinkState → Refusal → Type 0
 PrintFails text before after refusal.Output = Rose before.faults after.faults × TellsOn (SendsPart text) before.sent after.sent
 PrintFails text before after refusal.NoMemory = TellsOn (SendsPart text) before.sent after.sent
 PrintFails text before after _ = ⊥
 
--- a line was sent, or the sink failed, or memory ran out in sending it
+-- the line was sent, or the sink failed, or memory ran out while it was sent
 pub data SendsLine (s : Status) (line : List ℕ) (before after : SinkState) : Status → Type 0 where
   sent : Got line before after → SendsLine s line before after s
   cut : TellsOn (SendsPart line) before.sent after.sent → SendsLine s line before after status.NoMemory
 
--- the refusal's line was sent so, or memory ran out in making it
+-- the line of the refusal was sent, or memory ran out while it was made
 pub data SendsRefusal (r : Refusal) (before after : SinkState) (s : Status) : Type 0 where
   made : SendsLine (status_of r) (line_of r) before after s → SendsRefusal r before after s
   unmade : SendsLine status.NoMemory memory_line before after s → SendsRefusal r before after s

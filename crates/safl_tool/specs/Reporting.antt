@@ -1,4 +1,4 @@
--- What is printed of a source's plan, and of sources that are made from numbers.
+-- What is printed of a source's plan, and of generated sources.
 use Rattle.std.specs.Prelude.{◌≡◌, ℕ, ◌%◌, ◌++◌, List, [], ◌∷◌, decimal, Option, true}
 use Rattle.safl_word.specs.Words.{Word}
 use Rattle.safl_gen.specs.Draws.{draw}
@@ -21,7 +21,7 @@ pub record Reports (c : CheckedProgram) (text : List ℕ) : Type 0 where
   pub circuit : IsCircuitOf c.program c.names net
   pub report : IsReport c net text
 
--- what `report` gives of a source
+-- what `report` gives for a source
 pub record GivesReport (source : List ℕ) (g : Given) : Type 0 where
   pub checked : CheckedProgram
   pub source_of : IsSourceOf source checked.program checked.names
@@ -29,13 +29,13 @@ pub record GivesReport (source : List ℕ) (g : Given) : Type 0 where
   pub reports : Reports checked text
   pub is : g ≡ only_prints true text
 
--- ---- sources that are made from numbers
+-- ---- generated sources
 
 -- the source of so many functions from a seed
 abbrev pub made_source : ℕ → ℕ → List ℕ
 made_source seed count = made.source (draw seed) count
 
--- the arguments with which the circuit of such a source is run
+-- the arguments with which the circuit of a generated source is run
 abbrev pub made_args : ℕ → ℕ → List (List ℕ)
 made_args seed count = decimal (seed % 65536) ∷ decimal count ∷ []
 
@@ -45,8 +45,8 @@ pub record HasHead (c : CheckedProgram) (n : Netlist) (head : List ℕ) : Type 0
   pub is_summary : IsSummary c n summary
   pub is : head ≡ program_lines c.program.functions c.program.sites ++ summary
 
--- Of a source: the numbers of its program and the summary of its plan, and then what the run of its circuit with these arguments
--- shows, in which all inputs are 0 after cycle 0
+-- The numbers of the source's program, the summary of its plan, and what a run of its circuit with these arguments shows, in
+-- which all inputs are 0 after cycle 0.
 pub record Measures (source : List ℕ) (args : List (List ℕ)) (limit : ℕ) (head : List ℕ) (answer : Option Done) : Type 0 where
   pub checked : CheckedProgram
   pub net : Netlist

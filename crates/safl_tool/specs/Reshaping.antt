@@ -1,4 +1,4 @@
--- What is said of reshaped sources.
+-- Reshaped sources.
 use Rattle.std.specs.Prelude.{◌≡◌, ℕ, suc, zero, ◌<◌, ◌≤◌, List, length, codes}
 use Rattle.safl_tree.specs.Tree.{Definition}
 use Rattle.safl_tree.specs.Source.{SpellsProgram}
@@ -16,15 +16,15 @@ use Rattle.safl_task.specs.Tasks.{Given, only_writes}
 use Rattle.safl_task.specs.declared.status.Status.{Status}
 use Rattle.safl_task.specs.declared.status.Status.TheVariants as status
 
--- ---- refusals
+-- ---- why a site cannot be reshaped
 
--- the limit of this number, 1, 4 or 5
+-- the name of a limit by its number: 1, 4 or 5
 abbrev pub limit_text : ℕ → List ℕ
 limit_text (suc zero) = codes "limit: functions 1000"
 limit_text (suc (suc (suc (suc zero)))) = codes "limit: sites 4000"
 limit_text _ = codes "limit: nodes 50000"
 
--- why a site is not reshaped, in words; that memory ran out is no reason
+-- why a site cannot be reshaped, in words. Out of memory is no such reason
 abbrev pub HasReason : ReshapeErr → List ℕ → Type 0
 HasReason errors.NoSite text = text ≡ codes "no such site"
 HasReason errors.Grouped text = text ≡ codes "grouped"
@@ -35,14 +35,14 @@ HasReason (errors.Limit i) text = text ≡ limit_text i
 HasReason errors.TooDeep text = text ≡ codes "nesting too deep"
 HasReason errors.NoMemory text = ⊥
 
--- the line tells why the site is not reshaped, or that the text would be longer than a source may be
+-- the line says why the site cannot be reshaped, or that the text would be longer than a source may be
 abbrev pub TellsReason : ℕ → ReshapeErr → Status → List ℕ → Type 0
 TellsReason site e s line = (s ≡ status.ReshapeRefused) × (text : List ℕ) × HasReason e text × (line ≡ site_line site text)
 
 abbrev pub TellsLong : ℕ → List ℕ → Status → List ℕ → Type 0
 TellsLong site text s line = (s ≡ status.ReshapeRefused) × (source_max < length text) × (line ≡ site_line site (codes "text too long"))
 
--- how a program is reshaped: what refuses it, and to what it is reshaped
+-- a way of reshaping: what refuses it, and what a program is reshaped to
 pub record Reshaping : Type 1 where
   pub Refused : List Definition → ReshapeErr → Type 0
   pub Reshaped : List Definition → List Definition → Type 0
@@ -54,13 +54,13 @@ copies site = record { Refused = λ ds e. CopyRefused ds site e; Reshaped = λ d
 abbrev pub unfolds : ℕ → Reshaping
 unfolds site = record { Refused = λ ds e. UnfoldingRefused ds site e; Reshaped = λ ds es. IsUnfolded ds site es; Keeps = Spares site }
 
--- the program of the source is not reshaped at this site, and the line tells why
+-- the program of the source cannot be reshaped at this site, and the line says why
 pub data IsUnshaped (r : Reshaping) (site : ℕ) (source : List ℕ) (s : Status) (line : List ℕ) : Type 0 where
   refused : (ds : List Definition) (e : ReshapeErr) → SpellsProgram source ds → HasForm ds → r.Refused ds e → TellsReason site e s line → IsUnshaped r site source s line
   long : (ds es : List Definition) → SpellsProgram source ds → HasForm ds → r.Reshaped ds es → TellsLong site (printed es) s line → IsUnshaped r site source s line
 
--- What is given is the text of the reshaped program, no longer than a source may be. It is accepted, and the program that is read
--- from it keeps what the first one gives
+-- The text of the reshaped program is given, which is no longer than a source may be. It is accepted, and the program that is
+-- read from it keeps what the first one gives.
 pub record GivesReshaped (r : Reshaping) (source : List ℕ) (g : Given) : Type 0 where
   pub definitions : List Definition
   pub reshaped : List Definition

@@ -29,17 +29,17 @@ pub record IsRunnable (text : List ℕ) (n : Netlist) : Type 0 where
 abbrev pub RunsText : List ℕ → List (List ℕ) → ℕ → Option Done → Type 0
 RunsText text args limit answer = (n : Netlist) × IsRunnable text n × Gives n args limit answer
 
--- the arguments have this fault for the inputs of the netlist of the text
+-- the arguments do not fit the inputs of the netlist of the text, and the line says why
 abbrev pub IsMisrun : List ℕ → List (List ℕ) → List ℕ → Type 0
 IsMisrun text args line = (n : Netlist) × IsRunnable text n × HaveFault (argument_widths n.signals) args line
 
--- no netlist without a combinational loop is read from the text of a file of this name, and the line tells why: the first fault
--- of the text, or a loop of the netlist that it reads as
+-- The Verilog file with this name reads as no netlist without a combinational loop, and the line says why: the first fault of the
+-- text, or a loop of the netlist that it reads as.
 pub data IsUnrunnable (name text line : List ℕ) : Type 0 where
   faulty : (f : VFault) → HasFault text f → line ≡ verilog_line name text f → IsUnrunnable name text line
   looped : (n : Netlist) (ws : List ℕ) → Reads text n → IsLoop n ws → ¬ (IsAcyclic n) → line ≡ loop_line name (map (name_at n) ws) → IsUnrunnable name text line
 
--- the netlist of the text takes the arguments, and its done is 1 in a cycle below the limit
+-- the netlist of the text takes the arguments, and `done` is 1 in a cycle below the limit
 pub record Finishes (text : List ℕ) (args : List (List ℕ)) (limit : ℕ) : Type 0 where
   pub net : Netlist
   pub runnable : IsRunnable text net
@@ -48,6 +48,6 @@ pub record Finishes (text : List ℕ) (args : List (List ℕ)) (limit : ℕ) : T
   pub done : Done
   pub outcome : IsDone net words limit done
 
--- these are numbers of signals
+-- these are numbers of signals of the netlist
 abbrev pub AreKnown : Netlist → List ℕ → Type 0
 AreKnown n ws = (i s : ℕ) → slice_get ws i ≡ Some s → s < length n.signals

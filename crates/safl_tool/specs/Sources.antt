@@ -16,12 +16,12 @@ use Rattle.safl_tool.specs.Lines.{source_line}
 abbrev pub IsAccepted : List ℕ → Type 0
 IsAccepted source = (C : Program) × (D : Names) × IsSourceOf source C D
 
--- the line tells the first fault of the source in the file of that name
+-- the line reports the first fault of the source with this name
 abbrev pub IsFaultLine : List ℕ → List ℕ → List ℕ → Type 0
 IsFaultLine name line source = (f : Fault) × HasFirstFault source f × (line ≡ source_line name source f)
 
--- the source is a program's, and the netlist is its circuit; it is whole and in the order of the text, and its inputs other than
--- `start` are main's parameters
+-- The source spells a program, and the netlist is its circuit, which is whole and in order. The inputs of the netlist other than
+-- `start` are main's parameters.
 pub record IsCompiled (source : List ℕ) (n : Netlist) : Type 0 where
   pub program : Program
   pub names : Names

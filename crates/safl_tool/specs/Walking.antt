@@ -1,4 +1,4 @@
--- What a walk of the call machine of a source gives.
+-- What a walk of a source's call machine gives.
 use Rattle.std.specs.Prelude.{◌≡◌, ℕ, ◌+◌, ◌*◌, ◌<◌, ◌≤◌, List, Option, Some, None}
 use Rattle.safl_word.specs.Words.{Word}
 use Rattle.safl_term.specs.Program.{Program}
@@ -11,15 +11,15 @@ use Rattle.safl_term.specs.Names.{Names}
 use Rattle.safl_compiler.specs.Sources.{IsSourceOf}
 use Rattle.safl_session.specs.Lines.{AreArguments}
 
--- Main gives the word, and there were three events for each call but two less for each tail call; without a word there were as
--- many events as are allowed, and main gives no value in so many
+-- Main gives the word, after three events for each call, less two for each tail call. Without a word, as many events as are
+-- allowed were fired, and main gives no value within so many.
 abbrev pub MainGives : Program → List Word → ℕ → ℕ → Option Word → Type 0
 MainGives C words steps events (Some v) = (d : Main C words v) × (events + 2 * loops C d ≡ 3 * main_cost C words d)
 MainGives C words steps events None =
     (events ≡ steps) × ((v : Word) (d : Main C words v) → steps + 2 * loops C d < 3 * main_cost C words d)
 
--- From the opening state the turns that the seed's numbers pick lead to a state in so many events, at most as many as are
--- allowed, with so many units busy at most; the result is what main has returned in that state
+-- From the opening state, the turns picked by the numbers of the seed lead to a state in so many events, at most as many as are
+-- allowed, with at most so many units busy at once. The result is what main has returned in that state.
 pub record WalksFrom (C : Program) (words : List Word) (seed steps : ℕ) (w : Walked) : Type 0 where
   pub last : State
   pub number : ℕ
@@ -28,7 +28,7 @@ pub record WalksFrom (C : Program) (words : List Word) (seed steps : ℕ) (w : W
   pub returned : w.result ≡ back_word (last.site 0)
   pub gives : MainGives C words steps w.events w.result
 
--- the source is a program's, the arguments are read as words for main's parameters, and the walk is one of that program
+-- the source spells a program, the arguments are read as words for main's parameters, and the walk is one of that program
 pub record Walks (source : List ℕ) (args : List (List ℕ)) (seed steps : ℕ) (w : Walked) : Type 0 where
   pub program : Program
   pub names : Names

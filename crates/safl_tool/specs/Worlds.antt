@@ -1,4 +1,4 @@
--- The world of a call: the shelf, the output and the probes; and how a call changes it.
+-- The world of a call of the program: the shelf, the output and the probes; and how a call changes it.
 use Rattle.std.specs.Prelude.{ℕ, List, map, Option, Result, Ok, Err}
 use Rattle.safl_io.specs.Shelf.{ShelfState}
 use Rattle.safl_io.specs.Sink.{SinkState}
@@ -15,7 +15,7 @@ use Rattle.safl_tool.specs.Tracing.{kinds_of}
 use Rattle.safl_tool.specs.Watched.{Attended}
 use Rattle.safl_tool.specs.declared.refusal.Refusal.{Refusal}
 
--- what the shelf and the output tell at one moment; the probes, and what they tell
+-- what the shelf and the output tell at one moment; the probes; and what they tell
 pub record World (P : Type 0) : Type 0 where
   pub outside : Outside
   pub probes : List P
@@ -32,12 +32,12 @@ task_in m w = task_of (kinds_of w.states) m
 abbrev pub asks_in : {P : Type 0} → Option Command → World P → Asked
 asks_in m w = asks_of (kinds_of w.states) m
 
--- a line that tells that a probe failed which the command asks
+-- the line says that a probe failed which the command asks
 abbrev pub Unprobed : {P : Type 0} → Option Command → World P → World P → List ℕ → Type 0
 Unprobed m old new = TellsProbe (asks_in m old) old.states new.states
 
--- Whatever comes, no name is used on a shelf that tells that it holds none of it; each probe that is not asked is as it was; and there
--- are as many probes, of the same kinds in order, and none has fewer faults.
+-- What holds in any case: on a shelf that tells, and has the input files, no stray name is used; each probe that is not asked is
+-- as it was; and there are as many probes as before, of the same kinds in the same order, and none has fewer faults.
 pub record Spares {P : Type 0} (t : Task) (asks : Asked) (old new : World P) : Type 0 where
   pub no_stray : SameStrays t old.outside.shelf new.outside.shelf
   pub unasked : SameUnasked asks old.probes new.probes
@@ -48,23 +48,23 @@ abbrev pub Does : {P : Type 0} → Task → Asked → World P → World P → Re
 Does t asks old new (Ok s) = Ended t old.outside new.outside s
 Does t asks old new (Err r) = StopsBy t (TellsProbe asks old.states new.states) old.outside new.outside r
 
--- that of a command
+-- the task of a command was done, or it stops
 abbrev pub DoesCommand : {P : Type 0} → Option Command → World P → World P → Result Status Refusal → Type 0
 DoesCommand m old new = Does (task_in m old) (asks_in m old) old new
 
 abbrev pub SparesFor : {P : Type 0} → Option Command → World P → World P → Type 0
 SparesFor m old new = Spares (task_in m old) (asks_in m old) old new
 
--- ---- a call, by its words, with the sink of refusals before it and after it
+-- ---- a call of the program by its words, with what was sent to standard error before and after it
 
--- how it ends
+-- how a call ends
 abbrev pub EndsBy : {P : Type 0} → Option Command → World P → World P → SinkState → SinkState → Status → Type 0
 EndsBy m old new = Ends (task_in m old) (Unprobed m old new) old.outside new.outside
 
--- What follows. At every status but Ok, NoResult, WriteFault, ProbeFault and NoMemory no file has changed, and nothing was printed
--- (`keeps`). At every status each file that is no output is as it was (`others`); each output is as it was or holds a prefix of its
--- text, and the output got a prefix of its text (`left`). `tells` says what the sink of refusals got. Where a result is promised,
--- and no count rose, it came or memory ran out (`completes`). `attended` says what became of the probes: the asked ones were shown
+-- What follows from how a call ends. Unless the status is Ok, NoResult, WriteFault, ProbeFault or NoMemory, no file has changed
+-- and nothing was printed (`keeps`). At every status, each file that is no output file is as it was (`others`); each output file
+-- is as it was or has a prefix of its text, and a prefix of the printed text was sent (`left`). `tells` says what was sent to
+-- standard error. If a result is promised and nothing failed, it came or memory ran out (`completes`). `attended` says what became of the probes: the asked ones were shown
 -- the run, and at the statuses of `keeps` all are as they were.
 pub record Follows {P : Type 0} (m : Option Command) (old new : World P) (before after : SinkState) (s : Status) : Type 0 where
   pub keeps : KeepsAll s old.outside new.outside

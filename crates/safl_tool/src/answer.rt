@@ -1,4 +1,4 @@
-//! What a command gives, and how it is given.
+//! The answers of commands, and how they are given.
 
 ghost use Rattle.std.specs.Prelude.{◌≡◌, Ok, Err, MatchResult, OnOk, map};
 ghost use Rattle.safl_io.specs.Shelf.{UsesNoStray};
@@ -18,27 +18,27 @@ use safl_probe::Probe;
 use safl_task::{Status, status_if};
 use std::alloc::Global;
 
-/// A text that is printed; `comes` says whether it is a result.
+/// A text to be printed. `comes` says whether it is the result of a run.
 #[derive(Drop)]
 pub struct Lines {
     pub comes: bool,
     pub text: Vec<u8>,
 }
 
-/// What a command gives of what it read.
+/// The answer of a command.
 #[derive(Drop)]
 pub enum Answer<'a> {
-    /// Lines that are printed.
+    /// Lines to be printed.
     Printed(Lines),
-    /// The bytes of the file of a name.
+    /// A file to be written: its name and its bytes.
     File { name: &'a str, text: Vec<u8> },
-    /// The replies to calls, each in at most `limit` cycles. Each is printed as it comes.
+    /// The replies to the calls of a session, each of at most `limit` cycles. Each is printed as it comes.
     Replies { opening: Opening, limit: u64 },
-    /// What a run gives, and traces of it.
+    /// A run with traces: what it gives is printed, and the traces are written to their files.
     Traced(TracedRun<'a>),
 }
 
-/// What is printed, where it was made.
+/// The answer that prints these lines, or their refusal.
 pub fn printed<'a>(lines: Result<Lines, Refusal<'a>>) -> Result<Answer<'a>, Refusal<'a>>
     ensures { MatchResult lines.entry (λ l. result ≡ Ok (Answer.Printed l)) (λ r. result ≡ Err r) }
 {
@@ -48,7 +48,7 @@ pub fn printed<'a>(lines: Result<Lines, Refusal<'a>>) -> Result<Answer<'a>, Refu
     }
 }
 
-/// The file of a name, where its bytes were made.
+/// The answer that writes these bytes to the file `name`, or their refusal.
 pub fn written<'a>(
     name: &'a str,
     text: Result<Vec<u8>, Refusal<'a>>,
@@ -61,7 +61,7 @@ pub fn written<'a>(
     }
 }
 
-/// The replies of a session, where there is one.
+/// The answer of a session, or its refusal.
 pub fn replied<'a>(
     opening: Result<Opening, Refusal<'a>>,
     limit: u64,
@@ -74,7 +74,7 @@ pub fn replied<'a>(
     }
 }
 
-/// A run with traces, where it can be made.
+/// The answer of a run with traces, or its refusal.
 pub fn traced<'a>(
     ready: Result<Ready, Refusal<'a>>,
     limit: u64,
@@ -92,9 +92,9 @@ pub fn traced<'a>(
     }
 }
 
-/// Gives an answer: a text is printed, a file is written, each reply is printed as it comes, or the probes are asked for the
-/// traces of a run, each in the file at its place, and the outcome is printed. The status is Ok where a result came, and else
-/// NoResult.
+/// Gives an answer. It prints lines, writes a file, prints each reply as it comes, or makes a run whose traces the
+/// asked probes write, each to the file at its place, and prints the outcome. The status is `Ok` if a result came,
+/// otherwise `NoResult`.
 pub fn give<'a, S: Shelf, O: Sink>(
     alloc: Global,
     answer: Answer<'a>,
@@ -118,7 +118,7 @@ pub fn give<'a, S: Shelf, O: Sink>(
     }
 }
 
-/// Prints lines.
+/// Prints lines. The status says whether a result came.
 pub fn print<'a, O: Sink>(out: &mut O, lines: Lines) -> Result<Status, Refusal<'a>>
     ensures { GivesByPrinting (Answer.Printed lines) (O.told out.old) (O.told out.new) result }
 {
@@ -129,7 +129,7 @@ pub fn print<'a, O: Sink>(out: &mut O, lines: Lines) -> Result<Status, Refusal<'
     }
 }
 
-// Writes the file of a name.
+// Writes a file.
 fn write<'a, S: Shelf>(shelf: &mut S, name: &'a str, text: Vec<u8>) -> Result<Status, Refusal<'a>>
     ensures gives { GivesByWriting (Answer.File name.entry text) (S.told shelf.old) (S.told shelf.new) result }
     ensures same_strays { UsesNoStray (S.told shelf.old) (S.told shelf.new) }

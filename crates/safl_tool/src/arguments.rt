@@ -10,7 +10,8 @@ use safl_session::read_argument;
 use safl_word::Word;
 use std::alloc::Global;
 
-/// The words of the arguments for parameters of these widths. The count is looked at first.
+/// The words of the arguments for parameters of these widths. A wrong number of arguments is refused before anything
+/// else.
 pub fn read_arguments<'a>(
     alloc: Global,
     widths: &[u8],

@@ -1,4 +1,4 @@
-//! Which probes are asked for the traces of a run, and for which files.
+//! Which probes are asked for traces, and for which files.
 
 ghost use Rattle.std.specs.Prelude.{◌≡◌, IfOk, map, option_map, string_bytes};
 ghost use Rattle.safl_command.specs.Traces.{files, shown as shown_traces};
@@ -10,8 +10,8 @@ use safl_command::Traces;
 use safl_probe::{Probe, TraceKind, kind_of};
 use std::alloc::{AllocError, Global};
 
-/// For each probe the file that it is asked for: the first probe of a kind is asked for the file for its traces. There is no
-/// answer if a file has no probe.
+/// For each probe the file that it is asked to write, if any: the first probe of a kind gets the file for traces of
+/// that kind. None if no probe is left for some file.
 pub fn asked_files(
     alloc: Global,
     traces: Option<&Traces>,
@@ -34,14 +34,14 @@ pub fn asked_files(
     Ok(Some(files))
 }
 
-// Whether a file is left.
+// Whether any file is left.
 fn is_any(vcd: &Option<String>, starts: &Option<String>, toggles: &Option<String>) -> bool
     ensures { result ≡ is_any_given (files vcd.now starts.now toggles.now) }
 {
     vcd.is_some() || starts.is_some() || toggles.is_some()
 }
 
-// Takes the file for the traces of a kind out of those that are left.
+// Takes the file for traces of a kind out of the files that are left.
 fn taken(
     kind: TraceKind,
     vcd: &mut Option<String>,
@@ -59,7 +59,7 @@ fn taken(
     }
 }
 
-// A copy of the file for the traces of a kind.
+// A copy of the name of the file for traces of a kind.
 fn copy_of(
     alloc: Global,
     traces: Option<&Traces>,
@@ -77,7 +77,7 @@ fn copy_of(
     Ok(Some(copy))
 }
 
-/// The file for the traces of a kind.
+/// The file for traces of a kind, if one is given.
 pub fn file_of<'a>(traces: &'a Traces, kind: TraceKind) -> Option<&'a str>
     ensures { option_map shown_name result ≡ file_of_kind (shown_traces traces.now) kind }
 {
@@ -98,7 +98,7 @@ fn text_of(name: &Option<String>) -> Option<&str>
     }
 }
 
-/// The kind of the traces that a probe gives.
+/// The kind of traces that a probe writes.
 pub fn kind_of_probe(probe: &Box<dyn Probe>) -> TraceKind
     ensures { result ≡ kind_of (state probe.now).kind }
 {

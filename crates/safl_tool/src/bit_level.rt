@@ -1,4 +1,4 @@
-//! What `aig FILE OUT` writes, and what `aigstat FILE` prints: bit-level circuits and their sizes.
+//! The commands `aig FILE OUT` and `aigstat FILE`: bit-level circuits and their sizes.
 
 ghost use Rattle.std.specs.Prelude.{◌≤◌, IfOk, IfErr, length};
 ghost use Rattle.safl_aig.specs.BitLevel.{IsRefused};
@@ -16,7 +16,7 @@ use safl_net::Net;
 use safl_word::NoMemory;
 use std::alloc::{AllocError, Global};
 
-/// The AIGER text of the bit-level circuit of a Verilog text, or why the text in the file of this name has none.
+/// The AIGER text of the bit-level circuit of the Verilog file `name`, or why it has none.
 pub fn aig_text<'a>(alloc: Global, name: &'a str, text: &[u8]) -> Result<Vec<u8>, Refusal<'a>>
     requires { length text.now ≤ verilog_max }
     ensures gives { IfOk result (λ out. GivesBits text.now (only_writes out.items)) }
@@ -32,7 +32,7 @@ pub fn aig_text<'a>(alloc: Global, name: &'a str, text: &[u8]) -> Result<Vec<u8>
     }
 }
 
-// Why a net has no bit-level circuit.
+// The refusal of a net that has no bit-level circuit.
 fn refusal_of_net<'a>(alloc: Global, net: &Net, error: BlastErr) -> Refusal<'a>
     requires { IsRefused net.now error }
     ensures { RefusesBy (RefusesNetlist net.now) result }
@@ -47,7 +47,7 @@ fn refusal_of_net<'a>(alloc: Global, net: &Net, error: BlastErr) -> Refusal<'a>
     }
 }
 
-/// The numbers of inputs, latches, outputs and ANDs of the circuit of an AIGER text, or why the text in the file of this name is none.
+/// The lines with the numbers of inputs, latches, outputs and ANDs of the AIGER file `name`, or why it is refused.
 pub fn aigstat_lines<'a>(alloc: Global, name: &'a str, text: &[u8]) -> Result<Lines, Refusal<'a>>
     requires { length text.now ≤ aig_max }
     ensures gives { IfOk result (λ l. GivesCounts text.now (printed l)) }

@@ -1,4 +1,4 @@
-//! What `build IN OUT [--opt]` writes: the Verilog text of a source's circuit.
+//! The command `build IN OUT [--opt]`: the Verilog text of a source's circuit.
 
 ghost use Rattle.std.specs.Prelude.{◌≤◌, IfOk, IfErr, length};
 ghost use Rattle.safl_task.specs.Tasks.{only_writes};
@@ -14,7 +14,7 @@ use safl_vwrite::text_of;
 use safl_word::NoMemory;
 use std::alloc::Global;
 
-/// The Verilog text of the circuit of a source, or why the source in the file of this name is refused.
+/// The Verilog text of the circuit of the source `name`, or why the source is refused.
 pub fn circuit_text<'a>(alloc: Global, name: &'a str, source: &[u8]) -> Result<Vec<u8>, Refusal<'a>>
     requires { length source.now ≤ source_max }
     ensures gives { IfOk result (λ text. GivesCircuit source.now (only_writes text.items)) }
@@ -32,7 +32,7 @@ pub fn circuit_text<'a>(alloc: Global, name: &'a str, source: &[u8]) -> Result<V
     }
 }
 
-/// The same for the circuit without the temporary wires that can be spared.
+/// The Verilog text of the optimised circuit of the source `name`, or why the source is refused.
 pub fn optimised_text<'a>(
     alloc: Global,
     name: &'a str,

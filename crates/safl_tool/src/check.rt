@@ -1,4 +1,4 @@
-//! What `check IN` prints: the numbers of a source's program.
+//! The command `check IN`: the numbers of functions and call sites of a source.
 
 ghost use Rattle.std.specs.Prelude.{◌≡◌, ◌≤◌, ◌++◌, OnOk, IfOk, IfErr, length};
 ghost use Rattle.safl_tool.specs.Answers.{printed};
@@ -14,7 +14,7 @@ use safl_term::Checked;
 use safl_word::{NoMemory, Raw, push_decimal};
 use std::alloc::Global;
 
-/// How many functions and how many call sites the program of a source has, or why the source in the file of this name is refused.
+/// The lines with the numbers of functions and call sites of the source `name`, or why the source is refused.
 pub fn check_lines<'a>(alloc: Global, name: &'a str, source: &[u8]) -> Result<Lines, Refusal<'a>>
     requires { length source.now ≤ source_max }
     ensures gives { IfOk result (λ l. GivesNumbers source.now (printed l)) }
@@ -38,7 +38,7 @@ fn text_of(alloc: Global, checked: &Checked) -> Result<Vec<u8>, NoMemory>
     Ok(text)
 }
 
-/// Appends how many functions and how many call sites a program has.
+/// Appends the numbers of functions and of call sites of a program.
 pub fn push_program(text: &mut Vec<u8>, functions: u32, sites: u32) -> Result<(), NoMemory>
     ensures { OnOk result (text.new.items ≡ text.old.items ++ program_lines functions sites) }
 {

@@ -1,4 +1,4 @@
-//! The top call of the program: from the words of a command line to files, lines and a status.
+//! The program's main call: from the words of a command line to files, printed lines and a status.
 #![tactic(auto)]
 
 mod answer;

@@ -1,4 +1,4 @@
-//! What `gen SEED COUNT` and `bench SEED COUNT --cycles L` print: a source that is made from numbers, and what its circuit gives.
+//! The commands `gen SEED COUNT` and `bench SEED COUNT --cycles L`: a generated source, and a run of its circuit.
 
 ghost use Rattle.std.specs.Prelude.{◌≡◌, ◌≤◌, IfOk, IfErr, codes, length, map, string_bytes, decimal};
 ghost use Rattle.safl_task.specs.Limits.{source_max};
@@ -21,7 +21,7 @@ use safl_sites::Planned;
 use safl_word::NoMemory;
 use std::alloc::{AllocError, Global};
 
-/// The source of `count` functions and main from the numbers that `seed` begins.
+/// The source of `count` functions and main for a seed.
 pub fn gen_lines<'a>(alloc: Global, seed: u64, count: Count) -> Result<Lines, Refusal<'a>>
     ensures gives { IfOk result (λ l. printed l ≡ result_of (made_source seed count.functions)) }
     ensures refused { IfErr result (RefusesBy NeverRefuses) }
@@ -32,7 +32,7 @@ pub fn gen_lines<'a>(alloc: Global, seed: u64, count: Count) -> Result<Lines, Re
     }
 }
 
-/// What is printed of the same source and of a run of its circuit.
+/// What `bench` prints of the source for a seed and of a run of its circuit.
 pub fn bench_lines<'a>(
     alloc: Global,
     seed: u64,
@@ -57,12 +57,12 @@ fn source_of(alloc: Global, seed: u64, count: Count) -> Result<Vec<u8>, NoMemory
 {
     match generate(alloc, seed, count.functions) {
         Ok(text) => Ok(text),
-        // The count is one of those for which there is a source.
+        // The number of functions is in range, so only memory can have run out.
         Err(_) => Err(NoMemory),
     }
 }
 
-// The arguments of main: the seed's low 16 bits, and the number of functions.
+// The arguments of main: the low 16 bits of the seed, and the number of functions.
 fn args_of(alloc: Global, seed: u64, count: u32) -> Result<Vec<String>, AllocError>
     ensures { IfOk result (λ args. map string_bytes args.items ≡ made_args seed count) }
 {
@@ -80,7 +80,7 @@ fn numeral(alloc: Global, number: u64) -> Result<String, AllocError>
     Ok(text)
 }
 
-// What is printed of the plan of a source and of a run of its circuit, or why the source of this name is refused.
+// What is printed of the plan of a source and of a run of its circuit, or why the source is refused.
 fn measure<'a>(
     alloc: Global,
     name: &'a str,

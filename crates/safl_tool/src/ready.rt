@@ -1,4 +1,4 @@
-//! Simulators that are ready to run, with the words of their arguments.
+//! Simulators that are ready to run, with the arguments of the run.
 
 ghost use Rattle.std.specs.Prelude.{◌≤◌, length, map, IfOk, IfErr, string_bytes};
 ghost use Rattle.safl_net.specs.Whole.{IsWhole};
@@ -26,7 +26,7 @@ pub struct Ready {
     pub words: Vec<Word>,
 }
 
-/// A simulator of the circuit of a source with these arguments, or why the source in the file of this name is not run.
+/// A simulator of the circuit of the source `name`, with these arguments, or why it cannot run.
 pub fn ready_source<'a>(
     alloc: Global,
     name: &'a str,
@@ -50,7 +50,7 @@ pub fn ready_source<'a>(
     }
 }
 
-/// A simulator of a net with these arguments.
+/// A simulator of a net, with these arguments, or why it cannot run.
 pub fn ready_net<'a>(alloc: Global, ordered: Ordered, args: &[String]) -> Result<Ready, Refusal<'a>>
     requires { IsWhole ordered.net }
     ensures ready { IfOk result (IsReady ordered.net (map string_bytes args.now)) }

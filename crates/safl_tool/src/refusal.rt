@@ -1,4 +1,4 @@
-//! Why a command ends without its result, and the line that says so.
+//! Refusals: why a command ends without its result, and the line that says so.
 
 ghost use Rattle.std.specs.Prelude.{◌≡◌, ◌++◌, IfOk, OnOk, codes};
 ghost use Rattle.safl_task.specs.Lines.{long_line};
@@ -13,42 +13,44 @@ use safl_verilog::VFault;
 use safl_word::{Fault, NoMemory, Raw, push_decimal, push_fault};
 use std::alloc::Global;
 
-// The line that names the commands.
+// The usage line. It is fixed, and names neither every command nor the options.
 const USAGE: &[u8] =
     b"usage: safl check IN | build IN OUT | sim IN --cycles L [ARG..] | run FILE --cycles L [ARG..] | walk IN --order SEED --steps N [ARG..] | report IN | gen SEED COUNT | bench SEED COUNT --cycles L\n";
 
 /// Why a command ends without its result.
 #[derive(Drop)]
 pub enum Refusal<'a> {
-    /// The words are no command.
+    /// The words do not form a command.
     Usage,
-    /// The source in the file of this name has this fault at this line and column, both counted from 1.
+    /// The source in this file has this fault, at this line and column, both counted from 1.
     Source(&'a str, Fault, usize, usize),
     /// The file of this name could not be read.
     Read(&'a str),
-    /// The file of this name has more bytes than this limit.
+    /// The file of this name is longer than this limit in bytes.
     TooLong(&'a str, u64),
     /// The file of this name could not be written.
     Write(&'a str),
     /// What the command prints could not be sent.
     Output,
-    /// The Verilog text in the file of this name has this fault at this line and column, both counted from 1.
+    /// The Verilog file of this name has this fault, at this line and column, both counted from 1.
     Verilog(&'a str, VFault, usize, usize),
     /// The netlist of the Verilog file of this name has a combinational loop of these wires.
     Loop(&'a str, Vec<String>),
-    /// So many parameters are not so many arguments.
+    /// Main has so many parameters, and is given so many arguments.
     Count(usize, usize),
-    /// The argument of this number, from 1, is no number of so many bits.
+    /// The argument of this number, counted from 1, is no number of this width in bits.
     Argument(usize, u8),
-    /// The line of this number of a script, from 1, is no call: so many parameters are not so many words.
+    /// A line of a script, counted from 1, has a wrong number of words: main has so many parameters, and the line so
+    /// many words.
     ScriptCount(u32, usize, usize),
-    /// The line of this number of a script, from 1, is no call: its word of this number, from 1, is no number of so many bits.
+    /// In a line of a script, a word is no number of its width: the line, the word, both counted from 1, and the width
+    /// in bits.
     ScriptArgument(u32, usize, u8),
-    /// The site of this number is not reshaped; this says why.
+    /// The site of this number cannot be reshaped, for this reason.
     Site(u64, &'static str),
-    /// This line, counted from 1, of the AIGER file of this name breaks this rule.
+    /// A line of the AIGER file of this name breaks this rule. Lines are counted from 1.
     Aig(&'a str, u32, AigRule),
-    /// The netlist has this weight, which is too great.
+    /// The netlist has this weight, which is above the limit.
     Heavy(u64),
     /// The register of this name does not reset to 0.
     Register(String),
@@ -58,7 +60,7 @@ pub enum Refusal<'a> {
 }
 
 impl<'a> Refusal<'a> {
-    /// The refusal of a file that is not read.
+    /// The refusal of a command whose file was not read.
     pub fn of_unread(unread: Unread<'a>) -> Self
         ensures { IsOfUnread unread.entry result }
     {
@@ -69,7 +71,7 @@ impl<'a> Refusal<'a> {
         }
     }
 
-    /// The status of the program.
+    /// The exit status of this refusal.
     pub fn status(&self) -> Status
         ensures { result ≡ status_of self.now }
     {
@@ -95,7 +97,7 @@ impl<'a> Refusal<'a> {
         }
     }
 
-    /// The line, with its line feed.
+    /// The line that reports this refusal, with its line feed.
     pub fn line(self, alloc: Global) -> Result<Vec<u8>, NoMemory>
         ensures { IfOk result (λ text. text.items ≡ line_of self.entry) }
     {
@@ -204,7 +206,7 @@ fn argument_line(alloc: Global, index: usize, width: u8) -> Result<Vec<u8>, NoMe
     Ok(out)
 }
 
-// What is said of a line of a script.
+// A text about a line of a script, after the number of that line.
 fn numbered_line(alloc: Global, number: u32, text: &[u8]) -> Result<Vec<u8>, NoMemory>
     ensures { IfOk result (λ line. line.items ≡ numbered_line number text.now) }
 {
@@ -238,7 +240,7 @@ fn probe_line(alloc: Global, kind: u8) -> Result<Vec<u8>, NoMemory>
     Ok(out)
 }
 
-/// The line of a place in a source, from 1. Behind the source it is that of its end.
+/// The line of a place in a source, counted from 1. A place past the end of the source counts as its end.
 pub fn line_number(source: &[u8], place: usize) -> usize
     ensures { result ≡ line_at source.now place }
 {
@@ -246,7 +248,7 @@ pub fn line_number(source: &[u8], place: usize) -> usize
     before.iter().filter(|c| **c == b'\n').count() + 1
 }
 
-/// The column of a place in a source, in bytes, from 1. Behind the source it is that of its end.
+/// The column of a place in a source, in bytes, counted from 1. A place past the end of the source counts as its end.
 pub fn column_number(source: &[u8], place: usize) -> usize
     ensures { result ≡ column_at source.now place }
 {

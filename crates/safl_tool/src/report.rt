@@ -1,4 +1,4 @@
-//! What `report IN` prints: the plan of a source's program and the registers of its circuit.
+//! The command `report IN`: the plan of a source, and the registers of its circuit.
 
 ghost use Rattle.std.specs.Prelude.{◌≤◌, IfOk, IfErr, length};
 ghost use Rattle.safl_tool.specs.Answers.{printed};
@@ -16,7 +16,7 @@ use safl_sites::Planned;
 use safl_word::NoMemory;
 use std::alloc::Global;
 
-/// The report of a source, or why the source in the file of this name is refused.
+/// The report of the source `name`, or why the source is refused.
 pub fn report_lines<'a>(alloc: Global, name: &'a str, source: &[u8]) -> Result<Lines, Refusal<'a>>
     requires { length source.now ≤ source_max }
     ensures gives { IfOk result (λ l. GivesReport source.now (printed l)) }

@@ -1,4 +1,4 @@
-//! What `reshape IN OUT --copy K | --unfold K` writes: a source with a function copied for one site, or with one call unfolded.
+//! The command `reshape IN OUT --copy K | --unfold K`: a source with a function copied or a call unfolded.
 
 ghost use Rattle.std.specs.Prelude.{◌≡◌, ◌≤◌, ◌<◌, IfOk, IfErr, IfSome, IsNone, OnOk, length};
 ghost use Rattle.safl_tree.specs.Printable.{IsPrintable};
@@ -18,7 +18,7 @@ use safl_tree::{Program, print};
 use safl_word::SOURCE_MAX;
 use std::alloc::Global;
 
-/// The text of a source with the callee of a site copied for its call, or why there is none.
+/// The text of the source `name` with the function that a site calls copied for that call, or why there is none.
 pub fn copy_text<'a>(
     alloc: Global,
     name: &'a str,
@@ -44,7 +44,8 @@ pub fn copy_text<'a>(
     }
 }
 
-/// The text of a source with the body of the callee in place of the call of a site, or why there is none.
+/// The text of the source `name` with the body of the called function in place of the call at a site, or why there is
+/// none.
 pub fn unfold_text<'a>(
     alloc: Global,
     name: &'a str,
@@ -70,7 +71,7 @@ pub fn unfold_text<'a>(
     }
 }
 
-// The text of a reshaped program, where it is no longer than a source may be.
+// The text of a reshaped program, if it is no longer than a source may be.
 fn text_of<'a>(alloc: Global, site: u64, program: &Program) -> Result<Vec<u8>, Refusal<'a>>
     requires { IsPrintable (shown_program program.now) }
     ensures text { IfOk result (λ text. text.items ≡ printed (shown_program program.now)) }
@@ -86,7 +87,7 @@ fn text_of<'a>(alloc: Global, site: u64, program: &Program) -> Result<Vec<u8>, R
     Ok(text)
 }
 
-// The number of a site, if a program may have so many.
+// The number of a site, if it is one that a program can have.
 fn site_number(site: u64) -> Option<u32>
     ensures number { IfSome result (λ n. n ≡ site) }
     ensures none { IsNone result → 4294967295 < site }
@@ -107,7 +108,7 @@ fn refusal_of<'a>(site: u64, error: ReshapeErr) -> Refusal<'a>
     }
 }
 
-// Why a site is not reshaped, in words.
+// Why a site cannot be reshaped, in words. None stands for out of memory.
 fn reason(error: ReshapeErr) -> Option<&'static str>
     ensures { IfSome result (λ text. HasReason error text.now) }
 {

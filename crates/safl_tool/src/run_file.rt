@@ -1,4 +1,4 @@
-//! What `run FILE --cycles L [ARG..]` prints: what the netlist of a Verilog file gives.
+//! The command `run FILE --cycles L [ARG..]`: a run of the netlist of a Verilog file.
 
 ghost use Rattle.std.specs.Prelude.{◌≡◌, ◌≤◌, length, map, IfOk, IfErr, string_bytes};
 ghost use Rattle.safl_net.specs.Making.{name_at, numbers};
@@ -24,7 +24,7 @@ use safl_vread::read_net;
 use safl_word::NoMemory;
 use std::alloc::{AllocError, Global};
 
-/// What is printed of a run of the netlist of a text, or why the text in the file of this name is not run.
+/// What is printed of a run of the netlist of the Verilog file `name`, or why it is not run.
 pub fn run_lines<'a>(
     alloc: Global,
     name: &'a str,
@@ -46,7 +46,7 @@ pub fn run_lines<'a>(
     }
 }
 
-// What the netlist of the text of a file of this name gives.
+// The result of a run of the netlist of the Verilog file `name`.
 fn run_text<'a>(
     alloc: Global,
     name: &'a str,
@@ -68,7 +68,7 @@ fn run_text<'a>(
     }
 }
 
-/// The netlist of the text of a file of this name, with its wires in an order of evaluation.
+/// The netlist of the Verilog file `name`, with an order of evaluation of its wires, or why the file is refused.
 pub fn ordered_net<'a>(alloc: Global, name: &'a str, text: &[u8]) -> Result<Ordered, Refusal<'a>>
     requires { length text.now ≤ verilog_max }
     ensures runnable { IfOk result (λ o. IsRunnable text.now o.net) }
@@ -87,7 +87,7 @@ pub fn ordered_net<'a>(alloc: Global, name: &'a str, text: &[u8]) -> Result<Orde
             Ok(ordered)
         }
         Err(OrderErr::Loop(wires, net)) => Err(refusal_of_loop(alloc, name, &net, &wires)),
-        // Each wire of a net that was read is set.
+        // A net that was read has no unset wire or register, so only memory can have run out.
         Err(_) => Err(Refusal::NoMemory),
     }
 }
@@ -114,7 +114,6 @@ fn refusal_of_loop<'a>(alloc: Global, name: &'a str, net: &Net, wires: &[Sig]) -
     }
 }
 
-// The names of wires.
 fn names_of(alloc: Global, net: &Net, wires: &[Sig]) -> Result<Vec<String>, AllocError>
     requires { AreKnown net.now (numbers wires.now) }
     ensures { IfOk result (λ names. map string_bytes names.items ≡ map (name_at net.now) (numbers wires.now)) }

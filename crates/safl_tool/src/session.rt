@@ -1,5 +1,4 @@
-//! What `session IN SCRIPT --cycles L` does: it calls the circuit of a source once for each line of a script, and prints each
-//! reply as it comes.
+//! The command `session IN SCRIPT --cycles L`: calls of a source's circuit, one for each line of a script.
 
 ghost use Rattle.std.specs.Prelude.{◌≤◌, length, IfOk, IfErr};
 ghost use Rattle.safl_session.specs.Laws.{AreCallsOf};
@@ -21,14 +20,14 @@ use safl_sim::Sim;
 use safl_task::{Status, status_if};
 use std::alloc::Global;
 
-/// A session in which no call was made, and the calls that are to be made.
+/// A session before its first call, and the calls to be made.
 #[derive(Drop)]
 pub struct Opening {
     pub session: Session,
     pub calls: Script,
 }
 
-/// A session of the circuit of a source, and the calls of a script, or why the source in the file of this name or the script is
+/// The session of the circuit of the source `name` and the calls of a script, or why the source or the script is
 /// refused.
 pub fn opening_of<'a>(
     alloc: Global,

@@ -1,4 +1,4 @@
-//! What a run prints, and runs of circuits and of other nets.
+//! Runs of circuits and of other nets, and what is printed of a run.
 
 ghost use Rattle.std.specs.Prelude.{◌≡◌, ◌++◌, map, is_some, OnOk, IfOk, IfErr, string_bytes};
 ghost use Rattle.safl_net.specs.Valuations.{IsAcyclic};
@@ -23,7 +23,7 @@ use safl_sim::Done;
 use safl_word::{NoMemory, Raw, push_decimal};
 use std::alloc::Global;
 
-/// What a circuit gives in at most `limit` cycles with the arguments.
+/// The result of a circuit with these arguments, in at most `limit` cycles.
 pub fn run_circuit<'a>(
     alloc: Global,
     net: Net,
@@ -41,7 +41,7 @@ pub fn run_circuit<'a>(
     run_net(alloc, ordered, limit, args)
 }
 
-/// What a net gives in at most `limit` cycles with the arguments.
+/// The result of a net with these arguments, in at most `limit` cycles.
 pub fn run_net<'a>(
     alloc: Global,
     ordered: Ordered,
@@ -62,7 +62,7 @@ pub fn run_net<'a>(
     }
 }
 
-/// What is printed of what a run gave.
+/// What is printed of the outcome of a run.
 pub fn outcome(alloc: Global, limit: u64, done: Option<Done>) -> Result<Lines, NoMemory>
     ensures { IfOk result (λ l. printed l ≡ outcome limit done) }
 {
@@ -71,7 +71,7 @@ pub fn outcome(alloc: Global, limit: u64, done: Option<Done>) -> Result<Lines, N
     Ok(Lines { comes, text })
 }
 
-/// Appends what is printed of what a run gave, and says whether it is a result.
+/// Appends what is printed of the outcome of a run. Says whether there is a result.
 pub fn push_outcome(text: &mut Vec<u8>, limit: u64, done: Option<Done>) -> Result<bool, NoMemory>
     ensures comes { IfOk result (λ comes. comes ≡ is_some done) }
     ensures lines { OnOk result (text.new.items ≡ text.old.items ++ outcome_lines limit done) }

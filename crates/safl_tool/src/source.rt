@@ -21,7 +21,7 @@ use safl_term::Checked;
 use safl_word::{Fault, NoMemory};
 use std::alloc::Global;
 
-/// The checked program of a source, or why the source in the file of this name is refused.
+/// The checked program of the source `name`, or why the source is refused.
 pub fn check_source<'a>(alloc: Global, name: &'a str, source: &[u8]) -> Result<Checked, Refusal<'a>>
     requires { length source.now ≤ source_max }
     ensures accepted { IfOk result (λ c. IsSourceOf source.now c.program c.names) }
@@ -34,7 +34,7 @@ pub fn check_source<'a>(alloc: Global, name: &'a str, source: &[u8]) -> Result<C
     }
 }
 
-/// The circuit of a source, or why the source in the file of this name is refused.
+/// The circuit of the source `name`, or why the source is refused.
 pub fn compile<'a>(alloc: Global, name: &'a str, source: &[u8]) -> Result<Net, Refusal<'a>>
     requires { length source.now ≤ source_max }
     ensures compiled { IfOk result (IsCompiled source.now) }
@@ -53,7 +53,7 @@ pub fn compile<'a>(alloc: Global, name: &'a str, source: &[u8]) -> Result<Net, R
     }
 }
 
-/// The planned program of a source, or why the source in the file of this name is refused.
+/// The planned program of the source `name`, or why the source is refused.
 pub fn plan_source<'a>(alloc: Global, name: &'a str, source: &[u8]) -> Result<Planned, Refusal<'a>>
     requires { length source.now ≤ source_max }
     ensures planned { IfOk result (λ p. IsSourceOf source.now p.program p.names) }
@@ -69,7 +69,7 @@ pub fn plan_source<'a>(alloc: Global, name: &'a str, source: &[u8]) -> Result<Pl
     }
 }
 
-/// The program that a source spells, or why the source in the file of this name is refused.
+/// The program that the source `name` spells, or why the source is refused.
 pub fn read_program<'a>(
     alloc: Global,
     name: &'a str,
@@ -89,7 +89,6 @@ pub fn read_program<'a>(
     }
 }
 
-// The refusal of the source with this fault in the file of this name.
 fn refusal_of<'a>(name: &'a str, source: &[u8], fault: Fault) -> Refusal<'a>
     ensures status { status_of result ≡ Status.SourceRefused }
     ensures line { line_of result ≡ source_line name.now source.now fault }

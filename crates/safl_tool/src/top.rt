@@ -1,4 +1,4 @@
-//! The top call.
+//! The program's main call.
 
 ghost use Rattle.std.specs.Prelude.{map, option_map, string_bytes};
 ghost use Rattle.safl_command.specs.Commands.{command_of, shown};
@@ -21,10 +21,10 @@ use safl_verilog::laws as verilog;
 use safl_word::NoMemory;
 use std::alloc::Global;
 
-/// Does what the words of a command line ask for, and answers the status with which the program ends.
+/// Does what the words of a command line ask for, and returns the status with which the program ends.
 ///
-/// `out` gets what a command prints, and `err` the line of a refusal. The probes are for the traces of `sim`: the first of a
-/// kind is asked for its trace, if a file is given for one.
+/// `out` gets what a command prints, and `err` the line of a refusal. The probes are for the traces of `sim`: the first
+/// probe of a kind writes the trace of that kind, if a file is given for it.
 pub fn run<S: Shelf, O: Sink, E: Sink>(
     alloc: Global,
     words: &[String],
@@ -45,7 +45,7 @@ pub fn run<S: Shelf, O: Sink, E: Sink>(
     ensures aig { Converts words.now S.told shelf.old shelf.new result }
     // The cause of each status, what was given, and what `err` got.
     ensures ends { EndsOn words.now S.told shelf.old shelf.new O.told out.old out.new E.told err.old err.new (λ p. state p) probes.old probes.new result }
-    // What follows of every command.
+    // What holds of every command.
     ensures follows { FollowsOn words.now S.told shelf.old shelf.new O.told out.old out.new E.told err.old err.new (λ p. state p) probes.old probes.new result }
 {
     one_program_law();
@@ -59,7 +59,7 @@ pub fn run<S: Shelf, O: Sink, E: Sink>(
     dispatch(alloc, words, shelf, out, err, probes)
 }
 
-// Does it, and sends the line of a refusal.
+// Does what the words ask for. If it is refused, sends the line of the refusal.
 fn dispatch<S: Shelf, O: Sink, E: Sink>(
     alloc: Global,
     words: &[String],
@@ -82,7 +82,7 @@ fn dispatch<S: Shelf, O: Sink, E: Sink>(
     }
 }
 
-// Does what the words ask for, where they are a command.
+// Does what the words ask for, if they form a command.
 fn obey<'a, S: Shelf, O: Sink>(
     alloc: Global,
     command: &'a Option<Command>,
@@ -100,7 +100,7 @@ fn obey<'a, S: Shelf, O: Sink>(
     }
 }
 
-// Sends the line of a refusal.
+// Sends the line of a refusal. Returns its status.
 fn refuse<E: Sink>(alloc: Global, err: &mut E, refusal: Refusal<'_>) -> Status
     ensures { SendsRefusal refusal.entry (E.told err.old) (E.told err.new) result }
 {
@@ -111,7 +111,7 @@ fn refuse<E: Sink>(alloc: Global, err: &mut E, refusal: Refusal<'_>) -> Status
     }
 }
 
-// Sends a line. A sink that fails changes nothing of the status.
+// Sends a line. Returns `status`, even if the sink fails.
 fn tell<E: Sink>(err: &mut E, line: &[u8], status: Status) -> Status
     ensures { SendsLine status line.now (E.told err.old) (E.told err.new) result }
 {

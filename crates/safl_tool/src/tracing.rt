@@ -36,7 +36,7 @@ pub struct TracedRun<'a> {
     pub traces: &'a Traces,
 }
 
-/// Makes a run, while each asked probe writes the trace of its kind to the file at its place, and prints the outcome.
+/// Makes a run and prints its outcome. Each asked probe writes its trace to the file at its place.
 pub fn trace<'a, S: Shelf, O: Sink>(
     alloc: Global,
     run: TracedRun<'a>,
@@ -64,7 +64,7 @@ pub fn trace<'a, S: Shelf, O: Sink>(
     }
 }
 
-// Makes it, and lets the asked probes watch.
+// Makes a run. Each asked probe writes its trace to the file at its place.
 fn watch<'a, S: Shelf>(
     alloc: Global,
     run: TracedRun<'a>,
@@ -104,7 +104,7 @@ fn watch<'a, S: Shelf>(
     }
 }
 
-// The file for the traces of the probe at a place was not written.
+// The refusal for the file of the probe at `place`, which was not written.
 fn unwritten<'a>(traces: &'a Traces, probes: &[Box<dyn Probe>], place: u64) -> Refusal<'a>
     requires there { place < length probes.now }
     requires named { IsSome (file_at (shown_traces traces.now) (map (λ p. state p) probes.now) place) }

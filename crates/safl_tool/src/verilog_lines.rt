@@ -1,4 +1,4 @@
-//! The lines of Verilog files that are refused.
+//! The lines that report why a Verilog file is refused.
 
 ghost use Rattle.std.specs.Prelude.{◌≡◌, ◌++◌, map, OnOk, IfOk, string_bytes};
 ghost use Rattle.safl_verilog.specs.FaultTexts.{vfault_text};
@@ -10,7 +10,7 @@ use safl_verilog::{VFault, push_vfault};
 use safl_word::{NoMemory, Raw, push_decimal};
 use std::alloc::Global;
 
-/// The line of a fault at a line and a column of the text of a file of this name.
+/// The line that reports a fault of the file `name`, at a line and a column.
 pub fn fault_line(
     alloc: Global,
     name: &str,
@@ -32,7 +32,7 @@ pub fn fault_line(
     Ok(out)
 }
 
-/// The line of a loop of wires of these names of the net of a file of this name.
+/// The line that reports a loop of these wires in the net of the file `name`.
 pub fn loop_line(alloc: Global, name: &str, wires: &[String]) -> Result<Vec<u8>, NoMemory>
     ensures { IfOk result (λ line. line.items ≡ loop_line name.now (map string_bytes wires.now)) }
 {
@@ -44,7 +44,7 @@ pub fn loop_line(alloc: Global, name: &str, wires: &[String]) -> Result<Vec<u8>,
     Ok(out)
 }
 
-// Appends each name after a space.
+// Appends each name, with a space before it.
 fn push_names(out: &mut Vec<u8>, names: &[String]) -> Result<(), NoMemory>
     ensures { OnOk result (out.new.items ≡ out.old.items ++ spaced (map string_bytes names.now)) }
 {

@@ -1,4 +1,4 @@
-//! What `walk IN --order SEED --steps N [ARG..]` prints: what a walk of the call machine of a source gives.
+//! The command `walk IN --order SEED --steps N [ARG..]`: a walk of a source's call machine.
 
 ghost use Rattle.std.specs.Prelude.{◌≡◌, ◌≤◌, ◌++◌, [], length, map, OnOk, IfOk, IfErr, string_bytes};
 ghost use Rattle.safl_tool.specs.Answers.{printed};
@@ -18,7 +18,7 @@ use safl_term::Checked;
 use safl_word::{NoMemory, Raw, Word, push_decimal};
 use std::alloc::{AllocError, Global};
 
-/// What is printed of a walk of the machine of a source, or why the source in the file of this name is not walked.
+/// What is printed of a walk of the call machine of the source `name`, or why it cannot walk.
 pub fn walk_lines<'a>(
     alloc: Global,
     name: &'a str,
@@ -40,7 +40,7 @@ pub fn walk_lines<'a>(
     }
 }
 
-// What a walk of the machine of a source gives.
+// The outcome of a walk of the call machine of the source `name`.
 fn walk_machine<'a>(
     alloc: Global,
     name: &'a str,
@@ -69,7 +69,7 @@ fn walk_machine<'a>(
     }
 }
 
-// What a walk of a new machine with these words gives.
+// The outcome of a walk of a new machine with these arguments.
 fn walk_with(
     alloc: Global,
     checked: &Checked,
@@ -82,7 +82,7 @@ fn walk_with(
 {
     match Machine::new(alloc, checked, words) {
         Ok(mut machine) => Ok(walk(&mut machine, seed, u64::from(steps))),
-        // The words are main's arguments.
+        // The words fit main's parameters, so only memory can have run out.
         Err(_) => Err(NoMemory),
     }
 }
@@ -99,7 +99,7 @@ fn main_widths(alloc: Global, checked: &Checked) -> Result<Vec<u8>, AllocError>
     Ok(widths)
 }
 
-// What is printed of what a walk gave.
+// What is printed of the outcome of a walk.
 fn end_of_walk(alloc: Global, steps: u32, walked: Walked) -> Result<Lines, NoMemory>
     ensures { IfOk result (λ l. printed l ≡ end_of_walk steps walked walked.result) }
 {

@@ -1,4 +1,4 @@
-//! What every command does: the probes that it asks are found, its files are read, its answer is worked out, and the answer is given.
+//! Doing a command: finding the probes that it asks, reading its files, working out its answer, and giving the answer.
 
 ghost use Rattle.std.specs.Prelude.{◌≡◌, IfOk, IfErr, None, Some, map};
 ghost use Rattle.safl_command.specs.Commands.{shown};
@@ -53,7 +53,7 @@ pub fn perform<'a, S: Shelf, O: Sink>(
     }
 }
 
-// The files for the traces that a command asks for.
+// The files for the traces that a command asks for, if it can ask for any.
 fn traces_of(command: &Command) -> Option<&Traces>
     ensures { traces_given result ≡ traces_in (shown command.now) }
 {
@@ -63,7 +63,7 @@ fn traces_of(command: &Command) -> Option<&Traces>
     }
 }
 
-// Does it, where the probes are asked for these files.
+// Does what a command asks for. `files` has for each probe the file that it is asked to write.
 fn carry_out<'a, S: Shelf, O: Sink>(
     alloc: Global,
     command: &'a Command,
@@ -118,7 +118,7 @@ fn inputs_of(alloc: Global, command: &Command) -> Result<Vec<Input<'_>>, AllocEr
     Ok(inputs)
 }
 
-// The content at a place, which is empty where there is none.
+// The contents of the file at `place`. Empty if there is none.
 fn content(contents: &[Vec<u8>], place: usize) -> &[u8]
     ensures { result.now ≡ content_at (shown_contents contents.now) place }
 {
@@ -128,7 +128,7 @@ fn content(contents: &[Vec<u8>], place: usize) -> &[u8]
     }
 }
 
-// What a command gives of the contents of its files, or why it refuses them.
+// The answer of a command for the contents of its files, or why it refuses them.
 fn answer_of<'a>(
     alloc: Global,
     command: &'a Command,

@@ -1,4 +1,4 @@
--- The grammar of a source. Above each symbol stands its production.
+-- The grammar of a source. Each production is written above its symbol.
 use Rattle.std.specs.Prelude.{ℕ, zero, suc, List, [], ◌∷◌, ◌++◌, Option, Some, None, Bool, true, false, nat_lt, nat_le, if◌then◌else◌}
 use Rattle.safl_grammar.specs.Syntax.{Deep, Range, Syntax, nothing, token, limited, follows, either, unless, many, too_high, below}
 use Rattle.safl_word.specs.Words.{max_width}
@@ -11,7 +11,7 @@ use Rattle.safl_word.specs.declared.primitive.Primitive.TheVariants as prims
 use Rattle.safl_tree.specs.Tree.{Tree, Number, Sized, Variable, If, Let, Cases, Op, Call, Bound, Labelled, Parameter, Definition, trees_of, binds_of, arms_of, place_of, placed, depth}
 use Rattle.safl_tree.specs.Terminals.{Terminal, word_code, symbol_code, comes, marked, NameAt, name, NumberAt, number, SizedAt, sized, operator}
 
--- a key and a symbol, which give their place
+-- a keyword and a symbol; they give their place
 abbrev pub word : Key → Syntax Terminal ℕ
 word k = token (marked (word_code k))
 
@@ -20,11 +20,11 @@ symbol s = token (marked (symbol_code s))
 
 -- ---- limits
 
--- a left operand may have a depth of 99 at most
+-- the depth of a left operand is at most 99
 abbrev pub shallow : Tree → Primitive → Bool
 shallow a op = nat_lt (depth a) 100
 
--- a width is 1 to the greatest
+-- whether a width is from 1 to the greatest
 abbrev pub is_width : ℕ → Bool
 is_width n = if nat_le 1 n then nat_le n max_width else false
 
@@ -34,7 +34,7 @@ fits_width n = is_width n.value
 abbrev pub fits_sized : SizedAt → Bool
 fits_sized s = is_width s.width
 
--- the number of a bit is below the greatest width
+-- whether the number of a bit is below the greatest width
 abbrev pub fits_index : NumberAt → Bool
 fits_index n = nat_lt n.value max_width
 
@@ -44,7 +44,7 @@ fits_index n = nat_lt n.value max_width
 abbrev pub width : Syntax Terminal NumberAt
 width = limited Range fits_width number
 
--- a bit's number := Num
+-- the number of a bit := Num
 abbrev pub index : Syntax Terminal NumberAt
 index = limited Range fits_index number
 
@@ -69,7 +69,7 @@ another e xs = follows (symbol syms.Comma) (λ comma. follows e (λ x. nothing (
 abbrev pub exprs : Syntax Terminal Tree → Syntax Terminal (List Tree)
 exprs e = follows e (λ x. many (another e) (x ∷ []))
 
--- called := name "(" [ exprs ] ")"; at a `)` right after the `(` no expression would begin
+-- called := name "(" [ exprs ] ")"; no expression begins with the `)` after an empty list
 abbrev pub no_arguments : NameAt → Syntax Terminal Tree
 no_arguments f = follows (symbol syms.CloseParen) (λ closed. nothing (Call f.place f.name (trees_of [])))
 
@@ -128,7 +128,7 @@ layer (suc (suc zero)) sub = chained (suc (suc zero)) sub
 layer (suc (suc (suc zero))) sub = compared 3 sub
 layer (suc (suc (suc (suc k)))) sub = chained (suc (suc (suc (suc k)))) sub
 
--- the layers below k: product, sum, shift, comparison, and, xor, or
+-- the layers below k, from those that bind the closest: product, sum, shift, comparison, and, xor, or
 abbrev pub chain : ℕ → Syntax Terminal Tree → Syntax Terminal Tree
 chain zero u = u
 chain (suc k) u = layer k (chain k u)
@@ -184,7 +184,7 @@ expr u e rest = either (choice e) (either (binding e) (either (cases e rest) (ch
 
 -- ---- levels
 
--- An expression, the operand of "~", and the arms of a case, of at most so many nested ones.
+-- An expression, the operand of "~", and the arms of a case, with at most so many nested in one another.
 pub record Level : Type 1 where
   pub operand : Syntax Terminal Tree
   pub whole : Syntax Terminal Tree
@@ -193,7 +193,7 @@ pub record Level : Type 1 where
 abbrev pub next_level : Level → Level
 next_level l = let u = unary l.operand l.whole in record { operand = u; whole = expr u l.whole l.rest; rest = arms l.whole l.rest }
 
--- no level is left: an arm's label may still stand there
+-- what can be at the last level: the label of an arm may still be there
 abbrev pub last_level : Level → Level
 last_level l = record { operand = below l.operand; whole = below l.whole; rest = l.rest }
 
@@ -203,7 +203,7 @@ last_but_arms l k = record { operand = below k.operand; whole = below k.whole; r
 abbrev pub no_level : Level
 no_level = record { operand = too_high; whole = too_high; rest = λ arms. too_high }
 
--- of at most n nested expressions, where m levels are left
+-- a level with at most n nested expressions, where m levels are left
 unfoldable pub level : ℕ → ℕ → Level
 level zero zero = last_level no_level
 level zero (suc m) = no_level
@@ -244,6 +244,6 @@ another_group e ds = follows (group e ds) ended
 abbrev pub program : Syntax Terminal Tree → Syntax Terminal (List Definition)
 program e = many (another_group e) []
 
--- a program whose expressions nest at most n times; a body is at the first of 100 levels
+-- a program whose expressions nest at most n times. A body is at the first of 100 levels
 abbrev pub source : ℕ → Syntax Terminal (List Definition)
 source n = program (level n 100).whole

@@ -1,4 +1,4 @@
--- Expressions within given numbers of levels and of depth, whose left operands are shallow.
+-- Expressions that keep given numbers of levels and of depth, and whose left operands are shallow.
 use Rattle.std.specs.Prelude.{ℕ, ◌+◌, ◌≤◌}
 use Rattle.safl_word.specs.declared.primitive.Primitive.{Primitive}
 use Rattle.safl_tree.specs.Tree.{Tree, Trees, Binds, Arms, depth, deepest, deepest_bind, deepest_arm}
@@ -7,14 +7,14 @@ use Rattle.safl_tree.specs.Printable.{is_binary, left_place, right_place, below_
 abbrev pub Keeps : ℕ → ℕ → Tree → Type 0
 Keeps n d t = (levels t ≤ n) × IsShallow t × (depth t ≤ d)
 
--- a part at a place of k layers
+-- an operand in a context of k layers
 abbrev pub PartKeeps : ℕ → ℕ → ℕ → Tree → Type 0
 PartKeeps k n d t = (lifted k (own t) (levels t) ≤ n) × IsShallow t × (depth t ≤ d)
 
 abbrev pub PartsKeep : ℕ → ℕ → ℕ → Trees → Type 0
 PartsKeep k n d ts = (most_operand k k ts ≤ n) × AreShallow ts × (deepest ts ≤ d)
 
--- an operator's operands
+-- the operands of an operator
 abbrev pub OperandsKeep : Primitive → ℕ → ℕ → Trees → Type 0
 OperandsKeep o n d ts = (below_of o + most_operand (left_place o) (right_place o) ts ≤ n) × OfBinary (is_binary o) (LeftShallow ts) × AreShallow ts × (deepest ts ≤ d)
 

@@ -1,8 +1,8 @@
--- Programs with their places left out.
+-- Programs without their places.
 use Rattle.std.specs.Prelude.{List, map}
 use Rattle.safl_tree.specs.Tree.{Tree, Number, Sized, Variable, If, Let, Cases, Op, Call, Trees, no_tree, a_tree, Binds, no_bind, a_bind, Arms, default_arm, an_arm, Parameter, Definition}
 
--- each place is 0
+-- the expression with 0 for each place
 abbrev mutual
   pub unplaced : Tree → Tree
   unplaced (Number p n) = Number 0 n

@@ -1,4 +1,4 @@
--- Which programs can be printed: their form, and the levels that their text takes with least parentheses.
+-- Which programs can be printed: they are well formed, and their text with as few parentheses as possible keeps the levels.
 use Rattle.std.specs.Prelude.{◌≡◌, ℕ, suc, ◌+◌, ◌<◌, ◌≤◌, max, List, [], ◌∷◌, Option, Some, None, Bool, true, false, nat_le, if◌then◌else◌}
 use Rattle.safl_word.specs.declared.primitive.Primitive.{Primitive}
 use Rattle.safl_word.specs.declared.primitive.Primitive.TheVariants as prims
@@ -7,7 +7,7 @@ use Rattle.safl_word.specs.Tokens.{IsName, value_bound}
 use Rattle.safl_tree.specs.Tree.{Tree, Number, Sized, Variable, If, Let, Cases, Op, Call, Trees, no_tree, a_tree, Binds, no_bind, a_bind, Arms, default_arm, an_arm, Parameter, Definition, depth}
 use Rattle.safl_tree.specs.Grammar.{is_width}
 
--- ---- form
+-- ---- well-formed programs
 
 -- how many operands an operator has
 abbrev pub operands : Primitive → ℕ
@@ -30,7 +30,7 @@ abbrev pub HasBinding : Binds → Type 0
 HasBinding no_bind = ⊥
 HasBinding (a_bind p x w t bs) = Unit {0}
 
--- a label is a number or a sized number
+-- the expression is a label: a number or a sized number
 abbrev pub IsLabel : Tree → Type 0
 IsLabel (Number p n) = n < value_bound
 IsLabel (Sized p w n) = (is_width w ≡ true) × (n < value_bound)
@@ -41,12 +41,12 @@ IsLabel (Cases p e arms) = ⊥
 IsLabel (Op p o ts) = ⊥
 IsLabel (Call p f ts) = ⊥
 
--- a width that is not written, or is in range
+-- a width is not written, or it is in range
 abbrev pub FitsWritten : Option ℕ → Type 0
 FitsWritten None = Unit {0}
 FitsWritten (Some w) = is_width w ≡ true
 
--- names are names of the source, operators have their operands, a let has a binding, and numbers are in range
+-- names are names of the source, operators have the right numbers of operands, each let has a binding, and numbers are in range
 abbrev mutual
   pub IsFormed : Tree → Type 0
   IsFormed (Number p n) = n < value_bound
@@ -72,7 +72,7 @@ abbrev mutual
 
 -- ---- levels
 
--- an operator between its operands
+-- whether an operator stands between its operands
 abbrev pub is_binary : Primitive → Bool
 is_binary prims.Not = false
 is_binary prims.Cat = false
@@ -80,7 +80,8 @@ is_binary (prims.Bits h l) = false
 is_binary (prims.Ext n) = false
 is_binary _ = true
 
--- how many layers may stand right of an operator without parentheses: the layers below its own; 8 is any expression
+-- How many layers of operators may stand right of an operator without parentheses: those below its own. With 8 layers any
+-- expression may.
 abbrev pub right_place : Primitive → ℕ
 right_place prims.Mul = 0
 right_place prims.Add = 1
@@ -101,7 +102,7 @@ right_place prims.Cat = 8
 right_place (prims.Bits h l) = 8
 right_place (prims.Ext n) = 8
 
--- and left of it: its own layer as well, since chains group to the left, but not that of a comparison
+-- How many layers may stand left of an operator: also its own layer, since operators group to the left, except for comparisons.
 abbrev pub left_place : Primitive → ℕ
 left_place prims.Mul = 1
 left_place prims.Add = 2
@@ -122,15 +123,15 @@ left_place prims.Cat = 8
 left_place (prims.Bits h l) = 8
 left_place (prims.Ext n) = 8
 
--- the operands of a binary operator stay at its level, those of the others are one level below
+-- how many levels the operands of an operator are below it: none if it is binary, otherwise one
 abbrev pub below_of : Primitive → ℕ
 below_of o = if is_binary o then 0 else 1
 
--- how many layers the symbol has that derives the operator's expression without parentheses
+-- how many layers a context needs for an operator's expression without parentheses
 abbrev pub own_of : Primitive → ℕ
 own_of o = if is_binary o then suc (right_place o) else 0
 
--- the same of an expression; 8 is that of an if, a let or a case
+-- how many layers a context needs for an expression without parentheses. An if, a let and a case need 8
 abbrev pub own : Tree → ℕ
 own (Number p n) = 0
 own (Sized p w n) = 0
@@ -141,11 +142,11 @@ own (Cases p e arms) = 8
 own (Op p o ts) = own_of o
 own (Call p f ts) = 0
 
--- one level more, where an expression of so many layers stands in parentheses at a place of k layers
+-- the levels of an expression in a context of k layers: one more if it needs more layers, and so parentheses
 abbrev pub lifted : ℕ → ℕ → ℕ → ℕ
 lifted k layers n = if nat_le layers k then n else suc n
 
--- how many levels the text of an expression takes, its own counted
+-- how many levels the text of an expression takes, its own included
 abbrev mutual
   pub levels : Tree → ℕ
   levels (Number p n) = 1
@@ -161,7 +162,7 @@ abbrev mutual
   most no_tree = 0
   most (a_tree t ts) = max (levels t) (most ts)
 
-  -- of operands, the first at a place of so many layers, and the others at one of so many
+  -- the levels of operands, the first in a context of so many layers, and the others in one of so many
   pub most_operand : ℕ → ℕ → Trees → ℕ
   most_operand k right no_tree = 0
   most_operand k right (a_tree t ts) = max (lifted k (own t) (levels t)) (most_operand right right ts)
@@ -170,12 +171,12 @@ abbrev mutual
   most_bind no_bind = 0
   most_bind (a_bind p x w t bs) = max (levels t) (most_bind bs)
 
-  -- each arm is one level below the one before it
+  -- the levels of the arms of a case. Each arm is one level below the one before it
   pub most_arm : Arms → ℕ
   most_arm (default_arm t) = 1 + levels t
   most_arm (an_arm l t arms) = 1 + max (levels t) (most_arm arms)
 
--- left operands have a depth of 99 at most
+-- the left operands have a depth of at most 99
 abbrev pub LeftShallow : Trees → Type 0
 LeftShallow no_tree = Unit {0}
 LeftShallow (a_tree t ts) = depth t < 100
@@ -207,7 +208,7 @@ abbrev mutual
   AreShallowArms (default_arm t) = IsShallow t
   AreShallowArms (an_arm l t arms) = IsShallow t × AreShallowArms arms
 
--- the text of the body takes 100 levels at most, and left operands are shallow
+-- the text of the body takes at most 100 levels, and left operands are shallow
 abbrev pub KeepsLevels : Tree → Type 0
 KeepsLevels t = (levels t ≤ 100) × IsShallow t
 
@@ -236,12 +237,12 @@ abbrev pub OpensGroup : List Definition → Type 0
 OpensGroup [] = Unit {0}
 OpensGroup (d ∷ ds) = d.joined ≡ false
 
--- a program that has the form, levels aside
+-- a program that is well formed, levels aside
 pub record IsFormedProgram (p : List Definition) : Type 0 where
   pub opens : OpensGroup p
   pub formed : AreFormedDefinitions p
 
--- a program that can be printed
+-- a program that is well formed and whose text keeps the levels
 pub record IsPrintable (p : List Definition) : Type 0 where
   pub formed : IsFormedProgram p
   pub kept : AllKeepLevels p

@@ -1,4 +1,4 @@
--- The text of a program, with least parentheses.
+-- The text of a program, with as few parentheses as possible.
 use Rattle.std.specs.Prelude.{◌≡◌, ℕ, List, [], ◌∷◌, ◌++◌, Option, Some, None, Bool, true, false, nat_le, codes, decimal}
 use Rattle.safl_word.specs.declared.token.Key.{Key}
 use Rattle.safl_word.specs.declared.token.Key.TheVariants as keys
@@ -28,7 +28,7 @@ sym s = record { kind = kinds.Sym s; text = sym_text s }
 abbrev pub name : List ℕ → Word
 name x = record { kind = kinds.Name; text = x }
 
--- numbers are written in shortest decimal
+-- the word of a number, in as few decimal digits as possible
 abbrev pub number : ℕ → Word
 number n = record { kind = kinds.Num n; text = decimal n }
 
@@ -55,18 +55,18 @@ symbol_of _ = syms.Tilde
 
 -- ---- expressions
 
--- parts with a word between each and the next
+-- words of several parts, with a word between each and the next
 abbrev pub separated : Word → List (List Word) → List Word
 separated s [] = []
 separated s (x ∷ []) = x
 separated s (x ∷ y ∷ xs) = x ++ (s ∷ separated s (y ∷ xs))
 
--- as it is, or in parentheses
+-- words, in parentheses or not
 abbrev pub enclosed : Bool → List Word → List Word
 enclosed true ws = ws
 enclosed false ws = sym syms.OpenParen ∷ (ws ++ (sym syms.CloseParen ∷ []))
 
--- an operator and its operands
+-- the words of an operator and its operands
 abbrev pub applied : Primitive → List (List Word) → List Word
 applied prims.Not parts = sym syms.Tilde ∷ separated (sym syms.Comma) parts
 applied prims.Cat parts = key keys.Cat ∷ (sym syms.OpenParen ∷ (separated (sym syms.Comma) parts ++ (sym syms.CloseParen ∷ [])))
@@ -74,16 +74,16 @@ applied (prims.Bits h l) parts = key keys.Bits ∷ (sym syms.OpenParen ∷ (sepa
 applied (prims.Ext n) parts = key keys.Ext ∷ (sym syms.OpenParen ∷ (separated (sym syms.Comma) parts ++ (sym syms.Comma ∷ (number n ∷ (sym syms.CloseParen ∷ [])))))
 applied o parts = separated (sym (symbol_of o)) parts
 
--- `:` and the width, where one is written
+-- `:` and the width, if one is written
 abbrev pub written : Option ℕ → List Word
 written None = []
 written (Some w) = sym syms.Colon ∷ (number w ∷ [])
 
--- a binding of a value that is written so
+-- the words of a binding, given those of its value
 abbrev pub bound_words : List ℕ → Option ℕ → List Word → List Word
 bound_words x w value = name x ∷ (written w ++ (sym syms.Assign ∷ value))
 
--- an expression without parentheses around it
+-- the words of an expression, without parentheses around it
 abbrev mutual
   pub words : Tree → List Word
   words (Number p n) = number n ∷ []
@@ -95,7 +95,8 @@ abbrev mutual
   words (Op p o ts) = applied o (part_words (left_place o) (right_place o) ts)
   words (Call p f ts) = name f ∷ (sym syms.OpenParen ∷ (separated (sym syms.Comma) (part_words 8 8 ts) ++ (sym syms.CloseParen ∷ [])))
 
-  -- parts, the first at a place of so many layers, and the others at one of so many; in parentheses where the place has too few
+  -- the words of operands, the first in a context of so many layers, and the others in one of so many. They have parentheses if
+  -- they need more layers
   pub part_words : ℕ → ℕ → Trees → List (List Word)
   part_words k right no_tree = []
   part_words k right (a_tree t ts) = enclosed (nat_le (own t) k) (words t) ∷ part_words right right ts
@@ -108,7 +109,7 @@ abbrev mutual
   arm_words (default_arm t) = key keys.Default ∷ (sym syms.Arrow ∷ words t)
   arm_words (an_arm l t arms) = words l ++ (sym syms.Arrow ∷ (words t ++ (sym syms.Comma ∷ arm_words arms)))
 
--- labelled arms alone
+-- the words of labelled arms
 abbrev pub labelled_words : List Labelled → List Word
 labelled_words [] = []
 labelled_words (a ∷ arms) = words a.label ++ (sym syms.Arrow ∷ (words a.value ++ (sym syms.Comma ∷ labelled_words arms)))
@@ -119,23 +120,23 @@ abbrev pub param_words : List Parameter → List (List Word)
 param_words [] = []
 param_words (p ∷ ps) = (name p.name ∷ (sym syms.Colon ∷ (number p.width ∷ []))) ∷ param_words ps
 
--- a definition after its `fun` or `and`
+-- the words of a definition without its `fun` or `and`
 abbrev pub one_words : Definition → List Word
 one_words d = name d.name ∷ (sym syms.OpenParen ∷ (separated (sym syms.Comma) (param_words d.params) ++ (sym syms.CloseParen ∷ (sym syms.Colon ∷ (number d.width ∷ (sym syms.Assign ∷ words d.body))))))
 
--- a joined definition follows `and`, any other `fun`
+-- a joined definition begins with `and`, any other with `fun`
 abbrev pub opening : Bool → Word
 opening true = key keys.And
 opening false = key keys.Fun
 
 -- ---- texts
 
--- a space before each token
+-- a space, and then each token followed by a space
 abbrev pub spaced : List Word → List ℕ
 spaced [] = []
 spaced (x ∷ xs) = 32 ∷ (x.text ++ spaced xs)
 
--- a definition's line, which a line feed ends
+-- the line of a definition, which ends with a line feed
 abbrev pub line : Definition → List ℕ
 line d = (opening d.joined).text ++ (spaced (one_words d) ++ (10 ∷ []))
 
@@ -143,6 +144,6 @@ abbrev pub printed : List Definition → List ℕ
 printed [] = []
 printed (d ∷ ds) = line d ++ printed ds
 
--- these words are written after what stood there
+-- the text of these words is appended to what was there
 abbrev pub Writes : List ℕ → List ℕ → List Word → Type 0
 Writes old new ws = new ≡ old ++ spaced ws

@@ -1,4 +1,4 @@
--- Reading a source by descent, with one token of look-ahead: a reading for each symbol of the grammar.
+-- Reading a source by recursive descent, with one token of look-ahead. There is a reader for each symbol of the grammar.
 use Rattle.std.specs.Prelude.{ℕ, zero, suc, List, [], ◌∷◌, ◌++◌, Option, Some, None, Bool, true, false}
 use Rattle.safl_grammar.specs.Syntax.{Deep, Range}
 use Rattle.safl_grammar.specs.Reading.{Reading, read_nothing, read_token, read_limited, read_follows, read_either, read_many, read_below}
@@ -12,7 +12,7 @@ use Rattle.safl_tree.specs.Tree.{Tree, Number, Sized, Variable, If, Let, Cases, 
 use Rattle.safl_tree.specs.Terminals.{Terminal, word_code, symbol_code, comes, marked, NameAt, name, NumberAt, number, sized, operators, operator}
 use Rattle.safl_tree.specs.Grammar.{shallow, fits_width, fits_sized, fits_index, ArmList}
 
--- tokens that are looked for
+-- sets of tokens that the reader looks ahead for
 abbrev pub open_paren : List ℕ
 open_paren = symbol_code syms.OpenParen ∷ []
 
@@ -22,7 +22,7 @@ close_paren = symbol_code syms.CloseParen ∷ []
 abbrev pub comma : List ℕ
 comma = symbol_code syms.Comma ∷ []
 
--- a key and a symbol, which give their place
+-- a keyword and a symbol; they give their place
 abbrev pub read_word : Key → Reading Terminal ℕ
 read_word k = read_token (marked (word_code k))
 
@@ -35,7 +35,7 @@ read_symbol s = read_token (marked (symbol_code s))
 abbrev pub read_width : Reading Terminal NumberAt
 read_width = read_limited Range fits_width number
 
--- a bit's number := Num
+-- the number of a bit := Num
 abbrev pub read_index : Reading Terminal NumberAt
 read_index = read_limited Range fits_index number
 
@@ -56,7 +56,7 @@ read_another e xs = read_follows (read_symbol syms.Comma) (λ sep. read_follows 
 unfoldable pub read_exprs : Reading Terminal Tree → Reading Terminal (List Tree)
 read_exprs e = read_follows e (λ x. read_many (comes comma) (read_another e) (x ∷ []))
 
--- called := name "(" [ exprs ] ")"; at a `)` right after the `(` no expression would begin
+-- called := name "(" [ exprs ] ")"; no expression begins with the `)` after an empty list
 unfoldable pub read_no_arguments : NameAt → Reading Terminal Tree
 read_no_arguments f = read_follows (read_symbol syms.CloseParen) (λ closed. read_nothing (Call f.place f.name (trees_of [])))
 
@@ -66,7 +66,7 @@ read_arguments e f = read_follows (read_exprs e) (λ xs. read_follows (read_symb
 unfoldable pub read_call : Reading Terminal Tree → NameAt → Reading Terminal Tree
 read_call e f = read_follows (read_symbol syms.OpenParen) (λ opened. read_either (comes close_paren) (read_no_arguments f) (read_arguments e f))
 
--- a name alone, or a call
+-- a variable or a call: a name, with arguments if a `(` comes next
 unfoldable pub read_named : Reading Terminal Tree → Reading Terminal Tree
 read_named e = read_follows (read_token name) (λ f. read_either (comes open_paren) (read_call e f) (read_nothing (Variable f.place f.name)))
 
@@ -116,7 +116,7 @@ read_layer (suc (suc zero)) sub = read_chained (suc (suc zero)) sub
 read_layer (suc (suc (suc zero))) sub = read_compared 3 sub
 read_layer (suc (suc (suc (suc k)))) sub = read_chained (suc (suc (suc (suc k)))) sub
 
--- the layers below k: product, sum, shift, comparison, and, xor, or
+-- the layers below k, from those that bind the closest: product, sum, shift, comparison, and, xor, or
 unfoldable pub read_chain : ℕ → Reading Terminal Tree → Reading Terminal Tree
 read_chain zero u = u
 read_chain (suc k) u = read_layer k (read_chain k u)
@@ -166,7 +166,7 @@ read_cases e rest = read_follows (read_word keys.Case) (λ p. read_follows e (λ
 unfoldable pub read_expr : Reading Terminal Tree → Reading Terminal Tree → (List Labelled → Reading Terminal ArmList) → Reading Terminal Tree
 read_expr u e rest = read_either (comes (word_code keys.If ∷ [])) (read_choice e) (read_either (comes (word_code keys.Let ∷ [])) (read_binding e) (read_either (comes (word_code keys.Case ∷ [])) (read_cases e rest) (read_chain 7 u)))
 
--- ---- levels: the operand of "~", an expression, an arm's value and the arms after it, where m levels are left
+-- ---- levels: the operand of "~", an expression, the value of an arm, and the arms after it, where m levels are left
 
 unfoldable mutual
   pub operand_at : ℕ → Reading Terminal Tree

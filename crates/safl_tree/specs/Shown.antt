@@ -1,4 +1,4 @@
--- Which plain tree a value shows.
+-- The plain trees of the trees of the code.
 use Rattle.std.specs.Prelude.{ℕ, List, map}
 use Rattle.safl_tree.specs.declared.tree.Expr.{Expr}
 use Rattle.safl_tree.specs.declared.tree.Node.{Node}
@@ -12,7 +12,7 @@ use Rattle.safl_tree.specs.declared.tree.Node.{Row_of-Expr, end_of-Expr, more_of
 use Rattle.safl_tree.specs.Tree.{Tree, Number, Sized, Variable, If, Let, Cases, Op, Call, Trees, no_tree, a_tree, Binds, no_bind, a_bind, Arms, default_arm, an_arm, Bound, Labelled, Parameter, Definition}
 
 abbrev mutual
-  -- a node at a place
+  -- the tree of a node at a place
   pub shown_node : Node → ℕ → Tree
   shown_node (nodes.Num n) p = Number p n
   shown_node (nodes.Sized w n) p = Sized p w n

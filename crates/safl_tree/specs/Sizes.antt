@@ -1,4 +1,4 @@
--- How many expressions stand in one, itself counted.
+-- How many expressions a tree has, itself included.
 use Rattle.std.specs.Prelude.{ℕ, ◌+◌, ◌*◌}
 use Rattle.safl_tree.specs.declared.dismantle.At.{At}
 use Rattle.safl_tree.specs.declared.tree.Expr.{Expr}
@@ -7,7 +7,7 @@ use Rattle.safl_tree.specs.declared.tree.Arm.{Arm}
 use Rattle.safl_tree.specs.Shown.{shown_tree}
 use Rattle.safl_tree.specs.Tree.{Tree, Number, Sized, Variable, If, Let, Cases, Op, Call, Trees, no_tree, a_tree, Binds, no_bind, a_bind, Arms, default_arm, an_arm}
 
--- an operator and a call count for two, so that they are no leaves without parts, and a label counts twice
+-- the size of a tree. Operators and calls count two, so that they are no leaves even without parts, and a label counts twice
 abbrev mutual
   pub size : Tree → ℕ
   size (Number p n) = 1
@@ -31,7 +31,7 @@ abbrev mutual
   size_of_arms (default_arm t) = size t
   size_of_arms (an_arm l t arms) = 2 * size l + size t + size_of_arms arms
 
--- how many expressions stand in one of the code
+-- the size of the tree of an expression of the code
 abbrev pub expr_size : Expr → ℕ
 expr_size e = size (shown_tree e)
 
@@ -41,7 +41,7 @@ bind_size b = size (shown_tree b.value)
 abbrev pub arm_size : Arm → ℕ
 arm_size a = 2 * size (shown_tree a.label) + size (shown_tree a.value)
 
--- what is left to do, where so much is below and so much above: a step down leaves their sum, and a step up makes it less
+-- the work that is left with so much below and so much above. A step down keeps the sum, and a step up makes it less
 abbrev pub work : ℕ → ℕ → ℕ
 work below above = (below + above) * (below + above) + below
 

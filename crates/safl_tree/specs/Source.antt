@@ -1,4 +1,4 @@
--- What a source spells, and its first fault.
+-- Which program a source spells, and its first fault.
 use Rattle.std.specs.Prelude.{◌≡◌, ℕ, List, [], ◌∷◌, length}
 use Rattle.safl_grammar.specs.Syntax.{Deep, Unexpected, Range}
 use Rattle.safl_grammar.specs.Syntax
@@ -12,17 +12,17 @@ use Rattle.safl_tree.specs.Tree.{Definition}
 use Rattle.safl_tree.specs.Terminals.{Terminal, terminals}
 use Rattle.safl_tree.specs.Grammar.{source}
 
--- tokens of this text spell a program: they derive it, and no level and no range is passed
+-- the tokens of a text spell a program: they derive it, and no limit on levels or ranges is passed
 abbrev pub TokensSpell : List ℕ → List Token → List Definition → Type 0
 TokensSpell text ts p = Spells source (terminals text ts) p
 
--- too many levels are E04, an unexpected token E02, a number out of range E05
+-- too many levels are E04, an unexpected token is E02, a number out of range is E05
 abbrev pub rule_of : Syntax.Rule → Rule
 rule_of Deep = rules.E04
 rule_of Unexpected = rules.E02
 rule_of Range = rules.E05
 
--- the place of the first token that is left, or of the end
+-- the place of the first token that is left, or the end of the text
 abbrev pub place_in : List ℕ → List Terminal → ℕ
 place_in text [] = length text
 place_in text (t ∷ rest) = t.place
@@ -30,7 +30,7 @@ place_in text (t ∷ rest) = t.place
 abbrev pub fault_at : Rule → ℕ → Fault
 fault_at e place = record { rule = e; place = place; first = 0; second = 0 }
 
--- the first fault of the tokens of this text: at the earliest token that breaks a rule, E04 before E02 before E05
+-- the first fault of the tokens of a text: at the first token that breaks a rule, E04 before E02 before E05
 pub record TokensFault (text : List ℕ) (ts : List Token) (f : Fault) : Type 0 where
   pub rule : Syntax.Rule
   pub rest : List Terminal
@@ -43,7 +43,7 @@ pub record SpellsProgram (text : List ℕ) (p : List Definition) : Type 0 where
   pub cut : HasTokens text tokens
   pub spelled : TokensSpell text tokens p
 
--- the first fault of the source: a token that cannot be cut comes before all other rules
+-- the first fault of the source. A place where the text cannot be cut into tokens comes before all other rules
 pub data SyntaxFault (text : List ℕ) (f : Fault) : Type 0 where
   lexical : (e : Rule) (place : ℕ) → HasLexicalFault text e place → f ≡ fault_at e place → SyntaxFault text f
   of_tokens : (ts : List Token) → HasTokens text ts → TokensFault text ts f → SyntaxFault text f

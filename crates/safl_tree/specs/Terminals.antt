@@ -11,7 +11,7 @@ use Rattle.safl_word.specs.declared.token.Token.{Token}
 use Rattle.safl_word.specs.declared.primitive.Primitive.{Primitive}
 use Rattle.safl_word.specs.declared.primitive.Primitive.TheVariants as prims
 
--- a token as the grammar sees it: where it begins, what it is, and its bytes
+-- a token as the grammar sees it: its place, its kind, and its bytes
 pub record Terminal : Type 0 where
   pub place : ℕ
   pub kind : TokenKind
@@ -24,7 +24,7 @@ terminal source t = record { place = t.start; kind = t.kind; bytes = take (t.sto
 abbrev pub terminals : List ℕ → List Token → List Terminal
 terminals source ts = map (terminal source) ts
 
--- ---- a number for each kind, by which kinds are told apart; 0 is that of the end
+-- ---- codes: a number for each kind of token, which tells kinds apart. Code 0 is the end
 
 abbrev pub word_code : Key → ℕ
 word_code keys.Fun = 4
@@ -77,15 +77,15 @@ abbrev pub code : Option Terminal → ℕ
 code None = 0
 code (Some t) = code_of t.kind
 
--- a token of these codes, with what it stands for
+-- a token with one of these codes, and the value that it stands for
 abbrev pub classed : {A : Type 0} → Set → (Terminal → A) → Terminal → Option A
 classed codes value t = if within codes (code_of t.kind) then Some (value t) else None
 
--- whether one of these codes comes next
+-- whether a token with one of these codes comes next
 abbrev pub comes : List ℕ → Option Terminal → Bool
 comes codes h = within (Only codes) (code h)
 
--- a key or a symbol stands for its place
+-- a keyword or a symbol, which stands for its place
 abbrev pub marked : ℕ → Terminal → Option ℕ
 marked k = classed (Only (k ∷ [])) (λ t. t.place)
 
@@ -125,7 +125,7 @@ sized = classed (Only (3 ∷ [])) (λ t. record { place = t.place; width = width
 
 -- ---- operators
 
--- the binary operators of a layer: the lower the layer, the closer they bind
+-- the codes of the binary operators of a layer. The lower the layer, the closer they bind
 abbrev pub operators : ℕ → List ℕ
 operators zero = symbol_code syms.Star ∷ []
 operators (suc zero) = symbol_code syms.Plus ∷ symbol_code syms.Minus ∷ []

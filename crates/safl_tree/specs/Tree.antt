@@ -1,9 +1,9 @@
--- Plain programs: trees of numbers and lists.
+-- Programs as plain trees of numbers and lists.
 use Rattle.std.specs.Prelude.{Bool, ℕ, ◌+◌, max, List, [], ◌∷◌, Option}
 use Rattle.safl_word.specs.declared.primitive.Primitive.{Primitive}
 
 mutual
-  -- an expression; each one has its place first, and names are bytes
+  -- an expression. The first field of each variant is its place; names are lists of bytes
   pub data Tree : Type 0 where
     Number : (place value : ℕ) → Tree
     Sized : (place width value : ℕ) → Tree
@@ -18,24 +18,24 @@ mutual
     no_tree : Trees
     a_tree : Tree → Trees → Trees
 
-  -- bindings, each with its place, its name, its width where one is written, and its value
+  -- bindings. Each has its place, its name, its width if one is written, and its value
   pub data Binds : Type 0 where
     no_bind : Binds
     a_bind : (place : ℕ) → (name : List ℕ) → Option ℕ → Tree → Binds → Binds
 
-  -- labelled arms, and last the default
+  -- labelled arms, and then the default
   pub data Arms : Type 0 where
     default_arm : Tree → Arms
     an_arm : (label value : Tree) → Arms → Arms
 
--- a binding by itself
+-- a single binding
 pub record Bound : Type 0 where
   pub place : ℕ
   pub name : List ℕ
   pub width : Option ℕ
   pub value : Tree
 
--- a labelled arm by itself
+-- a single labelled arm
 pub record Labelled : Type 0 where
   pub label : Tree
   pub value : Tree
@@ -45,7 +45,7 @@ pub record Parameter : Type 0 where
   pub name : List ℕ
   pub width : ℕ
 
--- a definition is joined where it belongs to the group of the one before it
+-- a definition. It is joined if it belongs to the group of the one before it
 pub record Definition : Type 0 where
   pub joined : Bool
   pub place : ℕ
@@ -76,7 +76,7 @@ place_of (Cases p e arms) = p
 place_of (Op p o ts) = p
 place_of (Call p f ts) = p
 
--- the same at another place: an expression in parentheses has that of the `(`
+-- the expression with another place. An expression in parentheses has the place of the `(`
 abbrev pub placed : ℕ → Tree → Tree
 placed q (Number p n) = Number q n
 placed q (Sized p w n) = Sized q w n
@@ -87,7 +87,8 @@ placed q (Cases p e arms) = Cases q e arms
 placed q (Op p o ts) = Op q o ts
 placed q (Call p f ts) = Call q f ts
 
--- A literal, a variable and a call without arguments have depth 1, any other expression one more than its deepest part.
+-- The depth of an expression. Numbers, variables, and calls without arguments have depth 1; any other expression is one deeper
+-- than its deepest part.
 abbrev mutual
   pub depth : Tree → ℕ
   depth (Number p n) = 1
@@ -107,7 +108,8 @@ abbrev mutual
   deepest_bind no_bind = 0
   deepest_bind (a_bind p x w t bs) = max (depth t) (deepest_bind bs)
 
-  -- A case stands for a let of its scrutinee over an if for each arm, whose test is that the variable equals the label (depth 2).
+  -- The depth of the arms of a case. A case stands for a let of its selecting value over an if for each arm, whose test has depth
+  -- 2.
   pub deepest_arm : Arms → ℕ
   deepest_arm (default_arm t) = depth t
   deepest_arm (an_arm l t arms) = 1 + max 2 (max (depth t) (deepest_arm arms))

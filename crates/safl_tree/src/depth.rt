@@ -1,4 +1,4 @@
-//! How deep bodies are.
+//! The depths of bodies.
 
 ghost use Rattle.std.specs.Prelude.{◌≤◌, ◌↔◌, IsTrue, max};
 ghost use Rattle.safl_tree.specs.Tree.{trees_of, binds_of, arms_of, depth, deepest, deepest_bind, deepest_arm};
@@ -6,7 +6,7 @@ ghost use Rattle.safl_tree.specs.Shown.{shown_tree, shown_trees, shown_bounds, s
 
 use crate::tree::{Arm, Bind, Expr, Node};
 
-/// Whether an expression is at most so deep. A `case` is as deep as the let and the ifs that it stands for. Nothing
+/// Whether an expression is at most `levels` deep. A `case` counts as the let and the ifs that it stands for. Nothing
 /// deeper is looked at.
 #[cycle(within)]
 pub fn is_within(e: &Expr, levels: u32) -> bool
@@ -33,7 +33,7 @@ fn is_choice_within(condition: &Expr, first: &Expr, second: &Expr, levels: u32) 
     is_within(condition, levels) && is_within(first, levels) && is_within(second, levels)
 }
 
-// The bindings of a let and its body.
+// Whether a let with these bindings and this body is within the levels.
 #[cycle(within)]
 fn is_let_within(binds: &[Bind], body: &Expr, levels: u32) -> bool
     ensures { IsTrue result ↔ max (deepest_bind (binds_of (shown_bounds binds.now))) (depth (shown_tree body.now)) ≤ levels }
@@ -53,7 +53,7 @@ fn is_case_within(scrutinee: &Expr, arms: &[Arm], default: &Expr, levels: u32) -
     is_within(scrutinee, levels) && are_arms_within(arms, default, levels)
 }
 
-// Each arm stands for an if, whose test is two deep.
+// Whether the arms of a case are within the levels. Each arm stands for an if, whose test is two deep.
 #[cycle(within)]
 fn are_arms_within(arms: &[Arm], default: &Expr, levels: u32) -> bool
     ensures { IsTrue result ↔ deepest_arm (arms_of (shown_labelled arms.now) (shown_tree default.now)) ≤ levels }
@@ -71,7 +71,7 @@ fn are_arms_within(arms: &[Arm], default: &Expr, levels: u32) -> bool
     is_within(default, left)
 }
 
-// Operands or arguments.
+// Whether all of several expressions, such as operands or arguments, are within the levels.
 #[cycle(within)]
 fn are_within(es: &[Expr], levels: u32) -> bool
     ensures { IsTrue result ↔ deepest (trees_of (shown_trees es.now)) ≤ levels }

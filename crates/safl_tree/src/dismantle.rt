@@ -1,5 +1,7 @@
-//! Taking an expression apart without recursion and without memory. The way back up is kept in the expression itself:
-//! the first part of what is above is what is above that, and so on up to a leaf.
+//! Freeing an expression without recursion and without memory.
+//!
+//! The way back up is kept in the expression itself: the first part of the expression above is replaced by the
+//! expression above that, and so on up to a leaf. `safl_term` frees terms in the same way.
 
 ghost use Rattle.std.specs.Prelude.{◌≡◌, ◌+◌, ◌<◌, ◌≤◌, IfSome, vec_len, vec_capacity};
 ghost use Rattle.std.specs.List.{sum_by};
@@ -9,13 +11,13 @@ use crate::tree::{Arm, Bind, Expr, Node};
 use safl_word::Primitive;
 use std::mem::replace;
 
-// What is taken apart next, and what is above it.
+// The expression that is freed next, and the one above it.
 struct At {
     here: Expr,
     above: Expr,
 }
 
-/// Frees an expression, which may be of any depth.
+/// Frees an expression of any depth.
 pub(crate) fn dismantle(e: Expr) {
     let mut at = At {
         here: e,
@@ -88,7 +90,7 @@ fn enter_case(mut scrutinee: Box<Expr>, arms: Vec<Arm>, default: Box<Expr>, abov
     }
 }
 
-// Operands or arguments: where there are none, the way goes up.
+// Goes down to the first of several operands or arguments. If there are none, the way goes up.
 fn enter_parts(mut es: Vec<Expr>, above: Expr) -> Option<At>
     ensures { IfSome result (λ next. work_at next < work (2 + sum_by expr_size es.items) (expr_size above)) }
 {
@@ -112,7 +114,7 @@ fn replace_first(es: &mut Vec<Expr>, e: Expr) -> Expr
     replace(&mut es[0], e)
 }
 
-// The next part of what is above, if that is no leaf.
+// Goes on to the next part of the expression above, if that is no leaf.
 fn leave(above: Expr) -> Option<At>
     ensures { IfSome result (λ next. expr_size next.here + expr_size next.above ≤ expr_size above) }
 {
@@ -173,7 +175,7 @@ fn leave_case(link: Box<Expr>, mut arms: Vec<Arm>, default: Box<Expr>) -> At
     }
 }
 
-// The label of an arm, or its value if the label is a leaf.
+// Goes on to the label of an arm, or to its value if the label is a leaf.
 fn next_of(arms: &mut Vec<Arm>, arm: Arm) -> Expr
     requires { vec_len arms.old < vec_capacity arms.old }
     ensures { expr_size result + sum_by arm_size arms.new.items ≤ arm_size arm + sum_by arm_size arms.old.items }
@@ -194,7 +196,7 @@ fn next_of(arms: &mut Vec<Arm>, arm: Arm) -> Expr
     }
 }
 
-// None if the expression is a leaf.
+// Frees the expression if it is a leaf, and hands it back otherwise.
 fn discard_leaf(e: Expr) -> Option<Expr>
     ensures { IfSome result (λ x. (expr_size x ≡ expr_size e) × (2 ≤ expr_size x)) }
 {
@@ -206,7 +208,7 @@ fn discard_leaf(e: Expr) -> Option<Expr>
     }
 }
 
-// The last operand or argument is next; the first one is what is above.
+// Goes on to the last operand or argument. The first one is the way up.
 fn leave_parts(mut es: Vec<Expr>) -> Option<At>
     ensures { IfSome result (λ next. expr_size next.here + expr_size next.above ≤ 2 + sum_by expr_size es.items) }
 {

@@ -1,4 +1,4 @@
-//! Whether a program's text with least parentheses keeps the levels.
+//! Whether a program's text with as few parentheses as possible keeps the limits on nesting.
 
 ghost use Rattle.std.specs.Prelude.{◌≡◌, ◌↔◌, true, IsTrue};
 ghost use Rattle.safl_tree.specs.Tree.{trees_of, binds_of, arms_of};
@@ -10,16 +10,17 @@ use crate::places::{is_binary, left_place, own, right_place};
 use crate::{Arm, Bind, Expr, Node, Program};
 use safl_word::Primitive;
 
-// The levels of a text, and a depth that no expression passes whose text keeps them: it bounds the descent.
+// The levels that a text may have, and a depth that no expression exceeds whose text keeps them. The depth bounds the
+// recursion.
 const LEVELS: u16 = 100;
 
 const DEPTH: u16 = 1100;
 
-// The depth that a left operand may have.
+// The greatest depth of a left operand.
 const LEFT_DEPTH: u16 = 99;
 
-/// Whether each body's text with least parentheses takes at most 100 levels, and all left operands have a depth of at
-/// most 99.
+/// Whether each body's text with as few parentheses as possible takes at most 100 levels, and all left operands have a
+/// depth of at most 99.
 #[tactic(auto, using(crate::proofs::Depths::keeps_levels))]
 pub fn levels_ok(p: &Program) -> bool
     ensures { IsTrue result ↔ AllKeepLevels (shown_program p.now) }
@@ -32,7 +33,7 @@ pub fn levels_ok(p: &Program) -> bool
     true
 }
 
-// Within so many levels, its own counted, and of at most this depth.
+// Whether an expression takes at most `levels` levels, its own included, and is at most `depth` deep.
 #[cycle(keeps)]
 fn keeps(e: &Expr, levels: u16, depth: u16) -> bool
     ensures { IsTrue result ↔ Keeps levels depth (shown_tree e.now) }
@@ -59,7 +60,7 @@ fn choice_keeps(c: &Expr, a: &Expr, b: &Expr, levels: u16, depth: u16) -> bool
     keeps(c, levels, depth) && keeps(a, levels, depth) && keeps(b, levels, depth)
 }
 
-// The bindings of a let and its body.
+// Whether the bindings of a let and its body keep the limits.
 #[cycle(keeps)]
 fn bindings_keep(bs: &[Bind], body: &Expr, levels: u16, depth: u16) -> bool
     ensures { IsTrue result ↔ (BindingsKeep levels depth (binds_of (shown_bounds bs.now)) × Keeps levels depth (shown_tree body.now)) }
@@ -80,7 +81,8 @@ fn cases_keep(scrutinee: &Expr, arms: &[Arm], default: &Expr, levels: u16, depth
     keeps(scrutinee, levels, depth) && arms_keep(arms, default, levels, depth)
 }
 
-// Each arm is one level below the one before it, and stands for an if, whose test has depth 2.
+// Whether the arms of a case keep the limits. Each arm is one level below the one before it, and stands for an if,
+// whose test has depth 2.
 #[cycle(keeps)]
 fn arms_keep(arms: &[Arm], default: &Expr, levels: u16, depth: u16) -> bool
     ensures { IsTrue result ↔ ArmsKeep levels depth (arms_of (shown_labelled arms.now) (shown_tree default.now)) }
@@ -100,7 +102,7 @@ fn arms_keep(arms: &[Arm], default: &Expr, levels: u16, depth: u16) -> bool
     left > 0 && keeps(default, left - 1, under)
 }
 
-// The operands of an operator: those of one between them are at its level.
+// Whether the operands of an operator keep the limits. Operands on both sides of an operator are at its own level.
 #[cycle(keeps)]
 fn operands_keep(p: Primitive, es: &[Expr], levels: u16, depth: u16) -> bool
     ensures { IsTrue result ↔ OperandsKeep p levels depth (trees_of (shown_trees es.now)) }
@@ -138,7 +140,8 @@ fn parts_keep(es: &[Expr], place: u8, levels: u16, depth: u16) -> bool
     true
 }
 
-// One level is for its parentheses, where the place has too few layers.
+// Whether an operand keeps the limits. Parentheses around it take one level; it needs them if its context has too few
+// layers.
 #[cycle(keeps)]
 fn part_keeps(e: &Expr, place: u8, levels: u16, depth: u16) -> bool
     ensures { IsTrue result ↔ PartKeeps place levels depth (shown_tree e.now) }

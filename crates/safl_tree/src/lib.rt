@@ -1,4 +1,4 @@
-//! Programs as trees, the grammar of their texts, and their texts with least parentheses.
+//! Programs as trees, the grammar of their texts, and printing them with as few parentheses as possible.
 #![tactic(auto)]
 
 mod depth;

@@ -1,4 +1,4 @@
-//! Names.
+//! Names in sources.
 
 use safl_word::NoMemory;
 use std::alloc::Global;
@@ -21,7 +21,7 @@ impl Model for Name {
 impl Name {
     ghost use Rattle.std.specs.Prelude.{◌≡◌, IfOk};
 
-    /// The name of these bytes, whatever they are.
+    /// The name with these bytes. They are not checked.
     pub fn new(alloc: Global, bytes: &[u8]) -> Result<Name, NoMemory>
         ensures bytes { IfOk result (λ name. name ≡ bytes.now) }
     {
@@ -31,7 +31,7 @@ impl Name {
         }
     }
 
-    /// Its bytes.
+    /// The bytes of the name.
     pub fn bytes(&self) -> &[u8]
         ensures bytes { result.now ≡ self.now }
     {

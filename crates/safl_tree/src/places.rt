@@ -1,5 +1,6 @@
-//! Places of expressions. A place has as many layers of operators as may stand there without parentheses; 8 layers
-//! are any expression.
+//! Precedence: how many layers of operators may stand in a context without parentheses.
+//!
+//! A context with all 8 layers takes any expression.
 
 ghost use Rattle.std.specs.Prelude.{◌≡◌};
 ghost use Rattle.safl_tree.specs.Printable.{is_binary, right_place, left_place, own};
@@ -18,7 +19,7 @@ pub(crate) fn is_binary(p: Primitive) -> bool
     )
 }
 
-/// The layers of the place right of an operator: those below its own.
+/// The layers that the context right of an operator has: those below the operator's own.
 pub(crate) fn right_place(p: Primitive) -> u8
     ensures { result ≡ right_place p }
 {
@@ -39,7 +40,8 @@ pub(crate) fn right_place(p: Primitive) -> u8
     }
 }
 
-/// The layers of the place left of an operator: its own too where it chains, and a comparison does not.
+/// The layers that the context left of an operator has: those up to the operator's own if it chains, otherwise those
+/// below it. Comparisons do not chain.
 pub(crate) fn left_place(p: Primitive) -> u8
     ensures { result ≡ left_place p }
 {
@@ -56,7 +58,7 @@ pub(crate) fn left_place(p: Primitive) -> u8
     }
 }
 
-/// The layers that an expression takes without parentheses.
+/// The layers that a context needs for an expression without parentheses.
 pub(crate) fn own(e: &Expr) -> u8
     ensures { result ≡ own (shown_tree e.now) }
 {

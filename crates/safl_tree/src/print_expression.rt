@@ -1,4 +1,4 @@
-//! Expressions as tokens.
+//! Printing expressions as tokens.
 
 ghost use Rattle.std.specs.Prelude.{◌≡◌, ◌∷◌, ◌++◌, [], OnOk, nat_le};
 ghost use Rattle.safl_tree.specs.Tree.{Op, Call, trees_of, binds_of};
@@ -13,7 +13,7 @@ use crate::print_words::{push_key, push_name, push_number, push_sized, push_sym,
 use crate::{Arm, Bind, Expr, Name, Node};
 use safl_word::{Key, NoMemory, Primitive, Raw, Sym};
 
-/// Writes an expression, without parentheses around it.
+/// Appends an expression without parentheses around it.
 #[cycle(print)]
 pub(crate) fn push_expr(e: &Expr, out: &mut Vec<u8>) -> Result<(), NoMemory>
     ensures { OnOk result (Writes out.old.items out.new.items (words (shown_tree e.now))) }
@@ -78,7 +78,7 @@ fn push_binding(b: &Bind, out: &mut Vec<u8>) -> Result<(), NoMemory>
     push_expr(&b.value, out)
 }
 
-// Writes the labelled arms of a case.
+// Appends the labelled arms of a case.
 #[cycle(print)]
 fn push_arms(arms: &[Arm], out: &mut Vec<u8>) -> Result<(), NoMemory>
     ensures { OnOk result (Writes out.old.items out.new.items (labelled_words (shown_labelled arms.now))) }
@@ -149,7 +149,8 @@ fn push_ext(width: u8, es: &[Expr], out: &mut Vec<u8>) -> Result<(), NoMemory>
     push_sym(Sym::CloseParen, out)
 }
 
-// Writes parts with a symbol between them, the first at a place of `left` layers, the others at one of `right`.
+// Appends several expressions with a symbol between them. The context of the first has `left` layers, that of the
+// others `right`.
 #[cycle(print)]
 fn push_parts(
     es: &[Expr],
@@ -170,7 +171,7 @@ fn push_parts(
     Ok(())
 }
 
-// Writes an expression at a place, in parentheses where it takes more layers.
+// Appends an expression in a context of `place` layers, with parentheses if it needs more.
 #[cycle(print)]
 fn push_part(e: &Expr, place: u8, out: &mut Vec<u8>) -> Result<(), NoMemory>
     ensures { OnOk result (Writes out.old.items out.new.items (enclosed (nat_le (own (shown_tree e.now)) place) (words (shown_tree e.now)))) }

@@ -1,4 +1,4 @@
-//! Programs as text.
+//! Printing programs as text.
 
 ghost use Rattle.std.specs.Prelude.{◌≡◌, [], ◌∷◌, ◌++◌, IfOk, OnOk};
 ghost use Rattle.safl_word.specs.declared.token.Sym.TheVariants as syms;
@@ -13,8 +13,8 @@ use crate::{Def, Param, Program};
 use safl_word::{Key, NoMemory, Raw, Sym};
 use std::alloc::Global;
 
-/// The text of a program, with least parentheses: a space follows each token, and a line feed each definition. It is
-/// read as the program, places aside.
+/// The text of a program, with as few parentheses as possible. A space follows each token, and a line feed each
+/// definition. The text reads as the program, apart from places.
 pub fn print(alloc: Global, p: &Program) -> Result<Vec<u8>, NoMemory>
     requires { IsPrintable (shown_program p.now) }
     ensures text { IfOk result (λ text. text.items ≡ printed (shown_program p.now)) }
@@ -37,7 +37,7 @@ fn push_def(def: &Def, out: &mut Vec<u8>) -> Result<(), NoMemory>
     Ok(())
 }
 
-// Writes a definition after its `fun` or `and`.
+// Appends a definition without its `fun` or `and`.
 fn push_one(def: &Def, out: &mut Vec<u8>) -> Result<(), NoMemory>
     ensures { OnOk result (Writes out.old.items out.new.items (one_words (shown_definition def.now))) }
 {

@@ -1,4 +1,4 @@
-//! Tokens, each after a space.
+//! Printing single tokens, each followed by a space.
 
 ghost use Rattle.std.specs.Prelude.{◌≡◌, [], ◌∷◌, ◌++◌, OnOk};
 ghost use Rattle.safl_tree.specs.Printed.{Writes, key, sym, name, number, sized, symbol_of};
@@ -48,7 +48,7 @@ pub(crate) fn push_sized(width: u8, n: Raw, out: &mut Vec<u8>) -> Result<(), NoM
     push_decimal(n, out)
 }
 
-/// The symbol of an operator; of one that is no symbol between or before its operands, `~`.
+/// The symbol of an operator. It is `~` for operators that are not written as a symbol before or between operands.
 pub(crate) fn symbol_of(p: Primitive) -> Sym
     ensures { result ≡ symbol_of p }
 {

@@ -1,4 +1,4 @@
-//! The tree of a source. A place is a byte offset; widths are in bits, from 1 to `WIDTH_MAX`.
+//! The tree of a source. Places are byte offsets; widths are in bits, from 1 to `WIDTH_MAX`.
 
 use crate::dismantle::dismantle;
 use crate::name::Name;
@@ -10,8 +10,8 @@ pub struct Program {
     pub defs: Vec<Def>,
 }
 
-/// A function's definition, at its name. A joined one belongs to the group of the one before it: `and` stands
-/// before it in place of `fun`.
+/// The definition of a function. Its place is that of the name. A joined one has `and` in place of `fun`, and belongs
+/// to the group of the definition before it.
 #[derive(Drop)]
 pub struct Def {
     pub joined: bool,
@@ -22,7 +22,7 @@ pub struct Def {
     pub body: Expr,
 }
 
-/// A parameter, at its name.
+/// A parameter. Its place is that of the name.
 #[derive(Drop)]
 pub struct Param {
     pub place: u32,
@@ -30,15 +30,16 @@ pub struct Param {
     pub width: u8,
 }
 
-/// An expression and its place: of an operator's node the first byte of its left operand, parentheses included,
-/// of an expression in parentheses its `(`, and of any other its first token.
+/// An expression and its place. The place of an operator between operands is the first byte of its left operand, with
+/// its parentheses; the place of an expression in parentheses is the `(`; and that of any other expression is its first
+/// token.
 #[cycle(expr)]
 pub struct Expr {
     pub place: u32,
     pub node: Node,
 }
 
-// A tree may be deeper than the stack of calls allows.
+// Written by hand, since a tree may be deeper than the stack allows.
 impl Drop for Expr {
     fn drop(self) {
         dismantle(self);
@@ -48,7 +49,7 @@ impl Drop for Expr {
 impl Expr {
     ghost use Rattle.std.specs.Prelude.{◌≡◌};
 
-    /// What the expression is, without its place.
+    /// The node of the expression, without its place.
     pub fn into_node(self) -> Node
         ensures { result ≡ self.node }
     {
@@ -57,7 +58,8 @@ impl Expr {
     }
 }
 
-/// What an expression is. Parentheses leave no node. A `Case` holds its labelled arms, and last its default.
+/// The node of an expression. Parentheses leave no node. A `Case` has what it selects by, its labelled arms, and its
+/// default.
 #[derive(Drop)]
 #[cycle(expr)]
 pub enum Node {
@@ -71,7 +73,7 @@ pub enum Node {
     Call(Name, Vec<Expr>),
 }
 
-/// A binding of a `let`, at its name, with its width where one is written.
+/// A binding of a `let`, with its width if one is written. Its place is that of the name.
 #[derive(Drop)]
 #[cycle(expr)]
 pub struct Bind {

@@ -1,4 +1,4 @@
--- What the walk gives and what is asked before it, by its context, its scope and where the part of the body stands.
+-- What checking gives, and what it requires, by the context, the scope and the position in the body.
 use Rattle.std.specs.Prelude.{ℕ, ◌+◌, List, Option, ◌&&◌, ◌==◌, length, Result}
 use Rattle.safl_word.specs.declared.fault.Rule.TheVariants as rules
 use Rattle.safl_word.specs.declared.fault.Fault.{Fault}
@@ -22,26 +22,26 @@ use Rattle.safl_typing.specs.PlainScope.{shown_scope}
 use Rattle.safl_typing.specs.PlainTyped.{shown_wanted, operands_wanted}
 use Rattle.safl_typing.specs.MayWalk.{MayWalk, MayCheck}
 
--- an if with this condition, over two branches
+-- an if with this condition and these branches
 abbrev pub choice_between : ℕ → code.Expression → Branches → Expression
 choice_between place condition both = If place (shown_expression condition) (shown_expression both.first.now) (shown_expression both.second.now)
 
--- an expression may be checked here
+-- the expression may be checked
 abbrev pub MayCheckIn : Context → Scope → ℕ → Expression → Type 0
 MayCheckIn c s lo e = MayCheck c.heads.now c.unit (shown_scope s) lo e
 
--- two branches may be checked here
+-- the two branches may be checked
 abbrev pub MayCheckBoth : Context → Scope → ℕ → Branches → Type 0
 MayCheckBoth c s lo both =
     MayWalk c.heads.now (shown_scope s) lo (IsInRange (shown_expression both.first.now) × IsInRange (shown_expression both.second.now))
     (sites (seen c) (shown_expression both.first.now) + sites (seen c) (shown_expression both.second.now))
     (nodes (shown_expression both.first.now) + nodes (shown_expression both.second.now))
 
--- what an expression that stands there is checked to be
+-- what checking gives for an expression in this position
 abbrev pub checked : Context → Scope → Position → Expression → Result Typed Fault
 checked c s at e = check (seen c) (shown_scope s) at.tail at.first_site (shown_wanted at.wanted) e
 
--- the same of an if, whose condition is this term, by its two branches
+-- what checking gives for an if with this term as its condition, from its two branches
 abbrev pub checked_both : Context → Scope → Position → Branches → Term → Result Typed Fault
 checked_both c s at both test =
     branches (is_any (shown_wanted at.wanted) && flexible (shown_expression both.first.now)) (shown_wanted at.wanted)
@@ -49,19 +49,19 @@ checked_both c s at both test =
     (λ v. check (seen c) (shown_scope s) at.tail (at.first_site + sites (seen c) (shown_expression both.first.now)) v (shown_expression both.second.now))
     test
 
--- what operands of one width are checked to be
+-- what checking gives for operands of one width
 abbrev pub checked_alike : Context → Scope → ℕ → ℕ → code_wanted.Wanted → List code.Expression → Result TypedAlike Fault
 checked_alike c s lo place wanted es = check_alike (seen c) (shown_scope s) lo place (shown_wanted wanted) (shown_expressions es)
 
--- what operands are checked to be, of which each is found, but a flexible one has the width of what is shifted
+-- what checking gives for operands whose widths are found. A flexible amount of a shift has the width of what is shifted
 abbrev pub checked_operands : Context → Scope → ℕ → Option ℕ → List code.Expression → Result TypedAll Fault
 checked_operands c s lo shifted es = check_all (seen c) (shown_scope s) lo (operands_wanted shifted (shown_expressions es)) (shown_expressions es)
 
--- what arguments are checked to be, each at its parameter's width
+-- what checking gives for arguments, each against the width of its parameter
 abbrev pub checked_arguments : Context → Scope → ℕ → List Slot → List code.Expression → Result TypedAll Fault
 checked_arguments c s lo params es = check_all (seen c) (shown_scope s) lo (exactly (widths_of params)) (shown_expressions es)
 
--- the same of the arguments of a function, which must be as many as its parameters
+-- what checking gives for the arguments of a function, which must be as many as its parameters
 abbrev pub counted_arguments : Context → Scope → ℕ → ℕ → code_head.Head → List code.Expression → Result TypedAll Fault
 counted_arguments c s lo place h es =
     unless

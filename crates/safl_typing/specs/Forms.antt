@@ -20,7 +20,7 @@ pub record FunctionForm : Type 0 where
   pub name : List ℕ
   pub params : List Slot
   pub width : ℕ
-  -- the number of the first member of its group, and of the first site of its body and of those that follow
+  -- the number of the first function of its group; and of the first site of its body and of those that follow it
   pub unit : ℕ
   pub first_site : ℕ
   pub body : Term
@@ -42,7 +42,7 @@ form_of t = record { functions = map shown_function t.functions; sites = t.sites
 abbrev pub shown : CheckedProgram → Form
 shown c = form_of c.tables
 
--- the sites of the body of g, in order
+-- the call sites of the body of g, in order
 abbrev mutual
   pub sites_of : ℕ → Term → List Site
   sites_of g (Const w) = []
@@ -57,7 +57,7 @@ abbrev mutual
   sites_of_all g Nil = []
   sites_of_all g (Cons t ts) = sites_of g t ++ sites_of_all g ts
 
--- the sites of functions that are numbered from n on
+-- the call sites of functions that are numbered from n on
 abbrev pub all_sites : ℕ → List FunctionForm → List Site
 all_sites n [] = []
 all_sites n (f ∷ fs) = sites_of n f.body ++ all_sites (suc n) fs
@@ -76,7 +76,7 @@ max_sites = 4000
 abbrev pub max_nodes : ℕ
 max_nodes = 50000
 
--- each let has few enough bindings
+-- no let has too many bindings
 abbrev mutual
   pub HasShortLets : Expression → Type 0
   HasShortLets (Number p n) = Unit {0}
@@ -109,8 +109,8 @@ AreShallow ds = AllByRecursion (λ d. depth d.body ≤ max_depth) ds
 abbrev pub param_names : Definition → List (List ℕ)
 param_names d = map (λ p. p.name) d.params
 
--- a definition of group u, of a program with these heads, has this form, where the sites before lo are those of the
--- functions before it, and those from hi on of the functions after it
+-- A definition of group u has this form, in a program with these heads. The sites below lo belong to the functions before it, and
+-- those from hi on to the functions after it.
 pub record IsFunctionOf (all : List Head) (u lo hi : ℕ) (d : Definition) (f : FunctionForm) : Type 0 where
   pub name : f.name ≡ d.name
   pub params : f.params ≡ params_of d
@@ -120,18 +120,18 @@ pub record IsFunctionOf (all : List Head) (u lo hi : ℕ) (d : Definition) (f : 
   pub params_differ : Differ (param_names d)
   pub few_params : length d.params ≤ max_params
   pub short_lets : HasShortLets (rewritten d.body)
-  -- the body has the function's width, in tail position
+  -- the body has the width of the function's result, and is in tail position
   pub body : Has (record { heads = all; unit = u }) (params_of d) true lo hi (rewritten d.body) d.width f.body
 
--- definitions have these forms, where the first is function n, u is the group before it and w that group's width, and the
--- sites are those from lo up to hi, hi apart; a joined one has the width of its group
+-- Definitions have these forms. The first is function n, u is the group before it and w the width of that group, and their sites
+-- are those from lo up to, but not including, hi. A joined definition has the width of its group.
 abbrev pub AreFunctionsOf : List Head → ℕ → ℕ → ℕ → ℕ → ℕ → List Definition → List FunctionForm → Type 0
 AreFunctionsOf all n u w lo hi [] [] = lo ≡ hi
 AreFunctionsOf all n u w lo hi [] (f ∷ fs) = ⊥
 AreFunctionsOf all n u w lo hi (d ∷ ds) [] = ⊥
 AreFunctionsOf all n u w lo hi (d ∷ ds) (f ∷ fs) = (m : ℕ) × IsFunctionOf all (unit_of n u d) lo m d f × (d.joined ≡ true → d.width ≡ w) × AreFunctionsOf all (suc n) (unit_of n u d) d.width m hi ds fs
 
--- the last name
+-- the name is that of the last definition
 abbrev pub IsLast : List ℕ → List Definition → Type 0
 IsLast x [] = ⊥
 IsLast x (d ∷ []) = d.name ≡ x

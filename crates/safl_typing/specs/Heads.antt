@@ -1,15 +1,15 @@
--- What is known of the functions of a program, and which of them a call may name.
+-- The heads of a program's functions, and which of them a call may name.
 use Rattle.std.specs.Prelude.{ℕ, suc, ◌+◌, List, [], ◌∷◌, map, Option, Some, None, Bool, ◌&&◌, ◌==◌, nat_lt, if◌then◌else◌}
 use Rattle.std.specs.Str.{bytes_eq}
 use Rattle.safl_tree.specs.Tree.{Definition, Parameter}
 use Rattle.safl_typing.specs.Rewriting.{Expression, Number, Sized, Variable, If, Let, Op, Call, Expressions, no_expression, an_expression, Bindings, no_binding, a_binding}
 
--- a name with its width: a parameter or a binding
+-- the name of a parameter or a binding, and its width
 pub record Slot : Type 0 where
   pub name : List ℕ
   pub width : ℕ
 
--- a function's name, its parameters, the width of its result, and its group: the number of the group's first member
+-- the head of a function: its name, its parameters, the width of its result, and the number of the first function of its group
 pub record Head : Type 0 where
   pub name : List ℕ
   pub params : List Slot
@@ -22,7 +22,7 @@ slot_of p = record { name = p.name; width = p.width }
 abbrev pub params_of : Definition → List Slot
 params_of d = map slot_of d.params
 
--- the group of function n, where u is that of the function before it
+-- the group of function n. u is the group of the function before it
 abbrev pub unit_of : ℕ → ℕ → Definition → ℕ
 unit_of n u d = if d.joined then u else n
 
@@ -42,7 +42,7 @@ pub record Known : Type 0 where
   pub heads : List Head
   pub unit : ℕ
 
--- a function's number and head
+-- the number and the head of a function
 pub record Numbered : Type 0 where
   pub number : ℕ
   pub head : Head
@@ -52,7 +52,7 @@ abbrev pub first_head : (Head → Bool) → ℕ → List Head → Option Numbere
 first_head test n [] = None
 first_head test n (h ∷ hs) = if test h then Some (record { number = n; head = h }) else first_head test (suc n) hs
 
--- a call's callee: a member of the own group, or a function of an earlier one
+-- the function that a call names: one of the own group, or one of an earlier group
 pub data Callee : Type 0 where
   Member : (number : ℕ) (head : Head) → Callee
   Above : (number : ℕ) (head : Head) → Callee
@@ -66,13 +66,13 @@ member_or None None = Unknown
 abbrev pub callee : Known → List ℕ → Callee
 callee k f = member_or (first_head (λ h. h.unit == k.unit && bytes_eq h.name f) 0 k.heads) (first_head (λ h. nat_lt h.unit k.unit && bytes_eq h.name f) 0 k.heads)
 
--- a call is a site where no member of the own group has its name
+-- 1 if a call of this function is a call site, else 0. It is one unless the function belongs to the own group
 abbrev pub is_site : Callee → ℕ
 is_site (Member i h) = 0
 is_site (Above i h) = 1
 is_site Unknown = 1
 
--- how many sites an expression has
+-- the number of call sites of an expression
 abbrev mutual
   pub sites : Known → Expression → ℕ
   sites k (Number p n) = 0

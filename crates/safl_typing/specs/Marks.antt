@@ -1,4 +1,4 @@
--- What an expression is marked with, and that its marks are right.
+-- The marks of expressions, and when they are right.
 use Rattle.std.specs.Prelude.{◌≡◌, ℕ, List, [], ◌∷◌, Bool, ◌&&◌, min}
 use Rattle.safl_word.specs.declared.primitive.Primitive.{Primitive}
 use Rattle.safl_typing.specs.declared.expression.Bound.{Bound}
@@ -10,7 +10,7 @@ use Rattle.safl_typing.specs.Rewriting.{Expression, If, Let, Op, Call, flexible}
 use Rattle.safl_typing.specs.Heads.{Known, callee, is_site, sites}
 use Rattle.safl_typing.specs.Plain.{shown_expression, shown_expressions, shown_bindings, shown_row, shown_bound}
 
--- the marks say whether an expression takes any width, and how many sites it has, up to 4,001
+-- the marks say whether the expression takes any width, and how many call sites it has, up to 4,001
 pub record IsMarkOf (k : Known) (e : Expression) (m : Marks) : Type 0 where
   pub width : m.flexible ≡ flexible e
   pub counted : m.sites ≡ min 4001 (sites k e)
@@ -35,7 +35,7 @@ abbrev mutual
   RowBound k end_of-Bound = Unit {0}
   RowBound k (more_of-Bound p x w e row) = IsMarked k e × RowBound k row
 
--- the same of lists
+-- the marks in a list of expressions are right; and in a list of bindings
 abbrev pub AreMarked : Known → List code.Expression → Type 0
 AreMarked k [] = Unit {0}
 AreMarked k (e ∷ es) = IsMarked k e × AreMarked k es
@@ -48,21 +48,21 @@ BoundMarked k (b ∷ bs) = IsMarked k b.value × BoundMarked k bs
 abbrev pub both_flexible : code.Expression → code.Expression → Bool
 both_flexible a b = flexible (shown_expression a) && flexible (shown_expression b)
 
--- where the marks of the parts of an if are right, these are its marks
+-- if the marks of the parts of an if are right, these are the marks of the if
 abbrev pub MarksChoice : (condition first second : code.Expression) → Marks → Type 0
 MarksChoice c a b m =
     (k : Known) (p : ℕ) → IsMarked k c → IsMarked k a → IsMarked k b
     → IsMarkOf k (If p (shown_expression c) (shown_expression a) (shown_expression b)) m
 
--- the same is said of the marks of a let
+-- if the marks of the parts of a let are right, these are the marks of the let
 abbrev pub MarksBinding : List Bound → code.Expression → Marks → Type 0
 MarksBinding bs b m = (k : Known) (p : ℕ) → BoundMarked k bs → IsMarked k b → IsMarkOf k (Let p (shown_bindings bs) (shown_expression b)) m
 
--- the same is said of the marks of an operator with its operands
+-- if the marks of the operands are right, these are the marks of the operator with its operands
 abbrev pub MarksOperation : Primitive → List code.Expression → Marks → Type 0
 MarksOperation o es m = (k : Known) (p : ℕ) → AreMarked k es → IsMarkOf k (Op p o (shown_expressions es)) m
 
--- the same is said of the marks of a call, which is so many sites itself
+-- if the marks of the arguments are right, these are the marks of a call, which itself is so many call sites
 abbrev pub MarksCall : ℕ → List code.Expression → Marks → Type 0
 MarksCall own es m =
     (k : Known) (p : ℕ) (f : List ℕ) → own ≡ is_site (callee k f) → AreMarked k es → IsMarkOf k (Call p f (shown_expressions es)) m

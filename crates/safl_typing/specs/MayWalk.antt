@@ -1,4 +1,4 @@
--- What is asked before a part of a body is checked: widths are in range, and sites, slots and operands can be counted.
+-- What is required before a part of a body is checked: widths are in range, and sites, slots and operands can be counted.
 use Rattle.std.specs.Prelude.{ℕ, ◌+◌, ◌<◌, ◌≤◌, ◌^◌, List, [], ◌∷◌, length}
 use Rattle.safl_typing.specs.declared.context.Context.{Context}
 use Rattle.safl_typing.specs.declared.expression.Expression as code
@@ -11,12 +11,12 @@ use Rattle.safl_typing.specs.Plain.{shown_expressions}
 use Rattle.safl_typing.specs.PlainHeads.{shown_heads, known}
 use Rattle.safl_typing.specs.PlainScope.{shown_scope}
 
--- each function's parameters can be counted
+-- the parameters of each function can be counted
 abbrev pub CountParams : List code_head.Head → Type 0
 CountParams [] = Unit {0}
 CountParams (h ∷ hs) = (length h.params.items < 2 ^ 32) × CountParams hs
 
--- with these heads and slots, of a part that has so many sites and nodes
+-- a part with so many sites and nodes may be checked with these heads and slots
 pub record MayWalk (hs : List code_head.Head) (ss : List Slot) (lo : ℕ) (Range : Type 0) (sites nodes : ℕ) : Type 0 where
   pub heads : WideHeads (shown_heads hs)
   pub counted : length hs < 2 ^ 32
@@ -32,7 +32,7 @@ MayCheck hs unit ss lo e = MayWalk hs ss lo (IsInRange e) (sites (known hs unit)
 abbrev pub MayCheckAll : List code_head.Head → ℕ → List Slot → ℕ → Expressions → Type 0
 MayCheckAll hs unit ss lo es = MayWalk hs ss lo (AreInRange es) (sites_in (known hs unit) es) (nodes_in es)
 
--- the same of expressions of the code, in this context and scope
+-- several expressions of the code may be checked in this context and scope
 abbrev pub MayWalkAll : Context → Scope → ℕ → List code.Expression → Type 0
 MayWalkAll c s lo es = MayCheckAll c.heads.now c.unit (shown_scope s) lo (shown_expressions es)
 

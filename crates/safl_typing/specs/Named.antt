@@ -1,4 +1,4 @@
--- Which functions have a name.
+-- Which functions have a given name.
 use Rattle.std.specs.Prelude.{ℕ, zero, suc, ◌≡◌, ◌<◌, Bool, false, List, [], Option, Some, None, length, slice_get, if◌then◌else◌}
 use Rattle.std.specs.Str.{bytes_eq}
 use Rattle.std.specs.Global.{Global}
@@ -23,11 +23,11 @@ last_named hs name (suc n) = if has_name name (slice_get hs n) then Some n else 
 abbrev pub before_it : List Head → ℕ → Option ℕ
 before_it hs n = last_named hs (name_of (slice_get hs n)) n
 
--- the number that is kept under a name
+-- the number that is stored for a name
 abbrev pub kept : List (Vec ℕ Global × ℕ) → List ℕ → Option ℕ
 kept entries name = lookup (λ (k : Vec ℕ Global). bytes_eq name k.items) entries
 
--- of the first n functions, each name has the last one, and each function the one before it of the same name
+-- for each name the last of the first n functions with it is stored, and for each function the one before it with the same name
 pub record KeepsNames (entries : List (Vec ℕ Global × ℕ)) (before : List (Option ℕ)) (hs : List Head) (n : ℕ) : Type 0 where
   pub last : (name : List ℕ) → kept entries name ≡ last_named hs name n
   pub counted : length before ≡ n

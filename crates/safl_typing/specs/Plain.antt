@@ -1,4 +1,4 @@
--- Which plain expression a value shows.
+-- The plain expressions of the expressions of the code.
 use Rattle.std.specs.Prelude.{◌≡◌, ℕ, List, [], ◌∷◌}
 use Rattle.safl_tree.specs.Tree.{Tree, Labelled, arms_of}
 use Rattle.safl_typing.specs.declared.expression.Bound.{Bound}
@@ -25,7 +25,7 @@ abbrev mutual
   shown_bound end_of-Bound = no_binding
   shown_bound (more_of-Bound p x w e row) = a_binding p x w (shown_expression e) (shown_bound row)
 
--- the same of lists
+-- the plain expressions of lists of expressions and bindings
 abbrev pub shown_expressions : List code.Expression → Expressions
 shown_expressions [] = no_expression
 shown_expressions (e ∷ es) = an_expression (shown_expression e) (shown_expressions es)
@@ -34,6 +34,6 @@ abbrev pub shown_bindings : List Bound → Bindings
 shown_bindings [] = no_binding
 shown_bindings (b ∷ bs) = a_binding b.place b.name b.width (shown_expression b.value) (shown_bindings bs)
 
--- over the default of a `case` of this place, an expression is its arms, as ifs
+-- the expression is the arms of a `case` as ifs, over the default. The `case` has this place
 abbrev pub RewritesArms : ℕ → List Labelled → (default x : code.Expression) → Type 0
 RewritesArms place arms default x = (t : Tree) → shown_expression default ≡ rewritten t → shown_expression x ≡ rewritten_arms place (arms_of arms t)

@@ -1,4 +1,4 @@
--- What the heads of the code show.
+-- The heads of the code, as plain heads.
 use Rattle.std.specs.Prelude.{ℕ, ◌<◌, length, List, [], ◌∷◌, map, Option, Some, None, slice_get}
 use Rattle.safl_typing.specs.declared.heads.Slot as code_slot
 use Rattle.safl_typing.specs.declared.heads.Head as code_head
@@ -22,7 +22,7 @@ shown_heads (h ∷ hs) = shown_head h ∷ shown_heads hs
 abbrev pub known : List code_head.Head → ℕ → Known
 known hs unit = record { heads = shown_heads hs; unit = unit }
 
--- the head of a number
+-- a head with its number
 abbrev pub with_number : ℕ → Option code_head.Head → Option Numbered
 with_number n None = None
 with_number n (Some h) = Some (record { number = n; head = shown_head h })
@@ -44,13 +44,13 @@ shown_callee hs (codes.Member n) = a_member (numbered hs (Some n))
 shown_callee hs (codes.Above n) = an_earlier (numbered hs (Some n))
 shown_callee hs codes.Unknown = Unknown
 
--- whether a call of this callee is a site
+-- 1 if a call of this function is a call site, else 0
 abbrev pub site_of : code_callee.Callee → ℕ
 site_of (codes.Member n) = 0
 site_of (codes.Above n) = 1
 site_of codes.Unknown = 1
 
--- a callee is one of these functions
+-- the called function is one of these
 abbrev pub IsOneOf : List code_head.Head → code_callee.Callee → Type 0
 IsOneOf hs (codes.Member n) = n < length hs
 IsOneOf hs (codes.Above n) = n < length hs

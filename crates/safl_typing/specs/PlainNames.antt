@@ -1,4 +1,4 @@
--- The names of bindings, as they are looked at.
+-- The names of bindings that are compared.
 use Rattle.std.specs.Prelude.{ℕ, zero, suc, List, [], ◌∷◌, Option, Some, None, slice_get}
 use Rattle.safl_word.specs.declared.fault.Rule.TheVariants as rules
 use Rattle.safl_word.specs.declared.fault.Fault.{Fault}
@@ -9,7 +9,7 @@ abbrev pub name_of : Option Bound → List ℕ
 name_of None = []
 name_of (Some b) = b.name
 
--- the names of the first so many bindings, the last one first
+-- the names of the first n bindings, the last one first
 abbrev pub earlier : List Bound → ℕ → List (List ℕ)
 earlier bs zero = []
 earlier bs (suc n) = name_of (slice_get bs n) ∷ earlier bs n

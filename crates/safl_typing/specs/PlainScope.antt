@@ -1,4 +1,4 @@
--- Which variables a scope of the code shows.
+-- The variables of a scope of the code.
 use Rattle.std.specs.Prelude.{ℕ, ◌+◌, List, ◌++◌, Option, Some, None, length}
 use Rattle.std.specs.List.{AllByRecursion}
 use Rattle.safl_term.specs.Slots.{HasSlots}
@@ -22,7 +22,7 @@ abbrev pub found_at : Option Variable → Option At
 found_at None = None
 found_at (Some v) = Some (record { slot = v.slot; width = v.width })
 
--- the same slot, where so many stand before it
+-- the same slot, with so many slots before it
 abbrev pub shifted : ℕ → Option At → Option At
 shifted n None = None
 shifted n (Some a) = Some (record { slot = n + a.slot; width = a.width })

@@ -1,4 +1,4 @@
--- What the walk of the code gives, and what it shows.
+-- What checking gives in the code, as plain values.
 use Rattle.std.specs.Prelude.{◌≡◌, ℕ, ◌≤◌, List, Option, Some, None, Bool, if◌then◌else◌, slice_get, Result, Ok, Err}
 use Rattle.safl_word.specs.Words.{max_width}
 use Rattle.safl_word.specs.declared.fault.Fault.{Fault}
@@ -22,7 +22,7 @@ abbrev pub shown_wanted : code_wanted.Wanted → Wanted
 shown_wanted wants.Any = Any
 shown_wanted (wants.Exactly w) = Exactly w
 
--- a width that a word may have
+-- the width is one that a word may have
 abbrev pub HasWidthOfWord : ℕ → Type 0
 HasWidthOfWord w = (1 ≤ w) × (w ≤ max_width)
 
@@ -43,28 +43,28 @@ shown_all_typed t = record { widths = t.widths.items; terms = shown_terms t.term
 abbrev pub shown_alike : code_alike.TypedAlike → TypedAlike
 shown_alike t = record { width = t.width; terms = shown_terms t.terms.items }
 
--- the fault of the code is that of the walk; the walk itself finds nothing too deep, and out of memory says nothing
+-- The error is the fault that the definition of checking gives, or out of memory. That definition finds nothing too deep.
 abbrev pub Refuses : {A : Type 0} → CheckErr → Result A Fault → Type 0
 Refuses (errors.Refused f) r = r ≡ Err f
 Refuses errors.TooDeep r = ⊥
 Refuses errors.NoMemory r = Unit {0}
 
--- the result of the code is that of the walk
+-- the result of the code is that of the definition of checking
 abbrev pub Says : Result code_typed.Typed CheckErr → Result Typed Fault → Type 0
 Says (Ok x) r = r ≡ Ok (shown_typed x)
 Says (Err e) r = Refuses e r
 
--- the same of several
+-- the results of the code for several expressions are those of the definition of checking
 abbrev pub SaysAll : Result code_all.TypedAll CheckErr → Result TypedAll Fault → Type 0
 SaysAll (Ok x) r = r ≡ Ok (shown_all_typed x)
 SaysAll (Err e) r = Refuses e r
 
--- and of several of one width
+-- the results of the code for several expressions of one width are those of the definition of checking
 abbrev pub SaysAlike : Result code_alike.TypedAlike CheckErr → Result TypedAlike Fault → Type 0
 SaysAlike (Ok x) r = r ≡ Ok (shown_alike x)
 SaysAlike (Err e) r = Refuses e r
 
--- the result of the code is that of the walk over no operands, whatever is known and in scope
+-- the result of the code is that of the definition of checking for no operands, whatever is known and in scope
 abbrev pub SaysNoOperand : Result code_alike.TypedAlike CheckErr → ℕ → code_wanted.Wanted → Type 0
 SaysNoOperand result place wanted =
     (k : Known) (s : List Slot) (site : ℕ) → SaysAlike result (check_alike k s site place (shown_wanted wanted) no_expression)
@@ -83,7 +83,7 @@ abbrev pub at_slot : List code_slot.Slot → Option ℕ → Option At
 at_slot ss None = None
 at_slot ss (Some i) = with_slot i (slice_get ss i)
 
--- how an operand is looked at, of a shift by this width or of another operator
+-- how an operand is checked: of a shift by this width, or of another operator
 abbrev pub operand_wanted : Option ℕ → Bool → Wanted
 operand_wanted None is_flexible = Any
 operand_wanted (Some w) is_flexible = if is_flexible then Exactly w else Any

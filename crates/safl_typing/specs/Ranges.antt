@@ -1,4 +1,4 @@
--- Widths that a word may have: of slots, heads and what is written in an expression.
+-- Widths in range: of slots, of heads, and of what is written in an expression.
 use Rattle.std.specs.Prelude.{◌≡◌, ℕ, ◌≤◌, List, [], ◌∷◌, Some}
 use Rattle.safl_word.specs.Words.{max_width}
 use Rattle.safl_typing.specs.Rewriting.{Expression, Number, Sized, Variable, If, Let, Op, Call, Expressions, no_expression, an_expression, Bindings, no_binding, a_binding}
@@ -24,7 +24,7 @@ abbrev pub WideHeads : List Head → Type 0
 WideHeads [] = Unit {0}
 WideHeads (h ∷ hs) = IsWideHead h × WideHeads hs
 
--- written widths and those of sized numbers are in range
+-- written widths and the widths of sized numbers are in range
 abbrev mutual
   pub IsInRange : Expression → Type 0
   IsInRange (Number p n) = Unit {0}

@@ -6,7 +6,7 @@ use Rattle.safl_tree.specs.Tree as source
 use Rattle.safl_tree.specs.Tree.{Tree, Trees, Binds, Arms, place_of}
 
 mutual
-  -- an expression without `case`; each one has its place first
+  -- an expression without `case`. The first field of each variant is its place
   pub data Expression : Type 0 where
     Number : (place value : ℕ) → Expression
     Sized : (place width value : ℕ) → Expression
@@ -20,21 +20,21 @@ mutual
     no_expression : Expressions
     an_expression : Expression → Expressions → Expressions
 
-  -- bindings, each with its place, its name, its width where one is written, and its value
+  -- bindings. Each has its place, its name, its width if one is written, and its value
   pub data Bindings : Type 0 where
     no_binding : Bindings
     a_binding : (place : ℕ) → (name : List ℕ) → Option ℕ → Expression → Bindings → Bindings
 
--- the name of what a `case` looks at; no name of a source has a `$`
+-- the name that the selecting value of a `case` is bound to. No name of a source has a `$`
 abbrev pub scrutinee : List ℕ
 scrutinee = codes "$case"
 
--- whether the scrutinee is the label: the test and its variable have the label's place
+-- the test whether the selecting value equals a label. The test and its variable have the place of the label
 abbrev pub test_at : ℕ → Expression → Expression
 test_at p l = Op p prims.Eq (an_expression (Variable p scrutinee) (an_expression l no_expression))
 
--- A case of e is a let of its scrutinee over an if for each labelled arm, in order, and then the default; the let and
--- the ifs have the place of the `case`
+-- A case is a let of its selecting value over an if for each labelled arm, in order, and then the default. The let and the ifs
+-- have the place of the `case`.
 abbrev mutual
   pub rewritten : Tree → Expression
   rewritten (source.Number p n) = Number p n
@@ -58,8 +58,9 @@ abbrev mutual
   rewritten_arms p (source.default_arm t) = rewritten t
   rewritten_arms p (source.an_arm l t arms) = If p (test_at (place_of l) (rewritten l)) (rewritten t) (rewritten_arms p arms)
 
--- what an operator asks of the widths of its operands: that all are alike, and that the result is (`+ - * & | ^ ~`), or
--- is one bit (a comparison); that the result has the first one's (a shift); or a row of the table (`cat`, `bits`, `ext`)
+-- What an operator requires of the widths of its operands. Alike: all have one width, and so has the result (`+ - * & | ^ ~`).
+-- Comparing: all have one width, and the result has one bit. Shifting: the result has the width of the first operand. Resizing:
+-- the operator has a row in the table of widths (`cat`, `bits`, `ext`).
 pub data Shape : Type 0 where
   Alike : Shape
   Comparing : Shape
@@ -92,8 +93,8 @@ takes_width Comparing = false
 takes_width Shifting = false
 takes_width Resizing = false
 
--- A number is flexible, and what is made of flexible parts alone by an operator whose operands are alike, by an if of
--- two flexible branches, or by a let with a flexible body. Every other expression is rigid
+-- Which expressions are flexible: a number; an operator whose operands have one width, if all of them are flexible; an if with
+-- two flexible branches; and a let with a flexible body. Every other expression is rigid.
 abbrev mutual
   pub flexible : Expression → Bool
   flexible (Number p n) = true
@@ -112,7 +113,7 @@ abbrev pub count : Expressions → ℕ
 count no_expression = 0
 count (an_expression e es) = 1 + count es
 
--- how many expressions stand in one, itself counted
+-- how many expressions a tree has, itself included
 abbrev mutual
   pub nodes : Expression → ℕ
   nodes (Number p n) = 1

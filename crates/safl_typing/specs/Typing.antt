@@ -1,4 +1,4 @@
--- Which widths an expression has, and the term that stands for it: a relation without an order of checking.
+-- Which widths an expression has, and which term stands for it: a relation, without an order of checking.
 use Rattle.std.specs.Prelude.{◌≡◌, ℕ, suc, List, [], ◌∷◌, ◌++◌, map, Option, Some, None, Bool, true, false, slice_get, if◌then◌else◌, ◌⊎◌}
 use Rattle.std.specs.Str.{bytes_eq}
 use Rattle.safl_word.specs.Words.{Word, IsWord}
@@ -9,7 +9,7 @@ use Rattle.safl_term.specs.Terms.{Term, Const, Var, Loop, Terms, Nil, Cons}
 use Rattle.safl_typing.specs.Rewriting.{Expression, Number, Sized, Variable, If, Let, Op, Call, Expressions, no_expression, an_expression, Bindings, no_binding, a_binding, Shape, Alike, Comparing, Shifting, Resizing, shape, flexible, all_flexible}
 use Rattle.safl_typing.specs.Heads.{Slot, Known, Callee, Member, Above, Unknown, callee}
 
--- a slot's number and width
+-- the number and the width of a slot
 pub record At : Type 0 where
   pub slot : ℕ
   pub width : ℕ
@@ -18,12 +18,12 @@ abbrev pub later : Option At → Option At → Option At
 later (Some a) earlier = Some a
 later None earlier = earlier
 
--- the innermost variable of a name, where the slots are numbered from i on: the last one
+-- the innermost variable with a name, which is the last one. The slots are numbered from i on
 abbrev pub innermost : List ℕ → ℕ → List Slot → Option At
 innermost x i [] = None
 innermost x i (v ∷ vs) = later (innermost x (suc i) vs) (if bytes_eq v.name x then Some (record { slot = i; width = v.width }) else None)
 
--- no name stands twice
+-- no name is twice in the list
 abbrev pub Differ : List (List ℕ) → Type 0
 Differ names = (i j : ℕ) (name : List ℕ) → slice_get names i ≡ Some name → slice_get names j ≡ Some name → i ≡ j
 
@@ -31,13 +31,13 @@ abbrev pub names : Bindings → List (List ℕ)
 names no_binding = []
 names (a_binding p x w e bs) = x ∷ names bs
 
--- bindings with their widths
+-- the slots of bindings with these widths
 abbrev pub slots : Bindings → List ℕ → List Slot
 slots no_binding ws = []
 slots (a_binding p x v e bs) [] = []
 slots (a_binding p x v e bs) (w ∷ ws) = record { name = x; width = w } ∷ slots bs ws
 
--- a binding has the width that is written, or is rigid
+-- a binding has the width that is written, or no width is written and it is rigid
 abbrev pub Keeps : Option ℕ → Expression → ℕ → Type 0
 Keeps (Some v) e w = v ≡ w
 Keeps None e w = flexible e ≡ false
@@ -50,7 +50,7 @@ abbrev pub AllRigid : Expressions → Type 0
 AllRigid no_expression = Unit {0}
 AllRigid (an_expression e es) = (flexible e ≡ false) × AllRigid es
 
--- each is rigid, or is flexible and has width w
+-- each expression is rigid, or is flexible and has width w
 abbrev pub RigidOr : ℕ → Expressions → List ℕ → Type 0
 RigidOr w no_expression vs = Unit {0}
 RigidOr w (an_expression e es) [] = ⊥
@@ -62,8 +62,9 @@ Shifts w no_expression vs = ⊥
 Shifts w (an_expression e es) [] = ⊥
 Shifts w (an_expression e es) (v ∷ vs) = (flexible e ≡ false) × (v ≡ w) × RigidOr w es vs
 
--- Operands of widths vs suit the operator, which gives width w: all have w; or it is a comparison, w is 1, all have one
--- width, and one is rigid; or a shift; or the operands are rigid and the table has a row for them
+-- Operands with widths vs suit the operator, whose result then has width w. Either all have width w; or it is a comparison, w is
+-- 1, and all have one width, at least one of them rigid; or it is a shift; or the operands are rigid and the table of widths has
+-- a row for them.
 abbrev pub Suits : Shape → Primitive → Expressions → List ℕ → ℕ → Type 0
 Suits Alike o es vs w = AreAll w vs
 Suits Comparing o es vs w = (w ≡ 1) × (u : ℕ) × AreAll u vs × (all_flexible es ≡ false)
@@ -76,16 +77,16 @@ word w n = record { width = w; bits = n }
 abbrev pub widths_of : List Slot → List ℕ
 widths_of ps = map (λ p. p.width) ps
 
--- A call with arguments us of widths ws is a loop where it names a member of the own group, in tail position alone;
--- where it names a function of an earlier group, it has a site, which stands before those of the arguments
+-- A call with arguments us of widths ws. If it names a function of the own group, it is a loop, and must be in tail position. If
+-- it names a function of an earlier group, it has a site, which comes before those of its arguments.
 abbrev pub Calls : Callee → Bool → ℕ → ℕ → List ℕ → Terms → ℕ → Term → Type 0
 Calls (Member i h) tail lo m ws us w t = (tail ≡ true) × (m ≡ lo) × (ws ≡ widths_of h.params) × (h.width ≡ w) × (t ≡ Loop i us)
 Calls (Above i h) tail lo m ws us w t = (m ≡ suc lo) × (ws ≡ widths_of h.params) × (h.width ≡ w) × (t ≡ terms.Call i lo us)
 Calls Unknown tail lo m ws us w t = ⊥
 
--- In a body that sees k, where the slots are s, the expression has width w and term t, and its sites are those from lo up
--- to hi, hi apart, in the order of the text. The branches of an if and the body of a let are in tail position where it is;
--- no other part is
+-- In a body that sees the functions of k, with slots s, the expression has width w and term t. Its sites are those from lo up to,
+-- but not including, hi, in the order of the text. The branches of an if and the body of a let are in tail position if it is; no
+-- other part is.
 abbrev mutual
   pub Has : Known → List Slot → Bool → ℕ → ℕ → Expression → ℕ → Term → Type 0
   Has k s tail lo hi (Number p n) w t = (lo ≡ hi) × IsWord (word w n) × (t ≡ Const (word w n))
@@ -103,7 +104,7 @@ abbrev mutual
   HaveAll k s lo hi (an_expression e es) [] us = ⊥
   HaveAll k s lo hi (an_expression e es) (w ∷ ws) us = (m : ℕ) × (t : Term) × (ts : Terms) × Has k s false lo m e w t × HaveAll k s m hi es ws ts × (us ≡ Cons t ts)
 
-  -- bindings, which see the outer slots alone
+  -- bindings with their widths and terms. They see only the outer slots
   pub HaveBound : Known → List Slot → ℕ → ℕ → Bindings → List ℕ → Terms → Type 0
   HaveBound k s lo hi no_binding [] us = (lo ≡ hi) × (us ≡ Nil)
   HaveBound k s lo hi no_binding (w ∷ ws) us = ⊥

@@ -1,4 +1,4 @@
--- The first fault of a program, in the order in which it is checked, or else its numbered form.
+-- The order of checking: the first fault of a program, or its numbered form.
 use Rattle.std.specs.Prelude.{ℕ, suc, ◌+◌, ◌^◌, List, [], ◌∷◌, ◌++◌, length, map, Option, Some, None, Bool, true, false, ◌&&◌, not, ◌==◌, nat_lt, nat_le, if◌then◌else◌, codes, slice_get, Result, Ok, Err}
 use Rattle.std.specs.List.{list_any}
 use Rattle.std.specs.Result.{result_err}
@@ -23,11 +23,11 @@ use Rattle.safl_typing.specs.Forms.{FunctionForm, Form, all_sites, max_functions
 abbrev pub fault : Rule → ℕ → Fault
 fault e p = record { rule = e; place = p; first = 0; second = 0 }
 
--- with the wanted and the found number, or a limit's number and value
+-- the fault of a rule with two numbers: the expected and the found one, or a limit's number and its value
 abbrev pub fault_with : Rule → ℕ → ℕ → ℕ → Fault
 fault_with e p wanted found = record { rule = e; place = p; first = wanted; second = found }
 
--- the rest of the walk, where what comes before it has no fault
+-- the rest of the check, if what comes before it has no fault
 abbrev pub after : {A B : Type 0} → Result A Fault → (A → Result B Fault) → Result B Fault
 after (Err f) rest = Err f
 after (Ok a) rest = rest a
@@ -36,13 +36,13 @@ abbrev pub unless : {A : Type 0} → Option Fault → Result A Fault → Result 
 unless (Some f) rest = Err f
 unless None rest = rest
 
--- the fault, where the test fails
+-- the fault, if the test fails
 abbrev pub needs : Bool → Fault → Option Fault
 needs b f = if b then None else Some f
 
 -- ---- expressions
 
--- a width and a term, or the widths and the terms of several
+-- a width and a term; the widths and the terms of several expressions
 pub record Typed : Type 0 where
   pub width : ℕ
   pub term : Term
@@ -51,12 +51,12 @@ pub record TypedAll : Type 0 where
   pub widths : List ℕ
   pub terms : Terms
 
--- terms of one width
+-- the terms of several expressions of one width
 pub record TypedAlike : Type 0 where
   pub width : ℕ
   pub terms : Terms
 
--- how an expression is looked at: its width is found, or it is expected at a width
+-- how an expression is checked: its width is to be found, or it is expected to have a width
 pub data Wanted : Type 0 where
   Any : Wanted
   Exactly : (width : ℕ) → Wanted
@@ -65,7 +65,7 @@ abbrev pub is_any : Wanted → Bool
 is_any Any = true
 is_any (Exactly w) = false
 
--- a width is expected, or the expression is rigid
+-- whether an expression gets a width: a width is expected, or the expression is rigid
 abbrev pub is_known : Wanted → Bool → Bool
 is_known Any is_flexible = not is_flexible
 is_known (Exactly w) is_flexible = true
@@ -74,12 +74,12 @@ abbrev pub wanted_by : Option ℕ → Wanted
 wanted_by None = Any
 wanted_by (Some w) = Exactly w
 
--- an expression whose width is found to be v; E12 where another is expected
+-- an expression whose width was found to be v. E12 if another width is expected
 abbrev pub settle : ℕ → Wanted → ℕ → Term → Result Typed Fault
 settle p Any v t = Ok (record { width = v; term = t })
 settle p (Exactly w) v t = if w == v then Ok (record { width = v; term = t }) else Err (fault_with rules.E12 p w v)
 
--- a number has any width that it fits
+-- a number. It has any width that it fits
 abbrev pub number : ℕ → ℕ → Wanted → Result Typed Fault
 number p n Any = Err (fault rules.E14 p)
 number p n (Exactly w) = if nat_lt n (2 ^ w) then Ok (record { width = w; term = Const (word w n) }) else Err (fault rules.E13 p)
@@ -91,7 +91,7 @@ abbrev pub variable : ℕ → Wanted → Option At → Result Typed Fault
 variable p m None = Err (fault rules.E08 p)
 variable p m (Some a) = settle p m a.width (Var a.slot)
 
--- two branches: where no width is expected, the first rigid one gives it
+-- two branches. If no width is expected, the first rigid one gives it
 abbrev pub branches : Bool → Wanted → (Wanted → Result Typed Fault) → (Wanted → Result Typed Fault) → Term → Result Typed Fault
 branches true m first second x = after (second m) (λ z. after (first (Exactly z.width)) (λ y. Ok (record { width = z.width; term = terms.If x y.term z.term })))
 branches false m first second x = after (first m) (λ y. after (second (Exactly y.width)) (λ z. Ok (record { width = y.width; term = terms.If x y.term z.term })))
@@ -101,19 +101,19 @@ abbrev pub alike : Bool → Wanted → (Wanted → Result Typed Fault) → (Want
 alike true m first others = after (others m) (λ r. after (first (Exactly r.width)) (λ x. Ok (record { width = r.width; terms = Cons x.term r.terms })))
 alike false m first others = after (first m) (λ x. after (others (Exactly x.width)) (λ r. Ok (record { width = x.width; terms = Cons x.term r.terms })))
 
--- a width where the table has one
+-- an operator with this width in the table of widths, if there is one
 abbrev pub resized : ℕ → Wanted → Primitive → Option ℕ → Terms → Result Typed Fault
 resized p m o None us = Err (fault rules.E05 p)
 resized p m o (Some w) us = settle p m w (terms.Op o us)
 
--- an operator, by what it asks of its operands
+-- an operator, by what it requires of its operands
 abbrev pub operated : Shape → ℕ → Wanted → Primitive → (Wanted → Result TypedAlike Fault) → Result TypedAlike Fault → Result TypedAll Fault → Result Typed Fault
 operated Alike p m o alike shift all = after (alike m) (λ r. Ok (record { width = r.width; term = terms.Op o r.terms }))
 operated Comparing p m o alike shift all = after (alike Any) (λ r. settle p m 1 (terms.Op o r.terms))
 operated Shifting p m o alike shift all = after shift (λ r. settle p m r.width (terms.Op o r.terms))
 operated Resizing p m o alike shift all = after all (λ r. resized p m o (result_width o r.widths) r.terms)
 
--- a call: its callee, the number of its arguments, and then they, each at its parameter's width
+-- a call: first its function, then the number of its arguments, and then these, each against the width of its parameter
 abbrev pub arguments : ℕ → Wanted → Head → ℕ → Result TypedAll Fault → (Terms → Term) → Result Typed Fault
 arguments p m h n args call =
     unless (needs (length h.params == n) (fault_with rules.E11 p (length h.params) n))
@@ -129,7 +129,7 @@ pub record Placed : Type 0 where
   pub place : ℕ
   pub name : List ℕ
 
--- E07 at the first name that stands earlier in the list, or among those that were seen
+-- E07 at the first name that is earlier in the list or among those seen before
 abbrev pub repeated : List (List ℕ) → List Placed → Option Fault
 repeated seen [] = None
 repeated seen (x ∷ xs) = if list_any (bytes_eq x.name) seen then Some (fault rules.E07 x.place) else repeated (x.name ∷ seen) xs
@@ -138,7 +138,8 @@ abbrev pub placed : Bindings → List Placed
 placed no_binding = []
 placed (a_binding p x w e bs) = record { place = p; name = x } ∷ placed bs
 
--- each operand of `cat`, `bits` and `ext` is found; the second one of a shift where it is rigid
+-- how the operands of an operator are checked. For `cat`, `bits` and `ext` each width is found; for a shift that of the second
+-- operand if it is rigid
 abbrev pub all_any : Expressions → List Wanted
 all_any no_expression = []
 all_any (an_expression e es) = Any ∷ all_any es
@@ -150,8 +151,8 @@ amounts w (an_expression e es) = (if flexible e then Exactly w else Any) ∷ amo
 abbrev pub exactly : List ℕ → List Wanted
 exactly ws = map (λ w. Exactly w) ws
 
--- Checks an expression in a body that sees k, where the slots are s and its sites are numbered from lo on. Sites are
--- numbered in the order of the text, whatever is looked at first
+-- Checks an expression in a body that sees the functions of k, with slots s. Its sites are numbered from lo on, in the order of
+-- the text, whatever is checked first.
 abbrev mutual
   pub check : Known → List Slot → Bool → ℕ → Wanted → Expression → Result Typed Fault
   check k s tail lo m (Number p n) = number p n m
@@ -170,7 +171,7 @@ abbrev mutual
   check k s tail lo m (Op p o es) = operated (shape o) p m o (λ v. check_alike k s lo p v es) (check_shift k s lo p es) (check_all k s lo (all_any es) es)
   check k s tail lo m (Call p f es) = called (callee k f) tail lo p m (count es) (λ first ws. check_all k s first (exactly ws) es)
 
-  -- several in order, each as it is wanted
+  -- checks several expressions in order, each as it is wanted
   pub check_all : Known → List Slot → ℕ → List Wanted → Expressions → Result TypedAll Fault
   check_all k s lo ms no_expression = Ok (record { widths = []; terms = Nil })
   check_all k s lo [] (an_expression e es) = Ok (record { widths = []; terms = Nil })
@@ -179,14 +180,14 @@ abbrev mutual
       (λ x. after (check_all k s (lo + sites k e) ms es)
       (λ r. Ok (record { widths = x.width ∷ r.widths; terms = Cons x.term r.terms })))
 
-  -- operands of one width: where none is expected, the first rigid one gives it, and is looked at first
+  -- Checks operands of one width. If no width is expected, the first rigid operand gives it, and is checked first.
   pub check_alike : Known → List Slot → ℕ → ℕ → Wanted → Expressions → Result TypedAlike Fault
   check_alike k s lo p Any no_expression = Err (fault rules.E14 p)
   check_alike k s lo p (Exactly w) no_expression = Ok (record { width = w; terms = Nil })
   check_alike k s lo p m (an_expression e es) =
       alike (is_any m && flexible e) m (λ v. check k s false lo v e) (λ v. check_alike k s (lo + sites k e) p v es)
 
-  -- the first operand's width is found, and then the others are looked at
+  -- Checks the operands of a shift. The width of the first has to be found; then the others are checked.
   pub check_shift : Known → List Slot → ℕ → ℕ → Expressions → Result TypedAlike Fault
   check_shift k s lo p no_expression = Err (fault rules.E14 p)
   check_shift k s lo p (an_expression e es) =
@@ -194,7 +195,7 @@ abbrev mutual
       (λ x. after (check_all k s (lo + sites k e) (amounts x.width es) es)
       (λ r. Ok (record { width = x.width; terms = Cons x.term r.terms })))
 
-  -- bindings in order, each expected at its written width, or else found
+  -- checks bindings in order, each against its written width if it has one
   pub check_bound : Known → List Slot → ℕ → Bindings → Result TypedAll Fault
   check_bound k s lo no_binding = Ok (record { widths = []; terms = Nil })
   check_bound k s lo (a_binding p x v e bs) =
@@ -204,12 +205,12 @@ abbrev mutual
 
 -- ---- limits
 
--- the place of the binding that is one too many, of the first let that has one
+-- the place of the first binding beyond the limit, in the first let that has too many
 abbrev pub or_place : Option ℕ → Option ℕ → Option ℕ
 or_place (Some p) q = Some p
 or_place None q = q
 
--- the first place past so many
+-- the first place after so many
 abbrev pub excess : ℕ → List ℕ → Option ℕ
 excess n places = slice_get places n
 
@@ -235,8 +236,8 @@ abbrev pub limit : ℕ → ℕ → Option ℕ → Option Fault
 limit number value None = None
 limit number value (Some p) = Some (fault_with rules.E16 p number value)
 
--- the first definition that passes a limit, where the first is function n, u is the group before it, and so many sites and
--- nodes stand before it
+-- the first definition that passes a limit. The first definition is function n, u is the group before it, and so many sites and
+-- nodes come before it
 abbrev pub limits_from : List Head → ℕ → ℕ → ℕ → ℕ → List Definition → Option Fault
 limits_from all n u placed_sites placed_nodes [] = None
 limits_from all n u placed_sites placed_nodes (d ∷ ds) =
@@ -257,26 +258,26 @@ limits ds = or_else (limit 1 max_functions (excess max_functions (map (λ d. d.p
 abbrev pub placed_params : Definition → List Placed
 placed_params d = map (λ p. record { place = p.place; name = p.name }) d.params
 
--- a head: E06 where an earlier definition has the name, E12 where the width is not the group's, and E07
+-- the faults of a head: E06 if an earlier definition has the name, E12 if the width is not the group's, and E07
 abbrev pub head_fault : List (List ℕ) → ℕ → Definition → Option Fault
 head_fault earlier w d =
     or_else (if list_any (bytes_eq d.name) earlier then Some (fault rules.E06 d.place) else None)
     (or_else (needs (w == d.width) (fault_with rules.E12 d.place w d.width))
     (repeated [] (placed_params d)))
 
--- the heads of the members that follow, member by member
+-- the faults of the heads of the group's other functions, one by one
 abbrev pub joined_faults : List (List ℕ) → ℕ → List Definition → Option Fault
 joined_faults earlier w [] = None
 joined_faults earlier w (d ∷ ds) = if d.joined then or_else (head_fault earlier w d) (joined_faults (d.name ∷ earlier) w ds) else None
 
--- all heads of a group are looked at before its first body
+-- all heads of a group are checked before its first body
 abbrev pub group_fault : List (List ℕ) → Definition → List Definition → Option Fault
 group_fault earlier d ds = if d.joined then None else or_else (head_fault earlier d.width d) (joined_faults (d.name ∷ earlier) d.width ds)
 
 abbrev pub function : ℕ → ℕ → Definition → Term → FunctionForm
 function u lo d t = record { name = d.name; params = params_of d; width = d.width; unit = u; first_site = lo; body = t }
 
--- the definitions in order, where the first is function n, u is the group before it, and its sites are numbered from lo on
+-- the definitions in order. The first is function n, u is the group before it, and its sites are numbered from lo on
 abbrev pub functions_from : List Head → List (List ℕ) → ℕ → ℕ → ℕ → List Definition → Result (List FunctionForm) Fault
 functions_from all earlier n u lo [] = Ok []
 functions_from all earlier n u lo (d ∷ ds) =
@@ -293,7 +294,7 @@ main_fault [] = Some (fault rules.E15 0)
 main_fault (d ∷ []) = needs (bytes_eq d.name (codes "main")) (fault rules.E15 d.place)
 main_fault (d ∷ (e ∷ ds)) = main_fault (e ∷ ds)
 
--- the walk over a program: limits, then the definitions, and `main` last
+-- the check of a program: first limits, then the definitions, and then whether the last one is `main`
 unfoldable pub outcome : List Definition → Result Form Fault
 outcome ds =
     unless (limits ds)

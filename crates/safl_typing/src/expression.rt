@@ -1,18 +1,18 @@
-//! Expressions without `case`.
+//! Expressions in which each `case` is rewritten.
 
 use safl_tree::Name;
 use safl_word::{Primitive, Raw};
 
-/// What is noted of an expression when it is made, so that nothing looks at its parts again to find it.
+/// Facts about an expression, noted when it is made, so that its parts need not be looked at again.
 #[derive(Clone, Copy)]
 pub struct Marks {
-    /// Whether it takes any width.
+    /// Whether the expression takes any width.
     pub flexible: bool,
-    /// How many call sites it has, up to 4,001.
+    /// The number of its call sites, up to 4,001.
     pub sites: u32,
 }
 
-/// An expression in which each `case` is rewritten as a let and ifs. Each has its place first.
+/// An expression in which each `case` is rewritten as a let and ifs. The first field of each variant is its place.
 #[derive(Drop)]
 #[cycle(expression)]
 pub enum Expression {
@@ -25,7 +25,7 @@ pub enum Expression {
     Call(u32, Marks, Name, Vec<Expression>),
 }
 
-/// A binding's place, its name, its width in bits where one is written, and its value.
+/// A binding: its place, its name, its width in bits if one is written, and its value.
 #[derive(Drop)]
 #[cycle(expression)]
 pub struct Bound {

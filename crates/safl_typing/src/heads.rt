@@ -1,4 +1,4 @@
-//! What is known of the functions of a program, and which of them a call names.
+//! The heads of a program's functions, and which function a call names.
 
 ghost use Rattle.std.specs.Prelude.{◌≡◌, ◌<◌, IfSome, ◌==◌, ◌&&◌, nat_lt, length};
 ghost use Rattle.std.specs.Str.{bytes_eq};
@@ -11,15 +11,15 @@ use safl_word::NoMemory;
 use std::alloc::Global;
 use std::marker::Model;
 
-/// A name with its width in bits: a parameter or a binding.
+/// The name of a parameter or a binding, and its width in bits.
 #[derive(Drop)]
 pub struct Slot {
     pub name: Name,
     pub width: u8,
 }
 
-/// A function's name, its parameters, the width of its result in bits, and the number of the first member of its
-/// group.
+/// The head of a function: its name, its parameters, the width of its result in bits, and the number of the first
+/// function of its group.
 #[derive(Drop)]
 pub struct Head {
     pub name: Name,
@@ -28,7 +28,7 @@ pub struct Head {
     pub unit: u32,
 }
 
-/// The functions of a program in order, each found by its name.
+/// The heads of a program's functions in order, which can be found by name.
 #[derive(Drop)]
 pub struct Heads {
     list: Vec<Head>,
@@ -52,7 +52,7 @@ impl Heads {
     ghost use Rattle.std.specs.Prelude.{◌≡◌, ◌<◌, Some, length, slice_get, IfOk};
     ghost use Rattle.safl_typing.specs.Named.{last_named, before_it};
 
-    /// These functions, in their order.
+    /// The heads in this list, in its order.
     pub fn new(alloc: Global, list: Vec<Head>) -> Result<Heads, NoMemory>
         ensures { IfOk result (λ heads. heads ≡ list.items) }
     {
@@ -65,7 +65,7 @@ impl Heads {
         Ok(Heads { list, last, before })
     }
 
-    /// The function of this number.
+    /// The head of function `number`.
     pub fn get(&self, number: usize) -> &Head
         requires { number < length self.now }
         ensures { slice_get self.now number ≡ Some result.now }
@@ -89,7 +89,7 @@ impl Heads {
     }
 }
 
-/// The function that a call names, by its number: a member of the own group, or a function of an earlier one.
+/// The function that a call names, by its number: one of the own group, or one of an earlier group.
 #[derive(Clone, Copy)]
 pub enum Callee {
     Member(usize),
@@ -97,7 +97,7 @@ pub enum Callee {
     Unknown,
 }
 
-/// The function that a call in a body of this group names.
+/// The function that a call with this name means, in a body of group `unit`.
 pub fn find_callee(heads: &Heads, unit: u32, name: &Name) -> Callee
     ensures one { IsOneOf heads.now result }
     ensures found { shown_callee heads.now result ≡ callee (known heads.now unit) name.now }
@@ -111,7 +111,7 @@ pub fn find_callee(heads: &Heads, unit: u32, name: &Name) -> Callee
     Callee::Unknown
 }
 
-// The first member of the group with this name.
+// The first function of group `unit` with this name.
 fn find_member(heads: &Heads, unit: u32, name: &Name) -> Option<usize>
     ensures within { IfSome result (λ n. n < length heads.now) }
     ensures found { numbered heads.now result ≡ first_head (λ h. h.unit == unit && bytes_eq h.name name.now) 0 (shown_heads heads.now) }
@@ -127,7 +127,7 @@ fn find_member(heads: &Heads, unit: u32, name: &Name) -> Option<usize>
     found
 }
 
-// The first function of an earlier group with this name.
+// The first function with this name in a group before `unit`.
 fn find_above(heads: &Heads, unit: u32, name: &Name) -> Option<usize>
     ensures within { IfSome result (λ n. n < length heads.now) }
     ensures found { numbered heads.now result ≡ first_head (λ h. nat_lt h.unit unit && bytes_eq h.name name.now) 0 (shown_heads heads.now) }

@@ -2,29 +2,29 @@
 
 ghost use Rattle.safl_typing.specs.Laws.{WalkGivesForm, FaultOrForm, OneForm, FormsAreChecked, AloneUnits};
 
-/// The walk gives exactly the form that the program has: it meets no fault where there is one, and then it gives it.
+/// Checking gives exactly the form that the program has: it finds no fault exactly if there is a form, and then it
+/// gives that form.
 pub fn walk_law()
     ensures { WalkGivesForm }
 {}
 
-/// A program has a first fault exactly where it has no form.
+/// A program has a first fault exactly if it has no form.
 pub fn fault_or_form_law()
     ensures { FaultOrForm }
 {}
 
-/// A program has one numbered form at most: one width, one term and one number for each site.
+/// A program has at most one numbered form: one width, one term and one number for each site.
 pub fn one_form_law()
     ensures { OneForm }
 {}
 
-/// A program with a form, whose bodies are shallow and whose lets name their slots, is well formed, within the limits,
-/// and in the order of the text:
-/// what is asked of every checked program holds of it.
+/// A program that has a form, with shallow bodies and lets that name their slots, is well formed, within the limits and
+/// in the order of the text. So it has all that is asked of a checked program.
 pub fn forms_are_checked_law()
     ensures { FormsAreChecked }
 {}
 
-/// Where no definition belongs to the group of another, each function is a group by itself.
+/// If no definition is joined to the one before it, each function is a group of its own.
 pub fn alone_law()
     ensures { AloneUnits }
 {}

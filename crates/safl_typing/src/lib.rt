@@ -1,4 +1,4 @@
-//! The rules by which a program is checked: widths, names, groups and limits, and the first fault of a program.
+//! The rules for checking a program: widths, names, groups and limits, and which fault is the first.
 #![tactic(auto)]
 
 pub mod context;

@@ -1,4 +1,4 @@
-//! Expressions from their parts, with their marks.
+//! Building expressions from their parts, and marking them.
 
 ghost use Rattle.std.specs.Prelude.{◌≡◌, ◌≤◌, [], ◌∷◌, None, IfOk};
 ghost use Rattle.safl_typing.specs.Rewriting.{If, Let, Op, Call, a_binding, no_binding, scrutinee, test_at};
@@ -12,7 +12,7 @@ use safl_tree::Name;
 use safl_word::{NoMemory, Primitive};
 use std::alloc::Global;
 
-// The name of what a `case` looks at; no name of a source has a `$`.
+// The name that the selecting value of a `case` is bound to. No name of a source has a `$`.
 const SCRUTINEE: &[u8] = b"$case";
 
 /// An if.
@@ -57,7 +57,7 @@ pub fn operate(place: u32, operator: Primitive, operands: Vec<Expression>) -> Ex
     Expression::Op(place, marks, operator, operands)
 }
 
-/// A call, which is so many sites itself.
+/// A call. `own` is the number of sites that the call itself is: 0 or 1.
 pub fn call(place: u32, own: u32, name: Name, arguments: Vec<Expression>) -> Expression
     requires { own ≤ 1 }
     ensures made { shown_expression result ≡ Call place name (shown_expressions arguments.items) }
@@ -67,7 +67,7 @@ pub fn call(place: u32, own: u32, name: Name, arguments: Vec<Expression>) -> Exp
     Expression::Call(place, marks, name, arguments)
 }
 
-/// A let of the scrutinee.
+/// A let that binds the selecting value of a case.
 pub fn scrutinise(
     alloc: Global,
     place: u32,
@@ -89,7 +89,7 @@ pub fn scrutinise(
     bind(alloc, place, bound, body)
 }
 
-/// Whether the scrutinee is the label.
+/// The test whether the selecting value of a case equals a label.
 pub fn test(alloc: Global, place: u32, label: Expression) -> Result<Expression, NoMemory>
     ensures made { IfOk result (λ x. shown_expression x ≡ test_at place (shown_expression label)) }
     ensures marked { IfOk result (λ x. (k : Known) → IsMarked k label → IsMarked k x) }

@@ -1,4 +1,4 @@
-//! What an expression is marked with: whether it takes any width, and how many call sites it has.
+//! The marks of an expression: whether it takes any width, and how many call sites it has.
 
 ghost use Rattle.std.specs.Prelude.{◌≡◌, ◌+◌, ◌≤◌, min};
 ghost use Rattle.safl_typing.specs.Rewriting.{flexible, all_flexible, shape, takes_width};
@@ -11,7 +11,7 @@ use crate::shape::has_operands_width;
 use crate::sites::SITES_COUNTED;
 use safl_word::Primitive;
 
-/// The marks of an expression.
+/// The marks of an expression, as noted when it was made.
 pub fn marks_of(e: &Expression) -> Marks
     ensures { (k : Known) → IsMarked k e.now → IsMarkOf k (shown_expression e.now) result }
 {
@@ -34,28 +34,28 @@ fn unmarked(flexible: bool) -> Marks
     Marks { flexible, sites: 0 }
 }
 
-/// Whether an expression takes any width: a number, or what is made of flexible parts alone.
+/// Whether an expression is flexible, so that it takes any width: a number, or something made of flexible parts alone.
 pub fn is_flexible(e: &Expression) -> bool
     ensures { (k : Known) → IsMarked k e.now → result ≡ flexible (shown_expression e.now) }
 {
     marks_of(e).flexible
 }
 
-/// Whether two branches are both flexible.
+/// Whether both branches are flexible.
 pub fn are_both_flexible(first: &Expression, second: &Expression) -> bool
     ensures { (k : Known) → IsMarked k first.now → IsMarked k second.now → result ≡ both_flexible first.now second.now }
 {
     is_flexible(first) && is_flexible(second)
 }
 
-/// Adds the sites of an expression to those that were counted, up to 4,001.
+/// Adds the call sites of an expression to a count, which stops at 4,001.
 pub fn add_sites(counted: u32, e: &Expression) -> u32
     ensures { (k : Known) → IsMarked k e.now → result ≡ min 4001 (counted + sites k (shown_expression e.now)) }
 {
     counted.saturating_add(marks_of(e).sites).min(SITES_COUNTED)
 }
 
-/// Adds the sites of the values of bindings.
+/// Adds the call sites of the values of bindings to a count.
 pub fn add_bound_sites(counted: u32, bound: &[Bound]) -> u32
     requires { counted ≤ 4001 }
     ensures { (k : Known) → BoundMarked k bound.now → result ≡ min 4001 (counted + sites_bound k (shown_bindings bound.now)) }
@@ -67,7 +67,7 @@ pub fn add_bound_sites(counted: u32, bound: &[Bound]) -> u32
     total
 }
 
-// Adds the sites of operands or arguments.
+// Adds the call sites of several expressions to a count.
 fn add_all_sites(counted: u32, es: &[Expression]) -> u32
     requires { counted ≤ 4001 }
     ensures { (k : Known) → AreMarked k es.now → result ≡ min 4001 (counted + sites_in k (shown_expressions es.now)) }
@@ -118,7 +118,7 @@ pub fn marks_of_operation(operator: Primitive, operands: &[Expression]) -> Marks
     Marks { flexible, sites }
 }
 
-/// The marks of a call, which is so many sites itself.
+/// The marks of a call. `own` is the number of sites that the call itself is: 0 or 1.
 pub fn marks_of_call(own: u32, arguments: &[Expression]) -> Marks
     requires { own ≤ 1 }
     ensures { MarksCall own arguments.now result }

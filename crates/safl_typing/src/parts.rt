@@ -1,4 +1,4 @@
-//! Terms of several expressions, and terms made of their parts.
+//! Building terms from the terms of their parts.
 
 ghost use Rattle.std.specs.Prelude.{◌≡◌, ℕ, ◌+◌, ◌++◌, [], ◌∷◌, length, IfOk, OnOk, Ok};
 ghost use Rattle.std.specs.List.{AllByRecursion};
@@ -26,14 +26,14 @@ pub struct TypedAll {
     pub terms: Vec<Term>,
 }
 
-/// The terms of several expressions of one width, in bits.
+/// The terms of several expressions of one width, and this width in bits.
 #[derive(Drop)]
 pub struct TypedAlike {
     pub width: u8,
     pub terms: Vec<Term>,
 }
 
-/// No expressions.
+/// The result of checking no expressions.
 pub fn none_typed(alloc: Global) -> TypedAll
     ensures none { shown_all_typed result ≡ record { widths = []; terms = Nil } }
     ensures slots { (n : ℕ) → AllByRecursion (HasSlots n) result.terms.items }
@@ -44,7 +44,7 @@ pub fn none_typed(alloc: Global) -> TypedAll
     }
 }
 
-/// No operands: E14 where no width is expected.
+/// The result of checking no operands. E14 if no width is expected.
 pub fn none_alike(alloc: Global, place: u32, wanted: Wanted) -> Result<TypedAlike, CheckErr>
     ensures says { SaysNoOperand result place wanted }
     ensures slots { IfOk result (λ t. (n : ℕ) → AllByRecursion (HasSlots n) t.terms.items) }
@@ -58,7 +58,7 @@ pub fn none_alike(alloc: Global, place: u32, wanted: Wanted) -> Result<TypedAlik
     }
 }
 
-/// An expression, and those that follow it.
+/// The result with one expression before the others.
 pub fn put_first(first: Typed, rest: TypedAll) -> Result<TypedAll, CheckErr>
     ensures says { SaysAll result
         (Ok (record { widths = first.width ∷ rest.widths.items; terms = Cons (shown_term first.term) (shown_terms rest.terms.items) })) }
@@ -71,7 +71,7 @@ pub fn put_first(first: Typed, rest: TypedAll) -> Result<TypedAll, CheckErr>
     Ok(all)
 }
 
-/// An operand, and those that follow it.
+/// The result with one operand before the others. All have width `width`.
 pub fn put_operand(width: u8, first: Term, rest: Vec<Term>) -> Result<TypedAlike, CheckErr>
     ensures says { SaysAlike result (Ok (record { width = width; terms = Cons (shown_term first) (shown_terms rest.items) })) }
     ensures slots { IfOk result (λ t. (n : ℕ) → HasSlots n first → AllByRecursion (HasSlots n) rest.items → AllByRecursion (HasSlots n) t.terms.items) }
@@ -81,7 +81,7 @@ pub fn put_operand(width: u8, first: Term, rest: Vec<Term>) -> Result<TypedAlike
     Ok(TypedAlike { width, terms })
 }
 
-/// An if.
+/// The term of an if.
 pub fn make_if(
     alloc: Global,
     width: u8,
@@ -99,7 +99,7 @@ pub fn make_if(
     Ok(Typed { width, term })
 }
 
-/// A let, whose first binding is in this slot.
+/// The term of a let whose first binding is in slot `slot`.
 pub fn make_let(
     alloc: Global,
     width: u8,
@@ -115,7 +115,7 @@ pub fn make_let(
     Ok(Typed { width, term })
 }
 
-/// An operator with its operands, which all have the width of the result.
+/// The term of an operator whose operands have the width of the result.
 pub fn make_operation(width: u8, operator: Primitive, operands: Vec<Term>) -> Typed
     ensures width { result.width ≡ width }
     ensures term { shown_term result.term ≡ Op operator (shown_terms operands.items) }
@@ -125,7 +125,7 @@ pub fn make_operation(width: u8, operator: Primitive, operands: Vec<Term>) -> Ty
     Typed { width, term }
 }
 
-/// An operator with its operands, where its width was found.
+/// The term of an operator whose width was found. E12 if another width is expected.
 pub fn settled_operation(
     place: u32,
     wanted: Wanted,
@@ -139,7 +139,7 @@ pub fn settled_operation(
     settled(place, wanted, width, Term::Op(operator, operands))
 }
 
-/// A call of a function of an earlier group, and its site.
+/// The term of a call of a function of an earlier group. E12 if another width is expected.
 pub fn settled_call(
     place: u32,
     wanted: Wanted,
@@ -154,7 +154,7 @@ pub fn settled_call(
     settled(place, wanted, width, Term::Call(function, site, arguments))
 }
 
-/// A call of a member of the own group.
+/// The term of a tail call of a function of the own group. E12 if another width is expected.
 pub fn settled_loop(
     place: u32,
     wanted: Wanted,
@@ -168,7 +168,7 @@ pub fn settled_loop(
     settled(place, wanted, width, Term::Loop(function, arguments))
 }
 
-/// The slots of a let's bindings.
+/// The slots of the bindings of a let.
 pub fn own_slots(alloc: Global, bound: &[Bound], widths: &[u8]) -> Result<Vec<Slot>, NoMemory>
     ensures { IfOk result (λ own. shown_slots own.items ≡ slots (shown_bindings bound.now) widths.now) }
 {
@@ -177,7 +177,7 @@ pub fn own_slots(alloc: Global, bound: &[Bound], widths: &[u8]) -> Result<Vec<Sl
     Ok(own)
 }
 
-// Adds a slot for each binding. Lets have few bindings.
+// Appends a slot for each binding. It recurses, since lets have few bindings.
 fn add_slots(
     alloc: Global,
     all: &mut Vec<Slot>,

@@ -1,4 +1,4 @@
-//! Names that stand twice in one let.
+//! Names that are bound twice in one let.
 
 ghost use Rattle.std.specs.Prelude.{◌≡◌, ◌≤◌, [], length};
 ghost use Rattle.std.specs.List.{list_any};
@@ -10,7 +10,7 @@ ghost use Rattle.safl_typing.specs.PlainNames.{earlier, twice_at};
 use crate::expression::Bound;
 use safl_tree::Name;
 
-/// The place of the first binding whose name stands earlier in the let.
+/// The place of the first binding whose name was bound earlier in the same let.
 pub fn find_repeated(bound: &[Bound]) -> Option<u32>
     ensures { twice_at result ≡ repeated [] (placed (shown_bindings bound.now)) }
 {
@@ -23,7 +23,7 @@ pub fn find_repeated(bound: &[Bound]) -> Option<u32>
     None
 }
 
-// Whether one of the first bindings has the name.
+// Whether one of the first `count` bindings has this name.
 fn is_among(bound: &[Bound], count: usize, name: &Name) -> bool
     requires { count ≤ length bound.now }
     ensures { result ≡ list_any (bytes_eq name.now) (earlier bound.now count) }

@@ -1,4 +1,4 @@
-//! Rewriting each `case` as a let and ifs, and marking what is made.
+//! Rewriting each `case` as a let and ifs, and marking the expressions that are made.
 
 ghost use Rattle.std.specs.Prelude.{◌≡◌, [], ◌∷◌, IfOk};
 ghost use Rattle.safl_tree.specs.Tree.{trees_of, binds_of};
@@ -16,7 +16,8 @@ use safl_tree::{Arm, Bind, Expr, Name, Node};
 use safl_word::NoMemory;
 use std::alloc::Global;
 
-/// The expression in which each `case` is rewritten, of a body of this group. It recurses as deep as the expression is.
+/// The expression in which each `case` is rewritten. It belongs to a body of group `unit`. The recursion is as deep as
+/// the expression.
 #[cycle(rewriting)]
 pub fn rewrite(alloc: Global, heads: &Heads, unit: u32, e: &Expr) -> Result<Expression, NoMemory>
     ensures rewritten { IfOk result (λ x. shown_expression x ≡ rewritten (shown_tree e.now)) }
@@ -56,7 +57,7 @@ pub fn rewrite(alloc: Global, heads: &Heads, unit: u32, e: &Expr) -> Result<Expr
     }
 }
 
-// Operands or arguments.
+// Rewrites several expressions, such as operands or arguments.
 #[cycle(rewriting)]
 fn rewrite_all(
     alloc: Global,
@@ -75,7 +76,7 @@ fn rewrite_all(
     Ok(all)
 }
 
-// Bindings, with their values rewritten.
+// Rewrites the values of bindings.
 #[cycle(rewriting)]
 fn rewrite_binds(
     alloc: Global,
@@ -100,7 +101,7 @@ fn rewrite_binds(
     Ok(all)
 }
 
-// The arms of a `case` as ifs, over its default.
+// The arms of a `case` as ifs, the last one with the default as its other branch.
 #[cycle(rewriting)]
 fn rewrite_arms(
     alloc: Global,

@@ -1,4 +1,4 @@
-//! The variables that an expression sees.
+//! Scopes: the variables that an expression sees.
 
 ghost use Rattle.std.specs.Prelude.{◌≡◌, ◌+◌, ◌<◌, ◌^◌, Some, IfSome, length};
 ghost use Rattle.safl_typing.specs.Typing.{innermost};
@@ -9,8 +9,8 @@ ghost use Rattle.safl_typing.specs.PlainTyped.{at_slot};
 use crate::heads::Slot;
 use safl_tree::Name;
 
-/// The variables that an expression sees: its function's parameters, or the bindings of a let beside those around it.
-/// They are numbered from 0, the parameters first.
+/// The variables that an expression sees: the parameters of its function, or the bindings of a let added to an outer
+/// scope. They are numbered from 0, the parameters first.
 #[derive(Clone, Copy)]
 pub enum Scope<'a> {
     Params(&'a [Slot]),
@@ -24,7 +24,7 @@ pub struct Variable {
     pub width: u8,
 }
 
-/// How many variables a scope has.
+/// The number of variables in a scope.
 pub fn count(scope: &Scope) -> u32
     requires { length (shown_scope scope.now) < 2 ^ 32 }
     ensures { result ≡ length (shown_scope scope.now) }
@@ -35,7 +35,7 @@ pub fn count(scope: &Scope) -> u32
     }
 }
 
-/// The innermost variable of this name.
+/// The innermost variable with this name.
 pub fn find_variable(scope: &Scope, name: &Name) -> Option<Variable>
     requires { length (shown_scope scope.now) < 2 ^ 32 }
     ensures { found_at result ≡ innermost name.now 0 (shown_scope scope.now) }
@@ -54,7 +54,7 @@ pub fn find_variable(scope: &Scope, name: &Name) -> Option<Variable>
     }
 }
 
-// The variable of this slot, where so many stand before them.
+// The variable of a slot, if `before` variables come before these slots.
 fn variable_at(before: u32, slots: &[Slot], slot: usize) -> Variable
     requires room { before + length slots.now < 2 ^ 32 }
     requires within { slot < length slots.now }
@@ -66,7 +66,7 @@ fn variable_at(before: u32, slots: &[Slot], slot: usize) -> Variable
     }
 }
 
-// The last of these slots that has the name.
+// The last of these slots with this name.
 fn find_slot(slots: &[Slot], name: &Name) -> Option<usize>
     ensures within { IfSome result (λ i. i < length slots.now) }
     ensures found { at_slot slots.now result ≡ innermost name.now 0 (shown_slots slots.now) }

@@ -1,4 +1,4 @@
-//! What an operator asks of the widths of its operands.
+//! What an operator requires of the widths of its operands.
 
 ghost use Rattle.std.specs.Prelude.{◌≡◌};
 ghost use Rattle.safl_typing.specs.Rewriting.{shape, takes_width};
@@ -6,7 +6,7 @@ ghost use Rattle.safl_typing.specs.PlainTyped.{shown_shape};
 
 use safl_word::Primitive;
 
-/// Whether the result has the width that all operands have.
+/// Whether the result of an operator has the width of all its operands.
 pub fn has_operands_width(operator: Primitive) -> bool
     ensures { result ≡ takes_width (shape operator) }
 {
@@ -32,20 +32,20 @@ pub fn has_operands_width(operator: Primitive) -> bool
     }
 }
 
-/// What an operator asks of the widths of its operands.
+/// What an operator requires of the widths of its operands.
 #[derive(Clone, Copy)]
 pub enum Shape {
-    /// All are alike, and the result is.
+    /// All operands have one width, and so has the result.
     Alike,
-    /// All are alike, and the result is one bit.
+    /// All operands have one width, and the result has one bit.
     Comparing,
-    /// The result has the first one's width.
+    /// Any widths. The result has the width of the first operand.
     Shifting,
-    /// The table of widths tells the result's.
+    /// Any widths that the operator's row in the table of widths allows. The row gives the width of the result.
     Resizing,
 }
 
-/// What an operator asks of its operands.
+/// What this operator requires of the widths of its operands.
 pub fn shape_of(operator: Primitive) -> Shape
     ensures { shown_shape result ≡ shape operator }
 {

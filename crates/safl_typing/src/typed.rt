@@ -1,4 +1,4 @@
-//! What the walk gives: a width with a term, or a fault.
+//! Results of checking an expression: a width with a term, or a fault.
 
 ghost use Rattle.std.specs.Prelude.{◌≡◌, ℕ, ◌<◌, ◌^◌, ◌&&◌, length, IfOk};
 ghost use Rattle.safl_term.specs.Slots.{HasSlots};
@@ -15,7 +15,7 @@ use safl_tree::Name;
 use safl_word::{Fault, NoMemory, Raw, Rule, Word};
 use std::alloc::{AllocError, AllocFailed};
 
-/// A fault of the source, a body that is deeper than a checked one may be, or out of memory.
+/// Why a program is not checked: a fault of the source, a body that is too deep, or out of memory.
 #[derive(Clone, Copy, Debug, PartialEq, Eq)]
 pub enum CheckErr {
     Refused(Fault),
@@ -47,7 +47,7 @@ impl From<NoMemory> for CheckErr {
     }
 }
 
-/// How an expression is looked at: its width is found, or it is expected at a width.
+/// How an expression is checked: with its width to be found, or against an expected width.
 #[derive(Clone, Copy)]
 pub enum Wanted {
     Any,
@@ -61,14 +61,14 @@ pub struct Typed {
     pub term: Term,
 }
 
-/// A fault without numbers.
+/// The fault of a rule that has no numbers.
 pub fn refused(rule: Rule, place: u32) -> CheckErr
     ensures { result ≡ errors.Refused (fault rule place) }
 {
     CheckErr::Refused(Fault::new(rule, place))
 }
 
-/// Whether a width is expected, or the expression is rigid.
+/// Whether an expression gets a width: it is rigid, or a width is expected.
 pub fn has_width(wanted: Wanted, flexible: bool) -> bool
     ensures { result ≡ is_known (shown_wanted wanted) flexible }
 {
@@ -78,7 +78,7 @@ pub fn has_width(wanted: Wanted, flexible: bool) -> bool
     }
 }
 
-/// Whether what follows an expression gives the width, and is looked at first.
+/// Whether the width of an expression comes from what follows it, so that that is checked first.
 pub fn comes_later(wanted: Wanted, flexible: bool) -> bool
     ensures { result ≡ (is_any (shown_wanted wanted) && flexible) }
 {
@@ -88,7 +88,7 @@ pub fn comes_later(wanted: Wanted, flexible: bool) -> bool
     }
 }
 
-/// A binding is expected at its written width, or else found.
+/// A binding is checked against its written width, or else its width is found.
 pub fn as_written(width: Option<u8>) -> Wanted
     ensures { shown_wanted result ≡ wanted_by width }
 {
@@ -98,7 +98,7 @@ pub fn as_written(width: Option<u8>) -> Wanted
     }
 }
 
-/// An operand is found, but a flexible amount of a shift has the width of what is shifted.
+/// An operand's width is found. But a flexible amount of a shift is checked against the width of what is shifted.
 pub fn as_operand(shifted: Option<u8>, flexible: bool) -> Wanted
     ensures { shown_wanted result ≡ operand_wanted shifted flexible }
 {
@@ -108,7 +108,7 @@ pub fn as_operand(shifted: Option<u8>, flexible: bool) -> Wanted
     }
 }
 
-/// An expression whose width was found: E12 where another is expected.
+/// An expression whose width was found. E12 if another width is expected.
 pub fn settled(place: u32, wanted: Wanted, width: u8, term: Term) -> Result<Typed, CheckErr>
     ensures says { Says result (settle place (shown_wanted wanted) width (shown_term term)) }
     ensures slots { IfOk result (λ t. (n : ℕ) → HasSlots n term → HasSlots n t.term) }
@@ -124,7 +124,7 @@ pub fn settled(place: u32, wanted: Wanted, width: u8, term: Term) -> Result<Type
     }
 }
 
-/// A number: E14 where no width is expected, E13 where it does not fit the expected one.
+/// A number. E14 if no width is expected, E13 if it does not fit the expected width.
 pub fn typed_number(place: u32, value: Raw, wanted: Wanted) -> Result<Typed, CheckErr>
     requires { HasWideWanted wanted }
     ensures says { Says result (number place value (shown_wanted wanted)) }
@@ -142,7 +142,7 @@ pub fn typed_number(place: u32, value: Raw, wanted: Wanted) -> Result<Typed, Che
     }
 }
 
-/// A sized number: E13 where the value does not fit the width.
+/// A sized number. E13 if its value does not fit its width, E12 if another width is expected.
 pub fn typed_sized(place: u32, width: u8, value: Raw, wanted: Wanted) -> Result<Typed, CheckErr>
     requires { HasWidthOfWord width }
     ensures says { Says result (sized place width value (shown_wanted wanted)) }
@@ -154,7 +154,7 @@ pub fn typed_sized(place: u32, width: u8, value: Raw, wanted: Wanted) -> Result<
     }
 }
 
-/// A variable: E08 where none of its name is in scope.
+/// A variable. E08 if no variable of this name is in scope, E12 if another width is expected.
 pub fn typed_variable(
     place: u32,
     scope: &Scope,

@@ -1,4 +1,4 @@
-//! The walk over an expression: its width and its term, or the first fault.
+//! Checking an expression: its width and its term, or its first fault.
 
 ghost use Rattle.std.specs.Prelude.{◌≡◌, ◌<◌, ◌^◌, ◌==◌, Bool, IfOk, length};
 ghost use Rattle.safl_term.specs.Slots.{HasSlots};
@@ -36,8 +36,8 @@ use safl_term::Term;
 use safl_tree::Name;
 use safl_word::{Fault, Primitive, Rule, result_width};
 
-// What is known of a part of a body by where it stands: the number of its first call site, whether it stands in tail
-// position, and at which width it is expected.
+// What is known of a part of a body before it is checked: the number of its first call site, whether it is in tail
+// position, and which width is expected.
 #[derive(Clone, Copy)]
 struct Position {
     first_site: u32,
@@ -52,8 +52,9 @@ struct Branches<'a> {
     second: &'a Expression,
 }
 
-/// The width and the term of an expression with these variables in scope, or its first fault. Its call sites are numbered
-/// from `lo` on; `tail` says whether it stands in tail position, and `wanted` at which width it is expected.
+/// The width and the term of an expression with these variables in scope, or its first fault. Its call sites are
+/// numbered from `lo` on. `tail` says whether it is in tail position, and `wanted` whether a width is expected, and
+/// which.
 #[cycle(walk)]
 pub fn check_expression(
     context: &Context,
@@ -98,7 +99,7 @@ pub fn check_expression(
     }
 }
 
-// An if: E14 where neither branch gives a width and none is expected.
+// Checks an if. E14 if no width is expected and neither branch gives one.
 #[cycle(walk)]
 fn check_choice(
     context: &Context,
@@ -129,7 +130,7 @@ fn check_choice(
     check_branches(context, scope, after, test.term, both)
 }
 
-// Two branches: where no width is expected, the first rigid one gives it.
+// Checks the branches of an if. If no width is expected, the first rigid branch gives it.
 #[cycle(walk)]
 fn check_branches(
     context: &Context,
@@ -165,7 +166,7 @@ fn check_branches(
     make_if(context.alloc, first.width, test, first.term, second.term)
 }
 
-// A let: E14 where its body gives no width and none is expected, E07 where it has a name twice.
+// Checks a let. E14 if no width is expected and its body gives none, E07 if it binds a name twice.
 #[cycle(walk)]
 fn check_binding(
     context: &Context,
@@ -203,7 +204,7 @@ fn check_binding(
     )
 }
 
-// Bindings in order, each expected at its written width, or else found.
+// Checks bindings in order, each against its written width if it has one.
 #[cycle(walk)]
 fn check_bound(
     context: &Context,
@@ -226,7 +227,7 @@ fn check_bound(
     put_first(value, others)
 }
 
-// An operator, by what it asks of its operands.
+// Checks an operator and its operands, by what the operator requires of widths.
 #[cycle(walk)]
 fn check_applied(
     context: &Context,
@@ -279,7 +280,7 @@ fn check_applied(
     }
 }
 
-// Operands of one width: where none is expected, the first rigid one gives it, and is looked at first.
+// Checks operands of one width. If no width is expected, the first rigid operand gives it, and is checked first.
 #[cycle(walk)]
 fn check_alike(
     context: &Context,
@@ -313,7 +314,7 @@ fn check_alike(
     put_operand(operand.width, operand.term, others.terms)
 }
 
-// The first operand's width is found, and then the others are looked at.
+// Checks the operands of a shift: first the one that is shifted, whose width has to be found, then the amount.
 #[cycle(walk)]
 fn check_shift(
     context: &Context,
@@ -338,7 +339,8 @@ fn check_shift(
     put_operand(operand.width, operand.term, others.terms)
 }
 
-// Operands in order, each found, but a flexible amount of a shift has the width of what is shifted.
+// Checks operands in order and finds their widths. But a flexible amount of a shift is checked against the width of
+// what is shifted.
 #[cycle(walk)]
 fn check_operands(
     context: &Context,
@@ -364,7 +366,7 @@ fn check_operands(
     put_first(operand, others)
 }
 
-// A call: of a member of the own group in tail position alone, or of a function of an earlier group.
+// Checks a call: in tail position alone of a function of the own group, or of a function of an earlier group.
 #[cycle(walk)]
 fn check_called(
     context: &Context,
@@ -404,7 +406,7 @@ fn check_called(
     }
 }
 
-// The arguments of a function: E11 where they are not as many as its parameters.
+// Checks the arguments of a call. E11 if there are not as many as the function has parameters.
 #[cycle(walk)]
 fn check_counted(
     context: &Context,
@@ -428,7 +430,7 @@ fn check_counted(
     check_arguments(context, scope, first_site, &head.params, arguments)
 }
 
-// Arguments in order, each at its parameter's width.
+// Checks arguments in order, each against the width of its parameter.
 #[cycle(walk)]
 fn check_arguments(
     context: &Context,
@@ -456,14 +458,14 @@ fn check_arguments(
     put_first(argument, following)
 }
 
-// Whether a function has as many parameters as it is given arguments.
+// Whether there are as many arguments as parameters.
 fn are_as_many(params: &[Slot], arguments: &[Expression]) -> bool
     ensures { result ≡ (length (shown_slots params.now) == count (shown_expressions arguments.now)) }
 {
     params.len() == arguments.len()
 }
 
-// E11, with the number of the parameters and that of the arguments.
+// E11, with the number of parameters and the number of arguments.
 fn wrong_count(place: u32, params: &[Slot], arguments: &[Expression]) -> CheckErr
     requires params { length params.now < 2 ^ 32 }
     requires arguments { length arguments.now < 2 ^ 32 }

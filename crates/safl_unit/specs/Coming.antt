@@ -1,4 +1,4 @@
--- All that comes at the edge.
+-- The events at the edge.
 use Rattle.std.specs.Prelude.{◌≡◌, List, [], ◌∷◌, length, Result, IfOk}
 use Rattle.safl_term.specs.Program.{Program}
 use Rattle.safl_net.specs.declared.cell.Sig.{Sig}
@@ -18,11 +18,11 @@ pub record HasEvents (C : Program) (P : Choice) (n : Netlist) (p : Pins) (e : Ev
   pub entries : HasEntries C P n p e.entries.items
   pub rivals : HasRivals C P n p e.rivals.items
 
--- on success, where outcomes and starts are those of a program, so are the events
+-- on success, if the outcomes and starts are those of the program, so are the events
 abbrev pub GivesEvents : {E : Type 0} → Result Events E → Program → Choice → Netlist → Netlist → Outcomes → List Sig → Type 0
 GivesEvents r C P old new o goes = (p : Pins) → HasOutcomes C P old p o → HasGoes C P old p goes → IfOk r (λ e. HasEvents C P new p e)
 
--- the tables have their widths
+-- the tables of events have their widths
 pub record EventsFit (C : Program) (n : Netlist) (e : Events) : Type 0 where
   pub ends_length : length e.ends.items ≡ C.functions
   pub starts_length : length e.starts.items ≡ C.functions

@@ -14,7 +14,7 @@ use Rattle.safl_unit.specs.declared.parts.SitePins.{SitePins}
 use Rattle.safl_unit.specs.declared.parts.Bank.{Bank}
 use Rattle.safl_unit.specs.declared.parts.Pins.{Pins}
 
--- signals of the registers' widths
+-- the signals have the widths of a unit's registers; of a function's; of a site's
 pub record UnitFits (n : Netlist) (u : UnitPins) (w : ℕ) : Type 0 where
   pub run : IsSource n u.run 1
   pub fin : IsSource n u.fin 1
@@ -37,7 +37,7 @@ pub record BankFits (C : Program) (n : Netlist) (b : Bank) : Type 0 where
   pub members : EachAt b.members.items (λ f m. MemberFits n m (C.params f))
   pub sites : EachAt b.sites.items (λ k s. 0 < k → SiteFits n s (C.result (C.callee k)))
 
--- these signals have the words of registers: of a unit, of a function, and of a site
+-- the signals have the words of the registers of a unit; of a function; of a site
 pub record UnitShows (v : Val) (u : UnitPins) (r : Registers) (unit : ℕ) : Type 0 where
   pub run : on v u.run ≡ r.run unit
   pub fin : on v u.fin ≡ r.fin unit
@@ -70,6 +70,6 @@ pub record Cycle (C : Program) (P : Choice) (n : Netlist) (p : Pins) (v : Val) (
   pub words : words v p.words.items ≡ i.words
   pub bank : BankShows C P p.bank v r
 
--- it holds in each such cycle
+-- it holds in every such cycle
 abbrev pub InEachCycle : Program → Choice → Netlist → Pins → (Val → Registers → Inputs → Type 0) → Type 0
 InEachCycle C P n p Q = (v : Val) (r : Registers) (i : Inputs) → Cycle C P n p v r i → Q v r i

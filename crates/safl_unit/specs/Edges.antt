@@ -1,4 +1,4 @@
--- What the tables of an edge show under a valuation.
+-- What the tables of events show under a valuation.
 use Rattle.std.specs.Prelude.{◌≡◌, ℕ, zero, suc, ◌<◌, ◌==◌, ◌++◌, List, [], ◌∷◌, length, Option}
 use Rattle.std.specs.Prelude.{Some, None, Bool, false, cond, not, ◌&&◌, ◌||◌, is_some, slice_get}
 use Rattle.safl_word.specs.Words.{Word}
@@ -13,22 +13,22 @@ use Rattle.safl_lower.specs.Tables.{pin, taken_at, taken_from, sig_in, on_in, on
 use Rattle.safl_lower.specs.Rows.{on_any, on_two, maybe_one}
 use Rattle.safl_unit.specs.declared.parts.Outcomes.{Outcomes}
 
--- it holds of a number below n
+-- whether some number below n passes the test
 unfoldable pub one_below : (ℕ → Bool) → ℕ → Bool
 one_below t zero = false
 one_below t (suc n) = one_below t n || t n
 
--- the bit of a load, where there is one
+-- the bit of a load, if there is one
 abbrev pub bit_of : Option Load → Option Sig
 bit_of None = None
 bit_of (Some l) = Some l.bit
 
--- the words of a load, taken or not
+-- the words of a load, whether it is taken or not
 abbrev pub operands_in : Val → Option Load → Option (List Word)
 operands_in v None = None
 operands_in v (Some l) = Some (words v l.words.items)
 
--- a table of optional bits, or of optional loads, has so many entries and shows this
+-- a table of optional bits has so many entries and shows this; and a table of optional loads
 pub record ShowsBits (n : Netlist) (bits : List (Option Sig)) (count : ℕ) (says : Val → ℕ → Bool) : Type 0 where
   pub entries : length bits ≡ count
   pub fits : BitsFit n bits
@@ -39,55 +39,55 @@ pub record ShowsLoads (n : Netlist) (all : List (Option Load)) (count : ℕ) (wi
   pub fits : SomeFit n all widths
   pub shows : (v : Val) → Wired n v → (i : ℕ) → taken_from v all i ≡ says v i
 
--- the same of the numbers below the count alone
+-- a table of optional bits shows this for the numbers below the count
 pub record ShowsBelow (n : Netlist) (bits : List (Option Sig)) (count : ℕ) (says : Val → ℕ → Bool) : Type 0 where
   pub entries : length bits ≡ count
   pub fits : BitsFit n bits
   pub shows : (v : Val) → Wired n v → (i : ℕ) → i < count → on_from v bits i ≡ says v i
 
--- the bits of the members of a unit, of the functions below a number
+-- the bits of those functions of a unit that are below a number
 unfoldable pub entry_row : Program → List (Option Sig) → ℕ → ℕ → List Sig
 entry_row C es u zero = []
 entry_row C es u (suc m) = entry_row C es u m ++ cond (u == C.unit m) (maybe_one (sig_in (slice_get es m))) []
 
--- of a row's bits, where own may be one of them: two are 1, or one is and own is not
+-- whether another bit of a row than `own` is 1: two are, or one is and `own` is not
 abbrev pub others_on : Val → List Sig → Option Sig → Bool
 others_on v row own = on_two v row || (on_any v row && not (on_in v own))
 
--- it is another member of the unit, with its bit
+-- whether g is another function of f's unit and passes the test
 abbrev pub rival : Program → (ℕ → Bool) → ℕ → ℕ → Bool
 rival C e f g = (C.unit g == C.unit f) && (not (g == f) && e g)
 
--- it shows whether another than the function's own bit is 1, where its unit has another member
+-- the bit shows whether another bit than the function's own is 1, if its unit has other functions
 abbrev pub ShowsOthers : Netlist → Bool → List Sig → Option Sig → Option Sig → Type 0
 ShowsOthers n many row own o = (v : Val) → Wired n v → on_in v o ≡ (many && others_on v row own)
 
--- ---- what comes to each unit and function
+-- ---- the events of each unit and function
 
--- by unit, the word of the first member that ends
+-- for each unit, the word of the first of its functions that ends
 abbrev pub ShowsEnds : Program → Netlist → Outcomes → List (Option Load) → Type 0
 ShowsEnds C n o all =
     ShowsLoads n all C.functions (λ u. C.result u ∷ []) (λ v u. first (λ f. gate (u == C.unit f) (taken_at v o.ends.items f)) C.functions)
 
--- by function, the arguments of the first site that starts and calls it
+-- for each function, the arguments of the first site that starts it
 abbrev pub ShowsArguments : Program → Netlist → Outcomes → List Sig → List (Option Load) → Type 0
 ShowsArguments C n o goes all = ShowsLoads n all C.functions C.params
     (λ v f. first (λ k. gate ((f == C.callee k) && on v (pin goes k)) (operands_in v (slice_get o.wants.items k))) (suc C.sites))
 
--- by unit, that a site starts it
+-- for each unit, whether a site starts it
 abbrev pub ShowsStarts : Program → Netlist → List Sig → List (Option Sig) → Type 0
 ShowsStarts C n goes bits = ShowsBits n bits C.functions (λ v u. one_below (λ k. (u == unit_for C k) && on v (pin goes k)) (suc C.sites))
 
--- by unit, that a member ends or is looped to
+-- for each unit, whether one of its functions ends or is looped to
 abbrev pub ShowsClears : Program → Netlist → Outcomes → List (Option Load) → List (Option Sig) → Type 0
 ShowsClears C n o ends bits = ShowsBits n bits C.functions
     (λ v u. is_some (taken_from v ends u) || one_below (λ h. (u == C.unit h) && is_some (taken_from v o.loops.items h)) C.functions)
 
--- by function, that a site or a tail call starts it
+-- for each function, whether a site or a tail call starts it
 abbrev pub ShowsEntries : Program → Netlist → Outcomes → List (Option Load) → List (Option Sig) → Type 0
 ShowsEntries C n o loads bits = ShowsBits n bits C.functions
     (λ v f. is_some (taken_from v loads f) || one_below (λ h. (f == h) && is_some (taken_from v o.loops.items h)) C.functions)
 
--- by function, that another member of its unit has its bit
+-- for each function, whether another function of its unit has its bit 1
 abbrev pub ShowsRivals : Program → Netlist → List (Option Sig) → List (Option Sig) → Type 0
 ShowsRivals C n entries bits = ShowsBelow n bits C.functions (λ v f. one_below (rival C (on_from v entries) f) C.functions)

@@ -1,4 +1,4 @@
--- The circuit before its temporaries are made, and when all is set.
+-- The circuit before its temporaries are made, and after everything is set.
 use Rattle.std.specs.Prelude.{◌≡◌, ℕ, suc, ◌+◌, ◌<◌, ◌≤◌, List, [], ◌∷◌, ◌++◌, map, length, Some, None, Result, IfOk, codes, is_some, slice_get, false}
 use Rattle.safl_term.specs.Names.{Names}
 use Rattle.safl_term.specs.Program.{Program}
@@ -23,7 +23,7 @@ use Rattle.safl_unit.specs.Cycles.{InEachCycle}
 use Rattle.safl_unit.specs.Stages.{HasReturns, HasOutcomes, HasGoes}
 use Rattle.safl_unit.specs.Ties.{Tie, sig_of, numbered, register_ties, wire_ties}
 
--- ---- the signals that are declared
+-- ---- the declared signals
 
 abbrev pub input_line : Line → Signal
 input_line l = record { name = l.0; width = l.1; kind = Input }
@@ -40,9 +40,9 @@ declared_signals C D P = map input_line (layout_inputs C D) ++ (map open_registe
 abbrev pub declared_net : Program → Names → Choice → Netlist
 declared_net C D P = record { signals = declared_signals C D P; outputs = [] }
 
--- the pins are the ports and registers of the layout, in its order. A function has its unit's registers; one without
--- other members in its unit has no register `at`, and a site that isn't kept no register `keep`: others of their widths
--- stand for them
+-- The pins are the ports and registers of the layout, in its order. A function has the registers of its unit. A function without
+-- others in its unit has no register `at`, and a site that is not kept has no register `keep`; other signals of the same widths
+-- stand for them.
 pub record ArePins (C : Program) (D : Names) (P : Choice) (p : Pins) : Type 0 where
   pub start : p.start ≡ record { 0 = 0 }
   pub words : p.words.items ≡ numbered 1 (length (C.params C.main))
@@ -79,12 +79,12 @@ pub record HasControls (C : Program) (P : Choice) (n : Netlist) (p : Pins) (T : 
   pub rets : InEachCycle C P n p (λ v r i. (k : ℕ) → 0 < k → k ≤ C.sites → on v (pin T.rets.items k) ≡ ret C r k)
   pub goes : InEachCycle C P n p (λ v r i. (k : ℕ) → k ≤ C.sites → on v (pin T.goes.items k) ≡ go C P r i k)
 
--- on success, where returns, outcomes and starts are those of a program, so are the controls
+-- on success, if the returns, outcomes and starts are those of the program, so are the controls
 abbrev pub GivesControls : {E : Type 0} → Result Controls E → Netlist → Netlist → Returns → Outcomes → List Sig → Type 0
 GivesControls r old new s o goes = (C : Program) (P : Choice) (p : Pins)
     → HasReturns C P old p s → HasOutcomes C P old p o → HasGoes C P old p goes → IfOk r (λ t. HasControls C P new p t)
 
--- ---- the signals when all is set
+-- ---- the signals after everything is set
 
 abbrev pub set_register : Tie → Signal
 set_register t = record { name = t.0.0; width = t.0.1; kind = Reg 0 (Some t.1.0) }
@@ -92,8 +92,8 @@ set_register t = record { name = t.0.0; width = t.0.1; kind = Reg 0 (Some t.1.0)
 abbrev pub set_wire : Tie → Signal
 set_wire t = record { name = t.0.0; width = t.0.1; kind = Wire (Some (record { op = Copy; operands = t.1.0 ∷ [] })) }
 
--- the old net had the declared signals and some more. Now each register has its next signal, each named wire copies
--- its signal, and the outputs are there, of main's unit
+-- The old net had the declared signals and some more. In the new one each register has its next signal, each named wire copies
+-- its signal, and the outputs are those of main's unit.
 pub record Finishes (C : Program) (D : Names) (P : Choice) (p : Pins) (next : Bank) (T : Controls) (old new : Netlist) : Type 0 where
   pub more : List Signal
   pub before : old.signals ≡ declared_signals C D P ++ more

@@ -1,4 +1,4 @@
--- The circuit of one body in the circuit of its program, and how its tail calls come after those of the bodies before it.
+-- The circuit of one body within the circuit of its program, and how its tail calls follow those of the bodies before it.
 use Rattle.std.specs.Prelude.{◌≡◌, ℕ, suc, ◌+◌, ◌<◌, ◌≤◌, ◌⊎◌, List, [], ◌∷◌, ◌++◌, length, Option, None, Some, Vec, slice_get}
 use Rattle.safl_sites.specs.Plan.{Choice}
 use Rattle.std.specs.Global.{Global}
@@ -17,18 +17,18 @@ use Rattle.safl_circuit.specs.Equations.{Registers, end_word, body_wants, loop_f
 use Rattle.safl_unit.specs.declared.parts.Pins.{Pins}
 use Rattle.safl_unit.specs.Cycles.{InEachCycle}
 
--- the ports of f's own sites
+-- the ports of the sites in the body of f
 pub record AreOwnPorts (c : CheckedProgram) (all : List SitePorts) (f : ℕ) (own : List SitePorts) : Type 0 where
   pub count : c.first_site f + length own ≡ c.first_site (suc f)
   pub same : (i : ℕ) → i < length own → slice_get own i ≡ slice_get all (c.first_site f + i)
 
--- the body ends, its own sites are wanted and it goes on as the equations say
+-- the end, the wants of own sites and the tail calls of the body are as the equations say
 pub record BodyShows (c : CheckedProgram) (P : Choice) (f : ℕ) (b : Body) (v : Val) (r : Registers) : Type 0 where
   pub end : taken v b.end ≡ one_word (end_word c.program P r f)
   pub wants : (i : ℕ) → i < length b.wants.items → taken_at v b.wants.items i ≡ body_wants c.program P r (c.first_site f + i)
   pub loops : (i : ℕ) → i < length b.loops.items → taken_from v b.loops.items i ≡ loop_from c.program P r (c.program.unit f + i) f
 
--- the circuit of f's body, with a load for each own site, and a place for each member of its group
+-- the circuit of the body of f, with a load for each own site, and a place for each function of its group
 pub record HasBody (c : CheckedProgram) (P : Choice) (n : Netlist) (p : Pins) (f : ℕ) (b : Body) : Type 0 where
   pub count : c.first_site f + length b.wants.items ≡ c.first_site (suc f)
   pub group : IsGroup c.program f (length b.loops.items)
@@ -36,12 +36,12 @@ pub record HasBody (c : CheckedProgram) (P : Choice) (n : Netlist) (p : Pins) (f
   pub fits : BodyFits c f n b
   pub shows : InEachCycle c.program P n p (λ v r i. BodyShows c P f b v r)
 
--- a load alone, where it is there
+-- a row with a load, or an empty row if there is none
 abbrev pub maybe_load : Option Load → List Load
 maybe_load None = []
 maybe_load (Some l) = l ∷ []
 
--- the first `count` loads come at the ends of the rows from number `first` on
+-- the first `count` loads are appended to the rows from number `first` on
 pub record PushesLoads (first count : ℕ) (own : List (Option Load)) (old new : List (Vec Load Global)) : Type 0 where
   pub pushed : (i : ℕ) → i < count → row_at new (first + i) ≡ row_at old (first + i) ++ maybe_load (load_in (slice_get own i))
   pub others : (h : ℕ) → (h < first) ⊎ (first + count ≤ h) → row_at new h ≡ row_at old h

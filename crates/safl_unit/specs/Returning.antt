@@ -6,8 +6,8 @@ use Rattle.safl_unit.specs.declared.parts.UnitPins.{UnitPins}
 use Rattle.safl_unit.specs.declared.parts.SitePins.{SitePins}
 use Rattle.safl_unit.specs.declared.returns.SiteReturn.{SiteReturn}
 
--- it is delivered to where its unit has finished, and it was sent and has not got its word; it has returned where it has
--- got its word or is delivered to; and its word is its unit's, or the kept one where it is kept and not delivered to
+-- A site is delivered to if its unit has finished and it was sent and has not got its word. It has returned if it has got its
+-- word or is delivered to. It shows the word of its unit, or the kept word if it is kept and not delivered to.
 pub record SiteShown (v : Val) (kept : Bool) (u : UnitPins) (s : SitePins) (r : SiteReturn) : Type 0 where
   pub ret : on v r.ret ≡ (on v u.fin && (on v s.sent && not (on v s.got)))
   pub sent : on v r.ports.sent ≡ on v s.sent

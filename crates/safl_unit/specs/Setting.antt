@@ -1,4 +1,4 @@
--- Registers and wires that are set one after another.
+-- Setting registers and wires, one after another.
 use Rattle.std.specs.Prelude.{◌≡◌, ℕ, suc, ◌<◌, List, [], ◌∷◌, ◌++◌, map, Some, length, cond, codes}
 use Rattle.safl_term.specs.Names.{Names}
 use Rattle.safl_sites.specs.Plan.{Choice}
@@ -18,19 +18,19 @@ use Rattle.safl_unit.specs.declared.parts.Controls.{Controls}
 use Rattle.safl_unit.specs.Ties.{Tie, ties, function_ties, register_ties, wire_ties}
 use Rattle.safl_unit.specs.Finished.{input_line, declared_signals, set_register, set_wire}
 
--- from this number on the signals are of these kinds
+-- the net with these kinds for the signals from a number on
 abbrev pub with_kinds : Netlist → ℕ → List Kind → Netlist
 with_kinds n t [] = n
 with_kinds n t (k ∷ ks) = with_kinds (with_kind n t k) (suc t) ks
 
--- a register with this next signal, and a copy of this signal
+-- the kind of a register with this next signal; and of a copy of this signal
 abbrev pub next_kind : Sig → Kind
 next_kind s = Reg 0 (Some s.0)
 
 abbrev pub copy_kind : Sig → Kind
 copy_kind s = Wire (Some (cell_on Copy (s ∷ [])))
 
--- the signal of a number is of this kind, and s has its width
+-- signal t has this kind, and s has its width
 pub record Takes (n : Netlist) (t : ℕ) (k : Kind) (s : Sig) : Type 0 where
   pub kind : kind_at n t ≡ k
   pub known : s.0 < length n.signals
@@ -40,7 +40,7 @@ pub record Takes (n : Netlist) (t : ℕ) (k : Kind) (s : Sig) : Type 0 where
 abbrev pub at_ties : Program → Names → ℕ → Sig → List Tie
 at_ties C D f s = cond (many C f) (((of_function D (codes "at$") f, 1), s) ∷ []) []
 
--- the registers of a function, of a bank
+-- the registers of a function
 abbrev pub bank_ties : Program → Names → Bank → ℕ → List Tie
 bank_ties C D b f = function_ties C D b.units.items b.members.items f
 

@@ -22,7 +22,7 @@ use Rattle.safl_unit.specs.Cycles.{BankFits, BankShows, InEachCycle}
 
 -- ---- what the sites show
 
--- a site's ports are two bits and a word of its callee's width
+-- the ports of a site are two bits and a word of the width of the called function's result
 pub record PortFits (n : Netlist) (p : SitePorts) (w : ℕ) : Type 0 where
   pub sent : IsSource n p.sent 1
   pub returned : IsSource n p.returned 1
@@ -34,7 +34,7 @@ pub record ReturnsFit (C : Program) (n : Netlist) (s : Returns) : Type 0 where
   pub ret : (k : ℕ) → 0 < k → k ≤ C.sites → IsSource n (pin s.ret.items k) 1
   pub port : (k : ℕ) (p : SitePorts) → 0 < k → k ≤ C.sites → slice_get s.ports.items k ≡ Some p → PortFits n p (C.result (C.callee k))
 
--- each site is delivered to, has returned and was sent as the equations say
+-- whether each site is delivered to, has returned and was sent is as the equations say
 pub record ReturnsShow (C : Program) (P : Choice) (s : Returns) (v : Val) (r : Registers) : Type 0 where
   pub ret : (k : ℕ) → 0 < k → k ≤ C.sites → on v (pin s.ret.items k) ≡ ret C r k
   pub back : (k : ℕ) → 0 < k → k ≤ C.sites → returned_word v (slice_get s.ports.items k) ≡ on_wires C P r k
@@ -46,7 +46,7 @@ pub record HasReturns (C : Program) (P : Choice) (n : Netlist) (p : Pins) (s : R
 
 -- ---- what the bodies come to
 
--- a call is wanted, with these words; the call of main from outside by start
+-- the words with which a call is wanted. The call of main from outside is wanted by `start`
 abbrev pub called : Program → Choice → Registers → Inputs → ℕ → Option (List Word)
 called C P r i zero = cond i.start (Some i.words) None
 called C P r i (suc k) = body_wants C P r (suc k)
@@ -68,7 +68,7 @@ pub record HasOutcomes (C : Program) (P : Choice) (n : Netlist) (p : Pins) (o : 
   pub fits : OutcomesFit C n o
   pub shows : InEachCycle C P n p (λ v r i. OutcomesShow C P o v r i)
 
--- ---- which sites start, main's call with number 0
+-- ---- which sites start; site 0 is the call of main from outside
 
 -- a bit for each site
 pub record GoesFit (C : Program) (n : Netlist) (goes : List Sig) : Type 0 where
@@ -92,39 +92,39 @@ pub record TestsFit (C : Program) (n : Netlist) (bits : List (Option Sig)) : Typ
   pub count : length bits ≡ C.functions
   pub each : BitsFit n bits
 
--- by unit: the word of the first member that ends
+-- for each unit, the word of the first of its functions that ends
 pub record HasEnds (C : Program) (P : Choice) (n : Netlist) (p : Pins) (all : List (Option Load)) : Type 0 where
   pub count : length all ≡ C.functions
   pub fits : SomeFit n all (λ u. C.result u ∷ [])
   pub shows : InEachCycle C P n p (λ v r i. (u : ℕ) → u < C.functions → taken_from v all u ≡ one_word (ends C P r u))
 
--- by function: the arguments of the first site that loads it
+-- for each function, the arguments of the first site that loads it
 pub record HasLoads (C : Program) (P : Choice) (n : Netlist) (p : Pins) (all : List (Option Load)) : Type 0 where
   pub count : length all ≡ C.functions
   pub fits : SomeFit n all C.params
   pub shows : InEachCycle C P n p (λ v r i. (f : ℕ) → f < C.functions → taken_from v all f ≡ loads C P r i f)
 
--- a table of bits by unit or function shows a test
+-- the bits of a table show a test on units or functions
 pub record HasBits (C : Program) (P : Choice) (n : Netlist) (p : Pins) (bits : List (Option Sig)) (test : Registers → Inputs → ℕ → Bool) : Type 0 where
   pub count : length bits ≡ C.functions
   pub fits : BitsFit n bits
   pub shows : InEachCycle C P n p (λ v r i. (f : ℕ) → f < C.functions → on_from v bits f ≡ test r i f)
 
--- by unit: a site starts it, and its sites are cleared
+-- for each unit, whether a site starts it; and whether its sites are cleared
 abbrev pub HasStarts : Program → Choice → Netlist → Pins → List (Option Sig) → Type 0
 HasStarts C P n p bits = HasBits C P n p bits (λ r i u. is_some (starts C P r i u))
 
 abbrev pub HasClears : Program → Choice → Netlist → Pins → List (Option Sig) → Type 0
 HasClears C P n p bits = HasBits C P n p bits (λ r i u. clears C P r u)
 
--- by function: a site or a tail call starts it, or another member of its unit
+-- for each function, whether a site or a tail call starts it; and whether one starts another function of its unit
 abbrev pub HasEntries : Program → Choice → Netlist → Pins → List (Option Sig) → Type 0
 HasEntries C P n p bits = HasBits C P n p bits (λ r i f. starts_it C P r i f)
 
 abbrev pub HasRivals : Program → Choice → Netlist → Pins → List (Option Sig) → Type 0
 HasRivals C P n p bits = HasBits C P n p bits (λ r i f. starts_other C P r i f)
 
--- the registers' next words
+-- the next words of all registers
 pub record HasNext (C : Program) (P : Choice) (n : Netlist) (p : Pins) (b : Bank) : Type 0 where
   pub fits : BankFits C n b
   pub shows : InEachCycle C P n p (λ v r i. BankShows C P b v (next C P i r))

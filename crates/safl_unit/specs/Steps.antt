@@ -1,4 +1,4 @@
--- The next words of registers: those of now, and those after the edge.
+-- The next words of registers, from their words now.
 use Rattle.std.specs.Prelude.{◌≡◌, ℕ, suc, ◌<◌, List, [], ◌∷◌, length, Option, Some, Result, IfOk, Bool, true, ◌&&◌, ◌||◌, ◌⊎◌, not, cond, is_some, slice_get}
 use Rattle.safl_sites.specs.Plan.{Choice}
 use Rattle.safl_word.specs.Words.{Word}
@@ -26,37 +26,37 @@ pub record UnitStep (v : Val) (end : Option (List Word)) (start : Bool) (now aft
   pub fin : on v after.fin ≡ is_some end
   pub res : v after.res.0 ∷ [] ≡ or_word end (v now.res.0 ∷ [])
 
--- of a function, by whether its unit has others, it or another of them starts, and what a site and a tail call load
+-- of a function, by whether its unit has others, whether it or one of these starts, and what a site and a tail call load
 pub record MemberStep (v : Val) (many entry rival : Bool) (load looped : Option (List Word)) (now after : MemberPins) : Type 0 where
   pub at : many ≡ true → on v after.at ≡ ((entry || on v now.at) && not rival)
   pub args : words v after.args.items ≡ or_word load (or_word looped (words v now.args.items))
 
--- of a site, by whether it keeps its word, is delivered to, starts and is cleared, and the word of its unit
+-- of a site, by whether it keeps its word, is delivered to, starts and is cleared, and by the word of its unit
 pub record SiteStep (v : Val) (kept ret go clear : Bool) (res : Word) (now after : SitePins) : Type 0 where
   pub sent : on v after.sent ≡ ((on v now.sent || go) && not clear)
   pub got : on v after.got ≡ ((on v now.got || ret) && not clear)
   pub keep : kept ≡ true → v after.keep.0 ≡ cond ret res (v now.keep.0)
 
--- the next words of a unit, of this width, by these signals
+-- these signals have the next words of a unit's registers, for results of this width
 abbrev pub IsNextUnit : Netlist → Option Load → Option Sig → UnitPins → ℕ → UnitPins → Type 0
 IsNextUnit n end start now w y = UnitFits n y w × ((v : Val) → Wired n v → UnitStep v (taken_in v end) (on_in v start) now y)
 
--- on success they are those that the list has for the unit, or else its next words
+-- on success, these are the signals that the list has for the unit, or otherwise have the next words of its registers
 abbrev pub GivesUnit : {E : Type 0} → Result UnitPins E → Netlist → Netlist → List UnitPins → ℕ → Option Load → Option Sig → UnitPins → Type 0
 GivesUnit r old new all unit end start now = (w : ℕ) → FitsIn old end (w ∷ []) → UnitFits old now w
     → IfOk r (λ y. (slice_get all unit ≡ Some y) ⊎ IsNextUnit new end start now w y)
 
--- the next words of a function by these signals
+-- these signals have the next words of a function's registers
 abbrev pub IsNextMember : Netlist → Bool → Entry → Option Load → Option Load → MemberPins → MemberPins → Type 0
 IsNextMember n many entry load looped now y =
     (v : Val) → Wired n v → MemberStep v many (on_in v entry.own) (on_in v entry.rival) (taken_in v load) (taken_in v looped) now y
 
--- on success they have the widths of its registers
+-- on success, these signals have the widths of the function's registers
 abbrev pub KeepsMember : {E : Type 0} → Result MemberPins E → Netlist → Netlist → Option Load → Option Load → MemberPins → Type 0
 KeepsMember r old new load looped now = (ws : List ℕ)
     → FitsIn old load ws → FitsIn old looped ws → MemberFits old now ws → IfOk r (λ y. MemberFits new y ws)
 
--- of so many functions: the units' registers after the edge
+-- for the first functions, the registers of their units after the edge
 pub record UnitsNext (C : Program) (n : Netlist) (now : List UnitPins) (ends : List (Option Load)) (starts : List (Option Sig))
     (after : List UnitPins) (count : ℕ) : Type 0 where
   pub entries : length after ≡ count
@@ -64,7 +64,7 @@ pub record UnitsNext (C : Program) (n : Netlist) (now : List UnitPins) (ends : L
   pub shows : (v : Val) → Wired n v → EachAt after (λ f y. (x : UnitPins) → slice_get now (C.unit f) ≡ Some x
       → UnitStep v (taken_from v ends (C.unit f)) (on_from v starts (C.unit f)) x y)
 
--- and their own
+-- for the first functions, their own registers after the edge
 pub record MembersNext (C : Program) (n : Netlist) (now : List MemberPins) (entries rivals : List (Option Sig)) (loads looped : List (Option Load))
     (after : List MemberPins) (count : ℕ) : Type 0 where
   pub entries_after : length after ≡ count
@@ -72,7 +72,7 @@ pub record MembersNext (C : Program) (n : Netlist) (now : List MemberPins) (entr
   pub shows : (v : Val) → Wired n v → EachAt after (λ f y. (x : MemberPins) → slice_get now f ≡ Some x
       → MemberStep v (many C f) (on_from v entries f) (on_from v rivals f) (taken_from v loads f) (taken_from v looped f) x y)
 
--- of the sites up to a number: theirs
+-- for the sites up to a number, their registers after the edge
 pub record SitesNext (C : Program) (P : Choice) (n : Netlist) (units : List UnitPins) (now : List SitePins) (rets goes : List Sig)
     (clears : List (Option Sig)) (after : List SitePins) (last : ℕ) : Type 0 where
   pub entries : length after ≡ suc last
@@ -81,7 +81,7 @@ pub record SitesNext (C : Program) (P : Choice) (n : Netlist) (units : List Unit
       → slice_get now k ≡ Some x
       → SiteStep v (P.kept k) (on v (pin rets k)) (on v (pin goes k)) (on_from v clears (C.unit (C.caller k))) (v u.res.0) x y)
 
--- of all functions and sites
+-- for all functions and sites, their registers after the edge
 abbrev pub AllUnitsNext : Program → Netlist → Pins → List (Option Load) → List (Option Sig) → List UnitPins → Type 0
 AllUnitsNext C n p ends starts after = UnitsNext C n p.bank.units.items ends starts after C.functions
 

@@ -24,7 +24,7 @@ line_of t = t.0
 abbrev pub sig_of : Tie → Sig
 sig_of t = t.1
 
--- those for the numbers below n, in order
+-- the ties of the numbers below n, in order
 unfoldable pub ties : (ℕ → List Tie) → ℕ → List Tie
 ties g zero = []
 ties g (suc n) = ties g n ++ g n
@@ -35,12 +35,12 @@ tied [] ss = []
 tied (l ∷ ls) [] = []
 tied (l ∷ ls) (s ∷ ss) = (l, s) ∷ tied ls ss
 
--- as many signals, numbered from this one on
+-- `count` signals, numbered from this one on
 abbrev pub numbered : ℕ → ℕ → List Sig
 numbered s zero = []
 numbered s (suc n) = record { 0 = s } ∷ numbered (suc s) n
 
--- the registers of a unit, at its first member
+-- the registers of a unit, at its first function
 abbrev pub unit_ties : Program → Names → ℕ → Option UnitPins → List Tie
 unit_ties C D f None = []
 unit_ties C D f (Some u) =
@@ -51,7 +51,7 @@ unit_ties C D f (Some u) =
     ∷ [])
     []
 
--- of a function
+-- the registers of a function
 abbrev pub member_ties : Program → Names → ℕ → Option MemberPins → List Tie
 member_ties C D f None = []
 member_ties C D f (Some m) =
@@ -61,7 +61,6 @@ member_ties C D f (Some m) =
 abbrev pub function_ties : Program → Names → List UnitPins → List MemberPins → ℕ → List Tie
 function_ties C D us ms f = unit_ties C D f (slice_get us f) ++ member_ties C D f (slice_get ms f)
 
--- of a site
 abbrev pub call_registers : Program → Choice → ℕ → Option SitePins → List Tie
 call_registers C P k None = []
 call_registers C P k (Some s) =
@@ -74,15 +73,15 @@ call_registers C P k (Some s) =
 abbrev pub site_ties : Program → Choice → List SitePins → ℕ → List Tie
 site_ties C P ss k = call_registers C P k (slice_get ss k)
 
--- the registers in order
+-- all registers, in order
 abbrev pub register_ties : Program → Names → Choice → Bank → List Tie
 register_ties C D P b = ties (function_ties C D b.units.items b.members.items) C.functions ++ ties (site_ties C P b.sites.items) (suc C.sites)
 
--- the number of want$k, where the named wires begin with this number
+-- the number of the wire want$k, if the named wires begin with this number
 abbrev pub want_wire : Program → Choice → ℕ → ℕ → ℕ
 want_wire C P first k = first + (2 * C.functions + length (lines (site_wires C P) k))
 
--- the named wires of a function and of a site. Where its unit has no arbiter, go$k copies want$k itself
+-- the named wires of a function; and of a site. If its unit has no arbiter, go$k copies want$k itself
 abbrev pub body_ties : Names → Controls → ℕ → List Tie
 body_ties D T f =
     ((of_function D (codes "end$") f, 1), pin T.ends.items f)
@@ -99,7 +98,7 @@ call_ties C P first T k =
     ∷ []))
     []
 
--- the named wires in order
+-- all named wires, in order
 abbrev pub wire_ties : Program → Names → Choice → ℕ → Controls → List Tie
 wire_ties C D P first T =
     ties (body_ties D T) C.functions ++ (ties (call_ties C P first T) (suc C.sites) ++ ((codes "go$main", 1), pin T.goes.items 0) ∷ [])

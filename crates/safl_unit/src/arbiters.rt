@@ -1,4 +1,4 @@
-//! The sites of each unit in a row, and for each of them that the unit rests and none before it wants.
+//! Arbiters: for each site of a unit, whether the unit rests and no site before it wants.
 
 ghost use Rattle.std.specs.Prelude.{◌≡◌, ℕ, suc, ◌+◌, ◌*◌, ◌^◌, ◌≤◌, ◌∷◌, true, not, map, length, IfOk, OnOk};
 ghost use Rattle.safl_net.specs.Names.{IsTidy};
@@ -20,14 +20,15 @@ use safl_sites::Planned;
 use safl_word::NoMemory;
 use std::alloc::Global;
 
-/// By unit, the bits of its sites, in order; and by site, how many sites of its unit come before it.
+/// For each unit, the bits that say that its sites want, in order; and for each site, its place among the sites of its
+/// unit.
 #[derive(Drop)]
 pub struct Wants {
     pub rows: Vec<Vec<Sig>>,
     pub ranks: Vec<usize>,
 }
 
-/// The sites of each unit.
+/// Collects the bits that say that sites want, by unit.
 pub fn unit_wants(alloc: Global, p: &Planned, outcomes: &Outcomes) -> Result<Wants, NoMemory>
     requires wants { length outcomes.now.wants.items ≡ suc p.now.program.sites }
     ensures count { IfOk result (λ w. length w.rows.items ≡ p.now.program.functions) }
@@ -52,8 +53,8 @@ pub fn unit_wants(alloc: Global, p: &Planned, outcomes: &Outcomes) -> Result<Wan
     Ok(Wants { rows, ranks })
 }
 
-/// For each of a unit's sites, where the unit has an arbiter: the unit rests, and no site before it wants. Of at most
-/// 2 ^ h sites, that stands at most 2 h + 1 gates above what the sites want and the bit that the unit runs.
+/// For each site of a unit with an arbiter, whether the unit rests and no site before it wants. With at most 2^h sites,
+/// this is at most 2h + 1 gates above the bits for wanting and for running.
 pub fn unit_row(
     alloc: Global,
     net: &mut Net,
@@ -83,7 +84,7 @@ pub fn unit_row(
     Ok(row)
 }
 
-/// By unit, the same of its sites.
+/// For each unit with an arbiter, whether the unit rests and no site before it wants, for each of its sites.
 pub fn unit_frees(
     alloc: Global,
     net: &mut Net,

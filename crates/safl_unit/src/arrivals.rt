@@ -1,4 +1,4 @@
-//! What comes to each unit and function at the edge: its ends, starts, loads and clears.
+//! What units and functions get at the edge: ends, starts, loads and clears.
 
 ghost use Rattle.std.specs.Prelude.{◌≡◌, ℕ, suc, ◌+◌, ◌*◌, ◌<◌, ◌≤◌, List, length, map, Option, Some, None, IfOk, OnOk, slice_get};
 ghost use Rattle.safl_term.specs.Checked.{IsChecked};
@@ -21,7 +21,7 @@ use safl_term::Checked;
 use safl_word::NoMemory;
 use std::alloc::{AllocError, Global};
 
-/// By unit, the word of the first member that ends.
+/// For each unit, the word of the first of its functions that ends.
 pub fn unit_ends(
     alloc: Global,
     net: &mut Net,
@@ -46,7 +46,7 @@ pub fn unit_ends(
     Ok(all)
 }
 
-/// By function, the arguments of the first site that starts and calls it.
+/// For each function, the arguments of the first site that starts it.
 pub fn function_loads(
     alloc: Global,
     net: &mut Net,
@@ -75,7 +75,7 @@ pub fn function_loads(
     Ok(all)
 }
 
-/// By unit, that a site starts it.
+/// For each unit, the bit that says that a site starts it.
 pub fn unit_starts(
     alloc: Global,
     net: &mut Net,
@@ -101,7 +101,7 @@ pub fn unit_starts(
     Ok(all)
 }
 
-/// By unit, that a member ends or is looped to.
+/// For each unit, the bit that says that one of its functions ends or is looped to.
 pub fn unit_clears(
     alloc: Global,
     net: &mut Net,
@@ -128,7 +128,7 @@ pub fn unit_clears(
     Ok(all)
 }
 
-/// By function, that a site or a tail call starts it.
+/// For each function, the bit that says that a site or a tail call starts it.
 pub fn function_entries(
     alloc: Global,
     net: &mut Net,
@@ -191,7 +191,7 @@ pub fn unit_of(p: &Planned, f: u32) -> u32
     program(p).unit(f)
 }
 
-/// The function that a site calls; site 0 is the call of main from outside.
+/// The function that a site calls. Site 0 is the call of main from outside.
 pub fn callee_of(p: &Planned, k: u32) -> u32
     requires { k ≤ p.now.program.sites }
     ensures number { result ≡ p.now.program.callee k }
@@ -200,7 +200,7 @@ pub fn callee_of(p: &Planned, k: u32) -> u32
     program(p).callee(k)
 }
 
-/// The function in whose body a site stands.
+/// The function whose body has a site.
 pub fn caller_of(p: &Planned, k: u32) -> u32
     requires least { 1 ≤ k }
     requires most { k ≤ p.now.program.sites }
@@ -210,7 +210,7 @@ pub fn caller_of(p: &Planned, k: u32) -> u32
     program(p).caller(k)
 }
 
-/// The bit of a load, where there is one.
+/// The bit of a load, if there is a load.
 pub fn load_bit(load: &Option<Load>) -> Option<Sig>
     ensures { result ≡ bit_of load.now }
 {
@@ -220,7 +220,7 @@ pub fn load_bit(load: &Option<Load>) -> Option<Sig>
     }
 }
 
-// The bits of so many loads.
+// The bits of the first `count` loads.
 fn load_bits(
     alloc: Global,
     loads: &[Option<Load>],
@@ -237,7 +237,7 @@ fn load_bits(
     Ok(bits)
 }
 
-// By number, the bit of a load, where there is one.
+// For each of the first `count` loads, a row with its bit, or an empty row if there is no load.
 fn load_rows(alloc: Global, loads: &[Option<Load>], count: u32) -> Result<Vec<Vec<Sig>>, NoMemory>
     requires { length loads.now ≡ count }
     ensures count { IfOk result (λ rows. length rows.items ≡ count) }
@@ -252,7 +252,7 @@ fn load_rows(alloc: Global, loads: &[Option<Load>], count: u32) -> Result<Vec<Ve
     Ok(rows)
 }
 
-// A bit alone, where there is one.
+// A row with a bit, or an empty row if there is none.
 fn one_row(alloc: Global, bit: Option<Sig>) -> Result<Vec<Sig>, NoMemory>
     ensures bit { IfOk result (λ row. row.items ≡ maybe_one bit) }
 {
@@ -265,7 +265,7 @@ fn one_row(alloc: Global, bit: Option<Sig>) -> Result<Vec<Sig>, NoMemory>
     }
 }
 
-/// Joins a bit, where there is one, to that of a number.
+/// Joins a bit, if there is one, to the one at `place`.
 pub fn add_some(
     net: &mut Net,
     bits: &mut Vec<Option<Sig>>,

@@ -1,4 +1,4 @@
-//! The circuits of all bodies, and what they come to.
+//! The circuits of all bodies, and their outcomes.
 
 ghost use Rattle.std.specs.Prelude.{◌≡◌, ℕ, suc, ◌+◌, ◌*◌, ◌<◌, ◌≤◌, ◌==◌, ◌++◌, List, [], ◌∷◌, cond, length, IfOk, OnOk};
 ghost use Rattle.safl_sites.specs.Plan.{Choice};
@@ -28,7 +28,7 @@ use safl_term::Checked;
 use safl_word::NoMemory;
 use std::alloc::{AllocError, Global};
 
-/// What the bodies come to, with the tail calls to each function in a row.
+/// The outcomes of the bodies so far. The tail calls to each function are collected in a row.
 #[derive(Drop)]
 pub struct Gathered {
     pub ends: Vec<Load>,
@@ -36,10 +36,10 @@ pub struct Gathered {
     pub rows: Vec<Vec<Load>>,
 }
 
-/// What all bodies come to: each ends, with its word; tail calls go to functions, of several that of the earliest body;
-/// and sites are wanted, with their arguments. It adds temporaries alone, at most 33 for each term and 33 for each
-/// function, and they close no loop of cells. The net is tidy before and after. Fails only if out of memory; some
-/// temporaries may then remain in the net.
+/// The outcomes of all bodies: that each ends, with its word; tail calls to functions, of which the one of the earliest
+/// body counts; and that sites are wanted, with their arguments. It adds only temporaries, at most 33 for each term and
+/// 33 for each function, and they close no loop of cells. The net is tidy before and after. Fails only if out of
+/// memory; some temporaries may then remain in the net.
 pub fn lower_bodies(
     alloc: Global,
     net: &mut Net,
@@ -69,7 +69,7 @@ pub fn lower_bodies(
     Ok(Outcomes { ends, loops, wants })
 }
 
-// The call of main from outside, and no body yet.
+// The outcomes before any body: only the call of main from outside.
 fn no_outcomes(alloc: Global, functions: u32, pins: &Pins) -> Result<Gathered, NoMemory>
     ensures ends { IfOk result (λ o. o.ends.items ≡ []) }
     ensures count { IfOk result (λ o. length o.rows.items ≡ functions) }
@@ -123,7 +123,7 @@ fn body_of(
     lower(alloc, c, f, net, Ports { run, args, sites })
 }
 
-// The bit that a function's body runs.
+// The bit that says that the body of a function runs.
 fn body_path(net: &mut Net, c: &Checked, f: u32, pins: &Pins) -> Result<Sig, NoMemory>
     requires function { f < c.now.program.functions }
     requires pins { PinsFit c.now.program net.old pins.now }
@@ -158,7 +158,7 @@ fn own_ports(
     Ok(own)
 }
 
-// Puts the tail calls of a body after those of the bodies before it, for the members of its group.
+// Appends the tail calls of a body, to the functions of its group, to the rows of those functions.
 fn push_loops(
     rows: &mut Vec<Vec<Load>>,
     first_member: u32,
@@ -177,7 +177,7 @@ fn push_loops(
     Ok(())
 }
 
-// Puts a load, where there is one, at the end of the row of a number.
+// Appends a load, if there is one, to the row at `place`.
 fn push_maybe(rows: &mut Vec<Vec<Load>>, place: usize, load: Option<Load>) -> Result<(), NoMemory>
     requires place { place < length rows.old.items }
     ensures count { length rows.new.items ≡ length rows.old.items }

@@ -25,7 +25,7 @@ use safl_word::NoMemory;
 use std::alloc::Global;
 use std::marker::Model;
 
-/// The most signals of a circuit.
+/// The greatest number of signals of a circuit.
 pub const SIGNALS_MAX: u32 = 3_000_000;
 
 /// The circuit of a planned program.
@@ -52,7 +52,7 @@ impl Circuit {
 }
 
 /// The circuit of a planned program: the ports, registers and named wires of the layout, with an arbiter at each unit
-/// and a kept word at each site that the plan names, and temporaries for all logic. It does what the program means.
+/// and a kept word at each site that the plan names, and temporaries for all logic. It computes what the program means.
 /// Its netlist is whole and free of loops, and has its inputs first, then its registers and then its wires. Fails only
 /// if out of memory.
 pub fn compile(alloc: Global, p: &Planned) -> Result<Circuit, NoMemory>
@@ -78,7 +78,7 @@ pub fn compile(alloc: Global, p: &Planned) -> Result<Circuit, NoMemory>
     let next = edge(alloc, &mut net, p, &pins, &shown, &outcomes, starts)?;
     let copied = controls(alloc, &mut net, &shown, &outcomes, starts)?;
     finish(alloc, &mut net, p, &pins, &next, &copied)?;
-    // its contract says that what the net shows is a netlist
+    // the contract of this call says that the net is a netlist
     let _signals = net.signals();
     Ok(Circuit { net })
 }

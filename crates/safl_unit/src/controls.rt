@@ -13,8 +13,8 @@ use safl_net::{Net, Sig};
 use safl_word::NoMemory;
 use std::alloc::{AllocError, Global};
 
-/// The bits of the functions and sites: that a body ends, that a tail call starts a function, that a site is wanted, is
-/// delivered to, and starts.
+/// The bits for functions and sites: that a body ends, that a tail call starts a function, and that a site is wanted,
+/// is delivered to, or starts.
 pub fn controls(
     alloc: Global,
     net: &mut Net,
@@ -42,7 +42,6 @@ pub fn controls(
     })
 }
 
-// The bits of loads.
 fn bits_of(alloc: Global, loads: &[Load]) -> Result<Vec<Sig>, AllocError>
     ensures { IfOk result (λ bits. bits.items ≡ map load_bit loads.now) }
 {
@@ -53,7 +52,7 @@ fn bits_of(alloc: Global, loads: &[Load]) -> Result<Vec<Sig>, AllocError>
     Ok(bits)
 }
 
-// The bits of loads, or another where there is none.
+// The bits of loads. An absent load has the bit `other`.
 fn bits_or(alloc: Global, loads: &[Option<Load>], other: Sig) -> Result<Vec<Sig>, AllocError>
     ensures { IfOk result (λ bits. bits.items ≡ map (bit_or other) loads.now) }
 {

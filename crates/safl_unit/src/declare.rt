@@ -1,4 +1,4 @@
-//! The ports, registers and named wires of a circuit.
+//! Declaring the ports, registers and named wires of a circuit.
 
 ghost use Rattle.std.specs.Prelude.{◌≡◌, ◌+◌, ◌*◌, ◌<◌, ◌≤◌, ◌++◌, [], ◌∷◌, map, length, Some, None, false, slice_get, codes, IfOk, OnOk};
 ghost use Rattle.safl_term.specs.Program.{arity};
@@ -26,7 +26,6 @@ use safl_term::Checked;
 use safl_word::{NoMemory, Word};
 use std::alloc::Global;
 
-// The next signal, an input.
 fn add_input(net: &mut Net, name: &str, width: u8) -> Result<Sig, NoMemory>
     requires some { 1 ≤ width }
     requires most { width ≤ 128 }
@@ -42,7 +41,7 @@ fn add_input(net: &mut Net, name: &str, width: u8) -> Result<Sig, NoMemory>
     }
 }
 
-// The next signal, a register that resets to 0.
+// Adds a register that resets to 0.
 fn add_register(net: &mut Net, name: &str, width: u8) -> Result<Sig, NoMemory>
     requires some { 1 ≤ width }
     requires most { width ≤ 128 }
@@ -58,7 +57,7 @@ fn add_register(net: &mut Net, name: &str, width: u8) -> Result<Sig, NoMemory>
     }
 }
 
-// The next signal, a wire of width 1.
+// Adds a wire of width 1.
 fn add_wire(net: &mut Net, name: &str) -> Result<Sig, NoMemory>
     requires room { HasRoom net.old 1 }
     requires free { refusal net.old name.now ≡ None }
@@ -72,7 +71,7 @@ fn add_wire(net: &mut Net, name: &str) -> Result<Sig, NoMemory>
     }
 }
 
-// The registers of a unit, by its first member; for another member those that its unit has.
+// The registers of the unit of `f`. They are added for the first function of the unit, and found for the others.
 fn add_unit(
     alloc: Global,
     net: &mut Net,
@@ -99,7 +98,7 @@ fn add_unit(
     Ok(UnitPins { run, fin, res })
 }
 
-// The register that says that a function runs, where its unit has other members.
+// Adds the register that says that a function runs, if its unit has other functions.
 fn add_at(alloc: Global, net: &mut Net, c: &Checked, f: u32, run: Sig) -> Result<Sig, NoMemory>
     requires function { f < c.now.program.functions }
     requires room { HasRoom net.old 1 }
@@ -115,7 +114,7 @@ fn add_at(alloc: Global, net: &mut Net, c: &Checked, f: u32, run: Sig) -> Result
     add_register(net, name.as_str(), 1)
 }
 
-// The registers of a function's arguments.
+// Adds the registers of a function's arguments.
 fn add_arguments(alloc: Global, net: &mut Net, c: &Checked, f: u32) -> Result<Vec<Sig>, NoMemory>
     requires function { f < c.now.program.functions }
     requires room { HasRoom net.old (arity c.now.program f) }
@@ -139,7 +138,7 @@ struct FunctionPins {
     member: MemberPins,
 }
 
-// The registers of a function, after those of its unit where it is the first member.
+// Adds the registers of a function, after those of its unit if it is the unit's first.
 fn add_function(
     alloc: Global,
     net: &mut Net,
@@ -186,7 +185,7 @@ fn add_functions(alloc: Global, net: &mut Net, c: &Checked) -> Result<Functions,
     Ok(Functions { units, members })
 }
 
-// The registers of a site.
+// Adds the registers of a site.
 fn add_site(
     alloc: Global,
     net: &mut Net,
@@ -214,7 +213,7 @@ fn add_site(
     Ok(SitePins { sent, got, keep })
 }
 
-// The registers of all sites, by number.
+// Adds the registers of all sites, in the order of their numbers.
 fn add_sites(
     alloc: Global,
     net: &mut Net,
@@ -241,7 +240,7 @@ fn add_sites(
     Ok(sites)
 }
 
-// The named wires of a function.
+// Adds the named wires of a function.
 fn add_body_wires(alloc: Global, net: &mut Net, c: &Checked, f: u32) -> Result<(), NoMemory>
     requires function { f < c.now.program.functions }
     requires room { HasRoom net.old 2 }
@@ -254,7 +253,7 @@ fn add_body_wires(alloc: Global, net: &mut Net, c: &Checked, f: u32) -> Result<(
     Ok(())
 }
 
-// The named wires of all functions.
+// Adds the named wires of all functions.
 fn add_all_body_wires(alloc: Global, net: &mut Net, c: &Checked) -> Result<(), NoMemory>
     requires room { HasRoom net.old (2 * c.now.program.functions) }
     requires free { MayAdd net.old (map open_wire (lines (function_wires c.now.names) c.now.program.functions)) }
@@ -266,7 +265,7 @@ fn add_all_body_wires(alloc: Global, net: &mut Net, c: &Checked) -> Result<(), N
     Ok(())
 }
 
-// The wire that says that the arbiter of the callee's unit grants a site, where there is one.
+// Adds the wire that says that the arbiter of a unit grants a site, if the unit has one.
 fn add_arbiter_wire(
     alloc: Global,
     net: &mut Net,
@@ -287,7 +286,7 @@ fn add_arbiter_wire(
     Ok(())
 }
 
-// The named wires of a site.
+// Adds the named wires of a site.
 fn add_call_wires(alloc: Global, net: &mut Net, p: &Planned, k: u32) -> Result<(), NoMemory>
     requires least { 1 ≤ k }
     requires most { k ≤ p.now.program.sites }
@@ -304,7 +303,7 @@ fn add_call_wires(alloc: Global, net: &mut Net, p: &Planned, k: u32) -> Result<(
     Ok(())
 }
 
-// The named wires of all sites.
+// Adds the named wires of all sites.
 fn add_all_call_wires(alloc: Global, net: &mut Net, p: &Planned) -> Result<(), NoMemory>
     requires room { HasRoom net.old (4 * p.now.program.sites + 4) }
     requires free { MayAdd net.old (map open_wire (call_wires p.now.program p.now.choice)) }
@@ -317,7 +316,7 @@ fn add_all_call_wires(alloc: Global, net: &mut Net, p: &Planned) -> Result<(), N
     Ok(())
 }
 
-// The ports of a function's arguments.
+// Adds an input port for each argument of a function.
 fn add_ports(alloc: Global, net: &mut Net, c: &Checked, f: u32) -> Result<Vec<Sig>, NoMemory>
     requires function { f < c.now.program.functions }
     requires room { HasRoom net.old (arity c.now.program f) }
@@ -334,7 +333,7 @@ fn add_ports(alloc: Global, net: &mut Net, c: &Checked, f: u32) -> Result<Vec<Si
     Ok(words)
 }
 
-// All named wires.
+// Adds all named wires.
 fn add_wires(alloc: Global, net: &mut Net, p: &Planned) -> Result<(), NoMemory>
     requires room { HasRoom net.old (2 * p.now.program.functions + 4 * p.now.program.sites + 5) }
     requires free { MayAdd net.old (map open_wire (layout_wires p.now.program p.now.names p.now.choice)) }
@@ -353,8 +352,8 @@ pub struct Declared {
     pub pins: Pins,
 }
 
-/// The ports, registers and named wires of a program's circuit in their order, the registers without next signals and
-/// the wires without cells.
+/// Declares the ports, registers and named wires of a program's circuit, in their order. Registers have no next signals
+/// yet, and wires no cells.
 pub fn declare(alloc: Global, p: &Planned) -> Result<Declared, NoMemory>
     ensures net { IfOk result (λ d. d.net ≡ declared_net p.now.program p.now.names p.now.choice) }
     ensures pins { IfOk result (λ d. ArePins p.now.program p.now.names p.now.choice d.pins) }

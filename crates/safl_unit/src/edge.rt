@@ -21,7 +21,7 @@ use safl_sites::Planned;
 use safl_word::NoMemory;
 use std::alloc::{AllocError, Global};
 
-/// The signals of the registers' next words.
+/// The signals that have the next words of the registers.
 pub fn edge(
     alloc: Global,
     net: &mut Net,
@@ -51,7 +51,7 @@ pub fn edge(
     })
 }
 
-/// By function, the next words of its unit.
+/// For each function, the next words of its unit's registers.
 pub fn next_units(
     alloc: Global,
     net: &mut Net,
@@ -82,7 +82,8 @@ pub fn next_units(
     Ok(all)
 }
 
-// The next words of a function's unit: those that its first member has, where that came before.
+// The next words of the registers of a function's unit. If the unit's first function came before, they are known
+// already.
 fn unit_after(
     net: &mut Net,
     all: &[UnitPins],
@@ -105,7 +106,7 @@ fn unit_after(
     Ok(next)
 }
 
-/// By function, its own next words.
+/// For each function, the next words of its own registers.
 pub fn next_members(
     alloc: Global,
     net: &mut Net,
@@ -138,7 +139,7 @@ pub fn next_members(
     Ok(all)
 }
 
-/// By site, its next words; the first entry counts for nothing.
+/// For each site, the next words of its registers. The first entry is not used.
 pub fn next_sites(
     alloc: Global,
     net: &mut Net,
@@ -176,7 +177,7 @@ pub fn next_sites(
     Ok(all)
 }
 
-// The first entry, which counts for nothing.
+// A list with the first entry, which is not used.
 fn one_site(alloc: Global, filler: SitePins) -> Result<Vec<SitePins>, AllocError>
     ensures count { IfOk result (λ all. length all.items ≡ 1) }
 {

@@ -1,4 +1,4 @@
-//! All that comes at the edge.
+//! All events at the edge.
 
 ghost use Rattle.std.specs.Prelude.{◌≡◌, ℕ, suc, ◌+◌, ◌*◌, ◌≤◌, length, OnOk};
 ghost use Rattle.safl_net.specs.Names.{IsTidy};
@@ -15,11 +15,12 @@ use safl_sites::Planned;
 use safl_word::NoMemory;
 use std::alloc::Global;
 
-/// What comes at the edge.
+/// The events at the edge.
 ///
-/// By unit: `ends`, that a member ends, with its word, `starts`, that a site starts it, and `clears`, that the sites
-/// of its members are cleared. By function: `loads`, that a site loads its arguments, `entries`, that a site or a tail
-/// call starts it, and `rivals`, that another member of its unit starts.
+/// For each unit, `ends` says that one of its functions ends, and has its word; `starts` says that a site starts the
+/// unit; and `clears` says that the sites of its functions are cleared. For each function, `loads` says that a site
+/// starts it, and has the arguments; `entries` says that a site or a tail call starts it; and `rivals` says that
+/// another function of its unit starts.
 #[derive(Drop)]
 pub struct Events {
     pub ends: Vec<Option<Load>>,

@@ -1,4 +1,4 @@
-//! The next signals of the registers, the cells of the named wires, and the outputs.
+//! Setting the next signals of the registers and the cells of the named wires, and adding the outputs.
 
 ghost use Rattle.std.specs.Prelude.{◌≡◌, ℕ, suc, ◌+◌, ◌*◌, ◌<◌, ◌≤◌, ◌++◌, [], ◌∷◌, map, length, Some, None, false, codes, IfOk, OnOk, OnErr};
 ghost use Rattle.safl_term.specs.Program.{arity};
@@ -24,7 +24,7 @@ use safl_term::Checked;
 use safl_word::NoMemory;
 use std::alloc::{AllocError, Global};
 
-// A register gets its next signal.
+// Sets the next signal of a register.
 fn set_next(net: &mut Net, register: Sig, next: Sig)
     requires { Takes net.old register.0 (Reg 0 None) next }
     ensures { net.new ≡ with_kind net.old register.0 (next_kind next) }
@@ -35,7 +35,7 @@ fn set_next(net: &mut Net, register: Sig, next: Sig)
     }
 }
 
-// A wire gets a copy of the signal.
+// Makes a wire a copy of a signal.
 fn set_copy(net: &mut Net, wire: Sig, source: Sig)
     requires { Takes net.old wire.0 (Wire None) source }
     ensures { net.new ≡ with_kind net.old wire.0 (copy_kind source) }
@@ -46,7 +46,7 @@ fn set_copy(net: &mut Net, wire: Sig, source: Sig)
     }
 }
 
-// The registers from the first on get their next signals.
+// Sets the next signals of the registers from `first` on.
 fn set_nexts(net: &mut Net, first: u32, all: &[Sig])
     requires open { EachAt all.now (λ i s. Takes net.old (first + i) (Reg 0 None) s) }
     requires room { first + length all.now < 4294967296 }
@@ -57,7 +57,7 @@ fn set_nexts(net: &mut Net, first: u32, all: &[Sig])
     }
 }
 
-// The wires from the first on get copies of these signals.
+// Makes the wires from `first` on copies of these signals.
 fn set_copies(net: &mut Net, first: u32, all: &[Sig])
     requires open { EachAt all.now (λ i s. Takes net.old (first + i) (Wire None) s) }
     requires room { first + length all.now < 4294967296 }
@@ -68,7 +68,7 @@ fn set_copies(net: &mut Net, first: u32, all: &[Sig])
     }
 }
 
-// The next signals of a unit's registers, at its first member.
+// Appends the next signals of a unit's registers, if `f` is the first function of the unit.
 fn add_unit(all: &mut Vec<Sig>, c: &Checked, f: u32, unit: UnitPins) -> Result<(), AllocError>
     requires { f < c.now.program.functions }
     ensures { OnOk result (all.new.items ≡ all.old.items ++ map sig_of (unit_ties c.now.program c.now.names f (Some unit))) }
@@ -80,7 +80,7 @@ fn add_unit(all: &mut Vec<Sig>, c: &Checked, f: u32, unit: UnitPins) -> Result<(
     Ok(())
 }
 
-// The next signal of the register that says that a function runs, where its unit has other members.
+// Appends the next signal of the register that says that a function runs, if its unit has other functions.
 fn add_at(all: &mut Vec<Sig>, c: &Checked, f: u32, at: Sig) -> Result<(), AllocError>
     requires { f < c.now.program.functions }
     ensures { OnOk result (all.new.items ≡ all.old.items ++ map sig_of (at_ties c.now.program c.now.names f at)) }
@@ -92,7 +92,7 @@ fn add_at(all: &mut Vec<Sig>, c: &Checked, f: u32, at: Sig) -> Result<(), AllocE
     Ok(())
 }
 
-// The next signals of a function's registers, after those of its unit where it is the first member.
+// Appends the next signals of a function's registers, after those of its unit if it is the unit's first.
 fn add_function(all: &mut Vec<Sig>, c: &Checked, next: &Bank, f: u32) -> Result<(), AllocError>
     requires function { f < c.now.program.functions }
     requires units { length next.now.units.items ≡ c.now.program.functions }
@@ -108,7 +108,7 @@ fn add_function(all: &mut Vec<Sig>, c: &Checked, next: &Bank, f: u32) -> Result<
     Ok(())
 }
 
-// Those of all functions.
+// Appends the next signals of the registers of all functions.
 fn add_functions(all: &mut Vec<Sig>, c: &Checked, next: &Bank) -> Result<(), AllocError>
     requires units { length next.now.units.items ≡ c.now.program.functions }
     requires members { length next.now.members.items ≡ c.now.program.functions }
@@ -121,7 +121,7 @@ fn add_functions(all: &mut Vec<Sig>, c: &Checked, next: &Bank) -> Result<(), All
     Ok(())
 }
 
-// The next signals of a site's registers.
+// Appends the next signals of a site's registers.
 fn add_site(all: &mut Vec<Sig>, p: &Planned, next: &Bank, k: u32) -> Result<(), AllocError>
     requires least { 1 ≤ k }
     requires most { k ≤ p.now.program.sites }
@@ -137,7 +137,7 @@ fn add_site(all: &mut Vec<Sig>, p: &Planned, next: &Bank, k: u32) -> Result<(), 
     Ok(())
 }
 
-// The next signals of all registers, in their order.
+// The next signals of all registers, in the order of the registers.
 fn register_sources(alloc: Global, p: &Planned, next: &Bank) -> Result<Vec<Sig>, AllocError>
     requires units { length next.now.units.items ≡ p.now.program.functions }
     requires members { length next.now.members.items ≡ p.now.program.functions }
@@ -154,7 +154,7 @@ fn register_sources(alloc: Global, p: &Planned, next: &Bank) -> Result<Vec<Sig>,
     Ok(all)
 }
 
-// What the named wires of the bodies copy.
+// Appends the signals that the named wires of the bodies copy.
 fn add_bodies(all: &mut Vec<Sig>, c: &Checked, controls: &Controls) -> Result<(), AllocError>
     requires ends { length controls.now.ends.items ≡ c.now.program.functions }
     requires loops { length controls.now.loops.items ≡ c.now.program.functions }
@@ -167,7 +167,7 @@ fn add_bodies(all: &mut Vec<Sig>, c: &Checked, controls: &Controls) -> Result<()
     Ok(())
 }
 
-// What the named wires of a site copy, where its first one has this number.
+// Appends the signals that the named wires of a site copy. Its first named wire is `place`.
 fn add_call(
     all: &mut Vec<Sig>,
     p: &Planned,
@@ -196,7 +196,7 @@ fn add_call(
     Ok(())
 }
 
-// What the named wires copy, in their order, where the first one has this number.
+// The signals that the named wires copy, in the order of the wires. The first named wire has the number `first`.
 fn wire_sources(
     alloc: Global,
     p: &Planned,
@@ -222,7 +222,7 @@ fn wire_sources(
     Ok(all)
 }
 
-// The registers and the named wires are all set.
+// Sets all registers and named wires.
 fn set_all(
     alloc: Global,
     net: &mut Net,
@@ -247,7 +247,6 @@ fn set_all(
     Ok(())
 }
 
-// One more output.
 fn add_output(net: &mut Net, name: &str, s: Sig) -> Result<(), NoMemory>
     requires tidy { IsTidy net.old }
     requires lasting { is_temp name.now ≡ false }

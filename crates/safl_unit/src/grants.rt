@@ -1,4 +1,4 @@
-//! Which sites start: where a unit has an arbiter, its lowest site that wants, while the unit rests.
+//! Which sites start: at a unit with an arbiter, the lowest site that wants, if the unit rests.
 
 ghost use Rattle.std.specs.Prelude.{◌≡◌, ℕ, ◌+◌, ◌*◌, ◌<◌, ◌≤◌, ◌&&◌, true, not, cond, length, slice_get, IfOk, OnOk};
 ghost use Rattle.safl_net.specs.Names.{IsTidy};
@@ -18,7 +18,7 @@ use safl_sites::Planned;
 use safl_word::NoMemory;
 use std::alloc::Global;
 
-/// The bit of each site that it starts; the first entry is main's, by its call from outside.
+/// For each site, the bit that says that it starts. The first entry is for the call of main from outside.
 pub fn grants(
     alloc: Global,
     net: &mut Net,
@@ -53,7 +53,7 @@ pub fn grants(
     Ok(goes)
 }
 
-// Main starts by its call from outside, while its unit rests.
+// Main starts if it is called from outside and its unit rests.
 fn main_grant(net: &mut Net, start: Sig, run: Sig) -> Result<Sig, NoMemory>
     requires start { IsSource net.old start 1 }
     requires run { IsSource net.old run 1 }
@@ -67,7 +67,7 @@ fn main_grant(net: &mut Net, start: Sig, run: Sig) -> Result<Sig, NoMemory>
     both(net, start, rests)
 }
 
-// A site starts where it wants; where its unit has an arbiter, only while it is free, of those of its unit.
+// A site starts if it wants. If its unit has an arbiter, it also has to be free among the sites of its unit.
 fn site_grant(
     net: &mut Net,
     arbiter: bool,

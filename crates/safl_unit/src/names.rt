@@ -7,7 +7,7 @@ ghost use Rattle.safl_circuit.specs.Equations.{many};
 use safl_term::Checked;
 use std::alloc::{AllocError, Global};
 
-/// The head and then the name.
+/// A name with a prefix.
 pub fn headed(alloc: Global, head: &str, name: &[u8]) -> Result<String, AllocError>
     requires { IsUtf8 name.now }
     ensures { IfOk result (λ s. string_bytes s ≡ head.now ++ name.now) }
@@ -20,14 +20,14 @@ pub fn headed(alloc: Global, head: &str, name: &[u8]) -> Result<String, AllocErr
     Ok(text)
 }
 
-/// The head and then the number in decimal.
+/// A prefix with a number in decimal.
 pub fn numbered(alloc: Global, head: &str, number: u32) -> Result<String, AllocError>
     ensures { IfOk result (λ s. string_bytes s ≡ head.now ++ decimal number) }
 {
     format!(in alloc; "{head}{number}")
 }
 
-/// The name of the register of a function's parameter.
+/// The name of the register for a parameter of a function.
 pub fn argument_name(alloc: Global, function: &[u8], param: &[u8]) -> Result<String, AllocError>
     requires function { IsUtf8 function.now }
     requires param { IsUtf8 param.now }
@@ -39,7 +39,7 @@ pub fn argument_name(alloc: Global, function: &[u8], param: &[u8]) -> Result<Str
     Ok(text)
 }
 
-/// Whether a function's unit has another member.
+/// Whether the unit of a function has other functions.
 pub fn has_peers(c: &Checked, f: u32) -> bool
     requires { f < c.now.program.functions }
     ensures { result ≡ many c.now.program f }

@@ -19,7 +19,8 @@ use safl_net::{Net, Sig};
 use safl_word::NoMemory;
 use std::alloc::Global;
 
-/// A unit runs from a start to an end, has just finished after an end, and keeps the word of the end.
+/// The next words of a unit's registers. A unit runs from a start to an end, has just finished after an end, and keeps
+/// the word of the end.
 pub fn next_unit(
     net: &mut Net,
     end: &Option<Load>,
@@ -42,14 +43,15 @@ pub fn next_unit(
     Ok(UnitPins { run, fin, res })
 }
 
-/// Who of a unit starts: a function itself, and another member.
+/// Whether a function starts, and whether another function of its unit does.
 #[derive(Clone, Copy)]
 pub struct Entry {
     pub own: Option<Sig>,
     pub rival: Option<Sig>,
 }
 
-/// A function is run from its own entry to that of another member, and keeps its arguments from one load to the next.
+/// The next words of a function's registers. A function runs from its own entry to that of another function of its
+/// unit, and keeps its arguments from one load to the next.
 pub fn next_member(
     alloc: Global,
     net: &mut Net,
@@ -74,7 +76,8 @@ pub fn next_member(
     Ok(MemberPins { at, args })
 }
 
-/// A site was sent from its start on, and has its word from its return on, until it is cleared; it keeps the word.
+/// The next words of a site's registers. A site is sent from its start on, and has its word from its return on, until
+/// it is cleared. It keeps the word.
 pub fn next_site(
     net: &mut Net,
     kept: bool,
@@ -100,7 +103,7 @@ pub fn next_site(
     Ok(SitePins { sent, got, keep })
 }
 
-// Whether its unit runs a function, where the unit has others.
+// The next word of the register that says that the unit runs this function, if the unit has others.
 fn next_at(
     net: &mut Net,
     many: bool,
@@ -125,7 +128,7 @@ fn next_at(
     Ok(next)
 }
 
-// A bit that is set, and cleared where there is a clear.
+// The next word of a bit that `set` sets, and that `clear`, if it is there, clears.
 fn next_bit(net: &mut Net, now: Sig, set: Sig, clear: Option<Sig>) -> Result<Sig, NoMemory>
     requires now { IsSource net.old now 1 }
     requires set { IsSource net.old set 1 }
@@ -141,7 +144,7 @@ fn next_bit(net: &mut Net, now: Sig, set: Sig, clear: Option<Sig>) -> Result<Sig
     Ok(next)
 }
 
-// A bit, or 0 where it is not there.
+// A bit, or 0 if it is absent.
 fn some_bit(net: &mut Net, bit: Option<Sig>) -> Result<Sig, NoMemory>
     requires bit { IsBitIn net.old bit }
     requires room { CanGrow net.old 1 }
@@ -155,7 +158,7 @@ fn some_bit(net: &mut Net, bit: Option<Sig>) -> Result<Sig, NoMemory>
     }
 }
 
-// The word of a load where it is there and is taken, or else this one.
+// The word of a load if it is there and taken, else `word`.
 fn load_word(net: &mut Net, load: &Option<Load>, word: Sig) -> Result<Sig, NoMemory>
     requires fits { (w : ℕ) × FitsIn net.old load.now (w ∷ []) × IsSource net.old word w }
     requires room { CanGrow net.old 1 }

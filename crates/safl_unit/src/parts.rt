@@ -4,7 +4,7 @@ use safl_lower::SitePorts;
 use safl_lower::loads::Load;
 use safl_net::Sig;
 
-/// The registers of a unit.
+/// The registers of a unit, or their next words.
 #[derive(Clone, Copy)]
 pub struct UnitPins {
     pub run: Sig,
@@ -12,14 +12,14 @@ pub struct UnitPins {
     pub res: Sig,
 }
 
-/// The registers of a function: `at`, which counts where its unit has another member, and its arguments.
+/// The registers of a function: `at`, which is used if its unit has other functions, and its arguments.
 #[derive(Drop)]
 pub struct MemberPins {
     pub at: Sig,
     pub args: Vec<Sig>,
 }
 
-/// The registers of a site: `keep` counts where the site keeps its word.
+/// The registers of a site. `keep` is used if the site keeps its word.
 #[derive(Clone, Copy)]
 pub struct SitePins {
     pub sent: Sig,
@@ -27,8 +27,8 @@ pub struct SitePins {
     pub keep: Sig,
 }
 
-/// The signals of the registers, or those of their next words. By function, those of its unit and its own; by site,
-/// where the first entry counts for nothing.
+/// The signals of the registers, or those of their next words: for each function, those of its unit and its own; for
+/// each site its own. The first entry of the sites is not used.
 #[derive(Drop)]
 pub struct Bank {
     pub units: Vec<UnitPins>,
@@ -37,7 +37,7 @@ pub struct Bank {
 }
 
 /// The ports and the registers of a circuit. The registers are numbered from `first_register` on, and the named wires
-/// from `first_wire` on, in their order.
+/// from `first_wire` on, both in order.
 #[derive(Drop)]
 pub struct Pins {
     pub start: Sig,
@@ -47,19 +47,20 @@ pub struct Pins {
     pub first_wire: u32,
 }
 
-/// Of each site, where the first entry counts for nothing: the bit that its value is delivered, and the ports with
-/// which its body is lowered.
+/// For each site, the bit that says that its value is delivered, and its ports for the body that has the site. The
+/// first entries are not used.
 #[derive(Drop)]
 pub struct Returns {
     pub ret: Vec<Sig>,
     pub ports: Vec<SitePorts>,
 }
 
-/// What the bodies come to.
+/// The outcomes of the bodies.
 ///
-/// By function: `ends`, that the body ends, with its word, and `loops`, that a tail call goes to the function, with
-/// its arguments; none where no tail call does. By site: `wants`, that its call is wanted, with its arguments; the
-/// first entry is the call of main from outside, which is wanted by `start` with the words of the ports.
+/// For each function, `ends` says that its body ends, and has the word; `loops` says that a tail call goes to the
+/// function, and has the arguments, or is None if no tail call does. For each site, `wants` says that its call is
+/// wanted, and has the arguments. The first entry of `wants` is the call of main from outside, which is wanted by
+/// `start`, with the words of the ports.
 #[derive(Drop)]
 pub struct Outcomes {
     pub ends: Vec<Load>,
@@ -67,8 +68,8 @@ pub struct Outcomes {
     pub wants: Vec<Load>,
 }
 
-/// What the named wires copy: by function `ends` and `loops`, and by site `wants`, `rets` and `goes`. The first entry
-/// of `goes` is main's; the other first entries by site count for nothing.
+/// The signals that the named wires copy: `ends` and `loops` for each function; `wants`, `rets` and `goes` for each
+/// site. The first entry of `goes` is for main; the other first entries for sites are not used.
 #[derive(Drop)]
 pub struct Controls {
     pub ends: Vec<Sig>,

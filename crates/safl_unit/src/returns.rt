@@ -1,4 +1,4 @@
-//! What the call sites show: their values are delivered, they have returned, and their words.
+//! What the call sites show: whether their values are delivered, whether they have returned, and their words.
 
 ghost use Rattle.std.specs.Prelude.{◌≡◌, ℕ, suc, ◌+◌, ◌*◌, ◌≤◌, ◌&&◌, ◌||◌, not, cond, length, Some, IfOk, OnOk};
 ghost use Rattle.safl_net.specs.Names.{IsTidy};
@@ -18,7 +18,7 @@ use safl_sites::Planned;
 use safl_word::NoMemory;
 use std::alloc::{AllocError, Global};
 
-/// A site's bit that its value is delivered, and its ports.
+/// For a site, the bit that says that its value is delivered, and its ports.
 #[derive(Clone, Copy)]
 pub struct SiteReturn {
     pub ret: Sig,
@@ -47,7 +47,7 @@ pub fn returns(alloc: Global, net: &mut Net, p: &Planned, pins: &Pins) -> Result
     Ok(all)
 }
 
-// The entries of main's call from outside, which count for nothing.
+// The entries of site 0, the call of main from outside. They are not used.
 fn no_returns(alloc: Global, start: Sig) -> Result<Returns, AllocError>
     ensures ret { IfOk result (λ s. length s.ret.items ≡ 1) }
     ensures ports { IfOk result (λ s. length s.ports.items ≡ 1) }
@@ -62,7 +62,7 @@ fn no_returns(alloc: Global, start: Sig) -> Result<Returns, AllocError>
     Ok(Returns { ret, ports })
 }
 
-// What one site shows, whose callee has this unit.
+// What a site shows. `unit` has the registers of the unit that it calls.
 fn site_return(
     net: &mut Net,
     kept: bool,
@@ -91,7 +91,7 @@ fn site_return(
     })
 }
 
-/// The word of a site's unit, or the kept one if the site keeps its word and is not delivered to.
+/// The word of a site: that of its unit, or the kept word if the site keeps its word and none is being delivered.
 pub fn site_word(net: &mut Net, kept: bool, ret: Sig, res: Sig, keep: Sig) -> Result<Sig, NoMemory>
     requires ret { IsSource net.old ret 1 }
     requires words { (w : ℕ) × IsSource net.old res w × IsSource net.old keep w }

@@ -1,4 +1,4 @@
-//! Which functions have another member of their unit that starts.
+//! Rivals: for each function, whether another function of its unit starts.
 
 ghost use Rattle.std.specs.Prelude.{◌≡◌, ℕ, ◌+◌, ◌*◌, ◌<◌, ◌≤◌, List, length, IfOk, OnOk};
 ghost use Rattle.safl_net.specs.declared.cell.Sig.{Sig};
@@ -21,7 +21,7 @@ use safl_sites::Planned;
 use safl_word::NoMemory;
 use std::alloc::Global;
 
-/// By function, that another member of its unit has its bit.
+/// For each function, the bit that says that another function of its unit has its bit 1.
 pub fn function_rivals(
     alloc: Global,
     net: &mut Net,
@@ -48,7 +48,7 @@ pub fn function_rivals(
     Ok(all)
 }
 
-// By unit, the bits of its members, in order.
+// For each unit, the bits of its functions, in order.
 fn unit_entries(
     alloc: Global,
     p: &Planned,
@@ -69,7 +69,7 @@ fn unit_entries(
     Ok(rows)
 }
 
-// Of the bits of a unit, whether another than a member's own is 1; the unit may have no other.
+// Whether another bit of a unit than `own` is 1. None if the unit has no other functions.
 fn member_rival(
     net: &mut Net,
     many: bool,
@@ -93,7 +93,7 @@ fn member_rival(
     }
 }
 
-// The same of several bits.
+// Whether another of several bits than `own` is 1.
 fn several_rival(net: &mut Net, several: Several, own: Option<Sig>) -> Result<Option<Sig>, NoMemory>
     requires several { (row : List Sig) × IsSeveralOf net.old row several }
     requires own { IsBitIn net.old own }

@@ -1,11 +1,11 @@
--- The texts of faults of Verilog files.
+-- The texts of the faults of Verilog files.
 use Rattle.std.specs.Prelude.{ℕ, List, [], ◌∷◌, ◌++◌, codes}
 use Rattle.std.specs.Fmt.{decimal}
 use Rattle.safl_verilog.specs.declared.fault.VRule.{VRule}
 use Rattle.safl_verilog.specs.declared.fault.VRule.TheVariants as rules
 use Rattle.safl_verilog.specs.declared.fault.VFault.{VFault}
 
--- a rule's number and its text
+-- the number of a rule, and its text
 abbrev pub vrule_text : VRule → List ℕ
 vrule_text rules.V01 = codes "V01 foreign byte"
 vrule_text rules.V02 = codes "V02 unexpected token"
@@ -17,11 +17,11 @@ vrule_text rules.V07 = codes "V07 wire without exactly one assign"
 vrule_text rules.V08 = codes "V08 register without exactly one update"
 vrule_text rules.V10 = codes "V10 port missing"
 
--- the width that is wanted and the one that is found
+-- the width that is needed, and the one that was found
 abbrev pub both_widths : VFault → List ℕ
 both_widths f = codes ": " ++ decimal f.first ++ codes " and " ++ decimal f.second
 
--- what a fault's text has after the rule's
+-- what follows the text of the rule in the text of a fault
 abbrev pub vdetail_text : VRule → VFault → List ℕ
 vdetail_text rules.V05 f = both_widths f
 vdetail_text _ f = []

@@ -1,4 +1,4 @@
--- The rules on files: the faults of a file, in the order in which they count. The first one is the file's.
+-- The rules on files: the faults of a file, in the order in which they are reported. The first of them is the file's first fault.
 use Rattle.std.specs.Prelude.{ℕ, ◌+◌, ◌^◌, List, [], ◌∷◌, ◌++◌, map, drop, length, Option, None, Some, Bool, true, false, not, ◌==◌, ◌&&◌, ◌||◌, nat_lt, nat_le, unwrap_or, if◌then◌else◌, codes}
 use Rattle.std.specs.List.{flat_map}
 use Rattle.std.proofs.Common.{bytes_eq}
@@ -25,11 +25,11 @@ where_not false f = f ∷ []
 
 -- ---- numbers
 
--- at most so many digits, and a value below the bound
+-- at most so many digits, of a number below the bound
 abbrev pub is_short : ℕ → List ℕ → Bool
 is_short base w = nat_le (length w) digits_max && nat_lt (value base w) value_bound
 
--- a sized number's digits before the `'`, and what stands after it
+-- the digits of a sized number before the `'`; and what follows it
 abbrev pub before_quote : List ℕ → List ℕ
 before_quote [] = []
 before_quote (c ∷ w) = if c == 39 then [] else c ∷ before_quote w
@@ -42,14 +42,14 @@ abbrev pub base_at : List ℕ → ℕ
 base_at [] = 10
 base_at (c ∷ w) = unwrap_or (base_of c) 10
 
--- its width and its value
+-- the width and the value of a sized number
 abbrev pub literal_width : List ℕ → ℕ
 literal_width w = value 10 (before_quote w)
 
 abbrev pub literal_value : List ℕ → ℕ
 literal_value w = value (base_at (behind_quote w)) (drop 1 (behind_quote w))
 
--- the width is 1 to the greatest, and the value fits it
+-- the width is from 1 to the greatest, and the value fits it
 abbrev pub is_word : ℕ → ℕ → Bool
 is_word width bits = nat_le 1 width && nat_le width max_width && nat_lt bits (2 ^ width)
 
@@ -63,7 +63,7 @@ number_faults n = where_not (is_short 10 n.bytes) (at rules.V06 n.place)
 abbrev pub literal_faults : Spot → List VFault
 literal_faults l = where_not (is_literal l.bytes) (at rules.V06 l.place)
 
--- a range is n down to 0, with n below the greatest width
+-- a range goes from n down to 0, and n is below the greatest width
 abbrev pub is_range : Spot → Spot → Bool
 is_range high low = nat_lt (value 10 high.bytes) max_width && (value 10 low.bytes == 0)
 
@@ -96,7 +96,7 @@ abbrev pub among : List Spot → List ℕ → Bool
 among [] name = false
 among (x ∷ xs) name = bytes_eq x.bytes name || among xs name
 
--- names of the list that stand among those before them
+-- V03 at each name of the list that is also among those before it
 abbrev pub repeat_faults : List Spot → List Spot → List VFault
 repeat_faults before [] = []
 repeat_faults before (x ∷ xs) = where_not (not (among before x.bytes)) (at rules.V03 x.place) ++ repeat_faults (before ++ x ∷ []) xs
@@ -146,7 +146,7 @@ abbrev pub passes : (Declaration → Bool) → Option Declaration → Bool
 passes p None = false
 passes p (Some d) = p d
 
--- a missing range means width 1
+-- the width of a range. Without a range it is 1
 abbrev pub range_width : Option (Spot × Spot) → ℕ
 range_width None = 1
 range_width (Some r) = value 10 r.0.bytes + 1
@@ -165,7 +165,8 @@ header_faults f x = where_not (passes (λ d. is_port d.sort) (find f.declaration
 abbrev pub port_faults : File → Declaration → List VFault
 port_faults f d = where_not (not (is_port d.sort) || among f.header d.name.bytes) (at rules.V10 d.name.place)
 
--- the ports that each file has: `clk`, `rst` and `start` are inputs of width 1, `done` an output of width 1, and `result` an output
+-- the ports that each file has: `clk`, `rst` and `start` are inputs of width 1, `done` is an output of width 1, and `result` is
+-- an output
 abbrev pub has_bit : List Declaration → (Sort → Bool) → List ℕ → Bool
 has_bit ds p name = passes (λ d. p d.sort && (range_width d.range == 1)) (find ds name)
 
@@ -190,7 +191,7 @@ is_reset name = bytes_eq name (codes "rst")
 abbrev pub is_data : Declaration → Bool
 is_data d = is_input d.sort && not (is_clock d.name.bytes) && not (is_reset d.name.bytes)
 
--- such an input, a register or a wire
+-- an input other than the clock and the reset, a register or a wire
 abbrev pub is_signal : Declaration → Bool
 is_signal d = is_data d || is_reg d.sort || is_wire d.sort
 
@@ -200,7 +201,7 @@ is_target d = is_wire d.sort || is_output d.sort
 abbrev pub unfit_faults : List Declaration → Spot → List VFault
 unfit_faults ds x = where_not (passes is_signal (find ds x.bytes)) (at rules.V04 x.place)
 
--- what an expression does, and with which names
+-- the operation of an expression, and the names that are its operands
 abbrev pub operation : Expression → Op
 operation (Literal l) = ops.Const (record { width = literal_width l.bytes; bits = literal_value l.bytes })
 operation (Plain a) = ops.Copy
@@ -228,17 +229,17 @@ is_plain (Choice a b c) = false
 is_plain (Joined a b) = false
 is_plain (Slice a high low) = false
 
--- the width of an expression, or 0 where its operands don't fit
+-- the width of an expression, or 0 if its operands do not fit
 abbrev pub expression_width : List Declaration → Expression → ℕ
 expression_width ds e = unwrap_or (op_width (operation e) (map (λ (a : Spot). width_of ds a.bytes) (operands e))) 0
 
--- what the first assignment to a name assigns
+-- what the first assignment to a name assigns, if there is one
 abbrev pub assigned : List Statement → List ℕ → Option Expression
 assigned [] name = None
 assigned (Assign x e ∷ ss) name = if bytes_eq x.bytes name then Some e else assigned ss name
 assigned (Always clock reset target initial second source ∷ ss) name = assigned ss name
 
--- the literal and the last name of the first update of a register
+-- the literal and the last name of the first update of a register, if there is one
 abbrev pub updated : List Statement → List ℕ → Option (Spot × Spot)
 updated [] name = None
 updated (Assign x e ∷ ss) name = updated ss name
@@ -251,7 +252,7 @@ is_none (Some x) = false
 abbrev pub width_faults : ℕ → ℕ → ℕ → List VFault
 width_faults place wanted found = where_not (wanted == found) (record { rule = rules.V05; place = place; first = wanted; second = found })
 
--- an output is assigned a name alone
+-- an output may be assigned only a name
 abbrev pub may_be_assigned : List Statement → Option Declaration → List ℕ → Expression → Bool
 may_be_assigned before d name e = is_none (assigned before name) && (not (passes (λ d. is_output d.sort) d) || is_plain e)
 
@@ -277,7 +278,7 @@ abbrev pub statement_faults : List Declaration → List Statement → Statement 
 statement_faults ds before (Assign x e) = assign_faults ds before x e
 statement_faults ds before (Always clock reset target initial second source) = always_faults ds before clock reset target initial second source
 
--- statements in text order, each with those before it
+-- the faults of statements in the order of the text, each with the statements before it
 abbrev pub all_statement_faults : List Declaration → List Statement → List Statement → List VFault
 all_statement_faults ds before [] = []
 all_statement_faults ds before (s ∷ ss) = statement_faults ds before s ++ all_statement_faults ds (before ++ s ∷ []) ss
@@ -289,7 +290,7 @@ missing_faults ss d =
     where_not (not (is_target d) || not (is_none (assigned ss d.name.bytes))) (at rules.V07 d.name.place)
     ++ where_not (not (is_reg d.sort) || not (is_none (updated ss d.name.bytes))) (at rules.V08 d.name.place)
 
--- numbers and ranges, names, ports, statements, and what is missing
+-- all faults of a file: of numbers and ranges, names, ports, statements, and of what is missing
 unfoldable pub faults : File → List VFault
 faults f =
     all_number_faults f ++ all_repeat_faults f ++ all_port_faults f ++ all_statement_faults f.declarations [] f.statements

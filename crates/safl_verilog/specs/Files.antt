@@ -1,14 +1,14 @@
--- Files as the grammar reads them: a header, declarations and statements.
+-- Files as syntax trees: a header, declarations and statements.
 use Rattle.std.specs.Prelude.{ℕ, List, Option}
 use Rattle.safl_word.specs.declared.primitive.Primitive.{Primitive}
 use Rattle.safl_verilog.specs.declared.token.Sort.{Sort}
 
--- a name or a number: where it stands, and its bytes
+-- a name or a number: its place and its bytes
 pub record Spot : Type 0 where
   pub place : ℕ
   pub bytes : List ℕ
 
--- what is assigned
+-- what a name is assigned
 pub data Expression : Type 0 where
   Literal : Spot → Expression
   Plain : Spot → Expression

@@ -1,4 +1,4 @@
--- The grammar of the profile. Above each symbol stands its production.
+-- The grammar of the profile. Each production is written above its symbol.
 use Rattle.std.specs.Prelude.{ℕ, List, [], ◌∷◌, ◌++◌, Option, Some, None, if◌then◌else◌}
 use Rattle.safl_grammar.specs.Sets.{Only, within}
 use Rattle.safl_grammar.specs.Syntax.{Syntax, nothing, token, follows, either, many}
@@ -15,7 +15,7 @@ use Rattle.safl_verilog.specs.declared.token.Sort.TheVariants as sorts
 use Rattle.safl_verilog.specs.Tokens.{Terminal}
 use Rattle.safl_verilog.specs.Files.{Spot, Expression, Literal, Plain, Inverted, Binary, Choice, Joined, Slice, Declaration, Statement, Assign, Always, File}
 
--- ---- a number for each kind, by which kinds are told apart; 0 is that of the end
+-- ---- codes: a number for each kind of token, which tells kinds apart. Code 0 is the end
 
 abbrev pub keyword_code : Keyword → ℕ
 keyword_code keywords.Module = 4
@@ -73,11 +73,11 @@ code (Some t) = code_of t.kind
 abbrev pub spot : Terminal → Spot
 spot t = record { place = t.place; bytes = t.bytes }
 
--- a token of these codes, with what it stands for
+-- a token with one of these codes, and the value that it stands for
 abbrev pub classed : {A : Type 0} → List ℕ → (Terminal → A) → Terminal → Option A
 classed codes value t = if within (Only codes) (code_of t.kind) then Some (value t) else None
 
--- the operators stand for what they do with two words
+-- the operators. Each stands for the primitive on two words
 abbrev pub operators : List ℕ
 operators = 40 ∷ 41 ∷ 42 ∷ 43 ∷ 44 ∷ 45 ∷ 46 ∷ 47 ∷ 48 ∷ 49 ∷ 50 ∷ 51 ∷ 52 ∷ 53 ∷ []
 
@@ -101,7 +101,7 @@ abbrev pub primitive_in : TokenKind → Primitive
 primitive_in (kinds.Symbol s) = primitive_of s
 primitive_in _ = prims.Add
 
--- what a declaration's word declares
+-- the keywords of declarations
 abbrev pub sort_codes : List ℕ
 sort_codes = 6 ∷ 7 ∷ 8 ∷ 9 ∷ []
 

@@ -1,4 +1,4 @@
--- What is claimed of files.
+-- The laws of Verilog files.
 use Rattle.std.specs.Prelude.{◌≡◌, ℕ, List, [], ◌++◌, ◌⊎◌, codes}
 use Rattle.safl_net.specs.Netlist.{Netlist}
 use Rattle.safl_net.specs.Arranged.{IsInOrder}
@@ -22,14 +22,15 @@ NetlistOrFault = (text : List ℕ) → ((n : Netlist) × Reads text n) ⊎ ((f :
 abbrev pub NotBoth : Type 0
 NotBoth = (text : List ℕ) (n : Netlist) (f : VFault) → Reads text n → HasFault text f → ⊥
 
--- no shorter prefix of a file is a file
+-- no proper prefix of a file is a file
 abbrev pub NoShorterFile : Type 0
 NoShorterFile = (u v : List Terminal) (a b : File) → IsFile u a → IsFile (u ++ v) b → v ≡ []
 
--- the text that is written of a whole net reads as that net, where its signals stand in this order
+-- the text that is written for a whole net reads as that net, if its signals are in this order
 abbrev pub WrittenReads : Type 0
 WrittenReads = (n : Netlist) → IsNetlist n → IsWhole n → IsInOrder n → Reads (written n) n
 
--- a prefix of the text that is written of any net reads as no netlist, but for the whole text and the text without its last line feed
+-- a prefix of the text that is written for any net reads as no netlist, unless it is the whole text, with or without its last
+-- line feed
 abbrev pub NoShorterText : Type 0
 NoShorterText = (n m : Netlist) (part rest : List ℕ) → IsNetlist n → written n ≡ part ++ rest → Reads part m → (rest ≡ []) ⊎ (rest ≡ codes "\n")

@@ -1,4 +1,4 @@
--- The netlist that a file is.
+-- The netlist that a file reads as.
 use Rattle.std.specs.Prelude.{ℕ, suc, List, [], ◌∷◌, ◌++◌, map, filter, Option, None, Some, if◌then◌else◌}
 use Rattle.std.proofs.Common.{bytes_eq}
 use Rattle.safl_net.specs.Netlist.{Netlist, Signal, Kind, Input, Reg, Wire, Cell}
@@ -7,7 +7,7 @@ use Rattle.safl_verilog.specs.declared.token.Sort.TheVariants as sorts
 use Rattle.safl_verilog.specs.Files.{Spot, Expression, Plain, Declaration, File}
 use Rattle.safl_verilog.specs.Faults.{is_data, is_reg, is_wire, is_output, range_width, literal_value, operation, operands, assigned, updated}
 
--- the declarations of signals: inputs but for the clock and the reset, then registers, then wires
+-- the declarations of signals: inputs other than the clock and the reset, then registers, then wires
 abbrev pub signals_of : List Declaration → List Declaration
 signals_of ds = filter is_data ds ++ filter (λ (d : Declaration). is_reg d.sort) ds ++ filter (λ (d : Declaration). is_wire d.sort) ds
 
@@ -15,7 +15,7 @@ abbrev pub place_of : List Declaration → List ℕ → ℕ
 place_of [] name = 0
 place_of (d ∷ ds) name = if bytes_eq d.name.bytes name then 0 else suc (place_of ds name)
 
--- the number of the signal of a name
+-- the number of the signal with a name
 abbrev pub number_of : List Declaration → List ℕ → ℕ
 number_of ds name = place_of (signals_of ds) name
 
@@ -30,7 +30,8 @@ abbrev pub register_of : List Declaration → Option (Spot × Spot) → Kind
 register_of ds None = Reg 0 None
 register_of ds (Some u) = Reg (literal_value u.0.bytes) (Some (number_of ds u.1.bytes))
 
--- an input is free, a register has its update's number and name, and a wire has what it is assigned
+-- the kind of a signal. An input is free, a register has the number and the next signal of its update, and a wire has what it is
+-- assigned
 abbrev pub kind_of : File → Sort → List ℕ → Kind
 kind_of f sorts.Input name = Input
 kind_of f sorts.Output name = Input
@@ -40,7 +41,7 @@ kind_of f sorts.Wire name = Wire (driven f.declarations (assigned f.statements n
 abbrev pub signal_of : File → Declaration → Signal
 signal_of f d = record { name = d.name.bytes; width = range_width d.range; kind = kind_of f d.sort d.name.bytes }
 
--- an output shows the signal of the name that it is assigned
+-- the number of the signal that an output shows: that with the name that it is assigned
 abbrev pub shown : List Declaration → Option Expression → ℕ
 shown ds (Some (Plain a)) = number_of ds a.bytes
 shown ds _ = 0

@@ -1,4 +1,4 @@
--- The first piece of a text, found from its front.
+-- The first piece of a text.
 use Rattle.std.specs.Prelude.{ℕ, suc, ◌+◌, List, [], ◌∷◌, take, drop, Bool, not, ◌==◌, ◌&&◌, nat_le, Option, None, Some, if◌then◌else◌}
 use Rattle.std.proofs.Common.{bytes_eq}
 use Rattle.safl_word.specs.Numerals.{is_digit}
@@ -12,12 +12,12 @@ use Rattle.safl_verilog.specs.declared.token.TokenKind.{TokenKind}
 use Rattle.safl_verilog.specs.declared.token.TokenKind.TheVariants as kinds
 use Rattle.safl_verilog.specs.Tokens.{keyword_text, symbol_text, name_max, next_base, Piece, Blank, Line, Block, Lexeme}
 
--- how many bytes from the front on pass the test
+-- how many bytes, from the first on, pass the test
 abbrev pub run : (ℕ → Bool) → List ℕ → ℕ
 run p [] = 0
 run p (c ∷ w) = if p c then suc (run p w) else 0
 
--- the first of the list with this text
+-- the first element of a list whose text is this one
 abbrev pub named : {A : Type 0} → (A → List ℕ) → List A → List ℕ → Option A
 named text [] w = None
 named text (x ∷ xs) w = if bytes_eq w (text x) then Some x else named text xs w
@@ -50,7 +50,7 @@ first_bytes kind n w = Some (Lexeme kind (take n w))
 abbrev pub first_word : ℕ → List ℕ → Option Piece
 first_word n w = if nat_le n name_max then first_bytes (word_kind (named keyword_text all_keywords (take n w))) n w else None
 
--- ---- a number, or a sized one
+-- ---- a number, or a sized number
 
 abbrev pub sized_length : ℕ → ℕ → List ℕ → ℕ
 sized_length n base w = n + suc (suc (run (is_digit base) (drop (suc (suc n)) w)))
@@ -59,7 +59,7 @@ abbrev pub first_number : Option ℕ → ℕ → List ℕ → Option Piece
 first_number None n w = first_bytes kinds.Number n w
 first_number (Some base) n w = first_bytes kinds.Sized (sized_length n base w) w
 
--- ---- a symbol: of two bytes, or else of one
+-- ---- a symbol of two bytes, or otherwise of one
 
 abbrev pub one_symbol : ℕ → Option Symbol → Option Piece
 one_symbol c None = None
@@ -75,7 +75,7 @@ first_symbol c (d ∷ w) = two_symbols c d (named symbol_text double_symbols (c 
 
 -- ---- a comment
 
--- how many bytes stand before the first `*/`
+-- how many bytes come before the first `*/`
 abbrev pub one_more : Option ℕ → Option ℕ
 one_more None = None
 one_more (Some n) = Some (suc n)
@@ -94,7 +94,7 @@ first_comment [] = None
 first_comment (c ∷ w) =
     if c == 47 then Some (Line (take (run (λ b. not (b == 10)) w) w)) else if c == 42 then block w (closing w) else None
 
--- ---- the first piece, where there is one
+-- ---- the first piece, if there is one
 
 abbrev pub piece_at : ℕ → List ℕ → Option Piece
 piece_at c w =

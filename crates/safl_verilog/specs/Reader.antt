@@ -1,4 +1,4 @@
--- Reading a file with one token of look-ahead.
+-- Reading a file by recursive descent, with one token of look-ahead.
 use Rattle.std.specs.Prelude.{ℕ, List, [], ◌∷◌, ◌++◌, Option, Some, None, Bool}
 use Rattle.safl_grammar.specs.Sets.{Only, within}
 use Rattle.safl_grammar.specs.Reading.{Reading, read_nothing, read_token, read_follows, read_either, read_many}
@@ -13,7 +13,7 @@ use Rattle.safl_verilog.specs.Tokens.{Terminal}
 use Rattle.safl_verilog.specs.Files.{Spot, Expression, Literal, Plain, Inverted, Binary, Choice, Joined, Slice, Declaration, Statement, Assign, Always, File}
 use Rattle.safl_verilog.specs.Grammar.{code, spot, classed, operators, primitive_in, sort_codes, sort_in, keyword_code, symbol_code}
 
--- whether one of these codes comes next
+-- whether a token with one of these codes comes next
 abbrev pub comes : List ℕ → Option Terminal → Bool
 comes codes h = within (Only codes) (code h)
 

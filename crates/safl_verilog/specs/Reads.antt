@@ -1,4 +1,4 @@
--- What a Verilog file reads as, and its first fault.
+-- Which netlist a Verilog file reads as, and its first fault.
 use Rattle.std.specs.Prelude.{◌≡◌, ℕ, List, [], ◌∷◌, length}
 use Rattle.safl_grammar.specs.Syntax.{Rule}
 use Rattle.safl_grammar.specs.Text.{Spells, Faults}
@@ -11,11 +11,11 @@ use Rattle.safl_verilog.specs.Grammar.{file}
 use Rattle.safl_verilog.specs.Faults.{at, faults}
 use Rattle.safl_verilog.specs.Netlists.{netlist}
 
--- tokens are a file of the grammar
+-- the tokens are this file of the grammar
 abbrev pub IsFile : List Terminal → File → Type 0
 IsFile ts f = Spells (λ n. file) ts f
 
--- the first token such that those up to it begin no file, or the end, with what is left there
+-- the first token such that the tokens up to and including it begin no file, or the end; and the tokens from there on
 abbrev pub HasUnexpected : List Terminal → Rule → List Terminal → Type 0
 HasUnexpected ts e rest = Faults (λ n. file) ts e rest
 
@@ -23,7 +23,7 @@ abbrev pub place_in : List ℕ → List Terminal → ℕ
 place_in text [] = length text
 place_in text (t ∷ rest) = t.place
 
--- the bytes are a file of the grammar that breaks no rule, and this is its netlist
+-- the text is a file of the grammar that breaks no rule, and this is its netlist
 pub record Reads (text : List ℕ) (n : Netlist) : Type 0 where
   pub tokens : List Terminal
   pub cut : HasTokens text tokens
@@ -32,7 +32,7 @@ pub record Reads (text : List ℕ) (n : Netlist) : Type 0 where
   pub kept : faults file ≡ []
   pub means : netlist file ≡ n
 
--- the first fault: of the bytes, else of the tokens, else of the file
+-- the first fault of the bytes; if there is none, of the tokens; if there is none, of the file
 pub data HasFault (text : List ℕ) (f : VFault) : Type 0 where
   lexical : (place : ℕ) → HasLexicalFault text place → f ≡ at rules.V01 place → HasFault text f
   unexpected : (ts rest : List Terminal) (e : Rule) → HasTokens text ts → HasUnexpected ts e rest → f ≡ at rules.V02 (place_in text rest) → HasFault text f

@@ -1,4 +1,4 @@
--- The tokens of a Verilog file: how its bytes are cut, and the first place where they cannot be.
+-- The tokens of a Verilog file: how its bytes are cut into tokens, and the first place where they cannot be.
 use Rattle.std.specs.Prelude.{◌≡◌, ◌≢◌, ℕ, ◌+◌, ◌≤◌, List, [], ◌∷◌, ◌++◌, length, Bool, true, false, not, ◌==◌, ◌&&◌, ◌||◌, Option, None, Some, if◌then◌else◌, codes}
 use Rattle.std.specs.List.{list_all}
 use Rattle.safl_word.specs.Numerals.{is_digit, IsNumeral}
@@ -53,16 +53,16 @@ symbol_text symbols.GreaterEqual = codes ">="
 symbol_text symbols.ShiftLeft = codes "<<"
 symbol_text symbols.ShiftRight = codes ">>"
 
--- the most bytes of an identifier
+-- the greatest length of an identifier in bytes
 abbrev pub name_max : ℕ
 name_max = 200
 
--- no byte comes next that passes the test
+-- the next byte, if there is one, does not pass the test
 abbrev pub stops : (ℕ → Bool) → List ℕ → Bool
 stops p [] = true
 stops p (c ∷ rest) = not (p c)
 
--- the base of digits that come next after a `'` and the letter of the base, if they do
+-- the base, if a `'`, the letter of the base and a digit of it come next
 abbrev pub base_with : Option ℕ → ℕ → Option ℕ
 base_with None d = None
 base_with (Some base) d = if is_digit base d then Some base else None
@@ -73,20 +73,20 @@ next_base (q ∷ []) = None
 next_base (q ∷ (b ∷ [])) = None
 next_base (q ∷ (b ∷ (d ∷ rest))) = if q == 39 then base_with (base_of b) d else None
 
--- a letter or `_`, and then letters, digits, `_` and `$`; at most so many bytes, and no keyword
+-- a letter or `_`, and then letters, digits, `_` and `$`; short enough, and no keyword
 pub record IsIdentifier (w : List ℕ) : Type 0 where
   pub like : is_identifier w ≡ true
   pub short : length w ≤ name_max
   pub free : (k : Keyword) → w ≢ keyword_text k
 
--- a numeral of ten, `'`, the letter of a base and a numeral of that base, before no digit of the base
+-- a decimal numeral, `'`, the letter of a base and a numeral of that base, which no further digit of the base follows
 pub record IsSized (w rest : List ℕ) : Type 0 where
   pub parts : SizedParts
   pub joined : w ≡ sized_text parts
   pub like : IsSizedLike parts
   pub longest : stops (is_digit parts.base) rest ≡ true
 
--- the text is a token of the kind, and none that begins with it and takes more of the rest is one
+-- the text is a token of the kind, and no token begins with it and takes more of the rest
 abbrev pub IsToken : TokenKind → List ℕ → List ℕ → Type 0
 IsToken kinds.Identifier w rest = IsIdentifier w × (stops is_part rest ≡ true)
 IsToken kinds.Number w rest = IsNumeral 10 w × (stops (is_digit 10) rest ≡ true) × (next_base rest ≡ None)
@@ -94,13 +94,13 @@ IsToken kinds.Sized w rest = IsSized w rest
 IsToken (kinds.Keyword k) w rest = (w ≡ keyword_text k) × (stops is_part rest ≡ true)
 IsToken (kinds.Symbol s) w rest = (w ≡ symbol_text s) × ((t : Symbol) (c : ℕ) (v : List ℕ) → rest ≡ c ∷ v → symbol_text t ≢ w ++ c ∷ [])
 
--- a `*` and a `/` stand side by side
+-- whether a `*` is followed by a `/`
 abbrev pub has_close : List ℕ → Bool
 has_close [] = false
 has_close (c ∷ []) = false
 has_close (c ∷ (d ∷ w)) = ((c == 42) && (d == 47)) || has_close (d ∷ w)
 
--- a piece of a file: a blank, a comment to the end of its line, a comment in `/*` and `*/`, or a token
+-- a piece of a file: a blank, a comment to the end of its line, a comment between `/*` and `*/`, or a token
 pub data Piece : Type 0 where
   Blank : ℕ → Piece
   Line : List ℕ → Piece
@@ -117,7 +117,7 @@ abbrev pub text_of_all : List Piece → List ℕ
 text_of_all [] = []
 text_of_all (x ∷ xs) = text_of x ++ text_of_all xs
 
--- `//` runs to the end of the line, and `/*` to the first `*/`
+-- what may follow a piece: a comment with `//` runs to the end of the line, and one with `/*` to the first `*/`
 abbrev pub StandsBefore : Piece → List ℕ → Type 0
 StandsBefore (Blank c) rest = is_blank c ≡ true
 StandsBefore (Line w) rest = (list_all (λ c. not (c == 10)) w ≡ true) × (stops (λ c. not (c == 10)) rest ≡ true)
@@ -128,13 +128,13 @@ abbrev pub StandAll : List Piece → List ℕ → Type 0
 StandAll [] rest = Unit {0}
 StandAll (x ∷ xs) rest = StandsBefore x (text_of_all xs ++ rest) × StandAll xs rest
 
--- a token as the grammar sees it: where it begins, what it is, and its bytes
+-- a token as the grammar sees it: its place, its kind, and its bytes
 pub record Terminal : Type 0 where
   pub place : ℕ
   pub kind : TokenKind
   pub bytes : List ℕ
 
--- the tokens among the pieces that begin at a place
+-- the tokens among some pieces. The first piece begins at this place
 abbrev pub tokens_from : ℕ → List Piece → List Terminal
 tokens_from p [] = []
 tokens_from p (Blank c ∷ xs) = tokens_from (p + 1) xs
@@ -142,15 +142,15 @@ tokens_from p (Line w ∷ xs) = tokens_from (p + length (text_of (Line w))) xs
 tokens_from p (Block w ∷ xs) = tokens_from (p + length (text_of (Block w))) xs
 tokens_from p (Lexeme k w ∷ xs) = record { place = p; kind = k; bytes = w } ∷ tokens_from (p + length w) xs
 
--- the text is cut into pieces, and these are its tokens
+-- the text is cut into these pieces, and these are its tokens
 pub record HasTokens (text : List ℕ) (ts : List Terminal) : Type 0 where
   pub pieces : List Piece
   pub joined : text ≡ text_of_all pieces
   pub stand : StandAll pieces []
   pub tokens : ts ≡ tokens_from 0 pieces
 
--- pieces stand before the place, and no piece begins there: as at a foreign byte, an identifier of too many bytes,
--- or a `/*` without its end
+-- Pieces come before the place, and no piece begins there, as at a foreign byte, at an identifier that is too long, or at a `/*`
+-- without its end.
 pub record HasLexicalFault (text : List ℕ) (place : ℕ) : Type 0 where
   pub pieces : List Piece
   pub rest : List ℕ

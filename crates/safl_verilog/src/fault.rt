@@ -2,9 +2,9 @@
 
 ghost use Rattle.std.specs.Prelude.{◌≡◌};
 
-/// A rule on Verilog files, but for the one on combinational loops:
-/// V01 foreign byte, V02 unexpected token, V03 name twice, V04 unknown name, V05 widths differ, V06 bad literal,
-/// V07 wire without exactly one assign, V08 register without exactly one update, V10 port missing.
+/// A rule on Verilog files, except for the one on combinational loops: V01 foreign byte, V02 unexpected token, V03 name
+/// twice, V04 unknown name, V05 widths differ, V06 bad literal, V07 wire without exactly one assign, V08 register
+/// without exactly one update, V10 port missing.
 #[derive(Clone, Copy, Debug, PartialEq, Eq)]
 pub enum VRule {
     V01,
@@ -18,8 +18,8 @@ pub enum VRule {
     V10,
 }
 
-/// A rule that a file breaks, and the place: a byte offset. V05 carries the width that is wanted and the one that
-/// is found, in bits; the other rules carry 0 and 0.
+/// A rule that a file breaks, and the place, as a byte offset. V05 has the width that is needed and the one that was
+/// found, in bits; the numbers of other rules are 0 and 0.
 #[derive(Clone, Copy, Debug, PartialEq, Eq)]
 pub struct VFault {
     pub rule: VRule,
@@ -36,7 +36,7 @@ impl VFault {
         VFault::with(rule, place, 0, 0)
     }
 
-    /// The fault of a rule with its two numbers.
+    /// The fault of a rule that has two numbers.
     pub fn with(rule: VRule, place: u32, first: u32, second: u32) -> VFault
         ensures { result ≡ record { rule = rule; place = place; first = first; second = second } }
     {

@@ -7,7 +7,7 @@ use crate::fault::{VFault, VRule};
 use safl_word::{NoMemory, Raw, push_decimal};
 use std::alloc::Global;
 
-// The rule's number and its text.
+// The number of the rule, and its text.
 fn rule_text(rule: VRule) -> &'static str
     ensures { result.now ≡ vrule_text rule }
 {
@@ -24,7 +24,7 @@ fn rule_text(rule: VRule) -> &'static str
     }
 }
 
-/// Appends the text of a fault without its place, as `V05 widths differ: 8 and 4`.
+/// Appends the text of a fault without its place, such as `V05 widths differ: 8 and 4`.
 pub fn push_vfault(fault: VFault, out: &mut Vec<u8>) -> Result<(), NoMemory>
     ensures { OnOk result (out.new.items ≡ out.old.items ++ vfault_text fault) }
 {

@@ -1,4 +1,4 @@
-//! Verilog files of the profile: tokens, the grammar, the rules, and the netlist that a file is.
+//! Verilog files of the profile: their tokens, grammar and rules, and the netlist that a file reads as.
 #![tactic(auto)]
 
 pub mod fault;

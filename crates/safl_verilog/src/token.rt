@@ -1,6 +1,6 @@
 //! Tokens of a Verilog file.
 
-/// A word that names nothing.
+/// A keyword: a word that cannot be a name.
 #[derive(Clone, Copy, Debug, PartialEq, Eq)]
 pub enum Keyword {
     Module,
@@ -48,7 +48,7 @@ pub enum Symbol {
     ShiftRight,
 }
 
-/// What a token is. A number is a run of decimal digits; a sized number has a width and a number, as `8'hff`.
+/// What a token is. A number is a run of decimal digits; a sized number has a width, a base and digits, as in `8'hff`.
 #[derive(Clone, Copy, Debug, PartialEq, Eq)]
 pub enum TokenKind {
     Identifier,
@@ -58,7 +58,7 @@ pub enum TokenKind {
     Symbol(Symbol),
 }
 
-/// A token: the file's bytes from `start` up to `stop`, and what they are.
+/// A token: its kind, and the bytes from `start` up to `stop`.
 #[derive(Clone, Copy, Debug, PartialEq, Eq)]
 pub struct Token {
     pub start: u32,

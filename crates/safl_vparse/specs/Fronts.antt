@@ -1,4 +1,4 @@
--- What stands at the front of a text.
+-- What a text begins with.
 use Rattle.std.specs.Prelude.{◌≡◌, ℕ, ◌+◌, List, ◌++◌, length, drop, Option, Some, None}
 use Rattle.safl_verilog.specs.declared.token.Token.{Token}
 use Rattle.safl_verilog.specs.declared.fault.VRule.TheVariants as rules
@@ -10,7 +10,7 @@ use Rattle.safl_vparse.specs.declared.front.Front.{Front}
 use Rattle.safl_vparse.specs.declared.front.Front.TheVariants as fronts
 use Rattle.safl_vparse.specs.Shown.{shown_all}
 
--- a piece by its length, or no piece
+-- a piece by its length, or that there is none
 abbrev pub measured : Option Piece → Front
 measured None = fronts.Stuck
 measured (Some (Blank c)) = fronts.Gap 1
@@ -18,7 +18,7 @@ measured (Some (Line w)) = fronts.Gap (2 + length w)
 measured (Some (Block w)) = fronts.Gap (length w + 4)
 measured (Some (Lexeme k w)) = fronts.Found k (length w)
 
--- the bytes up to a place are cut, and these are their tokens
+-- the bytes up to place p are cut into pieces, and these are their tokens
 pub record IsCutUpTo (text : List ℕ) (p : ℕ) (ts : List Token) : Type 0 where
   pub pieces : List Piece
   pub joined : text ≡ text_of_all pieces ++ drop p text
@@ -26,7 +26,7 @@ pub record IsCutUpTo (text : List ℕ) (p : ℕ) (ts : List Token) : Type 0 wher
   pub place : p ≡ length (text_of_all pieces)
   pub tokens : shown_all text ts ≡ tokens_from 0 pieces
 
--- V01 at the first place where no piece begins; lack of memory says nothing of the text
+-- the error is V01 at the first place where no piece begins, or out of memory
 abbrev pub RefusesBytes : List ℕ → VErr → Type 0
 RefusesBytes text (errors.Refused f) = HasLexicalFault text f.place × (f ≡ at rules.V01 f.place)
 RefusesBytes text errors.NoMemory = Unit {0}

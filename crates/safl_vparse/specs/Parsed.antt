@@ -1,4 +1,4 @@
--- What parsing a text answers.
+-- The answers of parsing a text.
 use Rattle.std.specs.Prelude.{◌≡◌, ℕ, List, Result, Ok, Err}
 use Rattle.safl_grammar.specs.Syntax.{Rule}
 use Rattle.safl_verilog.specs.declared.fault.VRule.TheVariants as rules
@@ -12,28 +12,28 @@ use Rattle.safl_vparse.specs.declared.error.VErr.TheVariants as errors
 use Rattle.safl_vparse.specs.declared.file.File.{File}
 use Rattle.safl_vparse.specs.Shown.{shown_file}
 
--- the text is cut into tokens, which are this file
+-- the text is cut into tokens, and these are this file
 pub record IsFileText (text : List ℕ) (f : Files.File) : Type 0 where
   pub tokens : List Terminal
   pub cut : HasTokens text tokens
   pub derived : IsFile tokens f
 
--- the text has this first fault; out of memory says nothing of it
+-- the error is the first fault of the text, or out of memory
 abbrev pub RefusesText : List ℕ → VErr → Type 0
 RefusesText text (errors.Refused f) = HasFault text f
 RefusesText text errors.NoMemory = Unit {0}
 
--- the first fault of the bytes, V01, or else of their tokens, V02
+-- the first fault of the bytes, V01, or otherwise of the tokens, V02
 pub data IsUnparsed (text : List ℕ) (f : VFault) : Type 0 where
   misspelled : HasLexicalFault text f.place → f ≡ at rules.V01 f.place → IsUnparsed text f
   ungrammatical : (ts rest : List Terminal) (e : Rule) → HasTokens text ts → HasUnexpected ts e rest → f ≡ at rules.V02 (place_in text rest) → IsUnparsed text f
 
--- the text is no file of the grammar, for this fault and not for one of a file; out of memory says nothing of it
+-- The text is no file of the grammar, and the error is its V01 or V02, or out of memory.
 abbrev pub RefusesUnparsed : List ℕ → VErr → Type 0
 RefusesUnparsed text (errors.Refused f) = IsUnparsed text f
 RefusesUnparsed text errors.NoMemory = Unit {0}
 
--- the file that the tokens are, or V02 at the first unexpected one
+-- the result is the file that the tokens are, or V02 at the first unexpected token, or out of memory
 abbrev pub TokensAnswer : List ℕ → List Terminal → Result File VErr → Type 0
 TokensAnswer text ts (Ok f) = IsFile ts (shown_file text f)
 TokensAnswer text ts (Err (errors.Refused f)) = (e : Rule) × (rest : List Terminal) × HasUnexpected ts e rest × (f ≡ at rules.V02 (place_in text rest))

@@ -1,4 +1,4 @@
--- What a function of the parser returned is what a reading gives on the tokens.
+-- A function of the parser returns what a reader gives for the tokens.
 use Rattle.std.specs.Prelude.{List, Option, Result, Vec}
 use Rattle.std.specs.Global.{Global}
 use Rattle.std.specs.Borrow.{Bor}
@@ -21,62 +21,54 @@ use Rattle.safl_vparse.specs.declared.parser.ReadError.{ReadError}
 use Rattle.safl_vparse.specs.Shown.{shown_all, shown_spot, shown_spots, shown_expression, shown_range, shown_declaration, shown_declarations, shown_statement, shown_statements, shown_file}
 use Rattle.safl_vparse.specs.Gives.{Gives}
 
--- what a span of the text that is parsed shows
+-- the name or number that a span of the parsed text shows
 abbrev pub spot_in : Parser → Span → Spot
 spot_in p s = shown_spot p.text.now s
 
--- the reading of what follows the update at reset, behind these names and this word
+-- the reader of what follows the assignment at reset, with these names and this number before it
 abbrev pub otherwise_in : Parser → (clock reset target initial : Span) → Reading Terminal Files.Statement
 otherwise_in p clock reset target initial = read_otherwise (spot_in p clock) (spot_in p reset) (spot_in p target) (spot_in p initial)
 
--- what a function of the parser returns: the value and the tokens that are left, or why it is not read
+-- what a function of the parser returns: the value and the rest of the tokens, or why they cannot be read
 abbrev pub Returned : Type 0 → Type 0
 Returned X = Result (X × Bor (List Token)) ReadError
 
--- seen by a view that shows the value and the tokens that are left
+-- the result, seen by this view, is the value that the reader gives and the rest of the tokens
 abbrev pub Reads : {X Y : Type 0} → Parser → List Token → (X → Y × List Token) → Result X ReadError → Reading Terminal Y → Type 0
 Reads p ts view result reading = Gives p.text.now view result (reading (shown_all p.text.now ts))
 
--- a token is read as what its span shows: a name, a number, a keyword or a symbol
+-- a single token is read, and its span shows what the reader gives
 abbrev pub ReadsSpot : Parser → List Token → Returned Span → Reading Terminal Spot → Type 0
 ReadsSpot p ts result reading = Reads p ts (λ x. (spot_in p x.0, x.1.now)) result reading
 
--- an operator is read
 abbrev pub ReadsOperator : Parser → List Token → Returned Primitive → Reading Terminal Primitive → Type 0
 ReadsOperator p ts result reading = Reads p ts (λ x. (x.0, x.1.now)) result reading
 
--- the word that begins a declaration is read
+-- the keyword of a declaration is read
 abbrev pub ReadsSort : Parser → List Token → Returned Sort → Reading Terminal Sort → Type 0
 ReadsSort p ts result reading = Reads p ts (λ x. (x.0, x.1.now)) result reading
 
--- an expression is read
 abbrev pub ReadsExpression : Parser → List Token → Returned Expression → Reading Terminal Files.Expression → Type 0
 ReadsExpression p ts result reading = Reads p ts (λ x. (shown_expression p.text.now x.0, x.1.now)) result reading
 
--- a range is read, where there is one
+-- a range is read, if there is one
 abbrev pub ReadsRange : Parser → List Token → Returned (Option Range) → Reading Terminal (Option (Spot × Spot)) → Type 0
 ReadsRange p ts result reading = Reads p ts (λ x. (shown_range p.text.now x.0, x.1.now)) result reading
 
--- a declaration is read
 abbrev pub ReadsDeclaration : Parser → List Token → Returned Declaration → Reading Terminal Files.Declaration → Type 0
 ReadsDeclaration p ts result reading = Reads p ts (λ x. (shown_declaration p.text.now x.0, x.1.now)) result reading
 
--- a statement is read
 abbrev pub ReadsStatement : Parser → List Token → Returned Statement → Reading Terminal Files.Statement → Type 0
 ReadsStatement p ts result reading = Reads p ts (λ x. (shown_statement p.text.now x.0, x.1.now)) result reading
 
--- names are read
 abbrev pub ReadsNames : Parser → List Token → Returned (Vec Span Global) → Reading Terminal (List Spot) → Type 0
 ReadsNames p ts result reading = Reads p ts (λ x. (shown_spots p.text.now x.0.items, x.1.now)) result reading
 
--- declarations are read
 abbrev pub ReadsDeclarations : Parser → List Token → Returned (Vec Declaration Global) → Reading Terminal (List Files.Declaration) → Type 0
 ReadsDeclarations p ts result reading = Reads p ts (λ x. (shown_declarations p.text.now x.0.items, x.1.now)) result reading
 
--- statements are read
 abbrev pub ReadsStatements : Parser → List Token → Returned (Vec Statement Global) → Reading Terminal (List Files.Statement) → Type 0
 ReadsStatements p ts result reading = Reads p ts (λ x. (shown_statements p.text.now x.0.items, x.1.now)) result reading
 
--- a file is read
 abbrev pub ReadsFile : Parser → List Token → Returned File → Reading Terminal Files.File → Type 0
 ReadsFile p ts result reading = Reads p ts (λ x. (shown_file p.text.now x.0, x.1.now)) result reading

@@ -1,4 +1,4 @@
--- What tokens and files of a text show.
+-- The tokens and files of a text, as plain values.
 use Rattle.std.specs.Prelude.{ℕ, ◌-◌, List, map, take, drop, Option, Some, None}
 use Rattle.safl_verilog.specs.declared.token.Token.{Token}
 use Rattle.safl_verilog.specs.Tokens.{Terminal}
@@ -13,7 +13,7 @@ use Rattle.safl_vparse.specs.declared.file.Statement.{Statement}
 use Rattle.safl_vparse.specs.declared.file.Statement.TheVariants as stated
 use Rattle.safl_vparse.specs.declared.file.File.{File}
 
--- the bytes of a token are those of the text from its start to its stop
+-- a token of a text, with its bytes: those from its start to its stop
 abbrev pub shown : List ℕ → Token → Terminal
 shown text t = record { place = t.start; kind = t.kind; bytes = take (t.stop - t.start) (drop t.start text) }
 

@@ -1,4 +1,4 @@
-//! Why a file isn't read.
+//! Why a Verilog file cannot be read.
 
 ghost use Rattle.std.specs.Prelude.{◌≡◌};
 ghost use Rattle.safl_vparse.specs.declared.error.VErr.TheVariants as errors;
@@ -6,7 +6,7 @@ ghost use Rattle.safl_vparse.specs.declared.error.VErr.TheVariants as errors;
 use safl_verilog::VFault;
 use std::alloc::{AllocError, AllocFailed};
 
-/// The first fault of a file, or lack of memory.
+/// The first fault of a file, or out of memory.
 #[derive(Clone, Copy, Debug, PartialEq, Eq)]
 pub enum VErr {
     Refused(VFault),

@@ -1,16 +1,16 @@
-//! Files as they are parsed.
+//! The syntax tree of a Verilog file.
 
 use safl_verilog::Sort;
 use safl_word::Primitive;
 
-/// A name or a number: the text's bytes from `start` up to `stop`.
+/// A name or a number, as the bytes of the text from `start` up to `stop`.
 #[derive(Clone, Copy, Debug, PartialEq, Eq)]
 pub struct Span {
     pub start: u32,
     pub stop: u32,
 }
 
-/// What is assigned.
+/// What a name is assigned.
 #[derive(Clone, Copy, Debug, PartialEq, Eq)]
 pub enum Expression {
     Literal(Span),
@@ -22,7 +22,7 @@ pub enum Expression {
     Slice(Span, Span, Span),
 }
 
-/// A range, as it is written: its two numbers.
+/// A range of bits, as it is written: two numbers.
 #[derive(Clone, Copy, Debug, PartialEq, Eq)]
 pub struct Range {
     pub high: Span,

@@ -1,4 +1,4 @@
-//! What stands at the front of a text.
+//! What a text begins with.
 
 ghost use Rattle.std.specs.Prelude.{◌≡◌, ◌+◌, ◌<◌, ◌≤◌, ◌∷◌, [], ◌==◌, ◌&&◌, ◌^◌, not, length, take, drop, slice_index, slice_get, true, false, Some, None, ◌++◌, IfSome};
 ghost use Rattle.safl_word.specs.Numerals.{is_digit};
@@ -12,10 +12,11 @@ use crate::symbols::{keyword_of, lone_symbol, symbol_pair};
 use safl_verilog::TokenKind;
 use safl_word::bytes::{base_of, digits_length, is_blank, is_digit, line_length};
 
-// The most bytes of an identifier.
+// The greatest length of an identifier in bytes.
 const NAME_MAX: usize = 200;
 
-/// What a text begins with: so many bytes of a blank or a comment, a token of so many bytes, or no piece.
+/// What a text begins with: a blank or a comment of so many bytes, a token and its length in bytes, or something that
+/// is neither.
 #[derive(Clone, Copy, Debug, PartialEq, Eq)]
 pub enum Front {
     Gap(usize),
@@ -82,7 +83,7 @@ fn number(text: &[u8]) -> Front
     }
 }
 
-// The base of digits that come next after a `'` and the letter of the base.
+// The base, if a `'`, the letter of the base and a digit come next.
 fn next_base(text: &[u8]) -> Option<u8>
     ensures { result ≡ next_base text.now }
 {
@@ -122,7 +123,7 @@ fn single(c: u8) -> Front
     }
 }
 
-// A comment. These are the bytes after its first `/`.
+// The comment whose bytes after its first `/` are these.
 fn comment(rest: &[u8]) -> Front
     requires { length rest.now < 2 ^ 32 }
     ensures { result ≡ measured (first_comment rest.now) }
@@ -144,7 +145,7 @@ fn comment(rest: &[u8]) -> Front
     }
 }
 
-// How many bytes stand before the first `*/`.
+// How many bytes come before the first `*/`.
 fn closing(text: &[u8]) -> Option<usize>
     ensures found { result ≡ closing text.now }
     ensures within { IfSome result (λ n. n ≤ length text.now) }
@@ -157,21 +158,21 @@ fn closing(text: &[u8]) -> Option<usize>
     None
 }
 
-// A letter or `_`.
+// Whether a byte may begin an identifier: a letter or `_`.
 fn is_start(c: u8) -> bool
     ensures { result ≡ is_start c }
 {
     matches!(c, b'A'..=b'Z' | b'a'..=b'z' | b'_')
 }
 
-// A letter, `_`, a digit or `$`.
+// Whether a byte may be in an identifier: a letter, `_`, a digit or `$`.
 fn is_part(c: u8) -> bool
     ensures { result ≡ is_part c }
 {
     matches!(c, b'A'..=b'Z' | b'a'..=b'z' | b'_' | b'0'..=b'9' | b'$')
 }
 
-// How many bytes of an identifier the text begins with.
+// The length of the identifier that a text begins with, in bytes.
 fn part_length(text: &[u8]) -> usize
     ensures { IsRun is_part text.now result }
 {

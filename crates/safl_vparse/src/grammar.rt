@@ -1,4 +1,4 @@
-//! Expressions, declarations, statements and files.
+//! Reading expressions, declarations, statements and whole files.
 
 ghost use Rattle.std.specs.Prelude.{◌≡◌, [], ◌∷◌, IfOk};
 ghost use Rattle.safl_verilog.specs.Reader.{read_constant, read_inverted, read_binary, read_choice, read_joined, read_slice, read_named, read_cell, read_written_range, read_range, read_decl, read_assign, read_at_reset, read_always, read_stmt, read_another_id, read_ids, read_another_decl, read_decls, read_another_stmt, read_stmts, read_body, read_file, read_text};
@@ -72,7 +72,7 @@ impl<'s> Parser<'s> {
         Ok((Expression::Slice(a, high, low), rest))
     }
 
-    // What begins with a name.
+    // Reads an expression that begins with a name.
     #[tactic(auto, unfolding(safl_verilog::specs::Reader::read_named))]
     fn named<'a>(&self, tokens: &'a [Token]) -> Read<'a, Expression>
         ensures { ReadsExpression self.now tokens.now result read_named }
@@ -150,7 +150,7 @@ impl<'s> Parser<'s> {
         Ok((Statement::Assign(target, expression), rest))
     }
 
-    // What follows the update at reset.
+    // Reads an update from after its assignment at reset.
     #[tactic(auto, unfolding(safl_verilog::specs::Reader::read_otherwise))]
     fn otherwise<'a>(
         &self,
@@ -180,7 +180,7 @@ impl<'s> Parser<'s> {
         ))
     }
 
-    // What follows the clock.
+    // Reads an update from after the clock in its header.
     #[tactic(auto, unfolding(safl_verilog::specs::Reader::read_at_reset))]
     fn at_reset<'a>(&self, clock: Span, tokens: &'a [Token]) -> Read<'a, Statement>
         ensures { ReadsStatement self.now tokens.now result (read_at_reset (spot_in self.now clock)) }
@@ -230,7 +230,7 @@ impl<'s> Parser<'s> {
         Ok((names, rest))
     }
 
-    // The names of the header.
+    // Reads the names of the header.
     #[tactic(auto, unfolding(safl_verilog::specs::Reader::read_ids))]
     fn names<'a>(&self, tokens: &'a [Token]) -> Read<'a, Vec<Span>>
         ensures { ReadsNames self.now tokens.now result read_ids }
@@ -300,7 +300,7 @@ impl<'s> Parser<'s> {
         Ok((statements, rest))
     }
 
-    // What follows the header.
+    // Reads what follows the header.
     #[tactic(auto, unfolding(safl_verilog::specs::Reader::read_body))]
     fn body<'a>(&self, header: Vec<Span>, tokens: &'a [Token]) -> Read<'a, File>
         ensures { ReadsFile self.now tokens.now result (read_body (shown_spots self.now.text.now header.items)) }
@@ -331,7 +331,7 @@ impl<'s> Parser<'s> {
         self.body(header, rest)
     }
 
-    /// The file that all tokens are.
+    /// Reads all tokens as a file.
     #[tactic(auto, unfolding(safl_verilog::specs::Reader::read_text))]
     pub fn whole<'a>(&self, tokens: &'a [Token]) -> Read<'a, File>
         ensures { ReadsFile self.now tokens.now result read_text }

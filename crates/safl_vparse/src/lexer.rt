@@ -1,4 +1,4 @@
-//! From bytes to tokens.
+//! The lexer: from bytes to tokens.
 
 ghost use Rattle.std.specs.Prelude.{◌≡◌, ◌<◌, ◌^◌, length, IfOk, IfErr};
 ghost use Rattle.safl_verilog.specs.Tokens.{HasTokens};
@@ -10,7 +10,8 @@ use crate::front::{Front, front_of};
 use safl_verilog::{Token, VFault, VRule};
 use std::alloc::Global;
 
-/// The tokens of a file of fewer than 2^32 bytes, in order, or V01 at the first place where no piece begins.
+/// The tokens of a file of fewer than 2^32 bytes, in order. V01 at the first place where no token, blank or comment
+/// begins.
 pub fn lex(alloc: Global, text: &[u8]) -> Result<Vec<Token>, VErr>
     requires { length text.now < 2 ^ 32 }
     ensures tokens { IfOk result (λ tokens. HasTokens text.now (shown_all text.now tokens.items)) }

@@ -1,4 +1,4 @@
-//! From the text of a Verilog file to the net that it reads as, or to its first fault.
+//! The lexer and the parser of Verilog files.
 #![tactic(auto)]
 
 mod error;

@@ -11,8 +11,8 @@ use safl_word::bytes::digit;
 use safl_word::word::{DIGITS_MAX, WIDTH_MAX};
 use safl_word::{Raw, Word};
 
-/// The number of digits of a base: None exactly where they are more than `DIGITS_MAX`, or the number is not below 2 to
-/// the 128th.
+/// The number that some digits spell. None exactly if there are more than `DIGITS_MAX`, or the number is not below
+/// 2^128.
 pub fn bounded(base: u8, bytes: &[u8]) -> Option<Raw>
     requires { 1 ≤ base }
     ensures { result ≡ bounded_value base bytes.now }
@@ -27,7 +27,7 @@ pub fn bounded(base: u8, bytes: &[u8]) -> Option<Raw>
     Some(number)
 }
 
-// The number of digits and a further one.
+// The number with one more digit.
 fn followed(base: u8, number: Raw, c: u8) -> Option<Raw>
     ensures some { IsSome result ↔ (number * base + digit c < 2 ^ WIDTH_MAX) }
     ensures value { IfSome result (λ n. n ≡ number * base + digit c) }
@@ -37,8 +37,8 @@ fn followed(base: u8, number: Raw, c: u8) -> Option<Raw>
         .checked_add(Raw::from(digit(c)))
 }
 
-/// The word of a sized number: None exactly where a run of its digits is too long, a number is too great, or the width
-/// isn't that of a word which the value fits.
+/// The word of a sized number. None exactly if it has too many digits, a number that is too large, a width that no word
+/// has, or a value that does not fit the width.
 pub fn literal(bytes: &[u8]) -> Option<Word>
     ensures { result ≡ literal_word bytes.now }
 {
@@ -60,7 +60,7 @@ fn split_at_quote(bytes: &[u8]) -> (&[u8], &[u8])
     (&bytes[..n], without_first(&bytes[n..]))
 }
 
-// How many bytes stand before the `'`.
+// How many bytes come before the `'`.
 fn quote_at(bytes: &[u8]) -> usize
     ensures { IsRun (λ c. not (c == 39)) bytes.now result }
 {
@@ -81,7 +81,7 @@ fn without_first(bytes: &[u8]) -> &[u8]
     }
 }
 
-// The base of what stands after the `'`.
+// The base that the letter after the `'` stands for.
 fn base_at(behind: &[u8]) -> u8
     ensures base { result ≡ base_at behind.now }
     ensures some { 1 ≤ result }

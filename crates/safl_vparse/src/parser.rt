@@ -1,4 +1,4 @@
-//! Single tokens.
+//! Reading single tokens.
 
 ghost use Rattle.std.specs.Prelude.{◌≡◌, [], ◌∷◌, Some, None, if◌then◌else◌};
 ghost use Rattle.safl_grammar.specs.Sets.{Only, within};
@@ -14,21 +14,21 @@ use safl_verilog::{Keyword, Sort, Symbol, Token, TokenKind};
 use safl_word::Primitive;
 use std::alloc::{AllocError, AllocFailed, Global};
 
-/// A text that is parsed, and where memory comes from.
+/// The parser of a text: the text's bytes, and the allocator.
 #[derive(Clone, Copy, Debug)]
 pub struct Parser<'s> {
     pub alloc: Global,
     pub text: &'s [u8],
 }
 
-/// Memory ran out, or the first of these tokens is unexpected, or the end where none is left.
+/// Memory ran out, or the first of these tokens is unexpected. If there are none, the end of the text is.
 #[derive(Debug, Drop)]
 pub enum ReadError<'a> {
     NoMemory,
     Unexpected(&'a [Token]),
 }
 
-/// The value at the beginning of some tokens and the tokens after it, or why it is not read.
+/// What some tokens begin with and the tokens after it, or why they cannot be read.
 pub type Read<'a, T> = Result<(T, &'a [Token]), ReadError<'a>>;
 
 impl<'a> From<AllocError> for ReadError<'a> {
@@ -47,7 +47,7 @@ impl<'a, T: Drop> From<AllocFailed<T>> for ReadError<'a> {
     }
 }
 
-// What an operator does with two words.
+// The operator with this symbol between two operands.
 fn operator_of(symbol: Symbol) -> Option<Primitive>
     ensures { result ≡ (if within (Only operators) (symbol_code symbol) then Some (primitive_of symbol) else None) }
 {
@@ -79,7 +79,7 @@ fn operator_in(kind: TokenKind) -> Option<Primitive>
     }
 }
 
-// What a declaration's word declares.
+// What the keyword of a declaration declares.
 fn sort_of(keyword: Keyword) -> Option<Sort>
     ensures { result ≡ (if within (Only sort_codes) (keyword_code keyword) then Some (sort_of keyword) else None) }
 {
@@ -110,7 +110,6 @@ fn span(token: &Token) -> Span
     }
 }
 
-// Whether a token is of this kind.
 #[tactic(auto, using(crate::proofs::KindCodes::class_of))]
 fn is_of(token: &Token, kind: TokenKind) -> bool
     ensures { result ≡ within (Only (code_of kind ∷ [])) (code_of token.now.kind) }
@@ -157,7 +156,7 @@ impl<'s> Parser<'s> {
             || self.comes(tokens, TokenKind::Keyword(Keyword::Always))
     }
 
-    // A token of this kind.
+    // Reads a token of this kind. Returns its bytes.
     fn of_kind<'a>(&self, tokens: &'a [Token], kind: TokenKind) -> Read<'a, Span>
         ensures { ReadsSpot self.now tokens.now result (read_code (code_of kind)) }
     {
@@ -167,42 +166,42 @@ impl<'s> Parser<'s> {
         }
     }
 
-    /// A keyword.
+    /// Reads a keyword.
     pub fn word<'a>(&self, tokens: &'a [Token], keyword: Keyword) -> Read<'a, Span>
         ensures { ReadsSpot self.now tokens.now result (read_word keyword) }
     {
         self.of_kind(tokens, TokenKind::Keyword(keyword))
     }
 
-    /// A symbol.
+    /// Reads a symbol.
     pub fn symbol<'a>(&self, tokens: &'a [Token], symbol: Symbol) -> Read<'a, Span>
         ensures { ReadsSpot self.now tokens.now result (read_symbol symbol) }
     {
         self.of_kind(tokens, TokenKind::Symbol(symbol))
     }
 
-    /// An identifier.
+    /// Reads an identifier.
     pub fn identifier<'a>(&self, tokens: &'a [Token]) -> Read<'a, Span>
         ensures { ReadsSpot self.now tokens.now result (read_code 1) }
     {
         self.of_kind(tokens, TokenKind::Identifier)
     }
 
-    /// A number.
+    /// Reads a number.
     pub fn number<'a>(&self, tokens: &'a [Token]) -> Read<'a, Span>
         ensures { ReadsSpot self.now tokens.now result (read_code 2) }
     {
         self.of_kind(tokens, TokenKind::Number)
     }
 
-    /// A sized number.
+    /// Reads a sized number.
     pub fn literal<'a>(&self, tokens: &'a [Token]) -> Read<'a, Span>
         ensures { ReadsSpot self.now tokens.now result (read_code 3) }
     {
         self.of_kind(tokens, TokenKind::Sized)
     }
 
-    /// An operator.
+    /// Reads an operator.
     pub fn operator<'a>(&self, tokens: &'a [Token]) -> Read<'a, Primitive>
         ensures { ReadsOperator self.now tokens.now result read_operator }
     {
@@ -215,7 +214,7 @@ impl<'s> Parser<'s> {
         }
     }
 
-    /// The word that begins a declaration.
+    /// Reads the keyword of a declaration.
     pub fn sort<'a>(&self, tokens: &'a [Token]) -> Read<'a, Sort>
         ensures { ReadsSort self.now tokens.now result read_sort }
     {

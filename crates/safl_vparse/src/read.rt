@@ -1,4 +1,4 @@
-//! From bytes to a file.
+//! Parsing: from the bytes of a text to a file of the grammar.
 
 ghost use Rattle.std.specs.Prelude.{◌≡◌, ◌<◌, ◌^◌, length, IfOk, IfErr};
 ghost use Rattle.safl_verilog.specs.Tokens.{HasTokens};
@@ -13,8 +13,8 @@ use crate::parser::{Parser, ReadError};
 use safl_verilog::{Token, VFault, VRule};
 use std::alloc::Global;
 
-/// The file of the grammar that a text of fewer than 2^32 bytes is, or its first fault of the rules V01 and V02. It
-/// answers no other rule, so it refuses no file of the grammar unless memory runs out.
+/// The file of the grammar that a text of fewer than 2^32 bytes is, or its first fault by the rules V01 and V02. No
+/// other rule is checked, so every file of the grammar is read, unless memory runs out.
 pub fn parse(alloc: Global, text: &[u8]) -> Result<File, VErr>
     requires { length text.now < 2 ^ 32 }
     ensures parsed { IfOk result (λ f. IsFileText text.now (shown_file text.now f)) }
@@ -41,7 +41,7 @@ fn parse_tokens(alloc: Global, text: &[u8], tokens: &[Token]) -> Result<File, VE
     }
 }
 
-// Where the first of the tokens stands, or where the text ends.
+// The place of the first token in `rest`, or the end of the text if there are none.
 fn place_of(text: &[u8], rest: &[Token]) -> u32
     requires { length text.now < 2 ^ 32 }
     ensures { result ≡ place_in text.now (shown_all text.now rest.now) }

@@ -7,7 +7,7 @@ ghost use Rattle.safl_verilog.specs.declared.token.Symbol.{Symbol};
 
 use safl_verilog::{Keyword, Symbol};
 
-/// The keyword of this text, if there is one.
+/// The keyword with this text, if there is one.
 pub fn keyword_of(text: &[u8]) -> Option<Keyword>
     ensures some { IfSome result (λ k. text.now ≡ keyword_text k) }
     ensures none { IfNone result ((k : Keyword) → text.now ≢ keyword_text k) }
@@ -28,7 +28,7 @@ pub fn keyword_of(text: &[u8]) -> Option<Keyword>
     }
 }
 
-/// The symbol of this one byte, if there is one.
+/// The symbol of this single byte, if there is one.
 pub fn lone_symbol(c: u8) -> Option<Symbol>
     ensures some { IfSome result (λ s. c ∷ [] ≡ symbol_text s) }
     ensures none { IfNone result ((s : Symbol) → c ∷ [] ≢ symbol_text s) }

@@ -8,12 +8,12 @@ abbrev pub first : List VFault → Option VFault
 first [] = None
 first (f ∷ fs) = Some f
 
--- a refusal names the first fault; lack of memory says nothing of them
+-- the error is the first fault of the list, or out of memory
 abbrev pub Refuses : List VFault → VErr → Type 0
 Refuses faults (errors.Refused f) = Some f ≡ first faults
 Refuses faults errors.NoMemory = Unit {0}
 
--- there is no fault, or the first one is refused
+-- there is no fault, or the error is the first one, or out of memory
 abbrev pub Answers : {A : Type 0} → List VFault → Result A VErr → Type 0
 Answers faults (Ok x) = faults ≡ []
 Answers faults (Err e) = Refuses faults e

@@ -13,11 +13,11 @@ shown_keys ks = map (λ (k : Bor (List ℕ)). k.now) ks
 abbrev pub bytes_of_all : List Spot → List (List ℕ)
 bytes_of_all xs = map (λ (x : Spot). x.bytes) xs
 
--- a name is one of the list
+-- whether a name is in the list
 abbrev pub has : List (List ℕ) → List ℕ → Bool
 has names name = list_any (bytes_eq name) names
 
--- one more name, if it is new
+-- the list with one more name, if that is new
 abbrev pub with_new : List (List ℕ) → List ℕ → Bool → List (List ℕ)
 with_new names name new = if new then names ++ name ∷ [] else names
 

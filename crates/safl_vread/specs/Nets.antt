@@ -1,4 +1,4 @@
--- The net of declarations and what drives them.
+-- The net that is made of declarations and what drives them.
 use Rattle.std.specs.Prelude.{◌≡◌, ℕ, zero, suc, ◌<◌, List, [], ◌∷◌, ◌++◌, map, length, All, Option, Some, None, true, false, ◌||◌, slice_get, slice_index, if◌then◌else◌}
 use Rattle.safl_net.specs.Netlist.{Netlist, Signal, Kind, Input, Reg, Wire, width_of}
 use Rattle.safl_net.specs.Names.{is_good, named_signal}
@@ -12,7 +12,7 @@ use Rattle.safl_vread.specs.declared.driver.Driver.{Driver}
 use Rattle.safl_vread.specs.declared.driver.Driver.TheVariants as driver
 use Rattle.safl_vread.specs.Drivers.{places_of}
 
--- a declaration of this sort and width has what it needs, from some of so many places
+-- a declaration of this sort and width has a driver that fits it, with places below this number
 abbrev pub Fits : ℕ → Sort → ℕ → Driver → Type 0
 Fits count sorts.Input width v = Unit {0}
 Fits count sorts.Output width (driver.Cell op (operand.One p)) = p < count
@@ -25,7 +25,7 @@ Fits count sorts.Wire width _ = ⊥
 abbrev pub AllFit : List Declaration → List Driver → Type 0
 AllFit ds vs = (i : ℕ) (d : Declaration) (v : Driver) → slice_get ds i ≡ Some d → slice_get vs i ≡ Some v → Fits (length ds) d.sort (range_width d.range) v
 
--- a place is that of a signal's declaration
+-- the declaration at a place is that of a signal
 pub record IsSignalAt (ds : List Declaration) (p : ℕ) : Type 0 where
   pub declared : Declaration
   pub there : slice_get ds p ≡ Some declared
@@ -38,7 +38,7 @@ AreSignalsAt ds (p ∷ ps) = IsSignalAt ds p × AreSignalsAt ds ps
 abbrev pub width_at : List Declaration → ℕ → ℕ
 width_at ds p = width_in (slice_get ds p)
 
--- an operation works on signals and gives a word of this width, and a next signal has this width
+-- an operation works on signals and has this width, and a next signal has this width
 abbrev pub Suits : List Declaration → ℕ → Driver → Type 0
 Suits ds width driver.Open = Unit {0}
 Suits ds width (driver.Cell op xs) = AreSignalsAt ds (places_of xs) × (op_width op (map (width_at ds) (places_of xs)) ≡ Some width)
@@ -47,13 +47,13 @@ Suits ds width (driver.Next w p) = IsSignalAt ds p × (width_at ds p ≡ width)
 abbrev pub AllSuit : List Declaration → List Driver → Type 0
 AllSuit ds vs = (i : ℕ) (d : Declaration) (v : Driver) → slice_get ds i ≡ Some d → slice_get vs i ≡ Some v → Suits ds (range_width d.range) v
 
--- the same of the signals of a net
+-- an operation works on signals of the net and has this width, and a next signal has this width
 abbrev pub SuitsIn : Netlist → List ℕ → ℕ → Driver → Type 0
 SuitsIn n ns s driver.Open = Unit {0}
 SuitsIn n ns s (driver.Cell op xs) = op_width op (map (λ p. width_of n (slice_index ns p)) (places_of xs)) ≡ Some (width_of n s)
 SuitsIn n ns s (driver.Next w p) = width_of n (slice_index ns p) ≡ width_of n s
 
--- names of signals and outputs are good
+-- the names of signals and outputs are good
 abbrev pub GoodNames : List Declaration → Type 0
 GoodNames ds = (i : ℕ) (d : Declaration) → slice_get ds i ≡ Some d → (is_signal d || is_output d.sort) ≡ true → is_good d.name.bytes ≡ true
 
@@ -62,7 +62,7 @@ abbrev pub HasNewOutputs : List Declaration → List Signal → Type 0
 HasNewOutputs ds gs =
     (i : ℕ) → (d : Declaration) → slice_get ds i ≡ Some d → is_output d.sort ≡ true → named_signal gs d.name.bytes ≡ false
 
--- what a signal of this sort is, by the numbers of the signals of places
+-- the kind of a signal of this sort, given the numbers of the signals at places
 abbrev pub kind_with : List ℕ → Sort → Driver → Kind
 kind_with ns sorts.Input v = Input
 kind_with ns sorts.Output v = Input
@@ -71,7 +71,7 @@ kind_with ns sorts.Reg _ = Input
 kind_with ns sorts.Wire (driver.Cell op xs) = Wire (Some (record { op = op; operands = map (slice_index ns) (places_of xs) }))
 kind_with ns sorts.Wire _ = Wire None
 
--- the kind before what drives the signal is set
+-- the kind of a signal that is not set yet
 abbrev pub opened_kind : Kind → Kind
 opened_kind Input = Input
 opened_kind (Reg init next) = Reg init None
@@ -87,21 +87,21 @@ abbrev pub signal_in : List ℕ → Option Declaration → Option Driver → Sig
 signal_in ns (Some d) (Some v) = signal_with ns d v
 signal_in ns _ _ = record { name = []; width = 0; kind = Input }
 
--- the signal of a place
+-- the signal at a place
 abbrev pub signal_at : List Declaration → List Driver → List ℕ → ℕ → Signal
 signal_at ds vs ns p = signal_in ns (slice_get ds p) (slice_get vs p)
 
--- the signals of places
+-- the signals at some places
 abbrev pub signals_at : List Declaration → List Driver → List ℕ → List ℕ → List Signal
 signals_at ds vs ns order = map (signal_at ds vs ns) order
 
--- the first so many signals are as they are, and the others are open
+-- the first `count` signals are set, and the others are not
 abbrev pub partly : ℕ → List Signal → List Signal
 partly zero gs = map opened gs
 partly (suc s) [] = []
 partly (suc s) (g ∷ gs) = g ∷ partly s gs
 
--- what an output with this driver shows
+-- the number of the signal that an output with this driver shows
 abbrev pub shown_with : List ℕ → Driver → ℕ
 shown_with ns (driver.Cell op (operand.One p)) = slice_index ns p
 shown_with ns _ = 0
@@ -109,7 +109,7 @@ shown_with ns _ = 0
 abbrev pub output_with : List ℕ → Declaration → Driver → List (List ℕ × ℕ)
 output_with ns d v = if is_output d.sort then (d.name.bytes, shown_with ns v) ∷ [] else []
 
--- the outputs among declarations
+-- the outputs of some declarations
 abbrev pub outputs_with : List ℕ → List Declaration → List Driver → List (List ℕ × ℕ)
 outputs_with ns [] vs = []
 outputs_with ns (d ∷ ds) [] = []

@@ -1,4 +1,4 @@
--- The parts of a file, and the faults after those on numbers and on names that stand twice.
+-- The parts of a file, and its faults other than those on numbers and on names that are declared twice.
 use Rattle.std.specs.Prelude.{ℕ, List, [], ◌++◌}
 use Rattle.std.specs.List.{flat_map}
 use Rattle.safl_verilog.specs.declared.fault.VFault.{VFault}

@@ -1,4 +1,4 @@
-//! Expressions, and their widths.
+//! Expressions: their operations, operands and widths.
 
 ghost use Rattle.std.specs.Prelude.{◌≡◌, [], ◌≤◌, ◌<◌, slice_index, length, ◌∷◌, All, IfOk, IfSome, IfNone, Some, None, unwrap_or, map};
 ghost use Rattle.std.specs.List.{flat_map};
@@ -19,7 +19,7 @@ use safl_vparse::numbers::{bounded, literal};
 use safl_vparse::{Expression, Span};
 use safl_word::Primitive;
 
-/// The signal of a name, or V04 at it.
+/// The signal of a name. V04 if there is none.
 pub fn signal(scope: &Scope, name: Span) -> Result<Item, VFault>
     ensures { Chosen (declared_in scope.now) (spot_in scope.now name) is_signal (at rules.V04 name.start) result }
 {
@@ -35,7 +35,7 @@ pub fn signal(scope: &Scope, name: Span) -> Result<Item, VFault>
     }
 }
 
-/// The places of the signals of an expression's names, or V04 at the first that isn't one.
+/// The places of the signals that an expression names. V04 at the first name that is no signal.
 pub fn operands_of(scope: &Scope, e: &Expression) -> Result<Operands, VFault>
     ensures faults { Judges (flat_map (unfit_faults (declared_in scope.now)) (operands (expression_in scope.now e.now))) result }
     ensures places { IfOk result (λ xs. AreAt (declared_in scope.now) (places_of xs) (operands (expression_in scope.now e.now))) }
@@ -78,8 +78,8 @@ fn three_operands(scope: &Scope, a: Span, b: Span, c: Span) -> Result<Operands, 
     Ok(Operands::Three(a.place, b.place, c.place))
 }
 
-/// The operation of an expression whose numbers keep their rules; None only where a slice begins or ends above the
-/// greatest width.
+/// The operation of an expression whose numbers keep their rules. None only if a slice has a bit above the greatest
+/// width.
 pub fn operation_of(text: &[u8], e: &Expression) -> Option<Op>
     requires { expression_number_faults (shown_expression text.now e.now) ≡ [] }
     ensures some { IfSome result (λ op. op ≡ operation (shown_expression text.now e.now)) }
@@ -111,7 +111,7 @@ fn slice_of(text: &[u8], high: Span, low: Span) -> Option<Op>
     }
 }
 
-// A number below 128.
+// The value of a number that is below 128.
 fn index_of(text: &[u8], number: Span) -> Option<u8>
     requires { number_faults (shown_spot text.now number) ≡ [] }
     ensures some { IfSome result (λ n. n ≡ value 10 (shown_spot text.now number).bytes) }
@@ -124,7 +124,7 @@ fn index_of(text: &[u8], number: Span) -> Option<u8>
     }
 }
 
-// The width of an operation on the signals of these places, in bits; 0 where they don't fit.
+// The width in bits of an operation on the signals at these places, or 0 if they do not fit.
 fn width_of(scope: &Scope, op: Op, operands: Operands) -> u8
     requires { All (λ p. p < length scope.now.declarations.now) (places_of operands) }
     ensures { result ≡ unwrap_or (op_width op (map (λ p. slice_index scope.now.widths.items p) (places_of operands))) 0 }
@@ -142,7 +142,7 @@ fn width_of(scope: &Scope, op: Op, operands: Operands) -> u8
     }
 }
 
-/// The width of an expression with this operation on the signals of these places, in bits; 0 where they don't fit.
+/// The width in bits of an expression with this operation, on the signals at these places, or 0 if they do not fit.
 pub fn expression_width(scope: &Scope, e: &Expression, op: Option<Op>, places: Operands) -> u8
     requires places { AreAt (declared_in scope.now) (places_of places) (operands (expression_in scope.now e.now)) }
     requires some { IfSome op (λ op. op ≡ operation (expression_in scope.now e.now)) }

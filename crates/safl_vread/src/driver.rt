@@ -3,7 +3,7 @@
 use safl_net::Op;
 use safl_word::Word;
 
-/// The places of declared names.
+/// The places of the declared names that are operands.
 #[derive(Clone, Copy, Debug, PartialEq, Eq)]
 pub enum Operands {
     None,
@@ -12,8 +12,8 @@ pub enum Operands {
     Three(usize, usize, usize),
 }
 
-/// What drives a declared name: nothing yet, an operation on declared names, or a word at reset and the name of a
-/// place.
+/// What drives a declared name: nothing yet; an operation on declared names; or, for a register, its word at reset and
+/// the place of its next signal.
 #[derive(Clone, Copy, Debug, PartialEq, Eq)]
 pub enum Driver {
     Open,

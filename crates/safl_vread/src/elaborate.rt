@@ -1,4 +1,4 @@
-//! What a file of the grammar declares and drives.
+//! Elaboration: what a file of the grammar declares, and what drives it.
 
 ghost use Rattle.std.specs.Prelude.{◌≡◌, [], IfOk};
 ghost use Rattle.std.specs.List.{flat_map};
@@ -27,8 +27,8 @@ pub struct Elaborated<'t> {
     pub drivers: Vec<Driver>,
 }
 
-/// What a file of the grammar declares and what drives each declared name, where it keeps all rules; else its first
-/// fault.
+/// Elaborates a file of the grammar: what it declares, and what drives each declared name. If it breaks a rule, its
+/// first fault.
 pub fn elaborate<'t>(alloc: Global, text: &'t [u8], file: &'t File) -> Result<Elaborated<'t>, VErr>
     ensures faults { Answers (faults (shown_file text.now file.now)) result }
     ensures text { IfOk result (λ e. e.scope.text.now ≡ text.now) }
@@ -65,7 +65,8 @@ fn elaborate_parts<'t>(
     Ok(Elaborated { scope, drivers })
 }
 
-// The rules after those on numbers and on names that stand twice; what drives each declared name where they are kept.
+// Checks all rules but those on numbers and on names that are declared twice. If they hold, gives what drives each
+// declared name.
 fn all_drivers(
     alloc: Global,
     scope: &Scope,
@@ -88,7 +89,7 @@ fn all_drivers(
     }
 }
 
-// What is declared, or V03 at the first name that stands twice.
+// What a file declares. V03 at the first name that is declared twice.
 fn scope_of<'t>(
     alloc: Global,
     text: &'t [u8],

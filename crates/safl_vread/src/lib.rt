@@ -1,4 +1,4 @@
-//! From the text of a Verilog file to the net that it reads as, or to its first fault.
+//! The reader of Verilog files: from a text to the net that it reads as, or to its first fault.
 #![tactic(auto)]
 
 mod cells;

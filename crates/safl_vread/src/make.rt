@@ -1,4 +1,4 @@
-//! The net of what a file declares and drives.
+//! Making the net of what a file declares and drives.
 
 ghost use Rattle.std.specs.Prelude.{◌≡◌, ℕ, ◌<◌, ◌≤◌, List, [], ◌∷◌, map, length, All, Some, None, true, false, slice_index, IfOk, OnOk};
 ghost use Rattle.safl_net.specs.Names.{is_good, has_name};
@@ -23,7 +23,7 @@ use safl_verilog::Sort;
 use safl_vparse::Declaration;
 use std::alloc::{AllocError, Global};
 
-/// The net of a file that keeps all rules, by what it declares and what drives each declared name.
+/// The net of a file that keeps all rules, from what it declares and what drives each declared name.
 pub fn net_of(alloc: Global, scope: &Scope, drivers: &[Driver]) -> Result<Net, AllocError>
     requires full { length drivers.now ≡ length scope.now.declarations.now }
     requires fit { AllFit (declared_in scope.now) drivers.now }
@@ -42,7 +42,7 @@ pub fn net_of(alloc: Global, scope: &Scope, drivers: &[Driver]) -> Result<Net, A
     Ok(net)
 }
 
-// The signals of these places, which are still open.
+// Adds the signals at these places, in this order. They are set later.
 fn declare(
     net: &mut Net,
     scope: &Scope,
@@ -66,7 +66,7 @@ fn declare(
     Ok(())
 }
 
-// The next signal, which is still open.
+// Adds a signal, which is set later.
 fn declare_one(
     net: &mut Net,
     text: &[u8],
@@ -98,7 +98,7 @@ fn declare_one(
     }
 }
 
-// Sets what drives the signals of these places.
+// Sets the cells and next signals of the signals at these places.
 fn connect(net: &mut Net, scope: &Scope, drivers: &[Driver], order: &[usize], numbers: &[u32])
     requires full { length drivers.now ≡ length scope.now.declarations.now }
     requires fit { AllFit (declared_in scope.now) drivers.now }
@@ -115,7 +115,7 @@ fn connect(net: &mut Net, scope: &Scope, drivers: &[Driver], order: &[usize], nu
     }
 }
 
-// Sets what drives a signal.
+// Sets the cell or the next signal of a signal.
 fn connect_one(net: &mut Net, s: Sig, sort: Sort, driver: &Driver, numbers: &[u32])
     requires fits { (w : ℕ) × Fits (length numbers.now) sort w driver.now }
     requires suits { SuitsIn net.old numbers.now s.0 driver.now }
@@ -145,7 +145,7 @@ fn set_next(net: &mut Net, r: Sig, s: Sig)
     }
 }
 
-// Sets the cell of a wire, on the signals of these places.
+// Sets the cell of a wire, with the signals at these places as its operands.
 fn set_cell(net: &mut Net, s: Sig, op: Op, operands: Operands, numbers: &[u32])
     requires open { kind_at net.old s.0 ≡ Wire None }
     requires within { All (λ p. p < length numbers.now) (places_of operands) }
@@ -167,7 +167,7 @@ fn set_cell(net: &mut Net, s: Sig, op: Op, operands: Operands, numbers: &[u32])
     }
 }
 
-// The outputs among the declarations.
+// Adds an output for each declaration of one.
 fn show(net: &mut Net, scope: &Scope, drivers: &[Driver], numbers: &[u32]) -> Result<(), AllocError>
     requires full { length drivers.now ≡ length scope.now.declarations.now }
     requires fit { AllFit (declared_in scope.now) drivers.now }
@@ -185,7 +185,7 @@ fn show(net: &mut Net, scope: &Scope, drivers: &[Driver], numbers: &[u32]) -> Re
     Ok(())
 }
 
-// One more output, where this is declared as one.
+// Adds an output, if this declaration is one of an output.
 fn show_one(
     net: &mut Net,
     text: &[u8],

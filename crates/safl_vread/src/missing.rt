@@ -14,7 +14,8 @@ use crate::spans::fault_at;
 use safl_verilog::{Sort, VFault, VRule};
 use safl_vparse::Declaration;
 
-/// V07 or V08 at the first declared name that the statements left without a word; these are its drivers after them.
+/// V07 or V08 at the first declared name that no statement drives. `drivers` says what drives each name after all
+/// statements.
 pub fn missing_fault(scope: &Scope, drivers: &[Driver]) -> Option<VFault>
     requires { length drivers.now ≡ length scope.now.declarations.now }
     ensures { (ss : List Stated) → HasDrivers (declared_in scope.now) ss drivers.now → result ≡ first (flat_map (missing_faults ss) (declared_in scope.now)) }

@@ -1,4 +1,4 @@
-//! Names in the order in which they stand, and the rule that none stands twice.
+//! Lists of different names, and the rule that no name is listed or declared twice.
 
 ghost use Rattle.std.specs.Prelude.{◌≡◌, [], IfOk};
 ghost use Rattle.safl_verilog.specs.Faults.{repeat_faults, declared_names};
@@ -13,7 +13,7 @@ use safl_vparse::{Declaration, Span, VErr};
 use std::alloc::{AllocError, Global};
 use std::marker::Model;
 
-/// Names in order, all different.
+/// A list of different names, in order.
 #[derive(Drop)]
 pub struct Names<'t> {
     set: IndexSet<&'t [u8]>,
@@ -41,7 +41,7 @@ impl<'t> Names<'t> {
         }
     }
 
-    // Adds a name that is new, and says whether it is.
+    // Appends a name if it is new, and says whether it is.
     fn add(&mut self, name: &'t [u8]) -> Result<bool, AllocError>
         ensures new { IfOk result (λ new. new ≡ not (has self.old name.now)) }
         ensures names { IfOk result (λ new. self.new ≡ with_new self.old name.now new) }
@@ -50,7 +50,7 @@ impl<'t> Names<'t> {
         Ok(added)
     }
 
-    /// The place of a name, where it is one of these.
+    /// The place of a name in the list, if it is there.
     pub fn place(&self, name: &[u8]) -> Option<usize>
         ensures place { result ≡ position (bytes_eq name.now) self.now }
         ensures within { IfSome result (λ i. i < length self.now) }
@@ -58,7 +58,7 @@ impl<'t> Names<'t> {
         self.set.get_index_of(name)
     }
 
-    /// Whether a name is one of these.
+    /// Whether a name is in the list.
     pub fn has(&self, name: &[u8]) -> bool
         ensures { result ≡ has self.now name.now }
     {
@@ -66,7 +66,7 @@ impl<'t> Names<'t> {
     }
 }
 
-/// The names of the header, or V03 at the first that stands twice.
+/// The names of the header. V03 at the first that is there twice.
 pub fn header_names<'t>(alloc: Global, text: &'t [u8], header: &[Span]) -> Result<Names<'t>, VErr>
     ensures faults { Answers (repeat_faults [] (shown_spots text.now header.now)) result }
     ensures names { IfOk result (λ names. names ≡ bytes_of_all (shown_spots text.now header.now)) }
@@ -80,7 +80,7 @@ pub fn header_names<'t>(alloc: Global, text: &'t [u8], header: &[Span]) -> Resul
     Ok(names)
 }
 
-/// The names that are declared, or V03 at the first that stands twice.
+/// The declared names. V03 at the first that is declared twice.
 pub fn declared_names<'t>(
     alloc: Global,
     text: &'t [u8],

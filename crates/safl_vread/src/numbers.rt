@@ -113,7 +113,7 @@ fn literal_fault(text: &[u8], number: Span) -> Option<VFault>
     }
 }
 
-// Whether the digits count 0, however many they are.
+// Whether the digits spell 0, however many there are.
 fn is_zero(bytes: &[u8]) -> bool
     ensures { result ≡ (value 10 bytes.now == 0) }
 {

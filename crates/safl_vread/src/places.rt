@@ -1,4 +1,4 @@
-//! Places of declarations, and numbers of signals.
+//! The order of signals: from the places of declarations to the numbers of signals.
 
 ghost use Rattle.std.specs.Prelude.{◌≡◌, ◌<◌, ◌^◌, length, IfOk, OnOk};
 ghost use Rattle.safl_verilog.specs.Netlists.{signals_of};
@@ -12,8 +12,8 @@ use safl_verilog::Sort;
 use safl_vparse::Declaration;
 use std::alloc::{AllocError, Global};
 
-/// The places of the declarations of signals in the order of the signals' numbers: inputs but for the clock and the
-/// reset, then registers, then wires.
+/// The places of the declarations of signals, in the order of the signals' numbers: first inputs other than the clock
+/// and the reset, then registers, then wires.
 pub fn order_of(alloc: Global, scope: &Scope) -> Result<Vec<usize>, AllocError>
     ensures { IfOk result (λ order. IsOrder (declared_in scope.now) order.items) }
 {
@@ -24,7 +24,7 @@ pub fn order_of(alloc: Global, scope: &Scope) -> Result<Vec<usize>, AllocError>
     Ok(order)
 }
 
-// The places of the signals of this sort, after those before.
+// Appends the places of the signals of one sort.
 fn add_places(scope: &Scope, sort: Sort, order: &mut Vec<usize>) -> Result<(), AllocError>
     ensures { OnOk result (AddsPlaces (declared_in scope.now) sort order.old.items order.new.items) }
 {
@@ -48,7 +48,7 @@ fn is_of(text: &[u8], sort: Sort, d: &Declaration) -> bool
     }
 }
 
-/// For each declaration the number of its signal, where it is that of one.
+/// For each declaration the number of its signal, if it declares one.
 pub fn numbers_of(alloc: Global, scope: &Scope, order: &[usize]) -> Result<Vec<u32>, AllocError>
     requires order { IsOrder (declared_in scope.now) order.now }
     requires some { 0 < length order.now }

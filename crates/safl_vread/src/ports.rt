@@ -1,5 +1,6 @@
-//! The rule on ports: the header lists the inputs and outputs that are declared, and those that each file has are among
-//! them.
+//! The rule on ports.
+//!
+//! The header lists exactly the declared inputs and outputs, and among them are the ports that each file has.
 
 ghost use Rattle.std.specs.Prelude.{◌≡◌, ◌==◌, ◌&&◌, ◌||◌, not, List};
 ghost use Rattle.std.specs.List.{flat_map};
@@ -16,7 +17,7 @@ use crate::spans::{bytes_of, fault_at};
 use safl_verilog::{Sort, VFault, VRule};
 use safl_vparse::{Declaration, Span};
 
-/// The first fault of V10 of a file with this header, whose names are those that are listed.
+/// The first fault by rule V10. `listed` has the names of the header.
 pub fn port_fault(scope: &Scope, header: &[Span], listed: &Names) -> Option<VFault>
     requires { listed.now ≡ bytes_of_all (spots_in scope.now header.now) }
     ensures { result ≡ first (all_port_faults (file_in scope.now header.now)) }
@@ -36,7 +37,7 @@ pub fn port_fault(scope: &Scope, header: &[Span], listed: &Names) -> Option<VFau
     }
 }
 
-// At a name of the header that isn't declared as a port.
+// V10 at the first name of the header that is not declared as a port.
 fn undeclared_fault(scope: &Scope, header: &[Span]) -> Option<VFault>
     ensures { result ≡ first (flat_map (header_faults (file_in scope.now header.now)) (spots_in scope.now header.now)) }
 {
@@ -48,7 +49,7 @@ fn undeclared_fault(scope: &Scope, header: &[Span]) -> Option<VFault>
     None
 }
 
-// At a declared port that the header doesn't list.
+// V10 at the first declared port that the header does not list.
 fn unlisted_fault(scope: &Scope, header: &[Span], listed: &Names) -> Option<VFault>
     requires { listed.now ≡ bytes_of_all (spots_in scope.now header.now) }
     ensures { result ≡ first (flat_map (port_faults (file_in scope.now header.now)) (declared_in scope.now)) }
@@ -67,7 +68,7 @@ fn is_listed(text: &[u8], d: &Declaration, listed: &Names) -> bool
     !is_port(d.sort) || listed.has(bytes_of(text, d.name))
 }
 
-// `clk`, `rst` and `start` are inputs of width 1, `done` is an output of width 1, and `result` is an output.
+// Whether `clk`, `rst` and `start` are inputs of width 1, `done` is an output of width 1, and `result` is an output.
 fn has_ports(scope: &Scope) -> bool
     ensures { result ≡ has_ports (declared_in scope.now) }
 {

@@ -13,8 +13,8 @@ use safl_vparse::numbers::bounded;
 use safl_vparse::{Declaration, Range};
 use std::alloc::{AllocError, Global};
 
-/// What a name is declared as: the place of its declaration, its sort, its width in bits, and whether it is that of a
-/// signal: an input but for the clock and the reset, a register or a wire.
+/// The declaration of a name: its place, its sort, its width in bits, and whether it is that of a signal: a register, a
+/// wire, or an input other than the clock and the reset.
 #[derive(Clone, Copy, Debug, PartialEq, Eq)]
 pub struct Item {
     pub place: usize,
@@ -41,7 +41,7 @@ impl<'t> Scope<'t> {
     ghost use Rattle.safl_verilog.specs.Faults.{find};
     ghost use Rattle.safl_vread.specs.Scopes.{Describes, declared_in};
 
-    /// What a name is declared as.
+    /// The declaration of a name, if there is one.
     pub fn find(&self, name: &[u8]) -> Option<Item>
         ensures { Describes (declared_in self.now) (find (declared_in self.now) name.now) result }
     {
@@ -61,7 +61,7 @@ impl<'t> Scope<'t> {
         }
     }
 
-    /// The width of what is declared at a place, in bits.
+    /// The width in bits of the declaration at a place.
     pub fn width_at(&self, place: usize) -> u8
         requires { place < length self.now.declarations.now }
         ensures { result ≡ slice_index self.now.widths.items place }
@@ -70,7 +70,7 @@ impl<'t> Scope<'t> {
     }
 }
 
-// Whether a name that is declared as this sort is that of a signal.
+// Whether a name that is declared as this sort is a signal.
 fn is_signal(sort: Sort, name: &[u8]) -> bool
     ensures { result ≡ is_signal (record { sort = sort; range = None; name = record { place = 0; bytes = name.now } }) }
 {
@@ -81,7 +81,7 @@ fn is_signal(sort: Sort, name: &[u8]) -> bool
     }
 }
 
-/// The widths of declarations, in bits; their ranges keep the rules on numbers.
+/// The widths of declarations, in bits. Their ranges have to keep the rules on numbers.
 pub fn widths_of(
     alloc: Global,
     text: &[u8],

@@ -1,4 +1,4 @@
-//! Names and numbers in the text, and faults at them.
+//! The bytes of names and numbers in a text, and faults at them.
 
 ghost use Rattle.std.specs.Prelude.{◌≡◌};
 ghost use Rattle.std.specs.Str.{bytes_eq};
@@ -20,7 +20,7 @@ pub fn bytes_of<'t>(text: &'t [u8], span: Span) -> &'t [u8]
     &rest[..count]
 }
 
-/// A rule that is broken at a place.
+/// The fault of a rule that has no numbers.
 pub fn fault_at(rule: VRule, place: u32) -> VFault
     ensures { result ≡ at rule place }
 {
@@ -41,7 +41,7 @@ pub fn is_reset(name: &[u8]) -> bool
     name == b"rst".as_slice()
 }
 
-/// Whether two names are one.
+/// Whether two names are the same.
 pub fn same_bytes(a: &[u8], b: &[u8]) -> bool
     ensures { result ≡ bytes_eq a.now b.now }
 {

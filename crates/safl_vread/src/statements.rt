@@ -1,4 +1,4 @@
-//! The rules on statements, each of which drives the name of its target.
+//! The rules on statements. Each statement drives the name that is its target.
 
 ghost use Rattle.std.specs.Prelude.{◌≡◌, ℕ, List, [], ◌∷◌, ◌<◌, ◌&&◌, ◌||◌, ◌==◌, not, length, true, IfOk, IfErr};
 ghost use Rattle.std.specs.List.{flat_map};
@@ -19,8 +19,8 @@ use safl_vparse::numbers::literal;
 use safl_vparse::{Expression, Span, Statement, Update, VErr};
 use std::alloc::Global;
 
-/// What drives each declared name after these statements, whose numbers keep their rules; or the first fault of the
-/// statements.
+/// What drives each declared name after these statements, or their first fault. Their numbers have to keep the rules on
+/// numbers.
 pub fn drivers_of(
     alloc: Global,
     scope: &Scope,
@@ -40,7 +40,7 @@ pub fn drivers_of(
     Ok(drivers)
 }
 
-// The place that a statement drives, and how, or its first fault.
+// The place of the name that a statement drives, and what drives it, or the statement's first fault.
 fn driver_of(
     scope: &Scope,
     drivers: &[Driver],
@@ -57,7 +57,7 @@ fn driver_of(
     }
 }
 
-// What an assignment drives.
+// The place of the name that an assignment drives, and what drives it, or the assignment's first fault.
 fn assignment(
     scope: &Scope,
     drivers: &[Driver],
@@ -85,7 +85,7 @@ fn assignment(
     }
 }
 
-// The wire or output of a name, or V04 at it.
+// The declaration of a wire or an output by its name. V04 if there is none.
 fn assigned_name(scope: &Scope, name: Span) -> Result<Item, VFault>
     ensures { Chosen (declared_in scope.now) (spot_in scope.now name) is_target (at rules.V04 name.start) result }
 {
@@ -110,7 +110,7 @@ fn is_target(sort: Sort) -> bool
     }
 }
 
-// It wasn't assigned before, and an output is assigned a name alone.
+// Whether a name may be assigned this value: it was not assigned before, and an output is assigned nothing but a name.
 fn may_be_assigned(driver: &Driver, sort: Sort, value: &Expression) -> bool
     ensures { (text : List ℕ) → result ≡ (is_open driver.now && (not (is_output sort) || is_plain (shown_expression text value.now))) }
 {
@@ -139,7 +139,7 @@ fn width_fault(place: u32, wanted: u8, found: u8) -> VFault
     VFault::with(VRule::V05, place, wanted as u32, found as u32)
 }
 
-// What an update drives.
+// The place of the register that an update drives, and what drives it, or the update's first fault.
 fn update_of(scope: &Scope, drivers: &[Driver], update: &Update) -> Result<(usize, Driver), VFault>
     requires full { length drivers.now ≡ length scope.now.declarations.now }
     requires numbers { literal_faults (spot_in scope.now update.now.initial) ≡ [] }
@@ -162,7 +162,7 @@ fn update_of(scope: &Scope, drivers: &[Driver], update: &Update) -> Result<(usiz
     }
 }
 
-// The register that is updated, or V08.
+// The declaration of the register that is updated. V08 if it may not be updated so.
 fn updated_name(scope: &Scope, drivers: &[Driver], update: &Update) -> Result<Item, VFault>
     requires full { length drivers.now ≡ length scope.now.declarations.now }
     ensures names { NamesFrom scope.now drivers.now update.now result }
@@ -188,7 +188,7 @@ fn updated_name(scope: &Scope, drivers: &[Driver], update: &Update) -> Result<It
     }
 }
 
-// The register of a name, or V08 at it.
+// The declaration of a register by its name. V08 if there is none.
 fn register(scope: &Scope, name: Span) -> Result<Item, VFault>
     ensures { Chosen (declared_in scope.now) (spot_in scope.now name) (λ d. is_reg d.sort) (at rules.V08 name.start) result }
 {

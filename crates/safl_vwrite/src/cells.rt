@@ -8,7 +8,7 @@ use crate::pieces::{push, push_literal};
 use safl_net::{Cell, Net, Op, Sig};
 use safl_word::{NoMemory, Primitive, Raw, push_decimal};
 
-/// Appends the operation of a cell.
+/// Appends the expression of a cell.
 pub fn push_cell(out: &mut Vec<u8>, net: &Net, cell: &Cell) -> Result<(), NoMemory>
     requires { All (λ s. s.0 < length net.now.signals) cell.now.operands.items }
     ensures { OnOk result (out.new.items ≡ out.old.items ++ operation cell.now.op (names_of net.now (numbers cell.now.operands.items))) }
@@ -22,7 +22,7 @@ pub fn push_cell(out: &mut Vec<u8>, net: &Net, cell: &Cell) -> Result<(), NoMemo
     }
 }
 
-// Appends a primitive on operands.
+// Appends the expression of a primitive on operands.
 fn push_applied(
     out: &mut Vec<u8>,
     net: &Net,

@@ -1,4 +1,4 @@
-//! The header and the declarations.
+//! Writing the header and the declarations.
 
 ghost use Rattle.std.specs.Prelude.{◌≡◌, ◌++◌, ◌<◌, length, codes, OnOk};
 ghost use Rattle.std.specs.List.{flat_map};

@@ -13,7 +13,7 @@ pub fn push(out: &mut Vec<u8>, piece: &[u8]) -> Result<(), NoMemory>
     Ok(())
 }
 
-/// Appends a number of a width: its width, `'d` and its decimal.
+/// Appends a sized number: its width, `'d` and its decimal digits.
 pub fn push_literal(out: &mut Vec<u8>, width: u8, bits: Raw) -> Result<(), NoMemory>
     ensures { OnOk result (out.new.items ≡ out.old.items ++ literal width bits) }
 {
@@ -22,7 +22,7 @@ pub fn push_literal(out: &mut Vec<u8>, width: u8, bits: Raw) -> Result<(), NoMem
     push_decimal(bits, out)
 }
 
-// Appends the range of a width.
+// Appends the range of bits of a width.
 fn push_range(out: &mut Vec<u8>, width: u8) -> Result<(), NoMemory>
     ensures { OnOk result (out.new.items ≡ out.old.items ++ range width) }
 {
@@ -57,7 +57,7 @@ pub fn push_port(out: &mut Vec<u8>, name: &str) -> Result<(), NoMemory>
     push(out, name.as_bytes())
 }
 
-/// Appends the front of an assignment, up to what is assigned.
+/// Appends the beginning of an assignment, up to what is assigned.
 pub fn push_target(out: &mut Vec<u8>, name: &str) -> Result<(), NoMemory>
     ensures { OnOk result (out.new.items ≡ out.old.items ++ (codes "  assign " ++ name.now ++ codes " = ")) }
 {
@@ -66,7 +66,7 @@ pub fn push_target(out: &mut Vec<u8>, name: &str) -> Result<(), NoMemory>
     push(out, b" = ")
 }
 
-// Appends the front of an update, up to the register after `else`.
+// Appends the beginning of an update, up to the register after `else`.
 fn push_reset(out: &mut Vec<u8>, name: &str, width: u8, init: Raw) -> Result<(), NoMemory>
     ensures { OnOk result (out.new.items ≡ out.old.items ++ reset name.now (literal width init)) }
 {
@@ -78,7 +78,7 @@ fn push_reset(out: &mut Vec<u8>, name: &str, width: u8, init: Raw) -> Result<(),
     Ok(())
 }
 
-/// Appends the update of a register with that word at reset and that next signal.
+/// Appends the update of a register with this word at reset and this next signal.
 pub fn push_update(
     out: &mut Vec<u8>,
     name: &str,

@@ -1,4 +1,4 @@
-//! The statements: assignments of wires and outputs, and updates of registers.
+//! Writing the statements: assignments of wires and outputs, and updates of registers.
 
 ghost use Rattle.std.specs.Prelude.{◌≡◌, ◌++◌, ◌<◌, length, OnOk};
 ghost use Rattle.std.specs.List.{flat_map};
@@ -31,7 +31,7 @@ fn assign_wires(out: &mut Vec<u8>, net: &Net) -> Result<(), NoMemory>
     Ok(())
 }
 
-// Appends the assignment of a wire that has a cell.
+// Appends the assignment of a wire, if it has a cell.
 fn assign_wire(out: &mut Vec<u8>, net: &Net, s: Sig) -> Result<(), NoMemory>
     requires netlist { IsNetlist net.now }
     requires known { s.0 < length net.now.signals }
@@ -72,7 +72,7 @@ fn update_registers(out: &mut Vec<u8>, net: &Net) -> Result<(), NoMemory>
     Ok(())
 }
 
-// Appends the update of a register that has a next signal.
+// Appends the update of a register, if it has a next signal.
 fn update_register(out: &mut Vec<u8>, net: &Net, s: Sig) -> Result<(), NoMemory>
     requires netlist { IsNetlist net.now }
     requires known { s.0 < length net.now.signals }

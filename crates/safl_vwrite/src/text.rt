@@ -1,4 +1,4 @@
-//! The whole text.
+//! The whole Verilog text of a net.
 
 ghost use Rattle.std.specs.Prelude.{◌≡◌, ◌≤◌, ℕ, List, ◌++◌, length, IfOk};
 ghost use Rattle.safl_net.specs.Whole.{IsWhole};
@@ -22,10 +22,10 @@ pub fn text_of(alloc: Global, net: &Net) -> Result<Vec<u8>, NoMemory>
     ensures written { IfOk result (λ text. text.items ≡ written net.now) }
     ensures short { IfOk result (λ text. length text.items ≤ text_max net.now) }
 
-    // Read back, it is the net, where the signals stand as inputs, then registers, then wires.
+    // The text reads as the net, if its inputs come first, then its registers, then its wires.
     ensures reads_back { IfOk result (λ text. IsWhole net.now → IsInOrder net.now → Reads text.items net.now) }
 
-    // A prefix of it reads as no netlist, or is the whole text, with or without its last line feed.
+    // A prefix of the text reads as no netlist, unless it is the whole text, with or without its last line feed.
     ensures torn { IfOk result (λ text. (part rest : List ℕ) → text.items ≡ part ++ rest → IsTornOrWhole net.now part) }
 {
     let signals = net.signals() as usize;

@@ -4,7 +4,7 @@ use Rattle.safl_word.specs.declared.fault.Rule.{Rule}
 use Rattle.safl_word.specs.declared.fault.Rule.TheVariants as rules
 use Rattle.safl_word.specs.declared.fault.Fault.{Fault}
 
--- a rule's number and its text, to which a fault may add numbers
+-- the number of a rule, and its text. A fault may add numbers
 abbrev pub rule_text : Rule → List ℕ
 rule_text rules.E01 = codes "E01 foreign byte"
 rule_text rules.E02 = codes "E02 unexpected token"
@@ -23,7 +23,7 @@ rule_text rules.E14 = codes "E14 width not known"
 rule_text rules.E15 = codes "E15 last definition is not main"
 rule_text rules.E16 = codes "E16 limit"
 
--- the limits by their numbers: 1 functions, 2 parameters, 3 bindings, 4 sites, 5 nodes
+-- the names of the limits: 1 functions, 2 parameters, 3 bindings, 4 sites, 5 nodes
 abbrev pub limit_name : ℕ → List ℕ
 limit_name zero = []
 limit_name (suc zero) = codes "functions"
@@ -33,15 +33,15 @@ limit_name (suc (suc (suc (suc zero)))) = codes "sites"
 limit_name (suc (suc (suc (suc (suc zero))))) = codes "nodes"
 limit_name (suc (suc (suc (suc (suc (suc n)))))) = []
 
--- the wanted and the found number
+-- the expected number and the one that was found
 abbrev pub wanted_and_found : Fault → List ℕ
 wanted_and_found f = codes ": " ++ decimal f.first ++ codes " and " ++ decimal f.second
 
--- the limit's name and its value
+-- the name of a limit, and its value
 abbrev pub limit_text : Fault → List ℕ
 limit_text f = codes ": " ++ limit_name f.first ++ codes " " ++ decimal f.second
 
--- what a fault's text has after the rule's: two numbers, or a limit's name and value
+-- what follows the text of the rule in the text of a fault: two numbers, or the name and the value of a limit
 abbrev pub detail_text : Rule → Fault → List ℕ
 detail_text rules.E11 f = wanted_and_found f
 detail_text rules.E12 f = wanted_and_found f

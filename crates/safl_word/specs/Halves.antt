@@ -1,4 +1,4 @@
--- Numbers in two halves: the low 64 bits of each, and its high ones.
+-- Numbers in two halves of 64 bits.
 use Rattle.std.specs.Prelude.{ℕ, ◌+◌, ◌*◌, ◌/◌, ◌%◌, ◌^◌, List, [], ◌∷◌}
 
 abbrev pub low_half : ℕ → ℕ
@@ -7,7 +7,7 @@ low_half x = x % 2 ^ 64
 abbrev pub high_half : ℕ → ℕ
 high_half x = x / 2 ^ 64
 
--- the numbers that have these low and high halves
+-- the numbers with these low and high halves
 abbrev pub joined : List ℕ → List ℕ → List ℕ
 joined [] highs = []
 joined (l ∷ lows) [] = []

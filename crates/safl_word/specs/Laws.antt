@@ -1,4 +1,4 @@
--- What is claimed of words.
+-- The laws of words.
 use Rattle.std.specs.Prelude.{◌≡◌, ℕ, ◌-◌, ◌^◌, ◌<◌, ◌≤◌, List, [], ◌∷◌, map, Some, decimal}
 use Rattle.safl_word.specs.Words.{Word, IsWord, AreWords}
 use Rattle.safl_word.specs.declared.primitive.Primitive.{Primitive}
@@ -6,19 +6,19 @@ use Rattle.safl_word.specs.declared.primitive.Primitive.TheVariants.{Cat, Bits, 
 use Rattle.safl_word.specs.Numerals.{IsBounded, value}
 use Rattle.safl_word.specs.Primitives.{result_width, apply_prim}
 
--- where the table has a width, the result is a word of that width
+-- if the table of widths has a width, the result is a word of that width
 abbrev pub GivesWords : Type 0
 GivesWords =
     (o : Primitive) (vs : List Word) (n : ℕ) → AreWords vs → result_width o (map (λ v. v.width) vs) ≡ Some n
     → IsWord (apply_prim o vs) × ((apply_prim o vs).width ≡ n)
 
--- a word cut in two by slices, and joined again, is the word
+-- the concatenation of the high and the low slice of a word is the word
 abbrev pub SlicesJoin : Type 0
 SlicesJoin =
     (a : Word) (k : ℕ) → IsWord a → 1 ≤ k → k < a.width
     → apply_prim Cat (apply_prim (Bits (a.width - 1) k) (a ∷ []) ∷ apply_prim (Bits (k - 1) 0) (a ∷ []) ∷ []) ≡ a
 
--- a shift by the width and more gives zero
+-- a shift by the width or more gives zero
 abbrev pub ShiftsOut : Type 0
 ShiftsOut =
     (a b : Word) → a.width ≤ b.bits
@@ -28,6 +28,6 @@ ShiftsOut =
 abbrev pub ExtensionKeeps : Type 0
 ExtensionKeeps = (a : Word) (n : ℕ) → (apply_prim (Ext n) (a ∷ [])).bits ≡ a.bits
 
--- a number's decimal digits are a numeral of at most 39 digits, which counts that number
+-- the decimal digits of a number are a numeral of at most 39 digits that spells that number
 abbrev pub DecimalCounts : Type 0
 DecimalCounts = (n : ℕ) → n < 2 ^ 128 → IsBounded 10 39 (2 ^ 128) (decimal n) × (value 10 (decimal n) ≡ n)

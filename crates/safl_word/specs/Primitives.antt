@@ -1,14 +1,14 @@
--- The primitives: which widths their operands have, and what they give.
+-- The primitives: which widths their operands have, and what their results are.
 use Rattle.std.specs.Prelude.{ℕ, ◌+◌, ◌-◌, ◌*◌, ◌/◌, ◌%◌, ◌^◌, List, [], ◌∷◌, Option, Some, None, Bool, cond, not, ◌==◌, ◌&&◌, nat_lt, nat_le, bit_and, bit_or, bit_xor}
 use Rattle.safl_word.specs.Words.{Word, max_width, no_word}
 use Rattle.safl_word.specs.declared.primitive.Primitive.{Primitive}
 use Rattle.safl_word.specs.declared.primitive.Primitive.TheVariants.{Add, Sub, Mul, And, Or, Xor, Not, Eq, Ne, Lt, Le, Gt, Ge, Shl, Shr, Cat, Bits, Ext}
 
--- from 1 to the greatest
+-- whether a width is from 1 to the greatest
 abbrev pub is_width : ℕ → Bool
 is_width w = nat_le 1 w && nat_le w max_width
 
--- the width of a result where the operands have these widths, if they may: each is the width of a word
+-- the width of the result for operands of these widths, if the primitive takes them. Each is the width of a word
 abbrev pub one_width : (ℕ → Option ℕ) → List ℕ → Option ℕ
 one_width f [] = None
 one_width f (w ∷ []) = cond (is_width w) (f w) None
@@ -49,7 +49,7 @@ result_width Cat ws = two_widths (λ u v. where_true (nat_le (u + v) max_width) 
 result_width (Bits high low) ws = one_width (λ w. where_true (nat_le low high && nat_lt high w) (high - low + 1)) ws
 result_width (Ext n) ws = one_width (λ w. where_true (nat_le w n && nat_le n max_width) n) ws
 
--- words of one operand, and of two
+-- the result for one operand; and for two
 abbrev pub one_word : (Word → Word) → List Word → Word
 one_word f [] = no_word
 one_word f (a ∷ []) = f a
@@ -61,7 +61,7 @@ two_words f (a ∷ []) = no_word
 two_words f (a ∷ (b ∷ [])) = f a b
 two_words f (a ∷ (b ∷ (c ∷ vs))) = no_word
 
--- a word of the first operand's width, and a word of one bit
+-- a result of the first operand's width; and one of one bit
 abbrev pub alike : (ℕ → ℕ → ℕ → ℕ) → List Word → Word
 alike f vs = two_words (λ a b. record { width = a.width; bits = f (2 ^ a.width) a.bits b.bits }) vs
 
@@ -71,7 +71,7 @@ bit_of b = cond b 1 0
 abbrev pub compared : (ℕ → ℕ → Bool) → List Word → Word
 compared f vs = two_words (λ a b. record { width = 1; bits = bit_of (f a.bits b.bits) }) vs
 
--- the result of a shift of a, where b is below its width
+-- the result of a shift of a by b. It is 0 unless b is below the width of a
 abbrev pub shifted : (ℕ → ℕ → ℕ → ℕ) → List Word → Word
 shifted f vs = two_words (λ a b. record { width = a.width; bits = cond (nat_lt b.bits a.width) (f (2 ^ a.width) a.bits (2 ^ b.bits)) 0 }) vs
 

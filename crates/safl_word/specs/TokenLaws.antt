@@ -1,4 +1,4 @@
--- What is claimed of tokens.
+-- The laws of tokens.
 use Rattle.std.specs.Prelude.{◌≡◌, ◌↔◌, ℕ, List}
 use Rattle.safl_word.specs.Tokens.{HasTokens, HasLexicalFault}
 use Rattle.safl_word.specs.declared.token.Token.{Token}
@@ -13,7 +13,7 @@ abbrev pub LexicalFaultOnce : Type 0
 LexicalFaultOnce =
     (text : List ℕ) (e d : Rule) (p q : ℕ) → HasLexicalFault text e p → HasLexicalFault text d q → (e ≡ d) × (p ≡ q)
 
--- a text has a list of tokens exactly where it has no lexical fault
+-- a text has a list of tokens exactly if it has no lexical fault
 abbrev pub TokensOrFault : Type 0
 TokensOrFault =
     (text : List ℕ)

@@ -1,18 +1,18 @@
-//! Bytes of a text: blanks, digits, the letters of bases, and runs at the start of a text.
+//! Bytes of a text: blanks, digits, the letters of bases, and runs at the beginning of a text.
 
 ghost use Rattle.std.specs.Prelude.{◌≡◌, ◌==◌, not};
 ghost use Rattle.safl_word.specs.Numerals.{digit, is_digit};
 ghost use Rattle.safl_word.specs.Runs.{IsRun};
 ghost use Rattle.safl_word.specs.Tokens.{is_blank, base_of};
 
-/// Space, tab, carriage return and line feed.
+/// Whether a byte is a space, a tab, a carriage return or a line feed.
 pub fn is_blank(c: u8) -> bool
     ensures { result ≡ is_blank c }
 {
     matches!(c, b' ' | b'\t' | b'\r' | b'\n')
 }
 
-/// Whether the byte is a digit of the base, which is at most 16.
+/// Whether a byte is a digit of the base, which is at most 16.
 pub fn is_digit(base: u8, c: u8) -> bool
     ensures { result ≡ is_digit base c }
 {
@@ -24,7 +24,7 @@ pub fn is_digit(base: u8, c: u8) -> bool
     }
 }
 
-/// What a digit counts.
+/// The value of a digit.
 pub fn digit(c: u8) -> u8
     ensures { result ≡ digit c }
 {
@@ -49,7 +49,7 @@ pub fn base_of(letter: u8) -> Option<u8>
     }
 }
 
-/// How many digits of the base the text begins with.
+/// How many digits of the base a text begins with.
 pub fn digits_length(base: u8, text: &[u8]) -> usize
     ensures { IsRun (is_digit base) text.now result }
 {
@@ -61,7 +61,7 @@ pub fn digits_length(base: u8, text: &[u8]) -> usize
     text.len()
 }
 
-/// How many bytes stand before the first line feed, or the end.
+/// How many bytes come before the first line feed, or before the end of the text.
 pub fn line_length(text: &[u8]) -> usize
     ensures { IsRun (λ c. not (c == 10)) text.now result }
 {

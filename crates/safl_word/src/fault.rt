@@ -1,10 +1,10 @@
-//! Faults of a source, and running out of memory.
+//! Faults of a source, and the error for out of memory.
 
 ghost use Rattle.std.specs.Prelude.{◌≡◌};
 
 use std::alloc::{AllocError, AllocFailed};
 
-/// What is wrong with a source, by its printed number.
+/// The rules of a source, by their printed numbers.
 #[derive(Clone, Copy, Debug, PartialEq, Eq)]
 pub enum Rule {
     E01,
@@ -25,8 +25,8 @@ pub enum Rule {
     E16,
 }
 
-/// A fault of a source: the rule, the place as a byte's number, and two numbers that are 0 except for E11 and E12,
-/// the wanted and the found one, and for E16, the number of the limit and its value.
+/// A fault of a source: the rule, the place as a byte offset, and two numbers. For E11 and E12 these are the expected
+/// number and the one that was found; for E16 the number of the limit and its value; for other rules they are 0.
 #[derive(Clone, Copy, Debug, PartialEq, Eq)]
 pub struct Fault {
     pub rule: Rule,
@@ -43,7 +43,7 @@ impl Fault {
         Fault::with(rule, place, 0, 0)
     }
 
-    /// The fault of a rule with its two numbers.
+    /// The fault of a rule that has two numbers.
     pub fn with(rule: Rule, place: u32, first: u32, second: u32) -> Fault
         ensures { result ≡ record { rule = rule; place = place; first = first; second = second } }
     {
@@ -56,7 +56,7 @@ impl Fault {
     }
 }
 
-/// Memory ran out.
+/// The error for out of memory.
 #[derive(Clone, Copy, Debug, PartialEq, Eq)]
 pub struct NoMemory;
 

@@ -1,4 +1,4 @@
-//! Numbers by place, in two halves.
+//! Tables of numbers, each in two halves of 64 bits.
 
 ghost use Rattle.std.specs.Prelude.{◌≡◌, ◌+◌, ◌*◌, ◌^◌, map, IfOk};
 ghost use Rattle.safl_word.specs.Halves.{low_half, high_half};
@@ -7,11 +7,11 @@ use crate::word::Raw;
 use std::alloc::{AllocError, Global};
 use std::marker::Model;
 
-// 2 to the 64th.
+// 2^64.
 const RADIX: Raw = 0x1_0000_0000_0000_0000;
 
-/// Numbers below 2 to the 128th by place: the low 64 bits of each, and beside them the high ones. What is known to be
-/// below 2 to the 64th is read and written without its high half.
+/// A table of numbers below 2^128. The low halves of all numbers are in one list and the high halves in another. A
+/// number that is known to be below 2^64 is read and written without its high half.
 #[derive(Drop)]
 pub struct Numbers {
     low: Vec<u64>,
@@ -32,7 +32,7 @@ impl Model for Numbers {
 impl Numbers {
     ghost use Rattle.std.specs.Prelude.{◌≡◌, ◌<◌, ◌^◌, length, slice_index, slice_set, IfOk, true, false};
 
-    /// The numbers of a slice.
+    /// A table of the numbers of a slice.
     pub fn new(alloc: Global, numbers: &[Raw]) -> Result<Numbers, AllocError>
         ensures { IfOk result (λ n. n ≡ numbers.now) }
     {
@@ -54,7 +54,7 @@ impl Numbers {
         from_halves(self.low[i], self.high[i])
     }
 
-    /// The number at a place, where it is below 2 to the 64th.
+    /// The number at a place. It has to be below 2^64.
     #[inline(always)]
     pub fn get_low(&self, i: usize) -> u64
         requires within { i < length self.now }
@@ -64,7 +64,7 @@ impl Numbers {
         self.low[i]
     }
 
-    /// Whether there is such a place and its number is 1. Its high half is read only if the low one is 1.
+    /// Whether there is such a place and its number is 1. The high half is read only if the low half is 1.
     #[inline(always)]
     pub fn is_one(&self, i: usize) -> bool
         ensures yes { result ≡ true → slice_index self.now i ≡ 1 }
@@ -92,7 +92,7 @@ impl Numbers {
         self.high[i] = high_half(number);
     }
 
-    /// Writes a number below 2 to the 64th to a place that has such a number.
+    /// Writes a number below 2^64 to a place. The number there has to be below 2^64 too.
     #[inline(always)]
     pub fn set_low(&mut self, i: usize, number: u64)
         requires within { i < length self.old }
@@ -103,7 +103,7 @@ impl Numbers {
     }
 }
 
-/// The number of two halves.
+/// The number with these two halves.
 #[inline(always)]
 pub fn from_halves(low: u64, high: u64) -> Raw
     ensures { result ≡ low + high * 2 ^ 64 }
@@ -119,7 +119,7 @@ pub fn low_half(number: Raw) -> u64
     (number % RADIX) as u64
 }
 
-/// Its high 64 bits.
+/// The high 64 bits of a number.
 #[inline(always)]
 pub fn high_half(number: Raw) -> u64
     ensures { result ≡ high_half number }

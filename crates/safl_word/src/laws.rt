@@ -4,22 +4,22 @@ ghost use Rattle.safl_word.specs.Laws.{GivesWords, SlicesJoin, ShiftsOut, Extens
 ghost use Rattle.safl_word.specs.Spacing.{SpacedReads, WritesNumbers, WritesSizes};
 ghost use Rattle.safl_word.specs.TokenLaws.{TokensOnce, LexicalFaultOnce, TokensOrFault};
 
-/// A primitive on words gives a word, of the width that the table says.
+/// A primitive on words gives a word whose width is the one in the table of widths.
 pub fn primitive_law()
     ensures { GivesWords }
 {}
 
-/// The concatenation of a word's high and low slice is the word.
+/// The concatenation of a high and a low slice that together are a word is that word.
 pub fn slices_law()
     ensures { SlicesJoin }
 {}
 
-/// A shift by the width and more gives zero.
+/// A shift by the width of a word or more gives zero.
 pub fn shifts_law()
     ensures { ShiftsOut }
 {}
 
-/// An extension keeps the number.
+/// An extension with zeros keeps the number of a word.
 pub fn extension_law()
     ensures { ExtensionKeeps }
 {}
@@ -39,22 +39,22 @@ pub fn lexical_fault_law()
     ensures { LexicalFaultOnce }
 {}
 
-/// A text has a list of tokens exactly where it has no lexical fault.
+/// A text has a list of tokens exactly if it has no lexical fault.
 pub fn tokens_or_fault_law()
     ensures { TokensOrFault }
 {}
 
-/// Tokens written with a blank, which may be a line feed, after each are read as these tokens.
+/// Tokens that are written with a blank after each, such as a space or a line feed, read as the same tokens.
 pub fn spacing_law()
     ensures { SpacedReads }
 {}
 
-/// A number's decimal digits are its token.
+/// The decimal digits of a number read as the token of that number.
 pub fn number_law()
     ensures { WritesNumbers }
 {}
 
-/// A width's decimal digits, `'d` and a value's decimal digits are the token of that width and value.
+/// The decimal digits of a width, `'d` and the decimal digits of a value read as the token of that width and value.
 pub fn size_law()
     ensures { WritesSizes }
 {}

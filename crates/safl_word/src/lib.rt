@@ -1,4 +1,4 @@
-//! Words of 1 to 128 bits, and the primitives on them, also on words of at most 64 bits alone; and tables of numbers in two halves.
+//! Words of 1 to 128 bits and the primitives on them; numbers, tokens and faults of sources; and tables of numbers.
 #![tactic(auto)]
 
 pub mod bytes;

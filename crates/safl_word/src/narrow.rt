@@ -1,4 +1,4 @@
-//! What the primitives give on words of at most 64 bits, where that has no more either.
+//! The primitives on narrow words: of at most 64 bits, with a result of at most 64 bits.
 
 ghost use Rattle.std.specs.Prelude.{◌≡◌, ◌+◌, ◌-◌, ◌*◌, ◌/◌, ◌%◌, ◌^◌, ◌<◌, ◌≤◌, [], ◌∷◌, cond, nat_lt};
 ghost use Rattle.safl_word.specs.Words.{IsWord};
@@ -10,7 +10,7 @@ use crate::primitive::Primitive;
 /// The greatest width of a narrow word, in bits.
 pub const LOW_MAX: u8 = 64;
 
-/// What a primitive gives on a word of this width.
+/// The result of a primitive on a word of this width.
 #[inline(always)]
 pub fn narrow_one(p: Primitive, width: u8, a: u64) -> u64
     requires word { IsWord (word_of width a) }
@@ -26,7 +26,7 @@ pub fn narrow_one(p: Primitive, width: u8, a: u64) -> u64
     }
 }
 
-/// What a primitive gives on two words of these widths.
+/// The result of a primitive on two words of these widths.
 #[inline(always)]
 pub fn narrow_two(p: Primitive, width: u8, other: u8, a: u64, b: u64) -> u64
     requires first { IsWord (word_of width a) }
@@ -55,7 +55,7 @@ pub fn narrow_two(p: Primitive, width: u8, other: u8, a: u64, b: u64) -> u64
     }
 }
 
-// The greatest number of a width, which has a one in each place.
+// The greatest number of a width: all its bits are 1.
 #[inline(always)]
 fn greatest(width: u8) -> u64
     requires some { 1 ≤ width }
@@ -65,7 +65,7 @@ fn greatest(width: u8) -> u64
     u64::MAX >> (LOW_MAX - width)
 }
 
-// The remainder of a number modulo 2 to a width.
+// The remainder of a number modulo 2 to the width.
 #[inline(always)]
 fn low_bits(width: u8, number: u64) -> u64
     requires some { 1 ≤ width }
@@ -110,7 +110,7 @@ fn product(width: u8, a: u64, b: u64) -> u64
     low_bits(width, a.wrapping_mul(b))
 }
 
-// By the width and more, nothing is left.
+// The number shifted to the left. A shift by the width or more gives 0.
 #[inline(always)]
 fn left_shift(width: u8, a: u64, b: u64) -> u64
     requires some { 1 ≤ width }

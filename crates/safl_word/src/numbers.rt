@@ -1,4 +1,4 @@
-//! Numbers in text.
+//! Reading and writing numbers.
 
 ghost use Rattle.std.specs.Prelude.{◌≡◌, ◌↔◌, ◌+◌, ◌*◌, ◌/◌, ◌%◌, ◌^◌, ◌<◌, ◌≤◌, [], ◌∷◌, ◌++◌, true, length, take, is_some, IsSome, IfSome, OnOk, OnErr, decimal};
 ghost use Rattle.safl_word.specs.declared.word.TheConstants.{ARGUMENT_MAX, DECIMAL_MAX, WIDTH_MAX};
@@ -9,11 +9,11 @@ use crate::fault::NoMemory;
 use crate::word::{ARGUMENT_MAX, DECIMAL_MAX, Raw};
 use itoa::Buffer;
 
-// Each number of so many digits is below 2 to the 64th.
+// A number of at most this many decimal digits is below 2^64.
 const SHORT_MAX: usize = 19;
 
-/// The number of a numeral of this base, of at most so many digits: None exactly where the bytes are none, or its
-/// number is not below 2 to the 128th.
+/// The number that a numeral of this base spells, which has at most `most` digits. None exactly if the bytes are no
+/// such numeral, or the number is not below 2^128.
 pub fn numeral(base: u8, most: usize, bytes: &[u8]) -> Option<Raw>
     requires { 1 ≤ base }
     ensures some { IsSome result ↔ IsBounded base most (2 ^ WIDTH_MAX) bytes.now }
@@ -29,7 +29,7 @@ pub fn numeral(base: u8, most: usize, bytes: &[u8]) -> Option<Raw>
     Some(number)
 }
 
-// The number of a numeral and a further digit.
+// The number with one more digit.
 fn followed(base: u8, number: Raw, c: u8) -> Option<Raw>
     ensures some { IsSome result ↔ ((is_digit base c ≡ true) × (number * base + digit c < 2 ^ WIDTH_MAX)) }
     ensures value { IfSome result (λ n. n ≡ number * base + digit c) }
@@ -40,7 +40,7 @@ fn followed(base: u8, number: Raw, c: u8) -> Option<Raw>
         .checked_add(Raw::from(digit))
 }
 
-// What a digit of the base counts.
+// The value of a digit of the base.
 fn digit_of(base: u8, c: u8) -> Option<u8>
     ensures some { is_some result ≡ is_digit base c }
     ensures value { IfSome result (λ d. d ≡ digit c) }
@@ -48,7 +48,7 @@ fn digit_of(base: u8, c: u8) -> Option<u8>
     is_digit(base, c).then_some(digit(c))
 }
 
-/// The number of a decimal word: None exactly where the bytes are not 1 to 20 digits whose number is below 2 to the 64th.
+/// The number of a decimal word. None exactly if the bytes are not 1 to 20 digits of a number below 2^64.
 pub fn decimal(bytes: &[u8]) -> Option<u64>
     ensures some { IsSome result ↔ IsBounded 10 DECIMAL_MAX (2 ^ 64) bytes.now }
     ensures value { IfSome result (λ n. n ≡ value 10 bytes.now) }
@@ -56,7 +56,7 @@ pub fn decimal(bytes: &[u8]) -> Option<u64>
     u64::try_from(numeral(10, DECIMAL_MAX, bytes)?).ok()
 }
 
-/// The number of an argument: None exactly where the bytes are not 1 to 39 digits whose number is below 2 to the 128th.
+/// The number of an argument. None exactly if the bytes are not 1 to 39 digits of a number below 2^128.
 pub fn argument(bytes: &[u8]) -> Option<Raw>
     ensures some { IsSome result ↔ IsBounded 10 ARGUMENT_MAX (2 ^ WIDTH_MAX) bytes.now }
     ensures value { IfSome result (λ n. n ≡ value 10 bytes.now) }
@@ -67,7 +67,7 @@ pub fn argument(bytes: &[u8]) -> Option<Raw>
     Some(Raw::from(short_number(bytes)?))
 }
 
-// The number of a text of few bytes, where these are digits.
+// The number of a text of at most `SHORT_MAX` bytes. None if these are not all digits.
 fn short_number(text: &[u8]) -> Option<u64>
     requires some { 0 < length text.now }
     requires short { length text.now ≤ 19 }
@@ -84,7 +84,7 @@ fn short_number(text: &[u8]) -> Option<u64>
     Some(number)
 }
 
-/// Appends the shortest decimal digits of a number, and nothing where memory runs out.
+/// Appends the decimal digits of a number, as few as possible, or nothing if out of memory.
 pub fn push_decimal(n: Raw, out: &mut Vec<u8>) -> Result<(), NoMemory>
     ensures ok { OnOk result (out.new.items ≡ out.old.items ++ decimal n) }
     ensures err { OnErr result (out.new.items ≡ out.old.items) }
@@ -93,7 +93,7 @@ pub fn push_decimal(n: Raw, out: &mut Vec<u8>) -> Result<(), NoMemory>
     Ok(())
 }
 
-/// Appends the shortest binary digits of a number, and nothing where memory runs out.
+/// Appends the binary digits of a number, as few as possible, or nothing if out of memory.
 pub fn push_binary(n: Raw, out: &mut Vec<u8>) -> Result<(), NoMemory>
     ensures ok { OnOk result (out.new.items ≡ out.old.items ++ binary n) }
     ensures err { OnErr result (out.new.items ≡ out.old.items) }
@@ -106,7 +106,8 @@ pub fn push_binary(n: Raw, out: &mut Vec<u8>) -> Result<(), NoMemory>
     pushed
 }
 
-// Appends the shortest binary digits of a number, four at a time, and where memory runs out maybe some of them.
+// Appends the binary digits of a number, as few as possible, four at a time. If out of memory, some of them may have
+// been appended.
 fn push_bits(out: &mut Vec<u8>, number: Raw) -> Result<(), NoMemory>
     ensures ok { OnOk result (out.new.items ≡ out.old.items ++ binary number) }
     ensures err { OnErr result (take (length out.old.items) out.new.items ≡ out.old.items) }
@@ -124,7 +125,7 @@ fn push_bits(out: &mut Vec<u8>, number: Raw) -> Result<(), NoMemory>
     push_four(out, (number % 16) as u8)
 }
 
-// Appends four binary digits, or nothing where memory runs out.
+// Appends four binary digits, or nothing if out of memory.
 #[inline(always)]
 fn push_four(out: &mut Vec<u8>, number: u8) -> Result<(), NoMemory>
     requires { number < 16 }

@@ -1,4 +1,4 @@
-//! What the primitives give.
+//! The results of the primitives.
 
 ghost use Rattle.std.specs.Prelude.{◌≡◌, ◌+◌, ◌-◌, ◌*◌, ◌/◌, ◌%◌, ◌^◌, ◌<◌, ◌≤◌, [], ◌∷◌, IsSome, map, cond, nat_lt, bit_and, bit_or, bit_xor, true};
 ghost use Rattle.safl_word.specs.Words.{max_width};
@@ -7,8 +7,8 @@ ghost use Rattle.safl_word.specs.Primitives.{is_width, result_width, apply_prim,
 use crate::primitive::Primitive;
 use crate::word::{Raw, WIDTH_MAX, Word, greatest};
 
-/// The width that a primitive gives on words of these widths: None exactly where the table has no row for them. Each row has
-/// operands of widths from 1 to `WIDTH_MAX`, and so has its result.
+/// The width of a primitive's result on words of these widths. None exactly if the table of widths has no row for them.
+/// In each row operands and result have widths from 1 to `WIDTH_MAX`.
 pub fn result_width(p: Primitive, widths: &[u8]) -> Option<u8>
     ensures { result ≡ result_width p widths.now }
 {
@@ -56,7 +56,7 @@ fn width_of_two(p: Primitive, a: u8, b: u8) -> Option<u8>
     }
 }
 
-/// What the primitive gives on these words, where the table has a width for theirs.
+/// The result of a primitive on these words. Their widths must have a row in the table of widths.
 pub fn apply(p: Primitive, args: &[Word]) -> Word
     requires { IsSome (result_width p (map (λ v. v.width) args.now)) }
     ensures { result ≡ apply_prim p args.now }
@@ -105,7 +105,7 @@ fn apply_to_two(p: Primitive, a: Word, b: Word) -> Word
     }
 }
 
-// A word of one bit.
+// A truth value as a word of one bit.
 fn flag(holds: bool) -> Word
     ensures { result ≡ record { width = 1; bits = bit_of holds } }
 {
@@ -159,7 +159,7 @@ fn complement(a: Word) -> Word
     Word::from_parts(a.width(), greatest(a.width()) - a.bits())
 }
 
-// By the width of a and more, nothing is left.
+// The word shifted to the left. A shift by the width of `a` or more gives 0.
 fn left_shift(a: Word, b: Word) -> Word
     ensures { result ≡ record { width = a.width; bits = cond (nat_lt b.bits a.width) ((a.bits * 2 ^ b.bits) % 2 ^ a.width) 0 } }
 {

@@ -9,7 +9,7 @@ use crate::word::Raw;
 use std::alloc::Global;
 
 impl Rule {
-    /// The rule's number and its text.
+    /// The number of the rule, and its text.
     pub fn text(self) -> &'static str
         ensures { result.now ≡ rule_text self }
     {
@@ -34,7 +34,7 @@ impl Rule {
     }
 }
 
-// The name of a limit by its number, from 1 on.
+// The name of a limit by its number, which is counted from 1.
 fn limit_name(limit: u32) -> &'static str
     ensures { result.now ≡ limit_name limit }
 {
@@ -48,7 +48,7 @@ fn limit_name(limit: u32) -> &'static str
     }
 }
 
-/// Appends the text of a fault without its place, as `E12 widths differ: 8 and 4`, and nothing where memory runs out.
+/// Appends the text of a fault without its place, such as `E12 widths differ: 8 and 4`, or nothing if out of memory.
 pub fn push_fault(fault: Fault, out: &mut Vec<u8>) -> Result<(), NoMemory>
     ensures ok { OnOk result (out.new.items ≡ out.old.items ++ fault_text fault) }
     ensures err { OnErr result (out.new.items ≡ out.old.items) }

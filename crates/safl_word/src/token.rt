@@ -5,7 +5,7 @@ ghost use Rattle.safl_word.specs.Tokens.{key_text, sym_text};
 
 use crate::word::Raw;
 
-/// A word that is kept from names: `fun if then else let in case default cat bits ext and`.
+/// A keyword: a word that cannot be a name. They are `fun if then else let in case default cat bits ext and`.
 #[derive(Clone, Copy, Debug, PartialEq, Eq)]
 pub enum Key {
     Fun,
@@ -51,7 +51,7 @@ pub enum Sym {
     Tilde,
 }
 
-/// What a token is: a name, a number, a width and a number of it as in `8'hff`, a key or a symbol.
+/// What a token is: a name, a number, a sized number with its width and value, as in `8'hff`, a keyword or a symbol.
 #[derive(Clone, Copy, Debug, PartialEq, Eq)]
 pub enum TokenKind {
     Name,
@@ -61,7 +61,7 @@ pub enum TokenKind {
     Sym(Sym),
 }
 
-/// A token: the source's bytes from `start` up to `stop`, and what they are.
+/// A token: its kind, and the source's bytes from `start` up to `stop`.
 #[derive(Clone, Copy, Debug, PartialEq, Eq)]
 pub struct Token {
     pub start: u32,
@@ -70,7 +70,7 @@ pub struct Token {
 }
 
 impl Key {
-    /// The key as it is written.
+    /// The text of the keyword.
     pub fn text(self) -> &'static str
         ensures { result.now ≡ key_text self }
     {
@@ -92,7 +92,7 @@ impl Key {
 }
 
 impl Sym {
-    /// The symbol as it is written.
+    /// The text of the symbol.
     pub fn text(self) -> &'static str
         ensures { result.now ≡ sym_text self }
     {

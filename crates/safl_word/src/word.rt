@@ -1,33 +1,33 @@
-//! Words.
+//! Words of 1 to 128 bits.
 
 ghost use Rattle.std.specs.Prelude.{◌≡◌, ◌^◌, ◌-◌, ◌≤◌};
 ghost use Rattle.safl_word.specs.Words.{max_width};
 
 use std::marker::Model;
 
-/// The number of a word.
+/// The number that a word has.
 pub type Raw = u128;
 
 /// The greatest width of a word, in bits.
 pub const WIDTH_MAX: u8 = 128;
 
-/// The most bytes of a source.
+/// The greatest length of a source in bytes.
 pub const SOURCE_MAX: usize = 1_048_576;
 
-/// The most digits of a number in a source.
+/// The greatest number of digits of a number in a source.
 pub const DIGITS_MAX: usize = 128;
 
-/// The most digits of a decimal number below 2 to the 64th.
+/// The greatest number of digits of a decimal number below 2^64.
 pub const DECIMAL_MAX: usize = 20;
 
-/// The most digits of an argument, which is a decimal number below 2 to the 128th.
+/// The greatest number of digits of an argument, which is a decimal number below 2^128.
 pub const ARGUMENT_MAX: usize = 39;
 
-// 2 to the 64th.
+// 2^64.
 const RADIX: Raw = 0x1_0000_0000_0000_0000;
 
-/// A word: its width, from 1 to `WIDTH_MAX`, and a number below 2 to that width. The number is held in two halves, as
-/// one of 128 bits would have to be aligned to 16 bytes, also in what holds a word.
+/// A word: its width, from 1 to `WIDTH_MAX`, and a number below 2 to that width. The number is held in two halves,
+/// since a number of 128 bits would have to be aligned to 16 bytes, and so would everything that holds a word.
 #[derive(Clone, Copy, Debug, PartialEq, Eq)]
 pub struct Word {
     width: u8,
@@ -52,7 +52,7 @@ impl Word {
     ghost use Rattle.std.specs.Prelude.{◌≡◌, ◌↔◌, ◌^◌, ◌%◌, ◌≤◌, IsSome, IfSome};
     ghost use Rattle.safl_word.specs.Words.{IsWord, max_width};
 
-    /// The word of this width and this number, where there is one.
+    /// The word with this width and number. None if there is no such word.
     pub fn new(width: u8, bits: Raw) -> Option<Word>
         ensures some { IsSome result ↔ IsWord (record { width = width; bits = bits }) }
         ensures value { IfSome result (λ w. w ≡ record { width = width; bits = bits }) }
@@ -66,7 +66,7 @@ impl Word {
         Some(Word::from_parts(width, bits))
     }
 
-    /// The width, in bits.
+    /// The width in bits.
     pub fn width(&self) -> u8
         ensures value { result ≡ self.now.width }
         ensures word { IsWord self.now }
@@ -74,7 +74,7 @@ impl Word {
         self.width
     }
 
-    /// The number.
+    /// The number of the word.
     pub fn bits(&self) -> Raw
         ensures value { result ≡ self.now.bits }
         ensures word { IsWord self.now }
@@ -82,7 +82,7 @@ impl Word {
         Raw::from(self.high) * RADIX + Raw::from(self.low)
     }
 
-    /// The word of this width and this number, which fits it.
+    /// The word with this width and number. The number has to fit the width.
     pub fn from_parts(width: u8, bits: Raw) -> Word
         requires { IsWord (record { width = width; bits = bits }) }
         ensures { result ≡ record { width = width; bits = bits } }
@@ -94,7 +94,7 @@ impl Word {
         }
     }
 
-    /// The word of this width, from 1 to `WIDTH_MAX`, whose number is the remainder of a number modulo 2 to the width.
+    /// The word of this width, from 1 to `WIDTH_MAX`, whose number is the remainder of `number` modulo 2 to the width.
     pub fn from_low_bits(width: u8, number: Raw) -> Word
         requires some { 1 ≤ width }
         requires bounded { width ≤ max_width }
@@ -104,7 +104,7 @@ impl Word {
     }
 }
 
-/// The greatest number of a width from 1 to `WIDTH_MAX`, which has a one in each place.
+/// The greatest number of a width from 1 to `WIDTH_MAX`: all its bits are 1.
 pub fn greatest(width: u8) -> Raw
     requires some { 1 ≤ width }
     requires bounded { width ≤ max_width }
