@@ -4,7 +4,8 @@ use Rattle.std.proofs.Common.{nat_le, nat_lt, slice_get, slice_index_or, refl, s
 use Rattle.std.specs.List.{All}
 use Rattle.std.proofs.lemmas.List.Elements.{All-head, All-tail}
 use Rattle.std.proofs.lemmas.Bool.{and_parts, leb-true, ltb-true}
-use Rattle.safl_word.specs.Words.{Word, max_width}
+use Rattle.safl_word.specs.Words.{Word}
+use Rattle.safl_word.specs.Limits.{width_max}
 use Rattle.safl_word.specs.declared.primitive.Primitive.{Primitive}
 use Rattle.safl_word.specs.declared.primitive.Primitive.TheVariants.{Add, Sub, Mul, And, Or, Xor, Not, Eq, Ne, Lt, Le, Gt, Ge, Shl, Shr, Cat, Bits, Ext}
 use Rattle.safl_word.specs.Primitives.{is_width, where_true, result_width}
@@ -52,11 +53,11 @@ holds_where false o v e = absurd (cc)
 
 -- a cell's primitive takes the width of its operand
 pub may_take : (p : Primitive) (w v : ℕ) → prim_width p (w ∷ []) ≡ Some v → MayTake p w
-may_take Not w v e = let t = and_parts _ _ (holds_where (is_width w) (Some w) v e) in (leb-true 1 w t.0, leb-true w max_width t.1)
+may_take Not w v e = let t = and_parts _ _ (holds_where (is_width w) (Some w) v e) in (leb-true 1 w t.0, leb-true w width_max t.1)
 may_take (Bits high low) w v e =
     let t = and_parts _ _ (holds_where (is_width w) (where_true (nat_le low high && nat_lt high w) (high - low + 1)) v e) in
     let u = and_parts _ _ (holds_where (nat_le low high && nat_lt high w) (Some (high - low + 1)) v (only_where (is_width w) _ v e)) in
-    (leb-true low high u.0, ltb-true high w u.1, leb-true w max_width t.1)
+    (leb-true low high u.0, ltb-true high w u.1, leb-true w width_max t.1)
 may_take (Ext n) w v e = absurd (cc)
 may_take Add w v e = absurd (cc)
 may_take Sub w v e = absurd (cc)

@@ -1,6 +1,7 @@
 //! Tables of the literals of signals.
 
 ghost use Rattle.std.specs.Prelude.{◌≡◌, ℕ, ◌+◌, ◌*◌, ◌<◌, ◌≤◌, length, IfOk};
+ghost use Rattle.safl_word.specs.Limits.{variables_max};
 ghost use Rattle.safl_net.specs.Netlist.{width_of};
 ghost use Rattle.safl_aig.specs.Bits.{is_input, is_register};
 ghost use Rattle.safl_aig.specs.Tables.{lits_at, variable_lits, width_if, bits_before, input_count, first_and, source_lits, kind_test};
@@ -51,7 +52,7 @@ fn width_if(net: &Net, sort: SigKind, s: Sig) -> u32
 /// bits of all inputs: the variables of registers follow theirs.
 pub fn sources(alloc: Global, net: &Net, inputs: u32) -> Result<Vec<Pins>, AllocError>
     requires inputs { inputs ≡ input_count net.now }
-    requires few { first_and net.now ≤ 1073741824 }
+    requires few { first_and net.now ≤ variables_max }
     ensures long { IfOk result (λ t. length t.items ≡ length net.now.signals) }
     ensures lits { IfOk result (λ t. (s : ℕ) → s < length net.now.signals → lits_at t.items s ≡ source_lits net.now s) }
 {
@@ -72,8 +73,8 @@ fn source(alloc: Global, net: &Net, s: Sig, input: u32, latch: u32) -> Result<Ve
     requires known { s.0 < length net.now.signals }
     requires input { input ≡ 1 + bits_before is_input net.now s.0 }
     requires latch { latch ≡ 1 + input_count net.now + bits_before is_register net.now s.0 }
-    requires inputs_few { input + width_if is_input net.now s.0 ≤ 1073741824 }
-    requires latches_few { latch + width_if is_register net.now s.0 ≤ 1073741824 }
+    requires inputs_few { input + width_if is_input net.now s.0 ≤ variables_max }
+    requires latches_few { latch + width_if is_register net.now s.0 ≤ variables_max }
     ensures { IfOk result (λ r. r.items ≡ source_lits net.now s.0) }
 {
     match net.kind(s) {
@@ -85,7 +86,7 @@ fn source(alloc: Global, net: &Net, s: Sig, input: u32, latch: u32) -> Result<Ve
 
 // The literals of `count` variables, from `first` on.
 fn variables(alloc: Global, first: u32, count: u8) -> Result<Vec<Lit>, AllocError>
-    requires { first + count ≤ 1073741824 }
+    requires { first + count ≤ variables_max }
     ensures { IfOk result (λ r. r.items ≡ variable_lits first count) }
 {
     let mut all = Vec::new(alloc);

@@ -1,6 +1,7 @@
 //! The weight of a net, which bounds the ANDs that it takes, and the test that all registers reset to 0.
 
 ghost use Rattle.std.specs.Prelude.{◌≡◌, ℕ, ◌+◌, ◌*◌, ◌<◌, ◌≤◌, ◌∷◌, ◌↔◌, List, length, IsNone, IfSome, IsTrue};
+ghost use Rattle.safl_word.specs.Limits.{width_max};
 ghost use Rattle.safl_net.specs.Netlist.{width_of};
 ghost use Rattle.safl_net.specs.Making.{widths, numbers};
 ghost use Rattle.safl_net.specs.Rules.{IsNetlist, CellFits};
@@ -76,7 +77,7 @@ fn output_weight(net: &Net, i: u32) -> u64
 fn bus_width(net: &Net, s: Sig) -> u64
     requires { s.0 < length net.now.signals }
     ensures width { result ≡ width_of net.now s.0 }
-    ensures few { result ≤ 128 }
+    ensures few { result ≤ width_max }
 {
     let _count = net.signals();
     u64::from(net.width(s))
@@ -101,7 +102,7 @@ fn signal_weight(net: &Net, s: Sig) -> u64
 fn cell_weight(net: &Net, cell: &Cell, width: u64) -> u64
     requires netlist { IsNetlist net.now }
     requires fits { (w : ℕ) × CellFits net.now w (cell_of cell.now) }
-    requires width { width ≤ 128 }
+    requires width { width ≤ width_max }
     ensures weight { result ≡ op_weight cell.now.op width (widths net.now (cell_of cell.now).operands) }
     ensures few { result ≤ 16384 }
 {
@@ -129,9 +130,9 @@ fn cell_weight(net: &Net, cell: &Cell, width: u64) -> u64
 // The weight of an operation whose result has width `width`. `other` is the width of its second operand, `most` the
 // greatest width of an operand.
 fn op_weight(op: &Op, width: u64, other: u64, most: u64) -> u64
-    requires width { width ≤ 128 }
-    requires second { other ≤ 128 }
-    requires most { most ≤ 128 }
+    requires width { width ≤ width_max }
+    requires second { other ≤ width_max }
+    requires most { most ≤ width_max }
     ensures weight { (ws : List ℕ) → greatest ws ≡ most → second ws ≡ other → result ≡ op_weight op.now width ws }
     ensures few { result ≤ 16384 }
 {

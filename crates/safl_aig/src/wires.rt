@@ -1,6 +1,7 @@
 //! The literals of wires.
 
 ghost use Rattle.std.specs.Prelude.{◌≡◌, ℕ, ◌+◌, ◌*◌, ◌<◌, ◌≤◌, [], ◌∷◌, length, Some, slice_get, IfOk};
+ghost use Rattle.safl_word.specs.Limits.{width_max};
 ghost use Rattle.safl_net.specs.Netlist.{AllSet};
 ghost use Rattle.safl_order.specs.Order.{IsWire};
 ghost use Rattle.safl_aig.specs.Weights.{signal_weight};
@@ -88,7 +89,7 @@ fn two_made(
     requires room { MayDo op.now g.old (length a.now ∷ length b.now ∷ []) }
     requires first { AreLiterals g.old a.now }
     requires second { AreLiterals g.old b.now }
-    requires narrow { length a.now ≤ 128 }
+    requires narrow { length a.now ≤ width_max }
     ensures built { GrowsBy op.now g.old g.new (length a.now ∷ length b.now ∷ []) }
     ensures made { IfOk result (λ r. OpMade op.now (a.now ∷ b.now ∷ []) g.new r.items) }
 {

@@ -1,5 +1,6 @@
 -- Bit-level circuits as plain values.
 use Rattle.std.specs.Prelude.{◌≡◌, ℕ, ◌+◌, ◌*◌, ◌<◌, ◌≤◌, ◌≢◌, ◌^◌, List, map, length, All, Some, slice_get}
+use Rattle.safl_word.specs.Limits.{variables_max}
 use Rattle.safl_aiger.specs.declared.literal.Lit.{Lit}
 use Rattle.safl_aiger.specs.declared.circuit.Name.{Name}
 use Rattle.safl_aiger.specs.declared.circuit.Names.{Names}
@@ -51,7 +52,7 @@ abbrev pub AreBelow : ℕ → List (Lit × Lit) → Type 0
 AreBelow first ands = (k : ℕ) (p : Lit × Lit) → slice_get ands k ≡ Some p → (p.0.0 < 2 * (first + k)) × (p.1.0 < 2 * (first + k))
 
 pub record IsCircuit (a : Circuit) : Type 0 where
-  pub few : variables a < 2 ^ 30
+  pub few : variables a < variables_max
   pub nexts : All (λ (l : Lit). l.0 ≤ 2 * variables a + 1) a.nexts
   pub outputs : All (λ (l : Lit). l.0 ≤ 2 * variables a + 1) a.outputs
   pub output_count : length a.outputs < 2 ^ 31

@@ -1,6 +1,7 @@
 //! The text of a bit-level circuit.
 
 ghost use Rattle.std.specs.Prelude.{◌≡◌, ℕ, ◌+◌, ◌*◌, ◌<◌, ◌≤◌, ◌^◌, ◌++◌, ◌∷◌, [], length, All, IfOk, OnOk};
+ghost use Rattle.safl_word.specs.Limits.{variables_max};
 ghost use Rattle.safl_aiger.specs.Circuits.{names_of};
 ghost use Rattle.safl_aiger.specs.Texts.{joined, numbers_line, input_text, latch_text, output_text, and_text, symbol_text, symbols_text, header_line, written};
 
@@ -43,7 +44,7 @@ fn push_header(out: &mut Vec<u8>, a: &Aig) -> Result<(), NoMemory>
 }
 
 fn push_inputs(out: &mut Vec<u8>, count: u32) -> Result<(), NoMemory>
-    requires { count < 1073741824 }
+    requires { count < variables_max }
     ensures { OnOk result (out.new.items ≡ out.old.items ++ joined (input_text 1 count)) }
 {
     for i in 0..count {
@@ -53,7 +54,7 @@ fn push_inputs(out: &mut Vec<u8>, count: u32) -> Result<(), NoMemory>
 }
 
 fn push_latches(out: &mut Vec<u8>, first: u32, nexts: &[Lit]) -> Result<(), NoMemory>
-    requires { first + length nexts.now ≤ 1073741824 }
+    requires { first + length nexts.now ≤ variables_max }
     ensures { OnOk result (out.new.items ≡ out.old.items ++ joined (latch_text first nexts.now)) }
 {
     for i in 0..nexts.len() {
@@ -72,7 +73,7 @@ fn push_outputs(out: &mut Vec<u8>, outputs: &[Lit]) -> Result<(), NoMemory>
 }
 
 fn push_ands(out: &mut Vec<u8>, first: u32, ands: &[(Lit, Lit)]) -> Result<(), NoMemory>
-    requires { first + length ands.now ≤ 1073741824 }
+    requires { first + length ands.now ≤ variables_max }
     ensures { OnOk result (out.new.items ≡ out.old.items ++ joined (and_text first ands.now)) }
 {
     for i in 0..ands.len() {

@@ -1,6 +1,7 @@
 //! Nets of wires of one bit, with random operators and operands.
 
 ghost use Rattle.std.specs.Prelude.{◌≡◌, ◌+◌, ◌<◌, ◌≤◌, ◌^◌, All, Some, length, IfOk};
+ghost use Rattle.safl_word.specs.Limits.{count_max};
 ghost use Rattle.safl_net.specs.Names.{IsTidy};
 ghost use Rattle.safl_net.specs.Widths.{op_width};
 ghost use Rattle.safl_bench.specs.Bits.{OfBits, ones};
@@ -45,7 +46,7 @@ fn operator(number: u32) -> Primitive
 // constants.
 fn add_wire(net: &mut Net, number: u32) -> Result<Sig, NoMemory>
     requires bits { OfBits net.old }
-    requires room { length net.old.signals < 4294967295 }
+    requires room { length net.old.signals < count_max }
     ensures bits { OfBits net.new }
     ensures more { length net.new.signals ≤ length net.old.signals + 1 }
     ensures last { IfOk result (λ s. s.0 < length net.new.signals) }
@@ -71,7 +72,7 @@ fn add_wire(net: &mut Net, number: u32) -> Result<Sig, NoMemory>
 
 fn wire(net: &mut Net, op: Op, operands: &[Sig]) -> Result<Sig, NoMemory>
     requires bits { OfBits net.old }
-    requires room { length net.old.signals < 4294967295 }
+    requires room { length net.old.signals < count_max }
     requires known { All (λ s. s.0 < length net.old.signals) operands.now }
     requires fits { op_width op (ones (length operands.now)) ≡ Some 1 }
     ensures bits { OfBits net.new }

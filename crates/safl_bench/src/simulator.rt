@@ -5,6 +5,7 @@
 //! its simulator.
 
 ghost use Rattle.std.specs.Prelude.{◌<◌, ◌≤◌};
+ghost use Rattle.safl_word.specs.Limits.{width_max};
 
 use crate::wide_nets;
 use std::io;
@@ -75,7 +76,7 @@ fn ticks(wanted: Wanted, count: u32) -> Option<u32> {
 // Runs a net of `turns` turns for `ticks` cycles, or only makes it.
 fn show(rt: &HostRuntime, width: u8, turns: u32, ticks: Option<u32>) -> io::Result<()>
     requires wide { 8 ≤ width }
-    requires most { width ≤ 128 }
+    requires most { width ≤ width_max }
     requires few { turns < 700000000 }
 {
     let Ok(shown) = wide_nets::run(rt.alloc(), width, turns, ticks) else {

@@ -1,6 +1,7 @@
 //! Turns: groups of a few wires that take two words to two words. Together they use all operations.
 
 ghost use Rattle.std.specs.Prelude.{◌≡◌, ℕ, ◌+◌, ◌*◌, ◌<◌, ◌≤◌, List, [], ◌∷◌, length, Some, IfOk};
+ghost use Rattle.safl_word.specs.Limits.{count_max, width_max};
 ghost use Rattle.safl_net.specs.Names.{IsTidy};
 ghost use Rattle.safl_net.specs.Netlist.{Netlist};
 ghost use Rattle.safl_net.specs.Widths.{op_width};
@@ -26,7 +27,7 @@ const ODD: Raw = 0x9E37_79B9_7F4A_7C15_F39C_C060_5CED_C835;
 /// A word made of a number, with its bits spread over the width.
 pub fn spread(width: u8, number: u32) -> Word
     requires some { 1 ≤ width }
-    requires most { width ≤ 128 }
+    requires most { width ≤ width_max }
     ensures { result.width ≡ width }
 {
     Word::from_low_bits(width, Raw::from(number).wrapping_mul(ODD))
@@ -34,7 +35,7 @@ pub fn spread(width: u8, number: u32) -> Word
 
 // An operator that takes two words of one width to a word of that width.
 fn operator(i: u32) -> Primitive
-    ensures { (w : ℕ) → 1 ≤ w → w ≤ 128 → op_width (Op.Apply result) (w ∷ w ∷ []) ≡ Some w }
+    ensures { (w : ℕ) → 1 ≤ w → w ≤ width_max → op_width (Op.Apply result) (w ∷ w ∷ []) ≡ Some w }
 {
     match i % 6 {
         0 => Primitive::Mul,
@@ -48,7 +49,7 @@ fn operator(i: u32) -> Primitive
 
 // A comparison of two words of one width. It gives a bit.
 fn comparison(i: u32) -> Primitive
-    ensures { (w : ℕ) → 1 ≤ w → w ≤ 128 → op_width (Op.Apply result) (w ∷ w ∷ []) ≡ Some 1 }
+    ensures { (w : ℕ) → 1 ≤ w → w ≤ width_max → op_width (Op.Apply result) (w ∷ w ∷ []) ≡ Some 1 }
 {
     match i % 6 {
         0 => Primitive::Ne,
@@ -62,7 +63,7 @@ fn comparison(i: u32) -> Primitive
 
 // A shift of a word by an amount of 7 bits.
 fn shift(i: u32) -> Primitive
-    ensures { (w : ℕ) → 1 ≤ w → w ≤ 128 → op_width (Op.Apply result) (w ∷ 7 ∷ []) ≡ Some w }
+    ensures { (w : ℕ) → 1 ≤ w → w ≤ width_max → op_width (Op.Apply result) (w ∷ 7 ∷ []) ≡ Some w }
 {
     if i % 8 == 0 {
         Primitive::Shl
@@ -82,7 +83,7 @@ fn second(i: u32, other: Sig, input: Sig) -> Sig
 fn wire(net: &mut Net, op: Op, operands: &[Sig]) -> Result<Sig, NoMemory>
     requires tidy { IsTidy net.old }
     requires fits { (ws : List ℕ) × (w : ℕ) × Sized net.old operands.now ws × (op_width op ws ≡ Some w) }
-    requires room { length net.old.signals < 4294967295 }
+    requires room { length net.old.signals < count_max }
     ensures tidy { IsTidy net.new }
     ensures more { length net.new.signals ≤ length net.old.signals + 1 }
     ensures gives { (ws : List ℕ) (w : ℕ) → Sized net.old operands.now ws → op_width op ws ≡ Some w → IfOk result (Gives net.old net.new 1 w) }
@@ -93,12 +94,12 @@ fn wire(net: &mut Net, op: Op, operands: &[Sig]) -> Result<Sig, NoMemory>
 // Adds an operator's wire, and a choice between it and the last word, which a comparison makes.
 fn choose(net: &mut Net, width: u8, i: u32, input: Sig, ends: Ends) -> Result<Ends, NoMemory>
     requires some { 1 ≤ width }
-    requires most { width ≤ 128 }
+    requires most { width ≤ width_max }
     requires tidy { IsTidy net.old }
     requires input { Has net.old width input }
     requires last { Has net.old width ends.last }
     requires other { Has net.old width ends.other }
-    requires room { length net.old.signals + 3 < 4294967295 }
+    requires room { length net.old.signals + 3 < count_max }
     ensures { IfOk result (Turns net.old net.new 3 width) }
 {
     let operands = [ends.last, second(i, ends.other, input)];
@@ -111,11 +112,11 @@ fn choose(net: &mut Net, width: u8, i: u32, input: Sig, ends: Ends) -> Result<En
 // Adds a shift of `a` by 7 bits of `b`.
 fn shifted(net: &mut Net, width: u8, i: u32, a: Sig, b: Sig) -> Result<Sig, NoMemory>
     requires wide { 8 ≤ width }
-    requires most { width ≤ 128 }
+    requires most { width ≤ width_max }
     requires tidy { IsTidy net.old }
     requires first { Has net.old width a }
     requires second { Has net.old width b }
-    requires room { length net.old.signals + 2 < 4294967295 }
+    requires room { length net.old.signals + 2 < count_max }
     ensures { IfOk result (Gives net.old net.new 2 width) }
 {
     let amount = wire(net, Op::Apply(Primitive::Bits(6, 0)), &[b])?;
@@ -125,11 +126,11 @@ fn shifted(net: &mut Net, width: u8, i: u32, a: Sig, b: Sig) -> Result<Sig, NoMe
 // Adds the concatenation of the low half of one word and the high half of the other.
 fn joined(net: &mut Net, width: u8, a: Sig, b: Sig) -> Result<Sig, NoMemory>
     requires wide { 8 ≤ width }
-    requires most { width ≤ 128 }
+    requires most { width ≤ width_max }
     requires tidy { IsTidy net.old }
     requires first { Has net.old width a }
     requires second { Has net.old width b }
-    requires room { length net.old.signals + 3 < 4294967295 }
+    requires room { length net.old.signals + 3 < count_max }
     ensures { IfOk result (Gives net.old net.new 3 width) }
 {
     let half = width / 2;
@@ -141,10 +142,10 @@ fn joined(net: &mut Net, width: u8, a: Sig, b: Sig) -> Result<Sig, NoMemory>
 // Adds an operation on a word and a constant.
 fn changed(net: &mut Net, width: u8, i: u32, a: Sig) -> Result<Sig, NoMemory>
     requires wide { 8 ≤ width }
-    requires most { width ≤ 128 }
+    requires most { width ≤ width_max }
     requires tidy { IsTidy net.old }
     requires has { Has net.old width a }
-    requires room { length net.old.signals + 2 < 4294967295 }
+    requires room { length net.old.signals + 2 < count_max }
     ensures { IfOk result (Gives net.old net.new 2 width) }
 {
     let constant = wire(net, Op::Const(spread(width, i)), &[])?;
@@ -154,11 +155,11 @@ fn changed(net: &mut Net, width: u8, i: u32, a: Sig) -> Result<Sig, NoMemory>
 // Adds an operation on two words, another one in each turn.
 fn mix(net: &mut Net, width: u8, i: u32, a: Sig, b: Sig) -> Result<Sig, NoMemory>
     requires wide { 8 ≤ width }
-    requires most { width ≤ 128 }
+    requires most { width ≤ width_max }
     requires tidy { IsTidy net.old }
     requires first { Has net.old width a }
     requires second { Has net.old width b }
-    requires room { length net.old.signals + 3 < 4294967295 }
+    requires room { length net.old.signals + 3 < count_max }
     ensures { IfOk result (Gives net.old net.new 3 width) }
 {
     match i % 8 {
@@ -173,12 +174,12 @@ fn mix(net: &mut Net, width: u8, i: u32, a: Sig, b: Sig) -> Result<Sig, NoMemory
 /// Adds the wires of turn `i`.
 pub fn turn(net: &mut Net, width: u8, i: u32, input: Sig, ends: Ends) -> Result<Ends, NoMemory>
     requires wide { 8 ≤ width }
-    requires most { width ≤ 128 }
+    requires most { width ≤ width_max }
     requires tidy { IsTidy net.old }
     requires input { Has net.old width input }
     requires last { Has net.old width ends.last }
     requires other { Has net.old width ends.other }
-    requires room { length net.old.signals + TURN_MAX < 4294967295 }
+    requires room { length net.old.signals + TURN_MAX < count_max }
     ensures { IfOk result (Turns net.old net.new TURN_MAX width) }
 {
     let chosen = choose(net, width, i, input, ends)?;

@@ -1,6 +1,7 @@
 //! Nets with all operations, and their runs.
 
 ghost use Rattle.std.specs.Prelude.{◌≡◌, ◌+◌, ◌*◌, ◌<◌, ◌≤◌, length, IfOk, OnOk};
+ghost use Rattle.safl_word.specs.Limits.{count_max, width_max};
 ghost use Rattle.safl_net.specs.Names.{IsTidy};
 ghost use Rattle.safl_net.specs.Growth.{Grows};
 ghost use Rattle.safl_bench.specs.WideNets.{Has, TakesOne};
@@ -22,10 +23,10 @@ pub struct Shown {
 // Adds `turns` turns. The result is the last wire.
 fn chain(net: &mut Net, width: u8, input: Sig, turns: u32) -> Result<Sig, NoMemory>
     requires wide { 8 ≤ width }
-    requires most { width ≤ 128 }
+    requires most { width ≤ width_max }
     requires tidy { IsTidy net.old }
     requires has { Has net.old width input }
-    requires room { length net.old.signals + TURN_MAX * turns < 4294967295 }
+    requires room { length net.old.signals + TURN_MAX * turns < count_max }
     ensures grows { OnOk result (Grows net.old net.new) }
     ensures has { IfOk result (Has net.new width) }
 {
@@ -42,7 +43,7 @@ fn chain(net: &mut Net, width: u8, input: Sig, turns: u32) -> Result<Sig, NoMemo
 // A net with one input and `turns` turns, and its last wire.
 fn mixed(alloc: Global, width: u8, turns: u32) -> Result<(Net, Sig), NoMemory>
     requires wide { 8 ≤ width }
-    requires most { width ≤ 128 }
+    requires most { width ≤ width_max }
     requires few { turns < 700000000 }
     ensures takes { IfOk result (λ r. TakesOne r.0 width) }
     ensures last { IfOk result (λ r. r.1.0 < length r.0.signals) }
@@ -58,7 +59,7 @@ fn mixed(alloc: Global, width: u8, turns: u32) -> Result<(Net, Sig), NoMemory>
 /// Runs a net of `turns` turns for `ticks` cycles, or only makes it. Widths are from 8 to 128 bits.
 pub fn run(alloc: Global, width: u8, turns: u32, ticks: Option<u32>) -> Result<Shown, NoMemory>
     requires wide { 8 ≤ width }
-    requires most { width ≤ 128 }
+    requires most { width ≤ width_max }
     requires few { turns < 700000000 }
 {
     let (net, last) = mixed(alloc, width, turns)?;

@@ -4,7 +4,7 @@ use Rattle.std.proofs.Common.{nat_le, cond, Some, None, refl, sym, ap, ◌∙◌
 use Rattle.std.proofs.lemmas.Bool.Decides.{nat_tests}
 use Rattle.std.proofs.lemmas.List.{length-drop, length-take-le}
 use Rattle.std.proofs.lemmas.List.Elements.{All-same, All-append, All-take, All-drop}
-use Rattle.safl_word.specs.Words.{max_width}
+use Rattle.safl_word.specs.Limits.{width_max}
 use Rattle.safl_word.specs.declared.primitive.Primitive.TheVariants.{Not, Cat, Bits}
 use Rattle.safl_word.specs.Primitives.{is_width, result_width, where_true}
 use Rattle.safl_word.proofs.Widths.{within}
@@ -14,7 +14,7 @@ use Rattle.safl_bits.specs.Gates.{Gates, IsLiteral, AreLiterals}
 use Rattle.safl_bits.specs.Results.{Makes, MakesOne}
 use Rattle.safl_bits.proofs.Moving.{shown-append, shown_take, shown_drop}
 
-pub not_makes : (g : Gates) (a r : List Lit) → 1 ≤ length a → length a ≤ max_width → AreLiterals g r → length r ≡ length a →
+pub not_makes : (g : Gates) (a r : List Lit) → 1 ≤ length a → length a ≤ width_max → AreLiterals g r → length r ≡ length a →
     ((m : Assignment) → shown m r + shown m a + 1 ≡ 2 ^ length a) → MakesOne Not a g r
 not_makes g a r some most f l v = record {
   fits = f;
@@ -23,7 +23,7 @@ not_makes g a r some most f l v = record {
   value = λ m h. let e = v m in omega (arith, e);
 }
 
-pub cut_makes : (g : Gates) (a r : List Lit) (high low : ℕ) → low ≤ high → high < length a → length a ≤ max_width → AreLiterals g a → r ≡ take
+pub cut_makes : (g : Gates) (a r : List Lit) (high low : ℕ) → low ≤ high → high < length a → length a ≤ width_max → AreLiterals g a → r ≡ take
     (high + 1 - low) (drop low a) → MakesOne (Bits high low) a g r
 cut_makes g a r high low p q most f e =
     let z : high + 1 - low ≡ high - low + 1 = omega (arith, p) in
@@ -49,6 +49,6 @@ cat_makes g a b r w s f k e =
     let l : length r ≡ length a + length b = ap length e ∙ (let x = length-append b a in omega (arith, x)) in
     record {
       fits = All-same (IsLiteral g) r (b ++ a) e (All-append (IsLiteral g) b a k f);
-      long = both_where (is_width (length a) && is_width (length b)) (nat_le (length a + length b) max_width) (length a + length b) w s ∙ ap (λ n. Some n) (sym l);
+      long = both_where (is_width (length a) && is_width (length b)) (nat_le (length a + length b) width_max) (length a + length b) w s ∙ ap (λ n. Some n) (sym l);
       value = λ m h. ap (shown m) e ∙ shown-append m b a ∙ (let z : shown m b + 2 ^ length b * shown m a ≡ shown m a * 2 ^ length b + shown m b = grind arith in z);
     }

@@ -1,5 +1,6 @@
 -- Graphs of ANDs, and how they grow.
 use Rattle.std.specs.Prelude.{◌≡◌, ℕ, ◌+◌, ◌*◌, ◌/◌, ◌<◌, ◌≤◌, List, ◌++◌, length, All, Bool, not, ◌&&◌, cond, false}
+use Rattle.safl_word.specs.Limits.{variables_max}
 use Rattle.safl_aiger.specs.declared.literal.Lit.{Lit}
 use Rattle.safl_aiger.specs.Literals.{Assignment, on}
 use Rattle.safl_aiger.specs.Circuits.{AreBelow}
@@ -16,7 +17,7 @@ count g = g.first + length g.ands
 
 pub record IsGates (g : Gates) : Type 0 where
   pub some : 1 ≤ g.first
-  pub few : count g ≤ 1073741824
+  pub few : count g ≤ variables_max
   pub below : AreBelow g.first g.ands
 
 -- the literal belongs to a variable of the graph
@@ -28,7 +29,7 @@ AreLiterals g ls = All (IsLiteral g) ls
 
 -- so many more ANDs have numbers of 31 bits
 abbrev pub HasRoom : Gates → ℕ → Type 0
-HasRoom g most = count g + most ≤ 1073741824
+HasRoom g most = count g + most ≤ variables_max
 
 -- the new graph has all ANDs of the old one, and at most so many more
 pub record Grows (old new : Gates) (most : ℕ) : Type 0 where

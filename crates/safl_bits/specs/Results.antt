@@ -1,6 +1,7 @@
 -- Literals that show the result of an operator.
 use Rattle.std.specs.Prelude.{◌≡◌, ℕ, ◌*◌, ◌<◌, ◌≤◌, List, [], ◌∷◌, length, Some}
-use Rattle.safl_word.specs.Words.{Word, max_width}
+use Rattle.safl_word.specs.Words.{Word}
+use Rattle.safl_word.specs.Limits.{width_max}
 use Rattle.safl_word.specs.declared.primitive.Primitive.{Primitive}
 use Rattle.safl_word.specs.declared.primitive.Primitive.TheVariants.{Not, Bits}
 use Rattle.safl_word.specs.Primitives.{result_width, apply_prim}
@@ -33,6 +34,6 @@ GrowsBy p old new ws = (w : ℕ) → result_width p ws ≡ Some w → Grows old 
 
 -- the operator takes one operand of this width: it inverts it or takes a slice of it
 abbrev pub MayTake : Primitive → ℕ → Type 0
-MayTake Not w = (1 ≤ w) × (w ≤ max_width)
-MayTake (Bits high low) w = (low ≤ high) × (high < w) × (w ≤ max_width)
+MayTake Not w = (1 ≤ w) × (w ≤ width_max)
+MayTake (Bits high low) w = (low ≤ high) × (high < w) × (w ≤ width_max)
 MayTake _ w = ⊥

@@ -3,6 +3,7 @@
 ghost use Rattle.std.specs.Prelude.{◌≡◌, ℕ, ◌+◌, ◌*◌, ◌<◌, ◌≤◌, ◌&&◌, ◌++◌, ◌∷◌, [], not, false, length, IfOk, IfSome, OnErr, OnOk};
 ghost use Rattle.std.specs.Cmp.Rules.{hashing};
 ghost use Rattle.std.proofs.Common.{rules};
+ghost use Rattle.safl_word.specs.Limits.{variables_max};
 ghost use Rattle.safl_aiger.specs.Literals.{Assignment, on};
 ghost use Rattle.safl_bits.specs.Sharing.{operands_input};
 ghost use Rattle.safl_bits.specs.Gates.{IsGates, IsLiteral, HasRoom, Grows, Holds, Folds, Inverts};
@@ -53,7 +54,7 @@ impl Graph {
     /// A graph without ANDs. The first AND will have the variable `first`.
     pub fn new(alloc: Global, first: u32) -> Graph
         requires some { 1 ≤ first }
-        requires few { first ≤ 1073741824 }
+        requires few { first ≤ variables_max }
         ensures { result ≡ record { first = first; ands = [] } }
     {
         Graph {

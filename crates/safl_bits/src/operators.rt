@@ -1,6 +1,7 @@
 //! Operators on words that are lists of literals.
 
 ghost use Rattle.std.specs.Prelude.{◌≡◌, ℕ, ◌+◌, ◌*◌, ◌%◌, ◌^◌, ◌<◌, ◌≤◌, [], ◌∷◌, ◌++◌, length, IfOk};
+ghost use Rattle.safl_word.specs.Limits.{width_max};
 ghost use Rattle.safl_aiger.specs.Literals.{Assignment, on, shown};
 ghost use Rattle.safl_bits.specs.Gates.{Gates, IsLiteral, AreLiterals, HasRoom, Grows, Holds};
 ghost use Rattle.safl_bits.specs.Results.{Makes, MakesOne, MayMake, MayTake, GrowsBy};
@@ -23,7 +24,7 @@ pub fn apply_to_two(
 ) -> Result<Vec<Lit>, AllocError>
     requires first { AreLiterals g.old a.now }
     requires second { AreLiterals g.old b.now }
-    requires narrow { length a.now ≤ 128 }
+    requires narrow { length a.now ≤ width_max }
     requires room { MayMake p g.old (length a.now ∷ length b.now ∷ []) }
     ensures built { GrowsBy p g.old g.new (length a.now ∷ length b.now ∷ []) }
     ensures made { IfOk result (λ r. Makes p a.now b.now g.new r.items) }

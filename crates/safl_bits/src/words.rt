@@ -2,6 +2,7 @@
 
 ghost use Rattle.std.specs.Prelude.{◌≡◌, ℕ, ◌+◌, ◌-◌, ◌*◌, ◌/◌, ◌%◌, ◌^◌, ◌<◌, ◌≤◌, ◌==◌, ◌&&◌, ◌||◌, not, false, cond, nat_le, replicate, length, IfOk};
 ghost use Rattle.safl_word.specs.Primitives.{bit_of};
+ghost use Rattle.safl_word.specs.Limits.{width_max};
 ghost use Rattle.safl_aiger.specs.Literals.{Assignment, on, shown};
 ghost use Rattle.safl_bits.specs.Gates.{Gates, IsLiteral, AreLiterals, HasRoom, Grows, Holds};
 ghost use Rattle.safl_bits.specs.Operators.{gate_bit, gate_number};
@@ -391,7 +392,7 @@ fn displace_where(
 // How many bits of the amount a shift looks at, at most. Two to this power is at least the width, so a higher bit moves
 // all bits out.
 fn stages(width: usize) -> usize
-    requires { width ≤ 128 }
+    requires { width ≤ width_max }
     ensures few { result ≤ 7 }
     ensures enough { width ≤ 2 ^ result }
 {
@@ -417,7 +418,7 @@ pub fn shift(
 ) -> Result<Vec<Lit>, AllocError>
     requires word { AreLiterals g.old a.now }
     requires amount { AreLiterals g.old amount.now }
-    requires narrow { length a.now ≤ 128 }
+    requires narrow { length a.now ≤ width_max }
     requires room { HasRoom g.old (22 * length a.now + length amount.now) }
     ensures built { Grows g.old g.new (22 * length a.now + length amount.now) }
     ensures fits { IfOk result (λ r. AreLiterals g.new r.items) }
@@ -449,7 +450,7 @@ pub fn constant(alloc: Global, zero: Lit, word: Word) -> Result<Vec<Lit>, AllocE
 
 // The literal of one bit of a number.
 fn constant_bit(zero: Lit, bits: Raw, place: u8) -> Lit
-    requires { place < 128 }
+    requires { place < width_max }
     ensures fits { (g : Gates) → IsLiteral g zero → IsLiteral g result }
     ensures value { (m : Assignment) → on m zero ≡ false → bit_of (on m result) ≡ bits / 2 ^ place % 2 }
 {

@@ -13,8 +13,7 @@ use Rattle.safl_tree.specs.Tree.{Definition}
 use Rattle.safl_tree.specs.Shown.{shown_definition, shown_definitions, shown_parameters}
 use Rattle.safl_tree.specs.declared.tree.Param.{Param}
 use Rattle.safl_tree.specs.declared.tree.Def.{Def}
-use Rattle.safl_term.specs.Sizes.{max_bindings}
-use Rattle.safl_typing.specs.Forms.{max_params, max_sites, max_nodes}
+use Rattle.safl_word.specs.Limits.{bindings_max, params_max, sites_max, nodes_max}
 use Rattle.safl_typing.specs.Heads.{Head, sites, unit_of}
 use Rattle.safl_typing.specs.declared.heads.Head as code_head
 use Rattle.safl_typing.specs.PlainHeads.{shown_heads, known}
@@ -37,10 +36,10 @@ excess_none {A = A} {B = B} s place xs n f =
 -- ---- one definition
 
 abbrev pub list_fault : Definition → Expression → Option Fault
-list_fault d e = or_else (limit 2 max_params (excess max_params (map (λ p. p.place) d.params))) (limit 3 max_bindings (long_let e))
+list_fault d e = or_else (limit 2 params_max (excess params_max (map (λ p. p.place) d.params))) (limit 3 bindings_max (long_let e))
 
 abbrev pub sum_fault : ℕ → ℕ → ℕ → Option Fault
-sum_fault p s n = or_else (needs (nat_le s max_sites) (fault_with rules.E16 p 4 max_sites)) (needs (nat_le n max_nodes) (fault_with rules.E16 p 5 max_nodes))
+sum_fault p s n = or_else (needs (nat_le s sites_max) (fault_with rules.E16 p 4 sites_max)) (needs (nat_le n nodes_max) (fault_with rules.E16 p 5 nodes_max))
 
 -- counting stops above the limit
 capped : (c x y : ℕ) → y ≡ min (c + 1) x → nat_le y c ≡ nat_le x c
@@ -49,8 +48,8 @@ capped c x y e =
 
 sums_capped : (p s n x y : ℕ) → s ≡ min 4001 x → n ≡ min 50001 y → sum_fault p x y ≡ sum_fault p s n
 sums_capped p s n x y es en =
-    ap (λ (b : Bool). or_else (needs b (fault_with rules.E16 p 4 max_sites)) (needs (nat_le y max_nodes) (fault_with rules.E16 p 5 max_nodes))) (sym (capped 4000 x s es))
-    ∙ ap (λ (b : Bool). or_else (needs (nat_le s max_sites) (fault_with rules.E16 p 4 max_sites)) (needs b (fault_with rules.E16 p 5 max_nodes))) (sym (capped 50000 y n en))
+    ap (λ (b : Bool). or_else (needs b (fault_with rules.E16 p 4 sites_max)) (needs (nat_le y nodes_max) (fault_with rules.E16 p 5 nodes_max))) (sym (capped 4000 x s es))
+    ∙ ap (λ (b : Bool). or_else (needs (nat_le s sites_max) (fault_with rules.E16 p 4 sites_max)) (needs b (fault_with rules.E16 p 5 nodes_max))) (sym (capped 50000 y n en))
 
 -- without a fault the counts are exact
 pub record AreWithin (s n x y : ℕ) : Type 0 where
@@ -61,9 +60,9 @@ pub record AreWithin (s n x y : ℕ) : Type 0 where
 
 sums_within : (p s n x y : ℕ) → s ≡ min 4001 x → n ≡ min 50001 y → None ≡ sum_fault p s n → AreWithin s n x y
 sums_within p s n x y es en h =
-    let both = none_both (needs (nat_le s max_sites) (fault_with rules.E16 p 4 max_sites)) (needs (nat_le n max_nodes) (fault_with rules.E16 p 5 max_nodes)) h in
-    let ls : s ≤ 4000 = leb-true s max_sites (needs_none (nat_le s max_sites) (fault_with rules.E16 p 4 max_sites) both.0) in
-    let ln : n ≤ 50000 = leb-true n max_nodes (needs_none (nat_le n max_nodes) (fault_with rules.E16 p 5 max_nodes) both.1) in
+    let both = none_both (needs (nat_le s sites_max) (fault_with rules.E16 p 4 sites_max)) (needs (nat_le n nodes_max) (fault_with rules.E16 p 5 nodes_max)) h in
+    let ls : s ≤ 4000 = leb-true s sites_max (needs_none (nat_le s sites_max) (fault_with rules.E16 p 4 sites_max) both.0) in
+    let ln : n ≤ 50000 = leb-true n nodes_max (needs_none (nat_le n nodes_max) (fault_with rules.E16 p 5 nodes_max) both.1) in
     record { sites = ls; nodes = ln; all_sites = omega (arith, es, ls); all_nodes = omega (arith, en, ln) }
 
 grouped : (a b c e r : Option Fault) → or_else a (or_else b (or_else c (or_else e r))) ≡ or_else (or_else a b) (or_else (or_else c e) r)
@@ -82,8 +81,8 @@ here all i u s n d ds b v eb ev =
     let z : Expression = rewritten d.body in
     let w : ℕ = unit_of i u d in
     let plainly : limits_from all i u s n (d ∷ ds) ≡ whole z w =
-    grouped (limit 2 max_params (excess max_params (map (λ p. p.place) d.params))) (limit 3 max_bindings (long_let z))
-    (needs (nat_le (sites_with all w s z) max_sites) (fault_with rules.E16 d.place 4 max_sites)) (needs (nat_le (n + nodes z) max_nodes) (fault_with rules.E16 d.place 5 max_nodes))
+    grouped (limit 2 params_max (excess params_max (map (λ p. p.place) d.params))) (limit 3 bindings_max (long_let z))
+    (needs (nat_le (sites_with all w s z) sites_max) (fault_with rules.E16 d.place 4 sites_max)) (needs (nat_le (n + nodes z) nodes_max) (fault_with rules.E16 d.place 5 nodes_max))
     (limits_from all (suc i) w (sites_with all w s z) (n + nodes z) ds) in
     plainly ∙ sym (ap (λ (j : ℕ). whole z j) ev) ∙ sym (ap (λ (y : Expression). whole y v) eb)
 
@@ -153,10 +152,10 @@ searched_next all ds i u s n d b v t m h at ev et em e q =
 
 -- what the code calls with parts of a definition, and with all heads
 pub lists_of : (r : Option Fault) (d : Def) (ps : List Param) (long : Option ℕ) (b : Expression) → ps ≡ d.params.items → long ≡ long_let b
-    → r ≡ or_else (limit 2 max_params (excess max_params (map (λ p. p.place) (shown_parameters ps)))) (limit 3 max_bindings long) → r ≡ list_fault (shown_definition d) b
+    → r ≡ or_else (limit 2 params_max (excess params_max (map (λ p. p.place) (shown_parameters ps)))) (limit 3 bindings_max long) → r ≡ list_fault (shown_definition d) b
 lists_of r d ps long b e l h =
-    h ∙ ap (λ (l : List Param). or_else (limit 2 max_params (excess max_params (map (λ p. p.place) (shown_parameters l)))) (limit 3 max_bindings long)) e
-    ∙ ap (λ (o : Option ℕ). or_else (limit 2 max_params (excess max_params (map (λ p. p.place) (shown_definition d).params))) (limit 3 max_bindings o)) l
+    h ∙ ap (λ (l : List Param). or_else (limit 2 params_max (excess params_max (map (λ p. p.place) (shown_parameters l)))) (limit 3 bindings_max long)) e
+    ∙ ap (λ (o : Option ℕ). or_else (limit 2 params_max (excess params_max (map (λ p. p.place) (shown_definition d).params))) (limit 3 bindings_max o)) l
 
 pub sites_of : (hs : List code_head.Head) (all : List Head) (v s t : ℕ) (b : Expression) → shown_heads hs ≡ all → t ≡ min 4001 (s + sites (known hs v) b) → t ≡ min 4001 (sites_with all v s b)
 sites_of hs all v s t b p h = h ∙ ap (λ (l : List Head). min 4001 (sites_with l v s b)) p

@@ -10,7 +10,8 @@ use Rattle.safl_tree.specs.Shown.{shown_definition, shown_definitions}
 use Rattle.safl_tree.specs.declared.tree.Def.{Def}
 use Rattle.safl_tree.specs.Printable.{IsFormedProgram}
 use Rattle.safl_typing.specs.Heads.{Head, heads, unit_of}
-use Rattle.safl_typing.specs.Forms.{FunctionForm, Form, AreFunctionsOf, AreShallow, IsFormOf, all_sites, form_of, shown_function, max_functions}
+use Rattle.safl_typing.specs.Forms.{FunctionForm, Form, AreFunctionsOf, AreShallow, IsFormOf, all_sites, form_of, shown_function}
+use Rattle.safl_word.specs.Limits.{functions_max}
 use Rattle.safl_typing.specs.Laws.{WalkGivesForm}
 use Rattle.safl_typing.specs.PlainTyped.{Refuses}
 use Rattle.safl_term.specs.Readiness.{or_else}
@@ -57,7 +58,7 @@ second_of : (a b : Option Fault) (f : Fault) → a ≡ None → b ≡ Some f →
 second_of a b f e h = rw e h
 
 abbrev count_fault : List Definition → Option Fault
-count_fault ds = limit 1 max_functions (excess max_functions (map (λ d. d.place) ds))
+count_fault ds = limit 1 functions_max (excess functions_max (map (λ d. d.place) ds))
 
 pub count_first : (ds : List Definition) (f : Fault) → count_fault ds ≡ Some f → limits ds ≡ Some f
 count_first ds f e = first_of _ _ f e
@@ -68,7 +69,7 @@ limit_next ds f e h = second_of _ _ f e h
 -- definitions that are not too many
 pub few : (defs : List Def) → count_fault (shown_definitions defs) ≡ None → length defs ≤ 1000
 few defs e =
-    let places = none_excess max_functions (map (λ d. d.place) (shown_definitions defs)) (none_limit _ _ _ e) in
+    let places = none_excess functions_max (map (λ d. d.place) (shown_definitions defs)) (none_limit _ _ _ e) in
     omega (arith, places, length-map (shown_definitions defs) (λ d. d.place), length-map defs shown_definition)
 
 -- ---- forms

@@ -11,8 +11,7 @@ use Rattle.safl_typing.specs.declared.heads.Slot as code_slot
 use Rattle.safl_typing.specs.declared.heads.Head as code_head
 use Rattle.safl_typing.specs.Rewriting.{Expression, rewritten, nodes}
 use Rattle.safl_typing.specs.Heads.{Slot, Head, Known, unit_of, slot_of, params_of, head_of, heads_from, heads, sites}
-use Rattle.safl_term.specs.Sizes.{max_bindings}
-use Rattle.safl_typing.specs.Forms.{max_functions, max_params, max_sites, max_nodes}
+use Rattle.safl_word.specs.Limits.{bindings_max, functions_max, params_max, sites_max, nodes_max}
 use Rattle.safl_typing.specs.Ranges.{WideSlots, WideHeads, IsInRange}
 use Rattle.safl_typing.specs.Walk.{fault_with, needs, excess, limit, long_let, limits_from, limits}
 use Rattle.safl_typing.specs.Plain.{shown_expression}
@@ -30,9 +29,9 @@ parts_same x y xs ys e = (cc, cc)
 
 -- the first definition passes none, and nor do those after it
 pub record KeepsLimits (all : List Head) (n u s m : ℕ) (d : Definition) (ds : List Definition) : Type 0 where
-  pub few_params : length d.params ≤ max_params
-  pub few_sites : s + sites (record { heads = all; unit = unit_of n u d }) (rewritten d.body) ≤ max_sites
-  pub few_nodes : m + nodes (rewritten d.body) ≤ max_nodes
+  pub few_params : length d.params ≤ params_max
+  pub few_sites : s + sites (record { heads = all; unit = unit_of n u d }) (rewritten d.body) ≤ sites_max
+  pub few_nodes : m + nodes (rewritten d.body) ≤ nodes_max
   pub rest : limits_from all (suc n) (unit_of n u d) (s + sites (record { heads = all; unit = unit_of n u d }) (rewritten d.body)) (m + nodes (rewritten d.body)) ds ≡ None
 
 none_needs : (b : Bool) (f : Fault) → needs b f ≡ None → b ≡ true
@@ -44,14 +43,14 @@ keeps_limits all n u s m d ds e =
     let places : List ℕ = map (λ (p : Parameter). p.place) d.params in
     let in_all : ℕ = s + sites (record { heads = all; unit = unit_of n u d }) (rewritten d.body) in
     let nodes_all : ℕ = m + nodes (rewritten d.body) in
-    let q1 = none_both (limit 2 max_params (excess max_params places)) _ e in
-    let q2 = none_both (limit 3 max_bindings (long_let (rewritten d.body))) _ q1.1 in
-    let q3 = none_both (needs (nat_le in_all max_sites) (fault_with _ d.place 4 max_sites)) _ q2.1 in
-    let q4 = none_both (needs (nat_le nodes_all max_nodes) (fault_with _ d.place 5 max_nodes)) _ q3.1 in
+    let q1 = none_both (limit 2 params_max (excess params_max places)) _ e in
+    let q2 = none_both (limit 3 bindings_max (long_let (rewritten d.body))) _ q1.1 in
+    let q3 = none_both (needs (nat_le in_all sites_max) (fault_with _ d.place 4 sites_max)) _ q2.1 in
+    let q4 = none_both (needs (nat_le nodes_all nodes_max) (fault_with _ d.place 5 nodes_max)) _ q3.1 in
     record {
-      few_params = subst (λ (k : ℕ). k ≤ max_params) (length-map d.params (λ (p : Parameter). p.place)) (none_excess max_params places (none_limit 2 max_params _ q1.0));
-      few_sites = leb-true in_all max_sites (none_needs _ _ q3.0);
-      few_nodes = leb-true nodes_all max_nodes (none_needs _ _ q4.0);
+      few_params = subst (λ (k : ℕ). k ≤ params_max) (length-map d.params (λ (p : Parameter). p.place)) (none_excess params_max places (none_limit 2 params_max _ q1.0));
+      few_sites = leb-true in_all sites_max (none_needs _ _ q3.0);
+      few_nodes = leb-true nodes_all nodes_max (none_needs _ _ q4.0);
       rest = q4.1;
     }
 
@@ -82,13 +81,13 @@ pub record AreKnown (all : List Head) (hs : List code_head.Head) : Type 0 where
   pub counted : length hs < 2 ^ 32
   pub params : CountParams hs
 
-few_functions : (ds : List Definition) → limits ds ≡ None → length ds ≤ max_functions
+few_functions : (ds : List Definition) → limits ds ≡ None → length ds ≤ functions_max
 few_functions ds e =
-    let q = none_both (limit 1 max_functions (excess max_functions (map (λ (d : Definition). d.place) ds))) _ e in
-    subst (λ (k : ℕ). k ≤ max_functions) (length-map ds (λ (d : Definition). d.place)) (none_excess max_functions _ (none_limit 1 max_functions _ q.0))
+    let q = none_both (limit 1 functions_max (excess functions_max (map (λ (d : Definition). d.place) ds))) _ e in
+    subst (λ (k : ℕ). k ≤ functions_max) (length-map ds (λ (d : Definition). d.place)) (none_excess functions_max _ (none_limit 1 functions_max _ q.0))
 
 no_limit_from : (ds : List Definition) → limits ds ≡ None → limits_from (heads ds) 0 0 0 0 ds ≡ None
-no_limit_from ds e = (none_both (limit 1 max_functions (excess max_functions (map (λ (d : Definition). d.place) ds))) _ e).1
+no_limit_from ds e = (none_both (limit 1 functions_max (excess functions_max (map (λ (d : Definition). d.place) ds))) _ e).1
 
 pub are_known : (ds : List Definition) (hs : List code_head.Head) → IsFormedProgram ds → shown_heads hs ≡ heads ds → limits ds ≡ None → AreKnown (heads ds) hs
 are_known ds hs formed is e =

@@ -14,7 +14,7 @@ use Rattle.safl_tree.specs.declared.tree.Bind.{Bind}
 use Rattle.safl_tree.specs.declared.tree.Arm.{Arm}
 use Rattle.safl_check.specs.Parts as shown
 use Rattle.safl_check.specs.Parts.{trees_in, values_in, arms_in, parts, pending, values_of, arm_count, own_nodes, own_sites, own_long_let, total_nodes}
-use Rattle.safl_term.specs.Sizes.{max_bindings}
+use Rattle.safl_word.specs.Limits.{bindings_max}
 use Rattle.safl_typing.specs.Heads.{Known}
 use Rattle.safl_typing.specs.Rewriting.{Expression, rewritten_binds}
 use Rattle.safl_typing.specs.Walk.{excess, placed}
@@ -119,9 +119,9 @@ places_of [] = refl
 places_of (b ∷ bs) = ap (λ (l : List ℕ). b.place ∷ l) (places_of bs)
 
 pub long_let_at : (n : Node) (p : ℕ) (binds : Vec Bind Global) (b : Box Expr Global) (xs : List Bind) (r : Option ℕ) → n ≡ Let binds b → xs ≡ binds.items
-    → r ≡ excess max_bindings (map (λ (b : Bind). b.place) xs) → r ≡ own_long_let (shown_node n p)
+    → r ≡ excess bindings_max (map (λ (b : Bind). b.place) xs) → r ≡ own_long_let (shown_node n p)
 long_let_at n p binds b xs r is same h =
-    h ∙ ap (λ (l : List Bind). excess max_bindings (map (λ (b : Bind). b.place) l)) same ∙ ap (λ (l : List ℕ). excess max_bindings l) (sym (places_of binds.items))
+    h ∙ ap (λ (l : List Bind). excess bindings_max (map (λ (b : Bind). b.place) l)) same ∙ ap (λ (l : List ℕ). excess bindings_max l) (sym (places_of binds.items))
     ∙ sym (ap (λ (m : Node). own_long_let (shown_node m p)) is ∙ ap own_long_let (let_shows binds b p))
 
 arms_counted : (arms : List Arm) (t : Tree) → arm_count (arms_of (shown_labelled arms) t) ≡ length arms

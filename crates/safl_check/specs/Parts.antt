@@ -9,8 +9,7 @@ use Rattle.safl_tree.specs.declared.tree.Expr.{Expr}
 use Rattle.safl_tree.specs.declared.tree.Bind.{Bind}
 use Rattle.safl_tree.specs.declared.tree.Arm.{Arm}
 use Rattle.safl_term.specs.Readiness.{or_else}
-use Rattle.safl_term.specs.Sizes.{max_bindings}
-use Rattle.safl_typing.specs.Forms.{max_sites, max_nodes}
+use Rattle.safl_word.specs.Limits.{bindings_max, sites_max, nodes_max}
 use Rattle.safl_typing.specs.Heads.{Known, callee, is_site}
 use Rattle.safl_typing.specs.Rewriting.{rewritten, rewritten_binds, nodes}
 use Rattle.safl_typing.specs.Walk.{excess, fault_with, needs, placed}
@@ -72,7 +71,7 @@ own_long_let (Number p n) = None
 own_long_let (Sized p w n) = None
 own_long_let (Variable p x) = None
 own_long_let (If p c a b) = None
-own_long_let (Let p bs t) = excess max_bindings (map (λ x. x.place) (placed (rewritten_binds bs)))
+own_long_let (Let p bs t) = excess bindings_max (map (λ x. x.place) (placed (rewritten_binds bs)))
 own_long_let (Cases p e arms) = None
 own_long_let (Op p o ts) = None
 own_long_let (Call p f ts) = None
@@ -98,5 +97,5 @@ total_nodes (t ∷ ts) = nodes (rewritten t) + total_nodes ts
 -- E16 at this place, if there are too many sites or too many nodes up to it
 abbrev pub sum_fault : (place in_all nodes_all : ℕ) → Option Fault
 sum_fault place in_all nodes_all =
-    or_else (needs (nat_le in_all max_sites) (fault_with rules.E16 place 4 max_sites))
-    (needs (nat_le nodes_all max_nodes) (fault_with rules.E16 place 5 max_nodes))
+    or_else (needs (nat_le in_all sites_max) (fault_with rules.E16 place 4 sites_max))
+    (needs (nat_le nodes_all nodes_max) (fault_with rules.E16 place 5 nodes_max))

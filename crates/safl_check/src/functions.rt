@@ -27,11 +27,8 @@ use safl_typing::rewrite::rewrite;
 use safl_typing::scope::Scope;
 use safl_typing::typed::{CheckErr, Wanted};
 use safl_typing::walk::check_expression;
+use safl_word::limits::DEPTH_MAX;
 use std::alloc::Global;
-
-// The greatest depth of a body: the functions that recurse on bodies have a stack that is large enough for it. The body
-// of a source is at most 1,100 deep, as a law on nesting levels says.
-const DEPTH_MAX: u32 = 2_000;
 
 /// Whether no body is deeper than `DEPTH_MAX`.
 pub fn are_shallow(defs: &[Def]) -> bool

@@ -1,6 +1,7 @@
 //! The heads of all definitions, which are known before any body is checked.
 
 ghost use Rattle.std.specs.Prelude.{◌≡◌, ◌≤◌, length, map, IfOk};
+ghost use Rattle.safl_word.specs.Limits.{functions_max};
 ghost use Rattle.safl_tree.specs.Shown.{shown_definition, shown_definitions, shown_parameters};
 ghost use Rattle.safl_typing.specs.Heads.{slot_of, unit_of, head_of, heads};
 ghost use Rattle.safl_typing.specs.PlainHeads.{shown_slots, shown_head, shown_heads};
@@ -12,7 +13,7 @@ use std::alloc::Global;
 
 /// The heads of at most 1,000 definitions.
 pub fn heads_of(alloc: Global, defs: &[Def]) -> Result<Heads, NoMemory>
-    requires { length defs.now ≤ 1000 }
+    requires { length defs.now ≤ functions_max }
     ensures { IfOk result (λ all. shown_heads all ≡ heads (shown_definitions defs.now)) }
 {
     let list = make_heads(alloc, defs)?;
@@ -27,7 +28,7 @@ pub fn next_unit(number: u32, unit: u32, def: &Def) -> u32
 }
 
 fn make_heads(alloc: Global, defs: &[Def]) -> Result<Vec<Head>, NoMemory>
-    requires { length defs.now ≤ 1000 }
+    requires { length defs.now ≤ functions_max }
     ensures { IfOk result (λ all. shown_heads all.items ≡ heads (shown_definitions defs.now)) }
 {
     let mut all = Vec::new(alloc);

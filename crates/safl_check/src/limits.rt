@@ -4,33 +4,25 @@ ghost use Rattle.std.specs.Prelude.{◌≡◌, ◌≤◌, length, map, IfOk};
 ghost use Rattle.safl_word.specs.declared.fault.Rule.TheVariants as rules;
 ghost use Rattle.safl_tree.specs.Shown.{shown_definitions, shown_parameters};
 ghost use Rattle.safl_typing.specs.Heads.{heads};
-ghost use Rattle.safl_term.specs.Sizes.{max_bindings};
-ghost use Rattle.safl_typing.specs.Forms.{max_functions, max_params};
+ghost use Rattle.safl_word.specs.Limits.{bindings_max, functions_max, params_max};
 ghost use Rattle.safl_typing.specs.PlainHeads.{shown_heads};
 ghost use Rattle.safl_term.specs.Readiness.{or_else};
 ghost use Rattle.safl_typing.specs.Walk.{fault_with, limit, excess, limits_from, main_fault};
 ghost use Rattle.safl_check.specs.Parts.{sum_fault};
 
 use crate::heads::next_unit;
-use crate::nodes::{BINDINGS_MAX, measure};
+use crate::nodes::measure;
 use safl_tree::{Def, Param};
 use safl_typing::heads::Heads;
+use safl_word::limits::{BINDINGS_MAX, FUNCTIONS_MAX, NODES_MAX, PARAMS_MAX, SITES_MAX};
 use safl_word::{Fault, NoMemory, Rule};
 use std::alloc::Global;
-
-const FUNCTIONS_MAX: usize = 1_000;
-
-const PARAMS_MAX: usize = 16;
-
-const SITES_MAX: u32 = 4_000;
-
-const NODES_MAX: u32 = 50_000;
 
 const MAIN: &[u8] = b"main";
 
 /// E16 at the first definition beyond the limit, if there are too many.
 pub fn find_function_fault(defs: &[Def]) -> Option<Fault>
-    ensures { result ≡ limit 1 max_functions (excess max_functions (map (λ d. d.place) (shown_definitions defs.now))) }
+    ensures { result ≡ limit 1 functions_max (excess functions_max (map (λ d. d.place) (shown_definitions defs.now))) }
 {
     let def = defs.get(FUNCTIONS_MAX)?;
     Some(past_limit(def.place, 1, FUNCTIONS_MAX as u32))
@@ -42,7 +34,7 @@ pub fn find_limit_fault(
     defs: &[Def],
     all_heads: &Heads,
 ) -> Result<Option<Fault>, NoMemory>
-    requires few { length defs.now ≤ 1000 }
+    requires few { length defs.now ≤ functions_max }
     requires heads { shown_heads all_heads.now ≡ heads (shown_definitions defs.now) }
     ensures { IfOk result (λ fault. fault ≡ limits_from (heads (shown_definitions defs.now)) 0 0 0 0 (shown_definitions defs.now)) }
 {
@@ -66,7 +58,7 @@ pub fn find_limit_fault(
 
 // E16 for too many parameters, or for too many bindings of a let.
 fn find_list_fault(params: &[Param], long_let: Option<u32>) -> Option<Fault>
-    ensures { result ≡ or_else (limit 2 max_params (excess max_params (map (λ p. p.place) (shown_parameters params.now)))) (limit 3 max_bindings long_let) }
+    ensures { result ≡ or_else (limit 2 params_max (excess params_max (map (λ p. p.place) (shown_parameters params.now)))) (limit 3 bindings_max long_let) }
 {
     if let Some(param) = params.get(PARAMS_MAX) {
         return Some(past_limit(param.place, 2, PARAMS_MAX as u32));

@@ -2,7 +2,7 @@
 
 ghost use Rattle.std.specs.Prelude.{◌≡◌, ◌+◌, ◌*◌, ◌≤◌, ◌++◌, map, min, IfOk, OnOk};
 ghost use Rattle.safl_tree.specs.Shown.{shown_tree, shown_trees};
-ghost use Rattle.safl_term.specs.Sizes.{max_bindings};
+ghost use Rattle.safl_word.specs.Limits.{bindings_max, sites_counted, nodes_counted};
 ghost use Rattle.safl_typing.specs.PlainHeads.{known};
 ghost use Rattle.safl_typing.specs.Heads.{sites};
 ghost use Rattle.safl_typing.specs.Rewriting.{rewritten, nodes};
@@ -11,15 +11,10 @@ ghost use Rattle.safl_check.specs.Parts.{parts, pending, values_of, arms_of, own
 
 use safl_tree::tree::{Arm, Bind, Expr, Node};
 use safl_typing::heads::{Heads, find_callee};
-use safl_typing::sites::{SITES_COUNTED, sites_of_callee};
+use safl_typing::sites::sites_of_callee;
 use safl_word::NoMemory;
+use safl_word::limits::{BINDINGS_MAX, NODES_COUNTED, SITES_COUNTED};
 use std::alloc::Global;
-
-/// The greatest number of bindings of a let.
-pub const BINDINGS_MAX: usize = 16;
-
-// The counter of nodes stops here: one above the number that a program may have.
-const NODES_COUNTED: u32 = 50_001;
 
 /// What rule E16 limits, counted up to the end of a body.
 #[derive(Clone, Copy)]
@@ -41,11 +36,11 @@ pub fn measure(
     nodes_before: u32,
     body: &Expr,
 ) -> Result<Measures, NoMemory>
-    requires sites { sites_before ≤ 4001 }
-    requires nodes { nodes_before ≤ 50001 }
+    requires sites { sites_before ≤ sites_counted }
+    requires nodes { nodes_before ≤ nodes_counted }
     ensures long_let { IfOk result (λ m. m.long_let ≡ long_let (rewritten (shown_tree body.now))) }
-    ensures sites { IfOk result (λ m. m.sites ≡ min 4001 (sites_before + sites (known heads.now unit) (rewritten (shown_tree body.now)))) }
-    ensures nodes { IfOk result (λ m. m.nodes ≡ min 50001 (nodes_before + nodes (rewritten (shown_tree body.now)))) }
+    ensures sites { IfOk result (λ m. m.sites ≡ min sites_counted (sites_before + sites (known heads.now unit) (rewritten (shown_tree body.now)))) }
+    ensures nodes { IfOk result (λ m. m.nodes ≡ min nodes_counted (nodes_before + nodes (rewritten (shown_tree body.now)))) }
 {
     let mut long_let = None;
     let mut sites = sites_before;
@@ -82,7 +77,7 @@ fn find_excess_binding(e: &Expr) -> Option<u32>
 }
 
 fn find_excess(binds: &[Bind]) -> Option<u32>
-    ensures { result ≡ excess max_bindings (map (λ b. b.place) binds.now) }
+    ensures { result ≡ excess bindings_max (map (λ b. b.place) binds.now) }
 {
     let bind = binds.get(BINDINGS_MAX)?;
     Some(bind.place)
@@ -107,7 +102,7 @@ fn sites_at(heads: &Heads, unit: u32, e: &Expr) -> u32
 // The number of nodes that an expression adds. A `case` stands for a let, and for each labelled arm an if and its test
 // of two nodes.
 fn nodes_at(e: &Expr) -> u32
-    ensures { result ≡ min 50001 (own_nodes (shown_tree e.now)) }
+    ensures { result ≡ min nodes_counted (own_nodes (shown_tree e.now)) }
 {
     match &e.node {
         Node::Num(_) => 1,
@@ -122,7 +117,7 @@ fn nodes_at(e: &Expr) -> u32
 }
 
 fn nodes_of_case(arms: usize) -> u32
-    ensures { result ≡ min 50001 (1 + 3 * arms) }
+    ensures { result ≡ min nodes_counted (1 + 3 * arms) }
 {
     if arms < NODES_COUNTED as usize {
         (1 + 3 * arms as u32).min(NODES_COUNTED)

@@ -1,6 +1,7 @@
 //! The call sites of all functions.
 
 ghost use Rattle.std.specs.Prelude.{◌≡◌, ◌≤◌, ◌++◌, length, map, IfOk, OnOk};
+ghost use Rattle.safl_word.specs.Limits.{functions_max};
 ghost use Rattle.safl_term.specs.Tree.{shown_term, shown_terms};
 ghost use Rattle.safl_typing.specs.Forms.{all_sites, sites_of, sites_of_all, shown_function};
 
@@ -10,7 +11,7 @@ use std::alloc::Global;
 
 /// The call sites of all bodies, in the order of the text.
 pub fn sites_of(alloc: Global, functions: &[Function]) -> Result<Vec<Site>, NoMemory>
-    requires { length functions.now ≤ 1000 }
+    requires { length functions.now ≤ functions_max }
     ensures { IfOk result (λ sites. sites.items ≡ all_sites 0 (map shown_function functions.now)) }
 {
     let mut sites = Vec::new(alloc);

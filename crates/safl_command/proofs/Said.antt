@@ -11,7 +11,8 @@ use Rattle.clap.specs.Faults.{defaults_fault, default_fault, given_default_fault
 use Rattle.clap.proofs.OnLiterals.{clap_on_literals}
 use Rattle.safl_command.specs.Forms.{app}
 use Rattle.safl_word.specs.Numerals.{value}
-use Rattle.safl_command.specs.Limits.{cycles_max, functions_max}
+use Rattle.safl_command.specs.Limits.{cycles_max}
+use Rattle.safl_word.specs.Limits.{generated_max}
 use Rattle.safl_command.specs.Values.{filled, name_in, number_in, number_of, number_within, limit_in, count_in}
 use Rattle.safl_command.specs.Commands.{Command, command_of, faultless}
 use Rattle.safl_command.specs.Laws.{IsNumber, IsLimit, IsCount}
@@ -151,4 +152,4 @@ module _ (id : Text) (rows : List Row) where
   limit_in_said word h f = ap (λ (o : Option Text). option_and_then (number_within cycles_max) o) f.first ∙ limit_said word h
 
   pub count_in_said : (word : Text) → IsCount word → IsFound id (word ∷ []) rows → count_in id rows ≡ Some (value 10 word)
-  count_in_said word h f = ap (λ (o : Option Text). option_and_then (number_within functions_max) o) f.first ∙ count_said word h
+  count_in_said word h f = ap (λ (o : Option Text). option_and_then (number_within generated_max) o) f.first ∙ count_said word h

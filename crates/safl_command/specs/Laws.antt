@@ -3,7 +3,8 @@
 -- these words and options are arranged otherwise (`..Lines`).
 use Rattle.std.specs.Prelude.{◌≡◌, ℕ, List, [], ◌∷◌, Option, Some, None, codes, true}
 use Rattle.safl_word.specs.Numerals.{value}
-use Rattle.safl_command.specs.Limits.{cycles_max, functions_max}
+use Rattle.safl_command.specs.Limits.{cycles_max}
+use Rattle.safl_word.specs.Limits.{generated_max}
 use Rattle.safl_command.specs.Arranged.{GivenOption, IsUnhyphened, Arranged}
 use Rattle.safl_command.specs.Traces.{Traces, are_apart}
 use Rattle.safl_command.specs.Values.{is_number, is_within}
@@ -29,7 +30,7 @@ abbrev pub IsLimit : List ℕ → Type 0
 IsLimit word = is_within cycles_max word ≡ true
 
 abbrev pub IsCount : List ℕ → Type 0
-IsCount word = is_within functions_max word ≡ true
+IsCount word = is_within generated_max word ≡ true
 
 -- an option with a value, and one without, before other options
 abbrev pub option : List ℕ → List ℕ → List GivenOption → List GivenOption

@@ -4,7 +4,3 @@ use Rattle.std.specs.Prelude.{ℕ}
 -- the greatest number of cycles of a run, and of events of a walk
 abbrev pub cycles_max : ℕ
 cycles_max = 1000000000
-
--- the greatest number of functions of a generated source, besides main
-abbrev pub functions_max : ℕ
-functions_max = 900

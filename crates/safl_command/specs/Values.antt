@@ -5,7 +5,8 @@ use Rattle.std.specs.List.{list_all}
 use Rattle.std.specs.Option.{option_map_or}
 use Rattle.clap.specs.Words.{Row, first_of, all_of}
 use Rattle.safl_word.specs.Numerals.{value, is_digit}
-use Rattle.safl_command.specs.Limits.{cycles_max, functions_max}
+use Rattle.safl_command.specs.Limits.{cycles_max}
+use Rattle.safl_word.specs.Limits.{generated_max, decimal_max}
 
 -- the name, if it is not empty
 abbrev pub filled : List ℕ → Option (List ℕ)
@@ -14,7 +15,7 @@ filled (c ∷ cs) = Some (c ∷ cs)
 
 -- 1 to 20 digits of a number below 2^64
 abbrev pub is_number : List ℕ → Bool
-is_number word = nat_le 1 (length word) && (list_all (is_digit 10) word && (nat_le (length word) 20 && nat_lt (value 10 word) (2 ^ 64)))
+is_number word = nat_le 1 (length word) && (list_all (is_digit 10) word && (nat_le (length word) decimal_max && nat_lt (value 10 word) (2 ^ 64)))
 
 -- 1 to 20 digits of a number from 1 to `most`
 abbrev pub is_within : ℕ → List ℕ → Bool
@@ -44,7 +45,7 @@ abbrev pub limit_in : List ℕ → List Row → Option ℕ
 limit_in = within_in cycles_max
 
 abbrev pub count_in : List ℕ → List Row → Option ℕ
-count_in = within_in functions_max
+count_in = within_in generated_max
 
 -- whether a flag was given
 abbrev pub has_flag : List ℕ → List Row → Bool

@@ -5,8 +5,9 @@ ghost use Rattle.clap.specs.Words.{found_of, rows_of, first_of};
 ghost use Rattle.safl_word.specs.Numerals.{value};
 ghost use Rattle.safl_command.specs.Values.{name_in, filled, number_in, within_in, limit_in, count_in, has_flag, args_in, is_number, is_within};
 
-use crate::command::{CYCLES_MAX, Count, FUNCTIONS_MAX};
+use crate::command::{CYCLES_MAX, Count};
 use clap::ArgMatches;
+use safl_word::limits::GENERATED_MAX;
 use safl_word::{NoMemory, decimal};
 use std::alloc::Global;
 
@@ -79,7 +80,7 @@ pub fn limit_in(values: &ArgMatches<'_>, id: &str) -> Option<u64>
 pub fn count_in(values: &ArgMatches<'_>, id: &str) -> Option<Count>
     ensures { option_map (λ c. c.functions) result ≡ count_in id.now (rows_of (found_of values.now)) }
 {
-    match within_in(values, id, FUNCTIONS_MAX) {
+    match within_in(values, id, u64::from(GENERATED_MAX)) {
         Some(count) => Some(Count {
             functions: count as u32,
         }),

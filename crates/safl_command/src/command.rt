@@ -1,15 +1,12 @@
 //! The commands of a command line.
 
 ghost use Rattle.std.specs.Prelude.{◌≤◌};
-ghost use Rattle.safl_command.specs.Limits.{functions_max};
+ghost use Rattle.safl_word.specs.Limits.{generated_max};
 
 use crate::traces::Traces;
 
 /// The greatest number of cycles of a run, and of events of a walk.
 pub const CYCLES_MAX: u64 = 1_000_000_000;
-
-/// The greatest number of functions of a generated source, besides main.
-pub const FUNCTIONS_MAX: u64 = 900;
 
 /// How a walk goes: it picks events by the numbers that follow from `seed`, at most `steps` of them, 1 to `CYCLES_MAX`.
 #[derive(Clone, Copy)]
@@ -18,12 +15,12 @@ pub struct Turns {
     pub steps: u32,
 }
 
-/// How many functions a generated source has besides main: 1 to `FUNCTIONS_MAX`.
+/// How many functions a generated source has besides main: 1 to `GENERATED_MAX`.
 #[derive(Clone, Copy)]
 pub struct Count {
     pub functions: u32,
     pub ghost least: { 1 ≤ functions },
-    pub ghost most: { functions ≤ functions_max },
+    pub ghost most: { functions ≤ generated_max },
 }
 
 /// A command, with its arguments.

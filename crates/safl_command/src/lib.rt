@@ -8,6 +8,6 @@ pub mod laws;
 mod reading;
 mod traces;
 
-pub use crate::command::{CYCLES_MAX, Command, Count, FUNCTIONS_MAX, Turns};
+pub use crate::command::{CYCLES_MAX, Command, Count, Turns};
 pub use crate::reading::read_words;
 pub use crate::traces::Traces;

@@ -4,7 +4,8 @@ use Rattle.safl_word.specs.declared.fault.Fault.{Fault}
 use Rattle.safl_tree.specs.Tree.{Definition}
 use Rattle.safl_tree.specs.Source.{SpellsProgram, SyntaxFault}
 use Rattle.safl_term.specs.Program.{Program}
-use Rattle.safl_typing.specs.Forms.{Form, IsFormOf, max_sites}
+use Rattle.safl_typing.specs.Forms.{Form, IsFormOf}
+use Rattle.safl_word.specs.Limits.{sites_max}
 use Rattle.safl_typing.specs.Walk.{first_fault}
 use Rattle.safl_typing.specs.declared.typed.CheckErr.{CheckErr}
 use Rattle.safl_typing.specs.declared.typed.CheckErr.TheVariants as errors
@@ -37,4 +38,4 @@ HasForm ds = (c : Form) × IsFormOf ds c
 
 -- the definitions have no more call sites than a program may have
 abbrev pub HasFewSites : List Definition → Type 0
-HasFewSites ds = (c : Form) → IsFormOf ds c → (program_in c).sites ≤ max_sites
+HasFewSites ds = (c : Form) → IsFormOf ds c → (program_in c).sites ≤ sites_max

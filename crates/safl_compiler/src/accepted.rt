@@ -1,7 +1,7 @@
 //! From the bytes of a source to its checked program.
 
 ghost use Rattle.std.specs.Prelude.{◌≤◌, length, IfOk, IfErr};
-ghost use Rattle.safl_word.specs.declared.word.TheConstants.{SOURCE_MAX};
+ghost use Rattle.safl_word.specs.Limits.{source_max};
 ghost use Rattle.safl_tree.specs.Shown.{shown_program};
 ghost use Rattle.safl_tree.specs.Printable.{IsPrintable};
 ghost use Rattle.safl_tree.specs.Source.{SpellsProgram};
@@ -27,7 +27,7 @@ pub struct Accepted {
 /// The checked program of a source of at most `SOURCE_MAX` bytes, or the source's first fault: a fault of tokens or
 /// grammar, E01 to E05, or else a fault of checking, E05 to E16.
 pub fn accept(alloc: Global, source: &[u8]) -> Result<Checked, CheckErr>
-    requires { length source.now ≤ SOURCE_MAX }
+    requires { length source.now ≤ source_max }
     ensures accepted { IfOk result (λ c. IsSourceOf source.now c.program c.names) }
     ensures refused { IfErr result (RefusesSource source.now) }
 {
@@ -38,7 +38,7 @@ pub fn accept(alloc: Global, source: &[u8]) -> Result<Checked, CheckErr>
 
 /// The program that an accepted source of at most `SOURCE_MAX` bytes spells, or the source's first fault.
 pub fn accepted_program(alloc: Global, source: &[u8]) -> Result<Accepted, CheckErr>
-    requires { length source.now ≤ SOURCE_MAX }
+    requires { length source.now ≤ source_max }
     ensures spelled { IfOk result (λ a. SpellsProgram source.now (shown_program a.program)) }
     ensures printable { IfOk result (λ a. IsPrintable (shown_program a.program)) }
     ensures form { IfOk result (λ a. IsFormOf (shown_program a.program) (shown a.checked)) }
@@ -56,7 +56,7 @@ pub fn accepted_program(alloc: Global, source: &[u8]) -> Result<Accepted, CheckE
 
 // The program that a source spells, or its first fault of tokens or grammar.
 fn spelled(alloc: Global, source: &[u8]) -> Result<Program, CheckErr>
-    requires { length source.now ≤ SOURCE_MAX }
+    requires { length source.now ≤ source_max }
     ensures spelled { IfOk result (λ p. SpellsProgram source.now (shown_program p)) }
     ensures refused { IfErr result (RefusesSource source.now) }
 {

@@ -8,14 +8,12 @@ use crate::{check, fire, make};
 use safl_evaluate::{Args, Plan, Stage, Wants, planned};
 use safl_term::Checked;
 use safl_word::Word;
+use safl_word::limits::{NODES_MAX, PARAMS_MAX};
 use std::alloc::{AllocError, Global};
 use std::marker::Model;
 
-/// The greatest number of nodes of all bodies, and below it that of the slots of a body: its parameters, at most 16,
-/// and at most one for each node.
-const NODES: usize = 50_000;
-
-const ROOM: usize = 50_016;
+// The words of the slots of any body: at most as many as its parameters and nodes.
+const ROOM: usize = PARAMS_MAX + NODES_MAX as usize;
 
 /// Why a machine cannot be made: the arguments differ from main's parameters in number or in a width, or memory ran
 /// out.
@@ -89,7 +87,7 @@ impl<'a> Machine<'a> {
         let env = make::room(alloc, ROOM)?;
         let sets = Enabled::new(alloc, c)?;
         let plan = planned(alloc, c)?;
-        let kept = make::nothing_kept(alloc, NODES)?;
+        let kept = make::nothing_kept(alloc, NODES_MAX as usize)?;
         Ok(Machine {
             checked: c,
             opening: Args::new(args),

@@ -1,12 +1,14 @@
 //! Places: where the nodes of a body lie in a table.
 
 ghost use Rattle.std.specs.Prelude.{◌≡◌, ℕ, ◌+◌, ◌<◌, ◌≤◌, ◌^◌, ◌&&◌, IfOk, length, true, false};
+ghost use Rattle.safl_word.specs.Limits.{nodes_max};
 ghost use Rattle.safl_term.specs.Sizes.{nodes, nodes_in};
 ghost use Rattle.safl_term.specs.Tree.{shown_term, shown_terms};
 ghost use Rattle.safl_evaluate.specs.Laying.{IsPlace, IsRoom, Laid, LaidIn, LaidBelow, SameOutside, Covers};
 ghost use Rattle.safl_evaluate.specs.Laying.{IsPlan};
 
 use safl_term::{Checked, Term};
+use safl_word::limits::NODES_MAX;
 use std::alloc::{AllocError, Global};
 
 /// Of a term: the place after its nodes, two numbers between which all its sites are, and whether it is a plain term and
@@ -29,10 +31,10 @@ pub struct Plan {
 
 /// The plan of a program. Its bodies lie one after the other in 50,000 places.
 pub fn planned(alloc: Global, c: &Checked) -> Result<Plan, AllocError>
-    ensures { IfOk result (λ plan. IsPlan c.now.program plan 50000) }
+    ensures { IfOk result (λ plan. IsPlan c.now.program plan nodes_max) }
 {
     let blank = empty(0);
-    let mut places = vec![in alloc; blank; 50_000]?;
+    let mut places = vec![in alloc; blank; NODES_MAX as usize]?;
     let mut bodies = vec![in alloc; 0; c.functions() as usize]?;
     let mut at = 0;
     for f in 0..c.functions() {

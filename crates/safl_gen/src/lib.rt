@@ -5,4 +5,4 @@ mod draws;
 mod lines;
 mod source;
 
-pub use crate::source::{COUNT_MAX, GenErr, generate};
+pub use crate::source::{GenErr, generate};

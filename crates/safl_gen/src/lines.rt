@@ -1,22 +1,23 @@
 //! The lines of a generated source.
 
-ghost use Rattle.std.specs.Prelude.{◌≡◌, ◌<◌, ◌++◌, OnOk, string_bytes};
+ghost use Rattle.std.specs.Prelude.{◌≡◌, ◌<◌, ◌++◌, OnOk, decimal};
 ghost use Rattle.safl_gen.specs.Source.{first_body, scaled_sum, halving, masked_sum, later_body, sum_of_calls, call_in_call, bound_call, compared_call, body, function_line, main_line};
 
 use crate::draws::Drawn;
-use std::alloc::AllocError;
+use safl_word::{NoMemory, Raw, push_decimal};
 
 /// Appends the definition of function `i`.
-pub fn push_function(out: &mut String, i: u32, drawn: &Drawn) -> Result<(), AllocError>
-    ensures { OnOk result (string_bytes out.new ≡ string_bytes out.old ++ function_line i drawn.now.form drawn.now.constant drawn.now.first) }
+pub fn push_function(out: &mut Vec<u8>, i: u32, drawn: &Drawn) -> Result<(), NoMemory>
+    ensures { OnOk result (out.new.items ≡ out.old.items ++ function_line i drawn.now.form drawn.now.constant drawn.now.first) }
 {
-    write!(out, "fun f{i}(x:16, y:16):16 = ")?;
+    push_numbered(out, b"fun f", i)?;
+    push(out, b"(x:16, y:16):16 = ")?;
     push_body(out, i, drawn)?;
-    out.push_str("\n")
+    push(out, b"\n")
 }
 
-fn push_body(out: &mut String, i: u32, drawn: &Drawn) -> Result<(), AllocError>
-    ensures { OnOk result (string_bytes out.new ≡ string_bytes out.old ++ body i drawn.now.form drawn.now.constant drawn.now.first) }
+fn push_body(out: &mut Vec<u8>, i: u32, drawn: &Drawn) -> Result<(), NoMemory>
+    ensures { OnOk result (out.new.items ≡ out.old.items ++ body i drawn.now.form drawn.now.constant drawn.now.first) }
 {
     let k = drawn.constant % 16 + 1;
     if i < 4 {
@@ -26,9 +27,9 @@ fn push_body(out: &mut String, i: u32, drawn: &Drawn) -> Result<(), AllocError>
     }
 }
 
-fn push_first_body(out: &mut String, form: u32, i: u32, k: u32) -> Result<(), AllocError>
+fn push_first_body(out: &mut Vec<u8>, form: u32, i: u32, k: u32) -> Result<(), NoMemory>
     requires { form < 3 }
-    ensures { OnOk result (string_bytes out.new ≡ string_bytes out.old ++ first_body form i k) }
+    ensures { OnOk result (out.new.items ≡ out.old.items ++ first_body form i k) }
 {
     match form {
         0 => push_scaled_sum(out, k),
@@ -38,27 +39,30 @@ fn push_first_body(out: &mut String, form: u32, i: u32, k: u32) -> Result<(), Al
     }
 }
 
-fn push_scaled_sum(out: &mut String, k: u32) -> Result<(), AllocError>
-    ensures { OnOk result (string_bytes out.new ≡ string_bytes out.old ++ scaled_sum k) }
+fn push_scaled_sum(out: &mut Vec<u8>, k: u32) -> Result<(), NoMemory>
+    ensures { OnOk result (out.new.items ≡ out.old.items ++ scaled_sum k) }
 {
-    write!(out, "x + y * {k}")
+    push_numbered(out, b"x + y * ", k)
 }
 
-fn push_halving(out: &mut String, i: u32, k: u32) -> Result<(), AllocError>
-    ensures { OnOk result (string_bytes out.new ≡ string_bytes out.old ++ halving i k) }
+fn push_halving(out: &mut Vec<u8>, i: u32, k: u32) -> Result<(), NoMemory>
+    ensures { OnOk result (out.new.items ≡ out.old.items ++ halving i k) }
 {
-    write!(out, "if y == 0 then x else f{i}(x + {k}, y >> 1)")
+    push_numbered(out, b"if y == 0 then x else f", i)?;
+    push_numbered(out, b"(x + ", k)?;
+    push(out, b", y >> 1)")
 }
 
-fn push_masked_sum(out: &mut String, k: u32) -> Result<(), AllocError>
-    ensures { OnOk result (string_bytes out.new ≡ string_bytes out.old ++ masked_sum k) }
+fn push_masked_sum(out: &mut Vec<u8>, k: u32) -> Result<(), NoMemory>
+    ensures { OnOk result (out.new.items ≡ out.old.items ++ masked_sum k) }
 {
-    write!(out, "let p = x ^ y, q = x & {k} in p + q")
+    push_numbered(out, b"let p = x ^ y, q = x & ", k)?;
+    push(out, b" in p + q")
 }
 
-fn push_later_body(out: &mut String, form: u32, p: u32, j: u32, k: u32) -> Result<(), AllocError>
+fn push_later_body(out: &mut Vec<u8>, form: u32, p: u32, j: u32, k: u32) -> Result<(), NoMemory>
     requires { form < 4 }
-    ensures { OnOk result (string_bytes out.new ≡ string_bytes out.old ++ later_body form p j k) }
+    ensures { OnOk result (out.new.items ≡ out.old.items ++ later_body form p j k) }
 {
     match form {
         0 => push_sum_of_calls(out, p, j, k),
@@ -69,36 +73,62 @@ fn push_later_body(out: &mut String, form: u32, p: u32, j: u32, k: u32) -> Resul
     }
 }
 
-fn push_sum_of_calls(out: &mut String, p: u32, j: u32, k: u32) -> Result<(), AllocError>
-    ensures { OnOk result (string_bytes out.new ≡ string_bytes out.old ++ sum_of_calls p j k) }
+fn push_sum_of_calls(out: &mut Vec<u8>, p: u32, j: u32, k: u32) -> Result<(), NoMemory>
+    ensures { OnOk result (out.new.items ≡ out.old.items ++ sum_of_calls p j k) }
 {
-    write!(out, "f{p}(x + {k}, y) + f{j}(x, y)")
+    push_numbered(out, b"f", p)?;
+    push_numbered(out, b"(x + ", k)?;
+    push_numbered(out, b", y) + f", j)?;
+    push(out, b"(x, y)")
 }
 
-fn push_call_in_call(out: &mut String, p: u32, j: u32, k: u32) -> Result<(), AllocError>
-    ensures { OnOk result (string_bytes out.new ≡ string_bytes out.old ++ call_in_call p j k) }
+fn push_call_in_call(out: &mut Vec<u8>, p: u32, j: u32, k: u32) -> Result<(), NoMemory>
+    ensures { OnOk result (out.new.items ≡ out.old.items ++ call_in_call p j k) }
 {
-    write!(out, "f{j}(f{p}(x, y ^ {k}), y)")
+    push_numbered(out, b"f", j)?;
+    push_numbered(out, b"(f", p)?;
+    push_numbered(out, b"(x, y ^ ", k)?;
+    push(out, b"), y)")
 }
 
-fn push_bound_call(out: &mut String, p: u32, j: u32, k: u32) -> Result<(), AllocError>
-    ensures { OnOk result (string_bytes out.new ≡ string_bytes out.old ++ bound_call p j k) }
+fn push_bound_call(out: &mut Vec<u8>, p: u32, j: u32, k: u32) -> Result<(), NoMemory>
+    ensures { OnOk result (out.new.items ≡ out.old.items ++ bound_call p j k) }
 {
-    write!(
-        out,
-        "let p = f{p}(y, x) in if p < {k} then f{j}(p, x) else p"
-    )
+    push_numbered(out, b"let p = f", p)?;
+    push_numbered(out, b"(y, x) in if p < ", k)?;
+    push_numbered(out, b" then f", j)?;
+    push(out, b"(p, x) else p")
 }
 
-fn push_compared_call(out: &mut String, p: u32, j: u32, k: u32) -> Result<(), AllocError>
-    ensures { OnOk result (string_bytes out.new ≡ string_bytes out.old ++ compared_call p j k) }
+fn push_compared_call(out: &mut Vec<u8>, p: u32, j: u32, k: u32) -> Result<(), NoMemory>
+    ensures { OnOk result (out.new.items ≡ out.old.items ++ compared_call p j k) }
 {
-    write!(out, "if f{j}(x, {k}) == y then x else f{p}(y, x + {k})")
+    push_numbered(out, b"if f", j)?;
+    push_numbered(out, b"(x, ", k)?;
+    push_numbered(out, b") == y then x else f", p)?;
+    push_numbered(out, b"(y, x + ", k)?;
+    push(out, b")")
 }
 
 /// Appends the definition of main, which calls function `last`.
-pub fn push_main(out: &mut String, last: u32) -> Result<(), AllocError>
-    ensures { OnOk result (string_bytes out.new ≡ string_bytes out.old ++ main_line last) }
+pub fn push_main(out: &mut Vec<u8>, last: u32) -> Result<(), NoMemory>
+    ensures { OnOk result (out.new.items ≡ out.old.items ++ main_line last) }
 {
-    write!(out, "fun main(a:16, b:16):16 = f{last}(a, b)\n")
+    push_numbered(out, b"fun main(a:16, b:16):16 = f", last)?;
+    push(out, b"(a, b)\n")
+}
+
+// Appends a piece and then a number in decimal.
+fn push_numbered(out: &mut Vec<u8>, piece: &[u8], number: u32) -> Result<(), NoMemory>
+    ensures { OnOk result (out.new.items ≡ out.old.items ++ piece.now ++ decimal number) }
+{
+    push(out, piece)?;
+    push_decimal(Raw::from(number), out)
+}
+
+fn push(out: &mut Vec<u8>, piece: &[u8]) -> Result<(), NoMemory>
+    ensures { OnOk result (out.new.items ≡ out.old.items ++ piece.now) }
+{
+    out.extend_from_slice(piece)?;
+    Ok(())
 }

@@ -1,7 +1,8 @@
 -- Zeros before a word.
 use Rattle.std.proofs.Common.{◌≡◌, ℕ, ◌+◌, ◌*◌, ◌^◌, ◌≤◌, List, [], ◌∷◌, cond, Some, None, Bool, true, false, ◌&&◌, nat_le, Result, Ok, Err, IfOk, slice_index_or, refl, ap, ◌∙◌, arith}
 use Rattle.std.proofs.lemmas.Bool.{leb-true, and_parts, le-leb}
-use Rattle.safl_word.specs.Words.{Word, max_width}
+use Rattle.safl_word.specs.Words.{Word}
+use Rattle.safl_word.specs.Limits.{width_max}
 use Rattle.safl_word.specs.Primitives.{is_width, where_true, apply_prim, result_width}
 use Rattle.safl_word.specs.declared.primitive.Primitive.{Primitive}
 use Rattle.safl_word.proofs.Widths.{within, only_where}
@@ -41,7 +42,7 @@ pub record Operand (n : Netlist) (xs : List Sig) (a : Sig) (m w : ℕ) : Type 0 
   pub sized : IsSource n a narrow
   pub some : 1 ≤ narrow
   pub below : narrow ≤ m
-  pub bounded : m ≤ max_width
+  pub bounded : m ≤ width_max
   pub wide : m ≡ w
 
 where_is : (b : Bool) (m n : ℕ) → where_true b m ≡ Some n → (b ≡ true) × (m ≡ n)
@@ -52,7 +53,7 @@ where_is false m n e = absurd (cc)
 tested : (u m w : ℕ) → result_width (Ext m) (u ∷ []) ≡ Some w → is_width u ≡ true
 tested u m w e = by (is_width u) e
   where
-    by : (b : Bool) → cond b (where_true (nat_le u m && nat_le m max_width) m) None ≡ Some w → b ≡ true
+    by : (b : Bool) → cond b (where_true (nat_le u m && nat_le m width_max) m) None ≡ Some w → b ≡ true
     by true h = refl
     by false h = absurd (cc)
 
@@ -61,7 +62,7 @@ operand n [] [] d m w h e = absurd (cc)
 operand n [] (u ∷ ws) d m w h e = absurd h.widths
 operand n (x ∷ xs) [] d m w h e = absurd h.widths
 operand n (x ∷ []) (u ∷ []) d m w h e =
-    let q = where_is (nat_le u m && nat_le m max_width) m w (only_where _ _ w e) in
+    let q = where_is (nat_le u m && nat_le m width_max) m w (only_where _ _ w e) in
     let r = and_parts _ _ q.0 in
     record {
       narrow = u;
@@ -70,15 +71,15 @@ operand n (x ∷ []) (u ∷ []) d m w h e =
       some = leb-true 1 u
           (and_parts _ _ (tested u m w e)).0;
       below = leb-true u m r.0;
-      bounded = leb-true m max_width r.1;
+      bounded = leb-true m width_max r.1;
       wide = q.1;
     }
 operand n (x ∷ []) (u ∷ v ∷ ws) d m w h e = absurd h.widths.1
 operand n (x ∷ y ∷ xs) (u ∷ []) d m w h e = absurd h.widths.1
 operand n (x ∷ y ∷ xs) (u ∷ v ∷ ws) d m w h e = absurd (cc)
 
-pub joined_width : (u w : ℕ) → 1 ≤ u → 1 ≤ w → u + w ≤ max_width → result_width Cat (u ∷ w ∷ []) ≡ Some (u + w)
-joined_width u w f s h = rw (within u f (omega arith), within w s (omega arith), le-leb (u + w) max_width h) refl
+pub joined_width : (u w : ℕ) → 1 ≤ u → 1 ≤ w → u + w ≤ width_max → result_width Cat (u ∷ w ∷ []) ≡ Some (u + w)
+joined_width u w f s h = rw (within u f (omega arith), within w s (omega arith), le-leb (u + w) width_max h) refl
 
 zeros_first : (z a : Word) (w : ℕ) → z.bits ≡ 0 → z.width + a.width ≡ w → apply_prim Cat (z ∷ a ∷ []) ≡ record { width = w; bits = a.bits }
 zeros_first z a w e f =

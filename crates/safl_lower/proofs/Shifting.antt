@@ -4,7 +4,8 @@ use Rattle.std.proofs.Common.{nat_lt, nat_le, Result, Ok, Err, IfOk, slice_index
 use Rattle.std.proofs.lemmas.Bool.{leb-true, ltb-true, ltb-false, lt-ltb, le-ltb, eq-eqb, and_parts}
 use Rattle.std.proofs.lemmas.Nat.{mod_low}
 use Rattle.std.proofs.Math.Pow.{pow_mono}
-use Rattle.safl_word.specs.Words.{Word, max_width}
+use Rattle.safl_word.specs.Words.{Word}
+use Rattle.safl_word.specs.Limits.{width_max}
 use Rattle.safl_word.specs.Primitives.{is_width, two_widths, bit_of, apply_prim, result_width}
 use Rattle.safl_word.specs.declared.primitive.Primitive.{Primitive}
 use Rattle.safl_word.specs.declared.primitive.Primitive.TheVariants.{Gt, Shl, Shr, Cat, Bits}
@@ -29,7 +30,7 @@ pub record Operands (n : Netlist) (xs : List Sig) (d : Sig) (w : ℕ) : Type 0 w
   pub amount_width : ℕ
   pub amount : IsSource n (slice_index_or xs 1 d) amount_width
   pub some : 1 ≤ amount_width
-  pub most : amount_width ≤ max_width
+  pub most : amount_width ≤ width_max
 
 row_width : (p : Primitive) → IsShift p → (ws : List ℕ) → result_width p ws ≡ two_widths (λ w v. Some w) ws
 row_width p (inl e) ws = ap (λ q. result_width q ws) e
@@ -57,7 +58,7 @@ row n (x ∷ y ∷ []) (u ∷ v ∷ []) d w h e =
       amount_width = v;
       amount = record { width = h.widths.1.0; steady = h.steady.1.0 };
       some = leb-true 1 v c.0;
-      most = leb-true v max_width c.1;
+      most = leb-true v width_max c.1;
     }
 row n (x ∷ y ∷ []) (u ∷ v ∷ t ∷ ws) d w h e = absurd h.widths.1.1
 row n (x ∷ y ∷ z ∷ xs) (u ∷ v ∷ []) d w h e = absurd h.widths.1.1
@@ -70,7 +71,7 @@ pub two_there : {n : Netlist} {xs : List Sig} {d : Sig} {w : ℕ} → Operands n
 two_there {n} {xs} {d} {w} o = let e = ap (λ (l : List Sig). length l) o.is in omega (arith, e)
 
 -- the cell of a shift by an amount of another width
-pub cell_width : (p : Primitive) → IsShift p → (w u : ℕ) → is_width w ≡ true → 1 ≤ u → u ≤ max_width → prim_width p (w ∷ u ∷ []) ≡ Some w
+pub cell_width : (p : Primitive) → IsShift p → (w u : ℕ) → is_width w ≡ true → 1 ≤ u → u ≤ width_max → prim_width p (w ∷ u ∷ []) ≡ Some w
 cell_width p s w u h some most = by_kind s
   where
     row_is : two_widths (λ w v. Some w) (w ∷ u ∷ []) ≡ Some w
@@ -82,14 +83,14 @@ cell_width p s w u h some most = by_kind s
 
 -- ---- amounts that shift alike
 
-moved : (f : ℕ → ℕ) (w j k : ℕ) → w ≤ max_width → ShiftAlike j k → cond (nat_lt j w) (f j) 0 ≡ cond (nat_lt k w) (f k) 0
+moved : (f : ℕ → ℕ) (w j k : ℕ) → w ≤ width_max → ShiftAlike j k → cond (nat_lt j w) (f j) 0 ≡ cond (nat_lt k w) (f k) 0
 moved f w j k le (inl e) = ap (λ (i : ℕ). cond (nat_lt i w) (f i) 0) e
 moved f w j k le (inr e) =
     let a = e.0 in
     let b = e.1 in
     rw (le-ltb j w (omega (arith, a, le)), le-ltb k w (omega (arith, b, le))) refl
 
-shifted_alike : (p : Primitive) → IsShift p → (a b c : Word) → a.width ≤ max_width → ShiftAlike b.bits c.bits → apply_prim p (a ∷ b ∷ []) ≡ apply_prim p (a ∷ c ∷ [])
+shifted_alike : (p : Primitive) → IsShift p → (a b c : Word) → a.width ≤ width_max → ShiftAlike b.bits c.bits → apply_prim p (a ∷ b ∷ []) ≡ apply_prim p (a ∷ c ∷ [])
 shifted_alike p (inl e) a b c le h =
     ap (λ q. apply_prim q (a ∷ b ∷ [])) e
     ∙ ap (λ (k : ℕ). record { width = a.width; bits = k }) (moved (λ i. (a.bits * 2 ^ i) % 2 ^ a.width) a.width b.bits c.bits le h)
@@ -107,7 +108,7 @@ pub shift_value : {E : Type 0} (n k m : Netlist) (r : Result Sig E) (p : Primiti
 shift_value n k m (Ok s) p xs d c w h o g i alike value = λ v x.
     let y = wired_before i x in
     let t = (fits n v (slice_index_or xs 0 d).0 w (wired_before g y) o.word.width).width in
-    let q : w ≤ max_width = leb-true w max_width (and_parts (nat_le 1 w) (nat_le w max_width) o.wide).1 in
+    let q : w ≤ width_max = leb-true w width_max (and_parts (nat_le 1 w) (nat_le w width_max) o.wide).1 in
     value v x
     ∙ sym (shifted_alike p h (v (slice_index_or xs 0 d).0) (v (slice_index_or xs 1 d).0) (v c.0) (omega (arith, t, q)) (alike v y))
     ∙ sym (ap (λ (l : List Sig). apply_prim p (words v l)) o.is)
@@ -168,8 +169,8 @@ pub cut_narrow : {E : Type 0} (m : Netlist) (r : Result Sig E) → IfOk r (λ s.
 cut_narrow m (Ok s) h = record { width = 9; source = h; some = omega arith; narrow = omega arith }
 cut_narrow m (Err e) h = tt
 
-pub compared_width : (u : ℕ) → 1 ≤ u → u ≤ max_width → result_width Gt (u ∷ u ∷ []) ≡ Some 1
+pub compared_width : (u : ℕ) → 1 ≤ u → u ≤ width_max → result_width Gt (u ∷ u ∷ []) ≡ Some 1
 compared_width u some most = rw (within u some most, eq-eqb u u refl) refl
 
-pub low_width : (u : ℕ) → 32 < u → u ≤ max_width → result_width (Bits 7 0) (u ∷ []) ≡ Some 8
+pub low_width : (u : ℕ) → 32 < u → u ≤ width_max → result_width (Bits 7 0) (u ∷ []) ≡ Some 8
 low_width u le most = rw (within u (omega (arith, le)) most, lt-ltb 7 u (omega (arith, le))) refl

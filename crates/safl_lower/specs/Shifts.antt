@@ -1,6 +1,6 @@
 -- Shifts, and which signals may be the amount of a cell that shifts.
 use Rattle.std.specs.Prelude.{◌≡◌, ℕ, ◌≤◌, ◌⊎◌, [], ◌∷◌}
-use Rattle.safl_word.specs.Words.{max_width}
+use Rattle.safl_word.specs.Limits.{width_max}
 use Rattle.safl_word.specs.declared.primitive.Primitive.{Primitive}
 use Rattle.safl_word.specs.declared.primitive.Primitive.TheVariants.{Shl, Shr}
 use Rattle.safl_net.specs.declared.cell.Sig.{Sig}
@@ -17,7 +17,7 @@ widest_amount = 32
 
 -- the amounts are equal, or both shift every bit of a word out
 abbrev pub ShiftAlike : ℕ → ℕ → Type 0
-ShiftAlike a b = (a ≡ b) ⊎ ((max_width ≤ a) × (max_width ≤ b))
+ShiftAlike a b = (a ≡ b) ⊎ ((width_max ≤ a) × (width_max ≤ b))
 
 -- the signal may be the amount of a shift's cell
 pub record IsAmount (n : Netlist) (s : Sig) : Type 0 where

@@ -1,5 +1,6 @@
 -- Signals that cells may read, and nets that are built from them.
 use Rattle.std.specs.Prelude.{◌≡◌, ℕ, ◌+◌, ◌≤◌, ◌<◌, List, length, Some}
+use Rattle.safl_word.specs.Limits.{count_max}
 use Rattle.safl_net.specs.declared.cell.Sig.{Sig}
 use Rattle.safl_net.specs.Netlist.{Netlist}
 use Rattle.safl_net.specs.Names.{IsTidy}
@@ -26,7 +27,7 @@ pub record Builds (old new : Netlist) (most : ℕ) : Type 0 where
 
 -- the net has room for so many more signals
 abbrev pub HasRoom : Netlist → ℕ → Type 0
-HasRoom n most = length n.signals + most < 4294967295
+HasRoom n most = length n.signals + most < count_max
 
 -- the net is tidy, with room for so many more signals
 pub record CanGrow (n : Netlist) (most : ℕ) : Type 0 where

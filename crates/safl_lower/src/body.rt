@@ -1,7 +1,7 @@
 //! The circuit of a whole body.
 
 ghost use Rattle.std.specs.Prelude.{◌≡◌, ℕ, ◌<◌, ◌≤◌, [], ◌∷◌, IfOk};
-ghost use Rattle.safl_word.specs.Words.{max_width};
+ghost use Rattle.safl_word.specs.Limits.{width_max};
 ghost use Rattle.safl_net.specs.Names.{IsTidy};
 ghost use Rattle.safl_net.specs.Growth.{Val, Wired, Grows};
 ghost use Rattle.safl_net.specs.Bits.{on, gate};
@@ -70,7 +70,7 @@ pub fn lower(
 fn end(alloc: Global, net: &mut Net, run: Sig, width: u8, body: Lowered) -> Result<Load, NoMemory>
     requires run { IsSource net.old run 1 }
     requires some { 1 ≤ width }
-    requires most { width ≤ max_width }
+    requires most { width ≤ width_max }
     requires ready { ReadyAt net.old body.ready }
     requires room { CanGrow net.old 2 }
     ensures built { Builds net.old net.new 2 }
@@ -104,7 +104,7 @@ fn one_load(alloc: Global, bit: Sig, value: Sig) -> Result<Load, AllocError>
 // Stands for the word of a body that only makes tail calls. Nothing reads it.
 fn no_value(net: &mut Net, width: u8) -> Result<Sig, NoMemory>
     requires some { 1 ≤ width }
-    requires most { width ≤ max_width }
+    requires most { width ≤ width_max }
     requires room { CanGrow net.old 1 }
     ensures built { Builds net.old net.new 1 }
     ensures fits { IfOk result (λ s. IsSource net.new s width) }

@@ -1,7 +1,7 @@
 //! Primitives on signals, including `Ext`, which has no cell.
 
 ghost use Rattle.std.specs.Prelude.{◌≡◌, ℕ, ◌<◌, ◌≤◌, List, Some, IfOk};
-ghost use Rattle.safl_word.specs.Words.{max_width};
+ghost use Rattle.safl_word.specs.Limits.{width_max};
 ghost use Rattle.safl_word.specs.Primitives.{apply_prim, result_width};
 ghost use Rattle.safl_net.specs.Growth.{Val, Wired};
 ghost use Rattle.safl_lower.specs.Sources.{IsSource, Builds, CanGrow};
@@ -29,7 +29,7 @@ pub fn apply(net: &mut Net, primitive: Primitive, operands: &[Sig]) -> Result<Si
 // The word with zeros above it, `width` bits in all; the word itself if it has that width already.
 fn extend(net: &mut Net, a: Sig, width: u8) -> Result<Sig, NoMemory>
     requires narrow { (w : ℕ) × IsSource net.old a w × (1 ≤ w) × (w ≤ width) }
-    requires bounded { width ≤ max_width }
+    requires bounded { width ≤ width_max }
     requires room { CanGrow net.old 2 }
     ensures built { Builds net.old net.new 2 }
     ensures fits { IfOk result (λ s. IsSource net.new s width) }

@@ -1,7 +1,7 @@
 //! Shifts by amounts of any width.
 
 ghost use Rattle.std.specs.Prelude.{◌≡◌, ℕ, ◌≤◌, List, Some, IfOk, slice_index_or};
-ghost use Rattle.safl_word.specs.Words.{max_width};
+ghost use Rattle.safl_word.specs.Limits.{width_max};
 ghost use Rattle.safl_word.specs.Primitives.{apply_prim, result_width};
 ghost use Rattle.safl_net.specs.Growth.{Val, Wired};
 ghost use Rattle.safl_lower.specs.Sources.{IsSource, Builds, CanGrow};
@@ -31,7 +31,7 @@ pub fn shift(net: &mut Net, primitive: Primitive, operands: &[Sig]) -> Result<Si
 // A signal of at most 32 bits that shifts as `b` does. If `b` is not that narrow, it is the low 8 bits of `b` below a
 // bit that is 1 if they are not all of its number. No word has 256 bits, so that bit shifts every bit out.
 fn cut_down(net: &mut Net, b: Sig) -> Result<Sig, NoMemory>
-    requires sized { (u : ℕ) × IsSource net.old b u × (1 ≤ u) × (u ≤ max_width) }
+    requires sized { (u : ℕ) × IsSource net.old b u × (1 ≤ u) × (u ≤ width_max) }
     requires room { CanGrow net.old 4 }
     ensures built { Builds net.old net.new 4 }
     ensures narrow { IfOk result (λ s. IsAmount net.new s) }

@@ -1,6 +1,7 @@
 -- Names of signals and outputs.
 use Rattle.std.specs.Prelude.{◌≡◌, ℕ, ◌+◌, List, [], ◌∷◌, Bool, true, false, not, ◌||◌, ◌&&◌, ◌==◌, nat_le, length, take, codes, decimal, Some, slice_get}
 use Rattle.std.proofs.Common.{bytes_eq}
+use Rattle.safl_word.specs.Limits.{net_name_max}
 use Rattle.safl_net.specs.Netlist.{Netlist, Signal, Kind, Input, Reg, Wire}
 
 -- the byte is a letter or `_`
@@ -32,7 +33,7 @@ is_reserved name =
 
 -- the name is a simple identifier of at most 200 bytes, and no reserved word
 unfoldable pub is_good : List ℕ → Bool
-is_good name = is_identifier name && nat_le (length name) 200 && not (is_reserved name)
+is_good name = is_identifier name && nat_le (length name) net_name_max && not (is_reserved name)
 
 -- whether a signal has this name; whether a signal or an output has it
 abbrev pub named_signal : List Signal → List ℕ → Bool

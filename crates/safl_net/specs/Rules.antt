@@ -1,6 +1,6 @@
 -- The rules that every netlist keeps.
 use Rattle.std.specs.Prelude.{◌≡◌, ℕ, ◌<◌, ◌≤◌, ◌^◌, List, length, true, Some, None, All, slice_get}
-use Rattle.safl_word.specs.Words.{max_width}
+use Rattle.safl_word.specs.Limits.{width_max}
 use Rattle.safl_net.specs.Netlist.{Netlist, Signal, Kind, Input, Reg, Wire, Cell, width_of}
 use Rattle.safl_net.specs.Names.{is_good}
 use Rattle.safl_net.specs.Widths.{op_width, HasWord}
@@ -23,7 +23,7 @@ KindFits n width (Wire (Some c)) = CellFits n width c
 pub record SignalFits (n : Netlist) (g : Signal) : Type 0 where
   pub good : is_good g.name ≡ true
   pub some : 1 ≤ g.width
-  pub most : g.width ≤ max_width
+  pub most : g.width ≤ width_max
   pub kind : KindFits n g.width g.kind
 
 -- names are good and all different, and signals and outputs keep the rules

@@ -3,16 +3,15 @@
 ghost use Rattle.std.specs.Prelude.{◌≡◌};
 ghost use Rattle.safl_net.specs.Names.{is_good, is_identifier, is_reserved, is_start, is_part, are_parts};
 
-/// The greatest length of a name in bytes.
-pub const NAME_MAX: usize = 200;
+use safl_word::limits::NET_NAME_MAX;
 
-/// Whether a name is good: a letter or `_`, then letters, digits, `_` and `$`; at most `NAME_MAX` bytes; and none of
+/// Whether a name is good: a letter or `_`, then letters, digits, `_` and `$`; at most `NET_NAME_MAX` bytes; and none of
 /// the Verilog words that a written netlist uses.
 #[tactic(auto, unfolding(crate::specs::Names::is_good))]
 pub fn is_good_name(name: &str) -> bool
     ensures { result ≡ is_good name.now }
 {
-    is_identifier(name.as_bytes()) && name.len() <= NAME_MAX && !is_reserved(name)
+    is_identifier(name.as_bytes()) && name.len() <= NET_NAME_MAX && !is_reserved(name)
 }
 
 fn is_identifier(bytes: &[u8]) -> bool

@@ -64,6 +64,7 @@ impl Model for Net {
 impl Net {
     ghost use Rattle.std.specs.Prelude.{◌≡◌, ℕ, ◌<◌, ◌≤◌, ◌^◌, [], length, true, false, Some, None, All, Ok, Err, option_copied, option_map, slice_get};
     ghost use Rattle.std.specs.Prelude.{IfOk, IfErr, OnOk, OnErr, IsOk, IsSome, IsNone, IfSome, IsTrue, is_some, codes, ◌↔◌, unwrap_or, string_bytes};
+    ghost use Rattle.safl_word.specs.Limits.{count_max, width_max};
     ghost use Rattle.safl_net.specs.Netlist.{Netlist, Input, Reg, Wire, IsSet, AllSet, width_of, place, output_place};
     ghost use Rattle.safl_net.specs.Whole.{IsWhole, IsLeastUnset, HasStart, HasDone};
     ghost use Rattle.safl_net.specs.Names.{is_good, has_name, wires, one_wire, IsTidy};
@@ -90,8 +91,8 @@ impl Net {
     /// otherwise `NameTaken` exactly if a signal or an output has it. A refusal leaves the net as it was.
     pub fn input(&mut self, name: &str, width: u8) -> Result<Sig, NetErr>
         requires some { 1 ≤ width }
-        requires most { width ≤ 128 }
-        requires room { length self.old.signals < 4294967295 }
+        requires most { width ≤ width_max }
+        requires room { length self.old.signals < count_max }
         ensures added { OnOk result (self.new ≡ with_signal self.old (record { name = name.now; width = width; kind = Input })) }
         ensures numbered { IfOk result (λ s. s.0 ≡ length self.old.signals) }
         ensures refusal { Refuses (refusal self.old name.now) result }
@@ -108,7 +109,7 @@ impl Net {
 
     /// Adds a register with this word at reset and without a next signal, as the next signal. Refusals as for `input`.
     pub fn reg(&mut self, name: &str, init: Word) -> Result<Sig, NetErr>
-        requires room { length self.old.signals < 4294967295 }
+        requires room { length self.old.signals < count_max }
         ensures added { OnOk result (self.new ≡ with_signal self.old (record { name = name.now; width = init.width; kind = Reg init.bits None })) }
         ensures numbered { IfOk result (λ s. s.0 ≡ length self.old.signals) }
         ensures refusal { Refuses (refusal self.old name.now) result }
@@ -127,8 +128,8 @@ impl Net {
     /// Adds a wire of this width, 1 to 128 bits, and without a cell, as the next signal. Refusals as for `input`.
     pub fn wire(&mut self, name: &str, width: u8) -> Result<Sig, NetErr>
         requires some { 1 ≤ width }
-        requires most { width ≤ 128 }
-        requires room { length self.old.signals < 4294967295 }
+        requires most { width ≤ width_max }
+        requires room { length self.old.signals < count_max }
         ensures added { OnOk result (self.new ≡ with_signal self.old (record { name = name.now; width = width; kind = Wire None })) }
         ensures numbered { IfOk result (λ s. s.0 ≡ length self.old.signals) }
         ensures refusal { Refuses (refusal self.old name.now) result }
@@ -149,7 +150,7 @@ impl Net {
         requires tidy { IsTidy self.old }
         requires known { All (λ s. s.0 < length self.old.signals) operands.now }
         requires fits { IsSome (width_on self.old op operands.now) }
-        requires room { length self.old.signals < 4294967295 }
+        requires room { length self.old.signals < count_max }
         ensures added { OnOk result (self.new ≡ with_signal self.old (temporary self.old op operands.now)) }
         ensures numbered { IfOk result (λ s. s.0 ≡ length self.old.signals) }
         ensures tidy { IsTidy self.new }
@@ -217,7 +218,7 @@ impl Net {
     /// Adds an output that shows signal `s`, after the others. Refusals as for `input`.
     pub fn output(&mut self, name: &str, s: Sig) -> Result<(), NetErr>
         requires known { s.0 < length self.old.signals }
-        requires room { length self.old.outputs < 4294967295 }
+        requires room { length self.old.outputs < count_max }
         ensures added { OnOk result (self.new ≡ with_output self.old name.now s.0) }
         ensures refusal { Refuses (refusal self.old name.now) result }
         ensures refused { OnErr result (self.new ≡ self.old) }
@@ -460,9 +461,9 @@ impl Net {
 
     // Adds a signal, if its name is good and not taken.
     fn add(&mut self, name: &str, row: Row) -> Result<Sig, NetErr>
-        requires room { length self.old.signals < 4294967295 }
+        requires room { length self.old.signals < count_max }
         requires some { 1 ≤ row.width }
-        requires most { row.width ≤ 128 }
+        requires most { row.width ≤ width_max }
         requires kind { KindFits self.old row.width (kind_of row.driver) }
         requires reset { ResetFits row.width row.driver }
         ensures added { OnOk result (self.new ≡ with_signal self.old (signal_of name.now row)) }
@@ -487,7 +488,7 @@ impl Net {
 
     // Adds a signal whose name is good and not taken.
     fn push(&mut self, name: String, row: Row) -> Result<Sig, NoMemory>
-        requires room { length self.old.signals < 4294967295 }
+        requires room { length self.old.signals < count_max }
         requires new { has_name self.old (string_bytes name) ≡ false }
         requires fits { SignalFits self.old (signal_of (string_bytes name) row) }
         requires reset { ResetFits row.width row.driver }

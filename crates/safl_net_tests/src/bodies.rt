@@ -15,7 +15,8 @@ use safl_net::{Cell, Net, Op, Sig, SigKind};
 use safl_parse::parse_program;
 use safl_term::Checked;
 use safl_tree::laws::{printable_law, shallow_law};
-use safl_word::{Primitive, Raw, SOURCE_MAX, Word, apply, result_width};
+use safl_word::limits::SOURCE_MAX;
+use safl_word::{Primitive, Raw, Word, apply, result_width};
 use std::alloc::Global;
 use std::test::Fail;
 

@@ -3,6 +3,7 @@
 //! What the calls of a net require is tested when the tests run, so that their proofs need to know nothing of the net.
 
 ghost use Rattle.std.specs.Prelude.{◌≡◌, ◌<◌, All, None, false, length, IfOk, IsSome};
+ghost use Rattle.safl_word.specs.Limits.{count_max};
 ghost use Rattle.safl_net.specs.Netlist.{Reg, Wire};
 ghost use Rattle.safl_net.specs.Valuations.{reset_state};
 ghost use Rattle.safl_net.specs.Making.{kind_at, width_on};
@@ -100,7 +101,7 @@ fn add_signal(net: &mut Net, kind: SigKind, name: &str, word: Option<Word>) -> R
 fn place(net: &mut Net, kind: SigKind, name: &str, word: Word) -> Result<Sig, NetErr>
     requires tidy { IsTidy net.old }
     requires named { is_temp name.now ≡ false }
-    requires room { length net.old.signals < 4294967295 }
+    requires room { length net.old.signals < count_max }
     ensures { IsTidy net.new }
 {
     match kind {
@@ -175,7 +176,7 @@ fn place_temporary(net: &mut Net, op: Op, operands: &[Sig]) -> Result<(), Fault>
     requires tidy { IsTidy net.old }
     requires known { All (λ s. s.0 < length net.old.signals) operands.now }
     requires fits { IsSome (width_on net.old op operands.now) }
-    requires room { length net.old.signals < 4294967295 }
+    requires room { length net.old.signals < count_max }
     ensures { IsTidy net.new }
 {
     match net.temp(op, operands) {

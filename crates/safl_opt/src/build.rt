@@ -1,6 +1,7 @@
 //! The optimised net, built from the values of a net.
 
 ghost use Rattle.std.specs.Prelude.{◌≡◌, ◌<◌, ◌≤◌, ◌+◌, ◌^◌, ℕ, List, [], ◌∷◌, ◌++◌, Some, None, All, map, length, slice_get, IfOk, OnOk, OnErr};
+ghost use Rattle.safl_word.specs.Limits.{count_max, width_max};
 ghost use Rattle.safl_net.specs.Netlist.{Input, Reg, Wire, width_of};
 ghost use Rattle.safl_net.specs.Valuations.{reset_state};
 ghost use Rattle.safl_net.specs.Widths.{op_width};
@@ -57,7 +58,7 @@ fn declare_kept(net: &mut Net, old: &Net, values: &Values) -> Result<(), NoMemor
 // Adds a signal with the name, width and kind of `s`, which is set later.
 fn declare(net: &mut Net, old: &Net, s: Sig) -> Result<(), NoMemory>
     requires known { s.0 < length old.now.signals }
-    requires room { length net.old.signals < 4294967295 }
+    requires room { length net.old.signals < count_max }
     requires free { refusal net.old (name_at old.now s.0) ≡ None }
     ensures added { OnOk result (net.new ≡ with_signal net.old (open_signal old.now s.0)) }
 {
@@ -71,8 +72,8 @@ fn declare(net: &mut Net, old: &Net, s: Sig) -> Result<(), NoMemory>
 
 fn declare_input(net: &mut Net, name: &str, width: u8) -> Result<(), NoMemory>
     requires some { 1 ≤ width }
-    requires most { width ≤ 128 }
-    requires room { length net.old.signals < 4294967295 }
+    requires most { width ≤ width_max }
+    requires room { length net.old.signals < count_max }
     requires free { refusal net.old name.now ≡ None }
     ensures added { OnOk result (net.new ≡ with_signal net.old (record { name = name.now; width = width; kind = Input })) }
 {
@@ -84,7 +85,7 @@ fn declare_input(net: &mut Net, name: &str, width: u8) -> Result<(), NoMemory>
 }
 
 fn declare_register(net: &mut Net, name: &str, init: Word) -> Result<(), NoMemory>
-    requires room { length net.old.signals < 4294967295 }
+    requires room { length net.old.signals < count_max }
     requires free { refusal net.old name.now ≡ None }
     ensures added { OnOk result (net.new ≡ with_signal net.old (record { name = name.now; width = init.width; kind = Reg init.bits None })) }
 {
@@ -97,8 +98,8 @@ fn declare_register(net: &mut Net, name: &str, init: Word) -> Result<(), NoMemor
 
 fn declare_wire(net: &mut Net, name: &str, width: u8) -> Result<(), NoMemory>
     requires some { 1 ≤ width }
-    requires most { width ≤ 128 }
-    requires room { length net.old.signals < 4294967295 }
+    requires most { width ≤ width_max }
+    requires room { length net.old.signals < count_max }
     requires free { refusal net.old name.now ≡ None }
     ensures added { OnOk result (net.new ≡ with_signal net.old (record { name = name.now; width = width; kind = Wire None })) }
 {
@@ -170,7 +171,7 @@ fn place_node(
 
 fn make_node(net: &mut Net, made: &[Sig], node: Node) -> Result<Sig, NoMemory>
     requires tidy { IsTidy net.old }
-    requires room { length net.old.signals < 4294967295 }
+    requires room { length net.old.signals < count_max }
     requires operands { (i x : ℕ) → slice_get (node_operands node) i ≡ Some x → (x < length made.now) × (sig_at made.now x < length net.old.signals) }
     requires fits { (w : ℕ) × (op_width (node_op node) (map (width_of net.old) (map (sig_at made.now) (node_operands node))) ≡ Some w) }
     ensures added { OnOk result (IsAdded net.old net.new (node_cell made.now node)) }
@@ -306,7 +307,7 @@ fn show_outputs(net: &mut Net, old: &Net, values: &Values, made: &[Sig]) -> Resu
 
 fn add_output(net: &mut Net, name: &str, s: Sig) -> Result<(), NoMemory>
     requires known { s.0 < length net.old.signals }
-    requires room { length net.old.outputs < 4294967295 }
+    requires room { length net.old.outputs < count_max }
     requires free { refusal net.old name.now ≡ None }
     ensures added { OnOk result (net.new ≡ with_output net.old name.now s.0) }
 {

@@ -13,7 +13,7 @@ ghost use Rattle.safl_parse.specs.Reads.{Reads};
 use crate::error::{Cause, Read, ReadError};
 use crate::parser::Parser;
 use safl_tree::Name;
-use safl_word::word::WIDTH_MAX;
+use safl_word::limits::WIDTH_MAX;
 use safl_word::{Key, Primitive, Raw, Sym, Token, TokenKind};
 
 /// The primitive that a symbol stands for.
@@ -70,12 +70,6 @@ fn is_of(token: &Token, kind: TokenKind) -> bool
     token.kind == kind
 }
 
-fn lesser(a: usize, b: usize) -> usize
-    ensures { result ≡ min a b }
-{
-    if a < b { a } else { b }
-}
-
 impl<'s> Parser<'s> {
     /// Whether a token of this kind comes next. The kind is not that of a number.
     pub fn comes(&self, tokens: &[Token], kind: TokenKind) -> bool
@@ -117,8 +111,8 @@ impl<'s> Parser<'s> {
     fn bytes_of(&self, token: &Token) -> &'s [u8]
         ensures { result.now ≡ take (token.now.stop - token.now.start) (drop token.now.start self.now.text.now) }
     {
-        let stop = lesser(token.stop as usize, self.text.len());
-        let start = lesser(token.start as usize, stop);
+        let stop = (token.stop as usize).min(self.text.len());
+        let start = (token.start as usize).min(stop);
         &self.text[start..stop]
     }
 

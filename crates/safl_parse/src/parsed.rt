@@ -1,7 +1,7 @@
 //! Sources with the programs that they spell.
 
 ghost use Rattle.std.specs.Prelude.{◌≡◌, ◌≤◌, length, List, IfOk, IfErr};
-ghost use Rattle.safl_word.specs.declared.word.TheConstants.{SOURCE_MAX};
+ghost use Rattle.safl_word.specs.Limits.{source_max};
 ghost use Rattle.safl_word.specs.declared.fault.Fault.{Fault};
 ghost use Rattle.safl_tree.specs.Tree.{Definition};
 ghost use Rattle.safl_tree.specs.Shown.{shown_program};
@@ -42,7 +42,7 @@ impl Parsed {
 /// E03 (name or number too long) come before all others. Then, at the first token that breaks a rule, E04 (nesting too
 /// deep) comes before E02 (unexpected token), and that before E05 (bad width or range).
 pub fn parse_program(alloc: Global, source: &[u8]) -> Result<Program, ParseErr>
-    requires { length source.now ≤ SOURCE_MAX }
+    requires { length source.now ≤ source_max }
     ensures program { IfOk result (λ p. SpellsProgram source.now (shown_program p)) }
     ensures refused { IfErr result (λ e. RefusedFirst source.now e) }
     ensures spelled { (p : List Definition) → SpellsProgram source.now p → IsProgramUnlessNoMemory p result }
@@ -54,7 +54,7 @@ pub fn parse_program(alloc: Global, source: &[u8]) -> Result<Program, ParseErr>
 
 /// The program that `parse_program` gives, with a copy of its source.
 pub fn parse(alloc: Global, source: &[u8]) -> Result<Parsed, ParseErr>
-    requires { length source.now ≤ SOURCE_MAX }
+    requires { length source.now ≤ source_max }
     ensures program { IfOk result (λ p. Spells source.now p) }
     ensures refused { IfErr result (λ e. RefusedFirst source.now e) }
     ensures spelled { (p : List Definition) → SpellsProgram source.now p → SpelledUnlessNoMemory p result }

@@ -74,12 +74,6 @@ pub fn above(depth: u8) -> u8
     }
 }
 
-pub fn greater(a: u8, b: u8) -> u8
-    ensures { result ≡ max a b }
-{
-    if a < b { b } else { a }
-}
-
 /// A list of one expression.
 pub fn single(alloc: Global, part: Part) -> Result<Parts, AllocError>
     ensures { IfOk result (λ x. shown_trees x.exprs.items ≡ shown_tree part.expr ∷ []) }
@@ -93,7 +87,7 @@ pub fn single(alloc: Global, part: Part) -> Result<Parts, AllocError>
 pub fn push(parts: Parts, next: Part) -> Result<Parts, AllocError>
     ensures { IfOk result (λ x. shown_trees x.exprs.items ≡ shown_trees parts.exprs.items ++ shown_tree next.expr ∷ []) }
 {
-    let depth = greater(parts.depth, next.depth);
+    let depth = parts.depth.max(next.depth);
     let mut exprs = parts.exprs;
     exprs.push(next.expr)?;
     Ok(Parts { exprs, depth })
@@ -113,7 +107,7 @@ pub fn push_bind(bindings: Bindings, next: Bind, depth: u8) -> Result<Bindings, 
     requires { depth ≡ min (tree_depth (shown_tree next.value)) 100 }
     ensures { IfOk result (λ x. shown_bounds x.binds.items ≡ shown_bounds bindings.binds.items ++ shown_bind next ∷ []) }
 {
-    let depth = greater(bindings.depth, depth);
+    let depth = bindings.depth.max(depth);
     let mut binds = bindings.binds;
     binds.push(next)?;
     Ok(Bindings { binds, depth })
@@ -151,7 +145,7 @@ pub fn called(place: u32, name: Name, arguments: Parts) -> Part
 pub fn bound(alloc: Global, place: u32, bindings: Bindings, body: Part) -> Result<Part, AllocError>
     ensures { IfOk result (λ x. shown_tree x.expr ≡ Let place (binds_of (shown_bounds bindings.binds.items)) (shown_tree body.expr)) }
 {
-    let depth = above(greater(bindings.depth, body.depth));
+    let depth = above(bindings.depth.max(body.depth));
     let body = Box::new(alloc, body.expr)?;
     Ok(Part {
         expr: Expr {
@@ -179,7 +173,7 @@ fn arm_depth(before: usize, depth: u8) -> u8
     ensures { result ≡ min (before + 1 + max 2 depth) 100 }
 {
     if before < DEPTH_LIMIT as usize {
-        let depth = before as u8 + 1 + greater(2, depth);
+        let depth = before as u8 + 1 + depth.max(2);
         if depth < DEPTH_LIMIT {
             depth
         } else {
@@ -194,7 +188,9 @@ fn arm_depth(before: usize, depth: u8) -> u8
 pub fn push_arm(labels: Labels, label: Expr, value: Part) -> Result<Labels, AllocError>
     ensures { IfOk result (λ x. shown_labelled x.arms.items ≡ with_arm (shown_labelled labels.arms.items) label value.expr) }
 {
-    let depth = greater(labels.depth, arm_depth(labels.arms.len(), value.depth));
+    let depth = labels
+        .depth
+        .max(arm_depth(labels.arms.len(), value.depth));
     let mut arms = labels.arms;
     arms.push(Arm {
         label,
@@ -225,10 +221,9 @@ pub fn with_default(labels: Labels, default: Part) -> AllArms
     ensures labelled { shown_labelled result.arms.items ≡ shown_labelled labels.arms.items }
     ensures default { shown_tree result.default ≡ shown_tree default.expr }
 {
-    let depth = greater(
-        labels.depth,
-        default_depth(labels.arms.len(), default.depth),
-    );
+    let depth = labels
+        .depth
+        .max(default_depth(labels.arms.len(), default.depth));
     AllArms {
         arms: labels.arms,
         default: default.expr,
@@ -241,7 +236,7 @@ pub fn cased(alloc: Global, place: u32, scrutinee: Part, arms: AllArms) -> Resul
     ensures { IfOk result (λ x.
         shown_tree x.expr ≡ Cases place (shown_tree scrutinee.expr) (arms_of (shown_labelled arms.arms.items) (shown_tree arms.default))) }
 {
-    let depth = above(greater(scrutinee.depth, arms.depth));
+    let depth = above(scrutinee.depth.max(arms.depth));
     let scrutinee = Box::new(alloc, scrutinee.expr)?;
     let default = Box::new(alloc, arms.default)?;
     Ok(Part {
@@ -263,7 +258,7 @@ pub fn chosen(
 ) -> Result<Part, AllocError>
     ensures { IfOk result (λ x. shown_tree x.expr ≡ If place (shown_tree condition.expr) (shown_tree first.expr) (shown_tree second.expr)) }
 {
-    let depth = above(greater(condition.depth, greater(first.depth, second.depth)));
+    let depth = above(condition.depth.max(first.depth.max(second.depth)));
     let node = Node::If(
         Box::new(alloc, condition.expr)?,
         Box::new(alloc, first.expr)?,

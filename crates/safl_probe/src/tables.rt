@@ -1,6 +1,7 @@
 //! The texts of starts and toggles.
 
 ghost use Rattle.std.specs.Prelude.{◌≡◌, ◌++◌, ◌≤◌, slice_get, slice_index, bit_xor, count_ones, OnOk};
+ghost use Rattle.safl_word.specs.Limits.{width_max};
 ghost use Rattle.safl_probe.specs.Watching.{seen, shown_frame};
 ghost use Rattle.safl_probe.specs.Texts.{start, starts, toggles, toggled};
 ghost use Rattle.safl_probe.specs.Entries.{name_of, watched_from, nameless, numbers, looked, looked_all};
@@ -68,7 +69,7 @@ pub(crate) fn toggle(spots: &mut [Spot], frame: &[Word]) -> Raw
 #[inline(always)]
 fn toggle_one(spot: &mut Spot, frame: &[Word]) -> u32
     ensures count { result ≡ count_ones (bit_xor spot.old.number (slice_index (shown_frame frame.now) spot.old.signal)) }
-    ensures most { result ≤ 128 }
+    ensures most { result ≤ width_max }
     ensures now { spot.new ≡ looked (shown_frame frame.now) spot.old }
 {
     let last = spot.number;
@@ -79,7 +80,7 @@ fn toggle_one(spot: &mut Spot, frame: &[Word]) -> u32
 
 fn difference(last: Raw, number: Raw) -> u32
     ensures number { result ≡ count_ones (bit_xor last number) }
-    ensures most { result ≤ 128 }
+    ensures most { result ≤ width_max }
 {
     (last ^ number).count_ones()
 }

@@ -1,7 +1,7 @@
 -- The checker refuses no printable program that has a form.
 use Rattle.std.proofs.Common.{◌≡◌, List, sym, ◌∙◌, arith}
 use Rattle.safl_word.specs.declared.fault.Fault.{Fault}
-use Rattle.safl_term.specs.Sizes.{max_depth}
+use Rattle.safl_word.specs.Limits.{depth_max}
 use Rattle.safl_tree.specs.Tree.{Definition}
 use Rattle.safl_tree.specs.Laws.{PrintedSpells, SourcesAreShallow}
 use Rattle.safl_tree.specs.Printable.{IsFormedProgram, IsPrintable}
@@ -20,4 +20,4 @@ never_refused ds f law formed has r = some_none f (sym r.0 ∙ (law ds formed).1
 pub never_deep : (ds : List Definition) → PrintedSpells → SourcesAreShallow → IsPrintable ds → IsTooDeep ds → ⊥
 never_deep ds spelled shallow p d =
     let s = spelled ds p in
-    d.1 (shallow_without_places 1100 max_depth s.0 ds (omega arith) s.2 (shallow (printed ds) s.0 s.1))
+    d.1 (shallow_without_places 1100 depth_max s.0 ds (omega arith) s.2 (shallow (printed ds) s.0 s.1))

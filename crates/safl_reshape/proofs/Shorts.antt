@@ -2,7 +2,7 @@
 use Rattle.std.proofs.Common.{◌≡◌, ℕ, ◌+◌, ◌≤◌, List, Bool, false, refl, sym, subst, length}
 use Rattle.safl_typing.specs.Rewriting.{Expression, Number, Sized, Variable, If, Let, Op, Call, Expressions, no_expression, an_expression, Bindings, no_binding, a_binding}
 use Rattle.safl_typing.specs.Heads.{Known, Callee, callee, is_site, sites, sites_bound}
-use Rattle.safl_term.specs.Sizes.{max_bindings}
+use Rattle.safl_word.specs.Limits.{bindings_max}
 use Rattle.safl_typing.specs.Forms.{HasShortLets, HaveShortLets, HaveShortBound}
 use Rattle.safl_reshape.specs.Changed.{calls, calls_in, calls_bound}
 use Rattle.safl_reshape.proofs.Altered.{Alteration, altered, altered_all, altered_bound}
@@ -19,7 +19,7 @@ module _ (k : Known) (a : Alteration) (r : IsRigid a) (s : IsShort a) where
     short_altered lo (Variable p x) h = tt
     short_altered lo (If p c x y) h = (short_altered lo c h.0, short_altered (lo + sites k c) x h.1, short_altered (lo + sites k c + sites k x) y h.2)
     short_altered lo (Let p bs b) h =
-        (subst (λ (l : List (List ℕ)). length l ≤ max_bindings) (sym (names_same k a r lo bs)) h.0, short_altered_bound lo bs h.1, short_altered (lo + sites_bound k bs) b h.2)
+        (subst (λ (l : List (List ℕ)). length l ≤ bindings_max) (sym (names_same k a r lo bs)) h.0, short_altered_bound lo bs h.1, short_altered (lo + sites_bound k bs) b h.2)
     short_altered lo (Op p o es) h = short_altered_all lo es h
     short_altered lo (Call p x es) h = s _ _ _ _ _ (short_altered_all (lo + is_site (callee k x)) es h)
 

@@ -3,7 +3,7 @@ use Rattle.std.proofs.Common.{◌≡◌, ℕ, suc, ◌+◌, ◌≤◌, List, [],
 use Rattle.std.specs.Prelude.{◌&&◌}
 use Rattle.safl_word.specs.declared.primitive.Primitive.{Primitive}
 use Rattle.safl_term.specs.Terms.{Terms}
-use Rattle.safl_term.specs.Sizes.{max_bindings}
+use Rattle.safl_word.specs.Limits.{bindings_max}
 use Rattle.safl_tree.specs.Tree as source
 use Rattle.safl_tree.specs.Tree.{Tree, Trees, Binds, Arms, place_of}
 use Rattle.safl_tree.specs.Places.{unplaced, unplaced_trees, unplaced_binds, unplaced_arms}
@@ -99,7 +99,7 @@ mutual
   twin_short twin_sized h = h
   twin_short twin_variable h = h
   twin_short (twin_choice c a b) h = (twin_short c h.0, twin_short a h.1, twin_short b h.2)
-  twin_short (twin_binding bs b) h = (subst (λ (l : List (List ℕ)). length l ≤ max_bindings) (bound_names bs) h.0, bound_short bs h.1, twin_short b h.2)
+  twin_short (twin_binding bs b) h = (subst (λ (l : List (List ℕ)). length l ≤ bindings_max) (bound_names bs) h.0, bound_short bs h.1, twin_short b h.2)
   twin_short (twin_applied es) h = twins_short es h
   twin_short (twin_called es) h = twins_short es h
 

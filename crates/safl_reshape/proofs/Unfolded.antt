@@ -2,13 +2,13 @@
 use Rattle.std.proofs.Common.{◌≡◌, ℕ, zero, suc, ◌+◌, ◌-◌, ◌≤◌, List, [], ◌∷◌, length, Option, Some, None, Bool, true, false, cond, refl, sym, ap, ◌∙◌, subst, arith}
 use Rattle.std.specs.Prelude.{slice_get, ◌==◌, codes}
 use Rattle.safl_term.specs.Program.{Program, arity}
-use Rattle.safl_term.specs.Sizes.{max_bindings}
+use Rattle.safl_word.specs.Limits.{bindings_max, params_max}
 use Rattle.safl_term.specs.Laws.{OneEvaluation}
 use Rattle.safl_tree.specs.Tree.{Definition, Parameter}
 use Rattle.safl_typing.specs.Rewriting.{Expression, Call, Expressions, no_expression, an_expression, rewritten}
 use Rattle.safl_typing.specs.Heads.{Head, Member, Above, Unknown, unit_of, params_of, head_of, heads_from, heads}
 use Rattle.safl_typing.specs.Typing.{Differ, names}
-use Rattle.safl_typing.specs.Forms.{FunctionForm, Form, max_params, HasShortLets, HaveShortLets, HaveShortBound, all_sites, IsLast, function_names, AreFunctionsOf, IsFormOf}
+use Rattle.safl_typing.specs.Forms.{FunctionForm, Form, HasShortLets, HaveShortLets, HaveShortBound, all_sites, IsLast, function_names, AreFunctionsOf, IsFormOf}
 use Rattle.safl_reshape.proofs.Intervals.{has_sites}
 use Rattle.safl_typing.proofs.Names.{some_is}
 use Rattle.safl_check.specs.Numbered.{program_in}
@@ -61,7 +61,7 @@ functions_rise all n u w lo hi (d ∷ ds) (f ∷ fs) (m, is, j, rest) =
 
 -- a definition has few parameters, and short lets
 pub record IsShortDefinition (d : Definition) : Type 0 where
-  pub params : length d.params ≤ max_params
+  pub params : length d.params ≤ params_max
   pub lets : HasShortLets (rewritten d.body)
 
 pub short_at : (all : List Head) (n u w lo hi : ℕ) (ds : List Definition) (fs : List FunctionForm) (i : ℕ) (d : Definition) → AreFunctionsOf all n u w
@@ -81,7 +81,7 @@ short_params [] es h = tt
 short_params (p ∷ ps) no_expression h = tt
 short_params (p ∷ ps) (an_expression e es) h = (h.0, short_params ps es h.1)
 
-short_under : (place : ℕ) (ps : List Parameter) (es : Expressions) (b : Expression) → length ps ≤ max_bindings → HaveShortLets es → HasShortLets b → HasShortLets (under place ps es b)
+short_under : (place : ℕ) (ps : List Parameter) (es : Expressions) (b : Expression) → length ps ≤ bindings_max → HaveShortLets es → HasShortLets b → HasShortLets (under place ps es b)
 short_under place [] es b l h s = s
 short_under place (p ∷ ps) no_expression b l h s = s
 short_under place (p ∷ ps) (an_expression e es) b l h s = (omega (arith, few_names (p ∷ ps) (an_expression e es), l), short_params (p ∷ ps) (an_expression e es) h, s)

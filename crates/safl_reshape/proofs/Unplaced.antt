@@ -8,7 +8,8 @@ use Rattle.safl_tree.specs.Places.{unplaced, unplaced_trees, unplaced_binds, unp
 use Rattle.safl_typing.specs.Rewriting.{rewritten}
 use Rattle.safl_typing.specs.Heads.{Slot, Head, Known, unit_of, slot_of, params_of, head_of, heads_from, heads}
 use Rattle.safl_typing.specs.Typing.{Differ, Has}
-use Rattle.safl_typing.specs.Forms.{FunctionForm, Form, max_params, max_functions, max_nodes, nodes_of, param_names, IsFunctionOf, AreFunctionsOf, IsLast, function_names, IsFormOf}
+use Rattle.safl_typing.specs.Forms.{FunctionForm, Form, nodes_of, param_names, IsFunctionOf, AreFunctionsOf, IsLast, function_names, IsFormOf}
+use Rattle.safl_word.specs.Limits.{params_max, functions_max, nodes_max}
 use Rattle.safl_reshape.proofs.Twins.{Twin, twin_back, twin_nodes, twin_short, twin_has, unplaced_twin}
 
 -- ---- definitions
@@ -125,7 +126,7 @@ same_function all u lo hi d e f s is =
       unit = is.unit;
       first_site = is.first_site;
       params_differ = subst Differ s.names is.params_differ;
-      few_params = subst (λ (n : ℕ). n ≤ max_params) s.many is.few_params;
+      few_params = subst (λ (n : ℕ). n ≤ params_max) s.many is.few_params;
       short_lets = twin_short s.body is.short_lets;
       body = subst (λ (l : List Slot). Has k l true lo hi (rewritten e.body) e.width f.body) s.params (subst (λ (w : ℕ). Has k (params_of d) true lo hi (rewritten e.body) w f.body) s.width b);
     }
@@ -152,9 +153,9 @@ same_form ds es c s is = record {
   sites = is.sites;
   functions_differ = subst Differ (same_functions ds es s) is.functions_differ;
   main = same_last (codes "main") ds es s is.main;
-  few_functions = subst (λ (n : ℕ). n ≤ max_functions) (same_length ds es s) is.few_functions;
+  few_functions = subst (λ (n : ℕ). n ≤ functions_max) (same_length ds es s) is.few_functions;
   few_sites = is.few_sites;
-  few_nodes = subst (λ (n : ℕ). n ≤ max_nodes) (same_nodes ds es s) is.few_nodes;
+  few_nodes = subst (λ (n : ℕ). n ≤ nodes_max) (same_nodes ds es s) is.few_nodes;
 }
 
 -- a form is one of the program without its places, and so of each program that differs from it in places alone

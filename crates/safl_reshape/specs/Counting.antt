@@ -1,5 +1,6 @@
 -- Adding to counts of call sites and nodes.
 use Rattle.std.specs.Prelude.{◌≡◌, ℕ, ◌+◌, min, List, [], ◌∷◌}
+use Rattle.safl_word.specs.Limits.{count_max}
 use Rattle.safl_tree.specs.Tree.{Tree, Bound, Labelled}
 use Rattle.safl_typing.specs.Rewriting.{rewritten}
 use Rattle.safl_typing.specs.Rewriting as plain
@@ -7,7 +8,7 @@ use Rattle.safl_reshape.specs.declared.counts.Counts.{Counts}
 
 -- a number, or the maximum of its type if that is less
 abbrev pub saturated : ℕ → ℕ
-saturated n = min 4294967295 n
+saturated n = min count_max n
 
 -- the new counts have so many more sites and nodes, up to the maximum of the type
 pub record Adds (old new : Counts) (s n : ℕ) : Type 0 where

@@ -2,12 +2,12 @@
 use Rattle.std.specs.Prelude.{◌≡◌, ℕ, suc, ◌<◌, ◌≤◌, List, [], length, Option, Some, None, Bool, true, false, ◌||◌, ◌⊎◌, slice_get}
 use Rattle.std.specs.List.{list_any}
 use Rattle.std.specs.Str.{bytes_eq}
-use Rattle.safl_word.specs.Tokens.{name_max}
+use Rattle.safl_word.specs.Limits.{name_max, functions_max, sites_max, nodes_max}
 use Rattle.safl_term.specs.Program.{Program}
 use Rattle.safl_tree.specs.Tree.{Definition}
 use Rattle.safl_tree.specs.Printable.{AllKeepLevels}
 use Rattle.safl_typing.specs.Heads.{heads}
-use Rattle.safl_typing.specs.Forms.{Form, max_functions, max_sites, max_nodes, nodes_of, function_names, IsFormOf}
+use Rattle.safl_typing.specs.Forms.{Form, nodes_of, function_names, IsFormOf}
 use Rattle.safl_check.specs.Numbered.{program_in}
 use Rattle.safl_reshape.specs.declared.error.ReshapeErr.{ReshapeErr}
 use Rattle.safl_reshape.specs.declared.error.ReshapeErr.TheVariants as errors
@@ -52,9 +52,9 @@ pub record MayCopy (C : Program) (ds : List Definition) (k : ℕ) : Type 0 where
 -- the program passes this limit, and none of those before it
 abbrev pub PassesLimit : List Definition → ℕ → Type 0
 PassesLimit ds i =
-    ((i ≡ 1) × (max_functions < length ds))
-    ⊎ (((i ≡ 4) × (length ds ≤ max_functions) × (max_sites < site_total (heads ds) 0 0 ds))
-    ⊎ ((i ≡ 5) × (length ds ≤ max_functions) × (site_total (heads ds) 0 0 ds ≤ max_sites) × (max_nodes < nodes_of ds)))
+    ((i ≡ 1) × (functions_max < length ds))
+    ⊎ (((i ≡ 4) × (length ds ≤ functions_max) × (sites_max < site_total (heads ds) 0 0 ds))
+    ⊎ ((i ≡ 5) × (length ds ≤ functions_max) × (site_total (heads ds) 0 0 ds ≤ sites_max) × (nodes_max < nodes_of ds)))
 
 -- why a copy is refused: each error says that it is the first to apply
 abbrev pub RefusesCopy : Program → List Definition → ℕ → ReshapeErr → Type 0

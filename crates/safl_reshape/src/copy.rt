@@ -1,6 +1,7 @@
 //! Copying a function for one of its calls.
 
 ghost use Rattle.std.specs.Prelude.{◌≡◌, ◌<◌, ◌≤◌, ◌^◌, ℕ, Some, IsTrue, length, slice_get, IfOk, OnOk, IfErr};
+ghost use Rattle.safl_word.specs.Limits.{functions_max};
 ghost use Rattle.safl_term.specs.Checked.{IsChecked};
 ghost use Rattle.safl_tree.specs.Tree.{Definition};
 ghost use Rattle.safl_tree.specs.Shown.{shown_definition, shown_definitions, shown_program};
@@ -20,11 +21,9 @@ use safl_check::laws::forms_are_numbered_law;
 use safl_term::Checked;
 use safl_tree::{Def, Name, Program};
 use safl_typing::heads::Heads;
+use safl_word::limits::NAME_MAX;
 use safl_word::{NoMemory, Raw, push_decimal};
 use std::alloc::Global;
-
-// The greatest length of a name in bytes.
-const NAME_MAX: usize = 64;
 
 /// The definitions with the function that a site calls copied for that call.
 pub fn copied_defs(
@@ -103,7 +102,7 @@ fn copy_function(
     site: u32,
     name: Name,
 ) -> Result<Vec<Def>, NoMemory>
-    requires few { length defs.now ≤ 1000 }
+    requires few { length defs.now ≤ functions_max }
     requires within { number < length defs.now }
     ensures { IfOk result (λ es. IsCopiedUnder name (shown_definitions defs.now) site number (shown_definitions es.items)) }
 {

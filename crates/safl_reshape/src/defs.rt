@@ -1,6 +1,7 @@
 //! Changing calls in definitions.
 
 ghost use Rattle.std.specs.Prelude.{◌≡◌, ◌≤◌, length, IfOk};
+ghost use Rattle.safl_word.specs.Limits.{functions_max};
 ghost use Rattle.safl_tree.specs.Shown.{shown_tree, shown_definition, shown_definitions, shown_parameters};
 ghost use Rattle.safl_typing.specs.Heads.{heads};
 ghost use Rattle.safl_typing.specs.PlainHeads.{shown_heads};
@@ -23,7 +24,7 @@ pub fn change_defs(
     site: u32,
     defs: &[Def],
 ) -> Result<Vec<Def>, NoMemory>
-    requires few { length defs.now ≤ 1000 }
+    requires few { length defs.now ≤ functions_max }
     requires heads { shown_heads all_heads.now ≡ heads (shown_definitions defs.now) }
     ensures { IfOk result (λ all. shown_definitions all.items ≡ changed_program (change_of site changes.now) (shown_definitions defs.now)) }
 {

@@ -1,6 +1,7 @@
 //! The limits that a reshaped program might pass.
 
 ghost use Rattle.std.specs.Prelude.{◌≡◌, ◌≤◌, length, OnOk, IfErr};
+ghost use Rattle.safl_word.specs.Limits.{functions_max};
 ghost use Rattle.safl_tree.specs.Shown.{shown_definitions};
 ghost use Rattle.safl_typing.specs.Heads.{heads};
 ghost use Rattle.safl_typing.specs.PlainHeads.{shown_heads};
@@ -14,13 +15,8 @@ use crate::error::ReshapeErr;
 use safl_check::{heads_of, next_unit};
 use safl_tree::Def;
 use safl_typing::heads::Heads;
+use safl_word::limits::{FUNCTIONS_MAX, NODES_MAX, SITES_MAX};
 use std::alloc::Global;
-
-const FUNCTIONS_MAX: usize = 1_000;
-
-const SITES_MAX: u32 = 4_000;
-
-const NODES_MAX: u32 = 50_000;
 
 /// Refuses definitions that pass a limit on functions, call sites or nodes. If they pass several, the error is the
 /// first of these.
@@ -44,7 +40,7 @@ pub fn look_at_limits(alloc: Global, defs: &[Def]) -> Result<(), ReshapeErr>
 
 // The numbers of call sites and of nodes of all bodies.
 fn count_defs(all_heads: &Heads, defs: &[Def]) -> Counts
-    requires few { length defs.now ≤ 1000 }
+    requires few { length defs.now ≤ functions_max }
     requires heads { shown_heads all_heads.now ≡ heads (shown_definitions defs.now) }
     ensures sites { saturated result.sites ≡ saturated (site_total (heads (shown_definitions defs.now)) 0 0 (shown_definitions defs.now)) }
     ensures nodes { saturated result.nodes ≡ saturated (nodes_of (shown_definitions defs.now)) }

@@ -2,13 +2,14 @@
 use Rattle.std.specs.Prelude.{◌≡◌, ◌≢◌, ℕ, ◌+◌, ◌<◌, ◌^◌, ◌⊎◌, List, [], ◌∷◌, ◌++◌, length, Some, slice_get}
 use Rattle.safl_word.specs.Words.{Word, IsWord}
 use Rattle.safl_word.specs.Numerals.{IsBounded, value}
+use Rattle.safl_word.specs.Limits.{argument_max, value_bound}
 use Rattle.safl_session.specs.declared.script.ScriptErr.{ScriptErr}
 use Rattle.safl_session.specs.declared.script.ScriptErr.TheVariants as errors
 use Rattle.safl_session.specs.Pieces.{HasWords}
 
 -- 1 to 39 digits of a number that fits the width
 pub record IsArgument (width : ℕ) (text : List ℕ) (v : Word) : Type 0 where
-  pub numeral : IsBounded 10 39 (2 ^ 128) text
+  pub numeral : IsBounded 10 argument_max value_bound text
   pub is : v ≡ record { width = width; bits = value 10 text }
   pub word : IsWord v
 

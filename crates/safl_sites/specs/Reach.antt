@@ -1,5 +1,6 @@
 -- The sites in reach of the bodies of a unit, as sets.
 use Rattle.std.specs.Prelude.{◌≡◌, ℕ, ◌<◌, ◌≤◌, List, length, ◌↔◌}
+use Rattle.safl_word.specs.Limits.{sites_max}
 use Rattle.safl_term.specs.Program.{Program}
 use Rattle.safl_term.specs.Terms.{Term, Terms}
 use Rattle.safl_sites.specs.declared.site_set.SiteSet.{SiteSet}
@@ -25,10 +26,10 @@ pub record MayReach (C : Program) (units : List SiteSet) (slots : ℕ) (t : Term
   pub caller : ℕ
   pub part : IsPart C caller slots t
   pub below : ReachBelow C units (C.unit caller)
-  pub few : C.sites ≤ 4000
+  pub few : C.sites ≤ sites_max
 
 pub record MayReachIn (C : Program) (units : List SiteSet) (slots : ℕ) (ts : Terms) : Type 0 where
   pub caller : ℕ
   pub parts : ArePart C caller slots ts
   pub below : ReachBelow C units (C.unit caller)
-  pub few : C.sites ≤ 4000
+  pub few : C.sites ≤ sites_max

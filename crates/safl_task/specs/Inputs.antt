@@ -4,7 +4,8 @@ use Rattle.std.specs.declared.vec.Vec.{Vec}
 use Rattle.std.specs.declared.alloc.Global.{Global}
 use Rattle.safl_io.specs.Counts.{Rose}
 use Rattle.safl_io.specs.Shelf.{ShelfState}
-use Rattle.safl_task.specs.Limits.{source_max, script_max, verilog_max, aig_max}
+use Rattle.safl_task.specs.Limits.{script_max, verilog_max, aig_max}
+use Rattle.safl_word.specs.Limits.{source_max}
 use Rattle.safl_task.specs.Tasks.{Input, OfFile, Reaches}
 use Rattle.safl_task.specs.declared.input.Input as code
 use Rattle.safl_task.specs.declared.input.Unread.{Unread}

@@ -1,10 +1,6 @@
 -- The limits of input files.
 use Rattle.std.specs.Prelude.{ℕ}
 
--- the greatest length of a source in bytes
-abbrev pub source_max : ℕ
-source_max = 1048576
-
 -- the greatest length of a script in bytes
 abbrev pub script_max : ℕ
 script_max = 1048576

@@ -8,10 +8,8 @@ ghost use Rattle.safl_task.specs.Inputs.{AreUnread, IsUnreadAt, OnlyReads};
 ghost use Rattle.safl_task.specs.Tasks.{OfFile, AreContents, SameStraysWith};
 
 use safl_io::{ReadErr, Shelf, read_file};
+use safl_word::limits::SOURCE_MAX;
 use std::alloc::Global;
-
-/// The greatest length of a source in bytes.
-pub const SOURCE_MAX: u64 = 1_048_576;
 
 /// The greatest length of a script in bytes.
 pub const SCRIPT_MAX: u64 = 1_048_576;
@@ -36,7 +34,7 @@ impl<'a> Input<'a> {
     {
         Input {
             name,
-            limit: SOURCE_MAX,
+            limit: SOURCE_MAX as u64,
         }
     }
 

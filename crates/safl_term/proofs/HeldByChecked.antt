@@ -3,7 +3,8 @@ use Rattle.std.proofs.Common.{◌≡◌, ℕ, zero, suc, ◌+◌, ◌-◌, ◌<�
 use Rattle.std.specs.Prelude.{sum_by}
 use Rattle.std.specs.Option.{option_map_or}
 use Rattle.std.specs.String.{string_bytes}
-use Rattle.safl_word.specs.Words.{no_word, max_width}
+use Rattle.safl_word.specs.Words.{no_word}
+use Rattle.safl_word.specs.Limits.{width_max}
 use Rattle.safl_term.specs.Checked.{CheckedProgram, IsChecked, checked_of, tables_again}
 use Rattle.safl_term.specs.Program.{Program, arity}
 use Rattle.safl_term.specs.Sizes.{nodes, body_nodes}
@@ -74,7 +75,7 @@ param_read t f i g p in_functions in_params is_g is_p =
 
 -- and that is the width of a word
 pub param_fits : (t : Tables) (f i : ℕ) (g : Function) (p : Parameter) → IsChecked (checked_of t) → f < (program_of t).functions → i < arity (program_of t) f
-    → g ≡ get_or t.functions f g → p ≡ get_or g.params.items i p → (1 ≤ p.width) × (p.width ≤ max_width)
+    → g ≡ get_or t.functions f g → p ≡ get_or g.params.items i p → (1 ≤ p.width) × (p.width ≤ width_max)
 param_fits t f i g p h in_functions in_params is_g is_p = h.widths.params f i p.width (param_read t f i g p in_functions in_params is_g is_p)
 
 as_many : (ps : List Parameter) → length (map (λ (p : Parameter). string_bytes p.name) ps) ≡ length (map (λ (p : Parameter). p.width) ps)

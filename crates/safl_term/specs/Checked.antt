@@ -3,10 +3,10 @@ use Rattle.std.specs.Prelude.{◌≡◌, ℕ, suc, ◌<◌, ◌≤◌, List, Som
 use Rattle.std.specs.Coded.{Coded, code_by}
 use mathlib.Core.Path.{path_j}
 use Rattle.safl_word.specs.Tokens.{IsName}
-use Rattle.safl_word.specs.Words.{max_width}
+use Rattle.safl_word.specs.Limits.{width_max, depth_max, functions_max, params_max, sites_max, nodes_max}
 use Rattle.safl_term.specs.Names.{Names}
 use Rattle.safl_term.specs.Program.{Program, arity}
-use Rattle.safl_term.specs.Sizes.{body_nodes, depth, max_depth, HasShortLets}
+use Rattle.safl_term.specs.Sizes.{body_nodes, depth, HasShortLets}
 use Rattle.safl_term.specs.Tables.{Tables, program_of, names_of, first_site_of}
 use Rattle.safl_term.specs.WellFormed.{IsWellFormed, Spans}
 
@@ -46,18 +46,6 @@ checked_code code = code_by Tables code (λ c. c.tables) checked_of tables_again
 -- ---- what is checked
 
 -- the limits of a program from which a circuit is made
-abbrev pub functions_max : ℕ
-functions_max = 1000
-
-abbrev pub params_max : ℕ
-params_max = 16
-
-abbrev pub sites_max : ℕ
-sites_max = 4000
-
-abbrev pub nodes_max : ℕ
-nodes_max = 50000
-
 pub record IsWithinLimits (C : Program) : Type 0 where
   pub functions : C.functions ≤ functions_max
   pub params : (f : ℕ) → arity C f ≤ params_max
@@ -65,7 +53,7 @@ pub record IsWithinLimits (C : Program) : Type 0 where
   pub nodes : body_nodes C C.functions ≤ nodes_max
   pub bindings : (f : ℕ) → HasShortLets (C.body f)
   -- the functions that recurse on a body have a stack that is large enough
-  pub depth : (f : ℕ) → depth (C.body f) ≤ max_depth
+  pub depth : (f : ℕ) → depth (C.body f) ≤ depth_max
 
 -- each name is one of the language. No two functions have the same name, and no two parameters of one function
 pub record AreNamed (c : CheckedProgram) : Type 0 where
@@ -77,8 +65,8 @@ pub record AreNamed (c : CheckedProgram) : Type 0 where
 
 -- the widths of results and parameters are widths of words
 pub record HasWordWidths (C : Program) : Type 0 where
-  pub results : (f : ℕ) → f < C.functions → (1 ≤ C.result f) × (C.result f ≤ max_width)
-  pub params : (f i w : ℕ) → slice_get (C.params f) i ≡ Some w → (1 ≤ w) × (w ≤ max_width)
+  pub results : (f : ℕ) → f < C.functions → (1 ≤ C.result f) × (C.result f ≤ width_max)
+  pub params : (f i w : ℕ) → slice_get (C.params f) i ≡ Some w → (1 ≤ w) × (w ≤ width_max)
 
 -- the program is well formed, within the limits, and in the order of the text
 pub record IsChecked (c : CheckedProgram) : Type 0 where

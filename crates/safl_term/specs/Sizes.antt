@@ -1,5 +1,6 @@
 -- The number of nodes of a term, its depth, and the number of bindings of its lets.
 use Rattle.std.specs.Prelude.{ℕ, zero, suc, ◌+◌, ◌≤◌, max}
+use Rattle.safl_word.specs.Limits.{bindings_max}
 use Rattle.safl_term.specs.Program.{Program}
 use Rattle.safl_term.specs.Slots.{count}
 use Rattle.safl_term.specs.Terms.{Term, Terms, Const, Var, Op, If, Let, Call, Loop, Nil, Cons}
@@ -22,13 +23,6 @@ abbrev mutual
 unfoldable pub body_nodes : Program → ℕ → ℕ
 body_nodes C zero = 0
 body_nodes C (suc f) = body_nodes C f + nodes (C.body f)
-
--- the greatest depth of a checked body; the greatest number of bindings of a let
-abbrev pub max_depth : ℕ
-max_depth = 2000
-
-abbrev pub max_bindings : ℕ
-max_bindings = 16
 
 -- the depth of a term. Constants, variables, and calls and loops without arguments have depth 1; any other term is one deeper
 -- than its deepest part
@@ -53,7 +47,7 @@ abbrev mutual
   HasShortLets (Var i) = Unit {0}
   HasShortLets (Op o ts) = HaveShortLets ts
   HasShortLets (If c a b) = HasShortLets c × HasShortLets a × HasShortLets b
-  HasShortLets (Let ts b) = (1 ≤ count ts) × (count ts ≤ max_bindings) × HaveShortLets ts × HasShortLets b
+  HasShortLets (Let ts b) = (1 ≤ count ts) × (count ts ≤ bindings_max) × HaveShortLets ts × HasShortLets b
   HasShortLets (Call f k ts) = HaveShortLets ts
   HasShortLets (Loop h ts) = HaveShortLets ts
 

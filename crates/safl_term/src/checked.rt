@@ -57,12 +57,12 @@ impl Model for Checked {
 impl Checked {
     ghost use Rattle.std.specs.Prelude.{◌≡◌, ◌+◌, ◌<◌, ◌≤◌, suc, slice_get, Some};
     ghost use Rattle.std.specs.List.{All};
-    ghost use Rattle.safl_term.specs.Checked.{IsChecked, checked_of, functions_max, params_max, sites_max};
+    ghost use Rattle.safl_term.specs.Checked.{IsChecked, checked_of};
+    ghost use Rattle.safl_word.specs.Limits.{functions_max, params_max, sites_max, width_max};
     ghost use Rattle.safl_term.specs.Program.{arity, unit_for};
     ghost use Rattle.safl_term.specs.Slots.{HasSlots};
     ghost use Rattle.safl_term.specs.Tables.{BodyHasSlots};
     ghost use Rattle.safl_term.specs.Tree.{shown_term};
-    ghost use Rattle.safl_word.specs.Words.{max_width};
 
     /// The program of these functions and sites. They must be in order.
     pub fn new(functions: Vec<Function>, sites: Vec<Site>) -> Checked
@@ -135,7 +135,7 @@ impl Checked {
         requires param { i < arity self.now.program f }
         ensures width { slice_get (self.now.program.params f) i ≡ Some result }
         ensures least { 1 ≤ result }
-        ensures most { result ≤ max_width }
+        ensures most { result ≤ width_max }
     {
         self.functions[f as usize].params[i as usize].width
     }
@@ -145,7 +145,7 @@ impl Checked {
         requires { f < self.now.program.functions }
         ensures width { result ≡ self.now.program.result f }
         ensures least { 1 ≤ result }
-        ensures most { result ≤ max_width }
+        ensures most { result ≤ width_max }
     {
         self.functions[f as usize].width
     }

@@ -3,6 +3,7 @@
 //! More sources, the results of their programs, and refusals are cases (`docs/CASES.md`).
 
 ghost use Rattle.std.specs.Prelude.{◌≤◌, length, IfOk};
+ghost use Rattle.safl_word.specs.Limits.{source_max};
 ghost use Rattle.safl_tree.specs.Shown.{shown_program};
 ghost use Rattle.safl_tree.specs.Source.{SpellsProgram};
 ghost use Rattle.safl_tree.specs.Printable.{IsPrintable};
@@ -36,7 +37,7 @@ fun main ( a : 8 ) : 8 = let r : 8 = let x : 8 = f ( a ) in x + 1 in r
 ";
 
 fn spelled(alloc: Global, source: &[u8]) -> Result<Program, Fail>
-    requires { length source.now ≤ 1048576 }
+    requires { length source.now ≤ source_max }
     ensures { IfOk result (λ p. SpellsProgram source.now (shown_program p)) }
 {
     match parse_program(alloc, source) {

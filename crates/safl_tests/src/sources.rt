@@ -3,7 +3,8 @@
 use safl_parse::{ParseErr, Parsed, parse};
 use safl_tree::laws::printable_law;
 use safl_tree::print;
-use safl_word::{Fault, Rule, SOURCE_MAX};
+use safl_word::limits::SOURCE_MAX;
+use safl_word::{Fault, Rule};
 use std::alloc::Global;
 use std::process::Abort;
 use std::test::Fail;

@@ -1,7 +1,8 @@
 //! Tokens of sources, and first lexical faults. More texts are cases (`docs/CASES.md`).
 
 use safl_text::{Key, LexErr, Sym, Token, TokenKind, lex};
-use safl_word::{Fault, Rule, SOURCE_MAX};
+use safl_word::limits::SOURCE_MAX;
+use safl_word::{Fault, Rule};
 use std::process::Abort;
 use std::test::Fail;
 

@@ -8,11 +8,8 @@ ghost use Rattle.safl_text.specs.Fronts.{HasSize, HasNoSize, HasNoPair, IsOther,
 
 use crate::symbols::{key_of, lone_symbol, symbol_pair};
 use safl_word::bytes::{base_of, digits_length, is_blank, is_digit, line_length};
-use safl_word::word::DIGITS_MAX;
+use safl_word::limits::{DIGITS_MAX, NAME_MAX};
 use safl_word::{Rule, Sym, TokenKind, numeral};
-
-// The greatest length of a name in bytes.
-const NAME_MAX: usize = 64;
 
 /// What a text begins with: a blank or a comment of so many bytes, a token and its length in bytes, or a fault.
 #[derive(Clone, Copy, Debug, PartialEq, Eq)]

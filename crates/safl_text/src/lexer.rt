@@ -1,7 +1,7 @@
 //! The lexer: from bytes to tokens.
 
 ghost use Rattle.std.specs.Prelude.{◌≡◌, ◌≤◌, length, IfOk, IfErr};
-ghost use Rattle.safl_word.specs.declared.word.TheConstants.{SOURCE_MAX};
+ghost use Rattle.safl_word.specs.Limits.{source_max};
 ghost use Rattle.safl_word.specs.Tokens.{HasTokens};
 ghost use Rattle.safl_text.specs.Lexing.{Refuses};
 ghost use Rattle.safl_text.specs.Spans.{LieInOrder};
@@ -13,7 +13,7 @@ use std::alloc::Global;
 
 /// The tokens of a source of at most `SOURCE_MAX` bytes, in order, or the source's first lexical fault.
 pub fn lex(alloc: Global, source: &[u8]) -> Result<Vec<Token>, LexErr>
-    requires { length source.now ≤ SOURCE_MAX }
+    requires { length source.now ≤ source_max }
     ensures tokens { IfOk result (λ tokens. HasTokens source.now tokens.items) }
     ensures spans { IfOk result (λ tokens. LieInOrder source.now 0 tokens.items) }
     ensures refused { IfErr result (λ e. Refuses source.now e) }

@@ -16,7 +16,7 @@ use Rattle.safl_reshape.specs.Reshaped.{copied, unfolded, is_recursive}
 use Rattle.safl_reshape.specs.Refusals.{CopyRefused, UnfoldingRefused, RefusesCopy, RefusesUnfolding, MayCopy, MayUnfold, PassesLimit, is_grouped, is_taken, name_for}
 use Rattle.safl_compiler.specs.Sources.{HasForm, HasFewSites}
 use Rattle.safl_tool.specs.CommandTasks.{RefusesSourceOf, RefusesReshaping}
-use Rattle.safl_task.specs.Limits.{source_max}
+use Rattle.safl_word.specs.Limits.{source_max}
 use Rattle.safl_tool.specs.Refusals.{RefusesBy}
 use Rattle.safl_tool.specs.Reshaping.{Reshaping, GivesReshaped, HasReason, TellsReason, TellsLong, IsUnshaped, IsReshapable, refused, long, copies, unfolds}
 use Rattle.safl_task.specs.Endings.{may_give}

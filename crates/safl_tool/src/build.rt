@@ -3,7 +3,7 @@
 ghost use Rattle.std.specs.Prelude.{◌≤◌, IfOk, IfErr, length};
 ghost use Rattle.safl_task.specs.Tasks.{only_writes};
 ghost use Rattle.safl_tool.specs.CommandTasks.{GivesCircuit, GivesOptimised, RefusesSourceOf};
-ghost use Rattle.safl_task.specs.Limits.{source_max};
+ghost use Rattle.safl_word.specs.Limits.{source_max};
 ghost use Rattle.safl_tool.specs.Refusals.{RefusesBy};
 
 use crate::refusal::Refusal;

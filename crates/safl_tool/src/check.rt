@@ -3,7 +3,7 @@
 ghost use Rattle.std.specs.Prelude.{◌≡◌, ◌≤◌, ◌++◌, OnOk, IfOk, IfErr, length};
 ghost use Rattle.safl_tool.specs.Answers.{printed};
 ghost use Rattle.safl_tool.specs.CommandTasks.{GivesNumbers, RefusesSourceOf};
-ghost use Rattle.safl_task.specs.Limits.{source_max};
+ghost use Rattle.safl_word.specs.Limits.{source_max};
 ghost use Rattle.safl_tool.specs.Printed.{program_lines};
 ghost use Rattle.safl_tool.specs.Refusals.{RefusesBy};
 

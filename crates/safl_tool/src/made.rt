@@ -1,7 +1,7 @@
 //! The commands `gen SEED COUNT` and `bench SEED COUNT --cycles L`: a generated source, and a run of its circuit.
 
 ghost use Rattle.std.specs.Prelude.{◌≡◌, ◌≤◌, IfOk, IfErr, codes, length, map, string_bytes, decimal};
-ghost use Rattle.safl_task.specs.Limits.{source_max};
+ghost use Rattle.safl_word.specs.Limits.{source_max};
 ghost use Rattle.safl_tool.specs.Answers.{printed};
 ghost use Rattle.safl_tool.specs.CommandTasks.{GivesMeasure, NeverRefuses, RefusesGiven, result as result_of};
 ghost use Rattle.safl_tool.specs.Refusals.{RefusesBy};

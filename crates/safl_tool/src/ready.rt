@@ -3,7 +3,7 @@
 ghost use Rattle.std.specs.Prelude.{◌≤◌, length, map, IfOk, IfErr, string_bytes};
 ghost use Rattle.safl_net.specs.Whole.{IsWhole};
 ghost use Rattle.safl_net.specs.Arguments.{argument_widths};
-ghost use Rattle.safl_task.specs.Limits.{source_max};
+ghost use Rattle.safl_word.specs.Limits.{source_max};
 ghost use Rattle.safl_tool.specs.Arguments.{RefusesArguments};
 ghost use Rattle.safl_tool.specs.CommandTasks.{RefusesGiven};
 ghost use Rattle.safl_tool.specs.Readiness.{IsReady, IsReadyOf};

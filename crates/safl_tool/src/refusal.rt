@@ -6,7 +6,7 @@ ghost use Rattle.safl_tool.specs.Lines.{line_at, column_at, count_line, argument
 ghost use Rattle.safl_tool.specs.Refusals.{status_of, line_of, IsOfUnread};
 ghost use Rattle.safl_word.specs.Faults.{fault_text};
 
-use crate::verilog_lines::{fault_line as verilog_line, loop_line};
+use crate::verilog_lines::{loop_line, verilog_line};
 use safl_aig::{AigRule, fault_line, register_line, weight_line};
 use safl_task::{Status, Unread};
 use safl_verilog::VFault;

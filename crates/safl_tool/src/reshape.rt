@@ -6,7 +6,7 @@ ghost use Rattle.safl_tree.specs.Printed.{printed};
 ghost use Rattle.safl_tree.specs.Shown.{shown_program};
 ghost use Rattle.safl_task.specs.Tasks.{only_writes};
 ghost use Rattle.safl_tool.specs.CommandTasks.{RefusesReshaping};
-ghost use Rattle.safl_task.specs.Limits.{source_max};
+ghost use Rattle.safl_word.specs.Limits.{source_max, count_max};
 ghost use Rattle.safl_tool.specs.Refusals.{RefusesBy};
 ghost use Rattle.safl_tool.specs.Reshaping.{GivesReshaped, HasReason, limit_text, TellsReason, TellsLong, copies, unfolds};
 
@@ -15,7 +15,7 @@ use crate::source::read_program;
 use safl_reshape::laws::printed_form_law;
 use safl_reshape::{ReshapeErr, copy_checked, unfold_checked};
 use safl_tree::{Program, print};
-use safl_word::SOURCE_MAX;
+use safl_word::limits::{COUNT_MAX, SOURCE_MAX};
 use std::alloc::Global;
 
 /// The text of the source `name` with the function that a site calls copied for that call, or why there is none.
@@ -81,7 +81,7 @@ fn text_of<'a>(alloc: Global, site: u64, program: &Program) -> Result<Vec<u8>, R
     let Ok(text) = print(alloc, program) else {
         return Err(Refusal::NoMemory);
     };
-    if text.len() > SOURCE_MAX as usize {
+    if text.len() > SOURCE_MAX {
         return Err(Refusal::Site(site, "text too long"));
     }
     Ok(text)
@@ -90,9 +90,9 @@ fn text_of<'a>(alloc: Global, site: u64, program: &Program) -> Result<Vec<u8>, R
 // The number of a site, if it is one that a program can have.
 fn site_number(site: u64) -> Option<u32>
     ensures number { IfSome result (λ n. n ≡ site) }
-    ensures none { IsNone result → 4294967295 < site }
+    ensures none { IsNone result → count_max < site }
 {
-    if site > 4_294_967_295 {
+    if site > u64::from(COUNT_MAX) {
         None
     } else {
         Some(site as u32)

@@ -3,7 +3,8 @@
 ghost use Rattle.std.specs.Prelude.{◌≤◌, length, IfOk, IfErr};
 ghost use Rattle.safl_session.specs.Laws.{AreCallsOf};
 ghost use Rattle.safl_session.specs.Holding.{IsReady};
-ghost use Rattle.safl_task.specs.Limits.{source_max, script_max};
+ghost use Rattle.safl_task.specs.Limits.{script_max};
+ghost use Rattle.safl_word.specs.Limits.{source_max};
 ghost use Rattle.safl_tool.specs.Answers.{GivesByPrinting};
 ghost use Rattle.safl_tool.specs.CommandTasks.{RefusesSession};
 ghost use Rattle.safl_tool.specs.Opening.{IsOpening};

@@ -7,7 +7,7 @@ ghost use Rattle.safl_tree.specs.Shown.{shown_program};
 ghost use Rattle.safl_tree.specs.Source.{SpellsProgram};
 ghost use Rattle.safl_typing.specs.Forms.{IsFormOf, shown};
 ghost use Rattle.safl_tool.specs.CommandTasks.{RefusesSourceOf};
-ghost use Rattle.safl_task.specs.Limits.{source_max};
+ghost use Rattle.safl_word.specs.Limits.{source_max};
 ghost use Rattle.safl_tool.specs.Lines.{source_line};
 ghost use Rattle.safl_tool.specs.Refusals.{RefusesBy, status_of, line_of};
 ghost use Rattle.safl_tool.specs.Sources.{IsCompiled};

@@ -11,7 +11,7 @@ use safl_word::{NoMemory, Raw, push_decimal};
 use std::alloc::Global;
 
 /// The line that reports a fault of the file `name`, at a line and a column.
-pub fn fault_line(
+pub fn verilog_line(
     alloc: Global,
     name: &str,
     fault: VFault,

@@ -3,7 +3,7 @@
 ghost use Rattle.std.specs.Prelude.{◌≡◌, ◌≤◌, ◌++◌, [], length, map, OnOk, IfOk, IfErr, string_bytes};
 ghost use Rattle.safl_tool.specs.Answers.{printed};
 ghost use Rattle.safl_tool.specs.CommandTasks.{end_of_walk, GivesWalk, RefusesGiven};
-ghost use Rattle.safl_task.specs.Limits.{source_max};
+ghost use Rattle.safl_word.specs.Limits.{source_max};
 ghost use Rattle.safl_tool.specs.Printed.{walk_lines, short_line};
 ghost use Rattle.safl_tool.specs.Refusals.{RefusesBy};
 ghost use Rattle.safl_tool.specs.Walking.{Walks, WalksFrom};

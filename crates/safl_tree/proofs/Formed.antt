@@ -12,8 +12,8 @@ use Rattle.safl_word.specs.declared.token.Sym.TheVariants as syms
 use Rattle.safl_word.specs.declared.token.TokenKind.{TokenKind}
 use Rattle.safl_word.specs.declared.token.TokenKind.TheVariants as kinds
 use Rattle.safl_word.specs.declared.primitive.Primitive.{Primitive}
-use Rattle.safl_word.specs.Words.{max_width}
-use Rattle.safl_word.specs.Tokens.{IsName, IsToken, value_bound}
+use Rattle.safl_word.specs.Limits.{width_max, value_bound}
+use Rattle.safl_word.specs.Tokens.{IsName, IsToken}
 use Rattle.safl_tree.specs.Terminals.{Terminal, code_of, word_code, symbol_code, marked, NameAt, name, NumberAt, number, number_in, SizedAt, sized, value_in, operators, primitive_in}
 use Rattle.safl_tree.specs.Grammar.{is_width, fits_width, fits_sized, fits_index}
 use Rattle.safl_tree.specs.Reader.{read_word, read_symbol, read_width, read_index}
@@ -81,10 +81,10 @@ pub a_width : Yields IsTerminal read_width Wide
 a_width = yields_limited Wide Range fits_width number (λ t x q e f. f)
 
 abbrev pub Indexes : NumberAt → Type 0
-Indexes n = n.value < max_width
+Indexes n = n.value < width_max
 
 pub an_index : Yields IsTerminal read_index Indexes
-an_index = yields_limited Indexes Range fits_index number (λ t x q e f. ltb-true x.value max_width f)
+an_index = yields_limited Indexes Range fits_index number (λ t x q e f. ltb-true x.value width_max f)
 
 abbrev pub WideSmall : SizedAt → Type 0
 WideSmall s = (is_width s.width ≡ true) × (s.value < value_bound)

@@ -31,7 +31,7 @@ use Rattle.safl_tree.proofs.Operators.{Plain, Claim, own_small, whole, part, ope
 use Rattle.safl_tree.proofs.Operators.{between_mul, between_add, between_sub, between_shl, between_shr, between_eq, between_ne, between_lt}
 use Rattle.safl_tree.proofs.Operators.{between_le, between_gt, between_ge, between_and, between_xor, between_or}
 use Rattle.std.proofs.Common.{map}
-use Rattle.safl_word.specs.Words.{max_width}
+use Rattle.safl_word.specs.Limits.{width_max}
 use Rattle.safl_tree.proofs.Expressions.{written_parses}
 use Rattle.safl_tree.specs.Terminals.{marked, name}
 use Rattle.std.proofs.lemmas.Bool.{le-leb}
@@ -197,7 +197,7 @@ cat_stands p a b c d m le lf =
     (λ (z : Tree). Op 0 prims.Cat (a_tree (unplaced a) (a_tree z no_tree))) i)) refl) refl) refl) refl) refl) refl) (avoids _ _ refl))
     (avoids _ _ refl)) (avoids _ _ refl)) (avoids _ _ refl)) (avoids _ _ refl)) refl)
 
-bits_stands : (p h l : ℕ) (a : Tree) → h < max_width → l < max_width → Claim a → (m : ℕ) → lifted 8 (own a) (levels a) ≤ m → Stands 0 m
+bits_stands : (p h l : ℕ) (a : Tree) → h < width_max → l < width_max → Claim a → (m : ℕ) → lifted 8 (own a) (levels a) ≤ m → Stands 0 m
     (words (Op p (prims.Bits h l) (a_tree a no_tree))) (Op 0 (prims.Bits h l) (a_tree (unplaced a) no_tree))
 unfolding read_chain read_unary read_primary read_bits
 bits_stands p h l a hh hl c m le =
@@ -434,7 +434,7 @@ cat_claim p (a_tree a (a_tree b no_tree)) n c = primary_claim (Op p prims.Cat (a
     (plain_first _ _ refl refl refl) (λ m le. cat_stands p a b c.0 c.1.0 m (omega arith) (omega arith))
 cat_claim p (a_tree a (a_tree b (a_tree d ts))) n c = absurd (omega (arith, n))
 
-bits_claim : (p h l : ℕ) (ts : Trees) → count ts ≡ 1 → h < max_width → l < max_width → AllClaim ts → Claim (Op p (prims.Bits h l) ts)
+bits_claim : (p h l : ℕ) (ts : Trees) → count ts ≡ 1 → h < width_max → l < width_max → AllClaim ts → Claim (Op p (prims.Bits h l) ts)
 bits_claim p h l no_tree n hh hl c = absurd (omega (arith, n))
 bits_claim p h l (a_tree a no_tree) n hh hl c = primary_claim (Op p (prims.Bits h l) (a_tree a no_tree)) refl (omega arith) (avoids _ _ refl)
     (plain_first _ _ refl refl refl) (λ m le. bits_stands p h l a hh hl c.0 m (omega arith))

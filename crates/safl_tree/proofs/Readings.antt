@@ -14,7 +14,7 @@ use Rattle.safl_word.specs.declared.token.Sym.TheVariants as syms
 use Rattle.safl_tree.specs.Reader.{read_word, read_symbol, read_width, read_index, comma}
 use Rattle.safl_tree.specs.Tree.{Sized}
 use Rattle.safl_tree.specs.Grammar.{is_width, fits_width, fits_sized, fits_index}
-use Rattle.safl_word.specs.Words.{max_width}
+use Rattle.safl_word.specs.Limits.{width_max}
 use Rattle.safl_word.specs.declared.token.Key.{Key}
 use Rattle.safl_word.specs.declared.token.Key.TheVariants as keys
 use Rattle.safl_tree.specs.Printed
@@ -261,9 +261,9 @@ reads_number n = reads_token Every number (Printed.number n) number_value n (num
 pub reads_width : (n : ℕ) → is_width n ≡ true → Reads read_width (Printed.number n ∷ []) Every number_value n
 reads_width n h = reads_limited Every Range fits_width number (Printed.number n) number_value n (λ t e. let y = number_is n t e in (y.0, y.1, y.2, ap is_width y.1 ∙ h))
 
-pub reads_index : (n : ℕ) → n < max_width → Reads read_index (Printed.number n ∷ []) Every number_value n
+pub reads_index : (n : ℕ) → n < width_max → Reads read_index (Printed.number n ∷ []) Every number_value n
 reads_index n h = reads_limited Every Range fits_index number (Printed.number n) number_value n
-    (λ t e. let y = number_is n t e in (y.0, y.1, y.2, ap (λ (x : ℕ). nat_lt x max_width) y.1 ∙ lt-ltb n max_width h))
+    (λ t e. let y = number_is n t e in (y.0, y.1, y.2, ap (λ (x : ℕ). nat_lt x width_max) y.1 ∙ lt-ltb n width_max h))
 
 pub reads_sized : (w n : ℕ) → is_width w ≡ true → Reads (read_limited Range fits_sized sized) (Printed.sized w n ∷ []) Every (λ s. Sized 0 s.width s.value) (Sized 0 w n)
 reads_sized w n h = reads_limited Every Range fits_sized sized (Printed.sized w n) (λ s. Sized 0 s.width s.value) (Sized 0 w n) (λ t e. (

@@ -9,7 +9,7 @@ use Rattle.safl_word.specs.declared.token.Sym.TheVariants as syms
 use Rattle.safl_word.specs.declared.token.TokenKind.TheVariants as kinds
 use Rattle.safl_word.specs.declared.primitive.Primitive.{Primitive}
 use Rattle.safl_word.specs.declared.primitive.Primitive.TheVariants as prims
-use Rattle.safl_word.specs.Words.{max_width}
+use Rattle.safl_word.specs.Limits.{width_max}
 use Rattle.safl_word.specs.Tokens.{IsToken}
 use Rattle.safl_word.specs.Spacing.{Spaced, AreSpaced, spaced_text, spaced_tokens}
 use Rattle.safl_word.proofs.BlanksEndTokens.{number_token, size_token}
@@ -51,8 +51,8 @@ encloses false ks a = (refl, joins ks (Printed.sym syms.CloseParen ∷ []) a (re
 width_small : (n : ℕ) → is_width n ≡ true → n < 2 ^ 128
 width_small n h = let k = within_width n h in omega (arith, k)
   where
-    within_width : (n : ℕ) → is_width n ≡ true → n ≤ max_width
-    within_width n h = leb-true n max_width (go (nat_le 1 n) (nat_le n max_width) h)
+    within_width : (n : ℕ) → is_width n ≡ true → n ≤ width_max
+    within_width n h = leb-true n width_max (go (nat_le 1 n) (nat_le n width_max) h)
       where
         go : (a b : Bool) → Rattle.std.proofs.Common.cond a b false ≡ true → b ≡ true
         go true b h = h
@@ -73,7 +73,7 @@ applies (prims.Bits h l) parts r a = (
   ),
 )
   where
-    index_small : (n : ℕ) → n < max_width → n < 2 ^ 128
+    index_small : (n : ℕ) → n < width_max → n < 2 ^ 128
     index_small n h = omega (arith, h)
 applies (prims.Ext n) parts r a = (refl, (refl, joins (separated (Printed.sym syms.Comma) parts) _ (comma_separates parts a) (refl, (width_word n r, (refl, tt)))))
 applies prims.Mul parts r a = separates (Printed.sym syms.Star) refl parts a

@@ -1,7 +1,7 @@
 -- The grammar of a source. Each production is written above its symbol.
 use Rattle.std.specs.Prelude.{ℕ, zero, suc, List, [], ◌∷◌, ◌++◌, Option, Some, None, Bool, true, false, nat_lt, nat_le, if◌then◌else◌}
 use Rattle.safl_grammar.specs.Syntax.{Deep, Range, Syntax, nothing, token, limited, follows, either, unless, many, too_high, below}
-use Rattle.safl_word.specs.Words.{max_width}
+use Rattle.safl_word.specs.Limits.{width_max}
 use Rattle.safl_word.specs.declared.token.Key.{Key}
 use Rattle.safl_word.specs.declared.token.Key.TheVariants as keys
 use Rattle.safl_word.specs.declared.token.Sym.{Sym}
@@ -26,7 +26,7 @@ shallow a op = nat_lt (depth a) 100
 
 -- whether a width is from 1 to the greatest
 abbrev pub is_width : ℕ → Bool
-is_width n = if nat_le 1 n then nat_le n max_width else false
+is_width n = if nat_le 1 n then nat_le n width_max else false
 
 abbrev pub fits_width : NumberAt → Bool
 fits_width n = is_width n.value
@@ -36,7 +36,7 @@ fits_sized s = is_width s.width
 
 -- whether the number of a bit is below the greatest width
 abbrev pub fits_index : NumberAt → Bool
-fits_index n = nat_lt n.value max_width
+fits_index n = nat_lt n.value width_max
 
 -- ---- leaves
 

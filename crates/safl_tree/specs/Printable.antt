@@ -2,8 +2,8 @@
 use Rattle.std.specs.Prelude.{◌≡◌, ℕ, suc, ◌+◌, ◌<◌, ◌≤◌, max, List, [], ◌∷◌, Option, Some, None, Bool, true, false, nat_le, if◌then◌else◌}
 use Rattle.safl_word.specs.declared.primitive.Primitive.{Primitive}
 use Rattle.safl_word.specs.declared.primitive.Primitive.TheVariants as prims
-use Rattle.safl_word.specs.Words.{max_width}
-use Rattle.safl_word.specs.Tokens.{IsName, value_bound}
+use Rattle.safl_word.specs.Limits.{width_max, value_bound}
+use Rattle.safl_word.specs.Tokens.{IsName}
 use Rattle.safl_tree.specs.Tree.{Tree, Number, Sized, Variable, If, Let, Cases, Op, Call, Trees, no_tree, a_tree, Binds, no_bind, a_bind, Arms, default_arm, an_arm, Parameter, Definition, depth}
 use Rattle.safl_tree.specs.Grammar.{is_width}
 
@@ -22,7 +22,7 @@ count (a_tree t ts) = 1 + count ts
 
 -- the numbers of an operator are in range
 abbrev pub InRange : Primitive → Type 0
-InRange (prims.Bits h l) = (h < max_width) × (l < max_width)
+InRange (prims.Bits h l) = (h < width_max) × (l < width_max)
 InRange (prims.Ext n) = is_width n ≡ true
 InRange _ = Unit {0}
 

@@ -2,7 +2,7 @@
 use Rattle.std.proofs.Common.{◌≡◌, ℕ, suc, List, [], ◌∷◌, map, Option, Some, None, Bool, true, false, cond, refl, subst}
 use Rattle.std.specs.Prelude.{nat_le}
 use Rattle.std.proofs.lemmas.Bool.{leb-true}
-use Rattle.safl_word.specs.Words.{max_width}
+use Rattle.safl_word.specs.Limits.{width_max}
 use Rattle.safl_tree.specs.Tree as source
 use Rattle.safl_tree.specs.Tree.{Tree, Trees, Binds, Arms, place_of, Parameter, Definition}
 use Rattle.safl_tree.specs.Grammar.{is_width}
@@ -12,8 +12,8 @@ use Rattle.safl_typing.specs.Heads.{slot_of, unit_of, heads_from}
 use Rattle.safl_typing.proofs.Names.{some_is}
 use Rattle.safl_typing.specs.Ranges.{IsWide, WideSlots, WideHeads, IsInRange, AreInRange, BoundInRange}
 
-width_here : (b : Bool) (n : ℕ) → nat_le 1 n ≡ b → cond b (nat_le n max_width) false ≡ true → IsWide n
-width_here true n q e = record { some = leb-true 1 n q; bounded = leb-true n max_width e }
+width_here : (b : Bool) (n : ℕ) → nat_le 1 n ≡ b → cond b (nat_le n width_max) false ≡ true → IsWide n
+width_here true n q e = record { some = leb-true 1 n q; bounded = leb-true n width_max e }
 width_here false n q e = absurd cc
 
 pub width_wide : (n : ℕ) → is_width n ≡ true → IsWide n

@@ -4,7 +4,7 @@ use Rattle.std.proofs.lemmas.Option.{slice_get_past, slice_get_cases}
 use Rattle.safl_word.specs.declared.fault.Fault.{Fault}
 use Rattle.safl_typing.specs.Rewriting.{Expression, Number, Sized, Variable, If, Let, Op, Call, Expressions, no_expression, an_expression, Bindings, no_binding, a_binding}
 use Rattle.safl_typing.specs.Typing.{names}
-use Rattle.safl_term.specs.Sizes.{max_bindings}
+use Rattle.safl_word.specs.Limits.{bindings_max}
 use Rattle.safl_typing.specs.Forms.{HasShortLets, HaveShortLets, HaveShortBound}
 use Rattle.safl_term.specs.Readiness.{or_else}
 use Rattle.safl_typing.specs.Walk.{or_place, excess, limit, long_let, long_let_in, long_let_bound, placed}
@@ -48,7 +48,7 @@ mutual
   short_lets (Variable p x) h = refl
   short_lets (If p c a b) h = place_none _ _ (short_lets c h.0) (place_none _ _ (short_lets a h.1) (short_lets b h.2))
   short_lets (Let p bs b) h =
-      place_none _ _ (excess_none max_bindings (map (λ x. x.place) (placed bs)) (subst (λ (n : ℕ). n ≤ max_bindings) (sym (places_length bs)) h.0))
+      place_none _ _ (excess_none bindings_max (map (λ x. x.place) (placed bs)) (subst (λ (n : ℕ). n ≤ bindings_max) (sym (places_length bs)) h.0))
       (place_none _ _ (short_lets_bound bs h.1) (short_lets b h.2))
   short_lets (Op p o es) h = short_lets_in es h
   short_lets (Call p f es) h = short_lets_in es h
@@ -71,9 +71,9 @@ mutual
       let r = none_places (long_let a) _ q.1 in
       (no_long_let c q.0, no_long_let a r.0, no_long_let b r.1)
   no_long_let (Let p bs b) h =
-      let q = none_places (excess max_bindings (map (λ x. x.place) (placed bs))) _ h in
+      let q = none_places (excess bindings_max (map (λ x. x.place) (placed bs))) _ h in
       let r = none_places (long_let_bound bs) _ q.1 in
-      (subst (λ (n : ℕ). n ≤ max_bindings) (places_length bs) (none_excess max_bindings _ q.0), no_long_bound bs r.0, no_long_let b r.1)
+      (subst (λ (n : ℕ). n ≤ bindings_max) (places_length bs) (none_excess bindings_max _ q.0), no_long_bound bs r.0, no_long_let b r.1)
   no_long_let (Op p o es) h = no_long_in es h
   no_long_let (Call p f es) h = no_long_in es h
 

@@ -2,6 +2,7 @@
 use Rattle.std.proofs.Common.{◌≡◌, ℕ, zero, suc, ◌+◌, ◌<◌, arith, drop, get_or, drop-cons, List, [], ◌∷◌, ◌++◌, length, take, Bool, true, false, refl, sym, ap, ◌∙◌}
 use Rattle.std.specs.Prelude.{◌&&◌, min}
 use Rattle.safl_typing.specs.declared.expression.Expression as code
+use Rattle.safl_typing.specs.declared.heads.Slot as code_slot
 use Rattle.safl_typing.specs.Rewriting.{flexible, all_flexible}
 use Rattle.safl_typing.specs.Heads.{Known, sites, sites_in, sites_bound}
 use Rattle.safl_typing.specs.declared.expression.Bound.{Bound}
@@ -25,12 +26,19 @@ pub flexible_not : (es : List code.Expression) (i : ℕ) (e : code.Expression) �
     false → all_flexible (shown_expressions es) ≡ all_flexible (shown_expressions (drop i es)) → all_flexible (shown_expressions es) ≡ false
 flexible_not es i e lt is q h = h ∙ ap (λ (l : List code.Expression). all_flexible (shown_expressions l)) (front es i e lt is) ∙ flexible_cons e (drop (i + 1) es) false q
 
-upto : (es : List code.Expression) (i : ℕ) (e : code.Expression) → i < length es → e ≡ get_or es i e → take (i + 1) es ≡ take i es ++ e ∷ []
+pub upto : (es : List code.Expression) (i : ℕ) (e : code.Expression) → i < length es → e ≡ get_or es i e → take (i + 1) es ≡ take i es ++ e ∷ []
 upto [] i e lt is = absurd (omega (arith, lt))
 upto (y ∷ ys) zero e lt is = ap (λ (z : code.Expression). z ∷ []) (sym is)
 upto (y ∷ ys) (suc i) e lt is =
     let s : suc i + 1 ≡ suc (i + 1) = omega arith in
     ap (λ (j : ℕ). take j (y ∷ ys)) s ∙ ap (λ (l : List code.Expression). y ∷ l) (upto ys i e (omega (arith, lt)) is)
+
+pub slots_upto : (ps : List code_slot.Slot) (i : ℕ) (p : code_slot.Slot) → i < length ps → p ≡ get_or ps i p → take (i + 1) ps ≡ take i ps ++ p ∷ []
+slots_upto [] i p lt is = absurd (omega (arith, lt))
+slots_upto (y ∷ ys) zero p lt is = ap (λ (z : code_slot.Slot). z ∷ []) (sym is)
+slots_upto (y ∷ ys) (suc i) p lt is =
+    let s : suc i + 1 ≡ suc (i + 1) = omega arith in
+    ap (λ (j : ℕ). take j (y ∷ ys)) s ∙ ap (λ (l : List code_slot.Slot). y ∷ l) (slots_upto ys i p (omega (arith, lt)) is)
 
 bound_upto : (es : List Bound) (i : ℕ) (e : Bound) → i < length es → e ≡ get_or es i e → take (i + 1) es ≡ take i es ++ e ∷ []
 bound_upto [] i e lt is = absurd (omega (arith, lt))

@@ -4,7 +4,8 @@ use Rattle.std.specs.Prelude.{slice_get, codes}
 use Rattle.std.specs.Option.{option_map}
 use Rattle.std.specs.String.{string_bytes}
 use Rattle.std.proofs.lemmas.Option.{slice_get_cases, slice_get_within, slice_get-map}
-use Rattle.safl_word.specs.Words.{no_word, max_width}
+use Rattle.safl_word.specs.Words.{no_word}
+use Rattle.safl_word.specs.Limits.{width_max, depth_max}
 use Rattle.safl_word.specs.Tokens.{IsName}
 use Rattle.safl_term.specs.declared.checked.Function.{Function}
 use Rattle.safl_term.specs.declared.checked.Parameter as code
@@ -17,7 +18,6 @@ use Rattle.safl_term.specs.Checked.{CheckedProgram, IsWithinLimits, AreNamed, Ha
 use Rattle.safl_term.specs.Tables as tables
 use Rattle.safl_term.specs.Tables.{Tables, of_function, of_site, main_of, program_of, name_of, first_site_of}
 use Rattle.safl_term.specs.Sizes as sizes
-use Rattle.safl_term.specs.Sizes.{max_depth}
 use Rattle.safl_term.proofs.HeldByChecked.{each_checked, table_nodes}
 use Rattle.safl_tree.specs.Tree.{Definition, Parameter, depth}
 use Rattle.safl_tree.specs.Printable.{AreFormedParameters, IsFormedDefinition, AreFormedDefinitions, IsFormedProgram}
@@ -199,9 +199,9 @@ steps c ds b i lt =
     (λ q. inr (fg.unit ∙ (sym g.is.unit ∙ (q ∙ omega arith))))
     (step_at (heads ds) 0 0 0 1 (suc (length c.sites)) ds c.functions i h.function g.function b.functions h.stands g.stands)
 
-shallow_at : (ds : List Definition) (i : ℕ) (d : Definition) → AreShallow ds → slice_get ds i ≡ Some d → depth d.body ≤ max_depth
+shallow_at : (ds : List Definition) (i : ℕ) (d : Definition) → AreShallow ds → slice_get ds i ≡ Some d → depth d.body ≤ depth_max
 shallow_at [] i d h e = absurd cc
-shallow_at (x ∷ ds) zero d h e = subst (λ (z : Definition). depth z.body ≤ max_depth) (some_is x d e) h.0
+shallow_at (x ∷ ds) zero d h e = subst (λ (z : Definition). depth z.body ≤ depth_max) (some_is x d e) h.0
 shallow_at (x ∷ ds) (suc i) d h e = shallow_at ds i d h.1 e
 
 module _ (c : Tables) (ds : List Definition) (b : IsBased c ds) (shallow : AreShallow ds) where
@@ -322,7 +322,7 @@ module _ (c : Tables) (ds : List Definition) (b : IsBased c ds) (shallow : AreSh
       (λ e. subst (λ (t : plain.Term). sizes.HasShortLets t) (sym (past_body i e)) tt)
       (there c.functions i)
 
-  few_levels : (i : ℕ) → sizes.depth ((program_of c).body i) ≤ max_depth
+  few_levels : (i : ℕ) → sizes.depth ((program_of c).body i) ≤ depth_max
   few_levels i = ⊎_elim
       (λ q. let h = here c ds i b q.2 in
       let e = has_depth (record { heads = heads ds; unit = h.unit }) (params_of h.def) true h.first h.end (rewritten h.def.body) h.def.width (shown_term h.function.body) h.is.body in
@@ -387,14 +387,14 @@ module _ (c : Tables) (ds : List Definition) (b : IsBased c ds) (shallow : AreSh
   unfolding program_of
   all_named = record { of_functions = named; of_main = main_named; of_functions_differ = names_differ; of_params = params_named; of_params_differ = params_differ }
 
-  result_wide : (f : ℕ) → f < length c.functions → (1 ≤ (program_of c).result f) × ((program_of c).result f ≤ max_width)
+  result_wide : (f : ℕ) → f < length c.functions → (1 ≤ (program_of c).result f) × ((program_of c).result f ≤ width_max)
   result_wide f l =
       let h = here c ds f b l in
       let r = (fields c ds f h).result in
       let w = width_wide h.def.width (formed_at ds f h.def b.formed h.defined).2 in
       (omega (arith, r, w.some), omega (arith, r, w.bounded))
 
-  param_has_width : (f i w : ℕ) → slice_get ((program_of c).params f) i ≡ Some w → (1 ≤ w) × (w ≤ max_width)
+  param_has_width : (f i w : ℕ) → slice_get ((program_of c).params f) i ≡ Some w → (1 ≤ w) × (w ≤ width_max)
   unfolding program_of
   param_has_width f i w e = ⊎_elim
       (λ q. let h = here c ds f b q.2 in

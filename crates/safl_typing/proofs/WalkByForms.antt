@@ -1,6 +1,7 @@
 -- What is asked of the parts of an expression, and the walk over each form, step by step.
 use Rattle.std.proofs.Common.{◌≡◌, ℕ, zero, suc, ◌+◌, ◌*◌, ◌<◌, ◌≤◌, ◌^◌, arith, get_or, List, [], ◌∷◌, ◌++◌, length, Option, Some, None, Bool, true, false, refl, sym, ap, ◌∙◌, subst}
-use Rattle.std.specs.Prelude.{min, ◌&&◌, ◌==◌, Result, Ok, Err, slice_get}
+use Rattle.std.specs.Prelude.{min, map, ◌&&◌, ◌==◌, Result, Ok, Err, slice_get}
+use Rattle.std.specs.List.{AllByRecursion}
 use Rattle.std.proofs.lemmas.Option.{slice_get_read}
 use Rattle.safl_word.specs.declared.fault.Rule.TheVariants as rules
 use Rattle.safl_word.specs.declared.fault.Fault.{Fault}
@@ -29,9 +30,10 @@ use Rattle.safl_typing.specs.Walk.{wanted_by, settle, branches, alike, resized, 
 use Rattle.safl_typing.specs.Walk.{exactly, check, check_all, check_alike, check_shift, check_bound}
 use Rattle.safl_typing.specs.Plain.{shown_expression, shown_expressions, shown_bindings}
 use Rattle.safl_typing.specs.PlainHeads.{shown_slots, shown_head, shown_heads, known, with_number, a_member, an_earlier, shown_callee, IsOneOf}
-use Rattle.safl_typing.specs.PlainTyped.{shown_wanted, HasWidthOfWord, HasWideWanted, HasWideWritten, Refuses, operand_wanted, operands_wanted}
+use Rattle.safl_typing.specs.PlainTyped.{shown_wanted, HasWidthOfWord, HasWideWanted, Refuses, operand_wanted, operands_wanted}
 use Rattle.safl_typing.specs.MayWalk.{CountParams, MayWalk, MayCheck, MayCheckAll, MayBind}
 use Rattle.safl_typing.proofs.Wide.{WideCallee, callee_wide, wide_slots, wide_append}
+use Rattle.safl_typing.proofs.SlotsBelowLets.{goes}
 use Rattle.safl_typing.proofs.Sound.{WideWanted, checks_has, checks_have_alike, checks_have_bound}
 
 pub some_node : (e : Expression) → 1 ≤ nodes e
@@ -129,13 +131,40 @@ alike_wide hs u ss lo p m es r h w q =
     let g = (checks_have_alike (known hs u) ss lo (lo + sites_in (known hs u) es) p (shown_wanted m) es r refl h.heads h.slots h.range (wide_wanted m w) q).wide in
     (g.some, g.bounded)
 
-pub operand_wide : (o : Option ℕ) (b : Bool) (m : code_wanted.Wanted) → HasWideWritten o → shown_wanted m ≡ operand_wanted o b → HasWideWanted m
+operand_wide : (o : Option ℕ) (b : Bool) (m : code_wanted.Wanted) → ((w : ℕ) → o ≡ Some w → HasWidthOfWord w) → shown_wanted m ≡ operand_wanted o b → HasWideWanted m
 operand_wide o b wants.Any h e = tt
 operand_wide None b (wants.Exactly w) h e = absurd cc
-operand_wide (Some v) true (wants.Exactly w) h e = let q : v ≡ w = cc in subst HasWidthOfWord q h
+operand_wide (Some v) true (wants.Exactly w) h e = let q : v ≡ w = cc in subst HasWidthOfWord q (h v refl)
 operand_wide (Some v) false (wants.Exactly w) h e = absurd cc
 
--- ---- operands, arguments and bindings
+pub operands_wide : (o : Option ℕ) (es : Expressions) (ms : List code_wanted.Wanted) → ((w : ℕ) → o ≡ Some w → HasWidthOfWord w)
+    → map shown_wanted ms ≡ operands_wanted o es → AllByRecursion HasWideWanted ms
+operands_wide o es [] h e = tt
+operands_wide None no_expression (m ∷ ms) h e = absurd cc
+operands_wide (Some w) no_expression (m ∷ ms) h e = absurd cc
+operands_wide None (an_expression y ys) (m ∷ ms) h e =
+    let p : shown_wanted m ≡ Any = cc in let q : map shown_wanted ms ≡ all_any ys = cc in
+    (operand_wide None false m h p, operands_wide None ys ms h q)
+operands_wide (Some w) (an_expression y ys) (m ∷ ms) h e =
+    let p : shown_wanted m ≡ operand_wanted (Some w) (flexible y) = cc in let q : map shown_wanted ms ≡ amounts w ys = cc in
+    (operand_wide (Some w) (flexible y) m h p, operands_wide (Some w) ys ms h q)
+
+pub same_some : (a b : ℕ) → ◌≡◌ {A = Option ℕ} (Some a) (Some b) → a ≡ b
+same_some a b e = cc
+
+pub none_wide : (w : ℕ) → ◌≡◌ {A = Option ℕ} None (Some w) → HasWidthOfWord w
+none_wide w e = absurd cc
+
+pub arguments_wide : (ps : List code_slot.Slot) (ms : List code_wanted.Wanted) → WideSlots (shown_slots ps) → map shown_wanted ms ≡ exactly (widths_of (shown_slots ps))
+    → AllByRecursion HasWideWanted ms
+arguments_wide ps [] h e = tt
+arguments_wide [] (m ∷ ms) h e = absurd cc
+arguments_wide (p ∷ ps) (wants.Any ∷ ms) h e = absurd cc
+arguments_wide (p ∷ ps) (wants.Exactly w ∷ ms) h e =
+    let v : p.width ≡ w = cc in let q : map shown_wanted ms ≡ exactly (widths_of (shown_slots ps)) = cc in
+    (subst HasWidthOfWord v (h.0.some, h.0.bounded), arguments_wide ps ms h.1 q)
+
+-- ---- expressions and bindings, in order
 
 abbrev pub joined : Typed → TypedAll → TypedAll
 joined x r = record { widths = x.width ∷ r.widths; terms = Cons x.term r.terms }
@@ -143,39 +172,22 @@ joined x r = record { widths = x.width ∷ r.widths; terms = Cons x.term r.terms
 abbrev pub with_operand : ℕ → Typed → Terms → TypedAlike
 with_operand w x us = record { width = w; terms = Cons x.term us }
 
-operands_cons : (k : Known) (s : List Slot) (lo : ℕ) (o : Option ℕ) (y : Expression) (ys : Expressions)
-    → check_all k s lo (operands_wanted o (an_expression y ys)) (an_expression y ys) ≡ after (check k s false lo (operand_wanted o (flexible y)) y)
-    (λ x. after (check_all k s (lo + sites k y) (operands_wanted o ys) ys) (λ r. Ok (joined x r)))
-operands_cons k s lo None y ys = refl
-operands_cons k s lo (Some w) y ys = refl
-
-pub operands_is : (k : Known) (s : List Slot) (lo : ℕ) (o : Option ℕ) (es : List code.Expression) (y : code.Expression) (ys : List code.Expression) (m : Wanted) (n : ℕ)
-    → es ≡ y ∷ ys → m ≡ operand_wanted o (flexible (shown_expression y)) → n ≡ lo + sites k (shown_expression y)
-    → check_all k s lo (operands_wanted o (shown_expressions es)) (shown_expressions es) ≡ after (check k s false lo m (shown_expression y))
-    (λ x. after (check_all k s n (operands_wanted o (shown_expressions ys)) (shown_expressions ys)) (λ r. Ok (joined x r)))
-operands_is k s lo o es y ys m n e em en =
-    let f : Wanted → ℕ → Result TypedAll Fault = λ v i. after (check k s false lo v (shown_expression y))
-    (λ x. after (check_all k s i (operands_wanted o (shown_expressions ys)) (shown_expressions ys)) (λ r. Ok (joined x r))) in
-    ap (λ (l : List code.Expression). check_all k s lo (operands_wanted o (shown_expressions l)) (shown_expressions l)) e ∙ operands_cons k s lo o (shown_expression y) (shown_expressions ys)
-    ∙ sym (ap (λ (v : Wanted). f v (lo + sites k (shown_expression y))) em) ∙ sym (ap (λ (i : ℕ). f m i) en)
-
-pub arguments_is : (k : Known) (s : List Slot) (lo : ℕ) (ps : List code_slot.Slot) (p : code_slot.Slot) (qs : List code_slot.Slot)
+pub all_is : (k : Known) (s : List Slot) (lo : ℕ) (ms : List code_wanted.Wanted) (m : code_wanted.Wanted) (ns : List code_wanted.Wanted)
     (es : List code.Expression) (y : code.Expression) (ys : List code.Expression) (n : ℕ)
-    → ps ≡ p ∷ qs → es ≡ y ∷ ys → n ≡ lo + sites k (shown_expression y)
-    → check_all k s lo (exactly (widths_of (shown_slots ps))) (shown_expressions es) ≡ after
-    (check k s false lo (Exactly p.width) (shown_expression y))
-    (λ x. after (check_all k s n (exactly (widths_of (shown_slots qs))) (shown_expressions ys)) (λ r. Ok (joined x r)))
-arguments_is k s lo ps p qs es y ys n ep e en =
-    let f : ℕ → Result TypedAll Fault = λ i. after (check k s false lo (Exactly p.width) (shown_expression y))
-    (λ x. after (check_all k s i (exactly (widths_of (shown_slots qs))) (shown_expressions ys)) (λ r. Ok (joined x r))) in
-    ap (λ (l : List code_slot.Slot). check_all k s lo (exactly (widths_of (shown_slots l))) (shown_expressions es)) ep
-    ∙ ap (λ (l : List code.Expression). check_all k s lo (exactly (widths_of (shown_slots (p ∷ qs)))) (shown_expressions l)) e ∙ sym (ap f en)
+    → ms ≡ m ∷ ns → es ≡ y ∷ ys → n ≡ lo + sites k (shown_expression y)
+    → check_all k s lo (map shown_wanted ms) (shown_expressions es) ≡ after (check k s false lo (shown_wanted m) (shown_expression y))
+    (λ x. after (check_all k s n (map shown_wanted ns) (shown_expressions ys)) (λ r. Ok (joined x r)))
+all_is k s lo ms m ns es y ys n em e en =
+    let f : ℕ → Result TypedAll Fault = λ i. after (check k s false lo (shown_wanted m) (shown_expression y))
+    (λ x. after (check_all k s i (map shown_wanted ns) (shown_expressions ys)) (λ r. Ok (joined x r))) in
+    ap (λ (l : List code_wanted.Wanted). check_all k s lo (map shown_wanted l) (shown_expressions es)) em
+    ∙ ap (λ (l : List code.Expression). check_all k s lo (map shown_wanted (m ∷ ns)) (shown_expressions l)) e ∙ sym (ap f en)
 
-pub arguments_none : (k : Known) (s : List Slot) (lo : ℕ) (ps : List code_slot.Slot) (es : Expressions) → length ps ≡ 0 → check_all k s lo
-    (exactly (widths_of (shown_slots ps))) es ≡ Ok (record { widths = []; terms = Nil })
-arguments_none k s lo [] no_expression e = refl
-arguments_none k s lo [] (an_expression y ys) e = refl
-arguments_none k s lo (p ∷ ps) es e = absurd (omega (arith, e))
+pub all_none : (k : Known) (s : List Slot) (lo : ℕ) (ms : List code_wanted.Wanted) (es : Expressions) → length ms ≡ 0 → check_all k s lo
+    (map shown_wanted ms) es ≡ Ok (record { widths = []; terms = Nil })
+all_none k s lo [] no_expression e = refl
+all_none k s lo [] (an_expression y ys) e = refl
+all_none k s lo (m ∷ ms) es e = absurd (omega (arith, e))
 
 pub none_is : (k : Known) (s : List Slot) (lo : ℕ) (ms : List Wanted) (es : List code.Expression) → length es ≡ 0 → check_all k s lo ms
     (shown_expressions es) ≡ Ok (record { widths = []; terms = Nil })
@@ -198,7 +210,7 @@ bound_is k s lo es y ys m n e em en =
     ap (λ (l : List Bound). check_bound k s lo (shown_bindings l)) e
     ∙ sym (ap (λ (v : Wanted). f v (lo + sites k (shown_expression y.value))) em) ∙ sym (ap (λ (i : ℕ). f m i) en)
 
-pub shift_is : (k : Known) (s : List Slot) (lo p : ℕ) (es : List code.Expression) (y : code.Expression) (ys : List code.Expression) (n : ℕ)
+shift_is : (k : Known) (s : List Slot) (lo p : ℕ) (es : List code.Expression) (y : code.Expression) (ys : List code.Expression) (n : ℕ)
     → es ≡ y ∷ ys → n ≡ lo + sites k (shown_expression y)
     → check_shift k s lo p (shown_expressions es) ≡ after (check k s false lo Any (shown_expression y))
     (λ x. after (check_all k s n (amounts x.width (shown_expressions ys)) (shown_expressions ys)) (λ r. Ok (with_operand x.width x r.terms)))
@@ -206,6 +218,13 @@ shift_is k s lo p es y ys n e en =
     let f : ℕ → Result TypedAlike Fault = λ i. after (check k s false lo Any (shown_expression y))
     (λ x. after (check_all k s i (amounts x.width (shown_expressions ys)) (shown_expressions ys)) (λ r. Ok (with_operand x.width x r.terms))) in
     ap (λ (l : List code.Expression). check_shift k s lo p (shown_expressions l)) e ∙ sym (ap f en)
+
+pub shift_goes : (k : Known) (s : List Slot) (lo p : ℕ) (es : List code.Expression) (y : code.Expression) (ys : List code.Expression) (n : ℕ) (x : Typed) (ms : List Wanted)
+    → es ≡ y ∷ ys → n ≡ lo + sites k (shown_expression y) → check k s false lo Any (shown_expression y) ≡ Ok x → ms ≡ amounts x.width (shown_expressions ys)
+    → check_shift k s lo p (shown_expressions es) ≡ after (check_all k s n ms (shown_expressions ys)) (λ r. Ok (with_operand x.width x r.terms))
+shift_goes k s lo p es y ys n x ms e en h q =
+    goes _ _ _ x (shift_is k s lo p es y ys n e en) h
+    ∙ ap (λ (l : List Wanted). after (check_all k s n l (shown_expressions ys)) (λ r. Ok (with_operand x.width x r.terms))) (sym q)
 
 pub alike_later : (k : Known) (s : List Slot) (lo p : ℕ) (m : Wanted) (es : List code.Expression) (y : code.Expression) (ys : List code.Expression) (n : ℕ)
     → es ≡ y ∷ ys → (is_any m && flexible (shown_expression y)) ≡ true → n ≡ lo + sites k (shown_expression y)
@@ -333,9 +352,15 @@ pub shifting_is : (k : Known) (s : List Slot) (tail : Bool) (lo : ℕ) (m : Want
     → check k s tail lo m (Op p o es) ≡ after (check_shift k s lo p es) (λ r. settle p m r.width (terms.Op o r.terms))
 shifting_is k s tail lo m p o es e = operated_is k s tail lo m p o es Shifting e
 
-pub resizing_is : (k : Known) (s : List Slot) (tail : Bool) (lo : ℕ) (m : Wanted) (p : ℕ) (o : Primitive) (es : Expressions) → Resizing ≡ shape o
+resizing_is : (k : Known) (s : List Slot) (tail : Bool) (lo : ℕ) (m : Wanted) (p : ℕ) (o : Primitive) (es : Expressions) → Resizing ≡ shape o
     → check k s tail lo m (Op p o es) ≡ after (check_all k s lo (all_any es) es) (λ r. resized p m o (result_width o r.widths) r.terms)
 resizing_is k s tail lo m p o es e = operated_is k s tail lo m p o es Resizing e
+
+pub resizing_by : (k : Known) (s : List Slot) (tail : Bool) (lo : ℕ) (m : Wanted) (p : ℕ) (o : Primitive) (es : Expressions) (ms : List Wanted) → Resizing ≡ shape o
+    → ms ≡ all_any es → check k s tail lo m (Op p o es) ≡ after (check_all k s lo ms es) (λ r. resized p m o (result_width o r.widths) r.terms)
+resizing_by k s tail lo m p o es ms e q =
+    resizing_is k s tail lo m p o es e
+    ∙ ap (λ (l : List Wanted). after (check_all k s lo l es) (λ r. resized p m o (result_width o r.widths) r.terms)) (sym q)
 
 -- ---- calls
 

@@ -13,8 +13,8 @@ use Rattle.safl_tree.specs.Printable.{OpensGroup, AreFormedDefinitions, IsFormed
 use Rattle.safl_typing.specs.Rewriting.{Expression, rewritten, nodes}
 use Rattle.safl_typing.specs.Heads.{Slot, Head, Known, sites, unit_of, params_of, heads}
 use Rattle.safl_typing.specs.Typing.{Differ, Has}
-use Rattle.safl_term.specs.Sizes.{max_bindings}
-use Rattle.safl_typing.specs.Forms.{FunctionForm, Form, all_sites, max_functions, max_params, max_sites, max_nodes, nodes_of, param_names}
+use Rattle.safl_word.specs.Limits.{bindings_max, functions_max, params_max, sites_max, nodes_max}
+use Rattle.safl_typing.specs.Forms.{FunctionForm, Form, all_sites, nodes_of, param_names}
 use Rattle.safl_typing.specs.Forms.{IsFunctionOf, AreFunctionsOf, IsLast, function_names, IsFormOf}
 use Rattle.safl_term.specs.Readiness.{or_else}
 use Rattle.safl_typing.specs.Walk.{after, unless, needs, fault, fault_with, excess, limit, long_let, limits_from, limits, placed_params, head_fault}
@@ -93,8 +93,8 @@ pub record IsWalked (all : List Head) (earlier : List (List ℕ)) (n u w lo plac
   pub functions : AreFunctionsOf all n u w lo (suc last) ds fs
   pub differ : Differ (function_names ds)
   pub apart : Apart earlier (function_names ds)
-  pub few_sites : last ≤ max_sites
-  pub few_nodes : placed_nodes + nodes_of ds ≤ max_nodes
+  pub few_sites : last ≤ sites_max
+  pub few_nodes : placed_nodes + nodes_of ds ≤ nodes_max
 
 -- a name that is not among the earlier ones goes before names that differ from it
 first_apart : (x : List ℕ) (earlier xs : List (List ℕ)) → list_any (bytes_eq x) earlier ≡ false → Apart (x ∷ earlier) xs → Apart earlier (x ∷ xs)
@@ -102,7 +102,7 @@ first_apart x earlier xs q a i zero name g h = not_seen x earlier i q (g ∙ sym
 first_apart x earlier xs q a i (suc j) name g h = a (suc i) j name g h
 
 walked : (all : List Head) (earlier : List (List ℕ)) (n u w lo placed_sites placed_nodes : ℕ) (ds : List Definition) (fs : List FunctionForm)
-    → WideHeads all → AreFormedDefinitions ds → lo ≡ suc placed_sites → placed_sites ≤ max_sites → placed_nodes ≤ max_nodes
+    → WideHeads all → AreFormedDefinitions ds → lo ≡ suc placed_sites → placed_sites ≤ sites_max → placed_nodes ≤ nodes_max
     → limits_from all n u placed_sites placed_nodes ds ≡ None → joined_faults earlier w ds ≡ None
     → functions_from all earlier n u lo ds ≡ Ok fs → IsWalked all earlier n u w lo placed_nodes ds fs
 walked all earlier n u w lo ps pn [] fs wh form at few_sites few_nodes le je e =
@@ -112,12 +112,12 @@ walked all earlier n u w lo ps pn (d ∷ ds) fs wh form at few_sites few_nodes l
     let body : Expression = rewritten d.body in
     let unit : ℕ = unit_of n u d in
     let known : Known = record { heads = all; unit = unit } in
-    let l0 = none_both (limit 2 max_params (excess max_params (map (λ (p : Parameter). p.place) d.params))) _ le in
-    let l1 = none_both (limit 3 max_bindings (long_let body)) _ l0.1 in
-    let l2 = none_both (needs (nat_le (ps + sites known body) max_sites) (fault_with rules.E16 d.place 4 max_sites)) _ l1.1 in
-    let l3 = none_both (needs (nat_le (pn + nodes body) max_nodes) (fault_with rules.E16 d.place 5 max_nodes)) _ l2.1 in
-    let in_sites : ps + sites known body ≤ max_sites = leb-true _ _ (needs_ok _ _ l2.0) in
-    let in_nodes : pn + nodes body ≤ max_nodes = leb-true _ _ (needs_ok _ _ l3.0) in
+    let l0 = none_both (limit 2 params_max (excess params_max (map (λ (p : Parameter). p.place) d.params))) _ le in
+    let l1 = none_both (limit 3 bindings_max (long_let body)) _ l0.1 in
+    let l2 = none_both (needs (nat_le (ps + sites known body) sites_max) (fault_with rules.E16 d.place 4 sites_max)) _ l1.1 in
+    let l3 = none_both (needs (nat_le (pn + nodes body) nodes_max) (fault_with rules.E16 d.place 5 nodes_max)) _ l2.1 in
+    let in_sites : ps + sites known body ≤ sites_max = leb-true _ _ (needs_ok _ _ l2.0) in
+    let in_nodes : pn + nodes body ≤ nodes_max = leb-true _ _ (needs_ok _ _ l3.0) in
     let u0 = unless_ok (group_fault earlier d ds) _ fs e in
     let o : IsOpened earlier w d ds = opened d.joined earlier w d ds refl u0.0 je in
     let q = after_ok _ _ fs u0.1 in
@@ -138,7 +138,7 @@ walked all earlier n u w lo ps pn (d ∷ ds) fs wh form at few_sites few_nodes l
       first_site = refl;
       params_differ = o.head.params;
       few_params = subst
-          (λ (z : ℕ). z ≤ max_params) (places_length d.params) (none_excess max_params _ (none_limit _ _ _ l0.0));
+          (λ (z : ℕ). z ≤ params_max) (places_length d.params) (none_excess params_max _ (none_limit _ _ _ l0.0));
       short_lets = no_long_let body
           (none_limit _ _ _ l1.0);
       body = subst (λ (z : ℕ). Has known (params_of d) true lo (lo + sites known body) body z q.0.term) (sym met) s.has;
@@ -170,7 +170,7 @@ pub walk_form : (ds : List Definition) (c : Form) → IsFormedProgram ds → out
 unfolding outcome
 walk_form ds c form e =
     let l = unless_ok (limits ds) (after (functions_from (heads ds) [] 0 0 1 ds) (λ fs. unless (main_fault ds) (Ok (record { functions = fs; sites = all_sites 0 fs })))) c e in
-    let l0 = none_both (limit 1 max_functions (excess max_functions (map (λ (d : Definition). d.place) ds))) (limits_from (heads ds) 0 0 0 0 ds) l.0 in
+    let l0 = none_both (limit 1 functions_max (excess functions_max (map (λ (d : Definition). d.place) ds))) (limits_from (heads ds) 0 0 0 0 ds) l.0 in
     let q = after_ok (functions_from (heads ds) [] 0 0 1 ds) (λ fs. unless (main_fault ds) (Ok (record { functions = fs; sites = all_sites 0 fs }))) c l.1 in
     let m = unless_ok (main_fault ds) (Ok (record { functions = q.0; sites = all_sites 0 q.0 })) c q.2 in
     let w : IsWalked (heads ds) [] 0 0 0 1 0 ds q.0 = walked (heads ds) [] 0 0 0 1 0 0 ds q.0 (heads_wide 0 0 ds form.formed) form.formed refl
@@ -182,7 +182,7 @@ walk_form ds c form e =
       sites = refl;
       functions_differ = w.differ;
       main = main_is ds m.0;
-      few_functions = subst (λ (n : ℕ). n ≤ max_functions) (def_places_length ds) (none_excess max_functions _ (none_limit _ _ _ l0.0));
+      few_functions = subst (λ (n : ℕ). n ≤ functions_max) (def_places_length ds) (none_excess functions_max _ (none_limit _ _ _ l0.0));
       few_sites = w.few_sites;
       few_nodes = omega (arith, w.few_nodes);
     })
@@ -203,7 +203,7 @@ functions_rise all n u w lo hi (d ∷ ds) (f ∷ fs) (m, is, j, rest) =
 
 -- no definition passes a limit
 limits_kept : (all : List Head) (n u w lo hi placed_sites placed_nodes : ℕ) (ds : List Definition) (fs : List FunctionForm)
-    → lo ≡ suc placed_sites → hi ≤ suc max_sites → placed_nodes + nodes_of ds ≤ max_nodes → AreFunctionsOf all n u w lo hi ds fs
+    → lo ≡ suc placed_sites → hi ≤ suc sites_max → placed_nodes + nodes_of ds ≤ nodes_max → AreFunctionsOf all n u w lo hi ds fs
     → limits_from all n u placed_sites placed_nodes ds ≡ None
 limits_kept all n u w lo hi ps pn [] fs at few_sites few_nodes h = refl
 limits_kept all n u w lo hi ps pn (d ∷ ds) [] at few_sites few_nodes h = absurd h
@@ -212,11 +212,11 @@ limits_kept all n u w lo hi ps pn (d ∷ ds) (f ∷ fs) at few_sites few_nodes (
     let known : Known = record { heads = all; unit = unit_of n u d } in
     let ends : m ≡ lo + sites known body = has_sites known (params_of d) true lo m body d.width f.body is.body in
     let rise : m ≤ hi = functions_rise all (suc n) (unit_of n u d) d.width m hi ds fs rest in
-    let in_sites : ps + sites known body ≤ max_sites = omega (arith, ends, rise, few_sites, at) in
-    let in_nodes : pn + nodes body ≤ max_nodes = omega (arith, few_nodes) in
+    let in_sites : ps + sites known body ≤ sites_max = omega (arith, ends, rise, few_sites, at) in
+    let in_nodes : pn + nodes body ≤ nodes_max = omega (arith, few_nodes) in
     let next : m ≡ suc (ps + sites known body) = omega (arith, ends, at) in
-    let left : pn + nodes body + nodes_of ds ≤ max_nodes = omega (arith, few_nodes) in
-    both_none _ _ (limit_none _ _ _ (excess_none max_params _ (subst (λ (z : ℕ). z ≤ max_params) (sym (places_length d.params)) is.few_params)))
+    let left : pn + nodes body + nodes_of ds ≤ nodes_max = omega (arith, few_nodes) in
+    both_none _ _ (limit_none _ _ _ (excess_none params_max _ (subst (λ (z : ℕ). z ≤ params_max) (sym (places_length d.params)) is.few_params)))
     (both_none _ _ (limit_none _ _ _ (short_lets body is.short_lets))
     (both_none _ _ (needs_gives _ _ (le-leb _ _ in_sites))
     (both_none _ _ (needs_gives _ _ (le-leb _ _ in_nodes))
@@ -277,8 +277,8 @@ is_main (d ∷ (c ∷ ds)) h = is_main (c ∷ ds) h
 pub form_walk : (ds : List Definition) (c : Form) → IsFormOf ds c → outcome ds ≡ Ok c
 unfolding outcome
 form_walk ds c h =
-    unless_gives _ _ _ (both_none _ _ (limit_none _ _ _ (excess_none max_functions _
-    (subst (λ (n : ℕ). n ≤ max_functions) (sym (def_places_length ds)) h.few_functions)))
+    unless_gives _ _ _ (both_none _ _ (limit_none _ _ _ (excess_none functions_max _
+    (subst (λ (n : ℕ). n ≤ functions_max) (sym (def_places_length ds)) h.few_functions)))
     (limits_kept (heads ds) 0 0 0 1 (suc h.last_site) 0 0 ds c.functions refl (omega (arith, h.few_sites)) (omega (arith, h.few_nodes)) h.functions))
     (after_gives _ _ c.functions _ (functions_kept (heads ds) [] 0 0 0 1 (suc h.last_site) 1 ds c.functions refl h.functions h.functions_differ (λ i j name p q. absurd cc))
     (unless_gives _ _ _ (is_main ds h.main) (ap (λ z. Ok (record { functions = c.functions; sites = z })) (sym h.sites))))

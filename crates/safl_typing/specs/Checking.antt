@@ -1,5 +1,5 @@
 -- What checking gives, and what it requires, by the context, the scope and the position in the body.
-use Rattle.std.specs.Prelude.{ℕ, ◌+◌, List, Option, ◌&&◌, ◌==◌, length, Result}
+use Rattle.std.specs.Prelude.{◌≡◌, ℕ, ◌+◌, List, map, Option, ◌&&◌, ◌==◌, length, Result}
 use Rattle.safl_word.specs.declared.fault.Rule.TheVariants as rules
 use Rattle.safl_word.specs.declared.fault.Fault.{Fault}
 use Rattle.safl_term.specs.Terms.{Term}
@@ -11,7 +11,7 @@ use Rattle.safl_typing.specs.declared.typed.Wanted as code_wanted
 use Rattle.safl_typing.specs.declared.walk.Branches.{Branches}
 use Rattle.safl_typing.specs.declared.walk.Position.{Position}
 use Rattle.safl_typing.specs.Rewriting.{Expression, If, flexible, count, nodes}
-use Rattle.safl_typing.specs.Heads.{Slot, sites}
+use Rattle.safl_typing.specs.Heads.{Known, sites}
 use Rattle.safl_typing.specs.Typing.{widths_of}
 use Rattle.safl_typing.specs.Ranges.{IsInRange}
 use Rattle.safl_typing.specs.Walk.{Typed, TypedAll, TypedAlike, fault_with, unless, needs, is_any, branches, exactly, check, check_all, check_alike}
@@ -20,6 +20,7 @@ use Rattle.safl_typing.specs.PlainHeads.{shown_head}
 use Rattle.safl_typing.specs.PlainContext.{seen}
 use Rattle.safl_typing.specs.PlainScope.{shown_scope}
 use Rattle.safl_typing.specs.PlainTyped.{shown_wanted, operands_wanted}
+use Rattle.safl_typing.specs.Marks.{AreMarked}
 use Rattle.safl_typing.specs.MayWalk.{MayWalk, MayCheck}
 
 -- an if with this condition and these branches
@@ -53,18 +54,18 @@ checked_both c s at both test =
 abbrev pub checked_alike : Context → Scope → ℕ → ℕ → code_wanted.Wanted → List code.Expression → Result TypedAlike Fault
 checked_alike c s lo place wanted es = check_alike (seen c) (shown_scope s) lo place (shown_wanted wanted) (shown_expressions es)
 
--- what checking gives for operands whose widths are found. A flexible amount of a shift has the width of what is shifted
-abbrev pub checked_operands : Context → Scope → ℕ → Option ℕ → List code.Expression → Result TypedAll Fault
-checked_operands c s lo shifted es = check_all (seen c) (shown_scope s) lo (operands_wanted shifted (shown_expressions es)) (shown_expressions es)
+-- Operands are wanted so: the width of each is found, but a flexible amount of a shift has the width of what is shifted.
+abbrev pub AreWanted : Option ℕ → List code.Expression → List code_wanted.Wanted → Type 0
+AreWanted shifted es wanted = (k : Known) → AreMarked k es → map shown_wanted wanted ≡ operands_wanted shifted (shown_expressions es)
 
--- what checking gives for arguments, each against the width of its parameter
-abbrev pub checked_arguments : Context → Scope → ℕ → List Slot → List code.Expression → Result TypedAll Fault
-checked_arguments c s lo params es = check_all (seen c) (shown_scope s) lo (exactly (widths_of params)) (shown_expressions es)
+-- what checking gives for expressions, each as it is wanted
+abbrev pub checked_all : Context → Scope → ℕ → List code_wanted.Wanted → List code.Expression → Result TypedAll Fault
+checked_all c s lo wanted es = check_all (seen c) (shown_scope s) lo (map shown_wanted wanted) (shown_expressions es)
 
--- what checking gives for the arguments of a function, which must be as many as its parameters
+-- what checking gives for the arguments of a function, which must be as many as its parameters, each against its parameter's width
 abbrev pub counted_arguments : Context → Scope → ℕ → ℕ → code_head.Head → List code.Expression → Result TypedAll Fault
 counted_arguments c s lo place h es =
     unless
     (needs (length (shown_head h).params == count (shown_expressions es))
     (fault_with rules.E11 place (length (shown_head h).params) (count (shown_expressions es))))
-    (checked_arguments c s lo (shown_head h).params es)
+    (check_all (seen c) (shown_scope s) lo (exactly (widths_of (shown_head h).params)) (shown_expressions es))

@@ -9,7 +9,7 @@ use Rattle.safl_term.specs.Checked.{CheckedProgram}
 use Rattle.safl_term.specs.Tables.{Tables}
 use Rattle.safl_term.specs.Terms as terms
 use Rattle.safl_term.specs.Terms.{Term, Const, Var, Loop, Terms, Nil, Cons}
-use Rattle.safl_term.specs.Sizes.{max_bindings, max_depth}
+use Rattle.safl_word.specs.Limits.{bindings_max, depth_max, functions_max, params_max, sites_max, nodes_max}
 use Rattle.safl_term.specs.Tree.{shown_term}
 use Rattle.safl_tree.specs.Tree.{Definition, depth}
 use Rattle.safl_typing.specs.Rewriting.{Expression, Number, Sized, Variable, If, Let, Op, Call, Expressions, no_expression, an_expression, Bindings, no_binding, a_binding, rewritten, nodes}
@@ -64,18 +64,6 @@ all_sites n (f ∷ fs) = sites_of n f.body ++ all_sites (suc n) fs
 
 -- ---- limits
 
-abbrev pub max_functions : ℕ
-max_functions = 1000
-
-abbrev pub max_params : ℕ
-max_params = 16
-
-abbrev pub max_sites : ℕ
-max_sites = 4000
-
-abbrev pub max_nodes : ℕ
-max_nodes = 50000
-
 -- no let has too many bindings
 abbrev mutual
   pub HasShortLets : Expression → Type 0
@@ -83,7 +71,7 @@ abbrev mutual
   HasShortLets (Sized p w n) = Unit {0}
   HasShortLets (Variable p x) = Unit {0}
   HasShortLets (If p c a b) = HasShortLets c × HasShortLets a × HasShortLets b
-  HasShortLets (Let p bs b) = (length (names bs) ≤ max_bindings) × HaveShortBound bs × HasShortLets b
+  HasShortLets (Let p bs b) = (length (names bs) ≤ bindings_max) × HaveShortBound bs × HasShortLets b
   HasShortLets (Op p o es) = HaveShortLets es
   HasShortLets (Call p f es) = HaveShortLets es
 
@@ -101,7 +89,7 @@ nodes_of (d ∷ ds) = nodes (rewritten d.body) + nodes_of ds
 
 -- no body is deeper than a checked one may be
 abbrev pub AreShallow : List Definition → Type 0
-AreShallow ds = AllByRecursion (λ d. depth d.body ≤ max_depth) ds
+AreShallow ds = AllByRecursion (λ d. depth d.body ≤ depth_max) ds
 
 -- ---- forms
 
@@ -118,7 +106,7 @@ pub record IsFunctionOf (all : List Head) (u lo hi : ℕ) (d : Definition) (f : 
   pub unit : f.unit ≡ u
   pub first_site : f.first_site ≡ lo
   pub params_differ : Differ (param_names d)
-  pub few_params : length d.params ≤ max_params
+  pub few_params : length d.params ≤ params_max
   pub short_lets : HasShortLets (rewritten d.body)
   -- the body has the width of the function's result, and is in tail position
   pub body : Has (record { heads = all; unit = u }) (params_of d) true lo hi (rewritten d.body) d.width f.body
@@ -147,6 +135,6 @@ pub record IsFormOf (ds : List Definition) (c : Form) : Type 0 where
   pub sites : c.sites ≡ all_sites 0 c.functions
   pub functions_differ : Differ (function_names ds)
   pub main : IsLast (codes "main") ds
-  pub few_functions : length ds ≤ max_functions
-  pub few_sites : last_site ≤ max_sites
-  pub few_nodes : nodes_of ds ≤ max_nodes
+  pub few_functions : length ds ≤ functions_max
+  pub few_sites : last_site ≤ sites_max
+  pub few_nodes : nodes_of ds ≤ nodes_max

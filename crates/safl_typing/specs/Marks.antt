@@ -1,6 +1,7 @@
 -- The marks of expressions, and when they are right.
 use Rattle.std.specs.Prelude.{◌≡◌, ℕ, List, [], ◌∷◌, Bool, ◌&&◌, min}
 use Rattle.safl_word.specs.declared.primitive.Primitive.{Primitive}
+use Rattle.safl_word.specs.Limits.{sites_counted}
 use Rattle.safl_typing.specs.declared.expression.Bound.{Bound}
 use Rattle.safl_typing.specs.declared.expression.Marks.{Marks}
 use Rattle.safl_typing.specs.declared.expression.Expression as code
@@ -13,7 +14,7 @@ use Rattle.safl_typing.specs.Plain.{shown_expression, shown_expressions, shown_b
 -- the marks say whether the expression takes any width, and how many call sites it has, up to 4,001
 pub record IsMarkOf (k : Known) (e : Expression) (m : Marks) : Type 0 where
   pub width : m.flexible ≡ flexible e
-  pub counted : m.sites ≡ min 4001 (sites k e)
+  pub counted : m.sites ≡ min sites_counted (sites k e)
 
 -- the marks of an expression and of all its parts are right
 abbrev mutual

@@ -1,5 +1,6 @@
 -- What is required before a part of a body is checked: widths are in range, and sites, slots and operands can be counted.
 use Rattle.std.specs.Prelude.{ℕ, ◌+◌, ◌<◌, ◌≤◌, ◌^◌, List, [], ◌∷◌, length}
+use Rattle.safl_word.specs.Limits.{sites_counted}
 use Rattle.safl_typing.specs.declared.context.Context.{Context}
 use Rattle.safl_typing.specs.declared.expression.Expression as code
 use Rattle.safl_typing.specs.declared.heads.Head as code_head
@@ -23,7 +24,7 @@ pub record MayWalk (hs : List code_head.Head) (ss : List Slot) (lo : ℕ) (Range
   pub params : CountParams hs
   pub slots : WideSlots ss
   pub range : Range
-  pub within : lo + sites ≤ 4001
+  pub within : lo + sites ≤ sites_counted
   pub room : length ss + nodes < 2 ^ 32
 
 abbrev pub MayCheck : List code_head.Head → ℕ → List Slot → ℕ → Expression → Type 0

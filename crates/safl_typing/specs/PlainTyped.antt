@@ -1,6 +1,6 @@
 -- What checking gives in the code, as plain values.
 use Rattle.std.specs.Prelude.{◌≡◌, ℕ, ◌≤◌, List, Option, Some, None, Bool, if◌then◌else◌, slice_get, Result, Ok, Err}
-use Rattle.safl_word.specs.Words.{max_width}
+use Rattle.safl_word.specs.Limits.{width_max}
 use Rattle.safl_word.specs.declared.fault.Fault.{Fault}
 use Rattle.safl_term.specs.Tree.{shown_term, shown_terms}
 use Rattle.safl_typing.specs.declared.heads.Slot as code_slot
@@ -24,15 +24,11 @@ shown_wanted (wants.Exactly w) = Exactly w
 
 -- the width is one that a word may have
 abbrev pub HasWidthOfWord : ℕ → Type 0
-HasWidthOfWord w = (1 ≤ w) × (w ≤ max_width)
+HasWidthOfWord w = (1 ≤ w) × (w ≤ width_max)
 
 abbrev pub HasWideWanted : code_wanted.Wanted → Type 0
 HasWideWanted wants.Any = Unit {0}
 HasWideWanted (wants.Exactly w) = HasWidthOfWord w
-
-abbrev pub HasWideWritten : Option ℕ → Type 0
-HasWideWritten None = Unit {0}
-HasWideWritten (Some w) = HasWidthOfWord w
 
 abbrev pub shown_typed : code_typed.Typed → Typed
 shown_typed t = record { width = t.width; term = shown_term t.term }

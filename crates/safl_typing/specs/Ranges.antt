@@ -1,12 +1,12 @@
 -- Widths in range: of slots, of heads, and of what is written in an expression.
 use Rattle.std.specs.Prelude.{◌≡◌, ℕ, ◌≤◌, List, [], ◌∷◌, Some}
-use Rattle.safl_word.specs.Words.{max_width}
+use Rattle.safl_word.specs.Limits.{width_max}
 use Rattle.safl_typing.specs.Rewriting.{Expression, Number, Sized, Variable, If, Let, Op, Call, Expressions, no_expression, an_expression, Bindings, no_binding, a_binding}
 use Rattle.safl_typing.specs.Heads.{Slot, Head}
 
 pub record IsWide (w : ℕ) : Type 0 where
   pub some : 1 ≤ w
-  pub bounded : w ≤ max_width
+  pub bounded : w ≤ width_max
 
 abbrev pub AreWide : List ℕ → Type 0
 AreWide [] = Unit {0}

@@ -15,8 +15,8 @@ use Rattle.safl_tree.specs.Tree.{Definition}
 use Rattle.safl_typing.specs.Rewriting.{Expression, Number, Sized, Variable, If, Let, Op, Call, Expressions, no_expression, an_expression, Bindings, no_binding, a_binding, Shape, Alike, Comparing, Shifting, Resizing, shape, flexible, count, rewritten, nodes}
 use Rattle.safl_typing.specs.Heads.{Slot, Head, Known, Callee, Member, Above, Unknown, callee, sites, sites_bound, unit_of, params_of, heads}
 use Rattle.safl_typing.specs.Typing.{At, innermost, slots, word, widths_of}
-use Rattle.safl_term.specs.Sizes.{max_bindings}
-use Rattle.safl_typing.specs.Forms.{FunctionForm, Form, all_sites, max_functions, max_params, max_sites, max_nodes}
+use Rattle.safl_word.specs.Limits.{bindings_max, functions_max, params_max, sites_max, nodes_max}
+use Rattle.safl_typing.specs.Forms.{FunctionForm, Form, all_sites}
 
 -- ---- faults
 
@@ -220,7 +220,7 @@ abbrev mutual
   long_let (Sized p w n) = None
   long_let (Variable p x) = None
   long_let (If p c a b) = or_place (long_let c) (or_place (long_let a) (long_let b))
-  long_let (Let p bs b) = or_place (excess max_bindings (map (λ x. x.place) (placed bs))) (or_place (long_let_bound bs) (long_let b))
+  long_let (Let p bs b) = or_place (excess bindings_max (map (λ x. x.place) (placed bs))) (or_place (long_let_bound bs) (long_let b))
   long_let (Op p o es) = long_let_in es
   long_let (Call p f es) = long_let_in es
 
@@ -244,14 +244,14 @@ limits_from all n u placed_sites placed_nodes (d ∷ ds) =
     let body : Expression = rewritten d.body in
     let in_all : ℕ = placed_sites + sites (record { heads = all; unit = unit_of n u d }) body in
     let nodes_all : ℕ = placed_nodes + nodes body in
-    or_else (limit 2 max_params (excess max_params (map (λ p. p.place) d.params)))
-    (or_else (limit 3 max_bindings (long_let body))
-    (or_else (needs (nat_le in_all max_sites) (fault_with rules.E16 d.place 4 max_sites))
-    (or_else (needs (nat_le nodes_all max_nodes) (fault_with rules.E16 d.place 5 max_nodes))
+    or_else (limit 2 params_max (excess params_max (map (λ p. p.place) d.params)))
+    (or_else (limit 3 bindings_max (long_let body))
+    (or_else (needs (nat_le in_all sites_max) (fault_with rules.E16 d.place 4 sites_max))
+    (or_else (needs (nat_le nodes_all nodes_max) (fault_with rules.E16 d.place 5 nodes_max))
     (limits_from all (suc n) (unit_of n u d) in_all nodes_all ds))))
 
 abbrev pub limits : List Definition → Option Fault
-limits ds = or_else (limit 1 max_functions (excess max_functions (map (λ d. d.place) ds))) (limits_from (heads ds) 0 0 0 0 ds)
+limits ds = or_else (limit 1 functions_max (excess functions_max (map (λ d. d.place) ds))) (limits_from (heads ds) 0 0 0 0 ds)
 
 -- ---- definitions
 

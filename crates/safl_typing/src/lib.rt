@@ -15,3 +15,4 @@ mod shape;
 pub mod sites;
 pub mod typed;
 pub mod walk;
+mod wanted;

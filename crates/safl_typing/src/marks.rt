@@ -1,6 +1,7 @@
 //! The marks of an expression: whether it takes any width, and how many call sites it has.
 
 ghost use Rattle.std.specs.Prelude.{◌≡◌, ◌+◌, ◌≤◌, min};
+ghost use Rattle.safl_word.specs.Limits.{sites_counted};
 ghost use Rattle.safl_typing.specs.Rewriting.{flexible, all_flexible, shape, takes_width};
 ghost use Rattle.safl_typing.specs.Heads.{Known, sites, sites_in, sites_bound};
 ghost use Rattle.safl_typing.specs.Plain.{shown_expression, shown_expressions, shown_bindings};
@@ -8,8 +9,8 @@ ghost use Rattle.safl_typing.specs.Marks.{IsMarkOf, IsMarked, AreMarked, BoundMa
 
 use crate::expression::{Bound, Expression, Marks};
 use crate::shape::has_operands_width;
-use crate::sites::SITES_COUNTED;
 use safl_word::Primitive;
+use safl_word::limits::SITES_COUNTED;
 
 /// The marks of an expression, as noted when it was made.
 pub fn marks_of(e: &Expression) -> Marks
@@ -50,15 +51,15 @@ pub fn are_both_flexible(first: &Expression, second: &Expression) -> bool
 
 /// Adds the call sites of an expression to a count, which stops at 4,001.
 pub fn add_sites(counted: u32, e: &Expression) -> u32
-    ensures { (k : Known) → IsMarked k e.now → result ≡ min 4001 (counted + sites k (shown_expression e.now)) }
+    ensures { (k : Known) → IsMarked k e.now → result ≡ min sites_counted (counted + sites k (shown_expression e.now)) }
 {
     counted.saturating_add(marks_of(e).sites).min(SITES_COUNTED)
 }
 
 /// Adds the call sites of the values of bindings to a count.
 pub fn add_bound_sites(counted: u32, bound: &[Bound]) -> u32
-    requires { counted ≤ 4001 }
-    ensures { (k : Known) → BoundMarked k bound.now → result ≡ min 4001 (counted + sites_bound k (shown_bindings bound.now)) }
+    requires { counted ≤ sites_counted }
+    ensures { (k : Known) → BoundMarked k bound.now → result ≡ min sites_counted (counted + sites_bound k (shown_bindings bound.now)) }
 {
     let mut total = counted;
     for b in bound {
@@ -69,8 +70,8 @@ pub fn add_bound_sites(counted: u32, bound: &[Bound]) -> u32
 
 // Adds the call sites of several expressions to a count.
 fn add_all_sites(counted: u32, es: &[Expression]) -> u32
-    requires { counted ≤ 4001 }
-    ensures { (k : Known) → AreMarked k es.now → result ≡ min 4001 (counted + sites_in k (shown_expressions es.now)) }
+    requires { counted ≤ sites_counted }
+    ensures { (k : Known) → AreMarked k es.now → result ≡ min sites_counted (counted + sites_in k (shown_expressions es.now)) }
 {
     let mut total = counted;
     for e in es {

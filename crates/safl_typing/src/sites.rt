@@ -5,9 +5,6 @@ ghost use Rattle.safl_typing.specs.PlainHeads.{site_of};
 
 use crate::heads::Callee;
 
-/// The greatest number of call sites that is counted: one more than a program may have.
-pub const SITES_COUNTED: u32 = 4_001;
-
 /// The number of call sites that a call of this function is: 0 for a function of the own group, 1 for any other.
 pub fn sites_of_callee(callee: Callee) -> u32
     ensures { result ≡ site_of callee }

@@ -1,6 +1,7 @@
 //! Checking an expression: its width and its term, or its first fault.
 
 ghost use Rattle.std.specs.Prelude.{◌≡◌, ◌<◌, ◌^◌, ◌==◌, Bool, IfOk, length};
+ghost use Rattle.std.specs.List.{AllByRecursion};
 ghost use Rattle.safl_term.specs.Slots.{HasSlots};
 ghost use Rattle.safl_term.specs.Tree.{shown_term};
 ghost use Rattle.safl_word.specs.declared.fault.Rule.TheVariants as rules;
@@ -12,10 +13,10 @@ ghost use Rattle.safl_typing.specs.Plain.{shown_expression, shown_expressions, s
 ghost use Rattle.safl_typing.specs.PlainHeads.{shown_slots, shown_head};
 ghost use Rattle.safl_typing.specs.PlainContext.{seen};
 ghost use Rattle.safl_typing.specs.PlainScope.{shown_scope, HaveSlotsAfter};
-ghost use Rattle.safl_typing.specs.PlainTyped.{shown_wanted, HasWideWanted, HasWideWritten, Says, SaysAll, SaysAlike};
+ghost use Rattle.safl_typing.specs.PlainTyped.{shown_wanted, HasWideWanted, Says, SaysAll, SaysAlike};
 ghost use Rattle.safl_typing.specs.Marks.{IsMarked, AreMarked, BoundMarked};
 ghost use Rattle.safl_typing.specs.MayWalk.{MayWalkAll, MayBind};
-ghost use Rattle.safl_typing.specs.Checking.{choice_between, MayCheckIn, MayCheckBoth, checked, checked_both, checked_alike, checked_operands, checked_arguments, counted_arguments};
+ghost use Rattle.safl_typing.specs.Checking.{choice_between, MayCheckIn, MayCheckBoth, checked, checked_both, checked_alike, checked_all, counted_arguments};
 
 use crate::context::Context;
 use crate::expression::{Bound, Expression};
@@ -29,9 +30,10 @@ use crate::repeats::find_repeated;
 use crate::scope::{Scope, count};
 use crate::shape::{Shape, shape_of};
 use crate::typed::{
-    CheckErr, Typed, Wanted, as_operand, as_written, comes_later, has_width, refused, typed_number,
+    CheckErr, Typed, Wanted, as_written, comes_later, has_width, refused, typed_number,
     typed_sized, typed_variable,
 };
+use crate::wanted::{wanted_arguments, wanted_operands};
 use safl_term::Term;
 use safl_tree::Name;
 use safl_word::{Fault, Primitive, Rule, result_width};
@@ -53,25 +55,25 @@ struct Branches<'a> {
 }
 
 /// The width and the term of an expression with these variables in scope, or its first fault. Its call sites are
-/// numbered from `lo` on. `tail` says whether it is in tail position, and `wanted` whether a width is expected, and
-/// which.
+/// numbered from `first_site` on. `tail` says whether it is in tail position, and `wanted` whether a width is expected,
+/// and which.
 #[cycle(walk)]
 pub fn check_expression(
     context: &Context,
     scope: &Scope,
     tail: bool,
-    lo: u32,
+    first_site: u32,
     wanted: Wanted,
     e: &Expression,
 ) -> Result<Typed, CheckErr>
-    requires able { MayCheckIn context.now scope.now lo (shown_expression e.now) }
+    requires able { MayCheckIn context.now scope.now first_site (shown_expression e.now) }
     requires marked { IsMarked (seen context.now) e.now }
     requires wanted { HasWideWanted wanted }
-    ensures says { Says result (check (seen context.now) (shown_scope scope.now) tail lo (shown_wanted wanted) (shown_expression e.now)) }
+    ensures says { Says result (check (seen context.now) (shown_scope scope.now) tail first_site (shown_wanted wanted) (shown_expression e.now)) }
     ensures slots { IfOk result (λ t. HasSlots (length (shown_scope scope.now)) t.term) }
 {
     let position = Position {
-        first_site: lo,
+        first_site,
         tail,
         wanted,
     };
@@ -265,7 +267,8 @@ fn check_applied(
             settled_operation(place, position.wanted, typed.width, operator, typed.terms)
         }
         Shape::Resizing => {
-            let typed = check_operands(context, scope, position.first_site, None, operands)?;
+            let found = wanted_operands(context.alloc, None, operands)?;
+            let typed = check_all(context, scope, position.first_site, &found, operands)?;
             match result_width(operator, &typed.widths) {
                 Some(width) => settled_operation(
                     place,
@@ -334,36 +337,36 @@ fn check_shift(
     let next = add_sites(first_site, first);
     let any = Wanted::Any;
     let operand = check_expression(context, scope, false, first_site, any, first)?;
-    let shifted = Some(operand.width);
-    let others = check_operands(context, scope, next, shifted, rest)?;
+    let amounts = wanted_operands(context.alloc, Some(operand.width), rest)?;
+    let others = check_all(context, scope, next, &amounts, rest)?;
     put_operand(operand.width, operand.term, others.terms)
 }
 
-// Checks operands in order and finds their widths. But a flexible amount of a shift is checked against the width of
-// what is shifted.
+// Checks expressions in order, each as it is wanted.
 #[cycle(walk)]
-fn check_operands(
+fn check_all(
     context: &Context,
     scope: &Scope,
     first_site: u32,
-    shifted: Option<u8>,
-    operands: &[Expression],
+    wanted: &[Wanted],
+    expressions: &[Expression],
 ) -> Result<TypedAll, CheckErr>
-    requires able { MayWalkAll context.now scope.now first_site operands.now }
-    requires marked { AreMarked (seen context.now) operands.now }
-    requires shifted { HasWideWritten shifted }
-    ensures says { SaysAll result (checked_operands context.now scope.now first_site shifted operands.now) }
+    requires able { MayWalkAll context.now scope.now first_site expressions.now }
+    requires marked { AreMarked (seen context.now) expressions.now }
+    requires wanted { AllByRecursion HasWideWanted wanted.now }
+    ensures says { SaysAll result (checked_all context.now scope.now first_site wanted.now expressions.now) }
     ensures slots { IfOk result (λ t. HaveSlotsAfter scope.now t.terms.items) }
 {
-    let Some((first, rest)) = operands.split_first() else {
+    let Some((first, rest)) = expressions.split_first() else {
+        return Ok(none_typed(context.alloc));
+    };
+    let Some((own, others)) = wanted.split_first() else {
         return Ok(none_typed(context.alloc));
     };
     let next = add_sites(first_site, first);
-    let flexible = is_flexible(first);
-    let wanted = as_operand(shifted, flexible);
-    let operand = check_expression(context, scope, false, first_site, wanted, first)?;
-    let others = check_operands(context, scope, next, shifted, rest)?;
-    put_first(operand, others)
+    let typed = check_expression(context, scope, false, first_site, *own, first)?;
+    let following = check_all(context, scope, next, others, rest)?;
+    put_first(typed, following)
 }
 
 // Checks a call: in tail position alone of a function of the own group, or of a function of an earlier group.
@@ -427,35 +430,8 @@ fn check_counted(
     if !same {
         return Err(wrong_count(place, &head.params, arguments));
     }
-    check_arguments(context, scope, first_site, &head.params, arguments)
-}
-
-// Checks arguments in order, each against the width of its parameter.
-#[cycle(walk)]
-fn check_arguments(
-    context: &Context,
-    scope: &Scope,
-    first_site: u32,
-    params: &[Slot],
-    arguments: &[Expression],
-) -> Result<TypedAll, CheckErr>
-    requires able { MayWalkAll context.now scope.now first_site arguments.now }
-    requires marked { AreMarked (seen context.now) arguments.now }
-    requires params { WideSlots (shown_slots params.now) }
-    ensures says { SaysAll result (checked_arguments context.now scope.now first_site (shown_slots params.now) arguments.now) }
-    ensures slots { IfOk result (λ t. HaveSlotsAfter scope.now t.terms.items) }
-{
-    let Some((first, rest)) = arguments.split_first() else {
-        return Ok(none_typed(context.alloc));
-    };
-    let Some((param, others)) = params.split_first() else {
-        return Ok(none_typed(context.alloc));
-    };
-    let next = add_sites(first_site, first);
-    let wanted = Wanted::Exactly(param.width);
-    let argument = check_expression(context, scope, false, first_site, wanted, first)?;
-    let following = check_arguments(context, scope, next, others, rest)?;
-    put_first(argument, following)
+    let wanted = wanted_arguments(context.alloc, &head.params)?;
+    check_all(context, scope, first_site, &wanted, arguments)
 }
 
 // Whether there are as many arguments as parameters.

@@ -1,6 +1,7 @@
 //! What units and functions get at the edge: ends, starts, loads and clears.
 
 ghost use Rattle.std.specs.Prelude.{◌≡◌, ℕ, suc, ◌+◌, ◌*◌, ◌<◌, ◌≤◌, List, length, map, Option, Some, None, IfOk, OnOk, slice_get};
+ghost use Rattle.safl_word.specs.Limits.{sites_max};
 ghost use Rattle.safl_term.specs.Checked.{IsChecked};
 ghost use Rattle.safl_sites.specs.Plan.{IsPlan};
 ghost use Rattle.safl_net.specs.Names.{IsTidy};
@@ -176,7 +177,7 @@ pub fn function_count(p: &Planned) -> u32
 /// The number of sites.
 pub fn site_count(p: &Planned) -> u32
     ensures count { result ≡ p.now.program.sites }
-    ensures small { result ≤ 4000 }
+    ensures small { result ≤ sites_max }
 {
     program(p).sites()
 }

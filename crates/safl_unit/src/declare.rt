@@ -1,6 +1,7 @@
 //! Declaring the ports, registers and named wires of a circuit.
 
 ghost use Rattle.std.specs.Prelude.{◌≡◌, ◌+◌, ◌*◌, ◌<◌, ◌≤◌, ◌++◌, [], ◌∷◌, map, length, Some, None, false, slice_get, codes, IfOk, OnOk};
+ghost use Rattle.safl_word.specs.Limits.{width_max};
 ghost use Rattle.safl_term.specs.Program.{arity};
 ghost use Rattle.safl_term.specs.Checked.{IsChecked};
 ghost use Rattle.safl_sites.specs.Plan.{IsPlan};
@@ -28,7 +29,7 @@ use std::alloc::Global;
 
 fn add_input(net: &mut Net, name: &str, width: u8) -> Result<Sig, NoMemory>
     requires some { 1 ≤ width }
-    requires most { width ≤ 128 }
+    requires most { width ≤ width_max }
     requires room { HasRoom net.old 1 }
     requires free { refusal net.old name.now ≡ None }
     ensures added { OnOk result (net.new ≡ with_signals net.old (input_line (name.now, width) ∷ [])) }
@@ -44,7 +45,7 @@ fn add_input(net: &mut Net, name: &str, width: u8) -> Result<Sig, NoMemory>
 // Adds a register that resets to 0.
 fn add_register(net: &mut Net, name: &str, width: u8) -> Result<Sig, NoMemory>
     requires some { 1 ≤ width }
-    requires most { width ≤ 128 }
+    requires most { width ≤ width_max }
     requires room { HasRoom net.old 1 }
     requires free { refusal net.old name.now ≡ None }
     ensures added { OnOk result (net.new ≡ with_signals net.old (open_register (name.now, width) ∷ [])) }

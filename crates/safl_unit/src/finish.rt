@@ -1,6 +1,7 @@
 //! Setting the next signals of the registers and the cells of the named wires, and adding the outputs.
 
 ghost use Rattle.std.specs.Prelude.{◌≡◌, ℕ, suc, ◌+◌, ◌*◌, ◌<◌, ◌≤◌, ◌++◌, [], ◌∷◌, map, length, Some, None, false, codes, IfOk, OnOk, OnErr};
+ghost use Rattle.safl_word.specs.Limits.{count_max};
 ghost use Rattle.safl_term.specs.Program.{arity};
 ghost use Rattle.safl_net.specs.Netlist.{Reg, Wire};
 ghost use Rattle.safl_net.specs.Making.{with_kind, with_output, refusal};
@@ -251,7 +252,7 @@ fn add_output(net: &mut Net, name: &str, s: Sig) -> Result<(), NoMemory>
     requires tidy { IsTidy net.old }
     requires lasting { is_temp name.now ≡ false }
     requires known { s.0 < length net.old.signals }
-    requires room { length net.old.outputs < 4294967295 }
+    requires room { length net.old.outputs < count_max }
     requires free { refusal net.old name.now ≡ None }
     ensures tidy { IsTidy net.new }
     ensures added { OnOk result (net.new ≡ with_output net.old name.now s.0) }

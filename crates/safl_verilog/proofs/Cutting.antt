@@ -12,7 +12,8 @@ use Rattle.safl_verilog.specs.declared.token.Symbol.{Symbol}
 use Rattle.safl_verilog.specs.declared.token.Symbol.TheVariants as symbols
 use Rattle.safl_verilog.specs.declared.token.TokenKind.{TokenKind}
 use Rattle.safl_verilog.specs.declared.token.TokenKind.TheVariants as kinds
-use Rattle.safl_verilog.specs.Tokens.{keyword_text, symbol_text, name_max, stops, next_base, IsToken, Piece, Blank, Line, Block, Lexeme, text_of, StandsBefore}
+use Rattle.safl_verilog.specs.Tokens.{keyword_text, symbol_text, stops, next_base, IsToken, Piece, Blank, Line, Block, Lexeme, text_of, StandsBefore}
+use Rattle.safl_word.specs.Limits.{net_name_max}
 use Rattle.safl_verilog.specs.Pieces.{run, named, all_keywords, single_symbols, double_symbols, word_kind, first_word, sized_length, first_number}
 use Rattle.safl_verilog.specs.Pieces.{one_symbol, two_symbols, first_symbol, block, piece_at, first_piece}
 use Rattle.safl_verilog.proofs.Runs.{other_than, run_of, are_parts-all, named_none}
@@ -22,10 +23,10 @@ use Rattle.safl_verilog.proofs.Symbols.{keyword_named, keyword_like, keyword_sho
 
 -- ---- words
 
-short_enough : (n : ℕ) → n ≤ name_max → nat_le n name_max ≡ true
+short_enough : (n : ℕ) → n ≤ net_name_max → nat_le n net_name_max ≡ true
 short_enough n h = grind (arith, nat_tests)
 
-word_cut : (w rest : List ℕ) (o : Option Keyword) → is_identifier w ≡ true → length w ≤ name_max → stops is_part rest ≡ true → named keyword_text
+word_cut : (w rest : List ℕ) (o : Option Keyword) → is_identifier w ≡ true → length w ≤ net_name_max → stops is_part rest ≡ true → named keyword_text
     all_keywords w ≡ o → first_piece (w ++ rest) ≡ Some (Lexeme (word_kind o) w)
 unfolding first_piece
 word_cut [] rest o like short stop e = absurd cc

@@ -11,7 +11,8 @@ use Rattle.safl_verilog.specs.declared.token.Keyword.{Keyword}
 use Rattle.safl_verilog.specs.declared.token.Symbol.{Symbol}
 use Rattle.safl_verilog.specs.declared.token.TokenKind.{TokenKind}
 use Rattle.safl_verilog.specs.declared.token.TokenKind.TheVariants as kinds
-use Rattle.safl_verilog.specs.Tokens.{keyword_text, symbol_text, name_max, stops, next_base, base_with, IsToken, Piece, Blank, Line, Block, Lexeme, text_of, StandsBefore}
+use Rattle.safl_verilog.specs.Tokens.{keyword_text, symbol_text, stops, next_base, base_with, IsToken, Piece, Blank, Line, Block, Lexeme, text_of, StandsBefore}
+use Rattle.safl_word.specs.Limits.{net_name_max}
 use Rattle.safl_verilog.specs.Pieces.{run, named, all_keywords, single_symbols, double_symbols, word_kind, first_bytes, first_word, sized_length}
 use Rattle.safl_verilog.specs.Pieces.{first_number, one_symbol, two_symbols, first_symbol, closing, block, first_comment, first_piece}
 use Rattle.safl_verilog.proofs.Runs.{chosen, some_is, run_le, run_all, run_stops, are_parts-all, named_has}
@@ -39,7 +40,7 @@ word_like c w h = rw (start_part c h, h, are_parts-all (take (run is_part w) w),
 pub no_keyword : (w : List ℕ) → named keyword_text all_keywords w ≡ None → (k : Keyword) → w ≢ keyword_text k
 no_keyword w e k h = let f = ap (named keyword_text all_keywords) h ∙ keyword_named k in let g : None ≡ Some k = sym e ∙ f in cc
 
-pub word_kinds : (w rest : List ℕ) → is_identifier w ≡ true → length w ≤ name_max → stops is_part rest ≡ true → (o : Option Keyword) → named
+pub word_kinds : (w rest : List ℕ) → is_identifier w ≡ true → length w ≤ net_name_max → stops is_part rest ≡ true → (o : Option Keyword) → named
     keyword_text all_keywords w ≡ o → IsToken (word_kind o) w rest
 word_kinds w rest like short stop None e = (record { like = like; short = short; free = no_keyword w e }, stop)
 word_kinds w rest like short stop (Some k) e = (named_has keyword_text all_keywords w k e, stop)
@@ -47,10 +48,10 @@ word_kinds w rest like short stop (Some k) e = (named_has keyword_text all_keywo
 word_found : (c : ℕ) (w : List ℕ) (x : Piece) → is_start c ≡ true → first_word (run is_part (c ∷ w)) (c ∷ w) ≡ Some x → Cut (c ∷ w) x
 word_found c w x h e =
     let n = run is_part (c ∷ w) in
-    elim (chosen (nat_le n name_max) (first_bytes (word_kind (named keyword_text all_keywords (take n (c ∷ w)))) n (c ∷ w)) None (Some x) e) [
+    elim (chosen (nat_le n net_name_max) (first_bytes (word_kind (named keyword_text all_keywords (take n (c ∷ w)))) n (c ∷ w)) None (Some x) e) [
       | inl a ↦ (
-          let size : n ≤ name_max = grind (arith, nat_tests, a.0) in
-          let short : length (take n (c ∷ w)) ≤ name_max = omega (arith, length-take-le n (c ∷ w) (run_le is_part (c ∷ w))) in
+          let size : n ≤ net_name_max = grind (arith, nat_tests, a.0) in
+          let short : length (take n (c ∷ w)) ≤ net_name_max = omega (arith, length-take-le n (c ∷ w) (run_le is_part (c ∷ w))) in
           let t = word_kinds (take n (c ∷ w)) (drop n (c ∷ w)) (word_like c w h) short (run_stops is_part (c ∷ w)) (named keyword_text all_keywords (take n (c ∷ w))) refl in
           cut_as (c ∷ w) _ _ x (of_first (c ∷ w) n (word_kind (named keyword_text all_keywords (take n (c ∷ w)))) t) refl a.1)
       | inr a ↦ absurd (let f : None ≡ Some x = a.1 in cc)

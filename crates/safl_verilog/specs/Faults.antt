@@ -2,9 +2,9 @@
 use Rattle.std.specs.Prelude.{ℕ, ◌+◌, ◌^◌, List, [], ◌∷◌, ◌++◌, map, drop, length, Option, None, Some, Bool, true, false, not, ◌==◌, ◌&&◌, ◌||◌, nat_lt, nat_le, unwrap_or, if◌then◌else◌, codes}
 use Rattle.std.specs.List.{flat_map}
 use Rattle.std.proofs.Common.{bytes_eq}
-use Rattle.safl_word.specs.Words.{max_width}
+use Rattle.safl_word.specs.Limits.{width_max, digits_max, value_bound}
 use Rattle.safl_word.specs.Numerals.{value}
-use Rattle.safl_word.specs.Tokens.{base_of, digits_max, value_bound}
+use Rattle.safl_word.specs.Tokens.{base_of}
 use Rattle.safl_word.specs.declared.primitive.Primitive.TheVariants as prims
 use Rattle.safl_net.specs.declared.cell.Op.{Op}
 use Rattle.safl_net.specs.declared.cell.Op.TheVariants as ops
@@ -51,7 +51,7 @@ literal_value w = value (base_at (behind_quote w)) (drop 1 (behind_quote w))
 
 -- the width is from 1 to the greatest, and the value fits it
 abbrev pub is_word : ℕ → ℕ → Bool
-is_word width bits = nat_le 1 width && nat_le width max_width && nat_lt bits (2 ^ width)
+is_word width bits = nat_le 1 width && nat_le width width_max && nat_lt bits (2 ^ width)
 
 abbrev pub is_literal : List ℕ → Bool
 is_literal w =
@@ -65,7 +65,7 @@ literal_faults l = where_not (is_literal l.bytes) (at rules.V06 l.place)
 
 -- a range goes from n down to 0, and n is below the greatest width
 abbrev pub is_range : Spot → Spot → Bool
-is_range high low = nat_lt (value 10 high.bytes) max_width && (value 10 low.bytes == 0)
+is_range high low = nat_lt (value 10 high.bytes) width_max && (value 10 low.bytes == 0)
 
 abbrev pub range_faults : Option (Spot × Spot) → List VFault
 range_faults None = []

@@ -10,7 +10,8 @@ use Rattle.safl_verilog.specs.declared.token.Symbol.{Symbol}
 use Rattle.safl_verilog.specs.declared.token.Symbol.TheVariants as symbols
 use Rattle.safl_verilog.specs.declared.token.TokenKind.{TokenKind}
 use Rattle.safl_verilog.specs.declared.token.TokenKind.TheVariants as kinds
-use Rattle.safl_verilog.specs.Tokens.{keyword_text, symbol_text, name_max, next_base, Piece, Blank, Line, Block, Lexeme}
+use Rattle.safl_verilog.specs.Tokens.{keyword_text, symbol_text, next_base, Piece, Blank, Line, Block, Lexeme}
+use Rattle.safl_word.specs.Limits.{net_name_max}
 
 -- how many bytes, from the first on, pass the test
 abbrev pub run : (ℕ → Bool) → List ℕ → ℕ
@@ -48,7 +49,7 @@ abbrev pub first_bytes : TokenKind → ℕ → List ℕ → Option Piece
 first_bytes kind n w = Some (Lexeme kind (take n w))
 
 abbrev pub first_word : ℕ → List ℕ → Option Piece
-first_word n w = if nat_le n name_max then first_bytes (word_kind (named keyword_text all_keywords (take n w))) n w else None
+first_word n w = if nat_le n net_name_max then first_bytes (word_kind (named keyword_text all_keywords (take n w))) n w else None
 
 -- ---- a number, or a sized number
 

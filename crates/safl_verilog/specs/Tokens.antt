@@ -3,6 +3,7 @@ use Rattle.std.specs.Prelude.{◌≡◌, ◌≢◌, ℕ, ◌+◌, ◌≤◌, Lis
 use Rattle.std.specs.List.{list_all}
 use Rattle.safl_word.specs.Numerals.{is_digit, IsNumeral}
 use Rattle.safl_word.specs.Tokens.{is_blank, base_of, SizedParts, sized_text, IsSizedLike}
+use Rattle.safl_word.specs.Limits.{net_name_max}
 use Rattle.safl_net.specs.Names.{is_part, is_identifier}
 use Rattle.safl_verilog.specs.declared.token.Keyword.{Keyword}
 use Rattle.safl_verilog.specs.declared.token.Keyword.TheVariants as keywords
@@ -53,10 +54,6 @@ symbol_text symbols.GreaterEqual = codes ">="
 symbol_text symbols.ShiftLeft = codes "<<"
 symbol_text symbols.ShiftRight = codes ">>"
 
--- the greatest length of an identifier in bytes
-abbrev pub name_max : ℕ
-name_max = 200
-
 -- the next byte, if there is one, does not pass the test
 abbrev pub stops : (ℕ → Bool) → List ℕ → Bool
 stops p [] = true
@@ -76,7 +73,7 @@ next_base (q ∷ (b ∷ (d ∷ rest))) = if q == 39 then base_with (base_of b) d
 -- a letter or `_`, and then letters, digits, `_` and `$`; short enough, and no keyword
 pub record IsIdentifier (w : List ℕ) : Type 0 where
   pub like : is_identifier w ≡ true
-  pub short : length w ≤ name_max
+  pub short : length w ≤ net_name_max
   pub free : (k : Keyword) → w ≢ keyword_text k
 
 -- a decimal numeral, `'`, the letter of a base and a numeral of that base, which no further digit of the base follows

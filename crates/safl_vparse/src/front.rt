@@ -11,9 +11,7 @@ ghost use Rattle.safl_vparse.specs.Fronts.{measured};
 use crate::symbols::{keyword_of, lone_symbol, symbol_pair};
 use safl_verilog::TokenKind;
 use safl_word::bytes::{base_of, digits_length, is_blank, is_digit, line_length};
-
-// The greatest length of an identifier in bytes.
-const NAME_MAX: usize = 200;
+use safl_word::limits::NET_NAME_MAX;
 
 /// What a text begins with: a blank or a comment of so many bytes, a token and its length in bytes, or something that
 /// is neither.
@@ -52,7 +50,7 @@ fn word(text: &[u8]) -> Front
     ensures { result ≡ measured (first_word (run is_part text.now) text.now) }
 {
     let n = part_length(text);
-    if n <= NAME_MAX {
+    if n <= NET_NAME_MAX {
         Front::Found(word_kind(&text[..n]), n)
     } else {
         Front::Stuck

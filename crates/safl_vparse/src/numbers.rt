@@ -1,14 +1,14 @@
 //! Numbers, ranges and literals: the rules on their digits and values.
 
 ghost use Rattle.std.specs.Prelude.{◌≡◌, ◌↔◌, ◌+◌, ◌*◌, ◌^◌, ◌<◌, ◌≤◌, ◌==◌, not, drop, IsSome, IfSome};
-ghost use Rattle.safl_word.specs.declared.word.TheConstants.{WIDTH_MAX};
+ghost use Rattle.safl_word.specs.Limits.{width_max};
 ghost use Rattle.safl_word.specs.Numerals.{digit};
 ghost use Rattle.safl_verilog.specs.Faults.{base_at, before_quote, behind_quote};
 ghost use Rattle.safl_vparse.specs.Numbers.{bounded_value, literal_word};
 ghost use Rattle.safl_word.specs.Runs.{IsRun};
 
 use safl_word::bytes::digit;
-use safl_word::word::{DIGITS_MAX, WIDTH_MAX};
+use safl_word::limits::{DIGITS_MAX, WIDTH_MAX};
 use safl_word::{Raw, Word};
 
 /// The number that some digits spell. None exactly if there are more than `DIGITS_MAX`, or the number is not below
@@ -29,7 +29,7 @@ pub fn bounded(base: u8, bytes: &[u8]) -> Option<Raw>
 
 // The number with one more digit.
 fn followed(base: u8, number: Raw, c: u8) -> Option<Raw>
-    ensures some { IsSome result ↔ (number * base + digit c < 2 ^ WIDTH_MAX) }
+    ensures some { IsSome result ↔ (number * base + digit c < 2 ^ width_max) }
     ensures value { IfSome result (λ n. n ≡ number * base + digit c) }
 {
     number

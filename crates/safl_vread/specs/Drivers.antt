@@ -3,6 +3,7 @@ use Rattle.std.specs.Prelude.{◌≡◌, ℕ, List, [], ◌∷◌, ◌++◌, ◌
 use Rattle.std.proofs.Common.{bytes_eq}
 use Rattle.safl_word.specs.Words.{Word}
 use Rattle.safl_word.specs.Numerals.{value}
+use Rattle.safl_word.specs.Limits.{width_max}
 use Rattle.safl_word.specs.declared.primitive.Primitive.TheVariants as prims
 use Rattle.safl_net.specs.declared.cell.Op.{Op}
 use Rattle.safl_net.specs.declared.cell.Op.TheVariants as ops
@@ -41,7 +42,7 @@ bits_between high low = ops.Apply (prims.Bits (value 10 high.bytes) (value 10 lo
 
 -- no widths of operands fit the operation
 abbrev pub HasNoWidth : Op → Type 0
-HasNoWidth op = (ws : List ℕ) → All (λ w. w ≤ 128) ws → op_width op ws ≡ None
+HasNoWidth op = (ws : List ℕ) → All (λ w. w ≤ width_max) ws → op_width op ws ≡ None
 
 abbrev pub is_open : Driver → Bool
 is_open driver.Open = true

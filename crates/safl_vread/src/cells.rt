@@ -3,6 +3,7 @@
 ghost use Rattle.std.specs.Prelude.{◌≡◌, [], ◌≤◌, ◌<◌, slice_index, length, ◌∷◌, All, IfOk, IfSome, IfNone, Some, None, unwrap_or, map};
 ghost use Rattle.std.specs.List.{flat_map};
 ghost use Rattle.safl_word.specs.Numerals.{value};
+ghost use Rattle.safl_word.specs.Limits.{width_max};
 ghost use Rattle.safl_net.specs.Widths.{op_width};
 ghost use Rattle.safl_verilog.specs.declared.fault.VRule.TheVariants as rules;
 ghost use Rattle.safl_verilog.specs.Faults.{at, is_signal, number_faults, expression_number_faults, unfit_faults, operation, operands, expression_width};
@@ -17,7 +18,8 @@ use safl_net::{Op, op_width};
 use safl_verilog::{VFault, VRule};
 use safl_vparse::numbers::{bounded, literal};
 use safl_vparse::{Expression, Span};
-use safl_word::Primitive;
+use safl_word::limits::WIDTH_MAX;
+use safl_word::{Primitive, Raw};
 
 /// The signal of a name. V04 if there is none.
 pub fn signal(scope: &Scope, name: Span) -> Result<Item, VFault>
@@ -115,10 +117,10 @@ fn slice_of(text: &[u8], high: Span, low: Span) -> Option<Op>
 fn index_of(text: &[u8], number: Span) -> Option<u8>
     requires { number_faults (shown_spot text.now number) ≡ [] }
     ensures some { IfSome result (λ n. n ≡ value 10 (shown_spot text.now number).bytes) }
-    ensures none { IfNone result (128 ≤ value 10 (shown_spot text.now number).bytes) }
+    ensures none { IfNone result (width_max ≤ value 10 (shown_spot text.now number).bytes) }
 {
     match bounded(10, bytes_of(text, number)) {
-        Some(n) if n < 128 => Some(n as u8),
+        Some(n) if n < Raw::from(WIDTH_MAX) => Some(n as u8),
         Some(_) => None,
         None => unreachable!(),
     }

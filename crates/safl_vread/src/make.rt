@@ -1,6 +1,7 @@
 //! Making the net of what a file declares and drives.
 
 ghost use Rattle.std.specs.Prelude.{◌≡◌, ℕ, ◌<◌, ◌≤◌, List, [], ◌∷◌, map, length, All, Some, None, true, false, slice_index, IfOk, OnOk};
+ghost use Rattle.safl_word.specs.Limits.{count_max, width_max};
 ghost use Rattle.safl_net.specs.Names.{is_good, has_name};
 ghost use Rattle.safl_net.specs.Netlist.{Wire, Reg, width_of};
 ghost use Rattle.safl_net.specs.Making.{with_signal, with_kind, kind_at};
@@ -30,7 +31,7 @@ pub fn net_of(alloc: Global, scope: &Scope, drivers: &[Driver]) -> Result<Net, A
     requires suit { AllSuit (declared_in scope.now) drivers.now }
     requires names { GoodNames (declared_in scope.now) }
     requires some { 0 < length (signals_of (declared_in scope.now)) }
-    requires few { length scope.now.declarations.now < 4294967295 }
+    requires few { length scope.now.declarations.now < count_max }
     ensures { IfOk result (λ net. (f : File) → f.declarations ≡ declared_in scope.now → HasDrivers f.declarations f.statements drivers.now → net ≡ netlist f) }
 {
     let order = order_of(alloc, scope)?;
@@ -53,7 +54,7 @@ fn declare(
     requires fit { AllFit (declared_in scope.now) drivers.now }
     requires order { IsOrder (declared_in scope.now) order.now }
     requires names { GoodNames (declared_in scope.now) }
-    requires few { length order.now < 4294967295 }
+    requires few { length order.now < count_max }
     requires empty { net.old ≡ record { signals = []; outputs = [] } }
     ensures { OnOk result ((ns : List ℕ) →
         net.new ≡ record { signals = map opened (signals_at (declared_in scope.now) drivers.now ns order.now); outputs = [] }) }
@@ -75,11 +76,11 @@ fn declare_one(
     driver: &Driver,
 ) -> Result<(), AllocError>
     requires width { width ≡ range_width (shown_declaration text.now d.now).range }
-    requires most { width ≤ 128 }
+    requires most { width ≤ width_max }
     requires fits { (n : ℕ) × Fits n d.now.sort width driver.now }
     requires good { is_good (shown_declaration text.now d.now).name.bytes ≡ true }
     requires new { has_name net.old (shown_declaration text.now d.now).name.bytes ≡ false }
-    requires room { length net.old.signals < 4294967295 }
+    requires room { length net.old.signals < count_max }
     ensures { OnOk result ((ns : List ℕ) → net.new ≡ with_signal net.old (opened (signal_with ns (shown_declaration text.now d.now) driver.now))) }
 {
     let Ok(name) = std::str::from_utf8(bytes_of(text, d.name)) else {
@@ -104,7 +105,7 @@ fn connect(net: &mut Net, scope: &Scope, drivers: &[Driver], order: &[usize], nu
     requires fit { AllFit (declared_in scope.now) drivers.now }
     requires suit { AllSuit (declared_in scope.now) drivers.now }
     requires order { IsOrder (declared_in scope.now) order.now }
-    requires few { length order.now < 4294967295 }
+    requires few { length order.now < count_max }
     requires numbers { AreNumbers (declared_in scope.now) order.now numbers.now }
     requires opened { net.old.signals ≡ map opened (signals_at (declared_in scope.now) drivers.now numbers.now order.now) }
     ensures { net.new ≡ record { signals = signals_at (declared_in scope.now) drivers.now numbers.now order.now; outputs = net.old.outputs } }
@@ -171,7 +172,7 @@ fn set_cell(net: &mut Net, s: Sig, op: Op, operands: Operands, numbers: &[u32])
 fn show(net: &mut Net, scope: &Scope, drivers: &[Driver], numbers: &[u32]) -> Result<(), AllocError>
     requires full { length drivers.now ≡ length scope.now.declarations.now }
     requires fit { AllFit (declared_in scope.now) drivers.now }
-    requires few { length scope.now.declarations.now < 4294967295 }
+    requires few { length scope.now.declarations.now < count_max }
     requires numbers { length numbers.now ≡ length scope.now.declarations.now }
     requires known { (p : ℕ) → slice_index numbers.now p < length net.old.signals }
     requires names { GoodNames (declared_in scope.now) }
@@ -197,7 +198,7 @@ fn show_one(
     requires known { (p : ℕ) → slice_index numbers.now p < length net.old.signals }
     requires good { is_output d.now.sort ≡ true → is_good (shown_declaration text.now d.now).name.bytes ≡ true }
     requires new { is_output d.now.sort ≡ true → has_name net.old (shown_declaration text.now d.now).name.bytes ≡ false }
-    requires room { length net.old.outputs < 4294967295 }
+    requires room { length net.old.outputs < count_max }
     ensures { OnOk result (net.new ≡ with_outputs net.old (output_with numbers.now (shown_declaration text.now d.now) driver.now)) }
 {
     match (d.sort, driver) {
@@ -213,7 +214,7 @@ fn add_output(net: &mut Net, name: &[u8], s: Sig) -> Result<(), AllocError>
     requires known { s.0 < length net.old.signals }
     requires good { is_good name.now ≡ true }
     requires new { has_name net.old name.now ≡ false }
-    requires room { length net.old.outputs < 4294967295 }
+    requires room { length net.old.outputs < count_max }
     ensures { OnOk result (net.new ≡ with_outputs net.old ((name.now, s.0) ∷ [])) }
 {
     let Ok(name) = std::str::from_utf8(name) else {

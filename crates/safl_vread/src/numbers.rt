@@ -12,7 +12,9 @@ use crate::spans::{bytes_of, fault_at};
 use safl_verilog::{VFault, VRule};
 use safl_vparse::numbers::{bounded, literal};
 use safl_vparse::{Declaration, Expression, Range, Span, Statement};
+use safl_word::Raw;
 use safl_word::bytes::digit;
+use safl_word::limits::WIDTH_MAX;
 
 /// The first fault in the numbers of declarations and statements.
 pub fn number_fault(
@@ -62,7 +64,7 @@ fn range_fault(text: &[u8], range: Option<Range>) -> Option<VFault>
     };
     match bounded(10, bytes_of(text, range.high)) {
         None => Some(fault_at(VRule::V06, range.high.start)),
-        Some(high) if high < 128 && is_zero(bytes_of(text, range.low)) => {
+        Some(high) if high < Raw::from(WIDTH_MAX) && is_zero(bytes_of(text, range.low)) => {
             digits_fault(text, range.low)
         }
         Some(_) => Some(fault_at(VRule::V05, range.high.start)),

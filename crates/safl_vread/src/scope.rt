@@ -2,6 +2,7 @@
 
 ghost use Rattle.std.specs.Prelude.{◌≡◌, ◌≤◌, ℕ, [], IfOk, None, slice_index};
 ghost use Rattle.std.specs.List.{flat_map};
+ghost use Rattle.safl_word.specs.Limits.{width_max};
 ghost use Rattle.safl_verilog.specs.Faults.{declared_number_faults, range_faults, range_width, is_signal, repeat_faults, declared_names};
 ghost use Rattle.safl_vparse.specs.Shown.{shown_declarations, shown_range};
 ghost use Rattle.safl_vread.specs.Lists.{names_of, widths_of};
@@ -11,6 +12,8 @@ use crate::spans::bytes_of;
 use safl_verilog::Sort;
 use safl_vparse::numbers::bounded;
 use safl_vparse::{Declaration, Range};
+use safl_word::Raw;
+use safl_word::limits::WIDTH_MAX;
 use std::alloc::{AllocError, Global};
 
 /// The declaration of a name: its place, its sort, its width in bits, and whether it is that of a signal: a register, a
@@ -33,7 +36,7 @@ pub struct Scope<'t> {
     ghost named: { names ≡ names_of (shown_declarations text.now declarations.now) },
     ghost apart: { repeat_faults [] (declared_names (shown_declarations text.now declarations.now)) ≡ [] },
     ghost measured: { widths.items ≡ widths_of (shown_declarations text.now declarations.now) },
-    ghost small: { (k : ℕ) → slice_index widths.items k ≤ 128 },
+    ghost small: { (k : ℕ) → slice_index widths.items k ≤ width_max },
 }
 
 impl<'t> Scope<'t> {
@@ -105,7 +108,7 @@ fn width_of(text: &[u8], range: Option<Range>) -> u8
         return 1;
     };
     match bounded(10, bytes_of(text, range.high)) {
-        Some(high) if high < 128 => high as u8 + 1,
+        Some(high) if high < Raw::from(WIDTH_MAX) => high as u8 + 1,
         _ => unreachable!(),
     }
 }

@@ -4,7 +4,8 @@ use Rattle.std.proofs.lemmas.Nat.{and_le_l, or_lt, xor_lt, pow_pos, pow-add}
 use Rattle.std.proofs.lemmas.Bool.{leb-true, ltb-true, eqb-true, and_parts}
 use Rattle.std.proofs.Math.Nat.{mod-lt, div-le_self, mul-le-mul_right}
 use Rattle.std.proofs.Math.Pow.{pow_mono}
-use Rattle.safl_word.specs.Words.{Word, IsWord, max_width}
+use Rattle.safl_word.specs.Words.{Word, IsWord}
+use Rattle.safl_word.specs.Limits.{width_max}
 use Rattle.safl_word.specs.declared.primitive.Primitive.{Primitive}
 use Rattle.safl_word.specs.declared.primitive.Primitive.TheVariants.{Add, Sub, Mul, And, Or, Xor, Not, Eq, Ne, Lt, Le, Gt, Ge, Shl, Shr, Cat, Bits, Ext}
 use Rattle.safl_word.specs.Primitives.{one_width, two_widths, where_true, result_width, one_word, two_words, bit_of, apply_prim}
@@ -81,7 +82,7 @@ apply_fits Cat vs n w e =
     two_fits _ _ vs n
     (λ a b wa wb h. record {
       some = omega (arith, wa.some);
-      bounded = leb-true (a.width + b.width) max_width (where_is _ _ n h);
+      bounded = leb-true (a.width + b.width) width_max (where_is _ _ n h);
       fits = joined a.bits b.bits a.width b.width wa.fits wb.fits;
     })
     w e
@@ -96,6 +97,6 @@ apply_fits (Ext m) vs n w e =
     one_fits _ _ vs n
     (λ a wa h.
     let le = leb-true a.width m (and_parts _ _ (where_is _ _ n h)).0 in
-    let top = leb-true m max_width (and_parts _ _ (where_is _ _ n h)).1 in
+    let top = leb-true m width_max (and_parts _ _ (where_is _ _ n h)).1 in
     record { some = omega (arith, wa.some, le); bounded = top; fits = omega (arith, wa.fits, pow_mono le) })
     w e

@@ -1,7 +1,8 @@
 -- A primitive's result has the width of the table.
 use Rattle.std.proofs.Common.{◌≡◌, ℕ, ◌≤◌, List, [], ◌∷◌, map, Option, Some, None, Bool, true, false, cond, refl}
 use Rattle.std.proofs.lemmas.Bool.{le-leb}
-use Rattle.safl_word.specs.Words.{Word, max_width}
+use Rattle.safl_word.specs.Words.{Word}
+use Rattle.safl_word.specs.Limits.{width_max}
 use Rattle.safl_word.specs.declared.primitive.Primitive.{Primitive}
 use Rattle.safl_word.specs.declared.primitive.Primitive.TheVariants.{Add, Sub, Mul, And, Or, Xor, Not, Eq, Ne, Lt, Le, Gt, Ge, Shl, Shr, Cat, Bits, Ext}
 use Rattle.safl_word.specs.Primitives.{is_width, one_width, two_widths, where_true, result_width, one_word, two_words, apply_prim}
@@ -20,8 +21,8 @@ where_is true m n e = (refl, some_is m n e)
 where_is false m n e = none_some n e
 
 -- a width of a word passes the table's test
-pub within : (w : ℕ) → 1 ≤ w → w ≤ max_width → is_width w ≡ true
-within w some most = rw (le-leb 1 w some, le-leb w max_width most) refl
+pub within : (w : ℕ) → 1 ≤ w → w ≤ width_max → is_width w ≡ true
+within w some most = rw (le-leb 1 w some, le-leb w width_max most) refl
 
 -- what is there under a test is there
 pub only_where : (b : Bool) (o : Option ℕ) (n : ℕ) → cond b o None ≡ Some n → o ≡ Some n

@@ -5,6 +5,7 @@ use Rattle.safl_word.specs.declared.primitive.Primitive.{Primitive}
 use Rattle.safl_word.specs.declared.primitive.Primitive.TheVariants.{Cat, Bits, Ext, Shl, Shr}
 use Rattle.safl_word.specs.Numerals.{IsBounded, value}
 use Rattle.safl_word.specs.Primitives.{result_width, apply_prim}
+use Rattle.safl_word.specs.Limits.{argument_max, value_bound}
 
 -- if the table of widths has a width, the result is a word of that width
 abbrev pub GivesWords : Type 0
@@ -30,4 +31,4 @@ ExtensionKeeps = (a : Word) (n : ℕ) → (apply_prim (Ext n) (a ∷ [])).bits �
 
 -- the decimal digits of a number are a numeral of at most 39 digits that spells that number
 abbrev pub DecimalCounts : Type 0
-DecimalCounts = (n : ℕ) → n < 2 ^ 128 → IsBounded 10 39 (2 ^ 128) (decimal n) × (value 10 (decimal n) ≡ n)
+DecimalCounts = (n : ℕ) → n < value_bound → IsBounded 10 argument_max value_bound (decimal n) × (value 10 (decimal n) ≡ n)

@@ -1,12 +1,13 @@
 -- The primitives: which widths their operands have, and what their results are.
 use Rattle.std.specs.Prelude.{ℕ, ◌+◌, ◌-◌, ◌*◌, ◌/◌, ◌%◌, ◌^◌, List, [], ◌∷◌, Option, Some, None, Bool, cond, not, ◌==◌, ◌&&◌, nat_lt, nat_le, bit_and, bit_or, bit_xor}
-use Rattle.safl_word.specs.Words.{Word, max_width, no_word}
+use Rattle.safl_word.specs.Words.{Word, no_word}
+use Rattle.safl_word.specs.Limits.{width_max}
 use Rattle.safl_word.specs.declared.primitive.Primitive.{Primitive}
 use Rattle.safl_word.specs.declared.primitive.Primitive.TheVariants.{Add, Sub, Mul, And, Or, Xor, Not, Eq, Ne, Lt, Le, Gt, Ge, Shl, Shr, Cat, Bits, Ext}
 
 -- whether a width is from 1 to the greatest
 abbrev pub is_width : ℕ → Bool
-is_width w = nat_le 1 w && nat_le w max_width
+is_width w = nat_le 1 w && nat_le w width_max
 
 -- the width of the result for operands of these widths, if the primitive takes them. Each is the width of a word
 abbrev pub one_width : (ℕ → Option ℕ) → List ℕ → Option ℕ
@@ -45,9 +46,9 @@ result_width Gt ws = compared_widths ws
 result_width Ge ws = compared_widths ws
 result_width Shl ws = two_widths (λ w v. Some w) ws
 result_width Shr ws = two_widths (λ w v. Some w) ws
-result_width Cat ws = two_widths (λ u v. where_true (nat_le (u + v) max_width) (u + v)) ws
+result_width Cat ws = two_widths (λ u v. where_true (nat_le (u + v) width_max) (u + v)) ws
 result_width (Bits high low) ws = one_width (λ w. where_true (nat_le low high && nat_lt high w) (high - low + 1)) ws
-result_width (Ext n) ws = one_width (λ w. where_true (nat_le w n && nat_le n max_width) n) ws
+result_width (Ext n) ws = one_width (λ w. where_true (nat_le w n && nat_le n width_max) n) ws
 
 -- the result for one operand; and for two
 abbrev pub one_word : (Word → Word) → List Word → Word

@@ -4,6 +4,7 @@ use Rattle.safl_word.specs.Tokens.{is_blank, IsToken, HasTokens}
 use Rattle.safl_word.specs.declared.token.TokenKind.{TokenKind}
 use Rattle.safl_word.specs.declared.token.TokenKind.TheVariants as kinds
 use Rattle.safl_word.specs.declared.token.Token.{Token}
+use Rattle.safl_word.specs.Limits.{value_bound}
 
 -- the kind and the text of a token, and the blank after it
 pub record Spaced : Type 0 where
@@ -35,7 +36,7 @@ SpacedReads = (xs : List Spaced) → AreSpaced xs → HasTokens (spaced_text xs)
 -- the decimal digits of a number read as its token; and those of a width, `'d` and those of a value as the token of a sized
 -- number
 abbrev pub WritesNumbers : Type 0
-WritesNumbers = (n : ℕ) → n < 2 ^ 128 → IsToken (kinds.Num n) (decimal n)
+WritesNumbers = (n : ℕ) → n < value_bound → IsToken (kinds.Num n) (decimal n)
 
 abbrev pub WritesSizes : Type 0
-WritesSizes = (m n : ℕ) → m < 2 ^ 128 → n < 2 ^ 128 → IsToken (kinds.Sized m n) (decimal m ++ codes "'d" ++ decimal n)
+WritesSizes = (m n : ℕ) → m < value_bound → n < value_bound → IsToken (kinds.Sized m n) (decimal m ++ codes "'d" ++ decimal n)

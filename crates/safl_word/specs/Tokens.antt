@@ -10,6 +10,7 @@ use Rattle.safl_word.specs.declared.token.TokenKind.{TokenKind}
 use Rattle.safl_word.specs.declared.token.TokenKind.TheVariants as kinds
 use Rattle.safl_word.specs.declared.token.Token.{Token}
 use Rattle.safl_word.specs.declared.fault.Rule.{Rule}
+use Rattle.safl_word.specs.Limits.{name_max, digits_max, value_bound}
 use Rattle.safl_word.specs.declared.fault.Rule.TheVariants as rules
 
 abbrev pub key_text : Key → List ℕ
@@ -68,16 +69,6 @@ in_name c = begins_name c || between 48 57 c
 abbrev pub IsNameLike : List ℕ → Type 0
 IsNameLike [] = ⊥
 IsNameLike (c ∷ w) = (begins_name c ≡ true) × (list_all in_name w ≡ true)
-
--- the greatest length of a name in bytes; the greatest number of digits of a number, and a bound of its value
-abbrev pub name_max : ℕ
-name_max = 64
-
-abbrev pub digits_max : ℕ
-digits_max = 128
-
-abbrev pub value_bound : ℕ
-value_bound = 2 ^ 128
 
 -- the base that a letter stands for: `d` for ten, `h` for sixteen, `b` for two
 abbrev pub base_of : ℕ → Option ℕ

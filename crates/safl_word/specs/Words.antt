@@ -1,18 +1,15 @@
 -- Words: a width, and a number below 2 to that width.
 use Rattle.std.specs.Prelude.{ℕ, zero, suc, ◌≤◌, ◌<◌, ◌^◌, List, [], ◌∷◌, get_or}
+use Rattle.safl_word.specs.Limits.{width_max}
 
 pub record Word : Type 0 where
   pub width : ℕ
   pub bits : ℕ
 
--- the greatest width
-abbrev pub max_width : ℕ
-max_width = 128
-
 -- the width is from 1 to the greatest, and the number fits the width
 pub record IsWord (w : Word) : Type 0 where
   pub some : 1 ≤ w.width
-  pub bounded : w.width ≤ max_width
+  pub bounded : w.width ≤ width_max
   pub fits : w.bits < 2 ^ w.width
 
 abbrev pub AreWords : List Word → Type 0

@@ -1,12 +1,13 @@
 //! Reading and writing numbers.
 
 ghost use Rattle.std.specs.Prelude.{◌≡◌, ◌↔◌, ◌+◌, ◌*◌, ◌/◌, ◌%◌, ◌^◌, ◌<◌, ◌≤◌, [], ◌∷◌, ◌++◌, true, length, take, is_some, IsSome, IfSome, OnOk, OnErr, decimal};
-ghost use Rattle.safl_word.specs.declared.word.TheConstants.{ARGUMENT_MAX, DECIMAL_MAX, WIDTH_MAX};
+ghost use Rattle.safl_word.specs.Limits.{argument_max, decimal_max, width_max};
 ghost use Rattle.safl_word.specs.Numerals.{binary, digit, is_digit, value, IsBounded, IsNumeral};
 
 use crate::bytes::{digit, is_digit};
 use crate::fault::NoMemory;
-use crate::word::{ARGUMENT_MAX, DECIMAL_MAX, Raw};
+use crate::limits::{ARGUMENT_MAX, DECIMAL_MAX};
+use crate::word::Raw;
 use itoa::Buffer;
 
 // A number of at most this many decimal digits is below 2^64.
@@ -16,7 +17,7 @@ const SHORT_MAX: usize = 19;
 /// such numeral, or the number is not below 2^128.
 pub fn numeral(base: u8, most: usize, bytes: &[u8]) -> Option<Raw>
     requires { 1 ≤ base }
-    ensures some { IsSome result ↔ IsBounded base most (2 ^ WIDTH_MAX) bytes.now }
+    ensures some { IsSome result ↔ IsBounded base most (2 ^ width_max) bytes.now }
     ensures value { IfSome result (λ n. n ≡ value base bytes.now) }
 {
     if bytes.is_empty() || bytes.len() > most {
@@ -31,7 +32,7 @@ pub fn numeral(base: u8, most: usize, bytes: &[u8]) -> Option<Raw>
 
 // The number with one more digit.
 fn followed(base: u8, number: Raw, c: u8) -> Option<Raw>
-    ensures some { IsSome result ↔ ((is_digit base c ≡ true) × (number * base + digit c < 2 ^ WIDTH_MAX)) }
+    ensures some { IsSome result ↔ ((is_digit base c ≡ true) × (number * base + digit c < 2 ^ width_max)) }
     ensures value { IfSome result (λ n. n ≡ number * base + digit c) }
 {
     let digit = digit_of(base, c)?;
@@ -50,7 +51,7 @@ fn digit_of(base: u8, c: u8) -> Option<u8>
 
 /// The number of a decimal word. None exactly if the bytes are not 1 to 20 digits of a number below 2^64.
 pub fn decimal(bytes: &[u8]) -> Option<u64>
-    ensures some { IsSome result ↔ IsBounded 10 DECIMAL_MAX (2 ^ 64) bytes.now }
+    ensures some { IsSome result ↔ IsBounded 10 decimal_max (2 ^ 64) bytes.now }
     ensures value { IfSome result (λ n. n ≡ value 10 bytes.now) }
 {
     u64::try_from(numeral(10, DECIMAL_MAX, bytes)?).ok()
@@ -58,7 +59,7 @@ pub fn decimal(bytes: &[u8]) -> Option<u64>
 
 /// The number of an argument. None exactly if the bytes are not 1 to 39 digits of a number below 2^128.
 pub fn argument(bytes: &[u8]) -> Option<Raw>
-    ensures some { IsSome result ↔ IsBounded 10 ARGUMENT_MAX (2 ^ WIDTH_MAX) bytes.now }
+    ensures some { IsSome result ↔ IsBounded 10 argument_max (2 ^ width_max) bytes.now }
     ensures value { IfSome result (λ n. n ≡ value 10 bytes.now) }
 {
     if bytes.is_empty() || bytes.len() > SHORT_MAX {

@@ -1,11 +1,12 @@
 //! The results of the primitives.
 
 ghost use Rattle.std.specs.Prelude.{◌≡◌, ◌+◌, ◌-◌, ◌*◌, ◌/◌, ◌%◌, ◌^◌, ◌<◌, ◌≤◌, [], ◌∷◌, IsSome, map, cond, nat_lt, bit_and, bit_or, bit_xor, true};
-ghost use Rattle.safl_word.specs.Words.{max_width};
+ghost use Rattle.safl_word.specs.Limits.{width_max};
 ghost use Rattle.safl_word.specs.Primitives.{is_width, result_width, apply_prim, bit_of};
 
+use crate::limits::WIDTH_MAX;
 use crate::primitive::Primitive;
-use crate::word::{Raw, WIDTH_MAX, Word, greatest};
+use crate::word::{Raw, Word, greatest};
 
 /// The width of a primitive's result on words of these widths. None exactly if the table of widths has no row for them.
 /// In each row operands and result have widths from 1 to `WIDTH_MAX`.
@@ -184,7 +185,7 @@ fn right_shift(a: Word, b: Word) -> Word
 }
 
 fn concatenation(a: Word, b: Word) -> Word
-    requires { a.width + b.width ≤ max_width }
+    requires { a.width + b.width ≤ width_max }
     ensures { result ≡ record { width = a.width + b.width; bits = a.bits * 2 ^ b.width + b.bits } }
 {
     let bits = a.bits() << b.width() | b.bits();
@@ -202,7 +203,7 @@ fn slice(a: Word, high: u8, low: u8) -> Word
 
 fn extension(a: Word, width: u8) -> Word
     requires wider { a.width ≤ width }
-    requires bounded { width ≤ max_width }
+    requires bounded { width ≤ width_max }
     ensures { result ≡ record { width = width; bits = a.bits } }
 {
     prove!(a.width() >= 1);

@@ -1,27 +1,13 @@
 //! Words of 1 to 128 bits.
 
 ghost use Rattle.std.specs.Prelude.{◌≡◌, ◌^◌, ◌-◌, ◌≤◌};
-ghost use Rattle.safl_word.specs.Words.{max_width};
+ghost use Rattle.safl_word.specs.Limits.{width_max};
 
+use crate::limits::WIDTH_MAX;
 use std::marker::Model;
 
 /// The number that a word has.
 pub type Raw = u128;
-
-/// The greatest width of a word, in bits.
-pub const WIDTH_MAX: u8 = 128;
-
-/// The greatest length of a source in bytes.
-pub const SOURCE_MAX: usize = 1_048_576;
-
-/// The greatest number of digits of a number in a source.
-pub const DIGITS_MAX: usize = 128;
-
-/// The greatest number of digits of a decimal number below 2^64.
-pub const DECIMAL_MAX: usize = 20;
-
-/// The greatest number of digits of an argument, which is a decimal number below 2^128.
-pub const ARGUMENT_MAX: usize = 39;
 
 // 2^64.
 const RADIX: Raw = 0x1_0000_0000_0000_0000;
@@ -50,7 +36,8 @@ impl Model for Word {
 
 impl Word {
     ghost use Rattle.std.specs.Prelude.{◌≡◌, ◌↔◌, ◌^◌, ◌%◌, ◌≤◌, IsSome, IfSome};
-    ghost use Rattle.safl_word.specs.Words.{IsWord, max_width};
+    ghost use Rattle.safl_word.specs.Words.{IsWord};
+    ghost use Rattle.safl_word.specs.Limits.{width_max};
 
     /// The word with this width and number. None if there is no such word.
     pub fn new(width: u8, bits: Raw) -> Option<Word>
@@ -97,7 +84,7 @@ impl Word {
     /// The word of this width, from 1 to `WIDTH_MAX`, whose number is the remainder of `number` modulo 2 to the width.
     pub fn from_low_bits(width: u8, number: Raw) -> Word
         requires some { 1 ≤ width }
-        requires bounded { width ≤ max_width }
+        requires bounded { width ≤ width_max }
         ensures { result ≡ record { width = width; bits = number % 2 ^ width } }
     {
         Word::from_parts(width, number & greatest(width))
@@ -107,7 +94,7 @@ impl Word {
 /// The greatest number of a width from 1 to `WIDTH_MAX`: all its bits are 1.
 pub fn greatest(width: u8) -> Raw
     requires some { 1 ≤ width }
-    requires bounded { width ≤ max_width }
+    requires bounded { width ≤ width_max }
     ensures { result ≡ 2 ^ width - 1 }
 {
     Raw::MAX >> (WIDTH_MAX - width)

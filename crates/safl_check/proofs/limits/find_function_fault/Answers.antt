@@ -4,7 +4,7 @@ use Rattle.safl_word.specs.declared.fault.Fault.{Fault}
 use Rattle.safl_tree.specs.Shown.{shown_definition}
 use Rattle.safl_tree.specs.Tree.{Definition}
 use Rattle.safl_typing.specs.Walk.{limit}
-use Rattle.safl_typing.specs.Forms.{max_functions}
+use Rattle.safl_word.specs.Limits.{functions_max}
 use Rattle.safl_check.proofs.LimitsInOrder.{excess_some}
 use Rattle.safl_check.proofs.limits.find_function_fault.Goals as goal
 
@@ -12,4 +12,4 @@ pub returns : goal.returns
 returns c =
     let found = c.in_ok-def.ensures.lookup in
     ap (λ (f : Fault). Some f) c.past_limit.ensures
-    ∙ sym (ap (λ (o : Option ℕ). limit 1 max_functions o) (excess_some shown_definition (λ (d : Definition). d.place) c.args.defs.now 1000 c.in_ok-def.def.now found.0 found.1))
+    ∙ sym (ap (λ (o : Option ℕ). limit 1 functions_max o) (excess_some shown_definition (λ (d : Definition). d.place) c.args.defs.now 1000 c.in_ok-def.def.now found.0 found.1))

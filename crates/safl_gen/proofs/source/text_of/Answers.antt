@@ -1,5 +1,4 @@
 use Rattle.std.proofs.Common.{◌≡◌, ◌≤◌, ◌-◌, [], List, ℕ, ◌++◌, length, map, sym, ap, subst, ◌∙◌, arith}
-use Rattle.std.specs.Prelude.{string_bytes}
 use Rattle.safl_gen.specs.Draws.{draw}
 use Rattle.std.specs.List.{concat, range_with_len}
 use Rattle.safl_gen.specs.Source.{drawn_line, main_line, source}
@@ -11,7 +10,7 @@ use Rattle.safl_gen.proofs.source.text_of.Goals as goal
 pub loop-i-init : goal.loop-i-init
 loop-i-init c = record {
   drawn = draws_first c.args.seed _ c.new-draws.ensures;
-  written = c.new-text.ensures.bytes;
+  written = c.new-text.ensures.items;
 }
 
 pub loop-i-preserved : goal.loop-i-preserved
@@ -22,8 +21,8 @@ loop-i-preserved c =
     let made = c.draw_function-drawn in
     record {
       drawn = draws_more seed i _ _ at made.ensures.number;
-      written = line_more (drawn_line (draw seed)) 0 i i [] (string_bytes c.loop-i.text) (string_bytes c.push_function.new.out) (omega arith) c.loop-i.invariant.written
-          (c.in_ok-push_function.ensures ∙ ap (λ (l : List ℕ). string_bytes c.loop-i.text ++ l)
+      written = line_more (drawn_line (draw seed)) 0 i i [] c.loop-i.text.items c.push_function.new.out.items (omega arith) c.loop-i.invariant.written
+          (c.in_ok-push_function.ensures ∙ ap (λ (l : List ℕ). c.loop-i.text.items ++ l)
           (line_drawn seed i _ _ _ _ _ at made.ensures.number made.ensures.form made.ensures.constant made.ensures.first));
     }
 
@@ -33,7 +32,7 @@ returns c =
     let count = c.args.count in
     let end : c.loop-i.i ≡ count = omega arith in
     let lines = c.loop-i.invariant.written ∙ ap (λ (n : ℕ). concat (map (drawn_line (draw seed)) (range_with_len 0 n))) end in
-    let made : string_bytes c.push_main.new.out ≡ source (draw seed) count = c.in_ok-push_main.ensures ∙ ap (λ (l : List ℕ). l ++ main_line (count - 1)) lines in
+    let made : c.push_main.new.out.items ≡ source (draw seed) count = c.in_ok-push_main.ensures ∙ ap (λ (l : List ℕ). l ++ main_line (count - 1)) lines in
     record {
       source = made;
       short = subst (λ (l : List ℕ). length l ≤ 1048576) (sym made) (source_short (draw seed) count c.requires.most);

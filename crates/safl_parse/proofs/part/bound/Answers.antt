@@ -11,7 +11,7 @@ invariant_of-result c =
     let k : c.args.body.depth ≡ min (depth (shown_tree c.in_ok-body.body.value)) 100 = c.args.body.capped ∙ ap (λ x. min (depth (shown_tree x)) 100) (sym e) in
     record {
       capped = cap_let c.args.bindings.binds c.in_ok-body.body c.args.place c.args.bindings.depth c.args.body.depth c.above-depth.result
-          c.args.bindings.capped k (c.above-depth.ensures ∙ ap (λ x. min (1 + x) 100) c.greater.ensures);
+          c.args.bindings.capped k (c.above-depth.ensures ∙ ap (λ x. min (1 + x) 100) c.max.ensures);
     }
 
 pub returns : goal.returns

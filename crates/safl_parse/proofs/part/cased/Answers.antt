@@ -14,7 +14,7 @@ invariant_of-result c =
     c.args.arms.capped ∙ ap (λ x. min (deepest_arm (arms_of (shown_labelled c.args.arms.arms.items) (shown_tree x))) 100) (sym d) in
     record {
       capped = cap_case c.in_ok-scrutinee.scrutinee c.args.arms.arms c.in_ok-default.default c.args.place c.args.scrutinee.depth
-          c.args.arms.depth c.above-depth.result k l (c.above-depth.ensures ∙ ap (λ x. min (1 + x) 100) c.greater.ensures);
+          c.args.arms.depth c.above-depth.result k l (c.above-depth.ensures ∙ ap (λ x. min (1 + x) 100) c.max.ensures);
     }
 
 pub returns : goal.returns

@@ -1,6 +1,6 @@
 use Rattle.std.proofs.Common.{◌≡◌, ◌≤◌, ◌∙◌, ℕ, List, length, map, string_bytes, codes, sym, ap, subst}
 use Rattle.std.specs.Prelude.{IfOk, IfErr}
-use Rattle.safl_task.specs.Limits.{source_max}
+use Rattle.safl_word.specs.Limits.{source_max}
 use Rattle.safl_tool.specs.Answers.{printed}
 use Rattle.safl_tool.specs.CommandTasks.{GivesMeasure, RefusesGiven}
 use Rattle.safl_tool.specs.Refusals.{RefusesBy}

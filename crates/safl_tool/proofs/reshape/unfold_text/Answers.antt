@@ -7,7 +7,7 @@ use Rattle.safl_reshape.specs.Refusals.{UnfoldingRefused, IsUnfolded, GivesSpari
 use Rattle.safl_reshape.specs.declared.error.ReshapeErr.TheVariants as errors
 use Rattle.safl_task.specs.Tasks.{only_writes}
 use Rattle.safl_tool.specs.CommandTasks.{RefusesReshaping}
-use Rattle.safl_task.specs.Limits.{source_max}
+use Rattle.safl_word.specs.Limits.{source_max}
 use Rattle.safl_tool.specs.Refusals.{RefusesBy}
 use Rattle.safl_tool.specs.Reshaping.{GivesReshaped, TellsLong, unfolds}
 use Rattle.safl_tool.proofs.Refusing.{both_ok}

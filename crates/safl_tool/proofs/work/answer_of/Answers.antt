@@ -4,7 +4,8 @@ use Rattle.safl_command.specs.Commands.{shown}
 use Rattle.safl_command.specs.Traces.{shown as shown_traces}
 use Rattle.safl_command.specs.declared.command.Command.{Command}
 use Rattle.safl_task.specs.Inputs.{shown_contents, source_file, script_file, verilog_file, aig_file}
-use Rattle.safl_task.specs.Limits.{source_max, script_max, verilog_max, aig_max}
+use Rattle.safl_task.specs.Limits.{script_max, verilog_max, aig_max}
+use Rattle.safl_word.specs.Limits.{source_max}
 use Rattle.safl_task.specs.Tasks.{Task, AreContents}
 use Rattle.safl_tool.specs.Answers.{Answers, printed, traces_for}
 use Rattle.safl_tool.specs.BitLevel.{GivesBits, GivesCounts, HasBits, IsAig, RefusesAig, RefusesBitsOf}

@@ -1,5 +1,5 @@
 use Rattle.std.proofs.Common.{rules, ◌≡◌, ℕ, ◌+◌, ◌*◌, ◌<◌, ◌^◌, ◌++◌, List, ◌∷◌, length, Bool, false, Option, refl, sym, ap, subst, ◌∙◌, arith}
-use Rattle.std.specs.Prelude.{Result, Err, ◌&&◌, ◌==◌}
+use Rattle.std.specs.Prelude.{Result, Err, Some, None, map, ◌&&◌, ◌==◌}
 use Rattle.std.proofs.lemmas.Result.{err_from_is_err_and, IfOk-weaker}
 use Rattle.std.specs.List.{AllByRecursion}
 use Rattle.safl_term.specs.Slots.{HasSlots}
@@ -15,13 +15,13 @@ use Rattle.safl_typing.specs.Rewriting.{Expression, Expressions, If, Let, Op, Ca
 use Rattle.safl_typing.specs.Heads.{Slot, is_site, sites, sites_in, sites_bound}
 use Rattle.safl_typing.specs.Typing.{slots, widths_of}
 use Rattle.safl_typing.specs.Ranges.{WideSlots, IsInRange}
-use Rattle.safl_typing.specs.Walk.{fault_with, unless, needs, Typed, TypedAll, TypedAlike, is_any, is_known, resized, exactly, check, check_all, check_alike, check_shift}
+use Rattle.safl_typing.specs.Walk.{fault_with, unless, needs, Typed, TypedAll, TypedAlike, Wanted, is_any, is_known, resized, exactly, check, check_all, check_alike, check_shift}
 use Rattle.safl_typing.specs.Plain.{shown_expression, shown_expressions, shown_bindings}
 use Rattle.safl_typing.specs.PlainHeads.{shown_slots, shown_head, shown_callee, IsOneOf, known}
 use Rattle.safl_typing.specs.PlainScope.{shown_scope}
 use Rattle.safl_typing.specs.PlainNames.{twice_at}
 use Rattle.safl_typing.specs.PlainTyped.{shown_wanted, shown_typed, shown_all_typed, shown_alike, shown_shape, HasWidthOfWord, HasWideWanted}
-use Rattle.safl_typing.specs.PlainTyped.{HasWideWritten, Says, SaysAll, SaysAlike, operand_wanted, operands_wanted}
+use Rattle.safl_typing.specs.PlainTyped.{Says, SaysAll, SaysAlike}
 use Rattle.safl_typing.specs.MayWalk.{MayWalk, MayCheck, MayCheckAll, MayBind}
 use Rattle.safl_typing.proofs.PlainLists.{shown_expression-Op, shown_expression-Call, shown_expression-Let}
 use Rattle.safl_typing.proofs.SlotsBelowLets.{fails, goes}
@@ -31,172 +31,87 @@ use Rattle.safl_typing.specs.Marks.{IsMarked, AreMarked, BoundMarked}
 use Rattle.safl_typing.proofs.MarksOfParts as marks
 use Rattle.safl_typing.proofs.walk.+walk.Goals as goal
 
-pub check_operands-check_expression-requires : goal.check_operands-check_expression-requires
-check_operands-check_expression-requires t c =
-    let smaller : 4 * nodes (shown_expression c.in-Some.first.now) < 4 * nodes_in (shown_expressions c.args.operands.now) + 1 = walk.less_first
-    c.args.operands.now c.in-Some.first.now c.in-Some.rest.now c.in-Some.ensures.cases.0 in
+pub check_all-check_expression-requires : goal.check_all-check_expression-requires
+check_all-check_expression-requires t c =
+    let smaller : 4 * nodes (shown_expression c.in-Some.first.now) < 4 * nodes_in (shown_expressions c.args.expressions.now) + 1 = walk.less_first
+    c.args.expressions.now c.in-Some.first.now c.in-Some.rest.now c.in-Some.ensures.cases.0 in
     let ok : MayCheck c.args.context.now.heads.now c.args.context.now.unit (shown_scope c.args.scope.now) c.args.first_site
     (shown_expression c.in-Some.first.now) = walk.first_of c.args.context.now.heads.now c.args.context.now.unit (shown_scope c.args.scope.now)
-    c.args.first_site c.args.operands.now c.in-Some.first.now c.in-Some.rest.now c.in-Some.ensures.cases.0 c.requires.able in
-    let wide : HasWideWanted c.as_operand-wanted.result = walk.operand_wide c.args.shifted (flexible (shown_expression c.in-Some.first.now))
-    c.as_operand-wanted.result c.requires.shifted (c.as_operand-wanted.ensures ∙ ap (λ (b : Bool). operand_wanted c.args.shifted b)
-    (c.is_flexible-flexible.ensures (known c.args.context.now.heads.now c.args.context.now.unit)
-    (marks.first_marked (known c.args.context.now.heads.now c.args.context.now.unit) c.args.operands.now c.in-Some.first.now c.in-Some.rest.now
-    c.in-Some.ensures.cases.0 c.requires.marked))) in
+    c.args.first_site c.args.expressions.now c.in-Some.first.now c.in-Some.rest.now c.in-Some.ensures.cases.0 c.requires.able in
+    let both : AllByRecursion HasWideWanted (c.in-Some-split_first.own.now ∷ c.in-Some-split_first.others.now) = subst
+    (AllByRecursion HasWideWanted) c.in-Some-split_first.ensures.cases.0 c.requires.wanted in
+    let wide : HasWideWanted c.in-Some-split_first.own.now = both.0 in
     let marked : IsMarked (known c.args.context.now.heads.now c.args.context.now.unit) c.in-Some.first.now = marks.first_marked
-    (known c.args.context.now.heads.now c.args.context.now.unit) c.args.operands.now c.in-Some.first.now c.in-Some.rest.now
+    (known c.args.context.now.heads.now c.args.context.now.unit) c.args.expressions.now c.in-Some.first.now c.in-Some.rest.now
     c.in-Some.ensures.cases.0 c.requires.marked in
     search rules
 
-pub check_operands-check_operands-requires : goal.check_operands-check_operands-requires
-check_operands-check_operands-requires t c =
-    let smaller : 4 * nodes_in (shown_expressions c.in-Some.rest.now) + 1 < 4 * nodes_in (shown_expressions c.args.operands.now) + 1 = walk.less_rest
-    c.args.operands.now c.in-Some.first.now c.in-Some.rest.now c.in-Some.ensures.cases.0 in
+pub check_all-check_all-requires : goal.check_all-check_all-requires
+check_all-check_all-requires t c =
+    let smaller : 4 * nodes_in (shown_expressions c.in-Some.rest.now) + 1 < 4 * nodes_in (shown_expressions c.args.expressions.now) + 1 = walk.less_rest
+    c.args.expressions.now c.in-Some.first.now c.in-Some.rest.now c.in-Some.ensures.cases.0 in
     let ok : MayCheckAll c.args.context.now.heads.now c.args.context.now.unit (shown_scope c.args.scope.now) c.add_sites-next.result
     (shown_expressions c.in-Some.rest.now) = walk.rest_of c.args.context.now.heads.now c.args.context.now.unit (shown_scope c.args.scope.now)
-    c.args.first_site c.args.operands.now c.in-Some.first.now c.in-Some.rest.now c.add_sites-next.result c.in-Some.ensures.cases.0
+    c.args.first_site c.args.expressions.now c.in-Some.first.now c.in-Some.rest.now c.add_sites-next.result c.in-Some.ensures.cases.0
     (c.add_sites-next.ensures (known c.args.context.now.heads.now c.args.context.now.unit)
-    (marks.first_marked (known c.args.context.now.heads.now c.args.context.now.unit) c.args.operands.now c.in-Some.first.now c.in-Some.rest.now
+    (marks.first_marked (known c.args.context.now.heads.now c.args.context.now.unit) c.args.expressions.now c.in-Some.first.now c.in-Some.rest.now
     c.in-Some.ensures.cases.0 c.requires.marked)) c.requires.able in
-    let wide : HasWideWritten c.args.shifted = c.requires.shifted in
+    let both : AllByRecursion HasWideWanted (c.in-Some-split_first.own.now ∷ c.in-Some-split_first.others.now) = subst
+    (AllByRecursion HasWideWanted) c.in-Some-split_first.ensures.cases.0 c.requires.wanted in
+    let wide : AllByRecursion HasWideWanted c.in-Some-split_first.others.now = both.1 in
     let marked : AreMarked (known c.args.context.now.heads.now c.args.context.now.unit) c.in-Some.rest.now = marks.rest_marked
-    (known c.args.context.now.heads.now c.args.context.now.unit) c.args.operands.now c.in-Some.first.now c.in-Some.rest.now
+    (known c.args.context.now.heads.now c.args.context.now.unit) c.args.expressions.now c.in-Some.first.now c.in-Some.rest.now
     c.in-Some.ensures.cases.0 c.requires.marked in
     search rules
 
-pub check_operands-returns-in_default-clause-says : goal.check_operands-returns-in_default-clause-says
-check_operands-returns-in_default-clause-says t c =
+pub check_all-returns-in_default-clause-says : goal.check_all-returns-in_default-clause-says
+check_all-returns-in_default-clause-says t c =
     walk.none_is (known c.args.context.now.heads.now c.args.context.now.unit) (shown_scope c.args.scope.now) c.args.first_site
-    (operands_wanted c.args.shifted (shown_expressions c.args.operands.now)) c.args.operands.now c.in_default.ensures.cases ∙ walk.ok_all _ _
-    (sym c.none_typed.ensures.none)
+    (map shown_wanted c.args.wanted.now) c.args.expressions.now c.in_default.ensures.cases ∙ walk.ok_all _ _ (sym c.none_typed.ensures.none)
 
-pub check_operands-returns-in_err-operand-clause-says : goal.check_operands-returns-in_err-operand-clause-says
-check_operands-returns-in_err-operand-clause-says t c =
-    let p = err_from_is_err_and c.from_residual.result c.from_residual.ensures.1 in
-    rw (p.1, p.2) (fails c.in_err-operand.field-0.0 _ _ _ (walk.operands_is (known c.args.context.now.heads.now c.args.context.now.unit)
-    (shown_scope c.args.scope.now) c.args.first_site c.args.shifted c.args.operands.now c.in-Some.first.now c.in-Some.rest.now
-    (shown_wanted c.as_operand-wanted.result) c.add_sites-next.result c.in-Some.ensures.cases.0
-    (c.as_operand-wanted.ensures ∙ ap (λ (b : Bool). operand_wanted c.args.shifted b)
-    (c.is_flexible-flexible.ensures (known c.args.context.now.heads.now c.args.context.now.unit)
-    (marks.first_marked (known c.args.context.now.heads.now c.args.context.now.unit) c.args.operands.now c.in-Some.first.now c.in-Some.rest.now
-    c.in-Some.ensures.cases.0 c.requires.marked))) (walk.next_of c.args.context.now.heads.now c.args.context.now.unit
-    (shown_scope c.args.scope.now) c.args.first_site c.args.operands.now c.in-Some.first.now c.in-Some.rest.now c.add_sites-next.result
-    c.in-Some.ensures.cases.0 (c.add_sites-next.ensures (known c.args.context.now.heads.now c.args.context.now.unit)
-    (marks.first_marked (known c.args.context.now.heads.now c.args.context.now.unit) c.args.operands.now c.in-Some.first.now c.in-Some.rest.now
-    c.in-Some.ensures.cases.0 c.requires.marked)) c.requires.able)) c.in_err-operand.ensures.says)
-
-pub check_operands-returns-in_err-others-clause-says : goal.check_operands-returns-in_err-others-clause-says
-check_operands-returns-in_err-others-clause-says t c =
-    let p = err_from_is_err_and c.from_residual-in_err-others.result c.from_residual-in_err-others.ensures.1 in
-    rw (p.1, p.2) (fails c.in_err-others.field-0.0 _ _ _ (goes _ _ _ (shown_typed c.in_ok-operand.operand)
-    (walk.operands_is (known c.args.context.now.heads.now c.args.context.now.unit) (shown_scope c.args.scope.now) c.args.first_site c.args.shifted
-    c.args.operands.now c.in-Some.first.now c.in-Some.rest.now (shown_wanted c.as_operand-wanted.result) c.add_sites-next.result
-    c.in-Some.ensures.cases.0 (c.as_operand-wanted.ensures ∙ ap (λ (b : Bool). operand_wanted c.args.shifted b)
-    (c.is_flexible-flexible.ensures (known c.args.context.now.heads.now c.args.context.now.unit)
-    (marks.first_marked (known c.args.context.now.heads.now c.args.context.now.unit) c.args.operands.now c.in-Some.first.now c.in-Some.rest.now
-    c.in-Some.ensures.cases.0 c.requires.marked))) (walk.next_of c.args.context.now.heads.now c.args.context.now.unit
-    (shown_scope c.args.scope.now) c.args.first_site c.args.operands.now c.in-Some.first.now c.in-Some.rest.now c.add_sites-next.result
-    c.in-Some.ensures.cases.0 (c.add_sites-next.ensures (known c.args.context.now.heads.now c.args.context.now.unit)
-    (marks.first_marked (known c.args.context.now.heads.now c.args.context.now.unit) c.args.operands.now c.in-Some.first.now c.in-Some.rest.now
-    c.in-Some.ensures.cases.0 c.requires.marked)) c.requires.able)) c.in_ok-operand.ensures.says) c.in_err-others.ensures.says)
-
-pub check_operands-returns-clause-says : goal.check_operands-returns-clause-says
-check_operands-returns-clause-says t c =
-    subst (λ (z : Result TypedAll Fault). SaysAll c.put_first.result z)
-    (sym (goes _ _ _ (shown_all_typed c.in_ok-others.others)
-    (goes _ _ _ (shown_typed c.in_ok-operand.operand) (walk.operands_is (known c.args.context.now.heads.now c.args.context.now.unit)
-    (shown_scope c.args.scope.now) c.args.first_site c.args.shifted c.args.operands.now c.in-Some.first.now c.in-Some.rest.now
-    (shown_wanted c.as_operand-wanted.result) c.add_sites-next.result c.in-Some.ensures.cases.0
-    (c.as_operand-wanted.ensures ∙ ap (λ (b : Bool). operand_wanted c.args.shifted b)
-    (c.is_flexible-flexible.ensures (known c.args.context.now.heads.now c.args.context.now.unit)
-    (marks.first_marked (known c.args.context.now.heads.now c.args.context.now.unit) c.args.operands.now c.in-Some.first.now c.in-Some.rest.now
-    c.in-Some.ensures.cases.0 c.requires.marked))) (walk.next_of c.args.context.now.heads.now c.args.context.now.unit
-    (shown_scope c.args.scope.now) c.args.first_site c.args.operands.now c.in-Some.first.now c.in-Some.rest.now c.add_sites-next.result
-    c.in-Some.ensures.cases.0 (c.add_sites-next.ensures (known c.args.context.now.heads.now c.args.context.now.unit)
-    (marks.first_marked (known c.args.context.now.heads.now c.args.context.now.unit) c.args.operands.now c.in-Some.first.now c.in-Some.rest.now
-    c.in-Some.ensures.cases.0 c.requires.marked)) c.requires.able)) c.in_ok-operand.ensures.says) c.in_ok-others.ensures.says)) c.put_first.ensures.says
-
-pub check_arguments-check_expression-requires : goal.check_arguments-check_expression-requires
-check_arguments-check_expression-requires t c =
-    let smaller : 4 * nodes (shown_expression c.in-Some.first.now) < 4 * nodes_in (shown_expressions c.args.arguments.now) + 1 = walk.less_first
-    c.args.arguments.now c.in-Some.first.now c.in-Some.rest.now c.in-Some.ensures.cases.0 in
-    let ok : MayCheck c.args.context.now.heads.now c.args.context.now.unit (shown_scope c.args.scope.now) c.args.first_site
-    (shown_expression c.in-Some.first.now) = walk.first_of c.args.context.now.heads.now c.args.context.now.unit (shown_scope c.args.scope.now)
-    c.args.first_site c.args.arguments.now c.in-Some.first.now c.in-Some.rest.now c.in-Some.ensures.cases.0 c.requires.able in
-    let both : WideSlots (shown_slots (c.in-Some-split_first.param.now ∷ c.in-Some-split_first.others.now)) = subst
-    (λ (l : List code_slot.Slot). WideSlots (shown_slots l)) c.in-Some-split_first.ensures.cases.0 c.requires.params in
-    let wide : HasWidthOfWord c.in-Some-split_first.param.now.width = (both.0.some, both.0.bounded) in
-    let marked : IsMarked (known c.args.context.now.heads.now c.args.context.now.unit) c.in-Some.first.now = marks.first_marked
-    (known c.args.context.now.heads.now c.args.context.now.unit) c.args.arguments.now c.in-Some.first.now c.in-Some.rest.now
-    c.in-Some.ensures.cases.0 c.requires.marked in
-    search rules
-
-pub check_arguments-check_arguments-requires : goal.check_arguments-check_arguments-requires
-check_arguments-check_arguments-requires t c =
-    let smaller : 4 * nodes_in (shown_expressions c.in-Some.rest.now) + 1 < 4 * nodes_in (shown_expressions c.args.arguments.now) + 1 = walk.less_rest
-    c.args.arguments.now c.in-Some.first.now c.in-Some.rest.now c.in-Some.ensures.cases.0 in
-    let ok : MayCheckAll c.args.context.now.heads.now c.args.context.now.unit (shown_scope c.args.scope.now) c.add_sites-next.result
-    (shown_expressions c.in-Some.rest.now) = walk.rest_of c.args.context.now.heads.now c.args.context.now.unit (shown_scope c.args.scope.now)
-    c.args.first_site c.args.arguments.now c.in-Some.first.now c.in-Some.rest.now c.add_sites-next.result c.in-Some.ensures.cases.0
-    (c.add_sites-next.ensures (known c.args.context.now.heads.now c.args.context.now.unit)
-    (marks.first_marked (known c.args.context.now.heads.now c.args.context.now.unit) c.args.arguments.now c.in-Some.first.now c.in-Some.rest.now
-    c.in-Some.ensures.cases.0 c.requires.marked)) c.requires.able in
-    let both : WideSlots (shown_slots (c.in-Some-split_first.param.now ∷ c.in-Some-split_first.others.now)) = subst
-    (λ (l : List code_slot.Slot). WideSlots (shown_slots l)) c.in-Some-split_first.ensures.cases.0 c.requires.params in
-    let wide : WideSlots (shown_slots c.in-Some-split_first.others.now) = both.1 in
-    let marked : AreMarked (known c.args.context.now.heads.now c.args.context.now.unit) c.in-Some.rest.now = marks.rest_marked
-    (known c.args.context.now.heads.now c.args.context.now.unit) c.args.arguments.now c.in-Some.first.now c.in-Some.rest.now
-    c.in-Some.ensures.cases.0 c.requires.marked in
-    search rules
-
-pub check_arguments-returns-in_default-clause-says : goal.check_arguments-returns-in_default-clause-says
-check_arguments-returns-in_default-clause-says t c =
-    walk.none_is (known c.args.context.now.heads.now c.args.context.now.unit) (shown_scope c.args.scope.now) c.args.first_site
-    (exactly (widths_of (shown_slots c.args.params.now))) c.args.arguments.now c.in_default.ensures.cases ∙ walk.ok_all _ _ (sym c.none_typed.ensures.none)
-
-pub check_arguments-returns-in_default-split_first-clause-says : goal.check_arguments-returns-in_default-split_first-clause-says
-check_arguments-returns-in_default-split_first-clause-says t c =
-    walk.arguments_none (known c.args.context.now.heads.now c.args.context.now.unit) (shown_scope c.args.scope.now) c.args.first_site
-    c.args.params.now (shown_expressions c.args.arguments.now) c.in_default-split_first.ensures.cases ∙ walk.ok_all _ _
+pub check_all-returns-in_default-split_first-clause-says : goal.check_all-returns-in_default-split_first-clause-says
+check_all-returns-in_default-split_first-clause-says t c =
+    walk.all_none (known c.args.context.now.heads.now c.args.context.now.unit) (shown_scope c.args.scope.now) c.args.first_site
+    c.args.wanted.now (shown_expressions c.args.expressions.now) c.in_default-split_first.ensures.cases ∙ walk.ok_all _ _
     (sym c.none_typed-in_default-split_first.ensures.none)
 
-pub check_arguments-returns-in_err-argument-clause-says : goal.check_arguments-returns-in_err-argument-clause-says
-check_arguments-returns-in_err-argument-clause-says t c =
+pub check_all-returns-in_err-typed-clause-says : goal.check_all-returns-in_err-typed-clause-says
+check_all-returns-in_err-typed-clause-says t c =
     let p = err_from_is_err_and c.from_residual.result c.from_residual.ensures.1 in
-    rw (p.1, p.2) (fails c.in_err-argument.field-0.0 _ _ _ (walk.arguments_is (known c.args.context.now.heads.now c.args.context.now.unit)
-    (shown_scope c.args.scope.now) c.args.first_site c.args.params.now c.in-Some-split_first.param.now c.in-Some-split_first.others.now
-    c.args.arguments.now c.in-Some.first.now c.in-Some.rest.now c.add_sites-next.result c.in-Some-split_first.ensures.cases.0
+    rw (p.1, p.2) (fails c.in_err-typed.field-0.0 _ _ _ (walk.all_is (known c.args.context.now.heads.now c.args.context.now.unit)
+    (shown_scope c.args.scope.now) c.args.first_site c.args.wanted.now c.in-Some-split_first.own.now c.in-Some-split_first.others.now
+    c.args.expressions.now c.in-Some.first.now c.in-Some.rest.now c.add_sites-next.result c.in-Some-split_first.ensures.cases.0
     c.in-Some.ensures.cases.0 (walk.next_of c.args.context.now.heads.now c.args.context.now.unit (shown_scope c.args.scope.now) c.args.first_site
-    c.args.arguments.now c.in-Some.first.now c.in-Some.rest.now c.add_sites-next.result c.in-Some.ensures.cases.0
+    c.args.expressions.now c.in-Some.first.now c.in-Some.rest.now c.add_sites-next.result c.in-Some.ensures.cases.0
     (c.add_sites-next.ensures (known c.args.context.now.heads.now c.args.context.now.unit)
-    (marks.first_marked (known c.args.context.now.heads.now c.args.context.now.unit) c.args.arguments.now c.in-Some.first.now c.in-Some.rest.now
-    c.in-Some.ensures.cases.0 c.requires.marked)) c.requires.able)) c.in_err-argument.ensures.says)
+    (marks.first_marked (known c.args.context.now.heads.now c.args.context.now.unit) c.args.expressions.now c.in-Some.first.now c.in-Some.rest.now
+    c.in-Some.ensures.cases.0 c.requires.marked)) c.requires.able)) c.in_err-typed.ensures.says)
 
-pub check_arguments-returns-in_err-following-clause-says : goal.check_arguments-returns-in_err-following-clause-says
-check_arguments-returns-in_err-following-clause-says t c =
+pub check_all-returns-in_err-following-clause-says : goal.check_all-returns-in_err-following-clause-says
+check_all-returns-in_err-following-clause-says t c =
     let p = err_from_is_err_and c.from_residual-in_err-following.result c.from_residual-in_err-following.ensures.1 in
-    rw (p.1, p.2) (fails c.in_err-following.field-0.0 _ _ _ (goes _ _ _ (shown_typed c.in_ok-argument.argument)
-    (walk.arguments_is (known c.args.context.now.heads.now c.args.context.now.unit) (shown_scope c.args.scope.now) c.args.first_site
-    c.args.params.now c.in-Some-split_first.param.now c.in-Some-split_first.others.now c.args.arguments.now c.in-Some.first.now c.in-Some.rest.now
+    rw (p.1, p.2) (fails c.in_err-following.field-0.0 _ _ _ (goes _ _ _ (shown_typed c.in_ok-typed.typed)
+    (walk.all_is (known c.args.context.now.heads.now c.args.context.now.unit) (shown_scope c.args.scope.now) c.args.first_site
+    c.args.wanted.now c.in-Some-split_first.own.now c.in-Some-split_first.others.now c.args.expressions.now c.in-Some.first.now c.in-Some.rest.now
     c.add_sites-next.result c.in-Some-split_first.ensures.cases.0 c.in-Some.ensures.cases.0
-    (walk.next_of c.args.context.now.heads.now c.args.context.now.unit (shown_scope c.args.scope.now) c.args.first_site c.args.arguments.now
+    (walk.next_of c.args.context.now.heads.now c.args.context.now.unit (shown_scope c.args.scope.now) c.args.first_site c.args.expressions.now
     c.in-Some.first.now c.in-Some.rest.now c.add_sites-next.result c.in-Some.ensures.cases.0
     (c.add_sites-next.ensures (known c.args.context.now.heads.now c.args.context.now.unit)
-    (marks.first_marked (known c.args.context.now.heads.now c.args.context.now.unit) c.args.arguments.now c.in-Some.first.now c.in-Some.rest.now
-    c.in-Some.ensures.cases.0 c.requires.marked)) c.requires.able)) c.in_ok-argument.ensures.says) c.in_err-following.ensures.says)
+    (marks.first_marked (known c.args.context.now.heads.now c.args.context.now.unit) c.args.expressions.now c.in-Some.first.now c.in-Some.rest.now
+    c.in-Some.ensures.cases.0 c.requires.marked)) c.requires.able)) c.in_ok-typed.ensures.says) c.in_err-following.ensures.says)
 
-pub check_arguments-returns-clause-says : goal.check_arguments-returns-clause-says
-check_arguments-returns-clause-says t c =
+pub check_all-returns-clause-says : goal.check_all-returns-clause-says
+check_all-returns-clause-says t c =
     subst (λ (z : Result TypedAll Fault). SaysAll c.put_first.result z)
     (sym (goes _ _ _ (shown_all_typed c.in_ok-following.following)
-    (goes _ _ _ (shown_typed c.in_ok-argument.argument) (walk.arguments_is (known c.args.context.now.heads.now c.args.context.now.unit)
-    (shown_scope c.args.scope.now) c.args.first_site c.args.params.now c.in-Some-split_first.param.now c.in-Some-split_first.others.now
-    c.args.arguments.now c.in-Some.first.now c.in-Some.rest.now c.add_sites-next.result c.in-Some-split_first.ensures.cases.0
+    (goes _ _ _ (shown_typed c.in_ok-typed.typed) (walk.all_is (known c.args.context.now.heads.now c.args.context.now.unit)
+    (shown_scope c.args.scope.now) c.args.first_site c.args.wanted.now c.in-Some-split_first.own.now c.in-Some-split_first.others.now
+    c.args.expressions.now c.in-Some.first.now c.in-Some.rest.now c.add_sites-next.result c.in-Some-split_first.ensures.cases.0
     c.in-Some.ensures.cases.0 (walk.next_of c.args.context.now.heads.now c.args.context.now.unit (shown_scope c.args.scope.now) c.args.first_site
-    c.args.arguments.now c.in-Some.first.now c.in-Some.rest.now c.add_sites-next.result c.in-Some.ensures.cases.0
+    c.args.expressions.now c.in-Some.first.now c.in-Some.rest.now c.add_sites-next.result c.in-Some.ensures.cases.0
     (c.add_sites-next.ensures (known c.args.context.now.heads.now c.args.context.now.unit)
-    (marks.first_marked (known c.args.context.now.heads.now c.args.context.now.unit) c.args.arguments.now c.in-Some.first.now c.in-Some.rest.now
-    c.in-Some.ensures.cases.0 c.requires.marked)) c.requires.able)) c.in_ok-argument.ensures.says) c.in_ok-following.ensures.says)) c.put_first.ensures.says
+    (marks.first_marked (known c.args.context.now.heads.now c.args.context.now.unit) c.args.expressions.now c.in-Some.first.now c.in-Some.rest.now
+    c.in-Some.ensures.cases.0 c.requires.marked)) c.requires.able)) c.in_ok-typed.ensures.says) c.in_ok-following.ensures.says)) c.put_first.ensures.says
 
 pub check_shift-check_expression-requires : goal.check_shift-check_expression-requires
 check_shift-check_expression-requires t c =
@@ -210,8 +125,8 @@ check_shift-check_expression-requires t c =
     c.in-Some.ensures.cases.0 c.requires.marked in
     search rules
 
-pub check_shift-check_operands-requires : goal.check_shift-check_operands-requires
-check_shift-check_operands-requires t c =
+pub check_shift-check_all-requires : goal.check_shift-check_all-requires
+check_shift-check_all-requires t c =
     let smaller : 4 * nodes_in (shown_expressions c.in-Some.rest.now) + 1 < 4 * nodes_in (shown_expressions c.args.operands.now) + 1 = walk.less_rest
     c.args.operands.now c.in-Some.first.now c.in-Some.rest.now c.in-Some.ensures.cases.0 in
     let ok : MayCheckAll c.args.context.now.heads.now c.args.context.now.unit (shown_scope c.args.scope.now) c.add_sites-next.result
@@ -227,6 +142,10 @@ check_shift-check_operands-requires t c =
     let marked : AreMarked (known c.args.context.now.heads.now c.args.context.now.unit) c.in-Some.rest.now = marks.rest_marked
     (known c.args.context.now.heads.now c.args.context.now.unit) c.args.operands.now c.in-Some.first.now c.in-Some.rest.now
     c.in-Some.ensures.cases.0 c.requires.marked in
+    let each : AllByRecursion HasWideWanted c.deref.result.now = walk.operands_wide (Some c.in_ok-operand.operand.width)
+    (shown_expressions c.in-Some.rest.now) c.deref.result.now (λ w e. subst HasWidthOfWord (walk.same_some _ _ e) wide)
+    (ap (map shown_wanted) c.deref.ensures.value ∙ c.in_ok-amounts.ensures (known c.args.context.now.heads.now c.args.context.now.unit)
+    (marks.rest_marked (known c.args.context.now.heads.now c.args.context.now.unit) c.args.operands.now c.in-Some.first.now c.in-Some.rest.now c.in-Some.ensures.cases.0 c.requires.marked)) in
     search rules
 
 pub check_shift-returns-in_default-clause-says : goal.check_shift-returns-in_default-clause-says
@@ -249,26 +168,33 @@ check_shift-returns-in_err-operand-clause-says t c =
 pub check_shift-returns-in_err-others-clause-says : goal.check_shift-returns-in_err-others-clause-says
 check_shift-returns-in_err-others-clause-says t c =
     let p = err_from_is_err_and c.from_residual-in_err-others.result c.from_residual-in_err-others.ensures.1 in
-    rw (p.1, p.2) (fails c.in_err-others.field-0.0 _ _ _ (goes _ _ _ (shown_typed c.in_ok-operand.operand)
-    (walk.shift_is (known c.args.context.now.heads.now c.args.context.now.unit) (shown_scope c.args.scope.now) c.args.first_site c.args.place
-    c.args.operands.now c.in-Some.first.now c.in-Some.rest.now c.add_sites-next.result c.in-Some.ensures.cases.0
+    rw (p.1, p.2) (fails c.in_err-others.field-0.0 _ _ _ (walk.shift_goes (known c.args.context.now.heads.now c.args.context.now.unit) (shown_scope c.args.scope.now) c.args.first_site c.args.place
+    c.args.operands.now c.in-Some.first.now c.in-Some.rest.now c.add_sites-next.result (shown_typed c.in_ok-operand.operand)
+    (map shown_wanted c.deref.result.now) c.in-Some.ensures.cases.0
     (walk.next_of c.args.context.now.heads.now c.args.context.now.unit (shown_scope c.args.scope.now) c.args.first_site c.args.operands.now
     c.in-Some.first.now c.in-Some.rest.now c.add_sites-next.result c.in-Some.ensures.cases.0
     (c.add_sites-next.ensures (known c.args.context.now.heads.now c.args.context.now.unit)
     (marks.first_marked (known c.args.context.now.heads.now c.args.context.now.unit) c.args.operands.now c.in-Some.first.now c.in-Some.rest.now
-    c.in-Some.ensures.cases.0 c.requires.marked)) c.requires.able)) c.in_ok-operand.ensures.says) c.in_err-others.ensures.says)
+    c.in-Some.ensures.cases.0 c.requires.marked)) c.requires.able) c.in_ok-operand.ensures.says
+    (ap (map shown_wanted) c.deref.ensures.value ∙ c.in_ok-amounts.ensures (known c.args.context.now.heads.now c.args.context.now.unit)
+    (marks.rest_marked (known c.args.context.now.heads.now c.args.context.now.unit) c.args.operands.now c.in-Some.first.now c.in-Some.rest.now
+    c.in-Some.ensures.cases.0 c.requires.marked))) c.in_err-others.ensures.says)
 
 pub check_shift-returns-clause-says : goal.check_shift-returns-clause-says
 check_shift-returns-clause-says t c =
     subst (λ (z : Result TypedAlike Fault). SaysAlike c.put_operand.result z)
     (sym (goes _ _ _ (shown_all_typed c.in_ok-others.others)
-    (goes _ _ _ (shown_typed c.in_ok-operand.operand) (walk.shift_is (known c.args.context.now.heads.now c.args.context.now.unit)
+    (walk.shift_goes (known c.args.context.now.heads.now c.args.context.now.unit)
     (shown_scope c.args.scope.now) c.args.first_site c.args.place c.args.operands.now c.in-Some.first.now c.in-Some.rest.now
-    c.add_sites-next.result c.in-Some.ensures.cases.0 (walk.next_of c.args.context.now.heads.now c.args.context.now.unit
+    c.add_sites-next.result (shown_typed c.in_ok-operand.operand) (map shown_wanted c.deref.result.now)
+    c.in-Some.ensures.cases.0 (walk.next_of c.args.context.now.heads.now c.args.context.now.unit
     (shown_scope c.args.scope.now) c.args.first_site c.args.operands.now c.in-Some.first.now c.in-Some.rest.now c.add_sites-next.result
     c.in-Some.ensures.cases.0 (c.add_sites-next.ensures (known c.args.context.now.heads.now c.args.context.now.unit)
     (marks.first_marked (known c.args.context.now.heads.now c.args.context.now.unit) c.args.operands.now c.in-Some.first.now c.in-Some.rest.now
-    c.in-Some.ensures.cases.0 c.requires.marked)) c.requires.able)) c.in_ok-operand.ensures.says) c.in_ok-others.ensures.says)) c.put_operand.ensures.says
+    c.in-Some.ensures.cases.0 c.requires.marked)) c.requires.able) c.in_ok-operand.ensures.says
+    (ap (map shown_wanted) c.deref.ensures.value ∙ c.in_ok-amounts.ensures (known c.args.context.now.heads.now c.args.context.now.unit)
+    (marks.rest_marked (known c.args.context.now.heads.now c.args.context.now.unit) c.args.operands.now c.in-Some.first.now c.in-Some.rest.now
+    c.in-Some.ensures.cases.0 c.requires.marked))) c.in_ok-others.ensures.says)) c.put_operand.ensures.says
 
 pub check_alike-returns-in_default-clause-says : goal.check_alike-returns-in_default-clause-says
 check_alike-returns-in_default-clause-says t c =
@@ -810,13 +736,15 @@ check_applied-check_shift-requires t c =
     let marked : AreMarked (known c.args.context.now.heads.now c.args.context.now.unit) c.args.operands.now = c.requires.marked in
     search rules
 
-pub check_applied-check_operands-requires : goal.check_applied-check_operands-requires
-check_applied-check_operands-requires t c =
+pub check_applied-check_all-requires : goal.check_applied-check_all-requires
+check_applied-check_all-requires t c =
     let smaller : 4 * nodes_in (shown_expressions c.args.operands.now) + 1 < 4 * nodes_in (shown_expressions c.args.operands.now) + 3 = omega arith in
     let ok : MayCheckAll c.args.context.now.heads.now c.args.context.now.unit (shown_scope c.args.scope.now) c.args.position.first_site
     (shown_expressions c.args.operands.now) = walk.may_part c.args.context.now.heads.now (shown_scope c.args.scope.now) c.args.position.first_site
     _ _ c.args.position.first_site _ _ c.requires.able c.requires.able.range (omega (arith, c.requires.able.within)) (omega arith) in
     let marked : AreMarked (known c.args.context.now.heads.now c.args.context.now.unit) c.args.operands.now = c.requires.marked in
+    let each : AllByRecursion HasWideWanted c.deref.result.now = walk.operands_wide None (shown_expressions c.args.operands.now)
+    c.deref.result.now walk.none_wide (ap (map shown_wanted) c.deref.ensures.value ∙ c.in_ok-found.ensures (known c.args.context.now.heads.now c.args.context.now.unit) c.requires.marked) in
     search rules
 
 pub check_applied-returns-in_err-typed-in-Alike-clause-says : goal.check_applied-returns-in_err-typed-in-Alike-clause-says
@@ -870,31 +798,34 @@ pub check_applied-returns-in_err-typed-in-Resizing-clause-says : goal.check_appl
 check_applied-returns-in_err-typed-in-Resizing-clause-says t c =
     let p = err_from_is_err_and c.from_residual-in_err-typed-in-Resizing.result c.from_residual-in_err-typed-in-Resizing.ensures.1 in
     rw (p.1, p.2) (fails c.in_err-typed-in-Resizing.field-0.0 _ _ _
-    (walk.resizing_is (known c.args.context.now.heads.now c.args.context.now.unit) (shown_scope c.args.scope.now) c.args.position.tail
+    (walk.resizing_by (known c.args.context.now.heads.now c.args.context.now.unit) (shown_scope c.args.scope.now) c.args.position.tail
     c.args.position.first_site (shown_wanted c.args.position.wanted) c.args.place c.args.operator (shown_expressions c.args.operands.now)
-    (sym (ap shown_shape c.in-Resizing.is) ∙ c.shape_of.ensures)) c.in_err-typed-in-Resizing.ensures.says)
+    (map shown_wanted c.deref.result.now) (sym (ap shown_shape c.in-Resizing.is) ∙ c.shape_of.ensures)
+    (ap (map shown_wanted) c.deref.ensures.value ∙ c.in_ok-found.ensures (known c.args.context.now.heads.now c.args.context.now.unit) c.requires.marked)) c.in_err-typed-in-Resizing.ensures.says)
 
 pub check_applied-returns-in-Some-clause-says : goal.check_applied-returns-in-Some-clause-says
 check_applied-returns-in-Some-clause-says t c =
     subst (λ (z : Result Typed Fault). Says c.settled_operation-in-Some.result z)
     (sym (goes _ _ _ (shown_all_typed c.in_ok-typed-in-Resizing.typed)
-    (walk.resizing_is (known c.args.context.now.heads.now c.args.context.now.unit) (shown_scope c.args.scope.now) c.args.position.tail
+    (walk.resizing_by (known c.args.context.now.heads.now c.args.context.now.unit) (shown_scope c.args.scope.now) c.args.position.tail
     c.args.position.first_site (shown_wanted c.args.position.wanted) c.args.place c.args.operator (shown_expressions c.args.operands.now)
-    (sym (ap shown_shape c.in-Resizing.is) ∙ c.shape_of.ensures)) c.in_ok-typed-in-Resizing.ensures.says ∙ ap
+    (map shown_wanted c.deref.result.now) (sym (ap shown_shape c.in-Resizing.is) ∙ c.shape_of.ensures)
+    (ap (map shown_wanted) c.deref.ensures.value ∙ c.in_ok-found.ensures (known c.args.context.now.heads.now c.args.context.now.unit) c.requires.marked)) c.in_ok-typed-in-Resizing.ensures.says ∙ ap
     (λ (o : Option ℕ). resized c.args.place (shown_wanted c.args.position.wanted) c.args.operator o
     (shown_terms c.in_ok-typed-in-Resizing.typed.terms.items))
-    ((sym (c.result_width.ensures ∙ ap (λ (ws : List ℕ). result_width c.args.operator ws) c.deref.ensures.value)) ∙ c.in-Some.is)))
+    ((sym (c.result_width.ensures ∙ ap (λ (ws : List ℕ). result_width c.args.operator ws) c.deref-2.ensures.value)) ∙ c.in-Some.is)))
     c.settled_operation-in-Some.ensures.says
 
 pub check_applied-returns-in-None-clause-says : goal.check_applied-returns-in-None-clause-says
 check_applied-returns-in-None-clause-says t c =
     walk.refused_is c.refused.result _ _ c.refused.ensures (goes _ _ _ (shown_all_typed c.in_ok-typed-in-Resizing.typed)
-    (walk.resizing_is (known c.args.context.now.heads.now c.args.context.now.unit) (shown_scope c.args.scope.now) c.args.position.tail
+    (walk.resizing_by (known c.args.context.now.heads.now c.args.context.now.unit) (shown_scope c.args.scope.now) c.args.position.tail
     c.args.position.first_site (shown_wanted c.args.position.wanted) c.args.place c.args.operator (shown_expressions c.args.operands.now)
-    (sym (ap shown_shape c.in-Resizing.is) ∙ c.shape_of.ensures)) c.in_ok-typed-in-Resizing.ensures.says ∙ ap
+    (map shown_wanted c.deref.result.now) (sym (ap shown_shape c.in-Resizing.is) ∙ c.shape_of.ensures)
+    (ap (map shown_wanted) c.deref.ensures.value ∙ c.in_ok-found.ensures (known c.args.context.now.heads.now c.args.context.now.unit) c.requires.marked)) c.in_ok-typed-in-Resizing.ensures.says ∙ ap
     (λ (o : Option ℕ). resized c.args.place (shown_wanted c.args.position.wanted) c.args.operator o
     (shown_terms c.in_ok-typed-in-Resizing.typed.terms.items))
-    ((sym (c.result_width.ensures ∙ ap (λ (ws : List ℕ). result_width c.args.operator ws) c.deref.ensures.value)) ∙ c.in-None.is))
+    ((sym (c.result_width.ensures ∙ ap (λ (ws : List ℕ). result_width c.args.operator ws) c.deref-2.ensures.value)) ∙ c.in-None.is))
 
 pub check_called-get-head-requires : goal.check_called-get-head-requires
 check_called-get-head-requires t c =
@@ -1033,25 +964,27 @@ check_counted-returns-then-not-same-clause-says t c =
     c.if-not-same.true) ∙ ap (λ (l : List code_slot.Slot). walk.refusal
     (fault_with faults.E11 c.args.place (length (shown_slots l)) (count (shown_expressions c.args.arguments.now)))) (sym c.deref-then-not-same.ensures.value))
 
-pub check_counted-check_arguments-requires : goal.check_counted-check_arguments-requires
-check_counted-check_arguments-requires t c =
+pub check_counted-check_all-requires : goal.check_counted-check_all-requires
+check_counted-check_all-requires t c =
     let smaller : 4 * nodes_in (shown_expressions c.args.arguments.now) + 1 < 4 * nodes_in (shown_expressions c.args.arguments.now) + 2 = omega arith in
     let ok : MayCheckAll c.args.context.now.heads.now c.args.context.now.unit (shown_scope c.args.scope.now) c.args.first_site (shown_expressions c.args.arguments.now) = c.requires.able in
-    let wide : WideSlots (shown_slots c.deref-2.result.now) = subst (λ (l : List code_slot.Slot). WideSlots (shown_slots l)) (sym c.deref-2.ensures.value) c.requires.wide in
+    let each : AllByRecursion HasWideWanted c.deref-3.result.now = walk.arguments_wide c.args.head.now.params.items c.deref-3.result.now
+    c.requires.wide (ap (map shown_wanted) c.deref-3.ensures.value ∙ c.in_ok-wanted.ensures
+    ∙ ap (λ (l : List code_slot.Slot). exactly (widths_of (shown_slots l))) c.deref-2.ensures.value) in
     let marked : AreMarked (known c.args.context.now.heads.now c.args.context.now.unit) c.args.arguments.now = c.requires.marked in
     search rules
 
 pub check_counted-returns-clause-says : goal.check_counted-returns-clause-says
 check_counted-returns-clause-says t c =
-    subst (λ (z : Result TypedAll Fault). SaysAll c.check_arguments.result z)
+    subst (λ (z : Result TypedAll Fault). SaysAll c.check_all.result z)
     (sym (ap (λ (b : Bool). unless (needs b (fault_with faults.E11 c.args.place (length (shown_slots c.args.head.now.params.items))
     (count (shown_expressions c.args.arguments.now)))) (check_all (known c.args.context.now.heads.now c.args.context.now.unit)
     (shown_scope c.args.scope.now) c.args.first_site (exactly (widths_of (shown_slots c.args.head.now.params.items)))
     (shown_expressions c.args.arguments.now))) (sym (c.are_as_many-same.ensures ∙ ap
     (λ (l : List code_slot.Slot). length (shown_slots l) == count (shown_expressions c.args.arguments.now)) c.deref.ensures.value) ∙ c.if-not-same.false)))
-    (subst (λ (l : List code_slot.Slot). SaysAll c.check_arguments.result
-    (check_all (known c.args.context.now.heads.now c.args.context.now.unit) (shown_scope c.args.scope.now) c.args.first_site
-    (exactly (widths_of (shown_slots l))) (shown_expressions c.args.arguments.now))) c.deref-2.ensures.value c.check_arguments.ensures.says)
+    (subst (λ (l : List Wanted). SaysAll c.check_all.result (check_all (known c.args.context.now.heads.now c.args.context.now.unit)
+    (shown_scope c.args.scope.now) c.args.first_site l (shown_expressions c.args.arguments.now))) (ap (map shown_wanted) c.deref-3.ensures.value ∙ c.in_ok-wanted.ensures
+    ∙ ap (λ (l : List code_slot.Slot). exactly (widths_of (shown_slots l))) c.deref-2.ensures.value) c.check_all.ensures.says)
 
 pub check_expression-check_choice-requires : goal.check_expression-check_choice-requires
 check_expression-check_choice-requires t c =
@@ -1064,10 +997,10 @@ check_expression-check_choice-requires t c =
           c.deref.result.now c.deref-in-If.result.now c.deref-in-If-2.result.now (ap shown_expression c.in-If.is) c.deref.ensures c.deref-in-If.ensures
           c.deref-in-If-2.ensures),
     ) in
-    let ok : MayCheck c.args.context.now.heads.now c.args.context.now.unit (shown_scope c.args.scope.now) c.args.lo
+    let ok : MayCheck c.args.context.now.heads.now c.args.context.now.unit (shown_scope c.args.scope.now) c.args.first_site
     (If c.in-If.place (shown_expression c.deref.result.now) (shown_expression c.deref-in-If.result.now)
     (shown_expression c.deref-in-If-2.result.now)) = subst (λ (x : Expression). MayCheck c.args.context.now.heads.now c.args.context.now.unit
-    (shown_scope c.args.scope.now) c.args.lo x) (walk.choice_same (shown_expression c.args.e.now) c.in-If.place c.in-If.condition.value
+    (shown_scope c.args.scope.now) c.args.first_site x) (walk.choice_same (shown_expression c.args.e.now) c.in-If.place c.in-If.condition.value
     c.in-If.first.value c.in-If.second.value c.deref.result.now c.deref-in-If.result.now c.deref-in-If-2.result.now
     (ap shown_expression c.in-If.is) c.deref.ensures c.deref-in-If.ensures c.deref-in-If-2.ensures) c.requires.able in
     let wide : HasWideWanted c.args.wanted = c.requires.wanted in
@@ -1081,7 +1014,7 @@ check_expression-check_choice-requires t c =
 pub check_expression-returns-in-If-clause-says : goal.check_expression-returns-in-If-clause-says
 check_expression-returns-in-If-clause-says t c =
     subst (λ (x : Expression). Says c.check_choice.result (check (known c.args.context.now.heads.now c.args.context.now.unit)
-    (shown_scope c.args.scope.now) c.args.tail c.args.lo (shown_wanted c.args.wanted) x))
+    (shown_scope c.args.scope.now) c.args.tail c.args.first_site (shown_wanted c.args.wanted) x))
     (sym (walk.choice_same (shown_expression c.args.e.now) c.in-If.place c.in-If.condition.value c.in-If.first.value c.in-If.second.value
     c.deref.result.now c.deref-in-If.result.now c.deref-in-If-2.result.now (ap shown_expression c.in-If.is) c.deref.ensures c.deref-in-If.ensures
     c.deref-in-If-2.ensures)) c.check_choice.ensures.says
@@ -1096,9 +1029,9 @@ check_expression-check_binding-requires t c =
           c.deref-in-Let-2.result.now (ap shown_expression c.in-Let.is ∙ shown_expression-Let c.in-Let.place c.in-Let.field-1 c.in-Let.bound
           c.in-Let.body) c.deref-in-Let.ensures.value c.deref-in-Let-2.ensures),
     ) in
-    let ok : MayCheck c.args.context.now.heads.now c.args.context.now.unit (shown_scope c.args.scope.now) c.args.lo
+    let ok : MayCheck c.args.context.now.heads.now c.args.context.now.unit (shown_scope c.args.scope.now) c.args.first_site
     (Let c.in-Let.place (shown_bindings c.deref-in-Let.result.now) (shown_expression c.deref-in-Let-2.result.now)) = subst
-    (λ (x : Expression). MayCheck c.args.context.now.heads.now c.args.context.now.unit (shown_scope c.args.scope.now) c.args.lo x)
+    (λ (x : Expression). MayCheck c.args.context.now.heads.now c.args.context.now.unit (shown_scope c.args.scope.now) c.args.first_site x)
     (walk.binding_same (shown_expression c.args.e.now) c.in-Let.place c.in-Let.bound.items c.deref-in-Let.result.now c.in-Let.body.value
     c.deref-in-Let-2.result.now (ap shown_expression c.in-Let.is ∙ shown_expression-Let c.in-Let.place c.in-Let.field-1 c.in-Let.bound
     c.in-Let.body) c.deref-in-Let.ensures.value c.deref-in-Let-2.ensures) c.requires.able in
@@ -1112,7 +1045,7 @@ check_expression-check_binding-requires t c =
 pub check_expression-returns-in-Let-clause-says : goal.check_expression-returns-in-Let-clause-says
 check_expression-returns-in-Let-clause-says t c =
     subst (λ (x : Expression). Says c.check_binding.result (check (known c.args.context.now.heads.now c.args.context.now.unit)
-    (shown_scope c.args.scope.now) c.args.tail c.args.lo (shown_wanted c.args.wanted) x))
+    (shown_scope c.args.scope.now) c.args.tail c.args.first_site (shown_wanted c.args.wanted) x))
     (sym (walk.binding_same (shown_expression c.args.e.now) c.in-Let.place c.in-Let.bound.items c.deref-in-Let.result.now c.in-Let.body.value
     c.deref-in-Let-2.result.now (ap shown_expression c.in-Let.is ∙ shown_expression-Let c.in-Let.place c.in-Let.field-1 c.in-Let.bound
     c.in-Let.body) c.deref-in-Let.ensures.value c.deref-in-Let-2.ensures)) c.check_binding.ensures.says
@@ -1124,9 +1057,9 @@ check_expression-check_applied-requires t c =
       ap nodes (ap shown_expression c.in-Op.is ∙ shown_expression-Op c.in-Op.place c.in-Op.field-1 c.in-Op.operator c.in-Op.operands ∙ sym
           (ap (λ (l : List code.Expression). Op c.in-Op.place c.in-Op.operator (shown_expressions l)) c.deref-in-Op.ensures.value)),
     ) in
-    let ok : MayCheck c.args.context.now.heads.now c.args.context.now.unit (shown_scope c.args.scope.now) c.args.lo
+    let ok : MayCheck c.args.context.now.heads.now c.args.context.now.unit (shown_scope c.args.scope.now) c.args.first_site
     (Op c.in-Op.place c.in-Op.operator (shown_expressions c.deref-in-Op.result.now)) = subst
-    (λ (x : Expression). MayCheck c.args.context.now.heads.now c.args.context.now.unit (shown_scope c.args.scope.now) c.args.lo x)
+    (λ (x : Expression). MayCheck c.args.context.now.heads.now c.args.context.now.unit (shown_scope c.args.scope.now) c.args.first_site x)
     (ap shown_expression c.in-Op.is ∙ shown_expression-Op c.in-Op.place c.in-Op.field-1 c.in-Op.operator c.in-Op.operands ∙ sym
     (ap (λ (l : List code.Expression). Op c.in-Op.place c.in-Op.operator (shown_expressions l)) c.deref-in-Op.ensures.value)) c.requires.able in
     let wide : HasWideWanted c.args.wanted = c.requires.wanted in
@@ -1138,7 +1071,7 @@ check_expression-check_applied-requires t c =
 pub check_expression-returns-in-Op-clause-says : goal.check_expression-returns-in-Op-clause-says
 check_expression-returns-in-Op-clause-says t c =
     subst (λ (x : Expression). Says c.check_applied.result (check (known c.args.context.now.heads.now c.args.context.now.unit)
-    (shown_scope c.args.scope.now) c.args.tail c.args.lo (shown_wanted c.args.wanted) x))
+    (shown_scope c.args.scope.now) c.args.tail c.args.first_site (shown_wanted c.args.wanted) x))
     (sym (ap shown_expression c.in-Op.is ∙ shown_expression-Op c.in-Op.place c.in-Op.field-1 c.in-Op.operator c.in-Op.operands ∙ sym
     (ap (λ (l : List code.Expression). Op c.in-Op.place c.in-Op.operator (shown_expressions l)) c.deref-in-Op.ensures.value))) c.check_applied.ensures.says
 
@@ -1149,9 +1082,9 @@ check_expression-check_called-requires t c =
       ap nodes (ap shown_expression c.in-Call.is ∙ shown_expression-Call c.in-Call.place c.in-Call.field-1 c.in-Call.name
           c.in-Call.arguments ∙ sym (ap (λ (l : List code.Expression). Call c.in-Call.place c.in-Call.name (shown_expressions l)) c.deref-in-Call.ensures.value)),
     ) in
-    let ok : MayCheck c.args.context.now.heads.now c.args.context.now.unit (shown_scope c.args.scope.now) c.args.lo
+    let ok : MayCheck c.args.context.now.heads.now c.args.context.now.unit (shown_scope c.args.scope.now) c.args.first_site
     (Call c.in-Call.place c.in-Call.name (shown_expressions c.deref-in-Call.result.now)) = subst
-    (λ (x : Expression). MayCheck c.args.context.now.heads.now c.args.context.now.unit (shown_scope c.args.scope.now) c.args.lo x)
+    (λ (x : Expression). MayCheck c.args.context.now.heads.now c.args.context.now.unit (shown_scope c.args.scope.now) c.args.first_site x)
     (ap shown_expression c.in-Call.is ∙ shown_expression-Call c.in-Call.place c.in-Call.field-1 c.in-Call.name c.in-Call.arguments ∙ sym
     (ap (λ (l : List code.Expression). Call c.in-Call.place c.in-Call.name (shown_expressions l)) c.deref-in-Call.ensures.value)) c.requires.able in
     let wide : HasWideWanted c.args.wanted = c.requires.wanted in
@@ -1163,7 +1096,7 @@ check_expression-check_called-requires t c =
 pub check_expression-returns-in-Call-clause-says : goal.check_expression-returns-in-Call-clause-says
 check_expression-returns-in-Call-clause-says t c =
     subst (λ (x : Expression). Says c.check_called.result (check (known c.args.context.now.heads.now c.args.context.now.unit)
-    (shown_scope c.args.scope.now) c.args.tail c.args.lo (shown_wanted c.args.wanted) x))
+    (shown_scope c.args.scope.now) c.args.tail c.args.first_site (shown_wanted c.args.wanted) x))
     (sym (ap shown_expression c.in-Call.is ∙ shown_expression-Call c.in-Call.place c.in-Call.field-1 c.in-Call.name c.in-Call.arguments ∙ sym
     (ap (λ (l : List code.Expression). Call c.in-Call.place c.in-Call.name (shown_expressions l)) c.deref-in-Call.ensures.value))) c.check_called.ensures.says
 
@@ -1176,17 +1109,14 @@ pub check_expression-typed_variable-requires : goal.check_expression-typed_varia
 check_expression-typed_variable-requires t c =
     omega (arith, c.requires.able.room)
 
-pub check_arguments-returns-in_default-clause-slots : goal.check_arguments-returns-in_default-clause-slots
-check_arguments-returns-in_default-clause-slots t c = c.none_typed.ensures.slots (length (shown_scope c.args.scope.now))
+pub check_all-returns-in_default-clause-slots : goal.check_all-returns-in_default-clause-slots
+check_all-returns-in_default-clause-slots t c = c.none_typed.ensures.slots (length (shown_scope c.args.scope.now))
 
-pub check_arguments-returns-in_default-split_first-clause-slots : goal.check_arguments-returns-in_default-split_first-clause-slots
-check_arguments-returns-in_default-split_first-clause-slots t c = c.none_typed-in_default-split_first.ensures.slots (length (shown_scope c.args.scope.now))
+pub check_all-returns-in_default-split_first-clause-slots : goal.check_all-returns-in_default-split_first-clause-slots
+check_all-returns-in_default-split_first-clause-slots t c = c.none_typed-in_default-split_first.ensures.slots (length (shown_scope c.args.scope.now))
 
 pub check_bound-returns-in_default-clause-slots : goal.check_bound-returns-in_default-clause-slots
 check_bound-returns-in_default-clause-slots t c = c.none_typed.ensures.slots (length (shown_scope c.args.scope.now))
-
-pub check_operands-returns-in_default-clause-slots : goal.check_operands-returns-in_default-clause-slots
-check_operands-returns-in_default-clause-slots t c = c.none_typed.ensures.slots (length (shown_scope c.args.scope.now))
 
 pub check_alike-returns-in_default-clause-slots : goal.check_alike-returns-in_default-clause-slots
 check_alike-returns-in_default-clause-slots t c = IfOk-weaker c.none_alike.result _ _ (λ x h. h (length (shown_scope c.args.scope.now))) c.none_alike.ensures.slots

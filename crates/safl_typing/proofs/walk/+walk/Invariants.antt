@@ -27,14 +27,11 @@ decreases-check_alike l = 4 * nodes_in (shown_expressions l.operands.now) + 1
 abbrev pub decreases-check_shift : goal.decreases-check_shift
 decreases-check_shift l = 4 * nodes_in (shown_expressions l.operands.now) + 1
 
-abbrev pub decreases-check_operands : goal.decreases-check_operands
-decreases-check_operands l = 4 * nodes_in (shown_expressions l.operands.now) + 1
+abbrev pub decreases-check_all : goal.decreases-check_all
+decreases-check_all l = 4 * nodes_in (shown_expressions l.expressions.now) + 1
 
 abbrev pub decreases-check_called : goal.decreases-check_called
 decreases-check_called l = 4 * nodes_in (shown_expressions l.arguments.now) + 3
-
-abbrev pub decreases-check_arguments : goal.decreases-check_arguments
-decreases-check_arguments l = 4 * nodes_in (shown_expressions l.arguments.now) + 1
 
 abbrev pub decreases-check_counted : goal.decreases-check_counted
 decreases-check_counted l = 4 * nodes_in (shown_expressions l.arguments.now) + 2

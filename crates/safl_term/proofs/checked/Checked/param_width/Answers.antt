@@ -1,7 +1,7 @@
 use Rattle.std.proofs.Common.{◌≡◌, ℕ, ◌<◌, ◌≤◌, Some, slice_get, subst, sym}
 use Rattle.safl_term.specs.Checked.{CheckedProgram}
 use Rattle.safl_term.specs.Program.{arity}
-use Rattle.safl_word.specs.Words.{max_width}
+use Rattle.safl_word.specs.Limits.{width_max}
 use Rattle.safl_term.proofs.HeldByChecked.{param_fits, param_read}
 use Rattle.safl_term.proofs.checked.Checked.param_width.Goals as goal
 
@@ -12,7 +12,7 @@ returns-clause-width c =
     (subst (λ (p : CheckedProgram). c.args.f < p.program.functions) (sym c.self.view_is) c.requires.function)
     (subst (λ (p : CheckedProgram). c.args.i < arity p.program c.args.f) (sym c.self.view_is) c.requires.param) c.index.ensures c.index-2.ensures)
 
-fits : (c : goal.After-index-2) → (1 ≤ c.index-2.result.now.width) × (c.index-2.result.now.width ≤ max_width)
+fits : (c : goal.After-index-2) → (1 ≤ c.index-2.result.now.width) × (c.index-2.result.now.width ≤ width_max)
 fits c =
     param_fits _ c.args.f c.args.i c.index.result.now c.index-2.result.now c.self.invariant.0
     (subst (λ (p : CheckedProgram). c.args.f < p.program.functions) (sym c.self.view_is) c.requires.function)

@@ -1,0 +1,11 @@
+use Rattle.std.proofs.Common.{◌≡◌, take}
+use Rattle.std.specs.Prelude.{map}
+use Rattle.safl_typing.specs.Heads.{Known}
+use Rattle.safl_typing.specs.Marks.{AreMarked}
+use Rattle.safl_typing.specs.Plain.{shown_expressions}
+use Rattle.safl_typing.specs.PlainTyped.{shown_wanted, operands_wanted}
+use Rattle.safl_typing.proofs.wanted.wanted_operands.Given as goal
+
+abbrev pub invariant-loop-operand : goal.invariant-loop-operand
+invariant-loop-operand l =
+    (k : Known) → AreMarked k l.operands → map shown_wanted l.all.items ≡ operands_wanted l.shifted (shown_expressions (take l.operand-index l.operands))
