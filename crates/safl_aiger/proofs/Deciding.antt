@@ -13,7 +13,7 @@ use Rattle.safl_aiger.specs.declared.symbols.Sort.TheVariants as sorts
 use Rattle.safl_aiger.specs.Circuits.{Circuit}
 use Rattle.safl_aiger.specs.Lines.{lines, fields, IsDecimal, AreDecimals, HasNumbers}
 use Rattle.safl_aiger.specs.Reads.{Counts, IsHeader, total, size, IsGood, kinds_from, line_kinds, AreGood, own_numbers, latch_numbers, output_numbers}
-use Rattle.safl_aiger.specs.Reads.{and_numbers, Named, NamesPlace, names_for, with_name, letter, symbol_line, unnamed, Refuses, Begins, AigReads}
+use Rattle.safl_aiger.specs.Reads.{and_numbers, Named, NamesPlace, names_for, with_name, letter, symbol_line, unnamed, RefusesLine, Begins, AigReads}
 use Rattle.safl_aiger.specs.Reads.{IsBad, LineFault, SymbolFault, HasFault, bad_line, bad_symbol}
 use Rattle.safl_aiger.specs.Symbols.{IsSmall, NamesUpTo, SymbolsPass}
 use Rattle.safl_aiger.proofs.Cutting.{Free, decimals_once}
@@ -300,7 +300,7 @@ decide_some (c ∷ v) = inr (λ e. cc)
 abbrev PlaceNamed : List ℕ → Named → Type 0
 PlaceNamed l old = (new : Named) × NamesPlace l old new
 
-decide_place : (l : List ℕ) (old : Named) → IsSmall old → PlaceNamed l old ⊎ Refuses l old
+decide_place : (l : List ℕ) (old : Named) → IsSmall old → PlaceNamed l old ⊎ RefusesLine l old
 decide_place [] old small = inr (λ new p. let z : [] ≡ letter p.sort ∷ (decimal p.place ++ 32 ∷ p.name) = p.is in cc)
 decide_place (c ∷ cs) old small = by (decide_letter c) (decide_cut 32 cs)
   where
@@ -322,7 +322,7 @@ decide_place (c ∷ cs) old small = by (decide_letter c) (decide_cut 32 cs)
     made_of s k e = λ i. s.1 i ∷ (k.is ∙ ap (λ u. u ++ 32 ∷ k.behind) e) i
 
     with_parts : (s : LetterOf c) (k : Cut 32 cs) → Decided (k.before ≡ decimal (value 10 k.before)) → (k.behind ≡ []) ⊎ (k.behind ≢ []) → Decided
-        (slice_get (names_for s.0 old) (value 10 k.before) ≡ Some []) → PlaceNamed (c ∷ cs) old ⊎ Refuses (c ∷ cs) old
+        (slice_get (names_for s.0 old) (value 10 k.before) ≡ Some []) → PlaceNamed (c ∷ cs) old ⊎ RefusesLine (c ∷ cs) old
     with_parts s k (inl e) (inr n) (inl f) =
         let name = with_name s.0 (value 10 k.before) k.behind old in
         let p : NamesPlace (c ∷ cs) old name = record { sort = s.0; place = value 10 k.before; name = k.behind; is = made_of s k e; free = f; some = n; sets = refl } in
@@ -331,7 +331,7 @@ decide_place (c ∷ cs) old small = by (decide_letter c) (decide_cut 32 cs)
     with_parts s k (inl e) (inl n) f = inr (λ new p. p.some (sym (same k new p).1 ∙ n))
     with_parts s k (inl e) (inr n) (inr f) = inr (λ new p. f ((λ i. slice_get (names_for (letter_once s.0 p.sort (sym s.1 ∙ first new p) i) old) (number k new p i)) ∙ p.free))
 
-    by : Decided (LetterOf c) → Cut 32 cs ⊎ ((u v : List ℕ) → cs ≡ u ++ 32 ∷ v → ⊥) → PlaceNamed (c ∷ cs) old ⊎ Refuses (c ∷ cs) old
+    by : Decided (LetterOf c) → Cut 32 cs ⊎ ((u v : List ℕ) → cs ≡ u ++ 32 ∷ v → ⊥) → PlaceNamed (c ∷ cs) old ⊎ RefusesLine (c ∷ cs) old
     by (inr s) k = inr (λ new p. s (p.sort, first new p))
     by (inl s) (inr k) = inr (λ new p. k (decimal p.place) p.name (others new p))
     by (inl s) (inl k) = with_parts s k (decide_list k.before (decimal (value 10 k.before))) (decide_some k.behind) (decide_free (names_for s.0 old) (value 10 k.before))
@@ -356,7 +356,7 @@ decide_symbols (l ∷ ls) old small = by (decide_list l (codes "c")) (decide_pla
         inl (q.0, (q.1.0, more, q.1.2))
     behind p (inr f) n = inr (suc f.0, (p.0, p.1, f.1))
 
-    by : Decided (l ≡ codes "c") → PlaceNamed l old ⊎ Refuses l old → ((p : PlaceNamed l old) → AllNamed ls p.0 ⊎ HasSymbolFault ls p.0) → AllNamed (l ∷ ls) old ⊎ HasSymbolFault (l ∷ ls) old
+    by : Decided (l ≡ codes "c") → PlaceNamed l old ⊎ RefusesLine l old → ((p : PlaceNamed l old) → AllNamed ls p.0 ⊎ HasSymbolFault ls p.0) → AllNamed (l ∷ ls) old ⊎ HasSymbolFault (l ∷ ls) old
     by (inl e) p rest = inl (old, (l ∷ ls, none_named (l ∷ ls) old, e))
     by (inr n) (inl p) rest = behind p (rest p) n
     by (inr n) (inr r) rest = inr (0, (n, r))

@@ -14,7 +14,7 @@ use Rattle.safl_aiger.specs.declared.symbols.Sort.{Sort}
 use Rattle.safl_aiger.specs.declared.symbols.Sort.TheVariants.{Input, Latch, Output}
 use Rattle.safl_aiger.specs.declared.symbols.SymbolsErr.TheVariants.{Stopped}
 use Rattle.safl_aiger.specs.Circuits.{names_of}
-use Rattle.safl_aiger.specs.Reads.{Named, NamesPlace, NamePlaces, names_for, with_name, letter, symbol_line, Refuses, SymbolFault, Ends}
+use Rattle.safl_aiger.specs.Reads.{Named, NamesPlace, NamePlaces, names_for, with_name, letter, symbol_line, RefusesLine, SymbolFault, Ends}
 use Rattle.safl_aiger.specs.Symbols.{IsSmall, IsSymbolLine, Sets, NamesUpTo, SymbolsPass, SymbolsFail}
 use Rattle.safl_aiger.proofs.Cutting.{Free}
 use Rattle.safl_aiger.proofs.Joining.{names_at}
@@ -144,12 +144,12 @@ pub output_named : (line : List ℕ) (k : ℕ) (name : List ℕ) (old : Named) (
 output_named line k name old l e s = record { sort = Output; place = k; name = name; is = e; free = s.free; some = s.some; sets = ap (λ x. record old { outputs = x }) s.sets }
 
 -- a line that is no symbol names no place
-pub form_refuses : (line : List ℕ) (old : Named) → IsSmall old → ¬ (IsSymbolLine line) → Refuses line old
+pub form_refuses : (line : List ℕ) (old : Named) → IsSmall old → ¬ (IsSymbolLine line) → RefusesLine line old
 form_refuses line old h f new p = f (record { sort = p.sort; place = p.place; name = p.name; few = place_small line old new p h; some = p.some; is = p.is })
 
 -- a symbol for a place that has a name, or is none, names no place
 pub taken_refuses : (line : List ℕ) (s : Sort) (k : ℕ) (name : List ℕ) (old : Named) → IsSmall old → k < 2 ^ 31 → line ≡ symbol_line s k name → ¬
-    (slice_get (names_for s old) k ≡ Some []) → Refuses line old
+    (slice_get (names_for s old) k ≡ Some []) → RefusesLine line old
 taken_refuses line s k name old h l e t new p =
     let q = symbol_once s p.sort k p.place name p.name l (place_small line old new p h) (sym e ∙ p.is) in
     t ((λ i. slice_get (names_for (q.0 i) old) (q.1 i)) ∙ p.free)
@@ -199,12 +199,12 @@ underway_room ls before old new line left count u =
     omega (arith, e, a, b)
 
 symbol_fault : (symbols : List (List ℕ)) (line : List ℕ) (left : List (List ℕ)) (old mid : Named) → NamePlaces symbols old mid → line ≢ codes "c" →
-    Refuses line mid → SymbolFault (symbols ++ line ∷ left) old (length symbols)
-symbol_fault [] line left old mid n c r = (c, subst (λ (m : Named). Refuses line m) n r)
+    RefusesLine line mid → SymbolFault (symbols ++ line ∷ left) old (length symbols)
+symbol_fault [] line left old mid n c r = (c, subst (λ (m : Named). RefusesLine line m) n r)
 symbol_fault (s ∷ symbols) line left old mid n c r = (n.0, n.1, symbol_fault symbols line left n.0 mid n.2 c r)
 
 pub underway_fails : (ls : List (List ℕ)) (before : ℕ) (old mid : Named) (line : List ℕ) (left : List (List ℕ)) (count : ℕ) → Underway ls before old
-    mid (line ∷ left) count → line ≢ codes "c" → Refuses line mid → SymbolsFail ls before old (Stopped (count + 1))
+    mid (line ∷ left) count → line ≢ codes "c" → RefusesLine line mid → SymbolsFail ls before old (Stopped (count + 1))
 underway_fails ls before old mid line left count u c r =
     let s = u.upto.symbols in
     let e = u.count_is in (

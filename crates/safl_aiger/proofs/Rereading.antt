@@ -12,7 +12,7 @@ use Rattle.safl_aiger.specs.declared.symbols.Sort.{Sort}
 use Rattle.safl_aiger.specs.declared.symbols.Sort.TheVariants as sorts
 use Rattle.safl_aiger.specs.Circuits.{Circuit, latches, variables, base, IsLine, AreBelow, IsCircuit}
 use Rattle.safl_aiger.specs.Lines.{lines, fields, IsDecimal, AreDecimals, HasNumbers}
-use Rattle.safl_aiger.specs.Texts.{joined, numbers_line, header_line, input_text, latch_text, output_text, and_text, symbol_text, symbols_text, body_text, symbol_lines, written}
+use Rattle.safl_aiger.specs.Texts.{joined_lines, numbers_line, header_line, input_text, latch_text, output_text, and_text, symbol_text, symbols_text, body_text, symbol_lines, written}
 use Rattle.safl_aiger.specs.Reads.{AreGood, kinds_from, own_numbers, latch_numbers, output_numbers, and_numbers, counts_of, Named, NamePlaces}
 use Rattle.safl_aiger.specs.Reads.{NamesPlace, symbol_line, letter, unnamed, named_of, AigReads}
 use Rattle.safl_aiger.specs.TextLaws.{BodyReads}
@@ -39,9 +39,9 @@ all-append : (xs ys : List (List ℕ)) → AllFree xs → AllFree ys → AllFree
 all-append [] ys h k = k
 all-append (x ∷ xs) ys h k = (h.0, all-append xs ys h.1 k)
 
-lines_joined : (ls : List (List ℕ)) → AllFree ls → lines (joined ls) ≡ ls
+lines_joined : (ls : List (List ℕ)) → AllFree ls → lines (joined_lines ls) ≡ ls
 lines_joined [] h = refl
-lines_joined (l ∷ ls) h = ap lines (append_assoc l (10 ∷ []) (joined ls)) ∙ lines_feed l (joined ls) h.0 ∙ ap (λ x. l ∷ x) (lines_joined ls h.1)
+lines_joined (l ∷ ls) h = ap lines (append_assoc l (10 ∷ []) (joined_lines ls)) ∙ lines_feed l (joined_lines ls) h.0 ∙ ap (λ x. l ∷ x) (lines_joined ls h.1)
 
 -- ---- lines of numbers
 
@@ -170,7 +170,7 @@ rereads a c =
     ∙ ap (λ l. input_text 1 a.inputs ++ l) (append_assoc (latch_text (1 + a.inputs) a.nexts) (output_text a.outputs ++ and_text (base a) a.ands)
     (symbol_lines a) ∙ ap (λ l. latch_text (1 + a.inputs) a.nexts ++ l) (append_assoc (output_text a.outputs) (and_text (base a) a.ands) (symbol_lines a))) in
     record {
-      lines_are = ap (λ l. lines (joined (header_line a ∷ l))) (sym regroup) ∙ lines_joined (header_line a ∷ (body_text a ++ symbol_lines a))
+      lines_are = ap (λ l. lines (joined_lines (header_line a ∷ l))) (sym regroup) ∙ lines_joined (header_line a ∷ (body_text a ++ symbol_lines a))
           (head, all-append (body_text a) (symbol_lines a) free named);
       header = (
         numbers_line (variables a) (a.inputs ∷ latches a ∷ length a.outputs ∷ length a.ands ∷ []),

@@ -127,8 +127,8 @@ pub record NamesPlace (line : List ℕ) (old new : Named) : Type 0 where
   pub sets : new ≡ with_name sort place name old
 
 -- the line gives no name to anything of the circuit without a name
-abbrev pub Refuses : List ℕ → Named → Type 0
-Refuses line old = (new : Named) → ¬ (NamesPlace line old new)
+abbrev pub RefusesLine : List ℕ → Named → Type 0
+RefusesLine line old = (new : Named) → ¬ (NamesPlace line old new)
 
 -- each of these lines gives a name
 abbrev pub NamePlaces : List (List ℕ) → Named → Named → Type 0
@@ -184,7 +184,7 @@ LineFault most (w ∷ ws) (l ∷ ls) e (suc k) = (ns : List ℕ) × HasNumbers l
 -- so many lines give names, and the line after them gives none and is not `c`
 abbrev pub SymbolFault : List (List ℕ) → Named → ℕ → Type 0
 SymbolFault [] old k = ⊥
-SymbolFault (l ∷ ls) old zero = (l ≢ codes "c") × Refuses l old
+SymbolFault (l ∷ ls) old zero = (l ≢ codes "c") × RefusesLine l old
 SymbolFault (l ∷ ls) old (suc k) = (new : Named) × NamesPlace l old new × SymbolFault ls new k
 
 -- the number of the first line that breaks a rule, counted from 1, and that rule

@@ -8,7 +8,7 @@ use Rattle.safl_aiger.specs.declared.symbols.SymbolErr.TheVariants as failures
 use Rattle.safl_aiger.specs.declared.symbols.SymbolsErr.{SymbolsErr}
 use Rattle.safl_aiger.specs.declared.symbols.SymbolsErr.TheVariants.{Stopped, NoMemory}
 use Rattle.safl_aiger.specs.Circuits.{names_of}
-use Rattle.safl_aiger.specs.Reads.{Named, NamePlaces, Refuses, SymbolFault, symbol_line, Ends}
+use Rattle.safl_aiger.specs.Reads.{Named, NamePlaces, RefusesLine, SymbolFault, symbol_line, Ends}
 
 -- the names that the code keeps
 abbrev pub named : Names → Named
@@ -46,7 +46,7 @@ IsTaken old k failures.Refused = ¬ (slice_get old k ≡ Some [])
 IsTaken old k failures.NoMemory = Unit {0}
 
 abbrev pub IsRefused : List ℕ → Named → SymbolErr → Type 0
-IsRefused line old failures.Refused = Refuses line old
+IsRefused line old failures.Refused = RefusesLine line old
 IsRefused line old failures.NoMemory = Unit {0}
 
 -- these lines give names, up to the ones that are left

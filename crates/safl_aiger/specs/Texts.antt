@@ -5,9 +5,9 @@ use Rattle.safl_aiger.specs.declared.literal.Lit.{Lit}
 use Rattle.safl_aiger.specs.Circuits.{Circuit, latches, variables, base}
 
 -- the lines, each followed by a line feed
-abbrev pub joined : List (List ℕ) → List ℕ
-joined [] = []
-joined (l ∷ ls) = (l ++ 10 ∷ []) ++ joined ls
+abbrev pub joined_lines : List (List ℕ) → List ℕ
+joined_lines [] = []
+joined_lines (l ∷ ls) = (l ++ 10 ∷ []) ++ joined_lines ls
 
 -- numbers in decimal, with a space between them
 abbrev pub numbers_line : ℕ → List ℕ → List ℕ
@@ -49,7 +49,7 @@ written_lines a =
     header_line a ∷ (input_text 1 a.inputs ++ (latch_text (1 + a.inputs) a.nexts ++ (output_text a.outputs ++ (and_text (base a) a.ands ++ (symbols_text 105 0 a.input_names ++ (symbols_text 108 0 a.latch_names ++ symbols_text 111 0 a.output_names))))))
 
 abbrev pub written : Circuit → List ℕ
-written a = joined (written_lines a)
+written a = joined_lines (written_lines a)
 
 -- the lines between the header and the symbols, and the lines of symbols
 abbrev pub body_text : Circuit → List (List ℕ)

@@ -3,7 +3,7 @@
 ghost use Rattle.std.specs.Prelude.{◌≡◌, ℕ, ◌+◌, ◌*◌, ◌<◌, ◌≤◌, ◌^◌, ◌++◌, ◌∷◌, [], length, All, IfOk, OnOk};
 ghost use Rattle.safl_word.specs.Limits.{variables_max};
 ghost use Rattle.safl_aiger.specs.Circuits.{names_of};
-ghost use Rattle.safl_aiger.specs.Texts.{joined, numbers_line, input_text, latch_text, output_text, and_text, symbol_text, symbols_text, header_line, written};
+ghost use Rattle.safl_aiger.specs.Texts.{joined_lines, numbers_line, input_text, latch_text, output_text, and_text, symbol_text, symbols_text, header_line, written};
 
 use crate::circuit::{Aig, Name};
 use crate::literal::Lit;
@@ -30,7 +30,7 @@ pub fn aig_text(alloc: Global, a: &Aig) -> Result<Vec<u8>, NoMemory>
 }
 
 fn push_header(out: &mut Vec<u8>, a: &Aig) -> Result<(), NoMemory>
-    ensures { OnOk result (out.new.items ≡ out.old.items ++ joined (header_line a.now ∷ [])) }
+    ensures { OnOk result (out.new.items ≡ out.old.items ++ joined_lines (header_line a.now ∷ [])) }
 {
     let inputs = a.inputs();
     let latches = a.latches();
@@ -45,7 +45,7 @@ fn push_header(out: &mut Vec<u8>, a: &Aig) -> Result<(), NoMemory>
 
 fn push_inputs(out: &mut Vec<u8>, count: u32) -> Result<(), NoMemory>
     requires { count < variables_max }
-    ensures { OnOk result (out.new.items ≡ out.old.items ++ joined (input_text 1 count)) }
+    ensures { OnOk result (out.new.items ≡ out.old.items ++ joined_lines (input_text 1 count)) }
 {
     for i in 0..count {
         push_numbers(out, 2 * (1 + i), &[])?;
@@ -55,7 +55,7 @@ fn push_inputs(out: &mut Vec<u8>, count: u32) -> Result<(), NoMemory>
 
 fn push_latches(out: &mut Vec<u8>, first: u32, nexts: &[Lit]) -> Result<(), NoMemory>
     requires { first + length nexts.now ≤ variables_max }
-    ensures { OnOk result (out.new.items ≡ out.old.items ++ joined (latch_text first nexts.now)) }
+    ensures { OnOk result (out.new.items ≡ out.old.items ++ joined_lines (latch_text first nexts.now)) }
 {
     for i in 0..nexts.len() {
         push_numbers(out, 2 * (first + i as u32), &[nexts[i].0])?;
@@ -64,7 +64,7 @@ fn push_latches(out: &mut Vec<u8>, first: u32, nexts: &[Lit]) -> Result<(), NoMe
 }
 
 fn push_outputs(out: &mut Vec<u8>, outputs: &[Lit]) -> Result<(), NoMemory>
-    ensures { OnOk result (out.new.items ≡ out.old.items ++ joined (output_text outputs.now)) }
+    ensures { OnOk result (out.new.items ≡ out.old.items ++ joined_lines (output_text outputs.now)) }
 {
     for i in 0..outputs.len() {
         push_numbers(out, outputs[i].0, &[])?;
@@ -74,7 +74,7 @@ fn push_outputs(out: &mut Vec<u8>, outputs: &[Lit]) -> Result<(), NoMemory>
 
 fn push_ands(out: &mut Vec<u8>, first: u32, ands: &[(Lit, Lit)]) -> Result<(), NoMemory>
     requires { first + length ands.now ≤ variables_max }
-    ensures { OnOk result (out.new.items ≡ out.old.items ++ joined (and_text first ands.now)) }
+    ensures { OnOk result (out.new.items ≡ out.old.items ++ joined_lines (and_text first ands.now)) }
 {
     for i in 0..ands.len() {
         let (left, right) = ands[i];
@@ -84,7 +84,7 @@ fn push_ands(out: &mut Vec<u8>, first: u32, ands: &[(Lit, Lit)]) -> Result<(), N
 }
 
 fn push_symbols(out: &mut Vec<u8>, letter: u8, names: &[Name]) -> Result<(), NoMemory>
-    ensures { OnOk result (out.new.items ≡ out.old.items ++ joined (symbols_text letter 0 (names_of names.now))) }
+    ensures { OnOk result (out.new.items ≡ out.old.items ++ joined_lines (symbols_text letter 0 (names_of names.now))) }
 {
     for i in 0..names.len() {
         push_symbol(out, letter, i, &names[i].bytes)?;
@@ -93,7 +93,7 @@ fn push_symbols(out: &mut Vec<u8>, letter: u8, names: &[Name]) -> Result<(), NoM
 }
 
 fn push_symbol(out: &mut Vec<u8>, letter: u8, place: usize, name: &[u8]) -> Result<(), NoMemory>
-    ensures { OnOk result (out.new.items ≡ out.old.items ++ joined (symbol_text letter place name.now)) }
+    ensures { OnOk result (out.new.items ≡ out.old.items ++ joined_lines (symbol_text letter place name.now)) }
 {
     if !name.is_empty() {
         out.push(letter)?;
@@ -107,7 +107,7 @@ fn push_symbol(out: &mut Vec<u8>, letter: u8, place: usize, name: &[u8]) -> Resu
 
 // Appends a line of numbers, with spaces between them.
 fn push_numbers(out: &mut Vec<u8>, first: u32, rest: &[u32]) -> Result<(), NoMemory>
-    ensures { OnOk result (out.new.items ≡ out.old.items ++ joined (numbers_line first rest.now ∷ [])) }
+    ensures { OnOk result (out.new.items ≡ out.old.items ++ joined_lines (numbers_line first rest.now ∷ [])) }
 {
     push_decimal(u128::from(first), out)?;
     for i in 0..rest.len() {

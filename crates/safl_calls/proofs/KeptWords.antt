@@ -17,7 +17,7 @@ use Rattle.safl_calls.proofs.Positions.{Under, under_reaches, found_after}
 use Rattle.safl_calls.proofs.Spared.{wants_too}
 use Rattle.safl_sites.specs.Conflicts.{Reaches}
 use Rattle.safl_sites.specs.Kept.{Decides, Held, Kept}
-use Rattle.safl_calls.specs.Interference.{shown, shown_as, ShownWordsServe}
+use Rattle.safl_calls.specs.Interference.{shown_words, shown_as, ShownWordsServe}
 use Rattle.safl_term.specs.Readiness.{Ready, LoopTo, NotYet, answer, wanted, Stage, Unsent, Sent, Returned, back_word}
 use Rattle.safl_term.specs.Program.{Program, unit_for, arity}
 use Rattle.safl_term.specs.Standing.{Stands}
@@ -239,7 +239,7 @@ module _ (C : Program) (kept : ℕ → Bool) (args : List Word) (good : Numbered
     r = back s
 
     abbrev r' : ℕ → Option Word
-    r' = shown C kept d args es
+    r' = shown_words C kept d args es
 
     -- the shown words below i, and the returned ones from i on
     abbrev hyb : ℕ → ℕ → Option Word

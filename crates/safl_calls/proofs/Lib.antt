@@ -1,4 +1,4 @@
-mod Rows
+mod WorkedRun
 pub mod Numbered
 pub mod Basics
 pub mod Locality

@@ -13,9 +13,9 @@ shown_as keep last Unsent = None
 shown_as keep last Sent = None
 shown_as keep last (Returned v) = Some (cond keep v last)
 
-abbrev pub shown : Program → (ℕ → Bool) → (ℕ → Word) → List Word → List Event → ℕ → Option Word
-shown C kept d args es zero = None
-shown C kept d args es (suc k) =
+abbrev pub shown_words : Program → (ℕ → Bool) → (ℕ → Word) → List Word → List Event → ℕ → Option Word
+shown_words C kept d args es zero = None
+shown_words C kept d args es (suc k) =
     shown_as (kept (suc k)) (last_word C args opening es (unit_for C (suc k)) (d (unit_for C (suc k))))
     ((after C args opening es).site (suc k))
 
@@ -38,7 +38,7 @@ pub record OneInUse (C : Program) (arbiter : ℕ → Bool) : Type 0 where
 -- words
 pub record ShownWordsServe (C : Program) (kept : ℕ → Bool) : Type 0 where
   pub same_answer : (d : ℕ → Word) → EachList C (λ args es. (u f k : ℕ) (ws : List Word) → (after C args opening es).unit u ≡ Runs f k ws
-      → answer (shown C kept d args es) ws (C.body f) ≡ answer (back (after C args opening es)) ws (C.body f))
+      → answer (shown_words C kept d args es) ws (C.body f) ≡ answer (back (after C args opening es)) ws (C.body f))
   pub same_wants : (d : ℕ → Word) → EachList C (λ args es. (u f j : ℕ) (ws : List Word) → (after C args opening es).unit u ≡ Runs f j ws
       → (k : ℕ) → (after C args opening es).site k ≡ Unsent
-      → wanted (shown C kept d args es) ws (C.body f) k ≡ wanted (back (after C args opening es)) ws (C.body f) k)
+      → wanted (shown_words C kept d args es) ws (C.body f) k ≡ wanted (back (after C args opening es)) ws (C.body f) k)

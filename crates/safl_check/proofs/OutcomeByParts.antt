@@ -13,7 +13,7 @@ use Rattle.safl_typing.specs.Heads.{Head, heads, unit_of}
 use Rattle.safl_typing.specs.Forms.{FunctionForm, Form, AreFunctionsOf, AreShallow, IsFormOf, all_sites, form_of, shown_function}
 use Rattle.safl_word.specs.Limits.{functions_max}
 use Rattle.safl_typing.specs.Laws.{WalkGivesForm}
-use Rattle.safl_typing.specs.PlainTyped.{Refuses}
+use Rattle.safl_typing.specs.PlainTyped.{RefusesFault}
 use Rattle.safl_term.specs.Readiness.{or_else}
 use Rattle.safl_typing.specs.Walk.{limits, limits_from, limit, excess, functions_from, main_fault, outcome, first_fault}
 use Rattle.safl_typing.specs.declared.typed.CheckErr.{CheckErr}
@@ -46,7 +46,7 @@ unfolding outcome
 fault_of_main ds fs f e p m = rw e (rw p (rw m refl))
 
 -- a fault of the walk over the functions is the program's
-pub refused_functions : (ds : List Definition) (e : CheckErr) → limits ds ≡ None → Refuses e (functions_from (heads ds) [] 0 0 1 ds) → RefusesShallow ds e
+pub refused_functions : (ds : List Definition) (e : CheckErr) → limits ds ≡ None → RefusesFault e (functions_from (heads ds) [] 0 0 1 ds) → RefusesShallow ds e
 refused_functions ds (errors.Refused f) within h = fault_of_functions ds f within h
 refused_functions ds errors.TooDeep within h = h
 refused_functions ds errors.NoMemory within h = tt

@@ -21,7 +21,7 @@ use Rattle.safl_typing.specs.Forms.{FunctionForm, shown_function}
 use Rattle.safl_typing.specs.Walk.{Exactly, after, unless, limits, check, group_fault, function, functions_from}
 use Rattle.safl_typing.specs.Plain.{shown_expression}
 use Rattle.safl_typing.specs.PlainHeads.{shown_slots, shown_heads, known}
-use Rattle.safl_typing.specs.PlainTyped.{Refuses}
+use Rattle.safl_typing.specs.PlainTyped.{RefusesFault}
 use Rattle.safl_typing.specs.MayWalk.{MayCheck}
 use Rattle.safl_check.specs.Groups.{name_in, earlier, first_group_fault, group_fault_at}
 use Rattle.safl_check.specs.Functions.{checked_function}
@@ -103,7 +103,7 @@ is_there defs hs i d h is few ed eh =
     }
 
 stops : {A : Type 0} (e : CheckErr) (whole : Result (List FunctionForm) Fault) (fs : List FunctionForm) (r : Result A Fault)
-    (rest : A → Result (List FunctionForm) Fault) → whole ≡ joined_with fs (after r rest) → Refuses e r → Refuses e whole
+    (rest : A → Result (List FunctionForm) Fault) → whole ≡ joined_with fs (after r rest) → RefusesFault e r → RefusesFault e whole
 stops (errors.Refused f) whole fs r rest p h = p ∙ ap (λ z. joined_with fs (after z rest)) h
 stops errors.TooDeep whole fs r rest p h = absurd h
 stops errors.NoMemory whole fs r rest p h = tt
@@ -159,8 +159,8 @@ module _ (ds : List Definition) (hs : List code_head.Head) (fs : List Function) 
       functions_here ∙ ap (λ (o : Option Fault). joined_with (map shown_function fs) (unless o (from_here (checked_function sees (params_of d) lo d (rewritten d.body))))) g
       ∙ sym (ap (λ (r : Result FunctionForm Fault). joined_with (map shown_function fs) (from_here r)) (same_function whole k))
 
-  pub function_refused : (whole : List code_head.Head) → AreKnown (heads ds) whole → (e : CheckErr) → group_fault_at ds i ≡ None → Refuses e
-      (checked_function (known whole h.unit) (shown_slots h.params.items) lo d (shown_expression b)) → Refuses e (functions_from (heads ds) [] 0 0 1 ds)
+  pub function_refused : (whole : List code_head.Head) → AreKnown (heads ds) whole → (e : CheckErr) → group_fault_at ds i ≡ None → RefusesFault e
+      (checked_function (known whole h.unit) (shown_slots h.params.items) lo d (shown_expression b)) → RefusesFault e (functions_from (heads ds) [] 0 0 1 ds)
   function_refused whole k e g r = stops e _ (map shown_function fs) (checked_function (known whole h.unit) (shown_slots h.params.items) lo d (shown_expression b)) _ (function_next whole k g) r
 
   names_next : earlier ds (i + 1) ≡ d.name ∷ earlier ds i

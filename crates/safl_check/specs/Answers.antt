@@ -5,7 +5,7 @@ use Rattle.safl_word.specs.declared.fault.Fault.{Fault}
 use Rattle.safl_term.specs.declared.checked.Function.{Function}
 use Rattle.safl_tree.specs.Tree.{Definition}
 use Rattle.safl_typing.specs.Forms.{FunctionForm, AreShallow, shown_function}
-use Rattle.safl_typing.specs.PlainTyped.{Refuses}
+use Rattle.safl_typing.specs.PlainTyped.{RefusesFault}
 use Rattle.safl_typing.specs.Walk.{limits, first_fault}
 use Rattle.safl_typing.specs.declared.typed.CheckErr.{CheckErr}
 use Rattle.safl_typing.specs.declared.typed.CheckErr.TheVariants as errors
@@ -13,7 +13,7 @@ use Rattle.safl_typing.specs.declared.typed.CheckErr.TheVariants as errors
 -- the functions that the code gives are those of the definition of checking, or the faults are the same
 abbrev pub SaysFunctions : Result (Vec Function Global) CheckErr → Result (List FunctionForm) Fault → Type 0
 SaysFunctions (Ok fs) r = r ≡ Ok (map shown_function fs.items)
-SaysFunctions (Err e) r = Refuses e r
+SaysFunctions (Err e) r = RefusesFault e r
 
 -- no limit is passed, and some body is deeper than a checked one may be
 abbrev pub IsTooDeep : List Definition → Type 0

@@ -12,7 +12,7 @@ use Rattle.safl_typing.specs.Heads.{Slot, Known}
 use Rattle.safl_typing.specs.Forms.{FunctionForm, shown_function}
 use Rattle.safl_typing.specs.Plain.{shown_expression}
 use Rattle.safl_typing.specs.PlainHeads.{shown_slots, known}
-use Rattle.safl_typing.specs.PlainTyped.{Refuses}
+use Rattle.safl_typing.specs.PlainTyped.{RefusesFault}
 use Rattle.safl_typing.specs.Walk.{Exactly, after, check, function}
 use Rattle.safl_typing.specs.declared.typed.CheckErr.{CheckErr}
 
@@ -27,4 +27,4 @@ checked_with_head hs h lo d body = checked_function (known hs h.unit) (shown_slo
 -- the function that the code gives is that of the definition of checking, or the faults are the same
 abbrev pub SaysFunction : Result Function CheckErr → Result FunctionForm Fault → Type 0
 SaysFunction (Ok f) r = r ≡ Ok (shown_function f)
-SaysFunction (Err e) r = Refuses e r
+SaysFunction (Err e) r = RefusesFault e r

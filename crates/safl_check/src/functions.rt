@@ -26,7 +26,7 @@ use safl_typing::marks::add_sites;
 use safl_typing::rewrite::rewrite;
 use safl_typing::scope::Scope;
 use safl_typing::typed::{CheckErr, Wanted};
-use safl_typing::walk::check_expression;
+use safl_typing::checking::check_expression;
 use safl_word::limits::DEPTH_MAX;
 use std::alloc::Global;
 

@@ -7,7 +7,7 @@ ghost use Rattle.safl_term.specs.Tables.{BodyHasSlots};
 ghost use Rattle.safl_tree.specs.Shown.{shown_definitions, shown_program};
 ghost use Rattle.safl_tree.specs.Printable.{IsFormedProgram};
 ghost use Rattle.safl_typing.specs.Heads.{heads};
-ghost use Rattle.safl_typing.specs.Forms.{IsFormOf, AreShallow, shown, shown_function};
+ghost use Rattle.safl_typing.specs.Forms.{IsFormOf, AreShallow, shown_form, shown_function};
 ghost use Rattle.safl_typing.specs.PlainHeads.{shown_heads};
 ghost use Rattle.safl_typing.specs.Walk.{limits, functions_from};
 ghost use Rattle.safl_check.specs.Answers.{RefusesProgram, RefusesLimits, RefusesShallow, IsTooDeep, FindsTooDeep};
@@ -29,7 +29,7 @@ use std::alloc::Global;
 /// most 1,100 deep.
 pub fn check(alloc: Global, program: Program) -> Result<Checked, CheckErr>
     requires { IsFormedProgram (shown_program program) }
-    ensures form { IfOk result (λ c. IsFormOf (shown_program program) (shown c)) }
+    ensures form { IfOk result (λ c. IsFormOf (shown_program program) (shown_form c)) }
     ensures checked { IfOk result IsChecked }
     ensures shallow { OnOk result (AreShallow (shown_program program)) }
     ensures refused { IfErr result (RefusesProgram (shown_program program)) }
@@ -41,7 +41,7 @@ pub fn check(alloc: Global, program: Program) -> Result<Checked, CheckErr>
 /// The checked program of these definitions, as `check` gives it. They are only read.
 pub fn check_defs(alloc: Global, defs: &[Def]) -> Result<Checked, CheckErr>
     requires { IsFormedProgram (shown_definitions defs.now) }
-    ensures form { IfOk result (λ c. IsFormOf (shown_definitions defs.now) (shown c)) }
+    ensures form { IfOk result (λ c. IsFormOf (shown_definitions defs.now) (shown_form c)) }
     ensures checked { IfOk result IsChecked }
     ensures shallow { OnOk result (AreShallow (shown_definitions defs.now)) }
     ensures refused { IfErr result (RefusesProgram (shown_definitions defs.now)) }
@@ -78,7 +78,7 @@ fn checked_of(alloc: Global, defs: &[Def], functions: Vec<Function>) -> Result<C
     requires shallow { AreShallow (shown_definitions defs.now) }
     requires functions { functions_from (heads (shown_definitions defs.now)) [] 0 0 1 (shown_definitions defs.now) ≡ Ok (map shown_function functions.items) }
     requires slots { All BodyHasSlots functions.items }
-    ensures form { IfOk result (λ c. IsFormOf (shown_definitions defs.now) (shown c)) }
+    ensures form { IfOk result (λ c. IsFormOf (shown_definitions defs.now) (shown_form c)) }
     ensures checked { IfOk result IsChecked }
     ensures refused { IfErr result (RefusesShallow (shown_definitions defs.now)) }
 {

@@ -24,9 +24,9 @@ pub mod Exact
 pub mod NetRuns
 pub mod Theorem
 pub mod Samples
-pub mod RowRuns
-pub mod Rows
-pub mod EvenRow
+pub mod RunsComputed
+pub mod WorkedRuns
+pub mod EvenProgram
 pub mod MirrorLines
 pub mod MirrorNumbers
 pub mod MirrorsKeep

@@ -12,7 +12,7 @@ use Rattle.safl_calls.proofs.Numbered.{Numbered}
 use Rattle.safl_calls.specs.Machine.{State, Mode, Idle, Runs, Delivers, Event, Return, opening, Legal, after, back, asked, asked_as, last_word, is_unsent}
 use Rattle.safl_calls.proofs.Basics.{serves}
 use Rattle.safl_calls.specs.Picks.{picks}
-use Rattle.safl_calls.specs.Interference.{shown, shown_as, ShownWordsServe}
+use Rattle.safl_calls.specs.Interference.{shown_words, shown_as, ShownWordsServe}
 use Rattle.safl_term.specs.Readiness.{Answer, NotYet, answer, wanted, Stage, Unsent, Sent, Returned}
 use Rattle.safl_term.specs.Program.{Program, unit_for}
 use Rattle.safl_word.specs.Words.{Word}
@@ -106,7 +106,7 @@ module _ (C : Program) (P : Choice) (args : List Word) (good : Numbered C) (r : 
       last_all : (u : ℕ) → r.res u ≡ last_word C args opening all u (d u)
       last_all u = lasts u ∙ sym (last_append C args opening es (returns C r (suc C.sites)) u (d u) ∙ last_returns C args _ (ret C r) (suc C.sites) u _)
 
-      pub wires_show : (k : ℕ) → on_wires C P r k ≡ shown C P.kept d args all k
+      pub wires_show : (k : ℕ) → on_wires C P r k ≡ shown_words C P.kept d args all k
       wires_show zero = refl
       wires_show (suc k) = by (ret C r (suc k)) refl (s.site (suc k)) refl
         where
@@ -116,7 +116,7 @@ module _ (C : Program) (P : Choice) (args : List Word) (good : Numbered C) (r : 
           got : r.got (suc k) ≡ is_returned (s.site (suc k))
           got = shows.got (suc k) (omega arith)
 
-          by : (up : Bool) → ret C r (suc k) ≡ up → (x : Stage) → s.site (suc k) ≡ x → on_wires C P r (suc k) ≡ shown C P.kept d args all (suc k)
+          by : (up : Bool) → ret C r (suc k) ≡ up → (x : Stage) → s.site (suc k) ≡ x → on_wires C P r (suc k) ≡ shown_words C P.kept d args all (suc k)
           by true e x is =
               ap (λ up. cond (r.got (suc k) || up) (Some (cond (P.kept (suc k) && not up) (r.keep (suc k)) (r.res w))) None) e
               ∙ wire_up (r.got (suc k)) (P.kept (suc k)) (r.keep (suc k)) (r.res w)
@@ -135,7 +135,7 @@ module _ (C : Program) (P : Choice) (args : List Word) (good : Numbered C) (r : 
               at true yes' (Returned v) h = ap Some (shows.keep (suc k) v (omega arith) yes' h)
               at false yes' (Returned v) h = ap Some (last_all w)
 
-      pub on_path : on_wires C P r ≡ shown C P.kept d args all
+      pub on_path : on_wires C P r ≡ shown_words C P.kept d args all
       on_path = fun_ext wires_show
 
       meets_says : (f g k : ℕ) (ws : List Word) → s.unit (C.unit f) ≡ Runs g k ws → g ≡ f → answer (on_wires C P r) (r.arg f) (C.body f) ≡ answer (back t) ws (C.body f)
@@ -143,7 +143,7 @@ module _ (C : Program) (P : Choice) (args : List Word) (good : Numbered C) (r : 
           let e' : s.unit (C.unit f) ≡ Runs f k ws = e ∙ ap (λ j. Runs j k ws) same in
           let now : t.unit (C.unit f) ≡ Runs f k ws = unit_quiet (C.unit f) ∙ ap quiet e' in
           ap (λ w. answer w (r.arg f) (C.body f)) on_path
-          ∙ ap (λ a. answer (shown C P.kept d args all) a (C.body f)) (shows.arg (C.unit f) f k ws e')
+          ∙ ap (λ a. answer (shown_words C P.kept d args all) a (C.body f)) (shows.arg (C.unit f) f k ws e')
           ∙ h2.same_answer d args all legal (C.unit f) f k ws now
 
       meets_wants : (f g k : ℕ) (ws : List Word) (j : ℕ) → s.unit (C.unit f) ≡ Runs g k ws → g ≡ f → t.site j ≡ Unsent → wanted (on_wires C P r)
@@ -152,7 +152,7 @@ module _ (C : Program) (P : Choice) (args : List Word) (good : Numbered C) (r : 
           let e' : s.unit (C.unit f) ≡ Runs f k ws = e ∙ ap (λ j. Runs j k ws) same in
           let now : t.unit (C.unit f) ≡ Runs f k ws = unit_quiet (C.unit f) ∙ ap quiet e' in
           ap (λ w. wanted w (r.arg f) (C.body f) j) on_path
-          ∙ ap (λ a. wanted (shown C P.kept d args all) a (C.body f) j) (shows.arg (C.unit f) f k ws e')
+          ∙ ap (λ a. wanted (shown_words C P.kept d args all) a (C.body f) j) (shows.arg (C.unit f) f k ws e')
           ∙ h2.same_wants d args all legal (C.unit f) f k ws now j un
 
       unsent_same : (k : ℕ) → not (r.sent (suc k)) ≡ is_unsent (t.site (suc k))

@@ -12,7 +12,7 @@ use Rattle.safl_net.specs.Valuations.{Valuation, Fits, read, read_next}
 use Rattle.safl_net.proofs.Reading.{read_word}
 use Rattle.safl_circuit.specs.Equations.{Inputs}
 use Rattle.safl_circuit.specs.Names.{view, registers_now, registers_next, input_now, one, as_words}
-use Rattle.safl_net.specs.Mirrors.{Line, input_line, inputs_in, Shows}
+use Rattle.safl_net.specs.Mirrors.{Line, input_line, inputs_in, ShowsCycle}
 use Rattle.safl_net.proofs.GatheredLists.{Member, map_members}
 use Rattle.safl_net.proofs.Twins.{input_lasts}
 use Rattle.safl_circuit.specs.Mirrored.{AreMirrors}
@@ -33,10 +33,10 @@ view_same C D f g h = view_masked C D f ∙ ap (view C D) (fun_ext (λ name. by 
     by name true e = refl
     by name false e = h name e
 
-pub now_same : (C : Program) (D : Names) (n m : Netlist) (v w : Valuation) → Shows n m v w → registers_now C D m w ≡ registers_now C D n v
+pub now_same : (C : Program) (D : Names) (n m : Netlist) (v w : Valuation) → ShowsCycle n m v w → registers_now C D m w ≡ registers_now C D n v
 now_same C D n m v w s = view_same C D (read m w) (read n v) s.now
 
-pub next_same : (C : Program) (D : Names) (n m : Netlist) (v w : Valuation) → Shows n m v w → registers_next C D m w ≡ registers_next C D n v
+pub next_same : (C : Program) (D : Names) (n m : Netlist) (v w : Valuation) → ShowsCycle n m v w → registers_next C D m w ≡ registers_next C D n v
 next_same C D n m v w s = view_same C D (read_next m w) (read_next n v) s.next
 
 -- ---- inputs
@@ -73,14 +73,14 @@ are_inputs (l ∷ ls) x h = by (is_argument l.0 Input) h (λ k. are_inputs ls x 
     by true (inr h) k = inr (k h)
     by false h k = inr (k h)
 
-arguments_same : (n m : Netlist) → AreMirrors n m → (s t : ℕ → ℕ) (v w : Valuation) → Fits n s v → Fits m t w → Shows n m v w → input_numbers m.signals w ≡ input_numbers n.signals v
+arguments_same : (n m : Netlist) → AreMirrors n m → (s t : ℕ → ℕ) (v w : Valuation) → Fits n s v → Fits m t w → ShowsCycle n m v w → input_numbers m.signals w ≡ input_numbers n.signals v
 arguments_same n m a s t v w fv fw shows =
     arguments_named (read m w) m.signals w fw.full (λ s g e. sym (read_word m w s g a.new e))
     ∙ ap (λ ls. map (λ (l : Line). read m w l.0) (argument_lines ls)) a.alike.inputs
     ∙ map_members (λ (l : Line). read m w l.0) (λ (l : Line). read n v l.0) (argument_lines (inputs_in n)) (λ x h. shows.now x.0 (input_lasts n a.old_tidy x (are_inputs (inputs_in n) x h)))
     ∙ sym (arguments_named (read n v) n.signals v fv.full (λ s g e. sym (read_word n v s g a.old e)))
 
-pub input_same : (C : Program) (n m : Netlist) → AreMirrors n m → (s t : ℕ → ℕ) (v w : Valuation) → Fits n s v → Fits m t w → Shows n m v w → input_now C m w ≡ input_now C n v
+pub input_same : (C : Program) (n m : Netlist) → AreMirrors n m → (s t : ℕ → ℕ) (v w : Valuation) → Fits n s v → Fits m t w → ShowsCycle n m v w → input_now C m w ≡ input_now C n v
 input_same C n m a s t v w fv fw shows =
     ap (λ (x : ℕ). (let r : Inputs = record { start = one x; words = as_words (C.params C.main) (input_numbers m.signals w) } in r)) (shows.now (codes "start") refl)
     ∙ ap (λ l. (let r : Inputs = record { start = one (start_number n v); words = as_words (C.params C.main) l } in r)) (arguments_same n m a s t v w fv fw shows)

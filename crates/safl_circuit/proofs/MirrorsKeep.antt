@@ -17,7 +17,7 @@ use Rattle.safl_circuit.specs.Equations.{next}
 use Rattle.safl_circuit.specs.Names.{of_function, of_site, registers_now, registers_next, input_now}
 use Rattle.safl_circuit.specs.Layout.{Line, layout_wires, register_kind, wire_kind, each_line, temporaries, IsCopy, HasPlan}
 use Rattle.safl_circuit.specs.Scheme.{Agree, Wires, Scheme}
-use Rattle.safl_net.specs.Mirrors.{Shows}
+use Rattle.safl_net.specs.Mirrors.{ShowsCycle}
 use Rattle.safl_net.proofs.Twins.{twin, own}
 use Rattle.safl_circuit.specs.Mirrored.{AreMirrors, MirrorsKeepSchemes, MirrorsKeepPlans}
 use Rattle.safl_circuit.proofs.MirrorLines.{wires_of, input_lines, register_lines, lasting_lines, lasting_more, wires_last, layout_last, temporaries_go, wires_then, temporaries_are}
@@ -54,7 +54,7 @@ resets n m a zeros s = by (slice_get m.signals s) refl
 
 -- ---- cycles
 
-wires_shown : (C : Program) (D : Names) (P : Choice) (n m : Netlist) (v w : Valuation) → Shows n m v w
+wires_shown : (C : Program) (D : Names) (P : Choice) (n m : Netlist) (v w : Valuation) → ShowsCycle n m v w
     → Wires C D P n v (registers_now C D n v) (input_now C n v) → Wires C D P m w (registers_now C D n v) (input_now C n v)
 wires_shown C D P n m v w s h = record {
   ends = λ f lt. s.now (of_function D (codes "end$") f) refl ∙ h.ends f lt;

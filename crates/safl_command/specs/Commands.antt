@@ -5,7 +5,7 @@ use Rattle.std.specs.Borrow.{Bor}
 use Rattle.clap.specs.Words.{Row, Kinds, fault_of, subcommand_of, first_of}
 use Rattle.safl_command.specs.Forms.{app}
 use Rattle.safl_command.specs.Values.{name_in, number_in, number_of, limit_in, count_in, has_flag, args_in}
-use Rattle.safl_command.specs.Traces.{Traces, shown as shown_traces, if_apart}
+use Rattle.safl_command.specs.Traces.{Traces, shown_traces, if_apart}
 use Rattle.safl_command.specs.declared.command.Command as code
 use Rattle.safl_command.specs.declared.command.Command.TheVariants as code_of
 
@@ -150,18 +150,18 @@ abbrev pub command_of : List (List ℕ) → Option Command
 command_of words = command_of_line (codes "safl" ∷ words)
 
 -- the command that a value of the code stands for
-abbrev pub shown : code.Command → Command
-shown (code_of.Check input) = Check (string_bytes input)
-shown (code_of.Build input output) = Build (string_bytes input) (string_bytes output)
-shown (code_of.Optimise input output) = Optimise (string_bytes input) (string_bytes output)
-shown (code_of.Sim input limit traces args) = Sim (string_bytes input) limit (shown_traces traces) (map string_bytes args.items)
-shown (code_of.Walk input turns args) = Walk (string_bytes input) turns.seed turns.steps (map string_bytes args.items)
-shown (code_of.Run input limit args) = Run (string_bytes input) limit (map string_bytes args.items)
-shown (code_of.Report input) = Report (string_bytes input)
-shown (code_of.Gen seed count) = Gen seed count.functions
-shown (code_of.Bench seed count limit) = Bench seed count.functions limit
-shown (code_of.CopySite input output site) = CopySite (string_bytes input) (string_bytes output) site
-shown (code_of.UnfoldSite input output site) = UnfoldSite (string_bytes input) (string_bytes output) site
-shown (code_of.Session input script limit) = Session (string_bytes input) (string_bytes script) limit
-shown (code_of.Aig input output) = Aig (string_bytes input) (string_bytes output)
-shown (code_of.Aigstat input) = Aigstat (string_bytes input)
+abbrev pub shown_command : code.Command → Command
+shown_command (code_of.Check input) = Check (string_bytes input)
+shown_command (code_of.Build input output) = Build (string_bytes input) (string_bytes output)
+shown_command (code_of.Optimise input output) = Optimise (string_bytes input) (string_bytes output)
+shown_command (code_of.Sim input limit traces args) = Sim (string_bytes input) limit (shown_traces traces) (map string_bytes args.items)
+shown_command (code_of.Walk input turns args) = Walk (string_bytes input) turns.seed turns.steps (map string_bytes args.items)
+shown_command (code_of.Run input limit args) = Run (string_bytes input) limit (map string_bytes args.items)
+shown_command (code_of.Report input) = Report (string_bytes input)
+shown_command (code_of.Gen seed count) = Gen seed count.functions
+shown_command (code_of.Bench seed count limit) = Bench seed count.functions limit
+shown_command (code_of.CopySite input output site) = CopySite (string_bytes input) (string_bytes output) site
+shown_command (code_of.UnfoldSite input output site) = UnfoldSite (string_bytes input) (string_bytes output) site
+shown_command (code_of.Session input script limit) = Session (string_bytes input) (string_bytes script) limit
+shown_command (code_of.Aig input output) = Aig (string_bytes input) (string_bytes output)
+shown_command (code_of.Aigstat input) = Aigstat (string_bytes input)

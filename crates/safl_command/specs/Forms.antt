@@ -72,12 +72,12 @@ bare = let a = new_app (codes "safl") in record a { top = record a.top { subcomm
 unfoldable pub app : App
 app = with_forms bare forms
 
-abbrev pub shown : code.Argument → Argument
-shown (code_of.Name id) = Name id.now
-shown (code_of.Option id) = Option id.now
-shown (code_of.Choice id) = Choice id.now
-shown (code_of.Flag id) = Flag id.now
-shown (code_of.Rest id) = Rest id.now
+abbrev pub shown_argument : code.Argument → Argument
+shown_argument (code_of.Name id) = Name id.now
+shown_argument (code_of.Option id) = Option id.now
+shown_argument (code_of.Choice id) = Choice id.now
+shown_argument (code_of.Flag id) = Flag id.now
+shown_argument (code_of.Rest id) = Rest id.now
 
 abbrev pub shown_form : code_form.Form → Form
-shown_form f = record { word = f.word.now; arguments = map shown f.arguments.now }
+shown_form f = record { word = f.word.now; arguments = map shown_argument f.arguments.now }

@@ -3,8 +3,8 @@ use Rattle.std.specs.Prelude.{Option, Some, None, if◌then◌else◌}
 use Rattle.safl_command.specs.declared.traces.Traces as code
 pub use Rattle.safl_command.specs.Apart.{Traces, files, is_named, differ, are_apart}
 
-abbrev pub shown : code.Traces → Traces
-shown t = files t.vcd t.starts t.toggles
+abbrev pub shown_traces : code.Traces → Traces
+shown_traces t = files t.vcd t.starts t.toggles
 
 -- the traces with these files, if their names differ
 abbrev pub if_apart : Traces → Option Traces

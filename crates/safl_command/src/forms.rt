@@ -3,7 +3,7 @@
 ghost use Rattle.std.specs.Prelude.{◌≡◌, IfOk, false, map};
 ghost use Rattle.clap.specs.Words.{rule_of, app_of, shape_of};
 ghost use Rattle.clap.specs.declared.builder.command.Command.TheViews.{out-Command};
-ghost use Rattle.safl_command.specs.Forms.{rule, shown, shown_form, form_shape, app, bare, with_forms};
+ghost use Rattle.safl_command.specs.Forms.{rule, shown_argument, shown_form, form_shape, app, bare, with_forms};
 
 use clap::{Arg, ArgAction, Command};
 use std::alloc::{AllocError, Global};
@@ -116,7 +116,7 @@ static FORMS: [Form<'static>; 12] = [
 ];
 
 fn arg_of<'a>(alloc: Global, argument: Argument<'a>) -> Arg<'a>
-    ensures rule { rule_of result ≡ rule (shown argument.entry) }
+    ensures rule { rule_of result ≡ rule (shown_argument argument.entry) }
     ensures local { result.global ≡ false }
 {
     match argument {

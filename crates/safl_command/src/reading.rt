@@ -2,8 +2,8 @@
 
 ghost use Rattle.std.specs.Prelude.{◌≡◌, ◌∷◌, IfOk, map, option_map, string_bytes, codes};
 ghost use Rattle.clap.specs.Words.{found_of, rows_of, subcommand_rows_of};
-ghost use Rattle.safl_command.specs.Commands.{command_of, command_of_line, entered_command, command_in, shown};
-ghost use Rattle.safl_command.specs.Traces.{shown as shown_traces};
+ghost use Rattle.safl_command.specs.Commands.{command_of, command_of_line, entered_command, command_in, shown_command};
+ghost use Rattle.safl_command.specs.Traces.{shown_traces};
 ghost use Rattle.safl_command.specs.Commands.{check_in, build_in, traces_in, sim_in, walk_in, run_in, report_in, gen_in, bench_in, reshape_in, change_in, word_of, reshaped, session_in, aig_in, aigstat_in};
 
 use crate::arguments::{
@@ -19,7 +19,7 @@ use std::alloc::Global;
 
 /// The command that the words spell. None if they spell none.
 pub fn read_words(alloc: Global, words: &[String]) -> Result<Option<Command>, NoMemory>
-    ensures { IfOk result (λ c. option_map shown c ≡ command_of (map string_bytes words.now)) }
+    ensures { IfOk result (λ c. option_map shown_command c ≡ command_of (map string_bytes words.now)) }
 {
     let line = line_of(alloc, words)?;
     read_line(alloc, &line)
@@ -39,7 +39,7 @@ fn line_of<'a>(alloc: Global, words: &'a [String]) -> Result<Vec<&'a str>, NoMem
 
 // The command that a line spells. The line begins with the program's name.
 fn read_line<'a>(alloc: Global, line: &'a [&'a str]) -> Result<Option<Command>, NoMemory>
-    ensures { IfOk result (λ c. option_map shown c ≡ command_of_line (map (λ word. word.now) line.now)) }
+    ensures { IfOk result (λ c. option_map shown_command c ≡ command_of_line (map (λ word. word.now) line.now)) }
 {
     let program = program(alloc)?;
     match program.try_get_matches_from(line) {
@@ -51,7 +51,7 @@ fn read_line<'a>(alloc: Global, line: &'a [&'a str]) -> Result<Option<Command>, 
 
 // The command of the subcommand that `clap` found.
 fn read_matches(alloc: Global, matches: &ArgMatches<'_>) -> Result<Option<Command>, NoMemory>
-    ensures { IfOk result (λ c. option_map shown c ≡ entered_command (subcommand_rows_of matches.now)) }
+    ensures { IfOk result (λ c. option_map shown_command c ≡ entered_command (subcommand_rows_of matches.now)) }
 {
     match matches.subcommand() {
         Some((word, values)) => command_in(alloc, word, values),
@@ -65,7 +65,7 @@ fn command_in(
     word: &str,
     values: &ArgMatches<'_>,
 ) -> Result<Option<Command>, NoMemory>
-    ensures { IfOk result (λ c. option_map shown c ≡ command_in word.now (rows_of (found_of values.now))) }
+    ensures { IfOk result (λ c. option_map shown_command c ≡ command_in word.now (rows_of (found_of values.now))) }
 {
     if word == "check" {
         check_in(alloc, values)
@@ -97,7 +97,7 @@ fn command_in(
 }
 
 fn check_in(alloc: Global, values: &ArgMatches<'_>) -> Result<Option<Command>, NoMemory>
-    ensures { IfOk result (λ c. option_map shown c ≡ check_in (rows_of (found_of values.now))) }
+    ensures { IfOk result (λ c. option_map shown_command c ≡ check_in (rows_of (found_of values.now))) }
 {
     let Some(input) = name_in(alloc, values, "IN")? else {
         return Ok(None);
@@ -106,7 +106,7 @@ fn check_in(alloc: Global, values: &ArgMatches<'_>) -> Result<Option<Command>, N
 }
 
 fn build_in(alloc: Global, values: &ArgMatches<'_>) -> Result<Option<Command>, NoMemory>
-    ensures { IfOk result (λ c. option_map shown c ≡ build_in (rows_of (found_of values.now))) }
+    ensures { IfOk result (λ c. option_map shown_command c ≡ build_in (rows_of (found_of values.now))) }
 {
     let Some(input) = name_in(alloc, values, "IN")? else {
         return Ok(None);
@@ -121,7 +121,7 @@ fn build_in(alloc: Global, values: &ArgMatches<'_>) -> Result<Option<Command>, N
 }
 
 fn sim_in(alloc: Global, values: &ArgMatches<'_>) -> Result<Option<Command>, NoMemory>
-    ensures { IfOk result (λ c. option_map shown c ≡ sim_in (rows_of (found_of values.now))) }
+    ensures { IfOk result (λ c. option_map shown_command c ≡ sim_in (rows_of (found_of values.now))) }
 {
     let Some(input) = name_in(alloc, values, "IN")? else {
         return Ok(None);
@@ -152,7 +152,7 @@ fn traces_in(alloc: Global, values: &ArgMatches<'_>) -> Result<Option<Traces>, N
 }
 
 fn walk_in(alloc: Global, values: &ArgMatches<'_>) -> Result<Option<Command>, NoMemory>
-    ensures { IfOk result (λ c. option_map shown c ≡ walk_in (rows_of (found_of values.now))) }
+    ensures { IfOk result (λ c. option_map shown_command c ≡ walk_in (rows_of (found_of values.now))) }
 {
     let Some(input) = name_in(alloc, values, "IN")? else {
         return Ok(None);
@@ -172,7 +172,7 @@ fn walk_in(alloc: Global, values: &ArgMatches<'_>) -> Result<Option<Command>, No
 }
 
 fn run_in(alloc: Global, values: &ArgMatches<'_>) -> Result<Option<Command>, NoMemory>
-    ensures { IfOk result (λ c. option_map shown c ≡ run_in (rows_of (found_of values.now))) }
+    ensures { IfOk result (λ c. option_map shown_command c ≡ run_in (rows_of (found_of values.now))) }
 {
     let Some(input) = name_in(alloc, values, "FILE")? else {
         return Ok(None);
@@ -185,7 +185,7 @@ fn run_in(alloc: Global, values: &ArgMatches<'_>) -> Result<Option<Command>, NoM
 }
 
 fn report_in(alloc: Global, values: &ArgMatches<'_>) -> Result<Option<Command>, NoMemory>
-    ensures { IfOk result (λ c. option_map shown c ≡ report_in (rows_of (found_of values.now))) }
+    ensures { IfOk result (λ c. option_map shown_command c ≡ report_in (rows_of (found_of values.now))) }
 {
     let Some(input) = name_in(alloc, values, "IN")? else {
         return Ok(None);
@@ -194,7 +194,7 @@ fn report_in(alloc: Global, values: &ArgMatches<'_>) -> Result<Option<Command>, 
 }
 
 fn gen_in(values: &ArgMatches<'_>) -> Option<Command>
-    ensures { option_map shown result ≡ gen_in (rows_of (found_of values.now)) }
+    ensures { option_map shown_command result ≡ gen_in (rows_of (found_of values.now)) }
 {
     let Some(seed) = number_in(values, "SEED") else {
         return None;
@@ -206,7 +206,7 @@ fn gen_in(values: &ArgMatches<'_>) -> Option<Command>
 }
 
 fn bench_in(values: &ArgMatches<'_>) -> Option<Command>
-    ensures { option_map shown result ≡ bench_in (rows_of (found_of values.now)) }
+    ensures { option_map shown_command result ≡ bench_in (rows_of (found_of values.now)) }
 {
     let Some(seed) = number_in(values, "SEED") else {
         return None;
@@ -221,7 +221,7 @@ fn bench_in(values: &ArgMatches<'_>) -> Option<Command>
 }
 
 fn reshape_in(alloc: Global, values: &ArgMatches<'_>) -> Result<Option<Command>, NoMemory>
-    ensures { IfOk result (λ c. option_map shown c ≡ reshape_in (rows_of (found_of values.now))) }
+    ensures { IfOk result (λ c. option_map shown_command c ≡ reshape_in (rows_of (found_of values.now))) }
 {
     let Some(input) = name_in(alloc, values, "IN")? else {
         return Ok(None);
@@ -234,7 +234,7 @@ fn reshape_in(alloc: Global, values: &ArgMatches<'_>) -> Result<Option<Command>,
 
 // The reshaping that the options ask for. None unless exactly one site is given, to be copied or to be unfolded.
 fn change_in(values: &ArgMatches<'_>, input: String, output: String) -> Option<Command>
-    ensures { option_map shown result ≡ change_in (string_bytes input) (string_bytes output) (rows_of (found_of values.now)) }
+    ensures { option_map shown_command result ≡ change_in (string_bytes input) (string_bytes output) (rows_of (found_of values.now)) }
 {
     let copied = values.get_str("copy");
     let unfolded = values.get_str("unfold");
@@ -247,7 +247,7 @@ fn reshaped(
     copied: Option<&str>,
     unfolded: Option<&str>,
 ) -> Option<Command>
-    ensures { option_map shown result ≡ reshaped (string_bytes input) (string_bytes output) (word_of copied.entry) (word_of unfolded.entry) }
+    ensures { option_map shown_command result ≡ reshaped (string_bytes input) (string_bytes output) (word_of copied.entry) (word_of unfolded.entry) }
 {
     match (copied, unfolded) {
         (Some(word), None) => {
@@ -271,7 +271,7 @@ fn reshaped(
 }
 
 fn session_in(alloc: Global, values: &ArgMatches<'_>) -> Result<Option<Command>, NoMemory>
-    ensures { IfOk result (λ c. option_map shown c ≡ session_in (rows_of (found_of values.now))) }
+    ensures { IfOk result (λ c. option_map shown_command c ≡ session_in (rows_of (found_of values.now))) }
 {
     let Some(input) = name_in(alloc, values, "IN")? else {
         return Ok(None);
@@ -290,7 +290,7 @@ fn session_in(alloc: Global, values: &ArgMatches<'_>) -> Result<Option<Command>,
 }
 
 fn aig_in(alloc: Global, values: &ArgMatches<'_>) -> Result<Option<Command>, NoMemory>
-    ensures { IfOk result (λ c. option_map shown c ≡ aig_in (rows_of (found_of values.now))) }
+    ensures { IfOk result (λ c. option_map shown_command c ≡ aig_in (rows_of (found_of values.now))) }
 {
     let Some(input) = name_in(alloc, values, "FILE")? else {
         return Ok(None);
@@ -302,7 +302,7 @@ fn aig_in(alloc: Global, values: &ArgMatches<'_>) -> Result<Option<Command>, NoM
 }
 
 fn aigstat_in(alloc: Global, values: &ArgMatches<'_>) -> Result<Option<Command>, NoMemory>
-    ensures { IfOk result (λ c. option_map shown c ≡ aigstat_in (rows_of (found_of values.now))) }
+    ensures { IfOk result (λ c. option_map shown_command c ≡ aigstat_in (rows_of (found_of values.now))) }
 {
     let Some(input) = name_in(alloc, values, "FILE")? else {
         return Ok(None);

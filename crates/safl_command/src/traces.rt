@@ -19,7 +19,7 @@ pub struct Traces {
 impl Traces {
     ghost use Rattle.std.specs.Prelude.{◌≡◌, option_map};
     ghost use Rattle.safl_command.specs.Apart.{files};
-    ghost use Rattle.safl_command.specs.Traces.{shown, if_apart};
+    ghost use Rattle.safl_command.specs.Traces.{shown_traces, if_apart};
 
     /// The traces with these files. None exactly if a name is empty or two are the same.
     pub fn new(
@@ -27,7 +27,7 @@ impl Traces {
         starts: Option<String>,
         toggles: Option<String>,
     ) -> Option<Traces>
-        ensures { option_map shown result ≡ if_apart (files vcd starts toggles) }
+        ensures { option_map shown_traces result ≡ if_apart (files vcd starts toggles) }
     {
         let are_apart = is_named(&vcd)
             && is_named(&starts)

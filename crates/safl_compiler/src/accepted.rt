@@ -5,7 +5,7 @@ ghost use Rattle.safl_word.specs.Limits.{source_max};
 ghost use Rattle.safl_tree.specs.Shown.{shown_program};
 ghost use Rattle.safl_tree.specs.Printable.{IsPrintable};
 ghost use Rattle.safl_tree.specs.Source.{SpellsProgram};
-ghost use Rattle.safl_typing.specs.Forms.{IsFormOf, shown};
+ghost use Rattle.safl_typing.specs.Forms.{IsFormOf, shown_form};
 ghost use Rattle.safl_compiler.specs.Sources.{HasFewSites, IsSourceOf, RefusesSource};
 
 use safl_check::laws::forms_are_numbered_law;
@@ -41,7 +41,7 @@ pub fn accepted_program(alloc: Global, source: &[u8]) -> Result<Accepted, CheckE
     requires { length source.now ≤ source_max }
     ensures spelled { IfOk result (λ a. SpellsProgram source.now (shown_program a.program)) }
     ensures printable { IfOk result (λ a. IsPrintable (shown_program a.program)) }
-    ensures form { IfOk result (λ a. IsFormOf (shown_program a.program) (shown a.checked)) }
+    ensures form { IfOk result (λ a. IsFormOf (shown_program a.program) (shown_form a.checked)) }
     ensures few { IfOk result (λ a. HasFewSites (shown_program a.program)) }
     ensures refused { IfErr result (RefusesSource source.now) }
 {

@@ -12,7 +12,7 @@ use Rattle.safl_core.specs.declared.state.State as code
 use Rattle.safl_core.specs.Marking.{Touches}
 use Rattle.safl_core.specs.Shown.{Shown, state, CanFire, IsKept}
 use Rattle.safl_core.specs.Spans.{InSpan}
-use Rattle.safl_core.specs.States.{Keeps, Leads, EndsBody, calls_of}
+use Rattle.safl_core.specs.States.{IsStateAfter, Leads, EndsBody, calls_of}
 use Rattle.safl_core.specs.Testing.{wanted_at}
 use Rattle.safl_core.proofs.KeptByEvents.{inv, looping}
 use Rattle.safl_core.proofs.LawsOfKept.{waits_test}
@@ -69,7 +69,7 @@ module _ {m : Shown} {answers : List Answer} {wants : List (Option (List Word))}
       inl (ap is_unsent (sym (ap (λ (t : State). t.site k) is ∙ same_end C s.site (C.unit n) k apart)))
 
 -- a site that is not of the span, and was not accepted, waits as before
-pub waits_same : (c : CheckedProgram) (args : List Word) (n : ℕ) (touched : Span) (s t : code.State) → Keeps c args n s → (e : Event)
+pub waits_same : (c : CheckedProgram) (args : List Word) (n : ℕ) (touched : Span) (s t : code.State) → IsStateAfter c args n s → (e : Event)
     → Enabled c.program args (calls_of s) e → Leads c args e touched s t
     → (k : ℕ) → k < suc c.program.sites → (is_some (asked c.program args (calls_of s) k)
     ≡ is_some (asked c.program args (calls_of t) k)) ⊎ Touches touched e k

@@ -6,7 +6,7 @@ pub mod StatesByEvents
 pub mod KeptAtFirst
 pub mod LawsOfKept
 pub mod EnabledByPlace
-mod Rows
+mod WorkedRun
 pub mod WalksByTurns
 pub mod MembersAndSites
 pub mod SetsPutRight

@@ -13,11 +13,11 @@ use Rattle.safl_core.specs.Knowing.{IsKnown}
 use Rattle.safl_core.specs.Modes.{state_of}
 use Rattle.safl_core.specs.Shown.{shown_of}
 use Rattle.safl_core.specs.Spans.{IsSpan}
-use Rattle.safl_core.specs.States.{Keeps, CanRefresh, ChangesWithin, EndsBody, Steps, Refreshes, Leads, Knows, calls_of}
+use Rattle.safl_core.specs.States.{IsStateAfter, CanRefresh, ChangesWithin, EndsBody, Steps, Refreshes, Leads, Knows, calls_of}
 use Rattle.safl_core.proofs.KeptByEvents.{next_reached, next_member, next_back}
 
 -- after the step of an event each unit may be looked at anew
-pub can_refresh : (c : CheckedProgram) (args : List Word) (n : ℕ) (s t : State) (h : Keeps c args n s) (e : core.Event) → core.Enabled c.program args (calls_of s) e
+pub can_refresh : (c : CheckedProgram) (args : List Word) (n : ℕ) (s t : State) (h : IsStateAfter c args n s) (e : core.Event) → core.Enabled c.program args (calls_of s) e
     → (later : core.State) → Steps c.program s t later → later ≡ core.fire c.program args (calls_of s) e → (u : ℕ) → u < c.program.functions → CanRefresh c u t
 can_refresh c args n s t h e can later step is u lt = record {
   checked = h.checked;
@@ -69,8 +69,8 @@ leads_unseen c args e touched s t later none step is ends others = record {
   sized = step.sized;
 }
 
-pub keeps_next : (c : CheckedProgram) (args : List Word) (n : ℕ) (touched : Span) (s t : State) (h : Keeps c args n s) (e : core.Event) → core.Enabled c.program args (calls_of s) e
-    → Leads c args e touched s t → Keeps c args (n + 1) t
+pub keeps_next : (c : CheckedProgram) (args : List Word) (n : ℕ) (touched : Span) (s t : State) (h : IsStateAfter c args n s) (e : core.Event) → core.Enabled c.program args (calls_of s) e
+    → Leads c args e touched s t → IsStateAfter c args (n + 1) t
 keeps_next c args n touched s t h e can l = record {
   checked = h.checked;
   units = l.sized.units;

@@ -69,16 +69,16 @@ abbrev pub RelistsBoth : Program → List Word → State → ℕ → ℕ → Ena
 RelistsBoth C args s u w old new = Relists C args s Nothing Nothing (λ f. (C.unit f ≡ u) ⊎ (C.unit f ≡ w)) (λ v. (v ≡ u) ⊎ (v ≡ w)) old new
 
 -- the unit delivered to the site before, or does so now
-abbrev pub Shows : State → ℕ → Option ℕ → ℕ → Type 0
-Shows s u before k = (before ≡ Some k) ⊎ (delivered (s.unit u) ≡ Some k)
+abbrev pub IsServed : State → ℕ → Option ℕ → ℕ → Type 0
+IsServed s u before k = (before ≡ Some k) ⊎ (delivered (s.unit u) ≡ Some k)
 
 -- the sets before and after an update of the returns to the sites that a unit delivered to before and delivers to now
 abbrev pub RelistsService : Program → List Word → State → ℕ → Option ℕ → Enabled → Enabled → Type 0
-RelistsService C args s u before old new = Relists C args s Nothing (λ k. Shows s u before k) Nothing Nothing old new
+RelistsService C args s u before old new = Relists C args s Nothing (λ k. IsServed s u before k) Nothing Nothing old new
 
 -- the sets before and after an update of two units, their functions, and the returns that the first one makes
 abbrev pub RelistsAfter : Program → List Word → State → ℕ → ℕ → Option ℕ → Enabled → Enabled → Type 0
-RelistsAfter C args s u w before old new = Relists C args s Nothing (λ k. Shows s u before k)
+RelistsAfter C args s u w before old new = Relists C args s Nothing (λ k. IsServed s u before k)
     (λ f. (C.unit f ≡ u) ⊎ (C.unit f ≡ w)) (λ v. (v ≡ u) ⊎ (v ≡ w)) old new
 
 -- the site is one of the span, or the event accepts its call

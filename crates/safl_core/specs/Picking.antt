@@ -10,15 +10,15 @@ rank (Finish f) = 1
 rank (Return k) = 2
 rank (LoopInto h) = 3
 
-abbrev pub number : Event → ℕ
-number (Accept k) = k
-number (Finish f) = f
-number (Return k) = k
-number (LoopInto h) = h
+abbrev pub event_number : Event → ℕ
+event_number (Accept k) = k
+event_number (Finish f) = f
+event_number (Return k) = k
+event_number (LoopInto h) = h
 
 -- accepts come before finishes, these before returns, and these before loops; events of one kind are in rising order
 abbrev pub Precedes : Event → Event → Type 0
-Precedes d e = (rank d < rank e) ⊎ ((rank d ≡ rank e) × (number d < number e))
+Precedes d e = (rank d < rank e) ⊎ ((rank d ≡ rank e) × (event_number d < event_number e))
 
 -- the list has exactly the enabled events, each once and in this order
 pub record IsListing (C : Program) (args : List Word) (s : State) (es : List Event) : Type 0 where

@@ -4,7 +4,7 @@ ghost use Rattle.std.specs.Prelude.{◌≡◌, ℕ, suc, ◌<◌, ◌≤◌, Som
 ghost use Rattle.safl_core.specs.Marking.{HasPlaces, IsThere, Relists, RelistsAfter, RelistsBoth, RelistsCalls, RelistsService, RelistsUnit, Nothing};
 ghost use Rattle.safl_core.specs.Shown.{event_of};
 ghost use Rattle.safl_core.specs.Spans.{InSpan};
-ghost use Rattle.safl_core.specs.States.{Keeps, calls_of};
+ghost use Rattle.safl_core.specs.States.{IsStateAfter, calls_of};
 
 use crate::check::{self, delivered_to};
 use crate::concern::TwoUnits;
@@ -99,7 +99,7 @@ pub fn relist_after(
     before: Option<u32>,
     enabled: &mut Enabled,
 )
-    requires kept { (n : ℕ) × Keeps c.now opening.now n state.now }
+    requires kept { (n : ℕ) × IsStateAfter c.now opening.now n state.now }
     requires unit { concerned.unit < c.now.program.functions }
     requires other { concerned.other < c.now.program.functions }
     requires places { HasPlaces c.now.program enabled.old }
@@ -118,7 +118,7 @@ pub fn relist_calls(
     e: Event,
     enabled: &mut Enabled,
 )
-    requires kept { (n : ℕ) × Keeps c.now opening.now n state.now }
+    requires kept { (n : ℕ) × IsStateAfter c.now opening.now n state.now }
     requires span { touched.end ≤ suc c.now.program.sites }
     requires there { IsThere c.now.program (event_of e) }
     requires places { HasPlaces c.now.program enabled.old }
@@ -138,7 +138,7 @@ fn relist_both(
     concerned: TwoUnits,
     enabled: &mut Enabled,
 )
-    requires kept { (n : ℕ) × Keeps c.now opening.now n state.now }
+    requires kept { (n : ℕ) × IsStateAfter c.now opening.now n state.now }
     requires unit { concerned.unit < c.now.program.functions }
     requires other { concerned.other < c.now.program.functions }
     requires places { HasPlaces c.now.program enabled.old }
@@ -153,7 +153,7 @@ fn relist_both(
 
 // Updates whether a unit is idle, and the events of its members.
 fn relist(c: &Checked, opening: &Args, state: &State, u: u32, enabled: &mut Enabled)
-    requires kept { (n : ℕ) × Keeps c.now opening.now n state.now }
+    requires kept { (n : ℕ) × IsStateAfter c.now opening.now n state.now }
     requires unit { u < c.now.program.functions }
     requires places { HasPlaces c.now.program enabled.old }
     ensures { RelistsUnit c.now.program opening.now (calls_of state.now) u enabled.old enabled.new }
@@ -164,7 +164,7 @@ fn relist(c: &Checked, opening: &Args, state: &State, u: u32, enabled: &mut Enab
 
 // Updates whether a unit is idle.
 fn relist_unit(c: &Checked, opening: &Args, state: &State, u: u32, enabled: &mut Enabled)
-    requires kept { (n : ℕ) × Keeps c.now opening.now n state.now }
+    requires kept { (n : ℕ) × IsStateAfter c.now opening.now n state.now }
     requires unit { u < c.now.program.functions }
     requires places { HasPlaces c.now.program enabled.old }
     ensures { Relists c.now.program opening.now (calls_of state.now) Nothing Nothing Nothing (λ v. v ≡ u) enabled.old enabled.new }
@@ -176,7 +176,7 @@ fn relist_unit(c: &Checked, opening: &Args, state: &State, u: u32, enabled: &mut
 
 // Updates the events of a unit's members.
 fn relist_members(c: &Checked, opening: &Args, state: &State, u: u32, enabled: &mut Enabled)
-    requires kept { (n : ℕ) × Keeps c.now opening.now n state.now }
+    requires kept { (n : ℕ) × IsStateAfter c.now opening.now n state.now }
     requires unit { u < c.now.program.functions }
     requires places { HasPlaces c.now.program enabled.old }
     ensures { Relists c.now.program opening.now (calls_of state.now) Nothing Nothing (λ f. c.now.program.unit f ≡ u) Nothing enabled.old enabled.new }
@@ -187,7 +187,7 @@ fn relist_members(c: &Checked, opening: &Args, state: &State, u: u32, enabled: &
 }
 
 fn relist_member(c: &Checked, opening: &Args, state: &State, f: u32, enabled: &mut Enabled)
-    requires kept { (n : ℕ) × Keeps c.now opening.now n state.now }
+    requires kept { (n : ℕ) × IsStateAfter c.now opening.now n state.now }
     requires function { f < c.now.program.functions }
     requires places { HasPlaces c.now.program enabled.old }
     ensures { Relists c.now.program opening.now (calls_of state.now) Nothing Nothing (λ g. g ≡ f) Nothing enabled.old enabled.new }
@@ -201,7 +201,7 @@ fn relist_member(c: &Checked, opening: &Args, state: &State, f: u32, enabled: &m
 
 // Updates which calls of a span of sites wait.
 fn relist_touched(c: &Checked, opening: &Args, state: &State, touched: Span, enabled: &mut Enabled)
-    requires kept { (n : ℕ) × Keeps c.now opening.now n state.now }
+    requires kept { (n : ℕ) × IsStateAfter c.now opening.now n state.now }
     requires span { touched.end ≤ suc c.now.program.sites }
     requires places { HasPlaces c.now.program enabled.old }
     ensures { Relists c.now.program opening.now (calls_of state.now) (λ k. InSpan touched k) Nothing Nothing Nothing enabled.old enabled.new }
@@ -213,7 +213,7 @@ fn relist_touched(c: &Checked, opening: &Args, state: &State, touched: Span, ena
 
 // Updates whether the call of a site waits.
 fn relist_call(c: &Checked, opening: &Args, state: &State, k: u32, enabled: &mut Enabled)
-    requires kept { (n : ℕ) × Keeps c.now opening.now n state.now }
+    requires kept { (n : ℕ) × IsStateAfter c.now opening.now n state.now }
     requires site { k ≤ c.now.program.sites }
     requires places { HasPlaces c.now.program enabled.old }
     ensures { Relists c.now.program opening.now (calls_of state.now) (λ j. j ≡ k) Nothing Nothing Nothing enabled.old enabled.new }
@@ -232,7 +232,7 @@ fn relist_service(
     before: Option<u32>,
     enabled: &mut Enabled,
 )
-    requires kept { (n : ℕ) × Keeps c.now opening.now n state.now }
+    requires kept { (n : ℕ) × IsStateAfter c.now opening.now n state.now }
     requires unit { u < c.now.program.functions }
     requires places { HasPlaces c.now.program enabled.old }
     ensures { RelistsService c.now.program opening.now (calls_of state.now) u before enabled.old enabled.new }
@@ -249,7 +249,7 @@ fn relist_return(
     site: Option<u32>,
     enabled: &mut Enabled,
 )
-    requires kept { (n : ℕ) × Keeps c.now opening.now n state.now }
+    requires kept { (n : ℕ) × IsStateAfter c.now opening.now n state.now }
     requires places { HasPlaces c.now.program enabled.old }
     ensures { Relists c.now.program opening.now (calls_of state.now) Nothing (λ j. site ≡ Some j) Nothing Nothing enabled.old enabled.new }
 {

@@ -7,7 +7,7 @@ ghost use Rattle.safl_core.specs.Modes.{unit_at};
 ghost use Rattle.safl_evaluate.specs.Laying.{IsPlan};
 ghost use Rattle.safl_core.specs.Shown.{serves_of, word_given, event_of};
 ghost use Rattle.safl_evaluate.specs.Answers.{args_given};
-ghost use Rattle.safl_core.specs.States.{Keeps, Leads, Recalls, calls_of};
+ghost use Rattle.safl_core.specs.States.{IsStateAfter, Leads, Recalls, calls_of};
 
 use crate::event::Event;
 use crate::mode::Mode;
@@ -22,7 +22,7 @@ use safl_word::Word;
 /// Fires an enabled event. Modes, stages and the results of partial evaluation become those of the next state. Returns
 /// the sites that may now be wanted with other words than before.
 pub fn fire(c: &Checked, plan: &Plan, opening: &Args, state: &mut State, e: Event) -> Span
-    requires kept { (n : ℕ) × Keeps c.now opening.now n state.old }
+    requires kept { (n : ℕ) × IsStateAfter c.now opening.now n state.old }
     requires plan { IsPlan c.now.program plan.now (length state.old.kept.items) }
     requires recalls { (u : ℕ) → Recalls c.now.program plan.now state.old u }
     requires can { core.Enabled c.now.program opening.now (calls_of state.old) (event_of e) }
@@ -40,7 +40,7 @@ pub fn fire(c: &Checked, plan: &Plan, opening: &Args, state: &mut State, e: Even
 
 // Fires the acceptance of a site's call.
 fn accept(c: &Checked, plan: &Plan, opening: &Args, state: &mut State, k: u32) -> Span
-    requires kept { (n : ℕ) × Keeps c.now opening.now n state.old }
+    requires kept { (n : ℕ) × IsStateAfter c.now opening.now n state.old }
     requires plan { IsPlan c.now.program plan.now (length state.old.kept.items) }
     requires recalls { (u : ℕ) → Recalls c.now.program plan.now state.old u }
     requires can { core.Enabled c.now.program opening.now (calls_of state.old) (core.Accept k) }
@@ -60,7 +60,7 @@ fn accept(c: &Checked, plan: &Plan, opening: &Args, state: &mut State, k: u32) -
 
 // Fires the end of a function.
 fn finish(c: &Checked, plan: &Plan, opening: &Args, state: &mut State, f: u32) -> Span
-    requires kept { (n : ℕ) × Keeps c.now opening.now n state.old }
+    requires kept { (n : ℕ) × IsStateAfter c.now opening.now n state.old }
     requires plan { IsPlan c.now.program plan.now (length state.old.kept.items) }
     requires recalls { (u : ℕ) → Recalls c.now.program plan.now state.old u }
     requires can { core.Enabled c.now.program opening.now (calls_of state.old) (core.Finish f) }
@@ -79,7 +79,7 @@ fn finish(c: &Checked, plan: &Plan, opening: &Args, state: &mut State, f: u32) -
 
 // Fires the return of a word to a site. Of the body with this site, only what the word changes is evaluated again.
 fn give_back(c: &Checked, plan: &Plan, opening: &Args, state: &mut State, k: u32) -> Span
-    requires kept { (n : ℕ) × Keeps c.now opening.now n state.old }
+    requires kept { (n : ℕ) × IsStateAfter c.now opening.now n state.old }
     requires plan { IsPlan c.now.program plan.now (length state.old.kept.items) }
     requires recalls { (u : ℕ) → Recalls c.now.program plan.now state.old u }
     requires can { core.Enabled c.now.program opening.now (calls_of state.old) (core.Return k) }
@@ -102,7 +102,7 @@ fn give_back(c: &Checked, plan: &Plan, opening: &Args, state: &mut State, k: u32
 
 // Fires a loop of a unit to a function of its group.
 fn loop_into(c: &Checked, plan: &Plan, opening: &Args, state: &mut State, h: u32) -> Span
-    requires kept { (n : ℕ) × Keeps c.now opening.now n state.old }
+    requires kept { (n : ℕ) × IsStateAfter c.now opening.now n state.old }
     requires plan { IsPlan c.now.program plan.now (length state.old.kept.items) }
     requires recalls { (u : ℕ) → Recalls c.now.program plan.now state.old u }
     requires can { core.Enabled c.now.program opening.now (calls_of state.old) (core.LoopInto h) }

@@ -5,11 +5,11 @@ abbrev pub number_after : ℕ → ℕ
 number_after x = (x * 1103515245 + 12345) % 2 ^ 31
 
 -- the sequence of numbers of a seed: first its remainder, then the number after the one before
-unfoldable pub number : ℕ → ℕ → ℕ
-number seed zero = seed % 2 ^ 31
-number seed (suc n) = number_after (number seed n)
+unfoldable pub nth_number : ℕ → ℕ → ℕ
+nth_number seed zero = seed % 2 ^ 31
+nth_number seed (suc n) = number_after (nth_number seed n)
 
 -- Draw n, counted from 0, is what number n + 1 of the sequence has above its low 16 bits. The first number, the remainder, is not
 -- drawn from.
 abbrev pub draw : ℕ → ℕ → ℕ
-draw seed n = number seed (suc n) / 65536
+draw seed n = nth_number seed (suc n) / 65536

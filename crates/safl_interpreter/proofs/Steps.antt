@@ -20,7 +20,7 @@ use Rattle.safl_term.proofs.Widths.{widths_append}
 use Rattle.safl_interpreter.specs.declared.answer.Answer.{Answer}
 use Rattle.safl_interpreter.specs.declared.answer.Step.{Step}
 use Rattle.safl_interpreter.specs.declared.answer.Step.TheVariants.{Done, Tail, Spent}
-use Rattle.safl_interpreter.specs.Interpreting.{widths, shown, applied, finished, GoesOn, IsStep, IsTyped, AreTyped}
+use Rattle.safl_interpreter.specs.Interpreting.{widths, shown_answer, applied, finished, GoesOn, IsStep, IsTyped, AreTyped}
 use Rattle.safl_interpreter.proofs.Meanings.{one_call, terms_typed}
 
 -- ---- measures
@@ -233,7 +233,7 @@ pub main_is : (c : CheckedProgram) (n : ℕ) → n ≡ c.program.functions → n
 main_is c n e = ap (λ k. k - 1) e ∙ sym (main_is_last c)
 
 pub main_gives : {X : Type 0} (c : CheckedProgram) (n m : ℕ) (us vs : List Word) → IsChecked c → m ≡ c.program.main → us ≡ vs →
-    (r : Result (Option Answer) X) → IfOk r (λ a. shown a ≡ applied c.program n m us) → IfOk r (λ a. shown a ≡ apply c.program n n (c.program.callee 0) vs)
+    (r : Result (Option Answer) X) → IfOk r (λ a. shown_answer a ≡ applied c.program n m us) → IfOk r (λ a. shown_answer a ≡ apply c.program n n (c.program.callee 0) vs)
 unfolding applied
 main_gives c n m us vs h e f (Ok a) g =
     let C = c.program in

@@ -14,9 +14,9 @@ abbrev pub widths : List Word → List ℕ
 widths vs = map (λ v. v.width) vs
 
 -- the outcome that an answer shows; without one, none
-abbrev pub shown : Option Answer → Outcome
-shown None = Nothing
-shown (Some a) = Gave a.word a.left
+abbrev pub shown_answer : Option Answer → Outcome
+shown_answer None = Nothing
+shown_answer (Some a) = Gave a.word a.left
 
 -- the outcomes that the words of a list of terms show
 abbrev pub shown_all : Option Operands → Outcomes

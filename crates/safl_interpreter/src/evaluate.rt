@@ -4,7 +4,7 @@ ghost use Rattle.std.specs.Prelude.{◌≡◌, ◌<◌, IfOk};
 ghost use Rattle.safl_term.specs.Checked.{IsChecked};
 ghost use Rattle.safl_term.specs.Fuel.{eval, eval_all};
 ghost use Rattle.safl_term.specs.Tree.{shown_term, shown_terms};
-ghost use Rattle.safl_interpreter.specs.Interpreting.{widths, shown, shown_all, applied, IsStep, IsTyped, AreTyped};
+ghost use Rattle.safl_interpreter.specs.Interpreting.{widths, shown_answer, shown_all, applied, IsStep, IsTyped, AreTyped};
 
 use crate::answer::{Answer, Operands, Step};
 use safl_term::{Checked, Term};
@@ -23,7 +23,7 @@ pub fn call(
     requires checked { IsChecked c.now }
     requires function { f < c.now.program.functions }
     requires fit { widths args.items ≡ c.now.program.params f }
-    ensures { IfOk result (λ answer. shown answer ≡ applied c.now.program left f args.items) }
+    ensures { IfOk result (λ answer. shown_answer answer ≡ applied c.now.program left f args.items) }
 {
     let mut function = f;
     let mut words = args;
@@ -99,7 +99,7 @@ fn value(
 ) -> Result<Option<Answer>, NoMemory>
     requires checked { IsChecked c.now }
     requires typed { IsTyped c.now.program env.now (shown_term t.now) }
-    ensures { IfOk result (λ answer. shown answer ≡ eval c.now.program (applied c.now.program) (shown_term t.now) left env.now) }
+    ensures { IfOk result (λ answer. shown_answer answer ≡ eval c.now.program (applied c.now.program) (shown_term t.now) left env.now) }
 {
     match evaluate(alloc, c, env, t, left)? {
         Step::Done(answer) => Ok(Some(answer)),

@@ -2,7 +2,7 @@
 
 ghost use Rattle.std.specs.Prelude.{◌≡◌, IfOk};
 ghost use Rattle.safl_term.specs.Fuel.{apply};
-ghost use Rattle.safl_interpreter.specs.Interpreting.{widths, shown};
+ghost use Rattle.safl_interpreter.specs.Interpreting.{widths, shown_answer};
 
 use crate::answer::Answer;
 use crate::evaluate::call;
@@ -23,7 +23,7 @@ pub fn interpret(
     budget: u32,
 ) -> Result<Option<Answer>, NoMemory>
     requires { widths args.now ≡ c.now.program.params c.now.program.main }
-    ensures { IfOk result (λ answer. shown answer ≡ apply c.now.program budget budget (c.now.program.callee 0) args.now) }
+    ensures { IfOk result (λ answer. shown_answer answer ≡ apply c.now.program budget budget (c.now.program.callee 0) args.now) }
 {
     let main = c.functions() - 1;
     call(alloc, c, main, args.to_vec(alloc)?, budget)

@@ -1,7 +1,7 @@
 -- Reads of one file, one after another.
 use Rattle.std.proofs.Common.{◌≡◌, ◌≤◌, ◌<◌, ℕ, ◌+◌, List, [], ◌++◌, length, take, drop, Option, Some, None, IfSome, IsSomeAnd, refl, ap, sym, ◌∙◌, arith, append_assoc, length-append}
 use Rattle.std.proofs.lemmas.List.{length-take-le, drop_all, append-nil}
-use Rattle.safl_io.specs.Shelf.{Files, file_of, Reads, ReadsFrom}
+use Rattle.safl_io.specs.Shelf.{Files, file_of, ReadsFile, ReadsFrom}
 use Rattle.safl_io.specs.Reading.{HasFile, HasLonger, IsFront, IsReadSoFar}
 
 pub read_start : (told : Option Files) (name : List ℕ) → IsReadSoFar told name []
@@ -20,7 +20,7 @@ front_more text buffer count (Some bytes) within front read =
     rw longer (front ∙ ap (λ rest. text ++ rest) read.bytes ∙ sym (append_assoc text (take count buffer) (drop (length text + count) bytes)))
 
 pub read_more : (told : Option Files) (name text new buffer : List ℕ) (at count : ℕ) → at ≡ length text → new ≡ text ++ take count buffer → count ≤
-    length buffer → IfSome told (Reads name at count buffer) → IsReadSoFar told name text → IsReadSoFar told name new
+    length buffer → IfSome told (ReadsFile name at count buffer) → IsReadSoFar told name text → IsReadSoFar told name new
 unfolding IsReadSoFar
 read_more None name text new buffer at count here longer within read front = tt
 read_more (Some files) name text new buffer at count here longer within read front =
@@ -33,7 +33,7 @@ front_end text buffer count (Some bytes) none room front read =
     ap Some (front ∙ ap (λ rest. text ++ rest) all ∙ append-nil text)
 
 pub read_end : (told : Option Files) (name text new buffer : List ℕ) (at count : ℕ) → at ≡ length text → new ≡ text ++ take count buffer → 0 < length
-    buffer → IfSome told (Reads name at count buffer) → count ≡ 0 → IsReadSoFar told name text → IfSome told (HasFile name new)
+    buffer → IfSome told (ReadsFile name at count buffer) → count ≡ 0 → IsReadSoFar told name text → IfSome told (HasFile name new)
 unfolding IsReadSoFar
 read_end None name text new buffer at count here longer room read none front = tt
 read_end (Some files) name text new buffer at count here longer room read none front =

@@ -54,8 +54,8 @@ pub record ReadsFrom (at count : ℕ) (buffer : List ℕ) (file : List ℕ) : Ty
   pub end : 0 < length buffer → count ≡ 0 → length file ≤ at
 
 -- the file with this name is there, and is read in this way
-abbrev pub Reads : List ℕ → ℕ → ℕ → List ℕ → Files → Type 0
-Reads name at count buffer files = IsSomeAnd (file_of files name) (ReadsFrom at count buffer)
+abbrev pub ReadsFile : List ℕ → ℕ → ℕ → List ℕ → Files → Type 0
+ReadsFile name at count buffer files = IsSomeAnd (file_of files name) (ReadsFrom at count buffer)
 
 -- the shelf tells that it has no file with this name
 abbrev pub IsStray : Option Files → List ℕ → Type 0

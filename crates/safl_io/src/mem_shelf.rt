@@ -2,7 +2,7 @@
 ghost use Rattle.std.specs.Prelude.{◌≡◌, ◌≤◌, ◌-◌, ◌↔◌, [], length, min, IfOk, IfSome, OnOk, OnErr, IsErr, IsErrOf};
 ghost use Rattle.std.specs.Option.{option_copied};
 ghost use Rattle.safl_io.specs.Counts.{Rose, raised};
-ghost use Rattle.safl_io.specs.Shelf.{file_of, Leaves, Appends, AppendsPart, Reads, ReadsFrom, IsStray, CountsStray, SameFiles, SameReads};
+ghost use Rattle.safl_io.specs.Shelf.{file_of, Leaves, Appends, AppendsPart, ReadsFile, ReadsFrom, IsStray, CountsStray, SameFiles, SameReads};
 ghost use Rattle.safl_io.specs.Calls.{Fails, FailsWhere, CountsFault, called, no_calls, with_failing};
 ghost use Rattle.safl_io.specs.MemShelf.{FailsAt, AppendsHalf, told_by};
 
@@ -92,7 +92,7 @@ impl Shelf for MemShelf {
     // is room for.
     fn read_at(&mut self, name: &str, at: u64, buf: &mut [u8]) -> Result<usize, Failed>
         ensures fails { IsErr result ↔ FailsAt self.old name.now }
-        ensures read { IfOk result (λ count. Reads name.now at count buf.new self.old.files) }
+        ensures read { IfOk result (λ count. ReadsFile name.now at count buf.new self.old.files) }
         ensures all { IfOk result (λ count. IfSome (file_of self.old.files name.now) (λ file.
             count ≡ min (length buf.old) (length file - at))) }
         ensures within { IfOk result (λ count. count ≤ length buf.old) }

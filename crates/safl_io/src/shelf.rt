@@ -2,7 +2,7 @@
 ghost use Rattle.std.specs.Prelude.{◌≡◌, ◌≤◌, [], length, IfOk, IfSome, OnOk, OnErr, IsErrOf};
 ghost use Rattle.safl_io.specs.Counts.{Rose};
 ghost use Rattle.safl_io.specs.Told.{TellsOn};
-ghost use Rattle.safl_io.specs.Shelf.{ShelfState, Leaves, LeavesOldOrEmpty, Appends, AppendsPart, Reads, IsStray, CountsStray, SameFiles, SameReads};
+ghost use Rattle.safl_io.specs.Shelf.{ShelfState, Leaves, LeavesOldOrEmpty, Appends, AppendsPart, ReadsFile, IsStray, CountsStray, SameFiles, SameReads};
 
 use crate::fault::{Failed, OutErr};
 
@@ -18,7 +18,7 @@ pub trait Shelf {
     /// this is 0 only at or past the file's end.
     fn read_at(&mut self, name: &str, at: u64, buf: &mut [u8]) -> Result<usize, Failed>
         ensures within { IfOk result (λ count. count ≤ length buf.old) }
-        ensures read { IfOk result (λ count. IfSome (told self.old).holds (Reads name.now at count buf.new)) }
+        ensures read { IfOk result (λ count. IfSome (told self.old).holds (ReadsFile name.now at count buf.new)) }
         ensures failed { OnErr result (Rose (told self.old).read_faults (told self.new).read_faults) }
         ensures quiet { OnOk result ((told self.new).read_faults ≡ (told self.old).read_faults) }
         ensures same_files { SameFiles (told self.old) (told self.new) }

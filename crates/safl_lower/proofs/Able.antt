@@ -10,14 +10,14 @@ use Rattle.safl_net.specs.declared.cell.Sig.{Sig}
 use Rattle.safl_net.specs.Netlist.{Netlist}
 use Rattle.safl_net.specs.Growth.{Grows}
 use Rattle.safl_net.proofs.Growth.{grows_on}
-use Rattle.safl_lower.specs.declared.parts.SiteTable.{SiteTable}
-use Rattle.safl_lower.specs.declared.parts.Lowered.{Lowered}
-use Rattle.safl_lower.specs.declared.parts.LoweredAll.{LoweredAll}
-use Rattle.safl_lower.specs.declared.parts.Out.{Out}
+use Rattle.safl_lower.specs.declared.lowered.SiteTable.{SiteTable}
+use Rattle.safl_lower.specs.declared.lowered.Lowered.{Lowered}
+use Rattle.safl_lower.specs.declared.lowered.LoweredAll.{LoweredAll}
+use Rattle.safl_lower.specs.declared.lowered.Out.{Out}
 use Rattle.safl_lower.specs.Bits.{ReadyAt}
 use Rattle.safl_term.specs.Sizes.{nodes_in}
 use Rattle.safl_lower.specs.Typing.{Owner, Typed, TypedAll}
-use Rattle.safl_lower.specs.Lowering.{Sited, Setting, Lowerable, LowerableAll, HasPorts, Shaped, Lowers, LowersAll, Shows}
+use Rattle.safl_lower.specs.Lowering.{Sited, Setting, Lowerable, LowerableAll, HasPorts, Shaped, Lowers, LowersAll, ShowsPort}
 use Rattle.safl_lower.proofs.Kept.{sited_kept, setting_on, setting_kept, setting_below}
 use Rattle.safl_lower.proofs.Typing.{test_typed, yes_typed, no_typed, bound_typed, body_typed, parts_typed, args_typed, next_typed}
 use Rattle.safl_lower.proofs.Leaves.{slot_within}
@@ -138,7 +138,7 @@ module _ {P : SiteTable} {slots : List Sig} {path : Sig} {n0 : Netlist} where
       record { from = omega (arith, first, from, low); port = p.0; at = p.1; sent = source_grown g p.0.sent 1 (s.sites_sized (k - P.first) p.0 p.1).sent }
 
   -- what a call shows has the width of its callee's result
-  pub call_shape : (F : Owner) (tail : Bool) (env : List ℕ) (w : ℕ) {f k : ℕ} {ts : Terms} {n1 : Netlist} {r : Lowered} → Grows n0 n1 → Shows P k r →
+  pub call_shape : (F : Owner) (tail : Bool) (env : List ℕ) (w : ℕ) {f k : ℕ} {ts : Terms} {n1 : Netlist} {r : Lowered} → Grows n0 n1 → ShowsPort P k r →
       Setting n0 F P slots env path → Typed F tail env (Call f k ts) w → Shaped n1 r w
   call_shape F tail env w {f} {k} {ts} {n1} {r} g h s t =
       let first = s.first in

@@ -7,18 +7,18 @@ use Rattle.safl_net.specs.declared.cell.Sig.{Sig}
 use Rattle.safl_net.specs.Netlist.{Netlist}
 use Rattle.safl_net.specs.Growth.{Val, words, Wired, Grows}
 use Rattle.safl_net.proofs.Growth.{grows_on, wired_before}
-use Rattle.safl_lower.specs.declared.parts.Readiness.{Readiness}
-use Rattle.safl_lower.specs.declared.parts.Readiness.TheVariants.{Never}
-use Rattle.safl_lower.specs.declared.parts.SiteTable.{SiteTable}
-use Rattle.safl_lower.specs.declared.parts.Lowered.{Lowered}
-use Rattle.safl_lower.specs.declared.parts.LoweredAll.{LoweredAll}
-use Rattle.safl_lower.specs.declared.parts.Out.{Out}
-use Rattle.safl_lower.specs.declared.parts.TailCall.{TailCall}
+use Rattle.safl_lower.specs.declared.lowered.Readiness.{Readiness}
+use Rattle.safl_lower.specs.declared.lowered.Readiness.TheVariants.{Never}
+use Rattle.safl_lower.specs.declared.lowered.SiteTable.{SiteTable}
+use Rattle.safl_lower.specs.declared.lowered.Lowered.{Lowered}
+use Rattle.safl_lower.specs.declared.lowered.LoweredAll.{LoweredAll}
+use Rattle.safl_lower.specs.declared.lowered.Out.{Out}
+use Rattle.safl_lower.specs.declared.lowered.TailCall.{TailCall}
 use Rattle.safl_net.specs.Bits.{on, gate}
 use Rattle.safl_lower.specs.Bits.{is_ready, ReadyAt}
 use Rattle.safl_lower.specs.Typing.{sites_of, sites_in, tails_of, holds_calls}
 use Rattle.safl_lower.specs.Entries.{asked, went, Told, site_of, member_of, cost}
-use Rattle.safl_lower.specs.Lowering.{back_of, sent_of, shown, goes_of, Shaped, Lowers, LowersAll}
+use Rattle.safl_lower.specs.Lowering.{back_of, sent_of, gives, goes_of, Shaped, Lowers, LowersAll}
 use Rattle.safl_lower.proofs.Arms.{or_assoc, gate_or, gate_none, if_value, if_wants, let_value, let_wants}
 use Rattle.safl_lower.proofs.Kept.{shaped_kept, setting_on, setting_below}
 use Rattle.safl_lower.proofs.Typing.{test_typed, yes_typed, no_typed, bound_typed, body_typed}
@@ -74,7 +74,7 @@ pub record Chosen (n m : Netlist) (test yes no r : Lowered) : Type 0 where
   pub grows : Grows n m
   pub count : length m.signals ≤ length n.signals + 5
   pub shape : (w : ℕ) → Shaped n yes w → Shaped n no w → Shaped m r w
-  pub value : (v : Val) → Wired m v → shown v r ≡ gate (is_ready v test.ready) (cond (on v test.value) (shown v yes) (shown v no))
+  pub value : (v : Val) → Wired m v → gives v r ≡ gate (is_ready v test.ready) (cond (on v test.value) (gives v yes) (gives v no))
   pub never : r.ready ≡ Never → (test.ready ≡ Never) ⊎ ((yes.ready ≡ Never) × (no.ready ≡ Never))
   pub settles : Settles n m
 
@@ -136,8 +136,8 @@ lowers_if {P} {slots} {path} {py} {pn} {n0} {n1} {n2} {n3} {n4} {n5} {o0} {o1} {
       let w1 = wired_before hp.grows (wired_before ha.grows w3) in
       let back = back_of v P in
       let env = words v slots in
-      hr.value v w5 ∙ if_value (is_ready v test.ready) (v test.value.0) (answer back env c) (answer back env a) (answer back env b) (shown v yes)
-      (shown v no) (hc.value v w1) (ha.value v w3) (hb.value v w4);
+      hr.value v w5 ∙ if_value (is_ready v test.ready) (v test.value.0) (answer back env c) (answer back env a) (answer back env b) (gives v yes)
+      (gives v no) (hc.value v w1) (ha.value v w3) (hb.value v w4);
   ever = λ F env w t no. ⊎_elim (hc.ever F env 1 (test_typed t)) (λ x. ha.ever F env w (yes_typed t) x.0) (hr.never no);
   wide = λ F tail env w s t no.
       let s2 = setting_on (grows_on hc.grows hp.grows) s hp.yes_bit in

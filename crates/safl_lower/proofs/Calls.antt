@@ -12,18 +12,18 @@ use Rattle.safl_net.specs.declared.cell.Sig.{Sig}
 use Rattle.safl_net.specs.Netlist.{Netlist}
 use Rattle.safl_net.specs.Growth.{Val, words, Wired, Grows}
 use Rattle.safl_net.proofs.Growth.{grows_on, wired_before}
-use Rattle.safl_lower.specs.declared.parts.Readiness.{Readiness}
-use Rattle.safl_lower.specs.declared.parts.Readiness.TheVariants.{Never, When}
-use Rattle.safl_lower.specs.declared.parts.SiteTable.{SiteTable}
-use Rattle.safl_lower.specs.declared.parts.Lowered.{Lowered}
-use Rattle.safl_lower.specs.declared.parts.LoweredAll.{LoweredAll}
-use Rattle.safl_lower.specs.declared.parts.Out.{Out}
-use Rattle.safl_lower.specs.declared.parts.TailCall.{TailCall}
+use Rattle.safl_lower.specs.declared.lowered.Readiness.{Readiness}
+use Rattle.safl_lower.specs.declared.lowered.Readiness.TheVariants.{Never, When}
+use Rattle.safl_lower.specs.declared.lowered.SiteTable.{SiteTable}
+use Rattle.safl_lower.specs.declared.lowered.Lowered.{Lowered}
+use Rattle.safl_lower.specs.declared.lowered.LoweredAll.{LoweredAll}
+use Rattle.safl_lower.specs.declared.lowered.Out.{Out}
+use Rattle.safl_lower.specs.declared.lowered.TailCall.{TailCall}
 use Rattle.safl_net.specs.Bits.{on, gate}
 use Rattle.safl_lower.specs.Bits.{is_ready, ReadyAt}
 use Rattle.safl_lower.specs.Typing.{Owner, Typed, sites_in}
 use Rattle.safl_lower.specs.Entries.{asked, went, site_of, member_of, Mates, WantsFit, LoopsFit, cost}
-use Rattle.safl_lower.specs.Lowering.{returned_word, back_of, sent_of, open_at, shown, gathered, goes_of, Setting, Shaped, Lowers, LowersAll, Shows, goes_with, Enters, Leaves}
+use Rattle.safl_lower.specs.Lowering.{returned_word, back_of, sent_of, open_at, gives, gathered, goes_of, Setting, Shaped, Lowers, LowersAll, ShowsPort, goes_with, Enters, Leaves}
 use Rattle.safl_lower.proofs.Arms.{or_assoc, or_none, gate_or, gate_none}
 use Rattle.safl_lower.proofs.Kept.{shaped_all_kept}
 use Rattle.safl_lower.proofs.Typing.{args_typed, next_typed}
@@ -99,7 +99,7 @@ at_site false k j p sent o e = sym (gate_none (p && not (sent j)))
 pub record Asked (P : SiteTable) (path : Sig) (n m : Netlist) (o p : Out) (k : ℕ) (all : LoweredAll) (r : Lowered) : Type 0 where
   pub grows : Grows n m
   pub count : length m.signals ≤ length n.signals + 3
-  pub given : Shows P k r
+  pub given : ShowsPort P k r
   pub entry : Enters m o.wants.items p.wants.items k all
   pub loops : p.loops.items ≡ o.loops.items
   pub wants : (v : Val) → Wired m v → (j : ℕ) → asked v p.wants.items j ≡ or_else (asked v o.wants.items j) (gate (k == j) (gate (open_at v P path k) (gathered v all)))
@@ -135,7 +135,7 @@ lowers_call {P} {slots} {path} {n0} {n1} {n2} {o0} {o1} {o2} {all} {f} {k} {ts} 
   ever = λ F env w t no. when_ever ha.given.port.returned (sym (ap (λ (y : Lowered). y.ready) ha.given.is) ∙ no);
   wide = λ F tail env w s t no. when_ever ha.given.port.returned (sym (ap (λ (y : Lowered). y.ready) ha.given.is) ∙ no);
   value = λ v h.
-      ap (shown v) ha.given.is ∙ sym (ap (returned_word v) ha.given.at) ∙ shown_call (back_of v P k);
+      ap (gives v) ha.given.is ∙ sym (ap (returned_word v) ha.given.at) ∙ shown_call (back_of v P k);
   wants = λ F tail scope w t v h j.
       let w1 = wired_before ha.grows h in
       let back = back_of v P in

@@ -8,8 +8,8 @@ use Rattle.safl_term.specs.Checked.{CheckedProgram, IsChecked}
 use Rattle.safl_net.specs.declared.cell.Sig.{Sig}
 use Rattle.safl_net.specs.Netlist.{Netlist}
 use Rattle.safl_lower.specs.Sources.{HasRoom}
-use Rattle.safl_lower.specs.declared.parts.Ports.{Ports}
-use Rattle.safl_lower.specs.declared.parts.SiteTable.{SiteTable}
+use Rattle.safl_lower.specs.declared.lowered.Ports.{Ports}
+use Rattle.safl_lower.specs.declared.lowered.SiteTable.{SiteTable}
 use Rattle.safl_lower.specs.Typing.{Owner, Typed}
 use Rattle.safl_lower.specs.Lowering.{Setting}
 use Rattle.safl_lower.specs.Bodies.{CanLower}

@@ -9,9 +9,9 @@ use Rattle.safl_term.specs.Readiness.{Answer, Ready, LoopTo, NotYet, word_of, re
 use Rattle.safl_net.specs.declared.cell.Sig.{Sig}
 use Rattle.safl_net.specs.Netlist.{Netlist}
 use Rattle.safl_net.specs.Growth.{Val, words, Grows}
-use Rattle.safl_lower.specs.declared.parts.Out.{Out}
-use Rattle.safl_lower.specs.declared.parts.Want.{Want}
-use Rattle.safl_lower.specs.declared.parts.TailCall.{TailCall}
+use Rattle.safl_lower.specs.declared.lowered.Out.{Out}
+use Rattle.safl_lower.specs.declared.lowered.Want.{Want}
+use Rattle.safl_lower.specs.declared.lowered.TailCall.{TailCall}
 use Rattle.safl_term.specs.Sizes.{nodes}
 use Rattle.safl_lower.specs.Typing.{Owner, Typed}
 use Rattle.safl_net.specs.Bits.{gate}

@@ -14,7 +14,7 @@ use Rattle.safl_lower.specs.declared.loads.Load.{Load}
 use Rattle.safl_lower.specs.Sources.{IsSource, AreSources, Builds, HasRoom}
 use Rattle.safl_lower.specs.Tables.{taken_in, taken_from, load_in, SomeFit}
 use Rattle.safl_lower.proofs.Building.{builds_same, builds_on, builds_within, source_kept, sources_kept}
-use Rattle.safl_lower.specs.declared.parts.TailCall.{TailCall}
+use Rattle.safl_lower.specs.declared.lowered.TailCall.{TailCall}
 use Rattle.safl_lower.specs.Typing.{Owner}
 use Rattle.safl_lower.specs.Entries.{member_of, Between, LoopFits, LoopsFit, cost}
 use Rattle.safl_lower.specs.Loads.{Listed, member_widths, taken_to, loads_cost, Merged}

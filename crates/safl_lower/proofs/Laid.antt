@@ -10,7 +10,7 @@ use Rattle.safl_net.specs.Bits.{on, gate}
 use Rattle.safl_lower.specs.declared.loads.Load.{Load}
 use Rattle.safl_lower.specs.Tables.{taken_in, taken_from, load_in, FitsIn, LoadFits, SomeFit}
 use Rattle.safl_lower.proofs.BitWords.{same}
-use Rattle.safl_lower.specs.declared.parts.Want.{Want}
+use Rattle.safl_lower.specs.declared.lowered.Want.{Want}
 use Rattle.safl_lower.specs.Typing.{Owner}
 use Rattle.safl_lower.specs.Entries.{asked, asks, site_of, Between, WantFits, WantsFit}
 use Rattle.safl_lower.specs.Loads.{Differs, Apart, Listed, site_widths, Spreads, Placed}

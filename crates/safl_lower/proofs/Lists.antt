@@ -11,18 +11,18 @@ use Rattle.safl_net.specs.declared.cell.Sig.{Sig}
 use Rattle.safl_net.specs.Netlist.{Netlist}
 use Rattle.safl_net.specs.Growth.{words}
 use Rattle.safl_net.proofs.Growth.{grows_on, grows_none, wired_before}
-use Rattle.safl_lower.specs.declared.parts.Readiness.{Readiness}
-use Rattle.safl_lower.specs.declared.parts.Readiness.TheVariants.{Always}
-use Rattle.safl_lower.specs.declared.parts.SiteTable.{SiteTable}
-use Rattle.safl_lower.specs.declared.parts.Lowered.{Lowered}
-use Rattle.safl_lower.specs.declared.parts.LoweredAll.{LoweredAll}
-use Rattle.safl_lower.specs.declared.parts.Out.{Out}
+use Rattle.safl_lower.specs.declared.lowered.Readiness.{Readiness}
+use Rattle.safl_lower.specs.declared.lowered.Readiness.TheVariants.{Always}
+use Rattle.safl_lower.specs.declared.lowered.SiteTable.{SiteTable}
+use Rattle.safl_lower.specs.declared.lowered.Lowered.{Lowered}
+use Rattle.safl_lower.specs.declared.lowered.LoweredAll.{LoweredAll}
+use Rattle.safl_lower.specs.declared.lowered.Out.{Out}
 use Rattle.safl_net.specs.Bits.{on, gate}
 use Rattle.safl_lower.specs.Bits.{is_ready, ReadyAt}
 use Rattle.safl_term.specs.Sizes.{nodes, nodes_in}
 use Rattle.safl_lower.specs.Typing.{Owner, Typed, TypedAll, sites_of, sites_in}
 use Rattle.safl_lower.specs.Entries.{asked, went, site_of}
-use Rattle.safl_lower.specs.Lowering.{back_of, open_at, shown, goes_of, ShapedAll, Lowers, LowersAll}
+use Rattle.safl_lower.specs.Lowering.{back_of, open_at, gives, goes_of, ShapedAll, Lowers, LowersAll}
 use Rattle.safl_lower.proofs.Arms.{or_assoc, or_none, gate_or, and_then, join}
 use Rattle.safl_lower.proofs.Kept.{setting_kept, apart}
 use Rattle.safl_lower.proofs.Gathered.{words_more, stays, stays_by, no_goes, no_more, more_twice, out_kept, told_by, told_more, gate_is_none, some_nodes}
@@ -173,7 +173,7 @@ lowers_more {P} {slots} {path} {n0} {n1} {n2} {n3} {o0} {o1} {o2} {r} {s} {one} 
       ap (λ (b : Bool). gate b (Some (words v s.values.items))) (hb.is v w3)
       ∙ ap (λ (xs : List Word). gate (is_ready v r.ready && is_ready v one.ready) (Some xs)) (ap (words v) e ∙ words_more v r.values.items (one.value ∷ []))
       ∙ sym (join (is_ready v r.ready) (is_ready v one.ready) (words v r.values.items) (v one.value.0))
-      ∙ ap (λ (o : Option (List Word)). and_then o (shown v one)) (hs.value v w1)
+      ∙ ap (λ (o : Option (List Word)). and_then o (gives v one)) (hs.value v w1)
       ∙ ap (and_then (answers back env ts)) (ht.value v w2)
       ∙ sym (peval_end back env ts t);
   wants = λ F scope ws ty v w3 k.

@@ -4,7 +4,7 @@ use Rattle.safl_word.specs.Words.{Word}
 use Rattle.safl_term.specs.Readiness.{or_else}
 use Rattle.safl_net.specs.Growth.{Val, words}
 use Rattle.safl_net.specs.Bits.{on, gate}
-use Rattle.safl_lower.specs.declared.parts.TailCall.{TailCall}
+use Rattle.safl_lower.specs.declared.lowered.TailCall.{TailCall}
 use Rattle.safl_lower.specs.Entries.{went, Told}
 use Rattle.safl_lower.specs.Loads.{taken_to, to_member}
 

@@ -8,15 +8,15 @@ use Rattle.safl_net.specs.declared.cell.Sig.{Sig}
 use Rattle.safl_net.specs.Netlist.{Netlist}
 use Rattle.safl_net.specs.Growth.{Val, Wired}
 use Rattle.safl_net.proofs.Growth.{grows_on}
-use Rattle.safl_lower.specs.declared.parts.Readiness.TheVariants.{Never}
-use Rattle.safl_lower.specs.declared.parts.SiteTable.{SiteTable}
-use Rattle.safl_lower.specs.declared.parts.Lowered.{Lowered}
-use Rattle.safl_lower.specs.declared.parts.LoweredAll.{LoweredAll}
-use Rattle.safl_lower.specs.declared.parts.Out.{Out}
+use Rattle.safl_lower.specs.declared.lowered.Readiness.TheVariants.{Never}
+use Rattle.safl_lower.specs.declared.lowered.SiteTable.{SiteTable}
+use Rattle.safl_lower.specs.declared.lowered.Lowered.{Lowered}
+use Rattle.safl_lower.specs.declared.lowered.LoweredAll.{LoweredAll}
+use Rattle.safl_lower.specs.declared.lowered.Out.{Out}
 use Rattle.safl_net.specs.Bits.{on, gate}
 use Rattle.safl_lower.specs.Bits.{is_ready}
 use Rattle.safl_lower.specs.Entries.{asked, went}
-use Rattle.safl_lower.specs.Lowering.{shown, gathered, open_at, Shaped, Lowers, LowersAll, Shows, goes_with, Enters, Leaves}
+use Rattle.safl_lower.specs.Lowering.{gives, gathered, open_at, Shaped, Lowers, LowersAll, ShowsPort, goes_with, Enters, Leaves}
 use Rattle.safl_lower.proofs.Branches.{Branches, lowers_if}
 use Rattle.safl_lower.proofs.Calls.{lowers_call, lowers_loop}
 use Rattle.safl_lower.proofs.Able.{call_shape}
@@ -37,7 +37,7 @@ pub done_if : {E : Type 0} {P : SiteTable} {slots : List Sig} {path py pn : Sig}
     → Lowers P slots path n0 n1 o0 o1 test c → Branches path n1 n2 test a b py pn → Lowers P slots py n2 n3 o1 o2 yes a → Lowers P slots pn n3 n4 o2 o3 no b
     → Builds n4 n5 5
     → ((w : ℕ) → Shaped n4 yes w → Shaped n4 no w → IfOk res (λ r. Shaped n5 r w))
-    → IfOk res (λ r. (v : Val) → Wired n5 v → shown v r ≡ gate (is_ready v test.ready) (cond (on v test.value) (shown v yes) (shown v no)))
+    → IfOk res (λ r. (v : Val) → Wired n5 v → gives v r ≡ gate (is_ready v test.ready) (cond (on v test.value) (gives v yes) (gives v no)))
     → IfOk res (λ r. r.ready ≡ Never → (test.ready ≡ Never) ⊎ ((yes.ready ≡ Never) × (no.ready ≡ Never)))
     → IfOk res (λ r. Lowers P slots path n0 n5 o0 o3 r t)
 done_if {P = P} {slots = slots} {path = path} {n0 = n0} {n5 = n5} {o0 = o0} {o3 = o3} (Ok r) e hc hp ha hb b s v q =
@@ -48,7 +48,7 @@ pub done_call : {E : Type 0} {P : SiteTable} {slots : List Sig} {path : Sig} {n0
     → t ≡ Call f k ts
     → LowersAll P slots path n0 n1 o0 o1 all ts
     → Builds n1 n2 3
-    → IfOk res (λ r. Shows P k r)
+    → IfOk res (λ r. ShowsPort P k r)
     → IfOk res (λ _. Enters n2 o1.wants.items o2.wants.items k all)
     → OnOk res (o2.loops.items ≡ o1.loops.items)
     → IfOk res (λ r. (v : Val) → Wired n2 v → (j : ℕ) → asked v o2.wants.items j ≡ or_else (asked v o1.wants.items j) (gate (k == j) (gate (open_at v P path k) (gathered v all))))

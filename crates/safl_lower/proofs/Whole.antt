@@ -14,19 +14,19 @@ use Rattle.safl_net.proofs.Settling.{settles_on}
 use Rattle.safl_lower.specs.Sources.{Builds}
 use Rattle.safl_lower.specs.Tables.{taken, one_word, LoadFits}
 use Rattle.safl_lower.proofs.KnownLoads.{load_kept}
-use Rattle.safl_lower.specs.declared.parts.Readiness.TheVariants.{Never}
-use Rattle.safl_lower.specs.declared.parts.Ports.{Ports}
-use Rattle.safl_lower.specs.declared.parts.SitePorts.{SitePorts}
-use Rattle.safl_lower.specs.declared.parts.SiteTable.{SiteTable}
-use Rattle.safl_lower.specs.declared.parts.Body.{Body}
-use Rattle.safl_lower.specs.declared.parts.Lowered.{Lowered}
-use Rattle.safl_lower.specs.declared.parts.Out.{Out}
-use Rattle.safl_lower.specs.declared.parts.Want.{Want}
-use Rattle.safl_lower.specs.declared.parts.TailCall.{TailCall}
+use Rattle.safl_lower.specs.declared.lowered.Readiness.TheVariants.{Never}
+use Rattle.safl_lower.specs.declared.lowered.Ports.{Ports}
+use Rattle.safl_lower.specs.declared.lowered.SitePorts.{SitePorts}
+use Rattle.safl_lower.specs.declared.lowered.SiteTable.{SiteTable}
+use Rattle.safl_lower.specs.declared.lowered.Body.{Body}
+use Rattle.safl_lower.specs.declared.lowered.Lowered.{Lowered}
+use Rattle.safl_lower.specs.declared.lowered.Out.{Out}
+use Rattle.safl_lower.specs.declared.lowered.Want.{Want}
+use Rattle.safl_lower.specs.declared.lowered.TailCall.{TailCall}
 use Rattle.safl_lower.specs.Bits.{ReadyAt}
 use Rattle.safl_lower.specs.Typing.{Owner, sites_of, tails_of}
 use Rattle.safl_lower.specs.Entries.{asked, went, Told, site_of, member_of, Between, Mates, OutFits, WantsFit, LoopsFit, cost}
-use Rattle.safl_lower.specs.Lowering.{back_of, open_at, shown, goes_of, Shaped, Lowerable, Lowers}
+use Rattle.safl_lower.specs.Lowering.{back_of, open_at, gives, goes_of, Shaped, Lowerable, Lowers}
 use Rattle.safl_lower.specs.Loads.{Apart, Listed, to_member, Spreads, Merged}
 use Rattle.safl_lower.specs.Bodies.{CanLower, IsGroup, IsLowered}
 use Rattle.safl_lower.proofs.Typing.{places}
@@ -113,7 +113,7 @@ renumbered {sites} {slots} {path} {n} {m} {o} {p} {r} {x} {y} k j e f h =
 module _ (c : CheckedProgram) (hc : IsChecked c) (f : ℕ) (l : f < c.program.functions) (P : Ports) {n0 n1 n2 n3 : Netlist} {o p : Out} {r : Lowered} (b : Body) (width count : ℕ)
     (ew : o.wants.items ≡ []) (el : o.loops.items ≡ []) (able : CanLower c f n0 P) (h : Lowers (table_of c f P) P.args.items P.run n0 n1 o p r (c.program.body f))
     (ended : Builds n1 n2 2) (wide : (w : ℕ) → Shaped n1 r w → (r.ready ≡ Never → w ≡ width) → LoadFits n2 b.end (w ∷ [])) (same : width ≡ c.program.result f)
-    (is : (v : Val) → Wired n2 v → taken v b.end ≡ one_word (gate (on v P.run) (shown v r)))
+    (is : (v : Val) → Wired n2 v → taken v b.end ≡ one_word (gate (on v P.run) (gives v r)))
     (sp : Spreads (c.first_site f) (length P.sites.items) p.wants.items b.wants.items)
     (group : IsGroup c.program f count)
     (joined : Builds n2 n3 (cost p.loops.items)) (me : Merged (c.program.unit f) count n2 n3 p.loops.items b.loops.items) where

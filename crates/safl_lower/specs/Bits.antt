@@ -3,8 +3,8 @@ use Rattle.std.specs.Prelude.{Bool, true, false}
 use Rattle.safl_net.specs.Netlist.{Netlist}
 use Rattle.safl_net.specs.Growth.{Val}
 use Rattle.safl_net.specs.Bits.{on}
-use Rattle.safl_lower.specs.declared.parts.Readiness.{Readiness}
-use Rattle.safl_lower.specs.declared.parts.Readiness.TheVariants.{Always, Never, When}
+use Rattle.safl_lower.specs.declared.lowered.Readiness.{Readiness}
+use Rattle.safl_lower.specs.declared.lowered.Readiness.TheVariants.{Always, Never, When}
 use Rattle.safl_lower.specs.Sources.{IsSource}
 
 -- whether it is ready under a valuation

@@ -10,9 +10,9 @@ use Rattle.safl_net.specs.Growth.{Val, words, Wired}
 use Rattle.safl_net.specs.Bits.{on, gate}
 use Rattle.safl_lower.specs.Sources.{IsSource, AreSources, Builds, HasRoom}
 use Rattle.safl_lower.specs.Tables.{load_in, taken, taken_at, taken_from, one_word, LoadFits, LoadsFit, SomeFit}
-use Rattle.safl_lower.specs.declared.parts.SitePorts.{SitePorts}
-use Rattle.safl_lower.specs.declared.parts.Ports.{Ports}
-use Rattle.safl_lower.specs.declared.parts.Body.{Body}
+use Rattle.safl_lower.specs.declared.lowered.SitePorts.{SitePorts}
+use Rattle.safl_lower.specs.declared.lowered.Ports.{Ports}
+use Rattle.safl_lower.specs.declared.lowered.Body.{Body}
 use Rattle.safl_lower.specs.Typing.{tails_of}
 use Rattle.safl_lower.specs.Lowering.{Sited, returned_word, was_sent, goes_of}
 use Rattle.safl_lower.specs.Loads.{Listed, to_member, loads_cost}

@@ -6,13 +6,13 @@ use Rattle.safl_net.specs.declared.cell.Sig.{Sig}
 use Rattle.safl_net.specs.Netlist.{Netlist}
 use Rattle.safl_net.specs.Growth.{Val, Wired}
 use Rattle.safl_net.specs.Bits.{on, gate}
-use Rattle.safl_lower.specs.declared.parts.SiteTable.{SiteTable}
-use Rattle.safl_lower.specs.declared.parts.Readiness.{Readiness}
-use Rattle.safl_lower.specs.declared.parts.Readiness.TheVariants.{Never}
-use Rattle.safl_lower.specs.declared.parts.Lowered.{Lowered}
-use Rattle.safl_lower.specs.declared.parts.LoweredAll.{LoweredAll}
-use Rattle.safl_lower.specs.declared.parts.TailCall.{TailCall}
-use Rattle.safl_lower.specs.declared.parts.Want.{Want}
+use Rattle.safl_lower.specs.declared.lowered.SiteTable.{SiteTable}
+use Rattle.safl_lower.specs.declared.lowered.Readiness.{Readiness}
+use Rattle.safl_lower.specs.declared.lowered.Readiness.TheVariants.{Never}
+use Rattle.safl_lower.specs.declared.lowered.Lowered.{Lowered}
+use Rattle.safl_lower.specs.declared.lowered.LoweredAll.{LoweredAll}
+use Rattle.safl_lower.specs.declared.lowered.TailCall.{TailCall}
+use Rattle.safl_lower.specs.declared.lowered.Want.{Want}
 use Rattle.safl_lower.specs.Bits.{is_ready}
 use Rattle.safl_lower.specs.Entries.{asked, went}
 use Rattle.safl_lower.specs.Lowering.{open_at, gathered, goes_with}

@@ -7,8 +7,8 @@ use Rattle.safl_net.specs.Growth.{Val, words, Wired}
 use Rattle.safl_net.specs.Bits.{on, gate}
 use Rattle.safl_lower.specs.declared.loads.Load.{Load}
 use Rattle.safl_lower.specs.Tables.{load_in, taken_at, taken_from, LoadsFit, SomeFit}
-use Rattle.safl_lower.specs.declared.parts.Want.{Want}
-use Rattle.safl_lower.specs.declared.parts.TailCall.{TailCall}
+use Rattle.safl_lower.specs.declared.lowered.Want.{Want}
+use Rattle.safl_lower.specs.declared.lowered.TailCall.{TailCall}
 use Rattle.safl_lower.specs.Typing.{Owner}
 use Rattle.safl_lower.specs.Entries.{asked, site_of, member_of, WantsFit, LoopsFit, cost}
 

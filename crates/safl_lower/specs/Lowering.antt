@@ -6,14 +6,14 @@ use Rattle.safl_term.specs.Readiness.{Answer, Ready, LoopTo, NotYet, word_of, or
 use Rattle.safl_net.specs.declared.cell.Sig.{Sig}
 use Rattle.safl_net.specs.Netlist.{Netlist}
 use Rattle.safl_net.specs.Growth.{Val, words, Wired, Grows}
-use Rattle.safl_lower.specs.declared.parts.SitePorts.{SitePorts}
-use Rattle.safl_lower.specs.declared.parts.SiteTable.{SiteTable}
-use Rattle.safl_lower.specs.declared.parts.Readiness.TheVariants.{Never, When}
-use Rattle.safl_lower.specs.declared.parts.Lowered.{Lowered}
-use Rattle.safl_lower.specs.declared.parts.LoweredAll.{LoweredAll}
-use Rattle.safl_lower.specs.declared.parts.TailCall.{TailCall}
-use Rattle.safl_lower.specs.declared.parts.Want.{Want}
-use Rattle.safl_lower.specs.declared.parts.Out.{Out}
+use Rattle.safl_lower.specs.declared.lowered.SitePorts.{SitePorts}
+use Rattle.safl_lower.specs.declared.lowered.SiteTable.{SiteTable}
+use Rattle.safl_lower.specs.declared.lowered.Readiness.TheVariants.{Never, When}
+use Rattle.safl_lower.specs.declared.lowered.Lowered.{Lowered}
+use Rattle.safl_lower.specs.declared.lowered.LoweredAll.{LoweredAll}
+use Rattle.safl_lower.specs.declared.lowered.TailCall.{TailCall}
+use Rattle.safl_lower.specs.declared.lowered.Want.{Want}
+use Rattle.safl_lower.specs.declared.lowered.Out.{Out}
 use Rattle.safl_net.specs.Bits.{on, gate}
 use Rattle.safl_lower.specs.Bits.{is_ready, ReadyAt}
 use Rattle.safl_term.specs.Sizes.{nodes, nodes_in}
@@ -46,8 +46,8 @@ abbrev pub open_at : Val → SiteTable → Sig → ℕ → Bool
 open_at v P path k = on v path && not (sent_of v P k)
 
 -- the word of a term, if it is ready; and the words of a list of terms, if all are ready
-abbrev pub shown : Val → Lowered → Option Word
-shown v r = gate (is_ready v r.ready) (Some (v r.value.0))
+abbrev pub gives : Val → Lowered → Option Word
+gives v r = gate (is_ready v r.ready) (Some (v r.value.0))
 
 abbrev pub gathered : Val → LoweredAll → Option (List Word)
 gathered v r = gate (is_ready v r.ready) (Some (words v r.values.items))
@@ -122,7 +122,7 @@ pub record Lowers (P : SiteTable) (slots : List Sig) (path : Sig) (old new : Net
   pub wide : (F : Owner) (tail : Bool) (env : List ℕ) (w : ℕ) → Setting old F P slots env path → Typed F tail env t w → r.ready ≡ Never
       → w ≡ F.program.result F.function
   -- it is ready if the term is, and then has the term's word
-  pub value : (v : Val) → Wired new v → shown v r ≡ word_of (answer (back_of v P) (words v slots) t)
+  pub value : (v : Val) → Wired new v → gives v r ≡ word_of (answer (back_of v P) (words v slots) t)
   -- a site is wanted if it was not sent, the path is 1 and the term wants it, with the same words
   pub wants : (F : Owner) (tail : Bool) (env : List ℕ) (w : ℕ) → Typed F tail env t w → (v : Val) → Wired new v → (k : ℕ)
       → asked v p.wants.items k ≡ or_else (asked v o.wants.items k) (gate (open_at v P path k) (wanted (back_of v P) (words v slots) t k))
@@ -166,7 +166,7 @@ pub record LowersAll (P : SiteTable) (slots : List Sig) (path : Sig) (old new : 
 -- ---- a call and a tail call
 
 -- the circuit of a call shows what the ports of its site show
-pub record Shows (P : SiteTable) (k : ℕ) (r : Lowered) : Type 0 where
+pub record ShowsPort (P : SiteTable) (k : ℕ) (r : Lowered) : Type 0 where
   pub port : SitePorts
   pub at : port_of P k ≡ Some port
   pub is : r ≡ record { ready = When port.returned; value = port.value }

@@ -9,15 +9,15 @@ ghost use Rattle.safl_lower.specs.Sources.{IsSource, Builds, CanGrow};
 ghost use Rattle.safl_lower.specs.Tables.{taken, one_word, LoadFits};
 ghost use Rattle.safl_lower.specs.Bits.{ReadyAt};
 ghost use Rattle.safl_lower.specs.Bodies.{CanLower, IsLowered};
-ghost use Rattle.safl_lower.specs.Lowering.{shown, Shaped};
+ghost use Rattle.safl_lower.specs.Lowering.{gives, Shaped};
 
+use crate::calls_by_site::spread;
 use crate::gates::{constant, zero};
 use crate::group::group_end;
 use crate::loads::Load;
+use crate::lowered::{Body, Lowered, Out, Ports, Readiness, SiteTable};
 use crate::merge::merge;
-use crate::parts::{Body, Lowered, Out, Ports, Readiness, SiteTable};
 use crate::ready::and_ready;
-use crate::spread::spread;
 use crate::terms::lower_term;
 use safl_net::{Net, Sig};
 use safl_term::Checked;
@@ -75,7 +75,7 @@ fn end(alloc: Global, net: &mut Net, run: Sig, width: u8, body: Lowered) -> Resu
     requires room { CanGrow net.old 2 }
     ensures built { Builds net.old net.new 2 }
     ensures fits { (w : ℕ) → Shaped net.old body w → (body.ready ≡ Readiness.Never → w ≡ width) → IfOk result (λ l. LoadFits net.new l (w ∷ [])) }
-    ensures value { IfOk result (λ l. (v : Val) → Wired net.new v → taken v l ≡ one_word (gate (on v run) (shown v body))) }
+    ensures value { IfOk result (λ l. (v : Val) → Wired net.new v → taken v l ≡ one_word (gate (on v run) (gives v body))) }
 {
     match body.ready {
         Readiness::Never => {

@@ -6,13 +6,13 @@ ghost use Rattle.safl_net.specs.Growth.{Val, Wired};
 ghost use Rattle.safl_net.specs.Bits.{on, gate};
 ghost use Rattle.safl_lower.specs.Bits.{is_ready, ReadyAt};
 ghost use Rattle.safl_lower.specs.Typing.{holds_calls};
-ghost use Rattle.safl_lower.specs.Lowering.{shown, HasPorts, Shaped, Shows, Enters, Leaves};
+ghost use Rattle.safl_lower.specs.Lowering.{gives, HasPorts, Shaped, ShowsPort, Enters, Leaves};
 ghost use Rattle.safl_lower.specs.Joining.{is_reached, selects_yes, selects_no, selected_ready, selected_word, BothNever, AddsCall, AddsTailCall};
 ghost use Rattle.safl_lower.specs.Sources.{IsSource, Builds, CanGrow};
 
 use crate::gates::{and_not, both, inverse, mux};
 use crate::holding::holds_calls;
-use crate::parts::{Lowered, LoweredAll, Out, Readiness, SiteTable, TailCall, Want};
+use crate::lowered::{Lowered, LoweredAll, Out, Readiness, SiteTable, TailCall, Want};
 use crate::ready::{and_ready, both_ready, either_ready};
 use safl_net::{Net, Sig};
 use safl_term::Term;
@@ -94,7 +94,7 @@ pub fn choose(net: &mut Net, test: Lowered, yes: Lowered, no: Lowered) -> Result
     ensures built { Builds net.old net.new 5 }
     ensures shape { (w : ℕ) → Shaped net.old yes w → Shaped net.old no w → IfOk result (λ r. Shaped net.new r w) }
     ensures value { IfOk result (λ r. (v : Val) → Wired net.new v
-        → shown v r ≡ gate (is_ready v test.ready) (cond (on v test.value) (shown v yes) (shown v no))) }
+        → gives v r ≡ gate (is_ready v test.ready) (cond (on v test.value) (gives v yes) (gives v no))) }
     ensures never { IfOk result (λ r. r.ready ≡ Readiness.Never → (test.ready ≡ Readiness.Never) ⊎ BothNever yes no) }
 {
     let value = choose_value(net, test.value, yes, no)?;
@@ -134,7 +134,7 @@ pub fn ask(
     requires site { HasPorts net.old sites.now site }
     requires room { CanGrow net.old 3 }
     ensures built { Builds net.old net.new 3 }
-    ensures given { IfOk result (λ r. Shows sites.now site r) }
+    ensures given { IfOk result (λ r. ShowsPort sites.now site r) }
     ensures entry { IfOk result (λ _. Enters net.new out.old.wants.items out.new.wants.items site all) }
     ensures loops { OnOk result (out.new.loops.items ≡ out.old.loops.items) }
     ensures wants { IfOk result (λ r. AddsCall net.new sites.now path site all out.old.wants.items out.new.wants.items) }

@@ -5,21 +5,21 @@
 #![tactic(auto)]
 
 mod body;
+mod calls_by_site;
 pub mod gates;
 mod group;
 mod holding;
 mod joins;
+mod load_tables;
 pub mod loads;
+pub mod lowered;
 mod merge;
-pub mod parts;
 mod primitives;
 mod ready;
 pub mod rows;
 mod shifts;
-mod spread;
-mod tables;
 mod terms;
 pub mod trees;
 
 pub use crate::body::lower;
-pub use crate::parts::{Body, Ports, SitePorts};
+pub use crate::lowered::{Body, Ports, SitePorts};

@@ -8,9 +8,9 @@ ghost use Rattle.safl_lower.specs.Typing.{Owner};
 ghost use Rattle.safl_lower.specs.Entries.{Between, member_of, LoopsFit, cost};
 ghost use Rattle.safl_lower.specs.Loads.{Merged};
 
+use crate::load_tables::no_loads;
 use crate::loads::{Load, add_load};
-use crate::parts::TailCall;
-use crate::tables::no_loads;
+use crate::lowered::TailCall;
 use safl_net::Net;
 use safl_word::NoMemory;
 use std::alloc::Global;

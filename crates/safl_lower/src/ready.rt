@@ -7,7 +7,7 @@ ghost use Rattle.safl_lower.specs.Bits.{is_ready, ReadyAt};
 ghost use Rattle.safl_lower.specs.Sources.{IsSource, Builds, CanGrow};
 
 use crate::gates::{and_not, both, either, inverse, mux, or_not, zero};
-use crate::parts::Readiness;
+use crate::lowered::Readiness;
 use safl_net::{Net, Sig};
 use safl_word::NoMemory;
 

@@ -8,7 +8,7 @@ ghost use Rattle.safl_lower.specs.Lowering.{Lowerable, LowerableAll, Lowers, Low
 
 use crate::gates::constant;
 use crate::joins::{ask, body_path, branch_paths, choose, go_on};
-use crate::parts::{Lowered, LoweredAll, Out, Readiness, SiteTable};
+use crate::lowered::{Lowered, LoweredAll, Out, Readiness, SiteTable};
 use crate::primitives::apply;
 use crate::ready::both_ready;
 use safl_net::{Net, Sig};

@@ -6,7 +6,7 @@ use Rattle.safl_net.specs.Rules.{IsNetlist}
 use Rattle.safl_net.specs.Valuations.{Valuation, Fits, IsAcyclic, Holds, reset_state, reset_number, kind_reset, next_state, read, read_next, next_at}
 use Rattle.safl_net.proofs.OneValuation.{one_valuation}
 use Rattle.safl_net.proofs.Reading.{read_word, place_of}
-use Rattle.safl_net.specs.Mirrors.{Line, inputs_in, Alike, Shows, Mirrors}
+use Rattle.safl_net.specs.Mirrors.{Line, inputs_in, Alike, ShowsCycle, Mirrors}
 use Rattle.safl_net.specs.MirrorRuns.{numbers_of_inputs, Goes, AllShow, MirrorsRunAlike}
 use Rattle.safl_net.proofs.GatheredLists.{map_members}
 use Rattle.safl_net.proofs.Twins.{twin, lasting, input_lasts, inputs_named, each_input, own, fits_state}
@@ -17,7 +17,7 @@ module _ (n m : Netlist) (kn : IsNetlist n) (km : IsNetlist m) (tidy : IsTidy n)
     pub each : (a b i j : ℕ) (p q : Option ℕ) (g h : Signal) → slice_get n.signals a ≡ Some g → slice_get m.signals b ≡ Some h → g.kind ≡ Reg i p → h.kind ≡ Reg j q → h.name ≡ g.name → s a ≡ t b
 
   -- the inputs of cycles that show the same
-  inputs_shown : (v w : Valuation) (s t : ℕ → ℕ) → Fits n s v → Fits m t w → Shows n m v w → numbers_of_inputs m.signals w ≡ numbers_of_inputs n.signals v
+  inputs_shown : (v w : Valuation) (s t : ℕ → ℕ) → Fits n s v → Fits m t w → ShowsCycle n m v w → numbers_of_inputs m.signals w ≡ numbers_of_inputs n.signals v
   inputs_shown v w s t fv fw shows =
       inputs_named m t w km fw
       ∙ ap (map (λ (l : Line). read m w l.0)) alike.inputs
@@ -27,7 +27,8 @@ module _ (n m : Netlist) (kn : IsNetlist n) (km : IsNetlist m) (tidy : IsTidy n)
   register_lasts : (a i : ℕ) (p : Option ℕ) (g : Signal) → slice_get n.signals a ≡ Some g → g.kind ≡ Reg i p → is_temp g.name ≡ false
   register_lasts a i p g e is = lasting n a g tidy e (ap one_wire is)
 
-  one_cycle : (s t : ℕ → ℕ) (given : List ℕ) (v w : Valuation) → SameState s t → Fits n s v → numbers_of_inputs n.signals v ≡ given → Fits m t w → numbers_of_inputs m.signals w ≡ given → Shows n m v w
+  one_cycle : (s t : ℕ → ℕ) (given : List ℕ) (v w : Valuation) → SameState s t → Fits n s v → numbers_of_inputs n.signals v ≡ given → Fits m t w → numbers_of_inputs m.signals w ≡ given
+      → ShowsCycle n m v w
   one_cycle s t given v w same fv iv fw iw =
       let c = mirrors w (own m t w fw) in
       let fits : Fits n s c.0 = fits_state n s c.0 c.1 (λ a init next g e is.
@@ -40,12 +41,12 @@ module _ (n m : Netlist) (kn : IsNetlist n) (km : IsNetlist m) (tidy : IsTidy n)
       ∙ sym (same.each a k.number init init next k.next g k.signal e k.there is k.kind k.named)) in
       let ins : numbers_of_inputs n.signals v ≡ numbers_of_inputs n.signals c.0 = iv ∙ sym iw ∙ inputs_shown c.0 w s t fits fw c.2 in
       let one : c.0 ≡ v = one_valuation n set acyclic s c.0 v fits fv (λ a g e is. each_input n.signals c.0 v fits.full fv.full (sym ins) a g e is) in
-      subst (λ u. Shows n m u w) one c.2
+      subst (λ u. ShowsCycle n m u w) one c.2
     where
       held : (b init : ℕ) (next : Option ℕ) (h : Signal) → slice_get m.signals b ≡ Some h → h.kind ≡ Reg init next → slice_index w b ≡ t b
       held b init next h e is = subst (λ k. Holds m w (t b) (slice_index w b) k) is (fw.each b h e).1
 
-  next_same : (v w : Valuation) → Shows n m v w → SameState (next_state n v) (next_state m w)
+  next_same : (v w : Valuation) → ShowsCycle n m v w → SameState (next_state n v) (next_state m w)
   next_same v w shows = record {
     each = λ a b i j p q g h e f is js named.
         ap (next_at n v) (sym (place_of n a g kn e))

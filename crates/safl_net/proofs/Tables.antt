@@ -12,7 +12,7 @@ use Rattle.safl_net.specs.Netlist.{Signal, Kind, Input, Reg, Wire}
 use Rattle.safl_net.specs.Names.{is_good, named_signal, named_output, has_name, one_wire, wires}
 use Rattle.safl_net.specs.Making.{set_kind}
 use Rattle.safl_net.specs.Rules.{IsNetlist, SignalFits, KindFits}
-use Rattle.safl_net.specs.Stored.{kind_of, signal_of, signals_of, outputs_of, net_of, ResetFits, Keeps}
+use Rattle.safl_net.specs.Stored.{kind_of, signal_of, signals_of, outputs_of, net_of, ResetFits, KeepsNetlist}
 use Rattle.safl_net.proofs.Naming.{pushed}
 use Rattle.safl_net.proofs.Keeping.{push_kept, set_kept, output_kept}
 
@@ -66,9 +66,9 @@ signals_push es name r = map_push _ es (name, r)
 
 -- one more row
 pub rows_kept : (es : List (String Global × Row)) (os : List (String Global × Sig)) (count : ℕ) (name : String Global) (r : Row)
-    → Keeps es os count → length (signals_of es) < 4294967295 → has_name (net_of es os) (string_bytes name) ≡ false
+    → KeepsNetlist es os count → length (signals_of es) < 4294967295 → has_name (net_of es os) (string_bytes name) ≡ false
     → SignalFits (net_of es os) (signal_of (string_bytes name) r) → ResetFits r.width r.driver
-    → Keeps (es ++ (name, r) ∷ []) os (count + one_wire (kind_of r.driver))
+    → KeepsNetlist (es ++ (name, r) ∷ []) os (count + one_wire (kind_of r.driver))
 rows_kept es os count name r k room new fits reset =
     let p = signals_push es name r in
     record {
@@ -117,8 +117,8 @@ resets_set (a ∷ es) (suc i) r h g (suc j) e f = resets_set es i r (λ k x q. h
 
 -- a row of another driver
 pub rows_set : (es : List (String Global × Row)) (os : List (String Global × Sig)) (count i : ℕ) (r : Row) (d : Driver)
-    → Keeps es os count → slice_get (values_of es) i ≡ Some r → one_wire (kind_of d) ≡ one_wire (kind_of r.driver)
-    → KindFits (net_of es os) r.width (kind_of d) → ResetFits r.width d → Keeps (set_value_at es i (driven r d)) os count
+    → KeepsNetlist es os count → slice_get (values_of es) i ≡ Some r → one_wire (kind_of d) ≡ one_wire (kind_of r.driver)
+    → KindFits (net_of es os) r.width (kind_of d) → ResetFits r.width d → KeepsNetlist (set_value_at es i (driven r d)) os count
 rows_set es os count i r d k here alike fits reset =
     let p = signals_set es i r d here in
     let a = row_at es i r here in
@@ -133,8 +133,8 @@ pub outputs_push : (os : List (String Global × Sig)) (name : String Global) (s 
 outputs_push os name s = map_push _ os (name, s)
 
 pub outputs_kept : (es : List (String Global × Row)) (os : List (String Global × Sig)) (count : ℕ) (name : String Global) (s : Sig)
-    → Keeps es os count → length (outputs_of os) < 4294967295 → is_good (string_bytes name) ≡ true → has_name (net_of es os) (string_bytes name) ≡ false
-    → s.0 < length (signals_of es) → Keeps es (os ++ (name, s) ∷ []) count
+    → KeepsNetlist es os count → length (outputs_of os) < 4294967295 → is_good (string_bytes name) ≡ true → has_name (net_of es os) (string_bytes name) ≡ false
+    → s.0 < length (signals_of es) → KeepsNetlist es (os ++ (name, s) ∷ []) count
 outputs_kept es os count name s k room good new here = record {
   netlist = subst (λ (l : List (List ℕ × ℕ)). IsNetlist (record { signals = signals_of es; outputs = l })) (sym (outputs_push os name s))
       (output_kept (net_of es os) (string_bytes name) s.0 k.netlist room good new here);

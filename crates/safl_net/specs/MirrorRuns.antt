@@ -4,7 +4,7 @@ use Rattle.safl_net.specs.Netlist.{Netlist, Signal, Kind, Input, Reg, Wire, AllS
 use Rattle.safl_net.specs.Names.{IsTidy}
 use Rattle.safl_net.specs.Rules.{IsNetlist}
 use Rattle.safl_net.specs.Valuations.{Valuation, Fits, IsAcyclic, reset_state, next_state}
-use Rattle.safl_net.specs.Mirrors.{Alike, Mirrors, Shows}
+use Rattle.safl_net.specs.Mirrors.{Alike, Mirrors, ShowsCycle}
 
 -- the numbers of the inputs, in order
 abbrev pub with_input : Kind → ℕ → List ℕ → List ℕ
@@ -29,7 +29,7 @@ abbrev pub AllShow : Netlist → Netlist → List Valuation → List Valuation �
 AllShow n m [] [] = Unit {0}
 AllShow n m [] (w ∷ ws) = ⊥
 AllShow n m (v ∷ vs) [] = ⊥
-AllShow n m (v ∷ vs) (w ∷ ws) = Shows n m v w × AllShow n m vs ws
+AllShow n m (v ∷ vs) (w ∷ ws) = ShowsCycle n m v w × AllShow n m vs ws
 
 -- for every list of inputs, in each cycle from reset, all signals but temporary wires have the same number in both nets
 abbrev pub RunsAlike : Netlist → Netlist → Type 0

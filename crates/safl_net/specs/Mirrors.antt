@@ -67,7 +67,7 @@ pub record Alike (n m : Netlist) : Type 0 where
 -- ---- their numbers
 
 -- in these cycles of n and m all signals but temporary wires have the same number, now and after the cycle
-pub record Shows (n m : Netlist) (v w : Valuation) : Type 0 where
+pub record ShowsCycle (n m : Netlist) (v w : Valuation) : Type 0 where
   pub now : (name : List ℕ) → is_temp name ≡ false → read m w name ≡ read n v name
   pub next : (name : List ℕ) → is_temp name ≡ false → read_next m w name ≡ read_next n v name
   pub outputs : (name : List ℕ) → read_output m w name ≡ read_output n v name
@@ -78,7 +78,7 @@ IsCycle n v = Fits n (slice_index v) v
 
 -- each cycle of m, from any state and with any inputs, shows some cycle of n
 abbrev pub Mirrors : Netlist → Netlist → Type 0
-Mirrors n m = (w : Valuation) → IsCycle m w → (v : Valuation) × IsCycle n v × Shows n m v w
+Mirrors n m = (w : Valuation) → IsCycle m w → (v : Valuation) × IsCycle n v × ShowsCycle n m v w
 
 -- ---- the order of signals
 

@@ -46,7 +46,7 @@ ResetFits width (driver.Reg init next) = init.width ≡ width
 ResetFits width (driver.Wire cell) = Unit {0}
 
 -- what a net keeps: its tables hold a netlist, and it knows how many wires that has
-pub record Keeps (es : List (String Global × Row)) (os : List (String Global × Sig)) (count : ℕ) : Type 0 where
+pub record KeepsNetlist (es : List (String Global × Row)) (os : List (String Global × Sig)) (count : ℕ) : Type 0 where
   pub netlist : IsNetlist (net_of es os)
   pub resets : (i : ℕ) (e : String Global × Row) → slice_get es i ≡ Some e → ResetFits e.1.width e.1.driver
   pub counted : count ≡ wires (signals_of es)

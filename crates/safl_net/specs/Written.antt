@@ -54,9 +54,9 @@ abbrev pub inverted : List Text → Text
 inverted (a ∷ []) = codes "~" ++ a
 inverted _ = []
 
-abbrev pub joined : List Text → Text
-joined (a ∷ b ∷ []) = codes "{" ++ a ++ codes ", " ++ b ++ codes "}"
-joined _ = []
+abbrev pub joined_texts : List Text → Text
+joined_texts (a ∷ b ∷ []) = codes "{" ++ a ++ codes ", " ++ b ++ codes "}"
+joined_texts _ = []
 
 abbrev pub slice : ℕ → ℕ → Text
 slice high low = codes "[" ++ decimal high ++ codes ":" ++ decimal low ++ codes "]"
@@ -67,7 +67,7 @@ sliced high low _ = []
 
 abbrev pub applied : Primitive → List Text → Text
 applied Not names = inverted names
-applied Cat names = joined names
+applied Cat names = joined_texts names
 applied (Bits high low) names = sliced high low names
 applied (Ext width) names = []
 applied p names = two_operands (sign p) names

@@ -54,11 +54,11 @@ impl Model for Net {
 
     ghost Value = { Netlist };
 
-    ghost use Rattle.safl_net.specs.Stored.{net_of, Keeps};
+    ghost use Rattle.safl_net.specs.Stored.{net_of, KeepsNetlist};
 
     ghost view = { λ a. net_of a.signals.entries a.outputs.entries };
 
-    ghost invariant = { λ a. Keeps a.signals.entries a.outputs.entries a.wires };
+    ghost invariant = { λ a. KeepsNetlist a.signals.entries a.outputs.entries a.wires };
 }
 
 impl Net {

@@ -10,8 +10,8 @@ use Rattle.safl_net.specs.Growth.{maybe_width}
 use Rattle.safl_net.specs.Settled.{IsDriven, IsDrivenIn}
 use Rattle.safl_lower.specs.Sources.{IsSource, AreSources}
 use Rattle.safl_lower.proofs.Cells.{one_source}
-use Rattle.safl_lower.specs.declared.parts.SitePorts.{SitePorts}
-use Rattle.safl_lower.specs.declared.parts.Ports.{Ports}
+use Rattle.safl_lower.specs.declared.lowered.SitePorts.{SitePorts}
+use Rattle.safl_lower.specs.declared.lowered.Ports.{Ports}
 use Rattle.safl_lower.specs.Lowering.{Sited}
 use Rattle.safl_lower.specs.Bodies.{CanLower}
 use Rattle.safl_net_tests.specs.Choices.{ChoosesCall, ArePorts}

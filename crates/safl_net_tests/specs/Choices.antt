@@ -5,7 +5,7 @@ use Rattle.safl_net.specs.Netlist.{Netlist}
 use Rattle.safl_net.specs.declared.cell.Sig.{Sig}
 use Rattle.safl_lower.specs.Sources.{IsSource}
 use Rattle.safl_lower.specs.Lowering.{Sited}
-use Rattle.safl_lower.specs.declared.parts.SitePorts.{SitePorts}
+use Rattle.safl_lower.specs.declared.lowered.SitePorts.{SitePorts}
 
 -- the function has one parameter, of 8 bits, and two sites, the first two of the program, whose calls give 8 bits
 pub record ChoosesCall (c : CheckedProgram) (f : ℕ) : Type 0 where

@@ -8,7 +8,7 @@ use Rattle.std.specs.declared.alloc.Global.{Global}
 use Rattle.std.specs.declared.vec.Vec.{Vec}
 use Rattle.safl_number_set.specs.declared.groups.Groups.{Groups}
 use Rattle.safl_number_set.specs.declared.tally.Tally.{Tally}
-use Rattle.safl_number_set.specs.Groups.{AreGrouped, Tallies, weighed, counted, shown, put_in, turned, only}
+use Rattle.safl_number_set.specs.Groups.{AreGrouped, Tallies, weighed, counted, shown_groups, put_in, turned, only}
 use Rattle.safl_number_set.specs.Linking.{Follows, IsBeside}
 use Rattle.safl_number_set.specs.Numbers.{AreSums, part}
 use Rattle.safl_number_set.specs.Tallies.{AreSummed, Shifts, shift_of}
@@ -49,16 +49,16 @@ times_one x (suc (suc y)) q = absurd (omega (arith, q))
 -- ---- the sums of a set
 
 module _ (s : Groups) (h : AreGrouped s) where
-  pub counted_long : length (counted (shown s)) ≡ length s.group.items
+  pub counted_long : length (counted (shown_groups s)) ≡ length s.group.items
   counted_long = weighed_long (λ g. get_or s.opened.items g 0) s.group.items s.within.items h.long
 
-  pub counted_at : (k : ℕ) → get_or (counted (shown s)) k 0 ≡ get_or s.within.items k 0 * get_or s.opened.items (get_or s.group.items k 0) 0
+  pub counted_at : (k : ℕ) → get_or (counted (shown_groups s)) k 0 ≡ get_or s.within.items k 0 * get_or s.opened.items (get_or s.group.items k 0) 0
   counted_at k = weighed_at (λ g. get_or s.opened.items g 0) s.group.items s.within.items h.long k
 
-  pub counted_bits : (k : ℕ) → get_or (counted (shown s)) k 0 ≤ 1
+  pub counted_bits : (k : ℕ) → get_or (counted (shown_groups s)) k 0 ≤ 1
   counted_bits k = weighed_bits (λ g. get_or s.opened.items g 0) s.group.items s.within.items h.long h.bits h.opens k
 
-  pub turned_bits : (g : ℕ) (more : Bool) (k : ℕ) → get_or (counted (turned (shown s) g more)) k 0 ≤ 1
+  pub turned_bits : (g : ℕ) (more : Bool) (k : ℕ) → get_or (counted (turned (shown_groups s) g more)) k 0 ≤ 1
   turned_bits g more k = weighed_bits (λ i. get_or (set s.opened.items g (from_bool more)) i 0) s.group.items s.within.items h.long h.bits
       (λ i. set_bits s.opened.items g (from_bool more) h.opens (bit_few more) i) k
 
@@ -94,9 +94,9 @@ module _ (s : Groups) (h : AreGrouped s) where
 
   -- where a group turns, the sum of each block has the group's share more, or less
   pub turned_part : (g : ℕ) (more : Bool) → g < length s.opened.items → get_or s.opened.items g 0 ≡ from_bool (not more) → (b : ℕ)
-      → (sum (part b (counted (turned (shown s) g more))) ≡ shift_of (sum (part b (counted (shown s))))
+      → (sum (part b (counted (turned (shown_groups s) g more))) ≡ shift_of (sum (part b (counted (shown_groups s))))
       (sum (part b (weighed (only g) s.group.items s.within.items))) more)
-      × (cond more 0 (sum (part b (weighed (only g) s.group.items s.within.items))) ≤ sum (part b (counted (shown s))))
+      × (cond more 0 (sum (part b (weighed (only g) s.group.items s.within.items))) ≤ sum (part b (counted (shown_groups s))))
   turned_part g true lt was b =
       let add = part_add (λ i. get_or s.opened.items i 0) (only g) (λ i. get_or (set s.opened.items g 1) i 0)
       (only_more g (λ i. get_or s.opened.items i 0) (λ i. get_or (set s.opened.items g 1) i 0) was (get_or-set_same s.opened.items g 1 0 lt)
@@ -116,13 +116,13 @@ module _ (s : Groups) (h : AreGrouped s) where
 pub record Halfway (s : Groups) (g : ℕ) (more : Bool) (k : ℕ) (t : Tally) : Type 0 where
   pub edge : ℕ
   pub follows : Follows 0 s.group.items s.links.ends.items g edge k
-  pub done : (b : ℕ) → b < edge → get_or t.blocks.items b 0 ≡ sum (part b (counted (turned (shown s) g more)))
-  pub left : (b : ℕ) → edge ≤ b → get_or t.blocks.items b 0 ≡ sum (part b (counted (shown s)))
+  pub done : (b : ℕ) → b < edge → get_or t.blocks.items b 0 ≡ sum (part b (counted (turned (shown_groups s) g more)))
+  pub left : (b : ℕ) → edge ≤ b → get_or t.blocks.items b 0 ≡ sum (part b (counted (shown_groups s)))
   pub enough : length s.group.items ≤ 32 * length t.blocks.items
   pub summed : AreSummed t
 
 module _ (s : Groups) (h : AreGrouped s) (g : ℕ) (more : Bool) (lt : g < length s.opened.items) (was : get_or s.opened.items g 0 ≡ from_bool (not more)) where
-  pub half_first : (t : Tally) → Tallies (counted (shown s)) t → Halfway s g more (get_or s.links.heads.items g 0) t
+  pub half_first : (t : Tally) → Tallies (counted (shown_groups s)) t → Halfway s g more (get_or s.links.heads.items g 0) t
   half_first t q = record {
     edge = 0;
     follows = h.linked.heads g (omega (arith, lt, h.heads));
@@ -135,13 +135,13 @@ module _ (s : Groups) (h : AreGrouped s) (g : ℕ) (more : Bool) (lt : g < lengt
   module _ (k : ℕ) (t : Tally) (q : Halfway s g more k t) where
     few : (b : ℕ) → get_or t.blocks.items b 0 ≤ 32
     few b = ⊎_elim
-        (λ l. let a = q.done b l in let e = part_few (counted (turned (shown s) g more)) (turned_bits s h g more) b in omega (arith, a, e))
-        (λ l. let a = q.left b l in let e = part_few (counted (shown s)) (counted_bits s h) b in omega (arith, a, e))
+        (λ l. let a = q.done b l in let e = part_few (counted (turned (shown_groups s) g more)) (turned_bits s h g more) b in omega (arith, a, e))
+        (λ l. let a = q.left b l in let e = part_few (counted (shown_groups s)) (counted_bits s h) b in omega (arith, a, e))
         (cases_lt b q.edge)
 
     -- a block without numbers of the group
     gap : (b : ℕ) → ((j : ℕ) → j < length s.group.items → j / 32 ≡ b → get_or s.group.items j 0 ≡ g → ⊥)
-        → sum (part b (counted (turned (shown s) g more))) ≡ sum (part b (counted (shown s)))
+        → sum (part b (counted (turned (shown_groups s) g more))) ≡ sum (part b (counted (shown_groups s)))
     gap b never =
         let none = part_none s.group.items s.within.items h.long b g never in
         by more (turned_part s h g more lt was b).0 none
@@ -150,7 +150,7 @@ module _ (s : Groups) (h : AreGrouped s) (g : ℕ) (more : Bool) (lt : g < lengt
         by true e n = omega (arith, e, n)
         by false e n = omega (arith, e, n)
 
-    pub half_last : length s.group.items ≤ k → Tallies (counted (turned (shown s) g more)) t
+    pub half_last : length s.group.items ≤ k → Tallies (counted (turned (shown_groups s) g more)) t
     half_last past = record {
       blocks = record {
         each = λ b. ⊎_elim
@@ -199,18 +199,18 @@ module _ (s : Groups) (h : AreGrouped s) (g : ℕ) (more : Bool) (lt : g < lengt
           off b ne = ap (λ (l : List ℕ). get_or l b 0) r.blocks ∙ get_or-set_other t.blocks.items (k / 32) b
               (shift_of (get_or t.blocks.items (k / 32) 0) (get_or s.parts.items k 0) more) 0 ne
 
-          at : (b : ℕ) → b ≡ k / 32 → get_or t'.blocks.items b 0 ≡ sum (part b (counted (turned (shown s) g more)))
+          at : (b : ℕ) → b ≡ k / 32 → get_or t'.blocks.items b 0 ≡ sum (part b (counted (turned (shown_groups s) g more)))
           at b e =
               let left = q.left (k / 32) (q.follows.from in_set) in
               let new : get_or t'.blocks.items (k / 32) 0 ≡ shift_of (get_or t.blocks.items (k / 32) 0) (get_or s.parts.items k 0) more =
               ap (λ (l : List ℕ). get_or l (k / 32) 0) r.blocks ∙ get_or-set_same t.blocks.items (k / 32)
               (shift_of (get_or t.blocks.items (k / 32) 0) (get_or s.parts.items k 0) more) 0 block_in in
-              let here : get_or t'.blocks.items (k / 32) 0 ≡ sum (part (k / 32) (counted (turned (shown s) g more))) =
+              let here : get_or t'.blocks.items (k / 32) 0 ≡ sum (part (k / 32) (counted (turned (shown_groups s) g more))) =
               new ∙ (ap (λ x. shift_of x (get_or s.parts.items k 0) more) left
-              ∙ (ap (λ x. shift_of (sum (part (k / 32) (counted (shown s)))) x more) share_is ∙ sym (turned_part s h g more lt was (k / 32)).0)) in
-              subst (λ n. get_or t'.blocks.items n 0 ≡ sum (part n (counted (turned (shown s) g more)))) (sym e) here
+              ∙ (ap (λ x. shift_of (sum (part (k / 32) (counted (shown_groups s)))) x more) share_is ∙ sym (turned_part s h g more lt was (k / 32)).0)) in
+              subst (λ n. get_or t'.blocks.items n 0 ≡ sum (part n (counted (turned (shown_groups s) g more)))) (sym e) here
 
-          before : (b : ℕ) → b < k / 32 → get_or t.blocks.items b 0 ≡ sum (part b (counted (turned (shown s) g more)))
+          before : (b : ℕ) → b < k / 32 → get_or t.blocks.items b 0 ≡ sum (part b (counted (turned (shown_groups s) g more)))
           before b l = ⊎_elim
               (λ done. q.done b done)
               (λ left. q.left b left ∙ sym (gap b (λ j to on is. let f = q.follows.least j (omega arith) to is (omega (arith, left, on)) in
@@ -329,55 +329,55 @@ module _ (s : Groups) (h : AreGrouped s) (k : ℕ) (b : Bool) (lt : k < length s
           ∙ (h.parts j to ∙ sym (kept (get_or s.group.items j 0) (j / 32) far))
 
   -- the sums of the set, where the group is open and where it is closed
-  pub put_open : get_or s.opened.items (get_or s.group.items k 0) 0 ≡ 1 → (t t' : Tally) → Tallies (counted (shown s)) t → Shifts t (k / 32) 1 b t'
-      → Tallies (counted (put_in (shown s) k b)) t'
+  pub put_open : get_or s.opened.items (get_or s.group.items k 0) 0 ≡ 1 → (t t' : Tally) → Tallies (counted (shown_groups s)) t → Shifts t (k / 32) 1 b t'
+      → Tallies (counted (put_in (shown_groups s) k b)) t'
   put_open is t t' q r =
       let one = times_one (from_bool b) (get_or s.opened.items (get_or s.group.items k 0) 0) is in
       let now = times_one (get_or s.within.items k 0) (get_or s.opened.items (get_or s.group.items k 0) 0) is in
       let at = counted_at s h k in
-      let set_is : counted (put_in (shown s) k b) ≡ set (counted (shown s)) k (from_bool b) =
-      weighed_set (λ g. get_or s.opened.items g 0) s.group.items s.within.items h.long k (from_bool b) ∙ ap (λ x. set (counted (shown s)) k x) one in
-      let within : k < length (counted (shown s)) = let a = counted_long s h in omega (arith, a, lt) in
-      let balance : shift_of (get_or t.blocks.items (k / 32) 0) 1 b + get_or (counted (shown s)) k 0 ≡ get_or t.blocks.items (k / 32) 0 + from_bool b =
+      let set_is : counted (put_in (shown_groups s) k b) ≡ set (counted (shown_groups s)) k (from_bool b) =
+      weighed_set (λ g. get_or s.opened.items g 0) s.group.items s.within.items h.long k (from_bool b) ∙ ap (λ x. set (counted (shown_groups s)) k x) one in
+      let within : k < length (counted (shown_groups s)) = let a = counted_long s h in omega (arith, a, lt) in
+      let balance : shift_of (get_or t.blocks.items (k / 32) 0) 1 b + get_or (counted (shown_groups s)) k 0 ≡ get_or t.blocks.items (k / 32) 0 + from_bool b =
       by b was (at ∙ now) (bit_part t q) in
       record {
         blocks = subst (λ (l : List ℕ). AreSums l t'.blocks.items) (sym set_is)
-            (subst (λ (l : List ℕ). AreSums (set (counted (shown s)) k (from_bool b)) l)
-            (sym r.blocks) (sums_set (counted (shown s)) t.blocks.items k (from_bool b)
+            (subst (λ (l : List ℕ). AreSums (set (counted (shown_groups s)) k (from_bool b)) l)
+            (sym r.blocks) (sums_set (counted (shown_groups s)) t.blocks.items k (from_bool b)
             (shift_of (get_or t.blocks.items (k / 32) 0) 1 b) q.blocks within balance));
         summed = r.summed;
       }
     where
-      bit_part : (t : Tally) → Tallies (counted (shown s)) t → get_or (counted (shown s)) k 0 ≤ get_or t.blocks.items (k / 32) 0
-      bit_part t q = part_least (counted (shown s)) t.blocks.items k q.blocks (let a = counted_long s h in omega (arith, a, lt))
+      bit_part : (t : Tally) → Tallies (counted (shown_groups s)) t → get_or (counted (shown_groups s)) k 0 ≤ get_or t.blocks.items (k / 32) 0
+      bit_part t q = part_least (counted (shown_groups s)) t.blocks.items k q.blocks (let a = counted_long s h in omega (arith, a, lt))
 
       by : (b : Bool) {w x y : ℕ} → w ≡ from_bool (not b) → x ≡ w → x ≤ y → shift_of y 1 b + x ≡ y + from_bool b
       by true e f g = omega (arith, e, f, g)
       by false e f g = omega (arith, e, f, g)
 
-  pub put_closed : get_or s.opened.items (get_or s.group.items k 0) 0 ≡ 0 → (t : Tally) → Tallies (counted (shown s)) t
-      → Tallies (counted (put_in (shown s) k b)) t
+  pub put_closed : get_or s.opened.items (get_or s.group.items k 0) 0 ≡ 0 → (t : Tally) → Tallies (counted (shown_groups s)) t
+      → Tallies (counted (put_in (shown_groups s) k b)) t
   put_closed is t q =
       let none = times_zero (from_bool b) (get_or s.opened.items (get_or s.group.items k 0) 0) is in
       let now = times_zero (get_or s.within.items k 0) (get_or s.opened.items (get_or s.group.items k 0) 0) is in
       let at = counted_at s h k in
-      let zero : from_bool b * get_or s.opened.items (get_or s.group.items k 0) 0 ≡ get_or (counted (shown s)) k 0 = omega (arith, none, now, at) in
-      let set_is : counted (put_in (shown s) k b) ≡ counted (shown s) =
+      let zero : from_bool b * get_or s.opened.items (get_or s.group.items k 0) 0 ≡ get_or (counted (shown_groups s)) k 0 = omega (arith, none, now, at) in
+      let set_is : counted (put_in (shown_groups s) k b) ≡ counted (shown_groups s) =
       weighed_set (λ g. get_or s.opened.items g 0) s.group.items s.within.items h.long k (from_bool b)
-      ∙ (ap (λ x. set (counted (shown s)) k x) zero ∙ set-get_or (counted (shown s)) k 0) in
+      ∙ (ap (λ x. set (counted (shown_groups s)) k x) zero ∙ set-get_or (counted (shown_groups s)) k 0) in
       record {
         blocks = subst (λ (l : List ℕ). AreSums l t.blocks.items) (sym set_is) q.blocks;
         summed = q.summed;
       }
 
-  pub open_least : get_or s.opened.items (get_or s.group.items k 0) 0 ≡ 1 → (t : Tally) → Tallies (counted (shown s)) t
+  pub open_least : get_or s.opened.items (get_or s.group.items k 0) 0 ≡ 1 → (t : Tally) → Tallies (counted (shown_groups s)) t
       → (cond b 0 1 ≤ get_or t.blocks.items (k / 32) 0) × (sum t.blocks.items ≤ 5024) × (k / 32 < length t.blocks.items)
   open_least is t q =
       let now = times_one (get_or s.within.items k 0) (get_or s.opened.items (get_or s.group.items k 0) 0) is in
       let at = counted_at s h k in
       let long = counted_long s h in
-      let least = part_least (counted (shown s)) t.blocks.items k q.blocks (omega (arith, long, lt)) in
-      let most = sum_most t.blocks.items (λ c. let a = q.blocks.each c in let e = part_few (counted (shown s)) (counted_bits s h) c in omega (arith, a, e)) in
+      let least = part_least (counted (shown_groups s)) t.blocks.items k q.blocks (omega (arith, long, lt)) in
+      let most = sum_most t.blocks.items (λ c. let a = q.blocks.each c in let e = part_few (counted (shown_groups s)) (counted_bits s h) c in omega (arith, a, e)) in
       (by b was (at ∙ now) least, omega (arith, most, q.summed.few), omega (arith, long, lt, q.blocks.enough))
     where
       by : (b : Bool) {w x y : ℕ} → w ≡ from_bool (not b) → x ≡ w → x ≤ y → cond b 0 1 ≤ y

@@ -4,7 +4,7 @@ use Rattle.std.specs.Prelude.{sum}
 use Rattle.std.proofs.lemmas.List.{length-replicate}
 use Rattle.safl_number_set.specs.declared.groups.Groups.{Groups}
 use Rattle.safl_number_set.specs.declared.tally.Tally.{Tally}
-use Rattle.safl_number_set.specs.Groups.{AreGrouped, Tallies, weighed, counted, shown, only}
+use Rattle.safl_number_set.specs.Groups.{AreGrouped, Tallies, weighed, counted, shown_groups, only}
 use Rattle.safl_number_set.specs.Linking.{AreBelow, AreLinked}
 use Rattle.safl_number_set.specs.Numbers.{AreSums, part}
 use Rattle.safl_number_set.specs.Tallies.{AreSummed}
@@ -61,7 +61,7 @@ module _ (s : Groups) (within : s.within.items ≡ replicate (length s.group.ite
       opened_long : length s.opened.items ≡ count
       opened_long = ap (λ (l : List ℕ). length l) opened ∙ all_long count 1
 
-  pub fresh_tallies : (t : Tally) → t.blocks.items ≡ replicate (length s.group.items / 32 + 1) 0 → AreSummed t → Tallies (counted (shown s)) t
+  pub fresh_tallies : (t : Tally) → t.blocks.items ≡ replicate (length s.group.items / 32 + 1) 0 → AreSummed t → Tallies (counted (shown_groups s)) t
   fresh_tallies t blocks summed = record {
     blocks = subst (λ (l : List ℕ). AreSums l t.blocks.items) (sym zeros)
         (subst (λ (l : List ℕ). AreSums (replicate (length s.group.items) 0) l) (sym blocks)
@@ -69,6 +69,6 @@ module _ (s : Groups) (within : s.within.items ≡ replicate (length s.group.ite
     summed = summed;
   }
     where
-      zeros : counted (shown s) ≡ all_of (length s.group.items) 0
+      zeros : counted (shown_groups s) ≡ all_of (length s.group.items) 0
       zeros = ap (λ (l : List ℕ). weighed (λ g. get_or s.opened.items g 0) s.group.items l) within
           ∙ weighed_zeros (λ g. get_or s.opened.items g 0) s.group.items

@@ -36,8 +36,8 @@ none_of group count = record { group = group; within = replicate (length group) 
 
 -- ---- how they are stored
 
-abbrev pub shown : Groups → Grouped
-shown s = record { group = s.group.items; within = s.within.items; opened = s.opened.items }
+abbrev pub shown_groups : Groups → Grouped
+shown_groups s = record { group = s.group.items; within = s.within.items; opened = s.opened.items }
 
 -- 1 for this group, 0 for all others
 abbrev pub only : ℕ → ℕ → ℕ
@@ -65,4 +65,4 @@ pub record Tallies (low : List ℕ) (t : Tally) : Type 0 where
 -- the stored set before and after a number is put in or taken out
 pub record Puts (s : Groups) (k : ℕ) (is_in : Bool) (t : Groups) : Type 0 where
   pub grouped : AreGrouped t
-  pub now : shown t ≡ put_in (shown s) k is_in
+  pub now : shown_groups t ≡ put_in (shown_groups s) k is_in

@@ -15,13 +15,13 @@ pub struct GroupedSet {
 }
 
 impl Model for GroupedSet {
-    ghost use Rattle.safl_number_set.specs.Groups.{Grouped, AreGrouped, Tallies, counted, shown};
+    ghost use Rattle.safl_number_set.specs.Groups.{Grouped, AreGrouped, Tallies, counted, shown_groups};
 
     ghost Value = { Grouped };
 
-    ghost view = { λ s. shown s.groups };
+    ghost view = { λ s. shown_groups s.groups };
 
-    ghost invariant = { λ s. AreGrouped s.groups × Tallies (counted (shown s.groups)) s.tally };
+    ghost invariant = { λ s. AreGrouped s.groups × Tallies (counted (shown_groups s.groups)) s.tally };
 }
 
 impl GroupedSet {

@@ -2,7 +2,7 @@
 
 ghost use Rattle.std.specs.Prelude.{◌≡◌, ℕ, ◌+◌, ◌<◌, ◌≤◌, IfOk, length, sum, take, get_or, slice_set, not};
 ghost use Rattle.std.specs.Int.{from_bool};
-ghost use Rattle.safl_number_set.specs.Groups.{AreGrouped, Puts, Tallies, counted, none_of, shown, turned};
+ghost use Rattle.safl_number_set.specs.Groups.{AreGrouped, Puts, Tallies, counted, none_of, shown_groups, turned};
 ghost use Rattle.safl_number_set.specs.Linking.{AreBelow};
 
 use crate::links::{Links, linked};
@@ -27,7 +27,7 @@ pub fn grouped(alloc: Global, group: Vec<u32>, count: usize) -> Result<Groups, A
     requires few { length group.items ≤ 5000 }
     requires below { AreBelow count group.items }
     ensures grouped { IfOk result (λ s. AreGrouped s) }
-    ensures shown { IfOk result (λ s. shown s ≡ none_of group.items count) }
+    ensures shown { IfOk result (λ s. shown_groups s ≡ none_of group.items count) }
 {
     let numbers = group.len();
     let within = vec![in alloc; 0; numbers]?;
@@ -60,8 +60,8 @@ pub fn count(s: &Groups, g: usize, more: bool, tally: &mut Tally)
     requires grouped { AreGrouped s.now }
     requires group { g < length s.now.opened.items }
     requires differs { get_or s.now.opened.items g 0 ≡ from_bool (not more) }
-    requires tallies { Tallies (counted (shown s.now)) tally.old }
-    ensures { Tallies (counted (turned (shown s.now) g more)) tally.new }
+    requires tallies { Tallies (counted (shown_groups s.now)) tally.old }
+    ensures { Tallies (counted (turned (shown_groups s.now) g more)) tally.new }
 {
     let numbers = s.parts.len();
     let mut k = s.links.heads[g] as usize;
@@ -74,11 +74,11 @@ pub fn count(s: &Groups, g: usize, more: bool, tally: &mut Tally)
 /// The number at a place among the counted ones, searched from `from` on.
 pub fn find_counted(s: &Groups, from: Found, place: u32) -> usize
     requires grouped { AreGrouped s.now }
-    requires start { from.before ≡ sum (take from.at (counted (shown s.now))) }
+    requires start { from.before ≡ sum (take from.at (counted (shown_groups s.now))) }
     requires reached { from.before ≤ place }
-    requires passed { place < sum (counted (shown s.now)) }
-    ensures within { get_or (counted (shown s.now)) result 0 ≡ 1 }
-    ensures below { place ≡ sum (take result (counted (shown s.now))) }
+    requires passed { place < sum (counted (shown_groups s.now)) }
+    ensures within { get_or (counted (shown_groups s.now)) result 0 ≡ 1 }
+    ensures below { place ≡ sum (take result (counted (shown_groups s.now))) }
 {
     let mut before = from.before;
     for k in from.at..s.group.len() {
@@ -95,7 +95,7 @@ pub fn find_counted(s: &Groups, from: Found, place: u32) -> usize
 pub fn counts(s: &Groups, k: usize) -> u32
     requires grouped { AreGrouped s.now }
     requires number { k < length s.now.group.items }
-    ensures { result ≡ get_or (counted (shown s.now)) k 0 }
+    ensures { result ≡ get_or (counted (shown_groups s.now)) k 0 }
 {
     s.within[k] * s.opened[s.group[k] as usize]
 }

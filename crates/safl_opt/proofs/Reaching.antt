@@ -7,7 +7,7 @@ use Rattle.safl_net.specs.Netlist.{Netlist, Signal, Kind, Input, Reg, Wire, Cell
 use Rattle.safl_net.specs.Making.{kind_in, kind_at, name_at, cell_in, sort_of}
 use Rattle.safl_net.specs.Valuations.{IsAcyclic}
 use Rattle.safl_net.proofs.Naming.{within}
-use Rattle.safl_order.specs.Order.{IsWire, Reads, operands_in}
+use Rattle.safl_order.specs.Order.{IsWire, ReadsSignal, operands_in}
 use Rattle.safl_opt.specs.Lean.{is_numbered, is_const, are_constants, is_constant, IsTemporary, HasCell, Reached, shown, kept, named, read, Lean}
 use Rattle.safl_opt.specs.Spare.{IsChoice, IsNeeded, IsAlone, IsReader, IsShown, HasReader, IsWanted}
 use Rattle.safl_opt.proofs.Adding.{wire_known, get_some, known}
@@ -27,7 +27,7 @@ below_top f (suc i) s lt = elim (cases_eq s i) [
 ]
 
 -- a wire that has operands has a cell
-cell_of_reader : (n : Netlist) (a s : ℕ) (r : Reads n a s) → (g : Signal) × (c : Cell) × (slice_get n.signals a ≡ Some g) × (g.kind ≡ Wire (Some c)) × (slice_get c.operands r.0 ≡ Some s)
+cell_of_reader : (n : Netlist) (a s : ℕ) (r : ReadsSignal n a s) → (g : Signal) × (c : Cell) × (slice_get n.signals a ≡ Some g) × (g.kind ≡ Wire (Some c)) × (slice_get c.operands r.0 ≡ Some s)
 cell_of_reader n a s r = by (slice_get n.signals a) refl r.1
   where
     kinds : (g : Signal) (k : Kind) → slice_get n.signals a ≡ Some g → g.kind ≡ k → slice_get (operands_in (cell_in k)) r.0 ≡ Some s → (g : Signal) ×
@@ -42,7 +42,7 @@ cell_of_reader n a s r = by (slice_get n.signals a) refl r.1
     by None q o = absurd (cc)
     by (Some g) q o = kinds g g.kind q refl o
 
-pub is_wire : (n : Netlist) (a s : ℕ) → Reads n a s → IsWire n a
+pub is_wire : (n : Netlist) (a s : ℕ) → ReadsSignal n a s → IsWire n a
 is_wire n a s r = let c = cell_of_reader n a s r in ap (λ o. sort_of (kind_in o)) c.2 ∙ ap sort_of c.3
 
 wire_kind : (k : Kind) → sort_of k ≡ SigKind.Wire → (d : Option Cell) × (k ≡ Wire d)
@@ -52,18 +52,18 @@ wire_kind (Wire d) e = (d, refl)
 
 module _ (n : Netlist) (ac : IsAcyclic n) where
   -- a reader that is a wire has the greater rank
-  rises : (a s : ℕ) → Reads n a s → IsWire n s → ac.rank s < ac.rank a
+  rises : (a s : ℕ) → ReadsSignal n a s → IsWire n s → ac.rank s < ac.rank a
   rises a s r w =
       let c = cell_of_reader n a s r in
       let g = get_some n.signals s (wire_known n s w) in
       let k = wire_kind g.0.kind (ap (λ o. sort_of (kind_in o)) (sym g.1) ∙ w) in
       ac.rises a s r.0 c.0 g.0 c.1 k.0 c.2 c.3 c.4 g.1 k.1
 
-  higher : (a s : ℕ) → Reads n a s → ((a : ℕ) → Reads n a s → IsTemporary n a → Reached n a) → (b : Bool) → is_numbered (name_at n a) ≡ b → Reached n s
+  higher : (a s : ℕ) → ReadsSignal n a s → ((a : ℕ) → ReadsSignal n a s → IsTemporary n a → Reached n a) → (b : Bool) → is_numbered (name_at n a) ≡ b → Reached n s
   higher a s r up false q = named a s (is_wire n a s r) q r
   higher a s r up true q = read a s (up a r (record { wire = is_wire n a s r; name = q })) r
 
-  step : (s : ℕ) → ((a : ℕ) → Reads n a s → IsTemporary n a → Reached n a) → HasReader n s → Reached n s
+  step : (s : ℕ) → ((a : ℕ) → ReadsSignal n a s → IsTemporary n a → Reached n a) → HasReader n s → Reached n s
   step s up (inl h) = shown h.index s h.output h.there h.is
   step s up (inr h) = elim h.1 [
     | inl r ↦ kept h.0 r.0 s r.1

@@ -18,7 +18,7 @@ use Rattle.safl_net.proofs.Naming.{within}
 use Rattle.safl_net.proofs.Reading.{place_of, output_place_of}
 use Rattle.safl_opt.proofs.Adding.{operand_known, get_some}
 use Rattle.safl_net.proofs.Twins.{own}
-use Rattle.safl_net.specs.Mirrors.{IsCycle, Shows, Mirrors}
+use Rattle.safl_net.specs.Mirrors.{IsCycle, ShowsCycle, Mirrors}
 
 -- ---- a list of numbers for a table of words
 
@@ -260,7 +260,7 @@ module _ (n m : Netlist) (kn : IsNetlist n) (km : IsNetlist m) (set_n : AllSet n
       by (Some t) None h = absurd h
       by (Some t) (Some u) h = number_at_new u h.0 ∙ ap (λ (x : Word). x.bits) (h.1 word wired_old)
 
-  cycle : (v : Valuation) × IsCycle n v × Shows n m v w
+  cycle : (v : Valuation) × IsCycle n v × ShowsCycle n m v w
   cycle = (old, own n shown old one.1.fits, record { now = now_same; next = next_same; outputs = outputs_same })
 
 -- so it mirrors the other

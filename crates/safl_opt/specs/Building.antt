@@ -5,7 +5,7 @@ use Rattle.safl_net.specs.Netlist.{Netlist, Signal, Kind, Input, Reg, Wire, Cell
 use Rattle.safl_net.specs.Names.{is_temp, temp_name, wires}
 use Rattle.safl_net.specs.Widths.{op_width}
 use Rattle.safl_net.specs.Making.{kind_at, name_at, with_signal, wired}
-use Rattle.safl_order.specs.Order.{IsWire, Reads}
+use Rattle.safl_order.specs.Order.{IsWire, ReadsSignal}
 use Rattle.safl_opt.specs.Lean.{is_numbered}
 use Rattle.safl_opt.specs.declared.node.Node.{Node}
 use Rattle.safl_opt.specs.declared.fold.Values.{Values}
@@ -23,7 +23,7 @@ read_at (b ∷ bs) (suc i) = read_at bs i
 pub data IsRoot (n : Netlist) (s : ℕ) : Type 0 where
   shown : (i : ℕ) (o : List ℕ × ℕ) → slice_get n.outputs i ≡ Some o → o.1 ≡ s → IsRoot n s
   kept : (r init : ℕ) → kind_at n r ≡ Reg init (Some s) → IsRoot n s
-  named : (a : ℕ) → IsWire n a → is_numbered (name_at n a) ≡ false → Reads n a s → IsRoot n s
+  named : (a : ℕ) → IsWire n a → is_numbered (name_at n a) ≡ false → ReadsSignal n a s → IsRoot n s
 
 -- the values of roots are read, and so are the operands of the nodes of values that are read
 pub record AreRead (n : Netlist) (f : Values) (read : List Bool) : Type 0 where
@@ -105,7 +105,7 @@ pub record HasValues (n : Netlist) (f : Values) (bound : ℕ) : Type 0 where
 -- what a kept signal reads: a register its next signal, a named wire its operands
 pub data ReadBy (n : Netlist) (a s : ℕ) : Type 0 where
   as_next : (init : ℕ) → kind_at n a ≡ Reg init (Some s) → ReadBy n a s
-  as_operand : IsWire n a → is_numbered (name_at n a) ≡ false → Reads n a s → ReadBy n a s
+  as_operand : IsWire n a → is_numbered (name_at n a) ≡ false → ReadsSignal n a s → ReadBy n a s
 
 -- s is an operand of the node at this place, and the value of that node is marked
 abbrev pub IsOperandAt : Values → List Bool → ℕ → ℕ → Type 0
@@ -124,7 +124,7 @@ pub record HasReader (n : Netlist) (f : Values) (a x : ℕ) : Type 0 where
 
 pub record HasOperand (n : Netlist) (f : Values) (a x : ℕ) : Type 0 where
   pub signal : ℕ
-  pub reads : Reads n a signal
+  pub reads : ReadsSignal n a signal
   pub is : IsValueOf f signal x
 
 -- x is the value of a signal that some kept signal below a reads

@@ -3,7 +3,7 @@ use Rattle.std.specs.Prelude.{◌≡◌, ◌≢◌, ℕ, List, [], ◌∷◌, So
 use Rattle.safl_net.specs.declared.cell.Op.TheVariants.{Copy, Mux}
 use Rattle.safl_net.specs.Netlist.{Netlist, Reg, Wire, Cell}
 use Rattle.safl_net.specs.Making.{kind_at}
-use Rattle.safl_order.specs.Order.{Reads}
+use Rattle.safl_order.specs.Order.{ReadsSignal}
 use Rattle.safl_opt.specs.Lean.{is_const, is_constant, are_constants, HasCell}
 
 -- the condition of a choice is no constant, and the choice is between two signals
@@ -22,7 +22,7 @@ IsAlone n s c = (t : ℕ) → HasCell n t c → t ≡ s
 
 -- the signal is a register with this one as its next signal, or a wire with it as an operand
 abbrev pub IsReader : Netlist → ℕ → ℕ → Type 0
-IsReader n a s = ((init : ℕ) × (kind_at n a ≡ Reg init (Some s))) ⊎ Reads n a s
+IsReader n a s = ((init : ℕ) × (kind_at n a ≡ Reg init (Some s))) ⊎ ReadsSignal n a s
 
 -- an output shows the signal
 pub record IsShown (n : Netlist) (s : ℕ) : Type 0 where

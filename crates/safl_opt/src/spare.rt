@@ -6,7 +6,7 @@ ghost use Rattle.safl_net.specs.Making.{kind_at, sort_of, numbers};
 ghost use Rattle.safl_net.specs.Rules.{CellFits};
 ghost use Rattle.safl_net.specs.Stored.{cell_of};
 ghost use Rattle.safl_net.specs.Valuations.{IsAcyclic};
-ghost use Rattle.safl_order.specs.Order.{IsWire, Reads};
+ghost use Rattle.safl_order.specs.Order.{IsWire, ReadsSignal};
 ghost use Rattle.safl_opt.specs.Lean.{is_constant, are_constants, HasCell, IsTemporary, Lean};
 ghost use Rattle.safl_opt.specs.Spare.{IsChoice, IsNeeded, IsAlone, IsReader, IsShown, HasReader, IsWanted};
 
@@ -252,7 +252,7 @@ fn has_next(n: &Net, r: Sig, s: Sig) -> bool
 
 fn has_operand(n: &Net, a: Sig, s: Sig) -> bool
     requires { IsWire n.now a.0 }
-    ensures { IsTrue result ↔ Reads n.now a.0 s.0 }
+    ensures { IsTrue result ↔ ReadsSignal n.now a.0 s.0 }
 {
     match n.cell(a) {
         Some(cell) => contains(cell.operands.as_slice(), s),

@@ -8,7 +8,7 @@ use Rattle.safl_net.specs.Valuations.{IsAcyclic}
 use Rattle.safl_net.specs.Making.{numbers, kind_in, cell_in, sort_of}
 use Rattle.safl_order.specs.declared.walk.Mark.{Mark}
 use Rattle.safl_order.specs.declared.walk.Frame.{Frame}
-use Rattle.safl_order.specs.Order.{operands_of, operands_in, IsWire, Reads, Leads, IsLoop, IsOrder}
+use Rattle.safl_order.specs.Order.{operands_of, operands_in, IsWire, ReadsSignal, Leads, IsLoop, IsOrder}
 use Rattle.safl_order.specs.Walk.{Walks, AllDone}
 
 get_numbers : (xs : List Sig) (i s : ℕ) → slice_get (numbers xs) i ≡ Some s → slice_get xs i ≡ Some (record { 0 = s })
@@ -79,7 +79,7 @@ order_acyclic n ws o = record {
 
 -- ---- a loop has no ranks
 
-reads_cell : (n : Netlist) (a b : ℕ) → Reads n a b → (g : Signal) × (c : Cell) × (slice_get n.signals a ≡ Some g) × (g.kind ≡ Wire (Some c)) × ((i : ℕ) × (slice_get c.operands i ≡ Some b))
+reads_cell : (n : Netlist) (a b : ℕ) → ReadsSignal n a b → (g : Signal) × (c : Cell) × (slice_get n.signals a ≡ Some g) × (g.kind ≡ Wire (Some c)) × ((i : ℕ) × (slice_get c.operands i ≡ Some b))
 reads_cell n a b r = by (slice_get n.signals a) refl r.1
   where
     on : (g : Signal) (k : Kind) → slice_get n.signals a ≡ Some g → g.kind ≡ k → slice_get (operands_in (cell_in k)) r.0 ≡ Some b → (g : Signal) ×
@@ -94,14 +94,14 @@ reads_cell n a b r = by (slice_get n.signals a) refl r.1
     by None e h = absurd (cc)
     by (Some g) e h = on g g.kind e refl h
 
-falls : (n : Netlist) (acyclic : IsAcyclic n) (a b u : ℕ) → Reads n a b → Reads n b u → acyclic.rank b < acyclic.rank a
+falls : (n : Netlist) (acyclic : IsAcyclic n) (a b u : ℕ) → ReadsSignal n a b → ReadsSignal n b u → acyclic.rank b < acyclic.rank a
 falls n acyclic a b u r q =
     let x = reads_cell n a b r in
     let y = reads_cell n b u q in
     acyclic.rises a b x.4.0 x.0 y.0 x.1 (Some y.1) x.2 x.3 x.4.1 y.2 y.3
 
 -- each wire of a path is above the end, where that reads on
-path_falls : (n : Netlist) (acyclic : IsAcyclic n) (a : ℕ) (ws : List ℕ) (t u : ℕ) → Leads n (a ∷ ws) t → Reads n t u → acyclic.rank t < acyclic.rank a
+path_falls : (n : Netlist) (acyclic : IsAcyclic n) (a : ℕ) (ws : List ℕ) (t u : ℕ) → Leads n (a ∷ ws) t → ReadsSignal n t u → acyclic.rank t < acyclic.rank a
 path_falls n acyclic a [] t u l r = falls n acyclic a t u l r
 path_falls n acyclic a (b ∷ []) t u l r =
     let p = path_falls n acyclic b [] t u l.1 r in
@@ -112,7 +112,7 @@ path_falls n acyclic a (b ∷ (c ∷ ws)) t u l r =
     let q = falls n acyclic a b c l.0 l.1.0 in
     omega (arith, p, q)
 
-first_reads : (n : Netlist) (a : ℕ) (ws : List ℕ) (t : ℕ) → Leads n (a ∷ ws) t → (u : ℕ) × Reads n a u
+first_reads : (n : Netlist) (a : ℕ) (ws : List ℕ) (t : ℕ) → Leads n (a ∷ ws) t → (u : ℕ) × ReadsSignal n a u
 first_reads n a [] t l = (t, l)
 first_reads n a (b ∷ ws) t l = (b, l.0)
 

@@ -8,7 +8,7 @@ use Rattle.safl_net.proofs.Naming.{within}
 use Rattle.safl_order.specs.declared.walk.Mark.{Mark}
 use Rattle.safl_order.specs.declared.walk.Mark.TheVariants.{Open}
 use Rattle.safl_order.specs.declared.walk.Frame.{Frame}
-use Rattle.safl_order.specs.Order.{operands_of, Reads, Leads, IsLoop}
+use Rattle.safl_order.specs.Order.{operands_of, ReadsSignal, Leads, IsLoop}
 use Rattle.safl_order.specs.Walk.{Walks, Looks, IsOpenLoop, IsTurned}
 use Rattle.safl_order.proofs.Places.{from_reverse}
 
@@ -16,7 +16,7 @@ abbrev wires_of : List Frame → List ℕ
 wires_of fs = map (λ (f : Frame). f.wire.0) fs
 
 -- a frame looks at operands of its wire
-looks_reads : (n : Netlist) (f : Frame) (t : ℕ) → Looks n f t → Reads n f.wire.0 t
+looks_reads : (n : Netlist) (f : Frame) (t : ℕ) → Looks n f t → ReadsSignal n f.wire.0 t
 looks_reads n f t l = from_reverse (operands_of n f.wire.0) f.next t l
 
 leads_frames : (n : Netlist) (fs : List Frame) (t : ℕ)

@@ -16,14 +16,14 @@ abbrev pub IsWire : Netlist → ℕ → Type 0
 IsWire n s = sort_of (kind_at n s) ≡ SigKind.Wire
 
 -- a has b as an operand
-abbrev pub Reads : Netlist → ℕ → ℕ → Type 0
-Reads n a b = (i : ℕ) × (slice_get (operands_of n a) i ≡ Some b)
+abbrev pub ReadsSignal : Netlist → ℕ → ℕ → Type 0
+ReadsSignal n a b = (i : ℕ) × (slice_get (operands_of n a) i ≡ Some b)
 
 -- each wire of the list has the next one as an operand, and the last one has t
 abbrev pub Leads : Netlist → List ℕ → ℕ → Type 0
 Leads n [] t = Unit {0}
-Leads n (a ∷ []) t = Reads n a t
-Leads n (a ∷ (b ∷ ws)) t = Reads n a b × Leads n (b ∷ ws) t
+Leads n (a ∷ []) t = ReadsSignal n a t
+Leads n (a ∷ (b ∷ ws)) t = ReadsSignal n a b × Leads n (b ∷ ws) t
 
 -- different wires, each with the next one as an operand, and the last with the first. The first has the least number
 pub record IsLoop (n : Netlist) (ws : List ℕ) : Type 0 where

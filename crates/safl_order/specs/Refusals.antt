@@ -8,7 +8,7 @@ use Rattle.safl_order.specs.declared.ordered.OrderErr.TheVariants.{Loop, Unset, 
 use Rattle.safl_order.specs.Order.{IsLoop}
 
 -- The error hands the net back. It says that something is unset exactly if it is, and shows a loop if there is one.
-abbrev pub Refuses : Netlist → OrderErr → Type 0
-Refuses n (Loop ws m) = (m ≡ n) × AllSet n × IsLoop n (numbers ws.items)
-Refuses n (Unset s m) = (m ≡ n) × IsLeastUnset n s.0
-Refuses n (NoMemory m) = (m ≡ n) × AllSet n
+abbrev pub RefusesOrder : Netlist → OrderErr → Type 0
+RefusesOrder n (Loop ws m) = (m ≡ n) × AllSet n × IsLoop n (numbers ws.items)
+RefusesOrder n (Unset s m) = (m ≡ n) × IsLeastUnset n s.0
+RefusesOrder n (NoMemory m) = (m ≡ n) × AllSet n

@@ -5,7 +5,7 @@ ghost use Rattle.safl_net.specs.Netlist.{AllSet};
 ghost use Rattle.safl_net.specs.Valuations.{IsAcyclic};
 ghost use Rattle.safl_net.specs.Making.{numbers};
 ghost use Rattle.safl_order.specs.Order.{IsOrder};
-ghost use Rattle.safl_order.specs.Refusals.{Refuses};
+ghost use Rattle.safl_order.specs.Refusals.{RefusesOrder};
 
 use crate::walk::{Stop, Walk};
 use safl_net::{Net, Sig};
@@ -68,7 +68,7 @@ pub fn order(alloc: Global, net: Net) -> Result<Ordered, OrderErr>
     ensures ordered { IfOk result (λ o. o.net ≡ net) }
     ensures set { OnOk result (AllSet net) }
     ensures acyclic { OnOk result (IsAcyclic net) }
-    ensures refused { IfErr result (Refuses net) }
+    ensures refused { IfErr result (RefusesOrder net) }
 {
     if let Some(s) = net.first_unset() {
         return Err(OrderErr::Unset(s, net));

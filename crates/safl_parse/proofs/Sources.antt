@@ -6,7 +6,7 @@ use Rattle.safl_word.specs.Tokens.{HasTokens}
 use Rattle.safl_word.proofs.TokensOnce.{tokens_once, not_both}
 use Rattle.safl_text.specs.declared.error.LexErr.{LexErr}
 use Rattle.safl_text.specs.declared.error.LexErr.TheVariants as lexing
-use Rattle.safl_text.specs.Lexing.{Refuses}
+use Rattle.safl_text.specs.Lexing.{RefusesTokens}
 use Rattle.safl_tree.specs.Tree.{Definition}
 use Rattle.safl_tree.specs.Shown.{shown_program}
 use Rattle.safl_tree.specs.declared.tree.Program.{Program}
@@ -54,17 +54,17 @@ at f a b = ap (λ (x : ℕ). fault_with f x f.second) a ∙ ap (λ (x : ℕ). fa
     fault_with : Fault → ℕ → ℕ → Fault
     fault_with f x y = record { rule = f.rule; place = f.place; first = x; second = y }
 
-lexical_fault : (text : List ℕ) (f : Fault) → Refuses text (lexing.Refused f) → SyntaxFault text f
+lexical_fault : (text : List ℕ) (f : Fault) → RefusesTokens text (lexing.Refused f) → SyntaxFault text f
 lexical_fault text f h = lexical f.rule f.place h.0 (at f h.1 h.2)
 
-pub lexical_first : (text : List ℕ) (e : LexErr) → Refuses text e → RefusedFirst text (error_of e)
+pub lexical_first : (text : List ℕ) (e : LexErr) → RefusesTokens text e → RefusedFirst text (error_of e)
 lexical_first text (lexing.Refused f) h = lexical_fault text f h
 lexical_first text lexing.NoMemory h = tt
 
-pub lexical_spelled : (text : List ℕ) (e : LexErr) (p : List Definition) → Refuses text e → SpellsProgram text p → OnlyNoMemory (error_of e)
+pub lexical_spelled : (text : List ℕ) (e : LexErr) (p : List Definition) → RefusesTokens text e → SpellsProgram text p → OnlyNoMemory (error_of e)
 lexical_spelled text (lexing.Refused f) p h s = not_both text s.tokens f.rule f.place s.cut h.0
 lexical_spelled text lexing.NoMemory p h s = tt
 
-pub lexical_faulty : (text : List ℕ) (e : LexErr) (f : Fault) → Refuses text e → SyntaxFault text f → IsFaultUnlessNoMemory f (Err (error_of e))
+pub lexical_faulty : (text : List ℕ) (e : LexErr) (f : Fault) → RefusesTokens text e → SyntaxFault text f → IsFaultUnlessNoMemory f (Err (error_of e))
 lexical_faulty text (lexing.Refused g) f h s = one_fault text g f (lexical_fault text g h) s
 lexical_faulty text lexing.NoMemory f h s = tt

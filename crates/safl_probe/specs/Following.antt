@@ -67,8 +67,8 @@ stands code [] = None
 stands code (l ∷ ls) = option_or (stands code ls) (change_of code l)
 
 -- the number that a code has at a time
-abbrev pub shown : Text → ℕ → Text → Option ℕ
-shown text t code = stands code (up_to t (map told_by (lines text)))
+abbrev pub shown_number : Text → ℕ → Text → Option ℕ
+shown_number text t code = stands code (up_to t (map told_by (lines text)))
 
 -- the numbers of all frames fit the widths of their signals
 abbrev pub FramesFit : Netlist → List Valuation → Type 0
@@ -79,4 +79,4 @@ abbrev pub DumpsShowFrames : Type 0
 DumpsShowFrames =
     (n : Netlist) → IsNetlist n → (frames : List Valuation) → FramesFit n frames → length frames < 2 ^ 64
     → (t i : ℕ) (frame : Valuation) (w : Watched) → slice_get frames t ≡ Some frame → slice_get (watched_by Vcd n) i ≡ Some w
-    → shown (trace 1 n frames) t (code i) ≡ Some (slice_index frame w.signal)
+    → shown_number (trace 1 n frames) t (code i) ≡ Some (slice_index frame w.signal)

@@ -51,9 +51,9 @@ pub record BreaksOff (n : Netlist) (state : ℕ → ℕ) (args : List Word) (lim
   pub files : AreApart names → TellsOn (AllGrow LongerPart names (λ i. cycle_texts frames (probe_at ps i))) old new
 
 -- a call with the words of a harness was answered, and the asked probes were shown its cycles
-abbrev pub Shows : {P : Type 0} → Simulation → Simulation → Harness → ℕ → FileNames → (P → ProbeState) → List P → List P
+abbrev pub IsShown : {P : Type 0} → Simulation → Simulation → Harness → ℕ → FileNames → (P → ProbeState) → List P → List P
     → ShelfState → ShelfState → Option Done → Type 0
-Shows sim after harness limit names tell ps qs old new answer =
+IsShown sim after harness limit names tell ps qs old new answer =
     (args : List Word) → IsCalled sim.net args harness
     → Watches sim.net (slice_index sim.state) args limit (asked names) (map tell ps) (map tell qs) old.holds new.holds answer (slice_index after.state)
 

@@ -8,8 +8,8 @@ ghost use Rattle.safl_probe.specs.Entries.{watched_all, numbers, looked_all, las
 use crate::entry::{Entry, Spot};
 use crate::kind::TraceKind;
 use crate::look::look;
-use crate::pieces::{push, push_time};
-use crate::tables::{push_starts, push_toggles, toggle};
+use crate::starts_and_toggles::{push_starts, push_toggles, toggle};
+use crate::text_pieces::{push, push_time};
 use crate::vcd_text::{push_change, push_dump, push_header};
 use safl_word::{NoMemory, Word};
 

@@ -7,7 +7,7 @@ ghost use Rattle.safl_probe.specs.Entries.{watched_in, watched_all, nameless, nu
 
 use crate::entry::{Entry, Spot};
 use crate::look::number_at;
-use crate::pieces::{push, push_code, push_time, push_value};
+use crate::text_pieces::{push, push_code, push_time, push_value};
 use safl_word::{NoMemory, Raw, Word, push_decimal};
 
 /// Appends the header of a dump.

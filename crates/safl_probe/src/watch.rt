@@ -8,7 +8,7 @@ ghost use Rattle.safl_probe.specs.Growth.{AllThere};
 ghost use Rattle.safl_probe.specs.Stopping.{KeepsProbes};
 ghost use Rattle.safl_word.specs.Words.{Word};
 ghost use Rattle.safl_run.specs.Steps.{IsCalled};
-ghost use Rattle.safl_probe.specs.Rounds.{AllReady, Shows, ShowsPart};
+ghost use Rattle.safl_probe.specs.Rounds.{AllReady, IsShown, ShowsPart};
 ghost use Rattle.safl_probe.specs.declared.moment.Moment.TheVariants as moments;
 
 use crate::drive_err::DriveErr;
@@ -32,7 +32,7 @@ pub(crate) fn watch<S: Shelf>(
     requires called { (args : List Word) × IsCalled sim.old.net args harness.now }
     requires ready { AllReady sim.old.net files.now (λ p. state p) probes.old }
     requires room { HasWidths sim.old.net room.old.frame.items }
-    ensures watched { IfOk result (Shows sim.old sim.new harness.now limit files.now (λ p. state p) probes.old probes.new
+    ensures watched { IfOk result (IsShown sim.old sim.new harness.now limit files.now (λ p. state p) probes.old probes.new
         (S.told shelf.old) (S.told shelf.new)) }
     ensures broken { IfErr result (ShowsPart sim.old harness.now limit files.now (λ p. state p) probes.old probes.new
         (S.told shelf.old) (S.told shelf.new)) }

@@ -3,8 +3,8 @@
 
 mod calls;
 pub mod laws;
+mod line;
 mod lines;
-mod pieces;
 mod registers;
 mod reports;
 

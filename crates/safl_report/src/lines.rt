@@ -5,7 +5,7 @@ ghost use Rattle.safl_sites.specs.Plan.{IsPlan};
 ghost use Rattle.safl_report.specs.Counting.{AreCalls};
 ghost use Rattle.safl_report.specs.Report.{function_lines, site_lines, arbiters_of};
 
-use crate::pieces::{push_function, push_site};
+use crate::line::{push_function, push_site};
 use safl_sites::Planned;
 use safl_word::NoMemory;
 

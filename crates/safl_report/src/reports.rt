@@ -4,8 +4,8 @@ ghost use Rattle.std.specs.Prelude.{IfOk};
 ghost use Rattle.safl_report.specs.Report.{IsReport, IsSummary};
 
 use crate::calls::count_calls;
+use crate::line::{push_end, push_number, push_registers};
 use crate::lines::{count_arbiters, push_functions, push_sites};
-use crate::pieces::{push_end, push_number, push_registers};
 use crate::registers::count_registers;
 use safl_net::Net;
 use safl_sites::Planned;

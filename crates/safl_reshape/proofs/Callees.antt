@@ -18,7 +18,7 @@ use Rattle.safl_typing.specs.Rewriting.{rewritten}
 use Rattle.safl_reshape.specs.Changed.{calls, is_member}
 use Rattle.safl_reshape.proofs.Putting.{def_shown}
 use Rattle.safl_typing.specs.Heads.{Head, unit_of, heads}
-use Rattle.safl_typing.specs.Forms.{FunctionForm, AreFunctionsOf, IsFormOf, shown, shown_function, function_names}
+use Rattle.safl_typing.specs.Forms.{FunctionForm, AreFunctionsOf, IsFormOf, shown_form, shown_function, function_names}
 use Rattle.safl_typing.proofs.Placing.{heads_length}
 use Rattle.safl_typing.proofs.Names.{not_seen}
 use Rattle.safl_check.specs.Numbered.{program_in}
@@ -45,10 +45,10 @@ tables_long t = refl
 functions_are : (c : CheckedProgram) → c.program.functions ≡ length c.tables.functions
 functions_are = each_checked (λ c. c.program.functions ≡ length c.tables.functions) tables_long
 
-as_many : (ds : List Definition) (c : CheckedProgram) → IsFormOf ds (shown c) → c.program.functions ≡ length ds
+as_many : (ds : List Definition) (c : CheckedProgram) → IsFormOf ds (shown_form c) → c.program.functions ≡ length ds
 as_many ds c is = functions_are c ∙ (sym (shown_functions c.tables.functions) ∙ lengths (heads ds) 0 0 0 1 (suc is.last_site) ds (map shown_function c.tables.functions) is.functions)
 
-pub callee_within : (ds : List Definition) (c : CheckedProgram) (k : ℕ) → IsFormOf ds (shown c) → IsChecked c → HasSite c.program k → c.program.callee k < length ds
+pub callee_within : (ds : List Definition) (c : CheckedProgram) (k : ℕ) → IsFormOf ds (shown_form c) → IsChecked c → HasSite c.program k → c.program.callee k < length ds
 callee_within ds c k is ok s = let q = ok.formed.calls k s.from s.to in let m = as_many ds c is in omega (arith, q.1, m)
 
 unjoined : (o : Option Definition) → joined_at o ≡ false → Unjoined o
@@ -58,8 +58,8 @@ unjoined (Some d) e = e
 there : {A : Type 0} (xs : List A) (i : ℕ) → i < length xs → (x : A) × (slice_get xs i ≡ Some x)
 there xs i lt = ⊎_elim (λ q. (q.0, q.2)) (λ q. absurd (omega (arith, q.0, lt))) (slice_get_cases xs i).1
 
-pub copyable : (ds : List Definition) (c : CheckedProgram) (k : ℕ) → IsFormOf ds (shown c) → IsChecked c → c.program ≡ program_in (shown c) → MayCopy c.program ds k
-    → (d : Definition) × (slice_get ds (c.program.callee k) ≡ Some d) × IsCopyable ds (shown c) k (c.program.callee k) d (copy_name d.name k)
+pub copyable : (ds : List Definition) (c : CheckedProgram) (k : ℕ) → IsFormOf ds (shown_form c) → IsChecked c → c.program ≡ program_in (shown_form c) → MayCopy c.program ds k
+    → (d : Definition) × (slice_get ds (c.program.callee k) ≡ Some d) × IsCopyable ds (shown_form c) k (c.program.callee k) d (copy_name d.name k)
 copyable ds c k is ok e may =
     let C = c.program in
     let j = C.callee k in
@@ -71,7 +71,7 @@ copyable ds c k is ok e may =
     let g = or_none (joined_at (slice_get ds j)) (joined_at (slice_get ds (suc j))) may.alone in
     let al : Unjoined (slice_get ds j) = unjoined (slice_get ds j) g.0 in
     let u = unit_own 0 0 ds j h.0 al h.1 in
-    let v : C.unit j ≡ h.0.unit = ap (λ (z : Program). z.unit j) e ∙ unit_is ds (shown c) is j h.0 (here ds (shown c) is j h.0 h.1) in
+    let v : C.unit j ≡ h.0.unit = ap (λ (z : Program). z.unit j) e ∙ unit_is ds (shown_form c) is j h.0 (here ds (shown_form c) is j h.0 h.1) in
     let f = ok.formed.first (C.caller k) q.0 in
     let nf : name_for ds k j ≡ copy_name d.0.name k = ap (λ (o : Option Definition). copy_name (name_at o) k) d.1 in
     let fr : list_any (bytes_eq (copy_name d.0.name k)) (function_names ds) ≡ false = sym (ap (λ (x : List ℕ). is_taken ds x) nf) ∙ may.free in (

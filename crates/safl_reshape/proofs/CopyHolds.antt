@@ -5,7 +5,7 @@ use Rattle.safl_term.specs.Program.{Program}
 use Rattle.safl_term.specs.Checked.{CheckedProgram, IsChecked}
 use Rattle.safl_tree.specs.Tree.{Definition}
 use Rattle.safl_tree.specs.Printable.{IsFormedProgram}
-use Rattle.safl_typing.specs.Forms.{Form, IsFormOf, shown}
+use Rattle.safl_typing.specs.Forms.{Form, IsFormOf, shown_form}
 use Rattle.safl_typing.specs.Laws.{OneForm}
 use Rattle.safl_check.specs.Numbered.{program_in}
 use Rattle.safl_reshape.specs.declared.error.ReshapeErr.{ReshapeErr}
@@ -18,9 +18,9 @@ use Rattle.safl_reshape.proofs.Callees.{copyable}
 use Rattle.safl_reshape.proofs.FormedTrees.{formed_at, copy_named, copy_formed, unfold_formed}
 
 -- each form of the definitions is that of the checked program
-pub any_form : (ds : List Definition) (c : CheckedProgram) → IsFormOf ds (shown c) → OneForm → c.program ≡ program_in (shown c) →
+pub any_form : (ds : List Definition) (c : CheckedProgram) → IsFormOf ds (shown_form c) → OneForm → c.program ≡ program_in (shown_form c) →
     (P : Program → Type 0) → P c.program → (f : Form) → IsFormOf ds f → P (program_in f)
-any_form ds c is one e P p f h = subst P (e ∙ ap program_in (one ds (shown c) f is h)) p
+any_form ds c is one e P p f h = subst P (e ∙ ap program_in (one ds (shown_form c) f is h)) p
 
 pub limit_refused : (C : Program) (ds es : List Definition) (k : ℕ) (e : ReshapeErr) → MayCopy C ds k → es ≡ copied ds k (C.callee k) → RefusesLimit es e → RefusesCopy C ds k e
 limit_refused C ds es k errors.NoSite m q r = absurd r
@@ -36,10 +36,10 @@ pub record IsGoodCopy (ds : List Definition) (c : CheckedProgram) (es : List Def
   pub formed : IsFormedProgram es
   pub form : Form
   pub is : IsFormOf es form
-  pub alike : IsAlike (program_in (shown c)) (program_in form)
+  pub alike : IsAlike (program_in (shown_form c)) (program_in form)
 
-pub good_copy : (ds : List Definition) (c : CheckedProgram) (k : ℕ) (es : List Definition) → IsFormedProgram ds → IsFormOf ds (shown c) → IsChecked c
-    → c.program ≡ program_in (shown c) → CopyIsAlike → k < 2 ^ 128 → MayCopy c.program ds k → es ≡ copied ds k (c.program.callee k) →
+pub good_copy : (ds : List Definition) (c : CheckedProgram) (k : ℕ) (es : List Definition) → IsFormedProgram ds → IsFormOf ds (shown_form c) → IsChecked c
+    → c.program ≡ program_in (shown_form c) → CopyIsAlike → k < 2 ^ 128 → MayCopy c.program ds k → es ≡ copied ds k (c.program.callee k) →
     KeepsLimits es → IsGoodCopy ds c es
 good_copy ds c k es formed is ok e law lt may q kept =
     let j = c.program.callee k in
@@ -49,7 +49,7 @@ good_copy ds c k es formed is ok e law lt may q kept =
     let nf : name_for ds k j ≡ new = ap (λ (o : Option Definition). copy_name (name_at o) k) d.1 in
     let l : length new ≤ 64 = omega (arith, ap (λ (x : List ℕ). length x) nf, may.short) in
     let n : IsName new = copy_named d.0.name k (formed_at ds j d.0 formed.formed d.1).0 lt l in
-    let r = law ds (shown c) k j d.0 new is d.2 (subst KeepsLimits p kept) in
+    let r = law ds (shown_form c) k j d.0 new is d.2 (subst KeepsLimits p kept) in
     record {
       formed = subst IsFormedProgram (sym p) (copy_formed ds k j d.0 new formed d.1 n);
       form = r.0;
@@ -73,13 +73,13 @@ pub record IsGoodUnfolding (k : ℕ) (ds : List Definition) (c : CheckedProgram)
   pub formed : IsFormedProgram es
   pub form : Form
   pub is : IsFormOf es form
-  pub spares : Spares k (program_in (shown c)) (program_in form)
+  pub spares : Spares k (program_in (shown_form c)) (program_in form)
 
-pub good_unfolding : (ds : List Definition) (c : CheckedProgram) (k : ℕ) (es : List Definition) → IsFormedProgram ds → IsFormOf ds (shown c) →
-    c.program ≡ program_in (shown c) → UnfoldingSpares → MayUnfold c.program ds k → es ≡ unfolded ds k → KeepsLimits es → IsGoodUnfolding k ds c es
+pub good_unfolding : (ds : List Definition) (c : CheckedProgram) (k : ℕ) (es : List Definition) → IsFormedProgram ds → IsFormOf ds (shown_form c) →
+    c.program ≡ program_in (shown_form c) → UnfoldingSpares → MayUnfold c.program ds k → es ≡ unfolded ds k → KeepsLimits es → IsGoodUnfolding k ds c es
 good_unfolding ds c k es formed is e law may q kept =
-    let al : is_recursive ds ((program_in (shown c)).callee k) ≡ false = subst (λ (z : Program). is_recursive ds (z.callee k) ≡ false) e may.alone in
-    let r = law ds (shown c) k is al (subst KeepsLimits q kept) in
+    let al : is_recursive ds ((program_in (shown_form c)).callee k) ≡ false = subst (λ (z : Program). is_recursive ds (z.callee k) ≡ false) e may.alone in
+    let r = law ds (shown_form c) k is al (subst KeepsLimits q kept) in
     record {
       formed = subst IsFormedProgram (sym q) (unfold_formed ds k formed);
       form = r.0;

@@ -11,7 +11,7 @@ use Rattle.safl_typing.specs.Rewriting.{Expression, Number, Sized, Variable, If,
 use Rattle.safl_typing.specs.Rewriting.{no_binding, a_binding, Shape, Alike, Comparing, Shifting, Resizing, shape, flexible, all_flexible}
 use Rattle.safl_typing.specs.Rewriting.{takes_width, nodes, nodes_in, nodes_bound, rewritten, rewritten_all, rewritten_binds, rewritten_arms}
 use Rattle.safl_typing.specs.Heads.{Slot, Known}
-use Rattle.safl_typing.specs.Typing.{Differ, names, slots, Keeps, AllRigid, RigidOr, Shifts, Suits, Has, HaveAll, HaveBound}
+use Rattle.safl_typing.specs.Typing.{Differ, names, slots, KeepsWritten, AllRigid, RigidOr, Shifts, Suits, Has, HaveAll, HaveBound}
 use Rattle.safl_typing.specs.Forms.{HasShortLets, HaveShortLets, HaveShortBound}
 
 mutual
@@ -113,7 +113,7 @@ mutual
 
 -- ---- widths and terms
 
-twin_keeps : {e f : Expression} (v : Option ℕ) (w : ℕ) → Twin e f → Keeps v e w → Keeps v f w
+twin_keeps : {e f : Expression} (v : Option ℕ) (w : ℕ) → Twin e f → KeepsWritten v e w → KeepsWritten v f w
 twin_keeps (Some v) w t h = h
 twin_keeps None w t h = sym (twin_flexible t) ∙ h
 

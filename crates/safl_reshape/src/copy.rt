@@ -7,7 +7,7 @@ ghost use Rattle.safl_tree.specs.Tree.{Definition};
 ghost use Rattle.safl_tree.specs.Shown.{shown_definition, shown_definitions, shown_program};
 ghost use Rattle.safl_tree.specs.Printable.{IsFormedProgram, IsPrintable};
 ghost use Rattle.safl_typing.specs.Heads.{Head, heads};
-ghost use Rattle.safl_typing.specs.Forms.{IsFormOf, shown};
+ghost use Rattle.safl_typing.specs.Forms.{IsFormOf, shown_form};
 ghost use Rattle.safl_typing.specs.PlainHeads.{shown_heads};
 ghost use Rattle.safl_reshape.specs.Reshaped.{copy_name, copy_of, copied, IsCopiedUnder};
 ghost use Rattle.safl_reshape.specs.Refusals.{MayCopy, RefusesCopy, is_grouped, is_taken};
@@ -32,7 +32,7 @@ pub fn copied_defs(
     defs: &[Def],
     site: u32,
 ) -> Result<Vec<Def>, ReshapeErr>
-    requires form { IsFormOf (shown_definitions defs.now) (shown checked.now) }
+    requires form { IsFormOf (shown_definitions defs.now) (shown_form checked.now) }
     ensures checked { OnOk result (IsChecked checked.now) }
     ensures may { IfOk result (λ es. MayCopy checked.now.program (shown_definitions defs.now) site) }
     ensures copied { IfOk result (λ es. shown_definitions es.items ≡ copied (shown_definitions defs.now) site (checked.now.program.callee site)) }

@@ -2,7 +2,7 @@
 
 ghost use Rattle.std.specs.Prelude.{◌≡◌, IfOk, IfErr};
 ghost use Rattle.safl_tree.specs.Shown.{shown_definitions};
-ghost use Rattle.safl_typing.specs.Forms.{IsFormOf, shown};
+ghost use Rattle.safl_typing.specs.Forms.{IsFormOf, shown_form};
 ghost use Rattle.safl_reshape.specs.Reshaped.{unfolded};
 ghost use Rattle.safl_reshape.specs.Refusals.{MayUnfold, RefusesUnfolding};
 
@@ -22,7 +22,7 @@ pub fn unfolded_defs(
     defs: &[Def],
     site: u32,
 ) -> Result<Vec<Def>, ReshapeErr>
-    requires form { IsFormOf (shown_definitions defs.now) (shown checked.now) }
+    requires form { IsFormOf (shown_definitions defs.now) (shown_form checked.now) }
     ensures may { IfOk result (λ es. MayUnfold checked.now.program (shown_definitions defs.now) site) }
     ensures unfolded { IfOk result (λ es. shown_definitions es.items ≡ unfolded (shown_definitions defs.now) site) }
     ensures refused { IfErr result (RefusesUnfolding checked.now.program (shown_definitions defs.now) site) }

@@ -3,7 +3,7 @@
 ghost use Rattle.std.specs.Prelude.{IfOk, IfErr};
 ghost use Rattle.safl_tree.specs.Shown.{shown_program};
 ghost use Rattle.safl_tree.specs.Printable.{IsPrintable};
-ghost use Rattle.safl_typing.specs.Forms.{IsFormOf, shown};
+ghost use Rattle.safl_typing.specs.Forms.{IsFormOf, shown_form};
 ghost use Rattle.safl_reshape.specs.Refusals.{HasForm, CopyRefused, IsCopied, GivesAlike, UnfoldingRefused, IsUnfolded, GivesSparing};
 
 use crate::copy::copied_defs;
@@ -43,7 +43,7 @@ pub fn copy_checked(
     site: u32,
 ) -> Result<Program, ReshapeErr>
     requires printable { IsPrintable (shown_program program.now) }
-    requires form { IsFormOf (shown_program program.now) (shown checked.now) }
+    requires form { IsFormOf (shown_program program.now) (shown_form checked.now) }
     ensures copied { IfOk result (λ q. IsCopied (shown_program program.now) site (shown_program q)) }
     ensures printable { IfOk result (λ q. IsPrintable (shown_program q)) }
     ensures alike { IfOk result (λ q. GivesAlike (shown_program program.now) (shown_program q)) }
@@ -84,7 +84,7 @@ pub fn unfold_checked(
     site: u32,
 ) -> Result<Program, ReshapeErr>
     requires printable { IsPrintable (shown_program program.now) }
-    requires form { IsFormOf (shown_program program.now) (shown checked.now) }
+    requires form { IsFormOf (shown_program program.now) (shown_form checked.now) }
     ensures unfolded { IfOk result (λ q. IsUnfolded (shown_program program.now) site (shown_program q)) }
     ensures printable { IfOk result (λ q. IsPrintable (shown_program q)) }
     ensures sparing { IfOk result (λ q. GivesSparing site (shown_program program.now) (shown_program q)) }
@@ -107,7 +107,7 @@ pub fn unfold_checked(
 fn checked_of(alloc: Global, program: &Program) -> Result<Checked, NoMemory>
     requires printable { IsPrintable (shown_program program.now) }
     requires form { HasForm (shown_program program.now) }
-    ensures form { IfOk result (λ c. IsFormOf (shown_program program.now) (shown c)) }
+    ensures form { IfOk result (λ c. IsFormOf (shown_program program.now) (shown_form c)) }
 {
     fault_or_form_law();
     printed_law();

@@ -4,7 +4,7 @@ use Rattle.safl_word.specs.Words.{Word}
 use Rattle.safl_net.specs.Netlist.{Netlist, Signal, Kind, Input, Reg, Wire}
 use Rattle.safl_net.specs.Arguments.{AreArguments}
 use Rattle.safl_sim.specs.Words.{input_words, zero_of, bit_word}
-use Rattle.safl_run.specs.declared.room.Room.{Room}
+use Rattle.safl_run.specs.declared.input_words.Room.{Room}
 
 -- the word 0 of the signal's width, if the signal is an input
 abbrev pub own_zero : Kind → ℕ → List Word

@@ -11,7 +11,7 @@ ghost use Rattle.safl_run.specs.Runners.{IsHarness};
 ghost use Rattle.safl_run.specs.Steps.{IsCalled, GoesOn};
 ghost use Rattle.safl_run.specs.Calls.{Answers};
 
-use crate::room::{Room, put_arguments, signal_of};
+use crate::input_words::{Room, put_arguments, signal_of};
 use safl_net::{Net, Sig};
 use safl_sim::{Done, Sim};
 use safl_word::{NoMemory, Word};

@@ -2,8 +2,8 @@
 #![tactic(auto)]
 
 pub mod harness;
+mod input_words;
 pub mod laws;
-mod room;
 pub mod runner;
 pub mod until_done;
 

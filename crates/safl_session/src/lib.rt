@@ -3,9 +3,9 @@
 //! The calls are read from scripts, and the replies are printed as transcripts.
 #![tactic(auto)]
 
+mod cutting;
 pub mod laws;
 mod line;
-mod pieces;
 pub mod script;
 pub mod session;
 mod transcript;

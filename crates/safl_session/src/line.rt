@@ -4,7 +4,7 @@ ghost use Rattle.std.specs.Prelude.{◌<◌, ◌^◌, OnOk, IfErr, IfSome, IfNon
 ghost use Rattle.safl_word.specs.Words.{Word};
 ghost use Rattle.safl_session.specs.Lines.{IsArgument, AppendsCall, RefusesLine};
 
-use crate::pieces::next_word;
+use crate::cutting::next_word;
 use crate::script::ScriptErr;
 use safl_word::{Word, argument};
 

@@ -3,8 +3,8 @@
 ghost use Rattle.std.specs.Prelude.{◌≡◌, ◌<◌, ◌^◌, IfOk, IfErr, Some, length, slice_get};
 ghost use Rattle.safl_session.specs.Scripts.{IsScript, RefusesScript};
 
+use crate::cutting::cut;
 use crate::line::read_line;
-use crate::pieces::cut;
 use safl_word::Word;
 use std::alloc::Global;
 use std::marker::Model;

@@ -19,7 +19,7 @@ use Rattle.safl_sim.specs.Readers.{Lists, AreReaders, Inside}
 use Rattle.safl_sim.proofs.MarksByOne.{none_in}
 use Rattle.safl_sim.specs.Places.{with_input, inputs_from, inputs_of, resets}
 use Rattle.safl_sim.specs.States.{placed, AreReset}
-use Rattle.safl_sim.specs.Steps.{IsReg, IsStep, AreSteps, AreRegisters, Keeps}
+use Rattle.safl_sim.specs.Steps.{IsReg, IsStep, AreSteps, AreRegisters, KeepsSimulation}
 use Rattle.safl_sim.proofs.Placing.{placed_long, placed_rest, placed_at}
 use Rattle.safl_word.proofs.Joining.{index_past}
 use Rattle.safl_sim.proofs.Written.{lower_or_same, lower_or_not}
@@ -269,9 +269,10 @@ pub keeps_new : (o : Order) (steps : List Step) (places : List Sig) (regs : List
     → length marks ≡ (first_register (length o.wires) + length regs + 63) / 64 → length o.wires < 2 ^ 32 → length regs < 2 ^ 32 → Inside (length o.wires) (length regs) marks
     → ((k : ℕ) → k < length o.wires → marked marks k ≡ 1) → ((k : ℕ) → k < length regs → marked marks (first_register (length o.wires) + k) ≡ 1) →
     length waiting ≡ (length regs + 63) / 64 → ((k : ℕ) → slice_index waiting k ≡ 0)
-    → state ≡ resets o.net → values ≡ resets o.net → Keeps o steps places regs starts readers marks waiting state values
+    → state ≡ resets o.net → values ≡ resets o.net → KeepsSimulation o steps places regs starts readers marks waiting state values
 keeps_new o steps places regs starts readers marks waiting state values made order all inputs registers lists read long few some inside marked_steps marked_registers wide none e f =
-    subst (λ x. Keeps o steps places regs starts readers marks waiting x values) (sym e) (subst (λ x. Keeps o steps places regs starts readers marks waiting (resets o.net) x) (sym f) (record {
+    subst (λ x. KeepsSimulation o steps places regs starts readers marks waiting x values) (sym e) (subst (λ x. KeepsSimulation o steps places regs starts readers marks waiting (resets o.net) x)
+        (sym f) (record {
       made = made;
       order = order;
       steps = all;

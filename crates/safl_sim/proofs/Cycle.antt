@@ -18,7 +18,7 @@ use Rattle.safl_sim.specs.Simulation.{Simulation, Ticks}
 use Rattle.safl_sim.specs.Marks.{marked, first_register}
 use Rattle.safl_sim.specs.Readers.{Lists, Kept, Shown, RegistersAway}
 use Rattle.safl_sim.specs.States.{AreAt, AreLow, HaveLowNexts}
-use Rattle.safl_sim.specs.Steps.{IsReg, AreRegisters, Waits, Keeps, Runs, Goes}
+use Rattle.safl_sim.specs.Steps.{IsReg, AreRegisters, Waits, KeepsSimulation, Runs, Goes}
 use Rattle.safl_sim.specs.declared.plan.Plan.{Plan}
 use Rattle.safl_sim.specs.Cycles.{state_of, KeepsStates, Cycles}
 use Rattle.safl_sim.specs.Writes.{HasPut, HasShown, HasKept, KeepsOn}
@@ -330,7 +330,7 @@ module _ (o : Order) (p : Plan) (marks waiting numbers v1 : List ℕ) (kept : Ke
         (was_unmarked first p.registers.items v3 (length m4 * 64) (state_of o p numbers) m3 (state_of o p next) m4 w4 ends room i none)
         ∙ sym (r.kept i t (within p.registers.items i t e) e)
 
-    keeps_after : Keeps o p.steps.items p.inputs.items p.registers.items p.starts.items p.readers.items m4 w4 (state_of o p next) v3
+    keeps_after : KeepsSimulation o p.steps.items p.inputs.items p.registers.items p.starts.items p.readers.items m4 w4 (state_of o p next) v3
     keeps_after = record {
       made = kept.keeps.made;
       order = kept.keeps.order;

@@ -5,7 +5,7 @@ use Rattle.std.specs.Int.{bit_at}
 use Rattle.safl_sim.specs.Marks.{marked, HasNone, NoneBetween, HasTaken}
 use Rattle.safl_sim.specs.States.{AreOnce, AreLow}
 use Rattle.safl_sim.specs.Steps.{Waits}
-use Rattle.safl_sim.specs.Writes.{HasShown, HasKept, Shows, KeepsOn}
+use Rattle.safl_sim.specs.Writes.{HasShown, HasKept, ShowsWaiting, KeepsOn}
 use Rattle.safl_sim.proofs.Written.{same_or_not, index_here, index_other, set_length}
 use Rattle.safl_sim.proofs.MarksByOne.{taken_upto, none_upto, none_past}
 use Rattle.safl_sim.proofs.Nearing.{joined, joined_grows, joined_new, joined_only}
@@ -32,7 +32,7 @@ low_shown regs values numbers i r once low at inside = λ k q e narrow. (
     x : ℕ
     x = slice_index numbers i
 
-pub shows_start : (regs : List Register) (now values waiting : List ℕ) → Waits regs now values waiting → Shows regs now 0 values values waiting
+pub shows_start : (regs : List Register) (now values waiting : List ℕ) → Waits regs now values waiting → ShowsWaiting regs now 0 values values waiting
 shows_start regs now values waiting w = record {
   long = refl;
   below = λ k h. absurd (omega (arith, h));
@@ -41,28 +41,28 @@ shows_start regs now values waiting w = record {
   within = w.within;
 }
 
-pub shows_to : (regs : List Register) (now : List ℕ) (place place' : ℕ) (start values waiting : List ℕ) → Shows regs now place start values waiting →
-    ((k : ℕ) → k < place' → marked waiting k ≡ 0) → Shows regs now place' start values waiting
+pub shows_to : (regs : List Register) (now : List ℕ) (place place' : ℕ) (start values waiting : List ℕ) → ShowsWaiting regs now place start values waiting →
+    ((k : ℕ) → k < place' → marked waiting k ≡ 0) → ShowsWaiting regs now place' start values waiting
 shows_to regs now place place' start values waiting w below = record { long = w.long; below = below; shown = w.shown; others = w.others; within = w.within }
 
 -- a word in which none waits
-pub shows_none : (regs : List Register) (now : List ℕ) (place word : ℕ) (start values waiting : List ℕ) → Shows regs now place start values waiting →
-    word * 64 ≤ place → HasNone waiting word → Shows regs now ((word + 1) * 64) start values waiting
+pub shows_none : (regs : List Register) (now : List ℕ) (place word : ℕ) (start values waiting : List ℕ) → ShowsWaiting regs now place start values waiting →
+    word * 64 ≤ place → HasNone waiting word → ShowsWaiting regs now ((word + 1) * 64) start values waiting
 shows_none regs now place word start values waiting w from none = shows_to regs now place ((word + 1) * 64) start values waiting w
     (λ k l. none_upto waiting 0 place word (λ j f h. w.below j h) from none k (omega arith) l)
 
 -- words in which none waits
-pub shows_skip : (regs : List Register) (now : List ℕ) (from to : ℕ) (start values waiting : List ℕ) → Shows regs now (from * 64) start values waiting
-    → NoneBetween waiting from to → Shows regs now (to * 64) start values waiting
+pub shows_skip : (regs : List Register) (now : List ℕ) (from to : ℕ) (start values waiting : List ℕ) → ShowsWaiting regs now (from * 64) start values waiting
+    → NoneBetween waiting from to → ShowsWaiting regs now (to * 64) start values waiting
 shows_skip regs now from to start values waiting w none = shows_to regs now (from * 64) (to * 64) start values waiting w
     (λ k l. none_past waiting 0 from to (λ j f h. w.below j h) none k (omega arith) l)
 
 -- one more is shown
-pub shows_step : (regs : List Register) (now : List ℕ) (place word i : ℕ) (r : Register) (start values values' waiting waiting' : List ℕ) → Shows regs
+pub shows_step : (regs : List Register) (now : List ℕ) (place word i : ℕ) (r : Register) (start values values' waiting waiting' : List ℕ) → ShowsWaiting regs
     now place start values waiting → word * 64 ≤ place → HasTaken waiting waiting' word i
-    → slice_get regs i ≡ Some r → r.signal.0 < length values → values' ≡ set values r.signal.0 (slice_index now r.signal.0) → Shows regs now (i + 1) start values' waiting'
+    → slice_get regs i ≡ Some r → r.signal.0 < length values → values' ≡ set values r.signal.0 (slice_index now r.signal.0) → ShowsWaiting regs now (i + 1) start values' waiting'
 shows_step regs now place word i r start values values' waiting waiting' w from t here inside is =
-    subst (λ l. Shows regs now (i + 1) start l waiting') (sym is) (record {
+    subst (λ l. ShowsWaiting regs now (i + 1) start l waiting') (sym is) (record {
       long = set_length values s x ∙ w.long;
       below = λ k h. taken_upto waiting waiting' 0 place word i (λ j f l. w.below j l) (omega arith) from t k (omega arith) (omega (arith, h));
       shown = λ k q e none. elim (same_or_not q.signal.0 s) [
@@ -82,14 +82,15 @@ shows_step regs now place word i r start values values' waiting waiting' w from 
     x : ℕ
     x = slice_index now r.signal.0
 
-pub none_waits : (regs : List Register) (now : List ℕ) (place : ℕ) (start values waiting : List ℕ) → Shows regs now place start values waiting → length regs ≤ place → (k : ℕ) → marked waiting k ≡ 0
+pub none_waits : (regs : List Register) (now : List ℕ) (place : ℕ) (start values waiting : List ℕ) → ShowsWaiting regs now place start values waiting → length regs ≤ place → (k : ℕ)
+    → marked waiting k ≡ 0
 none_waits regs now place start values waiting w room k = elim (mark_or_none waiting k) [
   | inl e ↦ e
   | inr e ↦ w.below k (let a = w.within k e in omega (arith, a, room))
 ]
 
 -- in the end all are shown
-pub all_shown : (regs : List Register) (now : List ℕ) (place : ℕ) (start values waiting : List ℕ) → Shows regs now place start values waiting → length
+pub all_shown : (regs : List Register) (now : List ℕ) (place : ℕ) (start values waiting : List ℕ) → ShowsWaiting regs now place start values waiting → length
     regs ≤ place → HasShown regs now (length regs) start values
 all_shown regs now place start values waiting w room = record {
   long = w.long;

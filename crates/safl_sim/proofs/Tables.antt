@@ -3,7 +3,7 @@ use Rattle.std.proofs.Common.{◌≡◌, ◌⊎◌, inl, inr, ℕ, zero, suc, �
 use Rattle.safl_net.specs.Netlist.{Netlist}
 use Rattle.safl_net.proofs.Naming.{within}
 use Rattle.safl_order.specs.Order.{operands_of}
-use Rattle.safl_sim.specs.Readers.{Lists, Reader, AreReaders, Reads, On, AreLists, AreFlat}
+use Rattle.safl_sim.specs.Readers.{Lists, Reader, AreReaders, ReadsPlace, On, AreLists, AreFlat}
 use Rattle.safl_sim.specs.declared.step.Register.{Register}
 use Rattle.safl_sim.specs.Marks.{first_register}
 use Rattle.safl_word.proofs.Joining.{index_past}
@@ -89,7 +89,7 @@ module _ (lists : List (List ℕ)) (p k : ℕ) (v : List ℕ) (here : slice_get 
 
 module _ (n : Netlist) (ws : List ℕ) (regs : List Register) where
   -- what reads a place is a step or a register
-  pub reader_below : (p k : ℕ) → Reads n ws regs p k → k < first_register (length ws) + length regs
+  pub reader_below : (p k : ℕ) → ReadsPlace n ws regs p k → k < first_register (length ws) + length regs
   reader_below p k r = elim r [
     | inl s ↦ (let a = within ws k s.0 s.2 in omega (arith, a))
     | inr s ↦ (let a = s.2 in let b = get_in regs s.0 s.1 s.3 in omega (arith, a, b))

@@ -6,11 +6,11 @@ use Rattle.safl_sim.specs.declared.plan.Plan.{Plan}
 use Rattle.safl_sim.specs.Places.{AreInputs, HasWords}
 use Rattle.safl_sim.specs.Simulation.{Ticks}
 use Rattle.safl_sim.specs.States.{placed}
-use Rattle.safl_sim.specs.Steps.{Keeps}
+use Rattle.safl_sim.specs.Steps.{KeepsSimulation}
 
 -- what holds of a simulator between two cycles, in terms of its plan
 abbrev pub KeepsPlan : Order → Plan → List ℕ → List ℕ → List ℕ → List ℕ → Type 0
-KeepsPlan o p marks waiting now shown = Keeps o p.steps.items p.inputs.items p.registers.items p.starts.items p.readers.items marks waiting now shown
+KeepsPlan o p marks waiting now shown = KeepsSimulation o p.steps.items p.inputs.items p.registers.items p.starts.items p.readers.items marks waiting now shown
 
 -- the state by signal, given the number of each register
 abbrev pub state_of : Order → Plan → List ℕ → List ℕ

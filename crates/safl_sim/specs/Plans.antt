@@ -12,7 +12,7 @@ use Rattle.safl_sim.specs.Readers.{Lists, HasMarked, HasGiven, InputsAway, Input
 use Rattle.safl_sim.specs.Nears.{NearAt, NearOf}
 use Rattle.safl_sim.specs.States.{AreAt}
 use Rattle.safl_sim.specs.Steps.{Goes, Waits, Runs, action_number}
-use Rattle.safl_sim.specs.Writes.{HasShown, Shows}
+use Rattle.safl_sim.specs.Writes.{HasShown, ShowsWaiting}
 
 -- the plan has the readers of each place, and there is a mark for each reader
 abbrev pub HasLists : Plan → List ℕ → List ℕ → Type 0
@@ -67,12 +67,12 @@ RegistersGoOn p state values values' marks marks' = (n : Netlist) (ws now : List
 -- registers are being shown, and none before this place waits any longer
 abbrev pub IsShowing : Plan → List ℕ → ℕ → List ℕ → List ℕ → Type 0
 IsShowing p state place values waiting = (now : List ℕ) × (start : List ℕ) × AreAt p.registers.items state now
-    × Shows p.registers.items now place start values waiting
+    × ShowsWaiting p.registers.items now place start values waiting
 
 -- the waiting registers from one place to another are shown
 abbrev pub ShowsUpTo : Plan → List ℕ → ℕ → ℕ → List ℕ → List ℕ → List ℕ → List ℕ → Type 0
 ShowsUpTo p state from to values values' waiting waiting' = (now start : List ℕ) → AreAt p.registers.items state now
-    → Shows p.registers.items now from start values waiting → Shows p.registers.items now to start values' waiting'
+    → ShowsWaiting p.registers.items now from start values waiting → ShowsWaiting p.registers.items now to start values' waiting'
 
 -- all waiting registers are shown
 abbrev pub ShowsAll : Plan → List ℕ → List ℕ → List ℕ → List ℕ → Type 0

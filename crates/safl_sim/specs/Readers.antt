@@ -102,8 +102,8 @@ InputsFit n inputs words = (k : ℕ) (s : Sig) (w : Word) (g : Signal) → slice
     → slice_get n.signals s.0 ≡ Some g → w.bits < 2 ^ g.width
 
 -- k reads place p: it is a step with p as an operand, or a register with p as its next signal
-abbrev pub Reads : Netlist → List ℕ → List Register → ℕ → ℕ → Type 0
-Reads n ws regs p k = ((s : ℕ) × (i : ℕ) × (slice_get ws k ≡ Some s) × (slice_get (operands_of n s) i ≡ Some p))
+abbrev pub ReadsPlace : Netlist → List ℕ → List Register → ℕ → ℕ → Type 0
+ReadsPlace n ws regs p k = ((s : ℕ) × (i : ℕ) × (slice_get ws k ≡ Some s) × (slice_get (operands_of n s) i ≡ Some p))
     ⊎ ((i : ℕ) × (r : Register) × (k ≡ first_register (length ws) + i) × (slice_get regs i ≡ Some r) × (r.next.0 ≡ p))
 
 -- number k is on list p
@@ -113,9 +113,9 @@ On lists p k = (v : List ℕ) × (e : ℕ) × (slice_get lists p ≡ Some v) × 
 -- Of the numbers from k on, each one that reads a place is on the place's list, and so is the step before k for its first i
 -- operands. Nothing else is on a list.
 pub record AreLists (n : Netlist) (ws : List ℕ) (regs : List Register) (k i : ℕ) (lists : List (List ℕ)) : Type 0 where
-  pub all : (p j : ℕ) → k ≤ j → Reads n ws regs p j → On lists p j
+  pub all : (p j : ℕ) → k ≤ j → ReadsPlace n ws regs p j → On lists p j
   pub own : (p j m s : ℕ) → j + 1 ≡ k → m < i → slice_get ws j ≡ Some s → slice_get (operands_of n s) m ≡ Some p → On lists p j
-  pub only : (p j : ℕ) → On lists p j → Reads n ws regs p j
+  pub only : (p j : ℕ) → On lists p j → ReadsPlace n ws regs p j
 
 -- on success, the lists have all readers from the second number on, if they had all from the first number on
 abbrev pub ListsDown : {A E : Type 0} → Result A E → Netlist → List ℕ → List Register → ℕ → ℕ → List (List ℕ) → List (List ℕ) → Type 0

@@ -152,7 +152,8 @@ pub record Waits (regs : List Register) (now values waiting : List ℕ) : Type 0
 
 -- What holds of a simulator between two cycles: its parts are those of the net, and steps, registers and the registers that wait
 -- are as their marks say.
-pub record Keeps (o : Order) (all : List Step) (places : List Sig) (regs : List Register) (starts readers marks waiting now shown : List ℕ) : Type 0 where
+pub record KeepsSimulation (o : Order) (all : List Step) (places : List Sig) (regs : List Register)
+    (starts readers marks waiting now shown : List ℕ) : Type 0 where
   pub made : IsNetlist o.net
   pub order : IsOrder o.net o.wires
   pub steps : AreSteps o.net o.wires all

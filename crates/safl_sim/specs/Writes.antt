@@ -39,7 +39,7 @@ AllReady (s ∷ steps) values = Ready values s.action × LowStep values s × (s.
     × AllReady steps (slice_set values s.wire.0 (action_number (slice_index values) s.action))
 
 -- while the waiting registers are being shown, and none before a place waits any longer
-pub record Shows (regs : List Register) (now : List ℕ) (place : ℕ) (start values waiting : List ℕ) : Type 0 where
+pub record ShowsWaiting (regs : List Register) (now : List ℕ) (place : ℕ) (start values waiting : List ℕ) : Type 0 where
   pub long : length values ≡ length start
   pub below : (k : ℕ) → k < place → marked waiting k ≡ 0
   pub shown : Shown regs now values waiting

@@ -1,6 +1,6 @@
 -- What joins in steps joins as a whole.
 use Rattle.std.proofs.Common.{◌⊎◌, inl, inr}
-use Rattle.safl_sites.specs.Rows.{Adds}
+use Rattle.safl_sites.specs.SiteSets.{Adds}
 
 pub adds_then : {A B D P Q : Type 0} → Adds A B P → Adds B D Q → Adds A D (P ⊎ Q)
 adds_then x y = record {

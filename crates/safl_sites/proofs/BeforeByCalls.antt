@@ -11,9 +11,9 @@ use Rattle.safl_sites.specs.declared.site_set.SiteSet.{SiteSet}
 use Rattle.safl_sites.specs.Conflicts.{Reaches, Here, Through}
 use Rattle.safl_sites.specs.Filling.{StandsAfter}
 use Rattle.safl_sites.specs.Parallel.{After, AfterIn, Before, BeforeIn, ComesBefore}
-use Rattle.safl_sites.specs.Rows.{Has, HasAt, Adds, no_row}
+use Rattle.safl_sites.specs.SiteSets.{Has, HasAt, Adds, no_set}
 use Rattle.safl_sites.specs.Spreading.{IsSpread}
-use Rattle.safl_sites.proofs.RowsJoined.{row_more}
+use Rattle.safl_sites.proofs.SetsJoined.{set_more}
 use Rattle.safl_sites.proofs.NumbersFollow.{IsSited, sited, site_of_body, later_site, lower_before}
 use Rattle.safl_sites.proofs.ReachBySites.{Hits, reaches_in_by, reaches_in_of}
 
@@ -158,42 +158,42 @@ module _ (p : CheckedProgram) (h : IsChecked p) where
       let less : C.unit (C.caller k) < C.unit (C.caller l.site) = omega (arith, calls.2, l.unit) in
       later_site p h k l.site sk s (lower_before p h (C.caller k) (C.caller l.site) sk.within s.within less)
 
-  pub spread_more : (m k : ℕ) (rows handed : List SiteSet) (row joined : SiteSet) → k ≡ suc m → k ≤ C.sites → IsSpread C k rows handed
-      → ((j : ℕ) → Adds (HasAt rows k j) (Has row j) (HasAt handed (C.unit (C.caller k)) j))
-      → ((j : ℕ) → Adds (HasAt handed (unit_for C k) j) (Has joined j) (Has row j))
-      → IsSpread C m (slice_set rows k row) (slice_set handed (unit_for C k) joined)
-  spread_more m k rows handed row joined e most t union down =
+  pub spread_more : (m k : ℕ) (sets handed : List SiteSet) (set joined : SiteSet) → k ≡ suc m → k ≤ C.sites → IsSpread C k sets handed
+      → ((j : ℕ) → Adds (HasAt sets k j) (Has set j) (HasAt handed (C.unit (C.caller k)) j))
+      → ((j : ℕ) → Adds (HasAt handed (unit_for C k) j) (Has joined j) (Has set j))
+      → IsSpread C m (slice_set sets k set) (slice_set handed (unit_for C k) joined)
+  spread_more m k sets handed set joined e most t union down =
       let sk = sited p h k (omega arith) most in
       let calls = h.formed.calls k (omega arith) most in
       let low : unit_for C k < C.functions = omega (arith, (h.formed.first (C.callee k) calls.1).0, calls.1) in
-      let to : (j : ℕ) → Has row j → ComesBefore C j k = λ j x. elim ((union j).splits x) [
+      let to : (j : ℕ) → Has set j → ComesBefore C j k = λ j x. elim ((union j).splits x) [
         | inl y ↦ comes_here j k ((t.left j k (omega arith)).0 y)
         | inr y ↦
             let d = (t.down (C.unit (C.caller k)) j).0 y in
             comes_later j k sk (record { site = d.site; least = omega (arith, d.later); most = d.most; unit = d.unit; before = d.before })
       ] in
-      let from : (j : ℕ) → ComesBefore C j k → Has row j = λ j x. elim (comes_by j k x) [
+      let from : (j : ℕ) → ComesBefore C j k → Has set j = λ j x. elim (comes_by j k x) [
         | inl y ↦ (union j).stays ((t.left j k (omega arith)).1 y)
         | inr l ↦ (union j).joins ((t.down (C.unit (C.caller k)) j).1 (record { site = l.site; later = later_than j k sk l; most = l.most; unit = l.unit; before = l.before }))
       ] in
       record {
-        rows_count = length-set rows k row ∙ t.rows_count;
+        sets_count = length-set sets k set ∙ t.sets_count;
         handed_count = length-set handed (unit_for C k) joined ∙ t.handed_count;
         spread = λ j i less within. elim (cases_eq i k) [
           | inl f ↦
-              let s : get_or (slice_set rows k row) i no_row ≡ row = get_or-set_at rows k i row no_row f (omega (arith, t.rows_count)) in
+              let s : get_or (slice_set sets k set) i no_set ≡ set = get_or-set_at sets k i set no_set f (omega (arith, t.sets_count)) in
               (λ x. subst (λ n. ComesBefore C j n) (sym f) (to j (subst (λ (r : SiteSet). Has r j) s x)), λ x. subst (λ (r : SiteSet). Has r j) (sym s) (from j (subst (λ n. ComesBefore C j n) f x)))
           | inr f ↦
-              let s : get_or (slice_set rows k row) i no_row ≡ get_or rows i no_row = get_or-set_other rows k i row no_row f in
+              let s : get_or (slice_set sets k set) i no_set ≡ get_or sets i no_set = get_or-set_other sets k i set no_set f in
               let b = t.spread j i (omega arith) within in
               (λ x. b.0 (subst (λ (r : SiteSet). Has r j) s x), λ x. subst (λ (r : SiteSet). Has r j) (sym s) (b.1 x))
         ];
         left = λ j i less.
-            let s : get_or (slice_set rows k row) i no_row ≡ get_or rows i no_row = get_or-set_other rows k i row no_row (λ f. absurd (omega arith)) in
+            let s : get_or (slice_set sets k set) i no_set ≡ get_or sets i no_set = get_or-set_other sets k i set no_set (λ f. absurd (omega arith)) in
             let b = t.left j i (omega arith) in
             (λ x. b.0 (subst (λ (r : SiteSet). Has r j) s x), λ x. subst (λ (r : SiteSet). Has r j) (sym s) (b.1 x));
         down = λ u j.
-            let n = row_more handed (unit_for C k) joined u j (omega (arith, t.handed_count)) (down j) in
+            let n = set_more handed (unit_for C k) joined u j (omega (arith, t.handed_count)) (down j) in
             let b = t.down u j in (
               λ x. elim (n.splits x) [
                 | inl y ↦ let d = b.0 y in record { site = d.site; later = omega (arith, d.later); most = d.most; unit = d.unit; before = d.before }

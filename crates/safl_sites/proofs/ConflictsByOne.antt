@@ -8,29 +8,29 @@ use Rattle.safl_sites.specs.declared.site_set.SiteSet.{SiteSet}
 use Rattle.safl_sites.specs.Collecting.{Collides, IsCollected}
 use Rattle.safl_sites.specs.Peers.{ArePeers}
 use Rattle.safl_sites.specs.Planned.{BeforeTable}
-use Rattle.safl_sites.specs.Rows.{Has, Adds, IsCommon, Meets, no_row}
+use Rattle.safl_sites.specs.SiteSets.{Has, Adds, IsCommon, Meets, no_set}
 
 module _ (C : Program) (m k : ℕ) (before peers : List SiteSet) (e : k ≡ suc m) (most : k ≤ C.sites) (conflicts : BeforeTable C before) (sites : ArePeers C C.sites peers) where
-  abbrev row : SiteSet
-  row = get_or before k no_row
+  abbrev set : SiteSet
+  set = get_or before k no_set
 
   abbrev peer : SiteSet
-  peer = get_or peers (unit_for C k) no_row
+  peer = get_or peers (unit_for C k) no_set
 
-  collides_of : (j : ℕ) → IsCommon row peer k j → Collides C k k j
+  collides_of : (j : ℕ) → IsCommon set peer k j → Collides C k k j
   collides_of j h = record {
     least = omega arith;
     most = omega arith;
     differs = h.differs;
-    peer = (sites.rows (unit_for C k) j).0 h.second;
-    before = (conflicts.rows j k (omega arith) most).0 h.first;
+    peer = (sites.sets (unit_for C k) j).0 h.second;
+    before = (conflicts.sets j k (omega arith) most).0 h.first;
   }
 
-  common_of : (i j : ℕ) → i ≡ k → Collides C k i j → IsCommon row peer k j
-  common_of i j f h = subst (λ n. IsCommon (get_or before n no_row) (get_or peers (unit_for C n) no_row) n j) f (record {
+  common_of : (i j : ℕ) → i ≡ k → Collides C k i j → IsCommon set peer k j
+  common_of i j f h = subst (λ n. IsCommon (get_or before n no_set) (get_or peers (unit_for C n) no_set) n j) f (record {
     differs = h.differs;
-    first = (conflicts.rows j i h.least (omega (arith, h.most))).1 h.before;
-    second = (sites.rows (unit_for C i) j).1 h.peer;
+    first = (conflicts.sets j i h.least (omega (arith, h.most))).1 h.before;
+    second = (sites.sets (unit_for C i) j).1 h.peer;
   })
 
   wider : (i j : ℕ) → Collides C m i j → Collides C k i j
@@ -39,8 +39,8 @@ module _ (C : Program) (m k : ℕ) (before peers : List SiteSet) (e : k ≡ suc 
   narrow : (i j : ℕ) → (i ≡ k → ⊥) → Collides C k i j → Collides C m i j
   narrow i j n h = record { least = h.least; most = omega (arith, h.most); differs = h.differs; peer = h.peer; before = h.before }
 
-  pub collected_more : (arbiters : List Bool) (kept kept1 kept2 : SiteSet) → unit_for C k < C.functions → IsCollected C m arbiters kept → Meets row peer k
-      → ((j : ℕ) → Adds (Has kept j) (Has kept1 j) (j ≡ k)) → ((j : ℕ) → Adds (Has kept1 j) (Has kept2 j) (IsCommon row peer k j))
+  pub collected_more : (arbiters : List Bool) (kept kept1 kept2 : SiteSet) → unit_for C k < C.functions → IsCollected C m arbiters kept → Meets set peer k
+      → ((j : ℕ) → Adds (Has kept j) (Has kept1 j) (j ≡ k)) → ((j : ℕ) → Adds (Has kept1 j) (Has kept2 j) (IsCommon set peer k j))
       → IsCollected C k (slice_set arbiters (unit_for C k) true) kept2
   collected_more arbiters kept kept1 kept2 low t meets insert common = record {
     count = length-set arbiters (unit_for C k) true ∙ t.count;
@@ -65,17 +65,17 @@ module _ (C : Program) (m k : ℕ) (before peers : List SiteSet) (e : k ≡ suc 
       λ h. elim (cases_eq h.later k) [
         | inl f ↦ elim h.one [
           | inl g ↦ (common i).stays ((insert i).joins (g ∙ f))
-          | inr g ↦ (common i).joins (subst (λ n. IsCommon row peer k n) (sym g) (common_of h.later h.earlier f h.collides))
+          | inr g ↦ (common i).joins (subst (λ n. IsCommon set peer k n) (sym g) (common_of h.later h.earlier f h.collides))
         ]
         | inr f ↦ (common i).stays ((insert i).stays ((t.sites i).1 (record { later = h.later; earlier = h.earlier; collides = narrow h.later h.earlier f h.collides; one = h.one })))
       ],
     );
   }
 
-  none_here : (Meets row peer k → ⊥) → (i j : ℕ) → Collides C k i j → i ≡ k → ⊥
+  none_here : (Meets set peer k → ⊥) → (i j : ℕ) → Collides C k i j → i ≡ k → ⊥
   none_here none i j h f = let q = common_of i j f h in none (record { other = j; differs = q.differs; first = q.first; second = q.second })
 
-  pub collected_none : (arbiters : List Bool) (kept : SiteSet) → IsCollected C m arbiters kept → (Meets row peer k → ⊥) → IsCollected C k arbiters kept
+  pub collected_none : (arbiters : List Bool) (kept : SiteSet) → IsCollected C m arbiters kept → (Meets set peer k → ⊥) → IsCollected C k arbiters kept
   collected_none arbiters kept t none = record {
     count = t.count;
     units = λ u. (

@@ -10,18 +10,18 @@ use Rattle.safl_sites.specs.declared.keep.Keeping.{Keeping}
 use Rattle.safl_sites.specs.declared.site_set.SiteSet.{SiteSet}
 use Rattle.safl_sites.specs.Keeping.{fed_by, IsHeld, IsHeldIn, IsHeldHere, Walks, WalksIn, Binds}
 use Rattle.safl_sites.specs.Kept.{bool_at, feeds, feeds_any, feeds_each, Uses, Decides, Held}
-use Rattle.safl_sites.specs.Rows.{has, Has, HasAt, Adds, no_row}
+use Rattle.safl_sites.specs.SiteSets.{has, Has, HasAt, Adds, no_set}
 use Rattle.safl_sites.specs.Touched.{IsTouched}
 use Rattle.safl_sites.proofs.AddsInSteps.{adds_then, adds_as, adds_none}
 use Rattle.safl_sites.proofs.EarlierConflicts.{clash}
-use Rattle.safl_sites.proofs.RowsByWords.{no_row_has}
+use Rattle.safl_sites.proofs.SetsByWords.{no_set_has}
 
 never : (b : Bool) → (b ≡ true → ⊥) → b ≡ false
 never true h = absurd (h refl)
 never false h = refl
 
-bool_at_fed : (k : ℕ) (R : List SiteSet) (i : ℕ) → bool_at (fed_by k R) i ≡ has (get_or R i no_row) k
-bool_at_fed k [] i = sym (never (has no_row k) (no_row_has k))
+bool_at_fed : (k : ℕ) (R : List SiteSet) (i : ℕ) → bool_at (fed_by k R) i ≡ has (get_or R i no_set) k
+bool_at_fed k [] i = sym (never (has no_set k) (no_set_has k))
 bool_at_fed k (r ∷ R) zero = refl
 bool_at_fed k (r ∷ R) (suc i) = bool_at_fed k R i
 
@@ -43,7 +43,7 @@ or_three false true r = adds_as (λ h. refl) (λ h. inl (inr refl))
 or_three false false r =
     adds_as (λ h. elim h [ inl h ↦ elim h [ inl e ↦ absurd (clash false refl e) | inr e ↦ absurd (clash false refl e) ] | inr e ↦ e ]) (λ h. inr h)
 
--- a row that was empty has what joined it
+-- a set that was empty has what joined it
 pub full : {P : Type 0} (d e : SiteSet) (k : ℕ) → has d k ≡ false → Adds (Has d k) (Has e k) P → Has e k → P
 full d e k none h x = elim (h.splits x) [ inl y ↦ absurd (clash (has d k) none y) | inr y ↦ y ]
 
@@ -150,8 +150,8 @@ module _ (C : Program) (R : List SiteSet) where
   touched_by k M bound ts b e fed h =
       let i : ℕ = h.slot - length R in
       let at : length (fed_by k R) + i ≡ h.slot = omega (arith, length_fed k R, h.from) in
-      let is : get_or M h.slot no_row ≡ get_or bound i no_row = ap (λ (l : List SiteSet). get_or l h.slot no_row) e ∙ get_or-append_right R bound h.slot no_row h.from in
-      (i, ap (λ l. bool_at l i) (sym fed) ∙ (bool_at_fed k bound i ∙ (ap (λ (r : SiteSet). has r k) (sym is) ∙ h.row)), subst (λ n. Uses n b) (sym at) h.used)
+      let is : get_or M h.slot no_set ≡ get_or bound i no_set = ap (λ (l : List SiteSet). get_or l h.slot no_set) e ∙ get_or-append_right R bound h.slot no_set h.from in
+      (i, ap (λ l. bool_at l i) (sym fed) ∙ (bool_at_fed k bound i ∙ (ap (λ (r : SiteSet). has r k) (sym is) ∙ h.set)), subst (λ n. Uses n b) (sym at) h.used)
 
   touched_of : (k : ℕ) (M bound : List SiteSet) (ts : Terms) (b : Term) → M ≡ R ++ bound → fed_by k bound ≡ feeds_each k (fed_by k R) ts → (i : ℕ) →
       bool_at (feeds_each k (fed_by k R) ts) i ≡ true → Uses (length (fed_by k R) + i) b → IsTouched M (length R) k b
@@ -159,9 +159,9 @@ module _ (C : Program) (R : List SiteSet) where
       let at : length (fed_by k R) + i ≡ length R + i = ap (λ n. n + i) (length_fed k R) in
       let from : length R ≤ length R + i = omega arith in
       let back : length R + i - length R ≡ i = omega arith in
-      let is : get_or M (length R + i) no_row ≡ get_or bound i no_row = ap (λ (l : List SiteSet). get_or l (length R + i) no_row) e ∙
-      (get_or-append_right R bound (length R + i) no_row from ∙ ap (λ n. get_or bound n no_row) back) in
-      record { slot = length R + i; from = from; used = subst (λ n. Uses n b) at used; row = ap (λ (r : SiteSet). has r k) is ∙ (sym (bool_at_fed k bound i) ∙ (ap (λ l. bool_at l i) fed ∙ h)) }
+      let is : get_or M (length R + i) no_set ≡ get_or bound i no_set = ap (λ (l : List SiteSet). get_or l (length R + i) no_set) e ∙
+      (get_or-append_right R bound (length R + i) no_set from ∙ ap (λ n. get_or bound n no_set) back) in
+      record { slot = length R + i; from = from; used = subst (λ n. Uses n b) at used; set = ap (λ (r : SiteSet). has r k) is ∙ (sym (bool_at_fed k bound i) ∙ (ap (λ l. bool_at l i) fed ∙ h)) }
 
   pub walks_let : (M : List SiteSet) (f g : SiteSet) (a0 a1 a2 a3 : Keeping) (ts : Terms) (b : Term) → Binds C R M a0 a1 ts → a2.decides ≡ a1.decides
       → ((k : ℕ) → 1 ≤ k → k ≤ C.sites → Adds (Has a1.held k) (Has a2.held k) (IsHeldHere C M (length R) k b))
@@ -236,7 +236,7 @@ module _ (C : Program) (R : List SiteSet) where
     kept = λ k x y. adds_none (λ h. h.held);
   }
 
-  -- the first binding's row goes before those of the rest
+  -- the first binding's set goes before those of the rest
   pub binds_more : (M : List SiteSet) (d e : SiteSet) (a0 a1 a2 : Keeping) (t : Term) (ts : Terms) → ((k : ℕ) → has d k ≡ false) → Walks C R d e a0 a1
       t → (hs : Binds C R M a1 a2 ts) → Binds C R (R ++ (e ∷ hs.bound)) a0 a2 (Cons t ts)
   unfolding feeds Decides Held

@@ -8,7 +8,7 @@ use Rattle.safl_term.specs.Tree.{shown_term, shown_terms}
 use Rattle.safl_sites.specs.declared.keep.Keeping.{Keeping}
 use Rattle.safl_sites.specs.declared.site_set.SiteSet.{SiteSet}
 use Rattle.safl_sites.specs.Keeping.{IsHeldHere, Walks, WalksIn, Binds}
-use Rattle.safl_sites.specs.Rows.{Adds}
+use Rattle.safl_sites.specs.SiteSets.{Adds}
 
 module _ {C : Program} where
   pub walks_tree : {R S : List SiteSet} {f g : SiteSet} {a b : Keeping} {x y : declared.Term} → S ≡ R → x ≡ y → Walks C S f g a b (shown_term x) → Walks C R f g a b (shown_term y)

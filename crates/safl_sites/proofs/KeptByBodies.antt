@@ -11,16 +11,16 @@ use Rattle.safl_sites.specs.Filling.{IsFilled}
 use Rattle.safl_sites.specs.Keeping.{fed_by, IsHeld, Walks, MayKeep}
 use Rattle.safl_sites.specs.Kept.{Decides}
 use Rattle.safl_sites.specs.Peers.{ArePeers}
-use Rattle.safl_sites.specs.Rows.{has, Has, HasAt, Adds}
+use Rattle.safl_sites.specs.SiteSets.{has, Has, HasAt, Adds}
 use Rattle.safl_sites.proofs.AddsInSteps.{adds_as, adds_then}
 use Rattle.safl_sites.proofs.TablesByBodies.{body_part}
 use Rattle.safl_sites.proofs.LetsReach.{body_reached}
 use Rattle.safl_sites.proofs.FoundByParts.{full}
 use Rattle.safl_sites.proofs.NumbersFollow.{sited, own_site}
 
-fed_empty : (k : ℕ) (rows : List SiteSet) → ((i : ℕ) → HasAt rows i k → ⊥) → fed_by k rows ≡ replicate (length rows) false
+fed_empty : (k : ℕ) (sets : List SiteSet) → ((i : ℕ) → HasAt sets i k → ⊥) → fed_by k sets ≡ replicate (length sets) false
 fed_empty k [] none = refl
-fed_empty k (r ∷ rows) none = ap (λ b. b ∷ fed_by k rows) (off (has r k) (none 0)) ∙ ap (λ l. false ∷ l) (fed_empty k rows (λ i. none (suc i))) where
+fed_empty k (r ∷ sets) none = ap (λ b. b ∷ fed_by k sets) (off (has r k) (none 0)) ∙ ap (λ l. false ∷ l) (fed_empty k sets (λ i. none (suc i))) where
   off : (b : Bool) → (b ≡ true → ⊥) → b ≡ false
   off true h = absurd (h refl)
   off false h = refl
@@ -58,7 +58,7 @@ module _ (p : CheckedProgram) (h : IsChecked p) where
     reach = record {
       caller = g;
       part = body_part p h g within;
-      below = record { count = t.count; top = omega (arith, (h.formed.first g within).0); rows = λ v k less. t.rows v k };
+      below = record { count = t.count; top = omega (arith, (h.formed.first g within).0); sets = λ v k less. t.sets v k };
       few = h.limits.sites;
     };
     sites = sites;
@@ -88,7 +88,7 @@ module _ (p : CheckedProgram) (h : IsChecked p) where
               caller = at;
               because = z.other;
               other = z.differs;
-              same = sym ((sites.rows (unit_for C k) z.other).0 z.second).unit;
+              same = sym ((sites.sets (unit_for C k) z.other).0 z.second).unit;
               why = inl (full a.decides b.decides k (none_decides k) decided y, (table z.other).0 z.first);
             }
       ])
@@ -109,7 +109,7 @@ module _ (p : CheckedProgram) (h : IsChecked p) where
                   differs = x.other;
                   first = (table x.because).1 z;
                   second =
-                      (sites.rows (unit_for C k) x.because).1 (record { least = o.least; most = o.most; unit = sym x.same });
+                      (sites.sets (unit_for C k) x.because).1 (record { least = o.least; most = o.most; unit = sym x.same });
                 },
               )
         ];

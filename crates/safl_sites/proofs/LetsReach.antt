@@ -12,7 +12,7 @@ use Rattle.safl_sites.specs.Parts.{IsPart}
 use Rattle.safl_sites.specs.Keeping.{IsHeldHere}
 use Rattle.safl_sites.specs.Peers.{IsSiteOf, ArePeers}
 use Rattle.safl_sites.specs.Reach.{MayReach}
-use Rattle.safl_sites.specs.Rows.{has, Has, Adds, Meets, no_row}
+use Rattle.safl_sites.specs.SiteSets.{has, Has, Adds, Meets, no_set}
 use Rattle.safl_sites.specs.Touched.{IsTouched}
 use Rattle.safl_sites.proofs.FoundByParts.{same_bool}
 use Rattle.std.proofs.lemmas.Bool.{cases_eq}
@@ -89,23 +89,23 @@ module _ (p : CheckedProgram) (h : IsChecked p) (units slots peers : List SiteSe
   D = p.program
 
   pub held_here : (used within : SiteSet) (k : ℕ) → (Has used k → IsTouched slots low k body) → ((j : ℕ) → Has within j → InBody D j body) → Has used
-      k → Meets within (get_or peers (unit_for D k) no_row) k → IsHeldHere D slots low k body
+      k → Meets within (get_or peers (unit_for D k) no_set) k → IsHeldHere D slots low k body
   held_here used within k u v x y = record {
     other = y.other;
     differs = y.differs;
-    same = sym ((sites.rows (unit_for D k) y.other).0 y.second).unit;
+    same = sym ((sites.sets (unit_for D k) y.other).0 y.second).unit;
     touched = u x;
     reached = v y.other y.first;
   }
 
-  pub held_meets : (within : SiteSet) (k : ℕ) → ((j : ℕ) → InBody D j body → Has within j) → IsHeldHere D slots low k body → Meets within (get_or peers (unit_for D k) no_row) k
+  pub held_meets : (within : SiteSet) (k : ℕ) → ((j : ℕ) → InBody D j body → Has within j) → IsHeldHere D slots low k body → Meets within (get_or peers (unit_for D k) no_set) k
   held_meets within k v x =
       let s = body_site p h units n x.other body m x.reached in
       record {
         other = x.other;
         differs = x.differs;
         first = v x.other x.reached;
-        second = (sites.rows (unit_for D k) x.other).1 (record { least = s.least; most = s.most; unit = sym x.same });
+        second = (sites.sets (unit_for D k) x.other).1 (record { least = s.least; most = s.most; unit = sym x.same });
       }
 
 -- ---- what is in reach of a let's body

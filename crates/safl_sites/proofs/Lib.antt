@@ -1,12 +1,12 @@
-pub mod RowPrograms
-mod Rows
-pub mod RowsByWords
+pub mod SmallPrograms
+mod WorkedPlans
+pub mod SetsByWords
 pub mod AddsInSteps
 pub mod PartsOfParts
 pub mod ReachBySites
 pub mod NodesOfTerms
-pub mod RowsJoined
-pub mod RowsTouched
+pub mod SetsJoined
+pub mod SetsTouched
 pub mod EarlierConflicts
 pub mod NumbersFollow
 pub mod TablesByBodies

@@ -106,7 +106,7 @@ module _ {C : Program} {g n : ℕ} where
       let u = fits_all_le C g (suc h.lo) h.hi ts s in
       record { callee = e1; least = omega (arith, h.least); most = omega (arith, u, h.most); lower = lt; within = h.typed.2 }
 
--- the same with the rows of the units that may be called
+-- the same with the sets of the units that may be called
 module _ {C : Program} {units : List SiteSet} {n : ℕ} where
   pub may_cond : {c a b : Term} → MayReach C units n (If c a b) → MayReach C units n c
   may_cond h = record { caller = h.caller; part = part_cond h.part; below = h.below; few = h.few }

@@ -1,25 +1,25 @@
--- One more site in the rows of its unit.
+-- One more site in the sets of its unit.
 use Rattle.std.proofs.Common.{◌≡◌, ℕ, suc, ◌<◌, ◌≤◌, List, length, length-set, slice_set, sym, ap, ◌∙◌, inl, inr, arith}
 use Rattle.std.proofs.lemmas.Bool.{cases_eq}
 use Rattle.safl_term.specs.Checked.{CheckedProgram, IsChecked}
 use Rattle.safl_term.specs.Program.{Program, unit_for}
 use Rattle.safl_sites.specs.declared.site_set.SiteSet.{SiteSet}
 use Rattle.safl_sites.specs.Peers.{ArePeers}
-use Rattle.safl_sites.specs.Rows.{Has, HasAt, Adds}
-use Rattle.safl_sites.proofs.RowsJoined.{row_more}
+use Rattle.safl_sites.specs.SiteSets.{Has, HasAt, Adds}
+use Rattle.safl_sites.proofs.SetsJoined.{set_more}
 
 pub unit_within : (p : CheckedProgram) → IsChecked p → (k : ℕ) → 1 ≤ k → k ≤ p.program.sites → unit_for p.program k < p.program.functions
 unit_within p h k least most =
     let calls = h.formed.calls k (omega arith) most in
     omega (arith, (h.formed.first (p.program.callee k) calls.1).0, calls.1)
 
-pub peers_more : (C : Program) (m k : ℕ) (peers : List SiteSet) (row : SiteSet) → k ≡ suc m → unit_for C k < C.functions → ArePeers C m peers →
-    ((j : ℕ) → Adds (HasAt peers (unit_for C k) j) (Has row j) (j ≡ k)) → ArePeers C k (slice_set peers (unit_for C k) row)
-peers_more C m k peers row e within t insert = record {
-  count = length-set peers (unit_for C k) row ∙ t.count;
-  rows = λ u j.
-      let n = row_more peers (unit_for C k) row u j (omega (arith, t.count)) (insert j) in
-      let b = t.rows u j in (
+pub peers_more : (C : Program) (m k : ℕ) (peers : List SiteSet) (set : SiteSet) → k ≡ suc m → unit_for C k < C.functions → ArePeers C m peers →
+    ((j : ℕ) → Adds (HasAt peers (unit_for C k) j) (Has set j) (j ≡ k)) → ArePeers C k (slice_set peers (unit_for C k) set)
+peers_more C m k peers set e within t insert = record {
+  count = length-set peers (unit_for C k) set ∙ t.count;
+  sets = λ u j.
+      let n = set_more peers (unit_for C k) set u j (omega (arith, t.count)) (insert j) in
+      let b = t.sets u j in (
         λ x. elim (n.splits x) [
           | inl y ↦ let s = b.0 y in record { least = s.least; most = omega (arith, s.most); unit = s.unit }
           | inr (f, g) ↦ record { least = omega arith; most = omega arith; unit = ap (λ i. unit_for C i) g ∙ f }

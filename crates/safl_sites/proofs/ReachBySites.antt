@@ -6,7 +6,7 @@ use Rattle.safl_term.specs.Standing.{Stands, StandsIn}
 use Rattle.safl_term.specs.Terms.{Term, Terms, Const, Var, Op, If, Let, Call, Loop, Nil, Cons}
 use Rattle.safl_sites.specs.Conflicts.{Reaches, Here, Through, ReachesIn}
 use Rattle.safl_sites.specs.Reach.{IsInReach, MayReach}
-use Rattle.safl_sites.specs.Rows.{HasAt, Adds}
+use Rattle.safl_sites.specs.SiteSets.{HasAt, Adds}
 use Rattle.safl_term.specs.declared.term.Term as declared
 use Rattle.safl_term.specs.Tree.{shown_term, shown_terms}
 use Rattle.safl_sites.specs.declared.site_set.SiteSet.{SiteSet}
@@ -125,7 +125,7 @@ module _ {C : Program} {units : List SiteSet} {n f k : ℕ} {ts : Terms} where
   pub site_below : MayReach C units n (Call f k ts) → k < 4032
   site_below h = omega (arith, (may_call h).most, h.few)
 
-  pub row_of_unit : {A B : Type 0} (h : MayReach C units n (Call f k ts)) (u j : ℕ) → u ≡ C.unit f → Adds A B (HasAt units u j) → Adds A B (IsInReach C (C.unit f) j)
-  row_of_unit {A} {B} h u j e x =
-      let both = h.below.rows (C.unit f) j (may_call h).lower in
+  pub set_of_unit : {A B : Type 0} (h : MayReach C units n (Call f k ts)) (u j : ℕ) → u ≡ C.unit f → Adds A B (HasAt units u j) → Adds A B (IsInReach C (C.unit f) j)
+  set_of_unit {A} {B} h u j e x =
+      let both = h.below.sets (C.unit f) j (may_call h).lower in
       adds_as (λ y. both.0 (subst (λ i. HasAt units i j) e y)) (λ y. subst (λ i. HasAt units i j) (sym e) (both.1 y)) x

@@ -12,7 +12,7 @@ use Rattle.safl_sites.specs.Kept.{Kept, Decides, Held}
 use Rattle.safl_sites.specs.Parallel.{After, AfterIn, ComesBefore}
 use Rattle.safl_sites.specs.Plan.{IsPlan}
 use Rattle.safl_sites.specs.Planned.{Flags, choice_of}
-use Rattle.safl_sites.specs.Rows.{has, Has, Adds}
+use Rattle.safl_sites.specs.SiteSets.{has, Has, Adds}
 use Rattle.safl_sites.proofs.EarlierConflicts.{conflict_of, conflict_by}
 use Rattle.safl_sites.proofs.LetsReach.{body_reached}
 use Rattle.safl_sites.proofs.NumbersFollow.{IsSited}

@@ -6,16 +6,16 @@ use Rattle.safl_sites.specs.declared.site_set.SiteSet.{SiteSet}
 use Rattle.safl_sites.specs.Conflicts.{Reaches}
 use Rattle.safl_sites.specs.Kept.{Decides, Held}
 use Rattle.safl_sites.specs.Reach.{IsInReach}
-use Rattle.safl_sites.specs.Rows.{Has, HasAt, Meets, no_row}
+use Rattle.safl_sites.specs.SiteSets.{Has, HasAt, Meets, no_set}
 
 -- the set of each unit has the sites in reach of the unit
 pub record UnitTable (C : Program) (units : List SiteSet) : Type 0 where
   pub count : length units ≡ C.functions
-  pub rows : (u k : ℕ) → HasAt units u k ↔ IsInReach C u k
+  pub sets : (u k : ℕ) → HasAt units u k ↔ IsInReach C u k
 
 -- as a walk found, the site is held, or it decides a condition and another site of its unit is in reach
 abbrev pub MustKeep : Program → SiteSet → List SiteSet → Keeping → ℕ → Type 0
-MustKeep C reach peers keeps k = Has keeps.held k ⊎ (Has keeps.decides k × Meets reach (get_or peers (unit_for C k) no_row) k)
+MustKeep C reach peers keeps k = Has keeps.held k ⊎ (Has keeps.decides k × Meets reach (get_or peers (unit_for C k) no_set) k)
 
 -- the site has to keep its word, and is one of those from `from` to `till`
 pub record IsOwnKept (C : Program) (reach : SiteSet) (peers : List SiteSet) (keeps : Keeping) (from till k : ℕ) : Type 0 where

@@ -4,7 +4,7 @@ use Rattle.safl_term.specs.Program.{Program, unit_for}
 use Rattle.safl_sites.specs.declared.site_set.SiteSet.{SiteSet}
 use Rattle.safl_sites.specs.Parallel.{ComesBefore}
 use Rattle.safl_sites.specs.Peers.{IsSiteOf}
-use Rattle.safl_sites.specs.Rows.{Has}
+use Rattle.safl_sites.specs.SiteSets.{Has}
 
 -- `later` is a site up to `top`, and `earlier` is another site of its unit that comes before it
 pub record Collides (C : Program) (top later earlier : ℕ) : Type 0 where

@@ -4,7 +4,7 @@ use Rattle.safl_term.specs.Program.{Program}
 use Rattle.safl_sites.specs.declared.site_set.SiteSet.{SiteSet}
 use Rattle.safl_sites.specs.Conflicts.{Reaches}
 use Rattle.safl_sites.specs.Parallel.{After}
-use Rattle.safl_sites.specs.Rows.{HasAt}
+use Rattle.safl_sites.specs.SiteSets.{HasAt}
 
 -- site k is in reach of the body of a function of unit u that is below f
 pub record ReachedBelow (C : Program) (f u k : ℕ) : Type 0 where
@@ -25,6 +25,6 @@ pub record IsFilled (C : Program) (f : ℕ) (bodies units after : List SiteSet) 
   pub bodies_count : length bodies ≡ C.functions
   pub units_count : length units ≡ C.functions
   pub after_count : length after ≡ suc C.sites
-  pub body_rows : (g k : ℕ) → g < f → HasAt bodies g k ↔ Reaches C k (C.body g)
-  pub unit_rows : (u k : ℕ) → HasAt units u k ↔ ReachedBelow C f u k
-  pub after_rows : (k b : ℕ) → HasAt after b k ↔ StandsAfter C f k b
+  pub body_sets : (g k : ℕ) → g < f → HasAt bodies g k ↔ Reaches C k (C.body g)
+  pub unit_sets : (u k : ℕ) → HasAt units u k ↔ ReachedBelow C f u k
+  pub after_sets : (k b : ℕ) → HasAt after b k ↔ StandsAfter C f k b

@@ -1,4 +1,4 @@
-pub mod Rows
+pub mod SiteSets
 pub mod Parts
 pub mod Conflicts
 pub mod Reach

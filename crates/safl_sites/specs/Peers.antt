@@ -2,7 +2,7 @@
 use Rattle.std.specs.Prelude.{◌≡◌, ℕ, ◌≤◌, List, length, ◌↔◌}
 use Rattle.safl_term.specs.Program.{Program, unit_for}
 use Rattle.safl_sites.specs.declared.site_set.SiteSet.{SiteSet}
-use Rattle.safl_sites.specs.Rows.{HasAt}
+use Rattle.safl_sites.specs.SiteSets.{HasAt}
 
 -- site k, which is at most `top`, calls unit u
 pub record IsSiteOf (C : Program) (top u k : ℕ) : Type 0 where
@@ -12,4 +12,4 @@ pub record IsSiteOf (C : Program) (top u k : ℕ) : Type 0 where
 
 pub record ArePeers (C : Program) (top : ℕ) (peers : List SiteSet) : Type 0 where
   pub count : length peers ≡ C.functions
-  pub rows : (u k : ℕ) → HasAt peers u k ↔ IsSiteOf C top u k
+  pub sets : (u k : ℕ) → HasAt peers u k ↔ IsSiteOf C top u k

@@ -8,7 +8,7 @@ use Rattle.safl_sites.specs.declared.site_set.SiteSet.{SiteSet}
 use Rattle.safl_sites.specs.Conflicts.{Reaches}
 use Rattle.safl_sites.specs.Parallel.{ComesBefore}
 use Rattle.safl_sites.specs.Plan.{Choice, IsPlan}
-use Rattle.safl_sites.specs.Rows.{HasAt}
+use Rattle.safl_sites.specs.SiteSets.{HasAt}
 
 -- a choice as it is stored: by unit, and by site
 pub record Flags : Type 0 where
@@ -57,12 +57,12 @@ planned_code code = code_by (CheckedProgram × Flags) (coded× code flags_code) 
 -- the set of each body has the sites in reach of it
 pub record ReachTable (C : Program) (bodies : List SiteSet) : Type 0 where
   pub count : length bodies ≡ C.functions
-  pub rows : (f k : ℕ) → f < C.functions → HasAt bodies f k ↔ Reaches C k (C.body f)
+  pub sets : (f k : ℕ) → f < C.functions → HasAt bodies f k ↔ Reaches C k (C.body f)
 
 -- the set of each site has the sites that come before it
 pub record BeforeTable (C : Program) (before : List SiteSet) : Type 0 where
   pub count : length before ≡ suc C.sites
-  pub rows : (j k : ℕ) → 1 ≤ k → k ≤ C.sites → HasAt before k j ↔ ComesBefore C j k
+  pub sets : (j k : ℕ) → 1 ≤ k → k ≤ C.sites → HasAt before k j ↔ ComesBefore C j k
 
 pub record IsPlanned (c : CheckedProgram) (l : Flags) (bodies before : List SiteSet) : Type 0 where
   pub checked : IsChecked c

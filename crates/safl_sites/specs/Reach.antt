@@ -6,7 +6,7 @@ use Rattle.safl_term.specs.Terms.{Term, Terms}
 use Rattle.safl_sites.specs.declared.site_set.SiteSet.{SiteSet}
 use Rattle.safl_sites.specs.Conflicts.{Reaches}
 use Rattle.safl_sites.specs.Parts.{IsPart, ArePart}
-use Rattle.safl_sites.specs.Rows.{HasAt}
+use Rattle.safl_sites.specs.SiteSets.{HasAt}
 
 -- site k is in reach of the body of some function of unit u
 pub record IsInReach (C : Program) (u k : ℕ) : Type 0 where
@@ -19,7 +19,7 @@ pub record IsInReach (C : Program) (u k : ℕ) : Type 0 where
 pub record ReachBelow (C : Program) (units : List SiteSet) (u : ℕ) : Type 0 where
   pub count : length units ≡ C.functions
   pub top : u < C.functions
-  pub rows : (v k : ℕ) → v < u → HasAt units v k ↔ IsInReach C v k
+  pub sets : (v k : ℕ) → v < u → HasAt units v k ↔ IsInReach C v k
 
 -- A term of a body, with so many slots in scope. The sets of all units that the term may call are known.
 pub record MayReach (C : Program) (units : List SiteSet) (slots : ℕ) (t : Term) : Type 0 where

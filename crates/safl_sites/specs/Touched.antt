@@ -3,17 +3,17 @@ use Rattle.std.specs.Prelude.{ℕ, ◌≤◌, List}
 use Rattle.safl_term.specs.Terms.{Term, Terms}
 use Rattle.safl_sites.specs.declared.site_set.SiteSet.{SiteSet}
 use Rattle.safl_sites.specs.Kept.{Uses, UsesIn}
-use Rattle.safl_sites.specs.Rows.{HasAt}
+use Rattle.safl_sites.specs.SiteSets.{HasAt}
 
 -- site k is in the set of a slot, from `low` on, that the term uses
-pub record IsTouched (rows : List SiteSet) (low k : ℕ) (t : Term) : Type 0 where
+pub record IsTouched (sets : List SiteSet) (low k : ℕ) (t : Term) : Type 0 where
   pub slot : ℕ
   pub from : low ≤ slot
   pub used : Uses slot t
-  pub row : HasAt rows slot k
+  pub set : HasAt sets slot k
 
-pub record IsTouchedIn (rows : List SiteSet) (low k : ℕ) (ts : Terms) : Type 0 where
+pub record IsTouchedIn (sets : List SiteSet) (low k : ℕ) (ts : Terms) : Type 0 where
   pub slot : ℕ
   pub from : low ≤ slot
   pub used : UsesIn slot ts
-  pub row : HasAt rows slot k
+  pub set : HasAt sets slot k

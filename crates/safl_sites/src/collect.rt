@@ -27,10 +27,10 @@ pub fn collect_site(
     ensures { IsCollected c.now.program k arbiters.new kept.new }
 {
     let unit = c.unit_for(k) as usize;
-    let row = before[k as usize];
-    if row.meets(&peers[unit], k) {
+    let set = before[k as usize];
+    if set.meets(&peers[unit], k) {
         arbiters[unit] = true;
         kept.insert(k);
-        kept.add_common(&row, &peers[unit], k);
+        kept.add_common(&set, &peers[unit], k);
     }
 }

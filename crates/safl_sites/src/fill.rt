@@ -2,7 +2,7 @@
 
 ghost use Rattle.std.specs.Prelude.{◌≡◌, ℕ, suc, ◌<◌, length, IfOk};
 ghost use Rattle.safl_sites.specs.Filling.{IsFilled};
-ghost use Rattle.safl_sites.specs.Rows.{HasAt};
+ghost use Rattle.safl_sites.specs.SiteSets.{HasAt};
 
 use crate::parallel::mark;
 use crate::reach::reach;
@@ -20,13 +20,13 @@ pub struct Tables {
 }
 
 /// A table of `count` empty sets.
-pub fn empty_rows(alloc: Global, count: usize) -> Result<Vec<SiteSet>, AllocError>
+pub fn empty_sets(alloc: Global, count: usize) -> Result<Vec<SiteSet>, AllocError>
     ensures count { IfOk result (λ v. length v.items ≡ count) }
     ensures empty { IfOk result (λ v. (i k : ℕ) → HasAt v.items i k → ⊥) }
 {
     let empty = SiteSet::new();
-    let rows = vec![in alloc; empty; count]?;
-    Ok(rows)
+    let sets = vec![in alloc; empty; count]?;
+    Ok(sets)
 }
 
 /// Fills the tables. The unit of a called function is below that of its caller, so the bodies are taken in rising
@@ -35,9 +35,9 @@ pub fn fill(alloc: Global, c: &Checked) -> Result<Tables, AllocError>
     ensures { IfOk result (λ t. IsFilled c.now.program c.now.program.functions t.bodies.items t.units.items t.after.items) }
 {
     let functions = c.functions();
-    let mut bodies = empty_rows(alloc, functions as usize)?;
-    let mut units = empty_rows(alloc, functions as usize)?;
-    let mut after = empty_rows(alloc, c.sites() as usize + 1)?;
+    let mut bodies = empty_sets(alloc, functions as usize)?;
+    let mut units = empty_sets(alloc, functions as usize)?;
+    let mut after = empty_sets(alloc, c.sites() as usize + 1)?;
     for f in 0..functions {
         fill_body(c, f, &mut bodies, &mut units, &mut after);
     }
@@ -60,9 +60,9 @@ fn fill_body(
     ensures { IsFilled c.now.program (suc f) bodies.new units.new after.new }
 {
     let body = c.body(f);
-    let mut row = SiteSet::new();
-    reach(c, units, body, &mut row);
+    let mut set = SiteSet::new();
+    reach(c, units, body, &mut set);
     mark(c, units, body, &SiteSet::new(), after);
-    units[c.unit(f) as usize].union(&row);
-    bodies[f as usize] = row;
+    units[c.unit(f) as usize].union(&set);
+    bodies[f as usize] = set;
 }

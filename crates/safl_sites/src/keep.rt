@@ -6,7 +6,7 @@ ghost use Rattle.safl_term.specs.Tree.{shown_term, shown_terms};
 ghost use Rattle.safl_sites.specs.Kept.{InBody};
 ghost use Rattle.safl_sites.specs.Keeping.{MayKeep, MayKeepIn, Walks, WalksIn, Binds, HoldsHere};
 ghost use Rattle.safl_sites.specs.Reach.{MayReach};
-ghost use Rattle.safl_sites.specs.Rows.{Gains};
+ghost use Rattle.safl_sites.specs.SiteSets.{Gains};
 
 use crate::reach::{reach, reach_in};
 use crate::site_set::SiteSet;
@@ -117,11 +117,11 @@ fn bind_all(
     let Some((first, rest)) = ts.split_first() else {
         return Ok(());
     };
-    let mut row = SiteSet::new();
-    walk(c, units, peers, slots, first, &mut row, keeps)?;
+    let mut set = SiteSet::new();
+    walk(c, units, peers, slots, first, &mut set, keeps)?;
     let at = slots.len();
     bind_all(c, units, peers, slots, rest, keeps)?;
-    slots.insert(at, row)?;
+    slots.insert(at, set)?;
     Ok(())
 }
 
@@ -153,17 +153,17 @@ fn hold(
 }
 
 // Adds to a set the sites in reach of the body of a let, or of its arguments if the body is a call.
-fn reach_body(c: &Checked, units: &[SiteSet], body: &Term, row: &mut SiteSet)
+fn reach_body(c: &Checked, units: &[SiteSet], body: &Term, set: &mut SiteSet)
     requires { (n : ℕ) × MayReach c.now.program units.now n (shown_term body.now) }
-    ensures { Gains row.old row.new (λ k. InBody c.now.program k (shown_term body.now)) }
+    ensures { Gains set.old set.new (λ k. InBody c.now.program k (shown_term body.now)) }
 {
     match body {
-        Term::Call(_, _, ts) => reach_in(c, units, ts, row),
+        Term::Call(_, _, ts) => reach_in(c, units, ts, set),
         Term::Const(_) => {}
         Term::Var(_) => {}
-        Term::If(_, _, _) => reach(c, units, body, row),
-        Term::Let(_, _, _) => reach(c, units, body, row),
-        Term::Op(_, _) => reach(c, units, body, row),
-        Term::Loop(_, _) => reach(c, units, body, row),
+        Term::If(_, _, _) => reach(c, units, body, set),
+        Term::Let(_, _, _) => reach(c, units, body, set),
+        Term::Op(_, _) => reach(c, units, body, set),
+        Term::Loop(_, _) => reach(c, units, body, set),
     }
 }

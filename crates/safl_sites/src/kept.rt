@@ -5,9 +5,9 @@ ghost use Rattle.safl_term.specs.Checked.{IsChecked};
 ghost use Rattle.safl_sites.specs.Bodies.{UnitTable, MustKeep, IsOwnKept, IsBodyKept, IsKeptBelow};
 ghost use Rattle.safl_sites.specs.Peers.{ArePeers};
 ghost use Rattle.safl_sites.specs.Planned.{ReachTable};
-ghost use Rattle.safl_sites.specs.Rows.{Gains};
+ghost use Rattle.safl_sites.specs.SiteSets.{Gains};
 
-use crate::fill::empty_rows;
+use crate::fill::empty_sets;
 use crate::keep::{Keeping, walk};
 use crate::site_set::SiteSet;
 use safl_term::Checked;
@@ -49,7 +49,7 @@ fn keep_body(
     requires peers { ArePeers c.now.program c.now.program.sites peers.now }
     ensures { OnOk result (Gains kept.old kept.new (IsBodyKept c.now.program g)) }
 {
-    let mut slots = empty_rows(alloc, c.params(g) as usize)?;
+    let mut slots = empty_sets(alloc, c.params(g) as usize)?;
     let mut feeds = SiteSet::new();
     let mut keeps = Keeping {
         decides: SiteSet::new(),

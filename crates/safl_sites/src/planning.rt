@@ -5,7 +5,7 @@ ghost use Rattle.safl_sites.specs.Collecting.{IsCollected};
 ghost use Rattle.safl_sites.specs.Peers.{ArePeers};
 ghost use Rattle.safl_sites.specs.Plan.{IsPlan};
 ghost use Rattle.safl_sites.specs.Planned.{BeforeTable, IsPlanned};
-ghost use Rattle.safl_sites.specs.Rows.{has};
+ghost use Rattle.safl_sites.specs.SiteSets.{has};
 
 use crate::collect::collect_site;
 use crate::fill::{Tables, fill};
@@ -84,14 +84,14 @@ fn collect(
 }
 
 // For each number below a bound, whether it is in a set.
-fn listed(alloc: Global, row: &SiteSet, count: u32) -> Result<Vec<bool>, AllocError>
+fn listed(alloc: Global, set: &SiteSet, count: u32) -> Result<Vec<bool>, AllocError>
     requires { count < 4033 }
     ensures count { IfOk result (λ v. length v.items ≡ count) }
-    ensures items { IfOk result (λ v. (k : ℕ) → k < count → get_or v.items k false ≡ has row.now k) }
+    ensures items { IfOk result (λ v. (k : ℕ) → k < count → get_or v.items k false ≡ has set.now k) }
 {
     let mut items = vec![in alloc; false; count as usize]?;
     for k in 0..count {
-        items[k as usize] = row.contains(k);
+        items[k as usize] = set.contains(k);
     }
     Ok(items)
 }

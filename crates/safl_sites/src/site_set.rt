@@ -1,7 +1,7 @@
 //! Sets of call sites.
 
 ghost use Rattle.std.specs.Prelude.{◌≡◌, ◌<◌, ◌↔◌, ℕ, false, IsTrue};
-ghost use Rattle.safl_sites.specs.Rows.{has, Has, IsCommon, Meets, Gains};
+ghost use Rattle.safl_sites.specs.SiteSets.{has, Has, IsCommon, Meets, Gains};
 
 /// The number of machine words of a set. It has a bit for each site number, up to 4,000.
 const WORDS: usize = 63;

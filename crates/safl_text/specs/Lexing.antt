@@ -5,6 +5,6 @@ use Rattle.safl_text.specs.declared.error.LexErr.{LexErr}
 use Rattle.safl_text.specs.declared.error.LexErr.TheVariants as errors
 
 -- the error is the first lexical fault of the source, whose two numbers are 0, or out of memory
-abbrev pub Refuses : List ℕ → LexErr → Type 0
-Refuses source (errors.Refused f) = HasLexicalFault source f.rule f.place × (f.first ≡ 0) × (f.second ≡ 0)
-Refuses source errors.NoMemory = Unit {0}
+abbrev pub RefusesTokens : List ℕ → LexErr → Type 0
+RefusesTokens source (errors.Refused f) = HasLexicalFault source f.rule f.place × (f.first ≡ 0) × (f.second ≡ 0)
+RefusesTokens source errors.NoMemory = Unit {0}

@@ -3,7 +3,7 @@
 ghost use Rattle.std.specs.Prelude.{◌≡◌, ◌≤◌, length, IfOk, IfErr};
 ghost use Rattle.safl_word.specs.Limits.{source_max};
 ghost use Rattle.safl_word.specs.Tokens.{HasTokens};
-ghost use Rattle.safl_text.specs.Lexing.{Refuses};
+ghost use Rattle.safl_text.specs.Lexing.{RefusesTokens};
 ghost use Rattle.safl_text.specs.Spans.{LieInOrder};
 
 use crate::error::LexErr;
@@ -16,7 +16,7 @@ pub fn lex(alloc: Global, source: &[u8]) -> Result<Vec<Token>, LexErr>
     requires { length source.now ≤ source_max }
     ensures tokens { IfOk result (λ tokens. HasTokens source.now tokens.items) }
     ensures spans { IfOk result (λ tokens. LieInOrder source.now 0 tokens.items) }
-    ensures refused { IfErr result (λ e. Refuses source.now e) }
+    ensures refused { IfErr result (λ e. RefusesTokens source.now e) }
 {
     let mut tokens = Vec::new(alloc);
     let mut place = 0;

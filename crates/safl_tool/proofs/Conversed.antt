@@ -30,12 +30,12 @@ use Rattle.safl_tool.specs.Calling.{Converses, GivesReplies, IsMisscripted, Eval
 use Rattle.safl_tool.specs.CommandTasks.{RefusesSession}
 use Rattle.safl_task.specs.Endings.{outside, may_give}
 use Rattle.safl_tool.specs.Lines.{count_line, argument_line, numbered_line}
-use Rattle.safl_tool.specs.Opening.{IsOpening}
+use Rattle.safl_tool.specs.ReadySession.{IsReadySession}
 use Rattle.safl_tool.specs.Sources.{IsCompiled}
 use Rattle.safl_task.specs.Tasks.{Given, status_if}
 use Rattle.safl_tool.specs.Answers.{IsTranscript, IsGiven, IsGivenInPart}
 use Rattle.safl_tool.specs.declared.answer.Answer.TheVariants as answer
-use Rattle.safl_tool.specs.declared.session.Opening.{Opening}
+use Rattle.safl_tool.specs.declared.session.ReadySession.{ReadySession}
 use Rattle.safl_task.specs.declared.status.Status.{Status}
 use Rattle.safl_task.specs.declared.status.Status.TheVariants as status
 use Rattle.safl_task.proofs.Ending.{same_all, same_parts}
@@ -88,7 +88,7 @@ reset_at [] s = refl
 reset_at (g ∷ gs) zero = refl
 reset_at (g ∷ gs) (suc s) = reset_at gs s
 
-module _ (source script : List ℕ) (o : Opening) (is : IsOpening source script o) where
+module _ (source script : List ℕ) (o : ReadySession) (is : IsReadySession source script o) where
   abbrev net : Netlist
   net = is.net
 
@@ -138,7 +138,7 @@ module _ (source script : List ℕ) (o : Opening) (is : IsOpening source script 
 
 -- ---- the transcript was sent
 
-module _ (o : Opening) (limit : ℕ) (shelf : ShelfState) (out out' : SinkState) where
+module _ (o : ReadySession) (limit : ℕ) (shelf : ShelfState) (out out' : SinkState) where
   pub held_given : (complete : Bool) → IsHeld o.session o.calls limit out.sent out'.sent complete → out'.faults ≡ out.faults → (s : Status) → s ≡ status_if complete → IsGiven
       (answer.Replies o limit) (outside shelf out) (outside shelf out') s
   held_given complete h quiet s e = record {

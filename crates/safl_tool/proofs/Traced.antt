@@ -19,7 +19,7 @@ use Rattle.safl_probe.specs.Asked.{Asked, AreApart, IsAsked}
 use Rattle.safl_probe.specs.Ending.{Ending, RunsEnd}
 use Rattle.safl_probe.specs.Growth.{AllGrow, Made, OldOrPart}
 use Rattle.safl_probe.specs.Runs.{IsRunOf, until_done, trace_at}
-use Rattle.safl_command.specs.Traces.{Traces, are_apart, shown as shown_traces}
+use Rattle.safl_command.specs.Traces.{Traces, are_apart, shown_traces}
 use Rattle.safl_session.specs.Lines.{AreArguments}
 use Rattle.safl_task.specs.Endings.{Outside, outside, LeavesAll, LeavesParts}
 use Rattle.safl_task.specs.Tasks.{Given, end_of, files_of}

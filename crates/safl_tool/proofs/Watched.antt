@@ -7,7 +7,7 @@ use Rattle.safl_io.specs.Sink.{SinkState}
 use Rattle.safl_net.specs.Netlist.{Netlist}
 use Rattle.safl_probe.specs.Probing.{ProbeState}
 use Rattle.safl_probe.specs.Asked.{Asked}
-use Rattle.safl_command.specs.Commands.{Command, Sim, shown}
+use Rattle.safl_command.specs.Commands.{Command, Sim, shown_command}
 use Rattle.safl_command.specs.declared.command.Command as code
 use Rattle.safl_command.specs.declared.command.Command.TheVariants as command
 use Rattle.safl_command.specs.declared.traces.Traces as given
@@ -79,7 +79,7 @@ abbrev pub HasNoRun : code.Command → Type 0
 HasNoRun (command.Sim input limit traces args) = ⊥
 HasNoRun _ = Unit {0}
 
-pub shows_none : (r : Result Answer Refusal) (m : code.Command) (cs : List (List ℕ)) → HasNoRun m → IfOk r (ShowsFor (shown m) cs)
+pub shows_none : (r : Result Answer Refusal) (m : code.Command) (cs : List (List ℕ)) → HasNoRun m → IfOk r (ShowsFor (shown_command m) cs)
 shows_none (Err r) m cs k = tt
 shows_none (Ok a) (command.Sim input limit traces args) cs k = absurd k
 shows_none (Ok a) m cs k = λ asks ps qs told. tt

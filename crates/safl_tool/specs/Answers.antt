@@ -22,7 +22,7 @@ use Rattle.safl_session.specs.Laws.{AreCallsOf}
 use Rattle.safl_session.specs.Replies.{AreReplies}
 use Rattle.safl_sim.specs.declared.done.Done.{Done as Reply}
 use Rattle.safl_session.specs.Holding.{IsReady}
-use Rattle.safl_command.specs.Traces.{Traces, shown as shown_traces}
+use Rattle.safl_command.specs.Traces.{Traces, shown_traces}
 use Rattle.safl_task.specs.Endings.{Outside, outside, LeavesAll, LeavesParts, SameCounts}
 use Rattle.safl_task.specs.Tasks.{Given, Task, only_prints, only_writes, end_of, files_of}
 use Rattle.safl_task.specs.declared.status.Status.{Status}
@@ -35,7 +35,7 @@ use Rattle.safl_tool.specs.declared.answer.Lines.{Lines}
 use Rattle.safl_tool.specs.declared.ready.Ready.{Ready}
 use Rattle.safl_tool.specs.declared.refusal.Refusal.{Refusal}
 use Rattle.safl_tool.specs.declared.refusal.Refusal.TheVariants as refusal
-use Rattle.safl_tool.specs.declared.session.Opening.{Opening}
+use Rattle.safl_tool.specs.declared.session.ReadySession.{ReadySession}
 use Rattle.safl_tool.specs.declared.tracing.TracedRun.{TracedRun}
 
 -- ---- what an answer gives
@@ -45,7 +45,7 @@ abbrev pub printed : Lines → Given
 printed l = only_prints l.comes l.text.items
 
 -- the transcript of the replies to the calls
-pub record IsTranscript (o : Opening) (limit : ℕ) (g : Given) : Type 0 where
+pub record IsTranscript (o : ReadySession) (limit : ℕ) (g : Given) : Type 0 where
   pub replies : List Reply
   pub are : AreReplies o.session.net limit (slice_index o.session.state) o.calls replies
   pub is : g ≡ told limit o.calls replies

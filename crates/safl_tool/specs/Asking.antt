@@ -5,7 +5,7 @@ use Rattle.std.specs.declared.string.String.{String}
 use Rattle.std.specs.declared.alloc.Global.{Global}
 use Rattle.safl_probe.specs.Probing.{ProbeState}
 use Rattle.safl_probe.specs.Asked.{asked}
-use Rattle.safl_command.specs.Traces.{Traces, shown as shown_traces}
+use Rattle.safl_command.specs.Traces.{Traces, shown_traces}
 use Rattle.safl_command.specs.declared.traces.Traces as given
 use Rattle.safl_tool.specs.Tracing.{AreAskedFor, have_probes, kinds_of, no_traces}
 

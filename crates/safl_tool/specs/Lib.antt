@@ -14,7 +14,7 @@ pub mod Laws
 pub mod BitLevel
 pub mod CommandTasks
 pub mod Refusals
-pub mod Opening
+pub mod ReadySession
 pub mod Asking
 pub mod Readiness
 pub mod Reading

@@ -10,7 +10,7 @@ ghost use Rattle.safl_tool.specs.Tracing.{AreAskedFor};
 
 use crate::ready::Ready;
 use crate::refusal::Refusal;
-use crate::session::{Opening, converse};
+use crate::session::{ReadySession, converse};
 use crate::tracing::{TracedRun, trace};
 use safl_command::Traces;
 use safl_io::{OutErr, Shelf, Sink, write_file};
@@ -33,7 +33,7 @@ pub enum Answer<'a> {
     /// A file to be written: its name and its bytes.
     File { name: &'a str, text: Vec<u8> },
     /// The replies to the calls of a session, each of at most `limit` cycles. Each is printed as it comes.
-    Replies { opening: Opening, limit: u64 },
+    Replies { opening: ReadySession, limit: u64 },
     /// A run with traces: what it gives is printed, and the traces are written to their files.
     Traced(TracedRun<'a>),
 }
@@ -63,7 +63,7 @@ pub fn written<'a>(
 
 /// The answer of a session, or its refusal.
 pub fn replied<'a>(
-    opening: Result<Opening, Refusal<'a>>,
+    opening: Result<ReadySession, Refusal<'a>>,
     limit: u64,
 ) -> Result<Answer<'a>, Refusal<'a>>
     ensures { MatchResult opening.entry (λ o. result ≡ Ok (Answer.Replies o limit)) (λ r. result ≡ Err r) }

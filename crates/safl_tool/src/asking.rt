@@ -1,7 +1,7 @@
 //! Which probes are asked for traces, and for which files.
 
 ghost use Rattle.std.specs.Prelude.{◌≡◌, IfOk, map, option_map, string_bytes};
-ghost use Rattle.safl_command.specs.Traces.{files, shown as shown_traces};
+ghost use Rattle.safl_command.specs.Traces.{files, shown_traces};
 ghost use Rattle.safl_probe.specs.Watching.{kind_of};
 ghost use Rattle.safl_tool.specs.Asking.{shown_name, traces_given, AsksFor};
 ghost use Rattle.safl_tool.specs.Tracing.{file_of_kind, is_any_given, without};

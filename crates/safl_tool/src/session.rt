@@ -7,7 +7,7 @@ ghost use Rattle.safl_task.specs.Limits.{script_max};
 ghost use Rattle.safl_word.specs.Limits.{source_max};
 ghost use Rattle.safl_tool.specs.Answers.{GivesByPrinting};
 ghost use Rattle.safl_tool.specs.CommandTasks.{RefusesSession};
-ghost use Rattle.safl_tool.specs.Opening.{IsOpening};
+ghost use Rattle.safl_tool.specs.ReadySession.{IsReadySession};
 ghost use Rattle.safl_tool.specs.Refusals.{RefusesBy};
 ghost use Rattle.safl_tool.specs.declared.answer.Answer.{Answer};
 
@@ -23,22 +23,22 @@ use std::alloc::Global;
 
 /// A session before its first call, and the calls to be made.
 #[derive(Drop)]
-pub struct Opening {
+pub struct ReadySession {
     pub session: Session,
     pub calls: Script,
 }
 
 /// The session of the circuit of the source `name` and the calls of a script, or why the source or the script is
 /// refused.
-pub fn opening_of<'a>(
+pub fn ready_session<'a>(
     alloc: Global,
     name: &'a str,
     source: &[u8],
     script: &[u8],
-) -> Result<Opening, Refusal<'a>>
+) -> Result<ReadySession, Refusal<'a>>
     requires source { length source.now ≤ source_max }
     requires script { length script.now ≤ script_max }
-    ensures opened { IfOk result (IsOpening source.now script.now) }
+    ensures opened { IfOk result (IsReadySession source.now script.now) }
     ensures refused { IfErr result (RefusesBy (RefusesSession name.now source.now script.now)) }
 {
     let net = match compile(alloc, name, source) {
@@ -66,7 +66,7 @@ pub fn opening_of<'a>(
         return Err(Refusal::NoMemory);
     };
     match Session::new(alloc, sim) {
-        Ok(session) => Ok(Opening { session, calls }),
+        Ok(session) => Ok(ReadySession { session, calls }),
         Err(_) => Err(Refusal::NoMemory),
     }
 }
@@ -74,7 +74,7 @@ pub fn opening_of<'a>(
 /// Makes the calls of a session, each for at most `limit` cycles, and prints each reply as it comes.
 pub fn converse<'a, O: Sink>(
     alloc: Global,
-    opening: Opening,
+    opening: ReadySession,
     limit: u64,
     out: &mut O,
 ) -> Result<Status, Refusal<'a>>

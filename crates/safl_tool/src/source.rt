@@ -5,7 +5,7 @@ ghost use Rattle.safl_compiler.specs.Sources.{HasFewSites, IsSourceOf};
 ghost use Rattle.safl_tree.specs.Printable.{IsPrintable};
 ghost use Rattle.safl_tree.specs.Shown.{shown_program};
 ghost use Rattle.safl_tree.specs.Source.{SpellsProgram};
-ghost use Rattle.safl_typing.specs.Forms.{IsFormOf, shown};
+ghost use Rattle.safl_typing.specs.Forms.{IsFormOf, shown_form};
 ghost use Rattle.safl_tool.specs.CommandTasks.{RefusesSourceOf};
 ghost use Rattle.safl_word.specs.Limits.{source_max};
 ghost use Rattle.safl_tool.specs.Lines.{source_line};
@@ -78,7 +78,7 @@ pub fn read_program<'a>(
     requires { length source.now ≤ source_max }
     ensures spelled { IfOk result (λ a. SpellsProgram source.now (shown_program a.program)) }
     ensures printable { IfOk result (λ a. IsPrintable (shown_program a.program)) }
-    ensures form { IfOk result (λ a. IsFormOf (shown_program a.program) (shown a.checked)) }
+    ensures form { IfOk result (λ a. IsFormOf (shown_program a.program) (shown_form a.checked)) }
     ensures few { IfOk result (λ a. HasFewSites (shown_program a.program)) }
     ensures refused { IfErr result (RefusesBy (RefusesSourceOf name.now source.now)) }
 {

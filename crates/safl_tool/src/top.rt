@@ -1,7 +1,7 @@
 //! The program's main call.
 
 ghost use Rattle.std.specs.Prelude.{map, option_map, string_bytes};
-ghost use Rattle.safl_command.specs.Commands.{command_of, shown};
+ghost use Rattle.safl_command.specs.Commands.{command_of, shown_command};
 ghost use Rattle.safl_tool.specs.Changes.{AttendedOn, AttendsOn, DoesOn, EndsOn, FollowsOn, SparesOn};
 ghost use Rattle.safl_tool.specs.Headline.{Builds};
 ghost use Rattle.safl_tool.specs.Promises.{Checks, Simulates, Converses, Converts};
@@ -90,9 +90,9 @@ fn obey<'a, S: Shelf, O: Sink>(
     out: &mut O,
     probes: &mut Vec<Box<dyn Probe>>,
 ) -> Result<Status, Refusal<'a>>
-    ensures does { DoesOn (option_map shown command.now) S.told shelf.old shelf.new O.told out.old out.new (λ p. state p) probes.old probes.new result }
-    ensures spares { SparesOn (option_map shown command.now) S.told shelf.old shelf.new O.told out.old out.new (λ p. state p) probes.old probes.new }
-    ensures attends { AttendsOn (option_map shown command.now) S.told shelf.old (λ p. state p) probes.old probes.new result }
+    ensures does { DoesOn (option_map shown_command command.now) S.told shelf.old shelf.new O.told out.old out.new (λ p. state p) probes.old probes.new result }
+    ensures spares { SparesOn (option_map shown_command command.now) S.told shelf.old shelf.new O.told out.old out.new (λ p. state p) probes.old probes.new }
+    ensures attends { AttendsOn (option_map shown_command command.now) S.told shelf.old (λ p. state p) probes.old probes.new result }
 {
     match command {
         Some(command) => perform(alloc, command, shelf, out, probes),

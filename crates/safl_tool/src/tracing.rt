@@ -6,7 +6,7 @@ ghost use Rattle.safl_sim.specs.Outcomes.{IsOutcome};
 ghost use Rattle.safl_probe.specs.Asked.{asked};
 ghost use Rattle.safl_probe.specs.Growth.{Made, OldOrPart};
 ghost use Rattle.safl_probe.specs.Stopping.{KeepsProbes};
-ghost use Rattle.safl_command.specs.Traces.{shown as shown_traces};
+ghost use Rattle.safl_command.specs.Traces.{shown_traces};
 ghost use Rattle.safl_tool.specs.Answers.{CanRun, FilesGrow};
 ghost use Rattle.safl_tool.specs.Changes.{GivesOn, ShownOn};
 ghost use Rattle.safl_tool.specs.Refusals.{IsWriting, FailsToWatch};

@@ -1,7 +1,7 @@
 //! Doing a command: finding the probes that it asks, reading its files, working out its answer, and giving the answer.
 
 ghost use Rattle.std.specs.Prelude.{◌≡◌, IfOk, IfErr, None, Some, map};
-ghost use Rattle.safl_command.specs.Commands.{shown};
+ghost use Rattle.safl_command.specs.Commands.{shown_command};
 ghost use Rattle.safl_probe.specs.Asked.{asked};
 ghost use Rattle.safl_task.specs.Inputs.{shown_inputs, shown_contents};
 ghost use Rattle.safl_task.specs.Tasks.{AreContents};
@@ -19,13 +19,13 @@ use crate::asking::asked_files;
 use crate::bit_level::{aig_text, aigstat_lines};
 use crate::build::{circuit_text, optimised_text};
 use crate::check::check_lines;
-use crate::made::{bench_lines, gen_lines};
+use crate::generated::{bench_lines, gen_lines};
 use crate::ready::ready_source;
 use crate::refusal::Refusal;
 use crate::report::report_lines;
 use crate::reshape::{copy_text, unfold_text};
 use crate::run_file::run_lines;
-use crate::session::opening_of;
+use crate::session::ready_session;
 use crate::walk::walk_lines;
 use safl_command::{Command, Traces};
 use safl_io::{Shelf, Sink};
@@ -42,9 +42,9 @@ pub fn perform<'a, S: Shelf, O: Sink>(
     out: &mut O,
     probes: &mut Vec<Box<dyn Probe>>,
 ) -> Result<Status, Refusal<'a>>
-    ensures does { DoesOn (Some (shown command.now)) S.told shelf.old shelf.new O.told out.old out.new (λ p. state p) probes.old probes.new result }
-    ensures spares { SparesOn (Some (shown command.now)) S.told shelf.old shelf.new O.told out.old out.new (λ p. state p) probes.old probes.new }
-    ensures attends { AttendsOn (Some (shown command.now)) S.told shelf.old (λ p. state p) probes.old probes.new result }
+    ensures does { DoesOn (Some (shown_command command.now)) S.told shelf.old shelf.new O.told out.old out.new (λ p. state p) probes.old probes.new result }
+    ensures spares { SparesOn (Some (shown_command command.now)) S.told shelf.old shelf.new O.told out.old out.new (λ p. state p) probes.old probes.new }
+    ensures attends { AttendsOn (Some (shown_command command.now)) S.told shelf.old (λ p. state p) probes.old probes.new result }
 {
     match asked_files(alloc, traces_of(command), probes) {
         Ok(Some(files)) => carry_out(alloc, command, &files, shelf, out, probes),
@@ -55,7 +55,7 @@ pub fn perform<'a, S: Shelf, O: Sink>(
 
 // The files for the traces that a command asks for, if it can ask for any.
 fn traces_of(command: &Command) -> Option<&Traces>
-    ensures { traces_given result ≡ traces_in (shown command.now) }
+    ensures { traces_given result ≡ traces_in (shown_command command.now) }
 {
     match command {
         Command::Sim { traces, .. } => Some(traces),
@@ -72,10 +72,12 @@ fn carry_out<'a, S: Shelf, O: Sink>(
     out: &mut O,
     probes: &mut Vec<Box<dyn Probe>>,
 ) -> Result<Status, Refusal<'a>>
-    requires { AreAskedFor (traces_in (shown command.now)) (asked files.now) (map (λ p. state p) probes.old.items) }
-    ensures does { DoesAskedOn (shown command.now) files.now S.told shelf.old shelf.new O.told out.old out.new (λ p. state p) probes.old probes.new result }
-    ensures spares { SparesAskedOn (shown command.now) files.now S.told shelf.old shelf.new O.told out.old out.new (λ p. state p) probes.old probes.new }
-    ensures attends { AttendsAskedOn (shown command.now) files.now S.told shelf.old (λ p. state p) probes.old probes.new result }
+    requires { AreAskedFor (traces_in (shown_command command.now)) (asked files.now) (map (λ p. state p) probes.old.items) }
+    ensures does { DoesAskedOn (shown_command command.now) files.now S.told shelf.old shelf.new O.told out.old out.new
+        (λ p. state p) probes.old probes.new result }
+    ensures spares { SparesAskedOn (shown_command command.now) files.now S.told shelf.old shelf.new O.told out.old out.new
+        (λ p. state p) probes.old probes.new }
+    ensures attends { AttendsAskedOn (shown_command command.now) files.now S.told shelf.old (λ p. state p) probes.old probes.new result }
 {
     let Ok(inputs) = inputs_of(alloc, command) else {
         return Err(Refusal::NoMemory);
@@ -93,7 +95,7 @@ fn carry_out<'a, S: Shelf, O: Sink>(
 
 // The files that a command reads, in order.
 fn inputs_of(alloc: Global, command: &Command) -> Result<Vec<Input<'_>>, AllocError>
-    ensures { IfOk result (λ inputs. shown_inputs inputs.items ≡ (command_task (shown command.now)).inputs) }
+    ensures { IfOk result (λ inputs. shown_inputs inputs.items ≡ (command_task (shown_command command.now)).inputs) }
 {
     let mut inputs = Vec::new(alloc);
     match command {
@@ -134,11 +136,11 @@ fn answer_of<'a>(
     command: &'a Command,
     contents: &[Vec<u8>],
 ) -> Result<Answer<'a>, Refusal<'a>>
-    requires { AreContents None (command_task (shown command.now)).inputs (shown_contents contents.now) }
-    ensures answers { IfOk result (Answers (command_task (shown command.now)) (shown_contents contents.now)) }
-    ensures traces { IfOk result (λ a. traces_for a ≡ traces_in (shown command.now)) }
-    ensures shows { IfOk result (ShowsFor (shown command.now) (shown_contents contents.now)) }
-    ensures refused { IfErr result (Declines (command_task (shown command.now)) (shown_contents contents.now)) }
+    requires { AreContents None (command_task (shown_command command.now)).inputs (shown_contents contents.now) }
+    ensures answers { IfOk result (Answers (command_task (shown_command command.now)) (shown_contents contents.now)) }
+    ensures traces { IfOk result (λ a. traces_for a ≡ traces_in (shown_command command.now)) }
+    ensures shows { IfOk result (ShowsFor (shown_command command.now) (shown_contents contents.now)) }
+    ensures refused { IfErr result (Declines (command_task (shown_command command.now)) (shown_contents contents.now)) }
 {
     let first = content(contents, 0);
     let second = content(contents, 1);
@@ -177,7 +179,7 @@ fn answer_of<'a>(
         } => written(output, unfold_text(alloc, input, first, *site)),
         Command::Session { input, limit, .. } => {
             session_law();
-            replied(opening_of(alloc, input, first, second), *limit)
+            replied(ready_session(alloc, input, first, second), *limit)
         }
         Command::Aig { input, output } => written(output, aig_text(alloc, input, first)),
         Command::Aigstat { input } => printed(aigstat_lines(alloc, input, first)),

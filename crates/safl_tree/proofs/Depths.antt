@@ -5,7 +5,7 @@ use Rattle.safl_word.specs.declared.primitive.Primitive.{Primitive}
 use Rattle.safl_word.specs.declared.primitive.Primitive.TheVariants as prims
 use Rattle.safl_tree.specs.Tree.{Definition, Tree, Number, Sized, Variable, If, Let, Cases, Op, Call, Trees, no_tree, a_tree, Binds, no_bind, a_bind}
 use Rattle.safl_tree.specs.Tree.{Arms, default_arm, an_arm, depth, deepest, deepest_bind, deepest_arm}
-use Rattle.safl_tree.specs.Printable.{own, own_of, lifted, levels, most, most_operand, most_bind, most_arm, below_of, left_place, right_place}
+use Rattle.safl_tree.specs.Printable.{layers_of, operator_layers, lifted, levels, most, most_operand, most_bind, most_arm, below_of, left_context, right_context}
 use Rattle.safl_tree.specs.Printable.{is_binary, IsShallow, AreShallow, AreShallowBinds, AreShallowArms, OfBinary, LeftShallow, KeepsLevels}
 use Rattle.safl_tree.specs.Printable.{AllKeepLevels}
 use Rattle.safl_tree.specs.Keeps.{Keeps}
@@ -39,7 +39,7 @@ between_bound l r no_tree s h = omega arith
 between_bound l r (a_tree t ts) s h = omega (arith, s, h)
 
 applied_bound : (o : Primitive) (ts : Trees) → OfBinary (is_binary o) (LeftShallow ts) → ((k : ℕ) → deepest ts ≤ bound (most_operand k k ts) k) →
-    ((k : ℕ) → deepest (tail ts) ≤ bound (most_operand k k (tail ts)) k) → 1 + deepest ts ≤ bound (below_of o + most_operand (left_place o) (right_place o) ts) (own_of o)
+    ((k : ℕ) → deepest (tail ts) ≤ bound (most_operand k k (tail ts)) k) → 1 + deepest ts ≤ bound (below_of o + most_operand (left_context o) (right_context o) ts) (operator_layers o)
 applied_bound prims.Not ts s all rest = inner_bound 0 (most_operand 0 0 ts) (deepest ts) (omega arith) (all 0)
 applied_bound prims.Cat ts s all rest = inner_bound 8 (most_operand 8 8 ts) (deepest ts) (omega arith) (all 8)
 applied_bound (prims.Bits h l) ts s all rest = inner_bound 8 (most_operand 8 8 ts) (deepest ts) (omega arith) (all 8)
@@ -60,7 +60,7 @@ applied_bound prims.Gt ts s all rest = between_bound 3 3 ts s (rest 3)
 applied_bound prims.Ge ts s all rest = between_bound 3 3 ts s (rest 3)
 
 mutual
-  deep : (t : Tree) → IsShallow t → depth t ≤ bound (levels t) (own t)
+  deep : (t : Tree) → IsShallow t → depth t ≤ bound (levels t) (layers_of t)
   deep (Number p n) s = omega arith
   deep (Sized p w n) s = omega arith
   deep (Variable p x) s = omega arith
@@ -77,9 +77,9 @@ mutual
   deep_operands : (k : ℕ) (ts : Trees) → AreShallow ts → deepest ts ≤ bound (most_operand k k ts) k
   deep_operands k no_tree s = omega arith
   deep_operands k (a_tree t ts) s =
-      let h = lift_bound k (own t) (levels t) (depth t) (own_small t) (deep t s.0) in
+      let h = lift_bound k (layers_of t) (levels t) (depth t) (own_small t) (deep t s.0) in
       let i = deep_operands k ts s.1 in
-      most_bound (lifted k (own t) (levels t)) (most_operand k k ts) k (depth t) (deepest ts) h i
+      most_bound (lifted k (layers_of t) (levels t)) (most_operand k k ts) k (depth t) (deepest ts) h i
 
   deep_tail : (k : ℕ) (ts : Trees) → AreShallow ts → deepest (tail ts) ≤ bound (most_operand k k (tail ts)) k
   deep_tail k no_tree s = omega arith

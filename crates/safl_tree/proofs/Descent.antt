@@ -9,7 +9,7 @@ use Rattle.safl_tree.specs.declared.tree.Node.TheVariants as nodes
 use Rattle.safl_tree.specs.declared.tree.Node.TheVariants.{Case}
 use Rattle.safl_tree.specs.Tree.{Tree, Let, Cases, Op, Call, Trees, no_tree, a_tree, trees_of, binds_of, arms_of, depth}
 use Rattle.safl_tree.specs.Shown.{shown_node, shown_tree, shown_trees, shown_bounds, shown_labelled}
-use Rattle.safl_tree.specs.Printable.{own, levels, most, most_operand}
+use Rattle.safl_tree.specs.Printable.{layers_of, levels, most, most_operand}
 use Rattle.safl_tree.specs.Keeps.{Keeps, PartsKeep, OperandsKeep, BindingsKeep, ArmsKeep}
 use Rattle.safl_tree.proofs.ShownTrees.{op_shows, call_shows, let_shows, case_shows}
 use Rattle.safl_tree.proofs.Operators.{own_small}
@@ -18,7 +18,7 @@ use Rattle.safl_tree.proofs.Operators.{own_small}
 pub most_bare : (ts : Trees) → most_operand 8 8 ts ≡ most ts
 most_bare no_tree = refl
 most_bare (a_tree t ts) =
-    ap (λ (b : Bool). max (Rattle.std.proofs.Common.cond b (levels t) (suc (levels t))) (most_operand 8 8 ts)) (Rattle.std.proofs.lemmas.Bool.le-leb (own t) 8 (own_small t))
+    ap (λ (b : Bool). max (Rattle.std.proofs.Common.cond b (levels t) (suc (levels t))) (most_operand 8 8 ts)) (Rattle.std.proofs.lemmas.Bool.le-leb (layers_of t) 8 (own_small t))
     ∙ ap (λ (n : ℕ). max (levels t) n) (most_bare ts)
 
 module _ (n d p : ℕ) (x : Node) (r : Bool) (some : 0 < d) where

@@ -17,7 +17,7 @@ use Rattle.safl_word.specs.Tokens.{IsName, IsToken}
 use Rattle.safl_tree.specs.Terminals.{Terminal, code_of, word_code, symbol_code, marked, NameAt, name, NumberAt, number, number_in, SizedAt, sized, value_in, operators, primitive_in}
 use Rattle.safl_tree.specs.Grammar.{is_width, fits_width, fits_sized, fits_index}
 use Rattle.safl_tree.specs.Reader.{read_word, read_symbol, read_width, read_index}
-use Rattle.safl_tree.specs.Printable.{InRange, operands, is_binary, right_place, left_place, below_of, own_of, lifted}
+use Rattle.safl_tree.specs.Printable.{InRange, operands, is_binary, right_context, left_context, below_of, operator_layers, lifted}
 
 -- a token's bytes are a text of its kind
 abbrev pub IsTerminal : Terminal → Type 0
@@ -98,64 +98,64 @@ a_sized = yields_limited WideSmall Range fits_sized sized (λ t x q e f. let h =
 -- an operator of layer k: its left operand has the layers of its own chain, or those below it
 pub record Layer (k left_layers : ℕ) (o : Primitive) : Type 0 where
   pub binary : is_binary o ≡ true
-  pub right : right_place o ≡ k
-  pub left : left_place o ≡ left_layers
-  pub own : own_of o ≡ suc k
+  pub right : right_context o ≡ k
+  pub left : left_context o ≡ left_layers
+  pub layers_of : operator_layers o ≡ suc k
   pub below : below_of o ≡ 0
   pub two : operands o ≡ 2
   pub range : InRange o
 
 pub layer_0 : (t : TokenKind) → within (Only (operators 0)) (code_of t) ≡ true → Layer 0 1 (primitive_in t)
-layer_0 (kinds.Sym syms.Star) e = record { binary = refl; right = refl; left = refl; own = refl; below = refl; two = refl; range = tt }
+layer_0 (kinds.Sym syms.Star) e = record { binary = refl; right = refl; left = refl; layers_of = refl; below = refl; two = refl; range = tt }
 layer_0 (kinds.Sym _) e = absurd cc
 layer_0 (kinds.Key keys.Fun) e = absurd cc
 layer_0 (kinds.Key _) e = absurd cc
 layer_0 _ e = absurd cc
 
 pub layer_1 : (t : TokenKind) → within (Only (operators 1)) (code_of t) ≡ true → Layer 1 2 (primitive_in t)
-layer_1 (kinds.Sym syms.Plus) e = record { binary = refl; right = refl; left = refl; own = refl; below = refl; two = refl; range = tt }
-layer_1 (kinds.Sym syms.Minus) e = record { binary = refl; right = refl; left = refl; own = refl; below = refl; two = refl; range = tt }
+layer_1 (kinds.Sym syms.Plus) e = record { binary = refl; right = refl; left = refl; layers_of = refl; below = refl; two = refl; range = tt }
+layer_1 (kinds.Sym syms.Minus) e = record { binary = refl; right = refl; left = refl; layers_of = refl; below = refl; two = refl; range = tt }
 layer_1 (kinds.Sym _) e = absurd cc
 layer_1 (kinds.Key keys.Fun) e = absurd cc
 layer_1 (kinds.Key _) e = absurd cc
 layer_1 _ e = absurd cc
 
 pub layer_2 : (t : TokenKind) → within (Only (operators 2)) (code_of t) ≡ true → Layer 2 3 (primitive_in t)
-layer_2 (kinds.Sym syms.ShiftLeft) e = record { binary = refl; right = refl; left = refl; own = refl; below = refl; two = refl; range = tt }
-layer_2 (kinds.Sym syms.ShiftRight) e = record { binary = refl; right = refl; left = refl; own = refl; below = refl; two = refl; range = tt }
+layer_2 (kinds.Sym syms.ShiftLeft) e = record { binary = refl; right = refl; left = refl; layers_of = refl; below = refl; two = refl; range = tt }
+layer_2 (kinds.Sym syms.ShiftRight) e = record { binary = refl; right = refl; left = refl; layers_of = refl; below = refl; two = refl; range = tt }
 layer_2 (kinds.Sym _) e = absurd cc
 layer_2 (kinds.Key keys.Fun) e = absurd cc
 layer_2 (kinds.Key _) e = absurd cc
 layer_2 _ e = absurd cc
 
 pub layer_3 : (t : TokenKind) → within (Only (operators 3)) (code_of t) ≡ true → Layer 3 3 (primitive_in t)
-layer_3 (kinds.Sym syms.Equal) e = record { binary = refl; right = refl; left = refl; own = refl; below = refl; two = refl; range = tt }
-layer_3 (kinds.Sym syms.NotEqual) e = record { binary = refl; right = refl; left = refl; own = refl; below = refl; two = refl; range = tt }
-layer_3 (kinds.Sym syms.Less) e = record { binary = refl; right = refl; left = refl; own = refl; below = refl; two = refl; range = tt }
-layer_3 (kinds.Sym syms.LessEqual) e = record { binary = refl; right = refl; left = refl; own = refl; below = refl; two = refl; range = tt }
-layer_3 (kinds.Sym syms.Greater) e = record { binary = refl; right = refl; left = refl; own = refl; below = refl; two = refl; range = tt }
-layer_3 (kinds.Sym syms.GreaterEqual) e = record { binary = refl; right = refl; left = refl; own = refl; below = refl; two = refl; range = tt }
+layer_3 (kinds.Sym syms.Equal) e = record { binary = refl; right = refl; left = refl; layers_of = refl; below = refl; two = refl; range = tt }
+layer_3 (kinds.Sym syms.NotEqual) e = record { binary = refl; right = refl; left = refl; layers_of = refl; below = refl; two = refl; range = tt }
+layer_3 (kinds.Sym syms.Less) e = record { binary = refl; right = refl; left = refl; layers_of = refl; below = refl; two = refl; range = tt }
+layer_3 (kinds.Sym syms.LessEqual) e = record { binary = refl; right = refl; left = refl; layers_of = refl; below = refl; two = refl; range = tt }
+layer_3 (kinds.Sym syms.Greater) e = record { binary = refl; right = refl; left = refl; layers_of = refl; below = refl; two = refl; range = tt }
+layer_3 (kinds.Sym syms.GreaterEqual) e = record { binary = refl; right = refl; left = refl; layers_of = refl; below = refl; two = refl; range = tt }
 layer_3 (kinds.Sym _) e = absurd cc
 layer_3 (kinds.Key keys.Fun) e = absurd cc
 layer_3 (kinds.Key _) e = absurd cc
 layer_3 _ e = absurd cc
 
 pub layer_4 : (t : TokenKind) → within (Only (operators 4)) (code_of t) ≡ true → Layer 4 5 (primitive_in t)
-layer_4 (kinds.Sym syms.Ampersand) e = record { binary = refl; right = refl; left = refl; own = refl; below = refl; two = refl; range = tt }
+layer_4 (kinds.Sym syms.Ampersand) e = record { binary = refl; right = refl; left = refl; layers_of = refl; below = refl; two = refl; range = tt }
 layer_4 (kinds.Sym _) e = absurd cc
 layer_4 (kinds.Key keys.Fun) e = absurd cc
 layer_4 (kinds.Key _) e = absurd cc
 layer_4 _ e = absurd cc
 
 pub layer_5 : (t : TokenKind) → within (Only (operators 5)) (code_of t) ≡ true → Layer 5 6 (primitive_in t)
-layer_5 (kinds.Sym syms.Caret) e = record { binary = refl; right = refl; left = refl; own = refl; below = refl; two = refl; range = tt }
+layer_5 (kinds.Sym syms.Caret) e = record { binary = refl; right = refl; left = refl; layers_of = refl; below = refl; two = refl; range = tt }
 layer_5 (kinds.Sym _) e = absurd cc
 layer_5 (kinds.Key keys.Fun) e = absurd cc
 layer_5 (kinds.Key _) e = absurd cc
 layer_5 _ e = absurd cc
 
 pub layer_6 : (t : TokenKind) → within (Only (operators 6)) (code_of t) ≡ true → Layer 6 7 (primitive_in t)
-layer_6 (kinds.Sym syms.Bar) e = record { binary = refl; right = refl; left = refl; own = refl; below = refl; two = refl; range = tt }
+layer_6 (kinds.Sym syms.Bar) e = record { binary = refl; right = refl; left = refl; layers_of = refl; below = refl; two = refl; range = tt }
 layer_6 (kinds.Sym _) e = absurd cc
 layer_6 (kinds.Key keys.Fun) e = absurd cc
 layer_6 (kinds.Key _) e = absurd cc

@@ -19,8 +19,8 @@ use Rattle.safl_tree.specs.Reader.{read_named, read_parenthesised, read_cat, rea
 use Rattle.safl_tree.specs.Reader.{read_joined, read_chained, read_compared, read_layer, read_chain, read_choice, read_written, read_bind}
 use Rattle.safl_tree.specs.Reader.{read_another_bind, read_binds, read_binding, read_label, read_arm, read_last_arm, read_arms, read_cases, read_expr}
 use Rattle.safl_tree.specs.Reader.{operand_at, expr_at, arm_value_at, more_arms_at, open_paren, close_paren, comma}
-use Rattle.safl_tree.specs.Printable.{InRange, HasBinding, IsLabel, FitsWritten, IsFormed, AreFormed, AreFormedBinds, AreFormedArms, right_place}
-use Rattle.safl_tree.specs.Printable.{left_place, below_of, own_of, own, lifted, levels, most, most_operand, most_bind, most_arm, OfBinary, IsShallow}
+use Rattle.safl_tree.specs.Printable.{InRange, HasBinding, IsLabel, FitsWritten, IsFormed, AreFormed, AreFormedBinds, AreFormedArms, right_context}
+use Rattle.safl_tree.specs.Printable.{left_context, below_of, operator_layers, layers_of, lifted, levels, most, most_operand, most_bind, most_arm, OfBinary, IsShallow}
 use Rattle.safl_tree.specs.Printable.{AreShallow, AreShallowBinds, AreShallowArms}
 use Rattle.safl_tree.proofs.Formed.{IsTerminal, classed_is, any_word, any_symbol, NamedWell, a_name, Small, a_number, Wide, a_width, Indexes}
 use Rattle.safl_tree.proofs.Formed.{an_index, WideSmall, a_sized, Layer, layer_0, layer_1, layer_2, layer_3, layer_4, layer_5, layer_6, lift_low}
@@ -30,7 +30,7 @@ use Rattle.safl_tree.proofs.Formed.{lift_high, lift_in, lift_up}
 pub record At (k m : ℕ) (t : Tree) : Type 0 where
   pub formed : IsFormed t
   pub shallow : IsShallow t
-  pub kept : lifted k (own t) (levels t) ≤ m
+  pub kept : lifted k (layers_of t) (levels t) ≤ m
 
 -- it takes at most m levels
 pub record Whole (m : ℕ) (t : Tree) : Type 0 where
@@ -39,13 +39,13 @@ pub record Whole (m : ℕ) (t : Tree) : Type 0 where
   pub kept : levels t ≤ m
 
 whole_of : (k m : ℕ) (t : Tree) → At k m t → Whole m t
-whole_of k m t a = let h = lift_low k (own t) (levels t) in record { formed = a.formed; shallow = a.shallow; kept = omega (arith, h, a.kept) }
+whole_of k m t a = let h = lift_low k (layers_of t) (levels t) in record { formed = a.formed; shallow = a.shallow; kept = omega (arith, h, a.kept) }
 
 at_up : (j k m : ℕ) (t : Tree) → j ≤ k → At j m t → At k m t
-at_up j k m t le a = let h = lift_up j k (own t) (levels t) le in record { formed = a.formed; shallow = a.shallow; kept = omega (arith, h, a.kept) }
+at_up j k m t le a = let h = lift_up j k (layers_of t) (levels t) le in record { formed = a.formed; shallow = a.shallow; kept = omega (arith, h, a.kept) }
 
 risen : (m : ℕ) (t : Tree) → Whole m t → At 0 (suc m) t
-risen m t w = let h = lift_high 0 (own t) (levels t) in record { formed = w.formed; shallow = w.shallow; kept = omega (arith, h, w.kept) }
+risen m t w = let h = lift_high 0 (layers_of t) (levels t) in record { formed = w.formed; shallow = w.shallow; kept = omega (arith, h, w.kept) }
 
 -- parentheses are one level
 placed_at : (q m : ℕ) (t : Tree) → Whole m t → At 0 (suc m) (placed q t)
@@ -58,18 +58,18 @@ placed_at q m (Cases p e arms) w = risen m (Cases q e arms) (record { formed = w
 placed_at q m (Op p o ts) w = risen m (Op q o ts) (record { formed = w.formed; shallow = w.shallow; kept = w.kept })
 placed_at q m (Call p f ts) w = risen m (Call q f ts) (record { formed = w.formed; shallow = w.shallow; kept = w.kept })
 
-own_of_small : (o : Primitive) → own_of o ≤ 8
+own_of_small : (o : Primitive) → operator_layers o ≤ 8
 own_of_small prims.Mul = omega arith
 own_of_small _ = omega arith
 
-own_small : (t : Tree) → own t ≤ 8
+own_small : (t : Tree) → layers_of t ≤ 8
 own_small (Number p n) = omega arith
 own_small (Op p o ts) = own_of_small o
 own_small _ = omega arith
 
 -- a whole expression stands at any place of 8 layers
 at_whole : (m : ℕ) (t : Tree) → Whole m t → At 8 m t
-at_whole m t w = let h = lift_in 8 (own t) (levels t) (own_small t) in record { formed = w.formed; shallow = w.shallow; kept = omega (arith, h, w.kept) }
+at_whole m t w = let h = lift_in 8 (layers_of t) (levels t) (own_small t) in record { formed = w.formed; shallow = w.shallow; kept = omega (arith, h, w.kept) }
 
 -- ---- lists
 
@@ -203,8 +203,8 @@ joined_at k j m p o a b l d v w = record {
   shallow = (subst (λ (x : Bool). OfBinary x (depth a < 100)) (sym l.binary) d, (v.shallow, (w.shallow, tt)));
   kept =
       let ts : Trees = a_tree a (a_tree b no_tree) in
-      let e = ap (λ (x : ℕ). most_operand x (right_place o) ts) l.left ∙ ap (λ (x : ℕ). most_operand j x ts) l.right in
-      let i = lift_in (suc k) (own_of o) (below_of o + most_operand (left_place o) (right_place o) ts) (omega (arith, l.own)) in
+      let e = ap (λ (x : ℕ). most_operand x (right_context o) ts) l.left ∙ ap (λ (x : ℕ). most_operand j x ts) l.right in
+      let i = lift_in (suc k) (operator_layers o) (below_of o + most_operand (left_context o) (right_context o) ts) (omega (arith, l.layers_of)) in
       omega (arith, e, i, l.below, v.kept, w.kept);
 }
 

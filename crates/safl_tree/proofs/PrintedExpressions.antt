@@ -15,7 +15,7 @@ use Rattle.safl_tree.specs.Reader.{read_literal, read_sized_literal, read_anothe
 use Rattle.safl_tree.specs.Reader.{read_named, read_cat, read_bits, read_ext, read_primary, read_inverted, read_unary, read_chain, read_choice}
 use Rattle.safl_tree.specs.Reader.{read_written, read_bind, read_another_bind, read_binds, read_binding, read_label, read_arm, read_last_arm}
 use Rattle.safl_tree.specs.Reader.{read_arms, read_cases, read_expr, operand_at, expr_at, arm_value_at, more_arms_at, open_paren, close_paren}
-use Rattle.safl_tree.specs.Printable.{own, lifted, levels, is_binary, operands, count, InRange, HasBinding, IsLabel, FitsWritten, IsFormed, AreFormed}
+use Rattle.safl_tree.specs.Printable.{layers_of, lifted, levels, is_binary, operands, count, InRange, HasBinding, IsLabel, FitsWritten, IsFormed, AreFormed}
 use Rattle.safl_tree.specs.Printable.{AreFormedBinds, AreFormedArms, most, most_bind, most_arm, LeftShallow, OfBinary, IsShallow, AreShallow}
 use Rattle.safl_tree.specs.Printable.{AreShallowBinds, AreShallowArms}
 use Rattle.safl_tree.proofs.Leaves.{after_list, after_expr}
@@ -37,7 +37,7 @@ use Rattle.safl_tree.specs.Terminals.{marked, name}
 use Rattle.std.proofs.lemmas.Bool.{le-leb}
 
 -- an expression that stands at any place
-primary_claim : (t : Tree) → own t ≡ 0 → 1 ≤ levels t → Avoids (symbol_code syms.CloseParen ∷ []) (words t) → Plain (words t) →
+primary_claim : (t : Tree) → layers_of t ≡ 0 → 1 ≤ levels t → Avoids (symbol_code syms.CloseParen ∷ []) (words t) → Plain (words t) →
     ((m : ℕ) → levels t ≤ suc m → Stands 0 m (words t) (unplaced t)) → Claim t
 primary_claim t o l a p f = record {
   level = l;
@@ -51,7 +51,7 @@ primary_claim t o l a p f = record {
 }
 
 -- an if, a let or a case
-whole_claim : (t : Tree) → own t ≡ 8 → 1 ≤ levels t → Avoids (symbol_code syms.CloseParen ∷ []) (words t) →
+whole_claim : (t : Tree) → layers_of t ≡ 8 → 1 ≤ levels t → Avoids (symbol_code syms.CloseParen ∷ []) (words t) →
     ((m : ℕ) → levels t ≤ suc m → Reads (expr_at (suc m)) (words t) after_expr unplaced (unplaced t)) → Claim t
 whole_claim t o l a f = record {
   level = l;
@@ -60,7 +60,7 @@ whole_claim t o l a f = record {
   back = λ m le. record {
     low = λ h. absurd (omega (arith, o, h));
     high = λ h. f m le;
-    loops = λ k e c. let s : own t ≡ suc k = e in absurd (c.few (omega (arith, o, e)));
+    loops = λ k e c. let s : layers_of t ≡ suc k = e in absurd (c.few (omega (arith, o, e)));
   };
 }
 
@@ -120,8 +120,8 @@ list_shows : (xs : List Tree) (ts : Trees) → map unplaced xs ≡ list_of (unpl
 list_shows xs ts e = unplaced_all xs ∙ ap trees_of e ∙ trees_back (unplaced_trees ts)
 
 -- at a place of 8 layers no expression is in parentheses
-bare_part : (t : Tree) → enclosed (leb (own t) 8) (words t) ≡ words t
-bare_part t = ap (λ (b : Bool). enclosed b (words t)) (le-leb (own t) 8 (own_small t))
+bare_part : (t : Tree) → enclosed (leb (layers_of t) 8) (words t) ≡ words t
+bare_part t = ap (λ (b : Bool). enclosed b (words t)) (le-leb (layers_of t) 8 (own_small t))
 
 all_read : (ts : Trees) → AllClaim ts → (m : ℕ) → most ts ≤ m → AllRead (expr_at m) after_expr unplaced (part_words 8 8 ts) (list_of (unplaced_trees ts))
 all_read no_tree c m le = tt
@@ -132,13 +132,13 @@ exprs_read : (t : Tree) (ts : Trees) → Claim t → AllClaim ts → (m : ℕ) �
 unfolding read_exprs read_another
 exprs_read t ts c cs m le les =
     let a = all_read (a_tree t ts) (c, cs) m (omega arith) in
-    list_reads (expr_at m) (expr_small m) after_list (Only close_paren) unplaced refl refl refl (enclosed (leb (own t) 8) (words t)) (unplaced t)
+    list_reads (expr_at m) (expr_small m) after_list (Only close_paren) unplaced refl refl refl (enclosed (leb (layers_of t) 8) (words t)) (unplaced t)
     (part_words 8 8 ts) (list_of (unplaced_trees ts)) a.0 a.1
 
-opens_list : (t : Tree) (xs : List (List Word)) (ks : List Word) → Claim t → Avoids close_paren (separated (Printed.sym syms.Comma) (enclosed (leb (own t) 8) (words t) ∷ xs) ++ ks)
-opens_list t [] ks c = avoids_front close_paren (enclosed (leb (own t) 8) (words t)) ks (opens_part t c 8)
-opens_list t (x ∷ xs) ks c = avoids_front close_paren (separated (Printed.sym syms.Comma) (enclosed (leb (own t) 8) (words t) ∷ (x ∷ xs))) ks
-    (avoids_front close_paren (enclosed (leb (own t) 8) (words t)) (Printed.sym syms.Comma ∷ separated (Printed.sym syms.Comma) (x ∷ xs)) (opens_part t c 8))
+opens_list : (t : Tree) (xs : List (List Word)) (ks : List Word) → Claim t → Avoids close_paren (separated (Printed.sym syms.Comma) (enclosed (leb (layers_of t) 8) (words t) ∷ xs) ++ ks)
+opens_list t [] ks c = avoids_front close_paren (enclosed (leb (layers_of t) 8) (words t)) ks (opens_part t c 8)
+opens_list t (x ∷ xs) ks c = avoids_front close_paren (separated (Printed.sym syms.Comma) (enclosed (leb (layers_of t) 8) (words t) ∷ (x ∷ xs))) ks
+    (avoids_front close_paren (enclosed (leb (layers_of t) 8) (words t)) (Printed.sym syms.Comma ∷ separated (Printed.sym syms.Comma) (x ∷ xs)) (opens_part t c 8))
 
 -- a call, after its name's `(`
 call_read : (p : ℕ) (f : List ℕ) (ts : Trees) → AllClaim ts → (m : ℕ) → most ts ≤ m → (q : Rattle.safl_tree.specs.Terminals.NameAt) → q.name ≡ f →
@@ -167,22 +167,22 @@ call_claim p f ts c = primary_claim (Call p f ts) refl (omega arith) (avoids _ _
 
 -- ---- operators in front of their operands
 
-not_stands : (p : ℕ) (a : Tree) → Claim a → (m : ℕ) → lifted 0 (own a) (levels a) ≤ m → Stands 0 m (words (Op p prims.Not (a_tree a no_tree))) (Op 0 prims.Not (a_tree (unplaced a) no_tree))
+not_stands : (p : ℕ) (a : Tree) → Claim a → (m : ℕ) → lifted 0 (layers_of a) (levels a) ≤ m → Stands 0 m (words (Op p prims.Not (a_tree a no_tree))) (Op 0 prims.Not (a_tree (unplaced a) no_tree))
 unfolding read_chain read_unary read_inverted operand_at
-not_stands p a c zero le = let h = lifted_some 0 (own a) (levels a) c.level in absurd (omega arith)
+not_stands p a c zero le = let h = lifted_some 0 (layers_of a) (levels a) c.level in absurd (omega arith)
 not_stands p a c (suc m) le = reads_first (symbol_code syms.Tilde ∷ []) _
     (reads_then (reads_symbol syms.Tilde) (λ q u. reads_give (λ x. Op q prims.Not (trees_of (x ∷ []))) unplaced
     (Op 0 prims.Not (a_tree (unplaced a) no_tree)) (part a c 0 m (omega arith) le) (λ x e. ap (λ (z : Tree). Op 0 prims.Not (a_tree z no_tree)) e)) refl) refl
 
-inner_read : (a : Tree) → Claim a → (m : ℕ) → lifted 8 (own a) (levels a) ≤ m → Reads (expr_at m) (enclosed (leb (own a) 8) (words a)) after_expr unplaced (unplaced a)
+inner_read : (a : Tree) → Claim a → (m : ℕ) → lifted 8 (layers_of a) (levels a) ≤ m → Reads (expr_at m) (enclosed (leb (layers_of a) 8) (words a)) after_expr unplaced (unplaced a)
 inner_read a c m le = subst (λ (ks : List Word). Reads (expr_at m) ks after_expr unplaced (unplaced a)) (sym (bare_part a))
-    (whole a c m (subst (λ (b : Bool). cond b (levels a) (suc (levels a)) ≤ m) (le-leb (own a) 8 (own_small a)) le))
+    (whole a c m (subst (λ (b : Bool). cond b (levels a) (suc (levels a)) ≤ m) (le-leb (layers_of a) 8 (own_small a)) le))
 
-cat_stands : (p : ℕ) (a b : Tree) → Claim a → Claim b → (m : ℕ) → lifted 8 (own a) (levels a) ≤ m → lifted 8 (own b) (levels b) ≤ m → Stands 0 m
+cat_stands : (p : ℕ) (a b : Tree) → Claim a → Claim b → (m : ℕ) → lifted 8 (layers_of a) (levels a) ≤ m → lifted 8 (layers_of b) (levels b) ≤ m → Stands 0 m
     (words (Op p prims.Cat (a_tree a (a_tree b no_tree)))) (Op 0 prims.Cat (a_tree (unplaced a) (a_tree (unplaced b) no_tree)))
 unfolding read_chain read_unary read_primary read_cat
 cat_stands p a b c d m le lf =
-    let both = append_assoc (enclosed (leb (own a) 8) (words a)) (Printed.sym syms.Comma ∷ enclosed (leb (own b) 8) (words b)) (Printed.sym syms.CloseParen ∷ []) in
+    let both = append_assoc (enclosed (leb (layers_of a) 8) (words a)) (Printed.sym syms.Comma ∷ enclosed (leb (layers_of b) 8) (words b)) (Printed.sym syms.CloseParen ∷ []) in
     subst (λ (ks : List Word). Reads (chain_at 0 m) (Printed.key keys.Cat ∷ (Printed.sym syms.OpenParen ∷ ks)) (behind 0) unplaced
     (Op 0 prims.Cat (a_tree (unplaced a) (a_tree (unplaced b) no_tree)))) (sym both)
     (reads_narrowed Every
@@ -197,7 +197,7 @@ cat_stands p a b c d m le lf =
     (λ (z : Tree). Op 0 prims.Cat (a_tree (unplaced a) (a_tree z no_tree))) i)) refl) refl) refl) refl) refl) refl) (avoids _ _ refl))
     (avoids _ _ refl)) (avoids _ _ refl)) (avoids _ _ refl)) (avoids _ _ refl)) refl)
 
-bits_stands : (p h l : ℕ) (a : Tree) → h < width_max → l < width_max → Claim a → (m : ℕ) → lifted 8 (own a) (levels a) ≤ m → Stands 0 m
+bits_stands : (p h l : ℕ) (a : Tree) → h < width_max → l < width_max → Claim a → (m : ℕ) → lifted 8 (layers_of a) (levels a) ≤ m → Stands 0 m
     (words (Op p (prims.Bits h l) (a_tree a no_tree))) (Op 0 (prims.Bits h l) (a_tree (unplaced a) no_tree))
 unfolding read_chain read_unary read_primary read_bits
 bits_stands p h l a hh hl c m le =
@@ -215,7 +215,7 @@ bits_stands p h l a hh hl c m le =
     (λ (z : ℕ). Op 0 (prims.Bits h z) (a_tree (unplaced a) no_tree)) ej)) refl) refl) refl) refl) refl) refl) refl) refl) (avoids _ _ refl))
     (avoids _ _ refl)) (avoids _ _ refl)) (avoids _ _ refl)) (avoids _ _ refl)) (avoids _ _ refl)) refl
 
-ext_stands : (p n : ℕ) (a : Tree) → is_width n ≡ true → Claim a → (m : ℕ) → lifted 8 (own a) (levels a) ≤ m → Stands 0 m
+ext_stands : (p n : ℕ) (a : Tree) → is_width n ≡ true → Claim a → (m : ℕ) → lifted 8 (layers_of a) (levels a) ≤ m → Stands 0 m
     (words (Op p (prims.Ext n) (a_tree a no_tree))) (Op 0 (prims.Ext n) (a_tree (unplaced a) no_tree))
 unfolding read_chain read_unary read_primary read_ext
 ext_stands p n a hn c m le =

@@ -16,7 +16,7 @@ use Rattle.safl_word.proofs.BlanksEndTokens.{number_token, size_token}
 use Rattle.safl_tree.specs.Tree.{Tree, Number, Sized, Variable, If, Let, Cases, Op, Call, Trees, no_tree, a_tree, Binds, no_bind, a_bind, Arms, default_arm, an_arm, Parameter, Definition}
 use Rattle.safl_tree.specs.Terminals.{terminals}
 use Rattle.safl_tree.specs.Grammar.{is_width}
-use Rattle.safl_tree.specs.Printable.{own, left_place, right_place, InRange, IsLabel, FitsWritten, IsFormed, AreFormed, AreFormedBinds, AreFormedArms}
+use Rattle.safl_tree.specs.Printable.{layers_of, left_context, right_context, InRange, IsLabel, FitsWritten, IsFormed, AreFormed, AreFormedBinds, AreFormedArms}
 use Rattle.safl_tree.specs.Printable.{AreFormedParameters, IsFormedDefinition, AreFormedDefinitions}
 use Rattle.safl_tree.specs.Printed
 use Rattle.safl_tree.specs.Printed.{Word, separated, enclosed, applied, written, words, part_words, bind_words, arm_words, param_words, one_words, opening, spaced, line, printed, symbol_of}
@@ -113,12 +113,12 @@ mutual
   genuine (If p c a b) f = (refl, joins (words c) _ (genuine c f.0) (refl, joins (words a) _ (genuine a f.1) (refl, genuine b f.2)))
   genuine (Let p bs t) f = (refl, joins (separated (Printed.sym syms.Comma) (bind_words bs)) _ (comma_separates (bind_words bs) (genuine_binds bs f.1)) (refl, genuine t f.2))
   genuine (Cases p e arms) f = (refl, joins (words e) _ (genuine e f.0) (refl, joins (arm_words arms) _ (genuine_arms arms f.1) (refl, tt)))
-  genuine (Op p o ts) f = applies o (part_words (left_place o) (right_place o) ts) f.1 (genuine_parts (left_place o) (right_place o) ts f.2)
+  genuine (Op p o ts) f = applies o (part_words (left_context o) (right_context o) ts) f.1 (genuine_parts (left_context o) (right_context o) ts f.2)
   genuine (Call p x ts) f = (f.0, (refl, joins (separated (Printed.sym syms.Comma) (part_words 8 8 ts)) _ (comma_separates (part_words 8 8 ts) (genuine_parts 8 8 ts f.1)) (refl, tt)))
 
   genuine_parts : (k right : ℕ) (ts : Trees) → AreFormed ts → AllGenuine (part_words k right ts)
   genuine_parts k right no_tree f = tt
-  genuine_parts k right (a_tree t ts) f = (encloses (nat_le (own t) k) (words t) (genuine t f.0), genuine_parts right right ts f.1)
+  genuine_parts k right (a_tree t ts) f = (encloses (nat_le (layers_of t) k) (words t) (genuine t f.0), genuine_parts right right ts f.1)
 
   genuine_binds : (bs : Binds) → AreFormedBinds bs → AllGenuine (bind_words bs)
   genuine_binds no_bind f = tt

@@ -82,65 +82,65 @@ is_binary _ = true
 
 -- How many layers of operators may stand right of an operator without parentheses: those below its own. With 8 layers any
 -- expression may.
-abbrev pub right_place : Primitive → ℕ
-right_place prims.Mul = 0
-right_place prims.Add = 1
-right_place prims.Sub = 1
-right_place prims.Shl = 2
-right_place prims.Shr = 2
-right_place prims.Eq = 3
-right_place prims.Ne = 3
-right_place prims.Lt = 3
-right_place prims.Le = 3
-right_place prims.Gt = 3
-right_place prims.Ge = 3
-right_place prims.And = 4
-right_place prims.Xor = 5
-right_place prims.Or = 6
-right_place prims.Not = 0
-right_place prims.Cat = 8
-right_place (prims.Bits h l) = 8
-right_place (prims.Ext n) = 8
+abbrev pub right_context : Primitive → ℕ
+right_context prims.Mul = 0
+right_context prims.Add = 1
+right_context prims.Sub = 1
+right_context prims.Shl = 2
+right_context prims.Shr = 2
+right_context prims.Eq = 3
+right_context prims.Ne = 3
+right_context prims.Lt = 3
+right_context prims.Le = 3
+right_context prims.Gt = 3
+right_context prims.Ge = 3
+right_context prims.And = 4
+right_context prims.Xor = 5
+right_context prims.Or = 6
+right_context prims.Not = 0
+right_context prims.Cat = 8
+right_context (prims.Bits h l) = 8
+right_context (prims.Ext n) = 8
 
 -- How many layers may stand left of an operator: also its own layer, since operators group to the left, except for comparisons.
-abbrev pub left_place : Primitive → ℕ
-left_place prims.Mul = 1
-left_place prims.Add = 2
-left_place prims.Sub = 2
-left_place prims.Shl = 3
-left_place prims.Shr = 3
-left_place prims.Eq = 3
-left_place prims.Ne = 3
-left_place prims.Lt = 3
-left_place prims.Le = 3
-left_place prims.Gt = 3
-left_place prims.Ge = 3
-left_place prims.And = 5
-left_place prims.Xor = 6
-left_place prims.Or = 7
-left_place prims.Not = 0
-left_place prims.Cat = 8
-left_place (prims.Bits h l) = 8
-left_place (prims.Ext n) = 8
+abbrev pub left_context : Primitive → ℕ
+left_context prims.Mul = 1
+left_context prims.Add = 2
+left_context prims.Sub = 2
+left_context prims.Shl = 3
+left_context prims.Shr = 3
+left_context prims.Eq = 3
+left_context prims.Ne = 3
+left_context prims.Lt = 3
+left_context prims.Le = 3
+left_context prims.Gt = 3
+left_context prims.Ge = 3
+left_context prims.And = 5
+left_context prims.Xor = 6
+left_context prims.Or = 7
+left_context prims.Not = 0
+left_context prims.Cat = 8
+left_context (prims.Bits h l) = 8
+left_context (prims.Ext n) = 8
 
 -- how many levels the operands of an operator are below it: none if it is binary, otherwise one
 abbrev pub below_of : Primitive → ℕ
 below_of o = if is_binary o then 0 else 1
 
 -- how many layers a context needs for an operator's expression without parentheses
-abbrev pub own_of : Primitive → ℕ
-own_of o = if is_binary o then suc (right_place o) else 0
+abbrev pub operator_layers : Primitive → ℕ
+operator_layers o = if is_binary o then suc (right_context o) else 0
 
 -- how many layers a context needs for an expression without parentheses. An if, a let and a case need 8
-abbrev pub own : Tree → ℕ
-own (Number p n) = 0
-own (Sized p w n) = 0
-own (Variable p x) = 0
-own (If p c a b) = 8
-own (Let p bs t) = 8
-own (Cases p e arms) = 8
-own (Op p o ts) = own_of o
-own (Call p f ts) = 0
+abbrev pub layers_of : Tree → ℕ
+layers_of (Number p n) = 0
+layers_of (Sized p w n) = 0
+layers_of (Variable p x) = 0
+layers_of (If p c a b) = 8
+layers_of (Let p bs t) = 8
+layers_of (Cases p e arms) = 8
+layers_of (Op p o ts) = operator_layers o
+layers_of (Call p f ts) = 0
 
 -- the levels of an expression in a context of k layers: one more if it needs more layers, and so parentheses
 abbrev pub lifted : ℕ → ℕ → ℕ → ℕ
@@ -155,7 +155,7 @@ abbrev mutual
   levels (If p c a b) = 1 + max (levels c) (max (levels a) (levels b))
   levels (Let p bs t) = 1 + max (most_bind bs) (levels t)
   levels (Cases p e arms) = 1 + max (levels e) (most_arm arms)
-  levels (Op p o ts) = below_of o + most_operand (left_place o) (right_place o) ts
+  levels (Op p o ts) = below_of o + most_operand (left_context o) (right_context o) ts
   levels (Call p f ts) = 1 + most ts
 
   pub most : Trees → ℕ
@@ -165,7 +165,7 @@ abbrev mutual
   -- the levels of operands, the first in a context of so many layers, and the others in one of so many
   pub most_operand : ℕ → ℕ → Trees → ℕ
   most_operand k right no_tree = 0
-  most_operand k right (a_tree t ts) = max (lifted k (own t) (levels t)) (most_operand right right ts)
+  most_operand k right (a_tree t ts) = max (lifted k (layers_of t) (levels t)) (most_operand right right ts)
 
   pub most_bind : Binds → ℕ
   most_bind no_bind = 0

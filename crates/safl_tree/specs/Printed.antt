@@ -10,7 +10,7 @@ use Rattle.safl_word.specs.declared.primitive.Primitive.{Primitive}
 use Rattle.safl_word.specs.declared.primitive.Primitive.TheVariants as prims
 use Rattle.safl_word.specs.Tokens.{key_text, sym_text}
 use Rattle.safl_tree.specs.Tree.{Tree, Number, Sized, Variable, If, Let, Cases, Op, Call, Trees, no_tree, a_tree, Binds, no_bind, a_bind, Arms, default_arm, an_arm, Labelled, Parameter, Definition}
-use Rattle.safl_tree.specs.Printable.{left_place, right_place, own}
+use Rattle.safl_tree.specs.Printable.{left_context, right_context, layers_of}
 
 -- ---- tokens
 
@@ -29,8 +29,8 @@ abbrev pub name : List ℕ → Word
 name x = record { kind = kinds.Name; text = x }
 
 -- the word of a number, in as few decimal digits as possible
-abbrev pub number : ℕ → Word
-number n = record { kind = kinds.Num n; text = decimal n }
+abbrev pub number_word : ℕ → Word
+number_word n = record { kind = kinds.Num n; text = decimal n }
 
 abbrev pub sized : ℕ → ℕ → Word
 sized w n = record { kind = kinds.Sized w n; text = decimal w ++ codes "'d" ++ decimal n }
@@ -70,14 +70,14 @@ enclosed false ws = sym syms.OpenParen ∷ (ws ++ (sym syms.CloseParen ∷ []))
 abbrev pub applied : Primitive → List (List Word) → List Word
 applied prims.Not parts = sym syms.Tilde ∷ separated (sym syms.Comma) parts
 applied prims.Cat parts = key keys.Cat ∷ (sym syms.OpenParen ∷ (separated (sym syms.Comma) parts ++ (sym syms.CloseParen ∷ [])))
-applied (prims.Bits h l) parts = key keys.Bits ∷ (sym syms.OpenParen ∷ (separated (sym syms.Comma) parts ++ (sym syms.Comma ∷ (number h ∷ (sym syms.Comma ∷ (number l ∷ (sym syms.CloseParen ∷ [])))))))
-applied (prims.Ext n) parts = key keys.Ext ∷ (sym syms.OpenParen ∷ (separated (sym syms.Comma) parts ++ (sym syms.Comma ∷ (number n ∷ (sym syms.CloseParen ∷ [])))))
+applied (prims.Bits h l) parts = key keys.Bits ∷ (sym syms.OpenParen ∷ (separated (sym syms.Comma) parts ++ (sym syms.Comma ∷ (number_word h ∷ (sym syms.Comma ∷ (number_word l ∷ (sym syms.CloseParen ∷ [])))))))
+applied (prims.Ext n) parts = key keys.Ext ∷ (sym syms.OpenParen ∷ (separated (sym syms.Comma) parts ++ (sym syms.Comma ∷ (number_word n ∷ (sym syms.CloseParen ∷ [])))))
 applied o parts = separated (sym (symbol_of o)) parts
 
 -- `:` and the width, if one is written
 abbrev pub written : Option ℕ → List Word
 written None = []
-written (Some w) = sym syms.Colon ∷ (number w ∷ [])
+written (Some w) = sym syms.Colon ∷ (number_word w ∷ [])
 
 -- the words of a binding, given those of its value
 abbrev pub bound_words : List ℕ → Option ℕ → List Word → List Word
@@ -86,20 +86,20 @@ bound_words x w value = name x ∷ (written w ++ (sym syms.Assign ∷ value))
 -- the words of an expression, without parentheses around it
 abbrev mutual
   pub words : Tree → List Word
-  words (Number p n) = number n ∷ []
+  words (Number p n) = number_word n ∷ []
   words (Sized p w n) = sized w n ∷ []
   words (Variable p x) = name x ∷ []
   words (If p c a b) = key keys.If ∷ (words c ++ (key keys.Then ∷ (words a ++ (key keys.Else ∷ words b))))
   words (Let p bs t) = key keys.Let ∷ (separated (sym syms.Comma) (bind_words bs) ++ (key keys.In ∷ words t))
   words (Cases p e arms) = key keys.Case ∷ (words e ++ (sym syms.OpenBrace ∷ (arm_words arms ++ (sym syms.CloseBrace ∷ []))))
-  words (Op p o ts) = applied o (part_words (left_place o) (right_place o) ts)
+  words (Op p o ts) = applied o (part_words (left_context o) (right_context o) ts)
   words (Call p f ts) = name f ∷ (sym syms.OpenParen ∷ (separated (sym syms.Comma) (part_words 8 8 ts) ++ (sym syms.CloseParen ∷ [])))
 
   -- the words of operands, the first in a context of so many layers, and the others in one of so many. They have parentheses if
   -- they need more layers
   pub part_words : ℕ → ℕ → Trees → List (List Word)
   part_words k right no_tree = []
-  part_words k right (a_tree t ts) = enclosed (nat_le (own t) k) (words t) ∷ part_words right right ts
+  part_words k right (a_tree t ts) = enclosed (nat_le (layers_of t) k) (words t) ∷ part_words right right ts
 
   pub bind_words : Binds → List (List Word)
   bind_words no_bind = []
@@ -118,11 +118,11 @@ labelled_words (a ∷ arms) = words a.label ++ (sym syms.Arrow ∷ (words a.valu
 
 abbrev pub param_words : List Parameter → List (List Word)
 param_words [] = []
-param_words (p ∷ ps) = (name p.name ∷ (sym syms.Colon ∷ (number p.width ∷ []))) ∷ param_words ps
+param_words (p ∷ ps) = (name p.name ∷ (sym syms.Colon ∷ (number_word p.width ∷ []))) ∷ param_words ps
 
 -- the words of a definition without its `fun` or `and`
 abbrev pub one_words : Definition → List Word
-one_words d = name d.name ∷ (sym syms.OpenParen ∷ (separated (sym syms.Comma) (param_words d.params) ++ (sym syms.CloseParen ∷ (sym syms.Colon ∷ (number d.width ∷ (sym syms.Assign ∷ words d.body))))))
+one_words d = name d.name ∷ (sym syms.OpenParen ∷ (separated (sym syms.Comma) (param_words d.params) ++ (sym syms.CloseParen ∷ (sym syms.Colon ∷ (number_word d.width ∷ (sym syms.Assign ∷ words d.body))))))
 
 -- a joined definition begins with `and`, any other with `fun`
 abbrev pub opening : Bool → Word

@@ -6,7 +6,7 @@ ghost use Rattle.safl_tree.specs.Shown.{shown_tree, shown_trees, shown_bounds, s
 ghost use Rattle.safl_tree.specs.Printable.{is_binary, AllKeepLevels};
 ghost use Rattle.safl_tree.specs.Keeps.{Keeps, PartKeeps, PartsKeep, OperandsKeep, BindingsKeep, ArmsKeep};
 
-use crate::places::{is_binary, left_place, own, right_place};
+use crate::precedence::{is_binary, layers_of, left_context, right_context};
 use crate::{Arm, Bind, Expr, Node, Program};
 use safl_word::Primitive;
 
@@ -110,7 +110,7 @@ fn operands_keep(p: Primitive, es: &[Expr], levels: u16, depth: u16) -> bool
     if is_binary(p) {
         binary_keeps(p, es, levels, depth)
     } else {
-        levels > 0 && parts_keep(es, right_place(p), levels - 1, depth)
+        levels > 0 && parts_keep(es, right_context(p), levels - 1, depth)
     }
 }
 
@@ -122,8 +122,8 @@ fn binary_keeps(p: Primitive, es: &[Expr], levels: u16, depth: u16) -> bool
     match es {
         [] => true,
         [first, rest @ ..] => {
-            part_keeps(first, left_place(p), levels, depth.min(LEFT_DEPTH))
-                && parts_keep(rest, right_place(p), levels, depth)
+            part_keeps(first, left_context(p), levels, depth.min(LEFT_DEPTH))
+                && parts_keep(rest, right_context(p), levels, depth)
         }
     }
 }
@@ -146,7 +146,7 @@ fn parts_keep(es: &[Expr], place: u8, levels: u16, depth: u16) -> bool
 fn part_keeps(e: &Expr, place: u8, levels: u16, depth: u16) -> bool
     ensures { IsTrue result ↔ PartKeeps place levels depth (shown_tree e.now) }
 {
-    if own(e) <= place {
+    if layers_of(e) <= place {
         keeps(e, levels, depth)
     } else {
         levels > 0 && keeps(e, levels - 1, depth)

@@ -6,7 +6,7 @@ mod dismantle;
 pub mod laws;
 mod levels;
 pub mod name;
-mod places;
+mod precedence;
 mod print_expression;
 mod print_program;
 mod print_words;

@@ -2,13 +2,13 @@
 
 ghost use Rattle.std.specs.Prelude.{◌≡◌, ◌∷◌, ◌++◌, [], OnOk, nat_le};
 ghost use Rattle.safl_tree.specs.Tree.{Op, Call, trees_of, binds_of};
-ghost use Rattle.safl_tree.specs.Printable.{own};
+ghost use Rattle.safl_tree.specs.Printable.{layers_of};
 ghost use Rattle.safl_tree.specs.Shown.{shown_tree, shown_trees, shown_bounds, shown_labelled};
 ghost use Rattle.safl_tree.specs.Printed.{Writes, words, separated, enclosed, part_words, bind_words, bound_words, labelled_words, sym};
 ghost use Rattle.safl_word.specs.declared.token.Sym.TheVariants as syms;
 ghost use Rattle.safl_word.specs.declared.primitive.Primitive.TheVariants as prims;
 
-use crate::places::{left_place, own, right_place};
+use crate::precedence::{layers_of, left_context, right_context};
 use crate::print_words::{push_key, push_name, push_number, push_sized, push_sym, symbol_of};
 use crate::{Arm, Bind, Expr, Name, Node};
 use safl_word::{Key, NoMemory, Primitive, Raw, Sym};
@@ -119,7 +119,7 @@ fn push_operation(p: Primitive, es: &[Expr], out: &mut Vec<u8>) -> Result<(), No
         }
         Primitive::Bits(high, low) => push_bits(high, low, es, out),
         Primitive::Ext(width) => push_ext(width, es, out),
-        _ => push_parts(es, left_place(p), right_place(p), symbol_of(p), out),
+        _ => push_parts(es, left_context(p), right_context(p), symbol_of(p), out),
     }
 }
 
@@ -174,9 +174,9 @@ fn push_parts(
 // Appends an expression in a context of `place` layers, with parentheses if it needs more.
 #[cycle(print)]
 fn push_part(e: &Expr, place: u8, out: &mut Vec<u8>) -> Result<(), NoMemory>
-    ensures { OnOk result (Writes out.old.items out.new.items (enclosed (nat_le (own (shown_tree e.now)) place) (words (shown_tree e.now)))) }
+    ensures { OnOk result (Writes out.old.items out.new.items (enclosed (nat_le (layers_of (shown_tree e.now)) place) (words (shown_tree e.now)))) }
 {
-    if own(e) <= place {
+    if layers_of(e) <= place {
         push_expr(e, out)
     } else {
         push_sym(Sym::OpenParen, out)?;

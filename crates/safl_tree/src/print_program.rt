@@ -4,7 +4,7 @@ ghost use Rattle.std.specs.Prelude.{◌≡◌, [], ◌∷◌, ◌++◌, IfOk, On
 ghost use Rattle.safl_word.specs.declared.token.Sym.TheVariants as syms;
 ghost use Rattle.safl_tree.specs.Printable.{IsPrintable};
 ghost use Rattle.safl_tree.specs.Shown.{shown_parameters, shown_definition, shown_program};
-ghost use Rattle.safl_tree.specs.Printed.{Writes, sym, name, number, separated, param_words, one_words, line, printed};
+ghost use Rattle.safl_tree.specs.Printed.{Writes, sym, name, number_word, separated, param_words, one_words, line, printed};
 ghost use Rattle.safl_tree.specs.Laws.{SpelledBy};
 
 use crate::print_expression::push_expr;
@@ -65,7 +65,7 @@ fn push_params(params: &[Param], out: &mut Vec<u8>) -> Result<(), NoMemory>
 }
 
 fn push_param(param: &Param, out: &mut Vec<u8>) -> Result<(), NoMemory>
-    ensures { OnOk result (Writes out.old.items out.new.items (name param.now.name ∷ (sym syms.Colon ∷ (number param.now.width ∷ [])))) }
+    ensures { OnOk result (Writes out.old.items out.new.items (name param.now.name ∷ (sym syms.Colon ∷ (number_word param.now.width ∷ [])))) }
 {
     push_name(&param.name, out)?;
     push_sym(Sym::Colon, out)?;

@@ -1,7 +1,7 @@
 //! Printing single tokens, each followed by a space.
 
 ghost use Rattle.std.specs.Prelude.{◌≡◌, [], ◌∷◌, ◌++◌, OnOk};
-ghost use Rattle.safl_tree.specs.Printed.{Writes, key, sym, name, number, sized, symbol_of};
+ghost use Rattle.safl_tree.specs.Printed.{Writes, key, sym, name, number_word, sized, symbol_of};
 
 use crate::Name;
 use safl_word::{Key, NoMemory, Primitive, Raw, Sym, push_decimal};
@@ -33,7 +33,7 @@ pub(crate) fn push_name(x: &Name, out: &mut Vec<u8>) -> Result<(), NoMemory>
 }
 
 pub(crate) fn push_number(n: Raw, out: &mut Vec<u8>) -> Result<(), NoMemory>
-    ensures { OnOk result (Writes out.old.items out.new.items (number n ∷ [])) }
+    ensures { OnOk result (Writes out.old.items out.new.items (number_word n ∷ [])) }
 {
     out.push(b' ')?;
     push_decimal(n, out)

@@ -10,9 +10,9 @@ use Rattle.safl_typing.specs.Rewriting.{Expression, Number, Sized, Variable, If,
 use Rattle.safl_typing.specs.Rewriting.{no_binding, a_binding, Shape, Alike, Comparing, Shifting, Resizing, shape, takes_width, flexible}
 use Rattle.safl_typing.specs.Rewriting.{all_flexible, count}
 use Rattle.safl_typing.specs.Heads.{Slot, Head, Known, Callee, Member, Above, Unknown, callee, sites, sites_bound}
-use Rattle.safl_typing.specs.Typing.{At, word, widths_of, slots, Keeps, AreAll, AllRigid, RigidOr, Shifts, Suits, Calls, Has, HaveAll, HaveBound}
+use Rattle.safl_typing.specs.Typing.{At, word, widths_of, slots, KeepsWritten, AreAll, AllRigid, RigidOr, Shifts, Suits, Calls, Has, HaveAll, HaveBound}
 use Rattle.safl_typing.specs.Walk.{after, unless, needs, Typed, TypedAlike, TypedAll, Wanted, Any, Exactly, is_any, is_known, wanted_by, settle}
-use Rattle.safl_typing.specs.Walk.{number, sized, variable, branches, alike, operated, arguments, called, all_any, amounts, exactly, check, check_all}
+use Rattle.safl_typing.specs.Walk.{check_number, sized, variable, branches, alike, operated, arguments, called, all_any, amounts, exactly, check, check_all}
 use Rattle.safl_typing.specs.Walk.{check_alike, check_shift, check_bound}
 use Rattle.safl_typing.proofs.Counts.{has_sites, have_sites_bound}
 use Rattle.safl_typing.proofs.Names.{bound_differ}
@@ -54,9 +54,9 @@ settle_met : (p : ℕ) (m : Wanted) (b : Bool) (v w : ℕ) (t u : Term) → Met 
 settle_met p Any b v w t u h e q = cc
 settle_met p (Exactly x) b v w t u h e q = rw (eq-eqb x v (h ∙ sym e)) cc
 
-number_met : (p n : ℕ) (m : Wanted) (w : ℕ) (t : Term) → Met m true w → n < 2 ^ w → t ≡ Const (word w n) → number p n m ≡ Ok (typed w t)
+number_met : (p n : ℕ) (m : Wanted) (w : ℕ) (t : Term) → Met m true w → n < 2 ^ w → t ≡ Const (word w n) → check_number p n m ≡ Ok (typed w t)
 number_met p n Any w t h lt q = absurd cc
-number_met p n (Exactly v) w t h lt q = subst (λ (x : ℕ). number p n (Exactly x) ≡ Ok (typed w t)) (sym h) (rw (lt-ltb n (2 ^ w) lt) cc)
+number_met p n (Exactly v) w t h lt q = subst (λ (x : ℕ). check_number p n (Exactly x) ≡ Ok (typed w t)) (sym h) (rw (lt-ltb n (2 ^ w) lt) cc)
 
 sized_met : (p v n : ℕ) (m : Wanted) (w : ℕ) (t : Term) → Met m false w → v ≡ w → n < 2 ^ v → t ≡ Const (word v n) → sized p v n m ≡ Ok (typed w t)
 sized_met p v n m w t h e lt q = rw (lt-ltb n (2 ^ v) lt) (settle_met p m false v w (Const (word v n)) t h e (sym q))
@@ -151,7 +151,7 @@ met_amounts w no_expression ws r h = tt
 met_amounts w (an_expression e es) [] r h = h
 met_amounts w (an_expression e es) (v ∷ ws) r h = (met_amount (flexible e) w v r.0, met_amounts w es ws r.1 h)
 
-met_written : (v : Option ℕ) (e : Expression) (w : ℕ) → Keeps v e w → Met (wanted_by v) (flexible e) w
+met_written : (v : Option ℕ) (e : Expression) (w : ℕ) → KeepsWritten v e w → Met (wanted_by v) (flexible e) w
 met_written None e w h = h
 met_written (Some v) e w h = h
 

@@ -24,7 +24,7 @@ use Rattle.safl_tree.specs.Printable.{AreFormedParameters, IsFormedDefinition, A
 use Rattle.safl_typing.specs.Rewriting.{rewritten}
 use Rattle.safl_typing.specs.Heads.{Slot, Head, params_of, head_of, heads}
 use Rattle.safl_typing.specs.Typing.{widths_of}
-use Rattle.safl_typing.specs.Forms.{shown_param, shown_function, form_of, shown, sites_of, all_sites, param_names, IsLast, function_names, AreShallow, IsFormOf}
+use Rattle.safl_typing.specs.Forms.{shown_param, shown_function, form_of, shown_form, sites_of, all_sites, param_names, IsLast, function_names, AreShallow, IsFormOf}
 use Rattle.safl_typing.proofs.Names.{some_is}
 use Rattle.safl_typing.specs.Ranges.{IsWide}
 use Rattle.safl_typing.proofs.Formed.{width_wide, heads_wide, params_wide}
@@ -433,5 +433,5 @@ module _ (c : Tables) (ds : List Definition) (b : IsBased c ds) (shallow : AreSh
 tables_checked : (ds : List Definition) (t : Tables) → IsFormedProgram ds → AreShallow ds → IsFormOf ds (form_of t) → IsChecked (checked_of t)
 tables_checked ds t formed shallow form = is_checked t ds (based ds t formed form) shallow
 
-pub form_checked : (ds : List Definition) (c : CheckedProgram) → IsFormedProgram ds → AreShallow ds → IsFormOf ds (shown c) → IsChecked c
-form_checked ds = each_checked (λ c. IsFormedProgram ds → AreShallow ds → IsFormOf ds (shown c) → IsChecked c) (tables_checked ds)
+pub form_checked : (ds : List Definition) (c : CheckedProgram) → IsFormedProgram ds → AreShallow ds → IsFormOf ds (shown_form c) → IsChecked c
+form_checked ds = each_checked (λ c. IsFormedProgram ds → AreShallow ds → IsFormOf ds (shown_form c) → IsChecked c) (tables_checked ds)

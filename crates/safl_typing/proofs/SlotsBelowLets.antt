@@ -12,7 +12,7 @@ use Rattle.safl_typing.specs.Typing.{slots}
 use Rattle.safl_typing.specs.Walk.{Typed, after}
 use Rattle.safl_typing.specs.Plain.{shown_bindings}
 use Rattle.safl_typing.specs.PlainHeads.{shown_slot, shown_slots}
-use Rattle.safl_typing.specs.PlainTyped.{Refuses}
+use Rattle.safl_typing.specs.PlainTyped.{RefusesFault}
 
 pub same_term : (w : ℕ) (t u : Term) → t ≡ u → ◌≡◌ {A = Result Typed Fault} (Ok (record { width = w; term = t })) (Ok (record { width = w; term = u }))
 same_term w t u e = rw e refl
@@ -38,7 +38,7 @@ slots_more all more end bound b bs widths w ws name bytes eb ew en ey em h =
 
 -- ---- faults
 
-pub fails : {A B : Type 0} (e : CheckErr) (q : Result B Fault) (r : Result A Fault) (rest : A → Result B Fault) → q ≡ after r rest → Refuses e r → Refuses e q
+pub fails : {A B : Type 0} (e : CheckErr) (q : Result B Fault) (r : Result A Fault) (rest : A → Result B Fault) → q ≡ after r rest → RefusesFault e r → RefusesFault e q
 fails (errors.Refused f) q r rest p h = p ∙ ap (λ z. after z rest) h
 fails errors.TooDeep q r rest p h = h
 fails errors.NoMemory q r rest p h = tt

@@ -7,7 +7,7 @@ use Rattle.safl_typing.specs.declared.typed.CheckErr.{CheckErr}
 use Rattle.safl_typing.specs.declared.typed.CheckErr.TheVariants as errors
 use Rattle.safl_typing.specs.declared.typed.Wanted as code_wanted
 use Rattle.safl_typing.specs.declared.typed.Wanted.TheVariants as wants
-use Rattle.safl_typing.specs.Walk.{fault, number, sized}
+use Rattle.safl_typing.specs.Walk.{fault, check_number, sized}
 use Rattle.std.specs.Str.{bytes_eq}
 use Rattle.std.proofs.lemmas.Bool.{ltb-true, false_from_ne_true}
 use Rattle.safl_word.specs.Words.{IsWord}
@@ -79,11 +79,11 @@ name_is x y u v r b e t p q = sym (ap (λ (z : List ℕ). bytes_eq z v) p) ∙ s
 -- ---- numbers that do not fit
 
 pub number_refused : (p n w : ℕ) (m : code_wanted.Wanted) (r : CheckErr) → HasWideWanted m → m ≡ wants.Exactly w → (IsWord (word w n) → ⊥) → r ≡
-    errors.Refused (fault rules.E13 p) → Says (Err r) (number p n (shown_wanted m))
+    errors.Refused (fault rules.E13 p) → Says (Err r) (check_number p n (shown_wanted m))
 number_refused p n w m r h e f q =
     let wide : HasWidthOfWord w = subst HasWideWanted e h in
-    subst (λ (z : CheckErr). Says (Err z) (number p n (shown_wanted m))) (sym q)
-    (subst (λ (z : code_wanted.Wanted). number p n (shown_wanted z) ≡ Err (fault rules.E13 p)) (sym e) (rw (not_fits w n wide f) refl))
+    subst (λ (z : CheckErr). Says (Err z) (check_number p n (shown_wanted m))) (sym q)
+    (subst (λ (z : code_wanted.Wanted). check_number p n (shown_wanted z) ≡ Err (fault rules.E13 p)) (sym e) (rw (not_fits w n wide f) refl))
 
 pub sized_refused : (p w n : ℕ) (m : code_wanted.Wanted) (r : CheckErr) → HasWidthOfWord w → (IsWord (word w n) → ⊥) → r ≡ errors.Refused
     (fault rules.E13 p) → Says (Err r) (sized p w n (shown_wanted m))

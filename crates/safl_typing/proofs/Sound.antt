@@ -13,9 +13,9 @@ use Rattle.safl_typing.specs.Rewriting.{Expression, Number, Sized, Variable, If,
 use Rattle.safl_typing.specs.Rewriting.{no_binding, a_binding, Shape, Alike, Comparing, Shifting, Resizing, shape, takes_width, flexible}
 use Rattle.safl_typing.specs.Rewriting.{all_flexible, count}
 use Rattle.safl_typing.specs.Heads.{Slot, Known, Callee, Member, Above, Unknown, callee, is_site, sites, sites_in, sites_bound}
-use Rattle.safl_typing.specs.Typing.{At, innermost, word, widths_of, slots, Keeps, AreAll, AllRigid, RigidOr, Shifts, Suits, Calls, Has, HaveAll, HaveBound}
+use Rattle.safl_typing.specs.Typing.{At, innermost, word, widths_of, slots, KeepsWritten, AreAll, AllRigid, RigidOr, Shifts, Suits, Calls, Has, HaveAll, HaveBound}
 use Rattle.safl_typing.specs.Walk.{after, unless, needs, fault_with, Typed, TypedAlike, TypedAll, Wanted, Any, Exactly, is_any, wanted_by, settle}
-use Rattle.safl_typing.specs.Walk.{number, sized, variable, branches, alike, resized, operated, called, all_any, amounts, exactly, check, check_all}
+use Rattle.safl_typing.specs.Walk.{check_number, sized, variable, branches, alike, resized, operated, called, all_any, amounts, exactly, check, check_all}
 use Rattle.safl_typing.specs.Walk.{check_alike, check_shift, check_bound}
 use Rattle.safl_typing.proofs.Names.{some_none, differ_bound}
 use Rattle.safl_typing.specs.Ranges.{IsWide, AreWide, WideSlots, WideHeads, IsInRange, AreInRange, BoundInRange}
@@ -99,7 +99,7 @@ fits_here false n w f x y q e = err_ok f y e
 is_word : (w n : ℕ) → IsWide w → n < 2 ^ w → IsWord (word w n)
 is_word w n h lt = record { some = h.some; bounded = h.bounded; fits = lt }
 
-number_sound : (P : ℕ → Term → Type 0) (p n : ℕ) (m : Wanted) (x : Typed) → number p n m ≡ Ok x → WideWanted m → ((w : ℕ) → IsWord (word w n) → P w (Const (word w n))) → IsSound P m true x
+number_sound : (P : ℕ → Term → Type 0) (p n : ℕ) (m : Wanted) (x : Typed) → check_number p n m ≡ Ok x → WideWanted m → ((w : ℕ) → IsWord (word w n) → P w (Const (word w n))) → IsSound P m true x
 number_sound P p n Any x e w f = err_ok _ x e
 number_sound P p n (Exactly v) x e w f =
     let q = fits_here (nat_lt n (2 ^ v)) n v _ (typed v (Const (word v n))) x refl e in
@@ -333,7 +333,7 @@ wide_written : (v : Option ℕ) → ((w : ℕ) → v ≡ Some w → IsWide w) �
 wide_written None f = tt
 wide_written (Some w) f = f w refl
 
-keeps_written : (v : Option ℕ) (e : Expression) (w : ℕ) → Met (wanted_by v) (flexible e) w → Keeps v e w
+keeps_written : (v : Option ℕ) (e : Expression) (w : ℕ) → Met (wanted_by v) (flexible e) w → KeepsWritten v e w
 keeps_written None e w h = h
 keeps_written (Some v) e w h = h
 

@@ -30,7 +30,7 @@ use Rattle.safl_typing.specs.Walk.{wanted_by, settle, branches, alike, resized, 
 use Rattle.safl_typing.specs.Walk.{exactly, check, check_all, check_alike, check_shift, check_bound}
 use Rattle.safl_typing.specs.Plain.{shown_expression, shown_expressions, shown_bindings}
 use Rattle.safl_typing.specs.PlainHeads.{shown_slots, shown_head, shown_heads, known, with_number, a_member, an_earlier, shown_callee, IsOneOf}
-use Rattle.safl_typing.specs.PlainTyped.{shown_wanted, HasWidthOfWord, HasWideWanted, Refuses, operand_wanted, operands_wanted}
+use Rattle.safl_typing.specs.PlainTyped.{shown_wanted, HasWidthOfWord, HasWideWanted, RefusesFault, operand_wanted, operands_wanted}
 use Rattle.safl_typing.specs.MayWalk.{CountParams, MayWalk, MayCheck, MayCheckAll, MayBind}
 use Rattle.safl_typing.proofs.Wide.{WideCallee, callee_wide, wide_slots, wide_append}
 use Rattle.safl_typing.proofs.SlotsBelowLets.{goes}
@@ -407,8 +407,8 @@ ok_typed a b e = rw e refl
 pub same_typed : (v w : ℕ) (t u : Term) → v ≡ w → t ≡ u → ◌≡◌ {A = Typed} (record { width = v; term = t }) (record { width = w; term = u })
 same_typed v w t u e q = rw (e, q) refl
 
-pub refused_is : {A : Type 0} (r : CheckErr) (q : Result A Fault) (f : Fault) → r ≡ errors.Refused f → q ≡ Err f → Refuses r q
-refused_is r q f e h = subst (λ (z : CheckErr). Refuses z q) (sym e) h
+pub refused_is : {A : Type 0} (r : CheckErr) (q : Result A Fault) (f : Fault) → r ≡ errors.Refused f → q ≡ Err f → RefusesFault r q
+refused_is r q f e h = subst (λ (z : CheckErr). RefusesFault z q) (sym e) h
 
 -- ---- functions that are called
 

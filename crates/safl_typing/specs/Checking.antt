@@ -8,8 +8,8 @@ use Rattle.safl_typing.specs.declared.expression.Expression as code
 use Rattle.safl_typing.specs.declared.heads.Head as code_head
 use Rattle.safl_typing.specs.declared.scope.Scope.{Scope}
 use Rattle.safl_typing.specs.declared.typed.Wanted as code_wanted
-use Rattle.safl_typing.specs.declared.walk.Branches.{Branches}
-use Rattle.safl_typing.specs.declared.walk.Position.{Position}
+use Rattle.safl_typing.specs.declared.checking.Branches.{Branches}
+use Rattle.safl_typing.specs.declared.checking.Position.{Position}
 use Rattle.safl_typing.specs.Rewriting.{Expression, If, flexible, count, nodes}
 use Rattle.safl_typing.specs.Heads.{Known, sites}
 use Rattle.safl_typing.specs.Typing.{widths_of}

@@ -39,8 +39,8 @@ shown_function f = record { name = string_bytes f.name; params = map shown_param
 abbrev pub form_of : Tables → Form
 form_of t = record { functions = map shown_function t.functions; sites = t.sites }
 
-abbrev pub shown : CheckedProgram → Form
-shown c = form_of c.tables
+abbrev pub shown_form : CheckedProgram → Form
+shown_form c = form_of c.tables
 
 -- the call sites of the body of g, in order
 abbrev mutual

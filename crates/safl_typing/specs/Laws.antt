@@ -3,7 +3,7 @@ use Rattle.std.specs.Prelude.{◌≡◌, ◌↔◌, ℕ, List, [], ◌∷◌, So
 use Rattle.safl_tree.specs.Tree.{Definition}
 use Rattle.safl_tree.specs.Printable.{IsFormedProgram}
 use Rattle.safl_term.specs.Checked.{CheckedProgram, IsChecked}
-use Rattle.safl_typing.specs.Forms.{FunctionForm, Form, AreShallow, IsFormOf, shown}
+use Rattle.safl_typing.specs.Forms.{FunctionForm, Form, AreShallow, IsFormOf, shown_form}
 use Rattle.safl_typing.specs.Walk.{outcome, first_fault}
 
 -- checking gives exactly the form that the program has
@@ -20,7 +20,7 @@ OneForm = (ds : List Definition) (c d : Form) → IsFormOf ds c → IsFormOf ds 
 
 -- a program with a form, whose bodies are shallow, is well formed, within limits, and in the order of the text
 abbrev pub FormsAreChecked : Type 0
-FormsAreChecked = (ds : List Definition) (c : CheckedProgram) → IsFormedProgram ds → AreShallow ds → IsFormOf ds (shown c) → IsChecked c
+FormsAreChecked = (ds : List Definition) (c : CheckedProgram) → IsFormedProgram ds → AreShallow ds → IsFormOf ds (shown_form c) → IsChecked c
 
 -- no definition belongs to the group of the one before it
 abbrev pub NoneJoined : List Definition → Type 0

@@ -9,8 +9,8 @@ use Rattle.safl_typing.specs.declared.typed.CheckErr.TheVariants as errors
 use Rattle.safl_typing.specs.declared.typed.Wanted as code_wanted
 use Rattle.safl_typing.specs.declared.typed.Wanted.TheVariants as wants
 use Rattle.safl_typing.specs.declared.typed.Typed as code_typed
-use Rattle.safl_typing.specs.declared.parts.TypedAll as code_all
-use Rattle.safl_typing.specs.declared.parts.TypedAlike as code_alike
+use Rattle.safl_typing.specs.declared.terms.TypedAll as code_all
+use Rattle.safl_typing.specs.declared.terms.TypedAlike as code_alike
 use Rattle.safl_typing.specs.declared.shape.Shape as code_shape
 use Rattle.safl_typing.specs.declared.shape.Shape.TheVariants as shapes
 use Rattle.safl_typing.specs.Rewriting.{Expressions, no_expression, Shape, Alike, Comparing, Shifting, Resizing}
@@ -40,25 +40,25 @@ abbrev pub shown_alike : code_alike.TypedAlike → TypedAlike
 shown_alike t = record { width = t.width; terms = shown_terms t.terms.items }
 
 -- The error is the fault that the definition of checking gives, or out of memory. That definition finds nothing too deep.
-abbrev pub Refuses : {A : Type 0} → CheckErr → Result A Fault → Type 0
-Refuses (errors.Refused f) r = r ≡ Err f
-Refuses errors.TooDeep r = ⊥
-Refuses errors.NoMemory r = Unit {0}
+abbrev pub RefusesFault : {A : Type 0} → CheckErr → Result A Fault → Type 0
+RefusesFault (errors.Refused f) r = r ≡ Err f
+RefusesFault errors.TooDeep r = ⊥
+RefusesFault errors.NoMemory r = Unit {0}
 
 -- the result of the code is that of the definition of checking
 abbrev pub Says : Result code_typed.Typed CheckErr → Result Typed Fault → Type 0
 Says (Ok x) r = r ≡ Ok (shown_typed x)
-Says (Err e) r = Refuses e r
+Says (Err e) r = RefusesFault e r
 
 -- the results of the code for several expressions are those of the definition of checking
 abbrev pub SaysAll : Result code_all.TypedAll CheckErr → Result TypedAll Fault → Type 0
 SaysAll (Ok x) r = r ≡ Ok (shown_all_typed x)
-SaysAll (Err e) r = Refuses e r
+SaysAll (Err e) r = RefusesFault e r
 
 -- the results of the code for several expressions of one width are those of the definition of checking
 abbrev pub SaysAlike : Result code_alike.TypedAlike CheckErr → Result TypedAlike Fault → Type 0
 SaysAlike (Ok x) r = r ≡ Ok (shown_alike x)
-SaysAlike (Err e) r = Refuses e r
+SaysAlike (Err e) r = RefusesFault e r
 
 -- the result of the code is that of the definition of checking for no operands, whatever is known and in scope
 abbrev pub SaysNoOperand : Result code_alike.TypedAlike CheckErr → ℕ → code_wanted.Wanted → Type 0

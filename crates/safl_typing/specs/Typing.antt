@@ -38,9 +38,9 @@ slots (a_binding p x v e bs) [] = []
 slots (a_binding p x v e bs) (w ∷ ws) = record { name = x; width = w } ∷ slots bs ws
 
 -- a binding has the width that is written, or no width is written and it is rigid
-abbrev pub Keeps : Option ℕ → Expression → ℕ → Type 0
-Keeps (Some v) e w = v ≡ w
-Keeps None e w = flexible e ≡ false
+abbrev pub KeepsWritten : Option ℕ → Expression → ℕ → Type 0
+KeepsWritten (Some v) e w = v ≡ w
+KeepsWritten None e w = flexible e ≡ false
 
 abbrev pub AreAll : ℕ → List ℕ → Type 0
 AreAll w [] = Unit {0}
@@ -109,4 +109,4 @@ abbrev mutual
   HaveBound k s lo hi no_binding [] us = (lo ≡ hi) × (us ≡ Nil)
   HaveBound k s lo hi no_binding (w ∷ ws) us = ⊥
   HaveBound k s lo hi (a_binding p x v e bs) [] us = ⊥
-  HaveBound k s lo hi (a_binding p x v e bs) (w ∷ ws) us = (m : ℕ) × (t : Term) × (ts : Terms) × Keeps v e w × Has k s false lo m e w t × HaveBound k s m hi bs ws ts × (us ≡ Cons t ts)
+  HaveBound k s lo hi (a_binding p x v e bs) (w ∷ ws) us = (m : ℕ) × (t : Term) × (ts : Terms) × KeepsWritten v e w × Has k s false lo m e w t × HaveBound k s m hi bs ws ts × (us ≡ Cons t ts)

@@ -80,9 +80,9 @@ settle p Any v t = Ok (record { width = v; term = t })
 settle p (Exactly w) v t = if w == v then Ok (record { width = v; term = t }) else Err (fault_with rules.E12 p w v)
 
 -- a number. It has any width that it fits
-abbrev pub number : ℕ → ℕ → Wanted → Result Typed Fault
-number p n Any = Err (fault rules.E14 p)
-number p n (Exactly w) = if nat_lt n (2 ^ w) then Ok (record { width = w; term = Const (word w n) }) else Err (fault rules.E13 p)
+abbrev pub check_number : ℕ → ℕ → Wanted → Result Typed Fault
+check_number p n Any = Err (fault rules.E14 p)
+check_number p n (Exactly w) = if nat_lt n (2 ^ w) then Ok (record { width = w; term = Const (word w n) }) else Err (fault rules.E13 p)
 
 abbrev pub sized : ℕ → ℕ → ℕ → Wanted → Result Typed Fault
 sized p v n m = if nat_lt n (2 ^ v) then settle p m v (Const (word v n)) else Err (fault rules.E13 p)
@@ -155,7 +155,7 @@ exactly ws = map (λ w. Exactly w) ws
 -- the text, whatever is checked first.
 abbrev mutual
   pub check : Known → List Slot → Bool → ℕ → Wanted → Expression → Result Typed Fault
-  check k s tail lo m (Number p n) = number p n m
+  check k s tail lo m (Number p n) = check_number p n m
   check k s tail lo m (Sized p v n) = sized p v n m
   check k s tail lo m (Variable p x) = variable p m (innermost x 0 s)
   check k s tail lo m (If p c a b) =

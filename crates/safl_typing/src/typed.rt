@@ -4,7 +4,7 @@ ghost use Rattle.std.specs.Prelude.{◌≡◌, ℕ, ◌<◌, ◌^◌, ◌&&◌, 
 ghost use Rattle.safl_term.specs.Slots.{HasSlots};
 ghost use Rattle.safl_term.specs.Tree.{shown_term};
 ghost use Rattle.safl_typing.specs.Typing.{innermost};
-ghost use Rattle.safl_typing.specs.Walk.{fault, settle, number, sized, variable, is_known, is_any, wanted_by};
+ghost use Rattle.safl_typing.specs.Walk.{fault, settle, check_number, sized, variable, is_known, is_any, wanted_by};
 ghost use Rattle.safl_typing.specs.declared.typed.CheckErr.TheVariants as errors;
 ghost use Rattle.safl_typing.specs.PlainScope.{shown_scope};
 ghost use Rattle.safl_typing.specs.PlainTyped.{shown_wanted, HasWideWanted, HasWidthOfWord, Says, operand_wanted};
@@ -127,7 +127,7 @@ pub fn settled(place: u32, wanted: Wanted, width: u8, term: Term) -> Result<Type
 /// A number. E14 if no width is expected, E13 if it does not fit the expected width.
 pub fn typed_number(place: u32, value: Raw, wanted: Wanted) -> Result<Typed, CheckErr>
     requires { HasWideWanted wanted }
-    ensures says { Says result (number place value (shown_wanted wanted)) }
+    ensures says { Says result (check_number place value (shown_wanted wanted)) }
     ensures slots { IfOk result (λ t. (n : ℕ) → HasSlots n t.term) }
 {
     match wanted {

@@ -14,9 +14,9 @@ use Rattle.safl_net.specs.Growth.{Val}
 use Rattle.safl_circuit.specs.Equations.{Registers, Inputs, ends, starts, end_in, go_in, end_word, go, want, body_wants, path, on_wires, ret, wants_at, clears, or_word, next}
 use Rattle.safl_circuit.specs.Names.{of_function, of_site, is_unit, is_site, numbers, view}
 use Rattle.safl_circuit.specs.Scheme.{Agree}
-use Rattle.safl_unit.specs.declared.parts.UnitPins.{UnitPins}
-use Rattle.safl_unit.specs.declared.parts.SitePins.{SitePins}
-use Rattle.safl_unit.specs.declared.parts.Bank.{Bank}
+use Rattle.safl_unit.specs.declared.pins.UnitPins.{UnitPins}
+use Rattle.safl_unit.specs.declared.pins.SitePins.{SitePins}
+use Rattle.safl_unit.specs.declared.pins.Bank.{Bank}
 use Rattle.safl_unit.specs.Cycles.{BankShows}
 use Rattle.safl_unit.proofs.Lining.{IsFull, there}
 use Rattle.safl_unit.proofs.Viewing.{FirstsShow}

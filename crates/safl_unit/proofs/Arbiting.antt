@@ -21,7 +21,7 @@ use Rattle.safl_lower.specs.Tables.{bit_or, on_in, taken_at, LoadsFit}
 use Rattle.safl_lower.specs.Sources.{IsSource, Builds}
 use Rattle.safl_lower.specs.Rows.{AreBits, on_any, frees, row_in, row_at}
 use Rattle.safl_lower.proofs.JoinedRows.{any_append, row_kept, row_free, frees_long, bits_push}
-use Rattle.safl_unit.specs.declared.parts.UnitPins.{UnitPins}
+use Rattle.safl_unit.specs.declared.pins.UnitPins.{UnitPins}
 use Rattle.safl_unit.proofs.Tables.{get_same, get_end}
 use Rattle.safl_unit.specs.Arbiters.{want_at, site_row, tally, RowsFree}
 use Rattle.safl_unit.proofs.Granting.{first_of, next_of, same_test, site_go, want_shown}

@@ -15,9 +15,9 @@ use Rattle.safl_sites.specs.Plan.{Choice}
 use Rattle.safl_term.specs.Names.{Names}
 use Rattle.safl_circuit.specs.Layout.{Line, layout_inputs}
 use Rattle.safl_circuit.specs.Scheme.{Scheme}
-use Rattle.safl_unit.specs.declared.parts.Bank.{Bank}
-use Rattle.safl_unit.specs.declared.parts.Pins.{Pins}
-use Rattle.safl_unit.specs.declared.parts.Controls.{Controls}
+use Rattle.safl_unit.specs.declared.pins.Bank.{Bank}
+use Rattle.safl_unit.specs.declared.pins.Pins.{Pins}
+use Rattle.safl_unit.specs.declared.pins.Controls.{Controls}
 use Rattle.safl_unit.specs.Ties.{register_ties, wire_ties}
 use Rattle.safl_unit.specs.Finished.{input_line, set_register, set_wire, declared_signals, declared_net, Finishes}
 

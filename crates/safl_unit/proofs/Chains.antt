@@ -20,7 +20,7 @@ use Rattle.safl_lower.proofs.JoinedRows.{any_pushed, bits_pushed, first_pushed, 
 use Rattle.safl_lower.proofs.Cells.{sources_length}
 use Rattle.safl_lower.proofs.Joining.{or_false}
 use Rattle.safl_lower.proofs.Building.{sources_kept}
-use Rattle.safl_unit.specs.declared.parts.Outcomes.{Outcomes}
+use Rattle.safl_unit.specs.declared.pins.Outcomes.{Outcomes}
 use Rattle.safl_unit.specs.Stages.{OutcomesFit}
 use Rattle.safl_unit.specs.Edges.{one_below, bit_of, operands_in, ShowsBits, ShowsLoads}
 use Rattle.safl_unit.proofs.Options.{first_is}

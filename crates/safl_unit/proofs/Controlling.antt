@@ -13,10 +13,10 @@ use Rattle.safl_lower.specs.Sources.{IsSource, Builds}
 use Rattle.safl_lower.specs.Tables.{pin, load_bit, bit_or, load_in, taken_in, one_word, FitsIn}
 use Rattle.safl_lower.proofs.Building.{source_kept}
 use Rattle.safl_lower.proofs.KnownLoads.{maybe_load_kept}
-use Rattle.safl_unit.specs.declared.parts.Pins.{Pins}
-use Rattle.safl_unit.specs.declared.parts.Returns.{Returns}
-use Rattle.safl_unit.specs.declared.parts.Outcomes.{Outcomes}
-use Rattle.safl_unit.specs.declared.parts.Controls.{Controls}
+use Rattle.safl_unit.specs.declared.pins.Pins.{Pins}
+use Rattle.safl_unit.specs.declared.pins.Returns.{Returns}
+use Rattle.safl_unit.specs.declared.pins.Outcomes.{Outcomes}
+use Rattle.safl_unit.specs.declared.pins.Controls.{Controls}
 use Rattle.safl_unit.specs.Cycles.{Cycle}
 use Rattle.safl_unit.specs.Stages.{HasReturns, HasOutcomes, HasGoes}
 use Rattle.safl_unit.specs.Finished.{HasControls}

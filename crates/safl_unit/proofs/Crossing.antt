@@ -16,8 +16,8 @@ use Rattle.safl_lower.specs.declared.loads.Load.{Load}
 use Rattle.safl_lower.specs.Sources.{Builds}
 use Rattle.safl_lower.specs.Tables.{pin, taken_in, taken_at, taken_from, on_from, one_word}
 use Rattle.safl_lower.proofs.KnownLoads.{load_kept, some_kept}
-use Rattle.safl_unit.specs.declared.parts.Outcomes.{Outcomes}
-use Rattle.safl_unit.specs.declared.parts.Pins.{Pins}
+use Rattle.safl_unit.specs.declared.pins.Outcomes.{Outcomes}
+use Rattle.safl_unit.specs.declared.pins.Pins.{Pins}
 use Rattle.safl_unit.specs.Stages.{called, OutcomesFit, HasOutcomes, HasGoes, HasEnds, HasLoads, HasStarts, HasClears, HasEntries, HasRivals}
 use Rattle.safl_unit.specs.Edges.{one_below, operands_in, rival, ShowsBits, ShowsLoads, ShowsBelow}
 use Rattle.safl_unit.proofs.Chains.{gates_both}

@@ -8,7 +8,7 @@ use Rattle.safl_net.specs.Netlist.{Netlist, Signal}
 use Rattle.safl_sites.specs.Plan.{Choice}
 use Rattle.safl_term.specs.Names.{Names}
 use Rattle.safl_circuit.specs.Layout.{lines, site_lines, layout_inputs, layout_registers, layout_wires}
-use Rattle.safl_unit.specs.declared.parts.Pins.{Pins}
+use Rattle.safl_unit.specs.declared.pins.Pins.{Pins}
 use Rattle.safl_unit.specs.Finished.{input_line, open_register, open_wire, declared_net, ArePins}
 use Rattle.safl_unit.specs.Ties.{sig_of, ties, numbered, function_ties, site_ties}
 use Rattle.safl_unit.specs.Declaring.{with_signals, function_lines, port_lines, FunctionsPinned, SitesPinned}

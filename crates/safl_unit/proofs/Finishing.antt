@@ -22,12 +22,12 @@ use Rattle.safl_circuit.specs.Layout.{named, layout_inputs, layout_registers, la
 use Rattle.safl_lower.specs.Sources.{IsSource, AreSources}
 use Rattle.safl_lower.specs.Tables.{pin, EachAt}
 use Rattle.safl_lower.proofs.Cells.{sources_length}
-use Rattle.safl_unit.specs.declared.parts.UnitPins.{UnitPins}
-use Rattle.safl_unit.specs.declared.parts.MemberPins.{MemberPins}
-use Rattle.safl_unit.specs.declared.parts.SitePins.{SitePins}
-use Rattle.safl_unit.specs.declared.parts.Bank.{Bank}
-use Rattle.safl_unit.specs.declared.parts.Pins.{Pins}
-use Rattle.safl_unit.specs.declared.parts.Controls.{Controls}
+use Rattle.safl_unit.specs.declared.pins.UnitPins.{UnitPins}
+use Rattle.safl_unit.specs.declared.pins.MemberPins.{MemberPins}
+use Rattle.safl_unit.specs.declared.pins.SitePins.{SitePins}
+use Rattle.safl_unit.specs.declared.pins.Bank.{Bank}
+use Rattle.safl_unit.specs.declared.pins.Pins.{Pins}
+use Rattle.safl_unit.specs.declared.pins.Controls.{Controls}
 use Rattle.safl_unit.specs.Cycles.{BankFits}
 use Rattle.safl_unit.specs.Ties.{Tie, line_of, sig_of, ties, tied, unit_ties, member_ties, function_ties, call_registers, site_ties, register_ties, want_wire, body_ties, call_ties, wire_ties}
 use Rattle.safl_unit.specs.Finished.{input_line, open_register, open_wire, set_register, set_wire, declared_net, ArePins, ControlsFit, Finishes}

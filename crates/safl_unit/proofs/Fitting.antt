@@ -17,10 +17,10 @@ use Rattle.safl_circuit.specs.Equations.{many}
 use Rattle.safl_circuit.specs.Names.{of_function, of_site, of_param}
 use Rattle.safl_circuit.specs.Layout.{named, layout_inputs, layout_registers, layout_wires}
 use Rattle.safl_lower.specs.Sources.{IsSource, AreSources}
-use Rattle.safl_unit.specs.declared.parts.UnitPins.{UnitPins}
-use Rattle.safl_unit.specs.declared.parts.MemberPins.{MemberPins}
-use Rattle.safl_unit.specs.declared.parts.SitePins.{SitePins}
-use Rattle.safl_unit.specs.declared.parts.Pins.{Pins}
+use Rattle.safl_unit.specs.declared.pins.UnitPins.{UnitPins}
+use Rattle.safl_unit.specs.declared.pins.MemberPins.{MemberPins}
+use Rattle.safl_unit.specs.declared.pins.SitePins.{SitePins}
+use Rattle.safl_unit.specs.declared.pins.Pins.{Pins}
 use Rattle.safl_unit.specs.Cycles.{UnitFits, MemberFits, SiteFits, PinsFit}
 use Rattle.safl_unit.specs.Ties.{Tie, line_of, tied, ties, numbered, unit_ties, member_ties, function_ties, call_registers, site_ties, register_ties}
 use Rattle.safl_unit.specs.Finished.{input_line, open_register, open_wire, declared_net, ArePins}

@@ -7,9 +7,9 @@ use Rattle.safl_term.specs.Readiness.{or_else}
 use Rattle.safl_net.specs.Growth.{Val, words}
 use Rattle.safl_circuit.specs.Equations.{Registers, Inputs, many, ret, go, ends, starts, loads, loop_words, clears, starts_it, starts_other, or_word, next}
 use Rattle.safl_lower.specs.Tables.{one_word}
-use Rattle.safl_unit.specs.declared.parts.UnitPins.{UnitPins}
-use Rattle.safl_unit.specs.declared.parts.MemberPins.{MemberPins}
-use Rattle.safl_unit.specs.declared.parts.SitePins.{SitePins}
+use Rattle.safl_unit.specs.declared.pins.UnitPins.{UnitPins}
+use Rattle.safl_unit.specs.declared.pins.MemberPins.{MemberPins}
+use Rattle.safl_unit.specs.declared.pins.SitePins.{SitePins}
 use Rattle.safl_unit.specs.Cycles.{UnitShows, MemberShows, SiteShows}
 use Rattle.safl_unit.proofs.Crossing.{some_word}
 use Rattle.safl_unit.specs.Steps.{UnitStep, MemberStep, SiteStep}

@@ -18,7 +18,7 @@ use Rattle.safl_lower.specs.declared.loads.Load.{Load}
 use Rattle.safl_lower.specs.Sources.{IsSource, Builds}
 use Rattle.safl_lower.specs.Tables.{EachAt, taken_at, taken_in, pin}
 use Rattle.safl_lower.proofs.Building.{source_kept}
-use Rattle.safl_unit.specs.declared.parts.Pins.{Pins}
+use Rattle.safl_unit.specs.declared.pins.Pins.{Pins}
 use Rattle.safl_unit.specs.Cycles.{InEachCycle}
 use Rattle.safl_unit.specs.Stages.{called, HasGoes}
 use Rattle.safl_unit.proofs.Keeping.{cycle_before}

@@ -6,21 +6,21 @@ use Rattle.safl_net.specs.declared.cell.Sig.{Sig}
 use Rattle.safl_net.specs.Netlist.{Netlist}
 use Rattle.safl_net.specs.Growth.{Val}
 use Rattle.safl_net.proofs.Growth.{wired_before}
-use Rattle.safl_lower.specs.declared.parts.SitePorts.{SitePorts}
+use Rattle.safl_lower.specs.declared.lowered.SitePorts.{SitePorts}
 use Rattle.safl_circuit.specs.Equations.{Registers, Inputs}
 use Rattle.safl_lower.specs.declared.loads.Load.{Load}
 use Rattle.safl_lower.specs.Sources.{Builds}
 use Rattle.safl_lower.specs.Tables.{load_in}
 use Rattle.safl_lower.proofs.Building.{source_kept, sources_kept}
 use Rattle.safl_lower.proofs.KnownLoads.{load_kept, maybe_load_kept, some_kept, bits_kept}
-use Rattle.safl_unit.specs.declared.parts.UnitPins.{UnitPins}
-use Rattle.safl_unit.specs.declared.parts.MemberPins.{MemberPins}
-use Rattle.safl_unit.specs.declared.parts.SitePins.{SitePins}
-use Rattle.safl_unit.specs.declared.parts.Bank.{Bank}
-use Rattle.safl_unit.specs.declared.parts.Pins.{Pins}
-use Rattle.safl_unit.specs.declared.parts.Returns.{Returns}
-use Rattle.safl_unit.specs.declared.parts.Outcomes.{Outcomes}
-use Rattle.safl_unit.specs.declared.parts.Controls.{Controls}
+use Rattle.safl_unit.specs.declared.pins.UnitPins.{UnitPins}
+use Rattle.safl_unit.specs.declared.pins.MemberPins.{MemberPins}
+use Rattle.safl_unit.specs.declared.pins.SitePins.{SitePins}
+use Rattle.safl_unit.specs.declared.pins.Bank.{Bank}
+use Rattle.safl_unit.specs.declared.pins.Pins.{Pins}
+use Rattle.safl_unit.specs.declared.pins.Returns.{Returns}
+use Rattle.safl_unit.specs.declared.pins.Outcomes.{Outcomes}
+use Rattle.safl_unit.specs.declared.pins.Controls.{Controls}
 use Rattle.safl_unit.specs.Cycles.{UnitFits, MemberFits, SiteFits, BankFits, PinsFit, Cycle}
 use Rattle.safl_unit.specs.Stages.{PortFits, GoesFit, HasReturns, HasOutcomes, HasGoes, HasEnds, HasLoads, HasBits, HasNext}
 use Rattle.safl_unit.specs.Finished.{ControlsFit}

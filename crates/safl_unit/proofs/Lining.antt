@@ -10,10 +10,10 @@ use Rattle.safl_circuit.specs.Equations.{many}
 use Rattle.safl_circuit.specs.Names.{of_function, of_param}
 use Rattle.safl_circuit.specs.Layout.{Line, lines, unit_lines, site_lines, layout_registers}
 use Rattle.safl_lower.specs.Tables.{EachAt}
-use Rattle.safl_unit.specs.declared.parts.UnitPins.{UnitPins}
-use Rattle.safl_unit.specs.declared.parts.MemberPins.{MemberPins}
-use Rattle.safl_unit.specs.declared.parts.SitePins.{SitePins}
-use Rattle.safl_unit.specs.declared.parts.Bank.{Bank}
+use Rattle.safl_unit.specs.declared.pins.UnitPins.{UnitPins}
+use Rattle.safl_unit.specs.declared.pins.MemberPins.{MemberPins}
+use Rattle.safl_unit.specs.declared.pins.SitePins.{SitePins}
+use Rattle.safl_unit.specs.declared.pins.Bank.{Bank}
 use Rattle.safl_unit.specs.Ties.{Tie, line_of, ties, tied, unit_ties, member_ties, function_ties, call_registers, site_ties, register_ties}
 use Rattle.safl_unit.specs.Declaring.{unit_head, at_line, argument_lines, function_lines}
 use Rattle.safl_unit.proofs.Declaring.{map_more, param_lines_long}

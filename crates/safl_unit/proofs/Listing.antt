@@ -12,11 +12,11 @@ use Rattle.safl_sites.specs.Plan.{Choice}
 use Rattle.safl_circuit.specs.Names.{of_param}
 use Rattle.safl_circuit.specs.Layout.{Line, lines, function_wires, site_wires, layout_wires}
 use Rattle.safl_lower.specs.Tables.{pin}
-use Rattle.safl_unit.specs.declared.parts.UnitPins.{UnitPins}
-use Rattle.safl_unit.specs.declared.parts.MemberPins.{MemberPins}
-use Rattle.safl_unit.specs.declared.parts.SitePins.{SitePins}
-use Rattle.safl_unit.specs.declared.parts.Bank.{Bank}
-use Rattle.safl_unit.specs.declared.parts.Controls.{Controls}
+use Rattle.safl_unit.specs.declared.pins.UnitPins.{UnitPins}
+use Rattle.safl_unit.specs.declared.pins.MemberPins.{MemberPins}
+use Rattle.safl_unit.specs.declared.pins.SitePins.{SitePins}
+use Rattle.safl_unit.specs.declared.pins.Bank.{Bank}
+use Rattle.safl_unit.specs.declared.pins.Controls.{Controls}
 use Rattle.safl_unit.specs.Ties.{Tie, line_of, sig_of, ties, tied, unit_ties, member_ties, function_ties, call_registers, site_ties, register_ties, body_ties, call_ties, wire_ties}
 use Rattle.safl_unit.specs.Declaring.{argument_lines}
 use Rattle.safl_unit.specs.Setting.{at_ties, own_ties}

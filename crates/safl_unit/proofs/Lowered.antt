@@ -16,8 +16,8 @@ use Rattle.safl_term.proofs.Order.{stands_within}
 use Rattle.safl_calls.proofs.Locality.{answer_local, wanted_local}
 use Rattle.safl_net.specs.Netlist.{Netlist}
 use Rattle.safl_net.specs.Growth.{Val, words, Wired}
-use Rattle.safl_lower.specs.declared.parts.Ports.{Ports}
-use Rattle.safl_lower.specs.declared.parts.Body.{Body}
+use Rattle.safl_lower.specs.declared.lowered.Ports.{Ports}
+use Rattle.safl_lower.specs.declared.lowered.Body.{Body}
 use Rattle.safl_net.specs.Bits.{on, gate}
 use Rattle.safl_lower.specs.Loads.{to_member}
 use Rattle.safl_term.specs.Sizes.{nodes}
@@ -28,9 +28,9 @@ use Rattle.safl_circuit.specs.Equations.{Registers, on_wires, path, body_says, b
 use Rattle.safl_lower.specs.Sources.{IsSource, AreSources, Builds, HasRoom}
 use Rattle.safl_lower.specs.Tables.{one_word}
 use Rattle.safl_lower.proofs.Building.{builds_on, builds_within, sources_kept}
-use Rattle.safl_unit.specs.declared.parts.Returns.{Returns}
-use Rattle.safl_unit.specs.declared.parts.MemberPins.{MemberPins}
-use Rattle.safl_unit.specs.declared.parts.Pins.{Pins}
+use Rattle.safl_unit.specs.declared.pins.Returns.{Returns}
+use Rattle.safl_unit.specs.declared.pins.MemberPins.{MemberPins}
+use Rattle.safl_unit.specs.declared.pins.Pins.{Pins}
 use Rattle.safl_unit.specs.Cycles.{PinsFit, InEachCycle}
 use Rattle.safl_unit.specs.Stages.{ReturnsFit, ReturnsShow, HasReturns}
 use Rattle.safl_unit.specs.Outcomes.{AreOwnPorts, BodyShows, HasBody}

@@ -13,7 +13,7 @@ use Rattle.safl_calls.specs.Picks.{first}
 use Rattle.safl_net.specs.declared.cell.Sig.{Sig}
 use Rattle.safl_net.specs.Netlist.{Netlist}
 use Rattle.safl_net.specs.Growth.{Val, words}
-use Rattle.safl_lower.specs.declared.parts.Body.{Body}
+use Rattle.safl_lower.specs.declared.lowered.Body.{Body}
 use Rattle.safl_net.specs.Bits.{on, gate}
 use Rattle.safl_circuit.specs.Equations.{Registers, Inputs, end_word, body_wants, body_says, goes_to, loop_from}
 use Rattle.safl_lower.specs.declared.loads.Load.{Load}
@@ -24,8 +24,8 @@ use Rattle.safl_lower.specs.Joints.{IsFirstOf}
 use Rattle.safl_lower.proofs.KnownLoads.{loads_kept}
 use Rattle.safl_lower.proofs.JoinedRows.{fit_kept, total_bare}
 use Rattle.safl_lower.specs.Loads.{loads_cost}
-use Rattle.safl_unit.specs.declared.parts.Pins.{Pins}
-use Rattle.safl_unit.specs.declared.parts.Outcomes.{Outcomes}
+use Rattle.safl_unit.specs.declared.pins.Pins.{Pins}
+use Rattle.safl_unit.specs.declared.pins.Outcomes.{Outcomes}
 use Rattle.safl_unit.specs.Cycles.{PinsFit, Cycle, InEachCycle}
 use Rattle.safl_unit.specs.declared.bodies.Gathered.{Gathered}
 use Rattle.safl_unit.specs.Stages.{called, HasOutcomes}

@@ -15,9 +15,9 @@ use Rattle.safl_circuit.specs.Equations.{many}
 use Rattle.safl_circuit.specs.Names.{of_function, of_param, of_site}
 use Rattle.std.specs.Prelude.{codes}
 use Rattle.safl_circuit.specs.Layout.{Line, lines, site_lines, function_wires, site_wires}
-use Rattle.safl_unit.specs.declared.parts.UnitPins.{UnitPins}
-use Rattle.safl_unit.specs.declared.parts.MemberPins.{MemberPins}
-use Rattle.safl_unit.specs.declared.parts.SitePins.{SitePins}
+use Rattle.safl_unit.specs.declared.pins.UnitPins.{UnitPins}
+use Rattle.safl_unit.specs.declared.pins.MemberPins.{MemberPins}
+use Rattle.safl_unit.specs.declared.pins.SitePins.{SitePins}
 use Rattle.safl_unit.specs.Finished.{open_register}
 use Rattle.safl_unit.specs.Ties.{Tie, sig_of, ties, tied, numbered, unit_ties, member_ties, function_ties, site_ties, call_registers}
 use Rattle.safl_unit.specs.Declaring.{with_signals, unit_head, at_line, argument_lines, function_lines, Pinned, FunctionsPinned, SitePinned, SitesPinned}

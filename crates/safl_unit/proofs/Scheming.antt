@@ -26,9 +26,9 @@ use Rattle.safl_circuit.specs.Layout.{layout_registers, layout_wires, layout_out
 use Rattle.safl_circuit.specs.Scheme.{Agree, Wires, Scheme}
 use Rattle.safl_lower.specs.Tables.{pin}
 use Rattle.safl_lower.proofs.Cells.{sources_length}
-use Rattle.safl_unit.specs.declared.parts.Bank.{Bank}
-use Rattle.safl_unit.specs.declared.parts.Pins.{Pins}
-use Rattle.safl_unit.specs.declared.parts.Controls.{Controls}
+use Rattle.safl_unit.specs.declared.pins.Bank.{Bank}
+use Rattle.safl_unit.specs.declared.pins.Pins.{Pins}
+use Rattle.safl_unit.specs.declared.pins.Controls.{Controls}
 use Rattle.safl_unit.specs.Cycles.{PinsFit, Cycle}
 use Rattle.safl_unit.specs.Stages.{HasNext}
 use Rattle.safl_unit.specs.Ties.{Tie, line_of, sig_of, numbered, ties, register_ties, want_wire, body_ties, call_ties, wire_ties}

@@ -9,14 +9,14 @@ use Rattle.safl_circuit.specs.Equations.{Registers, ret, on_wires, word_on}
 use Rattle.safl_lower.specs.Sources.{IsSource, Builds}
 use Rattle.safl_lower.specs.Tables.{EachAt, pin}
 use Rattle.safl_lower.proofs.Building.{source_kept}
-use Rattle.safl_unit.specs.declared.parts.UnitPins.{UnitPins}
-use Rattle.safl_unit.specs.declared.parts.SitePins.{SitePins}
+use Rattle.safl_unit.specs.declared.pins.UnitPins.{UnitPins}
+use Rattle.safl_unit.specs.declared.pins.SitePins.{SitePins}
 use Rattle.safl_unit.specs.declared.returns.SiteReturn.{SiteReturn}
 use Rattle.safl_net.specs.Netlist.{Netlist}
 use Rattle.safl_net.specs.Growth.{Wired}
 use Rattle.safl_lower.specs.Lowering.{returned_word, was_sent}
-use Rattle.safl_unit.specs.declared.parts.Pins.{Pins}
-use Rattle.safl_unit.specs.declared.parts.Returns.{Returns}
+use Rattle.safl_unit.specs.declared.pins.Pins.{Pins}
+use Rattle.safl_unit.specs.declared.pins.Returns.{Returns}
 use Rattle.safl_unit.specs.Cycles.{UnitShows, SiteShows, InEachCycle}
 use Rattle.safl_unit.specs.Stages.{PortFits, HasReturns}
 use Rattle.safl_unit.proofs.Keeping.{port_kept, cycle_before}

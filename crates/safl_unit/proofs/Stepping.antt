@@ -15,9 +15,9 @@ use Rattle.safl_lower.specs.declared.loads.Load.{Load}
 use Rattle.safl_lower.specs.Sources.{IsSource, AreSources, Builds}
 use Rattle.safl_lower.specs.Tables.{EachAt, pin, load_in, sig_in, taken_in, taken_from, on_in, on_from}
 use Rattle.safl_lower.proofs.Joining.{words_show}
-use Rattle.safl_unit.specs.declared.parts.UnitPins.{UnitPins}
-use Rattle.safl_unit.specs.declared.parts.MemberPins.{MemberPins}
-use Rattle.safl_unit.specs.declared.parts.SitePins.{SitePins}
+use Rattle.safl_unit.specs.declared.pins.UnitPins.{UnitPins}
+use Rattle.safl_unit.specs.declared.pins.MemberPins.{MemberPins}
+use Rattle.safl_unit.specs.declared.pins.SitePins.{SitePins}
 use Rattle.safl_unit.specs.Cycles.{UnitFits, MemberFits, SiteFits}
 use Rattle.safl_unit.specs.Steps.{UnitStep, MemberStep, SiteStep, UnitsNext, MembersNext, SitesNext}
 use Rattle.safl_unit.proofs.Keeping.{unit_kept, member_kept, site_kept}

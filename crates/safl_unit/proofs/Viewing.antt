@@ -15,10 +15,10 @@ use Rattle.safl_circuit.specs.Equations.{Registers, many}
 use Rattle.safl_circuit.specs.Names.{of_function, of_site, of_param, is_unit, is_site, as_word, as_words, view}
 use Rattle.safl_circuit.specs.Layout.{named}
 use Rattle.safl_lower.specs.Tables.{EachAt}
-use Rattle.safl_unit.specs.declared.parts.UnitPins.{UnitPins}
-use Rattle.safl_unit.specs.declared.parts.MemberPins.{MemberPins}
-use Rattle.safl_unit.specs.declared.parts.SitePins.{SitePins}
-use Rattle.safl_unit.specs.declared.parts.Bank.{Bank}
+use Rattle.safl_unit.specs.declared.pins.UnitPins.{UnitPins}
+use Rattle.safl_unit.specs.declared.pins.MemberPins.{MemberPins}
+use Rattle.safl_unit.specs.declared.pins.SitePins.{SitePins}
+use Rattle.safl_unit.specs.declared.pins.Bank.{Bank}
 use Rattle.safl_unit.specs.Cycles.{UnitShows, MemberShows, SiteShows, BankShows}
 use Rattle.safl_unit.specs.Ties.{Tie, tied, ties, unit_ties, member_ties, function_ties, call_registers, site_ties, register_ties}
 use Rattle.safl_unit.proofs.Members.{Among, among_left, among_right, among_ties, among_cond}

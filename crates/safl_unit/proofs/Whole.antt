@@ -12,12 +12,12 @@ use Rattle.safl_circuit.specs.Equations.{starts, clears, starts_it, starts_other
 use Rattle.safl_lower.specs.declared.loads.Load.{Load}
 use Rattle.safl_lower.specs.Tables.{pin, taken_from, on_from}
 use Rattle.safl_lower.specs.Sources.{Builds}
-use Rattle.safl_unit.specs.declared.parts.Pins.{Pins}
-use Rattle.safl_unit.specs.declared.parts.Bank.{Bank}
-use Rattle.safl_unit.specs.declared.parts.UnitPins.{UnitPins}
-use Rattle.safl_unit.specs.declared.parts.MemberPins.{MemberPins}
-use Rattle.safl_unit.specs.declared.parts.Returns.{Returns}
-use Rattle.safl_unit.specs.declared.parts.Outcomes.{Outcomes}
+use Rattle.safl_unit.specs.declared.pins.Pins.{Pins}
+use Rattle.safl_unit.specs.declared.pins.Bank.{Bank}
+use Rattle.safl_unit.specs.declared.pins.UnitPins.{UnitPins}
+use Rattle.safl_unit.specs.declared.pins.MemberPins.{MemberPins}
+use Rattle.safl_unit.specs.declared.pins.Returns.{Returns}
+use Rattle.safl_unit.specs.declared.pins.Outcomes.{Outcomes}
 use Rattle.safl_unit.specs.declared.events.Events.{Events}
 use Rattle.safl_unit.specs.Cycles.{PinsFit, UnitShows}
 use Rattle.safl_unit.specs.Stages.{HasReturns, HasOutcomes, HasGoes, HasNext}

@@ -17,9 +17,9 @@ use Rattle.safl_circuit.specs.Names.{of_function, of_site, bit}
 use Rattle.safl_circuit.specs.Scheme.{Wires}
 use Rattle.safl_lower.specs.Sources.{IsSource}
 use Rattle.safl_lower.specs.Tables.{pin}
-use Rattle.safl_unit.specs.declared.parts.UnitPins.{UnitPins}
-use Rattle.safl_unit.specs.declared.parts.Pins.{Pins}
-use Rattle.safl_unit.specs.declared.parts.Controls.{Controls}
+use Rattle.safl_unit.specs.declared.pins.UnitPins.{UnitPins}
+use Rattle.safl_unit.specs.declared.pins.Pins.{Pins}
+use Rattle.safl_unit.specs.declared.pins.Controls.{Controls}
 use Rattle.safl_unit.specs.Cycles.{PinsFit, Cycle}
 use Rattle.safl_unit.specs.Finished.{HasControls}
 

@@ -10,8 +10,8 @@ use Rattle.safl_sites.specs.Plan.{Choice}
 use Rattle.safl_lower.specs.declared.loads.Load.{Load}
 use Rattle.safl_lower.specs.Tables.{bit_or}
 use Rattle.safl_lower.specs.Rows.{AreBits, frees, row_at}
-use Rattle.safl_unit.specs.declared.parts.UnitPins.{UnitPins}
-use Rattle.safl_unit.specs.declared.parts.Pins.{Pins}
+use Rattle.safl_unit.specs.declared.pins.UnitPins.{UnitPins}
+use Rattle.safl_unit.specs.declared.pins.Pins.{Pins}
 
 -- the bit of load i
 abbrev pub want_at : List Load → ℕ → Sig

@@ -5,8 +5,8 @@ use Rattle.safl_net.specs.declared.cell.Sig.{Sig}
 use Rattle.safl_net.specs.Netlist.{Netlist}
 use Rattle.safl_sites.specs.Plan.{Choice}
 use Rattle.safl_lower.specs.Tables.{SomeFit, BitsFit}
-use Rattle.safl_unit.specs.declared.parts.Pins.{Pins}
-use Rattle.safl_unit.specs.declared.parts.Outcomes.{Outcomes}
+use Rattle.safl_unit.specs.declared.pins.Pins.{Pins}
+use Rattle.safl_unit.specs.declared.pins.Outcomes.{Outcomes}
 use Rattle.safl_unit.specs.declared.events.Events.{Events}
 use Rattle.safl_unit.specs.Stages.{HasOutcomes, HasGoes, HasEnds, HasLoads, HasStarts, HasClears, HasEntries, HasRivals}
 

@@ -8,11 +8,11 @@ use Rattle.safl_net.specs.Bits.{on}
 use Rattle.safl_circuit.specs.Equations.{Registers, Inputs, many}
 use Rattle.safl_lower.specs.Sources.{IsSource, AreSources}
 use Rattle.safl_lower.specs.Tables.{EachAt}
-use Rattle.safl_unit.specs.declared.parts.UnitPins.{UnitPins}
-use Rattle.safl_unit.specs.declared.parts.MemberPins.{MemberPins}
-use Rattle.safl_unit.specs.declared.parts.SitePins.{SitePins}
-use Rattle.safl_unit.specs.declared.parts.Bank.{Bank}
-use Rattle.safl_unit.specs.declared.parts.Pins.{Pins}
+use Rattle.safl_unit.specs.declared.pins.UnitPins.{UnitPins}
+use Rattle.safl_unit.specs.declared.pins.MemberPins.{MemberPins}
+use Rattle.safl_unit.specs.declared.pins.SitePins.{SitePins}
+use Rattle.safl_unit.specs.declared.pins.Bank.{Bank}
+use Rattle.safl_unit.specs.declared.pins.Pins.{Pins}
 
 -- the signals have the widths of a unit's registers; of a function's; of a site's
 pub record UnitFits (n : Netlist) (u : UnitPins) (w : ℕ) : Type 0 where

@@ -10,9 +10,9 @@ use Rattle.safl_circuit.specs.Equations.{many}
 use Rattle.safl_circuit.specs.Names.{of_function, of_param, of_site}
 use Rattle.safl_circuit.specs.Layout.{Line, lines, named, site_lines, site_wires}
 use Rattle.safl_lower.specs.Tables.{EachAt}
-use Rattle.safl_unit.specs.declared.parts.UnitPins.{UnitPins}
-use Rattle.safl_unit.specs.declared.parts.MemberPins.{MemberPins}
-use Rattle.safl_unit.specs.declared.parts.SitePins.{SitePins}
+use Rattle.safl_unit.specs.declared.pins.UnitPins.{UnitPins}
+use Rattle.safl_unit.specs.declared.pins.MemberPins.{MemberPins}
+use Rattle.safl_unit.specs.declared.pins.SitePins.{SitePins}
 use Rattle.safl_unit.specs.Ties.{sig_of, numbered, unit_ties, member_ties, function_ties, site_ties, call_registers, ties}
 
 -- a net with more signals

@@ -11,7 +11,7 @@ use Rattle.safl_calls.specs.Picks.{first}
 use Rattle.safl_lower.specs.declared.loads.Load.{Load}
 use Rattle.safl_lower.specs.Tables.{pin, taken_at, taken_from, sig_in, on_in, on_from, SomeFit, BitsFit}
 use Rattle.safl_lower.specs.Rows.{on_any, on_two, maybe_one}
-use Rattle.safl_unit.specs.declared.parts.Outcomes.{Outcomes}
+use Rattle.safl_unit.specs.declared.pins.Outcomes.{Outcomes}
 
 -- whether some number below n passes the test
 unfoldable pub one_below : (ℕ → Bool) → ℕ → Bool

@@ -13,12 +13,12 @@ use Rattle.safl_sites.specs.Plan.{Choice}
 use Rattle.safl_circuit.specs.Layout.{Line, layout_inputs, layout_registers, layout_wires}
 use Rattle.safl_lower.specs.Sources.{IsSource}
 use Rattle.safl_lower.specs.Tables.{pin, EachAt}
-use Rattle.safl_unit.specs.declared.parts.UnitPins.{UnitPins}
-use Rattle.safl_unit.specs.declared.parts.Bank.{Bank}
-use Rattle.safl_unit.specs.declared.parts.Pins.{Pins}
-use Rattle.safl_unit.specs.declared.parts.Returns.{Returns}
-use Rattle.safl_unit.specs.declared.parts.Outcomes.{Outcomes}
-use Rattle.safl_unit.specs.declared.parts.Controls.{Controls}
+use Rattle.safl_unit.specs.declared.pins.UnitPins.{UnitPins}
+use Rattle.safl_unit.specs.declared.pins.Bank.{Bank}
+use Rattle.safl_unit.specs.declared.pins.Pins.{Pins}
+use Rattle.safl_unit.specs.declared.pins.Returns.{Returns}
+use Rattle.safl_unit.specs.declared.pins.Outcomes.{Outcomes}
+use Rattle.safl_unit.specs.declared.pins.Controls.{Controls}
 use Rattle.safl_unit.specs.Cycles.{InEachCycle}
 use Rattle.safl_unit.specs.Stages.{HasReturns, HasOutcomes, HasGoes}
 use Rattle.safl_unit.specs.Ties.{Tie, sig_of, numbered, register_ties, wire_ties}

@@ -9,12 +9,12 @@ use Rattle.safl_net.specs.Growth.{Val}
 use Rattle.safl_lower.specs.declared.loads.Load.{Load}
 use Rattle.safl_lower.specs.Tables.{load_in, taken, taken_at, taken_from, one_word}
 use Rattle.safl_lower.specs.Rows.{row_at}
-use Rattle.safl_lower.specs.declared.parts.SitePorts.{SitePorts}
-use Rattle.safl_lower.specs.declared.parts.Body.{Body}
+use Rattle.safl_lower.specs.declared.lowered.SitePorts.{SitePorts}
+use Rattle.safl_lower.specs.declared.lowered.Body.{Body}
 use Rattle.safl_lower.specs.Loads.{loads_cost}
 use Rattle.safl_lower.specs.Bodies.{IsGroup, BodyFits}
 use Rattle.safl_circuit.specs.Equations.{Registers, end_word, body_wants, loop_from}
-use Rattle.safl_unit.specs.declared.parts.Pins.{Pins}
+use Rattle.safl_unit.specs.declared.pins.Pins.{Pins}
 use Rattle.safl_unit.specs.Cycles.{InEachCycle}
 
 -- the ports of the sites in the body of f

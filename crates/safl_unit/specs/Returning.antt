@@ -2,8 +2,8 @@
 use Rattle.std.specs.Prelude.{◌≡◌, Bool, ◌&&◌, ◌||◌, not, cond}
 use Rattle.safl_net.specs.Growth.{Val}
 use Rattle.safl_net.specs.Bits.{on}
-use Rattle.safl_unit.specs.declared.parts.UnitPins.{UnitPins}
-use Rattle.safl_unit.specs.declared.parts.SitePins.{SitePins}
+use Rattle.safl_unit.specs.declared.pins.UnitPins.{UnitPins}
+use Rattle.safl_unit.specs.declared.pins.SitePins.{SitePins}
 use Rattle.safl_unit.specs.declared.returns.SiteReturn.{SiteReturn}
 
 -- A site is delivered to if its unit has finished and it was sent and has not got its word. It has returned if it has got its

@@ -12,9 +12,9 @@ use Rattle.safl_net.specs.Settled.{Settles}
 use Rattle.safl_circuit.specs.Equations.{many}
 use Rattle.safl_circuit.specs.Names.{of_function}
 use Rattle.safl_circuit.specs.Layout.{layout_inputs}
-use Rattle.safl_unit.specs.declared.parts.Bank.{Bank}
-use Rattle.safl_unit.specs.declared.parts.Pins.{Pins}
-use Rattle.safl_unit.specs.declared.parts.Controls.{Controls}
+use Rattle.safl_unit.specs.declared.pins.Bank.{Bank}
+use Rattle.safl_unit.specs.declared.pins.Pins.{Pins}
+use Rattle.safl_unit.specs.declared.pins.Controls.{Controls}
 use Rattle.safl_unit.specs.Ties.{Tie, ties, function_ties, register_ties, wire_ties}
 use Rattle.safl_unit.specs.Finished.{input_line, declared_signals, set_register, set_wire}
 

@@ -6,7 +6,7 @@ use Rattle.safl_term.specs.Program.{Program}
 use Rattle.safl_net.specs.declared.cell.Sig.{Sig}
 use Rattle.safl_net.specs.Netlist.{Netlist}
 use Rattle.safl_net.specs.Growth.{Val}
-use Rattle.safl_lower.specs.declared.parts.SitePorts.{SitePorts}
+use Rattle.safl_lower.specs.declared.lowered.SitePorts.{SitePorts}
 use Rattle.safl_net.specs.Bits.{on}
 use Rattle.safl_lower.specs.Lowering.{returned_word, was_sent}
 use Rattle.safl_circuit.specs.Equations.{Registers, Inputs, ret, on_wires, body_wants, end_word, loop_words}
@@ -14,10 +14,10 @@ use Rattle.safl_circuit.specs.Equations.{go, ends, loads, starts, clears, starts
 use Rattle.safl_lower.specs.declared.loads.Load.{Load}
 use Rattle.safl_lower.specs.Sources.{IsSource}
 use Rattle.safl_lower.specs.Tables.{pin, taken_at, taken_from, on_from, one_word, LoadsFit, SomeFit, BitsFit}
-use Rattle.safl_unit.specs.declared.parts.Bank.{Bank}
-use Rattle.safl_unit.specs.declared.parts.Pins.{Pins}
-use Rattle.safl_unit.specs.declared.parts.Returns.{Returns}
-use Rattle.safl_unit.specs.declared.parts.Outcomes.{Outcomes}
+use Rattle.safl_unit.specs.declared.pins.Bank.{Bank}
+use Rattle.safl_unit.specs.declared.pins.Pins.{Pins}
+use Rattle.safl_unit.specs.declared.pins.Returns.{Returns}
+use Rattle.safl_unit.specs.declared.pins.Outcomes.{Outcomes}
 use Rattle.safl_unit.specs.Cycles.{BankFits, BankShows, InEachCycle}
 
 -- ---- what the sites show

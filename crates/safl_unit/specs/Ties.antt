@@ -8,11 +8,11 @@ use Rattle.safl_circuit.specs.Equations.{many}
 use Rattle.safl_circuit.specs.Names.{of_function, of_site, of_param}
 use Rattle.safl_circuit.specs.Layout.{Line, lines, named, site_wires}
 use Rattle.safl_lower.specs.Tables.{pin}
-use Rattle.safl_unit.specs.declared.parts.UnitPins.{UnitPins}
-use Rattle.safl_unit.specs.declared.parts.MemberPins.{MemberPins}
-use Rattle.safl_unit.specs.declared.parts.SitePins.{SitePins}
-use Rattle.safl_unit.specs.declared.parts.Bank.{Bank}
-use Rattle.safl_unit.specs.declared.parts.Controls.{Controls}
+use Rattle.safl_unit.specs.declared.pins.UnitPins.{UnitPins}
+use Rattle.safl_unit.specs.declared.pins.MemberPins.{MemberPins}
+use Rattle.safl_unit.specs.declared.pins.SitePins.{SitePins}
+use Rattle.safl_unit.specs.declared.pins.Bank.{Bank}
+use Rattle.safl_unit.specs.declared.pins.Controls.{Controls}
 
 -- a line and the signal that is tied to it
 abbrev pub Tie : Type 0

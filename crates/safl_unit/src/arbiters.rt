@@ -11,7 +11,7 @@ ghost use Rattle.safl_unit.specs.Arbiters.{site_row, tally, AreRanks, AllRowsFre
 ghost use Rattle.safl_unit.specs.Cycles.{PinsFit};
 
 use crate::arrivals::{callee_of, function_count, site_count, unit_of};
-use crate::parts::{Outcomes, Pins};
+use crate::pins::{Outcomes, Pins};
 use safl_lower::gates::inverse;
 use safl_lower::rows::{no_rows, push_at};
 use safl_lower::trees::free_before;

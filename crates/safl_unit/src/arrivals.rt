@@ -11,7 +11,7 @@ ghost use Rattle.safl_lower.specs.Tables.{load_in, IsBitIn, BitsFit, SomeFit, Jo
 ghost use Rattle.safl_unit.specs.Stages.{OutcomesFit, GoesFit};
 ghost use Rattle.safl_unit.specs.Edges.{bit_of, ShowsEnds, ShowsArguments, ShowsStarts, ShowsClears, ShowsEntries};
 
-use crate::parts::Outcomes;
+use crate::pins::Outcomes;
 use safl_lower::loads::{Load, add_bit, load_of};
 use safl_lower::rows::{
     join_bits, join_loads, no_load_rows, no_rows, push_at, push_load, push_some,

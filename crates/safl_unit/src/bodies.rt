@@ -17,7 +17,7 @@ ghost use Rattle.safl_unit.specs.Outcomes.{AreOwnPorts, HasBody, PushesLoads, ma
 
 use crate::arrivals::program;
 use crate::names::has_peers;
-use crate::parts::{Outcomes, Pins, Returns};
+use crate::pins::{Outcomes, Pins, Returns};
 use safl_lower::gates::both;
 use safl_lower::loads::Load;
 use safl_lower::rows::{join_loads, no_load_rows, push_load};

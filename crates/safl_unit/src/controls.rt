@@ -6,7 +6,7 @@ ghost use Rattle.safl_lower.specs.Sources.{Builds, CanGrow};
 ghost use Rattle.safl_lower.specs.Tables.{load_bit, bit_or};
 ghost use Rattle.safl_unit.specs.Finished.{GivesControls};
 
-use crate::parts::{Controls, Outcomes, Returns};
+use crate::pins::{Controls, Outcomes, Returns};
 use safl_lower::gates::zero;
 use safl_lower::loads::Load;
 use safl_net::{Net, Sig};

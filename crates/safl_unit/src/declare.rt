@@ -20,7 +20,7 @@ ghost use Rattle.safl_unit.specs.Declaring.{SitePinned, UnitPinned, AtPinned, ow
 
 use crate::arrivals::program;
 use crate::names::{argument_name, has_peers, headed, main_function, numbered};
-use crate::parts::{Bank, MemberPins, Pins, SitePins, UnitPins};
+use crate::pins::{Bank, MemberPins, Pins, SitePins, UnitPins};
 use safl_net::{Net, NetErr, Sig};
 use safl_sites::Planned;
 use safl_term::Checked;

@@ -14,7 +14,7 @@ use crate::arrivals::{callee_of, caller_of, function_count, site_count, unit_of}
 use crate::events::{Events, edge_events};
 use crate::names::has_peers;
 use crate::next::{Entry, next_member, next_site, next_unit};
-use crate::parts::{Bank, MemberPins, Outcomes, Pins, Returns, SitePins, UnitPins};
+use crate::pins::{Bank, MemberPins, Outcomes, Pins, Returns, SitePins, UnitPins};
 use safl_lower::loads::Load;
 use safl_net::{Net, Sig};
 use safl_sites::Planned;

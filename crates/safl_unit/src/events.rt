@@ -7,7 +7,7 @@ ghost use Rattle.safl_unit.specs.Stages.{OutcomesFit, GoesFit};
 ghost use Rattle.safl_unit.specs.Coming.{GivesEvents};
 
 use crate::arrivals::{function_entries, function_loads, unit_clears, unit_ends, unit_starts};
-use crate::parts::Outcomes;
+use crate::pins::Outcomes;
 use crate::rivals::function_rivals;
 use safl_lower::loads::Load;
 use safl_net::{Net, Sig};

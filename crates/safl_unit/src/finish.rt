@@ -18,7 +18,7 @@ ghost use Rattle.safl_unit.specs.Setting.{with_kinds, next_kind, copy_kind, Take
 
 use crate::arrivals::program;
 use crate::names::{has_peers, main_function};
-use crate::parts::{Bank, Controls, Pins, UnitPins};
+use crate::pins::{Bank, Controls, Pins, UnitPins};
 use safl_net::{Net, NetErr, Op, Sig};
 use safl_sites::Planned;
 use safl_term::Checked;

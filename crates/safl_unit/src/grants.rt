@@ -11,7 +11,7 @@ ghost use Rattle.safl_unit.specs.Cycles.{PinsFit};
 ghost use Rattle.safl_unit.specs.Stages.{HasOutcomes, HasGoes};
 
 use crate::arbiters::{unit_frees, unit_wants};
-use crate::parts::{Outcomes, Pins};
+use crate::pins::{Outcomes, Pins};
 use safl_lower::gates::{both, inverse};
 use safl_net::{Net, Sig};
 use safl_sites::Planned;

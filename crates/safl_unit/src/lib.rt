@@ -13,7 +13,7 @@ mod finish;
 mod grants;
 mod names;
 mod next;
-mod parts;
+mod pins;
 mod returns;
 mod rivals;
 

@@ -11,7 +11,7 @@ ghost use Rattle.safl_unit.specs.Cycles.{UnitFits, MemberFits, SiteFits};
 ghost use Rattle.safl_unit.specs.Steps.{UnitStep, SiteStep, KeepsMember, IsNextMember};
 
 use crate::arrivals::load_bit;
-use crate::parts::{MemberPins, SitePins, UnitPins};
+use crate::pins::{MemberPins, SitePins, UnitPins};
 use crate::returns::site_word;
 use safl_lower::gates::{and_none, either, mux, or_some, zero};
 use safl_lower::loads::{Load, load_words};

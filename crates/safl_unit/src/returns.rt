@@ -10,7 +10,7 @@ ghost use Rattle.safl_unit.specs.Stages.{PortFits, HasReturns};
 ghost use Rattle.safl_unit.specs.Returning.{SiteShown};
 
 use crate::arrivals::program;
-use crate::parts::{Pins, Returns, SitePins, UnitPins};
+use crate::pins::{Pins, Returns, SitePins, UnitPins};
 use safl_lower::SitePorts;
 use safl_lower::gates::{both, either, inverse, mux};
 use safl_net::{Net, Sig};

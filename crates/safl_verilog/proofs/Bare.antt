@@ -14,7 +14,7 @@ use Rattle.safl_verilog.specs.Faults.{among, repeat_faults, declared_names, find
 use Rattle.safl_verilog.specs.Faults.{width_in, width_of, header_faults, port_faults, has_bit, has_ports, is_data, is_signal, is_target, unfit_faults}
 use Rattle.safl_verilog.specs.Faults.{operation, operands, is_plain, expression_width, assigned, updated, is_none, width_faults, literal_value}
 use Rattle.safl_verilog.specs.Faults.{may_be_assigned, assign_faults, always_faults, statement_faults, all_statement_faults, missing_faults, faults}
-use Rattle.safl_verilog.specs.Netlists.{signals_of, place_of, number_of, cell_of, driven, register_of, kind_of, signal_of, shown, output_of, netlist}
+use Rattle.safl_verilog.specs.Netlists.{signals_of, place_of, number_of, cell_of, driven, register_of, kind_of, signal_of, shown_signal, output_of, netlist}
 use Rattle.safl_verilog.proofs.PrintedReads.{bare, bare_expression, bare_range, bare_declaration, bare_statement, bare_file}
 
 abbrev unplaced : VFault → VFault
@@ -333,7 +333,7 @@ signal_bare f d =
     ap (λ w. record { name = d.name.bytes; width = w; kind = kind_of (bare_file f) d.sort d.name.bytes }) (range_width_bare d.range)
     ∙ ap (λ k. record { name = d.name.bytes; width = range_width d.range; kind = k }) (kind_bare f d.sort d.name.bytes)
 
-shown_bare : (ds : List Declaration) (o : Option Expression) → shown (map bare_declaration ds) (bare_assigned o) ≡ shown ds o
+shown_bare : (ds : List Declaration) (o : Option Expression) → shown_signal (map bare_declaration ds) (bare_assigned o) ≡ shown_signal ds o
 shown_bare ds None = refl
 shown_bare ds (Some (Plain a)) = number_bare ds a.bytes
 shown_bare ds (Some (Literal l)) = refl
@@ -344,7 +344,7 @@ shown_bare ds (Some (Joined a b)) = refl
 shown_bare ds (Some (Slice a high low)) = refl
 
 output_bare : (f : File) (d : Declaration) → output_of (bare_file f) (bare_declaration d) ≡ output_of f d
-output_bare f d = ap (λ k. (d.name.bytes, k)) (ap (shown (map bare_declaration f.declarations)) (assigned_bare f.statements d.name.bytes) ∙ shown_bare
+output_bare f d = ap (λ k. (d.name.bytes, k)) (ap (shown_signal (map bare_declaration f.declarations)) (assigned_bare f.statements d.name.bytes) ∙ shown_bare
     f.declarations (assigned f.statements d.name.bytes))
 
 mapped : {A B : Type 0} (F G : A → B) (b : A → A) → ((x : A) → F (b x) ≡ G x) → (xs : List A) → map F (map b xs) ≡ map G xs

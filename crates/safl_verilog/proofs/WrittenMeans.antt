@@ -12,7 +12,7 @@ use Rattle.safl_verilog.specs.declared.token.Sort.TheVariants as sorts
 use Rattle.safl_verilog.specs.Files.{Spot, Plain, Declaration, Statement, File}
 use Rattle.safl_verilog.specs.Faults.{is_data, is_reg, is_wire, is_output, operands, assigned, updated}
 use Rattle.safl_verilog.specs.Netlists
-use Rattle.safl_verilog.specs.Netlists.{signals_of, place_of, number_of, cell_of, driven, register_of, kind_of, signal_of, shown, output_of, netlist}
+use Rattle.safl_verilog.specs.Netlists.{signals_of, place_of, number_of, cell_of, driven, register_of, kind_of, signal_of, shown_signal, output_of, netlist}
 use Rattle.safl_net.specs.Arranged.{IsInput, Each}
 use Rattle.safl_verilog.proofs.WholeNets.{IsUpdated, IsAssigned}
 use Rattle.safl_verilog.proofs.Distinct.{Name, Distinct, each_join, each_mapped, each_of, each_both, filter_all, filter_none}
@@ -203,7 +203,7 @@ module _ (n : Netlist) (net : IsNetlist n) (is rs ws : List Signal) (whole : n.s
       ∙ mapped_back (λ x. output_of f0 (declare_output n x)) n.outputs
       (each_both (WrittenRules.Shown n net is rs ws whole inputs registers wires)
       (λ (x : List ℕ × ℕ). assigned ss x.0 ≡ Some (Plain (named_spot n x.1))) (λ x. output_of f0 (declare_output n x) ≡ x)
-      (λ x h e. let k : shown ds (assigned ss x.0) ≡ x.1 = ap (shown ds) e ∙ number_is x.1 h.1 in pair x.0 _ x.1 k) n.outputs
+      (λ x h e. let k : shown_signal ds (assigned ss x.0) ≡ x.1 = ap (shown_signal ds) e ∙ number_is x.1 h.1 in pair x.0 _ x.1 k) n.outputs
       (WrittenRules.outputs_shown n net is rs ws whole inputs registers wires) (WrittenRules.outputs_done n net is rs ws whole inputs registers wires))
     where
       pair : (a : List ℕ) (b c : ℕ) → b ≡ c → ◌≡◌ {A = List ℕ × ℕ} (a, b) (a, c)

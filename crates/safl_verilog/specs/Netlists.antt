@@ -42,12 +42,12 @@ abbrev pub signal_of : File → Declaration → Signal
 signal_of f d = record { name = d.name.bytes; width = range_width d.range; kind = kind_of f d.sort d.name.bytes }
 
 -- the number of the signal that an output shows: that with the name that it is assigned
-abbrev pub shown : List Declaration → Option Expression → ℕ
-shown ds (Some (Plain a)) = number_of ds a.bytes
-shown ds _ = 0
+abbrev pub shown_signal : List Declaration → Option Expression → ℕ
+shown_signal ds (Some (Plain a)) = number_of ds a.bytes
+shown_signal ds _ = 0
 
 abbrev pub output_of : File → Declaration → List ℕ × ℕ
-output_of f d = (d.name.bytes, shown f.declarations (assigned f.statements d.name.bytes))
+output_of f d = (d.name.bytes, shown_signal f.declarations (assigned f.statements d.name.bytes))
 
 unfoldable pub netlist : File → Netlist
 netlist f = record {

@@ -14,7 +14,7 @@ use Rattle.safl_verilog.proofs.Texts.{stuck, no_empty}
 use Rattle.safl_vparse.specs.declared.front.Front.{Front}
 use Rattle.safl_vparse.specs.declared.front.Front.TheVariants as fronts
 use Rattle.safl_vparse.specs.Fronts.{measured, IsCutUpTo}
-use Rattle.safl_vparse.specs.Shown.{shown, shown_all}
+use Rattle.safl_vparse.specs.Shown.{shown_token, shown_all}
 
 tokens_after : (xs ys : List Piece) (p : ℕ) → tokens_from p (xs ++ ys) ≡ tokens_from p xs ++ tokens_from (p + length (text_of_all xs)) ys
 tokens_after [] ys p = ap (λ k. tokens_from k ys) (omega arith)
@@ -111,7 +111,7 @@ takes text w p n kind ts us e le k h more =
     let size : p + n - p ≡ length t.0 = omega (arith, t.2) in
     let bytes : take (p + n - p) (drop p text) ≡ t.0 = ap (λ j. take j (drop p text)) size ∙ f.front in
     let here : p ≡ 0 + length (text_of_all k.pieces) = omega (arith, k.place) in
-    let last : shown text (record { start = p; stop = p + n; kind = kind }) ≡ record
+    let last : shown_token text (record { start = p; stop = p + n; kind = kind }) ≡ record
     { place = 0 + length (text_of_all k.pieces); kind = kind; bytes = t.0 } = ap (λ (b : List ℕ). record { place = p; kind = kind; bytes = b })
     bytes ∙ ap (λ q. record { place = q; kind = kind; bytes = t.0 }) here in
     let g : (p + length t.0 ≤ length text) × IsCutUpTo text (p + length t.0) us × (1 ≤ length t.0) = (
@@ -121,7 +121,7 @@ takes text w p n kind ts us e le k h more =
         joined = f.joined;
         stand = f.stand;
         place = f.place;
-        tokens = ap (shown_all text) more ∙ map-append (shown text) ts _ ∙ ap
+        tokens = ap (shown_all text) more ∙ map-append (shown_token text) ts _ ∙ ap
             (λ (l : List Terminal). l ++ shown_all text (record { start = p; stop = p + n; kind = kind } ∷ [])) k.tokens ∙ ap
             (λ y. tokens_from 0 k.pieces ++ y ∷ []) last ∙ sym (tokens_after k.pieces (Lexeme kind t.0 ∷ []) 0);
       },

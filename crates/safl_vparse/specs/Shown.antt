@@ -14,11 +14,11 @@ use Rattle.safl_vparse.specs.declared.file.Statement.TheVariants as stated
 use Rattle.safl_vparse.specs.declared.file.File.{File}
 
 -- a token of a text, with its bytes: those from its start to its stop
-abbrev pub shown : List ℕ → Token → Terminal
-shown text t = record { place = t.start; kind = t.kind; bytes = take (t.stop - t.start) (drop t.start text) }
+abbrev pub shown_token : List ℕ → Token → Terminal
+shown_token text t = record { place = t.start; kind = t.kind; bytes = take (t.stop - t.start) (drop t.start text) }
 
 abbrev pub shown_all : List ℕ → List Token → List Terminal
-shown_all text ts = map (shown text) ts
+shown_all text ts = map (shown_token text) ts
 
 abbrev pub shown_spot : List ℕ → Span → Spot
 shown_spot text s = record { place = s.start; bytes = take (s.stop - s.start) (drop s.start text) }

@@ -10,7 +10,7 @@ use Rattle.safl_verilog.specs.Files.{Declaration}
 use Rattle.safl_verilog.specs.Faults.{find, passes, is_signal, range_width}
 use Rattle.safl_vread.specs.declared.scope.Item.{Item}
 use Rattle.safl_vread.specs.Lists.{names_of}
-use Rattle.safl_vread.specs.Scopes.{Shows, Describes}
+use Rattle.safl_vread.specs.Scopes.{ShowsDeclaration, Describes}
 use Rattle.safl_vread.proofs.NamesLookedUp.{bytes_flip}
 
 positive : (n : ℕ) → nat_lt 0 (suc n) ≡ true
@@ -94,6 +94,6 @@ none_passes ds None p h = refl
 none_passes ds (Some d) p h = absurd h
 
 pub some_passes : (ds : List Declaration) (o : Option Declaration) (item : Item) (p : Declaration → Bool) (b : Bool) → Describes ds o (Some item) →
-    ((d : Declaration) → Shows ds d item → b ≡ p d) → b ≡ passes p o
+    ((d : Declaration) → ShowsDeclaration ds d item → b ≡ p d) → b ≡ passes p o
 some_passes ds None item p b h k = absurd h
 some_passes ds (Some d) item p b h k = k d h

@@ -7,7 +7,7 @@ use Rattle.safl_verilog.specs.declared.token.Sort.{Sort}
 use Rattle.safl_verilog.specs.declared.token.Sort.TheVariants as sorts
 use Rattle.safl_verilog.specs.Files.{Spot, Expression, Literal, Plain, Inverted, Binary, Choice, Joined, Slice, Declaration, Statement, File}
 use Rattle.safl_verilog.specs.Faults.{is_plain, range_width, literal_value, operation, operands, assigned, missing_faults}
-use Rattle.safl_verilog.specs.Netlists.{number_of, kind_of, register_of, driven, shown, signal_of}
+use Rattle.safl_verilog.specs.Netlists.{number_of, kind_of, register_of, driven, shown_signal, signal_of}
 use Rattle.safl_vread.specs.declared.driver.Operands.{Operands}
 use Rattle.safl_vread.specs.declared.driver.Operands.TheVariants as operand
 use Rattle.safl_vread.specs.declared.driver.Driver.{Driver}
@@ -108,7 +108,7 @@ module _ (f : File) (order ns : List ℕ) (n : AreNumbers f.declarations order n
   -- ---- outputs
 
   shown_sort : (s : Sort) (r : Option (Spot × Spot)) (x : Spot) (v : Driver) → s ≡ sorts.Output → Drives f.declarations f.statements
-      (record { sort = s; range = r; name = x }) v → Fits (length f.declarations) s (range_width r) v → shown_with ns v ≡ shown f.declarations
+      (record { sort = s; range = r; name = x }) v → Fits (length f.declarations) s (range_width r) v → shown_with ns v ≡ shown_signal f.declarations
       (assigned f.statements x.bytes)
   shown_sort sorts.Input r x v e h k = absurd cc
   shown_sort sorts.Reg r x v e h k = absurd cc
@@ -119,8 +119,8 @@ module _ (f : File) (order ns : List ℕ) (n : AreNumbers f.declarations order n
       let a = plain_of h.value (h.plain refl) in
       let b = shows_one f.declarations xs h.value h.operands_at a in
       let c : assigned f.statements x.bytes ≡ Some (Plain a.name) = h.assigned_is ∙ ap Some a.is in
-      ap (λ (o : Operands). shown_with ns (driver.Cell op o)) b.is ∙ place_number f.declarations order ns b.place a.name n b.at ∙ sym (ap (shown f.declarations) c)
+      ap (λ (o : Operands). shown_with ns (driver.Cell op o)) b.is ∙ place_number f.declarations order ns b.place a.name n b.at ∙ sym (ap (shown_signal f.declarations) c)
 
   pub shown_is : (d : Declaration) (v : Driver) → d.sort ≡ sorts.Output → Drives f.declarations f.statements d v → Fits (length f.declarations) d.sort
-      (range_width d.range) v → shown_with ns v ≡ shown f.declarations (assigned f.statements d.name.bytes)
+      (range_width d.range) v → shown_with ns v ≡ shown_signal f.declarations (assigned f.statements d.name.bytes)
   shown_is d v e h k = shown_sort d.sort d.range d.name v e h k

@@ -9,7 +9,7 @@ use Rattle.safl_verilog.specs.Reads.{broken}
 use Rattle.safl_vparse.specs.Parsed.{IsFileText, RefusesText}
 use Rattle.safl_vparse.specs.declared.error.VErr.{VErr}
 use Rattle.safl_vparse.specs.declared.error.VErr.TheVariants as errors
-use Rattle.safl_vread.specs.Firsts.{first, Refuses, Answers}
+use Rattle.safl_vread.specs.Firsts.{first, RefusesFirst, Answers}
 use Rattle.safl_vread.specs.Parts.{later_faults}
 use Rattle.safl_vread.proofs.FirstOfSeveral.{first_some}
 
@@ -37,7 +37,7 @@ module _ (f : File) where
     behind_numbers : faults f ≡ repeat_faults [] f.header ++ (repeat_faults [] (declared_names f.declarations) ++ later_faults f)
     behind_numbers = parted f ∙ ap (λ (l : List VFault). l ++ (repeat_faults [] f.header ++ (repeat_faults [] (declared_names f.declarations) ++ later_faults f))) a
 
-    pub header_first : (e : VErr) → Refuses (repeat_faults [] f.header) e → Refuses (faults f) e
+    pub header_first : (e : VErr) → RefusesFirst (repeat_faults [] f.header) e → RefusesFirst (faults f) e
     header_first errors.NoMemory k = tt
     header_first (errors.Refused g) k = first_some (repeat_faults [] f.header) _ g k ∙ sym (ap first behind_numbers)
 
@@ -45,7 +45,7 @@ module _ (f : File) where
       behind_header : faults f ≡ repeat_faults [] (declared_names f.declarations) ++ later_faults f
       behind_header = behind_numbers ∙ ap (λ (l : List VFault). l ++ (repeat_faults [] (declared_names f.declarations) ++ later_faults f)) b
 
-      pub declared_first : (e : VErr) → Refuses (repeat_faults [] (declared_names f.declarations)) e → Refuses (faults f) e
+      pub declared_first : (e : VErr) → RefusesFirst (repeat_faults [] (declared_names f.declarations)) e → RefusesFirst (faults f) e
       declared_first errors.NoMemory k = tt
       declared_first (errors.Refused g) k = first_some (repeat_faults [] (declared_names f.declarations)) _ g k ∙ sym (ap first behind_header)
 

@@ -19,7 +19,7 @@ use Rattle.safl_verilog.specs.Faults.{is_plain, range_width, width_of, expressio
 use Rattle.safl_verilog.specs.Faults.{repeat_faults, declared_names, all_number_faults, header_faults, port_faults, all_port_faults}
 use Rattle.safl_verilog.specs.Faults.{all_statement_faults, statement_faults, assign_faults, may_be_assigned, unfit_faults, width_faults}
 use Rattle.safl_verilog.specs.Faults.{missing_faults}
-use Rattle.safl_verilog.specs.Netlists.{netlist, signals_of, signal_of, kind_of, register_of, driven, output_of, shown, place_of, number_of}
+use Rattle.safl_verilog.specs.Netlists.{netlist, signals_of, signal_of, kind_of, register_of, driven, output_of, shown_signal, place_of, number_of}
 use Rattle.safl_verilog.specs.Reads.{Reads}
 use Rattle.safl_net.specs.Arranged.{Each}
 use Rattle.safl_verilog.proofs.Distinct.{Name, Has, Distinct, each_at, each_join, each_mapped, each_of, other_name}
@@ -346,7 +346,7 @@ has_done f apart h m k =
     let g = signal_at f (signals_of ds) (number_of ds s.source.bytes) s.signal p.1 in
     record {
       signal = number_of ds s.source.bytes;
-      at = output_found f ds (codes "done") a.0 a.1 b.0 ∙ ap (λ (o : Option Expression). Some (shown ds o)) s.assigned_is;
+      at = output_found f ds (codes "done") a.0 a.1 b.0 ∙ ap (λ (o : Option Expression). Some (shown_signal ds o)) s.assigned_is;
       bit = ap Netlist.width_in g ∙ sym s.width ∙ bit_of (range_width a.0.range) b.1;
     }
 

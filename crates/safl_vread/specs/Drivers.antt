@@ -22,13 +22,13 @@ use Rattle.safl_vread.specs.declared.driver.Driver.{Driver}
 use Rattle.safl_vread.specs.declared.driver.Driver.TheVariants as driver
 use Rattle.safl_vread.specs.Firsts.{first}
 use Rattle.safl_vread.specs.declared.scope.Scope.{Scope}
-use Rattle.safl_vread.specs.Scopes.{declared_in, spot_in, Shows}
+use Rattle.safl_vread.specs.Scopes.{declared_in, spot_in, ShowsDeclaration}
 
 -- a name is declared, its declaration passes the test, and the item shows it
 pub record Found (ds : List Declaration) (x : Spot) (p : Declaration → Bool) (item : Item) : Type 0 where
   pub declared : Declaration
   pub found : find ds x.bytes ≡ Some declared
-  pub shown : Shows ds declared item
+  pub shown : ShowsDeclaration ds declared item
   pub passed : p declared ≡ true
 
 -- the result is such an item, or this fault if there is none

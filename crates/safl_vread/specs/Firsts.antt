@@ -9,11 +9,11 @@ first [] = None
 first (f ∷ fs) = Some f
 
 -- the error is the first fault of the list, or out of memory
-abbrev pub Refuses : List VFault → VErr → Type 0
-Refuses faults (errors.Refused f) = Some f ≡ first faults
-Refuses faults errors.NoMemory = Unit {0}
+abbrev pub RefusesFirst : List VFault → VErr → Type 0
+RefusesFirst faults (errors.Refused f) = Some f ≡ first faults
+RefusesFirst faults errors.NoMemory = Unit {0}
 
 -- there is no fault, or the error is the first one, or out of memory
 abbrev pub Answers : {A : Type 0} → List VFault → Result A VErr → Type 0
 Answers faults (Ok x) = faults ≡ []
-Answers faults (Err e) = Refuses faults e
+Answers faults (Err e) = RefusesFirst faults e

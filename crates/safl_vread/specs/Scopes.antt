@@ -41,7 +41,7 @@ abbrev pub file_in : Scope → List Span → File
 file_in s header = without_statements (spots_in s header) (declared_in s)
 
 -- an item shows a declaration, which is at the item's place
-pub record Shows (ds : List Declaration) (d : Declaration) (item : Item) : Type 0 where
+pub record ShowsDeclaration (ds : List Declaration) (d : Declaration) (item : Item) : Type 0 where
   pub place : slice_get ds item.place ≡ Some d
   pub sort : item.sort ≡ d.sort
   pub width : item.width ≡ range_width d.range
@@ -49,6 +49,6 @@ pub record Shows (ds : List Declaration) (d : Declaration) (item : Item) : Type 
 
 abbrev pub Describes : List Declaration → Option Declaration → Option Item → Type 0
 Describes ds None None = Unit {0}
-Describes ds (Some d) (Some item) = Shows ds d item
+Describes ds (Some d) (Some item) = ShowsDeclaration ds d item
 Describes ds None (Some item) = ⊥
 Describes ds (Some d) None = ⊥

@@ -1,9 +1,9 @@
 //! The reader of Verilog files: from a text to the net that it reads as, or to its first fault.
 #![tactic(auto)]
 
-mod cells;
 mod driver;
 mod elaborate;
+mod expressions;
 mod make;
 mod missing;
 mod names;

@@ -10,8 +10,8 @@ ghost use Rattle.safl_vread.specs.Firsts.{Answers};
 ghost use Rattle.safl_vread.specs.Drivers.{Chosen, is_open, HasDrivers, always_at, StepsFrom, NamesFrom};
 ghost use Rattle.safl_vread.specs.Scopes.{declared_in, spot_in, expression_in, statement_in, statements_in};
 
-use crate::cells::{expression_width, operands_of, operation_of, signal};
 use crate::driver::Driver;
+use crate::expressions::{expression_width, operands_of, operation_of, signal};
 use crate::scope::{Item, Scope};
 use crate::spans::{bytes_of, fault_at, is_clock, is_reset, same_bytes};
 use safl_verilog::{Sort, VFault, VRule};

@@ -18,7 +18,7 @@ use Rattle.safl_net.specs.Names.{is_good, is_identifier, is_reserved}
 use Rattle.safl_net.specs.Widths.{op_width, HasWord}
 use Rattle.safl_net.specs.Rules.{IsNetlist, SignalFits, KindFits}
 use Rattle.safl_net.specs.Making.{name_at, name_in, widths}
-use Rattle.safl_net.specs.Written.{Text, literal, declaration, two_operands, inverted, joined, sliced, plain, selected, applied, operation, names_of}
+use Rattle.safl_net.specs.Written.{Text, literal, declaration, two_operands, inverted, joined_texts, sliced, plain, selected, applied, operation, names_of}
 use Rattle.safl_net.specs.Written.{if_input, if_register, if_wire, port, input_port, output_port, input_declaration, output_declaration}
 use Rattle.safl_net.specs.Written.{register_declaration, wire_declaration, assignment, cell_assignment, wire_assignment, output_assignment, update}
 use Rattle.safl_net.specs.Written.{next_update, register_update, written}
@@ -104,7 +104,7 @@ module _ (n : Netlist) (net : IsNetlist n) where
   inverted_short (a ∷ []) = let x = name_at_short a in omega arith
   inverted_short (a ∷ (b ∷ xs)) = omega arith
 
-  joined_short : (xs : List ℕ) → length (joined (names_of n xs)) ≤ 404
+  joined_short : (xs : List ℕ) → length (joined_texts (names_of n xs)) ≤ 404
   joined_short [] = omega arith
   joined_short (a ∷ []) = omega arith
   joined_short (a ∷ (b ∷ [])) =

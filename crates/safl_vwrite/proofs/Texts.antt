@@ -3,7 +3,7 @@ use Rattle.std.proofs.Common.{◌≡◌, ℕ, ◌<◌, ◌≤◌, List, [], ◌�
 use Rattle.safl_net.specs.declared.cell.Sig.{Sig}
 use Rattle.safl_net.specs.Netlist.{Netlist}
 use Rattle.safl_net.specs.Making.{numbers}
-use Rattle.safl_net.specs.Written.{Text, names_of, plain, selected, two_operands, inverted, joined, sliced}
+use Rattle.safl_net.specs.Written.{Text, names_of, plain, selected, two_operands, inverted, joined_texts, sliced}
 
 pub five : (o a b c d e p q r s t : Text) → p ≡ o ++ a → q ≡ p ++ b → r ≡ q ++ c → s ≡ r ++ d → t ≡ s ++ e → t ≡ o ++ (a ++ b ++ c ++ d ++ e)
 five o a b c d e p q r s t hp hq hr hs ht =
@@ -40,7 +40,7 @@ other_two n s (a ∷ []) h = refl
 other_two n s (a ∷ (b ∷ [])) h = absurd (elim h [ inl lt ↦ omega (arith, lt) | inr le ↦ omega (arith, le) ])
 other_two n s (a ∷ (b ∷ (c ∷ xs))) h = refl
 
-pub other_joined : (n : Netlist) (xs : List Sig) → (length xs < 2) ⊎ (3 ≤ length xs) → joined (names_of n (numbers xs)) ≡ []
+pub other_joined : (n : Netlist) (xs : List Sig) → (length xs < 2) ⊎ (3 ≤ length xs) → joined_texts (names_of n (numbers xs)) ≡ []
 other_joined n [] h = refl
 other_joined n (a ∷ []) h = refl
 other_joined n (a ∷ (b ∷ [])) h = absurd (elim h [ inl lt ↦ omega (arith, lt) | inr le ↦ omega (arith, le) ])

@@ -2,7 +2,7 @@
 
 ghost use Rattle.std.specs.Prelude.{◌≡◌, ◌++◌, ◌<◌, length, OnOk, All};
 ghost use Rattle.safl_net.specs.Making.{name_at, numbers};
-ghost use Rattle.safl_net.specs.Written.{operation, applied, names_of, two_operands, inverted, joined, slice, sliced, plain, selected};
+ghost use Rattle.safl_net.specs.Written.{operation, applied, names_of, two_operands, inverted, joined_texts, slice, sliced, plain, selected};
 
 use crate::pieces::{push, push_literal};
 use safl_net::{Cell, Net, Op, Sig};
@@ -112,7 +112,7 @@ fn push_inverted(out: &mut Vec<u8>, net: &Net, operands: &[Sig]) -> Result<(), N
 
 fn push_joined(out: &mut Vec<u8>, net: &Net, operands: &[Sig]) -> Result<(), NoMemory>
     requires { All (λ s. s.0 < length net.now.signals) operands.now }
-    ensures { OnOk result (out.new.items ≡ out.old.items ++ joined (names_of net.now (numbers operands.now))) }
+    ensures { OnOk result (out.new.items ≡ out.old.items ++ joined_texts (names_of net.now (numbers operands.now))) }
 {
     let [a, b] = operands else {
         return Ok(());

@@ -8,7 +8,7 @@ abbrev pub high_half : ℕ → ℕ
 high_half x = x / 2 ^ 64
 
 -- the numbers with these low and high halves
-abbrev pub joined : List ℕ → List ℕ → List ℕ
-joined [] highs = []
-joined (l ∷ lows) [] = []
-joined (l ∷ lows) (h ∷ highs) = (l + h * 2 ^ 64) ∷ joined lows highs
+abbrev pub joined_halves : List ℕ → List ℕ → List ℕ
+joined_halves [] highs = []
+joined_halves (l ∷ lows) [] = []
+joined_halves (l ∷ lows) (h ∷ highs) = (l + h * 2 ^ 64) ∷ joined_halves lows highs

@@ -20,11 +20,11 @@ pub struct Numbers {
 
 impl Model for Numbers {
     ghost use Rattle.std.specs.Prelude.{◌≡◌, List, ℕ, length};
-    ghost use Rattle.safl_word.specs.Halves.{joined};
+    ghost use Rattle.safl_word.specs.Halves.{joined_halves};
 
     ghost Value = { List ℕ };
 
-    ghost view = { λ n. joined n.low.items n.high.items };
+    ghost view = { λ n. joined_halves n.low.items n.high.items };
 
     ghost invariant = { λ n. length n.low.items ≡ length n.high.items };
 }

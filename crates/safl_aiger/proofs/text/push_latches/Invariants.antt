@@ -1,6 +1,6 @@
 use Rattle.std.proofs.Common.{◌≡◌, ◌+◌, ◌++◌, drop}
-use Rattle.safl_aiger.specs.Texts.{joined, latch_text}
+use Rattle.safl_aiger.specs.Texts.{joined_lines, latch_text}
 use Rattle.safl_aiger.proofs.text.push_latches.Given as goal
 
 abbrev pub invariant-loop-i : goal.invariant-loop-i
-invariant-loop-i l = l.out.items ++ joined (latch_text (l.first + l.i) (drop l.i l.nexts)) ≡ l.initial.out.items ++ joined (latch_text l.first l.nexts)
+invariant-loop-i l = l.out.items ++ joined_lines (latch_text (l.first + l.i) (drop l.i l.nexts)) ≡ l.initial.out.items ++ joined_lines (latch_text l.first l.nexts)

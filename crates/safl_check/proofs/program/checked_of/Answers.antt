@@ -2,7 +2,7 @@ use Rattle.std.proofs.Common.{◌≤◌, List, length, map, refl, sym, ap, ◌�
 use Rattle.safl_term.specs.Checked.{CheckedProgram, IsChecked}
 use Rattle.safl_term.specs.declared.checked.Function.{Function}
 use Rattle.safl_tree.specs.Shown.{shown_definitions}
-use Rattle.safl_typing.specs.Forms.{IsFormOf, all_sites, shown, shown_function}
+use Rattle.safl_typing.specs.Forms.{IsFormOf, all_sites, shown_form, shown_function}
 use Rattle.safl_check.proofs.OutcomeByParts.{fault_of_main, form_shown, few_functions}
 use Rattle.safl_check.proofs.program.checked_of.Goals as goal
 
@@ -26,7 +26,7 @@ returns-clause-form c =
     let sites = c.in_ok-sites.ensures ∙ ap (λ (l : List Function). all_sites 0 (map shown_function l)) c.deref.ensures.value in
     let form = form_shown c.walk_law.ensures (shown_definitions c.args.defs.now) c.args.functions.items c.in_ok-sites.sites.items c.requires.formed
     c.requires.within c.requires.functions (sym c.in_default.ensures) sites in
-    subst (λ (p : CheckedProgram). IsFormOf (shown_definitions c.args.defs.now) (shown p)) (sym c.new.ensures) form
+    subst (λ (p : CheckedProgram). IsFormOf (shown_definitions c.args.defs.now) (shown_form p)) (sym c.new.ensures) form
 
 pub returns-clause-checked : goal.returns-clause-checked
 returns-clause-checked c =

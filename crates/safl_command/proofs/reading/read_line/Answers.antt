@@ -7,7 +7,7 @@ use Rattle.clap.specs.declared.error.kind.ErrorKind.TheVariants as kinds-of
 use Rattle.std.specs.Prelude.{IfOk, option_map}
 use Rattle.clap.specs.Words.{App, Text, app_of, fault_of, subcommand_of, subcommand_rows_of, is_simple, is_simple_and_free, HasKind, kind_of}
 use Rattle.safl_command.specs.Forms.{app}
-use Rattle.safl_command.specs.Commands.{Command, shown}
+use Rattle.safl_command.specs.Commands.{Command, shown_command}
 use Rattle.safl_command.proofs.Parsed.{app_simple, app_free, parsed, not_parsed}
 use Rattle.safl_command.proofs.reading.read_line.Goals as goal
 
@@ -18,7 +18,7 @@ returns-in-Ok c =
     let none : fault_of app line ≡ [] = subst (λ (a : App). fault_of a line ≡ []) is (c.in-Ok.ensures.kinds (subst (λ (a : App). is_simple_and_free a ≡ true) (sym is) app_free)) in
     let rows : subcommand_rows_of c.in-Ok.matches ≡ subcommand_of app line =
     subst (λ (a : App). subcommand_rows_of c.in-Ok.matches ≡ subcommand_of a line) is (c.in-Ok.ensures.matches (subst (λ (a : App). is_simple a ≡ true) (sym is) app_simple)).1 in
-    subst (λ (o : Option Command). IfOk c.read_matches.result (λ r. option_map shown r ≡ o)) (parsed line c.in-Ok.matches none rows) c.read_matches.ensures
+    subst (λ (o : Option Command). IfOk c.read_matches.result (λ r. option_map shown_command r ≡ o)) (parsed line c.in-Ok.matches none rows) c.read_matches.ensures
 
 pub returns-in-Err-2 : goal.returns-in-Err-2
 returns-in-Err-2 c =

@@ -7,7 +7,7 @@ use Rattle.safl_term.specs.Fuel.{eval, eval_all, Gave, Words, NoWords}
 use Rattle.safl_term.specs.Sizes.{nodes, nodes_in}
 use Rattle.safl_term.specs.Tree.{shown_term, shown_terms}
 use Rattle.safl_term.proofs.PlainTrees.{shown_term-Op, shown_term-Let}
-use Rattle.safl_interpreter.specs.Interpreting.{widths, shown, shown_all, applied, finished, GoesOn}
+use Rattle.safl_interpreter.specs.Interpreting.{widths, shown_answer, shown_all, applied, finished, GoesOn}
 use Rattle.safl_interpreter.proofs.Meanings.{term_saves, terms_save}
 use Rattle.safl_interpreter.proofs.Steps
 use Rattle.safl_interpreter.proofs.evaluate.+evaluate.Goals as goal
@@ -71,7 +71,7 @@ evaluate-evaluate-requires t c =
     let shape = Steps.if_by (ap shown_term c.in-If.is) (ap shown_term c.deref.ensures) (ap shown_term c.deref-then-bits-eq1.ensures) refl in
     let word = c.in-Some.test.word in
     let rest = c.in-Some.test.left in
-    let test : Gave word rest ≡ eval C (applied C) (shown_term c.deref.result.now) n E = sym (ap shown c.in-Some.is) ∙ c.in_ok-test-in-If.ensures in
+    let test : Gave word rest ≡ eval C (applied C) (shown_term c.deref.result.now) n E = sym (ap shown_answer c.in-Some.is) ∙ c.in_ok-test-in-If.ensures in
     let left = term_saves C (shown_term c.deref.result.now) n E word rest (sym test) in
     let size = ap nodes shape in
     let smaller : 150001 * rest + 3 * nodes (shown_term c.deref-then-bits-eq1.result.now) < 150001 * n + 3 * nodes (shown_term c.args.t.now) = omega (arith, size, left) in
@@ -85,7 +85,7 @@ evaluate-evaluate-requires-else-bits-eq1 t c =
     let shape = Steps.if_by (ap shown_term c.in-If.is) (ap shown_term c.deref.ensures) refl (ap shown_term c.deref-else-bits-eq1.ensures) in
     let word = c.in-Some.test.word in
     let rest = c.in-Some.test.left in
-    let test : Gave word rest ≡ eval C (applied C) (shown_term c.deref.result.now) n E = sym (ap shown c.in-Some.is) ∙ c.in_ok-test-in-If.ensures in
+    let test : Gave word rest ≡ eval C (applied C) (shown_term c.deref.result.now) n E = sym (ap shown_answer c.in-Some.is) ∙ c.in_ok-test-in-If.ensures in
     let left = term_saves C (shown_term c.deref.result.now) n E word rest (sym test) in
     let size = ap nodes shape in
     let smaller : 150001 * rest + 3 * nodes (shown_term c.deref-else-bits-eq1.result.now) < 150001 * n + 3 * nodes (shown_term c.args.t.now) = omega (arith, size, left) in
@@ -99,7 +99,7 @@ evaluate-returns-then-bits-eq1 t c =
     let shape = Steps.if_by (ap shown_term c.in-If.is) (ap shown_term c.deref.ensures) (ap shown_term c.deref-then-bits-eq1.ensures) refl in
     let word = c.in-Some.test.word in
     let rest = c.in-Some.test.left in
-    let test : Gave word rest ≡ eval C (applied C) (shown_term c.deref.result.now) n E = sym (ap shown c.in-Some.is) ∙ c.in_ok-test-in-If.ensures in
+    let test : Gave word rest ≡ eval C (applied C) (shown_term c.deref.result.now) n E = sym (ap shown_answer c.in-Some.is) ∙ c.in_ok-test-in-If.ensures in
     let left = term_saves C (shown_term c.deref.result.now) n E word rest (sym test) in
     let same = Steps.if_then C E n (shown_term c.deref.result.now) (shown_term c.deref-then-bits-eq1.result.now) (shown_term c.in-If.b.value) word
     rest test (sym c.bits.ensures.value ∙ c.if-bits-eq1.true) in
@@ -113,7 +113,7 @@ evaluate-returns-else-bits-eq1 t c =
     let shape = Steps.if_by (ap shown_term c.in-If.is) (ap shown_term c.deref.ensures) refl (ap shown_term c.deref-else-bits-eq1.ensures) in
     let word = c.in-Some.test.word in
     let rest = c.in-Some.test.left in
-    let test : Gave word rest ≡ eval C (applied C) (shown_term c.deref.result.now) n E = sym (ap shown c.in-Some.is) ∙ c.in_ok-test-in-If.ensures in
+    let test : Gave word rest ≡ eval C (applied C) (shown_term c.deref.result.now) n E = sym (ap shown_answer c.in-Some.is) ∙ c.in_ok-test-in-If.ensures in
     let left = term_saves C (shown_term c.deref.result.now) n E word rest (sym test) in
     let same = Steps.if_else C E n (shown_term c.deref.result.now) (shown_term c.in-If.a.value) (shown_term c.deref-else-bits-eq1.result.now) word
     rest test (λ q. c.if-bits-eq1.false (c.bits.ensures.value ∙ q)) in
@@ -282,7 +282,7 @@ values-loop-t-preserved t c =
     let at = slice_get_read c.args.ts.now (length c.args.ts.now) c.loop-t.t-index c.t-item.result refl c.loop-t-test.true c.t-item.is in
     let word = c.in-Some.answer.word in
     let rest = c.in-Some.answer.left in
-    let one : Gave word rest ≡ eval C (applied C) (shown_term c.t-item.result) n E = sym (ap shown c.in-Some.is) ∙ c.in_ok-answer.ensures in
+    let one : Gave word rest ≡ eval C (applied C) (shown_term c.t-item.result) n E = sym (ap shown_answer c.in-Some.is) ∙ c.in_ok-answer.ensures in
     let left = term_saves C (shown_term c.t-item.result) n E word rest (sym one) in
     let next = Steps.all_next C E c.args.ts.now c.loop-t.t-index c.t-item.result at c.loop-t.words.items n word rest one in
     record {

@@ -4,7 +4,7 @@ use Rattle.safl_net.proofs.Growth.{wired_before}
 use Rattle.safl_lower.specs.Sources.{IsSource}
 use Rattle.safl_lower.specs.Tables.{one_word}
 use Rattle.safl_lower.proofs.Building.{source_grown, source_kept, builds_on, builds_within}
-use Rattle.safl_lower.specs.declared.parts.Readiness.{Readiness}
+use Rattle.safl_lower.specs.declared.lowered.Readiness.{Readiness}
 use Rattle.safl_lower.specs.Bits.{is_ready}
 use Rattle.safl_lower.proofs.Arms.{gate_none, gate_gate}
 use Rattle.safl_lower.proofs.Ending.{one_load_fits, one_load_takes}

@@ -3,8 +3,8 @@ use Rattle.std.proofs.lemmas.Option.{slice_get_read}
 use Rattle.safl_net.specs.Growth.{words}
 use Rattle.safl_net.proofs.Growth.{grows_on, wired_before}
 use Rattle.safl_term.specs.Readiness.{or_else}
-use Rattle.safl_lower.specs.declared.parts.SitePorts.{SitePorts}
-use Rattle.safl_lower.specs.declared.parts.Want.{Want}
+use Rattle.safl_lower.specs.declared.lowered.SitePorts.{SitePorts}
+use Rattle.safl_lower.specs.declared.lowered.Want.{Want}
 use Rattle.safl_net.specs.Bits.{on}
 use Rattle.safl_lower.specs.Bits.{is_ready}
 use Rattle.safl_lower.specs.Entries.{asked}

@@ -1,6 +1,6 @@
 use Rattle.std.proofs.Common.{◌≡◌, true, cond}
 use Rattle.safl_net.specs.Growth.{Val, Wired}
-use Rattle.safl_lower.specs.declared.parts.Readiness.TheVariants.{Never}
+use Rattle.safl_lower.specs.declared.lowered.Readiness.TheVariants.{Never}
 use Rattle.safl_net.specs.Bits.{on}
 use Rattle.safl_lower.specs.Bits.{is_ready}
 use Rattle.safl_lower.proofs.Kept.{weaker}

@@ -1,7 +1,7 @@
 use Rattle.std.proofs.Common.{ap, ◌∙◌}
 use Rattle.safl_net.specs.Growth.{words}
 use Rattle.safl_term.specs.Readiness.{or_else}
-use Rattle.safl_lower.specs.declared.parts.TailCall.{TailCall}
+use Rattle.safl_lower.specs.declared.lowered.TailCall.{TailCall}
 use Rattle.safl_net.specs.Bits.{on}
 use Rattle.safl_lower.specs.Bits.{is_ready}
 use Rattle.safl_lower.specs.Entries.{went}

@@ -1,5 +1,5 @@
 use Rattle.std.proofs.Common.{subst}
-use Rattle.safl_lower.specs.declared.parts.Readiness.{Readiness}
+use Rattle.safl_lower.specs.declared.lowered.Readiness.{Readiness}
 use Rattle.safl_lower.specs.Bits.{ReadyAt}
 use Rattle.safl_lower.proofs.ready.either_ready.Goals as goal
 

@@ -8,7 +8,7 @@ use Rattle.safl_term.specs.declared.term.Term as declared
 use Rattle.safl_term.specs.Terms.{Term, Terms, Cons}
 use Rattle.safl_term.specs.Tree.{shown_term, shown_terms}
 use Rattle.safl_term.proofs.PlainTrees.{shown_term-Op, shown_term-Loop, shown_term-Call, shown_term-Let}
-use Rattle.safl_lower.specs.declared.parts.Readiness.TheVariants.{Always}
+use Rattle.safl_lower.specs.declared.lowered.Readiness.TheVariants.{Always}
 use Rattle.safl_term.specs.Sizes.{nodes, nodes_in}
 use Rattle.safl_lower.specs.Typing.{holds_calls}
 use Rattle.safl_lower.specs.Lowering.{Lowerable, LowerableAll, Lowers, LowersAll}

@@ -2,7 +2,7 @@ use Rattle.std.proofs.Common.{◌≡◌, ◌≤◌, ℕ, List, length, take, ap,
 use Rattle.std.specs.Prelude.{sum}
 use Rattle.std.proofs.lemmas.List.{take_all}
 use Rattle.std.proofs.lemmas.List.Sums.{sum_by-take-le}
-use Rattle.safl_number_set.specs.Groups.{counted, shown}
+use Rattle.safl_number_set.specs.Groups.{counted, shown_groups}
 use Rattle.safl_number_set.proofs.SumsOfParts.{sum_bits}
 use Rattle.safl_number_set.proofs.CountedGroups.{counted_bits, counted_long}
 use Rattle.safl_number_set.proofs.groups.find_counted.Goals as goal
@@ -15,8 +15,8 @@ overflow_add-next c =
     let s = c.args.s.now in
     let h = c.requires.grouped in
     let bit = counted_bits s h c.loop-k.k in
-    let part = sum_by-take-le same (counted (shown s)) c.loop-k.k in
-    let all = sum_bits (counted (shown s)) (counted_bits s h) in
+    let part = sum_by-take-le same (counted (shown_groups s)) c.loop-k.k in
+    let all = sum_bits (counted (shown_groups s)) (counted_bits s h) in
     omega (arith, c.loop-k.invariant.start, part, all, counted_long s h, h.few, c.counts.ensures, bit)
 
 pub returns-then-place-next-clause-within : goal.returns-then-place-next-clause-within
@@ -37,6 +37,6 @@ pub unreachable-requires : goal.unreachable-requires
 unreachable-requires c =
     let s = c.args.s.now in
     let h = c.requires.grouped in
-    let past : length (counted (shown s)) ≤ c.loop-k.k = omega (arith, c.loop-k-test.false, c.len-k-end.ensures, s.group.ok.0, counted_long s h) in
-    let all : sum (take c.loop-k.k (counted (shown s))) ≡ sum (counted (shown s)) = ap (λ (l : List ℕ). sum l) (take_all c.loop-k.k (counted (shown s)) past) in
+    let past : length (counted (shown_groups s)) ≤ c.loop-k.k = omega (arith, c.loop-k-test.false, c.len-k-end.ensures, s.group.ok.0, counted_long s h) in
+    let all : sum (take c.loop-k.k (counted (shown_groups s))) ≡ sum (counted (shown_groups s)) = ap (λ (l : List ℕ). sum l) (take_all c.loop-k.k (counted (shown_groups s)) past) in
     omega (arith, all, c.loop-k.invariant.start, c.loop-k.invariant.reached, c.requires.passed)

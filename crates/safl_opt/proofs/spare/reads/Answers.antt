@@ -2,7 +2,7 @@ use Rattle.std.proofs.Common.{◌≡◌, ℕ, Some, true, false, ◌⊎◌, inl,
 use Rattle.safl_net.specs.declared.cell.SigKind.{SigKind}
 use Rattle.safl_net.specs.Netlist.{Netlist, Reg}
 use Rattle.safl_net.specs.Making.{kind_at, sort_of}
-use Rattle.safl_order.specs.Order.{IsWire, Reads}
+use Rattle.safl_order.specs.Order.{IsWire, ReadsSignal}
 use Rattle.safl_opt.specs.Spare.{IsReader}
 use Rattle.safl_opt.proofs.Reaching.{is_wire}
 use Rattle.safl_opt.proofs.spare.reads.Goals as goal
@@ -15,7 +15,7 @@ of_register : (n : Netlist) (a s : ℕ) → SigKind.Reg ≡ sort_of (kind_at n a
 of_register n a s e (inl r) = r
 of_register n a s e (inr r) = let z : SigKind.Reg ≡ SigKind.Wire = e ∙ is_wire n a s r in absurd (cc)
 
-of_wire : (n : Netlist) (a s : ℕ) → SigKind.Wire ≡ sort_of (kind_at n a) → IsReader n a s → Reads n a s
+of_wire : (n : Netlist) (a s : ℕ) → SigKind.Wire ≡ sort_of (kind_at n a) → IsReader n a s → ReadsSignal n a s
 of_wire n a s e (inl r) = let z : SigKind.Wire ≡ SigKind.Reg = e ∙ ap sort_of r.1 in absurd (cc)
 of_wire n a s e (inr r) = r
 

@@ -4,7 +4,7 @@ use Rattle.safl_term.specs.Program.{Program}
 use Rattle.safl_tree.specs.declared.tree.Def.{Def}
 use Rattle.safl_tree.specs.Shown.{shown_definitions, shown_program}
 use Rattle.safl_tree.specs.Printable.{AllKeepLevels}
-use Rattle.safl_typing.specs.Forms.{shown}
+use Rattle.safl_typing.specs.Forms.{shown_form}
 use Rattle.safl_check.specs.Numbered.{program_in}
 use Rattle.safl_reshape.specs.Laws.{IsAlike}
 use Rattle.safl_reshape.specs.Limits.{KeepsLimits}
@@ -16,7 +16,7 @@ use Rattle.safl_reshape.proofs.program.copy_checked.Goals as goal
 pub returns-in_err-defs-clause-refused : goal.returns-in_err-defs-clause-refused
 returns-in_err-defs-clause-refused c =
     let p = err_from_is_err_and c.from_residual.result c.from_residual.ensures.1 in
-    let n : c.args.checked.now.program ≡ program_in (shown c.args.checked.now) = (c.forms_are_numbered_law.ensures c.args.checked.now).program in
+    let n : c.args.checked.now.program ≡ program_in (shown_form c.args.checked.now) = (c.forms_are_numbered_law.ensures c.args.checked.now).program in
     let r = subst (λ (l : List Def). RefusesCopy c.args.checked.now.program (shown_definitions l) c.args.site c.in_err-defs.field-0.0) c.deref.ensures.value c.in_err-defs.ensures.refused in
     rw (p.1, p.2) (any_form (shown_program c.args.program.now) c.args.checked.now c.requires.form c.one_form_law.ensures n
     (λ (z : Program). RefusesCopy z (shown_program c.args.program.now) c.args.site c.in_err-defs.field-0.0) r)
@@ -24,7 +24,7 @@ returns-in_err-defs-clause-refused c =
 pub returns-in_err-look_at_limits-clause-refused : goal.returns-in_err-look_at_limits-clause-refused
 returns-in_err-look_at_limits-clause-refused c =
     let p = err_from_is_err_and c.from_residual-in_err-look_at_limits.result c.from_residual-in_err-look_at_limits.ensures.1 in
-    let n : c.args.checked.now.program ≡ program_in (shown c.args.checked.now) = (c.forms_are_numbered_law.ensures c.args.checked.now).program in
+    let n : c.args.checked.now.program ≡ program_in (shown_form c.args.checked.now) = (c.forms_are_numbered_law.ensures c.args.checked.now).program in
     let m : MayCopy c.args.checked.now.program (shown_program c.args.program.now) c.args.site = subst
     (λ (l : List Def). MayCopy c.args.checked.now.program (shown_definitions l) c.args.site) c.deref.ensures.value c.in_ok-defs.ensures.may in
     let q : (shown_definitions c.in_ok-defs.defs.items) ≡ copied (shown_program c.args.program.now) c.args.site
@@ -38,7 +38,7 @@ returns-in_err-look_at_limits-clause-refused c =
 
 pub returns-then-not-levels_ok-clause-refused : goal.returns-then-not-levels_ok-clause-refused
 returns-then-not-levels_ok-clause-refused c =
-    let n : c.args.checked.now.program ≡ program_in (shown c.args.checked.now) = (c.forms_are_numbered_law.ensures c.args.checked.now).program in
+    let n : c.args.checked.now.program ≡ program_in (shown_form c.args.checked.now) = (c.forms_are_numbered_law.ensures c.args.checked.now).program in
     let m : MayCopy c.args.checked.now.program (shown_program c.args.program.now) c.args.site = subst
     (λ (l : List Def). MayCopy c.args.checked.now.program (shown_definitions l) c.args.site) c.deref.ensures.value c.in_ok-defs.ensures.may in
     let q : (shown_definitions c.in_ok-defs.defs.items) ≡ copied (shown_program c.args.program.now) c.args.site
@@ -54,7 +54,7 @@ returns-then-not-levels_ok-clause-refused c =
 
 pub returns-clause-copied : goal.returns-clause-copied
 returns-clause-copied c =
-    let n : c.args.checked.now.program ≡ program_in (shown c.args.checked.now) = (c.forms_are_numbered_law.ensures c.args.checked.now).program in
+    let n : c.args.checked.now.program ≡ program_in (shown_form c.args.checked.now) = (c.forms_are_numbered_law.ensures c.args.checked.now).program in
     let m : MayCopy c.args.checked.now.program (shown_program c.args.program.now) c.args.site = subst
     (λ (l : List Def). MayCopy c.args.checked.now.program (shown_definitions l) c.args.site) c.deref.ensures.value c.in_ok-defs.ensures.may in
     let q : (shown_definitions c.in_ok-defs.defs.items) ≡ copied (shown_program c.args.program.now) c.args.site
@@ -70,7 +70,7 @@ returns-clause-copied c =
 
 pub returns-clause-printable : goal.returns-clause-printable
 returns-clause-printable c =
-    let n : c.args.checked.now.program ≡ program_in (shown c.args.checked.now) = (c.forms_are_numbered_law.ensures c.args.checked.now).program in
+    let n : c.args.checked.now.program ≡ program_in (shown_form c.args.checked.now) = (c.forms_are_numbered_law.ensures c.args.checked.now).program in
     let m : MayCopy c.args.checked.now.program (shown_program c.args.program.now) c.args.site = subst
     (λ (l : List Def). MayCopy c.args.checked.now.program (shown_definitions l) c.args.site) c.deref.ensures.value c.in_ok-defs.ensures.may in
     let q : (shown_definitions c.in_ok-defs.defs.items) ≡ copied (shown_program c.args.program.now) c.args.site
@@ -84,7 +84,7 @@ returns-clause-printable c =
 
 pub returns-clause-alike : goal.returns-clause-alike
 returns-clause-alike c =
-    let n : c.args.checked.now.program ≡ program_in (shown c.args.checked.now) = (c.forms_are_numbered_law.ensures c.args.checked.now).program in
+    let n : c.args.checked.now.program ≡ program_in (shown_form c.args.checked.now) = (c.forms_are_numbered_law.ensures c.args.checked.now).program in
     let m : MayCopy c.args.checked.now.program (shown_program c.args.program.now) c.args.site = subst
     (λ (l : List Def). MayCopy c.args.checked.now.program (shown_definitions l) c.args.site) c.deref.ensures.value c.in_ok-defs.ensures.may in
     let q : (shown_definitions c.in_ok-defs.defs.items) ≡ copied (shown_program c.args.program.now) c.args.site

@@ -3,7 +3,7 @@ use Rattle.safl_net.specs.Netlist.{Netlist}
 use Rattle.safl_sim.specs.Readers.{RegistersAway}
 use Rattle.safl_sim.specs.States.{AreAt, AreLow}
 use Rattle.safl_sim.specs.Steps.{Waits, Goes}
-use Rattle.safl_sim.specs.Writes.{Shows}
+use Rattle.safl_sim.specs.Writes.{ShowsWaiting}
 use Rattle.safl_sim.proofs.phases.show_registers.Given as goal
 
 abbrev pub invariant-words : goal.invariant-words
@@ -13,7 +13,7 @@ invariant-words l = record {
   long : length l.marks ≡ length l.initial.marks;
   low : AreLow l.plan.registers.items l.values l.state;
   room : length l.waiting ≡ length l.initial.waiting;
-  shows : (now : List ℕ) → AreAt l.plan.registers.items l.state now → Waits l.plan.registers.items now l.initial.values l.initial.waiting → Shows
+  shows : (now : List ℕ) → AreAt l.plan.registers.items l.state now → Waits l.plan.registers.items now l.initial.values l.initial.waiting → ShowsWaiting
       l.plan.registers.items now (l.w * 64) l.initial.values l.values l.waiting;
   goes : (n : Netlist) (ws now : List ℕ) → RegistersAway l.plan.registers.items ws → AreAt l.plan.registers.items l.state now → Goes n ws
       l.plan.steps.items l.plan.registers.items now l.plan.starts.items l.plan.readers.items l.initial.values l.values l.initial.marks l.marks;

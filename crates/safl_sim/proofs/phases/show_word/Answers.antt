@@ -6,7 +6,7 @@ use Rattle.safl_sim.specs.Marks.{holding, HasTaken}
 use Rattle.safl_sim.specs.Nears.{GroupOf}
 use Rattle.safl_sim.specs.Readers.{HasGiven}
 use Rattle.safl_sim.specs.States.{AreLow}
-use Rattle.safl_sim.specs.Writes.{Shows}
+use Rattle.safl_sim.specs.Writes.{ShowsWaiting}
 use Rattle.safl_sim.proofs.Written.{get_read, set_length}
 use Rattle.safl_sim.proofs.MarksByOne.{taken_after}
 use Rattle.safl_sim.proofs.Nearing.{holding_all, holding_long, no_marks}
@@ -15,7 +15,7 @@ use Rattle.safl_sim.proofs.Updates.{goes_step, lists_same}
 use Rattle.safl_sim.proofs.phases.show_word.Goals as goal
 
 -- the register that is taken
-found : (regs : List Register) (now : List ℕ) (place word i : ℕ) (start values waiting waiting' : List ℕ) → Shows regs now place start values waiting
+found : (regs : List Register) (now : List ℕ) (place word i : ℕ) (start values waiting waiting' : List ℕ) → ShowsWaiting regs now place start values waiting
     → HasTaken waiting waiting' word i → i < length regs
 found regs now place word i start values waiting waiting' w t = w.within i t.was
 
@@ -86,7 +86,7 @@ show-requires-clause-low c =
     c.registers.invariant.low i c.index.result.now (get_read c.args.plan.now.registers.items i c.index.result.now f c.index.ensures)
 
 -- a turn leads past the register that is taken
-past : (regs : List Register) (now : List ℕ) (place word i : ℕ) (start values waiting waiting' : List ℕ) → word * 64 ≤ place → Shows regs now place
+past : (regs : List Register) (now : List ℕ) (place word i : ℕ) (start values waiting waiting' : List ℕ) → word * 64 ≤ place → ShowsWaiting regs now place
     start values waiting → HasTaken waiting waiting' word i → place ≤ i
 past regs now place word i start values waiting waiting' from w t = taken_after waiting waiting' 0 place word i (λ k z h. w.below k h) (omega arith) from t
 
@@ -138,8 +138,8 @@ registers-init c = record {
   low = c.requires.registers.low;
   shows = λ now start at w.
       let p = c.args.plan.now in
-      subst (λ h. Shows p.registers.items now (c.args.word * 64) start c.args.values.now (holding c.args.waiting.now c.args.word h)) (sym c.get-held.ensures)
-      (subst (λ l. Shows p.registers.items now (c.args.word * 64) start c.args.values.now l) (sym (holding_all c.args.waiting.now c.args.word)) w);
+      subst (λ h. ShowsWaiting p.registers.items now (c.args.word * 64) start c.args.values.now (holding c.args.waiting.now c.args.word h)) (sym c.get-held.ensures)
+      (subst (λ l. ShowsWaiting p.registers.items now (c.args.word * 64) start c.args.values.now l) (sym (holding_all c.args.waiting.now c.args.word)) w);
   goes = λ n ws now away at r are state fits h. (fits, h);
 }
 
@@ -149,8 +149,8 @@ returns-clause-count c = record { marks = c.registers.invariant.long; waiting = 
 pub returns-clause-shows : goal.returns-clause-shows
 returns-clause-shows c = λ now start at w.
     let p = c.args.plan.now in
-    subst (λ l. Shows p.registers.items now ((c.args.word + 1) * 64) start c.registers.values l) (sym c.put.ensures)
+    subst (λ l. ShowsWaiting p.registers.items now ((c.args.word + 1) * 64) start c.registers.values l) (sym c.put.ensures)
     (shows_none p.registers.items now c.registers.place c.args.word start c.registers.values (holding c.args.waiting.now c.args.word 0)
-    (subst (λ h. Shows p.registers.items now c.registers.place start c.registers.values (holding c.args.waiting.now c.args.word h))
+    (subst (λ h. ShowsWaiting p.registers.items now c.registers.place start c.registers.values (holding c.args.waiting.now c.args.word h))
     c.in_default.ensures.none (c.registers.invariant.shows now start at w))
     c.registers.invariant.from (no_marks c.args.waiting.now c.args.word c.requires.word))

@@ -4,7 +4,7 @@ use Rattle.safl_sim.specs.Marks.{holding}
 use Rattle.safl_sim.specs.Readers.{RegistersAway}
 use Rattle.safl_sim.specs.States.{AreAt, AreLow}
 use Rattle.safl_sim.specs.Steps.{Goes}
-use Rattle.safl_sim.specs.Writes.{Shows}
+use Rattle.safl_sim.specs.Writes.{ShowsWaiting}
 use Rattle.safl_sim.proofs.phases.show_word.Given as goal
 
 abbrev pub invariant-registers : goal.invariant-registers
@@ -13,8 +13,8 @@ invariant-registers l = record {
   wide : length l.values ≡ length l.initial.values;
   long : length l.marks ≡ length l.initial.marks;
   low : AreLow l.plan.registers.items l.values l.state;
-  shows : (now start : List ℕ) → AreAt l.plan.registers.items l.state now → Shows l.plan.registers.items now (l.word * 64) start l.initial.values
-      l.waiting → Shows l.plan.registers.items now l.place start l.values (holding l.waiting l.word l.held);
+  shows : (now start : List ℕ) → AreAt l.plan.registers.items l.state now → ShowsWaiting l.plan.registers.items now (l.word * 64) start l.initial.values
+      l.waiting → ShowsWaiting l.plan.registers.items now l.place start l.values (holding l.waiting l.word l.held);
   goes : (n : Netlist) (ws now : List ℕ) → RegistersAway l.plan.registers.items ws → AreAt l.plan.registers.items l.state now → Goes n ws
       l.plan.steps.items l.plan.registers.items now l.plan.starts.items l.plan.readers.items l.initial.values l.values l.initial.marks l.marks;
 }

@@ -1,7 +1,7 @@
 use Rattle.std.proofs.Common.{◌≡◌, ℕ, ◌-◌, true, get_or, slice_set, arith, sym, ◌∙◌, ap, subst}
 use Rattle.safl_term.specs.Program.{unit_for}
 use Rattle.safl_sites.specs.Collecting.{IsCollected}
-use Rattle.safl_sites.specs.Rows.{Has, Adds, IsCommon, Meets, no_row}
+use Rattle.safl_sites.specs.SiteSets.{Has, Adds, IsCommon, Meets, no_set}
 use Rattle.safl_sites.proofs.EarlierConflicts.{clash}
 use Rattle.safl_sites.proofs.ConflictsByOne.{collected_more, collected_none}
 use Rattle.safl_sites.proofs.PeersByOne.{unit_within}
@@ -13,12 +13,12 @@ returns-then-meets c =
     let k = c.args.k in
     let B = c.args.before.now in
     let P = c.args.peers.now in
-    let row = get_or B k no_row in
+    let set = get_or B k no_set in
     let to : c.unit_for-unit.result ≡ unit_for C k = c.unit_for-unit.ensures.number in
     let low = unit_within c.args.c.now c.requires.checked k c.requires.least c.requires.most in
-    let meets : Meets row (get_or P (unit_for C k) no_row) k = subst (λ (u : ℕ). Meets row (get_or P u no_row) k) to (c.meets.ensures.0 c.if-meets.true) in
-    let common : (j : ℕ) → Adds (Has c.insert.new.self j) (Has c.add_common.new.self j) (IsCommon row (get_or P (unit_for C k) no_row) k j) =
-    λ j. subst (λ (u : ℕ). Adds (Has c.insert.new.self j) (Has c.add_common.new.self j) (IsCommon row (get_or P u no_row) k j)) to (c.add_common.ensures j) in
+    let meets : Meets set (get_or P (unit_for C k) no_set) k = subst (λ (u : ℕ). Meets set (get_or P u no_set) k) to (c.meets.ensures.0 c.if-meets.true) in
+    let common : (j : ℕ) → Adds (Has c.insert.new.self j) (Has c.add_common.new.self j) (IsCommon set (get_or P (unit_for C k) no_set) k j) =
+    λ j. subst (λ (u : ℕ). Adds (Has c.insert.new.self j) (Has c.add_common.new.self j) (IsCommon set (get_or P u no_set) k j)) to (c.add_common.ensures j) in
     subst (λ (u : ℕ). IsCollected C k (slice_set c.args.arbiters.now u true) c.add_common.new.self) (sym to)
     (collected_more C (k - 1) k B P (omega (arith, c.requires.least)) c.requires.most c.requires.conflicts c.requires.peers c.args.arbiters.now
     c.args.kept.now c.insert.new.self c.add_common.new.self low c.requires.collected meets c.insert.ensures common)
@@ -30,6 +30,6 @@ returns-else-meets c =
     let B = c.args.before.now in
     let P = c.args.peers.now in
     let to : c.unit_for-unit.result ≡ unit_for C k = c.unit_for-unit.ensures.number in
-    let none : Meets (get_or B k no_row) (get_or P (unit_for C k) no_row) k → ⊥ =
-    λ h. clash c.meets.result c.if-meets.false (c.meets.ensures.1 (subst (λ (u : ℕ). Meets (get_or B k no_row) (get_or P u no_row) k) (sym to) h)) in
+    let none : Meets (get_or B k no_set) (get_or P (unit_for C k) no_set) k → ⊥ =
+    λ h. clash c.meets.result c.if-meets.false (c.meets.ensures.1 (subst (λ (u : ℕ). Meets (get_or B k no_set) (get_or P u no_set) k) (sym to) h)) in
     collected_none C (k - 1) k B P (omega (arith, c.requires.least)) c.requires.most c.requires.conflicts c.requires.peers c.args.arbiters.now c.args.kept.now c.requires.collected none

@@ -4,7 +4,7 @@ use Rattle.safl_sites.specs.Conflicts.{Reaches}
 use Rattle.safl_sites.specs.Filling.{IsFilled}
 use Rattle.safl_sites.specs.Parallel.{Marked}
 use Rattle.safl_sites.specs.Reach.{MayReach}
-use Rattle.safl_sites.specs.Rows.{has, Has, HasAt, Adds}
+use Rattle.safl_sites.specs.SiteSets.{has, Has, HasAt, Adds}
 use Rattle.safl_sites.proofs.EarlierConflicts.{clash}
 use Rattle.safl_sites.proofs.TablesByBodies.{body_may_reach, filled_more}
 use Rattle.safl_sites.proofs.fill.fill_body.Goals as goal
@@ -33,13 +33,13 @@ returns c =
     let f = c.args.f in
     let low = (c.body-body.ensures.checked.formed.first f c.requires.within).0 in
     let e = c.body-body.ensures.term in
-    let reached : (k : ℕ) → Adds (Has c.new-row.result k) (Has c.reach.new.row k) (Reaches C k (C.body f)) = λ k. subst
-    (λ (x : Term). Adds (Has c.new-row.result k) (Has c.reach.new.row k) (Reaches C k x)) e (c.reach.ensures k) in
-    let marked : (b k : ℕ) → Adds (HasAt c.args.after.now b k) (HasAt c.mark.new.rows b k) (Marked C (Has c.new.result k) k b (C.body f)) =
-    λ b k. subst (λ (x : Term). Adds (HasAt c.args.after.now b k) (HasAt c.mark.new.rows b k) (Marked C (Has c.new.result k) k b x)) e (c.mark.ensures b k) in
-    let union : (k : ℕ) → Adds (HasAt c.args.units.now (C.unit f) k) (Has c.union.new.self k) (Has c.reach.new.row k) =
-    λ k. subst (λ (u : ℕ). Adds (HasAt c.args.units.now u k) (Has c.union.new.self k) (Has c.reach.new.row k)) c.unit.ensures.number (c.union.ensures k) in
-    let count : length c.mark.new.rows ≡ length c.args.after.now = omega arith in
-    subst (λ (u : ℕ). IsFilled C (suc f) (slice_set c.args.bodies.now f c.reach.new.row) (slice_set c.args.units.now u c.union.new.self) c.mark.new.rows) (sym c.unit.ensures.number)
-    (filled_more C f c.args.bodies.now c.args.units.now c.args.after.now c.mark.new.rows c.new-row.result c.reach.new.row c.union.new.self c.requires.within (omega arith) c.requires.filled
-    c.new-row.ensures reached (Has c.new.result) (λ k h. clash (has c.new.result k) (c.new.ensures k) h) count marked union)
+    let reached : (k : ℕ) → Adds (Has c.new-set.result k) (Has c.reach.new.set k) (Reaches C k (C.body f)) = λ k. subst
+    (λ (x : Term). Adds (Has c.new-set.result k) (Has c.reach.new.set k) (Reaches C k x)) e (c.reach.ensures k) in
+    let marked : (b k : ℕ) → Adds (HasAt c.args.after.now b k) (HasAt c.mark.new.sets b k) (Marked C (Has c.new.result k) k b (C.body f)) =
+    λ b k. subst (λ (x : Term). Adds (HasAt c.args.after.now b k) (HasAt c.mark.new.sets b k) (Marked C (Has c.new.result k) k b x)) e (c.mark.ensures b k) in
+    let union : (k : ℕ) → Adds (HasAt c.args.units.now (C.unit f) k) (Has c.union.new.self k) (Has c.reach.new.set k) =
+    λ k. subst (λ (u : ℕ). Adds (HasAt c.args.units.now u k) (Has c.union.new.self k) (Has c.reach.new.set k)) c.unit.ensures.number (c.union.ensures k) in
+    let count : length c.mark.new.sets ≡ length c.args.after.now = omega arith in
+    subst (λ (u : ℕ). IsFilled C (suc f) (slice_set c.args.bodies.now f c.reach.new.set) (slice_set c.args.units.now u c.union.new.self) c.mark.new.sets) (sym c.unit.ensures.number)
+    (filled_more C f c.args.bodies.now c.args.units.now c.args.after.now c.mark.new.sets c.new-set.result c.reach.new.set c.union.new.self c.requires.within (omega arith) c.requires.filled
+    c.new-set.ensures reached (Has c.new.result) (λ k h. clash (has c.new.result k) (c.new.ensures k) h) count marked union)

@@ -6,12 +6,12 @@ use Rattle.safl_term.specs.Tree.{shown_term, shown_terms}
 use Rattle.safl_term.proofs.PlainTrees.{shown_term-Op, shown_term-Loop, shown_term-Call, shown_term-Let}
 use Rattle.safl_sites.specs.declared.site_set.SiteSet.{SiteSet}
 use Rattle.safl_sites.specs.Keeping.{MayKeep, MayKeepIn, IsHeldHere, Walks, WalksIn, Binds}
-use Rattle.safl_sites.specs.Rows.{Has, Adds}
+use Rattle.safl_sites.specs.SiteSets.{Has, Adds}
 use Rattle.safl_sites.proofs.AbleByParts.{keep_cond, keep_then, keep_else, keep_bound, keep_body, keep_op, keep_args, keep_loop, keep_first}
 use Rattle.safl_sites.proofs.AbleByParts.{keep_rest, keep_tree, keep_forest, slot_within, bound_length}
 use Rattle.safl_sites.proofs.FoundByParts.{walks_const, walks_var, walks_op, walks_loop, walks_call, walks_if, walks_let, walks_none, walks_more, binds_none, binds_more}
 use Rattle.safl_sites.proofs.ReachBySites.{site_below}
-use Rattle.safl_sites.proofs.RowsByWords.{row_at}
+use Rattle.safl_sites.proofs.SetsByWords.{set_found}
 use Rattle.safl_sites.proofs.NodesOfTerms.{some_node, empty_list}
 use Rattle.safl_sites.proofs.FoundRenamed.{walks_tree, walks_forest, binds_forest, held_tree, inserted, walks_same, binds_same}
 use Rattle.safl_sites.proofs.keep.+keep.Goals as goal
@@ -163,7 +163,7 @@ walk-returns-in-Var-clause-done t c =
     let e = ap shown_term c.in-Var.is in
     let may : MayKeep C U P (length R) _ = subst (λ (x : Term). MayKeep C U P (length R) x) e c.requires in
     let within : c.in-Var.slot < length R = slot_within may in
-    let is = row_at R c.in-Var.slot c.index.result.now within c.index.ensures in
+    let is = set_found R c.in-Var.slot c.index.result.now within c.index.ensures in
     subst (λ (x : Term). Walks C R c.args.feeds.now c.union.new.self c.args.keeps.now c.args.keeps.now x) (sym e)
     (walks_var C R c.args.feeds.now c.union.new.self c.args.keeps.now c.in-Var.slot
     (λ k. subst (λ (r : SiteSet). Adds (Has c.args.feeds.now k) (Has c.union.new.self k) (Has r k)) is (c.union.ensures k)))
@@ -345,4 +345,4 @@ bind_all-returns t c =
     let is : c.insert.new.self.items ≡ R ++ (c.walk.new.feeds ∷ rest.bound) = c.in_ok-insert.ensures.items ∙ inserted R rest.bound M c.len-at.result c.walk.new.feeds rest.joined at in
     subst (λ (x : List declared.Term). Binds C R c.insert.new.self.items c.args.keeps.now c.bind_all.new.keeps (shown_terms x)) (sym e)
     (subst (λ (l : List SiteSet). Binds C R l c.args.keeps.now c.bind_all.new.keeps (Cons (shown_term c.in-Some.first.now) (shown_terms c.in-Some.rest.now))) (sym is)
-    (binds_more C R M c.new-row.result c.walk.new.feeds c.args.keeps.now c.walk.new.keeps c.bind_all.new.keeps _ _ c.new-row.ensures c.in_ok-walk.ensures.done rest))
+    (binds_more C R M c.new-set.result c.walk.new.feeds c.args.keeps.now c.walk.new.keeps c.bind_all.new.keeps _ _ c.new-set.ensures c.in_ok-walk.ensures.done rest))

@@ -4,7 +4,7 @@ use Rattle.safl_term.specs.Tree.{shown_term}
 use Rattle.safl_sites.specs.declared.site_set.SiteSet.{SiteSet}
 use Rattle.safl_sites.specs.Keeping.{IsHeldHere}
 use Rattle.safl_sites.specs.Kept.{InBody}
-use Rattle.safl_sites.specs.Rows.{Has, Adds, Meets, no_row}
+use Rattle.safl_sites.specs.SiteSets.{Has, Adds, Meets, no_set}
 use Rattle.safl_sites.specs.Touched.{IsTouched}
 use Rattle.safl_sites.proofs.EarlierConflicts.{clash}
 use Rattle.safl_sites.proofs.LetsReach.{looked_more, held_here, held_meets}
@@ -32,8 +32,8 @@ loop-done-preserved c =
     let m = c.requires.1.reach in
     let sites = c.requires.1.sites in
     let k = c.loop-done.done + 1 in
-    let used = c.touch.new.row in
-    let within = c.reach_body.new.row in
+    let used = c.touch.new.set in
+    let within = c.reach_body.new.set in
     let fed : Has used k → IsTouched S low k body = full c.new-used.result used k (c.new-used.ensures k) (c.touch.ensures k) in
     let inside : (j : ℕ) → Has within j → InBody C j body = λ j. full c.new-within.result within j (c.new-within.ensures j) (c.reach_body.ensures j) in
     let back : (j : ℕ) → InBody C j body → Has within j = λ j x. (c.reach_body.ensures j).joins x in
@@ -42,15 +42,15 @@ loop-done-preserved c =
       | then-contains+then-meets w ↦
           let to = w.unit_for.ensures.number in
           let x : Has used k = sym c.contains.ensures ∙ w.if-contains.true in
-          let y : Meets within (get_or P (unit_for C k) no_row) k = subst (λ (u : ℕ). Meets within (get_or P u no_row) k) to (w.meets.ensures.0 w.if-meets.true) in
+          let y : Meets within (get_or P (unit_for C k) no_set) k = subst (λ (u : ℕ). Meets within (get_or P u no_set) k) to (w.meets.ensures.0 w.if-meets.true) in
           inl (λ j. subst (λ (r : SiteSet). Adds (Has c.loop-done.held j) (Has r j) (j ≡ k)) (sym w.held-is) (w.insert.ensures j), held_here p h U S P n low body m sites used within k fed inside x y)
       | else-contains w ↦ inr (
         w.held-is,
         λ x. elim w.else-contains.branch [
           | else-contains-via-then-contains+else-meets v ↦
               let to = v.unit_for.ensures.number in
-              let y : Meets within (get_or P (unit_for C k) no_row) k = held_meets p h U S P n low body m sites within k back x in
-              clash v.meets.result v.if-meets.false (v.meets.ensures.1 (subst (λ (u : ℕ). Meets within (get_or P u no_row) k) (sym to) y))
+              let y : Meets within (get_or P (unit_for C k) no_set) k = held_meets p h U S P n low body m sites within k back x in
+              clash v.meets.result v.if-meets.false (v.meets.ensures.1 (subst (λ (u : ℕ). Meets within (get_or P u no_set) k) (sym to) y))
           | else-contains-via-else-contains v ↦ clash c.contains.result v.if-contains.false (c.contains.ensures ∙ (c.touch.ensures k).joins x.touched)
         ],
       )

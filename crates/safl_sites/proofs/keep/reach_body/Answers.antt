@@ -4,7 +4,7 @@ use Rattle.safl_term.specs.Tree.{shown_term}
 use Rattle.safl_term.proofs.PlainTrees.{shown_term-Call, shown_term-Let, shown_term-Op, shown_term-Loop}
 use Rattle.safl_sites.specs.Kept.{InBody}
 use Rattle.safl_sites.specs.Reach.{MayReach}
-use Rattle.safl_sites.specs.Rows.{Has, Adds}
+use Rattle.safl_sites.specs.SiteSets.{Has, Adds}
 use Rattle.safl_sites.proofs.LetsReach.{in_body_call, in_body_other, in_body_const, in_body_var, not_if, not_let, not_op, not_loop}
 use Rattle.safl_sites.proofs.PartsOfParts.{may_args, may_forest}
 use Rattle.safl_sites.proofs.ReachBySites.{same_forest}
@@ -21,7 +21,7 @@ pub returns-in-Call : goal.returns-in-Call
 returns-in-Call c = λ k.
     let C = c.args.c.now.program in
     let e = ap shown_term c.in-Call.is ∙ shown_term-Call c.in-Call.field-0 c.in-Call.field-1 c.in-Call.ts in
-    subst (λ (x : Term). Adds (Has c.args.row.now k) (Has c.reach_in.new.row k) (InBody C k x)) (sym e) (in_body_call C k _ _ _ (same_forest C k c.deref.ensures.value (c.reach_in.ensures k)))
+    subst (λ (x : Term). Adds (Has c.args.set.now k) (Has c.reach_in.new.set k) (InBody C k x)) (sym e) (in_body_call C k _ _ _ (same_forest C k c.deref.ensures.value (c.reach_in.ensures k)))
 
 pub returns-in-If : goal.returns-in-If
 returns-in-If c = λ k.
@@ -49,8 +49,8 @@ returns-in-Loop c = λ k.
 
 pub returns-in-Const : goal.returns-in-Const
 returns-in-Const c = λ k.
-    subst (λ (x : Term). Adds (Has c.args.row.now k) (Has c.args.row.now k) (InBody c.args.c.now.program k x)) (sym (ap shown_term c.in-Const.is)) (in_body_const c.args.c.now.program k _)
+    subst (λ (x : Term). Adds (Has c.args.set.now k) (Has c.args.set.now k) (InBody c.args.c.now.program k x)) (sym (ap shown_term c.in-Const.is)) (in_body_const c.args.c.now.program k _)
 
 pub returns-in-Var : goal.returns-in-Var
 returns-in-Var c = λ k.
-    subst (λ (x : Term). Adds (Has c.args.row.now k) (Has c.args.row.now k) (InBody c.args.c.now.program k x)) (sym (ap shown_term c.in-Var.is)) (in_body_var c.args.c.now.program k _)
+    subst (λ (x : Term). Adds (Has c.args.set.now k) (Has c.args.set.now k) (InBody c.args.c.now.program k x)) (sym (ap shown_term c.in-Var.is)) (in_body_var c.args.c.now.program k _)

@@ -4,7 +4,7 @@ use Rattle.safl_term.specs.Terms.{Term}
 use Rattle.safl_term.specs.Tree.{shown_term}
 use Rattle.safl_sites.specs.declared.keep.Keeping.{Keeping}
 use Rattle.safl_sites.specs.Keeping.{MayKeep, Walks}
-use Rattle.safl_sites.specs.Rows.{no_row}
+use Rattle.safl_sites.specs.SiteSets.{no_set}
 use Rattle.safl_sites.proofs.KeptByBodies.{body_may_keep, body_kept}
 use Rattle.safl_sites.proofs.kept.keep_body.Goals as goal
 
@@ -28,7 +28,7 @@ returns c = λ k.
     let a : Keeping = record { decides = c.new.result; held = c.new-2.result } in
     let w : Walks C S c.new-feeds.result c.walk.new.feeds a c.walk.new.keeps (C.body g) = subst
     (λ (x : Term). Walks C S c.new-feeds.result c.walk.new.feeds a c.walk.new.keeps x) c.body.ensures.term c.in_ok-walk.ensures.done in
-    let table = λ (j : ℕ). c.requires.bodies.rows g j c.requires.within in
-    body_kept p c.body.ensures.checked g S c.args.peers.now (get_or c.args.bodies.now g no_row) c.new.result c.new.result c.new-feeds.result
+    let table = λ (j : ℕ). c.requires.bodies.sets g j c.requires.within in
+    body_kept p c.body.ensures.checked g S c.args.peers.now (get_or c.args.bodies.now g no_set) c.new.result c.new.result c.new-feeds.result
     c.walk.new.feeds a c.walk.new.keeps c.requires.within c.requires.peers count c.in_ok-slots.ensures.empty c.new.ensures c.new-2.ensures w table
     k (c.keep_own.ensures k)

@@ -2,9 +2,9 @@ use Rattle.std.proofs.Common.{◌≡◌, ℕ, ◌+◌, ◌<◌, length, slice_se
 use Rattle.safl_term.specs.Program.{unit_for}
 use Rattle.safl_sites.specs.declared.site_set.SiteSet.{SiteSet}
 use Rattle.safl_sites.specs.Peers.{ArePeers}
-use Rattle.safl_sites.specs.Rows.{Has, HasAt, Adds}
+use Rattle.safl_sites.specs.SiteSets.{Has, HasAt, Adds}
 use Rattle.safl_sites.proofs.PeersByOne.{peers_more}
-use Rattle.safl_sites.proofs.RowsByWords.{row_at}
+use Rattle.safl_sites.proofs.SetsByWords.{set_found}
 use Rattle.safl_sites.proofs.peers.peers.Goals as goal
 
 pub loop-done-preserved : goal.loop-done-preserved
@@ -15,7 +15,7 @@ loop-done-preserved c =
     let to = c.unit_for.ensures.number in
     let low : unit_for C k < C.functions = omega (arith, c.unit_for.ensures.number, c.unit_for.ensures.within) in
     let within : c.unit_for.result < length peers = omega (arith, c.loop-done.invariant.count) in
-    let is = row_at peers c.unit_for.result c.index_mut.result.now within c.index_mut.ensures.value in
+    let is = set_found peers c.unit_for.result c.index_mut.result.now within c.index_mut.ensures.value in
     let insert : (j : ℕ) → Adds (HasAt peers (unit_for C k) j) (Has c.insert.new.self j) (j ≡ k) =
     λ j. subst (λ (u : ℕ). Adds (HasAt peers u j) (Has c.insert.new.self j) (j ≡ k)) to (subst (λ (r : SiteSet). Adds (Has r j) (Has c.insert.new.self j) (j ≡ k)) is (c.insert.ensures j)) in
     subst (λ (u : ℕ). ArePeers C k (slice_set peers u c.insert.new.self)) (sym to) (peers_more C c.loop-done.done k peers c.insert.new.self (omega arith) low c.loop-done.invariant insert)

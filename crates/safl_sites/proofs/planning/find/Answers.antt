@@ -2,7 +2,7 @@ use Rattle.std.proofs.Common.{◌≡◌, ℕ, suc, ◌<◌, ◌++◌, false, Lis
 use Rattle.std.proofs.Math.Seq.{take-append_seam}
 use Rattle.safl_sites.specs.declared.site_set.SiteSet.{SiteSet}
 use Rattle.safl_sites.specs.Planned.{Flags, BeforeTable}
-use Rattle.safl_sites.specs.Rows.{has}
+use Rattle.safl_sites.specs.SiteSets.{has}
 use Rattle.safl_sites.proofs.TablesDecide.{plan_is}
 use Rattle.safl_sites.proofs.planning.find.Goals as goal
 
@@ -17,16 +17,16 @@ returns c =
     let p = c.args.c.now in
     let C = p.program in
     let filled = c.in_ok-bodies.ensures in
-    let rows = c.spread.new.rows in
+    let sets = c.spread.new.sets in
     let old = c.in_ok-bodies.field-0.after in
-    let long : old.len ≡ length rows = omega (arith, old.ok.0) in
-    let same : take old.len (rows ++ drop (length rows) old.items) ≡ rows = ap (λ n. take n (rows ++ drop (length rows) old.items)) long ∙ take-append_seam rows (drop (length rows) old.items) in
+    let long : old.len ≡ length sets = omega (arith, old.ok.0) in
+    let same : take old.len (sets ++ drop (length sets) old.items) ≡ sets = ap (λ n. take n (sets ++ drop (length sets) old.items)) long ∙ take-append_seam sets (drop (length sets) old.items) in
     let flags : Flags = record { arbiters = c.in_ok-arbiters.arbiters.items; keeps = c.in_ok-keeps.keeps.items } in
     let all = c.keep_all.new.kept in
     let listed : (k : ℕ) → k < suc C.sites → get_or flags.keeps k false ≡ has all k = λ k less. c.in_ok-keeps.ensures.items k (omega (arith, c.sites.ensures.count)) in
     record {
       checked = c.sites.ensures.checked;
-      reach = record { count = filled.bodies_count; rows = λ f k within. filled.body_rows f k within };
+      reach = record { count = filled.bodies_count; sets = λ f k within. filled.body_sets f k within };
       conflicts = subst (λ (l : List SiteSet). BeforeTable C l) (sym same) c.in_ok-spread.ensures;
       units = c.in_ok-arbiters.ensures.count;
       sites = omega (arith, c.in_ok-keeps.ensures.count, c.sites.ensures.count);

@@ -6,11 +6,11 @@ use Rattle.safl_term.specs.Tree.{shown_term, shown_terms}
 use Rattle.safl_term.proofs.PlainTrees.{shown_term-Op, shown_term-Loop, shown_term-Call, shown_term-Let}
 use Rattle.safl_sites.specs.Conflicts.{Reaches, ReachesIn}
 use Rattle.safl_sites.specs.Reach.{MayReach, MayReachIn}
-use Rattle.safl_sites.specs.Rows.{Has, Adds}
+use Rattle.safl_sites.specs.SiteSets.{Has, Adds}
 use Rattle.safl_sites.proofs.AddsInSteps.{adds_then, adds_none}
 use Rattle.safl_sites.proofs.PartsOfParts.{may_cond, may_then, may_else, may_bound, may_body, may_op, may_args, may_loop, may_first, may_rest, may_call, may_tree, may_forest}
 use Rattle.safl_sites.proofs.ReachBySites.{reach_if, reach_let, reach_op, reach_loop, reach_call, reach_more, reach_leaf, none_const, none_var}
-use Rattle.safl_sites.proofs.ReachBySites.{none_nil, same_tree, same_forest, row_of_unit, site_below}
+use Rattle.safl_sites.proofs.ReachBySites.{none_nil, same_tree, same_forest, set_of_unit, site_below}
 use Rattle.safl_sites.proofs.NodesOfTerms.{some_node, empty_list}
 use Rattle.safl_sites.proofs.reach.+reach.Goals as goal
 
@@ -113,7 +113,7 @@ pub reach-returns-in-If : goal.reach-returns-in-If
 reach-returns-in-If t c = λ k.
     let C = c.args.c.now.program in
     let e = ap shown_term c.in-If.is in
-    subst (λ (x : Term). Adds (Has c.args.row.now k) (Has c.reach-in-If-2.new.row k) (Reaches C k x)) (sym e)
+    subst (λ (x : Term). Adds (Has c.args.set.now k) (Has c.reach-in-If-2.new.set k) (Reaches C k x)) (sym e)
     (reach_if (adds_then (adds_then (same_tree C k c.deref.ensures (c.reach.ensures k))
     (same_tree C k c.deref-in-If.ensures (c.reach-in-If.ensures k))) (same_tree C k c.deref-in-If-2.ensures (c.reach-in-If-2.ensures k))))
 
@@ -121,21 +121,21 @@ pub reach-returns-in-Let : goal.reach-returns-in-Let
 reach-returns-in-Let t c = λ k.
     let C = c.args.c.now.program in
     let e = ap shown_term c.in-Let.is ∙ shown_term-Let c.in-Let.field-0 c.in-Let.bound c.in-Let.body in
-    subst (λ (x : Term). Adds (Has c.args.row.now k) (Has c.reach-in-Let.new.row k) (Reaches C k x)) (sym e)
+    subst (λ (x : Term). Adds (Has c.args.set.now k) (Has c.reach-in-Let.new.set k) (Reaches C k x)) (sym e)
     (reach_let (adds_then (same_forest C k c.deref-in-Let.ensures.value (c.reach_in.ensures k)) (same_tree C k c.deref-in-Let-2.ensures (c.reach-in-Let.ensures k))))
 
 pub reach-returns-in-Op : goal.reach-returns-in-Op
 reach-returns-in-Op t c = λ k.
     let C = c.args.c.now.program in
     let e = ap shown_term c.in-Op.is ∙ shown_term-Op c.in-Op.field-0 c.in-Op.ts in
-    subst (λ (x : Term). Adds (Has c.args.row.now k) (Has c.reach_in-in-Op.new.row k) (Reaches C k x)) (sym e)
+    subst (λ (x : Term). Adds (Has c.args.set.now k) (Has c.reach_in-in-Op.new.set k) (Reaches C k x)) (sym e)
     (reach_op (same_forest C k c.deref-in-Op.ensures.value (c.reach_in-in-Op.ensures k)))
 
 pub reach-returns-in-Loop : goal.reach-returns-in-Loop
 reach-returns-in-Loop t c = λ k.
     let C = c.args.c.now.program in
     let e = ap shown_term c.in-Loop.is ∙ shown_term-Loop c.in-Loop.field-0 c.in-Loop.ts in
-    subst (λ (x : Term). Adds (Has c.args.row.now k) (Has c.reach_in-in-Loop.new.row k) (Reaches C k x)) (sym e)
+    subst (λ (x : Term). Adds (Has c.args.set.now k) (Has c.reach_in-in-Loop.new.set k) (Reaches C k x)) (sym e)
     (reach_loop (same_forest C k c.deref-in-Loop.ensures.value (c.reach_in-in-Loop.ensures k)))
 
 pub reach-insert-requires : goal.reach-insert-requires
@@ -165,17 +165,17 @@ reach-returns-in-Call t c = λ k.
     let n = c.requires.0 in
     let e = ap shown_term c.in-Call.is ∙ shown_term-Call c.in-Call.f c.in-Call.k c.in-Call.ts in
     let may : MayReach C U n _ = subst (λ (x : Term). MayReach C U n x) e c.requires.1 in
-    subst (λ (x : Term). Adds (Has c.args.row.now k) (Has c.reach_in-in-Call.new.row k) (Reaches C k x)) (sym e)
+    subst (λ (x : Term). Adds (Has c.args.set.now k) (Has c.reach_in-in-Call.new.set k) (Reaches C k x)) (sym e)
     (reach_call (may_call may).callee
-    (adds_then (adds_then (c.insert.ensures k) (row_of_unit may _ k c.unit.ensures.number (c.union.ensures k))) (same_forest C k c.deref-in-Call.ensures.value (c.reach_in-in-Call.ensures k))))
+    (adds_then (adds_then (c.insert.ensures k) (set_of_unit may _ k c.unit.ensures.number (c.union.ensures k))) (same_forest C k c.deref-in-Call.ensures.value (c.reach_in-in-Call.ensures k))))
 
 pub reach-returns-in-Const : goal.reach-returns-in-Const
 reach-returns-in-Const t c = λ k.
-    subst (λ (x : Term). Adds (Has c.args.row.now k) (Has c.args.row.now k) (Reaches c.args.c.now.program k x)) (sym (ap shown_term c.in-Const.is)) (reach_leaf _ (none_const _))
+    subst (λ (x : Term). Adds (Has c.args.set.now k) (Has c.args.set.now k) (Reaches c.args.c.now.program k x)) (sym (ap shown_term c.in-Const.is)) (reach_leaf _ (none_const _))
 
 pub reach-returns-in-Var : goal.reach-returns-in-Var
 reach-returns-in-Var t c = λ k.
-    subst (λ (x : Term). Adds (Has c.args.row.now k) (Has c.args.row.now k) (Reaches c.args.c.now.program k x)) (sym (ap shown_term c.in-Var.is)) (reach_leaf _ (none_var _))
+    subst (λ (x : Term). Adds (Has c.args.set.now k) (Has c.args.set.now k) (Reaches c.args.c.now.program k x)) (sym (ap shown_term c.in-Var.is)) (reach_leaf _ (none_var _))
 
 pub reach_in-reach-requires : goal.reach_in-reach-requires
 reach_in-reach-requires t c =
@@ -203,10 +203,10 @@ reach_in-reach_in-requires t c =
 pub reach_in-returns-in-Some : goal.reach_in-returns-in-Some
 reach_in-returns-in-Some t c = λ k.
     let e : c.args.ts.now ≡ c.in-Some.first.now ∷ c.in-Some.rest.now = c.in-Some.ensures.cases.0 in
-    subst (λ (x : List declared.Term). Adds (Has c.args.row.now k) (Has c.reach_in.new.row k) (ReachesIn c.args.c.now.program k (shown_terms x))) (sym e)
+    subst (λ (x : List declared.Term). Adds (Has c.args.set.now k) (Has c.reach_in.new.set k) (ReachesIn c.args.c.now.program k (shown_terms x))) (sym e)
     (reach_more _ _ (adds_then (c.reach.ensures k) (c.reach_in.ensures k)))
 
 pub reach_in-returns-in_default : goal.reach_in-returns-in_default
 reach_in-returns-in_default t c = λ k.
     let e : c.args.ts.now ≡ [] = empty_list c.args.ts.now c.in_default.ensures.cases in
-    subst (λ (x : List declared.Term). Adds (Has c.args.row.now k) (Has c.args.row.now k) (ReachesIn c.args.c.now.program k (shown_terms x))) (sym e) (adds_none (none_nil _ k))
+    subst (λ (x : List declared.Term). Adds (Has c.args.set.now k) (Has c.args.set.now k) (ReachesIn c.args.c.now.program k (shown_terms x))) (sym e) (adds_none (none_nil _ k))

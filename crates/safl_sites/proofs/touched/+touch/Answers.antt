@@ -4,11 +4,11 @@ use Rattle.safl_term.specs.Sizes.{nodes, nodes_in}
 use Rattle.safl_term.specs.Terms.{Term, Var}
 use Rattle.safl_term.specs.Tree.{shown_term, shown_terms}
 use Rattle.safl_term.proofs.PlainTrees.{shown_term-Op, shown_term-Loop, shown_term-Call, shown_term-Let}
-use Rattle.safl_sites.specs.Rows.{Has, Adds}
+use Rattle.safl_sites.specs.SiteSets.{Has, Adds}
 use Rattle.safl_sites.specs.Touched.{IsTouched, IsTouchedIn}
 use Rattle.safl_sites.proofs.AddsInSteps.{adds_then, adds_none}
-use Rattle.safl_sites.proofs.RowsTouched.{touch_if, touch_let, touch_op, touch_loop, touch_call, touch_more, touch_const, touch_nil, touch_var, touch_below, touch_past, touch_tree, touch_forest}
-use Rattle.safl_sites.proofs.RowsByWords.{no_row_has}
+use Rattle.safl_sites.proofs.SetsTouched.{touch_if, touch_let, touch_op, touch_loop, touch_call, touch_more, touch_const, touch_nil, touch_var, touch_below, touch_past, touch_tree, touch_forest}
+use Rattle.safl_sites.proofs.SetsByWords.{no_set_has}
 use Rattle.safl_sites.proofs.NodesOfTerms.{some_node, empty_list}
 use Rattle.safl_sites.proofs.touched.+touch.Goals as goal
 use Rattle.safl_sites.proofs.touched.+touch.Goals.{touch-else-low-slot-via-then-low-slot+else-slot-slots, touch-else-low-slot-via-else-low-slot}
@@ -73,7 +73,7 @@ touch-returns-in-If t c = λ k.
     let R = c.args.slots.now in
     let low = c.args.low in
     let e = ap shown_term c.in-If.is in
-    subst (λ (x : Term). Adds (Has c.args.row.now k) (Has c.touch-in-If-2.new.row k) (IsTouched R low k x)) (sym e)
+    subst (λ (x : Term). Adds (Has c.args.set.now k) (Has c.touch-in-If-2.new.set k) (IsTouched R low k x)) (sym e)
     (touch_if R low k _ _ _ (adds_then (adds_then (touch_tree R low k c.deref.ensures (c.touch.ensures k))
     (touch_tree R low k c.deref-in-If.ensures (c.touch-in-If.ensures k))) (touch_tree R low k c.deref-in-If-2.ensures (c.touch-in-If-2.ensures k))))
 
@@ -82,7 +82,7 @@ touch-returns-in-Let t c = λ k.
     let R = c.args.slots.now in
     let low = c.args.low in
     let e = ap shown_term c.in-Let.is ∙ shown_term-Let c.in-Let.field-0 c.in-Let.bound c.in-Let.body in
-    subst (λ (x : Term). Adds (Has c.args.row.now k) (Has c.touch-in-Let.new.row k) (IsTouched R low k x)) (sym e)
+    subst (λ (x : Term). Adds (Has c.args.set.now k) (Has c.touch-in-Let.new.set k) (IsTouched R low k x)) (sym e)
     (touch_let R low k _ _ (adds_then (touch_forest R low k c.deref-in-Let.ensures.value (c.touch_in.ensures k)) (touch_tree R low k c.deref-in-Let-2.ensures (c.touch-in-Let.ensures k))))
 
 pub touch-returns-in-Op : goal.touch-returns-in-Op
@@ -90,7 +90,7 @@ touch-returns-in-Op t c = λ k.
     let R = c.args.slots.now in
     let low = c.args.low in
     let e = ap shown_term c.in-Op.is ∙ shown_term-Op c.in-Op.field-0 c.in-Op.ts in
-    subst (λ (x : Term). Adds (Has c.args.row.now k) (Has c.touch_in-in-Op.new.row k) (IsTouched R low k x)) (sym e)
+    subst (λ (x : Term). Adds (Has c.args.set.now k) (Has c.touch_in-in-Op.new.set k) (IsTouched R low k x)) (sym e)
     (touch_op R low k _ _ (touch_forest R low k c.deref-in-Op.ensures.value (c.touch_in-in-Op.ensures k)))
 
 pub touch-returns-in-Call : goal.touch-returns-in-Call
@@ -98,7 +98,7 @@ touch-returns-in-Call t c = λ k.
     let R = c.args.slots.now in
     let low = c.args.low in
     let e = ap shown_term c.in-Call.is ∙ shown_term-Call c.in-Call.field-0 c.in-Call.field-1 c.in-Call.ts in
-    subst (λ (x : Term). Adds (Has c.args.row.now k) (Has c.touch_in-in-Call.new.row k) (IsTouched R low k x)) (sym e)
+    subst (λ (x : Term). Adds (Has c.args.set.now k) (Has c.touch_in-in-Call.new.set k) (IsTouched R low k x)) (sym e)
     (touch_call R low k _ _ _ (touch_forest R low k c.deref-in-Call.ensures.value (c.touch_in-in-Call.ensures k)))
 
 pub touch-returns-in-Loop : goal.touch-returns-in-Loop
@@ -106,14 +106,14 @@ touch-returns-in-Loop t c = λ k.
     let R = c.args.slots.now in
     let low = c.args.low in
     let e = ap shown_term c.in-Loop.is ∙ shown_term-Loop c.in-Loop.field-0 c.in-Loop.ts in
-    subst (λ (x : Term). Adds (Has c.args.row.now k) (Has c.touch_in-in-Loop.new.row k) (IsTouched R low k x)) (sym e)
+    subst (λ (x : Term). Adds (Has c.args.set.now k) (Has c.touch_in-in-Loop.new.set k) (IsTouched R low k x)) (sym e)
     (touch_loop R low k _ _ (touch_forest R low k c.deref-in-Loop.ensures.value (c.touch_in-in-Loop.ensures k)))
 
 pub touch-returns-in-Const : goal.touch-returns-in-Const
 touch-returns-in-Const t c = λ k.
     let R = c.args.slots.now in
     let low = c.args.low in
-    subst (λ (x : Term). Adds (Has c.args.row.now k) (Has c.args.row.now k) (IsTouched R low k x)) (sym (ap shown_term c.in-Const.is)) (adds_none (touch_const R low k _))
+    subst (λ (x : Term). Adds (Has c.args.set.now k) (Has c.args.set.now k) (IsTouched R low k x)) (sym (ap shown_term c.in-Const.is)) (adds_none (touch_const R low k _))
 
 pub touch_in-touch-requires : goal.touch_in-touch-requires
 touch_in-touch-requires t c =
@@ -133,7 +133,7 @@ touch_in-returns-in-Some t c = λ k.
     let R = c.args.slots.now in
     let low = c.args.low in
     let e : c.args.ts.now ≡ c.in-Some.first.now ∷ c.in-Some.rest.now = c.in-Some.ensures.cases.0 in
-    subst (λ (x : List declared.Term). Adds (Has c.args.row.now k) (Has c.touch_in.new.row k) (IsTouchedIn R low k (shown_terms x))) (sym e)
+    subst (λ (x : List declared.Term). Adds (Has c.args.set.now k) (Has c.touch_in.new.set k) (IsTouchedIn R low k (shown_terms x))) (sym e)
     (touch_more R low k _ _ (adds_then (c.touch.ensures k) (c.touch_in.ensures k)))
 
 pub touch_in-returns-in_default : goal.touch_in-returns-in_default
@@ -141,13 +141,13 @@ touch_in-returns-in_default t c = λ k.
     let R = c.args.slots.now in
     let low = c.args.low in
     let e : c.args.ts.now ≡ [] = empty_list c.args.ts.now c.in_default.ensures.cases in
-    subst (λ (x : List declared.Term). Adds (Has c.args.row.now k) (Has c.args.row.now k) (IsTouchedIn R low k (shown_terms x))) (sym e) (adds_none (touch_nil R low k))
+    subst (λ (x : List declared.Term). Adds (Has c.args.set.now k) (Has c.args.set.now k) (IsTouchedIn R low k (shown_terms x))) (sym e) (adds_none (touch_nil R low k))
 
 pub touch-returns-then-slot-slots : goal.touch-returns-then-slot-slots
 touch-returns-then-slot-slots t c = λ k.
     let R = c.args.slots.now in
     let low = c.args.low in
-    subst (λ (x : Term). Adds (Has c.args.row.now k) (Has c.union.new.self k) (IsTouched R low k x)) (sym (ap shown_term c.in-Var.is))
+    subst (λ (x : Term). Adds (Has c.args.set.now k) (Has c.union.new.self k) (IsTouched R low k x)) (sym (ap shown_term c.in-Var.is))
     (touch_var R low k c.in-Var.slot c.if-low-slot.true (c.union.ensures k))
 
 pub touch-returns-else-low-slot : goal.touch-returns-else-low-slot
@@ -156,7 +156,7 @@ touch-returns-else-low-slot t c = λ k.
     let low = c.args.low in
     let i = c.in-Var.slot in
     let none : IsTouched R low k (Var i) → ⊥ = elim c.else-low-slot.branch [
-      | touch-else-low-slot-via-then-low-slot+else-slot-slots w ↦ touch_past R low k i (omega arith) no_row_has
+      | touch-else-low-slot-via-then-low-slot+else-slot-slots w ↦ touch_past R low k i (omega arith) no_set_has
       | touch-else-low-slot-via-else-low-slot w ↦ touch_below R low k i (λ h. omega arith)
     ] in
-    subst (λ (x : Term). Adds (Has c.args.row.now k) (Has c.args.row.now k) (IsTouched R low k x)) (sym (ap shown_term c.in-Var.is)) (adds_none none)
+    subst (λ (x : Term). Adds (Has c.args.set.now k) (Has c.args.set.now k) (IsTouched R low k x)) (sym (ap shown_term c.in-Var.is)) (adds_none none)

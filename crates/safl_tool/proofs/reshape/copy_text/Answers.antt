@@ -2,7 +2,7 @@ use Rattle.std.proofs.Common.{ℕ, ◌≡◌, ◌≤◌, length, refl, ap, subst
 use Rattle.std.proofs.lemmas.Result.{IfErr-weaker}
 use Rattle.safl_tree.specs.Printed.{printed}
 use Rattle.safl_tree.specs.Shown.{shown_program}
-use Rattle.safl_typing.specs.Forms.{shown}
+use Rattle.safl_typing.specs.Forms.{shown_form}
 use Rattle.safl_reshape.specs.Refusals.{CopyRefused, IsCopied}
 use Rattle.safl_reshape.specs.declared.error.ReshapeErr.TheVariants as errors
 use Rattle.safl_task.specs.Tasks.{only_writes}
@@ -20,7 +20,7 @@ returns-in-Err-clause-refused c = source_unshaped (copies c.args.site) c.args.na
 pub returns-in-None-clause-refused : goal.returns-in-None-clause-refused
 returns-in-None-clause-refused c =
     let ds = shown_program c.in-Ok.accepted.program in
-    unshaped (copies c.args.site) c.args.name.now c.args.site c.args.source.now ds c.in-Ok.ensures.spelled (shown c.in-Ok.accepted.checked, c.in-Ok.ensures.form) errors.NoSite
+    unshaped (copies c.args.site) c.args.name.now c.args.site c.args.source.now ds c.in-Ok.ensures.spelled (shown_form c.in-Ok.accepted.checked, c.in-Ok.ensures.form) errors.NoSite
     (no_copy ds c.in-Ok.ensures.few c.args.site (c.in-None.ensures.none refl)) c.refusal_of.result c.refusal_of.ensures
 
 pub returns-in-Ok-copy_checked-clause-gives : goal.returns-in-Ok-copy_checked-clause-gives
@@ -30,7 +30,7 @@ returns-in-Ok-copy_checked-clause-gives c =
     let number : c.in-Some.number ≡ c.args.site = c.in-Some.ensures.number in
     both_ok c.text_of.result (λ t. t.items ≡ printed es) (λ t. length (printed es) ≤ source_max) (λ t. GivesReshaped (copies c.args.site) c.args.source.now (only_writes t.items))
     (λ t e short. reshaped_given (copies c.args.site) c.args.name.now c.args.site c.args.source.now ds c.in-Ok.ensures.spelled
-    (shown c.in-Ok.accepted.checked, c.in-Ok.ensures.form) c.printed_form_law.ensures es
+    (shown_form c.in-Ok.accepted.checked, c.in-Ok.ensures.form) c.printed_form_law.ensures es
     c.in-Ok-copy_checked.ensures.printable (subst (λ (k : ℕ). IsCopied ds k es) number c.in-Ok-copy_checked.ensures.copied)
     c.in-Ok-copy_checked.ensures.alike (only_writes t.items) (ap only_writes e) short)
     c.text_of.ensures.text c.text_of.ensures.short
@@ -41,12 +41,12 @@ returns-in-Ok-copy_checked-clause-refused c =
     let es = shown_program c.in-Ok-copy_checked.copy in
     let number : c.in-Some.number ≡ c.args.site = c.in-Some.ensures.number in
     IfErr-weaker c.text_of.result (RefusesBy (TellsLong c.args.site (printed es))) (RefusesBy (RefusesReshaping (copies c.args.site) c.args.name.now c.args.site c.args.source.now))
-    (λ r h. too_long (copies c.args.site) c.args.name.now c.args.site c.args.source.now ds c.in-Ok.ensures.spelled (shown c.in-Ok.accepted.checked, c.in-Ok.ensures.form) es
+    (λ r h. too_long (copies c.args.site) c.args.name.now c.args.site c.args.source.now ds c.in-Ok.ensures.spelled (shown_form c.in-Ok.accepted.checked, c.in-Ok.ensures.form) es
     (subst (λ (k : ℕ). IsCopied ds k es) number c.in-Ok-copy_checked.ensures.copied) r h) c.text_of.ensures.refused
 
 pub returns-clause-refused : goal.returns-clause-refused
 returns-clause-refused c =
     let ds = shown_program c.in-Ok.accepted.program in
     let number : c.in-Some.number ≡ c.args.site = c.in-Some.ensures.number in
-    unshaped (copies c.args.site) c.args.name.now c.args.site c.args.source.now ds c.in-Ok.ensures.spelled (shown c.in-Ok.accepted.checked, c.in-Ok.ensures.form) c.in-Err-copy_checked.error
+    unshaped (copies c.args.site) c.args.name.now c.args.site c.args.source.now ds c.in-Ok.ensures.spelled (shown_form c.in-Ok.accepted.checked, c.in-Ok.ensures.form) c.in-Err-copy_checked.error
     (subst (λ (k : ℕ). CopyRefused ds k c.in-Err-copy_checked.error) number c.in-Err-copy_checked.ensures.refused) c.refusal_of-in-Err-copy_checked.result c.refusal_of-in-Err-copy_checked.ensures

@@ -2,7 +2,7 @@ use Rattle.std.proofs.Common.{ℕ, ◌≡◌, ◌≤◌, length, refl, ap, subst
 use Rattle.std.proofs.lemmas.Result.{IfErr-weaker}
 use Rattle.safl_tree.specs.Printed.{printed}
 use Rattle.safl_tree.specs.Shown.{shown_program}
-use Rattle.safl_typing.specs.Forms.{shown}
+use Rattle.safl_typing.specs.Forms.{shown_form}
 use Rattle.safl_reshape.specs.Refusals.{UnfoldingRefused, IsUnfolded, GivesSparing}
 use Rattle.safl_reshape.specs.declared.error.ReshapeErr.TheVariants as errors
 use Rattle.safl_task.specs.Tasks.{only_writes}
@@ -20,7 +20,7 @@ returns-in-Err-clause-refused c = source_unshaped (unfolds c.args.site) c.args.n
 pub returns-in-None-clause-refused : goal.returns-in-None-clause-refused
 returns-in-None-clause-refused c =
     let ds = shown_program c.in-Ok.accepted.program in
-    unshaped (unfolds c.args.site) c.args.name.now c.args.site c.args.source.now ds c.in-Ok.ensures.spelled (shown c.in-Ok.accepted.checked, c.in-Ok.ensures.form) errors.NoSite
+    unshaped (unfolds c.args.site) c.args.name.now c.args.site c.args.source.now ds c.in-Ok.ensures.spelled (shown_form c.in-Ok.accepted.checked, c.in-Ok.ensures.form) errors.NoSite
     (no_unfolding ds c.in-Ok.ensures.few c.args.site (c.in-None.ensures.none refl)) c.refusal_of.result c.refusal_of.ensures
 
 pub returns-in-Ok-unfold_checked-clause-gives : goal.returns-in-Ok-unfold_checked-clause-gives
@@ -30,7 +30,7 @@ returns-in-Ok-unfold_checked-clause-gives c =
     let number : c.in-Some.number ≡ c.args.site = c.in-Some.ensures.number in
     both_ok c.text_of.result (λ t. t.items ≡ printed es) (λ t. length (printed es) ≤ source_max) (λ t. GivesReshaped (unfolds c.args.site) c.args.source.now (only_writes t.items))
     (λ t e short. reshaped_given (unfolds c.args.site) c.args.name.now c.args.site c.args.source.now ds c.in-Ok.ensures.spelled
-    (shown c.in-Ok.accepted.checked, c.in-Ok.ensures.form) c.printed_form_law.ensures es
+    (shown_form c.in-Ok.accepted.checked, c.in-Ok.ensures.form) c.printed_form_law.ensures es
     c.in-Ok-unfold_checked.ensures.printable (subst (λ (k : ℕ). IsUnfolded ds k es) number c.in-Ok-unfold_checked.ensures.unfolded)
     (subst (λ (k : ℕ). GivesSparing k ds es) number c.in-Ok-unfold_checked.ensures.sparing) (only_writes t.items) (ap only_writes e) short)
     c.text_of.ensures.text c.text_of.ensures.short
@@ -41,13 +41,13 @@ returns-in-Ok-unfold_checked-clause-refused c =
     let es = shown_program c.in-Ok-unfold_checked.unfolded in
     let number : c.in-Some.number ≡ c.args.site = c.in-Some.ensures.number in
     IfErr-weaker c.text_of.result (RefusesBy (TellsLong c.args.site (printed es))) (RefusesBy (RefusesReshaping (unfolds c.args.site) c.args.name.now c.args.site c.args.source.now))
-    (λ r h. too_long (unfolds c.args.site) c.args.name.now c.args.site c.args.source.now ds c.in-Ok.ensures.spelled (shown c.in-Ok.accepted.checked, c.in-Ok.ensures.form) es
+    (λ r h. too_long (unfolds c.args.site) c.args.name.now c.args.site c.args.source.now ds c.in-Ok.ensures.spelled (shown_form c.in-Ok.accepted.checked, c.in-Ok.ensures.form) es
     (subst (λ (k : ℕ). IsUnfolded ds k es) number c.in-Ok-unfold_checked.ensures.unfolded) r h) c.text_of.ensures.refused
 
 pub returns-clause-refused : goal.returns-clause-refused
 returns-clause-refused c =
     let ds = shown_program c.in-Ok.accepted.program in
     let number : c.in-Some.number ≡ c.args.site = c.in-Some.ensures.number in
-    unshaped (unfolds c.args.site) c.args.name.now c.args.site c.args.source.now ds c.in-Ok.ensures.spelled (shown c.in-Ok.accepted.checked, c.in-Ok.ensures.form) c.in-Err-unfold_checked.error
+    unshaped (unfolds c.args.site) c.args.name.now c.args.site c.args.source.now ds c.in-Ok.ensures.spelled (shown_form c.in-Ok.accepted.checked, c.in-Ok.ensures.form) c.in-Err-unfold_checked.error
     (subst (λ (k : ℕ). UnfoldingRefused ds k c.in-Err-unfold_checked.error) number c.in-Err-unfold_checked.ensures.refused)
     c.refusal_of-in-Err-unfold_checked.result c.refusal_of-in-Err-unfold_checked.ensures

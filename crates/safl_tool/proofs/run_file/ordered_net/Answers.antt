@@ -2,7 +2,7 @@ use Rattle.std.proofs.Common.{List, map, sym, subst, inr}
 use Rattle.safl_net.specs.declared.cell.Sig.{Sig}
 use Rattle.safl_net.specs.Netlist.{Netlist}
 use Rattle.safl_net.specs.Making.{numbers, name_at}
-use Rattle.safl_order.specs.Refusals.{Refuses}
+use Rattle.safl_order.specs.Refusals.{RefusesOrder}
 use Rattle.safl_order.specs.declared.ordered.OrderErr.{OrderErr}
 use Rattle.safl_vparse.specs.Parsed.{RefusesText}
 use Rattle.safl_vparse.specs.declared.error.VErr.{VErr}
@@ -20,13 +20,13 @@ returns-in-Err-Refused-clause-refused c =
 
 pub refusal_of_loop-requires : goal.refusal_of_loop-requires
 refusal_of_loop-requires c =
-    let r = subst (λ (e : OrderErr). Refuses c.in-Ok.net e) c.in-Err-Loop.field-0-is c.in-Err-Loop.ensures.refused in
+    let r = subst (λ (e : OrderErr). RefusesOrder c.in-Ok.net e) c.in-Err-Loop.field-0-is c.in-Err-Loop.ensures.refused in
     subst (λ (xs : List Sig). AreKnown c.in-Err-Loop.net (numbers xs)) (sym c.deref.ensures.value)
     (subst (λ (m : Netlist). AreKnown m (numbers c.in-Err-Loop.wires.items)) (sym r.0) (loop_known c.in-Ok.net (numbers c.in-Err-Loop.wires.items) r.2))
 
 pub returns-in-Err-Loop-clause-refused : goal.returns-in-Err-Loop-clause-refused
 returns-in-Err-Loop-clause-refused c =
-    let r = subst (λ (e : OrderErr). Refuses c.in-Ok.net e) c.in-Err-Loop.field-0-is c.in-Err-Loop.ensures.refused in
+    let r = subst (λ (e : OrderErr). RefusesOrder c.in-Ok.net e) c.in-Err-Loop.field-0-is c.in-Err-Loop.ensures.refused in
     loop_refuses c.loops_are_cyclic.ensures c.args.name.now c.args.text.now c.in-Ok.net (numbers c.in-Err-Loop.wires.items) c.refusal_of_loop.result c.in-Ok.ensures.net r.2
     (subst (λ (m : Netlist). RefusesBy (HasLine status.VerilogRefused (loop_line c.args.name.now (map (name_at m) (numbers c.in-Err-Loop.wires.items)))) c.refusal_of_loop.result) r.0
     (subst (λ (xs : List Sig). RefusesBy (HasLine status.VerilogRefused (loop_line c.args.name.now (map (name_at c.in-Err-Loop.net) (numbers xs))))

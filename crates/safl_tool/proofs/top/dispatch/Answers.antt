@@ -1,7 +1,7 @@
 use Rattle.std.proofs.Common.{List, map, string_bytes, refl, subst, inl, Option}
 use Rattle.std.specs.Prelude.{option_map}
 use Rattle.safl_io.specs.Sink.{SinkState}
-use Rattle.safl_command.specs.Commands.{Command, command_of, shown}
+use Rattle.safl_command.specs.Commands.{Command, command_of, shown_command}
 use Rattle.safl_task.specs.Endings.{starved}
 use Rattle.safl_task.proofs.Ending.{ended_ends}
 use Rattle.safl_tool.specs.Worlds.{world, EndsBy, SparesFor, Unprobed, task_in}
@@ -28,7 +28,7 @@ returns-in-Ok-obey-clause-ends g c =
     let old = world (g.S.Shelf.told c.args.shelf.now) (g.O.Sink.told c.args.out.now) (λ p. (goal.Probe-dyn g (p.vtable, p.value)).state p.value) c.args.probes.now.items in
     let new = world (g.S.Shelf.told c.obey.new.shelf) (g.O.Sink.told c.obey.new.out) (λ p. (goal.Probe-dyn g (p.vtable, p.value)).state p.value) c.obey.new.probes.items in
     let before : SinkState = g.E.Sink.told c.args.err.now in
-    let m : Option Command = option_map shown c.in-Ok.command in
+    let m : Option Command = option_map shown_command c.in-Ok.command in
     subst (λ (m : Option Command). EndsBy m old new before before c.in-Ok-obey.status) c.in-Ok.ensures
     (ended_ends (task_in m old) (Unprobed m old new) old.outside new.outside before before c.in-Ok-obey.status c.in-Ok-obey.ensures.does refl)
 
@@ -44,7 +44,7 @@ returns-clause-ends g c =
     let new = world (g.S.Shelf.told c.obey.new.shelf) (g.O.Sink.told c.obey.new.out) (λ p. (goal.Probe-dyn g (p.vtable, p.value)).state p.value) c.obey.new.probes.items in
     let before : SinkState = g.E.Sink.told c.args.err.now in
     let after : SinkState = g.E.Sink.told c.refuse-in-Err-obey.new.err in
-    let m : Option Command = option_map shown c.in-Ok.command in
+    let m : Option Command = option_map shown_command c.in-Ok.command in
     subst (λ (m : Option Command). EndsBy m old new before after c.refuse-in-Err-obey.result) c.in-Ok.ensures
     (refusal_ends (task_in m old) (Unprobed m old new) old.outside new.outside before after c.in-Err-obey.refusal c.refuse-in-Err-obey.result c.in-Err-obey.ensures.does c.refuse-in-Err-obey.ensures)
 
@@ -66,7 +66,7 @@ pub returns-in-Ok-obey-clause-attended : goal.returns-in-Ok-obey-clause-attended
 returns-in-Ok-obey-clause-attended g c =
     let old = world (g.S.Shelf.told c.args.shelf.now) (g.O.Sink.told c.args.out.now) (λ p. (goal.Probe-dyn g (p.vtable, p.value)).state p.value) c.args.probes.now.items in
     let new = world (g.S.Shelf.told c.obey.new.shelf) (g.O.Sink.told c.obey.new.out) (λ p. (goal.Probe-dyn g (p.vtable, p.value)).state p.value) c.obey.new.probes.items in
-    let m : Option Command = option_map shown c.in-Ok.command in
+    let m : Option Command = option_map shown_command c.in-Ok.command in
     subst (λ (m : Option Command). Attended m old.outside.shelf.holds old.probes new.probes old.states new.states c.in-Ok-obey.status) c.in-Ok.ensures
     (end_attended m old.outside.shelf.holds old.probes new.probes old.states new.states (task_in m old) old.outside new.outside c.in-Ok-obey.status
     c.in-Ok-obey.ensures.does c.in-Ok-obey.ensures.attends)
@@ -75,7 +75,7 @@ pub returns-clause-attended : goal.returns-clause-attended
 returns-clause-attended g c =
     let old = world (g.S.Shelf.told c.args.shelf.now) (g.O.Sink.told c.args.out.now) (λ p. (goal.Probe-dyn g (p.vtable, p.value)).state p.value) c.args.probes.now.items in
     let new = world (g.S.Shelf.told c.obey.new.shelf) (g.O.Sink.told c.obey.new.out) (λ p. (goal.Probe-dyn g (p.vtable, p.value)).state p.value) c.obey.new.probes.items in
-    let m : Option Command = option_map shown c.in-Ok.command in
+    let m : Option Command = option_map shown_command c.in-Ok.command in
     subst (λ (m : Option Command). Attended m old.outside.shelf.holds old.probes new.probes old.states new.states c.refuse-in-Err-obey.result) c.in-Ok.ensures
     (refusal_attended m old.outside.shelf.holds old.probes new.probes old.states new.states c.in-Err-obey.refusal (g.E.Sink.told c.args.err.now)
     (g.E.Sink.told c.refuse-in-Err-obey.new.err) c.refuse-in-Err-obey.result c.in-Err-obey.ensures.attends c.refuse-in-Err-obey.ensures)

@@ -9,7 +9,7 @@ use Rattle.safl_probe.specs.Asked.{Asked, asked}
 use Rattle.safl_probe.specs.Growth.{Made, OldOrPart}
 use Rattle.safl_probe.specs.Runs.{RunIsShown}
 use Rattle.safl_probe.specs.Stopping.{WriteFailed}
-use Rattle.safl_command.specs.Traces.{Traces, shown as shown_traces}
+use Rattle.safl_command.specs.Traces.{Traces, shown_traces}
 use Rattle.safl_tool.specs.Refusals.{IsWriting}
 use Rattle.safl_tool.specs.Tracing.{file_at}
 use Rattle.safl_tool.proofs.Asked.{files_long, handed, there, its_file, wrote}

@@ -1,7 +1,7 @@
 use Rattle.std.proofs.Common.{◌≡◌, ◌≤◌, ℕ, List, String, Global, [], ◌∷◌, None, length, map, string_bytes, codes, refl, sym, subst, ◌∙◌}
 use Rattle.std.specs.Prelude.{IfOk, IfErr}
-use Rattle.safl_command.specs.Commands.{shown}
-use Rattle.safl_command.specs.Traces.{shown as shown_traces}
+use Rattle.safl_command.specs.Commands.{shown_command}
+use Rattle.safl_command.specs.Traces.{shown_traces}
 use Rattle.safl_command.specs.declared.command.Command.{Command}
 use Rattle.safl_task.specs.Inputs.{shown_contents, source_file, script_file, verilog_file, aig_file}
 use Rattle.safl_task.specs.Limits.{script_max, verilog_max, aig_max}
@@ -13,7 +13,7 @@ use Rattle.safl_tool.specs.Calling.{GivesReplies, EvaluatesEach}
 use Rattle.safl_tool.specs.CommandTasks.{command_task, traces_in, gen_task, bench_task, result, NeverRefuses, GivesMeasure, RefusesSourceOf}
 use Rattle.safl_tool.specs.CommandTasks.{RefusesGiven, RefusesText, RefusesReshaping, RefusesSession, GivesNumbers, GivesCircuit, GivesOptimised}
 use Rattle.safl_tool.specs.CommandTasks.{GivesTraces, GivesWalk, GivesRun}
-use Rattle.safl_tool.specs.Opening.{IsOpening}
+use Rattle.safl_tool.specs.ReadySession.{IsReadySession}
 use Rattle.safl_tool.specs.Readiness.{IsReadyOf}
 use Rattle.safl_tool.specs.Refusals.{Declines, RefusesBy}
 use Rattle.safl_tool.specs.Reporting.{GivesReport, made_args, made_source}
@@ -24,7 +24,7 @@ use Rattle.safl_tool.specs.Sources.{IsAccepted}
 use Rattle.safl_tool.specs.Tracing.{files_for, no_traces}
 use Rattle.safl_tool.specs.declared.answer.Answer.TheVariants as answer
 use Rattle.safl_tool.specs.declared.ready.Ready.{Ready}
-use Rattle.safl_tool.specs.declared.session.Opening.{Opening}
+use Rattle.safl_tool.specs.declared.session.ReadySession.{ReadySession}
 use Rattle.safl_tool.specs.Watched.{ShowsFor}
 use Rattle.safl_tool.proofs.Watched.{HasNoRun, shows_none, shows_run}
 use Rattle.safl_tool.proofs.Answered.{one_within, two_within, prints, writes, answers_with, declines, both_answers, both_declines, traces_on, given_on, refused_on}
@@ -33,7 +33,7 @@ use Rattle.safl_tool.proofs.Traced.{can_run, gives_traces}
 use Rattle.safl_tool.proofs.work.answer_of.Goals as goal
 
 abbrev task : Command → Task
-task m = command_task (shown m)
+task m = command_task (shown_command m)
 
 -- ---- Check
 
@@ -51,7 +51,7 @@ returns-in-Check-clause-answers c =
 
 pub returns-in-Check-clause-traces : goal.returns-in-Check-clause-traces
 returns-in-Check-clause-traces c =
-    subst (λ (m : Command). IfOk c.printed.result (λ a. traces_for a ≡ traces_in (shown m))) (sym c.in-Check.is)
+    subst (λ (m : Command). IfOk c.printed.result (λ a. traces_for a ≡ traces_in (shown_command m))) (sym c.in-Check.is)
     (traces_on answer.Printed c.check_lines.result c.printed.result c.printed.ensures no_traces (λ l. refl))
 
 pub returns-in-Check-clause-shows : goal.returns-in-Check-clause-shows
@@ -83,7 +83,7 @@ returns-in-Build-clause-answers c =
 
 pub returns-in-Build-clause-traces : goal.returns-in-Build-clause-traces
 returns-in-Build-clause-traces c =
-    subst (λ (m : Command). IfOk c.written.result (λ a. traces_for a ≡ traces_in (shown m))) (sym c.in-Build.is)
+    subst (λ (m : Command). IfOk c.written.result (λ a. traces_for a ≡ traces_in (shown_command m))) (sym c.in-Build.is)
     (traces_on (answer.File c.deref-in-Build.result) c.circuit_text.result c.written.result c.written.ensures no_traces (λ l. refl))
 
 pub returns-in-Build-clause-shows : goal.returns-in-Build-clause-shows
@@ -116,7 +116,7 @@ returns-in-Optimise-clause-answers c =
 
 pub returns-in-Optimise-clause-traces : goal.returns-in-Optimise-clause-traces
 returns-in-Optimise-clause-traces c =
-    subst (λ (m : Command). IfOk c.written-in-Optimise.result (λ a. traces_for a ≡ traces_in (shown m))) (sym c.in-Optimise.is)
+    subst (λ (m : Command). IfOk c.written-in-Optimise.result (λ a. traces_for a ≡ traces_in (shown_command m))) (sym c.in-Optimise.is)
     (traces_on (answer.File c.deref-in-Optimise.result) c.optimised_text.result c.written-in-Optimise.result c.written-in-Optimise.ensures no_traces (λ l. refl))
 
 pub returns-in-Optimise-clause-shows : goal.returns-in-Optimise-clause-shows
@@ -155,13 +155,13 @@ returns-in-Sim-clause-answers c =
 
 pub returns-in-Sim-clause-traces : goal.returns-in-Sim-clause-traces
 returns-in-Sim-clause-traces c =
-    subst (λ (m : Command). IfOk c.traced.result (λ a. traces_for a ≡ traces_in (shown m))) (sym c.in-Sim.is)
+    subst (λ (m : Command). IfOk c.traced.result (λ a. traces_for a ≡ traces_in (shown_command m))) (sym c.in-Sim.is)
     (traces_on (λ (d : Ready). answer.Traced (record { ready = d; limit = c.in-Sim.limit; traces = _ })) c.ready_source.result c.traced.result
     c.traced.ensures (shown_traces c.in-Sim.traces) (λ d. refl))
 
 pub returns-in-Sim-clause-shows : goal.returns-in-Sim-clause-shows
 returns-in-Sim-clause-shows c =
-    subst (λ (m : Command). IfOk c.traced.result (ShowsFor (shown m) (shown_contents c.args.contents.now))) (sym c.in-Sim.is)
+    subst (λ (m : Command). IfOk c.traced.result (ShowsFor (shown_command m) (shown_contents c.args.contents.now))) (sym c.in-Sim.is)
     (shows_run (source_file (string_bytes c.in-Sim.input)) (shown_contents c.args.contents.now)
     (subst (λ (m : Command). AreContents None (task m).inputs (shown_contents c.args.contents.now)) c.in-Sim.is c.requires)
     c.content-first.result.now c.content-first.ensures (map string_bytes c.in-Sim.args.items) c.in-Sim.limit _ (string_bytes c.in-Sim.input)
@@ -203,7 +203,7 @@ returns-in-Walk-clause-answers c =
 
 pub returns-in-Walk-clause-traces : goal.returns-in-Walk-clause-traces
 returns-in-Walk-clause-traces c =
-    subst (λ (m : Command). IfOk c.printed-in-Walk.result (λ a. traces_for a ≡ traces_in (shown m))) (sym c.in-Walk.is)
+    subst (λ (m : Command). IfOk c.printed-in-Walk.result (λ a. traces_for a ≡ traces_in (shown_command m))) (sym c.in-Walk.is)
     (traces_on answer.Printed c.walk_lines.result c.printed-in-Walk.result c.printed-in-Walk.ensures no_traces (λ l. refl))
 
 pub returns-in-Walk-clause-shows : goal.returns-in-Walk-clause-shows
@@ -242,7 +242,7 @@ returns-in-Run-clause-answers c =
 
 pub returns-in-Run-clause-traces : goal.returns-in-Run-clause-traces
 returns-in-Run-clause-traces c =
-    subst (λ (m : Command). IfOk c.printed-in-Run.result (λ a. traces_for a ≡ traces_in (shown m))) (sym c.in-Run.is)
+    subst (λ (m : Command). IfOk c.printed-in-Run.result (λ a. traces_for a ≡ traces_in (shown_command m))) (sym c.in-Run.is)
     (traces_on answer.Printed c.run_lines.result c.printed-in-Run.result c.printed-in-Run.ensures no_traces (λ l. refl))
 
 pub returns-in-Run-clause-shows : goal.returns-in-Run-clause-shows
@@ -277,7 +277,7 @@ returns-in-Report-clause-answers c =
 
 pub returns-in-Report-clause-traces : goal.returns-in-Report-clause-traces
 returns-in-Report-clause-traces c =
-    subst (λ (m : Command). IfOk c.printed-in-Report.result (λ a. traces_for a ≡ traces_in (shown m))) (sym c.in-Report.is)
+    subst (λ (m : Command). IfOk c.printed-in-Report.result (λ a. traces_for a ≡ traces_in (shown_command m))) (sym c.in-Report.is)
     (traces_on answer.Printed c.report_lines.result c.printed-in-Report.result c.printed-in-Report.ensures no_traces (λ l. refl))
 
 pub returns-in-Report-clause-shows : goal.returns-in-Report-clause-shows
@@ -305,7 +305,7 @@ returns-in-Gen-clause-answers c =
 
 pub returns-in-Gen-clause-traces : goal.returns-in-Gen-clause-traces
 returns-in-Gen-clause-traces c =
-    subst (λ (m : Command). IfOk c.printed-in-Gen.result (λ a. traces_for a ≡ traces_in (shown m))) (sym c.in-Gen.is)
+    subst (λ (m : Command). IfOk c.printed-in-Gen.result (λ a. traces_for a ≡ traces_in (shown_command m))) (sym c.in-Gen.is)
     (traces_on answer.Printed c.gen_lines.result c.printed-in-Gen.result c.printed-in-Gen.ensures no_traces (λ l. refl))
 
 pub returns-in-Gen-clause-shows : goal.returns-in-Gen-clause-shows
@@ -335,7 +335,7 @@ returns-in-Bench-clause-answers c =
 
 pub returns-in-Bench-clause-traces : goal.returns-in-Bench-clause-traces
 returns-in-Bench-clause-traces c =
-    subst (λ (m : Command). IfOk c.printed-in-Bench.result (λ a. traces_for a ≡ traces_in (shown m))) (sym c.in-Bench.is)
+    subst (λ (m : Command). IfOk c.printed-in-Bench.result (λ a. traces_for a ≡ traces_in (shown_command m))) (sym c.in-Bench.is)
     (traces_on answer.Printed c.bench_lines.result c.printed-in-Bench.result c.printed-in-Bench.ensures no_traces (λ l. refl))
 
 pub returns-in-Bench-clause-shows : goal.returns-in-Bench-clause-shows
@@ -367,7 +367,7 @@ returns-in-CopySite-clause-answers c =
 
 pub returns-in-CopySite-clause-traces : goal.returns-in-CopySite-clause-traces
 returns-in-CopySite-clause-traces c =
-    subst (λ (m : Command). IfOk c.written-in-CopySite.result (λ a. traces_for a ≡ traces_in (shown m))) (sym c.in-CopySite.is)
+    subst (λ (m : Command). IfOk c.written-in-CopySite.result (λ a. traces_for a ≡ traces_in (shown_command m))) (sym c.in-CopySite.is)
     (traces_on (answer.File c.deref-in-CopySite.result) c.copy_text.result c.written-in-CopySite.result c.written-in-CopySite.ensures no_traces (λ l. refl))
 
 pub returns-in-CopySite-clause-shows : goal.returns-in-CopySite-clause-shows
@@ -404,7 +404,7 @@ returns-in-UnfoldSite-clause-answers c =
 
 pub returns-in-UnfoldSite-clause-traces : goal.returns-in-UnfoldSite-clause-traces
 returns-in-UnfoldSite-clause-traces c =
-    subst (λ (m : Command). IfOk c.written-in-UnfoldSite.result (λ a. traces_for a ≡ traces_in (shown m))) (sym c.in-UnfoldSite.is)
+    subst (λ (m : Command). IfOk c.written-in-UnfoldSite.result (λ a. traces_for a ≡ traces_in (shown_command m))) (sym c.in-UnfoldSite.is)
     (traces_on (answer.File c.deref-in-UnfoldSite.result) c.unfold_text.result c.written-in-UnfoldSite.result c.written-in-UnfoldSite.ensures no_traces (λ l. refl))
 
 pub returns-in-UnfoldSite-clause-shows : goal.returns-in-UnfoldSite-clause-shows
@@ -425,13 +425,13 @@ returns-in-UnfoldSite-clause-refused c =
 
 -- ---- Session
 
-pub opening_of-requires-clause-source : goal.opening_of-requires-clause-source
-opening_of-requires-clause-source c = subst (λ (l : List ℕ). length l ≤ source_max) (sym c.content-first.ensures)
+pub ready_session-requires-clause-source : goal.ready_session-requires-clause-source
+ready_session-requires-clause-source c = subst (λ (l : List ℕ). length l ≤ source_max) (sym c.content-first.ensures)
     (two_within (source_file (string_bytes c.in-Session.input)) (script_file (string_bytes c.in-Session.script)) (shown_contents c.args.contents.now)
     (subst (λ (m : Command). AreContents None (task m).inputs (shown_contents c.args.contents.now)) c.in-Session.is c.requires)).0
 
-pub opening_of-requires-clause-script : goal.opening_of-requires-clause-script
-opening_of-requires-clause-script c = subst (λ (l : List ℕ). length l ≤ script_max) (sym c.content-second.ensures)
+pub ready_session-requires-clause-script : goal.ready_session-requires-clause-script
+ready_session-requires-clause-script c = subst (λ (l : List ℕ). length l ≤ script_max) (sym c.content-second.ensures)
     (two_within (source_file (string_bytes c.in-Session.input)) (script_file (string_bytes c.in-Session.script)) (shown_contents c.args.contents.now)
     (subst (λ (m : Command). AreContents None (task m).inputs (shown_contents c.args.contents.now)) c.in-Session.is c.requires)).1
 
@@ -443,15 +443,16 @@ returns-in-Session-clause-answers c =
     (λ source text. EvaluatesEach source text c.in-Session.limit) (shown_contents c.args.contents.now)
     (subst (λ (m : Command). AreContents None (task m).inputs (shown_contents c.args.contents.now)) c.in-Session.is c.requires)
     c.content-first.result.now c.content-second.result.now c.content-first.ensures c.content-second.ensures
-    (λ (o : Opening). answer.Replies o c.in-Session.limit) c.opening_of.result c.replied.result c.replied.ensures (λ o. refl)
-    (IsOpening c.content-first.result.now c.content-second.result.now)
+    (λ (o : ReadySession). answer.Replies o c.in-Session.limit) c.ready_session.result c.replied.result c.replied.ensures (λ o. refl)
+    (IsReadySession c.content-first.result.now c.content-second.result.now)
     (λ o is. (ready c.content-first.result.now c.content-second.result.now o is, calls_fit c.content-first.result.now c.content-second.result.now o is))
-    (λ o is g h. gives_replies c.content-first.result.now c.content-second.result.now o is c.session_law.ensures.serves c.session_law.ensures.reset c.in-Session.limit g h) c.opening_of.ensures.opened)
+    (λ o is g h. gives_replies c.content-first.result.now c.content-second.result.now o is c.session_law.ensures.serves c.session_law.ensures.reset c.in-Session.limit g h)
+        c.ready_session.ensures.opened)
 
 pub returns-in-Session-clause-traces : goal.returns-in-Session-clause-traces
 returns-in-Session-clause-traces c =
-    subst (λ (m : Command). IfOk c.replied.result (λ a. traces_for a ≡ traces_in (shown m))) (sym c.in-Session.is)
-    (traces_on (λ (o : Opening). answer.Replies o c.in-Session.limit) c.opening_of.result c.replied.result c.replied.ensures no_traces (λ o. refl))
+    subst (λ (m : Command). IfOk c.replied.result (λ a. traces_for a ≡ traces_in (shown_command m))) (sym c.in-Session.is)
+    (traces_on (λ (o : ReadySession). answer.Replies o c.in-Session.limit) c.ready_session.result c.replied.result c.replied.ensures no_traces (λ o. refl))
 
 pub returns-in-Session-clause-shows : goal.returns-in-Session-clause-shows
 returns-in-Session-clause-shows c = shows_none c.replied.result c.args.command.now (shown_contents c.args.contents.now) (subst HasNoRun (sym c.in-Session.is) tt)
@@ -464,8 +465,9 @@ returns-in-Session-clause-refused c =
     (λ source text. EvaluatesEach source text c.in-Session.limit) (shown_contents c.args.contents.now)
     (subst (λ (m : Command). AreContents None (task m).inputs (shown_contents c.args.contents.now)) c.in-Session.is c.requires)
     c.content-first.result.now c.content-second.result.now c.content-first.ensures c.content-second.ensures
-    (λ (o : Opening). answer.Replies o c.in-Session.limit) c.opening_of.result c.replied.result c.replied.ensures
-    (subst (λ (n : List ℕ). IfErr c.opening_of.result (RefusesBy (RefusesSession n c.content-first.result.now c.content-second.result.now))) c.deref-in-Session.ensures c.opening_of.ensures.refused))
+    (λ (o : ReadySession). answer.Replies o c.in-Session.limit) c.ready_session.result c.replied.result c.replied.ensures
+    (subst (λ (n : List ℕ). IfErr c.ready_session.result (RefusesBy
+        (RefusesSession n c.content-first.result.now c.content-second.result.now))) c.deref-in-Session.ensures c.ready_session.ensures.refused))
 
 -- ---- Aig
 
@@ -484,7 +486,7 @@ returns-in-Aig-clause-answers c =
 
 pub returns-in-Aig-clause-traces : goal.returns-in-Aig-clause-traces
 returns-in-Aig-clause-traces c =
-    subst (λ (m : Command). IfOk c.written-in-Aig.result (λ a. traces_for a ≡ traces_in (shown m))) (sym c.in-Aig.is)
+    subst (λ (m : Command). IfOk c.written-in-Aig.result (λ a. traces_for a ≡ traces_in (shown_command m))) (sym c.in-Aig.is)
     (traces_on (answer.File c.deref-in-Aig.result) c.aig_text.result c.written-in-Aig.result c.written-in-Aig.ensures no_traces (λ l. refl))
 
 pub returns-in-Aig-clause-shows : goal.returns-in-Aig-clause-shows
@@ -516,7 +518,7 @@ returns-in-Aigstat-clause-answers c =
 
 pub returns-in-Aigstat-clause-traces : goal.returns-in-Aigstat-clause-traces
 returns-in-Aigstat-clause-traces c =
-    subst (λ (m : Command). IfOk c.printed-in-Aigstat.result (λ a. traces_for a ≡ traces_in (shown m))) (sym c.in-Aigstat.is)
+    subst (λ (m : Command). IfOk c.printed-in-Aigstat.result (λ a. traces_for a ≡ traces_in (shown_command m))) (sym c.in-Aigstat.is)
     (traces_on answer.Printed c.aigstat_lines.result c.printed-in-Aigstat.result c.printed-in-Aigstat.ensures no_traces (λ l. refl))
 
 pub returns-in-Aigstat-clause-shows : goal.returns-in-Aigstat-clause-shows

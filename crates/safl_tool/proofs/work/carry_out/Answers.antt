@@ -2,7 +2,7 @@ use Rattle.std.proofs.Common.{◌≡◌, List, None, map, refl, sym, ap, subst, 
 use Rattle.safl_io.specs.Shelf.{ShelfState}
 use Rattle.safl_probe.specs.Probing.{ProbeState}
 use Rattle.safl_probe.specs.Asked.{asked}
-use Rattle.safl_command.specs.Commands.{shown}
+use Rattle.safl_command.specs.Commands.{shown_command}
 use Rattle.safl_command.specs.Traces.{Traces}
 use Rattle.safl_task.specs.Endings.{outside, starved}
 use Rattle.safl_task.specs.Inputs.{AreUnread, shown_inputs, shown_contents}
@@ -33,7 +33,7 @@ returns-in_default-clause-spares g c = spares_none _ _ _
 
 pub returns-in-Err-clause-does : goal.returns-in-Err-clause-does
 returns-in-Err-clause-does g c =
-    let t : Task = command_task (shown c.args.command.now) in
+    let t : Task = command_task (shown_command c.args.command.now) in
     let ps : List ProbeState = map (λ p. (goal.Probe-dyn g (p.vtable, p.value)).state p.value) c.args.probes.now.items in
     let old = world (g.S.Shelf.told c.args.shelf.now) (g.O.Sink.told c.args.out.now) (λ p. (goal.Probe-dyn g (p.vtable, p.value)).state p.value) c.args.probes.now.items in
     let new = world (g.S.Shelf.told c.read_inputs.new.shelf) (g.O.Sink.told c.args.out.now) (λ p. (goal.Probe-dyn g (p.vtable, p.value)).state p.value) c.args.probes.now.items in
@@ -46,7 +46,7 @@ returns-in-Err-clause-attends g c = λ e. refl
 
 pub returns-in-Err-clause-spares : goal.returns-in-Err-clause-spares
 returns-in-Err-clause-spares g c =
-    let t : Task = command_task (shown c.args.command.now) in
+    let t : Task = command_task (shown_command c.args.command.now) in
     let old = world (g.S.Shelf.told c.args.shelf.now) (g.O.Sink.told c.args.out.now) (λ p. (goal.Probe-dyn g (p.vtable, p.value)).state p.value) c.args.probes.now.items in
     let new = world (g.S.Shelf.told c.read_inputs.new.shelf) (g.O.Sink.told c.args.out.now) (λ p. (goal.Probe-dyn g (p.vtable, p.value)).state p.value) c.args.probes.now.items in
     let is : shown_inputs c.deref.result.now ≡ t.inputs = ap shown_inputs c.deref.ensures.value ∙ c.in-Ok.ensures in
@@ -56,7 +56,7 @@ returns-in-Err-clause-spares g c =
 
 pub answer_of-requires : goal.answer_of-requires
 answer_of-requires g c =
-    let t : Task = command_task (shown c.args.command.now) in
+    let t : Task = command_task (shown_command c.args.command.now) in
     let old : ShelfState = g.S.Shelf.told c.args.shelf.now in
     let is : shown_inputs c.deref.result.now ≡ t.inputs = ap shown_inputs c.deref.ensures.value ∙ c.in-Ok.ensures in
     subst (λ l. AreContents None t.inputs (shown_contents l)) (sym c.deref-2.ensures.value)
@@ -65,7 +65,7 @@ answer_of-requires g c =
 
 pub returns-in-Err-answer_of-clause-does : goal.returns-in-Err-answer_of-clause-does
 returns-in-Err-answer_of-clause-does g c =
-    let t : Task = command_task (shown c.args.command.now) in
+    let t : Task = command_task (shown_command c.args.command.now) in
     let ps : List ProbeState = map (λ p. (goal.Probe-dyn g (p.vtable, p.value)).state p.value) c.args.probes.now.items in
     let old = world (g.S.Shelf.told c.args.shelf.now) (g.O.Sink.told c.args.out.now) (λ p. (goal.Probe-dyn g (p.vtable, p.value)).state p.value) c.args.probes.now.items in
     let new = world (g.S.Shelf.told c.read_inputs.new.shelf) (g.O.Sink.told c.args.out.now) (λ p. (goal.Probe-dyn g (p.vtable, p.value)).state p.value) c.args.probes.now.items in
@@ -74,7 +74,7 @@ returns-in-Err-answer_of-clause-does g c =
     subst (λ l. AreContents old.outside.shelf.holds t.inputs (shown_contents l)) (sym c.deref-2.ensures.value)
     (subst (λ (l : List Input). AreContents old.outside.shelf.holds l (shown_contents c.in-Ok-read_inputs.contents.items)) is c.in-Ok-read_inputs.ensures.read) in
     content_stops t (TellsProbe (asked c.args.files.now) ps ps) old.outside new.outside (shown_contents c.deref-2.result.now) are
-    (quiet (shown c.args.command.now) (shown_contents c.deref-2.result.now))
+    (quiet (shown_command c.args.command.now) (shown_contents c.deref-2.result.now))
     (record { files = c.in-Ok-read_inputs.ensures.only_reads.files; out = refl }) c.in-Err-answer_of.refusal c.in-Err-answer_of.ensures.refused
 
 pub returns-in-Err-answer_of-clause-attends : goal.returns-in-Err-answer_of-clause-attends
@@ -82,7 +82,7 @@ returns-in-Err-answer_of-clause-attends g c = λ e. refl
 
 pub returns-in-Err-answer_of-clause-spares : goal.returns-in-Err-answer_of-clause-spares
 returns-in-Err-answer_of-clause-spares g c =
-    let t : Task = command_task (shown c.args.command.now) in
+    let t : Task = command_task (shown_command c.args.command.now) in
     let old = world (g.S.Shelf.told c.args.shelf.now) (g.O.Sink.told c.args.out.now) (λ p. (goal.Probe-dyn g (p.vtable, p.value)).state p.value) c.args.probes.now.items in
     let new = world (g.S.Shelf.told c.read_inputs.new.shelf) (g.O.Sink.told c.args.out.now) (λ p. (goal.Probe-dyn g (p.vtable, p.value)).state p.value) c.args.probes.now.items in
     let is : shown_inputs c.deref.result.now ≡ t.inputs = ap shown_inputs c.deref.ensures.value ∙ c.in-Ok.ensures in
@@ -100,7 +100,7 @@ give-requires-clause-asked g c =
 
 pub returns-clause-does : goal.returns-clause-does
 returns-clause-does g c =
-    let t : Task = command_task (shown c.args.command.now) in
+    let t : Task = command_task (shown_command c.args.command.now) in
     let old = world (g.S.Shelf.told c.args.shelf.now) (g.O.Sink.told c.args.out.now) (λ p. (goal.Probe-dyn g (p.vtable, p.value)).state p.value) c.args.probes.now.items in
     let mid : ShelfState = g.S.Shelf.told c.read_inputs.new.shelf in
     let new = world (g.S.Shelf.told c.give.new.shelf) (g.O.Sink.told c.give.new.out) (λ p. (goal.Probe-dyn g (p.vtable, p.value)).state p.value) c.give.new.probes.items in
@@ -113,7 +113,7 @@ returns-clause-does g c =
 
 pub returns-clause-spares : goal.returns-clause-spares
 returns-clause-spares g c =
-    let t : Task = command_task (shown c.args.command.now) in
+    let t : Task = command_task (shown_command c.args.command.now) in
     let old = world (g.S.Shelf.told c.args.shelf.now) (g.O.Sink.told c.args.out.now) (λ p. (goal.Probe-dyn g (p.vtable, p.value)).state p.value) c.args.probes.now.items in
     let mid : ShelfState = g.S.Shelf.told c.read_inputs.new.shelf in
     let new = world (g.S.Shelf.told c.give.new.shelf) (g.O.Sink.told c.give.new.out) (λ p. (goal.Probe-dyn g (p.vtable, p.value)).state p.value) c.give.new.probes.items in
@@ -123,7 +123,7 @@ returns-clause-spares g c =
 
 pub returns-clause-attends : goal.returns-clause-attends
 returns-clause-attends g c =
-    let t : Task = command_task (shown c.args.command.now) in
+    let t : Task = command_task (shown_command c.args.command.now) in
     let old = world (g.S.Shelf.told c.args.shelf.now) (g.O.Sink.told c.args.out.now) (λ p. (goal.Probe-dyn g (p.vtable, p.value)).state p.value) c.args.probes.now.items in
     let mid : ShelfState = g.S.Shelf.told c.read_inputs.new.shelf in
     let new = world (g.S.Shelf.told c.give.new.shelf) (g.O.Sink.told c.give.new.out) (λ p. (goal.Probe-dyn g (p.vtable, p.value)).state p.value) c.give.new.probes.items in
@@ -131,6 +131,6 @@ returns-clause-attends g c =
     let are : AreContents old.outside.shelf.holds t.inputs (shown_contents c.deref-2.result.now) =
     subst (λ l. AreContents old.outside.shelf.holds t.inputs (shown_contents l)) (sym c.deref-2.ensures.value)
     (subst (λ (l : List Input). AreContents old.outside.shelf.holds l (shown_contents c.in-Ok-read_inputs.contents.items)) is c.in-Ok-read_inputs.ensures.read) in
-    attends_given (shown c.args.command.now) (asked c.args.files.now) old.outside.shelf.holds old.probes new.probes old.states new.states
+    attends_given (shown_command c.args.command.now) (asked c.args.files.now) old.outside.shelf.holds old.probes new.probes old.states new.states
     (shown_contents c.deref-2.result.now) are c.in-Ok-answer_of.answer c.in-Ok-answer_of.ensures.shows (outside mid old.outside.out) new.outside
     c.give.result c.give.ensures.gives c.give.ensures.told

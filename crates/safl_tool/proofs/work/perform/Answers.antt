@@ -1,7 +1,7 @@
 use Rattle.std.proofs.Common.{◌≡◌, List, map, refl, sym, ap, subst, ◌∙◌, inl}
 use Rattle.safl_probe.specs.Probing.{ProbeState}
 use Rattle.safl_probe.specs.Asked.{Asked, asked}
-use Rattle.safl_command.specs.Commands.{shown}
+use Rattle.safl_command.specs.Commands.{shown_command}
 use Rattle.safl_command.specs.Traces.{Traces}
 use Rattle.safl_task.specs.Endings.{starved}
 use Rattle.safl_tool.specs.Asking.{traces_given}
@@ -20,20 +20,20 @@ pub carry_out-requires : goal.carry_out-requires
 carry_out-requires g c =
     let ps : List ProbeState = map (λ p. (goal.Probe-dyn g (p.vtable, p.value)).state p.value) c.args.probes.now.items in
     let qs : List ProbeState = map (λ p. (goal.Probe-dyn g (p.vtable, p.value)).state p.value) c.deref.result.now in
-    subst (λ l. AreAskedFor (traces_in (shown c.args.command.now)) (asked l) ps) (sym c.deref-in-Ok-Some.ensures.value)
-    (handed _ (traces_in (shown c.args.command.now)) ps qs (asked c.in-Ok-Some.files.items) c.traces_of.ensures
+    subst (λ l. AreAskedFor (traces_in (shown_command c.args.command.now)) (asked l) ps) (sym c.deref-in-Ok-Some.ensures.value)
+    (handed _ (traces_in (shown_command c.args.command.now)) ps qs (asked c.in-Ok-Some.files.items) c.traces_of.ensures
     (ap (λ l. map (λ p. (goal.Probe-dyn g (p.vtable, p.value)).state p.value) l) c.deref.ensures.value) (rw c.in-Ok-Some.field-0-is at c.in-Ok-Some.ensures))
 
 pub returns-in-Ok-Some-clause-does : goal.returns-in-Ok-Some-clause-does
 returns-in-Ok-Some-clause-does g c =
     let ps : List ProbeState = map (λ p. (goal.Probe-dyn g (p.vtable, p.value)).state p.value) c.args.probes.now.items in
     let qs : List ProbeState = map (λ p. (goal.Probe-dyn g (p.vtable, p.value)).state p.value) c.deref.result.now in
-    does_asked (shown c.args.command.now) (world (g.S.Shelf.told c.args.shelf.now) (g.O.Sink.told c.args.out.now)
+    does_asked (shown_command c.args.command.now) (world (g.S.Shelf.told c.args.shelf.now) (g.O.Sink.told c.args.out.now)
     (λ p. (goal.Probe-dyn g (p.vtable, p.value)).state p.value) c.args.probes.now.items)
     (world (g.S.Shelf.told c.carry_out.new.shelf) (g.O.Sink.told c.carry_out.new.out) (λ p. (goal.Probe-dyn g (p.vtable, p.value)).state p.value)
     c.carry_out.new.probes.items) (asked c.deref-in-Ok-Some.result.now)
-    (subst (λ l. AreAskedFor (traces_in (shown c.args.command.now)) (asked l) ps) (sym c.deref-in-Ok-Some.ensures.value)
-    (handed _ (traces_in (shown c.args.command.now)) ps qs (asked c.in-Ok-Some.files.items) c.traces_of.ensures
+    (subst (λ l. AreAskedFor (traces_in (shown_command c.args.command.now)) (asked l) ps) (sym c.deref-in-Ok-Some.ensures.value)
+    (handed _ (traces_in (shown_command c.args.command.now)) ps qs (asked c.in-Ok-Some.files.items) c.traces_of.ensures
     (ap (λ l. map (λ p. (goal.Probe-dyn g (p.vtable, p.value)).state p.value) l) c.deref.ensures.value) (rw c.in-Ok-Some.field-0-is at c.in-Ok-Some.ensures)))
     c.carry_out.result c.carry_out.ensures.does
 
@@ -41,12 +41,12 @@ pub returns-in-Ok-Some-clause-spares : goal.returns-in-Ok-Some-clause-spares
 returns-in-Ok-Some-clause-spares g c =
     let ps : List ProbeState = map (λ p. (goal.Probe-dyn g (p.vtable, p.value)).state p.value) c.args.probes.now.items in
     let qs : List ProbeState = map (λ p. (goal.Probe-dyn g (p.vtable, p.value)).state p.value) c.deref.result.now in
-    spares_asked (shown c.args.command.now) (world (g.S.Shelf.told c.args.shelf.now) (g.O.Sink.told c.args.out.now)
+    spares_asked (shown_command c.args.command.now) (world (g.S.Shelf.told c.args.shelf.now) (g.O.Sink.told c.args.out.now)
     (λ p. (goal.Probe-dyn g (p.vtable, p.value)).state p.value) c.args.probes.now.items)
     (world (g.S.Shelf.told c.carry_out.new.shelf) (g.O.Sink.told c.carry_out.new.out) (λ p. (goal.Probe-dyn g (p.vtable, p.value)).state p.value)
     c.carry_out.new.probes.items) (asked c.deref-in-Ok-Some.result.now)
-    (subst (λ l. AreAskedFor (traces_in (shown c.args.command.now)) (asked l) ps) (sym c.deref-in-Ok-Some.ensures.value)
-    (handed _ (traces_in (shown c.args.command.now)) ps qs (asked c.in-Ok-Some.files.items) c.traces_of.ensures
+    (subst (λ l. AreAskedFor (traces_in (shown_command c.args.command.now)) (asked l) ps) (sym c.deref-in-Ok-Some.ensures.value)
+    (handed _ (traces_in (shown_command c.args.command.now)) ps qs (asked c.in-Ok-Some.files.items) c.traces_of.ensures
     (ap (λ l. map (λ p. (goal.Probe-dyn g (p.vtable, p.value)).state p.value) l) c.deref.ensures.value) (rw c.in-Ok-Some.field-0-is at c.in-Ok-Some.ensures)))
     c.carry_out.ensures.spares
 
@@ -55,16 +55,17 @@ returns-in-Ok-Some-clause-attends g c =
     let ps : List ProbeState = map (λ p. (goal.Probe-dyn g (p.vtable, p.value)).state p.value) c.args.probes.now.items in
     let qs : List ProbeState = map (λ p. (goal.Probe-dyn g (p.vtable, p.value)).state p.value) c.deref.result.now in
     let rs : List ProbeState = map (λ p. (goal.Probe-dyn g (p.vtable, p.value)).state p.value) c.carry_out.new.probes.items in
-    attends_asked (shown c.args.command.now) (g.S.Shelf.told c.args.shelf.now).holds c.args.probes.now.items c.carry_out.new.probes.items ps rs
+    attends_asked (shown_command c.args.command.now) (g.S.Shelf.told c.args.shelf.now).holds c.args.probes.now.items c.carry_out.new.probes.items ps rs
     (asked c.deref-in-Ok-Some.result.now)
-    (subst (λ l. AreAskedFor (traces_in (shown c.args.command.now)) (asked l) ps) (sym c.deref-in-Ok-Some.ensures.value)
-    (handed _ (traces_in (shown c.args.command.now)) ps qs (asked c.in-Ok-Some.files.items) c.traces_of.ensures
+    (subst (λ l. AreAskedFor (traces_in (shown_command c.args.command.now)) (asked l) ps) (sym c.deref-in-Ok-Some.ensures.value)
+    (handed _ (traces_in (shown_command c.args.command.now)) ps qs (asked c.in-Ok-Some.files.items) c.traces_of.ensures
     (ap (λ l. map (λ p. (goal.Probe-dyn g (p.vtable, p.value)).state p.value) l) c.deref.ensures.value) (rw c.in-Ok-Some.field-0-is at c.in-Ok-Some.ensures)))
     c.carry_out.result c.carry_out.ensures.attends
 
 pub returns-in-Ok-None-clause-does : goal.returns-in-Ok-None-clause-does
 returns-in-Ok-None-clause-does g c =
-    not_asked (shown c.args.command.now) (world (g.S.Shelf.told c.args.shelf.now) (g.O.Sink.told c.args.out.now) (λ p. (goal.Probe-dyn g (p.vtable, p.value)).state p.value) c.args.probes.now.items)
+    not_asked (shown_command c.args.command.now) (world (g.S.Shelf.told c.args.shelf.now) (g.O.Sink.told c.args.out.now) (λ p. (goal.Probe-dyn g
+        (p.vtable, p.value)).state p.value) c.args.probes.now.items)
     (ap (λ t. have_probes t (kinds_of (map (λ p. (goal.Probe-dyn g (p.vtable, p.value)).state p.value) c.args.probes.now.items)))
     (sym c.traces_of.ensures) ∙ ap (λ l. have_probes (traces_given c.traces_of.result)
     (kinds_of (map (λ p. (goal.Probe-dyn g (p.vtable, p.value)).state p.value) l))) (sym c.deref.ensures.value) ∙

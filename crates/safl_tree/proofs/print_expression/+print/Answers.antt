@@ -8,7 +8,7 @@ use Rattle.safl_tree.specs.Tree.{trees_of, binds_of}
 use Rattle.safl_tree.specs.Shown.{shown_tree, shown_trees, shown_bounds, shown_labelled}
 use Rattle.std.proofs.lemmas.Bool.{lt-leb}
 use Rattle.safl_word.specs.declared.primitive.Primitive.{Primitive}
-use Rattle.safl_tree.specs.Printable.{own, left_place, right_place}
+use Rattle.safl_tree.specs.Printable.{layers_of, left_context, right_context}
 use Rattle.safl_tree.specs.Printed
 use Rattle.safl_tree.specs.Printed.{Word, separated, enclosed, part_words, bind_words, bound_words, labelled_words, words, Writes}
 use Rattle.safl_tree.proofs.Lists.{drop_at}
@@ -102,7 +102,7 @@ push_ext-returns t c =
 pub push_operation-returns-in_ok-push_parts-in-Cat : goal.push_operation-returns-in_ok-push_parts-in-Cat
 push_operation-returns-in_ok-push_parts-in-Cat t c =
     subst (λ (p : Primitive). OnOk c.push_sym-in-Cat-2.result (Writes c.args.out.now.items c.push_sym-in-Cat-2.new.out.items
-    (Printed.applied p (part_words (left_place p) (right_place p) (trees_of (shown_trees c.args.es.now)))))) (sym c.in-Cat.is)
+    (Printed.applied p (part_words (left_context p) (right_context p) (trees_of (shown_trees c.args.es.now)))))) (sym c.in-Cat.is)
     (chain_4 c.push_sym-in-Cat-2.result c.args.out.now.items c.push_key.new.out.items c.push_sym-in-Cat.new.out.items
     c.push_parts-in-Cat.new.out.items c.push_sym-in-Cat-2.new.out.items (Printed.key keys.Cat ∷ []) (Printed.sym syms.OpenParen ∷ [])
     (separated (Printed.sym syms.Comma) (part_words 8 8 (trees_of (shown_trees c.args.es.now)))) (Printed.sym syms.CloseParen ∷ [])
@@ -110,11 +110,13 @@ push_operation-returns-in_ok-push_parts-in-Cat t c =
 
 pub push_part-returns-in_ok-push_expr : goal.push_part-returns-in_ok-push_expr
 push_part-returns-in_ok-push_expr t c =
-    let over : leb (own (shown_tree c.args.e.now)) c.args.place ≡ false = lt-leb (own (shown_tree c.args.e.now)) c.args.place (omega (arith, c.own.ensures, c.if-own-place.false)) in
-    subst (λ (b : Bool). OnOk c.push_sym-else-own-place.result (Writes c.args.out.now.items c.push_sym-else-own-place.new.out.items (enclosed b (words (shown_tree c.args.e.now))))) (sym over)
-    (chain_3 c.push_sym-else-own-place.result c.args.out.now.items c.push_sym.new.out.items c.push_expr-else-own-place.new.out.items
-    c.push_sym-else-own-place.new.out.items (Printed.sym syms.OpenParen ∷ []) (words (shown_tree c.args.e.now)) (Printed.sym syms.CloseParen ∷ [])
-    c.in_ok-push_sym.ensures c.in_ok-push_expr.ensures c.push_sym-else-own-place.ensures)
+    let over : leb (layers_of (shown_tree c.args.e.now)) c.args.place
+        ≡ false = lt-leb (layers_of (shown_tree c.args.e.now)) c.args.place (omega (arith, c.layers_of.ensures, c.if-layers_of-place.false)) in
+    subst (λ (b : Bool). OnOk c.push_sym-else-layers_of-place.result (Writes c.args.out.now.items c.push_sym-else-layers_of-place.new.out.items (enclosed b (words (shown_tree c.args.e.now)))))
+        (sym over)
+    (chain_3 c.push_sym-else-layers_of-place.result c.args.out.now.items c.push_sym.new.out.items c.push_expr-else-layers_of-place.new.out.items
+    c.push_sym-else-layers_of-place.new.out.items (Printed.sym syms.OpenParen ∷ []) (words (shown_tree c.args.e.now)) (Printed.sym syms.CloseParen ∷ [])
+    c.in_ok-push_sym.ensures c.in_ok-push_expr.ensures c.push_sym-else-layers_of-place.ensures)
 
 -- ---- loops
 
@@ -153,7 +155,7 @@ push_bindings-returns-after-loop-b t c =
 
 pub push_parts-loop-e-preserved : goal.push_parts-loop-e-preserved
 push_parts-loop-e-preserved t c =
-    items_step (λ (e : Expr). enclosed (leb (own (shown_tree e)) c.args.right) (words (shown_tree e)))
+    items_step (λ (e : Expr). enclosed (leb (layers_of (shown_tree e)) c.args.right) (words (shown_tree e)))
     (λ (l : List Expr). part_words c.args.right c.args.right (trees_of (shown_trees l))) refl (λ e l. refl) (Printed.sym c.args.between)
     (take (length c.args.es.now - 1) (drop 1 c.args.es.now)) c.loop-e.e-index c.e-item.result c.loop-e-test.true c.e-item.is
     c.push_part.new.out.items c.loop-e.out.items c.push_sym.new.out.items c.push_part-in-loop-e.new.out.items
@@ -165,8 +167,8 @@ push_parts-returns-after-loop-e t c =
     subst (λ (l : List Expr). Writes c.args.out.now.items c.loop-e.out.items
     (separated (Printed.sym c.args.between) (part_words c.args.left c.args.right (trees_of (shown_trees l)))))
     (sym (by_first c.args.es.now c.first-item.result (omega arith) c.first-item.is))
-    (items_end (λ (e : Expr). enclosed (leb (own (shown_tree e)) c.args.right) (words (shown_tree e)))
+    (items_end (λ (e : Expr). enclosed (leb (layers_of (shown_tree e)) c.args.right) (words (shown_tree e)))
     (λ (l : List Expr). part_words c.args.right c.args.right (trees_of (shown_trees l))) refl (λ e l. refl) (Printed.sym c.args.between)
     (take (length c.args.es.now - 1) (drop 1 c.args.es.now)) c.loop-e.e-index c.loop-e-test.false c.args.out.now.items c.push_part.new.out.items
-    c.loop-e.out.items (enclosed (leb (own (shown_tree c.first-item.result)) c.args.left) (words (shown_tree c.first-item.result)))
+    c.loop-e.out.items (enclosed (leb (layers_of (shown_tree c.first-item.result)) c.args.left) (words (shown_tree c.first-item.result)))
     c.loop-e.invariant c.in_ok-push_part.ensures)

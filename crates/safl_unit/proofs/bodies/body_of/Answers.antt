@@ -1,8 +1,8 @@
 use Rattle.std.proofs.Common.{◌≡◌, List, IfOk, length, refl, sym, subst, ◌∙◌, arith}
 use Rattle.std.proofs.lemmas.Option.{slice_get_read}
 use Rattle.safl_term.specs.Checked.{CheckedProgram, IsChecked}
-use Rattle.safl_lower.specs.declared.parts.SitePorts.{SitePorts}
-use Rattle.safl_lower.specs.declared.parts.Ports.{Ports}
+use Rattle.safl_lower.specs.declared.lowered.SitePorts.{SitePorts}
+use Rattle.safl_lower.specs.declared.lowered.Ports.{Ports}
 use Rattle.safl_lower.specs.Bodies.{CanLower, IsLowered}
 use Rattle.safl_net.specs.Bits.{on}
 use Rattle.safl_circuit.specs.Equations.{path}

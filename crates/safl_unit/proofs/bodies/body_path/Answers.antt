@@ -8,7 +8,7 @@ use Rattle.safl_net.specs.Growth.{Val, Wired}
 use Rattle.safl_net.specs.Bits.{on}
 use Rattle.safl_circuit.specs.Equations.{many, path}
 use Rattle.safl_lower.specs.Sources.{Builds}
-use Rattle.safl_unit.specs.declared.parts.Pins.{Pins}
+use Rattle.safl_unit.specs.declared.pins.Pins.{Pins}
 use Rattle.safl_unit.specs.Cycles.{InEachCycle}
 use Rattle.safl_unit.proofs.Keeping.{cycle_before}
 use Rattle.safl_unit.proofs.bodies.body_path.Goals as goal

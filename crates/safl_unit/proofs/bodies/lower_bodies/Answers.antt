@@ -5,7 +5,7 @@ use Rattle.safl_lower.specs.Rows.{load_joins, total, row_at, RowsFit}
 use Rattle.safl_lower.specs.Tables.{load_in}
 use Rattle.safl_lower.specs.Joints.{IsFirstOf}
 use Rattle.safl_lower.proofs.Building.{builds_same, builds_on, builds_within}
-use Rattle.safl_unit.specs.declared.parts.Outcomes.{Outcomes}
+use Rattle.safl_unit.specs.declared.pins.Outcomes.{Outcomes}
 use Rattle.safl_unit.specs.declared.bodies.Gathered.{Gathered}
 use Rattle.safl_term.specs.Sizes.{body_nodes}
 use Rattle.safl_unit.specs.Outcomes.{PushesLoads}

@@ -2,7 +2,7 @@ use Rattle.std.proofs.Common.{◌≡◌, ◌≤◌, List, suc, map, length, subs
 use Rattle.safl_term.specs.Program.{arity}
 use Rattle.safl_term.specs.Checked.{CheckedProgram, IsChecked}
 use Rattle.safl_circuit.specs.Layout.{lines}
-use Rattle.safl_unit.specs.declared.parts.UnitPins.{UnitPins}
+use Rattle.safl_unit.specs.declared.pins.UnitPins.{UnitPins}
 use Rattle.safl_unit.specs.Ties.{numbered}
 use Rattle.safl_unit.specs.Finished.{input_line, open_register}
 use Rattle.safl_unit.specs.Declaring.{with_signals, MayAdd, function_lines, port_lines, FunctionsPinned, SitesPinned}

@@ -11,9 +11,9 @@ use Rattle.safl_lower.specs.Tables.{load_in, sig_in, taken_in, on_in, FitsIn, Is
 use Rattle.safl_lower.proofs.Building.{builds_same, builds_on, builds_within}
 use Rattle.safl_lower.proofs.KnownLoads.{maybe_load_kept, maybe_bit_kept}
 use Rattle.safl_lower.proofs.Cells.{sources_length}
-use Rattle.safl_unit.specs.declared.parts.MemberPins.{MemberPins}
-use Rattle.safl_unit.specs.declared.parts.Pins.{Pins}
-use Rattle.safl_unit.specs.declared.parts.Outcomes.{Outcomes}
+use Rattle.safl_unit.specs.declared.pins.MemberPins.{MemberPins}
+use Rattle.safl_unit.specs.declared.pins.Pins.{Pins}
+use Rattle.safl_unit.specs.declared.pins.Outcomes.{Outcomes}
 use Rattle.safl_unit.specs.declared.events.Events.{Events}
 use Rattle.safl_unit.specs.Cycles.{PinsFit, MemberFits}
 use Rattle.safl_unit.specs.Stages.{OutcomesFit}

@@ -8,10 +8,10 @@ use Rattle.safl_lower.specs.Sources.{IsSource, Builds}
 use Rattle.safl_lower.specs.Tables.{pin, sig_in, on_in, IsBitIn, BitsFit}
 use Rattle.safl_lower.proofs.Building.{builds_same, builds_on, builds_within, source_kept}
 use Rattle.safl_lower.proofs.KnownLoads.{maybe_bit_kept}
-use Rattle.safl_unit.specs.declared.parts.UnitPins.{UnitPins}
-use Rattle.safl_unit.specs.declared.parts.SitePins.{SitePins}
-use Rattle.safl_unit.specs.declared.parts.Pins.{Pins}
-use Rattle.safl_unit.specs.declared.parts.Returns.{Returns}
+use Rattle.safl_unit.specs.declared.pins.UnitPins.{UnitPins}
+use Rattle.safl_unit.specs.declared.pins.SitePins.{SitePins}
+use Rattle.safl_unit.specs.declared.pins.Pins.{Pins}
+use Rattle.safl_unit.specs.declared.pins.Returns.{Returns}
 use Rattle.safl_unit.specs.Cycles.{SiteFits, PinsFit}
 use Rattle.safl_unit.specs.Stages.{ReturnsFit}
 use Rattle.safl_unit.specs.Steps.{SiteStep, SitesNext}

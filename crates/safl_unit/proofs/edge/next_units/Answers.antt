@@ -5,7 +5,7 @@ use Rattle.safl_lower.specs.declared.loads.Load.{Load}
 use Rattle.safl_lower.specs.Tables.{load_in, sig_in, FitsIn, IsBitIn}
 use Rattle.safl_lower.proofs.Building.{builds_same, builds_on, builds_within}
 use Rattle.safl_lower.proofs.KnownLoads.{maybe_load_kept, maybe_bit_kept}
-use Rattle.safl_unit.specs.declared.parts.UnitPins.{UnitPins}
+use Rattle.safl_unit.specs.declared.pins.UnitPins.{UnitPins}
 use Rattle.safl_unit.specs.Steps.{UnitsNext}
 use Rattle.safl_unit.proofs.Keeping.{unit_kept}
 use Rattle.safl_unit.proofs.Stepping.{no_units, more_units}

@@ -3,7 +3,7 @@ use Rattle.std.proofs.lemmas.Option.{slice_get_read}
 use Rattle.safl_term.specs.Checked.{CheckedProgram}
 use Rattle.safl_net.specs.Netlist.{Netlist}
 use Rattle.safl_net.proofs.Growth.{within}
-use Rattle.safl_unit.specs.declared.parts.UnitPins.{UnitPins}
+use Rattle.safl_unit.specs.declared.pins.UnitPins.{UnitPins}
 use Rattle.safl_unit.proofs.Finishing.{finishes}
 use Rattle.safl_unit.proofs.Outputs.{done_free, result_free}
 use Rattle.safl_unit.proofs.finish.finish.Goals as goal

@@ -5,7 +5,7 @@ use Rattle.safl_net.specs.declared.cell.Sig.{Sig}
 use Rattle.safl_net.specs.Netlist.{Netlist}
 use Rattle.safl_net.specs.Names.{is_good, has_name}
 use Rattle.safl_net.specs.Making.{with_output}
-use Rattle.safl_net.specs.Stored.{signals_of, outputs_of, net_of, Keeps}
+use Rattle.safl_net.specs.Stored.{signals_of, outputs_of, net_of, KeepsNetlist}
 use Rattle.safl_net.proofs.Tables.{no_output, outputs_push, outputs_kept}
 use Rattle.safl_net.proofs.net.Net.output.Goals as goal
 
@@ -22,7 +22,7 @@ invariant_of-self-2 c =
     text c.args.s (no_output es os (string_bytes text) new) in
     let room : length (outputs_of os) < 4294967295 = (let f = c.requires.room in let g = ap (λ (n : Netlist). length n.outputs) c.self.view_is in omega (arith, f, g)) in
     let here : c.args.s.0 < length (signals_of es) = (let f = c.requires.known in let g = ap (λ (n : Netlist). length n.signals) c.self.view_is in omega (arith, f, g)) in
-    subst (λ (l : List (String Global × Sig)). Keeps es l c.self.inside.wires) (sym after) (outputs_kept es os c.self.inside.wires text c.args.s c.self.invariant room good new here)
+    subst (λ (l : List (String Global × Sig)). KeepsNetlist es l c.self.inside.wires) (sym after) (outputs_kept es os c.self.inside.wires text c.args.s c.self.invariant room good new here)
 
 pub returns-clause-added : goal.returns-clause-added
 returns-clause-added c =

@@ -6,7 +6,7 @@ use Rattle.safl_net.specs.Netlist.{Netlist, Signal}
 use Rattle.safl_net.specs.Names.{has_name, one_wire}
 use Rattle.safl_net.specs.Making.{with_signal}
 use Rattle.safl_net.specs.Rules.{SignalFits}
-use Rattle.safl_net.specs.Stored.{kind_of, signal_of, signals_of, outputs_of, net_of, Keeps}
+use Rattle.safl_net.specs.Stored.{kind_of, signal_of, signals_of, outputs_of, net_of, KeepsNetlist}
 use Rattle.safl_net.proofs.Tables.{no_signal, wire_or_not, wires_few, signals_push, rows_kept}
 use Rattle.safl_net.proofs.net.Net.push.Goals as goal
 
@@ -32,8 +32,8 @@ invariant_of-self-2 c =
     let fits : SignalFits (net_of es os) (signal_of (string_bytes c.args.name) c.args.row) =
     subst (λ (n : Netlist). SignalFits n (signal_of (string_bytes c.args.name) c.args.row)) (sym c.self.view_is) q.fits in
     let kept = rows_kept es os c.self.inside.wires c.args.name c.args.row c.self.invariant room new fits q.reset in
-    subst (λ (k : ℕ). Keeps c.insert.new.self.entries os (c.self.inside.wires + k)) (sym c.wire_count.ensures)
-    (subst (λ (l : List (String Global × Row)). Keeps l os (c.self.inside.wires + one_wire (kind_of c.args.row.driver))) (sym after) kept)
+    subst (λ (k : ℕ). KeepsNetlist c.insert.new.self.entries os (c.self.inside.wires + k)) (sym c.wire_count.ensures)
+    (subst (λ (l : List (String Global × Row)). KeepsNetlist l os (c.self.inside.wires + one_wire (kind_of c.args.row.driver))) (sym after) kept)
 
 pub returns-clause-added : goal.returns-clause-added
 returns-clause-added c =

@@ -1,9 +1,9 @@
 use Rattle.std.proofs.Common.{◌<◌, ◌≤◌, length, arith, sym, ◌∙◌, ap, subst}
 use Rattle.safl_term.specs.Checked.{CheckedProgram}
 use Rattle.safl_sites.specs.Parallel.{ComesBefore}
-use Rattle.safl_sites.specs.Rows.{has}
+use Rattle.safl_sites.specs.SiteSets.{has}
 use Rattle.safl_sites.specs.declared.site_set.SiteSet.{SiteSet}
-use Rattle.safl_sites.proofs.RowsByWords.{row_at}
+use Rattle.safl_sites.proofs.SetsByWords.{set_found}
 use Rattle.safl_sites.proofs.planned.Planned.comes_before.Goals as goal
 
 pub returns : goal.returns
@@ -15,8 +15,8 @@ returns c =
     let table = c.self.invariant.conflicts in
     let most : o ≤ D.sites = subst (λ (q : CheckedProgram). o ≤ q.program.sites) (sym v) c.requires.most in
     let within : o < length c.self.inside.before.items = omega (arith, table.count) in
-    let row = row_at c.self.inside.before.items o c.index.result.now within c.index.ensures in
-    let both = table.rows k o c.requires.least most in (
-      λ h. subst (λ (q : CheckedProgram). ComesBefore q.program k o) v (both.0 (ap (λ (r : SiteSet). has r k) (sym row) ∙ (sym c.contains.ensures ∙ h))),
-      λ h. c.contains.ensures ∙ (ap (λ (r : SiteSet). has r k) row ∙ both.1 (subst (λ (q : CheckedProgram). ComesBefore q.program k o) (sym v) h)),
+    let set = set_found c.self.inside.before.items o c.index.result.now within c.index.ensures in
+    let both = table.sets k o c.requires.least most in (
+      λ h. subst (λ (q : CheckedProgram). ComesBefore q.program k o) v (both.0 (ap (λ (r : SiteSet). has r k) (sym set) ∙ (sym c.contains.ensures ∙ h))),
+      λ h. c.contains.ensures ∙ (ap (λ (r : SiteSet). has r k) set ∙ both.1 (subst (λ (q : CheckedProgram). ComesBefore q.program k o) (sym v) h)),
     )

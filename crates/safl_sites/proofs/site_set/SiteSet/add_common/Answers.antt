@@ -4,8 +4,8 @@ use Rattle.std.proofs.lemmas.Grind.{get_or-set_at}
 use Rattle.std.proofs.lemmas.List.{get_or-set_other}
 use Rattle.std.specs.Int.{bit_not}
 use Rattle.safl_sites.specs.declared.site_set.SiteSet.{SiteSet}
-use Rattle.safl_sites.specs.Rows.{has, Has, Adds, IsCommon}
-use Rattle.safl_sites.proofs.RowsByWords.{has_common, has_words, has_within}
+use Rattle.safl_sites.specs.SiteSets.{has, Has, Adds, IsCommon}
+use Rattle.safl_sites.proofs.SetsByWords.{has_common, has_words, has_within}
 use Rattle.safl_sites.proofs.site_set.SiteSet.add_common.Goals as goal
 use Rattle.safl_sites.proofs.site_set.SiteSet.add_common.Goals.{then-i-except, else-i-except}
 

@@ -1,5 +1,5 @@
 use Rattle.std.proofs.Common.{arith}
-use Rattle.safl_sites.proofs.RowsByWords.{has-insert}
+use Rattle.safl_sites.proofs.SetsByWords.{has-insert}
 use Rattle.safl_sites.proofs.site_set.SiteSet.insert.Goals as goal
 
 pub returns : goal.returns

@@ -1,11 +1,11 @@
 use Rattle.std.proofs.Common.{◌≡◌, ℕ, ◌+◌, ◌*◌, ◌<◌, ◌≤◌, ◌^◌, List, length, slice_index, sym, ap, ◌∙◌, arith}
 use Rattle.std.proofs.lemmas.List.{get_or_read}
-use Rattle.safl_word.specs.Halves.{joined}
+use Rattle.safl_word.specs.Halves.{joined_halves}
 use Rattle.safl_word.proofs.Joining.{index_past, joined_length, joined_index}
 use Rattle.safl_word.proofs.halves.Numbers.is_one.Goals as goal
 
 -- a number by its halves
-halves : (ls hs ns : List ℕ) (i : ℕ) → joined ls hs ≡ ns → length ls ≡ length hs → i < length ls → slice_index ns i ≡ slice_index ls i + slice_index hs i * 2 ^ 64
+halves : (ls hs ns : List ℕ) (i : ℕ) → joined_halves ls hs ≡ ns → length ls ≡ length hs → i < length ls → slice_index ns i ≡ slice_index ls i + slice_index hs i * 2 ^ 64
 halves ls hs ns i is e h = sym (ap (λ l. slice_index l i) is) ∙ joined_index ls hs i e h
 
 known : (ls hs : List ℕ) (i : ℕ) → length ls ≡ length hs → i < length ls → (i < length ls) × (i < length hs)

@@ -1,5 +1,5 @@
 use Rattle.std.proofs.Common.{◌≡◌, ◌+◌, ◌*◌, ◌^◌, set, ap, ◌∙◌, arith}
-use Rattle.safl_word.specs.Halves.{joined}
+use Rattle.safl_word.specs.Halves.{joined_halves}
 use Rattle.safl_word.proofs.Joining.{places_known, joined_set}
 use Rattle.safl_word.proofs.halves.Numbers.set.Goals as goal
 
@@ -25,4 +25,4 @@ returns c =
     let b = c.high_half.ensures in
     let e : c.low_half.result + c.high_half.result * 2 ^ 64 ≡ x = omega (arith, a, b) in
     joined_set n.low.items n.high.items c.args.i c.low_half.result c.high_half.result c.self.invariant
-    ∙ ap (λ y. set (joined n.low.items n.high.items) c.args.i y) e ∙ ap (λ l. set l c.args.i x) c.self.view_is
+    ∙ ap (λ y. set (joined_halves n.low.items n.high.items) c.args.i y) e ∙ ap (λ l. set l c.args.i x) c.self.view_is

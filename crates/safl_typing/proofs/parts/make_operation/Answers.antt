@@ -1,9 +1,0 @@
-use Rattle.safl_term.proofs.SlotsOfLets.{slots-Op}
-use Rattle.safl_term.proofs.PlainTrees.{shown_term-Op}
-use Rattle.safl_typing.proofs.parts.make_operation.Goals as goal
-
-pub returns-clause-term : goal.returns-clause-term
-returns-clause-term c = shown_term-Op c.args.operator c.args.operands
-
-pub returns-clause-slots : goal.returns-clause-slots
-returns-clause-slots c n h = slots-Op n c.args.operator c.args.operands h
