@@ -1,16 +1,21 @@
 -- Signals that are connected in the order of their wires.
 use Rattle.std.proofs.Common.{◌≡◌, ◌≢◌, ◌⊎◌, inl, inr, ℕ, zero, suc, ◌+◌, ◌*◌, ◌<◌, ◌≤◌, List, [], ◌∷◌, map, length, cond, Option, Some, None}
 use Rattle.std.proofs.Common.{slice_get, slice_index, slice_set, refl, sym, ap, ◌∙◌, subst, arith}
-use Rattle.std.specs.List.{All}
 use Rattle.std.proofs.lemmas.List.{length-set}
 use Rattle.std.proofs.lemmas.List.Elements.{All-nil, All-cons}
+use Rattle.std.proofs.lemmas.Option.{slice_get_within}
+use Rattle.safl_word.specs.Lists.{summed}
+use Rattle.safl_word.proofs.Naturals.{lower_or_last}
+use Rattle.safl_word.proofs.Lists.{summed_more}
 use Rattle.safl_net.specs.declared.cell.SigKind.{SigKind}
 use Rattle.safl_net.specs.declared.cell.Sig.{Sig}
-use Rattle.safl_net.specs.Netlist.{Netlist, Signal, Kind, Input, Reg, Wire, Cell, width_of}
+use Rattle.safl_net.specs.Netlist.{Netlist, Signal, Kind, Input, Reg, Wire, Cell, width_of, is_input, is_register}
 use Rattle.safl_net.specs.Valuations.{Valuation, Fits, Holds, cell_word, signal_word}
 use Rattle.safl_net.specs.Making.{kind_at, kind_in, cell_in, sort_of, widths, numbers}
 use Rattle.safl_net.specs.Rules.{IsNetlist}
+use Rattle.safl_net.proofs.Kinds.{sort_wire_or_not}
 use Rattle.safl_order.specs.Order.{operands_of, operands_in, IsWire, IsOrder}
+use Rattle.safl_order.proofs.Moves.{operand_in, wire_in_net}
 use Rattle.safl_aiger.specs.declared.literal.Lit.{Lit}
 use Rattle.safl_aiger.specs.Literals.{Assignment, shown}
 use Rattle.safl_bits.specs.Gates.{Gates, IsLiteral, AreLiterals, HasRoom, Grows, count}
@@ -18,13 +23,12 @@ use Rattle.safl_bits.specs.Gates.{Holds as Shows}
 use Rattle.safl_bits.proofs.Growing.{holds_before}
 use Rattle.safl_bits.proofs.Places.{literals_kept}
 use Rattle.safl_aig.specs.declared.table.Pins.{Pins}
-use Rattle.safl_aig.specs.Bits.{summed, is_input, is_register}
 use Rattle.safl_aig.specs.Weights.{op_weight, signal_weight, kind_weight, weight}
 use Rattle.safl_aig.specs.Tables.{lits_at, Ready, Agrees, variable_lits, width_if, bits_before, input_count, first_and, kind_lits, source_lits, CellMade, RoomFor, GrowsFor}
 use Rattle.safl_aig.specs.Wiring.{OperandsReady, SourcesAgree, WireMade, Connected}
 use Rattle.safl_aig.proofs.Nets.{cell_at}
 use Rattle.safl_aig.proofs.Cells.{sig}
-use Rattle.safl_aig.proofs.Sources.{variable_long, bits_step, lower_or_last, summed_more}
+use Rattle.safl_aig.proofs.Sources.{variable_long, bits_step}
 use Rattle.safl_aig.proofs.Ordering.{ordered_weight, ordered_light, get_index}
 
 -- ---- wires and their cells
@@ -62,32 +66,7 @@ module _ (n : Netlist) (s : ℕ) (d : Cell) (made : IsNetlist n) (e : cell_in (k
   }
 
 pub wire_or_not : (n : Netlist) (s : ℕ) → IsWire n s ⊎ (¬ (IsWire n s))
-wire_or_not n s = by (kind_at n s)
-  where
-    by : (k : Kind) → (sort_of k ≡ SigKind.Wire) ⊎ (¬ (sort_of k ≡ SigKind.Wire))
-    by Input = inr (λ e. cc)
-    by (Reg init next) = inr (λ e. cc)
-    by (Wire cell) = inl refl
-
-pub wire_known : (n : Netlist) (s : ℕ) → IsWire n s → s < length n.signals
-wire_known n s h = at n.signals s h
-  where
-    at : (gs : List Signal) (k : ℕ) → sort_of (kind_in (slice_get gs k)) ≡ SigKind.Wire → k < length gs
-    at [] k e = absurd (cc)
-    at (g ∷ gs) zero e = omega arith
-    at (g ∷ gs) (suc k) e = let r = at gs k e in omega (arith, r)
-
-pub operand_of_known : (n : Netlist) (s k t : ℕ) → IsNetlist n → slice_get (operands_of n s) k ≡ Some t → t < length n.signals
-operand_of_known n s k t made e = by (cell_in (kind_at n s)) refl e
-  where
-    at : (ts : List ℕ) (k : ℕ) → All (λ x. x < length n.signals) ts → slice_get ts k ≡ Some t → t < length n.signals
-    at [] k h q = absurd (cc)
-    at (x ∷ ts) zero h q = let z : x ≡ t = cc in subst (λ y. y < length n.signals) z (h 0 x (omega arith))
-    at (x ∷ ts) (suc k) h q = at ts k (λ i d l. h (suc i) d (omega (arith, l))) q
-
-    by : (o : Option Cell) → cell_in (kind_at n s) ≡ o → slice_get (operands_in o) k ≡ Some t → t < length n.signals
-    by None q h = absurd (cc)
-    by (Some d) q h = at d.operands k (cell_at n made s d q).known h
+wire_or_not n s = sort_wire_or_not (kind_at n s)
 
 -- ---- inputs and registers
 
@@ -181,7 +160,7 @@ module _ (n : Netlist) (ws : List ℕ) (g : Gates) (table : List Pins) (i s : �
   operand_ready : (k t : ℕ) → slice_get (operands_of n s) k ≡ Some t → Ready n g table t
   operand_ready k t e = elim (wire_or_not n t) [
     | inl w ↦ let b = order.before i s k t here e w in old.ready b.0 t b.1 b.2
-    | inr w ↦ let l = operand_of_known n s k t made e in source_ready n g table t old.first l w (old.sources t l w)
+    | inr w ↦ let l = operand_in n s k t made e in source_ready n g table t old.first l w (old.sources t l w)
   ]
 
   pub operands_ready : OperandsReady n g table s
@@ -189,7 +168,7 @@ module _ (n : Netlist) (ws : List ℕ) (g : Gates) (table : List Pins) (i s : �
 
   pub wire_room : i < length ws → weight n ≤ 1000000 → HasRoom g (16 * signal_weight n s)
   wire_room l h =
-      let e = ordered_light n ws (i + 1) (omega (arith, l)) (λ j t q. wire_known n t (order.wires j t q)) order.once in
+      let e = ordered_light n ws (i + 1) (omega (arith, l)) (λ j t q. wire_in_net n t (order.wires j t q)) order.once in
       let f = summed_more (λ j. signal_weight n (slice_index ws j)) i in
       let q : slice_index ws i ≡ s = let z = get_index ws i l in cc in
       let r : signal_weight n (slice_index ws i) ≡ signal_weight n s = ap (signal_weight n) q in
@@ -199,7 +178,7 @@ module _ (n : Netlist) (ws : List ℕ) (g : Gates) (table : List Pins) (i s : �
   pub underway_step : (new : Gates) (p : Pins) → i < length ws → Grows g new (16 * signal_weight n s) → WireMade n new table s p.bits.items → Underway n ws new (slice_set table s p) (i + 1)
   underway_step new p l b w =
       let is_wire = order.wires i s here in
-      let inside : s < length table = let k = wire_known n s is_wire in omega (arith, k, old.long) in
+      let inside : s < length table = let k = wire_in_net n s is_wire in omega (arith, k, old.long) in
       let apart : (t : ℕ) → ¬ (IsWire n t) → t ≢ s = λ t h q. h (subst (λ x. IsWire n x) (sym q) is_wire) in
       let before : (k t : ℕ) → k < i → slice_get ws k ≡ Some t → t ≢ s = λ k t h e q. let z = order.once k i s (e ∙ ap (λ x. Some x) q) here in omega (arith, z, h) in
       let same : (k t : ℕ) → k ≡ i → slice_get ws k ≡ Some t → t ≡ s = λ k t q e. let z : Some t ≡ Some s = sym e ∙ ap (slice_get ws) q ∙ here in cc in
@@ -232,7 +211,7 @@ module _ (n : Netlist) (ws : List ℕ) (g : Gates) (table : List Pins) (i s : �
                   ap (shown m) r
                   ∙ w.value m state v o f (λ j x y. elim (wire_or_not n x) [
                     | inl z ↦ let c = order.before i s j x here y z in old.agrees m state v o' f a' c.0 x c.1 c.2
-                    | inr z ↦ a' x (operand_of_known n s j x made y) z
+                    | inr z ↦ a' x (operand_in n s j x made y) z
                   ])
                   ∙ ap (slice_index v) (sym q)
             ];
@@ -241,29 +220,20 @@ module _ (n : Netlist) (ws : List ℕ) (g : Gates) (table : List Pins) (i s : �
 pub underway_end : (n : Netlist) (ws : List ℕ) (g : Gates) (table : List Pins) (i : ℕ) → IsOrder n ws → i ≡ length ws → Underway n ws g table i → Connected n g table
 underway_end n ws g table i order e h = record {
   first = h.first;
-  few = (let z = ordered_light n ws i (omega (arith, e)) (λ j t q. wire_known n t (order.wires j t q)) order.once in let f = h.few in omega (arith, z, f));
+  few = (let z = ordered_light n ws i (omega (arith, e)) (λ j t q. wire_in_net n t (order.wires j t q)) order.once in let f = h.few in omega (arith, z, f));
   long = h.long;
   ready = λ s l. elim (wire_or_not n s) [
-    | inl w ↦ let a = order.all s w in h.ready a.0 s (subst (λ k. a.0 < k) (sym e) (below ws a.0 s a.1)) a.1
+    | inl w ↦ let a = order.all s w in h.ready a.0 s (subst (λ k. a.0 < k) (sym e) (slice_get_within ws a.0 s a.1)) a.1
     | inr w ↦ source_ready n g table s h.first l w (h.sources s l w)
   ];
   sources = h.sources;
   agrees = λ m state v o f a s l. elim (wire_or_not n s) [
-    | inl w ↦ let b = order.all s w in h.agrees m state v o f a b.0 s (subst (λ k. b.0 < k) (sym e) (below ws b.0 s b.1)) b.1
+    | inl w ↦ let b = order.all s w in h.agrees m state v o f a b.0 s (subst (λ k. b.0 < k) (sym e) (slice_get_within ws b.0 s b.1)) b.1
     | inr w ↦ a s l w
   ];
 }
-  where
-    below : (xs : List ℕ) (k x : ℕ) → slice_get xs k ≡ Some x → k < length xs
-    below [] k x q = absurd (cc)
-    below (y ∷ xs) zero x q = omega arith
-    below (y ∷ xs) (suc k) x q = let r = below xs k x q in omega (arith, r)
 
 pub numbers_at : (xs : List Sig) (i : ℕ) → i < length xs → slice_get (numbers xs) i ≡ Some (sig xs i).0
 numbers_at [] i h = absurd (omega (arith, h))
 numbers_at (x ∷ xs) zero h = refl
 numbers_at (x ∷ xs) (suc i) h = numbers_at xs i (omega (arith, h))
-
-pub numbers_long : (xs : List Sig) → length (numbers xs) ≡ length xs
-numbers_long [] = refl
-numbers_long (x ∷ xs) = ap suc (numbers_long xs)

@@ -1,7 +1,9 @@
 -- Lists that are gathered by number.
-use Rattle.std.proofs.Common.{◌≡◌, ◌⊎◌, inl, inr, ℕ, zero, suc, ◌+◌, ◌<◌, List, ◌++◌, map, length, take, drop, refl, sym, ap, ◌∙◌, arith, length-append}
-use Rattle.std.proofs.lemmas.List.{map-append, take_at, drop_at}
-use Rattle.safl_aig.specs.Bits.{gathered, summed}
+use Rattle.std.proofs.Common.{◌≡◌, ◌⊎◌, inl, inr, ℕ, zero, suc, ◌+◌, ◌<◌, List, ◌++◌, map, length, refl, sym, ap, ◌∙◌, arith, length-append}
+use Rattle.std.proofs.lemmas.List.{map-append}
+use Rattle.safl_word.specs.Lists.{summed}
+use Rattle.safl_word.proofs.Lists.{append_parts}
+use Rattle.safl_aig.specs.Bits.{gathered}
 
 pub gathered_same : {A : Type 0} (f g : ℕ → List A) (k : ℕ) → ((s : ℕ) → s < k → f s ≡ g s) → gathered f k ≡ gathered g k
 gathered_same f g zero h = refl
@@ -19,19 +21,12 @@ pub summed_same : (f g : ℕ → ℕ) (k : ℕ) → ((s : ℕ) → s < k → f s
 summed_same f g zero h = refl
 summed_same f g (suc k) h = λ i. summed_same f g k (λ s l. h s (omega (arith, l))) i + h k (omega arith) i
 
--- two lists that are equal, and whose first parts are equally long, have equal parts
-parts : {A : Type 0} (xs ys us vs : List A) → length xs ≡ length us → xs ++ ys ≡ us ++ vs → (xs ≡ us) × (ys ≡ vs)
-parts xs ys us vs l e = (
-  sym (take_at xs ys (length xs) refl) ∙ ap (take (length xs)) e ∙ take_at us vs (length xs) (sym l),
-  sym (drop_at xs ys (length xs) refl) ∙ ap (drop (length xs)) e ∙ drop_at us vs (length xs) (sym l),
-)
-
 pub gathered_split : {A : Type 0} (f g : ℕ → List A) (k : ℕ) → ((s : ℕ) → s < k → length (f s) ≡ length (g s)) → gathered f k ≡ gathered g k → (s : ℕ) → s < k → f s ≡ g s
 gathered_split f g zero h e s l = absurd (omega (arith, l))
 gathered_split f g (suc k) h e s l =
     let below = λ (t : ℕ) (u : t < k). h t (omega (arith, u)) in
     let long = gathered_long f k ∙ summed_same (λ t. length (f t)) (λ t. length (g t)) k below ∙ sym (gathered_long g k) in
-    let p = parts (gathered f k) (f k) (gathered g k) (g k) long e in
+    let p = append_parts (gathered f k) (f k) (gathered g k) (g k) long e in
     elim (last s k l) [ inl u ↦ gathered_split f g k below p.0 s u | inr u ↦ ap f u ∙ p.1 ∙ sym (ap g u) ]
   where
     last : (s k : ℕ) → s < suc k → (s < k) ⊎ (s ≡ k)

@@ -1,20 +1,23 @@
 -- The parts of a net's circuit make one.
 use Rattle.std.proofs.Common.{◌≡◌, ◌≢◌, ℕ, zero, suc, ◌+◌, ◌*◌, ◌%◌, ◌<◌, ◌≤◌, ◌^◌, List, [], ◌∷◌, ◌++◌, length, Bool, true, false, cond, not, ◌&&◌}
-use Rattle.std.proofs.Common.{◌||◌, ◌==◌, nat_le, Option, Some, None, slice_get, decimal, refl, sym, ap, ◌∙◌, subst, arith}
+use Rattle.std.proofs.Common.{nat_le, Option, Some, None, slice_get, decimal, refl, sym, ap, ◌∙◌, subst, arith}
 use Rattle.std.specs.List.{All}
 use Rattle.std.proofs.lemmas.List.{length-map, length_push}
 use Rattle.std.proofs.lemmas.List.Elements.{All-nil, All-cons, All-append, All-push, All-same, All-weaker}
 use Rattle.std.proofs.lemmas.Fmt.{decimal_by_steps}
-use Rattle.safl_net.specs.Netlist.{Netlist, Signal, AllSet, Kind, width_of}
+use Rattle.std.proofs.lemmas.Bool.{and_parts}
+use Rattle.safl_word.specs.Lists.{summed}
+use Rattle.safl_net.specs.Netlist.{Netlist, Signal, AllSet, Kind, width_of, is_input, is_register}
 use Rattle.safl_net.specs.Making.{kind_at, name_at, name_in}
 use Rattle.safl_net.specs.Names.{is_start, is_part, are_parts, is_identifier, is_good, is_reserved}
 use Rattle.safl_net.specs.Rules.{IsNetlist}
+use Rattle.safl_net.proofs.Kinds.{start_part}
 use Rattle.safl_aiger.specs.declared.literal.Lit.{Lit}
 use Rattle.safl_aiger.specs.declared.circuit.Names.{Names}
 use Rattle.safl_aiger.specs.Circuits.{Circuit, circuit_of, names_of, variables, base, IsLine, AreBelow, IsCircuit}
 use Rattle.safl_bits.specs.Gates.{Gates, IsGates, IsLiteral, count}
 use Rattle.safl_aig.specs.declared.table.Pins.{Pins}
-use Rattle.safl_aig.specs.Bits.{gathered, summed, of_kind, is_input, is_register, for_inputs, for_registers, output_at}
+use Rattle.safl_aig.specs.Bits.{gathered, of_kind, for_inputs, for_registers, output_at}
 use Rattle.safl_aig.specs.Weights.{weight, output_weight}
 use Rattle.safl_aig.specs.Tables.{lits_at, width_if, bits_before, input_count, latch_count}
 use Rattle.safl_aig.specs.Wiring.{Connected}
@@ -29,27 +32,20 @@ use Rattle.safl_aig.proofs.Mirroring.{next_fits, nexts_long}
 abbrev IsCode : ℕ → Type 0
 IsCode c = c ≢ 10
 
-both_true : (a b : Bool) → (a && b) ≡ true → (a ≡ true) × (b ≡ true)
-both_true true b e = (refl, e)
-both_true false b e = absurd (cc)
-
 part_code : (c : ℕ) → is_part c ≡ true → IsCode c
 part_code c e = λ z. let t = ap is_part z in cc
 
-start_part : (c : ℕ) → is_start c ≡ true → is_part c ≡ true
-start_part c e = ap (λ (b : Bool). (b || (nat_le 48 c && nat_le c 57)) || (c == 36)) e
-
 parts_line : (cs : List ℕ) → are_parts cs ≡ true → IsLine cs
 parts_line [] e = All-nil IsCode
-parts_line (c ∷ cs) e = let p = both_true (is_part c) (are_parts cs) e in All-cons IsCode c cs (part_code c p.0) (parts_line cs p.1)
+parts_line (c ∷ cs) e = let p = and_parts (is_part c) (are_parts cs) e in All-cons IsCode c cs (part_code c p.0) (parts_line cs p.1)
 
 identifier_line : (cs : List ℕ) → is_identifier cs ≡ true → IsLine cs
 identifier_line [] e = absurd (cc)
-identifier_line (c ∷ cs) e = let p = both_true (is_start c) (are_parts cs) e in All-cons IsCode c cs (part_code c (start_part c p.0)) (parts_line cs p.1)
+identifier_line (c ∷ cs) e = let p = and_parts (is_start c) (are_parts cs) e in All-cons IsCode c cs (part_code c (start_part c p.0)) (parts_line cs p.1)
 
 good_line : (cs : List ℕ) → is_good cs ≡ true → IsLine cs
 unfolding is_good
-good_line cs e = identifier_line cs (both_true (is_identifier cs) (nat_le (length cs) 200) (both_true (is_identifier cs && nat_le (length cs) 200) (not (is_reserved cs)) e).0).0
+good_line cs e = identifier_line cs (and_parts (is_identifier cs) (nat_le (length cs) 200) (and_parts (is_identifier cs && nat_le (length cs) 200) (not (is_reserved cs)) e).0).0
 
 digit_code : (d : ℕ) → d < 10 → IsCode (48 + d)
 digit_code d h = λ e. omega (arith, e)

@@ -1,5 +1,6 @@
 -- What nets hold.
 use Rattle.std.proofs.Common.{◌≡◌, ◌≢◌, ℕ, zero, suc, ◌<◌, ◌≤◌, List, [], ◌∷◌, length, Option, Some, None, option_map, slice_get, refl, ap, subst, arith}
+use Rattle.std.proofs.lemmas.Option.{slice_get_past}
 use Rattle.safl_net.specs.Netlist.{Netlist, Signal, Kind, Input, Reg, Wire, Cell, width_in, width_of}
 use Rattle.safl_net.specs.Making.{kind_at, kind_in, cell_in}
 use Rattle.safl_net.specs.Rules.{IsNetlist, KindFits, CellFits}
@@ -41,12 +42,7 @@ output_known n made i l = by (slice_get n.outputs i) refl
 
 -- past the signals nothing resets
 pub past_reset : (n : Netlist) (s : ℕ) → length n.signals ≤ s → reset_state n s ≡ 0
-past_reset n s h = ap reset_number (past n.signals s h)
-  where
-    past : {A : Type 0} (xs : List A) (k : ℕ) → length xs ≤ k → slice_get xs k ≡ None
-    past [] k h = refl
-    past (x ∷ xs) zero h = absurd (omega (arith, h))
-    past (x ∷ xs) (suc k) h = past xs k (omega (arith, h))
+past_reset n s h = ap reset_number (slice_get_past n.signals s h)
 
 -- an output's signal, as a net tells it
 pub output_is : (n : Netlist) (i s : ℕ) → Some s ≡ option_map (λ (o : List ℕ × ℕ). o.1) (slice_get n.outputs i) → s ≡ output_at n i

@@ -1,14 +1,15 @@
 -- What mirrors each cycle mirrors runs.
 use Rattle.std.proofs.Common.{◌≡◌, ℕ, zero, suc, ◌+◌, List, [], ◌∷◌, ◌++◌, map, length, Bool, true, false, cond, Option, Some, None, slice_get, slice_index, refl, sym, ap, ◌∙◌, arith, length-append}
 use Rattle.std.specs.List.{AllZip}
-use Rattle.safl_net.specs.Netlist.{Netlist, Signal, Kind, Input, Reg, Wire, width_of}
+use Rattle.safl_net.specs.Netlist.{Netlist, Signal, Kind, Input, Reg, Wire, width_of, is_register}
 use Rattle.safl_net.specs.Making.{kind_at, kind_in}
 use Rattle.safl_net.specs.Valuations.{Valuation, Fits, Holds, reset_state, next_state}
 use Rattle.safl_aiger.specs.Literals.{Assignment, bits_of}
 use Rattle.safl_aiger.specs.Circuits.{Circuit, latches}
 use Rattle.safl_aiger.specs.Runs.{RunsFrom, all_false, next_bits}
 use Rattle.safl_aiger.specs.Runs.{Fits as Suits}
-use Rattle.safl_aig.specs.Bits.{gathered, of_kind, is_register, for_registers, signal_bits}
+use Rattle.safl_aiger.proofs.Evaluating.{false_long}
+use Rattle.safl_aig.specs.Bits.{gathered, of_kind, for_registers, signal_bits}
 use Rattle.safl_aig.specs.Mirrors.{Mirrors, SameBits, EqualBits, RunsOn, given_bits}
 use Rattle.safl_aig.proofs.Gathering.{gathered_same}
 
@@ -33,10 +34,6 @@ no_bits (suc w) = ap (λ l. false ∷ l) (no_bits w)
 false-append : (a b : ℕ) → all_false a ++ all_false b ≡ all_false (a + b)
 false-append zero b = ap all_false (let z : b ≡ 0 + b = omega arith in z)
 false-append (suc a) b = ap (λ l. false ∷ l) (false-append a b) ∙ ap all_false (let z : suc (a + b) ≡ suc a + b = omega arith in z)
-
-false_long : (w : ℕ) → length (all_false w) ≡ w
-false_long zero = refl
-false_long (suc w) = ap suc (false_long w)
 
 -- where all registers are 0, their bits are
 zeros : (n : Netlist) (f : ℕ → ℕ) → ((s : ℕ) → f s ≡ 0) → (k : ℕ) → gathered (of_kind is_register n (signal_bits n f)) k ≡ all_false (length (gathered (of_kind is_register n (signal_bits n f)) k))

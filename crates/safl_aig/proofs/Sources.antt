@@ -1,11 +1,13 @@
 -- The variables of inputs and registers.
-use Rattle.std.proofs.Common.{◌≡◌, ◌⊎◌, inl, inr, ℕ, zero, suc, ◌+◌, ◌*◌, ◌<◌, ◌≤◌, List, [], ◌∷◌, ◌++◌, length, Bool, refl, sym, ap, ◌∙◌, subst, arith, add-one}
+use Rattle.std.proofs.Common.{◌≡◌, ◌⊎◌, inl, inr, ℕ, zero, suc, ◌+◌, ◌*◌, ◌<◌, ◌≤◌, List, [], ◌∷◌, ◌++◌, length, Bool, refl, sym, ap, ◌∙◌, subst, arith}
+use Rattle.safl_word.specs.Lists.{summed}
+use Rattle.safl_word.proofs.Naturals.{lower_or_last}
+use Rattle.safl_word.proofs.Lists.{summed_more}
 use Rattle.safl_net.specs.Netlist.{Netlist, Kind}
 use Rattle.safl_aiger.specs.Literals.{Assignment, values}
 use Rattle.safl_aiger.specs.Runs.{variable_bits}
 use Rattle.safl_bits.proofs.Growing.{even_on}
 use Rattle.safl_aig.specs.declared.table.Pins.{Pins}
-use Rattle.safl_aig.specs.Bits.{summed}
 use Rattle.safl_aig.specs.Tables.{lits_at, variable_lits, width_if, bits_before, source_lits}
 
 pub variable_push : (first k : ℕ) → variable_lits first (k + 1) ≡ variable_lits first k ++ record { 0 = 2 * (first + k) } ∷ []
@@ -28,9 +30,6 @@ variable_long first (suc k) = ap suc (variable_long (suc first) k)
 pub variable_values : (m : Assignment) (first k : ℕ) → values m (variable_lits first k) ≡ variable_bits m first k
 variable_values m first zero = refl
 variable_values m first (suc k) = λ i. even_on m first i ∷ variable_values m (suc first) k i
-
-pub summed_more : (f : ℕ → ℕ) (k : ℕ) → summed f (k + 1) ≡ summed f k + f k
-summed_more f k = ap (summed f) (add-one k)
 
 pub summed_le : (f : ℕ → ℕ) (k n : ℕ) → k ≤ n → summed f k ≤ summed f n
 summed_le f k zero h = subst (λ j. summed f j ≤ 0) (let z : 0 ≡ k = omega (arith, h) in z) (omega arith)
@@ -57,12 +56,6 @@ push_old (q ∷ table) p (suc s) h = push_old table p s (omega (arith, h))
 pub push_new : (table : List Pins) (p : Pins) → lits_at (table ++ p ∷ []) (length table) ≡ p.bits.items
 push_new [] p = refl
 push_new (q ∷ table) p = push_new table p
-
-pub lower_or_last : (s k : ℕ) → s < k + 1 → (s < k) ⊎ (s ≡ k)
-lower_or_last zero zero h = inr refl
-lower_or_last zero (suc k) h = inl (omega arith)
-lower_or_last (suc s) zero h = absurd (omega (arith, h))
-lower_or_last (suc s) (suc k) h = elim (lower_or_last s k (omega (arith, h))) [ inl u ↦ inl (omega (arith, u)) | inr u ↦ inr (ap suc u) ]
 
 pub pushed_lits : (n : Netlist) (table new : List Pins) (p : Pins) (i : ℕ) → length table ≡ i → new ≡ table ++ p ∷ [] →
     ((s : ℕ) → s < i → lits_at table s ≡ source_lits n s) → p.bits.items ≡ source_lits n i → (s : ℕ) → s < i + 1 → lits_at new s ≡ source_lits n s

@@ -1,33 +1,13 @@
 -- The bits of signals, in the order of the net.
-use Rattle.std.specs.Prelude.{ℕ, zero, suc, ◌+◌, List, [], ◌++◌, length, Bool, true, false, cond, Option, Some, None, slice_get}
-use Rattle.safl_net.specs.Netlist.{Netlist, Kind, Input, Reg, Wire, width_of}
+use Rattle.std.specs.Prelude.{ℕ, zero, suc, List, [], ◌++◌, length, Bool, cond, Option, Some, None, slice_get}
+use Rattle.safl_net.specs.Netlist.{Netlist, Kind, width_of, is_input, is_register}
 use Rattle.safl_net.specs.Making.{kind_at}
 use Rattle.safl_aiger.specs.Literals.{bits_of}
-
-abbrev pub is_input : Kind → Bool
-is_input Input = true
-is_input (Reg init next) = false
-is_input (Wire cell) = false
-
-abbrev pub is_register : Kind → Bool
-is_register Input = false
-is_register (Reg init next) = true
-is_register (Wire cell) = false
-
-abbrev pub is_wire : Kind → Bool
-is_wire Input = false
-is_wire (Reg init next) = false
-is_wire (Wire cell) = true
 
 -- the lists of the numbers below n, joined in order
 abbrev pub gathered : {A : Type 0} → (ℕ → List A) → ℕ → List A
 gathered f zero = []
 gathered f (suc k) = gathered f k ++ f k
-
--- the sum of f over the numbers below n
-abbrev pub summed : (ℕ → ℕ) → ℕ → ℕ
-summed f zero = 0
-summed f (suc k) = summed f k + f k
 
 -- the list for a signal of a kind, empty for signals of other kinds
 abbrev pub of_kind : {A : Type 0} → (Kind → Bool) → Netlist → (ℕ → List A) → ℕ → List A

@@ -1,7 +1,8 @@
 -- Tables with the literals of each signal.
 use Rattle.std.specs.Prelude.{◌≡◌, ℕ, zero, suc, ◌+◌, ◌*◌, List, map, [], ◌∷◌, length, Option, Some, None, Bool, cond, slice_get}
 use Rattle.safl_word.specs.Words.{Word}
-use Rattle.safl_net.specs.Netlist.{Netlist, Kind, Input, Reg, Wire, Cell, width_of}
+use Rattle.safl_word.specs.Lists.{summed}
+use Rattle.safl_net.specs.Netlist.{Netlist, Kind, Input, Reg, Wire, Cell, width_of, is_input, is_register, is_wire}
 use Rattle.safl_net.specs.Valuations.{cell_word}
 use Rattle.safl_net.specs.Rules.{CellFits}
 use Rattle.safl_net.specs.Widths.{op_width}
@@ -15,7 +16,6 @@ use Rattle.safl_aiger.specs.Literals.{Assignment, shown}
 use Rattle.safl_bits.specs.Gates.{Gates, AreLiterals, HasRoom, Grows, Holds}
 use Rattle.safl_aig.specs.declared.table.Pins.{Pins}
 use Rattle.safl_aig.specs.Weights.{op_weight}
-use Rattle.safl_aig.specs.Bits.{is_input, is_register, is_wire, summed}
 
 abbrev pub lits_in : Option Pins → List Lit
 lits_in None = []

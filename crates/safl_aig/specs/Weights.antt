@@ -1,12 +1,13 @@
 -- The weight of a net.
 use Rattle.std.specs.Prelude.{◌≡◌, ℕ, ◌≢◌, ◌+◌, ◌<◌, List, ◌∷◌, length, Some, None}
+use Rattle.safl_word.specs.Lists.{summed}
 use Rattle.safl_net.specs.declared.cell.Op.{Op}
 use Rattle.safl_net.specs.declared.cell.Op.TheVariants.{Const, Copy, Mux, Apply}
 use Rattle.safl_net.specs.Netlist.{Netlist, Kind, Input, Reg, Wire, width_of}
 use Rattle.safl_net.specs.Making.{kind_at, widths}
 use Rattle.safl_net.specs.Valuations.{reset_state}
 use Rattle.safl_bits.specs.Weights.{greatest, apply_weight}
-use Rattle.safl_aig.specs.Bits.{summed, output_at}
+use Rattle.safl_aig.specs.Bits.{output_at}
 
 -- the weight of an operation, by the width of its result and those of its operands
 abbrev pub op_weight : Op → ℕ → List ℕ → ℕ

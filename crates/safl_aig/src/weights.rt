@@ -7,7 +7,7 @@ ghost use Rattle.safl_net.specs.Making.{widths, numbers};
 ghost use Rattle.safl_net.specs.Rules.{IsNetlist, CellFits};
 ghost use Rattle.safl_net.specs.Stored.{cell_of};
 ghost use Rattle.safl_bits.specs.Weights.{greatest, second, apply_weight};
-ghost use Rattle.safl_aig.specs.Bits.{summed};
+ghost use Rattle.safl_word.specs.Lists.{summed};
 ghost use Rattle.safl_aig.specs.Weights.{op_weight, signal_weight, output_weight, weight, AllZero, IsLeastNonzero, IsNonzero};
 
 use safl_net::{Cell, Net, Op, Sig, SigKind};

@@ -2,7 +2,7 @@
 use Rattle.std.proofs.Common.{◌≡◌, ◌≢◌, ℕ, zero, suc, ◌+◌, ◌-◌, ◌^◌, ◌<◌, ◌≤◌, ◌==◌, List, [], ◌∷◌, ◌++◌, length, take, drop, get_or, slice_get, Some}
 use Rattle.std.proofs.Common.{Bool, true, false, cond, refl, sym, ap, ◌∙◌, subst, arith}
 use Rattle.std.proofs.lemmas.List.{take-append-drop, drop-drop, drop_more, take_more, get_or-drop, drop_all, length-drop, take_all}
-use Rattle.std.proofs.lemmas.Bool.Decides.{nat_tests}
+use Rattle.std.proofs.lemmas.Bool.{ne_eqb}
 use Rattle.safl_aiger.specs.Lines.{grown, lines, fields, AreDecimals, HasCount}
 use Rattle.safl_word.specs.Numerals.{IsBounded}
 
@@ -15,24 +15,21 @@ pub free_push : (c : ℕ) (xs : List ℕ) (x : ℕ) → Free c xs → x ≢ c �
 free_push c [] x h e = (e, tt)
 free_push c (y ∷ xs) x h e = (h.0, free_push c xs x h.1 e)
 
-differs : (x c : ℕ) → x ≢ c → (x == c) ≡ false
-differs x c h = grind (arith, nat_tests)
-
 pub lines_feed : (w t : List ℕ) → Free 10 w → lines (w ++ 10 ∷ t) ≡ w ∷ lines t
 lines_feed [] t h = refl
-lines_feed (x ∷ w) t h = ap (λ b. cond b ([] ∷ lines (w ++ 10 ∷ t)) (grown x (lines (w ++ 10 ∷ t)))) (differs x 10 h.0) ∙ ap (grown x) (lines_feed w t h.1)
+lines_feed (x ∷ w) t h = ap (λ b. cond b ([] ∷ lines (w ++ 10 ∷ t)) (grown x (lines (w ++ 10 ∷ t)))) (ne_eqb x 10 h.0) ∙ ap (grown x) (lines_feed w t h.1)
 
 pub lines_last : (x : ℕ) (w : List ℕ) → Free 10 (x ∷ w) → lines (x ∷ w) ≡ (x ∷ w) ∷ []
-lines_last x [] h = ap (λ b. cond b ([] ∷ []) ((x ∷ []) ∷ [])) (differs x 10 h.0)
-lines_last x (y ∷ w) h = ap (λ b. cond b ([] ∷ lines (y ∷ w)) (grown x (lines (y ∷ w)))) (differs x 10 h.0) ∙ ap (grown x) (lines_last y w h.1)
+lines_last x [] h = ap (λ b. cond b ([] ∷ []) ((x ∷ []) ∷ [])) (ne_eqb x 10 h.0)
+lines_last x (y ∷ w) h = ap (λ b. cond b ([] ∷ lines (y ∷ w)) (grown x (lines (y ∷ w)))) (ne_eqb x 10 h.0) ∙ ap (grown x) (lines_last y w h.1)
 
 pub fields_space : (w t : List ℕ) → Free 32 w → fields (w ++ 32 ∷ t) ≡ w ∷ fields t
 fields_space [] t h = refl
-fields_space (x ∷ w) t h = ap (λ b. cond b ([] ∷ fields (w ++ 32 ∷ t)) (grown x (fields (w ++ 32 ∷ t)))) (differs x 32 h.0) ∙ ap (grown x) (fields_space w t h.1)
+fields_space (x ∷ w) t h = ap (λ b. cond b ([] ∷ fields (w ++ 32 ∷ t)) (grown x (fields (w ++ 32 ∷ t)))) (ne_eqb x 32 h.0) ∙ ap (grown x) (fields_space w t h.1)
 
 pub fields_last : (w : List ℕ) → Free 32 w → fields w ≡ w ∷ []
 fields_last [] h = refl
-fields_last (x ∷ w) h = ap (λ b. cond b ([] ∷ fields w) (grown x (fields w))) (differs x 32 h.0) ∙ ap (grown x) (fields_last w h.1)
+fields_last (x ∷ w) h = ap (λ b. cond b ([] ∷ fields w) (grown x (fields w))) (ne_eqb x 32 h.0) ∙ ap (grown x) (fields_last w h.1)
 
 -- one more byte is looked at
 pub free_more : (c : ℕ) (text : List ℕ) (at end d : ℕ) → at ≤ end → end < length text → Free c (take (end - at) (drop at text)) → get_or text end d ≢ c → Free c (take (end + 1 - at) (drop at text))

@@ -2,7 +2,9 @@
 use Rattle.std.proofs.Common.{◌≡◌, ◌≢◌, ◌⊎◌, ℕ, zero, suc, ◌+◌, ◌*◌, ◌^◌, ◌<◌, ◌≤◌, List, [], ◌∷◌, ◌++◌, length, replicate, slice_get, Some, decimal}
 use Rattle.std.proofs.Common.{codes, Bool, true, false, inl, inr, refl, sym, ap, ◌∙◌, subst, arith}
 use Rattle.std.specs.List.{list_all}
+use Rattle.std.proofs.lemmas.List.{append_cancel_left}
 use Rattle.safl_word.specs.Numerals.{is_digit, value, IsBounded}
+use Rattle.safl_word.proofs.Naturals.{le_or_more}
 use Rattle.safl_aiger.specs.declared.literal.Lit.{Lit}
 use Rattle.safl_aiger.specs.declared.reading.AigRule.{AigRule}
 use Rattle.safl_aiger.specs.declared.reading.AigRule.TheVariants.{B01, B02, B03, B04}
@@ -31,17 +33,8 @@ decide_true : (b : Bool) → Decided (b ≡ true)
 decide_true true = inl refl
 decide_true false = inr (λ e. cc)
 
-decide_le : (m n : ℕ) → (m ≤ n) ⊎ (n < m)
-decide_le zero n = inl (omega arith)
-decide_le (suc m) zero = inr (omega arith)
-decide_le (suc m) (suc n) = by (decide_le m n)
-  where
-    by : (m ≤ n) ⊎ (n < m) → (suc m ≤ suc n) ⊎ (suc n < suc m)
-    by (inl h) = inl (omega (arith, h))
-    by (inr h) = inr (omega (arith, h))
-
 decide_eq : (m n : ℕ) → Decided (m ≡ n)
-decide_eq m n = by (decide_le m n) (decide_le n m)
+decide_eq m n = by (le_or_more m n) (le_or_more n m)
   where
     by : (m ≤ n) ⊎ (n < m) → (n ≤ m) ⊎ (m < n) → Decided (m ≡ n)
     by (inl a) (inl b) = inl (omega (arith, a, b))
@@ -60,7 +53,7 @@ decide_list (x ∷ xs) (y ∷ ys) = by (decide_eq x y) (decide_list xs ys)
     by (inr a) b = inr (λ e. a (let z : x ≡ y = cc in z))
 
 decide_bounded : (w : List ℕ) → Decided (IsBounded 10 10 (2 ^ 31) w)
-decide_bounded w = by (decide_le 1 (length w)) (decide_true (list_all (is_digit 10) w)) (decide_le (length w) 10) (decide_le (suc (value 10 w)) (2 ^ 31))
+decide_bounded w = by (le_or_more 1 (length w)) (decide_true (list_all (is_digit 10) w)) (le_or_more (length w) 10) (le_or_more (suc (value 10 w)) (2 ^ 31))
   where
     by : (1 ≤ length w) ⊎ (length w < 1) → Decided (list_all (is_digit 10) w ≡ true) → (length w ≤ 10) ⊎ (10 < length w) → (suc (value 10 w) ≤ 2 ^ 31)
         ⊎ (2 ^ 31 < suc (value 10 w)) → Decided (IsBounded 10 10 (2 ^ 31) w)
@@ -98,14 +91,14 @@ both A B (inl a) (inr b) = inr (λ h. b h.1)
 both A B (inr a) b = inr (λ h. a h.0)
 
 decide_low : (m n : ℕ) → Decided (m ≤ n)
-decide_low m n = by (decide_le m n)
+decide_low m n = by (le_or_more m n)
   where
     by : (m ≤ n) ⊎ (n < m) → Decided (m ≤ n)
     by (inl h) = inl h
     by (inr h) = inr (λ e. omega (arith, h, e))
 
 decide_under : (m n : ℕ) → Decided (m < n)
-decide_under m n = by (decide_le n m)
+decide_under m n = by (le_or_more n m)
   where
     by : (n ≤ m) ⊎ (m < n) → Decided (m < n)
     by (inl h) = inr (λ e. omega (arith, h, e))
@@ -187,10 +180,6 @@ decide_strip (x ∷ p) (y ∷ l) = by (decide_eq y x) (decide_strip p l)
     by (inl a) (inr r) = inr (λ h. r (h.0, let z : y ∷ l ≡ x ∷ (p ++ h.0) = h.1 in let q : l ≡ p ++ h.0 = cc in q))
     by (inr a) r = inr (λ h. a (let z : y ∷ l ≡ x ∷ (p ++ h.0) = h.1 in let q : y ≡ x = cc in q))
 
-strip_once : (p r s : List ℕ) → p ++ r ≡ p ++ s → r ≡ s
-strip_once [] r s e = e
-strip_once (x ∷ p) r s e = strip_once p r s (let z : p ++ r ≡ p ++ s = cc in z)
-
 abbrev HeaderIs : List ℕ → Type 0
 HeaderIs l = (c : Counts) × IsHeader l c
 
@@ -227,7 +216,7 @@ decide_header l = by (decide_strip (codes "aag ") l)
     with_sum : (r ns : List ℕ) → l ≡ codes "aag " ++ r → HasNumbers r ns → Decided (IsSum ns) → Decided (HeaderIs l)
     with_sum r ns e h (inl s) = inl (s.0, (r, e, subst (λ (x : List ℕ). HasNumbers r x) s.1 h))
     with_sum r ns e h (inr s) = inr (λ k.
-        let same : r ≡ k.1.0 = strip_once (codes "aag ") r k.1.0 (sym e ∙ k.1.1) in
+        let same : r ≡ k.1.0 = append_cancel_left (codes "aag ") r k.1.0 (sym e ∙ k.1.1) in
         let c = k.0 in
         let found = decimals_once (fields k.1.0) ns (total c ∷ c.inputs ∷ c.latches ∷ c.outputs ∷ c.ands ∷ []) (subst (λ (x : List ℕ). HasNumbers x ns) same h) k.1.2 in
         s (c, found))
@@ -235,7 +224,7 @@ decide_header l = by (decide_strip (codes "aag ") l)
     with_rest : (r : List ℕ) → l ≡ codes "aag " ++ r → Decided (Numbered (fields r)) → Decided (HeaderIs l)
     with_rest r e (inl n) = with_sum r n.0 e n.1 (decide_sum n.0)
     with_rest r e (inr n) = inr (λ k.
-        let same : k.1.0 ≡ r = strip_once (codes "aag ") k.1.0 r (sym k.1.1 ∙ e) in
+        let same : k.1.0 ≡ r = append_cancel_left (codes "aag ") k.1.0 r (sym k.1.1 ∙ e) in
         let c = k.0 in
         let ns = total c ∷ c.inputs ∷ c.latches ∷ c.outputs ∷ c.ands ∷ [] in
         n (ns, subst (λ (x : List ℕ). HasNumbers x ns) same k.1.2))

@@ -3,6 +3,7 @@ use Rattle.std.proofs.Common.{◌≡◌, ◌⊎◌, inl, inr, ℕ, zero, suc, �
 use Rattle.std.proofs.Common.{false, not, cond, ◌&&◌, Some, slice_get, refl, sym, ap, ◌∙◌, arith, append_assoc, length-append}
 use Rattle.std.specs.List.{AllByRecursion}
 use Rattle.std.proofs.lemmas.List.{append-nil, get_or_append_left, get_or_at, length-map, length_push}
+use Rattle.std.proofs.lemmas.Bool.{cases_lt}
 use Rattle.safl_aiger.specs.declared.literal.Lit.{Lit}
 use Rattle.safl_aiger.specs.Literals.{Assignment, on, on_number}
 use Rattle.safl_aiger.specs.Circuits.{Circuit, latches, variables, base, AreBelow, IsCircuit}
@@ -105,9 +106,9 @@ there (p ∷ ps) (suc k) h = there ps k (omega (arith, h))
 pub alone : (a : Circuit) → IsCircuit a → (state given : List Bool) (m n : Assignment) → Fits a state given m → Fits a state given n → (k v : ℕ) → v < k → v ≤ variables a → m v ≡ n v
 alone a c state given m n f g zero v l h = absurd (omega (arith, l))
 alone a c state given m n f g (suc k) zero l h = f.wired.bottom ∙ sym g.wired.bottom
-alone a c state given m n f g (suc k) (suc w) l h = elim (order (suc w) (1 + a.inputs)) [
+alone a c state given m n f g (suc k) (suc w) l h = elim (cases_lt (suc w) (1 + a.inputs)) [
   | inl x ↦ at_bits m n 1 a.inputs (suc w) (f.inputs ∙ sym g.inputs) (omega arith) (omega (arith, x))
-  | inr x ↦ elim (order (suc w) (base a)) [
+  | inr x ↦ elim (cases_lt (suc w) (base a)) [
     | inl y ↦ at_bits m n (1 + a.inputs) (latches a) (suc w) (f.latches ∙ sym g.latches) x (omega (arith, y))
     | inr y ↦
         let j = suc w - base a in
@@ -119,12 +120,6 @@ alone a c state given m n f g (suc k) (suc w) l h = elim (order (suc w) (1 + a.i
         (suc w) (let z = b.1 in omega (arith, z, e)) old i) ∙ sym (g.wired.each j t.0 t.1) ∙ ap n e
   ]
 ]
-  where
-    order : (x y : ℕ) → (x < y) ⊎ (y ≤ x)
-    order zero zero = inr (omega arith)
-    order zero (suc y) = inl (omega arith)
-    order (suc x) zero = inr (omega arith)
-    order (suc x) (suc y) = elim (order x y) [ inl q ↦ inl (omega (arith, q)) | inr q ↦ inr (omega (arith, q)) ]
 
 -- ---- runs
 

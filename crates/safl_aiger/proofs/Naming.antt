@@ -9,6 +9,7 @@ use Rattle.std.proofs.lemmas.Fmt.{decimal_injective, decimal_digit, first_decima
 use Rattle.std.proofs.lemmas.List.{map-set, length-set, map_push, replicate-append-replicate}
 use Rattle.std.proofs.lemmas.Str.Parse.{IsNumeralModel, IsDigitsTest, WeighsDigits, numerals_by_weight}
 use Rattle.safl_word.specs.Numerals.{digit, is_digit, value, IsBounded}
+use Rattle.safl_word.proofs.Digits.{digit_passes}
 use Rattle.safl_aiger.specs.declared.circuit.Name.{Name}
 use Rattle.safl_aiger.specs.declared.symbols.Sort.{Sort}
 use Rattle.safl_aiger.specs.declared.symbols.Sort.TheVariants.{Input, Latch, Output}
@@ -28,9 +29,6 @@ digit_range c e = (
   let high : c ≤ 57 = grind (arith, nat_tests) in high,
 )
 
-range_digit : (c : ℕ) → 48 ≤ c → c ≤ 57 → is_digit 10 c ≡ true
-range_digit c l h = grind (arith, nat_tests)
-
 digit_less : (c : ℕ) → 48 ≤ c → c ≤ 57 → digit c ≡ c - 48
 digit_less c l h = grind (arith, nat_tests)
 
@@ -41,7 +39,7 @@ tests : IsDigitsTest AreDigits
 tests = record {
   empty = refl;
   parts = λ c cs e. let p = and_parts (is_digit 10 c) (list_all (is_digit 10) cs) e in (digit_range c p.0, p.1);
-  more = λ c cs r e. ap (λ b. b && list_all (is_digit 10) cs) (range_digit c r.0 r.1) ∙ e;
+  more = λ c cs r e. ap (λ b. b && list_all (is_digit 10) cs) (digit_passes c r.0 r.1) ∙ e;
 }
 
 weighs : WeighsDigits (value 10)

@@ -4,7 +4,9 @@ use Rattle.std.proofs.Common.{cond, ◌↔◌, Option, Some, None, IsSome, IsNon
 use Rattle.std.proofs.Common.{length-append}
 use Rattle.std.proofs.lemmas.List.{drop_all, length-drop, length-take-le}
 use Rattle.std.proofs.lemmas.Bool.Decides.{nat_tests}
+use Rattle.std.proofs.lemmas.Bool.{eq-eqb}
 use Rattle.safl_word.specs.Numerals.{value, IsBounded}
+use Rattle.safl_word.proofs.Lists.{first_and_rest, not_empty}
 use Rattle.safl_aiger.specs.declared.reading.AigRule.{AigRule}
 use Rattle.safl_aiger.specs.declared.reading.AigRule.TheVariants.{B02}
 use Rattle.safl_aiger.specs.declared.reading.LineKind.{LineKind}
@@ -62,10 +64,6 @@ behind_first : (line : List ℕ) (k : ℕ) → drop (k + 2) line ≡ drop (k + 1
 behind_first [] k = drop_all (k + 2) [] (omega arith) ∙ sym (drop_all (k + 1) [] (omega arith))
 behind_first (c ∷ cs) k = ap (λ n. drop n (c ∷ cs)) (let z : k + 2 ≡ suc (k + 1) = omega arith in z)
 
-first_and_rest : (line : List ℕ) → 1 ≤ length line → line ≡ get_or line 0 0 ∷ drop 1 line
-first_and_rest [] h = absurd (omega (arith, h))
-first_and_rest (c ∷ cs) h = refl
-
 pub symbol_is : (line rest : List ℕ) (end place : ℕ) (s : Sort) → rest ≡ drop 1 line → get_or line 0 0 ≡ letter s → end + 1 < length rest → fields
     rest ≡ take end rest ∷ fields (drop (end + 1) rest) → place < 2 ^ 31 → take end rest ≡ decimal place
     → IsSymbol line (record { sort = s; place = place; start = end + 2 })
@@ -79,9 +77,6 @@ symbol_is line rest end place s r l long f few d =
       within = omega (arith, n, long, some);
       is = first_and_rest line some ∙ (λ i. l i ∷ (sym r ∙ cut ∙ (λ j. d j ++ 32 ∷ sym behind j)) i);
     }
-
-test_true : (x y : ℕ) → x ≡ y → (x == y) ≡ true
-test_true x y z = grind (arith, nat_tests)
 
 -- the first field of a symbol line without its letter, and how long it is
 number_cut : (rest : List ℕ) (end k : ℕ) (name : List ℕ) → rest ≡ decimal k ++ 32 ∷ name → k < 2 ^ 31 → end ≤ length rest →
@@ -102,7 +97,7 @@ number_cut rest end k name e l h some none = by (end == length rest) refl
         let b = fields_some name in
         absurd (omega (arith, a, b))
     by false q =
-        let n : end ≢ length rest = (λ z. let y : (end == length rest) ≡ true = test_true end (length rest) z in cc) in
+        let n : end ≢ length rest = (λ z. let y : (end == length rest) ≡ true = eq-eqb end (length rest) z in cc) in
         let under : end < length rest = omega (arith, h, n) in
         let both = sym (some under) ∙ split in
         let same : take end rest ≡ decimal k = cc in
@@ -119,17 +114,13 @@ no_symbol line e h = let z : length line ≡ suc (length (decimal h.place ++ 32 
 pub no_letter : (line : List ℕ) → ((s : Sort) → get_or line 0 0 ≢ letter s) → ¬ (IsSymbolLine line)
 no_letter line n h = n h.sort (ap (λ x. get_or x 0 0) h.is)
 
-name_some : (name : List ℕ) → name ≢ [] → 1 ≤ length name
-name_some [] n = absurd (n refl)
-name_some (c ∷ name) n = omega arith
-
 pub no_name : (line rest : List ℕ) (end : ℕ) → rest ≡ drop 1 line → end ≤ length rest →
     (end < length rest → fields rest ≡ take end rest ∷ fields (drop (end + 1) rest)) → (end ≡ length rest → fields rest ≡ rest ∷ []) → length rest ≤
     end + 1 → ¬ (IsSymbolLine line)
 no_name line rest end r l some none short h =
     let c = number_cut rest end h.place h.name (behind_letter line rest h r) h.few l some none in
     let z = c.1 in
-    let n = name_some h.name h.some in
+    let n = not_empty h.name h.some in
     omega (arith, z, n, short)
 
 pub no_place : (line rest : List ℕ) (end : ℕ) → rest ≡ drop 1 line → end ≤ length rest →
@@ -163,7 +154,3 @@ number_none r w s i n l e = let t = s.1 (decimal_bounded w n l e) in cc
 -- a line that a test of equality tells from `c` is not `c`
 pub not_end : (p : List ℕ → List ℕ → Bool) (line c : List ℕ) → p (99 ∷ []) (99 ∷ []) ≡ true → false ≡ p line c → c ≡ 99 ∷ [] → line ≢ 99 ∷ []
 not_end p line c t z y q = let e : false ≡ true = z ∙ (λ i. p (q i) (y i)) ∙ t in cc
-
-pub no_bytes : (xs : List ℕ) → length xs ≡ 0 → xs ≡ []
-no_bytes [] e = refl
-no_bytes (x ∷ xs) e = absurd (omega (arith, e))

@@ -1,6 +1,7 @@
 -- A text is at most one circuit, or has at most one first fault, and not both.
 use Rattle.std.proofs.Common.{◌≡◌, ℕ, zero, suc, ◌+◌, ◌^◌, ◌<◌, List, [], ◌∷◌, ◌++◌, length, drop, codes, inl, inr, refl, sym, ap, ◌∙◌, subst, arith}
 use Rattle.std.proofs.lemmas.List.{length-replicate}
+use Rattle.safl_word.proofs.Lists.{append_parts}
 use Rattle.safl_aiger.specs.declared.literal.Lit.{Lit}
 use Rattle.safl_aiger.specs.declared.reading.AigRule.{AigRule}
 use Rattle.safl_aiger.specs.declared.reading.LineKind.{LineKind}
@@ -208,16 +209,6 @@ no_fault text a e n r (bad_symbol c body ls nss k b g f p q) =
 
 -- ---- one circuit
 
-append_once : (xs ys us vs : List (List ℕ)) → length xs ≡ length ys → xs ++ us ≡ ys ++ vs → (xs ≡ ys) × (us ≡ vs)
-append_once [] [] us vs l e = (refl, e)
-append_once [] (y ∷ ys) us vs l e = absurd (omega (arith, l))
-append_once (x ∷ xs) [] us vs l e = absurd (omega (arith, l))
-append_once (x ∷ xs) (y ∷ ys) us vs l e =
-    let z : x ≡ y = cc in
-    let t : xs ++ us ≡ ys ++ vs = cc in
-    let r = append_once xs ys us vs (omega (arith, l)) t in
-    (λ i. z i ∷ r.0 i, r.1)
-
 lit_same : (l m : Lit) → l.0 ≡ m.0 → l ≡ m
 lit_same l m e = λ i. record { 0 = e i }
 
@@ -257,9 +248,9 @@ circuit_once a b c e n =
     let ci : a.inputs ≡ b.inputs = ap (λ (x : Counts). x.inputs) c in
     let cl : latches a ≡ latches b = ap (λ (x : Counts). x.latches) c in
     let co : length a.outputs ≡ length b.outputs = ap (λ (x : Counts). x.outputs) c in
-    let e1 = append_once (own_numbers 1 a.inputs) (own_numbers 1 b.inputs) _ _ (own_long 1 a.inputs ∙ ci ∙ sym (own_long 1 b.inputs)) e in
-    let e2 = append_once (latch_numbers (1 + a.inputs) a.nexts) (latch_numbers (1 + b.inputs) b.nexts) _ _ (latch_long (1 + a.inputs) a.nexts ∙ cl ∙ sym (latch_long (1 + b.inputs) b.nexts)) e1.1 in
-    let e3 = append_once (output_numbers a.outputs) (output_numbers b.outputs) _ _ (output_long a.outputs ∙ co ∙ sym (output_long b.outputs)) e2.1 in
+    let e1 = append_parts (own_numbers 1 a.inputs) _ (own_numbers 1 b.inputs) _ (own_long 1 a.inputs ∙ ci ∙ sym (own_long 1 b.inputs)) e in
+    let e2 = append_parts (latch_numbers (1 + a.inputs) a.nexts) _ (latch_numbers (1 + b.inputs) b.nexts) _ (latch_long (1 + a.inputs) a.nexts ∙ cl ∙ sym (latch_long (1 + b.inputs) b.nexts)) e1.1 in
+    let e3 = append_parts (output_numbers a.outputs) _ (output_numbers b.outputs) _ (output_long a.outputs ∙ co ∙ sym (output_long b.outputs)) e2.1 in
     let x : a.nexts ≡ b.nexts = latches_once (1 + a.inputs) (1 + b.inputs) a.nexts b.nexts e2.0 in
     let y : a.outputs ≡ b.outputs = outputs_once a.outputs b.outputs e3.0 in
     let z : a.ands ≡ b.ands = ands_once (base a) (base b) a.ands b.ands e3.1 in

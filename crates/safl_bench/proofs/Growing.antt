@@ -1,12 +1,12 @@
 -- Wires, one after the other.
-use Rattle.std.proofs.Common.{◌≡◌, ℕ, ◌+◌, ◌-◌, ◌<◌, ◌≤◌, List, [], ◌∷◌, Bool, cond, length, length-append, OnOk, OnErr, Some, None, Result, Ok, Err}
+use Rattle.std.proofs.Common.{◌≡◌, ℕ, ◌+◌, ◌-◌, ◌<◌, ◌≤◌, List, [], ◌∷◌, length, OnOk, OnErr, Some, Result, Ok, Err}
 use Rattle.std.proofs.Common.{IfOk, refl, ap, ◌∙◌, eq-eqb, le-leb, lt-ltb, arith}
 use Rattle.safl_word.specs.declared.primitive.Primitive.TheVariants.{Not, Cat, Bits}
 use Rattle.safl_word.specs.Primitives.{equal_widths}
 use Rattle.safl_word.proofs.Widths.{within}
 use Rattle.safl_net.specs.declared.cell.Sig.{Sig}
 use Rattle.safl_net.specs.declared.cell.Op.{Op}
-use Rattle.safl_net.specs.declared.cell.Op.TheVariants.{Mux, Apply}
+use Rattle.safl_net.specs.declared.cell.Op.TheVariants.{Apply}
 use Rattle.safl_net.specs.Netlist.{Netlist}
 use Rattle.safl_net.specs.Names.{IsTidy}
 use Rattle.safl_net.specs.Widths.{op_width}
@@ -20,10 +20,6 @@ pub kept : {a b : Netlist} {k u : ℕ} {s : Sig} → Gives a b k u s → (w : �
 kept g w t h = width_kept g.grows t.0 w h
 
 -- ---- one wire
-
-pub one_more : {E : Type 0} (n m : Netlist) (r : Result Sig E) (op : Op) (xs : List Sig) → OnOk r (m ≡ with_signal n (temporary n op xs)) → OnErr r (m ≡ n) → length m.signals ≤ length n.signals + 1
-one_more n m (Ok s) op xs e f = let x = ap (λ (k : Netlist). length k.signals) e ∙ length-append n.signals (temporary n op xs ∷ []) in omega (arith, x)
-one_more n m (Err e) op xs f g = let x = ap (λ (k : Netlist). length k.signals) g in omega (arith, x)
 
 gives_one : {E : Type 0} (n m : Netlist) (r : Result Sig E) (op : Op) (xs : List Sig) (w : ℕ) → Made n m r w op xs → IsTidy m → IfOk r (Gives n m 1 w)
 gives_one n m (Ok s) op xs w k t = record { tidy = t; grows = k.grows; more = k.count; has = k.width }
@@ -80,9 +76,6 @@ turned {w = w} e t g = record {
 }
 
 -- ---- widths
-
-pub mux_width : (w : ℕ) → op_width Mux (1 ∷ w ∷ w ∷ []) ≡ Some w
-mux_width w = ap (λ (b : Bool). cond b (Some w) None) (eq-eqb w w refl)
 
 pub alike_width : (w : ℕ) → 1 ≤ w → w ≤ 128 → equal_widths (w ∷ w ∷ []) ≡ Some w
 alike_width w some most = rw (within w some most, eq-eqb w w refl) refl

@@ -1,9 +1,9 @@
 -- A net of one input takes one word.
 use Rattle.std.proofs.Common.{◌≡◌, ℕ, suc, List, [], ◌∷◌, ◌++◌, map, slice_get, refl, sym, ap, ◌∙◌}
-use Rattle.safl_net.specs.Netlist.{Netlist, Signal, Kind, Input, Reg, Wire, width_in, width_of}
+use Rattle.safl_net.specs.Netlist.{Netlist, Signal, Kind, Input, Reg, Wire, width_in, width_of, with_input}
 use Rattle.safl_net.specs.Growth.{HasCell, AreTemps, Grows}
 use Rattle.safl_net.specs.Making.{with_signal}
-use Rattle.safl_sim.specs.Places.{with_input, inputs_from, inputs_of}
+use Rattle.safl_sim.specs.Places.{inputs_from, inputs_of}
 use Rattle.safl_bench.specs.WideNets.{TakesOne}
 
 no_input : (k : Kind) (i : ℕ) (is : List ℕ) → HasCell k → with_input k i is ≡ is

@@ -39,10 +39,6 @@ pub made_bits : {E : Type 0} (n m : Netlist) (r : Result Sig E) (op : Op) (xs : 
     → OnOk r (m ≡ with_signal n (temporary n op xs)) → IfOk r (λ s. s.0 ≡ length n.signals) → OnErr r (m ≡ n) → IsTidy m → OfBits m
 made_bits n m r op xs h k w a b d t = bits_on n m r op xs h (made n m r 1 op xs (sized_gives n op xs (ones (length xs)) 1 (sized n h xs k) w) a b d) b d t
 
-pub one_more : {E : Type 0} (n m : Netlist) (r : Result Sig E) (op : Op) (xs : List Sig) → OnOk r (m ≡ with_signal n (temporary n op xs)) → OnErr r (m ≡ n) → length m.signals ≤ length n.signals + 1
-one_more n m (Ok s) op xs e f = let x = ap (λ (k : Netlist). length k.signals) e ∙ length-append n.signals (temporary n op xs ∷ []) in omega (arith, x)
-one_more n m (Err e) op xs f g = let x = ap (λ (k : Netlist). length k.signals) g in omega (arith, x)
-
 pub last_in : {E : Type 0} (n m : Netlist) (r : Result Sig E) (op : Op) (xs : List Sig) → OnOk r (m ≡ with_signal n (temporary n op xs)) → IfOk r
     (λ s. s.0 ≡ length n.signals) → IfOk r (λ s. s.0 < length m.signals)
 last_in n m (Ok s) op xs e f = let x = ap (λ (k : Netlist). length k.signals) e ∙ length-append n.signals (temporary n op xs ∷ []) in omega (arith, x, f)

@@ -7,6 +7,7 @@ use Rattle.std.proofs.lemmas.Nat.{pow-add, shl-shr, mod-pow-add}
 use Rattle.std.proofs.lemmas.Bool.Decides.{nat_tests}
 use Rattle.std.proofs.lemmas.Bool.{le-ltb}
 use Rattle.safl_word.specs.Primitives.{bit_of}
+use Rattle.safl_word.proofs.Naturals.{le_or_more}
 use Rattle.safl_aiger.specs.declared.literal.Lit.{Lit}
 use Rattle.safl_aiger.specs.Literals.{Assignment, on, values, number, shown}
 use Rattle.safl_bits.specs.declared.words.Side.{Side}
@@ -61,11 +62,6 @@ raised a w b h =
     let g : (a * 2 ^ b) % 2 ^ b ≡ 0 = mul-mod_left a (2 ^ b) in
     let k : 2 ^ b * (a % 2 ^ (w - b)) ≡ (a % 2 ^ (w - b)) * 2 ^ b + 0 = grind arith in
     k ∙ sym (λ i. f i * 2 ^ b + g i) ∙ sym e ∙ ap (λ n. (a * 2 ^ b) % 2 ^ n) z
-
-le_or_more : (x y : ℕ) → (x ≤ y) ⊎ (y < x)
-le_or_more zero y = inl (omega arith)
-le_or_more (suc x) zero = inr (omega arith)
-le_or_more (suc x) (suc y) = elim (le_or_more x y) [ inl h ↦ inl (omega (arith, h)) | inr h ↦ inr (omega (arith, h)) ]
 
 pub raise_shown : (m : Assignment) (z : Lit) (a : List Lit) (by lost : ℕ) → on m z ≡ false → lost ≡ min by (length a) → shown m
     (replicate lost z ++ take (length a - lost) a) ≡ (shown m a * 2 ^ by) % 2 ^ length a

@@ -3,6 +3,7 @@ use Rattle.std.proofs.Common.{◌≡◌, ℕ, zero, suc, ◌+◌, ◌*◌, ◌<�
 use Rattle.std.specs.Prelude.{if◌then◌else◌}
 use Rattle.std.specs.List.{list_any}
 use Rattle.std.proofs.lemmas.List.{append-nil}
+use Rattle.std.proofs.lemmas.Option.{slice_get_within}
 use Rattle.safl_aiger.specs.declared.literal.Lit.{Lit}
 use Rattle.safl_aiger.specs.Literals.{Assignment, on, on_number}
 use Rattle.safl_aiger.specs.Circuits.{AreBelow}
@@ -33,11 +34,6 @@ pub pair_at : (xs : List Operands) (i : ℕ) (k : Operands) → slice_get xs i �
 pair_at [] i k e = absurd (cc)
 pair_at (x ∷ xs) zero k e = let q : x ≡ k = cc in ap (λ (o : Operands). Some (o.low, o.high)) q
 pair_at (x ∷ xs) (suc i) k e = pair_at xs i k e
-
-within : (xs : List Operands) (i : ℕ) (k : Operands) → slice_get xs i ≡ Some k → i < length xs
-within [] i k e = absurd (cc)
-within (x ∷ xs) zero k e = omega arith
-within (x ∷ xs) (suc i) k e = let h = within xs i k e in omega arith
 
 abbrev pub gates : ℕ → List Operands → Gates
 gates first ks = record { first = first; ands = pairs ks }
@@ -83,18 +79,12 @@ gates_put first old new k g a b h e = by (list_any (eq k) old) e
         }
 
 pub literal_put : (first : ℕ) (new : List Operands) (i : ℕ) (o : Operands) → slice_get new i ≡ Some o → 2 * (first + i) < 2 * (first + length (pairs new))
-literal_put first new i o e = let h = within new i o e in let l = pairs_long new in omega (arith, h, l)
+literal_put first new i o e = let h = slice_get_within new i o e in let l = pairs_long new in omega (arith, h, l)
 
 pub value_put : (first : ℕ) (new : List Operands) (k o : Operands) (i : ℕ) (m : Assignment) → slice_get new i ≡ Some o → eq k o ≡ true → Holds (gates first new) m
     → on_number m (2 * (first + i)) ≡ (on m k.low && on m k.high)
 value_put first new k o i m e q h =
     even_on m (first + i) ∙ h.each i (o.low, o.high) (pair_at new i o e) ∙ ap (λ (z : Operands). on m z.low && on m z.high) (sym (exact k o q))
-
-pub both_ways : (x y : Bool) → (x && y) ≡ (y && x)
-both_ways true true = refl
-both_ways true false = refl
-both_ways false true = refl
-both_ways false false = refl
 
 taken : (xs : List Operands) (i : ℕ) (x : Operands) → slice_get xs i ≡ Some x → pairs (take (suc i) xs) ≡ pairs (take i xs) ++ (x.low, x.high) ∷ []
 taken [] i x e = absurd (cc)

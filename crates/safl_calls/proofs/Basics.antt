@@ -1,13 +1,14 @@
 -- Lists of events, sweeps over numbers, and first places.
 use Rattle.std.proofs.Common.{◌≡◌, ℕ, zero, suc, ◌+◌, ◌<◌, ◌≤◌, List, [], ◌∷◌, ◌++◌, Option, Some, None, Bool, true, false, cond, ◌&&◌, nat_lt}
 use Rattle.std.proofs.Common.{is_some, refl, sym, ap, ◌∙◌, subst, ⊎_elim, arith, append-nil}
-use Rattle.std.proofs.lemmas.Bool.{cases_Bool, cases_eq, true≢false, false≢true, lt-ltb, le-ltb, ltb-true, ltb-false, and_right, eq-eqb, ne_eqb}
+use Rattle.std.proofs.lemmas.Bool.{cases_Bool, cases_eq, false≢true, lt-ltb, le-ltb, ltb-true, ltb-false, and_right, eq-eqb, ne_eqb}
 use Rattle.safl_calls.specs.Machine.{Mode, Idle, Runs, Delivers, is_unsent, State, Event, Enabled, fire, Legal, after, last_word, put}
 use Rattle.safl_calls.specs.Picks.{first, picks}
 use Rattle.safl_calls.specs.Moves.{moves_count}
 use Rattle.safl_term.specs.Readiness.{or_else, Stage, Unsent, Sent, Returned}
 use Rattle.safl_term.specs.Program.{Program}
 use Rattle.safl_word.specs.Words.{Word}
+use Rattle.safl_term.proofs.OrElse.{or_else_none}
 
 -- the site that a unit serves
 abbrev pub serves : Mode → Option ℕ
@@ -115,14 +116,6 @@ pub first_more : {A : Type 0} (g : ℕ → Option A) (n : ℕ) → first g (suc 
 unfolding first
 first_more g n = refl
 
-pub cond_cong : {A : Type 0} (b : Bool) (x y z : A) → (b ≡ true → x ≡ y) → cond b x z ≡ cond b y z
-cond_cong true x y z h = h refl
-cond_cong false x y z h = refl
-
-pub none_of : {A : Type 0} (o : Option A) → is_some o ≡ false → o ≡ None
-none_of None h = refl
-none_of (Some x) h = absurd (true≢false h)
-
 pub some_none : {A : Type 0} (x : A) → Some x ≡ None → ⊥
 some_none x e = grind arith
 
@@ -134,9 +127,6 @@ unsent_is (Returned v) h = absurd (false≢true h)
 pub some_of : {A : Type 0} (o : Option A) → is_some o ≡ true → (x : A) × (o ≡ Some x)
 some_of None h = absurd (false≢true h)
 some_of (Some x) h = (x, refl)
-
-pub some_is : {A : Type 0} (x y : A) → Some x ≡ Some y → x ≡ y
-some_is x y e = grind arith
 
 pub cond_some : {A : Type 0} (b : Bool) (o : Option A) (x : A) → cond b o None ≡ Some x → (b ≡ true) × (o ≡ Some x)
 cond_some true o x h = (refl, h)
@@ -162,13 +152,9 @@ pub mask_all : {A : Type 0} (n k : ℕ) (b : Bool) (x y : A) → (b ≡ true →
 mask_all n k true x y h = rw (lt-ltb k n (h refl)) refl
 mask_all n k false x y h = ap (λ b. cond b x y) (and_right (nat_lt k n) false refl)
 
-or_none : {A : Type 0} (o : Option A) → or_else o None ≡ o
-or_none None = refl
-or_none (Some x) = refl
-
 pub first_skip : {A : Type 0} (g : ℕ → Option A) (n : ℕ) → g n ≡ None → first g (suc n) ≡ first g n
 unfolding first
-first_skip g n h = ap (or_else (first g n)) h ∙ or_none (first g n)
+first_skip g n h = ap (or_else (first g n)) h ∙ or_else_none (first g n)
 
 pub first_zero : {A : Type 0} (g : ℕ → Option A) → first g 0 ≡ None
 unfolding first

@@ -1,16 +1,22 @@
 -- Partial evaluation of a body, as more of its sites return.
-use Rattle.std.proofs.Common.{◌≡◌, ℕ, suc, List, [], ◌∷◌, ◌++◌, length, Option, Some, None, Bool, true, false, cond, ◌==◌, is_some, refl, sym, ap, ◌∙◌, subst, inl, inr, ⊎_elim, ◌⊎◌, arith, ◌≢◌}
+use Rattle.std.proofs.Common.{◌≡◌, ℕ, suc, List, [], ◌∷◌, ◌++◌, length, Option, Some, None, Bool, true, false, cond, ◌==◌, is_some, refl, sym, ap, ◌∙◌, subst, inl, inr, ⊎_elim, ◌⊎◌, ◌≢◌}
 use Rattle.std.proofs.lemmas.Bool.{cases_eq, eq-eqb, ne_eqb, false≢true}
-use Rattle.safl_calls.proofs.Basics.{some_none, some_is}
+use Rattle.std.proofs.lemmas.Option.{same_Some}
+use Rattle.safl_calls.proofs.Basics.{some_none}
 use Rattle.safl_term.proofs.Once.{Once, OnceIn, LoopsTo, count, Counted, CountedIn}
 use Rattle.safl_term.specs.Readiness.{Answer, Ready, LoopTo, NotYet, apply_to, loop_to, both, select, with_all, or_else, ready_from, answer, answers, wanted, wanted_in}
 use Rattle.safl_term.specs.Program.{Program, arity}
 use Rattle.safl_term.specs.Standing.{Stands, StandsIn}
 use Rattle.safl_term.specs.Terms.{Term, Terms, Const, Var, Op, If, Let, Call, Loop, Nil, Cons}
 use Rattle.safl_word.specs.Words.{Word}
-use Rattle.safl_term.proofs.Picking.{pick_two, pick_either, pick_one, pick_other, pick_cases}
+use Rattle.safl_term.proofs.Picking.{pick_two, pick_either, pick_cases}
 use Rattle.safl_word.specs.declared.primitive.Primitive.{Primitive}
 use Rattle.safl_word.specs.Primitives.{apply_prim}
+use Rattle.safl_word.proofs.Words.{pick_one, pick_other}
+use Rattle.safl_word.proofs.Options.{some_at}
+use Rattle.safl_term.proofs.Apart.{not_loop, ready_not_yet}
+use Rattle.safl_term.proofs.Widths.{ready_loop}
+use Rattle.safl_term.proofs.OrElse.{or_from}
 
 pub or_some : {A : Type 0} (o p : Option A) → is_some (or_else o p) ≡ true → (is_some o ≡ true) ⊎ (is_some p ≡ true)
 or_some None p h = inr h
@@ -43,12 +49,9 @@ both_parts (Ready v) (Some ws) vs e = (v, ws, refl, refl)
 both_parts (LoopTo h ws) o vs e = absurd (some_none vs (sym e))
 both_parts NotYet o vs e = absurd (some_none vs (sym e))
 
-ready_yet : (v : Word) → Ready v ≡ NotYet → ⊥
-ready_yet v e = grind arith
-
 if_grows : (q q' x x' y y' a : Answer) → ((r : Answer) → q ≡ r → (r ≡ NotYet → ⊥) → q' ≡ r) → (x ≡ a → (a ≡ NotYet → ⊥) → x' ≡ a) →
     (y ≡ a → (a ≡ NotYet → ⊥) → y' ≡ a) → select q NotYet x y ≡ a → (a ≡ NotYet → ⊥) → select q' NotYet x' y' ≡ a
-if_grows (Ready u) q' x x' y y' a hq hx hy e some = ap (λ r. select r NotYet x' y') (hq (Ready u) refl (ready_yet u)) ∙ pick_two u.bits x y x' y'
+if_grows (Ready u) q' x x' y y' a hq hx hy e some = ap (λ r. select r NotYet x' y') (hq (Ready u) refl (ready_not_yet u)) ∙ pick_two u.bits x y x' y'
     (λ z z'. z ≡ a → z' ≡ a) (λ i. hx i some) (λ i. hy i some) e
 if_grows (LoopTo h vs) q' x x' y y' a hq hx hy e some = absurd (some (sym e))
 if_grows NotYet q' x x' y y' a hq hx hy e some = absurd (some (sym e))
@@ -90,13 +93,13 @@ mutual
   all_grows b c env Nil h vs e = e
   all_grows b c env (Cons t ts) h vs e =
       let p = both_parts (answer b env t) (answers b env ts) vs e in
-      ap (λ a. both a (answers c env ts)) (answer_grows b c env t (λ k v st. h k v (inl st)) (Ready p.0) p.2 (ready_yet p.0))
+      ap (λ a. both a (answers c env ts)) (answer_grows b c env t (λ k v st. h k v (inl st)) (Ready p.0) p.2 (ready_not_yet p.0))
       ∙ ap (both (Ready p.0)) (all_grows b c env ts (λ k v st. h k v (inr st)) p.1 p.3)
       ∙ sym (ap (λ a. both a (answers b env ts)) p.2 ∙ ap (both (Ready p.0)) p.3) ∙ e
 
 select_wants : (q q' : Answer) (x x' y y' : Option (List Word)) → ((r : Answer) → q ≡ r → (r ≡ NotYet → ⊥) → q' ≡ r) →
     (is_some x ≡ true → is_some x' ≡ true) → (is_some y ≡ true → is_some y' ≡ true) → is_some (select q None x y) ≡ true → is_some (select q' None x' y') ≡ true
-select_wants (Ready u) q' x x' y y' hq hx hy e = ap (λ r. is_some (select r None x' y')) (hq (Ready u) refl (ready_yet u)) ∙ pick_two u.bits x y x' y'
+select_wants (Ready u) q' x x' y y' hq hx hy e = ap (λ r. is_some (select r None x' y')) (hq (Ready u) refl (ready_not_yet u)) ∙ pick_two u.bits x y x' y'
     (λ z z'. is_some z ≡ true → is_some z' ≡ true) hx hy e
 select_wants (LoopTo h vs) q' x x' y y' hq hx hy e = absurd (false≢true e)
 select_wants NotYet q' x x' y y' hq hx hy e = absurd (false≢true e)
@@ -178,7 +181,7 @@ mutual
   wanted_stands_in b env (Cons t ts) k e = ⊎_elim (λ a. inl (wanted_stands b env t k a)) (λ a. inr (wanted_stands_in b env ts k a)) (or_some _ _ e)
 
 select_says : (q x y a : Answer) → select q NotYet x y ≡ a → (a ≡ NotYet → ⊥) → (q ≡ NotYet → ⊥) × ((n : Word) × (q ≡ Ready n))
-select_says (Ready n) x y a e some = (ready_yet n, (n, refl))
+select_says (Ready n) x y a e some = (ready_not_yet n, (n, refl))
 select_says (LoopTo h vs) x y a e some = absurd (some (sym e))
 select_says NotYet x y a e some = absurd (some (sym e))
 
@@ -199,10 +202,6 @@ branch_settled NotYet x y a wx wy Q fx fy e some w = absurd (false≢true w)
 let_settled : (o : Option (List Word)) (f : List Word → Answer) (a : Answer) → with_all o NotYet f ≡ a → (a ≡ NotYet → ⊥) → (vs : List Word) × (o ≡ Some vs) × (f vs ≡ a)
 let_settled None f a e some = absurd (some (sym e))
 let_settled (Some vs) f a e some = (vs, refl, e)
-
-is_some_at : (o : Option (List Word)) → is_some o ≡ true → (vs : List Word) × (o ≡ Some vs)
-is_some_at None h = absurd (false≢true h)
-is_some_at (Some vs) h = (vs, refl)
 
 mutual
   unfolding answer wanted Stands Once
@@ -245,7 +244,7 @@ mutual
   settled b env (Call f j ts) once h a e some k w =
       let o = from_some (b j) a e some in
       let args : is_some (answers b env ts) ≡ true = subst (λ t. is_some (cond t (answers b env ts) (wanted_in b env ts j)) ≡ true) (eq-eqb j j refl) (h j (inl refl) (ap is_some o.1)) in
-      let vs = is_some_at (answers b env ts) args in
+      let vs = some_at (answers b env ts) args in
       ⊎_elim (λ same. ap is_some (ap b (sym same) ∙ o.1))
       (λ other. settled_in b env ts once.0 (λ i st back. subst (λ t. is_some (cond t (answers b env ts) (wanted_in b env ts i)) ≡ true)
       (ne_eqb j i (λ is. once.1 (subst (λ n. StandsIn n ts) (sym is) st))) (h i (inr st) back)) vs.0 vs.1 k
@@ -262,15 +261,9 @@ mutual
       let p = both_parts (answer b env t) (answers b env ts) vs e in
       either (wanted b env t k) (wanted_in b env ts k) (is_some (b k) ≡ true)
       (λ wt. settled b env t once.0 (λ j st back. either (wanted b env t j) (wanted_in b env ts j) (is_some (wanted b env t j) ≡ true) (λ z. z)
-      (λ z. absurd (once.2 j st (wanted_stands_in b env ts j z))) (h j (inl st) back)) (Ready p.0) p.2 (ready_yet p.0) k wt)
+      (λ z. absurd (once.2 j st (wanted_stands_in b env ts j z))) (h j (inl st) back)) (Ready p.0) p.2 (ready_not_yet p.0) k wt)
       (λ ws. settled_in b env ts once.1 (λ j st back. either (wanted b env t j) (wanted_in b env ts j) (is_some (wanted_in b env ts j) ≡ true)
       (λ z. absurd (once.2 j (wanted_stands b env t j z) st)) (λ z. z) (h j (inr st) back)) p.1 p.3 k ws) w
-
-goes_ready : (h : ℕ) (v : Word) (vs : List Word) → Ready v ≡ LoopTo h vs → ⊥
-goes_ready h v vs e = grind arith
-
-goes_not : (h : ℕ) (vs : List Word) → NotYet ≡ LoopTo h vs → ⊥
-goes_not h vs e = grind arith
 
 abbrev goal_of : Answer → ℕ
 goal_of (Ready v) = 0
@@ -280,53 +273,49 @@ goal_of NotYet = 0
 -- a body goes only to members that stand in it
 pub goes_stands : (b : ℕ → Option Word) (env : List Word) (t : Term) (h : ℕ) (vs : List Word) → answer b env t ≡ LoopTo h vs → LoopsTo h t
 unfolding answer LoopsTo
-goes_stands b env (Const n) h vs e = absurd (goes_ready h n vs e)
-goes_stands b env (Var i) h vs e = absurd (goes_ready h _ vs e)
+goes_stands b env (Const n) h vs e = absurd (ready_loop h vs n e)
+goes_stands b env (Var i) h vs e = absurd (ready_loop h vs _ e)
 goes_stands b env (Op p ts) h vs e = by (answers b env ts) e
   where
     by : (o : Option (List Word)) → apply_to p o ≡ LoopTo h vs → ⊥
-    by None e = goes_not h vs e
-    by (Some ws) e = goes_ready h (apply_prim p ws) vs e
+    by None e = not_loop h vs e
+    by (Some ws) e = ready_loop h vs (apply_prim p ws) e
 goes_stands b env (If d x y) h vs e = by (goes_stands b env x h vs) (goes_stands b env y h vs) (answer b env d) e
   where
     by : (answer b env x ≡ LoopTo h vs → LoopsTo h x) → (answer b env y ≡ LoopTo h vs → LoopsTo h y) → (q : Answer) → select q NotYet (answer b env x)
         (answer b env y) ≡ LoopTo h vs → LoopsTo h x ⊎ LoopsTo h y
     by fx fy (Ready u) e = ⊎_elim (λ z. inl (fx z)) (λ z. inr (fy z)) (pick_either u.bits (answer b env x) (answer b env y) (λ z. z ≡ LoopTo h vs) e)
-    by fx fy (LoopTo g us) e = absurd (goes_not h vs e)
-    by fx fy NotYet e = absurd (goes_not h vs e)
+    by fx fy (LoopTo g us) e = absurd (not_loop h vs e)
+    by fx fy NotYet e = absurd (not_loop h vs e)
 goes_stands b env (Let bs x) h vs e = by (λ us. goes_stands b (env ++ us) x h vs) (answers b env bs) e
   where
     by : ((us : List Word) → answer b (env ++ us) x ≡ LoopTo h vs → LoopsTo h x) → (o : Option (List Word)) → with_all o NotYet (λ us. answer b (env ++ us) x) ≡ LoopTo h vs → LoopsTo h x
-    by f None e = absurd (goes_not h vs e)
+    by f None e = absurd (not_loop h vs e)
     by f (Some us) e = f us e
 goes_stands b env (Call f k ts) h vs e = by (b k) e
   where
     by : (o : Option Word) → ready_from o ≡ LoopTo h vs → ⊥
-    by None e = goes_not h vs e
-    by (Some v) e = goes_ready h v vs e
+    by None e = not_loop h vs e
+    by (Some v) e = ready_loop h vs v e
 goes_stands b env (Loop m ts) h vs e = by (answers b env ts) e
   where
     by : (o : Option (List Word)) → loop_to m o ≡ LoopTo h vs → m ≡ h
-    by None e = absurd (goes_not h vs e)
+    by None e = absurd (not_loop h vs e)
     by (Some us) e = ap goal_of e
 
 all_sized : (b : ℕ → Option Word) (env : List Word) (ts : Terms) (vs : List Word) → answers b env ts ≡ Some vs → length vs ≡ count ts
 unfolding answer
-all_sized b env Nil vs e = sym (ap length (some_is [] vs e))
+all_sized b env Nil vs e = sym (ap length (same_Some [] vs e))
 all_sized b env (Cons t ts) vs e =
     let p = both_parts (answer b env t) (answers b env ts) vs e in
     let len = all_sized b env ts p.1 p.3 in
-    let is : p.0 ∷ p.1 ≡ vs = some_is (p.0 ∷ p.1) vs (sym (ap (λ a. both a (answers b env ts)) p.2 ∙ ap (both (Ready p.0)) p.3) ∙ e) in
+    let is : p.0 ∷ p.1 ≡ vs = same_Some (p.0 ∷ p.1) vs (sym (ap (λ a. both a (answers b env ts)) p.2 ∙ ap (both (Ready p.0)) p.3) ∙ e) in
     sym (ap length is) ∙ ap suc len
 
 select_one : (q : Answer) (x y : Option (List Word)) (ws : List Word) → select q None x y ≡ Some ws → (x ≡ Some ws) ⊎ (y ≡ Some ws)
 select_one (Ready u) x y ws e = pick_either u.bits x y (λ z. z ≡ Some ws) e
 select_one (LoopTo h vs) x y ws e = absurd (some_none ws (sym e))
 select_one NotYet x y ws e = absurd (some_none ws (sym e))
-
-or_one : (o p : Option (List Word)) (ws : List Word) → or_else o p ≡ Some ws → (o ≡ Some ws) ⊎ (p ≡ Some ws)
-or_one None p ws e = inr e
-or_one (Some x) p ws e = inl e
 
 with_one : (o : Option (List Word)) (g : List Word → Option (List Word)) (ws : List Word) → with_all o None g ≡ Some ws → (vs : List Word) × (g vs ≡ Some ws)
 with_one None g ws e = absurd (some_none ws (sym e))
@@ -343,11 +332,11 @@ mutual
   wanted_sized C b env (If d x y) c k ws e =
       ⊎_elim (λ z. wanted_sized C b env d c.0 k ws z)
       (λ z. ⊎_elim (λ l. wanted_sized C b env x c.1 k ws l) (λ l. wanted_sized C b env y c.2 k ws l) (select_one (answer b env d) (wanted b env x k) (wanted b env y k) ws z))
-      (or_one (wanted b env d k) (select (answer b env d) None (wanted b env x k) (wanted b env y k)) ws e)
+      (or_from (wanted b env d k) (select (answer b env d) None (wanted b env x k) (wanted b env y k)) ws e)
   wanted_sized C b env (Let bs x) c k ws e =
       ⊎_elim (λ z. wanted_in_sized C b env bs c.0 k ws z)
       (λ z. let v = with_one (answers b env bs) (λ vs. wanted b (env ++ vs) x k) ws z in wanted_sized C b (env ++ v.0) x c.1 k ws v.1)
-      (or_one (wanted_in b env bs k) (with_all (answers b env bs) None (λ vs. wanted b (env ++ vs) x k)) ws e)
+      (or_from (wanted_in b env bs k) (with_all (answers b env bs) None (λ vs. wanted b (env ++ vs) x k)) ws e)
   wanted_sized C b env (Call f j ts) c k ws e =
       ⊎_elim
       (λ is. all_sized b env ts ws (subst (λ t. cond t (answers b env ts) (wanted_in b env ts k) ≡ Some ws) (eq-eqb j k is) e) ∙ c.0 ∙ ap (λ n. arity C (C.callee n)) is)
@@ -359,7 +348,7 @@ mutual
       env ts k ≡ Some ws → length ws ≡ arity C (C.callee k)
   wanted_in_sized C b env Nil c k ws e = absurd (some_none ws (sym e))
   wanted_in_sized C b env (Cons t ts) c k ws e =
-      ⊎_elim (λ z. wanted_sized C b env t c.0 k ws z) (λ z. wanted_in_sized C b env ts c.1 k ws z) (or_one (wanted b env t k) (wanted_in b env ts k) ws e)
+      ⊎_elim (λ z. wanted_sized C b env t c.0 k ws z) (λ z. wanted_in_sized C b env ts c.1 k ws z) (or_from (wanted b env t k) (wanted_in b env ts k) ws e)
 
 abbrev words_of : Answer → List Word
 words_of (Ready v) = []
@@ -368,33 +357,33 @@ words_of NotYet = []
 
 pub goes_sized : (C : Program) (b : ℕ → Option Word) (env : List Word) (t : Term) → Counted C t → (h : ℕ) (vs : List Word) → answer b env t ≡ LoopTo h vs → length vs ≡ arity C h
 unfolding answer Counted
-goes_sized C b env (Const n) c h vs e = absurd (goes_ready h n vs e)
-goes_sized C b env (Var i) c h vs e = absurd (goes_ready h _ vs e)
+goes_sized C b env (Const n) c h vs e = absurd (ready_loop h vs n e)
+goes_sized C b env (Var i) c h vs e = absurd (ready_loop h vs _ e)
 goes_sized C b env (Op p ts) c h vs e = absurd (by (answers b env ts) e)
   where
     by : (o : Option (List Word)) → apply_to p o ≡ LoopTo h vs → ⊥
-    by None e = goes_not h vs e
-    by (Some ws) e = goes_ready h (apply_prim p ws) vs e
+    by None e = not_loop h vs e
+    by (Some ws) e = ready_loop h vs (apply_prim p ws) e
 goes_sized C b env (If d x y) c h vs e = by (goes_sized C b env x c.1 h vs) (goes_sized C b env y c.2 h vs) (answer b env d) e
   where
     by : (answer b env x ≡ LoopTo h vs → length vs ≡ arity C h) → (answer b env y ≡ LoopTo h vs → length vs ≡ arity C h) → (q : Answer) → select q
         NotYet (answer b env x) (answer b env y) ≡ LoopTo h vs → length vs ≡ arity C h
     by fx fy (Ready u) e = ⊎_elim fx fy (pick_either u.bits (answer b env x) (answer b env y) (λ z. z ≡ LoopTo h vs) e)
-    by fx fy (LoopTo g us) e = absurd (goes_not h vs e)
-    by fx fy NotYet e = absurd (goes_not h vs e)
+    by fx fy (LoopTo g us) e = absurd (not_loop h vs e)
+    by fx fy NotYet e = absurd (not_loop h vs e)
 goes_sized C b env (Let bs x) c h vs e = by (λ us. goes_sized C b (env ++ us) x c.1 h vs) (answers b env bs) e
   where
     by : ((us : List Word) → answer b (env ++ us) x ≡ LoopTo h vs → length vs ≡ arity C h) → (o : Option (List Word)) → with_all o NotYet
         (λ us. answer b (env ++ us) x) ≡ LoopTo h vs → length vs ≡ arity C h
-    by f None e = absurd (goes_not h vs e)
+    by f None e = absurd (not_loop h vs e)
     by f (Some us) e = f us e
 goes_sized C b env (Call f k ts) c h vs e = absurd (by (b k) e)
   where
     by : (o : Option Word) → ready_from o ≡ LoopTo h vs → ⊥
-    by None e = goes_not h vs e
-    by (Some v) e = goes_ready h v vs e
+    by None e = not_loop h vs e
+    by (Some v) e = ready_loop h vs v e
 goes_sized C b env (Loop m ts) c h vs e = by (answers b env ts) refl e
   where
     by : (o : Option (List Word)) → answers b env ts ≡ o → loop_to m o ≡ LoopTo h vs → length vs ≡ arity C h
-    by None is e = absurd (goes_not h vs e)
+    by None is e = absurd (not_loop h vs e)
     by (Some us) is e = sym (ap length (ap words_of e)) ∙ all_sized b env ts us is ∙ c.0 ∙ ap (arity C) (ap goal_of e)

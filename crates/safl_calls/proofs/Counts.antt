@@ -1,6 +1,7 @@
 -- The starts of all functions are the events that start one.
-use Rattle.std.proofs.Common.{◌≡◌, ℕ, zero, suc, ◌+◌, ◌<◌, ◌≤◌, ◌*◌, List, [], ◌∷◌, ◌++◌, length, Bool, true, false, cond, ◌==◌, refl, sym, ap, ◌∙◌, arith, ⊎_elim}
+use Rattle.std.proofs.Common.{◌≡◌, ℕ, zero, suc, ◌+◌, ◌<◌, ◌≤◌, ◌*◌, List, [], ◌∷◌, length, Bool, true, false, cond, ◌==◌, refl, sym, ap, ◌∙◌, arith, ⊎_elim}
 use Rattle.std.proofs.lemmas.Bool.{cases_eq, eq-eqb, ne_eqb}
+use Rattle.std.proofs.lemmas.List.{length-append}
 use Rattle.safl_word.specs.Words.{Word}
 use Rattle.safl_term.specs.Program.{Program}
 use Rattle.safl_term.specs.Readiness.{LoopTo, NotYet, answer}
@@ -49,10 +50,6 @@ sum_one a (suc n) lt =
     (λ q. let e : one_at a n ≡ 0 = ap {B = ℕ} (λ b. cond b 1 0) (ne_eqb a n q) in omega (arith, sum_one a n (omega (arith, q)), e))
     (cases_eq a n)
 
-length_append : (xs ys : List (List Word)) → length (xs ++ ys) ≡ length xs + length ys
-length_append [] ys = omega arith
-length_append (x ∷ xs) ys = let e = length_append xs ys in omega (arith, e)
-
 pub starts_below : Program → List Word → State → List Event → ℕ → ℕ
 starts_below C args s es n = sum_below (λ f. length (starts_of C args s es f)) n
 
@@ -92,7 +89,7 @@ module _ (C : Program) (args : List Word) (good : Numbered C) where
       let first = event_total s e inv legal.0 in
       let rest = total (fire C args s e) es (inv_fire C args good s e inv legal.0) legal.1 in
       let both = sum_plus _ (λ f. length (event_start C args s e f)) (λ f. length (starts_of C args (fire C args s e) es f)) C.functions
-      (λ f. length_append (event_start C args s e f) (starts_of C args (fire C args s e) es f)) in
+      (λ f. length-append (event_start C args s e f) (starts_of C args (fire C args s e) es f)) in
       omega (arith, first, rest, both)
 
   -- where no function starts more than n times

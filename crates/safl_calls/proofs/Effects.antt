@@ -3,20 +3,24 @@ use Rattle.std.proofs.Common.{◌≡◌, ◌≢◌, ℕ, zero, suc, ◌+◌, Lis
 use Rattle.std.proofs.Common.{◌==◌, is_some, refl, sym, ap, ◌∙◌, subst, inl, inr, ⊎_elim, ◌⊎◌, arith}
 use Rattle.std.proofs.Math.Path.{fun_ext}
 use Rattle.std.proofs.lemmas.Bool.{cases_Bool, eq-eqb, ne_eqb, false≢true, true≢false, false_from_ne_true}
-use Rattle.safl_calls.proofs.Basics.{some_none, some_is, none_of}
+use Rattle.std.proofs.lemmas.Option.{same_Some}
+use Rattle.safl_calls.proofs.Basics.{some_none}
 use Rattle.safl_calls.proofs.Bodies.{or_some, settled, settled_in, wanted_stands, wanted_stands_in}
 use Rattle.safl_calls.proofs.Locality.{answer_local, all_local, wanted_local, wanted_in_local}
-use Rattle.safl_calls.proofs.Interference.{Sound, SoundIn, sound_c, sound_x, sound_y, sound_bs, sound_body, sound_args, sound_head, sound_rest, select_of, with_of, some_at}
+use Rattle.safl_calls.proofs.Interference.{Sound, SoundIn, sound_c, sound_x, sound_y, sound_bs, sound_body, sound_args, sound_head, sound_rest, select_of, with_of}
 use Rattle.safl_calls.proofs.Spared.{AgreeOn, agree_at, agree_append, Alike, AlikeAll, alike, alike_all, wants_too, wants_in_too, answer_env, wanted_env}
 use Rattle.safl_sites.specs.Conflicts.{Reaches, ReachesIn}
-use Rattle.safl_sites.specs.Kept.{bool_at, feeds, feeds_each, Uses, Decides, DecidesIn, InBody, Held, HeldIn}
+use Rattle.safl_sites.specs.Kept.{feeds, feeds_each, Uses, Decides, DecidesIn, InBody, Held, HeldIn}
 use Rattle.safl_term.proofs.Once.{Once, OnceIn}
 use Rattle.safl_term.specs.Readiness.{Answer, Ready, LoopTo, NotYet, apply_to, loop_to, both, select, with_all, or_else, ready_from, answer, answers, wanted, wanted_in}
 use Rattle.safl_term.specs.Program.{Program}
 use Rattle.safl_term.specs.Standing.{Stands, StandsIn}
 use Rattle.safl_term.specs.Terms.{Term, Terms, Const, Var, Op, If, Let, Call, Loop, Nil, Cons}
 use Rattle.safl_word.specs.Words.{Word, slot}
+use Rattle.safl_word.specs.Lists.{bool_at}
+use Rattle.safl_word.proofs.Options.{none_of, some_at}
 use Rattle.safl_term.proofs.Picking.{pick_cases, Takes, Skips}
+use Rattle.safl_term.proofs.Apart.{ready_not_yet}
 
 unfoldable mutual
   unfolding Stands
@@ -87,9 +91,6 @@ select_ready : (q : Answer) (x y : Option (List Word)) → is_some (select q Non
 select_ready (Ready n) x y e = (n, refl)
 select_ready (LoopTo h vs) x y e = absurd (false≢true e)
 select_ready NotYet x y e = absurd (false≢true e)
-
-ready_yet : (n : Word) → Ready n ≡ NotYet → ⊥
-ready_yet n e = grind arith
 
 taken_x : (q : Answer) (x y : Option (List Word)) → is_some (select q None x y) ≡ true → (is_some y ≡ true → ⊥) → Takes q × (is_some x ≡ true)
 taken_x (Ready u) x y e never = pick_cases u.bits x y x y (λ z z'. is_some z ≡ true) (Takes (Ready u) × (is_some x ≡ true)) (λ one p. ((u, refl, one), p)) (λ other p. absurd (never p)) e
@@ -180,12 +181,12 @@ module _ (C : Program) (k b0 k' : ℕ) (r c : ℕ → Option Word) (other : (j :
 
   each_length : (fe : List Bool) (env : List Word) (ts : Terms) (vs : List Word) → answers r env ts ≡ Some vs → length (feeds_each k fe ts) ≡ length vs
   unfolding answer feeds
-  each_length fe env Nil vs e = ap length (some_is [] vs e)
+  each_length fe env Nil vs e = ap length (same_Some [] vs e)
   each_length fe env (Cons t ts) vs e = by (each_length fe env ts) (answer r env t) (answers r env ts) refl e
     where
       by : ((us : List Word) → answers r env ts ≡ Some us → length (feeds_each k fe ts) ≡ length us) → (a : Answer) (o : Option (List Word)) → answers
           r env ts ≡ o → both a o ≡ Some vs → length (feeds k fe t ∷ feeds_each k fe ts) ≡ length vs
-      by ih (Ready v) (Some us) is e = let l = ih us is in omega (arith, l, ap length (some_is (v ∷ us) vs e))
+      by ih (Ready v) (Some us) is e = let l = ih us is in omega (arith, l, ap length (same_Some (v ∷ us) vs e))
       by ih (Ready v) None is e = absurd (some_none vs (sym e))
       by ih (LoopTo g ws) o is e = absurd (some_none vs (sym e))
       by ih NotYet o is e = absurd (some_none vs (sym e))
@@ -241,7 +242,7 @@ module _ (C : Program) (k b0 k' : ℕ) (r c : ℕ → Option Word) (other : (j :
           ap (λ q. select q NotYet (answer c env x) (answer c env y)) eqd ∙ ap (λ a. select (answer r env d) NotYet a (answer c env y)) (qp env x nx)
               ∙ ap (λ a. select (answer r env d) NotYet (answer r env x) a) (qp env y ny),
           λ m apart out.
-              let none = done_none env d once.0 (sound_c r env d x y once h) (Ready ready.0) ready.1 (ready_yet ready.0) m out in
+              let none = done_none env d once.0 (sound_c r env d x y once h) (Ready ready.0) ready.1 (ready_not_yet ready.0) m out in
               let same = wants_too k r c other there fe env env d (agree_refl fe env len) no_d m in
               ap (λ o. or_else o (select (answer c env d) None (wanted c env x m) (wanted c env y m))) (none_same (wanted c env d m) (wanted r env d m) none same)
               ∙ ap (λ q. or_else (wanted r env d m) (select q None (wanted c env x m) (wanted c env y m))) eqd

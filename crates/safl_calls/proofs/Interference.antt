@@ -14,7 +14,10 @@ use Rattle.safl_term.specs.Program.{Program, unit_for}
 use Rattle.safl_term.specs.Standing.{Stands, StandsIn}
 use Rattle.safl_term.specs.Terms.{Term, Terms, Const, Var, Op, If, Let, Call, Loop, Nil, Cons}
 use Rattle.safl_word.specs.Words.{Word}
-use Rattle.safl_term.proofs.Picking.{pick_two, pick_either, pick_one, pick_other, pick_cases, Takes, Skips}
+use Rattle.safl_word.proofs.Words.{pick_one, pick_other}
+use Rattle.safl_word.proofs.Options.{some_at}
+use Rattle.safl_term.proofs.Picking.{pick_two, pick_either, pick_cases, Takes, Skips}
+use Rattle.safl_term.proofs.Apart.{sent_unsent}
 
 -- each site that has returned is wanted
 abbrev pub Sound : (ℕ → Option Word) → List Word → Term → Type 0
@@ -45,10 +48,6 @@ one_branch NotYet x x' y y' e f = absurd (false≢true e)
 pub with_of : (o : Option (List Word)) (f : List Word → Option (List Word)) → is_some (with_all o None f) ≡ true → (vs : List Word) × (o ≡ Some vs) × (is_some (f vs) ≡ true)
 with_of None f e = absurd (false≢true e)
 with_of (Some vs) f e = (vs, refl, e)
-
-pub some_at : (o : Option (List Word)) → is_some o ≡ true → (vs : List Word) × (o ≡ Some vs)
-some_at None e = absurd (false≢true e)
-some_at (Some vs) e = (vs, refl)
 
 module _ (b : ℕ → Option Word) (env : List Word) where
   pub sound_c : (d x y : Term) → Once (If d x y) → Sound b env (If d x y) → Sound b env d
@@ -202,9 +201,6 @@ abbrev args_of : Mode → List Word
 args_of Idle = []
 args_of (Runs f k ws) = ws
 args_of (Delivers k v) = []
-
-sent_unsent : Sent ≡ Unsent → ⊥
-sent_unsent e = grind arith
 
 pub record Live (C : Program) (s : State) (k : ℕ) : Type 0 where
   pub pos : 0 < k

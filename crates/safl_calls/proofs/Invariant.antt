@@ -1,7 +1,8 @@
 -- What holds of the machine after every legal list.
 use Rattle.std.proofs.Common.{◌≡◌, ◌≢◌, ℕ, zero, suc, ◌<◌, ◌≤◌, List, [], ◌∷◌, length, Some, true, is_some, refl, sym, ap, ◌∙◌, subst, ⊎_elim, arith}
 use Rattle.std.proofs.lemmas.Bool.{cases_eq, eqb-true, eq-eqb, ne_eqb, leb-true, and_parts, false≢true}
-use Rattle.safl_calls.proofs.Basics.{put_at, put_off, some_none, some_of, some_is, cond_some, unsent_is}
+use Rattle.std.proofs.lemmas.Option.{same_Some}
+use Rattle.safl_calls.proofs.Basics.{put_at, put_off, some_none, some_of, cond_some, unsent_is}
 use Rattle.safl_calls.proofs.Bodies.{wanted_grows, settled, goes_stands, wanted_sized, goes_sized}
 use Rattle.safl_calls.proofs.Numbered.{Numbered}
 use Rattle.safl_calls.specs.Machine.{State, Mode, Idle, Runs, Delivers, Event, Accept, Finish, Return, LoopInto, opening, Enabled, CallerRests, Legal}
@@ -11,6 +12,8 @@ use Rattle.safl_term.specs.Readiness.{Answer, Ready, LoopTo, NotYet, answer, wan
 use Rattle.safl_term.specs.Program.{Program, unit_for, arity}
 use Rattle.safl_term.specs.Standing.{Stands}
 use Rattle.safl_word.specs.Words.{Word}
+use Rattle.safl_term.proofs.Apart.{loop_not_yet, not_loop, ready_not_yet, returned_sent, returned_unsent, sent_unsent}
+use Rattle.safl_calls.proofs.Apart.{delivers_runs, idle_runs, runs_delivers, runs_idle}
 
 -- a caller whose body asks for site k
 pub record Asks (C : Program) (s : State) (k : ℕ) : Type 0 where
@@ -47,27 +50,6 @@ found C args s (suc k) ws h =
     let b = and_parts _ _ a.0 in
     record { unsent = unsent_is (s.site (suc k)) b.0; within = leb-true (suc k) C.sites b.1; asks = λ pos. asking C s (suc k) ws _ refl a.1 }
 
-sent_unsent : Sent ≡ Unsent → ⊥
-sent_unsent e = grind arith
-
-returned_sent : (v : Word) → Returned v ≡ Sent → ⊥
-returned_sent v e = grind arith
-
-returned_unsent : (v : Word) → Returned v ≡ Unsent → ⊥
-returned_unsent v e = grind arith
-
-runs_idle : (f k : ℕ) (ws : List Word) → Runs f k ws ≡ Idle → ⊥
-runs_idle f k ws e = grind arith
-
-runs_delivers : (f k j : ℕ) (v : Word) (ws : List Word) → Runs f k ws ≡ Delivers j v → ⊥
-runs_delivers f k j v ws e = grind arith
-
-delivers_runs : (f k j : ℕ) (v : Word) (ws : List Word) → Delivers j v ≡ Runs f k ws → ⊥
-delivers_runs f k j v ws e = grind arith
-
-idle_runs : (f k : ℕ) (ws : List Word) → Idle ≡ Runs f k ws → ⊥
-idle_runs f k ws e = grind arith
-
 abbrev member_of : Mode → ℕ
 member_of Idle = 0
 member_of (Runs f k ws) = f
@@ -89,7 +71,7 @@ module _ (C : Program) (args : List Word) (good : Numbered C) where
   asked_sized : (s : State) (k : ℕ) (ws : List Word) → Inv C s → asked C args s k ≡ Some ws → length ws ≡ arity C (C.callee k)
   asked_sized s zero ws inv h =
       let a = cond_some _ _ ws h in
-      ap length (sym (some_is args ws a.1)) ∙ eqb-true (length args) (arity C C.main) (and_parts _ _ a.0).1 ∙ ap (arity C) (sym good.outside)
+      ap length (sym (same_Some args ws a.1)) ∙ eqb-true (length args) (arity C C.main) (and_parts _ _ a.0).1 ∙ ap (arity C) (sym good.outside)
   asked_sized s (suc k) ws inv h =
       let a = cond_some _ _ ws h in
       let b = and_parts _ _ a.0 in
@@ -105,7 +87,7 @@ module _ (C : Program) (args : List Word) (good : Numbered C) where
   inv_accept s k ws inv asked' idle = record {
     serving = λ u j e. ⊎_elim
         (λ same.
-        let j_is : k ≡ j = some_is k j (sym (ap serves (put_at s.unit w u (Runs (C.callee k) k ws) same)) ∙ e) in
+        let j_is : k ≡ j = same_Some k j (sym (ap serves (put_at s.unit w u (Runs (C.callee k) k ws) same)) ∙ e) in
         (put_at s.site k j Sent j_is, ap (unit_for C) (sym j_is) ∙ same, subst (λ j. j ≤ C.sites) j_is at.within))
         (λ other.
         let sv = inv.serving u j (sym (ap serves (put_off s.unit w u (Runs (C.callee k) k ws) other)) ∙ e) in
@@ -167,7 +149,7 @@ module _ (C : Program) (args : List Word) (good : Numbered C) where
         (λ same. absurd (returned_sent v (sym (put_at s.site k j (Returned v) same) ∙ e)))
         (λ other.
         let before = inv.flight j (sym (put_off s.site k j (Returned v) other) ∙ e) in
-        ap serves (put_off s.unit w (unit_for C j) Idle (λ at_w. other (some_is k j (sym (ap serves (ap s.unit (sym at_w) ∙ d)) ∙ before)))) ∙ before)
+        ap serves (put_off s.unit w (unit_for C j) Idle (λ at_w. other (same_Some k j (sym (ap serves (ap s.unit (sym at_w) ∙ d)) ∙ before)))) ∙ before)
         (cases_eq k j);
     known = λ j e. ⊎_elim (λ same. subst (λ j. j ≤ C.sites) same was.2) (λ other. inv.known j (λ un. e (put_off s.site k j (Returned v) other ∙ un))) (cases_eq k j);
     asks = λ j pos e. kept j (inv.asks j pos (⊎_elim (λ same un. sent_unsent (sym was.0 ∙ ap s.site same ∙ un)) (λ other un. e (put_off s.site k j (Returned v) other ∙ un)) (cases_eq k j)));
@@ -223,7 +205,7 @@ module _ (C : Program) (args : List Word) (good : Numbered C) where
   inv_end s inv w f k ws a e says' some m serves_k in_w = record {
     serving = λ u j h. ⊎_elim
         (λ same.
-        let j_is : k ≡ j = some_is k j (sym serves_k ∙ sym (ap serves (put_at s.unit w u m same)) ∙ h) in
+        let j_is : k ≡ j = same_Some k j (sym serves_k ∙ sym (ap serves (put_at s.unit w u m same)) ∙ h) in
         let sv = inv.serving w k (ap serves e) in
         let sv' = subst (λ j. (ended C w s.site j ≡ Sent) × (unit_for C j ≡ w) × (j ≤ C.sites)) j_is (served k sv.0 sv.1 sv.2, sv.1, sv.2) in
         (sv'.0, sv'.1 ∙ same, sv'.2))
@@ -284,35 +266,26 @@ module _ (C : Program) (args : List Word) (good : Numbered C) where
           keeps zero x same other b = b
           keeps (suc i) x same other b = ap back_word (off i (λ at_w. other (ap C.unit (sym same) ∙ at_w))) ∙ b
 
-  ready_yet : (v : Word) → Ready v ≡ NotYet → ⊥
-  ready_yet v e = grind arith
-
-  goes_yet : (h : ℕ) (vs : List Word) → LoopTo h vs ≡ NotYet → ⊥
-  goes_yet h vs e = grind arith
-
-  goes_not : (h : ℕ) (vs : List Word) → NotYet ≡ LoopTo h vs → ⊥
-  goes_not h vs e = grind arith
-
   inv_finish : (s : State) → Inv C s → (f k : ℕ) (ws : List Word) (v : Word) → s.unit (C.unit f) ≡ Runs f k ws → says C s (C.unit f) ≡ Ready v → Inv C
       (finish C s (C.unit f) (s.unit (C.unit f)) (says C s (C.unit f)))
   inv_finish s inv f k ws v e says' =
       let is : finish C s (C.unit f) (s.unit (C.unit f)) (says C s (C.unit f)) ≡ finish C s (C.unit f) (Runs f k ws) (Ready v) = ap
       (λ m. finish C s (C.unit f) m (says C s (C.unit f))) e ∙ ap (finish C s (C.unit f) (Runs f k ws)) says' in
-      subst (Inv C) (sym is) (inv_end s inv (C.unit f) f k ws (Ready v) e (sym (ap (says_as C (back s)) e) ∙ says') (ready_yet v) (Delivers k v) refl (λ g j us h. absurd (delivers_runs g j k v us h)))
+      subst (Inv C) (sym is) (inv_end s inv (C.unit f) f k ws (Ready v) e (sym (ap (says_as C (back s)) e) ∙ says') (ready_not_yet v) (Delivers k v) refl (λ g j us h. absurd (delivers_runs g j k v us h)))
 
   inv_go_on : (s : State) → Inv C s → (h : ℕ) (vs : List Word) → says C s (C.unit h) ≡ LoopTo h vs → Inv C (loop_into C s (C.unit h) (s.unit (C.unit h)) (says C s (C.unit h)))
   inv_go_on s inv h vs says' = by (s.unit (C.unit h)) refl
     where
       by : (m : Mode) → s.unit (C.unit h) ≡ m → Inv C (loop_into C s (C.unit h) (s.unit (C.unit h)) (says C s (C.unit h)))
-      by Idle e = absurd (goes_not h vs (sym (ap (says_as C (back s)) e) ∙ says'))
-      by (Delivers k v) e = absurd (goes_not h vs (sym (ap (says_as C (back s)) e) ∙ says'))
+      by Idle e = absurd (not_loop h vs (sym (ap (says_as C (back s)) e) ∙ says'))
+      by (Delivers k v) e = absurd (not_loop h vs (sym (ap (says_as C (back s)) e) ∙ says'))
       by (Runs f k ws) e =
           let is : loop_into C s (C.unit h) (s.unit (C.unit h)) (says C s (C.unit h)) ≡ loop_into C s (C.unit h) (Runs f k ws) (LoopTo h vs) = ap
           (λ m. loop_into C s (C.unit h) m (says C s (C.unit h))) e ∙ ap (loop_into C s (C.unit h) (Runs f k ws)) says' in
           let body : answer (back s) ws (C.body f) ≡ LoopTo h vs = sym (ap (says_as C (back s)) e) ∙ says' in
           let m = inv.member (C.unit h) f k ws e in
           let l = good.loops f h m.1 (goes_stands (back s) ws (C.body f) h vs body) in
-          subst (Inv C) (sym is) (inv_end s inv (C.unit h) f k ws (LoopTo h vs) e body (goes_yet h vs) (Runs h k vs) refl
+          subst (Inv C) (sym is) (inv_end s inv (C.unit h) f k ws (LoopTo h vs) e body (loop_not_yet h vs) (Runs h k vs) refl
           (λ g j us e'. (
             ap C.unit (sym (ap member_of e')),
             subst (λ g. g < C.functions) (ap member_of e') l.0,

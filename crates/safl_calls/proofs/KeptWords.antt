@@ -2,7 +2,7 @@
 use Rattle.std.proofs.Common.{◌≡◌, ◌≢◌, ℕ, zero, suc, ◌<◌, ◌≤◌, List, [], ◌∷◌, length, replicate, Option, Some, Bool, true, false, cond, nat_lt}
 use Rattle.std.proofs.Common.{is_some, refl, sym, ap, ◌∙◌, subst, inl, inr, ⊎_elim, ◌⊎◌, arith}
 use Rattle.std.proofs.lemmas.List.{length-replicate}
-use Rattle.std.proofs.lemmas.Bool.{cases_eq, eq-eqb, ne_eqb, lt-ltb, le-ltb, true≢false}
+use Rattle.std.proofs.lemmas.Bool.{cases_eq, eq-eqb, ne_eqb, lt-ltb, le-ltb, true≢false, cases_lt}
 use Rattle.safl_calls.proofs.Basics.{put_at, put_off}
 use Rattle.safl_calls.proofs.Bodies.{wanted_stands}
 use Rattle.safl_calls.proofs.Invariant.{Inv, inv_after, inv_fire, inv_open}
@@ -18,11 +18,13 @@ use Rattle.safl_calls.proofs.Spared.{wants_too}
 use Rattle.safl_sites.specs.Conflicts.{Reaches}
 use Rattle.safl_sites.specs.Kept.{Decides, Held, Kept}
 use Rattle.safl_calls.specs.Interference.{shown_words, shown_as, ShownWordsServe}
-use Rattle.safl_term.specs.Readiness.{Ready, LoopTo, NotYet, answer, wanted, Stage, Unsent, Sent, Returned, back_word}
+use Rattle.safl_term.specs.Readiness.{Ready, LoopTo, answer, wanted, Stage, Unsent, Sent, Returned, back_word}
 use Rattle.safl_term.specs.Program.{Program, unit_for, arity}
 use Rattle.safl_term.specs.Standing.{Stands}
 use Rattle.safl_term.specs.Terms.{Term}
 use Rattle.safl_word.specs.Words.{Word, no_word}
+use Rattle.safl_term.proofs.Apart.{not_loop, returned_unsent, sent_returned, sent_unsent, unsent_returned}
+use Rattle.safl_calls.proofs.Apart.{idle_delivers, runs_delivers}
 
 -- a site of k's caller that came after k, by which k's unit has finished again
 pub record Spent (C : Program) (s : State) (k : ℕ) : Type 0 where
@@ -39,30 +41,6 @@ pub record Spent (C : Program) (s : State) (k : ℕ) : Type 0 where
 pub record Hist (C : Program) (kept : ℕ → Bool) (s : State) (l : ℕ → Word) : Type 0 where
   pub delivers : (u k : ℕ) (v : Word) → s.unit u ≡ Delivers k v → l u ≡ v
   pub words : (k : ℕ) (v : Word) → 0 < k → kept k ≡ false → s.site k ≡ Returned v → (l (unit_for C k) ≡ v) ⊎ Spent C s k
-
-idle_delivers : (k : ℕ) (v : Word) → Idle ≡ Delivers k v → ⊥
-idle_delivers k v e = grind arith
-
-runs_delivers : (f j k : ℕ) (v : Word) (ws : List Word) → Runs f j ws ≡ Delivers k v → ⊥
-runs_delivers f j k v ws e = grind arith
-
-delivers_runs : (f j k : ℕ) (v : Word) (ws : List Word) → Delivers k v ≡ Runs f j ws → ⊥
-delivers_runs f j k v ws e = grind arith
-
-sent_returned : (v : Word) → Sent ≡ Returned v → ⊥
-sent_returned v e = grind arith
-
-sent_unsent : Sent ≡ Unsent → ⊥
-sent_unsent e = grind arith
-
-unsent_returned : (v : Word) → Unsent ≡ Returned v → ⊥
-unsent_returned v e = grind arith
-
-returned_unsent : (v : Word) → Returned v ≡ Unsent → ⊥
-returned_unsent v e = grind arith
-
-goes_not : (h : ℕ) (vs : List Word) → NotYet ≡ LoopTo h vs → ⊥
-goes_not h vs e = grind arith
 
 abbrev word_in : Mode → Word
 word_in Idle = no_word
@@ -210,8 +188,8 @@ module _ (C : Program) (kept : ℕ → Bool) (args : List Word) (good : Numbered
   hist_fire s l (LoopInto g) inv h on = by (s.unit (C.unit g)) refl
     where
       by : (m : Mode) → s.unit (C.unit g) ≡ m → Hist C kept (loop_into C s (C.unit g) (s.unit (C.unit g)) (says C s (C.unit g))) l
-      by Idle e = absurd (goes_not g on.0 (sym (ap (says_as C (back s)) e) ∙ on.1))
-      by (Delivers k v) e = absurd (goes_not g on.0 (sym (ap (says_as C (back s)) e) ∙ on.1))
+      by Idle e = absurd (not_loop g on.0 (sym (ap (says_as C (back s)) e) ∙ on.1))
+      by (Delivers k v) e = absurd (not_loop g on.0 (sym (ap (says_as C (back s)) e) ∙ on.1))
       by (Runs f k ws) e =
           let is : loop_into C s (C.unit g) (s.unit (C.unit g)) (says C s (C.unit g)) ≡ loop_into C s (C.unit g) (Runs f k ws) (LoopTo g on.0) = ap
           (λ m. loop_into C s (C.unit g) m (says C s (C.unit g))) e ∙ ap (loop_into C s (C.unit g) (Runs f k ws)) on.1 in
@@ -263,10 +241,7 @@ module _ (C : Program) (kept : ℕ → Bool) (args : List Word) (good : Numbered
 
     hyb_off : (i j : ℕ) → (j ≡ i → ⊥) → hyb i j ≡ hyb (suc i) j
     hyb_off i j apart = ap (λ b. cond b (r' j) (r j)) (⊎_elim (λ lt. lt-ltb j i lt ∙ sym (lt-ltb j (suc i) (omega (arith, lt))))
-        (λ ge. le-ltb j i ge ∙ sym (le-ltb j (suc i) (omega (arith, ge, apart)))) (split j i))
-      where
-        split : (a b : ℕ) → (a < b) ⊎ (b ≤ a)
-        split a b = grind arith
+        (λ ge. le-ltb j i ge ∙ sym (le-ltb j (suc i) (omega (arith, ge, apart)))) (cases_lt j i))
 
     module _ (u f q : ℕ) (ws : List Word) (runs : s.unit u ≡ Runs f q ws) where
       m : (C.unit f ≡ u) × (f < C.functions) × (length ws ≡ arity C f)

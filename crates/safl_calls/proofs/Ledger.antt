@@ -15,6 +15,7 @@ use Rattle.safl_term.specs.Program.{Program}
 use Rattle.safl_term.specs.WellFormed.{IsNumbered}
 use Rattle.safl_word.specs.Words.{Word}
 use Rattle.safl_term.proofs.Shows.{Asks}
+use Rattle.safl_term.proofs.Apart.{returned_not_sent, unsent_not_sent}
 
 abbrev pub sum_to : ℕ → (ℕ → ℕ) → ℕ
 sum_to zero f = 0
@@ -123,12 +124,6 @@ unsent_due o n e = ap (λ x. outside_due x n) e
 sent_due : (o : Stage) (n : ℕ) → o ≡ Sent → outside_due o n ≡ 0
 sent_due o n e = ap (λ x. outside_due x n) e
 
-not_both : (o : Stage) → o ≡ Unsent → o ≢ Sent
-not_both o e q = cc
-
-was_returned : (o : Stage) (x : Word) → o ≡ Returned x → o ≢ Sent
-was_returned o x e q = cc
-
 -- the words of a unit that was put there
 put_words : (U : ℕ → Activity) (m u f j : ℕ) (xs : List Word) (s : ℕ → Stage) → u ≡ m → words_of (put U m (Active f xs s j) u) ≡ xs
 put_words U m u f j xs s e = ap words_of (put_same U m u (Active f xs s j) e)
@@ -141,7 +136,7 @@ module _ (p : Program) (w : Weights) (n : ℕ) (args : List Word) (v : Word) (d 
       })) (put U (p.unit (p.callee 0)) (Active (p.callee 0) args fresh 0)) Sent
   due_main U o due h e q =
       let m = p.unit (p.callee 0) in
-      let idle = all_idle p n args U o wf h (not_both o e) n m (omega arith) in
+      let idle = all_idle p n args U o wf h (unsent_not_sent o e) n m (omega arith) in
       let none = owes_at p w U q.by_unit m Free idle q.each in
       let opened = unsent_due o (full p w args d) e in
       let words = ap (w.accept (p.callee 0)) (put_words U m m (p.callee 0) 0 args fresh refl) in
@@ -264,7 +259,7 @@ module _ (p : Program) (w : Weights) (n : ℕ) (args : List Word) (v : Word) (d 
   counted_all {t = t} x l r =
       let (rest, e, q) = due_legal (full p w args d) (fine_opening p args) l opening_due in
       let h = fine_legal p n args wf (fine_opening p args) l in
-      let zero_of = λ (u : ℕ) (lt : u < n). owes_at p w t.units q.by_unit u Free (all_idle p n args t.units t.outside wf h (was_returned t.outside x r) n u (omega arith)) q.each in
+      let zero_of = λ (u : ℕ) (lt : u < n). owes_at p w t.units q.by_unit u Free (all_idle p n args t.units t.outside wf h (returned_not_sent t.outside x r) n u (omega arith)) q.each in
       let none = sum_zero n q.by_unit zero_of in
       let out = ap (λ o. outside_due o (full p w args d)) r in
       let total = q.total in

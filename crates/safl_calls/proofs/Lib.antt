@@ -22,3 +22,4 @@ pub mod Effects
 pub mod Positions
 pub mod KeptWords
 pub mod Sequential
+pub mod Apart

@@ -4,10 +4,11 @@ use Rattle.std.specs.List.Sorted.{IsPermutation}
 use Rattle.std.proofs.lemmas.Bool.{eq-eqb, and_from, le-leb}
 use Rattle.safl_word.specs.Words.{Word, no_word}
 use Rattle.safl_term.specs.Program.{Program, unit_for, arity}
-use Rattle.safl_term.specs.Readiness.{Stage, Unsent, Sent, Returned, Answer, LoopTo, NotYet, answer, wanted}
+use Rattle.safl_term.specs.Readiness.{Stage, Unsent, Returned, Answer, LoopTo, NotYet, answer, wanted}
 use Rattle.safl_term.proofs.Bridge.{back_of}
 use Rattle.safl_term.specs.Meaning.{Main, main_cost, main_calls, loops, at_function}
 use Rattle.safl_term.specs.WellFormed.{IsNumbered}
+use Rattle.safl_term.proofs.Apart.{sent_unsent}
 use Rattle.safl_calls.specs.Machine.{State, Mode, Idle, Runs, Delivers, Event, Accept, Finish, Return, LoopInto, opening, is_unsent, back, says_as}
 use Rattle.safl_calls.specs.Machine.{says, asked_as, Enabled, accept, loop_into, fire, Legal, after}
 use Rattle.safl_calls.proofs.Basics.{serves}
@@ -65,9 +66,6 @@ free_giving v i e = grind arith
 
 active_giving : (f j : ℕ) (xs : List Word) (r : ℕ → Stage) (v : Word) (i : ℕ) → Active f xs r j ≡ Giving v i → ⊥
 active_giving f j xs r v i e = grind arith
-
-sent_unsent : Sent ≡ Unsent → ⊥
-sent_unsent e = grind arith
 
 module _ (C : Program) (site : ℕ → Stage) where
   as_runs : (m : Mode) (f j : ℕ) (xs : List Word) (r : ℕ → Stage) → activity C site m ≡ Active f xs r j → (m ≡ Runs f j xs) × (own C site f ≡ r)

@@ -2,20 +2,23 @@
 use Rattle.std.proofs.Common.{◌≡◌, ◌≢◌, ℕ, zero, suc, ◌<◌, List, [], ◌∷◌, Some, cond, ◌==◌, refl, sym, ap, ◌∙◌, subst, arith, ⊎_elim}
 use Rattle.std.proofs.Math.Path.{fun_ext}
 use Rattle.std.proofs.lemmas.Bool.{cases_eq, eq-eqb, ne_eqb, and_parts}
+use Rattle.std.proofs.lemmas.Option.{same_Some}
 use Rattle.safl_word.specs.Words.{Word}
 use Rattle.safl_term.specs.Program.{Program, unit_for}
-use Rattle.safl_term.specs.Readiness.{Stage, Unsent, Sent, Returned, back_word, Ready, LoopTo, NotYet, answer, wanted}
+use Rattle.safl_term.specs.Readiness.{Stage, Unsent, Sent, Returned, back_word, Ready, LoopTo, answer, wanted}
 use Rattle.safl_term.proofs.Bridge.{back_of}
 use Rattle.safl_term.specs.Standing.{Stands}
+use Rattle.safl_term.proofs.Apart.{not_loop, sent_unsent}
 use Rattle.safl_calls.specs.Machine.{State, Mode, Idle, Runs, Delivers, Event, Accept, Finish, Return, LoopInto, put, back, says_as, says, asked_as}
 use Rattle.safl_calls.specs.Machine.{asked, Enabled, ended, accept, finish, give_back, loop_into, fire, Legal, after}
 use Rattle.safl_calls.proofs.Basics.{serves}
 use Rattle.safl_calls.proofs.Numbered.{Numbered}
-use Rattle.safl_calls.proofs.Basics.{put_at, put_off, some_is, cond_some, unsent_is}
+use Rattle.safl_calls.proofs.Basics.{put_at, put_off, cond_some, unsent_is}
 use Rattle.safl_calls.proofs.Locality.{answer_local, wanted_local}
 use Rattle.safl_calls.proofs.Invariant.{Inv, found, inv_fire}
 use Rattle.safl_calls.proofs.Activities.{fresh, Activity, Free, Active, Giving, Scene, mark, Step, accept_main, accept as step_accept}
 use Rattle.safl_calls.proofs.Activities.{finish as step_finish, loop as step_loop, return_main, give, Trail, l_none, l_more}
+use Rattle.safl_calls.proofs.Apart.{runs_delivers, runs_idle}
 
 -- the stages of the own sites of f
 abbrev pub own : Program → (ℕ → Stage) → ℕ → ℕ → Stage
@@ -59,15 +62,6 @@ module _ (C : Program) where
   activity_same site site' (Runs f k ws) h = ap (λ (r : ℕ → Stage). Active f ws r k) (fun_ext (own_same site site' f (h f k ws refl)))
   activity_same site site' (Delivers k v) h = refl
 
-sent_not_unsent : Sent ≡ Unsent → ⊥
-sent_not_unsent e = grind arith
-
-runs_not_idle : (f k : ℕ) (ws : List Word) → Runs f k ws ≡ Idle → ⊥
-runs_not_idle f k ws e = grind arith
-
-not_yet_loop : (h : ℕ) (vs : List Word) → NotYet ≡ LoopTo h vs → ⊥
-not_yet_loop h vs e = grind arith
-
 module _ (C : Program) (args : List Word) (good : Numbered C) (s : State) (inv : Inv C s) where
   -- the own sites of the members of an idle unit are unsent
   idle_unsent : (u : ℕ) → s.unit u ≡ Idle → (j : ℕ) → C.unit (C.caller (suc j)) ≡ u → s.site (suc j) ≡ Unsent
@@ -76,11 +70,11 @@ module _ (C : Program) (args : List Word) (good : Numbered C) (s : State) (inv :
       by : (x : Stage) → s.site (suc j) ≡ x → s.site (suc j) ≡ Unsent
       by Unsent e = e
       by Sent e =
-          let a = inv.asks (suc j) (omega arith) (λ z. sent_not_unsent (sym e ∙ z)) in
-          absurd (runs_not_idle (C.caller (suc j)) a.serves a.args (sym a.runs ∙ ap s.unit at_u ∙ idle))
+          let a = inv.asks (suc j) (omega arith) (λ z. sent_unsent (sym e ∙ z)) in
+          absurd (runs_idle (C.caller (suc j)) a.serves a.args (sym a.runs ∙ ap s.unit at_u ∙ idle))
       by (Returned v) e =
           let a = inv.asks (suc j) (omega arith) (λ z. returned_not v (sym e ∙ z)) in
-          absurd (runs_not_idle (C.caller (suc j)) a.serves a.args (sym a.runs ∙ ap s.unit at_u ∙ idle))
+          absurd (runs_idle (C.caller (suc j)) a.serves a.args (sym a.runs ∙ ap s.unit at_u ∙ idle))
         where
           returned_not : (v : Word) → Returned v ≡ Unsent → ⊥
           returned_not v e = grind arith
@@ -190,7 +184,7 @@ module _ (C : Program) (args : List Word) (good : Numbered C) (s : State) (inv :
   begin_main : (ws : List Word) → asked C args s 0 ≡ Some ws → s.unit (unit_for C 0) ≡ Idle → Step C args (picture C s) (Accept 0) (picture C (accept C s 0 (asked C args s 0)))
   begin_main ws h idle =
       let a = cond_some _ _ ws h in
-      let is : asked C args s 0 ≡ Some args = h ∙ ap Some (sym (some_is args ws a.1)) in
+      let is : asked C args s 0 ≡ Some args = h ∙ ap Some (sym (same_Some args ws a.1)) in
       let un = unsent_is (s.site 0) (and_parts _ _ a.0).0 in
       let start = own_fresh C (put s.site 0 Sent) (C.callee 0) (λ j from. put_off s.site 0 (suc j) Sent (λ q. absurd (omega (arith, q))) ∙ idle_unsent (unit_for C 0) idle j (ap C.unit from)) in
       subst (λ o. Step C args (picture C s) (Accept 0) (picture C (accept C s 0 o))) (sym is)
@@ -207,7 +201,7 @@ module _ (C : Program) (args : List Word) (good : Numbered C) (s : State) (inv :
       let e = unit_for C (suc k) in
       let c = cond_some _ _ ws h in
       let want = cond_some _ _ ws (sym (ap (λ m. asked_as C (back s) m g (suc k)) a.runs) ∙ c.1) in
-      let apart : C.unit g ≢ e = λ q. runs_not_idle g a.serves a.args (sym a.runs ∙ ap s.unit q ∙ idle) in
+      let apart : C.unit g ≢ e = λ q. runs_idle g a.serves a.args (sym a.runs ∙ ap s.unit q ∙ idle) in
       let start = own_fresh C (put s.site (suc k) Sent) (C.callee (suc k))
       (λ j from. put_off s.site (suc k) (suc j) Sent (λ q. apart (ap (λ n. C.unit (C.caller n)) q ∙ ap C.unit from)) ∙ idle_unsent e idle j (ap C.unit from)) in
       subst (λ o. Step C args (picture C s) (Accept (suc k)) (picture C (accept C s (suc k) o))) (sym h)
@@ -230,8 +224,8 @@ module _ (C : Program) (args : List Word) (good : Numbered C) (s : State) (inv :
   begin_loop h vs is = by (s.unit (C.unit h)) refl
     where
       by : (m : Mode) → s.unit (C.unit h) ≡ m → Step C args (picture C s) (LoopInto h) (picture C (loop_into C s (C.unit h) (s.unit (C.unit h)) (says C s (C.unit h))))
-      by Idle e = absurd (not_yet_loop h vs (sym (ap (says_as C (back s)) e) ∙ is))
-      by (Delivers k v) e = absurd (not_yet_loop h vs (sym (ap (says_as C (back s)) e) ∙ is))
+      by Idle e = absurd (not_loop h vs (sym (ap (says_as C (back s)) e) ∙ is))
+      by (Delivers k v) e = absurd (not_loop h vs (sym (ap (says_as C (back s)) e) ∙ is))
       by (Runs f k ws) runs =
           let body : answer (back s) ws (C.body f) ≡ LoopTo h vs = sym (ap (says_as C (back s)) runs) ∙ is in
           let end : loop_into C s (C.unit h) (s.unit (C.unit h)) (says C s (C.unit h)) ≡ loop_into C s (C.unit h) (Runs f k ws) (LoopTo h vs) = ap
@@ -247,13 +241,10 @@ module _ (C : Program) (args : List Word) (good : Numbered C) (s : State) (inv :
       (return_main (ap (activity C s.site) del))
   begin_return (suc k) v del =
       let sent = (inv.serving (unit_for C (suc k)) (suc k) (ap serves del)).0 in
-      let a = inv.asks (suc k) (omega arith) (λ z. sent_not_unsent (sym sent ∙ z)) in
-      let apart : C.unit (C.caller (suc k)) ≢ unit_for C (suc k) = λ q. runs_not_delivers (C.caller (suc k)) a.serves (suc k) a.args v (sym a.runs ∙ ap s.unit q ∙ del) in
+      let a = inv.asks (suc k) (omega arith) (λ z. sent_unsent (sym sent ∙ z)) in
+      let apart : C.unit (C.caller (suc k)) ≢ unit_for C (suc k) = λ q. runs_delivers (C.caller (suc k)) a.serves (suc k) v a.args (sym a.runs ∙ ap s.unit q ∙ del) in
       subst (λ t. Step C args (picture C s) (Return (suc k)) t) (moved_scene k a.serves a.args (Returned v) Idle Free a.runs apart refl)
       (give (ap (activity C s.site) del))
-    where
-      runs_not_delivers : (f k j : ℕ) (ws : List Word) (v : Word) → Runs f k ws ≡ Delivers j v → ⊥
-      runs_not_delivers f k j ws v e = grind arith
 
   pub step_of : (e : Event) → Enabled C args s e → Step C args (picture C s) e (picture C (fire C args s e))
   step_of (Accept zero) h = begin_main h.0 h.1 h.2

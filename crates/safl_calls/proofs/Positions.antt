@@ -8,7 +8,7 @@ use Rattle.safl_calls.specs.Machine.{State, back}
 use Rattle.safl_calls.proofs.Basics.{serves}
 use Rattle.safl_calls.proofs.Effects.{Before, BeforeIn}
 use Rattle.safl_calls.proofs.Interference.{Sound, SoundIn, sound_c, sound_x, sound_y, sound_bs, sound_body, sound_args, sound_head, sound_rest}
-use Rattle.safl_calls.proofs.Interference.{select_of, one_branch, with_of, some_at, Live, sent_live, wanted_here, sound_at, stands_at, caller_lt}
+use Rattle.safl_calls.proofs.Interference.{select_of, one_branch, with_of, Live, sent_live, wanted_here, sound_at, stands_at, caller_lt}
 use Rattle.safl_calls.proofs.Interference.{climb}
 use Rattle.safl_sites.specs.Conflicts.{Reaches, Here, Through, ReachesIn, Apart, ApartIn, Conflict}
 use Rattle.safl_term.proofs.Once.{Once, OnceIn}
@@ -17,6 +17,8 @@ use Rattle.safl_term.specs.Program.{Program, unit_for}
 use Rattle.safl_term.specs.Standing.{Stands, StandsIn}
 use Rattle.safl_term.specs.Terms.{Term, Terms, Const, Var, Op, If, Let, Call, Loop, Nil, Cons}
 use Rattle.safl_word.specs.Words.{Word}
+use Rattle.safl_word.proofs.Options.{some_at}
+use Rattle.safl_term.proofs.Apart.{returned_sent}
 
 module _ (C : Program) (b : ℕ → Option Word) (a c k : ℕ) (apart : a ≢ c) (out_c : is_some (b c) ≡ false) (vp : (t : Term) → Stands c t → Reaches C k t) where
   up_in : (ts : Terms) → StandsIn a ts → ReachesIn C a ts
@@ -151,9 +153,6 @@ module _ (C : Program) (good : Numbered C) (s : State) (inv : Inv C s) where
 
     stands_k : Stands k (C.body (C.caller k))
     stands_k = wanted_stands (back s) ak.args (C.body (C.caller k)) k (ap is_some ak.asks)
-
-    returned_sent : (w : Word) → Returned w ≡ Sent → ⊥
-    returned_sent w e = grind arith
 
     abbrev Result : Type 0
     Result = Conflict C k p ⊎ After C s k p

@@ -12,6 +12,7 @@ use Rattle.safl_term.specs.Meaning.{Gives}
 use Rattle.safl_term.specs.Program.{Program}
 use Rattle.safl_term.specs.WellFormed.{IsNumbered}
 use Rattle.safl_word.specs.Words.{Word}
+use Rattle.safl_term.proofs.Apart.{sent_returned, unsent_not_sent}
 use Rattle.safl_calls.proofs.Holds.{Asked, At, Holds, NotReturned, NotRunning, Running, Serves, delivering_at, frame, fresh_not, fresh_unsent}
 use Rattle.safl_calls.proofs.Holds.{from_outside, from_site, holds_finish, holds_loop, not_sent, outside_kept, put_other, put_same, running_at}
 use Rattle.safl_calls.proofs.Holds.{running_wants}
@@ -28,9 +29,6 @@ marked_keeps s i x never k w e =
 -- the units after c's site i came into state x, and unit e into y
 abbrev pub moved : (ℕ → Activity) → ℕ → ℕ → ℕ → Stage → Activity → ℕ → Activity
 moved U c e i x y = put (put U c (mark (U c) i x)) e y
-
-sent_not_returned : (w : Word) → Sent ≡ Returned w → ⊥
-sent_not_returned w e = cc
 
 unsent_returned : (x : Stage) (w : Word) → x ≡ Unsent → x ≡ Returned w → ⊥
 unsent_returned x w e q = cc
@@ -141,7 +139,7 @@ holds_accept p n args U o k j xs ws s wf h runs unsent want idle =
     let not_running : NotRunning (U e) = subst NotRunning (sym idle) tt in
     let free : (i : ℕ) → Serves (U e) i → ⊥ = λ i z. subst (λ w. Serves w i) idle z in
     let caller = moved_caller p n args U o c e k Sent y wf apart not_returned not_running g xs s j refl (λ i l z. free i z) runs r
-    (λ w z. absurd (sent_not_returned w z))
+    (λ w z. absurd (sent_returned w z))
     (λ z. (ws, q.0, refl)) in
     let callee : At p args (moved U c e k Sent y) o e y = record {
       own = refl;
@@ -185,7 +183,7 @@ holds_give p n args U o k v nz wf h del =
     let served : (i : ℕ) → Serves (U e) i → k ≡ i = λ i z. subst (λ w. Serves w i) del z in
     let caller = moved_caller p n args U o c e k (Returned v) Free wf apart not_returned not_running g xs s j refl (λ i l z. l (sym (served i z))) runs r
     (λ w z. (d.words, asks, subst (λ w. Gives p d.words (p.body f) w) (same_word v w z) d.value))
-    (λ z. absurd (sent_not_returned v (sym z))) in
+    (λ z. absurd (sent_returned v (sym z))) in
     record {
       at = λ u. ⊎_elim
           (λ z. subst (At p args (moved U c e k (Returned v) Free) o u) (sym (moved_at_e p n args U o c e k (Returned v) Free wf apart not_returned not_running u z)) tt)
@@ -219,9 +217,6 @@ all_idle p n args U o wf h out (suc m) u le = by_unit (U u) refl (λ w l. all_id
     by_unit Free q above = q
     by_unit (Active f xs s k) q above = let r = running_at p args U o u f xs s k h q in absurd (by_asked k r.words r.home r.asked above)
     by_unit (Giving v k) q above = let r = delivering_at p args U o u v k h q in absurd (by_asked k r.words r.home r.asked above)
-
-unsent_not_sent : (o : Stage) → o ≡ Unsent → o ≢ Sent
-unsent_not_sent o e q = cc
 
 pub holds_main : (p : Program) (n : ℕ) (args : List Word) (U : ℕ → Activity) (o : Stage) → IsNumbered p n → Holds p args U o → o ≡ Unsent → Holds p
     args (put U (p.unit (p.callee 0)) (Active (p.callee 0) args fresh 0)) Sent

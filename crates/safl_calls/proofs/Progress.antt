@@ -14,6 +14,7 @@ use Rattle.safl_term.specs.Program.{Program}
 use Rattle.safl_term.specs.Terms.{Term}
 use Rattle.safl_term.specs.WellFormed.{Spans, IsNumbered}
 use Rattle.safl_word.specs.Words.{Word}
+use Rattle.safl_term.proofs.Apart.{returned_not_sent}
 
 abbrev pub Enabled : Program → List Word → Scene → Type 0
 Enabled p args s = (e : Event) × (t : Scene) × Step p args s e t
@@ -100,9 +101,6 @@ module _ (p : Program) (n : ℕ) (args : List Word) (s : Scene) (wf : IsNumbered
       by_outside Unsent e m = (Accept 0, _, accept_main e)
       by_outside Sent e m = let u = p.unit (p.callee 0) in busy_enabled (suc u) u (omega arith) (serves_busy (s.units u) 0 m)
       by_outside (Returned v) e m = absurd (open_ v e)
-
-returned_not_sent : (x : Stage) (v : Word) → x ≡ Returned v → x ≢ Sent
-returned_not_sent x v e q = cc
 
 returned_not_unsent : (x : Stage) (v : Word) → x ≡ Returned v → x ≡ Unsent → ⊥
 returned_not_unsent x v e q = cc

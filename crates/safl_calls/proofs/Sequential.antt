@@ -11,30 +11,15 @@ use Rattle.safl_sites.specs.Conflicts.{IsSequential}
 use Rattle.safl_calls.specs.Machine.{State, Mode, Idle, Runs, Delivers, Event, Accept, Finish, Return, LoopInto, opening, Enabled, after, back, says_as, says}
 use Rattle.safl_sites.specs.Conflicts.{Here}
 use Rattle.safl_term.specs.Program.{Program, unit_for}
-use Rattle.safl_term.specs.Readiness.{Answer, Ready, LoopTo, NotYet, answer, Unsent, Sent, back_word}
+use Rattle.safl_term.specs.Readiness.{Answer, Ready, LoopTo, NotYet, answer, Sent, back_word}
 use Rattle.safl_word.specs.Words.{Word}
-
-sent_unsent : Sent ≡ Unsent → ⊥
-sent_unsent e = grind arith
-
-delivers_runs : (j : ℕ) (v : Word) (f k : ℕ) (ws : List Word) → Delivers j v ≡ Runs f k ws → ⊥
-delivers_runs j v f k ws e = grind arith
-
-ready_not : (v : Word) → Ready v ≡ NotYet → ⊥
-ready_not v e = grind arith
-
-loop_not : (h : ℕ) (vs : List Word) → LoopTo h vs ≡ NotYet → ⊥
-loop_not h vs e = grind arith
-
-not_ready : (v : Word) → NotYet ≡ Ready v → ⊥
-not_ready v e = grind arith
-
-not_loop : (h : ℕ) (vs : List Word) → NotYet ≡ LoopTo h vs → ⊥
-not_loop h vs e = grind arith
+use Rattle.safl_term.proofs.Apart.{loop_not_yet, not_loop, ready_not_yet, sent_unsent}
+use Rattle.safl_term.proofs.Widths.{not_ready}
+use Rattle.safl_calls.proofs.Apart.{delivers_runs}
 
 yet_or : (a : Answer) → ((a ≡ NotYet → ⊥) → ⊥) → a ≡ NotYet
-yet_or (Ready v) h = absurd (h (ready_not v))
-yet_or (LoopTo g vs) h = absurd (h (loop_not g vs))
+yet_or (Ready v) h = absurd (h (ready_not_yet v))
+yet_or (LoopTo g vs) h = absurd (h (loop_not_yet g vs))
 yet_or NotYet h = refl
 
 module _ (C : Program) (good : Numbered C) (s : State) (inv : Inv C s) where
@@ -214,7 +199,7 @@ module _ (C : Program) (good : Numbered C) (s : State) (inv : Inv C s) where
           serving = ap serves h.1;
           rests = λ j sent is.
               let a = inv.asks (suc j) (omega arith) (λ un. sent_unsent (sym sent ∙ un)) in
-              delivers_runs k h.0 (C.caller (suc j)) a.serves a.args (sym h.1 ∙ ap s.unit (sym is) ∙ a.runs);
+              delivers_runs (C.caller (suc j)) a.serves k h.0 a.args (sym h.1 ∙ ap s.unit (sym is) ∙ a.runs);
           fits = subst (λ m. Fits (unit_for C k) m (says C s (unit_for C k)) (Return k)) (sym h.1) refl;
         }
     leaf args (LoopInto g) other h = by (s.unit (C.unit g)) refl

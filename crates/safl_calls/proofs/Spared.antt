@@ -1,15 +1,17 @@
 -- Where the word of a site no longer matters.
 use Rattle.std.proofs.Common.{◌≡◌, ℕ, zero, suc, List, [], ◌∷◌, ◌++◌, length, length-append, Option, Some, None, Bool, true, false, cond, ◌||◌, ◌==◌}
-use Rattle.std.proofs.Common.{is_some, refl, sym, ap, ◌∙◌, subst, inl, inr, arith}
+use Rattle.std.proofs.Common.{is_some, refl, ap, ◌∙◌, subst, inl, inr, arith}
 use Rattle.std.proofs.Math.Path.{fun_ext}
 use Rattle.std.proofs.lemmas.Bool.{eqb-false, false≢true, true≢false, or_parts, false_from_ne_true}
-use Rattle.safl_sites.specs.Kept.{bool_at, feeds, feeds_any, feeds_each, Uses, UsesIn, Decides, DecidesIn}
+use Rattle.safl_sites.specs.Kept.{feeds, feeds_any, feeds_each, Uses, UsesIn, Decides, DecidesIn}
 use Rattle.safl_term.specs.Readiness.{Answer, Ready, LoopTo, NotYet, apply_to, loop_to, both, select, with_all, or_else, ready_from, answer, answers, wanted, wanted_in}
 use Rattle.safl_term.specs.Terms.{Term, Terms, Const, Var, Op, If, Let, Call, Loop, Nil, Cons}
 use Rattle.safl_word.specs.Words.{Word, slot}
 use Rattle.safl_term.proofs.Picking.{pick_two}
 use Rattle.safl_word.specs.declared.primitive.Primitive.{Primitive}
 use Rattle.safl_word.specs.Primitives.{apply_prim}
+use Rattle.safl_word.specs.Lists.{bool_at}
+use Rattle.safl_term.proofs.OrElse.{or_alike}
 
 -- the words of two environments agree where no feed says otherwise
 abbrev pub AgreeOn : List Bool → List Word → List Word → Type 0
@@ -148,10 +150,6 @@ module _ (k : ℕ) (b c : ℕ → Option Word) (other : (j : ℕ) → (j ≡ k �
     alike_all fe env env' (Cons t ts) a no_if =
         both_alike (feeds k fe t) (feeds_each k fe ts) _ _ _ _ (alike fe env env' t a (λ z. no_if (inl z))) (alike_all fe env env' ts a (λ z. no_if (inr z)))
 
-or_same : {A : Type 0} (o p : Option A) → is_some (or_else o p) ≡ (is_some o || is_some p)
-or_same None p = refl
-or_same (Some x) p = refl
-
 pub all_there : (fs : List Bool) (o q : Option (List Word)) → AlikeAll fs o q → is_some o ≡ is_some q
 all_there fs None None h = refl
 all_there fs (Some vs) (Some ws) h = refl
@@ -184,9 +182,6 @@ cond_there : (t : Bool) (o o' p p' : Option (List Word)) → is_some o ≡ is_so
 cond_there true o o' p p' ho hp = ho
 cond_there false o o' p p' ho hp = hp
 
-or_there : (o o' p p' : Option (List Word)) → is_some o ≡ is_some o' → is_some p ≡ is_some p' → is_some (or_else o p) ≡ is_some (or_else o' p')
-or_there o o' p p' ho hp = or_same o p ∙ ap (λ b. b || is_some p) ho ∙ ap (λ b. is_some o' || b) hp ∙ sym (or_same o' p')
-
 module _ (k : ℕ) (b c : ℕ → Option Word) (other : (j : ℕ) → (j ≡ k → ⊥) → b j ≡ c j) (there : (j : ℕ) → is_some (b j) ≡ is_some (c j)) where
   mutual
     unfolding answer wanted feeds Decides
@@ -197,11 +192,11 @@ module _ (k : ℕ) (b c : ℕ → Option Word) (other : (j : ℕ) → (j ≡ k �
     wants_too fe env env' (Var i) a no_if m = refl
     wants_too fe env env' (Op p ts) a no_if m = wants_in_too fe env env' ts a no_if m
     wants_too fe env env' (If d x y) a no_if m =
-        or_there _ _ _ _ (wants_too fe env env' d a (λ z. no_if (inr (inl z))) m)
+        or_alike _ _ _ _ (wants_too fe env env' d a (λ z. no_if (inr (inl z))) m)
         (select_there (feeds k fe d) (answer b env d) (answer c env' d) _ _ _ _ (false_from_ne_true _ (λ e. no_if (inl e))) (alike k b c other there fe env env' d a (λ z. no_if (inr (inl z))))
         (wants_too fe env env' x a (λ z. no_if (inr (inr (inl z)))) m) (wants_too fe env env' y a (λ z. no_if (inr (inr (inr z)))) m))
     wants_too fe env env' (Let bs x) a no_if m =
-        or_there _ _ _ _ (wants_in_too fe env env' bs a (λ z. no_if (inl z)) m)
+        or_alike _ _ _ _ (wants_in_too fe env env' bs a (λ z. no_if (inl z)) m)
         (with_there (feeds_each k fe bs) (answers b env bs) (answers c env' bs) (λ vs. wanted b (env ++ vs) x m) (λ vs. wanted c (env' ++ vs) x m)
         (alike_all k b c other there fe env env' bs a (λ z. no_if (inl z)))
         (λ vs ws h. wants_too (fe ++ feeds_each k fe bs) (env ++ vs) (env' ++ ws) x (agree_append fe env env' (feeds_each k fe bs) vs ws a h) (λ z. no_if (inr z)) m))
@@ -212,7 +207,7 @@ module _ (k : ℕ) (b c : ℕ → Option Word) (other : (j : ℕ) → (j ≡ k �
     pub wants_in_too : (fe : List Bool) (env env' : List Word) (ts : Terms) → AgreeOn fe env env' → (DecidesIn k fe ts → ⊥) → (m : ℕ) → is_some (wanted_in b env ts m) ≡ is_some (wanted_in c env' ts m)
     wants_in_too fe env env' Nil a no_if m = refl
     wants_in_too fe env env' (Cons t ts) a no_if m =
-        or_there _ _ _ _ (wants_too fe env env' t a (λ z. no_if (inl z)) m) (wants_in_too fe env env' ts a (λ z. no_if (inr z)) m)
+        or_alike _ _ _ _ (wants_too fe env env' t a (λ z. no_if (inl z)) m) (wants_in_too fe env env' ts a (λ z. no_if (inr z)) m)
 
 -- environments that agree on the slots that are used
 same_append : (xs ys us : List Word) (i : ℕ) → length xs ≡ length ys → slot xs i ≡ slot ys i → slot (xs ++ us) i ≡ slot (ys ++ us) i

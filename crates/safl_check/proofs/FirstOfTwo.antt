@@ -4,10 +4,6 @@ use Rattle.safl_word.specs.declared.fault.Fault.{Fault}
 use Rattle.safl_term.specs.Readiness.{or_else}
 use Rattle.safl_typing.specs.Walk.{needs}
 
-pub or_else_assoc : (a b c : Option Fault) → or_else (or_else a b) c ≡ or_else a (or_else b c)
-or_else_assoc (Some f) b c = refl
-or_else_assoc None b c = refl
-
 pub first_of : (a b c : Option Fault) (f : Fault) → a ≡ or_else b c → Some f ≡ b → a ≡ Some f
 first_of a b c f e h = e ∙ sym (ap (λ (o : Option Fault). or_else o c) h)
 

@@ -19,8 +19,9 @@ use Rattle.safl_typing.specs.declared.heads.Head as code_head
 use Rattle.safl_typing.specs.PlainHeads.{shown_heads, known}
 use Rattle.safl_typing.specs.Rewriting.{Expression, rewritten, nodes}
 use Rattle.safl_term.specs.Readiness.{or_else}
+use Rattle.safl_term.proofs.OrElse.{or_else_assoc}
 use Rattle.safl_typing.specs.Walk.{fault, fault_with, needs, limit, excess, long_let, limits_from, main_fault}
-use Rattle.safl_check.proofs.FirstOfTwo.{or_else_assoc, first_of, second_of, none_both, needs_none}
+use Rattle.safl_check.proofs.FirstOfTwo.{first_of, second_of, none_both, needs_none}
 
 -- the element that is one too many
 pub excess_some : {A B : Type 0} (s : A → B) (place : B → ℕ) (xs : List A) (n : ℕ) (x : A) → true ≡ nat_lt n (length xs) → x ≡ get_or xs n x → excess n (map place (map s xs)) ≡ Some (place (s x))

@@ -1,10 +1,10 @@
 -- Names as text, and parameters.
-use Rattle.std.proofs.Common.{◌≡◌, ℕ, zero, suc, ◌+◌, ◌<◌, List, [], ◌∷◌, ◌++◌, get_or, take, length, map, subst, Global, String, Bool, true, false}
-use Rattle.std.proofs.Common.{◌&&◌, ◌||◌, leb, refl, sym, ap, ◌∙◌, arith, ◌⊎◌, inl, inr, ⊎_elim}
+use Rattle.std.proofs.Common.{◌≡◌, ℕ, zero, suc, ◌+◌, ◌<◌, List, [], ◌∷◌, ◌++◌, get_or, take, length, map, subst, Global, String, true}
+use Rattle.std.proofs.Common.{◌||◌, leb, sym, ap, ◌∙◌, arith, ⊎_elim}
 use Rattle.std.specs.List.{list_all}
 use Rattle.std.specs.String.{string_bytes}
 use Rattle.std.specs.Str.{IsUtf8}
-use Rattle.std.proofs.lemmas.Bool.{leb-true, eqb-true}
+use Rattle.std.proofs.lemmas.Bool.{leb-true, eqb-true, and_parts, or_cases}
 use Rattle.std.proofs.lemmas.Str.{IsUtf8-from_ascii}
 use Rattle.std.proofs.lemmas.List.{map-append}
 use Rattle.safl_term.specs.declared.checked.Parameter.{Parameter}
@@ -16,31 +16,23 @@ use Rattle.safl_typing.specs.Heads.{Slot, slot_of}
 use Rattle.safl_word.specs.Numerals.{between}
 use Rattle.safl_word.specs.Tokens.{IsName, IsNameLike, in_name, begins_name}
 
-either : (a b : Bool) → (a || b) ≡ true → (a ≡ true) ⊎ (b ≡ true)
-either true b e = inl refl
-either false b e = inr e
-
-both : (a b : Bool) → (a && b) ≡ true → (a ≡ true) × (b ≡ true)
-both true b e = (refl, e)
-both false b e = absurd cc
-
 below : (low high c : ℕ) → high < 128 → between low high c ≡ true → c < 128
-below low high c h e = omega (arith, leb-true c high (both (leb low c) (leb c high) e).1)
+below low high c h e = omega (arith, leb-true c high (and_parts (leb low c) (leb c high) e).1)
 
 begins_ascii : (c : ℕ) → begins_name c ≡ true → c < 128
 begins_ascii c e =
     ⊎_elim
-    (λ q. ⊎_elim (λ r. below 65 90 c (omega arith) r) (λ r. below 97 122 c (omega arith) r) (either (between 65 90 c) (between 97 122 c) q))
+    (λ q. ⊎_elim (λ r. below 65 90 c (omega arith) r) (λ r. below 97 122 c (omega arith) r) (or_cases (between 65 90 c) (between 97 122 c) q))
     (λ q. omega (arith, eqb-true c 95 q))
-    (either (between 65 90 c || between 97 122 c) _ e)
+    (or_cases (between 65 90 c || between 97 122 c) _ e)
 
 ascii : (c : ℕ) → in_name c ≡ true → c < 128
-ascii c e = ⊎_elim (λ q. begins_ascii c q) (λ q. below 48 57 c (omega arith) q) (either (begins_name c) (between 48 57 c) e)
+ascii c e = ⊎_elim (λ q. begins_ascii c q) (λ q. below 48 57 c (omega arith) q) (or_cases (begins_name c) (between 48 57 c) e)
 
 ascii_all : (w : List ℕ) → list_all in_name w ≡ true → (i : ℕ) → get_or w i 0 < 128
 ascii_all [] h i = omega arith
-ascii_all (c ∷ w) h zero = ascii c (both (in_name c) (list_all in_name w) h).0
-ascii_all (c ∷ w) h (suc i) = ascii_all w (both (in_name c) (list_all in_name w) h).1 i
+ascii_all (c ∷ w) h zero = ascii c (and_parts (in_name c) (list_all in_name w) h).0
+ascii_all (c ∷ w) h (suc i) = ascii_all w (and_parts (in_name c) (list_all in_name w) h).1 i
 
 ascii_name : (w : List ℕ) → IsNameLike w → (i : ℕ) → get_or w i 0 < 128
 ascii_name [] h i = absurd h

@@ -1,5 +1,5 @@
 -- The outcome of the walk, by its parts.
-use Rattle.std.proofs.Common.{◌≡◌, ℕ, suc, ◌≤◌, List, [], ◌∷◌, length, map, Option, Some, None, inl, inr, refl, sym, ap, subst, arith}
+use Rattle.std.proofs.Common.{◌≡◌, suc, ◌≤◌, List, [], length, map, Option, Some, None, inl, inr, refl, sym, subst, arith}
 use Rattle.std.specs.Prelude.{Ok, Err}
 use Rattle.std.proofs.lemmas.List.{length-map}
 use Rattle.safl_word.specs.declared.fault.Fault.{Fault}
@@ -9,8 +9,8 @@ use Rattle.safl_tree.specs.Tree.{Definition}
 use Rattle.safl_tree.specs.Shown.{shown_definition, shown_definitions}
 use Rattle.safl_tree.specs.declared.tree.Def.{Def}
 use Rattle.safl_tree.specs.Printable.{IsFormedProgram}
-use Rattle.safl_typing.specs.Heads.{Head, heads, unit_of}
-use Rattle.safl_typing.specs.Forms.{FunctionForm, Form, AreFunctionsOf, AreShallow, IsFormOf, all_sites, form_of, shown_function}
+use Rattle.safl_typing.specs.Heads.{heads}
+use Rattle.safl_typing.specs.Forms.{FunctionForm, Form, AreShallow, IsFormOf, all_sites, form_of, shown_function}
 use Rattle.safl_word.specs.Limits.{functions_max}
 use Rattle.safl_typing.specs.Laws.{WalkGivesForm}
 use Rattle.safl_typing.specs.PlainTyped.{RefusesFault}
@@ -19,6 +19,7 @@ use Rattle.safl_typing.specs.Walk.{limits, limits_from, limit, excess, functions
 use Rattle.safl_typing.specs.declared.typed.CheckErr.{CheckErr}
 use Rattle.safl_typing.specs.declared.typed.CheckErr.TheVariants as errors
 use Rattle.safl_typing.proofs.Limits.{none_limit, none_excess}
+use Rattle.safl_typing.proofs.Walks.{as_many}
 use Rattle.safl_check.specs.Answers.{RefusesProgram, RefusesLimits, RefusesShallow}
 
 -- ---- faults
@@ -74,16 +75,16 @@ few defs e =
 
 -- ---- forms
 
-abbrev form_of : List FunctionForm → Form
-form_of fs = record { functions = fs; sites = all_sites 0 fs }
+abbrev form_with : List FunctionForm → Form
+form_with fs = record { functions = fs; sites = all_sites 0 fs }
 
-outcome_ok : (ds : List Definition) (fs : List FunctionForm) → limits ds ≡ None → functions_from (heads ds) [] 0 0 1 ds ≡ Ok fs → main_fault ds ≡ None → outcome ds ≡ Ok (form_of fs)
+outcome_ok : (ds : List Definition) (fs : List FunctionForm) → limits ds ≡ None → functions_from (heads ds) [] 0 0 1 ds ≡ Ok fs → main_fault ds ≡ None → outcome ds ≡ Ok (form_with fs)
 unfolding outcome
 outcome_ok ds fs e p m = rw e (rw p (rw m refl))
 
 pub is_form : WalkGivesForm → (ds : List Definition) (fs : List FunctionForm) → IsFormedProgram ds → limits ds ≡ None → functions_from (heads ds) [] 0
-    0 1 ds ≡ Ok fs → main_fault ds ≡ None → IsFormOf ds (form_of fs)
-is_form law ds fs formed e p m = (law ds (form_of fs) formed).0 (outcome_ok ds fs e p m)
+    0 1 ds ≡ Ok fs → main_fault ds ≡ None → IsFormOf ds (form_with fs)
+is_form law ds fs formed e p m = (law ds (form_with fs) formed).0 (outcome_ok ds fs e p m)
 
 -- the form of a program with these functions and sites
 pub form_shown : WalkGivesForm → (ds : List Definition) (fs : List Function) (sites : List Site) → IsFormedProgram ds → limits ds ≡ None →
@@ -91,12 +92,6 @@ pub form_shown : WalkGivesForm → (ds : List Definition) (fs : List Function) (
     → sites ≡ all_sites 0 (map shown_function fs) → IsFormOf ds (form_of (record { functions = fs; sites = sites }))
 form_shown law ds fs sites formed e p m s =
     subst (λ (l : List Site). IsFormOf ds (record { functions = map shown_function fs; sites = l })) (sym s) (is_form law ds (map shown_function fs) formed e p m)
-
-as_many : (all : List Head) (n u w lo hi : ℕ) (ds : List Definition) (fs : List FunctionForm) → AreFunctionsOf all n u w lo hi ds fs → length fs ≡ length ds
-as_many all n u w lo hi [] [] h = refl
-as_many all n u w lo hi [] (f ∷ fs) h = absurd h
-as_many all n u w lo hi (d ∷ ds) [] h = absurd h
-as_many all n u w lo hi (d ∷ ds) (f ∷ fs) (m, is, j, rest) = ap (λ k. suc k) (as_many all (suc n) (unit_of n u d) d.width m hi ds fs rest)
 
 -- the functions of a form are not too many
 pub few_functions : (ds : List Definition) (fs : List Function) (sites : List Site) → IsFormOf ds (form_of (record { functions = fs; sites = sites })) → length fs ≤ 1000

@@ -1,9 +1,8 @@
 -- The definitions that are left of a walk: their bodies may be checked, where no limit is passed.
-use Rattle.std.proofs.Common.{◌≡◌, ℕ, suc, ◌+◌, ◌<◌, ◌≤◌, ◌^◌, List, [], ◌∷◌, length, map, None, Bool, true, false, refl, sym, ap, ◌∙◌, subst, arith}
+use Rattle.std.proofs.Common.{◌≡◌, ℕ, suc, ◌+◌, ◌<◌, ◌≤◌, ◌^◌, List, [], ◌∷◌, length, map, None, refl, sym, ap, ◌∙◌, subst, arith}
 use Rattle.std.specs.Prelude.{nat_le}
 use Rattle.std.proofs.lemmas.Bool.{leb-true}
 use Rattle.std.proofs.lemmas.List.{length-map}
-use Rattle.safl_word.specs.declared.fault.Fault.{Fault}
 use Rattle.safl_tree.specs.Tree.{Definition, Parameter}
 use Rattle.safl_tree.specs.Printable.{AreFormedDefinitions, IsFormedProgram}
 use Rattle.safl_typing.specs.declared.expression.Expression as code_expression
@@ -17,10 +16,11 @@ use Rattle.safl_typing.specs.Walk.{fault_with, needs, excess, limit, long_let, l
 use Rattle.safl_typing.specs.Plain.{shown_expression}
 use Rattle.safl_typing.specs.PlainHeads.{shown_slots, shown_head, shown_heads, known}
 use Rattle.safl_typing.specs.MayWalk.{CountParams, MayCheck}
-use Rattle.safl_typing.proofs.Names.{some_none}
 use Rattle.safl_typing.proofs.Formed.{params_wide, heads_wide, formed_range}
 use Rattle.safl_typing.proofs.Limits.{none_both, none_limit, none_excess}
 use Rattle.safl_typing.proofs.Placing.{heads_length}
+use Rattle.safl_typing.proofs.Sound.{needs_ok}
+use Rattle.safl_typing.proofs.HeadsByName.{heads_count}
 
 parts_same : {A : Type 0} (x y : A) (xs ys : List A) → x ∷ xs ≡ y ∷ ys → (x ≡ y) × (xs ≡ ys)
 parts_same x y xs ys e = (cc, cc)
@@ -34,10 +34,6 @@ pub record KeepsLimits (all : List Head) (n u s m : ℕ) (d : Definition) (ds : 
   pub few_nodes : m + nodes (rewritten d.body) ≤ nodes_max
   pub rest : limits_from all (suc n) (unit_of n u d) (s + sites (record { heads = all; unit = unit_of n u d }) (rewritten d.body)) (m + nodes (rewritten d.body)) ds ≡ None
 
-none_needs : (b : Bool) (f : Fault) → needs b f ≡ None → b ≡ true
-none_needs true f e = refl
-none_needs false f e = some_none f e
-
 keeps_limits : (all : List Head) (n u s m : ℕ) (d : Definition) (ds : List Definition) → limits_from all n u s m (d ∷ ds) ≡ None → KeepsLimits all n u s m d ds
 keeps_limits all n u s m d ds e =
     let places : List ℕ = map (λ (p : Parameter). p.place) d.params in
@@ -49,8 +45,8 @@ keeps_limits all n u s m d ds e =
     let q4 = none_both (needs (nat_le nodes_all nodes_max) (fault_with _ d.place 5 nodes_max)) _ q3.1 in
     record {
       few_params = subst (λ (k : ℕ). k ≤ params_max) (length-map d.params (λ (p : Parameter). p.place)) (none_excess params_max places (none_limit 2 params_max _ q1.0));
-      few_sites = leb-true in_all sites_max (none_needs _ _ q3.0);
-      few_nodes = leb-true nodes_all nodes_max (none_needs _ _ q4.0);
+      few_sites = leb-true in_all sites_max (needs_ok _ _ q3.0);
+      few_nodes = leb-true nodes_all nodes_max (needs_ok _ _ q4.0);
       rest = q4.1;
     }
 
@@ -66,10 +62,6 @@ counts_params all n u s m (d ∷ ds) (h ∷ hs) e q =
     (omega (arith, params_count h.params.items d (ap (λ (z : Head). z.params) p.0), k.few_params), counts_params all (suc n) (unit_of n u d) _ _ ds hs k.rest p.1)
 
 -- ---- the heads of the whole program
-
-heads_count : (hs : List code_head.Head) → length (shown_heads hs) ≡ length hs
-heads_count [] = refl
-heads_count (h ∷ hs) = ap (λ (n : ℕ). suc n) (heads_count hs)
 
 pub as_many_heads : (ds : List Definition) (hs : List code_head.Head) → shown_heads hs ≡ heads ds → length hs ≡ length ds
 as_many_heads ds hs is = sym (heads_count hs) ∙ (ap (λ (l : List Head). length l) is ∙ heads_length 0 0 ds)

@@ -1,9 +1,10 @@
 -- A stack of expressions, from its top down.
 use Rattle.std.proofs.Common.{◌≡◌, ℕ, ◌+◌, ◌*◌, ◌-◌, ◌<◌, ◌≤◌, arith, List, [], ◌∷◌, ◌++◌, length, map, drop, get_or, Vec, Box, Global, Option, refl, sym, ap, subst, ◌∙◌, append_assoc}
-use Rattle.std.specs.Prelude.{min, Result, Ok, Err, OnOk}
+use Rattle.std.specs.Prelude.{min, Result, OnOk}
 use Rattle.std.proofs.lemmas.List.{drop_more}
 use Rattle.std.specs.Option.{option_or}
 use denote.Ref.{Bor}
+use Rattle.std.proofs.lemmas.Result.{on_ok_weaker}
 use Rattle.safl_word.specs.declared.primitive.Primitive.{Primitive}
 use Rattle.safl_tree.specs.Tree.{Tree, trees_of, binds_of, arms_of}
 use Rattle.safl_tree.specs.Shown.{shown_tree, shown_node, shown_trees, shown_bounds, shown_labelled}
@@ -65,10 +66,6 @@ arms_back (a ∷ arms) t = ap (λ (l : List Tree). shown_tree a.label ∷ (shown
 
 -- ---- the parts of an expression on a stack
 
-on_ok : {A E : Type 0} (r : Result A E) (P Q : Type 0) → (P → Q) → OnOk r P → OnOk r Q
-on_ok (Ok x) P Q f h = f h
-on_ok (Err e) P Q f h = h
-
 top : (s t : List (Bor Expr)) (r : Bor Expr) (e : Expr) → t ≡ s ++ r ∷ [] → r.now ≡ e → pending t ≡ shown_tree e ∷ pending s
 top s t r e q v = ap pending q ∙ pending_top s r ∙ ap (λ (z : Expr). shown_tree z ∷ pending s) v
 
@@ -85,7 +82,7 @@ let_pushed r n p binds b xs s0 s1 s2 x is q e same h =
     ap (λ (m : Node). parts (shown_node m p) ++ pending s0) is ∙ ap (λ (t : Tree). parts t ++ pending s0) (let_shows binds b p)
     ∙ ap (λ (l : List Tree). (l ++ shown_tree b.value ∷ []) ++ pending s0) (values_back binds.items ∙ sym (ap values_of same))
     ∙ append_assoc (values_of xs) (shown_tree b.value ∷ []) (pending s0) ∙ ap (λ (l : List Tree). values_of xs ++ l) (sym (top s0 s1 x b.value q e)) in
-    on_ok r _ _ (λ g. g ∙ sym whole) h
+    on_ok_weaker r (λ g. g ∙ sym whole) h
 
 pub case_pushed : (n : Node) (p : ℕ) (e : Box Expr Global) (arms : Vec Arm Global) (d : Box Expr Global) (xs : List Arm) (s0 s1 s2 s3 : List (Bor Expr)) (x y : Bor Expr) → n ≡ Case e arms d
     → s1 ≡ s0 ++ y ∷ [] → y.now ≡ d.value → xs ≡ arms.items → pending s2 ≡ shown.arms_of xs ++ pending s1 → s3 ≡ s2 ++ x ∷ [] → x.now ≡ e.value → pending s3 ≡ parts (shown_node n p) ++ pending s0
@@ -102,7 +99,7 @@ op_pushed r n p o es xs s0 s1 is same h =
     let whole : parts (shown_node n p) ++ pending s0 ≡ shown_trees xs ++ pending s0 =
     ap (λ (m : Node). parts (shown_node m p) ++ pending s0) is ∙ ap (λ (t : Tree). parts t ++ pending s0) (op_shows o es p)
     ∙ ap (λ (l : List Tree). l ++ pending s0) (trees_back (shown_trees es.items) ∙ sym (ap shown_trees same)) in
-    on_ok r _ _ (λ g. g ∙ sym whole) h
+    on_ok_weaker r (λ g. g ∙ sym whole) h
 
 pub call_pushed : {A E : Type 0} (r : Result A E) (n : Node) (p : ℕ) (f : List ℕ) (es : Vec Expr Global) (xs : List Expr) (s0 s1 : List (Bor Expr)) → n ≡ Call f es → xs ≡ es.items
     → OnOk r (pending s1 ≡ shown_trees xs ++ pending s0) → OnOk r (pending s1 ≡ parts (shown_node n p) ++ pending s0)
@@ -110,7 +107,7 @@ call_pushed r n p f es xs s0 s1 is same h =
     let whole : parts (shown_node n p) ++ pending s0 ≡ shown_trees xs ++ pending s0 =
     ap (λ (m : Node). parts (shown_node m p) ++ pending s0) is ∙ ap (λ (t : Tree). parts t ++ pending s0) (call_shows f es p)
     ∙ ap (λ (l : List Tree). l ++ pending s0) (trees_back (shown_trees es.items) ∙ sym (ap shown_trees same)) in
-    on_ok r _ _ (λ g. g ∙ sym whole) h
+    on_ok_weaker r (λ g. g ∙ sym whole) h
 
 -- ---- what a let and a case count by themselves
 

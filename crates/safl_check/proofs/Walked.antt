@@ -3,9 +3,10 @@ use Rattle.std.proofs.Common.{◌≡◌, ℕ, suc, ◌+◌, ◌<◌, ◌≤◌, 
 use Rattle.std.specs.Prelude.{Result, Ok, Err, slice_get, min}
 use Rattle.std.proofs.Math.ListN.{get_or-map}
 use Rattle.std.proofs.Math.Numerals.{add-one}
-use Rattle.std.proofs.lemmas.List.{drop_more, drop_all, append-nil, length-map, map-append}
+use Rattle.std.proofs.lemmas.List.{drop_all, append-nil, length-map, map-append}
 use Rattle.std.proofs.lemmas.Option.{slice_get_read}
 use Rattle.safl_word.specs.declared.fault.Fault.{Fault}
+use Rattle.safl_word.proofs.Lists.{drop_read}
 use Rattle.safl_term.specs.declared.checked.Function.{Function}
 use Rattle.safl_tree.specs.declared.tree.Def.{Def}
 use Rattle.safl_tree.specs.Shown.{shown_definition, shown_definitions}
@@ -82,9 +83,6 @@ pub group_refused : (ds : List Definition) (hs : List code_head.Head) (fs : List
     group_fault_at ds i ≡ Some f → functions_from (heads ds) [] 0 0 1 ds ≡ Err f
 group_refused ds hs fs i lo f w e = group_stops (heads ds) (earlier ds i) i w.group lo (drop i ds) (map shown_function fs) _ f w.functions e
 
-here : {A : Type 0} (xs : List A) (i : ℕ) (x : A) → i < length xs → x ≡ get_or xs i x → drop i xs ≡ x ∷ drop (i + 1) xs
-here xs i x h e = drop_more xs i x h ∙ ap (λ y. y ∷ drop (i + 1) xs) (sym e)
-
 -- definition i, with its head
 pub record IsThere (ds : List Definition) (hs : List code_head.Head) (i : ℕ) (d : Definition) (h : code_head.Head) : Type 0 where
   pub name : name_in (slice_get ds i) ≡ d.name
@@ -98,8 +96,8 @@ is_there defs hs i d h is few ed eh =
     let q : shown_definition d ≡ get_or (shown_definitions defs) i (shown_definition d) = ap shown_definition ed ∙ sym (get_or-map shown_definition defs i d) in
     record {
       name = ap name_in (slice_get_read (shown_definitions defs) (length (shown_definitions defs)) i (shown_definition d) refl lt q);
-      definition = here (shown_definitions defs) i (shown_definition d) lt q;
-      head = here hs i h (omega (arith, lt, as_many_heads (shown_definitions defs) hs is)) eh;
+      definition = drop_read (shown_definitions defs) i (shown_definition d) lt q;
+      head = drop_read hs i h (omega (arith, lt, as_many_heads (shown_definitions defs) hs is)) eh;
     }
 
 stops : {A : Type 0} (e : CheckErr) (whole : Result (List FunctionForm) Fault) (fs : List FunctionForm) (r : Result A Fault)

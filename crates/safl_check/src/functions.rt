@@ -19,6 +19,7 @@ use crate::form::function_of;
 use crate::groups::find_group_fault;
 use safl_term::Function;
 use safl_tree::{Def, is_within};
+use safl_typing::checking::check_expression;
 use safl_typing::context::Context;
 use safl_typing::expression::Expression;
 use safl_typing::heads::{Head, Heads};
@@ -26,7 +27,6 @@ use safl_typing::marks::add_sites;
 use safl_typing::rewrite::rewrite;
 use safl_typing::scope::Scope;
 use safl_typing::typed::{CheckErr, Wanted};
-use safl_typing::checking::check_expression;
 use safl_word::limits::DEPTH_MAX;
 use std::alloc::Global;
 

@@ -4,11 +4,12 @@ use Rattle.safl_sites.specs.Plan.{Choice}
 use Rattle.std.proofs.Common.{nat_le, is_some, refl, sym, ap, ◌∙◌, subst, inl, inr, ⊎_elim, ◌⊎◌, arith}
 use Rattle.std.proofs.Math.Path.{fun_ext}
 use Rattle.std.proofs.lemmas.Bool.{cases_Bool, cases_eq, cases_order, eqb-true, eq-eqb, le-ltb, leb-true, and_parts, not-true, true≢false}
+use Rattle.std.proofs.lemmas.Option.{same_Some}
 use Rattle.safl_circuit.proofs.Middle.{member_says}
 use Rattle.safl_circuit.specs.Equations.{Registers, Inputs, accepts, body_says, body_wants, want, wants_at, go, go_words, go_in, or_word}
 use Rattle.safl_circuit.specs.Steps.{is_running, is_delivering}
-use Rattle.safl_calls.proofs.Basics.{put_at, put_off, sweep, first_none, first_only, first_skip, first_zero, all_none, none_of, some_none, some_of}
-use Rattle.safl_calls.proofs.Basics.{some_is, cond_some, unsent_is, mask_other, mask_skip, mask_at}
+use Rattle.safl_calls.proofs.Basics.{put_at, put_off, sweep, first_none, first_only, first_skip, first_zero, all_none, some_none, some_of}
+use Rattle.safl_calls.proofs.Basics.{cond_some, unsent_is, mask_other, mask_skip, mask_at}
 use Rattle.safl_calls.proofs.Invariant.{Inv}
 use Rattle.safl_calls.proofs.Numbered.{Numbered}
 use Rattle.safl_calls.specs.Machine.{State, Mode, Idle, Runs, Delivers, Accept, Enabled, Legal, after, fire, put, back, asked, asked_as, is_unsent}
@@ -18,6 +19,8 @@ use Rattle.safl_calls.specs.Interference.{Busy}
 use Rattle.safl_term.specs.Readiness.{Unsent, Sent, back_word}
 use Rattle.safl_term.specs.Program.{Program, unit_for, arity}
 use Rattle.safl_word.specs.Words.{Word}
+use Rattle.safl_word.proofs.Options.{none_of}
+use Rattle.safl_term.proofs.Apart.{sent_unsent}
 
 -- the wires of a cycle say what the state after its Returns says
 pub record Meets (C : Program) (P : Choice) (args : List Word) (r : Registers) (i : Inputs) (t : State) : Type 0 where
@@ -113,10 +116,7 @@ module _ (C : Program) (P : Choice) (args : List Word) (good : Numbered C) (r : 
       served (Runs f (suc j) ws) e no_arb =
           let sv = inv.serving w (suc j) (ap serves e) in
           let same = meets.one (suc j) (suc k) (omega arith) (omega arith) sv.1 (ap P.arbiter sv.1 ∙ no_arb) (inr sv.0) (inl ((go_asks (suc k) h).0, (go_asks (suc k) h).1)) in
-          absurd (apart (sym sv.0 ∙ ap t.site same ∙ p.1.unsent))
-        where
-          apart : Sent ≡ Unsent → ⊥
-          apart e = grind arith
+          absurd (sent_unsent (sym sv.0 ∙ ap t.site same ∙ p.1.unsent))
 
       by : (b : Bool) → P.arbiter w ≡ b → is_running (t.unit w) ≡ false
       by true e = sym (meets.run w) ∙ (go_arb k h e).0
@@ -163,7 +163,7 @@ module _ (C : Program) (P : Choice) (args : List Word) (good : Numbered C) (r : 
   go_found u k j h =
       let a = cond_some _ _ j h in
       let b = and_parts _ _ a.0 in
-      (sym (some_is k j a.1), eqb-true _ u b.0, b.1)
+      (sym (same_Some k j a.1), eqb-true _ u b.0, b.1)
 
   -- the one call that goes at a unit
   pub starts_at : (k n u : ℕ) → k < n → go C P r i k ≡ true → unit_for C k ≡ u → first (go_in C P r i u) n ≡ Some k

@@ -1,28 +1,33 @@
 -- The words on the argument registers are the arguments of the events.
 use Rattle.std.proofs.Common.{◌≡◌, ℕ, zero, suc, ◌<◌, ◌≤◌, List, [], ◌∷◌, ◌++◌, length, Option, Some, None, Bool, true, false, cond, ◌||◌, nat_lt}
 use Rattle.safl_sites.specs.Plan.{Choice}
-use Rattle.std.proofs.Common.{is_some, refl, sym, ap, ◌∙◌, subst, ⊎_elim, ◌⊎◌, arith, append-nil, append_assoc, length-append}
-use Rattle.std.proofs.lemmas.Bool.{cases_eq, eq-eqb, ne_eqb, true≢false, lt-ltb, le-ltb}
+use Rattle.std.proofs.Common.{is_some, refl, sym, ap, ◌∙◌, subst, ⊎_elim, arith, append-nil, append_assoc, length-append}
+use Rattle.std.proofs.lemmas.Bool.{cases_eq, eq-eqb, ne_eqb, true≢false, lt-ltb, le-ltb, cases_lt}
+use Rattle.std.proofs.lemmas.Option.{same_Some}
 use Rattle.safl_circuit.proofs.Accepts.{Meets, Started, accepted_to, asked_same, go_asks, go_one, go_idle}
 use Rattle.safl_circuit.proofs.Claims.{ArgumentsSeen, OneStart}
 use Rattle.safl_circuit.proofs.Cycle.{steps, start_at, t, x, y, z, late, t_is, inv_t, meets, started, ended, moved, holds}
 use Rattle.safl_circuit.proofs.Edge.{load_found}
-use Rattle.safl_circuit.proofs.Ends.{Ended, Moved, moved_to, loop_says, loop_found, running, Running, goes_yet}
+use Rattle.safl_circuit.proofs.Ends.{Ended, Moved, moved_to, loop_says, loop_found, running, Running}
 use Rattle.safl_circuit.proofs.Fate.{Holds}
 use Rattle.safl_circuit.proofs.WordsSeen.{words_seen}
 use Rattle.safl_circuit.specs.Equations.{Registers, Inputs, ret, go, go_words, load_in, loads, loop_words, returns, accepts, finishes}
 use Rattle.safl_circuit.specs.Equations.{goes_on, cycle_events, next, end_word, starts_it, or_word}
 use Rattle.safl_circuit.specs.Steps.{Quiet, StepsAt, input_at, registers_at, history}
-use Rattle.safl_calls.proofs.Basics.{first_some, first_only, first_skip, first_zero, all_none, not_some, none_of, some_of, some_is}
+use Rattle.safl_calls.proofs.Basics.{first_some, first_only, first_skip, first_zero, all_none, not_some, some_of}
 use Rattle.safl_calls.proofs.Invariant.{Inv}
 use Rattle.safl_calls.proofs.Numbered.{Numbered}
-use Rattle.safl_calls.specs.Machine.{State, Idle, Runs, Event, Accept, Finish, Return, LoopInto, opening, after, fire, asked, says}
+use Rattle.safl_calls.specs.Machine.{State, Event, Accept, Finish, Return, LoopInto, opening, after, fire, asked, says}
 use Rattle.safl_calls.specs.Picks.{first, picks}
 use Rattle.safl_calls.specs.Starts.{listed, goes_with, event_start, starts_of}
 use Rattle.safl_calls.specs.Interference.{OneInUse, ShownWordsServe}
 use Rattle.safl_term.specs.Readiness.{LoopTo, or_else}
 use Rattle.safl_term.specs.Program.{Program, arity}
 use Rattle.safl_word.specs.Words.{Word}
+use Rattle.safl_word.proofs.Options.{none_of}
+use Rattle.safl_word.proofs.Booleans.{cond_same}
+use Rattle.safl_term.proofs.Apart.{loop_not_yet}
+use Rattle.safl_calls.proofs.Apart.{runs_idle}
 
 pub starts_append : (C : Program) (args : List Word) (s : State) (xs ys : List Event) (f : ℕ) → starts_of C args s (xs ++ ys) f ≡ starts_of C args s xs f ++ starts_of C args (after C args s xs) ys f
 unfolding after starts_of
@@ -59,7 +64,7 @@ module _ (C : Program) (P : Choice) (args : List Word) (good : Numbered C) (r : 
   load_at f k ws up is words = first_only _ (suc k) ws k (omega arith) (rw (eq-eqb (C.callee k) f is) words) (λ j lt vs h.
       let a = load_found C P args good r i t inv meets x st y en z mv holds f j vs h in
       let same = go_one C P args good r i t inv meets j k a.1 up (ap C.unit (a.0 ∙ sym is)) in
-      some_is vs ws (sym a.2 ∙ ap (go_words C P r i) same ∙ words))
+      same_Some vs ws (sym a.2 ∙ ap (go_words C P r i) same ∙ words))
 
   accept_starts : (f n : ℕ) → n ≤ suc C.sites → starts_of C args t (accepts C P r i n) f ≡ listed (first (load_in C P r i f) n)
   unfolding picks starts_of
@@ -98,10 +103,7 @@ module _ (C : Program) (P : Choice) (args : List Word) (good : Numbered C) (r : 
       q = after C args y (goes_on C P r n)
 
       shift : (f ≡ n → ⊥) → nat_lt f n ≡ nat_lt f (suc n)
-      shift other = ⊎_elim (λ lt. rw (lt-ltb f n lt, lt-ltb f (suc n) (omega (arith, lt))) refl) (λ ge. rw (le-ltb f n ge, le-ltb f (suc n) (omega (arith, ge, other))) refl) (below f n)
-        where
-          below : (a b : ℕ) → (a < b) ⊎ (b ≤ a)
-          below a b = grind arith
+      shift other = ⊎_elim (λ lt. rw (lt-ltb f n lt, lt-ltb f (suc n) (omega (arith, lt))) refl) (λ ge. rw (le-ltb f n ge, le-ltb f (suc n) (omega (arith, ge, other))) refl) (cases_lt f n)
 
       by : (b : Bool) → is_some (loop_words C P r n) ≡ b → starts_of C args y (goes_on C P r n) f ≡ cond (nat_lt f n) (listed (loop_words C P r f)) []
           → starts_of C args y (goes_on C P r n ++ cond b (LoopInto n ∷ []) []) f ≡ cond (nat_lt f (suc n)) (listed (loop_words C P r f)) []
@@ -131,21 +133,14 @@ module _ (C : Program) (P : Choice) (args : List Word) (good : Numbered C) (r : 
           no_words : f ≡ n → loop_words C P r f ≡ None
           no_words is = ap (loop_words C P r) is ∙ none_of (loop_words C P r n) down
 
-          cond_same : (b : Bool) (l : List (List Word)) → cond b l l ≡ l
-          cond_same true l = refl
-          cond_same false l = refl
-
   -- a member that is looped to is not called
   not_both : (f : ℕ) (us ws : List Word) → first (load_in C P r i f) (suc C.sites) ≡ Some us → loop_words C P r f ≡ Some ws → ⊥
   not_both f us ws load loop =
       let a = first_some (load_in C P r i f) (suc C.sites) us load in
       let k = load_found C P args good r i t inv meets x st y en z mv holds f a.0 us a.2 in
       let g = loop_found C P args good r i t inv meets f ws loop in
-      let run : Running C t g.0 (LoopTo f ws) = running C P args good r i t inv meets g.0 (LoopTo f ws) g.1 (goes_yet f ws) g.3 in
+      let run : Running C t g.0 (LoopTo f ws) = running C P args good r i t inv meets g.0 (LoopTo f ws) g.1 (loop_not_yet f ws) g.3 in
       runs_idle g.0 run.serves run.args (sym run.runs ∙ ap t.unit (g.2 ∙ sym (ap C.unit k.0)) ∙ go_idle C P args good r i t inv meets a.0 k.1)
-    where
-      runs_idle : (f k : ℕ) (ws : List Word) → Runs f k ws ≡ Idle → ⊥
-      runs_idle f k ws e = grind arith
 
   pub cycle_starts : (f : ℕ) → f < C.functions → starts_of C args t (accepts C P r i (suc C.sites)) f ++ starts_of C args y
       (goes_on C P r C.functions) f ≡ cond (starts_it C P r i f) ((next C P i r).arg f ∷ []) []

@@ -2,6 +2,7 @@
 use Rattle.std.proofs.Common.{◌≡◌, ℕ, zero, suc, ◌+◌, ◌<◌, List, [], ◌∷◌, ◌++◌, Bool, true, false, cond, ◌||◌, refl, sym, ap, ◌∙◌, subst, ⊎_elim, arith, length}
 use Rattle.safl_sites.specs.Plan.{Choice}
 use Rattle.std.proofs.lemmas.Bool.{and_parts, false≢true}
+use Rattle.std.proofs.Math.Bool.{or-false, or-true}
 use Rattle.safl_circuit.proofs.Accepts.{Meets, Started, accepted, go_one, go_idle}
 use Rattle.safl_circuit.proofs.Claims.{Steps}
 use Rattle.safl_circuit.proofs.Edge.{edge_run, edge_fin, edge_res, edge_at, edge_arg, edge_sent, edge_got, edge_keep}
@@ -23,6 +24,8 @@ use Rattle.safl_calls.specs.Interference.{OneInUse, ShownWordsServe}
 use Rattle.safl_term.specs.Readiness.{Stage, Unsent, Sent, Returned}
 use Rattle.safl_term.specs.Program.{Program, unit_for, arity}
 use Rattle.safl_word.specs.Words.{Word, no_word}
+use Rattle.safl_term.proofs.Apart.{sent_unsent, unsent_returned}
+use Rattle.safl_calls.proofs.Apart.{idle_delivers, idle_runs}
 
 quiet_runs : (m : Mode) (f k : ℕ) (ws : List Word) → quiet m ≡ Runs f k ws → m ≡ Runs f k ws
 quiet_runs Idle f k ws e = e
@@ -42,21 +45,10 @@ quiet_rest Idle = refl
 quiet_rest (Runs f k ws) = refl
 quiet_rest (Delivers k v) = refl
 
-or_false : (b : Bool) → (b || false) ≡ b
-or_false true = refl
-or_false false = refl
-
-or_true : (b : Bool) → (b || true) ≡ true
-or_true true = refl
-or_true false = refl
-
 abbrev stage_word : Stage → Word
 stage_word Unsent = no_word
 stage_word Sent = no_word
 stage_word (Returned v) = v
-
-sent_unsent : Sent ≡ Unsent → ⊥
-sent_unsent e = grind arith
 
 -- events that finish nothing leave the words
 last_same : (C : Program) (args : List Word) (s : State) (p : ℕ → Bool) (e : ℕ → Event) →
@@ -143,8 +135,8 @@ module _ (C : Program) (P : Choice) (args : List Word) (good : Numbered C) (h1 :
       sent_at k false e = shows.sent (suc k) (omega arith) ∙ ap was_sent (sym (at k false e))
 
       got_at : (k : ℕ) (up : Bool) → ret C r (suc k) ≡ up → (r.got (suc k) || ret C r (suc k)) ≡ is_returned (t.site (suc k))
-      got_at k true e = ap (λ b. r.got (suc k) || b) e ∙ or_true (r.got (suc k)) ∙ ap is_returned (sym (at k true e))
-      got_at k false e = ap (λ b. r.got (suc k) || b) e ∙ or_false (r.got (suc k)) ∙ shows.got (suc k) (omega arith) ∙ ap is_returned (sym (at k false e))
+      got_at k true e = ap (λ b. r.got (suc k) || b) e ∙ or-true (r.got (suc k)) ∙ ap is_returned (sym (at k true e))
+      got_at k false e = ap (λ b. r.got (suc k) || b) e ∙ or-false (r.got (suc k)) ∙ shows.got (suc k) (omega arith) ∙ ap is_returned (sym (at k false e))
 
       keep_at : (k : ℕ) (v : Word) → P.kept (suc k) ≡ true → t.site (suc k) ≡ Returned v → (up : Bool) → ret C r (suc k) ≡ up → cond (ret C r (suc k)) (r.res (unit_for C (suc k))) (r.keep (suc k)) ≡ v
       keep_at k v kept is true e = ap (λ b. cond b (r.res (unit_for C (suc k))) (r.keep (suc k))) e ∙ ap stage_word (sym (at k true e) ∙ is)
@@ -277,15 +269,6 @@ first_shows C P r0 quiet = record {
   keep = λ k v pos kept e. absurd (unsent_returned v e);
   others = λ k pos rests. (quiet.sent k pos, quiet.got k pos);
 }
-  where
-    idle_delivers : (k : ℕ) (v : Word) → Idle ≡ Delivers k v → ⊥
-    idle_delivers k v e = grind arith
-
-    idle_runs : (f k : ℕ) (ws : List Word) → Idle ≡ Runs f k ws → ⊥
-    idle_runs f k ws e = grind arith
-
-    unsent_returned : (v : Word) → Unsent ≡ Returned v → ⊥
-    unsent_returned v e = grind arith
 
 pub start_at : (C : Program) (P : Choice) (r0 : Registers) (args : List Word) → length args ≡ arity C C.main → (later : ℕ → List Word) (c : ℕ) →
     (input_at args later c).start ≡ true → ((after C args opening (history C P r0 args later c)).site 0 ≡ Unsent) ×

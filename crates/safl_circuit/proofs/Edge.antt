@@ -2,13 +2,15 @@
 use Rattle.std.proofs.Common.{◌≡◌, ℕ, zero, suc, ◌<◌, ◌≤◌, List, [], Option, Some, None, Bool, true, false, cond, ◌||◌, ◌==◌, is_some, refl, sym, ap, ◌∙◌, ⊎_elim, arith}
 use Rattle.safl_sites.specs.Plan.{Choice}
 use Rattle.std.proofs.lemmas.Bool.{cases_eq, eqb-true, eqb-false, eq-eqb, ne_eqb, and_parts, true≢false, not-true}
+use Rattle.std.proofs.lemmas.Option.{same_Some}
+use Rattle.std.proofs.Math.Bool.{or-false, or-true}
 use Rattle.safl_circuit.proofs.Accepts.{Meets, Started, asked_parts, go_within, go_one, go_asks}
 use Rattle.safl_circuit.proofs.Ends.{Ended, Moved, loops_at}
-use Rattle.safl_circuit.proofs.Fate.{Holds, Fate, Stays, Starts, EndsWith, LoopsTo, fate, delivers_runs, runs_delivers}
+use Rattle.safl_circuit.proofs.Fate.{Holds, Fate, Stays, Starts, EndsWith, LoopsTo, fate}
 use Rattle.safl_circuit.specs.Equations.{Registers, Inputs, many, end_in, loop_words, loop_in, or_word, go, go_in, go_words, load_in, loads}
 use Rattle.safl_circuit.specs.Equations.{ends, loops, starts, clears, starts_it, if_other, starts_other, next}
 use Rattle.safl_circuit.specs.Steps.{is_running, is_delivering, was_sent, is_returned}
-use Rattle.safl_calls.proofs.Basics.{first_none, first_only, all_none, some_none, some_is, cond_some, not_some, mask_all}
+use Rattle.safl_calls.proofs.Basics.{first_none, first_only, all_none, some_none, cond_some, not_some, mask_all}
 use Rattle.safl_calls.proofs.Invariant.{Inv}
 use Rattle.safl_calls.proofs.Numbered.{Numbered}
 use Rattle.safl_calls.specs.Machine.{State, Mode, Idle, Runs, Delivers}
@@ -16,25 +18,16 @@ use Rattle.safl_calls.specs.Picks.{first}
 use Rattle.safl_term.specs.Readiness.{or_else, Stage, Unsent, Sent, Returned}
 use Rattle.safl_term.specs.Program.{Program, unit_for}
 use Rattle.safl_word.specs.Words.{Word, no_word}
-
-or_false : (b : Bool) → (b || false) ≡ b
-or_false true = refl
-or_false false = refl
-
-or_true : (b : Bool) → (b || true) ≡ true
-or_true true = refl
-or_true false = refl
-
-there : {A : Type 0} (o : Option A) → (o ≡ None → ⊥) → is_some o ≡ true
-there None h = absurd (h refl)
-there (Some x) h = refl
+use Rattle.safl_word.proofs.Options.{is_there}
+use Rattle.safl_term.proofs.Apart.{sent_returned, unsent_returned}
+use Rattle.safl_calls.proofs.Apart.{delivers_runs, runs_delivers}
 
 sent_pure : (e l g : Bool) (x : Stage) → cond (e || l) false (was_sent x || g) ≡ was_sent (cond l Unsent (cond e Unsent (cond g Sent x)))
 sent_pure true true g x = refl
 sent_pure true false g x = refl
 sent_pure false true g x = refl
-sent_pure false false true x = or_true (was_sent x)
-sent_pure false false false x = or_false (was_sent x)
+sent_pure false false true x = or-true (was_sent x)
+sent_pure false false false x = or-false (was_sent x)
 
 got_pure : (e l g : Bool) (x : Stage) → (g ≡ true → x ≡ Unsent) → cond (e || l) false (is_returned x) ≡ is_returned (cond l Unsent (cond e Unsent (cond g Sent x)))
 got_pure true true g x h = refl
@@ -42,12 +35,6 @@ got_pure true false g x h = refl
 got_pure false true g x h = refl
 got_pure false false true x h = ap is_returned (h refl)
 got_pure false false false x h = refl
-
-unsent_returned : (v : Word) → Unsent ≡ Returned v → ⊥
-unsent_returned v e = grind arith
-
-sent_returned : (v : Word) → Sent ≡ Returned v → ⊥
-sent_returned v e = grind arith
 
 site_pure : (e l g : Bool) (x : Stage) (v : Word) → cond l Unsent (cond e Unsent (cond g Sent x)) ≡ Returned v → x ≡ Returned v
 site_pure true true g x v h = absurd (unsent_returned v h)
@@ -86,10 +73,10 @@ module _ (C : Program) (P : Choice) (args : List Word) (good : Numbered C) (r : 
   edge_run u = by (now u)
     where
       by : Fate C P r i t z u → cond (is_some (first (end_in C P r u) C.functions)) false (r.run u || is_some (first (go_in C P r i u) (suc C.sites))) ≡ is_running (z.unit u)
-      by (Stays he hl hs e) = rw (he, hs) (or_false (r.run u) ∙ meets.run u ∙ ap is_running (sym e))
-      by (Starts k he hl hs le in_u up e) = rw (he, hs) (or_true (r.run u) ∙ ap is_running (sym e))
+      by (Stays he hl hs e) = rw (he, hs) (or-false (r.run u) ∙ meets.run u ∙ ap is_running (sym e))
+      by (Starts k he hl hs le in_u up e) = rw (he, hs) (or-true (r.run u) ∙ ap is_running (sym e))
       by (EndsWith v j he hl hs e) = rw he (ap is_running (sym e))
-      by (LoopsTo h j vs runs he hl hs lt in_u words e) = rw (he, hs) (or_false (r.run u) ∙ meets.run u ∙ runs ∙ ap is_running (sym e))
+      by (LoopsTo h j vs runs he hl hs lt in_u words e) = rw (he, hs) (or-false (r.run u) ∙ meets.run u ∙ runs ∙ ap is_running (sym e))
 
   pub edge_fin : (u : ℕ) → (next C P i r).fin u ≡ is_delivering (z.unit u)
   unfolding next ends
@@ -107,9 +94,9 @@ module _ (C : Program) (P : Choice) (args : List Word) (good : Numbered C) (r : 
     where
       by : Fate C P r i t z u → or_word (first (end_in C P r u) C.functions) (r.res u) ≡ v
       by (Stays he hl hs e) = absurd (true≢false (sym (ap is_delivering (sym e ∙ d)) ∙ meets.rest u))
-      by (Starts j he hl hs le in_u up e) = absurd (runs_delivers k v _ _ _ (sym e ∙ d))
+      by (Starts j he hl hs le in_u up e) = absurd (runs_delivers _ _ k v _ (sym e ∙ d))
       by (EndsWith w j he hl hs e) = ap (λ o. or_word o (r.res u)) he ∙ ap word_in (sym e ∙ d)
-      by (LoopsTo h j vs runs he hl hs lt in_u words e) = absurd (runs_delivers k v _ _ _ (sym e ∙ d))
+      by (LoopsTo h j vs runs he hl hs lt in_u words e) = absurd (runs_delivers _ _ k v _ (sym e ∙ d))
 
   z_site : (k : ℕ) → z.site (suc k) ≡ cond (is_some (first (loop_in C P r (C.unit (C.caller (suc k)))) C.functions)) Unsent
       (cond (is_some (first (end_in C P r (C.unit (C.caller (suc k)))) C.functions)) Unsent (cond (go C P r i (suc k)) Sent (t.site (suc k))))
@@ -160,7 +147,7 @@ module _ (C : Program) (P : Choice) (args : List Word) (good : Numbered C) (r : 
   load_it k ws le up words = first_only _ (suc C.sites) ws k (omega arith) (rw (eq-eqb (C.callee k) (C.callee k) refl) words) (λ j lt vs h.
       let a = load_found (C.callee k) j vs h in
       let same = go_one C P args good r i t inv meets j k a.1 up (ap C.unit a.0) in
-      some_is vs ws (sym a.2 ∙ ap (go_words C P r i) same ∙ words))
+      same_Some vs ws (sym a.2 ∙ ap (go_words C P r i) same ∙ words))
 
   load_other : (k f : ℕ) → go C P r i k ≡ true → C.unit f ≡ unit_for C k → (f ≡ C.callee k → ⊥) → first (load_in C P r i f) (suc C.sites) ≡ None
   load_other k f up in_u other = all_none _ (suc C.sites) (λ j lt. not_some _ (λ ws h.
@@ -176,7 +163,7 @@ module _ (C : Program) (P : Choice) (args : List Word) (good : Numbered C) (r : 
   loop_other : (h f u : ℕ) → f < C.functions → C.unit f ≡ u → first (loop_in C P r u) C.functions ≡ Some h → (f ≡ h → ⊥) → loop_words C P r f ≡ None
   loop_other h f u lt in_u is other = not_some _ (λ vs e.
       let at = loops_at C P args good r i t inv meets x st y en f C.functions u lt (omega arith) (ap is_some e) in_u in
-      other (some_is f h (sym at ∙ is)))
+      other (same_Some f h (sym at ∙ is)))
 
   pub edge_arg : (u f k : ℕ) (ws : List Word) → z.unit u ≡ Runs f k ws → C.unit f ≡ u → f < C.functions → (next C P i r).arg f ≡ ws
   unfolding next loads
@@ -189,7 +176,7 @@ module _ (C : Program) (P : Choice) (args : List Word) (good : Numbered C) (r : 
           let f_is : C.callee j ≡ f = ap member_in (sym e ∙ d) in
           let load : first (load_in C P r i f) (suc C.sites) ≡ Some a.0 = ap (λ g. first (load_in C P r i g) (suc C.sites)) (sym f_is) ∙ load_it j a.0 le up a.2 in
           rw load (sym (ap (λ o. or_word o []) a.2) ∙ ap args_in (sym e ∙ d))
-      by (EndsWith v j he hl hs e) = absurd (delivers_runs j v f k ws (sym e ∙ d))
+      by (EndsWith v j he hl hs e) = absurd (delivers_runs f k j v ws (sym e ∙ d))
       by (LoopsTo h j vs runs he hl hs lth at words e) =
           let f_is : h ≡ f = ap member_in (sym e ∙ d) in
           rw (no_load f u in_u hs, ap (loop_words C P r) (sym f_is) ∙ words) (ap args_in (sym e ∙ d))
@@ -207,12 +194,12 @@ module _ (C : Program) (P : Choice) (args : List Word) (good : Numbered C) (r : 
           let b = and_parts _ _ a.1 in
           true≢false (sym b.1 ∙ others j lt (eqb-true _ _ a.0 ∙ in_g) (λ j_is. eqb-false j g (not-true _ b.0) (j_is ∙ e))))) in
           ap (λ o. cond (is_some o) false (r.at g || starts_it C P r i g)) none
-          ∙ ap (λ b. r.at g || b) (ap (starts_it C P r i) (sym e) ∙ it) ∙ or_true (r.at g) ∙ sym (eq-eqb m g e)
+          ∙ ap (λ b. r.at g || b) (ap (starts_it C P r i) (sym e) ∙ it) ∙ or-true (r.at g) ∙ sym (eq-eqb m g e)
 
       other : (m ≡ g → ⊥) → cond (starts_other C P r i g) false (r.at g || starts_it C P r i g) ≡ (m == g)
       other e =
           let at : if_other C P r i g m ≡ Some m = rw (eq-eqb (C.unit m) (C.unit g) (in_m ∙ sym in_g), ne_eqb m g e, it) refl in
-          let some : is_some (first (if_other C P r i g) C.functions) ≡ true = there _ (λ none. some_none m (sym at ∙ first_none _ C.functions none m ltm)) in
+          let some : is_some (first (if_other C P r i g) C.functions) ≡ true = is_there _ (λ none. some_none m (sym at ∙ first_none _ C.functions none m ltm)) in
           ap (λ b. cond b false (r.at g || starts_it C P r i g)) some ∙ sym (ne_eqb m g e)
 
   at_stays : (u : ℕ) → ((g : ℕ) → g < C.functions → C.unit g ≡ u → starts_it C P r i g ≡ false) → (g : ℕ) → g < C.functions → C.unit g ≡ u → cond
@@ -223,7 +210,7 @@ module _ (C : Program) (P : Choice) (args : List Word) (good : Numbered C) (r : 
       let b = and_parts _ _ a.1 in
       true≢false (sym b.1 ∙ none j lt (eqb-true _ _ a.0 ∙ in_g)))) in
       ap (λ o. cond (is_some o) false (r.at g || starts_it C P r i g)) no_other
-      ∙ ap (λ b. r.at g || b) (none g ltg in_g) ∙ or_false (r.at g)
+      ∙ ap (λ b. r.at g || b) (none g ltg in_g) ∙ or-false (r.at g)
 
   pub edge_at : (u f k : ℕ) (ws : List Word) → z.unit u ≡ Runs f k ws → (g : ℕ) → g < C.functions → C.unit g ≡ u → many C g ≡ true → (next C P i r).at g ≡ (f == g)
   unfolding next loads
@@ -243,7 +230,7 @@ module _ (C : Program) (P : Choice) (args : List Word) (good : Numbered C) (r : 
 
           others : (g : ℕ) → g < C.functions → C.unit g ≡ u → (g ≡ C.callee j → ⊥) → starts_it C P r i g ≡ false
           others g lt in_u other = rw (load_other j g up (in_u ∙ sym at) other, no_loop_words g u lt in_u hl) refl
-      by (EndsWith v j he hl hs e) = absurd (delivers_runs j v f k ws (sym e ∙ d))
+      by (EndsWith v j he hl hs e) = absurd (delivers_runs f k j v ws (sym e ∙ d))
       by (LoopsTo h j vs runs he hl hs lth at words e) =
           at_target u h lth at it others g lt in_u ∙ ap (λ m. m == g) (ap member_in (sym e ∙ d))
         where

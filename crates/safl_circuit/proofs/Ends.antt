@@ -4,10 +4,11 @@ use Rattle.safl_sites.specs.Plan.{Choice}
 use Rattle.std.proofs.Common.{refl, sym, ap, ◌∙◌, subst, inl, inr, ⊎_elim, ◌⊎◌, arith}
 use Rattle.std.proofs.Math.Path.{fun_ext}
 use Rattle.std.proofs.lemmas.Bool.{cases_Bool, cases_eq, eqb-true, eq-eqb, ne_eqb, and_parts, true≢false}
+use Rattle.std.proofs.lemmas.Option.{same_Some}
 use Rattle.safl_circuit.proofs.Accepts.{Meets, Started, begun, not_started, back_same}
 use Rattle.safl_circuit.proofs.Middle.{member_says}
 use Rattle.safl_circuit.specs.Equations.{Registers, Inputs, body_says, end_word, end_in, goes_to, loop_words, loop_in, finishes, goes_on, or_word}
-use Rattle.safl_calls.proofs.Basics.{put_at, put_off, sweep, last_append, first_some, first_only, first_skip, first_zero, all_none, none_of, some_none, some_of, some_is, cond_some, not_some}
+use Rattle.safl_calls.proofs.Basics.{put_at, put_off, sweep, last_append, first_some, first_only, first_skip, first_zero, all_none, some_none, some_of, cond_some, not_some}
 use Rattle.safl_calls.proofs.Invariant.{Inv}
 use Rattle.safl_calls.proofs.Locality.{answer_local}
 use Rattle.safl_calls.proofs.Numbered.{Numbered}
@@ -17,9 +18,14 @@ use Rattle.safl_term.specs.Readiness.{Answer, Ready, LoopTo, NotYet, answer, wor
 use Rattle.safl_term.specs.Program.{Program}
 use Rattle.safl_term.specs.Standing.{Stands}
 use Rattle.safl_word.specs.Words.{Word}
+use Rattle.safl_word.proofs.Options.{none_of}
+use Rattle.safl_word.proofs.Booleans.{cond_same}
+use Rattle.safl_term.proofs.Apart.{loop_not_yet, ready_not_yet}
+use Rattle.safl_term.proofs.Widths.{ready_loop}
+use Rattle.safl_calls.proofs.Apart.{runs_idle}
 
 pub ready_of : (a : Answer) (v : Word) → word_of a ≡ Some v → a ≡ Ready v
-ready_of (Ready w) v h = ap Ready (some_is w v h)
+ready_of (Ready w) v h = ap Ready (same_Some w v h)
 ready_of (LoopTo g vs) v h = absurd (some_none v (sym h))
 ready_of NotYet v h = absurd (some_none v (sym h))
 
@@ -27,17 +33,8 @@ pub goes_of : (h : ℕ) (a : Answer) (vs : List Word) → goes_to h a ≡ Some v
 goes_of h (Ready w) vs e = absurd (some_none vs (sym e))
 goes_of h (LoopTo g ws) vs e =
     let c = cond_some _ _ vs e in
-    ap (λ j. LoopTo j ws) (eqb-true g h c.0) ∙ ap (LoopTo h) (some_is ws vs c.1)
+    ap (λ j. LoopTo j ws) (eqb-true g h c.0) ∙ ap (LoopTo h) (same_Some ws vs c.1)
 goes_of h NotYet vs e = absurd (some_none vs (sym e))
-
-pub ready_yet : (v : Word) → Ready v ≡ NotYet → ⊥
-ready_yet v e = grind arith
-
-pub goes_yet : (h : ℕ) (vs : List Word) → LoopTo h vs ≡ NotYet → ⊥
-goes_yet h vs e = grind arith
-
-pub ready_goes : (v : Word) (h : ℕ) (vs : List Word) → Ready v ≡ LoopTo h vs → ⊥
-ready_goes v h vs e = grind arith
 
 abbrev pub goal_of : Answer → ℕ
 goal_of (Ready v) = 0
@@ -48,13 +45,6 @@ abbrev pub member_of : Mode → ℕ
 member_of Idle = 0
 member_of (Runs f k ws) = f
 member_of (Delivers k v) = 0
-
-runs_idle : (f k : ℕ) (ws : List Word) → Runs f k ws ≡ Idle → ⊥
-runs_idle f k ws e = grind arith
-
-cond_twice : {A : Type 0} (b : Bool) (x : A) → cond b x x ≡ x
-cond_twice true x = refl
-cond_twice false x = refl
 
 -- a member that says something runs
 pub record Running (C : Program) (t : State) (f : ℕ) (a : Answer) : Type 0 where
@@ -102,8 +92,8 @@ module _ (C : Program) (P : Choice) (args : List Word) (good : Numbered C) (r : 
       only : (j : ℕ) → j < n → (y : Word) → end_in C P r u j ≡ Some y → y ≡ v
       only j lt' y h' =
           let a = end_found u j y h' in
-          let same : j ≡ f = one_says j f (Ready y) (Ready v) (omega (arith, lt', le)) (omega (arith, lt, le)) (a.0 ∙ sym e) (ready_yet y) (ready_yet v) a.1 h in
-          some_is y v (ap word_of (sym a.1 ∙ ap (body_says C P r) same ∙ h))
+          let same : j ≡ f = one_says j f (Ready y) (Ready v) (omega (arith, lt', le)) (omega (arith, lt, le)) (a.0 ∙ sym e) (ready_not_yet y) (ready_not_yet v) a.1 h in
+          same_Some y v (ap word_of (sym a.1 ∙ ap (body_says C P r) same ∙ h))
 
   module _ (x : State) (st : Started C P args good r i t inv meets (suc C.sites) x) where
     -- a unit that runs is not started
@@ -138,7 +128,7 @@ module _ (C : Program) (P : Choice) (args : List Word) (good : Numbered C) (r : 
     end_fires n y lt en up =
         let v = some_of (end_word C P r n) up in
         let is : body_says C P r n ≡ Ready v.0 = ready_of _ v.0 v.1 in
-        fires v.0 is (running n (Ready v.0) lt (ready_yet v.0) is)
+        fires v.0 is (running n (Ready v.0) lt (ready_not_yet v.0) is)
       where
         w : ℕ
         w = C.unit n
@@ -147,7 +137,7 @@ module _ (C : Program) (P : Choice) (args : List Word) (good : Numbered C) (r : 
         none = all_none _ n (λ j below. not_some _ (λ v h.
             let a = end_found w j v h in
             let is = ready_of _ (some_of (end_word C P r n) up).0 (some_of (end_word C P r n) up).1 in
-            omega (arith, one_says j n (Ready v) (Ready (some_of (end_word C P r n) up).0) (omega (arith, below, lt)) lt a.0 (ready_yet v) (ready_yet _) a.1 is, below)))
+            omega (arith, one_says j n (Ready v) (Ready (some_of (end_word C P r n) up).0) (omega (arith, below, lt)) lt a.0 (ready_not_yet v) (ready_not_yet _) a.1 is, below)))
 
         fires : (v : Word) → body_says C P r n ≡ Ready v → Running C t n (Ready v) → Enabled C args y (Finish n) × Ended (suc n) (fire C args y (Finish n))
         fires v is run =
@@ -184,7 +174,7 @@ module _ (C : Program) (P : Choice) (args : List Word) (good : Numbered C) (r : 
     }
       where
         none : (u : ℕ) → end_in C P r u n ≡ None
-        none u = rw (none_of (end_word C P r n) down) (cond_twice (C.unit n == u) None)
+        none u = rw (none_of (end_word C P r n) down) (cond_same (C.unit n == u) None)
 
     pub finished_to : (n : ℕ) → n ≤ C.functions → Legal C args x (finishes C P r n) × Ended n (after C args x (finishes C P r n))
     finished_to n le =
@@ -200,10 +190,10 @@ module _ (C : Program) (P : Choice) (args : List Word) (good : Numbered C) (r : 
     pub end_says : (n : ℕ) (v : Word) (y : State) → n < C.functions → Ended n y → body_says C P r n ≡ Ready v → says C y (C.unit n) ≡ Ready v
     end_says n v y lt en is =
         let w = C.unit n in
-        let run : Running C t n (Ready v) = running n (Ready v) lt (ready_yet v) is in
+        let run : Running C t n (Ready v) = running n (Ready v) lt (ready_not_yet v) is in
         let none : first (end_in C P r w) n ≡ None = all_none _ n (λ j below. not_some _ (λ v' h.
         let a = end_found w j v' h in
-        let same : j ≡ n = one_says j n (Ready v') (Ready v) (omega (arith, below, lt)) lt a.0 (ready_yet v') (ready_yet v) a.1 is in
+        let same : j ≡ n = one_says j n (Ready v') (Ready v) (omega (arith, below, lt)) lt a.0 (ready_not_yet v') (ready_not_yet v) a.1 is in
         omega (arith, same, below))) in
         let now : y.unit w ≡ Runs n run.serves run.args = en.unit w ∙ ap (λ o. done_as o (x.unit w)) none ∙ still w n run.serves run.args run.runs in
         let own = λ (j : ℕ) (e : C.caller (suc j) ≡ n). en.site j ∙ ap (λ o. cond (is_some o) Unsent (x.site (suc j))) (ap (λ f. first (end_in C P r (C.unit f)) n) e ∙ none) in
@@ -236,7 +226,7 @@ module _ (C : Program) (P : Choice) (args : List Word) (good : Numbered C) (r : 
             last_append C args x (finishes C P r n) (Finish n ∷ []) u d
             ∙ up_at v.0 (ready_of _ v.0 v.1) (last_word C args x (finishes C P r n) u d) ih
         by false is ih =
-            last_append C args x (finishes C P r n) [] u d ∙ ih ∙ ap (λ o. or_word o d) (sym (first_skip (end_in C P r u) n (rw (none_of (end_word C P r n) is) (cond_twice (C.unit n == u) None))))
+            last_append C args x (finishes C P r n) [] u d ∙ ih ∙ ap (λ o. or_word o d) (sym (first_skip (end_in C P r u) n (rw (none_of (end_word C P r n) is) (cond_same (C.unit n == u) None))))
 
     module _ (y : State) (en : Ended C.functions y) where
       -- the one loop of a unit
@@ -244,7 +234,7 @@ module _ (C : Program) (P : Choice) (args : List Word) (good : Numbered C) (r : 
       loop_in_found u h j lt e =
           let a = cond_some _ _ j e in
           let b = and_parts _ _ a.0 in
-          (sym (some_is h j a.1), eqb-true _ u b.0, b.1)
+          (sym (same_Some h j a.1), eqb-true _ u b.0, b.1)
 
       -- two loops of a unit are one
       pub one_loop : (h j : ℕ) → h < C.functions → j < C.functions → C.unit h ≡ C.unit j → is_some (loop_words C P r h) ≡ true → is_some (loop_words C P r j) ≡ true → h ≡ j
@@ -253,7 +243,7 @@ module _ (C : Program) (P : Choice) (args : List Word) (good : Numbered C) (r : 
           let q = some_of _ b in
           let f = loop_found h p.0 p.1 in
           let g = loop_found j q.0 q.1 in
-          let same : f.0 ≡ g.0 = one_says f.0 g.0 (LoopTo h p.0) (LoopTo j q.0) f.1 g.1 (f.2 ∙ e ∙ sym g.2) (goes_yet h p.0) (goes_yet j q.0) f.3 g.3 in
+          let same : f.0 ≡ g.0 = one_says f.0 g.0 (LoopTo h p.0) (LoopTo j q.0) f.1 g.1 (f.2 ∙ e ∙ sym g.2) (loop_not_yet h p.0) (loop_not_yet j q.0) f.3 g.3 in
           ap goal_of (sym f.3 ∙ ap (body_says C P r) same ∙ g.3)
 
       pub loops_at : (h n u : ℕ) → h < n → n ≤ C.functions → is_some (loop_words C P r h) ≡ true → C.unit h ≡ u → first (loop_in C P r u) n ≡ Some h
@@ -275,8 +265,8 @@ module _ (C : Program) (P : Choice) (args : List Word) (good : Numbered C) (r : 
       pub no_end : (g h n : ℕ) (vs : List Word) → n ≤ C.functions → g < C.functions → body_says C P r g ≡ LoopTo h vs → first (end_in C P r (C.unit g)) n ≡ None
       no_end g h n vs le lt is = all_none _ n (λ j below. not_some _ (λ v e.
           let a = end_found (C.unit g) j v e in
-          let same : j ≡ g = one_says j g (Ready v) (LoopTo h vs) (omega (arith, below, le)) lt a.0 (ready_yet v) (goes_yet h vs) a.1 is in
-          ready_goes v h vs (sym a.1 ∙ ap (body_says C P r) same ∙ is)))
+          let same : j ≡ g = one_says j g (Ready v) (LoopTo h vs) (omega (arith, below, le)) lt a.0 (ready_not_yet v) (loop_not_yet h vs) a.1 is in
+          ready_loop h vs v (sym a.1 ∙ ap (body_says C P r) same ∙ is)))
 
       abbrev pub moved_as : Option ℕ → Mode → Mode
       moved_as None m = m
@@ -293,7 +283,7 @@ module _ (C : Program) (P : Choice) (args : List Word) (good : Numbered C) (r : 
       loop_fires n z lt mv up =
           let p = some_of (loop_words C P r n) up in
           let f = loop_found n p.0 p.1 in
-          fires p.0 p.1 f.0 f.1 f.2 f.3 (running f.0 (LoopTo n p.0) f.1 (goes_yet n p.0) f.3)
+          fires p.0 p.1 f.0 f.1 f.2 f.3 (running f.0 (LoopTo n p.0) f.1 (loop_not_yet n p.0) f.3)
         where
           w : ℕ
           w = C.unit n
@@ -362,7 +352,7 @@ module _ (C : Program) (P : Choice) (args : List Word) (good : Numbered C) (r : 
           let f = loop_found n vs words in
           let g = f.0 in
           let in_w = f.2 in
-          let run : Running C t g (LoopTo n vs) = running g (LoopTo n vs) f.1 (goes_yet n vs) f.3 in
+          let run : Running C t g (LoopTo n vs) = running g (LoopTo n vs) f.1 (loop_not_yet n vs) f.3 in
           let none : first (loop_in C P r w) n ≡ None = all_none _ n (λ j below. loop_off w j (λ e upj. omega (arith, one_loop j n (omega (arith, below, lt)) lt e upj (ap is_some words), below))) in
           let no_end' : first (end_in C P r w) C.functions ≡ None = ap (λ u. first (end_in C P r u) C.functions) (sym in_w) ∙ no_end g n C.functions vs (omega arith) f.1 f.3 in
           let began : x.unit w ≡ Runs g run.serves run.args = still w g run.serves run.args (ap t.unit (sym in_w) ∙ run.runs) in

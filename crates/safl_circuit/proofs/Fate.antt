@@ -2,7 +2,7 @@
 use Rattle.std.proofs.Common.{◌≡◌, ℕ, suc, ◌<◌, ◌≤◌, List, [], Option, Some, None, true, cond, ◌||◌, ◌==◌, is_some, refl, sym, ap, ◌∙◌, arith}
 use Rattle.safl_sites.specs.Plan.{Choice}
 use Rattle.safl_circuit.proofs.Accepts.{Meets, Started, begun, not_started, go_found}
-use Rattle.safl_circuit.proofs.Ends.{Ended, done_as, Moved, moved_as, running, end_found, loop_found, loop_in_found, no_end, ready_yet, goes_yet, Running}
+use Rattle.safl_circuit.proofs.Ends.{Ended, done_as, Moved, moved_as, running, end_found, loop_found, loop_in_found, no_end, Running}
 use Rattle.safl_circuit.specs.Equations.{Registers, Inputs, ret, many, body_says, end_in, loop_words, loop_in, or_word, go, go_in, go_words}
 use Rattle.safl_circuit.specs.Steps.{is_running, was_sent, is_returned}
 use Rattle.safl_calls.proofs.Basics.{first_some, some_none, some_of, not_some}
@@ -13,6 +13,7 @@ use Rattle.safl_calls.specs.Picks.{first}
 use Rattle.safl_term.specs.Readiness.{Ready, LoopTo, Returned}
 use Rattle.safl_term.specs.Program.{Program, unit_for}
 use Rattle.safl_word.specs.Words.{Word}
+use Rattle.safl_term.proofs.Apart.{loop_not_yet, ready_not_yet}
 
 -- what the registers hold of the state after the Returns
 pub record Holds (C : Program) (P : Choice) (r : Registers) (t : State) : Type 0 where
@@ -24,12 +25,6 @@ pub record Holds (C : Program) (P : Choice) (r : Registers) (t : State) : Type 0
 
 apart_id : (f k : ℕ) (v : Word) (ws : List Word) → Delivers k v ≡ Runs f k ws → ⊥
 apart_id f k v ws e = grind arith
-
-pub delivers_runs : (j : ℕ) (v : Word) (f k : ℕ) (ws : List Word) → Delivers j v ≡ Runs f k ws → ⊥
-delivers_runs j v f k ws e = grind arith
-
-pub runs_delivers : (j : ℕ) (v : Word) (f k : ℕ) (ws : List Word) → Runs f k ws ≡ Delivers j v → ⊥
-runs_delivers j v f k ws e = grind arith
 
 pub data Fate (C : Program) (P : Choice) (r : Registers) (i : Inputs) (t z : State) (u : ℕ) : Type 0 where
   Stays : first (end_in C P r u) C.functions ≡ None → first (loop_in C P r u) C.functions ≡ None → first (go_in C P r i u) (suc C.sites) ≡ None → z.unit u ≡ t.unit u → Fate C P r i t z u
@@ -80,7 +75,7 @@ module _ (C : Program) (P : Choice) (args : List Word) (good : Numbered C) (r : 
       b = end_found C P args good r i t inv meets u a.0 v a.2
 
       run : Running C t a.0 (Ready v)
-      run = running C P args good r i t inv meets a.0 (Ready v) a.1 (ready_yet v) b.1
+      run = running C P args good r i t inv meets a.0 (Ready v) a.1 (ready_not_yet v) b.1
 
       at : t.unit u ≡ Runs a.0 run.serves run.args
       at = ap t.unit (sym b.0) ∙ run.runs
@@ -112,7 +107,7 @@ module _ (C : Program) (P : Choice) (args : List Word) (good : Numbered C) (r : 
       g = loop_found C P args good r i t inv meets c.0 p.0 p.1
 
       run : Running C t g.0 (LoopTo c.0 p.0)
-      run = running C P args good r i t inv meets g.0 (LoopTo c.0 p.0) g.1 (goes_yet c.0 p.0) g.3
+      run = running C P args good r i t inv meets g.0 (LoopTo c.0 p.0) g.1 (loop_not_yet c.0 p.0) g.3
 
       at : t.unit u ≡ Runs g.0 run.serves run.args
       at = ap t.unit (sym (g.2 ∙ d.1)) ∙ run.runs

@@ -7,9 +7,10 @@ use Rattle.std.specs.List.{All}
 use Rattle.std.proofs.lemmas.List.Elements.{All-nil, All-cons}
 use Rattle.std.proofs.lemmas.Slice.Eq.{bytes_eq-Decides}
 use Rattle.std.proofs.lemmas.Bool.{and_parts, and_from, ltb-true, leb-true, eq-eqb, lt-ltb, false_from_ne_true}
+use Rattle.std.proofs.lemmas.Option.{same_Some}
 use Rattle.safl_term.specs.Program.{Program}
 use Rattle.safl_calls.proofs.Numbered.{Numbered}
-use Rattle.safl_calls.proofs.Basics.{some_none, some_is}
+use Rattle.safl_calls.proofs.Basics.{some_none}
 use Rattle.safl_circuit.specs.Equations.{many}
 use Rattle.safl_net.specs.Netlist.{Netlist, Signal, Kind, Input, Reg, Wire, place}
 use Rattle.safl_circuit.specs.Names.{of_function, of_site, of_param, is_unit, is_site}
@@ -46,7 +47,7 @@ pub has_right : (x : Line) (xs ys : List Line) → Has x ys → Has x (xs ++ ys)
 has_right x [] ys h = h
 has_right x (y ∷ xs) ys h = inr (has_right x xs ys h)
 
-has_side : (x : Line) (xs ys : List Line) → Has x (xs ++ ys) → Has x xs ⊎ Has x ys
+pub has_side : (x : Line) (xs ys : List Line) → Has x (xs ++ ys) → Has x xs ⊎ Has x ys
 has_side x [] ys h = inr h
 has_side x (y ∷ xs) ys (inl e) = inl (inl e)
 has_side x (y ∷ xs) ys (inr h) = ⊎_elim (λ a. inl (inr a)) (λ b. inr b) (has_side x xs ys h)
@@ -92,7 +93,7 @@ placed : (gs : List Signal) (name : List ℕ) (i j : ℕ) (g : Signal) →
 unfolding place
 placed [] name i j g own e is = absurd (some_none g (sym e))
 placed (x ∷ gs) name i zero g own e is =
-    let same : bytes_eq x.name name ≡ true = (bytes_eq-Decides x.name name).1 (ap (λ s. s.name) (some_is x g e) ∙ is) in
+    let same : bytes_eq x.name name ≡ true = (bytes_eq-Decides x.name name).1 (ap (λ s. s.name) (same_Some x g e) ∙ is) in
     ap (λ b. cond b (Some i) (place gs name (suc i))) same ∙ ap Some plus
   where
     plus : i ≡ i + 0

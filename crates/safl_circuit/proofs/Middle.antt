@@ -6,7 +6,7 @@ use Rattle.std.proofs.lemmas.Bool.{cases_eq, eqb-true, eq-eqb, ne_eqb, lt-ltb, l
 use Rattle.safl_circuit.proofs.Start.{home, Back, ret_delivers}
 use Rattle.safl_circuit.specs.Equations.{Registers, ret, returns, many, other_than, path, on_wires, body_says, body_wants}
 use Rattle.safl_circuit.specs.Steps.{Shows, was_sent, is_returned}
-use Rattle.safl_calls.proofs.Basics.{last_append, first_none, cond_cong, none_of, some_none, unsent_is}
+use Rattle.safl_calls.proofs.Basics.{last_append, first_none, some_none, unsent_is}
 use Rattle.safl_calls.proofs.Invariant.{Inv}
 use Rattle.safl_calls.proofs.Numbered.{Numbered}
 use Rattle.safl_calls.specs.Machine.{State, Mode, Idle, Runs, Delivers, Event, Return, opening, Legal, after, back, asked, asked_as, last_word, is_unsent}
@@ -16,6 +16,8 @@ use Rattle.safl_calls.specs.Interference.{shown_words, shown_as, ShownWordsServe
 use Rattle.safl_term.specs.Readiness.{Answer, NotYet, answer, wanted, Stage, Unsent, Sent, Returned}
 use Rattle.safl_term.specs.Program.{Program, unit_for}
 use Rattle.safl_word.specs.Words.{Word}
+use Rattle.safl_word.proofs.Booleans.{cond_cong}
+use Rattle.safl_word.proofs.Options.{none_of}
 
 -- a mode after all returns
 abbrev pub quiet : Mode → Mode

@@ -1,5 +1,5 @@
 -- The lines of a net, and those of the layout.
-use Rattle.std.proofs.Common.{◌≡◌, ℕ, zero, suc, ◌+◌, List, [], ◌∷◌, ◌++◌, map, length, take, Some, Bool, true, false, cond, nat_lt, slice_get, refl, sym, ap, ◌∙◌, arith, append_assoc}
+use Rattle.std.proofs.Common.{◌≡◌, ℕ, zero, suc, List, [], ◌∷◌, ◌++◌, map, length, take, Some, Bool, true, false, cond, nat_lt, slice_get, refl, sym, ap, ◌∙◌, arith, append_assoc}
 use Rattle.std.proofs.lemmas.List.{append-nil, take_at}
 use Rattle.std.specs.List.{flat_map}
 use Rattle.std.proofs.lemmas.Grind.{flat_map-append}
@@ -11,6 +11,7 @@ use Rattle.safl_sites.specs.Plan.{Choice}
 use Rattle.safl_term.specs.Names.{Names}
 use Rattle.safl_circuit.specs.Layout.{Line, lines, function_wires, site_wires, layout_wires, input_kind, register_kind, wire_kind, each_line, temporaries}
 use Rattle.safl_net.specs.Mirrors.{input_line, register_line, wire_line, IsNamed, IsTemp, IsLaidOut}
+use Rattle.safl_net.proofs.Growth.{wires_append}
 
 -- ---- the lines of one kind
 
@@ -109,7 +110,7 @@ temporaries_go i (w ∷ ws) = temporaries_go (suc i) ws
 
 -- ---- a net that is laid out
 
-more : (f : Line → Kind → List Line) (xs ys : List Signal) → each_line f (xs ++ ys) ≡ each_line f xs ++ each_line f ys
+pub more : (f : Line → Kind → List Line) (xs ys : List Signal) → each_line f (xs ++ ys) ≡ each_line f xs ++ each_line f ys
 unfolding each_line
 more f [] ys = refl
 more f (x ∷ xs) ys = ap (λ l. f (x.name, x.width) x.kind ++ l) (more f xs ys) ∙ sym (append_assoc (f (x.name, x.width) x.kind) (each_line f xs) (each_line f ys))
@@ -162,10 +163,6 @@ wires_then n l =
 
 -- ---- its temporaries are named by their numbers
 
-wires_more : (xs ys : List Signal) → wires (xs ++ ys) ≡ wires xs + wires ys
-wires_more [] ys = omega arith
-wires_more (x ∷ xs) ys = let e = wires_more xs ys in omega (arith, e)
-
 at_end : (xs ys : List Signal) (g : Signal) → slice_get (xs ++ g ∷ ys) (length xs) ≡ Some g
 at_end [] ys g = refl
 at_end (x ∷ xs) ys g = at_end xs ys g
@@ -181,7 +178,7 @@ numbered n before (g ∷ gs) i tidy e count h =
     ∙ ap (λ l. temp_name (wires (take (length before) l))) e
     ∙ ap (λ l. temp_name (wires l)) (take_at before (g ∷ gs) (length before) refl)
     ∙ ap temp_name (sym count) in
-    let next : suc i ≡ wires (before ++ g ∷ []) = let a = wires_more before (g ∷ []) in let b = ap one_wire h.0.0.1 in omega (arith, a, b, count) in
+    let next : suc i ≡ wires (before ++ g ∷ []) = let a = wires_append before (g ∷ []) in let b = ap one_wire h.0.0.1 in omega (arith, a, b, count) in
     ap (λ k. wire_kind (g.name, g.width) k ++ each_line wire_kind gs) h.0.0.1
     ∙ ap (λ x. (x, g.width) ∷ each_line wire_kind gs) name
     ∙ ap (λ l. (temp_name i, g.width) ∷ l) (numbered n (before ++ g ∷ []) gs (suc i) tidy (e ∙ sym (append_assoc before (g ∷ []) gs)) next h.1)
@@ -228,8 +225,8 @@ temporaries_are n l tidy =
     ∙ append-nil (wires_of l.named) in
     let before = l.inputs ++ (l.registers ++ l.named) in
     let count : length (wires_of n.signals) ≡ wires before =
-    let a = wires_more l.inputs (l.registers ++ l.named) in
-    let b = wires_more l.registers l.named in
+    let a = wires_append l.inputs (l.registers ++ l.named) in
+    let b = wires_append l.registers l.named in
     let c = no_input_wire l.inputs l.are_inputs in
     let d = no_register_wire l.registers l.are_registers in
     let e = count_named l.named l.are_named in

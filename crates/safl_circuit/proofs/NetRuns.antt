@@ -1,23 +1,26 @@
 -- In a run of the netlist the named registers are those of the circuit, and the ports do what they should.
-use Rattle.std.proofs.Common.{◌≡◌, ◌≢◌, ℕ, zero, suc, ◌+◌, ◌*◌, ◌<◌, ◌≤◌, List, [], ◌∷◌, ◌++◌, length, Option, Some, None, Bool, true, false, cond}
+use Rattle.std.proofs.Common.{◌≡◌, ◌≢◌, ℕ, zero, suc, ◌*◌, ◌<◌, ◌≤◌, List, [], ◌∷◌, ◌++◌, length, Option, Some, None, Bool, true, false, cond}
 use Rattle.safl_term.specs.Names.{Names}
 use Rattle.safl_sites.specs.Plan.{Choice}
 use Rattle.std.proofs.Common.{◌&&◌, ◌||◌, ◌==◌, is_some, refl, sym, ap, ◌∙◌, subst, arith, get_or}
 use Rattle.std.specs.Prelude.{slice_get, codes}
 use Rattle.std.specs.List.Sorted.{IsPermutation}
-use Rattle.std.proofs.lemmas.Option.{slice_get-get_or, slice_get_within}
+use Rattle.std.proofs.lemmas.Option.{slice_get-get_or, slice_get_within, same_Some}
 use Rattle.std.proofs.lemmas.Bool.{false≢true, true≢false, and_from, lt-ltb, eq-eqb}
-use Rattle.safl_word.specs.Words.{Word}
+use Rattle.std.proofs.Math.Numerals.{suc-eq-add-one}
+use Rattle.safl_word.specs.Words.{Word, as_word}
 use Rattle.safl_term.specs.Program.{Program, unit_for, arity}
-use Rattle.safl_term.specs.Readiness.{Returned, or_else}
+use Rattle.safl_term.specs.Readiness.{Returned}
 use Rattle.safl_term.specs.Meaning.{Main, main_cost, main_calls}
 use Rattle.safl_term.specs.WellFormed.{IsWellFormed, AreWordsOf}
+use Rattle.safl_term.proofs.PlainTerms.{words_count}
+use Rattle.safl_term.proofs.OrElse.{or_alike}
 use Rattle.safl_sites.specs.Conflicts.{IsSequential}
 use Rattle.safl_calls.specs.Machine.{opening, after}
 use Rattle.safl_calls.specs.Picks.{first}
 use Rattle.safl_calls.proofs.Numbered.{Numbered}
 use Rattle.safl_calls.proofs.FromWellFormed.{numbered}
-use Rattle.safl_calls.proofs.Basics.{some_is, some_none}
+use Rattle.safl_calls.proofs.Basics.{some_none}
 use Rattle.safl_calls.proofs.Invariant.{inv_open}
 use Rattle.safl_calls.proofs.MachineLaws.{right, started}
 use Rattle.safl_calls.proofs.Counts.{total, at_most}
@@ -27,18 +30,18 @@ use Rattle.safl_circuit.specs.Steps.{Quiet, input_at, registers_at, history}
 use Rattle.safl_net.specs.Netlist.{Netlist}
 use Rattle.safl_net.specs.Valuations.{Valuation, Fits, read, read_output, next_state}
 use Rattle.safl_net.specs.Runs.{RunFrom, GoesOn, start_number}
-use Rattle.safl_circuit.specs.Names.{of_function, one, bit, is_unit, as_word, as_words, numbers, registers_now, input_now}
+use Rattle.safl_circuit.specs.Names.{of_function, one, bit, is_unit, as_words, numbers, registers_now, input_now}
 use Rattle.safl_circuit.specs.Scheme.{Scheme, go_up}
 use Rattle.safl_circuit.proofs.WordsSeen.{words_seen}
 use Rattle.safl_circuit.proofs.DoneOnce.{DoneOnce, Exclusive}
 use Rattle.safl_circuit.specs.Correct.{DoneIn, IsResult, latest, is_started, go_at, seen_at, words_seen_in, IsQuietState}
 use Rattle.safl_circuit.proofs.Same.{Same}
-use Rattle.safl_circuit.proofs.Typed.{edge_same, as_numbers, as_many}
+use Rattle.safl_circuit.proofs.Typed.{edge_same, as_numbers}
 use Rattle.safl_circuit.proofs.Cycle.{steps}
 use Rattle.safl_circuit.proofs.Once.{in_time, no_two_starts, after_done, quiet_later}
 use Rattle.safl_circuit.proofs.Arguments.{one_start}
 use Rattle.safl_circuit.proofs.Agree.{ret_same, go_same, next_same, loop_words_same}
-use Rattle.safl_circuit.proofs.NetSteps.{regs_on, same_then}
+use Rattle.safl_circuit.proofs.NetSteps.{regs_on, same_then, one_bit}
 use Rattle.safl_circuit.proofs.CoreOf.{core_of}
 use Rattle.safl_circuit.proofs.CallsSeen.{calls_seen}
 use Rattle.safl_circuit.proofs.Exact.{exactly}
@@ -47,10 +50,6 @@ at_most_or : (a b : ℕ) → (b < a → ⊥) → a ≤ b
 at_most_or zero b h = omega arith
 at_most_or (suc a) zero h = absurd (h (omega arith))
 at_most_or (suc a) (suc b) h = let r = at_most_or a b (λ l. h (omega (arith, l))) in omega (arith, r)
-
-one_is : (w : ℕ) (b : Bool) → w ≡ bit b → one w ≡ b
-one_is w true e = ap one e
-one_is w false e = ap one e
 
 input_path : (a b : Bool) (xs ys : List Word) → a ≡ b → xs ≡ ys → (let r : Inputs = record { start = a; words = xs } in r) ≡ (let r : Inputs = record { start = b; words = ys } in r)
 input_path a b xs ys p q = ap (λ c. (let r : Inputs = record { start = c; words = xs } in r)) p ∙ ap (λ l. (let r : Inputs = record { start = b; words = l } in r)) q
@@ -65,13 +64,7 @@ words_at C n (Some w) = (input_now C n w).words
 first_some_same : {A B : Type 0} (g : ℕ → Option A) (h : ℕ → Option B) (n : ℕ) → ((k : ℕ) → k < n → is_some (g k) ≡ is_some (h k)) → is_some (first g n) ≡ is_some (first h n)
 unfolding first
 first_some_same g h zero e = refl
-first_some_same g h (suc n) e = by (first g n) (first h n) (g n) (h n) (first_some_same g h n (λ k lt. e k (omega arith))) (e n (omega arith))
-  where
-    by : {A B : Type 0} (a : Option A) (b : Option B) (c : Option A) (d : Option B) → is_some a ≡ is_some b → is_some c ≡ is_some d → is_some (or_else a c) ≡ is_some (or_else b d)
-    by None None c d p q = q
-    by None (Some y) c d p q = absurd (false≢true p)
-    by (Some x) None c d p q = absurd (true≢false p)
-    by (Some x) (Some y) c d p q = refl
+first_some_same g h (suc n) e = or_alike (first g n) (first h n) (g n) (h n) (first_some_same g h n (λ k lt. e k (omega arith))) (e n (omega arith))
 
 module _ (C : Program) (D : Names) (P : Choice) (n : Netlist) (wf : IsWellFormed C) (h1 : OneInUse C P.arbiter) (h2 : ShownWordsServe C P.kept) (scheme : Scheme C D P n) where
   good : Numbered C
@@ -85,7 +78,7 @@ module _ (C : Program) (D : Names) (P : Choice) (n : Netlist) (wf : IsWellFormed
 
   later_start : (vs : List Valuation) (state : ℕ → ℕ) → GoesOn n state vs → (j : ℕ) (w : Valuation) → slice_get vs j ≡ Some w → start_number n w ≡ 0
   later_start [] state goes j w e = absurd (some_none w (sym e))
-  later_start (v ∷ vs) state goes zero w e = ap (start_number n) (sym (some_is v w e)) ∙ goes.1
+  later_start (v ∷ vs) state goes zero w e = ap (start_number n) (sym (same_Some v w e)) ∙ goes.1
   later_start (v ∷ vs) state goes (suc j) w e = later_start vs (next_state n v) goes.2 j w e
 
   on_from : (args : List Word) (v w : Valuation) (state : ℕ → ℕ) (q q' : Registers) (i : Inputs) → Fits n state v → Same C P (registers_now C D n v) q
@@ -101,7 +94,7 @@ module _ (C : Program) (D : Names) (P : Choice) (n : Netlist) (wf : IsWellFormed
       Some w → Agreed w (q j) (i j)
   tail args [] state q i step inputs same goes j w e = absurd (some_none w (sym e))
   tail args (v ∷ vs) state q i step inputs same goes zero w e =
-      subst (λ w. Agreed w (q 0) (i 0)) (some_is v w e) (record { state = state; fits = goes.0; same = same v goes.0; input = inputs 0 v refl })
+      subst (λ w. Agreed w (q 0) (i 0)) (same_Some v w e) (record { state = state; fits = goes.0; same = same v goes.0; input = inputs 0 v refl })
   tail args (v ∷ vs) state q i step inputs same goes (suc j) w e =
       tail args vs (next_state n v) (λ c. q (suc c)) (λ c. i (suc c)) (λ c. step (suc c)) (λ k x h. inputs (suc k) x h)
       (λ x fx. on_from args v x state (q 0) (q 1) (i 0) goes.0 (same v goes.0) (inputs 0 v refl) (step 0) fx) goes.2 j w e
@@ -109,7 +102,7 @@ module _ (C : Program) (D : Names) (P : Choice) (n : Netlist) (wf : IsWellFormed
   module _ (args : List Word) (sized : AreWordsOf args (C.params C.main)) (state0 : ℕ → ℕ) (quiet0 : IsQuietState C D n state0) (v0 : Valuation)
       (vs : List Valuation) (run : RunFrom n state0 (numbers args) (v0 ∷ vs)) where
     many : length args ≡ arity C C.main
-    many = as_many args (C.params C.main) sized
+    many = words_count args (C.params C.main) sized
 
     abbrev r0 : Registers
     r0 = registers_now C D n v0
@@ -125,14 +118,14 @@ module _ (C : Program) (D : Names) (P : Choice) (n : Netlist) (wf : IsWellFormed
 
     inputs : (j : ℕ) (w : Valuation) → slice_get (v0 ∷ vs) j ≡ Some w → input_at args later j ≡ input_now C n w
     inputs zero w e =
-        subst (λ w. input_at args later 0 ≡ input_now C n w) (some_is v0 w e)
+        subst (λ w. input_at args later 0 ≡ input_now C n w) (same_Some v0 w e)
         (input_path true (one (start_number n v0)) args (input_now C n v0).words (sym (ap one run.1)) (sym (ap (as_words (C.params C.main)) run.2 ∙ as_numbers args (C.params C.main) sized)))
     inputs (suc j) w e =
         input_path false (one (start_number n w)) (later j) (input_now C n w).words (sym (ap one (later_start vs (next_state n v0) run.3 j w e))) (ap (words_at C n) e)
 
     pub agreed : (j : ℕ) (w : Valuation) → slice_get (v0 ∷ vs) j ≡ Some w → Agreed w (registers_at C P r0 args later j) (input_at args later j)
     unfolding registers_at
-    agreed zero w e = subst (λ w. Agreed w r0 (input_at args later 0)) (some_is v0 w e) (record { state = state0; fits = run.0; same = same_refl C P r0; input = inputs 0 v0 refl })
+    agreed zero w e = subst (λ w. Agreed w r0 (input_at args later 0)) (same_Some v0 w e) (record { state = state0; fits = run.0; same = same_refl C P r0; input = inputs 0 v0 refl })
     agreed (suc j) w e =
         tail args vs (next_state n v0) (λ c. registers_at C P r0 args later (suc c)) (λ c. input_at args later (suc c)) (λ c. refl) (λ k x h. inputs (suc k) x h)
         (λ x fx. on_from args v0 x state0 r0 (registers_at C P r0 args later 1) (input_at args later 0) run.0 (same_refl C P r0) (inputs 0 v0 refl) refl fx) run.3 j w e
@@ -154,8 +147,8 @@ module _ (C : Program) (D : Names) (P : Choice) (n : Netlist) (wf : IsWellFormed
     go_is c w e k le = by k le ∙ ap (λ i. go C P (registers_now C D n w) i k) (sym (agreed c w e).input) ∙ go_same C P good (input_at args later c) _ _ (agreed c w e).same k
       where
         by : (k : ℕ) → k ≤ C.sites → go_up n w k ≡ go C P (registers_now C D n w) (input_now C n w) k
-        by zero le = let a = agreed c w e in one_is _ _ (scheme.wires w a.state a.fits).goes_main
-        by (suc k) le = let a = agreed c w e in one_is _ _ ((scheme.wires w a.state a.fits).goes (suc k) (omega arith) le)
+        by zero le = let a = agreed c w e in one_bit _ _ (scheme.wires w a.state a.fits).goes_main
+        by (suc k) le = let a = agreed c w e in one_bit _ _ ((scheme.wires w a.state a.fits).goes (suc k) (omega arith) le)
 
     pub prompt : (v : Word) (d : Main C args v) → latest C args d < length (v0 ∷ vs) → DoneIn n (v0 ∷ vs) v (suc (latest C args d))
     prompt v d long =
@@ -173,7 +166,7 @@ module _ (C : Program) (D : Names) (P : Choice) (n : Netlist) (wf : IsWellFormed
         }
 
     is_done : (c : ℕ) (w : Valuation) → slice_get (v0 ∷ vs) c ≡ Some w → read_output n w (codes "done") ≡ 1 → ret C (r c) 0 ≡ true
-    is_done c w e up = sym (one_is _ _ (done_is c w e)) ∙ ap one up
+    is_done c w e up = sym (one_bit _ _ (done_is c w e)) ∙ ap one up
 
     not_early : (v : Word) (d : Main C args v) (c : ℕ) (w : Valuation) → slice_get (v0 ∷ vs) c ≡ Some w → read_output n w (codes "done") ≡ 1 → latest C args d < c → ⊥
     not_early v d c w e up late =
@@ -198,11 +191,8 @@ module _ (C : Program) (D : Names) (P : Choice) (n : Netlist) (wf : IsWellFormed
           by = d;
           prompt = prompt;
           soon = omega (arith, prompt);
-          few = subst (λ k. main_cost C args d ≤ C.functions * k) (plus_one c) (omega (arith, count, sum, few));
+          few = subst (λ k. main_cost C args d ≤ C.functions * k) (suc-eq-add-one c) (omega (arith, count, sum, few));
         }
-      where
-        plus_one : (c : ℕ) → suc c ≡ c + 1
-        plus_one c = omega arith
 
     pub exact : IsSequential C → (c : ℕ) (w : Valuation) → slice_get (v0 ∷ vs) c ≡ Some w → read_output n w (codes "done") ≡ 1 → (v : Word) (d : Main C args v)
         → c ≡ latest C args d
@@ -255,7 +245,7 @@ module _ (C : Program) (D : Names) (P : Choice) (n : Netlist) (wf : IsWellFormed
         let loads_is : is_some (first (go_at C n w f) (suc C.sites)) ≡ is_some (loads C P (r c) (input_at args later c) f) =
         first_some_same (go_at C n w f) (load_in C P (r c) (input_at args later c) f) (suc C.sites)
         (λ k le. by (C.callee k == f) (go_up n w k) k (go_words C P (r c) (input_at args later c) k) (go_is c w e k (omega (arith, le)) ∙ sym (go_wants (r c) (input_at args later c) k))) in
-        let loop_is : one (read n w (of_function D (codes "loop$") f)) ≡ is_some (loop_words C P (registers_now C D n w) f) = one_is _ _ ((scheme.wires w a.state a.fits).loops f lt) in
+        let loop_is : one (read n w (of_function D (codes "loop$") f)) ≡ is_some (loop_words C P (registers_now C D n w) f) = one_bit _ _ ((scheme.wires w a.state a.fits).loops f lt) in
         ap (λ b. b || one (read n w (of_function D (codes "loop$") f))) loads_is
         ∙ ap (λ b. is_some (loads C P (r c) (input_at args later c) f) || b) (loop_is ∙ ap is_some (loop_same c w e f))
       where

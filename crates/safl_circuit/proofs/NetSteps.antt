@@ -11,7 +11,7 @@ use Rattle.safl_circuit.proofs.Laid.{IsRegister, Laid, laid}
 use Rattle.safl_circuit.proofs.Same.{Same}
 use Rattle.safl_circuit.specs.Equations.{Registers, Inputs, ret, go, end_word, loop_words, cycle_events, next}
 use Rattle.safl_circuit.specs.Correct.{StepsFrom}
-use Rattle.safl_circuit.specs.Names.{of_function, of_param, one, bit, is_unit, is_site, registers_now, registers_next, input_now, as_word, as_words, numbers}
+use Rattle.safl_circuit.specs.Names.{of_function, of_param, one, bit, is_unit, is_site, registers_now, registers_next, input_now, as_words, numbers}
 use Rattle.safl_net.specs.Netlist.{Netlist}
 use Rattle.safl_net.specs.Valuations.{Valuation, Holds, Fits, read, read_next, reset_state, next_state, next_at, number_at}
 use Rattle.safl_net.specs.Runs.{start_number, Run, GoesOn}
@@ -19,27 +19,27 @@ use Rattle.safl_circuit.specs.Scheme.{Wires, Scheme, ret_on, go_up, net_events}
 use Rattle.safl_circuit.specs.Steps.{Shows, Quiet}
 use Rattle.safl_calls.proofs.Invariant.{Inv, inv_after}
 use Rattle.safl_calls.proofs.Numbered.{Numbered}
-use Rattle.safl_calls.specs.Machine.{State, Idle, Runs, Delivers, Event, Accept, Finish, Return, LoopInto, opening, Legal, after, last_word}
+use Rattle.safl_calls.specs.Machine.{State, Event, Accept, Finish, Return, LoopInto, opening, Legal, after, last_word}
 use Rattle.safl_calls.specs.Picks.{picks}
 use Rattle.safl_calls.specs.Interference.{OneInUse, ShownWordsServe}
-use Rattle.safl_term.specs.Readiness.{Unsent, Returned}
+use Rattle.safl_term.specs.Readiness.{Unsent}
 use Rattle.safl_term.specs.Program.{Program, arity}
-use Rattle.safl_word.specs.Words.{Word}
-use Rattle.safl_circuit.proofs.Typed.{edge_same, as_numbers, as_many}
+use Rattle.safl_word.specs.Words.{Word, as_word}
+use Rattle.safl_word.proofs.Booleans.{cond_cong, never_both}
+use Rattle.safl_circuit.proofs.Typed.{edge_same, as_numbers}
 use Rattle.safl_term.specs.WellFormed.{IsWellFormed, AreWordsOf}
+use Rattle.safl_term.proofs.PlainTerms.{words_count}
+use Rattle.safl_term.proofs.Apart.{returned_unsent, unsent_returned}
 use Rattle.safl_calls.proofs.FromWellFormed.{numbered}
+use Rattle.safl_calls.proofs.Apart.{idle_delivers, idle_runs}
 
-one_bit : (w : ℕ) (b : Bool) → w ≡ bit b → one w ≡ b
+pub one_bit : (w : ℕ) (b : Bool) → w ≡ bit b → one w ≡ b
 one_bit w true e = ap one e
 one_bit w false e = ap one e
 
 and_cong : (b x y : Bool) → (b ≡ true → x ≡ y) → (b && x) ≡ (b && y)
 and_cong true x y h = h refl
 and_cong false x y h = refl
-
-cond_under : (b : Bool) (x y z : ℕ) → (b ≡ true → x ≡ y) → cond b x z ≡ cond b y z
-cond_under true x y z h = h refl
-cond_under false x y z h = refl
 
 picks_cong : (p q : ℕ → Bool) (e : ℕ → Event) (n : ℕ) → ((k : ℕ) → k < n → p k ≡ q k) → picks p e n ≡ picks q e n
 unfolding picks
@@ -96,7 +96,7 @@ module _ (C : Program) (D : Names) (P : Choice) (n : Netlist) (wf : IsWellFormed
   regs_on v w fits = record {
     run = λ u. and_cong (is_unit C u) _ _ (λ is. ap one (hands_on v w _ fits (registers.run u is)));
     fin = λ u. and_cong (is_unit C u) _ _ (λ is. ap one (hands_on v w _ fits (registers.fin u is)));
-    res = λ u. ap (as_word (C.result u)) (cond_under (is_unit C u) _ _ 0 (λ is. hands_on v w _ fits (registers.res u is)));
+    res = λ u. ap (as_word (C.result u)) (cond_cong (is_unit C u) _ _ 0 (λ is. hands_on v w _ fits (registers.res u is)));
     at = λ f lt is. ap one (hands_on v w _ fits (registers.at f lt is));
     arg = λ f lt. ap (as_words (C.params f)) (map_all (λ p. IsRegister n (of_param D f p)) (λ p. read n w (of_param D f p))
         (λ p. read_next n v (of_param D f p)) (D.params f) (λ p reg. hands_on v w (of_param D f p) fits reg) (registers.arg f lt));
@@ -126,12 +126,9 @@ module _ (C : Program) (D : Names) (P : Choice) (n : Netlist) (wf : IsWellFormed
     arg = λ u f k ws e. same.arg f (inv.member u f k ws e).1 ∙ shows.arg u f k ws e;
     sent = λ k pos. same.sent k pos ∙ shows.sent k pos;
     got = λ k pos. same.got k pos ∙ shows.got k pos;
-    keep = λ k v pos kept e. same.keep k pos (inv.known k (λ un. apart v (sym e ∙ un))) kept ∙ shows.keep k v pos kept e;
+    keep = λ k v pos kept e. same.keep k pos (inv.known k (λ un. returned_unsent v (sym e ∙ un))) kept ∙ shows.keep k v pos kept e;
     others = λ k pos rests. (same.sent k pos ∙ (shows.others k pos rests).0, same.got k pos ∙ (shows.others k pos rests).1);
   }
-    where
-      apart : (v : Word) → Returned v ≡ Unsent → ⊥
-      apart v e = grind arith
 
   -- every valuation that fits a state shows where the events lead
   pub record Shown (es : List Event) (state : ℕ → ℕ) : Type 0 where
@@ -176,32 +173,28 @@ module _ (C : Program) (D : Names) (P : Choice) (n : Netlist) (wf : IsWellFormed
 
   pub first_quiet : (v : Valuation) → Fits n (reset_state n) v → Quiet (registers_now C D n v)
   first_quiet v fits = record {
-    run = λ u. down (is_unit C u) _ (λ is. ap one (clear _ (registers.run u is)));
-    fin = λ u. down (is_unit C u) _ (λ is. ap one (clear _ (registers.fin u is)));
-    sent = λ k pos. down (is_site C k) _ (λ is. ap one (clear _ (registers.sent k is)));
-    got = λ k pos. down (is_site C k) _ (λ is. ap one (clear _ (registers.got k is)));
+    run = λ u. never_both (is_unit C u) _ (λ is. ap one (clear _ (registers.run u is)));
+    fin = λ u. never_both (is_unit C u) _ (λ is. ap one (clear _ (registers.fin u is)));
+    sent = λ k pos. never_both (is_site C k) _ (λ is. ap one (clear _ (registers.sent k is)));
+    got = λ k pos. never_both (is_site C k) _ (λ is. ap one (clear _ (registers.got k is)));
   }
     where
       clear : (name : List ℕ) → IsRegister n name → read n v name ≡ 0
       clear name reg = register_word (reset_state n) v name fits reg ∙ scheme.resets reg.at
 
-      down : (b x : Bool) → (b ≡ true → x ≡ false) → (b && x) ≡ false
-      down true x h = h refl
-      down false x h = refl
-
   shown_first : Shown [] (reset_state n)
   unfolding after last_word
   shown_first = record {
     shows = λ v fits. record {
-      run = λ u. down (is_unit C u) _ (λ is. ap one (clear v _ fits (registers.run u is)));
-      fin = λ u. down (is_unit C u) _ (λ is. ap one (clear v _ fits (registers.fin u is)));
+      run = λ u. never_both (is_unit C u) _ (λ is. ap one (clear v _ fits (registers.run u is)));
+      fin = λ u. never_both (is_unit C u) _ (λ is. ap one (clear v _ fits (registers.fin u is)));
       res = λ u k w e. absurd (idle_delivers k w e);
       at = λ u f k ws e. absurd (idle_runs f k ws e);
       arg = λ u f k ws e. absurd (idle_runs f k ws e);
-      sent = λ k pos. down (is_site C k) _ (λ is. ap one (clear v _ fits (registers.sent k is)));
-      got = λ k pos. down (is_site C k) _ (λ is. ap one (clear v _ fits (registers.got k is)));
+      sent = λ k pos. never_both (is_site C k) _ (λ is. ap one (clear v _ fits (registers.sent k is)));
+      got = λ k pos. never_both (is_site C k) _ (λ is. ap one (clear v _ fits (registers.got k is)));
       keep = λ k w pos kept e. absurd (unsent_returned w e);
-      others = λ k pos rests. (down (is_site C k) _ (λ is. ap one (clear v _ fits (registers.sent k is))), down (is_site C k) _ (λ is. ap one (clear v _ fits (registers.got k is))));
+      others = λ k pos rests. (never_both (is_site C k) _ (λ is. ap one (clear v _ fits (registers.sent k is))), never_both (is_site C k) _ (λ is. ap one (clear v _ fits (registers.got k is))));
     };
     lasts = λ v fits u. ap (as_word (C.result u)) (zero_down (is_unit C u) _ (λ is. clear v _ fits (registers.res u is)));
   }
@@ -209,22 +202,9 @@ module _ (C : Program) (D : Names) (P : Choice) (n : Netlist) (wf : IsWellFormed
       clear : (v : Valuation) (name : List ℕ) → Fits n (reset_state n) v → IsRegister n name → read n v name ≡ 0
       clear v name fits reg = register_word (reset_state n) v name fits reg ∙ scheme.resets reg.at
 
-      down : (b x : Bool) → (b ≡ true → x ≡ false) → (b && x) ≡ false
-      down true x h = h refl
-      down false x h = refl
-
       zero_down : (b : Bool) (w : ℕ) → (b ≡ true → w ≡ 0) → cond b w 0 ≡ 0
       zero_down true w h = h refl
       zero_down false w h = refl
-
-      idle_delivers : (k : ℕ) (v : Word) → Idle ≡ Delivers k v → ⊥
-      idle_delivers k v e = grind arith
-
-      idle_runs : (f k : ℕ) (ws : List Word) → Idle ≡ Runs f k ws → ⊥
-      idle_runs f k ws e = grind arith
-
-      unsent_returned : (v : Word) → Unsent ≡ Returned v → ⊥
-      unsent_returned v e = grind arith
 
   pub first_run : AreWordsOf args (C.params C.main) → (vs : List Valuation) → Run n (numbers args) vs → StepsFrom C D P n args [] vs
   unfolding after Legal
@@ -232,7 +212,7 @@ module _ (C : Program) (D : Names) (P : Choice) (n : Netlist) (wf : IsWellFormed
   first_run sized (v ∷ vs) run =
       let words : (input_now C n v).words ≡ args = ap (as_words (C.params C.main)) run.2 ∙ as_numbers args (C.params C.main) sized in
       let start = λ (up : one (start_number n v) ≡ true). (let p : ((after C args opening []).site 0 ≡ Unsent) × ((input_now C n v).words ≡ args) ×
-      (length args ≡ arity C C.main) = (refl, words, as_many args (C.params C.main) sized) in p) in (
+      (length args ≡ arity C C.main) = (refl, words, words_count args (C.params C.main) sized) in p) in (
         shown_first.shows v run.0,
         shown_first.lasts v run.0,
         legal_cycle [] tt (reset_state n) shown_first v run.0 start,

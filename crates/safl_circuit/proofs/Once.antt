@@ -10,33 +10,17 @@ use Rattle.safl_circuit.proofs.Start.{ret_delivers}
 use Rattle.safl_circuit.specs.Equations.{Registers, ret, go, returns, cycle_events}
 use Rattle.safl_circuit.proofs.DoneOnce.{Core, DoneOnce, Exclusive}
 use Rattle.safl_circuit.specs.Steps.{StepsAt, Quiet, input_at, registers_at, history}
-use Rattle.safl_calls.proofs.Basics.{moves_append, cond_some}
+use Rattle.safl_calls.proofs.Basics.{moves_append, cond_some, unsent_is}
 use Rattle.safl_calls.proofs.Invariant.{Inv, inv_after}
 use Rattle.safl_calls.proofs.Numbered.{Numbered}
-use Rattle.safl_calls.specs.Machine.{State, Event, Accept, opening, Enabled, after, is_unsent}
+use Rattle.safl_calls.specs.Machine.{State, Event, Accept, opening, Enabled, after}
 use Rattle.safl_calls.proofs.Basics.{serves}
 use Rattle.safl_calls.specs.Moves.{moves_count}
 use Rattle.safl_calls.specs.Interference.{OneInUse, ShownWordsServe}
-use Rattle.safl_term.specs.Readiness.{Stage, Unsent, Sent, Returned}
+use Rattle.safl_term.specs.Readiness.{Unsent, Sent, Returned}
 use Rattle.safl_term.specs.Program.{Program, unit_for, arity}
 use Rattle.safl_word.specs.Words.{Word}
-
-returned_sent : (w : Word) → Returned w ≡ Sent → ⊥
-returned_sent w e = grind arith
-
-returned_unsent : (w : Word) → Returned w ≡ Unsent → ⊥
-returned_unsent w e = grind arith
-
-sent_unsent : Sent ≡ Unsent → ⊥
-sent_unsent e = grind arith
-
-unsent_returned : (w : Word) → Unsent ≡ Returned w → ⊥
-unsent_returned w e = grind arith
-
-unsent_if : (x : Stage) → is_unsent x ≡ true → x ≡ Unsent
-unsent_if Unsent h = refl
-unsent_if Sent h = absurd (false≢true h)
-unsent_if (Returned w) h = absurd (false≢true h)
+use Rattle.safl_term.proofs.Apart.{returned_sent, returned_unsent, sent_unsent, unsent_returned}
 
 module _ (C : Program) (P : Choice) (good : Numbered C) (h1 : OneInUse C P.arbiter) (h2 : ShownWordsServe C P.kept) (r0 : Registers)
     (quiet : Quiet r0) (args : List Word) (sized : length args ≡ arity C C.main) (later : ℕ → List Word) where
@@ -146,7 +130,7 @@ module _ (C : Program) (P : Choice) (good : Numbered C) (h1 : OneInUse C P.arbit
     main_goes zero q same e on is = go_first
     main_goes (suc c) q same e on is =
         let on' : Enabled C args q (Accept 0) = subst (λ e. Enabled C args q e) is on in
-        absurd (not_unsent c (sym same ∙ unsent_if _ (and_parts _ _ (cond_some _ _ _ on'.1).0).0))
+        absurd (not_unsent c (sym same ∙ unsent_is _ (and_parts _ _ (cond_some _ _ _ on'.1).0).0))
 
     -- so some event is enabled after the Returns of the cycle, and it is no Return
     moves_on : (c : ℕ) → ((k : ℕ) → k < suc c → ret C (r k) 0 ≡ false) → 0 < moves_count (cycle_events C P (r c) (input_at args later c))

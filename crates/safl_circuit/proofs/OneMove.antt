@@ -3,7 +3,7 @@ use Rattle.std.proofs.Common.{◌≡◌, ℕ, zero, suc, ◌+◌, ◌<◌, ◌�
 use Rattle.safl_sites.specs.Plan.{Choice}
 use Rattle.std.proofs.lemmas.Bool.{cases_Bool, false_from_ne_true}
 use Rattle.safl_circuit.proofs.Accepts.{Meets, go_asks, go_idle}
-use Rattle.safl_circuit.proofs.Ends.{ready_of, ready_yet, goes_yet, running, loop_found}
+use Rattle.safl_circuit.proofs.Ends.{ready_of, running, loop_found}
 use Rattle.safl_circuit.proofs.Progress.{some_up}
 use Rattle.safl_circuit.specs.Equations.{Registers, Inputs, ret, go, returns, accepts, finishes, goes_on, cycle_events, end_word, loop_words}
 use Rattle.safl_calls.proofs.Basics.{moves_append, some_of}
@@ -15,6 +15,7 @@ use Rattle.safl_calls.specs.Picks.{picks}
 use Rattle.safl_term.specs.Program.{Program}
 use Rattle.safl_term.specs.Readiness.{Ready, LoopTo}
 use Rattle.safl_word.specs.Words.{Word}
+use Rattle.safl_term.proofs.Apart.{loop_not_yet, ready_not_yet}
 
 number : Event → ℕ
 number (Accept k) = k
@@ -75,14 +76,14 @@ module _ (C : Program) (P : Choice) (args : List Word) (good : Numbered C) (r : 
   finish_on : (f : ℕ) → f < C.functions → is_some (end_word C P r f) ≡ true → Enabled C args t (Finish f)
   finish_on f lt up =
       let v = some_of (end_word C P r f) up in
-      let run = running C P args good r i t inv meets f (Ready v.0) lt (ready_yet v.0) (ready_of _ v.0 v.1) in
+      let run = running C P args good r i t inv meets f (Ready v.0) lt (ready_not_yet v.0) (ready_of _ v.0 v.1) in
       (run.serves, run.args, v.0, run.runs, ap (says_as C (back t)) run.runs ∙ run.answer)
 
   loop_on : (h : ℕ) → is_some (loop_words C P r h) ≡ true → Enabled C args t (LoopInto h)
   loop_on h up =
       let vs = some_of (loop_words C P r h) up in
       let g = loop_found C P args good r i t inv meets h vs.0 vs.1 in
-      let run = running C P args good r i t inv meets g.0 (LoopTo h vs.0) g.1 (goes_yet h vs.0) g.3 in
+      let run = running C P args good r i t inv meets g.0 (LoopTo h vs.0) g.1 (loop_not_yet h vs.0) g.3 in
       (vs.0, ap (says_as C (back t)) (ap t.unit (sym g.2) ∙ run.runs) ∙ run.answer)
 
   few_accepts : moves_count (accepts C P r i (suc C.sites)) ≤ 1

@@ -16,6 +16,7 @@ use Rattle.safl_calls.specs.Moves.{move_count, moves_count}
 use Rattle.safl_term.specs.Readiness.{Ready, LoopTo, NotYet, answer, word_of, or_else}
 use Rattle.safl_term.specs.Program.{Program, unit_for}
 use Rattle.safl_word.specs.Words.{Word}
+use Rattle.safl_word.proofs.Options.{is_there}
 
 -- where a number passes, and its event is no Return, there is a move
 picks_move : (p : ℕ → Bool) (e : ℕ → Event) → ((k : ℕ) → move_count (e k) ≡ 1) → (n k : ℕ) → k < n → p k ≡ true → 0 < moves_count (picks p e n)
@@ -40,10 +41,6 @@ some_up p (suc n) = ⊎_elim
     (λ down. inr (λ k lt. ⊎_elim (λ same. ap p same ∙ down) (λ other. none k (omega (arith, other))) (cases_eq k n)))
     (cases_Bool (p n)))
     (some_up p n)
-
-there : {A : Type 0} (o : Option A) → (o ≡ None → ⊥) → is_some o ≡ true
-there None h = absurd (h refl)
-there (Some x) h = refl
 
 -- the least place
 first_least : {A : Type 0} (g : ℕ → Option A) (n : ℕ) (x : A) → first g n ≡ Some x → (i : ℕ) × (i < n) × (g i ≡ Some x) × (first g i ≡ None)
@@ -122,5 +119,5 @@ module _ (C : Program) (P : Choice) (args : List Word) (good : Numbered C) (r : 
           let says' : body_says C P r g ≡ LoopTo h' h.0 = meets.says g m.1 ∙ ap (λ m. member_says C (back t) m g) (ap t.unit m.0 ∙ e) ∙ ap
           (λ b. cond b (answer (back t) ws (C.body g)) NotYet) (eq-eqb g g refl) ∙ body in
           let from : loop_from C P r h' g ≡ Some h.0 = rw (eq-eqb (C.unit g) (C.unit h') m.0, says', eq-eqb h' h' refl) refl in
-          let some : is_some (loop_words C P r h') ≡ true = there (loop_words C P r h') (λ none. some_none h.0 (sym from ∙ first_none (loop_from C P r h') C.functions none g m.1)) in
+          let some : is_some (loop_words C P r h') ≡ true = is_there (loop_words C P r h') (λ none. some_none h.0 (sym from ∙ first_none (loop_from C P r h') C.functions none g m.1)) in
           inr (inr (picks_move (λ j. is_some (loop_words C P r j)) LoopInto (λ j. refl) C.functions h' (good.loops g h' m.1 (goes_stands (back t) ws (C.body g) h' h.0 body)).0 some))

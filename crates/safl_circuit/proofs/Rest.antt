@@ -1,5 +1,5 @@
 -- After main has returned all units rest.
-use Rattle.std.proofs.Common.{◌≡◌, ◌≢◌, ℕ, zero, suc, ◌+◌, ◌<◌, ◌≤◌, List, Some, refl, sym, ap, ◌∙◌, arith}
+use Rattle.std.proofs.Common.{◌≡◌, ◌≢◌, ℕ, zero, suc, ◌+◌, ◌<◌, ◌≤◌, Some, refl, sym, ap, ◌∙◌, arith}
 use Rattle.safl_sites.specs.Plan.{Choice}
 use Rattle.safl_circuit.specs.Equations.{Registers}
 use Rattle.safl_circuit.specs.Steps.{Shows, Quiet, is_running, is_delivering, was_sent, is_returned}
@@ -10,12 +10,8 @@ use Rattle.safl_calls.proofs.Basics.{serves}
 use Rattle.safl_term.specs.Readiness.{Stage, Unsent, Sent, Returned}
 use Rattle.safl_term.specs.Program.{Program}
 use Rattle.safl_word.specs.Words.{Word}
-
-returned_sent : (w : Word) → Returned w ≡ Sent → ⊥
-returned_sent w e = grind arith
-
-runs_idle : (f k : ℕ) (ws : List Word) → Runs f k ws ≡ Idle → ⊥
-runs_idle f k ws e = grind arith
+use Rattle.safl_term.proofs.Apart.{returned_sent, sent_unsent}
+use Rattle.safl_calls.proofs.Apart.{runs_idle}
 
 unsent_or : (x : Stage) → (x ≢ Unsent → ⊥) → x ≡ Unsent
 unsent_or Unsent h = refl
@@ -31,9 +27,6 @@ module _ (C : Program) (good : Numbered C) (s : State) (inv : Inv C s) (w : Word
       let lt = good.earlier (suc k) (omega arith) sv.2 in
       let a = inv.asks (suc k) (omega arith) (λ un. sent_unsent (sym sv.0 ∙ un)) in
       runs_idle _ _ _ (sym a.runs ∙ rest (C.unit (C.caller (suc k))) (omega (arith, lt, sv.1)))
-    where
-      sent_unsent : Sent ≡ Unsent → ⊥
-      sent_unsent e = grind arith
 
   rests_as : (u : ℕ) → ((h : ℕ) → u < h → s.unit h ≡ Idle) → (m : Mode) → s.unit u ≡ m → m ≡ Idle
   rests_as u rest Idle e = refl

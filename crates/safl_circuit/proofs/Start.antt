@@ -1,7 +1,8 @@
 -- The Returns of a cycle.
-use Rattle.std.proofs.Common.{◌≡◌, ℕ, zero, suc, ◌<◌, List, Some, true, false, cond, ◌&&◌, nat_lt, refl, sym, ap, ◌∙◌, subst, ⊎_elim, arith}
+use Rattle.std.proofs.Common.{◌≡◌, ℕ, zero, suc, ◌<◌, List, true, false, cond, ◌&&◌, nat_lt, refl, sym, ap, ◌∙◌, subst, ⊎_elim, arith}
 use Rattle.safl_sites.specs.Plan.{Choice}
 use Rattle.std.proofs.lemmas.Bool.{cases_Bool, cases_eq, lt-ltb, le-ltb, ltb-true, ltb-false, and_parts, not-true, false≢true, true≢false, and_right}
+use Rattle.std.proofs.lemmas.Option.{same_Some}
 use Rattle.safl_circuit.specs.Equations.{Registers, ret, returns}
 use Rattle.safl_circuit.specs.Steps.{Shows, is_delivering, was_sent, is_returned}
 use Rattle.safl_calls.proofs.Basics.{put_at, put_off, sweep}
@@ -22,9 +23,6 @@ pub in_flight : (x : Stage) → was_sent x ≡ true → is_returned x ≡ false 
 in_flight Unsent h g = absurd (false≢true h)
 in_flight Sent h g = refl
 in_flight (Returned v) h g = absurd (true≢false g)
-
-some_is : {A : Type 0} (x y : A) → Some x ≡ Some y → x ≡ y
-some_is x y e = grind arith
 
 -- a unit after the returns below n
 abbrev pub home : ℕ → Mode → Mode
@@ -61,7 +59,7 @@ module _ (C : Program) (P : Choice) (args : List Word) (good : Numbered C) (r : 
       let d = delivering (s.unit u) (sym (shows.fin u) ∙ a.0) in
       let f = in_flight (s.site (suc k)) (sym (shows.sent (suc k) (omega arith)) ∙ b.0) (sym (shows.got (suc k) (omega arith)) ∙ not-true _ b.1) in
       let sv = inv.flight (suc k) f in
-      let same : d.0 ≡ suc k = some_is d.0 (suc k) (sym (ap serves d.2) ∙ sv) in
+      let same : d.0 ≡ suc k = same_Some d.0 (suc k) (sym (ap serves d.2) ∙ sv) in
       (d.1, d.2 ∙ ap (λ j. Delivers j d.1) same)
 
   pub delivers_ret : (u k : ℕ) (v : Word) → s.unit u ≡ Delivers k v → ret C r k ≡ true

@@ -2,7 +2,7 @@
 use Rattle.std.proofs.Common.{◌≡◌, ◌≢◌, ℕ, ◌*◌, ◌≤◌, List, [], ◌∷◌, length, Some, true, sym, subst, arith, inl, inr, cond, ap, refl, ◌++◌, suc, ◌<◌}
 use Rattle.safl_term.specs.Names.{Names}
 use Rattle.std.specs.Prelude.{slice_get, codes}
-use Rattle.safl_word.specs.Words.{Word}
+use Rattle.safl_word.specs.Words.{Word, as_word}
 use Rattle.safl_term.specs.Program.{Program, unit_for}
 use Rattle.safl_term.specs.Meaning.{Main}
 use Rattle.safl_term.specs.WellFormed.{IsWellFormed, AreWordsOf}
@@ -15,7 +15,7 @@ use Rattle.safl_sites.specs.Plan.{Choice}
 use Rattle.safl_net.specs.Netlist.{Netlist}
 use Rattle.safl_net.specs.Valuations.{Valuation, read, read_output, reset_state}
 use Rattle.safl_net.specs.Runs.{RunFrom}
-use Rattle.safl_circuit.specs.Names.{of_function, as_word, numbers, of_site}
+use Rattle.safl_circuit.specs.Names.{of_function, numbers, of_site}
 use Rattle.safl_circuit.specs.Scheme.{Scheme, go_up}
 use Rattle.safl_circuit.specs.Correct.{DoneIn, IsExact, IsResult, latest, QuietAfterDone, SameCalls, Behaves, IsQuietState}
 use Rattle.safl_circuit.specs.Theorem.{IsCircuit, SchemesAreCircuits, ServingSchemesAreCircuits, CyclesAreEvents, LatestIsSoon, Runs}

@@ -5,8 +5,11 @@ use Rattle.safl_sites.specs.Plan.{Choice}
 use Rattle.std.specs.Prelude.{codes}
 use Rattle.std.proofs.lemmas.Slice.Eq.{bytes_eq-Decides}
 use Rattle.std.proofs.lemmas.Bool.{eqb-true, false_from_ne_true}
-use Rattle.safl_word.specs.Words.{Word}
+use Rattle.std.proofs.lemmas.Option.{same_Some}
+use Rattle.std.proofs.lemmas.List.{length-map}
+use Rattle.safl_word.specs.Words.{Word, as_word}
 use Rattle.safl_word.proofs.Widths.{widths}
+use Rattle.safl_word.proofs.Words.{word_eq}
 use Rattle.safl_term.specs.Program.{Program, unit_for}
 use Rattle.safl_term.specs.Readiness.{Answer, Ready, LoopTo, NotYet, word_of, or_else, answer}
 use Rattle.safl_term.specs.Standing.{Stands}
@@ -14,16 +17,17 @@ use Rattle.safl_term.specs.WellFormed.{IsWellFormed, HasWidth, AreWordsOf}
 use Rattle.safl_term.proofs.Widths.{answer_width, loop_widths, wanted_widths}
 use Rattle.safl_calls.proofs.Numbered.{Numbered}
 use Rattle.safl_calls.proofs.FromWellFormed.{numbered}
-use Rattle.safl_calls.proofs.Basics.{first_some, cond_some, some_is, some_none}
-use Rattle.safl_circuit.specs.Equations.{Registers, Inputs, ret, word_on, on_wires, path, body_says, body_wants, go_words, goes_to, loop_from}
+use Rattle.safl_calls.proofs.Basics.{first_some, cond_some, some_none}
+use Rattle.safl_circuit.specs.Equations.{Registers, Inputs, ret, word_on, on_wires, path, body_says, body_wants, go_words, loop_from}
 use Rattle.safl_circuit.specs.Equations.{loop_words, end_in, load_in, ends, loads, or_word, next}
 use Rattle.safl_net.specs.Netlist.{Netlist, Signal, Kind, Input, Reg, Wire}
 use Rattle.safl_net.specs.Valuations.{Valuation, Fits, read, read_next}
 use Rattle.safl_net.specs.Runs.{is_argument, input_numbers}
-use Rattle.safl_circuit.specs.Names.{of_param, as_word, as_words, numbers, view, registers_now, registers_next, input_now}
+use Rattle.safl_circuit.specs.Names.{of_param, as_words, numbers, view, registers_now, registers_next, input_now}
 use Rattle.safl_circuit.specs.Layout.{Line, named, input_kind, each_line}
 use Rattle.safl_circuit.specs.Scheme.{Scheme, Agree}
 use Rattle.safl_circuit.proofs.Same.{Same}
+use Rattle.safl_circuit.proofs.Ends.{goes_of}
 
 pub record Typed (C : Program) (r : Registers) : Type 0 where
   pub res : (u : ℕ) → (r.res u).width ≡ C.result u
@@ -42,19 +46,6 @@ as_numbers [] (w ∷ ws) h = absurd h
 as_numbers (v ∷ vs) [] h = absurd h
 as_numbers (v ∷ vs) (w ∷ ws) h = ap (λ x. as_word x v.bits ∷ as_words ws (numbers vs)) (sym h.1) ∙ ap (λ l. v ∷ l) (as_numbers vs ws h.2)
 
-pub as_many : (vs : List Word) (ws : List ℕ) → AreWordsOf vs ws → length vs ≡ length ws
-as_many [] [] h = refl
-as_many [] (w ∷ ws) h = absurd h
-as_many (v ∷ vs) [] h = absurd h
-as_many (v ∷ vs) (w ∷ ws) h = ap suc (as_many vs ws h.2)
-
-map_length : {A B : Type 0} (f : A → B) (xs : List A) → length (map f xs) ≡ length xs
-map_length f [] = refl
-map_length f (x ∷ xs) = ap suc (map_length f xs)
-
-word_path : (a b : Word) → a.width ≡ b.width → a.bits ≡ b.bits → a ≡ b
-word_path a b p q = λ i. record { width = p i; bits = q i }
-
 abbrev head : List ℕ → ℕ
 head [] = 0
 head (x ∷ xs) = x
@@ -67,18 +58,18 @@ words_path : (xs ys : List Word) → widths xs ≡ widths ys → numbers xs ≡ 
 words_path [] [] p q = refl
 words_path [] (y ∷ ys) p q = absurd (let e = ap length p in omega (arith, e))
 words_path (x ∷ xs) [] p q = absurd (let e = ap length p in omega (arith, e))
-words_path (x ∷ xs) (y ∷ ys) p q = ap (λ z. z ∷ xs) (word_path x y (ap head p) (ap head q)) ∙ ap (λ l. y ∷ l) (words_path xs ys (ap rest p) (ap rest q))
+words_path (x ∷ xs) (y ∷ ys) p q = ap (λ z. z ∷ xs) (word_eq x y (ap head p) (ap head q)) ∙ ap (λ l. y ∷ l) (words_path xs ys (ap rest p) (ap rest q))
 
 pub agree_same : (C : Program) (P : Choice) (r q : Registers) → Typed C r → Typed C q → Agree C P r q → Same C P r q
 agree_same C P r q t s a = record {
   run = a.run;
   fin = a.fin;
-  res = λ u. word_path (r.res u) (q.res u) (t.res u ∙ sym (s.res u)) (a.res u);
+  res = λ u. word_eq (r.res u) (q.res u) (t.res u ∙ sym (s.res u)) (a.res u);
   at = a.at;
   arg = λ f lt. words_path (r.arg f) (q.arg f) (t.arg f lt ∙ sym (s.arg f lt)) (a.arg f lt);
   sent = a.sent;
   got = a.got;
-  keep = λ k pos le is. word_path (r.keep k) (q.keep k) (t.keep k le ∙ sym (s.keep k le)) (a.keep k pos le is);
+  keep = λ k pos le is. word_eq (r.keep k) (q.keep k) (t.keep k le ∙ sym (s.keep k le)) (a.keep k pos le is);
 }
 
 module _ (C : Program) (P : Choice) (wf : IsWellFormed C) where
@@ -93,7 +84,7 @@ module _ (C : Program) (P : Choice) (wf : IsWellFormed C) where
     wire_width zero v le e = absurd (some_none v (sym e))
     wire_width (suc k) v le e =
         let a = cond_some _ _ v e in
-        sym (ap (λ w. w.width) (some_is (word_on C P r (suc k)) v a.1)) ∙ by (P.kept (suc k) && not (ret C r (suc k)))
+        sym (ap (λ w. w.width) (same_Some (word_on C P r (suc k)) v a.1)) ∙ by (P.kept (suc k) && not (ret C r (suc k)))
       where
         by : (b : Bool) → (cond b (r.keep (suc k)) (r.res (unit_for C (suc k)))).width ≡ C.result (C.callee (suc k))
         by true = typed.keep (suc k) le
@@ -138,7 +129,7 @@ module _ (C : Program) (P : Choice) (wf : IsWellFormed C) where
         wanted_widths C (on_wires C P r) g true b.0 b.1 (r.arg g) (C.body g) (C.result g) k vs b.3 (body_width g lt) (back_in g lt) c.1
 
     end_width : (f : ℕ) (a : Answer) (v : Word) → word_of a ≡ Some v → a ≡ Ready v
-    end_width f (Ready w) v e = ap Ready (some_is w v e)
+    end_width f (Ready w) v e = ap Ready (same_Some w v e)
     end_width f (LoopTo h vs) v e = absurd (some_none v (sym e))
     end_width f NotYet v e = absurd (some_none v (sym e))
 
@@ -149,20 +140,15 @@ module _ (C : Program) (P : Choice) (wf : IsWellFormed C) where
         let a = cond_some _ _ v f.2 in
         says_width f.0 v f.1 (end_width f.0 (body_says C P r f.0) v a.1) ∙ sym (wf.first f.0 f.1).2 ∙ ap C.result (eqb-true (C.unit f.0) u a.0)
 
-    goes_is : (h : ℕ) (a : Answer) (vs : List Word) → goes_to h a ≡ Some vs → a ≡ LoopTo h vs
-    goes_is h (Ready w) vs e = absurd (some_none vs (sym e))
-    goes_is h (LoopTo g us) vs e = let a = cond_some _ _ vs e in ap (λ g. LoopTo g us) (eqb-true g h a.0) ∙ ap (LoopTo h) (some_is us vs a.1)
-    goes_is h NotYet vs e = absurd (some_none vs (sym e))
-
     loop_width : (h : ℕ) (vs : List Word) → loop_words C P r h ≡ Some vs → widths vs ≡ C.params h
     loop_width h vs e =
         let g = first_some (loop_from C P r h) C.functions vs e in
         let a = cond_some _ _ vs g.2 in
-        says_loop g.0 h vs g.1 (goes_is h (body_says C P r g.0) vs a.1)
+        says_loop g.0 h vs g.1 (goes_of h (body_says C P r g.0) vs a.1)
 
     module _ (i : Inputs) (inputs : widths i.words ≡ C.params C.main) where
       go_width : (k : ℕ) (vs : List Word) → k ≤ C.sites → go_words C P r i k ≡ Some vs → widths vs ≡ C.params (C.callee k)
-      go_width zero vs le e = let a = cond_some _ _ vs e in sym (ap widths (some_is i.words vs a.1)) ∙ inputs ∙ ap C.params (sym good.outside)
+      go_width zero vs le e = let a = cond_some _ _ vs e in sym (ap widths (same_Some i.words vs a.1)) ∙ inputs ∙ ap C.params (sym good.outside)
       go_width (suc k) vs le e = let a = cond_some _ _ vs e in wants_width (suc k) vs (omega arith) le a.1
 
       load_width : (f : ℕ) (vs : List Word) → loads C P r i f ≡ Some vs → widths vs ≡ C.params f
@@ -230,7 +216,7 @@ module _ (C : Program) (D : Names) (P : Choice) (n : Netlist) (wf : IsWellFormed
   typed_view : (get : List ℕ → ℕ) → Typed C (view C D get)
   typed_view get = record {
     res = λ u. refl;
-    arg = λ f lt. as_widths (C.params f) (map (λ p. get (of_param D f p)) (D.params f)) (map_length (λ p. get (of_param D f p)) (D.params f) ∙ scheme.params f lt);
+    arg = λ f lt. as_widths (C.params f) (map (λ p. get (of_param D f p)) (D.params f)) (length-map (D.params f) (λ p. get (of_param D f p)) ∙ scheme.params f lt);
     keep = λ k le. refl;
   }
 

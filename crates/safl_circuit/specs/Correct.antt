@@ -2,7 +2,7 @@
 use Rattle.std.specs.Prelude.{◌≡◌, ◌≢◌, ℕ, zero, suc, ◌+◌, ◌-◌, ◌*◌, ◌<◌, ◌≤◌, List, [], ◌∷◌, ◌++◌, length, Option, Some, None, Bool, true, cond, is_some, slice_get, codes, ◌==◌, ◌&&◌, ◌||◌}
 use Rattle.safl_term.specs.Names.{Names}
 use Rattle.std.specs.List.Sorted.{IsPermutation}
-use Rattle.safl_word.specs.Words.{Word}
+use Rattle.safl_word.specs.Words.{Word, as_word}
 use Rattle.safl_term.specs.Program.{Program, unit_for}
 use Rattle.safl_term.specs.Meaning.{Main, main_cost, main_calls, loops}
 use Rattle.safl_term.specs.WellFormed.{AreWordsOf}
@@ -15,7 +15,7 @@ use Rattle.safl_net.specs.Runs.{RunFrom}
 use Rattle.safl_sites.specs.Plan.{Choice}
 use Rattle.safl_circuit.specs.Steps.{Shows, Quiet}
 use Rattle.safl_circuit.specs.Layout.{each_line, input_kind, register_kind, wire_kind, layout_inputs, output_lines, layout_outputs, Has}
-use Rattle.safl_circuit.specs.Names.{of_function, one, as_word, numbers, registers_now, of_site}
+use Rattle.safl_circuit.specs.Names.{of_function, one, numbers, registers_now, of_site}
 use Rattle.safl_circuit.specs.Scheme.{go_up, net_events}
 
 -- a statement holds for all arguments of main's widths, and all runs with them from a state

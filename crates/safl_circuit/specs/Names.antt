@@ -1,7 +1,7 @@
 -- The names of registers and wires, and the words that a netlist shows under them.
 use Rattle.std.specs.Prelude.{ℕ, List, [], ◌∷◌, ◌++◌, map, Bool, cond, ◌==◌, ◌&&◌, nat_lt, nat_le, codes}
 use Rattle.std.specs.Fmt.{decimal}
-use Rattle.safl_word.specs.Words.{Word}
+use Rattle.safl_word.specs.Words.{Word, as_word}
 use Rattle.safl_term.specs.Names.{Names}
 use Rattle.safl_term.specs.Program.{Program}
 use Rattle.safl_circuit.specs.Equations.{Registers, Inputs}
@@ -32,10 +32,6 @@ is_unit C u = nat_lt u C.functions && C.unit u == u
 
 abbrev pub is_site : Program → ℕ → Bool
 is_site C k = nat_lt 0 k && nat_le k C.sites
-
--- numbers as words of these widths, and words as numbers
-abbrev pub as_word : ℕ → ℕ → Word
-as_word width bits = record { width = width; bits = bits }
 
 abbrev pub as_words : List ℕ → List ℕ → List Word
 as_words [] bs = []

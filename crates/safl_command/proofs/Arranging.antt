@@ -3,12 +3,13 @@ use Rattle.std.proofs.Common.{◌≡◌, ◌∙◌, ℕ, ◌+◌, ◌<◌, min, 
 use Rattle.std.specs.Prelude.{◌==◌, if◌then◌else◌, unwrap_or}
 use Rattle.std.specs.Str.{bytes_eq}
 use Rattle.std.specs.List.{list_any}
-use Rattle.std.proofs.lemmas.Bool.{false≢true}
+use Rattle.std.proofs.lemmas.Bool.{false≢true, and_parts, not-true, or_parts}
 use Rattle.clap.specs.Words.{Shape, Row, Rule, Text}
 use Rattle.clap.specs.Lexer.{long_of, usize_max}
 use Rattle.clap.specs.Walk.{Held, Walk, Waiting, idle, positional, arg_by_id, arg_by_index, arg_by_long, has_row}
+use Rattle.std.proofs.Math.Bool.{or-true}
 use Rattle.safl_command.specs.Arranged.{GivenOption, IsUnhyphened, IsWritten, Arranged, ends, then_word, then_option, then_hyphens}
-use Rattle.safl_command.proofs.Rows.{more, has_more, both_false, same_text, self_text, apart_text, pour, said}
+use Rattle.safl_command.proofs.Rows.{more, has_more, same_text, self_text, apart_text, pour, said}
 use Rattle.safl_command.proofs.Uses.{valued, flagged, placed, rest_placed, Adds, adds_valued, adds_flagged, adds_placed, adds_rest}
 use Rattle.safl_command.proofs.Stepping.{IsRead, IsNoFlag, read_none, unhyphened_no_flag}
 use Rattle.safl_command.proofs.Walking.{at, held, IsOpen, IsPlaced, IsLong, Calm, calm_pending, calm_used, placed_read, rest_read, hyphens_read, apart_read, joined_read, flag_read}
@@ -21,14 +22,6 @@ among id names = list_any (λ n. bytes_eq n id) names
 abbrev pub are_distinct : List Text → Bool
 are_distinct [] = true
 are_distinct (n ∷ ns) = not (among n ns) && are_distinct ns
-
-both_true : (a b : Bool) → (a && b) ≡ true → (a ≡ true) × (b ≡ true)
-both_true true b h = (refl, h)
-both_true false b h = absurd (false≢true h)
-
-not_true : (b : Bool) → not b ≡ true → b ≡ false
-not_true true h = absurd (false≢true h)
-not_true false h = refl
 
 flipped : (x y : Text) → bytes_eq x y ≡ false → bytes_eq y x ≡ false
 flipped x y h = go (bytes_eq y x) refl
@@ -43,9 +36,9 @@ data Without (x : Text) : List Text → List Text → Type 0 where
   later : (y : Text) (l m : List Text) → Without x l m → Without x (y ∷ l) (y ∷ m)
 
 away : (x : Text) (l m : List Text) → Without x l m → (y : Text) → among y l ≡ false → (bytes_eq x y ≡ false) × (among y m ≡ false)
-away x l m (here k) y h = both_false (bytes_eq x y) (among y k) h
+away x l m (here k) y h = or_parts (bytes_eq x y) (among y k) h
 away x l m (later z k j w) y h =
-    let p : (bytes_eq z y ≡ false) × (among y k ≡ false) = both_false (bytes_eq z y) (among y k) h in
+    let p : (bytes_eq z y ≡ false) × (among y k ≡ false) = or_parts (bytes_eq z y) (among y k) h in
     let q : (bytes_eq x y ≡ false) × (among y j ≡ false) = away x k j w y p.1 in
     (q.0, ap (λ (b : Bool). b || among y j) p.0 ∙ q.1)
 
@@ -57,17 +50,17 @@ still_among x l m w y h = go (among y l) refl
     go false e = absurd (false≢true (sym (away x l m w y e).1 ∙ h))
 
 gone : (x : Text) (l m : List Text) → Without x l m → are_distinct l ≡ true → among x m ≡ false
-gone x l m (here k) h = not_true (among x k) (both_true (not (among x k)) (are_distinct k) h).0
+gone x l m (here k) h = not-true (among x k) (and_parts (not (among x k)) (are_distinct k) h).0
 gone x l m (later z k j w) h =
-    let p : (not (among z k) ≡ true) × (are_distinct k ≡ true) = both_true (not (among z k)) (are_distinct k) h in
-    let q : bytes_eq x z ≡ false = (away x k j w z (not_true (among z k) p.0)).0 in
+    let p : (not (among z k) ≡ true) × (are_distinct k ≡ true) = and_parts (not (among z k)) (are_distinct k) h in
+    let q : bytes_eq x z ≡ false = (away x k j w z (not-true (among z k) p.0)).0 in
     ap (λ (b : Bool). b || among x j) (flipped x z q) ∙ gone x k j w p.1
 
 distinct_still : (x : Text) (l m : List Text) → Without x l m → are_distinct l ≡ true → are_distinct m ≡ true
-distinct_still x l m (here k) h = (both_true (not (among x k)) (are_distinct k) h).1
+distinct_still x l m (here k) h = (and_parts (not (among x k)) (are_distinct k) h).1
 distinct_still x l m (later z k j w) h =
-    let p : (not (among z k) ≡ true) × (are_distinct k ≡ true) = both_true (not (among z k)) (are_distinct k) h in
-    ap (λ (b : Bool). not b && are_distinct j) (away x k j w z (not_true (among z k) p.0)).1 ∙ distinct_still x k j w p.1
+    let p : (not (among z k) ≡ true) × (are_distinct k ≡ true) = and_parts (not (among z k)) (are_distinct k) h in
+    ap (λ (b : Bool). not b && are_distinct j) (away x k j w z (not-true (among z k) p.0)).1 ∙ distinct_still x k j w p.1
 
 -- ---- what is said of an argument
 
@@ -116,9 +109,9 @@ place_gone [] n places = here places
 place_gone (o ∷ os) n places = later o.name (ids os (n ∷ places)) (ids os places) (place_gone os n places)
 
 named_middle : (id : Text) (before after : List GivenOption) (o : GivenOption) → named id (before ++ o ∷ after) ≡ false → (bytes_eq o.name id ≡ false) × (named id (before ++ after) ≡ false)
-named_middle id [] after o h = both_false (bytes_eq o.name id) (named id after) h
+named_middle id [] after o h = or_parts (bytes_eq o.name id) (named id after) h
 named_middle id (b ∷ bs) after o h =
-    let p : (bytes_eq b.name id ≡ false) × (named id (bs ++ o ∷ after) ≡ false) = both_false (bytes_eq b.name id) (named id (bs ++ o ∷ after)) h in
+    let p : (bytes_eq b.name id ≡ false) × (named id (bs ++ o ∷ after) ≡ false) = or_parts (bytes_eq b.name id) (named id (bs ++ o ∷ after)) h in
     let q : (bytes_eq o.name id ≡ false) × (named id (bs ++ after) ≡ false) = named_middle id bs after o p.1 in
     (q.0, ap (λ (c : Bool). c || named id (bs ++ after)) p.0 ∙ q.1)
 
@@ -126,14 +119,14 @@ named_middle id (b ∷ bs) after o h =
 named_before : (before after : List GivenOption) (o : GivenOption) (places : List Text) → among o.name (ids (before ++ after) places) ≡ false → named o.name before ≡ false
 named_before [] after o places h = refl
 named_before (b ∷ bs) after o places h =
-    let p : (bytes_eq b.name o.name ≡ false) × (among o.name (ids (bs ++ after) places) ≡ false) = both_false (bytes_eq b.name o.name) (among o.name (ids (bs ++ after) places)) h in
+    let p : (bytes_eq b.name o.name ≡ false) × (among o.name (ids (bs ++ after) places) ≡ false) = or_parts (bytes_eq b.name o.name) (among o.name (ids (bs ++ after) places)) h in
     ap (λ (c : Bool). c || named o.name bs) p.0 ∙ named_before bs after o places p.1
 
 given_middle : (id : Text) (before after : List GivenOption) (o : GivenOption) → named o.name before ≡ false
     → (if bytes_eq o.name id then given_value o ∷ given id (before ++ after) else given id (before ++ after)) ≡ given id (before ++ o ∷ after)
 given_middle id [] after o h = refl
 given_middle id (b ∷ bs) after o h =
-    let p : (bytes_eq b.name o.name ≡ false) × (named o.name bs ≡ false) = both_false (bytes_eq b.name o.name) (named o.name bs) h in
+    let p : (bytes_eq b.name o.name ≡ false) × (named o.name bs ≡ false) = or_parts (bytes_eq b.name o.name) (named o.name bs) h in
     go (bytes_eq b.name id) (bytes_eq o.name id) (λ e. apart_text b.name o.name id p.0 e) (given id (bs ++ after))
     ∙ ap (λ (l : List Text). if bytes_eq b.name id then given_value b ∷ l else l) (given_middle id bs after o p.1)
   where
@@ -215,11 +208,7 @@ module _ (s : Shape) where
 
   self_among : (x : Text) (l m : List Text) → Without x l m → among x l ≡ true
   self_among x l m (here k) = ap (λ (b : Bool). b || among x k) (self_text x)
-  self_among x l m (later y k j w) = ap (λ (b : Bool). bytes_eq y x || b) (self_among x k j w) ∙ or_true (bytes_eq y x)
-    where
-      or_true : (b : Bool) → (b || true) ≡ true
-      or_true true = refl
-      or_true false = refl
+  self_among x l m (later y k j w) = ap (λ (b : Bool). bytes_eq y x || b) (self_among x k j w) ∙ or-true (bytes_eq y x)
 
   -- ---- what is read
 
@@ -309,7 +298,7 @@ module _ (s : Shape) where
           taken_then = taken;
           goes = λ line end k. placed_read s rows pending waiting position sum open_so calm line end word after_hyphens p.index n plain_so p.by_index k;
           words_then = λ id. refl;
-          other_then = λ id h. both_false (bytes_eq n id) (is_place id ns rest) h;
+          other_then = λ id h. or_parts (bytes_eq n id) (is_place id ns rest) h;
         }
 
     after_word : (after_hyphens : Bool) (word : Text) (line : List Text) (os : List GivenOption) (places : List Text) (rest : Option Text) (ws : List Text)

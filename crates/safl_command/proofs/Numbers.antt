@@ -1,7 +1,8 @@
 -- Decimal words are no flags, and say their number.
-use Rattle.std.proofs.Common.{◌≡◌, ℕ, List, [], ◌∷◌, length, Bool, true, false, Some, ◌&&◌, refl, ap, subst}
+use Rattle.std.proofs.Common.{◌≡◌, ℕ, List, [], ◌∷◌, length, Bool, true, Some, ◌&&◌, ap, subst}
 use Rattle.std.specs.Prelude.{nat_le, nat_lt, ◌^◌}
 use Rattle.std.specs.List.{list_all}
+use Rattle.std.specs.Cmp.{first_so, second_so}
 use Rattle.safl_word.specs.Numerals.{value, is_digit}
 use Rattle.safl_command.specs.Limits.{cycles_max}
 use Rattle.safl_word.specs.Limits.{generated_max}
@@ -9,25 +10,17 @@ use Rattle.safl_command.specs.Values.{is_number, is_within, number_if, number_of
 use Rattle.safl_command.specs.Arranged.{IsUnhyphened}
 use Rattle.safl_command.specs.Laws.{IsNumber, IsLimit, IsCount}
 
-left_true : (a b : Bool) → (a && b) ≡ true → a ≡ true
-left_true true b h = refl
-left_true false b h = absurd (cc)
-
-right_true : (a b : Bool) → (a && b) ≡ true → b ≡ true
-right_true true b h = h
-right_true false b h = absurd (cc)
-
 pub number_unhyphened : (word : List ℕ) → IsNumber word → IsUnhyphened word
 number_unhyphened [] h = absurd (cc)
 number_unhyphened (c ∷ cs) h = λ e.
     let digits : list_all (is_digit 10) (c ∷ cs) ≡ true =
-    left_true (list_all (is_digit 10) (c ∷ cs)) (nat_le (length (c ∷ cs)) 20 && nat_lt (value 10 (c ∷ cs)) (2 ^ 64)) (right_true (nat_le 1 (length (c ∷ cs))) _ h) in
-    let first : is_digit 10 c ≡ true = left_true (is_digit 10 c) (list_all (is_digit 10) cs) digits in
+    first_so (list_all (is_digit 10) (c ∷ cs)) (nat_le (length (c ∷ cs)) 20 && nat_lt (value 10 (c ∷ cs)) (2 ^ 64)) (second_so (nat_le 1 (length (c ∷ cs))) _ h) in
+    let first : is_digit 10 c ≡ true = first_so (is_digit 10 c) (list_all (is_digit 10) cs) digits in
     let hyphen : is_digit 10 45 ≡ true = subst (λ (x : ℕ). is_digit 10 x ≡ true) e first in
     cc
 
 within_number : (most : ℕ) (word : List ℕ) → is_within most word ≡ true → IsNumber word
-within_number most word h = left_true (is_number word) (nat_le 1 (value 10 word) && nat_le (value 10 word) most) h
+within_number most word h = first_so (is_number word) (nat_le 1 (value 10 word) && nat_le (value 10 word) most) h
 
 pub limit_unhyphened : (word : List ℕ) → IsLimit word → IsUnhyphened word
 limit_unhyphened word h = number_unhyphened word (within_number cycles_max word h)

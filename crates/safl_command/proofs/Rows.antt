@@ -2,7 +2,7 @@
 use Rattle.std.proofs.Common.{◌≡◌, ◌∙◌, ◌≢◌, List, [], ◌∷◌, ◌++◌, Bool, true, false, Option, Some, None, cond, refl, sym, ap, subst, ◌||◌, is_some, find, append_assoc}
 use Rattle.std.specs.Prelude.{if◌then◌else◌, option_map, unwrap_or, slice_get}
 use Rattle.std.specs.Str.{bytes_eq}
-use Rattle.std.proofs.lemmas.Bool.{false≢true}
+use Rattle.std.proofs.lemmas.Bool.{false≢true, or_parts}
 use Rattle.std.proofs.lemmas.Slice.Eq.{bytes_eq-Decides}
 use Rattle.clap.specs.Words.{Row, Rule, Text, all_of, first_of}
 use Rattle.clap.specs.Facts.{explicit_source}
@@ -10,16 +10,13 @@ use Rattle.clap.specs.Takes.{is_given}
 use Rattle.clap.specs.Walk.{at_row, more_values, without, has_row, reading_by, stronger}
 use Rattle.clap.specs.declared.parser.matches.ValueSource.{ValueSource}
 use Rattle.clap.specs.declared.parser.matches.ValueSource.TheVariants.{CommandLine, DefaultValue}
+use Rattle.std.proofs.lemmas.List.{append-nil}
 
 pub same_text : (xs ys : Text) → bytes_eq xs ys ≡ true → xs ≡ ys
 same_text xs ys = (bytes_eq-Decides xs ys).0
 
 pub self_text : (xs : Text) → bytes_eq xs xs ≡ true
 self_text xs = (bytes_eq-Decides xs xs).1 refl
-
-pub both_false : (a b : Bool) → (a || b) ≡ false → (a ≡ false) × (b ≡ false)
-both_false true b h = absurd (false≢true (sym h))
-both_false false b h = (refl, h)
 
 -- two names of which one is this text and the other is not it
 pub apart_text : (x y z : Text) → bytes_eq x y ≡ false → bytes_eq x z ≡ true → bytes_eq y z ≡ false
@@ -99,7 +96,7 @@ has_more id a v rows =
 pub without_none : (id : Text) (rows : List Row) → has_row id rows ≡ false → without id rows ≡ rows
 without_none id [] h = refl
 without_none id (r ∷ rs) h =
-    let p : (bytes_eq r.id id ≡ false) × (has_row id rs ≡ false) = both_false (bytes_eq r.id id) (has_row id rs) h in
+    let p : (bytes_eq r.id id ≡ false) × (has_row id rs ≡ false) = or_parts (bytes_eq r.id id) (has_row id rs) h in
     ap (λ (b : Bool). if b then [] ++ rs else r ∷ without id rs) p.0 ∙ ap (λ (l : List Row). r ∷ l) (without_none id rs p.1)
 
 -- ---- all uses
@@ -137,11 +134,7 @@ shows_added true a v None vs h = (ap (λ (l : List Text). l ++ v ∷ []) (sym h)
 shows_added true a v (Some r) vs h = (ap (λ (l : List Text). l ++ v ∷ []) h.0, explicit_still r.source, something_more vs v)
 
 shows_poured : (id : Text) (us : List (Rule × Text)) (rows : List Row) (vs : List Text) → Shows (row id rows) vs → Shows (row id (pour us rows)) (vs ++ said id us)
-shows_poured id [] rows vs h = subst (λ (l : List Text). Shows (row id rows) l) (sym (append_nothing vs)) h
-  where
-    append_nothing : (l : List Text) → l ++ [] ≡ l
-    append_nothing [] = refl
-    append_nothing (x ∷ xs) = ap (λ (t : List Text). x ∷ t) (append_nothing xs)
+shows_poured id [] rows vs h = subst (λ (l : List Text). Shows (row id rows) l) (sym (append-nil vs)) h
 shows_poured id (u ∷ us) rows vs h =
     go (bytes_eq u.0.id id)
     (shows_poured id us (more u.0 u.1 rows) (if bytes_eq u.0.id id then vs ++ u.1 ∷ [] else vs)

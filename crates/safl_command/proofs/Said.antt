@@ -2,13 +2,14 @@
 use Rattle.std.proofs.Common.{◌≡◌, ◌∙◌, ℕ, List, [], ◌∷◌, ◌++◌, Bool, true, false, Option, Some, None, refl, sym, ap, subst, fold, is_some, cond, find, ◌||◌, not}
 use Rattle.std.specs.Prelude.{if◌then◌else◌, option_and_then}
 use Rattle.std.specs.Str.{bytes_eq}
-use Rattle.std.proofs.lemmas.Bool.{false≢true}
+use Rattle.std.proofs.lemmas.Bool.{false≢true, or_parts}
 use Rattle.clap.specs.Words.{Shape, Kinds, Row, Rule, Text}
 use Rattle.clap.specs.Kinds.{or_else, check_kinds}
 use Rattle.clap.specs.Simple.{built}
 use Rattle.clap.specs.Walk.{Held, idle, at_row, settled, has_row, with_default, default_rows, reading_by, is_empty}
 use Rattle.clap.specs.Faults.{defaults_fault, default_fault, given_default_fault, check_fault}
 use Rattle.clap.proofs.OnLiterals.{clap_on_literals}
+use Rattle.std.proofs.Math.Bool.{or-true}
 use Rattle.safl_command.specs.Forms.{app}
 use Rattle.safl_word.specs.Numerals.{value}
 use Rattle.safl_command.specs.Limits.{cycles_max}
@@ -18,7 +19,7 @@ use Rattle.safl_command.specs.Commands.{Command, command_of, faultless}
 use Rattle.safl_command.specs.Laws.{IsNumber, IsLimit, IsCount}
 use Rattle.safl_command.specs.Arranged.{GivenOption}
 use Rattle.safl_command.proofs.Numbers.{number_said, limit_said, count_said}
-use Rattle.safl_command.proofs.Rows.{both_false, self_text, pour, row, IsFound, found_said}
+use Rattle.safl_command.proofs.Rows.{self_text, pour, row, IsFound, found_said}
 use Rattle.safl_command.proofs.Arranging.{IsReadSo, AreTaken, named, given, is_place, words_of}
 use Rattle.safl_command.proofs.Stepping.{Enters, command_read}
 use Rattle.safl_command.proofs.Walking.{at}
@@ -53,17 +54,13 @@ same_rows : (b : Bool) (rows : List Row) → (if b then rows else rows) ≡ rows
 same_rows true rows = refl
 same_rows false rows = refl
 
-or_true : (b : Bool) → (b || true) ≡ true
-or_true true = refl
-or_true false = refl
-
 pub no_default : (rows : List Row) (a : Rule) → a.defaults ≡ [] → with_default rows a ≡ rows
 no_default rows a e = ap (λ (d : List Text). if has_row a.id rows then rows else default_rows a.id (reading_by a) d rows) e ∙ same_rows (has_row a.id rows) rows
 
 pub no_default_fault : (rows : List Row) (a : Rule) → a.defaults ≡ [] → default_fault rows a ≡ []
 no_default_fault rows a e =
     ap (λ (d : List Text). if has_row a.id rows || is_empty d then [] else given_default_fault a d) e
-    ∙ ap (λ (b : Bool). if b then [] else given_default_fault a []) (or_true (has_row a.id rows))
+    ∙ ap (λ (b : Bool). if b then [] else given_default_fault a []) (or-true (has_row a.id rows))
 
 abbrev pub HaveNone : List Rule → Type 0
 HaveNone [] = Unit {0}
@@ -102,7 +99,7 @@ pub row_new : (id key : Text) (change : Row → List Row) (new : Row) (rows : Li
     → row id (at_row key change (new ∷ []) rows) ≡ first_some (row id rows) (row id (new ∷ []))
 row_new id key change new [] h = refl
 row_new id key change new (r ∷ rs) h =
-    let p : (bytes_eq r.id key ≡ false) × (has_row key rs ≡ false) = both_false (bytes_eq r.id key) (has_row key rs) h in
+    let p : (bytes_eq r.id key ≡ false) × (has_row key rs ≡ false) = or_parts (bytes_eq r.id key) (has_row key rs) h in
     ap (λ (b : Bool). row id (if b then change r ++ rs else r ∷ at_row key change (new ∷ []) rs)) p.0
     ∙ ap (λ (o : Option Row). cond (bytes_eq r.id id) (Some r) o) (row_new id key change new rs p.1)
     ∙ go (bytes_eq r.id id)

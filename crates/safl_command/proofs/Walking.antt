@@ -1,5 +1,5 @@
 -- How `clap` reads the words and the options of a command, one by one.
-use Rattle.std.proofs.Common.{◌≡◌, ◌∙◌, ℕ, ◌+◌, min, List, [], ◌∷◌, ◌++◌, Bool, true, false, Option, Some, None, refl, ap, codes, ◌&&◌, ◌||◌}
+use Rattle.std.proofs.Common.{◌≡◌, ◌∙◌, ℕ, ◌+◌, min, List, [], ◌∷◌, ◌++◌, Bool, true, false, Option, Some, None, refl, ap, codes, ◌||◌}
 use Rattle.std.specs.Prelude.{if◌then◌else◌, is_some, length, nat_lt}
 use Rattle.std.specs.Str.{bytes_eq}
 use Rattle.std.specs.Option.{option_map_or}
@@ -10,6 +10,7 @@ use Rattle.clap.specs.Walk.{Held, Walk, Step, Waiting, idle, option, positional,
 use Rattle.clap.specs.Walk.{option_word, long_met, long_word, long_or_other, subcommand_met, subcommand_or_other, settled, settled_rows}
 use Rattle.clap.specs.Walk.{to_positional, pushed, used, next, is_pending, arg_by_id, arg_by_index, arg_by_long, used_by_id}
 use Rattle.clap.specs.Faults.{turn_fault, step_fault, word_fault, other_fault, flag_word_fault, long_fault, settle_fault, positional_fault, stray_fault, use_fault}
+use Rattle.std.proofs.Math.Bool.{and-false, or-false}
 use Rattle.safl_command.proofs.Rows.{more}
 use Rattle.safl_command.proofs.Uses.{valued, flagged, placed, rest_placed, Adds}
 use Rattle.safl_command.proofs.Stepping.{IsRead, IsNoFlag, read_word, read_so, walked_plain, quiet_plain, plain_walk}
@@ -67,14 +68,6 @@ no_subcommand word idle = refl
 no_subcommand word (option id) = refl
 no_subcommand word positional = refl
 
-and_false : (b : Bool) → (b && false) ≡ false
-and_false true = refl
-and_false false = refl
-
-or_false : (b : Bool) → (b || false) ≡ b
-or_false true = refl
-or_false false = refl
-
 module _ (s : Shape) (rows : List Row) (pending : Option (Text × List Text)) (waiting : Waiting) (position : ℕ) (sum : List Row) (open_so : IsOpen waiting)
     (calm : Calm s (held rows pending) sum) (line : List Text) (end : Walk) where
   -- ---- a word that goes to its place
@@ -116,13 +109,13 @@ module _ (s : Shape) (rows : List Row) (pending : Option (Text × List Text)) (w
       read_word s (at rows pending waiting position after_hyphens) word line _ end
       (word_quiet word after_hyphens plain_so
       ∙ ap (λ (o : Option Rule). option_map_or (λ a. positional_fault s.rules s.args_override_self a (held rows pending)) o (stray_fault s)) by
-      ∙ ap (λ (c : Bool). if c then [] else settle_fault s.rules s.args_override_self (held rows pending)) (and_false b)
+      ∙ ap (λ (c : Bool). if c then [] else settle_fault s.rules s.args_override_self (held rows pending)) (and-false b)
       ∙ calm.fault)
       (word_walked word after_hyphens plain_so
       ∙ ap (λ (o : Option Rule). to_positional s.rules o word (at rows pending waiting position after_hyphens) (held rows pending)) by
-      ∙ ap (λ (c : Bool). W c (settled_rows s.rules pending rows) (after_hyphens || false)) (and_false b)
+      ∙ ap (λ (c : Bool). W c (settled_rows s.rules pending rows) (after_hyphens || false)) (and-false b)
       ∙ ap (λ (rs : List Row). W false rs (after_hyphens || false)) calm.rows_are
-      ∙ ap (λ (t : Bool). W false sum t) (or_false after_hyphens))
+      ∙ ap (λ (t : Bool). W false sum t) (or-false after_hyphens))
       r
 
   pub rest_read : (word : Text) (after_hyphens : Bool) (index : ℕ) (id : Text) → IsPlaced word after_hyphens → arg_by_index s.rules position ≡ Some (rest_placed index id)
@@ -139,13 +132,13 @@ module _ (s : Shape) (rows : List Row) (pending : Option (Text × List Text)) (w
       read_word s (at rows pending waiting position after_hyphens) word line _ end
       (word_quiet word after_hyphens plain_so
       ∙ ap (λ (o : Option Rule). option_map_or (λ a. positional_fault s.rules s.args_override_self a (held rows pending)) o (stray_fault s)) by
-      ∙ ap (λ (c : Bool). if c then [] else settle_fault s.rules s.args_override_self (held rows pending)) (and_false b)
+      ∙ ap (λ (c : Bool). if c then [] else settle_fault s.rules s.args_override_self (held rows pending)) (and-false b)
       ∙ calm.fault)
       (word_walked word after_hyphens plain_so
       ∙ ap (λ (o : Option Rule). to_positional s.rules o word (at rows pending waiting position after_hyphens) (held rows pending)) by
-      ∙ ap (λ (c : Bool). W c (settled_rows s.rules pending rows) (after_hyphens || false)) (and_false b)
+      ∙ ap (λ (c : Bool). W c (settled_rows s.rules pending rows) (after_hyphens || false)) (and-false b)
       ∙ ap (λ (rs : List Row). W false rs (after_hyphens || false)) calm.rows_are
-      ∙ ap (λ (t : Bool). W false sum t) (or_false after_hyphens))
+      ∙ ap (λ (t : Bool). W false sum t) (or-false after_hyphens))
       r
 
   -- ---- `--`

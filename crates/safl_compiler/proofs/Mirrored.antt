@@ -1,9 +1,8 @@
 -- A net that mirrors the circuit of a program is a circuit of it too.
-use Rattle.std.proofs.Common.{◌≡◌, ℕ, zero, suc, ◌<◌, List, [], ◌∷◌, ◌++◌, length, Bool, false, Some, slice_get, refl, sym, ap, subst, arith}
+use Rattle.std.proofs.Common.{ℕ, List, [], ◌∷◌, ◌++◌, Bool, false}
 use Rattle.safl_term.specs.Program.{Program}
 use Rattle.safl_term.specs.WellFormed.{IsWellFormed}
-use Rattle.safl_net.specs.Netlist.{Netlist, Signal, AllSet, IsSet}
-use Rattle.safl_net.specs.Making.{kind_at, kind_in}
+use Rattle.safl_net.specs.Netlist.{Netlist, Signal}
 use Rattle.safl_net.specs.Arranged.{IsWire, Each, IsInOrder}
 use Rattle.safl_sites.specs.Plan.{IsPlan, Suffices}
 use Rattle.safl_term.specs.Names.{Names}
@@ -49,13 +48,3 @@ laid_in_order n l = record {
   are_registers = l.are_registers;
   are_wires = both_wires l.named l.temporary (named_wires l.named l.are_named) (temporary_wires l.temporary l.are_temporary);
 }
-
--- ---- each signal of a netlist in which all is set
-
-get_some : (gs : List Signal) (s : ℕ) → s < length gs → (g : Signal) × (slice_get gs s ≡ Some g)
-get_some [] s h = absurd (omega arith)
-get_some (g ∷ gs) zero h = (g, refl)
-get_some (g ∷ gs) (suc s) h = get_some gs s (omega (arith, h))
-
-pub set_at : (n : Netlist) (s : ℕ) → AllSet n → s < length n.signals → IsSet (kind_at n s)
-set_at n s all h = let g = get_some n.signals s h in subst IsSet (sym (ap kind_in g.1)) (all s g.0 g.1)

@@ -1,6 +1,7 @@
 -- A source's program and its first fault, from the laws of the grammar and of checking.
 use Rattle.std.proofs.Common.{◌≡◌, ℕ, ◌≤◌, List, [], ◌∷◌, Option, Some, None, ◌⊎◌, inl, inr, refl, sym, ap, ◌∙◌, subst, ⊎_elim, arith}
 use Rattle.std.specs.List.{AllByRecursion}
+use Rattle.std.proofs.lemmas.Option.{same_Some}
 use Rattle.safl_word.specs.declared.fault.Fault.{Fault}
 use Rattle.safl_term.specs.Program.{Program}
 use Rattle.safl_tree.specs.Laws as grammar
@@ -16,9 +17,6 @@ use Rattle.safl_check.specs.Numbered.{program_in, names_in}
 use Rattle.safl_term.specs.Names.{Names}
 use Rattle.safl_compiler.specs.Laws.{OneProgram, ProgramOrFault, NotBoth, OneFault}
 use Rattle.safl_compiler.specs.Sources.{IsSourceOf, HasFirstFault, syntax_fault, check_fault, RefusesSource}
-
-some_is : (f g : Fault) → Some f ≡ Some g → f ≡ g
-some_is f g e = cc
 
 -- ---- refusals
 
@@ -72,4 +70,4 @@ one_fault texts apart single source f g (syntax_fault h) (syntax_fault k) = sing
 one_fault texts apart single source f g (syntax_fault h) (check_fault ds spelled e) = absurd (apart source ds f spelled h)
 one_fault texts apart single source f g (check_fault ds spelled e) (syntax_fault h) = absurd (apart source ds g spelled h)
 one_fault texts apart single source f g (check_fault ds spelled e) (check_fault es spells d) =
-    some_is f g (sym e ∙ ap first_fault (texts source ds es spelled spells) ∙ d)
+    same_Some f g (sym e ∙ ap first_fault (texts source ds es spelled spells) ∙ d)

@@ -32,10 +32,6 @@ RefusesSource source (errors.Refused f) = HasFirstFault source f
 RefusesSource source errors.TooDeep = ⊥
 RefusesSource source errors.NoMemory = Unit {0}
 
--- the definitions have a numbered form
-abbrev pub HasForm : List Definition → Type 0
-HasForm ds = (c : Form) × IsFormOf ds c
-
 -- the definitions have no more call sites than a program may have
 abbrev pub HasFewSites : List Definition → Type 0
 HasFewSites ds = (c : Form) → IsFormOf ds c → (program_in c).sites ≤ sites_max

@@ -1,6 +1,6 @@
 -- Which sites may wait otherwise than before an event.
 use Rattle.std.proofs.Common.{◌≡◌, ◌≢◌, ℕ, zero, suc, ◌<◌, ◌≤◌, ◌⊎◌, inl, inr, ◌&&◌, List, cond, is_some, Option, refl, sym, ap, ◌∙◌, ⊎_elim, arith}
-use Rattle.std.proofs.lemmas.Bool.{cases_eq, ne_eqb}
+use Rattle.std.proofs.lemmas.Bool.{cases_eq, ne_eqb, cases_lt}
 use Rattle.safl_word.specs.Words.{Word}
 use Rattle.safl_term.specs.Checked.{CheckedProgram}
 use Rattle.safl_term.specs.Program.{Program, unit_for}
@@ -23,9 +23,6 @@ is_span touched k = ⊎_elim
     (λ low. inr (λ a b. omega (arith, low, a)))
     (λ from. ⊎_elim (λ below. inl (from, below)) (λ past. inr (λ a b. omega (arith, past, b))) (cases_lt k touched.end))
     (cases_lt k touched.first)
-  where
-    cases_lt : (a b : ℕ) → (a < b) ⊎ (b ≤ a)
-    cases_lt a b = grind arith
 
 same_end : (C : Program) (site : ℕ → Stage) (u k : ℕ) → (0 < k → C.unit (C.caller k) ≢ u) → ended C u site k ≡ site k
 same_end C site u zero apart = refl

@@ -1,11 +1,15 @@
 -- The enabled events, by their places.
-use Rattle.std.proofs.Common.{◌≡◌, ℕ, zero, suc, ◌+◌, ◌-◌, ◌<◌, ◌≤◌, ◌⊎◌, inl, inr, List, [], ◌∷◌, ◌++◌, length, cond, Option, Some, None, Bool, true}
+use Rattle.std.proofs.Common.{◌≡◌, ℕ, zero, suc, ◌+◌, ◌-◌, ◌<◌, ◌≤◌, ◌⊎◌, inl, inr, List, [], ◌∷◌, ◌++◌, length, cond, Option, Some, Bool, true}
 use Rattle.std.proofs.Common.{false, nat_lt, refl, sym, ap, ◌∙◌, subst, ⊎_elim, arith, append_assoc}
 use Rattle.std.specs.Prelude.{slice_get}
 use Rattle.std.proofs.lemmas.Bool.{lt-ltb, le-ltb, ltb-true, ltb-false, cases_eq, cases_Bool}
+use Rattle.std.proofs.lemmas.List.{nil_from_length}
+use Rattle.std.proofs.lemmas.Option.{none-some}
+use Rattle.std.proofs.Math.Nat.{add-sub_cancel_left}
 use Rattle.safl_calls.specs.Machine.{Enabled}
 use Rattle.safl_core.proofs.LawsOfKept.{enabled_of, enabled_can, accept_within}
 use Rattle.safl_word.specs.Words.{Word}
+use Rattle.safl_word.proofs.Lists.{get_end, get_front, get_pushed, nil_at_end}
 use Rattle.safl_term.specs.Program.{Program}
 use Rattle.safl_calls.specs.Machine.{State, Event, Accept, Finish, Return, LoopInto}
 use Rattle.safl_calls.specs.Picks.{picks}
@@ -15,7 +19,6 @@ use Rattle.safl_core.specs.Testing.{can}
 use Rattle.safl_core.specs.Shown.{Shown, state, CanFire, IsKept}
 use Rattle.safl_core.specs.Outcomes.{IsOver}
 use Rattle.safl_term.specs.Readiness.{Answer as Kept}
-use Rattle.safl_sites.proofs.NodesOfTerms.{empty_list}
 use Rattle.safl_core.proofs.KeptByEvents.{finish_in, return_in, looping}
 
 pub picks_zero : (p : ℕ → Bool) (e : ℕ → Event) → picks p e 0 ≡ []
@@ -35,12 +38,8 @@ picks_same p q e f (suc n) h k =
     ∙ (ap (λ b. picks q f n ++ cond b (e n ∷ []) []) (h n (omega arith))
     ∙ (ap (λ x. picks q f n ++ cond (q n) (x ∷ []) []) (k n (omega arith)) ∙ sym (picks_more q f n))))
 
-nil_right : (xs : List Event) → xs ≡ xs ++ []
-nil_right [] = refl
-nil_right (x ∷ xs) = ap (λ l. x ∷ l) (nil_right xs)
-
 pub picks_add : (p : ℕ → Bool) (e : ℕ → Event) (a b : ℕ) → picks p e (a + b) ≡ picks p e a ++ picks (λ i. p (a + i)) (λ i. e (a + i)) b
-picks_add p e a zero = ap (picks p e) (plus a) ∙ (nil_right (picks p e a) ∙ ap (λ l. picks p e a ++ l) (sym (picks_zero (λ i. p (a + i)) (λ i. e (a + i)))))
+picks_add p e a zero = ap (picks p e) (plus a) ∙ (nil_at_end (picks p e a) ∙ ap (λ l. picks p e a ++ l) (sym (picks_zero (λ i. p (a + i)) (λ i. e (a + i)))))
   where
     plus : (a : ℕ) → a + 0 ≡ a
     plus a = omega arith
@@ -63,34 +62,17 @@ count_more p e n = ap (λ (l : List Event). length l) (picks_more p e n) ∙ by 
   where
     by : (b : Bool) → length (picks p e n ++ cond b (e n ∷ []) []) ≡ length (picks p e n) + cond b 1 0
     by true = omega (arith, one_more (picks p e n) (e n))
-    by false = omega (arith, ap (λ (l : List Event). length l) (nil_right (picks p e n)))
-
-got_last : (xs : List Event) (x : Event) → slice_get (xs ++ x ∷ []) (length xs) ≡ Some x
-got_last [] x = refl
-got_last (y ∷ ys) x = got_last ys x
-
-pub got_front : (xs ys : List Event) (i : ℕ) (x : Event) → slice_get xs i ≡ Some x → slice_get (xs ++ ys) i ≡ Some x
-got_front [] ys i x e = absurd (never x e) where
-  never : (x : Event) → None ≡ Some x → ⊥
-  never x e = cc
-got_front (y ∷ xs) ys zero x e = e
-got_front (y ∷ xs) ys (suc i) x e = got_front xs ys i x e
+    by false = omega (arith, ap (λ (l : List Event). length l) (nil_at_end (picks p e n)))
 
 -- the event at the place after those that were picked before it
 pub picked_at : (p : ℕ → Bool) (e : ℕ → Event) (i n : ℕ) → i < n → p i ≡ true → slice_get (picks p e n) (length (picks p e i)) ≡ Some (e i)
 picked_at p e i zero lt is = absurd (omega (arith, lt))
 picked_at p e i (suc n) lt is = ⊎_elim
     (λ same. subst (λ k. slice_get (picks p e (suc k)) (length (picks p e i)) ≡ Some (e i)) same
-    (ap (λ l. slice_get l (length (picks p e i))) (picks_more p e i ∙ ap (λ b. picks p e i ++ cond b (e i ∷ []) []) is) ∙ got_last (picks p e i) (e i)))
-    (λ other. ap (λ l. slice_get l (length (picks p e i))) (picks_more p e n) ∙ got_front (picks p e n) (cond (p n) (e n ∷ []) [])
+    (ap (λ l. slice_get l (length (picks p e i))) (picks_more p e i ∙ ap (λ b. picks p e i ++ cond b (e i ∷ []) []) is) ∙ get_end (picks p e i) (e i)))
+    (λ other. ap (λ l. slice_get l (length (picks p e i))) (picks_more p e n) ∙ get_front (picks p e n) (cond (p n) (e n ∷ []) [])
     (length (picks p e i)) (e i) (picked_at p e i n (omega (arith, lt, other)) is))
     (cases_eq i n)
-
-last_or : (xs : List Event) (y x : Event) (i : ℕ) → slice_get (xs ++ y ∷ []) i ≡ Some x → (slice_get xs i ≡ Some x) ⊎ ((i ≡ length xs) × (x ≡ y))
-last_or [] y x zero e = inr (refl, cc)
-last_or [] y x (suc i) e = absurd cc
-last_or (z ∷ xs) y x zero e = inl e
-last_or (z ∷ xs) y x (suc i) e = ⊎_elim (λ a. inl a) (λ b. inr (ap suc b.0, b.1)) (last_or xs y x i e)
 
 -- what is picked is a number's event whose test holds, after what was picked before it
 pub picks_of : (p : ℕ → Bool) (e : ℕ → Event) (n i : ℕ) (x : Event) → slice_get (picks p e n) i ≡ Some x → (k : ℕ) × (k < n) × (p k ≡ true) × (x ≡ e k) × (i ≡ length (picks p e k))
@@ -108,8 +90,8 @@ picks_of p e (suc n) i x h = by (p n) refl (λ q. picks_of p e n i x q)
 
     by : (b : Bool) → p n ≡ b → (slice_get (picks p e n) i ≡ Some x → (k : ℕ) × (k < n) × (p k ≡ true) × (x ≡ e k) × (i ≡ length (picks p e k))) →
         (k : ℕ) × (k < suc n) × (p k ≡ true) × (x ≡ e k) × (i ≡ length (picks p e k))
-    by true is before = ⊎_elim (λ q. earlier (before q)) (λ q. (n, omega arith, is, q.1, q.0)) (last_or (picks p e n) (e n) x i (split true is))
-    by false is before = earlier (before (ap (λ l. slice_get l i) (nil_right (picks p e n)) ∙ split false is))
+    by true is before = ⊎_elim (λ q. earlier (before q)) (λ q. (n, omega arith, is, q.1, q.0)) (get_pushed (picks p e n) (e n) x i (split true is))
+    by false is before = earlier (before (ap (λ l. slice_get l i) (nil_at_end (picks p e n)) ∙ split false is))
 
 picks_grow : (p : ℕ → Bool) (e : ℕ → Event) (a j : ℕ) → length (picks p e a) ≤ length (picks p e (a + j))
 picks_grow p e a zero = let same : length (picks p e (a + 0)) ≡ length (picks p e a) = ap (λ k. length (picks p e k)) (let z : a + 0 ≡ a = omega arith in z) in omega (arith, same)
@@ -169,22 +151,13 @@ module _ (C : Program) (args : List Word) (s : State) where
   after_finishes j = cond (nat_lt j (suc C.sites)) (Return j) (LoopInto (j - suc C.sites))
 
   first : (j : ℕ) → event_at C (suc C.sites + j) ≡ after_accepts j
-  first j = ap (λ b. cond b (Accept (suc C.sites + j)) (after_accepts (suc C.sites + j - suc C.sites))) (le-ltb (suc C.sites + j) (suc C.sites) (omega arith)) ∙ ap after_accepts (less (suc C.sites) j)
-    where
-      less : (a j : ℕ) → a + j - a ≡ j
-      less a j = omega arith
+  first j = ap (λ b. cond b (Accept (suc C.sites + j)) (after_accepts (suc C.sites + j - suc C.sites))) (le-ltb (suc C.sites + j) (suc C.sites) (omega arith)) ∙ ap after_accepts (add-sub_cancel_left (suc C.sites) j)
 
   second : (j : ℕ) → after_accepts (C.functions + j) ≡ after_finishes j
-  second j = ap (λ b. cond b (Finish (C.functions + j)) (after_finishes (C.functions + j - C.functions))) (le-ltb (C.functions + j) C.functions (omega arith)) ∙ ap after_finishes (less C.functions j)
-    where
-      less : (a j : ℕ) → a + j - a ≡ j
-      less a j = omega arith
+  second j = ap (λ b. cond b (Finish (C.functions + j)) (after_finishes (C.functions + j - C.functions))) (le-ltb (C.functions + j) C.functions (omega arith)) ∙ ap after_finishes (add-sub_cancel_left C.functions j)
 
   third : (j : ℕ) → after_finishes (suc C.sites + j) ≡ LoopInto j
-  third j = ap (λ b. cond b (Return (suc C.sites + j)) (LoopInto (suc C.sites + j - suc C.sites))) (le-ltb (suc C.sites + j) (suc C.sites) (omega arith)) ∙ ap LoopInto (less (suc C.sites) j)
-    where
-      less : (a j : ℕ) → a + j - a ≡ j
-      less a j = omega arith
+  third j = ap (λ b. cond b (Return (suc C.sites + j)) (LoopInto (suc C.sites + j - suc C.sites))) (le-ltb (suc C.sites + j) (suc C.sites) (omega arith)) ∙ ap LoopInto (add-sub_cancel_left (suc C.sites) j)
 
   spot : (a : ℕ) → Spot C a (event_at C a)
   spot a = ⊎_elim (λ lt. subst (λ e. Spot C a e) (sym (below a lt)) (accept_spot lt)) (λ q. after_sites q.0 q.1) (below_or a (suc C.sites))
@@ -259,14 +232,11 @@ module _ {m : Shown} {answers : List Kept} {wants : List (Option (List Word))} {
       let at = event_place e q in
       let can_at : can C m.args (state m) (event_at C at.0) ≡ true = ap (can C m.args (state m)) at.2 ∙ enabled_can C m.args (state m) e q in
       let p = picked_at (test_at C m.args (state m)) (event_at C) at.0 (suc C.sites + (C.functions + (suc C.sites + C.functions))) at.1 can_at in
-      let nothing = all_listed C m.args (state m) (suc C.sites + (C.functions + (suc C.sites + C.functions))) refl ∙ empty_list (listed C m.args (state m)) none in
+      let nothing = all_listed C m.args (state m) (suc C.sites + (C.functions + (suc C.sites + C.functions))) refl ∙ nil_from_length (listed C m.args (state m)) none in
       never (length (picks (test_at C m.args (state m)) (event_at C) at.0)) (event_at C at.0) (sym (ap (λ l. slice_get l (length (picks (test_at C m.args (state m)) (event_at C) at.0))) nothing) ∙ p)
     where
-      no_event : (x : Event) → None ≡ Some x → ⊥
-      no_event x e = cc
-
       never : (i : ℕ) (x : Event) → slice_get [] i ≡ Some x → ⊥
-      never i x e = absurd (no_event x e)
+      never i x e = absurd (none-some x e)
 
   -- what is listed are the enabled events, in their order
   pub listing : IsListing m.program m.args (state m) (listed m.program m.args (state m))

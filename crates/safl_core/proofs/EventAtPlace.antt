@@ -1,10 +1,13 @@
 -- The event at a place among the enabled ones.
-use Rattle.std.proofs.Common.{◌≡◌, ℕ, zero, suc, ◌+◌, ◌*◌, ◌<◌, ◌≤◌, ◌⊎◌, ⊎_elim, List, [], ◌∷◌, ◌++◌, length, take, cond, get_or, is_some, ◌&&◌, Some, Bool, true, false, refl, sym, ap, ◌∙◌, arith}
+use Rattle.std.proofs.Common.{◌≡◌, ℕ, zero, suc, ◌+◌, ◌*◌, ◌<◌, ◌≤◌, ⊎_elim, List, [], ◌∷◌, ◌++◌, length, take, cond, get_or, is_some, ◌&&◌, Some, Bool, true, false, refl, sym, ap, ◌∙◌, arith}
 use Rattle.std.specs.Prelude.{sum, slice_get, not}
 use Rattle.std.specs.Int.{from_bool}
-use Rattle.std.proofs.lemmas.List.{take_all, get_or_past}
+use Rattle.std.proofs.lemmas.List.{take_all, get_or_past, length-append}
 use Rattle.std.proofs.lemmas.List.Sums.{sum_by_more}
+use Rattle.std.proofs.lemmas.Bool.{cases_lt}
 use Rattle.safl_word.specs.Words.{Word}
+use Rattle.safl_word.proofs.Lists.{get_front}
+use Rattle.safl_word.proofs.Booleans.{bool_number}
 use Rattle.safl_term.specs.Program.{Program, unit_for}
 use Rattle.safl_number_set.specs.Groups.{counted}
 use Rattle.safl_number_set.proofs.WeighedLists.{weighed_long, weighed_at}
@@ -14,11 +17,7 @@ use Rattle.safl_core.specs.declared.enabled.Enabled.{Enabled}
 use Rattle.safl_core.specs.Listing.{listed, busy, count_below}
 use Rattle.safl_core.specs.Marking.{Marks, AreMarked, IsNth, marked}
 use Rattle.safl_core.specs.Testing.{can, is_idle}
-use Rattle.safl_core.proofs.EnabledByPlace.{picks_zero, count_more, picked_at, got_front, count_none, count_suc}
-
-bit : (b : Bool) → from_bool b ≡ cond b 1 0
-bit true = refl
-bit false = refl
+use Rattle.safl_core.proofs.EnabledByPlace.{picks_zero, count_more, picked_at, count_none, count_suc}
 
 bit_true : (b : Bool) → from_bool b ≡ 1 → b ≡ true
 bit_true true e = refl
@@ -35,7 +34,7 @@ picked p e n s h (suc m) le =
     let before = picked p e n s h m (omega (arith, le)) in
     let more = count_more p e m in
     let step = sum_by_more same s m 0 (omega (arith, le, h.long)) in
-    let at : get_or s m 0 ≡ cond (p m) 1 0 = h.each m (omega (arith, le)) ∙ bit (p m) in
+    let at : get_or s m 0 ≡ cond (p m) 1 0 = h.each m (omega (arith, le)) ∙ bool_number (p m) in
     let right : sum (take (suc m) s) ≡ sum (take (m + 1) s) = ap (λ k. sum (take k s)) one in
     omega (arith, before, more, step, at, right)
 
@@ -49,7 +48,7 @@ counted_to p n s h (suc m) le =
     let before = counted_to p n s h m (omega (arith, le)) in
     let more = count_suc p m in
     let step = sum_by_more same s m 0 (omega (arith, le, h.long)) in
-    let at : get_or s m 0 ≡ cond (p m) 1 0 = h.each m (omega (arith, le)) ∙ bit (p m) in
+    let at : get_or s m 0 ≡ cond (p m) 1 0 = h.each m (omega (arith, le)) ∙ bool_number (p m) in
     let right : sum (take (suc m) s) ≡ sum (take (m + 1) s) = ap (λ k. sum (take k s)) one in
     omega (arith, before, more, step, at, right)
 
@@ -66,9 +65,6 @@ picked_nth p e n k i s h lt one is =
 
 one_in : (s : List ℕ) (k : ℕ) → get_or s k 0 ≡ 1 → k < length s
 one_in s k one = ⊎_elim (λ lt. lt) (λ ge. let past = get_or_past s k 0 ge in absurd (omega (arith, one, past))) (cases_lt k (length s))
-  where
-    cases_lt : (a b : ℕ) → (a < b) ⊎ (b ≤ a)
-    cases_lt a b = grind arith
 
 within : (s : List ℕ) (k n : ℕ) → get_or s k 0 ≡ 1 → length s ≡ n → k < n
 within s k n one long = let lt = one_in s k one in omega (arith, lt, long)
@@ -79,10 +75,6 @@ behind (y ∷ xs) ys i x e = let z : suc (length xs) + i ≡ suc (length xs + i)
 
 behind_at : (xs ys : List Event) (i j n : ℕ) (x : Event) → length xs ≡ n → i ≡ n + j → slice_get ys j ≡ Some x → slice_get (xs ++ ys) i ≡ Some x
 behind_at xs ys i j n x long is e = ap (slice_get (xs ++ ys)) (is ∙ ap (λ k. k + j) (sym long)) ∙ behind xs ys j x e
-
-long_both : (xs ys : List Event) → length (xs ++ ys) ≡ length xs + length ys
-long_both [] ys = omega arith
-long_both (x ∷ xs) ys = let r = long_both xs ys in omega (arith, r)
 
 both_bits : (a b : Bool) → from_bool a * from_bool b ≡ from_bool (a && b)
 both_bits true true = omega arith
@@ -115,26 +107,26 @@ module _ {C : Program} {args : List Word} {s : State} {e : Enabled} (h : AreMark
       let l = all_picked (λ k. can C args s (LoopInto k)) LoopInto C.functions e.loops h.loops in
       let RL = picks (λ k. can C args s (Return k)) Return (suc C.sites) ++ picks (λ k. can C args s (LoopInto k)) LoopInto C.functions in
       let FRL = picks (λ k. can C args s (Finish k)) Finish C.functions ++ RL in
-      let x = long_both (picks (λ k. can C args s (Accept k)) Accept (suc C.sites)) FRL in
-      let y = long_both (picks (λ k. can C args s (Finish k)) Finish C.functions) RL in
-      let z = long_both (picks (λ k. can C args s (Return k)) Return (suc C.sites)) (picks (λ k. can C args s (LoopInto k)) LoopInto C.functions) in
+      let x = length-append (picks (λ k. can C args s (Accept k)) Accept (suc C.sites)) FRL in
+      let y = length-append (picks (λ k. can C args s (Finish k)) Finish C.functions) RL in
+      let z = length-append (picks (λ k. can C args s (Return k)) Return (suc C.sites)) (picks (λ k. can C args s (LoopInto k)) LoopInto C.functions) in
       omega (arith, a, f, r, l, x, y, z)
 
   pub nth_listed : (i : ℕ) (x : Event) → IsNth e i x → (slice_get (listed C args s) i ≡ Some x) × (can C args s x ≡ true)
   nth_listed i (Accept k) q =
       let p = picked_nth (λ k. can C args s (Accept k)) Accept (suc C.sites) k i (counted e.accepts) accepting
       (within (counted e.accepts) k (suc C.sites) q.0 accepting.long) q.0 q.1 in
-      (got_front _ _ i (Accept k) p.0, p.1)
+      (get_front _ _ i (Accept k) p.0, p.1)
   nth_listed i (Finish k) q =
       let a = all_picked (λ k. can C args s (Accept k)) Accept (suc C.sites) (counted e.accepts) accepting in
       let p = picked_nth (λ k. can C args s (Finish k)) Finish C.functions k (sum (take k e.finishes)) e.finishes h.finishes (within e.finishes k C.functions q.0 h.finishes.long) q.0 refl in
-      (behind_at _ _ i (sum (take k e.finishes)) (sum (counted e.accepts)) (Finish k) a q.1 (got_front _ _ (sum (take k e.finishes)) (Finish k) p.0), p.1)
+      (behind_at _ _ i (sum (take k e.finishes)) (sum (counted e.accepts)) (Finish k) a q.1 (get_front _ _ (sum (take k e.finishes)) (Finish k) p.0), p.1)
   nth_listed i (Return k) q =
       let a = all_picked (λ k. can C args s (Accept k)) Accept (suc C.sites) (counted e.accepts) accepting in
       let f = all_picked (λ k. can C args s (Finish k)) Finish C.functions e.finishes h.finishes in
       let p = picked_nth (λ k. can C args s (Return k)) Return (suc C.sites) k (sum (take k e.returns)) e.returns h.returns (within e.returns k (suc C.sites) q.0 h.returns.long) q.0 refl in (
         behind_at _ _ i (sum e.finishes + sum (take k e.returns)) (sum (counted e.accepts)) (Return k) a q.1
-            (behind_at _ _ (sum e.finishes + sum (take k e.returns)) (sum (take k e.returns)) (sum e.finishes) (Return k) f refl (got_front _ _ (sum (take k e.returns)) (Return k) p.0)),
+            (behind_at _ _ (sum e.finishes + sum (take k e.returns)) (sum (take k e.returns)) (sum e.finishes) (Return k) f refl (get_front _ _ (sum (take k e.returns)) (Return k) p.0)),
         p.1,
       )
   nth_listed i (LoopInto k) q =

@@ -1,22 +1,24 @@
 -- What a machine keeps at first.
-use Rattle.std.proofs.Common.{◌≡◌, ℕ, zero, suc, ◌+◌, ◌<◌, ◌≤◌, List, [], ◌∷◌, ◌++◌, length, take, Bool, true, false, Option, Some, None, get_or, refl, sym, ap, ◌∙◌, arith}
+use Rattle.std.proofs.Common.{◌≡◌, ℕ, suc, ◌+◌, ◌<◌, ◌≤◌, List, [], ◌∷◌, ◌++◌, length, take, Bool, true, false, Option, Some, None, get_or, refl, sym, ap, ◌∙◌, arith}
 use Rattle.std.specs.Prelude.{slice_get, IsTrue}
 use Rattle.std.proofs.lemmas.Bool.{false≢true}
 use Rattle.std.proofs.lemmas.List.{get_or-map, get_or_read, take_all}
 use Rattle.std.proofs.Math.Seq.{take-suc}
 use Rattle.std.proofs.Math.Path.{fun_ext}
-use Rattle.safl_word.specs.Words.{Word, no_word}
+use Rattle.std.proofs.lemmas.Option.{slice_get_within}
+use Rattle.safl_word.specs.Words.{Word, no_word, widths}
+use Rattle.safl_word.proofs.Lists.{get_or_is}
 use Rattle.safl_term.specs.Checked.{CheckedProgram, IsChecked}
 use Rattle.safl_term.specs.Readiness as plain
 use Rattle.safl_term.proofs.HeldByChecked.{few_nodes}
 use Rattle.safl_calls.specs.Machine as core
 use Rattle.safl_core.specs.declared.mode.Mode.{Mode}
 use Rattle.safl_evaluate.specs.declared.stage.Stage.{Stage}
-use Rattle.safl_evaluate.specs.Evaluating.{widths}
 use Rattle.safl_core.specs.Knowing.{IsKnown, HasRoom}
 use Rattle.safl_core.specs.Modes.{unit_at, state_of}
 use Rattle.safl_core.specs.Shown.{shown_of, IsKept, IsReached}
 use Rattle.safl_evaluate.specs.Stages.{stage_at}
+use Rattle.safl_evaluate.proofs.RunsByParts.{widths_len}
 use Rattle.safl_core.proofs.WritesAreSteps.{state_is}
 
 pub enough_room : (c : CheckedProgram) (room : ℕ) → IsChecked c → 50016 ≤ room → HasRoom c.program room
@@ -55,26 +57,6 @@ module _ (c : CheckedProgram) (args : List Word) (units : List Mode) (sites : Li
 
 -- ---- one more argument has its width
 
-pub widths_long : (args : List Word) → length (widths args) ≡ length args
-widths_long [] = refl
-widths_long (w ∷ ws) = ap suc (widths_long ws)
-
-none_is : {A : Type 0} (x : ℕ) → None ≡ Some x → A
-none_is x e = cc
-
-some_is : (x y : ℕ) → Some x ≡ Some y → x ≡ y
-some_is x y e = cc
-
-got : (ps : List ℕ) (i p : ℕ) → slice_get ps i ≡ Some p → get_or ps i 0 ≡ p
-got [] i p e = none_is p e
-got (x ∷ xs) zero p e = some_is x p e
-got (x ∷ xs) (suc i) p e = got xs i p e
-
-got_in : (ps : List ℕ) (i p : ℕ) → slice_get ps i ≡ Some p → i < length ps
-got_in [] i p e = none_is p e
-got_in (x ∷ xs) zero p e = omega arith
-got_in (x ∷ xs) (suc i) p e = omega (arith, got_in xs i p e)
-
 width_at : (args : List Word) (i w : ℕ) (v : Word) → i < length args → v ≡ get_or args i v → w ≡ v.width → get_or (widths args) i 0 ≡ w
 width_at args i w v lt is e = get_or-map (λ z. z.width) args i no_word 0 lt ∙ (ap (λ z. z.width) (sym (get_or_read args i v lt is no_word)) ∙ sym e)
 
@@ -82,18 +64,18 @@ abbrev pub Tested : Bool → List Word → List ℕ → Type 0
 Tested b args ps = (IsTrue b → widths args ≡ ps) × (widths args ≡ ps → IsTrue b)
 
 pub fits_count : (args : List Word) (ps : List ℕ) → (length args ≡ length ps → ⊥) → Tested false args ps
-fits_count args ps ne = (λ t. absurd (false≢true t), λ e. absurd (ne (sym (widths_long args) ∙ ap (λ (x : List ℕ). length x) e)))
+fits_count args ps ne = (λ t. absurd (false≢true t), λ e. absurd (ne (sym (widths_len args) ∙ ap (λ (x : List ℕ). length x) e)))
 
 pub fits_off : (args : List Word) (ps : List ℕ) (i w p : ℕ) (v : Word) → i < length args → v ≡ get_or args i v → w ≡ v.width → slice_get ps i ≡ Some p → (w ≡ p → ⊥) → Tested false args ps
-fits_off args ps i w p v lt is e f ne = (λ t. absurd (false≢true t), λ q. absurd (ne (sym (width_at args i w v lt is e) ∙ (ap (λ (l : List ℕ). get_or l i 0) q ∙ got ps i p f))))
+fits_off args ps i w p v lt is e f ne = (λ t. absurd (false≢true t), λ q. absurd (ne (sym (width_at args i w v lt is e) ∙ (ap (λ (l : List ℕ). get_or l i 0) q ∙ get_or_is ps i p f))))
 
 pub fits_more : (args : List Word) (ps : List ℕ) (i w p : ℕ) (v : Word) → take i (widths args) ≡ take i ps → i < length args → v ≡ get_or args i v → w
     ≡ v.width → slice_get ps i ≡ Some p → w ≡ p → take (i + 1) (widths args) ≡ take (i + 1) ps
 fits_more args ps i w p v before lt is e f same =
     let one : i + 1 ≡ suc i = omega arith in
-    let inside : i < length (widths args) = omega (arith, lt, widths_long args) in
+    let inside : i < length (widths args) = omega (arith, lt, widths_len args) in
     ap (λ n. take n (widths args)) one ∙ (take-suc (widths args) i 0 inside ∙ (ap (λ l. l ++ get_or (widths args) i 0 ∷ []) before
-    ∙ (ap (λ x. take i ps ++ x ∷ []) (width_at args i w v lt is e ∙ (same ∙ sym (got ps i p f))) ∙ (sym (take-suc ps i 0 (got_in ps i p f)) ∙ sym (ap (λ n. take n ps) one)))))
+    ∙ (ap (λ x. take i ps ++ x ∷ []) (width_at args i w v lt is e ∙ (same ∙ sym (get_or_is ps i p f))) ∙ (sym (take-suc ps i 0 (slice_get_within ps i p f)) ∙ sym (ap (λ n. take n ps) one)))))
 
 pub fits_all : (args : List Word) (ps : List ℕ) (n : ℕ) → take n (widths args) ≡ take n ps → length args ≤ n → length args ≡ length ps → Tested true args ps
-fits_all args ps n e le long = (λ t. sym (take_all n (widths args) (omega (arith, le, widths_long args))) ∙ (e ∙ take_all n ps (omega (arith, le, long))), λ q. refl)
+fits_all args ps n e le long = (λ t. sym (take_all n (widths args) (omega (arith, le, widths_len args))) ∙ (e ∙ take_all n ps (omega (arith, le, long))), λ q. refl)

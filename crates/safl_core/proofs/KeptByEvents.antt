@@ -1,10 +1,13 @@
 -- What a machine keeps, from one event to the next.
-use Rattle.std.proofs.Common.{◌≡◌, ◌≢◌, ℕ, zero, suc, ◌+◌, ◌<◌, ◌≤◌, List, [], ◌∷◌, ◌++◌, length, cond, eqb, Option, Some, None, get_or, refl, sym, ap, ◌∙◌, subst, ⊎_elim, arith}
+use Rattle.std.proofs.Common.{◌≡◌, ◌≢◌, ℕ, zero, suc, ◌+◌, ◌<◌, ◌≤◌, List, [], ◌∷◌, ◌++◌, cond, eqb, Option, Some, None, get_or, refl, sym, ap, ◌∙◌, subst, ⊎_elim, arith}
 use Rattle.std.proofs.lemmas.Bool.{cases_eq, ne_eqb}
+use Rattle.std.proofs.lemmas.Option.{same_Some}
+use Rattle.std.proofs.lemmas.List.{length_push}
 use Rattle.safl_word.specs.Words.{Word}
 use Rattle.safl_term.specs.Checked.{CheckedProgram}
 use Rattle.safl_term.specs.Program.{Program, unit_for}
 use Rattle.safl_term.specs.Readiness.{Unsent, Sent, Returned, Answer, Ready, LoopTo, NotYet, answer, wanted, back_word, word_of}
+use Rattle.safl_term.proofs.Apart.{not_loop}
 use Rattle.safl_calls.specs.Machine.{State, Mode, Idle, Runs, Delivers, Event, Finish, Return, LoopInto, opening, put, back, says, says_as, asked}
 use Rattle.safl_calls.specs.Machine.{asked_as, Enabled, Legal, after, fire, accept, finish, give_back, loop_into, ended}
 use Rattle.safl_calls.proofs.Basics.{serves, cond_some, put_at, put_off, after_append, after_one, legal_append, legal_one}
@@ -49,7 +52,7 @@ module _ {m : Shown} {answers : List Answer} {wants : List (Option (List Word))}
     pub next_reached : (n : Shown) → n.checked ≡ m.checked → n.args ≡ m.args → state n ≡ state_of modes stages → n.events ≡ m.events + 1 → IsReached n
     next_reached n p a s c = record {
       list = h.reached.list ++ e ∷ [];
-      count = more h.reached.list e ∙ (ap (λ x. x + 1) h.reached.count ∙ sym c);
+      count = length_push h.reached.list e ∙ (ap (λ x. x + 1) h.reached.count ∙ sym c);
       legal = subst (λ (C : CheckedProgram). Legal C.program n.args opening (h.reached.list ++ e ∷ [])) (sym p)
           (subst (λ xs. Legal m.program xs opening (h.reached.list ++ e ∷ [])) (sym a)
           (legal_append m.program m.args opening h.reached.list (e ∷ []) h.reached.legal
@@ -61,10 +64,6 @@ module _ {m : Shown} {answers : List Answer} {wants : List (Option (List Word))}
           ∙ (after_one m.program m.args (after m.program m.args opening h.reached.list) e
           ∙ (ap (λ t. fire m.program m.args t e) h.reached.ends ∙ (sym is ∙ sym s)))));
     }
-      where
-        more : (xs : List Event) (x : Event) → length (xs ++ x ∷ []) ≡ length xs + 1
-        more [] x = omega arith
-        more (y ∷ ys) x = let r = more ys x in omega (arith, r)
 
 -- ---- the units whose bodies see nothing of an event
 
@@ -142,12 +141,6 @@ module _ (C : Program) (args : List Word) (good : Numbered C) (s : State) (inv :
 
 -- ---- what the code reads, and the events
 
-some_same : {A : Type 0} (x y : A) → Some x ≡ Some y → x ≡ y
-some_same x y e = cc
-
-not_loop : {A : Type 0} (h : ℕ) (vs : List Word) → NotYet ≡ LoopTo h vs → A
-not_loop h vs e = absurd (grind arith)
-
 -- a unit that comes to a tail call runs a body
 pub record Looping (C : Program) (s : State) (h : ℕ) : Type 0 where
   pub member : ℕ
@@ -159,7 +152,7 @@ pub record Looping (C : Program) (s : State) (h : ℕ) : Type 0 where
 module _ {m : Shown} {answers : List Answer} {wants : List (Option (List Word))} {room : ℕ} (h : IsKept m answers wants room) where
   pub accept_words : (k : ℕ) (ws words : List Word) → asked m.program m.args (state m) k ≡ Some ws → (k ≡ 0 → words ≡ m.args) →
       ((k ≡ 0 → ⊥) → get_or wants k None ≡ Some words) → asked m.program m.args (state m) k ≡ Some words
-  accept_words zero ws words e first other = e ∙ ap Some (sym (some_same m.args ws (cond_some _ _ ws e).1) ∙ sym (first refl))
+  accept_words zero ws words e first other = e ∙ ap Some (sym (same_Some m.args ws (cond_some _ _ ws e).1) ∙ sym (first refl))
   accept_words (suc k) ws words e first other =
       let C = m.program in
       let f = found C m.args (state m) (suc k) ws e in
@@ -175,7 +168,7 @@ module _ {m : Shown} {answers : List Answer} {wants : List (Option (List Word))}
       let C = m.program in
       let s = state m in
       let same_site : site ≡ k = serving ∙ (ap (λ n. serves_of (s.unit n)) at ∙ ap serves_of runs) in
-      let same_word : word ≡ v = some_same word v (ready ∙ (ap word_of ((h.known u).outcome ∙ ap (says C s) at ∙ is))) in
+      let same_word : word ≡ v = same_Some word v (ready ∙ (ap word_of ((h.known u).outcome ∙ ap (says C s) at ∙ is))) in
       ap (λ n. core_state (put s.unit n (Delivers site word)) (ended C n s.site)) at
       ∙ (ap (λ n. core_state (put s.unit (C.unit f) (Delivers n word)) (ended C (C.unit f) s.site)) same_site
       ∙ (ap (λ w. core_state (put s.unit (C.unit f) (Delivers k w)) (ended C (C.unit f) s.site)) same_word
@@ -186,7 +179,7 @@ module _ {m : Shown} {answers : List Answer} {wants : List (Option (List Word))}
 
   pub return_is : (k : ℕ) (v : Word) → (state m).unit (unit_for m.program k) ≡ Delivers k v → (u : ℕ) (word : Word) → u ≡ unit_for
       m.program k → Some word ≡ word_given ((state m).unit u) → word ≡ v
-  return_is k v e u word at given = some_same word v (given ∙ (ap (λ n. word_given ((state m).unit n)) at ∙ ap word_given e))
+  return_is k v e u word at given = same_Some word v (given ∙ (ap (λ n. word_given ((state m).unit n)) at ∙ ap word_given e))
 
   pub return_next : (k : ℕ) (v : Word) → (state m).unit (unit_for m.program k) ≡ Delivers k v → (word : Word) → word ≡ v → give_back
       m.program (state m) k (Delivers k word) ≡ fire m.program m.args (state m) (Return k)
@@ -212,7 +205,7 @@ module _ {m : Shown} {answers : List Answer} {wants : List (Option (List Word))}
       let s = state m in
       let l = looping n vs is in
       let same_site : site ≡ l.site = serving ∙ (ap (λ n. serves_of (s.unit n)) at ∙ ap serves_of l.runs) in
-      let same_words : words ≡ vs = some_same words vs (given ∙ ap args_given ((h.known u).outcome ∙ ap (says C s) at ∙ is)) in
+      let same_words : words ≡ vs = same_Some words vs (given ∙ ap args_given ((h.known u).outcome ∙ ap (says C s) at ∙ is)) in
       ap (λ i. core_state (put s.unit i (Runs n site words)) (ended C i s.site)) at
       ∙ (ap (λ i. core_state (put s.unit (C.unit n) (Runs n i words)) (ended C (C.unit n) s.site)) same_site
       ∙ (ap (λ w. core_state (put s.unit (C.unit n) (Runs n l.site w)) (ended C (C.unit n) s.site)) same_words

@@ -2,7 +2,7 @@
 use Rattle.std.proofs.Common.{◌≡◌, ◌≢◌, ℕ, suc, ◌<◌, ◌≤◌, List, length, cond, eqb, Option, None, true, get_or, slice_set, refl, sym, ap, ◌∙◌, subst, ⊎_elim, arith}
 use Rattle.std.proofs.lemmas.Bool.{cases_eq, eq-eqb, ne_eqb}
 use Rattle.std.proofs.lemmas.List.{get_or-set_other, get_or-set_same}
-use Rattle.safl_word.specs.Words.{Word}
+use Rattle.safl_word.specs.Words.{Word, widths}
 use Rattle.safl_term.specs.Checked.{CheckedProgram, IsChecked}
 use Rattle.safl_term.specs.Program.{Program}
 use Rattle.safl_term.specs.Readiness.{Answer, NotYet, wanted}
@@ -10,7 +10,7 @@ use Rattle.safl_term.specs.WellFormed.{HasWidth}
 use Rattle.safl_calls.specs.Machine.{State, Mode, Idle, Runs, Delivers, back, says, asked_as}
 use Rattle.safl_calls.proofs.Numbered.{Numbered}
 use Rattle.safl_evaluate.specs.declared.stage.Stage.{Stage}
-use Rattle.safl_evaluate.specs.Evaluating.{CanRun, Unasked, widths}
+use Rattle.safl_evaluate.specs.Evaluating.{CanRun, Unasked}
 use Rattle.safl_core.specs.declared.spans.Span.{Span}
 use Rattle.safl_core.specs.Knowing.{IsKnown, BackFits}
 use Rattle.safl_core.specs.Spans.{IsSpan}

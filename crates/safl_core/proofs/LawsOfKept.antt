@@ -3,6 +3,8 @@ use Rattle.std.proofs.Common.{◌≡◌, ◌+◌, ◌*◌, ◌≤◌, ◌<◌, �
 use Rattle.std.proofs.lemmas.Bool.{eqb-true, eq-eqb, and_parts, and_from, false≢true, le-leb}
 use Rattle.std.specs.Prelude.{IsTrue}
 use Rattle.std.proofs.lemmas.List.{get_or_read}
+use Rattle.std.proofs.lemmas.Option.{none-some, same_Some}
+use Rattle.std.proofs.Math.Bool.{and-false}
 use Rattle.safl_calls.proofs.Basics.{serves, some_of}
 use Rattle.safl_calls.proofs.Invariant.{found}
 use Rattle.safl_evaluate.specs.declared.stage.Stage as declared
@@ -18,27 +20,20 @@ use Rattle.safl_core.specs.Outcomes.{IsValue, IsBounded, GoesOn, IsOver}
 use Rattle.safl_core.specs.Shown.{Shown, state, CanFire, IsKept}
 use Rattle.safl_core.specs.Testing.{is_idle, runs, is_sent, delivers_to, can, wanted_at}
 use Rattle.safl_evaluate.specs.Answers.{is_ready, loops_to}
+use Rattle.safl_evaluate.proofs.RunsByParts.{widths_len}
 use Rattle.safl_core.proofs.KeptByEvents.{inv}
-use Rattle.safl_core.proofs.KeptAtFirst.{widths_long}
-
-some_is : (v w : Word) → Some v ≡ Some w → v ≡ w
-some_is v w e = cc
 
 returned_is : (x : Stage) (v : Word) → back_word x ≡ Some v → x ≡ Returned v
-returned_is Unsent v e = absurd (none v e) where
-  none : (v : Word) → None ≡ Some v → ⊥
-  none v e = cc
-returned_is Sent v e = absurd (none v e) where
-  none : (v : Word) → None ≡ Some v → ⊥
-  none v e = cc
-returned_is (Returned w) v e = ap Returned (some_is w v e)
+returned_is Unsent v e = absurd (none-some v e)
+returned_is Sent v e = absurd (none-some v e)
+returned_is (Returned w) v e = ap Returned (same_Some w v e)
 
 module _ {m : Shown} {answers : List Answer} {wants : List (Option (List Word))} {room : ℕ} (h : IsKept m answers wants room) where
   ends : (v : Word) → back_word ((state m).site 0) ≡ Some v → (after m.program m.args opening h.reached.list).site 0 ≡ Returned v
   ends v e = ap (λ s. s.site 0) h.reached.ends ∙ returned_is ((state m).site 0) v e
 
   pub sized : length m.args ≡ arity m.program m.program.main
-  sized = sym (widths_long m.args) ∙ ap (λ (x : List ℕ). length x) h.given
+  sized = sym (widths_len m.args) ∙ ap (λ (x : List ℕ). length x) h.given
 
   pub value_of : (v : Word) → back_word ((state m).site 0) ≡ Some v → IsValue m v
   value_of v e =
@@ -56,11 +51,8 @@ module _ {m : Shown} {answers : List Answer} {wants : List (Option (List Word))}
   goes_on e =
       let C = m.program in
       let q = law.goes_on C C.functions (numbered C h.checked.formed) h.checked.formed.numbered m.args h.reached.list h.reached.legal sized
-      (λ v r. never v (sym e ∙ ap back_word (sym (ap (λ s. s.site 0) h.reached.ends) ∙ r))) in
+      (λ v r. none-some v (sym e ∙ ap back_word (sym (ap (λ s. s.site 0) h.reached.ends) ∙ r))) in
       (q.0, subst (λ s. Enabled C m.args s q.0) h.reached.ends q.1)
-    where
-      never : (v : Word) → None ≡ Some v → ⊥
-      never v e = cc
 
   pub over : (v : Word) → back_word ((state m).site 0) ≡ Some v → IsOver m
   over v e = λ x q.
@@ -175,17 +167,13 @@ module _ {m : Shown} {answers : List Answer} {wants : List (Option (List Word))}
       can m.program m.args (state m) (Return k)
   return_test k b e = e ∙ by ((state m).unit (unit_for m.program k)) refl
     where
-      never : (x : Bool) → (x && false) ≡ false
-      never true = refl
-      never false = refl
-
       sent : (x t : Bool) → (t ≡ true → x ≡ true) → (x && t) ≡ t
       sent x true q = ap (λ z. z && true) (q refl)
-      sent x false q = never x
+      sent x false q = and-false x
 
       by : (x : Mode) → (state m).unit (unit_for m.program k) ≡ x → (is_sent ((state m).site k) && delivers_to x k) ≡ delivers_to x k
-      by Idle q = never (is_sent ((state m).site k))
-      by (Runs f j ws) q = never (is_sent ((state m).site k))
+      by Idle q = and-false (is_sent ((state m).site k))
+      by (Runs f j ws) q = and-false (is_sent ((state m).site k))
       by (Delivers j v) q = sent (is_sent ((state m).site k)) (eqb j k)
           (λ t. ap is_sent ((inv h).serving (unit_for m.program k) k (ap serves q ∙ ap Some (eqb-true j k t))).0)
 

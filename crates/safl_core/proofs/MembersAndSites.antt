@@ -1,6 +1,6 @@
 -- The members of a unit, and the sites in their bodies.
 use Rattle.std.proofs.Common.{◌≡◌, ℕ, zero, suc, ◌<◌, ◌≤◌, ◌⊎◌, inl, inr, sym, ◌∙◌, subst, ⊎_elim, arith}
-use Rattle.std.proofs.lemmas.Bool.{cases_eq}
+use Rattle.std.proofs.lemmas.Bool.{cases_eq, cases_lt}
 use Rattle.safl_term.specs.Checked.{CheckedProgram, IsChecked}
 use Rattle.safl_term.proofs.HeldByChecked.{first_site_rises, first_site_past}
 use Rattle.safl_sites.proofs.NumbersFollow.{sited}
@@ -28,9 +28,6 @@ module _ (p : CheckedProgram) (h : IsChecked p) where
         (omega (arith, low, is), inside f lt is (cases_lt f end));
   }
     where
-      cases_lt : (f end : ℕ) → (f < end) ⊎ (end ≤ f)
-      cases_lt f end = grind arith
-
       inside : (f : ℕ) → f < p.program.functions → p.program.unit f ≡ u → (f < end) ⊎ (end ≤ f) → f < end
       inside f lt is (inl l) = l
       inside f lt is (inr g) = absurd (stop (h.groups end f lt (omega (arith, is, above)) g ∙ is) (omega (arith, g, lt)))
@@ -54,9 +51,6 @@ module _ (p : CheckedProgram) (h : IsChecked p) where
         (omega (arith, first, a, s0.from), omega (arith, last, b, s0.below));
   }
     where
-      cases_lt : (a b : ℕ) → (a < b) ⊎ (b ≤ a)
-      cases_lt a b = grind arith
-
       from : (k : ℕ) → s.first ≤ k → p.program.caller k < p.program.functions → k < p.first_site (suc (p.program.caller k)) →
           (u < p.program.caller k) ⊎ (p.program.caller k ≤ u) → u ≤ p.program.caller k
       from k a within below (inl l) = omega (arith, l)

@@ -12,6 +12,7 @@ use Rattle.safl_calls.proofs.Basics.{serves, put_at, put_off}
 use Rattle.safl_calls.specs.Machine as core
 use Rattle.safl_calls.proofs.Invariant.{Inv}
 use Rattle.safl_calls.proofs.Numbered.{Numbered}
+use Rattle.safl_calls.proofs.Apart.{idle_runs}
 use Rattle.safl_evaluate.specs.declared.kept.Kept.{Kept}
 use Rattle.safl_core.specs.declared.mode.Mode as modes_declared
 use Rattle.safl_evaluate.specs.declared.places.Place.{Place}
@@ -113,9 +114,6 @@ module _ {C : Program} {plan : Plan} {n : ℕ} (good : Numbered C) (lies : IsPla
       record { member = λ f i ws r. absurd (idle_runs f i ws (sym idle ∙ r)); holds = λ f i ws r. absurd (idle_runs f i ws (sym idle ∙ r)) })
       (λ ne. recalls_step s t _ (unit_for C k) w v step (local_return C (calls_of s) k word w is) ne (λ q. ne (same q)) h)
       (cases_eq v (unit_for C k))
-    where
-      idle_runs : (f i : ℕ) (ws : List Word) → Idle ≡ Runs f i ws → ⊥
-      idle_runs f i ws e = grind arith
 
   -- what is asked for of a unit that runs a body is what the body wants
   pub wants_held : (B : ℕ → Option Word) (A A0 : Asks) (W : List Kept) (f k : ℕ) (ws : List Word) → f < C.functions → Holds B ws A W (body_at plan f) (C.body f)

@@ -1,7 +1,7 @@
 -- Sets that are put right, number by number.
-use Rattle.std.proofs.Common.{◌≡◌, ℕ, suc, ◌<◌, ◌≤◌, ◌⊎◌, Bool, Option, Some, None, is_some, List, length, set, get_or, refl, sym, ap, ◌∙◌, subst, ⊎_elim, arith, length-set}
+use Rattle.std.proofs.Common.{◌≡◌, ℕ, suc, ◌<◌, ◌⊎◌, Bool, Option, Some, None, is_some, List, length, set, get_or, refl, sym, ap, ◌∙◌, subst, ⊎_elim, arith, length-set}
 use Rattle.std.specs.Int.{from_bool}
-use Rattle.std.proofs.lemmas.Bool.{cases_eq, true≢false}
+use Rattle.std.proofs.lemmas.Bool.{cases_eq, true≢false, cases_lt}
 use Rattle.std.proofs.lemmas.List.{get_or-set_same, get_or-set_other, set_past}
 use Rattle.safl_word.specs.Words.{Word}
 use Rattle.safl_term.specs.Program.{Program}
@@ -32,9 +32,6 @@ rights_put p s t k b is e = record {
       where
         at : j ≡ k → get_or (set s k (from_bool b)) j 0 ≡ from_bool (p j)
         at q = ⊎_elim (λ lt. these j lt q) (λ past. ap (λ (l : List ℕ). get_or l j 0) (set_past s k (from_bool b) (omega (arith, past, q))) ∙ h) (cases_lt j (length s))
-          where
-            cases_lt : (a b : ℕ) → (a < b) ⊎ (b ≤ a)
-            cases_lt a b = grind arith
 
 pub rights_then : {p : ℕ → Bool} {A B : ℕ → Type 0} {s t u : List ℕ} → Rights p A s t → Rights p B t u → Rights p (λ k. A k ⊎ B k) s u
 rights_then a b = record {

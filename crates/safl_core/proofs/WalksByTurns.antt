@@ -1,11 +1,13 @@
 -- Walks, a turn at a time.
-use Rattle.std.proofs.Common.{◌≡◌, ℕ, ◌+◌, ◌*◌, ◌<◌, List, [], ◌∷◌, ◌++◌, length, max, Option, Some, None, ◌⊎◌, ⊎_elim, refl, sym, ap, ◌∙◌, subst, arith}
+use Rattle.std.proofs.Common.{◌≡◌, ℕ, ◌+◌, ◌*◌, ◌<◌, List, [], ◌∷◌, ◌++◌, max, Option, Some, None, ◌⊎◌, ⊎_elim, refl, sym, ap, ◌∙◌, subst, arith}
 use Rattle.std.specs.Prelude.{IfNone, IsNone, IsSome}
 use Rattle.safl_term.specs.Readiness.{back_word}
 use Rattle.safl_core.specs.declared.event.Event as machine_event
 use Rattle.safl_core.proofs.LawsOfKept.{goes_on, over}
 use Rattle.std.proofs.lemmas.Bool.{false≢true}
+use Rattle.std.proofs.lemmas.List.{length_push}
 use Rattle.safl_word.specs.Words.{Word}
+use Rattle.safl_word.specs.Naturals.{number_after}
 use Rattle.safl_term.specs.Checked.{CheckedProgram}
 use Rattle.safl_term.specs.Meaning.{Main, main_cost, loops}
 use Rattle.safl_calls.specs.Machine.{Event, opening, after, fire, Enabled}
@@ -17,7 +19,7 @@ use Rattle.safl_core.specs.Listing.{busy}
 use Rattle.safl_core.specs.Picking.{IsPicked}
 use Rattle.safl_core.specs.Outcomes.{GoesOn, IsOver}
 use Rattle.safl_core.specs.Shown.{Shown, state, event_of, CanFire, Fires, IsKept}
-use Rattle.safl_core.specs.Walking.{number_after, Walked, start, turn, IsShort}
+use Rattle.safl_core.specs.Walking.{Walked, start, turn, IsShort}
 
 pub first_turn : (m : Shown) (seed u : ℕ) → u ≡ busy m.program (state m) → Walked m.program m.args (state m) seed 0 (state m) seed u
 first_turn m seed u e = subst (λ w. Walked m.program m.args (state m) seed 0 (state m) seed w) (sym e) start
@@ -37,10 +39,6 @@ one_turn m0 m m1 seed n x u y w b e p a walked f ey pick eb ew =
     (subst (λ z. Walked C A (state m0) seed (n + 1) (fire C A (state m) e) z w) (sym ey)
     (subst (λ z. Walked C A (state m0) seed (n + 1) (fire C A (state m) e) (number_after x) z) (sym units) (turn walked at)))
 
-one_longer : (xs : List Event) (x : Event) → length (xs ++ x ∷ []) ≡ length xs + 1
-one_longer [] x = omega arith
-one_longer (y ∷ ys) x = let r = one_longer ys x in omega (arith, r)
-
 -- where some event is enabled, main gives no value in the events so far
 pub short_of : {m : Shown} {answers : List Kept} {wants : List (Option (List Word))} {room : ℕ} → IsKept m answers wants room → GoesOn m → IsShort m m.events
 short_of {m} h on = λ v d.
@@ -49,7 +47,7 @@ short_of {m} h on = λ v d.
     let can = subst (λ s. Enabled C m.args s e) (sym h.reached.ends) on.1 in
     let legal = legal_append C m.args opening h.reached.list (e ∷ []) h.reached.legal (legal_one C m.args (after C m.args opening h.reached.list) e can) in
     let b = law.bounded C C.functions (numbered C h.checked.formed) h.checked.formed.numbered m.args (h.reached.list ++ e ∷ []) legal v d in
-    omega (arith, b, one_longer h.reached.list e, h.reached.count)
+    omega (arith, b, length_push h.reached.list e, h.reached.count)
 
 abbrev ShortBy : CheckedProgram → List Word → ℕ → Type 0
 ShortBy c args n = (v : Word) (d : Main c.program args v) → n + 2 * loops c.program d < 3 * main_cost c.program args d

@@ -1,6 +1,6 @@
 -- The words with which a unit wanted its sites, forgotten.
-use Rattle.std.proofs.Common.{◌≡◌, ◌≢◌, ℕ, ◌+◌, ◌<◌, ◌≤◌, ◌⊎◌, List, length, cond, eqb, Option, None, get_or, slice_set, sym, ap, ◌∙◌, subst, ⊎_elim, arith}
-use Rattle.std.proofs.lemmas.Bool.{cases_eq, eq-eqb, ne_eqb}
+use Rattle.std.proofs.Common.{◌≡◌, ◌≢◌, ℕ, ◌+◌, ◌<◌, ◌≤◌, List, length, cond, eqb, Option, None, get_or, slice_set, sym, ap, ◌∙◌, subst, ⊎_elim, arith}
+use Rattle.std.proofs.lemmas.Bool.{cases_eq, eq-eqb, ne_eqb, cases_lt}
 use Rattle.std.proofs.lemmas.List.{get_or-set_other, get_or-set_same}
 use Rattle.safl_word.specs.Words.{Word}
 use Rattle.safl_term.specs.Program.{Program}
@@ -46,6 +46,3 @@ module _ (C : Program) (u : ℕ) where
       → (j : ℕ) → 0 < j → j ≤ C.sites → get_or A j None ≡ cond (eqb (C.unit (C.caller j)) u) None (get_or A0 j None)
   clear_back s h k A0 A le below above j pos most = ⊎_elim (below j pos)
       (λ ge. above j ge ∙ off_cleared (get_or A0 j None) j (λ q. absurd (omega (arith, (h.all j pos most q).1, ge, le)))) (cases_lt j k)
-    where
-      cases_lt : (a b : ℕ) → (a < b) ⊎ (b ≤ a)
-      cases_lt a b = grind arith

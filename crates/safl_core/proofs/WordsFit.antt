@@ -1,34 +1,24 @@
 -- The widths of words in a state that is reached.
-use Rattle.std.proofs.Common.{◌≡◌, ℕ, zero, suc, ◌<◌, ◌≤◌, List, [], ◌∷◌, cond, eqb, Some, Bool, true, false, ◌⊎◌, inl, inr, refl, sym, ap, ◌∙◌, subst, ⊎_elim, arith}
+use Rattle.std.proofs.Common.{◌≡◌, ℕ, zero, suc, ◌<◌, ◌≤◌, List, [], ◌∷◌, cond, eqb, Some, Bool, true, false, ◌⊎◌, inl, inr, refl, sym, ap, ◌∙◌, subst, ⊎_elim}
 use Rattle.std.proofs.lemmas.Bool.{cases_eq, eqb-true}
-use Rattle.safl_word.specs.Words.{Word}
+use Rattle.std.proofs.lemmas.Option.{same_Some}
+use Rattle.safl_word.specs.Words.{Word, widths}
 use Rattle.safl_term.specs.Program.{Program, unit_for}
-use Rattle.safl_term.specs.Readiness.{Unsent, Sent, Returned, Ready, LoopTo, NotYet, answer, wanted, back_word}
+use Rattle.safl_term.specs.Readiness.{Unsent, Sent, Returned, Ready, LoopTo, answer, wanted, back_word}
 use Rattle.safl_term.specs.WellFormed.{IsWellFormed, HasWidth}
 use Rattle.safl_term.proofs.Widths.{answer_width, loop_widths, wanted_widths}
+use Rattle.safl_term.proofs.Apart.{not_loop}
 use Rattle.safl_calls.specs.Machine.{State, Mode, Idle, Runs, Delivers, Event, Accept, Finish, Return, LoopInto, opening, put, back, says, says_as}
 use Rattle.safl_calls.specs.Machine.{asked, asked_as, Enabled, Legal, after, fire, accept, finish, give_back, loop_into, ended}
-use Rattle.safl_calls.proofs.Basics.{serves, put_at, put_off, some_none, some_is, cond_some}
+use Rattle.safl_calls.proofs.Basics.{serves, put_at, put_off, some_none, cond_some}
 use Rattle.safl_calls.proofs.Invariant.{Inv, inv_fire, inv_open}
 use Rattle.safl_calls.proofs.FromWellFormed.{numbered}
-use Rattle.safl_evaluate.specs.Evaluating.{widths}
+use Rattle.safl_calls.proofs.Apart.{delivers_runs, idle_delivers, idle_runs, runs_delivers}
 
 pub record Fits (C : Program) (s : State) : Type 0 where
   pub runs : (u f k : ℕ) (ws : List Word) → s.unit u ≡ Runs f k ws → widths ws ≡ C.params f
   pub gives : (u k : ℕ) (v : Word) → s.unit u ≡ Delivers k v → v.width ≡ C.result (C.callee k)
   pub back : (k : ℕ) (v : Word) → back s k ≡ Some v → v.width ≡ C.result (C.callee k)
-
-idle_runs : {A : Type 0} (f k : ℕ) (ws : List Word) → Idle ≡ Runs f k ws → A
-idle_runs f k ws e = absurd (grind arith)
-
-delivers_runs : {A : Type 0} (f k j : ℕ) (v : Word) (ws : List Word) → Delivers j v ≡ Runs f k ws → A
-delivers_runs f k j v ws e = absurd (grind arith)
-
-idle_delivers : {A : Type 0} (j : ℕ) (v : Word) → Idle ≡ Delivers j v → A
-idle_delivers j v e = absurd (grind arith)
-
-runs_delivers : {A : Type 0} (f k j : ℕ) (v : Word) (ws : List Word) → Runs f k ws ≡ Delivers j v → A
-runs_delivers f k j v ws e = absurd (grind arith)
 
 abbrev member_of : Mode → ℕ
 member_of Idle = 0
@@ -73,7 +63,7 @@ module _ (C : Program) (wf : IsWellFormed C) where
 
   module _ (args : List Word) (given : widths args ≡ C.params C.main) (s : State) (inv : Inv C s) (fits : Fits C s) where
     asked_fits : (k : ℕ) (ws : List Word) → asked C args s k ≡ Some ws → widths ws ≡ C.params (C.callee k)
-    asked_fits zero ws e = sym (ap widths (some_is args ws (cond_some _ _ ws e).1)) ∙ (given ∙ ap C.params (sym wf.main))
+    asked_fits zero ws e = sym (ap widths (same_Some args ws (cond_some _ _ ws e).1)) ∙ (given ∙ ap C.params (sym wf.main))
     asked_fits (suc k) ws e = by (s.unit (C.unit (C.caller (suc k)))) refl (cond_some _ _ ws e).1
       where
         by : (m : Mode) → s.unit (C.unit (C.caller (suc k))) ≡ m → asked_as C (back s) m (C.caller (suc k)) (suc k) ≡ Some ws → widths ws ≡ C.params (C.callee (suc k))
@@ -137,7 +127,7 @@ module _ (C : Program) (wf : IsWellFormed C) where
         back_given : (j : ℕ) (w : Word) → back (give_back C s k (Delivers k v)) j ≡ Some w → w.width ≡ C.result (C.callee j)
         back_given zero w q = absurd (some_none w (sym q))
         back_given (suc j) w q = ⊎_elim
-            (λ same. sym (ap (λ z. z.width) (some_is v w (sym (ap back_word (put_at s.site k (suc j) (Returned v) same)) ∙ q))) ∙
+            (λ same. sym (ap (λ z. z.width) (same_Some v w (sym (ap back_word (put_at s.site k (suc j) (Returned v) same)) ∙ q))) ∙
             (fits.gives (unit_for C k) k v e ∙ ap (λ n. C.result (C.callee n)) same))
             (λ other. fits.back (suc j) w (sym (ap back_word (put_off s.site k (suc j) (Returned v) other)) ∙ q))
             (cases_eq k (suc j))
@@ -153,9 +143,6 @@ module _ (C : Program) (wf : IsWellFormed C) where
           gives = λ u j w q. ⊎_elim (λ p. runs_delivers _ _ _ _ _ p.1) (λ p. fits.gives u j w p) (put_cases s.unit (C.unit h) u (Runs h k vs) (Delivers j w) q);
           back = λ j w q. back_ended (C.unit h) j w (put s.unit (C.unit h) (Runs h k vs)) q;
         }
-
-    not_loop : {A : Type 0} (h : ℕ) (vs : List Word) → NotYet ≡ LoopTo h vs → A
-    not_loop h vs e = absurd (grind arith)
 
     pub fits_fire : (e : Event) → Enabled C args s e → Fits C (fire C args s e)
     fits_fire (Accept k) h = subst (λ o. Fits C (accept C s k o)) (sym h.1) (fits_accept k h.0 h.1)

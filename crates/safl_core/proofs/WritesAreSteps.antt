@@ -1,7 +1,7 @@
 -- Writes of modes and stages, as steps of the state.
-use Rattle.std.proofs.Common.{◌≡◌, ◌≢◌, ℕ, zero, suc, ◌+◌, ◌<◌, ◌≤◌, ◌⊎◌, Bool, true, false, List, length, cond, eqb, slice_set, refl, sym, ap, ◌∙◌, subst, ⊎_elim, arith}
+use Rattle.std.proofs.Common.{◌≡◌, ◌≢◌, ℕ, zero, suc, ◌+◌, ◌<◌, ◌≤◌, Bool, true, false, List, length, cond, eqb, slice_set, refl, sym, ap, ◌∙◌, subst, ⊎_elim, arith}
 use Rattle.std.proofs.Math.Path.{fun_ext}
-use Rattle.std.proofs.lemmas.Bool.{cases_eq, eq-eqb, ne_eqb}
+use Rattle.std.proofs.lemmas.Bool.{cases_eq, eq-eqb, ne_eqb, cases_lt}
 use Rattle.std.proofs.lemmas.List.{get_or-set_other, get_or-set_same, get_or_past}
 use Rattle.safl_term.specs.Program.{Program}
 use Rattle.safl_term.specs.Readiness as plain
@@ -84,9 +84,6 @@ module _ (C : Program) (u : ℕ) where
       → (j : ℕ) → stage_at S j ≡ ended C u (stage_at S0) j
   end_back s h k S0 S long le below above j = ⊎_elim (below j) (λ ge. above j ge ∙ ⊎_elim (within ge) past (cases_lt j (suc C.sites))) (cases_lt j k)
     where
-      cases_lt : (a b : ℕ) → (a < b) ⊎ (b ≤ a)
-      cases_lt a b = grind arith
-
       within : k ≤ j → j < suc C.sites → stage_at S0 j ≡ ended C u (stage_at S0) j
       within ge lt = off_ended (stage_at S0) j (λ pos q. absurd (omega (arith, (h.all j pos (omega (arith, lt)) q).1, ge, le)))
 

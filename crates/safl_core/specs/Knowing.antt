@@ -1,6 +1,6 @@
 -- What partial evaluation has to know of the units.
 use Rattle.std.specs.Prelude.{◌≡◌, ℕ, ◌+◌, ◌<◌, ◌≤◌, List, Option, Some, None, get_or}
-use Rattle.safl_word.specs.Words.{Word}
+use Rattle.safl_word.specs.Words.{Word, widths}
 use Rattle.safl_term.specs.Program.{Program, arity}
 use Rattle.safl_term.specs.Readiness.{Answer, NotYet}
 use Rattle.safl_term.specs.Sizes.{nodes}
@@ -8,7 +8,6 @@ use Rattle.safl_calls.specs.Machine as machine
 use Rattle.safl_calls.specs.Machine.{State, back, says, asked_as}
 use Rattle.safl_core.specs.declared.mode.Mode.{Mode}
 use Rattle.safl_evaluate.specs.declared.stage.Stage.{Stage}
-use Rattle.safl_evaluate.specs.Evaluating.{widths}
 use Rattle.safl_core.specs.Modes.{unit_at}
 use Rattle.safl_evaluate.specs.Stages.{back_at}
 

@@ -1,6 +1,6 @@
 -- What a machine shows, and what it keeps.
 use Rattle.std.specs.Prelude.{◌≡◌, ℕ, suc, ◌+◌, List, length, Option, Some, None}
-use Rattle.safl_word.specs.Words.{Word}
+use Rattle.safl_word.specs.Words.{Word, widths}
 use Rattle.safl_term.specs.Checked.{CheckedProgram, IsChecked}
 use Rattle.safl_term.specs.Readiness.{Answer}
 use Rattle.safl_calls.specs.Machine as core
@@ -8,7 +8,6 @@ use Rattle.safl_core.specs.declared.event.Event.{Event}
 use Rattle.safl_core.specs.declared.event.Event.TheVariants.{Accept, Finish, Return, Loop}
 use Rattle.safl_core.specs.declared.mode.Mode.{Mode}
 use Rattle.safl_evaluate.specs.declared.stage.Stage.{Stage}
-use Rattle.safl_evaluate.specs.Evaluating.{widths}
 use Rattle.safl_core.specs.Knowing.{IsKnown, HasRoom}
 use Rattle.safl_core.specs.Modes.{state_of}
 

@@ -1,6 +1,7 @@
 -- Walks, whose events are picked by a sequence of numbers.
-use Rattle.std.specs.Prelude.{◌≡◌, ℕ, ◌+◌, ◌*◌, ◌%◌, ◌^◌, ◌<◌, ◌≤◌, List, max, IsSome, ◌⊎◌}
+use Rattle.std.specs.Prelude.{◌≡◌, ℕ, ◌+◌, ◌*◌, ◌<◌, ◌≤◌, List, max, IsSome, ◌⊎◌}
 use Rattle.safl_word.specs.Words.{Word}
+use Rattle.safl_word.specs.Naturals.{number_after}
 use Rattle.safl_term.specs.Meaning.{Main, main_cost, loops}
 use Rattle.safl_term.specs.Program.{Program}
 use Rattle.safl_term.specs.Readiness.{back_word}
@@ -8,10 +9,6 @@ use Rattle.safl_calls.specs.Machine.{State, Event, fire}
 use Rattle.safl_core.specs.Listing.{busy}
 use Rattle.safl_core.specs.Picking.{IsPicked}
 use Rattle.safl_core.specs.Shown.{Shown, state}
-
--- the number after x in the sequence
-abbrev pub number_after : ℕ → ℕ
-number_after x = (x * 1103515245 + 12345) % 2 ^ 31
 
 -- So many turns lead from a state and a number to another state and number. At most so many units are busy in any state on the
 -- way, the first and the last included. Each turn fires the enabled event that the next number picks.

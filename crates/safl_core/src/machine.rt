@@ -53,7 +53,7 @@ impl<'a> Machine<'a> {
     ghost use Rattle.std.specs.Prelude.{◌≡◌, ◌+◌, ◌-◌, ◌^◌, ◌<◌, ◌≤◌, ◌↔◌, Err, IsTrue, IfOk, IfSome, IfNone, IsNone, IsSome, suc, length};
     ghost use Rattle.safl_calls.specs.Machine as core;
     ghost use Rattle.safl_term.specs.Readiness.{back_word};
-    ghost use Rattle.safl_evaluate.specs.Evaluating.{widths};
+    ghost use Rattle.safl_word.specs.Words.{widths};
     ghost use Rattle.safl_core.specs.Listing.{busy};
     ghost use Rattle.safl_core.specs.Picking.{IsPicked};
     ghost use Rattle.safl_core.specs.Outcomes.{IsValue, IsBounded, GoesOn, IsOver};

@@ -4,7 +4,7 @@ ghost use Rattle.std.specs.Prelude.{◌≡◌, ◌↔◌, ℕ, IsTrue, IfOk, len
 ghost use Rattle.safl_term.specs.Readiness as plain;
 ghost use Rattle.safl_calls.specs.Machine as core;
 ghost use Rattle.safl_core.specs.Called.{AreCalled};
-ghost use Rattle.safl_evaluate.specs.Evaluating.{widths};
+ghost use Rattle.safl_word.specs.Words.{widths};
 ghost use Rattle.safl_core.specs.Modes.{unit_at};
 ghost use Rattle.safl_evaluate.specs.Stages.{stage_at};
 

@@ -4,7 +4,8 @@ ghost use Rattle.std.specs.Prelude.{◌≡◌, ◌+◌, ◌-◌, ◌^◌, ◌<�
 ghost use Rattle.safl_term.specs.Readiness.{back_word};
 ghost use Rattle.safl_core.specs.Outcomes.{IsValue};
 ghost use Rattle.safl_core.specs.Shown.{state};
-ghost use Rattle.safl_core.specs.Walking.{number_after, IsWalk, IsShort};
+ghost use Rattle.safl_core.specs.Walking.{IsWalk, IsShort};
+ghost use Rattle.safl_word.specs.Naturals.{number_after};
 
 use crate::machine::Machine;
 use safl_word::Word;

@@ -1,33 +1,22 @@
 -- What a term comes to and wants, by its parts.
-use Rattle.std.proofs.Common.{◌≡◌, ℕ, zero, suc, ◌+◌, ◌<◌, ◌≤◌, List, [], ◌∷◌, ◌++◌, length, take, drop, cond, eqb, Option, Some, None, Bool, true}
+use Rattle.std.proofs.Common.{◌≡◌, ℕ, suc, ◌+◌, ◌<◌, ◌≤◌, List, [], ◌∷◌, ◌++◌, length, take, drop, cond, eqb, Option, Some, None, Bool, true}
 use Rattle.std.proofs.Common.{false, get_or, slice_set, refl, sym, ap, ◌∙◌, subst, ⊎_elim, arith}
 use Rattle.std.proofs.lemmas.Bool.{cases_eq, eq-eqb, ne_eqb}
 use Rattle.std.proofs.lemmas.List.{get_or-set_other, get_or-set_same, drop-set, get_or-take, get_or_read, length-take, take-take}
 use Rattle.std.proofs.Math.Seq.{take-add}
 use Rattle.safl_term.specs.Sizes.{nodes_in}
-use Rattle.safl_sites.proofs.NodesOfTerms.{some_node}
 use Rattle.safl_word.specs.Words.{Word, slot, pick, no_word}
 use Rattle.safl_word.specs.declared.primitive.Primitive.{Primitive}
+use Rattle.safl_word.proofs.Words.{pick_other}
 use Rattle.safl_term.specs.Readiness.{Answer, Ready, LoopTo, NotYet, answer, answers, wanted, wanted_in, or_else, select, with_all, both, apply_to, loop_to, ready_from, word_of}
 use Rattle.safl_calls.proofs.Basics.{some_none}
 use Rattle.safl_term.specs.Terms.{Term, Const, Var, If, Let, Op, Call, Loop, Terms, Nil, Cons}
 use Rattle.safl_term.specs.declared.term.Term as declared
 use Rattle.safl_term.specs.Tree.{shown_term, shown_terms}
 use Rattle.safl_term.proofs.Once.{count}
+use Rattle.safl_term.proofs.PlainTerms.{loop_word, some_nodes}
+use Rattle.safl_term.proofs.OrElse.{or_else_assoc, or_else_none}
 use Rattle.safl_evaluate.specs.Evaluating.{Notes}
-
-or_none : {A : Type 0} (o : Option A) → or_else o None ≡ o
-or_none None = refl
-or_none (Some x) = refl
-
-or_assoc : {A : Type 0} (o p q : Option A) → or_else (or_else o p) q ≡ or_else o (or_else p q)
-or_assoc None p q = refl
-or_assoc (Some x) p q = refl
-
-pick_other : {A : Type 0} (n : ℕ) (x y : A) → (n ≡ 1 → ⊥) → pick n x y ≡ y
-pick_other zero x y h = refl
-pick_other (suc zero) x y h = absurd (h refl)
-pick_other (suc (suc n)) x y h = refl
 
 -- one word before others
 abbrev pub joined : Word → Option (List Word) → Option (List Word)
@@ -55,24 +44,16 @@ applied_word : (p : Primitive) (o : Option (List Word)) → ready_from (word_of 
 applied_word p None = refl
 applied_word p (Some vs) = refl
 
-pub back_word_is : (o : Option Word) → o ≡ word_of (ready_from o)
-back_word_is None = refl
-back_word_is (Some v) = refl
-
 back_word_from : (o : Option Word) → ready_from (word_of (ready_from o)) ≡ ready_from o
 back_word_from None = refl
 back_word_from (Some v) = refl
 
-loop_word : (h : ℕ) (o : Option (List Word)) → None ≡ word_of (loop_to h o)
-loop_word h None = refl
-loop_word h (Some vs) = refl
-
 pub notes_none : (A : List (Option (List Word))) (w : ℕ → Option (List Word)) → ((k : ℕ) → w k ≡ None) → Notes A A w
-notes_none A w h = record { each = λ k. sym (ap (or_else (get_or A k None)) (h k) ∙ or_none (get_or A k None)) }
+notes_none A w h = record { each = λ k. sym (ap (or_else (get_or A k None)) (h k) ∙ or_else_none (get_or A k None)) }
 
 -- one part, and then another
 pub notes_both : {A A1 A2 : List (Option (List Word))} {u v w : ℕ → Option (List Word)} → Notes A A1 u → Notes A1 A2 v → ((k : ℕ) → or_else (u k) (v k) ≡ w k) → Notes A A2 w
-notes_both {A} {A1} {A2} {u} {v} {w} f g h = record { each = λ k. g.each k ∙ (ap (λ o. or_else o (v k)) (f.each k) ∙ (or_assoc (get_or A k None) (u k) (v k) ∙ ap (or_else (get_or A k None)) (h k))) }
+notes_both {A} {A1} {A2} {u} {v} {w} f g h = record { each = λ k. g.each k ∙ (ap (λ o. or_else o (v k)) (f.each k) ∙ (or_else_assoc (get_or A k None) (u k) (v k) ∙ ap (or_else (get_or A k None)) (h k))) }
 
 pub notes_same : {A A1 : List (Option (List Word))} {u w : ℕ → Option (List Word)} → Notes A A1 u → ((k : ℕ) → u k ≡ w k) → Notes A A1 w
 notes_same {A} {A1} {u} {w} f h = record { each = λ k. f.each k ∙ ap (or_else (get_or A k None)) (h k) }
@@ -134,7 +115,7 @@ module _ (B : ℕ → Option Word) (E : List Word) where
 
     pub notes_if_not : {A A1 : List (Option (List Word))} → None ≡ word_of (answer B E c) → Notes A A1 (wanted B E c) → Notes A A1 (wanted B E (If c a b))
     unfolding wanted
-    notes_if_not e f = notes_same f (λ k. sym (ap (or_else (wanted B E c k)) (select_not (answer B E c) None (wanted B E a k) (wanted B E b k) e) ∙ or_none (wanted B E c k)))
+    notes_if_not e f = notes_same f (λ k. sym (ap (or_else (wanted B E c k)) (select_not (answer B E c) None (wanted B E a k) (wanted B E b k) e) ∙ or_else_none (wanted B E c k)))
 
   module _ (ts : Terms) where
     pub answer_let : (b : Term) (vs : List Word) → answers B E ts ≡ Some vs → answer B (E ++ vs) b ≡ answer B E (Let ts b)
@@ -152,7 +133,7 @@ module _ (B : ℕ → Option Word) (E : List Word) where
 
     pub notes_let_not : {A A1 : List (Option (List Word))} (b : Term) → answers B E ts ≡ None → Notes A A1 (wanted_in B E ts) → Notes A A1 (wanted B E (Let ts b))
     unfolding wanted
-    notes_let_not b e f = notes_same f (λ k. sym (ap (λ o. or_else (wanted_in B E ts k) (with_all o None (λ us. wanted B (E ++ us) b k))) e ∙ or_none (wanted_in B E ts k)))
+    notes_let_not b e f = notes_same f (λ k. sym (ap (λ o. or_else (wanted_in B E ts k) (with_all o None (λ us. wanted B (E ++ us) b k))) e ∙ or_else_none (wanted_in B E ts k)))
 
     pub answer_op : (p : Primitive) → apply_to p (answers B E ts) ≡ answer B E (Op p ts)
     unfolding answer
@@ -272,15 +253,6 @@ words_more F at n v true lt = ap Some (sym (ap (take (suc n)) (drop-set F at v l
 
 -- ---- a term by parts that are known under other names
 
-pub if_by : {t c a b d x y : Term} → t ≡ If c a b → d ≡ c → x ≡ a → y ≡ b → t ≡ If d x y
-if_by {t} {c} {a} {b} {d} {x} {y} e f g h = e ∙ (ap (λ z. If z a b) (sym f) ∙ (ap (λ z. If d z b) (sym g) ∙ ap (If d x) (sym h)))
-
-pub let_by : {t b d : Term} {ts us : Terms} → t ≡ Let ts b → us ≡ ts → d ≡ b → t ≡ Let us d
-let_by {t} {b} {d} {ts} {us} e f g = e ∙ (ap (λ z. Let z b) (sym f) ∙ ap (Let us) (sym g))
-
-pub op_by : {t : Term} {ts us : Terms} (p : Primitive) → t ≡ Op p ts → us ≡ ts → t ≡ Op p us
-op_by p e f = e ∙ ap (Op p) (sym f)
-
 pub call_by : {t : Term} {ts us : Terms} (f k : ℕ) → t ≡ Call f k ts → us ≡ ts → t ≡ Call f k us
 call_by f k e g = e ∙ ap (Call f k) (sym g)
 
@@ -295,7 +267,7 @@ notes_in_as B E {A} {A1} {t} {u} e h = subst (λ x. Notes A A1 (wanted_in B E x)
 
 pub forest_nodes : (ts : List declared.Term) → length ts ≤ nodes_in (shown_terms ts)
 forest_nodes [] = omega arith
-forest_nodes (t ∷ ts) = omega (arith, some_node (shown_term t), forest_nodes ts)
+forest_nodes (t ∷ ts) = omega (arith, some_nodes (shown_term t), forest_nodes ts)
 
 -- the word of a slot
 pub slot_is : (F : List Word) (n i : ℕ) (v : Word) → i < length (take n F) → v ≡ get_or F i v → v ≡ slot (take n F) i

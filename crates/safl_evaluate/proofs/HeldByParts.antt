@@ -1,12 +1,14 @@
 -- What is kept of a term, by its parts.
-use Rattle.std.proofs.Common.{◌≡◌, ℕ, zero, suc, ◌+◌, ◌<◌, ◌≤◌, ◌⊎◌, List, ◌++◌, Option, Some, None, true, cond, eqb, is_some, get_or, inl, inr, refl, sym, ap, ◌∙◌, subst, ⊎_elim, arith}
-use Rattle.std.proofs.lemmas.Bool.{cases_eq, eq-eqb, ne_eqb, false≢true}
+use Rattle.std.proofs.Common.{◌≡◌, ℕ, zero, suc, ◌+◌, ◌<◌, ◌≤◌, ◌⊎◌, List, ◌++◌, Option, Some, None, cond, eqb, is_some, get_or, inl, inr, refl, sym, ap, ◌∙◌, subst, ⊎_elim, arith}
+use Rattle.std.proofs.lemmas.Bool.{cases_eq, eq-eqb, ne_eqb}
 use Rattle.safl_word.specs.Words.{Word, pick}
+use Rattle.safl_word.proofs.Words.{pick_other}
 use Rattle.safl_term.specs.Readiness.{Answer, Ready, LoopTo, NotYet, answer, answers, wanted, wanted_in, word_of, or_else, select, with_all}
 use Rattle.safl_term.specs.Sizes.{nodes, nodes_in}
 use Rattle.safl_term.specs.Standing.{Stands, StandsIn}
 use Rattle.safl_term.specs.Terms.{Term, Const, Var, Op, If, Let, Call, Loop, Terms, Nil, Cons}
 use Rattle.safl_term.proofs.Once.{Once, OnceIn}
+use Rattle.safl_term.proofs.OrElse.{with_none}
 use Rattle.safl_calls.proofs.Basics.{some_none}
 use Rattle.safl_calls.proofs.Locality.{answer_local, all_local}
 use Rattle.safl_evaluate.specs.declared.kept.Kept.{Kept}
@@ -152,11 +154,6 @@ holds_local B B1 E A W p t h b = (cell_local B B1 E t (cell W p) h.0 b, below_lo
 
 -- ---- what is wanted is what was asked for
 
-ready_word : (q : Answer) → is_some (word_of q) ≡ true → (v : Word) × (q ≡ Ready v)
-ready_word (Ready v) e = (v, refl)
-ready_word (LoopTo h vs) e = absurd (false≢true e)
-ready_word NotYet e = absurd (false≢true e)
-
 pub first_or_not : (q : Answer) → SelectsFirst q ⊎ (SelectsFirst q → ⊥)
 first_or_not (Ready v) = ⊎_elim (λ e. inl (v, refl, e)) (λ ne. inr (λ s. ne (ap (λ (o : Option Word). bits_of o) (ap word_of s.1) ∙ s.2))) (cases_eq v.bits 1)
   where
@@ -175,16 +172,11 @@ second_or_not (Ready v) = ⊎_elim (λ e. inr (λ s. s.2 (ap (λ (o : Option Wor
 second_or_not (LoopTo h vs) = inr (λ s. some_none s.0 (sym (ap word_of s.1)))
 second_or_not NotYet = inr (λ s. some_none s.0 (sym (ap word_of s.1)))
 
-pick_off : {A : Type 0} (n : ℕ) (x y : A) → (n ≡ 1 → ⊥) → pick n x y ≡ y
-pick_off zero x y h = refl
-pick_off (suc zero) x y h = absurd (h refl)
-pick_off (suc (suc n)) x y h = refl
-
 select_first : {A : Type 0} (q : Answer) (none a b : A) → SelectsFirst q → select q none a b ≡ a
 select_first q none a b s = ap (λ z. select z none a b) s.1 ∙ ap (λ n. pick n a b) s.2
 
 select_second : {A : Type 0} (q : Answer) (none a b : A) → SelectsSecond q → select q none a b ≡ b
-select_second q none a b s = ap (λ z. select z none a b) s.1 ∙ pick_off s.0.bits a b s.2
+select_second q none a b s = ap (λ z. select z none a b) s.1 ∙ pick_other s.0.bits a b s.2
 
 select_same : {A : Type 0} (q : Answer) (x : A) → select q x x x ≡ x
 select_same (Ready v) x = by v.bits
@@ -209,12 +201,8 @@ by_bound : (B : ℕ → Option Word) (E : List Word) (A : Asks) (bs : Terms) (x 
 by_bound B E A bs x k some none None e = none e ∙ sym (ap (λ o. with_all o None (λ vs. wanted B (E ++ vs) x k)) e)
 by_bound B E A bs x k some none (Some vs) e = some vs e ∙ sym (ap (λ o. with_all o None (λ us. wanted B (E ++ us) x k)) e)
 
-none_with : (o : Option (List Word)) (g : List Word → Option (List Word)) → ((vs : List Word) → g vs ≡ None) → with_all o None g ≡ None
-none_with None g h = refl
-none_with (Some vs) g h = h vs
-
 rest_first : (q : Answer) (x y : Option (List Word)) → (SelectsFirst q → ⊥) → y ≡ None → select q None x y ≡ None
-rest_first (Ready v) x y s e = ⊎_elim (λ one. absurd (s (v, refl, one))) (λ ne. pick_off v.bits x y ne ∙ e) (cases_eq v.bits 1)
+rest_first (Ready v) x y s e = ⊎_elim (λ one. absurd (s (v, refl, one))) (λ ne. pick_other v.bits x y ne ∙ e) (cases_eq v.bits 1)
 rest_first (LoopTo h vs) x y s e = refl
 rest_first NotYet x y s e = refl
 
@@ -251,7 +239,7 @@ mutual
       st
   asked_held B E A W p (Let bs x) once g k st = let h = g (stands_not_body k (Let bs x) st) in ⊎_elim
       (λ s. asked_in_held B E A W (p + 1 + nodes x) bs once.0 h.0 k s ∙ sym
-      (or_left (wanted_in B E bs k) _ (none_with (answers B E bs) (λ vs. wanted B (E ++ vs) x k) (λ vs. not_wanted B (E ++ vs) x k (λ z. once.2 k s z)))))
+      (or_left (wanted_in B E bs k) _ (with_none (answers B E bs) (λ vs. wanted B (E ++ vs) x k) (λ vs. not_wanted B (E ++ vs) x k (λ z. once.2 k s z)))))
       (λ s. by_bound B E A bs x k (λ vs e. asked_held B (E ++ vs) A W (p + 1) x once.1 (h.1 vs e).1 k s) (λ e. (h.2 e).none k s) (answers B E bs) refl
       ∙ sym (or_right _ _ (not_wanted_in B E bs k (λ z. once.2 k z s))))
       st

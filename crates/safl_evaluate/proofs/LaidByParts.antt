@@ -6,14 +6,14 @@ use Rattle.safl_word.specs.declared.primitive.Primitive.{Primitive}
 use Rattle.safl_term.specs.Sizes.{nodes, nodes_in}
 use Rattle.safl_term.specs.Standing.{Stands, StandsIn}
 use Rattle.safl_term.specs.Terms.{Term, Const, Var, Op, If, Let, Call, Loop, Terms, Nil, Cons}
-use Rattle.safl_sites.proofs.NodesOfTerms.{some_node}
+use Rattle.safl_term.proofs.PlainTerms.{some_nodes}
 use Rattle.safl_evaluate.specs.declared.places.Place.{Place}
 use Rattle.safl_evaluate.specs.Laying.{nowhere, place, IsPlace, IsRoom, Laid, LaidIn, LaidBelow, SameOutside, Covers}
 
 -- ---- the same places
 
 own_frame : (P P1 : List Place) (p : ℕ) (t : Term) → IsPlace (place P p) p t → ((q : ℕ) → p ≤ q → q < p + nodes t → place P1 q ≡ place P q) → IsPlace (place P1 p) p t
-own_frame P P1 p t h c = subst (λ (x : Place). IsPlace x p t) (sym (c p (omega arith) (omega (arith, some_node t)))) h
+own_frame P P1 p t h c = subst (λ (x : Place). IsPlace x p t) (sym (c p (omega arith) (omega (arith, some_nodes t)))) h
 
 mutual
   unfolding LaidBelow

@@ -3,6 +3,7 @@ use Rattle.std.proofs.Common.{◌≡◌, ℕ, ◌+◌, ◌<◌, ◌≤◌, ◌�
 use Rattle.std.proofs.Common.{slice_set, inl, inr, refl, sym, ap, ◌∙◌, subst, arith}
 use Rattle.std.proofs.lemmas.Bool.{false≢true}
 use Rattle.std.proofs.lemmas.List.{get_or-set_other}
+use Rattle.std.proofs.lemmas.Option.{same_Some}
 use Rattle.safl_word.specs.Words.{Word}
 use Rattle.safl_word.specs.declared.primitive.Primitive.{Primitive}
 use Rattle.safl_term.specs.Readiness.{Answer, Ready, LoopTo, NotYet, answer, answers, word_of}
@@ -10,8 +11,10 @@ use Rattle.safl_term.specs.Sizes.{nodes, nodes_in}
 use Rattle.safl_term.specs.Standing.{Stands, StandsIn}
 use Rattle.safl_term.specs.Terms.{Term, Op, If, Let, Call, Loop, Terms, Cons}
 use Rattle.safl_term.proofs.Once.{Once, OnceIn}
+use Rattle.safl_term.proofs.PlainTerms.{ready_word, some_nodes}
+use Rattle.safl_term.proofs.Apart.{ready_not_yet}
+use Rattle.safl_term.proofs.Widths.{ready_is}
 use Rattle.safl_calls.proofs.Basics.{some_none}
-use Rattle.safl_sites.proofs.NodesOfTerms.{some_node}
 use Rattle.safl_calls.proofs.Bodies.{answer_grows, all_grows}
 use Rattle.safl_evaluate.specs.declared.kept.Kept as code
 use Rattle.safl_evaluate.specs.declared.kept.Kept.{Kept}
@@ -73,22 +76,8 @@ below_in_same B E A A1 W p ts h a = below_in_frame B E A A1 W W p ts h (λ q x y
 
 -- ---- before site k returned
 
-ready_yet : (v : Word) → Ready v ≡ NotYet → ⊥
-ready_yet v e = grind arith
-
-same_ready : (v w : Word) → Ready v ≡ Ready w → v ≡ w
-same_ready v w e = cc
-
-ready_word : (q : Answer) → is_some (word_of q) ≡ true → (v : Word) × (q ≡ Ready v)
-ready_word (Ready v) e = (v, refl)
-ready_word (LoopTo h vs) e = absurd (false≢true e)
-ready_word NotYet e = absurd (false≢true e)
-
 pub found_ready : (q : Answer) (v : Word) → Some v ≡ word_of q → q ≡ Ready v
-found_ready (Ready w) v e = ap Ready (sym (same_some v w e))
-  where
-    same_some : (x y : Word) → Some x ≡ Some y → x ≡ y
-    same_some x y e = cc
+found_ready (Ready w) v e = ap Ready (sym (same_Some v w e))
 found_ready (LoopTo h vs) v e = absurd (some_none v e)
 found_ready NotYet v e = absurd (some_none v e)
 
@@ -101,7 +90,7 @@ earlier B k j v e = by (eqb k j) e
 
 module _ (B : ℕ → Option Word) (E : List Word) (k : ℕ) where
   grown : (t : Term) (v : Word) → answer (without B k) E t ≡ Ready v → answer B E t ≡ Ready v
-  grown t v e = answer_grows (without B k) B E t (λ j w st q. earlier B k j w q) (Ready v) e (ready_yet v)
+  grown t v e = answer_grows (without B k) B E t (λ j w st q. earlier B k j w q) (Ready v) e (ready_not_yet v)
 
   pub grown_all : (ts : Terms) (vs : List Word) → answers (without B k) E ts ≡ Some vs → answers B E ts ≡ Some vs
   grown_all ts vs e = all_grows (without B k) B E ts (λ j w st q. earlier B k j w q) vs e
@@ -114,13 +103,13 @@ module _ (B : ℕ → Option Word) (E : List Word) (k : ℕ) where
 
   -- what was ready selected the same
   was_first : (c : Term) → SelectsFirst (answer B E c) → is_some (word_of (answer (without B k) E c)) ≡ true → SelectsFirst (answer (without B k) E c)
-  was_first c s e = let r = ready_word _ e in (r.0, r.1, ap (λ w. w.bits) (same_ready r.0 s.0 (sym (grown c r.0 r.1) ∙ s.1)) ∙ s.2)
+  was_first c s e = let r = ready_word _ e in (r.0, r.1, ap (λ w. w.bits) (ready_is r.0 s.0 (sym (grown c r.0 r.1) ∙ s.1)) ∙ s.2)
 
   was_second : (c : Term) → SelectsSecond (answer B E c) → is_some (word_of (answer (without B k) E c)) ≡ true → SelectsSecond (answer (without B k) E c)
-  was_second c s e = let r = ready_word _ e in (r.0, r.1, λ one. s.2 (ap (λ w. w.bits) (sym (same_ready r.0 s.0 (sym (grown c r.0 r.1) ∙ s.1))) ∙ one))
+  was_second c s e = let r = ready_word _ e in (r.0, r.1, λ one. s.2 (ap (λ w. w.bits) (sym (ready_is r.0 s.0 (sym (grown c r.0 r.1) ∙ s.1))) ∙ one))
 
 pub either_branch : (q : Answer) → SelectsFirst q → SelectsSecond q → ⊥
-either_branch q a b = b.2 (ap (λ w. w.bits) (sym (same_ready a.0 b.0 (sym a.1 ∙ b.1))) ∙ a.2)
+either_branch q a b = b.2 (ap (λ w. w.bits) (sym (ready_is a.0 b.0 (sym a.1 ∙ b.1))) ∙ a.2)
 
 pub none_first : (q : Answer) → None ≡ word_of q → SelectsFirst q → ⊥
 none_first q e s = some_none s.0 (sym (e ∙ ap word_of s.1))
@@ -381,10 +370,10 @@ module _ {S : List Stage} {P : List Place} {A : Asks} {F : List Word} {W : List 
 
   -- a branch and a body have places
   pub branch_place : {c a b : Term} → MayLook S P A F W n p news (If c a b) → p + 1 + nodes c < length P
-  branch_place {c} {a} {b} h = omega (arith, h.places, some_node a)
+  branch_place {c} {a} {b} h = omega (arith, h.places, some_nodes a)
 
   pub body_place : {ts : Terms} {b : Term} → MayLook S P A F W n p news (Let ts b) → p + 1 < length P
-  body_place {ts} {b} h = omega (arith, h.places, some_node b)
+  body_place {ts} {b} h = omega (arith, h.places, some_nodes b)
 
   -- the place after the condition, after the first branch, after a let's body, and after the first of several terms
   pub after_condition : {c a b : Term} → MayLook S P A F W n p news (If c a b) → (place P (p + 1)).next ≡ p + 1 + nodes c

@@ -3,6 +3,7 @@ use Rattle.std.proofs.Common.{◌≡◌, ℕ, ◌+◌, ◌<◌, ◌≤◌, List,
 use Rattle.std.proofs.Common.{slice_set, inl, inr, refl, sym, ap, ◌∙◌, subst, arith}
 use Rattle.std.proofs.lemmas.Bool.{ne_eqb, false≢true}
 use Rattle.std.proofs.lemmas.List.{get_or-set_other, get_or-set_same}
+use Rattle.std.proofs.lemmas.Option.{same_Some}
 use Rattle.safl_word.specs.Words.{Word}
 use Rattle.safl_word.specs.declared.primitive.Primitive.{Primitive}
 use Rattle.safl_term.specs.Readiness.{Answer, Ready, LoopTo, NotYet, answer, answers, word_of, apply_to, select, with_all}
@@ -10,6 +11,7 @@ use Rattle.safl_term.specs.Sizes.{nodes, nodes_in}
 use Rattle.safl_term.specs.Standing.{Stands, StandsIn}
 use Rattle.safl_term.specs.Terms.{Term, Const, Var, Op, If, Let, Call, Loop, Terms, Nil, Cons}
 use Rattle.safl_term.proofs.Once.{Once, OnceIn}
+use Rattle.safl_term.proofs.PlainTerms.{shown_call}
 use Rattle.safl_calls.proofs.Basics.{some_none}
 use Rattle.safl_evaluate.specs.declared.kept.Kept as code
 use Rattle.safl_evaluate.specs.declared.kept.Kept.{Kept}
@@ -120,7 +122,7 @@ held_word B E (Var i) x le h = absurd (omega (arith, le))
 held_word B E (Op o ts) x le h = h
 held_word B E (If d u v) x le h = h.0
 held_word B E (Let ts u) x le h = h.0
-held_word B E (Call f j ts) x le h = h ∙ (step.back_word_is (B j) ∙ ap word_of (step.answer_call B E ts f j))
+held_word B E (Call f j ts) x le h = h ∙ (shown_call (B j) ∙ ap word_of (step.answer_call B E ts f j))
 held_word B E (Loop m ts) x le h = h ∙ step.word_loop B E ts m
 
 pub finds_still : {S : List Stage} {A : Asks} {F : List Word} {W : List Kept} {n p : ℕ} {t : Term} {news : Option ℕ} (k : ℕ) → news ≡ Some k → Stood
@@ -316,14 +318,11 @@ module _ {S : List Stage} {P : List Place} {A A1 A2 : Asks} {F G : List Word} {W
         own = (word, opened_open o ∙ sym (ap is_some fs.words));
         below = λ calls. (
           below_in_still only B E _ _ fs.holds (inr (omega arith)) (λ k x y. apart.2 k x y),
-          λ us g. subst (λ l. Holds B (E ++ l) A2 W2 (p + 1) b) (same vs us (sym fs.words ∙ g)) holds,
+          λ us g. subst (λ l. Holds B (E ++ l) A2 W2 (p + 1) b) (same_Some vs us (sym fs.words ∙ g)) holds,
           λ g. absurd (some_none vs (sym fs.words ∙ g)),
         );
         only = only_both (only_more fs.only (omega arith) (omega arith) (λ k z. inl z)) (only_more only (omega arith) (omega arith) (λ k z. inr z));
       }
-    where
-      same : (x y : List Word) → Some x ≡ Some y → x ≡ y
-      same x y e = cc
 
 module _ {S : List Stage} {P : List Place} {A A1 : Asks} {F : List Word} {W W1 : List Kept} {n p : ℕ} {news : Option ℕ} where
   pub looks_shut : {c a b : Term} → MayLook S P A F W n p news (If c a b) → Finds S A A1 F W W1 n (p + 1) c None → Looks S A A1 F W W1 n p (If c a b) code.TheVariants.Shut
@@ -374,7 +373,7 @@ module _ {S : List Stage} {P : List Place} {A A1 : Asks} {F : List Word} {W W1 :
       let apart = once (Call f j ts) h.can in
       let off : (k : ℕ) → (k ≡ j → ⊥) → get_or A2 k None ≡ get_or A1 k None = λ k ne. ap (λ (l : Asks). get_or l k None) e ∙ get_or-set_other A1 j k o None ne in
       record {
-        word = back ∙ (step.back_word_is (B j) ∙ ap word_of (step.answer_call B E ts f j));
+        word = back ∙ (shown_call (B j) ∙ ap word_of (step.answer_call B E ts f j));
         own = back;
         below = (
           ap (λ (l : Asks). get_or l j None) e ∙ (get_or-set_same A1 j o None lt ∙ (q ∙ sym fs.words)),
@@ -395,7 +394,7 @@ module _ {S : List Stage} {P : List Place} {A A1 : Asks} {F : List Word} {W W1 :
       let E = take n F in
       let apart = once (Call f j ts) h.can in
       record {
-        word = back ∙ (step.back_word_is (B j) ∙ ap word_of (step.answer_call B E ts f j));
+        word = back ∙ (shown_call (B j) ∙ ap word_of (step.answer_call B E ts f j));
         own = back;
         below = (fs.only.asks j apart.1 ∙ (part.unasked_call_site B E A W p news f j ts h.stood (λ vs g. some_none vs (sym g ∙ fs.words)) ∙ sym fs.words), fs.holds);
         only = only_more fs.only (omega arith) (omega arith) (λ k z. inr z);

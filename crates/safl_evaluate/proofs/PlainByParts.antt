@@ -5,10 +5,11 @@ use Rattle.std.proofs.lemmas.List.{drop-set}
 use Rattle.safl_word.specs.Words.{Word, slot}
 use Rattle.safl_word.specs.Primitives.{apply_prim}
 use Rattle.safl_word.specs.declared.primitive.Primitive.{Primitive}
-use Rattle.safl_term.specs.Readiness.{Answer, Ready, LoopTo, NotYet, apply_to, word_of}
+use Rattle.safl_term.specs.Readiness.{Answer, Ready, LoopTo, apply_to, word_of}
 use Rattle.safl_term.specs.Sizes.{nodes}
 use Rattle.safl_term.specs.Standing.{Stands, StandsIn}
 use Rattle.safl_term.specs.Terms.{Term, Const, Var, Op, If, Let, Call, Loop, Terms, Nil, Cons}
+use Rattle.safl_term.proofs.Apart.{loop_not_yet, ready_not_yet}
 use Rattle.safl_calls.proofs.Basics.{some_none}
 use Rattle.safl_evaluate.specs.Keeping.{IsAnew}
 use Rattle.safl_evaluate.specs.Plain.{plain_term, plain_terms, plain_body, ComesTo, ComeTo, ConcludesIn, CanCompute, CanComputeAll, CanConclude}
@@ -280,23 +281,17 @@ module _ {E : List Word} where
 
 -- ---- what plain bodies come to
 
-ready_yet : (v : Word) → Ready v ≡ NotYet → ⊥
-ready_yet v e = grind arith
-
-loop_yet : (m : ℕ) (vs : List Word) → LoopTo m vs ≡ NotYet → ⊥
-loop_yet m vs e = grind arith
-
 pub concludes_is : {E G : List Word} {t u : Term} {q : Answer} → E ≡ G → t ≡ u → ConcludesIn G u q → ConcludesIn E t q
 concludes_is e f h = record { answer_is = λ B. step.answer_is B e f ∙ h.answer_is B; settled = h.settled }
 
 module _ {E : List Word} where
   pub concludes_word : {t : Term} {v : Word} {q : Answer} → ComesTo E t v → q ≡ Ready v → ConcludesIn E t q
-  concludes_word {t} {v} {q} h e = record { answer_is = λ B. h.word B ∙ sym e; settled = λ z. ready_yet v (sym e ∙ z) }
+  concludes_word {t} {v} {q} h e = record { answer_is = λ B. h.word B ∙ sym e; settled = λ z. ready_not_yet v (sym e ∙ z) }
 
   pub concludes_loop : {m : ℕ} {ts : Terms} {vs : List Word} {q : Answer} → ComeTo E ts vs → q ≡ LoopTo m vs → ConcludesIn E (Loop m ts) q
   concludes_loop {m} {ts} {vs} {q} hs e = record {
     answer_is = λ B. sym (step.answer_loop B E ts m vs (hs.words B)) ∙ sym e;
-    settled = λ z. loop_yet m vs (sym e ∙ z);
+    settled = λ z. loop_not_yet m vs (sym e ∙ z);
   }
 
   pub concludes_then : {c a b : Term} {v : Word} {q : Answer} → ComesTo E c v → v.bits ≡ 1 → ConcludesIn E a q → ConcludesIn E (If c a b) q

@@ -1,24 +1,26 @@
 -- What may be evaluated, by the parts of a term.
-use Rattle.std.proofs.Common.{◌≡◌, ℕ, zero, suc, ◌<◌, ◌≤◌, List, [], ◌∷◌, ◌++◌, length, Option, Some, None, false, is_some, get_or, inl, inr, refl, sym, ap, ◌∙◌, subst, arith}
-use Rattle.std.specs.Prelude.{slice_get, IsSome}
-use Rattle.safl_word.specs.Words.{Word}
+use Rattle.std.proofs.Common.{◌≡◌, ℕ, suc, ◌<◌, ◌≤◌, List, [], ◌∷◌, ◌++◌, length, Option, Some, None, false, is_some, get_or, inl, inr, refl, sym, ap, ◌∙◌, subst, arith}
+use Rattle.std.specs.Prelude.{IsSome}
+use Rattle.std.proofs.lemmas.Option.{slice_get_within}
+use Rattle.safl_word.specs.Words.{Word, widths}
 use Rattle.safl_word.specs.declared.primitive.Primitive.{Primitive}
 use Rattle.safl_word.specs.declared.primitive.Primitive.TheVariants.{Add, Sub, Mul, And, Or, Xor, Not, Eq, Ne, Lt, Le, Gt, Ge, Shl, Shr, Cat, Bits, Ext}
 use Rattle.safl_word.specs.Primitives.{result_width, one_width, two_widths}
 use Rattle.safl_term.specs.Program.{Program}
-use Rattle.safl_term.specs.Readiness.{answers, wanted, wanted_in, or_else}
+use Rattle.safl_term.specs.Readiness.{answers, wanted, wanted_in}
 use Rattle.safl_term.specs.Standing.{Stands, StandsIn}
-use Rattle.safl_term.specs.Terms.{Term, Var, If, Let, Op, Call, Loop, Terms, Nil, Cons}
+use Rattle.safl_term.specs.Terms.{Term, Var, If, Let, Op, Call, Loop, Terms, Cons}
 use Rattle.safl_term.specs.WellFormed.{HasWidth, HaveWidths}
-use Rattle.safl_term.proofs.Order.{once_of, once_all}
+use Rattle.safl_term.proofs.Order.{once_of, once_all, counts_as}
 use Rattle.safl_term.proofs.Once.{Once, OnceIn, count}
 use Rattle.safl_term.proofs.Places.{fits_le, fits_all_le}
 use Rattle.safl_term.proofs.Widths.{answers_widths, widths_append}
+use Rattle.safl_term.proofs.OrElse.{neither}
 use Rattle.safl_calls.proofs.Bodies.{wanted_stands, wanted_stands_in}
 use Rattle.safl_calls.proofs.Basics.{some_none}
 use Rattle.safl_evaluate.specs.declared.stage.Stage.{Stage}
 use Rattle.safl_evaluate.specs.Stages.{back_at}
-use Rattle.safl_evaluate.specs.Evaluating.{CanRun, CanRunAll, Unasked, UnaskedIn, Notes, widths}
+use Rattle.safl_evaluate.specs.Evaluating.{CanRun, CanRunAll, Unasked, UnaskedIn, Notes}
 
 pub can_is : {S : List Stage} {n m : ℕ} {E F : List Word} {t u : Term} → n ≡ m → E ≡ F → t ≡ u → CanRun S n E t → CanRun S m F u
 can_is {S} {n} {m} {E} {F} {t} {u} e f g h =
@@ -32,13 +34,7 @@ cons_widths : (C : Program) (slots : List ℕ) (t : Term) (ts : Terms) (ws : Lis
 cons_widths C slots t ts [] h = absurd h
 cons_widths C slots t ts (w ∷ ws) h = (w, ws, h.0, h.1)
 
-have_count : (C : Program) (slots : List ℕ) (ts : Terms) (ws : List ℕ) → HaveWidths C slots ts ws → count ts ≡ length ws
-have_count C slots Nil [] h = refl
-have_count C slots Nil (w ∷ ws) h = absurd h
-have_count C slots (Cons t ts) [] h = absurd h
-have_count C slots (Cons t ts) (w ∷ ws) h = ap suc (have_count C slots ts ws h.1)
-
-widths_len : (vs : List Word) → length (widths vs) ≡ length vs
+pub widths_len : (vs : List Word) → length (widths vs) ≡ length vs
 widths_len [] = refl
 widths_len (v ∷ vs) = ap suc (widths_len vs)
 
@@ -73,11 +69,6 @@ few_operands Shr ws w e = two_few _ ws w e
 few_operands Cat ws w e = two_few _ ws w e
 few_operands (Bits high low) ws w e = one_few _ ws w e
 few_operands (Ext n) ws w e = one_few _ ws w e
-
-slot_in : (ws : List ℕ) (i w : ℕ) → slice_get ws i ≡ Some w → i < length ws
-slot_in [] i w e = absurd (some_none w (sym e))
-slot_in (x ∷ xs) zero w e = omega arith
-slot_in (x ∷ xs) (suc i) w e = omega (arith, slot_in xs i w e)
 
 module _ {S : List Stage} {n : ℕ} {E : List Word} where
   pub can_condition : (c a b : Term) → CanRun S n E (If c a b) → CanRun S n E c
@@ -275,14 +266,14 @@ module _ {S : List Stage} {n : ℕ} {E : List Word} where
   pub op_few : (o : Primitive) (ts : Terms) → CanRun S n E (Op o ts) → (1 ≤ count ts) × (count ts ≤ 2)
   op_few o ts h =
       let few = few_operands o h.fits.0 h.width h.fits.2 in
-      let long = have_count h.program (widths E) ts h.fits.0 h.fits.1 in
+      let long = counts_as h.program (widths E) ts h.fits.0 h.fits.1 in
       (omega (arith, few.0, long), omega (arith, few.1, long))
 
   pub call_few : (f k : ℕ) (ts : Terms) → CanRun S n E (Call f k ts) → count ts ≤ 16
-  call_few f k ts h = omega (arith, have_count h.program (widths E) ts (h.program.params f) h.fits.0, h.few f)
+  call_few f k ts h = omega (arith, counts_as h.program (widths E) ts (h.program.params f) h.fits.0, h.few f)
 
   pub loop_few : (m : ℕ) (ts : Terms) → CanRun S n E (Loop m ts) → count ts ≤ 16
-  loop_few m ts h = omega (arith, have_count h.program (widths E) ts (h.program.params m) h.fits.0, h.few m)
+  loop_few m ts h = omega (arith, counts_as h.program (widths E) ts (h.program.params m) h.fits.0, h.few m)
 
   pub call_first : (f k : ℕ) (ts : Terms) → CanRun S n E (Call f k ts) → 1 ≤ k
   call_first f k ts h = omega (arith, h.spans.0, h.first)
@@ -291,7 +282,7 @@ module _ {S : List Stage} {n : ℕ} {E : List Word} where
   call_place f k ts h = omega (arith, h.spans.0, h.within, fits_all_le h.program h.caller (suc h.low) h.high ts h.spans.4)
 
   pub var_place : (i : ℕ) → CanRun S n E (Var i) → i < length E
-  var_place i h = omega (arith, slot_in (widths E) i h.width h.fits, widths_len E)
+  var_place i h = omega (arith, slice_get_within (widths E) i h.width h.fits, widths_len E)
 
   pub once : (t : Term) → CanRun S n E t → Once t
   once t h = once_of h.program h.caller h.tail h.low h.high t h.spans
@@ -316,12 +307,9 @@ not_wanted_in B E ts k apart = by (wanted_in B E ts k) refl
     by None e = refl
     by (Some ws) e = absurd (apart (wanted_stands_in B E ts k (ap is_some e)))
 
-or_none : {A : Type 0} (o p : Option A) → o ≡ None → p ≡ None → or_else o p ≡ None
-or_none o p e f = ap (λ x. or_else x p) e ∙ f
-
 -- after one part was looked at, another one is still not asked for
 still : {A A1 : List (Option (List Word))} {w : ℕ → Option (List Word)} (k : ℕ) → get_or A k None ≡ None → Notes A A1 w → w k ≡ None → get_or A1 k None ≡ None
-still k none notes off = notes.each k ∙ or_none _ _ none off
+still k none notes off = notes.each k ∙ neither _ _ none off
 
 module _ {S : List Stage} {n : ℕ} {E : List Word} {A : List (Option (List Word))} where
   pub unasked_then : {A1 : List (Option (List Word))} (c a b : Term) → CanRun S n E (If c a b) → Unasked A (If c a b) → Notes A A1 (wanted (back_at S) E c) → Unasked A1 a

@@ -1,6 +1,6 @@
 -- What partial evaluation finds and keeps.
-use Rattle.std.specs.Prelude.{◌≡◌, ◌+◌, ℕ, ◌≤◌, List, length, take, Option, Some, None, Bool, get_or, map}
-use Rattle.safl_word.specs.Words.{Word}
+use Rattle.std.specs.Prelude.{◌≡◌, ◌+◌, ℕ, ◌≤◌, List, length, take, Option, Some, None, Bool, get_or}
+use Rattle.safl_word.specs.Words.{Word, widths}
 use Rattle.safl_term.specs.Program.{Program, arity}
 use Rattle.safl_term.specs.Readiness.{or_else}
 use Rattle.safl_term.specs.Sizes.{nodes}
@@ -9,9 +9,6 @@ use Rattle.safl_term.specs.Terms.{Term, Terms}
 use Rattle.safl_term.specs.WellFormed.{Spans, SpansAll, HasWidth, HaveWidths}
 use Rattle.safl_evaluate.specs.declared.stage.Stage.{Stage}
 use Rattle.safl_evaluate.specs.Stages.{back_at}
-
-abbrev pub widths : List Word → List ℕ
-widths vs = map (λ v. v.width) vs
 
 -- A part of a body of a well-formed program: its sites are those of the program, its slots hold these words, and each word that
 -- has come back has the width of the called function.

@@ -1,6 +1,7 @@
 -- Draws, one after another.
 use Rattle.std.proofs.Common.{◌≡◌, ℕ, ◌+◌, ◌*◌, ◌/◌, ◌%◌, ◌^◌, sym, ap, ◌∙◌, add-one, arith}
-use Rattle.safl_gen.specs.Draws.{number_after, nth_number, draw}
+use Rattle.safl_word.specs.Naturals.{number_after}
+use Rattle.safl_gen.specs.Draws.{nth_number, draw}
 use Rattle.safl_gen.specs.Source.{function_line, drawn_line}
 
 -- the number after that of a place, and what is drawn there

@@ -1,15 +1,8 @@
 -- How long a source is.
-use Rattle.std.proofs.Common.{ℕ, zero, suc, ◌+◌, ◌-◌, ◌*◌, ◌%◌, ◌^◌, ◌<◌, ◌≤◌, length, map, Bool, true, false, cond, nat_lt, arith, lit<, length-append}
+use Rattle.std.proofs.Common.{ℕ, zero, suc, ◌+◌, ◌-◌, ◌*◌, ◌%◌, ◌<◌, ◌≤◌, length, map, Bool, true, false, cond, nat_lt, arith, length-append}
 use Rattle.std.specs.List.{concat, range_with_len}
-use Rattle.std.specs.Fmt.{decimal}
-use Rattle.std.proofs.lemmas.Fmt.{length-decimal-le}
+use Rattle.safl_word.proofs.Naturals.{number_short}
 use Rattle.safl_gen.specs.Source.{Text, first_body, later_body, constant_of, first_function_of, body, function_line, drawn_line, source}
-
-number_short : (n : ℕ) → n < 1000 → length (decimal n) ≤ 3
-number_short n h =
-    let bound : n < 10 ^ 3 = omega (arith, h) in
-    let wide : 1000 < 2 ^ 64 = lit< tt in
-    length-decimal-le 3 n (lit< tt) bound (omega arith)
 
 first_short : (form i k : ℕ) → i < 1000 → k < 1000 → length (first_body form i k) ≤ 60
 first_short zero i k hi hk = let b = number_short k hk in simp length-append (omega arith)

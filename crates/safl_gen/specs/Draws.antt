@@ -1,8 +1,6 @@
 -- The numbers that follow from a seed, and what is drawn from them.
-use Rattle.std.specs.Prelude.{ℕ, zero, suc, ◌+◌, ◌*◌, ◌/◌, ◌%◌, ◌^◌}
-
-abbrev pub number_after : ℕ → ℕ
-number_after x = (x * 1103515245 + 12345) % 2 ^ 31
+use Rattle.std.specs.Prelude.{ℕ, zero, suc, ◌/◌, ◌%◌, ◌^◌}
+use Rattle.safl_word.specs.Naturals.{number_after}
 
 -- the sequence of numbers of a seed: first its remainder, then the number after the one before
 unfoldable pub nth_number : ℕ → ℕ → ℕ

@@ -1,7 +1,7 @@
 //! Pseudo-random draws from a seed.
 
 ghost use Rattle.std.specs.Prelude.{◌≡◌, ◌/◌, ◌<◌, ◌^◌};
-ghost use Rattle.safl_gen.specs.Draws.{number_after};
+ghost use Rattle.safl_word.specs.Naturals.{number_after};
 
 /// A sequence of draws: the number that the next draw follows from.
 #[derive(Drop)]
@@ -12,7 +12,7 @@ pub struct Draws {
 
 impl Draws {
     ghost use Rattle.std.specs.Prelude.{◌≡◌, ◌/◌, ◌%◌, ◌^◌};
-    ghost use Rattle.safl_gen.specs.Draws.{number_after};
+    ghost use Rattle.safl_word.specs.Naturals.{number_after};
 
     /// The draws that follow from a seed.
     pub fn new(seed: u64) -> Draws

@@ -1,36 +1,26 @@
 -- The meaning that is given a number of calls: what it leaves, its depth, and the widths of its words.
-use Rattle.std.proofs.Common.{◌≡◌, ℕ, zero, suc, ◌<◌, ◌≤◌, List, [], ◌∷◌, ◌++◌, Some, None, ◌⊎◌, inl, inr, ⊎_elim, refl, sym, ap, ◌∙◌, subst, arith}
+use Rattle.std.proofs.Common.{◌≡◌, ℕ, zero, suc, ◌<◌, ◌≤◌, List, [], ◌∷◌, ◌++◌, Some, ◌⊎◌, inl, inr, ⊎_elim, refl, sym, ap, ◌∙◌, subst, arith}
 use Rattle.std.specs.Prelude.{slice_get}
-use Rattle.safl_word.specs.Words.{Word, choose, pick, slot}
+use Rattle.safl_word.specs.Words.{Word, choose, pick, slot, widths}
 use Rattle.safl_word.specs.Primitives.{apply_prim, result_width}
 use Rattle.safl_word.proofs.Widths.{apply_width}
+use Rattle.safl_word.proofs.Options.{none_is}
 use Rattle.safl_term.specs.Fuel.{Outcome, Nothing, Gave, Outcomes, NoWords, Words, with_word, with_words, with_rest, with_head, Apply, eval, eval_all, apply}
 use Rattle.safl_term.specs.Program.{Program}
 use Rattle.safl_term.specs.Terms.{Term, Const, Var, If, Let, Op, Call, Loop, Terms, Nil, Cons}
 use Rattle.safl_term.specs.WellFormed.{HasWidth, HaveWidths, IsWellFormed}
 use Rattle.safl_term.proofs.Widths.{widths_append}
-use Rattle.safl_interpreter.specs.Interpreting.{widths, applied}
+use Rattle.safl_term.proofs.Fuelled.{no_words, nothing_word, same_word, same_words}
+use Rattle.safl_interpreter.specs.Interpreting.{applied}
 
 -- ---- what gave a word
 
-nothing_gave : {A : Type 0} (v : Word) (m : ℕ) → Nothing ≡ Gave v m → A
-nothing_gave v m e = cc
-
-no_words : {A : Type 0} (vs : List Word) (m : ℕ) → NoWords ≡ Words vs m → A
-no_words vs m e = cc
-
-same_gave : (v : Word) (m : ℕ) (w : Word) (k : ℕ) → Gave v m ≡ Gave w k → (v ≡ w) × (m ≡ k)
-same_gave v m w k e = (cc, cc)
-
-same_words : (vs ws : List Word) (m k : ℕ) → Words vs m ≡ Words ws k → (vs ≡ ws) × (m ≡ k)
-same_words vs ws m k e = (cc, cc)
-
 word_from : (x : Outcome) (go : Word → ℕ → Outcome) (v : Word) (m : ℕ) → with_word x go ≡ Gave v m → (u : Word) × (k : ℕ) × (x ≡ Gave u k) × (go u k ≡ Gave v m)
-word_from Nothing go v m e = nothing_gave v m e
+word_from Nothing go v m e = nothing_word v m e
 word_from (Gave u k) go v m e = (u, k, refl, e)
 
 words_from : (x : Outcomes) (go : List Word → ℕ → Outcome) (v : Word) (m : ℕ) → with_words x go ≡ Gave v m → (us : List Word) × (k : ℕ) × (x ≡ Words us k) × (go us k ≡ Gave v m)
-words_from NoWords go v m e = nothing_gave v m e
+words_from NoWords go v m e = nothing_word v m e
 words_from (Words us k) go v m e = (us, k, refl, e)
 
 rest_from : (x : Outcomes) (u : Word) (vs : List Word) (m : ℕ) → with_rest x u ≡ Words vs m → (us : List Word) × (x ≡ Words us m) × (u ∷ us ≡ vs)
@@ -71,8 +61,8 @@ Saves go = (n f : ℕ) (us : List Word) (v : Word) (m : ℕ) → go n f us ≡ G
 module _ (C : Program) (go : Apply) (saves : Saves go) where
   mutual
     eval_saves : (t : Term) (n : ℕ) (env : List Word) (v : Word) (m : ℕ) → eval C go t n env ≡ Gave v m → m ≤ n
-    eval_saves (Const w) n env v m e = let q = same_gave w n v m e in omega (arith, q.1)
-    eval_saves (Var i) n env v m e = let q = same_gave (slot env i) n v m e in omega (arith, q.1)
+    eval_saves (Const w) n env v m e = let q = same_word w n v m e in omega (arith, q.1)
+    eval_saves (Var i) n env v m e = let q = same_word (slot env i) n v m e in omega (arith, q.1)
     eval_saves (If c a b) n env v m e =
         let p = word_from (eval C go c n env) (λ u k. choose u (eval C go a k env) (eval C go b k env)) v m e in
         let first = eval_saves c n env p.0 p.1 p.2 in
@@ -86,7 +76,7 @@ module _ (C : Program) (go : Apply) (saves : Saves go) where
     eval_saves (Op o ts) n env v m e =
         let p = words_from (eval_all C go ts n env) (λ vs k. Gave (apply_prim o vs) k) v m e in
         let first = all_save ts n env p.0 p.1 p.2 in
-        let q = same_gave (apply_prim o p.0) p.1 v m p.3 in
+        let q = same_word (apply_prim o p.0) p.1 v m p.3 in
         omega (arith, first, q.1)
     eval_saves (Call f k ts) n env v m e =
         let p = words_from (eval_all C go ts n env) (λ us k. go k f us) v m e in
@@ -108,8 +98,8 @@ module _ (C : Program) (go : Apply) (saves : Saves go) where
         omega (arith, first, second)
 
 apply_saves : (C : Program) (d : ℕ) → Saves (apply C d)
-apply_saves C zero n f us v m e = nothing_gave v m e
-apply_saves C (suc d) zero f us v m e = nothing_gave v m e
+apply_saves C zero n f us v m e = nothing_word v m e
+apply_saves C (suc d) zero f us v m e = nothing_word v m e
 apply_saves C (suc d) (suc n) f us v m e =
     let h = eval_saves C (apply C d) (apply_saves C d) (C.body f) n us v m e in
     omega (arith, h)
@@ -179,19 +169,16 @@ one_call C n f us = eval_same C (applied C) (apply C n) (applied_saves C) (C.bod
 abbrev Typed : Program → Apply → Type 0
 Typed C go = (n f : ℕ) (us : List Word) (v : Word) (m : ℕ) → f < C.functions → widths us ≡ C.params f → go n f us ≡ Gave v m → v.width ≡ C.result f
 
-none_some : {A : Type 0} (n : ℕ) → None ≡ Some n → A
-none_some n e = cc
-
 slot_width : (env : List Word) (i n : ℕ) → slice_get (widths env) i ≡ Some n → (slot env i).width ≡ n
-slot_width [] i n e = none_some n e
+slot_width [] i n e = none_is n e
 slot_width (v ∷ env) zero n e = let q : v.width ≡ n = cc in q
 slot_width (v ∷ env) (suc i) n e = slot_width env i n e
 
 module _ (C : Program) (go : Apply) (typed : Typed C go) where
   mutual
     eval_typed : (t : Term) (n : ℕ) (env : List Word) (v : Word) (m w : ℕ) → HasWidth C (widths env) t w → eval C go t n env ≡ Gave v m → v.width ≡ w
-    eval_typed (Const u) n env v m w h e = ap (λ (x : Word). x.width) (sym (same_gave u n v m e).0) ∙ h.1
-    eval_typed (Var i) n env v m w h e = ap (λ (x : Word). x.width) (sym (same_gave (slot env i) n v m e).0) ∙ slot_width env i w h
+    eval_typed (Const u) n env v m w h e = ap (λ (x : Word). x.width) (sym (same_word u n v m e).0) ∙ h.1
+    eval_typed (Var i) n env v m w h e = ap (λ (x : Word). x.width) (sym (same_word (slot env i) n v m e).0) ∙ slot_width env i w h
     eval_typed (If c a b) n env v m w h e =
         let p = word_from (eval C go c n env) (λ u k. choose u (eval C go a k env) (eval C go b k env)) v m e in
         ⊎_elim (λ q. eval_typed a p.1 env v m w h.1 q) (λ q. eval_typed b p.1 env v m w h.2 q) (pick_from p.0.bits _ _ _ p.3)
@@ -201,7 +188,7 @@ module _ (C : Program) (go : Apply) (typed : Typed C go) where
         eval_typed b p.1 (env ++ p.0) v m w (subst (λ l. HasWidth C l b w) (sym (widths_append env p.0 ∙ ap (λ l. widths env ++ l) all)) hb) p.3
     eval_typed (Op o ts) n env v m w (ws, h, r) e =
         let p = words_from (eval_all C go ts n env) (λ vs k. Gave (apply_prim o vs) k) v m e in
-        ap (λ (x : Word). x.width) (sym (same_gave (apply_prim o p.0) p.1 v m p.3).0)
+        ap (λ (x : Word). x.width) (sym (same_word (apply_prim o p.0) p.1 v m p.3).0)
         ∙ apply_width o p.0 w (ap (result_width o) (all_typed ts n env p.0 p.1 ws h p.2) ∙ r)
     eval_typed (Call f k ts) n env v m w h e =
         let p = words_from (eval_all C go ts n env) (λ us k. go k f us) v m e in
@@ -220,8 +207,8 @@ module _ (C : Program) (go : Apply) (typed : Typed C go) where
         ∙ (ap (λ x. x ∷ widths p.2) (eval_typed t n env p.0 p.1 w h.0 p.3) ∙ ap (λ l. w ∷ l) (all_typed ts p.1 env p.2 m ws h.1 p.4))
 
 apply_typed : (C : Program) → IsWellFormed C → (d : ℕ) → Typed C (apply C d)
-apply_typed C wf zero n f us v m lt h e = nothing_gave v m e
-apply_typed C wf (suc d) zero f us v m lt h e = nothing_gave v m e
+apply_typed C wf zero n f us v m lt h e = nothing_word v m e
+apply_typed C wf (suc d) zero f us v m lt h e = nothing_word v m e
 apply_typed C wf (suc d) (suc n) f us v m lt h e =
     eval_typed C (apply C d) (apply_typed C wf d) (C.body f) n us v m (C.result f) (subst (λ l. HasWidth C l (C.body f) (C.result f)) (sym h) (wf.widths f lt)) e
 

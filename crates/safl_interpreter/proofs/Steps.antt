@@ -3,7 +3,7 @@ use Rattle.std.proofs.Common.{◌≡◌, ℕ, zero, suc, ◌+◌, ◌<◌, ◌�
 use Rattle.std.proofs.Common.{Global, ◌⊎◌, inl, inr, ⊎_elim, append_assoc, add-one, refl, sym, ap, ◌∙◌, subst, arith}
 use Rattle.std.proofs.lemmas.List.{get_or_read}
 use Rattle.std.specs.Prelude.{slice_get, IsSome, ◌-◌}
-use Rattle.safl_word.specs.Words.{Word, no_word, pick}
+use Rattle.safl_word.specs.Words.{Word, no_word, pick, widths}
 use Rattle.safl_word.specs.declared.primitive.Primitive.{Primitive}
 use Rattle.safl_word.specs.Primitives.{apply_prim, result_width}
 use Rattle.safl_term.specs.Checked.{CheckedProgram, IsChecked}
@@ -20,7 +20,7 @@ use Rattle.safl_term.proofs.Widths.{widths_append}
 use Rattle.safl_interpreter.specs.declared.answer.Answer.{Answer}
 use Rattle.safl_interpreter.specs.declared.answer.Step.{Step}
 use Rattle.safl_interpreter.specs.declared.answer.Step.TheVariants.{Done, Tail, Spent}
-use Rattle.safl_interpreter.specs.Interpreting.{widths, shown_answer, applied, finished, GoesOn, IsStep, IsTyped, AreTyped}
+use Rattle.safl_interpreter.specs.Interpreting.{shown_answer, applied, finished, GoesOn, IsStep, IsTyped, AreTyped}
 use Rattle.safl_interpreter.proofs.Meanings.{one_call, terms_typed}
 
 -- ---- measures
@@ -30,15 +30,6 @@ abbrev pub call_size : ℕ
 call_size = 150001
 
 -- ---- a term by parts that are known under other names
-
-pub if_by : {t c a b d x y : Term} → t ≡ If c a b → d ≡ c → x ≡ a → y ≡ b → t ≡ If d x y
-if_by {t} {c} {a} {b} {d} {x} {y} e f g h = e ∙ (ap (λ z. If z a b) (sym f) ∙ (ap (λ z. If d z b) (sym g) ∙ ap (If d x) (sym h)))
-
-pub let_by : {t b d : Term} {ts us : Terms} → t ≡ Let ts b → us ≡ ts → d ≡ b → t ≡ Let us d
-let_by {t} {b} {d} {ts} {us} e f g = e ∙ (ap (λ z. Let z b) (sym f) ∙ ap (Let us) (sym g))
-
-pub op_by : {t : Term} {ts us : Terms} (p : Primitive) → t ≡ Op p ts → us ≡ ts → t ≡ Op p us
-op_by p e f = e ∙ ap (Op p) (sym f)
 
 -- a call of f with these arguments, in tail position or not
 abbrev pub Applies : Term → ℕ → Terms → Type 0

@@ -1,6 +1,6 @@
 -- What the interpreter finds, by the meaning with a number of calls.
-use Rattle.std.specs.Prelude.{◌≡◌, ℕ, ◌<◌, ◌≤◌, List, map, Option, Some, None}
-use Rattle.safl_word.specs.Words.{Word}
+use Rattle.std.specs.Prelude.{◌≡◌, ℕ, ◌<◌, ◌≤◌, List, Option, Some, None}
+use Rattle.safl_word.specs.Words.{Word, widths}
 use Rattle.safl_term.specs.Fuel.{Outcome, Nothing, Gave, Outcomes, NoWords, Words, Apply, eval, apply}
 use Rattle.safl_term.specs.Program.{Program}
 use Rattle.safl_term.specs.Terms.{Term, Terms}
@@ -9,9 +9,6 @@ use Rattle.safl_interpreter.specs.declared.answer.Answer.{Answer}
 use Rattle.safl_interpreter.specs.declared.answer.Operands.{Operands}
 use Rattle.safl_interpreter.specs.declared.answer.Step.{Step}
 use Rattle.safl_interpreter.specs.declared.answer.Step.TheVariants.{Done, Tail, Spent}
-
-abbrev pub widths : List Word → List ℕ
-widths vs = map (λ v. v.width) vs
 
 -- the outcome that an answer shows; without one, none
 abbrev pub shown_answer : Option Answer → Outcome

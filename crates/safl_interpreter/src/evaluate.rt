@@ -4,7 +4,8 @@ ghost use Rattle.std.specs.Prelude.{◌≡◌, ◌<◌, IfOk};
 ghost use Rattle.safl_term.specs.Checked.{IsChecked};
 ghost use Rattle.safl_term.specs.Fuel.{eval, eval_all};
 ghost use Rattle.safl_term.specs.Tree.{shown_term, shown_terms};
-ghost use Rattle.safl_interpreter.specs.Interpreting.{widths, shown_answer, shown_all, applied, IsStep, IsTyped, AreTyped};
+ghost use Rattle.safl_interpreter.specs.Interpreting.{shown_answer, shown_all, applied, IsStep, IsTyped, AreTyped};
+ghost use Rattle.safl_word.specs.Words.{widths};
 
 use crate::answer::{Answer, Operands, Step};
 use safl_term::{Checked, Term};

@@ -2,7 +2,8 @@
 
 ghost use Rattle.std.specs.Prelude.{◌≡◌, IfOk};
 ghost use Rattle.safl_term.specs.Fuel.{apply};
-ghost use Rattle.safl_interpreter.specs.Interpreting.{widths, shown_answer};
+ghost use Rattle.safl_interpreter.specs.Interpreting.{shown_answer};
+ghost use Rattle.safl_word.specs.Words.{widths};
 
 use crate::answer::Answer;
 use crate::evaluate::call;

@@ -3,17 +3,15 @@ use Rattle.std.proofs.Common.{◌≡◌, ◌≢◌, ℕ, zero, suc, ◌<◌, Lis
 use Rattle.std.proofs.lemmas.Slice.Eq.{bytes_eq-Decides}
 use Rattle.std.proofs.lemmas.Bool.{false_from_ne_true}
 use Rattle.std.proofs.lemmas.List.{set-get_or}
+use Rattle.safl_word.proofs.Lists.{bytes_same}
 use Rattle.safl_io.specs.Shelf.{Files, file_of, Leaves}
-
-eq_here : (pair name : List ℕ) → pair ≡ name → bytes_eq pair name ≡ true
-eq_here pair name same = (bytes_eq-Decides pair name).1 same
 
 eq_other : (pair other : List ℕ) → other ≢ pair → bytes_eq pair other ≡ false
 eq_other pair other ne = false_from_ne_true _ (λ same. ne (sym ((bytes_eq-Decides pair other).0 same)))
 
 -- the pair at the front has that name
 pub file_of-here : (pair : List ℕ × List ℕ) (files : Files) (name : List ℕ) → pair.0 ≡ name → file_of (pair ∷ files) name ≡ Some pair.1
-file_of-here pair files name same = rw (eq_here pair.0 name same) refl
+file_of-here pair files name same = rw (bytes_same pair.0 name same) refl
 
 -- the pair at the front has another name
 pub file_of-past : (pair : List ℕ × List ℕ) (files : Files) (name : List ℕ) → name ≢ pair.0 → file_of (pair ∷ files) name ≡ file_of files name

@@ -1,9 +1,10 @@
 -- Writes of one file, one after another.
 use Rattle.std.proofs.Common.{◌≡◌, ◌≤◌, ℕ, ◌+◌, ◌-◌, min, List, take, drop, Option, Some, None, OnSome, inl, inr, ◌∙◌, arith}
+use Rattle.std.proofs.Math.Seq.{take-add}
 use Rattle.safl_io.specs.Told.{TellsOn}
 use Rattle.safl_io.specs.Shelf.{Files, Leaves, LeavesOldOrEmpty, LeavesOldOrPart, Appends, AppendsPart, CountsStray}
 use Rattle.safl_io.proofs.Telling.{TellsOn-then}
-use Rattle.safl_io.proofs.Pieces.{take-add, take-take}
+use Rattle.safl_io.proofs.Pieces.{take-take}
 
 -- the next piece of a text stands after the earlier ones
 Leaves-append : (name text : List ℕ) (at end : ℕ) → at ≤ end → (a b c : Files) → Leaves name (take at text) a b → Appends name (take (end - at) (drop at text)) b c → Leaves name (take end text) a c

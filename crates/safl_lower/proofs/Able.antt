@@ -1,7 +1,8 @@
 -- What the calls for the parts of a term require.
-use Rattle.std.proofs.Common.{◌≡◌, ℕ, zero, suc, ◌+◌, ◌-◌, ◌<◌, Bool, false, List, [], ◌∷◌, ◌++◌, length, Some, slice_get, refl, sym, ap, subst, ◌∙◌, arith}
+use Rattle.std.proofs.Common.{◌≡◌, ℕ, suc, ◌+◌, ◌-◌, ◌<◌, Bool, false, List, [], ◌∷◌, ◌++◌, length, Some, refl, sym, ap, subst, ◌∙◌, arith}
 use Rattle.safl_word.specs.declared.primitive.Primitive.{Primitive}
 use Rattle.safl_word.specs.Primitives.{result_width}
+use Rattle.safl_word.proofs.Lists.{get_some}
 use Rattle.safl_term.specs.Program.{Program}
 use Rattle.safl_term.specs.Terms.{Term, Var, Op, If, Let, Call, Loop, Terms, Nil, Cons}
 use Rattle.safl_term.specs.WellFormed.{SpansAll, HasWidth, HaveWidths}
@@ -24,11 +25,6 @@ use Rattle.safl_lower.proofs.Leaves.{slot_within}
 use Rattle.safl_lower.proofs.Branches.{Branches, Inner}
 use Rattle.safl_lower.specs.Sources.{IsSource, AreSources}
 use Rattle.safl_lower.proofs.Building.{source_grown, sources_grown}
-
-there : {A : Type 0} (xs : List A) (i : ℕ) → i < length xs → (x : A) × (slice_get xs i ≡ Some x)
-there [] i h = absurd (omega arith)
-there (x ∷ xs) zero h = (x, refl)
-there (x ∷ xs) (suc i) h = there xs i (omega arith)
 
 module _ {P : SiteTable} {slots : List Sig} {path : Sig} {n0 : Netlist} where
   pub able_var : {i : ℕ} → Lowerable n0 P slots path (Var i) → i < length slots
@@ -134,7 +130,7 @@ module _ {P : SiteTable} {slots : List Sig} {path : Sig} {n0 : Netlist} where
       let upto = t.upto in
       let low = t.spans.0 in
       let below = fits_all_le h.owner.program h.owner.function (suc t.low) t.high ts t.spans.4 in
-      let p = there P.ports.items (k - P.first) (omega (arith, first, last, from, upto, low, below)) in
+      let p = get_some P.ports.items (k - P.first) (omega (arith, first, last, from, upto, low, below)) in
       record { from = omega (arith, first, from, low); port = p.0; at = p.1; sent = source_grown g p.0.sent 1 (s.sites_sized (k - P.first) p.0 p.1).sent }
 
   -- what a call shows has the width of its callee's result

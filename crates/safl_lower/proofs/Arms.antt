@@ -1,19 +1,13 @@
 -- How the circuits of parts make the circuit of a term: pure facts on options and bits.
 use Rattle.std.proofs.Common.{◌≡◌, List, [], ◌∷◌, ◌++◌, Option, Some, None, Bool, true, false, not, ◌&&◌, cond, ◌==◌, refl, sym, ap, ◌∙◌}
+use Rattle.std.proofs.lemmas.Option.{same_Some}
 use Rattle.safl_word.specs.Words.{Word, choose}
 use Rattle.safl_term.specs.Readiness.{Answer, Ready, LoopTo, NotYet, word_of, select, with_all, or_else}
+use Rattle.safl_term.proofs.OrElse.{or_else_none}
 use Rattle.safl_net.specs.Bits.{gate}
 use Rattle.safl_lower.proofs.BitWords.{choose_is}
 
 -- ---- options
-
-pub or_assoc : {A : Type 0} (x y z : Option A) → or_else (or_else x y) z ≡ or_else x (or_else y z)
-or_assoc None y z = refl
-or_assoc (Some a) y z = refl
-
-pub or_none : {A : Type 0} (x : Option A) → or_else x None ≡ x
-or_none None = refl
-or_none (Some a) = refl
 
 pub gate_or : {A : Type 0} (b : Bool) (x y : Option A) → gate b (or_else x y) ≡ or_else (gate b x) (gate b y)
 gate_or true x y = refl
@@ -35,11 +29,8 @@ sel r w a = gate r (Some w) ≡ word_of a
 -- value
 pub if_value : (r : Bool) (w : Word) (c a b : Answer) (x y : Option Word) → gate r (Some w) ≡ word_of c → x ≡ word_of a → y ≡ word_of b
     → gate r (cond (w.bits == 1) x y) ≡ word_of (select c NotYet a b)
-if_value true w (Ready u) a b x y e f g = by (w.bits == 1) ∙ ap word_of (sym (choose_is w a b)) ∙ ap (λ (z : Word). word_of (choose z a b)) (some_word e)
+if_value true w (Ready u) a b x y e f g = by (w.bits == 1) ∙ ap word_of (sym (choose_is w a b)) ∙ ap (λ (z : Word). word_of (choose z a b)) (same_Some _ _ e)
   where
-    some_word : {x y : Word} → Some x ≡ Some y → x ≡ y
-    some_word e = cc
-
     by : (t : Bool) → cond t x y ≡ word_of (cond t a b)
     by true = f
     by false = g
@@ -64,13 +55,10 @@ if_wants false q r w c x y e = sym (gate_none' {B = _} (select c None x y))
   where
     gate_none' : {B : Type 0} (o : Option B) → gate false o ≡ None
     gate_none' o = refl
-if_wants true q true w (Ready x) a b e = by (w.bits == 1) ∙ ap (gate q) (sym (choose_is w a b)) ∙ ap (λ (y : Word). gate q (choose y a b)) (some_word e)
+if_wants true q true w (Ready x) a b e = by (w.bits == 1) ∙ ap (gate q) (sym (choose_is w a b)) ∙ ap (λ (y : Word). gate q (choose y a b)) (same_Some _ _ e)
   where
-    some_word : {x y : Word} → Some x ≡ Some y → x ≡ y
-    some_word e = cc
-
     by : (t : Bool) → or_else (gate (t && q) a) (gate (not t && q) b) ≡ gate q (cond t a b)
-    by true = or_none (gate q a)
+    by true = or_else_none (gate q a)
     by false = refl
 if_wants true q true w (LoopTo h vs) a b e = absurd (cc)
 if_wants true q true w NotYet a b e = absurd (cc)

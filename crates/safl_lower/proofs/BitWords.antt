@@ -1,14 +1,13 @@
 -- What gates say of bits.
-use Rattle.std.proofs.Common.{◌≡◌, ℕ, T, zero, suc, ◌<◌, [], ◌∷◌, Some, None, Bool, true, false, not, ◌&&◌, ◌||◌, cond, ◌==◌, Result, Ok, Err, IfOk, refl, sym, ap, ◌∙◌, arith}
+use Rattle.std.proofs.Common.{◌≡◌, ℕ, T, zero, suc, ◌<◌, [], ◌∷◌, Some, Bool, true, false, not, ◌&&◌, ◌||◌, cond, ◌==◌, Result, Ok, Err, IfOk, refl, sym, ap, ◌∙◌, arith}
 use Rattle.std.proofs.Math.Dec.{eqb_refl}
 use Rattle.std.proofs.lemmas.Bool.{ne_eqb}
 use Rattle.safl_word.specs.Words.{Word, pick, choose}
 use Rattle.safl_word.specs.Primitives.{apply_prim, bit_of}
 use Rattle.safl_word.specs.declared.primitive.Primitive.TheVariants.{And, Not, Or}
+use Rattle.safl_word.proofs.Words.{word_eq}
 use Rattle.safl_net.specs.declared.cell.Sig.{Sig}
-use Rattle.safl_net.specs.declared.cell.Op.TheVariants.{Mux}
 use Rattle.safl_net.specs.Netlist.{Netlist}
-use Rattle.safl_net.specs.Widths.{op_width}
 use Rattle.safl_net.specs.Growth.{Val, words, Wired, width_at, Grows}
 use Rattle.safl_net.proofs.Growth.{fits, wired_before}
 use Rattle.safl_net.specs.Bits.{on}
@@ -20,9 +19,6 @@ small : (b : ℕ) → b < 2 → b ≡ bit_of (b == 1)
 small zero h = refl
 small (suc zero) h = refl
 small (suc (suc b)) h = absurd (omega arith)
-
-word_eq : (x y : Word) → x.width ≡ y.width → x.bits ≡ y.bits → x ≡ y
-word_eq x y e f = ap (λ (w : ℕ). record { width = w; bits = x.bits }) e ∙ ap (λ (b : ℕ). record { width = y.width; bits = b }) f
 
 -- a signal of width 1 has a bit
 bit_word : (n : Netlist) (v : Val) (s : Sig) → Wired n v → width_at n s.0 ≡ Some 1 → v s.0 ≡ a_bit (on v s)
@@ -80,9 +76,6 @@ true_from false h = absurd h
 
 pub same : (w : ℕ) → (w == w) ≡ true
 same w = true_from (w == w) (eqb_refl w)
-
-pub mux_width : (w : ℕ) → op_width Mux (1 ∷ w ∷ w ∷ []) ≡ Some w
-mux_width w = ap (λ (b : Bool). cond b (Some w) None) (same w)
 
 -- the branch that a word selects
 pick_is : {A : Type 0} (n : ℕ) (a b : A) → pick n a b ≡ cond (n == 1) a b

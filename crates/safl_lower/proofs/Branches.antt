@@ -1,8 +1,11 @@
 -- The circuit of a branch and of a let from the circuits of its parts.
 use Rattle.std.proofs.Common.{◌≡◌, ℕ, ◌+◌, ◌≤◌, List, ◌++◌, map, length, Option, Some, None, Bool, true, false, not, ◌&&◌, cond, ◌==◌, ◌⊎◌, ◌↔◌, refl, sym, ap, subst, ◌∙◌, ⊎_elim, inr, arith}
+use Rattle.std.proofs.Math.Bool.{and-true}
 use Rattle.safl_word.specs.Words.{Word}
+use Rattle.safl_word.proofs.Words.{pick_ap}
 use Rattle.safl_term.specs.Terms.{Term, If, Let, Terms}
 use Rattle.safl_term.specs.Readiness.{Answer, Ready, LoopTo, NotYet, word_of, select, with_all, or_else, answer, answers, wanted, wanted_in}
+use Rattle.safl_term.proofs.OrElse.{or_else_assoc}
 use Rattle.safl_net.specs.declared.cell.Sig.{Sig}
 use Rattle.safl_net.specs.Netlist.{Netlist}
 use Rattle.safl_net.specs.Growth.{Val, words, Wired, Grows}
@@ -19,11 +22,11 @@ use Rattle.safl_lower.specs.Bits.{is_ready, ReadyAt}
 use Rattle.safl_lower.specs.Typing.{sites_of, sites_in, tails_of, holds_calls}
 use Rattle.safl_lower.specs.Entries.{asked, went, Told, site_of, member_of, cost}
 use Rattle.safl_lower.specs.Lowering.{back_of, sent_of, gives, goes_of, Shaped, Lowers, LowersAll}
-use Rattle.safl_lower.proofs.Arms.{or_assoc, gate_or, gate_none, if_value, if_wants, let_value, let_wants}
+use Rattle.safl_lower.proofs.Arms.{gate_or, gate_none, if_value, if_wants, let_value, let_wants}
 use Rattle.safl_lower.proofs.Kept.{shaped_kept, setting_on, setting_below}
 use Rattle.safl_lower.proofs.Typing.{test_typed, yes_typed, no_typed, bound_typed, body_typed}
 use Rattle.safl_lower.proofs.Quiet.{no_wants, no_going}
-use Rattle.safl_lower.proofs.Gathered.{words_more, stays, and_true, pick_ap, no_goes, more_twice, out_kept, told_by, told_more, never_is, gate_is_none, if_first, if_second, let_second, mates_same}
+use Rattle.safl_lower.proofs.Gathered.{words_more, stays, no_goes, more_twice, out_kept, told_by, told_more, never_is, gate_is_none, if_first, if_second, let_second, mates_same}
 use Rattle.safl_lower.specs.Sources.{IsSource}
 use Rattle.safl_net.specs.Settled.{Settles}
 use Rattle.safl_lower.proofs.Building.{source_grown, sources_grown}
@@ -47,8 +50,8 @@ if_asked p q r w pc x0 x1 x2 x3 wc wa wb e e1 e2 e3 =
     let ga = gate (((p && r) && (w.bits == 1)) && q) wa in
     let gb = gate (((p && r) && not (w.bits == 1)) && q) wb in
     let gc = gate (p && q) wc in
-    e3 ∙ ap (λ (x : Option _). or_else x gb) e2 ∙ or_assoc x1 ga gb
-    ∙ ap (λ (x : Option _). or_else x (or_else ga gb)) e1 ∙ or_assoc x0 gc (or_else ga gb)
+    e3 ∙ ap (λ (x : Option _). or_else x gb) e2 ∙ or_else_assoc x1 ga gb
+    ∙ ap (λ (x : Option _). or_else x (or_else ga gb)) e1 ∙ or_else_assoc x0 gc (or_else ga gb)
     ∙ ap (λ (x : Option _). or_else x0 (or_else gc x))
     (if_wants p q r w pc wa wb e)
     ∙ ap (or_else x0) (sym (gate_or (p && q) wc (select pc None wa wb)))
@@ -59,7 +62,7 @@ goes_select (LoopTo h vs) y z = refl
 goes_select NotYet y z = refl
 
 without : {A : Type 0} (x y z : Option A) (p : Bool) → x ≡ or_else y (gate p z) → x ≡ or_else y (gate (p && true) z)
-without x y z p e = e ∙ ap (λ (b : Bool). or_else y (gate b z)) (sym (and_true p))
+without x y z p e = e ∙ ap (λ (b : Bool). or_else y (gate b z)) (sym (and-true p))
 
 pub record Branches (path : Sig) (n m : Netlist) (test : Lowered) (a b : Term) (yes no : Sig) : Type 0 where
   pub grows : Grows n m
@@ -179,7 +182,7 @@ lowers_if {P} {slots} {path} {py} {pn} {n0} {n1} {n2} {n3} {n4} {n5} {o0} {o1} {
       (without x2 x1 ga (on v py) (ha.loops F tail scope w (yes_typed t) v w3)))
       (any_asked (holds_calls b) (on v pn) (reached && not (on v test.value)) true gb x2 x3 (λ x. hp.no_on x v w2) (no_going back b env)
       (without x3 x2 gb (on v pn) (hb.loops F tail scope w (no_typed t) v w4)))
-      ∙ ap (λ (u : Bool). or_else x0 (gate u (or_else (goes_of pc) (select pc None (goes_of (answer back env a)) (goes_of (answer back env b)))))) (and_true (on v path))
+      ∙ ap (λ (u : Bool). or_else x0 (gate u (or_else (goes_of pc) (select pc None (goes_of (answer back env a)) (goes_of (answer back env b)))))) (and-true (on v path))
       ∙ ap (λ (o : Option (ℕ × List Word)). or_else x0 (gate (on v path) (or_else o (select pc None (goes_of (answer back env a)) (goes_of (answer back env b)))))) (no_goes back c env (test_typed t))
       ∙ ap (λ (o : Option (ℕ × List Word)). or_else x0 (gate (on v path) o)) (sym (goes_select pc (answer back env a) (answer back env b)));
 }
@@ -196,7 +199,7 @@ let_asked : {A : Type 0} (p q r : Bool) (ws : List Word) (o : Option (List Word)
     → x2 ≡ or_else x0 (gate (p && q) (or_else wb (with_all o None go)))
 let_asked p q r ws o go x0 x1 x2 wb w e g e1 e2 =
     let gw = gate ((p && r) && q) w in
-    e2 ∙ ap (λ (x : Option _). or_else x gw) e1 ∙ or_assoc x0 (gate (p && q) wb) gw
+    e2 ∙ ap (λ (x : Option _). or_else x gw) e1 ∙ or_else_assoc x0 (gate (p && q) wb) gw
     ∙ ap (λ (x : Option _). or_else x0 (or_else (gate (p && q) wb) x)) (ap (gate ((p && r) && q)) g ∙ let_wants p q r ws o go e)
     ∙ ap (or_else x0) (sym (gate_or (p && q) wb (with_all o None go)))
 
@@ -304,6 +307,6 @@ lowers_let {P} {slots} {path} {inner} {n0} {n1} {n2} {n3} {n4} {o0} {o1} {o2} {b
       (hs.value v w1) (ap (λ (l : List Word). goes_of (answer back l b)) (words_more v slots bound.values.items)) (hs.loops F scope t.width.0 (bound_typed t) v w1 ∙ stays x0 (on v path && true))
       (any_asked (holds_calls b) (on v inner) (on v path && is_ready v bound.ready) true g x1 x2 (λ h. hi.is h v w2) (no_going back b below)
       (without x2 x1 g (on v inner) (hb.loops F tail (scope ++ t.width.0) w (body_typed t) v w3)))
-      ∙ ap (λ (c : Bool). or_else x0 (gate c (with_all o None (λ vs. goes_of (answer back (env ++ vs) b))))) (and_true (on v path))
+      ∙ ap (λ (c : Bool). or_else x0 (gate c (with_all o None (λ vs. goes_of (answer back (env ++ vs) b))))) (and-true (on v path))
       ∙ ap (λ (y : Option (ℕ × List Word)). or_else x0 (gate (on v path) y)) (sym (goes_with_all o (λ vs. answer back (env ++ vs) b)));
 }

@@ -2,12 +2,17 @@
 use Rattle.std.proofs.Common.{◌≡◌, ℕ, suc, ◌+◌, ◌<◌, ◌≤◌, List, [], ◌∷◌, ◌++◌, map, length, Option, Some, None, Bool, true, false, not, ◌&&◌, cond, ◌==◌, T, refl, sym, ap, subst, ◌∙◌, arith}
 use Rattle.std.proofs.Math.Facts.{eqb_yes}
 use Rattle.std.proofs.lemmas.Bool.{ne_eqb}
+use Rattle.std.proofs.lemmas.List.{map_push}
 use Rattle.safl_term.specs.Program.{Program}
 use Rattle.safl_term.specs.WellFormed.{Spans, SpansAll}
 use Rattle.safl_term.proofs.Places.{fits_le, fits_all_le}
 use Rattle.safl_word.specs.Words.{Word}
+use Rattle.safl_word.proofs.Lists.{nil_at_end}
+use Rattle.safl_word.proofs.Booleans.{false_true}
 use Rattle.safl_term.specs.Terms.{Term, Const, Var, Op, If, Let, Call, Loop, Terms, Nil, Cons}
-use Rattle.safl_term.specs.Readiness.{Answer, Ready, LoopTo, NotYet, word_of, ready_from, loop_to, select, with_all, or_else, answer, answers, wanted, wanted_in}
+use Rattle.safl_term.specs.Readiness.{Answer, Ready, LoopTo, NotYet, loop_to, select, with_all, or_else, answer, answers, wanted, wanted_in}
+use Rattle.safl_term.proofs.OrElse.{neither, or_else_assoc, or_else_none, with_none}
+use Rattle.safl_term.proofs.PlainTerms.{loop_word, shown_call}
 use Rattle.safl_net.specs.declared.cell.Sig.{Sig}
 use Rattle.safl_net.specs.Netlist.{Netlist}
 use Rattle.safl_net.specs.Growth.{Val, words, Wired, Grows}
@@ -24,17 +29,14 @@ use Rattle.safl_lower.specs.Bits.{is_ready, ReadyAt}
 use Rattle.safl_lower.specs.Typing.{Owner, Typed, sites_in}
 use Rattle.safl_lower.specs.Entries.{asked, went, site_of, member_of, Mates, WantsFit, LoopsFit, cost}
 use Rattle.safl_lower.specs.Lowering.{returned_word, back_of, sent_of, open_at, gives, gathered, goes_of, Setting, Shaped, Lowers, LowersAll, ShowsPort, goes_with, Enters, Leaves}
-use Rattle.safl_lower.proofs.Arms.{or_assoc, or_none, gate_or, gate_none}
+use Rattle.safl_lower.proofs.Arms.{gate_or, gate_none}
 use Rattle.safl_lower.proofs.Kept.{shaped_all_kept}
 use Rattle.safl_lower.proofs.Typing.{args_typed, next_typed}
-use Rattle.safl_lower.proofs.Gathered.{stays_by, pick_none, no_more, more_twice, map_end, out_kept, wants_end, loops_end, told_by, told_more, never_is, taken_tells, cost_end, mates_end, mates_same}
+use Rattle.safl_lower.proofs.Gathered.{stays_by, pick_none, more_twice, out_kept, wants_end, loops_end, told_by, told_more, never_is, taken_tells, cost_end, mates_end, mates_same}
 use Rattle.safl_lower.specs.Sources.{AreSources}
 use Rattle.safl_net.specs.Settled.{Settles}
 use Rattle.safl_net.proofs.Settling.{settles_on}
-
-goes_call : (o : Option Word) → goes_of (ready_from o) ≡ None
-goes_call None = refl
-goes_call (Some w) = refl
+use Rattle.safl_lower.proofs.Goes.{goes_call}
 
 -- ---- no site below the term's is wanted
 
@@ -42,13 +44,6 @@ pub select_none : {A : Type 0} (c : Answer) (x y : Option A) → x ≡ None → 
 select_none (Ready u) x y e f = pick_none u.bits x y e f
 select_none (LoopTo h vs) x y e f = refl
 select_none NotYet x y e f = refl
-
-pub with_none : {A : Type 0} (o : Option (List Word)) (go : List Word → Option A) → ((vs : List Word) → go vs ≡ None) → with_all o None go ≡ None
-with_none None go h = refl
-with_none (Some vs) go h = h vs
-
-pub both_none : {A : Type 0} (x y : Option A) → x ≡ None → y ≡ None → or_else x y ≡ None
-both_none x y e f = ap (λ (z : Option _). or_else z y) e ∙ f
 
 mutual
   unfolding wanted
@@ -60,12 +55,12 @@ mutual
   wanted_below p g tail lo hi back (If c a b) env j (m, n, x, y, z) l =
       let i = fits_le p g false lo m c x in
       let k = fits_le p g tail m n a y in
-      both_none (wanted back env c j) (select (answer back env c) None (wanted back env a j) (wanted back env b j))
+      neither (wanted back env c j) (select (answer back env c) None (wanted back env a j) (wanted back env b j))
       (wanted_below p g false lo m back c env j x l) (select_none (answer back env c) (wanted back env a j) (wanted back env b j)
       (wanted_below p g tail m n back a env j y (omega (arith, i, l))) (wanted_below p g tail n hi back b env j z (omega (arith, i, k, l))))
   wanted_below p g tail lo hi back (Let bs b) env j (m, x, y) l =
       let i = fits_all_le p g lo m bs x in
-      both_none (wanted_in back env bs j) (with_all (answers back env bs) None (λ vs. wanted back (env ++ vs) b j))
+      neither (wanted_in back env bs j) (with_all (answers back env bs) None (λ vs. wanted back (env ++ vs) b j))
       (wanted_below_in p g lo m back bs env j x l) (with_none (answers back env bs) (λ vs. wanted back (env ++ vs) b j)
       (λ vs. wanted_below p g tail m hi back b (env ++ vs) j y (omega (arith, i, l))))
   wanted_below p g tail lo hi back (Call f k ts) env j (e, e1, e2, lt, h) l =
@@ -76,21 +71,17 @@ mutual
   wanted_below_in p g lo hi back Nil env j h l = refl
   wanted_below_in p g lo hi back (Cons t ts) env j (m, x, y) l =
       let i = fits_le p g false lo m t x in
-      both_none (wanted back env t j) (wanted_in back env ts j) (wanted_below p g false lo m back t env j x l) (wanted_below_in p g m hi back ts env j y (omega (arith, i, l)))
+      neither (wanted back env t j) (wanted_in back env ts j) (wanted_below p g false lo m back t env j x l) (wanted_below_in p g m hi back ts env j y (omega (arith, i, l)))
 
 -- a call's own want may come last, since its site doesn't stand in its arguments
 own_last : {A : Type 0} (own : Bool) (x y : Option A) → (own ≡ true → y ≡ None) → or_else y (cond own x None) ≡ cond own x y
 own_last true x y h = ap (λ (z : Option _). or_else z x) (h refl)
-own_last false x y h = or_none y
+own_last false x y h = or_else_none y
 
 -- ---- a call
 
 when_ever : {A : Type 0} (s : Sig) → When s ≡ Never → A
 when_ever s e = cc
-
-shown_call : (o : Option Word) → o ≡ word_of (ready_from o)
-shown_call None = refl
-shown_call (Some w) = refl
 
 at_site : {A : Type 0} (t : Bool) (k j : ℕ) (p : Bool) (sent : ℕ → Bool) (o : Option A) → (k == j) ≡ t → gate t (gate (p && not (sent k)) o) ≡ gate (p && not (sent j)) (cond t o None)
 at_site true k j p sent o e = ap (λ (i : ℕ). gate (p && not (sent i)) o) (eqb_yes (subst T (sym e) tt))
@@ -111,7 +102,7 @@ pub lowers_call : {P : SiteTable} {slots : List Sig} {path : Sig} {n0 n1 n2 : Ne
     → Lowers P slots path n0 n2 o0 o2 r (Call f k ts)
 unfolding answer wanted
 lowers_call {P} {slots} {path} {n0} {n1} {n2} {o0} {o1} {o2} {all} {f} {k} {ts} {r} hs ha x = record {
-  tails = λ F tail env w t. ap (map member_of) (ha.loops ∙ hs.quiet F env (F.program.params f) (args_typed t)) ∙ no_more (map member_of o0.loops.items);
+  tails = λ F tail env w t. ap (map member_of) (ha.loops ∙ hs.quiet F env (F.program.params f) (args_typed t)) ∙ nil_at_end (map member_of o0.loops.items);
   settles = settles_on hs.settles ha.settles;
   quiet = λ F env w t. ha.loops ∙ hs.quiet F env (F.program.params f) (args_typed t);
   cheap = λ F tail env w t. let i = ap cost (ha.loops ∙ hs.quiet F env (F.program.params f) (args_typed t)) in omega (arith, i);
@@ -120,7 +111,7 @@ lowers_call {P} {slots} {path} {n0} {n1} {n2} {o0} {o1} {o2} {all} {f} {k} {ts} 
   loops_more = ha.loops ∙ hs.loops_more;
   told = λ F tail env w t v h. told_by v hs.more None _ (λ z q. never_is z None refl q) (hs.told F env (F.program.params f) (args_typed t) v (wired_before ha.grows h));
   sites = more_twice (map site_of o0.wants.items) (map site_of o1.wants.items) (map site_of o2.wants.items) (sites_in ts) (k ∷ []) hs.sites
-      (ap (map site_of) ha.entry.is ∙ map_end site_of o1.wants.items _);
+      (ap (map site_of) ha.entry.is ∙ map_push site_of o1.wants.items _);
   fits = λ F tail env w s t x.
       let y = out_kept ha.grows (hs.fits F env (F.program.params f) s (args_typed t) x) in
       let a = shaped_all_kept ha.grows all (F.program.params f) (hs.shape F env (F.program.params f) s (args_typed t)) in
@@ -142,7 +133,7 @@ lowers_call {P} {slots} {path} {n0} {n1} {n2} {o0} {o1} {o2} {all} {f} {k} {ts} 
       let env = words v slots in
       let g = open_at v P path j in
       let own = gate (k == j) (gate (open_at v P path k) (gathered v all)) in
-      ha.wants v h j ∙ ap (λ (y : Option (List Word)). or_else y own) (hs.wants F scope (F.program.params f) (args_typed t) v w1 j) ∙ or_assoc
+      ha.wants v h j ∙ ap (λ (y : Option (List Word)). or_else y own) (hs.wants F scope (F.program.params f) (args_typed t) v w1 j) ∙ or_else_assoc
       (asked v o0.wants.items j) (gate g (wanted_in back env ts j)) own
       ∙ ap (λ (y : Option (List Word)). or_else (asked v o0.wants.items j) (or_else (gate g (wanted_in back env ts j)) y))
       (at_site (k == j) k j (on v path) (sent_of v P) (gathered v all) refl
@@ -156,16 +147,9 @@ lowers_call {P} {slots} {path} {n0} {n1} {n2} {o0} {o1} {o2} {all} {f} {k} {ts} 
 
 -- ---- a tail call
 
-false_true : {A : Type 0} → false ≡ true → A
-false_true e = cc
-
 goes_go_to : (h : ℕ) (o : Option (List Word)) → goes_with h o ≡ goes_of (loop_to h o)
 goes_go_to h None = refl
 goes_go_to h (Some vs) = refl
-
-never_shown : (h : ℕ) (o : Option (List Word)) → None ≡ word_of (loop_to h o)
-never_shown h None = refl
-never_shown h (Some vs) = refl
 
 pub record Gone (path : Sig) (n m : Netlist) (o p : Out) (h : ℕ) (all : LoweredAll) (r : Lowered) : Type 0 where
   pub grows : Grows n m
@@ -181,14 +165,14 @@ pub lowers_loop : {P : SiteTable} {slots : List Sig} {path : Sig} {n0 n1 n2 : Ne
     → Lowers P slots path n0 n2 o0 o2 r (Loop h ts)
 unfolding answer wanted
 lowers_loop {P} {slots} {path} {n0} {n1} {n2} {o0} {o1} {o2} {all} {h} {ts} {r} hs hg = record {
-  tails = λ F tail env w t. ap (map member_of) hg.entry.is ∙ map_end member_of o1.loops.items _ ∙ ap
+  tails = λ F tail env w t. ap (map member_of) hg.entry.is ∙ map_push member_of o1.loops.items _ ∙ ap
       (λ (l : List TailCall). map member_of l ++ h ∷ []) (hs.quiet F env (F.program.params h) (next_typed t));
   settles = settles_on hs.settles hg.settles;
   quiet = λ F env w t. false_true t.spans.0;
   cheap = λ F tail env w t. let i = ap cost (hs.quiet F env (F.program.params h) (next_typed t)) in let j = ap cost hg.entry.is ∙ cost_end
       o1.loops.items (record { member = h; taken = hg.entry.taken; args = all.values }) in let k = hs.long in omega (arith, i, j, k);
   within = λ F tail env w s t x.
-      subst (Mates F) (sym (ap (map member_of) hg.entry.is ∙ map_end member_of o1.loops.items _))
+      subst (Mates F) (sym (ap (map member_of) hg.entry.is ∙ map_push member_of o1.loops.items _))
       (mates_end F (map member_of o1.loops.items) h (mates_same F o0.loops.items o1.loops.items
       (hs.quiet F env (F.program.params h) (next_typed t)) x) t.width.2 t.spans.1);
   more = hs.more ++ record { member = h; taken = hg.entry.taken; args = all.values } ∷ [];
@@ -213,7 +197,7 @@ lowers_loop {P} {slots} {path} {n0} {n1} {n2} {o0} {o1} {o2} {all} {h} {ts} {r} 
   shape = λ F tail env w s t. record { ready = subst (ReadyAt n2) (sym hg.never) tt; width = λ ever. absurd (ever hg.never) };
   ever = λ F env w t. false_true t.spans.0;
   wide = λ F tail env w s t no. sym t.width.1 ∙ s.one_width h t.width.2 t.spans.1;
-  value = λ v q. ap (λ (y : Readiness). gate (is_ready v y) (Some (v r.value.0))) hg.never ∙ never_shown h (answers (back_of v P) (words v slots) ts);
+  value = λ v q. ap (λ (y : Readiness). gate (is_ready v y) (Some (v r.value.0))) hg.never ∙ loop_word h (answers (back_of v P) (words v slots) ts);
   wants = λ F tail env w t v q k. ap (λ l. asked v l k) hg.wants ∙ hs.wants F env (F.program.params h) (next_typed t) v (wired_before hg.grows q) k;
   loops = λ F tail env w t v q.
       let w1 = wired_before hg.grows q in

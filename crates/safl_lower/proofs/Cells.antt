@@ -1,6 +1,6 @@
 -- What a new temporary adds to a net.
 use Rattle.std.proofs.Common.{◌≡◌, ℕ, List, [], ◌∷◌, ◌++◌, true, false, subst, Some, Bool, not, cond, Result, Ok, Err, IfOk, OnOk, OnErr, length}
-use Rattle.std.proofs.Common.{take, slice_get, slice_index_or, suc, zero, ◌+◌, ◌<◌, refl, ap, sym, ◌∙◌, add-one, arith}
+use Rattle.std.proofs.Common.{take, slice_get, suc, zero, ◌+◌, refl, ap, sym, ◌∙◌, add-one, arith}
 use Rattle.safl_net.specs.declared.cell.Sig.{Sig}
 use Rattle.safl_net.specs.declared.cell.Op.{Op}
 use Rattle.safl_net.specs.Netlist.{Netlist}
@@ -80,11 +80,6 @@ chosen_more v c all a b next x y i p q h e =
     ∙ ap (λ (l : List Word). cond (on v c) l (words v (take i b) ++ v y.0 ∷ [])) (sym (words_next v a i x p)) ∙ ap
     (λ (l : List Word). cond (on v c) (words v (take (suc i) a)) l) (sym (words_next v b i y q))
     ∙ ap (λ (k : ℕ). cond (on v c) (words v (take k a)) (words v (take k b))) (sym (add-one i))
-
-pub get_there : {A : Type 0} (xs : List A) (i : ℕ) (d : A) → i < length xs → slice_get xs i ≡ Some (slice_index_or xs i d)
-get_there [] i d h = absurd (omega arith)
-get_there (x ∷ xs) zero d h = refl
-get_there (x ∷ xs) (suc i) d h = get_there xs i d (omega (arith, h))
 
 -- a source of a list
 pub source_at : (n : Netlist) (xs : List Sig) (ws : List ℕ) (i : ℕ) (x : Sig) → AreSources n xs ws → slice_get xs i ≡ Some x → (w : ℕ) × (slice_get ws i ≡ Some w) × IsSource n x w

@@ -5,7 +5,7 @@ use Rattle.safl_word.specs.Words.{Word}
 use Rattle.safl_word.specs.Limits.{width_max}
 use Rattle.safl_word.specs.Primitives.{is_width, where_true, apply_prim, result_width}
 use Rattle.safl_word.specs.declared.primitive.Primitive.{Primitive}
-use Rattle.safl_word.proofs.Widths.{within, only_where}
+use Rattle.safl_word.proofs.Widths.{within, only_where, where_is}
 use Rattle.safl_word.specs.declared.primitive.Primitive.TheVariants.{Add, Sub, Mul, And, Or, Xor, Not, Eq, Ne, Lt, Le, Gt, Ge, Shl, Shr, Cat, Bits, Ext}
 use Rattle.safl_net.specs.declared.cell.Sig.{Sig}
 use Rattle.safl_net.specs.Netlist.{Netlist}
@@ -44,10 +44,6 @@ pub record Operand (n : Netlist) (xs : List Sig) (a : Sig) (m w : ℕ) : Type 0 
   pub below : narrow ≤ m
   pub bounded : m ≤ width_max
   pub wide : m ≡ w
-
-where_is : (b : Bool) (m n : ℕ) → where_true b m ≡ Some n → (b ≡ true) × (m ≡ n)
-where_is true m n e = let q : m ≡ n = cc in (refl, q)
-where_is false m n e = absurd (cc)
 
 -- the row has operands of a word's width
 tested : (u m w : ℕ) → result_width (Ext m) (u ∷ []) ≡ Some w → is_width u ≡ true

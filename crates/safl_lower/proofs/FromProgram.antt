@@ -1,5 +1,5 @@
 -- The body of a checked program's function, and the setting in which it is lowered.
-use Rattle.std.proofs.Common.{◌≡◌, ℕ, zero, suc, ◌+◌, ◌*◌, ◌<◌, ◌≤◌, ◌⊎◌, inl, inr, ⊎_elim, List, true, refl, sym, ap, ◌∙◌, arith}
+use Rattle.std.proofs.Common.{◌≡◌, ℕ, suc, ◌+◌, ◌*◌, ◌<◌, List, true, refl, sym, ap, ◌∙◌, arith}
 use Rattle.safl_term.specs.Program.{Program}
 use Rattle.safl_term.specs.Terms.{Term}
 use Rattle.safl_term.specs.Sizes.{nodes}
@@ -28,11 +28,6 @@ pub record Given (n : Netlist) (P : SiteTable) (slots : List Sig) (path : Sig) (
   pub setting : Setting n owner P slots env path
   pub body : IsBody owner env t width
   pub room : HasRoom n (32 * nodes t + 32)
-
-pub side : (k m : ℕ) → (k < m) ⊎ (m ≤ k)
-side k zero = inr (omega arith)
-side zero (suc m) = inl (omega arith)
-side (suc k) (suc m) = ⊎_elim (λ l. inl (omega (arith, l))) (λ l. inr (omega (arith, l))) (side k m)
 
 -- the members of a group have one width
 pub one_width : (C : Program) → IsWellFormed C → (f h : ℕ) → f < C.functions → h < C.functions → C.unit h ≡ C.unit f → C.result h ≡ C.result f

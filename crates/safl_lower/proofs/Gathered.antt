@@ -1,48 +1,40 @@
 -- The calls and tail calls that the parts of a term have added.
-use Rattle.std.proofs.Common.{◌≡◌, ℕ, zero, suc, ◌+◌, ◌<◌, ◌≤◌, List, [], ◌∷◌, ◌++◌, map, length, Option, Some, None, Bool, true, false, not, ◌&&◌}
+use Rattle.std.proofs.Common.{◌≡◌, ℕ, zero, suc, ◌+◌, ◌<◌, List, [], ◌∷◌, ◌++◌, map, length, Option, Some, None, Bool, true, false, not, ◌&&◌}
 use Rattle.std.proofs.Common.{◌==◌, refl, sym, ap, subst, ◌∙◌, arith, append_assoc}
+use Rattle.std.proofs.Math.Bool.{and-true}
 use Rattle.safl_word.specs.Words.{Word, pick}
+use Rattle.safl_word.proofs.Booleans.{false_true}
+use Rattle.safl_word.proofs.Words.{pick_ap}
 use Rattle.safl_term.specs.Program.{Program}
 use Rattle.safl_term.specs.Terms.{Term, Const, Var, Op, If, Let, Call, Loop}
 use Rattle.safl_term.specs.WellFormed.{Spans}
-use Rattle.safl_term.specs.Readiness.{Answer, Ready, LoopTo, NotYet, word_of, ready_from, apply_to, loop_to, select, with_all, or_else, answer, answers}
+use Rattle.safl_term.specs.Readiness.{Answer, Ready, LoopTo, NotYet, word_of, apply_to, loop_to, select, with_all, or_else, answer, answers}
+use Rattle.safl_term.proofs.OrElse.{or_else_none}
 use Rattle.safl_net.specs.declared.cell.Sig.{Sig}
 use Rattle.safl_net.specs.Netlist.{Netlist}
 use Rattle.safl_net.specs.Growth.{Val, words, Grows}
 use Rattle.safl_lower.specs.declared.lowered.Out.{Out}
 use Rattle.safl_lower.specs.declared.lowered.Want.{Want}
 use Rattle.safl_lower.specs.declared.lowered.TailCall.{TailCall}
-use Rattle.safl_term.specs.Sizes.{nodes}
 use Rattle.safl_lower.specs.Typing.{Owner, Typed}
 use Rattle.safl_net.specs.Bits.{gate}
 use Rattle.safl_lower.specs.Entries.{Told, WantFits, LoopFits, WantsFit, LoopsFit, OutFits, member_of, Mates, cost}
 use Rattle.safl_lower.specs.Lowering.{goes_of}
-use Rattle.safl_lower.proofs.Arms.{or_none, gate_none, if_wants, let_wants}
+use Rattle.safl_lower.proofs.Arms.{gate_none, if_wants, let_wants}
 use Rattle.safl_lower.proofs.Building.{source_grown, sources_grown}
+use Rattle.safl_lower.proofs.Goes.{goes_call, goes_with}
 
 pub words_more : (v : Val) (xs ys : List Sig) → words v (xs ++ ys) ≡ words v xs ++ words v ys
 words_more v [] ys = refl
 words_more v (x ∷ xs) ys = ap (λ (l : List Word). v x.0 ∷ l) (words_more v xs ys)
 
 pub stays : {A : Type 0} (x : Option A) (b : Bool) → x ≡ or_else x (gate b None)
-stays x b = sym (ap (or_else x) (gate_none b) ∙ or_none x)
+stays x b = sym (ap (or_else x) (gate_none b) ∙ or_else_none x)
 
 pub stays_by : {A : Type 0} (x y : Option A) (b : Bool) → y ≡ None → x ≡ or_else x (gate b y)
 stays_by x y b e = stays x b ∙ ap (λ (o : Option _). or_else x (gate b o)) (sym e)
 
-pub and_true : (p : Bool) → (p && true) ≡ p
-and_true true = refl
-and_true false = refl
-
-false_true : {A : Type 0} → false ≡ true → A
-false_true e = cc
-
 -- ---- terms outside tail position
-
-pub pick_ap : {A B : Type 0} (f : A → B) (n : ℕ) (y z : A) → f (pick n y z) ≡ pick n (f y) (f z)
-pick_ap f zero y z = refl
-pick_ap f (suc zero) y z = refl
-pick_ap f (suc (suc n)) y z = refl
 
 pub pick_none : {A : Type 0} (n : ℕ) (y z : Option A) → y ≡ None → z ≡ None → pick n y z ≡ None
 pick_none zero y z e f = f
@@ -65,16 +57,8 @@ goes_nowhere p g lo hi back (If c a b) env (m, n, x, y, z) = by (answer back env
     by (Ready w) y z e f = pick_ap goes_of w.bits y z ∙ pick_none w.bits (goes_of y) (goes_of z) e f
     by (LoopTo g vs) y z e f = refl
     by NotYet y z e f = refl
-goes_nowhere p g lo hi back (Let bs b) env (m, x, y) = by (answers back env bs) (λ vs. answer back (env ++ vs) b) (λ vs. goes_nowhere p g m hi back b (env ++ vs) y)
-  where
-    by : (o : Option (List Word)) (go : List Word → Answer) → ((vs : List Word) → goes_of (go vs) ≡ None) → goes_of (with_all o NotYet go) ≡ None
-    by None go e = refl
-    by (Some vs) go e = e vs
-goes_nowhere p g lo hi back (Call f k ts) env h = by (back k)
-  where
-    by : (o : Option Word) → goes_of (ready_from o) ≡ None
-    by None = refl
-    by (Some w) = refl
+goes_nowhere p g lo hi back (Let bs b) env (m, x, y) = goes_with (answers back env bs) (λ vs. answer back (env ++ vs) b) (λ vs. goes_nowhere p g m hi back b (env ++ vs) y)
+goes_nowhere p g lo hi back (Call f k ts) env h = goes_call (back k)
 goes_nowhere p g lo hi back (Loop i ts) env h = false_true h.0
 
 pub no_goes : {F : Owner} {slots : List ℕ} {w : ℕ} (back : ℕ → Option Word) (t : Term) (env : List Word) → Typed F false slots t w → goes_of (answer back env t) ≡ None
@@ -82,16 +66,8 @@ no_goes {F} back t env h = goes_nowhere F.program F.function h.low h.high back t
 
 -- ---- the entries
 
-pub no_more : {A : Type 0} (xs : List A) → xs ≡ xs ++ []
-no_more [] = refl
-no_more (x ∷ xs) = ap (λ (l : List _). x ∷ l) (no_more xs)
-
 pub more_twice : {A : Type 0} (x0 x1 x2 a b : List A) → x1 ≡ x0 ++ a → x2 ≡ x1 ++ b → x2 ≡ x0 ++ (a ++ b)
 more_twice x0 x1 x2 a b e f = f ∙ ap (λ (l : List _). l ++ b) e ∙ append_assoc x0 a b
-
-pub map_end : {A B : Type 0} (f : A → B) (xs : List A) (x : A) → map f (xs ++ x ∷ []) ≡ map f xs ++ f x ∷ []
-map_end f [] x = refl
-map_end f (y ∷ xs) x = ap (λ (l : List _). f y ∷ l) (map_end f xs x)
 
 pub wants_kept : {a b : Netlist} (F : Owner) (es : List Want) → Grows a b → WantsFit F a es → WantsFit F b es
 wants_kept F [] g h = tt
@@ -132,8 +108,8 @@ gate_is_none false x e = refl
 pub if_first : {A : Type 0} (p r : Bool) (w : Word) (c : Answer) (x y : Option A) (z : A) → gate r (Some w) ≡ word_of c → Some z ≡ gate
     ((p && r) && (w.bits == 1)) x → Some z ≡ gate p (select c None x y)
 if_first p r w c x y z e h =
-    ap (λ (o : Option _). or_else o (gate (((p && r) && not (w.bits == 1)) && true) y)) (h ∙ ap (λ (b : Bool). gate b x) (sym (and_true _)))
-    ∙ if_wants p true r w c x y e ∙ ap (λ (b : Bool). gate b (select c None x y)) (and_true p)
+    ap (λ (o : Option _). or_else o (gate (((p && r) && not (w.bits == 1)) && true) y)) (h ∙ ap (λ (b : Bool). gate b x) (sym (and-true _)))
+    ∙ if_wants p true r w c x y e ∙ ap (λ (b : Bool). gate b (select c None x y)) (and-true p)
 
 off_other : {A : Type 0} (s t : Bool) (y x : Option A) (z : A) → Some z ≡ gate (s && not t) y → gate (s && t) x ≡ None
 off_other true true y x z h = absurd (cc)
@@ -143,15 +119,15 @@ off_other false t y x z h = refl
 pub if_second : {A : Type 0} (p r : Bool) (w : Word) (c : Answer) (x y : Option A) (z : A) → gate r (Some w) ≡ word_of c → Some z ≡ gate
     ((p && r) && not (w.bits == 1)) y → Some z ≡ gate p (select c None x y)
 if_second p r w c x y z e k =
-    k ∙ ap (λ (b : Bool). gate b y) (sym (and_true _))
-    ∙ ap (λ (o : Option _). or_else o (gate (((p && r) && not (w.bits == 1)) && true) y)) (sym (ap (λ (b : Bool). gate b x) (and_true _) ∙ off_other (p && r) (w.bits == 1) y x z k))
-    ∙ if_wants p true r w c x y e ∙ ap (λ (b : Bool). gate b (select c None x y)) (and_true p)
+    k ∙ ap (λ (b : Bool). gate b y) (sym (and-true _))
+    ∙ ap (λ (o : Option _). or_else o (gate (((p && r) && not (w.bits == 1)) && true) y)) (sym (ap (λ (b : Bool). gate b x) (and-true _) ∙ off_other (p && r) (w.bits == 1) y x z k))
+    ∙ if_wants p true r w c x y e ∙ ap (λ (b : Bool). gate b (select c None x y)) (and-true p)
 
 pub let_second : {A : Type 0} (p r : Bool) (ws : List Word) (o : Option (List Word)) (go : List Word → Option A) (x : Option A) (z : A) → gate r
     (Some ws) ≡ o → x ≡ go ws → Some z ≡ gate (p && r) x → Some z ≡ gate p (with_all o None go)
 let_second p r ws o go x z e g h =
-    h ∙ ap (gate (p && r)) g ∙ ap (λ (b : Bool). gate b (go ws)) (sym (and_true (p && r)))
-    ∙ let_wants p true r ws o go e ∙ ap (λ (b : Bool). gate b (with_all o None go)) (and_true p)
+    h ∙ ap (gate (p && r)) g ∙ ap (λ (b : Bool). gate b (go ws)) (sym (and-true (p && r)))
+    ∙ let_wants p true r ws o go e ∙ ap (λ (b : Bool). gate b (with_all o None go)) (and-true p)
 
 pub taken_tells : (h : ℕ) (t p r : Bool) (ws : List Word) (o : Option (List Word)) → t ≡ (p && r) → gate r (Some ws) ≡ o → t ≡ true → Some (h, ws) ≡ gate p (goes_of (loop_to h o))
 taken_tells h t true true ws None e f g = absurd (cc)
@@ -169,12 +145,3 @@ mates_end F (j ∷ ks) k h l m = (h.0, h.1, mates_end F ks k h.2 l m)
 
 pub mates_same : (F : Owner) (es fs : List TailCall) → fs ≡ es → Mates F (map member_of es) → Mates F (map member_of fs)
 mates_same F es fs e h = subst (λ (l : List TailCall). Mates F (map member_of l)) (sym e) h
-
-pub some_nodes : (t : Term) → 1 ≤ nodes t
-some_nodes (Const w) = omega arith
-some_nodes (Var i) = omega arith
-some_nodes (Op p ts) = omega arith
-some_nodes (If c a b) = omega arith
-some_nodes (Let bs b) = omega arith
-some_nodes (Call f k ts) = omega arith
-some_nodes (Loop h ts) = omega arith

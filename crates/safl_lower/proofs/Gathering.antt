@@ -1,10 +1,13 @@
 -- Tail calls merged one after another, from the first.
 use Rattle.std.proofs.Common.{◌≡◌, ℕ, zero, suc, ◌+◌, ◌-◌, ◌<◌, ◌≤◌, List, [], ◌∷◌, ◌++◌, map, take, length, Option, Some, None, Bool, true, false}
-use Rattle.std.proofs.Common.{◌&&◌, ◌==◌, inl, inr, slice_get, add-one, refl, sym, ap, subst, ◌∙◌, arith}
+use Rattle.std.proofs.Common.{◌&&◌, ◌==◌, inl, inr, slice_get, refl, sym, ap, subst, ◌∙◌, arith}
 use Rattle.std.proofs.lemmas.Bool.{eq-eqb, ne_eqb, eqb-true, eqb-false}
 use Rattle.std.specs.Option.{option_or}
+use Rattle.std.proofs.lemmas.List.{map_push, take_all}
 use Rattle.safl_word.specs.Words.{Word}
+use Rattle.safl_word.proofs.Lists.{take_next}
 use Rattle.safl_term.specs.Readiness.{or_else}
+use Rattle.safl_term.proofs.OrElse.{or_else_assoc, or_else_none, or_is}
 use Rattle.safl_net.specs.Netlist.{Netlist}
 use Rattle.safl_net.specs.Names.{IsTidy}
 use Rattle.safl_net.specs.Growth.{Val, words, Wired}
@@ -18,21 +21,11 @@ use Rattle.safl_lower.specs.declared.lowered.TailCall.{TailCall}
 use Rattle.safl_lower.specs.Typing.{Owner}
 use Rattle.safl_lower.specs.Entries.{member_of, Between, LoopFits, LoopsFit, cost}
 use Rattle.safl_lower.specs.Loads.{Listed, member_widths, taken_to, loads_cost, Merged}
-use Rattle.safl_lower.proofs.Arms.{or_none, or_assoc}
-use Rattle.safl_lower.proofs.Gathered.{map_end, cost_end}
+use Rattle.safl_lower.proofs.Gathered.{cost_end}
 use Rattle.safl_lower.proofs.Laid.{none_fits}
-use Rattle.safl_lower.proofs.Members.{take_all}
 use Rattle.safl_lower.proofs.Costs.{no_cost, stays_none, cost_more}
 
 -- ---- lists of tail calls
-
-take_suc : {A : Type 0} (xs : List A) (i : ℕ) (x : A) → slice_get xs i ≡ Some x → take (suc i) xs ≡ take i xs ++ x ∷ []
-take_suc [] i x e = absurd (cc)
-take_suc (y ∷ xs) zero x e = let s : y ≡ x = cc in ap (λ (z : _). z ∷ []) s
-take_suc (y ∷ xs) (suc i) x e = ap (λ (l : List _). y ∷ l) (take_suc xs i x e)
-
-take_next : {A : Type 0} (xs : List A) (i : ℕ) (x : A) → slice_get xs i ≡ Some x → take (i + 1) xs ≡ take i xs ++ x ∷ []
-take_next xs i x e = ap (λ (k : ℕ). take k xs) (add-one i) ∙ take_suc xs i x e
 
 call_fits : (F : Owner) (n : Netlist) (es : List TailCall) (i : ℕ) (e : TailCall) → LoopsFit F n es → slice_get es i ≡ Some e → LoopFits F n e
 call_fits F n [] i e h q = absurd (cc)
@@ -51,9 +44,9 @@ cost_so_far (e ∷ es) zero = omega arith
 cost_so_far (e ∷ es) (suc i) = let h = cost_so_far es i in omega (arith, h)
 
 taken_end : (v : Val) (es : List TailCall) (e : TailCall) (h : ℕ) → taken_to v (es ++ e ∷ []) h ≡ or_else (taken_to v es h) (gate ((e.member == h) && on v e.taken) (Some (words v e.args.items)))
-taken_end v [] e h = or_none (gate ((e.member == h) && on v e.taken) (Some (words v e.args.items)))
+taken_end v [] e h = or_else_none (gate ((e.member == h) && on v e.taken) (Some (words v e.args.items)))
 taken_end v (d ∷ es) e h = ap (or_else (gate ((d.member == h) && on v d.taken) (Some (words v d.args.items)))) (taken_end v es e h) ∙ sym
-    (or_assoc (gate ((d.member == h) && on v d.taken) (Some (words v d.args.items))) (taken_to v es h)
+    (or_else_assoc (gate ((d.member == h) && on v d.taken) (Some (words v d.args.items))) (taken_to v es h)
     (gate ((e.member == h) && on v e.taken) (Some (words v e.args.items))))
 
 listed_more : (k : ℕ) (js : List ℕ) (j : ℕ) → Listed k js → Listed k (js ++ j ∷ [])
@@ -64,10 +57,6 @@ listed_more k (i ∷ js) j (inr h) = inr (listed_more k js j h)
 listed_last : (js : List ℕ) (j k : ℕ) → j ≡ k → Listed k (js ++ j ∷ [])
 listed_last [] j k e = inl e
 listed_last (i ∷ js) j k e = inr (listed_last js j k e)
-
-or_is : {A : Type 0} (x y : Option A) → option_or x y ≡ or_else x y
-or_is None y = refl
-or_is (Some a) y = refl
 
 -- a member's place is its number after the first
 place_test : (first m i : ℕ) → first ≤ m → (i == m - first) ≡ (m == first + i)
@@ -130,7 +119,7 @@ module _ {first count : ℕ} {old cur : Netlist} {all : List TailCall} {j : ℕ}
       (shows : (v : Val) → Wired new v → (i : ℕ) → taken_from v ys i ≡ option_or (taken_from v xs i) (gate ((i == (e.member - first)) && on v e.taken) (Some (words v e.args.items)))) where
     idle_by : (i : ℕ) → ¬ Listed (first + i) (map member_of (take (j + 1) all)) → load_in (slice_get ys i) ≡ None
     idle_by i unlisted =
-        let split = ap (map member_of) next ∙ map_end member_of (take j all) e in
+        let split = ap (map member_of) next ∙ map_push member_of (take j all) e in
         let not_in : Listed (first + i) (map member_of (take j all) ++ e.member ∷ []) → ⊥ = λ g. unlisted (subst (Listed (first + i)) (sym split) g) in
         let place = place_is in
         stays_none cur new xs ys e.args.items (e.member - first) widths (member_widths F first) (h.fits F fit) (call_sized F fit) i
@@ -164,7 +153,7 @@ module _ {first count : ℕ} {old cur : Netlist} {all : List TailCall} {j : ℕ}
 pub merging_end : (first count : ℕ) (old new : Netlist) (all : List TailCall) (j : ℕ) (xs : List (Option Load)) → length all ≤ j → Merging first count
     old new all j xs → Builds old new (cost all) × Merged first count old new all xs
 merging_end first count old new all j xs l h =
-    let whole = take_all all j l in (
+    let whole = take_all j all l in (
       subst (λ (es : List TailCall). Builds old new (cost es)) whole h.built,
       record {
         size = h.size;

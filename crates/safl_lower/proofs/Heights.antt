@@ -1,5 +1,5 @@
 -- Heights of gates, in nets that grow and above rows that are halved.
-use Rattle.std.proofs.Common.{◌≡◌, ℕ, zero, suc, ◌+◌, ◌*◌, ◌<◌, ◌≤◌, ◌/◌, ◌^◌, ◌⊎◌, inl, inr, List, [], ◌∷◌, ◌++◌, length, Option, Some, None, Vec}
+use Rattle.std.proofs.Common.{◌≡◌, ℕ, zero, suc, ◌+◌, ◌*◌, ◌<◌, ◌≤◌, ◌/◌, ◌^◌, ◌⊎◌, inl, inr, List, [], ◌∷◌, ◌++◌, length, Option, Some, None, Vec, append_assoc}
 use Rattle.std.proofs.Common.{Global, Result, Ok, Err, IfOk, OnOk, slice_get, slice_index_or, refl, sym, ap, subst, ◌∙◌, arith}
 use Rattle.std.proofs.Math.Nat.{pow-succ'}
 use Rattle.std.proofs.lemmas.Bool.{cases_eq}
@@ -11,7 +11,6 @@ use Rattle.safl_net.proofs.Growth.{get_kept, get_new}
 use Rattle.safl_lower.specs.declared.loads.Load.{Load}
 use Rattle.safl_lower.specs.Sources.{Builds}
 use Rattle.safl_lower.specs.Rows.{maybe_one}
-use Rattle.safl_lower.proofs.JoinedRows.{append_both}
 use Rattle.safl_lower.specs.Heights.{maybe_reads, IsGateOf, EachOf, IsOneOf, Within, AllWithin, own_parts, load_parts, parts, Stands}
 
 each_map : (P Q : ℕ → Type 0) → ((s : ℕ) → P s → Q s) → (xs : List ℕ) → EachOf P xs → EachOf Q xs
@@ -173,7 +172,7 @@ module _ (n : Netlist) (xs low high : List Sig) (e : xs ≡ low ++ high) where
 
 parts_join : (xs ys : List Load) → parts (xs ++ ys) ≡ parts xs ++ parts ys
 parts_join [] ys = refl
-parts_join (x ∷ xs) ys = ap (λ (l : List Sig). own_parts x ++ l) (parts_join xs ys) ∙ sym (append_both (own_parts x) (parts xs) (parts ys))
+parts_join (x ∷ xs) ys = ap (λ (l : List Sig). own_parts x ++ l) (parts_join xs ys) ∙ sym (append_assoc (own_parts x) (parts xs) (parts ys))
 
 module _ (n : Netlist) (xs low high : List Load) (e : xs ≡ low ++ high) where
   pub parts_low : (h : ℕ) (ss : List Sig) → AllWithin n (parts low) h ss → AllWithin n (parts xs) h ss

@@ -1,6 +1,6 @@
 -- Bits and loads in a row that is joined of two.
 use Rattle.std.proofs.Common.{◌≡◌, ℕ, suc, ◌+◌, ◌<◌, ◌≤◌, List, [], ◌∷◌, ◌++◌, length, length-append, map, take, drop, slice_index_or, Option, Some}
-use Rattle.std.proofs.Common.{None, Vec, Global, Bool, true, false, cond, slice_get, slice_set, zero, ◌==◌, not, ◌&&◌, ◌||◌, refl, sym, ap, subst}
+use Rattle.std.proofs.Common.{Vec, Global, Bool, true, false, cond, slice_get, slice_set, zero, ◌==◌, not, ◌&&◌, ◌||◌, refl, sym, ap, subst}
 use Rattle.std.proofs.Common.{◌∙◌, arith}
 use Rattle.std.proofs.lemmas.List.{take-append-drop}
 use Rattle.safl_word.specs.Words.{Word}
@@ -18,6 +18,10 @@ use Rattle.safl_lower.proofs.Cells.{sources_length}
 use Rattle.safl_lower.proofs.KnownLoads.{load_kept}
 use Rattle.safl_lower.proofs.Joining.{get_set}
 use Rattle.std.proofs.lemmas.Bool.{eqb-true}
+use Rattle.std.proofs.Math.Bool.{or-false}
+use Rattle.safl_word.proofs.Booleans.{or_assoc, or_none}
+use Rattle.safl_word.proofs.Options.{option_or_assoc, option_or_none}
+use Rattle.safl_word.proofs.Lists.{get_map, nil_at_end}
 
 -- ---- bits
 
@@ -37,13 +41,9 @@ pub row_kept : {a b : Netlist} {k : ℕ} → Builds a b k → (xs : List Sig) �
 row_kept g [] h = tt
 row_kept g (x ∷ xs) h = (source_kept g h.0, row_kept g xs h.1)
 
-or_both : (a b c : Bool) → ((a || b) || c) ≡ (a || (b || c))
-or_both true b c = refl
-or_both false b c = refl
-
 pub any_append : (v : Val) (xs ys : List Sig) → on_any v (xs ++ ys) ≡ (on_any v xs || on_any v ys)
 any_append v [] ys = refl
-any_append v (x ∷ xs) ys = ap (λ (b : Bool). on v x || b) (any_append v xs ys) ∙ sym (or_both (on v x) (on_any v xs) (on_any v ys))
+any_append v (x ∷ xs) ys = ap (λ (b : Bool). on v x || b) (any_append v xs ys) ∙ sym (or_assoc (on v x) (on_any v xs) (on_any v ys))
 
 two_mix : (ty tx ax ay b : Bool) → ((ty || (tx || (ax && ay))) || (b && (ax || ay))) ≡ (ty || ((tx || (b && ax)) || ((b || ax) && ay)))
 two_mix true tx ax ay b = refl
@@ -57,12 +57,8 @@ two_mix false false false true false = refl
 two_mix false false false false true = refl
 two_mix false false false false false = refl
 
-none_either : (b : Bool) → b ≡ (b || false)
-none_either true = refl
-none_either false = refl
-
 pub two_append : (v : Val) (xs ys : List Sig) → on_two v (xs ++ ys) ≡ (on_two v ys || (on_two v xs || (on_any v xs && on_any v ys)))
-two_append v [] ys = none_either (on_two v ys)
+two_append v [] ys = or_none (on_two v ys)
 two_append v (x ∷ xs) ys =
     ap (λ (b : Bool). b || (on v x && on_any v (xs ++ ys))) (two_append v xs ys)
     ∙ ap (λ (b : Bool). (on_two v ys || (on_two v xs || (on_any v xs && on_any v ys))) || (on v x && b)) (any_append v xs ys)
@@ -96,14 +92,6 @@ frees_append v f (x ∷ xs) ys =
     ap (λ (l : List Bool). f ∷ l) (frees_append v (f && not (on v x)) xs ys)
     ∙ ap (λ (b : Bool). f ∷ (frees v (f && not (on v x)) xs ++ frees v b ys)) (not_either f (on v x) (on_any v xs))
 
-pub map_append : {A B : Type 0} (g : A → B) (xs ys : List A) → map g (xs ++ ys) ≡ map g xs ++ map g ys
-map_append g [] ys = refl
-map_append {A} {B} g (x ∷ xs) ys = ap (λ (l : List B). g x ∷ l) (map_append g xs ys)
-
-pub append_both : {A : Type 0} (xs ys zs : List A) → (xs ++ ys) ++ zs ≡ xs ++ (ys ++ zs)
-append_both [] ys zs = refl
-append_both {A} (x ∷ xs) ys zs = ap (λ (l : List A). x ∷ l) (append_both xs ys zs)
-
 -- ---- loads
 
 pub fit_front : (n : Netlist) (xs ys : List Load) (ws : List ℕ) → AllFit n (xs ++ ys) ws → AllFit n xs ws
@@ -122,17 +110,9 @@ pub fit_push : (n : Netlist) (xs : List Load) (l : Load) (ws : List ℕ) → All
 fit_push n [] l ws h q = (q, tt)
 fit_push n (x ∷ xs) l ws h q = (h.0, fit_push n xs l ws h.1 q)
 
-else_both : {A : Type 0} (a b c : Option A) → option_or (option_or a b) c ≡ option_or a (option_or b c)
-else_both None b c = refl
-else_both (Some x) b c = refl
-
-else_none : {A : Type 0} (a : Option A) → a ≡ option_or a None
-else_none None = refl
-else_none (Some x) = refl
-
 pub taken_append : (v : Val) (xs ys : List Load) → first_taken v (xs ++ ys) ≡ option_or (first_taken v xs) (first_taken v ys)
 taken_append v [] ys = refl
-taken_append v (x ∷ xs) ys = ap (option_or (taken v x)) (taken_append v xs ys) ∙ sym (else_both (taken v x) (first_taken v xs) (first_taken v ys))
+taken_append v (x ∷ xs) ys = ap (option_or (taken v x)) (taken_append v xs ys) ∙ sym (option_or_assoc (taken v x) (first_taken v xs) (first_taken v ys))
 
 pub row_append : (xs ys : List Load) → row_gates (xs ++ ys) ≡ row_gates xs + row_gates ys
 row_append [] ys = omega arith
@@ -188,17 +168,13 @@ bare_push [] r e h (suc i) = refl
 bare_push (x ∷ xs) r e h zero = h 0
 bare_push (x ∷ xs) r e h (suc i) = bare_push xs r e (λ j. h (suc j)) i
 
-pub append_none : {A : Type 0} (xs : List A) → xs ≡ xs ++ []
-append_none [] = refl
-append_none {A} (x ∷ xs) = ap (λ (l : List A). x ∷ l) (append_none xs)
-
 pub row_pushed : {A : Type 0} (xs : List (Vec A Global)) (p i : ℕ) (old new : Vec A Global) (s : A) → p < length xs → slice_get xs p ≡ Some old →
     new.items ≡ old.items ++ s ∷ [] → row_at (slice_set xs p new) i ≡ row_at xs i ++ cond (i == p) (s ∷ []) []
 row_pushed {A} xs p i old new s l e h = ap (λ (o : Option (Vec A Global)). row_in o) (get_set xs p i new l) ∙ by (i == p) refl
   where
     by : (b : Bool) → (i == p) ≡ b → row_in (cond b (Some new) (slice_get xs i)) ≡ row_at xs i ++ cond b (s ∷ []) []
     by true q = h ∙ ap (λ (o : Option (Vec A Global)). row_in o ++ s ∷ []) (sym (ap (slice_get xs) (eqb-true i p q) ∙ e))
-    by false q = append_none (row_at xs i)
+    by false q = nil_at_end (row_at xs i)
 
 -- ---- sums over rows
 
@@ -248,12 +224,8 @@ total_front g (x ∷ xs) (suc i) = let h = total_front g xs i in omega (arith, h
 pub any_pushed : (v : Val) (old new : List Sig) (t : Bool) (s : Sig) → new ≡ old ++ cond t (s ∷ []) [] → on_any v new ≡ (on_any v old || (t && on v s))
 any_pushed v old new t s e = ap (on_any v) e ∙ any_append v old (cond t (s ∷ []) []) ∙ ap (λ (b : Bool). on_any v old || b) (by t)
   where
-    alone_on : (b : Bool) → (b || false) ≡ b
-    alone_on true = refl
-    alone_on false = refl
-
     by : (b : Bool) → on_any v (cond b (s ∷ []) []) ≡ (b && on v s)
-    by true = alone_on (on v s)
+    by true = or-false (on v s)
     by false = refl
 
 pub bits_pushed : (n : Netlist) (old new : List Sig) (t : Bool) (s : Sig) → new ≡ old ++ cond t (s ∷ []) [] → AreBits n old → IsSource n s 1 → AreBits n new
@@ -261,13 +233,13 @@ bits_pushed n old new t s e h q = subst (AreBits n) (sym e) (by t)
   where
     by : (b : Bool) → AreBits n (old ++ cond b (s ∷ []) [])
     by true = bits_push n old s h q
-    by false = subst (AreBits n) (append_none old) h
+    by false = subst (AreBits n) (nil_at_end old) h
 
 pub first_pushed : (v : Val) (old new : List Load) (t : Bool) (l : Load) → new ≡ old ++ cond t (l ∷ []) [] → first_taken v new ≡ option_or (first_taken v old) (gate t (taken v l))
 first_pushed v old new t l e = ap (first_taken v) e ∙ taken_append v old (cond t (l ∷ []) []) ∙ ap (option_or (first_taken v old)) (by t)
   where
     by : (b : Bool) → first_taken v (cond b (l ∷ []) []) ≡ gate b (taken v l)
-    by true = sym (else_none (taken v l))
+    by true = sym (option_or_none (taken v l))
     by false = refl
 
 pub fit_pushed : (n : Netlist) (old new : List Load) (i p : ℕ) (l : Load) (ws : ℕ → List ℕ) → new ≡ old ++ cond (i == p) (l ∷ []) [] → AllFit n old (ws i) → LoadFits n l (ws p) → AllFit n new (ws i)
@@ -275,7 +247,7 @@ fit_pushed n old new i p l ws e h q = subst (λ (k : List Load). AllFit n k (ws 
   where
     by : (b : Bool) → (i == p) ≡ b → AllFit n (old ++ cond b (l ∷ []) []) (ws i)
     by true f = fit_push n old l (ws i) h (subst (λ (j : ℕ). LoadFits n l (ws j)) (sym (eqb-true i p f)) q)
-    by false f = subst (λ (k : List Load). AllFit n k (ws i)) (append_none old) h
+    by false f = subst (λ (k : List Load). AllFit n k (ws i)) (nil_at_end old) h
 
 -- what is free at a number of a row
 pub frees_at : (v : Val) (f : Bool) (xs : List Sig) (i : ℕ) → i < length xs → slice_get (frees v f xs) i ≡ Some (f && not (on_any v (take i xs)))
@@ -283,14 +255,9 @@ frees_at v f [] i l = absurd (omega (arith, l))
 frees_at v f (x ∷ xs) zero l = ap (λ (b : Bool). Some b) (and_true f)
 frees_at v f (x ∷ xs) (suc i) l = frees_at v (f && not (on v x)) xs i (omega (arith, l)) ∙ ap (λ (b : Bool). Some b) (not_either f (on v x) (on_any v (take i xs)))
 
-pub mapped_at : {A B : Type 0} (g : A → B) (xs : List A) (i : ℕ) (x : A) → slice_get xs i ≡ Some x → slice_get (map g xs) i ≡ Some (g x)
-mapped_at g [] i x e = absurd (cc)
-mapped_at {A} {B} g (y ∷ xs) zero x e = let q : y ≡ x = cc in ap (λ (z : A). Some (g z)) q
-mapped_at g (y ∷ xs) (suc i) x e = mapped_at g xs i x e
-
 -- a row's bits by their number: the row is free, and none before the number is 1
 pub row_free : (v : Val) (f : Bool) (xs out : List Sig) (i : ℕ) (s : Sig) → map (on v) out ≡ frees v f xs → i < length xs → slice_get out i ≡ Some s → on v s ≡ (f && not (on_any v (take i xs)))
-row_free v f xs out i s e l g = let a = mapped_at (on v) out i s g in let b = frees_at v f xs i l in let c = ap (λ (k : List Bool). slice_get k i) e in cc
+row_free v f xs out i s e l g = let a = get_map (on v) out i s g in let b = frees_at v f xs i l in let c = ap (λ (k : List Bool). slice_get k i) e in cc
 
 pub bit_of_row : (n : Netlist) (xs : List Sig) (i : ℕ) (s : Sig) → AreBits n xs → slice_get xs i ≡ Some s → IsSource n s 1
 bit_of_row n [] i s h e = absurd (cc)

@@ -1,9 +1,11 @@
 -- Loads that are joined, and tables of them.
-use Rattle.std.proofs.Common.{◌≡◌, ℕ, zero, suc, ◌<◌, List, [], ◌∷◌, length, Option, Some, None, Bool, true, false, ◌&&◌, ◌||◌, ◌==◌, cond, slice_get, slice_set, refl, sym, ap, subst, ◌∙◌, arith}
+use Rattle.std.proofs.Common.{◌≡◌, ℕ, zero, suc, ◌<◌, List, [], ◌∷◌, length, Option, Some, Bool, true, false, ◌&&◌, ◌||◌, ◌==◌, cond, slice_get, slice_set, refl, sym, ap, subst, ◌∙◌, arith}
 use Rattle.std.proofs.Math.Dec.{eqb-suc-zero, eqb-zero-suc, eqb-suc-suc}
 use Rattle.std.proofs.lemmas.Bool.{eqb-true}
 use Rattle.safl_word.specs.Words.{Word}
 use Rattle.std.specs.Option.{option_or, unwrap_or}
+use Rattle.safl_word.proofs.Booleans.{or_none}
+use Rattle.safl_word.proofs.Options.{option_or_none}
 use Rattle.safl_net.specs.declared.cell.Sig.{Sig}
 use Rattle.safl_net.specs.Netlist.{Netlist}
 use Rattle.safl_net.specs.Growth.{Val, words}
@@ -48,19 +50,6 @@ get_set (y ∷ xs) zero (suc j) x l = ap (λ (b : Bool). cond b (Some x) (slice_
 get_set (y ∷ xs) (suc i) zero x l = ap (λ (b : Bool). cond b (Some x) (Some y)) (sym (eqb-zero-suc i))
 get_set (y ∷ xs) (suc i) (suc j) x l = get_set xs i j x (omega (arith, l)) ∙ ap (λ (b : Bool). cond b (Some x) (slice_get xs j)) (sym (eqb-suc-suc j i))
 
-pub length_set : {A : Type 0} (xs : List A) (i : ℕ) (x : A) → length (slice_set xs i x) ≡ length xs
-length_set [] i x = refl
-length_set (y ∷ xs) zero x = refl
-length_set (y ∷ xs) (suc i) x = let h = length_set xs i x in omega (arith, h)
-
-pub or_false : (b : Bool) → b ≡ (b || false)
-or_false true = refl
-or_false false = refl
-
-or_nothing : {A : Type 0} (o : Option A) → o ≡ option_or o None
-or_nothing None = refl
-or_nothing (Some x) = refl
-
 pub bits_set : (v : Val) (xs : List (Option Sig)) (p i : ℕ) (old : Option Sig) (s bit : Sig) → p < length xs → slice_get xs p ≡ Some old → on v s ≡ (on_in v old || on v bit)
     → on_from v (slice_set xs p (Some s)) i ≡ (on_from v xs i || ((i == p) && on v bit))
 bits_set v xs p i old s bit l e h = ap (λ (o : Option (Option Sig)). on_in v (sig_in o)) (get_set xs p i (Some s) l) ∙ by (i == p) refl
@@ -69,7 +58,7 @@ bits_set v xs p i old s bit l e h = ap (λ (o : Option (Option Sig)). on_in v (s
     by true q =
         let k : slice_get xs i ≡ Some old = ap (slice_get xs) (eqb-true i p q) ∙ e in
         h ∙ ap (λ (o : Option (Option Sig)). on_in v (sig_in o) || on v bit) (sym k)
-    by false q = or_false (on_from v xs i)
+    by false q = or_none (on_from v xs i)
 
 pub loads_set : (v : Val) (xs : List (Option Load)) (p i : ℕ) (old : Option Load) (l : Load) (bit : Sig) (us : List Word) → p < length xs → slice_get
     xs p ≡ Some old → taken v l ≡ option_or (taken_in v old) (gate (on v bit) (Some us))
@@ -80,7 +69,7 @@ loads_set v xs p i old l bit us m e h = ap (λ (o : Option (Option Load)). taken
     by true q =
         let k : slice_get xs i ≡ Some old = ap (slice_get xs) (eqb-true i p q) ∙ e in
         h ∙ ap (λ (o : Option (Option Load)). option_or (taken_in v (load_in o)) (gate (on v bit) (Some us))) (sym k)
-    by false q = or_nothing (taken_from v xs i)
+    by false q = option_or_none (taken_from v xs i)
 
 pub loads_set_fit : (n : Netlist) (xs : List (Option Load)) (p : ℕ) (l : Load) (ws : ℕ → List ℕ) → p < length xs → SomeFit n xs ws → LoadFits n l (ws p) → SomeFit n (slice_set xs p (Some l)) ws
 loads_set_fit n xs p l ws m h q i = subst (λ (o : Option (Option Load)). FitsIn n (load_in o) (ws i)) (sym (get_set xs p i (Some l) m)) (by (i == p) refl)

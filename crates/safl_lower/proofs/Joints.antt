@@ -1,6 +1,9 @@
 -- Rows that are joined, one row after another.
-use Rattle.std.proofs.Common.{◌≡◌, ℕ, zero, suc, ◌*◌, List, [], ◌∷◌, ◌++◌, length, take, Option, Some, None, Vec, Global, Bool, true, false, ◌&&◌}
-use Rattle.std.proofs.Common.{◌||◌, slice_get, slice_index_or, refl, sym, ap, subst, ◌∙◌, arith}
+use Rattle.std.proofs.Common.{◌≡◌, ℕ, zero, suc, ◌*◌, List, [], ◌∷◌, ◌++◌, length, take, Option, Some, None, Vec, Global}
+use Rattle.std.proofs.Common.{slice_get, slice_index_or, refl, sym, subst, ◌∙◌, arith}
+use Rattle.std.proofs.Math.Bool.{and-false}
+use Rattle.safl_word.proofs.Lists.{take_suc}
+use Rattle.safl_word.proofs.Booleans.{or_none}
 use Rattle.safl_net.specs.declared.cell.Sig.{Sig}
 use Rattle.safl_net.specs.Netlist.{Netlist}
 use Rattle.safl_net.proofs.Growth.{wired_before}
@@ -16,11 +19,6 @@ use Rattle.safl_lower.proofs.Building.{source_kept}
 use Rattle.safl_lower.proofs.KnownLoads.{maybe_bit_kept}
 use Rattle.safl_lower.proofs.Heights.{within_kept, alone_within, all_kept}
 
-pub take_next : {A : Type 0} (xs : List A) (i : ℕ) (x : A) → slice_get xs i ≡ Some x → take (suc i) xs ≡ take i xs ++ x ∷ []
-take_next [] i x e = absurd (cc)
-take_next {A} (y ∷ xs) zero x e = let q : y ≡ x = cc in ap (λ (z : A). z ∷ []) q
-take_next {A} (y ∷ xs) (suc i) x e = ap (λ (l : List A). y ∷ l) (take_next xs i x e)
-
 -- ---- rows of bits
 
 pub none_any : (n : Netlist) (xs : List Sig) → length xs ≡ 0 → IsAnyOf n xs None
@@ -32,13 +30,9 @@ alone_any n [] h e = absurd (omega (arith, e))
 alone_any n (x ∷ y ∷ xs) h e = absurd (omega (arith, e))
 alone_any n (x ∷ []) h e = record {
   fits = h.0;
-  shows = λ v w. alone_on (on v x);
+  shows = λ v w. or_none (on v x);
   height = λ k l. (alone_within n (x ∷ []) (record { 0 = 0 }) k refl, tt);
 }
-  where
-    alone_on : (b : Bool) → b ≡ (b || false)
-    alone_on true = refl
-    alone_on false = refl
 
 pub any_kept : {a b : Netlist} {k : ℕ} → Builds a b k → (row : List Sig) (o : Option Sig) → IsAnyOf a row o → IsAnyOf b row o
 any_kept g row o q = record {
@@ -62,7 +56,7 @@ pub any_joined : (n : Netlist) (rows : List (Vec Sig Global)) (bits after : List
     → ((j : ℕ) → IsAnyOf n (row_at (take i rows) j) (sig_in (slice_get bits j))) → IsAnyOf n r.items b → after ≡ bits ++ b ∷ [] → (j : ℕ) → IsAnyOf n
     (row_at (take (suc i) rows) j) (sig_in (slice_get after j))
 any_joined n rows bits after i r b at e h q is j =
-    subst (λ (l : List (Vec Sig Global)). IsAnyOf n (row_at l j) (sig_in (slice_get after j))) (sym (take_next rows i r at))
+    subst (λ (l : List (Vec Sig Global)). IsAnyOf n (row_at l j) (sig_in (slice_get after j))) (sym (take_suc rows i r at))
     (subst (λ (l : List (Option Sig)). IsAnyOf n (row_at (take i rows ++ r ∷ []) j) (sig_in (slice_get l j))) (sym is) (any_more n (take i rows) bits r b e h q j))
 
 -- ---- whether one bit of a row is 1, and whether two are
@@ -73,19 +67,11 @@ alone_several n (x ∷ y ∷ xs) h e = absurd (omega (arith, e))
 alone_several n (x ∷ []) h e = record {
   any_fits = h.0;
   two_fits = tt;
-  any_shows = λ v w. alone_on (on v x);
-  two_shows = λ v w. sym (never (on v x));
+  any_shows = λ v w. or_none (on v x);
+  two_shows = λ v w. sym (and-false (on v x));
   height = λ k l. alone_within n (x ∷ []) (record { 0 = 0 }) k refl;
   two_height = λ k l. tt;
 }
-  where
-    alone_on : (b : Bool) → b ≡ (b || false)
-    alone_on true = refl
-    alone_on false = refl
-
-    never : (b : Bool) → (b && false) ≡ false
-    never true = refl
-    never false = refl
 
 pub several_kept : {a b : Netlist} {k : ℕ} → Builds a b k → (row : List Sig) (s : Several) → IsSeveralOf a row s → IsSeveralOf b row s
 several_kept g row s q = record {
@@ -116,7 +102,7 @@ pub several_joined : (n : Netlist) (rows : List (Vec Sig Global)) (all after : L
     → ((j : ℕ) → IsSeveralIn n (row_at (take i rows) j) (several_in (slice_get all j))) → IsSeveralIn n r.items o → after ≡ all ++ o ∷ [] → (j : ℕ) →
     IsSeveralIn n (row_at (take (suc i) rows) j) (several_in (slice_get after j))
 several_joined n rows all after i r o at e h q is j =
-    subst (λ (l : List (Vec Sig Global)). IsSeveralIn n (row_at l j) (several_in (slice_get after j))) (sym (take_next rows i r at))
+    subst (λ (l : List (Vec Sig Global)). IsSeveralIn n (row_at l j) (several_in (slice_get after j))) (sym (take_suc rows i r at))
     (subst (λ (l : List (Option Several)). IsSeveralIn n (row_at (take i rows ++ r ∷ []) j) (several_in (slice_get l j))) (sym is) (several_more n (take i rows) all r o e h q j))
 
 -- ---- rows of loads
@@ -146,7 +132,7 @@ pub first_joined : (n : Netlist) (rows : List (Vec Load Global)) (all after : Li
     → ((j : ℕ) → IsFirstOf n (row_at (take i rows) j) (load_in (slice_get all j))) → IsFirstOf n r.items o → after ≡ all ++ o ∷ [] → (j : ℕ) →
     IsFirstOf n (row_at (take (suc i) rows) j) (load_in (slice_get after j))
 first_joined n rows all after i r o at e h q is j =
-    subst (λ (l : List (Vec Load Global)). IsFirstOf n (row_at l j) (load_in (slice_get after j))) (sym (take_next rows i r at))
+    subst (λ (l : List (Vec Load Global)). IsFirstOf n (row_at l j) (load_in (slice_get after j))) (sym (take_suc rows i r at))
     (subst (λ (l : List (Option Load)). IsFirstOf n (row_at (take i rows ++ r ∷ []) j) (load_in (slice_get l j))) (sym is) (first_more n (take i rows) all r o e h q j))
 
 some_more : (n : Netlist) (all : List (Option Load)) (o : Option Load) (ws : ℕ → List ℕ) → SomeFit n all ws → FitsIn n o (ws (length all)) → SomeFit n (all ++ o ∷ []) ws

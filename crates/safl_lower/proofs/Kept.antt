@@ -2,6 +2,7 @@
 use Rattle.std.proofs.Common.{◌≡◌, ℕ, ◌+◌, List, [], ◌∷◌, ◌++◌, Option, Some, Bool, true, false, ◌&&◌, Result, Ok, Err, IfOk, refl, sym, ap, ◌∙◌}
 use Rattle.safl_word.specs.Words.{Word}
 use Rattle.safl_term.specs.Readiness.{or_else}
+use Rattle.safl_term.proofs.OrElse.{or_else_assoc, or_else_none}
 use Rattle.safl_net.specs.declared.cell.Sig.{Sig}
 use Rattle.safl_net.specs.Netlist.{Netlist}
 use Rattle.safl_net.specs.Growth.{Val, Grows}
@@ -18,7 +19,6 @@ use Rattle.safl_lower.specs.Typing.{Owner}
 use Rattle.safl_net.specs.Bits.{gate}
 use Rattle.safl_lower.specs.Entries.{asks, asked, goes, went}
 use Rattle.safl_lower.specs.Lowering.{Sited, Setting, Shaped, ShapedAll, goes_with}
-use Rattle.safl_lower.proofs.Arms.{or_none, or_assoc}
 use Rattle.safl_lower.specs.Sources.{IsSource, AreSources}
 use Rattle.safl_lower.proofs.Building.{source_grown, sources_grown, sources_joined}
 
@@ -70,12 +70,12 @@ setting_below {b = b} {slots = slots} {env = env} xs ws g s h z =
 -- ---- one more want, one more tail call
 
 pub asked_end : (v : Val) (es : List Want) (e : Want) (j : ℕ) → asked v (es ++ e ∷ []) j ≡ or_else (asked v es j) (asks v e j)
-asked_end v [] e j = or_none (asks v e j)
-asked_end v (x ∷ es) e j = ap (or_else (asks v x j)) (asked_end v es e j) ∙ sym (or_assoc (asks v x j) (asked v es j) (asks v e j))
+asked_end v [] e j = or_else_none (asks v e j)
+asked_end v (x ∷ es) e j = ap (or_else (asks v x j)) (asked_end v es e j) ∙ sym (or_else_assoc (asks v x j) (asked v es j) (asks v e j))
 
 pub went_end : (v : Val) (es : List TailCall) (e : TailCall) → went v (es ++ e ∷ []) ≡ or_else (went v es) (goes v e)
-went_end v [] e = or_none (goes v e)
-went_end v (x ∷ es) e = ap (or_else (goes v x)) (went_end v es e) ∙ sym (or_assoc (goes v x) (went v es) (goes v e))
+went_end v [] e = or_else_none (goes v e)
+went_end v (x ∷ es) e = ap (or_else (goes v x)) (went_end v es e) ∙ sym (or_else_assoc (goes v x) (went v es) (goes v e))
 
 pub three_gates : {A : Type 0} (a w b r : Bool) (x : Option A) → w ≡ (b && r) → gate (a && w) x ≡ gate a (gate b (gate r x))
 three_gates false w b r x e = refl

@@ -2,8 +2,11 @@
 use Rattle.std.proofs.Common.{◌≡◌, ℕ, zero, suc, ◌+◌, ◌-◌, ◌<◌, ◌≤◌, List, [], ◌∷◌, ◌++◌, map, length, Option, Some, None, Bool, true, false, ◌&&◌}
 use Rattle.std.proofs.Common.{◌⊎◌, inl, inr, ◌==◌, T, slice_get, slice_set, refl, sym, ap, subst, ◌∙◌, arith}
 use Rattle.std.proofs.Math.Facts.{eqb_yes}
+use Rattle.std.proofs.lemmas.List.{map_push}
 use Rattle.safl_word.specs.Words.{Word}
+use Rattle.safl_word.proofs.Lists.{slice_set_here, slice_set_length}
 use Rattle.safl_term.specs.Readiness.{or_else}
+use Rattle.safl_term.proofs.OrElse.{or_else_none}
 use Rattle.safl_net.specs.Netlist.{Netlist}
 use Rattle.safl_net.specs.Growth.{Val, words}
 use Rattle.safl_net.specs.Bits.{on, gate}
@@ -14,9 +17,7 @@ use Rattle.safl_lower.specs.declared.lowered.Want.{Want}
 use Rattle.safl_lower.specs.Typing.{Owner}
 use Rattle.safl_lower.specs.Entries.{asked, asks, site_of, Between, WantFits, WantsFit}
 use Rattle.safl_lower.specs.Loads.{Differs, Apart, Listed, site_widths, Spreads, Placed}
-use Rattle.safl_lower.proofs.Arms.{or_none}
 use Rattle.safl_lower.proofs.Kept.{asked_end}
-use Rattle.safl_lower.proofs.Gathered.{map_end}
 
 -- a call as a load
 abbrev pub want_load : Want → Load
@@ -59,7 +60,7 @@ so_far_start first count all xs a b e h = record {
   left = λ F n x. x;
   fits = λ F n x i. none_fits n xs i (site_widths F first i) (h i);
   called = λ i g. inl g;
-  told = λ v i. ap (λ (o : Option Load). or_else (asked v all (first + i)) (taken_in v o)) (h i) ∙ or_none (asked v all (first + i));
+  told = λ v i. ap (λ (o : Option Load). or_else (asked v all (first + i)) (taken_in v o)) (h i) ∙ or_else_none (asked v all (first + i));
 }
 
 differs_front : (k : ℕ) (js : List ℕ) (j : ℕ) → Differs k (js ++ j ∷ []) → Differs k js × (k ≡ j → ⊥)
@@ -107,16 +108,6 @@ set_other (y ∷ xs) zero (suc k) x h = refl
 set_other (y ∷ xs) (suc j) zero x h = refl
 set_other (y ∷ xs) (suc j) (suc k) x h = set_other xs j k x (λ e. h (ap suc e))
 
-pub set_here : {A : Type 0} (xs : List A) (j : ℕ) (x : A) → j < length xs → slice_get (slice_set xs j x) j ≡ Some x
-set_here [] j x h = absurd (omega arith)
-set_here (y ∷ xs) zero x h = refl
-set_here (y ∷ xs) (suc j) x h = set_here xs j x (omega arith)
-
-pub set_length : {A : Type 0} (xs : List A) (j : ℕ) (x : A) → length (slice_set xs j x) ≡ length xs
-set_length [] j x = refl
-set_length (y ∷ xs) zero x = refl
-set_length (y ∷ xs) (suc j) x = ap suc (set_length xs j x)
-
 fresh_set : (first count : ℕ) (xs : List (Option Load)) (ks : List ℕ) (j : ℕ) (x : Option Load) → first ≤ j → Between first count ks → Others ks j →
     Fresh first xs ks → Fresh first (slice_set xs (j - first) x) ks
 fresh_set first count xs [] j x l w o h = tt
@@ -130,7 +121,7 @@ no_equal j k e f = let g : (j == k) ≡ true = ap (λ (i : ℕ). j == i) f ∙ s
 -- one call is laid down
 module _ {first count : ℕ} {all all_rest : List Want} (rest : List Want) (e : Want) {xs : List (Option Load)} (q : all_rest ≡ rest ++ e ∷ []) (h : SoFar first count all all_rest xs) where
   split : map site_of all_rest ≡ map site_of rest ++ e.site ∷ []
-  split = ap (map site_of) q ∙ map_end site_of rest e
+  split = ap (map site_of) q ∙ map_push site_of rest e
 
   pub last_within : (first ≤ e.site) × (e.site < first + count)
   last_within = let b = between_front first (first + count) (map site_of rest) e.site (subst (Between first (first + count)) split h.within) in (b.1, b.2)
@@ -146,7 +137,7 @@ module _ {first count : ℕ} {all all_rest : List Want} (rest : List Want) (e : 
   here i t =
       let s : e.site ≡ first + i = eqb_yes (subst T (sym t) tt) in
       let p : e.site - first ≡ i = omega (arith, s) in
-      subst (λ (j : ℕ). slice_get (slice_set xs (e.site - first) (Some (want_load e))) j ≡ Some (Some (want_load e))) p (set_here xs (e.site - first) (Some (want_load e)) in_table)
+      subst (λ (j : ℕ). slice_get (slice_set xs (e.site - first) (Some (want_load e))) j ≡ Some (Some (want_load e))) p (slice_set_here xs (e.site - first) (Some (want_load e)) in_table)
 
   other : (i : ℕ) → (e.site == first + i) ≡ false → slice_get (slice_set xs (e.site - first) (Some (want_load e))) i ≡ slice_get xs i
   other i t =
@@ -186,12 +177,12 @@ module _ {first count : ℕ} {all all_rest : List Want} (rest : List Want) (e : 
       let asks_is : asks v e (first + i) ≡ mine = ap (λ (b : Bool). gate (b && on v e.want) (Some (words v e.args.items))) t in
       let was : taken_from v xs i ≡ None = subst (λ (j : ℕ). taken_from v xs j ≡ None) p (ap (taken_in v) lacks) in
       ap (or_else (asked v rest (first + i))) (ap (λ (o : Option (Option Load)). taken_in v (load_in o)) (here i t) ∙ sym asks_is)
-      ∙ sym (or_none (or_else (asked v rest (first + i)) (asks v e (first + i))))
+      ∙ sym (or_else_none (or_else (asked v rest (first + i)) (asks v e (first + i))))
       ∙ ap (or_else (or_else (asked v rest (first + i)) (asks v e (first + i)))) (sym was) ∙ old
   told_at v i false t lacks old =
       let asks_is : asks v e (first + i) ≡ None = ap (λ (b : Bool). gate (b && on v e.want) (Some (words v e.args.items))) t in
       ap (λ (o : Option (Option Load)). or_else (asked v rest (first + i)) (taken_in v (load_in o))) (other i t)
-      ∙ ap (λ (y : Option (List Word)). or_else y (taken_from v xs i)) (sym (or_none (asked v rest (first + i))) ∙ ap (or_else (asked v rest (first + i))) (sym asks_is))
+      ∙ ap (λ (y : Option (List Word)). or_else y (taken_from v xs i)) (sym (or_else_none (asked v rest (first + i))) ∙ ap (or_else (asked v rest (first + i))) (sym asks_is))
       ∙ old
 
   pub so_far_step : SoFar first count all rest (slice_set xs (e.site - first) (Some (want_load e)))
@@ -202,7 +193,7 @@ module _ {first count : ℕ} {all all_rest : List Want} (rest : List Want) (e : 
       record {
         apart = a.0;
         within = b.0;
-        size = set_length xs (e.site - first) (Some (want_load e)) ∙ h.size;
+        size = slice_set_length xs (e.site - first) (Some (want_load e)) ∙ h.size;
         fresh = fresh_set first (first + count) xs (map site_of rest) e.site (Some (want_load e)) b.1 b.0 a.1 f.0;
         left = λ F n x. (wants_front F n rest e (subst (WantsFit F n) q (h.left F n x))).0;
         fits = λ F n x i. fits_at F n x i (e.site == first + i) refl;

@@ -1,8 +1,10 @@
 -- The circuits of a constant, of a slot and of an operator.
 use Rattle.std.proofs.Common.{◌≡◌, ℕ, zero, suc, ◌<◌, List, [], ◌∷◌, map, length, Option, Some, None, Bool, true, false, slice_get, refl, ap, subst, ◌∙◌, arith}
+use Rattle.std.proofs.lemmas.Option.{slice_get_within}
 use Rattle.safl_word.specs.Words.{Word, slot}
 use Rattle.safl_word.specs.declared.primitive.Primitive.{Primitive}
 use Rattle.safl_word.specs.Primitives.{apply_prim, result_width}
+use Rattle.safl_word.proofs.Lists.{nil_at_end}
 use Rattle.safl_term.specs.Terms.{Const, Var, Op, Terms}
 use Rattle.safl_term.specs.Readiness.{word_of, apply_to, answer, answers, wanted}
 use Rattle.safl_net.specs.declared.cell.Sig.{Sig}
@@ -19,7 +21,7 @@ use Rattle.safl_lower.specs.Entries.{asked, went, site_of, member_of, cost}
 use Rattle.safl_lower.specs.Lowering.{back_of, goes_of, Lowers, LowersAll}
 use Rattle.safl_lower.proofs.Kept.{ready_kept, apart}
 use Rattle.safl_lower.proofs.Typing.{parts_typed}
-use Rattle.safl_lower.proofs.Gathered.{stays, stays_by, no_more, out_kept, told_by, never_is, mates_same}
+use Rattle.safl_lower.proofs.Gathered.{stays, stays_by, out_kept, told_by, never_is, mates_same}
 use Rattle.safl_lower.specs.Sources.{IsSource, AreSources, Builds}
 use Rattle.safl_net.proofs.Settling.{settles_on, settles_same}
 use Rattle.safl_lower.proofs.Cells.{source_at, sources_length}
@@ -31,15 +33,15 @@ pub lowers_const : {P : SiteTable} {slots : List Sig} {path s : Sig} {n0 n1 : Ne
     → Lowers P slots path n0 n1 o o (record { ready = Always; value = s }) (Const w)
 unfolding answer wanted
 lowers_const {P} {slots} {path} {s} {n0} {n1} {o} {w} b x y = record {
-  tails = λ F tail env n t. no_more (map member_of o.loops.items);
+  tails = λ F tail env n t. nil_at_end (map member_of o.loops.items);
   settles = b.settles;
   quiet = λ F env n t. refl;
   cheap = λ F tail env n t. omega arith;
   within = λ F tail env n s t x. x;
   more = [];
-  loops_more = no_more o.loops.items;
+  loops_more = nil_at_end o.loops.items;
   told = λ F tail env n t v h. tt;
-  sites = no_more (map site_of o.wants.items);
+  sites = nil_at_end (map site_of o.wants.items);
   fits = λ F tail env n s t x. out_kept b.grows x;
   grows = b.grows;
   count = let c = b.count in omega (arith, c);
@@ -55,12 +57,7 @@ slot_source : (n : Netlist) (slots : List Sig) (env : List ℕ) (i w : ℕ) (s :
 slot_source n slots env i w s h e f = let x = source_at n slots env i s h f in let k : x.0 ≡ w = let g = x.1 in cc in subst (IsSource n s) k x.2
 
 pub slot_within : (n : Netlist) (slots : List Sig) (env : List ℕ) (i w : ℕ) → AreSources n slots env → slice_get env i ≡ Some w → i < length slots
-slot_within n slots env i w h e = let l = sources_length n slots env h in let k = there env i w e in omega (arith, l, k)
-  where
-    there : (xs : List ℕ) (i w : ℕ) → slice_get xs i ≡ Some w → i < length xs
-    there [] i w e = absurd (cc)
-    there (x ∷ xs) zero w e = omega arith
-    there (x ∷ xs) (suc i) w e = let k = there xs i w e in omega (arith, k)
+slot_within n slots env i w h e = let l = sources_length n slots env h in let k = slice_get_within env i w e in omega (arith, l, k)
 
 slot_word : (v : Val) (slots : List Sig) (i : ℕ) (s : Sig) → slice_get slots i ≡ Some s → v s.0 ≡ slot (words v slots) i
 slot_word v [] i s e = absurd (cc)
@@ -71,15 +68,15 @@ pub lowers_var : {P : SiteTable} {slots : List Sig} {path s : Sig} {n : Netlist}
     → Lowers P slots path n n o o (record { ready = Always; value = s }) (Var i)
 unfolding answer wanted
 lowers_var {P} {slots} {path} {s} {n} {o} {i} e = record {
-  tails = λ F tail env n t. no_more (map member_of o.loops.items);
+  tails = λ F tail env n t. nil_at_end (map member_of o.loops.items);
   settles = settles_same n n refl;
   quiet = λ F env n t. refl;
   cheap = λ F tail env n t. omega arith;
   within = λ F tail env n s t x. x;
   more = [];
-  loops_more = no_more o.loops.items;
+  loops_more = nil_at_end o.loops.items;
   told = λ F tail env w t v h. tt;
-  sites = no_more (map site_of o.wants.items);
+  sites = nil_at_end (map site_of o.wants.items);
   fits = λ F tail env w s t x. x;
   grows = grows_none n;
   count = omega arith;
@@ -110,7 +107,7 @@ pub lowers_op : {P : SiteTable} {slots : List Sig} {path s : Sig} {n0 n1 n2 : Ne
     → Lowers P slots path n0 n2 o0 o1 (record { ready = all.ready; value = s }) (Op p ts)
 unfolding answer wanted
 lowers_op {P} {slots} {path} {s} {n0} {n1} {n2} {o0} {o1} {all} {p} {ts} hs d x y = record {
-  tails = λ F tail env w t. ap (map member_of) (hs.quiet F env t.width.0 (parts_typed t)) ∙ no_more (map member_of o0.loops.items);
+  tails = λ F tail env w t. ap (map member_of) (hs.quiet F env t.width.0 (parts_typed t)) ∙ nil_at_end (map member_of o0.loops.items);
   settles = settles_on hs.settles d.settles;
   quiet = λ F env w t. hs.quiet F env t.width.0 (parts_typed t);
   cheap = λ F tail env w t. let i = ap cost (hs.quiet F env t.width.0 (parts_typed t)) in omega (arith, i);

@@ -27,3 +27,4 @@ pub mod Joining
 pub mod JoinedRows
 pub mod Heights
 pub mod Joints
+pub mod Goes

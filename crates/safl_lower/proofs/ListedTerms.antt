@@ -1,5 +1,6 @@
 -- A list of terms of the code, term by term, as a plain list.
-use Rattle.std.proofs.Common.{◌≡◌, ℕ, zero, suc, ◌+◌, ◌*◌, ◌<◌, List, [], ◌∷◌, take, drop, Some, slice_get, Bool, true, false, ◌||◌, refl, ap, ◌∙◌, arith, add-one}
+use Rattle.std.proofs.Common.{◌≡◌, ℕ, zero, suc, ◌+◌, ◌*◌, ◌<◌, List, [], ◌∷◌, take, drop, Some, slice_get, Bool, true, false, ◌||◌, ap, ◌∙◌, arith, add-one}
+use Rattle.std.proofs.lemmas.Bool.{or_parts, or_right}
 use Rattle.safl_term.specs.Terms as plain
 use Rattle.safl_term.specs.declared.term.Term.{Term}
 use Rattle.safl_term.specs.Tree.{shown_term, shown_terms}
@@ -7,7 +8,6 @@ use Rattle.safl_term.specs.Sizes.{nodes, nodes_in}
 use Rattle.safl_lower.specs.Typing.{holds_calls, hold_calls}
 use Rattle.safl_lower.proofs.Lists.{end}
 use Rattle.safl_lower.proofs.Able.{joined}
-use Rattle.safl_lower.proofs.Quiet.{or_off}
 
 take_next : (ts : List Term) (i : ℕ) (x : Term) → slice_get ts i ≡ Some x → shown_terms (take (suc i) ts) ≡ end (shown_terms (take i ts)) (shown_term x)
 take_next [] i x e = absurd (cc)
@@ -29,18 +29,14 @@ smaller_at (t ∷ ts) (suc i) x e = let h = smaller_at ts i x e in omega (arith,
 
 -- ---- calls in a list
 
-or_on : (a b : Bool) → b ≡ true → (a || b) ≡ true
-or_on true b e = refl
-or_on false b e = e
-
 one_holds : (ts : plain.Terms) (t : plain.Term) (us : plain.Terms) → holds_calls t ≡ true → hold_calls (joined ts (plain.Cons t us)) ≡ true
 one_holds plain.Nil t us e = ap (λ (b : Bool). b || hold_calls us) e
-one_holds (plain.Cons x ts) t us e = or_on (holds_calls x) (hold_calls (joined ts (plain.Cons t us))) (one_holds ts t us e)
+one_holds (plain.Cons x ts) t us e = or_right (holds_calls x) (hold_calls (joined ts (plain.Cons t us))) (one_holds ts t us e)
 
 none_hold : (ts : plain.Terms) (t : plain.Term) → hold_calls ts ≡ false → holds_calls t ≡ false → hold_calls (end ts t) ≡ false
 none_hold plain.Nil t e f = ap (λ (b : Bool). b || false) f
 none_hold (plain.Cons x ts) t e f =
-    let h = or_off (holds_calls x) (hold_calls ts) e in
+    let h = or_parts (holds_calls x) (hold_calls ts) e in
     ap (λ (b : Bool). b || hold_calls (end ts t)) h.0 ∙ none_hold ts t h.1 f
 
 pub holds_at : (ts : List Term) (i : ℕ) (x : Term) → slice_get ts i ≡ Some x → holds_calls (shown_term x) ≡ true → hold_calls (shown_terms ts) ≡ true

@@ -5,6 +5,7 @@ use Rattle.safl_term.specs.WellFormed.{Spans, SpansAll, HasWidth, HaveWidths}
 use Rattle.safl_term.proofs.Places.{fits_le, fits_all_le}
 use Rattle.safl_lower.proofs.Branches.{Both}
 use Rattle.safl_word.specs.Words.{Word}
+use Rattle.safl_word.proofs.Lists.{nil_at_end}
 use Rattle.safl_term.specs.Terms.{Term, Terms, Nil, Cons}
 use Rattle.safl_term.specs.Readiness.{Answer, Ready, LoopTo, NotYet, word_of, both, or_else, answer, answers, wanted, wanted_in}
 use Rattle.safl_net.specs.declared.cell.Sig.{Sig}
@@ -20,12 +21,14 @@ use Rattle.safl_lower.specs.declared.lowered.Out.{Out}
 use Rattle.safl_net.specs.Bits.{on, gate}
 use Rattle.safl_lower.specs.Bits.{is_ready, ReadyAt}
 use Rattle.safl_term.specs.Sizes.{nodes, nodes_in}
+use Rattle.safl_term.proofs.OrElse.{or_else_assoc, or_else_none}
+use Rattle.safl_term.proofs.PlainTerms.{some_nodes}
 use Rattle.safl_lower.specs.Typing.{Owner, Typed, TypedAll, sites_of, sites_in}
 use Rattle.safl_lower.specs.Entries.{asked, went, site_of}
 use Rattle.safl_lower.specs.Lowering.{back_of, open_at, gives, goes_of, ShapedAll, Lowers, LowersAll}
-use Rattle.safl_lower.proofs.Arms.{or_assoc, or_none, gate_or, and_then, join}
+use Rattle.safl_lower.proofs.Arms.{gate_or, and_then, join}
 use Rattle.safl_lower.proofs.Kept.{setting_kept, apart}
-use Rattle.safl_lower.proofs.Gathered.{words_more, stays, stays_by, no_goes, no_more, more_twice, out_kept, told_by, told_more, gate_is_none, some_nodes}
+use Rattle.safl_lower.proofs.Gathered.{words_more, stays, stays_by, no_goes, more_twice, out_kept, told_by, told_more, gate_is_none}
 use Rattle.safl_lower.specs.Sources.{AreSources}
 use Rattle.safl_lower.proofs.Building.{source_grown, sources_grown, sources_joined}
 use Rattle.safl_net.proofs.Settling.{settles_on, settles_same}
@@ -57,11 +60,11 @@ peval_end back env (Cons x ts) t = ap (both (answer back env x)) (peval_end back
 
 wanted_end : (back : ℕ → Option Word) (env : List Word) (ts : Terms) (t : Term) (k : ℕ) → wanted_in back env (end ts t) k ≡ or_else (wanted_in back env ts k) (wanted back env t k)
 unfolding wanted
-wanted_end back env Nil t k = or_none (wanted back env t k)
-wanted_end back env (Cons x ts) t k = ap (or_else (wanted back env x k)) (wanted_end back env ts t k) ∙ sym (or_assoc (wanted back env x k) (wanted_in back env ts k) (wanted back env t k))
+wanted_end back env Nil t k = or_else_none (wanted back env t k)
+wanted_end back env (Cons x ts) t k = ap (or_else (wanted back env x k)) (wanted_end back env ts t k) ∙ sym (or_else_assoc (wanted back env x k) (wanted_in back env ts k) (wanted back env t k))
 
 sites_end : (ts : Terms) (t : Term) → sites_in (end ts t) ≡ sites_in ts ++ sites_of t
-sites_end Nil t = sym (no_more (sites_of t))
+sites_end Nil t = sym (nil_at_end (sites_of t))
 sites_end (Cons x ts) t = ap (λ (l : List ℕ). sites_of x ++ l) (sites_end ts t) ∙ sym (append_assoc (sites_of x) (sites_in ts) (sites_of t))
 
 pub nodes_end : (ts : Terms) (t : Term) → nodes_in (end ts t) ≡ nodes_in ts + nodes t
@@ -117,9 +120,9 @@ lowers_none {P} {slots} {path} {n} {o} {r} e f = record {
   quiet = λ F env ws t. refl;
   long = let k = ap length f in omega (arith, k);
   more = [];
-  loops_more = no_more o.loops.items;
+  loops_more = nil_at_end o.loops.items;
   told = λ F env ws t v h. tt;
-  sites = no_more (map site_of o.wants.items);
+  sites = nil_at_end (map site_of o.wants.items);
   fits = λ F env ws s t x. x;
   grows = grows_none n;
   count = omega arith;
@@ -184,7 +187,7 @@ lowers_more {P} {slots} {path} {n0} {n1} {n2} {n3} {o0} {o1} {o2} {r} {s} {one} 
       let env = words v slots in
       let g = open_at v P path k in
       ht.wants F false scope l.width l.last v w2 k ∙ ap (λ (y : Option (List Word)). or_else y (gate g (wanted back env t k))) (hs.wants F scope l.front l.typed v w1 k)
-      ∙ or_assoc (asked v o0.wants.items k) (gate g (wanted_in back env ts k)) (gate g (wanted back env t k))
+      ∙ or_else_assoc (asked v o0.wants.items k) (gate g (wanted_in back env ts k)) (gate g (wanted back env t k))
       ∙ ap (or_else (asked v o0.wants.items k)) (sym (gate_or g (wanted_in back env ts k) (wanted back env t k)))
       ∙ ap (λ (y : Option (List Word)). or_else (asked v o0.wants.items k) (gate g y)) (sym (wanted_end back env ts t k));
   loops = λ F env ws ty v w3.

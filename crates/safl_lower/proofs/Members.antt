@@ -1,5 +1,5 @@
 -- What the tail calls to one member come to.
-use Rattle.std.proofs.Common.{◌≡◌, ℕ, zero, suc, ◌≤◌, List, [], ◌∷◌, take, length, Option, Some, None, Bool, true, false, ◌&&◌, cond, ◌==◌, refl, sym, ap, ◌∙◌, arith}
+use Rattle.std.proofs.Common.{◌≡◌, ℕ, zero, suc, List, [], ◌∷◌, take, Option, Some, None, Bool, true, false, ◌&&◌, cond, ◌==◌, refl, sym, ap, ◌∙◌}
 use Rattle.safl_word.specs.Words.{Word}
 use Rattle.safl_term.specs.Readiness.{or_else}
 use Rattle.safl_net.specs.Growth.{Val, words}
@@ -34,8 +34,3 @@ member_told v (d ∷ es) x h t e =
 take_none : {A : Type 0} (i : ℕ) → take {A = A} i [] ≡ []
 take_none zero = refl
 take_none (suc i) = refl
-
-pub take_all : {A : Type 0} (xs : List A) (i : ℕ) → length xs ≤ i → take i xs ≡ xs
-take_all [] i h = take_none i
-take_all (x ∷ xs) zero h = absurd (omega arith)
-take_all (x ∷ xs) (suc i) h = ap (λ (l : List _). x ∷ l) (take_all xs i (omega arith))

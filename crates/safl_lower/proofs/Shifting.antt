@@ -1,9 +1,10 @@
 -- Shifts by amounts that are cut down.
-use Rattle.std.proofs.Common.{◌≡◌, ℕ, ◌+◌, ◌*◌, ◌/◌, ◌%◌, ◌^◌, ◌<◌, ◌≤◌, inl, inr, List, [], ◌∷◌, length, cond, Some, None, Bool, true, false, ◌&&◌}
+use Rattle.std.proofs.Common.{◌≡◌, ℕ, ◌+◌, ◌*◌, ◌/◌, ◌%◌, ◌^◌, ◌<◌, ◌≤◌, inl, inr, List, [], ◌∷◌, length, cond, Some, Bool, true, false, ◌&&◌}
 use Rattle.std.proofs.Common.{nat_lt, nat_le, Result, Ok, Err, IfOk, slice_index_or, refl, sym, subst, ap, ◌∙◌, arith}
 use Rattle.std.proofs.lemmas.Bool.{leb-true, ltb-true, ltb-false, lt-ltb, le-ltb, eq-eqb, and_parts}
 use Rattle.std.proofs.lemmas.Nat.{mod_low}
 use Rattle.std.proofs.Math.Pow.{pow_mono}
+use Rattle.std.proofs.lemmas.Option.{cond_some}
 use Rattle.safl_word.specs.Words.{Word}
 use Rattle.safl_word.specs.Limits.{width_max}
 use Rattle.safl_word.specs.Primitives.{is_width, two_widths, bit_of, apply_prim, result_width}
@@ -36,10 +37,6 @@ row_width : (p : Primitive) → IsShift p → (ws : List ℕ) → result_width p
 row_width p (inl e) ws = ap (λ q. result_width q ws) e
 row_width p (inr e) ws = ap (λ q. result_width q ws) e
 
-tested : (b : Bool) (u w : ℕ) → cond b (Some u) None ≡ Some w → (b ≡ true) × (u ≡ w)
-tested true u w e = let q : u ≡ w = cc in (refl, q)
-tested false u w e = absurd (cc)
-
 row : (n : Netlist) (xs : List Sig) (ws : List ℕ) (d : Sig) (w : ℕ) → AreSources n xs ws → two_widths (λ w v. Some w) ws ≡ Some w → Operands n xs d w
 row n [] [] d w h e = absurd (cc)
 row n [] (u ∷ ws) d w h e = absurd h.widths
@@ -48,7 +45,7 @@ row n (x ∷ []) (u ∷ []) d w h e = absurd (cc)
 row n (x ∷ []) (u ∷ v ∷ ws) d w h e = absurd h.widths.1
 row n (x ∷ y ∷ xs) (u ∷ []) d w h e = absurd h.widths.1
 row n (x ∷ y ∷ []) (u ∷ v ∷ []) d w h e =
-    let t = tested (is_width u && is_width v) u w e in
+    let t = cond_some (is_width u && is_width v) u w e in
     let b = and_parts (is_width u) (is_width v) t.0 in
     let c = and_parts _ _ b.1 in
     record {

@@ -1,5 +1,5 @@
 -- The circuit of a body from that of its term.
-use Rattle.std.proofs.Common.{Vec, Global, ◌≡◌, ℕ, zero, suc, ◌+◌, ◌<◌, ◌≤◌, List, [], ◌∷◌, ◌++◌, map, length, Option, Some, Bool, true, false, slice_get, refl, sym, ap, subst, ◌∙◌, arith}
+use Rattle.std.proofs.Common.{Vec, Global, ◌≡◌, ℕ, ◌+◌, ◌<◌, ◌≤◌, List, [], ◌∷◌, ◌++◌, map, length, Option, Bool, true, false, refl, sym, ap, subst, ◌∙◌, arith}
 use Rattle.safl_word.specs.Words.{Word}
 use Rattle.safl_term.specs.Terms.{Term}
 use Rattle.safl_term.specs.Sizes.{nodes}
@@ -44,11 +44,6 @@ sites_first {t = t} e h = h.sites ∙ ap (λ (l : List Want). map site_of l ++ s
 
 empty_fits : (F : Owner) (n : Netlist) (o : Out) → o.wants.items ≡ [] → o.loops.items ≡ [] → OutFits F n o
 empty_fits F n o e f = record { wants = subst (WantsFit F n) (sym e) tt; loops = subst (LoopsFit F n) (sym f) tt }
-
-pub in_range : {A : Type 0} (xs : List A) (i : ℕ) (x : A) → slice_get xs i ≡ Some x → i < length xs
-in_range [] i x e = absurd (cc)
-in_range (y ∷ xs) zero x e = omega arith
-in_range (y ∷ xs) (suc i) x e = let h = in_range xs i x e in omega (arith, h)
 
 -- each site of the interval is called
 all_listed : (F : Owner) (P : SiteTable) (env : List ℕ) (w : ℕ) (t : Term) (es : List Want) → map site_of es ≡ sites_of t → P.first ≡ F.first →

@@ -1,17 +1,13 @@
 -- The widths of the inputs other than `start`, one signal after the other.
 use Rattle.std.proofs.Common.{◌≡◌, ℕ, zero, suc, ◌+◌, ◌<◌, ◌≤◌, List, [], ◌∷◌, ◌++◌, length, drop, Some, Bool, true, false, cond, slice_get, refl, sym, ap, ◌∙◌, arith, append_assoc}
-use Rattle.std.proofs.lemmas.List.{append-nil}
+use Rattle.std.proofs.lemmas.List.{append-nil, drop_all}
+use Rattle.safl_word.proofs.Lists.{get_some}
 use Rattle.safl_net.specs.Netlist.{Netlist, Signal, width_in, width_of}
 use Rattle.safl_net.specs.Making.{kind_at, name_at, kind_in, name_in}
 use Rattle.safl_net.specs.Runs.{is_argument}
 use Rattle.safl_net.specs.Arguments.{argument_widths}
 
-get_some : (gs : List Signal) (s : ℕ) → s < length gs → (g : Signal) × (slice_get gs s ≡ Some g)
-get_some [] s h = absurd (omega arith)
-get_some (g ∷ gs) zero h = (g, refl)
-get_some (g ∷ gs) (suc s) h = get_some gs s (omega (arith, h))
-
-drop_at : (gs : List Signal) (i : ℕ) (g : Signal) → slice_get gs i ≡ Some g → drop i gs ≡ g ∷ drop (i + 1) gs
+pub drop_at : (gs : List Signal) (i : ℕ) (g : Signal) → slice_get gs i ≡ Some g → drop i gs ≡ g ∷ drop (i + 1) gs
 drop_at [] i g e = absurd (cc)
 drop_at (h ∷ gs) zero g e = let q : h ≡ g = cc in ap (λ x. x ∷ gs) q
 drop_at (h ∷ gs) (suc i) g e = drop_at gs i g e ∙ ap (λ k. g ∷ drop k (h ∷ gs)) (let z : suc (i + 1) ≡ suc i + 1 = omega arith in z)
@@ -34,12 +30,6 @@ widths_more n old new i h e f =
     ∙ ap (λ l. old ++ argument_widths l) (sym (drop_at n.signals i g s.1))
     ∙ e
 
-past : (gs : List Signal) (i : ℕ) → length gs ≤ i → drop i gs ≡ []
-past [] zero h = refl
-past [] (suc i) h = refl
-past (g ∷ gs) zero h = absurd (omega (arith, h))
-past (g ∷ gs) (suc i) h = past gs i (omega (arith, h))
-
 pub widths_all : (n : Netlist) (all : List ℕ) (i : ℕ) → length n.signals ≤ i → all ++ argument_widths (drop i n.signals) ≡ argument_widths n.signals → all ≡ argument_widths n.signals
 unfolding argument_widths
-widths_all n all i h e = sym (append-nil all) ∙ ap (λ l. all ++ argument_widths l) (sym (past n.signals i h)) ∙ e
+widths_all n all i h e = sym (append-nil all) ∙ ap (λ l. all ++ argument_widths l) (sym (drop_all i n.signals h)) ∙ e

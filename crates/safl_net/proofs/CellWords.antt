@@ -7,6 +7,7 @@ use Rattle.safl_word.specs.declared.primitive.Primitive.{Primitive}
 use Rattle.safl_word.specs.declared.primitive.Primitive.TheVariants.{Ext}
 use Rattle.safl_word.proofs.Widths.{apply_width}
 use Rattle.safl_word.proofs.Fits.{apply_fits}
+use Rattle.safl_word.proofs.Words.{word_eq}
 use Rattle.safl_net.specs.declared.cell.Op.{Op}
 use Rattle.safl_net.specs.declared.cell.Op.TheVariants.{Const, Copy, Mux, Apply}
 use Rattle.safl_net.specs.Netlist.{Netlist, Signal, Kind, Input, Reg, Wire, Cell, width_in, width_of}
@@ -32,7 +33,7 @@ mux_says c a b w e = by (c == 1) (a == b) e (grind (arith, nat_tests))
     by true false e h = absurd (cc)
     by false q e h = absurd (cc)
 
-prim_says : (p : Primitive) (ws : List ℕ) (w : ℕ) → prim_width p ws ≡ Some w → result_width p ws ≡ Some w
+pub prim_says : (p : Primitive) (ws : List ℕ) (w : ℕ) → prim_width p ws ≡ Some w → result_width p ws ≡ Some w
 prim_says (Ext n) ws w e = absurd (cc)
 prim_says p ws w e = e
 
@@ -69,9 +70,6 @@ pub shown_widths : (n : Netlist) (v : Valuation) (xs : List ℕ) → word_widths
 shown_widths n v [] = refl
 shown_widths n v (x ∷ xs) = ap (λ l. width_of n x ∷ l) (shown_widths n v xs)
 
-word_same : (x y : Word) → x.width ≡ y.width → x.bits ≡ y.bits → x ≡ y
-word_same x y e f = ap (λ (w : ℕ). record { width = w; bits = x.bits }) e ∙ ap (λ (b : ℕ). record { width = y.width; bits = b }) f
-
 kind_shown : (n : Netlist) (v : Valuation) (state s : ℕ) (g : Signal) (k : Kind) → width_of n s ≡ g.width →
     ((c : Cell) → k ≡ Wire (Some c) → CellFits n g.width c) → Holds n v state (slice_index v s) k → KindHolds (signal_word n v) (signal_word n v s) k
 kind_shown n v state s g Input e f h = tt
@@ -80,9 +78,9 @@ kind_shown n v state s g (Wire None) e f h = tt
 kind_shown n v state s g (Wire (Some c)) e f h =
     let k = f c refl in
     let q = cell_width c.op (map (signal_word n v) c.operands) g.width (ap (op_width c.op) (shown_widths n v c.operands) ∙ k.gives) in
-    word_same (signal_word n v s) (cell_word c.op (map (signal_word n v) c.operands)) (e ∙ sym q) h
+    word_eq (signal_word n v s) (cell_word c.op (map (signal_word n v) c.operands)) (e ∙ sym q) h
 
-cell_of_net : (n : Netlist) (s : ℕ) (g : Signal) → IsNetlist n → slice_get n.signals s ≡ Some g → (c : Cell) → g.kind ≡ Wire (Some c) → CellFits n g.width c
+pub cell_of_net : (n : Netlist) (s : ℕ) (g : Signal) → IsNetlist n → slice_get n.signals s ≡ Some g → (c : Cell) → g.kind ≡ Wire (Some c) → CellFits n g.width c
 cell_of_net n s g w e c f = from g.kind f (w.signals s g e).kind
   where
     from : (k : Kind) → k ≡ Wire (Some c) → Rattle.safl_net.specs.Rules.KindFits n g.width k → CellFits n g.width c

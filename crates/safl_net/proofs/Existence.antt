@@ -1,15 +1,18 @@
 -- Some valuation fits: each wire's number is computed from those of lower rank.
-use Rattle.std.proofs.Common.{◌≡◌, ℕ, zero, suc, ◌+◌, ◌<◌, ◌^◌, List, [], ◌∷◌, map, length, Option, Some, None, slice_get, slice_index, slice_index_or, refl, sym, ap, subst, ◌∙◌, arith}
-use Rattle.safl_word.specs.Words.{Word, IsWord, AreWords}
+use Rattle.std.proofs.Common.{◌≡◌, ℕ, zero, suc, ◌+◌, ◌<◌, ◌^◌, List, [], ◌∷◌, map, length, Option, Some, None, slice_get, slice_index, refl, sym, ap, subst, ◌∙◌, arith}
+use Rattle.std.proofs.lemmas.Option.{slice_get_within}
+use Rattle.safl_word.specs.Words.{Word, IsWord}
+use Rattle.safl_word.proofs.Lists.{get_some, index_get, map_at}
+use Rattle.safl_word.proofs.Words.{are_words}
+use Rattle.safl_word.proofs.Naturals.{below_power}
 use Rattle.safl_net.specs.Netlist.{Netlist, Signal, Kind, Input, Reg, Wire, Cell, IsSet, AllSet, width_in, width_of}
 use Rattle.safl_net.specs.Valuations.{Valuation, Holds, Fits, IsAcyclic, signal_word, cell_word}
 use Rattle.safl_net.specs.Widths.{op_width}
 use Rattle.safl_net.specs.Making.{widths, kind_in, kind_at}
-use Rattle.safl_net.specs.Rules.{IsNetlist, KindFits, CellFits}
+use Rattle.safl_net.specs.Rules.{IsNetlist, CellFits}
 use Rattle.safl_net.specs.Laws.{FitWidths, HasInputs, OneFits, ExactlyOneValuation}
-use Rattle.safl_net.proofs.Naming.{within}
-use Rattle.safl_net.proofs.CellWords.{cell_width, cell_is_word, word_widths}
-use Rattle.safl_net.proofs.OneValuation.{map_same, one_valuation}
+use Rattle.safl_net.proofs.CellWords.{cell_width, cell_is_word, word_widths, cell_of_net}
+use Rattle.safl_net.proofs.OneValuation.{one_valuation}
 
 abbrev word_by : Netlist → (ℕ → ℕ) → ℕ → Word
 word_by n f t = record { width = width_of n t; bits = f t }
@@ -39,32 +42,15 @@ table_at f i [] s h = absurd (omega arith)
 table_at f i (x ∷ xs) zero h = ap f (omega arith)
 table_at f i (x ∷ xs) (suc s) h = table_at f (suc i) xs s (omega (arith, h)) ∙ ap f (omega arith)
 
-are_words : (f : ℕ → Word) (ts : List ℕ) → ((i t : ℕ) → slice_get ts i ≡ Some t → IsWord (f t)) → AreWords (map f ts)
-are_words f [] h = tt
-are_words f (t ∷ ts) h = (h 0 t refl, are_words f ts (λ i x e. h (suc i) x e))
-
 by_widths : (n : Netlist) (f : ℕ → ℕ) (ts : List ℕ) → word_widths (map (word_by n f) ts) ≡ widths n ts
 by_widths n f [] = refl
 by_widths n f (t ∷ ts) = ap (λ l. width_of n t ∷ l) (by_widths n f ts)
 
-index_get : (ts : List ℕ) (i t : ℕ) → slice_get ts i ≡ Some t → slice_index_or ts i 0 ≡ t
-index_get [] i t e = absurd (cc)
-index_get (x ∷ ts) zero t e = cc
-index_get (x ∷ ts) (suc i) t e = index_get ts i t e
-
 operand_in : (n : Netlist) (c : Cell) (w i t : ℕ) → CellFits n w c → slice_get c.operands i ≡ Some t → t < length n.signals
 operand_in n c w i t f e =
-    let a = f.known i 0 (within c.operands i t e) in
+    let a = f.known i 0 (slice_get_within c.operands i t e) in
     let b = index_get c.operands i t e in
     omega (arith, a, b)
-
-get_some : (gs : List Signal) (s : ℕ) → s < length gs → (g : Signal) × (slice_get gs s ≡ Some g)
-get_some [] s h = absurd (omega arith)
-get_some (g ∷ gs) zero h = (g, refl)
-get_some (g ∷ gs) (suc s) h = get_some gs s (omega (arith, h))
-
-cell_fits_in : (n : Netlist) (s : ℕ) (g : Signal) (c : Cell) → IsNetlist n → slice_get n.signals s ≡ Some g → g.kind ≡ Wire (Some c) → CellFits n g.width c
-cell_fits_in n s g c w e is = subst (λ k. KindFits n g.width k) is (w.signals s g e).kind
 
 module _ (n : Netlist) (made : IsNetlist n) (whole : AllSet n) (acyclic : IsAcyclic n) (state inputs : ℕ → ℕ) (states : FitWidths n state) (ins : FitWidths n inputs) where
   -- a wire's rank is below m
@@ -106,7 +92,7 @@ module _ (n : Netlist) (made : IsNetlist n) (whole : AllSet n) (acyclic : IsAcyc
       by g (Wire None) e is ih = refl
       by g (Wire (Some c)) e is ih =
           ap (λ l. (cell_word c.op l).bits)
-          (map_same (word_by n (number n state inputs m)) (word_by n (number n state inputs k)) c.operands
+          (map_at (word_by n (number n state inputs m)) (word_by n (number n state inputs k)) c.operands
           (λ i t o. ap (λ x. (let w : Word = record { width = width_of n t; bits = x } in w)) (ih t (lower s g c m e is a i t o) (lower s g c k e is b i t o))))
 
       none : (o : Option Signal) → slice_get n.signals s ≡ o → ((t : ℕ) → Below m t → Below k t → number n state inputs m t ≡ number n state inputs k t)
@@ -141,7 +127,7 @@ module _ (n : Netlist) (made : IsNetlist n) (whole : AllSet n) (acyclic : IsAcyc
   kind_word f s g (Reg init next) e is ih = made_word s g (state s) e (states s g e)
   kind_word f s g (Wire None) e is ih = absurd (subst IsSet is (whole s g e))
   kind_word f s g (Wire (Some c)) e is ih =
-      let k = cell_fits_in n s g c made e is in
+      let k = cell_of_net n s g made e c is in
       let same = by_widths n f c.operands in
       let q = cell_width c.op (map (word_by n f) c.operands) g.width (ap (op_width c.op) same ∙ k.gives) in
       let w = cell_is_word c.op (map (word_by n f) c.operands) g.width (are_words (word_by n f) c.operands (λ i t o. ih c i t refl o)) k.word (ap (op_width c.op) same ∙ k.gives) in
@@ -156,7 +142,7 @@ module _ (n : Netlist) (made : IsNetlist n) (whole : AllSet n) (acyclic : IsAcyc
       let g = get_some n.signals s h in
       subst (λ j. IsWord (record { width = width_of n s; bits = kind_number n state inputs (number n state inputs m) s j })) (sym (ap kind_in g.1))
       (kind_word (number n state inputs m) s g.0 g.0.kind g.1 refl
-      (λ c i t is o. is_word m t (lower s g.0 c m g.1 is b i t o) (operand_in n c g.0.width i t (cell_fits_in n s g.0 c made g.1 is) o)))
+      (λ c i t is o. is_word m t (lower s g.0 c m g.1 is b i t o) (operand_in n c g.0.width i t (cell_of_net n s g.0 made g.1 c is) o)))
 
   valuation : Valuation
   valuation = table final 0 n.signals
@@ -171,15 +157,15 @@ module _ (n : Netlist) (made : IsNetlist n) (whole : AllSet n) (acyclic : IsAcyc
 
   holds : (s : ℕ) (g : Signal) (j : Kind) → slice_get n.signals s ≡ Some g → g.kind ≡ j → Holds n valuation (state s) (slice_index valuation s) j
   holds s g Input e is = tt
-  holds s g (Reg init next) e is = at s (within n.signals s g e) ∙ final_is s g e ∙ ap (λ j. kind_number n state inputs (number n state inputs (acyclic.rank s)) s j) is
+  holds s g (Reg init next) e is = at s (slice_get_within n.signals s g e) ∙ final_is s g e ∙ ap (λ j. kind_number n state inputs (number n state inputs (acyclic.rank s)) s j) is
   holds s g (Wire None) e is = tt
   holds s g (Wire (Some c)) e is =
-      at s (within n.signals s g e) ∙ final_is s g e ∙ ap (λ j. kind_number n state inputs (number n state inputs (acyclic.rank s)) s j) is
+      at s (slice_get_within n.signals s g e) ∙ final_is s g e ∙ ap (λ j. kind_number n state inputs (number n state inputs (acyclic.rank s)) s j) is
       ∙ ap (λ l. (cell_word c.op l).bits)
-      (map_same (word_by n (number n state inputs (acyclic.rank s))) (signal_word n valuation) c.operands
+      (map_at (word_by n (number n state inputs (acyclic.rank s))) (signal_word n valuation) c.operands
       (λ i t o. ap (λ x. (let w : Word = record { width = width_of n t; bits = x } in w))
       (settled (acyclic.rank s) t (lower s g c (acyclic.rank s) e is (λ h d f k. omega arith) i t o)
-      ∙ sym (at t (operand_in n c g.width i t (cell_fits_in n s g c made e is) o)))))
+      ∙ sym (at t (operand_in n c g.width i t (cell_of_net n s g made e c is) o)))))
 
   final_fits : (s : ℕ) → s < length n.signals → final s < 2 ^ width_of n s
   unfolding final
@@ -190,17 +176,14 @@ module _ (n : Netlist) (made : IsNetlist n) (whole : AllSet n) (acyclic : IsAcyc
   fits = record {
     full = table_length final 0 n.signals;
     each = λ s g e.
-        let here = within n.signals s g e in (
-          (let q = at s here in let width = ap width_in e in small (slice_index valuation s) (final s) (width_of n s) g.width q width (final_fits s here)),
+        let here = slice_get_within n.signals s g e in (
+          (let q = at s here in let width = ap width_in e in below_power (slice_index valuation s) (final s) (width_of n s) g.width q width (final_fits s here)),
           holds s g g.kind e refl,
         );
   }
-    where
-      small : (a b v w : ℕ) → a ≡ b → v ≡ w → b < 2 ^ v → a < 2 ^ w
-      small a b v w e f h = subst (λ x. a < 2 ^ x) f (subst (λ x. x < 2 ^ v) (sym e) h)
 
   has_inputs : HasInputs n inputs valuation
-  has_inputs s g e is = at s (within n.signals s g e) ∙ final_is s g e ∙ ap (λ j. kind_number n state inputs (number n state inputs (acyclic.rank s)) s j) is
+  has_inputs s g e is = at s (slice_get_within n.signals s g e) ∙ final_is s g e ∙ ap (λ j. kind_number n state inputs (number n state inputs (acyclic.rank s)) s j) is
 
   exactly : (v : Valuation) × OneFits n state inputs v
   exactly = (

@@ -3,8 +3,8 @@ use Rattle.std.proofs.Common.{◌≡◌, ℕ, zero, suc, ◌+◌, ◌<◌, List,
 use Rattle.std.proofs.Common.{is_some, String, string_bytes, bytes_eq, refl, sym, ap, ◌∙◌, arith, slice_get, IfSome}
 use Rattle.std.specs.declared.alloc.Global.{Global}
 use Rattle.std.specs.Map.{lookup, keys_of}
-use Rattle.std.proofs.lemmas.Slice.Eq.{bytes_eq-Decides}
 use Rattle.std.proofs.lemmas.List.Quantifiers.{position-Some}
+use Rattle.safl_word.proofs.Lists.{bytes_flip}
 use Rattle.safl_net.specs.declared.cell.Sig.{Sig}
 use Rattle.safl_net.specs.declared.net.Row.{Row}
 use Rattle.safl_net.specs.Netlist.{Netlist, Signal, place, output_place}
@@ -12,14 +12,6 @@ use Rattle.safl_net.specs.Names.{named_signal}
 use Rattle.safl_net.specs.Rules.{IsNetlist}
 use Rattle.safl_net.specs.Stored.{signals_of, outputs_of, number_of}
 use Rattle.safl_net.proofs.Tables.{signal_found}
-
-bytes_flip : (x y : List ℕ) → bytes_eq x y ≡ bytes_eq y x
-bytes_flip x y = by (bytes_eq x y) (bytes_eq y x) (λ e. (bytes_eq-Decides y x).1 (sym ((bytes_eq-Decides x y).0 e))) (λ e. (bytes_eq-Decides x y).1 (sym ((bytes_eq-Decides y x).0 e)))
-  where
-    by : (a b : Bool) → (a ≡ true → b ≡ true) → (b ≡ true → a ≡ true) → a ≡ b
-    by true b f g = sym (f refl)
-    by false true f g = g refl
-    by false false f g = refl
 
 first_place : (es : List (String Global × Row)) (x : List ℕ) (j i : ℕ) → i < length es
     → ((d : String Global) → bytes_eq x (string_bytes (get_or (keys_of es) i d)) ≡ true)

@@ -3,6 +3,7 @@ use Rattle.std.proofs.Common.{◌≡◌, ℕ, zero, suc, ◌+◌, ◌<◌, ◌�
 use Rattle.std.proofs.Common.{Ok, Err, IfOk, OnOk, OnErr, IsSome, is_some, unwrap_or, slice_get, slice_index_or, refl, sym, ap, subst, ◌∙◌, arith}
 use Rattle.std.proofs.Common.{append_assoc}
 use Rattle.std.proofs.lemmas.List.{append-nil}
+use Rattle.safl_word.proofs.Lists.{get_end, get_front}
 use Rattle.safl_net.specs.declared.cell.Sig.{Sig}
 use Rattle.safl_net.specs.declared.cell.Op.{Op}
 use Rattle.safl_net.specs.Netlist.{Netlist, Signal, Kind, Input, Reg, Wire, width_in, width_of}
@@ -20,7 +21,7 @@ grows_none n = record { more = []; is = sym (append-nil n.signals); temps = tt; 
 pub grows_same : (n m : Netlist) → m ≡ n → Grows n m
 grows_same n m e = subst (λ k. Grows n k) (sym e) (grows_none n)
 
-wires_append : (xs ys : List Signal) → wires (xs ++ ys) ≡ wires xs + wires ys
+pub wires_append : (xs ys : List Signal) → wires (xs ++ ys) ≡ wires xs + wires ys
 wires_append [] ys = omega arith
 wires_append (x ∷ xs) ys = let e = wires_append xs ys in omega (arith, e)
 
@@ -52,11 +53,6 @@ grows_on {a} {b} {c} g h = record {
 pub grows_temp : (n m : Netlist) (op : Op) (xs : List Sig) → m ≡ with_signal n (temporary n op xs) → Grows n m
 grows_temp n m op xs e = subst (λ k. Grows n k) (sym e) (record { more = temporary n op xs ∷ []; is = refl; temps = (refl, tt, tt); outputs = refl })
 
-get_front : (xs ys : List Signal) (s : ℕ) (g : Signal) → slice_get xs s ≡ Some g → slice_get (xs ++ ys) s ≡ Some g
-get_front [] ys s g e = absurd (cc)
-get_front (x ∷ xs) ys zero g e = e
-get_front (x ∷ xs) ys (suc s) g e = get_front xs ys s g e
-
 pub get_kept : {a b : Netlist} → Grows a b → (s : ℕ) (g : Signal) → slice_get a.signals s ≡ Some g → slice_get b.signals s ≡ Some g
 get_kept {a} {b} h s g e = subst (λ l. slice_get l s ≡ Some g) (sym h.is) (get_front a.signals h.more s g e)
 
@@ -64,7 +60,7 @@ get_kept {a} {b} h s g e = subst (λ l. slice_get l s ≡ Some g) (sym h.is) (ge
 pub wired_before : {a b : Netlist} → Grows a b → {v : Val} → Wired b v → Wired a v
 wired_before h w = record { each = λ s g e. w.each s g (get_kept h s g e) }
 
-width_front : (xs ys : List Signal) (s w : ℕ) → maybe_width (slice_get xs s) ≡ Some w → maybe_width (slice_get (xs ++ ys) s) ≡ Some w
+pub width_front : (xs ys : List Signal) (s w : ℕ) → maybe_width (slice_get xs s) ≡ Some w → maybe_width (slice_get (xs ++ ys) s) ≡ Some w
 width_front [] ys s w e = absurd (cc)
 width_front (x ∷ xs) ys zero w e = e
 width_front (x ∷ xs) ys (suc s) w e = width_front xs ys s w e
@@ -124,10 +120,6 @@ sized_gives n op xs ws w h e = ap (op_width op) (sized_widths n xs ws h) ∙ e
 
 pub sized_fits : (n : Netlist) (op : Op) (xs : List Sig) (ws : List ℕ) (w : ℕ) → Sized n xs ws → op_width op ws ≡ Some w → IsSome (width_on n op xs)
 sized_fits n op xs ws w h e = ap is_some (sized_gives n op xs ws w h e)
-
-get_end : (xs : List Signal) (g : Signal) → slice_get (xs ++ g ∷ []) (length xs) ≡ Some g
-get_end [] g = refl
-get_end (x ∷ xs) g = get_end xs g
 
 pub get_new : (n m : Netlist) (g : Signal) (s : ℕ) → m ≡ with_signal n g → s ≡ length n.signals → slice_get m.signals s ≡ Some g
 get_new n m g s e f = ap (λ k. slice_get k.signals s) e ∙ ap (slice_get (n.signals ++ g ∷ [])) f ∙ get_end n.signals g

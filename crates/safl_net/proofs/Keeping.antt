@@ -1,6 +1,7 @@
 -- What the makers keep of a netlist.
-use Rattle.std.proofs.Common.{◌≡◌, ℕ, zero, suc, ◌<◌, ◌≤◌, List, [], ◌∷◌, ◌++◌, length, length-append, All, Some, None, true, false, ◌⊎◌, inl, inr}
+use Rattle.std.proofs.Common.{◌≡◌, ℕ, zero, suc, ◌<◌, ◌≤◌, List, [], ◌∷◌, length, length-append, All, Some, None, true, false, ◌⊎◌, inl, inr}
 use Rattle.std.proofs.Common.{slice_get, slice_index_or, refl, sym, ap, subst, ◌∙◌, arith}
+use Rattle.safl_word.proofs.Lists.{get_in_front, get_pushed}
 use Rattle.safl_net.specs.declared.cell.Sig.{Sig}
 use Rattle.safl_net.specs.declared.cell.Op.{Op}
 use Rattle.safl_net.specs.Netlist.{Netlist, Signal, Kind, Input, Reg, Wire, Cell, width_in, width_of}
@@ -8,7 +9,7 @@ use Rattle.safl_net.specs.Names.{is_good, has_name}
 use Rattle.safl_net.specs.Widths.{op_width, HasWord}
 use Rattle.safl_net.specs.Making.{with_signal, with_output, with_kind, set_kind, widths, numbers, cell_on, width_on}
 use Rattle.safl_net.specs.Rules.{IsNetlist, SignalFits, KindFits, CellFits}
-use Rattle.safl_net.proofs.Naming.{pushed, unnamed}
+use Rattle.safl_net.proofs.Naming.{unnamed}
 
 -- the first net's signals are in the second, with their widths
 pub record Above (n m : Netlist) : Type 0 where
@@ -34,7 +35,7 @@ numbers_at [] i d = refl
 numbers_at (x ∷ xs) zero d = refl
 numbers_at (x ∷ xs) (suc i) d = numbers_at xs i d
 
-numbers_length : (xs : List Sig) → length (numbers xs) ≡ length xs
+pub numbers_length : (xs : List Sig) → length (numbers xs) ≡ length xs
 numbers_length [] = refl
 numbers_length (x ∷ xs) = ap suc (numbers_length xs)
 
@@ -57,26 +58,21 @@ kind_above a w (Wire (Some c)) f = cell_above a w c f
 pub signal_above : {n m : Netlist} → Above n m → (g : Signal) → SignalFits n g → SignalFits m g
 signal_above a g f = record { good = f.good; some = f.some; most = f.most; kind = kind_above a g.width g.kind f.kind }
 
-get_front : {A : Type 0} (xs ys : List A) (s : ℕ) → s < length xs → slice_get (xs ++ ys) s ≡ slice_get xs s
-get_front [] ys s h = absurd (omega arith)
-get_front (x ∷ xs) ys zero h = refl
-get_front (x ∷ xs) ys (suc s) h = get_front xs ys s (omega arith)
-
 pub above_pushed : (n : Netlist) (g : Signal) → Above n (with_signal n g)
 above_pushed n g = record {
   more = let e = length-append n.signals (g ∷ []) in omega (arith, e);
-  same = λ s h. ap width_in (get_front n.signals (g ∷ []) s h);
+  same = λ s h. ap width_in (get_in_front n.signals (g ∷ []) s h);
 }
 
 pub above_output : (n : Netlist) (name : List ℕ) (s : ℕ) → Above n (with_output n name s)
 above_output n name s = record { more = omega arith; same = λ i h. refl }
 
-set_length : (gs : List Signal) (s : ℕ) (k : Kind) → length (set_kind gs s k) ≡ length gs
+pub set_length : (gs : List Signal) (s : ℕ) (k : Kind) → length (set_kind gs s k) ≡ length gs
 set_length [] s k = refl
 set_length (g ∷ gs) zero k = refl
 set_length (g ∷ gs) (suc s) k = ap suc (set_length gs s k)
 
-set_width : (gs : List Signal) (s : ℕ) (k : Kind) (i : ℕ) → width_in (slice_get (set_kind gs s k) i) ≡ width_in (slice_get gs i)
+pub set_width : (gs : List Signal) (s : ℕ) (k : Kind) (i : ℕ) → width_in (slice_get (set_kind gs s k) i) ≡ width_in (slice_get gs i)
 set_width [] s k i = refl
 set_width (g ∷ gs) zero k zero = refl
 set_width (g ∷ gs) zero k (suc i) = refl
@@ -97,23 +93,23 @@ push_kept n g w room new fits =
     record {
       few = let e = length-append n.signals (g ∷ []) in omega (arith, e);
       few_outputs = w.few_outputs;
-      signals = λ s h e. elim (pushed n.signals g h s e) [
+      signals = λ s h e. elim (get_pushed n.signals g h s e) [
         | inl q ↦ signal_above a h (w.signals s h q)
         | inr q ↦ subst (λ k. SignalFits (with_signal n g) k) (sym q.1) (signal_above a g fits)
       ];
       outputs = λ i o e. let f = w.outputs i o e in (f.0, (let r = a.more in let q = f.1 in omega (arith, q, r)));
-      apart = λ s t h k e f d. elim (pushed n.signals g h s e) [
-        | inl q ↦ elim (pushed n.signals g k t f) [
+      apart = λ s t h k e f d. elim (get_pushed n.signals g h s e) [
+        | inl q ↦ elim (get_pushed n.signals g k t f) [
           | inl r ↦ w.apart s t h k q r d
           | inr r ↦ absurd (u.signals s h q (sym (d ∙ ap (λ (x : Signal). x.name) r.1)))
         ]
-        | inr q ↦ elim (pushed n.signals g k t f) [
+        | inr q ↦ elim (get_pushed n.signals g k t f) [
           | inl r ↦ absurd (u.signals t k r (sym (ap (λ (x : Signal). x.name) q.1) ∙ d))
           | inr r ↦ q.0 ∙ sym r.0
         ]
       ];
       outputs_apart = w.outputs_apart;
-      between = λ s i h o e f d. elim (pushed n.signals g h s e) [
+      between = λ s i h o e f d. elim (get_pushed n.signals g h s e) [
         | inl q ↦ w.between s i h o q f d
         | inr q ↦ u.outputs i o f (sym (ap (λ (x : Signal). x.name) q.1) ∙ d)
       ];
@@ -129,22 +125,22 @@ output_kept n name t w room good new here =
       few = w.few;
       few_outputs = let e = length-append n.outputs ((name, t) ∷ []) in omega (arith, e);
       signals = λ s h e. signal_above a h (w.signals s h e);
-      outputs = λ i o e. elim (pushed n.outputs (name, t) o i e) [
+      outputs = λ i o e. elim (get_pushed n.outputs (name, t) o i e) [
         | inl q ↦ w.outputs i o q
         | inr q ↦ subst (λ (p : List ℕ × ℕ). (is_good p.0 ≡ true) × (p.1 < length n.signals)) (sym q.1) (good, here)
       ];
       apart = w.apart;
-      outputs_apart = λ i j o p e f d. elim (pushed n.outputs (name, t) o i e) [
-        | inl q ↦ elim (pushed n.outputs (name, t) p j f) [
+      outputs_apart = λ i j o p e f d. elim (get_pushed n.outputs (name, t) o i e) [
+        | inl q ↦ elim (get_pushed n.outputs (name, t) p j f) [
           | inl r ↦ w.outputs_apart i j o p q r d
           | inr r ↦ absurd (u.outputs i o q (sym (d ∙ ap (λ (x : List ℕ × ℕ). x.0) r.1)))
         ]
-        | inr q ↦ elim (pushed n.outputs (name, t) p j f) [
+        | inr q ↦ elim (get_pushed n.outputs (name, t) p j f) [
           | inl r ↦ absurd (u.outputs j p r (sym (ap (λ (x : List ℕ × ℕ). x.0) q.1) ∙ d))
           | inr r ↦ q.0 ∙ sym r.0
         ]
       ];
-      between = λ s i h o e f d. elim (pushed n.outputs (name, t) o i f) [
+      between = λ s i h o e f d. elim (get_pushed n.outputs (name, t) o i f) [
         | inl q ↦ w.between s i h o e q d
         | inr q ↦ u.signals s h e (sym (d ∙ ap (λ (x : List ℕ × ℕ). x.0) q.1))
       ];

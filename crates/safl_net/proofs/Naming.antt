@@ -1,48 +1,31 @@
 -- Names that stand and names that don't.
-use Rattle.std.proofs.Common.{◌≡◌, ℕ, zero, suc, ◌<◌, List, [], ◌∷◌, ◌++◌, length, Some, Bool, true, false, ◌||◌, ◌⊎◌, inl, inr, bytes_eq, slice_get, refl, ap, subst, arith}
+use Rattle.std.proofs.Common.{◌≡◌, ℕ, zero, suc, List, [], ◌∷◌, Some, Bool, true, false, ◌||◌, bytes_eq, slice_get, refl, subst}
 use Rattle.std.proofs.lemmas.Slice.Eq.{bytes_eq-Decides}
+use Rattle.std.proofs.lemmas.Bool.{or_parts}
 use Rattle.safl_net.specs.Netlist.{Netlist, Signal}
 use Rattle.safl_net.specs.Names.{named_signal, named_output, has_name}
-
-pub pushed : {A : Type 0} (xs : List A) (x y : A) (i : ℕ) → slice_get (xs ++ x ∷ []) i ≡ Some y → (slice_get xs i ≡ Some y) ⊎ ((i ≡ length xs) × (y ≡ x))
-pushed [] x y zero e = inr (refl, cc)
-pushed [] x y (suc i) e = absurd (cc)
-pushed (a ∷ xs) x y zero e = inl e
-pushed (a ∷ xs) x y (suc i) e = elim (pushed xs x y i e) [ inl h ↦ inl h | inr h ↦ inr (ap suc h.0, h.1) ]
-
-pub within : {A : Type 0} (xs : List A) (i : ℕ) (x : A) → slice_get xs i ≡ Some x → i < length xs
-within [] i x e = absurd (cc)
-within (a ∷ xs) zero x e = omega arith
-within (a ∷ xs) (suc i) x e = let h = within xs i x e in omega arith
-
-or_false : (a b : Bool) → (a || b) ≡ false → (a ≡ false) × (b ≡ false)
-or_false true b e = absurd (cc)
-or_false false b e = (refl, e)
 
 differ : (x y : List ℕ) → bytes_eq x y ≡ false → ¬ (x ≡ y)
 differ x y e f = absurd (let h = (bytes_eq-Decides x y).1 f in cc)
 
-same_bytes : (x y : List ℕ) → x ≡ y → bytes_eq x y ≡ true
-same_bytes x y e = (bytes_eq-Decides x y).1 e
-
 signal_unnamed : (gs : List Signal) (name : List ℕ) → named_signal gs name ≡ false → (s : ℕ) (g : Signal) → slice_get gs s ≡ Some g → ¬ (name ≡ g.name)
 signal_unnamed [] name e s g f = absurd (cc)
 signal_unnamed (h ∷ gs) name e zero g f =
-    let d = or_false (bytes_eq name h.name) (named_signal gs name) e in
+    let d = or_parts (bytes_eq name h.name) (named_signal gs name) e in
     let q : h ≡ g = cc in
     subst (λ (k : Signal). ¬ (name ≡ k.name)) q (differ name h.name d.0)
 signal_unnamed (h ∷ gs) name e (suc s) g f =
-    let d = or_false (bytes_eq name h.name) (named_signal gs name) e in
+    let d = or_parts (bytes_eq name h.name) (named_signal gs name) e in
     signal_unnamed gs name d.1 s g f
 
 output_unnamed : (os : List (List ℕ × ℕ)) (name : List ℕ) → named_output os name ≡ false → (i : ℕ) (o : List ℕ × ℕ) → slice_get os i ≡ Some o → ¬ (name ≡ o.0)
 output_unnamed [] name e i o f = absurd (cc)
 output_unnamed (p ∷ os) name e zero o f =
-    let d = or_false (bytes_eq name p.0) (named_output os name) e in
+    let d = or_parts (bytes_eq name p.0) (named_output os name) e in
     let q : p ≡ o = cc in
     subst (λ (k : List ℕ × ℕ). ¬ (name ≡ k.0)) q (differ name p.0 d.0)
 output_unnamed (p ∷ os) name e (suc i) o f =
-    let d = or_false (bytes_eq name p.0) (named_output os name) e in
+    let d = or_parts (bytes_eq name p.0) (named_output os name) e in
     output_unnamed os name d.1 i o f
 
 -- a name that nothing has differs from each that stands
@@ -52,7 +35,7 @@ pub record Unnamed (n : Netlist) (name : List ℕ) : Type 0 where
 
 pub unnamed : (n : Netlist) (name : List ℕ) → has_name n name ≡ false → Unnamed n name
 unnamed n name e =
-    let d = or_false (named_signal n.signals name) (named_output n.outputs name) e in
+    let d = or_parts (named_signal n.signals name) (named_output n.outputs name) e in
     record { signals = signal_unnamed n.signals name d.0; outputs = output_unnamed n.outputs name d.1 }
 
 signal_named : (gs : List Signal) (name : List ℕ) → ((s : ℕ) (g : Signal) → slice_get gs s ≡ Some g → ¬ (name ≡ g.name)) → named_signal gs name ≡ false

@@ -1,7 +1,8 @@
 -- At most one valuation fits.
-use Rattle.std.proofs.Common.{◌≡◌, ℕ, zero, suc, ◌<◌, List, [], ◌∷◌, map, length, Option, Some, None, refl, sym, ap, ◌∙◌, subst, arith}
+use Rattle.std.proofs.Common.{◌≡◌, ℕ, zero, suc, ◌<◌, List, [], ◌∷◌, length, Option, Some, None, refl, sym, ap, ◌∙◌, subst, arith}
 use Rattle.std.specs.Prelude.{slice_get, slice_index}
 use Rattle.safl_word.specs.Words.{Word}
+use Rattle.safl_word.proofs.Lists.{map_at}
 use Rattle.safl_net.specs.Netlist.{Netlist, Signal, Kind, Input, Reg, Wire, Cell, IsSet, AllSet, width_in}
 use Rattle.safl_net.specs.Valuations.{Valuation, Holds, Fits, IsAcyclic, signal_word, cell_word}
 use Rattle.safl_net.specs.Laws.{AtMostOneValuation}
@@ -19,10 +20,6 @@ same_lists [] (y ∷ ys) len h = absurd (omega (arith, len))
 same_lists (x ∷ xs) [] len h = absurd (omega (arith, len))
 same_lists (x ∷ xs) (y ∷ ys) len h = ap (λ a. a ∷ xs) (h 0) ∙ ap (λ l. y ∷ l) (same_lists xs ys (omega (arith, len)) (λ s. h (suc s)))
 
-pub map_same : (f g : ℕ → Word) (ts : List ℕ) → ((i t : ℕ) → slice_get ts i ≡ Some t → f t ≡ g t) → map f ts ≡ map g ts
-map_same f g [] h = refl
-map_same f g (t ∷ ts) h = ap (λ a. a ∷ map f ts) (h 0 t refl) ∙ ap (λ l. g t ∷ l) (map_same f g ts (λ i s e. h (suc i) s e))
-
 module _ (n : Netlist) (whole : AllSet n) (acyclic : IsAcyclic n) (state : ℕ → ℕ) (v w : Valuation) (fv : Fits n state v) (fw : Fits n state w)
     (inputs : (s : ℕ) (g : Signal) → slice_get n.signals s ≡ Some g → g.kind ≡ Input → slice_index v s ≡ slice_index w s) where
   -- a wire's number is below m
@@ -36,7 +33,7 @@ module _ (n : Netlist) (whole : AllSet n) (acyclic : IsAcyclic n) (state : ℕ �
       ((i t : ℕ) → slice_get c.operands i ≡ Some t → slice_index v t ≡ slice_index w t) → slice_index v s ≡ slice_index w s
   cell_same s g c e is h =
       holds v fv s g (Wire (Some c)) e is
-      ∙ ap (λ l. (cell_word c.op l).bits) (map_same (signal_word n v) (signal_word n w) c.operands
+      ∙ ap (λ l. (cell_word c.op l).bits) (map_at (signal_word n v) (signal_word n w) c.operands
       (λ i t o. ap (λ b. (let x : Word = record { width = width_in (slice_get n.signals t); bits = b } in x)) (h i t o)))
       ∙ sym (holds w fw s g (Wire (Some c)) e is)
 

@@ -1,11 +1,12 @@
 -- A net in which cells and next signals are set says all that it said.
-use Rattle.std.proofs.Common.{◌≡◌, ℕ, zero, suc, List, [], ◌∷◌, ◌++◌, map, Some, None, slice_get, refl, sym, ap, subst, ◌∙◌}
+use Rattle.std.proofs.Common.{◌≡◌, ℕ, zero, suc, List, [], ◌∷◌, map, Some, None, slice_get, refl, sym, ap, subst, ◌∙◌}
 use Rattle.safl_word.specs.Words.{Word}
+use Rattle.safl_word.proofs.Lists.{get_front}
 use Rattle.safl_net.specs.Netlist.{Netlist, Signal, Kind, Reg, Wire, Cell}
 use Rattle.safl_net.specs.Valuations.{cell_word}
 use Rattle.safl_net.specs.Making.{with_signal, with_output, with_kind, set_kind, kind_in, kind_at}
 use Rattle.safl_net.specs.Growth.{Val, KindHolds, SignalHolds, Wired, maybe_width, Grows, Says}
-use Rattle.safl_net.proofs.Growth.{wired_before, width_kept}
+use Rattle.safl_net.proofs.Growth.{wired_before, width_kept, width_front}
 
 pub says_same : (n : Netlist) → Says n n
 says_same n = record { before = λ v w. w; widths = λ s w e. e }
@@ -15,16 +16,6 @@ says_on g h = record { before = λ v w. g.before v (h.before v w); widths = λ s
 
 pub says_grown : {a b : Netlist} → Grows a b → Says a b
 says_grown g = record { before = λ v w. wired_before g w; widths = λ s w e. width_kept g s w e }
-
-get_front : (xs ys : List Signal) (s : ℕ) (g : Signal) → slice_get xs s ≡ Some g → slice_get (xs ++ ys) s ≡ Some g
-get_front [] ys s g e = absurd (cc)
-get_front (x ∷ xs) ys zero g e = e
-get_front (x ∷ xs) ys (suc s) g e = get_front xs ys s g e
-
-width_front : (xs ys : List Signal) (s w : ℕ) → maybe_width (slice_get xs s) ≡ Some w → maybe_width (slice_get (xs ++ ys) s) ≡ Some w
-width_front [] ys s w e = absurd (cc)
-width_front (x ∷ xs) ys zero w e = e
-width_front (x ∷ xs) ys (suc s) w e = width_front xs ys s w e
 
 -- one more signal, of any kind
 pub says_signal : (n : Netlist) (g : Signal) → Says n (with_signal n g)

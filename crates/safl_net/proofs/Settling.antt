@@ -1,14 +1,16 @@
 -- What keeps a net settled.
 use Rattle.std.proofs.Common.{◌≡◌, ℕ, zero, suc, ◌+◌, ◌<◌, List, [], ◌∷◌, ◌++◌, length, Option, Some, None, Bool, true, false, cond, ◌==◌, Result, Ok}
-use Rattle.std.proofs.Common.{Err, IfOk, OnOk, ◌⊎◌, inl, inr, slice_get, refl, sym, ap, subst, ◌∙◌, arith}
+use Rattle.std.proofs.Common.{Err, IfOk, OnOk, inl, inr, slice_get, refl, sym, ap, subst, ◌∙◌, arith}
 use Rattle.std.proofs.lemmas.Bool.Decides.{Decides-eqb}
+use Rattle.std.proofs.lemmas.Option.{slice_get_within}
+use Rattle.std.proofs.lemmas.Bool.{cases_eq}
+use Rattle.safl_word.proofs.Lists.{get_pushed}
 use Rattle.safl_net.specs.declared.cell.Sig.{Sig}
 use Rattle.safl_net.specs.declared.cell.Op.{Op}
 use Rattle.safl_net.specs.Netlist.{Netlist, Signal, Kind, Reg, Wire, Cell}
 use Rattle.safl_net.specs.Making.{with_signal, with_output, with_kind, set_kind, numbers, cell_on, temporary, kind_in, kind_at}
 use Rattle.safl_net.specs.Growth.{HasCell, Grows}
 use Rattle.safl_net.specs.Settled.{IsDriven, IsDrivenIn, IsSteady, AreSteady, IsSettled, SettlesOn, Settles}
-use Rattle.safl_net.proofs.Naming.{pushed, within}
 use Rattle.safl_net.proofs.Growth.{get_kept, get_new}
 
 -- ---- steady signals
@@ -24,7 +26,7 @@ pub steady_by : (n : Netlist) (s : ℕ) (g : Signal) → slice_get n.signals s �
 steady_by n s g e h = subst IsDrivenIn (sym e) h
 
 pub steady_within : (n : Netlist) (s : ℕ) → IsSteady n s → s < length n.signals
-steady_within n s h = let k = steady_get n s h in within n.signals s k.0 k.1
+steady_within n s h = let k = steady_get n s h in slice_get_within n.signals s k.0 k.1
 
 pub steady_kind : (n : Netlist) (s : ℕ) → s < length n.signals → IsDriven (kind_at n s) → IsSteady n s
 steady_kind n s l h = by n.signals s l h
@@ -92,13 +94,6 @@ ranked_else r s k t d = by (t == s) refl
     by true e = absurd (d ((Decides-eqb t s).0 e))
     by false e = refl
 
-same_or_not : (t s : ℕ) → (t ≡ s) ⊎ (¬ (t ≡ s))
-same_or_not t s = by (t == s) refl
-  where
-    by : (b : Bool) → (t == s) ≡ b → (t ≡ s) ⊎ (¬ (t ≡ s))
-    by true e = inl ((Decides-eqb t s).0 e)
-    by false e = inr (λ q. let h = (Decides-eqb t s).1 q in absurd (cc))
-
 module _ (n m : Netlist) (s : ℕ) (xs : List ℕ) (k : Changes n m s xs) (old : IsSettled n) where
   here : (t : ℕ) (g : Signal) (c : Cell) → t ≡ s → slice_get m.signals t ≡ Some g → g.kind ≡ Wire (Some c) → (¬ IsSteady n s) × (c.operands ≡ xs)
   here t g c q e f =
@@ -106,7 +101,7 @@ module _ (n m : Netlist) (s : ℕ) (xs : List ℕ) (k : Changes n m s xs) (old :
       (k.free g (Some c) e2 f, k.cell g c e2 f)
 
   read_steady : (t u i : ℕ) (g : Signal) (c : Cell) → slice_get m.signals t ≡ Some g → g.kind ≡ Wire (Some c) → slice_get c.operands i ≡ Some u → IsSteady n u
-  read_steady t u i g c e f o = elim (same_or_not t s) [
+  read_steady t u i g c e f o = elim (cases_eq t s) [
     | inl q ↦ k.operands i u (ap (λ l. slice_get l i) (sym (here t g c q e f).1) ∙ o)
     | inr q ↦ old.reads t u i g c (k.others t g q e) f o
   ]
@@ -124,7 +119,7 @@ module _ (n m : Netlist) (s : ℕ) (xs : List ℕ) (k : Changes n m s xs) (old :
       let w = read_steady t u i g c e f o in
       let z = read_other u h d w p r in
       let a = ranked_else old.acyclic.rank s (over old.acyclic.rank xs) u z in
-      elim (same_or_not t s) [
+      elim (cases_eq t s) [
         | inl q ↦
             let b = ranked_here old.acyclic.rank s (over old.acyclic.rank xs) t q in
             let l = is_over old.acyclic.rank xs i u (ap (λ x. slice_get x i) (sym (here t g c q e f).1) ∙ o) in
@@ -181,10 +176,10 @@ not_driven (g ∷ gs) = not_driven gs
 one_more : (n : Netlist) (g : Signal) (xs : List ℕ) → ((c : Cell) → g.kind ≡ Wire (Some c) → c.operands ≡ xs) → ((i t : ℕ) → slice_get xs i ≡ Some t → IsSteady n t)
     → Changes n (with_signal n g) (length n.signals) xs
 one_more n g xs is ok = record {
-  others = λ t h d e. elim (pushed n.signals g h t e) [ inl q ↦ q | inr q ↦ absurd (d q.0) ];
+  others = λ t h d e. elim (get_pushed n.signals g h t e) [ inl q ↦ q | inr q ↦ absurd (d q.0) ];
   free = λ h d e f. not_driven n.signals;
-  cell = λ h c e f. elim (pushed n.signals g h (length n.signals) e) [
-    | inl q ↦ let l = within n.signals (length n.signals) h q in absurd (omega (arith, l))
+  cell = λ h c e f. elim (get_pushed n.signals g h (length n.signals) e) [
+    | inl q ↦ let l = slice_get_within n.signals (length n.signals) h q in absurd (omega (arith, l))
     | inr q ↦ is c (ap (λ (x : Signal). x.kind) (sym q.1) ∙ f)
   ];
   operands = ok;
@@ -256,7 +251,7 @@ there n s e = by (slice_get n.signals s) refl e
   where
     by : (o : Option Signal) → slice_get n.signals s ≡ o → kind_in o ≡ Wire None → s < length n.signals
     by None q e = absurd (cc)
-    by (Some g) q e = within n.signals s g q
+    by (Some g) q e = slice_get_within n.signals s g q
 
 -- a wire without a cell gets one of steady operands
 pub settles_cell : (n m : Netlist) (s : ℕ) (op : Op) (xs : List Sig) → kind_at n s ≡ Wire None → AreSteady n xs → m ≡ with_kind n s (Wire (Some (cell_on op xs))) → Settles n m

@@ -5,6 +5,8 @@ use Rattle.std.specs.declared.alloc.Global.{Global}
 use Rattle.std.specs.Map.{lookup, values_of}
 use Rattle.indexmap.specs.IndexMap.{set_value_at}
 use Rattle.std.proofs.lemmas.List.{map_push}
+use Rattle.safl_word.proofs.Lists.{get_pushed}
+use Rattle.safl_word.proofs.Options.{none_of}
 use Rattle.safl_net.specs.declared.cell.Sig.{Sig}
 use Rattle.safl_net.specs.declared.net.Row.{Row}
 use Rattle.safl_net.specs.declared.net.Driver.{Driver}
@@ -13,7 +15,6 @@ use Rattle.safl_net.specs.Names.{is_good, named_signal, named_output, has_name, 
 use Rattle.safl_net.specs.Making.{set_kind}
 use Rattle.safl_net.specs.Rules.{IsNetlist, SignalFits, KindFits}
 use Rattle.safl_net.specs.Stored.{kind_of, signal_of, signals_of, outputs_of, net_of, ResetFits, KeepsNetlist}
-use Rattle.safl_net.proofs.Naming.{pushed}
 use Rattle.safl_net.proofs.Keeping.{push_kept, set_kept, output_kept}
 
 or_some : (a : Bool) {V : Type 0} (v : V) (o : Option V) (b : Bool) → is_some o ≡ b → is_some (cond a (Some v) o) ≡ (a || b)
@@ -29,10 +30,6 @@ pub output_found : (os : List (String Global × Sig)) (x : List ℕ) → is_some
 output_found [] x = refl
 output_found (e ∷ os) x = or_some (bytes_eq x (string_bytes e.0)) e.1 _ _ (output_found os x)
 
-pub none_some : {V : Type 0} (o : Option V) → is_some o ≡ false → o ≡ None
-none_some None e = refl
-none_some (Some v) e = absurd (cc)
-
 first_false : (a b : Bool) → (a || b) ≡ false → a ≡ false
 first_false true b e = absurd (cc)
 first_false false b e = refl
@@ -43,10 +40,10 @@ second_false false b e = e
 
 -- a name that nothing has is no key
 pub no_signal : (es : List (String Global × Row)) (os : List (String Global × Sig)) (x : List ℕ) → has_name (net_of es os) x ≡ false → lookup (λ k. bytes_eq x (string_bytes k)) es ≡ None
-no_signal es os x e = none_some _ (signal_found es x ∙ first_false (named_signal (signals_of es) x) (named_output (outputs_of os) x) e)
+no_signal es os x e = none_of _ (signal_found es x ∙ first_false (named_signal (signals_of es) x) (named_output (outputs_of os) x) e)
 
 pub no_output : (es : List (String Global × Row)) (os : List (String Global × Sig)) (x : List ℕ) → has_name (net_of es os) x ≡ false → lookup (λ k. bytes_eq x (string_bytes k)) os ≡ None
-no_output es os x e = none_some _ (output_found os x ∙ second_false (named_signal (signals_of es) x) (named_output (outputs_of os) x) e)
+no_output es os x e = none_of _ (output_found os x ∙ second_false (named_signal (signals_of es) x) (named_output (outputs_of os) x) e)
 
 pub wire_or_not : (k : Kind) → one_wire k ≤ 1
 wire_or_not Input = omega arith
@@ -73,7 +70,7 @@ rows_kept es os count name r k room new fits reset =
     let p = signals_push es name r in
     record {
       netlist = subst (λ gs. IsNetlist (record { signals = gs; outputs = outputs_of os })) (sym p) (push_kept (net_of es os) (signal_of (string_bytes name) r) k.netlist room new fits);
-      resets = λ i e q. elim (pushed es (name, r) e i q) [
+      resets = λ i e q. elim (get_pushed es (name, r) e i q) [
         | inl f ↦ k.resets i e f
         | inr f ↦ subst (λ (x : String Global × Row). ResetFits x.1.width x.1.driver) (sym f.1) reset
       ];

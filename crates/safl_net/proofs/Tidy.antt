@@ -4,10 +4,14 @@ use Rattle.std.proofs.Common.{OnErr, Bool, true, false, ◌||◌, ◌&&◌, ◌=
 use Rattle.std.proofs.lemmas.List.{take-append-le, take_at}
 use Rattle.std.proofs.lemmas.Fmt.{decimal_injective, decimal_by_steps, length-decimal-le}
 use Rattle.std.proofs.lemmas.Bool.Decides.{nat_tests}
+use Rattle.std.proofs.lemmas.Option.{slice_get_within}
+use Rattle.std.proofs.lemmas.Bool.{and_from}
+use Rattle.safl_word.proofs.Lists.{get_pushed}
+use Rattle.safl_word.proofs.Booleans.{all_three}
 use Rattle.safl_net.specs.Netlist.{Netlist, Signal}
 use Rattle.safl_net.specs.Names.{is_good, is_reserved, are_parts, is_part, is_start, is_temp, temp_name, has_name, one_wire, wires, IsTidy}
 use Rattle.safl_net.specs.Making.{with_signal, with_output}
-use Rattle.safl_net.proofs.Naming.{pushed, within, has_no_name}
+use Rattle.safl_net.proofs.Naming.{has_no_name}
 
 wires_before : (gs : List Signal) (s : ℕ) (g : Signal) → slice_get gs s ≡ Some g → wires (take s gs) + one_wire g.kind ≤ wires gs
 wires_before [] s g e = absurd (cc)
@@ -34,10 +38,10 @@ temp_free n t few = has_no_name n (temp_name (wires n.signals)) (record {
 
 pub tidy_pushed : (n : Netlist) (g : Signal) → IsTidy n → (is_temp g.name ≡ true → (one_wire g.kind ≡ 1) × (g.name ≡ temp_name (wires n.signals))) → IsTidy (with_signal n g)
 tidy_pushed n g t h = record {
-  signals = λ s k e f. elim (pushed n.signals g k s e) [
+  signals = λ s k e f. elim (get_pushed n.signals g k s e) [
     | inl q ↦
         let r = t.signals s k q f in
-        let here = within n.signals s k q in
+        let here = slice_get_within n.signals s k q in
         (r.0, r.1 ∙ ap (λ gs. temp_name (wires gs)) (sym (take-append-le s n.signals (g ∷ []) (omega (arith, here)))))
     | inr q ↦
         let r = h (sym (ap (λ (x : Signal). is_temp x.name) q.1) ∙ f) in (
@@ -65,7 +69,7 @@ tidy_made (Err x) n m g a b t e f = subst IsTidy (sym b) t
 pub tidy_output : (n : Netlist) (name : List ℕ) (s : ℕ) → IsTidy n → is_temp name ≡ false → IsTidy (with_output n name s)
 tidy_output n name s t e = record {
   signals = t.signals;
-  outputs = λ i o f. elim (pushed n.outputs (name, s) o i f) [
+  outputs = λ i o f. elim (get_pushed n.outputs (name, s) o i f) [
     | inl q ↦ t.outputs i o q
     | inr q ↦ ap (λ (x : List ℕ × ℕ). is_temp x.0) q.1 ∙ e
   ];
@@ -81,11 +85,7 @@ digit_part b h k = by (is_start b) (nat_le 48 b) (nat_le b 57) (grind (arith, na
     by false false d e f = absurd (cc)
 
 parts_push : (ds : List ℕ) (d : ℕ) → are_parts ds ≡ true → is_part d ≡ true → are_parts (ds ++ d ∷ []) ≡ true
-parts_push [] d e f = both (is_part d) true f refl
-  where
-    both : (a b : Bool) → a ≡ true → b ≡ true → (a && b) ≡ true
-    both true b e f = f
-    both false b e f = absurd (cc)
+parts_push [] d e f = and_from (is_part d) true f refl
 parts_push (c ∷ ds) d e f = by (is_part c) e (λ r. parts_push ds d r f)
   where
     by : (a : Bool) → (a && are_parts ds) ≡ true → (are_parts ds ≡ true → are_parts (ds ++ d ∷ []) ≡ true) → (a && are_parts (ds ++ d ∷ [])) ≡ true
@@ -97,11 +97,6 @@ decimal_parts n h = decimal_by_steps (λ m ds. are_parts ds ≡ true)
     (λ m k. parts_push [] (48 + m) refl (digit_part (48 + m) (omega arith) (omega (arith, k))))
     (λ m ds k e. parts_push ds (48 + m % 10) e (digit_part (48 + m % 10) (omega arith) (omega arith)))
     n h
-
-all_three : (a b c : Bool) → a ≡ true → b ≡ true → c ≡ true → (a && b && c) ≡ true
-all_three true true c e f g = g
-all_three true false c e f g = absurd (cc)
-all_three false b c e f g = absurd (cc)
 
 -- the names of temporaries are good
 pub temp_good : (i : ℕ) → i < 2 ^ 32 → is_good (temp_name i) ≡ true

@@ -1,16 +1,10 @@
 -- Runs of two nets with the same inputs.
 use Rattle.std.specs.Prelude.{◌≡◌, ℕ, List, [], ◌∷◌}
-use Rattle.safl_net.specs.Netlist.{Netlist, Signal, Kind, Input, Reg, Wire, AllSet}
+use Rattle.safl_net.specs.Netlist.{Netlist, Signal, AllSet, with_input}
 use Rattle.safl_net.specs.Names.{IsTidy}
 use Rattle.safl_net.specs.Rules.{IsNetlist}
 use Rattle.safl_net.specs.Valuations.{Valuation, Fits, IsAcyclic, reset_state, next_state}
 use Rattle.safl_net.specs.Mirrors.{Alike, Mirrors, ShowsCycle}
-
--- the numbers of the inputs, in order
-abbrev pub with_input : Kind → ℕ → List ℕ → List ℕ
-with_input Input w ws = w ∷ ws
-with_input (Reg init next) w ws = ws
-with_input (Wire cell) w ws = ws
 
 unfoldable pub numbers_of_inputs : List Signal → Valuation → List ℕ
 numbers_of_inputs [] v = []

@@ -1,6 +1,6 @@
 -- Netlists: a list of signals, each with its kind, and a list of outputs.
-use Rattle.std.specs.Prelude.{◌≡◌, ℕ, suc, List, [], ◌∷◌, Option, None, Some, cond, slice_get}
-use Rattle.std.proofs.Common.{bytes_eq}
+use Rattle.std.specs.Prelude.{◌≡◌, ℕ, suc, List, [], ◌∷◌, Option, None, Some, cond, slice_get, Bool, true, false}
+use Rattle.std.specs.Str.{bytes_eq}
 use Rattle.safl_net.specs.declared.cell.Op.{Op}
 
 -- an operation, and the numbers of its operands
@@ -51,3 +51,30 @@ place (g ∷ gs) name i = cond (bytes_eq g.name name) (Some i) (place gs name (s
 abbrev pub output_place : List (List ℕ × ℕ) → List ℕ → Option ℕ
 output_place [] name = None
 output_place (o ∷ os) name = cond (bytes_eq o.0 name) (Some o.1) (output_place os name)
+
+abbrev pub is_input : Kind → Bool
+is_input Input = true
+is_input (Reg init next) = false
+is_input (Wire cell) = false
+
+abbrev pub is_register : Kind → Bool
+is_register Input = false
+is_register (Reg init next) = true
+is_register (Wire cell) = false
+
+abbrev pub is_wire : Kind → Bool
+is_wire Input = false
+is_wire (Reg init next) = false
+is_wire (Wire cell) = true
+
+-- what an input has, before what those after it have
+abbrev pub with_input : Kind → ℕ → List ℕ → List ℕ
+with_input Input i is = i ∷ is
+with_input (Reg init next) i is = is
+with_input (Wire cell) i is = is
+
+-- the kind before what drives the signal is set
+abbrev pub open_kind : Kind → Kind
+open_kind Input = Input
+open_kind (Reg init next) = Reg init None
+open_kind (Wire cell) = Wire None

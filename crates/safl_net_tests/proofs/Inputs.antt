@@ -1,25 +1,11 @@
 -- The widths of a net's inputs, one signal after the other.
-use Rattle.std.proofs.Common.{◌≡◌, ℕ, zero, suc, ◌+◌, ◌<◌, ◌≤◌, List, [], ◌∷◌, ◌++◌, map, length, drop, Some, slice_get, refl, sym, ap, ◌∙◌, arith, append_assoc}
-use Rattle.std.proofs.lemmas.List.{append-nil}
-use Rattle.safl_net.specs.Netlist.{Netlist, Signal, Kind, Input, Reg, Wire, width_of}
+use Rattle.std.proofs.Common.{◌≡◌, ℕ, suc, ◌+◌, ◌<◌, ◌≤◌, List, [], ◌++◌, map, length, drop, refl, sym, ap, ◌∙◌, arith, append_assoc}
+use Rattle.std.proofs.lemmas.List.{append-nil, drop_all}
+use Rattle.safl_word.proofs.Lists.{get_some}
+use Rattle.safl_net.specs.Netlist.{Netlist, Kind, Input, Reg, Wire, width_of, with_input}
 use Rattle.safl_net.specs.Making.{kind_at, kind_in}
-use Rattle.safl_sim.specs.Places.{with_input, inputs_from}
-
-get_some : (gs : List Signal) (s : ℕ) → s < length gs → (g : Signal) × (slice_get gs s ≡ Some g)
-get_some [] s h = absurd (omega arith)
-get_some (g ∷ gs) zero h = (g, refl)
-get_some (g ∷ gs) (suc s) h = get_some gs s (omega (arith, h))
-
-drop_at : (gs : List Signal) (i : ℕ) (g : Signal) → slice_get gs i ≡ Some g → drop i gs ≡ g ∷ drop (i + 1) gs
-drop_at [] i g e = absurd (cc)
-drop_at (h ∷ gs) zero g e = let q : h ≡ g = cc in ap (λ x. x ∷ gs) q
-drop_at (h ∷ gs) (suc i) g e = drop_at gs i g e ∙ ap (λ k. g ∷ drop k (h ∷ gs)) (let z : suc (i + 1) ≡ suc i + 1 = omega arith in z)
-
-past : (gs : List Signal) (i : ℕ) → length gs ≤ i → drop i gs ≡ []
-past [] zero h = refl
-past [] (suc i) h = refl
-past (g ∷ gs) zero h = absurd (omega (arith, h))
-past (g ∷ gs) (suc i) h = past gs i (omega (arith, h))
+use Rattle.safl_net.proofs.ArgumentWidths.{drop_at}
+use Rattle.safl_sim.specs.Places.{inputs_from}
 
 -- the widths of the inputs from a signal on
 abbrev pub rest_widths : Netlist → ℕ → List ℕ
@@ -47,4 +33,4 @@ widths_more n old new all i h e f =
     ∙ e
 
 pub widths_end : (n : Netlist) (all widths : List ℕ) (i : ℕ) → length n.signals ≤ i → all ++ rest_widths n i ≡ widths → all ≡ widths
-widths_end n all widths i h e = sym (append-nil all) ∙ ap (λ l. all ++ map (width_of n) (inputs_from l i)) (sym (past n.signals i h)) ∙ e
+widths_end n all widths i h e = sym (append-nil all) ∙ ap (λ l. all ++ map (width_of n) (inputs_from l i)) (sym (drop_all i n.signals h)) ∙ e

@@ -3,7 +3,8 @@
 ghost use Rattle.std.specs.Prelude.{◌≡◌, ◌<◌, ◌++◌, [], length, map, IfOk, OnOk};
 ghost use Rattle.safl_net.specs.Netlist.{width_of};
 ghost use Rattle.safl_net.specs.Making.{kind_at};
-ghost use Rattle.safl_sim.specs.Places.{with_input, inputs_of};
+ghost use Rattle.safl_sim.specs.Places.{inputs_of};
+ghost use Rattle.safl_net.specs.Netlist.{with_input};
 
 use crate::circuits::{Fault, add_wire, set};
 use safl_net::{Net, NetErr, Op, Sig, SigKind, WidthsDiffer};

@@ -1,26 +1,24 @@
 -- Signals that are declared one after another.
 use Rattle.std.proofs.Common.{◌≡◌, ℕ, zero, suc, ◌+◌, ◌<◌, ◌≤◌, List, [], ◌∷◌, ◌++◌, length, length-append, Some, None, Result, Ok, Err, OnOk, true}
-use Rattle.std.proofs.Common.{false, cond, inl, inr, slice_get, refl, sym, ap, subst, ◌∙◌, arith}
+use Rattle.std.proofs.Common.{false, cond, inl, inr, slice_get, sym, ap, subst, ◌∙◌, arith}
 use Rattle.std.proofs.lemmas.Bool.{cases_eq}
+use Rattle.std.proofs.lemmas.Option.{slice_get_within}
+use Rattle.safl_word.proofs.Lists.{get_end, get_in_front, get_some}
 use Rattle.safl_net.specs.declared.cell.Sig.{Sig}
 use Rattle.safl_net.specs.declared.net.NetErr.TheVariants.{NameTaken, BadName}
 use Rattle.safl_net.specs.Netlist.{Netlist, Signal}
 use Rattle.safl_net.specs.Names.{is_good, has_name, is_temp, IsTidy}
 use Rattle.safl_net.specs.Making.{name_in, name_at, refusal, with_signal}
 use Rattle.safl_net.specs.Rules.{IsNetlist}
-use Rattle.safl_net.proofs.Naming.{within, Unnamed, has_no_name}
+use Rattle.safl_net.proofs.Naming.{Unnamed, has_no_name}
 use Rattle.safl_opt.specs.declared.fold.Values.{Values}
 use Rattle.safl_opt.specs.Values.{sig_at, Folds}
 use Rattle.safl_opt.specs.Building.{open_signal}
 use Rattle.safl_opt.specs.Stages.{Declared}
-use Rattle.safl_opt.proofs.Coming.{get_front, kept_get, kept_within}
-use Rattle.safl_opt.proofs.Adding.{get_some, kept_lasts}
+use Rattle.safl_opt.proofs.Coming.{kept_get, kept_within}
+use Rattle.safl_opt.proofs.Adding.{kept_lasts}
 use Rattle.safl_opt.proofs.Starting.{kept_once}
 use Rattle.safl_opt.proofs.TempNames.{not_temp}
-
-pub get_end : {A : Type 0} (xs : List A) (x : A) → slice_get (xs ++ x ∷ []) (length xs) ≡ Some x
-get_end [] x = refl
-get_end (y ∷ xs) x = get_end xs x
 
 -- a name that is good and that nothing has is not refused
 pub no_refusal : (m : Netlist) (name : List ℕ) → is_good name ≡ true → Unnamed m name → refusal m name ≡ None
@@ -53,7 +51,7 @@ module _ (n : Netlist) (kn : IsNetlist n) (ws : List ℕ) (f : Values) (h : Fold
           let g = get_some n.signals (sig_at f.signals.items i) (kept_within n ws (length ws) f h i lt) in
           no_refusal m (name_at n (sig_at f.signals.items i)) (ap (λ o. is_good (name_in o)) g.1 ∙ (kn.signals (sig_at f.signals.items i) g.0 g.1).good) (record {
             signals = λ y k at q.
-                let low : y < i = let a = within m.signals y k at in let b = d.long in omega (arith, a, b) in
+                let low : y < i = let a = slice_get_within m.signals y k at in let b = d.long in omega (arith, a, b) in
                 let same : k ≡ open_signal n (sig_at f.signals.items y) = (let z = sym at ∙ d.each y low in cc) in
                 let one = names_apart i y lt (omega (arith, low, lt)) (q ∙ ap (λ (x : Signal). x.name) same) in
                 absurd (omega (arith, one, low));
@@ -69,7 +67,7 @@ module _ (n : Netlist) (kn : IsNetlist n) (ws : List ℕ) (f : Values) (h : Fold
           ∙ get_end m.signals (open_signal n (sig_at f.signals.items i)) ∙ ap (λ k. Some (open_signal n (sig_at f.signals.items k))) (sym one)
       | inr ne ↦
           let low : x < i = omega (arith, lt, ne) in
-          get_front m.signals (open_signal n (sig_at f.signals.items i) ∷ []) x (let b = d.long in omega (arith, low, b)) ∙ d.each x low
+          get_in_front m.signals (open_signal n (sig_at f.signals.items i) ∷ []) x (let b = d.long in omega (arith, low, b)) ∙ d.each x low
     ];
     outputs = d.outputs;
   }))
@@ -84,7 +82,7 @@ module _ (n : Netlist) (kn : IsNetlist n) (ws : List ℕ) (f : Values) (h : Fold
   pub declared_tidy : IsTidy n → (m : Netlist) → Declared n f f.kept m → IsTidy m
   declared_tidy tidy m d = record {
     signals = λ y k at temp.
-        let low : y < f.kept = let a = within m.signals y k at in let b = d.long in omega (arith, a, b) in
+        let low : y < f.kept = let a = slice_get_within m.signals y k at in let b = d.long in omega (arith, a, b) in
         let same : k ≡ open_signal n (sig_at f.signals.items y) = (let z = sym at ∙ d.each y low in cc) in
         absurd (let z = sym temp ∙ ap (λ (x : Signal). is_temp x.name) same ∙ kept_named tidy y low in cc);
     outputs = λ j o at. absurd (let z = ap (λ l. slice_get l j) (sym d.outputs) ∙ at in cc);

@@ -2,30 +2,32 @@
 use Rattle.std.proofs.Common.{◌≡◌, ◌≢◌, ℕ, zero, suc, ◌+◌, ◌-◌, ◌<◌, ◌≤◌, List, [], ◌∷◌, ◌++◌, map, length, length-append, take, get_or, Option, Some}
 use Rattle.std.proofs.Common.{None, Bool, true, false, cond, nat_lt, ◌&&◌, not, ◌⊎◌, inl, inr, slice_get, refl, sym, ap, subst, ◌∙◌, arith}
 use Rattle.std.proofs.Common.{append_assoc}
-use Rattle.std.proofs.lemmas.List.{append-nil}
-use Rattle.std.proofs.lemmas.Option.{slice_get-get_or, get_or_from_slice_get}
+use Rattle.std.proofs.lemmas.List.{append-nil, length-map, map-append}
+use Rattle.std.proofs.lemmas.Option.{slice_get-get_or, get_or_from_slice_get, slice_get_within}
 use Rattle.std.proofs.lemmas.Bool.{lt-ltb}
 use Rattle.std.proofs.lemmas.Grind.{flat_map-append}
 use Rattle.std.proofs.Math.Seq.{take-suc, take-length}
 use Rattle.std.specs.List.{flat_map}
+use Rattle.safl_word.specs.Lists.{bool_at}
+use Rattle.safl_word.proofs.Lists.{get_back, get_in_front, get_mapped, get_some}
 use Rattle.safl_net.specs.declared.cell.Sig.{Sig}
 use Rattle.safl_net.specs.declared.cell.SigKind.{SigKind}
-use Rattle.safl_net.specs.Netlist.{Netlist, Signal, Kind, Input, Reg, Wire, Cell, width_in, width_of}
+use Rattle.safl_net.specs.Netlist.{Netlist, Signal, Kind, Input, Reg, Wire, Cell, width_in, width_of, is_input, is_register, is_wire}
 use Rattle.safl_net.specs.Names.{is_temp, IsTidy}
 use Rattle.safl_net.specs.Making.{kind_in, kind_at, name_in, name_at, sort_of}
 use Rattle.safl_net.specs.Rules.{IsNetlist}
 use Rattle.safl_net.specs.Arranged.{Each}
 use Rattle.safl_net.specs.Arranged as arranged
-use Rattle.safl_net.proofs.Naming.{within}
 use Rattle.safl_order.specs.Order.{IsOrder}
 use Rattle.safl_opt.specs.declared.fold.Values.{Values}
 use Rattle.safl_opt.specs.Lean.{is_numbered, IsTemporary}
 use Rattle.safl_opt.specs.Nodes.{Different}
-use Rattle.safl_opt.specs.Values.{below, is_input, is_register, is_wire, inputs_below, registers_below, named_below, kept_in, sig_at, value_width, Folds}
-use Rattle.safl_opt.specs.Building.{read_at, IsRoot, shown, AreRead, AreNeeded, new_number, new_cell, new_kind, kept_signal, IsNodeOf, Builds}
+use Rattle.safl_opt.specs.Values.{below, inputs_below, registers_below, named_below, kept_in, sig_at, value_width, Folds}
+use Rattle.safl_opt.specs.Building.{IsRoot, shown, AreRead, AreNeeded, new_number, new_cell, new_kind, kept_signal, IsNodeOf, Builds}
 use Rattle.safl_net.specs.Mirrors.{Line, input_line, register_line, wire_line, inputs_in, registers_in, wires_in, outputs_in, KeepsCell, KeepsWire, Alike, IsNamed, IsTemp, IsLaidOut}
-use Rattle.safl_opt.proofs.Coming.{kept_get, get_front}
-use Rattle.safl_opt.proofs.Adding.{get_some, operand_known}
+use Rattle.safl_net.proofs.EachOf.{each_by_index, each_join}
+use Rattle.safl_opt.proofs.Coming.{kept_get}
+use Rattle.safl_opt.proofs.Adding.{operand_known}
 use Rattle.safl_opt.proofs.Built.{HasSignal, root_has, value}
 use Rattle.safl_opt.proofs.Leaning.{kept_number, kept_kind, kept_name, get_map}
 use Rattle.safl_opt.proofs.TempNames.{numbered_temp}
@@ -50,32 +52,11 @@ same_list [] (y ∷ ys) l h = absurd (omega (arith, l))
 same_list (x ∷ xs) [] l h = absurd (omega (arith, l))
 same_list (x ∷ xs) (y ∷ ys) l h = ap (λ a. a ∷ xs) (let q = h 0 y refl in let z : x ≡ y = cc in z) ∙ ap (λ t. y ∷ t) (same_list xs ys (omega (arith, l)) (λ i z e. h (suc i) z e))
 
-map_more : {A B : Type 0} (g : A → B) (xs ys : List A) → map g (xs ++ ys) ≡ map g xs ++ map g ys
-map_more g [] ys = refl
-map_more g (x ∷ xs) ys = ap (λ l. g x ∷ l) (map_more g xs ys)
-
-map_long : {A B : Type 0} (g : A → B) (xs : List A) → length (map g xs) ≡ length xs
-map_long g [] = refl
-map_long g (x ∷ xs) = ap suc (map_long g xs)
-
-from_get : {A B : Type 0} (g : A → B) (xs : List A) (i : ℕ) (y : B) → slice_get (map g xs) i ≡ Some y → (x : A) × (slice_get xs i ≡ Some x) × (g x ≡ y)
-from_get g [] i y e = absurd (cc)
-from_get g (x ∷ xs) zero y e = (x, refl, (cc))
-from_get g (x ∷ xs) (suc i) y e = from_get g xs i y e
-
-each_of : (P : Signal → Type 0) (gs : List Signal) → ((i : ℕ) (g : Signal) → slice_get gs i ≡ Some g → P g) → Each P gs
-each_of P [] h = tt
-each_of P (g ∷ gs) h = (h 0 g refl, each_of P gs (λ i x e. h (suc i) x e))
-
-each_more : (P : Signal → Type 0) (xs ys : List Signal) → Each P xs → Each P ys → Each P (xs ++ ys)
-each_more P [] ys a b = b
-each_more P (x ∷ xs) ys a b = (a.0, each_more P xs ys a.1 b)
-
 -- ---- the signals below a number that pass a test
 
 each_below : (P : Signal → Type 0) (g : ℕ → Signal) (t : ℕ → Bool) (i : ℕ) → ((s : ℕ) → s < i → t s ≡ true → P (g s)) → Each P (map g (below t i))
 each_below P g t zero h = tt
-each_below P g t (suc i) h = subst (Each P) (sym (map_more g (below t i) (cond (t i) (i ∷ []) []))) (each_more P _ _ (each_below P g t i (λ s lt q. h s (omega (arith, lt)) q)) (one (t i) refl))
+each_below P g t (suc i) h = subst (Each P) (sym (map-append g (below t i) (cond (t i) (i ∷ []) []))) (each_join P _ _ (each_below P g t i (λ s lt q. h s (omega (arith, lt)) q)) (one (t i) refl))
   where
     one : (c : Bool) → t i ≡ c → Each P (map g (cond c (i ∷ []) []))
     one true q = (h i (omega arith) q, tt)
@@ -88,7 +69,7 @@ lines_pass : {A : Type 0} (L : Signal → List A) (n : Netlist) (g : ℕ → Sig
 lines_pass L n g t zero le passing failing = refl
 lines_pass L n g t (suc i) le passing failing =
     let x = get_some n.signals i (omega (arith, le)) in
-    ap (flat_map L) (map_more g (below t i) (cond (t i) (i ∷ []) []))
+    ap (flat_map L) (map-append g (below t i) (cond (t i) (i ∷ []) []))
     ∙ flat_map-append L (map g (below t i)) (map g (cond (t i) (i ∷ []) []))
     ∙ ap (λ l. l ++ flat_map L (map g (cond (t i) (i ∷ []) []))) (lines_pass L n g t i (omega (arith, le)) passing failing)
     ∙ ap (λ l. flat_map L (take i n.signals) ++ l) (one (t i) refl x.0 x.1)
@@ -103,7 +84,7 @@ lines_pass L n g t (suc i) le passing failing =
 lines_none : {A : Type 0} (L : Signal → List A) (g : ℕ → Signal) (t : ℕ → Bool) (i : ℕ) → ((s : ℕ) → t s ≡ true → L (g s) ≡ []) → flat_map L (map g (below t i)) ≡ []
 lines_none L g t zero no_line = refl
 lines_none L g t (suc i) no_line =
-    ap (flat_map L) (map_more g (below t i) (cond (t i) (i ∷ []) []))
+    ap (flat_map L) (map-append g (below t i) (cond (t i) (i ∷ []) []))
     ∙ flat_map-append L (map g (below t i)) (map g (cond (t i) (i ∷ []) []))
     ∙ ap (λ l. l ++ flat_map L (map g (cond (t i) (i ∷ []) []))) (lines_none L g t i no_line)
     ∙ one (t i) refl
@@ -133,28 +114,24 @@ module _ (n : Netlist) (made_n : IsNetlist n) (ws : List ℕ) (order : IsOrder n
     where
       by : (k : ℕ) → f.kept ≡ k → k ≤ length m.signals
       by zero e = omega arith
-      by (suc k) e = let z = within m.signals k _ (b.kept k (omega (arith, e))) in omega (arith, z)
+      by (suc k) e = let z = slice_get_within m.signals k _ (b.kept k (omega (arith, e))) in omega (arith, z)
 
   parts : Split f.kept m.signals
   parts = split_at f.kept m.signals long_enough
 
   front_is : parts.front ≡ map ks (kept_in n)
-  front_is = same_list parts.front (map ks (kept_in n)) (parts.long ∙ h.kept ∙ sym (map_long ks (kept_in n))) (λ i y e.
-      let x = from_get ks (kept_in n) i y e in
-      let lt : i < f.kept = let a = within (kept_in n) i x.0 x.1 in let k = h.kept in omega (arith, a, k) in
+  front_is = same_list parts.front (map ks (kept_in n)) (parts.long ∙ h.kept ∙ sym (length-map (kept_in n) ks)) (λ i y e.
+      let x = get_mapped ks (kept_in n) i y e in
+      let lt : i < f.kept = let a = slice_get_within (kept_in n) i x.0 x.1 in let k = h.kept in omega (arith, a, k) in
       let s : sig_at f.signals.items i ≡ x.0 = (let z = sym (kept_get n ws (length ws) f h i lt) ∙ x.1 in cc) in
-      sym (get_front parts.front parts.rest i (let l = parts.long in omega (arith, lt, l)))
+      sym (get_in_front parts.front parts.rest i (let l = parts.long in omega (arith, lt, l)))
       ∙ ap (λ l. slice_get l i) (sym parts.joined)
       ∙ b.kept i lt ∙ ap (λ z. Some (ks z)) s ∙ ap Some x.2)
 
   rest_temp : Each IsTemp parts.rest
-  rest_temp = each_of IsTemp parts.rest (λ i g e. by i g (ap (λ l. slice_get l (f.kept + i)) parts.joined ∙ ap
-      (λ k. slice_get (parts.front ++ parts.rest) (k + i)) (sym parts.long) ∙ after parts.front parts.rest i ∙ e))
+  rest_temp = each_by_index IsTemp parts.rest (λ i g e. by i g (ap (λ l. slice_get l (f.kept + i)) parts.joined ∙ ap
+      (λ k. slice_get (parts.front ++ parts.rest) (k + i)) (sym parts.long) ∙ get_back parts.front parts.rest i ∙ e))
     where
-      after : (xs ys : List Signal) (i : ℕ) → slice_get (xs ++ ys) (length xs + i) ≡ slice_get ys i
-      after [] ys i = ap (slice_get ys) (let q : 0 + i ≡ i = omega arith in q)
-      after (x ∷ xs) ys i = ap (slice_get (x ∷ (xs ++ ys))) (let q : suc (length xs) + i ≡ suc (length xs + i) = omega arith in q) ∙ after xs ys i
-
       by : (i : ℕ) (g : Signal) → slice_get m.signals (f.kept + i) ≡ Some g → IsTemp g
       by i g e =
           let r = b.each (f.kept + i) g e (omega arith) in
@@ -165,8 +142,8 @@ module _ (n : Netlist) (made_n : IsNetlist n) (ws : List ℕ) (order : IsOrder n
 
   joined : m.signals ≡ map ks (inputs_below n all) ++ (map ks (registers_below n all) ++ (map ks (named_below n all) ++ parts.rest))
   joined =
-      parts.joined ∙ ap (λ l. l ++ parts.rest) (front_is ∙ map_more ks (inputs_below n all) (registers_below n all ++ named_below n all) ∙ ap
-      (λ l. map ks (inputs_below n all) ++ l) (map_more ks (registers_below n all) (named_below n all)))
+      parts.joined ∙ ap (λ l. l ++ parts.rest) (front_is ∙ map-append ks (inputs_below n all) (registers_below n all ++ named_below n all) ∙ ap
+      (λ l. map ks (inputs_below n all) ++ l) (map-append ks (registers_below n all) (named_below n all)))
       ∙ append_assoc (map ks (inputs_below n all)) (map ks (registers_below n all) ++ map ks (named_below n all)) parts.rest
       ∙ ap (λ l. map ks (inputs_below n all) ++ l) (append_assoc (map ks (registers_below n all)) (map ks (named_below n all)) parts.rest)
 
@@ -343,7 +320,7 @@ module _ (n : Netlist) (made_n : IsNetlist n) (ws : List ℕ) (order : IsOrder n
   width_new : (x : ℕ) → HasSignal n made_n ws order f h read marks made m b x → width_of m (sig_at made x) ≡ value_width n f.signals.items x
   width_new x (inl lt) = ap (width_of m) (b.own x lt) ∙ ap width_in (b.kept x lt)
   width_new x (inr r) =
-      let k = (b.nodes r.0 r.1 r.2 (ap (read_at read) (sym r.4) ∙ r.3)).1 in
+      let k = (b.nodes r.0 r.1 r.2 (ap (bool_at read) (sym r.4) ∙ r.3)).1 in
       ap (λ z. width_of m (sig_at made z)) r.4 ∙ ap width_in k.1 ∙ k.2.width ∙ ap (value_width n f.signals.items) (sym r.4)
 
   root_width : (t : ℕ) → t < all → IsRoot n t → width_of m (new_number f made t) ≡ width_of n t
@@ -380,7 +357,7 @@ module _ (n : Netlist) (made_n : IsNetlist n) (ws : List ℕ) (order : IsOrder n
   cells_kept : (s : ℕ) (c : Cell) → kind_at n s ≡ Wire (Some c) → is_temp (name_at n s) ≡ false → KeepsWire n m (name_at n s) c
   cells_kept s c e q =
       let g = known_of s c e in
-      let lt = within n.signals s g.0 g.1 in
+      let lt = slice_get_within n.signals s g.0 g.1 in
       let last = lasts n made_n ws order f h read marks made m b needed different tidy s g.0 g.1 (sym (ap (λ o. is_temp (name_in o)) g.1) ∙ q) in
       let k = kept_number n made_n ws order f h read marks made m b needed different s lt last in
       record {
@@ -390,7 +367,7 @@ module _ (n : Netlist) (made_n : IsNetlist n) (ws : List ℕ) (order : IsOrder n
         wire = kept_kind n made_n ws order f h read marks made m b needed different k.0 k.1 ∙ ap (λ z. new_kind f made (kind_at n z)) k.2 ∙ ap (new_kind f made) e;
         keeps = record {
           op = refl;
-          count = map_long (new_number f made) c.operands;
+          count = length-map c.operands (new_number f made);
           operands = λ i x t o u r.
               let same : new_number f made x ≡ t = (let z = sym (get_map n made_n ws order f h read marks made m b needed different (new_number f made) c.operands i x o) ∙ u in cc) in
               let known = operand_known n s g.0 c i x made_n g.1 g.2 o in

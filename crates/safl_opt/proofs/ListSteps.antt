@@ -1,24 +1,11 @@
 -- Lists that grow at their ends.
 use Rattle.std.proofs.Common.{◌≡◌, ℕ, zero, suc, ◌+◌, ◌<◌, ◌≤◌, List, [], ◌∷◌, ◌++◌, map, length, take, Some, slice_get, refl, sym, ap, ◌∙◌, arith}
+use Rattle.std.proofs.lemmas.List.{map_push}
+use Rattle.safl_word.proofs.Lists.{take_next}
 use Rattle.safl_net.specs.declared.cell.Sig.{Sig}
 use Rattle.safl_net.specs.Making.{numbers}
+use Rattle.safl_net.proofs.Keeping.{numbers_length}
 use Rattle.safl_opt.specs.Values.{sig_at}
-
-take_suc : {A : Type 0} (xs : List A) (i : ℕ) (x : A) → slice_get xs i ≡ Some x → take (suc i) xs ≡ take i xs ++ x ∷ []
-take_suc [] i x e = absurd (cc)
-take_suc (y ∷ xs) zero x e = let q : y ≡ x = cc in ap (λ z. z ∷ []) q
-take_suc (y ∷ xs) (suc i) x e = ap (λ l. y ∷ l) (take_suc xs i x e)
-
-pub take_next : {A : Type 0} (xs : List A) (i : ℕ) (x : A) → slice_get xs i ≡ Some x → take (i + 1) xs ≡ take i xs ++ x ∷ []
-take_next xs i x e = ap (λ k. take k xs) (let q : i + 1 ≡ suc i = omega arith in q) ∙ take_suc xs i x e
-
-pub map_push : {A B : Type 0} (g : A → B) (xs : List A) (x : A) → map g (xs ++ x ∷ []) ≡ map g xs ++ g x ∷ []
-map_push g [] x = refl
-map_push g (y ∷ xs) x = ap (λ l. g y ∷ l) (map_push g xs x)
-
-pub take_all : {A : Type 0} (xs : List A) → take (length xs) xs ≡ xs
-take_all [] = refl
-take_all (x ∷ xs) = ap (λ l. x ∷ l) (take_all xs)
 
 pub mapped_few : {A B : Type 0} (g : A → B) (xs : List A) (i : ℕ) → length (map g (take i xs)) ≤ i
 mapped_few g [] zero = omega arith
@@ -39,25 +26,15 @@ numbers_next g all i xs ys v lt e q h =
     ap numbers e ∙ map_push (λ (s : Sig). s.0) xs v ∙ ap (λ k. numbers xs ++ k ∷ []) (q ∙ ap g (sym x.2)) ∙ ap (λ l. l ++ g x.0.0 ∷ []) h
     ∙ sym (ap (λ l. map g (numbers l)) (take_next all i x.0 x.1) ∙ ap (map g) (map_push (λ (s : Sig). s.0) (take i all) x.0) ∙ map_push g (numbers (take i all)) x.0.0)
 
-pub take_whole : {A : Type 0} (xs : List A) (i : ℕ) → length xs ≤ i → take i xs ≡ xs
-take_whole [] zero l = refl
-take_whole [] (suc i) l = refl
-take_whole (x ∷ xs) zero l = absurd (omega (arith, l))
-take_whole (x ∷ xs) (suc i) l = ap (λ a. x ∷ a) (take_whole xs i (omega (arith, l)))
-
 numbers_few : (g : ℕ → ℕ) (xs : List Sig) (i : ℕ) → length (map g (numbers (take i xs))) ≤ i
 numbers_few g [] zero = omega arith
 numbers_few g [] (suc i) = omega arith
 numbers_few g (x ∷ xs) zero = omega arith
 numbers_few g (x ∷ xs) (suc i) = let h = numbers_few g xs i in omega (arith, h)
 
-numbers_long : (xs : List Sig) → length (numbers xs) ≡ length xs
-numbers_long [] = refl
-numbers_long (x ∷ xs) = ap suc (numbers_long xs)
-
 pub few_numbers : (g : ℕ → ℕ) (all : List Sig) (i : ℕ) (xs : List Sig) → numbers xs ≡ map g (numbers (take i all)) → length xs ≤ i
 few_numbers g all i xs e =
     let a = numbers_few g all i in
     let b = ap length e in
-    let c = numbers_long xs in
+    let c = numbers_length xs in
     omega (arith, a, b, c)

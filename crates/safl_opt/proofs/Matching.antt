@@ -6,6 +6,8 @@ use Rattle.std.proofs.lemmas.Bool.{cases_eq, lt-ltb, ltb-true, ltb-false}
 use Rattle.std.proofs.lemmas.Bool.Decides.{nat_tests}
 use Rattle.std.proofs.lemmas.Fmt.{decimal_by_steps}
 use Rattle.std.proofs.lemmas.List.{length-take}
+use Rattle.std.proofs.lemmas.Option.{slice_get_within}
+use Rattle.safl_word.specs.Lists.{bool_at}
 use Rattle.safl_net.specs.declared.cell.Sig.{Sig}
 use Rattle.safl_net.specs.declared.cell.SigKind.{SigKind}
 use Rattle.safl_net.specs.Netlist.{Netlist, Signal, Kind, Input, Reg, Wire, Cell, IsSet, AllSet, width_in, width_of, output_place}
@@ -13,7 +15,6 @@ use Rattle.safl_net.specs.Names.{is_temp, temp_name, one_wire, wires, IsTidy}
 use Rattle.safl_net.specs.Making.{kind_in, kind_at, name_in, name_at, sort_of}
 use Rattle.safl_net.specs.Rules.{IsNetlist, KindFits}
 use Rattle.safl_net.specs.Growth.{Val, Wired}
-use Rattle.safl_net.proofs.Naming.{within}
 use Rattle.safl_net.proofs.Tables.{wires_few}
 use Rattle.safl_order.specs.Order.{IsWire, IsOrder}
 use Rattle.safl_opt.specs.declared.node.Node.{Node}
@@ -21,7 +22,7 @@ use Rattle.safl_opt.specs.declared.fold.Values.{Values}
 use Rattle.safl_opt.specs.Lean.{are_digits, is_numeral, is_numbered, IsTemporary}
 use Rattle.safl_opt.specs.Nodes.{Different}
 use Rattle.safl_opt.specs.Values.{sig_at, Folds}
-use Rattle.safl_opt.specs.Building.{read_at, IsRoot, shown, kept, AreRead, AreNeeded, new_number, new_kind, kept_signal, IsNodeOf, Builds}
+use Rattle.safl_opt.specs.Building.{IsRoot, shown, kept, AreRead, AreNeeded, new_number, new_kind, kept_signal, IsNodeOf, Builds}
 use Rattle.safl_opt.proofs.Coming.{kept_get}
 use Rattle.safl_opt.proofs.TempNames.{numbered_temp, not_temp}
 use Rattle.safl_opt.proofs.Adding.{kept_lasts}
@@ -76,7 +77,7 @@ module _ (n : Netlist) (made_n : IsNetlist n) (ws : List ℕ) (order : IsOrder n
 
   old_stands : (s : ℕ) (g : Signal) → slice_get n.signals s ≡ Some g → is_temp g.name ≡ false → (u : Signal) × StandsFor n m s (fore s) g u × (bk (fore s) ≡ s)
   old_stands s g e q =
-      let k = kept_number n made_n ws order f h read marks made m b needed different s (within n.signals s g e) (lasts s g e q) in
+      let k = kept_number n made_n ws order f h read marks made m b needed different s (slice_get_within n.signals s g e) (lasts s g e q) in
       let id : fore s ≡ k.0 = ap fore (sym k.2) ∙ h.own k.0 k.1 in (
         kept_signal n f made s,
         subst (λ y. StandsFor n m s y g (kept_signal n f made s)) (sym id) (kept_stands k.0 s g k.1 k.2 e),
@@ -102,8 +103,8 @@ module _ (n : Netlist) (made_n : IsNetlist n) (ws : List ℕ) (order : IsOrder n
       ap (λ (x : Signal). is_temp x.name) same ∙ ap (λ o. is_temp (name_in o)) g.1 ∙ no_temp s g.0 g.1 (kept_lasts n y s (kept_get n ws (length ws) f h y lt))
 
   pub has_within : (x : ℕ) → HasSignal n made_n ws order f h read marks made m b x → sig_at made x < length m.signals
-  has_within x (inl lt) = within m.signals (sig_at made x) _ (ap (slice_get m.signals) (b.own x lt) ∙ b.kept x lt)
-  has_within x (inr r) = within m.signals (sig_at made x) _ (ap (λ z. slice_get m.signals (sig_at made z)) r.4 ∙ (b.nodes r.0 r.1 r.2 (ap (read_at read) (sym r.4) ∙ r.3)).1.1)
+  has_within x (inl lt) = slice_get_within m.signals (sig_at made x) _ (ap (slice_get m.signals) (b.own x lt) ∙ b.kept x lt)
+  has_within x (inr r) = slice_get_within m.signals (sig_at made x) _ (ap (λ z. slice_get m.signals (sig_at made z)) r.4 ∙ (b.nodes r.0 r.1 r.2 (ap (bool_at read) (sym r.4) ∙ r.3)).1.1)
 
   root_stands : (t : ℕ) → t < length n.signals → IsRoot n t → (new_number f made t < length m.signals) × ((v : Val) → Wired n v → v (bk (new_number f made t)) ≡ v t)
   root_stands t lt r = (has_within (sig_at f.ids.items t) (root_has n made_n ws order f h read marks made m b t lt r), root_word n made_n ws order f h read marks made m b t lt r)

@@ -2,32 +2,26 @@
 use Rattle.std.proofs.Common.{◌≡◌, ℕ, zero, suc, ◌+◌, ◌-◌, ◌<◌, ◌≤◌, List, [], ◌∷◌, ◌++◌, map, length, length-append, Option, Some, None, Bool, true}
 use Rattle.std.proofs.Common.{false, nat_lt, ◌⊎◌, inl, inr, slice_get, refl, sym, ap, subst, ◌∙◌, arith}
 use Rattle.std.proofs.lemmas.Bool.{cases_eq, ltb-true, ltb-false}
+use Rattle.std.proofs.lemmas.Option.{slice_get_within}
+use Rattle.std.proofs.lemmas.Simd.{map-map}
+use Rattle.safl_word.specs.Lists.{bool_at}
+use Rattle.safl_word.proofs.Lists.{get_end, get_in_front, get_pushed, get_some, map_at}
 use Rattle.safl_net.specs.declared.cell.Sig.{Sig}
 use Rattle.safl_net.specs.Netlist.{Netlist, Signal, Wire, Cell, width_in, width_of}
 use Rattle.safl_net.specs.Names.{temp_name, wires, is_temp, IsTidy}
 use Rattle.safl_net.specs.Making.{with_signal, wired}
 use Rattle.safl_net.specs.Rules.{IsNetlist}
 use Rattle.safl_net.specs.Widths.{op_width}
-use Rattle.safl_net.proofs.Naming.{within, pushed}
 use Rattle.safl_order.specs.Order.{IsOrder}
 use Rattle.safl_opt.specs.declared.node.Node.{Node}
 use Rattle.safl_opt.specs.declared.fold.Values.{Values}
 use Rattle.safl_opt.specs.Nodes.{node_op, node_operands}
 use Rattle.safl_opt.specs.Values.{kept_in, sig_at, value_width, Folds}
-use Rattle.safl_opt.specs.Building.{read_at, AreRead, open_signal, node_cell, IsNodeOf, IsAdded}
+use Rattle.safl_opt.specs.Building.{AreRead, open_signal, node_cell, IsNodeOf, IsAdded}
 use Rattle.safl_opt.specs.Stages.{Declared, HasTemporary, IsOfNode, Placed}
-use Rattle.safl_opt.proofs.Coming.{get_front, kept_within}
-use Rattle.safl_opt.proofs.Adding.{at_front, at_end, map_at, few_placed, kept_few}
-use Rattle.safl_opt.proofs.Declaring.{get_end, declared_tidy}
-
-node_get : (xs : List Node) (i : ℕ) → i < length xs → (x : Node) × (slice_get xs i ≡ Some x)
-node_get [] i q = absurd (omega (arith, q))
-node_get (x ∷ xs) zero q = (x, refl)
-node_get (x ∷ xs) (suc i) q = node_get xs i (omega (arith, q))
-
-pub map_twice : {A B C : Type 0} (f : B → C) (g : A → B) (xs : List A) → map f (map g xs) ≡ map (λ x. f (g x)) xs
-map_twice f g [] = refl
-map_twice f g (x ∷ xs) = ap (λ l. f (g x) ∷ l) (map_twice f g xs)
+use Rattle.safl_opt.proofs.Coming.{kept_within}
+use Rattle.safl_opt.proofs.Adding.{at_front, at_end, few_placed, kept_few}
+use Rattle.safl_opt.proofs.Declaring.{declared_tidy}
 
 -- what a value has as a signal: its number is one of the net and has the value's width
 pub record HasNumber (n : Netlist) (f : Values) (made : List Sig) (m : Netlist) (x : ℕ) : Type 0 where
@@ -50,7 +44,7 @@ module _ (n : Netlist) (kn : IsNetlist n) (ws : List ℕ) (order : IsOrder n ws)
     own = own;
     kept = d.each;
     nodes = λ j node lt. absurd (omega (arith, lt));
-    each = λ y g e le. absurd (let a = within m.signals y g e in let b = d.long in omega (arith, a, b, le));
+    each = λ y g e le. absurd (let a = slice_get_within m.signals y g e in let b = d.long in omega (arith, a, b, le));
     once = λ i j lt. absurd (omega (arith, lt));
     outputs = d.outputs;
     tidy = declared_tidy n kn ws f h tidy m d;
@@ -58,42 +52,42 @@ module _ (n : Netlist) (kn : IsNetlist n) (ws : List ℕ) (order : IsOrder n ws)
 
   module _ (count : ℕ) (made : List Sig) (m : Netlist) (p : Placed n f read count made m) where
     -- a value that is kept, or is read, has its number
-    pub number : (x : ℕ) → x < f.kept + count → count ≤ length f.nodes → ((j : ℕ) → x ≡ f.kept + j → read_at read x ≡ true) → HasNumber n f made m x
+    pub number : (x : ℕ) → x < f.kept + count → count ≤ length f.nodes → ((j : ℕ) → x ≡ f.kept + j → bool_at read x ≡ true) → HasNumber n f made m x
     number x lt le marked = by (nat_lt x f.kept) refl
       where
         by : (c : Bool) → nat_lt x f.kept ≡ c → HasNumber n f made m x
         by true q =
             let low = ltb-true x f.kept q in
             record {
-              known = subst (λ y. y < length m.signals) (sym (p.own x low)) (within m.signals x _ (p.kept x low));
+              known = subst (λ y. y < length m.signals) (sym (p.own x low)) (slice_get_within m.signals x _ (p.kept x low));
               width = ap (width_of m) (p.own x low) ∙ ap width_in (p.kept x low);
             }
         by false q =
             let high = ltb-false x f.kept q in
             let same : x ≡ f.kept + (x - f.kept) = omega (arith, high) in
             let below : x - f.kept < count = omega (arith, lt, high) in
-            let node = node_get f.nodes (x - f.kept) (omega (arith, below, le)) in
-            let t = p.nodes (x - f.kept) node.0 below node.1 (ap (read_at read) (sym same) ∙ marked (x - f.kept) same) in
+            let node = get_some f.nodes (x - f.kept) (omega (arith, below, le)) in
+            let t = p.nodes (x - f.kept) node.0 below node.1 (ap (bool_at read) (sym same) ∙ marked (x - f.kept) same) in
             subst (HasNumber n f made m) (sym same) (record {
-              known = within m.signals (sig_at made (f.kept + (x - f.kept))) t.signal t.there;
+              known = slice_get_within m.signals (sig_at made (f.kept + (x - f.kept))) t.signal t.there;
               width = ap width_in t.there ∙ t.is.width;
             })
 
     module _ (node : Node) (at : slice_get f.nodes count ≡ Some node) where
       fits_here : count < length f.nodes
-      fits_here = within f.nodes count node at
+      fits_here = slice_get_within f.nodes count node at
 
       -- the operands of the next node
-      pub operand : read_at read (f.kept + count) ≡ true → (i x : ℕ) → slice_get (node_operands node) i ≡ Some x → (x < length made) × (sig_at made x < length m.signals)
+      pub operand : bool_at read (f.kept + count) ≡ true → (i x : ℕ) → slice_get (node_operands node) i ≡ Some x → (x < length made) × (sig_at made x < length m.signals)
       operand is_read i x o =
           let low = ((h.made count node at).lower i x o).0 in
           let k = number x low (omega (arith, fits_here)) (λ j e. marks.nodes count i x node at is_read o) in
           ((let a = p.long in omega (arith, low, a)), k.known)
 
-      pub gives : read_at read (f.kept + count) ≡ true → op_width (node_op node) (map (width_of m) (map (sig_at made) (node_operands node))) ≡ Some (value_width n f.signals.items (f.kept + count))
+      pub gives : bool_at read (f.kept + count) ≡ true → op_width (node_op node) (map (width_of m) (map (sig_at made) (node_operands node))) ≡ Some (value_width n f.signals.items (f.kept + count))
       gives is_read =
           ap (op_width (node_op node)) (
-          map_twice (width_of m) (sig_at made) (node_operands node)
+          map-map (width_of m) (sig_at made) (node_operands node)
           ∙ map_at (λ x. width_of m (sig_at made x)) (value_width n f.signals.items) (node_operands node)
           (λ i x o. (number x ((h.made count node at).lower i x o).0 (omega (arith, fits_here)) (λ j e. marks.nodes count i x node at is_read o)).width)
           )
@@ -134,7 +128,7 @@ module _ (n : Netlist) (kn : IsNetlist n) (ws : List ℕ) (order : IsOrder n ws)
       }
 
       -- the node is not read
-      pub skipped : read_at read (f.kept + count) ≡ false → Placed n f read (count + 1) (made ++ s ∷ []) m
+      pub skipped : bool_at read (f.kept + count) ≡ false → Placed n f read (count + 1) (made ++ s ∷ []) m
       skipped unread = record {
         long = long_next;
         few = let a = p.few in omega (arith, a);
@@ -155,14 +149,14 @@ module _ (n : Netlist) (kn : IsNetlist n) (ws : List ℕ) (order : IsOrder n ws)
         tidy = p.tidy;
       }
         where
-          before : (j : ℕ) → j < count + 1 → read_at read (f.kept + j) ≡ true → j < count
+          before : (j : ℕ) → j < count + 1 → bool_at read (f.kept + j) ≡ true → j < count
           before j lt q = elim (cases_eq j count) [
-            | inl same ↦ absurd (let z = sym q ∙ ap (λ k. read_at read (f.kept + k)) same ∙ unread in cc)
+            | inl same ↦ absurd (let z = sym q ∙ ap (λ k. bool_at read (f.kept + k)) same ∙ unread in cc)
             | inr ne ↦ omega (arith, lt, ne)
           ]
 
       -- it has its temporary
-      module _ (node : Node) (at : slice_get f.nodes count ≡ Some node) (is_read : read_at read (f.kept + count) ≡ true) (a : Netlist)
+      module _ (node : Node) (at : slice_get f.nodes count ≡ Some node) (is_read : bool_at read (f.kept + count) ≡ true) (a : Netlist)
           (added : IsAdded m a (node_cell made node)) (last : s.0 ≡ length m.signals) (tidy : IsTidy a) where
         abbrev new : Signal
         new = wired (temp_name (wires m.signals)) added.width (node_cell made node)
@@ -171,7 +165,7 @@ module _ (n : Netlist) (kn : IsNetlist n) (ws : List ℕ) (order : IsOrder n ws)
         signals_are = ap (λ (x : Netlist). x.signals) added.added
 
         old_get : (y : ℕ) → y < length m.signals → slice_get a.signals y ≡ slice_get m.signals y
-        old_get y lt = ap (λ l. slice_get l y) signals_are ∙ get_front m.signals (new ∷ []) y lt
+        old_get y lt = ap (λ l. slice_get l y) signals_are ∙ get_in_front m.signals (new ∷ []) y lt
 
         new_get : slice_get a.signals s.0 ≡ Some new
         new_get = ap (λ l. slice_get l s.0) signals_are ∙ ap (slice_get (m.signals ++ new ∷ [])) last ∙ get_end m.signals new
@@ -192,7 +186,7 @@ module _ (n : Netlist) (kn : IsNetlist n) (ws : List ℕ) (order : IsOrder n ws)
           where
             by : (k : ℕ) → f.kept ≡ k → k ≤ length m.signals
             by zero q = omega arith
-            by (suc k) q = let r = within m.signals k _ (p.kept k (omega (arith, q))) in omega (arith, r)
+            by (suc k) q = let r = slice_get_within m.signals k _ (p.kept k (omega (arith, q))) in omega (arith, r)
 
         new_node : HasTemporary n f (made ++ s ∷ []) count node a
         new_node = record {
@@ -202,7 +196,7 @@ module _ (n : Netlist) (kn : IsNetlist n) (ws : List ℕ) (order : IsOrder n ws)
           is = is_new;
         }
 
-        old_node : (j : ℕ) (k : Node) → j < count → slice_get f.nodes j ≡ Some k → read_at read (f.kept + j) ≡ true → HasTemporary n f (made ++ s ∷ []) j k a
+        old_node : (j : ℕ) (k : Node) → j < count → slice_get f.nodes j ≡ Some k → bool_at read (f.kept + j) ≡ true → HasTemporary n f (made ++ s ∷ []) j k a
         old_node j k lt e q =
             let t = p.nodes j k lt e q in
             let back = old_at (f.kept + j) (omega (arith, lt)) in
@@ -210,21 +204,21 @@ module _ (n : Netlist) (kn : IsNetlist n) (ws : List ℕ) (order : IsOrder n ws)
             record {
               behind = omega (arith, b, back);
               signal = t.signal;
-              there = ap (slice_get a.signals) back ∙ old_get (sig_at made (f.kept + j)) (within m.signals (sig_at made (f.kept + j)) t.signal t.there) ∙ t.there;
+              there = ap (slice_get a.signals) back ∙ old_get (sig_at made (f.kept + j)) (slice_get_within m.signals (sig_at made (f.kept + j)) t.signal t.there) ∙ t.there;
               is = is_still j k t.signal lt e t.is;
             }
 
         -- a number before it is lower
-        lower : (j : ℕ) → j < count → read_at read (f.kept + j) ≡ true → sig_at (made ++ s ∷ []) (f.kept + j) < sig_at (made ++ s ∷ []) (f.kept + count)
+        lower : (j : ℕ) → j < count → bool_at read (f.kept + j) ≡ true → sig_at (made ++ s ∷ []) (f.kept + j) < sig_at (made ++ s ∷ []) (f.kept + count)
         lower j lt q =
-            let k = node_get f.nodes j (let z = within f.nodes count node at in omega (arith, z, lt)) in
+            let k = get_some f.nodes j (let z = slice_get_within f.nodes count node at in omega (arith, z, lt)) in
             let t = p.nodes j k.0 lt k.1 q in
-            let b = within m.signals (sig_at made (f.kept + j)) t.signal t.there in
+            let b = slice_get_within m.signals (sig_at made (f.kept + j)) t.signal t.there in
             let back = old_at (f.kept + j) (omega (arith, lt)) in
             let e = new_at in
             omega (arith, b, back, e, last)
 
-        once_next : (i j : ℕ) → i < count + 1 → j < count + 1 → read_at read (f.kept + i) ≡ true → read_at read (f.kept + j) ≡ true → sig_at
+        once_next : (i j : ℕ) → i < count + 1 → j < count + 1 → bool_at read (f.kept + i) ≡ true → bool_at read (f.kept + j) ≡ true → sig_at
             (made ++ s ∷ []) (f.kept + i) ≡ sig_at (made ++ s ∷ []) (f.kept + j) → i ≡ j
         once_next i j li lj qi qj e = elim (cases_eq i count) [
           | inl a ↦ elim (cases_eq j count) [
@@ -241,12 +235,12 @@ module _ (n : Netlist) (kn : IsNetlist n) (ws : List ℕ) (order : IsOrder n ws)
         ]
 
         each_next : (y : ℕ) (g : Signal) → slice_get a.signals y ≡ Some g → f.kept ≤ y → IsOfNode f read (count + 1) (made ++ s ∷ []) y
-        each_next y g e le = elim (pushed m.signals new g y (ap (λ l. slice_get l y) (sym signals_are) ∙ e)) [
+        each_next y g e le = elim (get_pushed m.signals new g y (ap (λ l. slice_get l y) (sym signals_are) ∙ e)) [
           | inl q ↦ of_node y (p.each y g q le)
           | inr q ↦ record { place = count; node = node; below = omega arith; at = at; is_read = is_read; number = new_at ∙ last ∙ sym q.0 }
         ]
 
-        node_next : (j : ℕ) (k : Node) → j < count + 1 → slice_get f.nodes j ≡ Some k → read_at read (f.kept + j) ≡ true → HasTemporary n f (made ++ s ∷ []) j k a
+        node_next : (j : ℕ) (k : Node) → j < count + 1 → slice_get f.nodes j ≡ Some k → bool_at read (f.kept + j) ≡ true → HasTemporary n f (made ++ s ∷ []) j k a
         node_next j k lt e q = elim (cases_eq j count) [
           | inl same ↦
               let one : node ≡ k = (let z = sym at ∙ ap (slice_get f.nodes) (sym same) ∙ e in cc) in

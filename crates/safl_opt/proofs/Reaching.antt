@@ -1,16 +1,17 @@
 -- In a net without loops, temporaries that something reads are reached.
 use Rattle.std.proofs.Common.{◌≡◌, ◌≢◌, ℕ, zero, suc, ◌+◌, ◌<◌, ◌≤◌, List, [], ◌∷◌, length, Option, Some, None, Bool, true, false, ◌⊎◌, inl, inr, slice_get, refl, sym, ap, subst, ◌∙◌, arith}
 use Rattle.std.proofs.lemmas.Bool.{cases_eq}
+use Rattle.safl_word.proofs.Lists.{get_some}
 use Rattle.safl_net.specs.declared.cell.SigKind.{SigKind}
 use Rattle.safl_net.specs.declared.cell.Op.TheVariants.{Copy, Mux}
 use Rattle.safl_net.specs.Netlist.{Netlist, Signal, Kind, Input, Reg, Wire, Cell}
 use Rattle.safl_net.specs.Making.{kind_in, kind_at, name_at, cell_in, sort_of}
 use Rattle.safl_net.specs.Valuations.{IsAcyclic}
-use Rattle.safl_net.proofs.Naming.{within}
 use Rattle.safl_order.specs.Order.{IsWire, ReadsSignal, operands_in}
+use Rattle.safl_order.proofs.Moves.{wire_in_net}
 use Rattle.safl_opt.specs.Lean.{is_numbered, is_const, are_constants, is_constant, IsTemporary, HasCell, Reached, shown, kept, named, read, Lean}
 use Rattle.safl_opt.specs.Spare.{IsChoice, IsNeeded, IsAlone, IsReader, IsShown, HasReader, IsWanted}
-use Rattle.safl_opt.proofs.Adding.{wire_known, get_some, known}
+use Rattle.safl_opt.proofs.Adding.{known}
 
 -- ---- the greatest rank below a bound
 
@@ -55,7 +56,7 @@ module _ (n : Netlist) (ac : IsAcyclic n) where
   rises : (a s : ℕ) → ReadsSignal n a s → IsWire n s → ac.rank s < ac.rank a
   rises a s r w =
       let c = cell_of_reader n a s r in
-      let g = get_some n.signals s (wire_known n s w) in
+      let g = get_some n.signals s (wire_in_net n s w) in
       let k = wire_kind g.0.kind (ap (λ o. sort_of (kind_in o)) (sym g.1) ∙ w) in
       ac.rises a s r.0 c.0 g.0 c.1 k.0 c.2 c.3 c.4 g.1 k.1
 
@@ -73,7 +74,7 @@ module _ (n : Netlist) (ac : IsAcyclic n) where
   module _ (all : (s : ℕ) → IsTemporary n s → HasReader n s) where
     -- upward from a wire, as far as ranks go
     climb : (fuel s : ℕ) → top ac.rank (length n.signals) < ac.rank s + fuel → IsTemporary n s → Reached n s
-    climb zero s lt t = let b = below_top ac.rank (length n.signals) s (wire_known n s t.wire) in absurd (omega (arith, b, lt))
+    climb zero s lt t = let b = below_top ac.rank (length n.signals) s (wire_in_net n s t.wire) in absurd (omega (arith, b, lt))
     climb (suc fuel) s lt t = step s (λ a r u. climb fuel a (let w = rises a s r t.wire in omega (arith, lt, w)) u) (all s t)
 
     pub reached : (s : ℕ) → IsTemporary n s → Reached n s
@@ -109,4 +110,4 @@ wanted n s l t = record {
 -- what reads a signal is a signal of the net
 pub reader_known : (n : Netlist) (a s : ℕ) → IsReader n a s → a < length n.signals
 reader_known n a s (inl r) = known n a (λ e. let z = sym e ∙ r.1 in absurd (cc))
-reader_known n a s (inr r) = wire_known n a (is_wire n a s r)
+reader_known n a s (inr r) = wire_in_net n a (is_wire n a s r)

@@ -1,54 +1,38 @@
 -- Cells and next signals that are set one after another.
 use Rattle.std.proofs.lemmas.List.Elements.{All-nil, All-cons}
-use Rattle.std.proofs.Common.{All, ◌≡◌, ℕ, zero, suc, ◌+◌, ◌-◌, ◌<◌, ◌≤◌, List, [], ◌∷◌, ◌++◌, map, length, take, Option, Some, None, Bool, true}
-use Rattle.std.proofs.Common.{false, nat_lt, ◌⊎◌, inl, inr, slice_get, refl, sym, ap, subst, ◌∙◌, arith}
+use Rattle.std.proofs.Common.{All, ◌≡◌, ℕ, zero, suc, ◌+◌, ◌-◌, ◌<◌, ◌≤◌, List, [], ◌∷◌, ◌++◌, map, length, Option, Some, None, Bool, true}
+use Rattle.std.proofs.Common.{false, nat_lt, inl, inr, slice_get, refl, sym, ap, subst, ◌∙◌, arith}
 use Rattle.std.proofs.lemmas.Bool.{cases_eq, ltb-true, ltb-false}
+use Rattle.std.proofs.lemmas.Option.{slice_get_within}
+use Rattle.std.proofs.lemmas.Simd.{map-map}
+use Rattle.safl_word.proofs.Lists.{map_at}
 use Rattle.safl_net.specs.declared.cell.Sig.{Sig}
 use Rattle.safl_net.specs.declared.cell.SigKind.{SigKind}
-use Rattle.safl_net.specs.Netlist.{Netlist, Signal, Kind, Input, Reg, Wire, Cell, IsSet, AllSet, width_in, width_of}
-use Rattle.safl_net.specs.Names.{is_temp, temp_name, one_wire, wires, IsTidy}
+use Rattle.safl_net.specs.Netlist.{Netlist, Signal, Kind, Input, Reg, Wire, Cell, IsSet, AllSet, width_in, width_of, open_kind}
+use Rattle.safl_net.specs.Names.{one_wire, wires}
 use Rattle.safl_net.specs.Making.{kind_in, kind_at, name_at, cell_in, next_in, sort_of, with_kind, set_kind, widths, numbers}
 use Rattle.safl_net.specs.Rules.{IsNetlist, KindFits}
 use Rattle.safl_net.specs.Valuations.{kind_reset, reset_number, reset_state}
 use Rattle.safl_net.specs.Widths.{op_width}
-use Rattle.safl_net.proofs.Naming.{within}
-use Rattle.safl_net.proofs.Keeping.{Was, was}
+use Rattle.safl_net.proofs.Kinds.{next_kind, set_at, set_other, tidy_kind}
+use Rattle.safl_net.proofs.Keeping.{set_length, set_width}
 use Rattle.safl_order.specs.Order.{IsWire, IsOrder, operands_in}
 use Rattle.safl_opt.specs.declared.fold.Values.{Values}
 use Rattle.safl_opt.specs.Lean.{is_numbered, IsTemporary}
 use Rattle.safl_opt.specs.Values.{sig_at, Folds, HasValue, IsDone}
-use Rattle.safl_opt.specs.Building.{read_at, IsRoot, shown, kept, named, AreRead, new_number, new_cell, new_kind, open_kind, open_signal, kept_signal}
+use Rattle.safl_opt.specs.Building.{IsRoot, shown, kept, named, AreRead, new_number, new_cell, new_kind, open_signal, kept_signal}
 use Rattle.safl_opt.specs.Stages.{Placed, HaveNumbers, IsTurn, AreListed, SetBelow}
 use Rattle.safl_opt.proofs.Coming.{kept_get, kept_within, cell_fits}
-use Rattle.safl_opt.proofs.Adding.{map_at, get_some, kept_lasts, wire_known, wire_or_not, known, next_known, operand_within}
+use Rattle.safl_opt.proofs.Adding.{kept_lasts, wire_or_not, known, next_known, operand_within}
 use Rattle.safl_opt.proofs.Marking.{have_values}
-use Rattle.safl_opt.proofs.Placing.{HasNumber, number, map_twice}
+use Rattle.safl_opt.proofs.Placing.{HasNumber, number}
 
 -- ---- a kind that is set
-
-set_other : (gs : List Signal) (s : ℕ) (k : Kind) (t : ℕ) → (t ≡ s → ⊥) → slice_get (set_kind gs s k) t ≡ slice_get gs t
-set_other [] s k t d = refl
-set_other (g ∷ gs) zero k zero d = absurd (d refl)
-set_other (g ∷ gs) zero k (suc t) d = refl
-set_other (g ∷ gs) (suc s) k zero d = refl
-set_other (g ∷ gs) (suc s) k (suc t) d = set_other gs s k t (λ e. d (ap suc e))
 
 set_here : (gs : List Signal) (s : ℕ) (k : Kind) (g : Signal) → slice_get gs s ≡ Some g → slice_get (set_kind gs s k) s ≡ Some (record { name = g.name; width = g.width; kind = k })
 set_here [] s k g e = absurd (cc)
 set_here (h ∷ gs) zero k g e = let q : h ≡ g = cc in ap (λ (x : Signal). Some (let y : Signal = record { name = x.name; width = x.width; kind = k } in y)) q
 set_here (h ∷ gs) (suc s) k g e = set_here gs s k g e
-
-set_width : (gs : List Signal) (s : ℕ) (k : Kind) (t : ℕ) → width_in (slice_get (set_kind gs s k) t) ≡ width_in (slice_get gs t)
-set_width [] s k t = refl
-set_width (g ∷ gs) zero k zero = refl
-set_width (g ∷ gs) zero k (suc t) = refl
-set_width (g ∷ gs) (suc s) k zero = refl
-set_width (g ∷ gs) (suc s) k (suc t) = set_width gs s k t
-
-set_long : (gs : List Signal) (s : ℕ) (k : Kind) → length (set_kind gs s k) ≡ length gs
-set_long [] s k = refl
-set_long (g ∷ gs) zero k = refl
-set_long (g ∷ gs) (suc s) k = ap suc (set_long gs s k)
 
 -- a kind that is there already
 set_same : (gs : List Signal) (s : ℕ) (k : Kind) (g : Signal) → slice_get gs s ≡ Some g → g.kind ≡ k → set_kind gs s k ≡ gs
@@ -60,29 +44,6 @@ set_same (h ∷ gs) (suc s) k g e q = ap (λ l. h ∷ l) (set_same gs s k g e q)
 
 pub stays : (m : Netlist) (s : ℕ) (k : Kind) (g : Signal) → slice_get m.signals s ≡ Some g → g.kind ≡ k → m ≡ with_kind m s k
 stays m s k g e q = ap (λ (l : List Signal). let x : Netlist = record { signals = l; outputs = m.outputs } in x) (sym (set_same m.signals s k g e q))
-
--- names stay, and so do the numbers of wires
-wires_kept : (gs : List Signal) (s : ℕ) (k : Kind) (t : ℕ) → one_wire k ≡ one_wire (kind_in (slice_get gs s)) → wires (take t (set_kind gs s k)) ≡ wires (take t gs)
-wires_kept [] s k t e = refl
-wires_kept (g ∷ gs) zero k zero e = refl
-wires_kept (g ∷ gs) zero k (suc t) e = ap (λ x. x + wires (take t gs)) e
-wires_kept (g ∷ gs) (suc s) k zero e = refl
-wires_kept (g ∷ gs) (suc s) k (suc t) e = ap (λ x. one_wire g.kind + x) (wires_kept gs s k t e)
-
-tidy_set : (n : Netlist) (s : ℕ) (k : Kind) → one_wire k ≡ one_wire (kind_at n s) → IsTidy n → IsTidy (with_kind n s k)
-tidy_set n s k e h = record {
-  signals = λ t g at temp. by t g (was n.signals s t k g at) temp;
-  outputs = h.outputs;
-}
-  where
-    same : (t : ℕ) (g b : Signal) → slice_get n.signals t ≡ Some b → (((t ≡ s) × (g.kind ≡ k)) ⊎ (g.kind ≡ b.kind)) → one_wire g.kind ≡ one_wire b.kind
-    same t g b at (inl q) = ap one_wire q.1 ∙ e ∙ ap (λ x. one_wire (kind_at n x)) (sym q.0) ∙ ap (λ x. one_wire (kind_in x)) at
-    same t g b at (inr q) = ap one_wire q
-
-    by : (t : ℕ) (g : Signal) → Was n.signals s t k g → is_temp g.name ≡ true → (one_wire g.kind ≡ 1) × (g.name ≡ temp_name (wires (take t (set_kind n.signals s k))))
-    by t g w temp =
-        let q = h.signals t w.before w.at (ap is_temp (sym w.name) ∙ temp) in
-        (same t g w.before w.at w.kind ∙ q.0, w.name ∙ q.1 ∙ ap temp_name (sym (wires_kept n.signals s k t e)))
 
 same_wires : (f : Values) (made : List Sig) (k : Kind) → one_wire (new_kind f made k) ≡ one_wire (open_kind k)
 same_wires f made Input = refl
@@ -110,7 +71,7 @@ kind_for n f made i = new_kind f made (kind_at n (sig_at f.signals.items i))
 pub set_next : (n : Netlist) (f : Values) (made : List Sig) (first m a : Netlist) (i j : ℕ) → j ≡ i + 1 → i < f.kept → SetBelow n f made first i m
     → a ≡ with_kind m i (new_kind f made (kind_at n (sig_at f.signals.items i))) → SetBelow n f made first j a
 set_next n f made first m a i j q lt b e = subst (λ k. SetBelow n f made first k a) (sym q) (subst (SetBelow n f made first (i + 1)) (sym e) (record {
-  long = set_long m.signals i (kind_for n f made i) ∙ b.long;
+  long = set_length m.signals i (kind_for n f made i) ∙ b.long;
   widths = λ y. set_width m.signals i (kind_for n f made i) y ∙ b.widths y;
   done = λ x lx. elim (cases_eq x i) [
     | inl one ↦
@@ -121,7 +82,7 @@ set_next n f made first m a i j q lt b e = subst (λ k. SetBelow n f made first 
   left = λ x le lx. set_other m.signals i (kind_for n f made i) x (λ o. absurd (omega (arith, o, le))) ∙ b.left x (omega (arith, le)) lx;
   rest = λ y le. set_other m.signals i (kind_for n f made i) y (λ o. absurd (omega (arith, o, le, lt))) ∙ b.rest y le;
   outputs = b.outputs;
-  tidy = tidy_set m i (kind_for n f made i) (same_wires f made (kind_at n (sig_at f.signals.items i)) ∙ ap (λ o. one_wire (kind_in o)) (sym (b.left i (omega arith) lt))) b.tidy;
+  tidy = tidy_kind m i (kind_for n f made i) (same_wires f made (kind_at n (sig_at f.signals.items i)) ∙ ap (λ o. one_wire (kind_in o)) (sym (b.left i (omega arith) lt))) b.tidy;
 }))
 
 -- ---- the numbers of roots
@@ -155,7 +116,7 @@ module _ (n : Netlist) (kn : IsNetlist n) (ws : List ℕ) (order : IsOrder n ws)
       done s lt = (
         lt,
         elim (wire_or_not n s) [
-          | inl w ↦ let r = order.all s w in inr (r.0, within ws r.0 s r.1, r.1)
+          | inl w ↦ let r = order.all s w in inr (r.0, slice_get_within ws r.0 s r.1, r.1)
           | inr w ↦ inl (λ t. w t.wire)
         ],
       )
@@ -206,7 +167,7 @@ module _ (n : Netlist) (kn : IsNetlist n) (f : Values) (made : List Sig) (i s : 
   pub cell_gives : (c : Cell) → kind_at n s ≡ Wire (Some c) → op_width c.op (widths m (new_cell f made c).operands) ≡ Some (width_of n s)
   cell_gives c e =
       ap (op_width c.op) (
-      map_twice (width_of m) (new_number f made) c.operands
+      map-map (width_of m) (new_number f made) c.operands
       ∙ map_at (λ t. width_of m (new_number f made t)) (width_of n) c.operands (λ k t o. have.width t (operand_root c e k t o))
       )
       ∙ (cell_fits n s c kn e).gives
@@ -232,11 +193,6 @@ module _ (n : Netlist) (kn : IsNetlist n) (f : Values) (made : List Sig) (i s : 
 
 -- ---- one signal is set
 
-pub next_of : (k : Kind) (t : ℕ) → Some t ≡ next_in k → (init : ℕ) × (k ≡ Reg init (Some t))
-next_of Input t e = absurd (cc)
-next_of (Reg init next) t e = (init, ap (Reg init) (sym e))
-next_of (Wire c) t e = absurd (cc)
-
 input_same : (f : Values) (made : List Sig) (k : Kind) → sort_of k ≡ SigKind.Input → open_kind k ≡ new_kind f made k
 input_same f made Input e = refl
 input_same f made (Reg init next) e = absurd (cc)
@@ -255,14 +211,11 @@ no_cell (Reg init next) t e q = absurd (cc)
 no_cell (Wire None) t e q = t
 no_cell (Wire (Some c)) t e q = absurd (cc)
 
-pub is_set : (n : Netlist) → AllSet n → (s : ℕ) → s < length n.signals → IsSet (kind_at n s)
-is_set n set s lt = let g = get_some n.signals s lt in subst IsSet (sym (ap kind_in g.1)) (set s g.0 g.1)
-
 pub never_open_register : (n : Netlist) → AllSet n → (s : ℕ) → s < length n.signals → sort_of (kind_at n s) ≡ SigKind.Reg → None ≡ next_in (kind_at n s) → ⊥
-never_open_register n set s lt e q = no_next (kind_at n s) (is_set n set s lt) e q
+never_open_register n set s lt e q = no_next (kind_at n s) (set_at n s set lt) e q
 
 pub never_open_wire : (n : Netlist) → AllSet n → (s : ℕ) → s < length n.signals → sort_of (kind_at n s) ≡ SigKind.Wire → None ≡ cell_in (kind_at n s) → ⊥
-never_open_wire n set s lt e q = no_cell (kind_at n s) (is_set n set s lt) e q
+never_open_wire n set s lt e q = no_cell (kind_at n s) (set_at n s set lt) e q
 
 module _ (n : Netlist) (f : Values) (made : List Sig) (i s : ℕ) (m : Netlist) (turn : IsTurn n f made i s m) where
   abbrev at : s ≡ sig_at f.signals.items i
@@ -281,11 +234,11 @@ module _ (n : Netlist) (f : Values) (made : List Sig) (i s : ℕ) (m : Netlist) 
   -- a register
   module _ (t : ℕ) (e : Some t ≡ next_in (kind_at n s)) where
     pub init_of : ℕ
-    init_of = (next_of (kind_at n s) t e).0
+    init_of = (next_kind (kind_at n s) t e).0
 
     pub register_kind : kind_at n s ≡ Reg init_of (Some t)
     unfolding init_of
-    register_kind = (next_of (kind_at n s) t e).1
+    register_kind = (next_kind (kind_at n s) t e).1
 
     its_kind : kind_at n (sig_at f.signals.items i) ≡ Reg init_of (Some t)
     its_kind = ap (kind_at n) (sym at) ∙ register_kind

@@ -3,22 +3,24 @@ use Rattle.std.proofs.Common.{◌≡◌, ℕ, zero, suc, ◌+◌, ◌<◌, ◌�
 use Rattle.std.proofs.Common.{◌⊎◌, inl, inr, slice_get, refl, sym, ap, subst, ◌∙◌, arith}
 use Rattle.std.specs.Prelude.{option_map}
 use Rattle.std.proofs.lemmas.Bool.{ltb-true, ltb-false}
+use Rattle.std.proofs.lemmas.Option.{slice_get_within}
+use Rattle.std.proofs.lemmas.List.{map_push}
+use Rattle.std.proofs.Math.Seq.{take-length}
+use Rattle.safl_word.proofs.Lists.{get_some, take_next}
 use Rattle.safl_net.specs.declared.cell.Sig.{Sig}
 use Rattle.safl_net.specs.Netlist.{Netlist, Signal}
 use Rattle.safl_net.specs.Names.{is_good, is_temp, IsTidy}
 use Rattle.safl_net.specs.Making.{name_in, name_at, refusal, with_output}
 use Rattle.safl_net.specs.Rules.{IsNetlist}
-use Rattle.safl_net.proofs.Naming.{within}
 use Rattle.safl_net.proofs.Tidy.{tidy_output}
 use Rattle.safl_opt.specs.declared.node.Node.{Node}
 use Rattle.safl_opt.specs.declared.fold.Values.{Values}
 use Rattle.safl_opt.specs.Values.{sig_at, Folds}
-use Rattle.safl_opt.specs.Building.{read_at, IsRoot, shown, new_number, kept_signal, IsNodeOf, Builds}
+use Rattle.safl_opt.specs.Building.{IsRoot, shown, new_number, kept_signal, IsNodeOf, Builds}
 use Rattle.safl_opt.specs.Stages.{Placed, SetBelow, HasName, AreNamed, Shown}
 use Rattle.safl_opt.proofs.Coming.{kept_within}
-use Rattle.safl_opt.proofs.Adding.{get_some}
 use Rattle.safl_opt.proofs.Declaring.{no_refusal}
-use Rattle.safl_opt.proofs.ListSteps.{take_next, map_push, take_all, mapped_few}
+use Rattle.safl_opt.proofs.ListSteps.{mapped_few}
 
 -- an output among the first ones
 from_shown : (g : ℕ → ℕ) (os : List (List ℕ × ℕ)) (i j : ℕ) (o : List ℕ × ℕ) → slice_get (map (λ o. (o.0, g o.1)) (take i os)) j ≡ Some o →
@@ -102,11 +104,11 @@ module _ (n : Netlist) (ws : List ℕ) (f : Values) (h : Folds n ws (length ws) 
     own = p.own;
     kept = λ x lt. get x ∙ b.done x lt;
     nodes = λ j node at q.
-        let t = p.nodes j node (within f.nodes j node at) at q in
+        let t = p.nodes j node (slice_get_within f.nodes j node at) at q in
         (t.behind, (t.signal, get (sig_at made (f.kept + j)) ∙ b.rest (sig_at made (f.kept + j)) t.behind ∙ t.there, t.is));
     each = λ y g at le. let o = p.each y g (sym (get y ∙ b.rest y le) ∙ at) le in (o.place, o.node, o.at, o.is_read, o.number);
-    once = λ i j a b ai bj qi qj. p.once i j (within f.nodes i a ai) (within f.nodes j b bj) qi qj;
-    outputs = sh.outputs ∙ ap (map (λ (o : List ℕ × ℕ). (o.0, new_number f made o.1))) (ap (λ k. take k n.outputs) e ∙ take_all n.outputs);
+    once = λ i j a b ai bj qi qj. p.once i j (slice_get_within f.nodes i a ai) (slice_get_within f.nodes j b bj) qi qj;
+    outputs = sh.outputs ∙ ap (map (λ (o : List ℕ × ℕ). (o.0, new_number f made o.1))) (ap (λ k. take k n.outputs) e ∙ take-length n.outputs);
   }
     where
       get : (y : ℕ) → slice_get m.signals y ≡ slice_get mid.signals y

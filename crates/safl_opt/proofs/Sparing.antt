@@ -1,7 +1,8 @@
 -- Cells that could not be spared.
-use Rattle.std.proofs.Common.{◌≡◌, ◌≢◌, ℕ, zero, suc, ◌<◌, List, [], ◌∷◌, ◌++◌, map, length, take, All, Option, Some, None, Bool, true, false, not}
+use Rattle.std.proofs.Common.{◌≡◌, ◌≢◌, ℕ, zero, suc, ◌<◌, List, [], ◌∷◌, ◌++◌, length, take, All, Option, Some, None, Bool, true, false, not}
 use Rattle.std.proofs.Common.{◌&&◌, cond, ◌⊎◌, inl, inr, slice_get, slice_index_or, refl, sym, ap, subst, ◌∙◌, arith}
 use Rattle.std.specs.Prelude.{IsTrue, ◌↔◌}
+use Rattle.std.proofs.lemmas.List.{length-map}
 use Rattle.safl_word.specs.Words.{Word}
 use Rattle.safl_word.specs.declared.primitive.Primitive.{Primitive}
 use Rattle.safl_net.specs.declared.cell.Sig.{Sig}
@@ -11,6 +12,7 @@ use Rattle.safl_net.specs.Netlist.{Netlist, Kind, Input, Reg, Wire, Cell, width_
 use Rattle.safl_net.specs.Making.{kind_at, cell_in, numbers, widths, cell_on}
 use Rattle.safl_net.specs.Rules.{CellFits}
 use Rattle.safl_net.specs.Widths.{op_width, mux_operands}
+use Rattle.safl_net.proofs.Keeping.{numbers_length}
 use Rattle.safl_opt.specs.Lean.{is_const, is_constant, are_constants, HasCell}
 use Rattle.safl_opt.specs.Values.{sig_at}
 use Rattle.safl_opt.specs.Spare.{IsChoice, IsNeeded}
@@ -45,12 +47,8 @@ three (a ∷ (b ∷ [])) w e = absurd (cc)
 three (a ∷ (b ∷ (c ∷ []))) w e = refl
 three (a ∷ (b ∷ (c ∷ (d ∷ ws)))) w e = absurd (cc)
 
-map_long : (g : ℕ → ℕ) (xs : List ℕ) → length (map g xs) ≡ length xs
-map_long g [] = refl
-map_long g (x ∷ xs) = ap suc (map_long g xs)
-
 pub mux_three : (n : Netlist) (c : Cell) (w : ℕ) → CellFits n w c → c.op ≡ Mux → length c.operands ≡ 3
-mux_three n c w f e = sym (map_long (width_of n) c.operands) ∙ three (widths n c.operands) w (ap (λ o. op_width o (widths n c.operands)) (sym e) ∙ f.gives)
+mux_three n c w f e = sym (length-map c.operands (width_of n)) ∙ three (widths n c.operands) w (ap (λ o. op_width o (widths n c.operands)) (sym e) ∙ f.gives)
 
 choice_folded : (n : Netlist) (xs : List ℕ) → length xs ≡ 3 → IsChoice n xs → are_constants n xs ≡ false
 choice_folded n [] e h = absurd (omega (arith, e))
@@ -149,9 +147,5 @@ same_at (x ∷ xs) [] k e = absurd (cc)
 same_at (x ∷ xs) (y ∷ ys) zero e = cc
 same_at (x ∷ xs) (y ∷ ys) (suc k) e = same_at xs ys k (let q : numbers xs ≡ numbers ys = cc in q)
 
-long : (xs : List Sig) → length (numbers xs) ≡ length xs
-long [] = refl
-long (x ∷ xs) = ap suc (long xs)
-
 pub same_long : (xs ys : List Sig) → numbers xs ≡ numbers ys → length xs ≡ length ys
-same_long xs ys e = sym (long xs) ∙ ap length e ∙ long ys
+same_long xs ys e = sym (numbers_length xs) ∙ ap length e ∙ numbers_length ys

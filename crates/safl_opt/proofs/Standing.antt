@@ -3,7 +3,10 @@ use Rattle.std.proofs.Common.{◌≡◌, ℕ, zero, suc, ◌+◌, ◌<◌, ◌^�
 use Rattle.std.proofs.Common.{slice_get, slice_index, refl, sym, ap, subst, ◌∙◌, arith}
 use Rattle.std.proofs.lemmas.Nat.{pow_pos}
 use Rattle.std.proofs.lemmas.Slice.Eq.{bytes_eq-Decides}
+use Rattle.std.proofs.lemmas.Option.{slice_get_within}
 use Rattle.safl_word.specs.Words.{Word}
+use Rattle.safl_word.proofs.Lists.{get_some, map_at}
+use Rattle.safl_word.proofs.Words.{word_eq}
 use Rattle.safl_net.specs.Netlist.{Netlist, Signal, Kind, Input, Reg, Wire, Cell, IsSet, AllSet, width_in, width_of, place, output_place}
 use Rattle.safl_net.specs.Names.{is_temp}
 use Rattle.safl_net.specs.Rules.{IsNetlist}
@@ -12,11 +15,10 @@ use Rattle.safl_net.specs.Making.{name_in, name_at}
 use Rattle.safl_net.specs.Valuations.{Valuation, Holds, Fits, IsAcyclic, signal_word, cell_word, number_at, read, read_next, read_output, next_at, next_number, next_state, kind_next}
 use Rattle.safl_net.specs.Growth.{Val, KindHolds, SignalHolds, Wired}
 use Rattle.safl_net.proofs.CellWords.{wired_shown}
-use Rattle.safl_net.proofs.OneValuation.{map_same, one_valuation}
+use Rattle.safl_net.proofs.OneValuation.{one_valuation}
 use Rattle.safl_net.proofs.Existence.{exactly_one}
-use Rattle.safl_net.proofs.Naming.{within}
 use Rattle.safl_net.proofs.Reading.{place_of, output_place_of}
-use Rattle.safl_opt.proofs.Adding.{operand_known, get_some}
+use Rattle.safl_opt.proofs.Adding.{operand_known}
 use Rattle.safl_net.proofs.Twins.{own}
 use Rattle.safl_net.specs.Mirrors.{IsCycle, ShowsCycle, Mirrors}
 
@@ -149,12 +151,8 @@ module _ (n m : Netlist) (kn : IsNetlist n) (km : IsNetlist m) (set_n : AllSet n
   made_at : (y : ℕ) → y < length m.signals → slice_index made y ≡ (word (back y)).bits
   made_at y h = table_at (λ y. word (back y)) 0 m.signals y h ∙ ap (λ (k : ℕ). (word (back k)).bits) (let q : 0 + y ≡ y = omega arith in q)
 
-  -- the word of a signal
-  word_same : (x y : Word) → x.width ≡ y.width → x.bits ≡ y.bits → x ≡ y
-  word_same x y e f = ap (λ (w : ℕ). record { width = w; bits = x.bits }) e ∙ ap (λ (b : ℕ). record { width = y.width; bits = b }) f
-
   made_word : (y : ℕ) (h : Signal) → slice_get m.signals y ≡ Some h → signal_word m made y ≡ word (back y)
-  made_word y h e = word_same (signal_word m made y) (word (back y)) (ap width_in e ∙ sym (wired_new.each y h e).width) (made_at y (within m.signals y h e))
+  made_word y h e = word_eq (signal_word m made y) (word (back y)) (ap width_in e ∙ sym (wired_new.each y h e).width) (made_at y (slice_get_within m.signals y h e))
 
   -- what the register or input shows
   old_at : (y : ℕ) (g h : Signal) → StandsFor n m (back y) y g h → (k : Kind) → g.kind ≡ k → SameSort k h.kind → (c : ℕ) →
@@ -171,16 +169,16 @@ module _ (n m : Netlist) (kn : IsNetlist n) (km : IsNetlist m) (set_n : AllSet n
   state_at : (y : ℕ) (h : Signal) → slice_get m.signals y ≡ Some h → is_temp h.name ≡ false → ((d : Option Cell) → h.kind ≡ Wire d → ⊥) → slice_index made y ≡ slice_index w y
   state_at y h e q never =
       let r = st.new y h e q in
-      made_at y (within m.signals y h e) ∙ old_at y r.0 h r.1 r.0.kind refl r.1.sort 0 never ∙ shown_at y h e q
+      made_at y (slice_get_within m.signals y h e) ∙ old_at y r.0 h r.1 r.0.kind refl r.1.sort 0 never ∙ shown_at y h e q
 
   holds : (y : ℕ) (h : Signal) (k : Kind) → slice_get m.signals y ≡ Some h → h.kind ≡ k → KindHolds (λ y. word (back y)) (word (back y)) k → Holds m made (slice_index w y) (slice_index made y) k
   holds y h Input e is q = tt
   holds y h (Reg i p) e is q = state_at y h e (st.lasting y i p h e is) (λ d z. let t = sym is ∙ z in absurd (cc))
   holds y h (Wire None) e is q = tt
   holds y h (Wire (Some c)) e is q =
-      made_at y (within m.signals y h e)
+      made_at y (slice_get_within m.signals y h e)
       ∙ ap (λ (x : Word). x.bits) q
-      ∙ ap (λ l. (cell_word c.op l).bits) (sym (map_same (signal_word m made) (λ y. word (back y)) c.operands (λ i t o. by t (operand i t o))))
+      ∙ ap (λ l. (cell_word c.op l).bits) (sym (map_at (signal_word m made) (λ y. word (back y)) c.operands (λ i t o. by t (operand i t o))))
     where
       operand : (i t : ℕ) → slice_get c.operands i ≡ Some t → t < length m.signals
       operand i t o = operand_known m y h c i t km e is o
@@ -193,7 +191,7 @@ module _ (n m : Netlist) (kn : IsNetlist n) (km : IsNetlist m) (set_n : AllSet n
     full = table_length (λ y. word (back y)) 0 m.signals;
     each = λ y h e.
         let k = wired_new.each y h e in
-        (subst (λ x. x < 2 ^ h.width) (sym (made_at y (within m.signals y h e))) k.bits, holds y h h.kind e refl k.kind);
+        (subst (λ x. x < 2 ^ h.width) (sym (made_at y (slice_get_within m.signals y h e))) k.bits, holds y h h.kind e refl k.kind);
   }
 
   is_made : made ≡ w
@@ -225,7 +223,7 @@ module _ (n m : Netlist) (kn : IsNetlist n) (km : IsNetlist m) (set_n : AllSet n
     where
       by : (o : Option ℕ) → place m.signals name 0 ≡ o → number_at w o ≡ read n old name
       by None e = sym (ap (number_at old) (none_then name q e))
-      by (Some y) e = let r = then_some name y q e in number_at_new y (within m.signals y r.1 r.2.new) ∙ sym (ap (number_at old) r.3)
+      by (Some y) e = let r = then_some name y q e in number_at_new y (slice_get_within m.signals y r.1 r.2.new) ∙ sym (ap (number_at old) r.3)
 
   kinds_next : (y : ℕ) (g h : Signal) → StandsFor n m (back y) y g h → (k j : Kind) → g.kind ≡ k → h.kind ≡ j → SameSort k j → kind_next w j ≡ kind_next old k
   kinds_next y g h r Input Input eg eh s = refl

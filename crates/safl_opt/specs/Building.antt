@@ -1,7 +1,8 @@
 -- The net of the values that are read.
-use Rattle.std.specs.Prelude.{◌≡◌, ℕ, zero, suc, ◌+◌, ◌<◌, ◌≤◌, List, [], ◌∷◌, map, length, Option, Some, None, Bool, true, false, ◌⊎◌, slice_get}
+use Rattle.std.specs.Prelude.{◌≡◌, ℕ, ◌+◌, ◌<◌, ◌≤◌, List, [], map, length, Option, Some, None, Bool, true, false, ◌⊎◌, slice_get}
+use Rattle.safl_word.specs.Lists.{bool_at}
 use Rattle.safl_net.specs.declared.cell.Sig.{Sig}
-use Rattle.safl_net.specs.Netlist.{Netlist, Signal, Kind, Input, Reg, Wire, Cell, width_of}
+use Rattle.safl_net.specs.Netlist.{Netlist, Signal, Kind, Input, Reg, Wire, Cell, width_of, open_kind}
 use Rattle.safl_net.specs.Names.{is_temp, temp_name, wires}
 use Rattle.safl_net.specs.Widths.{op_width}
 use Rattle.safl_net.specs.Making.{kind_at, name_at, with_signal, wired}
@@ -14,11 +15,6 @@ use Rattle.safl_opt.specs.Values.{sig_at, value_width}
 
 -- ---- which values are read
 
-abbrev pub read_at : List Bool → ℕ → Bool
-read_at [] i = false
-read_at (b ∷ bs) zero = b
-read_at (b ∷ bs) (suc i) = read_at bs i
-
 -- an output shows the signal, a register has it as its next signal, or a named wire reads it
 pub data IsRoot (n : Netlist) (s : ℕ) : Type 0 where
   shown : (i : ℕ) (o : List ℕ × ℕ) → slice_get n.outputs i ≡ Some o → o.1 ≡ s → IsRoot n s
@@ -28,19 +24,19 @@ pub data IsRoot (n : Netlist) (s : ℕ) : Type 0 where
 -- the values of roots are read, and so are the operands of the nodes of values that are read
 pub record AreRead (n : Netlist) (f : Values) (read : List Bool) : Type 0 where
   pub long : length read ≡ length f.signals.items
-  pub roots : (s : ℕ) → IsRoot n s → read_at read (sig_at f.ids.items s) ≡ true
-  pub nodes : (j i y : ℕ) (node : Node) → slice_get f.nodes j ≡ Some node → read_at read (f.kept + j) ≡ true
-      → slice_get (node_operands node) i ≡ Some y → read_at read y ≡ true
+  pub roots : (s : ℕ) → IsRoot n s → bool_at read (sig_at f.ids.items s) ≡ true
+  pub nodes : (j i y : ℕ) (node : Node) → slice_get f.nodes j ≡ Some node → bool_at read (f.kept + j) ≡ true
+      → slice_get (node_operands node) i ≡ Some y → bool_at read y ≡ true
 
 -- the value belongs to a root, or is an operand of the node of a value that is read
 pub data IsNeeded (n : Netlist) (f : Values) (read : List Bool) (x : ℕ) : Type 0 where
   by_root : (s : ℕ) → IsRoot n s → sig_at f.ids.items s ≡ x → IsNeeded n f read x
-  by_node : (j i : ℕ) (node : Node) → slice_get f.nodes j ≡ Some node → read_at read (f.kept + j) ≡ true → slice_get (node_operands node) i ≡ Some x
+  by_node : (j i : ℕ) (node : Node) → slice_get f.nodes j ≡ Some node → bool_at read (f.kept + j) ≡ true → slice_get (node_operands node) i ≡ Some x
       → IsNeeded n f read x
 
 -- only needed values are read
 pub record AreNeeded (n : Netlist) (f : Values) (read : List Bool) : Type 0 where
-  pub each : (x : ℕ) → read_at read x ≡ true → IsNeeded n f read x
+  pub each : (x : ℕ) → bool_at read x ≡ true → IsNeeded n f read x
 
 -- ---- the net
 
@@ -75,12 +71,12 @@ pub record IsNodeOf (n : Netlist) (f : Values) (made : List Sig) (x : ℕ) (node
 pub record Builds (n : Netlist) (f : Values) (read : List Bool) (made : List Sig) (m : Netlist) : Type 0 where
   pub own : (x : ℕ) → x < f.kept → sig_at made x ≡ x
   pub kept : (x : ℕ) → x < f.kept → slice_get m.signals x ≡ Some (kept_signal n f made (sig_at f.signals.items x))
-  pub nodes : (j : ℕ) (node : Node) → slice_get f.nodes j ≡ Some node → read_at read (f.kept + j) ≡ true
+  pub nodes : (j : ℕ) (node : Node) → slice_get f.nodes j ≡ Some node → bool_at read (f.kept + j) ≡ true
       → (f.kept ≤ sig_at made (f.kept + j)) × ((g : Signal) × (slice_get m.signals (sig_at made (f.kept + j)) ≡ Some g) × IsNodeOf n f made (f.kept + j) node g)
   pub each : (y : ℕ) (g : Signal) → slice_get m.signals y ≡ Some g → f.kept ≤ y
-      → (j : ℕ) × (node : Node) × (slice_get f.nodes j ≡ Some node) × (read_at read (f.kept + j) ≡ true) × (sig_at made (f.kept + j) ≡ y)
-  pub once : (i j : ℕ) (a b : Node) → slice_get f.nodes i ≡ Some a → slice_get f.nodes j ≡ Some b → read_at read (f.kept + i) ≡ true
-      → read_at read (f.kept + j) ≡ true
+      → (j : ℕ) × (node : Node) × (slice_get f.nodes j ≡ Some node) × (bool_at read (f.kept + j) ≡ true) × (sig_at made (f.kept + j) ≡ y)
+  pub once : (i j : ℕ) (a b : Node) → slice_get f.nodes i ≡ Some a → slice_get f.nodes j ≡ Some b → bool_at read (f.kept + i) ≡ true
+      → bool_at read (f.kept + j) ≡ true
       → sig_at made (f.kept + i) ≡ sig_at made (f.kept + j) → i ≡ j
   pub outputs : m.outputs ≡ map (λ o. (o.0, new_number f made o.1)) n.outputs
 
@@ -89,9 +85,9 @@ pub record Builds (n : Netlist) (f : Values) (read : List Bool) (made : List Sig
 -- marks that were set stay, and the new ones are exactly those of P
 pub record Marks (old new : List Bool) (P : ℕ → Type 0) : Type 0 where
   pub long : length new ≡ length old
-  pub stays : (x : ℕ) → read_at old x ≡ true → read_at new x ≡ true
-  pub sets : (x : ℕ) → P x → read_at new x ≡ true
-  pub only : (x : ℕ) → read_at new x ≡ true → (read_at old x ≡ true) ⊎ P x
+  pub stays : (x : ℕ) → bool_at old x ≡ true → bool_at new x ≡ true
+  pub sets : (x : ℕ) → P x → bool_at new x ≡ true
+  pub only : (x : ℕ) → bool_at new x ≡ true → (bool_at old x ≡ true) ⊎ P x
 
 -- the value of a signal
 abbrev pub IsValueOf : Values → ℕ → ℕ → Type 0
@@ -110,7 +106,7 @@ pub data ReadBy (n : Netlist) (a s : ℕ) : Type 0 where
 -- s is an operand of the node at this place, and the value of that node is marked
 abbrev pub IsOperandAt : Values → List Bool → ℕ → ℕ → Type 0
 IsOperandAt f read place x =
-    (node : Node) × (i : ℕ) × (slice_get f.nodes place ≡ Some node) × (slice_get (node_operands node) i ≡ Some x) × (read_at read (f.kept + place) ≡ true)
+    (node : Node) × (i : ℕ) × (slice_get f.nodes place ≡ Some node) × (slice_get (node_operands node) i ≡ Some x) × (bool_at read (f.kept + place) ≡ true)
 
 -- the operands of the node at this place are values before its own
 abbrev pub ReadsLower : Values → ℕ → Type 0
@@ -140,7 +136,7 @@ pub record HasNodeAbove (f : Values) (read : List Bool) (j x : ℕ) : Type 0 whe
   pub index : ℕ
   pub node : Node
   pub at : slice_get f.nodes place ≡ Some node
-  pub marked : read_at read (f.kept + place) ≡ true
+  pub marked : bool_at read (f.kept + place) ≡ true
   pub operand : slice_get (node_operands node) index ≡ Some x
 
 -- ---- what is marked so far
@@ -155,18 +151,13 @@ pub record HasOutputBelow (n : Netlist) (f : Values) (count x : ℕ) : Type 0 wh
 -- exactly the values of P are marked
 pub record Marked (count : ℕ) (read : List Bool) (P : ℕ → Type 0) : Type 0 where
   pub long : length read ≡ count
-  pub sets : (x : ℕ) → P x → read_at read x ≡ true
-  pub only : (x : ℕ) → read_at read x ≡ true → P x
+  pub sets : (x : ℕ) → P x → bool_at read x ≡ true
+  pub only : (x : ℕ) → bool_at read x ≡ true → P x
 
 abbrev pub IsRootBelow : Netlist → Values → ℕ → ℕ → Type 0
 IsRootBelow n f count x = HasReaderBelow n f (length n.signals) x ⊎ HasOutputBelow n f count x
 
 -- ---- declaring signals
-
-abbrev pub open_kind : Kind → Kind
-open_kind Input = Input
-open_kind (Reg init next) = Reg init None
-open_kind (Wire cell) = Wire None
 
 -- a signal with the name, the width and the kind of another, which is not set
 abbrev pub open_signal : Netlist → ℕ → Signal

@@ -1,6 +1,7 @@
 -- The stages of building a net.
 -- First the kept signals are declared, then temporaries are made, then cells and next signals are set, then outputs are added.
 use Rattle.std.specs.Prelude.{◌≡◌, ℕ, ◌+◌, ◌<◌, ◌≤◌, List, [], map, length, take, Some, Bool, true, ◌⊎◌, slice_get}
+use Rattle.safl_word.specs.Lists.{bool_at}
 use Rattle.safl_net.specs.declared.cell.Sig.{Sig}
 use Rattle.safl_net.specs.Netlist.{Netlist, Signal, width_of}
 use Rattle.safl_net.specs.Names.{is_temp, IsTidy}
@@ -9,7 +10,7 @@ use Rattle.safl_opt.specs.declared.node.Node.{Node}
 use Rattle.safl_opt.specs.declared.fold.Values.{Values}
 use Rattle.safl_order.specs.Order.{IsOrder}
 use Rattle.safl_opt.specs.Values.{sig_at, Folds}
-use Rattle.safl_opt.specs.Building.{read_at, IsRoot, new_number, open_signal, kept_signal, IsNodeOf}
+use Rattle.safl_opt.specs.Building.{IsRoot, new_number, open_signal, kept_signal, IsNodeOf}
 
 -- the first `count` kept signals are declared, and nothing else is in the net
 pub record Declared (n : Netlist) (f : Values) (count : ℕ) (m : Netlist) : Type 0 where
@@ -30,7 +31,7 @@ pub record IsOfNode (f : Values) (read : List Bool) (count : ℕ) (made : List S
   pub node : Node
   pub below : place < count
   pub at : slice_get f.nodes place ≡ Some node
-  pub is_read : read_at read (f.kept + place) ≡ true
+  pub is_read : bool_at read (f.kept + place) ≡ true
   pub number : sig_at made (f.kept + place) ≡ y
 
 -- Each of the first `count` nodes that is read has a temporary of its own. There are no outputs yet.
@@ -39,9 +40,9 @@ pub record Placed (n : Netlist) (f : Values) (read : List Bool) (count : ℕ) (m
   pub few : length m.signals ≤ f.kept + count
   pub own : (x : ℕ) → x < f.kept → sig_at made x ≡ x
   pub kept : (x : ℕ) → x < f.kept → slice_get m.signals x ≡ Some (open_signal n (sig_at f.signals.items x))
-  pub nodes : (j : ℕ) (node : Node) → j < count → slice_get f.nodes j ≡ Some node → read_at read (f.kept + j) ≡ true → HasTemporary n f made j node m
+  pub nodes : (j : ℕ) (node : Node) → j < count → slice_get f.nodes j ≡ Some node → bool_at read (f.kept + j) ≡ true → HasTemporary n f made j node m
   pub each : (y : ℕ) (g : Signal) → slice_get m.signals y ≡ Some g → f.kept ≤ y → IsOfNode f read count made y
-  pub once : (i j : ℕ) → i < count → j < count → read_at read (f.kept + i) ≡ true → read_at read (f.kept + j) ≡ true
+  pub once : (i j : ℕ) → i < count → j < count → bool_at read (f.kept + i) ≡ true → bool_at read (f.kept + j) ≡ true
       → sig_at made (f.kept + i) ≡ sig_at made (f.kept + j) → i ≡ j
   pub outputs : m.outputs ≡ []
   pub tidy : IsTidy m

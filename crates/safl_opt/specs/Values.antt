@@ -3,7 +3,7 @@ use Rattle.std.specs.Prelude.{◌≡◌, ◌≢◌, ℕ, zero, suc, ◌+◌, ◌
 use Rattle.std.specs.Prelude.{Some, None, Bool, true, false, cond, not, ◌&&◌, nat_lt, ◌⊎◌, slice_get, slice_set}
 use Rattle.safl_word.specs.Words.{Word, IsWord}
 use Rattle.safl_net.specs.declared.cell.Sig.{Sig}
-use Rattle.safl_net.specs.Netlist.{Netlist, Kind, Input, Reg, Wire, Cell, width_of}
+use Rattle.safl_net.specs.Netlist.{Netlist, Cell, width_of, is_input, is_register, is_wire}
 use Rattle.safl_net.specs.Making.{kind_at, name_at, numbers, widths}
 use Rattle.safl_net.specs.Valuations.{cell_word}
 use Rattle.safl_net.specs.Widths.{op_width, HasWord}
@@ -18,21 +18,6 @@ use Rattle.safl_opt.specs.Lean.{is_numbered, is_constant, IsTemporary}
 use Rattle.safl_opt.specs.Nodes.{node_op, node_operands}
 
 -- ---- the kept signals
-
-abbrev pub is_input : Kind → Bool
-is_input Input = true
-is_input (Reg init next) = false
-is_input (Wire cell) = false
-
-abbrev pub is_register : Kind → Bool
-is_register Input = false
-is_register (Reg init next) = true
-is_register (Wire cell) = false
-
-abbrev pub is_wire : Kind → Bool
-is_wire Input = false
-is_wire (Reg init next) = false
-is_wire (Wire cell) = true
 
 -- the numbers below a bound that pass a test, in order
 abbrev pub below : (ℕ → Bool) → ℕ → List ℕ

@@ -10,7 +10,8 @@ ghost use Rattle.safl_net.specs.Stored.{cell_of};
 ghost use Rattle.safl_order.specs.Order.{IsOrder, IsWire};
 ghost use Rattle.safl_opt.specs.Lean.{is_constant, is_const, IsTemporary};
 ghost use Rattle.safl_opt.specs.Nodes.{node_operands};
-ghost use Rattle.safl_opt.specs.Values.{IsNext, Adds, kept_in, is_input, is_register, is_named_wire, inputs_below, registers_below};
+ghost use Rattle.safl_opt.specs.Values.{IsNext, Adds, kept_in, is_named_wire, inputs_below, registers_below};
+ghost use Rattle.safl_net.specs.Netlist.{is_input, is_register};
 ghost use Rattle.safl_opt.specs.Values.{named_below, sig_at, is_fixed, Folds, HasValue, IsDone, IsReady, IsFixed, Comes, IsPut, IsSet};
 
 use crate::names::{is_numbered, is_temporary};

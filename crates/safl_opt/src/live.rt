@@ -6,7 +6,8 @@ ghost use Rattle.safl_net.specs.Netlist.{AllSet};
 ghost use Rattle.safl_net.specs.Making.{kind_at};
 ghost use Rattle.safl_order.specs.Order.{IsOrder, IsWire};
 ghost use Rattle.safl_opt.specs.Values.{sig_at, Folds};
-ghost use Rattle.safl_opt.specs.Building.{read_at, AreRead, AreNeeded, Marks, IsOperandAt, ReadsLower, IsValueOf, HasReader, HasOperand, HasValues};
+ghost use Rattle.safl_opt.specs.Building.{AreRead, AreNeeded, Marks, IsOperandAt, ReadsLower, IsValueOf, HasReader, HasOperand, HasValues};
+ghost use Rattle.safl_word.specs.Lists.{bool_at};
 
 use crate::fold::Values;
 use crate::names::is_temporary;
@@ -29,7 +30,7 @@ pub fn read_values(alloc: Global, net: &Net, values: &Values) -> Result<Vec<bool
 fn mark_values(read: &mut [bool], net: &Net, values: &Values)
     requires folds { (ws : List ℕ) × IsOrder net.now ws × Folds net.now ws (length ws) values.now }
     requires long { length read.old ≡ length values.now.signals.items }
-    requires empty { (x : ℕ) → read_at read.old x ≡ false }
+    requires empty { (x : ℕ) → bool_at read.old x ≡ false }
     ensures read { AreRead net.now values.now read.new }
     ensures needed { AreNeeded net.now values.now read.new }
 {

@@ -1,10 +1,11 @@
 -- The wires of a stack whose top looks back are a loop.
 use Rattle.std.proofs.Common.{◌≡◌, ◌⊎◌, inl, inr, ℕ, zero, suc, ◌+◌, ◌-◌, ◌<◌, ◌≤◌, List, [], ◌∷◌, ◌++◌, map, length, take, drop, Some, slice_get, refl, sym, ap, subst, ◌∙◌, arith}
-use Rattle.std.proofs.lemmas.List.{take_rest}
+use Rattle.std.proofs.lemmas.List.{take_rest, length-drop, map-append, take-append-drop}
+use Rattle.std.proofs.lemmas.Option.{slice_get_within}
+use Rattle.safl_word.proofs.Lists.{get_mapped, get_split, nil_at_end}
 use Rattle.safl_net.specs.declared.cell.Sig.{Sig}
 use Rattle.safl_net.specs.Netlist.{Netlist}
 use Rattle.safl_net.specs.Making.{numbers}
-use Rattle.safl_net.proofs.Naming.{within}
 use Rattle.safl_order.specs.declared.walk.Mark.{Mark}
 use Rattle.safl_order.specs.declared.walk.Mark.TheVariants.{Open}
 use Rattle.safl_order.specs.declared.walk.Frame.{Frame}
@@ -44,11 +45,7 @@ leads_join n (x ∷ (y ∷ xs)) b ys t g h = (g.0, leads_join n (y ∷ xs) b ys 
 leads_turned : (n : Netlist) (xs : List ℕ) (b : ℕ) (ys : List ℕ) (first : ℕ) → slice_get (xs ++ b ∷ ys) 0 ≡ Some first → Leads n (xs ++ b ∷ ys) first → Leads n ((b ∷ ys) ++ xs) b
 leads_turned n [] b ys first e h =
     let same : b ≡ first = cc in
-    subst (λ l. Leads n l b) (nil_end (b ∷ ys)) (subst (λ x. Leads n (b ∷ ys) x) (sym same) h)
-  where
-    nil_end : (l : List ℕ) → l ≡ l ++ []
-    nil_end [] = refl
-    nil_end (x ∷ l) = ap (λ m. x ∷ m) (nil_end l)
+    subst (λ l. Leads n l b) (nil_at_end (b ∷ ys)) (subst (λ x. Leads n (b ∷ ys) x) (sym same) h)
 leads_turned n (x ∷ xs) b ys first e h =
     let same : x ≡ first = cc in
     let q = leads_split n (x ∷ xs) b ys first h in
@@ -58,27 +55,6 @@ get_drop : {A : Type 0} (xs : List A) (k i : ℕ) → slice_get (drop k xs) i �
 get_drop xs zero i = ap (slice_get xs) (omega arith)
 get_drop [] (suc k) i = refl
 get_drop (x ∷ xs) (suc k) i = get_drop xs k i ∙ ap (slice_get (x ∷ xs)) (let e : suc (i + k) ≡ i + suc k = omega arith in e)
-
-length_drop : {A : Type 0} (xs : List A) (k : ℕ) → length (drop k xs) ≡ length xs - k
-length_drop xs zero = omega arith
-length_drop [] (suc k) = omega arith
-length_drop (x ∷ xs) (suc k) = let e = length_drop xs k in omega (arith, e)
-
-length_take : {A : Type 0} (xs : List A) (k : ℕ) → k ≤ length xs → length (take k xs) ≡ k
-length_take xs zero h = refl
-length_take [] (suc k) h = absurd (omega (arith, h))
-length_take (x ∷ xs) (suc k) h = ap suc (length_take xs k (omega (arith, h)))
-
-take_drop : {A : Type 0} (xs : List A) (k : ℕ) → take k xs ++ drop k xs ≡ xs
-take_drop xs zero = refl
-take_drop [] (suc k) = refl
-take_drop (x ∷ xs) (suc k) = ap (λ l. x ∷ l) (take_drop xs k)
-
--- the place of a frame that stands after a turn
-get_turned : {A : Type 0} (xs ys : List A) (i : ℕ) (y : A) → slice_get (xs ++ ys) i ≡ Some y → (slice_get xs i ≡ Some y) ⊎ ((j : ℕ) × (i ≡ length xs + j) × (slice_get ys j ≡ Some y))
-get_turned [] ys i y e = inr (i, omega arith, e)
-get_turned (x ∷ xs) ys zero y e = inl e
-get_turned (x ∷ xs) ys (suc i) y e = elim (get_turned xs ys i y e) [ inl h ↦ inl h | inr h ↦ inr (h.0, (let q = h.1 in omega (arith, q)), h.2) ]
 
 -- where an element of the turned list was
 record Was (fs : List Frame) (p i : ℕ) (g : Frame) : Type 0 where
@@ -93,11 +69,11 @@ get_take (x ∷ xs) (suc k) zero y e = (e, omega arith)
 get_take (x ∷ xs) (suc k) (suc i) y e = let q = get_take xs k i y e in (q.0, (let h = q.1 in omega (arith, h)))
 
 was : (fs : List Frame) (p i : ℕ) (g : Frame) → slice_get (drop p fs ++ take p fs) i ≡ Some g → Was fs p i g
-was fs p i g e = elim (get_turned (drop p fs) (take p fs) i g e) [
-  | inl h ↦ record { place = i + p; at = sym (get_drop fs p i) ∙ h; turned = inl (refl, (let a = within (drop p fs) i g h in let b = length_drop fs p in omega (arith, a, b))) }
+was fs p i g e = elim (get_split (drop p fs) (take p fs) i g e) [
+  | inl h ↦ record { place = i + p; at = sym (get_drop fs p i) ∙ h; turned = inl (refl, (let a = slice_get_within (drop p fs) i g h in let b = length-drop p fs in omega (arith, a, b))) }
   | inr h ↦
       let q = get_take fs p h.0 g h.2 in
-      record { place = h.0; at = q.0; turned = inr ((let a = h.1 in let b = length_drop fs p in omega (arith, a, b)), q.1) }
+      record { place = h.0; at = q.0; turned = inr ((let a = h.1 in let b = length-drop p fs in omega (arith, a, b)), q.1) }
 ]
 
 same_place : (fs : List Frame) (p i j : ℕ) (g h : Frame) (a : Was fs p i g) (b : Was fs p j h) → p ≤ length fs → a.place ≡ b.place → i ≡ j
@@ -112,15 +88,6 @@ same_place fs p i j g h a b l e = elim a.turned [
   ]
 ]
 
-get_map : {A B : Type 0} (f : A → B) (xs : List A) (i : ℕ) (y : B) → slice_get (map f xs) i ≡ Some y → (x : A) × (slice_get xs i ≡ Some x) × (f x ≡ y)
-get_map f [] i y e = absurd (cc)
-get_map f (x ∷ xs) zero y e = (x, refl, cc)
-get_map f (x ∷ xs) (suc i) y e = get_map f xs i y e
-
-map_append : {A B : Type 0} (f : A → B) (xs ys : List A) → map f (xs ++ ys) ≡ map f xs ++ map f ys
-map_append f [] ys = refl
-map_append f (x ∷ xs) ys = ap (λ l. f x ∷ l) (map_append f xs ys)
-
 numbers_wires : (fs : List Frame) → numbers (map (λ (f : Frame). f.wire) fs) ≡ wires_of fs
 numbers_wires [] = refl
 numbers_wires (f ∷ fs) = ap (λ l. f.wire.0 ∷ l) (numbers_wires fs)
@@ -134,12 +101,12 @@ turned_loop n fs ws low t leads first apart = from (drop t.place fs) (get_drop f
     numbered = ap numbers t.is ∙ numbers_wires (drop t.place fs ++ take t.place fs)
 
     from : (rest : List Frame) → slice_get rest 0 ≡ slice_get fs (0 + t.place) → rest ≡ drop t.place fs → IsLoop n (numbers ws)
-    from [] e q = absurd (let a = ap length q in let b = length_drop fs t.place in let c = t.within in omega (arith, a, b, c))
+    from [] e q = absurd (let a = ap length q in let b = length-drop t.place fs in let c = t.within in omega (arith, a, b, c))
     from (b ∷ rest) e q =
         let low_at : slice_get fs t.place ≡ Some b = ap (slice_get fs) (let z : t.place ≡ 0 + t.place = omega arith in z) ∙ sym e in
-        let split : wires_of fs ≡ wires_of (take t.place fs) ++ b.wire.0 ∷ wires_of rest = ap wires_of (sym (take_drop fs t.place)) ∙ map_append
+        let split : wires_of fs ≡ wires_of (take t.place fs) ++ b.wire.0 ∷ wires_of rest = ap wires_of (sym (take-append-drop t.place fs)) ∙ map-append
         (λ (f : Frame). f.wire.0) (take t.place fs) (drop t.place fs) ∙ ap (λ l. wires_of (take t.place fs) ++ wires_of l) (sym q) in
-        let turned : numbers ws ≡ (b.wire.0 ∷ wires_of rest) ++ wires_of (take t.place fs) = numbered ∙ map_append (λ (f : Frame). f.wire.0)
+        let turned : numbers ws ≡ (b.wire.0 ∷ wires_of rest) ++ wires_of (take t.place fs) = numbered ∙ map-append (λ (f : Frame). f.wire.0)
         (drop t.place fs) (take t.place fs) ∙ ap (λ l. wires_of l ++ wires_of (take t.place fs)) (sym q) in
         record {
           first = b.wire.0;
@@ -148,13 +115,13 @@ turned_loop n fs ws low t leads first apart = from (drop t.place fs) (get_drop f
           leads = subst (λ l. Leads n l b.wire.0) (sym turned)
               (leads_turned n (wires_of (take t.place fs)) b.wire.0 (wires_of rest) low (ap (λ l. slice_get l 0) (sym split) ∙ first) (subst (λ l. Leads n l low) split leads));
           apart = λ i j s g h.
-              let x = get_map (λ (f : Frame). f.wire.0) (drop t.place fs ++ take t.place fs) i s (ap (λ l. slice_get l i) (sym numbered) ∙ g) in
-              let y = get_map (λ (f : Frame). f.wire.0) (drop t.place fs ++ take t.place fs) j s (ap (λ l. slice_get l j) (sym numbered) ∙ h) in
+              let x = get_mapped (λ (f : Frame). f.wire.0) (drop t.place fs ++ take t.place fs) i s (ap (λ l. slice_get l i) (sym numbered) ∙ g) in
+              let y = get_mapped (λ (f : Frame). f.wire.0) (drop t.place fs ++ take t.place fs) j s (ap (λ l. slice_get l j) (sym numbered) ∙ h) in
               let u = was fs t.place i x.0 x.1 in
               let v = was fs t.place j y.0 y.1 in
               same_place fs t.place i j x.0 y.0 u v (let c = t.within in omega (arith, c)) (apart u.place v.place x.0 y.0 u.at v.at (x.2 ∙ sym y.2));
           least = λ i s g.
-              let x = get_map (λ (f : Frame). f.wire.0) (drop t.place fs ++ take t.place fs) i s (ap (λ l. slice_get l i) (sym numbered) ∙ g) in
+              let x = get_mapped (λ (f : Frame). f.wire.0) (drop t.place fs ++ take t.place fs) i s (ap (λ l. slice_get l i) (sym numbered) ∙ g) in
               let u = was fs t.place i x.0 x.1 in
               let l = t.least u.place b x.0 low_at u.at in
               let m = x.2 in
@@ -172,8 +139,8 @@ loop_found n d m s k ws w o t =
     (λ i f g e h. w.path (i + k) f g (sym (get_drop s k i) ∙ e) (ap (slice_get s) (let z : suc (i + k) ≡ suc i + k = omega arith in z) ∙ sym (get_drop s k (suc i)) ∙ h))
     (λ i f e h.
     let l = o.is_top.last in
-    let a = length_drop s k in
-    let b = within s k o.low o.at in
+    let a = length-drop k s in
+    let b = slice_get_within s k o.low o.at in
     let same : Some o.top ≡ Some f = sym o.is_top.at ∙ ap (slice_get s) (let z : o.is_top.place ≡ i + k = omega (arith, l, a, b, h) in z) ∙ sym (get_drop s k i) ∙ e in
     let one : o.top ≡ f = cc in
     subst (λ y. Looks n y o.low.wire.0) one o.looks))
@@ -194,6 +161,6 @@ turned_made fs stack first none some all e f g h within least = subst (λ l. IsT
   is =
       h ∙ ap (λ l. l ++ map (λ (x : Frame). x.wire) (take first fs))
       (g ∙ ap (λ l. l ++ map (λ (x : Frame). x.wire) (take (length fs - first) (drop first fs))) f ∙ ap (map (λ (x : Frame). x.wire)) (take_rest fs first))
-      ∙ sym (map_append (λ (x : Frame). x.wire) (drop first fs) (take first fs));
+      ∙ sym (map-append (λ (x : Frame). x.wire) (drop first fs) (take first fs));
   least = least;
 })

@@ -1,11 +1,14 @@
 -- What the steps of the code do to a walk.
-use Rattle.std.proofs.Common.{◌≡◌, inl, inr, ℕ, zero, suc, ◌+◌, ◌-◌, ◌<◌, ◌≤◌, ◌^◌, List, [], ◌∷◌, ◌++◌, length, set, take, get_or, Option, Some}
+use Rattle.std.proofs.Common.{◌≡◌, inl, inr, ℕ, suc, ◌+◌, ◌-◌, ◌<◌, ◌≤◌, ◌^◌, List, [], ◌∷◌, ◌++◌, length, set, take, get_or, Option, Some}
 use Rattle.std.proofs.Common.{None, Result, Ok, Err, OnOk, IfErr, slice_get, refl, sym, ap, subst, ◌∙◌, arith}
+use Rattle.std.proofs.lemmas.Option.{slice_get_within}
+use Rattle.safl_word.proofs.Lists.{get_or_is, get_read, get_some}
+use Rattle.safl_word.proofs.Naturals.{lower_or_last}
 use Rattle.safl_net.specs.declared.cell.Sig.{Sig}
 use Rattle.safl_net.specs.Netlist.{Netlist, Signal, Kind, Input, Reg, Wire}
-use Rattle.safl_net.specs.Making.{kind_at, kind_in, cell_in, next_in}
+use Rattle.safl_net.specs.Making.{kind_at, kind_in, cell_in, next_in, sort_of}
 use Rattle.safl_net.specs.Rules.{IsNetlist, KindFits}
-use Rattle.safl_net.proofs.Naming.{within}
+use Rattle.safl_net.specs.declared.cell.SigKind.{SigKind}
 use Rattle.safl_order.specs.declared.walk.Mark.{Mark}
 use Rattle.safl_order.specs.declared.walk.Mark.TheVariants.{Unseen, Open, Done}
 use Rattle.safl_order.specs.declared.walk.Frame.{Frame}
@@ -13,14 +16,15 @@ use Rattle.safl_order.specs.declared.walk.Stop.{Stop}
 use Rattle.safl_order.specs.declared.walk.Stop.TheVariants.{NoMemory}
 use Rattle.safl_order.specs.Order.{operands_of, IsWire}
 use Rattle.safl_order.specs.Walk.{Walks, Looks, LooksAt, looked_at, DoneBelow, Goes, IsTop, IsStop, IsOpenLoop, AllDone, work}
-use Rattle.safl_order.proofs.Places.{get_some, set_here, from_reverse}
-use Rattle.safl_order.proofs.Steps.{walks_open, less_open, walks_pass, less_pass, walks_close, less_close, goes_none, goes_set, lower_or_same}
+use Rattle.safl_order.proofs.Places.{set_here, from_reverse}
+use Rattle.safl_order.proofs.Steps.{walks_open, less_open, walks_pass, less_pass, walks_close, less_close, goes_none, goes_set}
 
--- what is read at a place
-pub get_read : {A : Type 0} (xs : List A) (i : ℕ) (x : A) → i < length xs → x ≡ get_or xs i x → slice_get xs i ≡ Some x
-get_read [] i x h e = absurd (omega (arith, h))
-get_read (y ∷ xs) zero x h e = ap Some (sym e)
-get_read (y ∷ xs) (suc i) x h e = get_read xs i x (omega (arith, h)) e
+pub wire_in_net : (n : Netlist) (s : ℕ) → IsWire n s → s < length n.signals
+wire_in_net n s w = by (slice_get n.signals s) refl w
+  where
+    by : (o : Option Signal) → slice_get n.signals s ≡ o → sort_of (kind_in o) ≡ SigKind.Wire → s < length n.signals
+    by None q k = absurd (cc)
+    by (Some g) q k = slice_get_within n.signals s g q
 
 -- the walk goes on, with less to do
 pub record Moves (n : Netlist) (done0 : List Sig) (marks0 : List Mark) (stack0 : List Frame) (done : List Sig) (marks : List Mark) (stack : List Frame) (r : Result (Unit {0}) Stop) : Type 0 where
@@ -44,7 +48,7 @@ moves_pass n d d' m m' s s' t last w l past e f long g =
     let here : slice_get s last ≡ Some l.top = ap (slice_get s) (sym at) ∙ top.at in
     let h = g l.top here in
     let i = h ∙ ap (λ k. set s k (record { wire = l.top.wire; next = l.top.next + 1 })) (sym at) in
-    let below : IsWire n t → DoneBelow m (length d) t = λ v. let j = past v in (j.0, within d j.0 _ (w.done_at t j.0 j.1), j.1) in
+    let below : IsWire n t → DoneBelow m (length d) t = λ v. let j = past v in (j.0, slice_get_within d j.0 _ (w.done_at t j.0 j.1), j.1) in
     record {
       walks = same_walks n d d' m m' _ s' e f i (walks_pass n d m s l.top t w top l.looks l.few below);
       goes = subst (λ (x : List Mark). Goes m x) (sym f) (goes_none m);
@@ -109,7 +113,7 @@ moves_loop n d m s t k w l e =
 
 -- what is on the stack is a signal of the net, with at most four looks
 pub frame_in : (n : Netlist) (d : List Sig) (m : List Mark) (s : List Frame) (k : ℕ) (f : Frame) → Walks n d m s → slice_get s k ≡ Some f → f.wire.0 < length n.signals
-frame_in n d m s k f w e = let a = within m f.wire.0 _ (w.opened k f e) in let b = w.long in omega (arith, a, b)
+frame_in n d m s k f w e = let a = slice_get_within m f.wire.0 _ (w.opened k f e) in let b = w.long in omega (arith, a, b)
 
 pub frame_few : (n : Netlist) (d : List Sig) (m : List Mark) (s : List Frame) (k : ℕ) (f : Frame) → Walks n d m s → slice_get s k ≡ Some f → f.next ≤ 3
 frame_few n d m s k f w e = (w.frames k f e).few
@@ -128,11 +132,6 @@ top_looks n s t l k f e h =
     let one : l.top ≡ f = cc in
     subst (λ y. Looks n y t) one l.looks
 
-known_at : (ts : List ℕ) (i t : ℕ) → slice_get ts i ≡ Some t → get_or ts i 0 ≡ t
-known_at [] i t e = absurd (cc)
-known_at (x ∷ ts) zero t e = cc
-known_at (x ∷ ts) (suc i) t e = known_at ts i t e
-
 -- an operand is a signal of the net
 pub operand_in : (n : Netlist) (s i t : ℕ) → IsNetlist n → slice_get (operands_of n s) i ≡ Some t → t < length n.signals
 operand_in n s i t w e = by (slice_get n.signals s) refl e
@@ -141,7 +140,7 @@ operand_in n s i t w e = by (slice_get n.signals s) refl e
     on width Input f h = absurd (cc)
     on width (Reg init next) f h = absurd (cc)
     on width (Wire None) f h = absurd (cc)
-    on width (Wire (Some c)) f h = let a = f.known i 0 (within c.operands i t h) in let b = known_at c.operands i t h in omega (arith, a, b)
+    on width (Wire (Some c)) f h = let a = f.known i 0 (slice_get_within c.operands i t h) in let b = get_or_is c.operands i t h in omega (arith, a, b)
 
     by : (o : Option Signal) → slice_get n.signals s ≡ o → slice_get (Rattle.safl_order.specs.Order.operands_in (cell_in (kind_in o))) i ≡ Some t → t < length n.signals
     by None q h = absurd (cc)
@@ -210,7 +209,7 @@ no_looks n s t e k f g h = absurd (let a = ap (λ l. slice_get l k) (sym e) ∙ 
 
 -- one more wire is done
 pub done_more : (n : Netlist) (m m' : List Mark) (i : ℕ) → AllDone n m i → Goes m m' → (IsWire n i → (j : ℕ) × (slice_get m' i ≡ Some (Done j))) → AllDone n m' (i + 1)
-done_more n m m' i a g last s h v = elim (lower_or_same s i h) [
+done_more n m m' i a g last s h v = elim (lower_or_last s i h) [
   | inl l ↦ let d = a s l v in (d.0, g.done s d.0 d.1)
   | inr e ↦
       let d = last (subst (λ y. IsWire n y) e v) in

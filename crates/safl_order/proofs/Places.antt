@@ -1,8 +1,7 @@
 -- Places of lists that are written, grow or are reversed.
-use Rattle.std.proofs.Common.{◌≡◌, ℕ, zero, suc, ◌+◌, ◌-◌, ◌<◌, ◌≤◌, List, [], ◌∷◌, ◌++◌, length, reverse, get_or, set, take, Some, None, ◌⊎◌, inl, inr, slice_get, refl, sym, ap, ◌∙◌, arith}
+use Rattle.std.proofs.Common.{◌≡◌, ℕ, zero, suc, ◌+◌, ◌-◌, ◌≤◌, List, [], ◌∷◌, ◌++◌, length, reverse, get_or, set, take, Some, None, ◌⊎◌, inl, inr, slice_get, refl, sym, ap, ◌∙◌, arith}
 use Rattle.std.proofs.lemmas.List.{length-reverse, get_or-reverse}
-use Rattle.std.proofs.lemmas.Option.{slice_get-get_or}
-use Rattle.safl_net.proofs.Naming.{within}
+use Rattle.std.proofs.lemmas.Option.{slice_get-get_or, slice_get_within}
 use Rattle.safl_order.specs.declared.walk.Mark.{Mark}
 use Rattle.safl_order.specs.declared.walk.Frame.{Frame}
 use Rattle.safl_order.specs.Walk.{one_unseen, unseen, stack_work}
@@ -26,33 +25,10 @@ set_here [] t x y e = absurd (cc)
 set_here (a ∷ xs) zero x y e = refl
 set_here (a ∷ xs) (suc t) x y e = set_here xs t x y e
 
-pub set_length : {A : Type 0} (xs : List A) (t : ℕ) (x : A) → length (set xs t x) ≡ length xs
-set_length [] t x = refl
-set_length (a ∷ xs) zero x = refl
-set_length (a ∷ xs) (suc t) x = ap suc (set_length xs t x)
-
-pub get_front : {A : Type 0} (xs ys : List A) (s : ℕ) (y : A) → slice_get xs s ≡ Some y → slice_get (xs ++ ys) s ≡ Some y
-get_front [] ys s y e = absurd (cc)
-get_front (x ∷ xs) ys zero y e = e
-get_front (x ∷ xs) ys (suc s) y e = get_front xs ys s y e
-
-pub get_end : {A : Type 0} (xs : List A) (x : A) → slice_get (xs ++ x ∷ []) (length xs) ≡ Some x
-get_end [] x = refl
-get_end (a ∷ xs) x = get_end xs x
-
-pub get_some : {A : Type 0} (xs : List A) (s : ℕ) → s < length xs → (x : A) × (slice_get xs s ≡ Some x)
-get_some [] s h = absurd (omega arith)
-get_some (x ∷ xs) zero h = (x, refl)
-get_some (x ∷ xs) (suc s) h = get_some xs s (omega (arith, h))
-
 pub past_end : {A : Type 0} (xs : List A) (s : ℕ) → slice_get xs s ≡ None → length xs ≤ s
 past_end [] s e = omega arith
 past_end (x ∷ xs) zero e = absurd (cc)
 past_end (x ∷ xs) (suc s) e = let h = past_end xs s e in omega (arith, h)
-
-pub length_push : {A : Type 0} (xs : List A) (x : A) → length (xs ++ x ∷ []) ≡ length xs + 1
-length_push [] x = omega arith
-length_push (a ∷ xs) x = let e = length_push xs x in omega (arith, e)
 
 pub unseen_set : (ms : List Mark) (t : ℕ) (x y : Mark) → slice_get ms t ≡ Some y → unseen (set ms t x) + one_unseen y ≡ unseen ms + one_unseen x
 unseen_set [] t x y e = absurd (cc)
@@ -93,13 +69,13 @@ get_reverse (x ∷ xs) i j h =
 -- what stands in a reversed list stands in the list, and the other way round
 pub from_reverse : {A : Type 0} (xs : List A) (i : ℕ) (y : A) → slice_get (reverse xs) i ≡ Some y → (j : ℕ) × (slice_get xs j ≡ Some y)
 from_reverse xs i y e =
-    let a = within (reverse xs) i y e in
+    let a = slice_get_within (reverse xs) i y e in
     let b = length-reverse xs in
     let j = length xs - 1 - i in
     (j, sym (get_reverse xs i j (omega (arith, a, b))) ∙ e)
 
 pub to_reverse : {A : Type 0} (xs : List A) (j : ℕ) (y : A) → slice_get xs j ≡ Some y → (i : ℕ) × (slice_get (reverse xs) i ≡ Some y)
 to_reverse xs j y e =
-    let a = within xs j y e in
+    let a = slice_get_within xs j y e in
     let i = length xs - 1 - j in
     (i, get_reverse xs i j (omega (arith, a)) ∙ e)

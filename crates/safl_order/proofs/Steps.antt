@@ -1,15 +1,18 @@
 -- The steps of a walk keep what it says.
-use Rattle.std.proofs.Common.{◌≡◌, ℕ, zero, suc, ◌+◌, ◌<◌, ◌≤◌, List, [], ◌∷◌, ◌++◌, length, set, take, replicate, Option, Some, None, ◌⊎◌, inl, inr, slice_get, refl, sym, ap, subst, ◌∙◌, arith}
+use Rattle.std.proofs.Common.{◌≡◌, ℕ, zero, suc, ◌+◌, ◌<◌, ◌≤◌, List, [], ◌∷◌, ◌++◌, length, set, take, replicate, Option, Some, None, inl, inr, slice_get, refl, sym, ap, subst, ◌∙◌, arith}
+use Rattle.std.proofs.lemmas.Option.{slice_get_within}
+use Rattle.std.proofs.lemmas.List.{length-set, length_push}
+use Rattle.safl_word.proofs.Lists.{get_end, get_front, get_pushed, get_some}
+use Rattle.safl_word.proofs.Naturals.{lower_or_last}
 use Rattle.safl_net.specs.declared.cell.Sig.{Sig}
 use Rattle.safl_net.specs.Netlist.{Netlist}
 use Rattle.safl_net.specs.Rules.{IsNetlist}
-use Rattle.safl_net.proofs.Naming.{pushed, within}
 use Rattle.safl_order.specs.declared.walk.Mark.{Mark}
 use Rattle.safl_order.specs.declared.walk.Mark.TheVariants.{Unseen, Open, Done}
 use Rattle.safl_order.specs.declared.walk.Frame.{Frame}
 use Rattle.safl_order.specs.Order.{operands_of, IsWire}
 use Rattle.safl_order.specs.Walk.{Walks, FrameFits, Looks, looked_at, DoneBelow, Goes, IsTop, one_unseen, unseen, stack_work, work}
-use Rattle.safl_order.proofs.Places.{set_cases, set_other, set_here, set_length, get_front, get_end, get_some, past_end, length_push, unseen_set, stack_push, stack_set, split_last, to_reverse}
+use Rattle.safl_order.proofs.Places.{set_cases, set_other, set_here, past_end, unseen_set, stack_push, stack_set, split_last, to_reverse}
 
 -- a mark that is not done
 abbrev NotDone : Mark → Type 0
@@ -55,12 +58,6 @@ goes_set marks t x y e h n = record {
 abbrev fresh : Sig → Frame
 fresh t = record { wire = t; next = 0 }
 
-pub lower_or_same : (i k : ℕ) → i < k + 1 → (i < k) ⊎ (i ≡ k)
-lower_or_same zero zero h = inr refl
-lower_or_same zero (suc k) h = inl (omega arith)
-lower_or_same (suc i) zero h = absurd (omega (arith, h))
-lower_or_same (suc i) (suc k) h = elim (lower_or_same i k (omega (arith, h))) [ inl l ↦ inl (omega (arith, l)) | inr e ↦ inr (ap suc e) ]
-
 -- one more wire on the stack
 pub walks_open : (n : Netlist) (done : List Sig) (marks : List Mark) (stack : List Frame) (t : Sig) → Walks n done marks stack → IsWire n t.0 → slice_get marks t.0 ≡ Some Unseen
     → ((k : ℕ) (f : Frame) → slice_get stack k ≡ Some f → suc k ≡ length stack → Looks n f t.0)
@@ -69,20 +66,20 @@ walks_open n done marks stack t w wire new looks =
     let x = Open (length stack) in
     record {
       made = w.made;
-      long = set_length marks t.0 x ∙ w.long;
+      long = length-set marks t.0 x ∙ w.long;
       done_at = λ s i e. elim (set_cases marks t.0 x s (Done i) e) [ inl q ↦ absurd (let r = q.1 in cc) | inr q ↦ w.done_at s i q.1 ];
       marked = λ i s e. done_other marks t.0 x Unseen s.0 i new tt (w.marked i s e);
       open_at = λ s k e. elim (set_cases marks t.0 x s (Open k) e) [
         | inl q ↦ (fresh t, (let r : k ≡ length stack = (let a = q.1 in cc) in ap (slice_get (stack ++ fresh t ∷ [])) r ∙ get_end stack (fresh t)), sym q.0)
         | inr q ↦ let f = w.open_at s k q.1 in (f.0, get_front stack (fresh t ∷ []) k f.0 f.1, f.2)
       ];
-      opened = λ k f e. elim (pushed stack (fresh t) f k e) [
+      opened = λ k f e. elim (get_pushed stack (fresh t) f k e) [
         | inl q ↦ let a = w.opened k f q in set_other marks t.0 x f.wire.0 (Open k) (λ r. let b = sym a ∙ ap (slice_get marks) r ∙ new in cc) a
         | inr q ↦ ap (λ (g : Frame). slice_get (set marks t.0 x) g.wire.0) q.1 ∙ set_here marks t.0 x Unseen new ∙ ap (λ j. Some (Open j)) (sym q.0)
       ];
       wires = w.wires;
       before = λ i s k u e f h. below_kept marks t.0 x Unseen i u new tt (w.before i s k u e f h);
-      frames = λ k f e. elim (pushed stack (fresh t) f k e) [
+      frames = λ k f e. elim (get_pushed stack (fresh t) f k e) [
         | inl q ↦ frame_kept n marks t.0 x Unseen (length done) (length done) f (omega arith) new tt (w.frames k f q)
         | inr q ↦ subst (λ g. FrameFits n (set marks t.0 x) (length done) g) (sym q.1) (record { wire = wire; within = omega arith; few = omega arith; past = λ i u h e v. absurd (omega (arith, h)) })
       ];
@@ -90,14 +87,14 @@ walks_open n done marks stack t w wire new looks =
           let a = w.count in
           let b = unseen_set marks t.0 x Unseen new in
           let c = length_push stack (fresh t) in
-          let d = set_length marks t.0 x in
+          let d = length-set marks t.0 x in
           omega (arith, a, b, c, d);
-      path = λ k f g e h. elim (pushed stack (fresh t) g (suc k) h) [
-        | inl q ↦ elim (pushed stack (fresh t) f k e) [
+      path = λ k f g e h. elim (get_pushed stack (fresh t) g (suc k) h) [
+        | inl q ↦ elim (get_pushed stack (fresh t) f k e) [
           | inl r ↦ w.path k f g r q
-          | inr r ↦ absurd (let a = within stack (suc k) g q in let b = r.0 in omega (arith, a, b))
+          | inr r ↦ absurd (let a = slice_get_within stack (suc k) g q in let b = r.0 in omega (arith, a, b))
         ]
-        | inr q ↦ elim (pushed stack (fresh t) f k e) [
+        | inr q ↦ elim (get_pushed stack (fresh t) f k e) [
           | inl r ↦ subst (λ (y : Frame). Looks n f y.wire.0) (sym q.1) (looks k f r q.0)
           | inr r ↦ absurd (let a = q.0 in let b = r.0 in omega (arith, a, b))
         ]
@@ -127,7 +124,7 @@ walks_pass n done marks stack f t w top looks few past =
       marked = w.marked;
       open_at = λ s k e.
           let g = w.open_at s k e in
-          let there = get_some (set stack p (passed f)) k (let a = within stack k g.0 g.1 in let b = set_length stack p (passed f) in omega (arith, a, b)) in
+          let there = get_some (set stack p (passed f)) k (let a = slice_get_within stack k g.0 g.1 in let b = length-set stack p (passed f) in omega (arith, a, b)) in
           elim (set_cases stack p (passed f) k there.0 there.1) [
             | inl q ↦
                 let same : Some f ≡ Some g.0 = sym top.at ∙ ap (slice_get stack) (sym q.0) ∙ g.1 in
@@ -147,15 +144,15 @@ walks_pass n done marks stack f t w top looks few past =
       frames = λ k g e. elim (set_cases stack p (passed f) k g e) [
         | inl q ↦ subst (λ y. FrameFits n marks (length done) y) (sym q.1) (record {
           wire = old.wire;
-          within = let a = within (looked_at n f.wire.0) f.next t looks in omega (arith, a);
+          within = let a = slice_get_within (looked_at n f.wire.0) f.next t looks in omega (arith, a);
           few = omega (arith, few);
           past = λ i u h o v. by_place i u h o v (λ l. old.past i u l o v);
         })
         | inr q ↦ w.frames k g q.1
       ];
-      count = let a = w.count in let b = set_length stack p (passed f) in omega (arith, a, b);
+      count = let a = w.count in let b = length-set stack p (passed f) in omega (arith, a, b);
       path = λ k a b e h. elim (set_cases stack p (passed f) k a e) [
-        | inl q ↦ absurd (let l = within (set stack p (passed f)) (suc k) b h in let m = set_length stack p (passed f) in let r = q.0 in let v = top.last in omega (arith, l, m, r, v))
+        | inl q ↦ absurd (let l = slice_get_within (set stack p (passed f)) (suc k) b h in let m = length-set stack p (passed f) in let r = q.0 in let v = top.last in omega (arith, l, m, r, v))
         | inr q ↦ elim (set_cases stack p (passed f) (suc k) b h) [
           | inl r ↦ subst (λ (y : Frame). Looks n a y.wire.0) (sym r.1) (w.path k a f q.1 (ap (slice_get stack) r.0 ∙ top.at))
           | inr r ↦ w.path k a b q.1 r.1
@@ -164,7 +161,7 @@ walks_pass n done marks stack f t w top looks few past =
     }
   where
     by_place : (i u : ℕ) → i < f.next + 1 → slice_get (looked_at n f.wire.0) i ≡ Some u → IsWire n u → (i < f.next → DoneBelow marks (length done) u) → DoneBelow marks (length done) u
-    by_place i u h o v below = elim (lower_or_same i f.next h) [
+    by_place i u h o v below = elim (lower_or_last i f.next h) [
       | inl l ↦ below l
       | inr e ↦
           let same : Some u ≡ Some t = sym o ∙ ap (slice_get (looked_at n f.wire.0)) e ∙ looks in
@@ -190,12 +187,12 @@ walks_close n done marks stack f w top none =
     let front : (k : ℕ) (g : Frame) → slice_get rest k ≡ Some g → slice_get stack k ≡ Some g = λ k g e. ap (λ l. slice_get l k) all ∙ get_front rest (f ∷ []) k g e in
     record {
       made = w.made;
-      long = set_length marks f.wire.0 x ∙ w.long;
+      long = length-set marks f.wire.0 x ∙ w.long;
       done_at = λ s i e. elim (set_cases marks f.wire.0 x s (Done i) e) [
         | inl q ↦ (let r : i ≡ length done = (let a = q.1 in cc) in ap (slice_get (done ++ f.wire ∷ [])) r ∙ get_end done f.wire ∙ ap (λ (y : ℕ). Some (let g : Sig = record { 0 = y } in g)) (sym q.0))
         | inr q ↦ get_front done (f.wire ∷ []) i (record { 0 = s }) (w.done_at s i q.1)
       ];
-      marked = λ i s e. elim (pushed done f.wire s i e) [
+      marked = λ i s e. elim (get_pushed done f.wire s i e) [
         | inl q ↦ done_other marks f.wire.0 x (Open p) s.0 i here tt (w.marked i s q)
         | inr q ↦ ap (λ (y : Sig). slice_get (set marks f.wire.0 x) y.0) q.1 ∙ set_here marks f.wire.0 x (Open p) here ∙ ap (λ j. Some (Done j)) (sym q.0)
       ];
@@ -203,28 +200,28 @@ walks_close n done marks stack f w top none =
         | inl q ↦ absurd (let r = q.1 in cc)
         | inr q ↦
             let g = w.open_at s k q.1 in
-            elim (pushed rest f g.0 k (ap (λ l. slice_get l k) (sym all) ∙ g.1)) [
+            elim (get_pushed rest f g.0 k (ap (λ l. slice_get l k) (sym all) ∙ g.1)) [
               | inl r ↦ (g.0, r, g.2)
               | inr r ↦ absurd (q.0 (sym g.2 ∙ ap (λ (y : Frame). y.wire.0) r.1))
             ]
       ];
       opened = λ k g e.
           let a = w.opened k g (front k g e) in
-          let l = within rest k g e in
+          let l = slice_get_within rest k g e in
           set_other marks f.wire.0 x g.wire.0 (Open k) (λ r.
           let same : Some (Open k) ≡ Some (Open p) = sym a ∙ ap (slice_get marks) r ∙ here in
           let one : k ≡ p = cc in
           omega (arith, one, l, short)) a;
-      wires = λ i s e. elim (pushed done f.wire s i e) [
+      wires = λ i s e. elim (get_pushed done f.wire s i e) [
         | inl q ↦ w.wires i s q
         | inr q ↦ subst (λ (y : Sig). IsWire n y.0) (sym q.1) (w.frames p f top.at).wire
       ];
-      before = λ i s k u e o v. elim (pushed done f.wire s i e) [
+      before = λ i s k u e o v. elim (get_pushed done f.wire s i e) [
         | inl q ↦ below_kept marks f.wire.0 x (Open p) i u here tt (w.before i s k u q o v)
         | inr q ↦
             let o' : slice_get (operands_of n f.wire.0) k ≡ Some u = ap (λ (y : Sig). slice_get (operands_of n y.0) k) (sym q.1) ∙ o in
             let look = to_reverse (operands_of n f.wire.0) k u o' in
-            let a = within (looked_at n f.wire.0) look.0 u look.1 in
+            let a = slice_get_within (looked_at n f.wire.0) look.0 u look.1 in
             let b = past_end (looked_at n f.wire.0) f.next none in
             let d = (w.frames p f top.at).past look.0 u (omega (arith, a, b)) look.1 v in
             subst (λ j. DoneBelow (set marks f.wire.0 x) j u) (sym q.0) (below_kept marks f.wire.0 x (Open p) (length done) u here tt d)
@@ -235,7 +232,7 @@ walks_close n done marks stack f w top none =
           let a = w.count in
           let b = unseen_set marks f.wire.0 x (Open p) here in
           let d = length_push done f.wire in
-          let g = set_length marks f.wire.0 x in
+          let g = length-set marks f.wire.0 x in
           let l = top.last in
           omega (arith, a, b, d, g, l, short);
       path = λ k g h e i. w.path k g h (front k g e) (front (suc k) h i);

@@ -1,5 +1,5 @@
 -- Kinds of tokens that have no number are told apart as their codes are.
-use Rattle.std.proofs.Common.{◌≡◌, ◌==◌, ◌<◌, ◌≤◌, Bool, true, false, if◌then◌else◌, [], ◌∷◌, refl, ◌∙◌, arith}
+use Rattle.std.proofs.Common.{◌≡◌, ◌==◌, ◌<◌, ◌≤◌, [], ◌∷◌, refl, ◌∙◌, arith}
 use Rattle.safl_grammar.specs.Sets.{Only, within}
 use Rattle.safl_word.specs.declared.token.Key.{Key}
 use Rattle.safl_word.specs.declared.token.Key.TheVariants as keys
@@ -10,6 +10,7 @@ use Rattle.safl_word.specs.declared.token.TokenKind.TheVariants as kinds
 use Rattle.safl_word.specs.contracts.token.KeyPartialEq.TheImpl as same_keys
 use Rattle.safl_word.specs.contracts.token.SymPartialEq.TheImpl as same_syms
 use Rattle.safl_word.specs.contracts.token.TokenKindPartialEq.TheImpl as same_kinds
+use Rattle.safl_word.proofs.Booleans.{if_same}
 use Rattle.safl_tree.specs.Terminals.{word_code, symbol_code, code_of}
 use Rattle.safl_parse.specs.Numberless.{HasNoNumber}
 
@@ -80,7 +81,3 @@ by_code _ kinds.Name h = refl
 -- a test by kind is one by code
 pub class_of : (k l : TokenKind) → HasNoNumber l → (same_kinds.ghosts).eq k l ≡ within (Only (code_of l ∷ [])) (code_of k)
 class_of k l h = by_code k l h ∙ if_same (code_of k == code_of l)
-  where
-    if_same : (b : Bool) → b ≡ (if b then true else false)
-    if_same true = refl
-    if_same false = refl

@@ -5,14 +5,13 @@ use Rattle.safl_grammar.proofs.Many.{fails_here}
 use Rattle.safl_grammar.proofs.Small.{Small, Eats, small, small_nothing, eats_token, small_follows, eats_follows, small_parses, eats_parses}
 use Rattle.safl_word.specs.declared.token.Key.TheVariants as keys
 use Rattle.safl_word.specs.declared.token.Sym.TheVariants as syms
-use Rattle.safl_tree.specs.Tree.{Tree, Bound, Parameter, Definition}
+use Rattle.safl_tree.specs.Tree.{Tree, Bound, Parameter}
 use Rattle.safl_tree.specs.Terminals.{Terminal, word_code, symbol_code, marked, name, comes}
-use Rattle.safl_tree.specs.Grammar
 use Rattle.safl_tree.specs.Reader.{read_bind, read_chained, read_compared, read_layer, read_chain, expr_at, read_another, read_another_bind}
-use Rattle.safl_tree.specs.Reader.{read_another_param, read_another_one, read_another_group, read_expr, read_cases, arms_at}
-use Rattle.safl_tree.proofs.KeptLevels.{both_levels, expr_small}
+use Rattle.safl_tree.specs.Reader.{read_another_param, read_expr, read_cases, arms_at}
+use Rattle.safl_tree.proofs.KeptLevels.{expr_small}
 use Rattle.safl_tree.proofs.Expressions.{written_parses}
-use Rattle.safl_tree.proofs.Programs.{another_param_parses, another_one_parses, another_group_parses}
+use Rattle.safl_tree.proofs.Programs.{another_param_parses}
 use Rattle.safl_parse.specs.declared.error.ReadError.{ReadError}
 use Rattle.safl_parse.specs.declared.error.ReadError.TheVariants as errors
 use Rattle.safl_parse.specs.Gives.{Fails, rule_of}
@@ -33,12 +32,6 @@ another_bind_eats m bs = (eats_follows (eats_token (marked (symbol_code syms.Com
 
 pub another_param_eats : (ps : List Parameter) (w r : List Terminal) (x : List Parameter) → read_another_param ps w ≡ Ok (x, r) → length r < length w
 another_param_eats ps = (eats_parses (another_param_parses ps)).left
-
-pub another_one_eats : (ds : List Definition) (w r : List Terminal) (x : List Definition) → read_another_one (expr_at 100) ds w ≡ Ok (x, r) → length r < length w
-another_one_eats ds w r x e = (eats_parses (another_one_parses (expr_at 100) (Grammar.level 101 100).whole (Grammar.level 100 100).whole (both_levels 100 100).whole ds)).left w r x e
-
-pub another_group_eats : (ds : List Definition) (w r : List Terminal) (x : List Definition) → read_another_group (expr_at 100) ds w ≡ Ok (x, r) → length r < length w
-another_group_eats ds w r x e = (eats_parses (another_group_parses (expr_at 100) (Grammar.level 101 100).whole (Grammar.level 100 100).whole (both_levels 100 100).whole ds)).left w r x e
 
 -- a turn that fails
 pub fails : {A : Type 0} (text : List ℕ) (e : ReadError) (test : Option Terminal → Bool) (go : A → Reading Terminal A)

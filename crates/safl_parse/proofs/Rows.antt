@@ -1,5 +1,6 @@
 -- How deep the tree of a value with a `Vec` is.
-use Rattle.std.proofs.Common.{◌≡◌, ℕ, ◌+◌, max, min, List, [], ◌∷◌, ◌++◌, length, map, Vec, Box, Global, refl, sym, ap, ◌∙◌, arith}
+use Rattle.std.proofs.Common.{◌≡◌, ℕ, ◌+◌, max, min, List, [], ◌∷◌, ◌++◌, length, Vec, Box, Global, sym, ap, ◌∙◌, arith}
+use Rattle.std.proofs.lemmas.List.{length-map, map_push}
 use Rattle.safl_word.specs.declared.primitive.Primitive.{Primitive}
 use Rattle.safl_tree.specs.declared.tree.Expr.{Expr}
 use Rattle.safl_tree.specs.declared.tree.Bind.{Bind}
@@ -11,14 +12,6 @@ use Rattle.safl_parse.specs.Parts.{labelled_depth}
 use Rattle.safl_tree.proofs.ShownTrees.{op_shows, call_shows, let_shows, case_shows}
 
 -- ---- one more at the end
-
-map_end : {A B : Type 0} (f : A → B) (xs : List A) (x : A) → map f (xs ++ x ∷ []) ≡ map f xs ++ f x ∷ []
-map_end f [] x = refl
-map_end f (y ∷ xs) x = ap (λ (l : List _). f y ∷ l) (map_end f xs x)
-
-map_length : {A B : Type 0} (f : A → B) (xs : List A) → length (map f xs) ≡ length xs
-map_length f [] = refl
-map_length f (y ∷ xs) = let h = map_length f xs in omega (arith, h)
 
 deepest_end : (ts : List Tree) (t : Tree) → deepest (trees_of (ts ++ t ∷ [])) ≡ max (deepest (trees_of ts)) (depth t)
 deepest_end [] t = omega arith
@@ -49,28 +42,28 @@ pub cap_end : (es : List Expr) (e : Expr) (d k r : ℕ) → d ≡ min (deepest (
 cap_end es e d k r h i j =
     let m = deepest_end (shown_trees es) (shown_tree e) in
     let n : r ≡ min (max (deepest (trees_of (shown_trees es))) (depth (shown_tree e))) 100 = omega arith in
-    n ∙ ap (λ (x : ℕ). min x 100) (sym m) ∙ ap (λ (ts : List Tree). min (deepest (trees_of ts)) 100) (sym (map_end shown_tree es e))
+    n ∙ ap (λ (x : ℕ). min x 100) (sym m) ∙ ap (λ (ts : List Tree). min (deepest (trees_of ts)) 100) (sym (map_push shown_tree es e))
 
 pub cap_bind_end : (bs : List Bind) (b : Bind) (d k r : ℕ) → d ≡ min (deepest_bind (binds_of (shown_bounds bs))) 100 → k ≡ min
     (depth (shown_tree b.value)) 100 → r ≡ max d k → r ≡ min (deepest_bind (binds_of (shown_bounds (bs ++ b ∷ [])))) 100
 cap_bind_end bs b d k r h i j =
     let m = deepest_bind_end (shown_bounds bs) (shown_bind b) in
     let n : r ≡ min (max (deepest_bind (binds_of (shown_bounds bs))) (depth (shown_tree b.value))) 100 = omega arith in
-    n ∙ ap (λ (x : ℕ). min x 100) (sym m) ∙ ap (λ (ts : List Bound). min (deepest_bind (binds_of ts)) 100) (sym (map_end shown_bind bs b))
+    n ∙ ap (λ (x : ℕ). min x 100) (sym m) ∙ ap (λ (ts : List Bound). min (deepest_bind (binds_of ts)) 100) (sym (map_push shown_bind bs b))
 
 pub cap_arm_end : (arms : List Arm) (a : Arm) (n d k j r : ℕ) → n ≡ length arms → d ≡ min (labelled_depth (shown_labelled arms)) 100 → k ≡ min
     (depth (shown_tree a.value)) 100 → j ≡ min (n + 1 + max 2 k) 100 → r ≡ max d j → r ≡ min (labelled_depth (shown_labelled (arms ++ a ∷ []))) 100
 cap_arm_end arms a n d k j r l h i g e =
     let m = labelled_end (shown_labelled arms) (shown_arm a) in
-    let s = map_length shown_arm arms in
+    let s = length-map arms shown_arm in
     let f : r ≡ min (max (labelled_depth (shown_labelled arms)) (length (shown_labelled arms) + 1 + max 2 (depth (shown_tree a.value)))) 100 = omega (arith, s) in
-    f ∙ ap (λ (x : ℕ). min x 100) (sym m) ∙ ap (λ (ts : List Labelled). min (labelled_depth ts) 100) (sym (map_end shown_arm arms a))
+    f ∙ ap (λ (x : ℕ). min x 100) (sym m) ∙ ap (λ (ts : List Labelled). min (labelled_depth ts) 100) (sym (map_push shown_arm arms a))
 
 pub cap_default : (arms : List Arm) (t : Expr) (n d k j r : ℕ) → n ≡ length arms → d ≡ min (labelled_depth (shown_labelled arms)) 100 → k ≡ min
     (depth (shown_tree t)) 100 → j ≡ min (n + k) 100 → r ≡ max d j → r ≡ min (deepest_arm (arms_of (shown_labelled arms) (shown_tree t))) 100
 cap_default arms t n d k j r l h i g e =
     let m = with_default (shown_labelled arms) (shown_tree t) in
-    let s = map_length shown_arm arms in
+    let s = length-map arms shown_arm in
     let f : r ≡ min (max (labelled_depth (shown_labelled arms)) (length (shown_labelled arms) + depth (shown_tree t))) 100 = omega (arith, s) in
     f ∙ ap (λ (x : ℕ). min x 100) (sym m)
 

@@ -188,9 +188,7 @@ fn arm_depth(before: usize, depth: u8) -> u8
 pub fn push_arm(labels: Labels, label: Expr, value: Part) -> Result<Labels, AllocError>
     ensures { IfOk result (λ x. shown_labelled x.arms.items ≡ with_arm (shown_labelled labels.arms.items) label value.expr) }
 {
-    let depth = labels
-        .depth
-        .max(arm_depth(labels.arms.len(), value.depth));
+    let depth = labels.depth.max(arm_depth(labels.arms.len(), value.depth));
     let mut arms = labels.arms;
     arms.push(Arm {
         label,

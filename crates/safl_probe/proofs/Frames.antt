@@ -2,10 +2,10 @@
 use Rattle.std.proofs.Common.{◌≡◌, ℕ, ◌+◌, List, [], ◌∷◌, ◌++◌, length, take, drop, Option, Some, None, refl, sym, ap, subst, ◌∙◌, inl, inr, append_assoc, add-zero, arith}
 use Rattle.std.proofs.lemmas.List.{append-nil, take_at, drop_at, take_all, take-append-le}
 use Rattle.std.proofs.lemmas.Bool.{cases_lt}
+use Rattle.std.proofs.Math.Seq.{take-add}
 use Rattle.safl_io.specs.Told.{TellsOn}
 use Rattle.safl_io.specs.Shelf.{Files, file_of}
 use Rattle.safl_io.proofs.Telling.{TellsOn-then}
-use Rattle.safl_io.proofs.Pieces.{take-add}
 use Rattle.safl_net.specs.Netlist.{Netlist}
 use Rattle.safl_net.specs.Valuations.{Valuation}
 use Rattle.safl_probe.specs.Watching.{Shape}

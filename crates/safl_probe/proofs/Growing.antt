@@ -5,6 +5,7 @@ use Rattle.std.proofs.lemmas.List.{append-nil, take_all, get_or_past}
 use Rattle.std.proofs.lemmas.Bool.{cases_lt, cases_eq, false≢true}
 use Rattle.std.specs.Bool.{Decides}
 use Rattle.std.proofs.lemmas.Slice.Eq.{bytes_eq-Decides}
+use Rattle.safl_word.proofs.Naturals.{lower_or_last}
 use Rattle.safl_io.specs.Told.{TellsOn}
 use Rattle.safl_io.specs.Shelf.{Files, file_of, Leaves, LeavesOldOrEmpty, Appends, AppendsPart}
 use Rattle.safl_io.proofs.Telling.{TellsOn-then}
@@ -120,9 +121,6 @@ whole_part Beginning had now text e = inr (length text, e ∙ ap (λ (t : Text).
 whole_part (Frame t) had now text h = part_whole had now text h
 whole_part End had now text h = part_whole had now text h
 
-pub less : (i j : ℕ) → j < i + 1 → (j < i) ⊎ (j ≡ i)
-less i j lt = elim (cases_lt j i) [ inl h ↦ inl h | inr h ↦ inr (omega (arith, h, lt)) ]
-
 same_name : (names : Asked) (i : ℕ) (a b : List ℕ) → IsAsked names i a → IsAsked names i b → a ≡ b
 same_name names i a b h k = let e = sym h ∙ k in grind arith
 
@@ -138,7 +136,7 @@ module _ (R : Relation) (names : Asked) (text : ℕ → Text) where
 
   pub first_skip : (i : ℕ) (a b : Files) → get_or names i None ≡ None → FirstGrow R names text i a b → FirstGrow R names text (i + 1) a b
   first_skip i a b none g = record {
-    files = λ j name lt h. elim (less i j lt) [ inl k ↦ g.files j name k h | inr e ↦ absurd (not_that names i name none (subst (λ k. IsAsked names k name) e h)) ];
+    files = λ j name lt h. elim (lower_or_last j i lt) [ inl k ↦ g.files j name k h | inr e ↦ absurd (not_that names i name none (subst (λ k. IsAsked names k name) e h)) ];
     others = λ name no. g.others name (λ j lt h. no j (omega (arith, lt)) h);
   }
 
@@ -147,7 +145,7 @@ module _ (R : Relation) (names : Asked) (text : ℕ → Text) where
       let kept : file_of b name ≡ file_of a name = g.others name (λ j lt k. let e = apart j i name k asked in omega (arith, lt, e)) in
       record {
         files = λ j other lt k.
-            elim (less i j lt) [
+            elim (lower_or_last j i lt) [
               | inl below ↦
                   let ne : other ≢ name = λ e. let q = apart j i name (subst (λ l. IsAsked names j l) e k) asked in omega (arith, below, q) in
                   subst (λ o. R (file_of a other) (text j) o) (sym (h.others other ne)) (g.files j other below k)
@@ -264,7 +262,7 @@ there_more m names i name text b c asked there g j other k which =
       | inr ne ↦
           subst (λ (o : Option Text). IsSome o) (sym (g.others other ne))
           (there j other k (elim which [
-            | inl lt ↦ elim (less i j lt) [ inl below ↦ inl below | inr e ↦ absurd (ne (sym (same_name names i name other asked (subst (λ l. IsAsked names l other) e k)))) ]
+            | inl lt ↦ elim (lower_or_last j i lt) [ inl below ↦ inl below | inr e ↦ absurd (ne (sym (same_name names i name other asked (subst (λ l. IsAsked names l other) e k)))) ]
             | inr l ↦ inr l
           ]))
     ]
@@ -272,7 +270,7 @@ there_more m names i name text b c asked there g j other k which =
 there_skip : (m : Moment) (names : Asked) (i : ℕ) (b : Files) → get_or names i None ≡ None → ThereTo m names i b → ThereTo m names (i + 1) b
 there_skip m names i b none there j other k which =
     there j other k (elim which [
-      | inl lt ↦ elim (less i j lt) [ inl below ↦ inl below | inr e ↦ absurd (not_that names i other none (subst (λ l. IsAsked names l other) e k)) ]
+      | inl lt ↦ elim (lower_or_last j i lt) [ inl below ↦ inl below | inr e ↦ absurd (not_that names i other none (subst (λ l. IsAsked names l other) e k)) ]
       | inr l ↦ inr l
     ])
 

@@ -8,6 +8,7 @@ use Rattle.std.specs.Int.Digits.{digits_of, number_from_digits}
 use Rattle.std.proofs.lemmas.Bool.Decides.{nat_tests, eqb_tells}
 use Rattle.std.proofs.lemmas.Int.Digits.{number_digits_of}
 use Rattle.std.proofs.Math.Dec.{eqb-suc-zero}
+use Rattle.std.proofs.lemmas.Bool.{and_parts, not-true}
 use Rattle.safl_word.specs.Numerals.{binary, is_digit}
 use Rattle.safl_word.proofs.WordLaws.{decimal_counts}
 use Rattle.safl_net.specs.Names.{is_good, is_identifier, is_reserved, is_start, is_part, are_parts}
@@ -32,41 +33,33 @@ free_from : (x k : ℕ) (ds : List ℕ) → x < k → Free x (map (λ d. k + d) 
 free_from x k [] h = tt
 free_from x k (d ∷ ds) h = (other_byte x (k + d) (omega (arith, h)), free_from x k ds h)
 
-both_true : (a b : Bool) → (a && b) ≡ true → (a ≡ true) × (b ≡ true)
-both_true true b h = (refl, h)
-both_true false b h = absurd (cc)
-
 -- a test that fails at a line feed
 feedless_by : (p : ℕ → Bool) → p 10 ≡ false → (c : ℕ) → p c ≡ true → (c == 10) ≡ false
 feedless_by p misses c passes = elim (eqb_tells c 10) [ inl e ↦ absurd (let here : p 10 ≡ true = subst (λ x. p x ≡ true) e.1 passes in cc) | inr e ↦ e.0 ]
 
-not_true : (b : Bool) → not b ≡ true → b ≡ false
-not_true true h = absurd (cc)
-not_true false h = refl
-
 -- by a test of each byte
 free_test : (x : ℕ) (w : Text) → list_all (λ c. not (c == x)) w ≡ true → Free x w
 free_test x [] h = tt
-free_test x (c ∷ w) h = let b = both_true (not (c == x)) (list_all (λ d. not (d == x)) w) h in (not_true (c == x) b.0, free_test x w b.1)
+free_test x (c ∷ w) h = let b = and_parts (not (c == x)) (list_all (λ d. not (d == x)) w) h in (not-true (c == x) b.0, free_test x w b.1)
 
 free_digits : (w : Text) → list_all (is_digit 10) w ≡ true → Free 10 w
 free_digits [] h = tt
-free_digits (c ∷ w) h = let b = both_true (is_digit 10 c) (list_all (is_digit 10) w) h in (feedless_by (is_digit 10) refl c b.0, free_digits w b.1)
+free_digits (c ∷ w) h = let b = and_parts (is_digit 10 c) (list_all (is_digit 10) w) h in (feedless_by (is_digit 10) refl c b.0, free_digits w b.1)
 
 free_decimal : (n : ℕ) → n < 2 ^ 128 → Free 10 (decimal n)
 free_decimal n h = free_digits (decimal n) (decimal_counts n h).0.numeral.digits
 
 free_parts : (w : Text) → are_parts w ≡ true → Free 10 w
 free_parts [] h = tt
-free_parts (c ∷ w) h = let b = both_true (is_part c) (are_parts w) h in (feedless_by is_part refl c b.0, free_parts w b.1)
+free_parts (c ∷ w) h = let b = and_parts (is_part c) (are_parts w) h in (feedless_by is_part refl c b.0, free_parts w b.1)
 
 free_identifier : (w : Text) → is_identifier w ≡ true → Free 10 w
 free_identifier [] h = tt
-free_identifier (c ∷ w) h = let b = both_true (is_start c) (are_parts w) h in (feedless_by is_start refl c b.0, free_parts w b.1)
+free_identifier (c ∷ w) h = let b = and_parts (is_start c) (are_parts w) h in (feedless_by is_start refl c b.0, free_parts w b.1)
 
 pub free_name : (w : Text) → is_good w ≡ true → Free 10 w
 unfolding is_good
-free_name w h = free_identifier w (both_true (is_identifier w) (nat_le (length w) 200) (both_true (is_identifier w && nat_le (length w) 200) (not (is_reserved w)) h).0).0
+free_name w h = free_identifier w (and_parts (is_identifier w) (nat_le (length w) 200) (and_parts (is_identifier w && nat_le (length w) 200) (not (is_reserved w)) h).0).0
 
 pub free_code : (i : ℕ) → Free 10 (code i)
 unfolding code

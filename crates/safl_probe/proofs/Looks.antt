@@ -1,42 +1,24 @@
 -- What is watched, one signal more at a time, and what is seen of it.
-use Rattle.std.proofs.Common.{◌≡◌, ℕ, zero, suc, ◌<◌, List, [], ◌∷◌, ◌++◌, length, map, Option, Some, None, slice_get, slice_index, refl, sym, ap, ◌∙◌, arith}
+use Rattle.std.proofs.Common.{◌≡◌, ℕ, zero, suc, ◌<◌, List, [], ◌∷◌, ◌++◌, length, map, Option, Some, None, slice_get, slice_index, refl, sym, ap, ◌∙◌}
 use Rattle.std.specs.Prelude.{option_map}
 use Rattle.safl_word.specs.Words.{Word}
+use Rattle.safl_word.proofs.Lists.{get_some}
+use Rattle.safl_word.proofs.Options.{both_halves}
 use Rattle.safl_net.specs.Netlist.{Netlist, Signal, width_of, width_in}
-use Rattle.safl_net.specs.Rules.{IsNetlist}
 use Rattle.safl_net.specs.Making.{kind_at, name_at, kind_in, name_in}
 use Rattle.safl_probe.specs.Entries.{watched_in, watched_all}
 use Rattle.safl_probe.specs.declared.entry.Entry.{Entry}
 
-pub is_there : {A : Type 0} (xs : List A) (i : ℕ) → i < length xs → (x : A) × (slice_get xs i ≡ Some x)
-is_there [] i within = absurd (omega (arith, within))
-is_there (x ∷ xs) zero within = (x, refl)
-is_there (x ∷ xs) (suc i) within = is_there xs i (omega (arith, within))
-
 -- a signal by its name, width and kind
 pub signal_there : (n : Netlist) (i : ℕ) → i < length n.signals → slice_get n.signals i ≡ Some (record { name = name_at n i; width = width_of n i; kind = kind_at n i })
 signal_there n i within =
-    let g = is_there n.signals i within in
+    let g = get_some n.signals i within in
     g.1 ∙ ap Some (sym (ap (λ (o : Option Signal). let s : Signal = record { name = name_in o; width = width_in o; kind = kind_in o } in s) g.1))
-
-joined : (o : Option (List ℕ × ℕ)) (name : List ℕ) (s : ℕ) → Some name ≡ option_map (λ x. x.0) o → Some s ≡ option_map (λ x. x.1) o → o ≡ Some (name, s)
-joined None name s a b = absurd (cc)
-joined (Some x) name s a b = let p : name ≡ x.0 = cc in let q : s ≡ x.1 = cc in ap (λ y. Some (y, x.1)) (sym p) ∙ ap (λ y. Some (name, y)) (sym q)
 
 -- an output by its name and signal, which is one of the net
 pub output_there : (n : Netlist) (i : ℕ) (name : List ℕ) (s : ℕ) → Some name ≡ option_map (λ x. x.0) (slice_get n.outputs i) → Some s ≡ option_map
     (λ x. x.1) (slice_get n.outputs i) → slice_get n.outputs i ≡ Some (name, s)
-output_there n i name s a b = joined (slice_get n.outputs i) name s a b
-
-pub output_known : (n : Netlist) (i s : ℕ) → IsNetlist n → i < length n.outputs → Some s ≡ option_map (λ x. x.1) (slice_get n.outputs i) → s < length n.signals
-output_known n i s is within e =
-    let o = is_there n.outputs i within in
-    let same : s ≡ o.0.1 = some_is (e ∙ ap (option_map (λ x. x.1)) o.1) in
-    let known = (is.outputs i o.0 o.1).1 in
-    omega (arith, same, known)
-  where
-    some_is : {m k : ℕ} → Some m ≡ Some k → m ≡ k
-    some_is q = cc
+output_there n i name s a b = both_halves (slice_get n.outputs i) name s a b
 
 -- one more entry
 pub pushed : (es : List Entry) (e : Entry) → watched_all (es ++ e ∷ []) ≡ watched_all es ++ watched_in e ∷ []

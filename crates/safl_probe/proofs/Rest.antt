@@ -1,22 +1,11 @@
 -- What is made of the elements of a list, one more at a time: what was made and what the rest makes are the whole.
-use Rattle.std.proofs.Common.{◌≡◌, ℕ, zero, suc, ◌+◌, ◌<◌, ◌≤◌, List, [], ◌∷◌, ◌++◌, length, drop, get_or, Some, slice_get, refl, sym, ap, ◌∙◌, append_assoc, add-one, arith}
-use Rattle.std.proofs.lemmas.List.{append-nil}
+use Rattle.std.proofs.Common.{◌≡◌, ℕ, zero, suc, ◌+◌, ◌<◌, ◌≤◌, List, [], ◌∷◌, ◌++◌, length, drop, get_or, sym, ap, ◌∙◌, append_assoc, add-one, arith}
+use Rattle.std.proofs.lemmas.List.{append-nil, drop_all}
 
 pub drop_or : {A : Type 0} (xs : List A) (i : ℕ) (x : A) → i < length xs → x ≡ get_or xs i x → drop i xs ≡ x ∷ drop (suc i) xs
 drop_or [] i x within at = absurd (omega (arith, within))
 drop_or (y ∷ ys) zero x within at = ap (λ z. z ∷ ys) (sym at)
 drop_or (y ∷ ys) (suc i) x within at = drop_or ys i x (omega (arith, within)) at
-
-pub drop_at : {A : Type 0} (xs : List A) (i : ℕ) (x : A) → slice_get xs i ≡ Some x → drop i xs ≡ x ∷ drop (suc i) xs
-drop_at [] i x at = absurd (cc)
-drop_at (y ∷ ys) zero x at = let same : y ≡ x = cc in ap (λ z. z ∷ ys) same
-drop_at (y ∷ ys) (suc i) x at = drop_at ys i x at
-
-pub gone : {A : Type 0} (xs : List A) (i : ℕ) → length xs ≤ i → drop i xs ≡ []
-gone [] zero all = refl
-gone [] (suc i) all = refl
-gone (x ∷ xs) zero all = absurd (omega (arith, all))
-gone (x ∷ xs) (suc i) all = gone xs i (omega (arith, all))
 
 module _ {A : Type 0} {B : Type 0} (rest : ℕ → List A → List B) (piece : ℕ → A → List B) (nothing : (i : ℕ) → rest i [] ≡ [])
     (more : (i : ℕ) (x : A) (xs : List A) → rest i (x ∷ xs) ≡ piece i x ++ rest (suc i) xs) where
@@ -31,4 +20,4 @@ module _ {A : Type 0} {B : Type 0} (rest : ℕ → List A → List B) (piece : �
       ∙ before
 
   pub rest_none : (xs : List A) (i : ℕ) (out whole : List B) → length xs ≤ i → out ++ rest i (drop i xs) ≡ whole → out ≡ whole
-  rest_none xs i out whole all before = sym (append-nil out) ∙ ap (λ l. out ++ l) (sym (nothing i)) ∙ ap (λ l. out ++ rest i l) (sym (gone xs i all)) ∙ before
+  rest_none xs i out whole all before = sym (append-nil out) ∙ ap (λ l. out ++ l) (sym (nothing i)) ∙ ap (λ l. out ++ rest i l) (sym (drop_all i xs all)) ∙ before

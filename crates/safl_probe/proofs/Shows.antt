@@ -3,6 +3,8 @@ use Rattle.std.proofs.Common.{◌≡◌, ℕ, zero, suc, ◌+◌, ◌<◌, ◌�
 use Rattle.std.proofs.Common.{slice_index, refl, sym, ap, subst, ◌∙◌, add-zero, append_assoc, arith, lit<}
 use Rattle.std.specs.Option.{option_or}
 use Rattle.std.proofs.lemmas.List.{append-nil}
+use Rattle.std.proofs.lemmas.Bool.{le-ltb}
+use Rattle.safl_word.proofs.Lists.{get_some}
 use Rattle.safl_net.specs.Netlist.{Netlist, Signal, width_of, width_in}
 use Rattle.safl_net.specs.Names.{is_good}
 use Rattle.safl_net.specs.Rules.{IsNetlist}
@@ -17,8 +19,7 @@ use Rattle.safl_probe.specs.Texts.{Text, code, header, dump, changes, frame_text
 use Rattle.safl_probe.specs.Following.{Line, Time, Other, lines, told_by, up_to, stands, FramesFit, DumpsShowFrames}
 use Rattle.safl_probe.proofs.Lines.{Free, free_name, Tells, tells_both, tells_time, tells_timed, tells_changes, tells_dump, tells_header, Fitting}
 use Rattle.safl_probe.proofs.Lines.{Named, value_lines, change_lines, variable_lines, header_lines, timed_lines}
-use Rattle.safl_probe.proofs.Stands.{values_at, Passing, pass, passing_more, passing_values, not_later, seen_at, later_lines, AllFit, cut, follow, stands_more}
-use Rattle.safl_probe.proofs.Looks.{is_there}
+use Rattle.safl_probe.proofs.Stands.{values_at, Passing, pass, passing_more, passing_values, seen_at, later_lines, AllFit, cut, follow, stands_more}
 
 -- ---- what is traced has a name without a line feed and the width of its signal
 
@@ -64,7 +65,7 @@ good_outputs : (n : Netlist) → IsNetlist n → (os : List (List ℕ × ℕ)) �
 good_outputs n made [] part = tt
 good_outputs n made (o ∷ os) part =
     let is = part 0 o refl in
-    let g = is_there n.signals o.1 is.1 in
+    let g = get_some n.signals o.1 is.1 in
     let width : g.0.width ≡ width_of n o.1 = sym (ap width_in g.1) in
     let signal = good_signal n made o.1 g.0 g.1 in (
       record {
@@ -148,7 +149,7 @@ passing_variables t (w ∷ ws) = (refl, passing_variables t ws)
 passing_head : (t : ℕ) (ws : List Watched) (now : List ℕ) → Passing t (head_lines ws now)
 passing_head t ws now =
     passing_more t (header_lines ws) (dump_lines ws now) (refl, (refl, passing_more t (variable_lines ws) (Other ∷ Other ∷ []) (passing_variables t ws) (refl, (refl, tt))))
-    (not_later t 0 (omega arith), (refl, passing_more t (value_lines 0 ws now) (Other ∷ []) (passing_values t 0 ws now) (refl, tt)))
+    (le-ltb t 0 (omega arith), (refl, passing_more t (value_lines 0 ws now) (Other ∷ []) (passing_values t 0 ws now) (refl, tt)))
 
 stands_head : (ws : List Watched) (i : ℕ) (w : Watched) (f : Valuation) → slice_get ws i ≡ Some w → stands (code i) (head_lines ws (seen ws f)) ≡ Some (slice_index f w.signal)
 stands_head ws i w f is =

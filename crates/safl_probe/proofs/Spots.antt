@@ -1,6 +1,7 @@
 -- Spots: what they are of, and what they have seen.
 use Rattle.std.proofs.Common.{◌≡◌, ℕ, zero, suc, ◌+◌, ◌<◌, ◌≤◌, List, [], ◌∷◌, ◌++◌, length, take, drop, map, get_or, Option, Some, slice_get, slice_set, slice_index, codes}
 use Rattle.std.proofs.Common.{refl, sym, ap, ◌∙◌, add-one, arith}
+use Rattle.std.proofs.Math.Seq.{drop-cons}
 use Rattle.safl_net.specs.Valuations.{Valuation}
 use Rattle.safl_probe.specs.Watching.{Watched, seen}
 use Rattle.safl_probe.specs.Texts.{Text, value, values, changed, changes, time, timed, dump, starts, toggled}
@@ -109,17 +110,12 @@ first_all frame (s ∷ ss) (suc i) all = ap (λ (l : List Spot). looked frame s 
 abbrev pub no_spot : Spot
 no_spot = record { signal = 0; width = 0; number = 0 }
 
-pub drop_get : {A : Type 0} (xs : List A) (i : ℕ) (d : A) → i < length xs → drop i xs ≡ get_or xs i d ∷ drop (suc i) xs
-drop_get [] i d within = absurd (omega (arith, within))
-drop_get (x ∷ xs) zero d within = refl
-drop_get (x ∷ xs) (suc i) d within = drop_get xs i d (omega (arith, within))
-
 -- the next one, as it was before
 pub spot_at : (frame : Valuation) (ss now : List Spot) (i : ℕ) → now ≡ looked_first frame ss i → i < length ss → get_or now i no_spot ≡ get_or ss i no_spot
 spot_at frame ss now i before within = ap (λ (l : List Spot). get_or l i no_spot) before ∙ first_at frame ss i no_spot within
 
 pub spots_from : (frame : Valuation) (ss now : List Spot) (i : ℕ) → now ≡ looked_first frame ss i → i < length ss → drop i ss ≡ get_or now i no_spot ∷ drop (suc i) ss
-spots_from frame ss now i before within = drop_get ss i no_spot within ∙ ap (λ (s : Spot). s ∷ drop (suc i) ss) (sym (spot_at frame ss now i before within))
+spots_from frame ss now i before within = drop-cons ss i no_spot within ∙ ap (λ (s : Spot). s ∷ drop (suc i) ss) (sym (spot_at frame ss now i before within))
 
 -- one more has
 pub look_more : (frame : Valuation) (ss now : List Spot) (i : ℕ) (new : Spot) → now ≡ looked_first frame ss i → i < length ss → new ≡ looked frame (get_or now i no_spot)

@@ -1,13 +1,15 @@
 -- Each number stands until the next change of its code.
 use Rattle.std.proofs.Common.{◌≡◌, ℕ, zero, suc, ◌+◌, ◌-◌, ◌<◌, ◌≤◌, List, [], ◌∷◌, ◌++◌, map, reverse, Option, Some, None, Bool, true, false, ◌==◌}
 use Rattle.std.proofs.Common.{slice_get, slice_index, refl, sym, ap, subst, ◌∙◌, arith, bytes_eq, inl, inr}
-use Rattle.std.specs.Prelude.{if◌then◌else◌, nat_lt}
+use Rattle.std.specs.Prelude.{if◌then◌else◌}
 use Rattle.std.specs.Option.{option_or}
 use Rattle.std.specs.Int.Digits.{digits_of, number_from_digits}
 use Rattle.std.proofs.lemmas.List.{reverse-reverse, append-nil}
-use Rattle.std.proofs.lemmas.Bool.Decides.{nat_tests, eqb_tells}
+use Rattle.std.proofs.lemmas.Bool.Decides.{eqb_tells}
 use Rattle.std.proofs.lemmas.Slice.Eq.{bytes_eq-Decides}
 use Rattle.std.proofs.lemmas.Int.Digits.{number_digits_of}
+use Rattle.std.proofs.lemmas.Bool.{le-ltb, lt-ltb}
+use Rattle.safl_word.proofs.Options.{option_or_assoc}
 use Rattle.safl_net.specs.Valuations.{Valuation}
 use Rattle.safl_probe.specs.Watching.{Watched, seen}
 use Rattle.safl_probe.specs.Texts.{Text, code, changes}
@@ -48,13 +50,9 @@ pub or_none : (o : Option ℕ) → option_or o None ≡ o
 or_none None = refl
 or_none (Some x) = refl
 
-or_assoc : (a b c : Option ℕ) → option_or (option_or a b) c ≡ option_or a (option_or b c)
-or_assoc None b c = refl
-or_assoc (Some x) b c = refl
-
 pub stands_more : (c : Text) (xs ys : List Line) → stands c (xs ++ ys) ≡ option_or (stands c ys) (stands c xs)
 stands_more c [] ys = sym (or_none (stands c ys))
-stands_more c (l ∷ xs) ys = ap (λ o. option_or o (change_of c l)) (stands_more c xs ys) ∙ or_assoc (stands c ys) (stands c xs) (change_of c l)
+stands_more c (l ∷ xs) ys = ap (λ o. option_or o (change_of c l)) (stands_more c xs ys) ∙ option_or_assoc (stands c ys) (stands c xs) (change_of c l)
 
 -- ---- numbers of codes
 
@@ -165,15 +163,9 @@ passing_changes t i (w ∷ ws) [] now = tt
 passing_changes t i (w ∷ ws) (x ∷ last) [] = tt
 passing_changes t i (w ∷ ws) (x ∷ last) (y ∷ now) = passing_more t (changed_line i x y) (change_lines (suc i) ws last now) (passing_changed t i x y) (passing_changes t (suc i) ws last now)
 
-pub not_later : (t s : ℕ) → s ≤ t → nat_lt t s ≡ false
-not_later t s h = grind (arith, nat_tests)
-
-later : (t s : ℕ) → t < s → nat_lt t s ≡ true
-later t s h = grind (arith, nat_tests)
-
 passing_timed : (t s : ℕ) (text : Text) (ls : List Line) → s ≤ t → Passing t ls → Passing t (timed_lines s text ls)
 passing_timed t s [] ls h p = p
-passing_timed t s (c ∷ cs) ls h p = (not_later t s h, p)
+passing_timed t s (c ∷ cs) ls h p = (le-ltb t s h, p)
 
 stands_timed : (c : Text) (s : ℕ) (text : Text) (ls : List Line) → stands c (timed_lines s text ls) ≡ stands c ls
 stands_timed c s [] ls = refl
@@ -196,13 +188,13 @@ AllFit ws (f ∷ fs) = Fitting ws (seen ws f) × AllFit ws fs
 
 -- none of them is read before its time
 pub cut : (ws : List Watched) (q t : ℕ) (last : List ℕ) (fs : List Valuation) → q < t → AllFit ws fs → up_to q (later_lines ws t last fs) ≡ []
-cut ws q t last [] h fit = ap (λ b. if b then [] else Time t ∷ []) (later q t h)
+cut ws q t last [] h fit = ap (λ b. if b then [] else Time t ∷ []) (lt-ltb q t h)
 cut ws q t last (f ∷ fs) h fit = go (changes 0 ws last (seen ws f)) (tells_changes 0 ws last (seen ws f) fit.0) (cut ws q (suc t) (seen ws f) fs (omega (arith, h)) fit.1)
   where
     go : (text : Text) → Tells text (change_lines 0 ws last (seen ws f)) → up_to q (later_lines ws (suc t) (seen ws f) fs) ≡ [] → up_to q
         (timed_lines t text (change_lines 0 ws last (seen ws f)) ++ later_lines ws (suc t) (seen ws f) fs) ≡ []
     go [] tells after = ap (λ l. up_to q (l ++ later_lines ws (suc t) (seen ws f) fs)) (none_told (change_lines 0 ws last (seen ws f)) tells) ∙ after
-    go (c ∷ cs) tells after = ap (λ b. if b then [] else Time t ∷ up_to q (change_lines 0 ws last (seen ws f) ++ later_lines ws (suc t) (seen ws f) fs)) (later q t h)
+    go (c ∷ cs) tells after = ap (λ b. if b then [] else Time t ∷ up_to q (change_lines 0 ws last (seen ws f) ++ later_lines ws (suc t) (seen ws f) fs)) (lt-ltb q t h)
 
 -- at its time the code stands at its number in the frame
 pub follow : (ws : List Watched) (i : ℕ) (w : Watched) → slice_get ws i ≡ Some w → (d q t : ℕ) (last : List ℕ) (fs : List Valuation) (x : ℕ)
@@ -230,6 +222,6 @@ follow ws i w is (suc d) q t last (f ∷ fs) x frame e old at fit =
     pass q head (later_lines ws (suc t) (seen ws f) fs) (passing_timed q t (changes 0 ws last (seen ws f)) (change_lines 0 ws last (seen ws f))
     (omega (arith, e)) (passing_changes q 0 ws last (seen ws f))))
     ∙ ap (λ o. option_or o (Some x)) (stands_more (code i) head rest)
-    ∙ or_assoc (stands (code i) rest) (stands (code i) head) (Some x)
+    ∙ option_or_assoc (stands (code i) rest) (stands (code i) head) (Some x)
     ∙ ap (option_or (stands (code i) rest)) here
     ∙ follow ws i w is d q (suc t) (seen ws f) fs (slice_index f w.signal) frame (omega (arith, e)) (seen_at ws i w f is) at fit.1

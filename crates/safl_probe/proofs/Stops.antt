@@ -3,6 +3,7 @@ use Rattle.std.proofs.Common.{◌≡◌, ℕ, List, map, Option, sym, subst, ◌
 use Rattle.safl_word.specs.Words.{Word}
 use Rattle.safl_io.specs.Told.{TellsOn}
 use Rattle.safl_io.specs.Shelf.{Files, ShelfState, SameReads}
+use Rattle.safl_io.proofs.Telling.{rose_later}
 use Rattle.safl_net.specs.Netlist.{Netlist}
 use Rattle.safl_net.specs.Valuations.{Valuation}
 use Rattle.safl_probe.specs.Probing.{ProbeState}
@@ -12,7 +13,6 @@ use Rattle.safl_probe.specs.Runs.{AreShown, IsRunOf, trace_at, until_done}
 use Rattle.safl_probe.specs.Stopping.{Stopped, SameProbes, KeepsProbes}
 use Rattle.safl_probe.specs.declared.drive_err.DriveErr.{DriveErr}
 use Rattle.safl_probe.specs.declared.drive_err.DriveErr.TheVariants as why
-use Rattle.safl_probe.proofs.Telling.{rose_later}
 
 -- a failure of a later part of a run, where the probes and the shelf were others at its beginning
 pub stopped_later : (e : DriveErr) (names : Asked) (ps qs rs : List ProbeState) (a b c : ShelfState) → SameProbes ps qs → SameReads a b → Stopped e names qs rs b c → Stopped e names ps rs a c

@@ -3,8 +3,10 @@ use Rattle.std.proofs.Common.{◌≡◌, ℕ, ◌+◌, ◌<◌, ◌≤◌, List,
 use Rattle.std.specs.declared.alloc.Global.{Global}
 use Rattle.std.proofs.lemmas.List.{map-set, length-map, length-set, get_or-set_same, get_or-set_other, get_or-map}
 use Rattle.std.proofs.lemmas.Bool.{cases_eq}
+use Rattle.safl_word.proofs.Naturals.{lower_or_last}
 use Rattle.safl_io.specs.Counts.{Rose}
 use Rattle.safl_io.specs.Shelf.{ShelfState, SameReads}
+use Rattle.safl_io.proofs.Telling.{rose_later}
 use Rattle.safl_net.specs.Netlist.{Netlist}
 use Rattle.safl_net.specs.Valuations.{Valuation}
 use Rattle.safl_probe.specs.Probing.{ProbeState, Tells, fresh}
@@ -14,11 +16,6 @@ use Rattle.safl_probe.specs.Stopping.{Blames, Stopped, SameProbes, KeepsProbes}
 use Rattle.safl_probe.specs.declared.moment.Moment.{Moment}
 use Rattle.safl_probe.specs.declared.drive_err.DriveErr.{DriveErr}
 use Rattle.safl_probe.specs.declared.drive_err.DriveErr.TheVariants as why
-use Rattle.safl_probe.proofs.Growing.{less}
-
-pub rose_later : (a b c : ℕ) → a ≤ b → Rose b c → Rose a c
-rose_later a b c le (inl lt) = inl (omega (arith, le, lt))
-rose_later a b c le (inr e) = inr e
 
 module _ (P : Type 0) (st : P → ProbeState) where
   abbrev states : List P → List ProbeState
@@ -90,7 +87,7 @@ module _ (P : Type 0) (st : P → ProbeState) where
     pub skip_told : (qs : List P) (i : ℕ) → get_or names i None ≡ None → ToldTo m n v names ps qs i → ToldTo m n v names ps qs (i + 1)
     skip_told qs i none t = record {
       long = t.long;
-      told = λ j name lt k. elim (less i j lt) [
+      told = λ j name lt k. elim (lower_or_last j i lt) [
         | inl below ↦ t.told j name below k
         | inr e ↦ absurd (let f = sym (subst (λ l. get_or names l None ≡ Some name) e k) ∙ none in cc)
       ];
@@ -105,7 +102,7 @@ module _ (P : Type 0) (st : P → ProbeState) where
         let was : probe_at (states ps) i ≡ st q = sym (t.rest i (omega arith)) ∙ at_place qs i q lt e in
         record {
           long = length-set qs i x ∙ t.long;
-          told = λ j other below k. elim (less i j below) [
+          told = λ j other below k. elim (lower_or_last j i below) [
             | inl lower ↦
                 subst (λ s. Tells (state_at m n v (probe_at (states ps) j)) s) (sym (at_other qs i j x (λ f. omega (arith, lower, f)))) (t.told j other lower k)
             | inr f ↦

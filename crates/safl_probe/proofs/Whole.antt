@@ -1,7 +1,8 @@
 -- The files of a whole run, and of one that stopped.
 use Rattle.std.proofs.Common.{◌≡◌, ℕ, zero, suc, ◌+◌, ◌<◌, ◌≤◌, List, [], ◌∷◌, ◌++◌, length, take, drop, Option, Some, None, slice_get, slice_index}
 use Rattle.std.proofs.Common.{Bool, true, false, ◌==◌, if◌then◌else◌, codes, refl, sym, ap, ◌∙◌, append_assoc, arith}
-use Rattle.std.proofs.lemmas.List.{take-append-drop, length-take-le, append-nil, drop_all}
+use Rattle.std.proofs.lemmas.List.{take-append-drop, length-take-le, append-nil, drop_all, length_push}
+use Rattle.std.proofs.lemmas.Option.{slice_get_within}
 use Rattle.safl_word.specs.Words.{Word}
 use Rattle.safl_io.specs.Told.{TellsOn}
 use Rattle.safl_io.specs.Shelf.{Files}
@@ -15,9 +16,7 @@ use Rattle.safl_sim.specs.declared.done.Done.{Done}
 use Rattle.safl_run.specs.Calls.{Answers, cycles_of}
 use Rattle.safl_sim.proofs.OneCall.{only_run}
 use Rattle.safl_run.proofs.OneAnswer.{call_along, from_reset}
-use Rattle.safl_run.proofs.Going.{long_more}
 use Rattle.safl_net.specs.Rules.{IsNetlist}
-use Rattle.safl_net.proofs.Naming.{within}
 use Rattle.safl_probe.specs.Texts.{Text, trace}
 use Rattle.safl_probe.specs.Probing.{ProbeState, Tells, begun, begin_text, finish_text}
 use Rattle.safl_probe.specs.Calls.{cycle_texts, after_frames}
@@ -101,14 +100,14 @@ module _ (n : Netlist) (args : List Word) (limit : ℕ) (made : IsNetlist n) (wh
       let fs : List Valuation = a.cycles in
       let none : drop (length fs) vs ≡ [] = drop_all (length fs) vs (let x = a.long in let b = r.long in omega (arith, x, b)) in
       ap (until_done n) (begins n args limit fs vs (only_of fs a.call) (let x = a.long in omega (arith, x)) r)
-      ∙ until_low n fs (drop (length fs) vs) (λ c v e. a.not_done c v (let l = a.long in let h = within fs c v e in omega (arith, l, h)) e)
+      ∙ until_low n fs (drop (length fs) vs) (λ c v e. a.not_done c v (let l = a.long in let h = slice_get_within fs c v e in omega (arith, l, h)) e)
       ∙ ap (λ l. fs ++ until_done n l) none ∙ append-nil fs
   watched_are (Some d) after a vs r =
       let fs : List Valuation = a.before ++ a.last ∷ [] in
-      let long : length fs ≡ d.cycle + 1 = long_more a.before a.last ∙ ap (λ k. k + 1) a.long in
+      let long : length fs ≡ d.cycle + 1 = length_push a.before a.last ∙ ap (λ k. k + 1) a.long in
       let gs : List Valuation = drop (length fs) vs in
       ap (until_done n) (begins n args limit fs vs (only_of fs a.call) (let t = a.in_time in omega (arith, t, long)) r ∙ append_assoc a.before (a.last ∷ []) gs)
-      ∙ until_low n a.before (a.last ∷ gs) (λ c v e. a.not_done c v (let l = a.long in let h = within a.before c v e in omega (arith, l, h)) e)
+      ∙ until_low n a.before (a.last ∷ gs) (λ c v e. a.not_done c v (let l = a.long in let h = slice_get_within a.before c v e in omega (arith, l, h)) e)
       ∙ ap (λ l. a.before ++ l) (until_high n a.last gs a.done)
 
 -- ---- the files

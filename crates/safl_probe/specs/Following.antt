@@ -1,7 +1,7 @@
 -- What a reader of a value change dump sees.
 -- The dump is read from its beginning, and each number holds until the next change of its code.
 use Rattle.std.specs.Prelude.{◌≡◌, ℕ, ◌-◌, ◌<◌, ◌^◌, List, [], ◌∷◌, map, length, Option, Some, None, Bool, false, if◌then◌else◌, ◌==◌, nat_lt, slice_get, slice_index}
-use Rattle.std.proofs.Common.{bytes_eq}
+use Rattle.std.specs.Str.{bytes_eq}
 use Rattle.std.specs.Option.{option_or}
 use Rattle.std.specs.Int.Digits.{number_from_digits}
 use Rattle.safl_word.specs.Numerals.{between, value as counted}

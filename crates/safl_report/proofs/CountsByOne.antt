@@ -18,11 +18,6 @@ count_more p f a n j at = sum_by-map-range_with_len_more (λ (x : ℕ). cond (p 
 pub count_most : (p : ℕ → Bool) (f : ℕ → ℕ) (a n : ℕ) → count_by p (map f (range_with_len a n)) ≤ n
 count_most p f a n = subst (λ (m : ℕ). count_by p (map f (range_with_len a n)) ≤ m) (length-map-range_with_len f a n) (count_by-le-length p (map f (range_with_len a n)))
 
--- what a bool counts
-pub bool_number : (b : Bool) → from_bool b ≡ cond b 1 0
-bool_number true = refl
-bool_number false = refl
-
 pub bool_few : (b : Bool) → from_bool b ≤ 1
 bool_few true = omega arith
 bool_few false = omega arith

@@ -1,19 +1,7 @@
 -- One line more.
-use Rattle.std.proofs.Common.{◌≡◌, ℕ, ◌+◌, Bool, List, [], ◌∷◌, ◌++◌, length, map, sym, ap, ◌∙◌, append_assoc, append-nil}
-use Rattle.std.specs.List.{concat, range_with_len}
-use Rattle.std.proofs.lemmas.List.Folds.{concat-append}
-use Rattle.std.proofs.lemmas.List.FromFn.{map-range_with_len_more}
+use Rattle.std.proofs.Common.{◌≡◌, ℕ, Bool, [], ◌++◌, length, ap, ◌∙◌}
 use Rattle.safl_net.specs.Netlist.{Netlist}
 use Rattle.safl_report.specs.Report.{Text, function_text, site_text, registers, bits_of, register_text, register_line}
-
--- the line of a further number, after the lines of those before it
-pub line_more : (f : ℕ → List ℕ) (a n j : ℕ) (start before now : List ℕ) → a + n ≡ j → before ≡ start ++ concat (map f (range_with_len a n)) → now ≡
-    before ++ f j → now ≡ start ++ concat (map f (range_with_len a (n + 1)))
-line_more f a n j start before now at b h =
-    let lines = map f (range_with_len a n) in
-    let more : concat (map f (range_with_len a (n + 1))) ≡ concat lines ++ f j =
-    ap concat (map-range_with_len_more f a n j at) ∙ concat-append lines (f j ∷ []) ∙ ap (λ (l : List ℕ). concat lines ++ l) (append-nil (f j)) in
-    h ∙ ap (λ (l : List ℕ). l ++ f j) b ∙ append_assoc start (concat lines) (f j) ∙ ap (λ (l : List ℕ). start ++ l) (sym more)
 
 -- lines of equal parts
 pub same_function : (a b : Text) (j k : ℕ) (x y : Bool) → a ≡ b → j ≡ k → x ≡ y → function_text a j x ≡ function_text b k y

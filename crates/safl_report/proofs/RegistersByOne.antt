@@ -1,17 +1,13 @@
 -- Registers, one signal more.
-use Rattle.std.proofs.Common.{◌≡◌, ℕ, zero, suc, ◌+◌, ◌<◌, Bool, true, false, cond, List, [], ◌∷◌, ◌++◌, length, take, Option, Some, refl, sym, ap, ◌∙◌, arith, length-append, append-nil}
+use Rattle.std.proofs.Common.{◌≡◌, ℕ, ◌+◌, ◌<◌, Bool, true, false, cond, List, [], ◌∷◌, ◌++◌, length, take, Option, Some, sym, ap, ◌∙◌, arith, length-append, append-nil}
 use Rattle.std.specs.Prelude.{slice_get}
 use Rattle.std.proofs.lemmas.List.Elements.{filter_more}
 use Rattle.std.proofs.lemmas.List.Sums.{sum_by-append}
 use Rattle.std.proofs.lemmas.Option.{get_or_from_slice_get}
-use Rattle.safl_net.specs.Netlist.{Netlist, Signal, width_of, width_in}
+use Rattle.safl_word.proofs.Lists.{get_some}
+use Rattle.safl_net.specs.Netlist.{Netlist, Signal, width_of, width_in, is_register}
 use Rattle.safl_net.specs.Making.{kind_at, kind_in}
-use Rattle.safl_report.specs.Report.{is_register, registers, bits_of}
-
-is_there : {A : Type 0} (xs : List A) (i : ℕ) → i < length xs → (x : A) × (slice_get xs i ≡ Some x)
-is_there [] i lt = absurd (omega (arith, lt))
-is_there (x ∷ xs) zero lt = (x, refl)
-is_there (x ∷ xs) (suc i) lt = is_there xs i (omega (arith, lt))
+use Rattle.safl_report.specs.Report.{registers, bits_of}
 
 -- the registers of one more signal
 more : (xs : List Signal) (i : ℕ) (g : Signal) → i < length xs → slice_get xs i ≡ Some g → registers (take (i + 1) xs) ≡ registers (take i xs) ++ cond (is_register g.kind) (g ∷ []) []
@@ -38,7 +34,7 @@ wider xs g false = ap bits_of (append-nil xs) ∙ plain
 pub count_more : (n : Netlist) (i count : ℕ) (b : Bool) → i < length n.signals → count ≡ length (registers (take i n.signals)) → b ≡ is_register
     (kind_at n i) → count + cond b 1 0 ≡ length (registers (take (i + 1) n.signals))
 count_more n i count b lt h is =
-    let there = is_there n.signals i lt in
+    let there = get_some n.signals i lt in
     let g = there.0 in
     let kind : b ≡ is_register g.kind = is ∙ ap (λ (o : Option Signal). is_register (kind_in o)) there.1 in
     ap (λ (m : ℕ). m + cond b 1 0) h ∙ ap (λ (c : Bool). length (registers (take i n.signals)) + cond c 1 0) kind
@@ -47,7 +43,7 @@ count_more n i count b lt h is =
 pub bits_more : (n : Netlist) (i bits : ℕ) (b : Bool) → i < length n.signals → bits ≡ bits_of (registers (take i n.signals)) → b ≡ is_register
     (kind_at n i) → bits + cond b (width_of n i) 0 ≡ bits_of (registers (take (i + 1) n.signals))
 bits_more n i bits b lt h is =
-    let there = is_there n.signals i lt in
+    let there = get_some n.signals i lt in
     let g = there.0 in
     let kind : b ≡ is_register g.kind = is ∙ ap (λ (o : Option Signal). is_register (kind_in o)) there.1 in
     let width : width_of n i ≡ g.width = ap width_in there.1 in

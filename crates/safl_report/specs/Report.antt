@@ -4,7 +4,7 @@ use Rattle.std.specs.List.{concat, range_with_len}
 use Rattle.safl_term.specs.Checked.{CheckedProgram}
 use Rattle.safl_term.specs.Program.{Program}
 use Rattle.safl_sites.specs.Plan.{IsPlan}
-use Rattle.safl_net.specs.Netlist.{Netlist, Signal, Kind, Input, Reg, Wire}
+use Rattle.safl_net.specs.Netlist.{Netlist, Signal, is_register}
 
 abbrev pub Text : Type 0
 Text = List ℕ
@@ -33,12 +33,6 @@ site_text k callee caller kept =
 
 abbrev pub site_line : CheckedProgram → (ℕ → Bool) → ℕ → Text
 site_line c kept k = site_text k (c.name (c.program.callee k)) (c.name (c.program.caller k)) (kept k)
-
--- whether a signal is a register
-abbrev pub is_register : Kind → Bool
-is_register Input = false
-is_register (Reg init next) = true
-is_register (Wire cell) = false
 
 abbrev pub registers : List Signal → List Signal
 registers signals = filter (λ g. is_register g.kind) signals

@@ -4,7 +4,8 @@ ghost use Rattle.std.specs.Prelude.{◌≡◌, ◌<◌, ◌≤◌, ◌+◌, ◌*
 ghost use Rattle.safl_net.specs.Netlist.{width_of};
 ghost use Rattle.safl_net.specs.Making.{kind_at};
 ghost use Rattle.safl_net.specs.Rules.{IsNetlist};
-ghost use Rattle.safl_report.specs.Report.{is_register, registers, bits_of};
+ghost use Rattle.safl_report.specs.Report.{registers, bits_of};
+ghost use Rattle.safl_net.specs.Netlist.{is_register};
 
 use safl_net::{Net, Sig, SigKind};
 

@@ -2,6 +2,7 @@
 use Rattle.std.proofs.Common.{◌≡◌, ℕ, List, [], ◌∷◌, Bool, true, false, refl, sym, ap, ◌∙◌}
 use Rattle.std.specs.Prelude.{◌||◌}
 use Rattle.safl_word.specs.declared.primitive.Primitive.{Primitive}
+use Rattle.safl_word.proofs.Booleans.{or_assoc}
 use Rattle.safl_tree.specs.Tree as source
 use Rattle.safl_tree.specs.Tree.{Tree, Bound, Labelled, trees_of, binds_of, arms_of}
 use Rattle.safl_typing.specs.Rewriting.{rewritten, rewritten_all, rewritten_binds, rewritten_arms}
@@ -12,10 +13,6 @@ use Rattle.safl_reshape.specs.Lists.{calls_labelled}
 arm_calls : (l v r : Bool) → ((false || (l || false)) || (v || r)) ≡ ((l || v) || r)
 arm_calls true v r = refl
 arm_calls false v r = refl
-
-or_assoc : (a b c : Bool) → ((a || b) || c) ≡ (a || (b || c))
-or_assoc true b c = refl
-or_assoc false b c = refl
 
 or_right_false : (a b : Bool) → ((a || false) || b) ≡ (a || b)
 or_right_false true b = refl

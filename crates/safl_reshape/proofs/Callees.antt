@@ -1,9 +1,11 @@
 -- The callee of a site of a checked program.
-use Rattle.std.proofs.Common.{◌≡◌, ℕ, zero, suc, ◌<◌, List, [], ◌∷◌, length, map, get_or, Option, Some, None, Bool, false, refl, sym, ap, ◌∙◌, subst, arith, ⊎_elim}
+use Rattle.std.proofs.Common.{◌≡◌, ℕ, zero, suc, ◌<◌, List, [], ◌∷◌, length, map, get_or, Option, Some, None, Bool, false, refl, sym, ap, ◌∙◌, subst, arith}
 use Rattle.std.specs.Prelude.{slice_get}
 use Rattle.std.specs.List.{list_any}
 use Rattle.std.specs.Str.{bytes_eq}
-use Rattle.std.proofs.lemmas.Option.{slice_get_cases, slice_get_read}
+use Rattle.std.proofs.lemmas.Option.{slice_get_read}
+use Rattle.std.proofs.lemmas.Bool.{or_parts}
+use Rattle.safl_word.proofs.Lists.{get_some}
 use Rattle.safl_term.specs.Program.{Program}
 use Rattle.safl_term.specs.Checked.{CheckedProgram, IsChecked}
 use Rattle.safl_term.specs.Tables.{Tables, program_of}
@@ -17,22 +19,17 @@ use Rattle.safl_typing.specs.PlainHeads.{shown_head, shown_heads, known}
 use Rattle.safl_typing.specs.Rewriting.{rewritten}
 use Rattle.safl_reshape.specs.Changed.{calls, is_member}
 use Rattle.safl_reshape.proofs.Putting.{def_shown}
-use Rattle.safl_typing.specs.Heads.{Head, unit_of, heads}
-use Rattle.safl_typing.specs.Forms.{FunctionForm, AreFunctionsOf, IsFormOf, shown_form, shown_function, function_names}
+use Rattle.safl_typing.specs.Heads.{Head, heads}
+use Rattle.safl_typing.specs.Forms.{IsFormOf, shown_form, shown_function, function_names}
 use Rattle.safl_typing.proofs.Placing.{heads_length}
 use Rattle.safl_typing.proofs.Names.{not_seen}
+use Rattle.safl_typing.proofs.Walks.{as_many as lengths}
 use Rattle.safl_check.specs.Numbered.{program_in}
+use Rattle.safl_check.specs.Groups.{name_in}
 use Rattle.safl_reshape.specs.Reshaped.{Unjoined, IsCopyable, copy_name, calls_group, is_recursive}
-use Rattle.safl_reshape.specs.Refusals.{HasSite, joined_at, name_at, name_for, is_taken, MayCopy}
-use Rattle.safl_reshape.proofs.Moves.{or_none}
+use Rattle.safl_reshape.specs.Refusals.{HasSite, joined_at, name_for, is_taken, MayCopy}
 use Rattle.safl_reshape.proofs.Standing.{here, unit_is}
 use Rattle.safl_reshape.proofs.Copies.{unit_own}
-
-lengths : (all : List Head) (n u w lo hi : ℕ) (ds : List Definition) (fs : List FunctionForm) → AreFunctionsOf all n u w lo hi ds fs → length fs ≡ length ds
-lengths all n u w lo hi [] [] h = refl
-lengths all n u w lo hi [] (f ∷ fs) h = absurd h
-lengths all n u w lo hi (d ∷ ds) [] h = absurd h
-lengths all n u w lo hi (d ∷ ds) (f ∷ fs) (m, is, j, rest) = ap (λ (z : ℕ). suc z) (lengths all (suc n) (unit_of n u d) d.width m hi ds fs rest)
 
 pub shown_functions : (fs : List Function) → length (map shown_function fs) ≡ length fs
 shown_functions [] = refl
@@ -55,9 +52,6 @@ unjoined : (o : Option Definition) → joined_at o ≡ false → Unjoined o
 unjoined None e = tt
 unjoined (Some d) e = e
 
-there : {A : Type 0} (xs : List A) (i : ℕ) → i < length xs → (x : A) × (slice_get xs i ≡ Some x)
-there xs i lt = ⊎_elim (λ q. (q.0, q.2)) (λ q. absurd (omega (arith, q.0, lt))) (slice_get_cases xs i).1
-
 pub copyable : (ds : List Definition) (c : CheckedProgram) (k : ℕ) → IsFormOf ds (shown_form c) → IsChecked c → c.program ≡ program_in (shown_form c) → MayCopy c.program ds k
     → (d : Definition) × (slice_get ds (c.program.callee k) ≡ Some d) × IsCopyable ds (shown_form c) k (c.program.callee k) d (copy_name d.name k)
 copyable ds c k is ok e may =
@@ -66,14 +60,14 @@ copyable ds c k is ok e may =
     let q = ok.formed.calls k may.site.from may.site.to in
     let m = as_many ds c is in
     let lt = callee_within ds c k is ok may.site in
-    let d = there ds j lt in
-    let h = there (heads ds) j (omega (arith, heads_length 0 0 ds, lt)) in
-    let g = or_none (joined_at (slice_get ds j)) (joined_at (slice_get ds (suc j))) may.alone in
+    let d = get_some ds j lt in
+    let h = get_some (heads ds) j (omega (arith, heads_length 0 0 ds, lt)) in
+    let g = or_parts (joined_at (slice_get ds j)) (joined_at (slice_get ds (suc j))) may.alone in
     let al : Unjoined (slice_get ds j) = unjoined (slice_get ds j) g.0 in
     let u = unit_own 0 0 ds j h.0 al h.1 in
     let v : C.unit j ≡ h.0.unit = ap (λ (z : Program). z.unit j) e ∙ unit_is ds (shown_form c) is j h.0 (here ds (shown_form c) is j h.0 h.1) in
     let f = ok.formed.first (C.caller k) q.0 in
-    let nf : name_for ds k j ≡ copy_name d.0.name k = ap (λ (o : Option Definition). copy_name (name_at o) k) d.1 in
+    let nf : name_for ds k j ≡ copy_name d.0.name k = ap (λ (o : Option Definition). copy_name (name_in o) k) d.1 in
     let fr : list_any (bytes_eq (copy_name d.0.name k)) (function_names ds) ≡ false = sym (ap (λ (x : List ℕ). is_taken ds x) nf) ∙ may.free in (
       d.0,
       d.1,
@@ -93,10 +87,6 @@ plain_at : (hs : List code.Head) (i : ℕ) (h : code.Head) → slice_get hs i �
 plain_at [] i h e = absurd cc
 plain_at (x ∷ hs) zero h e = let q : x ≡ h = cc in ap (λ (z : code.Head). Some (shown_head z)) q
 plain_at (x ∷ hs) (suc i) h e = plain_at hs i h e
-
-pub plain_length : (hs : List code.Head) → length (shown_heads hs) ≡ length hs
-plain_length [] = refl
-plain_length (h ∷ hs) = ap (λ (n : ℕ). suc n) (plain_length hs)
 
 -- whether function i calls itself or another member of its group
 pub recursive_shown : (ds : List Def) (hs : List code.Head) (i j : ℕ) (h : code.Head) (d : Def) (r : Bool) → shown_heads hs ≡ heads

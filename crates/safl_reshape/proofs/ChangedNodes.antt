@@ -1,6 +1,5 @@
 -- Nodes from their changed parts, and the sites that are left after them.
 use Rattle.std.proofs.Common.{◌≡◌, ℕ, ◌+◌, ◌-◌, List, sym, ap, ◌∙◌, arith}
-use Rattle.std.specs.Prelude.{Result, Ok, Err, OnOk}
 use Rattle.safl_word.specs.declared.primitive.Primitive.{Primitive}
 use Rattle.safl_tree.specs.Tree as source
 use Rattle.safl_tree.specs.Tree.{Tree, Bound, Labelled, trees_of, binds_of, arms_of}
@@ -58,7 +57,3 @@ left_call k p x xs n a b c s e z f g =
     let q : sites_in_tree k n ≡ is_site (callee k x) + sites_in k (rewritten_all (trees_of xs)) = ap (sites_in_tree k) e in
     let r = list_sites k xs in
     omega (arith, q, r, z, f, g)
-
-pub on_ok_always : {T E P : Type 0} (r : Result T E) → P → OnOk r P
-on_ok_always (Ok x) p = p
-on_ok_always (Err e) p = tt

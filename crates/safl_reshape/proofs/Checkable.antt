@@ -7,9 +7,9 @@ use Rattle.safl_tree.specs.Laws.{PrintedSpells, SourcesAreShallow}
 use Rattle.safl_tree.specs.Printable.{IsFormedProgram, IsPrintable}
 use Rattle.safl_tree.specs.Printed.{printed}
 use Rattle.safl_typing.specs.Laws.{FaultOrForm}
+use Rattle.safl_typing.specs.Forms.{HasForm}
 use Rattle.safl_typing.proofs.Names.{some_none}
 use Rattle.safl_check.specs.Answers.{IsTooDeep, IsRefused}
-use Rattle.safl_reshape.specs.Refusals.{HasForm}
 use Rattle.safl_reshape.proofs.Unplaced.{shallow_without_places}
 
 -- a program with a form has no fault

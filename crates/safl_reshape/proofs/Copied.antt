@@ -1,13 +1,14 @@
 -- The form of a program in which a function is copied for the call of one site, and what it gives.
-use Rattle.std.proofs.Common.{◌≡◌, ℕ, zero, suc, ◌+◌, ◌-◌, ◌<◌, ◌≤◌, List, [], ◌∷◌, length, Some, refl, sym, ap, ◌∙◌, subst, arith, inr}
+use Rattle.std.proofs.Common.{◌≡◌, ℕ, zero, suc, ◌+◌, ◌-◌, ◌<◌, ◌≤◌, List, [], ◌∷◌, Some, refl, sym, ap, ◌∙◌, subst, arith, inr}
 use Rattle.std.specs.Prelude.{slice_get, codes}
+use Rattle.std.proofs.lemmas.Option.{same_Some}
 use Rattle.safl_term.specs.Program.{Program}
 use Rattle.safl_term.specs.Laws.{OneEvaluation}
 use Rattle.safl_tree.specs.Tree.{Definition}
 use Rattle.safl_typing.specs.Heads.{Head, sites, unit_of, params_of, heads}
 use Rattle.safl_typing.specs.Typing.{Differ}
 use Rattle.safl_typing.specs.Forms.{FunctionForm, Form, all_sites, function_names, AreFunctionsOf, IsFormOf}
-use Rattle.safl_typing.proofs.Names.{some_is}
+use Rattle.safl_typing.proofs.Walks.{functions_rise}
 use Rattle.safl_check.specs.Numbered.{program_in}
 use Rattle.safl_reshape.specs.Changed.{Change, changed_definitions}
 use Rattle.safl_reshape.specs.Reshaped.{copying_call, put_behind, copy_of, Unjoined, IsCopyable}
@@ -16,20 +17,17 @@ use Rattle.safl_reshape.specs.Laws.{IsAlike}
 use Rattle.safl_reshape.proofs.Sites.{IsSiteIn, sites_map}
 use Rattle.safl_reshape.proofs.Standing.{here, function_sites, heads_differ, is_program, outer_is}
 use Rattle.safl_reshape.proofs.Meanings.{main_runs, main_ran, alike_at, params_at}
-use Rattle.safl_reshape.proofs.Unfolded.{heads_changed, names_changed, last_changed, site_sum, functions_rise}
+use Rattle.safl_reshape.proofs.Unfolded.{heads_changed, names_changed, last_changed, site_sum}
 use Rattle.safl_reshape.proofs.Copies.{unit_later, unit_own, unit_most, heads_before, heads_new, heads_behind, name_behind, names_behind, differ_behind, last_behind}
 use Rattle.safl_reshape.proofs.Copying.{IsCopied, no_site, copy_head, AreCopied}
 use Rattle.safl_reshape.proofs.CopiedFunctions.{AllCopied, copied_functions}
 use Rattle.safl_reshape.proofs.CopiedNumbers.{copied_at, copied_length, copied_some, main_behind, none_spared}
+use Rattle.safl_reshape.proofs.Putting.{changed_length}
 
 unjoined_changed : (all : List Head) (ch : Change) (n u lo : ℕ) (ds : List Definition) (i : ℕ) → Unjoined (slice_get ds i) → Unjoined (slice_get (changed_definitions all ch n u lo ds) i)
 unjoined_changed all ch n u lo [] i h = h
 unjoined_changed all ch n u lo (d ∷ ds) zero h = h
 unjoined_changed all ch n u lo (d ∷ ds) (suc i) h = unjoined_changed all ch (suc n) (unit_of n u d) _ ds i h
-
-length_changed : (all : List Head) (ch : Change) (n u lo : ℕ) (ds : List Definition) → length (changed_definitions all ch n u lo ds) ≡ length ds
-length_changed all ch n u lo [] = refl
-length_changed all ch n u lo (d ∷ ds) = ap (λ (x : ℕ). suc x) (length_changed all ch (suc n) (unit_of n u d) _ ds)
 
 module _ (ds : List Definition) (c : Form) (is : IsFormOf ds c) (k j : ℕ) (d : Definition) (new : List ℕ) (of : IsCopyable ds c k j d new) where
   abbrev C : Program
@@ -61,12 +59,12 @@ module _ (ds : List Definition) (c : Form) (is : IsFormOf ds c) (k j : ℕ) (d :
     differ = heads_differ es names_differ;
     before = λ i h e l. heads_before 0 0 j (copy_of (heads ds) j new d) cds i l ∙ here_too i h e;
     behind = λ i h e l. heads_behind 0 0 j (copy_of (heads ds) j new d) cds i h refl (unjoined_changed (heads ds) (copying_call k new) 0 0 1 ds j alone_too) l (here_too i h e);
-    copy = heads_new 0 0 j (copy_of (heads ds) j new d) cds refl (omega (arith, length_changed (heads ds) (copying_call k new) 0 0 1 ds, of.before)) ∙
+    copy = heads_new 0 0 j (copy_of (heads ds) j new d) cds refl (omega (arith, changed_length (heads ds) (copying_call k new) 0 0 1 ds, of.before)) ∙
         (let z : suc (0 + j) ≡ suc j = omega arith in ap (λ (x : ℕ). Some (copy_head new (params_of d) d.width x)) (let y : 0 + j ≡ j = omega arith in y));
     own = λ i h e q.
         let f : Unjoined (slice_get ds i) = subst (λ (x : ℕ). Unjoined (slice_get ds x)) (sym q) alone_too in
         let st = here ds c is i h e in
-        let sd : st.def ≡ d = some_is st.def d (sym st.defined ∙ (ap (λ (x : ℕ). slice_get ds x) q ∙ of.defined)) in
+        let sd : st.def ≡ d = same_Some st.def d (sym st.defined ∙ (ap (λ (x : ℕ). slice_get ds x) q ∙ of.defined)) in
         let u = unit_own 0 0 ds i h f e in
         (omega (arith, u, q), ap (λ (z : Head). z.params) st.head ∙ ap (λ (z : Definition). params_of z) sd, ap (λ (z : Head). z.width) st.head ∙ ap (λ (z : Definition). z.width) sd);
     least = λ i h e. let u = unit_most 0 0 ds i h (omega arith) e in omega (arith, u);
@@ -93,7 +91,7 @@ module _ (ds : List Definition) (c : Form) (is : IsFormOf ds c) (k j : ℕ) (d :
           sites = refl;
           functions_differ = names_differ;
           main = last_behind (codes "main") j (copy_of (heads ds) j new d) cds
-              (omega (arith, length_changed (heads ds) (copying_call k new) 0 0 1 ds, of.before))
+              (omega (arith, changed_length (heads ds) (copying_call k new) 0 0 1 ds, of.before))
               (last_changed (codes "main") (heads ds) (copying_call k new) 0 0 1 ds is.main);
           few_functions = kept.functions;
           few_sites = omega (arith, site_sum (heads es) 0 0 0 1 (suc (r.0 - 1)) es r.1 a, kept.sites);

@@ -1,6 +1,7 @@
 -- The functions of a program in which one is copied.
 use Rattle.std.proofs.Common.{◌≡◌, ℕ, zero, suc, ◌+◌, ◌<◌, ◌≤◌, List, [], ◌∷◌, length, Some, Bool, true, false, cond, refl, sym, ap, ◌∙◌, subst, arith}
 use Rattle.std.specs.Prelude.{slice_get}
+use Rattle.std.proofs.lemmas.Option.{same_Some}
 use Rattle.safl_term.specs.Program.{Program}
 use Rattle.safl_tree.specs.Tree.{Definition}
 use Rattle.safl_typing.specs.Rewriting.{Expression, rewritten}
@@ -8,7 +9,6 @@ use Rattle.safl_typing.specs.Heads.{Slot, Head, sites, unit_of, params_of}
 use Rattle.safl_typing.specs.Typing.{Has}
 use Rattle.safl_typing.specs.Forms.{FunctionForm, HasShortLets, IsFunctionOf, AreFunctionsOf}
 use Rattle.safl_reshape.proofs.Intervals.{has_sites}
-use Rattle.safl_typing.proofs.Names.{some_is}
 use Rattle.safl_reshape.specs.Changed.{changed, changed_definitions}
 use Rattle.safl_reshape.specs.Reshaped.{copying_call, own_call, put_behind, copy_of, Unjoined}
 use Rattle.safl_reshape.proofs.Alike.{Alike}
@@ -78,7 +78,7 @@ module _ (C : Program) (all rest : List Head) (k j : ℕ) (new : List ℕ) (ps :
   copied_functions t n u w lo hi first from [] fs d e un at alone next l si h = absurd cc
   copied_functions t n u w lo hi first from (g ∷ ds) [] d e un at alone next l si h = absurd h
   copied_functions zero n u w lo hi first from (g ∷ ds) (f ∷ fs) d e un at alone next l si (i, fd, jn, rs) =
-      let gd : g ≡ d = some_is g d at in
+      let gd : g ≡ d = same_Some g d at in
       let ga : g.joined ≡ false = ap (λ (z : Definition). z.joined) gd ∙ alone in
       let v = unit_of n u g in
       let vn : v ≡ n = unjoined_unit n u g ga in

@@ -5,17 +5,19 @@ use Rattle.safl_term.specs.Program.{Program}
 use Rattle.safl_term.specs.Checked.{CheckedProgram, IsChecked}
 use Rattle.safl_tree.specs.Tree.{Definition}
 use Rattle.safl_tree.specs.Printable.{IsFormedProgram}
+use Rattle.safl_tree.proofs.Formed.{formed_at}
 use Rattle.safl_typing.specs.Forms.{Form, IsFormOf, shown_form}
 use Rattle.safl_typing.specs.Laws.{OneForm}
 use Rattle.safl_check.specs.Numbered.{program_in}
+use Rattle.safl_check.specs.Groups.{name_in}
 use Rattle.safl_reshape.specs.declared.error.ReshapeErr.{ReshapeErr}
 use Rattle.safl_reshape.specs.declared.error.ReshapeErr.TheVariants as errors
 use Rattle.safl_reshape.specs.Laws.{IsAlike, Spares, CopyIsAlike, UnfoldingSpares}
 use Rattle.safl_reshape.specs.Limits.{KeepsLimits}
 use Rattle.safl_reshape.specs.Reshaped.{copy_name, copied, copied_as, copied_under, unfolded, is_recursive}
-use Rattle.safl_reshape.specs.Refusals.{MayCopy, name_at, name_for, RefusesCopy, RefusesLimit, MayUnfold, RefusesUnfolding}
+use Rattle.safl_reshape.specs.Refusals.{MayCopy, name_for, RefusesCopy, RefusesLimit, MayUnfold, RefusesUnfolding}
 use Rattle.safl_reshape.proofs.Callees.{copyable}
-use Rattle.safl_reshape.proofs.FormedTrees.{formed_at, copy_named, copy_formed, unfold_formed}
+use Rattle.safl_reshape.proofs.FormedTrees.{copy_named, copy_formed, unfold_formed}
 
 -- each form of the definitions is that of the checked program
 pub any_form : (ds : List Definition) (c : CheckedProgram) → IsFormOf ds (shown_form c) → OneForm → c.program ≡ program_in (shown_form c) →
@@ -46,7 +48,7 @@ good_copy ds c k es formed is ok e law lt may q kept =
     let d = copyable ds c k is ok e may in
     let new = copy_name d.0.name k in
     let p : es ≡ copied_under new ds k j d.0 = q ∙ ap (λ (o : Option Definition). copied_as o ds k j) d.1 in
-    let nf : name_for ds k j ≡ new = ap (λ (o : Option Definition). copy_name (name_at o) k) d.1 in
+    let nf : name_for ds k j ≡ new = ap (λ (o : Option Definition). copy_name (name_in o) k) d.1 in
     let l : length new ≤ 64 = omega (arith, ap (λ (x : List ℕ). length x) nf, may.short) in
     let n : IsName new = copy_named d.0.name k (formed_at ds j d.0 formed.formed d.1).0 lt l in
     let r = law ds (shown_form c) k j d.0 new is d.2 (subst KeepsLimits p kept) in

@@ -1,6 +1,7 @@
 -- Call sites and nodes of expressions, counted part by part.
 use Rattle.std.proofs.Common.{◌≡◌, ℕ, suc, ◌+◌, ◌<◌, List, [], ◌∷◌, length, drop, get_or, refl, sym, ap, ◌∙◌, arith, add-one}
 use Rattle.safl_word.specs.declared.primitive.Primitive.{Primitive}
+use Rattle.safl_word.proofs.Lists.{drop_read}
 use Rattle.safl_tree.specs.declared.tree.Expr.{Expr}
 use Rattle.safl_tree.specs.declared.tree.Bind.{Bind}
 use Rattle.safl_tree.specs.declared.tree.Arm.{Arm}
@@ -16,7 +17,6 @@ use Rattle.safl_reshape.specs.Changed.{sites_in_tree}
 use Rattle.safl_reshape.specs.Counting.{saturated, Adds, nodes_list, nodes_bounds, nodes_labelled}
 use Rattle.safl_reshape.specs.Limits.{site_total}
 use Rattle.safl_reshape.specs.Lists.{sites_list, sites_bounds, sites_labelled}
-use Rattle.safl_reshape.proofs.NextItems.{drop_at}
 use Rattle.safl_reshape.proofs.Listed.{list_sites, bounds_sites, arms_sites}
 
 -- ---- nodes by their lists
@@ -106,15 +106,15 @@ none_left first a all_sites all_nodes l = adds_same first a _ _ _ _ l.counted (o
 
 pub list_nodes_left : (es : List Expr) (i : ℕ) (e : Expr) → i < length es → e ≡ get_or es i e → nodes_list (shown_trees (drop i es)) ≡ nodes
     (rewritten (shown_tree e)) + nodes_list (shown_trees (drop (i + 1) es))
-list_nodes_left es i e lt is = ap (λ (l : List Expr). nodes_list (shown_trees l)) (drop_at es i e lt is)
+list_nodes_left es i e lt is = ap (λ (l : List Expr). nodes_list (shown_trees l)) (drop_read es i e lt is)
 
 pub bounds_nodes_left : (es : List Bind) (i : ℕ) (e : Bind) → i < length es → e ≡ get_or es i e → nodes_bounds (shown_bounds (drop i es)) ≡ nodes
     (rewritten (shown_tree e.value)) + nodes_bounds (shown_bounds (drop (i + 1) es))
-bounds_nodes_left es i e lt is = ap (λ (l : List Bind). nodes_bounds (shown_bounds l)) (drop_at es i e lt is)
+bounds_nodes_left es i e lt is = ap (λ (l : List Bind). nodes_bounds (shown_bounds l)) (drop_read es i e lt is)
 
 pub arms_nodes_left : (es : List Arm) (i : ℕ) (e : Arm) → i < length es → e ≡ get_or es i e → nodes_labelled (shown_labelled (drop i es)) ≡
     (3 + (nodes (rewritten (shown_tree e.label)) + nodes (rewritten (shown_tree e.value)))) + nodes_labelled (shown_labelled (drop (i + 1) es))
-arms_nodes_left es i e lt is = ap (λ (l : List Arm). nodes_labelled (shown_labelled l)) (drop_at es i e lt is)
+arms_nodes_left es i e lt is = ap (λ (l : List Arm). nodes_labelled (shown_labelled l)) (drop_read es i e lt is)
 
 -- ---- definitions
 
@@ -122,10 +122,10 @@ pub total_left : (hs : List Head) (ds : List Def) (n u v : ℕ) (d : Def) → n 
     → site_total hs n u (shown_definitions (drop n ds)) ≡ sites_in_tree (record { heads = hs; unit = v }) (shown_tree d.body) + site_total hs (n + 1) v (shown_definitions (drop (n + 1) ds))
 total_left hs ds n u v d lt is e =
     let rest : List Definition = shown_definitions (drop (n + 1) ds) in
-    ap (λ (l : List Def). site_total hs n u (shown_definitions l)) (drop_at ds n d lt is)
+    ap (λ (l : List Def). site_total hs n u (shown_definitions l)) (drop_read ds n d lt is)
     ∙ (ap (λ (w : ℕ). sites_in_tree (record { heads = hs; unit = w }) (shown_tree d.body) + site_total hs (suc n) w rest) (sym e)
     ∙ ap (λ (m : ℕ). sites_in_tree (record { heads = hs; unit = v }) (shown_tree d.body) + site_total hs m v rest) (sym (add-one n)))
 
 pub defs_nodes_left : (ds : List Def) (n : ℕ) (d : Def) → n < length ds → d ≡ get_or ds n d → nodes_of (shown_definitions (drop n ds)) ≡ nodes
     (rewritten (shown_tree d.body)) + nodes_of (shown_definitions (drop (n + 1) ds))
-defs_nodes_left ds n d lt is = ap (λ (l : List Def). nodes_of (shown_definitions l)) (drop_at ds n d lt is)
+defs_nodes_left ds n d lt is = ap (λ (l : List Def). nodes_of (shown_definitions l)) (drop_read ds n d lt is)

@@ -1,20 +1,18 @@
 -- The sites of an expression are numbered as an interval, in the order of the text.
-use Rattle.std.proofs.Common.{◌≡◌, ℕ, suc, ◌+◌, ◌<◌, List, [], ◌∷◌, ◌++◌, length, Some, Bool, refl, sym, ap, subst, arith, length-append}
+use Rattle.std.proofs.Common.{◌≡◌, ℕ, suc, ◌+◌, ◌<◌, List, [], ◌∷◌, ◌++◌, length, Some, Bool, refl, sym, ap, subst, arith}
 use Rattle.std.specs.Prelude.{slice_get}
+use Rattle.std.proofs.lemmas.List.{length-append as append_length}
 use Rattle.safl_term.specs.declared.checked.Site.{Site}
 use Rattle.safl_term.specs.Terms.{Term, Terms}
 use Rattle.safl_term.specs.Program.{Program}
 use Rattle.safl_typing.specs.Rewriting.{Expression, Number, Sized, Variable, If, Let, Op, Call, Expressions, no_expression, an_expression, Bindings, no_binding, a_binding}
-use Rattle.safl_typing.specs.Heads.{Slot, Known, Callee, Member, Above, Unknown, callee, is_site, sites, sites_in, sites_bound}
-use Rattle.safl_typing.specs.Typing.{Calls, Has, HaveAll, HaveBound}
+use Rattle.safl_typing.specs.Heads.{Slot, Known, callee, sites, sites_in, sites_bound}
+use Rattle.safl_typing.specs.Typing.{Has, HaveAll, HaveBound}
 use Rattle.safl_typing.specs.Forms.{sites_of, sites_of_all}
+use Rattle.safl_typing.proofs.Counts.{called_sites}
+use Rattle.safl_typing.proofs.Spans.{called_length}
 
 -- ---- how many
-
-pub called_sites : (c : Callee) (tail : Bool) (lo m : ℕ) (ws : List ℕ) (us : Terms) (w : ℕ) (t : Term) → Calls c tail lo m ws us w t → m ≡ lo + is_site c
-called_sites (Member i h) tail lo m ws us w t q = omega (arith, q.1)
-called_sites (Above i h) tail lo m ws us w t q = omega (arith, q.0)
-called_sites Unknown tail lo m ws us w t q = absurd q
 
 mutual
   pub has_sites : (k : Known) (s : List Slot) (tail : Bool) (lo hi : ℕ) (e : Expression) (w : ℕ) (t : Term) → Has k s tail lo hi e w t → hi ≡ lo + sites k e
@@ -44,14 +42,6 @@ mutual
       omega (arith, has_sites k s _ lo m e w t he, have_sites_bound k s m hi bs ws ts hs)
 
 -- ---- of which functions
-
-called_length : (g : ℕ) (c : Callee) (tail : Bool) (lo m : ℕ) (ws : List ℕ) (us : Terms) (w : ℕ) (t : Term) → Calls c tail lo m ws us w t → lo + length (sites_of g t) ≡ m + length (sites_of_all g us)
-called_length g (Member i h) tail lo m ws us w t q = omega (arith, ap (λ (z : Term). length (sites_of g z)) q.4, q.1)
-called_length g (Above i h) tail lo m ws us w t q = omega (arith, ap (λ (z : Term). length (sites_of g z)) q.3, q.0)
-called_length g Unknown tail lo m ws us w t q = absurd q
-
-append_length : {A : Type 0} (xs ys : List A) → length (xs ++ ys) ≡ length xs + length ys
-append_length xs ys = length-append xs ys
 
 mutual
   pub has_length : (g : ℕ) (k : Known) (s : List Slot) (tail : Bool) (lo hi : ℕ) (e : Expression) (w : ℕ) (t : Term) → Has k s tail lo hi e w t → hi ≡ lo + length (sites_of g t)

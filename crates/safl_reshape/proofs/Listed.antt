@@ -1,30 +1,13 @@
 -- Changed calls in lists of expressions.
-use Rattle.std.proofs.Common.{◌≡◌, ℕ, ◌+◌, ◌-◌, ◌<◌, List, [], ◌∷◌, ◌++◌, length, Option, refl, ap, ◌∙◌, arith, ⊎_elim}
-use Rattle.std.specs.Prelude.{slice_get, ◌||◌}
-use Rattle.std.proofs.lemmas.Option.{slice_get_cases}
+use Rattle.std.proofs.Common.{◌≡◌, ℕ, ◌+◌, ◌-◌, List, [], ◌∷◌, ◌++◌, refl, ap, ◌∙◌, arith}
+use Rattle.std.specs.Prelude.{◌||◌}
 use Rattle.safl_word.specs.declared.primitive.Primitive.{Primitive}
 use Rattle.safl_tree.specs.Tree as source
 use Rattle.safl_tree.specs.Tree.{Tree, Bound, Labelled, Binds, trees_of, binds_of, arms_of}
 use Rattle.safl_typing.specs.Rewriting.{rewritten_all, rewritten_binds, rewritten_arms}
-use Rattle.safl_typing.specs.declared.heads.Head as code
-use Rattle.safl_typing.specs.declared.heads.Callee as code_callee
-use Rattle.safl_typing.specs.declared.heads.Callee.TheVariants as codes
-use Rattle.safl_typing.specs.Heads.{Head, Known, Callee, callee, is_site, sites, sites_in, sites_bound}
-use Rattle.safl_typing.specs.PlainHeads.{with_number, a_member, an_earlier, shown_callee, site_of, IsOneOf}
+use Rattle.safl_typing.specs.Heads.{Known, callee, is_site, sites, sites_in, sites_bound}
 use Rattle.safl_reshape.specs.Changed.{Change, changed, changed_all, changed_binds, changed_arms, sites_in_tree}
 use Rattle.safl_reshape.specs.Lists.{sites_list, changed_list, sites_bounds, changed_bounds, sites_labelled, changed_labelled}
-
--- ---- sites of callees
-
-site_number : (hs : List code.Head) (n : ℕ) → n < length hs → (is_site (a_member (with_number n (slice_get hs n))) ≡ 0) × (is_site (an_earlier (with_number n (slice_get hs n))) ≡ 1)
-site_number hs n lt = ⊎_elim
-    (λ q. (ap (λ (o : Option code.Head). is_site (a_member (with_number n o))) q.2, ap (λ (o : Option code.Head). is_site (an_earlier (with_number n o))) q.2))
-    (λ q. absurd (omega (arith, q.0, lt))) (slice_get_cases hs n).1
-
-pub site_plain : (hs : List code.Head) (c : code_callee.Callee) → IsOneOf hs c → is_site (shown_callee hs c) ≡ site_of c
-site_plain hs (codes.Member n) h = (site_number hs n h).0
-site_plain hs (codes.Above n) h = (site_number hs n h).1
-site_plain hs codes.Unknown h = refl
 
 -- ---- expressions by their lists
 

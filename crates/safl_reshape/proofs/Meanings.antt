@@ -7,6 +7,7 @@ use Rattle.safl_term.specs.Program.{Program, arity}
 use Rattle.safl_term.specs.Meaning.{Main, main_cost}
 use Rattle.safl_term.specs.WellFormed.{AreWordsOf}
 use Rattle.safl_term.specs.Laws.{OneEvaluation}
+use Rattle.safl_term.proofs.PlainTerms.{words_count}
 use Rattle.safl_typing.specs.Heads.{Slot}
 use Rattle.safl_typing.specs.Forms.{FunctionForm, Form}
 use Rattle.safl_check.specs.Numbered.{of_function, program_in}
@@ -14,12 +15,6 @@ use Rattle.safl_reshape.specs.Executions.{executions}
 use Rattle.safl_reshape.proofs.Alike.{Alike, alike_const}
 use Rattle.safl_reshape.proofs.Runs.{runs, ran}
 use Rattle.safl_reshape.proofs.Functions.{IsKept, AllKept}
-
-words_count : (vs : List Word) (ws : List ℕ) → AreWordsOf vs ws → length vs ≡ length ws
-words_count [] [] h = refl
-words_count [] (w ∷ ws) h = absurd h
-words_count (v ∷ vs) [] h = absurd h
-words_count (v ∷ vs) (w ∷ ws) h = ap (λ (n : ℕ). suc n) (words_count vs ws h.2)
 
 -- each body of C is like that of the same function of B
 abbrev pub AreBodiesAlike : Program → Program → (ℕ → ℕ → Type 0) → (ℕ → Bool) → Type 0

@@ -1,7 +1,7 @@
 -- What has a width and a term has them too where its calls are changed, after other slots, and from another first site on.
-use Rattle.std.proofs.Common.{◌≡◌, ℕ, suc, ◌+◌, List, [], ◌∷◌, ◌++◌, length, Bool, true, false, refl, sym, ap, ◌∙◌, subst, arith}
-use Rattle.std.specs.Prelude.{◌||◌}
+use Rattle.std.proofs.Common.{◌≡◌, ℕ, suc, ◌+◌, List, [], ◌∷◌, ◌++◌, length, Bool, false, refl, sym, ap, ◌∙◌, subst, arith}
 use Rattle.std.proofs.lemmas.List.{append_assoc, length-append}
+use Rattle.std.proofs.lemmas.Bool.{or_parts}
 use Rattle.safl_term.specs.Terms as terms
 use Rattle.safl_term.specs.Terms.{Term, Const, Var, Terms, Nil, Cons}
 use Rattle.safl_term.specs.Program.{Program}
@@ -9,17 +9,14 @@ use Rattle.safl_term.specs.Slots.{count}
 use Rattle.safl_typing.specs.Rewriting.{Expression, Number, Sized, Variable, If, Let, Op, Call, Expressions, no_expression, an_expression, Bindings, no_binding, a_binding, shape}
 use Rattle.safl_typing.specs.Heads.{Slot, Known, Callee, Member, Above, Unknown, callee, is_site, sites, sites_bound}
 use Rattle.safl_typing.specs.Typing.{word, Differ, slots, Calls, Has, HaveAll, HaveBound}
+use Rattle.safl_typing.proofs.Counts.{called_sites}
 use Rattle.safl_reshape.specs.Changed.{calls, calls_in, calls_bound}
 use Rattle.safl_reshape.proofs.Alike.{Alike, alike_const, alike_var, alike_op, alike_if, alike_let, AllAlike, none_alike, more_alike}
 use Rattle.safl_reshape.proofs.Altered.{Alteration, altered, altered_all, altered_bound}
 use Rattle.safl_reshape.proofs.Shapes.{IsRigid, names_same, slots_same, keeps_same, suits_same}
 use Rattle.safl_reshape.proofs.Scopes.{seen_behind}
-use Rattle.safl_reshape.proofs.Intervals.{called_sites, has_sites, have_sites_bound}
+use Rattle.safl_reshape.proofs.Intervals.{has_sites, have_sites_bound}
 use Rattle.safl_reshape.proofs.Sites.{Sites, SitesIn, sites_args}
-
-pub or_none : (x y : Bool) → (x || y) ≡ false → (x ≡ false) × (y ≡ false)
-or_none true y e = absurd cc
-or_none false y e = (refl, e)
 
 -- as many terms as widths
 pub have_count : (k : Known) (s : List Slot) (lo hi : ℕ) (es : Expressions) (ws : List ℕ) (us : Terms) → HaveAll k s lo hi es ws us → count us ≡ length ws
@@ -73,8 +70,8 @@ module _ (C : Program) (same : ℕ → ℕ → Type 0) (at : ℕ → Bool) (k b 
       moved s n tail end lo hi first (Variable p x) w t f m l nc ins (z, i, e, q) from =
           subst (λ (y : Term). Moved s n end from (Variable p x) w y) (sym q) (from, Var (length pre + i), (refl, length pre + i, seen_behind x pre s i w e, refl), alike_var refl)
       moved s n tail end lo hi first (If p c x y) w t f m l nc ins (i, j, tc, tx, ty, hc, hx, hy, q) from =
-          let no1 = or_none (calls test k c) _ nc in
-          let no2 = or_none (calls test k x) _ no1.1 in
+          let no1 = or_parts (calls test k c) _ nc in
+          let no2 = or_parts (calls test k x) _ no1.1 in
           let ec = has_sites k s _ lo i c 1 tc hc in
           let ex = has_sites k s tail i j x w tx hx in
           let si = subst (λ (z : Term). Sites ok z) q ins in
@@ -84,7 +81,7 @@ module _ (C : Program) (same : ℕ → ℕ → Type 0) (at : ℕ → Bool) (k b 
           subst (λ (z : Term). Moved s n end from (altered k a first (If p c x y)) w z) (sym q)
           (ry.0, terms.If rc.1 rx.1 ry.1, (rc.0, rx.0, rc.1, rx.1, ry.1, rc.2, rx.2, ry.2, refl), alike_if rc.3 rx.3 ry.3)
       moved s n tail end lo hi first (Let p bs y) w t f m l nc ins (i, ws, us, ty, d, hs, hy, q) from =
-          let no1 = or_none (calls_bound test k bs) _ nc in
+          let no1 = or_parts (calls_bound test k bs) _ nc in
           let es = have_sites_bound k s lo i bs ws us hs in
           let si = subst (λ (z : Term). Sites ok z) q ins in
           let rs = bound_moved s n lo i first bs ws us f l no1.0 si.0 hs from in
@@ -114,7 +111,7 @@ module _ (C : Program) (same : ℕ → ℕ → Type 0) (at : ℕ → Bool) (k b 
           subst (λ (z : Term). Moved s n end from (altered k a first (Op p o es)) w z) (sym q)
           (rs.0, terms.Op o rs.1, (ws, rs.1, rs.2, suits_same k a r first (shape o) o es ws w su, refl), alike_op rs.3)
       moved s n tail end lo hi first (Call p x es) w t f m l nc ins (i, ws, us, hs, q) from =
-          let no1 = or_none (test (callee k x)) _ nc in
+          let no1 = or_parts (test (callee k x)) _ nc in
           let ec = called_sites (callee k x) tail lo i ws us w t q in
           move s n tail end p x es _ lo i hi ws us w t no1.0 ins m l hs q
           (λ z. all_moved s n i hi (first + is_site (callee k x)) es ws us (omega (arith, ec, f)) l no1.1 (sites_args ok (callee k x) tail lo i ws us w t q ins) hs z) first f from
@@ -126,7 +123,7 @@ module _ (C : Program) (same : ℕ → ℕ → Type 0) (at : ℕ → Bool) (k b 
       all_moved s n lo hi first no_expression (w ∷ ws) us f l nc ins h from = absurd h
       all_moved s n lo hi first (an_expression e es) [] us f l nc ins h from = absurd h
       all_moved s n lo hi first (an_expression e es) (w ∷ ws) us f l nc ins (i, t, ts, he, hs, q) from =
-          let no1 = or_none (calls test k e) _ nc in
+          let no1 = or_parts (calls test k e) _ nc in
           let ee = has_sites k s _ lo i e w t he in
           let si = subst (λ (z : Terms). SitesIn ok z) q ins in
           let re = moved s n false false lo i first e w t f still l no1.0 si.0 he from in
@@ -141,7 +138,7 @@ module _ (C : Program) (same : ℕ → ℕ → Type 0) (at : ℕ → Bool) (k b 
       bound_moved s n lo hi first no_binding (w ∷ ws) us f l nc ins h from = absurd h
       bound_moved s n lo hi first (a_binding p x v e bs) [] us f l nc ins h from = absurd h
       bound_moved s n lo hi first (a_binding p x v e bs) (w ∷ ws) us f l nc ins (i, t, ts, keeps, he, hs, q) from =
-          let no1 = or_none (calls test k e) _ nc in
+          let no1 = or_parts (calls test k e) _ nc in
           let ee = has_sites k s _ lo i e w t he in
           let si = subst (λ (z : Terms). SitesIn ok z) q ins in
           let re = moved s n false false lo i first e w t f still l no1.0 si.0 he from in

@@ -2,6 +2,7 @@
 use Rattle.std.proofs.Common.{◌≡◌, ℕ, zero, suc, ◌+◌, ◌<◌, List, [], ◌∷◌, length, Option, Some, true, refl, sym, ap, ◌∙◌, subst, arith}
 use Rattle.std.specs.Prelude.{slice_get}
 use Rattle.std.specs.Option.{option_map}
+use Rattle.std.proofs.lemmas.Option.{same_Some}
 use Rattle.safl_term.specs.Terms.{Term}
 use Rattle.safl_term.specs.Program.{Program}
 use Rattle.safl_term.specs.declared.checked.Site.{Site}
@@ -10,7 +11,6 @@ use Rattle.safl_typing.specs.Rewriting.{rewritten}
 use Rattle.safl_typing.specs.Heads.{Slot, Head, unit_of, params_of, head_of, heads_from, heads}
 use Rattle.safl_typing.specs.Typing.{Differ, widths_of, Has}
 use Rattle.safl_typing.specs.Forms.{FunctionForm, Form, sites_of, all_sites, function_names, IsFunctionOf, AreFunctionsOf, IsFormOf}
-use Rattle.safl_typing.proofs.Names.{some_is}
 use Rattle.safl_check.specs.Numbered.{of_site, main_in, program_in}
 use Rattle.safl_reshape.proofs.Calls.{IsProgramOf, sees}
 use Rattle.safl_reshape.proofs.Intervals.{Noted, noted_parts, noted_from, has_length}
@@ -45,7 +45,7 @@ stands_at C all n u w lo hi (d ∷ ds) (f ∷ fs) zero h (m, is, j, rest) noted 
       end = m;
       defined = refl;
       stands = refl;
-      head = sym (some_is _ h e);
+      head = sym (same_Some _ h e);
       is = is;
       noted = subst (λ (g : ℕ). Noted C lo (sites_of g f.body)) z p.0;
     }
@@ -80,10 +80,6 @@ heads_names n u (d ∷ ds) (suc i) h e = heads_names (suc n) (unit_of n u d) ds 
 
 pub heads_differ : (ds : List Definition) → Differ (function_names ds) → NamesDiffer (heads ds)
 heads_differ ds d i j g h p q e = d i j h.name (heads_names 0 0 ds i g p ∙ ap (λ (x : List ℕ). Some x) e) (heads_names 0 0 ds j h q)
-
-pub widths_length : (ps : List Slot) → length (widths_of ps) ≡ length ps
-widths_length [] = refl
-widths_length (p ∷ ps) = ap (λ (n : ℕ). suc n) (widths_length ps)
 
 module _ (ds : List Definition) (c : Form) (is : IsFormOf ds c) where
   noted : Noted (program_in c) 1 (all_sites 0 c.functions)
@@ -128,7 +124,7 @@ module _ (ds : List Definition) (c : Form) (is : IsFormOf ds c) where
   function_sites i f e =
       let q = function_head (heads ds) 0 0 0 1 (suc is.last_site) ds c.functions i f is.functions e in
       let s = here i q.0 q.1 in
-      let r : s.function ≡ f = some_is s.function f (sym s.stands ∙ e) in
+      let r : s.function ≡ f = same_Some s.function f (sym s.stands ∙ e) in
       subst (λ (t : Term). Sites (IsSiteIn (program_in c) i) t) (body_is i q.0 s ∙ ap (λ (z : FunctionForm). z.body) r) (body_sites i q.0 s)
 
 -- the main function is the last one

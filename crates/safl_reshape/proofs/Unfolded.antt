@@ -1,6 +1,7 @@
 -- The form of a program in which the call of one site is replaced by the body of its callee, and what it gives.
 use Rattle.std.proofs.Common.{◌≡◌, ℕ, zero, suc, ◌+◌, ◌-◌, ◌≤◌, List, [], ◌∷◌, length, Option, Some, None, Bool, true, false, cond, refl, sym, ap, ◌∙◌, subst, arith}
 use Rattle.std.specs.Prelude.{slice_get, ◌==◌, codes}
+use Rattle.std.proofs.lemmas.Option.{same_Some}
 use Rattle.safl_term.specs.Program.{Program, arity}
 use Rattle.safl_word.specs.Limits.{bindings_max, params_max}
 use Rattle.safl_term.specs.Laws.{OneEvaluation}
@@ -9,8 +10,8 @@ use Rattle.safl_typing.specs.Rewriting.{Expression, Call, Expressions, no_expres
 use Rattle.safl_typing.specs.Heads.{Head, Member, Above, Unknown, unit_of, params_of, head_of, heads_from, heads}
 use Rattle.safl_typing.specs.Typing.{Differ, names}
 use Rattle.safl_typing.specs.Forms.{FunctionForm, Form, HasShortLets, HaveShortLets, HaveShortBound, all_sites, IsLast, function_names, AreFunctionsOf, IsFormOf}
+use Rattle.safl_typing.proofs.Walks.{functions_rise}
 use Rattle.safl_reshape.proofs.Intervals.{has_sites}
-use Rattle.safl_typing.proofs.Names.{some_is}
 use Rattle.safl_check.specs.Numbered.{program_in}
 use Rattle.safl_reshape.specs.Changed.{Change, changed_definitions}
 use Rattle.safl_reshape.specs.Reshaped.{unfolding_call, unfolded, is_recursive}
@@ -52,13 +53,6 @@ site_sum all n u w lo hi (d ∷ ds) [] h = absurd h
 site_sum all n u w lo hi (d ∷ ds) (f ∷ fs) (m, is, j, rest) =
     omega (arith, has_sites (sees all (unit_of n u d)) (params_of d) true lo m (rewritten d.body) d.width f.body is.body, site_sum all (suc n) (unit_of n u d) d.width m hi ds fs rest)
 
-pub functions_rise : (all : List Head) (n u w lo hi : ℕ) (ds : List Definition) (fs : List FunctionForm) → AreFunctionsOf all n u w lo hi ds fs → lo ≤ hi
-functions_rise all n u w lo hi [] [] h = omega (arith, h)
-functions_rise all n u w lo hi [] (f ∷ fs) h = absurd h
-functions_rise all n u w lo hi (d ∷ ds) [] h = absurd h
-functions_rise all n u w lo hi (d ∷ ds) (f ∷ fs) (m, is, j, rest) =
-    omega (arith, functions_rise all (suc n) (unit_of n u d) d.width m hi ds fs rest, has_sites (sees all (unit_of n u d)) (params_of d) true lo m (rewritten d.body) d.width f.body is.body)
-
 -- a definition has few parameters, and short lets
 pub record IsShortDefinition (d : Definition) : Type 0 where
   pub params : length d.params ≤ params_max
@@ -68,7 +62,7 @@ pub short_at : (all : List Head) (n u w lo hi : ℕ) (ds : List Definition) (fs 
     lo hi ds fs → slice_get ds i ≡ Some d → IsShortDefinition d
 short_at all n u w lo hi [] fs i d h e = absurd cc
 short_at all n u w lo hi (x ∷ ds) [] i d h e = absurd h
-short_at all n u w lo hi (x ∷ ds) (f ∷ fs) zero d (m, is, j, rest) e = subst IsShortDefinition (some_is x d e) (record { params = is.few_params; lets = is.short_lets })
+short_at all n u w lo hi (x ∷ ds) (f ∷ fs) zero d (m, is, j, rest) e = subst IsShortDefinition (same_Some x d e) (record { params = is.few_params; lets = is.short_lets })
 short_at all n u w lo hi (x ∷ ds) (f ∷ fs) (suc i) d (m, is, j, rest) e = short_at all (suc n) (unit_of n u x) x.width m hi ds fs i d rest e
 
 few_names : (ps : List Parameter) (es : Expressions) → length (names (params_bound ps es)) ≤ length ps

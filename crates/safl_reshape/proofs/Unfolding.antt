@@ -12,6 +12,7 @@ use Rattle.safl_typing.specs.Rewriting.{Expression, Call, Expressions, flexible,
 use Rattle.safl_typing.specs.Heads.{Slot, Head, Callee, Member, Above, Unknown, callee, heads}
 use Rattle.safl_typing.specs.Typing.{widths_of, Calls, HaveAll}
 use Rattle.safl_typing.specs.Forms.{Form, IsFormOf}
+use Rattle.safl_typing.proofs.Complete.{length_widths}
 use Rattle.safl_check.specs.Numbered.{program_in}
 use Rattle.safl_reshape.specs.Changed.{is_member, calls}
 use Rattle.safl_reshape.specs.Reshaped.{bound_params, body_under, unfolded_as, unfolding_call, calls_group, is_recursive}
@@ -23,7 +24,7 @@ use Rattle.safl_reshape.proofs.Lookups.{IsCallee, is_callee}
 use Rattle.safl_reshape.proofs.Moves.{MovedIn, AllMovedIn, CallsMove, have_count}
 use Rattle.safl_reshape.proofs.Calls.{sees, is_same, stays_member, stays_above}
 use Rattle.safl_reshape.proofs.Unfolds.{params_bound, under, unfolded_expression, slots_of, IsBodyOf, call_unfolded}
-use Rattle.safl_reshape.proofs.Standing.{Here, here, is_program, body_has, body_sites, widths_length}
+use Rattle.safl_reshape.proofs.Standing.{Here, here, is_program, body_has, body_sites}
 use Rattle.safl_reshape.proofs.Functions.{same_tail}
 
 -- ---- the change of calls, rewritten
@@ -127,7 +128,7 @@ module _ (ds : List Definition) (c : Form) (is : IsFormOf ds c) (k : ℕ) (alone
         let hp : h.params ≡ slots_of st.def.params = ap (λ (z : Head). z.params) st.head in
         let hw : st.def.width ≡ w = sym (ap (λ (z : Head). z.width) st.head) ∙ eh in
         let wp : ws ≡ widths_of (slots_of st.def.params) = ew ∙ ap (λ (z : List Slot). widths_of z) hp in
-        let cn : count us ≡ length (slots_of st.def.params) = ar ∙ (ap (λ (z : List ℕ). length z) wp ∙ widths_length (slots_of st.def.params)) in
+        let cn : count us ≡ length (slots_of st.def.params) = ar ∙ (ap (λ (z : List ℕ). length z) wp ∙ length_widths (slots_of st.def.params)) in
         let on : at lo ≡ true = eq-eqb lo k e in
         let r = call_unfolded C at (heads ds) st.unit (v + 0) (is_program ds c is) lt i st.def.width (rewritten st.def.body) st.def.params
         (body_of i h st ic.0.head (ap C.callee (sym e) ∙ sc)) [] s end from p fs lo us w on hw

@@ -9,15 +9,12 @@ use Rattle.safl_tree.specs.Printable.{AllKeepLevels}
 use Rattle.safl_typing.specs.Heads.{heads}
 use Rattle.safl_typing.specs.Forms.{Form, nodes_of, function_names, IsFormOf}
 use Rattle.safl_check.specs.Numbered.{program_in}
+use Rattle.safl_check.specs.Groups.{name_in}
 use Rattle.safl_reshape.specs.declared.error.ReshapeErr.{ReshapeErr}
 use Rattle.safl_reshape.specs.declared.error.ReshapeErr.TheVariants as errors
 use Rattle.safl_reshape.specs.Laws.{IsAlike, Spares}
 use Rattle.safl_reshape.specs.Limits.{site_total, KeepsLimits}
 use Rattle.safl_reshape.specs.Reshaped.{copy_name, copied, unfolded, is_recursive}
-
--- the definitions are a program with a form
-abbrev pub HasForm : List Definition → Type 0
-HasForm ds = (c : Form) × IsFormOf ds c
 
 pub record HasSite (C : Program) (k : ℕ) : Type 0 where
   pub from : 1 ≤ k
@@ -31,13 +28,9 @@ joined_at (Some d) = d.joined
 abbrev pub is_grouped : List Definition → ℕ → Bool
 is_grouped ds j = joined_at (slice_get ds j) || joined_at (slice_get ds (suc j))
 
-abbrev pub name_at : Option Definition → List ℕ
-name_at None = []
-name_at (Some d) = d.name
-
 -- the name of the copy of function j for site k
 abbrev pub name_for : List Definition → ℕ → ℕ → List ℕ
-name_for ds k j = copy_name (name_at (slice_get ds j)) k
+name_for ds k j = copy_name (name_in (slice_get ds j)) k
 
 abbrev pub is_taken : List Definition → List ℕ → Bool
 is_taken ds x = list_any (bytes_eq x) (function_names ds)

@@ -4,7 +4,8 @@ ghost use Rattle.std.specs.Prelude.{IfOk, IfErr};
 ghost use Rattle.safl_tree.specs.Shown.{shown_program};
 ghost use Rattle.safl_tree.specs.Printable.{IsPrintable};
 ghost use Rattle.safl_typing.specs.Forms.{IsFormOf, shown_form};
-ghost use Rattle.safl_reshape.specs.Refusals.{HasForm, CopyRefused, IsCopied, GivesAlike, UnfoldingRefused, IsUnfolded, GivesSparing};
+ghost use Rattle.safl_reshape.specs.Refusals.{CopyRefused, IsCopied, GivesAlike, UnfoldingRefused, IsUnfolded, GivesSparing};
+ghost use Rattle.safl_typing.specs.Forms.{HasForm};
 
 use crate::copy::copied_defs;
 use crate::error::ReshapeErr;

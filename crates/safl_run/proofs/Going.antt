@@ -1,11 +1,11 @@
 -- Calls that go on.
-use Rattle.std.proofs.Common.{◌≡◌, ℕ, ◌+◌, List, [], ◌∷◌, ◌++◌, map, length, slice_index, refl, sym, ap, subst, ◌∙◌, arith, inl, inr, codes}
+use Rattle.std.proofs.Common.{◌≡◌, ℕ, List, [], ◌∷◌, ◌++◌, map, length, slice_index, refl, sym, ap, subst, ◌∙◌, inl, inr, codes}
 use Rattle.safl_word.specs.Words.{Word}
+use Rattle.safl_word.proofs.Lists.{get_pushed}
 use Rattle.safl_net.specs.Netlist.{Netlist}
 use Rattle.safl_net.specs.Runs.{GoesOn, start_number, input_numbers}
 use Rattle.safl_net.specs.Valuations.{Valuation, Fits, next_state, read_output}
 use Rattle.safl_net.specs.Whole.{IsWhole}
-use Rattle.safl_net.proofs.Naming.{pushed}
 use Rattle.safl_net.specs.Arguments.{AreArguments}
 use Rattle.safl_sim.specs.Places.{AreInputs, HasWords}
 use Rattle.safl_sim.specs.Simulation.{Simulation, Ticks}
@@ -28,10 +28,6 @@ after_more : (n : Netlist) (state : ℕ → ℕ) (vs : List Valuation) (v : Valu
 after_more n state [] v s = refl
 after_more n state (u ∷ vs) v s = after_more n (next_state n u) vs v s
 
-pub long_more : (vs : List Valuation) (v : Valuation) → length (vs ++ v ∷ []) ≡ length vs + 1
-long_more [] v = omega arith
-long_more (u ∷ vs) v = let e = long_more vs v in omega (arith, e)
-
 -- the words of the cycles of a call
 module _ (n : Netlist) (args : List Word) (whole : IsWhole n) (are : AreArguments n args) where
   abbrev pub Given : ℕ → Valuation → Type 0
@@ -47,7 +43,7 @@ module _ (n : Netlist) (args : List Word) (whole : IsWhole n) (are : AreArgument
       let r = call.run in
       record {
         run = (r.0, r.1, r.2, goes_more n (next_state n u) now us v r.3 e f h.0);
-        zeros = λ c x q. elim (pushed us v x c q) [
+        zeros = λ c x q. elim (get_pushed us v x c q) [
           | inl a ↦ call.zeros c x a
           | inr a ↦ subst (λ y. input_numbers n.signals y ≡ map (λ (w : Word). 0) args) (sym a.1) (h.1 ∙ zero_bits args)
         ];
@@ -59,7 +55,7 @@ module _ (n : Netlist) (args : List Word) (whole : IsWhole n) (are : AreArgument
       → IsGoing n state args (vs ++ v ∷ []) after
   going_more state now after vs v g f w off e = record {
     call = call_more state now vs v g.call g.after f w;
-    not_done = λ c u q. elim (pushed vs v u c q) [ inl a ↦ g.not_done c u a | inr a ↦ subst (λ y. read_output n y (codes "done") ≡ 0) (sym a.1) off ];
+    not_done = λ c u q. elim (get_pushed vs v u c q) [ inl a ↦ g.not_done c u a | inr a ↦ subst (λ y. read_output n y (codes "done") ≡ 0) (sym a.1) off ];
     after = λ s. e s ∙ sym (after_more n state vs v s);
   }
 

@@ -1,8 +1,9 @@
 -- A harness keeps what its net needs, and its words are those of a call.
 use Rattle.std.proofs.Common.{◌≡◌, ◌+◌, List, ◌∷◌, ◌++◌, map, length, take, drop, Some, is_some, slice_get, sym, ap, subst, ◌∙◌, arith, codes}
 use Rattle.std.specs.Vec.{with_items}
-use Rattle.std.proofs.lemmas.List.{with_items_is, length-take-le, length-drop}
+use Rattle.std.proofs.lemmas.List.{with_items_is, length-take-le, length-drop, length-append}
 use Rattle.safl_word.specs.Words.{Word}
+use Rattle.safl_word.proofs.Lists.{get_seam}
 use Rattle.safl_net.specs.Netlist.{Netlist, output_place, width_of}
 use Rattle.safl_net.specs.Making.{found}
 use Rattle.safl_net.specs.Rules.{IsNetlist}
@@ -15,7 +16,6 @@ use Rattle.safl_sim.proofs.Names.{found_output, output_known}
 use Rattle.safl_run.specs.declared.harness.Harness.{Harness}
 use Rattle.safl_run.specs.Rooms.{IsRoom}
 use Rattle.safl_run.specs.Runners.{IsHarness}
-use Rattle.safl_run.proofs.ListsOfWords.{list_long, at_seam}
 
 -- what a new harness keeps
 pub is_harness : (n : Netlist) (h : Harness) → IsWhole n → IsNetlist n → IsRoom n h.room → Some h.done.0 ≡ found n (codes "done") → Some h.result.0 ≡ found n (codes "result") → IsHarness n h
@@ -40,7 +40,7 @@ module _ (n : Netlist) (h : Harness) (kept : IsHarness n h) (args : List Word) (
   put_long : length words ≡ length args + 1
   put_long =
       let within = kept.is_room.within args are in
-      let a = ap length put ∙ list_long (take h.room.start args) (bit_word 1 ∷ drop h.room.start args) in
+      let a = ap length put ∙ length-append (take h.room.start args) (bit_word 1 ∷ drop h.room.start args) in
       let b = length-take-le h.room.start args within in
       let d = length-drop h.room.start args in
       omega (arith, within, a, b, d)
@@ -65,7 +65,7 @@ module _ (n : Netlist) (h : Harness) (kept : IsHarness n h) (args : List Word) (
   room_again = record {
     one =
         ap (λ l. slice_get l h.room.start) (held ∙ put)
-        ∙ at_seam (take h.room.start args) (bit_word 1) (drop h.room.start args) h.room.start (length-take-le h.room.start args (kept.is_room.within args are));
+        ∙ get_seam (take h.room.start args) (bit_word 1) (drop h.room.start args) h.room.start (length-take-le h.room.start args (kept.is_room.within args are));
     within = kept.is_room.within;
     long = λ others o.
         let a = ap length held ∙ put_long in

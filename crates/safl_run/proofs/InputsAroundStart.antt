@@ -1,13 +1,14 @@
 -- The words of the inputs, round the place of `start`.
 use Rattle.std.proofs.Common.{◌≡◌, ℕ, zero, suc, ◌+◌, ◌-◌, ◌<◌, ◌≤◌, List, [], ◌∷◌, ◌++◌, map, length, take, drop, Bool, true, false, cond, Some}
-use Rattle.std.proofs.Common.{slice_get, slice_set, refl, sym, ap, subst, ◌∙◌, arith, codes, append_assoc, Vec, Global}
+use Rattle.std.proofs.Common.{slice_get, refl, sym, ap, subst, ◌∙◌, arith, codes, append_assoc, Vec, Global}
 use Rattle.std.specs.Option.{option_or}
 use Rattle.std.specs.Vec.{with_item}
-use Rattle.std.proofs.lemmas.List.{append-nil, length-set, length-drop, length-take-le, take_at, drop_all}
+use Rattle.std.proofs.lemmas.List.{append-nil, length-set, length-drop, length-take-le, take_at, drop_all, length-append, take_all}
 use borrow.Rule.Slice.PartMut.{put_mid}
 use Rattle.std.proofs.lemmas.Nat.{pow_pos}
 use Rattle.std.proofs.lemmas.Slice.Eq.{bytes_eq-Decides}
 use Rattle.safl_word.specs.Words.{Word, IsWord}
+use Rattle.safl_word.proofs.Lists.{get_some, slice_set_here, take_next}
 use Rattle.safl_net.specs.Netlist.{Netlist, Signal, Kind, Input, Reg, Wire, width_in, width_of, output_place}
 use Rattle.safl_net.specs.Making.{found, kind_at, kind_in}
 use Rattle.safl_net.specs.Rules.{IsNetlist}
@@ -18,7 +19,6 @@ use Rattle.safl_sim.specs.Words.{own_word, others, is_start, input_words, zero_o
 use Rattle.safl_sim.proofs.Giving.{widths}
 use Rattle.safl_sim.proofs.Names.{place_at}
 use Rattle.safl_run.specs.Rooms.{IsRoom, own_zero, zeros_of}
-use Rattle.safl_run.proofs.ListsOfWords.{list_long}
 
 -- the signal of this number alone is named `start`; it is an input of one bit
 record OneStart (gs : List Signal) (s : ℕ) : Type 0 where
@@ -148,12 +148,6 @@ unfolding zero_args
 zero_args_widths [] = refl
 zero_args_widths (w ∷ ws) = ap (λ l. w ∷ l) (zero_args_widths ws)
 
--- what is written at an index
-set_here : (xs : List Word) (i : ℕ) (w : Word) → i < length xs → slice_get (slice_set xs i w) i ≡ Some w
-set_here [] i w h = absurd (omega (arith, h))
-set_here (x ∷ xs) zero w h = refl
-set_here (x ∷ xs) (suc i) w h = set_here xs i w (omega (arith, h))
-
 pub start_found : (n : Netlist) (whole : IsWhole n) (s : ℕ) → Some s ≡ found n (codes "start") → s ≡ whole.start.signal
 start_found n whole s e = let q : Some s ≡ Some whole.start.signal = e ∙ ap (λ o. option_or o (output_place n.outputs (codes "start"))) whole.start.at in cc
 
@@ -193,28 +187,17 @@ module _ (n : Netlist) (made : IsNetlist n) (whole : IsWhole n) where
   pub is_room : (k : ℕ) (first later : Vec Word Global) (w : Word) → k ≡ place → first.items ≡ zeros_of n.signals → later.items ≡ zeros_of n.signals →
       w ≡ bit_word 1 → IsRoom n (record { first = with_item first k w; later = later; start = k })
   is_room k first later w here f l one = record {
-    one = set_here first.items k w (let a = place_inside in let b = ap length f in omega (arith, a, b, here)) ∙ ap Some one;
+    one = slice_set_here first.items k w (let a = place_inside in let b = ap length f in omega (arith, a, b, here)) ∙ ap Some one;
     within = λ args are. subst (λ x. x ≤ length args) (sym here) (place_within args are);
     long = λ args are. length-set first.items k w ∙ ap length f ∙ zeros_long args are;
     words = λ args are. words_placed (bit_word 1) args are ∙ ap (λ x. take x args ++ bit_word 1 ∷ drop x args) (sym here);
     later = λ args are. l ∙ later_words args are;
   }
 
--- one signal more
-take_more : (gs : List Signal) (i : ℕ) (g : Signal) → slice_get gs i ≡ Some g → take (i + 1) gs ≡ take i gs ++ g ∷ []
-take_more [] i g e = absurd (cc)
-take_more (h ∷ gs) zero g e = let q : h ≡ g = cc in ap (λ x. x ∷ []) q
-take_more (h ∷ gs) (suc i) g e = ap (λ k. take k (h ∷ gs)) (let z : suc i + 1 ≡ suc (i + 1) = omega arith in z) ∙ ap (λ l. h ∷ l) (take_more gs i g e)
-
 zeros_append : (gs hs : List Signal) → zeros_of (gs ++ hs) ≡ zeros_of gs ++ zeros_of hs
 unfolding zeros_of
 zeros_append [] hs = refl
 zeros_append (g ∷ gs) hs = ap (λ l. own_zero g.kind g.width ++ l) (zeros_append gs hs) ∙ sym (append_assoc (own_zero g.kind g.width) (zeros_of gs) (zeros_of hs))
-
-get_some : (gs : List Signal) (s : ℕ) → s < length gs → (g : Signal) × (slice_get gs s ≡ Some g)
-get_some [] s h = absurd (omega arith)
-get_some (g ∷ gs) zero h = (g, refl)
-get_some (g ∷ gs) (suc s) h = get_some gs s (omega (arith, h))
 
 zeros_last : (gs : List Signal) (g : Signal) → zeros_of (gs ++ g ∷ []) ≡ zeros_of gs ++ own_zero g.kind g.width
 unfolding zeros_of
@@ -223,18 +206,12 @@ zeros_last gs g = zeros_append gs (g ∷ []) ∙ ap (λ l. zeros_of gs ++ l) (ap
 pub zeros_more : (n : Netlist) (i : ℕ) → i < length n.signals → zeros_of (take (i + 1) n.signals) ≡ zeros_of (take i n.signals) ++ own_zero (kind_at n i) (width_of n i)
 zeros_more n i h =
     let s = get_some n.signals i h in
-    ap zeros_of (take_more n.signals i s.0 s.1)
+    ap zeros_of (take_next n.signals i s.0 s.1)
     ∙ zeros_last (take i n.signals) s.0
     ∙ ap (λ o. zeros_of (take i n.signals) ++ own_zero (kind_in o) (width_in o)) (sym s.1)
 
-take_full : (gs : List Signal) (i : ℕ) → length gs ≤ i → take i gs ≡ gs
-take_full [] zero h = refl
-take_full [] (suc i) h = refl
-take_full (g ∷ gs) zero h = absurd (omega (arith, h))
-take_full (g ∷ gs) (suc i) h = ap (λ l. g ∷ l) (take_full gs i (omega (arith, h)))
-
 pub zeros_full : (n : Netlist) (i : ℕ) → length n.signals ≤ i → zeros_of (take i n.signals) ≡ zeros_of n.signals
-zeros_full n i h = ap zeros_of (take_full n.signals i h)
+zeros_full n i h = ap zeros_of (take_all i n.signals h)
 
 pub zeros_none : (n : Netlist) → zeros_of (take 0 n.signals) ≡ []
 unfolding zeros_of
@@ -254,7 +231,7 @@ split_at (x ∷ xs) zero w e = (xs, (let q : x ≡ w = cc in ap (λ y. y ∷ xs)
 split_at (x ∷ xs) (suc p) w e = split_at xs p w e
 
 seam : (xs : List Word) (w : Word) (rest : List Word) (k : ℕ) → length xs ≡ k → take (k + 1) (xs ++ w ∷ rest) ≡ xs ++ w ∷ []
-seam xs w rest k e = ap (take (k + 1)) (sym (append_assoc xs (w ∷ []) rest)) ∙ take_at (xs ++ w ∷ []) rest (k + 1) (list_long xs (w ∷ []) ∙ ap (λ j. j + 1) e)
+seam xs w rest k e = ap (take (k + 1)) (sym (append_assoc xs (w ∷ []) rest)) ∙ take_at (xs ++ w ∷ []) rest (k + 1) (length-append xs (w ∷ []) ∙ ap (λ j. j + 1) e)
 
 pub put_round : (words args first last : List Word) (p : ℕ) (w : Word) → p ≤ length args → slice_get words p ≡ Some w → first ≡ take p args → last ≡ drop p args
     → put_mid (p + 1) (length (first ++ drop p words) - (p + 1)) (first ++ drop p words) last ≡ take p args ++ w ∷ drop p args

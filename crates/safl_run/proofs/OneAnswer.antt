@@ -1,51 +1,33 @@
 -- A net without loops has one answer to a call.
 use Rattle.std.proofs.Common.{◌≡◌, ◌⊎◌, ℕ, zero, suc, ◌+◌, ◌<◌, ◌^◌, List, [], ◌∷◌, ◌++◌, length, Option, Some, None, slice_get, slice_index, refl, sym, ap, subst, ◌∙◌, arith, inl, inr, codes}
+use Rattle.std.proofs.lemmas.List.{length-append, length_push}
 use Rattle.safl_word.specs.Words.{Word, AreWords}
+use Rattle.safl_word.proofs.Lists.{get_front, get_pushed, get_seam, get_some}
+use Rattle.safl_word.proofs.Naturals.{lower_same_higher}
 use Rattle.safl_net.specs.Laws.{FitWidths}
 use Rattle.safl_net.specs.Netlist.{Netlist, Signal, width_in, width_of}
 use Rattle.safl_net.specs.Rules.{IsNetlist}
 use Rattle.safl_net.specs.Runs.{RunFrom, GoesOn}
 use Rattle.safl_net.specs.Valuations.{Valuation, Fits, IsAcyclic, next_state, number_at, read_output, reset_state}
 use Rattle.safl_net.specs.Whole.{IsWhole}
-use Rattle.safl_net.proofs.Naming.{pushed}
 use Rattle.safl_net.specs.Arguments.{AreArguments}
+use Rattle.safl_net.proofs.Kinds.{reset_at}
 use Rattle.safl_sim.specs.Outcomes.{IsCallRun, IsOutcome, output_word}
 use Rattle.safl_sim.specs.Places.{resets}
 use Rattle.safl_sim.specs.declared.done.Done.{Done}
-use Rattle.safl_sim.proofs.Existence.{call_exists, next_fits, reset_at}
+use Rattle.safl_sim.proofs.Existence.{call_exists, next_fits}
 use Rattle.safl_sim.proofs.Going.{fits_along}
 use Rattle.safl_sim.proofs.OneCall.{same_at, only_run}
 use Rattle.safl_run.specs.Calls.{Answers, Replies, IsSilent}
 use Rattle.safl_run.specs.Laws.{AnswersExist, AnswersOnce, AnswersAreOutcomes}
-use Rattle.safl_run.proofs.Going.{long_more}
 
 -- ---- lists of cycles
-
-pub at_end : (vs : List Valuation) (v : Valuation) (rest : List Valuation) (c : ℕ) → length vs ≡ c → slice_get (vs ++ v ∷ rest) c ≡ Some v
-at_end [] v rest zero e = refl
-at_end [] v rest (suc c) e = absurd (omega (arith, e))
-at_end (u ∷ vs) v rest zero e = absurd (omega (arith, e))
-at_end (u ∷ vs) v rest (suc c) e = at_end vs v rest c (omega (arith, e))
-
-in_front : (us vs : List Valuation) (c : ℕ) (v : Valuation) → slice_get us c ≡ Some v → slice_get (us ++ vs) c ≡ Some v
-in_front [] vs c v e = absurd (cc)
-in_front (u ∷ us) vs zero v e = e
-in_front (u ∷ us) vs (suc c) v e = in_front us vs c v e
 
 longer : (us : List Valuation) (v : Valuation) (vs : List Valuation) (c : ℕ) (x : Valuation) → slice_get (us ++ v ∷ []) c ≡ Some x → slice_get (us ++ v ∷ vs) c ≡ Some x
 longer [] v vs zero x e = e
 longer [] v vs (suc c) x e = absurd (cc)
 longer (u ∷ us) v vs zero x e = e
 longer (u ∷ us) v vs (suc c) x e = longer us v vs c x e
-
-append_long : (us vs : List Valuation) → length (us ++ vs) ≡ length us + length vs
-append_long [] vs = omega arith
-append_long (u ∷ us) vs = let e = append_long us vs in omega (arith, e)
-
-get_below : (vs : List Valuation) (c : ℕ) → c < length vs → (v : Valuation) × (slice_get vs c ≡ Some v)
-get_below [] c h = absurd (omega arith)
-get_below (v ∷ vs) zero h = (v, refl)
-get_below (v ∷ vs) (suc c) h = get_below vs c (omega (arith, h))
 
 -- ---- the first cycle in which `done` is 1
 
@@ -117,7 +99,7 @@ module _ (n : Netlist) where
       omega (arith, at, small, two)
 
   pub last_fits : (state : ℕ → ℕ) (args : List Word) (vs : List Valuation) (v : Valuation) → IsCallRun n state args (vs ++ v ∷ []) → (other : ℕ → ℕ) × Fits n other v
-  last_fits state args vs v call = fits_at state _ (vs ++ v ∷ []) call.run (length vs) v (at_end vs v [] (length vs) refl)
+  last_fits state args vs v call = fits_at state _ (vs ++ v ∷ []) call.run (length vs) v (get_seam vs v [] (length vs) refl)
 
   -- the state after a reply is of the widths
   pub after_fits : IsNetlist n → (limit : ℕ) (state after : ℕ → ℕ) (args : List Word) (r : Done) → Replies n limit state args r after → FitWidths n after
@@ -135,7 +117,7 @@ module _ (n : Netlist) (made : IsNetlist n) (whole : IsWhole n) (acyclic : IsAcy
   answered_by vs call long (inl off) = (None, state, record { cycles = vs; call = call; long = long; not_done = λ c v h e. off c v e }, fit)
   answered_by vs call long (inr s) =
       let c : IsCallRun n state args (s.before ++ s.last ∷ s.rest) = subst (λ l. IsCallRun n state args l) s.is call in
-      let a = ap length s.is ∙ append_long s.before (s.last ∷ s.rest) in
+      let a = ap length s.is ∙ length-append s.before (s.last ∷ s.rest) in
       let d : Done = record { cycle = length s.before; result = output_word n s.last (codes "result") } in
       let r : Replies n limit state args d (next_state n s.last) = record {
         in_time = omega (arith, a, long);
@@ -165,7 +147,7 @@ module _ (n : Netlist) (made : IsNetlist n) (whole : IsWhole n) (acyclic : IsAcy
   never : (r : Done) (after : ℕ → ℕ) → Replies n limit state args r after → (vs : List Valuation) → IsCallRun n state args vs → (v : Valuation) →
       slice_get vs r.cycle ≡ Some v → read_output n v (codes "done") ≡ 0 → ⊥
   never r after p vs call v at off =
-      let same : v ≡ p.last = same_at n made whole acyclic state args (p.before ++ p.last ∷ []) vs p.call call r.cycle p.last v (at_end p.before p.last [] r.cycle p.long) at in
+      let same : v ≡ p.last = same_at n made whole acyclic state args (p.before ++ p.last ∷ []) vs p.call call r.cycle p.last v (get_seam p.before p.last [] r.cycle p.long) at in
       let zero_then : read_output n p.last (codes "done") ≡ 0 = subst (λ w. read_output n w (codes "done") ≡ 0) same off in
       let one_then = p.done in
       cc
@@ -173,34 +155,28 @@ module _ (n : Netlist) (made : IsNetlist n) (whole : IsWhole n) (acyclic : IsAcy
   not_sooner : (r q : Done) (x y : ℕ → ℕ) → Replies n limit state args r x → Replies n limit state args q y → r.cycle < q.cycle → ⊥
   not_sooner r q x y p s lt =
       let long = s.long in
-      let b = get_below s.before r.cycle (omega (arith, lt, long)) in
-      never r x p (s.before ++ s.last ∷ []) s.call b.0 (in_front s.before (s.last ∷ []) r.cycle b.0 b.1) (s.not_done r.cycle b.0 lt b.1)
+      let b = get_some s.before r.cycle (omega (arith, lt, long)) in
+      never r x p (s.before ++ s.last ∷ []) s.call b.0 (get_front s.before (s.last ∷ []) r.cycle b.0 b.1) (s.not_done r.cycle b.0 lt b.1)
 
   not_silent : (r : Done) (after : ℕ → ℕ) → Replies n limit state args r after → IsSilent n limit state args → ⊥
   not_silent r after p s =
       let long = s.long in
       let time = p.in_time in
-      let b = get_below s.cycles r.cycle (omega (arith, time, long)) in
+      let b = get_some s.cycles r.cycle (omega (arith, time, long)) in
       never r after p s.cycles s.call b.0 b.1 (s.not_done r.cycle b.0 time b.1)
-
-  order : (x y : ℕ) → (x < y) ⊎ ((x ≡ y) ⊎ (y < x))
-  order zero zero = inr (inl refl)
-  order zero (suc y) = inl (omega arith)
-  order (suc x) zero = inr (inr (omega arith))
-  order (suc x) (suc y) = elim (order x y) [ inl h ↦ inl (omega (arith, h)) | inr h ↦ elim h [ inl e ↦ inr (inl (ap suc e)) | inr e ↦ inr (inr (omega (arith, e))) ] ]
 
   done_is : (r q : Done) → r.cycle ≡ q.cycle → r.result ≡ q.result → r ≡ q
   done_is r q c e = ap (λ x. (let y : Done = record { cycle = x; result = r.result } in y)) c ∙ ap (λ x. (let y : Done = record { cycle = q.cycle; result = x } in y)) e
 
   pub replies_once : (r q : Done) (x y : ℕ → ℕ) → Replies n limit state args r x → Replies n limit state args q y → (r ≡ q) × ((s : ℕ) → x s ≡ y s)
-  replies_once r q x y p s = by (order r.cycle q.cycle)
+  replies_once r q x y p s = by (lower_same_higher r.cycle q.cycle)
     where
       by : (r.cycle < q.cycle) ⊎ ((r.cycle ≡ q.cycle) ⊎ (q.cycle < r.cycle)) → (r ≡ q) × ((s : ℕ) → x s ≡ y s)
       by (inl h) = absurd (not_sooner r q x y p s h)
       by (inr (inl c)) =
           let same : s.last ≡ p.last =
           same_at n made whole acyclic state args (p.before ++ p.last ∷ []) (s.before ++ s.last ∷ []) p.call s.call r.cycle p.last s.last
-          (at_end p.before p.last [] r.cycle p.long) (at_end s.before s.last [] r.cycle (s.long ∙ sym c)) in
+          (get_seam p.before p.last [] r.cycle p.long) (get_seam s.before s.last [] r.cycle (s.long ∙ sym c)) in
           (done_is r q c (p.result ∙ ap (λ v. output_word n v (codes "result")) (sym same) ∙ sym s.result), λ t. p.leads t ∙ ap (λ v. next_state n v t) (sym same) ∙ sym (s.leads t))
       by (inr (inr h)) = absurd (not_sooner q r y x s p h)
 
@@ -221,13 +197,13 @@ outcome n made whole acyclic args limit None after a = record { run = a.cycles; 
 outcome n made whole acyclic args limit (Some d) after a = record {
   in_time = a.in_time;
   run = a.before ++ a.last ∷ [];
-  only = only_run n made whole acyclic args (a.before ++ a.last ∷ []) (d.cycle + 1) a.call (long_more a.before a.last ∙ ap (λ k. k + 1) a.long);
+  only = only_run n made whole acyclic args (a.before ++ a.last ∷ []) (d.cycle + 1) a.call (length_push a.before a.last ∙ ap (λ k. k + 1) a.long);
   last = a.last;
-  there = at_end a.before a.last [] d.cycle a.long;
+  there = get_seam a.before a.last [] d.cycle a.long;
   done = a.done;
   result = a.result;
   before = λ c v h e.
-      elim (pushed a.before a.last v c e) [
+      elim (get_pushed a.before a.last v c e) [
         | inl f ↦ a.not_done c v h f
         | inr f ↦ absurd (let x = f.0 in let y = a.long in omega (arith, h, x, y))
       ];

@@ -1,12 +1,15 @@
 -- A session that is held call by call.
 use Rattle.std.proofs.Common.{◌≡◌, ℕ, ◌+◌, ◌≤◌, List, [], ◌∷◌, ◌++◌, length, take, drop, Bool, true, false, if◌then◌else◌, Some, slice_get, slice_index, refl, sym, ap, subst, ◌∙◌, arith, append_assoc}
 use Rattle.std.proofs.lemmas.Bool.{eq-eqb, ne_eqb}
-use Rattle.std.proofs.lemmas.List.{append-nil, take-append-drop}
+use Rattle.std.proofs.lemmas.List.{append-nil, take-append-drop, length-take-le, take_all}
 use Rattle.std.proofs.lemmas.List.Elements.{All-drop}
+use Rattle.std.proofs.lemmas.Option.{slice_get_within}
 use Rattle.safl_io.specs.Counts.{Rose}
 use Rattle.safl_io.specs.Sink.{SinkState, Sends, SendsPart}
 use Rattle.safl_io.specs.Told.{TellsOn}
 use Rattle.safl_word.specs.Words.{Word, AreWords}
+use Rattle.safl_word.proofs.Lists.{take_next}
+use Rattle.safl_io.proofs.Telling.{nothing_sent, rose_later}
 use Rattle.safl_net.specs.Laws.{FitWidths}
 use Rattle.safl_net.specs.Netlist.{Netlist}
 use Rattle.safl_net.specs.Arguments.{AreArguments}
@@ -18,9 +21,9 @@ use Rattle.safl_session.specs.Sessions.{Opened}
 use Rattle.safl_session.proofs.OneListOfReplies.{replies_exist, replies_join, all_more}
 use Rattle.safl_session.specs.Transcripts.{reply_line, reply_lines, calls_line, late_line, are_all, transcript}
 use Rattle.safl_session.specs.Holding.{IsReady, IsHeld, IsBegun}
-use Rattle.safl_session.proofs.SentLines.{nothing_sent, both_sent, part_sent, rose_later}
+use Rattle.safl_session.proofs.SentLines.{both_sent, part_sent}
 use Rattle.safl_run.proofs.OneAnswer.{after_fits}
-use Rattle.safl_session.proofs.ReadyStates.{take_next, split_at, whole_list, within, take_long, all_at, lines_append, lines_more, all_replies, all_long}
+use Rattle.safl_session.proofs.ReadyStates.{split_at, all_at, lines_append, lines_more, all_replies, all_long}
 
 -- so many of the calls were made, each had its reply, and the lines of these were sent
 pub record HeldTo (o : Opened) (calls : List (List Word)) (limit count : ℕ) (now : Opened) (old new : SinkState) : Type 0 where
@@ -120,9 +123,9 @@ module _ (o : Opened) (calls : List (List Word)) (limit : ℕ) (ready : IsReady 
 
       fewer : length h.replies ≡ length calls → ⊥
       fewer e =
-          let a = within calls i args at in
+          let a = slice_get_within calls i args at in
           let b = all_long o.net limit start (slice_index now.state) (take i calls) h.replies h.replied in
-          let d = take_long calls i (omega (arith, a)) in
+          let d = length-take-le i calls (omega (arith, a)) in
           omega (arith, a, b, d, e)
 
       pub late_held : TellsOn (Sends (late_line limit)) mid.sent new.sent → IsHeld o calls limit old.sent new.sent false
@@ -146,7 +149,7 @@ module _ (o : Opened) (calls : List (List Word)) (limit : ℕ) (ready : IsReady 
     -- there is none left
     module _ (all : length calls ≤ i) where
       every : AllReply o.net limit start calls h.replies (slice_index now.state)
-      every = subst (λ (l : List (List Word)). AllReply o.net limit start l h.replies (slice_index now.state)) (whole_list calls i all) h.replied
+      every = subst (λ (l : List (List Word)). AllReply o.net limit start l h.replies (slice_index now.state)) (take_all i calls all) h.replied
 
       long : length h.replies ≡ length calls
       long = all_long o.net limit start (slice_index now.state) calls h.replies every

@@ -2,16 +2,18 @@
 use Rattle.std.proofs.Common.{◌≡◌, ℕ, zero, suc, ◌+◌, ◌-◌, ◌*◌, ◌<◌, ◌≤◌, ◌⊎◌, List, [], ◌∷◌, ◌++◌, length, take, drop, Some, slice_get, Bool, true}
 use Rattle.std.proofs.Common.{false, ◌==◌, refl, sym, ap, subst, ◌∙◌, arith, inl, inr, append_assoc, add-one}
 use Rattle.std.proofs.lemmas.Bool.{eqb-true, true≢false}
-use Rattle.std.proofs.lemmas.List.{append-nil, length-drop, drop-drop, take_all, take-append-le, drop-append-le}
+use Rattle.std.proofs.lemmas.List.{append-nil, length-drop, drop-drop, take_all, take-append-le, drop-append-le, length-append}
 use Rattle.std.proofs.Math.Nat.{mul-le-mul_right, suc-mul, zero-mul}
 use Rattle.safl_word.specs.Words.{Word}
+use Rattle.safl_word.proofs.Lists.{get_in_front, get_seam}
+use Rattle.safl_word.proofs.Naturals.{lower_same_higher}
 use Rattle.safl_session.specs.declared.script.ScriptErr.{ScriptErr}
 use Rattle.safl_session.specs.Pieces.{HasLines, IsCut}
 use Rattle.safl_session.specs.Lines.{IsCall, AppendsCall, HasFault, RefusesLine}
 use Rattle.safl_session.specs.Scripts.{AreCalls, IsScript, IsScriptFault, RefusesScript, calls_of}
 use Rattle.safl_session.specs.Laws.{OneScript, OneFault, NotBoth}
 use Rattle.safl_session.proofs.PiecesOfText.{lines_of, lines_once, no_lines, first_line, cut_long}
-use Rattle.safl_session.proofs.WordsOfLines.{list_long, in_front, at_seam, words_long, call_once, no_fault, fault_once}
+use Rattle.safl_session.proofs.WordsOfLines.{words_long, call_once, no_fault, fault_once}
 
 -- the calls of a list of words, one after the other
 one_more : (arity count : ℕ) → suc count * arity ≡ arity + count * arity
@@ -84,11 +86,11 @@ module _ (widths text : List ℕ) (count : ℕ) (words : List Word) (rest line b
       ap (λ k. calls_of k arity new) (add-one count) ∙ ap (calls_of (suc count) arity) e ∙ words_more count arity words args s.room same in
       record {
         lines = s.lines ++ line ∷ [];
-        long = list_long s.lines (line ∷ []) ∙ ap (λ k. k + 1) s.long;
+        long = length-append s.lines (line ∷ []) ∙ ap (λ k. k + 1) s.long;
         split = λ ls h. subst (HasLines text) (sym (append_assoc s.lines (line ∷ []) ls)) (s.split (line ∷ ls) (first_line rest line behind some cut ls h));
         are = subst (AreCalls widths (s.lines ++ line ∷ [])) (sym more) (calls_more widths s.lines (calls_of count arity words) line args s.are is);
         room =
-            (let a = ap length e ∙ list_long words args in
+            (let a = ap length e ∙ length-append words args in
             let b = s.room in
             let d = one_more arity count in
             let f = ap (λ k. k * arity) (add-one count) in
@@ -141,33 +143,27 @@ call_at widths (l ∷ lines) (c ∷ calls) (suc k) line a e = call_at widths lin
 pub not_both : NotBoth
 not_both widths text calls e a f =
     let same = lines_once text a.0 (f.before ++ f.line ∷ f.after) a.1 f.lines in
-    let c = call_at widths a.0 calls (length f.before) f.line a.2 (ap (λ l. slice_get l (length f.before)) same ∙ at_seam f.before f.line f.after (length f.before) refl) in
+    let c = call_at widths a.0 calls (length f.before) f.line a.2 (ap (λ l. slice_get l (length f.before)) same ∙ get_seam f.before f.line f.after (length f.before) refl) in
     no_fault widths f.line c.0 (length f.before + 1) e c.1 f.fault
 
 fault_before : (widths text : List ℕ) (e f : ScriptErr) (a : IsScriptFault widths text e) (b : IsScriptFault widths text f) → length a.before < length b.before → ⊥
 fault_before widths text e f a b h =
     let same = lines_once text (a.before ++ a.line ∷ a.after) (b.before ++ b.line ∷ b.after) a.lines b.lines in
     let here : slice_get b.before (length a.before) ≡ Some a.line =
-    sym (in_front b.before (b.line ∷ b.after) (length a.before) h) ∙ ap (λ l. slice_get l (length a.before)) (sym same) ∙ at_seam a.before a.line a.after (length a.before) refl in
+    sym (get_in_front b.before (b.line ∷ b.after) (length a.before) h) ∙ ap (λ l. slice_get l (length a.before)) (sym same) ∙ get_seam a.before a.line a.after (length a.before) refl in
     let c = call_at widths b.before b.calls (length a.before) a.line b.good here in
     no_fault widths a.line c.0 (length a.before + 1) e c.1 a.fault
 
 pub one_fault : OneFault
-one_fault widths text e f a b = by (order (length a.before) (length b.before))
+one_fault widths text e f a b = by (lower_same_higher (length a.before) (length b.before))
   where
-    order : (x y : ℕ) → (x < y) ⊎ ((x ≡ y) ⊎ (y < x))
-    order zero zero = inr (inl refl)
-    order zero (suc y) = inl (omega arith)
-    order (suc x) zero = inr (inr (omega arith))
-    order (suc x) (suc y) = elim (order x y) [ inl h ↦ inl (omega (arith, h)) | inr h ↦ elim h [ inl e ↦ inr (inl (ap suc e)) | inr e ↦ inr (inr (omega (arith, e))) ] ]
-
     by : (length a.before < length b.before) ⊎ ((length a.before ≡ length b.before) ⊎ (length b.before < length a.before)) → e ≡ f
     by (inl h) = absurd (fault_before widths text e f a b h)
     by (inr (inr h)) = absurd (fault_before widths text f e b a h)
     by (inr (inl h)) =
         let same = lines_once text (a.before ++ a.line ∷ a.after) (b.before ++ b.line ∷ b.after) a.lines b.lines in
         let x : Some a.line ≡ Some b.line =
-        sym (at_seam a.before a.line a.after (length b.before) h) ∙ ap (λ l. slice_get l (length b.before)) same ∙ at_seam b.before b.line b.after (length b.before) refl in
+        sym (get_seam a.before a.line a.after (length b.before) h) ∙ ap (λ l. slice_get l (length b.before)) same ∙ get_seam b.before b.line b.after (length b.before) refl in
         let l : a.line ≡ b.line = cc in
         fault_once widths b.line (length b.before + 1) e f (subst (λ k. HasFault widths b.line (k + 1) e) h (subst (λ y. HasFault widths y (length a.before + 1) e) l a.fault)) b.fault
 

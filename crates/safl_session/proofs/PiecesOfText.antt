@@ -3,9 +3,10 @@ use Rattle.std.proofs.Common.{◌≡◌, ℕ, zero, suc, ◌+◌, ◌-◌, ◌<�
 use Rattle.std.specs.Prelude.{All}
 use Rattle.std.specs.List.{list_all, join_with_byte}
 use Rattle.std.proofs.lemmas.Bool.{and_parts, and_from, eqb-true, eq-eqb, true≢false, false≢true}
-use Rattle.std.proofs.lemmas.List.{append-nil}
+use Rattle.std.proofs.lemmas.List.{append-nil, length-append, take-append-drop, take_all}
 use Rattle.std.proofs.lemmas.List.Elements.{All-nil, All-cons, All-head, All-tail}
 use Rattle.safl_word.specs.Runs.{IsRun, EndsRun}
+use Rattle.safl_word.proofs.Lexemes.{same_head, same_tail}
 use Rattle.safl_session.specs.Pieces.{Lacks, AreBetween, some_of, ended_of, HasWords, HasLines, IsCut, Blank, StartsWith}
 
 -- a byte that doesn't differ is the same
@@ -25,12 +26,6 @@ ends_at c [] n e h = absurd (omega (arith, h))
 ends_at c (x ∷ text) zero e h = ap (λ y. y ∷ text) (same_byte x c e)
 ends_at c (x ∷ text) (suc n) e h = ap (λ l. x ∷ l) (ends_at c text n e (omega (arith, h))) ∙ ap (λ k. x ∷ (take n text ++ c ∷ drop k (x ∷ text))) (let z : suc (n + 1) ≡ suc n + 1 = omega arith in z)
 
-take_full : (xs : List ℕ) (n : ℕ) → length xs ≤ n → take n xs ≡ xs
-take_full [] zero h = refl
-take_full [] (suc n) h = refl
-take_full (x ∷ xs) zero h = absurd (omega (arith, h))
-take_full (x ∷ xs) (suc n) h = ap (λ l. x ∷ l) (take_full xs n (omega (arith, h)))
-
 drop_long : (xs : List ℕ) (n : ℕ) → n ≤ length xs → length (drop n xs) + n ≡ length xs
 drop_long xs zero h = omega arith
 drop_long [] (suc n) h = absurd (omega (arith, h))
@@ -38,7 +33,7 @@ drop_long (x ∷ xs) (suc n) h = let e = drop_long xs n (omega (arith, h)) in om
 
 -- a text is cut at the end of the run without the byte
 behind_all : (text : List ℕ) (n : ℕ) → n < length text → take (length text - (n + 1)) (drop (n + 1) text) ≡ drop (n + 1) text
-behind_all text n h = let e = drop_long text (n + 1) (omega (arith, h)) in take_full (drop (n + 1) text) (length text - (n + 1)) (omega (arith, e))
+behind_all text n h = let e = drop_long text (n + 1) (omega (arith, h)) in take_all (length text - (n + 1)) (drop (n + 1) text) (omega (arith, e))
 
 pub cut_short : (c : ℕ) (text : List ℕ) (n : ℕ) → IsRun (λ x. not (x == c)) text n → n < length text → IsCut c text (take n text) (take (length text - (n + 1)) (drop (n + 1) text))
 cut_short c text n run h = record {
@@ -47,18 +42,13 @@ cut_short c text n run h = record {
 }
 
 pub cut_all : (c : ℕ) (text : List ℕ) (n : ℕ) → IsRun (λ x. not (x == c)) text n → length text ≤ n → IsCut c text text []
-cut_all c text n run h = record { lacks = ap (list_all (λ x. not (x == c))) (sym (take_full text n h)) ∙ run.passes; is = inr (refl, refl) }
-
--- what follows a cut is shorter
-append_long : (xs ys : List ℕ) → length (xs ++ ys) ≡ length xs + length ys
-append_long [] ys = omega arith
-append_long (x ∷ xs) ys = let e = append_long xs ys in omega (arith, e)
+cut_all c text n run h = record { lacks = ap (list_all (λ x. not (x == c))) (sym (take_all n text h)) ∙ run.passes; is = inr (refl, refl) }
 
 pub cut_long : (c : ℕ) (text piece behind : List ℕ) → IsCut c text piece behind → (length behind ≤ length text) × (0 < length text → length behind < length text) × (length piece ≤ length text)
 cut_long c text piece behind cut = by cut.is
   where
     by : (text ≡ piece ++ c ∷ behind) ⊎ ((text ≡ piece) × (behind ≡ [])) → (length behind ≤ length text) × (0 < length text → length behind < length text) × (length piece ≤ length text)
-    by (inl e) = let a = ap length e ∙ append_long piece (c ∷ behind) in (omega (arith, a), (λ h. omega (arith, a)), omega (arith, a))
+    by (inl e) = let a = ap length e ∙ length-append piece (c ∷ behind) in (omega (arith, a), (λ h. omega (arith, a)), omega (arith, a))
     by (inr e) = let a = ap length e.0 in let b : length behind ≡ 0 = ap length e.1 in (omega (arith, b), (λ h. omega (arith, b, h)), omega (arith, a))
 
 -- pieces one after another
@@ -106,19 +96,13 @@ record SameParts (p q r s : List ℕ) : Type 0 where
   first : p ≡ q
   rest : r ≡ s
 
-heads : (x y : ℕ) (p q : List ℕ) → x ∷ p ≡ y ∷ q → x ≡ y
-heads x y p q e = cc
-
-tails : (x y : ℕ) (p q : List ℕ) → x ∷ p ≡ y ∷ q → p ≡ q
-tails x y p q e = cc
-
 same_parts : (c : ℕ) (p q r s : List ℕ) → Lacks c p → Lacks c q → p ++ c ∷ r ≡ q ++ c ∷ s → SameParts p q r s
-same_parts c [] [] r s a b e = record { first = refl; rest = tails c c r s e }
-same_parts c [] (y ∷ q) r s a b e = absurd (false≢true (sym (ap not (eq-eqb y c (sym (heads c y r (q ++ c ∷ s) e)))) ∙ (and_parts _ _ b).0))
-same_parts c (x ∷ p) [] r s a b e = absurd (false≢true (sym (ap not (eq-eqb x c (heads x c (p ++ c ∷ r) s e))) ∙ (and_parts _ _ a).0))
+same_parts c [] [] r s a b e = record { first = refl; rest = same_tail c c r s e }
+same_parts c [] (y ∷ q) r s a b e = absurd (false≢true (sym (ap not (eq-eqb y c (sym (same_head c y r (q ++ c ∷ s) e)))) ∙ (and_parts _ _ b).0))
+same_parts c (x ∷ p) [] r s a b e = absurd (false≢true (sym (ap not (eq-eqb x c (same_head x c (p ++ c ∷ r) s e))) ∙ (and_parts _ _ a).0))
 same_parts c (x ∷ p) (y ∷ q) r s a b e =
-    let h = same_parts c p q r s (and_parts _ _ a).1 (and_parts _ _ b).1 (tails x y (p ++ c ∷ r) (q ++ c ∷ s) e) in
-    record { first = ap (λ z. z ∷ p) (heads x y (p ++ c ∷ r) (q ++ c ∷ s) e) ∙ ap (λ l. y ∷ l) h.first; rest = h.rest }
+    let h = same_parts c p q r s (and_parts _ _ a).1 (and_parts _ _ b).1 (same_tail x y (p ++ c ∷ r) (q ++ c ∷ s) e) in
+    record { first = ap (λ z. z ∷ p) (same_head x y (p ++ c ∷ r) (q ++ c ∷ s) e) ∙ ap (λ l. y ∷ l) h.first; rest = h.rest }
 
 joins_once : (c : ℕ) (p q : List ℕ) (ps qs : List (List ℕ)) → All (Lacks c) (p ∷ ps) → All (Lacks c) (q ∷ qs) → join_with_byte c (p ∷ ps) ≡ join_with_byte c (q ∷ qs) → p ∷ ps ≡ q ∷ qs
 joins_once c p q [] [] a b e = ap (λ l. l ∷ []) e
@@ -173,7 +157,7 @@ first_word text word behind s ws h = subst (λ l. HasWords l (word ∷ ws)) (sym
 -- what follows a word is shorter
 pub behind_long : (text word behind : List ℕ) → StartsWith text word behind → length behind < length text
 behind_long text word behind s =
-    let a = ap length s.is ∙ append_long s.spaces s.rest in
+    let a = ap length s.is ∙ length-append s.spaces s.rest in
     let b = cut_long 32 s.rest word behind s.cut in
     let c = s.some in
     let d = b.1 (let e = b.2 in omega (arith, c, e)) in
@@ -185,19 +169,14 @@ starts_with text rest word behind k run r some cut = record {
   spaces = take k text;
   rest = rest;
   blank = run.passes;
-  is = sym (joined text k) ∙ ap (λ l. take k text ++ l) (sym r);
+  is = sym (take-append-drop k text) ∙ ap (λ l. take k text ++ l) (sym r);
   cut = cut;
   some = by word cut (subst (EndsRun (λ c. c == 32)) (sym r) run.ends);
 }
   where
-    joined : (xs : List ℕ) (k : ℕ) → take k xs ++ drop k xs ≡ xs
-    joined xs zero = refl
-    joined [] (suc k) = refl
-    joined (x ∷ xs) (suc k) = ap (λ l. x ∷ l) (joined xs k)
-
     space : (rest : List ℕ) → 0 < length rest → EndsRun (λ c. c == 32) rest → rest ≡ 32 ∷ behind → ⊥
     space [] h e q = omega (arith, h)
-    space (x ∷ rest) h e q = true≢false (sym (eq-eqb x 32 (heads x 32 rest behind q)) ∙ e)
+    space (x ∷ rest) h e q = true≢false (sym (eq-eqb x 32 (same_head x 32 rest behind q)) ∙ e)
 
     by : (word : List ℕ) → IsCut 32 rest word behind → EndsRun (λ c. c == 32) rest → 0 < length word
     by (x ∷ word) cut e = omega arith
@@ -212,7 +191,7 @@ all_blank text rest k run r none =
     let a = run.within in
     let b = drop_long text k a in
     let c : length rest ≡ length (drop k text) = ap length r in
-    ap (list_all (λ c. c == 32)) (sym (take_full text k (omega (arith, b, c, none)))) ∙ run.passes
+    ap (list_all (λ c. c == 32)) (sym (take_all k text (omega (arith, b, c, none)))) ∙ run.passes
 
 -- lines
 pub lines_of : (text : List ℕ) → (ls : List (List ℕ)) × HasLines text ls

@@ -1,9 +1,10 @@
 -- Whether registers are quiet is said by the state alone.
-use Rattle.std.proofs.Common.{◌≡◌, ℕ, zero, suc, ◌⊎◌, List, [], ◌∷◌, ◌++◌, Option, None, Some, Bool, true, false, cond, ◌&&◌, refl, sym, ap, ◌∙◌, subst, inl, inr, ⊎_elim, arith, bytes_eq}
+use Rattle.std.proofs.Common.{◌≡◌, ℕ, zero, suc, List, [], ◌∷◌, Option, None, Some, Bool, true, false, cond, ◌&&◌, refl, sym, ap, ◌∙◌, subst, inl, inr, ⊎_elim, arith, bytes_eq}
 use Rattle.safl_term.specs.Names.{Names}
 use Rattle.std.specs.Prelude.{slice_get, slice_index, codes}
 use Rattle.std.proofs.lemmas.Slice.Eq.{bytes_eq-Decides}
 use Rattle.std.proofs.lemmas.Bool.{and_parts, ltb-true, leb-true, lt-ltb}
+use Rattle.safl_word.proofs.Booleans.{never_both}
 use Rattle.safl_term.specs.Program.{Program}
 use Rattle.safl_net.specs.Netlist.{Netlist, Signal, Kind, Input, Reg, Wire, place}
 use Rattle.safl_net.specs.Valuations.{Valuation, Fits, Holds, number_at, read, reset_state}
@@ -13,7 +14,7 @@ use Rattle.safl_circuit.specs.Layout.{Line, lines, member_lines, unit_lines, sit
 use Rattle.safl_circuit.specs.Scheme.{Scheme}
 use Rattle.safl_circuit.specs.Steps.{Quiet}
 use Rattle.safl_circuit.specs.Correct.{IsQuietState}
-use Rattle.safl_circuit.proofs.Laid.{has_left, has_right, lines_has}
+use Rattle.safl_circuit.proofs.Laid.{has_left, has_right, lines_has, has_side}
 use Rattle.safl_sim.proofs.Names.{place_at}
 use Rattle.safl_session.specs.Circuits.{ResetIsQuiet}
 
@@ -26,11 +27,6 @@ record Found (gs : List Signal) (name : List ℕ) : Type 0 where
   there : slice_get gs at ≡ Some signal
   is_named : signal.name ≡ name
   kind : signal.kind ≡ Reg init then
-
-has_side : (x : Line) (xs ys : List Line) → Has x (xs ++ ys) → Has x xs ⊎ Has x ys
-has_side x [] ys h = inr h
-has_side x (y ∷ xs) ys (inl e) = inl (inl e)
-has_side x (y ∷ xs) ys (inr h) = ⊎_elim (λ a. inl (inr a)) (λ b. inr b) (has_side x xs ys h)
 
 here : (g : Signal) (gs : List Signal) (name : List ℕ) (w : ℕ) (k : Kind) → g.kind ≡ k → Has (name, w) (register_kind (g.name, g.width) k) → Found (g ∷ gs) name
 here g gs name w Input e h = absurd h
@@ -75,10 +71,6 @@ placed gs name j g at is own = on (place gs name 0) refl
 and_down : (b x y : Bool) → (b ≡ true → y ≡ x) → (b && x) ≡ false → (b && y) ≡ false
 and_down true x y h e = h refl ∙ e
 and_down false x y h e = refl
-
-down : (b x : Bool) → (b ≡ true → x ≡ false) → (b && x) ≡ false
-down true x h = h refl
-down false x h = refl
 
 module _ (C : Program) (D : Names) (P : Choice) (n : Netlist) (scheme : Scheme C D P n) where
   -- what is read at a register's name is its state
@@ -135,10 +127,10 @@ module _ (C : Program) (D : Names) (P : Choice) (n : Netlist) (scheme : Scheme C
 
   pub reset_quiet : IsQuietState C D n (reset_state n)
   reset_quiet v fits = record {
-    run = λ u. down (is_unit C u) _ (λ is. clear v fits _ (run_reads u is));
-    fin = λ u. down (is_unit C u) _ (λ is. clear v fits _ (fin_reads u is));
-    sent = λ k pos. down (is_site C k) _ (λ is. clear v fits _ (sent_reads k is));
-    got = λ k pos. down (is_site C k) _ (λ is. clear v fits _ (got_reads k is));
+    run = λ u. never_both (is_unit C u) _ (λ is. clear v fits _ (run_reads u is));
+    fin = λ u. never_both (is_unit C u) _ (λ is. clear v fits _ (fin_reads u is));
+    sent = λ k pos. never_both (is_site C k) _ (λ is. clear v fits _ (sent_reads k is));
+    got = λ k pos. never_both (is_site C k) _ (λ is. clear v fits _ (got_reads k is));
   }
 
 pub reset_is_quiet : ResetIsQuiet

@@ -1,5 +1,5 @@
 -- The calls of a session that have their replies, and the lines of these.
-use Rattle.std.proofs.Common.{◌≡◌, ℕ, zero, suc, ◌+◌, ◌<◌, ◌≤◌, List, [], ◌∷◌, ◌++◌, length, take, drop, Some, slice_get, refl, sym, ap, subst, ◌∙◌, arith, append_assoc}
+use Rattle.std.proofs.Common.{◌≡◌, ℕ, zero, suc, ◌+◌, List, [], ◌∷◌, ◌++◌, length, take, drop, Some, slice_get, refl, sym, ap, subst, ◌∙◌, arith, append_assoc}
 use Rattle.std.specs.Prelude.{All}
 use Rattle.std.proofs.lemmas.List.{append-nil}
 use Rattle.std.proofs.lemmas.List.Elements.{All-head, All-tail}
@@ -11,35 +11,12 @@ use Rattle.safl_session.specs.Transcripts.{reply_line, reply_lines}
 
 -- ---- lists
 
-pub take_next : {A : Type 0} (xs : List A) (i : ℕ) (x : A) → slice_get xs i ≡ Some x → take (i + 1) xs ≡ take i xs ++ x ∷ []
-take_next [] i x e = absurd (cc)
-take_next (y ∷ xs) zero x e = let s : y ≡ x = cc in ap (λ z. z ∷ []) s
-take_next (y ∷ xs) (suc i) x e =
-    let k : suc i + 1 ≡ suc (i + 1) = omega arith in
-    ap (λ n. take n (y ∷ xs)) k ∙ ap (λ l. y ∷ l) (take_next xs i x e)
-
 pub split_at : {A : Type 0} (xs : List A) (i : ℕ) (x : A) → slice_get xs i ≡ Some x → take i xs ++ x ∷ drop (i + 1) xs ≡ xs
 split_at [] i x e = absurd (cc)
 split_at (y ∷ xs) zero x e = let s : y ≡ x = cc in ap (λ z. z ∷ xs) (sym s)
 split_at (y ∷ xs) (suc i) x e =
     let k : suc i + 1 ≡ suc (i + 1) = omega arith in
     ap (λ n. y ∷ take i xs ++ x ∷ drop n (y ∷ xs)) k ∙ ap (λ l. y ∷ l) (split_at xs i x e)
-
-pub whole_list : {A : Type 0} (xs : List A) (i : ℕ) → length xs ≤ i → take i xs ≡ xs
-whole_list [] zero h = refl
-whole_list [] (suc i) h = refl
-whole_list (y ∷ xs) zero h = absurd (omega (arith, h))
-whole_list (y ∷ xs) (suc i) h = ap (λ l. y ∷ l) (whole_list xs i (omega (arith, h)))
-
-pub within : {A : Type 0} (xs : List A) (i : ℕ) (x : A) → slice_get xs i ≡ Some x → i < length xs
-within [] i x e = absurd (cc)
-within (y ∷ xs) zero x e = omega arith
-within (y ∷ xs) (suc i) x e = let h = within xs i x e in omega (arith, h)
-
-pub take_long : {A : Type 0} (xs : List A) (i : ℕ) → i ≤ length xs → length (take i xs) ≡ i
-take_long xs zero h = refl
-take_long [] (suc i) h = absurd (omega (arith, h))
-take_long (y ∷ xs) (suc i) h = ap suc (take_long xs i (omega (arith, h)))
 
 pub all_at : {A : Type 0} (P : A → Type 0) (xs : List A) (i : ℕ) (x : A) → All P xs → slice_get xs i ≡ Some x → P x
 all_at P [] i x all e = absurd (cc)

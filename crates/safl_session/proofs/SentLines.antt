@@ -1,18 +1,8 @@
 -- What is sent after something that was sent.
-use Rattle.std.proofs.Common.{◌≡◌, ℕ, ◌≤◌, List, [], ◌++◌, length, take, drop, Option, Some, None, Result, Ok, Err, refl, sym, ap, ◌∙◌, arith, inl, inr, append_assoc}
-use Rattle.std.specs.Prelude.{OnErr}
-use Rattle.std.proofs.lemmas.List.{append-nil, take-append-drop, take_at}
-use Rattle.safl_io.specs.Counts.{Rose}
+use Rattle.std.proofs.Common.{◌≡◌, ℕ, List, [], ◌++◌, length, take, drop, Option, Some, None, refl, sym, ap, ◌∙◌, append_assoc}
+use Rattle.std.proofs.lemmas.List.{take-append-drop, take_at}
 use Rattle.safl_io.specs.Sink.{Sends, SendsPart}
 use Rattle.safl_io.specs.Told.{TellsOn}
-
-pub nothing_sent : (old : Option (List ℕ)) → TellsOn (Sends []) old old
-nothing_sent None = tt
-nothing_sent (Some x) = sym (append-nil x)
-
-pub none_sent : (text : List ℕ) (old : Option (List ℕ)) → TellsOn (SendsPart text) old old
-none_sent text None = tt
-none_sent text (Some x) = (0, sym (append-nil x))
 
 pub both_sent : (a b : List ℕ) (old mid new : Option (List ℕ)) → TellsOn (Sends a) old mid → TellsOn (Sends b) mid new → TellsOn (Sends (a ++ b)) old new
 both_sent a b None mid new p q = tt
@@ -36,17 +26,3 @@ part_sent a b c whole e (Some x) (Some y) (Some z) p q = (
   q.1 ∙ ap (λ (l : List ℕ). l ++ take q.0 b) p ∙ append_assoc x a (take q.0 b)
       ∙ ap (λ (l : List ℕ). x ++ l) (sym (part_of a b c q.0)) ∙ ap (λ (l : List ℕ). x ++ take (length (a ++ take q.0 b)) l) (sym e),
 )
-
--- a count that rises later has risen
-pub rose_later : (old mid new : ℕ) → old ≤ mid → Rose mid new → Rose old new
-rose_later old mid new h r = elim r [ inl up ↦ inl (omega (arith, h, up)) | inr end ↦ inr end ]
-
--- a text that is made of three pieces
-pub joined : (old x y z a b c : List ℕ) → x ≡ old ++ a → y ≡ x ++ b → z ≡ y ++ c → z ≡ old ++ ((a ++ b) ++ c)
-joined old x y z a b c p q r =
-    r ∙ ap (λ (l : List ℕ). l ++ c) (q ∙ ap (λ (l : List ℕ). l ++ b) p) ∙ append_assoc (old ++ a) b c ∙ append_assoc old a (b ++ c) ∙ ap (λ (l : List ℕ). old ++ l) (sym (append_assoc a b c))
-
--- what is so anyhow is so after an error
-pub on_err : {T E : Type 0} (Q : Type 0) (r : Result T E) → Q → OnErr r Q
-on_err Q (Ok x) q = tt
-on_err Q (Err e) q = q

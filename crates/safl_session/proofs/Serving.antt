@@ -1,10 +1,11 @@
 -- A circuit serves one call after another.
-use Rattle.std.proofs.Common.{◌≡◌, ℕ, suc, ◌+◌, List, [], ◌∷◌, ◌++◌, length, Option, None, Some, slice_get, slice_index, refl, sym, ap, subst, ◌∙◌, arith, codes}
+use Rattle.std.proofs.Common.{◌≡◌, ℕ, suc, ◌+◌, List, [], ◌∷◌, ◌++◌, length, Some, slice_get, slice_index, refl, sym, ap, subst, ◌∙◌, arith, codes}
 use Rattle.safl_term.specs.Names.{Names}
 use Rattle.std.specs.Prelude.{All}
 use Rattle.std.proofs.lemmas.Nat.{pow_pos}
 use Rattle.std.proofs.lemmas.List.Elements.{All-head, All-tail}
-use Rattle.safl_word.specs.Words.{Word}
+use Rattle.safl_word.specs.Words.{Word, as_word}
+use Rattle.safl_word.proofs.Lists.{get_seam}
 use Rattle.safl_term.specs.Program.{Program}
 use Rattle.safl_term.specs.WellFormed.{AreWordsOf}
 use Rattle.safl_term.proofs.Fuelled.{agree_to}
@@ -16,11 +17,10 @@ use Rattle.safl_net.specs.Runs.{RunFrom, GoesOn, start_number}
 use Rattle.safl_net.specs.Valuations.{Valuation, Fits, next_state, number_at, read_output}
 use Rattle.safl_net.specs.Whole.{IsWhole, HasStart}
 use Rattle.safl_net.proofs.Existence.{exactly_one}
-use Rattle.safl_sim.specs.Outcomes.{word_at}
 use Rattle.safl_sim.proofs.Giving.{bits}
 use Rattle.safl_sim.proofs.Names.{place_at}
 use Rattle.safl_sites.specs.Plan.{Choice}
-use Rattle.safl_circuit.specs.Names.{as_word, registers_now}
+use Rattle.safl_circuit.specs.Names.{registers_now}
 use Rattle.safl_circuit.specs.Scheme.{Scheme}
 use Rattle.safl_circuit.specs.Steps.{Quiet}
 use Rattle.safl_circuit.specs.Correct.{IsQuietState, IsResult, DoneIn, latest}
@@ -30,14 +30,10 @@ use Rattle.safl_run.specs.Calls.{Replies, IsSilent}
 use Rattle.safl_session.specs.Replies.{AreReplies}
 use Rattle.safl_session.specs.Circuits.{IsMainReply, Serves, IsInTime, BudgetsAreInTime, CircuitsServe, CircuitsReply}
 use Rattle.safl_run.proofs.OneAnswer.{last_fits}
-use Rattle.safl_session.proofs.WordsOfLines.{at_seam}
 use Rattle.safl_session.proofs.QuietStates.{quiet_alike}
 use Rattle.safl_sim.proofs.Existence.{next_fits}
 use Rattle.safl_sim.proofs.Going.{fits_along}
-
-word_bits : (n : Netlist) (v : Valuation) (o : Option ℕ) → (word_at n v o).bits ≡ number_at v o
-word_bits n v None = refl
-word_bits n v (Some s) = refl
+use Rattle.safl_sim.proofs.WordsOfNumbers.{word_bits}
 
 -- a run with one cycle more, in which `start` is 0
 goes_more : (n : Netlist) (state : ℕ → ℕ) (vs : List Valuation) (v u : Valuation) → GoesOn n state (vs ++ v ∷ []) → Fits n (next_state n v) u → start_number n u ≡ 0 → GoesOn n state (vs ++ v ∷ u ∷ [])
@@ -70,12 +66,12 @@ module _ (C : Program) (D : Names) (P : Choice) (n : Netlist) (scheme : Scheme C
 
       main_reply : IsMainReply C args r
       main_reply =
-          let x = runs.behaves.only args sized cycles p.call.run (length p.before) p.last (at_seam p.before p.last [] (length p.before) refl) p.done in
+          let x = runs.behaves.only args sized cycles p.call.run (length p.before) p.last (get_seam p.before p.last [] (length p.before) refl) p.done in
           let given : Word = as_word (C.result C.main) (read_output n p.last (codes "result")) in
           let same : read_output n p.last (codes "result") ≡ r.result.bits = sym (ap (λ (w : Word). w.bits) p.result ∙ word_bits n p.last (output_place n.outputs (codes "result"))) in
-          let at : slice_get cycles (length p.before) ≡ Some p.last = at_seam p.before p.last [] (length p.before) refl in
+          let at : slice_get cycles (length p.before) ≡ Some p.last = get_seam p.before p.last [] (length p.before) refl in
           let y : IsResult C args (as_word (C.result C.main) r.result.bits) r.cycle =
-              subst (λ k. IsResult C args (as_word (C.result C.main) k) r.cycle) same (subst (λ k. IsResult C args given k) p.long x) in
+          subst (λ k. IsResult C args (as_word (C.result C.main) k) r.cycle) same (subst (λ k. IsResult C args given k) p.long x) in
           record {
             result = y;
             exact = λ seq. sym p.long ∙ runs.exact seq args sized cycles p.call.run (length p.before) p.last at p.done (as_word (C.result C.main) r.result.bits) y.by;
@@ -88,7 +84,7 @@ module _ (C : Program) (D : Names) (P : Choice) (n : Netlist) (scheme : Scheme C
           let run = run_more n state (bits args) p.before p.last u.0 p.call.run u.1 u.2 in
           let q : Quiet (registers_now C D n u.0) =
           runs.quiet args sized (p.before ++ p.last ∷ u.0 ∷ []) run (length p.before) (length p.before + 1) p.last u.0
-          (at_seam p.before p.last (u.0 ∷ []) (length p.before) refl)
+          (get_seam p.before p.last (u.0 ∷ []) (length p.before) refl)
           (behind p.before p.last u.0)
           p.done (omega arith) in
           quiet_alike C D P n scheme (next_state n p.last) u.0 w u.1 (fits_along n after (next_state n p.last) w p.leads fits) q

@@ -1,34 +1,18 @@
 -- The words of a line, read one after the other.
 use Rattle.std.proofs.Common.{◌≡◌, ℕ, zero, suc, ◌+◌, ◌<◌, ◌≤◌, ◌⊎◌, List, [], ◌∷◌, ◌++◌, length, Option, Some, None, Bool, true, false, not}
-use Rattle.std.proofs.Common.{slice_get, slice_index, refl, sym, ap, subst, ◌∙◌, arith, inl, inr, append_assoc}
+use Rattle.std.proofs.Common.{slice_get, refl, sym, ap, subst, ◌∙◌, arith, inl, inr, append_assoc}
 use Rattle.std.specs.Prelude.{is_some}
 use Rattle.std.proofs.lemmas.Bool.{true≢false, false≢true}
-use Rattle.std.proofs.lemmas.List.{append-nil}
+use Rattle.std.proofs.lemmas.List.{append-nil, length-append}
+use Rattle.std.proofs.lemmas.Option.{slice_get_within}
 use Rattle.safl_word.specs.Words.{Word}
+use Rattle.safl_word.proofs.Lists.{get_in_front, get_seam}
+use Rattle.safl_word.proofs.Naturals.{lower_same_higher}
 use Rattle.safl_session.specs.declared.script.ScriptErr.{ScriptErr}
 use Rattle.safl_session.specs.declared.script.ScriptErr.TheVariants as errors
 use Rattle.safl_session.specs.Pieces.{HasWords, Blank, StartsWith}
 use Rattle.safl_session.specs.Lines.{IsArgument, AreArguments, IsCall, AppendsCall, IsMiscounted, IsMisread, HasFault}
 use Rattle.safl_session.proofs.PiecesOfText.{words_once, blank_words, first_word, behind_long}
-
-pub list_long : {A : Type 0} (xs ys : List A) → length (xs ++ ys) ≡ length xs + length ys
-list_long [] ys = omega arith
-list_long (x ∷ xs) ys = let e = list_long xs ys in omega (arith, e)
-
-pub in_front : {A : Type 0} (xs ys : List A) (k : ℕ) → k < length xs → slice_get (xs ++ ys) k ≡ slice_get xs k
-in_front [] ys k h = absurd (omega arith)
-in_front (x ∷ xs) ys zero h = refl
-in_front (x ∷ xs) ys (suc k) h = in_front xs ys k (omega (arith, h))
-
-pub at_seam : {A : Type 0} (xs : List A) (y : A) (ys : List A) (k : ℕ) → length xs ≡ k → slice_get (xs ++ y ∷ ys) k ≡ Some y
-at_seam [] y ys k e = ap (slice_get (y ∷ ys)) (sym e)
-at_seam (x ∷ xs) y ys zero e = absurd (omega (arith, e))
-at_seam (x ∷ xs) y ys (suc k) e = at_seam xs y ys k (omega (arith, e))
-
-got_below : {A : Type 0} (xs : List A) (k : ℕ) (x : A) → slice_get xs k ≡ Some x → k < length xs
-got_below [] k x e = absurd (cc)
-got_below (y ∷ xs) zero x e = omega arith
-got_below (y ∷ xs) (suc k) x e = let h = got_below xs k x e in omega (arith, h)
 
 -- the texts that have a width are these arguments
 abbrev pub Begins : List ℕ → List (List ℕ) → List Word → Type 0
@@ -92,23 +76,23 @@ bad_here ws ts vs w t b e bad = record {
   width = w;
   text = t;
   at_width = e;
-  at_text = at_seam ts t [] (length ts) refl;
+  at_text = get_seam ts t [] (length ts) refl;
   bad = bad;
-  before = λ k x s h f g. begins_at ws ts vs b k x s f (sym (in_front ts (t ∷ []) k h) ∙ g);
+  before = λ k x s h f g. begins_at ws ts vs b k x s f (sym (get_in_front ts (t ∷ []) k h) ∙ g);
 }
 
 bad_more : (ws : List ℕ) (ts : List (List ℕ)) (t : List ℕ) (number : ℕ) → IsBad ws ts number → IsBad ws (ts ++ t ∷ []) number
 bad_more ws ts t number b =
-    let inside : b.index < length ts = got_below ts b.index b.text b.at_text in
+    let inside : b.index < length ts = slice_get_within ts b.index b.text b.at_text in
     record {
       index = b.index;
       is = b.is;
       width = b.width;
       text = b.text;
       at_width = b.at_width;
-      at_text = in_front ts (t ∷ []) b.index inside ∙ b.at_text;
+      at_text = get_in_front ts (t ∷ []) b.index inside ∙ b.at_text;
       bad = b.bad;
-      before = λ k x s h f g. b.before k x s h f (sym (in_front ts (t ∷ []) k (omega (arith, h, inside))) ∙ g);
+      before = λ k x s h f g. b.before k x s h f (sym (get_in_front ts (t ∷ []) k (omega (arith, h, inside))) ∙ g);
     }
 
 -- the texts are arguments, which are appended, or one of them is the first that is none
@@ -133,7 +117,7 @@ module _ (widths line : List ℕ) (count : ℕ) (rest word behind : List ℕ) (s
       (seen.texts ++ word ∷ []) after old new → SeenTo widths line (count + 1) after behind old new
   seen_more before after old mid new seen reads = record {
     texts = seen.texts ++ word ∷ [];
-    long = list_long seen.texts (word ∷ []) ∙ ap (λ k. k + 1) seen.long;
+    long = length-append seen.texts (word ∷ []) ∙ ap (λ k. k + 1) seen.long;
     split = λ ws h. subst (HasWords line) (sym (append_assoc seen.texts (word ∷ []) ws)) (seen.split (word ∷ ws) (first_word rest word behind s ws h));
     small = (let a = seen.small in let b = behind_long rest word behind s in omega (arith, a, b));
     reads = reads;
@@ -202,14 +186,8 @@ pub is_present : (misread : Option ℕ) (absent : Bool) → is_some misread ≡ 
 is_present None absent e h none = false≢true (e ∙ ap not h)
 is_present (Some place) absent e h none = cc
 
--- what an index shows
-pub shown_at : (xs : List ℕ) (i : ℕ) → i < length xs → (x : ℕ) → x ≡ slice_index xs i → slice_get xs i ≡ Some x
-shown_at [] i h x e = absurd (omega (arith, h))
-shown_at (y ∷ xs) zero h x e = ap Some (sym e)
-shown_at (y ∷ xs) (suc i) h x e = shown_at xs i (omega (arith, h)) x e
-
 -- a line is one call, and a call has no fault
-args_once : (ws : List ℕ) (ts : List (List ℕ)) (us vs : List Word) → AreArguments ws ts us → AreArguments ws ts vs → us ≡ vs
+pub args_once : (ws : List ℕ) (ts : List (List ℕ)) (us vs : List Word) → AreArguments ws ts us → AreArguments ws ts vs → us ≡ vs
 args_once [] [] [] [] a b = refl
 args_once [] [] [] (v ∷ vs) a b = absurd b
 args_once [] [] (u ∷ us) vs a b = absurd a
@@ -222,7 +200,7 @@ args_once (w ∷ ws) (t ∷ ts) (u ∷ us) (v ∷ vs) a b = ap (λ x. x ∷ us) 
 pub call_once : (widths line : List ℕ) (us vs : List Word) → IsCall widths line us → IsCall widths line vs → us ≡ vs
 call_once widths line us vs a b = args_once widths b.0 us vs (subst (λ l. AreArguments widths l us) (words_once line a.0 b.0 a.1 b.1) a.2) b.2
 
-args_long : (ws : List ℕ) (ts : List (List ℕ)) (vs : List Word) → AreArguments ws ts vs → length ts ≡ length ws
+pub args_long : (ws : List ℕ) (ts : List (List ℕ)) (vs : List Word) → AreArguments ws ts vs → length ts ≡ length ws
 args_long [] [] [] a = refl
 args_long [] [] (v ∷ vs) a = absurd a
 args_long [] (t ∷ ts) vs a = absurd a
@@ -266,14 +244,8 @@ misread_before widths line p q a b h =
     a.bad v.0 v.1
 
 pub places_same : (widths line : List ℕ) (p q : ℕ) → IsMisread widths line p → IsMisread widths line q → p ≡ q
-places_same widths line p q a b = a.is ∙ ap (λ k. k + 1) (by (order a.index b.index)) ∙ sym b.is
+places_same widths line p q a b = a.is ∙ ap (λ k. k + 1) (by (lower_same_higher a.index b.index)) ∙ sym b.is
   where
-    order : (x y : ℕ) → (x < y) ⊎ ((x ≡ y) ⊎ (y < x))
-    order zero zero = inr (inl refl)
-    order zero (suc y) = inl (omega arith)
-    order (suc x) zero = inr (inr (omega arith))
-    order (suc x) (suc y) = elim (order x y) [ inl h ↦ inl (omega (arith, h)) | inr h ↦ elim h [ inl e ↦ inr (inl (ap suc e)) | inr e ↦ inr (inr (omega (arith, e))) ] ]
-
     by : (a.index < b.index) ⊎ ((a.index ≡ b.index) ⊎ (b.index < a.index)) → a.index ≡ b.index
     by (inl h) = absurd (misread_before widths line p q a b h)
     by (inr (inl e)) = e

@@ -1,7 +1,7 @@
 -- Sessions of circuits: the replies are main's values, and each call starts in a quiet state.
 use Rattle.std.specs.Prelude.{◌≡◌, ℕ, ◌*◌, ◌<◌, ◌≤◌, List, [], ◌∷◌, length, All}
 use Rattle.safl_term.specs.Names.{Names}
-use Rattle.safl_word.specs.Words.{Word}
+use Rattle.safl_word.specs.Words.{Word, as_word}
 use Rattle.safl_term.specs.Program.{Program}
 use Rattle.safl_term.specs.Meaning.{Main}
 use Rattle.safl_term.specs.Fuel.{GivesInCalls}
@@ -11,7 +11,6 @@ use Rattle.safl_net.specs.Rules.{IsNetlist}
 use Rattle.safl_net.specs.Valuations.{reset_state}
 use Rattle.safl_net.specs.Whole.{IsWhole}
 use Rattle.safl_sites.specs.Plan.{Choice}
-use Rattle.safl_circuit.specs.Names.{as_word}
 use Rattle.safl_circuit.specs.Scheme.{Scheme}
 use Rattle.safl_circuit.specs.Correct.{IsExactResult, IsQuietState, latest}
 use Rattle.safl_circuit.specs.Theorem.{IsCircuit}

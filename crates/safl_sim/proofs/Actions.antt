@@ -1,27 +1,30 @@
 -- The actions of cells.
-use Rattle.std.proofs.Common.{◌≡◌, ◌⊎◌, inl, inr, ℕ, zero, suc, ◌+◌, ◌-◌, ◌*◌, ◌<◌, ◌≤◌, Bool, true, false, bit_and, bit_or, bit_xor, List, [], ◌∷◌}
-use Rattle.std.proofs.Common.{length, get_or, ◌^◌, Some, None, is_some, slice_get, slice_index, refl, sym, ap, subst, ◌∙◌, arith}
+use Rattle.std.proofs.Common.{◌≡◌, ◌⊎◌, inl, inr, ℕ, zero, suc, ◌+◌, ◌-◌, ◌*◌, ◌<◌, ◌≤◌, bit_and, bit_or, bit_xor, List, [], ◌∷◌}
+use Rattle.std.proofs.Common.{length, get_or, ◌^◌, Some, None, is_some, slice_index, refl, sym, ap, subst, ◌∙◌, arith}
 use lib.Bits.{xor_add_and}
 use Rattle.std.proofs.Math.Nat.{mod-eq_of_lt}
 use Rattle.std.proofs.lemmas.Nat.{and_comm, and_mask}
 use Rattle.std.proofs.lemmas.Bool.{eqb-true}
 use Rattle.std.proofs.Math.Pow.{pow_mono}
-use Rattle.safl_word.specs.Words.{Word, IsWord, pick}
-use Rattle.safl_word.specs.Primitives.{where_true, result_width, apply_prim}
+use Rattle.safl_word.specs.Words.{Word, IsWord, pick, as_word}
+use Rattle.safl_word.specs.Primitives.{result_width, apply_prim}
 use Rattle.safl_word.proofs.Widths.{only_where}
 use Rattle.safl_word.specs.declared.primitive.Primitive.{Primitive}
 use Rattle.safl_word.specs.declared.primitive.Primitive.TheVariants.{Add, Sub, Mul, And, Or, Xor, Not, Eq, Ne, Lt, Le, Gt, Ge, Shl, Shr, Cat, Bits, Ext}
 use Rattle.safl_net.specs.declared.cell.Sig.{Sig}
 use Rattle.safl_net.specs.declared.cell.Op.{Op}
 use Rattle.safl_net.specs.declared.cell.Op.TheVariants as op
-use Rattle.safl_net.specs.Netlist.{Netlist, Signal, Cell, width_in, width_of}
-use Rattle.safl_net.specs.Widths.{op_width, prim_width}
+use Rattle.safl_net.specs.Netlist.{Netlist, Cell, width_in, width_of}
+use Rattle.safl_net.specs.Widths.{op_width}
 use Rattle.safl_net.specs.Laws.{FitWidths}
 use Rattle.safl_net.specs.Making.{cell_on}
 use Rattle.safl_net.specs.Rules.{IsNetlist, CellFits}
 use Rattle.safl_sim.specs.declared.step.Action.{Action}
 use Rattle.safl_sim.specs.declared.step.Action.TheVariants.{Choose, One, Two}
-use Rattle.safl_word.specs.Narrow.{word_of, HasLow}
+use Rattle.safl_word.specs.Narrow.{HasLow}
+use Rattle.safl_word.proofs.Lists.{get_some}
+use Rattle.safl_word.proofs.Words.{where_holds}
+use Rattle.safl_net.proofs.CellWords.{prim_says}
 use Rattle.safl_sim.specs.Steps.{Constant, plain, plain_number, PlainReady, PlainLow, IsNarrow, Performs}
 
 none_on_nil : (p : Primitive) → result_width p [] ≡ None
@@ -64,22 +67,13 @@ none_on_three Cat u v w ws = refl
 none_on_three (Bits high low) u v w ws = refl
 none_on_three (Ext n) u v w ws = refl
 
-prim_says : (p : Primitive) (ws : List ℕ) (w : ℕ) → prim_width p ws ≡ Some w → result_width p ws ≡ Some w
-prim_says (Ext n) ws w e = absurd (cc)
-prim_says p ws w e = e
-
-get_some : (gs : List Signal) (s : ℕ) → s < length gs → (g : Signal) × (slice_get gs s ≡ Some g)
-get_some [] s h = absurd (omega arith)
-get_some (g ∷ gs) zero h = (g, refl)
-get_some (g ∷ gs) (suc s) h = get_some gs s (omega (arith, h))
-
 -- the number of a signal of the net makes a word
-pub signal_word : (n : Netlist) (values : List ℕ) (s w : ℕ) → IsNetlist n → FitWidths n (slice_index values) → s < length n.signals → w ≡ width_of n s → IsWord (word_of w (slice_index values s))
+pub signal_word : (n : Netlist) (values : List ℕ) (s w : ℕ) → IsNetlist n → FitWidths n (slice_index values) → s < length n.signals → w ≡ width_of n s → IsWord (as_word w (slice_index values s))
 signal_word n values s w made fits h e =
     let g = get_some n.signals s h in
     let f = made.signals s g.0 g.1 in
     let q : w ≡ g.0.width = e ∙ ap width_in g.1 in
-    subst (λ x. IsWord (word_of x (slice_index values s))) (sym q) (record { some = f.some; bounded = f.most; fits = fits s g.0 g.1 })
+    subst (λ x. IsWord (as_word x (slice_index values s))) (sym q) (record { some = f.some; bounded = f.most; fits = fits s g.0 g.1 })
 
 -- the number of a narrow signal of the net
 pub low_number : (n : Netlist) (values : List ℕ) (s : ℕ) → FitWidths n (slice_index values) → s < length n.signals → width_of n s ≤ 64 → slice_index values s < 2 ^ 64
@@ -123,7 +117,7 @@ pub performs_one : (n : Netlist) (p : Primitive) (o : Op) (xs : List Sig) (w wid
 performs_one n p o [] w width made f h k e g = absurd (omega (arith, h))
 performs_one n p o (x ∷ (y ∷ xs)) w width made f h k e g = absurd (omega (arith, k))
 performs_one n p o (x ∷ []) w width made f h k e g = subst (λ q. Performs n (cell_on q (x ∷ [])) (One p width x.0)) (sym e) (record {
-  gives = λ a fits. ap (λ v. (apply_prim p (word_of v (a x.0) ∷ [])).bits) g;
+  gives = λ a fits. ap (λ v. (apply_prim p (as_word v (a x.0) ∷ [])).bits) g;
   ready = λ values l fits.
       let here : x.0 < length n.signals = f.known 0 0 (omega arith) in
       let some : result_width p (width_of n x.0 ∷ []) ≡ Some w = prim_says p (width_of n x.0 ∷ []) w (ap (λ q. op_width q (width_of n x.0 ∷ [])) (sym e) ∙ f.gives) in
@@ -142,7 +136,7 @@ performs_two n p o [] w width other made f h k e g i = absurd (omega (arith, h))
 performs_two n p o (x ∷ []) w width other made f h k e g i = absurd (omega (arith, h))
 performs_two n p o (x ∷ (y ∷ (z ∷ xs))) w width other made f h k e g i = absurd (omega (arith, k))
 performs_two n p o (x ∷ (y ∷ [])) w width other made f h k e g i = subst (λ q. Performs n (cell_on q (x ∷ (y ∷ []))) (Two p width other x.0 y.0)) (sym e) (record {
-  gives = λ a fits. ap (λ v. (apply_prim p (word_of v (a x.0) ∷ (word_of other (a y.0) ∷ []))).bits) g ∙ ap (λ v. (apply_prim p (word_of (width_of n x.0) (a x.0) ∷ (word_of v (a y.0) ∷ []))).bits) i;
+  gives = λ a fits. ap (λ v. (apply_prim p (as_word v (a x.0) ∷ (as_word other (a y.0) ∷ []))).bits) g ∙ ap (λ v. (apply_prim p (as_word (width_of n x.0) (a x.0) ∷ (as_word v (a y.0) ∷ []))).bits) i;
   ready = λ values l fits.
       let here : x.0 < length n.signals = f.known 0 0 (omega arith) in
       let there : y.0 < length n.signals = f.known 1 0 (omega arith) in
@@ -177,7 +171,7 @@ performs_mux n (op.Const v) (x ∷ (y ∷ (z ∷ []))) w f h k = absurd (let e =
 performs_mux n op.Copy (x ∷ (y ∷ (z ∷ []))) w f h k = absurd (let e = f.gives in cc)
 performs_mux n (op.Apply p) (x ∷ (y ∷ (z ∷ []))) w f h k = absurd (let e = sym (none_on_three p (width_of n x.0) (width_of n y.0) (width_of n z.0) []) ∙ prim_says p _ w f.gives in cc)
 performs_mux n op.Mux (x ∷ (y ∷ (z ∷ []))) w f h k = record {
-  gives = λ a fits. picked (a x.0) (word_of (width_of n y.0) (a y.0)) (word_of (width_of n z.0) (a z.0));
+  gives = λ a fits. picked (a x.0) (as_word (width_of n y.0) (a y.0)) (as_word (width_of n z.0) (a z.0));
   ready = λ values l fits.
       let a : x.0 < length n.signals = f.known 0 0 (omega arith) in
       let b : y.0 < length n.signals = f.known 1 0 (omega arith) in
@@ -216,16 +210,11 @@ performs_copy n op.Copy (x ∷ []) w f h k away =
       low = λ values s fits h' narrow. let b = low_number n values x.0 fits a (narrow.operands 0 x.0 refl) in (b, b, b);
     }
 
--- two operands of "and" or "or" have one width
-holds : (b : Bool) (m n : ℕ) → where_true b m ≡ Some n → b ≡ true
-holds true m n e = refl
-holds false m n e = absurd (cc)
-
 equal_and : (u v w : ℕ) → result_width And (u ∷ (v ∷ [])) ≡ Some w → u ≡ v
-equal_and u v w e = eqb-true u v (holds _ u w (only_where _ _ w e))
+equal_and u v w e = eqb-true u v (where_holds _ u w (only_where _ _ w e))
 
 equal_or : (u v w : ℕ) → result_width Or (u ∷ (v ∷ [])) ≡ Some w → u ≡ v
-equal_or u v w e = eqb-true u v (holds _ u w (only_where _ _ w e))
+equal_or u v w e = eqb-true u v (where_holds _ u w (only_where _ _ w e))
 
 -- a signal of one bit
 one_bit : (n : Netlist) (f : ℕ → ℕ) (s : ℕ) → FitWidths n f → s < length n.signals → width_of n s ≡ 1 → f s < 2
@@ -337,8 +326,3 @@ pub picked_holds : (P : ℕ → Type 0) (i a b : ℕ) → P a → P b → P (pic
 picked_holds P zero a b p q = q
 picked_holds P (suc zero) a b p q = p
 picked_holds P (suc (suc i)) a b p q = q
-
-pub picked_number : (f : ℕ → ℕ) (i a b : ℕ) → f (pick i a b) ≡ pick i (f a) (f b)
-picked_number f zero a b = refl
-picked_number f (suc zero) a b = refl
-picked_number f (suc (suc i)) a b = refl

@@ -2,27 +2,29 @@
 use Rattle.std.proofs.Common.{◌≡◌, ◌⊎◌, inl, inr, ℕ, zero, suc, ◌+◌, ◌/◌, ◌<◌, ◌≤◌, ◌^◌, List, [], ◌∷◌, ◌++◌, map, length, take, drop, get_or, Option}
 use Rattle.std.proofs.Common.{Some, None, slice_get, slice_index, refl, sym, ap, subst, ◌∙◌, arith, append_assoc, true}
 use Rattle.std.proofs.lemmas.Nat.{pow_pos}
-use Rattle.std.proofs.lemmas.List.{append-nil}
+use Rattle.std.proofs.lemmas.List.{append-nil, drop_all, length_push, map_push}
+use Rattle.std.proofs.lemmas.Option.{slice_get_within}
+use Rattle.std.proofs.lemmas.Bool.{cases_lt}
 use Rattle.safl_net.specs.declared.cell.Sig.{Sig}
-use Rattle.safl_net.specs.declared.cell.SigKind.TheVariants as SigKind
-use Rattle.safl_net.specs.Netlist.{Netlist, Signal, Kind, Input, Reg, Wire, Cell, width_of}
+use Rattle.safl_net.specs.Netlist.{Netlist, Signal, Kind, Input, Reg, Wire, Cell, width_of, with_input}
 use Rattle.safl_net.specs.Valuations.{kind_reset}
-use Rattle.safl_net.specs.Making.{numbers, kind_at, kind_in, cell_in, sort_of}
+use Rattle.safl_net.specs.Making.{numbers, kind_at, kind_in, cell_in}
 use Rattle.safl_net.specs.Rules.{IsNetlist, KindFits, CellFits}
 use Rattle.safl_net.specs.Laws.{FitWidths}
-use Rattle.safl_net.proofs.Naming.{pushed, within}
-use Rattle.safl_order.specs.Order.{Order, IsOrder, IsWire}
+use Rattle.safl_order.specs.Order.{Order, IsOrder}
 use Rattle.safl_sim.specs.declared.step.Step.{Step}
 use Rattle.safl_sim.specs.declared.step.Register.{Register}
 use Rattle.safl_sim.specs.Marks.{marked, first_register}
 use Rattle.safl_sim.specs.Readers.{Lists, AreReaders, Inside}
 use Rattle.safl_sim.proofs.MarksByOne.{none_in}
-use Rattle.safl_sim.specs.Places.{with_input, inputs_from, inputs_of, resets}
+use Rattle.safl_sim.specs.Places.{inputs_from, inputs_of, resets}
 use Rattle.safl_sim.specs.States.{placed, AreReset}
 use Rattle.safl_sim.specs.Steps.{IsReg, IsStep, AreSteps, AreRegisters, KeepsSimulation}
 use Rattle.safl_sim.proofs.Placing.{placed_long, placed_rest, placed_at}
 use Rattle.safl_word.proofs.Joining.{index_past}
-use Rattle.safl_sim.proofs.Written.{lower_or_same, lower_or_not}
+use Rattle.safl_word.proofs.Lists.{get_end, get_front, get_pushed, get_some, index_end, index_front, take_next}
+use Rattle.safl_word.proofs.Naturals.{lower_or_last}
+use Rattle.safl_net.proofs.ArgumentWidths.{drop_at}
 
 -- a cell that a net shows fits its wire
 pub cell_found : (n : Netlist) (s : ℕ) (c : Cell) → IsNetlist n → cell_in (kind_at n s) ≡ Some c → (width : ℕ) × CellFits n width c
@@ -38,13 +40,6 @@ cell_found n s c made e = by (slice_get n.signals s) refl e
     by None q h = absurd (cc)
     by (Some g) q h = on g.width g.kind (made.signals s g q).kind h
 
-pub wire_known : (n : Netlist) (s : ℕ) → IsWire n s → s < length n.signals
-wire_known n s wire = by (slice_get n.signals s) refl wire
-  where
-    by : (o : Option Signal) → slice_get n.signals s ≡ o → sort_of (kind_in o) ≡ SigKind.Wire → s < length n.signals
-    by None q h = absurd (cc)
-    by (Some g) q h = within n.signals s g q
-
 pub numbers_at : (xs : List Sig) (i : ℕ) (d : Sig) → i < length xs → slice_get (numbers xs) i ≡ Some (get_or xs i d).0
 numbers_at [] i d h = absurd (omega arith)
 numbers_at (x ∷ xs) zero d h = refl
@@ -54,14 +49,6 @@ pub numbers_push : (xs : List Sig) (x : Sig) → numbers (xs ++ x ∷ []) ≡ nu
 numbers_push [] x = refl
 numbers_push (y ∷ xs) x = ap (λ l. y.0 ∷ l) (numbers_push xs x)
 
-pub numbers_length : (xs : List Sig) → length (numbers xs) ≡ length xs
-numbers_length [] = refl
-numbers_length (x ∷ xs) = ap suc (numbers_length xs)
-
-length_push : {A : Type 0} (xs : List A) (x : A) → length (xs ++ x ∷ []) ≡ length xs + 1
-length_push [] x = omega arith
-length_push (a ∷ xs) x = let e = length_push xs x in omega (arith, e)
-
 pub record StepsTo (n : Netlist) (ws : List ℕ) (steps : List Step) (count : ℕ) : Type 0 where
   pub long : length steps ≡ count
   pub each : (k s : ℕ) (step : Step) → slice_get ws k ≡ Some s → slice_get steps k ≡ Some step → IsStep n s step
@@ -69,7 +56,7 @@ pub record StepsTo (n : Netlist) (ws : List ℕ) (steps : List Step) (count : �
 pub steps_more : (n : Netlist) (ws : List ℕ) (steps : List Step) (i s : ℕ) (step : Step) → StepsTo n ws steps i → slice_get ws i ≡ Some s → IsStep n s step → StepsTo n ws (steps ++ step ∷ []) (i + 1)
 steps_more n ws steps i s step w at is = record {
   long = (let a = length_push steps step in let b = w.long in omega (arith, a, b));
-  each = λ k t x e f. elim (pushed steps step x k f) [
+  each = λ k t x e f. elim (get_pushed steps step x k f) [
     | inl q ↦ w.each k t x e q
     | inr q ↦
         let same : Some t ≡ Some s = sym e ∙ ap (slice_get ws) (q.0 ∙ w.long) ∙ at in
@@ -78,20 +65,10 @@ steps_more n ws steps i s step w at is = record {
   ];
 }
 
-drop_at : (gs : List Signal) (i : ℕ) (g : Signal) → slice_get gs i ≡ Some g → drop i gs ≡ g ∷ drop (i + 1) gs
-drop_at [] i g e = absurd (cc)
-drop_at (h ∷ gs) zero g e = let q : h ≡ g = cc in ap (λ x. x ∷ gs) q
-drop_at (h ∷ gs) (suc i) g e = drop_at gs i g e ∙ ap (λ k. g ∷ drop k (h ∷ gs)) (let z : suc (i + 1) ≡ suc i + 1 = omega arith in z)
-
 with_append : (k : Kind) (i : ℕ) (is : List ℕ) → with_input k i is ≡ with_input k i [] ++ is
 with_append Input i is = refl
 with_append (Reg init next) i is = refl
 with_append (Wire cell) i is = refl
-
-get_some : (gs : List Signal) (s : ℕ) → s < length gs → (g : Signal) × (slice_get gs s ≡ Some g)
-get_some [] s h = absurd (omega arith)
-get_some (g ∷ gs) zero h = (g, refl)
-get_some (g ∷ gs) (suc s) h = get_some gs s (omega (arith, h))
 
 pub inputs_more : (n : Netlist) (old new : List ℕ) (i : ℕ) → i < length n.signals → old ++ inputs_from (drop i n.signals) i ≡ inputs_of n → new ≡ old
     ++ with_input (kind_at n i) i [] → new ++ inputs_from (drop (i + 1) n.signals) (i + 1) ≡ inputs_of n
@@ -106,73 +83,49 @@ inputs_more n old new i h e f =
     ∙ e
 
 pub inputs_end : (n : Netlist) (all : List ℕ) (i : ℕ) → length n.signals ≤ i → all ++ inputs_from (drop i n.signals) i ≡ inputs_of n → all ≡ inputs_of n
-inputs_end n all i h e = sym (append-nil all) ∙ ap (λ l. all ++ inputs_from l i) (sym (past n.signals i h)) ∙ e
-  where
-    past : (gs : List Signal) (i : ℕ) → length gs ≤ i → drop i gs ≡ []
-    past [] zero h = refl
-    past [] (suc i) h = refl
-    past (g ∷ gs) zero h = absurd (omega (arith, h))
-    past (g ∷ gs) (suc i) h = past gs i (omega (arith, h))
+inputs_end n all i h e = sym (append-nil all) ∙ ap (λ l. all ++ inputs_from l i) (sym (drop_all i n.signals h)) ∙ e
 
 pub registers_more : (n : Netlist) (regs : List Register) (i : ℕ) (r : Register) → AreRegisters n i regs → r.signal.0 ≡ i → (init : ℕ) × (kind_at n r.signal.0 ≡ Reg init (Some r.next.0))
     → (r.narrow ≡ true → width_of n r.signal.0 ≤ 64) → AreRegisters n (i + 1) (regs ++ r ∷ [])
 registers_more n regs i r w e f low = record {
-  each = λ k q g. elim (pushed regs r q k g) [
+  each = λ k q g. elim (get_pushed regs r q k g) [
     | inl h ↦ w.each k q h
     | inr h ↦ subst (λ (y : Register). (init : ℕ) × (kind_at n y.signal.0 ≡ Reg init (Some y.next.0))) (sym h.1) f
   ];
-  all = λ s h is. elim (lower_or_same s i h) [
-    | inl l ↦ let a = w.all s l is in (a.0, a.1, front regs (r ∷ []) a.0 a.1 a.2, a.3)
-    | inr q ↦ (length regs, r, end regs r, e ∙ sym q)
+  all = λ s h is. elim (lower_or_last s i h) [
+    | inl l ↦ let a = w.all s l is in (a.0, a.1, get_front regs (r ∷ []) a.0 a.1 a.2, a.3)
+    | inr q ↦ (length regs, r, get_end regs r, e ∙ sym q)
   ];
-  narrow = λ k q g. elim (pushed regs r q k g) [
+  narrow = λ k q g. elim (get_pushed regs r q k g) [
     | inl h ↦ w.narrow k q h
     | inr h ↦ subst (λ (y : Register). y.narrow ≡ true → width_of n y.signal.0 ≤ 64) (sym h.1) low
   ];
   few = (let a = w.few in let b = length_push regs r in omega (arith, a, b));
-  below = λ k q g. elim (pushed regs r q k g) [
+  below = λ k q g. elim (get_pushed regs r q k g) [
     | inl h ↦ (let a = w.below k q h in omega (arith, a))
     | inr h ↦ (let a = ap (λ (y : Register). y.signal.0) h.1 in omega (arith, a, e))
   ];
-  once = λ j k p q g h z. elim (pushed regs r p j g) [
-    | inl u ↦ elim (pushed regs r q k h) [
+  once = λ j k p q g h z. elim (get_pushed regs r p j g) [
+    | inl u ↦ elim (get_pushed regs r q k h) [
       | inl v ↦ w.once j k p q u v z
       | inr v ↦ absurd (let a = w.below j p u in let b = ap (λ (y : Register). y.signal.0) v.1 in omega (arith, a, b, e, z))
     ]
-    | inr u ↦ elim (pushed regs r q k h) [
+    | inr u ↦ elim (get_pushed regs r q k h) [
       | inl v ↦ absurd (let a = w.below k q v in let b = ap (λ (y : Register). y.signal.0) u.1 in omega (arith, a, b, e, z))
       | inr v ↦ u.0 ∙ sym v.0
     ]
   ];
 }
-  where
-    front : (xs ys : List Register) (k : ℕ) (x : Register) → slice_get xs k ≡ Some x → slice_get (xs ++ ys) k ≡ Some x
-    front [] ys k x e = absurd (cc)
-    front (y ∷ xs) ys zero x e = e
-    front (y ∷ xs) ys (suc k) x e = front xs ys k x e
-
-    end : (xs : List Register) (x : Register) → slice_get (xs ++ x ∷ []) (length xs) ≡ Some x
-    end [] x = refl
-    end (y ∷ xs) x = end xs x
 
 pub registers_same : (n : Netlist) (regs : List Register) (i : ℕ) → AreRegisters n i regs → ¬ (IsReg (kind_at n i)) → AreRegisters n (i + 1) regs
 registers_same n regs i w away = record {
   each = w.each;
-  all = λ s h is. elim (lower_or_same s i h) [ inl l ↦ w.all s l is | inr q ↦ absurd (away (subst (λ y. IsReg (kind_at n y)) q is)) ];
+  all = λ s h is. elim (lower_or_last s i h) [ inl l ↦ w.all s l is | inr q ↦ absurd (away (subst (λ y. IsReg (kind_at n y)) q is)) ];
   narrow = w.narrow;
   few = (let a = w.few in omega (arith, a));
   below = λ k q g. (let a = w.below k q g in omega (arith, a));
   once = w.once;
 }
-
-take_push : (gs : List Signal) (i : ℕ) (g : Signal) → slice_get gs i ≡ Some g → take (i + 1) gs ≡ take i gs ++ g ∷ []
-take_push [] i g e = absurd (cc)
-take_push (h ∷ gs) zero g e = let q : h ≡ g = cc in ap (λ x. x ∷ []) q
-take_push (h ∷ gs) (suc i) g e = ap (λ k. take k (h ∷ gs)) (let z : suc i + 1 ≡ suc (i + 1) = omega arith in z) ∙ ap (λ l. h ∷ l) (take_push gs i g e)
-
-map_push : (f : Signal → ℕ) (gs : List Signal) (g : Signal) → map f (gs ++ g ∷ []) ≡ map f gs ++ f g ∷ []
-map_push f [] g = refl
-map_push f (h ∷ gs) g = ap (λ l. f h ∷ l) (map_push f gs g)
 
 pub resets_more : (n : Netlist) (old new : List ℕ) (i x : ℕ) → i < length n.signals → old ≡ map (λ (g : Signal). kind_reset g.kind) (take i n.signals)
     → x ≡ kind_reset (kind_at n i) → new ≡ old ++ x ∷ []
@@ -180,7 +133,7 @@ pub resets_more : (n : Netlist) (old new : List ℕ) (i x : ℕ) → i < length 
 resets_more n old new i x h e f q =
     let g = get_some n.signals i h in
     q ∙ ap (λ l. l ++ x ∷ []) e ∙ ap (λ y. map (λ (g : Signal). kind_reset g.kind) (take i n.signals) ++ y ∷ []) (f ∙ ap kind_reset (ap kind_in g.1))
-    ∙ sym (ap (map (λ (g : Signal). kind_reset g.kind)) (take_push n.signals i g.0 g.1) ∙ map_push (λ (g : Signal). kind_reset g.kind) (take i n.signals) g.0)
+    ∙ sym (ap (map (λ (g : Signal). kind_reset g.kind)) (take_next n.signals i g.0 g.1) ∙ map_push (λ (g : Signal). kind_reset g.kind) (take i n.signals) g.0)
 
 -- ---- a simulator at reset
 
@@ -227,11 +180,11 @@ placed_resets n regs numbers w a = same_lists now (resets n) (placed_long (lengt
 
     at : (s : ℕ) → slice_index now s ≡ slice_index (resets n) s
     at s = elim (reg_or_not (kind_at n s)) [
-      | inl is ↦ elim (lower_or_not s (length n.signals)) [
+      | inl is ↦ elim (cases_lt s (length n.signals)) [
         | inl h ↦
             let b = w.all s h is in
             ap (slice_index now) (sym b.3) ∙ placed_at (length n.signals) regs numbers w.once w.below a.long b.0 b.1 b.2
-            ∙ a.each b.0 b.1 (within regs b.0 b.1 b.2) b.2 ∙ ap (λ x. kind_reset (kind_at n x)) b.3 ∙ sym (reset_at n.signals s)
+            ∙ a.each b.0 b.1 (slice_get_within regs b.0 b.1 b.2) b.2 ∙ ap (λ x. kind_reset (kind_at n x)) b.3 ∙ sym (reset_at n.signals s)
         | inr h ↦ index_past now s (let b = placed_long (length n.signals) regs numbers in omega (arith, b, h)) ∙ sym (index_past (resets n) s (let b = resets_long n.signals in omega (arith, b, h)))
       ]
       | inr away ↦
@@ -239,26 +192,16 @@ placed_resets n regs numbers w a = same_lists now (resets n) (placed_long (lengt
           ∙ sym (reset_at n.signals s ∙ not_reg_reset (kind_at n s) away)
     ]
 
--- one more register has its number at reset
-index_pushed : (xs : List ℕ) (x k : ℕ) → k < length xs → slice_index (xs ++ x ∷ []) k ≡ slice_index xs k
-index_pushed [] x k h = absurd (omega (arith, h))
-index_pushed (y ∷ xs) x zero h = refl
-index_pushed (y ∷ xs) x (suc k) h = index_pushed xs x k (omega (arith, h))
-
-index_last : (xs : List ℕ) (x : ℕ) → slice_index (xs ++ x ∷ []) (length xs) ≡ x
-index_last [] x = refl
-index_last (y ∷ xs) x = index_last xs x
-
 pub reset_more : (n : Netlist) (regs : List Register) (numbers : List ℕ) (i x : ℕ) (r : Register) → AreReset n regs i numbers → slice_get regs i ≡
     Some r → x ≡ kind_reset (kind_at n r.signal.0) → AreReset n regs (i + 1) (numbers ++ x ∷ [])
 reset_more n regs numbers i x r w at is = record {
   long = (let a = length_push numbers x in let b = w.long in omega (arith, a, b));
-  each = λ k q h e. elim (lower_or_same k i h) [
-    | inl l ↦ index_pushed numbers x k (let a = w.long in omega (arith, a, l)) ∙ w.each k q l e
+  each = λ k q h e. elim (lower_or_last k i h) [
+    | inl l ↦ index_front numbers x k (let a = w.long in omega (arith, a, l)) ∙ w.each k q l e
     | inr z ↦
         let same : Some r ≡ Some q = sym at ∙ ap (slice_get regs) (sym z) ∙ e in
         let one : r ≡ q = cc in
-        ap (slice_index (numbers ++ x ∷ [])) (z ∙ sym w.long) ∙ index_last numbers x ∙ is ∙ ap (λ (y : Register). kind_reset (kind_at n y.signal.0)) one
+        ap (slice_index (numbers ++ x ∷ [])) (z ∙ sym w.long) ∙ index_end numbers x ∙ is ∙ ap (λ (y : Register). kind_reset (kind_at n y.signal.0)) one
   ];
 }
 
@@ -272,7 +215,7 @@ pub keeps_new : (o : Order) (steps : List Step) (places : List Sig) (regs : List
     → state ≡ resets o.net → values ≡ resets o.net → KeepsSimulation o steps places regs starts readers marks waiting state values
 keeps_new o steps places regs starts readers marks waiting state values made order all inputs registers lists read long few some inside marked_steps marked_registers wide none e f =
     subst (λ x. KeepsSimulation o steps places regs starts readers marks waiting x values) (sym e) (subst (λ x. KeepsSimulation o steps places regs starts readers marks waiting (resets o.net) x)
-        (sym f) (record {
+    (sym f) (record {
       made = made;
       order = order;
       steps = all;
@@ -288,8 +231,8 @@ keeps_new o steps places regs starts readers marks waiting state values made ord
       state = resets_fit o.net made;
       rest = λ s away. reset_at o.net.signals s ∙ not_reg_reset (kind_at o.net s) away;
       holding = record {
-        stays = λ k s c at kind unmarked. absurd (let a = marked_steps k (within o.wires k s at) in omega (arith, a, unmarked));
-        kept = λ k r at unmarked. absurd (let a = marked_registers k (within regs k r at) in omega (arith, a, unmarked));
+        stays = λ k s c at kind unmarked. absurd (let a = marked_steps k (slice_get_within o.wires k s at) in omega (arith, a, unmarked));
+        kept = λ k r at unmarked. absurd (let a = marked_registers k (slice_get_within regs k r at) in omega (arith, a, unmarked));
         inside = inside;
       };
       waits = record {

@@ -1,9 +1,13 @@
 -- Lists of numbers as links in one array.
-use Rattle.std.proofs.Common.{◌≡◌, inl, inr, ℕ, zero, suc, ◌+◌, ◌-◌, ◌<◌, ◌≤◌, List, [], ◌∷◌, ◌++◌, map, length, set, Some, slice_get, slice_index, refl, sym, ap, subst, ◌∙◌, arith}
+use Rattle.std.proofs.Common.{◌≡◌, inl, inr, ℕ, zero, suc, ◌+◌, ◌-◌, ◌≤◌, List, [], ◌∷◌, ◌++◌, map, length, set, Some, slice_get, slice_index, refl, sym, ap, subst, ◌∙◌, arith}
+use Rattle.std.proofs.lemmas.Bool.{cases_eq, cases_lt}
+use Rattle.std.proofs.lemmas.List.{length-map, length-set, length_push, map-set}
 use Rattle.safl_sim.specs.Chains.{chain_of, chain, numbers_of, nexts_of, lists_of, AreChains}
 use Rattle.safl_sim.specs.declared.chains.Link.{Link}
 use Rattle.safl_word.proofs.Joining.{index_past}
-use Rattle.safl_sim.proofs.Written.{same_or_not, lower_or_not, lower_or_same, index_here, index_other, set_length}
+use Rattle.safl_word.proofs.Naturals.{lower_or_last}
+use Rattle.safl_word.proofs.Lists.{index_end, index_front}
+use Rattle.safl_sim.proofs.Written.{index_here, index_other}
 
 -- a bound above the first link's number changes nothing
 pub bound_apart : (f g : ℕ) (numbers nexts : List ℕ) (k : ℕ) → ((i : ℕ) → slice_index nexts i ≤ i) → k ≤ f → k ≤ g → chain_of f numbers nexts k ≡ chain_of g numbers nexts k
@@ -19,19 +23,6 @@ bound_apart (suc f) (suc g) numbers nexts (suc i) w h l = ap (λ r. slice_index 
 -- the first link, and the list after it
 pub chain_next : (numbers nexts : List ℕ) (i : ℕ) → ((i : ℕ) → slice_index nexts i ≤ i) → chain numbers nexts (suc i) ≡ slice_index numbers i ∷ chain numbers nexts (slice_index nexts i)
 chain_next numbers nexts i w = ap (λ r. slice_index numbers i ∷ r) (bound_apart i (slice_index nexts i) numbers nexts (slice_index nexts i) w (w i) (omega arith))
-
-index_front : (xs : List ℕ) (y i : ℕ) → i < length xs → slice_index (xs ++ y ∷ []) i ≡ slice_index xs i
-index_front [] y i h = absurd (omega (arith, h))
-index_front (x ∷ xs) y zero h = refl
-index_front (x ∷ xs) y (suc i) h = index_front xs y i (omega (arith, h))
-
-index_end : (xs : List ℕ) (y : ℕ) → slice_index (xs ++ y ∷ []) (length xs) ≡ y
-index_end [] y = refl
-index_end (x ∷ xs) y = index_end xs y
-
-length_end : (xs : List ℕ) (y : ℕ) → length (xs ++ y ∷ []) ≡ length xs + 1
-length_end [] y = omega arith
-length_end (x ∷ xs) y = let e = length_end xs y in omega (arith, e)
 
 -- one link more at the end changes no list that begins before it
 chain_stays : (f : ℕ) (numbers nexts : List ℕ) (x y k : ℕ) → length numbers ≡ length nexts → ((i : ℕ) → slice_index nexts i ≤ i) → k ≤ length nexts →
@@ -67,16 +58,8 @@ pub nexts_long : (links : List Link) → length (nexts_of links) ≡ length link
 nexts_long [] = refl
 nexts_long (l ∷ links) = ap suc (nexts_long links)
 
-links_push : (links : List Link) (l : Link) → length (links ++ l ∷ []) ≡ length links + 1
-links_push [] l = omega arith
-links_push (k ∷ links) l = let e = links_push links l in omega (arith, e)
-
-map_long : (f : ℕ → List ℕ) (xs : List ℕ) → length (map f xs) ≡ length xs
-map_long f [] = refl
-map_long f (x ∷ xs) = ap suc (map_long f xs)
-
 pub lists_long : (heads : List ℕ) (links : List Link) → length (lists_of heads links) ≡ length heads
-lists_long heads links = map_long (chain (numbers_of links) (nexts_of links)) heads
+lists_long heads links = length-map heads (chain (numbers_of links) (nexts_of links))
 
 map_at : (f : ℕ → List ℕ) (xs : List ℕ) (p : ℕ) (v : List ℕ) → slice_get (map f xs) p ≡ Some v → v ≡ f (slice_index xs p)
 map_at f [] p v e = absurd (cc)
@@ -86,20 +69,15 @@ map_at f (x ∷ xs) (suc p) v e = map_at f xs p v e
 pub list_at : (heads : List ℕ) (links : List Link) (p : ℕ) (v : List ℕ) → slice_get (lists_of heads links) p ≡ Some v → v ≡ chain (numbers_of links) (nexts_of links) (slice_index heads p)
 list_at heads links p v e = map_at (chain (numbers_of links) (nexts_of links)) heads p v e
 
-map_set : (f : ℕ → List ℕ) (xs : List ℕ) (p x : ℕ) → map f (set xs p x) ≡ set (map f xs) p (f x)
-map_set f [] p x = refl
-map_set f (y ∷ xs) zero x = refl
-map_set f (y ∷ xs) (suc p) x = ap (λ r. f y ∷ r) (map_set f xs p x)
-
 map_same : (f g : ℕ → List ℕ) (xs : List ℕ) → ((p : ℕ) → f (slice_index xs p) ≡ g (slice_index xs p)) → map f xs ≡ map g xs
 map_same f g [] h = refl
 map_same f g (x ∷ xs) h = ap (λ y. y ∷ map f xs) (h 0) ∙ ap (λ r. g x ∷ r) (map_same f g xs (λ p. h (suc p)))
 
 earlier_push : (xs : List ℕ) (y : ℕ) → ((i : ℕ) → slice_index xs i ≤ i) → y ≤ length xs → (i : ℕ) → slice_index (xs ++ y ∷ []) i ≤ i
-earlier_push xs y w le i = elim (lower_or_not i (length xs)) [
+earlier_push xs y w le i = elim (cases_lt i (length xs)) [
   | inl h ↦ (let a = index_front xs y i h in let b = w i in omega (arith, a, b))
-  | inr h ↦ elim (lower_or_same (length xs) i (omega (arith, h))) [
-    | inl l ↦ (let b = length_end xs y in let a = index_past (xs ++ y ∷ []) i (omega (arith, b, l)) in omega (arith, a))
+  | inr h ↦ elim (lower_or_last (length xs) i (omega (arith, h))) [
+    | inl l ↦ (let b = length_push xs y in let a = index_past (xs ++ y ∷ []) i (omega (arith, b, l)) in omega (arith, a))
     | inr z ↦ (let a = ap (slice_index (xs ++ y ∷ [])) (sym z) ∙ index_end xs y in omega (arith, a, le, z))
   ]
 ]
@@ -139,22 +117,22 @@ module _ (heads : List ℕ) (links : List Link) (p number : ℕ) (w : AreChains 
       ∙ same (suc (length xs))
       ∙ chain_new ns xs number (slice_index heads p) both w.earlier (let a = w.known p in let b = nexts_long links in omega (arith, a, b))
       ∙ ap (λ r. number ∷ r) (sym (list_at heads links p v e)) in
-      map_set new heads p (length links + 1) ∙ ap (λ r. set r p (new (length links + 1))) (map_same new old heads stays) ∙ ap (set (map old heads) p) first
+      map-set new heads p (length links + 1) ∙ ap (λ r. set r p (new (length links + 1))) (map_same new old heads stays) ∙ ap (set (map old heads) p) first
 
   pub still_chains : AreChains (set heads p (length links + 1)) (links ++ l ∷ [])
   still_chains = record {
     earlier = λ i. subst (λ x. slice_index x i ≤ i) (sym (nexts_push links l))
         (earlier_push (nexts_of links) (slice_index heads p) w.earlier (let a = w.known p in let b = nexts_long links in omega (arith, a, b)) i);
-    known = λ q. elim (same_or_not q p) [
+    known = λ q. elim (cases_eq q p) [
       | inl z ↦ here q z
-      | inr n ↦ (let a = index_other heads p (length links + 1) q n in let b = w.known q in let c = links_push links l in omega (arith, a, b, c))
+      | inr n ↦ (let a = index_other heads p (length links + 1) q n in let b = w.known q in let c = length_push links l in omega (arith, a, b, c))
     ];
   }
     where
       here : (q : ℕ) → q ≡ p → slice_index (set heads p (length links + 1)) q ≤ length (links ++ l ∷ [])
-      here q z = subst (λ x. slice_index (set heads p (length links + 1)) x ≤ length (links ++ l ∷ [])) (sym z) (elim (lower_or_not p (length heads)) [
-        | inl h ↦ (let a = index_here heads p (length links + 1) h in let b = links_push links l in omega (arith, a, b))
-        | inr h ↦ (let c = set_length heads p (length links + 1) in let a = index_past (set heads p (length links + 1)) p (omega (arith, c, h)) in omega (arith, a))
+      here q z = subst (λ x. slice_index (set heads p (length links + 1)) x ≤ length (links ++ l ∷ [])) (sym z) (elim (cases_lt p (length heads)) [
+        | inl h ↦ (let a = index_here heads p (length links + 1) h in let b = length_push links l in omega (arith, a, b))
+        | inr h ↦ (let c = length-set heads p (length links + 1) in let a = index_past (set heads p (length links + 1)) p (omega (arith, c, h)) in omega (arith, a))
       ])
 
 -- ---- the links of a list, one after the other

@@ -1,6 +1,10 @@
 -- A cycle of a simulator.
-use Rattle.std.proofs.Common.{◌≡◌, ℕ, zero, suc, ◌+◌, ◌*◌, ◌<◌, ◌≤◌, ◌^◌, List, [], ◌∷◌, map, length, Option, Some, None, slice_get, slice_index, refl, sym, ap, subst, ◌∙◌, arith, true}
+use Rattle.std.proofs.Common.{◌≡◌, ℕ, ◌+◌, ◌*◌, ◌<◌, ◌≤◌, ◌^◌, List, [], ◌∷◌, map, length, Option, Some, None, slice_get, slice_index, refl, sym, ap, subst, ◌∙◌, arith, true}
+use Rattle.std.proofs.lemmas.Option.{slice_get_within}
+use Rattle.std.proofs.lemmas.List.{length-map}
 use Rattle.safl_word.specs.Words.{Word}
+use Rattle.safl_word.proofs.Lists.{get_map, get_mapped, get_some}
+use Rattle.safl_word.proofs.Naturals.{below_power}
 use Rattle.safl_net.specs.declared.cell.Sig.{Sig}
 use Rattle.safl_net.specs.declared.cell.SigKind.TheVariants as SigKind
 use Rattle.safl_net.specs.Netlist.{Netlist, Signal, Kind, Input, Reg, Wire, IsSet, width_in, width_of}
@@ -8,7 +12,6 @@ use Rattle.safl_net.specs.Valuations.{Valuation, Fits, Holds, next_state, next_n
 use Rattle.safl_net.specs.Making.{kind_at, kind_in, sort_of}
 use Rattle.safl_net.specs.Rules.{IsNetlist, KindFits}
 use Rattle.safl_net.specs.Laws.{FitWidths}
-use Rattle.safl_net.proofs.Naming.{within}
 use Rattle.safl_net.proofs.OneValuation.{one_valuation}
 use Rattle.safl_order.specs.Order.{Order, IsWire}
 use Rattle.safl_order.proofs.Ends.{order_acyclic}
@@ -24,20 +27,12 @@ use Rattle.safl_sim.specs.Cycles.{state_of, KeepsStates, Cycles}
 use Rattle.safl_sim.specs.Writes.{HasPut, HasShown, HasKept, KeepsOn}
 use Rattle.safl_sim.proofs.Actions.{low_number}
 use Rattle.safl_sim.proofs.Registers.{all_kept, was_unmarked}
-use Rattle.safl_sim.proofs.InputsInOrder.{inputs_are, inputs_long, map_get, get_map, maps_agree, length_map}
+use Rattle.safl_sim.proofs.InputsInOrder.{inputs_are, inputs_long, maps_agree}
 use Rattle.safl_sim.proofs.Placing.{all_placed}
 use Rattle.safl_sim.proofs.Updates.{lists_same}
 
-small : (a b v w : ℕ) → a ≡ b → v ≡ w → b < 2 ^ v → a < 2 ^ w
-small a b v w e f h = subst (λ x. a < 2 ^ x) f (subst (λ x. x < 2 ^ v) (sym e) h)
-
 kind_is : (n : Netlist) (s : ℕ) (g : Signal) → slice_get n.signals s ≡ Some g → kind_at n s ≡ g.kind
 kind_is n s g e = ap kind_in e
-
-get_some : {A : Type 0} (xs : List A) (s : ℕ) → s < length xs → (x : A) × (slice_get xs s ≡ Some x)
-get_some [] s h = absurd (omega arith)
-get_some (x ∷ xs) zero h = (x, refl)
-get_some (x ∷ xs) (suc s) h = get_some xs s (omega (arith, h))
 
 input_width : (n : Netlist) (places : List Sig) (given : List Word) (k : ℕ) (s : ℕ) (w : Word) → AreInputs n given → slice_get (inputs_of n) k ≡ Some
     s → slice_get given k ≡ Some w → w.width ≡ width_of n s
@@ -73,7 +68,7 @@ next_in n regs count made w i r e =
     (subst (λ x. KindFits n b.0.width x) b.2 (made.signals r.signal.0 b.0 b.1).kind).1
 
 pub registers_known : (n : Netlist) (regs : List Register) (count : ℕ) → AreRegisters n count regs → (i : ℕ) (r : Register) → slice_get regs i ≡ Some r → r.signal.0 < length n.signals
-registers_known n regs count w i r e = let a = w.each i r e in let b = next_at n r a.0 i a.1 in within n.signals r.signal.0 b.0 b.1
+registers_known n regs count w i r e = let a = w.each i r e in let b = next_at n r a.0 i a.1 in slice_get_within n.signals r.signal.0 b.0 b.1
 
 -- the words are put to the inputs
 module _ (o : Order) (p : Plan) (marks waiting numbers v0 : List ℕ) (kept : KeepsStates o p marks waiting numbers v0) (given : List Word) (are : AreInputs o.net given) where
@@ -94,9 +89,9 @@ module _ (o : Order) (p : Plan) (marks waiting numbers v0 : List ℕ) (kept : Ke
   pub inputs_fit : (v1 : List ℕ) → HasPut p.inputs.items given (length p.inputs.items) v0 v1 → (i : ℕ) (s : Sig) (w : Word) (g : Signal) → slice_get
       p.inputs.items i ≡ Some s → slice_get given i ≡ Some w → slice_get o.net.signals s.0 ≡ Some g → w.bits < 2 ^ g.width
   inputs_fit v1 put i s w g e f at =
-      let word = put.words i w (within p.inputs.items i s e) f in
+      let word = put.words i w (slice_get_within p.inputs.items i s e) f in
       let here : slice_get (inputs_of o.net) i ≡ Some s.0 = ap (λ l. slice_get l i) (sym kept.keeps.inputs) ∙ get_map (λ (x : Sig). x.0) p.inputs.items i s e in
-      small w.bits w.bits w.width g.width refl (input_width o.net p.inputs.items given i s.0 w are here f ∙ ap width_in at) word.fits
+      below_power w.bits w.bits w.width g.width refl (input_width o.net p.inputs.items given i s.0 w are here f ∙ ap width_in at) word.fits
 
   pub put_lists : Lists p.starts.items p.readers.items (length v0) (length marks)
   put_lists = lists_same p.starts.items p.readers.items _ _ _ _ kept.keeps.long refl kept.keeps.lists
@@ -141,10 +136,10 @@ module _ (o : Order) (p : Plan) (marks waiting numbers v0 : List ℕ) (kept : Ke
 
     pub has_put : HasWords o.net v1 given
     has_put = maps_agree (slice_index v1) (λ (w : Word). w.bits) (inputs_of o.net) given
-        (let a = inputs_long o.net p.inputs.items given kept.keeps.inputs are in let b = ap length kept.keeps.inputs in let c = length_map (λ (x : Sig). x.0) p.inputs.items in omega (arith, a, b, c))
+        (let a = inputs_long o.net p.inputs.items given kept.keeps.inputs are in let b = ap length kept.keeps.inputs in let c = length-map p.inputs.items (λ (x : Sig). x.0) in omega (arith, a, b, c))
         (λ i s w e f.
-        let t = map_get (λ (x : Sig). x.0) p.inputs.items i s (ap (λ l. slice_get l i) kept.keeps.inputs ∙ e) in
-        ap (slice_index v1) (sym t.2) ∙ put.put i t.0 w (within p.inputs.items i t.0 t.1) t.1 f)
+        let t = get_mapped (λ (x : Sig). x.0) p.inputs.items i s (ap (λ l. slice_get l i) kept.keeps.inputs ∙ e) in
+        ap (slice_index v1) (sym t.2) ∙ put.put i t.0 w (slice_get_within p.inputs.items i t.0 t.1) t.1 f)
 
 -- the rest of the cycle
 module _ (o : Order) (p : Plan) (marks waiting numbers v1 : List ℕ) (kept : KeepsStates o p marks waiting numbers v1) where
@@ -178,8 +173,8 @@ module _ (o : Order) (p : Plan) (marks waiting numbers v1 : List ℕ) (kept : Ke
   shown_at : (v2 : List ℕ) → HasShown p.registers.items (state_of o p numbers) (length p.registers.items) v1 v2 → (s : ℕ) (g : Signal) → slice_get
       o.net.signals s ≡ Some g → IsReg g.kind → slice_index v2 s ≡ slice_index (state_of o p numbers) s
   shown_at v2 q s g e h =
-      let a = kept.keeps.registers.all s (within o.net.signals s g e) (subst IsReg (sym (kind_is o.net s g e)) h) in
-      ap (slice_index v2) (sym a.3) ∙ q.shown a.0 a.1 (within p.registers.items a.0 a.1 a.2) a.2 ∙ ap (slice_index (state_of o p numbers)) a.3
+      let a = kept.keeps.registers.all s (slice_get_within o.net.signals s g e) (subst IsReg (sym (kind_is o.net s g e)) h) in
+      ap (slice_index v2) (sym a.3) ∙ q.shown a.0 a.1 (slice_get_within p.registers.items a.0 a.1 a.2) a.2 ∙ ap (slice_index (state_of o p numbers)) a.3
 
   not_shown : (v2 : List ℕ) → HasShown p.registers.items (state_of o p numbers) (length p.registers.items) v1 v2 → (s : ℕ) → ¬ (IsReg (kind_at o.net s)) → slice_index v2 s ≡ slice_index v1 s
   not_shown v2 q s away = q.others s (λ i r f e. away (subst IsReg (sym (kept.keeps.registers.each i r f).1 ∙ ap (kind_at o.net) e) tt))
@@ -258,7 +253,7 @@ module _ (o : Order) (p : Plan) (marks waiting numbers v1 : List ℕ) (kept : Ke
     holds s g (Wire (Some c)) e f =
         let kind : kind_at o.net s ≡ Wire (Some c) = kind_is o.net s g e ∙ f in
         let a = kept.keeps.order.all s (ap sort_of kind) in
-        scene.holding.stays a.0 s c a.1 kind (scene.below a.0 (let b = within o.wires a.0 s a.1 in let d = kept.keeps.steps.long in omega (arith, b, d)))
+        scene.holding.stays a.0 s c a.1 kind (scene.below a.0 (let b = slice_get_within o.wires a.0 s a.1 in let d = kept.keeps.steps.long in omega (arith, b, d)))
 
     fits : Fits o.net (slice_index (state_of o p numbers)) v3
     fits = record { full = scene.long; each = λ s g e. (scene.fits s g e, holds s g g.kind e refl) }
@@ -268,7 +263,7 @@ module _ (o : Order) (p : Plan) (marks waiting numbers v1 : List ℕ) (kept : Ke
 
     inputs_stay : map (slice_index v3) (inputs_of o.net) ≡ map (slice_index v1) (inputs_of o.net)
     inputs_stay = maps_agree (slice_index v3) (slice_index v1) (inputs_of o.net) (inputs_of o.net) refl (λ i s t e f.
-        let a = map_get (λ (x : Sig). x.0) p.inputs.items i s (ap (λ l. slice_get l i) kept.keeps.inputs ∙ e) in
+        let a = get_mapped (λ (x : Sig). x.0) p.inputs.items i s (ap (λ l. slice_get l i) kept.keeps.inputs ∙ e) in
         let kind : kind_at o.net s ≡ Input = ap (kind_at o.net) (sym a.2) ∙ ((inputs_are o.net p.inputs.items kept.keeps.inputs).at i a.0 a.1).1 in
         let same : s ≡ t = cc in
         input_stays s kind ∙ ap (slice_index v1) same)
@@ -286,11 +281,11 @@ module _ (o : Order) (p : Plan) (marks waiting numbers v1 : List ℕ) (kept : Ke
     kept_at : (s : ℕ) (g : Signal) (init m : ℕ) → slice_get o.net.signals s ≡ Some g → g.kind ≡ Reg init (Some m) → slice_index (state_of o p next) s ≡ slice_index v3 m
     kept_at s g init m e f =
         let kind : kind_at o.net s ≡ Reg init (Some m) = kind_is o.net s g e ∙ f in
-        let a = kept.keeps.registers.all s (within o.net.signals s g e) (subst IsReg (sym kind) tt) in
+        let a = kept.keeps.registers.all s (slice_get_within o.net.signals s g e) (subst IsReg (sym kind) tt) in
         let b = kept.keeps.registers.each a.0 a.1 a.2 in
         let c : Reg b.0 (Some a.1.next.0) ≡ Reg init (Some m) = sym b.1 ∙ ap (kind_at o.net) a.3 ∙ kind in
         let d : a.1.next.0 ≡ m = cc in
-        ap (slice_index (state_of o p next)) (sym a.3) ∙ r.kept a.0 a.1 (within p.registers.items a.0 a.1 a.2) a.2 ∙ ap (slice_index v3) d
+        ap (slice_index (state_of o p next)) (sym a.3) ∙ r.kept a.0 a.1 (slice_get_within p.registers.items a.0 a.1 a.2) a.2 ∙ ap (slice_index v3) d
 
     state_next : (s : ℕ) → slice_index (state_of o p next) s ≡ next_state o.net v3 s
     state_next s = by (slice_get o.net.signals s) refl
@@ -309,14 +304,14 @@ module _ (o : Order) (p : Plan) (marks waiting numbers v1 : List ℕ) (kept : Ke
     state_fits s g e = by g.kind refl (kept.keeps.made.signals s g e).kind
       where
         by : (j : Kind) → g.kind ≡ j → KindFits o.net g.width j → slice_index (state_of o p next) s < 2 ^ g.width
-        by Input f h = small (slice_index (state_of o p next) s) (slice_index (state_of o p numbers) s) g.width g.width
+        by Input f h = below_power (slice_index (state_of o p next) s) (slice_index (state_of o p numbers) s) g.width g.width
             (r.others s (λ i t x z. absurd (subst IsReg (sym (kept.keeps.registers.each i t x).1 ∙ ap (kind_at o.net) z ∙ kind_is o.net s g e ∙ f)
             tt))) refl (kept.keeps.state s g e)
         by (Reg init None) f h = absurd (subst IsSet f (kept.keeps.order.set s g e))
         by (Reg init (Some m)) f h =
             let there = get_some o.net.signals m h.1 in
-            small (slice_index (state_of o p next) s) (slice_index v3 m) there.0.width g.width (kept_at s g init m e f) (ap width_in (sym there.1) ∙ h.2) (scene.fits m there.0 there.1)
-        by (Wire cell) f h = small (slice_index (state_of o p next) s) (slice_index (state_of o p numbers) s) g.width g.width
+            below_power (slice_index (state_of o p next) s) (slice_index v3 m) there.0.width g.width (kept_at s g init m e f) (ap width_in (sym there.1) ∙ h.2) (scene.fits m there.0 there.1)
+        by (Wire cell) f h = below_power (slice_index (state_of o p next) s) (slice_index (state_of o p numbers) s) g.width g.width
             (r.others s (λ i t x z. absurd (subst IsReg (sym (kept.keeps.registers.each i t x).1 ∙ ap (kind_at o.net) z ∙ kind_is o.net s g e ∙ f)
             tt))) refl (kept.keeps.state s g e)
 
@@ -325,10 +320,10 @@ module _ (o : Order) (p : Plan) (marks waiting numbers v1 : List ℕ) (kept : Ke
     shows_state i t e none =
         let kind = (kept.keeps.registers.each i t e).1 in
         not_wire_same t.signal.0 (reg_not_wire (kind_at o.net t.signal.0) (subst IsReg (sym kind) tt))
-        ∙ q.shown i t (within p.registers.items i t e) e
+        ∙ q.shown i t (slice_get_within p.registers.items i t e) e
         ∙ subst (λ x. Kept x p.registers.items (state_of o p numbers) v3 m3) (sym same_first) scene.holding.kept i t e
         (was_unmarked first p.registers.items v3 (length m4 * 64) (state_of o p numbers) m3 (state_of o p next) m4 w4 ends room i none)
-        ∙ sym (r.kept i t (within p.registers.items i t e) e)
+        ∙ sym (r.kept i t (slice_get_within p.registers.items i t e) e)
 
     keeps_after : KeepsSimulation o p.steps.items p.inputs.items p.registers.items p.starts.items p.readers.items m4 w4 (state_of o p next) v3
     keeps_after = record {
@@ -347,7 +342,7 @@ module _ (o : Order) (p : Plan) (marks waiting numbers v1 : List ℕ) (kept : Ke
       state = state_fits;
       rest = not_kept;
       holding = record {
-        stays = λ j s c at kind none. scene.holding.stays j s c at kind (sym (ends.low j (let a = within o.wires j s at in let b = kept.keeps.steps.long in omega (arith, a, b, e1))) ∙ none);
+        stays = λ j s c at kind none. scene.holding.stays j s c at kind (sym (ends.low j (let a = slice_get_within o.wires j s at in let b = kept.keeps.steps.long in omega (arith, a, b, e1))) ∙ none);
         kept = subst (λ x. Kept x p.registers.items (state_of o p next) v3 m4) same_first ends.kept;
         inside = record {
           step = λ j e l. scene.holding.inside.step j (sym (ends.low j (omega (arith, l, same_first))) ∙ e) l;

@@ -6,10 +6,11 @@ use Rattle.safl_net.specs.Laws.{FitWidths}
 use Rattle.safl_net.specs.Netlist.{Netlist, Signal, Kind, Input, Reg, Wire, width_in, width_of}
 use Rattle.safl_net.specs.Rules.{IsNetlist, KindFits}
 use Rattle.safl_net.specs.Runs.{GoesOn, input_numbers}
-use Rattle.safl_net.specs.Valuations.{Valuation, Fits, IsAcyclic, next_state, next_number, kind_next, kind_reset, reset_number, reset_state}
+use Rattle.safl_net.specs.Valuations.{Valuation, Fits, IsAcyclic, next_state, next_number, kind_next, reset_state}
 use Rattle.safl_net.specs.Whole.{IsWhole}
 use Rattle.safl_net.proofs.Existence.{exactly_one}
 use Rattle.safl_net.specs.Arguments.{AreArguments}
+use Rattle.safl_net.proofs.Kinds.{reset_at}
 use Rattle.safl_sim.specs.Existence.{RunsExist, ResetFits, OneRunExists}
 use Rattle.safl_sim.specs.Outcomes.{IsCallRun}
 use Rattle.safl_sim.specs.Places.{AreInputs, HasWords, resets}
@@ -125,12 +126,6 @@ next_fits n state v made fits s g at = subst (λ x. x < 2 ^ g.width) (sym (ap (n
     on (Reg init None) f = pow_pos g.width
     on (Reg init (Some m)) f = of m (slice_get n.signals m) refl f.1 f.2
     on (Wire cell) f = pow_pos g.width
-
--- the state at reset is of the widths
-pub reset_at : (gs : List Signal) (s : ℕ) → slice_index (map (λ (g : Signal). kind_reset g.kind) gs) s ≡ reset_number (slice_get gs s)
-reset_at [] s = refl
-reset_at (g ∷ gs) zero = refl
-reset_at (g ∷ gs) (suc s) = reset_at gs s
 
 pub reset_fits : ResetFits
 reset_fits n made s g at = subst (λ x. x < 2 ^ g.width) (reset_at n.signals s) (resets_fit n made s g at)

@@ -3,15 +3,10 @@ use Rattle.std.proofs.Common.{◌≡◌, inl, inr, ℕ, suc, ◌<◌, ◌^◌, t
 use Rattle.std.specs.List.{IsDistinct, AllByRecursion, list_any}
 use Rattle.std.proofs.lemmas.Bool.Decides.{eqb_tells}
 use Rattle.std.proofs.lemmas.Map.Steps.{length-le_from_distinct_below}
-use Rattle.safl_net.proofs.Naming.{within}
 use Rattle.safl_net.specs.Netlist.{Netlist}
 use Rattle.safl_net.specs.Rules.{IsNetlist}
 use Rattle.safl_order.specs.Order.{IsOrder}
-use Rattle.safl_net.specs.Netlist.{Signal}
-use Rattle.std.proofs.Common.{Option, None}
-use Rattle.safl_net.specs.declared.cell.SigKind.TheVariants as SigKind
-use Rattle.safl_net.specs.Making.{kind_in, sort_of}
-use Rattle.safl_order.specs.Order.{IsWire}
+use Rattle.safl_order.proofs.Moves.{wire_in_net}
 
 all_away : (x : ℕ) (xs : List ℕ) → ((i y : ℕ) → slice_get xs i ≡ Some y → ¬ (x ≡ y)) → AllByRecursion (λ y. eqb x y ≡ false) xs
 all_away x [] h = tt
@@ -31,13 +26,6 @@ in_list q (x ∷ xs) e = elim (eqb_tells q x) [
   | inl a ↦ (0, ap Some (sym a.1))
   | inr a ↦ let b = in_list q xs (subst (λ t. (t || list_any (eqb q) xs) ≡ true) a.0 e) in (suc b.0, b.1)
 ]
-
-wire_in_net : (n : Netlist) (s : ℕ) → IsWire n s → s < length n.signals
-wire_in_net n s w = by (slice_get n.signals s) refl w
-  where
-    by : (o : Option Signal) → slice_get n.signals s ≡ o → sort_of (kind_in o) ≡ SigKind.Wire → s < length n.signals
-    by None q h = absurd (cc)
-    by (Some g) q h = within n.signals s g q
 
 pub few_wires : (n : Netlist) (ws : List ℕ) → IsNetlist n → IsOrder n ws → length ws < 2 ^ 32
 few_wires n ws made o =

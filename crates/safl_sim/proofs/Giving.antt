@@ -1,12 +1,12 @@
 -- The words of a cycle give `start` and the arguments their numbers.
 use Rattle.std.proofs.Common.{◌≡◌, ℕ, zero, suc, ◌+◌, List, [], ◌∷◌, ◌++◌, map, length, Bool, true, false, cond, slice_get, slice_index, refl, sym, ap, ◌∙◌, arith}
 use Rattle.safl_word.specs.Words.{Word}
-use Rattle.safl_net.specs.Netlist.{Netlist, Signal, Kind, Input, Reg, Wire, width_in, width_of}
+use Rattle.safl_net.specs.Netlist.{Netlist, Signal, Kind, Input, Reg, Wire, width_in, width_of, with_input}
 use Rattle.safl_net.specs.Valuations.{Valuation}
 use Rattle.safl_net.specs.Runs.{is_argument, input_numbers, start_number}
 use Rattle.safl_net.specs.Rules.{IsNetlist}
 use Rattle.safl_net.specs.Whole.{IsWhole, HasStart}
-use Rattle.safl_sim.specs.Places.{with_input, inputs_from, inputs_of, AreInputs, HasWords}
+use Rattle.safl_sim.specs.Places.{inputs_from, inputs_of, AreInputs, HasWords}
 use Rattle.safl_net.specs.Arguments.{argument_widths, AreArguments}
 use Rattle.safl_sim.specs.Words.{own_word, others, is_start, input_words, zero_of, bit_word}
 use Rattle.safl_sim.proofs.Names.{Starts, starts, start_is, start_at}

@@ -1,11 +1,12 @@
 -- The guards of readers, part by part.
 use Rattle.std.proofs.Common.{◌≡◌, ◌⊎◌, inl, inr, ℕ, zero, suc, ◌+◌, ◌<◌, ◌≤◌, List, length, set, Some, slice_get, slice_index, refl, sym, ap, subst, ◌∙◌, arith}
+use Rattle.std.proofs.lemmas.List.{length-set}
+use Rattle.safl_word.proofs.Naturals.{lower_or_last}
 use Rattle.safl_sim.specs.declared.step.Guard.{Guard}
 use Rattle.safl_sim.specs.declared.step.Step.{Step}
 use Rattle.safl_sim.specs.Guards.{IsGuard}
 use Rattle.safl_sim.specs.Readers.{Lists}
-use Rattle.safl_sim.proofs.Tables.{get_set_same, get_set_other, set_long}
-use Rattle.safl_sim.proofs.Written.{lower_or_same}
+use Rattle.safl_sim.proofs.Tables.{get_set_same, get_set_other}
 
 -- of the part of a place, the readers up to a number have their guards, and no other guard has changed
 pub record PartTo (steps : List Step) (readers : List ℕ) (place from to : ℕ) (old new : List Guard) : Type 0 where
@@ -24,8 +25,8 @@ pub part_more : (steps : List Step) (readers : List ℕ) (place from to k : ℕ)
     old new → from ≤ to → to < length new → slice_get readers to ≡ Some k → IsGuard steps place k g
     → PartTo steps readers place from (to + 1) old (set new to g)
 part_more steps readers place from to k g old new w late inside here is = record {
-  long = set_long new to g ∙ w.long;
-  each = λ j q h f t e at. elim (lower_or_same j to t) [
+  long = length-set new to g ∙ w.long;
+  each = λ j q h f t e at. elim (lower_or_last j to t) [
     | inl l ↦ w.each j q h f l e (sym (get_set_other new to j g (λ z. absurd (omega (arith, z, l)))) ∙ at)
     | inr z ↦
         let reader : Some q ≡ Some k = sym e ∙ ap (slice_get readers) z ∙ here in
@@ -57,7 +58,7 @@ pub guarded_more : (steps : List Step) (starts readers : List ℕ) (places words
     → PartTo steps readers count (slice_index starts count) (slice_index starts (count + 1)) old new → GuardedTo steps starts readers (count + 1) new
 guarded_more steps starts readers places words count old new w inside before part = record {
   long = part.long ∙ before.long;
-  each = λ p j k g h f t e at. elim (lower_or_same p count h) [
+  each = λ p j k g h f t e at. elim (lower_or_last p count h) [
     | inl l ↦
         let n = later p count l in
         let r = rise starts readers places words w (p + 1) n.0 (let a = n.1 in omega (arith, a, inside)) in

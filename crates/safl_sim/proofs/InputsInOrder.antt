@@ -1,10 +1,12 @@
 -- The inputs of a net, in order.
 use Rattle.std.proofs.Common.{◌≡◌, ℕ, zero, suc, ◌+◌, ◌<◌, List, [], ◌∷◌, map, length, Some, slice_get, refl, sym, ap, ◌∙◌, arith}
+use Rattle.std.proofs.lemmas.List.{length-map}
 use Rattle.safl_word.specs.Words.{Word}
+use Rattle.safl_word.proofs.Lists.{get_map, get_mapped}
 use Rattle.safl_net.specs.declared.cell.Sig.{Sig}
-use Rattle.safl_net.specs.Netlist.{Netlist, Signal, Kind, Input, Reg, Wire, width_of}
+use Rattle.safl_net.specs.Netlist.{Netlist, Signal, Kind, Input, Reg, Wire, width_of, with_input}
 use Rattle.safl_net.specs.Making.{kind_at, kind_in, numbers}
-use Rattle.safl_sim.specs.Places.{with_input, inputs_from, inputs_of, AreInputs}
+use Rattle.safl_sim.specs.Places.{inputs_from, inputs_of, AreInputs}
 
 -- the place of an input
 pub record InputAt (gs : List Signal) (i s : ℕ) : Type 0 where
@@ -54,20 +56,6 @@ inputs_all (h ∷ gs) i (suc s) g e f =
     on (Reg init next) k q = (k, q)
     on (Wire cell) k q = (k, q)
 
-pub get_map : {A B : Type 0} (f : A → B) (xs : List A) (i : ℕ) (x : A) → slice_get xs i ≡ Some x → slice_get (map f xs) i ≡ Some (f x)
-get_map f [] i x e = absurd (cc)
-get_map f (y ∷ xs) zero x e = let q : y ≡ x = cc in ap (λ z. Some (f z)) q
-get_map f (y ∷ xs) (suc i) x e = get_map f xs i x e
-
-pub map_get : {A B : Type 0} (f : A → B) (xs : List A) (i : ℕ) (y : B) → slice_get (map f xs) i ≡ Some y → (x : A) × (slice_get xs i ≡ Some x) × (f x ≡ y)
-map_get f [] i y e = absurd (cc)
-map_get f (x ∷ xs) zero y e = (x, refl, cc)
-map_get f (x ∷ xs) (suc i) y e = map_get f xs i y e
-
-pub length_map : {A B : Type 0} (f : A → B) (xs : List A) → length (map f xs) ≡ length xs
-length_map f [] = refl
-length_map f (x ∷ xs) = ap suc (length_map f xs)
-
 -- lists that agree at each place
 pub maps_agree : {A B : Type 0} (f : A → ℕ) (g : B → ℕ) (xs : List A) (ys : List B) → length xs ≡ length ys →
     ((i : ℕ) (x : A) (y : B) → slice_get xs i ≡ Some x → slice_get ys i ≡ Some y → f x ≡ g y) → map f xs ≡ map g ys
@@ -96,15 +84,15 @@ inputs_are n places e = record {
   all = λ s g f h.
       let r = inputs_all n.signals 0 s g f h in
       let r' : slice_get (inputs_of n) r.0 ≡ Some s = r.1 ∙ ap Some (let z : s + 0 ≡ s = omega arith in z) in
-      let p = map_get (λ (x : Sig). x.0) places r.0 s (ap (λ l. slice_get l r.0) e ∙ r') in
+      let p = get_mapped (λ (x : Sig). x.0) places r.0 s (ap (λ l. slice_get l r.0) e ∙ r') in
       (r.0, p.0, p.1, p.2, r');
 }
 
 pub inputs_long : (n : Netlist) (places : List Sig) (given : List Word) → numbers places ≡ inputs_of n → AreInputs n given → length places ≡ length given
 inputs_long n places given e h =
     let a = ap length e in
-    let b = length_map (λ (x : Sig). x.0) places in
+    let b = length-map places (λ (x : Sig). x.0) in
     let c = ap length h in
-    let d = length_map (λ (w : Word). w.width) given in
-    let f = length_map (width_of n) (inputs_of n) in
+    let d = length-map given (λ (w : Word). w.width) in
+    let f = length-map (inputs_of n) (width_of n) in
     omega (arith, a, b, c, d, f)

@@ -21,3 +21,4 @@ pub mod Giving
 pub mod Going
 pub mod OneCall
 pub mod Existence
+pub mod WordsOfNumbers

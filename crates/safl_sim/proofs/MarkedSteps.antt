@@ -1,10 +1,14 @@
 -- The values while the marked steps run.
 use Rattle.std.proofs.Common.{◌≡◌, inl, inr, ℕ, ◌+◌, ◌*◌, ◌<◌, ◌≤◌, List, map, length, set, Some, slice_get, slice_index, sym, ap, subst, ◌∙◌, arith}
+use Rattle.std.proofs.lemmas.Option.{slice_get-get_or, slice_get_within}
+use Rattle.std.proofs.lemmas.Bool.{cases_eq, cases_lt}
+use Rattle.std.proofs.lemmas.List.{length-set}
+use Rattle.safl_word.proofs.Naturals.{below_power}
 use Rattle.safl_net.specs.Netlist.{Signal, Wire, Cell}
 use Rattle.safl_net.specs.Valuations.{signal_word, cell_word}
 use Rattle.safl_net.specs.Making.{kind_at}
 use Rattle.safl_net.specs.Laws.{FitWidths}
-use Rattle.safl_net.proofs.Naming.{within}
+use Rattle.safl_net.proofs.Kinds.{wire_at}
 use Rattle.safl_order.specs.Order.{Order, IsWire}
 use Rattle.safl_sim.specs.declared.step.Step.{Step}
 use Rattle.safl_sim.specs.declared.step.Register.{Register}
@@ -12,8 +16,8 @@ use Rattle.safl_sim.specs.Marks.{marked, first_register, HasNone, NoneBetween, H
 use Rattle.safl_sim.specs.Readers.{Lists, HasGiven, Agrees}
 use Rattle.safl_sim.specs.Steps.{action_number, Ready, LowStep, IsStep, Runs}
 use Rattle.safl_sim.specs.Writes.{after_steps, AllReady}
-use Rattle.safl_sim.proofs.Written.{same_or_not, lower_or_not, index_here, index_other, set_length, get_at}
-use Rattle.safl_sim.proofs.Scenes.{wire_at, cell_number_fits, apart, small, step_low, all_steps}
+use Rattle.safl_sim.proofs.Written.{index_here, index_other}
+use Rattle.safl_sim.proofs.Scenes.{cell_number_fits, apart, step_low, all_steps}
 use Rattle.safl_sim.proofs.Updates.{was_none, operands_same, fits_set, given_stays, given_kept, given_inside, given_below}
 use Rattle.safl_sim.proofs.MarksByOne.{taken_after, taken_upto, none_upto, none_past}
 
@@ -51,14 +55,14 @@ module _ (o : Order) (all : List Step) (regs : List Register) (now starts reader
 
   pub takes : (step : Step) → slice_get all i ≡ Some step → Takes o all regs now starts readers start word i step values marks marks'
   takes step here =
-      let wire = get_at o.wires i 0 (let a = taken_within in let b = w.steps.long in omega (arith, a, b)) in
+      let wire = slice_get-get_or o.wires i 0 (let a = taken_within in let b = w.steps.long in omega (arith, a, b)) in
       let s = slice_index o.wires i in
       let is = w.steps.each i s step wire here in
       let g = wire_at o.net s is.cell is.is in
       let long = w.long in
       let x = action_number (slice_index values) step.action in
       let gives : x ≡ (cell_word is.cell.op (map (signal_word o.net values) is.cell.operands)).bits = is.performs.gives (slice_index values) w.fits in
-      let inside : s < length values = (let a = within o.net.signals s g.0 g.1 in omega (arith, a, long)) in
+      let inside : s < length values = (let a = slice_get_within o.net.signals s g.0 g.1 in omega (arith, a, long)) in
       let one = is.wire in
       record {
         within = taken_within;
@@ -79,7 +83,7 @@ module _ (o : Order) (all : List Step) (regs : List Register) (now starts reader
           let fits' : FitWidths o.net (slice_index values'') = subst (λ l. FitWidths o.net (slice_index l)) (sym set_is) (fits_set o.net values s x inside (λ b e.
           let g' : Some b ≡ Some g = sym e ∙ sig in
           let one : b ≡ g = cc in
-          small x (cell_word is.cell.op (map (signal_word o.net values) is.cell.operands)).bits g.width b.width gives
+          below_power x (cell_word is.cell.op (map (signal_word o.net values) is.cell.operands)).bits g.width b.width gives
           (ap (λ (z : Signal). z.width) (sym one)) (cell_number_fits o.net values s is.cell g w.made w.fits sig kind)) w.fits) in
           record {
             made = w.made;
@@ -88,13 +92,13 @@ module _ (o : Order) (all : List Step) (regs : List Register) (now starts reader
             lists = subst (λ l. Lists starts readers (length o.net.signals) l) (sym (h.long ∙ t.long)) w.lists;
             read = w.read;
             room = (let a = w.room in let b = h.long in let c = t.long in omega (arith, a, b, c));
-            long = ap length set_is ∙ set_length values s x ∙ w.long;
+            long = ap length set_is ∙ length-set values s x ∙ w.long;
             fits = fits';
             others = subst (λ l. (y : ℕ) → ¬ (IsWire o.net y) → slice_index l y ≡ slice_index start y) (sym set_is)
                 (λ y v. index_other values s x y (λ q. v (subst (λ z. IsWire o.net z) (sym q) (w.order.wires i s at))) ∙ w.others y v);
             below = λ k l. given_below o.net o.wires all regs starts readers i s x values values'' marks' marks'' w.order w.read h at k (omega (arith, l)) (upto_none k (omega (arith, l)));
             holding = record {
-              stays = λ k y d e f none. elim (same_or_not y s) [
+              stays = λ k y d e f none. elim (cases_eq y s) [
                 | inl q ↦
                     let same : Wire (Some d) ≡ Wire (Some is.cell) = sym f ∙ ap (kind_at o.net) q ∙ is.is in
                     let one : d ≡ is.cell = cc in
@@ -112,8 +116,8 @@ module _ (o : Order) (all : List Step) (regs : List Register) (now starts reader
               kept = given_kept o.net o.wires all regs now starts readers s x values values'' marks' marks'' w.read w.steps.long h
                   (λ k q e none. w.holding.kept k q e (sym (t.others (first_register (length o.wires) + k) (λ z. apart_marks k z)) ∙ none));
               inside = given_inside o.net o.wires all regs starts readers s x values values'' marks' marks'' w.read h (record {
-                step = λ k e l. elim (same_or_not k i) [ inl q ↦ absurd (gone k q e) | inr q ↦ w.holding.inside.step k (sym (t.others k q) ∙ e) l ];
-                register = λ k e. elim (same_or_not k i) [ inl q ↦ absurd (gone k q e) | inr q ↦ w.holding.inside.register k (sym (t.others k q) ∙ e) ];
+                step = λ k e l. elim (cases_eq k i) [ inl q ↦ absurd (gone k q e) | inr q ↦ w.holding.inside.step k (sym (t.others k q) ∙ e) l ];
+                register = λ k e. elim (cases_eq k i) [ inl q ↦ absurd (gone k q e) | inr q ↦ w.holding.inside.register k (sym (t.others k q) ∙ e) ];
               });
             };
           }
@@ -163,11 +167,11 @@ all_ran o all regs now starts readers start values marks none marks' w long away
       others = λ s v. r.scene.others s v ∙ w.others s v;
       below = λ k l. m.below k l ∙ away k;
       holding = record {
-        stays = λ k s c at kind e. r.scene.done k s c (let a = within o.wires k s at in omega (arith, a, many)) at kind;
-        kept = λ k q e none. absurd (let a = m.all (first_register (length o.wires) + k) (omega (arith, many)) (let b = within regs k q e in omega (arith, b, many)) in omega (arith, a, none));
+        stays = λ k s c at kind e. r.scene.done k s c (let a = slice_get_within o.wires k s at in omega (arith, a, many)) at kind;
+        kept = λ k q e none. absurd (let a = m.all (first_register (length o.wires) + k) (omega (arith, many)) (let b = slice_get_within regs k q e in omega (arith, b, many)) in omega (arith, a, none));
         inside = record {
           step = λ k e l. absurd (let a = m.below k (omega (arith, l, many)) ∙ away k in omega (arith, a, e));
-          register = λ k e. elim (lower_or_not k (first_register (length all) + length regs)) [
+          register = λ k e. elim (cases_lt k (first_register (length all) + length regs)) [
             | inl h ↦ omega (arith, h, many)
             | inr h ↦ absurd (let a = m.above k h ∙ away k in omega (arith, a, e))
           ];

@@ -5,8 +5,11 @@ use Rattle.std.specs.Int.RustNames.{bit_or}
 use lib.Bits.{bit_and}
 use Rattle.std.proofs.Math.Nat.{zero-max}
 use Rattle.std.proofs.lemmas.Nat.Bits.{bit_at-zero, bit_at_or, bit_at-trailing_zeros, bit_at_set_same, bit_at_set_other, bit_at_clear_same, bit_at_clear_other}
+use Rattle.std.proofs.lemmas.Bool.{cases_eq, cases_lt}
+use Rattle.std.proofs.lemmas.List.{length-set}
+use Rattle.safl_word.proofs.Naturals.{lower_or_last}
 use Rattle.safl_sim.specs.Marks.{marked, HasMark, HasNone, NoneBetween, HasTaken, HasRange}
-use Rattle.safl_sim.proofs.Written.{same_or_not, lower_or_not, lower_or_same, index_here, index_other, set_length}
+use Rattle.safl_sim.proofs.Written.{index_here, index_other}
 use Rattle.safl_sim.specs.declared.step.Step.{Step}
 use Rattle.safl_sim.specs.Readers.{Blind, HasMarked}
 
@@ -22,9 +25,9 @@ mark_has old i h =
     let x = bit_or (slice_index old (i / 64)) (1 * 2 ^ (i % 64) % 2 ^ 64) in
     let low : i % 64 < 64 = omega arith in
     record {
-      long = set_length old (i / 64) x;
+      long = length-set old (i / 64) x;
       here = written_same old (i / 64) x i h refl ∙ bit_at_set_same w64 (slice_index old (i / 64)) (i % 64) low;
-      others = λ k n. elim (same_or_not (k / 64) (i / 64)) [
+      others = λ k n. elim (cases_eq (k / 64) (i / 64)) [
         | inl q ↦ written_same old (i / 64) x k h q ∙ bit_at_set_other w64 (slice_index old (i / 64)) (i % 64) low (k % 64)
             (λ e. n (omega (arith, e, q))) ∙ ap (λ y. bit_at (slice_index old y) (k % 64)) (sym q)
         | inr q ↦ written_other old (i / 64) x k q
@@ -44,12 +47,12 @@ take_has old w left h is some fits =
     let at : (w * 64 + b) / 64 ≡ w = omega (arith, under) in
     let bit : (w * 64 + b) % 64 ≡ b = omega (arith, under) in
     record {
-      long = set_length old w x;
+      long = length-set old w x;
       within = at;
       was = ap (λ y. bit_at (slice_index old y) ((w * 64 + b) % 64)) at ∙ ap (λ y. bit_at y ((w * 64 + b) % 64)) is ∙ ap (bit_at left) bit ∙ low.1;
       first = λ k q l. ap (λ y. bit_at (slice_index old y) (k % 64)) q ∙ ap (λ y. bit_at y (k % 64)) is ∙ low.2 (k % 64) (omega (arith, q, l));
       gone = written_same old w x (w * 64 + b) h at ∙ ap (bit_at x) bit ∙ bit_at_clear_same w64 left b under;
-      others = λ k n. elim (same_or_not (k / 64) w) [
+      others = λ k n. elim (cases_eq (k / 64) w) [
         | inl q ↦ written_same old w x k h q ∙ bit_at_clear_other w64 left b under (k % 64) (omega arith) (λ e. n (omega (arith, e, q))) ∙ ap
             (λ y. bit_at y (k % 64)) (sym is) ∙ ap (λ y. bit_at (slice_index old y) (k % 64)) (sym q)
         | inr q ↦ written_other old w x k q
@@ -71,7 +74,7 @@ pub marked_step : (steps : List Step) (readers : List ℕ) (from j r p : ℕ) (v
 marked_step steps readers from j r p values old marks new le w e m = record {
   long = m.long ∙ w.long;
   grows = λ k h. on k (w.grows k h);
-  all = λ i k f t h. elim (lower_or_same i j t) [
+  all = λ i k f t h. elim (lower_or_last i j t) [
     | inl l ↦ elim (w.all i k f l h) [ inl z ↦ inl (on k z) | inr u ↦ inr u ]
     | inr s ↦ inl (let z : Some k ≡ Some r = sym h ∙ ap (slice_get readers) s ∙ e in let q : k ≡ r = cc in ap (marked new) q ∙ m.here)
   ];
@@ -79,7 +82,7 @@ marked_step steps readers from j r p values old marks new le w e m = record {
 }
   where
     on : (k : ℕ) → marked marks k ≡ 1 → marked new k ≡ 1
-    on k h = elim (same_or_not k r) [ inl q ↦ ap (marked new) q ∙ m.here | inr q ↦ m.others k q ∙ h ]
+    on k h = elim (cases_eq k r) [ inl q ↦ ap (marked new) q ∙ m.here | inr q ↦ m.others k q ∙ h ]
 
 -- or blind
 pub blind_step : (steps : List Step) (readers : List ℕ) (from j r p : ℕ) (values old marks : List ℕ) → HasMarked steps readers from j p values old
@@ -87,7 +90,7 @@ pub blind_step : (steps : List Step) (readers : List ℕ) (from j r p : ℕ) (va
 blind_step steps readers from j r p values old marks w e blind = record {
   long = w.long;
   grows = w.grows;
-  all = λ i k f t h. elim (lower_or_same i j t) [
+  all = λ i k f t h. elim (lower_or_last i j t) [
     | inl l ↦ w.all i k f l h
     | inr s ↦ inr (let z : Some k ≡ Some r = sym h ∙ ap (slice_get readers) s ∙ e in let q : r ≡ k = cc in subst (λ y. Blind steps values p y) q blind)
   ];
@@ -106,7 +109,7 @@ range_none from marks = record {
 pub range_step : (from i : ℕ) (old marks new : List ℕ) → from ≤ i → HasRange from i old marks → HasMark marks new i → HasRange from (i + 1) old new
 range_step from i old marks new le w m = record {
   long = m.long ∙ w.long;
-  all = λ k f t. elim (lower_or_same k i t) [
+  all = λ k f t. elim (lower_or_last k i t) [
     | inl l ↦ m.others k (λ q. omega (arith, q, l)) ∙ w.all k f l
     | inr q ↦ ap (marked new) q ∙ m.here
   ];
@@ -118,19 +121,19 @@ range_step from i old marks new le w m = record {
 module _ (marks marks' : List ℕ) (first place word i : ℕ) (below : (k : ℕ) → first ≤ k → k < place → marked marks k ≡ 0) (early : first ≤ word * 64)
     (from : word * 64 ≤ place) (t : HasTaken marks marks' word i) where
   pub taken_after : place ≤ i
-  taken_after = elim (lower_or_not i place) [
+  taken_after = elim (cases_lt i place) [
     | inl h ↦ absurd (let z = t.within in let a = below i (omega (arith, z, early)) h in let b = t.was in omega (arith, a, b))
     | inr h ↦ h
   ]
 
   taken_before : (k : ℕ) → first ≤ k → k < i → marked marks k ≡ 0
-  taken_before k f l = elim (lower_or_not k place) [
+  taken_before k f l = elim (cases_lt k place) [
     | inl h ↦ below k f h
     | inr h ↦ t.first k (let a = t.within in omega (arith, a, l, h, from)) l
   ]
 
   pub taken_upto : (k : ℕ) → first ≤ k → k ≤ i → marked marks' k ≡ 0
-  taken_upto k f l = elim (same_or_not k i) [
+  taken_upto k f l = elim (cases_eq k i) [
     | inl q ↦ ap (marked marks') q ∙ t.gone
     | inr q ↦ t.others k q ∙ taken_before k f (omega (arith, l, q))
   ]
@@ -138,20 +141,20 @@ module _ (marks marks' : List ℕ) (first place word i : ℕ) (below : (k : ℕ)
 -- a word with no mark left
 pub none_upto : (marks : List ℕ) (first place word : ℕ) → ((k : ℕ) → first ≤ k → k < place → marked marks k ≡ 0) → word * 64 ≤ place → HasNone marks
     word → (k : ℕ) → first ≤ k → k < (word + 1) * 64 → marked marks k ≡ 0
-none_upto marks first place word below from none k f l = elim (lower_or_not k place) [ inl h ↦ below k f h | inr h ↦ none k (omega (arith, h, l, from)) ]
+none_upto marks first place word below from none k f l = elim (cases_lt k place) [ inl h ↦ below k f h | inr h ↦ none k (omega (arith, h, l, from)) ]
 
 -- words with no mark left
 pub none_past : (marks : List ℕ) (first from to : ℕ) → ((k : ℕ) → first ≤ k → k < from * 64 → marked marks k ≡ 0) → NoneBetween marks from to → (k : ℕ) → first ≤ k → k < to * 64 → marked marks k ≡ 0
-none_past marks first from to below none k f l = elim (lower_or_not k (from * 64)) [ inl h ↦ below k f h | inr h ↦ none (k / 64) (omega (arith, h)) (omega (arith, l)) k refl ]
+none_past marks first from to below none k f l = elim (cases_lt k (from * 64)) [ inl h ↦ below k f h | inr h ↦ none (k / 64) (omega (arith, h)) (omega (arith, l)) k refl ]
 
 pub between_none : (marks : List ℕ) (from : ℕ) → NoneBetween marks from from
 between_none marks from w f l = absurd (omega (arith, f, l))
 
 pub between_one : (marks : List ℕ) (from w : ℕ) → NoneBetween marks from w → slice_index marks w ≡ 0 → NoneBetween marks from (w + 1)
-between_one marks from w none e v f l = elim (lower_or_same v w l) [ inl h ↦ none v f h | inr q ↦ none_in marks v (ap (slice_index marks) q ∙ e) ]
+between_one marks from w none e v f l = elim (lower_or_last v w l) [ inl h ↦ none v f h | inr q ↦ none_in marks v (ap (slice_index marks) q ∙ e) ]
 
 pub between_more : (marks : List ℕ) (from mid to : ℕ) → NoneBetween marks from mid → NoneBetween marks mid to → NoneBetween marks from to
-between_more marks from mid to a b v f l = elim (lower_or_not v mid) [ inl h ↦ a v f h | inr h ↦ b v h l ]
+between_more marks from mid to a b v f l = elim (cases_lt v mid) [ inl h ↦ a v f h | inr h ↦ b v h l ]
 
 -- no bit of a sum of bits, none of either
 max_none : (m n : ℕ) → max m n ≡ 0 → (m ≡ 0) × (n ≡ 0)
@@ -174,11 +177,11 @@ four_none marks w a b c d ea eb ec ed e v f l k q =
     let z = or_none a b y.0 in
     let at : (u n : ℕ) → v ≡ u → slice_index marks u ≡ n → ((i : ℕ) → bit_at n i ≡ 0) → marked marks k ≡ 0 = λ u n s t none.
     ap (λ y. bit_at (slice_index marks y) (k % 64)) (q ∙ s) ∙ ap (λ y. bit_at y (k % 64)) t ∙ none (k % 64) in
-    elim (same_or_not v w) [
+    elim (cases_eq v w) [
       | inl s ↦ at w a s ea z.0
-      | inr n ↦ elim (same_or_not v (w + 1)) [
+      | inr n ↦ elim (cases_eq v (w + 1)) [
         | inl s ↦ at (w + 1) b s eb z.1
-        | inr m ↦ elim (same_or_not v (w + 2)) [
+        | inr m ↦ elim (cases_eq v (w + 2)) [
           | inl s ↦ at (w + 2) c s ec y.1
           | inr o ↦ at (w + 3) d (omega (arith, f, l, n, m, o)) ed x.1
         ]

@@ -6,8 +6,13 @@ use Rattle.std.specs.Int.RustNames.{bit_or}
 use lib.Bits.{bit_and}
 use Rattle.std.proofs.lemmas.Nat.{or_comm}
 use Rattle.std.proofs.lemmas.Nat.Bits.{bit_at-zero, bit_at-lt, bit_at_or, bit_at_set_same, bit_at_set_other, same_from_bits}
+use Rattle.std.proofs.lemmas.Option.{slice_get_within}
+use Rattle.std.proofs.lemmas.Bool.{cases_eq, cases_lt}
+use Rattle.std.proofs.lemmas.List.{length-set, length_push, set-set, set_past}
+use Rattle.safl_word.proofs.Lists.{get_pushed, get_some}
+use Rattle.safl_word.proofs.Naturals.{lower_or_last}
 use Rattle.safl_net.specs.Netlist.{Netlist}
-use Rattle.safl_net.proofs.Naming.{pushed, within}
+use Rattle.safl_net.proofs.Kinds.{wire_at}
 use Rattle.safl_sim.specs.declared.step.Group.{Group}
 use Rattle.safl_sim.specs.declared.step.Near.{Near}
 use Rattle.safl_sim.specs.declared.step.Register.{Register}
@@ -16,10 +21,9 @@ use Rattle.safl_sim.specs.Marks.{marked, holding, HasNone, HasTaken}
 use Rattle.safl_sim.specs.Readers.{Reader, HasMarked, HasGiven}
 use Rattle.safl_sim.specs.Nears.{IsNear, NearAt, NearOf, GroupOf}
 use Rattle.safl_sim.specs.Steps.{AreSteps}
-use Rattle.safl_sim.proofs.Written.{same_or_not, lower_or_not, lower_or_same, index_here, set_length}
+use Rattle.safl_sim.proofs.Written.{index_here}
 use Rattle.safl_sim.proofs.MarksByOne.{written_same, written_other, none_in, take_has}
 use Rattle.safl_sim.proofs.Updates.{set_same}
-use Rattle.safl_sim.proofs.Scenes.{wire_at, get_same}
 
 -- ---- the greater of two bits
 
@@ -58,11 +62,6 @@ zero_or x = or_comm 0 x ∙ or_zero x
 
 -- ---- marks that are held apart
 
-pub set_set : (xs : List ℕ) (w x y : ℕ) → set (set xs w x) w y ≡ set xs w y
-set_set [] w x y = refl
-set_set (z ∷ xs) zero x y = refl
-set_set (z ∷ xs) (suc w) x y = ap (λ l. z ∷ l) (set_set xs w x y)
-
 marked_holding : (marks : List ℕ) (w held k : ℕ) → w < length marks → k / 64 ≡ w → marked (holding marks w held) k ≡ bit_at held (k % 64)
 marked_holding marks w held k h e = written_same marks w held k h e
 
@@ -76,15 +75,15 @@ pub no_marks : (marks : List ℕ) (w : ℕ) → w < length marks → HasNone (ho
 no_marks marks w h = none_in (holding marks w 0) w (index_here marks w 0 h)
 
 pub holding_long : (marks : List ℕ) (w held : ℕ) → length (holding marks w held) ≡ length marks
-holding_long marks w held = set_length marks w held
+holding_long marks w held = length-set marks w held
 
 pub take_held_has : (w x : ℕ) → 0 < x → x < 2 ^ 64 → (marks : List ℕ) → w < length marks
     → HasTaken (holding marks w x) (holding marks w (bit_and x (bit_not w64 (1 * 2 ^ trailing_zeros w64 x % 2 ^ 64)))) w (w * 64 + trailing_zeros w64 x)
 take_held_has w x some fits marks h =
     let b = trailing_zeros w64 x in
     let y = bit_and x (bit_not w64 (1 * 2 ^ b % 2 ^ 64)) in
-    subst (λ l. HasTaken (set marks w x) l w (w * 64 + b)) (set_set marks w x y)
-    (take_has (set marks w x) w x (let a = set_length marks w x in omega (arith, a, h)) (index_here marks w x h) some fits)
+    subst (λ l. HasTaken (set marks w x) l w (w * 64 + b)) (set-set marks w x y)
+    (take_has (set marks w x) w x (let a = length-set marks w x in omega (arith, a, h)) (index_here marks w x h) some fits)
 
 -- ---- the near readers of a step
 
@@ -113,21 +112,21 @@ near_more readers from j to k word m first w le e at =
     record {
       least = w.least;
       most = w.most;
-      early = λ i q f t l g. elim (lower_or_same i j t) [
+      early = λ i q f t l g. elim (lower_or_last i j t) [
         | inl h ↦ w.early i q f h l g
         | inr z ↦
             let s : Some q ≡ Some k = sym g ∙ ap (slice_get readers) z ∙ e in
             let one : q ≡ k = cc in
             ap (λ y. y / 64) one ∙ at
       ];
-      all = λ i q f t g same. elim (lower_or_same i j t) [
-        | inl h ↦ elim (same_or_not (q % 64) (k % 64)) [ inl z ↦ ap (bit_at x) z ∙ bit_at_set_same w64 m (k % 64) low | inr z ↦ bit_at_set_other w64 m (k % 64) low (q % 64) z ∙ w.all i q f h g same ]
+      all = λ i q f t g same. elim (lower_or_last i j t) [
+        | inl h ↦ elim (cases_eq (q % 64) (k % 64)) [ inl z ↦ ap (bit_at x) z ∙ bit_at_set_same w64 m (k % 64) low | inr z ↦ bit_at_set_other w64 m (k % 64) low (q % 64) z ∙ w.all i q f h g same ]
         | inr z ↦
             let s : Some q ≡ Some k = sym g ∙ ap (slice_get readers) z ∙ e in
             let one : q ≡ k = cc in
             ap (λ y. bit_at x (y % 64)) one ∙ bit_at_set_same w64 m (k % 64) low
       ];
-      only = λ b h n. elim (same_or_not b (k % 64)) [
+      only = λ b h n. elim (cases_eq b (k % 64)) [
         | inl z ↦ absurd (n j le (omega arith) (e ∙ ap Some (let r : k ≡ word * 64 + b = omega (arith, at, z) in r)))
         | inr z ↦ bit_at_set_other w64 m (k % 64) low b z ∙ w.only b h (λ i f t. n i f (omega (arith, t)))
       ];
@@ -141,7 +140,7 @@ near_other readers from j to k word m first first' w least lower before e away =
   least = least;
   most = (let a = w.most in omega (arith, a, lower));
   early = λ i q f t l g. w.early i q f (omega (arith, l, before)) (omega (arith, l, lower)) g;
-  all = λ i q f t g same. elim (lower_or_same i j t) [
+  all = λ i q f t g same. elim (lower_or_last i j t) [
     | inl h ↦ w.all i q f h g same
     | inr z ↦
         let s : Some q ≡ Some k = sym g ∙ ap (slice_get readers) z ∙ e in
@@ -163,10 +162,10 @@ near_is readers from j to word m first z w = record {
 
 pub steps_known : (n : Netlist) (ws : List ℕ) (steps : List Step) → AreSteps n ws steps → (i : ℕ) (s : Step) → slice_get steps i ≡ Some s → s.wire.0 < length n.signals
 steps_known n ws steps w i s e =
-    let g = get_same ws i (let a = within steps i s e in let b = w.long in omega (arith, a, b)) in
+    let g = get_some ws i (let a = slice_get_within steps i s e in let b = w.long in omega (arith, a, b)) in
     let is = w.each i g.0 s g.1 e in
     let at = wire_at n g.0 is.cell is.is in
-    let a = within n.signals g.0 at.0 at.1 in
+    let a = slice_get_within n.signals g.0 at.0 at.1 in
     let b = is.wire in
     omega (arith, a, b)
 
@@ -200,7 +199,7 @@ module _ (steps : List Step) (starts readers : List ℕ) (s : Step) (i x : ℕ) 
     marked_now k q e = marked_apart marks' (i / 64) (bit_or held g.mask) k q ∙ e
 
     grow : (k : ℕ) → marked (holding marks (i / 64) held) k ≡ 1 → marked (holding marks' (i / 64) (bit_or held g.mask)) k ≡ 1
-    grow k e = elim (same_or_not (k / 64) (i / 64)) [
+    grow k e = elim (cases_eq (k / 64) (i / 64)) [
       | inl q ↦ held_now k q (bit k ∙ one_left (bit_at held (k % 64)) (bit_at g.mask (k % 64)) (sym (marked_holding marks (i / 64) held k inside q) ∙ e) (bit_at-lt g.mask (k % 64)))
       | inr q ↦ marked_now k q (m.grows k (sym (marked_apart marks (i / 64) held k q) ∙ e))
     ]
@@ -216,14 +215,14 @@ module _ (steps : List Step) (starts readers : List ℕ) (s : Step) (i x : ℕ) 
       is = refl;
       long = holding_long marks' (i / 64) (bit_or held g.mask) ∙ m.long ∙ sym (holding_long marks (i / 64) held);
       grows = grow;
-      told = λ k n r. elim (same_or_not (k / 64) (i / 64)) [
+      told = λ k n r. elim (cases_eq (k / 64) (i / 64)) [
         | inl q ↦ inl (held_now k q (bit k ∙ one_right (bit_at held (k % 64)) (bit_at g.mask (k % 64)) (near.all r.0 k r.1 r.2 r.3 q) (bit_at-lt held (k % 64))))
-        | inr q ↦ elim (lower_or_not r.0 g.first) [
+        | inr q ↦ elim (cases_lt r.0 g.first) [
           | inl l ↦ absurd (q (near.early r.0 k r.1 l r.3))
           | inr l ↦ elim (m.all r.0 k l r.2 r.3) [ inl z ↦ inl (marked_now k q z) | inr u ↦ inr u ]
         ]
       ];
-      others = λ k n. elim (same_or_not (k / 64) (i / 64)) [
+      others = λ k n. elim (cases_eq (k / 64) (i / 64)) [
         | inl q ↦
             marked_holding marks' (i / 64) (bit_or held g.mask) k inside' q
             ∙ bit k ∙ none_right (bit_at held (k % 64)) (bit_at g.mask (k % 64)) (none_set k q n) (bit_at-lt held (k % 64))
@@ -233,11 +232,6 @@ module _ (steps : List Step) (starts readers : List ℕ) (s : Step) (i x : ℕ) 
     }
 
 -- ---- a group of readers
-
-set_past : (xs : List ℕ) (w x : ℕ) → length xs ≤ w → set xs w x ≡ xs
-set_past [] w x h = refl
-set_past (y ∷ xs) zero x h = absurd (omega (arith, h))
-set_past (y ∷ xs) (suc w) x h = ap (λ l. y ∷ l) (set_past xs w x (omega (arith, h)))
 
 -- the marks with more of them in a word
 abbrev pub joined : List ℕ → ℕ → ℕ → List ℕ
@@ -249,8 +243,8 @@ marked_joined marks w x k h e = written_same marks w (bit_or (slice_index marks 
 
 module _ (marks : List ℕ) (w x k : ℕ) where
   pub joined_grows : marked marks k ≡ 1 → marked (joined marks w x) k ≡ 1
-  joined_grows e = elim (same_or_not (k / 64) w) [
-    | inl q ↦ elim (lower_or_not w (length marks)) [
+  joined_grows e = elim (cases_eq (k / 64) w) [
+    | inl q ↦ elim (cases_lt w (length marks)) [
       | inl h ↦ marked_joined marks w x k h q ∙ one_left (marked marks k) (bit_at x (k % 64)) e (bit_at-lt x (k % 64))
       | inr h ↦ ap (λ l. marked l k) (set_past marks w (bit_or (slice_index marks w) x) h) ∙ e
     ]
@@ -261,10 +255,10 @@ module _ (marks : List ℕ) (w x k : ℕ) where
   joined_new h q e = marked_joined marks w x k h q ∙ one_right (marked marks k) (bit_at x (k % 64)) e (bit_at-lt (slice_index marks (k / 64)) (k % 64))
 
   pub joined_only : marked (joined marks w x) k ≡ 1 → (marked marks k ≡ 1) ⊎ ((k / 64 ≡ w) × (bit_at x (k % 64) ≡ 1))
-  joined_only e = elim (same_or_not (k / 64) w) [
+  joined_only e = elim (cases_eq (k / 64) w) [
     | inl q ↦ elim (bit_or_none x (k % 64)) [
       | inr b ↦ inr (q, b)
-      | inl b ↦ elim (lower_or_not w (length marks)) [
+      | inl b ↦ elim (cases_lt w (length marks)) [
         | inl h ↦ inl (sym (marked_joined marks w x k h q ∙ none_right (marked marks k) (bit_at x (k % 64)) b (bit_at-lt (slice_index marks (k / 64)) (k % 64))) ∙ e)
         | inr h ↦ inl (ap (λ l. marked l k) (sym (set_past marks w (bit_or (slice_index marks w) x) h)) ∙ e)
       ]
@@ -274,8 +268,8 @@ module _ (marks : List ℕ) (w x k : ℕ) where
 
 module _ (readers : List ℕ) (from to w : ℕ) (g : Near) (near : IsNear readers from to w g) (marks : List ℕ) where
   group_others : (k : ℕ) → ((j : ℕ) → from ≤ j → j < to → ¬ (slice_get readers j ≡ Some k)) → marked (joined marks w g.mask) k ≡ marked marks k
-  group_others k n = elim (same_or_not (k / 64) w) [
-    | inl q ↦ elim (lower_or_not w (length marks)) [
+  group_others k n = elim (cases_eq (k / 64) w) [
+    | inl q ↦ elim (cases_lt w (length marks)) [
       | inl h ↦
           marked_joined marks w g.mask k h q
           ∙ none_right (marked marks k) (bit_at g.mask (k % 64)) (near.only (k % 64) (omega arith) (λ j f t e. n j f t (e ∙ ap Some (let r : w * 64 + k % 64 ≡ k = omega (arith, q) in r))))
@@ -290,9 +284,9 @@ module _ (readers : List ℕ) (from to w : ℕ) (g : Near) (near : IsNear reader
     -- its readers are marked, and so are the others
     pub group_marked : HasMarked steps readers from to p values marks marks'
     group_marked = record {
-      long = m.long ∙ set_length marks w (bit_or (slice_index marks w) g.mask);
+      long = m.long ∙ length-set marks w (bit_or (slice_index marks w) g.mask);
       grows = λ k e. m.grows k (joined_grows marks w g.mask k e);
-      all = λ j k f t e. elim (lower_or_not j g.first) [
+      all = λ j k f t e. elim (cases_lt j g.first) [
         | inl l ↦
             let a = near.early j k f l e in
             let h : w < length marks = (let b = known j k e in omega (arith, a, b)) in
@@ -325,10 +319,6 @@ given_same steps starts readers p x values marks e = record {
 
 -- ---- near readers of each step, and a group for each register
 
-length_push : {A : Type 0} (xs : List A) (x : A) → length (xs ++ x ∷ []) ≡ length xs + 1
-length_push [] x = omega arith
-length_push (a ∷ xs) x = let e = length_push xs x in omega (arith, e)
-
 -- of the first steps
 pub record NearsTo (starts readers : List ℕ) (steps : List Step) (masks : List ℕ) (count : ℕ) : Type 0 where
   pub long : length masks ≡ count
@@ -338,13 +328,13 @@ pub nears_more : (starts readers : List ℕ) (steps : List Step) (masks : List �
     → NearsTo starts readers (steps ++ s ∷ []) (masks ++ mask ∷ []) (i + 1)
 nears_more starts readers steps masks i s mask w long is = record {
   long = (let a = length_push masks mask in let b = w.long in omega (arith, a, b));
-  each = λ k t m e f. elim (pushed steps s t k e) [
-    | inl q ↦ elim (pushed masks mask m k f) [
+  each = λ k t m e f. elim (get_pushed steps s t k e) [
+    | inl q ↦ elim (get_pushed masks mask m k f) [
       | inl r ↦ w.each k t m q r
-      | inr r ↦ absurd (let a = within steps k t q in let b = r.0 in let d = w.long in omega (arith, a, b, d, long))
+      | inr r ↦ absurd (let a = slice_get_within steps k t q in let b = r.0 in let d = w.long in omega (arith, a, b, d, long))
     ]
-    | inr q ↦ elim (pushed masks mask m k f) [
-      | inl r ↦ absurd (let a = within masks k m r in let b = q.0 in let d = w.long in omega (arith, a, b, d, long))
+    | inr q ↦ elim (get_pushed masks mask m k f) [
+      | inl r ↦ absurd (let a = slice_get_within masks k m r in let b = q.0 in let d = w.long in omega (arith, a, b, d, long))
       | inr r ↦ subst (λ y. NearOf starts readers k y m) (sym q.1) (subst (λ y. NearOf starts readers k s y) (sym r.1) (subst (λ j. NearOf starts readers j s mask) (sym (q.0 ∙ long)) is))
     ]
   ];
@@ -359,7 +349,7 @@ pub groups_more : (starts readers : List ℕ) (registers : List Register) (group
     → GroupedTo starts readers registers (groups ++ g ∷ []) (i + 1)
 groups_more starts readers registers groups i r g w at is = record {
   long = (let a = length_push groups g in let b = w.long in omega (arith, a, b));
-  each = λ k s h e f. elim (pushed groups g h k f) [
+  each = λ k s h e f. elim (get_pushed groups g h k f) [
     | inl q ↦ w.each k s h e q
     | inr q ↦
         let same : Some s ≡ Some r = sym e ∙ ap (slice_get registers) (q.0 ∙ w.long) ∙ at in

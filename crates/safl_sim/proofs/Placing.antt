@@ -1,10 +1,10 @@
 -- The states of registers, by register and by place.
 use Rattle.std.proofs.Common.{◌≡◌, ℕ, zero, suc, ◌<◌, List, [], ◌∷◌, length, set, Some, slice_get, slice_index, refl, sym, ap, ◌∙◌, arith}
 use Rattle.std.specs.Prelude.{replicate}
+use Rattle.std.proofs.lemmas.List.{length-set, set-set}
 use Rattle.safl_sim.specs.declared.step.Register.{Register}
 use Rattle.safl_sim.specs.States.{placed, AreAt, AreOnce}
-use Rattle.safl_sim.proofs.Written.{index_here, index_other, set_length}
-use Rattle.safl_sim.proofs.Nearing.{set_set}
+use Rattle.safl_sim.proofs.Written.{index_here, index_other}
 
 zeros_long : (n : ℕ) → length {A = ℕ} (replicate n 0) ≡ n
 zeros_long zero = refl
@@ -25,7 +25,7 @@ set_swap (z ∷ xs) (suc s) (suc t) x y n = ap (λ l. z ∷ l) (set_swap xs s t 
 pub placed_long : (count : ℕ) (regs : List Register) (xs : List ℕ) → length (placed count regs xs) ≡ count
 placed_long count [] xs = zeros_long count
 placed_long count (r ∷ rs) [] = zeros_long count
-placed_long count (r ∷ rs) (x ∷ xs) = set_length (placed count rs xs) r.signal.0 x ∙ placed_long count rs xs
+placed_long count (r ∷ rs) (x ∷ xs) = length-set (placed count rs xs) r.signal.0 x ∙ placed_long count rs xs
 
 -- where no register stands
 pub placed_rest : (count : ℕ) (regs : List Register) (xs : List ℕ) (t : ℕ) → ((k : ℕ) (r : Register) → slice_get regs k ≡ Some r → ¬ (r.signal.0 ≡ t)) → slice_index (placed count regs xs) t ≡ 0
@@ -62,7 +62,7 @@ placed_set count [] xs k r x once long e = absurd (cc)
 placed_set count (q ∷ rs) [] k r x once long e = absurd (omega (arith, long))
 placed_set count (q ∷ rs) (y ∷ xs) zero r x once long e =
     let same : q ≡ r = cc in
-    sym (set_set (placed count rs xs) q.signal.0 y x) ∙ ap (λ (p : Register). set (set (placed count rs xs) q.signal.0 y) p.signal.0 x) same
+    sym (set-set (placed count rs xs) q.signal.0 y x) ∙ ap (λ (p : Register). set (set (placed count rs xs) q.signal.0 y) p.signal.0 x) same
 placed_set count (q ∷ rs) (y ∷ xs) (suc k) r x once long e =
     ap (λ l. set l q.signal.0 y) (placed_set count rs xs k r x (once_more q rs once) (omega (arith, long)) e)
     ∙ set_swap (placed count rs xs) r.signal.0 q.signal.0 x y (λ z. absurd (let a = once (suc k) 0 r q e refl z in omega (arith, a)))

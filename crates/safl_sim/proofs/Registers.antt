@@ -2,11 +2,13 @@
 use Rattle.std.proofs.Common.{◌≡◌, inl, inr, ℕ, ◌+◌, ◌-◌, ◌*◌, ◌/◌, ◌%◌, ◌^◌, ◌<◌, ◌≤◌, List, length, set, Some, slice_get, slice_index, refl, sym, ap, subst, ◌∙◌, arith, true}
 use Rattle.safl_sim.specs.declared.step.Register.{Register}
 use Rattle.std.specs.Int.{bit_at}
+use Rattle.std.proofs.lemmas.Bool.{cases_eq}
+use Rattle.std.proofs.lemmas.List.{length-set}
 use Rattle.safl_sim.specs.Marks.{marked, HasNone, NoneBetween, HasTaken}
 use Rattle.safl_sim.specs.States.{AreOnce, AreLow}
 use Rattle.safl_sim.specs.Steps.{Waits}
 use Rattle.safl_sim.specs.Writes.{HasShown, HasKept, ShowsWaiting, KeepsOn}
-use Rattle.safl_sim.proofs.Written.{same_or_not, index_here, index_other, set_length}
+use Rattle.safl_sim.proofs.Written.{index_here, index_other}
 use Rattle.safl_sim.proofs.MarksByOne.{taken_upto, none_upto, none_past}
 use Rattle.safl_sim.proofs.Nearing.{joined, joined_grows, joined_new, joined_only}
 use Rattle.safl_sim.proofs.Updates.{mark_or_none, was_none}
@@ -21,7 +23,7 @@ one_at regs j k q r e f z = let a : Some q ≡ Some r = sym e ∙ ap (slice_get 
 pub low_shown : (regs : List Register) (values numbers : List ℕ) (i : ℕ) (r : Register) → AreOnce regs → AreLow regs values numbers → slice_get regs i ≡ Some r → r.signal.0 < length values
     → AreLow regs (set values r.signal.0 (slice_index numbers i)) numbers
 low_shown regs values numbers i r once low at inside = λ k q e narrow. (
-  elim (same_or_not q.signal.0 r.signal.0) [
+  elim (cases_eq q.signal.0 r.signal.0) [
     | inl z ↦ subst (λ y. y < 2 ^ 64) (sym (ap (slice_index (set values r.signal.0 x)) z ∙ index_here values r.signal.0 x inside))
         (subst (λ j. slice_index numbers j < 2 ^ 64) (once k i q r e at z) (low k q e narrow).1)
     | inr n ↦ subst (λ y. y < 2 ^ 64) (sym (index_other values r.signal.0 x q.signal.0 n)) (low k q e narrow).0
@@ -63,14 +65,14 @@ pub shows_step : (regs : List Register) (now : List ℕ) (place word i : ℕ) (r
     → slice_get regs i ≡ Some r → r.signal.0 < length values → values' ≡ set values r.signal.0 (slice_index now r.signal.0) → ShowsWaiting regs now (i + 1) start values' waiting'
 shows_step regs now place word i r start values values' waiting waiting' w from t here inside is =
     subst (λ l. ShowsWaiting regs now (i + 1) start l waiting') (sym is) (record {
-      long = set_length values s x ∙ w.long;
+      long = length-set values s x ∙ w.long;
       below = λ k h. taken_upto waiting waiting' 0 place word i (λ j f l. w.below j l) (omega arith) from t k (omega arith) (omega (arith, h));
-      shown = λ k q e none. elim (same_or_not q.signal.0 s) [
+      shown = λ k q e none. elim (cases_eq q.signal.0 s) [
         | inl z ↦ ap (slice_index (set values s x)) z ∙ index_here values s x inside ∙ ap (slice_index now) (sym z)
         | inr n ↦ index_other values s x q.signal.0 n ∙ w.shown k q e (sym (t.others k (λ z. n (ap (λ (y : Register). y.signal.0) (one_at regs k i q r e here z)))) ∙ none)
       ];
       others = λ u h. index_other values s x u (λ z. h i r here (sym z)) ∙ w.others u h;
-      within = λ k e. elim (same_or_not k i) [
+      within = λ k e. elim (cases_eq k i) [
         | inl q ↦ absurd (let a = t.gone in let b : marked waiting' i ≡ 1 = ap (marked waiting') (sym q) ∙ e in omega (arith, a, b))
         | inr q ↦ w.within k (sym (t.others k q) ∙ e)
       ];
@@ -133,19 +135,19 @@ pub keeps_step : (first : ℕ) (regs : List Register) (values : List ℕ) (place
     → now' ≡ set now r.signal.0 (slice_index values r.next.0) → marked waiting k ≡ 1 → KeepsOn first regs values (first + k + 1) start was now' marks' waiting
 keeps_step first regs values place word k r start was now now' marks marks' waiting w early from t here inside one is waits =
     subst (λ l. KeepsOn first regs values (first + k + 1) start was l marks' waiting) (sym is) (record {
-      long = set_length now s x ∙ w.long;
+      long = length-set now s x ∙ w.long;
       below = λ j f h. taken_upto marks marks' first place word (first + k) w.below early from t j f (omega (arith, h));
       low = λ j h. t.others j (λ z. absurd (omega (arith, z, h))) ∙ w.low j h;
-      within = λ j e. elim (same_or_not j (first + k)) [
+      within = λ j e. elim (cases_eq j (first + k)) [
         | inl q ↦ absurd (let a = t.gone in let b : marked marks' (first + k) ≡ 1 = ap (marked marks') (sym q) ∙ e in omega (arith, a, b))
         | inr q ↦ w.within j (sym (t.others j q) ∙ e)
       ];
-      kept = λ j q e none. elim (same_or_not q.signal.0 s) [
+      kept = λ j q e none. elim (cases_eq q.signal.0 s) [
         | inl z ↦ ap (slice_index (set now s x)) z ∙ index_here now s x inside ∙ ap (slice_index values) (sym (one j k q r e here z))
         | inr n ↦ index_other now s x q.signal.0 n ∙ w.kept j q e (sym (t.others (first + j) (λ z. n (ap (λ (y : Register). y.signal.0) (one_at regs j k q r e here (omega (arith, z)))))) ∙ none)
       ];
       others = λ u h. index_other now s x u (λ z. h k r here (sym z)) ∙ w.others u h;
-      waits = λ j e none. elim (same_or_not j k) [
+      waits = λ j e none. elim (cases_eq j k) [
         | inl q ↦ absurd (let a = ap (marked waiting) q in omega (arith, a, waits, none))
         | inr q ↦ t.others (first + j) (λ z. absurd (q (omega (arith, z)))) ∙ w.waits j e none
       ];

@@ -1,15 +1,21 @@
 -- The values while the steps run.
-use Rattle.std.proofs.Common.{◌≡◌, inl, inr, true, ℕ, zero, suc, ◌+◌, ◌<◌, ◌≤◌, ◌^◌, List, [], ◌∷◌, map, length, set, Option, Some, None, slice_get}
-use Rattle.std.proofs.Common.{slice_index, slice_index_or, refl, sym, ap, subst, ◌∙◌, arith}
-use Rattle.safl_word.specs.Words.{Word, IsWord, AreWords}
+use Rattle.std.proofs.Common.{◌≡◌, inl, inr, true, ℕ, suc, ◌+◌, ◌<◌, ◌≤◌, ◌^◌, List, [], ◌∷◌, map, length, set, Some, slice_get}
+use Rattle.std.proofs.Common.{slice_index, refl, sym, ap, subst, ◌∙◌, arith}
+use Rattle.std.proofs.lemmas.Option.{slice_get_within}
+use Rattle.std.proofs.lemmas.Bool.{cases_eq}
+use Rattle.std.proofs.lemmas.List.{length-set}
+use Rattle.safl_word.specs.Words.{Word}
+use Rattle.safl_word.proofs.Naturals.{below_power, lower_or_last}
+use Rattle.safl_word.proofs.Words.{are_words}
+use Rattle.safl_word.proofs.Lists.{get_some, index_get}
 use Rattle.safl_net.specs.Netlist.{Netlist, Signal, Wire, Cell, width_in, width_of}
 use Rattle.safl_net.specs.Valuations.{signal_word, cell_word}
 use Rattle.safl_net.specs.Widths.{op_width}
-use Rattle.safl_net.specs.Making.{kind_at, kind_in, cell_in}
+use Rattle.safl_net.specs.Making.{kind_at, cell_in}
 use Rattle.safl_net.specs.Rules.{IsNetlist, KindFits, CellFits}
 use Rattle.safl_net.specs.Laws.{FitWidths}
-use Rattle.safl_net.proofs.Naming.{within}
 use Rattle.safl_net.proofs.CellWords.{cell_width, cell_is_word, shown_widths}
+use Rattle.safl_net.proofs.Kinds.{wire_at}
 use Rattle.safl_order.specs.Order.{IsOrder, IsWire, operands_of, operands_in}
 use Rattle.safl_sim.specs.declared.step.Action.{Action}
 use Rattle.safl_sim.specs.declared.step.Action.TheVariants.{Choose, One, Two, Not, Add, Sub, And, Or, Xor, Eq, Shl, Shr, Bits, Const, WideChoose, WideOne, WideTwo}
@@ -18,7 +24,7 @@ use Rattle.safl_sim.specs.Steps.{action_number, is_low, Low, LowOf, IsStep, AreS
 use Rattle.safl_sim.specs.Writes.{after_steps, AllReady}
 use Rattle.safl_sim.proofs.Actions.{signal_word as a_word, low_number}
 use Rattle.safl_sim.proofs.Updates.{operands_same}
-use Rattle.safl_sim.proofs.Written.{same_or_not, lower_or_same, index_here, index_other, set_length}
+use Rattle.safl_sim.proofs.Written.{index_here, index_other}
 
 -- after the first steps
 pub record Scene (n : Netlist) (ws : List ℕ) (count : ℕ) (start values : List ℕ) : Type 0 where
@@ -26,22 +32,6 @@ pub record Scene (n : Netlist) (ws : List ℕ) (count : ℕ) (start values : Lis
   pub fits : FitWidths n (slice_index values)
   pub others : (s : ℕ) → ¬ (IsWire n s) → slice_index values s ≡ slice_index start s
   pub done : (k s : ℕ) (c : Cell) → k < count → slice_get ws k ≡ Some s → kind_at n s ≡ Wire (Some c) → slice_index values s ≡ (cell_word c.op (map (signal_word n values) c.operands)).bits
-
-are_words : (f : ℕ → Word) (ts : List ℕ) → ((i t : ℕ) → slice_get ts i ≡ Some t → IsWord (f t)) → AreWords (map f ts)
-are_words f [] h = tt
-are_words f (t ∷ ts) h = (h 0 t refl, are_words f ts (λ i x e. h (suc i) x e))
-
-pub index_get : (ts : List ℕ) (i t : ℕ) → slice_get ts i ≡ Some t → slice_index_or ts i 0 ≡ t
-index_get [] i t e = absurd (cc)
-index_get (x ∷ ts) zero t e = cc
-index_get (x ∷ ts) (suc i) t e = index_get ts i t e
-
-pub wire_at : (n : Netlist) (s : ℕ) (c : Cell) → kind_at n s ≡ Wire (Some c) → (g : Signal) × (slice_get n.signals s ≡ Some g) × (g.kind ≡ Wire (Some c))
-wire_at n s c e = by (slice_get n.signals s) refl e
-  where
-    by : (o : Option Signal) → slice_get n.signals s ≡ o → kind_in o ≡ Wire (Some c) → (g : Signal) × (slice_get n.signals s ≡ Some g) × (g.kind ≡ Wire (Some c))
-    by None q h = absurd (cc)
-    by (Some g) q h = (g, q, h)
 
 -- the word of a cell fits its wire
 pub cell_number_fits : (n : Netlist) (values : List ℕ) (s : ℕ) (c : Cell) (g : Signal) → IsNetlist n → FitWidths n (slice_index values) → slice_get n.signals s ≡ Some g → g.kind ≡ Wire (Some c)
@@ -51,7 +41,7 @@ cell_number_fits n values s c g made fits e is =
     let q : op_width c.op (map (λ (v : Word). v.width) (map (signal_word n values) c.operands)) ≡ Some g.width = ap (op_width c.op) (shown_widths n values c.operands) ∙ f.gives in
     let w = cell_is_word c.op (map (signal_word n values) c.operands) g.width
     (are_words (signal_word n values) c.operands (λ i t o. a_word n values t (width_of n t) made fits
-    (let a = f.known i 0 (within c.operands i t o) in let b = index_get c.operands i t o in omega (arith, a, b)) refl)) f.word q in
+    (let a = f.known i 0 (slice_get_within c.operands i t o) in let b = index_get c.operands i t o in omega (arith, a, b)) refl)) f.word q in
     let wide = cell_width c.op (map (signal_word n values) c.operands) g.width q in
     subst (λ x. (cell_word c.op (map (signal_word n values) c.operands)).bits < 2 ^ x) wide w.fits
 
@@ -66,27 +56,24 @@ apart n ws k j s t i u c o at_s at_t le kind e same =
     let r = b.1 in
     absurd (omega (arith, q, r, le))
 
-pub small : (a b v w : ℕ) → a ≡ b → v ≡ w → b < 2 ^ v → a < 2 ^ w
-small a b v w e f h = subst (λ x. a < 2 ^ x) f (subst (λ x. x < 2 ^ v) (sym e) h)
-
 write_step : (n : Netlist) (ws : List ℕ) (j s x : ℕ) (c : Cell) (start values : List ℕ) → IsNetlist n → IsOrder n ws → Scene n ws j start values → slice_get ws j ≡ Some s → kind_at n s ≡ Wire (Some c)
     → x ≡ (cell_word c.op (map (signal_word n values) c.operands)).bits → Scene n ws (j + 1) start (set values s x)
 write_step n ws j s x c start values made o w at cell is =
     let g = wire_at n s c cell in
-    let inside : s < length values = (let a = within n.signals s g.0 g.1 in let b = w.long in omega (arith, a, b)) in
+    let inside : s < length values = (let a = slice_get_within n.signals s g.0 g.1 in let b = w.long in omega (arith, a, b)) in
     record {
-      long = set_length values s x ∙ w.long;
-      fits = λ t h e. elim (same_or_not t s) [
+      long = length-set values s x ∙ w.long;
+      fits = λ t h e. elim (cases_eq t s) [
         | inl q ↦
             let g' : Some h ≡ Some g.0 = sym e ∙ ap (slice_get n.signals) q ∙ g.1 in
             let one : h ≡ g.0 = cc in
-            small (slice_index (set values s x) t) (cell_word c.op (map (signal_word n values) c.operands)).bits g.0.width h.width
+            below_power (slice_index (set values s x) t) (cell_word c.op (map (signal_word n values) c.operands)).bits g.0.width h.width
             (ap (slice_index (set values s x)) q ∙ index_here values s x inside ∙ is) (ap (λ (y : Signal). y.width) (sym one))
             (cell_number_fits n values s c g.0 made w.fits g.1 g.2)
-        | inr q ↦ small (slice_index (set values s x) t) (slice_index values t) h.width h.width (index_other values s x t q) refl (w.fits t h e)
+        | inr q ↦ below_power (slice_index (set values s x) t) (slice_index values t) h.width h.width (index_other values s x t q) refl (w.fits t h e)
       ];
       others = λ t v. index_other values s x t (λ q. v (subst (λ y. IsWire n y) (sym q) (o.wires j s at))) ∙ w.others t v;
-      done = λ k t d h e f. elim (same_or_not t s) [
+      done = λ k t d h e f. elim (cases_eq t s) [
         | inl q ↦
             let same : Wire (Some d) ≡ Wire (Some c) = sym f ∙ ap (kind_at n) q ∙ cell in
             let one : d ≡ c = cc in
@@ -94,7 +81,7 @@ write_step n ws j s x c start values made o w at cell is =
             ∙ ap (λ l. (cell_word c.op l).bits) (sym (operands_same n values s x c.operands (λ i u m. apart n ws j j s s i u c o at at (omega arith) cell m)))
             ∙ ap (λ (y : Cell). (cell_word y.op (map (signal_word n (set values s x)) y.operands)).bits) (sym one)
         | inr q ↦
-            let below : k < j = elim (lower_or_same k j h) [ inl l ↦ l | inr z ↦ absurd (q (let m : Some t ≡ Some s = sym e ∙ ap (slice_get ws) z ∙ at in cc)) ] in
+            let below : k < j = elim (lower_or_last k j h) [ inl l ↦ l | inr z ↦ absurd (q (let m : Some t ≡ Some s = sym e ∙ ap (slice_get ws) z ∙ at in cc)) ] in
             index_other values s x t q ∙ w.done k t d below e f
             ∙ ap (λ l. (cell_word d.op l).bits) (sym (operands_same n values s x d.operands (λ i u m. apart n ws k j s t i u d o at e (omega (arith, below)) f m)))
       ];
@@ -133,7 +120,7 @@ step_low n s step values made is fits =
     let w : width_of n s ≡ g.0.width = ap width_in g.1 in
     let f : CellFits n g.0.width is.cell = subst (λ k. KindFits n g.0.width k) g.2 (made.signals s g.0 g.1).kind in (
       low_of values step.action (λ low. is.performs.low values s fits (subst (λ k. CellFits n k is.cell) (sym w) f) (is.narrow low)),
-      λ low. subst (λ x. slice_index values x < 2 ^ 64) (sym is.wire) (low_number n values s fits (within n.signals s g.0 g.1) (is.narrow low).wire),
+      λ low. subst (λ x. slice_index values x < 2 ^ 64) (sym is.wire) (low_number n values s fits (slice_get_within n.signals s g.0 g.1) (is.narrow low).wire),
     )
 
 -- what the rest of the steps do
@@ -155,17 +142,12 @@ run_scene n ws j (step ∷ steps) start values made o w p =
       ready = (
         a.2.performs.ready values w.long w.fits,
         step_low n a.0 step values made a.2 w.fits,
-        (let b = within n.signals a.0 g.0 g.1 in let c = w.long in let d = a.2.wire in omega (arith, b, c, d)),
+        (let b = slice_get_within n.signals a.0 g.0 g.1 in let c = w.long in let d = a.2.wire in omega (arith, b, c, d)),
         rest.ready,
       );
       scene = subst (λ k. Scene n ws k start (after_steps steps (set values step.wire.0 (action_number (slice_index values) step.action))))
           (let z : j + 1 + length steps ≡ j + length (step ∷ steps) = omega arith in z) rest.scene;
     }
-
-pub get_same : (ws : List ℕ) (k : ℕ) → k < length ws → (s : ℕ) × (slice_get ws k ≡ Some s)
-get_same [] k h = absurd (omega arith)
-get_same (x ∷ ws) zero h = (x, refl)
-get_same (x ∷ ws) (suc k) h = get_same ws k (omega (arith, h))
 
 -- all steps: they are ready, and then each wire has its word
 pub all_steps : (n : Netlist) (ws : List ℕ) (steps : List Step) (values : List ℕ) → IsNetlist n → IsOrder n ws → AreSteps n ws steps → length values ≡
@@ -175,5 +157,5 @@ all_steps n ws steps values made o all long fits =
     run_scene n ws 0 steps values values made o
     (record { long = long; fits = fits; others = λ s v. refl; done = λ k s c h. absurd (omega (arith, h)) })
     (λ k step e.
-    let g = get_same ws k (let a = within steps k step e in let b = all.long in omega (arith, a, b)) in
+    let g = get_some ws k (let a = slice_get_within steps k step e in let b = all.long in omega (arith, a, b)) in
     (g.0, ap (slice_get ws) (let z : k + 0 ≡ k = omega arith in z) ∙ g.1, all.each k g.0 step g.1 e))

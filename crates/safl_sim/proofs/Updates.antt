@@ -1,25 +1,24 @@
 -- Numbers that are given to places, and steps that hold.
 use Rattle.std.proofs.Common.{◌≡◌, ◌⊎◌, inl, inr, ℕ, zero, suc, ◌+◌, ◌/◌, ◌<◌, ◌≤◌, ◌^◌, List, [], ◌∷◌, map, length, set, Some, slice_get, slice_index, refl, sym, ap, subst, ◌∙◌, arith}
 use Rattle.std.proofs.lemmas.Nat.Bits.{bit_at-lt}
-use Rattle.safl_word.specs.Words.{pick}
+use Rattle.std.proofs.lemmas.Option.{slice_get_within}
+use Rattle.std.proofs.lemmas.Bool.{cases_eq, cases_lt}
+use Rattle.safl_word.specs.Words.{pick, as_word}
 use Rattle.safl_net.specs.Netlist.{Netlist, Signal, Wire, Cell, width_of}
 use Rattle.safl_net.specs.Valuations.{signal_word, cell_word}
 use Rattle.safl_net.specs.Laws.{FitWidths}
 use Rattle.safl_net.specs.Making.{kind_at, cell_in}
-use Rattle.safl_net.proofs.OneValuation.{map_same}
-use Rattle.safl_net.proofs.Naming.{within}
 use Rattle.safl_order.specs.Order.{IsOrder, operands_of, operands_in}
-use Rattle.safl_order.proofs.Places.{get_some}
 use Rattle.safl_sim.specs.declared.step.Action.{Action}
 use Rattle.safl_sim.specs.declared.step.Action.TheVariants.{Choose, WideChoose}
 use Rattle.safl_sim.specs.declared.step.Step.{Step}
 use Rattle.safl_sim.specs.declared.step.Register.{Register}
 use Rattle.safl_sim.specs.Marks.{marked, first_register}
 use Rattle.safl_sim.specs.Readers.{Lists, Reader, AreReaders, IsBlind, HasGiven, Agrees, Kept, Inside, Holding}
-use Rattle.safl_word.specs.Narrow.{word_of}
+use Rattle.safl_word.proofs.Lists.{get_some, map_at}
+use Rattle.safl_word.proofs.Words.{pick_ap}
 use Rattle.safl_sim.specs.Steps.{Choice, plain_number, action_number, IsStep, AreSteps, Goes}
-use Rattle.safl_sim.proofs.Actions.{picked_number}
-use Rattle.safl_sim.proofs.Written.{same_or_not, lower_or_not, index_here, index_other}
+use Rattle.safl_sim.proofs.Written.{index_here, index_other}
 
 -- a step is marked or not
 pub mark_or_none : (marks : List ℕ) (k : ℕ) → (marked marks k ≡ 0) ⊎ (marked marks k ≡ 1)
@@ -40,7 +39,7 @@ set_same (y ∷ xs) (suc p) x e = ap (λ l. y ∷ l) (set_same xs p x e)
 
 pub operands_same : (n : Netlist) (values : List ℕ) (s x : ℕ) (ts : List ℕ) → ((i u : ℕ) → slice_get ts i ≡ Some u → ¬ (u ≡ s)) → map
     (signal_word n (set values s x)) ts ≡ map (signal_word n values) ts
-operands_same n values s x ts h = map_same (signal_word n (set values s x)) (signal_word n values) ts (λ i u e. ap (λ b. word_of (width_of n u) b) (index_other values s x u (h i u e)))
+operands_same n values s x ts h = map_at (signal_word n (set values s x)) (signal_word n values) ts (λ i u e. ap (λ b. as_word (width_of n u) b) (index_other values s x u (h i u e)))
 
 -- a step that holds, and reads not what is written and writes it not, holds
 pub agrees_apart : (n : Netlist) (values : List ℕ) (p x t : ℕ) (d : Cell) → ¬ (t ≡ p) → ((i u : ℕ) → slice_get d.operands i ≡ Some u → ¬ (u ≡ p)) → Agrees n values t d → Agrees n (set values p x) t d
@@ -51,9 +50,9 @@ choice_same : (values : List ℕ) (p x c a b : ℕ) → ¬ (c ≡ p) → ¬ (pic
     → plain_number (slice_index (set values p x)) (Choice c a b) ≡ plain_number (slice_index values) (Choice c a b)
 choice_same values p x c a b apart away =
     let chosen = pick (slice_index (set values p x) c) a b in
-    sym (picked_number (slice_index (set values p x)) (slice_index (set values p x) c) a b)
+    sym (pick_ap (slice_index (set values p x)) (slice_index (set values p x) c) a b)
     ∙ index_other values p x chosen away
-    ∙ picked_number (slice_index values) (slice_index (set values p x) c) a b
+    ∙ pick_ap (slice_index values) (slice_index (set values p x) c) a b
     ∙ ap (λ i. pick i (slice_index values a) (slice_index values b)) (index_other values p x c apart)
 
 blind_same : (values : List ℕ) (p x : ℕ) (action : Action) → IsBlind (slice_index (set values p x)) p action → action_number
@@ -76,7 +75,7 @@ agrees_blind n values p x t d step is kind ne fits fits' blind e =
 -- a place is an operand or not
 reads_or_not : (ts : List ℕ) (p : ℕ) → ((i : ℕ) × (slice_get ts i ≡ Some p)) ⊎ ((i u : ℕ) → slice_get ts i ≡ Some u → ¬ (u ≡ p))
 reads_or_not [] p = inr (λ i u e. absurd (cc))
-reads_or_not (t ∷ ts) p = elim (same_or_not t p) [
+reads_or_not (t ∷ ts) p = elim (cases_eq t p) [
   | inl q ↦ inl (0, ap Some q)
   | inr n ↦ elim (reads_or_not ts p) [
     | inl h ↦ inl (suc h.0, h.1)
@@ -94,7 +93,7 @@ pub given_stays : (n : Netlist) (ws : List ℕ) (steps : List Step) (regs : List
     → FitWidths n (slice_index values) → FitWidths n (slice_index values') → HasGiven steps starts readers p x values values' marks marks'
     → (k t : ℕ) (d : Cell) → slice_get ws k ≡ Some t → kind_at n t ≡ Wire (Some d) → ¬ (t ≡ p) → marked marks' k ≡ 0 → Agrees n values t d → Agrees n values' t d
 given_stays n ws steps regs starts readers p x values values' marks marks' r are fits fits' g k t d at kind ne none e = subst (λ l. Agrees n l t d)
-    (sym g.is) (elim (same_or_not (slice_index values p) x) [
+    (sym g.is) (elim (cases_eq (slice_index values p) x) [
       | inl q ↦ subst (λ l. Agrees n l t d) (sym (set_same values p x q)) e
       | inr q ↦ elim (reads_or_not d.operands p) [
         | inl f ↦
@@ -119,8 +118,8 @@ given_kept n ws steps regs now starts readers p x values values' marks marks' r 
     w k q e (was_none marks marks' (first_register (length ws) + k) g.grows none) ∙ sym (ap (λ l. slice_index l q.next.0) g.is ∙ same)
   where
     same : slice_index (set values p x) q.next.0 ≡ slice_index values q.next.0
-    same = elim (same_or_not q.next.0 p) [
-      | inl z ↦ elim (same_or_not (slice_index values p) x) [
+    same = elim (cases_eq q.next.0 p) [
+      | inl z ↦ elim (cases_eq (slice_index values p) x) [
         | inl y ↦ ap (λ l. slice_index l q.next.0) (set_same values p x y)
         | inr y ↦ absurd (elim (g.told (first_register (length ws) + k) y (subst (λ u. Reader starts readers u (first_register (length ws) + k)) z (r.nexts k q e))) [
           | inl a ↦ omega (arith, a, none)
@@ -135,11 +134,11 @@ pub given_inside : (n : Netlist) (ws : List ℕ) (steps : List Step) (regs : Lis
     (values values' marks marks' : List ℕ) → AreReaders n ws regs starts readers → HasGiven steps starts readers p x values values' marks marks'
     → Inside (length ws) (length regs) marks → Inside (length ws) (length regs) marks'
 given_inside n ws steps regs starts readers p x values values' marks marks' r g w = record {
-  step = λ k e l. elim (lower_or_not k (length ws)) [
+  step = λ k e l. elim (cases_lt k (length ws)) [
     | inl h ↦ h
-    | inr h ↦ w.step k (sym (g.others k (λ a. let b = r.only p k a l in let c = within ws k b.0 b.2 in absurd (omega (arith, c, h)))) ∙ e) l
+    | inr h ↦ w.step k (sym (g.others k (λ a. let b = r.only p k a l in let c = slice_get_within ws k b.0 b.2 in absurd (omega (arith, c, h)))) ∙ e) l
   ];
-  register = λ k e. elim (lower_or_not k (first_register (length ws) + length regs)) [
+  register = λ k e. elim (cases_lt k (first_register (length ws) + length regs)) [
     | inl h ↦ h
     | inr h ↦ w.register k (sym (g.others k (λ a. let b = r.within p k a in absurd (omega (arith, b, h)))) ∙ e)
   ];
@@ -163,7 +162,7 @@ pub given_below : (n : Netlist) (ws : List ℕ) (steps : List Step) (regs : List
     → slice_get ws i ≡ Some s → (k : ℕ) → k ≤ i → marked marks k ≡ 0 → marked marks' k ≡ 0
 given_below n ws steps regs starts readers i s x values values' marks marks' o r g at k le none =
     g.others k (λ a.
-    let b = r.only s k a (let l = within ws i s at in omega (arith, l, le)) in
+    let b = r.only s k a (let l = slice_get_within ws i s at in omega (arith, l, le)) in
     let c = o.before k b.0 b.1 s b.2 b.3 (o.wires i s at) in
     let q = o.once c.0 i s c.2 at in
     let l = c.1 in
@@ -172,7 +171,7 @@ given_below n ws steps regs starts readers i s x values values' marks marks' o r
 -- a number that fits its place
 pub fits_set : (n : Netlist) (values : List ℕ) (p x : ℕ) → p < length values → ((g : Signal) → slice_get n.signals p ≡ Some g → x < 2 ^ g.width) →
     FitWidths n (slice_index values) → FitWidths n (slice_index (set values p x))
-fits_set n values p x inside small fits s g e = elim (same_or_not s p) [
+fits_set n values p x inside small fits s g e = elim (cases_eq s p) [
   | inl q ↦ subst (λ y. y < 2 ^ g.width) (sym (ap (slice_index (set values p x)) q ∙ index_here values p x inside)) (small g (sym (ap (slice_get n.signals) q) ∙ e))
   | inr q ↦ subst (λ y. y < 2 ^ g.width) (sym (index_other values p x s q)) (fits s g e)
 ]

@@ -1,26 +1,12 @@
 -- Numbers at places that are written.
-use Rattle.std.proofs.Common.{◌≡◌, ◌⊎◌, inl, inr, ℕ, zero, suc, ◌+◌, ◌<◌, ◌≤◌, List, [], ◌∷◌, length, set, get_or, Some, slice_get, slice_index, refl, sym, ap, subst, ◌∙◌, arith}
+use Rattle.std.proofs.Common.{◌≡◌, inl, inr, ℕ, zero, suc, ◌+◌, ◌<◌, List, [], ◌∷◌, length, set, Some, slice_get, slice_index, refl, sym, ap, subst, ◌∙◌, arith}
+use Rattle.std.proofs.lemmas.Bool.{cases_eq}
+use Rattle.std.proofs.lemmas.List.{length-set}
 use Rattle.safl_sim.specs.declared.step.Register.{Register}
 use Rattle.safl_word.specs.Words.{Word, IsWord}
+use Rattle.safl_word.proofs.Naturals.{lower_or_last}
 use Rattle.safl_net.specs.declared.cell.Sig.{Sig}
 use Rattle.safl_sim.specs.Writes.{HasPut, HasShown, HasKept}
-
-pub same_or_not : (a b : ℕ) → (a ≡ b) ⊎ (¬ (a ≡ b))
-same_or_not zero zero = inl refl
-same_or_not zero (suc b) = inr (λ e. absurd (omega (arith, e)))
-same_or_not (suc a) zero = inr (λ e. absurd (omega (arith, e)))
-same_or_not (suc a) (suc b) = elim (same_or_not a b) [ inl e ↦ inl (ap suc e) | inr n ↦ inr (λ e. n (omega (arith, e))) ]
-
-pub lower_or_not : (a b : ℕ) → (a < b) ⊎ (b ≤ a)
-lower_or_not a zero = inr (omega arith)
-lower_or_not zero (suc b) = inl (omega arith)
-lower_or_not (suc a) (suc b) = elim (lower_or_not a b) [ inl h ↦ inl (omega (arith, h)) | inr h ↦ inr (omega (arith, h)) ]
-
-pub lower_or_same : (i k : ℕ) → i < k + 1 → (i < k) ⊎ (i ≡ k)
-lower_or_same zero zero h = inr refl
-lower_or_same zero (suc k) h = inl (omega arith)
-lower_or_same (suc i) zero h = absurd (omega (arith, h))
-lower_or_same (suc i) (suc k) h = elim (lower_or_same i k (omega (arith, h))) [ inl l ↦ inl (omega (arith, l)) | inr e ↦ inr (ap suc e) ]
 
 pub index_here : (xs : List ℕ) (t x : ℕ) → t < length xs → slice_index (set xs t x) t ≡ x
 index_here [] t x h = absurd (omega arith)
@@ -34,27 +20,17 @@ index_other (y ∷ xs) zero x (suc s) n = refl
 index_other (y ∷ xs) (suc t) x zero n = refl
 index_other (y ∷ xs) (suc t) x (suc s) n = index_other xs t x s (λ e. n (ap suc e))
 
-pub set_length : (xs : List ℕ) (t x : ℕ) → length (set xs t x) ≡ length xs
-set_length [] t x = refl
-set_length (y ∷ xs) zero x = refl
-set_length (y ∷ xs) (suc t) x = ap suc (set_length xs t x)
-
-pub get_at : {A : Type 0} (xs : List A) (i : ℕ) (d : A) → i < length xs → slice_get xs i ≡ Some (get_or xs i d)
-get_at [] i d h = absurd (omega arith)
-get_at (x ∷ xs) zero d h = refl
-get_at (x ∷ xs) (suc i) d h = get_at xs i d (omega (arith, h))
-
 -- one more register is shown
 pub shown_step : (regs : List Register) (state old values : List ℕ) (i : ℕ) (r : Register) → HasShown regs state i old values → slice_get regs i ≡ Some r → r.signal.0 < length old
     → HasShown regs state (i + 1) old (set values r.signal.0 (slice_index state r.signal.0))
 shown_step regs state old values i r w here in_old =
-    let long = set_length values r.signal.0 (slice_index state r.signal.0) in
+    let long = length-set values r.signal.0 (slice_index state r.signal.0) in
     let inside : r.signal.0 < length values = (let a = w.long in omega (arith, a, in_old)) in
     record {
       long = long ∙ w.long;
-      shown = λ k q h e. elim (same_or_not q.signal.0 r.signal.0) [
+      shown = λ k q h e. elim (cases_eq q.signal.0 r.signal.0) [
         | inl s ↦ ap (slice_index (set values r.signal.0 (slice_index state r.signal.0))) s ∙ index_here values r.signal.0 (slice_index state r.signal.0) inside ∙ ap (slice_index state) (sym s)
-        | inr n ↦ index_other values r.signal.0 (slice_index state r.signal.0) q.signal.0 n ∙ (elim (lower_or_same k i h) [
+        | inr n ↦ index_other values r.signal.0 (slice_index state r.signal.0) q.signal.0 n ∙ (elim (lower_or_last k i h) [
           | inl l ↦ w.shown k q l e
           | inr s ↦ absurd (n (
               let same : Some q ≡ Some r = sym e ∙ ap (slice_get regs) s ∙ here in
@@ -70,14 +46,14 @@ pub kept_step : (regs : List Register) (values old state : List ℕ) (i : ℕ) (
     → ((i j : ℕ) (r q : Register) → slice_get regs i ≡ Some r → slice_get regs j ≡ Some q → r.signal.0 ≡ q.signal.0 → r.next.0 ≡ q.next.0)
     → HasKept regs values (i + 1) old (set state r.signal.0 (slice_index values r.next.0))
 kept_step regs values old state i r w here in_old next =
-    let long = set_length state r.signal.0 (slice_index values r.next.0) in
+    let long = length-set state r.signal.0 (slice_index values r.next.0) in
     let inside : r.signal.0 < length state = (let a = w.long in omega (arith, a, in_old)) in
     record {
       long = long ∙ w.long;
-      kept = λ k q h e. elim (same_or_not q.signal.0 r.signal.0) [
+      kept = λ k q h e. elim (cases_eq q.signal.0 r.signal.0) [
         | inl s ↦ ap (slice_index (set state r.signal.0 (slice_index values r.next.0))) s ∙ index_here state r.signal.0 (slice_index values r.next.0)
             inside ∙ ap (slice_index values) (sym (next k i q r e here s))
-        | inr n ↦ index_other state r.signal.0 (slice_index values r.next.0) q.signal.0 n ∙ (elim (lower_or_same k i h) [
+        | inr n ↦ index_other state r.signal.0 (slice_index values r.next.0) q.signal.0 n ∙ (elim (lower_or_last k i h) [
           | inl l ↦ w.kept k q l e
           | inr s ↦ absurd (n (
               let same : Some q ≡ Some r = sym e ∙ ap (slice_get regs) s ∙ here in
@@ -88,11 +64,6 @@ kept_step regs values old state i r w here in_old next =
       others = λ t h. index_other state r.signal.0 (slice_index values r.next.0) t (λ s. h i r here (sym s)) ∙ w.others t h;
     }
 
-pub get_read : {A : Type 0} (xs : List A) (i : ℕ) (x : A) → i < length xs → x ≡ get_or xs i x → slice_get xs i ≡ Some x
-get_read [] i x h e = absurd (omega (arith, h))
-get_read (y ∷ xs) zero x h e = ap Some (sym e)
-get_read (y ∷ xs) (suc i) x h e = get_read xs i x (omega (arith, h)) e
-
 -- one more word is put
 pub put_step : (places : List Sig) (given : List Word) (old values : List ℕ) (i : ℕ) (s : Sig) (w : Word) → HasPut places given i old values →
     slice_get places i ≡ Some s → slice_get given i ≡ Some w → IsWord w → s.0 < length old
@@ -101,8 +72,8 @@ pub put_step : (places : List Sig) (given : List Word) (old values : List ℕ) (
 put_step places given old values i s w h here word fits in_old once =
     let inside : s.0 < length values = (let a = h.long in omega (arith, a, in_old)) in
     record {
-      long = set_length values s.0 w.bits ∙ h.long;
-      put = λ k t v l e f. elim (lower_or_same k i l) [
+      long = length-set values s.0 w.bits ∙ h.long;
+      put = λ k t v l e f. elim (lower_or_last k i l) [
         | inl m ↦ index_other values s.0 w.bits t.0 (λ q. absurd (let z = once k i t s e here q in omega (arith, z, m))) ∙ h.put k t v m e f
         | inr m ↦
             let same : Some t ≡ Some s = sym e ∙ ap (slice_get places) m ∙ here in
@@ -111,7 +82,7 @@ put_step places given old values i s w h here word fits in_old once =
             let one_word : v ≡ w = cc in
             ap (λ (x : Sig). slice_index (set values s.0 w.bits) x.0) one ∙ index_here values s.0 w.bits inside ∙ ap (λ (x : Word). x.bits) (sym one_word)
       ];
-      words = λ k v l f. elim (lower_or_same k i l) [
+      words = λ k v l f. elim (lower_or_last k i l) [
         | inl m ↦ h.words k v m f
         | inr m ↦
             let same_word : Some v ≡ Some w = sym f ∙ ap (slice_get given) m ∙ word in

@@ -1,14 +1,8 @@
 -- The inputs and registers of a net, and its numbers at reset.
 use Rattle.std.specs.Prelude.{◌≡◌, ℕ, suc, List, [], ◌∷◌, map, slice_index}
 use Rattle.safl_word.specs.Words.{Word}
-use Rattle.safl_net.specs.Netlist.{Netlist, Signal, Kind, Input, Reg, Wire, width_of}
+use Rattle.safl_net.specs.Netlist.{Netlist, Signal, width_of, with_input}
 use Rattle.safl_net.specs.Valuations.{Valuation, kind_reset}
-
--- the numbers of the inputs, in order
-abbrev pub with_input : Kind → ℕ → List ℕ → List ℕ
-with_input Input i is = i ∷ is
-with_input (Reg init next) i is = is
-with_input (Wire cell) i is = is
 
 abbrev pub inputs_from : List Signal → ℕ → List ℕ
 inputs_from [] i = []

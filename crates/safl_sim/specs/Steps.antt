@@ -1,10 +1,10 @@
 -- Steps: the cells of a net, prepared for evaluation.
 use Rattle.std.specs.Prelude.{◌≡◌, ℕ, ◌+◌, ◌*◌, ◌<◌, ◌≤◌, ◌^◌, List, [], ◌∷◌, map, length, Some, IsSome, Bool, true, false, slice_get, slice_index}
-use Rattle.safl_word.specs.Words.{IsWord, pick}
+use Rattle.safl_word.specs.Words.{IsWord, pick, as_word}
 use Rattle.safl_word.specs.Primitives.{result_width, apply_prim}
 use Rattle.safl_word.specs.declared.primitive.Primitive.{Primitive}
 use Rattle.safl_word.specs.declared.primitive.Primitive.TheVariants as primitive
-use Rattle.safl_word.specs.Narrow.{word_of, HasLow}
+use Rattle.safl_word.specs.Narrow.{HasLow}
 use Rattle.safl_net.specs.declared.cell.Sig.{Sig}
 use Rattle.safl_net.specs.Netlist.{Netlist, Kind, Input, Reg, Wire, Cell, width_of}
 use Rattle.safl_net.specs.Valuations.{cell_word}
@@ -52,8 +52,8 @@ plain (WideTwo p w v a b) = Binary p w v a b
 abbrev pub plain_number : (ℕ → ℕ) → Plain → ℕ
 plain_number f (Constant x) = x
 plain_number f (Choice c a b) = pick (f c) (f a) (f b)
-plain_number f (Unary p w a) = (apply_prim p (word_of w (f a) ∷ [])).bits
-plain_number f (Binary p w v a b) = (apply_prim p (word_of w (f a) ∷ word_of v (f b) ∷ [])).bits
+plain_number f (Unary p w a) = (apply_prim p (as_word w (f a) ∷ [])).bits
+plain_number f (Binary p w v a b) = (apply_prim p (as_word w (f a) ∷ as_word v (f b) ∷ [])).bits
 
 abbrev pub action_number : (ℕ → ℕ) → Action → ℕ
 action_number f action = plain_number f (plain action)
@@ -62,9 +62,9 @@ action_number f action = plain_number f (plain action)
 abbrev pub PlainReady : List ℕ → Plain → Type 0
 PlainReady values (Constant x) = Unit {0}
 PlainReady values (Choice c a b) = (c < length values) × (a < length values) × (b < length values)
-PlainReady values (Unary p w a) = (a < length values) × IsWord (word_of w (slice_index values a)) × IsSome (result_width p (w ∷ []))
-PlainReady values (Binary p w v a b) = (a < length values) × (b < length values) × IsWord (word_of w (slice_index values a))
-    × IsWord (word_of v (slice_index values b))
+PlainReady values (Unary p w a) = (a < length values) × IsWord (as_word w (slice_index values a)) × IsSome (result_width p (w ∷ []))
+PlainReady values (Binary p w v a b) = (a < length values) × (b < length values) × IsWord (as_word w (slice_index values a))
+    × IsWord (as_word v (slice_index values b))
     × IsSome (result_width p (w ∷ v ∷ []))
 
 abbrev pub Ready : List ℕ → Action → Type 0
@@ -103,7 +103,7 @@ pub record IsNarrow (n : Netlist) (s : ℕ) (c : Cell) : Type 0 where
 
 -- the action of a cell: it is ready for all words that fit, and gives the cell's word
 pub record Performs (n : Netlist) (c : Cell) (action : Action) : Type 0 where
-  pub gives : (f : ℕ → ℕ) → FitWidths n f → action_number f action ≡ (cell_word c.op (map (λ t. word_of (width_of n t) (f t)) c.operands)).bits
+  pub gives : (f : ℕ → ℕ) → FitWidths n f → action_number f action ≡ (cell_word c.op (map (λ t. as_word (width_of n t) (f t)) c.operands)).bits
   pub ready : (values : List ℕ) → length values ≡ length n.signals → FitWidths n (slice_index values) → Ready values action
   pub low : (values : List ℕ) (s : ℕ) → FitWidths n (slice_index values) → CellFits n (width_of n s) c → IsNarrow n s c → Low values action
 

@@ -1,5 +1,5 @@
 -- Sites conflict where one comes before the other.
-use Rattle.std.proofs.Common.{◌≡◌, ℕ, ◌⊎◌, Bool, true, false, inl, inr}
+use Rattle.std.proofs.Common.{◌≡◌, ℕ, ◌⊎◌, inl, inr}
 use Rattle.safl_term.specs.Program.{Program, unit_for}
 use Rattle.safl_term.specs.Terms.{Term, Terms, Const, Var, Op, If, Let, Call, Loop, Nil, Cons}
 use Rattle.safl_sites.specs.Conflicts.{Apart, ApartIn, Conflict}
@@ -68,6 +68,3 @@ module _ (C : Program) (j k : ℕ) where
     | inl x ↦ inl (record { body = h.body; is_body = h.is_body; before = x })
     | inr x ↦ inr (record { body = h.body; is_body = h.is_body; before = x })
   ]
-
-pub clash : (b : Bool) → b ≡ false → b ≡ true → ⊥
-clash b e f = cc

@@ -1,27 +1,25 @@
 -- What a walk down a term finds, by its parts.
 use Rattle.std.proofs.Common.{◌≡◌, ℕ, zero, suc, ◌+◌, ◌-◌, ◌≤◌, ◌⊎◌, ◌||◌, Bool, true, false, List, [], ◌∷◌, ◌++◌, length, get_or, refl, sym, ap, subst, ◌∙◌, inl, inr, arith, eq-eqb}
 use Rattle.std.proofs.Math.Seq.{get_or-append_right}
-use Rattle.std.proofs.lemmas.Bool.{eqb-true}
+use Rattle.std.proofs.lemmas.Bool.{eqb-true, both_ways, false_from_ne_true}
+use Rattle.std.specs.Cmp.{both_ways as same_bool}
+use Rattle.std.proofs.lemmas.List.{append-nil}
 use Rattle.safl_word.specs.Words.{Word}
 use Rattle.safl_word.specs.declared.primitive.Primitive.{Primitive}
+use Rattle.safl_word.specs.Lists.{bool_at}
 use Rattle.safl_term.specs.Program.{Program}
 use Rattle.safl_term.specs.Terms.{Term, Terms, Const, Var, Op, If, Let, Call, Loop, Nil, Cons}
 use Rattle.safl_sites.specs.declared.keep.Keeping.{Keeping}
 use Rattle.safl_sites.specs.declared.site_set.SiteSet.{SiteSet}
 use Rattle.safl_sites.specs.Keeping.{fed_by, IsHeld, IsHeldIn, IsHeldHere, Walks, WalksIn, Binds}
-use Rattle.safl_sites.specs.Kept.{bool_at, feeds, feeds_any, feeds_each, Uses, Decides, Held}
+use Rattle.safl_sites.specs.Kept.{feeds, feeds_any, feeds_each, Uses, Decides, Held}
 use Rattle.safl_sites.specs.SiteSets.{has, Has, HasAt, Adds, no_set}
 use Rattle.safl_sites.specs.Touched.{IsTouched}
 use Rattle.safl_sites.proofs.AddsInSteps.{adds_then, adds_as, adds_none}
-use Rattle.safl_sites.proofs.EarlierConflicts.{clash}
 use Rattle.safl_sites.proofs.SetsByWords.{no_set_has}
 
-never : (b : Bool) → (b ≡ true → ⊥) → b ≡ false
-never true h = absurd (h refl)
-never false h = refl
-
 bool_at_fed : (k : ℕ) (R : List SiteSet) (i : ℕ) → bool_at (fed_by k R) i ≡ has (get_or R i no_set) k
-bool_at_fed k [] i = sym (never (has no_set k) (no_set_has k))
+bool_at_fed k [] i = sym (false_from_ne_true (has no_set k) (no_set_has k))
 bool_at_fed k (r ∷ R) zero = refl
 bool_at_fed k (r ∷ R) (suc i) = bool_at_fed k R i
 
@@ -35,32 +33,23 @@ fed_append k (r ∷ R) S = ap (λ l. has r k ∷ l) (fed_append k R S)
 
 or_adds : {X Y : Type 0} (p q : Bool) → Adds X Y ((p ≡ true) ⊎ (q ≡ true)) → Adds X Y ((p || q) ≡ true)
 or_adds true q = adds_as (λ h. refl) (λ h. inl refl)
-or_adds false q = adds_as (λ h. elim h [ inl e ↦ absurd (clash false refl e) | inr e ↦ e ]) (λ h. inr h)
+or_adds false q = adds_as (λ h. elim h [ inl e ↦ absurd (both_ways false refl e) | inr e ↦ e ]) (λ h. inr h)
 
 or_three : {X Y : Type 0} (p q r : Bool) → Adds X Y (((p ≡ true) ⊎ (q ≡ true)) ⊎ (r ≡ true)) → Adds X Y ((p || (q || r)) ≡ true)
 or_three true q r = adds_as (λ h. refl) (λ h. inl (inl refl))
 or_three false true r = adds_as (λ h. refl) (λ h. inl (inr refl))
 or_three false false r =
-    adds_as (λ h. elim h [ inl h ↦ elim h [ inl e ↦ absurd (clash false refl e) | inr e ↦ absurd (clash false refl e) ] | inr e ↦ e ]) (λ h. inr h)
+    adds_as (λ h. elim h [ inl h ↦ elim h [ inl e ↦ absurd (both_ways false refl e) | inr e ↦ absurd (both_ways false refl e) ] | inr e ↦ e ]) (λ h. inr h)
 
 -- a set that was empty has what joined it
 pub full : {P : Type 0} (d e : SiteSet) (k : ℕ) → has d k ≡ false → Adds (Has d k) (Has e k) P → Has e k → P
-full d e k none h x = elim (h.splits x) [ inl y ↦ absurd (clash (has d k) none y) | inr y ↦ y ]
-
-pub same_bool : (p q : Bool) → (p ≡ true → q ≡ true) → (q ≡ true → p ≡ true) → p ≡ q
-same_bool true q f g = sym (f refl)
-same_bool false true f g = g refl
-same_bool false false f g = refl
-
-append_nil : (R : List SiteSet) → R ++ [] ≡ R
-append_nil [] = refl
-append_nil (r ∷ R) = ap (λ l. r ∷ l) (append_nil R)
+full d e k none h x = elim (h.splits x) [ inl y ↦ absurd (both_ways (has d k) none y) | inr y ↦ y ]
 
 module _ (C : Program) (R : List SiteSet) where
   pub walks_const : (f : SiteSet) (a : Keeping) (w : Word) → Walks C R f f a a (Const w)
   unfolding feeds Decides Held
   walks_const f a w = record {
-    fed = λ k. adds_none (λ e. clash false refl e);
+    fed = λ k. adds_none (λ e. both_ways false refl e);
     decided = λ k. adds_none (λ h. h);
     kept = λ k x y. adds_none (λ h. h.held);
   }
@@ -85,7 +74,7 @@ module _ (C : Program) (R : List SiteSet) where
   pub walks_loop : (f p q : SiteSet) (a b : Keeping) (i : ℕ) (ts : Terms) → WalksIn C R p q a b ts → Walks C R f f a b (Loop i ts)
   unfolding feeds Decides Held
   walks_loop f p q a b i ts h = record {
-    fed = λ k. adds_none (λ e. clash false refl e);
+    fed = λ k. adds_none (λ e. both_ways false refl e);
     decided = h.decided;
     kept = λ k x y. adds_as (λ q. record { other = q.other; differs = q.differs; same = q.same; held = q.held })
         (λ q. record { other = q.other; differs = q.differs; same = q.same; held = q.held }) (h.kept k x y);
@@ -212,7 +201,7 @@ module _ (C : Program) (R : List SiteSet) where
   pub walks_none : (f : SiteSet) (a : Keeping) → WalksIn C R f f a a Nil
   unfolding feeds Decides Held
   walks_none f a = record {
-    fed = λ k. adds_none (λ e. clash false refl e);
+    fed = λ k. adds_none (λ e. both_ways false refl e);
     decided = λ k. adds_none (λ h. h);
     kept = λ k x y. adds_none (λ h. h.held);
   }
@@ -229,7 +218,7 @@ module _ (C : Program) (R : List SiteSet) where
   unfolding feeds Decides Held
   binds_none a = record {
     bound = [];
-    joined = sym (append_nil R);
+    joined = sym (append-nil R);
     count = refl;
     fed = λ k. refl;
     decided = λ k. adds_none (λ h. h);

@@ -1,6 +1,6 @@
 -- The sites of one more body that are kept.
-use Rattle.std.proofs.Common.{◌≡◌, ℕ, suc, ◌+◌, ◌<◌, ◌≤◌, Bool, true, false, List, [], ◌∷◌, length, replicate, refl, sym, ap, subst, ◌∙◌, inl, inr, arith}
-use Rattle.std.proofs.lemmas.Bool.{cases_eq}
+use Rattle.std.proofs.Common.{◌≡◌, ℕ, suc, ◌+◌, ◌<◌, ◌≤◌, false, List, [], ◌∷◌, length, replicate, refl, sym, ap, subst, ◌∙◌, inl, inr, arith}
+use Rattle.std.proofs.lemmas.Bool.{cases_eq, false_from_ne_true}
 use Rattle.safl_term.specs.Checked.{CheckedProgram, IsChecked}
 use Rattle.safl_term.specs.Program.{Program, unit_for, arity}
 use Rattle.safl_sites.specs.declared.keep.Keeping.{Keeping}
@@ -20,10 +20,7 @@ use Rattle.safl_sites.proofs.NumbersFollow.{sited, own_site}
 
 fed_empty : (k : ℕ) (sets : List SiteSet) → ((i : ℕ) → HasAt sets i k → ⊥) → fed_by k sets ≡ replicate (length sets) false
 fed_empty k [] none = refl
-fed_empty k (r ∷ sets) none = ap (λ b. b ∷ fed_by k sets) (off (has r k) (none 0)) ∙ ap (λ l. false ∷ l) (fed_empty k sets (λ i. none (suc i))) where
-  off : (b : Bool) → (b ≡ true → ⊥) → b ≡ false
-  off true h = absurd (h refl)
-  off false h = refl
+fed_empty k (r ∷ sets) none = ap (λ b. b ∷ fed_by k sets) (false_from_ne_true (has r k) (none 0)) ∙ ap (λ l. false ∷ l) (fed_empty k sets (λ i. none (suc i)))
 
 pub own_same : (C : Program) (reach : SiteSet) (peers : List SiteSet) (keeps : Keeping) (from till k : ℕ) {X Y : Type 0} → k ≡ till →
     (MustKeep C reach peers keeps k → ⊥) → (j : ℕ) → Adds X Y (IsOwnKept C reach peers keeps from till j) → Adds X Y (IsOwnKept C reach peers keeps from (till + 1) j)

@@ -14,8 +14,8 @@ use Rattle.safl_sites.specs.Peers.{IsSiteOf, ArePeers}
 use Rattle.safl_sites.specs.Reach.{MayReach}
 use Rattle.safl_sites.specs.SiteSets.{has, Has, Adds, Meets, no_set}
 use Rattle.safl_sites.specs.Touched.{IsTouched}
-use Rattle.safl_sites.proofs.FoundByParts.{same_bool}
 use Rattle.std.proofs.lemmas.Bool.{cases_eq}
+use Rattle.std.specs.Cmp.{both_ways}
 use Rattle.safl_sites.proofs.NumbersFollow.{IsSited, sited, site_of_body}
 use Rattle.safl_sites.proofs.ReachBySites.{reaches_of, reaches_in_by, reach_leaf, none_const, none_var}
 use Rattle.safl_word.specs.Words.{Word}
@@ -69,7 +69,7 @@ looked_more C slots low body old now next done k e l (inl (insert, held)) = reco
           joins = λ x. (insert j).stays (a.joins x);
         }
   ];
-  rest = λ j above. same_bool (has next j) (has now j) (λ x. elim ((insert j).splits x) [ inl y ↦ y | inr y ↦ absurd (omega arith) ]) (λ x. (insert j).stays x) ∙ l.rest j (omega arith);
+  rest = λ j above. both_ways (has next j) (has now j) (λ x. elim ((insert j).splits x) [ inl y ↦ y | inr y ↦ absurd (omega arith) ]) (λ x. (insert j).stays x) ∙ l.rest j (omega arith);
 }
 looked_more C slots low body old now next done k e l (inr (same, none)) = record {
   looked = λ j least most. subst (λ (r : SiteSet). Adds (Has old j) (Has r j) (IsHeldHere C slots low j body)) (sym same) (elim (cases_eq j k) [

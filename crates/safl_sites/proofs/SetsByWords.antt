@@ -1,7 +1,7 @@
 -- Sets of sites, word by word.
-use Rattle.std.proofs.Common.{◌≡◌, ℕ, zero, suc, ◌+◌, ◌*◌, ◌/◌, ◌%◌, ◌^◌, ◌<◌, ◌⊎◌, Bool, true, false, ◌==◌, ◌&&◌, List, [], ◌∷◌, length, get_or}
+use Rattle.std.proofs.Common.{◌≡◌, ℕ, zero, suc, ◌+◌, ◌*◌, ◌/◌, ◌%◌, ◌^◌, ◌<◌, ◌⊎◌, true, false, ◌==◌, List, [], ◌∷◌, length, get_or}
 use Rattle.std.proofs.Common.{slice_set, bit_and, bit_or, min, max, refl, sym, ◌∙◌, ap, inl, inr, arith, eq-eqb, w64}
-use Rattle.std.proofs.lemmas.Bool.{eqb-true, cases_eq, cases_lt}
+use Rattle.std.proofs.lemmas.Bool.{eqb-true, cases_eq, cases_lt, and_parts}
 use Rattle.std.proofs.lemmas.Nat.{and_le_l}
 use Rattle.std.proofs.lemmas.Grind.{get_or-set_at}
 use Rattle.std.proofs.lemmas.List.{get_or-set_other, get_or_past}
@@ -14,15 +14,10 @@ use Rattle.safl_sites.specs.SiteSets.{has, Has, Adds, IsCommon, Meets}
 zero-not-one : {a : ℕ} → a ≡ 0 → a ≡ 1 → ⊥
 zero-not-one p q = omega arith
 
-both : (a b : Bool) → (a && b) ≡ true → (a ≡ true) × (b ≡ true)
-both true true e = (refl, refl)
-both true false e = (refl, e)
-both false b e = (e, absurd (cc))
-
 zeros : (xs : List ℕ) → list_all (λ x. x == 0) xs ≡ true → (i : ℕ) → get_or xs i 0 ≡ 0
 zeros [] e i = refl
-zeros (x ∷ xs) e zero = eqb-true x 0 (both (x == 0) (list_all (λ x. x == 0) xs) e).0
-zeros (x ∷ xs) e (suc i) = zeros xs (both (x == 0) (list_all (λ x. x == 0) xs) e).1 i
+zeros (x ∷ xs) e zero = eqb-true x 0 (and_parts (x == 0) (list_all (λ x. x == 0) xs) e).0
+zeros (x ∷ xs) e (suc i) = zeros xs (and_parts (x == 0) (list_all (λ x. x == 0) xs) e).1 i
 
 pub has-empty : (xs : List ℕ) → list_all (λ x. x == 0) xs ≡ true → (k : ℕ) → has (record { words = xs }) k ≡ false
 unfolding has

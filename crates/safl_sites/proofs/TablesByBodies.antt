@@ -1,6 +1,6 @@
 -- One more body in the tables.
 use Rattle.std.proofs.Common.{◌≡◌, ℕ, zero, suc, ◌<◌, ◌⊎◌, true, false, List, length, length-set, get_or, slice_set, replicate, refl, sym, subst, ◌∙◌, inl, inr, arith}
-use Rattle.std.proofs.lemmas.Bool.{cases_eq}
+use Rattle.std.proofs.lemmas.Bool.{cases_eq, both_ways}
 use Rattle.std.proofs.lemmas.Grind.{get_or-set_at}
 use Rattle.std.proofs.lemmas.List.{get_or-set_other}
 use Rattle.safl_term.specs.Checked.{CheckedProgram, IsChecked}
@@ -12,7 +12,6 @@ use Rattle.safl_sites.specs.Parallel.{After, Marked}
 use Rattle.safl_sites.specs.Parts.{IsPart}
 use Rattle.safl_sites.specs.Reach.{MayReach}
 use Rattle.safl_sites.specs.SiteSets.{has, Has, HasAt, Adds, no_set}
-use Rattle.safl_sites.proofs.EarlierConflicts.{clash}
 use Rattle.safl_sites.proofs.SetsJoined.{set_more}
 use Rattle.safl_sites.proofs.NumbersFollow.{lower_before}
 use Rattle.safl_sites.proofs.SetsByWords.{no_set_has}
@@ -20,7 +19,7 @@ use Rattle.safl_sites.proofs.SetsByWords.{no_set_has}
 -- a table of empty sets
 pub empty_table : (n : ℕ) (r : SiteSet) → ((k : ℕ) → has r k ≡ false) → (i k : ℕ) → HasAt (replicate n r) i k → ⊥
 empty_table zero r none i k h = no_set_has k h
-empty_table (suc n) r none zero k h = clash (has r k) (none k) h
+empty_table (suc n) r none zero k h = both_ways (has r k) (none k) h
 empty_table (suc n) r none (suc i) k h = empty_table n r none i k h
 
 module _ (p : CheckedProgram) (h : IsChecked p) where
@@ -84,7 +83,7 @@ module _ (C : Program) (f : ℕ) where
       → ((k : ℕ) → Adds (HasAt units (C.unit f) k) (Has joined k) (Has set k))
       → IsFilled C (suc f) (slice_set bodies f set) (slice_set units (C.unit f) joined) after'
   filled_more bodies units after after' e set joined within low t none reached B never count marked union =
-      let full : (k : ℕ) → Has set k → Reaches C k (C.body f) = λ k x. elim ((reached k).splits x) [ inl y ↦ absurd (clash (has e k) (none k) y) | inr y ↦ y ] in
+      let full : (k : ℕ) → Has set k → Reaches C k (C.body f) = λ k x. elim ((reached k).splits x) [ inl y ↦ absurd (both_ways (has e k) (none k) y) | inr y ↦ y ] in
       record {
         bodies_count = length-set bodies f set ∙ t.bodies_count;
         units_count = length-set units (C.unit f) joined ∙ t.units_count;

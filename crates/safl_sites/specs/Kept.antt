@@ -1,14 +1,9 @@
 -- Which sites feed a term, and which sites keep their words.
-use Rattle.std.specs.Prelude.{◌≡◌, ◌≢◌, ℕ, zero, suc, ◌+◌, List, [], ◌∷◌, ◌++◌, length, replicate, Bool, true, false, ◌||◌, ◌==◌, ◌⊎◌}
+use Rattle.std.specs.Prelude.{◌≡◌, ◌≢◌, ℕ, ◌+◌, List, [], ◌∷◌, ◌++◌, length, replicate, Bool, true, false, ◌||◌, ◌==◌, ◌⊎◌}
+use Rattle.safl_word.specs.Lists.{bool_at}
 use Rattle.safl_term.specs.Program.{Program, unit_for, arity}
 use Rattle.safl_term.specs.Terms.{Term, Terms, Const, Var, Op, If, Let, Call, Loop, Nil, Cons}
 use Rattle.safl_sites.specs.Conflicts.{Reaches, ReachesIn, Conflict}
-
--- element i of a list, or false if there is none
-abbrev pub bool_at : List Bool → ℕ → Bool
-bool_at [] i = false
-bool_at (b ∷ bs) zero = b
-bool_at (b ∷ bs) (suc i) = bool_at bs i
 
 unfoldable mutual
   -- Whether site k feeds the term. The list says of each slot in scope whether k feeds it. A call is fed by its own site alone,

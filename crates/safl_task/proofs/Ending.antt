@@ -1,20 +1,15 @@
 -- How a command ends, by what its parts answer.
-use Rattle.std.proofs.Common.{◌≡◌, ℕ, ◌≤◌, List, [], ◌∷◌, ◌++◌, length, take, bytes_eq, if◌then◌else◌, Bool, true, false, Option, Some, None, refl, sym, ap, ◌∙◌, subst, inl, inr, arith}
+use Rattle.std.proofs.Common.{◌≡◌, ℕ, List, [], ◌∷◌, ◌++◌, length, take, bytes_eq, if◌then◌else◌, Bool, true, false, Option, Some, None, refl, sym, ap, ◌∙◌, subst, inl, inr, arith}
 use Rattle.std.specs.Prelude.{◌⊎◌, IsSomeAnd}
 use Rattle.std.specs.Option.{option_or}
 use Rattle.std.proofs.lemmas.List.{take_all}
 use Rattle.std.proofs.lemmas.Slice.Eq.{bytes_eq-Decides}
-use Rattle.safl_io.specs.Counts.{Rose}
 use Rattle.safl_io.specs.Shelf.{Files, file_of, Leaves, LeavesOldOrPart}
 use Rattle.safl_io.specs.Told.{TellsOn}
 use Rattle.safl_io.specs.Sink.{SinkState, Sends, SendsPart}
 use Rattle.safl_task.specs.Tasks.{Task}
 use Rattle.safl_task.specs.Endings.{Outside, LeavesAll, LeavesParts, Left, Stops, refused, unread, long, unwritten, unprinted, unprobed, starved, Ended, Ends, gave}
 use Rattle.safl_task.specs.declared.status.Status.{Status}
-
--- a count that rose later rose
-pub rose_later : (old mid new : ℕ) → old ≤ mid → Rose mid new → Rose old new
-rose_later old mid new h r = elim r [ inl up ↦ inl (omega (arith, h, up)) | inr end ↦ inr end ]
 
 -- ---- files and sinks
 

@@ -4,14 +4,15 @@ use Rattle.std.specs.Prelude.{IfSome, OnSome, slice_get, slice_index_or}
 use Rattle.std.proofs.lemmas.List.{map_push}
 use Rattle.std.specs.declared.alloc.Global.{Global}
 use Rattle.std.specs.declared.vec.Vec.{Vec}
+use Rattle.safl_word.proofs.Lists.{get_index, map_take_next}
 use Rattle.safl_io.specs.Reading.{HasFile}
 use Rattle.safl_io.specs.Shelf.{Files, ShelfState}
+use Rattle.safl_io.proofs.Telling.{rose_later}
 use Rattle.safl_task.specs.Inputs.{shown_input, shown_inputs, shown_contents, OnlyReads, IsUnreadAt, AreUnread}
 use Rattle.safl_task.specs.Tasks.{Input, OfFile, AreContents, HoldsInputs, SameStraysWith}
 use Rattle.safl_task.specs.declared.input.Input as code
 use Rattle.safl_task.specs.declared.input.Unread.{Unread}
 use Rattle.safl_task.specs.declared.input.Unread.TheVariants as unread
-use Rattle.safl_task.proofs.Ending.{rose_later}
 
 -- one more was read
 pub contents_more : (holds : Option Files) (is : List Input) (cs : List (List ℕ)) (i : Input) (c : List ℕ) → AreContents holds is cs → length c ≤
@@ -66,18 +67,7 @@ split_at f (y ∷ xs) zero x e = let q : y ≡ x = cc in ap (λ z. f z ∷ map f
 split_at f (y ∷ xs) (suc i) x e =
     ap (λ l. f y ∷ l) (split_at f xs i x e) ∙ ap (λ k. f y ∷ (map f (take i xs) ++ f x ∷ map f (drop k (y ∷ xs)))) (let z : suc (i + 1) ≡ suc i + 1 = omega arith in z)
 
-pub take_next : {A B : Type 0} (f : A → B) (xs : List A) (i : ℕ) (x : A) → slice_get xs i ≡ Some x → map f (take (i + 1) xs) ≡ map f (take i xs) ++ f x ∷ []
-take_next f [] i x e = absurd (cc)
-take_next f (y ∷ xs) zero x e = let q : y ≡ x = cc in ap (λ z. f z ∷ []) q
-take_next f (y ∷ xs) (suc i) x e =
-    ap (λ k. map f (take k (y ∷ xs))) (let z : suc i + 1 ≡ suc (i + 1) = omega arith in z) ∙ ap (λ l. f y ∷ l) (take_next f xs i x e)
-
 -- ---- the input at a place
-
-get_index : {A : Type 0} (xs : List A) (i : ℕ) (d : A) → i < length xs → slice_get xs i ≡ Some (slice_index_or xs i d)
-get_index [] i d h = absurd (omega (arith, h))
-get_index (x ∷ xs) zero d h = refl
-get_index (x ∷ xs) (suc i) d h = get_index xs i d (omega (arith, h))
 
 module _ (xs : List code.Input) (i : ℕ) (d : code.Input) (lt : i < length xs) (old mid : ShelfState) where
   abbrev x : code.Input
@@ -105,6 +95,6 @@ module _ (xs : List code.Input) (i : ℕ) (d : code.Input) (lt : i < length xs) 
   contents_next same contents more bytes e read small has =
       let here : IfSome old.holds (HasFile x.name.now bytes.items) = subst (λ (o : Option Files). IfSome o (HasFile x.name.now bytes.items)) same has in
       let all = contents_more old.holds (shown_inputs (take i xs)) (shown_contents contents) (shown_input x) bytes.items read small here in
-      let names = take_next shown_input xs i x (get_index xs i d lt) in
+      let names = map_take_next shown_input xs i x (get_index xs i d lt) in
       let texts : shown_contents more ≡ shown_contents contents ++ bytes.items ∷ [] = ap shown_contents e ∙ map_push (λ (v : Vec ℕ Global). v.items) contents bytes in
       subst (λ (l : List Input). AreContents old.holds l (shown_contents more)) (sym names) (subst (λ l. AreContents old.holds (shown_inputs (take i xs) ++ shown_input x ∷ []) l) (sym texts) all)

@@ -2,6 +2,7 @@
 use Rattle.std.proofs.Common.{◌≡◌, ℕ, zero, suc, ◌<◌, ◌≤◌, List, [], ◌++◌, Option, Some, None, Bool, true, false, cond, refl, sym, ap, ◌∙◌, subst, arith, inl, inr, ◌⊎◌, ⊎_elim}
 use Rattle.std.specs.Prelude.{◌≢◌, ◌==◌}
 use Rattle.std.proofs.lemmas.Bool.{false≢true, eq-eqb, ne_eqb, cases_eq}
+use Rattle.std.proofs.lemmas.Option.{same_Some}
 use Rattle.safl_word.specs.Words.{Word, choose, pick}
 use Rattle.safl_word.specs.declared.primitive.Primitive.{Primitive}
 use Rattle.safl_term.specs.Terms.{Term, Const, Var, If, Let, Op, Call, Loop, Terms, Nil, Cons}
@@ -14,6 +15,7 @@ use Rattle.safl_term.proofs.Shows.{Done, d_const, d_var, d_op, d_if, d_let, d_ca
 use Rattle.safl_term.proofs.Shows.{a_arg, a_loop, a_op, a_cond, a_branch, a_bind, a_body, AsksIn, a_head, a_tail, done_gives, done_all_gives}
 use Rattle.safl_term.proofs.Unique.{one_value, one_list}
 use Rattle.safl_term.proofs.Places.{fits_le, fits_all_le, fits_choose, place, place_in}
+use Rattle.safl_term.proofs.OrElse.{or_from}
 
 -- the returned words of sites of these stages
 abbrev pub back_of : (ℕ → Stage) → ℕ → Option Word
@@ -66,14 +68,6 @@ blocked_right s l m (inr x) = inr x
 
 none_some : {A : Type 0} (ws : List Word) → None ≡ Some ws → A
 none_some ws e = cc
-
-same_some : (vs ws : List Word) → Some vs ≡ Some ws → vs ≡ ws
-same_some vs ws e = cc
-
--- which of the two it comes from
-pub or_from : (o q : Option (List Word)) (ws : List Word) → or_else o q ≡ Some ws → (o ≡ Some ws) ⊎ (q ≡ Some ws)
-or_from None q ws e = inr e
-or_from (Some x) q ws e = inl e
 
 -- the parts of a term, as far as they ask
 module _ (p : Program) (s : ℕ → Stage) (g : ℕ) (env : List Word) where
@@ -216,7 +210,7 @@ module _ (p : Program) (s : ℕ → Stage) (env : List Word) where
       (ready_from (back_word x)) (λ j. cond (k == j) y (l j))
   view_call tail f k ts Unsent {l = l} e apart (readys {vs = us} ds h) held =
       waits (inl (k, us, ap (λ b. cond b (Some us) (l k)) (eq-eqb k k refl), e))
-      (sound_call f k ts (Some us) l (λ ws q. subst (λ zs. DoneAll p s env ts zs) (same_some us ws q) ds) h)
+      (sound_call f k ts (Some us) l (λ ws q. subst (λ zs. DoneAll p s env ts zs) (same_Some us ws q) ds) h)
   view_call tail f k ts Unsent {l = l} e apart (waitin q h) held =
       waits (blocked_args q) (sound_call f k ts None l (λ ws z. none_some ws z) h)
     where
@@ -228,12 +222,12 @@ module _ (p : Program) (s : ℕ → Stage) (env : List Word) where
           (cases_eq k j)
       blocked_args (inr z) = inr z
   view_call tail f k ts Sent {l = l} e apart (readys {vs = us} ds h) held =
-      waits (inr (k, e)) (sound_call f k ts (Some us) l (λ ws q. subst (λ zs. DoneAll p s env ts zs) (same_some us ws q) ds) h)
+      waits (inr (k, e)) (sound_call f k ts (Some us) l (λ ws q. subst (λ zs. DoneAll p s env ts zs) (same_Some us ws q) ds) h)
   view_call tail f k ts Sent {l = l} e apart (waitin q h) held =
       waits (inr (k, e)) (sound_call f k ts None l (λ ws z. none_some ws z) h)
   view_call tail f k ts (Returned v) {l = l} e apart (readys {vs = us} ds h) held =
       let r = held v e in
-      ready (d_call r.1 e r.2) (sound_call f k ts (Some us) l (λ ws q. subst (λ zs. DoneAll p s env ts zs) (same_some us ws q) ds) h)
+      ready (d_call r.1 e r.2) (sound_call f k ts (Some us) l (λ ws q. subst (λ zs. DoneAll p s env ts zs) (same_Some us ws q) ds) h)
   view_call tail f k ts (Returned v) {l = l} e apart (waitin q h) held =
       let r = held v e in
       ready (d_call r.1 e r.2) (sound_call f k ts None l (λ ws z. none_some ws z) h)

@@ -1,14 +1,14 @@
 -- How much is left to do while a term is taken apart.
-use Rattle.std.proofs.Common.{◌≡◌, ℕ, ◌+◌, ◌*◌, ◌<◌, ◌≤◌, refl, arith, List, [], ◌∷◌, ◌++◌, Option, Vec, Box, Global, ap, subst, ◌∙◌}
-use Rattle.std.proofs.Math.Nat.{mul-le-mul_left}
+use Rattle.std.proofs.Common.{◌≡◌, ℕ, ◌+◌, ◌*◌, ◌<◌, ◌≤◌, refl, arith, List, [], ◌∷◌, Option, Vec, Box, Global, ap, subst, ◌∙◌}
 use Rattle.std.specs.List.{sum_by}
-use Rattle.std.proofs.lemmas.List.Sums.{sum_by-append, sum_by-cons}
+use Rattle.std.proofs.lemmas.List.Sums.{sum_by-cons}
 use Rattle.std.specs.Prelude.{IfSome}
 use Rattle.safl_word.specs.declared.primitive.Primitive.{Primitive}
 use Rattle.safl_word.specs.Words.{Word}
+use Rattle.safl_word.specs.Naturals.{work}
 use Rattle.safl_term.specs.Terms as plain
 use Rattle.safl_term.specs.Tree.{shown_term, shown_terms}
-use Rattle.safl_term.specs.Weights.{weight, weight_in, code_weight, work, work_at}
+use Rattle.safl_term.specs.Weights.{weight, weight_in, code_weight, work_at}
 use Rattle.safl_term.specs.declared.dismantle.At.{At}
 use Rattle.safl_term.specs.declared.term.Term.{Term, Const, Var, If', Let, Let', Op, Op', Call, Call', Loop, Loop'}
 use Rattle.safl_term.proofs.PlainTrees.{shown_term-Op, shown_term-Loop, shown_term-Call, shown_term-Let}
@@ -47,22 +47,7 @@ call_weight f k v = omega (arith, ap weight (shown_term-Call f k v), terms_weigh
 pub loop_weight : (h : ℕ) (v : Vec Term Global) → code_weight (Loop h v) ≡ 2 + sum_by code_weight v.items
 loop_weight h v = omega (arith, ap weight (shown_term-Loop h v), terms_weight v.items)
 
-pub sum_last : {A : Type 0} (f : A → ℕ) (xs ys : List A) (x : A) → xs ≡ ys ++ x ∷ [] → sum_by f xs ≡ sum_by f ys + f x
-sum_last f xs ys x e = omega (arith, ap (sum_by f) e, sum_by-append f ys (x ∷ []))
-
 -- ---- less work
-
-pub work_down : (c u d v : ℕ) → d + v ≤ c + u → d < c → work d v < work c u
-work_down c u d v le lt =
-    omega (arith, lt, mul-le-mul_left (d + v) le, mul-le-mul_left (c + u) le)
-
-pub work_up : (c u d v : ℕ) → 1 ≤ c → d + v ≤ u → work d v < work c u
-work_up c u d v some le =
-    let more : d + v + 1 ≤ c + u = omega arith in
-    omega (arith, mul-le-mul_left (d + v) more, mul-le-mul_left (c + u) more)
-
-pub less_of : {m n : ℕ} (u w : ℕ) → m ≡ n → w < work m u → w < work n u
-less_of u w e h = let P : ℕ → Type 0 = λ k. w < work k u in subst P e h
 
 pub less_in : (o : Option At) (u : ℕ) {m n : ℕ} → m ≡ n → IfSome o (λ next. work_at next < work m u) → IfSome o (λ next. work_at next < work n u)
 less_in o u e h = let P : ℕ → Type 0 = λ k. IfSome o (λ next. work_at next < work k u) in subst P e h

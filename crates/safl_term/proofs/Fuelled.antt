@@ -17,16 +17,16 @@ UsesAll p env ts vs n m = (d : GivesAll p env ts vs) × (costs p d + m ≡ n)
 abbrev IsRight : Program → Apply → Type 0
 IsRight p f = (n g : ℕ) (v : Word) (m : ℕ) (us : List Word) → f n g us ≡ Gave v m → (k : ℕ) × (n ≡ suc k) × Uses p us (p.body g) v k m
 
-nothing_word : {A : Type 0} (v : Word) (m : ℕ) → Nothing ≡ Gave v m → A
+pub nothing_word : {A : Type 0} (v : Word) (m : ℕ) → Nothing ≡ Gave v m → A
 nothing_word v m e = cc
 
-same_word : (v : Word) (m : ℕ) (w : Word) (k : ℕ) → Gave v m ≡ Gave w k → (v ≡ w) × (m ≡ k)
+pub same_word : (v : Word) (m : ℕ) (w : Word) (k : ℕ) → Gave v m ≡ Gave w k → (v ≡ w) × (m ≡ k)
 same_word v m w k e = (cc, cc)
 
-no_words : {A : Type 0} (vs : List Word) (m : ℕ) → NoWords ≡ Words vs m → A
+pub no_words : {A : Type 0} (vs : List Word) (m : ℕ) → NoWords ≡ Words vs m → A
 no_words vs m e = cc
 
-same_words : (vs ws : List Word) (m k : ℕ) → Words vs m ≡ Words ws k → (vs ≡ ws) × (m ≡ k)
+pub same_words : (vs ws : List Word) (m k : ℕ) → Words vs m ≡ Words ws k → (vs ≡ ws) × (m ≡ k)
 same_words vs ws m k e = (cc, cc)
 
 chosen_pick : (u : ℕ) (x y : Outcome) (P : Term → Type 0) (a b : Term) (v : Word) (m : ℕ) → (x ≡ Gave v m → P a) → (y ≡ Gave v m → P b) → pick u x y ≡ Gave v m → P (pick u a b)

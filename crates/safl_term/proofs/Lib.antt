@@ -12,3 +12,6 @@ pub mod PlainTrees
 pub mod SlotsOfLets
 pub mod HeldByChecked
 pub mod Dismantling
+pub mod OrElse
+pub mod Apart
+pub mod PlainTerms

@@ -79,7 +79,7 @@ loops_of p g tail lo hi slots n (Let ts b) h (m, x, y) (ws, u, v) l = loops_of p
 loops_of p g tail lo hi slots n (Call f k ts) h x w l = absurd l
 loops_of p g tail lo hi slots n (Loop i ts) h (e, e1, x) (u, v, w) l = (subst (λ j. j < p.functions) l w, ap p.unit (sym l) ∙ e1)
 
-counts_as : (p : Program) (slots : List ℕ) (ts : Terms) (ws : List ℕ) → HaveWidths p slots ts ws → count ts ≡ length ws
+pub counts_as : (p : Program) (slots : List ℕ) (ts : Terms) (ws : List ℕ) → HaveWidths p slots ts ws → count ts ≡ length ws
 counts_as p slots Nil [] h = refl
 counts_as p slots Nil (w ∷ ws) h = absurd h
 counts_as p slots (Cons t ts) [] h = absurd h

@@ -14,16 +14,6 @@ pick_either zero x y P h = inr h
 pick_either (suc zero) x y P h = inl h
 pick_either (suc (suc n)) x y P h = inr h
 
-pub pick_one : {A : Type 0} (n : ℕ) (x y : A) → n ≡ 1 → pick n x y ≡ x
-pick_one zero x y e = absurd (omega arith)
-pick_one (suc zero) x y e = refl
-pick_one (suc (suc n)) x y e = absurd (omega arith)
-
-pub pick_other : {A : Type 0} (n : ℕ) (x y : A) → n ≢ 1 → pick n x y ≡ y
-pick_other zero x y e = refl
-pick_other (suc zero) x y e = absurd (e refl)
-pick_other (suc (suc n)) x y e = refl
-
 -- which of the two is picked
 pub pick_cases : {A B : Type 0} (n : ℕ) (x y : A) (x' y' : B) (P : A → B → Type 0) (Q : Type 0) → (n ≡ 1 → P x x' → Q) → (n ≢ 1 → P y y' → Q) → P (pick n x y) (pick n x' y') → Q
 pick_cases zero x y x' y' P Q h k p = k (omega arith) p

@@ -2,35 +2,32 @@
 use Rattle.std.proofs.Common.{◌≡◌, ℕ, zero, suc, List, [], ◌∷◌, ◌++◌, Option, Some, None, Bool, false, cond, refl, sym, ap, ◌∙◌, subst, inl, inr, ◌⊎◌, ⊎_elim, arith}
 use Rattle.std.specs.Prelude.{slice_get}
 use Rattle.std.proofs.lemmas.Bool.{cases_eq, eq-eqb, ne_eqb}
+use Rattle.std.proofs.lemmas.Option.{same_Some}
 use Rattle.safl_word.specs.Words.{Word, slot}
 use Rattle.safl_word.specs.Primitives.{apply_prim, result_width}
 use Rattle.safl_word.proofs.Widths.{widths, apply_width}
 use Rattle.safl_term.specs.Terms.{Term, Const, Var, Op, If, Let, Call, Loop, Terms, Nil, Cons}
 use Rattle.safl_term.specs.Program.{Program}
-use Rattle.safl_term.specs.Readiness.{Answer, Ready, LoopTo, NotYet, both, ready_from, apply_to, loop_to, select, with_all, or_else, answer, answers, wanted, wanted_in}
+use Rattle.safl_term.specs.Readiness.{Answer, Ready, LoopTo, NotYet, both, ready_from, apply_to, loop_to, select, with_all, answer, answers, wanted, wanted_in}
 use Rattle.safl_term.specs.Standing.{Stands, StandsIn}
 use Rattle.safl_term.specs.WellFormed.{Spans, SpansAll, HasWidth, HaveWidths}
 use Rattle.safl_term.proofs.Picking.{pick_either}
+use Rattle.safl_term.proofs.Apart.{not_loop}
+use Rattle.safl_term.proofs.OrElse.{or_from}
 
 none_some : {A : Type 0} {B : Type 0} (x : B) → None ≡ Some x → A
 none_some x e = cc
 
-some_is : {B : Type 0} (x y : B) → Some x ≡ Some y → x ≡ y
-some_is x y e = cc
-
-ready_is : (v w : Word) → Ready v ≡ Ready w → v ≡ w
+pub ready_is : (v w : Word) → Ready v ≡ Ready w → v ≡ w
 ready_is v w e = cc
 
-not_ready : {A : Type 0} (v : Word) → NotYet ≡ Ready v → A
+pub not_ready : {A : Type 0} (v : Word) → NotYet ≡ Ready v → A
 not_ready v e = absurd (grind arith)
-
-not_loop : {A : Type 0} (h : ℕ) (vs : List Word) → NotYet ≡ LoopTo h vs → A
-not_loop h vs e = absurd (grind arith)
 
 loop_ready : {A : Type 0} (h : ℕ) (vs : List Word) (v : Word) → LoopTo h vs ≡ Ready v → A
 loop_ready h vs v e = absurd (grind arith)
 
-ready_loop : {A : Type 0} (h : ℕ) (vs : List Word) (v : Word) → Ready v ≡ LoopTo h vs → A
+pub ready_loop : {A : Type 0} (h : ℕ) (vs : List Word) (v : Word) → Ready v ≡ LoopTo h vs → A
 ready_loop h vs v e = absurd (grind arith)
 
 abbrev loop_member : Answer → ℕ
@@ -49,12 +46,8 @@ widths_append (u ∷ us) vs = ap (λ l. u.width ∷ l) (widths_append us vs)
 
 slot_width : (env : List Word) (i n : ℕ) → slice_get (widths env) i ≡ Some n → (slot env i).width ≡ n
 slot_width [] i n e = none_some n e
-slot_width (x ∷ xs) zero n e = some_is x.width n e
+slot_width (x ∷ xs) zero n e = same_Some x.width n e
 slot_width (x ∷ xs) (suc i) n e = slot_width xs i n e
-
-or_from : (o q : Option (List Word)) (ws : List Word) → or_else o q ≡ Some ws → (o ≡ Some ws) ⊎ (q ≡ Some ws)
-or_from None q ws e = inr e
-or_from (Some x) q ws e = inl e
 
 select_from : {A : Type 0} (q : Answer) (none x y : A) (P : A → Type 0) → P (select q none x y) → (P none) ⊎ (P x ⊎ P y)
 select_from (Ready u) none x y P p = inr (pick_either u.bits x y P p)
@@ -63,7 +56,7 @@ select_from NotYet none x y P p = inl p
 
 both_parts : (a : Answer) (o : Option (List Word)) (vs : List Word) → both a o ≡ Some vs → (v : Word) × (ws : List Word) × (a ≡ Ready v) × (o ≡ Some ws) × (v ∷ ws ≡ vs)
 both_parts (Ready v) None vs e = none_some vs e
-both_parts (Ready v) (Some ws) vs e = (v, ws, refl, refl, some_is (v ∷ ws) vs e)
+both_parts (Ready v) (Some ws) vs e = (v, ws, refl, refl, same_Some (v ∷ ws) vs e)
 both_parts (LoopTo h ws) o vs e = none_some vs e
 both_parts NotYet o vs e = none_some vs e
 
@@ -116,7 +109,7 @@ module _ (C : Program) (back : ℕ → Option Word) where
 
     pub answers_widths : (g lo hi : ℕ) (env : List Word) (ts : Terms) (ws : List ℕ) (vs : List Word) → SpansAll C g lo hi ts → HaveWidths C
         (widths env) ts ws → AllBackIn ts → answers back env ts ≡ Some vs → widths vs ≡ ws
-    answers_widths g lo hi env Nil [] vs s h b e = sym (ap widths (some_is [] vs e))
+    answers_widths g lo hi env Nil [] vs s h b e = sym (ap widths (same_Some [] vs e))
     answers_widths g lo hi env Nil (w ∷ ws) vs s h b e = absurd h
     answers_widths g lo hi env (Cons t ts) [] vs s h b e = absurd h
     answers_widths g lo hi env (Cons t ts) (w ∷ ws) vs (m, st, sts) h b e =

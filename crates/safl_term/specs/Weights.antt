@@ -1,5 +1,6 @@
 -- The weight of a term: how much work it is to free it.
 use Rattle.std.specs.Prelude.{ℕ, ◌+◌, ◌*◌}
+use Rattle.safl_word.specs.Naturals.{work}
 use Rattle.safl_term.specs.declared.dismantle.At.{At}
 use Rattle.safl_term.specs.declared.term.Term as code
 use Rattle.safl_term.specs.Terms.{Term, Terms, Const, Var, Op, If, Let, Call, Loop, Nil, Cons}
@@ -23,11 +24,6 @@ abbrev mutual
 
 abbrev pub code_weight : code.Term → ℕ
 code_weight t = weight (shown_term t)
-
--- the work that is left with so much below and so much above. A step down keeps the sum of the weights, and a step up makes it
--- less
-abbrev pub work : ℕ → ℕ → ℕ
-work below above = (below + above) * (below + above) + below
 
 abbrev pub work_at : At → ℕ
 work_at a = work (code_weight a.here) (code_weight a.above)

@@ -35,7 +35,8 @@ impl Drop for Term {
 // values apart.
 impl Term {
     ghost use Rattle.std.specs.Prelude.{◌≡◌, ◌+◌, ◌<◌, ◌≤◌, IfSome};
-    ghost use Rattle.safl_term.specs.Weights.{code_weight, work, work_at};
+    ghost use Rattle.safl_term.specs.Weights.{code_weight, work_at};
+    ghost use Rattle.safl_word.specs.Naturals.{work};
 
     pub(crate) fn enter(self, above: Term) -> Option<At>
         ensures { IfSome result (λ next. work_at next < work (code_weight self) (code_weight above)) }

@@ -1,7 +1,7 @@
 //! The result of main by the meaning of programs, and how many calls it takes.
 
 ghost use Rattle.std.specs.Prelude.{◌≡◌, IfOk};
-ghost use Rattle.safl_interpreter.specs.Interpreting.{widths};
+ghost use Rattle.safl_word.specs.Words.{widths};
 
 use safl_compiler::accept;
 use safl_interpreter::{Answer, interpret};

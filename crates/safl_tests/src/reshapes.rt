@@ -7,7 +7,7 @@ ghost use Rattle.safl_word.specs.Limits.{source_max};
 ghost use Rattle.safl_tree.specs.Shown.{shown_program};
 ghost use Rattle.safl_tree.specs.Source.{SpellsProgram};
 ghost use Rattle.safl_tree.specs.Printable.{IsPrintable};
-ghost use Rattle.safl_reshape.specs.Refusals.{HasForm};
+ghost use Rattle.safl_typing.specs.Forms.{HasForm};
 
 use safl_check::check;
 use safl_parse::parse_program;

@@ -1,10 +1,9 @@
 -- A cut goes on by a piece.
-use Rattle.std.proofs.Common.{◌≡◌, ◌≢◌, ℕ, ◌+◌, ◌-◌, ◌<◌, ◌≤◌, List, [], ◌∷◌, ◌++◌, length, take, drop, refl, sym, ◌∙◌, ap, subst, arith, append_assoc, length-append, length-drop, zero-add}
+use Rattle.std.proofs.Common.{◌≡◌, ◌≢◌, ℕ, ◌+◌, ◌<◌, ◌≤◌, List, [], ◌∷◌, ◌++◌, length, take, drop, refl, sym, ◌∙◌, ap, subst, arith, append_assoc, length-append, length-drop, zero-add}
 use Rattle.std.proofs.lemmas.List.{take-append-drop, length-take-le, append-nil, drop-drop}
 use Rattle.safl_word.specs.Tokens.{Piece, Blank, Comment, Lexeme, text_of, text_of_all, StandsBefore, StandAll, tokens_from}
 use Rattle.safl_word.specs.declared.token.Token.{Token}
 use Rattle.safl_word.specs.declared.token.TokenKind.{TokenKind}
-use Rattle.safl_word.proofs.NumeralsRead.{taken}
 use Rattle.safl_word.proofs.OneKind.{token_like}
 use Rattle.safl_word.proofs.Cuts.{token_some}
 use Rattle.safl_text.specs.Fronts.{HasPiece, IsGap, IsCutUpTo}
@@ -78,10 +77,6 @@ piece_some text n (Lexeme k w) h = some w (token_some w (token_like k w h.stands
     some : (w : List ℕ) → w ≢ [] → length w ≡ n → 1 ≤ n
     some [] f e = absurd (f refl)
     some (c ∷ w) f e = omega arith
-
--- the rest of a source, as a slice
-pub rest_is : (text : List ℕ) (p : ℕ) → p ≤ length text → take (length text - p) (drop p text) ≡ drop p text
-rest_is text p le = taken (drop p text) (length text - p) (omega (arith, length-drop p text)) (omega (arith, length-drop p text))
 
 -- a blank or a comment more
 pub goes_over : (source rest : List ℕ) (p n : ℕ) (ts : List Token) → rest ≡ drop p source → p < length source → IsCutUpTo source p ts → (x : Piece) × HasPiece rest n x × IsGap x

@@ -1,14 +1,14 @@
 -- What a text begins with, by its runs.
-use Rattle.std.proofs.Common.{◌≡◌, ◌≢◌, ◌↔◌, IsSome, IfSome, ℕ, zero, suc, ◌+◌, ◌^◌, ◌<◌, ◌≤◌, ◌==◌, ◌||◌, ◌⊎◌, inl, inr, List, [], ◌∷◌, ◌++◌, length}
+use Rattle.std.proofs.Common.{◌≡◌, ◌≢◌, ◌↔◌, IsSome, IfSome, ℕ, zero, suc, ◌+◌, ◌^◌, ◌<◌, ◌≤◌, ◌==◌, ◌⊎◌, inl, inr, List, [], ◌∷◌, ◌++◌, length}
 use Rattle.std.proofs.Common.{take, drop, get_or, Option, Some, None, Bool, true, false, not, refl, sym, ◌∙◌, ap, subst, arith, append_assoc}
 use Rattle.std.proofs.Common.{length-append}
-use Rattle.std.proofs.lemmas.Bool.{and_parts, eqb-true}
+use Rattle.std.proofs.lemmas.Bool.{and_parts, eqb-true, or_left}
 use Rattle.std.proofs.lemmas.List.{take-append-drop, length-take-le}
 use Rattle.std.proofs.Math.Seq.{take-append_seam, drop-append_seam}
 use Rattle.std.specs.List.{list_all}
 use Rattle.safl_word.specs.Numerals.{between, is_digit, value, IsNumeral, IsBounded}
 use Rattle.safl_word.specs.Tokens.{key_text, sym_text, is_blank, begins_name, in_name, IsNameLike, SizedParts, sized_text, IsSizedLike, IsLongest}
-use Rattle.safl_word.specs.Tokens.{Fits, Passes, long_name, long_number, long_sized, Blank, Comment, EndsLine, StandsBefore}
+use Rattle.safl_word.specs.Tokens.{Fits, Passes, long_name, long_number, long_sized, Blank, Comment, StandsBefore}
 use Rattle.safl_word.specs.declared.token.Key.{Key}
 use Rattle.safl_word.specs.declared.token.Sym.{Sym}
 use Rattle.safl_word.specs.declared.token.TokenKind.TheVariants as kinds
@@ -16,8 +16,8 @@ use Rattle.safl_word.specs.declared.fault.Rule.TheVariants as rules
 use Rattle.safl_word.proofs.Lexemes.{same_tail, name_longest, number_longest, NoSizeFollows}
 use Rattle.safl_word.proofs.Sizes.{sized_longest}
 use Rattle.safl_word.proofs.Next.{fits_or_passes}
-use Rattle.safl_word.proofs.Fronts.{NoPair, pair_longest, lone_longest, foreign}
-use Rattle.safl_word.specs.Runs.{EndsRun, IsRun}
+use Rattle.safl_word.proofs.Fronts.{NoPair, pair_longest, lone_longest, foreign, ends_line}
+use Rattle.safl_word.specs.Runs.{IsRun}
 use Rattle.safl_text.specs.Fronts.{HasSize, HasNoSize, begins_comment, HasNoPair, IsOther, Begins}
 use Rattle.safl_text.specs.declared.front.Front.TheVariants as fronts
 
@@ -33,11 +33,7 @@ run_head p c x zero r h = let e = r.ends in cc
 run_head p c x (suc n) r h = omega arith
 
 name_in : (c : ℕ) → begins_name c ≡ true → in_name c ≡ true
-name_in c h = by_test (begins_name c) (between 48 57 c) h
-  where
-    by_test : (b d : Bool) → b ≡ true → (b || d) ≡ true
-    by_test true d h = refl
-    by_test false d h = cc
+name_in c h = or_left (begins_name c) (between 48 57 c) h
 
 -- a run of a name's bytes is a name's text, and the longest
 pub record NameFront (text : List ℕ) (n : ℕ) : Type 0 where
@@ -149,14 +145,6 @@ module _ (text : List ℕ) (n base count : ℕ) (s : 1 ≤ n) (r : IsRun (is_dig
 
   pub long_value : ¬ IsBounded base 128 (2 ^ 128) (take count h.digits) → Begins text (fronts.Broken rules.E03)
   long_value f = too_long (inr (passes base (take count h.digits) (run_numeral base h.digits count h.some h.run) f))
-
-ends_line : (rest : List ℕ) → EndsRun (λ c. not (c == 10)) rest → EndsLine rest
-ends_line [] h = tt
-ends_line (c ∷ rest) h = by_test (c == 10) refl h
-  where
-    by_test : (b : Bool) → (c == 10) ≡ b → not b ≡ false → c ≡ 10
-    by_test true e f = eqb-true c 10 e
-    by_test false e f = cc
 
 pub comment_front : (text : List ℕ) (n : ℕ) → begins_comment text ≡ true → IsRun (λ c. not (c == 10)) (drop 2 text) n → Begins text (fronts.Gap (2 + n))
 comment_front [] n h r = cc

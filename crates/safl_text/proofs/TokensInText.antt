@@ -1,5 +1,5 @@
 -- Where the tokens of a cut text lie.
-use Rattle.std.proofs.Common.{◌≡◌, ◌≢◌, ℕ, ◌+◌, ◌-◌, ◌≤◌, List, [], ◌∷◌, ◌++◌, length, take, drop, slice_range, refl, sym, ◌∙◌, ap, subst, arith, append_assoc, length-append}
+use Rattle.std.proofs.Common.{◌≡◌, ℕ, ◌+◌, ◌-◌, ◌≤◌, List, [], ◌∷◌, ◌++◌, length, take, drop, slice_range, refl, sym, ◌∙◌, ap, subst, arith, append_assoc, length-append}
 use Rattle.std.proofs.lemmas.List.{append-nil}
 use Rattle.std.proofs.Math.Seq.{take-append_seam, drop-append_seam}
 use Rattle.safl_word.specs.Tokens.{IsToken, Piece, Blank, Comment, Lexeme, text_of, text_of_all, StandAll, tokens_from, HasTokens}
@@ -8,6 +8,7 @@ use Rattle.safl_word.specs.declared.token.TokenKind.{TokenKind}
 use Rattle.safl_word.proofs.OneKind.{token_like}
 use Rattle.safl_word.proofs.Cuts.{token_some}
 use Rattle.std.proofs.Math.ListN.{drop_of_length-le}
+use Rattle.safl_word.proofs.Lists.{not_empty}
 use Rattle.safl_text.specs.Fronts.{IsGap, IsCutUpTo}
 use Rattle.safl_text.specs.Spans.{LieInOrder, AreJoined}
 
@@ -46,11 +47,7 @@ part u w v p q e f =
     (λ i. take (k i) (d i)) ∙ take-append_seam w v
 
 some_bytes : (k : TokenKind) (w : List ℕ) → IsToken k w → 1 ≤ length w
-some_bytes k w h = some w (token_some w (token_like k w h))
-  where
-    some : (w : List ℕ) → w ≢ [] → 1 ≤ length w
-    some [] f = absurd (f refl)
-    some (c ∷ w) f = omega arith
+some_bytes k w h = not_empty w (token_some w (token_like k w h))
 
 -- the tokens of the pieces after u
 lie : (u : List ℕ) (p q : ℕ) (xs : List Piece) (rest text : List ℕ) → p ≡ length u → q ≤ p → StandAll xs rest → text ≡ u ++ text_of_all xs → LieInOrder text q (tokens_from p xs)

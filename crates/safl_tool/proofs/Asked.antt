@@ -23,6 +23,7 @@ use Rattle.safl_probe.specs.Growth.{AllGrow, Made, OldOrPart, Relation}
 use Rattle.safl_probe.specs.Runs.{IsRunOf, trace_at}
 use Rattle.safl_command.specs.Traces.{Traces, differ, is_named, are_apart}
 use Rattle.safl_probe.specs.Stopping.{SameProbes, WriteFailed}
+use Rattle.safl_probe.proofs.Growing.{is_within}
 use Rattle.safl_tool.specs.Refusals.{IsWriting, WatchingFails}
 use Rattle.safl_tool.specs.declared.refusal.Refusal.{Refusal}
 use Rattle.safl_tool.specs.declared.refusal.Refusal.TheVariants as refusal
@@ -328,15 +329,10 @@ handed R n given words limit asks ps x y e apart h vs run = h vs (subst (λ (l :
 
 -- ---- a file that was not written
 
-asked_below : (names : Asked) (i : ℕ) (name : List ℕ) → IsAsked names i name → i < length names
-asked_below [] i name h = absurd (cc)
-asked_below (x ∷ xs) zero name h = omega arith
-asked_below (x ∷ xs) (suc i) name h = let k = asked_below xs i name h in omega (arith, k)
-
 module _ (t : Traces) (asks : Asked) (ps qs : List ProbeState) (a : AreAskedFor t asks ps) (same : SameProbes ps qs) (place : ℕ) (old new : ShelfState) (failed : WriteFailed place asks old new) where
   pub there : place < length qs
   there =
-      let h = asked_below asks place failed.name failed.asked in
+      let h = is_within asks place failed.name failed.asked in
       let long : length asks ≡ length ps = ap (λ (l : Asked). length l) a.is ∙ asked_long t (kinds_of ps) ∙ length-map ps (λ (p : ProbeState). p.kind) in
       let count = same.count in
       omega (arith, h, long, count)

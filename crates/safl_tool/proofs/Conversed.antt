@@ -1,19 +1,21 @@
 -- What a session of a compiled source says.
-use Rattle.std.proofs.Common.{◌≡◌, ℕ, zero, suc, ◌<◌, ◌≤◌, List, [], ◌∷◌, map, length, Bool, true, false, Some, slice_get, slice_index, refl, sym, ap, subst, ◌∙◌, arith, inl, inr}
+use Rattle.std.proofs.Common.{◌≡◌, ℕ, ◌<◌, ◌≤◌, List, [], ◌∷◌, map, length, Bool, true, false, slice_index, refl, sym, ap, subst, ◌∙◌, arith, inl, inr}
 use Rattle.std.specs.Prelude.{All}
 use Rattle.std.proofs.Math.Path.{fun_ext}
 use Rattle.std.proofs.lemmas.Bool.{eq-eqb}
 use Rattle.std.proofs.lemmas.List.Elements.{All-nil, All-cons}
+use Rattle.std.proofs.lemmas.Option.{slice_get_within}
 use Rattle.safl_io.specs.Shelf.{ShelfState}
 use Rattle.safl_io.specs.Sink.{SinkState}
 use Rattle.safl_word.specs.Words.{Word, AreWords}
-use Rattle.safl_net.specs.Netlist.{Netlist, Signal}
-use Rattle.safl_net.specs.Valuations.{kind_reset, reset_number, reset_state}
+use Rattle.safl_net.specs.Netlist.{Netlist}
+use Rattle.safl_net.specs.Valuations.{reset_state}
 use Rattle.safl_net.specs.Arguments.{argument_widths}
 use Rattle.safl_sim.specs.Places.{resets}
 use Rattle.safl_sim.proofs.Builds.{resets_fit}
 use Rattle.safl_term.specs.Program.{Program}
 use Rattle.safl_term.specs.WellFormed.{AreWordsOf}
+use Rattle.safl_net.proofs.Kinds.{reset_at}
 use Rattle.safl_session.specs.declared.script.ScriptErr.{ScriptErr}
 use Rattle.safl_session.specs.declared.script.ScriptErr.TheVariants as errors
 use Rattle.safl_sim.specs.declared.done.Done.{Done as Reply}
@@ -81,12 +83,6 @@ calls_sized : (widths script : List ℕ) (calls : List (List Word)) → IsScript
 calls_sized widths script calls s = calls_sized_in widths s.0 calls s.2
 
 -- ---- a session that is opened
-
--- a simulator at reset is in the state at reset
-reset_at : (gs : List Signal) (s : ℕ) → slice_index (map (λ (g : Signal). kind_reset g.kind) gs) s ≡ reset_number (slice_get gs s)
-reset_at [] s = refl
-reset_at (g ∷ gs) zero = refl
-reset_at (g ∷ gs) (suc s) = reset_at gs s
 
 module _ (source script : List ℕ) (o : ReadySession) (is : IsReadySession source script o) where
   abbrev net : Netlist
@@ -181,18 +177,13 @@ count_not_memory l given e = cc
 pub argument_not_memory : (l p : ℕ) → errors.Argument l p ≡ errors.NoMemory → ⊥
 argument_not_memory l p e = cc
 
-within : (widths : List ℕ) (i w : ℕ) → slice_get widths i ≡ Some w → i < length widths
-within [] i w e = absurd (cc)
-within (x ∷ ws) zero w e = omega arith
-within (x ∷ ws) (suc i) w e = let h = within ws i w e in omega (arith, h)
-
 -- the place of an argument that is refused
 pub placed : (widths script : List ℕ) (l p : ℕ) → RefusesScript widths script (errors.Argument l p) → (0 < p) × (p ≤ length widths)
 placed widths script l p r = elim r [
   | inl none ↦ absurd (cc)
   | inr f ↦
       let m = f.fault.1 in
-      let a = within widths m.index m.width m.at_width in
+      let a = slice_get_within widths m.index m.width m.at_width in
       let b = m.is in
       (omega (arith, b), omega (arith, a, b))
 ]

@@ -1,12 +1,12 @@
 -- A text is printed or a file is written, by what the shelf and the sink answer.
-use Rattle.std.proofs.Common.{◌≡◌, ℕ, List, [], ◌∷◌, Option, Some, None, Contains, refl, sym, arith}
-use Rattle.std.proofs.lemmas.List.{append-nil}
+use Rattle.std.proofs.Common.{◌≡◌, ℕ, List, [], ◌∷◌, Contains, refl, arith}
 use Rattle.std.specs.Borrow.{Bor}
 use Rattle.std.specs.declared.alloc.Global.{Global}
 use Rattle.std.specs.declared.vec.Vec.{Vec}
 use Rattle.safl_io.specs.Shelf.{ShelfState, Leaves, LeavesOldOrPart}
 use Rattle.safl_io.specs.Told.{TellsOn}
 use Rattle.safl_io.specs.Sink.{SinkState, Sends, SendsPart}
+use Rattle.safl_io.proofs.Telling.{nothing_part, nothing_sent}
 use Rattle.safl_task.specs.Endings.{outside}
 use Rattle.safl_task.specs.Tasks.{end_of}
 use Rattle.safl_task.specs.declared.status.Status.{Status}
@@ -15,14 +15,6 @@ use Rattle.safl_tool.specs.Answers.{IsGiven, IsGivenInPart, printed}
 use Rattle.safl_task.specs.Tasks.{only_writes}
 use Rattle.safl_tool.specs.declared.answer.Answer.TheVariants as answer
 use Rattle.safl_tool.specs.declared.answer.Lines.{Lines}
-
-nothing_sent : (sent : Option (List ℕ)) → TellsOn (Sends []) sent sent
-nothing_sent None = tt
-nothing_sent (Some x) = sym (append-nil x)
-
-pub nothing_part : (text : List ℕ) (sent : Option (List ℕ)) → TellsOn (SendsPart text) sent sent
-nothing_part text None = tt
-nothing_part text (Some a) = (0, sym (append-nil a))
 
 module _ (shelf : ShelfState) (out out' : SinkState) (l : Lines) where
   -- a text is printed, or a part of it

@@ -1,5 +1,5 @@
 -- What is promised is kept, command by command.
-use Rattle.std.proofs.Common.{◌≡◌, ℕ, zero, suc, List, [], ◌∷◌, length, Option, Some, None, true, slice_get, refl, sym, ap, subst, ◌∙◌, arith, inl, inr, codes}
+use Rattle.std.proofs.Common.{◌≡◌, ℕ, zero, suc, List, [], ◌∷◌, Option, Some, None, true, slice_get, refl, sym, ap, subst, arith, inl, inr, codes}
 use Rattle.safl_word.specs.Words.{Word}
 use Rattle.safl_term.specs.Program.{Program}
 use Rattle.safl_term.specs.Names.{Names}
@@ -34,6 +34,7 @@ use Rattle.safl_session.specs.Circuits.{CircuitsReply, ResetIsQuiet}
 use Rattle.safl_session.specs.Laws as sessions
 use Rattle.safl_tree.specs.Laws.{OneProgram as OneTree}
 use Rattle.safl_check.specs.Numbered.{program_in, names_in}
+use Rattle.safl_session.proofs.WordsOfLines.{args_long, args_once}
 use Rattle.safl_compiler.specs.Sources.{IsSourceOf}
 use Rattle.safl_tool.specs.Reshaping.{Reshaping, copies, unfolds, IsReshapable, GivesReshaped}
 use Rattle.safl_tool.proofs.Reshaped.{IsOnce, copying_once, unfolding_once, reshapable_not_refused}
@@ -44,25 +45,6 @@ use Rattle.safl_tool.proofs.Simulated.{read_words}
 use Rattle.safl_tool.proofs.Ran.{done_not_done}
 use Rattle.safl_tool.proofs.Bits.{bits_not_refused, aig_not_refused}
 use Rattle.safl_tool.proofs.Conversed.{misscripted_not, replies_come}
-
--- arguments are read in one way, and without a fault
-same_words : (widths : List ℕ) (args : List (List ℕ)) (vs us : List Word) → AreArguments widths args vs → AreArguments widths args us → vs ≡ us
-same_words [] [] [] [] r q = refl
-same_words [] [] [] (u ∷ us) r q = absurd q
-same_words [] [] (v ∷ vs) us r q = absurd r
-same_words [] (t ∷ ts) vs us r q = absurd r
-same_words (w ∷ ws) [] vs us r q = absurd r
-same_words (w ∷ ws) (t ∷ ts) [] us r q = absurd r
-same_words (w ∷ ws) (t ∷ ts) (v ∷ vs) [] r q = absurd q
-same_words (w ∷ ws) (t ∷ ts) (v ∷ vs) (u ∷ us) r q = ap (λ x. x ∷ vs) (r.0.is ∙ sym q.0.is) ∙ ap (λ l. u ∷ l) (same_words ws ts vs us r.1 q.1)
-
-read_long : (widths : List ℕ) (args : List (List ℕ)) (vs : List Word) → AreArguments widths args vs → length args ≡ length widths
-read_long [] [] [] r = refl
-read_long [] [] (v ∷ vs) r = absurd r
-read_long [] (t ∷ ts) vs r = absurd r
-read_long (w ∷ ws) [] vs r = absurd r
-read_long (w ∷ ws) (t ∷ ts) [] r = absurd r
-read_long (w ∷ ws) (t ∷ ts) (v ∷ vs) r = ap suc (read_long ws ts vs r.1)
 
 read_at : (widths : List ℕ) (args : List (List ℕ)) (vs : List Word) (i w : ℕ) (t : List ℕ) → AreArguments widths args vs → slice_get widths i ≡ Some w
     → slice_get args i ≡ Some t → (v : Word) × IsArgument w t v
@@ -79,7 +61,7 @@ read_at (y ∷ ws) (x ∷ ts) (v ∷ vs) (suc i) w t r e f = read_at ws ts vs i 
 
 no_fault : (widths : List ℕ) (args : List (List ℕ)) (vs : List Word) (line : List ℕ) → AreArguments widths args vs → HaveFault widths args line → ⊥
 no_fault widths args vs line r f = elim f [
-  | inl m ↦ m.0 (read_long widths args vs r)
+  | inl m ↦ m.0 (args_long widths args vs r)
   | inr u ↦ let v = read_at widths args vs u.index u.width u.text r u.at_width u.at_text in u.bad v.0 v.1
 ]
 
@@ -94,7 +76,7 @@ fitting once source args Fits e C D of words read =
     let same : e.program ≡ C = (once source e.program C e.names D e.source_of of).0 in
     let given : AreArguments (C.params C.main) args e.words = subst (λ (x : Program). AreArguments (x.params x.main) args e.words) same e.read in
     let here : (d : Main C e.words e.value) × Fits C e.words e.value d = subst (λ (x : Program). (d : Main x e.words e.value) × Fits x e.words e.value d) same (e.by, e.enough) in
-    subst (λ l. (d : Main C l e.value) × Fits C l e.value d) (same_words (C.params C.main) args e.words words given read) here
+    subst (λ l. (d : Main C l e.value) × Fits C l e.value d) (args_once (C.params C.main) args e.words words given read) here
 
 comes_in_time : OneProgram → (source : List ℕ) (args : List (List ℕ)) (limit : ℕ) → Simulates source args limit None → Evaluates source args (InCycles limit) → ⊥
 comes_in_time once source args limit s e =
@@ -125,7 +107,7 @@ never_finishes : verilog.OneNetlist → (text : List ℕ) (args : List (List ℕ
 never_finishes one text args limit r f =
     let n : f.net ≡ r.0 = one text f.net r.0 f.runnable.reads r.1.reads in
     let read : AreArguments (argument_widths r.0.signals) args f.words = subst (λ (x : Netlist). AreArguments (argument_widths x.signals) args f.words) n f.read in
-    let same : f.words ≡ r.2.words = same_words (argument_widths r.0.signals) args f.words r.2.words read r.2.read in
+    let same : f.words ≡ r.2.words = args_once (argument_widths r.0.signals) args f.words r.2.words read r.2.read in
     let done : IsDone r.0 r.2.words limit f.done = subst (λ l. IsDone r.0 l limit f.done) same (subst (λ (x : Netlist). IsDone x f.words limit f.done) n f.outcome) in
     done_not_done r.0 r.2.words limit f.done done r.2.outcome
 

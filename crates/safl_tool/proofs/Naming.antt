@@ -6,7 +6,7 @@ use Rattle.safl_net.specs.Netlist.{Netlist}
 use Rattle.safl_net.specs.Making.{numbers, name_at}
 use Rattle.safl_tool.specs.Running.{AreKnown}
 use Rattle.safl_tool.specs.VerilogLines.{spaced, spaced_name}
-use Rattle.std.proofs.lemmas.List.{append-nil}
+use Rattle.std.proofs.lemmas.List.{append-nil, drop_all}
 
 numbers_get : (xs : List Sig) (i : ℕ) (x : Sig) → slice_get xs i ≡ Some x → slice_get (numbers xs) i ≡ Some x.0
 numbers_get [] i x e = absurd (cc)
@@ -37,14 +37,8 @@ names_more n xs i x out new e inv made =
     ∙ ap (λ l. out ++ names_at n l) (sym (drop_at xs i x e))
     ∙ inv
 
-drop_end : {A : Type 0} (xs : List A) (i : ℕ) → length xs ≤ i → drop i xs ≡ []
-drop_end [] zero h = refl
-drop_end [] (suc i) h = refl
-drop_end (x ∷ xs) zero h = absurd (omega (arith, h))
-drop_end (x ∷ xs) (suc i) h = drop_end xs i (omega (arith, h))
-
 pub names_all : (n : Netlist) (xs : List Sig) (i : ℕ) (out : List (List ℕ)) → length xs ≤ i → out ++ names_at n (drop i xs) ≡ names_at n xs → out ≡ names_at n xs
-names_all n xs i out h inv = sym (append-nil out) ∙ ap (λ l. out ++ names_at n l) (sym (drop_end xs i h)) ∙ inv
+names_all n xs i out h inv = sym (append-nil out) ∙ ap (λ l. out ++ names_at n l) (sym (drop_all i xs h)) ∙ inv
 
 -- ---- names after spaces
 
@@ -63,4 +57,4 @@ spaced_more xs i x old out new e inv made =
     ∙ inv
 
 pub spaced_all : (xs : List (String Global)) (i : ℕ) (out old : List ℕ) → length xs ≤ i → out ++ spaced (map string_bytes (drop i xs)) ≡ old → out ≡ old
-spaced_all xs i out old h inv = sym (append-nil out) ∙ ap (λ l. out ++ spaced (map string_bytes l)) (sym (drop_end xs i h)) ∙ inv
+spaced_all xs i out old h inv = sym (append-nil out) ∙ ap (λ l. out ++ spaced (map string_bytes l)) (sym (drop_all i xs h)) ∙ inv

@@ -5,7 +5,7 @@ use Rattle.std.specs.Prelude.{IsSomeAnd}
 use Rattle.std.specs.Option.{option_or}
 use Rattle.std.proofs.lemmas.Bool.{eqb-true}
 use Rattle.std.proofs.lemmas.Slice.Eq.{bytes_eq-Decides}
-use Rattle.safl_word.specs.Words.{Word}
+use Rattle.safl_word.specs.Words.{Word, as_word}
 use Rattle.safl_io.specs.Shelf.{Files, file_of}
 use Rattle.safl_io.specs.Told.{TellsOn}
 use Rattle.safl_io.specs.Sink.{SinkState, Sends}
@@ -15,7 +15,6 @@ use Rattle.safl_net.specs.Written.{written}
 use Rattle.safl_sim.specs.declared.done.Done.{Done as Reply}
 use Rattle.safl_opt.specs.Lean.{Lean}
 use Rattle.safl_term.specs.Program.{Program}
-use Rattle.safl_circuit.specs.Names.{as_word}
 use Rattle.safl_session.specs.Circuits.{Serves}
 use Rattle.safl_session.specs.Transcripts.{reply_lines, calls_line, late_line, are_all}
 use Rattle.safl_command.specs.Arranged.{GivenOption, IsUnhyphened, Arranged, ends, then_word, then_option}
@@ -256,7 +255,7 @@ module _ {P : Type 0} (words : List (List ℕ)) (old new : World P) (before afte
   pub converts : (input output : List ℕ) → SayAig input output words → TellsOn (Turns IsConverted input output) old.outside.shelf.holds new.outside.shelf.holds
   converts input output say =
       let y : GaveAll (Aig input output) old new =
-          is_command (codes "aig") (input ∷ output ∷ []) [] (Aig input output) say.2 (λ line. aig_lines input output line say.0 say.1) in
+      is_command (codes "aig") (input ∷ output ∷ []) [] (Aig input output) say.2 (λ line. aig_lines input output line say.0 say.1) in
       turned IsConverted GivesBits converted (verilog_file input) output
       old.outside.shelf.holds new.outside.shelf.holds y.1.given.0 y.0 y.1.given.1 y.1.given.2 y.1.files
 
@@ -265,20 +264,20 @@ module _ {P : Type 0} (words : List (List ℕ)) (old new : World P) (before afte
   checks input say =
       let y : GaveAll (Check input) old new = is_command (codes "check") (input ∷ []) [] (Check input) say.1 (λ line. check_lines input line say.0) in
       let are : Only (λ source. IsChecked source y.0.printed) y.1.given.0 =
-          only (λ source. GivesNumbers source y.0) (λ source. IsChecked source y.0.printed) (λ source h. checked source y.0 h) y.1.given.0 y.1.given.2 in
+      only (λ source. GivesNumbers source y.0) (λ source. IsChecked source y.0.printed) (λ source h. checked source y.0 h) y.1.given.0 y.1.given.2 in
       of_one IsChecked old.outside.shelf.holds (source_file input) y.1.given.0 y.0 old.outside.out new.outside.out y.1.given.1 are y.1.printed
 
   pub simulates : (input limit : List ℕ) (traces : Traces) (args : List (List ℕ)) → SaySim input limit traces args words
       → OfFile old.outside.shelf.holds input (λ source. IsPrinted (IsSimulated args source) old.outside.out new.outside.out)
   simulates input limit traces args say =
       let y : GaveAll (Sim input (value 10 limit) traces args) old new =
-          is_command (codes "sim") (input ∷ args) (option (codes "cycles") limit (trace_options traces)) (Sim input (value 10 limit) traces args) say.3
-          (λ line. sim_lines input limit traces args line say.0 say.1 say.2) in
+      is_command (codes "sim") (input ∷ args) (option (codes "cycles") limit (trace_options traces)) (Sim input (value 10 limit) traces args) say.3
+      (λ line. sim_lines input limit traces args line say.0 say.1 say.2) in
       let are : Only (λ source. IsSimulated args source y.0.printed) y.1.given.0 =
-          only (λ source. GivesTraces traces args (value 10 limit) source y.0) (λ source. IsSimulated args source y.0.printed)
-          (λ source h. simulated args (value 10 limit) source y.0 h.answer (traces_of traces h.simulates.net (until_done h.simulates.net h.run))
-          h.simulates h.is y.2)
-          y.1.given.0 y.1.given.2 in
+      only (λ source. GivesTraces traces args (value 10 limit) source y.0) (λ source. IsSimulated args source y.0.printed)
+      (λ source h. simulated args (value 10 limit) source y.0 h.answer (traces_of traces h.simulates.net (until_done h.simulates.net h.run))
+      h.simulates h.is y.2)
+      y.1.given.0 y.1.given.2 in
       of_one (IsSimulated args) old.outside.shelf.holds (source_file input) y.1.given.0 y.0 old.outside.out new.outside.out y.1.given.1 are y.1.printed
 
   pub converses : (input script limit : List ℕ) → SaySession input script limit words
@@ -286,9 +285,9 @@ module _ {P : Type 0} (words : List (List ℕ)) (old new : World P) (before afte
       (λ lines. IsPrinted (IsSession source lines) old.outside.out new.outside.out))
   converses input script limit say =
       let y : GaveAll (Session input script (value 10 limit)) old new =
-          is_command (codes "session") (input ∷ script ∷ []) (option (codes "cycles") limit []) (Session input script (value 10 limit)) say.3
-          (λ line. session_lines input script limit line say.0 say.1 say.2) in
+      is_command (codes "session") (input ∷ script ∷ []) (option (codes "cycles") limit []) (Session input script (value 10 limit)) say.3
+      (λ line. session_lines input script limit line say.0 say.1 say.2) in
       let are : Both (λ source lines. IsSession source lines y.0.printed) y.1.given.0 =
-          both (λ source lines. GivesReplies (value 10 limit) source lines y.0) (λ source lines. IsSession source lines y.0.printed)
-          (λ source lines h. answered (value 10 limit) source lines y.0 h y.2) y.1.given.0 y.1.given.2 in
+      both (λ source lines. GivesReplies (value 10 limit) source lines y.0) (λ source lines. IsSession source lines y.0.printed)
+      (λ source lines h. answered (value 10 limit) source lines y.0 h y.2) y.1.given.0 y.1.given.2 in
       of_two IsSession old.outside.shelf.holds (source_file input) (script_file script) y.1.given.0 y.0 old.outside.out new.outside.out y.1.given.1 are y.1.printed

@@ -1,6 +1,8 @@
 -- What a run of a Verilog file says.
 use Rattle.std.proofs.Common.{◌≡◌, ℕ, zero, suc, ◌+◌, ◌<◌, ◌≤◌, List, [], ◌∷◌, ◌++◌, map, length, Option, Some, None, false, slice_get, refl, sym, ap, subst, arith, inl, inr}
+use Rattle.std.proofs.lemmas.Option.{slice_get_within}
 use Rattle.safl_word.specs.Words.{Word}
+use Rattle.safl_word.proofs.Lists.{get_front}
 use Rattle.safl_net.specs.Netlist.{Netlist, Signal}
 use Rattle.safl_net.specs.Making.{kind_in, cell_in, name_at}
 use Rattle.safl_net.specs.Valuations.{Valuation}
@@ -28,18 +30,13 @@ use Rattle.safl_tool.proofs.Refusing.{refuses_more}
 pub text_quiet : (name : List ℕ) (args : List (List ℕ)) (text : List ℕ) (s : Status) (line : List ℕ) → RefusesText name args text s line → may_give s ≡ false
 text_quiet name args text s line r = elim r [ inl f ↦ ap may_give f.0 | inr m ↦ ap may_give m.0 ]
 
-get_below : {A : Type 0} (xs : List A) (i : ℕ) (x : A) → slice_get xs i ≡ Some x → i < length xs
-get_below [] i x e = absurd (cc)
-get_below (y ∷ ys) zero x e = omega arith
-get_below (y ∷ ys) (suc i) x e = let h = get_below ys i x e in omega (arith, h)
-
 -- the wires of a loop are signals
 reads_known : (n : Netlist) (a b : ℕ) → Order.Reads n a b → a < length n.signals
 reads_known n a b r = by (slice_get n.signals a) refl r.1
   where
     by : (o : Option Signal) → slice_get n.signals a ≡ o → slice_get (operands_in (cell_in (kind_in o))) r.0 ≡ Some b → a < length n.signals
     by None q h = absurd (cc)
-    by (Some g) q h = get_below n.signals a g q
+    by (Some g) q h = slice_get_within n.signals a g q
 
 leads_known : (n : Netlist) (ws : List ℕ) (t : ℕ) → Leads n ws t → (i s : ℕ) → slice_get ws i ≡ Some s → s < length n.signals
 leads_known n [] t l i s e = absurd (cc)
@@ -67,12 +64,6 @@ pub arguments_refuse : (name text : List ℕ) (args : List (List ℕ)) (n : Netl
     (RefusesArguments (argument_widths n.signals) args) r → RefusesBy (RefusesText name args text) r
 arguments_refuse name text args n r runs =
     refuses_more (RefusesArguments (argument_widths n.signals) args) (RefusesText name args text) (λ s line h. inr (h.0, (n, runs, h.1))) r
-
--- a front of a run is a run
-get_front : (front rest : List Valuation) (c : ℕ) (v : Valuation) → slice_get front c ≡ Some v → slice_get (front ++ rest) c ≡ Some v
-get_front [] rest c v e = absurd (cc)
-get_front (w ∷ ws) rest zero v e = e
-get_front (w ∷ ws) rest (suc c) v e = get_front ws rest c v e
 
 goes_front : (n : Netlist) (state : ℕ → ℕ) (front rest : List Valuation) → GoesOn n state (front ++ rest) → GoesOn n state front
 goes_front n state [] rest g = tt

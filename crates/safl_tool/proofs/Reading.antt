@@ -1,8 +1,9 @@
 -- Arguments that are read one after the other.
 use Rattle.std.proofs.Common.{◌≡◌, ℕ, zero, suc, ◌+◌, ◌<◌, List, [], ◌∷◌, ◌++◌, length, map, get_or, String, string_bytes, Global, Some, slice_get}
-use Rattle.std.proofs.Common.{slice_index, refl, sym, ap, subst, ◌∙◌, arith, inl, inr}
+use Rattle.std.proofs.Common.{refl, sym, ap, subst, ◌∙◌, arith, inl, inr}
+use Rattle.std.proofs.lemmas.List.{length_push}
 use Rattle.safl_word.specs.Words.{Word}
-use Rattle.safl_net.proofs.Naming.{pushed}
+use Rattle.safl_word.proofs.Lists.{get_pushed, get_some}
 use Rattle.safl_session.specs.Lines.{IsArgument, AreArguments}
 use Rattle.safl_tool.specs.Arguments.{IsUnread}
 use Rattle.safl_tool.specs.Lines.{argument_line}
@@ -15,15 +16,11 @@ pub record ReadSoFar (widths : List ℕ) (args : List (List ℕ)) (words : List 
 pub read_none : (widths : List ℕ) (args : List (List ℕ)) → ReadSoFar widths args [] 0
 read_none widths args = record { long = refl; each = λ k w t v d e f. absurd (cc) }
 
-long_more : (vs : List Word) (v : Word) → length (vs ++ v ∷ []) ≡ length vs + 1
-long_more [] v = omega arith
-long_more (u ∷ vs) v = let e = long_more vs v in omega (arith, e)
-
 pub read_more : (widths : List ℕ) (args : List (List ℕ)) (words : List Word) (i w : ℕ) (t : List ℕ) (v : Word) → ReadSoFar widths args words i →
     slice_get widths i ≡ Some w → slice_get args i ≡ Some t → IsArgument w t v → ReadSoFar widths args (words ++ v ∷ []) (i + 1)
 read_more widths args words i w t v r d e is = record {
-  long = long_more words v ∙ ap (λ k. k + 1) r.long;
-  each = λ k x s u f g h. elim (pushed words v u k h) [
+  long = length_push words v ∙ ap (λ k. k + 1) r.long;
+  each = λ k x s u f g h. elim (get_pushed words v u k h) [
     | inl q ↦ r.each k x s u f g q
     | inr q ↦
         let here : k ≡ i = q.0 ∙ r.long in
@@ -50,11 +47,6 @@ are_read (w ∷ ws) (t ∷ ts) (v ∷ vs) l m r = (r.each 0 w t v refl refl refl
 pub all_read : (widths : List ℕ) (args : List (List ℕ)) (words : List Word) (i : ℕ) → length args ≡ length widths → i ≡ length args → ReadSoFar widths args words i → AreArguments widths args words
 all_read widths args words i l e r = are_read widths args words l (r.long ∙ e) (subst (λ k. ReadSoFar widths args words k) (sym r.long) r)
 
-get_some : (vs : List Word) (s : ℕ) → s < length vs → (v : Word) × (slice_get vs s ≡ Some v)
-get_some [] s h = absurd (omega arith)
-get_some (v ∷ vs) zero h = (v, refl)
-get_some (v ∷ vs) (suc s) h = get_some vs s (omega (arith, h))
-
 pub unread : (widths : List ℕ) (args : List (List ℕ)) (words : List Word) (i w : ℕ) (t : List ℕ) → length args ≡ length widths → ReadSoFar widths args
     words i → slice_get widths i ≡ Some w → slice_get args i ≡ Some t → ((v : Word) → IsArgument w t v → ⊥)
     → IsUnread widths args (argument_line (i + 1) w)
@@ -69,12 +61,6 @@ unread widths args words i w t l r d e bad = record {
   before = λ k x s h f g. let v = get_some words k (let m = r.long in omega (arith, h, m)) in (v.0, r.each k x s v.0 f g v.1);
   is = refl;
 }
-
--- what an index shows
-pub shown_at : (xs : List ℕ) (i : ℕ) → i < length xs → (x : ℕ) → x ≡ slice_index xs i → slice_get xs i ≡ Some x
-shown_at [] i h x e = absurd (omega (arith, h))
-shown_at (y ∷ xs) zero h x e = ap Some (sym e)
-shown_at (y ∷ xs) (suc i) h x e = shown_at xs i (omega (arith, h)) x e
 
 pub text_at : (xs : List (String Global)) (i : ℕ) (x : String Global) (t : List ℕ) → i < length xs → x ≡ get_or xs i x → t ≡ string_bytes x → slice_get (map string_bytes xs) i ≡ Some t
 text_at [] i x t h e f = absurd (omega (arith, h))

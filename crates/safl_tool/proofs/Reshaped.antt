@@ -1,12 +1,12 @@
 -- A source that is reshaped.
-use Rattle.std.proofs.Common.{◌≡◌, ℕ, ◌<◌, ◌≤◌, List, length, Bool, true, false, refl, sym, ap, subst, ◌∙◌, arith, inl, inr}
+use Rattle.std.proofs.Common.{◌≡◌, ℕ, ◌<◌, ◌≤◌, List, length, false, refl, sym, ap, subst, ◌∙◌, arith, inl, inr}
 use Rattle.safl_tree.specs.Tree.{Definition}
 use Rattle.safl_tree.specs.Source.{SpellsProgram}
 use Rattle.safl_tree.specs.Printed.{printed}
 use Rattle.safl_tree.specs.Printable.{IsPrintable, AllKeepLevels}
 use Rattle.safl_tree.specs.Laws.{OneProgram as OneTree}
 use Rattle.safl_term.specs.Program.{Program}
-use Rattle.safl_typing.specs.Forms.{Form, IsFormOf}
+use Rattle.safl_typing.specs.Forms.{Form, IsFormOf, HasForm}
 use Rattle.safl_check.specs.Numbered.{program_in, names_in}
 use Rattle.safl_reshape.specs.declared.error.ReshapeErr.{ReshapeErr}
 use Rattle.safl_reshape.specs.declared.error.ReshapeErr.TheVariants as errors
@@ -14,9 +14,10 @@ use Rattle.safl_reshape.specs.Laws.{PrintedKeepsForm}
 use Rattle.safl_reshape.specs.Limits.{KeepsLimits}
 use Rattle.safl_reshape.specs.Reshaped.{copied, unfolded, is_recursive}
 use Rattle.safl_reshape.specs.Refusals.{CopyRefused, UnfoldingRefused, RefusesCopy, RefusesUnfolding, MayCopy, MayUnfold, PassesLimit, is_grouped, is_taken, name_for}
-use Rattle.safl_compiler.specs.Sources.{HasForm, HasFewSites}
+use Rattle.safl_compiler.specs.Sources.{HasFewSites}
 use Rattle.safl_tool.specs.CommandTasks.{RefusesSourceOf, RefusesReshaping}
 use Rattle.safl_word.specs.Limits.{source_max}
+use Rattle.safl_word.proofs.Lexemes.{clash}
 use Rattle.safl_tool.specs.Refusals.{RefusesBy}
 use Rattle.safl_tool.specs.Reshaping.{Reshaping, GivesReshaped, HasReason, TellsReason, TellsLong, IsUnshaped, IsReshapable, refused, long, copies, unfolds}
 use Rattle.safl_task.specs.Endings.{may_give}
@@ -84,16 +85,13 @@ passes_not ds i p k =
       | inr q ↦ elim q [ inl y ↦ (let h = y.2 in omega (arith, b, h)) | inr z ↦ (let h = z.3 in omega (arith, d, h)) ]
     ]
 
-true_not : (b : Bool) → b ≡ true → b ≡ false → ⊥
-true_not b h k = cc
-
 copy_apart : (C : Program) (ds es : List Definition) (site : ℕ) (e : ReshapeErr) (text : List ℕ) → RefusesCopy C ds site e → HasReason e text →
     MayCopy C ds site → KeepsLimits es → AllKeepLevels es → es ≡ copied ds site (C.callee site) → ⊥
 copy_apart C ds es site errors.NoSite text q h m k l is = q m.site
-copy_apart C ds es site errors.Grouped text q h m k l is = true_not (is_grouped ds (C.callee site)) q.1 m.alone
+copy_apart C ds es site errors.Grouped text q h m k l is = clash (is_grouped ds (C.callee site)) q.1 m.alone
 copy_apart C ds es site errors.Recursive text q h m k l is = q
 copy_apart C ds es site errors.NameLong text q h m k l is = let a = q.2 in let b = m.short in omega (arith, a, b)
-copy_apart C ds es site errors.NameTaken text q h m k l is = true_not (is_taken ds (name_for ds site (C.callee site))) q.3 m.free
+copy_apart C ds es site errors.NameTaken text q h m k l is = clash (is_taken ds (name_for ds site (C.callee site))) q.3 m.free
 copy_apart C ds es site (errors.Limit i) text q h m k l is = passes_not (copied ds site (C.callee site)) i q.1 (subst KeepsLimits is k)
 copy_apart C ds es site errors.TooDeep text q h m k l is = q.2 (subst AllKeepLevels is l)
 copy_apart C ds es site errors.NoMemory text q h m k l is = h
@@ -108,7 +106,7 @@ unfold_apart : (C : Program) (ds es : List Definition) (site : ℕ) (e : Reshape
     MayUnfold C ds site → KeepsLimits es → AllKeepLevels es → es ≡ unfolded ds site → ⊥
 unfold_apart C ds es site errors.NoSite text q h m k l is = q m.site
 unfold_apart C ds es site errors.Grouped text q h m k l is = q
-unfold_apart C ds es site errors.Recursive text q h m k l is = true_not (is_recursive ds (C.callee site)) q.1 m.alone
+unfold_apart C ds es site errors.Recursive text q h m k l is = clash (is_recursive ds (C.callee site)) q.1 m.alone
 unfold_apart C ds es site errors.NameLong text q h m k l is = q
 unfold_apart C ds es site errors.NameTaken text q h m k l is = q
 unfold_apart C ds es site (errors.Limit i) text q h m k l is = passes_not (unfolded ds site) i q.1 (subst KeepsLimits is k)

@@ -1,18 +1,18 @@
 -- What a run of a compiled source says.
 use Rattle.std.proofs.Common.{◌≡◌, ℕ, List, [], ◌∷◌, map, Option, Some, None, false, refl, sym, ap, subst, ◌∙◌, inl, inr, codes}
 use Rattle.safl_term.specs.Names.{Names}
-use Rattle.safl_word.specs.Words.{Word}
+use Rattle.safl_word.specs.Words.{Word, as_word}
 use Rattle.safl_net.specs.Netlist.{Netlist, output_place}
-use Rattle.safl_net.specs.Valuations.{Valuation, number_at, read_output}
+use Rattle.safl_net.specs.Valuations.{read_output}
 use Rattle.safl_sim.specs.declared.done.Done.{Done}
 use Rattle.safl_net.specs.Arguments.{argument_widths, AreArguments}
-use Rattle.safl_sim.specs.Outcomes.{IsDone, IsOutcome, word_at}
+use Rattle.safl_sim.specs.Outcomes.{IsDone, IsOutcome}
 use Rattle.safl_term.specs.Program.{Program}
 use Rattle.safl_term.specs.WellFormed.{AreWordsOf}
 use Rattle.safl_term.specs.Checked.{CheckedProgram}
-use Rattle.safl_circuit.specs.Names.{as_word}
 use Rattle.safl_circuit.specs.Correct.{IsResult}
 use Rattle.safl_sites.specs.Plan.{Choice}
+use Rattle.safl_sim.proofs.WordsOfNumbers.{word_bits}
 use Rattle.safl_circuit.specs.Theorem.{IsCircuit}
 use Rattle.safl_compiler.specs.Sources.{IsSourceOf}
 use Rattle.safl_compiler.specs.Circuits.{IsCircuitOf}
@@ -53,10 +53,6 @@ read_words [] (t ∷ ts) vs r = absurd r
 read_words (w ∷ ws) [] vs r = absurd r
 read_words (w ∷ ws) (t ∷ ts) [] r = absurd r
 read_words (w ∷ ws) (t ∷ ts) (v ∷ vs) r = (r.0.word, ap (λ (x : Word). x.width) r.0.is, read_words ws ts vs r.1)
-
-word_bits : (n : Netlist) (v : Valuation) (o : Option ℕ) → (word_at n v o).bits ≡ number_at v o
-word_bits n v None = refl
-word_bits n v (Some s) = refl
 
 -- the first done is main's value
 pub is_value : (C : Program) (D : Names) (P : Choice) (n : Netlist) → IsCircuit C D P n → (words : List Word) → AreWordsOf words (C.params C.main) → (limit : ℕ) (d : Done)

@@ -5,7 +5,7 @@ use Rattle.safl_word.specs.Words.{Word, AreWords}
 use Rattle.safl_io.specs.Shelf.{Files, ShelfState, SameFaults, file_of}
 use Rattle.safl_io.specs.Sink.{Sends, SendsPart}
 use Rattle.safl_io.specs.Told.{TellsOn}
-use Rattle.safl_io.proofs.Telling.{TellsOn-then}
+use Rattle.safl_io.proofs.Telling.{TellsOn-then, nothing_part}
 use Rattle.safl_net.specs.Netlist.{Netlist}
 use Rattle.safl_net.specs.Rules.{IsNetlist}
 use Rattle.safl_net.specs.Valuations.{Valuation, IsAcyclic}
@@ -37,7 +37,6 @@ use Rattle.safl_tool.specs.declared.refusal.Refusal.{Refusal}
 use Rattle.safl_tool.specs.declared.refusal.Refusal.TheVariants as refusal
 use Rattle.safl_tool.specs.declared.tracing.TracedRun.{TracedRun}
 use Rattle.safl_tool.proofs.Asked.{asked_apart, asked_output, files_whole, files_parts}
-use Rattle.safl_tool.proofs.Handing.{nothing_part}
 use Rattle.safl_tool.proofs.Simulated.{has_value, read_words, read_widths}
 
 -- ---- files

@@ -1,5 +1,5 @@
 -- What a walk of a new machine says of its program.
-use Rattle.std.proofs.Common.{◌≡◌, ℕ, zero, suc, ◌+◌, ◌-◌, ◌*◌, ◌<◌, List, [], ◌∷◌, ◌++◌, take, Option, Some, None, slice_get, sym, ap, subst, ◌∙◌, arith, inl, inr}
+use Rattle.std.proofs.Common.{◌≡◌, ℕ, ◌+◌, ◌-◌, ◌*◌, ◌<◌, List, [], Option, Some, None, sym, ap, subst, ◌∙◌, arith, inl, inr}
 use Rattle.std.specs.Prelude.{IfSome, IfNone, IsSome}
 use Rattle.std.proofs.lemmas.Bool.{false≢true}
 use Rattle.safl_word.specs.Words.{Word}
@@ -18,14 +18,6 @@ use Rattle.safl_tool.specs.Walking.{MainGives, WalksFrom}
 -- main is the last function
 pub last_function : (c : CheckedProgram) (k : ℕ) → k ≡ c.program.functions → k - 1 ≡ c.program.main
 last_function c k e = ap (λ (x : ℕ). x - 1) e ∙ sym (main_is_last c)
-
--- one more element
-pub take_next : (xs : List ℕ) (i x : ℕ) → slice_get xs i ≡ Some x → take (i + 1) xs ≡ take i xs ++ x ∷ []
-take_next [] i x e = absurd (cc)
-take_next (y ∷ xs) zero x e = let s : y ≡ x = cc in ap (λ (z : ℕ). z ∷ []) s
-take_next (y ∷ xs) (suc i) x e =
-    let k : suc i + 1 ≡ suc (i + 1) = omega arith in
-    ap (λ (n : ℕ). take n (y ∷ xs)) k ∙ ap (λ (l : List ℕ). y ∷ l) (take_next xs i x e)
 
 -- what three events for each call, but two less for each tail call, are said of
 abbrev Valued : Word → CheckedProgram → List Word → ℕ → Type 0

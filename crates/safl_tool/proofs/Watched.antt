@@ -33,10 +33,6 @@ use Rattle.safl_tool.specs.declared.refusal.Refusal.TheVariants as refusal
 use Rattle.safl_tool.proofs.Answered.{given_on, one_is}
 use Rattle.safl_tool.proofs.Simulated.{has_value, read_words}
 
-pub when_ok : {T E : Type 0} (r : Result T E) (P : Type 0) → P → OnOk r P
-when_ok (Ok x) P p = p
-when_ok (Err e) P p = tt
-
 -- ---- an answer
 
 -- a run of what is ready is one of the circuit of the source

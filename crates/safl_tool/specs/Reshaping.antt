@@ -9,8 +9,9 @@ use Rattle.safl_reshape.specs.declared.error.ReshapeErr.{ReshapeErr}
 use Rattle.safl_reshape.specs.declared.error.ReshapeErr.TheVariants as errors
 use Rattle.safl_reshape.specs.Laws.{IsAlike, Spares}
 use Rattle.safl_reshape.specs.Refusals.{CopyRefused, IsCopied, UnfoldingRefused, IsUnfolded}
-use Rattle.safl_compiler.specs.Sources.{HasForm, IsSourceOf}
+use Rattle.safl_compiler.specs.Sources.{IsSourceOf}
 use Rattle.safl_word.specs.Limits.{source_max}
+use Rattle.safl_typing.specs.Forms.{HasForm}
 use Rattle.safl_tool.specs.Lines.{site_line}
 use Rattle.safl_task.specs.Tasks.{Given, only_writes}
 use Rattle.safl_task.specs.declared.status.Status.{Status}

@@ -1,13 +1,12 @@
 -- What a run of a source's circuit gives.
 use Rattle.std.specs.Prelude.{ℕ, ◌+◌, ◌*◌, ◌<◌, ◌≤◌, List, Option, Some, None}
 use Rattle.safl_term.specs.Names.{Names}
-use Rattle.safl_word.specs.Words.{Word}
+use Rattle.safl_word.specs.Words.{Word, as_word}
 use Rattle.safl_net.specs.Netlist.{Netlist}
 use Rattle.safl_sim.specs.declared.done.Done.{Done}
 use Rattle.safl_sim.specs.Outcomes.{IsOutcome}
 use Rattle.safl_term.specs.Program.{Program}
 use Rattle.safl_term.specs.Meaning.{Main, main_cost, loops}
-use Rattle.safl_circuit.specs.Names.{as_word}
 use Rattle.safl_circuit.specs.Correct.{IsExactResult, latest}
 use Rattle.safl_compiler.specs.Sources.{IsSourceOf}
 use Rattle.safl_compiler.specs.Circuits.{IsCircuitOf}

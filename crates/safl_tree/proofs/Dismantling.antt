@@ -1,13 +1,13 @@
 -- How much is left to do while an expression is taken apart.
-use Rattle.std.proofs.Common.{◌≡◌, ℕ, suc, ◌+◌, ◌*◌, ◌<◌, ◌≤◌, refl, arith, List, [], ◌∷◌, ◌++◌, Option, Some, None, Vec, Box, Global, ap, subst, ◌∙◌}
-use Rattle.std.proofs.Math.Nat.{mul-le-mul_left}
+use Rattle.std.proofs.Common.{◌≡◌, ℕ, suc, ◌+◌, ◌*◌, ◌<◌, ◌≤◌, refl, arith, List, [], ◌∷◌, Option, Some, None, Vec, Box, Global, ap, subst, ◌∙◌}
 use Rattle.std.specs.List.{sum_by}
-use Rattle.std.proofs.lemmas.List.Sums.{sum_by-append, sum_by-cons}
+use Rattle.std.proofs.lemmas.List.Sums.{sum_by-cons}
 use Rattle.std.specs.Prelude.{IfSome}
 use Rattle.safl_word.specs.declared.primitive.Primitive.{Primitive}
+use Rattle.safl_word.specs.Naturals.{work}
 use Rattle.safl_tree.specs.Tree.{Tree, Op, Call, trees_of, binds_of, arms_of}
 use Rattle.safl_tree.specs.Shown.{shown_tree, shown_node, shown_trees, shown_bounds, shown_labelled}
-use Rattle.safl_tree.specs.Sizes.{work_at, size, size_of_trees, size_of_binds, size_of_arms, bind_size, arm_size, work}
+use Rattle.safl_tree.specs.Sizes.{work_at, size, size_of_trees, size_of_binds, size_of_arms, bind_size, arm_size}
 use Rattle.safl_tree.specs.declared.dismantle.At.{At}
 use Rattle.safl_tree.specs.declared.tree.Expr.{Expr}
 use Rattle.safl_tree.specs.declared.tree.Bind.{Bind}
@@ -70,9 +70,6 @@ module _ (n : Node) (p : ℕ) where
   pub call_size : (f : List ℕ) (v : Vec Expr Global) → n ≡ nodes.Call f v → size (shown_node n p) ≡ 2 + sum_by (λ e. size (shown_tree e)) v.items
   call_size f v is = omega (arith, ap (λ (m : Node). size (shown_node m p)) is, ap size (call_shows f v p), trees_size v.items)
 
-pub sum_last : {A : Type 0} (f : A → ℕ) (xs ys : List A) (x : A) → xs ≡ ys ++ x ∷ [] → sum_by f xs ≡ sum_by f ys + f x
-sum_last f xs ys x e = omega (arith, ap (sum_by f) e, sum_by-append f ys (x ∷ []))
-
 -- what is no number and no variable counts for two at least
 pub leaf_or_two : (e : Expr) (n : Node) (x : Expr) → n ≡ e.node → x ≡ record { place = 0; node = n } → ((m : ℕ) → n ≡ Num m → ⊥) → ((w m : ℕ) → n ≡ Sized w m → ⊥) → ((f : List ℕ) → n ≡ Var f → ⊥)
     → (size (shown_tree x) ≡ size (shown_tree e)) × (2 ≤ size (shown_tree x))
@@ -81,19 +78,6 @@ leaf_or_two e n x is q num sized var =
     (same, omega (arith, ap (λ (y : Expr). size (shown_tree y)) q, two n num sized var))
 
 -- ---- less work
-
-pub work_down : (c u d v : ℕ) → d + v ≤ c + u → d < c → work d v < work c u
-work_down c u d v le lt =
-    omega (arith, lt, mul-le-mul_left (d + v) le, mul-le-mul_left (c + u) le)
-
-pub work_up : (c u d v : ℕ) → 1 ≤ c → d + v ≤ u → work d v < work c u
-work_up c u d v some le =
-    let more : d + v + 1 ≤ c + u = omega arith in
-    omega (arith, mul-le-mul_left (d + v) more, mul-le-mul_left (c + u) more)
-
--- the same of another number that is equal
-pub less_of : {m n : ℕ} (u w : ℕ) → m ≡ n → w < work m u → w < work n u
-less_of u w e h = let P : ℕ → Type 0 = λ k. w < work k u in subst P e h
 
 pub less_in : (o : Option At) (u : ℕ) {m n : ℕ} → m ≡ n → IfSome o (λ next. work_at next < work m u) → IfSome o (λ next. work_at next < work n u)
 less_in o u e h = let P : ℕ → Type 0 = λ k. IfSome o (λ next. work_at next < work k u) in subst P e h

@@ -1,6 +1,8 @@
 -- What is read has the form of a printable program and keeps the levels: the facts of each symbol.
-use Rattle.std.proofs.Common.{◌≡◌, ℕ, suc, ◌<◌, ◌≤◌, leb, Bool, true, false, cond, List, [], ◌∷◌, Some, None, refl, sym, ap, subst, arith}
+use Rattle.std.proofs.Common.{◌≡◌, ℕ, suc, ◌<◌, ◌≤◌, leb, Bool, true, false, cond, List, [], ◌∷◌, Some, refl, sym, ap, subst, arith, zero}
 use Rattle.std.proofs.lemmas.Bool.{leb-true, ltb-true, le-leb}
+use Rattle.std.proofs.lemmas.Option.{cond_some}
+use Rattle.std.specs.Prelude.{slice_get}
 use Rattle.safl_grammar.specs.Sets.{Only, within}
 use Rattle.safl_grammar.specs.Syntax.{Range}
 use Rattle.safl_grammar.specs.Reading.{read_token, read_limited}
@@ -17,17 +19,19 @@ use Rattle.safl_word.specs.Tokens.{IsName, IsToken}
 use Rattle.safl_tree.specs.Terminals.{Terminal, code_of, word_code, symbol_code, marked, NameAt, name, NumberAt, number, number_in, SizedAt, sized, value_in, operators, primitive_in}
 use Rattle.safl_tree.specs.Grammar.{is_width, fits_width, fits_sized, fits_index}
 use Rattle.safl_tree.specs.Reader.{read_word, read_symbol, read_width, read_index}
-use Rattle.safl_tree.specs.Printable.{InRange, operands, is_binary, right_context, left_context, below_of, operator_layers, lifted}
+use Rattle.safl_tree.specs.Printable.{InRange, operands, is_binary, right_context, left_context, below_of, operator_layers, lifted, AreFormedDefinitions, IsFormedDefinition}
+use Rattle.safl_tree.specs.Tree.{Definition}
+
+pub formed_at : (ds : List Definition) (i : ℕ) (d : Definition) → AreFormedDefinitions ds → slice_get ds i ≡ Some d → IsFormedDefinition d
+formed_at [] i d h e = absurd cc
+formed_at (x ∷ ds) zero d h e = let q : x ≡ d = cc in subst IsFormedDefinition q h.0
+formed_at (x ∷ ds) (suc i) d h e = formed_at ds i d h.1 e
 
 -- a token's bytes are a text of its kind
 abbrev pub IsTerminal : Terminal → Type 0
 IsTerminal t = IsToken t.kind t.bytes
 
 -- ---- tokens of a class
-
-pub classed_is : {A : Type 0} (b : Bool) (v x : A) → cond b (Some v) None ≡ Some x → (b ≡ true) × (v ≡ x)
-classed_is true v x e = (refl, cc)
-classed_is false v x e = absurd cc
 
 name_at : (k : TokenKind) (w : List ℕ) → within (Only (1 ∷ [])) (code_of k) ≡ true → IsToken k w → IsName w
 name_at kinds.Name w e h = h
@@ -66,13 +70,13 @@ abbrev pub NamedWell : NameAt → Type 0
 NamedWell x = IsName x.name
 
 pub a_name : Yields IsTerminal (read_token name) NamedWell
-a_name = yields_token NamedWell name (λ t x q e. let h = classed_is (within (Only (1 ∷ [])) (code_of t.kind)) _ x e in subst NamedWell h.1 (name_at t.kind t.bytes h.0 q))
+a_name = yields_token NamedWell name (λ t x q e. let h = cond_some (within (Only (1 ∷ [])) (code_of t.kind)) _ x e in subst NamedWell h.1 (name_at t.kind t.bytes h.0 q))
 
 abbrev pub Small : NumberAt → Type 0
 Small n = n.value < value_bound
 
 pub a_number : Yields IsTerminal (read_token number) Small
-a_number = yields_token Small number (λ t x q e. let h = classed_is (within (Only (2 ∷ [])) (code_of t.kind)) _ x e in subst Small h.1 (number_small t.kind t.bytes h.0 q))
+a_number = yields_token Small number (λ t x q e. let h = cond_some (within (Only (2 ∷ [])) (code_of t.kind)) _ x e in subst Small h.1 (number_small t.kind t.bytes h.0 q))
 
 abbrev pub Wide : NumberAt → Type 0
 Wide n = is_width n.value ≡ true
@@ -90,7 +94,7 @@ abbrev pub WideSmall : SizedAt → Type 0
 WideSmall s = (is_width s.width ≡ true) × (s.value < value_bound)
 
 pub a_sized : Yields IsTerminal (read_limited Range fits_sized sized) WideSmall
-a_sized = yields_limited WideSmall Range fits_sized sized (λ t x q e f. let h = classed_is (within (Only (3 ∷ [])) (code_of t.kind)) _ x e in
+a_sized = yields_limited WideSmall Range fits_sized sized (λ t x q e f. let h = cond_some (within (Only (3 ∷ [])) (code_of t.kind)) _ x e in
     (f, subst (λ (s : SizedAt). s.value < value_bound) h.1 (sized_small t.kind t.bytes h.0 q)))
 
 -- ---- the layer of an operator

@@ -1,6 +1,7 @@
 -- What is read has the form of a printable program and keeps the levels: expressions.
 use Rattle.std.proofs.Common.{◌≡◌, ℕ, zero, suc, ◌+◌, ◌<◌, ◌≤◌, max, Bool, true, false, cond, List, [], ◌∷◌, ◌++◌, length, Option, Some, None, refl, sym, ap, subst, ◌∙◌, arith}
 use Rattle.std.proofs.lemmas.Bool.{ltb-true}
+use Rattle.std.proofs.lemmas.Option.{cond_some}
 use Rattle.safl_grammar.specs.Sets.{Only, within}
 use Rattle.safl_grammar.specs.Syntax.{Deep}
 use Rattle.safl_grammar.specs.Reading.{Reading}
@@ -22,9 +23,10 @@ use Rattle.safl_tree.specs.Reader.{operand_at, expr_at, arm_value_at, more_arms_
 use Rattle.safl_tree.specs.Printable.{InRange, HasBinding, IsLabel, FitsWritten, IsFormed, AreFormed, AreFormedBinds, AreFormedArms, right_context}
 use Rattle.safl_tree.specs.Printable.{left_context, below_of, operator_layers, layers_of, lifted, levels, most, most_operand, most_bind, most_arm, OfBinary, IsShallow}
 use Rattle.safl_tree.specs.Printable.{AreShallow, AreShallowBinds, AreShallowArms}
-use Rattle.safl_tree.proofs.Formed.{IsTerminal, classed_is, any_word, any_symbol, NamedWell, a_name, Small, a_number, Wide, a_width, Indexes}
+use Rattle.safl_tree.proofs.Formed.{IsTerminal, any_word, any_symbol, NamedWell, a_name, Small, a_number, Wide, a_width, Indexes}
 use Rattle.safl_tree.proofs.Formed.{an_index, WideSmall, a_sized, Layer, layer_0, layer_1, layer_2, layer_3, layer_4, layer_5, layer_6, lift_low}
 use Rattle.safl_tree.proofs.Formed.{lift_high, lift_in, lift_up}
+use Rattle.safl_tree.proofs.Operators.{own_small}
 
 -- it stands at a place of k layers in at most m levels
 pub record At (k m : ℕ) (t : Tree) : Type 0 where
@@ -57,15 +59,6 @@ placed_at q m (Let p bs t) w = risen m (Let q bs t) (record { formed = w.formed;
 placed_at q m (Cases p e arms) w = risen m (Cases q e arms) (record { formed = w.formed; shallow = w.shallow; kept = w.kept })
 placed_at q m (Op p o ts) w = risen m (Op q o ts) (record { formed = w.formed; shallow = w.shallow; kept = w.kept })
 placed_at q m (Call p f ts) w = risen m (Call q f ts) (record { formed = w.formed; shallow = w.shallow; kept = w.kept })
-
-own_of_small : (o : Primitive) → operator_layers o ≤ 8
-own_of_small prims.Mul = omega arith
-own_of_small _ = omega arith
-
-own_small : (t : Tree) → layers_of t ≤ 8
-own_small (Number p n) = omega arith
-own_small (Op p o ts) = own_of_small o
-own_small _ = omega arith
 
 -- a whole expression stands at any place of 8 layers
 at_whole : (m : ℕ) (t : Tree) → Whole m t → At 8 m t
@@ -218,7 +211,7 @@ module _ (k j m : ℕ) (table : LayerTable k j) (ps : Reading Terminal Tree) (su
   joined_yields : (a : Tree) → At j m a → Yields IsTerminal (read_joined k ps a) (At (suc k) m)
   unfolding read_joined
   joined_yields a v = yields_follows (At (suc k) m) (yields_limited (Operates k j a) Deep (shallow a) (operator k)
-      (λ t x q e f. let h = classed_is (within (Only (operators k)) (code_of t.kind)) _ x e in
+      (λ t x q e f. let h = cond_some (within (Only (operators k)) (code_of t.kind)) _ x e in
       (subst (Layer k j) h.1 (table t.kind h.0), ltb-true (depth a) 100 f)))
       (λ o h. yields_follows (At (suc k) m) sub (λ b w. yields_nothing (At (suc k) m) (Op (place_of a) o (trees_of (a ∷ b ∷ [])))
       (joined_at k j m (place_of a) o a b h.0 h.1 v w)))

@@ -45,7 +45,7 @@ pub record Claim (t : Tree) : Type 0 where
   pub plain : layers_of t ≤ 7 → Plain (words t)
   pub back : (m : ℕ) → levels t ≤ suc m → Back m t
 
-own_of_small : (o : Primitive) → operator_layers o ≤ 8
+pub own_of_small : (o : Primitive) → operator_layers o ≤ 8
 own_of_small prims.Mul = omega arith
 own_of_small _ = omega arith
 

@@ -98,10 +98,10 @@ and_key = word_code keys.And ∷ []
 abbrev fun_key : List ℕ
 fun_key = word_code keys.Fun ∷ []
 
-one_eats : (ds : List Definition) (w r : List Terminal) (x : List Definition) → read_another_one (expr_at 100) ds w ≡ Ok (x, r) → length r < length w
+pub one_eats : (ds : List Definition) (w r : List Terminal) (x : List Definition) → read_another_one (expr_at 100) ds w ≡ Ok (x, r) → length r < length w
 one_eats ds w r x e = (eats_parses (another_one_parses (expr_at 100) (Grammar.level 101 100).whole (Grammar.level 100 100).whole (both_levels 100 100).whole ds)).left w r x e
 
-group_eats : (ds : List Definition) (w r : List Terminal) (x : List Definition) → read_another_group (expr_at 100) ds w ≡ Ok (x, r) → length r < length w
+pub group_eats : (ds : List Definition) (w r : List Terminal) (x : List Definition) → read_another_group (expr_at 100) ds w ≡ Ok (x, r) → length r < length w
 group_eats ds w r x e = (eats_parses (another_group_parses (expr_at 100) (Grammar.level 101 100).whole (Grammar.level 100 100).whole (both_levels 100 100).whole ds)).left w r x e
 
 -- the loop over the joined definitions of a group, the loop over groups, and the one before the other

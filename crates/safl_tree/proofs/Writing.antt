@@ -4,6 +4,7 @@ use Rattle.std.proofs.lemmas.List.{append-nil, drop_all, take_all}
 use Rattle.safl_word.specs.declared.token.Key.TheVariants as keys
 use Rattle.safl_word.specs.declared.token.Sym.TheVariants as syms
 use Rattle.safl_word.specs.declared.primitive.Primitive.{Primitive}
+use Rattle.safl_word.proofs.Lists.{drop_read}
 use Rattle.safl_tree.specs.declared.tree.Expr.{Expr}
 use Rattle.safl_tree.specs.declared.tree.Bind.{Bind}
 use Rattle.safl_tree.specs.declared.tree.Arm.{Arm}
@@ -14,7 +15,6 @@ use Rattle.safl_tree.specs.Tree.{Tree, If, Let, Cases, Op, Call, Labelled, trees
 use Rattle.safl_tree.specs.Shown.{shown_node, shown_tree, shown_trees, shown_bounds, shown_labelled}
 use Rattle.safl_tree.specs.Printed
 use Rattle.safl_tree.specs.Printed.{Word, spaced, separated, words, arm_words, labelled_words, Writes}
-use Rattle.safl_tree.proofs.Lists.{drop_at}
 use Rattle.safl_tree.proofs.ShownTrees.{op_shows, call_shows, let_shows, case_shows}
 
 pub spaced_append : (u v : List Word) → spaced (u ++ v) ≡ spaced u ++ spaced v
@@ -82,7 +82,7 @@ module _ {E : Type 0} (item : E → List Word) (f : List E → List (List Word))
       (behind s (f (drop i xs))) a all → Writes b c (s ∷ []) → Writes c d (item x) → Leaves d (behind s (f (drop (i + 1) xs))) a all
   items_step s xs i x lt e a b c d all h j k =
       let rest = behind s (f (drop (i + 1) xs)) in
-      let left : behind s (f (drop i xs)) ≡ s ∷ (item x ++ rest) = ap (λ (l : List E). behind s (f l)) (drop_at xs i x lt e) ∙ ap (behind s) (more x (drop (i + 1) xs)) in
+      let left : behind s (f (drop i xs)) ≡ s ∷ (item x ++ rest) = ap (λ (l : List E). behind s (f l)) (drop_read xs i x lt e) ∙ ap (behind s) (more x (drop (i + 1) xs)) in
       leaves_less a c d (item x) rest all (leaves_less a b c (s ∷ []) (item x ++ rest) all (subst (λ (l : List Word). Leaves b l a all) left h) j) k
 
   pub items_end : (s : Word) (xs : List E) (i : ℕ) → length xs ≤ i → (a b c : List ℕ) (first : List Word) → Leaves c (behind s (f (drop i xs))) b

@@ -1,5 +1,6 @@
 -- How many expressions a tree has, itself included.
 use Rattle.std.specs.Prelude.{ℕ, ◌+◌, ◌*◌}
+use Rattle.safl_word.specs.Naturals.{work}
 use Rattle.safl_tree.specs.declared.dismantle.At.{At}
 use Rattle.safl_tree.specs.declared.tree.Expr.{Expr}
 use Rattle.safl_tree.specs.declared.tree.Bind.{Bind}
@@ -40,10 +41,6 @@ bind_size b = size (shown_tree b.value)
 
 abbrev pub arm_size : Arm → ℕ
 arm_size a = 2 * size (shown_tree a.label) + size (shown_tree a.value)
-
--- the work that is left with so much below and so much above. A step down keeps the sum, and a step up makes it less
-abbrev pub work : ℕ → ℕ → ℕ
-work below above = (below + above) * (below + above) + below
 
 abbrev pub work_at : At → ℕ
 work_at a = work (size (shown_tree a.here)) (size (shown_tree a.above))

@@ -5,7 +5,8 @@
 
 ghost use Rattle.std.specs.Prelude.{◌≡◌, ◌+◌, ◌<◌, ◌≤◌, IfSome, vec_len, vec_capacity};
 ghost use Rattle.std.specs.List.{sum_by};
-ghost use Rattle.safl_tree.specs.Sizes.{bind_size, arm_size, work, work_at, expr_size};
+ghost use Rattle.safl_tree.specs.Sizes.{bind_size, arm_size, work_at, expr_size};
+ghost use Rattle.safl_word.specs.Naturals.{work};
 
 use crate::tree::{Arm, Bind, Expr, Node};
 use safl_word::Primitive;

@@ -1,9 +1,10 @@
 -- Names of bindings, one by one.
-use Rattle.std.proofs.Common.{◌≡◌, ℕ, suc, ◌+◌, ◌<◌, arith, drop, get_or, drop-cons, List, ◌∷◌, length, Option, Some, Bool, false, cond, refl, sym, ap, ◌∙◌}
+use Rattle.std.proofs.Common.{◌≡◌, ℕ, suc, ◌+◌, ◌<◌, arith, drop, get_or, List, ◌∷◌, length, Option, Some, Bool, false, cond, refl, sym, ap, ◌∙◌}
 use Rattle.std.specs.List.{list_any}
 use Rattle.std.specs.Str.{bytes_eq}
 use Rattle.std.proofs.lemmas.Option.{slice_get_read}
 use Rattle.safl_word.specs.declared.fault.Rule.TheVariants as rules
+use Rattle.safl_word.proofs.Lists.{drop_read}
 use Rattle.safl_typing.specs.declared.expression.Bound.{Bound}
 use Rattle.safl_typing.specs.Walk.{repeated, placed, fault}
 use Rattle.safl_typing.specs.Plain.{shown_bindings}
@@ -14,15 +15,10 @@ earlier_next bs i b lt is =
     let e : i + 1 ≡ suc i = omega arith in
     ap (λ (n : ℕ). earlier bs n) e ∙ ap (λ (o : Option Bound). name_of o ∷ earlier bs i) (slice_get_read bs (length bs) i b refl lt is)
 
-front : (bs : List Bound) (i : ℕ) (b : Bound) → i < length bs → b ≡ get_or bs i b → drop i bs ≡ b ∷ drop (i + 1) bs
-front bs i b lt is =
-    let s : suc i ≡ i + 1 = omega arith in
-    drop-cons bs i b lt ∙ ap (λ (z : Bound). z ∷ drop (suc i) bs) (sym is) ∙ ap (λ (j : ℕ). b ∷ drop j bs) s
-
 here : (bs : List Bound) (i : ℕ) (b : Bound) (c : Bool) → i < length bs → b ≡ get_or bs i b → list_any (bytes_eq b.name) (earlier bs i) ≡ c
     → repeated (earlier bs i) (placed (shown_bindings (drop i bs))) ≡ cond c (Some (fault rules.E07 b.place)) (repeated (earlier bs (i + 1)) (placed (shown_bindings (drop (i + 1) bs))))
 here bs i b c lt is q =
-    ap (λ (l : List Bound). repeated (earlier bs i) (placed (shown_bindings l))) (front bs i b lt is)
+    ap (λ (l : List Bound). repeated (earlier bs i) (placed (shown_bindings l))) (drop_read bs i b lt is)
     ∙ ap (λ (z : Bool). cond z (Some (fault rules.E07 b.place)) (repeated (b.name ∷ earlier bs i) (placed (shown_bindings (drop (i + 1) bs))))) q
     ∙ ap (λ (l : List (List ℕ)). cond c (Some (fault rules.E07 b.place)) (repeated l (placed (shown_bindings (drop (i + 1) bs))))) (sym (earlier_next bs i b lt is))
 

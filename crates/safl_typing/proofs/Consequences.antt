@@ -1,7 +1,9 @@
 -- What follows from the walk's giving exactly the form: one form, a fault or a form, and units of single functions.
-use Rattle.std.proofs.Common.{◌≡◌, ℕ, zero, suc, ◌+◌, List, [], ◌∷◌, Some, None, Bool, true, false, cond, refl, sym, ap, ◌∙◌, arith}
+use Rattle.std.proofs.Common.{◌≡◌, ℕ, zero, suc, ◌+◌, List, [], ◌∷◌, Some, None, refl, sym, ap, ◌∙◌, arith}
 use Rattle.std.specs.Prelude.{Result, Ok, Err, slice_get}
 use Rattle.std.specs.Result.{result_err}
+use Rattle.std.proofs.lemmas.Option.{same_Some}
+use Rattle.std.proofs.lemmas.Bool.{cond-false}
 use Rattle.safl_word.specs.declared.fault.Fault.{Fault}
 use Rattle.safl_tree.specs.Tree.{Definition}
 use Rattle.safl_tree.specs.Printable.{IsFormedProgram}
@@ -9,7 +11,7 @@ use Rattle.safl_typing.specs.Heads.{Head, unit_of}
 use Rattle.safl_typing.specs.Forms.{FunctionForm, Form, AreFunctionsOf, IsFormOf}
 use Rattle.safl_typing.specs.Walk.{outcome, first_fault}
 use Rattle.safl_typing.specs.Laws.{NoneJoined}
-use Rattle.safl_typing.proofs.Names.{some_none, some_is}
+use Rattle.safl_typing.proofs.Names.{some_none}
 use Rattle.safl_typing.proofs.Sound.{ok_is}
 use Rattle.safl_typing.proofs.Walks.{walk_form, form_walk}
 
@@ -26,16 +28,12 @@ form_or_fault ds form e = let q = no_fault (outcome ds) e in (q.0, walk_form ds 
 pub form_no_fault : (ds : List Definition) → (c : Form) × IsFormOf ds c → first_fault ds ≡ None
 form_no_fault ds (c, h) = ap (λ r. result_err r) (form_walk ds c h)
 
-alone : (b : Bool) (n u : ℕ) → b ≡ false → cond b u n ≡ n
-alone true n u e = absurd cc
-alone false n u e = refl
-
 pub units_alone : (all : List Head) (n u w lo hi : ℕ) (ds : List Definition) (fs : List FunctionForm) (i : ℕ) (f : FunctionForm) → NoneJoined ds →
     AreFunctionsOf all n u w lo hi ds fs → slice_get fs i ≡ Some f → f.unit ≡ n + i
 units_alone all n u w lo hi [] [] i f single h e = absurd cc
 units_alone all n u w lo hi [] (g ∷ fs) i f single h e = absurd h
 units_alone all n u w lo hi (d ∷ ds) [] i f single h e = absurd h
 units_alone all n u w lo hi (d ∷ ds) (g ∷ fs) zero f single (m, is, j, rest) e =
-    omega (arith, sym (ap (λ (z : FunctionForm). z.unit) (some_is g f e)), is.unit, alone d.joined n u single.0)
+    omega (arith, sym (ap (λ (z : FunctionForm). z.unit) (same_Some g f e)), is.unit, cond-false d.joined u n single.0)
 units_alone all n u w lo hi (d ∷ ds) (g ∷ fs) (suc i) f single (m, is, j, rest) e =
     omega (arith, units_alone all (suc n) (unit_of n u d) d.width m hi ds fs i f single.1 rest e)

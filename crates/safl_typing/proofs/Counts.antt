@@ -5,7 +5,7 @@ use Rattle.safl_typing.specs.Rewriting.{Expression, Number, Sized, Variable, If,
 use Rattle.safl_typing.specs.Heads.{Slot, Known, Callee, Member, Above, Unknown, callee, is_site, sites, sites_in, sites_bound}
 use Rattle.safl_typing.specs.Typing.{Has, HaveAll, HaveBound, Calls}
 
-called_sites : (c : Callee) (tail : Bool) (lo m : ℕ) (ws : List ℕ) (us : Terms) (w : ℕ) (t : Term) → Calls c tail lo m ws us w t → m ≡ lo + is_site c
+pub called_sites : (c : Callee) (tail : Bool) (lo m : ℕ) (ws : List ℕ) (us : Terms) (w : ℕ) (t : Term) → Calls c tail lo m ws us w t → m ≡ lo + is_site c
 called_sites (Member i h) tail lo m ws us w t q = omega (arith, q.1)
 called_sites (Above i h) tail lo m ws us w t q = omega (arith, q.0)
 called_sites Unknown tail lo m ws us w t q = absurd q

@@ -2,6 +2,7 @@
 use Rattle.std.proofs.Common.{◌≡◌, ℕ, suc, List, [], ◌∷◌, map, Option, Some, None, Bool, true, false, cond, refl, subst}
 use Rattle.std.specs.Prelude.{nat_le}
 use Rattle.std.proofs.lemmas.Bool.{leb-true}
+use Rattle.std.proofs.lemmas.Option.{same_Some}
 use Rattle.safl_word.specs.Limits.{width_max}
 use Rattle.safl_tree.specs.Tree as source
 use Rattle.safl_tree.specs.Tree.{Tree, Trees, Binds, Arms, place_of, Parameter, Definition}
@@ -9,7 +10,6 @@ use Rattle.safl_tree.specs.Grammar.{is_width}
 use Rattle.safl_tree.specs.Printable.{IsLabel, FitsWritten, IsFormed, AreFormed, AreFormedBinds, AreFormedArms, AreFormedParameters, AreFormedDefinitions}
 use Rattle.safl_typing.specs.Rewriting.{rewritten, rewritten_all, rewritten_binds, rewritten_arms}
 use Rattle.safl_typing.specs.Heads.{slot_of, unit_of, heads_from}
-use Rattle.safl_typing.proofs.Names.{some_is}
 use Rattle.safl_typing.specs.Ranges.{IsWide, WideSlots, WideHeads, IsInRange, AreInRange, BoundInRange}
 
 width_here : (b : Bool) (n : ℕ) → nat_le 1 n ≡ b → cond b (nat_le n width_max) false ≡ true → IsWide n
@@ -21,7 +21,7 @@ width_wide n e = width_here (nat_le 1 n) n refl e
 
 written_wide : (w : Option ℕ) → FitsWritten w → (v : ℕ) → w ≡ Some v → IsWide v
 written_wide None h v e = absurd cc
-written_wide (Some w) h v e = subst IsWide (some_is w v e) (width_wide w h)
+written_wide (Some w) h v e = subst IsWide (same_Some w v e) (width_wide w h)
 
 label_range : (l : Tree) → IsLabel l → IsInRange (rewritten l)
 label_range (source.Number p n) h = tt

@@ -1,6 +1,6 @@
 -- Functions that are found by their names.
 use Rattle.std.proofs.Common.{◌≡◌, ℕ, zero, suc, ◌+◌, ◌<◌, ◌≤◌, arith, List, [], ◌∷◌, ◌++◌, length, drop, get_or, drop-cons, add-one, Bool, true}
-use Rattle.std.proofs.Common.{false, cond, Option, Some, None, IfSome, Vec, refl, sym, ap, ◌∙◌, subst, ◌⊎◌, inl, inr, ⊎_elim}
+use Rattle.std.proofs.Common.{false, cond, Option, Some, None, IfSome, Vec, refl, sym, ap, ◌∙◌, subst, ⊎_elim}
 use Rattle.std.specs.Prelude.{slice_get, ◌&&◌}
 use Rattle.std.specs.Global.{Global}
 use Rattle.std.specs.Str.{bytes_eq}
@@ -9,6 +9,9 @@ use Rattle.std.proofs.lemmas.List.{drop_all, length_push}
 use Rattle.std.proofs.lemmas.Option.{slice_get_read, slice_get_cases, get_or_from_slice_get}
 use Rattle.std.proofs.lemmas.Slice.Eq.{bytes_eq-Decides}
 use Rattle.indexmap.specs.IndexMap.{insert_entry}
+use Rattle.std.proofs.lemmas.Bool.{and_right}
+use Rattle.safl_word.proofs.Lists.{get_in_front}
+use Rattle.safl_word.proofs.Naturals.{lower_or_last}
 use Rattle.safl_typing.specs.declared.heads.Head as code
 use Rattle.safl_typing.specs.Heads.{Head, Numbered, first_head}
 use Rattle.safl_typing.specs.PlainHeads.{shown_head, shown_heads, numbered, with_number}
@@ -45,22 +48,11 @@ kept_insert (e ∷ es) key v name = by (kept_insert es key v name) (same_key key
         (λ here there. let t : same_key key e.0 ≡ true = (bytes_eq-Decides key.items e.0.items).1
         (sym ((bytes_eq-Decides name key.items).0 there) ∙ (bytes_eq-Decides name e.0.items).0 here) in absurd cc)
 
-in_front : {A : Type 0} (xs ys : List A) (m : ℕ) → m < length xs → slice_get (xs ++ ys) m ≡ slice_get xs m
-in_front [] ys m lt = absurd (omega (arith, lt))
-in_front (x ∷ xs) ys zero lt = refl
-in_front (x ∷ xs) ys (suc m) lt = in_front xs ys m (omega (arith, lt))
-
 at_end : {A : Type 0} (xs : List A) (y : A) (m : ℕ) → m ≡ length xs → slice_get (xs ++ y ∷ []) m ≡ Some y
 at_end [] y zero e = refl
 at_end [] y (suc m) e = absurd (omega (arith, e))
 at_end (x ∷ xs) y zero e = absurd (omega (arith, e))
 at_end (x ∷ xs) y (suc m) e = at_end xs y m (omega (arith, e))
-
-before_or_at : (m i : ℕ) → m < i + 1 → (m < i) ⊎ (m ≡ i)
-before_or_at zero zero lt = inr refl
-before_or_at zero (suc i) lt = inl (omega arith)
-before_or_at (suc m) zero lt = absurd (omega (arith, lt))
-before_or_at (suc m) (suc i) lt = ⊎_elim (λ h. inl (omega (arith, h))) (λ h. inr (ap suc h)) (before_or_at m i (omega (arith, lt)))
 
 named_next : (hs : List code.Head) (name : List ℕ) (i : ℕ) (h : code.Head) → slice_get hs i ≡ Some h → last_named hs name (i + 1) ≡ cond (bytes_eq name h.name) (Some i) (last_named hs name i)
 named_next hs name i h at = ap (λ (n : ℕ). last_named hs name n) (add-one i) ∙ ap (λ (o : Option code.Head). cond (has_name name o) (Some i) (last_named hs name i)) at
@@ -77,9 +69,9 @@ keeps_next entries new before after hs i h key old lt is named keeps en eo ea =
           ∙ sym (named_next hs name i h at);
       counted = ap (λ (l : List (Option ℕ)). length l) ea ∙ length_push before old ∙ ap (λ (n : ℕ). n + 1) keeps.counted;
       links = λ m less. ap (λ (l : List (Option ℕ)). slice_get l m) ea ∙ ⊎_elim
-          (λ front. in_front before (old ∷ []) m (omega (arith, front, keeps.counted)) ∙ keeps.links m front)
+          (λ front. get_in_front before (old ∷ []) m (omega (arith, front, keeps.counted)) ∙ keeps.links m front)
           (λ e. at_end before old m (e ∙ sym keeps.counted) ∙ ap (λ (o : Option ℕ). Some o) (own ∙ ap (λ (k : ℕ). before_it hs k) (sym e)))
-          (before_or_at m i less);
+          (lower_or_last m i less);
     }
 
 -- ---- the functions of one name, from the last to the first
@@ -115,10 +107,6 @@ bound_named hs f n (Some m) h = omega (arith, h.0)
 bound_falls : (hs : List code.Head) (m : ℕ) (next : Option ℕ) → m < length hs → next ≡ before_it hs m → bound next < suc m
 bound_falls hs m next lt e = omega (arith, ap bound e, bound_named hs (name_of (slice_get hs m)) m (before_it hs m) (last_is hs (name_of (slice_get hs m)) m (omega (arith, lt))))
 
-and_false : (a b : Bool) → b ≡ false → (a && b) ≡ false
-and_false true b e = e
-and_false false b e = refl
-
 and_true : (a b : Bool) → b ≡ true → (a && b) ≡ a
 and_true true b e = e
 and_true false b e = refl
@@ -147,7 +135,7 @@ module _ (in_unit : ℕ → Bool) (f : List ℕ) (hs : List code.Head) where
       by rest h false at e =
           ap (λ (o : Option ℕ). from (bound o)) (ap (λ (o : Option code.Head). cond (has_name f o) (Some n) (last_named hs f n)) at ∙ ap (λ (b : Bool). cond b (Some n) (last_named hs f n)) e)
           ∙ rest ∙ from_step n h (omega (arith, le)) at
-          ∙ ap (λ (b : Bool). cond b (Some (record { number = n; head = shown_head h })) (from (suc n))) (and_false (in_unit h.unit) (bytes_eq h.name f) (nat_list_eq_equiv.symm h.name f ∙ e))
+          ∙ ap (λ (b : Bool). cond b (Some (record { number = n; head = shown_head h })) (from (suc n))) (and_right (in_unit h.unit) (bytes_eq h.name f) (nat_list_eq_equiv.symm h.name f ∙ e))
 
   -- the first function that passes, of those from here on
   pub record IsSought (at found : Option ℕ) : Type 0 where

@@ -13,11 +13,11 @@ shift_here : (n i w : ℕ) (b : Bool) → here b (n + i) w ≡ shifted n (here b
 shift_here n i w true = refl
 shift_here n i w false = refl
 
-shift_later : (n : ℕ) (a b : Option At) → later (shifted n a) (shifted n b) ≡ shifted n (later a b)
+pub shift_later : (n : ℕ) (a b : Option At) → later (shifted n a) (shifted n b) ≡ shifted n (later a b)
 shift_later n None b = refl
 shift_later n (Some x) b = refl
 
-shift : (x : List ℕ) (n i : ℕ) (s : List Slot) → innermost x (n + i) s ≡ shifted n (innermost x i s)
+pub shift : (x : List ℕ) (n i : ℕ) (s : List Slot) → innermost x (n + i) s ≡ shifted n (innermost x i s)
 shift x n i [] = refl
 shift x n i (v ∷ vs) =
     let e : suc (n + i) ≡ n + suc i = omega arith in

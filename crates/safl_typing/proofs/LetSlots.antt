@@ -1,6 +1,7 @@
 -- A let's own slots are as many as its bound terms.
 use Rattle.std.proofs.Common.{◌≡◌, ℕ, suc, ◌+◌, ◌++◌, List, [], length, false, refl, ap, subst, ◌∙◌, arith}
 use Rattle.std.specs.Prelude.{Ok}
+use Rattle.std.proofs.lemmas.List.{length-append}
 use Rattle.safl_term.specs.declared.term.Term.{Term}
 use Rattle.safl_term.specs.Slots.{count}
 use Rattle.safl_term.specs.Terms.{Nil}
@@ -11,7 +12,7 @@ use Rattle.safl_typing.specs.Heads.{Known, Slot, sites}
 use Rattle.safl_typing.specs.Typing.{slots}
 use Rattle.safl_typing.specs.Walk.{TypedAll, after, wanted_by, check, check_bound}
 use Rattle.safl_typing.proofs.Sound.{after_ok, ok_is}
-use Rattle.safl_typing.proofs.WalkByForms.{append_length, joined}
+use Rattle.safl_typing.proofs.WalkByForms.{joined}
 
 counted : (k : Known) (s : List Slot) (lo : ℕ) (bs : Bindings) (r : TypedAll) → check_bound k s lo bs ≡ Ok r → length (slots bs r.widths) ≡ count r.terms
 counted k s lo no_binding r e = subst (λ (z : TypedAll). length (slots no_binding z.widths) ≡ count z.terms) (ok_is (record { widths = []; terms = Nil }) r e) refl
@@ -25,4 +26,4 @@ pub body_sees : (k : Known) (s own : List Slot) (lo : ℕ) (bs : Bindings) (r : 
     bs r.widths → r.terms ≡ shown_terms ts → length (s ++ own) ≡ length s + length ts
 body_sees k s own lo bs r ts e o t =
     let n : length own ≡ length ts = ap (λ (l : List Slot). length l) o ∙ counted k s lo bs r e ∙ ap count t ∙ count_forest ts in
-    omega (arith, append_length s own, n)
+    omega (arith, length-append s own, n)

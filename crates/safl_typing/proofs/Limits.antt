@@ -10,9 +10,6 @@ use Rattle.safl_term.specs.Readiness.{or_else}
 use Rattle.safl_typing.specs.Walk.{or_place, excess, limit, long_let, long_let_in, long_let_bound, placed}
 use Rattle.safl_typing.proofs.Names.{some_none}
 
-pub both_none : (a b : Option Fault) → a ≡ None → b ≡ None → or_else a b ≡ None
-both_none a b p q = rw p q
-
 pub none_both : (a b : Option Fault) → or_else a b ≡ None → (a ≡ None) × (b ≡ None)
 none_both (Some f) b e = some_none f e
 none_both None b e = (refl, e)

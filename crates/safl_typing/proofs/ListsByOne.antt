@@ -1,6 +1,7 @@
 -- Lists of expressions, one by one.
-use Rattle.std.proofs.Common.{◌≡◌, ℕ, zero, suc, ◌+◌, ◌<◌, arith, drop, get_or, drop-cons, List, [], ◌∷◌, ◌++◌, length, take, Bool, true, false, refl, sym, ap, ◌∙◌}
+use Rattle.std.proofs.Common.{◌≡◌, ℕ, zero, suc, ◌+◌, ◌<◌, arith, drop, get_or, List, [], ◌∷◌, ◌++◌, length, take, Bool, true, false, refl, sym, ap, ◌∙◌}
 use Rattle.std.specs.Prelude.{◌&&◌, min}
+use Rattle.safl_word.proofs.Lists.{drop_read}
 use Rattle.safl_typing.specs.declared.expression.Expression as code
 use Rattle.safl_typing.specs.declared.heads.Slot as code_slot
 use Rattle.safl_typing.specs.Rewriting.{flexible, all_flexible}
@@ -12,19 +13,14 @@ use Rattle.safl_typing.specs.Plain.{shown_expression, shown_expressions, shown_b
 flexible_cons : (e : code.Expression) (es : List code.Expression) (b : Bool) → flexible (shown_expression e) ≡ b → all_flexible (shown_expressions (e ∷ es)) ≡ b && all_flexible (shown_expressions es)
 flexible_cons e es b q = ap (λ (z : Bool). z && all_flexible (shown_expressions es)) q
 
-front : (es : List code.Expression) (i : ℕ) (e : code.Expression) → i < length es → e ≡ get_or es i e → drop i es ≡ e ∷ drop (i + 1) es
-front es i e lt is =
-    let s : suc i ≡ i + 1 = omega arith in
-    drop-cons es i e lt ∙ ap (λ (z : code.Expression). z ∷ drop (suc i) es) (sym is) ∙ ap (λ (j : ℕ). e ∷ drop j es) s
-
 pub flexible_next : (es : List code.Expression) (i : ℕ) (e : code.Expression) → i < length es → e ≡ get_or es i e → flexible (shown_expression e) ≡
     true → all_flexible (shown_expressions es) ≡ all_flexible (shown_expressions (drop i es)) → all_flexible (shown_expressions es) ≡ all_flexible
     (shown_expressions (drop (i + 1) es))
-flexible_next es i e lt is q h = h ∙ ap (λ (l : List code.Expression). all_flexible (shown_expressions l)) (front es i e lt is) ∙ flexible_cons e (drop (i + 1) es) true q
+flexible_next es i e lt is q h = h ∙ ap (λ (l : List code.Expression). all_flexible (shown_expressions l)) (drop_read es i e lt is) ∙ flexible_cons e (drop (i + 1) es) true q
 
 pub flexible_not : (es : List code.Expression) (i : ℕ) (e : code.Expression) → i < length es → e ≡ get_or es i e → flexible (shown_expression e) ≡
     false → all_flexible (shown_expressions es) ≡ all_flexible (shown_expressions (drop i es)) → all_flexible (shown_expressions es) ≡ false
-flexible_not es i e lt is q h = h ∙ ap (λ (l : List code.Expression). all_flexible (shown_expressions l)) (front es i e lt is) ∙ flexible_cons e (drop (i + 1) es) false q
+flexible_not es i e lt is q h = h ∙ ap (λ (l : List code.Expression). all_flexible (shown_expressions l)) (drop_read es i e lt is) ∙ flexible_cons e (drop (i + 1) es) false q
 
 pub upto : (es : List code.Expression) (i : ℕ) (e : code.Expression) → i < length es → e ≡ get_or es i e → take (i + 1) es ≡ take i es ++ e ∷ []
 upto [] i e lt is = absurd (omega (arith, lt))
@@ -50,10 +46,6 @@ bound_upto (y ∷ ys) (suc i) e lt is =
 pub and_true : (a b : Bool) → a ≡ true → (a && b) ≡ b
 and_true true b e = refl
 and_true false b e = absurd cc
-
-pub and_false : (a b : Bool) → a ≡ false → (a && b) ≡ false
-and_false true b e = absurd cc
-and_false false b e = refl
 
 -- ---- sites
 

@@ -1,20 +1,20 @@
 -- A list of names repeats none exactly where they differ.
-use Rattle.std.proofs.Common.{◌≡◌, ℕ, zero, suc, List, [], ◌∷◌, map, Some, None, Bool, true, false, refl, sym, ap, ◌∙◌, subst, arith}
+use Rattle.std.proofs.Common.{◌≡◌, ℕ, zero, suc, List, [], ◌∷◌, map, Some, None, Bool, true, false, refl, sym, ap, ◌∙◌, subst}
 use Rattle.std.specs.Prelude.{slice_get, cond, ◌||◌}
 use Rattle.std.specs.List.{list_any}
 use Rattle.std.specs.Str.{bytes_eq}
-use Rattle.std.proofs.lemmas.Bool.{or_left, or_right, false_from_ne_true}
+use Rattle.std.proofs.lemmas.Bool.{false_from_ne_true}
 use Rattle.std.proofs.lemmas.Slice.Eq.{bytes_eq-Decides}
+use Rattle.std.proofs.lemmas.Map.Keys.{any_passes_from_place}
+use Rattle.std.proofs.Math.Nat.{suc_inj}
 use Rattle.safl_word.specs.declared.fault.Rule.TheVariants as rules
+use Rattle.safl_word.proofs.Naturals.{zero_suc}
 use Rattle.safl_typing.specs.Rewriting.{Bindings, no_binding, a_binding}
 use Rattle.safl_typing.specs.Typing.{Differ, names}
 use Rattle.safl_typing.specs.Walk.{Placed, placed, repeated, fault}
 
 pub some_none : {A : Type 0} {B : Type 0} (x : B) → Some x ≡ None → A
 some_none x e = absurd cc
-
-pub some_is : {B : Type 0} (x y : B) → Some x ≡ Some y → x ≡ y
-some_is x y e = cc
 
 any_here : {A : Type 0} (p : A → Bool) (x : A) (xs : List A) (b : Bool) → p x ≡ b → (b || list_any p xs) ≡ true
     → (list_any p xs ≡ true → (i : ℕ) × (y : A) × (slice_get xs i ≡ Some y) × (p y ≡ true))
@@ -26,11 +26,6 @@ pub any_at : {A : Type 0} (p : A → Bool) (xs : List A) → list_any p xs ≡ t
 any_at p [] e = absurd cc
 any_at p (x ∷ xs) e = any_here p x xs (p x) refl e (λ g. any_at p xs g)
 
-pub at_any : {A : Type 0} (p : A → Bool) (xs : List A) (i : ℕ) (x : A) → slice_get xs i ≡ Some x → p x ≡ true → list_any p xs ≡ true
-at_any p [] i x e q = absurd cc
-at_any p (y ∷ ys) zero x e q = or_left (p y) (list_any p ys) (ap p (some_is y x e) ∙ q)
-at_any p (y ∷ ys) (suc i) x e q = or_right (p y) (list_any p ys) (at_any p ys i x e q)
-
 -- no name of the one list is in the other
 abbrev pub Apart : List (List ℕ) → List (List ℕ) → Type 0
 Apart xs ys = (i j : ℕ) (name : List ℕ) → slice_get xs i ≡ Some name → slice_get ys j ≡ Some name → ⊥
@@ -38,14 +33,8 @@ Apart xs ys = (i j : ℕ) (name : List ℕ) → slice_get xs i ≡ Some name →
 abbrev pub in_order : List Placed → List (List ℕ)
 in_order xs = map (λ x. x.name) xs
 
-zero_suc : {A : Type 0} (j : ℕ) → zero ≡ suc j → A
-zero_suc j e = absurd (omega (arith, e))
-
-suc_is : (i j : ℕ) → suc i ≡ suc j → i ≡ j
-suc_is i j e = omega (arith, e)
-
 pub differ_rest : (x : List ℕ) (xs : List (List ℕ)) → Differ (x ∷ xs) → Differ xs
-differ_rest x xs d = λ i j name p q. suc_is i j (d (suc i) (suc j) name p q)
+differ_rest x xs d = λ i j name p q. suc_inj (d (suc i) (suc j) name p q)
 
 pub apart_more : (x : List ℕ) (seen xs : List (List ℕ)) → Differ (x ∷ xs) → Apart seen (x ∷ xs) → Apart (x ∷ seen) xs
 apart_more x seen xs d a zero j name p q = zero_suc j (d zero (suc j) name p q)
@@ -61,7 +50,7 @@ differ_repeat seen [] d a = refl
 differ_repeat seen (x ∷ xs) d a = rw (unseen x.name seen (in_order xs) a) (differ_repeat (x.name ∷ seen) xs (differ_rest x.name (in_order xs) d) (apart_more x.name seen (in_order xs) d a))
 
 pub not_seen : (x : List ℕ) (seen : List (List ℕ)) (i : ℕ) → list_any (bytes_eq x) seen ≡ false → slice_get seen i ≡ Some x → ⊥
-not_seen x seen i n e = let z : list_any (bytes_eq x) seen ≡ true = at_any (bytes_eq x) seen i x e ((bytes_eq-Decides x x).1 refl) in absurd cc
+not_seen x seen i n e = let z : list_any (bytes_eq x) seen ≡ true = any_passes_from_place (bytes_eq x) seen i x e ((bytes_eq-Decides x x).1 refl) in absurd cc
 
 pub differ_first : (x : List ℕ) (xs : List (List ℕ)) → Differ xs → ((j : ℕ) → slice_get xs j ≡ Some x → ⊥) → Differ (x ∷ xs)
 differ_first x xs d n zero zero name p q = refl
@@ -69,7 +58,7 @@ differ_first x xs d n zero (suc j) name p q = absurd (n j (q ∙ sym p))
 differ_first x xs d n (suc i) zero name p q = absurd (n i (p ∙ sym q))
 differ_first x xs d n (suc i) (suc j) name p q = ap (λ z. suc z) (d i j name p q)
 
-apart_rest : (x : List ℕ) (seen xs : List (List ℕ)) → list_any (bytes_eq x) seen ≡ false → Apart (x ∷ seen) xs → Apart seen (x ∷ xs)
+pub apart_rest : (x : List ℕ) (seen xs : List (List ℕ)) → list_any (bytes_eq x) seen ≡ false → Apart (x ∷ seen) xs → Apart seen (x ∷ xs)
 apart_rest x seen xs q a i zero name g h = not_seen x seen i q (g ∙ sym h)
 apart_rest x seen xs q a i (suc j) name g h = a (suc i) j name g h
 

@@ -3,6 +3,8 @@ use Rattle.std.proofs.Common.{◌≡◌, ℕ, zero, suc, ◌+◌, ◌<◌, ◌�
 use Rattle.std.specs.Prelude.{slice_get, sum_by}
 use Rattle.std.specs.Option.{option_map_or}
 use Rattle.std.proofs.lemmas.List.Sums.{sum_by-cons}
+use Rattle.std.proofs.lemmas.Option.{same_Some}
+use Rattle.std.proofs.lemmas.List.{length-append}
 use Rattle.safl_term.specs.declared.checked.Function.{Function}
 use Rattle.safl_term.specs.declared.checked.Site.{Site}
 use Rattle.safl_term.specs.Program.{Program}
@@ -14,9 +16,8 @@ use Rattle.safl_typing.specs.Rewriting.{Expression, rewritten, Number, Sized, Va
 use Rattle.safl_typing.specs.Heads.{Slot, Head, Known, Callee, Member, Above, Unknown, callee, unit_of, params_of, head_of, heads_from}
 use Rattle.safl_typing.specs.Typing.{slots, Calls, Has, HaveAll, HaveBound}
 use Rattle.safl_typing.specs.Forms.{FunctionForm, shown_function, sites_of, sites_of_all, all_sites, nodes_of, IsFunctionOf, AreFunctionsOf}
-use Rattle.safl_typing.proofs.Names.{some_is}
 use Rattle.safl_typing.proofs.Widths.{Agrees, CalleeAt, callee_at}
-use Rattle.safl_typing.proofs.Spans.{Noted, noted_parts, append_length, has_length, has_nodes}
+use Rattle.safl_typing.proofs.Spans.{Noted, noted_parts, has_length, has_nodes}
 use Rattle.safl_typing.proofs.Walks.{functions_rise}
 
 abbrev pub AreShown : List Head → ℕ → ℕ → ℕ → ℕ → ℕ → List Definition → List Function → Type 0
@@ -104,8 +105,8 @@ step_at all n u w lo hi [] (x ∷ fs) i f g h e q = absurd h
 step_at all n u w lo hi (d ∷ ds) (x ∷ []) zero f g h e q = absurd cc
 step_at all n u w lo hi (d ∷ []) (x ∷ (y ∷ fs)) zero f g (m, is, j, rest) e q = absurd rest
 step_at all n u w lo hi (d ∷ (c ∷ ds)) (x ∷ (y ∷ fs)) zero f g (m, is, j, (m2, is2, j2, rest)) e q =
-    let ef : x ≡ f = some_is x f e in
-    let eg : y ≡ g = some_is y g q in
+    let ef : x ≡ f = same_Some x f e in
+    let eg : y ≡ g = same_Some y g q in
     let uf : f.unit ≡ unit_of n u d = sym (ap (λ (z : Function). z.unit) ef) ∙ is.unit in
     let ug : g.unit ≡ unit_of (suc n) (unit_of n u d) c = sym (ap (λ (z : Function). z.unit) eg) ∙ is2.unit in
     let wf : f.width ≡ d.width = sym (ap (λ (z : Function). z.width) ef) ∙ is.width in
@@ -132,7 +133,7 @@ sites_length all n u w lo hi (d ∷ ds) (f ∷ fs) (m, is, j, rest) =
     let k : Known = record { heads = all; unit = unit_of n u d } in
     omega (
       arith,
-      append_length (sites_of n f.body) (all_sites (suc n) fs),
+      length-append (sites_of n f.body) (all_sites (suc n) fs),
       has_length n k (params_of d) true lo m (rewritten d.body) d.width f.body
           is.body,
       sites_length all (suc n) (unit_of n u d) d.width m hi ds fs rest,
@@ -169,7 +170,7 @@ good_append C (x ∷ xs) ys h g = (h.0, good_append C xs ys h.1 g)
 
 pub good_at : (C : Program) (xs : List Site) (i : ℕ) (x : Site) → AllGood C xs → slice_get xs i ≡ Some x → IsGood C x
 good_at C [] i x h e = absurd cc
-good_at C (y ∷ ys) zero x h e = subst (IsGood C) (some_is y x e) h.0
+good_at C (y ∷ ys) zero x h e = subst (IsGood C) (same_Some y x e) h.0
 good_at C (y ∷ ys) (suc i) x h e = good_at C ys i x h.1 e
 
 module _ (C : Program) (g : ℕ) (k : Known) (within : g < C.functions) (ag : Agrees C k.heads) (own : C.unit g ≡ k.unit) where

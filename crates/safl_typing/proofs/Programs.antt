@@ -3,7 +3,7 @@ use Rattle.std.proofs.Common.{◌≡◌, ℕ, zero, suc, ◌+◌, ◌-◌, ◌<�
 use Rattle.std.specs.Prelude.{slice_get, codes}
 use Rattle.std.specs.Option.{option_map}
 use Rattle.std.specs.String.{string_bytes}
-use Rattle.std.proofs.lemmas.Option.{slice_get_cases, slice_get_within, slice_get-map}
+use Rattle.std.proofs.lemmas.Option.{slice_get_cases, slice_get_within, slice_get-map, same_Some}
 use Rattle.safl_word.specs.Words.{no_word}
 use Rattle.safl_word.specs.Limits.{width_max, depth_max}
 use Rattle.safl_word.specs.Tokens.{IsName}
@@ -21,11 +21,11 @@ use Rattle.safl_term.specs.Sizes as sizes
 use Rattle.safl_term.proofs.HeldByChecked.{each_checked, table_nodes}
 use Rattle.safl_tree.specs.Tree.{Definition, Parameter, depth}
 use Rattle.safl_tree.specs.Printable.{AreFormedParameters, IsFormedDefinition, AreFormedDefinitions, IsFormedProgram}
+use Rattle.safl_tree.proofs.Formed.{formed_at}
 use Rattle.safl_typing.specs.Rewriting.{rewritten}
 use Rattle.safl_typing.specs.Heads.{Slot, Head, params_of, head_of, heads}
 use Rattle.safl_typing.specs.Typing.{widths_of}
 use Rattle.safl_typing.specs.Forms.{shown_param, shown_function, form_of, shown_form, sites_of, all_sites, param_names, IsLast, function_names, AreShallow, IsFormOf}
-use Rattle.safl_typing.proofs.Names.{some_is}
 use Rattle.safl_typing.specs.Ranges.{IsWide}
 use Rattle.safl_typing.proofs.Formed.{width_wide, heads_wide, params_wide}
 use Rattle.safl_typing.proofs.Widths.{Agrees, formed_full, has_width}
@@ -67,24 +67,19 @@ widths_length d = by d.params
     by [] = refl
     by (p ∷ ps) = ap (λ n. suc n) (by ps)
 
-formed_at : (ds : List Definition) (i : ℕ) (d : Definition) → AreFormedDefinitions ds → slice_get ds i ≡ Some d → IsFormedDefinition d
-formed_at [] i d h e = absurd cc
-formed_at (x ∷ ds) zero d h e = subst IsFormedDefinition (some_is x d e) h.0
-formed_at (x ∷ ds) (suc i) d h e = formed_at ds i d h.1 e
-
 param_named : (ps : List Parameter) (i : ℕ) (name : List ℕ) → AreFormedParameters ps → slice_get (map (λ (p : Parameter). p.name) ps) i ≡ Some name → IsName name
 param_named [] i name h e = absurd cc
-param_named (p ∷ ps) zero name h e = subst IsName (some_is p.name name e) h.0.0
+param_named (p ∷ ps) zero name h e = subst IsName (same_Some p.name name e) h.0.0
 param_named (p ∷ ps) (suc i) name h e = param_named ps i name h.1 e
 
 param_wide : (ps : List Parameter) (i w : ℕ) → AreFormedParameters ps → slice_get (widths_of (map (λ (p : Parameter). record { name = p.name; width = p.width }) ps)) i ≡ Some w → IsWide w
 param_wide [] i w h e = absurd cc
-param_wide (p ∷ ps) zero w h e = subst IsWide (some_is p.width w e) (width_wide p.width h.0.1)
+param_wide (p ∷ ps) zero w h e = subst IsWide (same_Some p.width w e) (width_wide p.width h.0.1)
 param_wide (p ∷ ps) (suc i) w h e = param_wide ps i w h.1 e
 
 last_name : (x : List ℕ) (ds : List Definition) (d : Definition) → IsLast x ds → slice_get ds (length ds - 1) ≡ Some d → d.name ≡ x
 last_name x [] d h e = absurd h
-last_name x (c ∷ []) d h e = sym (ap (λ (z : Definition). z.name) (some_is c d e)) ∙ h
+last_name x (c ∷ []) d h e = sym (ap (λ (z : Definition). z.name) (same_Some c d e)) ∙ h
 last_name x (c ∷ (b ∷ ds)) d h e =
     let q : length (c ∷ (b ∷ ds)) - 1 ≡ suc (length (b ∷ ds) - 1) = omega arith in
     last_name x (b ∷ ds) d h (subst (λ (i : ℕ). slice_get (c ∷ (b ∷ ds)) i ≡ Some d) q e)
@@ -163,7 +158,7 @@ agrees c ds b i hd e =
     let l : i < length c.functions = omega (arith, slice_get_within (heads ds) i hd e, heads_length 0 0 ds, b.count) in
     let h = here c ds i b l in
     let f = fields c ds i h in
-    let q : head_of h.unit h.def ≡ hd = some_is _ hd (sym h.head ∙ e) in
+    let q : head_of h.unit h.def ≡ hd = same_Some _ hd (sym h.head ∙ e) in
     record {
       inside = l;
       params = f.params ∙ ap (λ (z : Head). widths_of z.params) q;
@@ -179,7 +174,7 @@ zero_unit false = refl
 
 first_head_unit : (ds : List Definition) (hd : Head) → slice_get (heads ds) 0 ≡ Some hd → hd.unit ≡ 0
 first_head_unit [] hd e = absurd cc
-first_head_unit (d ∷ ds) hd e = sym (ap (λ (z : Head). z.unit) (some_is _ hd e)) ∙ zero_unit d.joined
+first_head_unit (d ∷ ds) hd e = sym (ap (λ (z : Head). z.unit) (same_Some _ hd e)) ∙ zero_unit d.joined
 
 first_unit : (c : Tables) (ds : List Definition) → IsBased c ds → (program_of c).unit 0 ≡ 0
 first_unit c ds b =
@@ -201,7 +196,7 @@ steps c ds b i lt =
 
 shallow_at : (ds : List Definition) (i : ℕ) (d : Definition) → AreShallow ds → slice_get ds i ≡ Some d → depth d.body ≤ depth_max
 shallow_at [] i d h e = absurd cc
-shallow_at (x ∷ ds) zero d h e = subst (λ (z : Definition). depth z.body ≤ depth_max) (some_is x d e) h.0
+shallow_at (x ∷ ds) zero d h e = subst (λ (z : Definition). depth z.body ≤ depth_max) (same_Some x d e) h.0
 shallow_at (x ∷ ds) (suc i) d h e = shallow_at ds i d h.1 e
 
 module _ (c : Tables) (ds : List Definition) (b : IsBased c ds) (shallow : AreShallow ds) where
@@ -257,7 +252,7 @@ module _ (c : Tables) (ds : List Definition) (b : IsBased c ds) (shallow : AreSh
       (all_good (program_of c) 0 c.functions (λ i f e.
       let l : i < length c.functions = slice_get_within c.functions i f e in
       let h = here c ds i b l in
-      let q : h.function ≡ f = some_is h.function f (sym h.stands ∙ e) in
+      let q : h.function ≡ f = same_Some h.function f (sym h.stands ∙ e) in
       let z : i ≡ 0 + i = omega arith in
       subst (λ (g : ℕ). AllGood (program_of c) (sites_of g (shown_term f.body))) z (subst (λ (z : Function). AllGood (program_of c) (sites_of i (shown_term z.body))) q
       (has_good (program_of c) i (record { heads = heads ds; unit = h.unit }) l (agrees c ds b) (fields c ds i h).unit (params_of h.def) true h.first

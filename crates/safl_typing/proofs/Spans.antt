@@ -1,5 +1,6 @@
 -- The sites of a term are those of its expression's interval, in order, and as many nodes stand in both.
-use Rattle.std.proofs.Common.{◌≡◌, ℕ, suc, ◌+◌, List, [], ◌∷◌, ◌++◌, length, Bool, refl, sym, ap, ◌∙◌, subst, arith, length-append}
+use Rattle.std.proofs.Common.{◌≡◌, ℕ, suc, ◌+◌, List, [], ◌∷◌, ◌++◌, length, Bool, refl, sym, ap, ◌∙◌, subst, arith}
+use Rattle.std.proofs.lemmas.List.{length-append as append_length}
 use Rattle.safl_term.specs.declared.checked.Site.{Site}
 use Rattle.safl_term.specs.Terms.{Term, Terms}
 use Rattle.safl_term.specs.Program.{Program}
@@ -47,13 +48,10 @@ mutual
 
 -- ---- intervals
 
-called_length : (g : ℕ) (c : Callee) (tail : Bool) (lo m : ℕ) (ws : List ℕ) (us : Terms) (w : ℕ) (t : Term) → Calls c tail lo m ws us w t → lo + length (sites_of g t) ≡ m + length (sites_of_all g us)
+pub called_length : (g : ℕ) (c : Callee) (tail : Bool) (lo m : ℕ) (ws : List ℕ) (us : Terms) (w : ℕ) (t : Term) → Calls c tail lo m ws us w t → lo + length (sites_of g t) ≡ m + length (sites_of_all g us)
 called_length g (Member i h) tail lo m ws us w t q = omega (arith, ap (λ (z : Term). length (sites_of g z)) q.4, q.1)
 called_length g (Above i h) tail lo m ws us w t q = omega (arith, ap (λ (z : Term). length (sites_of g z)) q.3, q.0)
 called_length g Unknown tail lo m ws us w t q = absurd q
-
-pub append_length : {A : Type 0} (xs ys : List A) → length (xs ++ ys) ≡ length xs + length ys
-append_length xs ys = length-append xs ys
 
 mutual
   pub has_length : (g : ℕ) (k : Known) (s : List Slot) (tail : Bool) (lo hi : ℕ) (e : Expression) (w : ℕ) (t : Term) → Has k s tail lo hi e w t → hi ≡ lo + length (sites_of g t)

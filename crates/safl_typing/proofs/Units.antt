@@ -1,5 +1,6 @@
 -- The groups of functions, from what holds of each function and the one before it.
 use Rattle.std.proofs.Common.{◌≡◌, ℕ, zero, suc, ◌+◌, ◌<◌, ◌≤◌, sym, ap, ◌∙◌, subst, ◌⊎◌, ⊎_elim, arith}
+use Rattle.std.proofs.Math.Nat.{le_dest}
 
 -- a function is in the group of the one before it and has its width, or it is the first of its group
 abbrev pub Steps : (ℕ → ℕ) → (ℕ → ℕ) → ℕ → Type 0
@@ -23,12 +24,7 @@ module _ (unit width : ℕ → ℕ) (n : ℕ) (first : unit 0 ≡ 0) (step : Ste
       omega (arith, ap unit e, unit_rises (i + d) m, unit_least i d (omega (arith, h)))
 
   pub unit_monotone : (i j : ℕ) → i ≤ j → j < n → unit i ≤ unit j
-  unit_monotone i j le h = let q = parted i j le in subst (λ (z : ℕ). unit i ≤ unit z) q.1 (unit_least i q.0 (omega (arith, q.1, h)))
-    where
-      parted : (i j : ℕ) → i ≤ j → (d : ℕ) × (i + d ≡ j)
-      parted zero j le = (j, omega arith)
-      parted (suc i) zero le = absurd (omega (arith, le))
-      parted (suc i) (suc j) le = let r = parted i j (omega (arith, le)) in (r.0, omega (arith, r.1))
+  unit_monotone i j le h = let q = le_dest le in subst (λ (z : ℕ). unit i ≤ unit z) q.1 (unit_least i q.0 (omega (arith, q.1, h)))
 
   pub unit_first : (i : ℕ) → i < n → (unit (unit i) ≡ unit i) × (width (unit i) ≡ width i)
   unit_first zero h = (ap unit first, ap width first)
@@ -47,10 +43,5 @@ module _ (unit width : ℕ → ℕ) (n : ℕ) (first : unit 0 ≡ 0) (step : Ste
       (λ q. absurd (omega (arith, g, q))) (step (f + d) m)
 
   pub unit_group : (f g : ℕ) → g < n → unit g ≤ f → f ≤ g → unit f ≡ unit g
-  unit_group f g h le between = let q = parted f g between in
+  unit_group f g h le between = let q = le_dest between in
       subst (λ (z : ℕ). unit f ≡ unit z) q.1 (unit_same f q.0 (omega (arith, q.1, h)) (omega (arith, ap unit q.1, le)))
-    where
-      parted : (i j : ℕ) → i ≤ j → (d : ℕ) × (i + d ≡ j)
-      parted zero j le = (j, omega arith)
-      parted (suc i) zero le = absurd (omega (arith, le))
-      parted (suc i) (suc j) le = let r = parted i j (omega (arith, le)) in (r.0, omega (arith, r.1))

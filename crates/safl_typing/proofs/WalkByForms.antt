@@ -3,6 +3,7 @@ use Rattle.std.proofs.Common.{◌≡◌, ℕ, zero, suc, ◌+◌, ◌*◌, ◌<�
 use Rattle.std.specs.Prelude.{min, map, ◌&&◌, ◌==◌, Result, Ok, Err, slice_get}
 use Rattle.std.specs.List.{AllByRecursion}
 use Rattle.std.proofs.lemmas.Option.{slice_get_read}
+use Rattle.std.proofs.lemmas.List.{length-append}
 use Rattle.safl_word.specs.declared.fault.Rule.TheVariants as rules
 use Rattle.safl_word.specs.declared.fault.Fault.{Fault}
 use Rattle.safl_word.specs.declared.primitive.Primitive.{Primitive}
@@ -312,16 +313,12 @@ pub slots_length : (ss : List code_slot.Slot) → length (shown_slots ss) ≡ le
 slots_length [] = refl
 slots_length (s ∷ ss) = ap (λ n. suc n) (slots_length ss)
 
-pub append_length : (a b : List Slot) → length (a ++ b) ≡ length a + length b
-append_length [] b = omega arith
-append_length (x ∷ a) b = let i = append_length a b in omega (arith, i)
-
 pub may_below : (hs : List code_head.Head) (u : ℕ) (ss below : List Slot) (lo p : ℕ) (bs : Bindings) (b : Expression) (r : TypedAll) (n : ℕ)
     → MayCheck hs u ss lo (Let p bs b) → n ≡ min 4001 (lo + sites_bound (known hs u) bs) → check_bound (known hs u) ss lo bs ≡ Ok r
     → below ≡ ss ++ slots bs r.widths → MayCheck hs u below n b
 may_below hs u ss below lo p bs b r n h q c e =
     let w = (checks_have_bound (known hs u) ss lo (lo + sites_bound (known hs u) bs) bs r refl h.heads h.slots h.range.0 c).wide in
-    let l : length below ≡ length ss + length (slots bs r.widths) = omega (arith, ap (λ (z : List Slot). length z) e, append_length ss (slots bs r.widths)) in
+    let l : length below ≡ length ss + length (slots bs r.widths) = omega (arith, ap (λ (z : List Slot). length z) e, length-append ss (slots bs r.widths)) in
     record {
       heads = h.heads;
       counted = h.counted;

@@ -1,5 +1,5 @@
 -- The walk over a program gives exactly the form that the program has.
-use Rattle.std.proofs.Common.{◌≡◌, ℕ, zero, suc, ◌+◌, ◌≤◌, List, [], ◌∷◌, length, map, Some, None, Bool, true, false, cond, refl, sym, ap, ◌∙◌, subst, arith}
+use Rattle.std.proofs.Common.{◌≡◌, ℕ, suc, ◌+◌, ◌≤◌, List, [], ◌∷◌, length, map, Some, None, Bool, true, false, cond, refl, sym, ap, ◌∙◌, subst, arith}
 use Rattle.std.specs.Prelude.{Ok, ◌==◌, nat_le, codes}
 use Rattle.std.specs.List.{list_any}
 use Rattle.std.specs.Str.{bytes_eq}
@@ -17,15 +17,22 @@ use Rattle.safl_word.specs.Limits.{bindings_max, functions_max, params_max, site
 use Rattle.safl_typing.specs.Forms.{FunctionForm, Form, all_sites, nodes_of, param_names}
 use Rattle.safl_typing.specs.Forms.{IsFunctionOf, AreFunctionsOf, IsLast, function_names, IsFormOf}
 use Rattle.safl_term.specs.Readiness.{or_else}
+use Rattle.safl_term.proofs.OrElse.{neither}
 use Rattle.safl_typing.specs.Walk.{after, unless, needs, fault, fault_with, excess, limit, long_let, limits_from, limits, placed_params, head_fault}
 use Rattle.safl_typing.specs.Walk.{joined_faults, group_fault, function, functions_from, main_fault, Exactly, outcome}
 use Rattle.safl_typing.proofs.Counts.{has_sites}
-use Rattle.safl_typing.proofs.Names.{some_none, Apart, in_order, differ_repeat, repeat_differ, unseen, not_seen, differ_rest, apart_more, differ_first}
+use Rattle.safl_typing.proofs.Names.{some_none, Apart, in_order, differ_repeat, repeat_differ, unseen, differ_rest, apart_more, differ_first, apart_rest}
 use Rattle.safl_typing.proofs.Complete.{typed, after_gives, unless_gives, needs_gives, has_checks}
 use Rattle.safl_typing.specs.Ranges.{WideHeads}
 use Rattle.safl_typing.proofs.Sound.{ok_is, after_ok, unless_ok, needs_ok, checks_has}
-use Rattle.safl_typing.proofs.Limits.{both_none, none_both, limit_none, none_limit, excess_none, none_excess, short_lets, no_long_let}
+use Rattle.safl_typing.proofs.Limits.{none_both, limit_none, none_limit, excess_none, none_excess, short_lets, no_long_let}
 use Rattle.safl_typing.proofs.Formed.{width_wide, formed_range, params_wide, heads_wide}
+
+pub as_many : (all : List Head) (n u w lo hi : ℕ) (ds : List Definition) (fs : List FunctionForm) → AreFunctionsOf all n u w lo hi ds fs → length fs ≡ length ds
+as_many all n u w lo hi [] [] h = refl
+as_many all n u w lo hi [] (f ∷ fs) h = absurd h
+as_many all n u w lo hi (d ∷ ds) [] h = absurd h
+as_many all n u w lo hi (d ∷ ds) (f ∷ fs) (m, is, j, rest) = ap (λ k. suc k) (as_many all (suc n) (unit_of n u d) d.width m hi ds fs rest)
 
 -- ---- heads
 
@@ -63,8 +70,8 @@ head_is earlier w d e =
 
 is_head : (earlier : List (List ℕ)) (w : ℕ) (d : Definition) → IsHead earlier w d → head_fault earlier w d ≡ None
 is_head earlier w d h =
-    both_none _ _ (rw h.fresh refl)
-    (both_none _ _ (needs_gives _ _ (eq-eqb w d.width h.width))
+    neither _ _ (rw h.fresh refl)
+    (neither _ _ (needs_gives _ _ (eq-eqb w d.width h.width))
     (differ_repeat [] (placed_params d) (subst Differ (names_of_params d.params) h.params) (λ i j name p q. absurd cc)))
 
 -- a head that has no fault, and what is left to look at in its group
@@ -95,11 +102,6 @@ pub record IsWalked (all : List Head) (earlier : List (List ℕ)) (n u w lo plac
   pub apart : Apart earlier (function_names ds)
   pub few_sites : last ≤ sites_max
   pub few_nodes : placed_nodes + nodes_of ds ≤ nodes_max
-
--- a name that is not among the earlier ones goes before names that differ from it
-first_apart : (x : List ℕ) (earlier xs : List (List ℕ)) → list_any (bytes_eq x) earlier ≡ false → Apart (x ∷ earlier) xs → Apart earlier (x ∷ xs)
-first_apart x earlier xs q a i zero name g h = not_seen x earlier i q (g ∙ sym h)
-first_apart x earlier xs q a i (suc j) name g h = a (suc i) j name g h
 
 walked : (all : List Head) (earlier : List (List ℕ)) (n u w lo placed_sites placed_nodes : ℕ) (ds : List Definition) (fs : List FunctionForm)
     → WideHeads all → AreFormedDefinitions ds → lo ≡ suc placed_sites → placed_sites ≤ sites_max → placed_nodes ≤ nodes_max
@@ -148,7 +150,7 @@ walked all earlier n u w lo ps pn (d ∷ ds) fs wh form at few_sites few_nodes l
       last = rest.last;
       functions = (lo + sites known body, is, o.joined, rest.functions);
       differ = differ_first d.name (function_names ds) rest.differ (λ j g. rest.apart 0 j d.name refl g);
-      apart = first_apart d.name earlier (function_names ds) o.head.fresh rest.apart;
+      apart = apart_rest d.name earlier (function_names ds) o.head.fresh rest.apart;
       few_sites = rest.few_sites;
       few_nodes = omega (arith, rest.few_nodes);
     })
@@ -216,10 +218,10 @@ limits_kept all n u w lo hi ps pn (d ∷ ds) (f ∷ fs) at few_sites few_nodes (
     let in_nodes : pn + nodes body ≤ nodes_max = omega (arith, few_nodes) in
     let next : m ≡ suc (ps + sites known body) = omega (arith, ends, at) in
     let left : pn + nodes body + nodes_of ds ≤ nodes_max = omega (arith, few_nodes) in
-    both_none _ _ (limit_none _ _ _ (excess_none params_max _ (subst (λ (z : ℕ). z ≤ params_max) (sym (places_length d.params)) is.few_params)))
-    (both_none _ _ (limit_none _ _ _ (short_lets body is.short_lets))
-    (both_none _ _ (needs_gives _ _ (le-leb _ _ in_sites))
-    (both_none _ _ (needs_gives _ _ (le-leb _ _ in_nodes))
+    neither _ _ (limit_none _ _ _ (excess_none params_max _ (subst (λ (z : ℕ). z ≤ params_max) (sym (places_length d.params)) is.few_params)))
+    (neither _ _ (limit_none _ _ _ (short_lets body is.short_lets))
+    (neither _ _ (needs_gives _ _ (le-leb _ _ in_sites))
+    (neither _ _ (needs_gives _ _ (le-leb _ _ in_nodes))
     (limits_kept all (suc n) (unit_of n u d) d.width m hi (ps + sites known body) (pn + nodes body) ds fs next few_sites left rest))))
 
 -- no head of the members that follow has a fault
@@ -233,13 +235,13 @@ joined_kept all earlier n u w lo hi (x ∷ ds) (f ∷ fs) (m, is, j, rest) d a =
     (apart_more x.name earlier (function_names ds) d a)))
   where
     by : (b : Bool) → x.joined ≡ b → (x.joined ≡ true → joined_faults (x.name ∷ earlier) w ds ≡ None) → cond b (or_else (head_fault earlier w x) (joined_faults (x.name ∷ earlier) w ds)) None ≡ None
-    by true q g = both_none _ _ (is_head earlier w x (record { fresh = unseen x.name earlier (function_names ds) a; width = sym (j q); params = is.params_differ })) (g q)
+    by true q g = neither _ _ (is_head earlier w x (record { fresh = unseen x.name earlier (function_names ds) a; width = sym (j q); params = is.params_differ })) (g q)
     by false q g = refl
 
 group_kept : (b : Bool) (earlier : List (List ℕ)) (d : Definition) (ds : List Definition) → IsHead earlier d.width d → joined_faults (d.name ∷ earlier) d.width ds ≡ None
     → cond b None (or_else (head_fault earlier d.width d) (joined_faults (d.name ∷ earlier) d.width ds)) ≡ None
 group_kept true earlier d ds h e = refl
-group_kept false earlier d ds h e = both_none _ _ (is_head earlier d.width d h) e
+group_kept false earlier d ds h e = neither _ _ (is_head earlier d.width d h) e
 
 function_parts : (x y : List ℕ) (ps qs : List Slot) (v w u t lo l : ℕ) (b : Term) → x ≡ y → ps ≡ qs → v ≡ w → u ≡ t → lo ≡ l
     → ◌≡◌ {A = FunctionForm} (record { name = x; params = ps; width = v; unit = u; first_site = lo; body = b }) (record { name = y; params = qs; width = w; unit = t; first_site = l; body = b })
@@ -277,7 +279,7 @@ is_main (d ∷ (c ∷ ds)) h = is_main (c ∷ ds) h
 pub form_walk : (ds : List Definition) (c : Form) → IsFormOf ds c → outcome ds ≡ Ok c
 unfolding outcome
 form_walk ds c h =
-    unless_gives _ _ _ (both_none _ _ (limit_none _ _ _ (excess_none functions_max _
+    unless_gives _ _ _ (neither _ _ (limit_none _ _ _ (excess_none functions_max _
     (subst (λ (n : ℕ). n ≤ functions_max) (sym (def_places_length ds)) h.few_functions)))
     (limits_kept (heads ds) 0 0 0 1 (suc h.last_site) 0 0 ds c.functions refl (omega (arith, h.few_sites)) (omega (arith, h.few_nodes)) h.functions))
     (after_gives _ _ c.functions _ (functions_kept (heads ds) [] 0 0 0 1 (suc h.last_site) 1 ds c.functions refl h.functions h.functions_differ (λ i j name p q. absurd cc))

@@ -2,6 +2,7 @@
 use Rattle.std.proofs.Common.{◌≡◌, ℕ, suc, List, [], ◌∷◌, ◌++◌, map, Option, Some, None, Bool, true, false, cond, refl, ap, ◌∙◌, subst, arith}
 use Rattle.std.specs.Str.{bytes_eq}
 use Rattle.std.proofs.lemmas.Nat.{pow_pos}
+use Rattle.std.proofs.lemmas.Option.{same_Some}
 use Rattle.safl_word.specs.Words.{Word, IsWord, AreWords}
 use Rattle.safl_word.specs.declared.primitive.Primitive.{Primitive}
 use Rattle.safl_word.specs.Primitives.{result_width, apply_prim}
@@ -11,7 +12,6 @@ use Rattle.safl_typing.specs.Rewriting.{Bindings, no_binding, a_binding}
 use Rattle.safl_typing.specs.Heads.{Slot, Head, Known, Numbered, first_head, Callee, Member, Above, Unknown, member_or, callee}
 use Rattle.safl_typing.specs.Typing.{At, later, innermost, slots, word, widths_of}
 use Rattle.safl_typing.specs.Ranges.{IsWide, AreWide, WideSlots, IsWideHead, WideHeads}
-use Rattle.safl_typing.proofs.Names.{some_is}
 
 pub one_wide : IsWide 1
 one_wide = record { some = omega arith; bounded = omega arith }
@@ -54,7 +54,7 @@ later_wide (Some a) b c e f g = f e
 later_wide None b c e f g = g e
 
 here_wide : (b : Bool) (i w : ℕ) (c : At) → cond b (Some (record { slot = i; width = w })) None ≡ Some c → IsWide w → IsWide c.width
-here_wide true i w c e h = subst IsWide (ap (λ (a : At). a.width) (some_is (record { slot = i; width = w }) c e)) h
+here_wide true i w c e h = subst IsWide (ap (λ (a : At). a.width) (same_Some (record { slot = i; width = w }) c e)) h
 here_wide false i w c e h = absurd cc
 
 pub innermost_wide : (x : List ℕ) (i : ℕ) (s : List Slot) (a : At) → WideSlots s → innermost x i s ≡ Some a → IsWide a.width
@@ -64,7 +64,7 @@ innermost_wide x i (v ∷ vs) a h e =
 
 head_here : (b : Bool) (n : ℕ) (h : Head) (rest : Option Numbered) (m : Numbered) → cond b (Some (record { number = n; head = h })) rest ≡ Some m →
     IsWideHead h → (rest ≡ Some m → IsWideHead m.head) → IsWideHead m.head
-head_here true n h rest m e w f = subst IsWideHead (ap (λ (z : Numbered). z.head) (some_is (record { number = n; head = h }) m e)) w
+head_here true n h rest m e w f = subst IsWideHead (ap (λ (z : Numbered). z.head) (same_Some (record { number = n; head = h }) m e)) w
 head_here false n h rest m e w f = f e
 
 first_wide : (test : Head → Bool) (n : ℕ) (hs : List Head) (m : Numbered) → WideHeads hs → first_head test n hs ≡ Some m → IsWideHead m.head

@@ -3,6 +3,8 @@ use Rattle.std.proofs.Common.{◌≡◌, ℕ, suc, ◌+◌, ◌<◌, List, [], �
 use Rattle.std.specs.Prelude.{slice_get, ◌==◌, nat_lt, ◌&&◌}
 use Rattle.std.specs.Str.{bytes_eq}
 use Rattle.std.proofs.lemmas.Bool.{eq-eqb, eqb-true, ltb-true}
+use Rattle.std.proofs.lemmas.Option.{same_Some}
+use Rattle.std.specs.Cmp.{first_so}
 use Rattle.safl_word.specs.declared.primitive.Primitive.{Primitive}
 use Rattle.safl_word.specs.declared.primitive.Primitive.TheVariants.{Add, Sub, Mul, And, Or, Xor, Not, Eq, Ne, Lt, Le, Gt, Ge, Shl, Shr, Cat, Bits, Ext}
 use Rattle.safl_word.specs.Primitives.{is_width, result_width, equal_widths, compared_widths, one_width, two_widths}
@@ -19,7 +21,6 @@ use Rattle.safl_typing.specs.Rewriting.{no_binding, a_binding, shape, count, rew
 use Rattle.safl_typing.specs.Heads.{Slot, Head, Known, Numbered, first_head, Callee, Member, Above, Unknown, member_or, callee}
 use Rattle.safl_typing.specs.Typing.{At, later, innermost, widths_of, slots, AreAll, Shifts, Suits, Calls, Has, HaveAll, HaveBound}
 use Rattle.safl_typing.specs.Ranges.{IsWide, AreWide, WideSlots, WideHeads}
-use Rattle.safl_typing.proofs.Names.{some_is}
 use Rattle.safl_typing.proofs.Wide.{WideCallee, table_wide, wide_append, wide_slots, innermost_wide, callee_wide}
 use Rattle.safl_typing.proofs.Complete.{have_many, many_length}
 
@@ -177,7 +178,7 @@ later_at (Some a) b c P e f g = f e
 later_at None b c P e f g = g e
 
 here_at : (b : Bool) (x a : At) → cond b (Some x) None ≡ Some a → x ≡ a
-here_at true x a e = some_is x a e
+here_at true x a e = same_Some x a e
 here_at false x a e = absurd cc
 
 pub innermost_at : (x : List ℕ) (n : ℕ) (s : List Slot) (a : At) → innermost x n s ≡ Some a → IsSlotOf s n a
@@ -195,7 +196,7 @@ pub record IsHeadAt (test : Head → Bool) (n : ℕ) (hs : List Head) (m : Numbe
   pub passes : test m.head ≡ true
 
 first_here : (b : Bool) (x m : Numbered) (rest : Option Numbered) (P : Type 0) → cond b (Some x) rest ≡ Some m → ((b ≡ true) × (x ≡ m) → P) → (rest ≡ Some m → P) → P
-first_here true x m rest P e f g = f (refl, some_is x m e)
+first_here true x m rest P e f g = f (refl, same_Some x m e)
 first_here false x m rest P e f g = g e
 
 pub first_at : (test : Head → Bool) (n : ℕ) (hs : List Head) (m : Numbered) → first_head test n hs ≡ Some m → IsHeadAt test n hs m
@@ -227,14 +228,10 @@ member_at k None None f g = tt
 number_is : (test : Head → Bool) (hs : List Head) (m : Numbered) → IsHeadAt test 0 hs m → slice_get hs m.number ≡ Some m.head
 number_is test hs m h = subst (λ (i : ℕ). slice_get hs i ≡ Some m.head) (omega (arith, h.number)) h.head
 
-first_part : (a b : Bool) → (a && b) ≡ true → a ≡ true
-first_part true b e = refl
-first_part false b e = absurd cc
-
 pub callee_at : (k : Known) (f : List ℕ) → CalleeAt k (callee k f)
 callee_at k f = member_at k _ _
-    (λ m e. let r = first_at (λ (h : Head). h.unit == k.unit && bytes_eq h.name f) 0 k.heads m e in (number_is _ k.heads m r, eqb-true m.head.unit k.unit (first_part _ _ r.passes)))
-    (λ m e. let r = first_at (λ (h : Head). nat_lt h.unit k.unit && bytes_eq h.name f) 0 k.heads m e in (number_is _ k.heads m r, ltb-true m.head.unit k.unit (first_part _ _ r.passes)))
+    (λ m e. let r = first_at (λ (h : Head). h.unit == k.unit && bytes_eq h.name f) 0 k.heads m e in (number_is _ k.heads m r, eqb-true m.head.unit k.unit (first_so _ _ r.passes)))
+    (λ m e. let r = first_at (λ (h : Head). nat_lt h.unit k.unit && bytes_eq h.name f) 0 k.heads m e in (number_is _ k.heads m r, ltb-true m.head.unit k.unit (first_so _ _ r.passes)))
 
 -- ---- terms
 

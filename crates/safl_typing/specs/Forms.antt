@@ -138,3 +138,7 @@ pub record IsFormOf (ds : List Definition) (c : Form) : Type 0 where
   pub few_functions : length ds ≤ functions_max
   pub few_sites : last_site ≤ sites_max
   pub few_nodes : nodes_of ds ≤ nodes_max
+
+-- the definitions have a numbered form
+abbrev pub HasForm : List Definition → Type 0
+HasForm ds = (c : Form) × IsFormOf ds c

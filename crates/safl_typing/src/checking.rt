@@ -22,13 +22,13 @@ use crate::context::Context;
 use crate::expression::{Bound, Expression};
 use crate::heads::{Callee, Head, Slot, find_callee};
 use crate::marks::{add_bound_sites, add_sites, are_both_flexible, is_flexible};
+use crate::repeats::find_repeated;
+use crate::scope::{Scope, count};
+use crate::shape::{Shape, shape_of};
 use crate::terms::{
     TypedAlike, TypedAll, make_if, make_let, make_operation, none_alike, none_typed, own_slots,
     put_first, put_operand, settled_call, settled_loop, settled_operation,
 };
-use crate::repeats::find_repeated;
-use crate::scope::{Scope, count};
-use crate::shape::{Shape, shape_of};
 use crate::typed::{
     CheckErr, Typed, Wanted, as_written, comes_later, has_width, refused, typed_number,
     typed_sized, typed_variable,

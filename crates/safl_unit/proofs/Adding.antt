@@ -3,9 +3,9 @@ use Rattle.std.proofs.Common.{◌≡◌, ℕ, zero, suc, ◌<◌, ◌≤◌, Lis
 use Rattle.safl_term.specs.Names.{Names}
 use Rattle.std.proofs.Common.{slice_get, bytes_eq, refl, sym, ap, subst, ◌∙◌, arith, append_assoc}
 use Rattle.std.specs.Prelude.{codes}
-use Rattle.std.proofs.lemmas.List.{append-nil}
+use Rattle.std.proofs.lemmas.List.{append-nil, map-append}
 use Rattle.std.proofs.lemmas.Slice.Eq.{bytes_eq-Decides}
-use Rattle.std.proofs.lemmas.Bool.{eqb-true, eqb-false}
+use Rattle.std.proofs.lemmas.Bool.{eqb-true, eqb-false, eq-eqb}
 use Rattle.std.proofs.lemmas.Bool.Decides.{nat_tests}
 use Rattle.safl_term.specs.Program.{Program}
 use Rattle.safl_term.specs.Checked.{CheckedProgram, IsChecked}
@@ -18,7 +18,7 @@ use Rattle.safl_circuit.specs.Names.{of_function, of_site}
 use Rattle.safl_circuit.specs.Layout.{Line, lines, site_lines, site_wires, layout_inputs, layout_wires}
 use Rattle.safl_unit.specs.Finished.{input_line, open_register, open_wire}
 use Rattle.safl_unit.specs.Declaring.{with_signals, MayAdd, unit_head, function_lines, port_lines, arbiter_line}
-use Rattle.safl_unit.proofs.Declaring.{map_more, lines_on}
+use Rattle.safl_unit.proofs.Declaring.{lines_on}
 use Rattle.safl_unit.proofs.Apart.{Each, Other, Differ, Between, each_weaker}
 use Rattle.safl_unit.proofs.Titles.{titled, all_lines, all_heads, all_differ}
 
@@ -68,10 +68,10 @@ parted (x ∷ ls) (suc i) l e = let b = parted ls i l e in (b.0, ap (λ y. x ∷
 
 module _ (f : Line → Signal) where
   pub lines_first : (n : Netlist) (xs ys : List Line) → MayAdd n (map f (xs ++ ys)) → MayAdd n (map f xs)
-  lines_first n xs ys h = may_first n (map f xs) (map f ys) (subst (MayAdd n) (map_more f xs ys) h)
+  lines_first n xs ys h = may_first n (map f xs) (map f ys) (subst (MayAdd n) (map-append f xs ys) h)
 
   pub lines_rest : (n m : Netlist) (xs ys : List Line) → MayAdd n (map f (xs ++ ys)) → m ≡ with_signals n (map f xs) → MayAdd m (map f ys)
-  lines_rest n m xs ys h e = may_rest n m (map f xs) (map f ys) (subst (MayAdd n) (map_more f xs ys) h) e
+  lines_rest n m xs ys h e = may_rest n m (map f xs) (map f ys) (subst (MayAdd n) (map-append f xs ys) h) e
 
   pub lines_if : (n : Netlist) (b : Bool) (ls : List Line) → b ≡ true → MayAdd n (map f (cond b ls [])) → MayAdd n (map f ls)
   lines_if n true ls e h = h
@@ -92,12 +92,9 @@ module _ (f : Line → Signal) where
   line_at n m ls i l e h q =
       let b = parted ls i l e in
       ap (λ (k : Netlist). refusal k (f l).name) q
-      ∙ h.each (map f (take i ls)) (map f b.0) (f l) (ap (map f) b.1 ∙ map_more f (take i ls) (l ∷ b.0))
+      ∙ h.each (map f (take i ls)) (map f b.0) (f l) (ap (map f) b.1 ∙ map-append f (take i ls) (l ∷ b.0))
 
 -- ---- the lines of a unit, of a function and of a site
-
-same_number : (a b : ℕ) → a ≡ b → (a == b) ≡ true
-same_number a b e = grind (arith, nat_tests)
 
 some_number : (k : ℕ) → 1 ≤ k → nat_lt 0 k ≡ true
 some_number k l = grind (arith, nat_tests)
@@ -107,7 +104,7 @@ module _ (C : Program) (D : Names) (P : Choice) (n : Netlist) where
       → MayAdd n (open_register (of_function D (codes "run$") f, 1) ∷ open_register (of_function D (codes "fin$") f, 1) ∷ open_register (of_function D (codes "res$") f, C.result f) ∷ [])
   may_unit f e h =
       lines_if open_register n (C.unit f == f) ((of_function D (codes "run$") f, 1) ∷ (of_function D (codes "fin$") f, 1) ∷
-      (of_function D (codes "res$") f, C.result f) ∷ []) (same_number (C.unit f) f e) h
+      (of_function D (codes "res$") f, C.result f) ∷ []) (eq-eqb (C.unit f) f e) h
 
   pub may_site : (k : ℕ) → 1 ≤ k → MayAdd n (map open_register (site_lines C P k))
       → MayAdd n (open_register (of_site (codes "sent$") k, 1) ∷ open_register (of_site (codes "got$") k, 1) ∷ map open_register
@@ -179,10 +176,10 @@ module _ (c : CheckedProgram) (checked : IsChecked c) (P : Choice) where
 
   pub lines_are : lines_of signals ≡ all_lines C D P (titled c checked)
   lines_are =
-      map_more (λ (g : Signal). (g.name, g.width)) (map input_line (layout_inputs C D)) (map open_register registers ++ map open_wire (layout_wires C D P))
+      map-append (λ (g : Signal). (g.name, g.width)) (map input_line (layout_inputs C D)) (map open_register registers ++ map open_wire (layout_wires C D P))
       ∙ ap (λ l. l ++ lines_of (map open_register registers ++ map open_wire (layout_wires C D P))) (lines_back input_line (layout_inputs C D) (λ l. refl))
       ∙ ap (λ l. layout_inputs C D ++ l)
-      (map_more (λ (g : Signal). (g.name, g.width)) (map open_register registers) (map open_wire (layout_wires C D P))
+      (map-append (λ (g : Signal). (g.name, g.width)) (map open_register registers) (map open_wire (layout_wires C D P))
       ∙ ap (λ l. l ++ lines_of (map open_wire (layout_wires C D P))) (lines_back open_register registers (λ l. refl))
       ∙ ap (λ l. registers ++ l) (lines_back open_wire (layout_wires C D P) (λ l. refl)))
 

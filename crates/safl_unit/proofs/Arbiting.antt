@@ -1,11 +1,16 @@
 -- The sites of a unit in a row, one by one.
-use Rattle.std.proofs.Common.{◌≡◌, ℕ, zero, suc, ◌+◌, ◌-◌, ◌<◌, ◌≤◌, ◌==◌, ◌||◌, ◌&&◌, List, [], ◌∷◌, ◌++◌, length, length-append, map, take, cond}
+use Rattle.std.proofs.Common.{◌≡◌, ℕ, zero, suc, ◌+◌, ◌-◌, ◌<◌, ◌≤◌, ◌==◌, ◌||◌, ◌&&◌, List, [], ◌∷◌, ◌++◌, length, length-append, map, take, cond, append_assoc}
 use Rattle.safl_sites.specs.Plan.{Choice}
 use Rattle.std.proofs.Common.{not, ◌⊎◌, Bool, true, false, Option, Some, Vec, Global, is_some, slice_get, slice_index_or, inl, inr, refl, sym, ap}
 use Rattle.std.proofs.Common.{subst, ◌∙◌, add-one, arith}
 use Rattle.std.proofs.lemmas.Bool.{eq-eqb, ne_eqb, cases_eq}
 use Rattle.std.proofs.lemmas.Option.{slice_get_read}
 use Rattle.std.proofs.Math.Seq.{take-append_seam}
+use Rattle.std.proofs.Math.Bool.{or-false}
+use Rattle.std.proofs.lemmas.List.{length-map}
+use Rattle.safl_word.specs.Lists.{summed}
+use Rattle.safl_word.proofs.Lists.{get_end, get_in_front, get_pushed, get_some, nil_at_end}
+use Rattle.safl_word.proofs.Naturals.{eq_flip}
 use Rattle.safl_term.specs.Checked.{CheckedProgram, IsChecked}
 use Rattle.safl_term.specs.Program.{Program, unit_for}
 use Rattle.safl_calls.specs.Picks.{first}
@@ -13,7 +18,6 @@ use Rattle.safl_net.specs.declared.cell.Sig.{Sig}
 use Rattle.safl_net.specs.Netlist.{Netlist}
 use Rattle.safl_net.specs.Growth.{Val, Wired}
 use Rattle.safl_net.proofs.Growth.{wired_before}
-use Rattle.safl_net.proofs.Naming.{pushed}
 use Rattle.safl_net.specs.Bits.{on}
 use Rattle.safl_circuit.specs.Equations.{Registers, Inputs, want, wants_at, go}
 use Rattle.safl_lower.specs.declared.loads.Load.{Load}
@@ -22,9 +26,8 @@ use Rattle.safl_lower.specs.Sources.{IsSource, Builds}
 use Rattle.safl_lower.specs.Rows.{AreBits, on_any, frees, row_in, row_at}
 use Rattle.safl_lower.proofs.JoinedRows.{any_append, row_kept, row_free, frees_long, bits_push}
 use Rattle.safl_unit.specs.declared.pins.UnitPins.{UnitPins}
-use Rattle.safl_unit.proofs.Tables.{get_same, get_end}
-use Rattle.safl_unit.specs.Arbiters.{want_at, site_row, tally, RowsFree}
-use Rattle.safl_unit.proofs.Granting.{first_of, next_of, same_test, site_go, want_shown}
+use Rattle.safl_unit.specs.Arbiters.{want_at, site_row, RowsFree}
+use Rattle.safl_unit.proofs.Granting.{first_of, next_of, site_go, want_shown}
 use Rattle.safl_unit.specs.Stages.{called}
 
 pub row_zero : (C : Program) (ls : List Load) (u : ℕ) → site_row C ls u 0 ≡ []
@@ -44,7 +47,7 @@ no_rank xs x m q e f = let g = ap (λ (l : List ℕ). slice_get l (suc m)) e in 
 -- a rank more
 pub more_ranks : (R : ℕ → ℕ) (xs ys : List ℕ) (m r : ℕ) → ys ≡ xs ++ r ∷ [] → length xs ≡ suc m → r ≡ R m →
     ((j q : ℕ) → slice_get xs (suc j) ≡ Some q → q ≡ R j) → (j q : ℕ) → slice_get ys (suc j) ≡ Some q → q ≡ R j
-more_ranks R xs ys m r e l f h j q g = elim (pushed xs r q (suc j) (subst (λ (k : List ℕ). slice_get k (suc j) ≡ Some q) e g)) [
+more_ranks R xs ys m r e l f h j q g = elim (get_pushed xs r q (suc j) (subst (λ (k : List ℕ). slice_get k (suc j) ≡ Some q) e g)) [
   | inl k ↦ h j q k
   | inr k ↦ let at : j ≡ m = let a = k.0 in omega (arith, a, l) in k.1 ∙ f ∙ ap R (sym at)
 ]
@@ -54,12 +57,8 @@ row_there rows u row xs l e f = f ∙ sym (ap row_in (slice_get_read rows (lengt
 
 -- ---- a row shows which of its sites want
 
-or_none : (b : Bool) → (b || false) ≡ b
-or_none true = refl
-or_none false = refl
-
 one_more : (v : Val) (t : Bool) (s : Sig) (w : Bool) → on v s ≡ w → on_any v (cond t (s ∷ []) []) ≡ (t && w)
-one_more v true s w e = or_none (on v s) ∙ e
+one_more v true s w e = or-false (on v s) ∙ e
 one_more v false s w e = refl
 
 module _ (C : Program) (P : Choice) (r : Registers) (v : Val) (ls : List Load) (u : ℕ) (wants : (k : ℕ) → k < C.sites → on v (want_at ls (suc k)) ≡ want C P r (suc k)) where
@@ -69,24 +68,15 @@ module _ (C : Program) (P : Choice) (r : Registers) (v : Val) (ls : List Load) (
       ap (on_any v) (row_suc C ls u m) ∙ any_append v (site_row C ls u m) (cond (u == unit_for C (suc m)) (want_at ls (suc m) ∷ []) [])
       ∙ ap (λ (b : Bool). b || on_any v (cond (u == unit_for C (suc m)) (want_at ls (suc m) ∷ []) [])) (row_wants m (omega (arith, l)))
       ∙ ap (λ (b : Bool). is_some (first (wants_at C P r u) (suc m)) || b) (one_more v (u == unit_for C (suc m)) (want_at ls (suc m)) (want C P r (suc m)) (wants m (omega (arith, l))))
-      ∙ ap (λ (b : Bool). is_some (first (wants_at C P r u) (suc m)) || (b && want C P r (suc m))) (same_test u (unit_for C (suc m)))
+      ∙ ap (λ (b : Bool). is_some (first (wants_at C P r u) (suc m)) || (b && want C P r (suc m))) (eq_flip u (unit_for C (suc m)))
       ∙ sym (next_of C P r u m)
 
--- the sites up to a number come first in the row
-append_twice : (xs ys zs : List Sig) → (xs ++ ys) ++ zs ≡ xs ++ (ys ++ zs)
-append_twice [] ys zs = refl
-append_twice (x ∷ xs) ys zs = ap (λ (l : List Sig). x ∷ l) (append_twice xs ys zs)
-
-append_none : (xs : List Sig) → xs ≡ xs ++ []
-append_none [] = refl
-append_none (x ∷ xs) = ap (λ (l : List Sig). x ∷ l) (append_none xs)
-
 pub row_front : (C : Program) (ls : List Load) (u m n : ℕ) → (more : List Sig) × (site_row C ls u (m + n) ≡ site_row C ls u m ++ more)
-row_front C ls u m zero = ([], ap (site_row C ls u) (omega arith) ∙ append_none (site_row C ls u m))
+row_front C ls u m zero = ([], ap (site_row C ls u) (omega arith) ∙ nil_at_end (site_row C ls u m))
 row_front C ls u m (suc n) =
     let h = row_front C ls u m n in
     let t = cond (u == unit_for C (suc (m + n))) (want_at ls (suc (m + n)) ∷ []) [] in
-    (h.0 ++ t, ap (site_row C ls u) (omega arith) ∙ row_suc C ls u (m + n) ∙ ap (λ (l : List Sig). l ++ t) h.1 ∙ append_twice (site_row C ls u m) h.0 t)
+    (h.0 ++ t, ap (site_row C ls u) (omega arith) ∙ row_suc C ls u (m + n) ∙ ap (λ (l : List Sig). l ++ t) h.1 ∙ append_assoc (site_row C ls u m) h.0 t)
 
 pub row_take : (C : Program) (ls : List Load) (u m n : ℕ) → m ≤ n → take (length (site_row C ls u m)) (site_row C ls u n) ≡ site_row C ls u m
 row_take C ls u m n l =
@@ -97,35 +87,29 @@ row_take C ls u m n l =
 
 -- ---- sums
 
-pub tally_next : (g : ℕ → ℕ) (n : ℕ) → tally g (n + 1) ≡ tally g n + g n
-unfolding tally
-tally_next g n = ap (tally g) (add-one n)
-
-tally_none : (g : ℕ → ℕ) → tally g 0 ≡ 0
-unfolding tally
+tally_none : (g : ℕ → ℕ) → summed g 0 ≡ 0
 tally_none g = refl
 
-tally_suc : (g : ℕ → ℕ) (n : ℕ) → tally g (suc n) ≡ tally g n + g n
-unfolding tally
+tally_suc : (g : ℕ → ℕ) (n : ℕ) → summed g (suc n) ≡ summed g n + g n
 tally_suc g n = refl
 
-room_by : (g : ℕ → ℕ) (m n : ℕ) → (m < n → tally g m + g m ≤ tally g n) → m < suc n → (m ≡ n) ⊎ (m ≡ n → ⊥) → tally g m + g m ≤ tally g (suc n)
-room_by g m n h l (inl e) = let a = tally_suc g n in let b = ap (tally g) e in let d = ap g e in omega (arith, a, b, d)
+room_by : (g : ℕ → ℕ) (m n : ℕ) → (m < n → summed g m + g m ≤ summed g n) → m < suc n → (m ≡ n) ⊎ (m ≡ n → ⊥) → summed g m + g m ≤ summed g (suc n)
+room_by g m n h l (inl e) = let a = tally_suc g n in let b = ap (summed g) e in let d = ap g e in omega (arith, a, b, d)
 room_by g m n h l (inr e) = let k = h (omega (arith, l, e)) in let a = tally_suc g n in omega (arith, k, a)
 
-pub tally_room : (g : ℕ → ℕ) (m n : ℕ) → m < n → tally g m + g m ≤ tally g n
+pub tally_room : (g : ℕ → ℕ) (m n : ℕ) → m < n → summed g m + g m ≤ summed g n
 tally_room g m zero l = absurd (omega (arith, l))
 tally_room g m (suc n) l = room_by g m n (tally_room g m n) l (cases_eq m n)
 
-pub tally_cong : (g h : ℕ → ℕ) (n : ℕ) → ((u : ℕ) → g u ≡ h u) → tally g n ≡ tally h n
+pub tally_cong : (g h : ℕ → ℕ) (n : ℕ) → ((u : ℕ) → g u ≡ h u) → summed g n ≡ summed h n
 tally_cong g h zero e = tally_none g ∙ sym (tally_none h)
 tally_cong g h (suc n) e = let a = tally_suc g n in let b = tally_suc h n in let d = tally_cong g h n e in let f = e n in omega (arith, a, b, d, f)
 
-tally_sum : (g h : ℕ → ℕ) (n : ℕ) → tally (λ u. g u + h u) n ≡ tally g n + tally h n
+tally_sum : (g h : ℕ → ℕ) (n : ℕ) → summed (λ u. g u + h u) n ≡ summed g n + summed h n
 tally_sum g h zero = let a = tally_none (λ u. g u + h u) in let b = tally_none g in let d = tally_none h in omega (arith, a, b, d)
 tally_sum g h (suc n) = let a = tally_suc (λ u. g u + h u) n in let b = tally_suc g n in let d = tally_suc h n in let e = tally_sum g h n in omega (arith, a, b, d, e)
 
-tally_one_none : (k n : ℕ) → n ≤ k → tally (λ u. cond (u == k) 1 0) n ≡ 0
+tally_one_none : (k n : ℕ) → n ≤ k → summed (λ u. cond (u == k) 1 0) n ≡ 0
 tally_one_none k zero l = tally_none (λ u. cond (u == k) 1 0)
 tally_one_none k (suc n) l =
     let a = tally_suc (λ u. cond (u == k) 1 0) n in
@@ -137,11 +121,11 @@ one_at_most : (t : Bool) → cond t 1 0 ≤ 1
 one_at_most true = omega arith
 one_at_most false = omega arith
 
-one_by : (k n : ℕ) → tally (λ u. cond (u == k) 1 0) n ≤ 1 → (n ≡ k) ⊎ (n ≡ k → ⊥) → tally (λ u. cond (u == k) 1 0) (suc n) ≤ 1
+one_by : (k n : ℕ) → summed (λ u. cond (u == k) 1 0) n ≤ 1 → (n ≡ k) ⊎ (n ≡ k → ⊥) → summed (λ u. cond (u == k) 1 0) (suc n) ≤ 1
 one_by k n h (inl e) = let a = tally_suc (λ u. cond (u == k) 1 0) n in let b = tally_one_none k n (omega (arith, e)) in let d = one_at_most (n == k) in omega (arith, a, b, d)
 one_by k n h (inr e) = let a = tally_suc (λ u. cond (u == k) 1 0) n in let d = ap {B = ℕ} (λ (t : Bool). cond t 1 0) (ne_eqb n k e) in omega (arith, a, h, d)
 
-tally_one : (k n : ℕ) → tally (λ u. cond (u == k) 1 0) n ≤ 1
+tally_one : (k n : ℕ) → summed (λ u. cond (u == k) 1 0) n ≤ 1
 tally_one k zero = let a = tally_none (λ u. cond (u == k) 1 0) in omega (arith, a)
 tally_one k (suc n) = one_by k n (tally_one k n) (cases_eq n k)
 
@@ -149,13 +133,13 @@ one_long : (t : Bool) (s : Sig) → length (cond t (s ∷ []) []) ≡ cond t 1 0
 one_long true s = refl
 one_long false s = refl
 
-pub rows_tally : (C : Program) (ls : List Load) (m n : ℕ) → tally (λ u. length (site_row C ls u m)) n ≤ m
+pub rows_tally : (C : Program) (ls : List Load) (m n : ℕ) → summed (λ u. length (site_row C ls u m)) n ≤ m
 rows_tally C ls zero n =
     let a = tally_cong (λ u. length (site_row C ls u 0)) (λ u. 0) n (λ u. ap (λ (l : List Sig). length l) (row_zero C ls u)) in
     let b = nothing n in
     omega (arith, a, b)
   where
-    nothing : (n : ℕ) → tally (λ u. 0) n ≡ 0
+    nothing : (n : ℕ) → summed (λ u. 0) n ≡ 0
     nothing zero = tally_none (λ u. 0)
     nothing (suc n) = let a = tally_suc (λ u. 0) n in let b = nothing n in omega (arith, a, b)
 rows_tally C ls (suc m) n =
@@ -197,7 +181,7 @@ rows_more C P a b k us rows out after m r y built h e q g o f = subst (λ (l : L
         ap (λ (x : Option (Vec Sig Global)). length (row_in x)) there ∙ o (ap (λ (i : ℕ). P.arbiter (C.unit i)) (sym z) ∙ t) ∙ ap (λ (i : ℕ). length (row_at rows i)) (sym z)
     own u l t (inr z) =
         let i = h.count in
-        ap (λ (x : Option (Vec Sig Global)). length (row_in x)) (get_same out (r ∷ []) u (omega (arith, l, z, i))) ∙ h.long u (omega (arith, l, z)) t
+        ap (λ (x : Option (Vec Sig Global)). length (row_in x)) (get_in_front out (r ∷ []) u (omega (arith, l, z, i))) ∙ h.long u (omega (arith, l, z)) t
 
     by : (v : Val) → Wired b v → (u : ℕ) (x : UnitPins) → u < m + 1 → slice_get us u ≡ Some x → P.arbiter (C.unit u) ≡ true → (u ≡ m) ⊎ (u ≡ m → ⊥) →
         map (on v) (row_at (out ++ r ∷ []) u) ≡ frees v (not (on v x.run)) (row_at rows u)
@@ -208,18 +192,9 @@ rows_more C P a b k us rows out after m r y built h e q g o f = subst (λ (l : L
         ∙ ap (λ (i : UnitPins). frees v (not (on v i.run)) (row_at rows m)) same ∙ ap (λ (i : ℕ). frees v (not (on v x.run)) (row_at rows i)) (sym z)
     by v w u x l s t (inr z) =
         let i = h.count in
-        ap (λ (o : Option (Vec Sig Global)). map (on v) (row_in o)) (get_same out (r ∷ []) u (omega (arith, l, z, i))) ∙ h.shows v (wired_before built.grows w) u x (omega (arith, l, z)) s t
+        ap (λ (o : Option (Vec Sig Global)). map (on v) (row_in o)) (get_in_front out (r ∷ []) u (omega (arith, l, z, i))) ∙ h.shows v (wired_before built.grows w) u x (omega (arith, l, z)) s t
 
 -- ---- what is free for a site
-
-map_long : {A B : Type 0} (g : A → B) (xs : List A) → length (map g xs) ≡ length xs
-map_long g [] = refl
-map_long g (x ∷ xs) = let h = map_long g xs in omega (arith, h)
-
-pub there : {A : Type 0} (xs : List A) (i : ℕ) → i < length xs → (s : A) × (slice_get xs i ≡ Some s)
-there [] i l = absurd (omega (arith, l))
-there (x ∷ xs) zero l = (x, refl)
-there (x ∷ xs) (suc i) l = there xs i (omega (arith, l))
 
 pub row_long : (C : Program) (ls : List Load) (u m : ℕ) → m < C.sites → u ≡ unit_for C (suc m) → length (site_row C ls u m) < length (site_row C ls u C.sites)
 row_long C ls u m l e =
@@ -245,11 +220,11 @@ module _ (C : Program) (P : Choice) (r : Registers) (i : Inputs) (v : Val) (n : 
       let u = unit_for C (suc m) in
       let e = h.shows v w u x within at (ap P.arbiter first_is ∙ t) in
       let a = ap (λ (k : List Bool). length k) e in
-      let b = map_long (on v) (row_at out u) in
+      let b = length-map (row_at out u) (on v) in
       let d = frees_long v (not (on v x.run)) (row_at rows u) in
       let f = ap (λ (k : List Sig). length k) (is u) in
       let g = row_long C ls u m l refl in
-      let s = there (row_at out u) rank (omega (arith, a, b, d, f, g, ranked)) in
+      let s = get_some (row_at out u) rank (omega (arith, a, b, d, f, g, ranked)) in
       ap (on_in v) s.1 ∙ row_free v (not (on v x.run)) (row_at rows u) (row_at out u) rank s.0 e (omega (arith, f, g, ranked)) s.1
       ∙ ap (λ (k : Bool). not k && not (on_any v (take rank (row_at rows u)))) runs
       ∙ ap (λ (k : List Sig). not (r.run u) && not (on_any v k)) (ap (take rank) (is u) ∙ ap (λ (k : ℕ). take k (site_row C ls u C.sites)) ranked ∙ row_take C ls u m C.sites (omega (arith, l)))
@@ -269,7 +244,7 @@ module _ (C : Program) (P : Choice) (r : Registers) (i : Inputs) (v : Val) (n : 
 -- ---- the wants of sites
 
 pub want_fits : (n : Netlist) (ls : List Load) (ws : ℕ → List ℕ) (sites k : ℕ) → LoadsFit n ls ws → length ls ≡ suc sites → k < sites → IsSource n (want_at ls (suc k)) 1
-want_fits n ls ws sites k h e l = let t = there ls (suc k) (omega (arith, e, l)) in subst (λ (s : Sig). IsSource n s 1) (sym (ap (bit_or (record { 0 = 0 })) t.1)) (h (suc k) t.0 t.1).bit
+want_fits n ls ws sites k h e l = let t = get_some ls (suc k) (omega (arith, e, l)) in subst (λ (s : Sig). IsSource n s 1) (sym (ap (bit_or (record { 0 = 0 })) t.1)) (h (suc k) t.0 t.1).bit
 
 pub row_fits : (C : Program) (n : Netlist) (ls : List Load) (u : ℕ) → ((k : ℕ) → k < C.sites → IsSource n (want_at ls (suc k)) 1) → (m : ℕ) → m ≤ C.sites → AreBits n (site_row C ls u m)
 row_fits C n ls u h zero l = subst (AreBits n) (sym (row_zero C ls u)) tt
@@ -277,11 +252,11 @@ row_fits C n ls u h (suc m) l = subst (AreBits n) (sym (row_suc C ls u m)) (by (
   where
     by : (t : Bool) → AreBits n (site_row C ls u m) → IsSource n (want_at ls (suc m)) 1 → AreBits n (site_row C ls u m ++ cond t (want_at ls (suc m) ∷ []) [])
     by true q s = bits_push n (site_row C ls u m) (want_at ls (suc m)) q s
-    by false q s = subst (AreBits n) (append_none (site_row C ls u m)) q
+    by false q s = subst (AreBits n) (nil_at_end (site_row C ls u m)) q
 
 pub want_on : (C : Program) (P : Choice) (r : Registers) (i : Inputs) (v : Val) (ls : List Load) (k : ℕ) → length ls ≡ suc C.sites → k < C.sites →
     taken_at v ls (suc k) ≡ called C P r i (suc k) → on v (want_at ls (suc k)) ≡ want C P r (suc k)
-want_on C P r i v ls k e l h = let t = there ls (suc k) (omega (arith, e, l)) in ap (λ (s : Sig). on v s) (ap (bit_or (record { 0 = 0 })) t.1) ∙ want_shown C P r i v ls k t.0 t.1 h
+want_on C P r i v ls k e l h = let t = get_some ls (suc k) (omega (arith, e, l)) in ap (λ (s : Sig). on v s) (ap (bit_or (record { 0 = 0 })) t.1) ∙ want_shown C P r i v ls k t.0 t.1 h
 
 -- a unit's first member is of the unit
 pub unit_first : (a b : CheckedProgram) (m : ℕ) → IsChecked b → b ≡ a → m < b.program.sites → a.program.unit (unit_for a.program (suc m)) ≡ unit_for a.program (suc m)

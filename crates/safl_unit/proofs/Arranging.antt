@@ -13,6 +13,7 @@ use Rattle.safl_net.specs.Making.{kind_in}
 use Rattle.safl_net.proofs.Reading.{place_of, output_place_of}
 use Rattle.safl_sites.specs.Plan.{Choice}
 use Rattle.safl_term.specs.Names.{Names}
+use Rattle.safl_net.proofs.EachOf.{each_join}
 use Rattle.safl_circuit.specs.Layout.{Line, layout_inputs}
 use Rattle.safl_circuit.specs.Scheme.{Scheme}
 use Rattle.safl_unit.specs.declared.pins.Bank.{Bank}
@@ -26,10 +27,6 @@ use Rattle.safl_unit.specs.Finished.{input_line, set_register, set_wire, declare
 each_made : {A : Type 0} (Q : Signal → Type 0) (make : A → Signal) (xs : List A) → ((x : A) → Q (make x)) → Each Q (map make xs)
 each_made Q make [] f = tt
 each_made Q make (x ∷ xs) f = (f x, each_made Q make xs f)
-
-each_more : (Q : Signal → Type 0) (xs ys : List Signal) → Each Q xs → Each Q ys → Each Q (xs ++ ys)
-each_more Q [] ys a b = b
-each_more Q (x ∷ xs) ys a b = (a.0, each_more Q xs ys a.1 b)
 
 wire_kind : (k : Kind) → HasCell k → (cell : Option Cell) × (k ≡ Wire cell)
 wire_kind Input h = absurd h
@@ -64,7 +61,7 @@ module _ (C : Program) (D : Names) (P : Choice) (p : Pins) (b : Bank) (T : Contr
     joined = f.signals ∙ append_assoc inputs (registers ++ named) f.more ∙ ap (λ l. inputs ++ l) (append_assoc registers named f.more);
     are_inputs = each_made IsInput input_line (layout_inputs C D) (λ l. refl);
     are_registers = each_made IsRegister set_register (register_ties C D P b) (λ t. (0, Some t.1.0, refl));
-    are_wires = each_more IsWire named f.more (each_made IsWire set_wire (wire_ties C D P p.first_wire T) (λ t. (_, refl)))
+    are_wires = each_join IsWire named f.more (each_made IsWire set_wire (wire_ties C D P p.first_wire T) (λ t. (_, refl)))
         (temps_wires (wires (declared_signals C D P)) f.more (subst (AreTemps (wires (declared_signals C D P)))
         (append_cancel_left (declared_signals C D P) grown.more f.more (sym grown.is ∙ f.before)) grown.temps));
   }

@@ -3,9 +3,12 @@ use Rattle.std.proofs.Common.{◌≡◌, ℕ, zero, suc, ◌+◌, ◌<◌, ◌�
 use Rattle.std.proofs.Common.{false, cond, ◌&&◌, ◌||◌, ◌==◌, slice_get, slice_index_or, is_some, refl, sym, ap, subst, ◌∙◌, add-one, arith}
 use Rattle.std.proofs.lemmas.Option.{slice_get_read}
 use Rattle.safl_word.specs.Words.{Word}
+use Rattle.safl_word.proofs.Booleans.{or_assoc, or_none}
 use Rattle.safl_term.specs.Program.{Program, arity}
 use Rattle.safl_term.specs.Readiness.{or_else}
+use Rattle.safl_term.proofs.OrElse.{or_is}
 use Rattle.safl_calls.specs.Picks.{first}
+use Rattle.safl_calls.proofs.Basics.{first_zero}
 use Rattle.safl_net.specs.declared.cell.Sig.{Sig}
 use Rattle.safl_net.specs.Netlist.{Netlist}
 use Rattle.safl_net.specs.Growth.{Val, Wired, words}
@@ -18,31 +21,17 @@ use Rattle.safl_lower.specs.Rows.{maybe_one, AreBits, AllFit, on_any, first_take
 use Rattle.safl_lower.specs.Joints.{IsAnyOf, IsFirstOf}
 use Rattle.safl_lower.proofs.JoinedRows.{any_pushed, bits_pushed, first_pushed, fit_pushed}
 use Rattle.safl_lower.proofs.Cells.{sources_length}
-use Rattle.safl_lower.proofs.Joining.{or_false}
 use Rattle.safl_lower.proofs.Building.{sources_kept}
 use Rattle.safl_unit.specs.declared.pins.Outcomes.{Outcomes}
 use Rattle.safl_unit.specs.Stages.{OutcomesFit}
 use Rattle.safl_unit.specs.Edges.{one_below, bit_of, operands_in, ShowsBits, ShowsLoads}
-use Rattle.safl_unit.proofs.Options.{first_is}
-use Rattle.safl_unit.proofs.Others.{maybe_fits, any_next}
+use Rattle.safl_unit.proofs.Others.{maybe_fits, any_next, below_zero}
 
 -- ---- one more
-
-or_both : (a b c : Bool) → ((a || b) || c) ≡ (a || (b || c))
-or_both true b c = refl
-or_both false b c = refl
-
-below_none : (t : ℕ → Bool) → one_below t 0 ≡ false
-unfolding one_below
-below_none t = refl
 
 below_more : (t : ℕ → Bool) (n : ℕ) → one_below t (n + 1) ≡ (one_below t n || t n)
 unfolding one_below
 below_more t n = ap (one_below t) (add-one n)
-
-first_zero : {A : Type 0} (g : ℕ → Option A) → first g 0 ≡ None
-unfolding first
-first_zero g = refl
 
 first_next : {A : Type 0} (g : ℕ → Option A) (n : ℕ) → first g (n + 1) ≡ or_else (first g n) (g n)
 unfolding first
@@ -53,7 +42,7 @@ pub start_bits : (n : Netlist) (xs : List (Option Sig)) (count : ℕ) (base : Va
 start_bits n xs count base t h = record {
   entries = h.entries;
   fits = h.fits;
-  shows = λ v w i. h.shows v w i ∙ or_false (base v i) ∙ ap (λ (b : Bool). base v i || b) (sym (below_none (t v i)));
+  shows = λ v w i. h.shows v w i ∙ or_none (base v i) ∙ ap (λ (b : Bool). base v i || b) (sym (below_zero (t v i)));
 }
 
 pub more_bits : (a b : Netlist) (xs ys : List (Option Sig)) (count place k m : ℕ) (new : Val → Bool) (base : Val → ℕ → Bool) (t : Val → ℕ → ℕ → Bool) → Builds a b k
@@ -64,7 +53,7 @@ more_bits a b xs ys count place k m new base t built h e f g q = record {
   entries = e ∙ h.entries;
   fits = f;
   shows = λ v w i.
-      g v w i ∙ ap (λ (x : Bool). x || ((i == place) && new v)) (h.shows v (wired_before built.grows w) i) ∙ or_both (base v i) (one_below (t v i) m) ((i == place) && new v)
+      g v w i ∙ ap (λ (x : Bool). x || ((i == place) && new v)) (h.shows v (wired_before built.grows w) i) ∙ or_assoc (base v i) (one_below (t v i) m) ((i == place) && new v)
       ∙ ap (λ (x : Bool). base v i || (one_below (t v i) m || x)) (q v i w) ∙ ap (λ (x : Bool). base v i || x) (sym (below_more (t v i) m));
 }
 
@@ -96,7 +85,7 @@ more_load_rows n rows after count place m l ws t h e r f q = record {
   entries = e ∙ h.entries;
   fits = λ i. fit_pushed n (row_at rows i) (row_at after i) i place l ws (r i) (h.fits i) f;
   shows = λ v i.
-      first_pushed v (row_at rows i) (row_at after i) (i == place) l (r i) ∙ first_is (first_at v rows i) (gate (i == place) (taken v l))
+      first_pushed v (row_at rows i) (row_at after i) (i == place) l (r i) ∙ or_is (first_at v rows i) (gate (i == place) (taken v l))
       ∙ ap (λ (x : Option (List Word)). or_else x (gate (i == place) (taken v l))) (h.shows v i) ∙ ap (λ (x : Option (List Word)). or_else (first (t v i) m) x) (q v i) ∙ sym (first_next (t v i) m);
 }
 
@@ -139,7 +128,7 @@ pub bare_bit_rows : (n : Netlist) (rows : List (Vec Sig Global)) (count : ℕ) (
 bare_bit_rows n rows count t e h = record {
   entries = e;
   fits = λ i. subst (AreBits n) (sym (h i)) tt;
-  shows = λ v i. ap (on_any v) (h i) ∙ sym (below_none (t v i));
+  shows = λ v i. ap (on_any v) (h i) ∙ sym (below_zero (t v i));
 }
 
 pub more_bit_rows : (n : Netlist) (rows after : List (Vec Sig Global)) (count place m : ℕ) (s : Sig) (t : Val → ℕ → ℕ → Bool) → BitRows n rows count
@@ -167,7 +156,7 @@ load_rows_more (y ∷ rows) (z ∷ xs) r x e h q (suc j) = load_rows_more rows x
 
 maybe_on : (v : Val) (o : Option Sig) → on_any v (maybe_one o) ≡ on_in v o
 maybe_on v None = refl
-maybe_on v (Some s) = sym (or_false (on v s))
+maybe_on v (Some s) = sym (or_none (on v s))
 
 maybe_alone : (n : Netlist) (o : Option Sig) → IsBitIn n o → AreBits n (maybe_one o)
 maybe_alone n None h = tt
@@ -181,7 +170,7 @@ start_load_rows n rows xs count ws t e h q = record {
   fits = λ i. subst (AreBits n) (sym (q i)) (maybe_alone n (bit_of (load_in (slice_get xs i))) (bit_fits n (load_in (slice_get xs i)) (ws i) (h i)));
   shows = λ v i.
       ap (on_any v) (q i) ∙ maybe_on v (bit_of (load_in (slice_get xs i))) ∙ bit_shows v (load_in (slice_get xs i))
-      ∙ or_false (is_some (taken_from v xs i)) ∙ ap (λ (b : Bool). is_some (taken_from v xs i) || b) (sym (below_none (t v i)));
+      ∙ or_none (is_some (taken_from v xs i)) ∙ ap (λ (b : Bool). is_some (taken_from v xs i) || b) (sym (below_zero (t v i)));
 }
 
 one_joins : (o : Option Sig) → bit_joins (maybe_one o) ≡ 0
@@ -205,7 +194,7 @@ more_some_rows n rows after count place m bit base t h e r f q = record {
   fits = λ i. subst (AreBits n) (sym (r i)) (maybe_fits n (row_at rows i) (i == place) bit (h.fits i) f);
   shows = λ v i.
       any_next v (row_at rows i) (row_at after i) (i == place) bit (r i) ∙ ap (λ (x : Bool). x || ((i == place) && on_in v bit)) (h.shows v i) ∙
-      or_both (base v i) (one_below (t v i) m) ((i == place) && on_in v bit)
+      or_assoc (base v i) (one_below (t v i) m) ((i == place) && on_in v bit)
       ∙ ap (λ (x : Bool). base v i || (one_below (t v i) m || x)) (q v i) ∙ ap (λ (x : Bool). base v i || x) (sym (below_more (t v i) m));
 }
 

@@ -1,7 +1,8 @@
 -- The bits that the named wires copy.
-use Rattle.std.proofs.Common.{◌≡◌, ℕ, zero, suc, ◌+◌, ◌<◌, ◌≤◌, List, [], ◌∷◌, ◌++◌, length, map, take, slice_get, Option, Some, None, false, is_some, refl, sym, ap, subst, ◌∙◌, add-one, arith}
+use Rattle.std.proofs.Common.{◌≡◌, ℕ, zero, suc, ◌<◌, ◌≤◌, List, [], ◌∷◌, ◌++◌, length, map, take, slice_get, Option, Some, None, false, is_some, sym, ap, subst, ◌∙◌, arith}
+use Rattle.std.proofs.lemmas.List.{length-map}
+use Rattle.safl_word.proofs.Lists.{get_map, get_some}
 use Rattle.safl_sites.specs.Plan.{Choice}
-use Rattle.safl_word.specs.Words.{Word}
 use Rattle.safl_term.specs.Program.{Program}
 use Rattle.safl_net.specs.declared.cell.Sig.{Sig}
 use Rattle.safl_net.specs.Netlist.{Netlist}
@@ -10,9 +11,10 @@ use Rattle.safl_net.specs.Bits.{on}
 use Rattle.safl_circuit.specs.Equations.{Registers, Inputs, want}
 use Rattle.safl_lower.specs.declared.loads.Load.{Load}
 use Rattle.safl_lower.specs.Sources.{IsSource, Builds}
-use Rattle.safl_lower.specs.Tables.{pin, load_bit, bit_or, load_in, taken_in, one_word, FitsIn}
+use Rattle.safl_lower.specs.Tables.{pin, load_bit, bit_or, load_in, taken_in, FitsIn}
 use Rattle.safl_lower.proofs.Building.{source_kept}
 use Rattle.safl_lower.proofs.KnownLoads.{maybe_load_kept}
+use Rattle.safl_lower.proofs.Goes.{one_some}
 use Rattle.safl_unit.specs.declared.pins.Pins.{Pins}
 use Rattle.safl_unit.specs.declared.pins.Returns.{Returns}
 use Rattle.safl_unit.specs.declared.pins.Outcomes.{Outcomes}
@@ -23,32 +25,15 @@ use Rattle.safl_unit.specs.Finished.{HasControls}
 use Rattle.safl_unit.proofs.Keeping.{cycle_before}
 use Rattle.safl_unit.proofs.Tables.{pin_is}
 use Rattle.safl_unit.proofs.Granting.{gated, want_shown}
-use Rattle.safl_unit.proofs.Sites.{port_there}
-
-get_map : {A B : Type 0} (f : A → B) (xs : List A) (i : ℕ) (x : A) → slice_get xs i ≡ Some x → slice_get (map f xs) i ≡ Some (f x)
-get_map f [] i x e = absurd (cc)
-get_map f (y ∷ xs) zero x e = let q : y ≡ x = cc in ap (λ (z : _). Some (f z)) q
-get_map f (y ∷ xs) (suc i) x e = get_map f xs i x e
-
-pub length_map : {A B : Type 0} (f : A → B) (xs : List A) → length (map f xs) ≡ length xs
-length_map f [] = refl
-length_map f (x ∷ xs) = let h = length_map f xs in omega (arith, h)
 
 map_next : {A B : Type 0} (f : A → B) (xs : List A) (i : ℕ) (x : A) → slice_get xs i ≡ Some x → map f (take (suc i) xs) ≡ map f (take i xs) ++ f x ∷ []
 map_next f [] i x e = absurd (cc)
 map_next f (y ∷ xs) zero x e = let q : y ≡ x = cc in ap (λ (z : _). f z ∷ []) q
 map_next f (y ∷ xs) (suc i) x e = ap (λ (l : List _). f y ∷ l) (map_next f xs i x e)
 
-pub map_more : {A B : Type 0} (f : A → B) (xs : List A) (i : ℕ) (x : A) → slice_get xs i ≡ Some x → map f (take (i + 1) xs) ≡ map f (take i xs) ++ f x ∷ []
-map_more f xs i x e = ap (λ (k : ℕ). map f (take k xs)) (add-one i) ∙ map_next f xs i x e
-
 -- the pin of a mapped table
 pin_map : {A : Type 0} (f : A → Sig) (xs : List A) (ys : List Sig) (i : ℕ) (x : A) → ys ≡ map f xs → slice_get xs i ≡ Some x → pin ys i ≡ f x
 pin_map f xs ys i x e g = ap (λ (zs : List Sig). pin zs i) e ∙ pin_is (map f xs) i (f x) (get_map f xs i x g)
-
-one_some : (o : Option Word) → is_some (one_word o) ≡ is_some o
-one_some None = refl
-one_some (Some w) = refl
 
 -- a bit that is never on stands for a load that isn't there
 bit_shown : (v : Val) (s : Sig) (o : Option Load) → on v s ≡ false → on v (bit_or s o) ≡ is_some (taken_in v o)
@@ -65,20 +50,20 @@ module _ (C : Program) (P : Choice) (a b : Netlist) (p : Pins) (R : Returns) (O 
     (loops : T.loops.items ≡ map (bit_or never) O.loops.items) (wants : T.wants.items ≡ map load_bit O.wants.items)
     (rets : T.rets.items ≡ R.ret.items) (starts : T.goes.items ≡ goes) where
   end_at : (f : ℕ) → f < C.functions → (l : Load) × (slice_get O.ends.items f ≡ Some l)
-  end_at f l = let e = os.fits.ends_length in port_there O.ends.items f (omega (arith, e, l))
+  end_at f l = let e = os.fits.ends_length in get_some O.ends.items f (omega (arith, e, l))
 
   loop_at : (f : ℕ) → f < C.functions → (o : Option Load) × (slice_get O.loops.items f ≡ Some o)
-  loop_at f l = let e = os.fits.loops_length in port_there O.loops.items f (omega (arith, e, l))
+  loop_at f l = let e = os.fits.loops_length in get_some O.loops.items f (omega (arith, e, l))
 
   want_at : (k : ℕ) → k ≤ C.sites → (l : Load) × (slice_get O.wants.items k ≡ Some l)
-  want_at k l = let e = os.fits.wants_length in port_there O.wants.items k (omega (arith, e, l))
+  want_at k l = let e = os.fits.wants_length in get_some O.wants.items k (omega (arith, e, l))
 
   pub has_controls : HasControls C P b p T
   has_controls = record {
     fits = record {
-      ends_length = ap (λ (xs : List Sig). length xs) ends ∙ length_map load_bit O.ends.items ∙ os.fits.ends_length;
-      loops_length = ap (λ (xs : List Sig). length xs) loops ∙ length_map (bit_or never) O.loops.items ∙ os.fits.loops_length;
-      wants_length = ap (λ (xs : List Sig). length xs) wants ∙ length_map load_bit O.wants.items ∙ os.fits.wants_length;
+      ends_length = ap (λ (xs : List Sig). length xs) ends ∙ length-map O.ends.items load_bit ∙ os.fits.ends_length;
+      loops_length = ap (λ (xs : List Sig). length xs) loops ∙ length-map O.loops.items (bit_or never) ∙ os.fits.loops_length;
+      wants_length = ap (λ (xs : List Sig). length xs) wants ∙ length-map O.wants.items load_bit ∙ os.fits.wants_length;
       rets_length = ap (λ (xs : List Sig). length xs) rets ∙ rs.fits.ret_length;
       goes_length = ap (λ (xs : List Sig). length xs) starts ∙ gs.count;
       ends = λ f l. let at = end_at f l in subst (λ (s : Sig). IsSource b s 1) (sym (pin_map load_bit O.ends.items T.ends.items f at.0 ends at.1)) (source_kept built (os.fits.ends f at.0 at.1).bit);

@@ -1,13 +1,14 @@
 -- How many signals a circuit has at most.
 use Rattle.std.proofs.Common.{◌≡◌, ℕ, suc, ◌+◌, ◌*◌, ◌≤◌, map, ◌++◌, length, length-append, ap, ◌∙◌, arith}
 use Rattle.std.specs.Prelude.{codes, [], ◌∷◌}
+use Rattle.std.proofs.lemmas.List.{length-map}
 use Rattle.safl_term.specs.Checked.{CheckedProgram, IsChecked}
 use Rattle.safl_sites.specs.Plan.{Choice}
 use Rattle.safl_circuit.specs.Layout.{lines, site_lines, unit_lines, function_wires, site_wires, layout_inputs, layout_registers, layout_wires}
 use Rattle.safl_lower.specs.Sources.{HasRoom}
 use Rattle.safl_net.specs.Netlist.{Netlist}
 use Rattle.safl_unit.specs.Finished.{input_line, open_register, open_wire, declared_signals, declared_net}
-use Rattle.safl_unit.proofs.Declaring.{map_long, param_lines_long}
+use Rattle.safl_unit.proofs.Declaring.{param_lines_long}
 use Rattle.safl_unit.proofs.Pinning.{few_below, few_sites, body_wires_count, few_calls}
 use Rattle.safl_unit.proofs.Ordering.{units_in_order}
 
@@ -19,9 +20,9 @@ declared_few c h P =
     let D = c.names in
     let a = length-append (map input_line (layout_inputs C D)) (map open_register (layout_registers C D P) ++ map open_wire (layout_wires C D P)) in
     let b = length-append (map open_register (layout_registers C D P)) (map open_wire (layout_wires C D P)) in
-    let d = map_long input_line (layout_inputs C D) in
-    let e = map_long open_register (layout_registers C D P) in
-    let f = map_long open_wire (layout_wires C D P) in
+    let d = length-map (layout_inputs C D) input_line in
+    let e = length-map (layout_registers C D P) open_register in
+    let f = length-map (layout_wires C D P) open_wire in
     let g = param_lines_long c C.main (λ x. codes "in$" ++ x) in
     let i = h.limits.params C.main in
     let j = length-append (lines (unit_lines C D) C.functions) (lines (site_lines C P) (suc C.sites)) in

@@ -2,10 +2,15 @@
 use Rattle.std.proofs.Common.{◌≡◌, ℕ, zero, suc, ◌<◌, List, [], ◌∷◌, Option, Some, None, Bool, true, false, cond, not, ◌&&◌, ◌||◌, ◌==◌, slice_get, is_some, refl, sym, ap, ◌∙◌, arith}
 use Rattle.safl_sites.specs.Plan.{Choice}
 use Rattle.std.proofs.lemmas.Bool.{false≢true, eq-eqb, eqb-true, and_parts, and_from}
+use Rattle.std.specs.Cmp.{both_ways}
 use Rattle.safl_word.specs.Words.{Word}
+use Rattle.safl_word.proofs.Naturals.{eq_flip}
+use Rattle.safl_word.proofs.Options.{some_if}
 use Rattle.safl_term.specs.Program.{Program, unit_for}
 use Rattle.safl_term.specs.Readiness.{or_else}
+use Rattle.safl_term.proofs.OrElse.{either_some}
 use Rattle.safl_calls.specs.Picks.{first}
+use Rattle.safl_calls.proofs.Basics.{first_cong}
 use Rattle.safl_net.specs.declared.cell.Sig.{Sig}
 use Rattle.safl_net.specs.Netlist.{Netlist}
 use Rattle.safl_net.specs.Growth.{Val, words}
@@ -16,22 +21,15 @@ use Rattle.safl_lower.specs.declared.loads.Load.{Load}
 use Rattle.safl_lower.specs.Sources.{Builds}
 use Rattle.safl_lower.specs.Tables.{pin, taken_in, taken_at, taken_from, on_from, one_word}
 use Rattle.safl_lower.proofs.KnownLoads.{load_kept, some_kept}
+use Rattle.safl_lower.proofs.Goes.{one_some}
 use Rattle.safl_unit.specs.declared.pins.Outcomes.{Outcomes}
 use Rattle.safl_unit.specs.declared.pins.Pins.{Pins}
 use Rattle.safl_unit.specs.Stages.{called, OutcomesFit, HasOutcomes, HasGoes, HasEnds, HasLoads, HasStarts, HasClears, HasEntries, HasRivals}
 use Rattle.safl_unit.specs.Edges.{one_below, operands_in, rival, ShowsBits, ShowsLoads, ShowsBelow}
 use Rattle.safl_unit.proofs.Chains.{gates_both}
-use Rattle.safl_unit.proofs.Others.{same_truth, below_true, below_found}
+use Rattle.safl_unit.proofs.Others.{below_true, below_found}
 
 -- ---- firsts and tests, number by number
-
-flip : (a b : ℕ) → (a == b) ≡ (b == a)
-flip a b = same_truth (a == b) (b == a) (λ e. eq-eqb b a (sym (eqb-true a b e))) (λ e. eq-eqb a b (sym (eqb-true b a e)))
-
-first_same : {A : Type 0} (g h : ℕ → Option A) (n : ℕ) → ((i : ℕ) → i < n → g i ≡ h i) → first g n ≡ first h n
-unfolding first
-first_same g h zero e = refl
-first_same {A} g h (suc n) e = ap (λ (x : Option A). or_else x (g n)) (first_same g h n (λ i l. e i (omega (arith, l)))) ∙ ap (λ (x : Option A). or_else (first h n) x) (e n (omega arith))
 
 else_word : (a b : Option Word) → or_else (one_word a) (one_word b) ≡ one_word (or_else a b)
 else_word None b = refl
@@ -42,14 +40,10 @@ unfolding first
 first_word g zero = refl
 first_word g (suc n) = ap (λ (x : Option (List Word)). or_else x (one_word (g n))) (first_word g n) ∙ else_word (first g n) (g n)
 
-else_some : {A : Type 0} (a b : Option A) → is_some (or_else a b) ≡ (is_some a || is_some b)
-else_some None b = refl
-else_some (Some x) b = refl
-
 first_is : {A : Type 0} (g : ℕ → Option A) (n : ℕ) → is_some (first g n) ≡ one_below (λ i. is_some (g i)) n
 unfolding first one_below
 first_is g zero = refl
-first_is g (suc n) = else_some (first g n) (g n) ∙ ap (λ (x : Bool). x || is_some (g n)) (first_is g n)
+first_is g (suc n) = either_some (first g n) (g n) ∙ ap (λ (x : Bool). x || is_some (g n)) (first_is g n)
 
 below_same : (t u : ℕ → Bool) (n : ℕ) → ((i : ℕ) → i < n → t i ≡ u i) → one_below t n ≡ one_below u n
 unfolding one_below
@@ -59,17 +53,9 @@ below_same t u (suc n) e = ap (λ (x : Bool). x || t n) (below_same t u n (λ i 
 -- it holds of one number alone
 below_at : (t : ℕ → Bool) (n f : ℕ) → f < n → one_below (λ h. (f == h) && t h) n ≡ t f
 below_at t n f l =
-    same_truth (one_below (λ h. (f == h) && t h) n) (t f)
+    both_ways (one_below (λ h. (f == h) && t h) n) (t f)
     (λ e. let x = below_true (λ h. (f == h) && t h) n e in let p = and_parts (f == x.0) (t x.0) x.2 in ap t (eqb-true f x.0 p.0) ∙ p.1)
     (λ e. below_found (λ h. (f == h) && t h) n f l (and_from (f == f) (t f) (eq-eqb f f refl) e))
-
-some_if : {A : Type 0} (b : Bool) (x : A) → is_some (cond b (Some x) None) ≡ b
-some_if true x = refl
-some_if false x = refl
-
-pub some_word : (o : Option Word) → is_some (one_word o) ≡ is_some o
-some_word None = refl
-some_word (Some w) = refl
 
 word_if : (b : Bool) (o : Option Word) → gate b (one_word o) ≡ one_word (cond b o None)
 word_if true o = refl
@@ -140,9 +126,9 @@ module _ (C : Program) (P : Choice) (n : Netlist) (p : Pins) where
     fits = t.fits;
     shows = λ v r i c u l.
         t.shows v c.wired u
-        ∙ first_same (λ f. gate (u == C.unit f) (taken_at v o.ends.items f)) (λ f. one_word (end_in C P r u f)) C.functions
+        ∙ first_cong (λ f. gate (u == C.unit f) (taken_at v o.ends.items f)) (λ f. one_word (end_in C P r u f)) C.functions
         (λ f m. ap (λ (x : Option (List Word)). gate (u == C.unit f) x) ((q.shows v r i c).ends f m) ∙ ap
-        (λ (b : Bool). gate b (one_word (end_word C P r f))) (flip u (C.unit f)) ∙ word_if (C.unit f == u) (end_word C P r f))
+        (λ (b : Bool). gate b (one_word (end_word C P r f))) (eq_flip u (C.unit f)) ∙ word_if (C.unit f == u) (end_word C P r f))
         ∙ first_word (end_in C P r u) C.functions;
   }
 
@@ -154,11 +140,11 @@ module _ (C : Program) (P : Choice) (n : Netlist) (p : Pins) where
     fits = t.fits;
     shows = λ v r i c f l.
         t.shows v c.wired f
-        ∙ first_same (λ k. gate ((f == C.callee k) && on v (pin goes k)) (operands_in v (slice_get o.wants.items k))) (loads_from C P r i f) (suc C.sites)
+        ∙ first_cong (λ k. gate ((f == C.callee k) && on v (pin goes k)) (operands_in v (slice_get o.wants.items k))) (loads_from C P r i f) (suc C.sites)
         (λ k m. gates_both (f == C.callee k) (on v (pin goes k)) (operands_in v (slice_get o.wants.items k))
         ∙ ap (λ (x : Option (List Word)). gate (f == C.callee k) x)
         (loaded C P r i v (slice_get o.wants.items k) (pin goes k) k (g.shows v r i c k (omega (arith, m))) ((q.shows v r i c).wants k (omega (arith, m))))
-        ∙ ap (λ (b : Bool). gate b (go_words C P r i k)) (flip f (C.callee k)));
+        ∙ ap (λ (b : Bool). gate b (go_words C P r i k)) (eq_flip f (C.callee k)));
   }
 
   pub has_starts : (goes : List Sig) (bits : List (Option Sig)) → HasGoes C P n p goes → ShowsBits n bits C.functions
@@ -170,7 +156,7 @@ module _ (C : Program) (P : Choice) (n : Netlist) (p : Pins) where
     shows = λ v r i c u l.
         t.shows v c.wired u
         ∙ below_same (λ k. (u == unit_for C k) && on v (pin goes k)) (λ k. is_some (go_in C P r i u k)) (suc C.sites)
-        (λ k m. ap (λ (b : Bool). b && on v (pin goes k)) (flip u (unit_for C k)) ∙ ap (λ (b : Bool). (unit_for C k == u) && b)
+        (λ k m. ap (λ (b : Bool). b && on v (pin goes k)) (eq_flip u (unit_for C k)) ∙ ap (λ (b : Bool). (unit_for C k == u) && b)
         (g.shows v r i c k (omega (arith, m))) ∙ sym (some_if ((unit_for C k == u) && go C P r i k) k))
         ∙ sym (first_is (go_in C P r i u) (suc C.sites));
   }
@@ -183,10 +169,10 @@ module _ (C : Program) (P : Choice) (n : Netlist) (p : Pins) where
     fits = t.fits;
     shows = λ v r i c u l.
         let rest = below_same (λ h. (u == C.unit h) && is_some (taken_from v o.loops.items h)) (λ h. is_some (loop_in C P r u h)) C.functions
-        (λ h m. ap (λ (b : Bool). b && is_some (taken_from v o.loops.items h)) (flip u (C.unit h)) ∙ ap (λ (x : Option (List Word)). (C.unit h == u) && is_some x) ((q.shows v r i c).loops h m)
+        (λ h m. ap (λ (b : Bool). b && is_some (taken_from v o.loops.items h)) (eq_flip u (C.unit h)) ∙ ap (λ (x : Option (List Word)). (C.unit h == u) && is_some x) ((q.shows v r i c).loops h m)
         ∙ sym (some_if ((C.unit h == u) && is_some (loop_words C P r h)) h)) in
         t.shows v c.wired u
-        ∙ ap (λ (b : Bool). b || one_below (λ h. (u == C.unit h) && is_some (taken_from v o.loops.items h)) C.functions) (ap is_some (e.shows v r i c u l) ∙ some_word (ends C P r u))
+        ∙ ap (λ (b : Bool). b || one_below (λ h. (u == C.unit h) && is_some (taken_from v o.loops.items h)) C.functions) (ap is_some (e.shows v r i c u l) ∙ one_some (ends C P r u))
         ∙ ap (λ (b : Bool). is_some (ends C P r u) || b) (rest ∙ sym (first_is (loop_in C P r u) C.functions));
   }
 

@@ -1,6 +1,7 @@
 -- The net that is declared, and its pins.
 use Rattle.std.proofs.Common.{◌≡◌, ℕ, suc, ◌+◌, ◌≤◌, List, [], ◌∷◌, ◌++◌, map, length, length-append, sym, ap, ◌∙◌, arith, append_assoc}
 use Rattle.std.specs.Prelude.{codes}
+use Rattle.std.proofs.lemmas.List.{map-append}
 use Rattle.safl_term.specs.Program.{Program, arity}
 use Rattle.safl_term.specs.Checked.{CheckedProgram, IsChecked}
 use Rattle.safl_net.specs.declared.cell.Sig.{Sig}
@@ -12,7 +13,7 @@ use Rattle.safl_unit.specs.declared.pins.Pins.{Pins}
 use Rattle.safl_unit.specs.Finished.{input_line, open_register, open_wire, declared_net, ArePins}
 use Rattle.safl_unit.specs.Ties.{sig_of, ties, numbered, function_ties, site_ties}
 use Rattle.safl_unit.specs.Declaring.{with_signals, function_lines, port_lines, FunctionsPinned, SitesPinned}
-use Rattle.safl_unit.proofs.Declaring.{map_more, lines_on, lines_count, numbered_more, param_lines_long}
+use Rattle.safl_unit.proofs.Declaring.{lines_on, lines_count, numbered_more, param_lines_long}
 use Rattle.safl_unit.proofs.Pinning.{functions_count, few_sites}
 use Rattle.safl_unit.proofs.Ordering.{units_in_order}
 
@@ -76,7 +77,7 @@ module _ (c : CheckedProgram) (checked : IsChecked c) (P : Choice) (n a b d e g 
         first_register = r ∙ inputs_long;
         first_wire = x ∙ registers_long ∙ ap (λ y. y + length (layout_registers C D P)) (sym r);
         registers =
-            map_more sig_of t1 t2
+            map-append sig_of t1 t2
             ∙ ap (λ l. l ++ map sig_of t2) fs.order
             ∙ ap (λ l. numbered (length b.signals) (length l1) ++ l) (ss.order ∙ ap (λ y. numbered y (length l2)) more)
             ∙ sym (numbered_more (length b.signals) (length l1) (length l2))

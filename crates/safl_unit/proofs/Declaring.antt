@@ -4,7 +4,8 @@ use Rattle.std.specs.Str.{IsUtf8}
 use Rattle.std.specs.String.{string_bytes}
 use Rattle.std.specs.Option.{option_map_or}
 use Rattle.std.proofs.lemmas.Str.{IsUtf8-nil, IsUtf8-string_bytes}
-use Rattle.std.proofs.lemmas.List.{append-nil}
+use Rattle.std.proofs.lemmas.List.{append-nil, length-map, length-take-le, map-append}
+use Rattle.safl_word.proofs.Lists.{get_map, take_suc}
 use Rattle.safl_term.specs.Checked.{CheckedProgram}
 use Rattle.safl_term.specs.Tables.{Tables, name_of, param_names}
 use Rattle.safl_term.proofs.HeldByChecked.{each_checked, params_named}
@@ -47,41 +48,17 @@ param_text c f = each_checked (λ c. (i : ℕ) (x : List ℕ) → slice_get (c.p
 
 -- ---- more signals
 
-pub map_more : {A B : Type 0} (g : A → B) (xs ys : List A) → map g (xs ++ ys) ≡ map g xs ++ map g ys
-map_more g [] ys = refl
-map_more g (x ∷ xs) ys = ap (λ l. g x ∷ l) (map_more g xs ys)
-
-pub map_long : {A B : Type 0} (g : A → B) (xs : List A) → length (map g xs) ≡ length xs
-map_long g [] = refl
-map_long g (x ∷ xs) = ap suc (map_long g xs)
-
 -- a net with these lines, and then with those
 pub lines_on : (n m k : Netlist) (g : Line → Signal) (xs ys : List Line) → m ≡ with_signals n (map g xs) → k ≡ with_signals m (map g ys) → k ≡ with_signals n (map g (xs ++ ys))
 lines_on n m k g xs ys e f =
     f ∙ ap (λ (a : Netlist). with_signals a (map g ys)) e
-    ∙ ap (λ l. record { signals = l; outputs = n.outputs }) (append_assoc n.signals (map g xs) (map g ys) ∙ ap (λ l. n.signals ++ l) (sym (map_more g xs ys)))
+    ∙ ap (λ l. record { signals = l; outputs = n.outputs }) (append_assoc n.signals (map g xs) (map g ys) ∙ ap (λ l. n.signals ++ l) (sym (map-append g xs ys)))
 
 pub lines_none : (n : Netlist) (g : Line → Signal) → n ≡ with_signals n (map g [])
 lines_none n g = ap (λ l. record { signals = l; outputs = n.outputs }) (sym (append-nil n.signals))
 
 pub lines_count : (n m : Netlist) (g : Line → Signal) (xs : List Line) → m ≡ with_signals n (map g xs) → length m.signals ≡ length n.signals + length xs
-lines_count n m g xs e = ap (λ (a : Netlist). length a.signals) e ∙ length-append n.signals (map g xs) ∙ ap (λ a. length n.signals + a) (map_long g xs)
-
-pub take_next : {A : Type 0} (xs : List A) (i : ℕ) (x : A) → slice_get xs i ≡ Some x → take (suc i) xs ≡ take i xs ++ x ∷ []
-take_next [] i x e = absurd (cc)
-take_next (a ∷ xs) zero x e = let q : a ≡ x = cc in ap (λ z. z ∷ []) q
-take_next (a ∷ xs) (suc i) x e = ap (λ l. a ∷ l) (take_next xs i x e)
-
-pub take_long : {A : Type 0} (xs : List A) (i : ℕ) → i ≤ length xs → length (take i xs) ≡ i
-take_long xs zero l = refl
-take_long [] (suc i) l = absurd (omega (arith, l))
-take_long (x ∷ xs) (suc i) l = ap suc (take_long xs i (omega (arith, l)))
-
-pub take_whole : {A : Type 0} (xs : List A) (i : ℕ) → length xs ≤ i → take i xs ≡ xs
-take_whole [] zero l = refl
-take_whole [] (suc i) l = refl
-take_whole (x ∷ xs) zero l = absurd (omega (arith, l))
-take_whole (x ∷ xs) (suc i) l = ap (λ a. x ∷ a) (take_whole xs i (omega (arith, l)))
+lines_count n m g xs e = ap (λ (a : Netlist). length a.signals) e ∙ length-append n.signals (map g xs) ∙ ap (λ a. length n.signals + a) (length-map xs g)
 
 -- ---- numbers in a row
 
@@ -102,11 +79,6 @@ named_get (a ∷ xs) [] i x w e f = absurd (cc)
 named_get (a ∷ xs) (b ∷ ws) zero x w e f = let p : a ≡ x = cc in let q : b ≡ w = cc in ap (λ z. Some (z, b)) p ∙ ap (λ z. Some (x, z)) q
 named_get (a ∷ xs) (b ∷ ws) (suc i) x w e f = named_get xs ws i x w e f
 
-pub map_get : {A B : Type 0} (g : A → B) (xs : List A) (i : ℕ) (x : A) → slice_get xs i ≡ Some x → slice_get (map g xs) i ≡ Some (g x)
-map_get g [] i x e = absurd (cc)
-map_get g (a ∷ xs) zero x e = let p : a ≡ x = cc in ap (λ z. Some (g z)) p
-map_get g (a ∷ xs) (suc i) x e = map_get g xs i x e
-
 pub named_long : (xs : List (List ℕ)) (ws : List ℕ) → length xs ≡ length ws → length (named xs ws) ≡ length ws
 named_long [] [] e = refl
 named_long [] (w ∷ ws) e = absurd (omega (arith, e))
@@ -115,7 +87,7 @@ named_long (x ∷ xs) (w ∷ ws) e = ap suc (named_long xs ws (omega (arith, e))
 
 -- the lines of a function's parameters, with these names
 pub param_lines_long : (c : CheckedProgram) (f : ℕ) (g : List ℕ → List ℕ) → length (named (map g (c.param_names f)) (c.program.params f)) ≡ length (c.program.params f)
-param_lines_long c f g = named_long (map g (c.param_names f)) (c.program.params f) (map_long g (c.param_names f) ∙ params_named c f)
+param_lines_long c f g = named_long (map g (c.param_names f)) (c.program.params f) (length-map (c.param_names f) g ∙ params_named c f)
 
 -- one more of them
 pub param_step : (c : CheckedProgram) (f i w s : ℕ) (x : List ℕ) (g : List ℕ → List ℕ) (h : Line → Signal) (n m k : Netlist)
@@ -124,9 +96,9 @@ pub param_step : (c : CheckedProgram) (f i w s : ℕ) (x : List ℕ) (g : List �
     → k ≡ with_signals n (map h (take (i + 1) (named (map g (c.param_names f)) (c.program.params f))))
 param_step c f i w s x g h n m k a b e q =
     let ls = named (map g (c.param_names f)) (c.program.params f) in
-    let here = named_get (map g (c.param_names f)) (c.program.params f) i (g x) w (map_get g (c.param_names f) i x a) b in
+    let here = named_get (map g (c.param_names f)) (c.program.params f) i (g x) w (get_map g (c.param_names f) i x a) b in
     lines_on n m k h (take i ls) ((g x, w) ∷ []) e q
-    ∙ ap (λ l. with_signals n (map h l)) (sym (take_next ls i (g x, w) here))
+    ∙ ap (λ l. with_signals n (map h l)) (sym (take_suc ls i (g x, w) here))
     ∙ ap (λ j. with_signals n (map h (take j ls))) (let r : suc i ≡ i + 1 = omega arith in r)
 
 -- how many there are so far
@@ -135,4 +107,4 @@ pub param_count : (c : CheckedProgram) (f i : ℕ) (g : List ℕ → List ℕ) (
 param_count c f i g h n m l e =
     let ls = named (map g (c.param_names f)) (c.program.params f) in
     let long = param_lines_long c f g in
-    lines_count n m h (take i ls) e ∙ ap (λ a. length n.signals + a) (take_long ls i (omega (arith, l, long)))
+    lines_count n m h (take i ls) e ∙ ap (λ a. length n.signals + a) (length-take-le i ls (omega (arith, l, long)))

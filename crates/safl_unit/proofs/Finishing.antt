@@ -5,6 +5,9 @@ use Rattle.safl_sites.specs.Plan.{Choice}
 use Rattle.std.proofs.Common.{false, cond, slice_get, nat_lt, ◌==◌, ◌⊎◌, inl, inr, refl, sym, ap, subst, ◌∙◌, arith, append_assoc}
 use Rattle.std.specs.Prelude.{codes}
 use Rattle.std.proofs.lemmas.Bool.{ltb-true}
+use Rattle.std.proofs.lemmas.List.{length-map}
+use Rattle.std.proofs.lemmas.Option.{slice_get_within}
+use Rattle.safl_word.proofs.Lists.{get_front, get_map}
 use Rattle.safl_term.specs.Program.{Program, unit_for}
 use Rattle.safl_term.specs.Checked.{CheckedProgram, IsChecked}
 use Rattle.safl_net.specs.declared.cell.Sig.{Sig}
@@ -32,8 +35,6 @@ use Rattle.safl_unit.specs.Cycles.{BankFits}
 use Rattle.safl_unit.specs.Ties.{Tie, line_of, sig_of, ties, tied, unit_ties, member_ties, function_ties, call_registers, site_ties, register_ties, want_wire, body_ties, call_ties, wire_ties}
 use Rattle.safl_unit.specs.Finished.{input_line, open_register, open_wire, set_register, set_wire, declared_net, ArePins, ControlsFit, Finishes}
 use Rattle.safl_unit.specs.Setting.{with_kinds, next_kind, copy_kind, Takes, IsSet}
-use Rattle.safl_unit.proofs.Declaring.{map_long, map_get}
-use Rattle.safl_unit.proofs.Tables.{get_front}
 use Rattle.safl_unit.proofs.Lining.{register_lines, there}
 use Rattle.safl_unit.proofs.Listing.{wire_lines, bodies_long, calls_long}
 use Rattle.safl_unit.proofs.Setting.{kinded, takes_kept, kinds_list, kinds_long, kinds_names, kinds_outputs, registers_set, wires_set, IsOpen}
@@ -78,7 +79,7 @@ each_sig ts Q f i s e = let q = sig_get ts i s e in subst (Q i) q.2 (f i q.0 q.1
 -- a signal that is made of a line
 pub at_made : {A : Type 0} (front back : List Signal) (make : A → Signal) (ls : List A) (s i : ℕ) (l : A) → s ≡ length front + i → slice_get ls i ≡
     Some l → slice_get (front ++ (map make ls ++ back)) s ≡ Some (make l)
-at_made [] back make ls s i l q e = ap (λ j. slice_get (map make ls ++ back) j) (let r : s ≡ i = omega (arith, q) in r) ∙ get_front (map make ls) back i (make l) (map_get make ls i l e)
+at_made [] back make ls s i l q e = ap (λ j. slice_get (map make ls ++ back) j) (let r : s ≡ i = omega (arith, q) in r) ∙ get_front (map make ls) back i (make l) (get_map make ls i l e)
 at_made (g ∷ front) back make ls zero i l q e = absurd (omega (arith, q))
 at_made (g ∷ front) back make ls (suc s) i l q e = at_made front back make ls s i l (omega (arith, q)) e
 
@@ -209,16 +210,16 @@ module _ (c : CheckedProgram) (h : IsChecked c) (P : Choice) (old : Netlist) (p 
       ∙ append_assoc inputs (registers ++ wires) more ∙ ap (λ l. inputs ++ l) (append_assoc registers wires more)
 
   first_long : p.first_register ≡ length inputs
-  first_long = pins.first_register ∙ sym (map_long input_line (layout_inputs C D))
+  first_long = pins.first_register ∙ sym (length-map (layout_inputs C D) input_line)
 
   registers_long : length registers ≡ length rts
-  registers_long = map_long open_register (map line_of rts) ∙ map_long line_of rts
+  registers_long = length-map (map line_of rts) open_register ∙ length-map rts line_of
 
   wires_long : length wires ≡ length wts
-  wires_long = map_long open_wire (map line_of wts) ∙ map_long line_of wts
+  wires_long = length-map (map line_of wts) open_wire ∙ length-map wts line_of
 
   pub first_wire_is : p.first_wire ≡ p.first_register + length rts
-  first_wire_is = pins.first_wire ∙ ap (λ x. p.first_register + x) (sym (ap length register_lines_are) ∙ map_long line_of rts)
+  first_wire_is = pins.first_wire ∙ ap (λ x. p.first_register + x) (sym (ap length register_lines_are) ∙ length-map rts line_of)
 
   front_long : p.first_wire ≡ length (inputs ++ registers)
   front_long =
@@ -246,12 +247,12 @@ module _ (c : CheckedProgram) (h : IsChecked c) (P : Choice) (old : Netlist) (p 
   at_register : (i : ℕ) (t : Tie) → slice_get rts i ≡ Some t → slice_get old.signals (p.first_register + i) ≡ Some (open_register t.0)
   at_register i t e =
       let a = first_long in
-      ap (λ l. slice_get l (p.first_register + i)) base ∙ at_made inputs (wires ++ more) open_register (map line_of rts) (p.first_register + i) i t.0 (omega (arith, a)) (map_get line_of rts i t e)
+      ap (λ l. slice_get l (p.first_register + i)) base ∙ at_made inputs (wires ++ more) open_register (map line_of rts) (p.first_register + i) i t.0 (omega (arith, a)) (get_map line_of rts i t e)
 
   at_wire : (i : ℕ) (t : Tie) → slice_get wts i ≡ Some t → slice_get old.signals (p.first_wire + i) ≡ Some (open_wire t.0)
   at_wire i t e =
       let a = front_long in
-      ap (λ l. slice_get l (p.first_wire + i)) wires_first ∙ at_made (inputs ++ registers) more open_wire (map line_of wts) (p.first_wire + i) i t.0 (omega (arith, a)) (map_get line_of wts i t e)
+      ap (λ l. slice_get l (p.first_wire + i)) wires_first ∙ at_made (inputs ++ registers) more open_wire (map line_of wts) (p.first_wire + i) i t.0 (omega (arith, a)) (get_map line_of wts i t e)
 
   register_takes : (i : ℕ) (t : Tie) → slice_get rts i ≡ Some t → Takes old (p.first_register + i) (Reg 0 None) t.1
   register_takes i t e =
@@ -284,10 +285,10 @@ module _ (c : CheckedProgram) (h : IsChecked c) (P : Choice) (old : Netlist) (p 
 
   module _ (nexts copies : List Sig) (nexts_are : nexts ≡ map sig_of rts) (copies_are : copies ≡ map sig_of wts) where
     pub nexts_long : length nexts ≡ length rts
-    nexts_long = ap length nexts_are ∙ map_long sig_of rts
+    nexts_long = ap length nexts_are ∙ length-map rts sig_of
 
     pub copies_long : length copies ≡ length wts
-    copies_long = ap length copies_are ∙ map_long sig_of wts
+    copies_long = ap length copies_are ∙ length-map wts sig_of
 
     pub registers_take : EachAt nexts (λ i s. Takes old (p.first_register + i) (Reg 0 None) s)
     registers_take = subst (λ l. EachAt l (λ i s. Takes old (p.first_register + i) (Reg 0 None) s)) (sym nexts_are)
@@ -299,7 +300,7 @@ module _ (c : CheckedProgram) (h : IsChecked c) (P : Choice) (old : Netlist) (p 
 
       past : (i : ℕ) → p.first_register + length (map next_kind nexts) ≤ p.first_wire + i
       past i =
-          let x = map_long next_kind nexts in
+          let x = length-map nexts next_kind in
           let y = nexts_long in
           let z = first_wire_is in
           omega (arith, x, y, z)
@@ -308,12 +309,7 @@ module _ (c : CheckedProgram) (h : IsChecked c) (P : Choice) (old : Netlist) (p 
       wires_take_half =
           subst (λ l. EachAt l (λ i s. Takes half (p.first_wire + i) (Wire None) s)) (sym copies_are)
           (each_sig wts (λ i s. Takes half (p.first_wire + i) (Wire None) s)
-          (λ i t e. takes_kept old p.first_register (map next_kind nexts) (p.first_wire + i) (Wire None) t.1 (past i) (wire_takes i t e (get_within wts i t e))))
-        where
-          get_within : (ts : List Tie) (i : ℕ) (t : Tie) → slice_get ts i ≡ Some t → i < length ts
-          get_within [] i t e = absurd (cc)
-          get_within (x ∷ ts) zero t e = omega arith
-          get_within (x ∷ ts) (suc i) t e = let l = get_within ts i t e in omega (arith, l)
+          (λ i t e. takes_kept old p.first_register (map next_kind nexts) (p.first_wire + i) (Wire None) t.1 (past i) (wire_takes i t e (slice_get_within wts i t e))))
 
       pub wires_take : EachAt copies (λ i s. Takes a (p.first_wire + i) (Wire None) s)
       wires_take = subst (λ n. EachAt copies (λ i s. Takes n (p.first_wire + i) (Wire None) s)) (sym set) wires_take_half
@@ -328,7 +324,7 @@ module _ (c : CheckedProgram) (h : IsChecked c) (P : Choice) (old : Netlist) (p 
         half_signals : half.signals ≡ inputs ++ (map set_register rts ++ (wires ++ more))
         half_signals =
             let x = registers_long in
-            let y = map_long next_kind nexts in
+            let y = length-map nexts next_kind in
             let z = nexts_long in
             kinds_list old p.first_register inputs registers (wires ++ more) (map next_kind nexts) first_long (omega (arith, x, y, z)) base
             ∙ ap (λ l. inputs ++ (l ++ (wires ++ more))) (ap (λ l. kinded registers (map next_kind l)) nexts_are ∙ registers_set rts)
@@ -336,10 +332,10 @@ module _ (c : CheckedProgram) (h : IsChecked c) (P : Choice) (old : Netlist) (p 
         whole_signals : whole.signals ≡ (inputs ++ (map set_register rts ++ map set_wire wts)) ++ more
         whole_signals =
             let x = wires_long in
-            let y = map_long copy_kind copies in
+            let y = length-map copies copy_kind in
             let z = copies_long in
             let u = length-append inputs (map set_register rts) in
-            let v = map_long set_register rts in
+            let v = length-map rts set_register in
             let s = first_long in
             let t = first_wire_is in
             kinds_list half p.first_wire (inputs ++ map set_register rts) wires more (map copy_kind copies) (omega (arith, u, v, s, t))

@@ -6,6 +6,8 @@ use Rattle.std.proofs.Common.{slice_get, nat_lt, inl, inr, refl, sym, ap, subst,
 use Rattle.std.specs.Prelude.{codes}
 use Rattle.std.proofs.lemmas.Option.{slice_get_within}
 use Rattle.std.proofs.lemmas.Bool.{eq-eqb, lt-ltb}
+use Rattle.std.proofs.lemmas.List.{length-map}
+use Rattle.std.proofs.lemmas.Simd.{map-map}
 use Rattle.safl_term.specs.Program.{Program}
 use Rattle.safl_term.specs.Checked.{CheckedProgram, IsChecked}
 use Rattle.safl_term.proofs.HeldByChecked.{params_named}
@@ -24,13 +26,8 @@ use Rattle.safl_unit.specs.declared.pins.Pins.{Pins}
 use Rattle.safl_unit.specs.Cycles.{UnitFits, MemberFits, SiteFits, PinsFit}
 use Rattle.safl_unit.specs.Ties.{Tie, line_of, tied, ties, numbered, unit_ties, member_ties, function_ties, call_registers, site_ties, register_ties}
 use Rattle.safl_unit.specs.Finished.{input_line, open_register, open_wire, declared_net, ArePins}
-use Rattle.safl_unit.proofs.Declaring.{map_long}
 use Rattle.safl_unit.proofs.Members.{Among, among_left, among_right, among_ties, among_cond, made_there, get_at}
 use Rattle.safl_unit.proofs.Lining.{IsFull, register_lines, there}
-
-map_map : {A B D : Type 0} (f : B → D) (g : A → B) (xs : List A) → map f (map g xs) ≡ map (λ x. f (g x)) xs
-map_map f g [] = refl
-map_map f g (x ∷ xs) = ap (λ l. f (g x) ∷ l) (map_map f g xs)
 
 -- a tie whose signal is the register of its line
 source_of : (n : Netlist) (t : Tie) → slice_get n.signals t.1.0 ≡ Some (open_register t.0) → IsSource n t.1 t.0.1
@@ -77,11 +74,11 @@ module _ (c : CheckedProgram) (h : IsChecked c) (P : Choice) (n : Netlist) (p : 
   -- each register stands at its number
   pub register_there : (t : Tie) → Among t all → slice_get n.signals t.1.0 ≡ Some (open_register t.0)
   register_there t a =
-      let long : length (layout_registers C D P) ≡ length all = sym (ap length lined) ∙ map_long line_of all in
+      let long : length (layout_registers C D P) ≡ length all = sym (ap length lined) ∙ length-map all line_of in
       ap (λ (m : Netlist). slice_get m.signals t.1.0) net
-      ∙ ap (λ l. slice_get (map input_line (layout_inputs C D) ++ (l ++ map open_wire (layout_wires C D P))) t.1.0) (ap (λ l. map open_register l) (sym lined) ∙ map_map open_register line_of all)
+      ∙ ap (λ l. slice_get (map input_line (layout_inputs C D) ++ (l ++ map open_wire (layout_wires C D P))) t.1.0) (ap (λ l. map open_register l) (sym lined) ∙ map-map open_register line_of all)
       ∙ made_there (map input_line (layout_inputs C D)) (map open_wire (layout_wires C D P)) (λ (x : Tie). open_register x.0) all p.first_register
-      (pins.first_register ∙ sym (map_long input_line (layout_inputs C D))) (pins.registers ∙ ap (λ k. numbered p.first_register k) long) t a
+      (pins.first_register ∙ sym (length-map (layout_inputs C D) input_line)) (pins.registers ∙ ap (λ k. numbered p.first_register k) long) t a
 
   source : (t : Tie) → Among t all → IsSource n t.1 t.0.1
   source t a = source_of n t (register_there t a)
@@ -124,7 +121,7 @@ module _ (c : CheckedProgram) (h : IsChecked c) (P : Choice) (n : Netlist) (p : 
 
       arguments : AreSources n m.args.items (C.params f)
       arguments =
-          args_sources n (map (of_param D f) (D.params f)) (C.params f) m.args.items (map_long (of_param D f) (D.params f) ∙ params_named c f) (pins.args f m e)
+          args_sources n (map (of_param D f) (D.params f)) (C.params f) m.args.items (length-map (D.params f) (of_param D f) ∙ params_named c f) (pins.args f m e)
           (λ t a. in_member f m t l e (among_right t (cond (many C f) (((of_function D (codes "at$") f, 1), m.at) ∷ []) []) _ a))
 
   in_site : (k : ℕ) (s : SitePins) (t : Tie) → k < suc C.sites → slice_get p.bank.sites.items k ≡ Some s → Among t (call_registers C P k (Some s)) → IsSource n t.1 t.0.1
@@ -162,7 +159,7 @@ module _ (c : CheckedProgram) (h : IsChecked c) (P : Choice) (n : Netlist) (p : 
         subst (λ xs. AreSources n xs (C.params C.main)) (sym pins.words)
         (inputs_there n (input_line (codes "start", 1) ∷ []) (map open_register (layout_registers C D P) ++ map open_wire (layout_wires C D P))
         (map (λ x. codes "in$" ++ x) (D.params C.main)) (C.params C.main) (ap (λ (m : Netlist). m.signals) net)
-        (map_long (λ x. codes "in$" ++ x) (D.params C.main) ∙ params_named c C.main));
+        (length-map (D.params C.main) (λ x. codes "in$" ++ x) ∙ params_named c C.main));
     bank = record {
       units_length = pins.units_length;
       members_length = pins.members_length;

@@ -7,11 +7,11 @@ use Rattle.safl_term.specs.Readiness.{or_else}
 use Rattle.safl_net.specs.Growth.{Val, words}
 use Rattle.safl_circuit.specs.Equations.{Registers, Inputs, many, ret, go, ends, starts, loads, loop_words, clears, starts_it, starts_other, or_word, next}
 use Rattle.safl_lower.specs.Tables.{one_word}
+use Rattle.safl_lower.proofs.Goes.{one_some}
 use Rattle.safl_unit.specs.declared.pins.UnitPins.{UnitPins}
 use Rattle.safl_unit.specs.declared.pins.MemberPins.{MemberPins}
 use Rattle.safl_unit.specs.declared.pins.SitePins.{SitePins}
 use Rattle.safl_unit.specs.Cycles.{UnitShows, MemberShows, SiteShows}
-use Rattle.safl_unit.proofs.Crossing.{some_word}
 use Rattle.safl_unit.specs.Steps.{UnitStep, MemberStep, SiteStep}
 
 -- set, and cleared before all
@@ -46,7 +46,7 @@ module _ (C : Program) (P : Choice) (v : Val) (r : Registers) (i : Inputs) where
       one_word (ends C P r u) → start ≡ is_some (starts C P r i u) → UnitShows v y (next C P i r) u
   unfolding next
   unit_follows u end start x y h a e s =
-      let some : is_some end ≡ is_some (ends C P r u) = ap is_some e ∙ some_word (ends C P r u) in
+      let some : is_some end ≡ is_some (ends C P r u) = ap is_some e ∙ one_some (ends C P r u) in
       record {
         run = h.run ∙ ap (λ (b : Bool). (start || b) && not (is_some end)) a.run ∙ ap (λ (b : Bool). (b || r.run u) && not (is_some end)) s ∙ ap
             (λ (b : Bool). (is_some (starts C P r i u) || r.run u) && not b) some

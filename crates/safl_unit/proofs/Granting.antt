@@ -1,10 +1,10 @@
 -- Which sites start, one by one.
-use Rattle.std.proofs.Common.{◌≡◌, ℕ, zero, suc, ◌≤◌, List, [], ◌∷◌, ◌++◌, length, slice_get, subst, Option, Some, None, Bool, true, false, ◌&&◌}
+use Rattle.std.proofs.Common.{◌≡◌, ℕ, zero, suc, ◌≤◌, List, [], ◌∷◌, ◌++◌, length, slice_get, subst, Option, Some, Bool, true, false, ◌&&◌}
 use Rattle.safl_sites.specs.Plan.{Choice}
-use Rattle.std.proofs.Common.{◌||◌, ◌==◌, not, cond, is_some, Result, Ok, Err, IfOk, OnOk, refl, sym, ap, ◌∙◌, arith}
-use Rattle.std.proofs.lemmas.Bool.{eqb-true, ne_eqb}
+use Rattle.std.proofs.Common.{◌||◌, ◌==◌, not, cond, is_some, Result, Ok, Err, IfOk, refl, sym, ap, ◌∙◌, arith}
+use Rattle.safl_word.proofs.Options.{some_if}
 use Rattle.safl_term.specs.Program.{Program, unit_for}
-use Rattle.safl_term.specs.Readiness.{or_else}
+use Rattle.safl_term.proofs.OrElse.{either_some}
 use Rattle.safl_calls.specs.Picks.{first}
 use Rattle.safl_net.specs.declared.cell.Sig.{Sig}
 use Rattle.safl_net.specs.Netlist.{Netlist}
@@ -12,7 +12,6 @@ use Rattle.safl_net.specs.Growth.{Val, Wired}
 use Rattle.safl_net.proofs.Growth.{wired_before}
 use Rattle.safl_net.specs.Bits.{on}
 use Rattle.safl_net.specs.Bits.{gate}
-use Rattle.safl_lower.proofs.BitWords.{same}
 use Rattle.safl_circuit.specs.Equations.{Registers, Inputs, want, wants_at, go}
 use Rattle.safl_lower.specs.declared.loads.Load.{Load}
 use Rattle.safl_lower.specs.Sources.{IsSource, Builds}
@@ -34,14 +33,6 @@ pub want_shown : (C : Program) (P : Choice) (r : Registers) (i : Inputs) (v : Va
     → taken_at v xs (suc m) ≡ called C P r i (suc m) → on v l.bit ≡ want C P r (suc m)
 want_shown C P r i v xs m l e h = sym (gated (on v l.bit) _) ∙ ap (λ (o : Option Load). is_some (taken_in v o)) (sym e) ∙ ap is_some h
 
-either_some : {A : Type 0} (a b : Option A) → is_some (or_else a b) ≡ (is_some a || is_some b)
-either_some None b = refl
-either_some (Some x) b = refl
-
-tested : (b : Bool) (k : ℕ) → is_some (cond b (Some k) None) ≡ b
-tested true k = refl
-tested false k = refl
-
 -- the sites up to number m, as far as they were made, and which of them want, by unit
 pub record Granted (C : Program) (P : Choice) (n : Netlist) (p : Pins) (goes : List Sig) (m : ℕ) : Type 0 where
   pub count : length goes ≡ suc m
@@ -56,7 +47,7 @@ pub next_of : (C : Program) (P : Choice) (r : Registers) (u m : ℕ) → is_some
     (is_some (first (wants_at C P r u) (suc m)) || (unit_for C (suc m) == u && want C P r (suc m)))
 unfolding first
 next_of C P r u m = either_some (first (wants_at C P r u) (suc m)) (wants_at C P r u (suc m)) ∙ ap
-    (λ (b : Bool). is_some (first (wants_at C P r u) (suc m)) || b) (tested (unit_for C (suc m) == u && want C P r (suc m)) (suc m))
+    (λ (b : Bool). is_some (first (wants_at C P r u) (suc m)) || b) (some_if (unit_for C (suc m) == u && want C P r (suc m)) (suc m))
 
 main_go : (C : Program) (P : Choice) (r : Registers) (i : Inputs) → (i.start && not (r.run (C.unit C.main))) ≡ go C P r i 0
 unfolding go
@@ -81,13 +72,6 @@ none_granted C P n p goes s e f h = record {
     alone Q q zero x e = let k : s ≡ x = cc in subst (Q 0) k q
     alone Q q (suc j) x e = absurd (cc)
 
-pub same_test : (a b : ℕ) → (a == b) ≡ (b == a)
-same_test a b = by (a == b) refl
-  where
-    by : (t : Bool) → (a == b) ≡ t → t ≡ (b == a)
-    by true q = sym (same a) ∙ ap (λ (x : ℕ). x == a) (eqb-true a b q)
-    by false q = sym (ne_eqb b a (λ e. let f : true ≡ false = sym (ap (λ (x : ℕ). a == x) e ∙ same a) ∙ q in cc))
-
 pub granted_on : (C : Program) (P : Choice) (a b : Netlist) (p : Pins) (goes : List Sig) (m k : ℕ) → Builds a b k → Granted C P a p goes m → Granted C P b p goes m
 granted_on C P a b p goes m k built h = record { count = h.count; fits = λ j s e. source_kept built (h.fits j s e); shows = λ v r i c. h.shows v r i (cycle_before built c) }
 
@@ -110,10 +94,6 @@ all_granted C P n p goes h =
     }
 
 -- ---- gates
-
-pub on_ok : {A E : Type 0} (r : Result A E) {Q : Type 0} → Q → OnOk r Q
-on_ok (Ok x) q = q
-on_ok (Err e) q = tt
 
 pub both_shown : {E : Type 0} (k m : Netlist) (r : Result Sig E) (x y : Sig) (test : Val → Bool) → Builds k m 1 → ((v : Val) → Wired k v → on v y ≡ test v)
     → IfOk r (λ s. (v : Val) → Wired m v → on v s ≡ (on v x && on v y)) → IfOk r (λ s. (v : Val) → Wired m v → on v s ≡ (on v x && test v))

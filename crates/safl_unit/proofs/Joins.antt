@@ -1,20 +1,20 @@
 -- The loads of a body among those of the bodies before it.
 use Rattle.std.proofs.Common.{◌≡◌, ℕ, zero, suc, ◌+◌, ◌-◌, ◌<◌, ◌≤◌, List, [], ◌∷◌, ◌++◌, length, length-append, cond, Vec, Global, Option, Some}
 use Rattle.std.proofs.Common.{None, Bool, true, false, ◌==◌, ◌⊎◌, inl, inr, add-one, slice_get, refl, sym, ap, subst, ◌∙◌, arith}
-use Rattle.std.proofs.lemmas.Bool.{eq-eqb, ne_eqb, eqb-true, eqb-false}
+use Rattle.std.proofs.lemmas.Bool.{eq-eqb, ne_eqb, eqb-true, eqb-false, cases_lt}
+use Rattle.safl_word.proofs.Lists.{get_end, nil_at_end}
 use Rattle.safl_term.specs.Program.{Program}
 use Rattle.safl_term.specs.Sizes.{nodes, body_nodes}
 use Rattle.safl_term.specs.Readiness.{or_else}
+use Rattle.safl_term.proofs.OrElse.{or_else_none, or_is}
 use Rattle.safl_net.specs.Netlist.{Netlist}
 use Rattle.safl_net.specs.Growth.{Val}
 use Rattle.safl_lower.specs.declared.loads.Load.{Load}
 use Rattle.safl_lower.specs.Tables.{EachAt, taken_in, load_in, FitsIn, SomeFit}
 use Rattle.safl_lower.specs.Rows.{AllFit, first_taken, row_at, RowsFit}
-use Rattle.safl_lower.proofs.JoinedRows.{append_none, fit_push, first_pushed}
+use Rattle.safl_lower.proofs.JoinedRows.{fit_push, first_pushed}
 use Rattle.safl_lower.specs.Loads.{load_cost, loads_cost}
 use Rattle.safl_unit.specs.Outcomes.{PushesLoads, maybe_load}
-use Rattle.safl_unit.proofs.Options.{first_is}
-use Rattle.safl_lower.proofs.FromProgram.{side}
 
 -- ---- counts
 
@@ -33,19 +33,11 @@ each_append (y ∷ xs) ys P a b (suc i) x e =
 
 -- ---- tail calls
 
-pub or_nothing : {A : Type 0} (o : Option A) → or_else o None ≡ o
-or_nothing None = refl
-or_nothing (Some x) = refl
-
 -- the last of a table, and those before it
 front_at : {A : Type 0} (xs : List A) (x : A) (i : ℕ) → i < length xs → slice_get (xs ++ x ∷ []) i ≡ slice_get xs i
 front_at [] x i l = absurd (omega (arith, l))
 front_at (y ∷ xs) x zero l = refl
 front_at (y ∷ xs) x (suc i) l = front_at xs x i (omega (arith, l))
-
-last_at : {A : Type 0} (xs : List A) (x : A) → slice_get (xs ++ x ∷ []) (length xs) ≡ Some x
-last_at [] x = refl
-last_at (y ∷ xs) x = last_at xs x
 
 pub cost_end : (xs : List (Option Load)) (o : Option Load) → loads_cost (xs ++ o ∷ []) ≡ loads_cost xs + load_cost o
 cost_end [] o = omega arith
@@ -58,13 +50,13 @@ module _ (first : ℕ) (own : List (Option Load)) (old mid new : List (Vec Load 
     (h : PushesLoads first (length own) own old mid)
     (step : (k : ℕ) → row_at new k ≡ row_at mid k ++ cond (k == first + length own) (maybe_load o) []) where
   apart : (k : ℕ) → (k ≡ first + length own → ⊥) → row_at new k ≡ row_at mid k
-  apart k d = step k ∙ ap (λ (b : Bool). row_at mid k ++ cond b (maybe_load o) []) (ne_eqb k (first + length own) d) ∙ sym (append_none (row_at mid k))
+  apart k d = step k ∙ ap (λ (b : Bool). row_at mid k ++ cond b (maybe_load o) []) (ne_eqb k (first + length own) d) ∙ sym (nil_at_end (row_at mid k))
 
   here : row_at new (first + length own) ≡ row_at old (first + length own) ++ maybe_load (load_in (slice_get (own ++ o ∷ []) (length own)))
   here =
       step (first + length own) ∙ ap (λ (b : Bool). row_at mid (first + length own) ++ cond b (maybe_load o) []) (eq-eqb (first + length own) (first + length own) refl)
       ∙ ap (λ (l : List Load). l ++ maybe_load o) (h.others (first + length own) (inr (omega arith)))
-      ∙ ap (λ (x : Option (Option Load)). row_at old (first + length own) ++ maybe_load (load_in x)) (sym (last_at own o))
+      ∙ ap (λ (x : Option (Option Load)). row_at old (first + length own) ++ maybe_load (load_in x)) (sym (get_end own o))
 
   pushed_at : (j : ℕ) → j < length own + 1 → (b : Bool) → (j == length own) ≡ b → row_at new (first + j) ≡ row_at old (first + j) ++ maybe_load (load_in (slice_get (own ++ o ∷ []) j))
   pushed_at j k true e =
@@ -88,11 +80,11 @@ module _ (first : ℕ) (own : List (Option Load)) (old mid new : List (Vec Load 
 -- ---- what the rows show
 
 pub taken_maybe : (v : Val) (old : List Load) (o : Option Load) → first_taken v (old ++ maybe_load o) ≡ or_else (first_taken v old) (taken_in v o)
-taken_maybe v old None = ap (first_taken v) (sym (append_none old)) ∙ sym (or_nothing (first_taken v old))
-taken_maybe v old (Some l) = first_pushed v old (old ++ l ∷ []) true l refl ∙ first_is (first_taken v old) (taken_in v (Some l))
+taken_maybe v old None = ap (first_taken v) (sym (nil_at_end old)) ∙ sym (or_else_none (first_taken v old))
+taken_maybe v old (Some l) = first_pushed v old (old ++ l ∷ []) true l refl ∙ or_is (first_taken v old) (taken_in v (Some l))
 
 fit_maybe : (n : Netlist) (old : List Load) (o : Option Load) (ws : List ℕ) → AllFit n old ws → FitsIn n o ws → AllFit n (old ++ maybe_load o) ws
-fit_maybe n old None ws h q = subst (λ (l : List Load). AllFit n l ws) (append_none old) h
+fit_maybe n old None ws h q = subst (λ (l : List Load). AllFit n l ws) (nil_at_end old) h
 fit_maybe n old (Some l) ws h q = fit_push n old l ws h q
 
 module _ (n : Netlist) (first : ℕ) (own : List (Option Load)) (old new : List (Vec Load Global)) (ws : ℕ → List ℕ)
@@ -108,4 +100,4 @@ module _ (n : Netlist) (first : ℕ) (own : List (Option Load)) (old new : List 
       (fit_maybe n (row_at old (first + (i - first))) (load_in (slice_get own (i - first))) (ws (first + (i - first))) (before (first + (i - first))) (fit (i - first))))
 
   pub rows_more : RowsFit n new ws
-  rows_more i = fit_at i (side i first) (side i (first + length own))
+  rows_more i = fit_at i (cases_lt i first) (cases_lt i (first + length own))

@@ -4,22 +4,19 @@ use Rattle.std.proofs.Common.{slice_get, slice_index, bytes_eq, decimal, refl, s
 use Rattle.std.specs.Prelude.{codes}
 use Rattle.std.proofs.lemmas.List.{append-nil}
 use Rattle.std.proofs.lemmas.Slice.Eq.{bytes_eq-Decides}
+use Rattle.safl_word.specs.Words.{as_word}
 use Rattle.safl_net.specs.Netlist.{Netlist, Signal, Kind, Input, Reg, Wire, IsSet, AllSet, width_in, width_of}
 use Rattle.safl_net.specs.Growth.{HasCell, AreTemps, words}
 use Rattle.safl_net.specs.Valuations.{Valuation, signal_word, kind_reset, reset_number, reset_state}
 use Rattle.safl_net.specs.Runs.{is_argument, input_numbers}
-use Rattle.safl_circuit.specs.Names.{as_word, as_words}
+use Rattle.safl_circuit.specs.Names.{as_words}
 use Rattle.safl_circuit.specs.Layout.{Line, named, each_line, input_kind, register_kind, wire_kind, temporaries}
+use Rattle.safl_circuit.proofs.MirrorLines.{more as each_more}
 use Rattle.safl_unit.specs.Ties.{Tie, line_of, numbered}
 use Rattle.safl_unit.specs.Finished.{input_line, set_register, set_wire}
 use Rattle.safl_unit.proofs.Members.{get_at}
 
 -- ---- lines
-
-each_more : (f : Line → Kind → List Line) (xs ys : List Signal) → each_line f (xs ++ ys) ≡ each_line f xs ++ each_line f ys
-unfolding each_line
-each_more f [] ys = refl
-each_more f (g ∷ xs) ys = ap (λ l. f (g.name, g.width) g.kind ++ l) (each_more f xs ys) ∙ sym (append_assoc (f (g.name, g.width) g.kind) (each_line f xs) (each_line f ys))
 
 each_none : {A : Type 0} (f : Line → Kind → List Line) (make : A → Signal) (xs : List A) → ((x : A) → f ((make x).name, (make x).width) (make x).kind ≡ []) → each_line f (map make xs) ≡ []
 unfolding each_line

@@ -1,11 +1,13 @@
 -- The names of a circuit's signals are good, and show their heads and what they are of.
-use Rattle.std.proofs.Common.{◌≡◌, ℕ, ◌+◌, ◌<◌, ◌≤◌, ◌^◌, ◌%◌, List, [], ◌∷◌, ◌++◌, length, length-append, Bool, true, false, not, cond, ◌==◌, ◌&&◌, ◌||◌, nat_le, decimal, refl, ap, ◌∙◌, arith}
+use Rattle.std.proofs.Common.{◌≡◌, ℕ, ◌+◌, ◌<◌, ◌≤◌, ◌^◌, ◌%◌, List, [], ◌∷◌, ◌++◌, length, length-append, Bool, true, false, not, cond, ◌==◌, ◌&&◌, nat_le, decimal, refl, ap, ◌∙◌, arith}
 use Rattle.std.specs.List.{list_all}
-use Rattle.std.proofs.lemmas.Bool.{and_parts}
+use Rattle.std.proofs.lemmas.Bool.{and_parts, and_from, or_left, or_right}
 use Rattle.std.proofs.lemmas.Bool.Decides.{nat_tests}
 use Rattle.std.proofs.lemmas.Fmt.{decimal_by_steps, length-decimal-le}
 use Rattle.safl_word.specs.Numerals.{between}
-use Rattle.safl_word.specs.Tokens.{IsName, IsNameLike, begins_name, in_name}
+use Rattle.safl_word.specs.Tokens.{IsName, begins_name, in_name}
+use Rattle.safl_word.proofs.Lexemes.{all_in_name}
+use Rattle.safl_word.proofs.Naturals.{short_enough}
 use Rattle.safl_net.specs.Names.{is_part, are_parts, is_identifier, is_reserved, is_good}
 
 -- ---- names and numbers, without `$`
@@ -14,26 +16,14 @@ pub record IsPiece (x : List ℕ) : Type 0 where
   pub all : list_all in_name x ≡ true
   pub short : length x ≤ 64
 
-both : (a b : Bool) → a ≡ true → b ≡ true → (a && b) ≡ true
-both true b e f = f
-both false b e f = absurd (cc)
-
-either : (a b : Bool) → a ≡ true → (a || b) ≡ true
-either true b e = refl
-either false b e = absurd (cc)
-
-like_piece : (x : List ℕ) → IsNameLike x → list_all in_name x ≡ true
-like_piece [] h = absurd h
-like_piece (c ∷ x) h = both (in_name c) (list_all in_name x) (either (begins_name c) (between 48 57 c) h.0) h.1
-
 pub name_piece : (x : List ℕ) → IsName x → IsPiece x
-name_piece x h = record { all = like_piece x h.like; short = h.short }
+name_piece x h = record { all = all_in_name x h.like; short = h.short }
 
 digits_push : (ds : List ℕ) (d : ℕ) → list_all (between 48 57) ds ≡ true → between 48 57 d ≡ true → list_all (between 48 57) (ds ++ d ∷ []) ≡ true
-digits_push [] d e f = both (between 48 57 d) true f refl
+digits_push [] d e f = and_from (between 48 57 d) true f refl
 digits_push (c ∷ ds) d e f =
     let p = and_parts (between 48 57 c) (list_all (between 48 57) ds) e in
-    both (between 48 57 c) (list_all (between 48 57) (ds ++ d ∷ [])) p.0 (digits_push ds d p.1 f)
+    and_from (between 48 57 c) (list_all (between 48 57) (ds ++ d ∷ [])) p.0 (digits_push ds d p.1 f)
 
 is_digit : (m : ℕ) → m < 10 → between 48 57 (48 + m) ≡ true
 is_digit m l = grind (arith, nat_tests)
@@ -44,15 +34,11 @@ decimal_digits n h = decimal_by_steps (λ m ds. list_all (between 48 57) ds ≡ 
     (λ m ds k e. digits_push ds (48 + m % 10) e (is_digit (m % 10) (omega arith)))
     n h
 
-or_right : (a b : Bool) → b ≡ true → (a || b) ≡ true
-or_right true b e = refl
-or_right false b e = e
-
 digits_piece : (x : List ℕ) → list_all (between 48 57) x ≡ true → list_all in_name x ≡ true
 digits_piece [] e = refl
 digits_piece (c ∷ x) e =
     let p = and_parts (between 48 57 c) (list_all (between 48 57) x) e in
-    both (in_name c) (list_all in_name x) (or_right (begins_name c) (between 48 57 c) p.0) (digits_piece x p.1)
+    and_from (in_name c) (list_all in_name x) (or_right (begins_name c) (between 48 57 c) p.0) (digits_piece x p.1)
 
 pub decimal_piece : (n : ℕ) → n < 4294967296 → IsPiece (decimal n)
 decimal_piece n h =
@@ -62,18 +48,15 @@ decimal_piece n h =
 -- ---- good names
 
 part : (c : ℕ) → in_name c ≡ true → is_part c ≡ true
-part c h = either (in_name c) (c == 36) h
+part c h = or_left (in_name c) (c == 36) h
 
 parts_of : (x : List ℕ) → list_all in_name x ≡ true → are_parts x ≡ true
 parts_of [] e = refl
-parts_of (c ∷ x) e = let p = and_parts (in_name c) (list_all in_name x) e in both (is_part c) (are_parts x) (part c p.0) (parts_of x p.1)
+parts_of (c ∷ x) e = let p = and_parts (in_name c) (list_all in_name x) e in and_from (is_part c) (are_parts x) (part c p.0) (parts_of x p.1)
 
 parts_more : (x y : List ℕ) → are_parts x ≡ true → are_parts y ≡ true → are_parts (x ++ y) ≡ true
 parts_more [] y e f = f
-parts_more (c ∷ x) y e f = let p = and_parts (is_part c) (are_parts x) e in both (is_part c) (are_parts (x ++ y)) p.0 (parts_more x y p.1 f)
-
-short_enough : (n : ℕ) → n ≤ 200 → nat_le n 200 ≡ true
-short_enough n h = grind (arith, nat_tests)
+parts_more (c ∷ x) y e f = let p = and_parts (is_part c) (are_parts x) e in and_from (is_part c) (are_parts (x ++ y)) p.0 (parts_more x y p.1 f)
 
 all_good : (a b c : Bool) → a ≡ true → b ≡ true → c ≡ false → (a && b && not c) ≡ true
 all_good true true false e f g = refl

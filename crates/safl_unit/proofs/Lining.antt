@@ -3,6 +3,7 @@ use Rattle.std.proofs.Common.{◌≡◌, ℕ, zero, suc, ◌<◌, List, [], ◌�
 use Rattle.safl_term.specs.Names.{Names}
 use Rattle.safl_sites.specs.Plan.{Choice}
 use Rattle.std.specs.Prelude.{codes}
+use Rattle.std.proofs.lemmas.List.{map-append}
 use Rattle.safl_term.specs.Program.{Program}
 use Rattle.safl_term.specs.Checked.{CheckedProgram, IsChecked}
 use Rattle.safl_net.specs.declared.cell.Sig.{Sig}
@@ -16,7 +17,7 @@ use Rattle.safl_unit.specs.declared.pins.SitePins.{SitePins}
 use Rattle.safl_unit.specs.declared.pins.Bank.{Bank}
 use Rattle.safl_unit.specs.Ties.{Tie, line_of, ties, tied, unit_ties, member_ties, function_ties, call_registers, site_ties, register_ties}
 use Rattle.safl_unit.specs.Declaring.{unit_head, at_line, argument_lines, function_lines}
-use Rattle.safl_unit.proofs.Declaring.{map_more, param_lines_long}
+use Rattle.safl_unit.proofs.Declaring.{param_lines_long}
 use Rattle.safl_unit.proofs.Ordering.{units_in_order}
 
 pub tied_lines : (ls : List Line) (ss : List Sig) → length ss ≡ length ls → map line_of (tied ls ss) ≡ ls
@@ -28,7 +29,7 @@ pub ties_lines : (g : ℕ → List Tie) (h : ℕ → List Line) (n : ℕ) → ((
 unfolding ties lines
 ties_lines g h zero e = refl
 ties_lines g h (suc n) e =
-    map_more line_of (ties g n) (g n) ∙ ap (λ l. l ++ map line_of (g n)) (ties_lines g h n (λ i l. e i (omega (arith, l)))) ∙ ap (λ l. lines h n ++ l) (e n (omega arith))
+    map-append line_of (ties g n) (g n) ∙ ap (λ l. l ++ map line_of (g n)) (ties_lines g h n (λ i l. e i (omega (arith, l)))) ∙ ap (λ l. lines h n ++ l) (e n (omega arith))
 
 head_lines : (b : Bool) (x y z : Line) (r s t : Sig) → map line_of (cond b ((x, r) ∷ (y, s) ∷ (z, t) ∷ []) []) ≡ cond b (x ∷ y ∷ z ∷ []) []
 head_lines true x y z r s t = refl
@@ -60,7 +61,7 @@ pub record IsFull (C : Program) (b : Bank) : Type 0 where
 pub register_lines : (c : CheckedProgram) → IsChecked c → (P : Choice) (b : Bank) → IsFull c.program b → map line_of
     (register_ties c.program c.names P b) ≡ layout_registers c.program c.names P
 register_lines c h P b full =
-    map_more line_of (ties (function_ties C D b.units.items b.members.items) C.functions) (ties (site_ties C P b.sites.items) (suc C.sites))
+    map-append line_of (ties (function_ties C D b.units.items b.members.items) C.functions) (ties (site_ties C P b.sites.items) (suc C.sites))
     ∙ ap (λ l. l ++ map line_of (ties (site_ties C P b.sites.items) (suc C.sites)))
     (ties_lines (function_ties C D b.units.items b.members.items) (function_lines C D) C.functions
     (λ f l. of_one f (there b.units.items f C.functions full.units l) (there b.members.items f C.functions full.members l))
@@ -79,10 +80,10 @@ register_lines c h P b full =
     of_one f (u, e) (m, q) =
         ap (λ o. map line_of (unit_ties C D f o ++ member_ties C D f (slice_get b.members.items f))) e
         ∙ ap (λ o. map line_of (unit_ties C D f (Some u) ++ member_ties C D f o)) q
-        ∙ map_more line_of (unit_ties C D f (Some u)) (member_ties C D f (Some m))
+        ∙ map-append line_of (unit_ties C D f (Some u)) (member_ties C D f (Some m))
         ∙ ap (λ l. l ++ map line_of (member_ties C D f (Some m))) (head_lines (C.unit f == f) _ _ _ u.run u.fin u.res)
         ∙ ap (λ l. unit_head C D f ++ l)
-        (map_more line_of (cond (many C f) (((of_function D (codes "at$") f, 1), m.at) ∷ []) []) (tied (argument_lines C D f) m.args.items)
+        (map-append line_of (cond (many C f) (((of_function D (codes "at$") f, 1), m.at) ∷ []) []) (tied (argument_lines C D f) m.args.items)
         ∙ ap (λ l. l ++ map line_of (tied (argument_lines C D f) m.args.items)) (one_line (many C f) (of_function D (codes "at$") f, 1) m.at)
         ∙ ap (λ l. at_line C D f ++ l) (tied_lines (argument_lines C D f) m.args.items (full.args f m q ∙ sym (param_lines_long c f (of_param D f)))))
 

@@ -4,7 +4,7 @@ use Rattle.safl_term.specs.Names.{Names}
 use Rattle.std.proofs.Common.{false, cond, slice_get, ◌==◌, nat_lt, refl, sym, ap, ◌∙◌, arith, append_assoc}
 use Rattle.std.specs.Prelude.{codes}
 use Rattle.std.proofs.lemmas.Bool.{eqb-true, eqb-false}
-use Rattle.std.proofs.lemmas.List.{append-nil}
+use Rattle.std.proofs.lemmas.List.{append-nil, length-map, map-append}
 use Rattle.safl_term.specs.Program.{Program, unit_for}
 use Rattle.safl_term.specs.Checked.{CheckedProgram}
 use Rattle.safl_net.specs.declared.cell.Sig.{Sig}
@@ -20,7 +20,7 @@ use Rattle.safl_unit.specs.declared.pins.Controls.{Controls}
 use Rattle.safl_unit.specs.Ties.{Tie, line_of, sig_of, ties, tied, unit_ties, member_ties, function_ties, call_registers, site_ties, register_ties, body_ties, call_ties, wire_ties}
 use Rattle.safl_unit.specs.Declaring.{argument_lines}
 use Rattle.safl_unit.specs.Setting.{at_ties, own_ties}
-use Rattle.safl_unit.proofs.Declaring.{map_more, map_long, param_lines_long}
+use Rattle.safl_unit.proofs.Declaring.{param_lines_long}
 use Rattle.safl_unit.proofs.Pinning.{tied_sigs, body_wires_count}
 use Rattle.safl_unit.proofs.Lining.{ties_lines}
 
@@ -33,7 +33,7 @@ none_listed xs g = sym (append-nil xs)
 pub more_listed : (xs ys zs : List Sig) (g : ℕ → List Tie) (n : ℕ) → ys ≡ xs ++ map sig_of (ties g n) → zs ≡ ys ++ map sig_of (g n) → zs ≡ xs ++ map sig_of (ties g (n + 1))
 unfolding ties
 more_listed xs ys zs g n e q =
-    q ∙ ap (λ l. l ++ map sig_of (g n)) e ∙ append_assoc xs (map sig_of (ties g n)) (map sig_of (g n)) ∙ ap (λ l. xs ++ l) (sym (map_more sig_of (ties g n) (g n)))
+    q ∙ ap (λ l. l ++ map sig_of (g n)) e ∙ append_assoc xs (map sig_of (ties g n)) (map sig_of (g n)) ∙ ap (λ l. xs ++ l) (sym (map-append sig_of (ties g n) (g n)))
     ∙ ap (λ j. xs ++ map sig_of (ties g j)) (let r : suc n ≡ n + 1 = omega arith in r)
 
 -- no tie for number 0
@@ -66,8 +66,8 @@ function_listed c us ms f u m xs a b e atu atm long ea eb ee =
     ∙ ap (λ l. xs ++ l)
     (append_assoc ut at m.args.items
     ∙ ap (λ l. ut ++ (at ++ l)) (sym (tied_sigs g m.args.items (long ∙ sym (param_lines_long c f (of_param D f)))))
-    ∙ ap (λ l. ut ++ l) (sym (map_more sig_of (at_ties C D f m.at) (tied g m.args.items)))
-    ∙ sym (map_more sig_of (unit_ties C D f (Some u)) (member_ties C D f (Some m)))
+    ∙ ap (λ l. ut ++ l) (sym (map-append sig_of (at_ties C D f m.at) (tied g m.args.items)))
+    ∙ sym (map-append sig_of (unit_ties C D f (Some u)) (member_ties C D f (Some m)))
     ∙ ap (λ o. map sig_of (unit_ties C D f o ++ member_ties C D f (Some m))) (sym atu)
     ∙ ap (λ o. map sig_of (unit_ties C D f (slice_get us f) ++ member_ties C D f o)) (sym atm))
 
@@ -75,7 +75,7 @@ pub registers_listed : (C : Program) (D : Names) (P : Choice) (b : Bank) (k : �
     ++ map sig_of (ties (site_ties C P b.sites.items) k)
     → xs ≡ map sig_of (register_ties C D P b)
 registers_listed C D P b k xs e q =
-    q ∙ ap (λ j. map sig_of (own_ties C D b) ++ map sig_of (ties (site_ties C P b.sites.items) j)) e ∙ sym (map_more sig_of (own_ties C D b) (ties (site_ties C P b.sites.items) (suc C.sites)))
+    q ∙ ap (λ j. map sig_of (own_ties C D b) ++ map sig_of (ties (site_ties C P b.sites.items) j)) e ∙ sym (map-append sig_of (own_ties C D b) (ties (site_ties C P b.sites.items) (suc C.sites)))
 
 -- ---- the named wires
 
@@ -98,16 +98,16 @@ module _ (C : Program) (D : Names) (P : Choice) (first : ℕ) (T : Controls) whe
 
   pub wire_lines : map line_of (wire_ties C D P first T) ≡ layout_wires C D P
   wire_lines =
-      map_more line_of (ties (body_ties D T) C.functions) (ties (call_ties C P first T) (suc C.sites) ++ ((codes "go$main", 1), pin T.goes.items 0) ∷ [])
+      map-append line_of (ties (body_ties D T) C.functions) (ties (call_ties C P first T) (suc C.sites) ++ ((codes "go$main", 1), pin T.goes.items 0) ∷ [])
       ∙ ap (λ l. l ++ map line_of (ties (call_ties C P first T) (suc C.sites) ++ ((codes "go$main", 1), pin T.goes.items 0) ∷ [])) (body_lines C.functions)
       ∙ ap (λ l. lines (function_wires D) C.functions ++ l)
-      (map_more line_of (ties (call_ties C P first T) (suc C.sites)) (((codes "go$main", 1), pin T.goes.items 0) ∷ []) ∙ ap (λ l. l ++ (codes "go$main", 1) ∷ []) (call_lines (suc C.sites)))
+      (map-append line_of (ties (call_ties C P first T) (suc C.sites)) (((codes "go$main", 1), pin T.goes.items 0) ∷ []) ∙ ap (λ l. l ++ (codes "go$main", 1) ∷ []) (call_lines (suc C.sites)))
 
   pub bodies_long : (n : ℕ) → length (ties (body_ties D T) n) ≡ 2 * n
-  bodies_long n = sym (map_long line_of (ties (body_ties D T) n)) ∙ ap length (body_lines n) ∙ body_wires_count D n
+  bodies_long n = sym (length-map (ties (body_ties D T) n) line_of) ∙ ap length (body_lines n) ∙ body_wires_count D n
 
   pub calls_long : (n : ℕ) → length (ties (call_ties C P first T) n) ≡ length (lines (site_wires C P) n)
-  calls_long n = sym (map_long line_of (ties (call_ties C P first T) n)) ∙ ap length (call_lines n)
+  calls_long n = sym (length-map (ties (call_ties C P first T) n) line_of) ∙ ap length (call_lines n)
 
   -- how many are listed before a site
   pub listed_long : (k : ℕ) (xs : List Sig) → xs ≡ map sig_of (ties (body_ties D T) C.functions) ++ map sig_of (ties (call_ties C P first T) k) →
@@ -115,8 +115,8 @@ module _ (C : Program) (D : Names) (P : Choice) (first : ℕ) (T : Controls) whe
   listed_long k xs e =
       let a = ap length e in
       let b = length-append (map sig_of (ties (body_ties D T) C.functions)) (map sig_of (ties (call_ties C P first T) k)) in
-      let d = map_long sig_of (ties (body_ties D T) C.functions) in
-      let f = map_long sig_of (ties (call_ties C P first T) k) in
+      let d = length-map (ties (body_ties D T) C.functions) sig_of in
+      let f = length-map (ties (call_ties C P first T) k) sig_of in
       let g = bodies_long C.functions in
       let h = calls_long k in
       omega (arith, a, b, d, f, g, h)

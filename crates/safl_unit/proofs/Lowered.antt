@@ -2,7 +2,7 @@
 use Rattle.std.proofs.Common.{◌≡◌, ℕ, zero, suc, ◌+◌, ◌-◌, ◌*◌, ◌<◌, ◌≤◌, List, Option, Some, None, Result, Ok, Err, IfOk, OnOk, Bool, true, false}
 use Rattle.safl_sites.specs.Plan.{Choice}
 use Rattle.std.proofs.Common.{not, cond, ◌&&◌, nat_le, ⊎_elim, slice_get, refl, sym, ap, subst, ◌∙◌, arith}
-use Rattle.std.proofs.lemmas.Bool.{eq-eqb, le-leb}
+use Rattle.std.proofs.lemmas.Bool.{eq-eqb, le-leb, cases_lt}
 use Rattle.std.proofs.lemmas.Option.{slice_get_within}
 use Rattle.safl_word.specs.Words.{Word}
 use Rattle.safl_term.specs.Program.{Program}
@@ -23,7 +23,6 @@ use Rattle.safl_lower.specs.Loads.{to_member}
 use Rattle.safl_term.specs.Sizes.{nodes}
 use Rattle.safl_lower.specs.Lowering.{returned_word, was_sent, goes_of}
 use Rattle.safl_lower.specs.Bodies.{CanLower, IsLowered, back_at, sent_at, answer_at, wanted_at}
-use Rattle.safl_lower.proofs.FromProgram.{side}
 use Rattle.safl_circuit.specs.Equations.{Registers, on_wires, path, body_says, body_wants, end_word, goes_to}
 use Rattle.safl_lower.specs.Sources.{IsSource, AreSources, Builds, HasRoom}
 use Rattle.safl_lower.specs.Tables.{one_word}
@@ -46,15 +45,15 @@ mutual
   spans_caller C g tail lo hi (Op o ts) k h a b = all_caller C g lo hi ts k h a b
   spans_caller C g tail lo hi (If c x y) k (m, n, p, q, r) a b =
       ⊎_elim (λ l. spans_caller C g false lo m c k p a l)
-      (λ l. ⊎_elim (λ o. spans_caller C g tail m n x k q l o) (λ o. spans_caller C g tail n hi y k r o b) (side k n)) (side k m)
-  spans_caller C g tail lo hi (Let ts x) k (m, p, q) a b = ⊎_elim (λ l. all_caller C g lo m ts k p a l) (λ l. spans_caller C g tail m hi x k q l b) (side k m)
+      (λ l. ⊎_elim (λ o. spans_caller C g tail m n x k q l o) (λ o. spans_caller C g tail n hi y k r o b) (cases_lt k n)) (cases_lt k m)
+  spans_caller C g tail lo hi (Let ts x) k (m, p, q) a b = ⊎_elim (λ l. all_caller C g lo m ts k p a l) (λ l. spans_caller C g tail m hi x k q l b) (cases_lt k m)
   spans_caller C g tail lo hi (Call f j ts) k (e, e1, e2, lt, h) a b =
-      ⊎_elim (λ l. let s : j ≡ k = omega (arith, e, a, l) in subst (λ i. C.caller i ≡ g) s e2) (λ l. all_caller C g (suc lo) hi ts k h l b) (side k (suc lo))
+      ⊎_elim (λ l. let s : j ≡ k = omega (arith, e, a, l) in subst (λ i. C.caller i ≡ g) s e2) (λ l. all_caller C g (suc lo) hi ts k h l b) (cases_lt k (suc lo))
   spans_caller C g tail lo hi (Loop m ts) k (e, e1, h) a b = all_caller C g lo hi ts k h a b
 
   all_caller : (C : Program) (g lo hi : ℕ) (ts : Terms) (k : ℕ) → SpansAll C g lo hi ts → lo ≤ k → k < hi → C.caller k ≡ g
   all_caller C g lo hi Nil k h a b = absurd (omega (arith, h, a, b))
-  all_caller C g lo hi (Cons t ts) k (m, p, q) a b = ⊎_elim (λ l. spans_caller C g false lo m t k p a l) (λ l. all_caller C g m hi ts k q l b) (side k m)
+  all_caller C g lo hi (Cons t ts) k (m, p, q) a b = ⊎_elim (λ l. spans_caller C g false lo m t k p a l) (λ l. all_caller C g m hi ts k q l b) (cases_lt k m)
 
 -- sites are numbered from 1 up to the number of sites
 pub first_site_least : (c : CheckedProgram) → IsChecked c → (f : ℕ) → f ≤ c.program.functions → 1 ≤ c.first_site f

@@ -1,12 +1,7 @@
 -- The first of two options, and an option or else a value, under both of their names.
 use Rattle.std.proofs.Common.{◌≡◌, Option, Some, None, refl}
-use Rattle.std.specs.Option.{option_or, unwrap_or}
-use Rattle.safl_term.specs.Readiness.{or_else}
+use Rattle.std.specs.Option.{unwrap_or}
 use Rattle.safl_circuit.specs.Equations.{or_word}
-
-pub first_is : {A : Type 0} (a b : Option A) → option_or a b ≡ or_else a b
-first_is None b = refl
-first_is (Some x) b = refl
 
 pub word_is : {A : Type 0} (o : Option A) (d : A) → unwrap_or o d ≡ or_word o d
 word_is None d = refl

@@ -4,6 +4,7 @@ use Rattle.safl_term.specs.Names.{Names}
 use Rattle.std.specs.Prelude.{codes}
 use Rattle.std.proofs.lemmas.Bool.{eqb-true, eqb-false, eq-eqb, ne_eqb, lt-ltb}
 use Rattle.std.proofs.lemmas.List.{append-nil}
+use Rattle.std.proofs.Math.Bool.{and-false}
 use Rattle.safl_term.specs.Program.{Program}
 use Rattle.safl_term.specs.Checked.{CheckedProgram, IsChecked}
 use Rattle.safl_circuit.specs.Names.{of_function, is_unit}
@@ -41,11 +42,7 @@ module _ (c : CheckedProgram) (h : IsChecked c) where
   own f = at_line C D f ++ argument_lines C D f
 
   unit_false : (u : ℕ) → (C.unit u ≡ u → ⊥) → is_unit C u ≡ false
-  unit_false u other = ap (λ b. nat_lt u C.functions && b) (ne_eqb (C.unit u) u other) ∙ by (nat_lt u C.functions)
-    where
-      by : (b : Bool) → (b && false) ≡ false
-      by true = refl
-      by false = refl
+  unit_false u other = ap (λ b. nat_lt u C.functions && b) (ne_eqb (C.unit u) u other) ∙ and-false (nat_lt u C.functions)
 
   unit_true : (u : ℕ) → u < C.functions → C.unit u ≡ u → is_unit C u ≡ true
   unit_true u l e = ap (λ b. b && (C.unit u == u)) (lt-ltb u C.functions l) ∙ eq-eqb (C.unit u) u e

@@ -3,6 +3,10 @@ use Rattle.std.proofs.Common.{◌≡◌, ℕ, zero, suc, ◌+◌, ◌<◌, ◌�
 use Rattle.std.proofs.Common.{not, ltb, ◌&&◌, ◌||◌, ◌==◌, ◌⊎◌, inl, inr, ⊎_elim, refl, sym, ap, subst, ◌∙◌, add-one, arith}
 use Rattle.std.proofs.lemmas.List.{length_push}
 use Rattle.std.proofs.lemmas.Bool.{cases_eq, cases_lt, false≢true, ne_eqb, eqb-true, eqb-false, lt-ltb, le-ltb, or_left, or_right, and_parts, not-true}
+use Rattle.std.specs.Cmp.{both_ways}
+use Rattle.std.proofs.Math.Bool.{and-false, or-false}
+use Rattle.safl_word.proofs.Lists.{get_end, get_in_front, nil_at_end}
+use Rattle.safl_word.proofs.Naturals.{eq_flip}
 use Rattle.safl_term.specs.Program.{Program}
 use Rattle.safl_net.specs.declared.cell.Sig.{Sig}
 use Rattle.safl_net.specs.Netlist.{Netlist}
@@ -15,16 +19,9 @@ use Rattle.safl_lower.specs.Tables.{sig_in, on_in, on_from, IsBitIn, BitsFit}
 use Rattle.safl_lower.specs.Rows.{maybe_one, AreBits, on_any, on_two}
 use Rattle.safl_lower.proofs.BitWords.{same}
 use Rattle.safl_lower.proofs.KnownLoads.{bits_kept}
-use Rattle.safl_lower.proofs.JoinedRows.{any_append, two_append, bits_push, append_none}
+use Rattle.safl_lower.proofs.JoinedRows.{any_append, two_append, bits_push}
 use Rattle.safl_unit.specs.Edges.{one_below, entry_row, others_on, rival, ShowsBelow}
-use Rattle.safl_unit.proofs.Granting.{same_test}
 use Rattle.safl_unit.proofs.Groups.{many_true}
-use Rattle.safl_unit.proofs.Tables.{get_same, get_end}
-
-pub same_truth : (a b : Bool) → (a ≡ true → b ≡ true) → (b ≡ true → a ≡ true) → a ≡ b
-same_truth true b f g = sym (f refl)
-same_truth false true f g = g refl
-same_truth false false f g = refl
 
 pub below_true : (t : ℕ → Bool) (n : ℕ) → one_below t n ≡ true → (i : ℕ) × (i < n) × (t i ≡ true)
 unfolding one_below
@@ -56,30 +53,22 @@ pub entry_next : (C : Program) (es : List (Option Sig)) (u m : ℕ) → entry_ro
 entry_next C es u m = ap (entry_row C es u) (add-one m) ∙ entry_suc C es u m
 
 pub maybe_fits : (n : Netlist) (xs : List Sig) (t : Bool) (o : Option Sig) → AreBits n xs → IsBitIn n o → AreBits n (xs ++ cond t (maybe_one o) [])
-maybe_fits n xs true None h q = subst (AreBits n) (append_none xs) h
+maybe_fits n xs true None h q = subst (AreBits n) (nil_at_end xs) h
 maybe_fits n xs true (Some s) h q = bits_push n xs s h q
-maybe_fits n xs false o h q = subst (AreBits n) (append_none xs) h
+maybe_fits n xs false o h q = subst (AreBits n) (nil_at_end xs) h
 
 pub entries_fit : (C : Program) (n : Netlist) (es : List (Option Sig)) (u : ℕ) → BitsFit n es → (m : ℕ) → AreBits n (entry_row C es u m)
 entries_fit C n es u h zero = subst (AreBits n) (sym (entry_zero C es u)) tt
 entries_fit C n es u h (suc m) = subst (AreBits n) (sym (entry_suc C es u m)) (maybe_fits n (entry_row C es u m) (u == C.unit m) (sig_in (slice_get es m)) (entries_fit C n es u h m) (h m))
 
-or_none : (b : Bool) → (b || false) ≡ b
-or_none true = refl
-or_none false = refl
-
-and_none : (b : Bool) → (b && false) ≡ false
-and_none true = refl
-and_none false = refl
-
 one_on : (v : Val) (t : Bool) (o : Option Sig) → on_any v (cond t (maybe_one o) []) ≡ (t && on_in v o)
 one_on v true None = refl
-one_on v true (Some s) = or_none (on v s)
+one_on v true (Some s) = or-false (on v s)
 one_on v false o = refl
 
 one_two : (v : Val) (t : Bool) (o : Option Sig) → on_two v (cond t (maybe_one o) []) ≡ false
 one_two v true None = refl
-one_two v true (Some s) = and_none (on v s)
+one_two v true (Some s) = and-false (on v s)
 one_two v false o = refl
 
 pub any_next : (v : Val) (xs ys : List Sig) (t : Bool) (o : Option Sig) → ys ≡ xs ++ cond t (maybe_one o) [] → on_any v ys ≡ (on_any v xs || (t && on_in v o))
@@ -136,7 +125,7 @@ known_other r t a x b h = record { is = ap (λ (c : Bool). c || b) h.is ∙ step
 known_self : (r t a b : Bool) → Known r t a false → Known (r || false) (t || (a && b)) (a || b) b
 known_self r t a b h = record { is = ap (λ (c : Bool). c || false) h.is ∙ step_self t a b; own = own_self a b }
 
-below_zero : (t : ℕ → Bool) → one_below t 0 ≡ false
+pub below_zero : (t : ℕ → Bool) → one_below t 0 ≡ false
 unfolding one_below
 below_zero t = refl
 
@@ -153,10 +142,10 @@ later_same f m other = by (cases_lt m f)
 
 module _ (C : Program) (v : Val) (es : List (Option Sig)) (f : ℕ) where
   rival_self : (m : ℕ) → m ≡ f → rival C (on_from v es) f m ≡ false
-  rival_self m q = ap (λ (b : Bool). (C.unit m == C.unit f) && (not b && on_from v es m)) (ap (λ (k : ℕ). k == f) q ∙ same f) ∙ and_none (C.unit m == C.unit f)
+  rival_self m q = ap (λ (b : Bool). (C.unit m == C.unit f) && (not b && on_from v es m)) (ap (λ (k : ℕ). k == f) q ∙ same f) ∙ and-false (C.unit m == C.unit f)
 
   rival_other : (m : ℕ) → (m ≡ f → ⊥) → rival C (on_from v es) f m ≡ ((C.unit f == C.unit m) && on_from v es m)
-  rival_other m q = ap (λ (b : Bool). (C.unit m == C.unit f) && (not b && on_from v es m)) (ne_eqb m f q) ∙ ap (λ (b : Bool). b && on_from v es m) (same_test (C.unit m) (C.unit f))
+  rival_other m q = ap (λ (b : Bool). (C.unit m == C.unit f) && (not b && on_from v es m)) (ne_eqb m f q) ∙ ap (λ (b : Bool). b && on_from v es m) (eq_flip (C.unit m) (C.unit f))
 
   others_known : (m : ℕ) → Known (one_below (rival C (on_from v es) f) m) (on_two v (entry_row C es (C.unit f) m)) (on_any v (entry_row C es (C.unit f) m)) (ltb f m && on_from v es f)
   others_known zero =
@@ -193,7 +182,7 @@ module _ (C : Program) (v : Val) (es : List (Option Sig)) (f : ℕ) where
 
   -- a unit with one member has no other
   alone_rival : many C f ≡ false → one_below (rival C (on_from v es) f) C.functions ≡ false
-  alone_rival one = same_truth _ false to (λ h. absurd (false≢true h))
+  alone_rival one = both_ways _ false to (λ h. absurd (false≢true h))
     where
       to : one_below (rival C (on_from v es) f) C.functions ≡ true → false ≡ true
       to h =
@@ -240,4 +229,4 @@ below_one_more a b k m xs after o says g h e q r = subst (λ (l : List (Option S
         ap (λ (x : Option (Option Sig)). on_in v (sig_in x)) there ∙ r v w ∙ ap (says v) (sym z)
     by v w i l (inr z) =
         let c = h.entries in
-        ap (λ (x : Option (Option Sig)). on_in v (sig_in x)) (get_same xs (o ∷ []) i (omega (arith, l, z, c))) ∙ h.shows v (wired_before g.grows w) i (omega (arith, l, z))
+        ap (λ (x : Option (Option Sig)). on_in v (sig_in x)) (get_in_front xs (o ∷ []) i (omega (arith, l, z, c))) ∙ h.shows v (wired_before g.grows w) i (omega (arith, l, z))

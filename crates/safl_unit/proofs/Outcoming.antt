@@ -3,12 +3,13 @@ use Rattle.std.proofs.Common.{◌≡◌, ℕ, zero, suc, ◌+◌, ◌-◌, ◌<�
 use Rattle.safl_term.specs.Sizes.{body_nodes}
 use Rattle.safl_sites.specs.Plan.{Choice}
 use Rattle.std.proofs.Common.{cond, ◌⊎◌, inl, inr, add-one, slice_get, refl, sym, ap, subst, ◌∙◌, arith}
-use Rattle.std.proofs.lemmas.Bool.{ne_eqb}
+use Rattle.std.proofs.lemmas.Bool.{ne_eqb, cases_lt}
 use Rattle.std.proofs.lemmas.Option.{slice_get_within}
 use Rattle.safl_word.specs.Words.{Word}
 use Rattle.safl_term.specs.Checked.{CheckedProgram, IsChecked}
 use Rattle.safl_term.specs.Readiness.{or_else}
 use Rattle.safl_term.proofs.HeldByChecked.{first_site_past}
+use Rattle.safl_term.proofs.OrElse.{or_else_none}
 use Rattle.safl_calls.specs.Picks.{first}
 use Rattle.safl_net.specs.declared.cell.Sig.{Sig}
 use Rattle.safl_net.specs.Netlist.{Netlist}
@@ -32,8 +33,7 @@ use Rattle.safl_unit.specs.Stages.{called, HasOutcomes}
 use Rattle.safl_unit.specs.Outcomes.{BodyShows, HasBody, PushesLoads}
 use Rattle.safl_unit.proofs.Keeping.{cycle_before}
 use Rattle.safl_unit.proofs.Tables.{each_none, each_push}
-use Rattle.safl_unit.proofs.Joins.{or_nothing, each_append, taken_maybe, rows_more}
-use Rattle.safl_lower.proofs.FromProgram.{side}
+use Rattle.safl_unit.proofs.Joins.{each_append, taken_maybe, rows_more}
 use Rattle.safl_unit.proofs.Lowered.{first_site_least}
 
 -- what the bodies of the functions below f show
@@ -89,13 +89,13 @@ loops_more : (c : CheckedProgram) (P : Choice) (n : Netlist) (p : Pins) (f : ℕ
     → PushesLoads (c.program.unit f) (length b.loops.items) b.loops.items old new
     → (h : ℕ) → h < c.program.functions → first_at v old h ≡ first (loop_from c.program P r h) f → first_at v new h ≡ first (loop_from c.program P r h) (suc f)
 unfolding first
-loops_more c P n p f b v r old new body shown joined h l e = at (side h (c.program.unit f))
-    (side h (c.program.unit f + length b.loops.items)) ∙ ap (λ x. or_else x (loop_from c.program P r h f)) e
+loops_more c P n p f b v r old new body shown joined h l e = at (cases_lt h (c.program.unit f))
+    (cases_lt h (c.program.unit f + length b.loops.items)) ∙ ap (λ x. or_else x (loop_from c.program P r h f)) e
   where
     outside : (c.program.unit f ≡ c.program.unit h → ⊥) → (h < c.program.unit f) ⊎ (c.program.unit f + length b.loops.items ≤ h)
         → first_at v new h ≡ or_else (first_at v old h) (loop_from c.program P r h f)
     outside d o =
-        ap (first_taken v) (joined.others h o) ∙ sym (or_nothing (first_at v old h))
+        ap (first_taken v) (joined.others h o) ∙ sym (or_else_none (first_at v old h))
         ∙ ap (λ t. or_else (first_at v old h) (cond t (goes_to h (body_says c.program P r f)) None)) (sym (ne_eqb (c.program.unit f) (c.program.unit h) d))
 
     inside : (i : ℕ) → i < length b.loops.items → first_at v new (c.program.unit f + i) ≡ or_else (first_at v old (c.program.unit f + i))

@@ -2,6 +2,7 @@
 use Rattle.std.proofs.Common.{◌≡◌, ℕ, suc, ◌≤◌, List, [], ◌∷◌, ◌++◌, map, None, Bool, true, false, ◌||◌, bytes_eq, refl, sym, ap, subst, ◌∙◌, arith}
 use Rattle.std.specs.Prelude.{codes}
 use Rattle.std.proofs.lemmas.Slice.Eq.{bytes_eq-Decides}
+use Rattle.std.proofs.lemmas.Bool.{or_from}
 use Rattle.safl_term.specs.Checked.{CheckedProgram, IsChecked}
 use Rattle.safl_net.specs.Netlist.{Netlist, Signal}
 use Rattle.safl_net.specs.Names.{is_good, is_reserved, is_temp, has_name, named_signal, named_output, wires}
@@ -75,16 +76,12 @@ module _ (c : CheckedProgram) (checked : IsChecked c) (P : Choice) where
         ∙ named_more (declared_signals c.program c.names P) grown.more h.name (declared_none h l)
         (temps_named (wires (declared_signals c.program c.names P)) grown.more h.name e grown.temps)
 
-    neither : (a b : Bool) → a ≡ false → b ≡ false → (a || b) ≡ false
-    neither true b e f = absurd (cc)
-    neither false b e f = f
-
     pub done_free : m.outputs ≡ [] → refusal m (codes "done") ≡ None
     unfolding is_good is_reserved
     done_free e =
         let head : head_of (codes "done") ≡ 16 = refl in
         unrefused (is_good (codes "done")) (has_name m (codes "done")) refl
-        (neither (named_signal m.signals (codes "done")) (named_output m.outputs (codes "done"))
+        (or_from (named_signal m.signals (codes "done")) (named_output m.outputs (codes "done"))
         (unused (input_line (codes "done", 1)) (omega (arith, head)) refl) (ap (λ os. named_output os (codes "done")) e))
 
     pub result_free : (a : Netlist) (s : ℕ) → m.outputs ≡ [] → a ≡ with_output m (codes "done") s → refusal a (codes "result") ≡ None
@@ -93,5 +90,5 @@ module _ (c : CheckedProgram) (checked : IsChecked c) (P : Choice) where
         let head : head_of (codes "result") ≡ 16 = refl in
         ap (λ (x : Netlist). refusal x (codes "result")) f
         ∙ unrefused (is_good (codes "result")) (has_name (with_output m (codes "done") s) (codes "result")) refl
-        (neither (named_signal m.signals (codes "result")) (named_output (m.outputs ++ (codes "done", s) ∷ []) (codes "result")) (unused (input_line (codes "result", 1)) (omega (arith, head)) refl)
+        (or_from (named_signal m.signals (codes "result")) (named_output (m.outputs ++ (codes "done", s) ∷ []) (codes "result")) (unused (input_line (codes "result", 1)) (omega (arith, head)) refl)
         (ap (λ os. named_output (os ++ (codes "done", s) ∷ []) (codes "result")) e))

@@ -5,7 +5,6 @@ use Rattle.safl_sites.specs.Plan.{Choice}
 use Rattle.std.proofs.Common.{cond, slice_get, ◌==◌, nat_lt, inl, inr, refl, sym, ap, subst, ◌∙◌, arith}
 use Rattle.std.proofs.lemmas.Bool.{eqb-true, eqb-false}
 use Rattle.std.proofs.lemmas.Option.{slice_get_within}
-use Rattle.safl_net.proofs.Naming.{pushed}
 use Rattle.safl_term.specs.Program.{Program, arity, unit_for}
 use Rattle.safl_term.specs.Checked.{CheckedProgram, IsChecked}
 use Rattle.safl_term.proofs.HeldByChecked.{main_is_last}
@@ -14,6 +13,8 @@ use Rattle.safl_net.specs.Netlist.{Netlist, Signal}
 use Rattle.safl_circuit.specs.Equations.{many}
 use Rattle.safl_circuit.specs.Names.{of_function, of_param, of_site}
 use Rattle.std.specs.Prelude.{codes}
+use Rattle.std.proofs.lemmas.List.{map-append}
+use Rattle.safl_word.proofs.Lists.{get_end, get_in_front, get_pushed}
 use Rattle.safl_circuit.specs.Layout.{Line, lines, site_lines, function_wires, site_wires}
 use Rattle.safl_unit.specs.declared.pins.UnitPins.{UnitPins}
 use Rattle.safl_unit.specs.declared.pins.MemberPins.{MemberPins}
@@ -21,8 +22,8 @@ use Rattle.safl_unit.specs.declared.pins.SitePins.{SitePins}
 use Rattle.safl_unit.specs.Finished.{open_register}
 use Rattle.safl_unit.specs.Ties.{Tie, sig_of, ties, tied, numbered, unit_ties, member_ties, function_ties, site_ties, call_registers}
 use Rattle.safl_unit.specs.Declaring.{with_signals, unit_head, at_line, argument_lines, function_lines, Pinned, FunctionsPinned, SitePinned, SitesPinned}
-use Rattle.safl_unit.proofs.Tables.{each_push, get_same, get_end}
-use Rattle.safl_unit.proofs.Declaring.{map_more, lines_count, lines_on, lines_none, numbered_more, param_lines_long}
+use Rattle.safl_unit.proofs.Tables.{each_push}
+use Rattle.safl_unit.proofs.Declaring.{lines_count, lines_on, lines_none, numbered_more, param_lines_long}
 
 -- ---- one function
 
@@ -63,10 +64,10 @@ module _ (c : CheckedProgram) where
       let lb = lines_count a b open_register t eb in
       record {
         order =
-            map_more sig_of (unit_ties C D f (Some u)) (member_ties C D f (Some m))
+            map-append sig_of (unit_ties C D f (Some u)) (member_ties C D f (Some m))
             ∙ ap (λ l. l ++ map sig_of (member_ties C D f (Some m))) order
             ∙ ap (λ l. numbered (length n.signals) (length h) ++ l)
-            (map_more sig_of (cond (many C f) (((of_function D (codes "at$") f, 1), m.at) ∷ []) []) (tied g m.args.items)
+            (map-append sig_of (cond (many C f) (((of_function D (codes "at$") f, 1), m.at) ∷ []) []) (tied g m.args.items)
             ∙ ap (λ l. l ++ map sig_of (tied g m.args.items)) (at_sigs (many C f) (of_function D (codes "at$") f, 1) m.at ∙ at ∙ ap (λ x. numbered x (length t)) la)
             ∙ ap (λ l. numbered (length n.signals + length h) (length t) ++ l)
             (tied_sigs g m.args.items many_args ∙ args ∙ ap (λ x. numbered x (arity C f)) (lb ∙ ap (λ x. x + length t) la) ∙ ap
@@ -133,16 +134,16 @@ module _ (C : Program) (D : Names) (first : ℕ) where
       let lm = all.members_length in
       let here : slice_get (us ++ u ∷ []) f ≡ Some u = ap (slice_get (us ++ u ∷ [])) (sym lu) ∙ get_end us u in
       let here_m : slice_get (ms ++ m ∷ []) f ≡ Some m = ap (slice_get (ms ++ m ∷ [])) (sym lm) ∙ get_end ms m in
-      let old = λ (g : ℕ) (l : g < f). get_same us (u ∷ []) g (omega (arith, l, lu)) in
+      let old = λ (g : ℕ) (l : g < f). get_in_front us (u ∷ []) g (omega (arith, l, lu)) in
       record {
         units_length = length-append us (u ∷ []) ∙ (omega (arith, lu));
         members_length = length-append ms (m ∷ []) ∙ (omega (arith, lm));
         order =
-            map_more sig_of (ties (function_ties C D (us ++ u ∷ []) (ms ++ m ∷ [])) f) (function_ties C D (us ++ u ∷ []) (ms ++ m ∷ []) f)
+            map-append sig_of (ties (function_ties C D (us ++ u ∷ []) (ms ++ m ∷ [])) f) (function_ties C D (us ++ u ∷ []) (ms ++ m ∷ []) f)
             ∙ ap (λ l. map sig_of l ++ map sig_of (function_ties C D (us ++ u ∷ []) (ms ++ m ∷ []) f))
             (ties_cong (function_ties C D (us ++ u ∷ []) (ms ++ m ∷ [])) (function_ties C D us ms) f
             (λ g l. ap (λ o. unit_ties C D g o ++ member_ties C D g (slice_get (ms ++ m ∷ []) g)) (old g l)
-            ∙ ap (λ o. unit_ties C D g (slice_get us g) ++ member_ties C D g o) (get_same ms (m ∷ []) g (omega (arith, l, lm)))))
+            ∙ ap (λ o. unit_ties C D g (slice_get us g) ++ member_ties C D g o) (get_in_front ms (m ∷ []) g (omega (arith, l, lm)))))
             ∙ ap (λ l. l ++ map sig_of (function_ties C D (us ++ u ∷ []) (ms ++ m ∷ []) f)) all.order
             ∙ ap (λ l. numbered first (length (lines (function_lines C D) f)) ++ l)
             (ap (λ o. map sig_of (unit_ties C D f o ++ member_ties C D f (slice_get (ms ++ m ∷ []) f))) here
@@ -159,7 +160,7 @@ module _ (C : Program) (D : Names) (first : ℕ) where
       new_unit = ap (slice_get (us ++ u ∷ [])) (sym all.units_length) ∙ get_end us u
 
       at_front : (g : ℕ) → g < f → slice_get (us ++ u ∷ []) g ≡ slice_get us g
-      at_front g l = let lu = all.units_length in get_same us (u ∷ []) g (omega (arith, l, lu))
+      at_front g l = let lu = all.units_length in get_in_front us (u ∷ []) g (omega (arith, l, lu))
 
       by_new : (b : Bool) → (C.unit f == f) ≡ b → slice_get (us ++ u ∷ []) f ≡ slice_get (us ++ u ∷ []) (C.unit f)
       by_new true q = ap (slice_get (us ++ u ∷ [])) (sym (eqb-true (C.unit f) f q))
@@ -176,7 +177,7 @@ module _ (C : Program) (D : Names) (first : ℕ) where
           at_front g (omega (arith, l, other)) ∙ all.unit g (omega (arith, l, other)) ∙ sym (at_front (C.unit g) (omega (arith, le, l, other)))
 
       lone_at : (g : ℕ) (x : MemberPins) → slice_get (ms ++ m ∷ []) g ≡ Some x → many C g ≡ false → (y : UnitPins) → slice_get (us ++ u ∷ []) g ≡ Some y → x.at ≡ y.run
-      lone_at g x q none y w = elim (pushed ms m x g q) [
+      lone_at g x q none y w = elim (get_pushed ms m x g q) [
         | inl r ↦
             let lm = all.members_length in
             let inside = slice_get_within ms g x r in
@@ -208,9 +209,9 @@ module _ (C : Program) (P : Choice) (first : ℕ) (us : List UnitPins) where
       record {
         sites_length = length-append ss (s ∷ []) ∙ (omega (arith, ls));
         order =
-            map_more sig_of (ties (site_ties C P (ss ++ s ∷ [])) k) (site_ties C P (ss ++ s ∷ []) k)
+            map-append sig_of (ties (site_ties C P (ss ++ s ∷ [])) k) (site_ties C P (ss ++ s ∷ []) k)
             ∙ ap (λ l. map sig_of l ++ map sig_of (site_ties C P (ss ++ s ∷ []) k))
-            (ties_cong (site_ties C P (ss ++ s ∷ [])) (site_ties C P ss) k (λ j l. ap (λ o. call_registers C P j o) (get_same ss (s ∷ []) j (omega (arith, l, ls)))))
+            (ties_cong (site_ties C P (ss ++ s ∷ [])) (site_ties C P ss) k (λ j l. ap (λ o. call_registers C P j o) (get_in_front ss (s ∷ []) j (omega (arith, l, ls)))))
             ∙ ap (λ l. l ++ map sig_of (site_ties C P (ss ++ s ∷ []) k)) all.order
             ∙ ap (λ l. numbered first (length (lines (site_lines C P) k)) ++ l)
             (ap (λ o. map sig_of (call_registers C P k o)) here ∙ one.order ∙ ap (λ x. numbered x (length (site_lines C P k))) e)

@@ -4,6 +4,7 @@ use Rattle.std.proofs.lemmas.Slice.Eq.{bytes_eq-Decides}
 use Rattle.safl_net.specs.Netlist.{Netlist, Signal, Reg, place}
 use Rattle.safl_net.specs.Valuations.{Valuation, signal_word, read, read_next, next_at, next_number, number_at}
 use Rattle.safl_net.specs.Rules.{IsNetlist}
+use Rattle.safl_net.proofs.Reading.{place_of}
 
 -- ---- names
 
@@ -21,14 +22,10 @@ place_found (x ∷ gs) j (suc s) g e apart =
     by true q again = absurd (let r = apart 0 x refl ((bytes_eq-Decides x.name g.name).0 q) in omega (arith, r))
     by false q again = again ∙ ap Some (omega arith)
 
--- a netlist's signal stands at the place of its name
-pub placed_at : (n : Netlist) (s : ℕ) (g : Signal) → IsNetlist n → slice_get n.signals s ≡ Some g → place n.signals g.name 0 ≡ Some s
-placed_at n s g w e = place_found n.signals 0 s g e (λ t h a q. w.apart t s h g a e q) ∙ ap Some (omega arith)
-
 pub read_is : (n : Netlist) (v : Valuation) (s : ℕ) (g : Signal) (name : List ℕ) → IsNetlist n → slice_get n.signals s ≡ Some g → g.name ≡ name → read n v name ≡ (signal_word n v s).bits
-read_is n v s g name w e q = ap (λ x. read n v x) (sym q) ∙ ap (number_at v) (placed_at n s g w e)
+read_is n v s g name w e q = ap (λ x. read n v x) (sym q) ∙ ap (number_at v) (place_of n s g w e)
 
 -- the next number of a register is that of its next signal
 pub read_next_is : (n : Netlist) (v : Valuation) (s m width init : ℕ) (name : List ℕ) → IsNetlist n → slice_get n.signals s ≡ Some
     (record { name = name; width = width; kind = Reg init (Some m) }) → read_next n v name ≡ (signal_word n v m).bits
-read_next_is n v s m width init name w e = ap (next_at n v) (placed_at n s (record { name = name; width = width; kind = Reg init (Some m) }) w e) ∙ ap (next_number v) e
+read_next_is n v s m width init name w e = ap (next_at n v) (place_of n s (record { name = name; width = width; kind = Reg init (Some m) }) w e) ∙ ap (next_number v) e

@@ -5,7 +5,9 @@ use Rattle.safl_sites.specs.Plan.{Choice}
 use Rattle.std.proofs.Common.{slice_get, nat_lt, ◌==◌, inl, inr, refl, sym, ap, subst, ◌∙◌, arith, append_assoc}
 use Rattle.std.specs.Prelude.{codes}
 use Rattle.std.proofs.lemmas.Bool.{lt-ltb, eqb-true, eqb-false}
+use Rattle.std.proofs.lemmas.List.{append_cancel_left, length-map}
 use Rattle.safl_word.specs.Words.{Word}
+use Rattle.safl_word.proofs.Lists.{get_front, get_map, get_mapped}
 use Rattle.safl_term.specs.Program.{Program, unit_for}
 use Rattle.safl_term.specs.Checked.{CheckedProgram, IsChecked}
 use Rattle.safl_term.proofs.HeldByChecked.{params_named}
@@ -16,9 +18,9 @@ use Rattle.safl_net.specs.Names.{wires}
 use Rattle.safl_net.specs.Rules.{IsNetlist}
 use Rattle.safl_net.specs.Growth.{Val, Wired, AreTemps, Grows, words}
 use Rattle.safl_net.specs.Valuations.{Valuation, Fits, signal_word, read, read_next}
-use Rattle.safl_net.proofs.Growth.{width_is}
+use Rattle.safl_net.proofs.Growth.{width_is, wires_append}
 use Rattle.safl_net.proofs.CellWords.{wired_shown}
-use Rattle.safl_net.proofs.Reading.{read_output_word}
+use Rattle.safl_net.proofs.Reading.{read_output_word, place_of}
 use Rattle.safl_circuit.specs.Equations.{Registers, Inputs, next}
 use Rattle.safl_circuit.specs.Names.{of_function, of_site, registers_now, registers_next, input_now}
 use Rattle.safl_circuit.specs.Layout.{Line, lines, site_wires, each_line, input_kind, register_kind, wire_kind, output_lines, layout_inputs}
@@ -33,14 +35,12 @@ use Rattle.safl_unit.specs.Cycles.{PinsFit, Cycle}
 use Rattle.safl_unit.specs.Stages.{HasNext}
 use Rattle.safl_unit.specs.Ties.{Tie, line_of, sig_of, numbered, ties, register_ties, want_wire, body_ties, call_ties, wire_ties}
 use Rattle.safl_unit.specs.Finished.{input_line, open_register, open_wire, set_register, set_wire, declared_signals, declared_net, ArePins, HasControls, Finishes}
-use Rattle.safl_unit.proofs.Declaring.{map_long, map_get}
-use Rattle.safl_unit.proofs.Tables.{get_front}
 use Rattle.safl_unit.proofs.Members.{Among, among_left, among_right, among_ties, among_cond}
 use Rattle.safl_unit.proofs.Lining.{IsFull, register_lines}
 use Rattle.safl_unit.proofs.Listing.{wire_lines, bodies_long, calls_long}
 use Rattle.safl_unit.proofs.Finishing.{at_made, from_get, TakesNext, registers_from, first_wire_is}
 use Rattle.safl_unit.proofs.Layers.{input_lines, register_lines_of, wire_lines_of, is_set, is_reset, input_words}
-use Rattle.safl_unit.proofs.Reading.{placed_at, read_is, read_next_is}
+use Rattle.safl_unit.proofs.Reading.{read_is, read_next_is}
 use Rattle.safl_unit.proofs.Viewing.{Reads, firsts_show, bank_shows}
 use Rattle.safl_unit.proofs.Agreeing.{agrees}
 use Rattle.safl_unit.proofs.Wiring.{Copied, wires_hold}
@@ -51,11 +51,6 @@ among_index : {A : Type 0} (x : A) (xs : List A) → Among x xs → (i : ℕ) ×
 among_index x [] h = absurd h
 among_index x (y ∷ xs) (inl e) = (0, ap Some e)
 among_index x (y ∷ xs) (inr h) = let q = among_index x xs h in (suc q.0, q.1)
-
-map_got : {A B : Type 0} (g : A → B) (xs : List A) (i : ℕ) (y : B) → slice_get (map g xs) i ≡ Some y → (x : A) × (slice_get xs i ≡ Some x) × (g x ≡ y)
-map_got g [] i y e = absurd (cc)
-map_got g (x ∷ xs) zero y e = (x, refl, (let q : g x ≡ y = cc in q))
-map_got g (x ∷ xs) (suc i) y e = map_got g xs i y e
 
 number_get : (s n i : ℕ) (x : Sig) → slice_get (numbered s n) i ≡ Some x → x.0 ≡ s + i
 number_get s zero i x e = absurd (cc)
@@ -81,14 +76,6 @@ ties_get g k (suc n) x l e = by (k == n) refl (λ m. ties_get g k n x m e)
         let r = eqb-true k n q in
         ap (λ j. slice_get (ties g n ++ g n) (length (ties g j))) r ∙ get_past (ties g n) (g n) (length (ties g n)) 0 x (omega arith) (ap (λ j. slice_get (g j) 0) (sym r) ∙ e)
     by false q again = let o = eqb-false k n q in get_front (ties g n) (g n) (length (ties g k)) x (again (omega (arith, l, o)))
-
-cancel : (xs ys zs : List Signal) → xs ++ ys ≡ xs ++ zs → ys ≡ zs
-cancel [] ys zs e = e
-cancel (x ∷ xs) ys zs e = cancel xs ys zs (let q : xs ++ ys ≡ xs ++ zs = cc in q)
-
-wires_more : (xs ys : List Signal) → wires (xs ++ ys) ≡ wires xs + wires ys
-wires_more [] ys = omega arith
-wires_more (x ∷ xs) ys = let q = wires_more xs ys in omega (arith, q)
 
 no_wires : (ls : List Line) → wires (map input_line ls) ≡ 0
 no_wires [] = refl
@@ -132,15 +119,15 @@ module _ (c : CheckedProgram) (h : IsChecked c) (P : Choice) (old new : Netlist)
 
   count_wires : wires (declared_signals C D P) ≡ length (layout_wires C D P)
   count_wires =
-      let a = wires_more inputs (map open_register (layout_registers C D P) ++ map open_wire (layout_wires C D P)) in
-      let d = wires_more (map open_register (layout_registers C D P)) (map open_wire (layout_wires C D P)) in
+      let a = wires_append inputs (map open_register (layout_registers C D P) ++ map open_wire (layout_wires C D P)) in
+      let d = wires_append (map open_register (layout_registers C D P)) (map open_wire (layout_wires C D P)) in
       let e = no_wires (layout_inputs C D) in
       let g = no_register_wires (layout_registers C D P) in
       let i = all_wires (layout_wires C D P) in
       omega (arith, a, d, e, g, i)
 
   temps : AreTemps (length (layout_wires C D P)) f.more
-  temps = subst (λ i. AreTemps i f.more) count_wires (subst (AreTemps (wires (declared_signals C D P))) (cancel (declared_signals C D P) grown.more f.more (sym grown.is ∙ f.before)) grown.temps)
+  temps = subst (λ i. AreTemps i f.more) count_wires (subst (AreTemps (wires (declared_signals C D P))) (append_cancel_left (declared_signals C D P) grown.more f.more (sym grown.is ∙ f.before)) grown.temps)
 
   full : IsFull C b
   full = record {
@@ -156,7 +143,7 @@ module _ (c : CheckedProgram) (h : IsChecked c) (P : Choice) (old new : Netlist)
   -- ---- where the registers and named wires stand
 
   first_long : p.first_register ≡ length inputs
-  first_long = pins.first_register ∙ sym (map_long input_line (layout_inputs C D))
+  first_long = pins.first_register ∙ sym (length-map (layout_inputs C D) input_line)
 
   base : new.signals ≡ inputs ++ (registers ++ (named ++ f.more))
   base = f.signals ∙ append_assoc inputs (registers ++ named) f.more ∙ ap (λ l. inputs ++ l) (append_assoc registers named f.more)
@@ -171,7 +158,7 @@ module _ (c : CheckedProgram) (h : IsChecked c) (P : Choice) (old new : Netlist)
       let a = first_long in
       let d = first_wire_is c h P old p b T grown pins nexts.fits controls.fits in
       let k = length-append inputs registers in
-      let g = map_long set_register rts in
+      let g = length-map rts set_register in
       ap (λ l. slice_get l (p.first_wire + i)) (base ∙ sym (append_assoc inputs registers (named ++ f.more)))
       ∙ at_made (inputs ++ registers) f.more set_wire wts (p.first_wire + i) i t (omega (arith, a, d, k, g)) e
 
@@ -234,10 +221,10 @@ module _ (c : CheckedProgram) (h : IsChecked c) (P : Choice) (old new : Netlist)
     pin_reads : (t : Tie) → Among t pts → Reads (read new v) w t
     pin_reads t a =
         let k = among_index t pts a in
-        let line : slice_get (map line_of rts) k.0 ≡ Some t.0 = ap (λ l. slice_get l k.0) (register_lines c h P b full ∙ sym (register_lines c h P p.bank full_pins)) ∙ map_get line_of pts k.0 t k.1 in
-        let u = map_got line_of rts k.0 t.0 line in
+        let line : slice_get (map line_of rts) k.0 ≡ Some t.0 = ap (λ l. slice_get l k.0) (register_lines c h P b full ∙ sym (register_lines c h P p.bank full_pins)) ∙ get_map line_of pts k.0 t k.1 in
+        let u = get_mapped line_of rts k.0 t.0 line in
         let number : t.1.0 ≡ p.first_register + k.0 = number_get p.first_register (length (layout_registers C D P)) k.0 t.1
-        (ap (λ l. slice_get l k.0) (sym pins.registers) ∙ map_get sig_of pts k.0 t k.1) in
+        (ap (λ l. slice_get l k.0) (sym pins.registers) ∙ get_map sig_of pts k.0 t k.1) in
         let at : slice_get new.signals t.1.0 ≡ Some (set_register u.0) = ap (slice_get new.signals) number ∙ at_register k.0 u.0 u.1 in
         record {
           number = read_is new v t.1.0 (set_register u.0) t.0.0 netlist at (ap (λ (l : Line). l.0) u.2);
@@ -336,9 +323,9 @@ module _ (c : CheckedProgram) (h : IsChecked c) (P : Choice) (old new : Netlist)
         number = p.first_wire + j.0;
         signal = set_wire (go_tie k);
         source = want_wire C P p.first_wire k;
-        named = placed_at new (p.first_wire + j.0) (set_wire (go_tie k)) netlist at;
+        named = place_of new (p.first_wire + j.0) (set_wire (go_tie k)) netlist at;
         there = at;
-        source_named = placed_at new (want_wire C P p.first_wire k) (set_wire (want_tie k)) netlist (want_at k pos le);
+        source_named = place_of new (want_wire C P p.first_wire k) (set_wire (want_tie k)) netlist (want_at k pos le);
         copied = ap (λ t. Wire (Some (record { op = Copy; operands = (cond t (pin T.goes.items k) (record { 0 = want_wire C P p.first_wire k })).0 ∷ [] }))) e;
       }
 
@@ -357,14 +344,14 @@ module _ (c : CheckedProgram) (h : IsChecked c) (P : Choice) (old new : Netlist)
       let d = length-append (inputs ++ (registers ++ named)) f.more in
       let e = length-append inputs (registers ++ named) in
       let g = length-append registers named in
-      let i = map_long set_register rts in
-      let j = map_long set_wire wts in
+      let i = length-map rts set_register in
+      let j = length-map wts set_wire in
       let k = ap length f.before in
       let l = length-append (declared_signals C D P) f.more in
       let m = length-append inputs (map open_register (layout_registers C D P) ++ map open_wire (layout_wires C D P)) in
       let n = length-append (map open_register (layout_registers C D P)) (map open_wire (layout_wires C D P)) in
-      let o = map_long open_register (layout_registers C D P) in
-      let q = map_long open_wire (layout_wires C D P) in
-      let r = sym (map_long line_of rts) ∙ ap length (register_lines c h P b full) in
-      let s = sym (map_long line_of wts) ∙ ap length (wire_lines C D P p.first_wire T) in
+      let o = length-map (layout_registers C D P) open_register in
+      let q = length-map (layout_wires C D P) open_wire in
+      let r = sym (length-map rts line_of) ∙ ap length (register_lines c h P b full) in
+      let s = sym (length-map wts line_of) ∙ ap length (wire_lines C D P p.first_wire T) in
       omega (arith, a, d, e, g, i, j, k, l, m, n, o, q, r, s)

@@ -3,55 +3,36 @@ use Rattle.std.proofs.Common.{◌≡◌, ℕ, zero, suc, ◌+◌, ◌<◌, ◌�
 use Rattle.std.proofs.Common.{inl, inr, refl, sym, ap, subst, ◌∙◌, arith, append_assoc, true}
 use Rattle.std.proofs.lemmas.Bool.{eqb-true, eqb-false}
 use Rattle.std.proofs.Common.{Bool, false, ◌==◌}
+use Rattle.std.proofs.lemmas.List.{length-map, length-take-le, map-append}
+use Rattle.safl_word.proofs.Lists.{take_suc}
 use Rattle.safl_net.specs.declared.cell.Sig.{Sig}
-use Rattle.safl_net.specs.Netlist.{Netlist, Signal, Kind, Reg, Wire, width_in, width_of}
+use Rattle.safl_net.specs.Netlist.{Netlist, Signal, Kind, Reg, Wire, width_of}
 use Rattle.safl_net.specs.Making.{with_kind, set_kind, kind_in, kind_at}
-use Rattle.safl_net.specs.Names.{is_temp, one_wire, wires, temp_name, IsTidy}
+use Rattle.safl_net.specs.Names.{one_wire, IsTidy}
 use Rattle.safl_net.specs.Settled.{IsSteady, Settles}
 use Rattle.safl_net.specs.Growth.{Says}
-use Rattle.safl_net.proofs.Keeping.{Was, was}
 use Rattle.safl_net.proofs.Settling.{settles_same, settles_on, settles_next, settles_cell, steady_cell}
 use Rattle.safl_net.proofs.Saying.{says_same, says_on, says_next, says_cell}
+use Rattle.safl_net.proofs.Kinds.{set_other, tidy_kind}
+use Rattle.safl_net.proofs.Keeping.{set_length, set_width}
 use Rattle.safl_lower.specs.Tables.{EachAt}
 use Rattle.safl_unit.specs.Ties.{Tie, line_of, sig_of}
 use Rattle.safl_unit.specs.Finished.{open_register, open_wire, set_register, set_wire}
 use Rattle.safl_unit.specs.Setting.{with_kinds, next_kind, copy_kind, Takes}
-use Rattle.safl_unit.proofs.Declaring.{take_next, take_long, map_more, map_long}
-
--- ---- one kind
-
-get_else : (gs : List Signal) (s : ℕ) (k : Kind) (t : ℕ) → (t ≡ s → ⊥) → slice_get (set_kind gs s k) t ≡ slice_get gs t
-get_else [] s k t d = refl
-get_else (g ∷ gs) zero k zero d = absurd (d refl)
-get_else (g ∷ gs) zero k (suc t) d = refl
-get_else (g ∷ gs) (suc s) k zero d = refl
-get_else (g ∷ gs) (suc s) k (suc t) d = get_else gs s k t (λ e. d (ap suc e))
-
-width_else : (gs : List Signal) (s : ℕ) (k : Kind) (t : ℕ) → width_in (slice_get (set_kind gs s k) t) ≡ width_in (slice_get gs t)
-width_else [] s k t = refl
-width_else (g ∷ gs) zero k zero = refl
-width_else (g ∷ gs) zero k (suc t) = refl
-width_else (g ∷ gs) (suc s) k zero = refl
-width_else (g ∷ gs) (suc s) k (suc t) = width_else gs s k t
-
-set_long : (gs : List Signal) (s : ℕ) (k : Kind) → length (set_kind gs s k) ≡ length gs
-set_long [] s k = refl
-set_long (g ∷ gs) zero k = refl
-set_long (g ∷ gs) (suc s) k = ap suc (set_long gs s k)
 
 -- ---- kinds in a row
 
 pub kinds_after : (n : Netlist) (t : ℕ) (ks : List Kind) (u : ℕ) → t + length ks ≤ u → slice_get (with_kinds n t ks).signals u ≡ slice_get n.signals u
 kinds_after n t [] u l = refl
-kinds_after n t (k ∷ ks) u l = kinds_after (with_kind n t k) (suc t) ks u (omega (arith, l)) ∙ get_else n.signals t k u (λ e. absurd (omega (arith, e, l)))
+kinds_after n t (k ∷ ks) u l = kinds_after (with_kind n t k) (suc t) ks u (omega (arith, l)) ∙ set_other n.signals t k u (λ e. absurd (omega (arith, e, l)))
 
 pub kinds_width : (n : Netlist) (t : ℕ) (ks : List Kind) (u : ℕ) → width_of (with_kinds n t ks) u ≡ width_of n u
 kinds_width n t [] u = refl
-kinds_width n t (k ∷ ks) u = kinds_width (with_kind n t k) (suc t) ks u ∙ width_else n.signals t k u
+kinds_width n t (k ∷ ks) u = kinds_width (with_kind n t k) (suc t) ks u ∙ set_width n.signals t k u
 
 pub kinds_long : (n : Netlist) (t : ℕ) (ks : List Kind) → length (with_kinds n t ks).signals ≡ length n.signals
 kinds_long n t [] = refl
-kinds_long n t (k ∷ ks) = kinds_long (with_kind n t k) (suc t) ks ∙ set_long n.signals t k
+kinds_long n t (k ∷ ks) = kinds_long (with_kind n t k) (suc t) ks ∙ set_length n.signals t k
 
 set_names : (gs : List Signal) (t : ℕ) (k : Kind) → map (λ (g : Signal). g.name) (set_kind gs t k) ≡ map (λ (g : Signal). g.name) gs
 set_names [] t k = refl
@@ -83,7 +64,7 @@ takes_kept n t ks u k s l h = record {
 module _ (n m : Netlist) (first i : ℕ) (make : Sig → Kind) (all : List Sig) (s : Sig) (at : slice_get all i ≡ Some s) (inside : i < length all)
     (is : m ≡ with_kinds n first (map make (take i all))) where
   here : first + i ≡ first + length (map make (take i all))
-  here = let a = map_long make (take i all) in let b = take_long all i (omega (arith, inside)) in omega (arith, a, b)
+  here = let a = length-map (take i all) make in let b = length-take-le i all (omega (arith, inside)) in omega (arith, a, b)
 
   pub takes_next : (r : ℕ) (k : Kind) → r ≡ first + i → EachAt all (λ j x. Takes n (first + j) k x) → Takes m r k s
   takes_next r k e h =
@@ -94,7 +75,7 @@ module _ (n m : Netlist) (first i : ℕ) (make : Sig → Kind) (all : List Sig) 
   kinds_next r a e q =
       q ∙ ap (λ x. with_kind x r (make s)) is ∙ ap (λ x. with_kind (with_kinds n first (map make (take i all))) x (make s)) (e ∙ here)
       ∙ sym (kinds_end n first (map make (take i all)) (make s))
-      ∙ ap (λ l. with_kinds n first l) (sym (map_more make (take i all) (s ∷ [])) ∙ ap (map make) (sym (take_next all i s at)))
+      ∙ ap (λ l. with_kinds n first l) (sym (map-append make (take i all) (s ∷ [])) ∙ ap (map make) (sym (take_suc all i s at)))
       ∙ ap (λ j. with_kinds n first (map make (take j all))) (let p : suc i ≡ i + 1 = omega arith in p)
 
 -- ---- the list of signals
@@ -139,7 +120,7 @@ open_here n t k s ss h = ap (kind_at n) (let e : t ≡ t + 0 = omega arith in e)
 
 open_rest : (n : Netlist) (t : ℕ) (k j : Kind) (s : Sig) (ss : List Sig) → IsOpen n t k (s ∷ ss) → IsOpen (with_kind n t j) (suc t) k ss
 open_rest n t k j s ss h = λ i x e.
-    ap kind_in (get_else n.signals t j (suc t + i) (λ q. absurd (omega (arith, q))))
+    ap kind_in (set_other n.signals t j (suc t + i) (λ q. absurd (omega (arith, q))))
     ∙ ap (kind_at n) (let e : suc t + i ≡ t + suc i = omega arith in e) ∙ h (suc i) x e
 
 pub settles_nexts : (n : Netlist) (t : ℕ) (ss : List Sig) → Settles n (with_kinds n t (map next_kind ss))
@@ -178,31 +159,8 @@ settles_copies n t (s ∷ ss) h f =
     later i x (inl q) = inl (one.steady x.0 q)
     later i x (inr q) = by (x.0 == t) x i refl q.0 q.1
 
--- names stay, and so do the numbers of wires
-wires_kept : (gs : List Signal) (s : ℕ) (k : Kind) (t : ℕ) → one_wire k ≡ one_wire (kind_in (slice_get gs s)) → wires (take t (set_kind gs s k)) ≡ wires (take t gs)
-wires_kept [] s k t e = refl
-wires_kept (g ∷ gs) zero k zero e = refl
-wires_kept (g ∷ gs) zero k (suc t) e = ap (λ x. x + wires (take t gs)) e
-wires_kept (g ∷ gs) (suc s) k zero e = refl
-wires_kept (g ∷ gs) (suc s) k (suc t) e = ap (λ x. one_wire g.kind + x) (wires_kept gs s k t e)
-
-tidy_set : (n : Netlist) (s : ℕ) (k : Kind) → one_wire k ≡ one_wire (kind_at n s) → IsTidy n → IsTidy (with_kind n s k)
-tidy_set n s k e h = record {
-  signals = λ t g at temp. by t g (was n.signals s t k g at) temp;
-  outputs = h.outputs;
-}
-  where
-    same : (t : ℕ) (g b : Signal) → slice_get n.signals t ≡ Some b → (((t ≡ s) × (g.kind ≡ k)) ⊎ (g.kind ≡ b.kind)) → one_wire g.kind ≡ one_wire b.kind
-    same t g b at (inl q) = ap one_wire q.1 ∙ e ∙ ap (λ x. one_wire (kind_at n x)) (sym q.0) ∙ ap (λ x. one_wire (kind_in x)) at
-    same t g b at (inr q) = ap one_wire q
-
-    by : (t : ℕ) (g : Signal) → Was n.signals s t k g → is_temp g.name ≡ true → (one_wire g.kind ≡ 1) × (g.name ≡ temp_name (wires (take t (set_kind n.signals s k))))
-    by t g w temp =
-        let q = h.signals t w.before w.at (ap is_temp (sym w.name) ∙ temp) in
-        (same t g w.before w.at w.kind ∙ q.0, w.name ∙ q.1 ∙ ap temp_name (sym (wires_kept n.signals s k t e)))
-
 pub tidy_kinds : (n : Netlist) (t : ℕ) (k : Kind) (make : Sig → Kind) (ss : List Sig) → ((s : Sig) → one_wire (make s) ≡ one_wire k) → IsOpen n t k ss
     → IsTidy n → IsTidy (with_kinds n t (map make ss))
 tidy_kinds n t k make [] e h w = w
 tidy_kinds n t k make (s ∷ ss) e h w =
-    tidy_kinds (with_kind n t (make s)) (suc t) k make ss e (open_rest n t k (make s) s ss h) (tidy_set n t (make s) (e s ∙ ap one_wire (sym (open_here n t k s ss h))) w)
+    tidy_kinds (with_kind n t (make s)) (suc t) k make ss e (open_rest n t k (make s) s ss h) (tidy_kind n t (make s) (e s ∙ ap one_wire (sym (open_here n t k s ss h))) w)

@@ -2,6 +2,7 @@
 use Rattle.std.proofs.Common.{◌≡◌, ℕ, zero, suc, ◌<◌, ◌≤◌, List, [], ◌∷◌, ◌++◌, length, slice_get, length-append, subst, Some, Bool, true, false, ◌&&◌, ◌||◌, not, cond, refl, sym, ap, ◌∙◌, arith}
 use Rattle.safl_sites.specs.Plan.{Choice}
 use Rattle.safl_word.specs.Words.{Word}
+use Rattle.safl_word.proofs.Lists.{get_some}
 use Rattle.safl_term.specs.Program.{Program, unit_for}
 use Rattle.safl_net.specs.Growth.{Val}
 use Rattle.safl_net.specs.Bits.{on, gate}
@@ -104,15 +105,10 @@ module _ (C : Program) (P : Choice) (a b : Netlist) (p : Pins) (s t : Returns) (
         (λ l. sent_shown C P v r m u q x (shown v c.wired) (c.bank.units (C.callee (suc m)) u at) (c.bank.sites (suc m) q own (omega arith)));
   }
 
-pub port_there : {A : Type 0} (xs : List A) (k : ℕ) → k < length xs → (x : A) × (slice_get xs k ≡ Some x)
-port_there [] k l = absurd (omega (arith, l))
-port_there (x ∷ xs) zero l = (x, refl)
-port_there (x ∷ xs) (suc k) l = port_there xs k (omega (arith, l))
-
 pub all_returns : (C : Program) (P : Choice) (n : Netlist) (p : Pins) (s : Returns) → SoFar C P n p s C.sites → HasReturns C P n p s
 all_returns C P n p s h =
     let there = λ (k : ℕ) (l : k ≤ C.sites). pin_get s.ret.items k (let e = h.ret_length in omega (arith, e, l)) in
-    let port = λ (k : ℕ) (l : k ≤ C.sites). port_there s.ports.items k (let e = h.ports_length in omega (arith, e, l)) in
+    let port = λ (k : ℕ) (l : k ≤ C.sites). get_some s.ports.items k (let e = h.ports_length in omega (arith, e, l)) in
     record {
       fits = record {
         ret_length = h.ret_length;

@@ -2,8 +2,8 @@
 use Rattle.std.proofs.Common.{◌≡◌, ℕ, suc, ◌+◌, ◌<◌, List, [], ◌∷◌, ◌++◌, length, length-append, Option, Some, Bool, true, false, cond, Result, Ok}
 use Rattle.safl_sites.specs.Plan.{Choice}
 use Rattle.std.proofs.Common.{Err, IfOk, slice_get, slice_index_or, ◌⊎◌, ⊎_elim, refl, sym, ap, subst, ◌∙◌, arith}
+use Rattle.std.proofs.lemmas.Option.{same_Some}
 use Rattle.safl_term.specs.Program.{Program}
-use Rattle.safl_calls.proofs.Basics.{some_is}
 use Rattle.safl_net.specs.declared.cell.Sig.{Sig}
 use Rattle.safl_net.specs.Netlist.{Netlist}
 use Rattle.safl_net.specs.Growth.{Val, Wired, words}
@@ -75,7 +75,7 @@ module _ (C : Program) (a b : Netlist) (now : List UnitPins) (ends : List (Optio
 
   own_step : (v : Val) → UnitStep v (taken_in v end) (on_in v start) x y → StepAt v u y
   own_step v h z e =
-      let q : x ≡ z = some_is x z (sym at ∙ e) in
+      let q : x ≡ z = same_Some x z (sym at ∙ e) in
       subst (λ (t : UnitPins). Step v u t y) q
       (subst (λ (o : Option (Option Load)). UnitStep v (taken_in v (load_in o)) (on_from v starts u) x y) (sym at_end)
       (subst (λ (o : Option (Option Sig)). UnitStep v (taken_in v end) (on_in v (sig_in o)) x y) (sym at_start) h))
@@ -113,7 +113,7 @@ module _ (C : Program) (a b : Netlist) (k : ℕ) (now : List MemberPins) (entrie
 
   next_here : (v : Val) → Wired b v → Next v f y
   next_here v w z q =
-      let same : x ≡ z = some_is x z (sym at ∙ q) in
+      let same : x ≡ z = same_Some x z (sym at ∙ q) in
       subst (λ (t : MemberPins). MemberStep v (many C f) (on_from v entries f) (on_from v rivals f) (taken_from v loads f) (taken_from v looped f) t y) same
       (subst (λ (o : Option (Option Sig)). MemberStep v (many C f) (on_in v (sig_in o)) (on_from v rivals f) (taken_from v loads f) (taken_from v looped f) x y) (sym at_entry)
       (subst (λ (o : Option (Option Sig)). MemberStep v (many C f) (on_in v e) (on_in v (sig_in o)) (taken_from v loads f) (taken_from v looped f) x y) (sym at_rival)
@@ -147,8 +147,8 @@ module _ (C : Program) (P : Choice) (a b : Netlist) (units : List UnitPins) (now
     (on_in v clear) (v u.res.0) x y) (push : ys ≡ all ++ y ∷ []) where
   site_here : (v : Val) → Wired b v → SiteNext C P units now rets goes clears v k y
   site_here v w h z q s =
-      let same : x ≡ z = some_is x z (sym at ∙ s) in
-      let unit : u ≡ h = some_is u h (sym at_unit ∙ q) in
+      let same : x ≡ z = same_Some x z (sym at ∙ s) in
+      let unit : u ≡ h = same_Some u h (sym at_unit ∙ q) in
       subst (λ (t : SitePins). SiteStep v (P.kept k) (on v (pin rets k)) (on v (pin goes k)) (on_from v clears (C.unit (C.caller k))) (v h.res.0) t y) same
       (subst (λ (t : UnitPins). SiteStep v (P.kept k) (on v (pin rets k)) (on v (pin goes k)) (on_from v clears (C.unit (C.caller k))) (v t.res.0) x y) unit
       (subst (λ (o : Option (Option Sig)). SiteStep v (P.kept k) (on v (pin rets k)) (on v (pin goes k)) (on_in v (sig_in o)) (v u.res.0) x y) (sym at_clear) (shown v w)))

@@ -2,6 +2,7 @@
 use Rattle.std.proofs.Common.{ℕ, ◌<◌, ◌≤◌, List, Option, is_some, subst, arith}
 use Rattle.safl_sites.specs.Plan.{Choice}
 use Rattle.std.proofs.lemmas.Option.{slice_get_within}
+use Rattle.safl_word.proofs.Lists.{get_some}
 use Rattle.safl_term.specs.Program.{Program}
 use Rattle.safl_term.specs.WellFormed.{IsWellFormed}
 use Rattle.safl_net.specs.declared.cell.Sig.{Sig}
@@ -24,7 +25,6 @@ use Rattle.safl_unit.specs.Stages.{HasReturns, HasOutcomes, HasGoes, HasNext}
 use Rattle.safl_unit.specs.Steps.{UnitsNext, MembersNext, SitesNext}
 use Rattle.safl_unit.specs.Coming.{HasEvents, EventsFit}
 use Rattle.safl_unit.proofs.Keeping.{unit_kept, member_kept, ends_kept, all_loads_kept, tests_kept}
-use Rattle.safl_unit.proofs.Sites.{port_there}
 use Rattle.safl_unit.proofs.Following.{unit_follows, member_follows, site_follows}
 
 -- ---- what is known of a net is known of what is built on it
@@ -82,7 +82,7 @@ has_next C P n p s o goes e b formed pf hs ho hg he U M S = record {
         let u = C.unit f in
         let ul : u < C.functions = omega (arith, low, within, count) in
         let many = pf.bank.units_length in
-        let x = port_there p.bank.units.items u (omega (arith, ul, many)) in
+        let x = get_some p.bank.units.items u (omega (arith, ul, many)) in
         unit_follows C P v r i u (taken_from v e.ends.items u) (on_from v e.starts.items u) x.0 y (U.shows v c.wired f y q x.0 x.1)
         (subst (λ (k : ℕ). UnitShows v x.0 r k) first.1 (c.bank.units u x.0 x.1))
         (he.ends.shows v r i c u ul) (he.starts.shows v r i c u ul);
@@ -91,7 +91,7 @@ has_next C P n p s o goes e b formed pf hs ho hg he U M S = record {
         let count = M.entries_after in
         let l : f < C.functions = omega (arith, within, count) in
         let many = pf.bank.members_length in
-        let x = port_there p.bank.members.items f (omega (arith, l, many)) in
+        let x = get_some p.bank.members.items f (omega (arith, l, many)) in
         member_follows C P v r i f (on_from v e.entries.items f) (on_from v e.rivals.items f) (taken_from v e.loads.items f)
         (taken_from v o.loops.items f) x.0 y (M.shows v c.wired f y q x.0 x.1) (c.bank.members f x.0 x.1)
         (he.entries.shows v r i c f l) (he.rivals.shows v r i c f l) (he.loads.shows v r i c f l) ((ho.shows v r i c).loops f l);
@@ -104,8 +104,8 @@ has_next C P n p s o goes e b formed pf hs ho hg he U M S = record {
         let caller = calls.0 in
         let units = pf.bank.units_length in
         let sites = pf.bank.sites_length in
-        let u = port_there p.bank.units.items (C.callee k) (omega (arith, callee, units)) in
-        let x = port_there p.bank.sites.items k (omega (arith, l, sites)) in
+        let u = get_some p.bank.units.items (C.callee k) (omega (arith, callee, units)) in
+        let x = get_some p.bank.sites.items k (omega (arith, l, sites)) in
         let low = (formed.first (C.caller k) caller).0 in
         site_follows C P v r i k (on v (pin s.ret.items k)) (on v (pin goes k)) (on_from v e.clears.items (C.unit (C.caller k))) (v u.0.res.0) x.0 y
         (S.shows v c.wired k y q above u.0 x.0 u.1 x.1) (c.bank.sites k x.0 x.1 above)

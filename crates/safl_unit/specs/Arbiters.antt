@@ -1,5 +1,5 @@
 -- Arbiters, which decide among the sites of a unit.
-use Rattle.std.specs.Prelude.{◌≡◌, ℕ, zero, suc, ◌+◌, ◌<◌, ◌==◌, List, [], ◌∷◌, ◌++◌, length, map, Some, Vec, true, not, cond, slice_get}
+use Rattle.std.specs.Prelude.{◌≡◌, ℕ, zero, suc, ◌<◌, ◌==◌, List, [], ◌∷◌, ◌++◌, length, map, Some, Vec, true, not, cond, slice_get}
 use Rattle.std.specs.Global.{Global}
 use Rattle.safl_term.specs.Program.{Program, unit_for}
 use Rattle.safl_net.specs.declared.cell.Sig.{Sig}
@@ -25,11 +25,6 @@ site_row C ls u (suc m) = site_row C ls u m ++ cond (u == unit_for C (suc m)) (w
 -- the rank of a site is the number of sites of its unit before it
 abbrev pub AreRanks : Program → List Load → List ℕ → Type 0
 AreRanks C ls ranks = (m : ℕ) (q : ℕ) → slice_get ranks (suc m) ≡ Some q → q ≡ length (site_row C ls (unit_for C (suc m)) m)
-
--- the sum of f over the numbers below n
-unfoldable pub tally : (ℕ → ℕ) → ℕ → ℕ
-tally g zero = 0
-tally g (suc n) = tally g n + g n
 
 -- the rows of units up to number m: for each site of a unit with an arbiter, whether the unit rests and no site before it wants
 pub record RowsFree (C : Program) (P : Choice) (n : Netlist) (us : List UnitPins) (rows out : List (Vec Sig Global)) (m : ℕ) : Type 0 where

@@ -7,7 +7,8 @@ ghost use Rattle.safl_net.specs.Bits.{on};
 ghost use Rattle.safl_lower.specs.Sources.{IsSource, Builds, CanGrow};
 ghost use Rattle.safl_lower.specs.Heights.{AllWithin};
 ghost use Rattle.safl_lower.specs.Rows.{AreBits, frees, row_at};
-ghost use Rattle.safl_unit.specs.Arbiters.{site_row, tally, AreRanks, AllRowsFree};
+ghost use Rattle.safl_unit.specs.Arbiters.{site_row, AreRanks, AllRowsFree};
+ghost use Rattle.safl_word.specs.Lists.{summed};
 ghost use Rattle.safl_unit.specs.Cycles.{PinsFit};
 
 use crate::arrivals::{callee_of, function_count, site_count, unit_of};
@@ -95,9 +96,9 @@ pub fn unit_frees(
     requires pins { PinsFit p.now.program net.old pins.now }
     requires count { length rows.now.items ≡ p.now.program.functions }
     requires rows { (u : ℕ) → AreBits net.old (row_at rows.now.items u) }
-    requires room { CanGrow net.old (3 * tally (λ u. length (row_at rows.now.items u)) p.now.program.functions) }
+    requires room { CanGrow net.old (3 * summed (λ u. length (row_at rows.now.items u)) p.now.program.functions) }
     ensures tidy { IsTidy net.new }
-    ensures built { OnOk result (Builds net.old net.new (3 * tally (λ u. length (row_at rows.now.items u)) p.now.program.functions)) }
+    ensures built { OnOk result (Builds net.old net.new (3 * summed (λ u. length (row_at rows.now.items u)) p.now.program.functions)) }
     ensures done { IfOk result (λ out. AllRowsFree p.now.program p.now.choice net.new pins.now rows.now.items out.items) }
 {
     let functions = function_count(p);

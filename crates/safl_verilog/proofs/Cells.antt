@@ -1,10 +1,9 @@
 -- The expression that is written of a cell means the cell.
-use Rattle.std.proofs.Common.{◌≡◌, ℕ, ◌+◌, ◌-◌, ◌<◌, ◌≤◌, ◌^◌, List, [], ◌∷◌, ◌++◌, map, drop, Bool, true, false, ◌&&◌, nat_le, nat_lt, Some, Option}
+use Rattle.std.proofs.Common.{◌≡◌, ℕ, ◌+◌, ◌-◌, ◌<◌, ◌≤◌, ◌^◌, List, [], ◌∷◌, ◌++◌, map, drop, Bool, true, ◌&&◌, nat_le, nat_lt, Some, Option}
 use Rattle.std.proofs.Common.{refl, sym, ap, subst, ◌∙◌, arith, append_assoc, lit<}
 use Rattle.std.specs.Prelude.{codes, decimal}
 use Rattle.std.specs.List.{list_all}
-use Rattle.std.proofs.lemmas.Bool.{and_parts}
-use Rattle.std.proofs.lemmas.Bool.Decides.{nat_tests}
+use Rattle.std.proofs.lemmas.Bool.{and_parts, le-leb, leb-true, lt-ltb, ltb-true}
 use Rattle.std.proofs.Math.Nat.{pow-le-pow_right}
 use Rattle.safl_word.specs.Words.{Word, IsWord}
 use Rattle.safl_word.specs.Primitives.{one_width, two_widths, where_true}
@@ -12,6 +11,8 @@ use Rattle.safl_word.proofs.Widths.{only_where}
 use Rattle.safl_word.specs.Numerals.{is_digit, value}
 use Rattle.safl_word.specs.declared.primitive.Primitive.{Primitive}
 use Rattle.safl_word.specs.declared.primitive.Primitive.TheVariants as prims
+use Rattle.safl_word.proofs.Booleans.{all_three}
+use Rattle.safl_word.proofs.Words.{where_holds}
 use Rattle.safl_net.specs.declared.cell.Op.{Op}
 use Rattle.safl_net.specs.declared.cell.Op.TheVariants as ops
 use Rattle.safl_net.specs.Netlist.{Netlist, width_of}
@@ -75,17 +76,8 @@ spelled width bits a b c =
       written = record { width = decimal width; bits = decimal bits; joined = apart_literal width bits; width_numeral = n; bits_numeral = decimal_numeral bits v };
     }
   where
-    le_true : (m n : ℕ) → m ≤ n → nat_le m n ≡ true
-    le_true m n h = grind (arith, nat_tests)
-
-    lt_true : (m n : ℕ) → m < n → nat_lt m n ≡ true
-    lt_true m n h = grind (arith, nat_tests)
-
     is_one : (width bits : ℕ) → 1 ≤ width → width ≤ 128 → bits < 2 ^ width → is_word width bits ≡ true
-    is_one width bits a b c = rw (le_true 1 width a, le_true width 128 b, lt_true bits (2 ^ width) c) refl
-
-    all_three : (x y z : Bool) → x ≡ true → y ≡ true → z ≡ true → (x && y && z) ≡ true
-    all_three x y z a b c = rw (a, b, c) refl
+    is_one width bits a b c = rw (le-leb 1 width a, le-leb width 128 b, lt-ltb bits (2 ^ width) c) refl
 
 -- ---- expressions
 
@@ -145,10 +137,10 @@ bits_sound n high low xs w known e names =
     let k = one_case n (λ v. where_true (nat_le low high && nat_lt high v) (high - low + 1)) xs w e in
     let here : Names n (k.0 ∷ []) = subst (Names n) k.1 names in
     let least = known k.0 k.1 in
-    let t : (nat_le low high && nat_lt high (width_of n k.0)) ≡ true = was_true (nat_le low high && nat_lt high (width_of n k.0)) (high - low + 1) w k.2 in
+    let t : (nat_le low high && nat_lt high (width_of n k.0)) ≡ true = where_holds (nat_le low high && nat_lt high (width_of n k.0)) (high - low + 1) w k.2 in
     let p = and_parts (nat_le low high) (nat_lt high (width_of n k.0)) t in
-    let lh : low ≤ high = le_of low high p.0 in
-    let hw : high < width_of n k.0 = lt_of high (width_of n k.0) p.1 in
+    let lh : low ≤ high = leb-true low high p.0 in
+    let hw : high < width_of n k.0 = ltb-true high (width_of n k.0) p.1 in
     let big : 128 < 2 ^ 128 = lit< tt in
     let h : high < 2 ^ 128 = omega arith in
     let l : low < 2 ^ 128 = omega arith in
@@ -156,16 +148,6 @@ bits_sound n high low xs w known e names =
     (λ x. ops.Apply (prims.Bits x (value 10 (decimal low)))) (decimal_value high h) ∙ ap (λ x. ops.Apply (prims.Bits high x)) (decimal_value low l) in
     subst (λ (l : List ℕ). Sound n (ops.Apply (prims.Bits high low)) l (applied (prims.Bits high low) (map (named_spot n) l))) (sym k.1)
     (record { does = op; takes = refl; fine = (here.0, decimal_numeral high h, decimal_numeral low l); short = no_fault_when _ _ _ _ (decimal_short high h) (decimal_short low l) })
-  where
-    was_true : (b : Bool) (v w : ℕ) → where_true b v ≡ Some w → b ≡ true
-    was_true true v w e = refl
-    was_true false v w e = absurd cc
-
-    le_of : (m n : ℕ) → nat_le m n ≡ true → m ≤ n
-    le_of m n h = grind (arith, nat_tests)
-
-    lt_of : (m n : ℕ) → nat_lt m n ≡ true → m < n
-    lt_of m n h = grind (arith, nat_tests)
 
 applied_sound : (n : Netlist) (p : Primitive) (xs : List ℕ) (w : ℕ) → ((a : ℕ) → xs ≡ a ∷ [] → width_of n a ≤ 128) → op_width (ops.Apply p)
     (widths n xs) ≡ Some w → Names n xs → Sound n (ops.Apply p) xs (applied p (map (named_spot n) xs))

@@ -1,10 +1,12 @@
 -- Where a comment ends.
-use Rattle.std.proofs.Common.{◌≡◌, ℕ, suc, List, [], ◌∷◌, ◌++◌, length, Bool, true, false, ◌==◌, ◌&&◌, ◌||◌, Some, None, Option, refl, sym, ap, ◌∙◌, inl, inr}
-use Rattle.std.proofs.lemmas.Bool.{and_parts}
+use Rattle.std.proofs.Common.{◌≡◌, ℕ, suc, List, [], ◌∷◌, ◌++◌, length, false, ◌==◌, ◌&&◌, Some, None, Option, refl, sym, ap, ◌∙◌, inl, inr}
+use Rattle.std.proofs.lemmas.Bool.{and_parts, or_parts}
 use Rattle.std.proofs.lemmas.Bool.Decides.{Decides-eqb}
+use Rattle.std.proofs.lemmas.Option.{same_Some}
+use Rattle.std.proofs.Math.Bool.{and-false}
 use Rattle.safl_verilog.specs.Tokens.{has_close}
 use Rattle.safl_verilog.specs.Pieces.{closing, one_more}
-use Rattle.safl_verilog.proofs.Runs.{chosen, some_is}
+use Rattle.safl_verilog.proofs.Runs.{chosen}
 
 -- a text up to its first `*/`, of n bytes
 pub record Closed (w : List ℕ) (n : ℕ) : Type 0 where
@@ -16,7 +18,7 @@ pub record Closed (w : List ℕ) (n : ℕ) : Type 0 where
 
 one_more_is : (o : Option ℕ) (n : ℕ) → one_more o ≡ Some n → (m : ℕ) × (o ≡ Some m) × (suc m ≡ n)
 one_more_is None n e = absurd cc
-one_more_is (Some m) n e = (m, refl, some_is e)
+one_more_is (Some m) n e = (m, refl, same_Some _ _ e)
 
 opened : (c d : ℕ) (w inner rest : List ℕ) → ((c == 42) && (d == 47)) ≡ false → d ∷ w ≡ inner ++ 42 ∷ 47 ∷ rest → has_close inner ≡ false → has_close (c ∷ inner) ≡ false
 opened c d w [] rest a e h = refl
@@ -33,25 +35,17 @@ closed (c ∷ (d ∷ w)) n e = elim (chosen ((c == 42) && (d == 47)) (Some 0) (o
       let a = and_parts (c == 42) (d == 47) h.0 in
       let c_is : c ≡ 42 = (Decides-eqb c 42).0 a.0 in
       let d_is : d ≡ 47 = (Decides-eqb d 47).0 a.1 in
-      record { inner = []; rest = w; joined = cc; size = some_is h.1; first = refl })
+      record { inner = []; rest = w; joined = cc; size = same_Some _ _ h.1; first = refl })
   | inr h ↦ (
       let m = one_more_is (closing (d ∷ w)) n h.1 in
       let k = closed (d ∷ w) m.0 m.1 in
       record { inner = c ∷ k.inner; rest = k.rest; joined = ap (λ (l : List ℕ). c ∷ l) k.joined; size = ap suc k.size ∙ m.2; first = opened c d w k.inner k.rest h.0 k.joined k.first })
 ]
 
-and_false : (b : Bool) → (b && false) ≡ false
-and_false true = refl
-and_false false = refl
-
-or_false : (a b : Bool) → (a || b) ≡ false → (a ≡ false) × (b ≡ false)
-or_false true b e = absurd cc
-or_false false b e = (refl, e)
-
 -- a text without a `*/` is what stands before the first one that follows it
 pub closing_of : (inner rest : List ℕ) → has_close inner ≡ false → closing (inner ++ 42 ∷ 47 ∷ rest) ≡ Some (length inner)
 closing_of [] rest h = refl
-closing_of (c ∷ []) rest h = rw (and_false (c == 42)) refl
+closing_of (c ∷ []) rest h = rw (and-false (c == 42)) refl
 closing_of (c ∷ (d ∷ inner)) rest h =
-    let a = or_false ((c == 42) && (d == 47)) (has_close (d ∷ inner)) h in
+    let a = or_parts ((c == 42) && (d == 47)) (has_close (d ∷ inner)) h in
     rw (a.0, closing_of (d ∷ inner) rest a.1) refl

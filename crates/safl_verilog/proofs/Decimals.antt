@@ -5,16 +5,11 @@ use Rattle.std.specs.Fmt.{digits, digits_onto, digit_glyph, decimal}
 use Rattle.std.proofs.lemmas.Bool.Decides.{Decides-eqb, nat_tests}
 use Rattle.std.proofs.Math.Nat.{pow-suc, pow-zero}
 use Rattle.safl_word.specs.Numerals.{digit, is_digit, value, IsNumeral}
+use Rattle.safl_word.proofs.WordLaws.{digit_is, one_digit}
 use Rattle.safl_verilog.specs.Faults.{is_short}
 
 glyph_is : (d : ℕ) → d < 10 → digit_glyph false d ≡ 48 + d
 glyph_is d h = grind (arith, nat_tests)
-
-digit_passes : (d : ℕ) → d < 10 → is_digit 10 (48 + d) ≡ true
-digit_passes d h = grind (arith, nat_tests)
-
-digit_counts : (d : ℕ) → d < 10 → digit (48 + d) ≡ d
-digit_counts d h = grind (arith, nat_tests)
 
 record Onto (k n : ℕ) (acc w : List ℕ) : Type 0 where
   passes : list_all (is_digit 10) acc ≡ true → list_all (is_digit 10) w ≡ true
@@ -26,8 +21,8 @@ one_onto : (k n : ℕ) (acc : List ℕ) → n < 10 → Onto k n acc (digit_glyph
 one_onto k n acc h =
     let last : n % 10 ≡ n = omega arith in
     let is : digit_glyph false (n % 10) ≡ 48 + n = ap (digit_glyph false) last ∙ glyph_is n h in
-    let p : is_digit 10 (digit_glyph false (n % 10)) ≡ true = ap (is_digit 10) is ∙ digit_passes n h in
-    let c : digit (digit_glyph false (n % 10)) ≡ n = ap digit is ∙ digit_counts n h in
+    let p : is_digit 10 (digit_glyph false (n % 10)) ≡ true = ap (is_digit 10) is ∙ one_digit n h in
+    let c : digit (digit_glyph false (n % 10)) ≡ n = ap digit is ∙ digit_is n h in
     record { passes = λ a. rw (p, a) refl; counts = ap (λ d. d * 10 ^ length acc + value 10 acc) c; some = omega arith; few = omega arith }
 
 onto : (k n : ℕ) (acc : List ℕ) → n < 10 ^ suc k → Onto k n acc (digits_onto (suc k) 10 false n acc)
@@ -42,8 +37,8 @@ onto (suc k) n acc h = go (n / 10 == 0) refl (onto k (n / 10) (digit_glyph false
     last t =
         let d : n % 10 < 10 = omega arith in
         let is = glyph_is (n % 10) d in
-        let p : is_digit 10 (digit_glyph false (n % 10)) ≡ true = ap (is_digit 10) is ∙ digit_passes (n % 10) d in
-        let c : digit (digit_glyph false (n % 10)) ≡ n % 10 = ap digit is ∙ digit_counts (n % 10) d in
+        let p : is_digit 10 (digit_glyph false (n % 10)) ≡ true = ap (is_digit 10) is ∙ one_digit (n % 10) d in
+        let c : digit (digit_glyph false (n % 10)) ≡ n % 10 = ap digit is ∙ digit_is (n % 10) d in
         let e : digit (digit_glyph false (n % 10)) * 10 ^ length acc ≡ n % 10 * 10 ^ length acc = ap (λ d. d * 10 ^ length acc) c in
         let q : 10 ^ length (digit_glyph false (n % 10) ∷ acc) ≡ 10 ^ length acc * 10 = pow-suc 10 (length acc) in
         let m : n / 10 * 10 ^ length (digit_glyph false (n % 10) ∷ acc) ≡ n / 10 * (10 ^ length acc * 10) = ap (λ x. n / 10 * x) q in

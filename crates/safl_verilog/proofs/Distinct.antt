@@ -73,10 +73,6 @@ pub each_right : {X : Type 0} (P : X → Type 0) (xs ys : List X) → Each P (xs
 each_right P [] ys h = h
 each_right P (x ∷ xs) ys h = each_right P xs ys h.1
 
-pub each_join : {X : Type 0} (P : X → Type 0) (xs ys : List X) → Each P xs → Each P ys → Each P (xs ++ ys)
-each_join P [] ys h k = k
-each_join P (x ∷ xs) ys h k = (h.0, each_join P xs ys h.1 k)
-
 pub each_map : {X Y : Type 0} (P : Y → Type 0) (b : X → Y) (xs : List X) → Each P (map b xs) → Each (λ x. P (b x)) xs
 each_map P b [] h = tt
 each_map P b (x ∷ xs) h = (h.0, each_map P b xs h.1)
@@ -84,10 +80,6 @@ each_map P b (x ∷ xs) h = (h.0, each_map P b xs h.1)
 pub each_mapped : {X Y : Type 0} (P : Y → Type 0) (b : X → Y) (xs : List X) → Each (λ x. P (b x)) xs → Each P (map b xs)
 each_mapped P b [] h = tt
 each_mapped P b (x ∷ xs) h = (h.0, each_mapped P b xs h.1)
-
-pub each_of : {X : Type 0} (P Q : X → Type 0) → ((x : X) → P x → Q x) → (xs : List X) → Each P xs → Each Q xs
-each_of P Q f [] h = tt
-each_of P Q f (x ∷ xs) h = (f x h.0, each_of P Q f xs h.1)
 
 pub each_both : {X : Type 0} (P Q R : X → Type 0) → ((x : X) → P x → Q x → R x) → (xs : List X) → Each P xs → Each Q xs → Each R xs
 each_both P Q R f [] h k = tt
@@ -97,10 +89,6 @@ pub each_at : {X : Type 0} (P : X → Type 0) (xs : List X) (i : ℕ) (x : X) �
 each_at P [] i x h e = absurd cc
 each_at P (y ∷ xs) zero x h e = let same : y ≡ x = cc in subst P same h.0
 each_at P (y ∷ xs) (suc i) x h e = each_at P xs i x h.1 e
-
-pub each_by_index : {X : Type 0} (P : X → Type 0) (xs : List X) → ((i : ℕ) (x : X) → slice_get xs i ≡ Some x → P x) → Each P xs
-each_by_index P [] h = tt
-each_by_index P (x ∷ xs) h = (h 0 x refl, each_by_index P xs (λ i y e. h (suc i) y e))
 
 -- those that pass a test
 pub each_where : {X : Type 0} (P : X → Type 0) (p : X → Bool) (xs : List X) → Each P xs → Each (λ x. P x × (p x ≡ true)) (filter p xs)

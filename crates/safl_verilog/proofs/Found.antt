@@ -4,6 +4,7 @@ use Rattle.std.proofs.Common.{sym, ap, subst, ◌∙◌, arith, inl, inr, append
 use Rattle.std.proofs.Math.Seq.{take-append_seam, take-append-add, drop-append-add}
 use Rattle.std.proofs.lemmas.List.{take-append-drop, length-take-le}
 use Rattle.std.proofs.lemmas.Bool.Decides.{Decides-eqb, nat_tests}
+use Rattle.std.proofs.lemmas.Option.{same_Some}
 use Rattle.safl_word.specs.Numerals.{is_digit, IsNumeral}
 use Rattle.safl_word.specs.Tokens.{is_blank, base_of}
 use Rattle.safl_net.specs.Names.{is_start, is_part, is_identifier}
@@ -13,11 +14,11 @@ use Rattle.safl_verilog.specs.declared.token.TokenKind.{TokenKind}
 use Rattle.safl_verilog.specs.declared.token.TokenKind.TheVariants as kinds
 use Rattle.safl_verilog.specs.Tokens.{keyword_text, symbol_text, stops, next_base, base_with, IsToken, Piece, Blank, Line, Block, Lexeme, text_of, StandsBefore}
 use Rattle.safl_word.specs.Limits.{net_name_max}
+use Rattle.safl_net.proofs.Kinds.{start_part}
 use Rattle.safl_verilog.specs.Pieces.{run, named, all_keywords, single_symbols, double_symbols, word_kind, first_bytes, first_word, sized_length}
 use Rattle.safl_verilog.specs.Pieces.{first_number, one_symbol, two_symbols, first_symbol, closing, block, first_comment, first_piece}
-use Rattle.safl_verilog.proofs.Runs.{chosen, some_is, run_le, run_all, run_stops, are_parts-all, named_has}
+use Rattle.safl_verilog.proofs.Runs.{chosen, run_le, run_all, run_stops, are_parts-all, named_has}
 use Rattle.safl_verilog.proofs.Closing.{closed}
-use Rattle.safl_verilog.proofs.Bytes.{start_part}
 use Rattle.safl_verilog.proofs.Symbols.{keyword_named, no_third, double_named}
 
 -- a piece stands at the front of the text
@@ -27,7 +28,7 @@ pub record Cut (w : List ℕ) (x : Piece) : Type 0 where
   pub stands : StandsBefore x rest
 
 cut_as : (w : List ℕ) (y : Piece) (o : Option Piece) (x : Piece) → Cut w y → o ≡ Some y → o ≡ Some x → Cut w x
-cut_as w y o x k e h = subst (λ z. Cut w z) (some_is (sym e ∙ h)) k
+cut_as w y o x k e h = subst (λ z. Cut w z) (same_Some _ _ (sym e ∙ h)) k
 
 abbrev of_first : (w : List ℕ) (n : ℕ) (kind : TokenKind) → IsToken kind (take n w) (drop n w) → Cut w (Lexeme kind (take n w))
 of_first w n kind h = record { rest = drop n w; joined = sym (take-append-drop n w); stands = h }
@@ -74,7 +75,7 @@ record Based (v : List ℕ) (base : ℕ) : Type 0 where
 base_is : (o : Option ℕ) (d base : ℕ) → base_with o d ≡ Some base → (o ≡ Some base) × (is_digit base d ≡ true)
 base_is None d base e = absurd cc
 base_is (Some b) d base e = elim (chosen (is_digit b d) (Some b) None (Some base) e) [
-  | inl a ↦ (a.1, subst (λ k. is_digit k d ≡ true) (some_is a.1) a.0)
+  | inl a ↦ (a.1, subst (λ k. is_digit k d ≡ true) (same_Some _ _ a.1) a.0)
   | inr a ↦ absurd (let f : None ≡ Some base = a.1 in cc)
 ]
 

@@ -1,13 +1,15 @@
 -- What is found by the names of a file whose names are all different.
-use Rattle.std.proofs.Common.{◌≡◌, ◌≢◌, ℕ, zero, suc, List, [], ◌∷◌, ◌++◌, map, Bool, true, false, cond, not, ◌||◌, Some, None, refl, sym, ap, subst, ◌∙◌, inl, inr, bytes_eq, append_assoc}
+use Rattle.std.proofs.Common.{◌≡◌, ◌≢◌, ℕ, zero, suc, List, [], ◌∷◌, ◌++◌, map, true, false, cond, not, ◌||◌, Some, None, refl, sym, ap, subst, ◌∙◌, inl, inr, bytes_eq, append_assoc}
 use Rattle.std.specs.Prelude.{slice_get}
 use Rattle.std.proofs.lemmas.List.{map-append}
+use Rattle.std.proofs.Math.Bool.{or-true}
 use Rattle.safl_verilog.specs.declared.fault.VRule.TheVariants as rules
 use Rattle.safl_verilog.specs.Files.{Spot, Declaration, Statement, Assign, Always}
 use Rattle.safl_verilog.specs.Faults.{where_not, at, among, repeat_faults, find, assigned, updated}
 use Rattle.safl_verilog.specs.Netlists.{place_of}
 use Rattle.safl_net.specs.Arranged.{Each}
-use Rattle.safl_verilog.proofs.Distinct.{Name, Has, Distinct, has_right, distinct_apart, same_name, other_name, each_of}
+use Rattle.safl_net.proofs.EachOf.{each_stands}
+use Rattle.safl_verilog.proofs.Distinct.{Name, Has, Distinct, has_right, distinct_apart, same_name, other_name}
 
 abbrev pub spot_names : List Spot → List Name
 spot_names xs = map (λ (x : Spot). x.bytes) xs
@@ -21,14 +23,10 @@ not_among : (xs : List Spot) (w : Name) → (Has w (spot_names xs) → ⊥) → 
 not_among [] w h = refl
 not_among (x ∷ xs) w h = ap (λ b. b || among xs w) (other_name x.bytes w (λ e. h (inl e))) ∙ not_among xs w (λ k. h (inr k))
 
-or_true : (b : Bool) → (b || true) ≡ true
-or_true true = refl
-or_true false = refl
-
 pub is_among : (xs : List Spot) (w : Name) → Has w (spot_names xs) → among xs w ≡ true
 is_among [] w h = absurd h
 is_among (x ∷ xs) w (inl e) = let s : bytes_eq x.bytes w ≡ true = ap (λ v. bytes_eq v w) e ∙ same_name w in rw s refl
-is_among (x ∷ xs) w (inr h) = ap (λ b. bytes_eq x.bytes w || b) (is_among xs w h) ∙ or_true (bytes_eq x.bytes w)
+is_among (x ∷ xs) w (inr h) = ap (λ b. bytes_eq x.bytes w || b) (is_among xs w h) ∙ or-true (bytes_eq x.bytes w)
 
 pub no_repeats : (before xs : List Spot) → Distinct (spot_names before ++ spot_names xs) → repeat_faults before xs ≡ []
 no_repeats before [] h = refl
@@ -43,7 +41,7 @@ each_has [] more = tt
 each_has (x ∷ xs) more =
     let moved : (more ++ x.bytes ∷ []) ++ spot_names xs ≡ more ++ spot_names (x ∷ xs) = append_assoc more (x.bytes ∷ []) (spot_names xs) in (
       has_right x.bytes more (spot_names (x ∷ xs)) (inl refl),
-      each_of _ _ (λ (y : Spot) h. subst (λ (l : List Name). Has y.bytes l) moved h) xs (each_has xs (more ++ x.bytes ∷ [])),
+      each_stands _ _ (λ (y : Spot) h. subst (λ (l : List Name). Has y.bytes l) moved h) xs (each_has xs (more ++ x.bytes ∷ [])),
     )
 
 -- ---- declarations
@@ -54,13 +52,13 @@ found_in [] h = tt
 found_in (d ∷ ds) h =
     let here : find (d ∷ ds) d.name.bytes ≡ Some d = ap (λ b. cond b (Some d) (find ds d.name.bytes)) (same_name d.name.bytes) in (
       (here, inl refl),
-      each_of _ _ (λ (e : Declaration) k.
+      each_stands _ _ (λ (e : Declaration) k.
           let other = other_name d.name.bytes e.name.bytes (λ g. h.0 (subst (λ (w : Name). Has w (names ds)) (sym g) k.1)) in
           (ap (λ b. cond b (Some d) (find ds e.name.bytes)) other ∙ k.0, inr k.1)) ds (found_in ds h.1),
     )
 
 pub each_found : (ds : List Declaration) → Distinct (names ds) → Each (λ (d : Declaration). find ds d.name.bytes ≡ Some d) ds
-each_found ds h = each_of _ _ (λ d k. k.0) ds (found_in ds h)
+each_found ds h = each_stands _ _ (λ d k. k.0) ds (found_in ds h)
 
 pub place_at : (ds : List Declaration) → Distinct (names ds) → (i : ℕ) (d : Declaration) → slice_get ds i ≡ Some d → place_of ds d.name.bytes ≡ i
 place_at [] h i d e = absurd cc
@@ -114,7 +112,7 @@ does_first (Always clock reset t initial second source) ss = ap (λ b. cond b (S
 does_in : (ss : List Statement) → Distinct (targets ss) → Each (λ s. Does ss s × Has (target s) (targets ss)) ss
 does_in [] h = tt
 does_in (s ∷ ss) h =
-    ((does_first s ss, inl refl), each_of _ _ (λ t k. (does_still s ss t (λ e. h.0 (subst (λ (w : Name). Has w (targets ss)) (sym e) k.1)) k.0, inr k.1)) ss (does_in ss h.1))
+    ((does_first s ss, inl refl), each_stands _ _ (λ t k. (does_still s ss t (λ e. h.0 (subst (λ (w : Name). Has w (targets ss)) (sym e) k.1)) k.0, inr k.1)) ss (does_in ss h.1))
 
 pub each_does : (ss : List Statement) → Distinct (targets ss) → Each (λ s. Does ss s) ss
-each_does ss h = each_of _ _ (λ s k. k.0) ss (does_in ss h)
+each_does ss h = each_stands _ _ (λ s k. k.0) ss (does_in ss h)

@@ -17,6 +17,7 @@ use Rattle.safl_verilog.proofs.Printed.{line_end, sy, symbol_of, range_pieces, d
 use Rattle.safl_verilog.proofs.Printed.{statement_pieces, port_pieces, last_pieces, body_pieces, header_end, file_pieces, IsWritten, IsName}
 use Rattle.safl_verilog.proofs.Printed.{FineRange, FineDeclaration, FineExpression, FineStatement}
 use Rattle.safl_net.specs.Arranged.{Each}
+use Rattle.safl_net.proofs.EachOf.{each_stands}
 
 pub text_append : (xs ys : List Piece) → text_of_all (xs ++ ys) ≡ text_of_all xs ++ text_of_all ys
 text_append [] ys = refl
@@ -294,10 +295,6 @@ after_port (x ∷ xs) r h = refl
 ports_stand : (xs : List Spot) (r : List ℕ) → Each IsName xs → stops is_part r ≡ true → StandAll (flat_map port_pieces xs) r
 ports_stand [] r h s = tt
 ports_stand (x ∷ xs) r h s = stand_append (port_pieces x) (flat_map port_pieces xs) r (port_stands x _ h.0 (after_port xs r s)) (ports_stand xs r h.1 s)
-
-each_stands : {X : Type 0} (P Q : X → Type 0) → ((x : X) → P x → Q x) → (xs : List X) → Each P xs → Each Q xs
-each_stands P Q f [] h = tt
-each_stands P Q f (x ∷ xs) h = (f x h.0, each_stands P Q f xs h.1)
 
 body_stands : (ds : List Declaration) (ss : List Statement) → Each FineDeclaration ds → Each FineStatement ss → StandAll (body_pieces ds ss) []
 body_stands ds ss h k =

@@ -6,6 +6,7 @@ use Rattle.std.proofs.Common.{bytes_eq}
 use Rattle.std.proofs.lemmas.Slice.Eq.{bytes_eq-Decides}
 use Rattle.std.proofs.lemmas.Bool.{and_parts}
 use Rattle.std.proofs.lemmas.Bool.Decides.{Decides-eqb}
+use Rattle.std.proofs.lemmas.Option.{same_Some}
 use Rattle.safl_net.specs.Names.{is_part, are_parts}
 use Rattle.safl_verilog.specs.Tokens.{stops}
 use Rattle.safl_verilog.specs.Pieces.{run, named}
@@ -13,9 +14,6 @@ use Rattle.safl_verilog.specs.Pieces.{run, named}
 pub chosen : {A : Type 0} (b : Bool) (x y z : A) → cond b x y ≡ z → ((b ≡ true) × (x ≡ z)) ⊎ ((b ≡ false) × (y ≡ z))
 chosen true x y z e = inl (refl, e)
 chosen false x y z e = inr (refl, e)
-
-pub some_is : {A : Type 0} {x y : A} → Some x ≡ Some y → x ≡ y
-some_is e = cc
 
 -- two tests that differ at k tell numbers apart
 pub other_than : (p : ℕ → Bool) (c k : ℕ) → p c ≡ true → p k ≡ false → (c == k) ≡ false
@@ -66,7 +64,7 @@ are_parts-all (c ∷ w) = ap (λ b. is_part c && b) (are_parts-all w)
 pub named_has : {A : Type 0} (text : A → List ℕ) (xs : List A) (w : List ℕ) (x : A) → named text xs w ≡ Some x → w ≡ text x
 named_has text [] w x e = absurd cc
 named_has text (y ∷ ys) w x e = elim (chosen (bytes_eq w (text y)) (Some y) (named text ys w) (Some x) e) [
-  | inl h ↦ (bytes_eq-Decides w (text y)).0 h.0 ∙ ap text (some_is h.1)
+  | inl h ↦ (bytes_eq-Decides w (text y)).0 h.0 ∙ ap text (same_Some _ _ h.1)
   | inr h ↦ named_has text ys w x h.1
 ]
 

@@ -3,12 +3,12 @@ use Rattle.std.proofs.Common.{◌≡◌, ℕ, zero, suc, ◌≤◌, List, [], �
 use Rattle.std.specs.Prelude.{◌⊎◌}
 use Rattle.std.proofs.Math.Seq.{drop-append_seam}
 use Rattle.std.proofs.lemmas.List.{append-nil}
+use Rattle.std.proofs.lemmas.Option.{same_Some}
 use Rattle.safl_net.specs.Names.{is_identifier}
 use Rattle.safl_verilog.specs.declared.token.TokenKind.{TokenKind}
 use Rattle.safl_verilog.specs.declared.token.TokenKind.TheVariants as kinds
 use Rattle.safl_verilog.specs.Tokens.{IsToken, Piece, Blank, Line, Block, Lexeme, text_of, text_of_all, StandsBefore, StandAll, Terminal, tokens_from, HasTokens, HasLexicalFault}
 use Rattle.safl_verilog.specs.Pieces.{first_piece}
-use Rattle.safl_verilog.proofs.Runs.{some_is}
 use Rattle.safl_verilog.proofs.Found.{Cut, piece_found}
 use Rattle.safl_verilog.proofs.Cutting.{piece_cut}
 use Rattle.safl_verilog.proofs.Symbols.{keyword_like, symbol_some}
@@ -30,7 +30,7 @@ no_empty (Lexeme k (c ∷ w)) rest h = omega arith
 
 pub same_piece : (x y : Piece) (u v : List ℕ) → StandsBefore x u → StandsBefore y v → text_of x ++ u ≡ text_of y ++ v → (x ≡ y) × (u ≡ v)
 same_piece x y u v h k e =
-    let same : x ≡ y = some_is (sym (piece_cut x u h) ∙ ap first_piece e ∙ piece_cut y v k) in
+    let same : x ≡ y = same_Some _ _ (sym (piece_cut x u h) ∙ ap first_piece e ∙ piece_cut y v k) in
     let e2 : text_of y ++ u ≡ text_of y ++ v = ap (λ (z : Piece). text_of z ++ u) (sym same) ∙ e in
     (same, sym (drop-append_seam (text_of y) u) ∙ ap (λ (l : List ℕ). drop (length (text_of y)) l) e2 ∙ drop-append_seam (text_of y) v)
 

@@ -2,13 +2,15 @@
 use Rattle.std.proofs.Common.{◌≡◌, ℕ, suc, ◌+◌, List, [], ◌∷◌, ◌++◌, Some, None, Option, refl, sym, ap, subst, ◌∙◌, inl, inr, arith, bytes_eq}
 use Rattle.std.specs.Prelude.{slice_get, codes, IsSome}
 use Rattle.std.proofs.lemmas.Slice.Eq.{bytes_eq-Decides}
+use Rattle.std.proofs.lemmas.Option.{same_Some}
 use Rattle.safl_net.specs.Netlist
 use Rattle.safl_net.specs.Netlist.{Netlist, Signal, Kind, Input, Reg, Wire, Cell, IsSet, AllSet, width_of, place, output_place}
 use Rattle.safl_net.specs.Making
 use Rattle.safl_net.specs.Whole.{IsWhole}
 use Rattle.safl_net.specs.Arranged.{IsRegister, IsWire, Each}
-use Rattle.safl_verilog.proofs.Runs.{chosen, some_is}
-use Rattle.safl_verilog.proofs.Distinct.{each_left, each_right, each_both, each_by_index}
+use Rattle.safl_net.proofs.EachOf.{each_by_index}
+use Rattle.safl_verilog.proofs.Runs.{chosen}
+use Rattle.safl_verilog.proofs.Distinct.{each_left, each_right, each_both}
 
 -- a register with a next signal, and a wire with a cell
 abbrev pub IsUpdated : Signal → Type 0
@@ -62,14 +64,14 @@ placed : (gs : List Signal) (name : List ℕ) (i k : ℕ) → place gs name i �
 unfolding place
 placed [] name i k e = absurd cc
 placed (g ∷ gs) name i k e = elim (chosen (bytes_eq g.name name) (Some i) (place gs name (suc i)) (Some k) e) [
-  | inl h ↦ (0, g, (let s : i ≡ k = some_is h.1 in omega arith), refl, (bytes_eq-Decides g.name name).0 h.0)
+  | inl h ↦ (0, g, (let s : i ≡ k = same_Some _ _ h.1 in omega arith), refl, (bytes_eq-Decides g.name name).0 h.0)
   | inr h ↦ (let m = placed gs name (suc i) k h.1 in (suc m.0, m.1, (let s : k ≡ suc i + m.0 = m.2 in omega arith), m.3, m.4))
 ]
 
 shown_at : (os : List (List ℕ × ℕ)) (name : List ℕ) (s : ℕ) → output_place os name ≡ Some s → (i : ℕ) × (slice_get os i ≡ Some (name, s))
 shown_at [] name s e = absurd cc
 shown_at (o ∷ os) name s e = elim (chosen (bytes_eq o.0 name) (Some o.1) (output_place os name) (Some s) e) [
-  | inl h ↦ (0, ap (λ w. Some (w, o.1)) ((bytes_eq-Decides o.0 name).0 h.0) ∙ ap (λ k. Some (name, k)) (some_is h.1))
+  | inl h ↦ (0, ap (λ w. Some (w, o.1)) ((bytes_eq-Decides o.0 name).0 h.0) ∙ ap (λ k. Some (name, k)) (same_Some _ _ h.1))
   | inr h ↦ (let m = shown_at os name s h.1 in (suc m.0, m.1))
 ]
 

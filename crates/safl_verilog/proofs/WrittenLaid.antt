@@ -3,6 +3,7 @@ use Rattle.std.proofs.Common.{◌≡◌, ℕ, ◌-◌, ◌<◌, ◌≤◌, ◌^�
 use Rattle.std.specs.Prelude.{codes, All, slice_get, unwrap_or}
 use Rattle.std.proofs.lemmas.Option.{slice_get_within, unwrap_or-slice_get}
 use Rattle.safl_word.specs.Numerals.{IsNumeral}
+use Rattle.safl_word.proofs.Lists.{get_some}
 use Rattle.safl_net.specs.Netlist
 use Rattle.safl_net.specs.Netlist.{Netlist, Signal, Kind, Input, Reg, Wire}
 use Rattle.safl_net.specs.Rules.{IsNetlist, SignalFits, KindFits}
@@ -11,6 +12,7 @@ use Rattle.safl_net.specs.Making
 use Rattle.safl_net.specs.Making.{name_at as name_of}
 use Rattle.safl_net.specs.Written.{written}
 use Rattle.safl_net.specs.Arranged.{Each}
+use Rattle.safl_net.proofs.EachOf.{each_by_index, each_join, each_stands}
 use Rattle.safl_verilog.specs.declared.token.Sort.{Sort}
 use Rattle.safl_verilog.specs.declared.token.Sort.TheVariants as sorts
 use Rattle.safl_verilog.specs.Tokens.{IsIdentifier, text_of_all, StandAll, tokens_from}
@@ -20,14 +22,14 @@ use Rattle.safl_verilog.proofs.Found.{no_keyword}
 use Rattle.safl_verilog.proofs.Grammar.{spelled as file_spelled}
 use Rattle.safl_verilog.proofs.Cells.{spelled, cell_sound}
 use Rattle.safl_verilog.proofs.Decimals.{decimal_numeral}
-use Rattle.safl_verilog.proofs.Distinct.{Name, each_join, each_mapped, each_of, each_by_index, each_where}
+use Rattle.safl_verilog.proofs.Distinct.{Name, each_mapped, each_where}
 use Rattle.safl_verilog.proofs.Printed.{IsName, FineExpression, FineDeclaration, FineStatement, file_pieces}
 use Rattle.safl_verilog.proofs.PrintedStands.{file_stands}
 use Rattle.safl_verilog.proofs.PrintedReads.{reads_back}
 use Rattle.safl_verilog.proofs.FileOf.{declare, declare_signal, declare_output, signal_spot, output_spot, clock, reset, ports, driver, assign_signal}
 use Rattle.safl_verilog.proofs.FileOf.{assign_output, updated_by, update_signal, declarations_of, statements_of, input_kind, register_kind, wire_kind}
 use Rattle.safl_verilog.proofs.FileOf.{updated_kind, assigned_kind, of_kind, written_ports, written_declarations, written_statements, file_text}
-use Rattle.safl_verilog.proofs.WrittenNames.{good_identifier, at_some}
+use Rattle.safl_verilog.proofs.WrittenNames.{good_identifier}
 
 clock_name : IsName clock
 clock_name = record { like = refl; short = lit≤ tt; free = no_keyword (codes "clk") refl }
@@ -57,7 +59,7 @@ module _ (n : Netlist) (net : IsNetlist n) where
 
   named : (s : ℕ) → s < length n.signals → Named s
   named s h =
-      let g = at_some n.signals s h in
+      let g = get_some n.signals s h in
       let f = net.signals s g.0 g.1 in
       let name : name_of n s ≡ g.0.name = ap Making.name_in g.1 in
       let width : Netlist.width_of n s ≡ g.0.width = ap Netlist.width_in g.1 in
@@ -86,19 +88,19 @@ module _ (n : Netlist) (net : IsNetlist n) where
   fine_ports : Each IsName (written_ports n)
   fine_ports =
       each_join IsName (map signal_spot (of_kind input_kind n)) (map output_spot n.outputs)
-      (each_mapped IsName signal_spot (of_kind input_kind n) (each_of (Chosen input_kind) (λ g. IsName (signal_spot g))
+      (each_mapped IsName signal_spot (of_kind input_kind n) (each_stands (Chosen input_kind) (λ g. IsName (signal_spot g))
       (λ g c. good_identifier g.name c.0.good) (of_kind input_kind n) (chosen input_kind)))
-      (each_mapped IsName output_spot n.outputs (each_of Shown (λ o. IsName (output_spot o)) (λ o h. good_identifier o.0 h.0) n.outputs shown))
+      (each_mapped IsName output_spot n.outputs (each_stands Shown (λ o. IsName (output_spot o)) (λ o h. good_identifier o.0 h.0) n.outputs shown))
 
   fine_signals : (s : Sort) (p : Kind → Bool) → Each FineDeclaration (map (declare_signal s) (of_kind p n))
   fine_signals s p =
       each_mapped FineDeclaration (declare_signal s) (of_kind p n)
-      (each_of (Chosen p) (λ g. FineDeclaration (declare_signal s g)) (λ g c. fine_declaration s g.width g.name c.0.most (good_identifier g.name c.0.good)) (of_kind p n) (chosen p))
+      (each_stands (Chosen p) (λ g. FineDeclaration (declare_signal s g)) (λ g c. fine_declaration s g.width g.name c.0.most (good_identifier g.name c.0.good)) (of_kind p n) (chosen p))
 
   fine_outputs : Each FineDeclaration (map (declare_output n) n.outputs)
   fine_outputs =
       each_mapped FineDeclaration (declare_output n) n.outputs
-      (each_of Shown (λ o. FineDeclaration (declare_output n o)) (λ o h. fine_declaration sorts.Output (Netlist.width_of n o.1) o.0 (named o.1 h.1).narrow (good_identifier o.0 h.0)) n.outputs shown)
+      (each_stands Shown (λ o. FineDeclaration (declare_output n o)) (λ o h. fine_declaration sorts.Output (Netlist.width_of n o.1) o.0 (named o.1 h.1).narrow (good_identifier o.0 h.0)) n.outputs shown)
 
   fine_declarations : Each FineDeclaration (written_declarations n)
   fine_declarations = (
@@ -127,7 +129,7 @@ module _ (n : Netlist) (net : IsNetlist n) where
   fine_driver width (Wire None) fits e = absurd cc
   fine_driver width (Wire (Some c)) fits e =
       let u = all_named c.operands fits.known in
-      let names = each_of Named (λ s. IsIdentifier (name_of n s)) (λ s k. k.name) c.operands u in
+      let names = each_stands Named (λ s. IsIdentifier (name_of n s)) (λ s k. k.name) c.operands u in
       let narrow : (a : ℕ) → c.operands ≡ a ∷ [] → Netlist.width_of n a ≤ 128 = λ a e. (let k : Each Named (a ∷ []) = subst (λ (l : List ℕ). Each Named l) e u in k.0.narrow) in
       (cell_sound n c.op c.operands width narrow fits.gives fits.word names).fine
 
@@ -143,12 +145,12 @@ module _ (n : Netlist) (net : IsNetlist n) where
   fine_statements =
       each_join FineStatement (map (assign_signal n) (of_kind assigned_kind n)) _
       (each_mapped FineStatement (assign_signal n) (of_kind assigned_kind n)
-      (each_of (Chosen assigned_kind) (λ g. FineStatement (assign_signal n g))
+      (each_stands (Chosen assigned_kind) (λ g. FineStatement (assign_signal n g))
       (λ g c. (good_identifier g.name c.0.good, fine_driver g.width g.kind c.0.kind c.1)) (of_kind assigned_kind n) (chosen assigned_kind)))
       (each_join FineStatement (map (assign_output n) n.outputs) _
-      (each_mapped FineStatement (assign_output n) n.outputs (each_of Shown (λ o. FineStatement (assign_output n o)) (λ o h. (good_identifier o.0 h.0, (named o.1 h.1).name)) n.outputs shown))
+      (each_mapped FineStatement (assign_output n) n.outputs (each_stands Shown (λ o. FineStatement (assign_output n o)) (λ o h. (good_identifier o.0 h.0, (named o.1 h.1).name)) n.outputs shown))
       (each_mapped FineStatement (update_signal n) (of_kind updated_kind n)
-      (each_of (Chosen updated_kind) (λ g. FineStatement (update_signal n g)) (λ g c. fine_update g g.kind c.0 c.0.kind c.1)
+      (each_stands (Chosen updated_kind) (λ g. FineStatement (update_signal n g)) (λ g c. fine_update g g.kind c.0 c.0.kind c.1)
       (of_kind updated_kind n) (chosen updated_kind))))
 
   pub laid_out : LaidOut n (of_kind input_kind n) (of_kind register_kind n) (of_kind wire_kind n) (of_kind updated_kind n) (of_kind assigned_kind n)

@@ -1,8 +1,10 @@
 -- A written file is the netlist that it was written of.
-use Rattle.std.proofs.Common.{◌≡◌, ℕ, zero, suc, List, [], ◌∷◌, ◌++◌, map, Bool, true, false, Some, refl, sym, ap, subst, ◌∙◌, append_assoc}
-use Rattle.std.specs.Prelude.{slice_get, filter}
+use Rattle.std.proofs.Common.{◌≡◌, ℕ, List, [], ◌∷◌, ◌++◌, map, Bool, true, false, Some, refl, sym, ap, subst, ◌∙◌, append_assoc}
+use Rattle.std.specs.Prelude.{filter}
 use Rattle.std.proofs.lemmas.List.{map-append, append-nil}
 use Rattle.std.proofs.lemmas.List.Elements.{filter-append}
+use Rattle.std.proofs.lemmas.Simd.{map-map}
+use Rattle.safl_word.proofs.Lists.{get_map}
 use Rattle.safl_net.specs.Netlist.{Netlist, Signal, Reg, Wire}
 use Rattle.safl_net.specs.Rules.{IsNetlist}
 use Rattle.safl_net.specs.Making.{name_at as name_of}
@@ -14,8 +16,9 @@ use Rattle.safl_verilog.specs.Faults.{is_data, is_reg, is_wire, is_output, opera
 use Rattle.safl_verilog.specs.Netlists
 use Rattle.safl_verilog.specs.Netlists.{signals_of, place_of, number_of, cell_of, driven, register_of, kind_of, signal_of, shown_signal, output_of, netlist}
 use Rattle.safl_net.specs.Arranged.{IsInput, Each}
+use Rattle.safl_net.proofs.EachOf.{each_join, each_stands}
 use Rattle.safl_verilog.proofs.WholeNets.{IsUpdated, IsAssigned}
-use Rattle.safl_verilog.proofs.Distinct.{Name, Distinct, each_join, each_mapped, each_of, each_both, filter_all, filter_none}
+use Rattle.safl_verilog.proofs.Distinct.{Name, Distinct, each_mapped, each_both, filter_all, filter_none}
 use Rattle.safl_verilog.proofs.Lookups.{names, place_at}
 use Rattle.safl_verilog.proofs.Printed.{spot_of}
 use Rattle.safl_verilog.proofs.FileOf.{named_spot, expression_of, declare_signal, declare_output, driver, declarations_of, statements_of, file_of}
@@ -28,18 +31,9 @@ mapped_back : {X : Type 0} (f : X → X) (xs : List X) → Each (λ x. f x ≡ x
 mapped_back f [] h = refl
 mapped_back f (x ∷ xs) h = ap (λ y. y ∷ map f xs) h.0 ∙ ap (λ (l : List _). x ∷ l) (mapped_back f xs h.1)
 
-map_both : {X Y Z : Type 0} (f : Y → Z) (g : X → Y) (xs : List X) → map f (map g xs) ≡ map (λ x. f (g x)) xs
-map_both f g [] = refl
-map_both f g (x ∷ xs) = ap (λ (l : List _). f (g x) ∷ l) (map_both f g xs)
-
 map_alike : {X Y : Type 0} (f g : X → Y) (xs : List X) → Each (λ x. f x ≡ g x) xs → map f xs ≡ map g xs
 map_alike f g [] h = refl
 map_alike f g (x ∷ xs) h = ap (λ y. y ∷ map f xs) h.0 ∙ ap (λ (l : List _). g x ∷ l) (map_alike f g xs h.1)
-
-at_mapped : {X Y : Type 0} (f : X → Y) (xs : List X) (i : ℕ) (x : X) → slice_get xs i ≡ Some x → slice_get (map f xs) i ≡ Some (f x)
-at_mapped f [] i x e = absurd cc
-at_mapped f (y ∷ xs) zero x e = let same : y ≡ x = cc in ap (λ z. Some (f z)) same
-at_mapped f (y ∷ xs) (suc i) x e = at_mapped f xs i x e
 
 module _ (n : Netlist) (net : IsNetlist n) (is rs ws : List Signal) (whole : n.signals ≡ is ++ (rs ++ ws)) (inputs : Each IsInput is) (registers : Each IsUpdated rs) (wires : Each IsAssigned ws) where
   abbrev ds : List Declaration
@@ -99,7 +93,7 @@ module _ (n : Netlist) (net : IsNetlist n) (is rs ws : List Signal) (whole : n.s
   data_are =
       let members = WrittenRules.members n net is rs ws whole inputs registers wires in
       let a : filter is_data i ≡ i = filter_all is_data i (each_mapped (λ d. is_data d ≡ true) (declare_signal sorts.Input) is
-      (each_of (WrittenRules.Member n net is rs ws whole inputs registers wires) (λ g. is_data (declare_signal sorts.Input g) ≡ true)
+      (each_stands (WrittenRules.Member n net is rs ws whole inputs registers wires) (λ g. is_data (declare_signal sorts.Input g) ≡ true)
       (λ g m. let d = WrittenNames.is_data_name n net is rs ws whole inputs registers wires g.name m.0.good in rw (d.0, d.1) refl) is members.0)) in
       segment is_data i o r w i [] [] [] a (none_of is_data (declare_output n) n.outputs (λ x. refl))
       (none_of is_data (declare_signal sorts.Reg) rs (λ x. refl)) (none_of is_data (declare_signal sorts.Wire) ws (λ x. refl)) ∙ append-nil i
@@ -123,7 +117,7 @@ module _ (n : Netlist) (net : IsNetlist n) (is rs ws : List Signal) (whole : n.s
       (none_of p (declare_signal sorts.Reg) rs (λ x. refl)) (none_of p (declare_signal sorts.Wire) ws (λ x. refl)) ∙ append-nil o
 
   declared_as : (s : Sort) (P : Signal → Type 0) → ((g : Signal) → P g → sort_by g.kind ≡ s) → (gs : List Signal) → Each P gs → map declared gs ≡ map (declare_signal s) gs
-  declared_as s P f gs h = map_alike declared (declare_signal s) gs (each_of P (λ g. declared g ≡ declare_signal s g) (λ g p. ap (λ s. declare_signal s g) (f g p)) gs h)
+  declared_as s P f gs h = map_alike declared (declare_signal s) gs (each_stands P (λ g. declared g ≡ declare_signal s g) (λ g p. ap (λ s. declare_signal s g) (f g p)) gs h)
 
   signals_are : signals_of ds ≡ map declared n.signals
   signals_are =
@@ -146,7 +140,7 @@ module _ (n : Netlist) (net : IsNetlist n) (is rs ws : List Signal) (whole : n.s
   number_is s u =
       let d : Distinct (names (map declared n.signals)) = subst Distinct (sym (declared_names n.signals)) (WrittenNames.signals_differ n net is rs ws whole inputs registers wires) in
       ap (λ (l : List Declaration). place_of l (name_of n s)) signals_are ∙ ap (place_of (map declared n.signals)) u.named ∙ place_at
-      (map declared n.signals) d s (declared u.signal) (at_mapped declared n.signals s u.signal u.stands)
+      (map declared n.signals) d s (declared u.signal) (get_map declared n.signals s u.signal u.stands)
 
   numbers_are : (xs : List ℕ) → Each Used xs → map (λ (a : Spot). number_of ds a.bytes) (map (named_spot n) xs) ≡ xs
   numbers_are [] h = refl
@@ -195,11 +189,11 @@ module _ (n : Netlist) (net : IsNetlist n) (is rs ws : List Signal) (whole : n.s
   signals_back : map (signal_of f0) (signals_of ds) ≡ n.signals
   signals_back =
       let all : Each Back n.signals = subst (λ (l : List Signal). Each Back l) (sym whole) (each_join Back is (rs ++ ws) inputs_back (each_join Back rs ws registers_back wires_back)) in
-      ap (map (signal_of f0)) signals_are ∙ map_both (signal_of f0) declared n.signals ∙ mapped_back (λ g. signal_of f0 (declared g)) n.signals all
+      ap (map (signal_of f0)) signals_are ∙ map-map (signal_of f0) declared n.signals ∙ mapped_back (λ g. signal_of f0 (declared g)) n.signals all
 
   outputs_back : map (output_of f0) (filter (λ (d : Declaration). is_output d.sort) ds) ≡ n.outputs
   outputs_back =
-      ap (map (output_of f0)) outputs_are ∙ map_both (output_of f0) (declare_output n) n.outputs
+      ap (map (output_of f0)) outputs_are ∙ map-map (output_of f0) (declare_output n) n.outputs
       ∙ mapped_back (λ x. output_of f0 (declare_output n x)) n.outputs
       (each_both (WrittenRules.Shown n net is rs ws whole inputs registers wires)
       (λ (x : List ℕ × ℕ). assigned ss x.0 ≡ Some (Plain (named_spot n x.1))) (λ x. output_of f0 (declare_output n x) ≡ x)

@@ -1,11 +1,12 @@
 -- The names of a written file, and what is found by them.
-use Rattle.std.proofs.Common.{◌≡◌, ◌≢◌, ℕ, zero, suc, ◌+◌, ◌-◌, ◌<◌, ◌≤◌, ◌^◌, List, [], ◌∷◌, ◌++◌, length, map, Bool, true, false, not, ◌&&◌, nat_le}
+use Rattle.std.proofs.Common.{◌≡◌, ◌≢◌, ℕ, ◌+◌, ◌-◌, ◌<◌, ◌≤◌, ◌^◌, List, [], ◌∷◌, ◌++◌, length, map, true, false, not, ◌&&◌, nat_le}
 use Rattle.std.proofs.Common.{Some, refl, sym, ap, subst, ◌∙◌, inl, inr, arith, lit<, bytes_eq}
 use Rattle.std.specs.Prelude.{◌⊎◌, codes, decimal, slice_get}
 use Rattle.std.proofs.lemmas.List.{map-append}
-use Rattle.std.proofs.lemmas.Bool.{and_parts}
-use Rattle.std.proofs.lemmas.Bool.Decides.{nat_tests}
+use Rattle.std.proofs.lemmas.Bool.{and_parts, not-true}
 use Rattle.safl_word.specs.Numerals.{value}
+use Rattle.safl_word.proofs.Lists.{get_some}
+use Rattle.safl_word.proofs.Naturals.{short_is}
 use Rattle.safl_net.specs.Netlist.{Netlist, Signal, Kind, Input, Reg, Wire, width_of}
 use Rattle.safl_net.specs.Names.{is_good, is_identifier, is_reserved}
 use Rattle.safl_net.specs.Rules.{IsNetlist}
@@ -21,10 +22,11 @@ use Rattle.safl_verilog.specs.Files.{Declaration}
 use Rattle.safl_verilog.specs.Faults
 use Rattle.safl_verilog.specs.Faults.{find, passes, is_signal, is_clock, is_reset, range_width, width_in}
 use Rattle.safl_net.specs.Arranged.{IsInput, Each}
+use Rattle.safl_net.proofs.EachOf.{each_join}
 use Rattle.safl_verilog.proofs.WholeNets.{IsUpdated, IsAssigned}
 use Rattle.safl_verilog.proofs.Decimals.{decimal_value}
 use Rattle.safl_verilog.proofs.Distinct.{Name, Has, Distinct, Apart, has_either, has_left, has_right, distinct_between, has_at, distinct_at}
-use Rattle.safl_verilog.proofs.Distinct.{each_left, each_right, each_join, each_map, each_both, each_at, other_name}
+use Rattle.safl_verilog.proofs.Distinct.{each_left, each_right, each_map, each_both, each_at, other_name}
 use Rattle.safl_verilog.proofs.Lookups.{names, each_found}
 use Rattle.safl_verilog.proofs.FileOf.{declare_signal, declare_output, declare_bit, clock, reset, declarations_of}
 
@@ -44,20 +46,13 @@ keyword_reserved keywords.Posedge = refl
 keyword_reserved keywords.If = refl
 keyword_reserved keywords.Else = refl
 
-not_true : (b : Bool) → not b ≡ true → b ≡ false
-not_true true e = absurd cc
-not_true false e = refl
-
 -- a good name is an identifier, and no word that is reserved
 good_parts : (w : Name) → is_good w ≡ true → (is_identifier w ≡ true) × (length w ≤ 200) × (is_reserved w ≡ false)
 unfolding is_good
 good_parts w h =
     let a = and_parts (is_identifier w && nat_le (length w) 200) (not (is_reserved w)) h in
     let b = and_parts (is_identifier w) (nat_le (length w) 200) a.0 in
-    (b.0, le (length w) b.1, not_true (is_reserved w) a.1)
-  where
-    le : (m : ℕ) → nat_le m 200 ≡ true → m ≤ 200
-    le m e = grind (arith, nat_tests)
+    (b.0, short_is (length w) b.1, not-true (is_reserved w) a.1)
 
 pub good_identifier : (w : Name) → is_good w ≡ true → IsIdentifier w
 good_identifier w h =
@@ -107,12 +102,6 @@ named_outputs n (o ∷ os) = ap (λ (l : List Name). o.0 ∷ l) (named_outputs n
 
 pub names_append : (xs ys : List Declaration) → names (xs ++ ys) ≡ names xs ++ names ys
 names_append xs ys = map-append (λ (d : Declaration). d.name.bytes) xs ys
-
--- a place in a list has its signal
-pub at_some : (gs : List Signal) (s : ℕ) → s < length gs → (g : Signal) × (slice_get gs s ≡ Some g)
-at_some [] s h = absurd (omega arith)
-at_some (g ∷ gs) zero h = (g, refl)
-at_some (g ∷ gs) (suc s) h = at_some gs s (omega arith)
 
 module _ (n : Netlist) (net : IsNetlist n) (is rs ws : List Signal) (whole : n.signals ≡ is ++ (rs ++ ws)) (inputs : Each IsInput is) (registers : Each IsUpdated rs) (wires : Each IsAssigned ws) where
   abbrev ds : List Declaration
@@ -276,4 +265,4 @@ module _ (n : Netlist) (net : IsNetlist n) (is rs ws : List Signal) (whole : n.s
       }
 
   pub used : (s : ℕ) → s < length n.signals → Used s
-  used s h = let g = at_some n.signals s h in used_at s g.0 g.1
+  used s h = let g = get_some n.signals s h in used_at s g.0 g.1

@@ -8,11 +8,12 @@ use Rattle.safl_net.specs.Rules.{IsNetlist}
 use Rattle.safl_net.specs.Written.{written}
 use Rattle.safl_net.specs.Arranged.{IsInput, Each, IsInOrder}
 use Rattle.safl_net.specs.Whole.{IsWhole}
+use Rattle.safl_net.proofs.EachOf.{each_stands}
 use Rattle.safl_verilog.specs.Tokens.{tokens_from}
 use Rattle.safl_verilog.specs.Reads.{Reads}
 use Rattle.safl_verilog.proofs.WholeNets.{all_set, whole_ports, IsUpdated, IsAssigned, HasPorts}
 use Rattle.safl_verilog.proofs.Grammar.{spelled}
-use Rattle.safl_verilog.proofs.Distinct.{each_of, filter_all, filter_none}
+use Rattle.safl_verilog.proofs.Distinct.{filter_all, filter_none}
 use Rattle.safl_verilog.proofs.Printed.{file_pieces}
 use Rattle.safl_verilog.proofs.PrintedReads.{reads_back}
 use Rattle.safl_verilog.proofs.Bare.{alike_faults, alike_netlist}
@@ -31,10 +32,10 @@ module _ (n : Netlist) (net : IsNetlist n) (is rs ws : List Signal) (whole : n.s
       ∙ ap (λ (l : List Signal). a ++ l) (filter-append q rs ws ∙ ap (λ (l : List Signal). l ++ filter q ws) f ∙ ap (λ (l : List Signal). b ++ l) g)
 
   all_are : (p : Kind → Bool) (P : Signal → Type 0) → ((g : Signal) → P g → p g.kind ≡ true) → (gs : List Signal) → Each P gs → filter (λ (g : Signal). p g.kind) gs ≡ gs
-  all_are p P f gs h = filter_all (λ (g : Signal). p g.kind) gs (each_of P (λ g. p g.kind ≡ true) f gs h)
+  all_are p P f gs h = filter_all (λ (g : Signal). p g.kind) gs (each_stands P (λ g. p g.kind ≡ true) f gs h)
 
   none_are : (p : Kind → Bool) (P : Signal → Type 0) → ((g : Signal) → P g → p g.kind ≡ false) → (gs : List Signal) → Each P gs → filter (λ (g : Signal). p g.kind) gs ≡ []
-  none_are p P f gs h = filter_none (λ (g : Signal). p g.kind) gs (each_of P (λ g. p g.kind ≡ false) f gs h)
+  none_are p P f gs h = filter_none (λ (g : Signal). p g.kind) gs (each_stands P (λ g. p g.kind ≡ false) f gs h)
 
   inputs_are : of_kind input_kind n ≡ is
   inputs_are =

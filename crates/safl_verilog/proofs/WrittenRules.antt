@@ -4,9 +4,10 @@ use Rattle.std.proofs.Common.{Some, None, Option, refl, sym, ap, subst, ◌∙�
 use Rattle.std.specs.Prelude.{codes, decimal, slice_get, All, unwrap_or}
 use Rattle.std.specs.List.{flat_map}
 use Rattle.std.proofs.lemmas.List.{map-append}
-use Rattle.std.proofs.lemmas.Bool.Decides.{nat_tests, Decides-eqb}
+use Rattle.std.proofs.lemmas.Bool.Decides.{Decides-eqb}
 use Rattle.std.proofs.lemmas.Grind.{flat_map-append}
 use Rattle.std.proofs.lemmas.Option.{slice_get_within, unwrap_or-slice_get}
+use Rattle.std.proofs.lemmas.Bool.{lt-ltb}
 use Rattle.safl_word.specs.Numerals.{value}
 use Rattle.safl_net.specs.Netlist
 use Rattle.safl_net.specs.Netlist.{Netlist, Signal, Kind, Input, Reg, Wire, Cell}
@@ -27,10 +28,11 @@ use Rattle.safl_verilog.specs.Faults.{has_ports, all_port_faults, is_target, unf
 use Rattle.safl_verilog.specs.Faults.{is_none, width_faults, assign_faults, always_faults, statement_faults, all_statement_faults, missing_faults}
 use Rattle.safl_verilog.specs.Faults.{faults}
 use Rattle.safl_net.specs.Arranged.{IsInput, Each}
+use Rattle.safl_net.proofs.EachOf.{each_by_index, each_join, each_stands}
 use Rattle.safl_verilog.proofs.WholeNets.{IsUpdated, IsAssigned, HasPorts}
 use Rattle.safl_verilog.proofs.Decimals.{decimal_value, decimal_short}
 use Rattle.safl_verilog.proofs.Distinct.{Name, Has, Distinct, distinct_left, distinct_right, distinct_swap, distinct_apart, each_left, each_right}
-use Rattle.safl_verilog.proofs.Distinct.{each_join, each_map, each_mapped, each_of, each_both, each_at, each_by_index, no_items, same_name}
+use Rattle.safl_verilog.proofs.Distinct.{each_map, each_mapped, each_both, each_at, no_items, same_name}
 use Rattle.safl_verilog.proofs.Lookups.{spot_names, names, no_repeats, is_among, each_has, target, targets, not_assigned, not_updated, Does, each_does}
 use Rattle.safl_verilog.proofs.Printed.{spot_of}
 use Rattle.safl_verilog.proofs.Cells.{kept, Spelled, spelled, Sound, cell_sound}
@@ -50,14 +52,11 @@ declared_numbers s w name a b =
     let big : 128 < 2 ^ 128 = lit< tt in
     let k : w - 1 < 2 ^ 128 = omega arith in
     let v = decimal_value (w - 1) k in
-    let low : nat_lt (value 10 (decimal (w - 1))) 128 ≡ true = lt_true (value 10 (decimal (w - 1))) 128 (omega arith) in
+    let low : nat_lt (value 10 (decimal (w - 1))) 128 ≡ true = lt-ltb (value 10 (decimal (w - 1))) 128 (omega arith) in
     let range : is_range (spot_of (decimal (w - 1))) (spot_of (48 ∷ [])) ≡ true = rw low refl in
     let one = kept _ _ (decimal_short (w - 1) k) in
     let two = kept _ _ range in
     joined_faults _ _ (joined_faults _ _ one two) refl
-  where
-    lt_true : (m n : ℕ) → m < n → nat_lt m n ≡ true
-    lt_true m n h = grind (arith, nat_tests)
 
 flat_faults : {X : Type 0} (f : X → List VFault) (xs ys : List X) → flat_map f xs ≡ [] → flat_map f ys ≡ [] → flat_map f (xs ++ ys) ≡ []
 flat_faults f xs ys a b = flat_map-append f xs ys ∙ joined_faults (flat_map f xs) (flat_map f ys) a b
@@ -123,7 +122,7 @@ module _ (n : Netlist) (net : IsNetlist n) (is rs ws : List Signal) (whole : n.s
       let c = w.0 in
       let fits : CellFits n g.width c = subst (KindFits n g.width) w.1 m.0.kind in
       let u = all_used c.operands fits.known in
-      let names = each_of Used (λ s. IsIdentifier (name_of n s)) (λ s k. subst (λ (v : Name). IsIdentifier v) (sym k.named) (good_identifier k.signal.name k.good)) c.operands u in
+      let names = each_stands Used (λ s. IsIdentifier (name_of n s)) (λ s k. subst (λ (v : Name). IsIdentifier v) (sym k.named) (good_identifier k.signal.name k.good)) c.operands u in
       let narrow : (a : ℕ) → c.operands ≡ a ∷ [] → Netlist.width_of n a ≤ 128 = λ a e. (let k : Each Used (a ∷ []) = subst (λ (l : List ℕ). Each Used l) e u in k.0.narrow) in
       record { cell = c; kind_is = w.1; cell_fits = fits; sound = cell_sound n c.op c.operands g.width narrow fits.gives fits.word names; operands_used = u }
 
@@ -156,19 +155,19 @@ module _ (n : Netlist) (net : IsNetlist n) (is rs ws : List Signal) (whole : n.s
       let w = map (declare_signal sorts.Wire) ws in
       let of : (s : Sort) (gs : List Signal) → Each Member gs → flat_map declared_number_faults (map (declare_signal s) gs) ≡ [] =
       λ s gs h. mapped_faults declared_number_faults (declare_signal s) gs
-      (each_of Member (λ g. declared_number_faults (declare_signal s g) ≡ []) (λ g m. declared_numbers s g.width g.name m.0.some m.0.most) gs h) in
+      (each_stands Member (λ g. declared_number_faults (declare_signal s g) ≡ []) (λ g m. declared_numbers s g.width g.name m.0.some m.0.most) gs h) in
       let outs : flat_map declared_number_faults o ≡ [] = mapped_faults declared_number_faults (declare_output n) n.outputs
-      (each_of Shown (λ (o : List ℕ × ℕ). declared_number_faults (declare_output n o) ≡ [])
+      (each_stands Shown (λ (o : List ℕ × ℕ). declared_number_faults (declare_output n o) ≡ [])
       (λ o k. declared_numbers sorts.Output (Netlist.width_of n o.1) o.0 k.1.some k.1.narrow) n.outputs outputs_shown) in
       let decls : flat_map declared_number_faults ds ≡ [] = flat_faults declared_number_faults i (o ++ (r ++ w)) (of sorts.Input is members.0)
       (flat_faults declared_number_faults o (r ++ w) outs (flat_faults declared_number_faults r w (of sorts.Reg rs members.1) (of sorts.Wire ws members.2))) in
       let sw = mapped_faults stated_number_faults (assign_signal n) ws
-      (each_of Driven (λ g. stated_number_faults (assign_signal n g) ≡ [])
+      (each_stands Driven (λ g. stated_number_faults (assign_signal n g) ≡ [])
       (λ g d. ap (λ k. stated_number_faults (Assign (signal_spot g) (driver n k))) d.kind_is ∙ d.sound.short) ws wires_driven) in
       let so = mapped_faults stated_number_faults (assign_output n) n.outputs
-      (each_of Shown (λ (o : List ℕ × ℕ). stated_number_faults (assign_output n o) ≡ []) (λ o k. refl) n.outputs outputs_shown) in
+      (each_stands Shown (λ (o : List ℕ × ℕ). stated_number_faults (assign_output n o) ≡ []) (λ o k. refl) n.outputs outputs_shown) in
       let sr = mapped_faults stated_number_faults (update_signal n) rs
-      (each_of Held (λ g. stated_number_faults (update_signal n g) ≡ [])
+      (each_stands Held (λ g. stated_number_faults (update_signal n g) ≡ [])
       (λ g d. ap (λ k. stated_number_faults (updated_by n g k)) d.kind_is ∙ kept _ _ d.literal_is.good) rs registers_held) in
       joined_faults _ _ decls (flat_faults stated_number_faults (map (assign_signal n) ws)
       (map (assign_output n) n.outputs ++ map (update_signal n) rs) sw
@@ -225,10 +224,10 @@ module _ (n : Netlist) (net : IsNetlist n) (is rs ws : List Signal) (whole : n.s
       let port : Option Declaration → Bool = passes (λ d. is_port d.sort) in
       let c : header_faults f0 clock ≡ [] = refl in
       let r : header_faults f0 reset ≡ [] = refl in
-      let a = mapped_faults (header_faults f0) signal_spot is (each_of (λ g. find ds g.name ≡ Some (declare_signal sorts.Input g))
+      let a = mapped_faults (header_faults f0) signal_spot is (each_stands (λ g. find ds g.name ≡ Some (declare_signal sorts.Input g))
       (λ g. header_faults f0 (signal_spot g) ≡ []) (λ g e. kept _ _ (ap port e)) is input_known) in
       let b = mapped_faults (header_faults f0) output_spot n.outputs
-      (each_of Shown (λ (o : List ℕ × ℕ). header_faults f0 (output_spot o) ≡ []) (λ o e. kept _ _ (ap port e.2)) n.outputs outputs_shown) in
+      (each_stands Shown (λ (o : List ℕ × ℕ). header_faults f0 (output_spot o) ≡ []) (λ o e. kept _ _ (ap port e.2)) n.outputs outputs_shown) in
       joined_faults _ _ c (joined_faults _ _ r (flat_faults (header_faults f0) (map signal_spot is) (map output_spot n.outputs) a b))
 
   listed : Each (λ (x : Spot). Has x.bytes (spot_names (clock ∷ reset ∷ ports n is))) (ports n is)
@@ -242,15 +241,15 @@ module _ (n : Netlist) (net : IsNetlist n) (is rs ws : List Signal) (whole : n.s
       let w = map (declare_signal sorts.Wire) ws in
       let P : Spot → Type 0 = λ (x : Spot). Has x.bytes (spot_names (clock ∷ reset ∷ ports n is)) in
       let a = mapped_faults (port_faults f0) (declare_signal sorts.Input) is
-      (each_of (λ g. P (signal_spot g)) (λ g. port_faults f0 (declare_signal sorts.Input g) ≡ [])
+      (each_stands (λ g. P (signal_spot g)) (λ g. port_faults f0 (declare_signal sorts.Input g) ≡ [])
       (λ g h. kept _ _ (is_among (clock ∷ reset ∷ ports n is) g.name h)) is
       (each_map P signal_spot is (each_left P (map signal_spot is) (map output_spot n.outputs) listed))) in
       let b = mapped_faults (port_faults f0) (declare_output n) n.outputs
-      (each_of (λ o. P (output_spot o)) (λ o. port_faults f0 (declare_output n o) ≡ [])
+      (each_stands (λ o. P (output_spot o)) (λ o. port_faults f0 (declare_output n o) ≡ [])
       (λ o h. kept _ _ (is_among (clock ∷ reset ∷ ports n is) o.0 h)) n.outputs
       (each_map P output_spot n.outputs (each_right P (map signal_spot is) (map output_spot n.outputs) listed))) in
-      let c = mapped_faults (port_faults f0) (declare_signal sorts.Reg) rs (each_of Held (λ g. port_faults f0 (declare_signal sorts.Reg g) ≡ []) (λ g h. refl) rs registers_held) in
-      let d = mapped_faults (port_faults f0) (declare_signal sorts.Wire) ws (each_of Driven (λ g. port_faults f0 (declare_signal sorts.Wire g) ≡ []) (λ g h. refl) ws wires_driven) in
+      let c = mapped_faults (port_faults f0) (declare_signal sorts.Reg) rs (each_stands Held (λ g. port_faults f0 (declare_signal sorts.Reg g) ≡ []) (λ g h. refl) rs registers_held) in
+      let d = mapped_faults (port_faults f0) (declare_signal sorts.Wire) ws (each_stands Driven (λ g. port_faults f0 (declare_signal sorts.Wire g) ≡ []) (λ g h. refl) ws wires_driven) in
       flat_faults (port_faults f0) i (o ++ (r ++ w)) a (flat_faults (port_faults f0) o (r ++ w) b (flat_faults (port_faults f0) r w c d))
 
   bit_width : (w : ℕ) → 1 ≤ w → w ≤ 128 → w ≡ 1 → (value 10 (decimal (w - 1)) + 1 == 1) ≡ true
@@ -291,7 +290,7 @@ module _ (n : Netlist) (net : IsNetlist n) (is rs ws : List Signal) (whole : n.s
   of_signal g m = ap (λ o. width_in o) m.1 ∙ declared_width g.width m.0.some m.0.most
 
   fit_operands : (xs : List ℕ) → Each Used xs → flat_map (unfit_faults ds) (map (named_spot n) xs) ≡ []
-  fit_operands xs h = mapped_faults (unfit_faults ds) (named_spot n) xs (each_of Used (λ s. unfit_faults ds (named_spot n s) ≡ []) (λ s u. kept _ _ u.fits) xs h)
+  fit_operands xs h = mapped_faults (unfit_faults ds) (named_spot n) xs (each_stands Used (λ s. unfit_faults ds (named_spot n s) ≡ []) (λ s u. kept _ _ u.fits) xs h)
 
   widths_are : (xs : List ℕ) → Each Used xs → map (λ (a : Spot). width_of ds a.bytes) (map (named_spot n) xs) ≡ widths n xs
   widths_are [] h = refl
@@ -354,7 +353,7 @@ module _ (n : Netlist) (net : IsNetlist n) (is rs ws : List Signal) (whole : n.s
       (each_both Driven (λ g. Member g × (find ds g.name ≡ Some (declare_signal sorts.Wire g))) (λ g. Good (assign_signal n g))
       (λ g d k. wire_good g d k.0 k.1) ws wires_driven (each_both Member (λ g. find ds g.name ≡ Some (declare_signal sorts.Wire g)) _
       (λ g m e. (m, e)) ws members.2 wire_known)))
-      (each_join Good (map (assign_output n) n.outputs) _ (each_mapped Good (assign_output n) n.outputs (each_of Shown (λ o. Good (assign_output n o)) output_good n.outputs outputs_shown))
+      (each_join Good (map (assign_output n) n.outputs) _ (each_mapped Good (assign_output n) n.outputs (each_stands Shown (λ o. Good (assign_output n o)) output_good n.outputs outputs_shown))
       (each_mapped Good (update_signal n) rs (each_both Held (λ g. Member g × (find ds g.name ≡ Some (declare_signal sorts.Reg g)))
       (λ g. Good (update_signal n g)) (λ g d k. register_good g d k.0 k.1) rs registers_held
       (each_both Member (λ g. find ds g.name ≡ Some (declare_signal sorts.Reg g)) _ (λ g m e. (m, e)) rs members.1 register_known))))
@@ -413,15 +412,15 @@ module _ (n : Netlist) (net : IsNetlist n) (is rs ws : List Signal) (whole : n.s
       let o = map (declare_output n) n.outputs in
       let r = map (declare_signal sorts.Reg) rs in
       let w = map (declare_signal sorts.Wire) ws in
-      let a = mapped_faults (missing_faults ss) (declare_signal sorts.Input) is (each_of IsInput (λ g. missing_faults ss (declare_signal sorts.Input g) ≡ []) (λ g e. refl) is inputs) in
+      let a = mapped_faults (missing_faults ss) (declare_signal sorts.Input) is (each_stands IsInput (λ g. missing_faults ss (declare_signal sorts.Input g) ≡ []) (λ g e. refl) is inputs) in
       let b = mapped_faults (missing_faults ss) (declare_output n) n.outputs
-      (each_of (λ (o : List ℕ × ℕ). assigned ss o.0 ≡ Some (Plain (named_spot n o.1))) (λ o. missing_faults ss (declare_output n o) ≡ [])
+      (each_stands (λ (o : List ℕ × ℕ). assigned ss o.0 ≡ Some (Plain (named_spot n o.1))) (λ o. missing_faults ss (declare_output n o) ≡ [])
       (λ o e. joined_faults _ _ (kept _ _ (ap (λ k. not (is_none k)) e)) refl) n.outputs outputs_done) in
       let c = mapped_faults (missing_faults ss) (declare_signal sorts.Reg) rs
-      (each_of (λ g. (h : Held g) × (updated ss g.name ≡ Some (spot_of (literal g.width h.init), named_spot n h.next)))
+      (each_stands (λ g. (h : Held g) × (updated ss g.name ≡ Some (spot_of (literal g.width h.init), named_spot n h.next)))
       (λ g. missing_faults ss (declare_signal sorts.Reg g) ≡ []) (λ g e. kept _ _ (ap (λ k. not (is_none k)) e.1)) rs registers_done) in
       let d = mapped_faults (missing_faults ss) (declare_signal sorts.Wire) ws
-      (each_of (λ g. assigned ss g.name ≡ Some (driver n g.kind)) (λ g. missing_faults ss (declare_signal sorts.Wire g) ≡ [])
+      (each_stands (λ g. assigned ss g.name ≡ Some (driver n g.kind)) (λ g. missing_faults ss (declare_signal sorts.Wire g) ≡ [])
       (λ g e. joined_faults _ _ (kept _ _ (ap (λ k. not (is_none k)) e)) refl) ws wires_done) in
       flat_faults (missing_faults ss) i (o ++ (r ++ w)) a (flat_faults (missing_faults ss) o (r ++ w) b (flat_faults (missing_faults ss) r w c d))
 

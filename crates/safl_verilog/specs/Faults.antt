@@ -1,7 +1,7 @@
 -- The rules on files: the faults of a file, in the order in which they are reported. The first of them is the file's first fault.
 use Rattle.std.specs.Prelude.{ℕ, ◌+◌, ◌^◌, List, [], ◌∷◌, ◌++◌, map, drop, length, Option, None, Some, Bool, true, false, not, ◌==◌, ◌&&◌, ◌||◌, nat_lt, nat_le, unwrap_or, if◌then◌else◌, codes}
 use Rattle.std.specs.List.{flat_map}
-use Rattle.std.proofs.Common.{bytes_eq}
+use Rattle.std.specs.Str.{bytes_eq}
 use Rattle.safl_word.specs.Limits.{width_max, digits_max, value_bound}
 use Rattle.safl_word.specs.Numerals.{value}
 use Rattle.safl_word.specs.Tokens.{base_of}

@@ -1,6 +1,6 @@
 -- The netlist that a file reads as.
 use Rattle.std.specs.Prelude.{ℕ, suc, List, [], ◌∷◌, ◌++◌, map, filter, Option, None, Some, if◌then◌else◌}
-use Rattle.std.proofs.Common.{bytes_eq}
+use Rattle.std.specs.Str.{bytes_eq}
 use Rattle.safl_net.specs.Netlist.{Netlist, Signal, Kind, Input, Reg, Wire, Cell}
 use Rattle.safl_verilog.specs.declared.token.Sort.{Sort}
 use Rattle.safl_verilog.specs.declared.token.Sort.TheVariants as sorts

@@ -1,6 +1,6 @@
 -- The first piece of a text.
 use Rattle.std.specs.Prelude.{ℕ, suc, ◌+◌, List, [], ◌∷◌, take, drop, Bool, not, ◌==◌, ◌&&◌, nat_le, Option, None, Some, if◌then◌else◌}
-use Rattle.std.proofs.Common.{bytes_eq}
+use Rattle.std.specs.Str.{bytes_eq}
 use Rattle.safl_word.specs.Numerals.{is_digit}
 use Rattle.safl_word.specs.Tokens.{is_blank}
 use Rattle.safl_net.specs.Names.{is_start, is_part}

@@ -1,10 +1,9 @@
 -- What is found at the front of a text.
 use Rattle.std.proofs.Common.{◌≡◌, ◌≢◌, ℕ, suc, ◌+◌, ◌-◌, ◌<◌, ◌≤◌, List, [], ◌∷◌, length, take, drop, get_or, Bool, true, false, cond, not, ◌==◌}
-use Rattle.std.proofs.Common.{◌&&◌, nat_le, Some, None, Option, refl, sym, ap, ◌∙◌, arith, drop-cons, length-drop, drop-drop}
-use Rattle.std.proofs.Math.Seq.{take-length}
+use Rattle.std.proofs.Common.{◌&&◌, Some, None, Option, refl, sym, ap, ◌∙◌, arith, drop-cons, length-drop, drop-drop}
 use Rattle.std.proofs.lemmas.List.{take-append-drop, length-take-le}
-use Rattle.std.proofs.lemmas.Bool.{and_parts}
-use Rattle.std.proofs.lemmas.Bool.Decides.{nat_tests, Decides-eqb}
+use Rattle.std.proofs.lemmas.Bool.{and_parts, le-leb, lt-leb, ne_eqb}
+use Rattle.std.proofs.lemmas.Bool.Decides.{Decides-eqb}
 use Rattle.safl_word.specs.Numerals.{is_digit}
 use Rattle.safl_word.specs.Tokens.{is_blank}
 use Rattle.safl_net.specs.Names.{is_start, is_part}
@@ -19,6 +18,7 @@ use Rattle.safl_verilog.proofs.Symbols.{keyword_named}
 use Rattle.safl_vparse.specs.declared.front.Front.{Front}
 use Rattle.safl_vparse.specs.declared.front.Front.TheVariants as fronts
 use Rattle.safl_word.specs.Runs.{EndsRun, IsRun}
+use Rattle.safl_word.proofs.Lists.{slice_rest}
 use Rattle.safl_vparse.specs.Fronts.{measured}
 
 stops_of : (p : ℕ → Bool) (w : List ℕ) → EndsRun p w → stops p w ≡ true
@@ -29,14 +29,6 @@ pub run_is : (p : ℕ → Bool) (text : List ℕ) (n : ℕ) → IsRun p text n �
 run_is p text n h =
     ap (run p) (sym (take-append-drop n text)) ∙ run_of p (take n text) (drop n text) h.passes (stops_of p (drop n text) h.ends) ∙ length-take-le n text h.within
 
--- what stands after a place, as a slice
-pub slice_rest : (n : ℕ) (text : List ℕ) → n ≤ length text → take (length text - n) (drop n text) ≡ drop n text
-slice_rest n text h = ap (λ k. take k (drop n text)) (sym (length-drop n text)) ∙ take-length (drop n text)
-
-pub first_and_rest : (w : List ℕ) → 1 ≤ length w → w ≡ get_or w 0 0 ∷ drop 1 w
-first_and_rest [] h = absurd (omega arith)
-first_and_rest (c ∷ w) h = refl
-
 -- ---- words
 
 pub kind_keyword : (w : List ℕ) (k : Keyword) → w ≡ keyword_text k → kinds.Keyword k ≡ word_kind (named keyword_text all_keywords w)
@@ -45,22 +37,16 @@ kind_keyword w k e = ap word_kind (sym (ap (named keyword_text all_keywords) e �
 pub kind_identifier : (w : List ℕ) → ((k : Keyword) → w ≢ keyword_text k) → kinds.Identifier ≡ word_kind (named keyword_text all_keywords w)
 kind_identifier w h = ap word_kind (sym (named_none keyword_text all_keywords w h))
 
-le_true : (m n : ℕ) → m ≤ n → nat_le m n ≡ true
-le_true m n h = grind (arith, nat_tests)
-
-le_false : (m n : ℕ) → n < m → nat_le m n ≡ false
-le_false m n h = grind (arith, nat_tests)
-
 pub word_found : (text : List ℕ) (n : ℕ) → IsRun is_part text n → n ≤ 200 → measured (first_word (run is_part text) text) ≡ fronts.Found (word_kind (named keyword_text all_keywords (take n text))) n
 word_found text n h le =
     ap (λ k. measured (first_word k text)) (run_is is_part text n h)
-    ∙ ap (λ b. measured (cond b (first_bytes (word_kind (named keyword_text all_keywords (take n text))) n text) None)) (le_true n 200 le)
+    ∙ ap (λ b. measured (cond b (first_bytes (word_kind (named keyword_text all_keywords (take n text))) n text) None)) (le-leb n 200 le)
     ∙ ap (λ k. fronts.Found (word_kind (named keyword_text all_keywords (take n text))) k) (length-take-le n text h.within)
 
 pub word_long : (text : List ℕ) (n : ℕ) → IsRun is_part text n → 200 < n → measured (first_word (run is_part text) text) ≡ fronts.Stuck
 word_long text n h lt =
     ap (λ k. measured (first_word k text)) (run_is is_part text n h)
-    ∙ ap (λ b. measured (cond b (first_bytes (word_kind (named keyword_text all_keywords (take n text))) n text) None)) (le_false n 200 lt)
+    ∙ ap (λ b. measured (cond b (first_bytes (word_kind (named keyword_text all_keywords (take n text))) n text) None)) (lt-leb n 200 lt)
 
 -- ---- numbers
 
@@ -148,17 +134,10 @@ line_found w n h = sym (ap (λ k. fronts.Gap (2 + length (take k w))) (run_is (�
 
 -- ---- a symbol at the front
 
-eq_false : (a b : ℕ) → (a ≡ b → ⊥) → (a == b) ≡ false
-eq_false a b h = go (a == b) refl
-  where
-    go : (c : Bool) → (a == b) ≡ c → c ≡ false
-    go true e = absurd (h ((Decides-eqb a b).0 e))
-    go false e = refl
-
 pub symbol_front : (w : List ℕ) (r : Front) → 1 ≤ length w → is_blank (get_or w 0 0) ≡ false → (get_or w 0 0 ≡ 47 → ⊥) → is_start (get_or w 0 0) ≡
     false → is_digit 10 (get_or w 0 0) ≡ false → r ≡ measured (first_symbol (get_or w 0 0) (take (length w - 1) (drop 1 w))) → r ≡ measured (first_piece w)
 unfolding first_piece
 symbol_front [] r le a b d e h = absurd (omega arith)
 symbol_front (c ∷ w) r le a b d e h =
-    let rest : take (length (c ∷ w) - 1) w ≡ w = slice_rest 1 (c ∷ w) le in
-    h ∙ ap (λ (l : List ℕ). measured (first_symbol c l)) rest ∙ rw (a, eq_false c 47 b, d, e) refl
+    let rest : take (length (c ∷ w) - 1) w ≡ w = slice_rest (c ∷ w) 1 le in
+    h ∙ ap (λ (l : List ℕ). measured (first_symbol c l)) rest ∙ rw (a, ne_eqb c 47 b, d, e) refl

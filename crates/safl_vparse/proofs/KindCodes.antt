@@ -1,5 +1,6 @@
 -- Kinds of tokens are told apart as their codes are.
-use Rattle.std.proofs.Common.{◌≡◌, ◌==◌, ◌<◌, ◌≤◌, Bool, true, false, if◌then◌else◌, [], ◌∷◌, refl, ◌∙◌, arith}
+use Rattle.std.proofs.Common.{◌≡◌, ◌==◌, ◌<◌, ◌≤◌, [], ◌∷◌, refl, ◌∙◌, arith}
+use Rattle.safl_word.proofs.Booleans.{if_same}
 use Rattle.safl_grammar.specs.Sets.{Only, within}
 use Rattle.safl_verilog.specs.declared.token.Keyword.{Keyword}
 use Rattle.safl_verilog.specs.declared.token.Keyword.TheVariants as keywords
@@ -88,7 +89,3 @@ by_code kinds.Sized _ = refl
 -- a test by kind is one by code
 pub class_of : (k l : TokenKind) → (same_kinds.ghosts).eq k l ≡ within (Only (code_of l ∷ [])) (code_of k)
 class_of k l = by_code k l ∙ if_same (code_of k == code_of l)
-  where
-    if_same : (b : Bool) → b ≡ (if b then true else false)
-    if_same true = refl
-    if_same false = refl

@@ -5,13 +5,13 @@ use Rattle.std.specs.Option.{option_map}
 use Rattle.std.specs.List.{position_or_len}
 use Rattle.std.proofs.lemmas.Slice.Eq.{bytes_eq-Decides}
 use Rattle.std.proofs.lemmas.Bool.Decides.{nat_tests}
+use Rattle.safl_word.proofs.Lists.{bytes_flip}
 use Rattle.safl_verilog.specs.declared.token.Sort.{Sort}
 use Rattle.safl_verilog.specs.Files.{Declaration}
 use Rattle.safl_verilog.specs.Faults.{find, passes, is_signal, range_width}
 use Rattle.safl_vread.specs.declared.scope.Item.{Item}
 use Rattle.safl_vread.specs.Lists.{names_of}
 use Rattle.safl_vread.specs.Scopes.{ShowsDeclaration, Describes}
-use Rattle.safl_vread.proofs.NamesLookedUp.{bytes_flip}
 
 positive : (n : ℕ) → nat_lt 0 (suc n) ≡ true
 positive n = grind (arith, nat_tests)

@@ -5,6 +5,7 @@ use Rattle.safl_grammar.specs.Sets.{Only, within}
 use Rattle.safl_grammar.specs.Syntax.{turns}
 use Rattle.safl_net.specs.Names.{is_identifier}
 use Rattle.safl_net.specs.Arranged.{Each}
+use Rattle.safl_net.proofs.EachOf.{each_join}
 use Rattle.safl_verilog.specs.declared.token.Keyword.{Keyword}
 use Rattle.safl_verilog.specs.declared.token.Keyword.TheVariants as keywords
 use Rattle.safl_verilog.specs.declared.token.Symbol.{Symbol}
@@ -13,7 +14,7 @@ use Rattle.safl_verilog.specs.declared.token.TokenKind.TheVariants as kinds
 use Rattle.safl_verilog.specs.Tokens.{IsIdentifier, Piece, Blank, Line, Block, Lexeme, text_of, text_of_all, StandAll, Terminal, tokens_from}
 use Rattle.safl_verilog.specs.Files.{Spot, Declaration, File}
 use Rattle.safl_verilog.specs.Grammar.{keyword_code, symbol_code, code_of, spot, classed, decl, another_decl, file}
-use Rattle.safl_verilog.proofs.Distinct.{each_left, each_right, each_join, each_at}
+use Rattle.safl_verilog.proofs.Distinct.{each_left, each_right, each_at}
 use Rattle.safl_vparse.specs.Parsed.{IsFileText}
 
 -- ---- tokens that are identifiers

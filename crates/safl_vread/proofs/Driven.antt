@@ -1,6 +1,7 @@
 -- What drives declared names gives them what they need, and makes the signals of the netlist.
 use Rattle.std.proofs.Common.{◌≡◌, ℕ, List, [], ◌∷◌, length, map, Option, Some, true, false, refl, sym, ap, subst, ◌∙◌, slice_get}
 use Rattle.std.specs.Prelude.{slice_index}
+use Rattle.std.proofs.lemmas.Option.{slice_get_within}
 use Rattle.safl_net.specs.Netlist.{Kind, Reg, Wire}
 use Rattle.safl_net.specs.declared.cell.Op.{Op}
 use Rattle.safl_verilog.specs.declared.token.Sort.{Sort}
@@ -14,7 +15,7 @@ use Rattle.safl_vread.specs.declared.driver.Driver.{Driver}
 use Rattle.safl_vread.specs.declared.driver.Driver.TheVariants as driver
 use Rattle.safl_vread.specs.Drivers.{IsAt, AreAt, places_of, Drives, HasDrivers, open_faults}
 use Rattle.safl_vread.proofs.NotDriven.{same_faults}
-use Rattle.safl_vread.proofs.StatementsDrive.{found_name, get_within, at_within}
+use Rattle.safl_vread.proofs.StatementsDrive.{found_name, at_within}
 use Rattle.safl_vread.specs.Signals.{AreNumbers}
 use Rattle.safl_vread.specs.Nets.{Fits, AllFit, kind_with, signal_with, shown_with}
 
@@ -51,7 +52,7 @@ shows_one ds xs e h k = one_place ds xs k.name (subst (λ (v : Expression). AreA
 -- ---- what each declaration needs
 
 fits_output : (ds : List Declaration) (w : ℕ) (op : Op) (xs : Operands) (a : Spot) → ShowsOne ds xs a → Fits (length ds) sorts.Output w (driver.Cell op xs)
-fits_output ds w op xs a k = subst (λ (v : Operands). Fits (length ds) sorts.Output w (driver.Cell op v)) (sym k.is) (get_within ds k.place k.at.declared k.at.there)
+fits_output ds w op xs a k = subst (λ (v : Operands). Fits (length ds) sorts.Output w (driver.Cell op v)) (sym k.is) (slice_get_within ds k.place k.at.declared k.at.there)
 
 fits_sort : (ds : List Declaration) (ss : List Statement) (s : Sort) (r : Option (Spot × Spot)) (x : Spot) (v : Driver) → Drives ds ss
     (record { sort = s; range = r; name = x }) v → open_faults s x.place v ≡ [] → Fits (length ds) s (range_width r) v
@@ -61,7 +62,7 @@ fits_sort ds ss sorts.Output r x (driver.Cell op xs) h k = let e = plain_of h.va
 fits_sort ds ss sorts.Output r x (driver.Next w p) h k = let f : false ≡ true = h.register in absurd cc
 fits_sort ds ss sorts.Reg r x driver.Open h k = absurd cc
 fits_sort ds ss sorts.Reg r x (driver.Cell op xs) h k = let f : false ≡ true = h.target in absurd cc
-fits_sort ds ss sorts.Reg r x (driver.Next w p) h k = (h.width, get_within ds p h.next_at.declared h.next_at.there)
+fits_sort ds ss sorts.Reg r x (driver.Next w p) h k = (h.width, slice_get_within ds p h.next_at.declared h.next_at.there)
 fits_sort ds ss sorts.Wire r x driver.Open h k = absurd cc
 fits_sort ds ss sorts.Wire r x (driver.Cell op xs) h k = at_within ds (places_of xs) (operands h.value) h.operands_at
 fits_sort ds ss sorts.Wire r x (driver.Next w p) h k = let f : false ≡ true = h.register in absurd cc

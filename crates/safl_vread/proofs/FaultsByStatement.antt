@@ -1,9 +1,10 @@
 -- The faults of one statement, and what it drives.
 use Rattle.std.proofs.Common.{◌≡◌, ℕ, ◌<◌, List, [], ◌++◌, length, get_or, None, Some, Ok, Bool, true, false, not, cond, ◌&&◌, ◌||◌, ◌==◌, bytes_eq, refl, sym, ap, ◌∙◌, arith, slice_get}
 use Rattle.std.specs.List.{flat_map}
-use Rattle.std.proofs.lemmas.Option.{slice_get-get_or}
-use Rattle.std.proofs.lemmas.Bool.Decides.{nat_tests}
+use Rattle.std.proofs.lemmas.Option.{slice_get-get_or, slice_get_within}
+use Rattle.std.proofs.lemmas.Bool.{and_parts, eq-eqb, ne_eqb}
 use Rattle.safl_word.specs.Words.{Word}
+use Rattle.safl_word.proofs.Booleans.{implied}
 use Rattle.safl_net.specs.declared.cell.Op.{Op}
 use Rattle.safl_verilog.specs.declared.fault.VRule.TheVariants as rules
 use Rattle.safl_verilog.specs.declared.fault.VFault.{VFault}
@@ -19,13 +20,7 @@ use Rattle.safl_vread.specs.declared.driver.Driver.TheVariants as driver
 use Rattle.safl_vread.specs.Firsts.{first}
 use Rattle.safl_vread.specs.Drivers.{Found, IsAt, AreAt, is_open, places_of, HasDrivers, Sets, register_faults, Names}
 use Rattle.safl_vread.proofs.FirstOfSeveral.{first_some}
-use Rattle.safl_vread.proofs.StatementsDrive.{found_name, get_within, open_target, open_register, assigned_here, updated_here, width_found}
-
-nat_same : (m n : ℕ) → m ≡ n → (m == n) ≡ true
-nat_same m n h = grind (arith, nat_tests)
-
-nat_apart : (m n : ℕ) → (m ≡ n → ⊥) → (m == n) ≡ false
-nat_apart m n h = grind (arith, nat_tests)
+use Rattle.safl_vread.proofs.StatementsDrive.{found_name, open_target, open_register, assigned_here, updated_here, width_found}
 
 -- ---- what was found
 
@@ -33,7 +28,7 @@ pub passes_found : (ds : List Declaration) (x : Spot) (p : Declaration → Bool)
 passes_found ds x p item h = ap (passes p) h.found ∙ h.passed
 
 pub place_within : (ds : List Declaration) (x : Spot) (p : Declaration → Bool) (item : Item) → Found ds x p item → item.place < length ds
-place_within ds x p item h = get_within ds item.place h.declared h.shown.place
+place_within ds x p item h = slice_get_within ds item.place h.declared h.shown.place
 
 pub width_shown : (ds : List Declaration) (x : Spot) (p : Declaration → Bool) (item : Item) → Found ds x p item → width_of ds x.bytes ≡ item.width
 width_shown ds x p item h = width_found ds x.bytes h.declared h.found ∙ sym h.shown.width
@@ -87,8 +82,8 @@ update_sets ds before c r t i s o item source w names fit read wide next =
     let f = names.2 in
     let l = read_literal w i.bytes read in
     let named = found_name ds t.bytes f.declared f.found in
-    let e1 : (width_of ds t.bytes == literal_width i.bytes) ≡ true = nat_same _ _ (width_shown ds t (λ d. is_reg d.sort) item f ∙ sym wide ∙ ap (λ (v : Word). v.width) l) in
-    let e2 : (width_of ds t.bytes == width_of ds o.bytes) ≡ true = nat_same _ _ (width_shown ds t (λ d. is_reg d.sort) item f ∙ sym next ∙ sym (width_shown ds o is_signal source fit)) in
+    let e1 : (width_of ds t.bytes == literal_width i.bytes) ≡ true = eq-eqb _ _ (width_shown ds t (λ d. is_reg d.sort) item f ∙ sym wide ∙ ap (λ (v : Word). v.width) l) in
+    let e2 : (width_of ds t.bytes == width_of ds o.bytes) ≡ true = eq-eqb _ _ (width_shown ds t (λ d. is_reg d.sort) item f ∙ sym next ∙ sym (width_shown ds o is_signal source fit)) in
     record {
       kept = rw (names.0, passes_found ds o is_signal source fit, e1, e2) refl;
       declared = f.declared;
@@ -129,7 +124,7 @@ module _ (ds : List Declaration) (before : List Statement) (vs : List Driver) (x
         (record { rule = rules.V05; place = x.place; first = item.width; second = n }) ≡ first (assign_faults ds before x e)
     widths_apart n fit wide apart =
         let w = width_shown ds x is_target item f in
-        let ne : (width_of ds x.bytes == expression_width ds e) ≡ false = nat_apart _ _ (λ k. apart (wide ∙ sym k ∙ w)) in
+        let ne : (width_of ds x.bytes == expression_width ds e) ≡ false = ne_eqb _ _ (λ k. apart (wide ∙ sym k ∙ w)) in
         sym (ap first (left ∙ ap (λ (l : List VFault). l ++ width_faults x.place (width_of ds x.bytes) (expression_width ds e)) fit ∙ ap
         (λ b. where_not b (record { rule = rules.V05; place = x.place; first = width_of ds x.bytes; second = expression_width ds e })) ne)
         ∙ ap (λ (p : ℕ × ℕ). Some (record { rule = rules.V05; place = x.place; first = p.0; second = p.1 })) (λ j. (w j, sym wide j)))
@@ -139,9 +134,9 @@ module _ (ds : List Declaration) (before : List Statement) (vs : List Driver) (x
     assign_sets n op places fit there wide same done =
         let w = width_shown ds x is_target item f in
         let named = found_name ds x.bytes f.declared f.found in
-        let open_now = both (is_open v) (not (is_output item.sort) || is_plain e) o in
+        let open_now = and_parts (is_open v) (not (is_output item.sort) || is_plain e) o in
         let none : is_none (assigned before x.bytes) ≡ true = sym (open_if_unassigned ds before vs x item v h is f) ∙ open_now.0 in
-        let eq : (width_of ds x.bytes == expression_width ds e) ≡ true = nat_same _ _ (w ∙ sym same ∙ wide) in
+        let eq : (width_of ds x.bytes == expression_width ds e) ≡ true = eq-eqb _ _ (w ∙ sym same ∙ wide) in
         record {
           kept = left ∙ ap (λ (l : List VFault). l ++ width_faults x.place (width_of ds x.bytes) (expression_width ds e)) fit ∙ ap
               (λ b. where_not b (record { rule = rules.V05; place = x.place; first = width_of ds x.bytes; second = expression_width ds e })) eq;
@@ -155,14 +150,6 @@ module _ (ds : List Declaration) (before : List Statement) (vs : List Driver) (x
             operation_is = done;
             operands_at = there;
             width = sym f.shown.width ∙ sym same ∙ wide;
-            plain = λ (k : is_output f.declared.sort ≡ true). plain_then (is_output item.sort) (is_plain e) open_now.1 (ap is_output f.shown.sort ∙ k);
+            plain = λ (k : is_output f.declared.sort ≡ true). implied (is_output item.sort) (is_plain e) open_now.1 (ap is_output f.shown.sort ∙ k);
           };
         }
-      where
-        both : (a b : Bool) → (a && b) ≡ true → (a ≡ true) × (b ≡ true)
-        both true b k = (refl, k)
-        both false b k = absurd cc
-
-        plain_then : (a b : Bool) → (not a || b) ≡ true → a ≡ true → b ≡ true
-        plain_then true b k l = k
-        plain_then false b k l = absurd cc

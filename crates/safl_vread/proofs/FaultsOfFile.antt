@@ -17,10 +17,6 @@ pub empty : (fs : List VFault) → None ≡ first fs → fs ≡ []
 empty [] h = refl
 empty (f ∷ fs) h = absurd cc
 
-pub both_empty : {A : Type 0} (a b : List A) → a ++ b ≡ [] → (a ≡ []) × (b ≡ [])
-both_empty [] b h = (refl, h)
-both_empty (x ∷ a) b h = absurd cc
-
 regroup : {A : Type 0} (a b c d e f : List A) → ((((a ++ (b ++ c)) ++ d) ++ e) ++ f) ≡ a ++ (b ++ (c ++ ((d ++ e) ++ f)))
 regroup a b c d e f = simp append_assoc
 

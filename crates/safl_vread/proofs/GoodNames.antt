@@ -1,5 +1,5 @@
 -- The names of signals and outputs are good, so that none is refused.
-use Rattle.std.proofs.Common.{◌≡◌, ◌≢◌, ℕ, zero, suc, ◌<◌, ◌≤◌, List, [], ◌∷◌, ◌++◌, length, Bool, true, false, not, ◌&&◌, ◌||◌, ◌==◌, nat_le, Option, Some, codes, refl, sym, ap, ◌∙◌, arith}
+use Rattle.std.proofs.Common.{◌≡◌, ◌≢◌, ℕ, zero, suc, ◌<◌, List, [], ◌∷◌, ◌++◌, length, Bool, true, false, not, ◌&&◌, ◌||◌, ◌==◌, nat_le, Option, Some, codes, refl, sym, ap, ◌∙◌, arith}
 use Rattle.std.specs.Prelude.{slice_index}
 use Rattle.std.specs.Str.{IsUtf8, IsAscii}
 use Rattle.std.proofs.lemmas.Str.{IsUtf8-from_ascii}
@@ -16,11 +16,13 @@ use Rattle.safl_verilog.specs.Faults.{at, find, passes, where_not, is_clock, is_
 use Rattle.safl_verilog.specs.Faults.{range_width, faults, all_number_faults, repeat_faults, declared_names, header_faults, port_faults}
 use Rattle.safl_verilog.specs.Faults.{all_port_faults, all_statement_faults, missing_faults}
 use Rattle.std.specs.List.{flat_map}
+use Rattle.safl_word.proofs.Lists.{append_empty}
+use Rattle.safl_word.proofs.Naturals.{short_enough}
 use Rattle.safl_verilog.proofs.Distinct.{other_name, same_name, each_at}
 use Rattle.safl_verilog.proofs.Lookups.{each_found}
 use Rattle.safl_vparse.specs.Parsed.{IsFileText}
 use Rattle.safl_vread.specs.Parts.{later_faults}
-use Rattle.safl_vread.proofs.FaultsOfFile.{both_empty, parted}
+use Rattle.safl_vread.proofs.FaultsOfFile.{parted}
 use Rattle.safl_vread.proofs.Widths.{kept_true}
 use Rattle.safl_vread.proofs.StatementsDrive.{distinct_names}
 use Rattle.safl_vread.specs.Nets.{GoodNames}
@@ -74,9 +76,6 @@ not_reserved w h a b =
       other_name w (codes "else") (h.free keywords.Else),
     ) refl
 
-short_enough : (n : ℕ) → n ≤ 200 → nat_le n 200 ≡ true
-short_enough n h = grind (arith, nat_tests)
-
 good_name : (w : List ℕ) → IsIdentifier w → w ≢ codes "clk" → w ≢ codes "rst" → is_good w ≡ true
 unfolding is_good
 good_name w h a b = rw (h.like, short_enough (length w) h.short, not_reserved w h a b) refl
@@ -104,12 +103,12 @@ no_reset sorts.Wire c r i k h = cc
 pub good_names : (text : List ℕ) (f : File) → IsFileText text f → faults f ≡ [] → GoodNames f.declarations
 good_names text f t h = λ (i : ℕ) (d : Declaration) there fit.
     let ds : List Declaration = f.declarations in
-    let a = both_empty (all_number_faults f) _ (sym (parted f) ∙ h) in
-    let b = both_empty (repeat_faults [] f.header) _ a.1 in
-    let c = both_empty (repeat_faults [] (declared_names ds)) (later_faults f) b.1 in
-    let g = both_empty (all_port_faults f ++ all_statement_faults ds [] f.statements) (flat_map (missing_faults f.statements) ds) c.1 in
-    let e = both_empty (all_port_faults f) (all_statement_faults ds [] f.statements) g.0 in
-    let ports = kept_true (has_ports ds) (at rules.V10 0) (both_empty (flat_map (header_faults f) f.header ++ flat_map (port_faults f) ds) (where_not (has_ports ds) (at rules.V10 0)) e.0).1 in
+    let a = append_empty (all_number_faults f) _ (sym (parted f) ∙ h) in
+    let b = append_empty (repeat_faults [] f.header) _ a.1 in
+    let c = append_empty (repeat_faults [] (declared_names ds)) (later_faults f) b.1 in
+    let g = append_empty (all_port_faults f ++ all_statement_faults ds [] f.statements) (flat_map (missing_faults f.statements) ds) c.1 in
+    let e = append_empty (all_port_faults f) (all_statement_faults ds [] f.statements) g.0 in
+    let ports = kept_true (has_ports ds) (at rules.V10 0) (append_empty (flat_map (header_faults f) f.header ++ flat_map (port_faults f) ds) (where_not (has_ports ds) (at rules.V10 0)) e.0).1 in
     let p1 = and_parts _ (passes (λ d. is_output d.sort) (find ds (codes "result"))) ports in
     let p2 = and_parts _ (has_bit ds is_output (codes "done")) p1.0 in
     let p3 = and_parts _ (has_bit ds is_input (codes "start")) p2.0 in

@@ -3,20 +3,12 @@ use Rattle.std.proofs.Common.{◌≡◌, ℕ, zero, suc, ◌+◌, ◌<◌, List,
 use Rattle.std.proofs.Common.{not, cond, ◌||◌, Bor, bytes_eq, refl, sym, ap, ◌∙◌, drop-cons, add-one}
 use Rattle.std.specs.List.{list_any, position_or_len}
 use Rattle.std.proofs.lemmas.List.{drop-map, length-map}
-use Rattle.std.proofs.lemmas.Slice.Eq.{bytes_eq-Decides}
+use Rattle.safl_word.proofs.Lists.{bytes_flip}
 use Rattle.safl_verilog.specs.declared.fault.VRule.TheVariants as rules
 use Rattle.safl_verilog.specs.Files.{Spot}
 use Rattle.safl_verilog.specs.Faults.{at, where_not, among, repeat_faults}
 use Rattle.safl_vread.specs.Firsts.{first}
 use Rattle.safl_vread.specs.Lists.{shown_keys, bytes_of_all, has, with_new}
-
-pub bytes_flip : (x y : List ℕ) → bytes_eq x y ≡ bytes_eq y x
-bytes_flip x y = by (bytes_eq x y) (bytes_eq y x) (λ e. (bytes_eq-Decides y x).1 (sym ((bytes_eq-Decides x y).0 e))) (λ e. (bytes_eq-Decides x y).1 (sym ((bytes_eq-Decides y x).0 e)))
-  where
-    by : (a b : Bool) → (a ≡ true → b ≡ true) → (b ≡ true → a ≡ true) → a ≡ b
-    by true b f g = sym (f refl)
-    by false true f g = g refl
-    by false false f g = refl
 
 -- ---- keys of a set
 

@@ -1,7 +1,8 @@
 -- Names of signals and outputs that are new.
 use Rattle.std.proofs.Common.{◌≡◌, ◌≢◌, ℕ, zero, suc, ◌+◌, ◌<◌, ◌≤◌, List, [], ◌∷◌, ◌++◌, length, get_or, map, take, Bool, true, false, cond, ◌||◌}
 use Rattle.std.proofs.Common.{◌&&◌, bytes_eq, Option, Some, refl, sym, ap, subst, ◌∙◌, arith, slice_get}
-use Rattle.std.proofs.lemmas.Option.{slice_get-get_or}
+use Rattle.std.proofs.lemmas.Option.{slice_get-get_or, slice_get_within}
+use Rattle.std.proofs.lemmas.Bool.{or_right}
 use Rattle.safl_net.specs.Netlist.{Netlist, Signal}
 use Rattle.safl_net.specs.Names.{is_good, named_signal, named_output, has_name}
 use Rattle.safl_verilog.specs.declared.token.Sort.{Sort}
@@ -13,7 +14,6 @@ use Rattle.safl_verilog.proofs.Distinct.{Distinct, other_name, each_at}
 use Rattle.safl_verilog.proofs.Lookups.{names, place_at}
 use Rattle.safl_vread.specs.declared.driver.Driver.{Driver}
 use Rattle.safl_vread.specs.declared.driver.Driver.TheVariants as driver
-use Rattle.safl_vread.proofs.StatementsDrive.{get_within}
 use Rattle.safl_vread.specs.Signals.{IsOrder}
 use Rattle.safl_vread.specs.Nets.{GoodNames, opened, signal_in, signal_at, signals_at, shown_with, output_with}
 use Rattle.safl_vread.proofs.SignalNames.{are_signals}
@@ -60,10 +60,6 @@ module _ (ds : List Declaration) (a : Distinct (names ds)) where
 
   pub good_output : GoodNames ds → (p : ℕ) (d : Declaration) → slice_get ds p ≡ Some d → is_output d.sort ≡ true → is_good d.name.bytes ≡ true
   good_output h p d there out = h p d there (or_right (is_signal d) (is_output d.sort) out)
-    where
-      or_right : (b c : Bool) → c ≡ true → (b || c) ≡ true
-      or_right true c h = refl
-      or_right false c h = h
 
   module _ (order : List ℕ) (o : IsOrder ds order) where
     pub order_signal : (i p : ℕ) (d : Declaration) → slice_get order i ≡ Some p → slice_get ds p ≡ Some d → is_signal d ≡ true
@@ -78,7 +74,7 @@ module _ (ds : List Declaration) (a : Distinct (names ds)) where
     module _ (vs : List Driver) (ns : List ℕ) (full : length vs ≡ length ds) where
       name_there : (p : ℕ) (d : Declaration) → slice_get ds p ≡ Some d → (signal_at ds vs ns p).name ≡ d.name.bytes
       name_there p d there =
-          let got : slice_get vs p ≡ Some (get_or vs p driver.Open) = slice_get-get_or vs p driver.Open (omega (arith, get_within ds p d there, full)) in
+          let got : slice_get vs p ≡ Some (get_or vs p driver.Open) = slice_get-get_or vs p driver.Open (omega (arith, slice_get_within ds p d there, full)) in
           ap (λ (x : Option Declaration). (signal_in ns x (slice_get vs p)).name) there ∙ ap (λ (x : Option Driver). (signal_in ns (Some d) x).name) got
 
       -- the name at a place of the order is none of those before

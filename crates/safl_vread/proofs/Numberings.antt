@@ -3,13 +3,14 @@ use Rattle.std.proofs.Common.{◌≡◌, ◌≢◌, ℕ, ◌+◌, ◌<◌, ◌�
 use Rattle.std.specs.Prelude.{slice_index}
 use Rattle.std.proofs.lemmas.List.{length-set}
 use Rattle.std.proofs.lemmas.Bool.Decides.{nat_tests}
+use Rattle.std.proofs.lemmas.Option.{slice_get_within}
+use Rattle.std.proofs.lemmas.Bool.{eqb-true}
 use Rattle.safl_verilog.specs.Files.{Declaration}
 use Rattle.safl_verilog.specs.Faults.{find, is_signal}
 use Rattle.safl_verilog.specs.Netlists.{signals_of, place_of, number_of}
 use Rattle.safl_verilog.proofs.Distinct.{Distinct, each_at}
 use Rattle.safl_verilog.proofs.Lookups.{names, each_found, place_at}
 use Rattle.safl_vread.specs.Scopes.{without_statements}
-use Rattle.safl_vread.proofs.StatementsDrive.{get_within}
 use Rattle.safl_vread.proofs.WholeFiles.{found_signal, found_place}
 use Rattle.safl_vread.specs.Signals.{IsOrder, AreNumbers}
 use Rattle.safl_vread.proofs.SignalNames.{signals_distinct}
@@ -30,9 +31,6 @@ pub record SoNumbered (order numbers : List ℕ) (count i : ℕ) : Type 0 where
   pub each : (s p : ℕ) → s < i → slice_get order s ≡ Some p → slice_index numbers p ≡ s
   pub known : (p : ℕ) → slice_index numbers p < length order
 
-same_number : (m n : ℕ) → (m == n) ≡ true → m ≡ n
-same_number m n h = grind (arith, nat_tests)
-
 other_number : (m n : ℕ) → (m == n) ≡ false → m ≢ n
 other_number m n h = λ e. grind (arith, nat_tests, e)
 
@@ -50,7 +48,7 @@ goes_on_numbers order numbers count i q apart at l within h = record {
 
     each : (s p : ℕ) → s < i + 1 → slice_get order s ≡ Some p → (b : Bool) → (s == i) ≡ b → get_or (set numbers q i) p 0 ≡ s
     each s p k e true t =
-        let same : s ≡ i = same_number s i t in
+        let same : s ≡ i = eqb-true s i t in
         let place : p ≡ q = let r : Some p ≡ Some q = sym e ∙ ap (slice_get order) same ∙ at in cc in
         ap (λ (n : ℕ). get_or (set numbers q i) n 0) place ∙ get_or-set_same numbers q i 0 inside ∙ sym same
     each s p k e false t =
@@ -60,7 +58,7 @@ goes_on_numbers order numbers count i q apart at l within h = record {
 
     known : (p : ℕ) (b : Bool) → (p == q) ≡ b → get_or (set numbers q i) p 0 < length order
     known p true t =
-        let same : p ≡ q = same_number p q t in
+        let same : p ≡ q = eqb-true p q t in
         omega (arith, l, ap (λ (n : ℕ). get_or (set numbers q i) n 0) same ∙ get_or-set_same numbers q i 0 inside)
     known p false t = omega (arith, h.known p, get_or-set_other numbers q p i 0 (other_number p q t))
 
@@ -79,5 +77,5 @@ ends_numbers ds order numbers i a o l h = record {
         let at = (found_place (without_statements [] ds) (signals_of ds) d.name.bytes d 0 (found_signal ds d.name.bytes d a found fit)).1 in
         let k = ordered (slice_get ds) order (signals_of ds) o (number_of ds d.name.bytes) d at in
         let same : k.place ≡ p = sym (place_at ds a k.place d k.there) ∙ place_at ds a p d there in
-        let within : number_of ds d.name.bytes < length order = get_within order (number_of ds d.name.bytes) k.place k.at in
+        let within : number_of ds d.name.bytes < length order = slice_get_within order (number_of ds d.name.bytes) k.place k.at in
         (ap (slice_index numbers) (sym same) ∙ h.each (number_of ds d.name.bytes) k.place (omega (arith, within, l)) k.at, k.at ∙ ap Some same)

@@ -7,8 +7,9 @@ use Rattle.safl_verilog.specs.declared.token.Sort.TheVariants as sorts
 use Rattle.safl_verilog.specs.Files.{Declaration}
 use Rattle.safl_verilog.specs.Faults.{is_data, is_input, is_reg, is_wire, is_signal}
 use Rattle.safl_net.specs.Arranged.{Each}
+use Rattle.safl_net.proofs.EachOf.{each_join}
 use Rattle.safl_verilog.specs.Netlists.{signals_of}
-use Rattle.safl_verilog.proofs.Distinct.{Name, Has, Distinct, Apart, has_either, distinct_join, each_join}
+use Rattle.safl_verilog.proofs.Distinct.{Name, Has, Distinct, Apart, has_either, distinct_join}
 use Rattle.safl_verilog.proofs.Lookups.{names}
 
 has_filtered : (p : Declaration → Bool) (ds : List Declaration) (w : Name) → Has w (names (filter p ds)) → Has w (names ds)

@@ -4,7 +4,7 @@ use Rattle.std.specs.Prelude.{slice_index}
 use Rattle.std.proofs.lemmas.List.{length-take-le, map-append, length-map, take_more}
 use Rattle.std.proofs.lemmas.Option.{slice_get-get_or, slice_get-map}
 use Rattle.std.specs.Option.{option_map}
-use Rattle.safl_net.specs.Netlist.{Netlist, Signal, Kind, Input}
+use Rattle.safl_net.specs.Netlist.{Netlist, Signal, Kind, Input, open_kind}
 use Rattle.safl_net.specs.Making.{with_signal, set_kind, with_kind, kind_in, kind_at}
 use Rattle.safl_verilog.specs.declared.token.Sort.{Sort}
 use Rattle.safl_verilog.specs.Files.{Declaration}
@@ -12,7 +12,7 @@ use Rattle.safl_verilog.specs.Faults.{range_width}
 use Rattle.safl_vread.specs.Lists.{widths_of}
 use Rattle.safl_vread.specs.declared.driver.Driver.{Driver}
 use Rattle.safl_vread.proofs.DeclaredByName.{found_at}
-use Rattle.safl_vread.specs.Nets.{Fits, AllFit, kind_with, opened_kind, opened, signal_with, signal_in, signal_at, signals_at, partly}
+use Rattle.safl_vread.specs.Nets.{Fits, AllFit, kind_with, opened, signal_with, signal_in, signal_at, signals_at, partly}
 
 -- ---- signals that are still open
 
@@ -97,7 +97,7 @@ module _ {X : Type 0} (g : X → Declaration) (xs : List X) (vs : List Driver) (
   there_in ns order i at = slice_get-map (signal_at (map g xs) vs ns) order i ∙ ap (option_map (signal_at (map g xs) vs ns)) at ∙ ap Some (signal_there ns)
 
   pub opens_there : (ns order : List ℕ) (i : ℕ) (net : Netlist) (os : List (List ℕ × ℕ)) → slice_get order i ≡ Some p → net ≡ record
-      { signals = partly i (signals_at (map g xs) vs ns order); outputs = os } → kind_at net i ≡ opened_kind (kind_with ns (g (get_or xs p x)).sort u)
+      { signals = partly i (signals_at (map g xs) vs ns order); outputs = os } → kind_at net i ≡ open_kind (kind_with ns (g (get_or xs p x)).sort u)
   opens_there ns order i net os at e = ap (λ (n : Netlist). kind_at n i) e ∙ ap kind_in
       (partly_at i (signals_at (map g xs) vs ns order) (signal_with ns (g (get_or xs p x)) u) (there_in ns order i at))
 
@@ -110,8 +110,8 @@ module _ {X : Type 0} (g : X → Declaration) (xs : List X) (vs : List Driver) (
 
 -- what is not driven stays
 pub input_stays : (net : Netlist) (s : ℕ) (ns : List ℕ) (sort known : Sort) (v : Driver) → kind_with ns known v ≡ Input → sort ≡ known → s < length
-    net.signals → kind_at net s ≡ opened_kind (kind_with ns sort v) → net ≡ with_kind net s (kind_with ns sort v)
+    net.signals → kind_at net s ≡ open_kind (kind_with ns sort v) → net ≡ with_kind net s (kind_with ns sort v)
 input_stays net s ns sort known v i e l h =
     let k : kind_with ns sort v ≡ Input = ap (λ (z : Sort). kind_with ns z v) e ∙ i in
-    let same : opened_kind (kind_with ns sort v) ≡ kind_with ns sort v = ap opened_kind k ∙ sym k in
+    let same : open_kind (kind_with ns sort v) ≡ kind_with ns sort v = ap open_kind k ∙ sym k in
     sym (ap (λ (gs : List Signal). record { signals = gs; outputs = net.outputs }) (kind_stays net.signals s (kind_with ns sort v) l (h ∙ same)))

@@ -1,7 +1,8 @@
 -- Statements one after the other.
-use Rattle.std.proofs.Common.{◌≡◌, ℕ, ◌+◌, ◌<◌, List, [], ◌∷◌, ◌++◌, length, get_or, set, map, take, drop, Some, Ok, Err, refl, sym, ap, subst, ◌∙◌, drop-cons, add-one}
+use Rattle.std.proofs.Common.{◌≡◌, ℕ, ◌+◌, ◌<◌, List, [], ◌∷◌, ◌++◌, length, get_or, set, map, take, drop, Some, Ok, Err, sym, ap, subst, ◌∙◌, drop-cons, add-one}
 use Rattle.std.specs.List.{flat_map}
 use Rattle.std.proofs.lemmas.List.{map-append}
+use Rattle.safl_word.proofs.Lists.{append_empty}
 use Rattle.safl_verilog.specs.declared.fault.VFault.{VFault}
 use Rattle.safl_verilog.specs.Files.{Declaration, Statement}
 use Rattle.safl_verilog.specs.Faults.{repeat_faults, declared_names, statement_faults, all_statement_faults, stated_number_faults}
@@ -18,10 +19,6 @@ pub record IsSoFar {X : Type 0} (ds : List Declaration) (g : X → Statement) (x
   pub numbers : flat_map stated_number_faults (map g (drop i xs)) ≡ []
   pub drivers : HasDrivers ds (map g (take i xs)) vs
 
-front_empty : {A : Type 0} (a b : List A) → a ++ b ≡ [] → (a ≡ []) × (b ≡ [])
-front_empty [] b h = (refl, h)
-front_empty (x ∷ a) b h = absurd cc
-
 module _ {X : Type 0} (ds : List Declaration) (g : X → Statement) (xs : List X) (i : ℕ) (x : X) (vs : List Driver) (l : i < length xs) (h : IsSoFar ds g xs i vs) where
   dropped : drop i xs ≡ get_or xs i x ∷ drop (i + 1) xs
   dropped = drop-cons xs i x l ∙ ap (λ k. get_or xs i x ∷ drop k xs) (sym (add-one i))
@@ -30,7 +27,7 @@ module _ {X : Type 0} (ds : List Declaration) (g : X → Statement) (xs : List X
   taken = ap (λ k. map g (take k xs)) (add-one i) ∙ ap (map g) (take_next xs (drop (i + 1) xs) i (get_or xs i x) dropped) ∙ map-append g (take i xs) (get_or xs i x ∷ [])
 
   numbers_here : (stated_number_faults (g (get_or xs i x)) ≡ []) × (flat_map stated_number_faults (map g (drop (i + 1) xs)) ≡ [])
-  numbers_here = front_empty (stated_number_faults (g (get_or xs i x))) (flat_map stated_number_faults (map g (drop (i + 1) xs)))
+  numbers_here = append_empty (stated_number_faults (g (get_or xs i x))) (flat_map stated_number_faults (map g (drop (i + 1) xs)))
       (sym (ap (λ (k : List X). flat_map stated_number_faults (map g k)) dropped) ∙ h.numbers)
 
   pub number_kept : stated_number_faults (g (get_or xs i x)) ≡ []

@@ -3,6 +3,10 @@ use Rattle.std.proofs.Common.{◌≡◌, ℕ, zero, suc, ◌<◌, ◌≤◌, Lis
 use Rattle.std.proofs.Common.{cond, ◌||◌, bytes_eq, refl, sym, ap, subst, ◌∙◌, inl, inr, arith, slice_get}
 use Rattle.std.specs.Prelude.{slice_index, ◌⊎◌}
 use Rattle.std.proofs.lemmas.Slice.Eq.{bytes_eq-Decides}
+use Rattle.std.proofs.lemmas.Option.{slice_get_within}
+use Rattle.std.proofs.lemmas.List.{length-set}
+use Rattle.safl_word.proofs.Lists.{bytes_apart}
+use Rattle.safl_word.proofs.Lexemes.{clash}
 use Rattle.safl_verilog.specs.declared.token.Sort.{Sort}
 use Rattle.safl_verilog.specs.declared.token.Sort.TheVariants as sorts
 use Rattle.safl_verilog.specs.declared.fault.VFault.{VFault}
@@ -27,15 +31,10 @@ found_name (e ∷ ds) name d h = by (bytes_eq e.name.bytes name) refl h (found_n
     by true q r k = let s : e ≡ d = cc in sym (ap (λ (v : Declaration). v.name.bytes) s) ∙ (bytes_eq-Decides e.name.bytes name).0 q
     by false q r k = k r
 
-pub get_within : {X : Type 0} (xs : List X) (i : ℕ) (x : X) → slice_get xs i ≡ Some x → i < length xs
-get_within [] i x h = absurd cc
-get_within (y ∷ xs) zero x h = omega arith
-get_within (y ∷ xs) (suc i) x h = omega (arith, get_within xs i x h)
-
 pub at_within : (ds : List Declaration) (ps : List ℕ) (xs : List Spot) → AreAt ds ps xs → (k d : ℕ) → k < length ps → get_or ps k d < length ds
 at_within ds [] xs h k d l = absurd (omega (arith, l))
 at_within ds (p ∷ ps) [] h k d l = absurd h
-at_within ds (p ∷ ps) (x ∷ xs) h zero d l = get_within ds p h.0.declared h.0.there
+at_within ds (p ∷ ps) (x ∷ xs) h zero d l = slice_get_within ds p h.0.declared h.0.there
 at_within ds (p ∷ ps) (x ∷ xs) h (suc k) d l = at_within ds ps xs h.1 k d (omega (arith, l))
 
 pub width_found : (ds : List Declaration) (name : List ℕ) (d : Declaration) → find ds name ≡ Some d → width_of ds name ≡ range_width d.range
@@ -76,13 +75,10 @@ all_distinct before [] h = (tt, λ w k. absurd k)
 all_distinct before (x ∷ xs) h =
     let a = no_fault (among before x.bytes) _ (repeat_faults (before ++ x ∷ []) xs) h in
     let more = all_distinct (before ++ x ∷ []) xs a.1 in (
-      (λ (k : Has x.bytes (spot_names xs)). true_false (among (before ++ x ∷ []) x.bytes) (is_among (before ++ x ∷ []) x.bytes (there before)) (more.1 x.bytes k), more.0),
+      (λ (k : Has x.bytes (spot_names xs)). clash (among (before ++ x ∷ []) x.bytes) (is_among (before ++ x ∷ []) x.bytes (there before)) (more.1 x.bytes k), more.0),
       λ (w : Name) (k : Has w (spot_names (x ∷ xs))). by w k a.0 more.1,
     )
   where
-    true_false : (b : Bool) → b ≡ true → b ≡ false → ⊥
-    true_false b h k = cc
-
     there : (ys : List Spot) → Has x.bytes (spot_names (ys ++ x ∷ []))
     there [] = inl refl
     there (y ∷ ys) = inr (there ys)
@@ -143,22 +139,15 @@ updated_here (Always c2 r2 t2 i2 s2 o2 ∷ ss) c r t i s o name h k = by (bytes_
     by true h m = absurd cc
     by false h m = m h k
 
-other : (v w : List ℕ) → (v ≡ w → ⊥) → bytes_eq v w ≡ false
-other v w h = by (bytes_eq v w) refl
-  where
-    by : (b : Bool) → bytes_eq v w ≡ b → b ≡ false
-    by true e = absurd (h ((bytes_eq-Decides v w).0 e))
-    by false e = refl
-
 assigned_keeps : (before : List Statement) (s : Statement) (name : List ℕ) → (target_of s ≡ name → ⊥) → assigned (before ++ s ∷ []) name ≡ assigned before name
-assigned_keeps [] (Assign x e) name h = ap (λ b. cond b (Some e) None) (other x.bytes name h)
+assigned_keeps [] (Assign x e) name h = ap (λ b. cond b (Some e) None) (bytes_apart x.bytes name h)
 assigned_keeps [] (Always c r t i s o) name h = refl
 assigned_keeps (Assign y g ∷ ss) s name h = ap (λ (k : Option Expression). cond (bytes_eq y.bytes name) (Some g) k) (assigned_keeps ss s name h)
 assigned_keeps (Always c r t i k o ∷ ss) s name h = assigned_keeps ss s name h
 
 updated_keeps : (before : List Statement) (s : Statement) (name : List ℕ) → (target_of s ≡ name → ⊥) → updated (before ++ s ∷ []) name ≡ updated before name
 updated_keeps [] (Assign x e) name h = refl
-updated_keeps [] (Always c r t i s o) name h = ap (λ b. cond b (Some (i, o)) None) (other t.bytes name h)
+updated_keeps [] (Always c r t i s o) name h = ap (λ b. cond b (Some (i, o)) None) (bytes_apart t.bytes name h)
 updated_keeps (Assign y g ∷ ss) s name h = updated_keeps ss s name h
 updated_keeps (Always c r t i q o ∷ ss) s name h = ap (λ (k : Option (Spot × Spot)). cond (bytes_eq t.bytes name) (Some (i, o)) k) (updated_keeps ss s name h)
 
@@ -196,15 +185,10 @@ set_place (w ∷ vs) zero v (suc i) u h = inr (λ e. omega (arith, e), h)
 set_place (w ∷ vs) (suc p) v zero u h = inr (λ e. omega (arith, e), h)
 set_place (w ∷ vs) (suc p) v (suc i) u h = elim (set_place vs p v i u h) [ inl k ↦ inl (ap suc k.0, k.1) | inr k ↦ inr (λ e. k.0 (omega (arith, e)), k.1) ]
 
-set_length : {X : Type 0} (vs : List X) (p : ℕ) (v : X) → length (set vs p v) ≡ length vs
-set_length [] p v = refl
-set_length (w ∷ vs) zero v = refl
-set_length (w ∷ vs) (suc p) v = ap suc (set_length vs p v)
-
 pub next_drivers : (ds : List Declaration) (before : List Statement) (s : Statement) (p : ℕ) (v : Driver) (vs : List Driver) → repeat_faults []
     (declared_names ds) ≡ [] → HasDrivers ds before vs → Sets ds before s p v → HasDrivers ds (before ++ s ∷ []) (set vs p v)
 next_drivers ds before s p v vs apart h k = record {
-  full = set_length vs p v ∙ h.full;
+  full = length-set vs p v ∙ h.full;
   each = λ (i : ℕ) (d : Declaration) (u : Driver) (at : slice_get ds i ≡ Some d) (got : slice_get (set vs p v) i ≡ Some u). by i d u at (set_place vs p v i u got);
 }
   where

@@ -2,7 +2,7 @@
 use Rattle.std.proofs.Common.{◌≡◌, ℕ, zero, suc, ◌≤◌, List, [], ◌∷◌, length, get_or, map, Option, None, Some, unwrap_or, refl, sym, ap, ◌∙◌, arith, slice_get}
 use Rattle.std.specs.Prelude.{slice_index}
 use Rattle.std.specs.Option.{option_map}
-use Rattle.std.proofs.lemmas.Option.{slice_get-get_or, slice_get-map}
+use Rattle.std.proofs.lemmas.Option.{slice_get-get_or, slice_get-map, slice_get_within}
 use Rattle.safl_net.specs.Netlist.{Netlist, Signal, width_of}
 use Rattle.safl_net.specs.Netlist as Netlist
 use Rattle.safl_net.specs.Widths.{op_width}
@@ -12,7 +12,6 @@ use Rattle.safl_verilog.specs.Faults as Faults
 use Rattle.safl_vread.specs.declared.driver.Driver.{Driver}
 use Rattle.safl_vread.specs.declared.driver.Driver.TheVariants as driver
 use Rattle.safl_vread.specs.Drivers.{AreAt, places_of, Drives, HasDrivers}
-use Rattle.safl_vread.proofs.StatementsDrive.{get_within}
 use Rattle.safl_vread.specs.Signals.{AreNumbers}
 use Rattle.safl_vread.specs.Nets.{IsSignalAt, AreSignalsAt, width_at, Suits, AllSuit, SuitsIn, signal_in, signal_at, signals_at, partly}
 
@@ -72,7 +71,7 @@ module _ (ds : List Declaration) (vs : List Driver) (order ns : List ℕ) (i : �
   net_width : (s p : ℕ) (d : Declaration) → slice_get order s ≡ Some p → slice_get ds p ≡ Some d → width_of net s ≡ range_width d.range
   net_width s p d at there =
       let v : Driver = get_or vs p driver.Open in
-      let got : slice_get vs p ≡ Some v = slice_get-get_or vs p driver.Open (omega (arith, get_within ds p d there, full)) in
+      let got : slice_get vs p ≡ Some v = slice_get-get_or vs p driver.Open (omega (arith, slice_get_within ds p d there, full)) in
       ap (λ (n : Netlist). width_of n s) e ∙ partly_width i (signals_at ds vs ns order) s
       ∙ ap Netlist.width_in (slice_get-map (signal_at ds vs ns) order s ∙ ap (option_map (signal_at ds vs ns)) at)
       ∙ ap (λ (o : Option Declaration). (signal_in ns o (slice_get vs p)).width) there ∙ ap (λ (o : Option Driver). (signal_in ns (Some d) o).width) got

@@ -2,11 +2,11 @@
 use Rattle.std.proofs.Common.{◌≡◌, ℕ, ◌<◌, List, [], ◌∷◌, ◌++◌, length, get_or, map, cond, Option, Some, codes, refl, sym, ap, subst, ◌∙◌, arith, slice_get}
 use Rattle.std.specs.Prelude.{filter}
 use Rattle.std.specs.List.{flat_map}
-use Rattle.std.proofs.lemmas.Option.{slice_get-get_or}
+use Rattle.std.proofs.lemmas.Option.{slice_get-get_or, slice_get_within}
+use Rattle.safl_word.proofs.Lists.{append_empty}
 use Rattle.safl_net.specs.Netlist.{Netlist, Signal, place}
 use Rattle.safl_net.specs.Whole.{IsWhole}
-use Rattle.safl_net.specs.Arranged.{Each}
-use Rattle.safl_verilog.specs.declared.fault.VFault.{VFault}
+use Rattle.safl_net.proofs.EachOf.{no_parts}
 use Rattle.safl_verilog.specs.declared.token.Sort.{Sort}
 use Rattle.safl_verilog.specs.declared.token.Sort.TheVariants as sorts
 use Rattle.safl_verilog.specs.Files.{Declaration, File}
@@ -19,8 +19,7 @@ use Rattle.safl_vread.specs.declared.driver.Driver.{Driver}
 use Rattle.safl_vread.specs.declared.driver.Driver.TheVariants as driver
 use Rattle.safl_vread.specs.Drivers.{Drives, HasDrivers}
 use Rattle.safl_vread.specs.Parts.{later_faults}
-use Rattle.safl_vread.proofs.FaultsOfFile.{both_empty, parted}
-use Rattle.safl_vread.proofs.StatementsDrive.{get_within}
+use Rattle.safl_vread.proofs.FaultsOfFile.{parted}
 use Rattle.safl_vread.proofs.WholeFiles.{reads_whole}
 use Rattle.safl_vread.specs.Signals.{IsOrder, AreNumbers}
 use Rattle.safl_vread.specs.Nets.{Fits, AllFit, AllSuit, signal_in, signal_at, signals_at, shown_with, outputs_with, with_outputs}
@@ -42,7 +41,7 @@ module _ (f : File) (vs : List Driver) (order ns : List ℕ) (h : HasDrivers f.d
   signal_here : (p : ℕ) (d : Declaration) → slice_get f.declarations p ≡ Some d → signal_at f.declarations vs ns p ≡ signal_of f d
   signal_here p d e =
       let v : Driver = get_or vs p driver.Open in
-      let l : p < length vs = omega (arith, get_within f.declarations p d e, h.full) in
+      let l : p < length vs = omega (arith, slice_get_within f.declarations p d e, h.full) in
       let there : slice_get vs p ≡ Some v = slice_get-get_or vs p driver.Open l in
       ap (λ (o : Option Declaration). signal_in ns o (slice_get vs p)) e ∙ ap (λ (o : Option Driver). signal_in ns (Some d) o) there
       ∙ signal_is f order ns n (length f.declarations) d v (h.each p d v e there) (fit p d v e there)
@@ -95,15 +94,11 @@ net_whole f ds vs ns order declared connected shown ns1 ns2 order1 e h fit n o a
 -- no name of a file without faults is left open
 pub none_missing : (f : File) → faults f ≡ [] → (i : ℕ) (d : Declaration) → slice_get f.declarations i ≡ Some d → missing_faults f.statements d ≡ []
 none_missing f h i d at =
-    let a = both_empty (all_number_faults f) _ (sym (parted f) ∙ h) in
-    let b = both_empty (repeat_faults [] f.header) _ a.1 in
-    let c = both_empty (repeat_faults [] (declared_names f.declarations)) (later_faults f) b.1 in
-    let e = both_empty (all_port_faults f ++ all_statement_faults f.declarations [] f.statements) (flat_map (missing_faults f.statements) f.declarations) c.1 in
+    let a = append_empty (all_number_faults f) _ (sym (parted f) ∙ h) in
+    let b = append_empty (repeat_faults [] f.header) _ a.1 in
+    let c = append_empty (repeat_faults [] (declared_names f.declarations)) (later_faults f) b.1 in
+    let e = append_empty (all_port_faults f ++ all_statement_faults f.declarations [] f.statements) (flat_map (missing_faults f.statements) f.declarations) c.1 in
     each_at (λ (d : Declaration). missing_faults f.statements d ≡ []) f.declarations i d (no_parts (missing_faults f.statements) f.declarations e.1) at
-  where
-    no_parts : (g : Declaration → List VFault) (xs : List Declaration) → flat_map g xs ≡ [] → Each (λ (x : Declaration). g x ≡ []) xs
-    no_parts g [] h = tt
-    no_parts g (x ∷ xs) h = let a = both_empty (g x) (flat_map g xs) h in (a.0, no_parts g xs a.1)
 
 pub file_reads : (text : List ℕ) (f : File) → IsFileText text f → faults f ≡ [] → Reads text (netlist f)
 file_reads text f d h = record { tokens = d.tokens; cut = d.cut; file = f; derived = d.derived; kept = h; means = refl }

@@ -3,9 +3,11 @@ use Rattle.std.proofs.Common.{◌≡◌, ℕ, zero, suc, ◌+◌, List, [], ◌�
 use Rattle.std.proofs.Common.{◌==◌, bytes_eq, codes, refl, sym, ap, subst, ◌∙◌, inl, inr, arith, slice_get}
 use Rattle.std.specs.Prelude.{filter}
 use Rattle.std.specs.List.{flat_map}
-use Rattle.std.proofs.lemmas.Bool.{and_parts}
+use Rattle.std.proofs.lemmas.Bool.{and_parts, eqb-true}
 use Rattle.std.proofs.lemmas.Bool.Decides.{nat_tests}
 use Rattle.std.proofs.lemmas.Slice.Eq.{bytes_eq-Decides}
+use Rattle.safl_word.proofs.Lists.{append_empty}
+use Rattle.safl_word.proofs.Booleans.{implied}
 use Rattle.safl_net.specs.Netlist.{Netlist, Signal, Kind, Input, Reg, Wire, Cell, IsSet, AllSet, place, output_place}
 use Rattle.safl_net.specs.Netlist as Netlist
 use Rattle.safl_net.specs.Making.{kind_in}
@@ -22,9 +24,10 @@ use Rattle.safl_verilog.specs.Faults.{missing_faults}
 use Rattle.safl_verilog.specs.Netlists.{netlist, signals_of, signal_of, kind_of, register_of, driven, output_of, shown_signal, place_of, number_of}
 use Rattle.safl_verilog.specs.Reads.{Reads}
 use Rattle.safl_net.specs.Arranged.{Each}
-use Rattle.safl_verilog.proofs.Distinct.{Name, Has, Distinct, each_at, each_join, each_mapped, each_of, other_name}
+use Rattle.safl_net.proofs.EachOf.{each_join, each_stands, no_parts}
+use Rattle.safl_verilog.proofs.Distinct.{Name, Has, Distinct, each_at, each_mapped, other_name}
 use Rattle.safl_vread.specs.Parts.{later_faults}
-use Rattle.safl_vread.proofs.FaultsOfFile.{both_empty, parted}
+use Rattle.safl_vread.proofs.FaultsOfFile.{parted}
 use Rattle.safl_vread.proofs.Widths.{kept_true}
 use Rattle.safl_vread.proofs.StatementsDrive.{found_name, distinct_names, width_found}
 
@@ -44,11 +47,7 @@ kind_set f sorts.Input name p h = tt
 kind_set f sorts.Output name p h = tt
 kind_set f sorts.Reg name p h = register_set f.declarations (updated f.statements name) (kept_true (not (is_none (updated f.statements name))) (at rules.V08 p) h)
 kind_set f sorts.Wire name p h = wire_set f.declarations (assigned f.statements name)
-    (kept_true (not (is_none (assigned f.statements name))) (at rules.V07 p) (both_empty (where_not (not (is_none (assigned f.statements name))) (at rules.V07 p)) _ h).0)
-
-no_parts : {X Y : Type 0} (g : X → List Y) (xs : List X) → flat_map g xs ≡ [] → Each (λ x. g x ≡ []) xs
-no_parts g [] h = tt
-no_parts g (x ∷ xs) h = let a = both_empty (g x) (flat_map g xs) h in (a.0, no_parts g xs a.1)
+    (kept_true (not (is_none (assigned f.statements name))) (at rules.V07 p) (append_empty (where_not (not (is_none (assigned f.statements name))) (at rules.V07 p)) _ h).0)
 
 each_filter : {X : Type 0} (P : X → Type 0) (p : X → Bool) (xs : List X) → Each P xs → Each P (filter p xs)
 each_filter P p [] h = tt
@@ -62,7 +61,7 @@ all_set : (f : File) → flat_map (missing_faults f.statements) f.declarations �
 unfolding netlist
 all_set f h =
     let P : Declaration → Type 0 = λ (d : Declaration). IsSet (kind_of f d.sort d.name.bytes) in
-    let each : Each P f.declarations = each_of (λ (d : Declaration). missing_faults f.statements d ≡ []) P
+    let each : Each P f.declarations = each_stands (λ (d : Declaration). missing_faults f.statements d ≡ []) P
     (λ (d : Declaration) k. kind_set f d.sort d.name.bytes d.name.place k) f.declarations (no_parts (missing_faults f.statements) f.declarations h) in
     let all : Each P (signals_of f.declarations) =
     each_join P (filter is_data f.declarations ++ filter (λ (d : Declaration). is_reg d.sort) f.declarations) (filter (λ (d : Declaration). is_wire d.sort) f.declarations)
@@ -184,7 +183,7 @@ kept_assign : (ds : List Declaration) (before ss : List Statement) (name : List 
     assigned ss name ≡ Some e → (x : Spot) × (x.bytes ≡ name) × IsKept ds x e
 kept_assign ds before [] name e h k = absurd cc
 kept_assign ds before (Assign x g ∷ ss) name e h k = by (bytes_eq x.bytes name) refl k
-    (kept_assign ds (before ++ Assign x g ∷ []) ss name e (both_empty (assign_faults ds before x g) (all_statement_faults ds (before ++ Assign x g ∷ []) ss) h).1)
+    (kept_assign ds (before ++ Assign x g ∷ []) ss name e (append_empty (assign_faults ds before x g) (all_statement_faults ds (before ++ Assign x g ∷ []) ss) h).1)
   where
     by : (b : Bool) → bytes_eq x.bytes name ≡ b → cond b (Some g) (assigned ss name) ≡ Some e →
         (assigned ss name ≡ Some e → (x : Spot) × (x.bytes ≡ name) × IsKept ds x e) → (x : Spot) × (x.bytes ≡ name) × IsKept ds x e
@@ -195,12 +194,12 @@ kept_assign ds before (Assign x g ∷ ss) name e h k = by (bytes_eq x.bytes name
           record {
             before = before;
             faults = subst (λ (v : Expression). assign_faults ds before x v ≡ []) s
-                (both_empty (assign_faults ds before x g) (all_statement_faults ds (before ++ Assign x g ∷ []) ss) h).0;
+                (append_empty (assign_faults ds before x g) (all_statement_faults ds (before ++ Assign x g ∷ []) ss) h).0;
           },
         )
     by false q k m = m k
 kept_assign ds before (Always c r t i s o ∷ ss) name e h k = kept_assign ds (before ++ Always c r t i s o ∷ []) ss name e
-    (both_empty (statement_faults ds before (Always c r t i s o)) (all_statement_faults ds (before ++ Always c r t i s o ∷ []) ss) h).1 k
+    (append_empty (statement_faults ds before (Always c r t i s o)) (all_statement_faults ds (before ++ Always c r t i s o ∷ []) ss) h).1 k
 
 -- ---- ports
 
@@ -258,7 +257,7 @@ driven_output : (f : File) (s : Sort) (name : List ℕ) (p : ℕ) → is_output 
     (not (is_reg s) || not (is_none (updated f.statements name))) (at rules.V08 p) ≡ [] → not (is_none (assigned f.statements name)) ≡ true
 driven_output f sorts.Input name p h k = absurd cc
 driven_output f sorts.Output name p h k = kept_true (not (is_none (assigned f.statements name))) (at rules.V07 p)
-    (both_empty (where_not (not (is_none (assigned f.statements name))) (at rules.V07 p)) _ k).0
+    (append_empty (where_not (not (is_none (assigned f.statements name))) (at rules.V07 p)) _ k).0
 driven_output f sorts.Reg name p h k = absurd cc
 driven_output f sorts.Wire name p h k = absurd cc
 
@@ -276,10 +275,7 @@ plain_of (Joined a b) h = absurd cc
 plain_of (Slice a b c) h = absurd cc
 
 same_width : (m n : ℕ) (p : ℕ) → width_faults p m n ≡ [] → m ≡ n
-same_width m n p h = decided m n (kept_true (m == n) _ h)
-  where
-    decided : (m n : ℕ) → (m == n) ≡ true → m ≡ n
-    decided m n h = grind (arith, nat_tests)
+same_width m n p h = eqb-true m n (kept_true (m == n) _ h)
 
 plain_width : (ds : List Declaration) (e : Expression) (a : Spot) (d : Declaration) → e ≡ Plain a → find ds a.bytes ≡ Some d → expression_width ds e ≡ range_width d.range
 plain_width ds e a d h k = ap (expression_width ds) h ∙ width_found ds a.bytes d k
@@ -299,30 +295,26 @@ output_shows f d h o m k =
     let a = some_of (assigned f.statements d.name.bytes) (driven_output f d.sort d.name.bytes d.name.place o m) in
     let b = kept_assign f.declarations [] f.statements d.name.bytes a.0 k a.1 in
     let found : find f.declarations b.0.bytes ≡ Some d = ap (find f.declarations) b.1 ∙ h in
-    let c1 = both_empty (where_not (passes is_target (find f.declarations b.0.bytes)) (at rules.V04 b.0.place) ++ where_not
+    let c1 = append_empty (where_not (passes is_target (find f.declarations b.0.bytes)) (at rules.V04 b.0.place) ++ where_not
     (may_be_assigned b.2.before (find f.declarations b.0.bytes) b.0.bytes a.0) (at rules.V07 b.0.place) ++ flat_map (unfit_faults f.declarations)
     (operands a.0)) (width_faults b.0.place (width_of f.declarations b.0.bytes) (expression_width f.declarations a.0)) b.2.faults in
-    let c2 = both_empty (where_not (passes is_target (find f.declarations b.0.bytes)) (at rules.V04 b.0.place) ++ where_not
+    let c2 = append_empty (where_not (passes is_target (find f.declarations b.0.bytes)) (at rules.V04 b.0.place) ++ where_not
     (may_be_assigned b.2.before (find f.declarations b.0.bytes) b.0.bytes a.0) (at rules.V07 b.0.place))
     (flat_map (unfit_faults f.declarations) (operands a.0)) c1.0 in
-    let c3 = both_empty (where_not (passes is_target (find f.declarations b.0.bytes)) (at rules.V04 b.0.place))
+    let c3 = append_empty (where_not (passes is_target (find f.declarations b.0.bytes)) (at rules.V04 b.0.place))
     (where_not (may_be_assigned b.2.before (find f.declarations b.0.bytes) b.0.bytes a.0) (at rules.V07 b.0.place)) c2.0 in
     let may = (and_parts (is_none (assigned b.2.before b.0.bytes))
     (not (passes (λ d. is_output d.sort) (find f.declarations b.0.bytes)) || is_plain a.0)
     (kept_true (may_be_assigned b.2.before (find f.declarations b.0.bytes) b.0.bytes a.0) (at rules.V07 b.0.place) c3.1)).1 in
     let out : passes (λ d. is_output d.sort) (find f.declarations b.0.bytes) ≡ true = ap (passes (λ d. is_output d.sort)) found ∙ o in
-    let e = plain_of a.0 (plain_then (passes (λ d. is_output d.sort) (find f.declarations b.0.bytes)) (is_plain a.0) may out) in
+    let e = plain_of a.0 (implied (passes (λ d. is_output d.sort) (find f.declarations b.0.bytes)) (is_plain a.0) may out) in
     let fit1 : flat_map (unfit_faults f.declarations) (operands (Plain e.0)) ≡ [] = ap (λ (v : Expression). flat_map (unfit_faults f.declarations) (operands v)) (sym e.1) ∙ c2.1 in
     let fit = passed is_signal (find f.declarations e.0.bytes)
-    (kept_true (passes is_signal (find f.declarations e.0.bytes)) (at rules.V04 e.0.place) (both_empty (unfit_faults f.declarations e.0) [] fit1).0) in
+    (kept_true (passes is_signal (find f.declarations e.0.bytes)) (at rules.V04 e.0.place) (append_empty (unfit_faults f.declarations e.0) [] fit1).0) in
     let w : width_of f.declarations b.0.bytes ≡ expression_width f.declarations a.0 = same_width _ _ b.0.place c1.1 in
     let w1 : width_of f.declarations b.0.bytes ≡ range_width d.range = width_found f.declarations b.0.bytes d found in
     let w2 : expression_width f.declarations a.0 ≡ range_width fit.0.range = plain_width f.declarations a.0 e.0 fit.0 e.1 fit.1 in
     record { source = e.0; assigned_is = a.1 ∙ ap Some e.1; signal = fit.0; found = fit.1; fit = fit.2; width = sym w1 ∙ w ∙ w2 }
-  where
-    plain_then : (a b : Bool) → (not a || b) ≡ true → a ≡ true → b ≡ true
-    plain_then true b k l = k
-    plain_then false b k l = absurd cc
 
 each_found : (ds : List Declaration) (P : Declaration → Type 0) (name : List ℕ) (d : Declaration) → Each P ds → find ds name ≡ Some d → P d
 each_found [] P name d h k = absurd cc
@@ -358,13 +350,13 @@ has_result f h =
 
 whole : (f : File) → faults f ≡ [] → IsWhole (netlist f)
 whole f h =
-    let a = both_empty (all_number_faults f) _ (sym (parted f) ∙ h) in
-    let b = both_empty (repeat_faults [] f.header) _ a.1 in
-    let c = both_empty (repeat_faults [] (declared_names f.declarations)) (later_faults f) b.1 in
-    let d = both_empty (all_port_faults f ++ all_statement_faults f.declarations [] f.statements) (flat_map (missing_faults f.statements) f.declarations) c.1 in
-    let e = both_empty (all_port_faults f) (all_statement_faults f.declarations [] f.statements) d.0 in
+    let a = append_empty (all_number_faults f) _ (sym (parted f) ∙ h) in
+    let b = append_empty (repeat_faults [] f.header) _ a.1 in
+    let c = append_empty (repeat_faults [] (declared_names f.declarations)) (later_faults f) b.1 in
+    let d = append_empty (all_port_faults f ++ all_statement_faults f.declarations [] f.statements) (flat_map (missing_faults f.statements) f.declarations) c.1 in
+    let e = append_empty (all_port_faults f) (all_statement_faults f.declarations [] f.statements) d.0 in
     let g = kept_true (has_ports f.declarations) (at rules.V10 0)
-    (both_empty (flat_map (header_faults f) f.header ++ flat_map (port_faults f) f.declarations) (where_not (has_ports f.declarations) (at rules.V10 0)) e.0).1 in
+    (append_empty (flat_map (header_faults f) f.header ++ flat_map (port_faults f) f.declarations) (where_not (has_ports f.declarations) (at rules.V10 0)) e.0).1 in
     let p1 = and_parts _ (passes (λ d. is_output d.sort) (find f.declarations (codes "result"))) g in
     let p2 = and_parts _ (has_bit f.declarations is_output (codes "done")) p1.0 in
     let p3 = and_parts _ (has_bit f.declarations is_input (codes "start")) p2.0 in

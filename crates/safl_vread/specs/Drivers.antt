@@ -1,6 +1,6 @@
 -- What drives declared names.
 use Rattle.std.specs.Prelude.{◌≡◌, ℕ, List, [], ◌∷◌, ◌++◌, ◌≤◌, length, All, None, Some, Result, Ok, Err, Bool, true, false, not, ◌||◌, slice_get}
-use Rattle.std.proofs.Common.{bytes_eq}
+use Rattle.std.specs.Str.{bytes_eq}
 use Rattle.safl_word.specs.Words.{Word}
 use Rattle.safl_word.specs.Numerals.{value}
 use Rattle.safl_word.specs.Limits.{width_max}

@@ -1,6 +1,6 @@
 -- The net that is made of declarations and what drives them.
 use Rattle.std.specs.Prelude.{◌≡◌, ℕ, zero, suc, ◌<◌, List, [], ◌∷◌, ◌++◌, map, length, All, Option, Some, None, true, false, ◌||◌, slice_get, slice_index, if◌then◌else◌}
-use Rattle.safl_net.specs.Netlist.{Netlist, Signal, Kind, Input, Reg, Wire, width_of}
+use Rattle.safl_net.specs.Netlist.{Netlist, Signal, Kind, Input, Reg, Wire, width_of, open_kind}
 use Rattle.safl_net.specs.Names.{is_good, named_signal}
 use Rattle.safl_net.specs.Widths.{op_width}
 use Rattle.safl_verilog.specs.declared.token.Sort.{Sort}
@@ -71,14 +71,8 @@ kind_with ns sorts.Reg _ = Input
 kind_with ns sorts.Wire (driver.Cell op xs) = Wire (Some (record { op = op; operands = map (slice_index ns) (places_of xs) }))
 kind_with ns sorts.Wire _ = Wire None
 
--- the kind of a signal that is not set yet
-abbrev pub opened_kind : Kind → Kind
-opened_kind Input = Input
-opened_kind (Reg init next) = Reg init None
-opened_kind (Wire cell) = Wire None
-
 abbrev pub opened : Signal → Signal
-opened g = record { name = g.name; width = g.width; kind = opened_kind g.kind }
+opened g = record { name = g.name; width = g.width; kind = open_kind g.kind }
 
 abbrev pub signal_with : List ℕ → Declaration → Driver → Signal
 signal_with ns d v = record { name = d.name.bytes; width = range_width d.range; kind = kind_with ns d.sort v }

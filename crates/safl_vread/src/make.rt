@@ -12,7 +12,8 @@ ghost use Rattle.safl_verilog.specs.Netlists.{signals_of, netlist};
 ghost use Rattle.safl_vparse.specs.Shown.{shown_declaration};
 ghost use Rattle.safl_vread.specs.Drivers.{HasDrivers, places_of};
 ghost use Rattle.safl_vread.specs.Signals.{IsOrder, AreNumbers};
-ghost use Rattle.safl_vread.specs.Nets.{Fits, AllFit, SuitsIn, AllSuit, GoodNames, kind_with, opened_kind, opened, signal_with, signals_at, output_with, outputs_with, with_outputs, HasNewOutputs};
+ghost use Rattle.safl_vread.specs.Nets.{Fits, AllFit, SuitsIn, AllSuit, GoodNames, kind_with, opened, signal_with, signals_at, output_with, outputs_with, with_outputs, HasNewOutputs};
+ghost use Rattle.safl_net.specs.Netlist.{open_kind};
 ghost use Rattle.safl_vread.specs.Scopes.{declared_in};
 
 use crate::driver::{Driver, Operands};
@@ -122,7 +123,7 @@ fn connect_one(net: &mut Net, s: Sig, sort: Sort, driver: &Driver, numbers: &[u3
     requires suits { SuitsIn net.old numbers.now s.0 driver.now }
     requires known { (p : ℕ) → slice_index numbers.now p < length net.old.signals }
     requires there { s.0 < length net.old.signals }
-    requires open { kind_at net.old s.0 ≡ opened_kind (kind_with numbers.now sort driver.now) }
+    requires open { kind_at net.old s.0 ≡ open_kind (kind_with numbers.now sort driver.now) }
     ensures { net.new ≡ with_kind net.old s.0 (kind_with numbers.now sort driver.now) }
 {
     match (sort, driver) {

@@ -11,6 +11,7 @@ use Rattle.std.proofs.lemmas.Bool.Decides.{nat_tests}
 use Rattle.safl_word.specs.declared.primitive.Primitive.{Primitive}
 use Rattle.safl_word.proofs.Widths.{only_where}
 use Rattle.safl_word.specs.declared.primitive.Primitive.TheVariants.{Add, Sub, Mul, And, Or, Xor, Not, Eq, Ne, Lt, Le, Gt, Ge, Shl, Shr, Cat, Bits, Ext}
+use Rattle.safl_word.proofs.Naturals.{number_short, short_is}
 use Rattle.safl_net.specs.declared.cell.Op.{Op}
 use Rattle.safl_net.specs.declared.cell.Op.TheVariants.{Const, Copy, Mux, Apply}
 use Rattle.safl_net.specs.Netlist.{Netlist, Signal, Kind, Input, Reg, Wire, width_of, width_in}
@@ -28,16 +29,7 @@ use Rattle.safl_vwrite.specs.Sizes.{text_max}
 
 name_short : (name : Text) → is_good name ≡ true → length name ≤ 200
 unfolding is_good
-name_short name h = le (length name) (and_parts (is_identifier name) (nat_le (length name) 200) (and_parts (is_identifier name && nat_le (length name) 200) (not (is_reserved name)) h).0).1
-  where
-    le : (m : ℕ) → nat_le m 200 ≡ true → m ≤ 200
-    le m e = grind (arith, nat_tests)
-
-number_short : (n : ℕ) → n < 1000 → length (decimal n) ≤ 3
-number_short n h =
-    let bound : n < 10 ^ 3 = omega (arith, h) in
-    let wide : 1000 < 10 ^ 64 = lit< tt in
-    length-decimal-le_wide 3 n (lit< tt) bound (omega arith)
+name_short name h = short_is (length name) (and_parts (is_identifier name) (nat_le (length name) 200) (and_parts (is_identifier name && nat_le (length name) 200) (not (is_reserved name)) h).0).1
 
 word_short : (w n : ℕ) → w ≤ 128 → n < 2 ^ w → length (decimal n) ≤ 39
 word_short w n b h =

@@ -3,6 +3,9 @@ use Rattle.std.proofs.Common.{get_or, ◌≡◌, ℕ, zero, suc, ◌+◌, ◌<�
 use Rattle.std.specs.Prelude.{slice_get, option_map}
 use Rattle.std.specs.List.{flat_map}
 use Rattle.std.specs.Prelude.{All}
+use Rattle.std.proofs.lemmas.Option.{same_Some}
+use Rattle.safl_word.proofs.Lists.{get_some}
+use Rattle.safl_word.proofs.Options.{both_halves}
 use Rattle.safl_net.specs.declared.cell.Sig.{Sig}
 use Rattle.safl_net.specs.declared.cell.Cell.{Cell as Made}
 use Rattle.safl_net.specs.Netlist.{Netlist, Signal, Kind, Input, Reg, Wire, Cell, width_of, width_in}
@@ -27,11 +30,6 @@ after_more : {A : Type 0} (f : A → Text) (xs : List A) (i : ℕ) (x : A) (star
 after_more f xs i x start before now e b n =
     n ∙ ap (λ l. l ++ f x) b ∙ append_assoc start (flat_map f (take i xs)) (f x) ∙ ap (λ l. start ++ l) (sym (one_more f xs i x e)) ∙ ap (λ k. start ++ flat_map f (take k xs)) (sym (add-one i))
 
-is_there : {A : Type 0} (xs : List A) (i : ℕ) → i < length xs → (x : A) × (slice_get xs i ≡ Some x)
-is_there [] i lt = absurd (omega (arith, lt))
-is_there (x ∷ xs) zero lt = (x, refl)
-is_there (x ∷ xs) (suc i) lt = is_there xs i (omega (arith, lt))
-
 -- the signal of a number, by its name, width and kind
 abbrev pub signal_at : Netlist → ℕ → Signal
 signal_at n s = record { name = name_at n s; width = width_of n s; kind = kind_at n s }
@@ -42,39 +40,21 @@ shown n s g e = ap (λ (o : Option Signal). record { name = name_in o; width = w
 pub signal_more : (f : Signal → Text) (n : Netlist) (i : ℕ) (start before now : Text) → i < length n.signals → before ≡ start ++ flat_map f
     (take i n.signals) → now ≡ before ++ f (signal_at n i) → now ≡ start ++ flat_map f (take (i + 1) n.signals)
 signal_more f n i start before now lt b e =
-    let g = is_there n.signals i lt in
+    let g = get_some n.signals i lt in
     after_more f n.signals i g.0 start before now g.1 b (e ∙ ap (λ x. before ++ f x) (shown n i g.0 g.1))
-
-joined_output : (o : Option (List ℕ × ℕ)) (name : List ℕ) (s : ℕ) → Some name ≡ option_map (λ x. x.0) o → Some s ≡ option_map (λ x. x.1) o → o ≡ Some (name, s)
-joined_output None name s a b = absurd (cc)
-joined_output (Some x) name s a b = let p : name ≡ x.0 = cc in let q : s ≡ x.1 = cc in ap (λ y. Some (y, x.1)) (sym p) ∙ ap (λ y. Some (name, y)) (sym q)
 
 pub output_more : (f : List ℕ × ℕ → Text) (n : Netlist) (i : ℕ) (name : List ℕ) (s : ℕ) (start before now : Text) → Some name ≡ option_map (λ x. x.0)
     (slice_get n.outputs i) → Some s ≡ option_map (λ x. x.1) (slice_get n.outputs i)
     → before ≡ start ++ flat_map f (take i n.outputs) → now ≡ before ++ f (name, s) → now ≡ start ++ flat_map f (take (i + 1) n.outputs)
-output_more f n i name s start before now a b = after_more f n.outputs i (name, s) start before now (joined_output (slice_get n.outputs i) name s a b)
-
--- an output shows a signal of the net
-pub output_known : (n : Netlist) (i s : ℕ) → IsNetlist n → i < length n.outputs → Some s ≡ option_map (λ x. x.1) (slice_get n.outputs i) → s < length n.signals
-output_known n i s is lt e =
-    let o = is_there n.outputs i lt in
-    let same : s ≡ o.0.1 = some_is (e ∙ ap (option_map (λ x. x.1)) o.1) in
-    let known = (is.outputs i o.0 o.1).1 in
-    omega (arith, same, known)
-  where
-    some_is : {m k : ℕ} → Some m ≡ Some k → m ≡ k
-    some_is q = cc
+output_more f n i name s start before now a b = after_more f n.outputs i (name, s) start before now (both_halves (slice_get n.outputs i) name s a b)
 
 -- a port needs no more than the output's name
 pub port_more : (n : Netlist) (i : ℕ) (name : List ℕ) (start before now : Text) → i < length n.outputs → Some name ≡ option_map (λ x. x.0) (slice_get n.outputs i)
     → before ≡ start ++ flat_map output_port (take i n.outputs) → now ≡ before ++ port name → now ≡ start ++ flat_map output_port (take (i + 1) n.outputs)
 port_more n i name start before now lt e b h =
-    let o = is_there n.outputs i lt in
-    let same : name ≡ o.0.0 = some_name (e ∙ ap (option_map (λ x. x.0)) o.1) in
+    let o = get_some n.outputs i lt in
+    let same : name ≡ o.0.0 = same_Some _ _ (e ∙ ap (option_map (λ x. x.0)) o.1) in
     after_more output_port n.outputs i o.0 start before now o.1 b (h ∙ ap (λ x. before ++ port x) same)
-  where
-    some_name : {a b : List ℕ} → Some a ≡ Some b → a ≡ b
-    some_name q = cc
 
 cell_fits : (n : Netlist) (w : ℕ) (k : Kind) (c : Cell) → KindFits n w k → Some c ≡ cell_in k → CellFits n w c
 cell_fits n w Input c f e = absurd (cc)
@@ -91,7 +71,7 @@ known_each bound (x ∷ xs) h (suc k) d lt = known_each bound xs (λ j e l. h (s
 pub cell_known : (n : Netlist) (s : ℕ) (m : Made) → IsNetlist n → s < length n.signals → Some (cell_of m) ≡ cell_in (kind_at n s) → (k : ℕ) (d : Sig)
     → k < length m.operands.items → (get_or m.operands.items k d).0 < length n.signals
 cell_known n s m is lt e =
-    let g = is_there n.signals s lt in
+    let g = get_some n.signals s lt in
     let fits = (is.signals s g.0 g.1).kind in
     known_each (length n.signals) m.operands.items (cell_fits n g.0.width g.0.kind (cell_of m) fits (e ∙ ap (λ o. cell_in (kind_in o)) g.1)).known
 
@@ -104,5 +84,5 @@ next_fits n w (Wire cell) m f e = absurd (cc)
 -- a next signal is one of the net
 pub next_known : (n : Netlist) (s m : ℕ) → IsNetlist n → s < length n.signals → Some m ≡ next_in (kind_at n s) → m < length n.signals
 next_known n s m is lt e =
-    let g = is_there n.signals s lt in
+    let g = get_some n.signals s lt in
     next_fits n g.0.width g.0.kind m (is.signals s g.0 g.1).kind (e ∙ ap (λ o. next_in (kind_in o)) g.1)

@@ -23,7 +23,7 @@ low_of_low n w le =
     subst (λ k. n % 2 ^ k % 2 ^ w ≡ n % 2 ^ w) e (mod-mod-pow n (128 - w) w)
 
 -- a multiple of the modulus more makes no difference
-apart : (a b k m : ℕ) → b < m → 0 < k → (a + (k * m - b)) % m ≡ (m + a - b) % m
+pub apart : (a b k m : ℕ) → b < m → 0 < k → (a + (k * m - b)) % m ≡ (m + a - b) % m
 apart a b zero m lt pos = absurd (omega arith)
 apart a b (suc k) m lt pos =
     let s : suc k * m ≡ k * m + m = omega arith in

@@ -7,11 +7,12 @@ use Rattle.safl_word.specs.declared.token.TokenKind.{TokenKind}
 use Rattle.safl_word.specs.declared.fault.Rule.{Rule}
 use Rattle.safl_word.specs.declared.fault.Rule.TheVariants as rules
 use Rattle.safl_word.specs.Runs.{EndsRun}
-use Rattle.safl_word.proofs.Runs.{same_run, same_front}
+use Rattle.safl_word.proofs.Runs.{same_run}
 use Rattle.safl_word.proofs.BytesBegin.{name_no_blank, name_no_slash, digit_no_blank, digit_no_slash}
 use Rattle.safl_word.proofs.Lexemes.{same_head, same_tail, sym_head, name_head, number_head, sized_head, else_blank, else_slash}
 use Rattle.safl_word.proofs.Finds.{sym_some}
 use Rattle.safl_word.proofs.OneKind.{token_like, kinds_agree, not_too_long}
+use Rattle.safl_word.proofs.Lists.{append_parts}
 
 -- a token begins with no blank
 pub token_no_blank : (w v : List ℕ) (c : ℕ) (x : List ℕ) → IsLexeme w → w ++ v ≡ c ∷ x → is_blank c ≡ false
@@ -47,7 +48,7 @@ pub tokens_agree : (j k : TokenKind) (w x u v : List ℕ) → IsToken j w → Is
 tokens_agree j k w x u v a l b m e =
     let p = m w u e (token_like j w a) in
     let q = l x v (sym e) (token_like k x b) in
-    let r = same_front w u x v (omega arith) e in
+    let r = append_parts w u x v (omega arith) e in
     (kinds_agree j k x (subst (IsToken j) r.0 a) b, r.0, r.1)
 
 pub pieces_agree : (x y : Piece) (u v : List ℕ) → StandsBefore x u → StandsBefore y v → text_of x ++ u ≡ text_of y ++ v → (x ≡ y) × (u ≡ v)
@@ -108,7 +109,7 @@ none_at_too_long u f (Comment w) r e h = slash_clash f.front f.rest _ (too_long_
 none_at_too_long u f (Lexeme k w) r e h =
     let p = h.1 f.front f.rest (sym f.joined ∙ sym e) (too_long_like f.front f.too_long) in
     let q = f.longest w r (e ∙ f.joined) (token_like k w h.0) in
-    let s = same_front w r f.front f.rest (omega arith) (e ∙ f.joined) in
+    let s = append_parts w r f.front f.rest (omega arith) (e ∙ f.joined) in
     not_too_long k f.front (subst (IsToken k) s.0 h.0) f.too_long
 
 pub none_at_fault : (d : Rule) (u : List ℕ) → BreaksAtFirst d u → NoPiece u

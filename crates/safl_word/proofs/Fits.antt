@@ -1,5 +1,5 @@
 -- A primitive on words gives a word.
-use Rattle.std.proofs.Common.{◌≡◌, ℕ, suc, ◌+◌, ◌-◌, ◌*◌, ◌/◌, ◌%◌, ◌^◌, ◌<◌, List, [], ◌∷◌, Option, Some, None, Bool, true, false, cond, not, ◌==◌, nat_lt, nat_le, refl, sym, subst, arith}
+use Rattle.std.proofs.Common.{◌≡◌, ℕ, suc, ◌+◌, ◌-◌, ◌*◌, ◌/◌, ◌%◌, ◌^◌, ◌<◌, List, [], ◌∷◌, Option, Some, Bool, true, false, cond, not, ◌==◌, nat_lt, nat_le, sym, subst, arith}
 use Rattle.std.proofs.lemmas.Nat.{and_le_l, or_lt, xor_lt, pow_pos, pow-add}
 use Rattle.std.proofs.lemmas.Bool.{leb-true, ltb-true, eqb-true, and_parts}
 use Rattle.std.proofs.Math.Nat.{mod-lt, div-le_self, mul-le-mul_right}
@@ -11,26 +11,21 @@ use Rattle.safl_word.specs.declared.primitive.Primitive.TheVariants.{Add, Sub, M
 use Rattle.safl_word.specs.Primitives.{one_width, two_widths, where_true, result_width, one_word, two_words, bit_of, apply_prim}
 use Rattle.safl_word.specs.Words.{AreWords}
 use Rattle.safl_word.proofs.Widths.{widths, only_where}
-
-none_some : {A : Type 0} (n : ℕ) → None ≡ Some n → A
-none_some n e = cc
-
-where_is : (b : Bool) (m n : ℕ) → where_true b m ≡ Some n → b ≡ true
-where_is true m n e = refl
-where_is false m n e = none_some n e
+use Rattle.safl_word.proofs.Options.{none_is}
+use Rattle.safl_word.proofs.Words.{where_holds}
 
 one_fits : (f : ℕ → Option ℕ) (g : Word → Word) (vs : List Word) (n : ℕ) → ((a : Word) → IsWord a → f a.width ≡ Some n → IsWord (g a)) → AreWords vs →
     one_width f (widths vs) ≡ Some n → IsWord (one_word g vs)
-one_fits f g [] n h w e = none_some n e
+one_fits f g [] n h w e = none_is n e
 one_fits f g (a ∷ []) n h w e = h a w.0 (only_where _ _ n e)
-one_fits f g (a ∷ (b ∷ vs)) n h w e = none_some n e
+one_fits f g (a ∷ (b ∷ vs)) n h w e = none_is n e
 
 two_fits : (f : ℕ → ℕ → Option ℕ) (g : Word → Word → Word) (vs : List Word) (n : ℕ) →
     ((a b : Word) → IsWord a → IsWord b → f a.width b.width ≡ Some n → IsWord (g a b)) → AreWords vs → two_widths f (widths vs) ≡ Some n → IsWord (two_words g vs)
-two_fits f g [] n h w e = none_some n e
-two_fits f g (a ∷ []) n h w e = none_some n e
+two_fits f g [] n h w e = none_is n e
+two_fits f g (a ∷ []) n h w e = none_is n e
 two_fits f g (a ∷ (b ∷ [])) n h w e = h a b w.0 w.1.0 (only_where _ _ n e)
-two_fits f g (a ∷ (b ∷ (c ∷ vs))) n h w e = none_some n e
+two_fits f g (a ∷ (b ∷ (c ∷ vs))) n h w e = none_is n e
 
 -- of the first operand's width
 like : (a : Word) (n : ℕ) → IsWord a → n < 2 ^ a.width → IsWord (record { width = a.width; bits = n })
@@ -38,7 +33,7 @@ like a n w lt = record { some = w.some; bounded = w.bounded; fits = lt }
 
 -- the second operand fits the first one's width, where the two are equal
 same_fits : (a b : Word) (n : ℕ) → IsWord b → where_true (a.width == b.width) a.width ≡ Some n → b.bits < 2 ^ a.width
-same_fits a b n wb h = subst (λ k. b.bits < 2 ^ k) (sym (eqb-true a.width b.width (where_is _ _ n h))) wb.fits
+same_fits a b n wb h = subst (λ k. b.bits < 2 ^ k) (sym (eqb-true a.width b.width (where_holds _ _ n h))) wb.fits
 
 -- of one bit
 flag : (b : Bool) → IsWord (record { width = 1; bits = bit_of b })
@@ -82,21 +77,21 @@ apply_fits Cat vs n w e =
     two_fits _ _ vs n
     (λ a b wa wb h. record {
       some = omega (arith, wa.some);
-      bounded = leb-true (a.width + b.width) width_max (where_is _ _ n h);
+      bounded = leb-true (a.width + b.width) width_max (where_holds _ _ n h);
       fits = joined a.bits b.bits a.width b.width wa.fits wb.fits;
     })
     w e
 apply_fits (Bits high low) vs n w e =
     one_fits _ _ vs n
     (λ a wa h.
-    let lt = ltb-true high a.width (and_parts _ _ (where_is _ _ n h)).1 in
-    let le = leb-true low high (and_parts _ _ (where_is _ _ n h)).0 in
+    let lt = ltb-true high a.width (and_parts _ _ (where_holds _ _ n h)).1 in
+    let le = leb-true low high (and_parts _ _ (where_holds _ _ n h)).0 in
     record { some = omega arith; bounded = omega (arith, wa.bounded, lt, le); fits = below (high - low + 1) (a.bits / 2 ^ low) })
     w e
 apply_fits (Ext m) vs n w e =
     one_fits _ _ vs n
     (λ a wa h.
-    let le = leb-true a.width m (and_parts _ _ (where_is _ _ n h)).0 in
-    let top = leb-true m width_max (and_parts _ _ (where_is _ _ n h)).1 in
+    let le = leb-true a.width m (and_parts _ _ (where_holds _ _ n h)).0 in
+    let top = leb-true m width_max (and_parts _ _ (where_holds _ _ n h)).1 in
     record { some = omega (arith, wa.some, le); bounded = top; fits = omega (arith, wa.fits, pow_mono le) })
     w e

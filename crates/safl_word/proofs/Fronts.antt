@@ -8,7 +8,7 @@ use Rattle.safl_word.specs.declared.token.TokenKind.TheVariants as kinds
 use Rattle.safl_word.specs.declared.fault.Rule.TheVariants as rules
 use Rattle.safl_word.specs.Runs.{EndsRun}
 use Rattle.safl_word.proofs.Runs.{span}
-use Rattle.safl_word.proofs.Lexemes.{same_head, same_tail, name_head, number_head, sized_head}
+use Rattle.safl_word.proofs.Lexemes.{same_head, same_tail, name_head, number_head, sized_head, clash, no_cons}
 use Rattle.safl_word.proofs.Sizes.{symbol_longest}
 use Rattle.safl_word.proofs.Finds.{sym_at, sym_sound, sym_none, sym_some, sym_short}
 use Rattle.safl_word.proofs.Next.{Next, goes_on, breaks, name_next, digit_next}
@@ -44,9 +44,6 @@ lone_longest s c rest e f = symbol_longest s rest (λ t v q. by_split t (sym_spl
     by_split t (lone g) = omega (arith, ap length g, ap length e)
     by_split t (pair d r g k) = absurd (f d r t g (sym k))
 
-clash : (b : Bool) → b ≡ true → b ≡ false → ⊥
-clash b h e = cc
-
 -- a byte that begins nothing
 module _ (c : ℕ) (rest : List ℕ) (blank : is_blank c ≡ false) (name : begins_name c ≡ false) (digit : is_digit 10 c ≡ false) (none : (t : Sym) → c ∷ [] ≢ sym_text t)
     (pairs : NoPair c rest) where
@@ -70,7 +67,7 @@ module _ (c : ℕ) (rest : List ℕ) (blank : is_blank c ≡ false) (name : begi
     no_token = no_token;
   }
 
-ends_line : (rest : List ℕ) → EndsRun (λ c. not (c == 10)) rest → EndsLine rest
+pub ends_line : (rest : List ℕ) → EndsRun (λ c. not (c == 10)) rest → EndsLine rest
 ends_line [] h = tt
 ends_line (c ∷ rest) h = by_test (c == 10) refl h
   where
@@ -108,10 +105,7 @@ module _ (c : ℕ) (blank : is_blank c ≡ false) (name : begins_name c ≡ fals
 
   other_next : (rest : List ℕ) → Next (c ∷ rest)
   unfolding NoPair
-  other_next [] = lone_next [] (λ d r t g h. nil_cons d r g) (λ r e. nil_cons 47 r (same_tail c 47 _ _ e)) (sym_at (c ∷ [])) refl
-    where
-      nil_cons : (d : ℕ) (r : List ℕ) → [] ≡ d ∷ r → ⊥
-      nil_cons d r e = cc
+  other_next [] = lone_next [] (λ d r t g h. no_cons d r g) (λ r e. no_cons 47 r (same_tail c 47 _ _ e)) (sym_at (c ∷ [])) refl
   other_next (d ∷ r) = second_next d r (c == 47) refl (d == 47) refl
 
 by_class : (c : ℕ) (x : List ℕ) (a : Bool) → is_blank c ≡ a → (b : Bool) → begins_name c ≡ b → (d : Bool) → is_digit 10 c ≡ d → Next (c ∷ x)

@@ -1,6 +1,6 @@
 -- Where the longest token ends.
-use Rattle.std.proofs.Common.{◌≡◌, ℕ, List, [], ◌∷◌, ◌++◌, Some, Bool, true, false, ◌&&◌, ◌||◌, ◌==◌, not, refl, sym, ◌∙◌, ap, subst, arith, append_assoc}
-use Rattle.std.proofs.lemmas.Bool.{and_parts}
+use Rattle.std.proofs.Common.{◌≡◌, ℕ, List, [], ◌∷◌, ◌++◌, Some, Bool, true, false, ◌&&◌, ◌==◌, not, refl, sym, ◌∙◌, ap, subst, arith, append_assoc}
+use Rattle.std.proofs.lemmas.Bool.{and_parts, not-true, or_left}
 use Rattle.std.specs.List.{list_all}
 use Rattle.safl_word.specs.Numerals.{is_digit, IsNumeral}
 use Rattle.safl_word.specs.Tokens.{sym_text, is_blank, begins_name, in_name, base_of, IsNameLike, SizedParts, sized_text, IsSizedLike, name_like, number_like, sized_like, symbol_like, IsLongest}
@@ -16,10 +16,10 @@ same_head c d u w e = cc
 pub same_tail : (c d : ℕ) (u w : List ℕ) → c ∷ u ≡ d ∷ w → u ≡ w
 same_tail c d u w e = cc
 
-no_cons : (c : ℕ) (w : List ℕ) {A : Type 0} → [] ≡ c ∷ w → A
+pub no_cons : (c : ℕ) (w : List ℕ) {A : Type 0} → [] ≡ c ∷ w → A
 no_cons c w e = cc
 
-clash : (b : Bool) {A : Type 0} → b ≡ true → b ≡ false → A
+pub clash : (b : Bool) {A : Type 0} → b ≡ true → b ≡ false → A
 clash b h e = cc
 
 -- what begins a symbol begins no name and no number, and is no blank and no slash
@@ -44,34 +44,26 @@ sized_parts s v = append_assoc s.width (39 ∷ s.letter ∷ s.digits) v
 pub sized_head : (s : SizedParts) (v : List ℕ) (c : ℕ) (x : List ℕ) → IsSizedLike s → sized_text s ++ v ≡ c ∷ x → is_digit 10 c ≡ true
 sized_head s v c x h e = number_head s.width _ c x h.width (sym (sized_parts s v) ∙ e)
 
-pub not_true : (b : Bool) → not b ≡ true → b ≡ false
-not_true true h = cc
-not_true false h = refl
-
 pub else_name : (c : ℕ) {A : Type 0} → begins_else c ≡ true → begins_name c ≡ true → A
-else_name c h e = clash (begins_name c) e (not_true _ (and_parts _ _ h).0)
+else_name c h e = clash (begins_name c) e (not-true _ (and_parts _ _ h).0)
 
 pub else_digit : (c : ℕ) {A : Type 0} → begins_else c ≡ true → is_digit 10 c ≡ true → A
-else_digit c h e = clash (is_digit 10 c) e (not_true _ (and_parts _ _ (and_parts _ _ h).1).0)
+else_digit c h e = clash (is_digit 10 c) e (not-true _ (and_parts _ _ (and_parts _ _ h).1).0)
 
 pub else_blank : (c : ℕ) → begins_else c ≡ true → is_blank c ≡ false
 else_blank c h =
     let r = (and_parts (not (begins_name c)) (not (is_digit 10 c) && (not (is_blank c) && not (c == 47))) h).1 in
     let q = (and_parts (not (is_digit 10 c)) (not (is_blank c) && not (c == 47)) r).1 in
-    not_true (is_blank c) (and_parts (not (is_blank c)) (not (c == 47)) q).0
+    not-true (is_blank c) (and_parts (not (is_blank c)) (not (c == 47)) q).0
 
 pub else_slash : (c : ℕ) → begins_else c ≡ true → (c == 47) ≡ false
 else_slash c h =
     let r = (and_parts (not (begins_name c)) (not (is_digit 10 c) && (not (is_blank c) && not (c == 47))) h).1 in
     let q = (and_parts (not (is_digit 10 c)) (not (is_blank c) && not (c == 47)) r).1 in
-    not_true (c == 47) (and_parts (not (is_blank c)) (not (c == 47)) q).1
+    not-true (c == 47) (and_parts (not (is_blank c)) (not (c == 47)) q).1
 
 pub name_digit : (c : ℕ) {A : Type 0} → begins_name c ≡ true → is_digit 10 c ≡ true → A
 name_digit c h e = clash (is_digit 10 c) e (name_not_digit c h)
-
-or_left : (a b : Bool) → a ≡ true → (a || b) ≡ true
-or_left true b h = refl
-or_left false b h = cc
 
 pub all_in_name : (u : List ℕ) → IsNameLike u → list_all in_name u ≡ true
 all_in_name [] h = absurd h

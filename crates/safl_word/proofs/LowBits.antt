@@ -1,10 +1,10 @@
 -- The low bits of sums, differences, products and shifts of 64 bits.
-use Rattle.std.proofs.Common.{◌≡◌, ℕ, zero, suc, ◌+◌, ◌-◌, ◌*◌, ◌/◌, ◌%◌, ◌^◌, ◌<◌, ◌≤◌, sym, ◌∙◌, ap, subst, arith}
-use Rattle.std.proofs.Common.{bit_and, bit_or}
-use Rattle.std.proofs.lemmas.Nat.{and_mask, pow_pos, pow-add, shl_whole, or_shifted}
+use Rattle.std.proofs.Common.{◌≡◌, ℕ, ◌+◌, ◌-◌, ◌*◌, ◌/◌, ◌%◌, ◌^◌, ◌<◌, ◌≤◌, sym, ◌∙◌, ap, subst, arith}
+use Rattle.std.proofs.Common.{bit_or}
+use Rattle.std.proofs.lemmas.Nat.{pow_pos, pow-add, shl_whole, or_shifted}
 use Rattle.std.proofs.lemmas.Nat.Bits.{ones_shr}
 use Rattle.std.proofs.Math.Pow.{mod-mod-pow}
-use Rattle.std.proofs.Math.Nat.{add-mul-mod_self_right}
+use Rattle.safl_word.proofs.Arith.{apart}
 
 -- the ones of a width
 pub greatest_is : (w : ℕ) → w ≤ 64 → (2 ^ 64 - 1) / 2 ^ (64 - w) ≡ 2 ^ w - 1
@@ -13,22 +13,11 @@ greatest_is w le =
     let o : (2 ^ 64 - 1) / 2 ^ (64 - w) ≡ 2 ^ (64 - (64 - w)) - 1 = ones_shr 64 (64 - w) (omega arith) in
     subst (λ k. (2 ^ 64 - 1) / 2 ^ (64 - w) ≡ 2 ^ k - 1) e o
 
-pub masked : (n m w : ℕ) → m ≡ 2 ^ w - 1 → bit_and n m ≡ n % 2 ^ w
-masked n m w e = rw e (and_mask n w)
-
 -- the low bits of what 64 bits hold of a number are its low bits
 pub low_of_low : (n w : ℕ) → w ≤ 64 → n % 2 ^ 64 % 2 ^ w ≡ n % 2 ^ w
 low_of_low n w le =
     let e : (64 - w) + w ≡ 64 = omega arith in
     subst (λ k. n % 2 ^ k % 2 ^ w ≡ n % 2 ^ w) e (mod-mod-pow n (64 - w) w)
-
--- a multiple of the modulus more makes no difference
-apart : (a b k m : ℕ) → b < m → 0 < k → (a + (k * m - b)) % m ≡ (m + a - b) % m
-apart a b zero m lt pos = absurd (omega arith)
-apart a b (suc k) m lt pos =
-    let s : suc k * m ≡ k * m + m = omega arith in
-    let e : a + (suc k * m - b) ≡ (m + a - b) + k * m = omega (arith, s) in
-    ap (λ n. n % m) e ∙ add-mul-mod_self_right (m + a - b) k m
 
 -- the low bits of a difference modulo 2 to the 64th
 pub low_of_difference : (a b w : ℕ) → w ≤ 64 → b < 2 ^ w → (a + (2 ^ 64 - b)) % 2 ^ 64 % 2 ^ w ≡ (2 ^ w + a - b) % 2 ^ w

@@ -2,6 +2,7 @@
 use Rattle.std.proofs.Common.{◌≡◌, ℕ, ◌⊎◌, inl, inr, List, [], ◌∷◌, ◌++◌, length, Option, Some, None, Bool, true, false, ◌==◌, nat_lt, refl, sym, ◌∙◌, ap, subst, arith, append_assoc}
 use Rattle.std.proofs.lemmas.Bool.{and_parts, ltb-true, ltb-false, eqb-true}
 use Rattle.std.specs.List.{list_all}
+use Rattle.std.proofs.lemmas.Option.{same_Some}
 use Rattle.safl_word.specs.Numerals.{is_digit, value, IsNumeral}
 use Rattle.safl_word.specs.Tokens.{begins_name, in_name, base_of, IsNameLike, SizedParts, sized_text, IsSizedLike}
 use Rattle.safl_word.specs.Limits.{name_max, digits_max, value_bound}
@@ -84,12 +85,9 @@ no_digit_follows letter base x b h l c [] v d n e = omega (arith, n.some)
 no_digit_follows letter base x b h l c (d ∷ digits) v g n e =
     let t = same_tail _ _ _ _ e in
     let i : letter ≡ l = same_head _ _ _ _ t in
-    let same_base : base ≡ c = some_same base c (sym b ∙ ap base_of i ∙ g) in
+    let same_base : base ≡ c = same_Some base c (sym b ∙ ap base_of i ∙ g) in
     fails (same_tail _ _ _ _ t) (subst (λ k. is_digit k d ≡ true) (sym same_base) (and_parts _ _ n.digits).0)
   where
-    some_same : (m n : ℕ) → Some m ≡ Some n → m ≡ n
-    some_same m n e = cc
-
     fails : x ≡ d ∷ (digits ++ v) → is_digit base d ≡ true → ⊥
     fails q t = let f : is_digit base d ≡ false = subst (EndsRun (is_digit base)) q h in cc
 

@@ -1,5 +1,5 @@
 -- A text is a token of at most one kind.
-use Rattle.std.proofs.Common.{◌≡◌, ℕ, ◌⊎◌, inl, inr, List, [], ◌∷◌, ◌++◌, length, refl, sym, ◌∙◌, ap, subst, arith}
+use Rattle.std.proofs.Common.{◌≡◌, ℕ, ◌⊎◌, inl, inr, List, [], ◌∷◌, length, refl, sym, ◌∙◌, ap, subst, arith}
 use Rattle.std.proofs.lemmas.Bool.{and_parts}
 use Rattle.std.proofs.lemmas.List.{append-nil}
 use Rattle.safl_word.specs.Numerals.{is_digit, value, IsNumeral}
@@ -21,40 +21,36 @@ token_like (kinds.Sized m n) w (s, h) = sized_like s h.joined h.like
 token_like (kinds.Key k) w h = name_like (subst IsNameLike (sym h) (key_like k))
 token_like (kinds.Sym s) w h = symbol_like s h
 
--- no two of the four shapes are one text's
-whole : (w : List ℕ) → w ++ [] ≡ w
-whole w = append-nil w
-
 pub name_number : (w : List ℕ) {A : Type 0} → IsNameLike w → IsNumeral 10 w → A
 name_number [] n h = absurd n
 name_number (c ∷ w) n h = name_digit c n.0 (and_parts _ _ h.digits).0
 
 pub name_sized : (w : List ℕ) (s : SizedParts) {A : Type 0} → IsNameLike w → w ≡ sized_text s → IsSizedLike s → A
 name_sized [] s n e h = absurd n
-name_sized (c ∷ w) s n e h = name_digit c n.0 (sized_head s [] c w h (whole (sized_text s) ∙ sym e))
+name_sized (c ∷ w) s n e h = name_digit c n.0 (sized_head s [] c w h (append-nil (sized_text s) ∙ sym e))
 
 pub name_symbol : (w : List ℕ) (s : Sym) {A : Type 0} → IsNameLike w → w ≡ sym_text s → A
 name_symbol [] s n e = absurd n
-name_symbol (c ∷ w) s n e = else_name c (sym_head s [] c w (whole (sym_text s) ∙ sym e)) n.0
+name_symbol (c ∷ w) s n e = else_name c (sym_head s [] c w (append-nil (sym_text s) ∙ sym e)) n.0
 
 pub number_symbol : (w : List ℕ) (s : Sym) {A : Type 0} → IsNumeral 10 w → w ≡ sym_text s → A
 number_symbol [] s n e = absurd (omega (arith, n.some))
-number_symbol (c ∷ w) s n e = else_digit c (sym_head s [] c w (whole (sym_text s) ∙ sym e)) (and_parts _ _ n.digits).0
+number_symbol (c ∷ w) s n e = else_digit c (sym_head s [] c w (append-nil (sym_text s) ∙ sym e)) (and_parts _ _ n.digits).0
 
 pub sized_symbol : (w : List ℕ) (t : SizedParts) (s : Sym) {A : Type 0} → w ≡ sized_text t → IsSizedLike t → w ≡ sym_text s → A
 sized_symbol [] t s q h e = absurd (omega (arith, sym_some s, ap length e))
-sized_symbol (c ∷ w) t s q h e = else_digit c (sym_head s [] c w (whole (sym_text s) ∙ sym e)) (sized_head t [] c w h (whole (sized_text t) ∙ sym q))
+sized_symbol (c ∷ w) t s q h e = else_digit c (sym_head s [] c w (append-nil (sym_text s) ∙ sym e)) (sized_head t [] c w h (append-nil (sized_text t) ∙ sym q))
 
 -- a numeral holds no `'`
 pub number_sized : (w : List ℕ) (s : SizedParts) {A : Type 0} → IsNumeral 10 w → w ≡ sized_text s → IsSizedLike s → A
 number_sized w s n e h =
-    let r = same_run (is_digit 10) w [] s.width (39 ∷ s.letter ∷ s.digits) n.digits h.width.digits tt refl (whole w ∙ e) in
+    let r = same_run (is_digit 10) w [] s.width (39 ∷ s.letter ∷ s.digits) n.digits h.width.digits tt refl (append-nil w ∙ e) in
     let k = r.1 in cc
 
 sizes_agree : (m n o p : ℕ) (w : List ℕ) (s t : SizedParts) → IsSized m n w s → IsSized o p w t → kinds.Sized m n ≡ kinds.Sized o p
 sizes_agree m n o p w s t a b =
-    let k = same_size s t [] [] a.like b.like (whole (sized_text s) ∙ sym a.joined ∙ b.joined ∙ sym (whole (sized_text t))) in
-    let d : s.digits ≡ t.digits = sym (whole s.digits) ∙ k.behind ∙ whole t.digits in
+    let k = same_size s t [] [] a.like b.like (append-nil (sized_text s) ∙ sym a.joined ∙ b.joined ∙ sym (append-nil (sized_text t))) in
+    let d : s.digits ≡ t.digits = sym (append-nil s.digits) ∙ k.behind ∙ append-nil t.digits in
     let x : m ≡ o = a.width_is ∙ ap (value 10) k.width ∙ sym b.width_is in
     let y : n ≡ p = a.value_is ∙ ap (λ c. value c s.digits) k.base ∙ ap (value t.base) d ∙ sym b.value_is in
     λ i. kinds.Sized (x i) (y i)
@@ -92,8 +88,8 @@ fits_passes base w h (inr p) = absurd (omega (arith, h.small))
 
 sized_too_long : (m n : ℕ) (w : List ℕ) (t s : SizedParts) {A : Type 0} → IsSized m n w t → w ≡ sized_text s → IsSizedLike s → Passes 10 s.width ⊎ Passes s.base s.digits → A
 sized_too_long m n w t s {A = A} h e k l =
-    let g = same_size t s [] [] h.like k (whole (sized_text t) ∙ sym h.joined ∙ e ∙ sym (whole (sized_text s))) in
-    let d : t.digits ≡ s.digits = sym (whole t.digits) ∙ g.behind ∙ whole s.digits in
+    let g = same_size t s [] [] h.like k (append-nil (sized_text t) ∙ sym h.joined ∙ e ∙ sym (append-nil (sized_text s))) in
+    let d : t.digits ≡ s.digits = sym (append-nil t.digits) ∙ g.behind ∙ append-nil s.digits in
     parts l (subst (λ x. Fits 10 x) g.width h.width_fits) (subst (λ x. Fits s.base x) d (subst (λ c. Fits c t.digits) g.base h.digits_fit))
   where
     parts : Passes 10 s.width ⊎ Passes s.base s.digits → Fits 10 s.width → Fits s.base s.digits → A

@@ -28,17 +28,6 @@ same_run p (c ∷ u) v (d ∷ w) rest a b g h e =
     let r = same_run p u v w rest (and_parts _ _ a).1 (and_parts _ _ b).1 g h t in
     (λ i. k i ∷ r.0 i, r.1)
 
--- two fronts of a text that are equally long are the same
-pub same_front : (u v w rest : List ℕ) → length u ≡ length w → u ++ v ≡ w ++ rest → (u ≡ w) × (v ≡ rest)
-same_front [] v [] rest l e = (refl, e)
-same_front [] v (d ∷ w) rest l e = absurd (omega arith)
-same_front (c ∷ u) v [] rest l e = absurd (omega arith)
-same_front (c ∷ u) v (d ∷ w) rest l e =
-    let t : u ++ v ≡ w ++ rest = cc in
-    let k : c ≡ d = cc in
-    let r = same_front u v w rest (omega arith) t in
-    (λ i. k i ∷ r.0 i, r.1)
-
 -- the run of bytes that pass, at the front of a text
 pub record Span (p : ℕ → Bool) (text : List ℕ) : Type 0 where
   pub front : List ℕ

@@ -1,7 +1,8 @@
 -- Sized numbers and symbols: where they end, and that their parts are known from the text.
-use Rattle.std.proofs.Common.{◌≡◌, ℕ, ◌≤◌, List, [], ◌∷◌, ◌++◌, length, Some, true, refl, sym, ◌∙◌, ap, subst, arith, length-append}
+use Rattle.std.proofs.Common.{◌≡◌, ℕ, ◌≤◌, List, [], ◌∷◌, ◌++◌, length, true, refl, sym, ◌∙◌, ap, subst, arith, length-append}
 use Rattle.std.proofs.lemmas.Bool.{and_parts}
 use Rattle.std.specs.List.{list_all}
+use Rattle.std.proofs.lemmas.Option.{same_Some}
 use Rattle.safl_word.specs.Numerals.{is_digit, IsNumeral}
 use Rattle.safl_word.specs.Tokens.{sym_text, base_of, IsNameLike, SizedParts, sized_text, IsSizedLike, name_like, number_like, sized_like, symbol_like, IsLongest}
 use Rattle.safl_word.specs.declared.token.Sym.{Sym}
@@ -16,9 +17,6 @@ pub record SameSize (s t : SizedParts) (v rest : List ℕ) : Type 0 where
   pub base : s.base ≡ t.base
   pub behind : s.digits ++ v ≡ t.digits ++ rest
 
-some_same : (m n : ℕ) → Some m ≡ Some n → m ≡ n
-some_same m n e = cc
-
 pub same_size : (s t : SizedParts) (v rest : List ℕ) → IsSizedLike s → IsSizedLike t → sized_text s ++ v ≡ sized_text t ++ rest → SameSize s t v rest
 same_size s t v rest h k e =
     let e' : s.width ++ (39 ∷ s.letter ∷ (s.digits ++ v)) ≡ t.width ++ (39 ∷ t.letter ∷ (t.digits ++ rest)) = sym (sized_parts s v) ∙ e ∙ sized_parts t rest in
@@ -28,7 +26,7 @@ same_size s t v rest h k e =
     record {
       width = r.0;
       letter = l;
-      base = some_same s.base t.base (sym h.based ∙ ap base_of l ∙ k.based);
+      base = same_Some s.base t.base (sym h.based ∙ ap base_of l ∙ k.based);
       behind = same_tail _ _ _ _ b;
     }
 

@@ -1,5 +1,5 @@
 -- A text has its tokens, or its first lexical fault, and either once.
-use Rattle.std.proofs.Common.{◌≡◌, ◌≢◌, ◌↔◌, ℕ, zero, suc, ◌≤◌, List, [], ◌∷◌, ◌++◌, length, refl, sym, ◌∙◌, ap, subst, arith, append_assoc, length-append}
+use Rattle.std.proofs.Common.{◌≡◌, ◌↔◌, ℕ, zero, suc, ◌≤◌, List, [], ◌∷◌, ◌++◌, length, refl, sym, ◌∙◌, ap, subst, arith, append_assoc, length-append}
 use Rattle.std.proofs.lemmas.List.{append-nil}
 use Rattle.safl_word.specs.Tokens.{Piece, Blank, Comment, Lexeme, text_of, text_of_all, StandsBefore, tokens_from, HasTokens, BreaksAtFirst, HasLexicalFault}
 use Rattle.safl_word.specs.declared.token.Token.{Token}
@@ -8,6 +8,7 @@ use Rattle.safl_word.proofs.Cuts.{none_at_end, none_at_fault, cuts_agree, rules_
 use Rattle.safl_word.proofs.OneKind.{token_like}
 use Rattle.safl_word.proofs.Next.{Next, goes_on, breaks}
 use Rattle.safl_word.proofs.Fronts.{next}
+use Rattle.safl_word.proofs.Lists.{not_empty}
 
 pub tokens_once : (text : List ℕ) (ts us : List Token) → HasTokens text ts → HasTokens text us → ts ≡ us
 tokens_once text ts us a b =
@@ -61,11 +62,7 @@ at_end = tokens_of [] (record { pieces = []; joined = refl; stand = tt; tokens =
 piece_some : (x : Piece) (rest : List ℕ) → StandsBefore x rest → 1 ≤ length (text_of x)
 piece_some (Blank c) rest s = omega arith
 piece_some (Comment w) rest s = omega arith
-piece_some (Lexeme k w) rest s = some w (token_some w (token_like k w s.0))
-  where
-    some : (w : List ℕ) → w ≢ [] → 1 ≤ length w
-    some [] f = absurd (f refl)
-    some (c ∷ w) f = omega arith
+piece_some (Lexeme k w) rest s = not_empty w (token_some w (token_like k w s.0))
 
 outcome_within : (n : ℕ) (text : List ℕ) → length text ≤ n → Outcome text
 outcome_within n [] l = at_end

@@ -39,10 +39,10 @@ shifts_out a b le =
       ap (λ t. record { width = a.width; bits = cond t (a.bits / 2 ^ b.bits) 0 }) f,
     )
 
-one_digit : (n : ℕ) → n < 10 → is_digit 10 (48 + n) ≡ true
+pub one_digit : (n : ℕ) → n < 10 → is_digit 10 (48 + n) ≡ true
 one_digit n lt = grind (arith, nat_tests)
 
-digit_is : (n : ℕ) → n < 10 → digit (48 + n) ≡ n
+pub digit_is : (n : ℕ) → n < 10 → digit (48 + n) ≡ n
 digit_is n lt = grind (arith, nat_tests)
 
 one_value : (n : ℕ) → n < 10 → value 10 ((48 + n) ∷ []) ≡ n

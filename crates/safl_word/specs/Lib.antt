@@ -10,3 +10,5 @@ pub mod TokenLaws
 pub mod Spacing
 pub mod Halves
 pub mod Narrow
+pub mod Lists
+pub mod Naturals

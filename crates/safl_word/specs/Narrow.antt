@@ -1,9 +1,5 @@
 -- Narrow words: of at most 64 bits.
 use Rattle.std.specs.Prelude.{ℕ, ◌≤◌, Option, None, Some}
-use Rattle.safl_word.specs.Words.{Word}
-
-abbrev pub word_of : ℕ → ℕ → Word
-word_of width bits = record { width = width; bits = bits }
 
 -- there is a width, and it is at most 64 bits
 abbrev pub HasLow : Option ℕ → Type 0

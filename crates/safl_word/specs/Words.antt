@@ -1,5 +1,5 @@
 -- Words: a width, and a number below 2 to that width.
-use Rattle.std.specs.Prelude.{ℕ, zero, suc, ◌≤◌, ◌<◌, ◌^◌, List, [], ◌∷◌, get_or}
+use Rattle.std.specs.Prelude.{ℕ, zero, suc, ◌≤◌, ◌<◌, ◌^◌, List, [], ◌∷◌, get_or, map}
 use Rattle.safl_word.specs.Limits.{width_max}
 
 pub record Word : Type 0 where
@@ -32,3 +32,9 @@ choose u a b = pick u.bits a b
 
 abbrev pub slot : List Word → ℕ → Word
 slot env i = get_or env i no_word
+
+abbrev pub as_word : ℕ → ℕ → Word
+as_word width bits = record { width = width; bits = bits }
+
+abbrev pub widths : List Word → List ℕ
+widths vs = map (λ v. v.width) vs

@@ -3,7 +3,8 @@
 ghost use Rattle.std.specs.Prelude.{◌≡◌, ◌+◌, ◌-◌, ◌*◌, ◌/◌, ◌%◌, ◌^◌, ◌<◌, ◌≤◌, [], ◌∷◌, cond, nat_lt};
 ghost use Rattle.safl_word.specs.Words.{IsWord};
 ghost use Rattle.safl_word.specs.Primitives.{result_width, apply_prim, bit_of};
-ghost use Rattle.safl_word.specs.Narrow.{word_of, HasLow};
+ghost use Rattle.safl_word.specs.Narrow.{HasLow};
+ghost use Rattle.safl_word.specs.Words.{as_word};
 
 use crate::primitive::Primitive;
 
@@ -13,10 +14,10 @@ pub const LOW_MAX: u8 = 64;
 /// The result of a primitive on a word of this width.
 #[inline(always)]
 pub fn narrow_one(p: Primitive, width: u8, a: u64) -> u64
-    requires word { IsWord (word_of width a) }
+    requires word { IsWord (as_word width a) }
     requires narrow { width ≤ 64 }
     requires some { HasLow (result_width p (width ∷ [])) }
-    ensures { result ≡ (apply_prim p (word_of width a ∷ [])).bits }
+    ensures { result ≡ (apply_prim p (as_word width a ∷ [])).bits }
 {
     match p {
         Primitive::Not => greatest(width) - a,
@@ -29,11 +30,11 @@ pub fn narrow_one(p: Primitive, width: u8, a: u64) -> u64
 /// The result of a primitive on two words of these widths.
 #[inline(always)]
 pub fn narrow_two(p: Primitive, width: u8, other: u8, a: u64, b: u64) -> u64
-    requires first { IsWord (word_of width a) }
-    requires second { IsWord (word_of other b) }
+    requires first { IsWord (as_word width a) }
+    requires second { IsWord (as_word other b) }
     requires narrow { width ≤ 64 }
     requires some { HasLow (result_width p (width ∷ other ∷ [])) }
-    ensures { result ≡ (apply_prim p (word_of width a ∷ word_of other b ∷ [])).bits }
+    ensures { result ≡ (apply_prim p (as_word width a ∷ as_word other b ∷ [])).bits }
 {
     match p {
         Primitive::Add => sum(width, a, b),

@@ -1,5 +1,6 @@
 use Rattle.std.proofs.Common.{◌≡◌}
-use Rattle.safl_aig.specs.Bits.{gathered, of_kind, is_register}
+use Rattle.safl_net.specs.Netlist.{is_register}
+use Rattle.safl_aig.specs.Bits.{gathered, of_kind}
 use Rattle.safl_aig.specs.Tables.{lits_at}
 use Rattle.safl_aig.specs.Places.{next_sig}
 use Rattle.safl_aig.proofs.places.next_lits.Given as goal

@@ -1,8 +1,9 @@
 use Rattle.std.proofs.Common.{◌+◌, length, ap, ◌∙◌, arith}
 use Rattle.std.proofs.lemmas.List.{length_push}
-use Rattle.safl_aig.specs.Bits.{is_input, is_register}
+use Rattle.safl_word.proofs.Lists.{summed_more}
+use Rattle.safl_net.specs.Netlist.{is_input, is_register}
 use Rattle.safl_aig.specs.Tables.{width_if}
-use Rattle.safl_aig.proofs.Sources.{bits_step, summed_more, pushed_lits}
+use Rattle.safl_aig.proofs.Sources.{bits_step, pushed_lits}
 use Rattle.safl_aig.proofs.table.sources.Goals as goal
 
 pub source-requires-clause-inputs_few : goal.source-requires-clause-inputs_few

@@ -1,5 +1,5 @@
 use Rattle.std.proofs.Common.{◌≡◌, ℕ, ◌+◌, ◌<◌, length}
-use Rattle.safl_aig.specs.Bits.{is_input, is_register}
+use Rattle.safl_net.specs.Netlist.{is_input, is_register}
 use Rattle.safl_aig.specs.Tables.{lits_at, source_lits, bits_before, input_count}
 use Rattle.safl_aig.proofs.table.sources.Given as goal
 

@@ -1,5 +1,5 @@
 use Rattle.std.proofs.Common.{◌≡◌, ◌*◌, ◌≤◌}
-use Rattle.safl_aig.specs.Bits.{summed}
+use Rattle.safl_word.specs.Lists.{summed}
 use Rattle.safl_aig.specs.Weights.{signal_weight}
 use Rattle.safl_aig.proofs.weights.signals_weight.Given as goal
 

@@ -1,11 +1,13 @@
 use Rattle.std.proofs.Common.{◌≡◌, ◌+◌, ◌<◌, ◌≤◌, Some, length, slice_get, sym, subst, ap, ◌∙◌, arith}
 use Rattle.safl_net.specs.Making.{numbers}
+use Rattle.safl_net.proofs.Keeping.{numbers_length}
 use Rattle.safl_order.specs.Order.{IsOrder}
+use Rattle.safl_order.proofs.Moves.{wire_in_net}
 use Rattle.safl_aig.specs.Weights.{weight}
 use Rattle.safl_aig.specs.Tables.{first_and, input_count, latch_count}
 use Rattle.safl_aig.specs.Wiring.{OperandsReady, WireMade, Connected}
 use Rattle.safl_aig.proofs.Cells.{sig}
-use Rattle.safl_aig.proofs.Connecting.{first_light, wire_known, operands_ready, wire_room, underway_start, underway_step, underway_end, numbers_at, numbers_long}
+use Rattle.safl_aig.proofs.Connecting.{first_light, operands_ready, wire_room, underway_start, underway_step, underway_end, numbers_at}
 use Rattle.safl_aig.proofs.wiring.connect.Goals as goal
 
 pub sources-requires-clause-few : goal.sources-requires-clause-few
@@ -68,7 +70,7 @@ wire_bits-requires-clause-wire c =
     let i = c.wires.i in
     let s = (sig c.wires-wires.result.now i).0 in
     let here : slice_get ws i ≡ Some s = numbers_at c.wires-wires.result.now i c.wires-test.true in
-    let inside : i < length ws = let k = numbers_long c.wires-wires.result.now in let t = c.wires-test.true in omega (arith, k, t) in
+    let inside : i < length ws = let k = numbers_length c.wires-wires.result.now in let t = c.wires-test.true in omega (arith, k, t) in
     let made = c.signals-count.ensures.netlist in
     let old = c.wires.invariant in
     let table = c.wires.table.items in
@@ -88,7 +90,7 @@ wire_bits-requires-clause-room c =
     let i = c.wires.i in
     let s = (sig c.wires-wires.result.now i).0 in
     let here : slice_get ws i ≡ Some s = numbers_at c.wires-wires.result.now i c.wires-test.true in
-    let inside : i < length ws = let k = numbers_long c.wires-wires.result.now in let t = c.wires-test.true in omega (arith, k, t) in
+    let inside : i < length ws = let k = numbers_length c.wires-wires.result.now in let t = c.wires-test.true in omega (arith, k, t) in
     let made = c.signals-count.ensures.netlist in
     let old = c.wires.invariant in
     let table = c.wires.table.items in
@@ -108,7 +110,7 @@ wire_bits-requires-clause-ready c =
     let i = c.wires.i in
     let s = (sig c.wires-wires.result.now i).0 in
     let here : slice_get ws i ≡ Some s = numbers_at c.wires-wires.result.now i c.wires-test.true in
-    let inside : i < length ws = let k = numbers_long c.wires-wires.result.now in let t = c.wires-test.true in omega (arith, k, t) in
+    let inside : i < length ws = let k = numbers_length c.wires-wires.result.now in let t = c.wires-test.true in omega (arith, k, t) in
     let made = c.signals-count.ensures.netlist in
     let old = c.wires.invariant in
     let table = c.wires.table.items in
@@ -128,13 +130,13 @@ index_mut-requires c =
     let i = c.wires.i in
     let s = (sig c.wires-wires.result.now i).0 in
     let here : slice_get ws i ≡ Some s = numbers_at c.wires-wires.result.now i c.wires-test.true in
-    let inside : i < length ws = let k = numbers_long c.wires-wires.result.now in let t = c.wires-test.true in omega (arith, k, t) in
+    let inside : i < length ws = let k = numbers_length c.wires-wires.result.now in let t = c.wires-test.true in omega (arith, k, t) in
     let made = c.signals-count.ensures.netlist in
     let old = c.wires.invariant in
     let table = c.wires.table.items in
     let g = c.wires.graph in
     let d = c.deref.ensures.value in
-    let k = wire_known n s (order.wires i s here) in
+    let k = wire_in_net n s (order.wires i s here) in
     let l = c.wires.table.ok.0 in
     omega (arith, k, l, old.long)
 
@@ -150,7 +152,7 @@ wires-preserved c =
     let i = c.wires.i in
     let s = (sig c.wires-wires.result.now i).0 in
     let here : slice_get ws i ≡ Some s = numbers_at c.wires-wires.result.now i c.wires-test.true in
-    let inside : i < length ws = let k = numbers_long c.wires-wires.result.now in let t = c.wires-test.true in omega (arith, k, t) in
+    let inside : i < length ws = let k = numbers_length c.wires-wires.result.now in let t = c.wires-test.true in omega (arith, k, t) in
     let made = c.signals-count.ensures.netlist in
     let old = c.wires.invariant in
     let table = c.wires.table.items in
@@ -169,5 +171,5 @@ returns c =
     let ws = numbers c.wires-wires.result.now in
     let order : IsOrder n ws = subst (λ x. IsOrder x ws) (sym q) (subst (λ x. IsOrder c.args.o.now.net x) (sym c.wires-wires.ensures.wires) c.wires-wires.ensures.order) in
     let i = c.wires.i in
-    let last : i ≡ length ws = let k = numbers_long c.wires-wires.result.now in let t = c.wires-test.false in let u = c.wires.auto.i-end in omega (arith, k, t, u) in
+    let last : i ≡ length ws = let k = numbers_length c.wires-wires.result.now in let t = c.wires-test.false in let u = c.wires.auto.i-end in omega (arith, k, t, u) in
     subst (λ x. Connected x c.wires.graph c.wires.table.items) q (underway_end n ws c.wires.graph c.wires.table.items i order last c.wires.invariant)

@@ -1,7 +1,8 @@
 use Rattle.safl_net.proofs.Growth.{sized_fits}
 use Rattle.std.proofs.Common.{length}
+use Rattle.safl_net.proofs.Kinds.{one_more}
 use Rattle.safl_bench.specs.Bits.{ones}
-use Rattle.safl_bench.proofs.Wires.{sized, made_bits, one_more, last_in, same_outputs}
+use Rattle.safl_bench.proofs.Wires.{sized, made_bits, last_in, same_outputs}
 use Rattle.safl_bench.proofs.random_nets.wire.Goals as goal
 
 pub temp-requires-clause-fits : goal.temp-requires-clause-fits

@@ -1,5 +1,6 @@
 use Rattle.std.proofs.Common.{[], ◌∷◌}
-use Rattle.safl_bench.proofs.Growing.{kept, chosen, mux_width}
+use Rattle.safl_net.proofs.Kinds.{mux_width}
+use Rattle.safl_bench.proofs.Growing.{kept, chosen}
 use Rattle.safl_bench.proofs.turns.choose.Goals as goal
 
 pub wire-requires-clause-fits : goal.wire-requires-clause-fits

@@ -1,5 +1,5 @@
 use Rattle.std.proofs.Common.{◌≡◌, take}
-use Rattle.safl_evaluate.specs.Evaluating.{widths}
+use Rattle.safl_word.specs.Words.{widths}
 use Rattle.safl_core.proofs.make.fits.Given as goal
 
 abbrev pub invariant-loop-i : goal.invariant-loop-i

@@ -15,9 +15,9 @@ use Rattle.safl_evaluate.specs.Laying.{body_at}
 use Rattle.safl_evaluate.specs.Stages.{back_at}
 use Rattle.safl_evaluate.proofs.AnswersByParts.{answer_is}
 use Rattle.safl_evaluate.proofs.AsksAlong.{asks_none}
-use Rattle.safl_core.proofs.KeptAtFirst.{widths_long}
 use Rattle.safl_core.proofs.KeptByRefresh.{body_can}
 use Rattle.safl_evaluate.proofs.Refilled.{refilled, refilled_long}
+use Rattle.safl_evaluate.proofs.RunsByParts.{widths_len}
 use Rattle.safl_core.proofs.RemembersByUnits as unit
 use Rattle.safl_core.proofs.refresh.evaluated.Goals as goal
 
@@ -29,7 +29,7 @@ fill-slots-requires c =
     let member = c.requires.can.member _ _ _ (sym (ap (λ (x : List Mode). unit_at x c.args.u) c.deref.ensures.value) ∙ c.in-Some.ensures.runs.1) in
     let given = ap (λ (l : List ℕ). length l) member.2 in
     let env = ap (λ (l : List Word). length l) c.deref_mut.ensures.value in
-    omega (arith, c.requires.can.sized.room c.in-Some.f member.1, given, widths_long c.in-Some.args.now, ap (λ (l : List Word). length l) c.words.ensures.words, env)
+    omega (arith, c.requires.can.sized.room c.in-Some.f member.1, given, widths_len c.in-Some.args.now, ap (λ (l : List Word). length l) c.words.ensures.words, env)
 
 pub index-at-requires : goal.index-at-requires
 index-at-requires c =
@@ -56,7 +56,7 @@ evaluate-requires c =
       arith,
       c.requires.can.sized.room f member.1,
       given,
-      widths_long args,
+      widths_len args,
       c.fill-slots.ensures.count,
       ap (λ (l : List Word). length l) words,
       c.fill-slots.auto.env,

@@ -1,12 +1,13 @@
 use Rattle.std.proofs.Common.{rules, ◌≡◌, ◌+◌, ◌<◌, ◌*◌, List, length, take, drop, ◌∷◌, [], slice_set, refl, sym, ap, ◌∙◌, arith}
+use Rattle.std.proofs.lemmas.List.{nil_from_length}
 use Rattle.safl_term.specs.Sizes.{nodes, nodes_in}
 use Rattle.safl_term.specs.Tree.{shown_term, shown_terms}
 use Rattle.safl_term.specs.declared.term.Term as declared
 use Rattle.safl_term.proofs.PlainTrees.{shown_term-Op, shown_term-Let}
-use Rattle.safl_sites.proofs.NodesOfTerms.{some_node, empty_list}
+use Rattle.safl_term.proofs.PlainTerms.{if_by, let_by, op_by, some_nodes}
 use Rattle.safl_evaluate.specs.Stages.{back_at}
 use Rattle.safl_evaluate.proofs.AnswersByParts as step
-use Rattle.safl_evaluate.proofs.AnswersByParts.{if_by, let_by, op_by, forest_nodes, one_item, two_items}
+use Rattle.safl_evaluate.proofs.AnswersByParts.{forest_nodes, one_item, two_items}
 use Rattle.safl_evaluate.proofs.PlainByParts as part
 use Rattle.safl_evaluate.proofs.PlainByParts.{compute_is, compute_all_is, comes_is, come_is, come_with}
 use Rattle.safl_evaluate.proofs.RunsByParts as may
@@ -201,7 +202,7 @@ values-values-requires t c =
     let long = ap (λ (x : List declared.Term). length x) e in
     let smaller : 3 * nodes_in (shown_terms c.in-Some.rest.now) + 2 < 3 * nodes_in (shown_terms c.args.ts.now) + 2 = omega (
       arith,
-      some_node
+      some_nodes
           (shown_term c.in-Some.first.now),
       size,
     ) in (
@@ -223,5 +224,5 @@ values-returns-clause-words t c =
 
 pub values-returns-in_default-clause-words : goal.values-returns-in_default-clause-words
 values-returns-in_default-clause-words t c =
-    let e : c.args.ts.now ≡ [] = empty_list c.args.ts.now c.in_default.ensures.cases in
+    let e : c.args.ts.now ≡ [] = nil_from_length c.args.ts.now c.in_default.ensures.cases in
     come_is refl (ap shown_terms e) (come_with (ap (λ (x : List declared.Term). take (length x) (drop c.args.to c.args.env.now)) (sym e)) part.come_nil)

@@ -4,8 +4,9 @@ use Rattle.safl_term.specs.Readiness.{LoopTo}
 use Rattle.safl_term.specs.Sizes.{nodes}
 use Rattle.safl_term.specs.Tree.{shown_term, shown_terms}
 use Rattle.safl_term.proofs.PlainTrees.{shown_term-Op, shown_term-Loop, shown_term-Let}
+use Rattle.safl_term.proofs.PlainTerms.{if_by, let_by}
 use Rattle.safl_evaluate.proofs.AnswersByParts as step
-use Rattle.safl_evaluate.proofs.AnswersByParts.{if_by, let_by, loop_by, forest_nodes}
+use Rattle.safl_evaluate.proofs.AnswersByParts.{loop_by, forest_nodes}
 use Rattle.safl_evaluate.proofs.PlainByParts as part
 use Rattle.safl_evaluate.proofs.PlainByParts.{conclude_is, comes_is, concludes_is}
 use Rattle.safl_evaluate.proofs.RunsByParts as may

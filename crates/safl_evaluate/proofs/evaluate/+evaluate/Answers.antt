@@ -4,7 +4,7 @@ use Rattle.safl_term.specs.Readiness.{answer, ready_from, word_of, Ready}
 use Rattle.safl_term.specs.Sizes.{nodes}
 use Rattle.safl_term.specs.Tree.{shown_term, shown_terms}
 use Rattle.safl_term.proofs.PlainTrees.{shown_term-Op, shown_term-Call, shown_term-Loop, shown_term-Let}
-use Rattle.safl_sites.proofs.NodesOfTerms.{some_node}
+use Rattle.safl_term.proofs.PlainTerms.{if_by, let_by, some_nodes}
 use Rattle.safl_evaluate.specs.Laying.{place}
 use Rattle.safl_evaluate.specs.Plain.{plain_body}
 use Rattle.safl_evaluate.specs.Stages.{back_at}
@@ -12,7 +12,7 @@ use Rattle.safl_evaluate.proofs.AsksAlong.{asks_none, asks_both}
 use Rattle.safl_evaluate.proofs.PlainByParts.{says, anew_is, anew_as}
 use Rattle.safl_evaluate.proofs.RunsByParts as may
 use Rattle.safl_evaluate.proofs.AnswersByParts as step
-use Rattle.safl_evaluate.proofs.AnswersByParts.{if_by, let_by, loop_by, answer_is, forest_nodes}
+use Rattle.safl_evaluate.proofs.AnswersByParts.{loop_by, answer_is, forest_nodes}
 use Rattle.safl_evaluate.proofs.LooksByParts as part
 use Rattle.safl_evaluate.proofs.LooksByParts.{look_is, look_at, look_all_at}
 use Rattle.safl_evaluate.proofs.LooksWhole as whole
@@ -22,10 +22,10 @@ use Rattle.safl_evaluate.proofs.evaluate.+evaluate.Goals as goal
 -- ---- a plain body
 
 pub is_plain_body_at-requires : goal.is_plain_body_at-requires
-is_plain_body_at-requires t c = omega (arith, c.requires.places, some_node (shown_term c.args.t.now))
+is_plain_body_at-requires t c = omega (arith, c.requires.places, some_nodes (shown_term c.args.t.now))
 
 pub keep_told-requires : goal.keep_told-requires
-keep_told-requires t c = omega (arith, c.requires.cells, some_node (shown_term c.args.t.now))
+keep_told-requires t c = omega (arith, c.requires.cells, some_nodes (shown_term c.args.t.now))
 
 pub conclude-requires : goal.conclude-requires
 conclude-requires t c = part.may_conclude c.requires (says c.is_plain_body_at.ensures c.requires.laid.0.body c.if-is_plain_body_at.true)
@@ -37,7 +37,7 @@ pub returns-then-is_plain_body_at-clause-finds : goal.returns-then-is_plain_body
 returns-then-is_plain_body_at-clause-finds t c =
     finds_with (sym (whole.opened_word (word_of c.conclude.new.told)))
     (whole.finds_kept (whole.looks_concluded c.conclude.ensures (says c.is_plain_body_at.ensures c.requires.laid.0.body c.if-is_plain_body_at.true))
-    (omega (arith, c.requires.cells, some_node (shown_term c.args.t.now))) c.keep_told.ensures)
+    (omega (arith, c.requires.cells, some_nodes (shown_term c.args.t.now))) c.keep_told.ensures)
 
 -- ---- conditions
 
@@ -105,7 +105,7 @@ returns-then-bits-eq1-clause-finds t c =
     let slots = ap (λ (i : ℕ). take i c.operand.new.env) c.branch-second.ensures.slots ∙ kept in
     let looks = whole.looks_then c.operand.new.word h fc (sym c.bits.ensures.value ∙ c.if-bits-eq1.true) slots (c.branch-second.ensures.at ∙ part.after_condition h) c.evaluate.ensures.finds in
     finds_is shape (finds_with (sym (whole.opened_word (word_of c.evaluate.new.told)))
-    (whole.finds_kept looks (omega (arith, c.requires.cells, some_node (shown_term c.args.t.now), c.operand.auto.kept, c.evaluate.auto.kept))
+    (whole.finds_kept looks (omega (arith, c.requires.cells, some_nodes (shown_term c.args.t.now), c.operand.auto.kept, c.evaluate.auto.kept))
     c.keep_told-then-bits-eq1.ensures))
 
 pub returns-else-bits-eq1-clause-answer : goal.returns-else-bits-eq1-clause-answer
@@ -134,7 +134,7 @@ returns-else-bits-eq1-clause-finds t c =
     (whole.finds_kept looks (omega (
       arith,
       c.requires.cells,
-      some_node (shown_term c.args.t.now),
+      some_nodes (shown_term c.args.t.now),
       c.operand.auto.kept,
       c.evaluate-else-bits-eq1.auto.kept,
     )) c.keep_told-else-bits-eq1.ensures))
@@ -153,7 +153,7 @@ returns-else-operand-clause-finds t c =
     let h = look_is shape c.requires in
     let fc = whole.finds_slots c.part.ensures.slots c.part.ensures.at c.if-operand.ensures.finds in
     finds_is shape (finds_with (ap word_of c.settle-else-operand.ensures)
-    (whole.finds_kept (whole.looks_shut h fc) (omega (arith, c.requires.cells, some_node (shown_term c.args.t.now), c.operand.auto.kept)) c.shut.ensures))
+    (whole.finds_kept (whole.looks_shut h fc) (omega (arith, c.requires.cells, some_nodes (shown_term c.args.t.now), c.operand.auto.kept)) c.shut.ensures))
 
 -- ---- bindings
 
@@ -230,7 +230,7 @@ returns-then-values-clause-finds t c =
     (whole.finds_kept looks (omega (
       arith,
       c.requires.cells,
-      some_node (shown_term c.args.t.now),
+      some_nodes (shown_term c.args.t.now),
       c.values.auto.kept,
       c.evaluate-then-values.auto.kept,
     )) c.keep_told-then-values.ensures))
@@ -254,7 +254,7 @@ returns-else-values-clause-finds t c =
     (c.after-bindings.ensures.at ∙ (ap (λ (i : ℕ). (place c.args.facts.now.places.now i).next) c.part-in-Let.ensures.at ∙ part.after_body h))
     c.if-values.ensures.finds in
     finds_is shape (finds_with (ap word_of c.settle-else-values.ensures)
-    (whole.finds_kept (whole.looks_let_shut h fs) (omega (arith, c.requires.cells, some_node (shown_term c.args.t.now), c.values.auto.kept))
+    (whole.finds_kept (whole.looks_let_shut h fs) (omega (arith, c.requires.cells, some_nodes (shown_term c.args.t.now), c.values.auto.kept))
     c.shut-else-values.ensures))
 
 -- ---- tail calls
@@ -305,7 +305,7 @@ returns-then-values-2-clause-finds t c =
     let shape = loop_by c.in-Loop.h (ap shown_term c.in-Loop.is ∙ shown_term-Loop c.in-Loop.h c.in-Loop.ts) (ap shown_terms c.as_slice-passed.ensures.value) in
     let fs = whole.finds_all_slots c.part-in-Loop.ensures.slots c.part-in-Loop.ensures.at c.if-values-2.ensures.finds in
     finds_is shape (finds_with (ap word_of c.pass.ensures) (whole.finds_kept (whole.looks_loop {l = c.in-Loop.h} fs)
-    (omega (arith, c.requires.cells, some_node (shown_term c.args.t.now), c.values-in-Loop.auto.kept)) c.shut-then-values-2.ensures))
+    (omega (arith, c.requires.cells, some_nodes (shown_term c.args.t.now), c.values-in-Loop.auto.kept)) c.shut-then-values-2.ensures))
 
 pub returns-else-values-2-clause-answer : goal.returns-else-values-2-clause-answer
 returns-else-values-2-clause-answer t c =
@@ -321,7 +321,7 @@ returns-else-values-2-clause-finds t c =
     let fs = whole.finds_all_slots c.part-in-Loop.ensures.slots c.part-in-Loop.ensures.at c.if-values-2.ensures.finds in
     finds_is shape (finds_with (ap word_of c.settle-else-values-2.ensures)
     (whole.finds_kept (whole.looks_loop {l = c.in-Loop.h} fs)
-    (omega (arith, c.requires.cells, some_node (shown_term c.args.t.now), c.values-in-Loop.auto.kept)) c.shut-else-values-2.ensures))
+    (omega (arith, c.requires.cells, some_nodes (shown_term c.args.t.now), c.values-in-Loop.auto.kept)) c.shut-else-values-2.ensures))
 
 -- ---- words
 

@@ -1,4 +1,5 @@
 use Rattle.std.proofs.Common.{rules, ◌≡◌, ℕ, ◌+◌, ◌<◌, ◌*◌, List, length, take, drop, cond, Some, None, Bool, ◌∷◌, [], slice_set, refl, sym, ap, ◌∙◌, subst, arith}
+use Rattle.std.proofs.lemmas.List.{nil_from_length}
 use Rattle.safl_word.specs.Words.{Word}
 use Rattle.safl_term.specs.Readiness.{word_of}
 use Rattle.safl_term.specs.Sizes.{nodes, nodes_in}
@@ -6,13 +7,13 @@ use Rattle.safl_term.specs.Terms as plain
 use Rattle.safl_term.specs.Tree.{shown_term, shown_terms}
 use Rattle.safl_term.specs.declared.term.Term as declared
 use Rattle.safl_term.proofs.PlainTrees.{shown_term-Op, shown_term-Loop, shown_term-Call, shown_term-Let}
-use Rattle.safl_sites.proofs.NodesOfTerms.{some_node, empty_list}
+use Rattle.safl_term.proofs.PlainTerms.{if_by, let_by, op_by, some_nodes}
 use Rattle.safl_evaluate.specs.Asking.{Asks}
 use Rattle.safl_evaluate.specs.Stages.{back_at}
 use Rattle.safl_evaluate.specs.declared.wants.Wants.{Wants}
 use Rattle.safl_evaluate.proofs.AsksAlong.{asks_none, asks_both, asks_one}
 use Rattle.safl_evaluate.proofs.AnswersByParts as step
-use Rattle.safl_evaluate.proofs.AnswersByParts.{if_by, let_by, op_by, call_by, loop_by, forest_nodes, one_item, two_items}
+use Rattle.safl_evaluate.proofs.AnswersByParts.{call_by, loop_by, forest_nodes, one_item, two_items}
 use Rattle.safl_evaluate.proofs.LooksByParts as part
 use Rattle.safl_evaluate.proofs.LooksByParts.{look_is, look_all_is, look_at, look_all_at}
 use Rattle.safl_evaluate.proofs.LooksWhole as whole
@@ -26,7 +27,7 @@ use Rattle.safl_evaluate.proofs.evaluate.+find.Goals.{look-then-values-2, look-e
 -- ---- a term that is passed over, and one that is looked at
 
 pub find-is_skipped-requires : goal.find-is_skipped-requires
-find-is_skipped-requires t c = omega (arith, c.requires.places, some_node (shown_term c.args.t.now))
+find-is_skipped-requires t c = omega (arith, c.requires.places, some_nodes (shown_term c.args.t.now))
 
 pub find-returns-then-is_skipped-clause-finds : goal.find-returns-then-is_skipped-clause-finds
 find-returns-then-is_skipped-clause-finds t c =
@@ -38,19 +39,19 @@ pub find-returns-clause-finds : goal.find-returns-clause-finds
 find-returns-clause-finds t c =
     finds_with (whole.kept_word c.look-found.new.word c.look-found.result c.keep.result c.keep.ensures.ready)
     (whole.finds_kept (whole.looks_slots c.anew.ensures.slots c.anew.ensures.at c.look-found.ensures.looks)
-    (omega (arith, c.requires.cells, some_node (shown_term c.args.t.now), c.look-found.auto.kept)) c.keep.ensures.kept)
+    (omega (arith, c.requires.cells, some_nodes (shown_term c.args.t.now), c.look-found.auto.kept)) c.keep.ensures.kept)
 
 pub find-returns-clause-kept : goal.find-returns-clause-kept
 find-returns-clause-kept t c = part.kept_at c.args.env.now c.look-found.new.env c.anew.ensures.slots c.look-found.ensures.kept
 
 pub find-is_plain_at-requires : goal.find-is_plain_at-requires
-find-is_plain_at-requires t c = omega (arith, c.requires.places, some_node (shown_term c.args.t.now))
+find-is_plain_at-requires t c = omega (arith, c.requires.places, some_nodes (shown_term c.args.t.now))
 
 pub find-anew-requires : goal.find-anew-requires
-find-anew-requires t c = omega (arith, c.requires.places, some_node (shown_term c.args.t.now))
+find-anew-requires t c = omega (arith, c.requires.places, some_nodes (shown_term c.args.t.now))
 
 pub find-compute_and_keep-requires-clause-at : goal.find-compute_and_keep-requires-clause-at
-find-compute_and_keep-requires-clause-at t c = omega (arith, c.requires.cells, some_node (shown_term c.args.t.now))
+find-compute_and_keep-requires-clause-at t c = omega (arith, c.requires.cells, some_nodes (shown_term c.args.t.now))
 
 pub find-compute_and_keep-requires-clause-can : goal.find-compute_and_keep-requires-clause-can
 find-compute_and_keep-requires-clause-can t c =
@@ -59,7 +60,7 @@ find-compute_and_keep-requires-clause-can t c =
 pub find-returns-then-is_plain_at-clause-finds : goal.find-returns-then-is_plain_at-clause-finds
 find-returns-then-is_plain_at-clause-finds t c =
     whole.finds_kept (whole.looks_plain c.compute_and_keep.ensures.word (says c.is_plain_at.ensures c.requires.laid.0.plain c.if-is_plain_at.true))
-    (omega (arith, c.requires.cells, some_node (shown_term c.args.t.now))) c.compute_and_keep.ensures.keeps
+    (omega (arith, c.requires.cells, some_nodes (shown_term c.args.t.now))) c.compute_and_keep.ensures.keeps
 
 pub find-look-found-requires : goal.find-look-found-requires
 find-look-found-requires t c =
@@ -452,7 +453,7 @@ pair-returns-else-first-clause-finds t c =
 
 pub values-returns-in_default-clause-finds : goal.values-returns-in_default-clause-finds
 values-returns-in_default-clause-finds t c =
-    let e : c.args.ts.now ≡ [] = empty_list c.args.ts.now c.in_default.ensures.cases in
+    let e : c.args.ts.now ≡ [] = nil_from_length c.args.ts.now c.in_default.ensures.cases in
     finds_all_is (ap shown_terms e) (whole.finds_nil (ap (λ (x : List declared.Term). Some (take (length x) (drop c.args.to c.args.env.now))) (sym e)))
 
 pub values-operand-found-requires : goal.values-operand-found-requires
@@ -470,7 +471,7 @@ values-values-ready-requires t c =
     let size = ap nodes_in shape in
     let long = ap (λ (x : List declared.Term). length x) e in
     let h = look_all_is shape c.requires.may in
-    let smaller : 4 * nodes_in (shown_terms c.in-Some.rest.now) + 3 < 4 * nodes_in (shown_terms c.args.ts.now) + 3 = omega (arith, some_node (shown_term c.in-Some.first.now), size) in (
+    let smaller : 4 * nodes_in (shown_terms c.in-Some.rest.now) + 3 < 4 * nodes_in (shown_terms c.args.ts.now) + 3 = omega (arith, some_nodes (shown_term c.in-Some.first.now), size) in (
       search rules,
       (
         look_all_at c.after.ensures.slots refl c.after.ensures.news

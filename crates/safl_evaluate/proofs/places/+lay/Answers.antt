@@ -1,40 +1,41 @@
 use Rattle.std.proofs.Common.{rules, ◌≡◌, ◌+◌, ◌*◌, ◌<◌, refl, ap, ◌∙◌, arith}
+use Rattle.std.proofs.lemmas.List.{nil_from_length}
 use Rattle.safl_term.specs.Sizes.{nodes, nodes_in}
 use Rattle.safl_term.specs.Tree.{shown_term, shown_terms}
 use Rattle.safl_term.proofs.PlainTrees.{shown_term-Op, shown_term-Loop, shown_term-Call, shown_term-Let}
-use Rattle.safl_sites.proofs.NodesOfTerms.{some_node, empty_list}
-use Rattle.safl_evaluate.proofs.AnswersByParts.{if_by, let_by, op_by, call_by, loop_by}
+use Rattle.safl_term.proofs.PlainTerms.{if_by, let_by, op_by, some_nodes}
+use Rattle.safl_evaluate.proofs.AnswersByParts.{call_by, loop_by}
 use Rattle.safl_evaluate.proofs.LaidByParts as part
 use Rattle.safl_evaluate.proofs.places.+lay.Goals as goal
 
 pub lay-bounds-places-at : goal.lay-bounds-places-at
 lay-bounds-places-at t c =
-    omega (arith, c.requires, some_node (shown_term c.args.t.now), c.lay_parts-place.auto.places)
+    omega (arith, c.requires, some_nodes (shown_term c.args.t.now), c.lay_parts-place.auto.places)
 
 pub lay-returns-clause-laid : goal.lay-returns-clause-laid
 lay-returns-clause-laid t c =
     part.laid_own c.lay_parts-place.new.places _ c.args.at (shown_term c.args.t.now) c.lay_parts-place.result c.lay_parts-place.ensures.laid
-    c.lay_parts-place.ensures.place (omega (arith, c.requires, some_node (shown_term c.args.t.now), c.lay_parts-place.auto.places)) refl
+    c.lay_parts-place.ensures.place (omega (arith, c.requires, some_nodes (shown_term c.args.t.now), c.lay_parts-place.auto.places)) refl
 
 pub lay-returns-clause-outside : goal.lay-returns-clause-outside
 lay-returns-clause-outside t c =
-    part.outside_own c.args.at (c.args.at + nodes (shown_term c.args.t.now)) c.lay_parts-place.result c.lay_parts-place.ensures.outside (omega (arith, some_node (shown_term c.args.t.now))) refl
+    part.outside_own c.args.at (c.args.at + nodes (shown_term c.args.t.now)) c.lay_parts-place.result c.lay_parts-place.ensures.outside (omega (arith, some_nodes (shown_term c.args.t.now))) refl
 
 pub lay_all-returns-in_default-clause-laid : goal.lay_all-returns-in_default-clause-laid
 lay_all-returns-in_default-clause-laid t c =
-    let shape = ap shown_terms (empty_list c.args.ts.now c.in_default.ensures.cases) in
+    let shape = ap shown_terms (nil_from_length c.args.ts.now c.in_default.ensures.cases) in
     part.in_is c.args.places.now c.args.at shape (part.in_nil c.args.places.now c.args.at)
 
 pub lay_all-returns-in_default-clause-room : goal.lay_all-returns-in_default-clause-room
 lay_all-returns-in_default-clause-room t c =
-    let shape = ap shown_terms (empty_list c.args.ts.now c.in_default.ensures.cases) in
+    let shape = ap shown_terms (nil_from_length c.args.ts.now c.in_default.ensures.cases) in
     part.room_is shape (part.room_nil c.empty.ensures.next c.empty.ensures.plain c.empty.ensures.body)
 
 pub lay_all-lay_all-others-requires : goal.lay_all-lay_all-others-requires
 lay_all-lay_all-others-requires t c =
     let shape = ap shown_terms c.in-Some.ensures.cases.0 in
     let size = ap nodes_in shape in
-    let smaller : 3 * nodes_in (shown_terms c.in-Some.rest.now) + 2 < 3 * nodes_in (shown_terms c.args.ts.now) + 2 = omega (arith, some_node (shown_term c.in-Some.first.now), size) in
+    let smaller : 3 * nodes_in (shown_terms c.in-Some.rest.now) + 2 < 3 * nodes_in (shown_terms c.args.ts.now) + 2 = omega (arith, some_nodes (shown_term c.in-Some.first.now), size) in
     (search rules, omega (arith, size, c.requires, c.lay-one.ensures.place.next, c.lay-one.auto.places))
 
 pub lay_all-returns-clause-laid : goal.lay_all-returns-clause-laid

@@ -1,10 +1,10 @@
 use Rattle.std.proofs.Common.{◌≡◌, ◌≤◌, ◌-◌, [], List, ℕ, ◌++◌, length, map, sym, ap, subst, ◌∙◌, arith}
 use Rattle.safl_gen.specs.Draws.{draw}
 use Rattle.std.specs.List.{concat, range_with_len}
+use Rattle.safl_word.proofs.Lists.{concat_more}
 use Rattle.safl_gen.specs.Source.{drawn_line, main_line, source}
 use Rattle.safl_gen.proofs.DrawsInOrder.{draws_first, draws_more, line_drawn}
 use Rattle.safl_gen.proofs.Lengths.{source_short}
-use Rattle.safl_gen.proofs.OneLineMore.{line_more}
 use Rattle.safl_gen.proofs.source.text_of.Goals as goal
 
 pub loop-i-init : goal.loop-i-init
@@ -21,7 +21,7 @@ loop-i-preserved c =
     let made = c.draw_function-drawn in
     record {
       drawn = draws_more seed i _ _ at made.ensures.number;
-      written = line_more (drawn_line (draw seed)) 0 i i [] c.loop-i.text.items c.push_function.new.out.items (omega arith) c.loop-i.invariant.written
+      written = concat_more (drawn_line (draw seed)) 0 i i [] c.loop-i.text.items c.push_function.new.out.items (omega arith) c.loop-i.invariant.written
           (c.in_ok-push_function.ensures ∙ ap (λ (l : List ℕ). c.loop-i.text.items ++ l)
           (line_drawn seed i _ _ _ _ _ at made.ensures.number made.ensures.form made.ensures.constant made.ensures.first));
     }

@@ -1,17 +1,18 @@
 use Rattle.std.proofs.Common.{rules, ◌≡◌, ◌<◌, ◌≤◌, ◌+◌, ◌-◌, ◌*◌, ◌++◌, length, drop, refl, sym, ap, ◌∙◌, subst, arith}
 use Rattle.std.proofs.lemmas.Option.{slice_get_read}
 use Rattle.std.specs.Prelude.{IsSome}
-use Rattle.safl_word.specs.Words.{Word}
+use Rattle.safl_word.specs.Words.{Word, widths}
 use Rattle.safl_word.specs.Primitives.{apply_prim, result_width}
 use Rattle.safl_term.specs.Fuel.{eval, eval_all, Gave, Words, NoWords}
 use Rattle.safl_term.specs.Sizes.{nodes, nodes_in}
 use Rattle.safl_term.specs.Tree.{shown_term, shown_terms}
 use Rattle.safl_term.proofs.PlainTrees.{shown_term-Op, shown_term-Let}
-use Rattle.safl_interpreter.specs.Interpreting.{widths, shown_answer, shown_all, applied, finished, GoesOn}
+use Rattle.safl_interpreter.specs.Interpreting.{shown_answer, shown_all, applied, finished, GoesOn}
 use Rattle.safl_interpreter.proofs.Meanings.{term_saves, terms_save}
 use Rattle.safl_interpreter.proofs.Steps
 use Rattle.safl_interpreter.proofs.evaluate.+evaluate.Goals as goal
 use Rattle.safl_term.proofs.HeldByChecked.{few_nodes}
+use Rattle.safl_term.proofs.PlainTerms.{if_by, let_by, op_by}
 
 -- ---- applications
 
@@ -68,7 +69,7 @@ evaluate-evaluate-requires t c =
     let C = c.args.c.now.program in
     let E = c.args.env.now in
     let n = c.args.left in
-    let shape = Steps.if_by (ap shown_term c.in-If.is) (ap shown_term c.deref.ensures) (ap shown_term c.deref-then-bits-eq1.ensures) refl in
+    let shape = if_by (ap shown_term c.in-If.is) (ap shown_term c.deref.ensures) (ap shown_term c.deref-then-bits-eq1.ensures) refl in
     let word = c.in-Some.test.word in
     let rest = c.in-Some.test.left in
     let test : Gave word rest ≡ eval C (applied C) (shown_term c.deref.result.now) n E = sym (ap shown_answer c.in-Some.is) ∙ c.in_ok-test-in-If.ensures in
@@ -82,7 +83,7 @@ evaluate-evaluate-requires-else-bits-eq1 t c =
     let C = c.args.c.now.program in
     let E = c.args.env.now in
     let n = c.args.left in
-    let shape = Steps.if_by (ap shown_term c.in-If.is) (ap shown_term c.deref.ensures) refl (ap shown_term c.deref-else-bits-eq1.ensures) in
+    let shape = if_by (ap shown_term c.in-If.is) (ap shown_term c.deref.ensures) refl (ap shown_term c.deref-else-bits-eq1.ensures) in
     let word = c.in-Some.test.word in
     let rest = c.in-Some.test.left in
     let test : Gave word rest ≡ eval C (applied C) (shown_term c.deref.result.now) n E = sym (ap shown_answer c.in-Some.is) ∙ c.in_ok-test-in-If.ensures in
@@ -96,7 +97,7 @@ evaluate-returns-then-bits-eq1 t c =
     let C = c.args.c.now.program in
     let E = c.args.env.now in
     let n = c.args.left in
-    let shape = Steps.if_by (ap shown_term c.in-If.is) (ap shown_term c.deref.ensures) (ap shown_term c.deref-then-bits-eq1.ensures) refl in
+    let shape = if_by (ap shown_term c.in-If.is) (ap shown_term c.deref.ensures) (ap shown_term c.deref-then-bits-eq1.ensures) refl in
     let word = c.in-Some.test.word in
     let rest = c.in-Some.test.left in
     let test : Gave word rest ≡ eval C (applied C) (shown_term c.deref.result.now) n E = sym (ap shown_answer c.in-Some.is) ∙ c.in_ok-test-in-If.ensures in
@@ -110,7 +111,7 @@ evaluate-returns-else-bits-eq1 t c =
     let C = c.args.c.now.program in
     let E = c.args.env.now in
     let n = c.args.left in
-    let shape = Steps.if_by (ap shown_term c.in-If.is) (ap shown_term c.deref.ensures) refl (ap shown_term c.deref-else-bits-eq1.ensures) in
+    let shape = if_by (ap shown_term c.in-If.is) (ap shown_term c.deref.ensures) refl (ap shown_term c.deref-else-bits-eq1.ensures) in
     let word = c.in-Some.test.word in
     let rest = c.in-Some.test.left in
     let test : Gave word rest ≡ eval C (applied C) (shown_term c.deref.result.now) n E = sym (ap shown_answer c.in-Some.is) ∙ c.in_ok-test-in-If.ensures in
@@ -123,7 +124,7 @@ evaluate-returns-else-bits-eq1 t c =
 
 pub evaluate-values-requires : goal.evaluate-values-requires
 evaluate-values-requires t c =
-    let shape = Steps.let_by (ap shown_term c.in-Let.is ∙ shown_term-Let c.in-Let.field-0 c.in-Let.ts c.in-Let.body) (ap shown_terms c.deref-in-Let.ensures.value) refl in
+    let shape = let_by (ap shown_term c.in-Let.is ∙ shown_term-Let c.in-Let.field-0 c.in-Let.ts c.in-Let.body) (ap shown_terms c.deref-in-Let.ensures.value) refl in
     let size = ap nodes shape in
     let smaller : 150001 * c.args.left + 3 * nodes_in (shown_terms c.deref-in-Let.result.now) + 2 < 150001 * c.args.left + 3 * nodes (shown_term c.args.t.now) = omega (arith, size) in
     (search rules, (c.requires.checked, Steps.typed_bound _ _ (Steps.typed_as refl shape c.requires.typed)))
@@ -133,7 +134,7 @@ evaluate-evaluate-requires-in-Some-2 t c =
     let C = c.args.c.now.program in
     let E = c.args.env.now in
     let n = c.args.left in
-    let shape = Steps.let_by (ap shown_term c.in-Let.is ∙ shown_term-Let c.in-Let.field-0 c.in-Let.ts c.in-Let.body)
+    let shape = let_by (ap shown_term c.in-Let.is ∙ shown_term-Let c.in-Let.field-0 c.in-Let.ts c.in-Let.body)
     (ap shown_terms c.deref-in-Let.ensures.value) (ap shown_term c.deref-in-Some-2-3.ensures) in
     let ts = shown_terms c.deref-in-Let.result.now in
     let us = c.in-Some-2.bound.words.items in
@@ -152,7 +153,7 @@ evaluate-returns-in_ok-extend_from_slice-in-Some-2 t c =
     let C = c.args.c.now.program in
     let E = c.args.env.now in
     let n = c.args.left in
-    let shape = Steps.let_by (ap shown_term c.in-Let.is ∙ shown_term-Let c.in-Let.field-0 c.in-Let.ts c.in-Let.body)
+    let shape = let_by (ap shown_term c.in-Let.is ∙ shown_term-Let c.in-Let.field-0 c.in-Let.ts c.in-Let.body)
     (ap shown_terms c.deref-in-Let.ensures.value) (ap shown_term c.deref-in-Some-2-3.ensures) in
     let ts = shown_terms c.deref-in-Let.result.now in
     let us = c.in-Some-2.bound.words.items in
@@ -171,7 +172,7 @@ evaluate-returns-in-None-2 t c =
     let C = c.args.c.now.program in
     let E = c.args.env.now in
     let n = c.args.left in
-    let shape = Steps.let_by (ap shown_term c.in-Let.is ∙ shown_term-Let c.in-Let.field-0 c.in-Let.ts c.in-Let.body) (ap shown_terms c.deref-in-Let.ensures.value) refl in
+    let shape = let_by (ap shown_term c.in-Let.is ∙ shown_term-Let c.in-Let.field-0 c.in-Let.ts c.in-Let.body) (ap shown_terms c.deref-in-Let.ensures.value) refl in
     let ts = shown_terms c.deref-in-Let.result.now in
     let none : NoWords ≡ eval_all C (applied C) ts n E = sym (ap shown_all c.in-None-2.is) ∙ c.in_ok-bound-in-Let.ensures in
     record { comes = Steps.comes_as C E n shape (Steps.let_none C E n ts (shown_term c.in-Let.body.value) none); goes = tt }
@@ -180,7 +181,7 @@ evaluate-returns-in-None-2 t c =
 
 pub evaluate-values-requires-in-Op : goal.evaluate-values-requires-in-Op
 evaluate-values-requires-in-Op t c =
-    let shape = Steps.op_by c.in-Op.p (ap shown_term c.in-Op.is ∙ shown_term-Op c.in-Op.p c.in-Op.ts) (ap shown_terms c.deref-in-Op.ensures.value) in
+    let shape = op_by c.in-Op.p (ap shown_term c.in-Op.is ∙ shown_term-Op c.in-Op.p c.in-Op.ts) (ap shown_terms c.deref-in-Op.ensures.value) in
     let size = ap nodes shape in
     let smaller : 150001 * c.args.left + 3 * nodes_in (shown_terms c.deref-in-Op.result.now) + 2 < 150001 * c.args.left + 3 * nodes (shown_term c.args.t.now) = omega (arith, size) in
     (search rules, (c.requires.checked, Steps.typed_operands c.in-Op.p _ (Steps.typed_as refl shape c.requires.typed)))
@@ -190,7 +191,7 @@ evaluate-apply-word-requires t c =
     let C = c.args.c.now.program in
     let E = c.args.env.now in
     let n = c.args.left in
-    let shape = Steps.op_by c.in-Op.p (ap shown_term c.in-Op.is ∙ shown_term-Op c.in-Op.p c.in-Op.ts) (ap shown_terms c.deref-in-Op.ensures.value) in
+    let shape = op_by c.in-Op.p (ap shown_term c.in-Op.is ∙ shown_term-Op c.in-Op.p c.in-Op.ts) (ap shown_terms c.deref-in-Op.ensures.value) in
     let ts = shown_terms c.deref-in-Op.result.now in
     let us = c.in-Some-3.operands.words.items in
     let rest = c.in-Some-3.operands.left in
@@ -203,7 +204,7 @@ evaluate-returns-in-Some-3 t c =
     let C = c.args.c.now.program in
     let E = c.args.env.now in
     let n = c.args.left in
-    let shape = Steps.op_by c.in-Op.p (ap shown_term c.in-Op.is ∙ shown_term-Op c.in-Op.p c.in-Op.ts) (ap shown_terms c.deref-in-Op.ensures.value) in
+    let shape = op_by c.in-Op.p (ap shown_term c.in-Op.is ∙ shown_term-Op c.in-Op.p c.in-Op.ts) (ap shown_terms c.deref-in-Op.ensures.value) in
     let ts = shown_terms c.deref-in-Op.result.now in
     let us = c.in-Some-3.operands.words.items in
     let rest = c.in-Some-3.operands.left in
@@ -216,7 +217,7 @@ evaluate-returns-in-None-3 t c =
     let C = c.args.c.now.program in
     let E = c.args.env.now in
     let n = c.args.left in
-    let shape = Steps.op_by c.in-Op.p (ap shown_term c.in-Op.is ∙ shown_term-Op c.in-Op.p c.in-Op.ts) (ap shown_terms c.deref-in-Op.ensures.value) in
+    let shape = op_by c.in-Op.p (ap shown_term c.in-Op.is ∙ shown_term-Op c.in-Op.p c.in-Op.ts) (ap shown_terms c.deref-in-Op.ensures.value) in
     let ts = shown_terms c.deref-in-Op.result.now in
     let none : NoWords ≡ eval_all C (applied C) ts n E = sym (ap shown_all c.in-None-3.is) ∙ c.in_ok-operands-in-Op.ensures in
     record { comes = Steps.comes_as C E n shape (Steps.op_none C E n ts c.in-Op.p none); goes = tt }

@@ -1,8 +1,9 @@
 use Rattle.std.proofs.Common.{◌≡◌, ◌<◌, ◌+◌, ◌*◌, ◌≤◌, drop}
+use Rattle.safl_word.specs.Words.{widths}
 use Rattle.safl_term.specs.Fuel.{eval_all}
 use Rattle.safl_term.specs.Sizes.{nodes, nodes_in}
 use Rattle.safl_term.specs.Tree.{shown_term, shown_terms}
-use Rattle.safl_interpreter.specs.Interpreting.{widths, applied}
+use Rattle.safl_interpreter.specs.Interpreting.{applied}
 use Rattle.safl_interpreter.proofs.Steps.{after, call_size}
 use Rattle.safl_interpreter.proofs.evaluate.+evaluate.Given as goal
 

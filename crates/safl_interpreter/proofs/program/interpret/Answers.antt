@@ -1,5 +1,5 @@
 use Rattle.std.proofs.Common.{sym, ap, ◌∙◌}
-use Rattle.safl_interpreter.specs.Interpreting.{widths}
+use Rattle.safl_word.specs.Words.{widths}
 use Rattle.safl_interpreter.proofs.Steps.{main_is, main_gives}
 use Rattle.safl_interpreter.proofs.program.interpret.Goals as goal
 

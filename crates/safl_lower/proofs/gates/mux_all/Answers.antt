@@ -1,5 +1,6 @@
 use Rattle.std.proofs.Common.{◌≡◌, ℕ, ◌+◌, ◌<◌, List, [], ◌∷◌, ◌++◌, length, take, Some, slice_get, slice_index_or, cond, subst, sym, refl, ap, ◌∙◌, arith}
 use Rattle.std.proofs.lemmas.List.{take_all}
+use Rattle.safl_word.proofs.Lists.{get_index}
 use Rattle.safl_net.specs.declared.cell.Sig.{Sig}
 use Rattle.safl_net.specs.Netlist.{Netlist}
 use Rattle.safl_net.specs.Growth.{words}
@@ -7,7 +8,7 @@ use Rattle.safl_net.proofs.Growth.{wired_before}
 use Rattle.safl_net.specs.Bits.{on}
 use Rattle.safl_lower.specs.Sources.{IsSource, AreSources}
 use Rattle.safl_lower.proofs.Building.{builds_on, builds_within, source_kept, sources_kept}
-use Rattle.safl_lower.proofs.Cells.{chosen_more, get_there, source_at, sources_length, sources_more}
+use Rattle.safl_lower.proofs.Cells.{chosen_more, source_at, sources_length, sources_more}
 use Rattle.safl_lower.specs.Heights.{AllWithin}
 use Rattle.safl_lower.proofs.Heights.{all_kept, chosen_within}
 use Rattle.safl_lower.proofs.gates.mux_all.Goals as goal
@@ -22,8 +23,8 @@ operands n a b ws i p q l =
     let e = sources_length n a ws p in
     let f = sources_length n b ws q in
     let m : i < length b = omega (arith, e, f, l) in
-    let x = source_at n a ws i (slice_index_or a i nothing) p (get_there a i nothing l) in
-    let y = source_at n b ws i (slice_index_or b i nothing) q (get_there b i nothing m) in
+    let x = source_at n a ws i (slice_index_or a i nothing) p (get_index a i nothing l) in
+    let y = source_at n b ws i (slice_index_or b i nothing) q (get_index b i nothing m) in
     let k : y.0 ≡ x.0 = let g = y.1 in let h = x.1 in cc in
     (x.0, x.1, x.2, subst (λ (w : ℕ). IsSource n (slice_index_or b i nothing) w) k y.2)
 
@@ -72,7 +73,7 @@ loop-i-preserved c =
       value = λ v w.
           let k = subst (λ (xs : List Sig). words v xs ≡ words v (c.loop-i.all.items ++ c.in_ok-next.next ∷ [])) (sym e) refl in
           k ∙ chosen_more v c.args.c c.loop-i.all.items a b c.in_ok-next.next (slice_index_or a c.loop-i.i nothing)
-          (slice_index_or b c.loop-i.i nothing) c.loop-i.i (get_there a c.loop-i.i nothing l) (get_there b c.loop-i.i nothing m)
+          (slice_index_or b c.loop-i.i nothing) c.loop-i.i (get_index a c.loop-i.i nothing l) (get_index b c.loop-i.i nothing m)
           (j.value v (wired_before built.grows w)) (c.in_ok-next.ensures.value v w);
       height = subst (λ (xs : List Sig). AllWithin c.mux.new.net (c.args.c ∷ (a ++ b)) 1 xs) (sym e)
           (chosen_within c.mux.new.net c.args.c a b c.loop-i.all.items c.in_ok-next.next c.loop-i.i nothing l m

@@ -1,5 +1,5 @@
 use Rattle.std.proofs.Common.{◌≡◌, ap, ◌∙◌, ◌-◌, ◌==◌, ◌&&◌, not, Bool, Option, Some, length, refl, sym, subst, arith}
-use Rattle.std.proofs.lemmas.Option.{slice_get_read}
+use Rattle.std.proofs.lemmas.Option.{slice_get_read, slice_get_within}
 use Rattle.safl_net.specs.Growth.{words}
 use Rattle.safl_net.proofs.Growth.{grows_on, wired_before}
 use Rattle.safl_term.specs.Readiness.{or_else}
@@ -9,7 +9,6 @@ use Rattle.safl_net.specs.Bits.{on}
 use Rattle.safl_lower.specs.Bits.{is_ready}
 use Rattle.safl_lower.specs.Entries.{asked}
 use Rattle.safl_lower.specs.Lowering.{was_sent, open_at}
-use Rattle.safl_lower.proofs.Whole.{in_range}
 use Rattle.safl_lower.proofs.Kept.{asked_end, three_gates, ready_kept}
 use Rattle.safl_lower.proofs.joins.ask.Goals as goal
 use Rattle.safl_lower.specs.Sources.{IsSource}
@@ -18,13 +17,13 @@ use Rattle.safl_lower.proofs.Building.{source_grown, builds_on, builds_within}
 pub index-port-requires : goal.index-port-requires
 index-port-requires c =
     let s = c.requires.site in
-    let h = in_range c.args.sites.now.ports.items (c.args.site - c.args.sites.now.first) s.port s.at in
+    let h = slice_get_within c.args.sites.now.ports.items (c.args.site - c.args.sites.now.first) s.port s.at in
     omega (arith, h, c.args.sites.now.ports.ok.0)
 
 pub inverse-requires-clause-bit : goal.inverse-requires-clause-bit
 inverse-requires-clause-bit c =
     let s = c.requires.site in
-    let h = in_range c.args.sites.now.ports.items (c.args.site - c.args.sites.now.first) s.port s.at in
+    let h = slice_get_within c.args.sites.now.ports.items (c.args.site - c.args.sites.now.first) s.port s.at in
     let at = slice_get_read c.args.sites.now.ports.items (length c.args.sites.now.ports.items) (c.args.site - c.args.sites.now.first) c.index-port.result.now refl h c.index-port.ensures in
     let same : s.port ≡ c.index-port.result.now = cc in
     subst (λ (p : SitePorts). IsSource c.args.net.now p.sent 1) same s.sent
@@ -38,7 +37,7 @@ and_ready-requires-clause-second c = ready_kept (grows_on c.inverse.ensures.buil
 pub returns-clause-given : goal.returns-clause-given
 returns-clause-given c =
     let s = c.requires.site in
-    let h = in_range c.args.sites.now.ports.items (c.args.site - c.args.sites.now.first) s.port s.at in
+    let h = slice_get_within c.args.sites.now.ports.items (c.args.site - c.args.sites.now.first) s.port s.at in
     record {
       port = c.index-port.result.now;
       at = slice_get_read c.args.sites.now.ports.items (length c.args.sites.now.ports.items)
@@ -49,7 +48,7 @@ returns-clause-given c =
 pub returns-clause-wants : goal.returns-clause-wants
 returns-clause-wants c = λ v w j.
     let s = c.requires.site in
-    let h = in_range c.args.sites.now.ports.items (c.args.site - c.args.sites.now.first) s.port s.at in
+    let h = slice_get_within c.args.sites.now.ports.items (c.args.site - c.args.sites.now.first) s.port s.at in
     let at = slice_get_read c.args.sites.now.ports.items (length c.args.sites.now.ports.items) (c.args.site - c.args.sites.now.first) c.index-port.result.now refl h c.index-port.ensures in
     let e : Want = record { site = c.args.site; want = c.in_ok-want.want; args = c.args.all.values } in
     let u = wired_before c.and_ready.ensures.built.grows w in

@@ -3,9 +3,9 @@ use Rattle.std.specs.Option.{IsSome}
 use Rattle.std.proofs.lemmas.Iterator.Consumers.{YieldsList-turn, YieldsList-end}
 use Rattle.std.proofs.lemmas.Iterator.Adapters.{YieldsList-from_vec}
 use Rattle.std.proofs.lemmas.Option.{slice_get_read}
+use Rattle.std.proofs.lemmas.List.{map_push}
 use Rattle.safl_lower.specs.declared.loads.Load.{Load}
 use Rattle.safl_lower.specs.Tables.{load_in}
-use Rattle.safl_lower.proofs.Gathered.{map_end}
 use Rattle.safl_lower.proofs.load_tables.all_loads.Goals as goal
 
 is_there : (o : Option Load) → (o ≡ None → ⊥) → IsSome o
@@ -22,7 +22,7 @@ unwrap-requires c =
 pub loop-place-preserved : goal.loop-place-preserved
 loop-place-preserved c =
     ap (λ (ls : List Load). map (λ (l : Load). Some l) ls) c.in_ok-push.ensures.items
-    ∙ map_end (λ (l : Load). Some l) c.loop-place.loads.items c.unwrap.result
+    ∙ map_push (λ (l : Load). Some l) c.loop-place.loads.items c.unwrap.result
     ∙ ap (λ (os : List (Option Load)). os ++ Some c.unwrap.result ∷ []) c.loop-place.invariant
     ∙ ap (λ (o : Option Load). c.loop-place.yielded ++ o ∷ []) (sym c.unwrap.ensures)
 

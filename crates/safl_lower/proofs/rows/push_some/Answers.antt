@@ -1,12 +1,12 @@
 use Rattle.std.proofs.Common.{◌≡◌, ℕ, ◌==◌, [], ◌++◌, cond, Bool, true, false, List, Option, sym, ap, ◌∙◌}
+use Rattle.safl_word.proofs.Lists.{nil_at_end}
 use Rattle.safl_net.specs.declared.cell.Sig.{Sig}
 use Rattle.safl_lower.specs.Rows.{maybe_one, row_at}
-use Rattle.safl_lower.proofs.JoinedRows.{append_none}
 use Rattle.safl_lower.proofs.rows.push_some.Goals as goal
 
 nothing : (xs : List Sig) (t : Bool) → xs ≡ xs ++ cond t [] []
-nothing xs true = append_none xs
-nothing xs false = append_none xs
+nothing xs true = nil_at_end xs
+nothing xs false = nil_at_end xs
 
 pub returns-in-None-clause-rows : goal.returns-in-None-clause-rows
 returns-in-None-clause-rows c = λ i.

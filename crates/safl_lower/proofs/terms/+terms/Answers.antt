@@ -1,5 +1,6 @@
 use Rattle.std.proofs.Common.{rules, ◌≡◌, ℕ, ◌+◌, ◌*◌, ◌<◌, List, ◌++◌, length, drop, suc, Some, true, refl, sym, ap, subst, ◌∙◌, arith}
 use Rattle.std.proofs.lemmas.Option.{slice_get_read}
+use Rattle.std.proofs.lemmas.List.{take_all}
 use Rattle.safl_word.specs.Primitives.{apply_prim, result_width}
 use Rattle.safl_net.specs.declared.cell.Sig.{Sig}
 use Rattle.safl_net.specs.Growth.{words}
@@ -17,7 +18,6 @@ use Rattle.safl_lower.proofs.Branches.{Branches, Inner, lowers_let}
 use Rattle.safl_lower.proofs.Leaves.{lowers_const, lowers_var, lowers_op}
 use Rattle.safl_lower.proofs.Lists.{lowers_none, lowers_more}
 use Rattle.safl_lower.proofs.Able
-use Rattle.safl_lower.proofs.Members.{take_all}
 use Rattle.safl_lower.proofs.ListedTerms.{forest_more, forest_at, smaller_at}
 use Rattle.safl_lower.proofs.Walk.{renamed, renamed_all, done_if, done_call, done_loop}
 use Rattle.safl_lower.proofs.terms.+terms.Goals as goal
@@ -90,7 +90,7 @@ lower_all-returns-clause-done t c =
     let end = c.loop-t-test.false in
     subst (λ (l : List declared.Term). LowersAll c.args.sites.now c.args.slots.now.items c.args.path c.args.net.now c.loop-t.net c.args.out.now
     c.loop-t.out (record { ready = c.loop-t.ready; values = c.loop-t.values }) (shown_terms l))
-    (take_all c.args.ts.now c.loop-t.t-index (omega (arith, end))) c.loop-t.invariant.lowered
+    (take_all c.loop-t.t-index c.args.ts.now (omega (arith, end))) c.loop-t.invariant.lowered
 
 -- ---- a constant, a slot
 

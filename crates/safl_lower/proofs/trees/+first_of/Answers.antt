@@ -14,7 +14,7 @@ use Rattle.safl_lower.specs.Rows.{AreBits, on_any, frees, AllFit, first_taken, r
 use Rattle.safl_lower.proofs.Building.{builds_on, builds_within, source_kept, sources_kept}
 use Rattle.safl_lower.proofs.Cells.{sources_length}
 use Rattle.safl_lower.proofs.KnownLoads.{load_kept}
-use Rattle.safl_lower.proofs.JoinedRows.{whole, low_bits, high_bits, row_kept, bits_push, any_append, frees_append, map_append, append_both, low_fit, high_fit, gates_of, fit_kept, taken_append}
+use Rattle.safl_lower.proofs.JoinedRows.{whole, low_bits, high_bits, row_kept, bits_push, any_append, frees_append, low_fit, high_fit, gates_of, fit_kept, taken_append}
 use Rattle.safl_lower.proofs.JoinedRows.{alone}
 use Rattle.safl_lower.specs.Heights.{AllWithin, own_parts, parts}
 use Rattle.safl_lower.proofs.Heights.{all_kept, halved, all_join, all_over, parts_low, parts_high, alone_parts}

@@ -1,5 +1,6 @@
 use Rattle.std.proofs.Common.{rules, ◌≡◌, ℕ, suc, ◌-◌, ◌*◌, ◌<◌, ◌++◌, List, [], ◌∷◌, map, drop, length, Option, Some, Bool, ◌&&◌, ◌||◌, not, ◌+◌, ◌≤◌, ◌/◌, refl, sym, ap, subst, ◌∙◌, arith}
-use Rattle.std.proofs.lemmas.List.{length_push}
+use Rattle.std.proofs.Common.{append_assoc}
+use Rattle.std.proofs.lemmas.List.{length_push, map-append}
 use Rattle.std.specs.Option.{option_or}
 use Rattle.safl_net.specs.declared.cell.Sig.{Sig}
 use Rattle.safl_net.specs.Growth.{Val, Wired, words}
@@ -13,8 +14,8 @@ use Rattle.safl_lower.specs.Rows.{AreBits, on_any, frees, AllFit, first_taken, r
 use Rattle.safl_lower.proofs.Building.{builds_on, builds_within, source_kept, sources_kept}
 use Rattle.safl_lower.proofs.Cells.{sources_length}
 use Rattle.safl_lower.proofs.KnownLoads.{load_kept}
-use Rattle.safl_lower.proofs.JoinedRows.{whole, low_bits, high_bits, row_kept, bits_push, any_append, frees_append, map_append, frees_one}
-use Rattle.safl_lower.proofs.JoinedRows.{append_both, low_fit, high_fit, gates_of, fit_kept, taken_append}
+use Rattle.safl_lower.proofs.JoinedRows.{whole, low_bits, high_bits, row_kept, bits_push, any_append, frees_append, frees_one}
+use Rattle.safl_lower.proofs.JoinedRows.{low_fit, high_fit, gates_of, fit_kept, taken_append}
 use Rattle.safl_lower.specs.Heights.{Within}
 use Rattle.safl_lower.proofs.Joints.{alone_any}
 use Rattle.safl_lower.proofs.Heights.{gate_kept, within_kept, all_kept, halved, within_both, stands_low, stands_high, pushed_within}
@@ -113,7 +114,7 @@ returns-then-bits-eq1-clause-frees t c = record {
       let one = c.if-bits-eq1.true in
       omega (arith, p, q, one);
   shows = λ v w.
-      ap (map (on v)) c.in_ok-push.ensures.items ∙ map_append (on v) c.args.out.now.items (c.args.free ∷ [])
+      ap (map (on v)) c.in_ok-push.ensures.items ∙ map-append (on v) c.args.out.now.items (c.args.free ∷ [])
       ∙ ap (λ (xs : List Bool). map (on v) c.args.out.now.items ++ xs) (sym (frees_one v (on v c.args.free) c.args.bits.now c.if-bits-eq1.true));
   height = λ xs f h m s q. pushed_within c.args.net.now xs c.args.bits.now c.args.out.now.items c.push.new.self.items c.args.free f h m s q c.in_ok-push.ensures.items;
 }
@@ -177,7 +178,7 @@ returns-clause-frees t c = record {
       c.in_ok-b.ensures.frees.shows v w4
       ∙ ap (λ (xs : List Bool). xs ++ frees v (on v c.in_ok-still.still) high) (c.in_ok-a.ensures.frees.shows v w1)
       ∙ ap (λ (x : Bool). (map (on v) c.args.out.now.items ++ frees v (on v c.args.free) low) ++ frees v x high) still
-      ∙ append_both (map (on v) c.args.out.now.items) (frees v (on v c.args.free) low) (frees v (on v c.args.free && not (on_any v low)) high)
+      ∙ append_assoc (map (on v) c.args.out.now.items) (frees v (on v c.args.free) low) (frees v (on v c.args.free && not (on_any v low)) high)
       ∙ ap (λ (xs : List Bool). map (on v) c.args.out.now.items ++ xs) (sym (frees_append v (on v c.args.free) low high) ∙ sym (ap (frees v (on v c.args.free)) e));
   height = λ xs f h m s q.
       let cut = c.split_at.ensures in

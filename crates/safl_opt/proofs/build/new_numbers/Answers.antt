@@ -1,10 +1,11 @@
 use Rattle.std.proofs.Common.{◌≡◌, ◌<◌, ◌≤◌, ◌+◌, ℕ, length, map, take, sym, ap, subst, ◌∙◌, arith}
+use Rattle.std.proofs.lemmas.List.{take_all}
 use Rattle.safl_net.specs.Making.{numbers}
 use Rattle.safl_opt.specs.Values.{sig_at}
 use Rattle.safl_opt.specs.Building.{new_number}
 use Rattle.safl_opt.proofs.Coming.{numbers_at}
 use Rattle.safl_opt.proofs.Starting.{sig_or}
-use Rattle.safl_opt.proofs.ListSteps.{few_numbers, numbers_next, take_whole}
+use Rattle.safl_opt.proofs.ListSteps.{few_numbers, numbers_next}
 use Rattle.safl_opt.proofs.build.new_numbers.Goals as goal
 
 pub new_number-requires-clause-known : goal.new_number-requires-clause-known
@@ -31,4 +32,4 @@ loop-x-preserved c =
     (c.new_number.ensures ∙ ap (new_number c.args.values.now c.args.made.now) (sig_or c.args.all.now c.loop-x.x-index)) c.loop-x.invariant
 
 pub returns : goal.returns
-returns c = c.loop-x.invariant ∙ ap (λ l. map (new_number c.args.values.now c.args.made.now) (numbers l)) (take_whole c.args.all.now c.loop-x.x-index c.loop-x-test.false)
+returns c = c.loop-x.invariant ∙ ap (λ l. map (new_number c.args.values.now c.args.made.now) (numbers l)) (take_all c.loop-x.x-index c.args.all.now c.loop-x-test.false)

@@ -1,4 +1,5 @@
 use Rattle.std.proofs.Common.{◌≡◌, ◌<◌, ◌≤◌, ◌+◌, ◌^◌, ℕ, List, ◌∷◌, [], ◌++◌, length, Some, Bool, true, false, Result, Ok, Err, OnOk, IfOk, slice_get, refl, sym, ap, subst, ◌∙◌, arith}
+use Rattle.safl_word.specs.Lists.{bool_at}
 use Rattle.safl_net.specs.declared.cell.Sig.{Sig}
 use Rattle.safl_net.specs.Netlist.{Netlist}
 use Rattle.safl_net.specs.Names.{IsTidy}
@@ -7,7 +8,7 @@ use Rattle.safl_order.specs.Order.{IsOrder}
 use Rattle.safl_opt.specs.declared.node.Node.{Node}
 use Rattle.safl_opt.specs.declared.fold.Values.{Values}
 use Rattle.safl_opt.specs.Values.{sig_at, value_width, Folds}
-use Rattle.safl_opt.specs.Building.{read_at, AreRead, node_cell, IsAdded}
+use Rattle.safl_opt.specs.Building.{AreRead, node_cell, IsAdded}
 use Rattle.safl_opt.specs.Stages.{Placed}
 use Rattle.safl_opt.proofs.Marking.{read_is}
 use Rattle.safl_opt.proofs.Placing.{room, operand, gives, skipped, placed}
@@ -50,7 +51,7 @@ make_node-requires-clause-fits c = (
 
 done : {E : Type 0} (r : Result Sig E) (n : Netlist) → IsNetlist n → (ws : List ℕ) → IsOrder n ws → (f : Values) → Folds n ws (length ws) f →
     (read : List Bool) → AreRead n f read → (count : ℕ) (made : List Sig) (m a : Netlist) → Placed n f read count made m → (node : Node)
-    → slice_get f.nodes count ≡ Some node → read_at read (f.kept + count) ≡ true → OnOk r (IsAdded m a (node_cell made node)) → IfOk r
+    → slice_get f.nodes count ≡ Some node → bool_at read (f.kept + count) ≡ true → OnOk r (IsAdded m a (node_cell made node)) → IfOk r
     (λ s. s.0 ≡ length m.signals) → IsTidy a → IfOk r (λ s. Placed n f read (count + 1) (made ++ s ∷ []) a)
 done (Ok s) n kn ws order f h read marks count made m a p node at is_read added last tidy = placed n kn ws order f h read marks count made m p s node at is_read a added last tidy
 done (Err x) n kn ws order f h read marks count made m a p node at is_read added last tidy = tt

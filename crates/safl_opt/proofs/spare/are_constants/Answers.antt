@@ -1,10 +1,10 @@
 use Rattle.std.proofs.Common.{◌≡◌, ◌<◌, ◌+◌, ℕ, suc, length, take, true, false, refl, sym, ap, subst, ◌∙◌, arith}
+use Rattle.std.proofs.lemmas.List.{take_all}
 use Rattle.safl_net.specs.Making.{numbers}
 use Rattle.safl_opt.specs.Lean.{is_constant, are_constants}
 use Rattle.safl_opt.specs.Values.{sig_at}
 use Rattle.safl_opt.proofs.Starting.{sig_or}
 use Rattle.safl_opt.proofs.Sparing.{all_next, not_all}
-use Rattle.safl_opt.proofs.ListSteps.{take_whole}
 use Rattle.safl_opt.proofs.spare.are_constants.Goals as goal
 
 pub returns-then-not-is_constant : goal.returns-then-not-is_constant
@@ -19,4 +19,4 @@ loop-s-preserved c =
     (ap (is_constant c.args.n.now) (sym (sig_or c.args.all.now c.loop-s.s-index)) ∙ sym c.is_constant.ensures ∙ c.if-not-is_constant.false)
 
 pub returns : goal.returns
-returns c = sym c.loop-s.invariant ∙ ap (λ l. are_constants c.args.n.now (numbers l)) (take_whole c.args.all.now c.loop-s.s-index c.loop-s-test.false)
+returns c = sym c.loop-s.invariant ∙ ap (λ l. are_constants c.args.n.now (numbers l)) (take_all c.loop-s.s-index c.args.all.now c.loop-s-test.false)

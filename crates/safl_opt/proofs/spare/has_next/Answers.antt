@@ -2,11 +2,11 @@ use Rattle.std.proofs.Common.{◌≡◌, ℕ, Some, None, true, false, refl, sym
 use Rattle.std.proofs.lemmas.Bool.{eqb-true, eq-eqb}
 use Rattle.safl_net.specs.Netlist.{Netlist, Reg}
 use Rattle.safl_net.specs.Making.{kind_at, next_in}
-use Rattle.safl_opt.proofs.Setting.{next_of}
+use Rattle.safl_net.proofs.Kinds.{next_kind}
 use Rattle.safl_opt.proofs.spare.has_next.Goals as goal
 
 same_next : (n : Netlist) (r s t : ℕ) → Some t ≡ next_in (kind_at n r) → t ≡ s → (init : ℕ) × (kind_at n r ≡ Reg init (Some s))
-same_next n r s t e q = let k = next_of (kind_at n r) t e in (k.0, k.1 ∙ ap (λ x. Reg k.0 (Some x)) q)
+same_next n r s t e q = let k = next_kind (kind_at n r) t e in (k.0, k.1 ∙ ap (λ x. Reg k.0 (Some x)) q)
 
 only_next : (n : Netlist) (r s t : ℕ) → Some t ≡ next_in (kind_at n r) → (init : ℕ) × (kind_at n r ≡ Reg init (Some s)) → t ≡ s
 only_next n r s t e k = let z : Some t ≡ Some s = e ∙ ap next_in k.1 in cc

@@ -1,5 +1,5 @@
 use Rattle.std.proofs.Common.{◌≡◌, ◌<◌, ◌+◌, ℕ, length, true, false, refl, below_more, arith}
-use Rattle.safl_opt.proofs.Adding.{wire_known}
+use Rattle.safl_order.proofs.Moves.{wire_in_net}
 use Rattle.safl_opt.proofs.spare.is_alone.Goals as goal
 
 pub signals-preserved : goal.signals-preserved
@@ -10,6 +10,6 @@ returns-then-not-is_other c = ((λ e. absurd (let z = e in cc)), (λ w. absurd (
 
 pub returns : goal.returns
 returns c = (
-  (λ e t h. c.signals.invariant t (let k = wire_known c.args.n.now t h.temporary.wire in let a = c.signals-test.false in let d = c.signals-i-end.ensures.count in omega (arith, k, a, d)) h),
+  (λ e t h. c.signals.invariant t (let k = wire_in_net c.args.n.now t h.temporary.wire in let a = c.signals-test.false in let d = c.signals-i-end.ensures.count in omega (arith, k, a, d)) h),
   (λ w. refl),
 )

@@ -1,7 +1,7 @@
 use Rattle.std.proofs.Common.{◌≡◌, ◌≢◌, ◌<◌, ◌+◌, ℕ, List, Some, length, true, false, inl, inr, slice_get, refl, sym, ap, subst, ◌∙◌, arith}
 use Rattle.std.proofs.lemmas.Bool.{cases_eq}
+use Rattle.std.proofs.lemmas.Option.{slice_get_within}
 use Rattle.safl_net.specs.Netlist.{Netlist}
-use Rattle.safl_net.proofs.Naming.{within}
 use Rattle.safl_opt.proofs.Showing.{output_at}
 use Rattle.safl_opt.proofs.spare.is_shown.Goals as goal
 
@@ -27,6 +27,6 @@ returns-then-shown-s c =
 pub returns : goal.returns
 returns c = (
   (λ e. absurd (let z = e in cc)),
-  (λ w. absurd (c.outputs.invariant w.index w.output (let k = within c.args.n.now.outputs w.index w.output w.there in let a = c.outputs-test.false in
+  (λ w. absurd (c.outputs.invariant w.index w.output (let k = slice_get_within c.args.n.now.outputs w.index w.output w.there in let a = c.outputs-test.false in
       let d = c.outputs-i-end.ensures in omega (arith, k, a, d)) w.there w.is)),
 )

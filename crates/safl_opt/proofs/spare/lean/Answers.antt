@@ -1,5 +1,5 @@
 use Rattle.std.proofs.Common.{◌≡◌, ◌<◌, ◌+◌, ℕ, length, true, false, refl, below_more, arith}
-use Rattle.safl_opt.proofs.Adding.{wire_known}
+use Rattle.safl_order.proofs.Moves.{wire_in_net}
 use Rattle.safl_opt.proofs.Reaching.{all_wanted, wanted}
 use Rattle.safl_opt.proofs.spare.lean.Goals as goal
 
@@ -12,6 +12,6 @@ returns-then-not-is_fine c = ((λ e. absurd (let z = e in cc)), (λ l. absurd (l
 pub returns : goal.returns
 returns c = (
   (λ e. all_wanted c.args.n.now c.requires (λ s t. c.signals.invariant s
-      (let k = wire_known c.args.n.now s t.wire in let a = c.signals-test.false in let d = c.signals-i-end.ensures.count in omega (arith, k, a, d)) t)),
+      (let k = wire_in_net c.args.n.now s t.wire in let a = c.signals-test.false in let d = c.signals-i-end.ensures.count in omega (arith, k, a, d)) t)),
   (λ l. refl),
 )

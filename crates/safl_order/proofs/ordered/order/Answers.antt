@@ -1,5 +1,5 @@
 use Rattle.std.proofs.Common.{arith, ap, subst, refl, is_some}
-use Rattle.safl_net.proofs.Naming.{within}
+use Rattle.std.proofs.lemmas.Option.{slice_get_within}
 use Rattle.safl_net.specs.Making.{numbers}
 use Rattle.safl_order.specs.declared.walk.Stop.{Stop}
 use Rattle.safl_order.specs.Walk.{IsStop, IsOpenLoop}
@@ -16,7 +16,7 @@ pub cycle-requires : goal.cycle-requires
 cycle-requires c =
     let w = c.run.new.self in
     let o : IsOpenLoop c.args.net w.stack.items c.in-Err-Loop.place = subst (λ (x : Stop). IsStop c.args.net w.stack.items x) c.in-Err-Loop.field-0-is c.in-Err-Loop.ensures.stop in
-    let a = within w.stack.items c.in-Err-Loop.place o.low o.at in
+    let a = slice_get_within w.stack.items c.in-Err-Loop.place o.low o.at in
     let b = w.stack.ok.0 in
     omega (arith, a, b)
 

@@ -1,7 +1,8 @@
-use Rattle.std.proofs.Common.{◌≡◌, List, [], map, slice_index, Vec, Global, Option, Result, Ok, Err, OnErr, refl, sym, subst, ◌∙◌, arith}
+use Rattle.std.proofs.Common.{◌≡◌, List, [], map, slice_index, Vec, Global, Option, refl, sym, subst, ◌∙◌, arith}
 use Rattle.std.proofs.lemmas.List.{with_items_is}
 use Rattle.std.proofs.lemmas.Result.{err_from_is_err_and}
 use Rattle.safl_word.specs.Words.{Word}
+use Rattle.safl_word.proofs.Options.{on_err_always}
 use Rattle.safl_io.specs.Shelf.{Files}
 use Rattle.safl_io.proofs.Keeping.{reads_same, reads_then}
 use Rattle.safl_net.specs.Netlist.{Netlist}
@@ -23,10 +24,6 @@ use Rattle.safl_probe.proofs.Rounds.{kept_then, kept_same, there_then, strays_th
 use Rattle.safl_probe.proofs.Stops.{stopped_later, lent_probes, lent_stopped, lent_told, lent_traces}
 use Rattle.safl_probe.proofs.Whole.{going_begins, watched_are, traced, end_torn, run_torn, begin_torn}
 use Rattle.safl_probe.proofs.driving.drive.Goals as goal
-
-on_err : {T E : Type 0} (r : Result T E) (P : Type 0) → P → OnErr r P
-on_err (Ok x) P p = tt
-on_err (Err e) P p = p
 
 -- ---- the calls
 
@@ -71,7 +68,7 @@ tell_all-requires-2 g c =
 
 pub returns-in_err-harness-clause-part : goal.returns-in_err-harness-clause-part
 returns-in_err-harness-clause-part g c =
-    on_err c.from_residual.result _ (λ vs r apart. all_untouched (asked c.args.files.now) _ _)
+    on_err_always c.from_residual.result _ (λ vs r apart. all_untouched (asked c.args.files.now) _ _)
 
 pub returns-in_err-harness-clause-probes : goal.returns-in_err-harness-clause-probes
 returns-in_err-harness-clause-probes g c =
@@ -89,7 +86,7 @@ returns-in_err-harness-clause-shelf g c =
 
 pub returns-in_err-room-clause-part : goal.returns-in_err-room-clause-part
 returns-in_err-room-clause-part g c =
-    on_err c.from_residual-in_err-room.result _ (λ vs r apart. all_untouched (asked c.args.files.now) _ _)
+    on_err_always c.from_residual-in_err-room.result _ (λ vs r apart. all_untouched (asked c.args.files.now) _ _)
 
 pub returns-in_err-room-clause-probes : goal.returns-in_err-room-clause-probes
 returns-in_err-room-clause-probes g c =
@@ -112,7 +109,7 @@ returns-in_err-tell_all-clause-part g c =
     let ps : List ProbeState = map (λ p. (goal.Probe-dyn g (p.vtable, p.value)).state p.value) c.as_mut_slice-probes.result.now in
     let y : Option Files = (g.S.Shelf.told c.tell_all.new.shelf).holds in
     let back = with_items_is c.args.probes.now c.tell_all.new.probes (let l = c.as_mut_slice-probes.ensures.len in let a = c.tell_all.auto.probes in omega (arith, l, a)) in
-    on_err c.from_residual-in_err-tell_all.result _
+    on_err_always c.from_residual-in_err-tell_all.result _
     (lent_traces _ (λ p. (goal.Probe-dyn g (p.vtable, p.value)).state p.value) _ _ _ _ c.as_mut_slice-probes.ensures.value back OldOrPart n c.args.args.now c.args.limit names _ y
     (λ vs r. begin_torn n names vs ps _ y (opened_part c.net-net.result.now n c.net-net.ensures names ps _ y c.in_err-tell_all.ensures.part.grown)))
 
@@ -144,7 +141,7 @@ returns-in_err-done-clause-part g c =
     let back = with_items_is c.args.probes.now c.watch.new.probes
     (let l = c.as_mut_slice-probes.ensures.len in let a = c.watch.auto.probes in let b = c.tell_all.auto.probes in omega (arith, l, a, b)) in
     let b = c.in_err-done.ensures.broken.broken c.args.args.now (subst (λ m. IsCalled m c.args.args.now c.take_arguments.new.harness) c.net-net.ensures c.take_arguments.ensures) in
-    on_err c.from_residual-in_err-done.result _
+    on_err_always c.from_residual-in_err-done.result _
     (lent_traces _ (λ p. (goal.Probe-dyn g (p.vtable, p.value)).state p.value) _ _ _ _ c.as_mut_slice-probes.ensures.value back OldOrPart n c.args.args.now c.args.limit names _ _
     (λ vs r.
     let go = going_begins n c.args.args.now c.args.limit (subst (λ m. IsNetlist m) c.net-net.ensures c.in_ok-harness.ensures.made) c.requires.begins.whole
@@ -191,7 +188,7 @@ returns-in_err-tell_all-2-clause-part g c =
     let d = c.in_ok-done.ensures.watched c.args.args.now (subst (λ m. IsCalled m c.args.args.now c.take_arguments.new.harness) c.net-net.ensures c.take_arguments.ensures) in
     let back = with_items_is c.args.probes.now c.tell_all-2.new.probes
     (let l = c.as_mut_slice-probes.ensures.len in let a = c.tell_all-2.auto.probes in let b = c.watch.auto.probes in let d = c.tell_all.auto.probes in omega (arith, l, a, b, d)) in
-    on_err c.from_residual-in_err-tell_all-2.result _
+    on_err_always c.from_residual-in_err-tell_all-2.result _
     (lent_traces _ (λ p. (goal.Probe-dyn g (p.vtable, p.value)).state p.value) _ _ _ _ c.as_mut_slice-probes.ensures.value back OldOrPart n c.args.args.now c.args.limit names _ w
     (λ vs r.
     end_torn n names vs ps qs (told_begun c.net-net.result.now n c.net-net.ensures names ps qs c.in_ok-tell_all.ensures.told.tells) _ y _ rs z w
@@ -269,14 +266,14 @@ returns-clause-traced g c =
           lent_told _ (λ p. (goal.Probe-dyn g (p.vtable, p.value)).state p.value) _ _ _ _ c.as_mut_slice-probes.ensures.value back n c.args.args.now c.args.limit names
           (λ vs r i name k.
           let same : until_done n vs ≡ frames =
-              watched_are n c.args.args.now c.args.limit (subst (λ m. IsNetlist m) c.net-net.ensures c.in_ok-harness.ensures.made) c.requires.begins.whole
-              (subst (λ m. IsAcyclic m) c.ordered.ensures c.net-ordered.ensures.acyclic) c.args.sim.now.state c.requires.begins.fresh _ _ d.answers vs r in
+          watched_are n c.args.args.now c.args.limit (subst (λ m. IsNetlist m) c.net-net.ensures c.in_ok-harness.ensures.made) c.requires.begins.whole
+          (subst (λ m. IsAcyclic m) c.ordered.ensures c.net-ordered.ensures.acyclic) c.args.sim.now.state c.requires.begins.fresh _ _ d.answers vs r in
           let p : ProbeState = begun n (probe_at ps i) in
           let begins : Tells p (probe_at qs i) =
-              told_begun c.net-net.result.now n c.net-net.ensures names ps qs c.in_ok-tell_all.ensures.told.tells i name k in
+          told_begun c.net-net.result.now n c.net-net.ensures names ps qs c.in_ok-tell_all.ensures.told.tells i name k in
           let shows : Tells (after_frames frames p) (probe_at rs i) = tells_frames frames p (probe_at qs i) (probe_at rs i) begins (d.shown.told i name k) in
           let ends : Tells (after_frames frames p) (probe_at ws i) =
-              tells_frames [] (after_frames frames p) (probe_at rs i) (probe_at ws i) shows (c.in_ok-tell_all-2.ensures.told.tells i name k) in
+          tells_frames [] (after_frames frames p) (probe_at rs i) (probe_at ws i) shows (c.in_ok-tell_all-2.ensures.told.tells i name k) in
           subst (λ (fs : List Valuation). Tells (after_frames fs p) (probe_at ws i)) (sym same) ends);
     }
 

@@ -1,8 +1,9 @@
 use Rattle.std.proofs.Common.{ℕ, List, ◌++◌, refl, arith}
+use Rattle.safl_word.proofs.Lists.{drop_suc}
 use Rattle.safl_net.specs.Netlist.{Signal}
 use Rattle.safl_probe.specs.Watching.{group_from, one_watched}
 use Rattle.safl_probe.specs.Entries.{watched_all}
-use Rattle.safl_probe.proofs.Rest.{rest_more, rest_none, drop_at}
+use Rattle.safl_probe.proofs.Rest.{rest_more, rest_none}
 use Rattle.safl_probe.proofs.Looks.{signal_there}
 use Rattle.safl_probe.proofs.look.watch_group.Goals as goal
 
@@ -12,7 +13,7 @@ signals-preserved c =
     let i = c.signals.i in
     rest_more (λ (k : ℕ) (gs : List Signal). group_from c.args.group gs k) (λ (k : ℕ) (g : Signal). one_watched c.args.group g k) (λ k. refl) (λ k g gs. refl)
     n.signals i _ (watched_all c.signals.entries.items) (watched_all c.watch_signal.new.entries.items) (watched_all c.args.entries.now.items ++ group_from c.args.group n.signals 0)
-    (drop_at n.signals i _ (signal_there n i (let a = c.signals-test.true in let b = c.signals-i-end.ensures.count in omega (arith, a, b))))
+    (drop_suc n.signals i _ (signal_there n i (let a = c.signals-test.true in let b = c.signals-i-end.ensures.count in omega (arith, a, b))))
     c.signals.invariant c.in_ok-watch_signal.ensures
 
 pub returns : goal.returns

@@ -1,8 +1,10 @@
 use Rattle.std.proofs.Common.{ℕ, List, [], ◌∷◌, ◌++◌, map, refl, ap, ◌∙◌, arith}
+use Rattle.safl_word.proofs.Lists.{drop_suc}
+use Rattle.safl_net.proofs.Kinds.{output_known}
 use Rattle.safl_probe.specs.Watching.{Watched, output_watched}
 use Rattle.safl_probe.specs.Entries.{watched_all}
-use Rattle.safl_probe.proofs.Rest.{rest_more, rest_none, drop_at}
-use Rattle.safl_probe.proofs.Looks.{output_there, output_known, pushed}
+use Rattle.safl_probe.proofs.Rest.{rest_more, rest_none}
+use Rattle.safl_probe.proofs.Looks.{output_there, pushed}
 use Rattle.safl_probe.proofs.look.watch_outputs.Goals as goal
 
 pub width-requires : goal.width-requires
@@ -16,7 +18,7 @@ outputs-preserved c =
     let s = c.output_sig-signal.result.0 in
     rest_more (λ (k : ℕ) (os : List (List ℕ × ℕ)). map (output_watched n) os) (λ (k : ℕ) (o : List ℕ × ℕ). output_watched n o ∷ []) (λ k. refl) (λ k o os. refl)
     n.outputs i (name, s) (watched_all c.outputs.entries.items) (watched_all c.push.new.self.items) (watched_all c.args.entries.now.items ++ map (output_watched n) n.outputs)
-    (drop_at n.outputs i (name, s) (output_there n i name s c.output_name.ensures c.output_sig-signal.ensures))
+    (drop_suc n.outputs i (name, s) (output_there n i name s c.output_name.ensures c.output_sig-signal.ensures))
     c.outputs.invariant
     (ap watched_all c.in_ok-push.ensures.items ∙ pushed c.outputs.entries.items c.in_ok-entry.entry
     ∙ ap (λ (w : Watched). watched_all c.outputs.entries.items ++ w ∷ []) (c.in_ok-entry.ensures ∙ ap (λ (width : ℕ). record { name = name; signal = s; width = width }) c.width.ensures))

@@ -2,8 +2,8 @@ use Rattle.std.proofs.Common.{◌≡◌, ℕ, ◌+◌, ◌<◌, List, map, set, 
 use Rattle.std.proofs.lemmas.List.{map-set, length-map, get_or-set_same, get_or-set_other, ext_get_or}
 use Rattle.std.proofs.Math.Seq.{map-set_same}
 use Rattle.safl_word.specs.Words.{Word}
+use Rattle.safl_word.proofs.Naturals.{lower_or_last}
 use Rattle.safl_net.specs.Netlist.{Netlist}
-use Rattle.safl_probe.proofs.Growing.{less}
 use Rattle.safl_probe.proofs.Widths.{same_width, same_length}
 use Rattle.safl_probe.proofs.room.fill.Goals as goal
 
@@ -12,7 +12,7 @@ filled_more : (ws : List Word) (vs : List ℕ) (i : ℕ) (w : Word) → i < leng
 filled_more ws vs i w lt e all k below =
     let bits : List ℕ = map (λ (x : Word). x.bits) ws in
     let same : get_or (map (λ (x : Word). x.bits) (set ws i w)) k 0 ≡ get_or (set bits i w.bits) k 0 = ap (λ l. get_or l k 0) (map-set (λ (x : Word). x.bits) ws i w) in
-    elim (less i k below) [
+    elim (lower_or_last k i below) [
       | inl lower ↦ same ∙ get_or-set_other bits i k w.bits 0 (λ f. omega (arith, lower, f)) ∙ all k lower
       | inr f ↦
           same ∙ ap (λ j. get_or (set bits i w.bits) j 0) f

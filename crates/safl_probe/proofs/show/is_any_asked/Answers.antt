@@ -1,8 +1,9 @@
 use Rattle.std.proofs.Common.{◌≡◌, ℕ, ◌+◌, ◌<◌, List, get_or, length, false, Option, Some, None, is_some, String, string_bytes, option_map, Global, refl, sym, ap, ◌∙◌, inl, inr, arith}
 use Rattle.std.proofs.lemmas.List.{get_or-map, length-map}
 use Rattle.std.proofs.lemmas.Bool.{false≢true}
+use Rattle.safl_word.proofs.Naturals.{lower_or_last}
 use Rattle.safl_probe.specs.Asked.{asked}
-use Rattle.safl_probe.proofs.Growing.{less, is_within}
+use Rattle.safl_probe.proofs.Growing.{is_within}
 use Rattle.safl_probe.proofs.show.is_any_asked.Goals as goal
 
 nothing : (o : Option (String Global)) → is_some o ≡ false → option_map string_bytes o ≡ None
@@ -12,7 +13,7 @@ nothing (Some x) e = absurd (false≢true (sym e))
 none_more : (files : List (Option (String Global))) (i : ℕ) (o : Option (String Global)) → i < length files → o ≡ get_or files i o → is_some o ≡ false
     → ((k : ℕ) → k < i → get_or (asked files) k None ≡ None) → (k : ℕ) → k < i + 1 → get_or (asked files) k None ≡ None
 none_more files i o lt is none all k below =
-    elim (less i k below) [
+    elim (lower_or_last k i below) [
       | inl lower ↦ all k lower
       | inr e ↦ ap (λ j. get_or (asked files) j None) e ∙ get_or-map (option_map string_bytes) files i o None lt ∙ ap (option_map string_bytes) (sym is) ∙ nothing o none
     ]

@@ -1,5 +1,6 @@
-use Rattle.std.proofs.Common.{◌≡◌, ℕ, List, ◌++◌, map, take, drop, length, Vec, Global, Option, Result, Ok, Err, OnOk, IfErr, refl, sym, ap, subst, ◌∙◌, arith}
+use Rattle.std.proofs.Common.{◌≡◌, ℕ, List, ◌++◌, map, take, drop, length, Vec, Global, Option, refl, sym, ap, subst, ◌∙◌, arith}
 use Rattle.std.proofs.lemmas.List.{append-nil, take_all, drop_all}
+use Rattle.std.proofs.lemmas.Result.{IfErr-weaker, on_ok_weaker}
 use Rattle.safl_word.specs.Words.{Word}
 use Rattle.safl_io.specs.Told.{TellsOn}
 use Rattle.safl_io.specs.Shelf.{Files, ShelfState}
@@ -22,14 +23,6 @@ use Rattle.safl_probe.proofs.show.show.Goals as goal
 back_is : (len : ℕ) (f items : List Word) → length f ≡ length items → length items ≡ len → take len (f ++ drop (length f) items) ≡ f
 back_is len f items e g =
     ap (λ r. take len (f ++ r)) (drop_all (length f) items (omega (arith, e))) ∙ ap (take len) (append-nil f) ∙ take_all len f (omega (arith, e, g))
-
-on_ok : {T E : Type 0} (r : Result T E) (P Q : Type 0) → (P → Q) → OnOk r P → OnOk r Q
-on_ok (Ok x) P Q f p = f p
-on_ok (Err e) P Q f p = tt
-
-if_err : {T E : Type 0} (r : Result T E) (P Q : E → Type 0) → ((e : E) → P e → Q e) → IfErr r P → IfErr r Q
-if_err (Ok x) P Q f p = tt
-if_err (Err e) P Q f p = f e p
 
 none_grown : (R : Relation) (names : Asked) (text : ℕ → Text) (x : Option Files) → NoneAsked names → TellsOn (AllGrow R names text) x x
 none_grown R names text x none = told_same (AllGrow R names text) (λ a. record { files = λ i name k. absurd (none name i k); others = λ name free. refl }) x x refl
@@ -74,7 +67,7 @@ returns-clause-shown g c =
     let b = c.deref_mut.ensures.len in
     let d = ap (λ (l : List Word). length l) c.deref_mut.ensures.value in
     let back = back_is c.args.room.now.frame.len c.fill.new.frame c.args.room.now.frame.items (omega (arith, a, d)) (omega (arith, b, d)) in
-    on_ok c.tell_all.result _ _ (told_of c.args.cycle c.net.result.now c.args.sim.now.net _ c.args.sim.now.values c.args.files.now _ _ _ _ _
+    on_ok_weaker c.tell_all.result (told_of c.args.cycle c.net.result.now c.args.sim.now.net _ c.args.sim.now.values c.args.files.now _ _ _ _ _
     c.net.ensures (ap (map (λ (w : Word). w.bits)) back ∙ c.fill.ensures.values)) c.tell_all.ensures.told
 
 pub returns-clause-part : goal.returns-clause-part
@@ -83,7 +76,7 @@ returns-clause-part g c =
     let b = c.deref_mut.ensures.len in
     let d = ap (λ (l : List Word). length l) c.deref_mut.ensures.value in
     let back = back_is c.args.room.now.frame.len c.fill.new.frame c.args.room.now.frame.items (omega (arith, a, d)) (omega (arith, b, d)) in
-    if_err c.tell_all.result _ _ (part_of c.args.cycle c.net.result.now c.args.sim.now.net _ c.args.sim.now.values c.args.files.now _ _ _ _ _
+    IfErr-weaker c.tell_all.result _ _ (part_of c.args.cycle c.net.result.now c.args.sim.now.net _ c.args.sim.now.values c.args.files.now _ _ _ _ _
     c.net.ensures (ap (map (λ (w : Word). w.bits)) back ∙ c.fill.ensures.values)) c.tell_all.ensures.part
 
 pub fill-requires-clause-frame : goal.fill-requires-clause-frame

@@ -1,10 +1,11 @@
 use Rattle.std.proofs.Common.{ℕ, List, ◌++◌, get_or, slice_get, refl}
+use Rattle.std.proofs.Math.Seq.{drop-cons}
 use Rattle.safl_probe.specs.Texts.{Text, starts, start}
 use Rattle.safl_probe.specs.Entries.{name_of, watched_from, numbers}
 use Rattle.safl_probe.specs.declared.entry.Entry.{Entry}
 use Rattle.safl_probe.specs.declared.entry.Spot.{Spot}
 use Rattle.safl_probe.proofs.Rest.{rest_more, rest_none}
-use Rattle.safl_probe.proofs.Spots.{no_spot, drop_get}
+use Rattle.safl_probe.proofs.Spots.{no_spot}
 use Rattle.safl_probe.proofs.starts_and_toggles.push_starts.Goals as goal
 
 abbrev rest_of : ℕ → List Entry → ℕ → List Spot → Text
@@ -18,7 +19,7 @@ spots-preserved c =
     rest_more (rest_of c.args.t c.args.entries.now) (piece_of c.args.t c.args.entries.now) (λ i. refl) (λ i s ss. refl)
     c.args.spots.now c.spots.i (get_or c.args.spots.now c.spots.i no_spot) c.spots.out.items c.push_start.new.out.items
     (c.args.out.now.items ++ rest_of c.args.t c.args.entries.now 0 c.args.spots.now)
-    (drop_get c.args.spots.now c.spots.i no_spot c.spots-test.true) c.spots.invariant c.in_ok-push_start.ensures
+    (drop-cons c.args.spots.now c.spots.i no_spot c.spots-test.true) c.spots.invariant c.in_ok-push_start.ensures
 
 pub returns : goal.returns
 returns c =

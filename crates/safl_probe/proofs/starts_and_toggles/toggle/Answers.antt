@@ -1,12 +1,12 @@
 use Rattle.std.proofs.Common.{◌≡◌, ℕ, ◌+◌, List, ◌∷◌, drop, suc, map, get_or, slice_index, sym, ap, ◌∙◌, add-one, arith}
 use Rattle.std.specs.Prelude.{bit_xor, count_ones}
+use Rattle.std.proofs.lemmas.List.{drop_all}
 use Rattle.safl_word.specs.Words.{Word}
 use Rattle.safl_net.specs.Valuations.{Valuation}
 use Rattle.safl_probe.specs.Watching.{seen}
 use Rattle.safl_probe.specs.Texts.{toggled}
 use Rattle.safl_probe.specs.Entries.{nameless, numbers}
 use Rattle.safl_probe.specs.declared.entry.Spot.{Spot}
-use Rattle.safl_probe.proofs.Rest.{gone}
 use Rattle.safl_probe.proofs.Spots.{no_spot, spots_from, look_more, first_all}
 use Rattle.safl_probe.proofs.starts_and_toggles.toggle.Goals as goal
 
@@ -36,7 +36,7 @@ spots-preserved c =
 pub returns-clause-count : goal.returns-clause-count
 returns-clause-count c =
     let frame : Valuation = map (λ (w : Word). w.bits) c.args.frame.now in
-    let none = ap (count_in frame) (gone c.args.spots.now c.spots.i c.spots-test.false) in
+    let none = ap (count_in frame) (drop_all c.spots.i c.args.spots.now c.spots-test.false) in
     let before = c.spots.invariant.counted in
     omega (arith, none, before)
 

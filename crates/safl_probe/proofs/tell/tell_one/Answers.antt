@@ -1,11 +1,8 @@
 use Rattle.std.proofs.Common.{◌≡◌, Result, Ok, Err, OnOk, OnErr, is_ok, sym, ap, ◌∙◌}
 use Rattle.std.proofs.lemmas.Bool.{false≢true}
+use Rattle.safl_word.proofs.Options.{on_err_always}
 use Rattle.safl_probe.proofs.Growing.{opened_only, unopened}
 use Rattle.safl_probe.proofs.tell.tell_one.Goals as goal
-
-on_err : {T E : Type 0} (r : Result T E) (P : Type 0) → P → OnErr r P
-on_err (Ok x) P p = tt
-on_err (Err e) P p = p
 
 at_err : {T E F : Type 0} (r : Result T E) (s : Result T F) (f : F) (P : Type 0) → s ≡ Err f → is_ok s ≡ is_ok r → OnErr r P → P
 at_err (Ok x) s f P is same h = absurd (false≢true (sym (ap is_ok is) ∙ same))
@@ -17,7 +14,7 @@ at_ok (Err e) s x P is same h = absurd (false≢true (sym same ∙ ap is_ok is))
 
 pub returns-in_err-map_err-clause-part : goal.returns-in_err-map_err-clause-part
 returns-in_err-map_err-clause-part g c =
-    on_err c.from_residual.result _
+    on_err_always c.from_residual.result _
     (unopened c.args.moment c.args.name.now _ _ _ (at_err c.open.result c.map_err.result _ _ c.in_err-map_err.was c.map_err.ensures.variant c.open.ensures.at_beginning)
     (at_err c.open.result c.map_err.result _ _ c.in_err-map_err.was c.map_err.ensures.variant c.open.ensures.not_opened))
 

@@ -1,9 +1,10 @@
 use Rattle.std.proofs.Common.{ℕ, List, ◌++◌, get_or, refl}
+use Rattle.std.proofs.Math.Seq.{drop-cons}
 use Rattle.safl_probe.specs.Texts.{values, value}
 use Rattle.safl_probe.specs.Entries.{nameless, numbers}
 use Rattle.safl_probe.specs.declared.entry.Spot.{Spot}
 use Rattle.safl_probe.proofs.Rest.{rest_more, rest_none}
-use Rattle.safl_probe.proofs.Spots.{no_spot, drop_get}
+use Rattle.safl_probe.proofs.Spots.{no_spot}
 use Rattle.safl_probe.proofs.vcd_text.push_values.Goals as goal
 
 pub spots-preserved : goal.spots-preserved
@@ -11,7 +12,7 @@ spots-preserved c =
     rest_more (λ (i : ℕ) (ss : List Spot). values i (nameless ss) (numbers ss)) (λ (i : ℕ) (s : Spot). value i s.width s.number) (λ i. refl) (λ i s ss. refl)
     c.args.spots.now c.spots.i (get_or c.args.spots.now c.spots.i no_spot) c.spots.out.items c.push_number.new.out.items
     (c.args.out.now.items ++ values 0 (nameless c.args.spots.now) (numbers c.args.spots.now))
-    (drop_get c.args.spots.now c.spots.i no_spot c.spots-test.true) c.spots.invariant c.in_ok-push_number.ensures
+    (drop-cons c.args.spots.now c.spots.i no_spot c.spots-test.true) c.spots.invariant c.in_ok-push_number.ensures
 
 pub returns : goal.returns
 returns c =

@@ -1,11 +1,12 @@
 use Rattle.std.proofs.Common.{◌≡◌, ◌+◌, [], ◌∷◌, ◌++◌, length, slice_index, refl, sym, ap, subst, ◌∙◌, arith, inl, inr}
 use Rattle.std.proofs.lemmas.Result.{err_from_is_err_and}
+use Rattle.std.proofs.lemmas.List.{length_push}
+use Rattle.safl_word.proofs.Lists.{get_pushed}
 use Rattle.safl_io.proofs.Keeping.{reads_same, reads_then}
 use Rattle.safl_net.specs.Netlist.{Netlist}
 use Rattle.safl_net.specs.Valuations.{Valuation}
-use Rattle.safl_net.proofs.Naming.{pushed}
 use Rattle.safl_run.specs.Steps.{IsCalled, Goes}
-use Rattle.safl_run.proofs.Going.{going_none, long_more}
+use Rattle.safl_run.proofs.Going.{going_none}
 use Rattle.safl_run.proofs.Stepping.{goes_along, goes_call, goes_on, replied}
 use Rattle.safl_probe.specs.Rooms.{HasWidths}
 use Rattle.safl_probe.specs.Asked.{asked}
@@ -42,7 +43,7 @@ cycles-preserved g c =
     record {
       net = c.step-done.ensures.net ∙ i.net;
       frames = i.frames ++ v ∷ [];
-      count = long_more i.frames v ∙ ap (λ k. k + 1) i.count;
+      count = length_push i.frames v ∙ ap (λ k. k + 1) i.count;
       going = λ args called.
           goes_on n (slice_index c.args.sim.now.state) args i.frames c.step-done.new.sim c.step-done.result (sym c.is_some.ensures ∙ c.if-is_some.false)
           (goes_along n (slice_index c.args.sim.now.state) args i.frames c.args.harness.now c.cycles.cycle c.cycles.sim c.step-done.new.sim
@@ -83,7 +84,7 @@ returns-in_err-show-clause-broken g c =
     let i = c.cycles.invariant in
     let n : Netlist = c.args.sim.now.net in
     let v : Valuation = c.step-done.new.sim.values in
-    let long : length (i.frames ++ v ∷ []) ≡ length i.frames + 1 = long_more i.frames v in
+    let long : length (i.frames ++ v ∷ []) ≡ length i.frames + 1 = length_push i.frames v in
     let p = err_from_is_err_and c.from_residual.result c.from_residual.ensures.1 in
     rw (p.1, p.2)
     (record {
@@ -95,7 +96,7 @@ returns-in_err-show-clause-broken g c =
             frames = i.frames ++ v ∷ [];
             call = goes_call n (slice_index c.args.sim.now.state) args i.frames c.step-done.new.sim c.step-done.result goes;
             in_time = let a = i.count in let b = c.cycles-test.true in omega (arith, a, b, long);
-            off = λ x w below f. elim (pushed i.frames v w x f) [ inl h ↦ (i.going args called).not_done x w h | inr h ↦ absurd (let p = h.0 in omega (arith, p, below, long)) ];
+            off = λ x w below f. elim (get_pushed i.frames v w x f) [ inl h ↦ (i.going args called).not_done x w h | inr h ↦ absurd (let p = h.0 in omega (arith, p, below, long)) ];
             files = shown_part (asked c.args.files.now) _ i.frames v _ _ _ _ i.shown (cycle_part c.cycles.cycle v (asked c.args.files.now) _ _ _ c.in_err-show.ensures.part.grown);
           };
       stopped = stopped_later c.in_err-show.field-0.0 (asked c.args.files.now) _ _ _ _ _ _ i.probes.probes i.reads c.in_err-show.ensures.part.stopped;

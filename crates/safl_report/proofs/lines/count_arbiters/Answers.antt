@@ -2,7 +2,8 @@ use Rattle.std.proofs.Common.{◌≡◌, ℕ, ◌+◌, ◌≤◌, cond, map, sym
 use Rattle.std.specs.Prelude.{count_by}
 use Rattle.std.specs.Int.{from_bool}
 use Rattle.std.specs.List.{range_with_len}
-use Rattle.safl_report.proofs.CountsByOne.{count_more, count_most, bool_number, bool_few}
+use Rattle.safl_word.proofs.Booleans.{bool_number}
+use Rattle.safl_report.proofs.CountsByOne.{count_more, count_most, bool_few}
 use Rattle.safl_report.proofs.lines.count_arbiters.Goals as goal
 
 pub loop-f-preserved : goal.loop-f-preserved

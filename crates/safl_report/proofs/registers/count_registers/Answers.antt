@@ -1,6 +1,6 @@
 use Rattle.std.proofs.Common.{◌<◌, length, refl, ◌∙◌, arith}
 use Rattle.safl_net.specs.Making.{kind_at}
-use Rattle.safl_report.specs.Report.{is_register}
+use Rattle.safl_net.specs.Netlist.{is_register}
 use Rattle.safl_report.proofs.RegistersByOne.{count_more, bits_more}
 use Rattle.safl_report.proofs.registers.count_registers.Goals as goal
 

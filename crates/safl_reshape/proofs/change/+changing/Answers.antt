@@ -1,14 +1,15 @@
 use Rattle.std.proofs.Common.{◌≡◌, ◌-◌, ◌+◌, suc, refl, sym, ap, ◌∙◌, arith}
 use Rattle.std.proofs.lemmas.Result.{IfOk-weaker}
+use Rattle.safl_word.proofs.Options.{on_ok_always}
 use Rattle.safl_tree.specs.Tree.{trees_of}
 use Rattle.safl_tree.specs.Shown.{shown_tree, shown_trees, shown_bounds, shown_labelled}
 use Rattle.safl_typing.specs.Heads.{callee, is_site}
 use Rattle.safl_typing.specs.PlainHeads.{known, site_of}
+use Rattle.safl_typing.proofs.HeadsByName.{site_plain}
 use Rattle.safl_reshape.specs.Changed.{sites_in_tree}
 use Rattle.safl_reshape.specs.Lists.{change_of, sites_bounds, sites_labelled}
-use Rattle.safl_reshape.proofs.Listed.{site_plain}
 use Rattle.safl_reshape.proofs.ShownNodes.{shown_let, shown_case, shown_op, shown_call}
-use Rattle.safl_reshape.proofs.ChangedNodes.{let_done, case_done, op_done, call_done, left_let, left_case, left_op, left_call, on_ok_always}
+use Rattle.safl_reshape.proofs.ChangedNodes.{let_done, case_done, op_done, call_done, left_let, left_case, left_op, left_call}
 use Rattle.safl_reshape.proofs.ListsLeft.{list_more, bounds_more, arms_more, list_left, bounds_left, arms_left}
 use Rattle.safl_reshape.proofs.change.+changing.Goals as goal
 

@@ -5,11 +5,12 @@ use Rattle.safl_typing.specs.Heads.{Head, heads}
 use Rattle.safl_typing.specs.PlainHeads.{shown_heads, known}
 use Rattle.safl_typing.specs.Rewriting.{rewritten}
 use Rattle.safl_typing.proofs.Placing.{heads_length}
+use Rattle.safl_typing.proofs.HeadsByName.{heads_count}
 use Rattle.safl_reshape.specs.Changed.{calls, is_member}
 use Rattle.safl_reshape.specs.Reshaped.{is_recursive}
 use Rattle.safl_reshape.specs.Refusals.{HasSite}
 use Rattle.safl_reshape.proofs.Putting.{shown_length}
-use Rattle.safl_reshape.proofs.Callees.{callee_within, plain_length, recursive_shown}
+use Rattle.safl_reshape.proofs.Callees.{callee_within, recursive_shown}
 use Rattle.safl_reshape.proofs.inline.unfolded_defs.Goals as goal
 
 pub get-requires : goal.get-requires
@@ -19,7 +20,7 @@ get-requires c =
     (shown_definitions c.args.defs.now) c.args.checked.now c.args.site c.requires.form c.sites-sites.ensures.checked s in
     let lt : c.callee-callee.result < length c.args.defs.now = omega (arith, w, shown_length c.args.defs.now, c.callee-callee.ensures.number) in
     let h : length (shown_heads c.in_ok-heads.heads) ≡ length (heads (shown_definitions c.args.defs.now)) = ap (λ (l : List Head). length l) c.in_ok-heads.ensures in
-    omega (arith, h, plain_length c.in_ok-heads.heads, heads_length 0 0 (shown_definitions c.args.defs.now), w, c.callee-callee.ensures.number)
+    omega (arith, h, heads_count c.in_ok-heads.heads, heads_length 0 0 (shown_definitions c.args.defs.now), w, c.callee-callee.ensures.number)
 
 pub bounds-defs-callee : goal.bounds-defs-callee
 bounds-defs-callee c =

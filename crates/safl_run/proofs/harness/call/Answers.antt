@@ -1,7 +1,8 @@
 use Rattle.std.proofs.Common.{◌+◌, ◌∷◌, [], ◌++◌, slice_index, refl, sym, ap, subst, ◌∙◌, arith}
+use Rattle.std.proofs.lemmas.List.{length_push}
 use Rattle.safl_net.specs.Netlist.{Netlist}
 use Rattle.safl_run.specs.Steps.{IsCalled, Goes}
-use Rattle.safl_run.proofs.Going.{going_none, long_more}
+use Rattle.safl_run.proofs.Going.{going_none}
 use Rattle.safl_run.proofs.Stepping.{goes_along, goes_on, replied}
 use Rattle.safl_run.proofs.harness.call.Goals as goal
 
@@ -29,7 +30,7 @@ cycles-preserved c =
     record {
       net = c.step-done.ensures.net ∙ i.net;
       frames = i.frames ++ c.step-done.new.sim.values ∷ [];
-      count = long_more i.frames c.step-done.new.sim.values ∙ ap (λ x. x + 1) i.count;
+      count = length_push i.frames c.step-done.new.sim.values ∙ ap (λ x. x + 1) i.count;
       going = goes_on n (slice_index c.args.sim.now.state) c.args.args.now i.frames c.step-done.new.sim c.step-done.result (sym c.is_some.ensures ∙ c.if-is_some.false) goes;
       given = λ h. c.step-done.ensures.given (omega (arith, h));
     }

@@ -2,9 +2,9 @@ use Rattle.std.proofs.Common.{ap, ◌∙◌, arith}
 use Rattle.safl_net.specs.Netlist.{width_of}
 use Rattle.safl_net.specs.Making.{kind_at}
 use Rattle.safl_run.specs.Rooms.{own_zero, zeros_of}
-use Rattle.safl_run.proofs.ListsOfWords.{list_long}
 use Rattle.safl_run.proofs.InputsAroundStart.{zeros_more, zeros_none}
 use Rattle.std.proofs.Common.{length, take, sym}
+use Rattle.std.proofs.lemmas.List.{length-append}
 use Rattle.safl_run.proofs.input_words.inputs_before.Goals as goal
 
 pub signals-init : goal.signals-init
@@ -20,5 +20,5 @@ signals-preserved c =
     let few = c.signals.invariant.small in
     let here = c.inputs_at-count.ensures.count in
     let one = c.inputs_at-count.ensures.small in
-    let more = ap length (zeros_more n i (omega (arith, inside, known))) ∙ list_long (zeros_of (take i n.signals)) (own_zero (kind_at n i) (width_of n i)) in
+    let more = ap length (zeros_more n i (omega (arith, inside, known))) ∙ length-append (zeros_of (take i n.signals)) (own_zero (kind_at n i) (width_of n i)) in
     record { count = omega (arith, before, here, more); small = omega (arith, few, one) }

@@ -1,6 +1,7 @@
 use Rattle.std.proofs.Common.{◌≡◌, ◌≤◌, ◌+◌, length, Some, None, slice_index, subst, sym, refl, ◌∙◌, inr, Vec, Global}
 use Rattle.safl_word.specs.Words.{Word}
-use Rattle.safl_session.proofs.WordsOfLines.{SeenTo, is_absent, is_present, seen_none, seen_read, seen_bad, seen_over, seen_count, seen_call, seen_fault, shown_at}
+use Rattle.safl_word.proofs.Lists.{shown_at}
+use Rattle.safl_session.proofs.WordsOfLines.{SeenTo, is_absent, is_present, seen_none, seen_read, seen_bad, seen_over, seen_count, seen_call, seen_fault}
 use Rattle.safl_session.proofs.line.read_line.Goals.{then-is_none+then-given-widths+in-None}
 use Rattle.safl_session.proofs.line.read_line.Goals.{then-is_none+then-given-widths+in-Some-read_argument+in-Ok, else-is_none}
 use Rattle.safl_session.proofs.line.read_line.Goals.{else-is_none-via-then-is_none+else-given-widths, else-is_none-via-else-is_none}

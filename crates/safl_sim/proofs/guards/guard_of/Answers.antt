@@ -1,8 +1,8 @@
 use Rattle.std.proofs.Common.{◌≡◌, ◌<◌, ℕ, List, length, Some, slice_get, slice_index, sym, subst, ◌∙◌}
+use Rattle.safl_word.proofs.Lists.{get_read}
 use Rattle.safl_sim.specs.declared.step.Step.{Step}
 use Rattle.safl_sim.specs.declared.step.Action.{Action}
 use Rattle.safl_sim.specs.Readers.{IsBlind, Blind}
-use Rattle.safl_sim.proofs.Written.{get_read}
 use Rattle.safl_sim.proofs.guards.guard_of.Goals as goal
 
 -- a step that is blind to a place

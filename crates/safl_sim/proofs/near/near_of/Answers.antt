@@ -1,6 +1,6 @@
 use Rattle.std.proofs.Common.{◌≡◌, ◌+◌, ◌*◌, ◌%◌, ◌^◌, ◌≤◌, Some, slice_get, slice_index, sym, subst, arith}
 use Rattle.std.specs.Int.RustNames.{bit_or}
-use Rattle.safl_sim.proofs.Written.{get_at}
+use Rattle.std.proofs.lemmas.Option.{slice_get-get_or}
 use Rattle.safl_sim.proofs.Nearing.{NearTo, near_none, near_more, near_other, near_is}
 use Rattle.safl_sim.proofs.near.near_of.Goals.{then-reader-word, else-reader-word+then-j-first, else-reader-word+else-j-first}
 use Rattle.safl_sim.proofs.near.near_of.Goals as goal
@@ -21,7 +21,7 @@ readers-preserved c =
     let word = c.args.word in
     let k = slice_index readers j in
     let late : from ≤ j = (let a = c.readers.auto.j in omega (arith, a)) in
-    let here : slice_get readers j ≡ Some k = get_at readers j 0 (let a = c.readers-test.true in let b = c.requires.within in omega (arith, a, b)) in
+    let here : slice_get readers j ≡ Some k = slice_get-get_or readers j 0 (let a = c.readers-test.true in let b = c.requires.within in omega (arith, a, b)) in
     elim c.if-reader-word.branch [
       | then-reader-word w ↦
           subst (λ m. NearTo readers from (j + 1) to word m c.if-reader-word.first) (sym w.mask-is)

@@ -1,6 +1,7 @@
 use Rattle.std.proofs.Common.{option_copied, sym, ap, ◌∙◌}
 use Rattle.safl_net.specs.Stored.{cell_of, maybe_cell}
-use Rattle.safl_sim.proofs.Builds.{cell_found, wire_known}
+use Rattle.safl_order.proofs.Moves.{wire_in_net}
+use Rattle.safl_sim.proofs.Builds.{cell_found}
 use Rattle.safl_sim.proofs.parts.step_of.Goals as goal
 
 pub fitting_action-requires-clause-fits : goal.fitting_action-requires-clause-fits
@@ -9,4 +10,4 @@ fitting_action-requires-clause-fits c =
     (sym c.cell.ensures ∙ ap (λ x. maybe_cell (option_copied x)) c.in-Some.is)
 
 pub fitting_action-requires-clause-known : goal.fitting_action-requires-clause-known
-fitting_action-requires-clause-known c = wire_known c.args.net.now c.args.wire.0 c.requires.wire
+fitting_action-requires-clause-known c = wire_in_net c.args.net.now c.args.wire.0 c.requires.wire

@@ -3,10 +3,11 @@ use Rattle.safl_net.specs.declared.cell.Sig.{Sig}
 use Rattle.safl_net.specs.Netlist.{Netlist}
 use Rattle.safl_net.specs.Making.{numbers}
 use Rattle.safl_order.specs.Order.{IsWire}
+use Rattle.safl_order.proofs.Moves.{wire_in_net}
 use Rattle.safl_sim.specs.declared.step.Near.{Near}
 use Rattle.safl_sim.specs.declared.step.Step.{Step}
 use Rattle.safl_sim.specs.Nears.{NearAt, NearOf}
-use Rattle.safl_sim.proofs.Builds.{StepsTo, numbers_at, steps_more, wire_known}
+use Rattle.safl_sim.proofs.Builds.{StepsTo, numbers_at, steps_more}
 use Rattle.safl_sim.proofs.Nearing.{NearsTo, nears_more}
 use Rattle.safl_sim.proofs.parts.steps_of.Goals as goal
 
@@ -15,7 +16,7 @@ none = record { 0 = 0 }
 
 -- the place of a wire
 place : (n : Netlist) (wires : List Sig) (i : ℕ) → i < length wires → ((j s : ℕ) → slice_get (numbers wires) j ≡ Some s → IsWire n s) → (get_or wires i none).0 < length n.signals
-place n wires i h are = wire_known n (get_or wires i none).0 (are i (get_or wires i none).0 (numbers_at wires i none h))
+place n wires i h are = wire_in_net n (get_or wires i none).0 (are i (get_or wires i none).0 (numbers_at wires i none h))
 
 pub bounds-starts-place : goal.bounds-starts-place
 bounds-starts-place c =

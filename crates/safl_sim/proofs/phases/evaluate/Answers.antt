@@ -1,6 +1,7 @@
 use Rattle.std.proofs.Common.{◌≡◌, ℕ, ◌+◌, ◌/◌, ◌<◌, List, length, set, slice_index, sym, ap, subst, ◌∙◌, arith}
 use Rattle.safl_word.specs.Words.{pick}
 use Rattle.std.specs.Int.RustNames.{bit_or}
+use Rattle.safl_word.proofs.Words.{pick_ap}
 use Rattle.safl_sim.specs.declared.step.Action.{Action}
 use Rattle.safl_sim.specs.declared.step.Action.TheVariants.{Choose}
 use Rattle.safl_sim.specs.declared.step.Near.{Near}
@@ -9,7 +10,6 @@ use Rattle.safl_sim.specs.Marks.{holding}
 use Rattle.safl_sim.specs.Nears.{NearOf}
 use Rattle.safl_sim.specs.Readers.{IsPart, HasMarked, HasGiven}
 use Rattle.safl_sim.specs.Steps.{action_number}
-use Rattle.safl_sim.proofs.Actions.{picked_number}
 use Rattle.safl_sim.proofs.Nearing.{near_same, near_new}
 use Rattle.safl_sim.proofs.phases.evaluate.Goals as goal
 
@@ -41,7 +41,7 @@ changed steps starts readers step i x near values values' marks marks' held h n 
 chosen : (f : ℕ → ℕ) (action : Action) (c a b x place number : ℕ) → action ≡ Choose c a b → x ≡ f c → place ≡ pick x a b → number ≡ f place → number ≡ action_number f action
 chosen f action c a b x place number is condition at read =
     subst (λ (t : Action). number ≡ action_number f t) (sym is)
-    (read ∙ ap f at ∙ picked_number f x a b ∙ ap (λ y. pick y (f a) (f b)) condition)
+    (read ∙ ap f at ∙ pick_ap f x a b ∙ ap (λ y. pick y (f a) (f b)) condition)
 
 pub returns-then-not-renew_low-clause-given : goal.returns-then-not-renew_low-clause-given
 returns-then-not-renew_low-clause-given d = λ i held h near.

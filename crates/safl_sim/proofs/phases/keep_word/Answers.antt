@@ -1,9 +1,11 @@
 use Rattle.std.proofs.Common.{◌≡◌, inl, inr, ◌+◌, ◌-◌, ◌*◌, ◌/◌, ◌<◌, ◌≤◌, ℕ, List, Some, length, get_or, slice_get, slice_index, refl, sym, ap, subst, ◌∙◌, arith, false}
+use Rattle.std.proofs.lemmas.Option.{slice_get-get_or}
+use Rattle.std.proofs.lemmas.Bool.{cases_eq}
+use Rattle.std.proofs.lemmas.List.{length-set}
 use Rattle.safl_sim.specs.declared.step.Register.{Register}
 use Rattle.safl_sim.specs.Marks.{marked, holding, HasTaken}
 use Rattle.safl_sim.specs.States.{placed}
 use Rattle.safl_sim.specs.Writes.{KeepsOn}
-use Rattle.safl_sim.proofs.Written.{get_at, same_or_not, set_length}
 use Rattle.safl_sim.proofs.MarksByOne.{taken_after}
 use Rattle.safl_sim.proofs.Nearing.{joined, holding_all, no_marks}
 use Rattle.safl_sim.proofs.Placing.{placed_long, placed_set, next_once}
@@ -35,7 +37,7 @@ past first regs values place word i start was now marks marks' waiting early fro
 -- what the others of the word are
 left : (marks marks' waiting : List ℕ) (first word i : ℕ) → HasTaken marks marks' word i → ((k : ℕ) → (first + k) / 64 ≡ word → marked marks (first + k) ≡ 1 → marked waiting k ≡ 1)
     → (k : ℕ) → (first + k) / 64 ≡ word → marked marks' (first + k) ≡ 1 → marked waiting k ≡ 1
-left marks marks' waiting first word i t wait k q e = elim (same_or_not (first + k) i) [
+left marks marks' waiting first word i t wait k q e = elim (cases_eq (first + k) i) [
   | inl z ↦ absurd (let a = t.gone in let b = ap (marked marks') z in omega (arith, a, b, e))
   | inr n ↦ wait k q (sym (t.others (first + k) n) ∙ e)
 ]
@@ -107,7 +109,7 @@ registers-preserved c =
     let k = (c.args.word - c.args.first) * 64 + c.in-Some.taken.bit in
     let e = number c.args.first c.args.word c.in-Some.taken.bit c.requires.after in
     let r = get_or c.args.registers.now k none in
-    let here : slice_get c.args.registers.now k ≡ Some r = get_at c.args.registers.now k none f in
+    let here : slice_get c.args.registers.now k ≡ Some r = slice_get-get_or c.args.registers.now k none f in
     let long = c.registers.invariant.state ∙ c.requires.registers.states in
     let known : r.signal.0 < length (placed (length c.args.values.now) c.args.registers.now c.registers.state) =
     (let a = c.requires.registers.within k r here in let b = placed_long (length c.args.values.now) c.args.registers.now c.registers.state in omega (arith, a, b)) in
@@ -132,8 +134,8 @@ registers-preserved c =
 
 pub returns-clause-count : goal.returns-clause-count
 returns-clause-count c = record {
-  marks = ap length c.put.ensures ∙ set_length c.args.marks.now c.args.word 0;
-  waiting = ap length c.join.ensures ∙ set_length c.args.waiting.now (c.args.word - c.args.first) _;
+  marks = ap length c.put.ensures ∙ length-set c.args.marks.now c.args.word 0;
+  waiting = ap length c.join.ensures ∙ length-set c.args.waiting.now (c.args.word - c.args.first) _;
 }
 
 pub returns-clause-keeps : goal.returns-clause-keeps

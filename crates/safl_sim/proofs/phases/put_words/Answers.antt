@@ -1,6 +1,7 @@
 use Rattle.std.proofs.Common.{ℕ, ◌+◌, ◌<◌, ◌^◌, List, length, set, sym, subst, ◌∙◌, arith}
+use Rattle.safl_word.proofs.Lists.{get_read}
 use Rattle.safl_sim.specs.Writes.{HasPut}
-use Rattle.safl_sim.proofs.Written.{get_read, put_step}
+use Rattle.safl_sim.proofs.Written.{put_step}
 use Rattle.safl_sim.proofs.Updates.{goes_step, lists_same}
 use Rattle.safl_sim.proofs.phases.put_words.Goals as goal
 

@@ -1,4 +1,6 @@
 use Rattle.std.proofs.Common.{◌≡◌, ◌+◌, ◌*◌, ◌<◌, ◌≤◌, ℕ, List, length, get_or, set, slice_get, slice_index, Some, refl, sym, ap, subst, ◌∙◌, arith, ◌^◌}
+use Rattle.std.proofs.lemmas.List.{length-set}
+use Rattle.safl_word.proofs.Lists.{get_read}
 use Rattle.safl_sim.specs.declared.plan.Plan.{Plan}
 use Rattle.safl_sim.specs.declared.step.Group.{Group}
 use Rattle.safl_sim.specs.declared.step.Register.{Register}
@@ -7,7 +9,6 @@ use Rattle.safl_sim.specs.Nears.{GroupOf}
 use Rattle.safl_sim.specs.Readers.{HasGiven}
 use Rattle.safl_sim.specs.States.{AreLow}
 use Rattle.safl_sim.specs.Writes.{ShowsWaiting}
-use Rattle.safl_sim.proofs.Written.{get_read, set_length}
 use Rattle.safl_sim.proofs.MarksByOne.{taken_after}
 use Rattle.safl_sim.proofs.Nearing.{holding_all, holding_long, no_marks}
 use Rattle.safl_sim.proofs.Registers.{low_shown, shows_none, shows_step}
@@ -116,7 +117,7 @@ registers-preserved c =
     let told = c.show.ensures in
     record {
       from = (let a = t.within in omega (arith, a));
-      wide = (let a = c.registers.invariant.wide in let b = ap length told.is in let d = set_length c.registers.values own.signal.0 x in omega (arith, a, b, d));
+      wide = (let a = c.registers.invariant.wide in let b = ap length told.is in let d = length-set c.registers.values own.signal.0 x in omega (arith, a, b, d));
       long = told.long ∙ c.registers.invariant.long;
       low = subst (λ l. AreLow p.registers.items l c.args.state.now) (sym told.is)
           (low_shown p.registers.items c.registers.values c.args.state.now i own c.requires.registers.once c.registers.invariant.low at known);

@@ -1,6 +1,6 @@
 use Rattle.std.proofs.Common.{subst, arith}
+use Rattle.safl_word.proofs.Lists.{get_read}
 use Rattle.safl_sim.specs.Readers.{HasMarked}
-use Rattle.safl_sim.proofs.Written.{get_read}
 use Rattle.safl_sim.proofs.MarksByOne.{marked_none, marked_step}
 use Rattle.safl_sim.proofs.readers.mark_readers.Goals as goal
 

@@ -1,6 +1,7 @@
 use Rattle.std.proofs.Common.{◌≡◌, Some, length, slice_get, slice_index, ◌+◌, refl, sym, ap, subst, ◌∙◌, arith}
+use Rattle.std.proofs.lemmas.Option.{slice_get-get_or}
+use Rattle.safl_word.proofs.Lists.{get_read}
 use Rattle.safl_sim.specs.Readers.{HasMarked}
-use Rattle.safl_sim.proofs.Written.{get_at, get_read}
 use Rattle.safl_sim.proofs.MarksByOne.{marked_none, marked_step, blind_step}
 use Rattle.safl_sim.proofs.readers.mark_seeing.Goals.{then-sees, else-sees}
 use Rattle.safl_sim.proofs.readers.mark_seeing.Goals as goal
@@ -36,7 +37,7 @@ readers-preserved c =
           let least = part.1 in
           let most = part.2 in
           let before = c.readers.invariant.marked p part in
-          let here : slice_get readers j ≡ Some (slice_index readers j) = get_at readers j 0 (let a = c.readers-test.true in let b = c.requires.within in omega (arith, a, b)) in
+          let here : slice_get readers j ≡ Some (slice_index readers j) = slice_get-get_or readers j 0 (let a = c.readers-test.true in let b = c.requires.within in omega (arith, a, b)) in
           let guard = get_read plan.guards.items j c.index.result.now
           (let a = c.readers-test.true in let b = c.requires.within in let d = plan.guard_for_each in omega (arith, a, b, d)) c.index.ensures in
           elim c.if-sees.branch [

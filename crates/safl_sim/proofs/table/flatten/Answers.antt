@@ -1,7 +1,7 @@
 use Rattle.std.proofs.Common.{◌≡◌, ℕ, List, ◌∷◌, ◌++◌, ◌+◌, [], length, get_or, sym, ap, subst, ◌∙◌, arith}
+use Rattle.std.proofs.lemmas.Option.{slice_get-get_or}
 use Rattle.safl_sim.specs.Readers.{AreFlat}
 use Rattle.safl_sim.proofs.Tables.{flat_step}
-use Rattle.safl_sim.proofs.Written.{get_at}
 use Rattle.safl_sim.proofs.table.flatten.Goals as goal
 
 pub places-preserved : goal.places-preserved
@@ -9,7 +9,7 @@ places-preserved c =
     let lists = c.args.lists.now in
     let p = c.places.p in
     let v = get_or lists p [] in
-    let here = get_at lists p [] (let a = c.places-test.true in let b = c.requires in omega (arith, a, b)) in
+    let here = slice_get-get_or lists p [] (let a = c.places-test.true in let b = c.requires in omega (arith, a, b)) in
     let starts = c.places.starts.items in
     let readers = c.places.readers.items in
     let w = flat_step lists starts readers p v c.places.invariant here in

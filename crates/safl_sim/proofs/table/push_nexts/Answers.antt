@@ -1,8 +1,8 @@
 use Rattle.std.proofs.Common.{◌≡◌, ◌+◌, ◌-◌, ◌∷◌, [], ℕ, Some, length, set, get_or, slice_get, sym, subst, ◌∙◌, arith, false}
+use Rattle.std.proofs.lemmas.Option.{slice_get-get_or}
 use Rattle.safl_sim.specs.declared.step.Register.{Register}
 use Rattle.safl_sim.specs.Marks.{first_register}
 use Rattle.safl_sim.specs.Readers.{AreLists}
-use Rattle.safl_sim.proofs.Written.{get_at}
 use Rattle.safl_sim.proofs.Tables.{lists_register}
 use Rattle.safl_sim.proofs.table.push_nexts.Goals as goal
 
@@ -16,10 +16,10 @@ registers-preserved c =
     let k : ℕ = length regs - 1 - i in
     let early = c.registers-test.true in
     let r = get_or regs k none in
-    let at : slice_get regs k ≡ Some r = get_at regs k none (omega (arith, early)) in
+    let at : slice_get regs k ≡ Some r = slice_get-get_or regs k none (omega (arith, early)) in
     let lists = c.registers.lists in
     let v = get_or lists r.next.0 [] in
-    let here = get_at lists r.next.0 [] (let a = c.requires.within k r at in let b = c.registers.invariant.long in omega (arith, a, b)) in
+    let here = slice_get-get_or lists r.next.0 [] (let a = c.requires.within k r at in let b = c.registers.invariant.long in omega (arith, a, b)) in
     let mark = c.in_ok-mark.mark in
     record {
       long = c.push.ensures.long ∙ c.registers.invariant.long;

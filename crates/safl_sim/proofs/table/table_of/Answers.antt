@@ -1,8 +1,8 @@
 use Rattle.std.proofs.Common.{◌≡◌, ◌+◌, ◌*◌, ◌/◌, length, subst, arith}
 use Rattle.safl_net.specs.Making.{numbers}
+use Rattle.safl_net.proofs.Keeping.{numbers_length}
 use Rattle.safl_sim.specs.Marks.{first_register}
 use Rattle.safl_sim.specs.Readers.{Lists, AreLists}
-use Rattle.safl_sim.proofs.Builds.{numbers_length}
 use Rattle.safl_sim.proofs.Cycle.{next_in}
 use Rattle.safl_sim.proofs.Tables.{lists_none, lists_gap, table_lists, table_readers}
 use Rattle.safl_sim.proofs.table.table_of.Goals as goal

@@ -1,8 +1,8 @@
 use Rattle.std.proofs.Common.{◌≡◌, ℕ, ◌-◌, true, get_or, slice_set, arith, sym, ◌∙◌, ap, subst}
+use Rattle.std.proofs.lemmas.Bool.{both_ways}
 use Rattle.safl_term.specs.Program.{unit_for}
 use Rattle.safl_sites.specs.Collecting.{IsCollected}
 use Rattle.safl_sites.specs.SiteSets.{Has, Adds, IsCommon, Meets, no_set}
-use Rattle.safl_sites.proofs.EarlierConflicts.{clash}
 use Rattle.safl_sites.proofs.ConflictsByOne.{collected_more, collected_none}
 use Rattle.safl_sites.proofs.PeersByOne.{unit_within}
 use Rattle.safl_sites.proofs.collect.collect_site.Goals as goal
@@ -31,5 +31,5 @@ returns-else-meets c =
     let P = c.args.peers.now in
     let to : c.unit_for-unit.result ≡ unit_for C k = c.unit_for-unit.ensures.number in
     let none : Meets (get_or B k no_set) (get_or P (unit_for C k) no_set) k → ⊥ =
-    λ h. clash c.meets.result c.if-meets.false (c.meets.ensures.1 (subst (λ (u : ℕ). Meets (get_or B k no_set) (get_or P u no_set) k) (sym to) h)) in
+    λ h. both_ways c.meets.result c.if-meets.false (c.meets.ensures.1 (subst (λ (u : ℕ). Meets (get_or B k no_set) (get_or P u no_set) k) (sym to) h)) in
     collected_none C (k - 1) k B P (omega (arith, c.requires.least)) c.requires.most c.requires.conflicts c.requires.peers c.args.arbiters.now c.args.kept.now c.requires.collected none

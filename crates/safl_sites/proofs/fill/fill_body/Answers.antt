@@ -1,11 +1,11 @@
 use Rattle.std.proofs.Common.{◌≡◌, ℕ, suc, length, slice_set, sym, subst, arith}
+use Rattle.std.proofs.lemmas.Bool.{both_ways}
 use Rattle.safl_term.specs.Terms.{Term}
 use Rattle.safl_sites.specs.Conflicts.{Reaches}
 use Rattle.safl_sites.specs.Filling.{IsFilled}
 use Rattle.safl_sites.specs.Parallel.{Marked}
 use Rattle.safl_sites.specs.Reach.{MayReach}
 use Rattle.safl_sites.specs.SiteSets.{has, Has, HasAt, Adds}
-use Rattle.safl_sites.proofs.EarlierConflicts.{clash}
 use Rattle.safl_sites.proofs.TablesByBodies.{body_may_reach, filled_more}
 use Rattle.safl_sites.proofs.fill.fill_body.Goals as goal
 
@@ -42,4 +42,4 @@ returns c =
     let count : length c.mark.new.sets ≡ length c.args.after.now = omega arith in
     subst (λ (u : ℕ). IsFilled C (suc f) (slice_set c.args.bodies.now f c.reach.new.set) (slice_set c.args.units.now u c.union.new.self) c.mark.new.sets) (sym c.unit.ensures.number)
     (filled_more C f c.args.bodies.now c.args.units.now c.args.after.now c.mark.new.sets c.new-set.result c.reach.new.set c.union.new.self c.requires.within (omega arith) c.requires.filled
-    c.new-set.ensures reached (Has c.new.result) (λ k h. clash (has c.new.result k) (c.new.ensures k) h) count marked union)
+    c.new-set.ensures reached (Has c.new.result) (λ k h. both_ways (has c.new.result k) (c.new.ensures k) h) count marked union)

@@ -1,9 +1,11 @@
 use Rattle.std.proofs.Common.{rules, ◌≡◌, ℕ, ◌+◌, ◌*◌, ◌<◌, ◌≤◌, List, [], ◌∷◌, ◌++◌, length, refl, sym, ap, subst, ◌∙◌, arith}
+use Rattle.std.proofs.lemmas.List.{nil_from_length}
 use Rattle.safl_term.specs.declared.term.Term as declared
 use Rattle.safl_term.specs.Sizes.{nodes, nodes_in}
 use Rattle.safl_term.specs.Terms.{Term, Cons}
 use Rattle.safl_term.specs.Tree.{shown_term, shown_terms}
 use Rattle.safl_term.proofs.PlainTrees.{shown_term-Op, shown_term-Loop, shown_term-Call, shown_term-Let}
+use Rattle.safl_term.proofs.PlainTerms.{some_nodes}
 use Rattle.safl_sites.specs.declared.site_set.SiteSet.{SiteSet}
 use Rattle.safl_sites.specs.Keeping.{MayKeep, MayKeepIn, IsHeldHere, Walks, WalksIn, Binds}
 use Rattle.safl_sites.specs.SiteSets.{Has, Adds}
@@ -12,7 +14,6 @@ use Rattle.safl_sites.proofs.AbleByParts.{keep_rest, keep_tree, keep_forest, slo
 use Rattle.safl_sites.proofs.FoundByParts.{walks_const, walks_var, walks_op, walks_loop, walks_call, walks_if, walks_let, walks_none, walks_more, binds_none, binds_more}
 use Rattle.safl_sites.proofs.ReachBySites.{site_below}
 use Rattle.safl_sites.proofs.SetsByWords.{set_found}
-use Rattle.safl_sites.proofs.NodesOfTerms.{some_node, empty_list}
 use Rattle.safl_sites.proofs.FoundRenamed.{walks_tree, walks_forest, binds_forest, held_tree, inserted, walks_same, binds_same}
 use Rattle.safl_sites.proofs.keep.+keep.Goals as goal
 
@@ -284,7 +285,7 @@ bind_all-bind_all-requires t c =
     let e : c.args.ts.now ≡ c.in-Some.first.now ∷ c.in-Some.rest.now = c.in-Some.ensures.cases.0 in
     let may = subst (λ (x : List declared.Term). MayKeepIn C U P (length R) (shown_terms x)) e c.requires in
     let smaller : 2 * nodes_in (shown_terms c.in-Some.rest.now) + 1 < 2 * nodes_in (shown_terms c.args.ts.now) + 1 = omega
-    (arith, some_node (shown_term c.in-Some.first.now), ap (λ (x : List declared.Term). nodes_in (shown_terms x)) e) in
+    (arith, some_nodes (shown_term c.in-Some.first.now), ap (λ (x : List declared.Term). nodes_in (shown_terms x)) e) in
     let ok : MayKeepIn C U P (length c.walk.new.slots.items) (shown_terms c.in-Some.rest.now) = keep_forest refl (ap (λ (l : List SiteSet). length l) c.in_ok-walk.ensures.same) (keep_rest may) in
     search rules
 
@@ -297,7 +298,7 @@ walk_all-walk_all-requires t c =
     let e : c.args.ts.now ≡ c.in-Some.first.now ∷ c.in-Some.rest.now = c.in-Some.ensures.cases.0 in
     let may = subst (λ (x : List declared.Term). MayKeepIn C U P (length R) (shown_terms x)) e c.requires in
     let smaller : 2 * nodes_in (shown_terms c.in-Some.rest.now) + 1 < 2 * nodes_in (shown_terms c.args.ts.now) + 1 = omega
-    (arith, some_node (shown_term c.in-Some.first.now), ap (λ (x : List declared.Term). nodes_in (shown_terms x)) e) in
+    (arith, some_nodes (shown_term c.in-Some.first.now), ap (λ (x : List declared.Term). nodes_in (shown_terms x)) e) in
     let ok : MayKeepIn C U P (length c.walk.new.slots.items) (shown_terms c.in-Some.rest.now) = keep_forest refl (ap (λ (l : List SiteSet). length l) c.in_ok-walk.ensures.same) (keep_rest may) in
     search rules
 
@@ -307,7 +308,7 @@ walk_all-returns-in_default-clause-done t c =
     let U = c.args.units.now in
     let P = c.args.peers.now in
     let R = c.args.slots.now.items in
-    let e : c.args.ts.now ≡ [] = empty_list c.args.ts.now c.in_default.ensures.cases in
+    let e : c.args.ts.now ≡ [] = nil_from_length c.args.ts.now c.in_default.ensures.cases in
     subst (λ (x : List declared.Term). WalksIn C R c.args.feeds.now c.args.feeds.now c.args.keeps.now c.args.keeps.now (shown_terms x)) (sym e) (walks_none C R c.args.feeds.now c.args.keeps.now)
 
 pub bind_all-returns-in_default : goal.bind_all-returns-in_default
@@ -316,7 +317,7 @@ bind_all-returns-in_default t c =
     let U = c.args.units.now in
     let P = c.args.peers.now in
     let R = c.args.slots.now.items in
-    let e : c.args.ts.now ≡ [] = empty_list c.args.ts.now c.in_default.ensures.cases in
+    let e : c.args.ts.now ≡ [] = nil_from_length c.args.ts.now c.in_default.ensures.cases in
     subst (λ (x : List declared.Term). Binds C R R c.args.keeps.now c.args.keeps.now (shown_terms x)) (sym e) (binds_none C R c.args.keeps.now)
 
 pub walk_all-returns-clause-done : goal.walk_all-returns-clause-done

@@ -1,4 +1,5 @@
 use Rattle.std.proofs.Common.{◌≡◌, ℕ, ◌+◌, ◌⊎◌, get_or, refl, sym, ◌∙◌, ap, subst, inl, inr, arith}
+use Rattle.std.proofs.lemmas.Bool.{both_ways}
 use Rattle.safl_term.specs.Program.{unit_for}
 use Rattle.safl_term.specs.Tree.{shown_term}
 use Rattle.safl_sites.specs.declared.site_set.SiteSet.{SiteSet}
@@ -6,7 +7,6 @@ use Rattle.safl_sites.specs.Keeping.{IsHeldHere}
 use Rattle.safl_sites.specs.Kept.{InBody}
 use Rattle.safl_sites.specs.SiteSets.{Has, Adds, Meets, no_set}
 use Rattle.safl_sites.specs.Touched.{IsTouched}
-use Rattle.safl_sites.proofs.EarlierConflicts.{clash}
 use Rattle.safl_sites.proofs.LetsReach.{looked_more, held_here, held_meets}
 use Rattle.safl_sites.proofs.FoundByParts.{full}
 use Rattle.safl_sites.proofs.keep.hold.Goals as goal
@@ -50,8 +50,8 @@ loop-done-preserved c =
           | else-contains-via-then-contains+else-meets v ↦
               let to = v.unit_for.ensures.number in
               let y : Meets within (get_or P (unit_for C k) no_set) k = held_meets p h U S P n low body m sites within k back x in
-              clash v.meets.result v.if-meets.false (v.meets.ensures.1 (subst (λ (u : ℕ). Meets within (get_or P u no_set) k) (sym to) y))
-          | else-contains-via-else-contains v ↦ clash c.contains.result v.if-contains.false (c.contains.ensures ∙ (c.touch.ensures k).joins x.touched)
+              both_ways v.meets.result v.if-meets.false (v.meets.ensures.1 (subst (λ (u : ℕ). Meets within (get_or P u no_set) k) (sym to) y))
+          | else-contains-via-else-contains v ↦ both_ways c.contains.result v.if-contains.false (c.contains.ensures ∙ (c.touch.ensures k).joins x.touched)
         ],
       )
     ] in

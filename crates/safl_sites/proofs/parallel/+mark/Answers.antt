@@ -1,16 +1,17 @@
 use Rattle.std.proofs.Common.{rules, ◌≡◌, ℕ, ◌+◌, ◌*◌, ◌<◌, List, [], ◌∷◌, length, length-set, slice_set, sym, ap, subst, ◌∙◌, arith}
+use Rattle.std.proofs.lemmas.List.{nil_from_length}
 use Rattle.safl_term.specs.declared.term.Term as declared
 use Rattle.safl_term.specs.Sizes.{nodes, nodes_in}
 use Rattle.safl_term.specs.Terms.{Term}
 use Rattle.safl_term.specs.Tree.{shown_term, shown_terms}
 use Rattle.safl_term.proofs.PlainTrees.{shown_term-Op, shown_term-Loop, shown_term-Call, shown_term-Let}
+use Rattle.safl_term.proofs.PlainTerms.{some_nodes}
 use Rattle.safl_sites.specs.Parallel.{Marked, MarkedIn}
 use Rattle.safl_sites.specs.Reach.{MayReach, MayReachIn}
 use Rattle.safl_sites.specs.SiteSets.{Has, HasAt, Adds}
 use Rattle.safl_sites.proofs.AddsInSteps.{adds_then, adds_none}
 use Rattle.safl_sites.proofs.PartsOfParts.{may_cond, may_then, may_else, may_bound, may_body, may_op, may_args, may_loop, may_first, may_rest, may_call, may_tree, may_forest}
 use Rattle.safl_sites.proofs.SetsJoined.{mark_if, mark_let, mark_op, mark_loop, mark_call, mark_more, mark_const, mark_var, mark_nil, set_more, mark_tree, mark_forest}
-use Rattle.safl_sites.proofs.NodesOfTerms.{some_node, empty_list}
 use Rattle.safl_sites.proofs.parallel.+mark.Goals as goal
 
 pub mark-mark-requires : goal.mark-mark-requires
@@ -212,7 +213,7 @@ mark_in-mark_in-requires t c =
     let e : c.args.ts.now ≡ c.in-Some.first.now ∷ c.in-Some.rest.now = c.in-Some.ensures.cases.0 in
     let may = subst (λ (x : List declared.Term). MayReachIn C U n (shown_terms x)) e c.requires.may.1 in
     let smaller : 2 * nodes_in (shown_terms c.in-Some.rest.now) + 1 < 2 * nodes_in (shown_terms c.args.ts.now) + 1 = omega
-    (arith, some_node (shown_term c.in-Some.first.now), ap (λ (x : List declared.Term). nodes_in (shown_terms x)) e) in
+    (arith, some_nodes (shown_term c.in-Some.first.now), ap (λ (x : List declared.Term). nodes_in (shown_terms x)) e) in
     let ok : (m : ℕ) × MayReachIn C U m (shown_terms c.in-Some.rest.now) = (n, may_rest may) in
     let room : C.sites < length c.mark.new.sets = omega (arith) in
     search rules
@@ -226,7 +227,7 @@ mark_in-returns-in-Some t c = λ b k.
 
 pub mark_in-returns-in_default : goal.mark_in-returns-in_default
 mark_in-returns-in_default t c = λ b k.
-    let e : c.args.ts.now ≡ [] = empty_list c.args.ts.now c.in_default.ensures.cases in
+    let e : c.args.ts.now ≡ [] = nil_from_length c.args.ts.now c.in_default.ensures.cases in
     subst (λ (x : List declared.Term). Adds (HasAt c.args.sets.now b k) (HasAt c.args.sets.now b k)
     (MarkedIn c.args.c.now.program (Has c.args.before.now k) k b (shown_terms x))) (sym e)
     (adds_none (mark_nil c.args.c.now.program (Has c.args.before.now k) k b))

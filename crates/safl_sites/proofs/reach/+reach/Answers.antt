@@ -1,9 +1,11 @@
 use Rattle.std.proofs.Common.{rules, ◌≡◌, ℕ, ◌+◌, ◌*◌, ◌<◌, List, [], ◌∷◌, sym, ap, subst, ◌∙◌, arith}
+use Rattle.std.proofs.lemmas.List.{nil_from_length}
 use Rattle.safl_term.specs.declared.term.Term as declared
 use Rattle.safl_term.specs.Sizes.{nodes, nodes_in}
 use Rattle.safl_term.specs.Terms.{Term}
 use Rattle.safl_term.specs.Tree.{shown_term, shown_terms}
 use Rattle.safl_term.proofs.PlainTrees.{shown_term-Op, shown_term-Loop, shown_term-Call, shown_term-Let}
+use Rattle.safl_term.proofs.PlainTerms.{some_nodes}
 use Rattle.safl_sites.specs.Conflicts.{Reaches, ReachesIn}
 use Rattle.safl_sites.specs.Reach.{MayReach, MayReachIn}
 use Rattle.safl_sites.specs.SiteSets.{Has, Adds}
@@ -11,7 +13,6 @@ use Rattle.safl_sites.proofs.AddsInSteps.{adds_then, adds_none}
 use Rattle.safl_sites.proofs.PartsOfParts.{may_cond, may_then, may_else, may_bound, may_body, may_op, may_args, may_loop, may_first, may_rest, may_call, may_tree, may_forest}
 use Rattle.safl_sites.proofs.ReachBySites.{reach_if, reach_let, reach_op, reach_loop, reach_call, reach_more, reach_leaf, none_const, none_var}
 use Rattle.safl_sites.proofs.ReachBySites.{none_nil, same_tree, same_forest, set_of_unit, site_below}
-use Rattle.safl_sites.proofs.NodesOfTerms.{some_node, empty_list}
 use Rattle.safl_sites.proofs.reach.+reach.Goals as goal
 
 pub reach-reach-requires : goal.reach-reach-requires
@@ -196,7 +197,7 @@ reach_in-reach_in-requires t c =
     let e : c.args.ts.now ≡ c.in-Some.first.now ∷ c.in-Some.rest.now = c.in-Some.ensures.cases.0 in
     let may = subst (λ (x : List declared.Term). MayReachIn C U n (shown_terms x)) e c.requires.1 in
     let smaller : 2 * nodes_in (shown_terms c.in-Some.rest.now) + 1 < 2 * nodes_in (shown_terms c.args.ts.now) + 1 = omega
-    (arith, some_node (shown_term c.in-Some.first.now), ap (λ (x : List declared.Term). nodes_in (shown_terms x)) e) in
+    (arith, some_nodes (shown_term c.in-Some.first.now), ap (λ (x : List declared.Term). nodes_in (shown_terms x)) e) in
     let ok : (m : ℕ) × MayReachIn C U m (shown_terms c.in-Some.rest.now) = (n, may_rest may) in
     search rules
 
@@ -208,5 +209,5 @@ reach_in-returns-in-Some t c = λ k.
 
 pub reach_in-returns-in_default : goal.reach_in-returns-in_default
 reach_in-returns-in_default t c = λ k.
-    let e : c.args.ts.now ≡ [] = empty_list c.args.ts.now c.in_default.ensures.cases in
+    let e : c.args.ts.now ≡ [] = nil_from_length c.args.ts.now c.in_default.ensures.cases in
     subst (λ (x : List declared.Term). Adds (Has c.args.set.now k) (Has c.args.set.now k) (ReachesIn c.args.c.now.program k (shown_terms x))) (sym e) (adds_none (none_nil _ k))

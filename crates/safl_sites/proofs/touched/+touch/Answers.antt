@@ -1,15 +1,16 @@
 use Rattle.std.proofs.Common.{rules, ◌≡◌, ◌+◌, ◌*◌, ◌<◌, List, [], ◌∷◌, sym, ap, subst, ◌∙◌, arith}
+use Rattle.std.proofs.lemmas.List.{nil_from_length}
 use Rattle.safl_term.specs.declared.term.Term as declared
 use Rattle.safl_term.specs.Sizes.{nodes, nodes_in}
 use Rattle.safl_term.specs.Terms.{Term, Var}
 use Rattle.safl_term.specs.Tree.{shown_term, shown_terms}
 use Rattle.safl_term.proofs.PlainTrees.{shown_term-Op, shown_term-Loop, shown_term-Call, shown_term-Let}
+use Rattle.safl_term.proofs.PlainTerms.{some_nodes}
 use Rattle.safl_sites.specs.SiteSets.{Has, Adds}
 use Rattle.safl_sites.specs.Touched.{IsTouched, IsTouchedIn}
 use Rattle.safl_sites.proofs.AddsInSteps.{adds_then, adds_none}
 use Rattle.safl_sites.proofs.SetsTouched.{touch_if, touch_let, touch_op, touch_loop, touch_call, touch_more, touch_const, touch_nil, touch_var, touch_below, touch_past, touch_tree, touch_forest}
 use Rattle.safl_sites.proofs.SetsByWords.{no_set_has}
-use Rattle.safl_sites.proofs.NodesOfTerms.{some_node, empty_list}
 use Rattle.safl_sites.proofs.touched.+touch.Goals as goal
 use Rattle.safl_sites.proofs.touched.+touch.Goals.{touch-else-low-slot-via-then-low-slot+else-slot-slots, touch-else-low-slot-via-else-low-slot}
 
@@ -125,7 +126,7 @@ pub touch_in-touch_in-requires : goal.touch_in-touch_in-requires
 touch_in-touch_in-requires t c =
     let e : c.args.ts.now ≡ c.in-Some.first.now ∷ c.in-Some.rest.now = c.in-Some.ensures.cases.0 in
     let smaller : 2 * nodes_in (shown_terms c.in-Some.rest.now) + 1 < 2 * nodes_in (shown_terms c.args.ts.now) + 1 = omega
-    (arith, some_node (shown_term c.in-Some.first.now), ap (λ (x : List declared.Term). nodes_in (shown_terms x)) e) in
+    (arith, some_nodes (shown_term c.in-Some.first.now), ap (λ (x : List declared.Term). nodes_in (shown_terms x)) e) in
     search rules
 
 pub touch_in-returns-in-Some : goal.touch_in-returns-in-Some
@@ -140,7 +141,7 @@ pub touch_in-returns-in_default : goal.touch_in-returns-in_default
 touch_in-returns-in_default t c = λ k.
     let R = c.args.slots.now in
     let low = c.args.low in
-    let e : c.args.ts.now ≡ [] = empty_list c.args.ts.now c.in_default.ensures.cases in
+    let e : c.args.ts.now ≡ [] = nil_from_length c.args.ts.now c.in_default.ensures.cases in
     subst (λ (x : List declared.Term). Adds (Has c.args.set.now k) (Has c.args.set.now k) (IsTouchedIn R low k (shown_terms x))) (sym e) (adds_none (touch_nil R low k))
 
 pub touch-returns-then-slot-slots : goal.touch-returns-then-slot-slots

@@ -1,8 +1,8 @@
 use Rattle.std.proofs.Common.{◌-◌, ◌++◌, ◌∷◌, [], ℕ, List, take, ap, sym, ◌∙◌, arith}
 use Rattle.std.proofs.lemmas.List.{take_all}
-use Rattle.safl_word.specs.Words.{Word}
-use Rattle.safl_interpreter.specs.Interpreting.{widths}
-use Rattle.safl_tests.proofs.Words.{widths_push, last_function, take_next}
+use Rattle.safl_word.specs.Words.{Word, widths}
+use Rattle.safl_word.proofs.Lists.{take_next}
+use Rattle.safl_tests.proofs.Words.{widths_push, last_function}
 use Rattle.safl_tests.proofs.meanings.words_of.Goals as goal
 
 pub params-preserved : goal.params-preserved

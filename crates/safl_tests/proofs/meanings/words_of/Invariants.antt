@@ -1,5 +1,5 @@
 use Rattle.std.proofs.Common.{◌≡◌, take}
-use Rattle.safl_interpreter.specs.Interpreting.{widths}
+use Rattle.safl_word.specs.Words.{widths}
 use Rattle.safl_tests.proofs.meanings.words_of.Given as goal
 
 abbrev pub invariant-params : goal.invariant-params

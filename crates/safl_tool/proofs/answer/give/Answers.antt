@@ -9,9 +9,9 @@ use Rattle.safl_tool.specs.Answers.{CanBeGiven, GivesBy, traces_for}
 use Rattle.safl_tool.specs.Tracing.{AreAskedFor}
 use Rattle.safl_tool.specs.declared.answer.Answer.{Answer}
 use Rattle.std.specs.Prelude.{OnOk}
+use Rattle.safl_word.proofs.Options.{on_ok_always}
 use Rattle.safl_tool.specs.Watched.{ShowsAnswer}
 use Rattle.safl_tool.proofs.Performed.{same_strays}
-use Rattle.safl_tool.proofs.Watched.{when_ok}
 use Rattle.safl_tool.proofs.answer.give.Goals as goal
 
 -- ---- Printed
@@ -31,7 +31,7 @@ returns-in-Printed-clause-same_strays g c = same_strays (g.S.Shelf.told c.args.s
 pub returns-in-Printed-clause-told : goal.returns-in-Printed-clause-told
 returns-in-Printed-clause-told g c =
     let ps : List ProbeState = map (λ p. (goal.Probe-dyn g (p.vtable, p.value)).state p.value) c.args.probes.now.items in
-    when_ok c.print.result _ (subst (λ (a : Answer). ShowsAnswer a (asked c.args.files.now) ps ps) (sym c.in-Printed.is) tt)
+    on_ok_always c.print.result (subst (λ (a : Answer). ShowsAnswer a (asked c.args.files.now) ps ps) (sym c.in-Printed.is) tt)
 
 pub returns-in-Printed-clause-probes : goal.returns-in-Printed-clause-probes
 returns-in-Printed-clause-probes g c = kept_same (asked c.args.files.now) (λ p. (goal.Probe-dyn g (p.vtable, p.value)).state p.value) c.args.probes.now.items
@@ -50,7 +50,7 @@ returns-in-File-clause-gives g c =
 pub returns-in-File-clause-told : goal.returns-in-File-clause-told
 returns-in-File-clause-told g c =
     let ps : List ProbeState = map (λ p. (goal.Probe-dyn g (p.vtable, p.value)).state p.value) c.args.probes.now.items in
-    when_ok c.write.result _ (subst (λ (a : Answer). ShowsAnswer a (asked c.args.files.now) ps ps) (sym c.in-File.is) tt)
+    on_ok_always c.write.result (subst (λ (a : Answer). ShowsAnswer a (asked c.args.files.now) ps ps) (sym c.in-File.is) tt)
 
 pub returns-in-File-clause-probes : goal.returns-in-File-clause-probes
 returns-in-File-clause-probes g c = kept_same (asked c.args.files.now) (λ p. (goal.Probe-dyn g (p.vtable, p.value)).state p.value) c.args.probes.now.items
@@ -78,7 +78,7 @@ returns-in-Replies-clause-same_strays g c = same_strays (g.S.Shelf.told c.args.s
 pub returns-in-Replies-clause-told : goal.returns-in-Replies-clause-told
 returns-in-Replies-clause-told g c =
     let ps : List ProbeState = map (λ p. (goal.Probe-dyn g (p.vtable, p.value)).state p.value) c.args.probes.now.items in
-    when_ok c.converse.result _ (subst (λ (a : Answer). ShowsAnswer a (asked c.args.files.now) ps ps) (sym c.in-Replies.is) tt)
+    on_ok_always c.converse.result (subst (λ (a : Answer). ShowsAnswer a (asked c.args.files.now) ps ps) (sym c.in-Replies.is) tt)
 
 pub returns-in-Replies-clause-probes : goal.returns-in-Replies-clause-probes
 returns-in-Replies-clause-probes g c = kept_same (asked c.args.files.now) (λ p. (goal.Probe-dyn g (p.vtable, p.value)).state p.value) c.args.probes.now.items

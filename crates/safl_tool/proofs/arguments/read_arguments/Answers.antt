@@ -1,6 +1,7 @@
 use Rattle.std.proofs.Common.{◌≡◌, ◌+◌, ◌<◌, List, length, map, string_bytes, refl, subst, sym, ◌∙◌, arith, inr}
 use Rattle.safl_word.specs.Words.{Word}
-use Rattle.safl_tool.proofs.Reading.{ReadSoFar, read_more, all_read, unread, shown_at, text_at, texts_long}
+use Rattle.safl_word.proofs.Lists.{shown_at}
+use Rattle.safl_tool.proofs.Reading.{ReadSoFar, read_more, all_read, unread, text_at, texts_long}
 use Rattle.safl_tool.proofs.arguments.read_arguments.Goals as goal
 
 pub returns-in-None-clause-refused : goal.returns-in-None-clause-refused

@@ -1,11 +1,11 @@
 use Rattle.std.proofs.Common.{List, map}
+use Rattle.safl_word.proofs.Options.{on_ok_always}
 use Rattle.safl_io.specs.Shelf.{ShelfState}
 use Rattle.safl_probe.specs.Probing.{ProbeState}
 use Rattle.safl_probe.specs.Asked.{Asked, asked}
 use Rattle.safl_task.specs.Endings.{Outside, outside}
 use Rattle.safl_tool.specs.Watched.{IsShown}
 use Rattle.safl_tool.proofs.Traced.{ending, torn_fails, unprinted, outcome_gives}
-use Rattle.safl_tool.proofs.Watched.{when_ok}
 use Rattle.safl_tool.proofs.tracing.trace.Goals as goal
 
 pub returns-in-Err-clause-gives : goal.returns-in-Err-clause-gives
@@ -36,8 +36,8 @@ returns-in-Ok-outcome-clause-told g c =
     let old : Outside = outside (g.S.Shelf.told c.args.shelf.now) (g.O.Sink.told c.args.out.now) in
     let end = ending c.args.run c.requires.can asks ps c.requires.asked c.end_law.ensures old in
     let told : IsShown c.args.run.ready.sim.net c.args.run.ready.words.items c.args.run.limit asks ps qs =
-        record { answer = c.in-Ok.done; outcome = c.in-Ok.ensures.outcome; run = end.run; is_run = end.is_run; shown = c.in-Ok.ensures.told.shown end.run end.is_run } in
-    when_ok c.print.result _ told
+    record { answer = c.in-Ok.done; outcome = c.in-Ok.ensures.outcome; run = end.run; is_run = end.is_run; shown = c.in-Ok.ensures.told.shown end.run end.is_run } in
+    on_ok_always c.print.result told
 
 pub returns-in-Err-outcome-clause-gives : goal.returns-in-Err-outcome-clause-gives
 returns-in-Err-outcome-clause-gives g c =

@@ -1,6 +1,7 @@
 use Rattle.std.proofs.Common.{◌-◌, ◌++◌, ◌∷◌, [], ℕ, List, ap, sym, ◌∙◌, arith}
 use Rattle.std.proofs.lemmas.List.{take_all}
-use Rattle.safl_tool.proofs.Walked.{last_function, take_next}
+use Rattle.safl_word.proofs.Lists.{take_next}
+use Rattle.safl_tool.proofs.Walked.{last_function}
 use Rattle.safl_tool.proofs.walk.main_widths.Goals as goal
 
 pub params-preserved : goal.params-preserved

@@ -447,7 +447,7 @@ returns-in-Session-clause-answers c =
     (IsReadySession c.content-first.result.now c.content-second.result.now)
     (λ o is. (ready c.content-first.result.now c.content-second.result.now o is, calls_fit c.content-first.result.now c.content-second.result.now o is))
     (λ o is g h. gives_replies c.content-first.result.now c.content-second.result.now o is c.session_law.ensures.serves c.session_law.ensures.reset c.in-Session.limit g h)
-        c.ready_session.ensures.opened)
+    c.ready_session.ensures.opened)
 
 pub returns-in-Session-clause-traces : goal.returns-in-Session-clause-traces
 returns-in-Session-clause-traces c =
@@ -467,7 +467,7 @@ returns-in-Session-clause-refused c =
     c.content-first.result.now c.content-second.result.now c.content-first.ensures c.content-second.ensures
     (λ (o : ReadySession). answer.Replies o c.in-Session.limit) c.ready_session.result c.replied.result c.replied.ensures
     (subst (λ (n : List ℕ). IfErr c.ready_session.result (RefusesBy
-        (RefusesSession n c.content-first.result.now c.content-second.result.now))) c.deref-in-Session.ensures c.ready_session.ensures.refused))
+    (RefusesSession n c.content-first.result.now c.content-second.result.now))) c.deref-in-Session.ensures c.ready_session.ensures.refused))
 
 -- ---- Aig
 

@@ -65,7 +65,7 @@ returns-in-Ok-Some-clause-attends g c =
 pub returns-in-Ok-None-clause-does : goal.returns-in-Ok-None-clause-does
 returns-in-Ok-None-clause-does g c =
     not_asked (shown_command c.args.command.now) (world (g.S.Shelf.told c.args.shelf.now) (g.O.Sink.told c.args.out.now) (λ p. (goal.Probe-dyn g
-        (p.vtable, p.value)).state p.value) c.args.probes.now.items)
+    (p.vtable, p.value)).state p.value) c.args.probes.now.items)
     (ap (λ t. have_probes t (kinds_of (map (λ p. (goal.Probe-dyn g (p.vtable, p.value)).state p.value) c.args.probes.now.items)))
     (sym c.traces_of.ensures) ∙ ap (λ l. have_probes (traces_given c.traces_of.result)
     (kinds_of (map (λ p. (goal.Probe-dyn g (p.vtable, p.value)).state p.value) l))) (sym c.deref.ensures.value) ∙

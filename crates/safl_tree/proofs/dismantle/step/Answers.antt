@@ -1,19 +1,20 @@
 use Rattle.std.proofs.Common.{◌≡◌, ◌<◌, ◌≤◌, ℕ, List, Option, Some, None, Vec, Box, Global, refl, ap, sym, ◌∙◌, arith, subst, slice_set}
 use Rattle.std.specs.List.{sum_by}
+use Rattle.safl_word.proofs.Naturals.{work_less_of}
 use Rattle.safl_tree.specs.declared.tree.Expr.{Expr}
 use Rattle.safl_tree.specs.declared.tree.Bind.{Bind}
 use Rattle.safl_tree.specs.declared.tree.Arm.{Arm}
 use Rattle.safl_tree.specs.declared.tree.Node.{Node}
 use Rattle.safl_tree.specs.Shown.{shown_tree, shown_node}
-use Rattle.safl_tree.specs.Sizes.{size, bind_size, arm_size, work, work_at}
-use Rattle.safl_tree.proofs.Dismantling.{let_size, case_size, op_size, call_size, work_down, work_up, leaf_or_two, sum_last, less_of, at_most_of, less_in}
+use Rattle.safl_tree.specs.Sizes.{size, bind_size, arm_size, work_at}
+use Rattle.safl_tree.proofs.Dismantling.{let_size, case_size, op_size, call_size, leaf_or_two, at_most_of, less_in}
 use Rattle.safl_tree.proofs.dismantle.step.Goals as goal
 
 pub returns-in-Let : goal.returns-in-Let
-returns-in-Let c = less_of _ _ (sym (let_size c.args.at.here.node c.args.at.here.place c.in-Let.binds c.in-Let.body (sym c.into_node.ensures ∙ c.in-Let.is))) c.enter_let.ensures
+returns-in-Let c = work_less_of _ _ (sym (let_size c.args.at.here.node c.args.at.here.place c.in-Let.binds c.in-Let.body (sym c.into_node.ensures ∙ c.in-Let.is))) c.enter_let.ensures
 
 pub returns-in-Case : goal.returns-in-Case
-returns-in-Case c = less_of _ _ (sym (case_size c.args.at.here.node c.args.at.here.place c.in-Case.scrutinee c.in-Case.arms c.in-Case.default
+returns-in-Case c = work_less_of _ _ (sym (case_size c.args.at.here.node c.args.at.here.place c.in-Case.scrutinee c.in-Case.arms c.in-Case.default
     (sym c.into_node.ensures ∙ c.in-Case.is))) c.enter_case.ensures
 
 pub returns-in-Op : goal.returns-in-Op

@@ -1,9 +1,9 @@
 use Rattle.std.proofs.Common.{IsTrue, List, length, get_or, subst, ap, ◌∙◌, arith}
+use Rattle.safl_word.proofs.Lists.{drop_read}
 use Rattle.safl_tree.specs.declared.tree.Def.{Def}
 use Rattle.safl_tree.specs.Shown.{shown_tree, shown_definitions}
 use Rattle.safl_tree.specs.Printable.{AllKeepLevels}
 use Rattle.safl_tree.proofs.Depths.{keeps_levels}
-use Rattle.safl_tree.proofs.Lists.{drop_at}
 use Rattle.safl_tree.proofs.levels.levels_ok.Goals as goal
 
 pub returns-then-not-keeps : goal.returns-then-not-keeps
@@ -11,7 +11,7 @@ returns-then-not-keeps c = (
   λ h. absurd cc,
   λ k.
       let rest = subst (λ (ds : List Def). AllKeepLevels (shown_definitions ds))
-      (drop_at c.args.p.now.defs.items c.loop-def.def-index c.def-item.result
+      (drop_read c.args.p.now.defs.items c.loop-def.def-index c.def-item.result
       (omega (arith, c.loop-def-test.true, ap (λ (ds : List Def). length ds) c.deref-def-items.ensures.value))
       (c.def-item.is ∙ ap (λ (ds : List Def). get_or ds c.loop-def.def-index c.def-item.result) c.deref-def-items.ensures.value)) (c.loop-def.invariant.1 k) in
       let kept : IsTrue c.keeps.result = c.keeps.ensures.1 ((keeps_levels (shown_tree c.def-item.result.body)).1 rest.0) in

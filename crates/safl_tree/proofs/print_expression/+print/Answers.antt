@@ -8,10 +8,10 @@ use Rattle.safl_tree.specs.Tree.{trees_of, binds_of}
 use Rattle.safl_tree.specs.Shown.{shown_tree, shown_trees, shown_bounds, shown_labelled}
 use Rattle.std.proofs.lemmas.Bool.{lt-leb}
 use Rattle.safl_word.specs.declared.primitive.Primitive.{Primitive}
+use Rattle.safl_word.proofs.Lists.{drop_read}
 use Rattle.safl_tree.specs.Printable.{layers_of, left_context, right_context}
 use Rattle.safl_tree.specs.Printed
 use Rattle.safl_tree.specs.Printed.{Word, separated, enclosed, part_words, bind_words, bound_words, labelled_words, words, Writes}
-use Rattle.safl_tree.proofs.Lists.{drop_at}
 use Rattle.safl_tree.proofs.Writing.{Leaves, behind, leaves_less, chain_3, chain_4, chain_6, chain_8, items_step, items_end, by_first, case_split}
 use Rattle.safl_tree.proofs.Writing.{choice_words, let_words, case_words, op_words, call_words}
 use Rattle.safl_tree.proofs.print_expression.+print.Goals as goal
@@ -111,9 +111,9 @@ push_operation-returns-in_ok-push_parts-in-Cat t c =
 pub push_part-returns-in_ok-push_expr : goal.push_part-returns-in_ok-push_expr
 push_part-returns-in_ok-push_expr t c =
     let over : leb (layers_of (shown_tree c.args.e.now)) c.args.place
-        ≡ false = lt-leb (layers_of (shown_tree c.args.e.now)) c.args.place (omega (arith, c.layers_of.ensures, c.if-layers_of-place.false)) in
+    ≡ false = lt-leb (layers_of (shown_tree c.args.e.now)) c.args.place (omega (arith, c.layers_of.ensures, c.if-layers_of-place.false)) in
     subst (λ (b : Bool). OnOk c.push_sym-else-layers_of-place.result (Writes c.args.out.now.items c.push_sym-else-layers_of-place.new.out.items (enclosed b (words (shown_tree c.args.e.now)))))
-        (sym over)
+    (sym over)
     (chain_3 c.push_sym-else-layers_of-place.result c.args.out.now.items c.push_sym.new.out.items c.push_expr-else-layers_of-place.new.out.items
     c.push_sym-else-layers_of-place.new.out.items (Printed.sym syms.OpenParen ∷ []) (words (shown_tree c.args.e.now)) (Printed.sym syms.CloseParen ∷ [])
     c.in_ok-push_sym.ensures c.in_ok-push_expr.ensures c.push_sym-else-layers_of-place.ensures)
@@ -127,7 +127,7 @@ push_arms-loop-arm-preserved t c =
     let tail = labelled_words (shown_labelled rest) in
     let all = labelled_words (shown_labelled c.args.arms.now) in
     let start = subst (λ (l : List Arm). Leaves c.loop-arm.out.items (labelled_words (shown_labelled l)) c.args.out.now.items all)
-    (drop_at c.args.arms.now c.loop-arm.arm-index x c.loop-arm-test.true c.arm-item.is) c.loop-arm.invariant in
+    (drop_read c.args.arms.now c.loop-arm.arm-index x c.loop-arm-test.true c.arm-item.is) c.loop-arm.invariant in
     let one = leaves_less c.args.out.now.items c.loop-arm.out.items c.push_expr.new.out.items (words (shown_tree x.label))
     (Printed.sym syms.Arrow ∷ (words (shown_tree x.value) ++ (Printed.sym syms.Comma ∷ tail))) all start c.in_ok-push_expr.ensures in
     let two = leaves_less c.args.out.now.items c.push_expr.new.out.items c.push_sym.new.out.items (Printed.sym syms.Arrow ∷ [])

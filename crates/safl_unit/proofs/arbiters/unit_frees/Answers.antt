@@ -1,13 +1,14 @@
 use Rattle.std.proofs.Common.{◌+◌, ◌*◌, List, not, length, refl, sym, ap, subst, ◌∙◌, arith}
 use Rattle.std.proofs.lemmas.Option.{slice_get_read}
+use Rattle.safl_word.specs.Lists.{summed}
+use Rattle.safl_word.proofs.Lists.{summed_more}
 use Rattle.safl_net.specs.declared.cell.Sig.{Sig}
 use Rattle.safl_net.specs.Bits.{on}
 use Rattle.safl_lower.specs.Rows.{AreBits, frees, row_at}
 use Rattle.safl_lower.proofs.Building.{builds_on, builds_within}
 use Rattle.safl_lower.proofs.JoinedRows.{row_kept}
-use Rattle.safl_unit.specs.Arbiters.{tally}
 use Rattle.safl_unit.proofs.Keeping.{pins_kept}
-use Rattle.safl_unit.proofs.Arbiting.{row_there, tally_next, tally_room, rows_more}
+use Rattle.safl_unit.proofs.Arbiting.{row_there, tally_room, rows_more}
 use Rattle.safl_unit.proofs.arbiters.unit_frees.Goals as goal
 
 pub unit_row-requires-clause-wants : goal.unit_row-requires-clause-wants
@@ -55,10 +56,10 @@ loop-f-preserved c =
     let m = c.requires.pins.bank.units_length in
     let e = row_there rows f c.index.result.now c.deref.result.now (omega (arith, l, k, n)) c.index.ensures c.deref.ensures.value in
     let d = ap (λ (xs : List Sig). length xs) e in
-    let t = tally_next (λ u. length (row_at rows u)) f in
+    let t = summed_more (λ u. length (row_at rows u)) f in
     let at = slice_get_read us (length us) f c.index-unit.result.now refl (omega (arith, l, k, m)) c.index-unit.ensures in
     record {
-      built = builds_within (3 * tally (λ u. length (row_at rows u)) (f + 1)) (builds_on c.loop-f.invariant.built c.in_ok-row.ensures.built) (omega (arith, d, t));
+      built = builds_within (3 * summed (λ u. length (row_at rows u)) (f + 1)) (builds_on c.loop-f.invariant.built c.in_ok-row.ensures.built) (omega (arith, d, t));
       so_far = rows_more c.args.p.now.program c.args.p.now.choice c.loop-f.net c.unit_row.new.net (3 * length c.deref.result.now) us
           rows c.loop-f.out.items c.push.new.self.items f c.in_ok-row.row c.index-unit.result.now
           c.in_ok-row.ensures.built c.loop-f.invariant.so_far c.in_ok-push.ensures.items c.in_ok-row.ensures.fits at

@@ -1,11 +1,12 @@
 use Rattle.std.proofs.Common.{◌*◌, length}
+use Rattle.safl_word.specs.Lists.{summed}
 use Rattle.safl_lower.specs.Sources.{Builds}
 use Rattle.safl_lower.specs.Rows.{row_at}
-use Rattle.safl_unit.specs.Arbiters.{tally, RowsFree}
+use Rattle.safl_unit.specs.Arbiters.{RowsFree}
 use Rattle.safl_unit.proofs.arbiters.unit_frees.Given as goal
 
 abbrev pub invariant-loop-f : goal.invariant-loop-f
 invariant-loop-f l = record {
-  built : Builds l.initial.net l.net (3 * tally (λ u. length (row_at l.rows.items u)) l.f);
+  built : Builds l.initial.net l.net (3 * summed (λ u. length (row_at l.rows.items u)) l.f);
   so_far : RowsFree l.p.program l.p.choice l.net l.pins.bank.units.items l.rows.items l.out.items l.f;
 }

@@ -1,13 +1,13 @@
 use Rattle.std.proofs.Common.{◌≡◌, ◌==◌, [], ◌++◌, cond, Bool, true, false, List, Option, sym, ap, ◌∙◌}
+use Rattle.safl_word.proofs.Lists.{nil_at_end}
 use Rattle.safl_lower.specs.declared.loads.Load.{Load}
 use Rattle.safl_lower.specs.Rows.{row_at}
-use Rattle.safl_lower.proofs.JoinedRows.{append_none}
 use Rattle.safl_unit.specs.Outcomes.{maybe_load}
 use Rattle.safl_unit.proofs.bodies.push_maybe.Goals as goal
 
 nothing : (xs : List Load) (t : Bool) → xs ≡ xs ++ cond t [] []
-nothing xs true = append_none xs
-nothing xs false = append_none xs
+nothing xs true = nil_at_end xs
+nothing xs false = nil_at_end xs
 
 pub returns-in-None-clause-rows : goal.returns-in-None-clause-rows
 returns-in-None-clause-rows c = λ i.

@@ -1,9 +1,11 @@
 use Rattle.std.proofs.Common.{◌≡◌, ◌++◌, [], ◌∷◌, List, ℕ, map, length, ap, ◌∙◌, arith}
 use Rattle.std.specs.Prelude.{codes}
+use Rattle.std.proofs.lemmas.List.{take_all}
+use Rattle.safl_word.proofs.Lists.{get_map}
 use Rattle.safl_circuit.specs.Names.{of_param}
 use Rattle.safl_unit.specs.Finished.{open_register}
 use Rattle.safl_unit.specs.Declaring.{with_signals, argument_lines}
-use Rattle.safl_unit.proofs.Declaring.{name_text, param_text, param_step, param_count, numbered_next, take_whole, param_lines_long, named_get, map_get}
+use Rattle.safl_unit.proofs.Declaring.{name_text, param_text, param_step, param_count, numbered_next, param_lines_long, named_get}
 use Rattle.safl_unit.proofs.Adding.{named_so, line_at}
 use Rattle.safl_unit.proofs.declare.add_arguments.Goals as goal
 
@@ -22,7 +24,7 @@ add_register-requires-clause-free c =
     named_so c.loop-i.net c.as_str.result.now (of_param D c.args.f c.param_name.result.now) named
     (line_at open_register c.args.net.now c.loop-i.net (argument_lines C D c.args.f) c.loop-i.i (of_param D c.args.f c.param_name.result.now, c.param_width.result)
     (named_get (map (of_param D c.args.f) (D.params c.args.f)) (C.params c.args.f) c.loop-i.i (of_param D c.args.f c.param_name.result.now) c.param_width.result
-    (map_get (of_param D c.args.f) (D.params c.args.f) c.loop-i.i c.param_name.result.now c.param_name.ensures) c.param_width.ensures.width)
+    (get_map (of_param D c.args.f) (D.params c.args.f) c.loop-i.i c.param_name.result.now c.param_name.ensures) c.param_width.ensures.width)
     c.requires.free c.loop-i.invariant.net)
 
 pub loop-i-preserved : goal.loop-i-preserved
@@ -47,4 +49,4 @@ returns-clause-added c =
     let end = c.params-i-end.ensures.count in
     let long = param_lines_long c.args.c.now c.args.f (of_param c.args.c.now.names c.args.f) in
     c.loop-i.invariant.net
-    ∙ ap (λ ls. with_signals c.args.net.now (map open_register ls)) (take_whole (argument_lines c.args.c.now.program c.args.c.now.names c.args.f) c.loop-i.i (omega (arith, past, end, long)))
+    ∙ ap (λ ls. with_signals c.args.net.now (map open_register ls)) (take_all c.loop-i.i (argument_lines c.args.c.now.program c.args.c.now.names c.args.f) (omega (arith, past, end, long)))

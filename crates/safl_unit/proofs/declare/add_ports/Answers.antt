@@ -1,8 +1,10 @@
 use Rattle.std.proofs.Common.{◌≡◌, ◌++◌, [], ◌∷◌, List, ℕ, map, length, ap, ◌∙◌, arith}
 use Rattle.std.specs.Prelude.{codes}
+use Rattle.std.proofs.lemmas.List.{take_all}
+use Rattle.safl_word.proofs.Lists.{get_map}
 use Rattle.safl_unit.specs.Finished.{input_line}
 use Rattle.safl_unit.specs.Declaring.{with_signals, port_lines}
-use Rattle.safl_unit.proofs.Declaring.{param_text, param_step, param_count, numbered_next, take_whole, param_lines_long, named_get, map_get}
+use Rattle.safl_unit.proofs.Declaring.{param_text, param_step, param_count, numbered_next, param_lines_long, named_get}
 use Rattle.safl_unit.proofs.Adding.{named_so, line_at}
 use Rattle.safl_unit.proofs.declare.add_ports.Goals as goal
 
@@ -17,7 +19,7 @@ add_input-requires-clause-free c =
     named_so c.loop-i.net c.as_str.result.now (codes "in$" ++ c.param_name.result.now) named
     (line_at input_line c.args.net.now c.loop-i.net (port_lines C D c.args.f) c.loop-i.i (codes "in$" ++ c.param_name.result.now, c.param_width.result)
     (named_get (map (λ (x : List ℕ). codes "in$" ++ x) (D.params c.args.f)) (C.params c.args.f) c.loop-i.i (codes "in$" ++ c.param_name.result.now) c.param_width.result
-    (map_get (λ (x : List ℕ). codes "in$" ++ x) (D.params c.args.f) c.loop-i.i c.param_name.result.now c.param_name.ensures) c.param_width.ensures.width)
+    (get_map (λ (x : List ℕ). codes "in$" ++ x) (D.params c.args.f) c.loop-i.i c.param_name.result.now c.param_name.ensures) c.param_width.ensures.width)
     c.requires.free c.loop-i.invariant.net)
 
 pub loop-i-preserved : goal.loop-i-preserved
@@ -40,4 +42,4 @@ returns-clause-added c =
     let end = c.params-i-end.ensures.count in
     let long = param_lines_long c.args.c.now c.args.f (λ (x : List ℕ). codes "in$" ++ x) in
     c.loop-i.invariant.net
-    ∙ ap (λ ls. with_signals c.args.net.now (map input_line ls)) (take_whole (port_lines c.args.c.now.program c.args.c.now.names c.args.f) c.loop-i.i (omega (arith, past, end, long)))
+    ∙ ap (λ ls. with_signals c.args.net.now (map input_line ls)) (take_all c.loop-i.i (port_lines c.args.c.now.program c.args.c.now.names c.args.f) (omega (arith, past, end, long)))

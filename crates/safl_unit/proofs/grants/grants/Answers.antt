@@ -1,4 +1,5 @@
 use Rattle.std.proofs.Common.{◌≡◌, ℕ, suc, ◌+◌, ◌*◌, ◌<◌, List, Bool, ◌&&◌, not, cond, length, slice_get, refl, sym, ap, subst, ◌∙◌, add-one, arith}
+use Rattle.safl_word.proofs.Lists.{get_some}
 use Rattle.safl_term.specs.Checked.{CheckedProgram}
 use Rattle.safl_term.specs.Program.{unit_for}
 use Rattle.safl_net.specs.declared.cell.Sig.{Sig}
@@ -12,7 +13,7 @@ use Rattle.safl_unit.specs.Arbiters.{want_at, site_row}
 use Rattle.safl_unit.proofs.Keeping.{pins_kept, outcomes_kept, cycle_before}
 use Rattle.safl_unit.proofs.Indexing.{site_at, main_at, place_within}
 use Rattle.safl_unit.proofs.Granting.{Granted, none_granted, granted_on, more_granted, all_granted}
-use Rattle.safl_unit.proofs.Arbiting.{row_there, row_long, rows_tally, tally_cong, row_fits, want_fits, want_on, go_is, there, unit_first}
+use Rattle.safl_unit.proofs.Arbiting.{row_there, row_long, rows_tally, tally_cong, row_fits, want_fits, want_on, go_is, unit_first}
 use Rattle.safl_unit.proofs.grants.grants.Goals as goal
 
 pub main_grant-requires-clause-run : goal.main_grant-requires-clause-run
@@ -153,7 +154,7 @@ loop-done-preserved c =
     (λ (x : CheckedProgram). x.program.callee (m + 1)) c.checked-c.ensures.same ∙ ap C.callee (add-one m) in
     let arbiter : c.arbiter.result ≡ P.arbiter u = c.arbiter.ensures.entry ∙ ap (λ (f : ℕ). P.arbiter (C.unit f)) callee in
     let ul = c.requires.pins.bank.units_length in
-    let x = there us u (omega (arith, pw, ul)) in
+    let x = get_some us u (omega (arith, pw, ul)) in
     let built = builds_on (builds_on c.in_ok-main.ensures.built c.in_ok-frees.ensures.built) (builds_on c.loop-done.invariant.since c.in_ok-go.ensures.built) in
     let one = unit_first c.args.p.now.checked c.checked-c.result.now m c.functions-functions.ensures.checked c.checked-c.ensures.same (omega (arith, l, e)) in
     record {

@@ -1,6 +1,7 @@
 use Rattle.std.proofs.Common.{sym, subst, ◌≡◌, ◌∙◌, List, ℕ, [], Result, Ok, Err}
 use Rattle.std.specs.List.{flat_map}
 use Rattle.std.proofs.lemmas.Result.{err_from_is_err_and}
+use Rattle.safl_word.proofs.Lists.{append_empty}
 use Rattle.safl_verilog.specs.Files.{File}
 use Rattle.safl_verilog.specs.Faults.{all_number_faults, declared_number_faults, stated_number_faults}
 use Rattle.safl_vparse.specs.declared.file.Declaration.{Declaration}
@@ -12,7 +13,7 @@ use Rattle.safl_vread.specs.declared.driver.Driver.{Driver}
 use Rattle.safl_vread.specs.Drivers.{HasDrivers}
 use Rattle.safl_vread.specs.Firsts.{Answers}
 use Rattle.safl_vread.specs.Parts.{parts_at, later_faults}
-use Rattle.safl_vread.proofs.FaultsOfFile.{empty, both_empty, numbers_first, header_first, declared_first, later_answers}
+use Rattle.safl_vread.proofs.FaultsOfFile.{empty, numbers_first, header_first, declared_first, later_answers}
 use Rattle.safl_vread.proofs.elaborate.elaborate_parts.Goals as goal
 
 pub returns-in-Some-clause-faults : goal.returns-in-Some-clause-faults
@@ -28,7 +29,7 @@ returns-in_err-listed-clause-faults c =
 pub scope_of-requires : goal.scope_of-requires
 scope_of-requires c =
     let f : File = parts_at c.args.text.now c.args.header.now c.args.declarations.now c.args.statements.now in
-    (both_empty (flat_map declared_number_faults f.declarations) (flat_map stated_number_faults f.statements) (empty (all_number_faults f) (sym c.in_default.is ∙ c.number_fault.ensures))).0
+    (append_empty (flat_map declared_number_faults f.declarations) (flat_map stated_number_faults f.statements) (empty (all_number_faults f) (sym c.in_default.is ∙ c.number_fault.ensures))).0
 
 pub returns-in_err-scope-clause-faults : goal.returns-in_err-scope-clause-faults
 returns-in_err-scope-clause-faults c =
@@ -42,7 +43,7 @@ all_drivers-requires-clause-numbers c =
     let f : File = parts_at c.args.text.now c.args.header.now c.args.declarations.now c.args.statements.now in
     let a = empty (all_number_faults f) (sym c.in_default.is ∙ c.number_fault.ensures) in
     subst (λ (t : List ℕ). flat_map stated_number_faults (shown_statements t c.args.statements.now) ≡ []) (sym c.in_ok-scope.ensures.text)
-    (both_empty (flat_map declared_number_faults f.declarations) (flat_map stated_number_faults f.statements) a).1
+    (append_empty (flat_map declared_number_faults f.declarations) (flat_map stated_number_faults f.statements) a).1
 
 -- the faults behind, of the parts that were passed
 later : {A : Type 0} (text t : List ℕ) (header : List Span) (ds xs : List Declaration) (ss : List Statement) (r : Result A VErr) → t ≡ text → xs ≡ ds

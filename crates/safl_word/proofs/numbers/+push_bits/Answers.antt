@@ -1,4 +1,5 @@
-use Rattle.std.proofs.Common.{◌≡◌, ℕ, ◌+◌, ◌/◌, ◌%◌, ◌≤◌, List, [], ◌∷◌, ◌++◌, Result, Ok, Err, OnOk, sym, ap, ◌∙◌, append_assoc}
+use Rattle.std.proofs.Common.{◌≡◌, ℕ, ◌+◌, ◌/◌, ◌%◌, ◌≤◌, List, [], ◌∷◌, ◌++◌, sym, ap, ◌∙◌, append_assoc}
+use Rattle.std.proofs.lemmas.Result.{on_ok_weaker}
 use Rattle.safl_word.specs.Numerals.{binary}
 use Rattle.safl_word.proofs.Binary.{binary_more, binary_four}
 use Rattle.safl_word.proofs.numbers.+push_bits.Goals as goal
@@ -11,10 +12,6 @@ four_more : (old mid now : List ℕ) (n : ℕ) → 16 ≤ n → mid ≡ old ++ b
 four_more old mid now n many first second =
     after old mid now (binary (n / 16)) ((48 + n % 16 / 8) ∷ (48 + n % 16 / 4 % 2) ∷ (48 + n % 16 / 2 % 2) ∷ (48 + n % 16 % 2) ∷ []) (binary n) first second (binary_four n many)
 
-on_ok : {T E : Type 0} (r : Result T E) (P Q : Type 0) → (P → Q) → OnOk r P → OnOk r Q
-on_ok (Ok x) P Q f p = f p
-on_ok (Err e) P Q f p = tt
-
 pub returns-then-number-lt16-clause-ok : goal.returns-then-number-lt16-clause-ok
 returns-then-number-lt16-clause-ok t c =
     let n : ℕ = c.args.number in
@@ -23,5 +20,5 @@ returns-then-number-lt16-clause-ok t c =
 
 pub returns-clause-ok : goal.returns-clause-ok
 returns-clause-ok t c =
-    on_ok c.push_four.result _ _ (
+    on_ok_weaker c.push_four.result (
     four_more c.args.out.now.items c.push_bits-2.new.out.items c.push_four.new.out.items c.args.number c.if-number-lt16.false c.in_ok-push_bits-2.ensures.ok) c.push_four.ensures.ok

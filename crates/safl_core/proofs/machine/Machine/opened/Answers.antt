@@ -1,13 +1,13 @@
 use Rattle.std.proofs.Common.{◌≡◌, ℕ, List, Option, None, get_or, ◌∙◌, ap, refl, sym, subst, length, arith}
-use Rattle.safl_word.specs.Words.{Word}
+use Rattle.safl_word.specs.Words.{Word, widths}
 use Rattle.safl_calls.specs.Machine.{State}
 use Rattle.safl_calls.specs.Machine as core
-use Rattle.safl_evaluate.specs.Evaluating.{widths}
-use Rattle.safl_core.proofs.KeptAtFirst.{kept_open, opens, widths_long}
+use Rattle.safl_core.proofs.KeptAtFirst.{kept_open, opens}
 use Rattle.safl_core.proofs.SetsAtFirst.{marked_first}
 use Rattle.safl_core.proofs.LawsOfKept.{sized}
 use Rattle.safl_core.specs.Marking.{AreMarked}
 use Rattle.safl_evaluate.specs.Laying.{IsPlan}
+use Rattle.safl_evaluate.proofs.RunsByParts.{widths_len}
 use Rattle.safl_core.proofs.machine.Machine.opened.Goals as goal
 
 idle_runs : (f k : ℕ) (ws : List Word) → core.Idle ≡ core.Runs f k ws → ⊥
@@ -41,7 +41,7 @@ invariant_of-result c =
     }
 
 pub new-requires-2 : goal.new-requires-2
-new-requires-2 c = omega (arith, widths_long c.args.args.now, ap (λ (l : List ℕ). length l) c.requires, c.functions-functions.ensures.checked.limits.params c.args.c.now.program.main)
+new-requires-2 c = omega (arith, widths_len c.args.args.now, ap (λ (l : List ℕ). length l) c.requires, c.functions-functions.ensures.checked.limits.params c.args.c.now.program.main)
 
 pub returns : goal.returns
 returns c = record {

@@ -1,8 +1,9 @@
 use Rattle.std.proofs.Common.{◌≡◌, ℕ, suc, ◌-◌, length, Some, sym, ap, ◌∙◌, arith, slice_get, vec_len}
+use Rattle.safl_word.proofs.Lists.{get_read}
 use Rattle.safl_order.specs.declared.walk.Frame.{Frame}
 use Rattle.safl_order.specs.Order.{IsWire}
 use Rattle.safl_order.specs.Walk.{Looks}
-use Rattle.safl_order.proofs.Moves.{get_read, top_looks, moves_pass, moves_open, moves_loop, few_places}
+use Rattle.safl_order.proofs.Moves.{top_looks, moves_pass, moves_open, moves_loop, few_places}
 use Rattle.safl_order.proofs.walk.Walk.look.Goals as goal
 
 pub open-requires-clause-room : goal.open-requires-clause-room

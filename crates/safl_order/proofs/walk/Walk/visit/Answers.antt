@@ -1,5 +1,6 @@
 use Rattle.std.proofs.Common.{length, Some, sym, ap, ◌∙◌, arith}
-use Rattle.safl_order.proofs.Moves.{get_read, done_root, done_after, seen_open, seen_other, no_looks, moves_open}
+use Rattle.safl_word.proofs.Lists.{get_read}
+use Rattle.safl_order.proofs.Moves.{done_root, done_after, seen_open, seen_other, no_looks, moves_open}
 use Rattle.safl_order.proofs.Steps.{goes_on, goes_none}
 use Rattle.safl_order.proofs.walk.Walk.visit.Goals as goal
 

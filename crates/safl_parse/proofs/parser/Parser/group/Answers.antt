@@ -5,19 +5,20 @@ use Rattle.safl_word.specs.declared.token.Key.TheVariants as keys
 use Rattle.safl_tree.specs.Terminals.{terminals, word_code, comes}
 use Rattle.safl_tree.specs.Shown.{shown_definitions}
 use Rattle.safl_tree.specs.Reader.{expr_at, read_another_one}
-use Rattle.safl_parse.proofs.Loops.{another_one_eats, fails}
+use Rattle.safl_tree.proofs.PrintedPrograms.{one_eats}
+use Rattle.safl_parse.proofs.Loops.{fails}
 use Rattle.safl_parse.proofs.parser.Parser.group.Goals as goal
 
 pub returns : goal.returns
-returns c = stops_here (comes (word_code keys.And ∷ [])) (read_another_one (expr_at 100)) another_one_eats (shown_definitions c.members.defs.items)
+returns c = stops_here (comes (word_code keys.And ∷ [])) (read_another_one (expr_at 100)) one_eats (shown_definitions c.members.defs.items)
     (terminals c.args.self.now.text.now c.members.rest.now) _ c.members.invariant (sym c.comes.ensures ∙ c.members-test.false)
 
 pub members-smaller : goal.members-smaller
-members-smaller c = another_one_eats (shown_definitions c.members.defs.items) (terminals c.args.self.now.text.now c.members.rest.now)
+members-smaller c = one_eats (shown_definitions c.members.defs.items) (terminals c.args.self.now.text.now c.members.rest.now)
     (terminals c.args.self.now.text.now c.in_ok-next.after.now) (shown_definitions c.in_ok-next.next.items) c.in_ok-next.ensures
 
 pub members-preserved : goal.members-preserved
-members-preserved c = goes_on (comes (word_code keys.And ∷ [])) (read_another_one (expr_at 100)) another_one_eats
+members-preserved c = goes_on (comes (word_code keys.And ∷ [])) (read_another_one (expr_at 100)) one_eats
     (shown_definitions c.members.defs.items) (terminals c.args.self.now.text.now c.members.rest.now) _ c.members.invariant
     (shown_definitions c.in_ok-next.next.items) (terminals c.args.self.now.text.now c.in_ok-next.after.now)
     (sym c.comes.ensures ∙ c.members-test.true) c.in_ok-next.ensures
@@ -26,5 +27,5 @@ pub returns-in_err-next : goal.returns-in_err-next
 returns-in_err-next c =
     let p = err_from_is_err_and c.from_residual-in_err-next.result c.from_residual-in_err-next.ensures.1 in
     rw (p.1, p.2) (fails c.args.self.now.text.now c.in_err-next.field-0.0 (comes (word_code keys.And ∷ [])) (read_another_one (expr_at 100))
-    another_one_eats (shown_definitions c.members.defs.items) (terminals c.args.self.now.text.now c.members.rest.now) _ c.members.invariant
+    one_eats (shown_definitions c.members.defs.items) (terminals c.args.self.now.text.now c.members.rest.now) _ c.members.invariant
     (sym c.comes.ensures ∙ c.members-test.true) c.in_err-next.ensures)

@@ -1,8 +1,8 @@
 use Rattle.std.proofs.Common.{◌-◌, ◌∷◌, ◌++◌, [], ◌<◌, ℕ, List, length, slice_get, refl, sym, ap, ◌∙◌, append_assoc, arith}
 use Rattle.std.proofs.lemmas.List.{append-nil, get_or_read}
+use Rattle.safl_word.proofs.Lists.{get_read}
 use Rattle.safl_sim.specs.Chains.{chain, numbers_of, nexts_of}
 use Rattle.safl_sim.proofs.Chaining.{lists_long, list_at, next_at, some_before, chain_link}
-use Rattle.safl_sim.proofs.Written.{get_read}
 use Rattle.safl_sim.proofs.chains.Chains.append.Goals as goal
 
 pub index-at-requires : goal.index-at-requires

@@ -3,9 +3,9 @@ use Rattle.std.specs.Int.{w64, bit_at, trailing_zeros}
 use Rattle.std.proofs.lemmas.List.{get_or_read}
 use Rattle.std.proofs.lemmas.Nat.Bits.{bit_at-zero, bit_at-trailing_zeros}
 use Rattle.std.proofs.Math.Nat.{min-le_right}
+use Rattle.std.proofs.lemmas.Bool.{cases_lt}
 use Rattle.safl_sim.proofs.Covering.{bit_none, begun_none, begun_within}
 use Rattle.safl_sim.proofs.MarksByOne.{none_in}
-use Rattle.safl_sim.proofs.Written.{lower_or_not}
 use Rattle.safl_sim.proofs.marks.Marks.next.Goals as goal
 
 pub returns-then-left-ne0-clause-none : goal.returns-then-left-ne0-clause-none
@@ -44,7 +44,7 @@ groups-preserved c = λ v f l.
     let b = c.groups.b in
     let is = get_or_read filled b _ (let a = c.self.invariant.0 in let d = ap length c.self.view_is in let e = c.requires.within in let g =
     c.groups-test.true in let h = c.word_count-b-end.ensures in omega (arith, a, d, e, g, h)) c.index-block.ensures 0 in
-    elim (lower_or_not v (b * 64)) [
+    elim (cases_lt v (b * 64)) [
       | inl h ↦ c.groups.invariant v f h
       | inr h ↦ ap (λ (s : List ℕ). slice_index s v) (sym c.self.view_is) ∙ bit_none filled words b v c.self.invariant (omega (arith, h, l))
           (ap (λ y. bit_at y (v % 64)) (sym is ∙ c.if-block-ne0.false) ∙ bit_at-zero (v % 64))
@@ -62,7 +62,7 @@ returns-then-block-ne0-clause-none c = λ w f l.
     let low = bit_at-trailing_zeros w64 n (let a = c.if-block-ne0.true in omega (arith, a)) fits in
     let under : trailing_zeros w64 n < 64 = low.0 in
     let last : w < b * 64 + trailing_zeros w64 n = (let a = min-le_right c.args.end (b * 64 + trailing_zeros w64 n) in let d = c.min-then-block-ne0.ensures in omega (arith, a, d, l)) in
-    none_in c.args.self.now w (elim (lower_or_not w (b * 64)) [
+    none_in c.args.self.now w (elim (cases_lt w (b * 64)) [
       | inl h ↦ c.groups.invariant w f h
       | inr h ↦
           ap (λ (s : List ℕ). slice_index s w) (sym c.self.view_is)

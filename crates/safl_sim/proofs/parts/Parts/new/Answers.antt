@@ -2,6 +2,7 @@ use Rattle.std.proofs.Common.{◌≡◌, ◌+◌, ◌/◌, ℕ, List, length, sy
 use Rattle.safl_net.specs.Netlist.{Netlist}
 use Rattle.safl_net.specs.Making.{numbers}
 use Rattle.safl_net.specs.Rules.{IsNetlist}
+use Rattle.safl_net.proofs.Keeping.{numbers_length}
 use Rattle.safl_order.specs.Order.{IsOrder}
 use Rattle.safl_sim.specs.Guards.{AreGuards}
 use Rattle.safl_sim.specs.Places.{inputs_of, resets}
@@ -11,7 +12,7 @@ use Rattle.safl_sim.specs.Marks.{marked, first_register}
 use Rattle.safl_sim.specs.Readers.{Lists, AreReaders, Inside}
 use Rattle.safl_sim.specs.States.{placed, AreReset}
 use Rattle.safl_sim.specs.Steps.{AreSteps, AreRegisters}
-use Rattle.safl_sim.proofs.Builds.{keeps_new, placed_resets, numbers_length}
+use Rattle.safl_sim.proofs.Builds.{keeps_new, placed_resets}
 use Rattle.safl_sim.proofs.Cycle.{registers_known}
 use Rattle.safl_sim.proofs.Few.{few_wires}
 use Rattle.safl_sim.proofs.parts.Parts.new.Goals as goal

@@ -1,7 +1,8 @@
 use Rattle.std.proofs.Common.{◌≡◌, sym, ◌∙◌, ap, subst, inl, inr}
+use Rattle.std.proofs.lemmas.Bool.{both_ways}
 use Rattle.safl_term.specs.Checked.{CheckedProgram}
 use Rattle.safl_term.specs.Program.{unit_for}
-use Rattle.safl_sites.proofs.EarlierConflicts.{conflict_of, conflict_by, clash}
+use Rattle.safl_sites.proofs.EarlierConflicts.{conflict_of, conflict_by}
 use Rattle.safl_sites.proofs.planned.Planned.conflict.Goals as goal
 
 pub returns-then-comes_before : goal.returns-then-comes_before
@@ -23,5 +24,5 @@ returns-else-comes_before c =
     let e : unit_for D k ≡ unit_for D o = sym c.unit_for.ensures.number ∙ (c.if-unit_for.false ∙ c.unit_for-else-k-other.ensures.number) in
     let same = subst (λ (q : CheckedProgram). unit_for q.program k ≡ unit_for q.program o) (ap (λ p. p.checked) c.self.view_is) e in (
       λ h. conflict_of C k o c.if-k-other.false same (inr (c.comes_before-else-comes_before.ensures.0 h)),
-      λ h. elim (conflict_by C k o h) [ inl b ↦ absurd (clash c.comes_before.result c.if-comes_before.false (c.comes_before.ensures.1 b)) | inr b ↦ c.comes_before-else-comes_before.ensures.1 b ],
+      λ h. elim (conflict_by C k o h) [ inl b ↦ absurd (both_ways c.comes_before.result c.if-comes_before.false (c.comes_before.ensures.1 b)) | inr b ↦ c.comes_before-else-comes_before.ensures.1 b ],
     )

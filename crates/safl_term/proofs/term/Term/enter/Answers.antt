@@ -1,12 +1,13 @@
 use Rattle.std.proofs.Common.{◌≡◌, ◌<◌, ◌≤◌, ℕ, List, refl, ap, sym, ◌∙◌, arith}
 use Rattle.safl_word.specs.declared.primitive.Primitive.TheVariants as prims
+use Rattle.safl_word.proofs.Naturals.{work_less_of}
 use Rattle.safl_term.specs.declared.term.Term.{Term}
 use Rattle.safl_term.specs.Weights.{code_weight}
-use Rattle.safl_term.proofs.Dismantling.{two, let_weight, op_weight, call_weight, loop_weight, work_down, work_up, sum_last, less_of, at_most_of, less_in}
+use Rattle.safl_term.proofs.Dismantling.{two, let_weight, op_weight, call_weight, loop_weight, at_most_of, less_in}
 use Rattle.safl_term.proofs.term.Term.enter.Goals as goal
 
 pub returns-in-Let : goal.returns-in-Let
-returns-in-Let c = less_of _ _ (sym (ap code_weight c.in-Let.is ∙ let_weight c.in-Let.field-0 c.in-Let.bound c.in-Let.body)) c.enter_let.ensures
+returns-in-Let c = work_less_of _ _ (sym (ap code_weight c.in-Let.is ∙ let_weight c.in-Let.field-0 c.in-Let.bound c.in-Let.body)) c.enter_let.ensures
 
 pub returns-in-Op : goal.returns-in-Op
 returns-in-Op c = less_in c.enter_parts.result _ (sym (ap code_weight c.in-Op.is ∙ op_weight c.in-Op.field-0 c.in-Op.parts)) c.enter_parts.ensures
