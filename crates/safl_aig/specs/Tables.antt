@@ -34,7 +34,7 @@ pub record Ready (n : Netlist) (g : Gates) (table : List Pins) (s : ℕ) : Type 
 abbrev pub Agrees : Assignment → (ℕ → ℕ) → List Pins → ℕ → Type 0
 Agrees m f table s = shown m (lits_at table s) ≡ f s
 
--- the literals of so many variables, from a number on
+-- the literals of this many variables, from this number on
 abbrev pub variable_lits : ℕ → ℕ → List Lit
 variable_lits first zero = []
 variable_lits first (suc k) = record { 0 = 2 * first } ∷ variable_lits (suc first) k

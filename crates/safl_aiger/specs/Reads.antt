@@ -174,14 +174,14 @@ abbrev pub Breaks : ℕ → LineKind → List (List ℕ) → AigRule → Type 0
 Breaks most w [] e = e ≡ B02
 Breaks most w (l ∷ ls) e = IsBad most w l e
 
--- so many lines are of their kinds, and the line after them breaks this rule
+-- this many lines are of their kinds, and the line after them breaks this rule
 abbrev pub LineFault : ℕ → List LineKind → List (List ℕ) → AigRule → ℕ → Type 0
 LineFault most [] ls e k = ⊥
 LineFault most (w ∷ ws) ls e zero = Breaks most w ls e
 LineFault most (w ∷ ws) [] e (suc k) = ⊥
 LineFault most (w ∷ ws) (l ∷ ls) e (suc k) = (ns : List ℕ) × HasNumbers l ns × IsGood most w ns × LineFault most ws ls e k
 
--- so many lines give names, and the line after them gives none and is not `c`
+-- this many lines give names, and the line after them gives none and is not `c`
 abbrev pub SymbolFault : List (List ℕ) → Named → ℕ → Type 0
 SymbolFault [] old k = ⊥
 SymbolFault (l ∷ ls) old zero = (l ≢ codes "c") × RefusesLine l old

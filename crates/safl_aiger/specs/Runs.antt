@@ -9,7 +9,7 @@ pub record Wired (first : ℕ) (ands : List (Lit × Lit)) (m : Assignment) : Typ
   pub bottom : m 0 ≡ false
   pub each : (k : ℕ) (p : Lit × Lit) → slice_get ands k ≡ Some p → m (first + k) ≡ (on m p.0 && on m p.1)
 
--- the values of so many variables, from a number on
+-- the values of this many variables, from this number on
 abbrev pub variable_bits : Assignment → ℕ → ℕ → List Bool
 variable_bits m first zero = []
 variable_bits m first (suc k) = m first ∷ variable_bits m (suc first) k
@@ -26,7 +26,7 @@ pub record Fits (a : Circuit) (state given : List Bool) (m : Assignment) : Type 
   pub latches : latch_bits a m ≡ state
   pub wired : Wired (base a) a.ands m
 
--- so many latches, all false, as at the beginning
+-- this many latches, all false, as at the beginning
 abbrev pub all_false : ℕ → List Bool
 all_false zero = []
 all_false (suc n) = false ∷ all_false n

@@ -31,12 +31,12 @@ abbrev pub Fails : List ℕ → ℕ → ℕ → List LineKind → SectionErr →
 Fails text most at ws (Stopped s) = Stops text most at ws s.rule s.place
 Fails text most at ws NoMemory = Unit {0}
 
--- the line that breaks a rule is one of the first so many
+-- the line that breaks a rule is among the first ones, of which there are this many
 abbrev pub IsWithin : ℕ → SectionErr → Type 0
 IsWithin count (Stopped s) = s.place < count
 IsWithin count NoMemory = Unit {0}
 
--- the same error with so many lines before it
+-- the same error with this many lines before it
 abbrev pub Later : ℕ → SectionErr → SectionErr → Type 0
 Later k (Stopped s) (Stopped t) = (t.rule ≡ s.rule) × (t.place ≡ k + s.place)
 Later k (Stopped s) NoMemory = ⊥

@@ -17,7 +17,7 @@ numbers_line n ns = decimal n ++ flat_map (λ k. 32 ∷ decimal k) ns
 abbrev pub header_line : Circuit → List ℕ
 header_line a = codes "aag " ++ numbers_line (variables a) (a.inputs ∷ latches a ∷ length a.outputs ∷ length a.ands ∷ [])
 
--- The lines of inputs, latches, outputs and ANDs. The first variable of a section is this number; a line has the own literal, if
+-- The lines of inputs, latches, outputs and ANDs. The first variable of a section is this number; a line has its own literal, if
 -- there is one, and the other literals.
 abbrev pub input_text : ℕ → ℕ → List (List ℕ)
 input_text first zero = []

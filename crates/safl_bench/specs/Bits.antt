@@ -10,7 +10,7 @@ pub record OfBits (n : Netlist) : Type 0 where
   pub some : 0 < length n.signals
   pub bit : (s : ℕ) → s < length n.signals → width_at n s ≡ Some 1
 
--- the widths of so many bits
+-- the widths of this many bits
 abbrev pub ones : ℕ → List ℕ
 ones zero = []
 ones (suc k) = 1 ∷ ones k

@@ -12,14 +12,14 @@ use Rattle.safl_bench.specs.declared.turns.Ends.{Ends}
 abbrev pub Has : Netlist → ℕ → Sig → Type 0
 Has n width s = width_at n s.0 ≡ Some width
 
--- the new net has at most so many wires more than the old one, and the signal, which has this width
+-- the new net has at most this many wires more than the old one, and the signal, which has this width
 pub record Gives (old new : Netlist) (most width : ℕ) (s : Sig) : Type 0 where
   pub tidy : IsTidy new
   pub grows : Grows old new
   pub more : length new.signals ≤ length old.signals + most
   pub has : Has new width s
 
--- the new net has at most so many wires more than the old one, and the two ends, which have this width
+-- the new net has at most this many wires more than the old one, and the two ends, which have this width
 pub record Turns (old new : Netlist) (most width : ℕ) (e : Ends) : Type 0 where
   pub tidy : IsTidy new
   pub grows : Grows old new

@@ -27,11 +27,11 @@ IsLiteral g l = l.0 < 2 * count g
 abbrev pub AreLiterals : Gates → List Lit → Type 0
 AreLiterals g ls = All (IsLiteral g) ls
 
--- so many more ANDs have numbers of 31 bits
+-- the graph has room for this many more ANDs: their numbers have 31 bits
 abbrev pub HasRoom : Gates → ℕ → Type 0
 HasRoom g most = count g + most ≤ variables_max
 
--- the new graph has all ANDs of the old one, and at most so many more
+-- the new graph has all ANDs of the old one, and at most this many more
 pub record Grows (old new : Gates) (most : ℕ) : Type 0 where
   pub first : new.first ≡ old.first
   pub more : List (Lit × Lit)

@@ -271,7 +271,8 @@ module _ (C : Program) (args : List Word) (good : Numbered C) where
   inv_finish s inv f k ws v e says' =
       let is : finish C s (C.unit f) (s.unit (C.unit f)) (says C s (C.unit f)) ≡ finish C s (C.unit f) (Runs f k ws) (Ready v) = ap
       (λ m. finish C s (C.unit f) m (says C s (C.unit f))) e ∙ ap (finish C s (C.unit f) (Runs f k ws)) says' in
-      subst (Inv C) (sym is) (inv_end s inv (C.unit f) f k ws (Ready v) e (sym (ap (says_as C (back s)) e) ∙ says') (ready_not_yet v) (Delivers k v) refl (λ g j us h. absurd (delivers_runs g j k v us h)))
+      subst (Inv C) (sym is) (inv_end s inv (C.unit f) f k ws (Ready v) e (sym (ap (says_as C (back s)) e) ∙ says') (ready_not_yet v) (Delivers k v)
+      refl (λ g j us h. absurd (delivers_runs g j k v us h)))
 
   inv_go_on : (s : State) → Inv C s → (h : ℕ) (vs : List Word) → says C s (C.unit h) ≡ LoopTo h vs → Inv C (loop_into C s (C.unit h) (s.unit (C.unit h)) (says C s (C.unit h)))
   inv_go_on s inv h vs says' = by (s.unit (C.unit h)) refl

@@ -76,7 +76,7 @@ Enabled C args s (LoopInto h) = (vs : List Word) × (says C s (C.unit h) ≡ Loo
 abbrev pub CallerRests : Program → State → ℕ → Type 0
 CallerRests C s k = (j : ℕ) (args : List Word) → s.unit (C.unit (C.caller k)) ≡ Runs (C.caller k) j args → ⊥
 
--- the stages after a unit ends a body: the own sites of its functions are unsent again
+-- the stages after a unit ends a body: the sites in its functions are unsent again
 abbrev pub ended : Program → ℕ → (ℕ → Stage) → ℕ → Stage
 ended C u site zero = site zero
 ended C u site (suc k) = cond (C.unit (C.caller (suc k)) == u) Unsent (site (suc k))

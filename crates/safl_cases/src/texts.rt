@@ -66,8 +66,8 @@ fn push_line(text: &mut String, line: &str) -> Result<(), NoMemory> {
     Ok(())
 }
 
-/// The bytes that a piece of a line stands for: all of it, or what is between its double quotes. `
-/// `, `\t` and `\r` stand for these bytes, `\x` and two hexadecimal digits for any byte, and `\#` for `number`.
+/// The bytes that a piece of a line stands for: all of it, or what is between its double quotes. `\n`, `\t`
+/// and `\r` stand for these bytes, `\x` and two hexadecimal digits for any byte, and `\#` for `number`.
 pub fn bytes_of(alloc: Global, piece: &str, number: usize) -> Result<Vec<u8>, NoMemory> {
     let inner = piece
         .strip_prefix('"')

@@ -12,9 +12,9 @@ use Rattle.safl_term.specs.Tables.{Tables, program_of, name_of}
 use Rattle.safl_term.proofs.HeldByChecked.{each_checked}
 use Rattle.safl_term.specs.Terms.{Const}
 use Rattle.safl_term.specs.Tree.{shown_term}
-use Rattle.safl_term.specs.declared.tables.Function.{Function}
-use Rattle.safl_term.specs.declared.tables.Parameter.{Parameter}
-use Rattle.safl_term.specs.declared.tables.Site.{Site}
+use Rattle.safl_term.specs.declared.checked.Function.{Function}
+use Rattle.safl_term.specs.declared.checked.Parameter.{Parameter}
+use Rattle.safl_term.specs.declared.checked.Site.{Site}
 use Rattle.safl_typing.specs.Forms.{FunctionForm, form_of, shown_function, shown_param}
 use Rattle.safl_check.specs.Numbered.{of_function, of_site, program_in, name_in, param_names_in}
 use Rattle.safl_check.specs.Laws.{IsNumbered}

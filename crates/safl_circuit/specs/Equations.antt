@@ -127,7 +127,7 @@ starts C P r i u = first (go_in C P r i u) (suc C.sites)
 unfoldable pub loads : Program → Choice → Registers → Inputs → ℕ → Option (List Word)
 loads C P r i f = first (load_in C P r i f) (suc C.sites)
 
--- clear: the own sites of u's functions are cleared, since one of the functions ends or is looped to
+-- clear: the sites in u's functions are cleared, since one of the functions ends or is looped to
 abbrev pub clears : Program → Choice → Registers → ℕ → Bool
 clears C P r u = is_some (ends C P r u) || is_some (loops C P r u)
 

@@ -76,7 +76,7 @@ pub enum Command {
         limit: u64,
     },
     /// Reads a source from `input` and writes it to `output` with a copy of the function that call site `site` calls.
-    /// This site alone calls the copy.
+    /// Only this site calls the copy.
     CopySite {
         input: String,
         output: String,

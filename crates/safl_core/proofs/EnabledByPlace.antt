@@ -151,13 +151,16 @@ module _ (C : Program) (args : List Word) (s : State) where
   after_finishes j = cond (nat_lt j (suc C.sites)) (Return j) (LoopInto (j - suc C.sites))
 
   first : (j : ℕ) → event_at C (suc C.sites + j) ≡ after_accepts j
-  first j = ap (λ b. cond b (Accept (suc C.sites + j)) (after_accepts (suc C.sites + j - suc C.sites))) (le-ltb (suc C.sites + j) (suc C.sites) (omega arith)) ∙ ap after_accepts (add-sub_cancel_left (suc C.sites) j)
+  first j = ap (λ b. cond b (Accept (suc C.sites + j)) (after_accepts (suc C.sites + j - suc C.sites)))
+      (le-ltb (suc C.sites + j) (suc C.sites) (omega arith)) ∙ ap after_accepts (add-sub_cancel_left (suc C.sites) j)
 
   second : (j : ℕ) → after_accepts (C.functions + j) ≡ after_finishes j
-  second j = ap (λ b. cond b (Finish (C.functions + j)) (after_finishes (C.functions + j - C.functions))) (le-ltb (C.functions + j) C.functions (omega arith)) ∙ ap after_finishes (add-sub_cancel_left C.functions j)
+  second j = ap (λ b. cond b (Finish (C.functions + j)) (after_finishes (C.functions + j - C.functions)))
+      (le-ltb (C.functions + j) C.functions (omega arith)) ∙ ap after_finishes (add-sub_cancel_left C.functions j)
 
   third : (j : ℕ) → after_finishes (suc C.sites + j) ≡ LoopInto j
-  third j = ap (λ b. cond b (Return (suc C.sites + j)) (LoopInto (suc C.sites + j - suc C.sites))) (le-ltb (suc C.sites + j) (suc C.sites) (omega arith)) ∙ ap LoopInto (add-sub_cancel_left (suc C.sites) j)
+  third j = ap (λ b. cond b (Return (suc C.sites + j)) (LoopInto (suc C.sites + j - suc C.sites)))
+      (le-ltb (suc C.sites + j) (suc C.sites) (omega arith)) ∙ ap LoopInto (add-sub_cancel_left (suc C.sites) j)
 
   spot : (a : ℕ) → Spot C a (event_at C a)
   spot a = ⊎_elim (λ lt. subst (λ e. Spot C a e) (sym (below a lt)) (accept_spot lt)) (λ q. after_sites q.0 q.1) (below_or a (suc C.sites))

@@ -9,7 +9,7 @@ use Rattle.safl_core.specs.Marking.{AreMarked}
 use Rattle.safl_evaluate.specs.Laying.{IsPlan}
 use Rattle.safl_core.specs.States.{IsStateAfter, Recalls, calls_of}
 
--- The state is one that a machine has after so many events, and the sets are those of its enabled events and busy units. The
+-- The state is one that a machine has after this many events, and the sets are those of its enabled events and busy units. The
 -- bodies lie as planned, and what is kept of those that run is right.
 pub record IsHeld (c : CheckedProgram) (args : List Word) (events : ℕ) (s : State) (e : Enabled) (plan : Plan) : Type 0 where
   pub kept : IsStateAfter c args events s

@@ -16,7 +16,7 @@ pub record IsKnown (C : Program) (s : State) (answers : List Answer) (asks : Lis
   pub outcome : get_or answers u NotYet ≡ says C s u
   pub wants : (k : ℕ) → 0 < k → k ≤ C.sites → C.unit (C.caller k) ≡ u → get_or asks k None ≡ asked_as C (back s) (s.unit u) (C.caller k) k
 
--- each word that has come back has the width of the called function
+-- each returned word has the width of the called function
 abbrev pub BackFits : Program → List Stage → Type 0
 BackFits C sites = (k : ℕ) (v : Word) → back_at sites k ≡ Some v → v.width ≡ C.result (C.callee k)
 

@@ -101,7 +101,7 @@ Concerns C (LoopInto h) u w = (u ≡ C.unit h) × (w ≡ u)
 abbrev pub marked : Enabled → ℕ
 marked e = sum (counted e.accepts) + (sum e.finishes + (sum e.returns + sum e.loops))
 
--- the event has its number in its set, and so many events of the sets come before it
+-- the event has its number in its set, and this many events of the sets come before it
 abbrev pub IsNth : Enabled → ℕ → Event → Type 0
 IsNth e i (Accept k) = (get_or (counted e.accepts) k 0 ≡ 1) × (i ≡ sum (take k (counted e.accepts)))
 IsNth e i (Finish f) = (get_or e.finishes f 0 ≡ 1) × (i ≡ sum (counted e.accepts) + sum (take f e.finishes))

@@ -33,7 +33,7 @@ event_of (Finish f) = core.Finish f
 event_of (Return k) = core.Return k
 event_of (Loop h) = core.LoopInto h
 
--- a legal list of so many events leads to the machine's state
+-- a legal list of this many events leads to the machine's state
 pub record IsReached (m : Shown) : Type 0 where
   pub list : List core.Event
   pub count : length list ≡ m.events

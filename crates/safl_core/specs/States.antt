@@ -25,7 +25,7 @@ calls_of s = state_of s.modes.items s.stages.items
 abbrev pub ended_with : Program → State → ℕ → core.Mode → core.State
 ended_with C s u m = record { unit = core.put (unit_at s.modes.items) u m; site = core.ended C u (stage_at s.stages.items) }
 
--- the state is that of a machine after so many events
+-- the state is that of a machine after this many events
 abbrev pub IsStateAfter : CheckedProgram → List Word → ℕ → State → Type 0
 IsStateAfter c args events s = IsKept (shown_of c args s.modes.items s.stages.items events) s.answers.items s.wants.each.items (length s.env.items)
 

@@ -10,7 +10,7 @@ use Rattle.safl_core.specs.Listing.{busy}
 use Rattle.safl_core.specs.Picking.{IsPicked}
 use Rattle.safl_core.specs.Shown.{Shown, state}
 
--- So many turns lead from a state and a number to another state and number. At most so many units are busy in any state on the
+-- This many turns lead from a state and a number to another state and number. At most this many units are busy in any state on the
 -- way, the first and the last included. Each turn fires the enabled event that the next number picks.
 pub data Walked (C : Program) (args : List Word) (from : State) (seed : ℕ) : ℕ → State → ℕ → ℕ → Type 0 where
   start : Walked C args from seed 0 from seed (busy C from)
@@ -28,6 +28,6 @@ pub record IsWalk (m : Shown) (seed steps : ℕ) (n : Shown) (units : ℕ) : Typ
   pub within : turns ≤ steps
   pub ends : (turns ≡ steps) ⊎ IsSome (back_word ((state n).site 0))
 
--- main gives no value within so many events
+-- main gives no value within this many events
 abbrev pub IsShort : Shown → ℕ → Type 0
 IsShort m events = (v : Word) (d : Main m.program m.args v) → events + 2 * loops m.program d < 3 * main_cost m.program m.args d

@@ -53,7 +53,10 @@ notes_none A w h = record { each = λ k. sym (ap (or_else (get_or A k None)) (h 
 
 -- one part, and then another
 pub notes_both : {A A1 A2 : List (Option (List Word))} {u v w : ℕ → Option (List Word)} → Notes A A1 u → Notes A1 A2 v → ((k : ℕ) → or_else (u k) (v k) ≡ w k) → Notes A A2 w
-notes_both {A} {A1} {A2} {u} {v} {w} f g h = record { each = λ k. g.each k ∙ (ap (λ o. or_else o (v k)) (f.each k) ∙ (or_else_assoc (get_or A k None) (u k) (v k) ∙ ap (or_else (get_or A k None)) (h k))) }
+notes_both {A} {A1} {A2} {u} {v} {w} f g h = record {
+  each = λ k. g.each k ∙
+      (ap (λ o. or_else o (v k)) (f.each k) ∙ (or_else_assoc (get_or A k None) (u k) (v k) ∙ ap (or_else (get_or A k None)) (h k)));
+}
 
 pub notes_same : {A A1 : List (Option (List Word))} {u w : ℕ → Option (List Word)} → Notes A A1 u → ((k : ℕ) → u k ≡ w k) → Notes A A1 w
 notes_same {A} {A1} {u} {w} f h = record { each = λ k. f.each k ∙ ap (or_else (get_or A k None)) (h k) }

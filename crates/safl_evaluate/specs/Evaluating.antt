@@ -10,8 +10,8 @@ use Rattle.safl_term.specs.WellFormed.{Spans, SpansAll, HasWidth, HaveWidths}
 use Rattle.safl_evaluate.specs.declared.stage.Stage.{Stage}
 use Rattle.safl_evaluate.specs.Stages.{back_at}
 
--- A part of a body of a well-formed program: its sites are those of the program, its slots hold these words, and each word that
--- has come back has the width of the called function.
+-- A part of a body of a well-formed program: its sites are those of the program, its slots hold these words, and each
+-- returned word has the width of the called function.
 pub record CanRun (sites : List Stage) (places : ℕ) (env : List Word) (t : Term) : Type 0 where
   pub program : Program
   pub caller : ℕ

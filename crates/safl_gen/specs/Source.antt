@@ -66,6 +66,6 @@ main_line last = codes "fun main(a:16, b:16):16 = f" ++ decimal last ++ codes "(
 abbrev pub drawn_line : (ℕ → ℕ) → ℕ → Text
 drawn_line draws i = function_line i (draws (3 * i)) (draws (3 * i + 1)) (draws (3 * i + 2))
 
--- the source with so many functions, and with main, which calls the last of them
+-- the source with this many functions, and with main, which calls the last of them
 abbrev pub source : (ℕ → ℕ) → ℕ → Text
 source draws count = concat (map (drawn_line draws) (range_with_len 0 count)) ++ main_line (count - 1)

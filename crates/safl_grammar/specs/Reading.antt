@@ -44,7 +44,7 @@ read_follows p q w = p w >>= λ x. q x.0 x.1
 abbrev pub read_either : {T A : Type 0} → (Option T → Bool) → Reading T A → Reading T A → Reading T A
 read_either g p q w = if g (head_of w) then p w else q w
 
--- repeats a reader as long as the test holds for the next token, at most so many times
+-- repeats a reader as long as the test holds for the next token, at most this many times
 abbrev pub read_turns : {T A : Type 0} → ℕ → (Option T → Bool) → (A → Reading T A) → A → Reading T A
 read_turns zero g go a w = Ok (a, w)
 read_turns (suc k) g go a w = if g (head_of w) then (go a w >>= λ x. read_turns k g go x.0 x.1) else Ok (a, w)

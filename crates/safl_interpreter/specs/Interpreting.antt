@@ -20,7 +20,7 @@ abbrev pub shown_all : Option Operands → Outcomes
 shown_all None = NoWords
 shown_all (Some os) = Words os.words.items os.left
 
--- the application of a function with so many calls left, of which as many may be open at a time
+-- the application of a function with this many calls left, of which as many may be open at a time
 unfoldable pub applied : Program → Apply
 applied C n f us = apply C n n f us
 

@@ -48,7 +48,7 @@ pub record AppendsPart (name bytes : List ℕ) (old new : Files) : Type 0 where
   pub file : MatchOption (file_of old name) (IsNone (file_of new name)) (λ had. (count : ℕ) × (file_of new name ≡ Some (had ++ take count bytes)))
   pub others : SameOthers name old new
 
--- so many bytes at the beginning of the buffer are those of the file from `at` on. They are none only at or past its end
+-- this many bytes at the beginning of the buffer are those of the file from `at` on. They are none only at or past its end
 pub record ReadsFrom (at count : ℕ) (buffer : List ℕ) (file : List ℕ) : Type 0 where
   pub bytes : drop at file ≡ take count buffer ++ drop (at + count) file
   pub end : 0 < length buffer → count ≡ 0 → length file ≤ at

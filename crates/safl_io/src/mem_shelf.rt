@@ -1,5 +1,5 @@
 //! A shelf in memory, for tests.
-ghost use Rattle.std.specs.Prelude.{◌≡◌, ◌≤◌, ◌-◌, ◌↔◌, [], length, min, IfOk, IfSome, OnOk, OnErr, IsErr, IsErrOf};
+ghost use Rattle.std.specs.Prelude.{◌≡◌, ◌≤◌, ◌-◌, ◌↔◌, [], length, min, Some, IfOk, IfSome, OnOk, OnErr, IsErr, IsErrOf};
 ghost use Rattle.std.specs.Option.{option_copied};
 ghost use Rattle.safl_io.specs.Counts.{Rose, raised};
 ghost use Rattle.safl_io.specs.Shelf.{file_of, Leaves, Appends, AppendsPart, ReadsFile, ReadsFrom, IsStray, CountsStray, SameFiles, SameReads};

@@ -1,5 +1,5 @@
 //! Writing whole files to a shelf.
-ghost use Rattle.std.specs.Prelude.{OnOk, OnErr, IsErrOf};
+ghost use Rattle.std.specs.Prelude.{◌≡◌, OnOk, OnErr, IsErrOf};
 ghost use Rattle.safl_io.specs.Counts.{Rose};
 ghost use Rattle.safl_io.specs.Told.{TellsOn};
 ghost use Rattle.safl_io.specs.Shelf.{Leaves, LeavesOldOrPart, SameReads, UsesNoStray};

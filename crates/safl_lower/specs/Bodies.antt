@@ -60,7 +60,7 @@ wanted_at c f v P k = wanted (back_at v (c.first_site f) P.sites.items) (words v
 -- the circuit of f's body between these ports
 pub record IsLowered (c : CheckedProgram) (f : ℕ) (P : Ports) (old new : Netlist) (b : Body) : Type 0 where
   pub built : Builds old new (32 * nodes (c.program.body f) + 32)
-  -- there is a load for each own site, and a place for each function of the group
+  -- there is a load for each site in the body, and a place for each function of the group
   pub count : c.first_site f + length b.wants.items ≡ c.first_site (suc f)
   pub group : IsGroup c.program f (length b.loops.items)
   pub fits : BodyFits c f new b
@@ -70,7 +70,7 @@ pub record IsLowered (c : CheckedProgram) (f : ℕ) (P : Ports) (old new : Netli
   pub tails : loads_cost b.loops.items ≤ nodes (c.program.body f)
   -- the body ends if it runs and is ready, with its word
   pub end : (v : Val) → Wired new v → taken v b.end ≡ one_word (gate (on v P.run) (word_of (answer_at c f v P)))
-  -- an own site is wanted if the body runs and wants it, and it was not sent; the arguments are the words of the body
+  -- a site in the body is wanted if the body runs and wants it, and it was not sent; the arguments are the words of the body
   pub wants : (v : Val) → Wired new v → (i : ℕ) → taken_at v b.wants.items i
       ≡ gate (on v P.run && not (sent_at v (c.first_site f) P.sites.items (c.first_site f + i))) (wanted_at c f v P (c.first_site f + i))
   -- a tail call to a function is made if the body runs and makes it, with the same words

@@ -25,7 +25,7 @@ pub record Builds (old new : Netlist) (most : ℕ) : Type 0 where
   pub settles : Settles old new
   pub count : length new.signals ≤ length old.signals + most
 
--- the net has room for so many more signals
+-- the net has room for this many more signals
 abbrev pub HasRoom : Netlist → ℕ → Type 0
 HasRoom n most = length n.signals + most < count_max
 

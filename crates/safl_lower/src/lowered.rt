@@ -30,7 +30,7 @@ pub struct SiteTable {
 
 /// The circuit of a body, as loads: words that are taken if a bit is 1.
 ///
-/// `end` has the body's word, and is taken if the body runs and is ready. `wants` has for each own site the arguments
+/// `end` has the body's word, and is taken if the body runs and is ready. `wants` has for each site in it the arguments
 /// of its call, and is taken if the site is wanted. `loops` has for each function of the group the arguments of the
 /// tail calls to it, and is taken if the body makes one; it has no load for a function to which the body makes no tail
 /// calls.

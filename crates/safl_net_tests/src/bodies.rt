@@ -1,6 +1,6 @@
 //! The circuit of a function's body, and what it shows for given words of its ports.
 
-ghost use Rattle.std.specs.Prelude.{◌≡◌, suc, ◌+◌, ◌<◌, ◌≤◌, [], ◌∷◌, length, IsTrue, IfSome};
+ghost use Rattle.std.specs.Prelude.{◌≡◌, suc, ◌+◌, ◌<◌, ◌≤◌, [], ◌∷◌, map, length, IsTrue, IfSome};
 ghost use Rattle.safl_net.specs.Names.{IsTidy};
 ghost use Rattle.safl_lower.specs.Sources.{IsSource};
 ghost use Rattle.safl_lower.specs.Lowering.{Sited};

@@ -43,7 +43,7 @@ shown_groups s = record { group = s.group.items; within = s.within.items; opened
 abbrev pub only : ℕ → ℕ → ℕ
 only g h = cond (h == g) 1 0
 
--- The bits are 0 or 1, the numbers are linked, and at the last number of a group in a block stands how many of the group's
+-- The bits are 0 or 1, the numbers are linked, and the last number of a group in a block tells how many of the group's
 -- numbers in that block are in the set.
 pub record AreGrouped (s : Groups) : Type 0 where
   pub few : length s.group.items ≤ 5000

@@ -30,7 +30,7 @@ impl Parsed {
         &self.program
     }
 
-    /// The program alone.
+    /// The program itself.
     pub fn into_program(self) -> Program
         ensures { shown_program result ≡ program_of self }
     {

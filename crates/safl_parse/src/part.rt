@@ -21,7 +21,7 @@ pub struct Part {
 }
 
 impl Part {
-    /// The expression alone.
+    /// The expression without its depth.
     pub fn into_expr(self) -> Expr
         ensures { result ≡ self.expr }
     {

@@ -61,7 +61,7 @@ changed_in i s frame = changed i s.width s.number (slice_index frame s.signal)
 abbrev pub changes_in : List Spot → Valuation → Text
 changes_in ss frame = changes 0 (nameless ss) (numbers ss) (seen (nameless ss) frame)
 
--- what a probe tells that has these entries and spots, on a net of so many signals, after so many frames
+-- what a probe tells that has these entries and spots, on a net of this many signals, after this many frames
 abbrev pub told_of : ℕ → Bool → ℕ → List Entry → List Spot → ℕ → ProbeState
 told_of kind begun signals es ss turn =
     record {

@@ -50,12 +50,12 @@ pub record BreaksOff (n : Netlist) (state : ℕ → ℕ) (args : List Word) (lim
   pub off : (c : ℕ) (v : Valuation) → c + 1 < length frames → slice_get frames c ≡ Some v → read_output n v (codes "done") ≡ 0
   pub files : AreApart names → TellsOn (AllGrow LongerPart names (λ i. cycle_texts frames (probe_at ps i))) old new
 
--- a call with the words of a harness was answered, and the asked probes were shown its cycles
-abbrev pub IsShown : {P : Type 0} → Simulation → Simulation → Harness → ℕ → FileNames → (P → ProbeState) → List P → List P
-    → ShelfState → ShelfState → Option Done → Type 0
-IsShown sim after harness limit names tell ps qs old new answer =
-    (args : List Word) → IsCalled sim.net args harness
-    → Watches sim.net (slice_index sim.state) args limit (asked names) (map tell ps) (map tell qs) old.holds new.holds answer (slice_index after.state)
+-- a call with the words of a harness was answered, the asked probes were shown its cycles, and no write failed
+pub record IsShown {P : Type 0} (sim after : Simulation) (harness : Harness) (limit : ℕ) (names : FileNames) (tell : P → ProbeState) (ps qs : List P)
+    (old new : ShelfState) (answer : Option Done) : Type 0 where
+  pub watches : (args : List Word) → IsCalled sim.net args harness
+      → Watches sim.net (slice_index sim.state) args limit (asked names) (map tell ps) (map tell qs) old.holds new.holds answer (slice_index after.state)
+  pub quiet : new.write_faults ≡ old.write_faults
 
 -- it was watched up to an error, and this is why
 pub record ShowsPart {P : Type 0} (sim : Simulation) (harness : Harness) (limit : ℕ) (names : FileNames) (tell : P → ProbeState) (ps qs : List P)

@@ -23,7 +23,7 @@ pub record BeginsRun (sim : Simulation) (args : List Word) : Type 0 where
   pub fresh : sim.state ≡ resets sim.net
   pub arguments : AreArguments sim.net args
 
--- a run of so many cycles, in which all inputs are 0 after cycle 0. A net without loops has exactly one
+-- a run of this many cycles, in which all inputs are 0 after cycle 0. A net without loops has exactly one
 pub record IsRunOf (n : Netlist) (args : List Word) (count : ℕ) (vs : List Valuation) : Type 0 where
   pub run : IsRun n args vs
   pub long : length vs ≡ count
@@ -46,7 +46,7 @@ abbrev pub RunIsShown : {P : Type 0} → Netlist → List Word → ℕ → FileN
 RunIsShown n args count names tell ps qs =
     (vs : List Valuation) → IsRunOf n args count vs → AreShown n (until_done n vs) (asked names) (map tell ps) (map tell qs)
 
--- In a run of so many cycles, the file of each asked probe is in this relation to its old text, with the probe's trace. This is
+-- In a run of this many cycles, the file of each asked probe is in this relation to its old text, with the probe's trace. This is
 -- claimed if no two probes are asked to write the same file and the shelf tells.
 abbrev pub TracesGrow : {P : Type 0} → Relation → Netlist → List Word → ℕ → FileNames → (P → ProbeState) → List P → ShelfState → ShelfState → Type 0
 TracesGrow R n args count names tell ps old new =

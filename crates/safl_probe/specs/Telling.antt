@@ -38,11 +38,12 @@ abbrev pub AllGrowAt : {P : Type 0} → (Moment → Relation) → Moment → Net
     → ShelfState → ShelfState → Type 0
 AllGrowAt R moment n frame names tell ps old new = FilesGrow (R moment) names (text_at moment n frame) tell ps old new
 
--- all asked probes were told of a moment: their files grew by their texts, each tells what the moment makes of it, and where the
--- files were there they are there afterwards
+-- all asked probes were told of a moment: their files grew by their texts, and no write failed; each tells what the moment makes
+-- of it; and where the files were there they are there afterwards
 pub record AllTold {P : Type 0} (moment : Moment) (n : Netlist) (frame : Valuation) (names : FileNames) (tell : P → ProbeState) (ps qs : List P)
     (old new : ShelfState) : Type 0 where
   pub grown : AllGrowAt Grown moment n frame names tell ps old new
+  pub quiet : new.write_faults ≡ old.write_faults
   pub tells : AllTell names (state_at moment n frame) tell ps qs
   pub there : LeavesAllThere moment names old new
 

@@ -94,7 +94,7 @@ frame_text Toggles ws t None now = toggles t 0
 frame_text Toggles ws t (Some last) now = toggles t (toggled last now)
 frame_text Silent ws t last now = []
 
--- the text of the end, after so many frames
+-- the text of the end, after this many frames
 abbrev pub closing : TraceKind → ℕ → Text
 closing Vcd turn = time turn
 closing Starts turn = []

@@ -57,6 +57,7 @@ pub(crate) fn tell_one<S: Shelf>(
     ensures same_probe { SameProbe (state probe.old) (state probe.new) }
     ensures same_frame { room.new.frame ≡ room.old.frame }
     ensures blames { IfErr result (λ why. Blames why place (state probe.old) (state probe.new) (S.told shelf.old) (S.told shelf.new)) }
+    ensures quiet { OnOk result ((S.told shelf.new).write_faults ≡ (S.told shelf.old).write_faults) }
     ensures reads { SameReads (S.told shelf.old) (S.told shelf.new) }
     ensures strays { IsThere moment name.now (S.told shelf.old).holds → UsesNoStray (S.told shelf.old) (S.told shelf.new) }
 {

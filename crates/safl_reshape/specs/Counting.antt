@@ -10,7 +10,7 @@ use Rattle.safl_reshape.specs.declared.counts.Counts.{Counts}
 abbrev pub saturated : ℕ → ℕ
 saturated n = min count_max n
 
--- the new counts have so many more sites and nodes, up to the maximum of the type
+-- the new counts have this many more sites and nodes, up to the maximum of the type
 pub record Adds (old new : Counts) (s n : ℕ) : Type 0 where
   pub sites : saturated new.sites ≡ saturated (old.sites + s)
   pub nodes : saturated new.nodes ≡ saturated (old.nodes + n)

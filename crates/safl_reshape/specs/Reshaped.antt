@@ -67,7 +67,7 @@ copying_call k new (Member i h) lo place x ts = Call place x ts
 copying_call k new (Above i h) lo place x ts = Call place (if lo == k then new else x) ts
 copying_call k new Unknown lo place x ts = Call place x ts
 
--- the change that gives the new name to all calls of functions of the own group
+-- the change that gives the new name to all calls of functions of the caller's own group
 abbrev pub own_call : List ℕ → Change
 own_call new (Member i h) lo place x ts = Call place new ts
 own_call new (Above i h) lo place x ts = Call place x ts

@@ -11,7 +11,7 @@ use Rattle.safl_sim.specs.Outcomes.{IsCallRun, IsOutcome}
 use Rattle.safl_sim.specs.declared.done.Done.{Done}
 use Rattle.safl_run.specs.Calls.{Answers}
 
--- a whole net without loops has at most one call of so many cycles, with these arguments and from this state
+-- a whole net without loops has at most one call of this many cycles, with these arguments and from this state
 abbrev pub CallsAreOne : Type 0
 CallsAreOne =
     (n : Netlist) → IsNetlist n → IsWhole n → IsAcyclic n → (state : ℕ → ℕ) (args : List Word) (vs ws : List Valuation)

@@ -37,7 +37,7 @@ abbrev pub Goes : Netlist → (ℕ → ℕ) → List Word → List Valuation →
 Goes n state args frames new None = IsGoing n state args (frames ++ new.values ∷ []) (slice_index new.state)
 Goes n state args frames new (Some d) = Ends n state args frames new d
 
--- if a call with the words of the harness has had so many cycles, with `done` at 0 in all of them, it has one more
+-- if a call with the words of the harness has had this many cycles, with `done` at 0 in all of them, it has one more
 abbrev pub GoesOn : Simulation → Simulation → Harness → ℕ → Option Done → Type 0
 GoesOn old new harness cycle answer =
     (state : ℕ → ℕ) (args : List Word) (frames : List Valuation) → IsCalled old.net args harness → length frames ≡ cycle

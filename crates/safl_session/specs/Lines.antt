@@ -27,11 +27,11 @@ IsCall widths line args = (words : List (List ℕ)) × HasWords line words × Ar
 abbrev pub AppendsCall : List ℕ → List ℕ → List Word → List Word → Type 0
 AppendsCall widths line old new = (args : List Word) × IsCall widths line args × (new ≡ old ++ args)
 
--- the line has so many words
+-- the line has this many words
 abbrev pub IsLong : List ℕ → ℕ → Type 0
 IsLong line count = (words : List (List ℕ)) × HasWords line words × (length words ≡ count)
 
--- the line has so many words, which is not the number of widths
+-- the line has this many words, which is not the number of widths
 abbrev pub IsMiscounted : List ℕ → List ℕ → ℕ → Type 0
 IsMiscounted widths line given = IsLong line given × (given ≢ length widths)
 

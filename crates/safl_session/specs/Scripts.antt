@@ -30,7 +30,7 @@ pub record IsScriptFault (widths text : List ℕ) (e : ScriptErr) : Type 0 where
 abbrev pub RefusesScript : List ℕ → List ℕ → ScriptErr → Type 0
 RefusesScript widths text e = (e ≡ errors.NoMemory) ⊎ IsScriptFault widths text e
 
--- a list of words, cut into so many calls with so many words each
+-- a list of words, cut into this many calls with this many words each
 abbrev pub calls_of : ℕ → ℕ → List Word → List (List Word)
 calls_of zero arity words = []
 calls_of (suc count) arity words = take arity words ∷ calls_of count arity (drop arity words)

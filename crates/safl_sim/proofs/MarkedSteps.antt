@@ -168,7 +168,8 @@ all_ran o all regs now starts readers start values marks none marks' w long away
       below = λ k l. m.below k l ∙ away k;
       holding = record {
         stays = λ k s c at kind e. r.scene.done k s c (let a = slice_get_within o.wires k s at in omega (arith, a, many)) at kind;
-        kept = λ k q e none. absurd (let a = m.all (first_register (length o.wires) + k) (omega (arith, many)) (let b = slice_get_within regs k q e in omega (arith, b, many)) in omega (arith, a, none));
+        kept = λ k q e none. absurd (let a = m.all (first_register (length o.wires) + k) (omega (arith, many))
+            (let b = slice_get_within regs k q e in omega (arith, b, many)) in omega (arith, a, none));
         inside = record {
           step = λ k e l. absurd (let a = m.below k (omega (arith, l, many)) ∙ away k in omega (arith, a, e));
           register = λ k e. elim (cases_lt k (first_register (length all) + length regs)) [

@@ -2,7 +2,7 @@
 use Rattle.std.specs.Prelude.{ℕ, zero, suc, ◌≤◌, List, [], ◌∷◌, map, length, slice_index}
 use Rattle.safl_sim.specs.declared.chains.Link.{Link}
 
--- the numbers of the list whose first link is k, at most so many. Links are numbered from 1, and 0 is the end of a list
+-- the numbers of the list whose first link is k, at most this many. Links are numbered from 1, and 0 is the end of a list
 abbrev pub chain_of : ℕ → List ℕ → List ℕ → ℕ → List ℕ
 chain_of zero numbers nexts k = []
 chain_of (suc most) numbers nexts zero = []

@@ -47,7 +47,7 @@ pub record HasRange (from to : ℕ) (old new : List ℕ) : Type 0 where
 abbrev pub first_register : ℕ → ℕ
 first_register steps = (steps + 63) / 64 * 64
 
--- how many words hold the marks of so many steps and registers
+-- how many words hold the marks of this many steps and registers
 abbrev pub mark_words : ℕ → ℕ → ℕ
 mark_words steps registers = (first_register steps + registers + 63) / 64
 

@@ -10,7 +10,7 @@ use crate::plan::Plan;
 use crate::step::{Group, Guard};
 use safl_word::Numbers;
 
-// With at least this many readers, those that are blind to the place are left out. This matters for speed alone.
+// With at least this many readers, those that are blind to the place are left out. This matters only for speed.
 const MANY: u32 = 8;
 
 /// Marks some of the readers of a place. If they are many, it leaves out steps that are blind to the place.

@@ -149,7 +149,7 @@ impl Sim {
 }
 
 // The pace of the tick after these turns. If most steps are marked, looking for marks takes longer than it saves, so
-// all steps are evaluated. Counting takes time too, so only one tick in sixteen counts. This matters for speed alone.
+// all steps are evaluated. Counting takes time too, so only one tick in sixteen counts. This matters only for speed.
 fn next_turns(turns: Turns, marked: usize, steps: usize) -> Turns {
     if turns.more > 0 {
         return Turns {

@@ -296,7 +296,7 @@ fn two(p: Primitive, width: u8, other: u8, a: u32, b: u32) -> Action
 }
 
 // The "and" of two bits, as a choice. When its condition is 0, it is blind to the other bit, so the condition is the
-// bit with fewer readers. This matters for speed alone.
+// bit with fewer readers. This matters only for speed.
 fn both(starts: &[u32], a: Sig, b: Sig) -> Action
     ensures { (result ≡ Action.Choose a.0 b.0 a.0) ⊎ (result ≡ Action.Choose b.0 a.0 b.0) }
 {

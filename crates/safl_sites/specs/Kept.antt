@@ -6,7 +6,7 @@ use Rattle.safl_term.specs.Terms.{Term, Terms, Const, Var, Op, If, Let, Call, Lo
 use Rattle.safl_sites.specs.Conflicts.{Reaches, ReachesIn, Conflict}
 
 unfoldable mutual
-  -- Whether site k feeds the term. The list says of each slot in scope whether k feeds it. A call is fed by its own site alone,
+  -- Whether site k feeds the term. The list says of each slot in scope whether k feeds it. A call is fed only by its own site,
   -- an operator and an if by what feeds their parts, a let by what feeds its body, and a variable by what feeds its binding. A
   -- constant, a parameter and a loop are fed by nothing.
   pub feeds : ℕ → List Bool → Term → Bool

@@ -9,7 +9,7 @@ abbrev pub terms_in : Terms → ℕ
 terms_in Nil = 0
 terms_in (Cons t ts) = suc (terms_in ts)
 
--- the term is part of the body of g, with so many slots in scope
+-- the term is part of the body of g, with this many slots in scope
 pub record IsPart (C : Program) (g slots : ℕ) (t : Term) : Type 0 where
   pub tail : Bool
   pub lo : ℕ
@@ -22,7 +22,7 @@ pub record IsPart (C : Program) (g slots : ℕ) (t : Term) : Type 0 where
   pub width : ℕ
   pub typed : HasWidth C scope t width
 
--- the terms are parallel parts of the body of g, with so many slots in scope
+-- the terms are parallel parts of the body of g, with this many slots in scope
 pub record ArePart (C : Program) (g slots : ℕ) (ts : Terms) : Type 0 where
   pub lo : ℕ
   pub hi : ℕ

@@ -21,7 +21,7 @@ pub record ReachBelow (C : Program) (units : List SiteSet) (u : ℕ) : Type 0 wh
   pub top : u < C.functions
   pub sets : (v k : ℕ) → v < u → HasAt units v k ↔ IsInReach C v k
 
--- A term of a body, with so many slots in scope. The sets of all units that the term may call are known.
+-- A term of a body, with this many slots in scope. The sets of all units that the term may call are known.
 pub record MayReach (C : Program) (units : List SiteSet) (slots : ℕ) (t : Term) : Type 0 where
   pub caller : ℕ
   pub part : IsPart C caller slots t

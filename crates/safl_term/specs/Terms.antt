@@ -5,7 +5,7 @@ use Rattle.safl_word.specs.declared.primitive.Primitive.{Primitive}
 
 mutual
   -- Slots are numbered from the parameters on; then come the bindings of the lets around the term, the outer ones first.
-  -- A call has the called function and its site. A loop is a tail call of a function of the own group, and has no site.
+  -- A call has the called function and its site. A loop is a tail call of a function of the caller's own group, and has no site.
   pub data Term : Type 0 where
     Const : (word : Word) → Term
     Var : (slot : ℕ) → Term

@@ -20,7 +20,7 @@ pub enum Term {
     Op(Primitive, Vec<Term>),
     /// The number of the called function, the number of the site, and the arguments.
     Call(u32, u32, Vec<Term>),
-    /// A tail call of a function of the own group: its number, and the arguments.
+    /// A tail call of a function of the caller's own group: its number, and the arguments.
     Loop(u32, Vec<Term>),
 }
 

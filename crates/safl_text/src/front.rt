@@ -11,7 +11,7 @@ use safl_word::bytes::{base_of, digits_length, is_blank, is_digit, line_length};
 use safl_word::limits::{DIGITS_MAX, NAME_MAX};
 use safl_word::{Rule, Sym, TokenKind, numeral};
 
-/// What a text begins with: a blank or a comment of so many bytes, a token and its length in bytes, or a fault.
+/// What a text begins with: a blank or a comment, or a token, each with its length in bytes; or a fault.
 #[derive(Clone, Copy, Debug, PartialEq, Eq)]
 pub enum Front {
     Gap(usize),

@@ -8,11 +8,11 @@ use Rattle.safl_word.specs.Faults.{fault_text}
 abbrev pub usage_line : List ℕ
 usage_line = codes "usage: safl check IN | build IN OUT | sim IN --cycles L [ARG..] | run FILE --cycles L [ARG..] | walk IN --order SEED --steps N [ARG..] | report IN | gen SEED COUNT | bench SEED COUNT --cycles L\n"
 
--- main has so many parameters, and there are so many arguments
+-- main has this many parameters, and there are this many arguments
 abbrev pub count_line : ℕ → ℕ → List ℕ
 count_line params given = codes "main takes " ++ decimal params ++ codes " arguments, " ++ decimal given ++ codes " given\n"
 
--- the argument of this number, counted from 1, is no number of so many bits
+-- the argument of this number, counted from 1, is no number of this many bits
 abbrev pub argument_line : ℕ → ℕ → List ℕ
 argument_line index width = codes "argument " ++ decimal index ++ codes " is no number of " ++ decimal width ++ codes " bits\n"
 

@@ -12,13 +12,13 @@ program_lines functions sites = codes "functions " ++ decimal functions ++ codes
 abbrev pub done_lines : ℕ → ℕ → List ℕ
 done_lines result cycle = codes "result " ++ decimal result ++ codes "\ncycle " ++ decimal cycle ++ codes "\n"
 
--- what a run prints: its result, or that no result came within so many cycles
+-- what a run prints: its result, or that no result came within this many cycles
 abbrev pub outcome_lines : ℕ → Option Done → List ℕ
 outcome_lines limit (Some d) = done_lines d.result.bits d.cycle
 outcome_lines limit None = late_line limit
 
--- what a walk prints: main's result, the number of events and the greatest number of busy units; or that no result came within so
--- many events
+-- what a walk prints: main's result, the number of events and the greatest number of busy units; or that no result came within
+-- this many events
 abbrev pub walk_lines : ℕ → ℕ → ℕ → List ℕ
 walk_lines result events units = codes "result " ++ decimal result ++ codes "\nevents " ++ decimal events ++ codes "\nunits " ++ decimal units ++ codes "\n"
 

@@ -31,7 +31,7 @@ pub record GivesReport (source : List ℕ) (g : Given) : Type 0 where
 
 -- ---- generated sources
 
--- the source of so many functions from a seed
+-- the source of this many functions from a seed
 abbrev pub made_source : ℕ → ℕ → List ℕ
 made_source seed count = made.source (draw seed) count
 

@@ -12,14 +12,14 @@ use Rattle.safl_compiler.specs.Sources.{IsSourceOf}
 use Rattle.safl_session.specs.Lines.{AreArguments}
 
 -- Main gives the word, after three events for each call, less two for each tail call. Without a word, as many events as are
--- allowed were fired, and main gives no value within so many.
+-- allowed were fired, and main gives no value within that many.
 abbrev pub MainGives : Program → List Word → ℕ → ℕ → Option Word → Type 0
 MainGives C words steps events (Some v) = (d : Main C words v) × (events + 2 * loops C d ≡ 3 * main_cost C words d)
 MainGives C words steps events None =
     (events ≡ steps) × ((v : Word) (d : Main C words v) → steps + 2 * loops C d < 3 * main_cost C words d)
 
--- From the opening state, the turns picked by the numbers of the seed lead to a state in so many events, at most as many as are
--- allowed, with at most so many units busy at once. The result is what main has returned in that state.
+-- From the opening state, the turns picked by the numbers of the seed lead to a state in this many events, at most as many as are
+-- allowed, with at most this many units busy at once. The result is what main has returned in that state.
 pub record WalksFrom (C : Program) (words : List Word) (seed steps : ℕ) (w : Walked) : Type 0 where
   pub last : State
   pub number : ℕ

@@ -61,11 +61,11 @@ SparesFor m old new = Spares (task_in m old) (asks_in m old) old new
 abbrev pub EndsBy : {P : Type 0} → Option Command → World P → World P → SinkState → SinkState → Status → Type 0
 EndsBy m old new = Ends (task_in m old) (Unprobed m old new) old.outside new.outside
 
--- What follows from how a call ends. Unless the status is Ok, NoResult, WriteFault, ProbeFault or NoMemory, no file has changed
--- and nothing was printed (`keeps`). At every status, each file that is no output file is as it was (`others`); each output file
--- is as it was or has a prefix of its text, and a prefix of the printed text was sent (`left`). `tells` says what was sent to
--- standard error. If a result is promised and nothing failed, it came or memory ran out (`completes`). `attended` says what became of the probes: the asked ones were shown
--- the run, and at the statuses of `keeps` all are as they were.
+-- What follows from how a call ends. Unless the status is Ok, NoResult, WriteFault, ProbeFault or NoMemory, no file has
+-- changed and nothing was printed (`keeps`). At every status, each file that is no output file is as it was (`others`); each
+-- output file is as it was or has a prefix of its text, and a prefix of the printed text was sent (`left`). `tells` says what
+-- was sent to standard error. If a result is promised and nothing failed, it came or memory ran out (`completes`). `attended`
+-- says what became of the probes: the asked ones were shown the run, and at the statuses of `keeps` all are as they were.
 pub record Follows {P : Type 0} (m : Option Command) (old new : World P) (before after : SinkState) (s : Status) : Type 0 where
   pub keeps : KeepsAll s old.outside new.outside
   pub others : KeepsOthers (task_in m old) old.outside new.outside

@@ -36,11 +36,11 @@ pub enum Refusal<'a> {
     Verilog(&'a str, VFault, usize, usize),
     /// The netlist of the Verilog file of this name has a combinational loop of these wires.
     Loop(&'a str, Vec<String>),
-    /// Main has so many parameters, and is given so many arguments.
+    /// Main has this many parameters, and is given this many arguments.
     Count(usize, usize),
     /// The argument of this number, counted from 1, is no number of this width in bits.
     Argument(usize, u8),
-    /// A line of a script, counted from 1, has a wrong number of words: main has so many parameters, and the line so
+    /// A line of a script, counted from 1, has a wrong number of words: main has this many parameters, and the line this
     /// many words.
     ScriptCount(u32, usize, usize),
     /// In a line of a script, a word is no number of its width: the line, the word, both counted from 1, and the width

@@ -184,7 +184,7 @@ expr u e rest = either (choice e) (either (binding e) (either (cases e rest) (ch
 
 -- ---- levels
 
--- An expression, the operand of "~", and the arms of a case, with at most so many nested in one another.
+-- An expression, the operand of "~", and the arms of a case, with at most this many nested in one another.
 pub record Level : Type 1 where
   pub operand : Syntax Terminal Tree
   pub whole : Syntax Terminal Tree

@@ -162,7 +162,7 @@ abbrev mutual
   most no_tree = 0
   most (a_tree t ts) = max (levels t) (most ts)
 
-  -- the levels of operands, the first in a context of so many layers, and the others in one of so many
+  -- the levels of operands, the first in a context of this many layers, and the others in one of this many
   pub most_operand : ℕ → ℕ → Trees → ℕ
   most_operand k right no_tree = 0
   most_operand k right (a_tree t ts) = max (lifted k (layers_of t) (levels t)) (most_operand right right ts)

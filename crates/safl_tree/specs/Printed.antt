@@ -95,7 +95,7 @@ abbrev mutual
   words (Op p o ts) = applied o (part_words (left_context o) (right_context o) ts)
   words (Call p f ts) = name f ∷ (sym syms.OpenParen ∷ (separated (sym syms.Comma) (part_words 8 8 ts) ++ (sym syms.CloseParen ∷ [])))
 
-  -- the words of operands, the first in a context of so many layers, and the others in one of so many. They have parentheses if
+  -- the words of operands, the first in a context of this many layers, and the others in one of this many. They have parentheses if
   -- they need more layers
   pub part_words : ℕ → ℕ → Trees → List (List Word)
   part_words k right no_tree = []

@@ -48,7 +48,8 @@ mutual
 
 -- ---- intervals
 
-pub called_length : (g : ℕ) (c : Callee) (tail : Bool) (lo m : ℕ) (ws : List ℕ) (us : Terms) (w : ℕ) (t : Term) → Calls c tail lo m ws us w t → lo + length (sites_of g t) ≡ m + length (sites_of_all g us)
+pub called_length : (g : ℕ) (c : Callee) (tail : Bool) (lo m : ℕ) (ws : List ℕ) (us : Terms) (w : ℕ) (t : Term) → Calls c tail lo m ws us w t → lo +
+    length (sites_of g t) ≡ m + length (sites_of_all g us)
 called_length g (Member i h) tail lo m ws us w t q = omega (arith, ap (λ (z : Term). length (sites_of g z)) q.4, q.1)
 called_length g (Above i h) tail lo m ws us w t q = omega (arith, ap (λ (z : Term). length (sites_of g z)) q.3, q.0)
 called_length g Unknown tail lo m ws us w t q = absurd q

@@ -52,7 +52,7 @@ abbrev pub first_head : (Head → Bool) → ℕ → List Head → Option Numbere
 first_head test n [] = None
 first_head test n (h ∷ hs) = if test h then Some (record { number = n; head = h }) else first_head test (suc n) hs
 
--- the function that a call names: one of the own group, or one of an earlier group
+-- the function that a call names: one of the caller's own group, or one of an earlier group
 pub data Callee : Type 0 where
   Member : (number : ℕ) (head : Head) → Callee
   Above : (number : ℕ) (head : Head) → Callee
@@ -66,7 +66,7 @@ member_or None None = Unknown
 abbrev pub callee : Known → List ℕ → Callee
 callee k f = member_or (first_head (λ h. h.unit == k.unit && bytes_eq h.name f) 0 k.heads) (first_head (λ h. nat_lt h.unit k.unit && bytes_eq h.name f) 0 k.heads)
 
--- 1 if a call of this function is a call site, else 0. It is one unless the function belongs to the own group
+-- 1 if a call of this function is a call site, else 0. It is one unless the function belongs to the caller's group
 abbrev pub is_site : Callee → ℕ
 is_site (Member i h) = 0
 is_site (Above i h) = 1

@@ -63,7 +63,7 @@ MarksBinding bs b m = (k : Known) (p : ℕ) → BoundMarked k bs → IsMarked k 
 abbrev pub MarksOperation : Primitive → List code.Expression → Marks → Type 0
 MarksOperation o es m = (k : Known) (p : ℕ) → AreMarked k es → IsMarkOf k (Op p o (shown_expressions es)) m
 
--- if the marks of the arguments are right, these are the marks of a call, which itself is so many call sites
+-- if the marks of the arguments are right, these are the marks of a call, which itself counts as this many call sites
 abbrev pub MarksCall : ℕ → List code.Expression → Marks → Type 0
 MarksCall own es m =
     (k : Known) (p : ℕ) (f : List ℕ) → own ≡ is_site (callee k f) → AreMarked k es → IsMarkOf k (Call p f (shown_expressions es)) m

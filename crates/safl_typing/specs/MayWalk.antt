@@ -17,7 +17,7 @@ abbrev pub CountParams : List code_head.Head → Type 0
 CountParams [] = Unit {0}
 CountParams (h ∷ hs) = (length h.params.items < 2 ^ 32) × CountParams hs
 
--- a part with so many sites and nodes may be checked with these heads and slots
+-- a part with this many sites and nodes may be checked with these heads and slots
 pub record MayWalk (hs : List code_head.Head) (ss : List Slot) (lo : ℕ) (Range : Type 0) (sites nodes : ℕ) : Type 0 where
   pub heads : WideHeads (shown_heads hs)
   pub counted : length hs < 2 ^ 32

@@ -22,7 +22,7 @@ abbrev pub found_at : Option Variable → Option At
 found_at None = None
 found_at (Some v) = Some (record { slot = v.slot; width = v.width })
 
--- the same slot, with so many slots before it
+-- the same slot, with this many slots before it
 abbrev pub shifted : ℕ → Option At → Option At
 shifted n None = None
 shifted n (Some a) = Some (record { slot = n + a.slot; width = a.width })

@@ -77,7 +77,7 @@ word w n = record { width = w; bits = n }
 abbrev pub widths_of : List Slot → List ℕ
 widths_of ps = map (λ p. p.width) ps
 
--- A call with arguments us of widths ws. If it names a function of the own group, it is a loop, and must be in tail position. If
+-- A call with arguments us of widths ws. If it names a function of the caller's own group, it is a loop, and must be in tail position. If
 -- it names a function of an earlier group, it has a site, which comes before those of its arguments.
 abbrev pub Calls : Callee → Bool → ℕ → ℕ → List ℕ → Terms → ℕ → Term → Type 0
 Calls (Member i h) tail lo m ws us w t = (tail ≡ true) × (m ≡ lo) × (ws ≡ widths_of h.params) × (h.width ≡ w) × (t ≡ Loop i us)

@@ -210,7 +210,7 @@ abbrev pub or_place : Option ℕ → Option ℕ → Option ℕ
 or_place (Some p) q = Some p
 or_place None q = q
 
--- the first place after so many
+-- the place in the list after the first n of them, if there is one
 abbrev pub excess : ℕ → List ℕ → Option ℕ
 excess n places = slice_get places n
 
@@ -236,8 +236,8 @@ abbrev pub limit : ℕ → ℕ → Option ℕ → Option Fault
 limit number value None = None
 limit number value (Some p) = Some (fault_with rules.E16 p number value)
 
--- the first definition that passes a limit. The first definition is function n, u is the group before it, and so many sites and
--- nodes come before it
+-- the first definition that passes a limit. The first definition is function n, u is the group before it, and this many sites
+-- and nodes come before it
 abbrev pub limits_from : List Head → ℕ → ℕ → ℕ → ℕ → List Definition → Option Fault
 limits_from all n u placed_sites placed_nodes [] = None
 limits_from all n u placed_sites placed_nodes (d ∷ ds) =

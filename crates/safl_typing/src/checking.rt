@@ -369,7 +369,7 @@ fn check_all(
     put_first(typed, following)
 }
 
-// Checks a call: in tail position alone of a function of the own group, or of a function of an earlier group.
+// Checks a call. A function of the same group may be called only in tail position, and one of an earlier group anywhere.
 #[cycle(walk)]
 fn check_called(
     context: &Context,

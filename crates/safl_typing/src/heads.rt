@@ -89,7 +89,7 @@ impl Heads {
     }
 }
 
-/// The function that a call names, by its number: one of the own group, or one of an earlier group.
+/// The function that a call names, by its number: one of the caller's own group, or one of an earlier group.
 #[derive(Clone, Copy)]
 pub enum Callee {
     Member(usize),

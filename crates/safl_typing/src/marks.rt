@@ -35,7 +35,7 @@ fn unmarked(flexible: bool) -> Marks
     Marks { flexible, sites: 0 }
 }
 
-/// Whether an expression is flexible, so that it takes any width: a number, or something made of flexible parts alone.
+/// Whether an expression is flexible, so that it takes any width: a number, or something made only of flexible parts.
 pub fn is_flexible(e: &Expression) -> bool
     ensures { (k : Known) → IsMarked k e.now → result ≡ flexible (shown_expression e.now) }
 {

@@ -154,7 +154,7 @@ pub fn settled_call(
     settled(place, wanted, width, Term::Call(function, site, arguments))
 }
 
-/// The term of a tail call of a function of the own group. E12 if another width is expected.
+/// The term of a tail call of a function of the caller's own group. E12 if another width is expected.
 pub fn settled_loop(
     place: u32,
     wanted: Wanted,

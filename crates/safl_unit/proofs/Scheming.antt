@@ -127,7 +127,8 @@ module _ (c : CheckedProgram) (h : IsChecked c) (P : Choice) (old new : Netlist)
       omega (arith, a, d, e, g, i)
 
   temps : AreTemps (length (layout_wires C D P)) f.more
-  temps = subst (λ i. AreTemps i f.more) count_wires (subst (AreTemps (wires (declared_signals C D P))) (append_cancel_left (declared_signals C D P) grown.more f.more (sym grown.is ∙ f.before)) grown.temps)
+  temps = subst (λ i. AreTemps i f.more) count_wires (subst (AreTemps (wires (declared_signals C D P)))
+      (append_cancel_left (declared_signals C D P) grown.more f.more (sym grown.is ∙ f.before)) grown.temps)
 
   full : IsFull C b
   full = record {

@@ -28,7 +28,7 @@ abbrev pub operands_in : Val → Option Load → Option (List Word)
 operands_in v None = None
 operands_in v (Some l) = Some (words v l.words.items)
 
--- a table of optional bits has so many entries and shows this; and a table of optional loads
+-- a table of optional bits has this many entries and shows this; and a table of optional loads
 pub record ShowsBits (n : Netlist) (bits : List (Option Sig)) (count : ℕ) (says : Val → ℕ → Bool) : Type 0 where
   pub entries : length bits ≡ count
   pub fits : BitsFit n bits

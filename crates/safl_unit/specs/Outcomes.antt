@@ -22,13 +22,13 @@ pub record AreOwnPorts (c : CheckedProgram) (all : List SitePorts) (f : ℕ) (ow
   pub count : c.first_site f + length own ≡ c.first_site (suc f)
   pub same : (i : ℕ) → i < length own → slice_get own i ≡ slice_get all (c.first_site f + i)
 
--- the end, the wants of own sites and the tail calls of the body are as the equations say
+-- the end of the body, the wants of its sites and its tail calls are as the equations say
 pub record BodyShows (c : CheckedProgram) (P : Choice) (f : ℕ) (b : Body) (v : Val) (r : Registers) : Type 0 where
   pub end : taken v b.end ≡ one_word (end_word c.program P r f)
   pub wants : (i : ℕ) → i < length b.wants.items → taken_at v b.wants.items i ≡ body_wants c.program P r (c.first_site f + i)
   pub loops : (i : ℕ) → i < length b.loops.items → taken_from v b.loops.items i ≡ loop_from c.program P r (c.program.unit f + i) f
 
--- the circuit of the body of f, with a load for each own site, and a place for each function of its group
+-- the circuit of the body of f, with a load for each site in it, and a place for each function of its group
 pub record HasBody (c : CheckedProgram) (P : Choice) (n : Netlist) (p : Pins) (f : ℕ) (b : Body) : Type 0 where
   pub count : c.first_site f + length b.wants.items ≡ c.first_site (suc f)
   pub group : IsGroup c.program f (length b.loops.items)

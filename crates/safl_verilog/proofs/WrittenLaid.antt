@@ -100,7 +100,8 @@ module _ (n : Netlist) (net : IsNetlist n) where
   fine_outputs : Each FineDeclaration (map (declare_output n) n.outputs)
   fine_outputs =
       each_mapped FineDeclaration (declare_output n) n.outputs
-      (each_stands Shown (λ o. FineDeclaration (declare_output n o)) (λ o h. fine_declaration sorts.Output (Netlist.width_of n o.1) o.0 (named o.1 h.1).narrow (good_identifier o.0 h.0)) n.outputs shown)
+      (each_stands Shown (λ o. FineDeclaration (declare_output n o))
+      (λ o h. fine_declaration sorts.Output (Netlist.width_of n o.1) o.0 (named o.1 h.1).narrow (good_identifier o.0 h.0)) n.outputs shown)
 
   fine_declarations : Each FineDeclaration (written_declarations n)
   fine_declarations = (

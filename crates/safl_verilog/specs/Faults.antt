@@ -25,7 +25,7 @@ where_not false f = f ∷ []
 
 -- ---- numbers
 
--- at most so many digits, of a number below the bound
+-- at most this many digits, of a number below the bound
 abbrev pub is_short : ℕ → List ℕ → Bool
 is_short base w = nat_le (length w) digits_max && nat_lt (value base w) value_bound
 

@@ -13,8 +13,7 @@ use safl_verilog::TokenKind;
 use safl_word::bytes::{base_of, digits_length, is_blank, is_digit, line_length};
 use safl_word::limits::NET_NAME_MAX;
 
-/// What a text begins with: a blank or a comment of so many bytes, a token and its length in bytes, or something that
-/// is neither.
+/// What a text begins with: a blank or a comment, or a token, each with its length in bytes; or something else.
 #[derive(Clone, Copy, Debug, PartialEq, Eq)]
 pub enum Front {
     Gap(usize),

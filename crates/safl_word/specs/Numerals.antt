@@ -24,7 +24,7 @@ pub record IsNumeral (base : ℕ) (w : List ℕ) : Type 0 where
   pub some : 1 ≤ length w
   pub digits : list_all (is_digit base) w ≡ true
 
--- a numeral of at most so many digits, of a number below the bound
+-- a numeral of at most this many digits, of a number below the bound
 pub record IsBounded (base most bound : ℕ) (w : List ℕ) : Type 0 where
   pub numeral : IsNumeral base w
   pub short : length w ≤ most

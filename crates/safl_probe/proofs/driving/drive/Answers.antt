@@ -56,7 +56,7 @@ tell_all-requires-2 g c =
     let ps : List ProbeState = map (λ p. (goal.Probe-dyn g (p.vtable, p.value)).state p.value) c.as_mut_slice-probes.result.now in
     let qs : List ProbeState = map (λ p. (goal.Probe-dyn g (p.vtable, p.value)).state p.value) c.tell_all.new.probes in
     let rs : List ProbeState = map (λ p. (goal.Probe-dyn g (p.vtable, p.value)).state p.value) c.watch.new.probes in
-    let d = c.in_ok-done.ensures.watched c.args.args.now (subst (λ m. IsCalled m c.args.args.now c.take_arguments.new.harness) c.net-net.ensures c.take_arguments.ensures) in
+    let d = c.in_ok-done.ensures.watched.watches c.args.args.now (subst (λ m. IsCalled m c.args.args.now c.take_arguments.new.harness) c.net-net.ensures c.take_arguments.ensures) in
     let frames : List Valuation = cycles_of n c.args.limit (slice_index c.args.sim.now.state) c.args.args.now c.in_ok-done.done (slice_index c.watch.new.sim.state) d.answers in
     record {
       files = (let l = c.as_mut_slice-probes.ensures.len in let a = c.tell_all.auto.probes in let b = c.watch.auto.probes in let f = c.requires.files in omega (arith, l, a, b, f));
@@ -185,7 +185,7 @@ returns-in_err-tell_all-2-clause-part g c =
     let y : Option Files = (g.S.Shelf.told c.tell_all.new.shelf).holds in
     let z : Option Files = (g.S.Shelf.told c.watch.new.shelf).holds in
     let w : Option Files = (g.S.Shelf.told c.tell_all-2.new.shelf).holds in
-    let d = c.in_ok-done.ensures.watched c.args.args.now (subst (λ m. IsCalled m c.args.args.now c.take_arguments.new.harness) c.net-net.ensures c.take_arguments.ensures) in
+    let d = c.in_ok-done.ensures.watched.watches c.args.args.now (subst (λ m. IsCalled m c.args.args.now c.take_arguments.new.harness) c.net-net.ensures c.take_arguments.ensures) in
     let back = with_items_is c.args.probes.now c.tell_all-2.new.probes
     (let l = c.as_mut_slice-probes.ensures.len in let a = c.tell_all-2.auto.probes in let b = c.watch.auto.probes in let d = c.tell_all.auto.probes in omega (arith, l, a, b, d)) in
     on_err_always c.from_residual-in_err-tell_all-2.result _
@@ -216,7 +216,7 @@ returns-in_err-tell_all-2-clause-stopped g c =
 
 pub returns-in_err-tell_all-2-clause-shelf : goal.returns-in_err-tell_all-2-clause-shelf
 returns-in_err-tell_all-2-clause-shelf g c =
-    let d = c.in_ok-done.ensures.watched c.args.args.now (subst (λ m. IsCalled m c.args.args.now c.take_arguments.new.harness) c.net-net.ensures c.take_arguments.ensures) in
+    let d = c.in_ok-done.ensures.watched.watches c.args.args.now (subst (λ m. IsCalled m c.args.args.now c.take_arguments.new.harness) c.net-net.ensures c.take_arguments.ensures) in
     let names : Asked = asked c.args.files.now in
     let there = c.in_ok-tell_all.ensures.told.there (λ i name k. tt) in
     let strays = c.in_ok-tell_all.ensures.strays (λ i name k. tt) in
@@ -232,7 +232,7 @@ pub returns-clause-outcome : goal.returns-clause-outcome
 returns-clause-outcome g c =
     let n : Netlist = c.args.sim.now.net in
     let after = slice_index c.watch.new.sim.state in
-    let d = c.in_ok-done.ensures.watched c.args.args.now (subst (λ m. IsCalled m c.args.args.now c.take_arguments.new.harness) c.net-net.ensures c.take_arguments.ensures) in
+    let d = c.in_ok-done.ensures.watched.watches c.args.args.now (subst (λ m. IsCalled m c.args.args.now c.take_arguments.new.harness) c.net-net.ensures c.take_arguments.ensures) in
     outcome n (subst (λ m. IsNetlist m) c.net-net.ensures c.in_ok-harness.ensures.made) c.requires.begins.whole
     (subst (λ m. IsAcyclic m) c.ordered.ensures c.net-ordered.ensures.acyclic) c.args.args.now c.args.limit c.in_ok-done.done after
     (answers_along n c.args.limit (slice_index c.args.sim.now.state) (reset_state n) c.args.args.now c.in_ok-done.done after (from_reset n c.args.sim.now.state c.requires.begins.fresh)
@@ -249,7 +249,7 @@ returns-clause-traced g c =
     let y : Option Files = (g.S.Shelf.told c.tell_all.new.shelf).holds in
     let z : Option Files = (g.S.Shelf.told c.watch.new.shelf).holds in
     let w : Option Files = (g.S.Shelf.told c.tell_all-2.new.shelf).holds in
-    let d = c.in_ok-done.ensures.watched c.args.args.now (subst (λ m. IsCalled m c.args.args.now c.take_arguments.new.harness) c.net-net.ensures c.take_arguments.ensures) in
+    let d = c.in_ok-done.ensures.watched.watches c.args.args.now (subst (λ m. IsCalled m c.args.args.now c.take_arguments.new.harness) c.net-net.ensures c.take_arguments.ensures) in
     let frames : List Valuation = cycles_of n c.args.limit (slice_index c.args.sim.now.state) c.args.args.now c.in_ok-done.done (slice_index c.watch.new.sim.state) d.answers in
     let back = with_items_is c.args.probes.now c.tell_all-2.new.probes
     (let l = c.as_mut_slice-probes.ensures.len in let a = c.tell_all-2.auto.probes in let b = c.watch.auto.probes in let d = c.tell_all.auto.probes in omega (arith, l, a, b, d)) in
@@ -275,6 +275,10 @@ returns-clause-traced g c =
           let ends : Tells (after_frames frames p) (probe_at ws i) =
           tells_frames [] (after_frames frames p) (probe_at rs i) (probe_at ws i) shows (c.in_ok-tell_all-2.ensures.told.tells i name k) in
           subst (λ (fs : List Valuation). Tells (after_frames fs p) (probe_at ws i)) (sym same) ends);
+      quiet = record {
+        reads = c.in_ok-tell_all-2.ensures.reads.reads ∙ c.in_ok-done.ensures.reads.reads ∙ c.in_ok-tell_all.ensures.reads.reads;
+        writes = c.in_ok-tell_all-2.ensures.told.quiet ∙ c.in_ok-done.ensures.watched.quiet ∙ c.in_ok-tell_all.ensures.told.quiet;
+      };
     }
 
 pub returns-clause-probes : goal.returns-clause-probes
@@ -286,7 +290,7 @@ returns-clause-probes g c =
 
 pub returns-clause-shelf : goal.returns-clause-shelf
 returns-clause-shelf g c =
-    let d = c.in_ok-done.ensures.watched c.args.args.now (subst (λ m. IsCalled m c.args.args.now c.take_arguments.new.harness) c.net-net.ensures c.take_arguments.ensures) in
+    let d = c.in_ok-done.ensures.watched.watches c.args.args.now (subst (λ m. IsCalled m c.args.args.now c.take_arguments.new.harness) c.net-net.ensures c.take_arguments.ensures) in
     let names : Asked = asked c.args.files.now in
     let there = c.in_ok-tell_all.ensures.told.there (λ i name k. tt) in
     let strays = c.in_ok-tell_all.ensures.strays (λ i name k. tt) in

@@ -44,6 +44,7 @@ returns-then-not-is_any_asked-clause-shown g c =
     let none = c.is_any_asked.ensures c.if-not-is_any_asked.true in
     record {
       grown = λ apart. none_grown (Grown (Frame c.args.cycle)) (asked c.args.files.now) _ _ none;
+      quiet = refl;
       tells = λ i name k. absurd (none name i k);
       there = λ h. there_now (asked c.args.files.now) _ h;
     }

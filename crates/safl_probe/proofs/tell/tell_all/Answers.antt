@@ -50,6 +50,7 @@ probes-init g c = record {
       (map (λ (w : Word). w.bits) c.args.room.now.frame.items) (asked c.args.files.now) c.args.probes.now;
   grown = λ apart. told_none (Grown c.args.moment) (asked c.args.files.now) _ (g.S.Shelf.told c.args.shelf.now).holds;
   same_frame = refl;
+  quiet = refl;
   reads = reads_same _ _ refl;
   strays = λ h. strays_none _ _;
   there = there_none c.args.moment (asked c.args.files.now) (g.S.Shelf.told c.args.shelf.now).holds;
@@ -112,6 +113,7 @@ probes-preserved g c =
             grown = λ apart. told_more (Grown c.args.moment) (asked c.args.files.now) _ c.probes.i w.deref.result.now _ _ _ _ apart name piece
                 (c.probes.invariant.grown apart) w.in_ok-tell_one.ensures.grown;
             same_frame = w.in_ok-tell_one.ensures.same_frame ∙ c.probes.invariant.same_frame;
+            quiet = w.in_ok-tell_one.ensures.quiet ∙ c.probes.invariant.quiet;
             reads = reads_then _ _ _ c.probes.invariant.reads w.in_ok-tell_one.ensures.reads;
             strays = λ h. strays_more c.args.moment (asked c.args.files.now) c.probes.i w.deref.result.now _ _ _ _ _ name (c.probes.invariant.there h)
                 (c.probes.invariant.strays h) w.in_ok-tell_one.ensures.strays;
@@ -124,6 +126,7 @@ probes-preserved g c =
             told = skip_told _ _ _ _ _ _ _ _ c.probes.i none t;
             grown = λ apart. told_skip (Grown c.args.moment) (asked c.args.files.now) _ c.probes.i _ _ none (c.probes.invariant.grown apart);
             same_frame = c.probes.invariant.same_frame;
+            quiet = c.probes.invariant.quiet;
             reads = c.probes.invariant.reads;
             strays = c.probes.invariant.strays;
             there = λ h. told_there_skip c.args.moment (asked c.args.files.now) c.probes.i _ _ none (c.probes.invariant.there h);
@@ -136,6 +139,7 @@ returns-clause-told g c =
     let a = c.probes-test.false in let b = within c.args.files.now _ c.requires.files in omega (arith, a, b) in
     record {
       grown = λ apart. told_all (Grown c.args.moment) (asked c.args.files.now) _ c.probes.i _ _ long (c.probes.invariant.grown apart);
+      quiet = c.probes.invariant.quiet;
       tells = λ i name k.
           let w = is_within (asked c.args.files.now) i name k in
           let lt : i < c.probes.i = omega (arith, w, long) in

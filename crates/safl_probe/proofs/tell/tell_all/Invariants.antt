@@ -21,6 +21,7 @@ invariant-probes g l =
       grown : AreApart names → TellsOn (FirstGrow (Grown l.moment) names
           (λ i. text_at l.moment l.net frame (probe_at (map (λ p. (goal.Probe-dyn g (p.vtable, p.value)).state p.value) l.fn.probes) i)) l.i) x y;
       same_frame : l.room.frame ≡ l.fn.room.frame;
+      quiet : (g.S.Shelf.told l.shelf).write_faults ≡ (g.S.Shelf.told l.fn.shelf).write_faults;
       reads : SameReads (g.S.Shelf.told l.fn.shelf) (g.S.Shelf.told l.shelf);
       strays : AllThere l.moment names x → OnSome x ((g.S.Shelf.told l.shelf).strays ≡ (g.S.Shelf.told l.fn.shelf).strays);
       there : AllThere l.moment names x → TellsOn (λ _ now. ThereTo l.moment names l.i now) x y;

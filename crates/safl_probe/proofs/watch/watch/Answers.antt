@@ -27,6 +27,7 @@ cycles-init g c = record {
   room = c.requires.room;
   long = refl;
   probes = kept_same (asked c.args.files.now) _ _;
+  quiet = refl;
   reads = reads_same _ _ refl;
   strays = λ h. strays_none _ _;
 }
@@ -55,6 +56,7 @@ cycles-preserved g c =
       room = subst (λ (m : Netlist). HasWidths m c.show.new.room.frame.items) (c.step-done.ensures.net ∙ i.net) c.in_ok-show.ensures.room;
       long = c.show.auto.probes ∙ i.long;
       probes = kept_then (asked c.args.files.now) _ _ _ _ i.probes c.in_ok-show.ensures.probes;
+      quiet = c.in_ok-show.ensures.shown.quiet ∙ i.quiet;
       reads = reads_then _ _ _ i.reads c.in_ok-show.ensures.reads;
       strays = λ h. strays_then (asked c.args.files.now) _ _ _ _ _ (i.strays h) (i.shown.there h) c.in_ok-show.ensures.strays;
     }
@@ -103,31 +105,38 @@ returns-in_err-show-clause-broken g c =
     })
 
 pub returns-clause-watched : goal.returns-clause-watched
-returns-clause-watched g c = λ args called.
+returns-clause-watched g c =
     let i = c.cycles.invariant in
     let end = c.cycles-test.false in
     let most = c.cycles.auto.cycle-end in
     let count = i.count in
     record {
-      answers = record { cycles = i.frames; call = (i.going args called).call; long = omega (arith, end, most, count); not_done = λ x v h e. (i.going args called).not_done x v e };
-      shown = i.shown;
+      watches = λ args called. record {
+        answers = record { cycles = i.frames; call = (i.going args called).call; long = omega (arith, end, most, count); not_done = λ x v h e. (i.going args called).not_done x v e };
+        shown = i.shown;
+      };
+      quiet = i.quiet;
     }
 
 pub returns-then-is_some-clause-watched : goal.returns-then-is_some-clause-watched
-returns-then-is_some-clause-watched g c = λ args called.
+returns-then-is_some-clause-watched g c =
     let i = c.cycles.invariant in
     let n : Netlist = c.args.sim.now.net in
     let v : Valuation = c.step-done.new.sim.values in
-    let goes : Goes n (slice_index c.args.sim.now.state) args i.frames c.step-done.new.sim c.step-done.result =
-    goes_along n (slice_index c.args.sim.now.state) args i.frames c.args.harness.now c.cycles.cycle c.cycles.sim c.step-done.new.sim
-    c.step-done.result i.net c.step-done.ensures.goes called i.count (i.going args called) in
-    let r = replied n (slice_index c.args.sim.now.state) args i.frames c.step-done.new.sim c.args.limit (slice_index c.cycles.sim.state)
-    c.step-done.result (sym c.is_some.ensures ∙ c.if-is_some.true) (i.going args called)
-    (let a = i.count in let b = c.cycles-test.true in omega (arith, a, b)) goes in
     record {
-      answers = r.0;
-      shown = shown_along _ _ (asked c.args.files.now) _ _ _ _ r.1 (shown_more (asked c.args.files.now) _ i.frames v _ _ _ _ _ i.shown c.in_ok-show.ensures.shown.tells
-          (cycle_grown c.cycles.cycle v (asked c.args.files.now) _ _ _ c.in_ok-show.ensures.shown.grown) c.in_ok-show.ensures.shown.there);
+      watches = λ args called.
+          let goes : Goes n (slice_index c.args.sim.now.state) args i.frames c.step-done.new.sim c.step-done.result =
+          goes_along n (slice_index c.args.sim.now.state) args i.frames c.args.harness.now c.cycles.cycle c.cycles.sim c.step-done.new.sim
+          c.step-done.result i.net c.step-done.ensures.goes called i.count (i.going args called) in
+          let r = replied n (slice_index c.args.sim.now.state) args i.frames c.step-done.new.sim c.args.limit (slice_index c.cycles.sim.state)
+          c.step-done.result (sym c.is_some.ensures ∙ c.if-is_some.true) (i.going args called)
+          (let a = i.count in let b = c.cycles-test.true in omega (arith, a, b)) goes in
+          record {
+            answers = r.0;
+            shown = shown_along _ _ (asked c.args.files.now) _ _ _ _ r.1 (shown_more (asked c.args.files.now) _ i.frames v _ _ _ _ _ i.shown c.in_ok-show.ensures.shown.tells
+                (cycle_grown c.cycles.cycle v (asked c.args.files.now) _ _ _ c.in_ok-show.ensures.shown.grown) c.in_ok-show.ensures.shown.there);
+          };
+      quiet = c.in_ok-show.ensures.shown.quiet ∙ i.quiet;
     }
 
 pub show-requires-clause-can : goal.show-requires-clause-can

@@ -27,6 +27,7 @@ invariant-cycles g l =
       room : HasWidths l.fn.sim.net l.room.frame.items;
       long : length l.probes ≡ length l.fn.probes;
       probes : KeepsProbes names (λ p. (goal.Probe-dyn g (p.vtable, p.value)).state p.value) l.fn.probes l.probes;
+      quiet : (g.S.Shelf.told l.shelf).write_faults ≡ (g.S.Shelf.told l.fn.shelf).write_faults;
       reads : SameReads (g.S.Shelf.told l.fn.shelf) (g.S.Shelf.told l.shelf);
       strays : AllThere moments.End names x → OnSome x ((g.S.Shelf.told l.shelf).strays ≡ (g.S.Shelf.told l.fn.shelf).strays);
     }

@@ -15,7 +15,9 @@ call-requires-clause-arguments g c =
 
 pub returns-in_err-send_line-clause-begun : goal.returns-in_err-send_line-clause-begun
 returns-in_err-send_line-clause-begun g c =
-    on_err_always c.from_residual.result (IsBegun c.args.session.now c.args.script.now c.args.limit (g.O.Sink.told c.args.out.now).sent (g.O.Sink.told c.send_line.new.out).sent) (late_begun c.args.session.now c.args.script.now c.args.limit c.requires.ready c.requires.calls c.calls.call c.calls.session
+    on_err_always c.from_residual.result (IsBegun c.args.session.now c.args.script.now c.args.limit (g.O.Sink.told c.args.out.now).sent
+    (g.O.Sink.told c.send_line.new.out).sent) (late_begun c.args.session.now c.args.script.now c.args.limit c.requires.ready c.requires.calls
+    c.calls.call c.calls.session
     (g.O.Sink.told c.args.out.now) (g.O.Sink.told c.calls.out) (g.O.Sink.told c.send_line.new.out) c.calls.invariant c.words.result.now
     c.words.ensures
     c.in_default.ensures.none c.in_err-send_line.ensures.part)
@@ -32,7 +34,9 @@ returns-in_default-clause-quiet g c = c.in_ok-send_line.ensures.quiet ∙ c.call
 
 pub returns-in_err-send_line-2-clause-begun : goal.returns-in_err-send_line-2-clause-begun
 returns-in_err-send_line-2-clause-begun g c =
-    on_err_always c.from_residual-in_err-send_line-2.result (IsBegun c.args.session.now c.args.script.now c.args.limit (g.O.Sink.told c.args.out.now).sent (g.O.Sink.told c.send_line-in-calls.new.out).sent) (reply_begun c.args.session.now c.args.script.now c.args.limit c.requires.ready c.requires.calls c.calls.call c.calls.session
+    on_err_always c.from_residual-in_err-send_line-2.result (IsBegun c.args.session.now c.args.script.now c.args.limit
+    (g.O.Sink.told c.args.out.now).sent (g.O.Sink.told c.send_line-in-calls.new.out).sent)
+    (reply_begun c.args.session.now c.args.script.now c.args.limit c.requires.ready c.requires.calls c.calls.call c.calls.session
     (g.O.Sink.told c.args.out.now) (g.O.Sink.told c.calls.out) (g.O.Sink.told c.send_line-in-calls.new.out) c.calls.invariant c.words.result.now
     c.words.ensures
     c.in-Some.reply c.call.new.self c.in-Some.ensures.reply c.in_err-send_line-2.ensures.part)
@@ -46,7 +50,9 @@ calls-preserved g c =
 
 pub returns-in_err-send_line-3-clause-begun : goal.returns-in_err-send_line-3-clause-begun
 returns-in_err-send_line-3-clause-begun g c =
-    on_err_always c.from_residual-in_err-send_line-3.result (IsBegun c.args.session.now c.args.script.now c.args.limit (g.O.Sink.told c.args.out.now).sent (g.O.Sink.told c.send_line-2.new.out).sent) (all_begun c.args.session.now c.args.script.now c.args.limit c.requires.ready c.requires.calls c.calls.call c.calls.session
+    on_err_always c.from_residual-in_err-send_line-3.result (IsBegun c.args.session.now c.args.script.now c.args.limit
+    (g.O.Sink.told c.args.out.now).sent (g.O.Sink.told c.send_line-2.new.out).sent)
+    (all_begun c.args.session.now c.args.script.now c.args.limit c.requires.ready c.requires.calls c.calls.call c.calls.session
     (g.O.Sink.told c.args.out.now) (g.O.Sink.told c.calls.out) (g.O.Sink.told c.send_line-2.new.out) c.calls.invariant
     (let a = c.calls-test.false in let b = c.len-call-end.ensures in omega (arith, a, b))
     (subst (λ (k : ℕ). TellsOn (SendsPart (calls_line k)) (g.O.Sink.told c.calls.out).sent (g.O.Sink.told c.send_line-2.new.out).sent) c.len.ensures c.in_err-send_line-3.ensures.part))
