@@ -13,6 +13,7 @@ use Rattle.safl_term.specs.Terms.{Term, Const, Var, Op, If, Let, Call, Loop, Ter
 use Rattle.safl_term.proofs.Once.{Once, OnceIn}
 use Rattle.safl_term.proofs.PlainTerms.{shown_call}
 use Rattle.safl_calls.proofs.Basics.{some_none}
+use Rattle.safl_calls.proofs.Locality.{all_local}
 use Rattle.safl_evaluate.specs.declared.kept.Kept as code
 use Rattle.safl_evaluate.specs.declared.kept.Kept.{Kept}
 use Rattle.safl_evaluate.specs.declared.kept.Found as found
@@ -24,7 +25,7 @@ use Rattle.safl_evaluate.specs.Keeping.{MayLook, MayLookAll, opened_with, Looks,
 use Rattle.safl_evaluate.specs.Plain.{plain_term, plain_body, ComesTo, ConcludesIn}
 use Rattle.safl_evaluate.specs.Stages.{back_at}
 use Rattle.safl_evaluate.proofs.AnswersByParts as step
-use Rattle.safl_evaluate.proofs.HeldByParts.{holds_local, below_frame}
+use Rattle.safl_evaluate.proofs.HeldByParts.{holds_local, below_frame, below_in_local}
 use Rattle.safl_evaluate.proofs.PlainByParts.{two_words, concludes_word, plain_is_body}
 use Rattle.safl_evaluate.proofs.LooksByParts as part
 use Rattle.safl_evaluate.proofs.LooksByParts.{only_none, only_more, only_both, only_own, holds_still, below_in_still, unasked_still, either_branch}
@@ -323,6 +324,24 @@ module _ {S : List Stage} {P : List Place} {A A1 A2 : Asks} {F G : List Word} {W
         );
         only = only_both (only_more fs.only (omega arith) (omega arith) (λ k z. inl z)) (only_more only (omega arith) (omega arith) (λ k z. inr z));
       }
+
+-- the call returned that is looked at: its arguments are as they were
+pub looks_returned : {S : List Stage} {P : List Place} {A : Asks} {F : List Word} {W : List Kept} {n p : ℕ} {news : Option ℕ} {f j : ℕ} {ts : Terms} {x : Kept} →
+    MayLook S P A F W n p news (Call f j ts) → news ≡ Some j → word_kept x ≡ back_at S j → Looks S A A F W W n p (Call f j ts) x
+unfolding Below BelowIn Stands StandsIn Once OnceIn
+looks_returned {S} {P} {A} {F} {W} {n} {p} {news} {f} {j} {ts} {x} h is back =
+    let B = back_at S in
+    let E = take n F in
+    let apart = once (Call f j ts) h.can in
+    let stood : Holds (without B j) E A W p (Call f j ts) = subst (λ i. Stood B i E A W p (Call f j ts)) is h.stood in
+    let same : (k : ℕ) → StandsIn k ts → without B j k ≡ B k =
+    λ k st. ap (λ b. cond b None (B k)) (ne_eqb j k (λ q. apart.1 (subst (λ i. StandsIn i ts) (sym q) st))) in
+    record {
+      word = back ∙ (step.back_word_is (B j) ∙ ap word_of (step.answer_call B E ts f j));
+      own = back;
+      below = (stood.1.0 ∙ all_local (without B j) B E ts same, below_in_local (without B j) B E A W (p + 1) ts stood.1.1 same);
+      only = only_none;
+    }
 
 module _ {S : List Stage} {P : List Place} {A A1 : Asks} {F : List Word} {W W1 : List Kept} {n p : ℕ} {news : Option ℕ} where
   pub looks_shut : {c a b : Term} → MayLook S P A F W n p news (If c a b) → Finds S A A1 F W W1 n (p + 1) c None → Looks S A A1 F W W1 n p (If c a b) code.TheVariants.Shut

@@ -1,7 +1,7 @@
 -- Plain terms, by their parts.
 use Rattle.std.proofs.Common.{◌≡◌, ℕ, suc, ◌+◌, ◌<◌, ◌≤◌, List, [], ◌∷◌, ◌++◌, length, take, drop, Option, Some, Bool, true, false, ◌&&◌, slice_set, refl, sym, ap, ◌∙◌, subst, ⊎_elim, arith}
 use Rattle.std.proofs.lemmas.Bool.{and_parts, and_from, and_left, and_right, false≢true}
-use Rattle.std.proofs.lemmas.List.{drop-set}
+use Rattle.std.proofs.lemmas.List.{append-nil, append_assoc, drop-set, length_push}
 use Rattle.safl_word.specs.Words.{Word, slot}
 use Rattle.safl_word.specs.Primitives.{apply_prim}
 use Rattle.safl_word.specs.declared.primitive.Primitive.{Primitive}
@@ -11,8 +11,9 @@ use Rattle.safl_term.specs.Standing.{Stands, StandsIn}
 use Rattle.safl_term.specs.Terms.{Term, Const, Var, Op, If, Let, Call, Loop, Terms, Nil, Cons}
 use Rattle.safl_term.proofs.Apart.{loop_not_yet, ready_not_yet}
 use Rattle.safl_calls.proofs.Basics.{some_none}
+use Rattle.safl_evaluate.specs.Answers.{passed_on, HasRoom}
 use Rattle.safl_evaluate.specs.Keeping.{IsAnew}
-use Rattle.safl_evaluate.specs.Plain.{plain_term, plain_terms, plain_body, ComesTo, ComeTo, ConcludesIn, CanCompute, CanComputeAll, CanConclude}
+use Rattle.safl_evaluate.specs.Plain.{plain_term, plain_terms, plain_body, ComesTo, ComeTo, ConcludesIn, PassesOn, PassesOne, CanCompute, CanComputeAll, CanConclude}
 use Rattle.safl_evaluate.specs.Stages.{back_at}
 use Rattle.safl_evaluate.proofs.AnswersByParts as step
 use Rattle.safl_evaluate.proofs.RunsByParts as may
@@ -308,6 +309,42 @@ module _ {E : List Word} where
 
   pub concludes_let : {ts : Terms} {b : Term} {vs : List Word} {q : Answer} → ComeTo E ts vs → ConcludesIn (E ++ vs) b q → ConcludesIn E (Let ts b) q
   concludes_let {ts} {b} {vs} hs hb = record { answer_is = λ B. sym (step.answer_let B E ts b vs (hs.words B)) ∙ hb.answer_is B; settled = hb.settled }
+
+-- ---- the words of a tail call, one after the other
+
+pub room_first : {q : Answer} {n m : ℕ} → n ≡ suc m → HasRoom q n → HasRoom q 1
+room_first e r = record { member = r.member; words = r.words; is = r.is; few = omega (arith, e, r.few) }
+
+pub room_rest : {E : List Word} {t : Term} {q q1 : Answer} {n m : ℕ} → PassesOne E t q q1 → n ≡ suc m → HasRoom q n → HasRoom q1 m
+room_rest h long r = record {
+  member = r.member;
+  words = r.words ++ h.word ∷ [];
+  is = h.told ∙ ap (λ z. passed_on z (h.word ∷ [])) r.is;
+  few = omega (arith, length_push r.words h.word, long, r.few);
+}
+
+passed_twice : (q : Answer) (v : Word) (vs : List Word) → passed_on (passed_on q (v ∷ [])) vs ≡ passed_on q (v ∷ vs)
+passed_twice (Ready w) v vs = refl
+passed_twice (LoopTo m ws) v vs = ap (LoopTo m) (append_assoc ws (v ∷ []) vs)
+passed_twice NotYet v vs = refl
+
+passed_none : (q : Answer) → q ≡ passed_on q []
+passed_none (Ready w) = refl
+passed_none (LoopTo m ws) = ap (LoopTo m) (sym (append-nil ws))
+passed_none NotYet = refl
+
+pub passes_none : {E : List Word} {q : Answer} → PassesOn E Nil q q
+passes_none {E} {q} = record { words = []; come = come_nil; told = passed_none q }
+
+pub passes_more : {E : List Word} {t : Term} {ts : Terms} {q q1 q2 : Answer} → PassesOne E t q q1 → PassesOn E ts q1 q2 → PassesOn E (Cons t ts) q q2
+passes_more {E} {t} {ts} {q} h p = record {
+  words = h.word ∷ p.words;
+  come = come_more h.comes p.come;
+  told = p.told ∙ (ap (λ z. passed_on z p.words) h.told ∙ passed_twice q h.word p.words);
+}
+
+pub passes_is : {E G : List Word} {ts us : Terms} {q q1 : Answer} → E ≡ G → ts ≡ us → PassesOn G us q q1 → PassesOn E ts q q1
+passes_is e f h = record { words = h.words; come = come_is e f h.come; told = h.told }
 
 -- ---- the words of a table
 

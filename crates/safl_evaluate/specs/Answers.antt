@@ -1,5 +1,5 @@
 -- What the body of a unit comes to.
-use Rattle.std.specs.Prelude.{ℕ, List, Option, Some, None, Bool, true, false, ◌==◌}
+use Rattle.std.specs.Prelude.{◌≡◌, ℕ, ◌+◌, ◌≤◌, List, ◌++◌, length, Option, Some, None, Bool, true, false, ◌==◌}
 use Rattle.safl_word.specs.Words.{Word}
 use Rattle.safl_term.specs.Readiness.{Answer, Ready, LoopTo, NotYet}
 use Rattle.safl_evaluate.specs.declared.answer.Kind.{Kind}
@@ -26,3 +26,16 @@ abbrev pub loops_to : Answer → ℕ → Bool
 loops_to (Ready v) h = false
 loops_to (LoopTo g vs) h = g == h
 loops_to NotYet h = false
+
+-- a tail call that has these words too
+abbrev pub passed_on : Answer → List Word → Answer
+passed_on (Ready v) ws = Ready v
+passed_on (LoopTo h vs) ws = LoopTo h (vs ++ ws)
+passed_on NotYet ws = NotYet
+
+-- a tail call that has room for so many words more
+pub record HasRoom (q : Answer) (count : ℕ) : Type 0 where
+  pub member : ℕ
+  pub words : List Word
+  pub is : q ≡ LoopTo member words
+  pub few : length words + count ≤ 16

@@ -1,10 +1,11 @@
 -- Plain terms and plain bodies, and what they come to.
-use Rattle.std.specs.Prelude.{◌≡◌, ◌+◌, ℕ, ◌≤◌, ◌&&◌, List, length, take, Option, Some, Bool, true, false}
+use Rattle.std.specs.Prelude.{◌≡◌, ◌+◌, ℕ, ◌≤◌, ◌&&◌, List, ◌∷◌, [], length, take, Option, Some, Bool, true, false}
 use Rattle.safl_word.specs.Words.{Word}
 use Rattle.safl_term.specs.Readiness.{Answer, Ready, NotYet, answer, answers}
 use Rattle.safl_term.specs.Sizes.{nodes, nodes_in}
 use Rattle.safl_term.specs.Terms.{Term, Const, Var, Op, If, Let, Call, Loop, Terms, Nil, Cons}
 use Rattle.safl_evaluate.specs.declared.stage.Stage.{Stage}
+use Rattle.safl_evaluate.specs.Answers.{passed_on}
 use Rattle.safl_evaluate.specs.Evaluating.{CanRun, CanRunAll}
 
 -- the term is plain: no call and no tail call stands in it
@@ -44,6 +45,18 @@ pub record ComeTo (env : List Word) (ts : Terms) (vs : List Word) : Type 0 where
 pub record ConcludesIn (env : List Word) (t : Term) (q : Answer) : Type 0 where
   pub answer_is : (back : ℕ → Option Word) → answer back env t ≡ q
   pub settled : q ≡ NotYet → ⊥
+
+-- the word that the term comes to was added to a tail call
+pub record PassesOne (env : List Word) (t : Term) (q q1 : Answer) : Type 0 where
+  pub word : Word
+  pub comes : ComesTo env t word
+  pub told : q1 ≡ passed_on q (word ∷ [])
+
+-- the words that the terms come to were added to it
+pub record PassesOn (env : List Word) (ts : Terms) (q q1 : Answer) : Type 0 where
+  pub words : List Word
+  pub come : ComeTo env ts words
+  pub told : q1 ≡ passed_on q words
 
 -- A plain term may be computed: it can run with the first `slots` words of `env` in its slots, and `env` has room for one more
 -- word for each of its nodes.

@@ -1,8 +1,8 @@
 //! What the body of a unit comes to.
 
-ghost use Rattle.std.specs.Prelude.{◌≡◌, ◌≤◌, IfSome, is_some, length, Some};
+ghost use Rattle.std.specs.Prelude.{◌≡◌, ◌≤◌, ◌∷◌, [], IfSome, is_some, length, Some};
 ghost use Rattle.safl_term.specs.Readiness as plain;
-ghost use Rattle.safl_evaluate.specs.Answers.{args_given};
+ghost use Rattle.safl_evaluate.specs.Answers.{args_given, passed_on, HasRoom};
 ghost use Rattle.safl_evaluate.specs.Answers as shown;
 
 use crate::args::Args;
@@ -61,6 +61,26 @@ impl Answer {
     {
         self.args.set(words);
         self.kind = Kind::Loop(member);
+    }
+
+    /// The body comes to a tail call of a member, whose words are to be added.
+    pub fn begin(&mut self, member: u32)
+        ensures { self.new ≡ plain.LoopTo member [] }
+    {
+        self.args.clear();
+        self.kind = Kind::Loop(member);
+    }
+
+    /// One more word for the tail call.
+    pub fn add(&mut self, word: Word)
+        requires { HasRoom self.old 1 }
+        ensures { self.new ≡ passed_on self.old (word ∷ []) }
+    {
+        match self.kind {
+            Kind::Ready(_) => unreachable!(),
+            Kind::Loop(_) => self.args.push(word),
+            Kind::NotYet => unreachable!(),
+        }
     }
 
     /// The word that the body comes to.

@@ -1,6 +1,6 @@
 //! The arguments of a call, in place.
 
-ghost use Rattle.std.specs.Prelude.{◌≡◌, ◌≤◌, length};
+ghost use Rattle.std.specs.Prelude.{◌≡◌, ◌<◌, ◌≤◌, ◌++◌, ◌∷◌, [], length};
 
 use safl_word::Word;
 use std::marker::Model;
@@ -54,6 +54,22 @@ impl Args {
         let count = words.len();
         self.words[..count].copy_from_slice(words);
         self.count = count;
+    }
+
+    /// Holds no words from now on.
+    pub fn clear(&mut self)
+        ensures { self.new ≡ [] }
+    {
+        self.count = 0;
+    }
+
+    /// One more word.
+    pub fn push(&mut self, word: Word)
+        requires { length self.old < 16 }
+        ensures { self.new ≡ self.old ++ word ∷ [] }
+    {
+        self.words[self.count] = word;
+        self.count += 1;
     }
 
     /// A copy of the arguments.

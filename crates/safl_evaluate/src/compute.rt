@@ -6,8 +6,9 @@
 ghost use Rattle.std.specs.Prelude.{◌≡◌, ◌+◌, ◌≤◌, length, map, take, IsSome};
 ghost use Rattle.safl_term.specs.Tree.{shown_term, shown_terms};
 ghost use Rattle.safl_word.specs.Primitives.{apply_prim, result_width};
+ghost use Rattle.safl_evaluate.specs.Answers.{HasRoom};
 ghost use Rattle.safl_evaluate.specs.Looking.{words_at};
-ghost use Rattle.safl_evaluate.specs.Plain.{CanCompute, CanComputeAll, CanConclude, ComesTo, ComeTo, ConcludesIn};
+ghost use Rattle.safl_evaluate.specs.Plain.{CanCompute, CanComputeAll, CanConclude, ComesTo, ComeTo, ConcludesIn, PassesOn, PassesOne};
 
 use crate::answer::Answer;
 use safl_term::Term;
@@ -40,9 +41,8 @@ pub fn conclude(env: &mut [Word], slots: usize, t: &Term, told: &mut Answer)
             conclude(env, slots + bound.len(), body, told);
         }
         Term::Loop(h, ts) => {
-            let passed = ts.as_slice();
-            values(env, slots, slots, passed);
-            told.pass(*h, words(env, slots, passed.len()));
+            told.begin(*h);
+            pass(env, slots, ts.as_slice(), told);
         }
         Term::Const(number) => told.settle(Some(*number)),
         Term::Var(slot) => told.settle(Some(env[*slot as usize])),
@@ -54,13 +54,39 @@ pub fn conclude(env: &mut [Word], slots: usize, t: &Term, told: &mut Answer)
     }
 }
 
+// Adds the words that the terms come to to a tail call.
+fn pass(env: &mut [Word], slots: usize, ts: &[Term], told: &mut Answer)
+    requires can { CanComputeAll env.old slots (shown_terms ts.now) }
+    requires room { HasRoom told.old (length ts.now) }
+    ensures { PassesOn (take slots env.old) (shown_terms ts.now) told.old told.new }
+{
+    let Some((first, rest)) = ts.split_first() else {
+        return;
+    };
+    pass_one(env, slots, first, told);
+    pass(env, slots, rest, told);
+}
+
+// Adds one word. Its local stands apart, so that `pass` becomes a loop.
+#[inline(never)]
+fn pass_one(env: &mut [Word], slots: usize, t: &Term, told: &mut Answer)
+    requires can { CanCompute env.old slots (shown_term t.now) }
+    requires room { HasRoom told.old 1 }
+    ensures told { PassesOne (take slots env.old) (shown_term t.now) told.old told.new }
+    ensures kept { take slots env.new ≡ take slots env.old }
+{
+    let mut word = blank();
+    operand(env, slots, t, &mut word);
+    told.add(word);
+}
+
 /// Writes what a primitive gives on these words. Its code stands here alone, and writes in place.
 #[inline(never)]
-pub fn applied(p: Primitive, operands: &[Word], word: &mut Word)
-    requires { IsSome (result_width p (map (λ v. v.width) operands.now)) }
-    ensures { word.new ≡ apply_prim p operands.now }
+pub fn applied(p: &Primitive, operands: &[Word], word: &mut Word)
+    requires { IsSome (result_width p.now (map (λ v. v.width) operands.now)) }
+    ensures { word.new ≡ apply_prim p.now operands.now }
 {
-    *word = apply(p, operands);
+    *word = apply(*p, operands);
 }
 
 /// The `count` words of `env` from `at` on.
@@ -97,9 +123,9 @@ pub fn compute(env: &mut [Word], slots: usize, t: &Term, word: &mut Word)
         }
         Term::Op(p, ts) => {
             let operands = ts.as_slice();
-            let mut words = [*word, *word];
+            let mut words = [blank(), blank()];
             pair(env, slots, operands, &mut words);
-            applied(*p, &words[..operands.len()], word);
+            applied(p, &words[..operands.len()], word);
         }
         Term::Call(_, _, _) => unreachable!(),
         Term::Loop(_, _) => unreachable!(),

@@ -201,6 +201,16 @@ fn is_skipped(facts: &Facts, spot: Spot) -> bool
     }
 }
 
+// Whether this site is the one that has returned. It does not stand in its own arguments, so nothing has changed there.
+fn has_returned(spot: Spot, site: u32) -> bool
+    ensures { IsTrue result → spot.news ≡ Some site }
+{
+    match spot.news {
+        Some(news) => news == site,
+        None => false,
+    }
+}
+
 // Whether the term at a place is a plain term.
 fn is_plain_at(facts: &Facts, at: usize) -> bool
     requires { at < length facts.now.places.now }
@@ -318,7 +328,7 @@ fn look(
             let operands = ts.as_slice();
             let mut words = [blank(), blank()];
             if pair(facts, asks, env, kept, part(spot), operands, &mut words) {
-                applied(*p, &words[..operands.len()], word);
+                applied(p, &words[..operands.len()], word);
                 Found::Ready
             } else {
                 Found::Shut
@@ -326,6 +336,9 @@ fn look(
         }
         Term::Call(_, k, ts) => {
             let args = ts.as_slice();
+            if has_returned(spot, *k) {
+                return ready(returned(facts.stages, *k, word));
+            }
             if values(facts, asks, env, kept, part(spot), spot.slots, args) {
                 asks.ask(*k, words(env, spot.slots, args.len()));
             }

@@ -1,10 +1,9 @@
-use Rattle.std.proofs.Common.{rules, ◌<◌, List, length, take, drop, refl, sym, ap, ◌∙◌, arith}
-use Rattle.safl_word.specs.Words.{Word}
-use Rattle.safl_term.specs.Readiness.{LoopTo}
+use Rattle.std.proofs.Common.{rules, ◌<◌, [], length, take, drop, refl, sym, ap, ◌∙◌, arith}
 use Rattle.safl_term.specs.Sizes.{nodes}
 use Rattle.safl_term.specs.Tree.{shown_term, shown_terms}
 use Rattle.safl_term.proofs.PlainTrees.{shown_term-Op, shown_term-Loop, shown_term-Let}
 use Rattle.safl_term.proofs.PlainTerms.{if_by, let_by}
+use Rattle.safl_evaluate.specs.Answers.{passed_on}
 use Rattle.safl_evaluate.proofs.AnswersByParts as step
 use Rattle.safl_evaluate.proofs.AnswersByParts.{loop_by, forest_nodes}
 use Rattle.safl_evaluate.proofs.PlainByParts as part
@@ -83,40 +82,27 @@ returns-in-Let t c =
 
 -- ---- tail calls
 
-pub values-requires-in-Loop-clause-can : goal.values-requires-in-Loop-clause-can
-values-requires-in-Loop-clause-can t c =
-    let shape = loop_by c.in-Loop.h (ap shown_term c.in-Loop.is ∙ shown_term-Loop c.in-Loop.h c.in-Loop.ts) (ap shown_terms c.as_slice-passed.ensures.value) in
+pub pass-requires-clause-can : goal.pass-requires-clause-can
+pass-requires-clause-can t c =
+    let shape = loop_by c.in-Loop.h (ap shown_term c.in-Loop.is ∙ shown_term-Loop c.in-Loop.h c.in-Loop.ts) (ap shown_terms c.as_slice.ensures.value) in
     part.conclude_loop (conclude_is shape c.requires)
 
-pub values-requires-in-Loop-clause-places : goal.values-requires-in-Loop-clause-places
-values-requires-in-Loop-clause-places t c =
-    let shape = loop_by c.in-Loop.h (ap shown_term c.in-Loop.is ∙ shown_term-Loop c.in-Loop.h c.in-Loop.ts) (ap shown_terms c.as_slice-passed.ensures.value) in
+pub pass-requires-clause-room : goal.pass-requires-clause-room
+pass-requires-clause-room t c =
+    let shape = loop_by c.in-Loop.h (ap shown_term c.in-Loop.is ∙ shown_term-Loop c.in-Loop.h c.in-Loop.ts) (ap shown_terms c.as_slice.ensures.value) in
     let h = conclude_is shape c.requires in
-    omega (arith, forest_nodes c.as_slice-passed.result.now, h.room)
-
-pub words-requires : goal.words-requires
-words-requires t c =
-    let shape = loop_by c.in-Loop.h (ap shown_term c.in-Loop.is ∙ shown_term-Loop c.in-Loop.h c.in-Loop.ts) (ap shown_terms c.as_slice-passed.ensures.value) in
-    let h = conclude_is shape c.requires in
-    omega (arith, forest_nodes c.as_slice-passed.result.now, h.room, c.values-in-Loop.auto.env)
-
-pub pass-requires : goal.pass-requires
-pass-requires t c =
-    let shape = loop_by c.in-Loop.h (ap shown_term c.in-Loop.is ∙ shown_term-Loop c.in-Loop.h c.in-Loop.ts) (ap shown_terms c.as_slice-passed.ensures.value) in
-    let h = conclude_is shape c.requires in
-    let few = may.loop_few _ _ h.can in
-    omega (
-      arith,
-      few,
-      step.count_forest c.as_slice-passed.result.now,
-      ap (λ (l : List Word). length l) c.words.ensures,
-      step.part_few (length c.as_slice-passed.result.now) (drop c.args.slots c.values-in-Loop.new.env),
-    )
+    record {
+      member = c.in-Loop.h;
+      words = [];
+      is = c.begin.ensures;
+      few = omega (arith, may.loop_few _ _ h.can, step.count_forest c.as_slice.result.now);
+    }
 
 pub returns-in-Loop : goal.returns-in-Loop
 returns-in-Loop t c =
-    let shape = loop_by c.in-Loop.h (ap shown_term c.in-Loop.is ∙ shown_term-Loop c.in-Loop.h c.in-Loop.ts) (ap shown_terms c.as_slice-passed.ensures.value) in
-    concludes_is refl shape (part.concludes_loop c.values-in-Loop.ensures.words (c.pass.ensures ∙ ap (LoopTo c.in-Loop.h) c.words.ensures))
+    let shape = loop_by c.in-Loop.h (ap shown_term c.in-Loop.is ∙ shown_term-Loop c.in-Loop.h c.in-Loop.ts) (ap shown_terms c.as_slice.ensures.value) in
+    let p = c.pass.ensures in
+    concludes_is refl shape (part.concludes_loop p.come (p.told ∙ ap (λ z. passed_on z p.words) c.begin.ensures))
 
 -- ---- words
 

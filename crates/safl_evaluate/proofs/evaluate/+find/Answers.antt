@@ -322,11 +322,17 @@ look-returned-requires-clause-within t c =
     let h = look_is shape c.requires.may in
     omega (arith, may.call_place _ _ _ h.can, h.can.all_sites)
 
+pub look-returned-requires-in-Call-clause-within : goal.look-returned-requires-in-Call-clause-within
+look-returned-requires-in-Call-clause-within t c =
+    let shape = call_by c.in-Call.field-0 c.in-Call.k (ap shown_term c.in-Call.is ∙ shown_term-Call c.in-Call.field-0 c.in-Call.k c.in-Call.ts) (ap shown_terms c.as_slice-args.ensures.value) in
+    let h = look_is shape c.requires.may in
+    omega (arith, may.call_place _ _ _ h.can, h.can.all_sites)
+
 pub look-returns-after-values-2-clause-looks : goal.look-returns-after-values-2-clause-looks
 look-returns-after-values-2-clause-looks t c =
     let shape = call_by c.in-Call.field-0 c.in-Call.k (ap shown_term c.in-Call.is ∙ shown_term-Call c.in-Call.field-0 c.in-Call.k c.in-Call.ts) (ap shown_terms c.as_slice-args.ensures.value) in
     let h = look_is shape c.requires.may in
-    let back = whole.ready_cell c.returned.result c.returned.new.word c.ready-in-Call.result c.ready-in-Call.ensures ∙ c.returned.ensures in
+    let back = whole.ready_cell c.returned-in-Call.result c.returned-in-Call.new.word c.ready-in-Call.result c.ready-in-Call.ensures ∙ c.returned-in-Call.ensures in
     whole.looks_is shape (elim c.if-values-2.branch [
       | look-then-values-2 w ↦ whole.looks_asked (take (length c.as_slice-args.result.now) (drop c.args.spot.slots c.values-in-Call.new.env)) h
           (whole.finds_all_slots c.part-in-Call.ensures.slots c.part-in-Call.ensures.at w.if-values-2.ensures.finds)
@@ -334,6 +340,13 @@ look-returns-after-values-2-clause-looks t c =
       | look-else-values-2 w ↦ whole.looks_asks (ap (λ (x : Wants). x.each.items) w.asks-is)
           (whole.looks_unasked h (whole.finds_all_slots c.part-in-Call.ensures.slots c.part-in-Call.ensures.at w.if-values-2.ensures.finds) back)
     ])
+
+pub look-returns-then-has_returned-clause-looks : goal.look-returns-then-has_returned-clause-looks
+look-returns-then-has_returned-clause-looks t c =
+    let shape = call_by c.in-Call.field-0 c.in-Call.k (ap shown_term c.in-Call.is ∙ shown_term-Call c.in-Call.field-0 c.in-Call.k c.in-Call.ts) (ap shown_terms c.as_slice-args.ensures.value) in
+    let h = look_is shape c.requires.may in
+    let back = whole.ready_cell c.returned.result c.returned.new.word c.ready-then-has_returned.result c.ready-then-has_returned.ensures ∙ c.returned.ensures in
+    whole.looks_is shape (whole.looks_returned h (c.has_returned.ensures c.if-has_returned.true) back)
 
 -- ---- tail calls
 
@@ -538,6 +551,9 @@ look-returns-then-pair-clause-asks t c = c.pair.ensures.asks
 
 pub look-returns-else-pair-clause-asks : goal.look-returns-else-pair-clause-asks
 look-returns-else-pair-clause-asks t c = c.pair.ensures.asks
+
+pub look-returns-then-has_returned-clause-asks : goal.look-returns-then-has_returned-clause-asks
+look-returns-then-has_returned-clause-asks t c = asks_none c.args.asks.now
 
 pub look-returns-after-values-2-clause-asks : goal.look-returns-after-values-2-clause-asks
 look-returns-after-values-2-clause-asks t c =
