@@ -13,7 +13,7 @@ use Rattle.safl_net.specs.Netlist.{Netlist, Signal, Kind, Input, Reg, Wire, Cell
 use Rattle.safl_net.specs.Valuations.{Valuation, Fits, Holds, cell_word, signal_word}
 use Rattle.safl_net.specs.Making.{kind_at, kind_in, cell_in, sort_of, widths, numbers}
 use Rattle.safl_net.specs.Rules.{IsNetlist}
-use Rattle.safl_net.proofs.Kinds.{sort_wire_or_not}
+use Rattle.safl_net.proofs.SignalKinds.{sort_wire_or_not}
 use Rattle.safl_order.specs.Order.{operands_of, operands_in, IsWire, IsOrder}
 use Rattle.safl_order.proofs.Moves.{operand_in, wire_in_net}
 use Rattle.safl_aiger.specs.declared.literal.Lit.{Lit}

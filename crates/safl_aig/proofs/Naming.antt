@@ -11,7 +11,7 @@ use Rattle.safl_net.specs.Netlist.{Netlist, Signal, AllSet, Kind, width_of, is_i
 use Rattle.safl_net.specs.Making.{kind_at, name_at, name_in}
 use Rattle.safl_net.specs.Names.{is_start, is_part, are_parts, is_identifier, is_good, is_reserved}
 use Rattle.safl_net.specs.Rules.{IsNetlist}
-use Rattle.safl_net.proofs.Kinds.{start_part}
+use Rattle.safl_net.proofs.SignalKinds.{start_part}
 use Rattle.safl_aiger.specs.declared.literal.Lit.{Lit}
 use Rattle.safl_aiger.specs.declared.circuit.Names.{Names}
 use Rattle.safl_aiger.specs.Circuits.{Circuit, circuit_of, names_of, variables, base, IsLine, AreBelow, IsCircuit}

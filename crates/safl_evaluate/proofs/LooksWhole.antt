@@ -337,7 +337,7 @@ looks_returned {S} {P} {A} {F} {W} {n} {p} {news} {f} {j} {ts} {x} h is back =
     let same : (k : ℕ) → StandsIn k ts → without B j k ≡ B k =
     λ k st. ap (λ b. cond b None (B k)) (ne_eqb j k (λ q. apart.1 (subst (λ i. StandsIn i ts) (sym q) st))) in
     record {
-      word = back ∙ (step.back_word_is (B j) ∙ ap word_of (step.answer_call B E ts f j));
+      word = back ∙ (shown_call (B j) ∙ ap word_of (step.answer_call B E ts f j));
       own = back;
       below = (stood.1.0 ∙ all_local (without B j) B E ts same, below_in_local (without B j) B E A W (p + 1) ts stood.1.1 same);
       only = only_none;

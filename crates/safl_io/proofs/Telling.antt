@@ -1,5 +1,5 @@
 -- What is told after several calls.
-use Rattle.std.proofs.Common.{Option, Some, None, List, arith, inl, inr, sym, ℕ, ◌≤◌}
+use Rattle.std.proofs.Common.{Option, Some, None, List, [], arith, inl, inr, sym, ℕ, ◌≤◌}
 use Rattle.std.proofs.lemmas.List.{append-nil}
 use Rattle.safl_io.specs.Told.{TellsOn}
 use Rattle.safl_io.specs.Sink.{Sends, SendsPart}

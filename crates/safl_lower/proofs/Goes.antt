@@ -1,4 +1,4 @@
--- Goes
+-- Answers of calls and of lets that go nowhere, and words that are there.
 use Rattle.std.proofs.Common.{List, None, Option, Some, is_some, refl, ◌≡◌}
 use Rattle.safl_word.specs.Words.{Word}
 use Rattle.safl_term.specs.Readiness.{Answer, NotYet, ready_from, with_all}

@@ -15,5 +15,5 @@ pub mod ArgumentWidths
 pub mod GatheredLists
 pub mod Twins
 pub mod MirrorsRunAlike
-pub mod Kinds
+pub mod SignalKinds
 pub mod EachOf

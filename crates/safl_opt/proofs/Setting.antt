@@ -14,7 +14,7 @@ use Rattle.safl_net.specs.Making.{kind_in, kind_at, name_at, cell_in, next_in, s
 use Rattle.safl_net.specs.Rules.{IsNetlist, KindFits}
 use Rattle.safl_net.specs.Valuations.{kind_reset, reset_number, reset_state}
 use Rattle.safl_net.specs.Widths.{op_width}
-use Rattle.safl_net.proofs.Kinds.{next_kind, set_at, set_other, tidy_kind}
+use Rattle.safl_net.proofs.SignalKinds.{next_kind, set_at, set_other, tidy_kind}
 use Rattle.safl_net.proofs.Keeping.{set_length, set_width}
 use Rattle.safl_order.specs.Order.{IsWire, IsOrder, operands_in}
 use Rattle.safl_opt.specs.declared.fold.Values.{Values}

@@ -11,7 +11,7 @@ use Rattle.safl_net.specs.Runs.{RunFrom, GoesOn}
 use Rattle.safl_net.specs.Valuations.{Valuation, Fits, IsAcyclic, next_state, number_at, read_output, reset_state}
 use Rattle.safl_net.specs.Whole.{IsWhole}
 use Rattle.safl_net.specs.Arguments.{AreArguments}
-use Rattle.safl_net.proofs.Kinds.{reset_at}
+use Rattle.safl_net.proofs.SignalKinds.{reset_at}
 use Rattle.safl_sim.specs.Outcomes.{IsCallRun, IsOutcome, output_word}
 use Rattle.safl_sim.specs.Places.{resets}
 use Rattle.safl_sim.specs.declared.done.Done.{Done}

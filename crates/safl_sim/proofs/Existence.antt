@@ -10,7 +10,7 @@ use Rattle.safl_net.specs.Valuations.{Valuation, Fits, IsAcyclic, next_state, ne
 use Rattle.safl_net.specs.Whole.{IsWhole}
 use Rattle.safl_net.proofs.Existence.{exactly_one}
 use Rattle.safl_net.specs.Arguments.{AreArguments}
-use Rattle.safl_net.proofs.Kinds.{reset_at}
+use Rattle.safl_net.proofs.SignalKinds.{reset_at}
 use Rattle.safl_sim.specs.Existence.{RunsExist, ResetFits, OneRunExists}
 use Rattle.safl_sim.specs.Outcomes.{IsCallRun}
 use Rattle.safl_sim.specs.Places.{AreInputs, HasWords, resets}

@@ -8,7 +8,7 @@ use Rattle.safl_net.specs.Netlist.{Signal, Wire, Cell}
 use Rattle.safl_net.specs.Valuations.{signal_word, cell_word}
 use Rattle.safl_net.specs.Making.{kind_at}
 use Rattle.safl_net.specs.Laws.{FitWidths}
-use Rattle.safl_net.proofs.Kinds.{wire_at}
+use Rattle.safl_net.proofs.SignalKinds.{wire_at}
 use Rattle.safl_order.specs.Order.{Order, IsWire}
 use Rattle.safl_sim.specs.declared.step.Step.{Step}
 use Rattle.safl_sim.specs.declared.step.Register.{Register}

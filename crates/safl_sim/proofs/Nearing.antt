@@ -12,7 +12,7 @@ use Rattle.std.proofs.lemmas.List.{length-set, length_push, set-set, set_past}
 use Rattle.safl_word.proofs.Lists.{get_pushed, get_some}
 use Rattle.safl_word.proofs.Naturals.{lower_or_last}
 use Rattle.safl_net.specs.Netlist.{Netlist}
-use Rattle.safl_net.proofs.Kinds.{wire_at}
+use Rattle.safl_net.proofs.SignalKinds.{wire_at}
 use Rattle.safl_sim.specs.declared.step.Group.{Group}
 use Rattle.safl_sim.specs.declared.step.Near.{Near}
 use Rattle.safl_sim.specs.declared.step.Register.{Register}

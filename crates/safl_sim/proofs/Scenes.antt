@@ -15,7 +15,7 @@ use Rattle.safl_net.specs.Making.{kind_at, cell_in}
 use Rattle.safl_net.specs.Rules.{IsNetlist, KindFits, CellFits}
 use Rattle.safl_net.specs.Laws.{FitWidths}
 use Rattle.safl_net.proofs.CellWords.{cell_width, cell_is_word, shown_widths}
-use Rattle.safl_net.proofs.Kinds.{wire_at}
+use Rattle.safl_net.proofs.SignalKinds.{wire_at}
 use Rattle.safl_order.specs.Order.{IsOrder, IsWire, operands_of, operands_in}
 use Rattle.safl_sim.specs.declared.step.Action.{Action}
 use Rattle.safl_sim.specs.declared.step.Action.TheVariants.{Choose, One, Two, Not, Add, Sub, And, Or, Xor, Eq, Shl, Shr, Bits, Const, WideChoose, WideOne, WideTwo}

@@ -4,7 +4,6 @@ pub mod SetsByWords
 pub mod AddsInSteps
 pub mod PartsOfParts
 pub mod ReachBySites
-pub mod NodesOfTerms
 pub mod SetsJoined
 pub mod SetsTouched
 pub mod EarlierConflicts

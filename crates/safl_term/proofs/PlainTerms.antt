@@ -1,5 +1,5 @@
 -- Terms and answers.
-use Rattle.std.proofs.Common.{List, None, Option, Some, ap, arith, is_some, length, refl, suc, sym, true, ℕ, ◌∙◌, ◌∷◌, ◌≡◌, ◌≤◌}
+use Rattle.std.proofs.Common.{List, [], None, Option, Some, ap, arith, is_some, length, refl, suc, sym, true, ℕ, ◌∙◌, ◌∷◌, ◌≡◌, ◌≤◌}
 use Rattle.std.proofs.lemmas.Bool.{false≢true}
 use Rattle.safl_word.specs.declared.primitive.Primitive.{Primitive}
 use Rattle.safl_word.specs.Words.{Word}

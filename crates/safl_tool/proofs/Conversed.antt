@@ -15,7 +15,7 @@ use Rattle.safl_sim.specs.Places.{resets}
 use Rattle.safl_sim.proofs.Builds.{resets_fit}
 use Rattle.safl_term.specs.Program.{Program}
 use Rattle.safl_term.specs.WellFormed.{AreWordsOf}
-use Rattle.safl_net.proofs.Kinds.{reset_at}
+use Rattle.safl_net.proofs.SignalKinds.{reset_at}
 use Rattle.safl_session.specs.declared.script.ScriptErr.{ScriptErr}
 use Rattle.safl_session.specs.declared.script.ScriptErr.TheVariants as errors
 use Rattle.safl_sim.specs.declared.done.Done.{Done as Reply}

@@ -31,7 +31,7 @@ pub text_quiet : (name : List ℕ) (args : List (List ℕ)) (text : List ℕ) (s
 text_quiet name args text s line r = elim r [ inl f ↦ ap may_give f.0 | inr m ↦ ap may_give m.0 ]
 
 -- the wires of a loop are signals
-reads_known : (n : Netlist) (a b : ℕ) → Order.Reads n a b → a < length n.signals
+reads_known : (n : Netlist) (a b : ℕ) → Order.ReadsSignal n a b → a < length n.signals
 reads_known n a b r = by (slice_get n.signals a) refl r.1
   where
     by : (o : Option Signal) → slice_get n.signals a ≡ o → slice_get (operands_in (cell_in (kind_in o))) r.0 ≡ Some b → a < length n.signals

@@ -40,7 +40,7 @@ parameter_at p x w = record { place = p; name = x; width = w }
 abbrev param_list : List ℕ
 param_list = symbol_code syms.Comma ∷ symbol_code syms.CloseParen ∷ []
 
-param_read : (p : Parameter) → IsFormedParameter p → Reads read_param (Printed.name p.name ∷ (Printed.sym syms.Colon ∷ (Printed.number p.width ∷ [])))
+param_read : (p : Parameter) → IsFormedParameter p → Reads read_param (Printed.name p.name ∷ (Printed.sym syms.Colon ∷ (Printed.number_word p.width ∷ [])))
     (Only param_list) unplaced_parameter (unplaced_parameter p)
 unfolding read_param
 param_read p f = reads_narrowed Every (reads_then (reads_name p.name)

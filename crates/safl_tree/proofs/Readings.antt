@@ -247,22 +247,22 @@ reads_name x = reads_token Every name (Printed.name x) name_text x
           (λ t. record { place = t.place; name = t.bytes }) t (Printed.name x) e refl,
     ))
 
-number_is : (n : ℕ) (t : Terminal) → word_of t ≡ Printed.number n → (y : NumberAt) × (y.value ≡ n) × (number t ≡ Some y)
+number_is : (n : ℕ) (t : Terminal) → word_of t ≡ Printed.number_word n → (y : NumberAt) × (y.value ≡ n) × (number t ≡ Some y)
 number_is n t e = (
   record { place = t.place; value = number_in t.kind },
   ap (λ (k : Word). number_in k.kind) e,
   classed_some (Only (2 ∷ []))
-      (λ t. record { place = t.place; value = number_in t.kind }) t (Printed.number n) e refl,
+      (λ t. record { place = t.place; value = number_in t.kind }) t (Printed.number_word n) e refl,
 )
 
-pub reads_number : (n : ℕ) → Reads (read_token number) (Printed.number n ∷ []) Every number_value n
-reads_number n = reads_token Every number (Printed.number n) number_value n (number_is n)
+pub reads_number : (n : ℕ) → Reads (read_token number) (Printed.number_word n ∷ []) Every number_value n
+reads_number n = reads_token Every number (Printed.number_word n) number_value n (number_is n)
 
-pub reads_width : (n : ℕ) → is_width n ≡ true → Reads read_width (Printed.number n ∷ []) Every number_value n
-reads_width n h = reads_limited Every Range fits_width number (Printed.number n) number_value n (λ t e. let y = number_is n t e in (y.0, y.1, y.2, ap is_width y.1 ∙ h))
+pub reads_width : (n : ℕ) → is_width n ≡ true → Reads read_width (Printed.number_word n ∷ []) Every number_value n
+reads_width n h = reads_limited Every Range fits_width number (Printed.number_word n) number_value n (λ t e. let y = number_is n t e in (y.0, y.1, y.2, ap is_width y.1 ∙ h))
 
-pub reads_index : (n : ℕ) → n < width_max → Reads read_index (Printed.number n ∷ []) Every number_value n
-reads_index n h = reads_limited Every Range fits_index number (Printed.number n) number_value n
+pub reads_index : (n : ℕ) → n < width_max → Reads read_index (Printed.number_word n ∷ []) Every number_value n
+reads_index n h = reads_limited Every Range fits_index number (Printed.number_word n) number_value n
     (λ t e. let y = number_is n t e in (y.0, y.1, y.2, ap (λ (x : ℕ). nat_lt x width_max) y.1 ∙ lt-ltb n width_max h))
 
 pub reads_sized : (w n : ℕ) → is_width w ≡ true → Reads (read_limited Range fits_sized sized) (Printed.sized w n ∷ []) Every (λ s. Sized 0 s.width s.value) (Sized 0 w n)

@@ -58,7 +58,7 @@ width_small n h = let k = within_width n h in omega (arith, k)
         go true b h = h
         go false b h = absurd cc
 
-width_word : (n : ℕ) → is_width n ≡ true → IsToken (kinds.Num n) (Printed.number n).text
+width_word : (n : ℕ) → is_width n ≡ true → IsToken (kinds.Num n) (Printed.number_word n).text
 width_word n h = number_token n (width_small n h)
 
 applies : (o : Primitive) (parts : List (List Word)) → InRange o → AllGenuine parts → Genuine (applied o parts)

@@ -1,5 +1,5 @@
 -- Finding heads by their names.
-use Rattle.std.proofs.Common.{◌≡◌, ℕ, ◌<◌, arith, List, length, Option, Some, refl, sym, ap, ◌∙◌, ⊎_elim, suc, ◌∷◌}
+use Rattle.std.proofs.Common.{◌≡◌, ℕ, ◌<◌, arith, List, length, Option, Some, refl, sym, ap, ◌∙◌, ⊎_elim, suc, [], ◌∷◌}
 use Rattle.std.specs.Prelude.{slice_get}
 use Rattle.std.proofs.lemmas.Option.{slice_get_cases}
 use Rattle.safl_typing.specs.declared.heads.Head as code

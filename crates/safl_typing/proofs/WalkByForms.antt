@@ -211,7 +211,7 @@ bound_is k s lo es y ys m n e em en =
     ap (λ (l : List Bound). check_bound k s lo (shown_bindings l)) e
     ∙ sym (ap (λ (v : Wanted). f v (lo + sites k (shown_expression y.value))) em) ∙ sym (ap (λ (i : ℕ). f m i) en)
 
-shift_is : (k : Known) (s : List Slot) (lo p : ℕ) (es : List code.Expression) (y : code.Expression) (ys : List code.Expression) (n : ℕ)
+pub shift_is : (k : Known) (s : List Slot) (lo p : ℕ) (es : List code.Expression) (y : code.Expression) (ys : List code.Expression) (n : ℕ)
     → es ≡ y ∷ ys → n ≡ lo + sites k (shown_expression y)
     → check_shift k s lo p (shown_expressions es) ≡ after (check k s false lo Any (shown_expression y))
     (λ x. after (check_all k s n (amounts x.width (shown_expressions ys)) (shown_expressions ys)) (λ r. Ok (with_operand x.width x r.terms)))

@@ -13,7 +13,7 @@ use Rattle.safl_net.specs.Settled.{IsSteady, Settles}
 use Rattle.safl_net.specs.Growth.{Says}
 use Rattle.safl_net.proofs.Settling.{settles_same, settles_on, settles_next, settles_cell, steady_cell}
 use Rattle.safl_net.proofs.Saying.{says_same, says_on, says_next, says_cell}
-use Rattle.safl_net.proofs.Kinds.{set_other, tidy_kind}
+use Rattle.safl_net.proofs.SignalKinds.{set_other, tidy_kind}
 use Rattle.safl_net.proofs.Keeping.{set_length, set_width}
 use Rattle.safl_lower.specs.Tables.{EachAt}
 use Rattle.safl_unit.specs.Ties.{Tie, line_of, sig_of}

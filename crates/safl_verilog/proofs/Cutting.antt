@@ -14,7 +14,7 @@ use Rattle.safl_verilog.specs.declared.token.TokenKind.{TokenKind}
 use Rattle.safl_verilog.specs.declared.token.TokenKind.TheVariants as kinds
 use Rattle.safl_verilog.specs.Tokens.{keyword_text, symbol_text, stops, next_base, IsToken, Piece, Blank, Line, Block, Lexeme, text_of, StandsBefore}
 use Rattle.safl_word.specs.Limits.{net_name_max}
-use Rattle.safl_net.proofs.Kinds.{start_part}
+use Rattle.safl_net.proofs.SignalKinds.{start_part}
 use Rattle.safl_verilog.specs.Pieces.{run, named, all_keywords, single_symbols, double_symbols, word_kind, first_word, sized_length, first_number}
 use Rattle.safl_verilog.specs.Pieces.{one_symbol, two_symbols, first_symbol, block, piece_at, first_piece}
 use Rattle.safl_verilog.proofs.Runs.{other_than, run_of, are_parts-all, named_none}

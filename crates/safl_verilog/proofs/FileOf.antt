@@ -231,7 +231,7 @@ binary_text n p sign e xs =
 
 applied_text : (n : Netlist) (p : Primitive) (xs : List ℕ) → text_of_all (expression_pieces (applied p (map (named_spot n) xs))) ≡ Written.applied p (names_of n xs)
 applied_text n prims.Not xs = one_text n Inverted Written.inverted refl (λ a b xs. refl) (λ a. simp append-nil) xs
-applied_text n prims.Cat xs = two_text n Joined Written.joined refl (λ a. refl) (λ a b c xs. refl) (λ a b. simp append_assoc) xs
+applied_text n prims.Cat xs = two_text n Joined Written.joined_texts refl (λ a. refl) (λ a b c xs. refl) (λ a b. simp append_assoc) xs
 applied_text n (prims.Bits high low) xs = one_text n (λ a. Slice a (spot_of (decimal high)) (spot_of (decimal low))) (Written.sliced high low) refl (λ a b xs. refl) (λ a. simp append_assoc) xs
 applied_text n (prims.Ext width) xs = refl
 applied_text n prims.Add xs = binary_text n prims.Add (codes "+") refl xs

@@ -14,7 +14,7 @@ use Rattle.safl_verilog.specs.declared.token.TokenKind.{TokenKind}
 use Rattle.safl_verilog.specs.declared.token.TokenKind.TheVariants as kinds
 use Rattle.safl_verilog.specs.Tokens.{keyword_text, symbol_text, stops, next_base, base_with, IsToken, Piece, Blank, Line, Block, Lexeme, text_of, StandsBefore}
 use Rattle.safl_word.specs.Limits.{net_name_max}
-use Rattle.safl_net.proofs.Kinds.{start_part}
+use Rattle.safl_net.proofs.SignalKinds.{start_part}
 use Rattle.safl_verilog.specs.Pieces.{run, named, all_keywords, single_symbols, double_symbols, word_kind, first_bytes, first_word, sized_length}
 use Rattle.safl_verilog.specs.Pieces.{first_number, one_symbol, two_symbols, first_symbol, closing, block, first_comment, first_piece}
 use Rattle.safl_verilog.proofs.Runs.{chosen, run_le, run_all, run_stops, are_parts-all, named_has}

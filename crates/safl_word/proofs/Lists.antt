@@ -1,5 +1,5 @@
 -- Lists: what stands at a place, in a prefix, in a list that is mapped or joined.
-use Rattle.std.proofs.Common.{Bool, List, Some, add-one, ap, append-nil, append_assoc, arith, bytes_eq, drop, false, get_or, inl, inr, length, length-drop, map, refl, slice_get, slice_index}
+use Rattle.std.proofs.Common.{Bool, List, [], Some, add-one, ap, append-nil, append_assoc, arith, bytes_eq, drop, false, get_or, inl, inr, length, length-drop, map, refl, slice_get, slice_index}
 use Rattle.std.proofs.Common.{slice_index_or, slice_set, suc, sym, take, true, zero, ℕ, ⊎_elim, ◌++◌, ◌+◌, ◌-◌, ◌<◌, ◌∙◌, ◌∷◌, ◌≡◌, ◌≢◌, ◌≤◌, ◌⊎◌}
 use Rattle.std.proofs.lemmas.List.{drop_at, drop_more, take_at}
 use Rattle.std.specs.Cmp.{both_ways}

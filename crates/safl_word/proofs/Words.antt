@@ -1,5 +1,5 @@
 -- Words of a width, and what is picked by a number.
-use Rattle.std.proofs.Common.{Bool, List, Some, arith, false, map, refl, slice_get, suc, true, zero, ℕ, ◌∷◌, ◌≡◌}
+use Rattle.std.proofs.Common.{Bool, List, [], Some, arith, false, map, refl, slice_get, suc, true, zero, ℕ, ◌∷◌, ◌≡◌}
 use Rattle.safl_word.specs.Primitives.{where_true}
 use Rattle.safl_word.specs.Words.{AreWords, IsWord, Word, pick}
 

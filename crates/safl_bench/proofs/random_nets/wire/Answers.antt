@@ -1,6 +1,6 @@
 use Rattle.safl_net.proofs.Growth.{sized_fits}
 use Rattle.std.proofs.Common.{length}
-use Rattle.safl_net.proofs.Kinds.{one_more}
+use Rattle.safl_net.proofs.SignalKinds.{one_more}
 use Rattle.safl_bench.specs.Bits.{ones}
 use Rattle.safl_bench.proofs.Wires.{sized, made_bits, last_in, same_outputs}
 use Rattle.safl_bench.proofs.random_nets.wire.Goals as goal

@@ -1,5 +1,5 @@
 use Rattle.std.proofs.Common.{[], ◌∷◌}
-use Rattle.safl_net.proofs.Kinds.{mux_width}
+use Rattle.safl_net.proofs.SignalKinds.{mux_width}
 use Rattle.safl_bench.proofs.Growing.{kept, chosen}
 use Rattle.safl_bench.proofs.turns.choose.Goals as goal
 

@@ -1,5 +1,5 @@
 use Rattle.safl_net.proofs.Growth.{sized_known, sized_fits}
-use Rattle.safl_net.proofs.Kinds.{one_more}
+use Rattle.safl_net.proofs.SignalKinds.{one_more}
 use Rattle.safl_bench.proofs.Growing.{made_one}
 use Rattle.safl_bench.proofs.turns.wire.Goals as goal
 

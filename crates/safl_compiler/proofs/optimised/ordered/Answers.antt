@@ -1,6 +1,6 @@
 use Rattle.std.proofs.Common.{subst}
 use Rattle.safl_net.specs.Making.{numbers}
-use Rattle.safl_net.proofs.Kinds.{set_at}
+use Rattle.safl_net.proofs.SignalKinds.{set_at}
 use Rattle.safl_order.specs.Refusals.{RefusesOrder}
 use Rattle.safl_order.specs.declared.ordered.OrderErr.{OrderErr}
 use Rattle.safl_compiler.proofs.optimised.ordered.Goals as goal

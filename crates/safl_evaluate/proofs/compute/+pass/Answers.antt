@@ -1,7 +1,7 @@
 use Rattle.std.proofs.Common.{rules, ◌≡◌, ◌<◌, List, length, ◌∷◌, [], refl, sym, ap, arith}
 use Rattle.safl_term.specs.Tree.{shown_terms}
 use Rattle.safl_term.specs.declared.term.Term as declared
-use Rattle.safl_sites.proofs.NodesOfTerms.{empty_list}
+use Rattle.std.proofs.lemmas.List.{nil_from_length}
 use Rattle.safl_evaluate.proofs.PlainByParts as part
 use Rattle.safl_evaluate.proofs.PlainByParts.{compute_all_is, passes_is}
 use Rattle.safl_evaluate.proofs.compute.+pass.Goals as goal
@@ -35,5 +35,5 @@ returns t c =
 
 pub returns-in_default : goal.returns-in_default
 returns-in_default t c =
-    let e : c.args.ts.now ≡ [] = empty_list c.args.ts.now c.in_default.ensures.cases in
+    let e : c.args.ts.now ≡ [] = nil_from_length c.args.ts.now c.in_default.ensures.cases in
     passes_is refl (ap shown_terms e) part.passes_none

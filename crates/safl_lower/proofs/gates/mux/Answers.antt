@@ -1,5 +1,5 @@
 use Rattle.std.proofs.Common.{[], ◌∷◌}
-use Rattle.safl_net.proofs.Kinds.{mux_width}
+use Rattle.safl_net.proofs.SignalKinds.{mux_width}
 use Rattle.safl_lower.proofs.BitWords.{mux_value}
 use Rattle.safl_lower.proofs.Cells.{three_sources}
 use Rattle.safl_lower.proofs.gates.mux.Goals as goal

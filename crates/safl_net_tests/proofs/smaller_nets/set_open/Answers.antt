@@ -1,6 +1,6 @@
 use Rattle.std.proofs.Common.{sym, ap, subst}
 use Rattle.safl_net.specs.Names.{IsTidy, one_wire}
-use Rattle.safl_net.proofs.Kinds.{tidy_kind}
+use Rattle.safl_net.proofs.SignalKinds.{tidy_kind}
 use Rattle.safl_net_tests.proofs.smaller_nets.set_open.Goals as goal
 
 pub returns-in-Ok : goal.returns-in-Ok

@@ -82,11 +82,11 @@ push_bits-returns t c =
     c.push_sym-2.new.out.items c.push_number.new.out.items c.push_sym-3.new.out.items c.push_number-2.new.out.items c.push_sym-4.new.out.items
     (Printed.key keys.Bits ∷ []) (Printed.sym syms.OpenParen ∷ [])
     (separated (Printed.sym syms.Comma) (part_words 8 8 (trees_of (shown_trees c.args.es.now)))) (Printed.sym syms.Comma ∷ [])
-    (Printed.number c.args.high ∷ []) (Printed.sym syms.Comma ∷ []) (Printed.number c.args.low ∷ []) (Printed.sym syms.CloseParen ∷ [])
+    (Printed.number_word c.args.high ∷ []) (Printed.sym syms.Comma ∷ []) (Printed.number_word c.args.low ∷ []) (Printed.sym syms.CloseParen ∷ [])
     c.in_ok-push_key.ensures c.in_ok-push_sym.ensures c.in_ok-push_parts.ensures c.in_ok-push_sym-2.ensures
-    (subst (λ (n : ℕ). Writes c.push_sym-2.new.out.items c.push_number.new.out.items (Printed.number n ∷ [])) c.from.ensures
+    (subst (λ (n : ℕ). Writes c.push_sym-2.new.out.items c.push_number.new.out.items (Printed.number_word n ∷ [])) c.from.ensures
     c.in_ok-push_number.ensures) c.in_ok-push_sym-3.ensures (subst
-    (λ (n : ℕ). Writes c.push_sym-3.new.out.items c.push_number-2.new.out.items (Printed.number n ∷ [])) c.from-2.ensures
+    (λ (n : ℕ). Writes c.push_sym-3.new.out.items c.push_number-2.new.out.items (Printed.number_word n ∷ [])) c.from-2.ensures
     c.in_ok-push_number-2.ensures) c.push_sym-4.ensures
 
 pub push_ext-returns : goal.push_ext-returns
@@ -94,9 +94,9 @@ push_ext-returns t c =
     chain_6 c.push_sym-3.result c.args.out.now.items c.push_key.new.out.items c.push_sym.new.out.items c.push_parts.new.out.items
     c.push_sym-2.new.out.items c.push_number.new.out.items c.push_sym-3.new.out.items (Printed.key keys.Ext ∷ [])
     (Printed.sym syms.OpenParen ∷ []) (separated (Printed.sym syms.Comma) (part_words 8 8 (trees_of (shown_trees c.args.es.now))))
-    (Printed.sym syms.Comma ∷ []) (Printed.number c.args.width ∷ []) (Printed.sym syms.CloseParen ∷ []) c.in_ok-push_key.ensures
+    (Printed.sym syms.Comma ∷ []) (Printed.number_word c.args.width ∷ []) (Printed.sym syms.CloseParen ∷ []) c.in_ok-push_key.ensures
     c.in_ok-push_sym.ensures c.in_ok-push_parts.ensures c.in_ok-push_sym-2.ensures
-    (subst (λ (n : ℕ). Writes c.push_sym-2.new.out.items c.push_number.new.out.items (Printed.number n ∷ [])) c.from.ensures
+    (subst (λ (n : ℕ). Writes c.push_sym-2.new.out.items c.push_number.new.out.items (Printed.number_word n ∷ [])) c.from.ensures
     c.in_ok-push_number.ensures) c.push_sym-3.ensures
 
 pub push_operation-returns-in_ok-push_parts-in-Cat : goal.push_operation-returns-in_ok-push_parts-in-Cat

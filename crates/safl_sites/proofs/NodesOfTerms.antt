@@ -1,2 +1,0 @@
--- Terms and their nodes.
-use Rattle.std.proofs.Common.{[]}
