@@ -5,6 +5,8 @@
     simulate   the time of a cycle of `sim`, and of Icarus Verilog and Verilator on the same file if they are there
     plan       the plan of nearly 4,000 call sites alone
     nets       the simulator on nets in which nearly all wires change in every cycle, and what it takes to order and prepare them
+    session    a cycle and a call of a session, as scripts/speed_tools.py has it
+    vcd        a cycle of a run with a trace and of one without, as scripts/speed_tools.py has it
 
 All parts are done if none is named. Verilator is left out for sources of more than 100 functions, or of another number, as
 its C++ compiler takes more than a quarter of an hour of the processor for 900. The programs are those of the crates safl and
@@ -21,6 +23,7 @@ from files import TOP, read, write
 from measure import as_memory, as_nanoseconds, as_time, depth_of, icarus, least_seconds, peak, rate_of, rate_of_sim, seconds
 from measure import seconds_between, signals_of, table
 from program import PROGRAM, Ended, ended, knows, lacks, program_of
+import speed_tools
 from speed_sources import busy, sized, work
 from verilate import verilate
 
@@ -127,10 +130,10 @@ def nets():
 
 def main():
     parser = argparse.ArgumentParser(description="Times the program on sources of growing size.")
-    parser.add_argument("parts", nargs="*", metavar="PART", help="compile, simulate, plan or nets; all if none is named")
+    parser.add_argument("parts", nargs="*", metavar="PART", help="compile, simulate, plan, nets, session or vcd; all if none is named")
     parser.add_argument("--verilator", type=int, default=100, metavar="FUNCTIONS", help="the most functions for Verilator")
     words = parser.parse_args()
-    every = ["compile", "simulate", "plan", "nets"]
+    every = ["compile", "simulate", "plan", "nets", "session", "vcd"]
     parts = words.parts or every
     for part in parts:
         if part not in every:
@@ -143,6 +146,10 @@ def main():
         plan()
     if "nets" in parts and not lacks(BENCH):
         nets()
+    if "session" in parts and not lacks(PROGRAM):
+        speed_tools.session()
+    if "vcd" in parts and not lacks(PROGRAM):
+        speed_tools.vcd()
 
 
 if __name__ == "__main__":
