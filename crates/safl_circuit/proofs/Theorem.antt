@@ -1,5 +1,5 @@
 -- The last theorem, from its parts.
-use Rattle.std.proofs.Common.{◌≡◌, ◌≢◌, ℕ, ◌*◌, ◌≤◌, List, [], ◌∷◌, length, Some, true, sym, subst, arith, inl, inr, cond, ap, refl, ◌++◌, suc, ◌<◌}
+use Rattle.std.proofs.Common.{◌≡◌, ◌≢◌, ℕ, ◌≤◌, List, [], ◌∷◌, length, Some, true, sym, subst, arith, inl, inr, cond, ap, refl, ◌++◌, suc, ◌<◌}
 use Rattle.safl_term.specs.Names.{Names}
 use Rattle.std.specs.Prelude.{slice_get, codes}
 use Rattle.safl_word.specs.Words.{Word, as_word}

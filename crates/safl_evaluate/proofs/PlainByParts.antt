@@ -5,7 +5,7 @@ use Rattle.std.proofs.lemmas.List.{append-nil, append_assoc, drop-set, length_pu
 use Rattle.safl_word.specs.Words.{Word, slot}
 use Rattle.safl_word.specs.Primitives.{apply_prim}
 use Rattle.safl_word.specs.declared.primitive.Primitive.{Primitive}
-use Rattle.safl_term.specs.Readiness.{Answer, Ready, LoopTo, apply_to, word_of}
+use Rattle.safl_term.specs.Readiness.{NotYet, Answer, Ready, LoopTo, apply_to, word_of}
 use Rattle.safl_term.specs.Sizes.{nodes}
 use Rattle.safl_term.specs.Standing.{Stands, StandsIn}
 use Rattle.safl_term.specs.Terms.{Term, Const, Var, Op, If, Let, Call, Loop, Terms, Nil, Cons}

@@ -1,3 +1,3 @@
 pub mod DrawsInOrder
 pub mod Lengths
-pub mod OneLineMore
+pub mod Pieces

@@ -349,15 +349,9 @@ pub shifting_is : (k : Known) (s : List Slot) (tail : Bool) (lo : ℕ) (m : Want
     → check k s tail lo m (Op p o es) ≡ after (check_shift k s lo p es) (λ r. settle p m r.width (terms.Op o r.terms))
 shifting_is k s tail lo m p o es e = operated_is k s tail lo m p o es Shifting e
 
-resizing_is : (k : Known) (s : List Slot) (tail : Bool) (lo : ℕ) (m : Wanted) (p : ℕ) (o : Primitive) (es : Expressions) → Resizing ≡ shape o
+pub resizing_is : (k : Known) (s : List Slot) (tail : Bool) (lo : ℕ) (m : Wanted) (p : ℕ) (o : Primitive) (es : Expressions) → Resizing ≡ shape o
     → check k s tail lo m (Op p o es) ≡ after (check_all k s lo (all_any es) es) (λ r. resized p m o (result_width o r.widths) r.terms)
 resizing_is k s tail lo m p o es e = operated_is k s tail lo m p o es Resizing e
-
-pub resizing_by : (k : Known) (s : List Slot) (tail : Bool) (lo : ℕ) (m : Wanted) (p : ℕ) (o : Primitive) (es : Expressions) (ms : List Wanted) → Resizing ≡ shape o
-    → ms ≡ all_any es → check k s tail lo m (Op p o es) ≡ after (check_all k s lo ms es) (λ r. resized p m o (result_width o r.widths) r.terms)
-resizing_by k s tail lo m p o es ms e q =
-    resizing_is k s tail lo m p o es e
-    ∙ ap (λ (l : List Wanted). after (check_all k s lo l es) (λ r. resized p m o (result_width o r.widths) r.terms)) (sym q)
 
 -- ---- calls
 

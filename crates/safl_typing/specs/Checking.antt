@@ -14,7 +14,7 @@ use Rattle.safl_typing.specs.Rewriting.{Expression, If, flexible, count, nodes}
 use Rattle.safl_typing.specs.Heads.{Known, sites}
 use Rattle.safl_typing.specs.Typing.{widths_of}
 use Rattle.safl_typing.specs.Ranges.{IsInRange}
-use Rattle.safl_typing.specs.Walk.{Typed, TypedAll, TypedAlike, fault_with, unless, needs, is_any, branches, exactly, check, check_all, check_alike}
+use Rattle.safl_typing.specs.Walk.{Typed, TypedAll, TypedAlike, fault_with, unless, needs, is_any, all_any, branches, exactly, check, check_all, check_alike}
 use Rattle.safl_typing.specs.Plain.{shown_expression, shown_expressions}
 use Rattle.safl_typing.specs.PlainHeads.{shown_head}
 use Rattle.safl_typing.specs.PlainContext.{seen}
@@ -61,6 +61,10 @@ AreWanted shifted es wanted = (k : Known) → AreMarked k es → map shown_wante
 -- what checking gives for expressions, each as it is wanted
 abbrev pub checked_all : Context → Scope → ℕ → List code_wanted.Wanted → List code.Expression → Result TypedAll Fault
 checked_all c s lo wanted es = check_all (seen c) (shown_scope s) lo (map shown_wanted wanted) (shown_expressions es)
+
+-- what checking gives for operands whose widths all have to be found
+abbrev pub checked_found : Context → Scope → ℕ → List code.Expression → Result TypedAll Fault
+checked_found c s lo es = check_all (seen c) (shown_scope s) lo (all_any (shown_expressions es)) (shown_expressions es)
 
 -- what checking gives for the arguments of a function, which must be as many as its parameters, each against its parameter's width
 abbrev pub counted_arguments : Context → Scope → ℕ → ℕ → code_head.Head → List code.Expression → Result TypedAll Fault

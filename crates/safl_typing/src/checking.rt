@@ -16,7 +16,7 @@ ghost use Rattle.safl_typing.specs.PlainScope.{shown_scope, HaveSlotsAfter};
 ghost use Rattle.safl_typing.specs.PlainTyped.{shown_wanted, HasWideWanted, Says, SaysAll, SaysAlike};
 ghost use Rattle.safl_typing.specs.Marks.{IsMarked, AreMarked, BoundMarked};
 ghost use Rattle.safl_typing.specs.MayWalk.{MayWalkAll, MayBind};
-ghost use Rattle.safl_typing.specs.Checking.{choice_between, MayCheckIn, MayCheckBoth, checked, checked_both, checked_alike, checked_all, counted_arguments};
+ghost use Rattle.safl_typing.specs.Checking.{choice_between, MayCheckIn, MayCheckBoth, checked, checked_both, checked_alike, checked_all, checked_found, counted_arguments};
 
 use crate::context::Context;
 use crate::expression::{Bound, Expression};
@@ -267,8 +267,7 @@ fn check_applied(
             settled_operation(place, position.wanted, typed.width, operator, typed.terms)
         }
         Shape::Resizing => {
-            let found = wanted_operands(context.alloc, None, operands)?;
-            let typed = check_all(context, scope, position.first_site, &found, operands)?;
+            let typed = check_found(context, scope, position.first_site, operands)?;
             match result_width(operator, &typed.widths) {
                 Some(width) => settled_operation(
                     place,
@@ -340,6 +339,23 @@ fn check_shift(
     let amounts = wanted_operands(context.alloc, Some(operand.width), rest)?;
     let others = check_all(context, scope, next, &amounts, rest)?;
     put_operand(operand.width, operand.term, others.terms)
+}
+
+// Checks operands whose widths all have to be found.
+#[cycle(walk)]
+fn check_found(
+    context: &Context,
+    scope: &Scope,
+    first_site: u32,
+    operands: &[Expression],
+) -> Result<TypedAll, CheckErr>
+    requires able { MayWalkAll context.now scope.now first_site operands.now }
+    requires marked { AreMarked (seen context.now) operands.now }
+    ensures says { SaysAll result (checked_found context.now scope.now first_site operands.now) }
+    ensures slots { IfOk result (λ t. HaveSlotsAfter scope.now t.terms.items) }
+{
+    let wanted = wanted_operands(context.alloc, None, operands)?;
+    check_all(context, scope, first_site, &wanted, operands)
 }
 
 // Checks expressions in order, each as it is wanted.

@@ -736,16 +736,29 @@ check_applied-check_shift-requires t c =
     let marked : AreMarked (known c.args.context.now.heads.now c.args.context.now.unit) c.args.operands.now = c.requires.marked in
     search rules
 
-pub check_applied-check_all-requires : goal.check_applied-check_all-requires
-check_applied-check_all-requires t c =
-    let smaller : 4 * nodes_in (shown_expressions c.args.operands.now) + 1 < 4 * nodes_in (shown_expressions c.args.operands.now) + 3 = omega arith in
+pub check_applied-check_found-requires : goal.check_applied-check_found-requires
+check_applied-check_found-requires t c =
+    let smaller : 4 * nodes_in (shown_expressions c.args.operands.now) + 2 < 4 * nodes_in (shown_expressions c.args.operands.now) + 3 = omega arith in
     let ok : MayCheckAll c.args.context.now.heads.now c.args.context.now.unit (shown_scope c.args.scope.now) c.args.position.first_site
     (shown_expressions c.args.operands.now) = walk.may_part c.args.context.now.heads.now (shown_scope c.args.scope.now) c.args.position.first_site
     _ _ c.args.position.first_site _ _ c.requires.able c.requires.able.range (omega (arith, c.requires.able.within)) (omega arith) in
     let marked : AreMarked (known c.args.context.now.heads.now c.args.context.now.unit) c.args.operands.now = c.requires.marked in
-    let each : AllByRecursion HasWideWanted c.deref.result.now = walk.operands_wide None (shown_expressions c.args.operands.now)
-    c.deref.result.now walk.none_wide (ap (map shown_wanted) c.deref.ensures.value ∙ c.in_ok-found.ensures (known c.args.context.now.heads.now c.args.context.now.unit) c.requires.marked) in
     search rules
+
+pub check_found-check_all-requires : goal.check_found-check_all-requires
+check_found-check_all-requires t c =
+    let smaller : 4 * nodes_in (shown_expressions c.args.operands.now) + 1 < 4 * nodes_in (shown_expressions c.args.operands.now) + 2 = omega arith in
+    let ok : MayCheckAll c.args.context.now.heads.now c.args.context.now.unit (shown_scope c.args.scope.now) c.args.first_site (shown_expressions c.args.operands.now) = c.requires.able in
+    let each : AllByRecursion HasWideWanted c.deref.result.now = walk.operands_wide None (shown_expressions c.args.operands.now) c.deref.result.now
+    walk.none_wide (ap (map shown_wanted) c.deref.ensures.value ∙ c.in_ok-wanted.ensures (known c.args.context.now.heads.now c.args.context.now.unit) c.requires.marked) in
+    let marked : AreMarked (known c.args.context.now.heads.now c.args.context.now.unit) c.args.operands.now = c.requires.marked in
+    search rules
+
+pub check_found-returns-clause-says : goal.check_found-returns-clause-says
+check_found-returns-clause-says t c =
+    subst (λ (l : List Wanted). SaysAll c.check_all.result (check_all (known c.args.context.now.heads.now c.args.context.now.unit)
+    (shown_scope c.args.scope.now) c.args.first_site l (shown_expressions c.args.operands.now))) (ap (map shown_wanted) c.deref.ensures.value
+    ∙ c.in_ok-wanted.ensures (known c.args.context.now.heads.now c.args.context.now.unit) c.requires.marked) c.check_all.ensures.says
 
 pub check_applied-returns-in_err-typed-in-Alike-clause-says : goal.check_applied-returns-in_err-typed-in-Alike-clause-says
 check_applied-returns-in_err-typed-in-Alike-clause-says t c =
@@ -798,34 +811,31 @@ pub check_applied-returns-in_err-typed-in-Resizing-clause-says : goal.check_appl
 check_applied-returns-in_err-typed-in-Resizing-clause-says t c =
     let p = err_from_is_err_and c.from_residual-in_err-typed-in-Resizing.result c.from_residual-in_err-typed-in-Resizing.ensures.1 in
     rw (p.1, p.2) (fails c.in_err-typed-in-Resizing.field-0.0 _ _ _
-    (walk.resizing_by (known c.args.context.now.heads.now c.args.context.now.unit) (shown_scope c.args.scope.now) c.args.position.tail
+    (walk.resizing_is (known c.args.context.now.heads.now c.args.context.now.unit) (shown_scope c.args.scope.now) c.args.position.tail
     c.args.position.first_site (shown_wanted c.args.position.wanted) c.args.place c.args.operator (shown_expressions c.args.operands.now)
-    (map shown_wanted c.deref.result.now) (sym (ap shown_shape c.in-Resizing.is) ∙ c.shape_of.ensures)
-    (ap (map shown_wanted) c.deref.ensures.value ∙ c.in_ok-found.ensures (known c.args.context.now.heads.now c.args.context.now.unit) c.requires.marked)) c.in_err-typed-in-Resizing.ensures.says)
+    (sym (ap shown_shape c.in-Resizing.is) ∙ c.shape_of.ensures)) c.in_err-typed-in-Resizing.ensures.says)
 
 pub check_applied-returns-in-Some-clause-says : goal.check_applied-returns-in-Some-clause-says
 check_applied-returns-in-Some-clause-says t c =
     subst (λ (z : Result Typed Fault). Says c.settled_operation-in-Some.result z)
     (sym (goes _ _ _ (shown_all_typed c.in_ok-typed-in-Resizing.typed)
-    (walk.resizing_by (known c.args.context.now.heads.now c.args.context.now.unit) (shown_scope c.args.scope.now) c.args.position.tail
+    (walk.resizing_is (known c.args.context.now.heads.now c.args.context.now.unit) (shown_scope c.args.scope.now) c.args.position.tail
     c.args.position.first_site (shown_wanted c.args.position.wanted) c.args.place c.args.operator (shown_expressions c.args.operands.now)
-    (map shown_wanted c.deref.result.now) (sym (ap shown_shape c.in-Resizing.is) ∙ c.shape_of.ensures)
-    (ap (map shown_wanted) c.deref.ensures.value ∙ c.in_ok-found.ensures (known c.args.context.now.heads.now c.args.context.now.unit) c.requires.marked)) c.in_ok-typed-in-Resizing.ensures.says ∙ ap
+    (sym (ap shown_shape c.in-Resizing.is) ∙ c.shape_of.ensures)) c.in_ok-typed-in-Resizing.ensures.says ∙ ap
     (λ (o : Option ℕ). resized c.args.place (shown_wanted c.args.position.wanted) c.args.operator o
     (shown_terms c.in_ok-typed-in-Resizing.typed.terms.items))
-    ((sym (c.result_width.ensures ∙ ap (λ (ws : List ℕ). result_width c.args.operator ws) c.deref-2.ensures.value)) ∙ c.in-Some.is)))
+    ((sym (c.result_width.ensures ∙ ap (λ (ws : List ℕ). result_width c.args.operator ws) c.deref.ensures.value)) ∙ c.in-Some.is)))
     c.settled_operation-in-Some.ensures.says
 
 pub check_applied-returns-in-None-clause-says : goal.check_applied-returns-in-None-clause-says
 check_applied-returns-in-None-clause-says t c =
     walk.refused_is c.refused.result _ _ c.refused.ensures (goes _ _ _ (shown_all_typed c.in_ok-typed-in-Resizing.typed)
-    (walk.resizing_by (known c.args.context.now.heads.now c.args.context.now.unit) (shown_scope c.args.scope.now) c.args.position.tail
+    (walk.resizing_is (known c.args.context.now.heads.now c.args.context.now.unit) (shown_scope c.args.scope.now) c.args.position.tail
     c.args.position.first_site (shown_wanted c.args.position.wanted) c.args.place c.args.operator (shown_expressions c.args.operands.now)
-    (map shown_wanted c.deref.result.now) (sym (ap shown_shape c.in-Resizing.is) ∙ c.shape_of.ensures)
-    (ap (map shown_wanted) c.deref.ensures.value ∙ c.in_ok-found.ensures (known c.args.context.now.heads.now c.args.context.now.unit) c.requires.marked)) c.in_ok-typed-in-Resizing.ensures.says ∙ ap
+    (sym (ap shown_shape c.in-Resizing.is) ∙ c.shape_of.ensures)) c.in_ok-typed-in-Resizing.ensures.says ∙ ap
     (λ (o : Option ℕ). resized c.args.place (shown_wanted c.args.position.wanted) c.args.operator o
     (shown_terms c.in_ok-typed-in-Resizing.typed.terms.items))
-    ((sym (c.result_width.ensures ∙ ap (λ (ws : List ℕ). result_width c.args.operator ws) c.deref-2.ensures.value)) ∙ c.in-None.is))
+    ((sym (c.result_width.ensures ∙ ap (λ (ws : List ℕ). result_width c.args.operator ws) c.deref.ensures.value)) ∙ c.in-None.is))
 
 pub check_called-get-head-requires : goal.check_called-get-head-requires
 check_called-get-head-requires t c =

@@ -27,6 +27,9 @@ decreases-check_alike l = 4 * nodes_in (shown_expressions l.operands.now) + 1
 abbrev pub decreases-check_shift : goal.decreases-check_shift
 decreases-check_shift l = 4 * nodes_in (shown_expressions l.operands.now) + 1
 
+abbrev pub decreases-check_found : goal.decreases-check_found
+decreases-check_found l = 4 * nodes_in (shown_expressions l.operands.now) + 2
+
 abbrev pub decreases-check_all : goal.decreases-check_all
 decreases-check_all l = 4 * nodes_in (shown_expressions l.expressions.now) + 1
 

@@ -1,3 +1,8 @@
+use Rattle.std.proofs.Common.{List, ap, ◌∙◌, arith}
+use Rattle.std.proofs.lemmas.List.{take_all}
+use Rattle.safl_typing.specs.declared.expression.Expression as code
+use Rattle.safl_typing.specs.Plain.{shown_expressions}
+use Rattle.safl_typing.specs.PlainTyped.{operands_wanted}
 use Rattle.safl_typing.proofs.WantedByOne.{operands_next}
 use Rattle.safl_typing.proofs.MarksOfParts.{marked_at}
 use Rattle.safl_typing.proofs.wanted.wanted_operands.Goals as goal
@@ -8,3 +13,9 @@ loop-operand-preserved c = λ k h.
     c.as_operand-wanted.result c.loop-operand-test.true c.operand-item.is (c.loop-operand.invariant k h) c.in_ok-push.ensures.items
     (c.is_flexible-flexible.ensures k (marked_at k c.args.operands.now c.loop-operand.operand-index c.operand-item.result h c.loop-operand-test.true c.operand-item.is))
     c.as_operand-wanted.ensures
+
+pub returns : goal.returns
+returns c = λ k h.
+    c.loop-operand.invariant k h
+    ∙ ap (λ (l : List code.Expression). operands_wanted c.args.shifted (shown_expressions l))
+    (take_all c.loop-operand.operand-index c.args.operands.now (omega (arith, c.loop-operand-test.false)))

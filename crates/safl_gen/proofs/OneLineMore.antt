@@ -1,2 +1,0 @@
--- One line more.
-use Rattle.std.proofs.Common.{[]}
