@@ -38,6 +38,11 @@ abbrev pub AllGrowAt : {P : Type 0} → (Moment → Relation) → Moment → Net
     → ShelfState → ShelfState → Type 0
 AllGrowAt R moment n frame names tell ps old new = FilesGrow (R moment) names (text_at moment n frame) tell ps old new
 
+-- a probe was told of a moment: it tells what the moment makes of it, and no write failed
+pub record WasTold (moment : Moment) (n : Netlist) (frame : Valuation) (p q : ProbeState) (old new : ShelfState) : Type 0 where
+  pub tells : Tells (state_at moment n frame p) q
+  pub quiet : new.write_faults ≡ old.write_faults
+
 -- all asked probes were told of a moment: their files grew by their texts, and no write failed; each tells what the moment makes
 -- of it; and where the files were there they are there afterwards
 pub record AllTold {P : Type 0} (moment : Moment) (n : Netlist) (frame : Valuation) (names : FileNames) (tell : P → ProbeState) (ps qs : List P)

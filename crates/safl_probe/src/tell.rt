@@ -7,7 +7,7 @@ ghost use Rattle.safl_probe.specs.Probing.{SameProbe, Tells};
 ghost use Rattle.safl_probe.specs.Asked.{asked};
 ghost use Rattle.safl_probe.specs.Moments.{CanTell, text_at, state_at};
 ghost use Rattle.safl_probe.specs.Growth.{Grown, GrownPart, IsThere, AllThere};
-ghost use Rattle.safl_probe.specs.Telling.{frame_in, AllCanTell, AllTold, ToldPart, GrowsAt};
+ghost use Rattle.safl_probe.specs.Telling.{WasTold, frame_in, AllCanTell, AllTold, ToldPart, GrowsAt};
 ghost use Rattle.safl_probe.specs.Stopping.{Blames, KeepsProbes};
 
 use crate::drive_err::{DriveErr, unprobed, unwritten};
@@ -53,11 +53,10 @@ pub(crate) fn tell_one<S: Shelf>(
     requires { CanTell moment (frame_in room.old) (state probe.old) }
     ensures grown { OnOk result (GrowsAt Grown moment net.now (frame_in room.old) name.now (state probe.old) (S.told shelf.old) (S.told shelf.new)) }
     ensures part { OnErr result (GrowsAt GrownPart moment net.now (frame_in room.old) name.now (state probe.old) (S.told shelf.old) (S.told shelf.new)) }
-    ensures tells { OnOk result (Tells (state_at moment net.now (frame_in room.old) (state probe.old)) (state probe.new)) }
+    ensures told { OnOk result (WasTold moment net.now (frame_in room.old) (state probe.old) (state probe.new) (S.told shelf.old) (S.told shelf.new)) }
     ensures same_probe { SameProbe (state probe.old) (state probe.new) }
     ensures same_frame { room.new.frame ≡ room.old.frame }
     ensures blames { IfErr result (λ why. Blames why place (state probe.old) (state probe.new) (S.told shelf.old) (S.told shelf.new)) }
-    ensures quiet { OnOk result ((S.told shelf.new).write_faults ≡ (S.told shelf.old).write_faults) }
     ensures reads { SameReads (S.told shelf.old) (S.told shelf.new) }
     ensures strays { IsThere moment name.now (S.told shelf.old).holds → UsesNoStray (S.told shelf.old) (S.told shelf.new) }
 {

@@ -14,7 +14,7 @@ ghost use Rattle.safl_probe.specs.declared.moment.Moment.TheVariants as moments;
 use crate::drive_err::DriveErr;
 use crate::probe::Probe;
 use crate::room::Room;
-use crate::show::show;
+use crate::show::{is_any_asked, show};
 use safl_io::Shelf;
 use safl_run::harness::{Harness, step};
 use safl_sim::{Done, Sim};
@@ -41,9 +41,10 @@ pub(crate) fn watch<S: Shelf>(
     ensures reads { SameReads (S.told shelf.old) (S.told shelf.new) }
     ensures strays { AllThere moments.End (asked files.now) (S.told shelf.old).holds → UsesNoStray (S.told shelf.old) (S.told shelf.new) }
 {
+    let is_asked = is_any_asked(files);
     'cycles: for cycle in 0..limit {
         let done = step(sim, harness, cycle);
-        show(sim, cycle, probes, files, shelf, room)?;
+        show(sim, cycle, is_asked, probes, files, shelf, room)?;
         if done.is_some() {
             return Ok(done);
         }

@@ -39,9 +39,9 @@ module _ {P : Type 0} (t : ℕ) (m n : Netlist) (u v : Valuation) (names : FileN
   part_of why h =
       subst (λ (l : Netlist). ToldPart (Frame t) l v names tell ps qs x y why) is (subst (λ (w : Valuation). ToldPart (Frame t) m w names tell ps qs x y why) e h)
 
-pub returns-then-not-is_any_asked-clause-shown : goal.returns-then-not-is_any_asked-clause-shown
-returns-then-not-is_any_asked-clause-shown g c =
-    let none = c.is_any_asked.ensures c.if-not-is_any_asked.true in
+pub returns-then-not-is_asked-clause-shown : goal.returns-then-not-is_asked-clause-shown
+returns-then-not-is_asked-clause-shown g c =
+    let none = c.requires.asked c.if-not-is_asked.true in
     record {
       grown = λ apart. none_grown (Grown (Frame c.args.cycle)) (asked c.args.files.now) _ _ none;
       quiet = refl;
@@ -81,7 +81,10 @@ returns-clause-part g c =
     c.net.ensures (ap (map (λ (w : Word). w.bits)) back ∙ c.fill.ensures.values)) c.tell_all.ensures.part
 
 pub fill-requires-clause-frame : goal.fill-requires-clause-frame
-fill-requires-clause-frame g c = subst (HasWidths c.args.sim.now.net) (sym c.deref_mut.ensures.value) c.requires.room
+fill-requires-clause-frame g c = subst (HasWidths c.args.sim.now.net) (sym c.deref_mut.ensures.value) c.requires.room.frame
+
+pub fill-requires-clause-values : goal.fill-requires-clause-values
+fill-requires-clause-values g c = c.requires.room.values
 
 pub returns-clause-room : goal.returns-clause-room
 returns-clause-room g c =

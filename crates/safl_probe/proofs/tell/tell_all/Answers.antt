@@ -108,12 +108,12 @@ probes-preserved g c =
           (record {
             told = more_told _ _ _ _ _ _ _ _ c.probes.i w.deref.result.now (get_or c.probes.probes c.probes.i w.index-probes-i.result)
                 w.tell_one.new.probe lt (ap (get_or c.probes.probes c.probes.i) w.index-probes-i.is) name
-                (tells_here c.args.moment c.args.net.now c.probes.room.frame c.args.room.now.frame c.probes.invariant.same_frame _ _ w.in_ok-tell_one.ensures.tells)
+                (tells_here c.args.moment c.args.net.now c.probes.room.frame c.args.room.now.frame c.probes.invariant.same_frame _ _ w.in_ok-tell_one.ensures.told.tells)
                 w.in_ok-tell_one.ensures.same_probe.kind w.in_ok-tell_one.ensures.same_probe.faults t;
             grown = λ apart. told_more (Grown c.args.moment) (asked c.args.files.now) _ c.probes.i w.deref.result.now _ _ _ _ apart name piece
                 (c.probes.invariant.grown apart) w.in_ok-tell_one.ensures.grown;
             same_frame = w.in_ok-tell_one.ensures.same_frame ∙ c.probes.invariant.same_frame;
-            quiet = w.in_ok-tell_one.ensures.quiet ∙ c.probes.invariant.quiet;
+            quiet = w.in_ok-tell_one.ensures.told.quiet ∙ c.probes.invariant.quiet;
             reads = reads_then _ _ _ c.probes.invariant.reads w.in_ok-tell_one.ensures.reads;
             strays = λ h. strays_more c.args.moment (asked c.args.files.now) c.probes.i w.deref.result.now _ _ _ _ _ name (c.probes.invariant.there h)
                 (c.probes.invariant.strays h) w.in_ok-tell_one.ensures.strays;

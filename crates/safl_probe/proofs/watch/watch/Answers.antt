@@ -157,4 +157,7 @@ show-requires-clause-can g c =
 pub show-requires-clause-room : goal.show-requires-clause-room
 show-requires-clause-room g c =
     let i = c.cycles.invariant in
-    subst (λ (m : Netlist). HasWidths m c.cycles.room.frame.items) (sym (c.step-done.ensures.net ∙ i.net)) i.room
+    record {
+      frame = subst (λ (m : Netlist). HasWidths m c.cycles.room.frame.items) (sym (c.step-done.ensures.net ∙ i.net)) i.room;
+      values = c.step-done.ensures.full;
+    }
