@@ -67,8 +67,7 @@ fn pass(env: &mut [Word], slots: usize, ts: &[Term], told: &mut Answer)
     pass(env, slots, rest, told);
 }
 
-// Adds one word. Its local stands apart, so that `pass` becomes a loop.
-#[inline(never)]
+// Adds one word.
 fn pass_one(env: &mut [Word], slots: usize, t: &Term, told: &mut Answer)
     requires can { CanCompute env.old slots (shown_term t.now) }
     requires room { HasRoom told.old 1 }
@@ -80,8 +79,7 @@ fn pass_one(env: &mut [Word], slots: usize, t: &Term, told: &mut Answer)
     told.add(word);
 }
 
-/// Writes what a primitive gives on these words. Its code stands here alone, and writes in place.
-#[inline(never)]
+/// Writes what a primitive gives on these words, in place.
 pub fn applied(p: &Primitive, operands: &[Word], word: &mut Word)
     requires { IsSome (result_width p.now (map (λ v. v.width) operands.now)) }
     ensures { word.new ≡ apply_prim p.now operands.now }

@@ -131,14 +131,14 @@ module _ {P : Type 0} (m : Option Command) (holds : Option Files) (ps qs : List 
   -- a line was sent
   line_attended : (s : Status) (line : List ℕ) (before after : SinkState) (end : Status) → is_end s ≡ false → (may_give s ≡ false → qs ≡ ps)
       → SendsLine s line before after end → Attended m holds ps qs ss ts end
-  line_attended s line before after _ no h (sent g) = record {
+  line_attended s line before after _ other h (sent g) = record {
     watched = λ e. elim e [
       | inl a ↦ absurd (let b : is_end s ≡ true = ap is_end a in cc)
       | inr a ↦ absurd (let b : is_end s ≡ true = ap is_end a in cc)
     ];
     alone = h;
   }
-  line_attended s line before after _ no h (cut g) = record {
+  line_attended s line before after _ other h (cut g) = record {
     watched = λ e. elim e [ inl a ↦ absurd (cc) | inr a ↦ absurd (cc) ];
     alone = λ e. absurd (cc);
   }

@@ -128,8 +128,8 @@ edge-requires-clause-room c =
           (builds_on (builds_on c.in_ok-shown.ensures.built c.in_ok-outcomes.ensures.built) (c.in_ok-goes.ensures.built)).count (omega (arith, f, s, m));
     }
 
-pub controls-requires-clause-room : goal.controls-requires-clause-room
-controls-requires-clause-room c =
+pub controls-requires : goal.controls-requires
+controls-requires c =
     let C = c.args.p.now.program in
     let P = c.args.p.now.choice in
     let pins = c.in_ok-declared.declared.pins in
@@ -139,12 +139,14 @@ controls-requires-clause-room c =
     let s = h.limits.sites in
     let m = h.limits.nodes in
     record {
-      tidy = c.in_ok-next.ensures.built.tidy;
-      room =
-          room_for c.args.p.now.checked h P c.in_ok-declared.declared.net c.edge.new.net
-          (((5 * C.sites + (33 * body_nodes C C.functions + 33 * C.functions)) + (5 * C.sites + 2)) + (64 * C.functions + 32 * C.sites + 32)) (1) d
-          (builds_on (builds_on (builds_on c.in_ok-shown.ensures.built c.in_ok-outcomes.ensures.built) (c.in_ok-goes.ensures.built))
-          (c.in_ok-next.ensures.built)).count (omega (arith, f, s, m));
+      room = record {
+        tidy = c.in_ok-next.ensures.built.tidy;
+        room =
+            room_for c.args.p.now.checked h P c.in_ok-declared.declared.net c.edge.new.net
+            (((5 * C.sites + (33 * body_nodes C C.functions + 33 * C.functions)) + (5 * C.sites + 2)) + (64 * C.functions + 32 * C.sites + 32)) (1) d
+            (builds_on (builds_on (builds_on c.in_ok-shown.ensures.built c.in_ok-outcomes.ensures.built) (c.in_ok-goes.ensures.built))
+            (c.in_ok-next.ensures.built)).count (omega (arith, f, s, m));
+      };
     }
 
 pub finish-requires-clause-room : goal.finish-requires-clause-room
