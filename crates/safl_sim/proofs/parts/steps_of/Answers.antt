@@ -4,7 +4,6 @@ use Rattle.safl_net.specs.Netlist.{Netlist}
 use Rattle.safl_net.specs.Making.{numbers}
 use Rattle.safl_order.specs.Order.{IsWire}
 use Rattle.safl_order.proofs.Moves.{wire_in_net}
-use Rattle.safl_sim.specs.declared.step.Near.{Near}
 use Rattle.safl_sim.specs.declared.step.Step.{Step}
 use Rattle.safl_sim.specs.Nears.{NearAt, NearOf}
 use Rattle.safl_sim.proofs.Builds.{StepsTo, numbers_at, steps_more}
@@ -36,26 +35,23 @@ near_of-near-requires-clause-ordered c = c.requires.lists.1.ordered (get_or c.ar
 pub step_of-requires-clause-wire : goal.step_of-requires-clause-wire
 step_of-requires-clause-wire c = c.requires.wires c.wires.i (get_or c.args.wires.now c.wires.i none).0 (numbers_at c.args.wires.now c.wires.i none c.wires-test.true)
 
--- the near readers of a step that is made with them
-near : (starts readers : List ℕ) (p i : ℕ) (s : Step) (g : Near) → s.wire.0 ≡ p → s.first ≡ g.first → s.end ≡ g.end → NearAt starts readers p (i / 64) g → NearOf starts readers i s g.mask
-near starts readers p i s g w f e is =
-    subst (λ x. NearAt starts readers x (i / 64) (record { mask = g.mask; first = s.first; end = s.end })) (sym w)
-    (subst (λ x. NearAt starts readers p (i / 64) (record { mask = g.mask; first = x; end = s.end })) (sym f)
-    (subst (λ x. NearAt starts readers p (i / 64) (record { mask = g.mask; first = g.first; end = x })) (sym e) is))
-
 pub wires-preserved : goal.wires-preserved
 wires-preserved c =
     let p = (get_or c.args.wires.now c.wires.i none).0 in
     let s = c.step_of.result in
-    let mask = c.near_of-near.result.mask in
+    let g = c.near_of-near.result in
+    let word = c.wires.i / 64 in
     let starts = c.args.starts.now in
     let readers = c.args.readers.now in
     let one = c.step_of.ensures.step in
+    let own : NearOf starts readers c.wires.i s g.mask =
+    (subst (λ x. NearAt starts readers x word (record { mask = g.mask; first = s.first; end = s.end })) (sym one.wire)
+    (subst (λ x. NearAt starts readers p word (record { mask = g.mask; first = x; end = s.end })) (sym c.step_of.ensures.first)
+    (subst (λ x. NearAt starts readers p word (record { mask = g.mask; first = g.first; end = x })) (sym c.step_of.ensures.end) c.near_of-near.ensures))) in
     record {
       steps = subst (λ (l : List Step). StepsTo c.args.net.now (numbers c.args.wires.now) l (c.wires.i + 1)) (sym c.in_ok-push.ensures.items)
           (steps_more c.args.net.now (numbers c.args.wires.now) c.wires.steps.items c.wires.i p s c.wires.invariant.steps (numbers_at c.args.wires.now c.wires.i none c.wires-test.true) one);
       near = subst (λ (l : List Step). NearsTo starts readers l c.push-in-wires.new.self.items (c.wires.i + 1)) (sym c.in_ok-push.ensures.items)
           (subst (λ (l : List ℕ). NearsTo starts readers (c.wires.steps.items ++ s ∷ []) l (c.wires.i + 1)) (sym c.in_ok-push-2.ensures.items)
-          (nears_more starts readers c.wires.steps.items c.wires.masks.items c.wires.i s mask c.wires.invariant.near c.wires.invariant.steps.long
-          (near starts readers p c.wires.i s c.near_of-near.result one.wire c.step_of.ensures.first c.step_of.ensures.end c.near_of-near.ensures)));
+          (nears_more starts readers c.wires.steps.items c.wires.masks.items c.wires.i s g.mask c.wires.invariant.near c.wires.invariant.steps.long own));
     }

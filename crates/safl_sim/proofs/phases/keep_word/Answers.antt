@@ -1,4 +1,4 @@
-use Rattle.std.proofs.Common.{◌≡◌, inl, inr, ◌+◌, ◌-◌, ◌*◌, ◌/◌, ◌<◌, ◌≤◌, ℕ, List, Some, length, get_or, slice_get, slice_index, refl, sym, ap, subst, ◌∙◌, arith, false}
+use Rattle.std.proofs.Common.{◌≡◌, inl, inr, ◌+◌, ◌-◌, ◌*◌, ◌/◌, ◌<◌, ◌≤◌, ℕ, Some, length, get_or, slice_get, slice_index, refl, sym, ap, subst, ◌∙◌, arith, false}
 use Rattle.std.proofs.lemmas.Option.{slice_get-get_or}
 use Rattle.std.proofs.lemmas.Bool.{cases_eq}
 use Rattle.std.proofs.lemmas.List.{length-set}
@@ -10,37 +10,55 @@ use Rattle.safl_sim.proofs.MarksByOne.{taken_after}
 use Rattle.safl_sim.proofs.Nearing.{joined, holding_all, no_marks}
 use Rattle.safl_sim.proofs.Placing.{placed_long, placed_set, next_once}
 use Rattle.safl_sim.proofs.Registers.{keeps_none, keeps_step, keeps_joined, joined_waits}
+use Rattle.safl_sim.proofs.phases.keep_word.Goals.{In-Some}
 use Rattle.safl_sim.proofs.phases.keep_word.Goals as goal
 
 abbrev none : Register
 none = record { signal = record { 0 = 0 }; next = record { 0 = 0 }; narrow = false }
 
--- all registers of the word wait
-joins : (marks waiting waiting' : List ℕ) (word first held : ℕ) → held ≡ slice_index marks word → waiting' ≡ joined waiting (word - first) held →
-    waiting' ≡ joined waiting (word - first) (slice_index marks word)
-joins marks waiting waiting' word first held e f = f ∙ ap (joined waiting (word - first)) e
+-- the registers are being kept, and all of the word that are marked wait
+keeping : (c : In-Some) → KeepsOn (c.args.first * 64) c.args.registers.now c.args.values.now c.registers.place c.requires.keeps.0 c.requires.keeps.1
+    (placed (length c.args.values.now) c.args.registers.now c.registers.state) (holding c.args.marks.now c.args.word c.registers.held) c.join.new.self
+keeping c =
+    let q = c.requires.keeps in
+    let regs = c.args.registers.now in
+    let values = c.args.values.now in
+    let waiting = c.args.waiting.now in
+    let at = c.args.word - c.args.first in
+    let now = placed (length values) regs c.args.state.now in
+    c.registers.invariant.keeps q.0 q.1 (subst (λ l. KeepsOn (c.args.first * 64) regs values (c.args.word * 64) q.0 q.1 now c.args.marks.now l)
+    (sym (c.join.ensures ∙ ap (joined waiting at) c.get-held.ensures))
+    (keeps_joined c.args.first regs values (c.args.word * 64) c.args.word q.0 q.1 now c.args.marks.now waiting c.requires.after q.2))
 
--- the register that is taken
-found : (first : ℕ) (regs : List Register) (values : List ℕ) (place word k i : ℕ) (start was now marks marks' waiting : List ℕ) → first + k ≡ i →
-    KeepsOn first regs values place start was now marks waiting → HasTaken marks marks' word i → k < length regs
-found first regs values place word k i start was now marks marks' waiting e w t = let a = w.within i t.was in omega (arith, a, e)
+-- the mark that is taken
+taken : (c : In-Some) → HasTaken (holding c.args.marks.now c.args.word c.registers.held) (holding c.args.marks.now c.args.word c.in-Some.taken.left) c.args.word
+    (c.args.word * 64 + c.in-Some.taken.bit)
+taken c = c.in-Some.ensures.some c.args.word c.args.marks.now c.requires.word
 
--- its number
-number : (first word bit : ℕ) → first ≤ word → first * 64 + ((word - first) * 64 + bit) ≡ word * 64 + bit
-number first word bit h = omega (arith, h)
+-- the number of the mark by that of its register
+number : (c : In-Some) → c.args.first * 64 + ((c.args.word - c.args.first) * 64 + c.in-Some.taken.bit) ≡ c.args.word * 64 + c.in-Some.taken.bit
+number c = let h = c.requires.after in omega (arith, h)
+
+-- it is the mark of a register
+found : (c : In-Some) → (c.args.word - c.args.first) * 64 + c.in-Some.taken.bit < length c.args.registers.now
+found c = let a = (keeping c).within (c.args.word * 64 + c.in-Some.taken.bit) (taken c).was in let e = number c in omega (arith, a, e)
 
 -- a turn leads past it
-past : (first : ℕ) (regs : List Register) (values : List ℕ) (place word i : ℕ) (start was now marks marks' waiting : List ℕ) → first ≤ word * 64 →
-    word * 64 ≤ place → KeepsOn first regs values place start was now marks waiting → HasTaken marks marks' word i → place ≤ i
-past first regs values place word i start was now marks marks' waiting early from w t = taken_after marks marks' first place word i w.below early from t
+past : (c : In-Some) → c.registers.place ≤ c.args.word * 64 + c.in-Some.taken.bit
+past c =
+    let early : c.args.first * 64 ≤ c.args.word * 64 = (let a = c.requires.after in omega (arith, a)) in
+    taken_after _ _ (c.args.first * 64) c.registers.place c.args.word _ (keeping c).below early c.registers.invariant.from (taken c)
 
--- what the others of the word are
-left : (marks marks' waiting : List ℕ) (first word i : ℕ) → HasTaken marks marks' word i → ((k : ℕ) → (first + k) / 64 ≡ word → marked marks (first + k) ≡ 1 → marked waiting k ≡ 1)
-    → (k : ℕ) → (first + k) / 64 ≡ word → marked marks' (first + k) ≡ 1 → marked waiting k ≡ 1
-left marks marks' waiting first word i t wait k q e = elim (cases_eq (first + k) i) [
-  | inl z ↦ absurd (let a = t.gone in let b = ap (marked marks') z in omega (arith, a, b, e))
-  | inr n ↦ wait k q (sym (t.others (first + k) n) ∙ e)
-]
+-- the others of the word that are marked wait
+left : (c : In-Some) → (k : ℕ) → (c.args.first * 64 + k) / 64 ≡ c.args.word → marked (holding c.args.marks.now c.args.word c.in-Some.taken.left) (c.args.first * 64 + k) ≡ 1
+    → marked c.join.new.self k ≡ 1
+left c k q e =
+    let i = c.args.word * 64 + c.in-Some.taken.bit in
+    let m = holding c.args.marks.now c.args.word c.in-Some.taken.left in
+    elim (cases_eq (c.args.first * 64 + k) i) [
+      | inl z ↦ absurd (let a = (taken c).gone in let b = ap (marked m) z in omega (arith, a, b, e))
+      | inr n ↦ c.registers.invariant.wait k q (sym ((taken c).others (c.args.first * 64 + k) n) ∙ e)
+    ]
 
 pub registers-init : goal.registers-init
 registers-init c =
@@ -49,7 +67,7 @@ registers-init c =
       from = omega arith;
       state = refl;
       wait = λ k at e.
-          subst (λ l. marked l k ≡ 1) (sym (joins c.args.marks.now c.args.waiting.now c.join.new.self c.args.word c.args.first c.get-held.result c.get-held.ensures c.join.ensures))
+          subst (λ l. marked l k ≡ 1) (sym (c.join.ensures ∙ ap (joined c.args.waiting.now (c.args.word - c.args.first)) c.get-held.ensures))
           (joined_waits c.args.first c.args.registers.now c.args.values.now (c.args.word * 64) c.args.word q.0 q.1
           (placed (length c.args.values.now) c.args.registers.now c.args.state.now) c.args.marks.now c.args.waiting.now c.requires.after q.2 c.requires.registers.room k at
           (ap (λ l. marked l (c.args.first * 64 + k)) (sym (holding_all c.args.marks.now c.args.word)) ∙ ap
@@ -62,64 +80,33 @@ registers-init c =
     }
 
 pub keep-requires-clause-known : goal.keep-requires-clause-known
-keep-requires-clause-known c =
-    let q = c.requires.keeps in
-    let early : c.args.first * 64 ≤ c.args.word * 64 = (let a = c.requires.after in omega (arith, a)) in
-    let t = c.in-Some.ensures.some c.args.word c.args.marks.now c.requires.word in
-    let w = c.registers.invariant.keeps q.0 q.1 (subst (λ l. KeepsOn (c.args.first * 64) c.args.registers.now c.args.values.now (c.args.word * 64) q.0
-    q.1 (placed (length c.args.values.now) c.args.registers.now c.args.state.now) c.args.marks.now l)
-    (sym (joins c.args.marks.now c.args.waiting.now c.join.new.self c.args.word c.args.first c.get-held.result c.get-held.ensures c.join.ensures))
-    (keeps_joined c.args.first c.args.registers.now c.args.values.now (c.args.word * 64) c.args.word q.0 q.1
-    (placed (length c.args.values.now) c.args.registers.now c.args.state.now) c.args.marks.now c.args.waiting.now c.requires.after q.2)) in
-    found (c.args.first * 64) c.args.registers.now c.args.values.now c.registers.place c.args.word
-    ((c.args.word - c.args.first) * 64 + c.in-Some.taken.bit) (c.args.word * 64 + c.in-Some.taken.bit) q.0 q.1
-    (placed (length c.args.values.now) c.args.registers.now c.registers.state) (holding c.args.marks.now c.args.word c.registers.held)
-    (holding c.args.marks.now c.args.word c.in-Some.taken.left) c.join.new.self (number c.args.first c.args.word c.in-Some.taken.bit c.requires.after) w t
+keep-requires-clause-known c = found (goal.at.keep-requires-clause-known c).In-Some
 
 pub registers-smaller : goal.registers-smaller
 registers-smaller c =
-    let q = c.requires.keeps in
-    let early : c.args.first * 64 ≤ c.args.word * 64 = (let a = c.requires.after in omega (arith, a)) in
-    let t = c.in-Some.ensures.some c.args.word c.args.marks.now c.requires.word in
-    let w = c.registers.invariant.keeps q.0 q.1 (subst (λ l. KeepsOn (c.args.first * 64) c.args.registers.now c.args.values.now (c.args.word * 64) q.0
-    q.1 (placed (length c.args.values.now) c.args.registers.now c.args.state.now) c.args.marks.now l)
-    (sym (joins c.args.marks.now c.args.waiting.now c.join.new.self c.args.word c.args.first c.get-held.result c.get-held.ensures c.join.ensures))
-    (keeps_joined c.args.first c.args.registers.now c.args.values.now (c.args.word * 64) c.args.word q.0 q.1
-    (placed (length c.args.values.now) c.args.registers.now c.args.state.now) c.args.marks.now c.args.waiting.now c.requires.after q.2)) in
-    let a = past (c.args.first * 64) c.args.registers.now c.args.values.now c.registers.place c.args.word (c.args.word * 64 + c.in-Some.taken.bit) q.0
-    q.1 (placed (length c.args.values.now) c.args.registers.now c.registers.state) (holding c.args.marks.now c.args.word c.registers.held)
-    (holding c.args.marks.now c.args.word c.in-Some.taken.left) c.join.new.self early c.registers.invariant.from w t in
-    let b = t.within in
+    let d = (goal.at.registers-smaller c).In-Some in
+    let a = past d in
+    let b = (taken d).within in
     omega (arith, a, b)
 
 pub registers-preserved : goal.registers-preserved
 registers-preserved c =
-    let q = c.requires.keeps in
+    let d = (goal.at.registers-preserved c).In-Some in
     let early : c.args.first * 64 ≤ c.args.word * 64 = (let a = c.requires.after in omega (arith, a)) in
-    let t = c.in-Some.ensures.some c.args.word c.args.marks.now c.requires.word in
-    let w = c.registers.invariant.keeps q.0 q.1 (subst (λ l. KeepsOn (c.args.first * 64) c.args.registers.now c.args.values.now (c.args.word * 64) q.0
-    q.1 (placed (length c.args.values.now) c.args.registers.now c.args.state.now) c.args.marks.now l)
-    (sym (joins c.args.marks.now c.args.waiting.now c.join.new.self c.args.word c.args.first c.get-held.result c.get-held.ensures c.join.ensures))
-    (keeps_joined c.args.first c.args.registers.now c.args.values.now (c.args.word * 64) c.args.word q.0 q.1
-    (placed (length c.args.values.now) c.args.registers.now c.args.state.now) c.args.marks.now c.args.waiting.now c.requires.after q.2)) in
-    let f = found (c.args.first * 64) c.args.registers.now c.args.values.now c.registers.place c.args.word
-    ((c.args.word - c.args.first) * 64 + c.in-Some.taken.bit) (c.args.word * 64 + c.in-Some.taken.bit) q.0 q.1
-    (placed (length c.args.values.now) c.args.registers.now c.registers.state) (holding c.args.marks.now c.args.word c.registers.held)
-    (holding c.args.marks.now c.args.word c.in-Some.taken.left) c.join.new.self (number c.args.first c.args.word c.in-Some.taken.bit c.requires.after) w t in
+    let t = taken d in
     let k = (c.args.word - c.args.first) * 64 + c.in-Some.taken.bit in
-    let e = number c.args.first c.args.word c.in-Some.taken.bit c.requires.after in
+    let e = number d in
     let r = get_or c.args.registers.now k none in
-    let here : slice_get c.args.registers.now k ≡ Some r = slice_get-get_or c.args.registers.now k none f in
+    let here : slice_get c.args.registers.now k ≡ Some r = slice_get-get_or c.args.registers.now k none (found d) in
     let long = c.registers.invariant.state ∙ c.requires.registers.states in
     let known : r.signal.0 < length (placed (length c.args.values.now) c.args.registers.now c.registers.state) =
     (let a = c.requires.registers.within k r here in let b = placed_long (length c.args.values.now) c.args.registers.now c.registers.state in omega (arith, a, b)) in
-    let taken = subst (λ i. HasTaken (holding c.args.marks.now c.args.word c.registers.held) (holding c.args.marks.now c.args.word c.in-Some.taken.left) c.args.word i) (sym e) t in
-    let waits : marked c.join.new.self k ≡ 1 = c.registers.invariant.wait k (let a = t.within in omega (arith, a, e)) taken.was in
+    let here_taken = subst (λ i. HasTaken (holding c.args.marks.now c.args.word c.registers.held) (holding c.args.marks.now c.args.word c.in-Some.taken.left) c.args.word i) (sym e) t in
+    let waits : marked c.join.new.self k ≡ 1 = c.registers.invariant.wait k (let a = t.within in omega (arith, a, e)) here_taken.was in
     record {
       from = (let a = t.within in omega (arith, a));
       state = (let a = c.registers.invariant.state in let b = c.keep.auto.state in omega (arith, a, b));
-      wait = left (holding c.args.marks.now c.args.word c.registers.held) (holding c.args.marks.now c.args.word c.in-Some.taken.left) c.join.new.self
-          (c.args.first * 64) c.args.word (c.args.word * 64 + c.in-Some.taken.bit) t c.registers.invariant.wait;
+      wait = left d;
       keeps = λ start was w.
           subst (λ i. KeepsOn (c.args.first * 64) c.args.registers.now c.args.values.now (i + 1) start was
           (placed (length c.args.values.now) c.args.registers.now c.keep.new.state) (holding c.args.marks.now c.args.word c.in-Some.taken.left) c.join.new.self) e
@@ -127,7 +114,7 @@ registers-preserved c =
           (placed (length c.args.values.now) c.args.registers.now c.registers.state)
           (placed (length c.args.values.now) c.args.registers.now c.keep.new.state) (holding c.args.marks.now c.args.word c.registers.held)
           (holding c.args.marks.now c.args.word c.in-Some.taken.left) c.join.new.self (c.registers.invariant.keeps start was w) early
-          c.registers.invariant.from taken here known (next_once c.args.registers.now c.requires.registers.once)
+          c.registers.invariant.from here_taken here known (next_once c.args.registers.now c.requires.registers.once)
           (ap (placed (length c.args.values.now) c.args.registers.now) (c.keep.ensures r here) ∙ placed_set (length c.args.values.now)
           c.args.registers.now c.registers.state k r (slice_index c.args.values.now r.next.0) c.requires.registers.once long here) waits);
     }
@@ -148,7 +135,7 @@ returns-clause-keeps c = λ start was w.
     (placed (length c.args.values.now) c.args.registers.now c.registers.state) (holding c.args.marks.now c.args.word h) c.join.new.self) c.in_default.ensures.none
     (c.registers.invariant.keeps start was (subst (λ l. KeepsOn (c.args.first * 64) c.args.registers.now c.args.values.now (c.args.word * 64) start
     was (placed (length c.args.values.now) c.args.registers.now c.args.state.now) c.args.marks.now l)
-    (sym (joins c.args.marks.now c.args.waiting.now c.join.new.self c.args.word c.args.first c.get-held.result c.get-held.ensures c.join.ensures))
+    (sym (c.join.ensures ∙ ap (joined c.args.waiting.now (c.args.word - c.args.first)) c.get-held.ensures))
     (keeps_joined c.args.first c.args.registers.now c.args.values.now (c.args.word * 64) c.args.word start was
     (placed (length c.args.values.now) c.args.registers.now c.args.state.now) c.args.marks.now c.args.waiting.now c.requires.after w))))
     c.registers.invariant.from (no_marks c.args.marks.now c.args.word c.requires.word))

@@ -8,9 +8,9 @@ use Rattle.safl_sim.proofs.Cycle.{reg_within, next_within, numbers_at, shown_low
 use Rattle.safl_sim.proofs.phases.proceed.Goals as goal
 
 -- the registers as a slice, and the places as many as the values
-kept_along : (regs regs' : List Register) (first count count' place : ℕ) (values start was numbers marks waiting : List ℕ) → regs ≡ regs' → count ≡ count'
+kept_along : {first place : ℕ} {values start was marks waiting : List ℕ} {regs regs' : List Register} {count count' : ℕ} (numbers : List ℕ) → regs ≡ regs' → count ≡ count'
     → KeepsOn first regs' values place start was (placed count' regs' numbers) marks waiting → KeepsOn first regs values place start was (placed count regs numbers) marks waiting
-kept_along regs regs' first count count' place values start was numbers marks waiting e f k =
+kept_along {first = first} {place = place} {values = values} {start = start} {was = was} {marks = marks} {waiting = waiting} {regs' = regs'} {count = count} numbers e f k =
     subst (λ (x : List Register). KeepsOn first x values place start was (placed count x numbers) marks waiting) (sym e)
     (subst (λ x. KeepsOn first regs' values place start was (placed x regs' numbers) marks waiting) (sym f) k)
 
@@ -82,8 +82,7 @@ keep_registers-requires-clause-keeps c =
     first at_first ran c.show_registers.ensures.none in (
       now,
       c.run_steps-count.new.marks,
-      kept_along c.as_slice-registers.result.now c.args.plan.now.registers.items first (length c.run_steps-count.new.values) (length o.net.signals) first
-          c.run_steps-count.new.values now c.run_steps-count.new.marks c.args.state.now c.run_steps-count.new.marks c.show_registers.new.waiting c.as_slice-registers.ensures.value ran.long start,
+      kept_along c.args.state.now c.as_slice-registers.ensures.value ran.long start,
     )
 
 pub returns : goal.returns
@@ -98,14 +97,11 @@ returns c = λ o words k has.
     c.run_steps-count.new.values c.run_steps-count.new.marks c.show_registers.new.waiting
     first at_first ran c.show_registers.ensures.none in
     let ends = c.keep_registers.ensures.keeps now c.run_steps-count.new.marks
-    (kept_along c.as_slice-registers.result.now c.args.plan.now.registers.items first (length c.run_steps-count.new.values) (length o.net.signals) first
-    c.run_steps-count.new.values now c.run_steps-count.new.marks c.args.state.now c.run_steps-count.new.marks c.show_registers.new.waiting c.as_slice-registers.ensures.value ran.long start) in
+    (kept_along c.args.state.now c.as_slice-registers.ensures.value ran.long start) in
     cycles o c.args.plan.now c.args.marks.now c.args.waiting.now c.args.state.now c.args.values.now k c.show_registers.new.values
     c.run_steps-count.new.values c.run_steps-count.new.marks c.keep_registers.new.marks
     c.keep_registers.new.waiting c.keep_registers.new.state first (c.show_registers.ensures.shown now) ran at_first
     (c.run_steps-count.ensures.long ∙ c.show_registers.ensures.count.marks) c.keep_registers.ensures.count.marks
     (c.keep_registers.ensures.count.waiting ∙ c.show_registers.ensures.count.waiting) c.keep_registers.auto.state
-    (kept_along c.args.plan.now.registers.items c.as_slice-registers.result.now first (length o.net.signals) (length c.run_steps-count.new.values) (length c.keep_registers.new.marks * 64)
-    c.run_steps-count.new.values now c.run_steps-count.new.marks c.keep_registers.new.state c.keep_registers.new.marks c.keep_registers.new.waiting
-    (sym c.as_slice-registers.ensures.value) (sym ran.long) ends)
+    (kept_along c.keep_registers.new.state (sym c.as_slice-registers.ensures.value) (sym ran.long) ends)
     words has
