@@ -1,23 +1,19 @@
-use Rattle.std.proofs.Common.{◌≡◌, ◌≢◌, ◌<◌, ◌+◌, ℕ, List, Some, length, true, false, inl, inr, slice_get, refl, sym, ap, subst, ◌∙◌, arith}
+use Rattle.std.proofs.Common.{◌≡◌, ℕ, List, true, false, inl, inr, slice_get, refl, sym, ap, ◌∙◌, arith}
 use Rattle.std.proofs.lemmas.Bool.{cases_eq}
 use Rattle.std.proofs.lemmas.Option.{slice_get_within}
-use Rattle.safl_net.specs.Netlist.{Netlist}
 use Rattle.safl_opt.proofs.Showing.{output_at}
 use Rattle.safl_opt.proofs.spare.is_shown.Goals as goal
 
-one_more : (n : Netlist) (i t s : ℕ) → (o : List ℕ × ℕ) × (slice_get n.outputs i ≡ Some o) × (t ≡ o.1) → (t ≢ s) →
-    ((k : ℕ) (o : List ℕ × ℕ) → k < i → slice_get n.outputs k ≡ Some o → o.1 ≢ s) → (k : ℕ) (o : List ℕ × ℕ) → k < i + 1 → slice_get n.outputs k ≡ Some o → o.1 ≢ s
-one_more n i t s at ne h k o lt e q = elim (cases_eq k i) [
-  | inl same ↦
-      let one : o ≡ at.0 = (let z = sym e ∙ ap (slice_get n.outputs) same ∙ at.1 in cc) in
-      ne (at.2 ∙ ap (λ (x : List ℕ × ℕ). x.1) (sym one) ∙ q)
-  | inr d ↦ h k o (omega (arith, lt, d)) e q
-]
-
 pub outputs-preserved : goal.outputs-preserved
-outputs-preserved c =
-    one_more c.args.n.now c.outputs.i c.output_sig-shown.result.0 c.args.s.0
-    (output_at c.args.n.now c.outputs.i c.output_sig-shown.result.0 c.output_sig-shown.ensures) c.if-shown-s.false c.outputs.invariant
+outputs-preserved c = λ k o lt e q.
+    let outputs = c.args.n.now.outputs in
+    let at = output_at c.args.n.now c.outputs.i c.output_sig-shown.result.0 c.output_sig-shown.ensures in
+    elim (cases_eq k c.outputs.i) [
+      | inl same ↦
+          let one : o ≡ at.0 = (let z = sym e ∙ ap (slice_get outputs) same ∙ at.1 in cc) in
+          c.if-shown-s.false (at.2 ∙ ap (λ (x : List ℕ × ℕ). x.1) (sym one) ∙ q)
+      | inr d ↦ c.outputs.invariant k o (omega (arith, lt, d)) e q
+    ]
 
 pub returns-then-shown-s : goal.returns-then-shown-s
 returns-then-shown-s c =
