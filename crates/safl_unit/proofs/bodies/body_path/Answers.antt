@@ -1,15 +1,8 @@
-use Rattle.std.proofs.Common.{◌≡◌, length, IfOk, Result, Ok, Err, Bool, true, false, not, ◌&&◌, ◌||◌, refl, sym, ap, ◌∙◌, arith}
-use Rattle.safl_sites.specs.Plan.{Choice}
+use Rattle.std.proofs.Common.{◌≡◌, length, Bool, true, false, not, ◌&&◌, ◌||◌, refl, sym, ap, ◌∙◌, arith}
 use Rattle.std.proofs.lemmas.Option.{slice_get_read}
-use Rattle.safl_term.specs.Program.{Program}
-use Rattle.safl_net.specs.declared.cell.Sig.{Sig}
-use Rattle.safl_net.specs.Netlist.{Netlist}
-use Rattle.safl_net.specs.Growth.{Val, Wired}
+use Rattle.std.proofs.lemmas.Result.{IfOk-weaker}
 use Rattle.safl_net.specs.Bits.{on}
-use Rattle.safl_circuit.specs.Equations.{many, path}
-use Rattle.safl_lower.specs.Sources.{Builds}
-use Rattle.safl_unit.specs.declared.pins.Pins.{Pins}
-use Rattle.safl_unit.specs.Cycles.{InEachCycle}
+use Rattle.safl_circuit.specs.Equations.{many}
 use Rattle.safl_unit.proofs.Keeping.{cycle_before}
 use Rattle.safl_unit.proofs.bodies.body_path.Goals as goal
 
@@ -19,14 +12,6 @@ alone false b m e = refl
 
 shared : (a b m : Bool) → m ≡ true → (a && b) ≡ (a && (not m || b))
 shared a b m e = ap (λ x. a && (not x || b)) (sym e)
-
-path_shown : {E : Type 0} (C : Program) (P : Choice) (n m : Netlist) (p : Pins) (f : _) (r : Result Sig E) (a b : Sig) → Builds n m 1 → many C f ≡
-    true → InEachCycle C P n p (λ v r i. on v a ≡ r.run (C.unit f)) → InEachCycle C P n p (λ v r i. on v b ≡ r.at f)
-    → IfOk r (λ s. (v : Val) → Wired m v → on v s ≡ (on v a && on v b)) → IfOk r (λ s. InEachCycle C P m p (λ v r i. on v s ≡ path C r f))
-path_shown C P n m p f (Ok s) a b g e x y h = λ v r i c.
-    let d = cycle_before g c in
-    h v c.wired ∙ ap (λ t. t && on v b) (x v r i d) ∙ ap (λ t. r.run (C.unit f) && t) (y v r i d) ∙ shared (r.run (C.unit f)) (r.at f) (many C f) e
-path_shown C P n m p f (Err q) a b g e x y h = tt
 
 pub returns-then-not-has_peers-clause-fits : goal.returns-then-not-has_peers-clause-fits
 returns-then-not-has_peers-clause-fits c =
@@ -69,5 +54,12 @@ returns-clause-shows c = λ P.
     let e = slice_get_read c.args.pins.now.bank.units.items (length c.args.pins.now.bank.units.items) c.args.f c.index.result.now refl (omega (arith, n, l)) c.index.ensures in
     let g = slice_get_read c.args.pins.now.bank.members.items (length c.args.pins.now.bank.members.items) c.args.f c.index-2.result.now refl (omega (arith, m, l)) c.index-2.ensures in
     let peers = sym c.has_peers.ensures ∙ c.if-not-has_peers.false in
-    path_shown _ P c.args.net.now c.both.new.net c.args.pins.now c.args.f c.both.result c.index.result.now.run c.index-2.result.now.at c.both.ensures.built peers
-    (λ v r i y. (y.bank.units c.args.f c.index.result.now e).run) (λ v r i y. (y.bank.members c.args.f c.index-2.result.now g).at peers) c.both.ensures.value
+    let C = c.args.c.now.program in
+    let f = c.args.f in
+    let second = c.index-2.result.now.at in
+    IfOk-weaker c.both.result _ _ (λ s h v r i now.
+    let before = cycle_before c.both.ensures.built now in
+    h v now.wired
+    ∙ ap (λ (t : Bool). t && on v second) (before.bank.units f c.index.result.now e).run
+    ∙ ap (λ (t : Bool). r.run (C.unit f) && t) ((before.bank.members f c.index-2.result.now g).at peers)
+    ∙ shared (r.run (C.unit f)) (r.at f) (many C f) peers) c.both.ensures.value

@@ -1,58 +1,63 @@
-use Rattle.std.proofs.Common.{◌≡◌, ℕ, ◌+◌, ◌*◌, ◌<◌, length, Option, Bool, Some, slice_get, slice_index_or, refl, ap, subst, ◌∙◌, arith}
+use Rattle.std.proofs.Common.{◌≡◌, ℕ, ◌+◌, ◌*◌, ◌<◌, length, Option, Bool, Some, slice_get, refl, ap, subst, ◌∙◌, arith}
 use Rattle.std.proofs.lemmas.Option.{slice_get_read}
 use Rattle.safl_term.specs.Checked.{CheckedProgram}
-use Rattle.safl_term.specs.Program.{Program, arity}
+use Rattle.safl_term.specs.Program.{arity}
 use Rattle.safl_net.specs.declared.cell.Sig.{Sig}
-use Rattle.safl_net.specs.Netlist.{Netlist}
 use Rattle.safl_circuit.specs.Equations.{many}
 use Rattle.safl_lower.specs.declared.loads.Load.{Load}
-use Rattle.safl_lower.specs.Sources.{Builds}
 use Rattle.safl_lower.specs.Tables.{load_in, sig_in, taken_in, on_in, FitsIn, IsBitIn}
 use Rattle.safl_lower.proofs.Building.{builds_same, builds_on, builds_within}
 use Rattle.safl_lower.proofs.KnownLoads.{maybe_load_kept, maybe_bit_kept}
 use Rattle.safl_lower.proofs.Cells.{sources_length}
-use Rattle.safl_unit.specs.declared.pins.MemberPins.{MemberPins}
-use Rattle.safl_unit.specs.declared.pins.Pins.{Pins}
-use Rattle.safl_unit.specs.declared.pins.Outcomes.{Outcomes}
-use Rattle.safl_unit.specs.declared.events.Events.{Events}
-use Rattle.safl_unit.specs.Cycles.{PinsFit, MemberFits}
-use Rattle.safl_unit.specs.Stages.{OutcomesFit}
-use Rattle.safl_unit.specs.Coming.{EventsFit}
+use Rattle.safl_unit.specs.Cycles.{MemberFits}
 use Rattle.safl_unit.specs.Steps.{MemberStep, MembersNext}
 use Rattle.safl_unit.proofs.Keeping.{member_kept}
 use Rattle.safl_unit.proofs.Stepping.{no_members, more_members}
+use Rattle.safl_unit.proofs.edge.next_members.Goals.{After-index-now}
 use Rattle.safl_unit.proofs.edge.next_members.Goals as goal
 
 -- the entries of a number
-record Entries (C : Program) (a b : Netlist) (p : Pins) (e : Events) (o : Outcomes) (f : ℕ) (entry rival : Option Sig) (load looped : Option Load) (x : MemberPins) : Type 0 where
-  at_entry : slice_get e.entries.items f ≡ Some entry
-  at_rival : slice_get e.rivals.items f ≡ Some rival
-  at_load : slice_get e.loads.items f ≡ Some load
-  at_loop : slice_get o.loops.items f ≡ Some looped
-  at : slice_get p.bank.members.items f ≡ Some x
-  entry_fits : IsBitIn b entry
-  rival_fits : IsBitIn b rival
-  load_fits : FitsIn b load (C.params f)
-  loop_fits : FitsIn b looped (C.params f)
-  fits : MemberFits b x (C.params f)
-  count : length x.args.items ≡ arity C f
+record Entries (c : After-index-now) : Type 0 where
+  at_entry : slice_get c.args.events.now.entries.items c.loop-f.f ≡ Some c.index-own.result.now
+  at_rival : slice_get c.args.events.now.rivals.items c.loop-f.f ≡ Some c.index-rival.result.now
+  at_load : slice_get c.args.events.now.loads.items c.loop-f.f ≡ Some c.index-load.result.now
+  at_loop : slice_get c.args.outcomes.now.loops.items c.loop-f.f ≡ Some c.index-looped.result.now
+  at : slice_get c.args.pins.now.bank.members.items c.loop-f.f ≡ Some c.index-now.result.now
+  entry_fits : IsBitIn c.loop-f.net c.index-own.result.now
+  rival_fits : IsBitIn c.loop-f.net c.index-rival.result.now
+  load_fits : FitsIn c.loop-f.net c.index-load.result.now (c.args.p.now.program.params c.loop-f.f)
+  loop_fits : FitsIn c.loop-f.net c.index-looped.result.now (c.args.p.now.program.params c.loop-f.f)
+  fits : MemberFits c.loop-f.net c.index-now.result.now (c.args.p.now.program.params c.loop-f.f)
+  count : length c.index-now.result.now.args.items ≡ arity c.args.p.now.program c.loop-f.f
 
-entries_at : (C : Program) (a b : Netlist) (k : ℕ) (p : Pins) (e : Events) (o : Outcomes) (f : ℕ) (entry rival : Option Sig)
-    (load looped : Option Load) (x : MemberPins) → Builds a b k → f < C.functions → PinsFit C a p → EventsFit C a e → OutcomesFit C a o
-    → entry ≡ slice_index_or e.entries.items f entry → rival ≡ slice_index_or e.rivals.items f rival → load ≡ slice_index_or e.loads.items f load →
-    looped ≡ slice_index_or o.loops.items f looped → x ≡ slice_index_or p.bank.members.items f x
-    → Entries C a b p e o f entry rival load looped x
-entries_at C a b k p e o f entry rival load looped x built l pf ef of q1 q2 q3 q4 q5 =
+entries_at : (c : After-index-now) → Entries c
+entries_at c =
+    let f = c.loop-f.f in
+    let params = c.args.p.now.program.params f in
+    let a = c.args.net.now in
+    let e = c.args.events.now in
+    let loops = c.args.outcomes.now.loops.items in
+    let members = c.args.pins.now.bank.members.items in
+    let entry = c.index-own.result.now in
+    let rival = c.index-rival.result.now in
+    let load = c.index-load.result.now in
+    let looped = c.index-looped.result.now in
+    let x = c.index-now.result.now in
+    let pf = c.requires.pins.bank in
+    let ef = c.requires.events in
+    let of = c.requires.outcomes in
+    let built = c.loop-f.invariant.built in
+    let l : f < c.args.p.now.program.functions = (let t = c.loop-f-test.true in let k = c.function_count-functions.ensures.count in omega (arith, t, k)) in
     let n1 = ef.entries_length in
     let n2 = ef.rivals_length in
     let n3 = ef.loads_length in
     let n4 = of.loops_length in
-    let n5 = pf.bank.members_length in
-    let g1 = slice_get_read e.entries.items (length e.entries.items) f entry refl (omega (arith, l, n1)) q1 in
-    let g2 = slice_get_read e.rivals.items (length e.rivals.items) f rival refl (omega (arith, l, n2)) q2 in
-    let g3 = slice_get_read e.loads.items (length e.loads.items) f load refl (omega (arith, l, n3)) q3 in
-    let g4 = slice_get_read o.loops.items (length o.loops.items) f looped refl (omega (arith, l, n4)) q4 in
-    let g5 = slice_get_read p.bank.members.items (length p.bank.members.items) f x refl (omega (arith, l, n5)) q5 in
+    let n5 = pf.members_length in
+    let g1 = slice_get_read e.entries.items (length e.entries.items) f entry refl (omega (arith, l, n1)) c.index-own.ensures in
+    let g2 = slice_get_read e.rivals.items (length e.rivals.items) f rival refl (omega (arith, l, n2)) c.index-rival.ensures in
+    let g3 = slice_get_read e.loads.items (length e.loads.items) f load refl (omega (arith, l, n3)) c.index-load.ensures in
+    let g4 = slice_get_read loops (length loops) f looped refl (omega (arith, l, n4)) c.index-looped.ensures in
+    let g5 = slice_get_read members (length members) f x refl (omega (arith, l, n5)) c.index-now.ensures in
     record {
       at_entry = g1;
       at_rival = g2;
@@ -61,10 +66,10 @@ entries_at C a b k p e o f entry rival load looped x built l pf ef of q1 q2 q3 q
       at = g5;
       entry_fits = maybe_bit_kept built entry (subst (λ (t : Option (Option Sig)). IsBitIn a (sig_in t)) g1 (ef.entries f));
       rival_fits = maybe_bit_kept built rival (subst (λ (t : Option (Option Sig)). IsBitIn a (sig_in t)) g2 (ef.rivals f));
-      load_fits = maybe_load_kept built load (C.params f) (subst (λ (t : Option (Option Load)). FitsIn a (load_in t) (C.params f)) g3 (ef.loads f));
-      loop_fits = maybe_load_kept built looped (C.params f) (subst (λ (t : Option (Option Load)). FitsIn a (load_in t) (C.params f)) g4 (of.loops f));
-      fits = member_kept built (pf.bank.members f x g5);
-      count = sources_length a x.args.items (C.params f) (pf.bank.members f x g5).args;
+      load_fits = maybe_load_kept built load params (subst (λ (t : Option (Option Load)). FitsIn a (load_in t) params) g3 (ef.loads f));
+      loop_fits = maybe_load_kept built looped params (subst (λ (t : Option (Option Load)). FitsIn a (load_in t) params) g4 (of.loops f));
+      fits = member_kept built (pf.members f x g5);
+      count = sources_length a x.args.items params (pf.members f x g5).args;
     }
 
 pub loop-f-init : goal.loop-f-init
@@ -78,43 +83,21 @@ loop-f-init c =
     }
 
 pub next_member-requires-clause-entry : goal.next_member-requires-clause-entry
-next_member-requires-clause-entry c =
-    let l = c.loop-f-test.true in
-    let k = c.function_count-functions.ensures.count in
-    (entries_at c.args.p.now.program c.args.net.now c.loop-f.net (35 * c.loop-f.f) c.args.pins.now c.args.events.now c.args.outcomes.now
-    c.loop-f.f c.index-own.result.now c.index-rival.result.now c.index-load.result.now c.index-looped.result.now
-    c.index-now.result.now c.loop-f.invariant.built (omega (arith, l, k)) c.requires.pins c.requires.events c.requires.outcomes c.index-own.ensures
-    c.index-rival.ensures c.index-load.ensures c.index-looped.ensures c.index-now.ensures).entry_fits
+next_member-requires-clause-entry c = (entries_at (goal.at.next_member-requires-clause-entry c).After-index-now).entry_fits
 
 pub next_member-requires-clause-rival : goal.next_member-requires-clause-rival
-next_member-requires-clause-rival c =
-    let l = c.loop-f-test.true in
-    let k = c.function_count-functions.ensures.count in
-    (entries_at c.args.p.now.program c.args.net.now c.loop-f.net (35 * c.loop-f.f) c.args.pins.now c.args.events.now c.args.outcomes.now
-    c.loop-f.f c.index-own.result.now c.index-rival.result.now c.index-load.result.now c.index-looped.result.now
-    c.index-now.result.now c.loop-f.invariant.built (omega (arith, l, k)) c.requires.pins c.requires.events c.requires.outcomes c.index-own.ensures
-    c.index-rival.ensures c.index-load.ensures c.index-looped.ensures c.index-now.ensures).rival_fits
+next_member-requires-clause-rival c = (entries_at (goal.at.next_member-requires-clause-rival c).After-index-now).rival_fits
 
 pub next_member-requires-clause-fits : goal.next_member-requires-clause-fits
 next_member-requires-clause-fits c =
-    let C = c.args.p.now.program in
-    let l = c.loop-f-test.true in
-    let k = c.function_count-functions.ensures.count in
-    let h = entries_at C c.args.net.now c.loop-f.net (35 * c.loop-f.f) c.args.pins.now c.args.events.now c.args.outcomes.now c.loop-f.f
-    c.index-own.result.now c.index-rival.result.now c.index-load.result.now c.index-looped.result.now
-    c.index-now.result.now c.loop-f.invariant.built (omega (arith, l, k)) c.requires.pins c.requires.events c.requires.outcomes c.index-own.ensures
-    c.index-rival.ensures c.index-load.ensures c.index-looped.ensures c.index-now.ensures in
-    (C.params c.loop-f.f, h.load_fits, h.loop_fits, h.fits)
+    let h = entries_at (goal.at.next_member-requires-clause-fits c).After-index-now in
+    (c.args.p.now.program.params c.loop-f.f, h.load_fits, h.loop_fits, h.fits)
 
 pub next_member-requires-clause-room : goal.next_member-requires-clause-room
 next_member-requires-clause-room c =
-    let C = c.args.p.now.program in
     let l = c.loop-f-test.true in
     let k = c.function_count-functions.ensures.count in
-    let h = (entries_at C c.args.net.now c.loop-f.net (35 * c.loop-f.f) c.args.pins.now c.args.events.now c.args.outcomes.now c.loop-f.f
-    c.index-own.result.now c.index-rival.result.now c.index-load.result.now c.index-looped.result.now
-    c.index-now.result.now c.loop-f.invariant.built (omega (arith, l, k)) c.requires.pins c.requires.events c.requires.outcomes c.index-own.ensures
-    c.index-rival.ensures c.index-load.ensures c.index-looped.ensures c.index-now.ensures).count in
+    let h = (entries_at (goal.at.next_member-requires-clause-room c).After-index-now).count in
     let a = c.function_count-functions.ensures.checked.limits.params c.loop-f.f in
     let b = c.loop-f.invariant.built.count in
     let r = c.requires.room.room in
@@ -124,13 +107,9 @@ pub loop-f-preserved : goal.loop-f-preserved
 loop-f-preserved c =
     let C = c.args.p.now.program in
     let f = c.loop-f.f in
-    let l = c.loop-f-test.true in
-    let k = c.function_count-functions.ensures.count in
     let e = c.args.events.now in
     let o = c.args.outcomes.now in
-    let h = entries_at C c.args.net.now c.loop-f.net (35 * f) c.args.pins.now e o f c.index-own.result.now c.index-rival.result.now c.index-load.result.now c.index-looped.result.now
-    c.index-now.result.now c.loop-f.invariant.built (omega (arith, l, k)) c.requires.pins c.requires.events c.requires.outcomes c.index-own.ensures
-    c.index-rival.ensures c.index-load.ensures c.index-looped.ensures c.index-now.ensures in
+    let h = entries_at (goal.at.loop-f-preserved c).After-index-now in
     let n = h.count in
     let a = c.function_count-functions.ensures.checked.limits.params f in
     let x = c.index-now.result.now in

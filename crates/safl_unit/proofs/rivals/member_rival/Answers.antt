@@ -1,9 +1,9 @@
-use Rattle.std.proofs.Common.{◌≡◌, List, [], ◌∷◌, length, Option, Some, None, Bool, true, false, ◌&&◌, Result, Ok, Err, IfOk, refl, sym, ap, subst, ◌∙◌, arith}
+use Rattle.std.proofs.Common.{◌≡◌, List, [], ◌∷◌, length, Option, Some, None, Bool, false, ◌&&◌, refl, sym, ap, subst, ◌∙◌, arith}
+use Rattle.std.proofs.lemmas.Result.{IfOk-weaker}
 use Rattle.safl_net.specs.declared.cell.Sig.{Sig}
 use Rattle.safl_net.specs.Netlist.{Netlist}
-use Rattle.safl_net.specs.Growth.{Val, Wired}
+use Rattle.safl_net.specs.Growth.{Val}
 use Rattle.safl_lower.specs.declared.trees.Several.{Several}
-use Rattle.safl_lower.specs.Tables.{on_in}
 use Rattle.safl_lower.specs.Joints.{IsSeveralOf, IsSeveralIn}
 use Rattle.safl_unit.specs.Edges.{others_on}
 use Rattle.safl_unit.proofs.rivals.member_rival.Goals as goal
@@ -18,11 +18,6 @@ no_bits : (v : Val) (row : List Sig) (own : Option Sig) → length row ≡ 0 →
 no_bits v [] own e = refl
 no_bits v (x ∷ row) own e = absurd (omega (arith, e))
 
-said : {E : Type 0} (n m : Netlist) (r : Result (Option Sig) E) (t : Bool) (row : List Sig) (own : Option Sig) → t ≡ true → IfOk r
-    (λ o. (v : Val) → Wired m v → on_in v o ≡ others_on v row own) → IfOk r (λ o. (v : Val) → Wired m v → on_in v o ≡ (t && others_on v row own))
-said n m (Ok o) t row own e h = λ v w. h v w ∙ ap (λ (b : Bool). b && others_on v row own) (sym e)
-said n m (Err x) t row own e h = tt
-
 pub returns-in-None-clause-value : goal.returns-in-None-clause-value
 returns-in-None-clause-value c = λ row h v w. no_bits v row c.args.own (none_there c.args.net.now row c.args.several.now c.in-None.is h) ∙ ap
     (λ (b : Bool). b && others_on v row c.args.own) (sym c.if-not-many.false)
@@ -31,5 +26,6 @@ pub several_rival-requires-clause-several : goal.several_rival-requires-clause-s
 several_rival-requires-clause-several c = let b = c.requires.several in (b.0, there c.args.net.now b.0 c.args.several.now c.in-Some.several c.in-Some.is b.1)
 
 pub returns-in-Some-clause-value : goal.returns-in-Some-clause-value
-returns-in-Some-clause-value c = λ row h. said c.args.net.now c.several_rival.new.net c.several_rival.result c.args.many row c.args.own
-    c.if-not-many.false (c.several_rival.ensures.value row (there c.args.net.now row c.args.several.now c.in-Some.several c.in-Some.is h))
+returns-in-Some-clause-value c = λ row h.
+    IfOk-weaker c.several_rival.result _ _ (λ o e v w. e v w ∙ ap (λ (b : Bool). b && others_on v row c.args.own) (sym c.if-not-many.false))
+    (c.several_rival.ensures.value row (there c.args.net.now row c.args.several.now c.in-Some.several c.in-Some.is h))
