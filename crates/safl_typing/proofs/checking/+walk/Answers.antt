@@ -303,13 +303,9 @@ check_choice-returns-clause-says t c =
 pub check_branches-check_expression-requires : goal.check_branches-check_expression-requires
 check_branches-check_expression-requires t c =
     let smaller : 4 * nodes (shown_expression c.args.both.second.now) < 4 * (nodes (shown_expression c.args.both.first.now) + nodes (shown_expression c.args.both.second.now)) + 1 = omega arith in
+    let next = c.add_sites-next.ensures (known c.args.context.now.heads.now c.args.context.now.unit) c.requires.marked.0 in
     let ok : MayCheck c.args.context.now.heads.now c.args.context.now.unit (shown_scope c.args.scope.now) c.add_sites-next.result (shown_expression c.args.both.second.now) = walk.may_part _ _ _ _
-    _ _ _ _ c.requires.able c.requires.able.range.1 (omega (
-      arith,
-      c.requires.able.within,
-      (c.add_sites-next.ensures (known c.args.context.now.heads.now c.args.context.now.unit)
-          c.requires.marked.0),
-    )) (omega arith) in
+    _ _ _ _ c.requires.able c.requires.able.range.1 (omega (arith, c.requires.able.within, next)) (omega arith) in
     let wide = c.requires.wanted in
     let first_marked : IsMarked (known c.args.context.now.heads.now c.args.context.now.unit) c.args.both.first.now = c.requires.marked.0 in
     let second_marked : IsMarked (known c.args.context.now.heads.now c.args.context.now.unit) c.args.both.second.now = c.requires.marked.1 in
@@ -367,13 +363,9 @@ check_branches-check_expression-requires-2 t c =
 pub check_branches-check_expression-requires-3 : goal.check_branches-check_expression-requires-3
 check_branches-check_expression-requires-3 t c =
     let smaller : 4 * nodes (shown_expression c.args.both.second.now) < 4 * (nodes (shown_expression c.args.both.first.now) + nodes (shown_expression c.args.both.second.now)) + 1 = omega arith in
+    let next = c.add_sites-next.ensures (known c.args.context.now.heads.now c.args.context.now.unit) c.requires.marked.0 in
     let ok : MayCheck c.args.context.now.heads.now c.args.context.now.unit (shown_scope c.args.scope.now) c.add_sites-next.result (shown_expression c.args.both.second.now) = walk.may_part _ _ _ _
-    _ _ _ _ c.requires.able c.requires.able.range.1 (omega (
-      arith,
-      c.requires.able.within,
-      (c.add_sites-next.ensures (known c.args.context.now.heads.now c.args.context.now.unit)
-          c.requires.marked.0),
-    )) (omega arith) in
+    _ _ _ _ c.requires.able c.requires.able.range.1 (omega (arith, c.requires.able.within, next)) (omega arith) in
     let wide : HasWidthOfWord c.in_ok-first-2.first.width = walk.found_wide _ _ _ _ _ _ _ _ (walk.may_part _ _ _ _ _ _ _ _ c.requires.able c.requires.able.range.0
     (omega (arith, c.requires.able.within)) (omega arith)) c.requires.wanted c.in_ok-first-2.ensures.says in
     let first_marked : IsMarked (known c.args.context.now.heads.now c.args.context.now.unit) c.args.both.first.now = c.requires.marked.0 in
@@ -710,15 +702,13 @@ check_expression-returns-in-If-clause-says t c =
 
 pub check_expression-check_binding-requires : goal.check_expression-check_binding-requires
 check_expression-check_binding-requires t c =
-    let smaller : 4 * (nodes_bound (shown_bindings c.deref-in-Let.result.now) + nodes (shown_expression c.deref-in-Let-2.result.now)) + 3 < 4 * nodes (shown_expression c.args.e.now) = omega (
-      arith,
-      ap nodes (walk.binding_same _ _ _ _ _ _ (ap shown_expression c.in-Let.is ∙ shown_expression-Let c.in-Let.place c.in-Let.field-1 c.in-Let.bound c.in-Let.body)
-          c.deref-in-Let.ensures.value c.deref-in-Let-2.ensures),
-    ) in
+    let same = walk.binding_same _ _ _ _ _ _ (ap shown_expression c.in-Let.is ∙ shown_expression-Let c.in-Let.place c.in-Let.field-1 c.in-Let.bound c.in-Let.body) c.deref-in-Let.ensures.value
+    c.deref-in-Let-2.ensures in
+    let smaller : 4 * (nodes_bound (shown_bindings c.deref-in-Let.result.now) + nodes (shown_expression c.deref-in-Let-2.result.now)) + 3 < 4 * nodes (shown_expression c.args.e.now) = omega
+    (arith, ap nodes same) in
     let ok : MayCheck c.args.context.now.heads.now c.args.context.now.unit (shown_scope c.args.scope.now) c.args.first_site (Let c.in-Let.place (shown_bindings c.deref-in-Let.result.now)
     (shown_expression c.deref-in-Let-2.result.now)) = subst (λ (x : Expression). MayCheck c.args.context.now.heads.now c.args.context.now.unit (shown_scope c.args.scope.now) c.args.first_site x)
-    (walk.binding_same _ _ _ _ _ _ (ap shown_expression c.in-Let.is ∙ shown_expression-Let c.in-Let.place c.in-Let.field-1 c.in-Let.bound c.in-Let.body) c.deref-in-Let.ensures.value
-    c.deref-in-Let-2.ensures) c.requires.able in
+    same c.requires.able in
     let wide = c.requires.wanted in
     let marked : BoundMarked (known c.args.context.now.heads.now c.args.context.now.unit) c.deref-in-Let.result.now × IsMarked (known c.args.context.now.heads.now c.args.context.now.unit)
     c.deref-in-Let-2.result.now = marks.in_binding (known c.args.context.now.heads.now c.args.context.now.unit) c.args.e.now c.requires.marked c.in-Let.place c.in-Let.field-1 c.in-Let.bound
@@ -733,15 +723,12 @@ check_expression-returns-in-Let-clause-says t c =
 
 pub check_expression-check_applied-requires : goal.check_expression-check_applied-requires
 check_expression-check_applied-requires t c =
-    let smaller : 4 * nodes_in (shown_expressions c.deref-in-Op.result.now) + 3 < 4 * nodes (shown_expression c.args.e.now) = omega (
-      arith,
-      ap nodes (ap shown_expression c.in-Op.is ∙ shown_expression-Op c.in-Op.place c.in-Op.field-1 c.in-Op.operator c.in-Op.operands ∙ sym
-          (ap (λ (l : List code.Expression). Op c.in-Op.place c.in-Op.operator (shown_expressions l)) c.deref-in-Op.ensures.value)),
-    ) in
+    let same = ap shown_expression c.in-Op.is ∙ shown_expression-Op c.in-Op.place c.in-Op.field-1 c.in-Op.operator c.in-Op.operands ∙ sym (ap (λ (l : List code.Expression). Op c.in-Op.place
+    c.in-Op.operator (shown_expressions l)) c.deref-in-Op.ensures.value) in
+    let smaller : 4 * nodes_in (shown_expressions c.deref-in-Op.result.now) + 3 < 4 * nodes (shown_expression c.args.e.now) = omega (arith, ap nodes same) in
     let ok : MayCheck c.args.context.now.heads.now c.args.context.now.unit (shown_scope c.args.scope.now) c.args.first_site (Op c.in-Op.place c.in-Op.operator
     (shown_expressions c.deref-in-Op.result.now)) = subst (λ (x : Expression). MayCheck c.args.context.now.heads.now c.args.context.now.unit (shown_scope c.args.scope.now) c.args.first_site x)
-    (ap shown_expression c.in-Op.is ∙ shown_expression-Op c.in-Op.place c.in-Op.field-1 c.in-Op.operator c.in-Op.operands ∙ sym (ap (λ (l : List code.Expression). Op c.in-Op.place
-    c.in-Op.operator (shown_expressions l)) c.deref-in-Op.ensures.value)) c.requires.able in
+    same c.requires.able in
     let wide = c.requires.wanted in
     let marked : AreMarked (known c.args.context.now.heads.now c.args.context.now.unit) c.deref-in-Op.result.now = marks.in_applied (known c.args.context.now.heads.now c.args.context.now.unit)
     c.args.e.now c.requires.marked c.in-Op.place c.in-Op.field-1 c.in-Op.operator c.in-Op.operands _ c.in-Op.is c.deref-in-Op.ensures.value in
@@ -755,16 +742,12 @@ check_expression-returns-in-Op-clause-says t c =
 
 pub check_expression-check_called-requires : goal.check_expression-check_called-requires
 check_expression-check_called-requires t c =
-    let smaller : 4 * nodes_in (shown_expressions c.deref-in-Call.result.now) + 3 < 4 * nodes (shown_expression c.args.e.now) = omega (
-      arith,
-      ap nodes (ap shown_expression c.in-Call.is ∙
-          shown_expression-Call c.in-Call.place c.in-Call.field-1 c.in-Call.name c.in-Call.arguments ∙ sym (ap (λ (l : List code.Expression). Call c.in-Call.place c.in-Call.name (shown_expressions l))
-          c.deref-in-Call.ensures.value)),
-    ) in
+    let same = ap shown_expression c.in-Call.is ∙ shown_expression-Call c.in-Call.place c.in-Call.field-1 c.in-Call.name c.in-Call.arguments ∙ sym
+    (ap (λ (l : List code.Expression). Call c.in-Call.place c.in-Call.name (shown_expressions l)) c.deref-in-Call.ensures.value) in
+    let smaller : 4 * nodes_in (shown_expressions c.deref-in-Call.result.now) + 3 < 4 * nodes (shown_expression c.args.e.now) = omega (arith, ap nodes same) in
     let ok : MayCheck c.args.context.now.heads.now c.args.context.now.unit (shown_scope c.args.scope.now) c.args.first_site (Call c.in-Call.place c.in-Call.name
     (shown_expressions c.deref-in-Call.result.now)) = subst (λ (x : Expression). MayCheck c.args.context.now.heads.now c.args.context.now.unit (shown_scope c.args.scope.now) c.args.first_site x)
-    (ap shown_expression c.in-Call.is ∙ shown_expression-Call c.in-Call.place c.in-Call.field-1 c.in-Call.name c.in-Call.arguments ∙ sym (ap (λ (l : List code.Expression). Call c.in-Call.place
-    c.in-Call.name (shown_expressions l)) c.deref-in-Call.ensures.value)) c.requires.able in
+    same c.requires.able in
     let wide = c.requires.wanted in
     let marked : AreMarked (known c.args.context.now.heads.now c.args.context.now.unit) c.deref-in-Call.result.now = marks.in_called (known c.args.context.now.heads.now c.args.context.now.unit)
     c.args.e.now c.requires.marked c.in-Call.place c.in-Call.field-1 c.in-Call.name c.in-Call.arguments _ c.in-Call.is c.deref-in-Call.ensures.value in
