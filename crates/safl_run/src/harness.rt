@@ -49,6 +49,19 @@ pub fn call(sim: &mut Sim, harness: &mut Harness, args: &[Word], limit: u64) -> 
     ensures harness { IsHarness sim.old.net harness.new }
 {
     take_arguments(harness, sim.net(), args);
+    run_called(sim, harness, limit)
+}
+
+/// Runs the call whose words the harness has. The result is that of the first cycle in which `done` is 1, or None if
+/// `done` is 0 in all cycles below `limit`.
+// Never inlined: the loop's variables stay in registers, which they do not in a large caller.
+#[inline(never)]
+pub fn run_called(sim: &mut Sim, harness: &Harness, limit: u64) -> Option<Done>
+    requires { (args : List Word) × IsCalled sim.old.net args harness.now }
+    ensures answers { (args : List Word) → IsCalled sim.old.net args harness.now
+        → Answers sim.old.net limit (slice_index sim.old.state) args result (slice_index sim.new.state) }
+    ensures net { sim.new.net ≡ sim.old.net }
+{
     'cycles: for cycle in 0..limit {
         let done = step(sim, harness, cycle);
         if done.is_some() {
@@ -88,7 +101,8 @@ pub fn step(sim: &mut Sim, harness: &Harness, cycle: u64) -> Option<Done>
     }
 }
 
-// Ticks with the words of a cycle. From cycle 2 on the inputs have their words already.
+// Ticks with the words of a cycle. From cycle 2 on the inputs have their words already; that is tested first, since most
+// cycles are such ones.
 #[inline(always)]
 fn tick(sim: &mut Sim, cycle: u64, first: &[Word], later: &[Word])
     requires first { AreInputs sim.old.net first.now }
@@ -96,9 +110,11 @@ fn tick(sim: &mut Sim, cycle: u64, first: &[Word], later: &[Word])
     requires given { 1 < cycle → HasWords sim.old.net sim.old.values later.now }
     ensures { Ticks sim.old sim.new (words_of cycle first.now later.now) }
 {
-    match cycle {
-        0 => sim.tick(first),
-        1 => sim.tick(later),
-        _ => sim.tick_again(),
+    if cycle > 1 {
+        sim.tick_again();
+    } else if cycle == 1 {
+        sim.tick(later);
+    } else {
+        sim.tick(first);
     }
 }
