@@ -5,7 +5,7 @@ use Rattle.safl_io.specs.Shelf.{Files, file_of}
 use Rattle.safl_net.specs.Valuations.{Valuation}
 use Rattle.safl_probe.specs.Probing.{ProbeState, Tells, after_frame, cycle_text}
 use Rattle.safl_probe.specs.Calls.{cycle_texts}
-use Rattle.safl_probe.specs.Asked.{Asked, IsAsked, AreApart, probe_at}
+use Rattle.safl_probe.specs.Asked.{Asked, IsAsked, NoneAsked, AreApart, probe_at}
 use Rattle.safl_probe.specs.Growth.{AllGrow, Longer, LongerPart, Grown, GrownPart, AllThere, NowThere}
 use Rattle.safl_probe.specs.Stopping.{SameProbes, KeepsProbes}
 use Rattle.safl_probe.specs.Rounds.{Shown}
@@ -44,6 +44,15 @@ module _ (names : Asked) (ps : List ProbeState) where
   shown_none x = record {
     told = λ i name k. refl;
     files = λ apart. told_same (AllGrow Longer names (λ i. [])) (λ a. record { files = λ i name k. longer_same (file_of a name) (file_of a name) refl; others = λ name no. refl }) x x refl;
+    there = λ h. there_now names x h;
+  }
+
+  -- if no probe is asked, all cycles are shown to all asked ones
+  pub shown_unasked : NoneAsked names → (fs : List Valuation) (x : Option Files) → Shown fs names ps ps x x
+  shown_unasked none fs x = record {
+    told = λ i name k. absurd (none name i k);
+    files = λ apart.
+        told_same (AllGrow Longer names (λ i. cycle_texts fs (probe_at ps i))) (λ a. record { files = λ i name k. absurd (none name i k); others = λ name no. refl }) x x refl;
     there = λ h. there_now names x h;
   }
 

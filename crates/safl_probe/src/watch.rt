@@ -1,9 +1,9 @@
 //! The loop of a run that probes watch.
 
-ghost use Rattle.std.specs.Prelude.{◌≡◌, List, IfOk, IfErr};
+ghost use Rattle.std.specs.Prelude.{◌≡◌, List, false, IfOk, IfErr};
 ghost use Rattle.safl_io.specs.Shelf.{SameReads, UsesNoStray};
 ghost use Rattle.safl_probe.specs.Rooms.{HasWidths};
-ghost use Rattle.safl_probe.specs.Asked.{asked};
+ghost use Rattle.safl_probe.specs.Asked.{NoneAsked, asked};
 ghost use Rattle.safl_probe.specs.Growth.{AllThere};
 ghost use Rattle.safl_probe.specs.Stopping.{KeepsProbes};
 ghost use Rattle.safl_word.specs.Words.{Word};
@@ -14,9 +14,9 @@ ghost use Rattle.safl_probe.specs.declared.moment.Moment.TheVariants as moments;
 use crate::drive_err::DriveErr;
 use crate::probe::Probe;
 use crate::room::Room;
-use crate::show::{is_any_asked, show};
+use crate::show::show;
 use safl_io::Shelf;
-use safl_run::harness::{Harness, step};
+use safl_run::harness::{Harness, run_called, step};
 use safl_sim::{Done, Sim};
 
 /// Ticks until `done` is 1, at most `limit` times, and shows each cycle to the asked probes.
@@ -41,13 +41,27 @@ pub(crate) fn watch<S: Shelf>(
     ensures reads { SameReads (S.told shelf.old) (S.told shelf.new) }
     ensures strays { AllThere moments.End (asked files.now) (S.told shelf.old).holds → UsesNoStray (S.told shelf.old) (S.told shelf.new) }
 {
-    let is_asked = is_any_asked(files);
+    if !is_any_asked(files) {
+        return Ok(run_called(sim, harness, limit));
+    }
     'cycles: for cycle in 0..limit {
         let done = step(sim, harness, cycle);
-        show(sim, cycle, is_asked, probes, files, shelf, room)?;
+        show(sim, cycle, probes, files, shelf, room)?;
         if done.is_some() {
             return Ok(done);
         }
     }
     Ok(None)
+}
+
+// Whether any probe is asked.
+fn is_any_asked(files: &[Option<String>]) -> bool
+    ensures { result ≡ false → NoneAsked (asked files.now) }
+{
+    for file in files {
+        if file.is_some() {
+            return true;
+        }
+    }
+    false
 }

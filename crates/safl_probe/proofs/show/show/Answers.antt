@@ -1,31 +1,23 @@
-use Rattle.std.proofs.Common.{◌≡◌, ℕ, List, ◌++◌, map, take, drop, length, Vec, Global, Option, refl, sym, ap, subst, ◌∙◌, arith}
+use Rattle.std.proofs.Common.{◌≡◌, ℕ, List, ◌++◌, map, take, drop, length, Vec, Global, sym, ap, subst, ◌∙◌, arith}
 use Rattle.std.proofs.lemmas.List.{append-nil, take_all, drop_all}
 use Rattle.std.proofs.lemmas.Result.{IfErr-weaker, on_ok_weaker}
 use Rattle.safl_word.specs.Words.{Word}
-use Rattle.safl_io.specs.Told.{TellsOn}
-use Rattle.safl_io.specs.Shelf.{Files, ShelfState}
+use Rattle.safl_io.specs.Shelf.{ShelfState}
 use Rattle.safl_net.specs.Netlist.{Netlist}
 use Rattle.safl_net.specs.Valuations.{Valuation}
-use Rattle.safl_probe.specs.Texts.{Text}
 use Rattle.safl_probe.specs.Probing.{ProbeState}
 use Rattle.safl_probe.specs.Rooms.{HasWidths}
-use Rattle.safl_probe.specs.Asked.{Asked, FileNames, NoneAsked, asked, probe_at}
+use Rattle.safl_probe.specs.Asked.{FileNames, probe_at}
 use Rattle.safl_probe.specs.Moments.{CanTell}
-use Rattle.safl_probe.specs.Growth.{AllGrow, Grown, Relation}
 use Rattle.safl_probe.specs.Telling.{AllTold, ToldPart}
 use Rattle.safl_probe.specs.declared.drive_err.DriveErr.{DriveErr}
 use Rattle.safl_probe.specs.declared.moment.Moment.TheVariants.{Frame}
-use Rattle.safl_probe.proofs.Growing.{told_same}
-use Rattle.safl_probe.proofs.Rounds.{there_now}
 use Rattle.safl_probe.proofs.show.show.Goals as goal
 
 -- a slice of all words was filled
 back_is : (len : ℕ) (f items : List Word) → length f ≡ length items → length items ≡ len → take len (f ++ drop (length f) items) ≡ f
 back_is len f items e g =
     ap (λ r. take len (f ++ r)) (drop_all (length f) items (omega (arith, e))) ∙ ap (take len) (append-nil f) ∙ take_all len f (omega (arith, e, g))
-
-none_grown : (R : Relation) (names : Asked) (text : ℕ → Text) (x : Option Files) → NoneAsked names → TellsOn (AllGrow R names text) x x
-none_grown R names text x none = told_same (AllGrow R names text) (λ a. record { files = λ i name k. absurd (none name i k); others = λ name free. refl }) x x refl
 
 can_show : (t : ℕ) (u v : Valuation) (s : ProbeState) → u ≡ v → CanTell (Frame t) v s → CanTell (Frame t) u s
 can_show t u v s e h = subst (λ (w : Valuation). CanTell (Frame t) w s) (sym e) h
@@ -38,16 +30,6 @@ module _ {P : Type 0} (t : ℕ) (m n : Netlist) (u v : Valuation) (names : FileN
   part_of : (why : DriveErr) → ToldPart (Frame t) m u names tell ps qs x y why → ToldPart (Frame t) n v names tell ps qs x y why
   part_of why h =
       subst (λ (l : Netlist). ToldPart (Frame t) l v names tell ps qs x y why) is (subst (λ (w : Valuation). ToldPart (Frame t) m w names tell ps qs x y why) e h)
-
-pub returns-then-not-is_asked-clause-shown : goal.returns-then-not-is_asked-clause-shown
-returns-then-not-is_asked-clause-shown g c =
-    let none = c.requires.asked c.if-not-is_asked.true in
-    record {
-      grown = λ apart. none_grown (Grown (Frame c.args.cycle)) (asked c.args.files.now) _ _ none;
-      quiet = refl;
-      tells = λ i name k. absurd (none name i k);
-      there = λ h. there_now (asked c.args.files.now) _ h;
-    }
 
 pub tell_all-requires : goal.tell_all-requires
 tell_all-requires g c =

@@ -4,7 +4,7 @@ use Rattle.std.proofs.lemmas.Bool.{false≢true}
 use Rattle.safl_word.proofs.Naturals.{lower_or_last}
 use Rattle.safl_probe.specs.Asked.{asked}
 use Rattle.safl_probe.proofs.Growing.{is_within}
-use Rattle.safl_probe.proofs.show.is_any_asked.Goals as goal
+use Rattle.safl_probe.proofs.watch.is_any_asked.Goals as goal
 
 nothing : (o : Option (String Global)) → is_some o ≡ false → option_map string_bytes o ≡ None
 nothing None e = refl

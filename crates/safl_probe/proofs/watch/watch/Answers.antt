@@ -13,8 +13,29 @@ use Rattle.safl_probe.specs.Asked.{asked}
 use Rattle.safl_probe.proofs.Growing.{strays_none}
 use Rattle.safl_probe.proofs.Stops.{stopped_later}
 use Rattle.safl_probe.proofs.Frames.{fits_more, turn_more}
-use Rattle.safl_probe.proofs.Rounds.{cycle_grown, cycle_part, shown_along, shown_none, shown_more, shown_part, kept_then, kept_same, strays_then}
+use Rattle.safl_probe.proofs.Rounds.{cycle_grown, cycle_part, shown_along, shown_none, shown_unasked, shown_more, shown_part, kept_then, kept_same, strays_then}
 use Rattle.safl_probe.proofs.watch.watch.Goals as goal
+
+-- ---- no probe is asked
+
+pub returns-then-not-is_any_asked-clause-watched : goal.returns-then-not-is_any_asked-clause-watched
+returns-then-not-is_any_asked-clause-watched g c =
+    let none = c.is_any_asked.ensures c.if-not-is_any_asked.true in
+    record {
+      watches = λ args called. record { answers = c.run_called.ensures.answers args called; shown = shown_unasked (asked c.args.files.now) _ none _ _ };
+      quiet = refl;
+    }
+
+pub returns-then-not-is_any_asked-clause-probes : goal.returns-then-not-is_any_asked-clause-probes
+returns-then-not-is_any_asked-clause-probes g c = kept_same (asked c.args.files.now) _ _
+
+pub returns-then-not-is_any_asked-clause-reads : goal.returns-then-not-is_any_asked-clause-reads
+returns-then-not-is_any_asked-clause-reads g c = reads_same _ _ refl
+
+pub returns-then-not-is_any_asked-clause-strays : goal.returns-then-not-is_any_asked-clause-strays
+returns-then-not-is_any_asked-clause-strays g c = λ h. strays_none _ _
+
+-- ---- the cycles that are shown
 
 pub cycles-init : goal.cycles-init
 cycles-init g c = record {
