@@ -150,13 +150,19 @@ pub record Looping (C : Program) (s : State) (h : ℕ) : Type 0 where
   pub within : h < C.functions
 
 module _ {m : Shown} {answers : List Answer} {wants : List (Option (List Word))} {room : ℕ} (h : IsKept m answers wants room) where
+  -- a site inside that is accepted is wanted with its words
+  pub accept_wanted : (k : ℕ) (ws : List Word) → asked m.program m.args (state m) k ≡ Some ws → (k ≡ 0 → ⊥) → get_or wants k None ≡ Some ws
+  accept_wanted zero ws e inner = absurd (inner refl)
+  accept_wanted (suc k) ws e inner =
+      let C = m.program in
+      (h.known (C.unit (C.caller (suc k)))).wants (suc k) (omega arith) (found C m.args (state m) (suc k) ws e).within refl ∙ (cond_some _ _ ws e).1
+
   pub accept_words : (k : ℕ) (ws words : List Word) → asked m.program m.args (state m) k ≡ Some ws → (k ≡ 0 → words ≡ m.args) →
       ((k ≡ 0 → ⊥) → get_or wants k None ≡ Some words) → asked m.program m.args (state m) k ≡ Some words
   accept_words zero ws words e first other = e ∙ ap Some (sym (same_Some m.args ws (cond_some _ _ ws e).1) ∙ sym (first refl))
   accept_words (suc k) ws words e first other =
-      let C = m.program in
-      let f = found C m.args (state m) (suc k) ws e in
-      e ∙ (sym (cond_some _ _ ws e).1 ∙ (sym ((h.known (C.unit (C.caller (suc k)))).wants (suc k) (omega arith) f.within refl) ∙ other (λ q. absurd (omega (arith, q)))))
+      let inner : suc k ≡ 0 → ⊥ = λ q. absurd (omega (arith, q)) in
+      e ∙ (sym (accept_wanted (suc k) ws e inner) ∙ other inner)
 
   pub finish_in : (f k : ℕ) (ws : List Word) → (state m).unit (m.program.unit f) ≡ Runs f k ws → f < m.program.functions
   finish_in f k ws e = ((inv h).member (m.program.unit f) f k ws e).1

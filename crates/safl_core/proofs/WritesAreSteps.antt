@@ -9,7 +9,7 @@ use Rattle.safl_calls.specs.Machine as core
 use Rattle.safl_calls.specs.Machine.{State, put, ended}
 use Rattle.safl_core.specs.declared.mode.Mode as modes_declared
 use Rattle.safl_evaluate.specs.declared.stage.Stage as stages_declared
-use Rattle.safl_core.specs.Modes.{mode_of, unit_at}
+use Rattle.safl_core.specs.Modes.{idle_mode, mode_of, unit_at}
 use Rattle.safl_core.specs.Spans.{IsSpan}
 use Rattle.safl_evaluate.specs.Stages.{stage_of, stage_at}
 use Rattle.safl_core.specs.declared.spans.Span.{Span}
@@ -19,10 +19,10 @@ unit_put modes u m lt = fun_ext (λ v. ⊎_elim (λ same. at v same) (λ other. 
   where
     at : (v : ℕ) → u ≡ v → unit_at (slice_set modes u m) v ≡ put (unit_at modes) u (mode_of m) v
     at v same = subst (λ n. unit_at (slice_set modes u m) n ≡ put (unit_at modes) u (mode_of m) n) same
-        (ap mode_of (get_or-set_same modes u m modes_declared.TheVariants.Idle lt) ∙ sym (ap (λ b. cond b (mode_of m) (unit_at modes u)) (eq-eqb u u refl)))
+        (ap mode_of (get_or-set_same modes u m idle_mode lt) ∙ sym (ap (λ b. cond b (mode_of m) (unit_at modes u)) (eq-eqb u u refl)))
 
     off : (v : ℕ) → (u ≡ v → ⊥) → unit_at (slice_set modes u m) v ≡ put (unit_at modes) u (mode_of m) v
-    off v other = ap mode_of (get_or-set_other modes u v m modes_declared.TheVariants.Idle (λ q. other (sym q))) ∙ sym (ap (λ b. cond b (mode_of m) (unit_at modes v)) (ne_eqb u v other))
+    off v other = ap mode_of (get_or-set_other modes u v m idle_mode (λ q. other (sym q))) ∙ sym (ap (λ b. cond b (mode_of m) (unit_at modes v)) (ne_eqb u v other))
 
 pub stage_put : (stages : List stages_declared.Stage) (k : ℕ) (x : stages_declared.Stage) → k < length stages → stage_at (slice_set stages k x) ≡ put (stage_at stages) k (stage_of x)
 stage_put stages k x lt = fun_ext (λ v. ⊎_elim (λ same. at v same) (λ other. off v other) (cases_eq k v))

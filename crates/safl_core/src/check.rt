@@ -8,7 +8,7 @@ ghost use Rattle.safl_evaluate.specs.Stages.{stage_at};
 ghost use Rattle.safl_core.specs.Testing as test;
 ghost use Rattle.safl_evaluate.specs.Answers as told;
 
-use crate::mode::Mode;
+use crate::mode::{Act, Mode};
 use safl_evaluate::{Answer, Stage, Want};
 use safl_term::Checked;
 
@@ -58,10 +58,10 @@ fn delivers(modes: &[Mode], u: u32, k: u32) -> bool
     requires { u < length modes.now }
     ensures { result ≡ test.delivers_to (unit_at modes.now u) k }
 {
-    match &modes[u as usize] {
-        Mode::Idle => false,
-        Mode::Runs(_, _, _) => false,
-        Mode::Delivers(site, _) => *site == k,
+    match &modes[u as usize].act {
+        Act::Idle => false,
+        Act::Runs(_, _) => false,
+        Act::Delivers(site, _) => *site == k,
     }
 }
 
@@ -78,10 +78,10 @@ pub fn delivered_to(modes: &[Mode], u: u32) -> Option<u32>
     requires { u < length modes.now }
     ensures { result ≡ test.delivered (unit_at modes.now u) }
 {
-    match &modes[u as usize] {
-        Mode::Idle => None,
-        Mode::Runs(_, _, _) => None,
-        Mode::Delivers(site, _) => Some(*site),
+    match &modes[u as usize].act {
+        Act::Idle => None,
+        Act::Runs(_, _) => None,
+        Act::Delivers(site, _) => Some(*site),
     }
 }
 
@@ -90,10 +90,10 @@ pub fn is_idle(modes: &[Mode], u: u32) -> bool
     requires { u < length modes.now }
     ensures { result ≡ test.is_idle (unit_at modes.now u) }
 {
-    match &modes[u as usize] {
-        Mode::Idle => true,
-        Mode::Runs(_, _, _) => false,
-        Mode::Delivers(_, _) => false,
+    match &modes[u as usize].act {
+        Act::Idle => true,
+        Act::Runs(_, _) => false,
+        Act::Delivers(_, _) => false,
     }
 }
 
@@ -101,10 +101,10 @@ fn runs(modes: &[Mode], u: u32, f: u32) -> bool
     requires { u < length modes.now }
     ensures { result ≡ test.runs (unit_at modes.now u) f }
 {
-    match &modes[u as usize] {
-        Mode::Idle => false,
-        Mode::Runs(member, _, _) => *member == f,
-        Mode::Delivers(_, _) => false,
+    match &modes[u as usize].act {
+        Act::Idle => false,
+        Act::Runs(member, _) => *member == f,
+        Act::Delivers(_, _) => false,
     }
 }
 

@@ -1,6 +1,6 @@
 //! Firing an event.
 
-ghost use Rattle.std.specs.Prelude.{◌≡◌, ℕ, ◌<◌, ◌≤◌, length, Some, None, IsSome, get_or};
+ghost use Rattle.std.specs.Prelude.{◌≡◌, ℕ, ◌<◌, ◌≤◌, length, get_or};
 ghost use Rattle.safl_term.specs.Readiness as plain;
 ghost use Rattle.safl_calls.specs.Machine as core;
 ghost use Rattle.safl_core.specs.Modes.{unit_at};
@@ -10,7 +10,7 @@ ghost use Rattle.safl_evaluate.specs.Answers.{args_given};
 ghost use Rattle.safl_core.specs.States.{IsStateAfter, Leads, Recalls, calls_of};
 
 use crate::event::Event;
-use crate::mode::Mode;
+use crate::mode::Act;
 use crate::refresh::{refresh, renew};
 use crate::spans::Span;
 use crate::state::State;
@@ -48,12 +48,7 @@ fn accept(c: &Checked, plan: &Plan, opening: &Args, state: &mut State, k: u32) -
     ensures recalls { (u : ℕ) → Recalls c.now.program plan.now state.new u }
     ensures cells { length state.new.kept.items ≡ length state.old.kept.items }
 {
-    let words = if k == 0 {
-        opening.again()
-    } else {
-        asked(state, k)
-    };
-    step::accept(c, state, k, words);
+    step::accept(c, opening, state, k);
     let unit = c.unit_for(k);
     refresh(c, plan, state, unit)
 }
@@ -73,7 +68,7 @@ fn finish(c: &Checked, plan: &Plan, opening: &Args, state: &mut State, f: u32) -
     let Some(word) = ready(state, unit) else {
         unreachable!()
     };
-    step::end(c, state, unit, Mode::Delivers(serves, word));
+    step::end(c, state, unit, serves, word);
     refresh(c, plan, state, unit)
 }
 
@@ -115,27 +110,15 @@ fn loop_into(c: &Checked, plan: &Plan, opening: &Args, state: &mut State, h: u32
     refresh(c, plan, state, unit)
 }
 
-// The words with which a site is wanted.
-fn asked(state: &State, k: u32) -> Args
-    requires within { k < length state.now.wants.each.items }
-    requires some { IsSome (get_or state.now.wants.each.items k None) }
-    ensures { get_or state.now.wants.each.items k None ≡ Some result }
-{
-    match state.wants.each[k as usize].args() {
-        Some(words) => words.again(),
-        None => unreachable!(),
-    }
-}
-
 // The site that a unit serves, or 0 if it serves none.
 fn served(state: &State, u: u32) -> u32
     requires { u < length state.now.modes.items }
     ensures { result ≡ serves_of (unit_at state.now.modes.items u) }
 {
-    match &state.modes[u as usize] {
-        Mode::Idle => 0,
-        Mode::Runs(_, serves, _) => *serves,
-        Mode::Delivers(serves, _) => *serves,
+    match state.modes[u as usize].act {
+        Act::Idle => 0,
+        Act::Runs(_, serves) => serves,
+        Act::Delivers(serves, _) => serves,
     }
 }
 
@@ -152,9 +135,9 @@ fn delivered(state: &State, u: u32) -> Option<Word>
     requires { u < length state.now.modes.items }
     ensures { result ≡ word_given (unit_at state.now.modes.items u) }
 {
-    match &state.modes[u as usize] {
-        Mode::Idle => None,
-        Mode::Runs(_, _, _) => None,
-        Mode::Delivers(_, word) => Some(*word),
+    match state.modes[u as usize].act {
+        Act::Idle => None,
+        Act::Runs(_, _) => None,
+        Act::Delivers(_, word) => Some(word),
     }
 }

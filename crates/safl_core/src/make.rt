@@ -38,7 +38,7 @@ pub fn idle(alloc: Global, count: usize) -> Result<Vec<Mode>, AllocError>
 {
     let mut modes = Vec::new(alloc);
     for _made in 0..count {
-        modes.push(Mode::Idle)?;
+        modes.push(Mode::idle())?;
     }
     Ok(modes)
 }

@@ -8,7 +8,7 @@ ghost use Rattle.safl_core.specs.Spans.{IsSpan, InSpan};
 ghost use Rattle.safl_evaluate.specs.Asking.{IsAsked};
 ghost use Rattle.safl_core.specs.States.{CanRefresh, CanRenew, Clears, Refreshes, Recalls, Evaluates};
 
-use crate::mode::Mode;
+use crate::mode::{Act, Mode};
 use crate::spans::{Span, own_sites};
 use crate::state::State;
 use safl_evaluate::evaluate::{Facts, Spot, evaluate};
@@ -118,9 +118,10 @@ fn running(modes: &[Mode], u: u32) -> Option<(u32, &Args)>
     ensures runs { IfSome result (λ r. (k : ℕ) × (unit_at modes.now u ≡ core.Runs r.0 k r.1.now)) }
     ensures none { IfNone result ((f k : ℕ) (ws : List Word) → unit_at modes.now u ≡ core.Runs f k ws → ⊥) }
 {
-    match &modes[u as usize] {
-        Mode::Idle => None,
-        Mode::Runs(f, _, args) => Some((*f, args)),
-        Mode::Delivers(_, _) => None,
+    let mode = &modes[u as usize];
+    match mode.act {
+        Act::Idle => None,
+        Act::Runs(f, _) => Some((f, &mode.args)),
+        Act::Delivers(_, _) => None,
     }
 }

@@ -1,38 +1,54 @@
 //! What events do to units and sites.
 
-ghost use Rattle.std.specs.Prelude.{◌≡◌, ℕ, suc, ◌<◌, ◌≤◌, List, Some, IsSome, get_or, length};
+ghost use Rattle.std.specs.Prelude.{◌≡◌, ℕ, suc, ◌<◌, ◌≤◌, List, None, Some, IsSome, get_or, length};
 ghost use Rattle.safl_term.specs.Readiness as plain;
 ghost use Rattle.safl_word.specs.Words.{Word as a_word};
 ghost use Rattle.safl_calls.specs.Machine as core;
-ghost use Rattle.safl_core.specs.Modes.{mode_of, unit_at};
+ghost use Rattle.safl_core.specs.Modes.{unit_at};
 ghost use Rattle.safl_evaluate.specs.Answers.{args_given};
 ghost use Rattle.safl_evaluate.specs.Stages.{stage_at};
-ghost use Rattle.safl_core.specs.States.{IsSized, Restarts, Steps, calls_of, ended_with};
+ghost use Rattle.safl_core.specs.States.{IsSized, IsStateAfter, Restarts, Steps, calls_of, ended_with};
 
-use crate::mode::Mode;
 use crate::spans::own_sites;
 use crate::state::State;
-use safl_evaluate::{Args, Stage};
+use safl_evaluate::{Args, Stage, Want};
 use safl_term::Checked;
 use safl_word::Word;
 
 /// A call is accepted: the site is sent, and its unit runs the called function for it.
-pub fn accept(c: &Checked, state: &mut State, k: u32, words: Args)
-    requires site { k ≤ c.now.program.sites }
-    requires sized { IsSized c.now.program state.old }
-    ensures { Steps c.now.program state.old state.new (core.accept c.now.program (calls_of state.old) k (Some words)) }
+pub fn accept(c: &Checked, opening: &Args, state: &mut State, k: u32)
+    requires kept { (n : ℕ) × IsStateAfter c.now opening.now n state.old }
+    requires can { core.Enabled c.now.program opening.now (calls_of state.old) (core.Accept k) }
+    ensures { Steps c.now.program state.old state.new (core.fire c.now.program opening.now (calls_of state.old) (core.Accept k)) }
 {
-    state.modes[c.unit_for(k) as usize] = Mode::Runs(c.callee(k), k, words);
+    let args = given(opening, &state.wants.each, k);
+    state.modes[c.unit_for(k) as usize].run(c.callee(k), k, args.words());
     state.stages[k as usize] = Stage::Sent;
 }
 
-/// A unit ends its body: `mode` is its mode from now on, and the sites of its members are unsent again.
-pub fn end(c: &Checked, state: &mut State, u: u32, mode: Mode)
+// The arguments of a site's call: main's for site 0, and else those with which the site is wanted.
+fn given<'x>(opening: &'x Args, wants: &'x [Want], k: u32) -> &'x Args
+    requires within { k < length wants.now }
+    requires some { (k ≡ 0 → ⊥) → IsSome (get_or wants.now k None) }
+    ensures opening { k ≡ 0 → result.now ≡ opening.now }
+    ensures wanted { (k ≡ 0 → ⊥) → get_or wants.now k None ≡ Some result.now }
+{
+    if k == 0 {
+        return opening;
+    }
+    match wants[k as usize].args() {
+        Some(args) => args,
+        None => unreachable!(),
+    }
+}
+
+/// A unit ends its body: it delivers this word to a site, and the sites of its members are unsent again.
+pub fn end(c: &Checked, state: &mut State, u: u32, site: u32, word: Word)
     requires unit { u < c.now.program.functions }
     requires sized { IsSized c.now.program state.old }
-    ensures { Steps c.now.program state.old state.new (ended_with c.now.program state.old u (mode_of mode)) }
+    ensures { Steps c.now.program state.old state.new (ended_with c.now.program state.old u (core.Delivers site word)) }
 {
-    state.modes[u as usize] = mode;
+    state.modes[u as usize].deliver(site, word);
     end_sites(c, &mut state.stages, u);
 }
 
@@ -70,6 +86,6 @@ pub fn give_back(c: &Checked, state: &mut State, k: u32, word: Word)
     requires sized { IsSized c.now.program state.old }
     ensures { Steps c.now.program state.old state.new (core.give_back c.now.program (calls_of state.old) k (core.Delivers k word)) }
 {
-    state.modes[c.unit_for(k) as usize] = Mode::Idle;
+    state.modes[c.unit_for(k) as usize].rest();
     state.stages[k as usize] = Stage::Returned(word);
 }

@@ -1,6 +1,5 @@
 use Rattle.std.proofs.Common.{◌<◌, length, refl, ap, ◌∙◌, rules, arith}
 use Rattle.safl_calls.specs.Machine as core
-use Rattle.safl_core.specs.declared.mode.Mode.TheVariants.{Idle}
 use Rattle.safl_evaluate.specs.declared.stage.Stage.TheVariants.{Returned}
 use Rattle.safl_core.specs.Modes.{unit_at}
 use Rattle.safl_core.proofs.WritesAreSteps.{unit_put, stage_put, state_is}
@@ -14,7 +13,9 @@ returns c =
     let site : k < length s.stages.items = omega (arith, c.requires.site, c.requires.sized.sites) in
     record {
       next = state_is _ _ _ _
-          (unit_put s.modes.items c.unit_for.result Idle unit ∙ ap (λ u. core.put (unit_at s.modes.items) u core.Idle) c.unit_for.ensures.number)
+          (unit_put s.modes.items c.unit_for.result c.rest.new.self unit
+          ∙ (ap (core.put (unit_at s.modes.items) c.unit_for.result) c.rest.ensures
+          ∙ ap (λ u. core.put (unit_at s.modes.items) u core.Idle) c.unit_for.ensures.number))
           (stage_put s.stages.items k (Returned c.args.word) site);
       answers = refl;
       wants = refl;

@@ -4,9 +4,8 @@ use Rattle.std.proofs.lemmas.List.{get_or_read}
 use Rattle.safl_calls.specs.Machine as core
 use Rattle.safl_term.specs.Readiness.{NotYet}
 use Rattle.safl_core.specs.declared.mode.Mode.{Mode}
-use Rattle.safl_core.specs.declared.mode.Mode.TheVariants.{Idle}
 use Rattle.safl_evaluate.specs.declared.stage.Stage.{Stage}
-use Rattle.safl_core.specs.Modes.{mode_of, unit_at}
+use Rattle.safl_core.specs.Modes.{idle_mode, mode_of, unit_at}
 use Rattle.safl_core.specs.Shown.{serves_of}
 use Rattle.safl_evaluate.specs.Answers.{args_given}
 use Rattle.safl_evaluate.specs.Stages.{stage_at}
@@ -20,7 +19,7 @@ returns c =
     let s = c.args.state.now in
     let u = c.args.u in
     let unit : u < length s.modes.items = omega (arith, c.requires.unit, c.requires.sized.units) in
-    let entered : c.index_mut.result.now ≡ get_or s.modes.items u Idle = get_or_read s.modes.items u _ unit c.index_mut.ensures.value Idle in
+    let entered : c.index_mut.result.now ≡ get_or s.modes.items u idle_mode = get_or_read s.modes.items u _ unit c.index_mut.ensures.value idle_mode in
     let read : c.index.result.now ≡ get_or s.answers.items u NotYet = get_or_read s.answers.items u _ (omega (arith, c.requires.unit, c.requires.sized.answers)) c.index.ensures NotYet in
     let mode = c.enter.ensures ∙ (ap (λ (m : Mode). core.Runs c.args.h (serves_of (mode_of m)) c.words.result.now) entered ∙ ap
     (core.Runs c.args.h (serves_of (unit_at s.modes.items u))) c.words.ensures.words) in
