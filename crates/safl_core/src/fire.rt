@@ -12,7 +12,7 @@ ghost use Rattle.safl_core.specs.States.{IsStateAfter, Leads, Recalls, calls_of}
 use crate::event::Event;
 use crate::mode::Act;
 use crate::refresh::{refresh, renew};
-use crate::spans::Span;
+use crate::spans::{Span, own_sites};
 use crate::state::State;
 use crate::step;
 use safl_evaluate::{Args, Plan};
@@ -50,7 +50,9 @@ fn accept(c: &Checked, plan: &Plan, opening: &Args, state: &mut State, k: u32) -
 {
     step::accept(c, opening, state, k);
     let unit = c.unit_for(k);
-    refresh(c, plan, state, unit)
+    let own = own_sites(c, unit);
+    refresh(c, plan, state, unit, own);
+    own
 }
 
 // Fires the end of a function.
@@ -68,8 +70,9 @@ fn finish(c: &Checked, plan: &Plan, opening: &Args, state: &mut State, f: u32) -
     let Some(word) = ready(state, unit) else {
         unreachable!()
     };
-    step::end(c, state, unit, serves, word);
-    refresh(c, plan, state, unit)
+    let own = step::end(c, state, unit, serves, word);
+    refresh(c, plan, state, unit, own);
+    own
 }
 
 // Fires the return of a word to a site. Of the body with this site, only what the word changes is evaluated again.
@@ -106,8 +109,9 @@ fn loop_into(c: &Checked, plan: &Plan, opening: &Args, state: &mut State, h: u32
     ensures cells { length state.new.kept.items ≡ length state.old.kept.items }
 {
     let unit = c.unit(h);
-    step::restart(c, state, unit, h);
-    refresh(c, plan, state, unit)
+    let own = step::restart(c, state, unit, h);
+    refresh(c, plan, state, unit, own);
+    own
 }
 
 // The site that a unit serves, or 0 if it serves none.

@@ -1,6 +1,7 @@
 //! Evaluates the body of a unit again after an event.
 
 ghost use Rattle.std.specs.Prelude.{◌≡◌, ℕ, suc, ◌<◌, ◌≤◌, List, length, take, Some, IfSome, IfNone};
+ghost use Rattle.safl_term.specs.Program.{Program};
 ghost use Rattle.safl_calls.specs.Machine as core;
 ghost use Rattle.safl_core.specs.Modes.{unit_at};
 ghost use Rattle.safl_evaluate.specs.Laying.{IsPlan};
@@ -9,25 +10,21 @@ ghost use Rattle.safl_evaluate.specs.Asking.{IsAsked};
 ghost use Rattle.safl_core.specs.States.{CanRefresh, CanRenew, Clears, Refreshes, Recalls, Evaluates};
 
 use crate::mode::{Act, Mode};
-use crate::spans::{Span, own_sites};
+use crate::spans::Span;
 use crate::state::State;
 use safl_evaluate::evaluate::{Facts, Spot, evaluate};
 use safl_evaluate::{Answer, Args, Plan, Want, Wants};
 use safl_term::Checked;
 use safl_word::Word;
 
-/// Forgets the words with which a unit wanted its sites. Returns these sites.
-pub fn clear(c: &Checked, asks: &mut [Want], u: u32) -> Span
-    requires unit { u < c.now.program.functions }
-    requires sized { length asks.old ≡ suc c.now.program.sites }
-    ensures clears { Clears c.now.program u asks.old asks.new }
-    ensures own { IsSpan c.now.program u result }
+// Forgets the words with which the sites of a span were wanted.
+fn clear(asks: &mut [Want], own: Span)
+    requires { own.end ≤ length asks.old }
+    ensures { (C : Program) (u : ℕ) → IsSpan C u own → Clears C u asks.old asks.new }
 {
-    let own = own_sites(c, u);
     for k in own.first..own.end {
         asks[k as usize].forget();
     }
-    own
 }
 
 // Copies words to the first slots. Returns how many they are.
@@ -41,19 +38,18 @@ fn fill(env: &mut [Word], words: &[Word]) -> usize
     slots
 }
 
-/// Evaluates the body of a unit from the beginning: what it comes to, and the words with which it wants its sites. What
-/// is kept of other units stays. Returns the unit's sites, since no others may be wanted otherwise than before.
-pub fn refresh(c: &Checked, plan: &Plan, state: &mut State, u: u32) -> Span
+/// Evaluates the body of a unit from the beginning: what it comes to, and the words with which it wants its sites, which
+/// are those of the span `own`. No others may be wanted otherwise than before. What is kept of other units stays.
+pub fn refresh(c: &Checked, plan: &Plan, state: &mut State, u: u32, own: Span)
     requires can { CanRefresh c.now u state.old }
     requires plan { IsPlan c.now.program plan.now (length state.old.kept.items) }
-    ensures refreshes { Refreshes c.now.program u result state.old state.new }
-    ensures own { IsSpan c.now.program u result }
+    requires own { IsSpan c.now.program u own }
+    ensures refreshes { Refreshes c.now.program u own state.old state.new }
     ensures recalls { (v : ℕ) → ((v ≡ u → ⊥) → Recalls c.now.program plan.now state.old v) → Recalls c.now.program plan.now state.new v }
     ensures cells { length state.new.kept.items ≡ length state.old.kept.items }
 {
-    let own = clear(c, &mut state.wants.each, u);
+    clear(&mut state.wants.each, own);
     evaluated(c, plan, state, u, None);
-    own
 }
 
 /// Evaluates those parts of a unit's body that may have changed since its site `k` returned. Returns sites that include

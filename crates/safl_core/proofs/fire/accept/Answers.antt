@@ -1,4 +1,4 @@
-use Rattle.std.proofs.Common.{◌≡◌, ℕ, List, length, Option, Some, refl, sym, ap, ◌∙◌, subst}
+use Rattle.std.proofs.Common.{ℕ, List, length, Option, Some, refl, sym, ap, ◌∙◌, subst}
 use Rattle.safl_word.specs.Words.{Word}
 use Rattle.safl_calls.specs.Machine as core
 use Rattle.safl_evaluate.specs.declared.kept.Kept.{Kept}
@@ -25,7 +25,7 @@ returns-clause-leads c =
     let can = c.requires.can in
     let answers = c.args.state.now.answers.items in
     let wants = c.args.state.now.wants.each.items in
-    leads c.args.c.now c.args.opening.now (core.Accept k) c.refresh.result c.args.state.now _ _ _ _ c.accept.ensures
+    leads c.args.c.now c.args.opening.now (core.Accept k) c.own_sites-own.result c.args.state.now _ _ _ _ c.accept.ensures
     c.refresh.ensures.refreshes refl (λ v q. absurd q) (λ v ne.
     subst (λ (x : Option (List Word)). IsKnown C (core.accept C s k x) answers wants v) (sym can.1)
     (after_accept C c.args.opening.now (good h) s (inv h) answers wants h.known k can.0 can.1 v (λ q. ne (q ∙ sym c.unit_for-unit.ensures.number))))

@@ -28,7 +28,7 @@ returns c =
     let can = c.requires.can in
     let args = c.given-args.result.now in
     let asked : core.asked C c.args.opening.now (calls_of s) k ≡ Some args = accept_words h k can.0 args can.1 c.given-args.ensures.opening
-        (λ inner. sym (ap (λ (l : List (Option (List Word))). get_or l k None) c.deref.ensures.value) ∙ c.given-args.ensures.wanted inner) in
+    (λ inner. sym (ap (λ (l : List (Option (List Word))). get_or l k None) c.deref.ensures.value) ∙ c.given-args.ensures.wanted inner) in
     let unit : c.unit_for.result < length s.modes.items = omega (arith, c.unit_for.ensures.within, h.units) in
     let site : k < length s.stages.items = omega (arith, accept_within h k can, h.sites) in
     let mode = c.run.ensures ∙ (ap (λ f. core.Runs f k c.words.result.now) c.callee.ensures.number ∙ ap (core.Runs (C.callee k) k) c.words.ensures.words) in

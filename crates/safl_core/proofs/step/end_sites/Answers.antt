@@ -19,6 +19,6 @@ loop-k-preserved c =
     let both = end_site C c.args.u k c.args.stages.now c.loop-k.stages c.loop-k.invariant.below c.loop-k.invariant.above within (omega (arith, s.least, from)) (s.own k from upto) in
     record { below = both.0; above = both.1 }
 
-pub returns : goal.returns
-returns c = end_back c.args.c.now.program c.args.u c.own_sites-own.result c.own_sites-own.ensures c.loop-k.k c.args.stages.now c.loop-k.stages
+pub returns-clause-ended : goal.returns-clause-ended
+returns-clause-ended c = end_back c.args.c.now.program c.args.u c.own_sites-own.result c.own_sites-own.ensures c.loop-k.k c.args.stages.now c.loop-k.stages
     c.requires.sized (omega (arith, c.loop-k-test.false)) c.loop-k.invariant.below c.loop-k.invariant.above

@@ -13,8 +13,8 @@ use Rattle.safl_evaluate.proofs.Refilled.{refilled}
 use Rattle.safl_core.proofs.WritesAreSteps.{unit_put, state_is}
 use Rattle.safl_core.proofs.step.restart.Goals as goal
 
-pub returns : goal.returns
-returns c =
+pub returns-clause-restarts : goal.returns-clause-restarts
+returns-clause-restarts c =
     let C = c.args.c.now.program in
     let s = c.args.state.now in
     let u = c.args.u in
@@ -25,7 +25,7 @@ returns c =
     (core.Runs c.args.h (serves_of (unit_at s.modes.items u))) c.words.ensures.words) in
     let units = unit_put s.modes.items u c.enter.new.self unit ∙ ap (core.put (unit_at s.modes.items) u) mode in
     let written = refilled s.stages c.end_sites.new.stages c.deref_mut.result.now c.end_sites.auto.stages c.deref_mut.ensures.value in
-    let sites = ap (λ (x : List Stage). stage_at x) written ∙ fun_ext (λ k. c.end_sites.ensures k ∙ ap (λ (x : List Stage). core.ended C u (stage_at x) k) c.deref_mut.ensures.value) in
+    let sites = ap (λ (x : List Stage). stage_at x) written ∙ fun_ext (λ k. c.end_sites.ensures.ended k ∙ ap (λ (x : List Stage). core.ended C u (stage_at x) k) c.deref_mut.ensures.value) in
     record {
       args = c.in-Some.args.now;
       passed = c.in-Some.ensures.some ∙ ap args_given read;
