@@ -10,6 +10,7 @@ use Rattle.safl_sim.specs.Ticks.{state_after}
 use Rattle.safl_sim.specs.Words.{input_words, bit_word}
 use Rattle.safl_sim.specs.declared.done.Done.{Done}
 use Rattle.safl_run.specs.declared.harness.Harness.{Harness}
+use Rattle.safl_run.specs.Calls.{Answers}
 use Rattle.safl_run.specs.Runners.{IsHarness}
 
 -- the harness has the words of a call with these arguments
@@ -17,6 +18,11 @@ pub record IsCalled (n : Netlist) (args : List Word) (h : Harness) : Type 0 wher
   pub is : IsHarness n h
   pub arguments : AreArguments n args
   pub first : h.room.first.items ≡ input_words n.signals (bit_word 1) args
+
+-- this is the answer to a call with the words of the harness
+abbrev pub IsAnswered : Simulation → Simulation → Harness → ℕ → Option Done → Type 0
+IsAnswered old new harness limit answer =
+    (args : List Word) → IsCalled old.net args harness → Answers old.net limit (slice_index old.state) args answer (slice_index new.state)
 
 -- cycles of a call so far, with `done` at 0 in all of them, and the state after them
 pub record IsGoing (n : Netlist) (state : ℕ → ℕ) (args : List Word) (vs : List Valuation) (now : ℕ → ℕ) : Type 0 where

@@ -8,7 +8,7 @@ ghost use Rattle.safl_sim.specs.Places.{AreInputs, HasWords};
 ghost use Rattle.safl_sim.specs.Simulation.{Ticks};
 ghost use Rattle.safl_sim.specs.Ticks.{words_of};
 ghost use Rattle.safl_run.specs.Runners.{IsHarness};
-ghost use Rattle.safl_run.specs.Steps.{IsCalled, GoesOn};
+ghost use Rattle.safl_run.specs.Steps.{IsCalled, IsAnswered, GoesOn};
 ghost use Rattle.safl_run.specs.Calls.{Answers};
 
 use crate::input_words::{Room, put_arguments, signal_of};
@@ -58,8 +58,7 @@ pub fn call(sim: &mut Sim, harness: &mut Harness, args: &[Word], limit: u64) -> 
 #[inline(never)]
 pub fn run_called(sim: &mut Sim, harness: &Harness, limit: u64) -> Option<Done>
     requires { (args : List Word) × IsCalled sim.old.net args harness.now }
-    ensures answers { (args : List Word) → IsCalled sim.old.net args harness.now
-        → Answers sim.old.net limit (slice_index sim.old.state) args result (slice_index sim.new.state) }
+    ensures answers { IsAnswered sim.old sim.new harness.now limit result }
     ensures net { sim.new.net ≡ sim.old.net }
 {
     'cycles: for cycle in 0..limit {
