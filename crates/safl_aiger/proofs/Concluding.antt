@@ -8,10 +8,10 @@ use Rattle.safl_aiger.specs.declared.reading.AigRule.{AigRule}
 use Rattle.safl_aiger.specs.declared.reading.AigRule.TheVariants.{B01, B04}
 use Rattle.safl_aiger.specs.declared.reading.LineKind.{LineKind}
 use Rattle.safl_aiger.specs.declared.sections.Body.{Body}
-use Rattle.safl_aiger.specs.Circuits.{Circuit, circuit_of}
+use Rattle.safl_aiger.specs.Circuits.{Circuit, IsCircuit, circuit_of}
 use Rattle.safl_aiger.specs.Lines.{grown, lines}
 use Rattle.safl_aiger.specs.Reads.{Counts, IsHeader, total, line_kinds, AreGood, own_numbers, latch_numbers, output_numbers, and_numbers, counts_of}
-use Rattle.safl_aiger.specs.Reads.{Named, NamePlaces, unnamed, Ends, Begins, AigReads, Breaks, LineFault, SymbolFault, HasFault, bad_header, bad_line}
+use Rattle.safl_aiger.specs.Reads.{Named, NamePlaces, unnamed, named_of, Ends, Begins, AigReads, Breaks, LineFault, SymbolFault, HasFault, bad_header, bad_line}
 use Rattle.safl_aiger.specs.Reads.{bad_symbol}
 use Rattle.safl_aiger.specs.Sections.{Stops, BodyIs}
 use Rattle.safl_aiger.specs.Symbols.{named, SymbolsPass}
@@ -100,19 +100,23 @@ numbers c nexts outputs ands = own_numbers 1 c.inputs ++ (latch_numbers (1 + c.i
 abbrev pub made : ℕ → List Lit → List Lit → List (Lit × Lit) → Named → Circuit
 made inputs nexts outputs ands n = record { inputs = inputs; nexts = nexts; outputs = outputs; ands = ands; input_names = n.inputs; latch_names = n.latches; output_names = n.outputs }
 
+-- what a text reads as is a circuit
+pub read_circuit : (text : List ℕ) (a : Circuit) → length a.outputs < 2 ^ 31 → AigReads text a → IsCircuit a
+read_circuit text a small r =
+    let h = r.begins in
+    let free : AllFree (h.head ∷ (r.body ++ (r.symbols ++ r.rest))) = subst (λ (ls : List (List ℕ)). AllFree ls) h.lines_are (lines_free text) in
+    let free_names : AllFree r.symbols = (free_parts r.symbols r.rest (free_parts r.body (r.symbols ++ r.rest) free.1).1).0 in
+    is_circuit a r.body r.good small (names_fit (counts_of a) r.symbols (named_of a) free_names r.names)
+
 pub reads_from : (text : List ℕ) (c : Counts) (body symbols left : List (List ℕ)) (nexts outputs : List Lit) (ands : List (Lit × Lit)) (n : Named) →
     c.outputs < 2 ^ 31 → length nexts ≡ c.latches → length outputs ≡ c.outputs → length ands ≡ c.ands
     → Begins text c (body ++ (symbols ++ left)) → AreGood (total c) (line_kinds c) body (numbers c nexts outputs ands) → NamePlaces symbols
     (unnamed c) n → Ends left → AigReads text (made c.inputs nexts outputs ands n)
 reads_from text c body symbols left nexts outputs ands n small ln lo la h g p e =
     let a : Circuit = made c.inputs nexts outputs ands n in
-    let free : AllFree (h.head ∷ (body ++ (symbols ++ left))) = subst (λ (ls : List (List ℕ)). AllFree ls) h.lines_are (lines_free text) in
-    let free_names : AllFree symbols = (free_parts symbols left (free_parts body (symbols ++ left) free.1).1).0 in
-    let fit : NamesFit c n = names_fit c symbols n free_names p in
     let same : c ≡ counts_of a = (λ i. record { inputs = c.inputs; latches = sym ln i; outputs = sym lo i; ands = sym la i }) in
     let good = subst (λ (d : Counts). AreGood (total d) (line_kinds d) body (numbers d nexts outputs ands)) same g in
     record {
-      circuit = is_circuit a body good (omega (arith, lo, small)) (subst (λ (d : Counts). NamesFit d n) same fit);
       body = body;
       symbols = symbols;
       rest = left;
@@ -139,3 +143,9 @@ reads text at c b names small h p s =
     let fit : NamesFit c (named names) = names_fit c u.symbols (named names) free_names u.names in
     let inputs : length names.inputs.items ≡ c.inputs = sym (length-map names.inputs.items (λ (n : Name). n.bytes.items)) ∙ fit.inputs in
     subst (λ (i : ℕ). AigReads text (made i nexts outputs ands (named names))) (sym inputs) r
+
+pub reads_circuit : (text : List ℕ) (at : ℕ) (c : Counts) (b : Body) (names : Names) → c.outputs < 2 ^ 31 → Begins text c (lines (drop at text)) → BodyIs
+    text at c b → SymbolsPass (lines (drop b.next text)) (unnamed c) (named names)
+    → IsCircuit (circuit_of b.nexts.items b.outputs.items b.ands.items names)
+reads_circuit text at c b names small h p s =
+    read_circuit text (circuit_of b.nexts.items b.outputs.items b.ands.items names) (let o = p.outputs in omega (arith, o, small)) (reads text at c b names small h p s)

@@ -15,13 +15,14 @@ use Rattle.safl_aiger.specs.declared.symbols.Sort.TheVariants as sorts
 use Rattle.safl_aiger.specs.Circuits.{Circuit}
 use Rattle.safl_aiger.specs.Lines.{lines, fields, IsDecimal, AreDecimals, HasNumbers}
 use Rattle.safl_aiger.specs.Reads.{Counts, IsHeader, total, size, IsGood, kinds_from, line_kinds, AreGood, own_numbers, latch_numbers, output_numbers}
-use Rattle.safl_aiger.specs.Reads.{and_numbers, Named, NamesPlace, names_for, with_name, letter, symbol_line, unnamed, RefusesLine, Begins, AigReads}
+use Rattle.safl_aiger.specs.Reads.{and_numbers, counts_of, Named, NamesPlace, names_for, with_name, letter, symbol_line, unnamed, RefusesLine, Begins, AigReads}
+use Rattle.safl_aiger.specs.ReadLaws.{ReadIsCircuit}
 use Rattle.safl_aiger.specs.Reads.{IsBad, LineFault, SymbolFault, HasFault, bad_line, bad_symbol}
 use Rattle.safl_aiger.specs.Symbols.{IsSmall, NamesUpTo, SymbolsPass}
 use Rattle.safl_aiger.proofs.Cutting.{Free, decimals_once}
 use Rattle.safl_aiger.proofs.Rereading.{decimal_free, is_decimal}
 use Rattle.safl_aiger.proofs.Naming.{cut_once, letter_once, place_small, small_kept}
-use Rattle.safl_aiger.proofs.Concluding.{no_header, no_line, numbers, made, reads_from}
+use Rattle.safl_aiger.proofs.Concluding.{no_header, no_line, numbers, made, reads_from, read_circuit}
 use Rattle.safl_aiger.proofs.ReadOnce.{header_small, outputs_small}
 
 -- ---- numbers and texts
@@ -524,3 +525,6 @@ reads_or_fails text = by (lines text) refl
     by : (ls : List (List ℕ)) → lines text ≡ ls → Read text ⊎ Failed text
     by [] e = inr (B01, 1, no_line text e)
     by (l ∷ ls) e = headed l ls e (decide_header l)
+
+pub read_is_circuit : ReadIsCircuit
+read_is_circuit text a r = read_circuit text a (outputs_small r.begins.head (counts_of a) r.begins.header) r

@@ -1,4 +1,5 @@
 pub mod Joining
+pub mod Rows
 pub mod Cutting
 pub mod Passing
 pub mod Rereading

@@ -18,6 +18,7 @@ use Rattle.safl_aiger.specs.Reads.{NamesPlace, symbol_line, letter, unnamed, nam
 use Rattle.safl_aiger.specs.TextLaws.{BodyReads}
 use Rattle.safl_aiger.proofs.Cutting.{Free, lines_feed, fields_space, fields_last}
 use Rattle.safl_aiger.proofs.Passing.{good-append}
+use Rattle.safl_aiger.proofs.Rows.{body_rows}
 
 -- ---- bytes that don't occur
 
@@ -166,11 +167,8 @@ rereads a c =
     let head : Free 10 (header_line a) = free-append 10 (codes "aag ")
     (numbers_line (variables a) (a.inputs ∷ latches a ∷ length a.outputs ∷ length a.ands ∷ []))
     ((λ e. cc), ((λ e. cc), ((λ e. cc), ((λ e. cc), tt)))) (line_free (variables a) (a.inputs ∷ latches a ∷ length a.outputs ∷ length a.ands ∷ []) top counts) in
-    let regroup = append_assoc (input_text 1 a.inputs) (latch_text (1 + a.inputs) a.nexts ++ (output_text a.outputs ++ and_text (base a) a.ands)) (symbol_lines a)
-    ∙ ap (λ l. input_text 1 a.inputs ++ l) (append_assoc (latch_text (1 + a.inputs) a.nexts) (output_text a.outputs ++ and_text (base a) a.ands)
-    (symbol_lines a) ∙ ap (λ l. latch_text (1 + a.inputs) a.nexts ++ l) (append_assoc (output_text a.outputs) (and_text (base a) a.ands) (symbol_lines a))) in
     record {
-      lines_are = ap (λ l. lines (joined_lines (header_line a ∷ l))) (sym regroup) ∙ lines_joined (header_line a ∷ (body_text a ++ symbol_lines a))
+      lines_are = ap (λ l. lines (joined_lines (header_line a ∷ (l ++ symbol_lines a)))) (body_rows a) ∙ lines_joined (header_line a ∷ (body_text a ++ symbol_lines a))
           (head, all-append (body_text a) (symbol_lines a) free named);
       header = (
         numbers_line (variables a) (a.inputs ∷ latches a ∷ length a.outputs ∷ length a.ands ∷ []),
@@ -277,7 +275,6 @@ pub reads_written : (a : Circuit) → IsCircuit a → AigReads (written a) a
 reads_written a c =
     let r = rereads a c in
     record {
-      circuit = c;
       body = body_text a;
       symbols = symbol_lines a;
       rest = [];

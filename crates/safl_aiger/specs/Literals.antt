@@ -7,12 +7,13 @@ use Rattle.safl_aiger.specs.declared.literal.Lit.{Lit}
 abbrev pub Assignment : Type 0
 Assignment = ℕ → Bool
 
-abbrev pub on_number : Assignment → ℕ → Bool
-on_number m l = cond (l % 2 == 0) (m (l / 2)) (not (m (l / 2)))
-
 -- whether a literal is true
 abbrev pub on : Assignment → Lit → Bool
-on m l = on_number m l.0
+on m l = cond (l.0 % 2 == 0) (m (l.0 / 2)) (not (m (l.0 / 2)))
+
+-- the same of the number of a literal
+abbrev pub on_number : Assignment → ℕ → Bool
+on_number m l = cond (l % 2 == 0) (m (l / 2)) (not (m (l / 2)))
 
 abbrev pub values : Assignment → List Lit → List Bool
 values m ls = map (on m) ls
@@ -26,10 +27,11 @@ number (b ∷ bs) = bit_of b + 2 * number bs
 abbrev pub shown : Assignment → List Lit → ℕ
 shown m ls = number (values m ls)
 
--- whether a number is odd, and its lowest bits
-abbrev pub is_odd : ℕ → Bool
-is_odd n = n % 2 == 1
-
+-- this many of the lowest bits of a number
 abbrev pub bits_of : ℕ → ℕ → List Bool
 bits_of zero n = []
-bits_of (suc w) n = is_odd n ∷ bits_of w (n / 2)
+bits_of (suc w) n = (n % 2 == 1) ∷ bits_of w (n / 2)
+
+-- whether a number is odd
+abbrev pub is_odd : ℕ → Bool
+is_odd n = n % 2 == 1

@@ -1,8 +1,12 @@
 -- The laws of reading.
 use Rattle.std.specs.Prelude.{◌≡◌, ◌⊎◌, ℕ, List}
 use Rattle.safl_aiger.specs.declared.reading.AigRule.{AigRule}
-use Rattle.safl_aiger.specs.Circuits.{Circuit}
+use Rattle.safl_aiger.specs.Circuits.{Circuit, IsCircuit}
 use Rattle.safl_aiger.specs.Reads.{AigReads, HasFault}
+
+-- what a text reads as is a circuit: its literals and names are as they have to be
+abbrev pub ReadIsCircuit : Type 0
+ReadIsCircuit = (text : List ℕ) (a : Circuit) → AigReads text a → IsCircuit a
 
 -- a text reads as at most one circuit
 abbrev pub OneReading : Type 0

@@ -9,8 +9,8 @@ use Rattle.safl_aiger.specs.declared.symbols.Sort.{Sort}
 use Rattle.safl_aiger.specs.declared.symbols.Sort.TheVariants as sorts
 use Rattle.safl_aiger.specs.declared.reading.Header.{Header}
 use Rattle.safl_aiger.specs.declared.reading.Found.{Found}
-use Rattle.safl_aiger.specs.Circuits.{Circuit, latches, variables, base, IsCircuit}
-use Rattle.safl_aiger.specs.Lines.{lines, HasNumbers, HasCount}
+use Rattle.safl_aiger.specs.Circuits.{Circuit, latches, variables, base}
+use Rattle.safl_aiger.specs.Lines.{lines, HasNumbers}
 
 -- the counts of a header, without the number of variables
 pub record Counts : Type 0 where
@@ -25,10 +25,6 @@ total c = c.inputs + c.latches + c.ands
 -- the counts that the code keeps
 abbrev pub counts : Header → Counts
 counts h = record { inputs = h.inputs; latches = h.latches; outputs = h.outputs; ands = h.ands }
-
--- `aag`, a space and five numbers. The first is the sum of inputs, latches and ANDs
-abbrev pub IsHeader : List ℕ → Counts → Type 0
-IsHeader line c = (rest : List ℕ) × (line ≡ codes "aag " ++ rest) × HasNumbers rest (total c ∷ c.inputs ∷ c.latches ∷ c.outputs ∷ c.ands ∷ [])
 
 -- how many numbers a line of this kind has
 abbrev pub size : LineKind → ℕ
@@ -77,15 +73,16 @@ abbrev pub latch_numbers : ℕ → List Lit → List (List ℕ)
 latch_numbers first [] = []
 latch_numbers first (l ∷ ls) = (2 * first ∷ l.0 ∷ []) ∷ latch_numbers (suc first) ls
 
-abbrev pub output_numbers : List Lit → List (List ℕ)
-output_numbers ls = map (λ (l : Lit). l.0 ∷ []) ls
-
 abbrev pub and_numbers : ℕ → List (Lit × Lit) → List (List ℕ)
 and_numbers first [] = []
 and_numbers first (p ∷ ps) = (2 * first ∷ p.0.0 ∷ p.1.0 ∷ []) ∷ and_numbers (suc first) ps
 
 abbrev pub body_numbers : Circuit → List (List ℕ)
-body_numbers a = own_numbers 1 a.inputs ++ (latch_numbers (1 + a.inputs) a.nexts ++ (output_numbers a.outputs ++ and_numbers (base a) a.ands))
+body_numbers a = own_numbers 1 a.inputs ++ (latch_numbers (1 + a.inputs) a.nexts ++ (map (λ (l : Lit). l.0 ∷ []) a.outputs ++ and_numbers (base a) a.ands))
+
+-- those of the lines of outputs
+abbrev pub output_numbers : List Lit → List (List ℕ)
+output_numbers ls = map (λ (l : Lit). l.0 ∷ []) ls
 
 -- the names of inputs, latches and outputs given so far
 pub record Named : Type 0 where
@@ -112,19 +109,19 @@ letter sorts.Input = 105
 letter sorts.Latch = 108
 letter sorts.Output = 111
 
--- a symbol line: the letter, the number, a space and the name
-abbrev pub symbol_line : Sort → ℕ → List ℕ → List ℕ
-symbol_line sort k name = (letter sort ∷ decimal k) ++ 32 ∷ name
-
--- a symbol line gives a name to something of the circuit that has no name yet
+-- a symbol line, which is a letter, a number, a space and a name, gives a name to something of the circuit that has no name yet
 pub record NamesPlace (line : List ℕ) (old new : Named) : Type 0 where
   pub sort : Sort
   pub place : ℕ
   pub name : List ℕ
-  pub is : line ≡ symbol_line sort place name
+  pub is : line ≡ (letter sort ∷ decimal place) ++ 32 ∷ name
   pub free : slice_get (names_for sort old) place ≡ Some []
   pub some : name ≢ []
   pub sets : new ≡ with_name sort place name old
+
+-- such a line
+abbrev pub symbol_line : Sort → ℕ → List ℕ → List ℕ
+symbol_line sort k name = (letter sort ∷ decimal k) ++ 32 ∷ name
 
 -- the line gives no name to anything of the circuit without a name
 abbrev pub RefusesLine : List ℕ → Named → Type 0
@@ -140,11 +137,16 @@ abbrev pub Ends : List (List ℕ) → Type 0
 Ends [] = Unit {0}
 Ends (l ∷ ls) = l ≡ codes "c"
 
--- the first line is a header with these counts, and these lines follow it
+-- The first line is `aag`, a space and five numbers, of which the first is the sum of inputs, latches and ANDs, and these lines
+-- follow it.
 pub record Begins (text : List ℕ) (c : Counts) (ls : List (List ℕ)) : Type 0 where
   pub head : List ℕ
   pub lines_are : lines text ≡ head ∷ ls
-  pub header : IsHeader head c
+  pub header : (rest : List ℕ) × (head ≡ codes "aag " ++ rest) × HasNumbers rest (total c ∷ c.inputs ∷ c.latches ∷ c.outputs ∷ c.ands ∷ [])
+
+-- such a first line
+abbrev pub IsHeader : List ℕ → Counts → Type 0
+IsHeader line c = (rest : List ℕ) × (line ≡ codes "aag " ++ rest) × HasNumbers rest (total c ∷ c.inputs ∷ c.latches ∷ c.outputs ∷ c.ands ∷ [])
 
 abbrev pub counts_of : Circuit → Counts
 counts_of a = record { inputs = a.inputs; latches = latches a; outputs = length a.outputs; ands = length a.ands }
@@ -154,7 +156,6 @@ named_of a = record { inputs = a.input_names; latches = a.latch_names; outputs =
 
 -- the text is a header, the lines of a body, symbol lines, and anything from a line `c` on
 pub record AigReads (text : List ℕ) (a : Circuit) : Type 0 where
-  pub circuit : IsCircuit a
   pub body : List (List ℕ)
   pub symbols : List (List ℕ)
   pub rest : List (List ℕ)
@@ -163,23 +164,24 @@ pub record AigReads (text : List ℕ) (a : Circuit) : Type 0 where
   pub names : NamePlaces symbols (unnamed (counts_of a)) (named_of a)
   pub ends : Ends rest
 
+-- there is no next line, or it does not have as many numbers as its kind, or they are not good
+abbrev pub Breaks : ℕ → LineKind → List (List ℕ) → AigRule → Type 0
+Breaks most w [] e = e ≡ B02
+Breaks most w (l ∷ ls) e =
+    ((e ≡ B02) × (¬ ((ns : List ℕ) × (length ns ≡ size w) × HasNumbers l ns)))
+    ⊎ ((e ≡ B03) × ((ns : List ℕ) × HasNumbers l ns × (length ns ≡ size w) × (¬ (IsGood most w ns))))
+
 -- the line does not have as many numbers as its kind, or they are not good
 abbrev pub IsBad : ℕ → LineKind → List ℕ → AigRule → Type 0
 IsBad most w l e =
-    ((e ≡ B02) × (¬ (HasCount l (size w))))
+    ((e ≡ B02) × (¬ ((ns : List ℕ) × (length ns ≡ size w) × HasNumbers l ns)))
     ⊎ ((e ≡ B03) × ((ns : List ℕ) × HasNumbers l ns × (length ns ≡ size w) × (¬ (IsGood most w ns))))
-
--- there is no next line, or the next line is bad
-abbrev pub Breaks : ℕ → LineKind → List (List ℕ) → AigRule → Type 0
-Breaks most w [] e = e ≡ B02
-Breaks most w (l ∷ ls) e = IsBad most w l e
 
 -- this many lines are of their kinds, and the line after them breaks this rule
 abbrev pub LineFault : ℕ → List LineKind → List (List ℕ) → AigRule → ℕ → Type 0
-LineFault most [] ls e k = ⊥
 LineFault most (w ∷ ws) ls e zero = Breaks most w ls e
-LineFault most (w ∷ ws) [] e (suc k) = ⊥
 LineFault most (w ∷ ws) (l ∷ ls) e (suc k) = (ns : List ℕ) × HasNumbers l ns × IsGood most w ns × LineFault most ws ls e k
+LineFault most _ _ e _ = ⊥
 
 -- this many lines give names, and the line after them gives none and is not `c`
 abbrev pub SymbolFault : List (List ℕ) → Named → ℕ → Type 0

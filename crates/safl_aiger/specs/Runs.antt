@@ -1,5 +1,5 @@
 -- The meaning of a bit-level circuit: a set of equations for each cycle.
-use Rattle.std.specs.Prelude.{◌≡◌, ℕ, zero, suc, ◌+◌, List, [], ◌∷◌, Bool, false, ◌&&◌, Some, slice_get}
+use Rattle.std.specs.Prelude.{◌≡◌, ℕ, zero, suc, ◌+◌, List, [], ◌∷◌, replicate, Bool, false, ◌&&◌, Some, slice_get}
 use Rattle.safl_aiger.specs.declared.literal.Lit.{Lit}
 use Rattle.safl_aiger.specs.Literals.{Assignment, on, values}
 use Rattle.safl_aiger.specs.Circuits.{Circuit, latches, base}
@@ -26,11 +26,6 @@ pub record Fits (a : Circuit) (state given : List Bool) (m : Assignment) : Type 
   pub latches : latch_bits a m ≡ state
   pub wired : Wired (base a) a.ands m
 
--- this many latches, all false, as at the beginning
-abbrev pub all_false : ℕ → List Bool
-all_false zero = []
-all_false (suc n) = false ∷ all_false n
-
 -- the next values of the latches: those of their next literals
 abbrev pub next_bits : Circuit → Assignment → List Bool
 next_bits a m = values m a.nexts
@@ -41,9 +36,13 @@ output_bits a m = values m a.outputs
 -- the cycles of a run from a state, one for each list of inputs
 abbrev pub RunsFrom : Circuit → List Bool → List (List Bool) → List Assignment → Type 0
 RunsFrom a state [] [] = Unit {0}
-RunsFrom a state [] (m ∷ ms) = ⊥
-RunsFrom a state (x ∷ xs) [] = ⊥
 RunsFrom a state (x ∷ xs) (m ∷ ms) = Fits a state x m × RunsFrom a (next_bits a m) xs ms
+RunsFrom a state _ _ = ⊥
 
+-- at the beginning all latches are false
 abbrev pub Runs : Circuit → List (List Bool) → List Assignment → Type 0
-Runs a xs ms = RunsFrom a (all_false (latches a)) xs ms
+Runs a xs ms = RunsFrom a (replicate (latches a) false) xs ms
+
+-- this many latches, all false
+abbrev pub all_false : ℕ → List Bool
+all_false n = replicate n false

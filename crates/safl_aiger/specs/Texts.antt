@@ -1,8 +1,9 @@
 -- The text of a bit-level circuit.
-use Rattle.std.specs.Prelude.{ℕ, zero, suc, ◌+◌, ◌*◌, List, [], ◌∷◌, ◌++◌, length, codes, decimal}
+use Rattle.std.specs.Prelude.{ℕ, zero, suc, ◌+◌, ◌*◌, List, [], ◌∷◌, ◌++◌, map, length, codes, decimal}
 use Rattle.std.specs.List.{flat_map}
 use Rattle.safl_aiger.specs.declared.literal.Lit.{Lit}
 use Rattle.safl_aiger.specs.Circuits.{Circuit, latches, variables, base}
+use Rattle.safl_aiger.specs.Reads.{body_numbers}
 
 -- the lines, each followed by a line feed
 abbrev pub joined_lines : List (List ℕ) → List ℕ
@@ -13,9 +14,32 @@ joined_lines (l ∷ ls) = (l ++ 10 ∷ []) ++ joined_lines ls
 abbrev pub numbers_line : ℕ → List ℕ → List ℕ
 numbers_line n ns = decimal n ++ flat_map (λ k. 32 ∷ decimal k) ns
 
+-- the line of a row of numbers
+abbrev pub row_line : List ℕ → List ℕ
+row_line [] = []
+row_line (n ∷ ns) = numbers_line n ns
+
 -- the header: `aag`, and the numbers of variables, inputs, latches, outputs and ANDs
 abbrev pub header_line : Circuit → List ℕ
 header_line a = codes "aag " ++ numbers_line (variables a) (a.inputs ∷ latches a ∷ length a.outputs ∷ length a.ands ∷ [])
+
+-- the symbol line of something that has a name: the letter and its number, a space and the name
+abbrev pub symbol_text : ℕ → ℕ → List ℕ → List (List ℕ)
+symbol_text letter k [] = []
+symbol_text letter k (c ∷ cs) = (letter ∷ decimal k ++ 32 ∷ c ∷ cs) ∷ []
+
+abbrev pub symbols_text : ℕ → ℕ → List (List ℕ) → List (List ℕ)
+symbols_text letter k [] = []
+symbols_text letter k (x ∷ xs) = symbol_text letter k x ++ symbols_text letter (suc k) xs
+
+-- the lines of symbols
+abbrev pub symbol_lines : Circuit → List (List ℕ)
+symbol_lines a = symbols_text 105 0 a.input_names ++ (symbols_text 108 0 a.latch_names ++ symbols_text 111 0 a.output_names)
+
+abbrev pub written : Circuit → List ℕ
+written a = joined_lines (header_line a ∷ (map row_line (body_numbers a) ++ symbol_lines a))
+
+-- ---- the lines of each section
 
 -- The lines of inputs, latches, outputs and ANDs. The first variable of a section is this number; a line has its own literal, if
 -- there is one, and the other literals.
@@ -35,25 +59,6 @@ abbrev pub and_text : ℕ → List (Lit × Lit) → List (List ℕ)
 and_text first [] = []
 and_text first (p ∷ ps) = numbers_line (2 * first) (p.0.0 ∷ p.1.0 ∷ []) ∷ and_text (suc first) ps
 
--- the symbol line of something that has a name: the letter and its number, a space and the name
-abbrev pub symbol_text : ℕ → ℕ → List ℕ → List (List ℕ)
-symbol_text letter k [] = []
-symbol_text letter k (c ∷ cs) = (letter ∷ decimal k ++ 32 ∷ c ∷ cs) ∷ []
-
-abbrev pub symbols_text : ℕ → ℕ → List (List ℕ) → List (List ℕ)
-symbols_text letter k [] = []
-symbols_text letter k (x ∷ xs) = symbol_text letter k x ++ symbols_text letter (suc k) xs
-
-abbrev pub written_lines : Circuit → List (List ℕ)
-written_lines a =
-    header_line a ∷ (input_text 1 a.inputs ++ (latch_text (1 + a.inputs) a.nexts ++ (output_text a.outputs ++ (and_text (base a) a.ands ++ (symbols_text 105 0 a.input_names ++ (symbols_text 108 0 a.latch_names ++ symbols_text 111 0 a.output_names))))))
-
-abbrev pub written : Circuit → List ℕ
-written a = joined_lines (written_lines a)
-
--- the lines between the header and the symbols, and the lines of symbols
+-- the lines between the header and the symbols
 abbrev pub body_text : Circuit → List (List ℕ)
 body_text a = input_text 1 a.inputs ++ (latch_text (1 + a.inputs) a.nexts ++ (output_text a.outputs ++ and_text (base a) a.ands))
-
-abbrev pub symbol_lines : Circuit → List (List ℕ)
-symbol_lines a = symbols_text 105 0 a.input_names ++ (symbols_text 108 0 a.latch_names ++ symbols_text 111 0 a.output_names)

@@ -1,6 +1,6 @@
 //! Laws of bit-level circuits, over the definitions alone.
 
-ghost use Rattle.safl_aiger.specs.ReadLaws.{OneReading, OneFault, NoFault, ReadsOrFails};
+ghost use Rattle.safl_aiger.specs.ReadLaws.{OneReading, OneFault, NoFault, ReadIsCircuit, ReadsOrFails};
 ghost use Rattle.safl_aiger.specs.RunLaws.{SomeFit, OneFit, SomeRun};
 ghost use Rattle.safl_aiger.specs.TextLaws.{WrittenReads};
 
@@ -22,6 +22,12 @@ pub fn some_run_law()
 /// The text that is written for a circuit reads as that circuit.
 pub fn written_reads_law()
     ensures { WrittenReads }
+{}
+
+/// What a text reads as is a circuit: each literal is one of its variables, the operands of each AND come before it,
+/// and each name is without a line feed.
+pub fn read_circuit_law()
+    ensures { ReadIsCircuit }
 {}
 
 /// A text reads as at most one circuit.

@@ -33,8 +33,7 @@ put f i x j = cond (i == j) x (f j)
 
 abbrev pub is_unsent : Stage → Bool
 is_unsent Unsent = true
-is_unsent Sent = false
-is_unsent (Returned v) = false
+is_unsent _ = false
 
 -- the words that sites have got back
 abbrev pub back : State → ℕ → Option Word
@@ -43,18 +42,16 @@ back s (suc k) = back_word (s.site (suc k))
 
 -- what the body that a unit runs comes to
 abbrev pub says_as : Program → (ℕ → Option Word) → Mode → Answer
-says_as C words Idle = NotYet
 says_as C words (Runs f k args) = answer words args (C.body f)
-says_as C words (Delivers k v) = NotYet
+says_as C words _ = NotYet
 
 abbrev pub says : Program → State → ℕ → Answer
 says C s u = says_as C (back s) (s.unit u)
 
 -- the words with which the body of f wants site k, if the unit runs f
 abbrev pub asked_as : Program → (ℕ → Option Word) → Mode → ℕ → ℕ → Option (List Word)
-asked_as C words Idle f k = None
 asked_as C words (Runs g j args) f k = cond (g == f) (wanted words args (C.body f) k) None
-asked_as C words (Delivers j v) f k = None
+asked_as C words _ f k = None
 
 -- the words with which an unsent site is wanted. Site 0 wants the arguments from outside, if there are as many as main has
 -- parameters
@@ -120,14 +117,11 @@ after C args s (e ∷ es) = after C args (fire C args s e) es
 -- the word that unit u finished last, or d where it has finished none
 abbrev pub finished_as : Answer → Word → Word
 finished_as (Ready v) d = v
-finished_as (LoopTo h vs) d = d
-finished_as NotYet d = d
+finished_as _ d = d
 
 abbrev pub finished : Program → State → Event → ℕ → Word → Word
-finished C s (Accept k) u d = d
 finished C s (Finish f) u d = cond (C.unit f == u) (finished_as (says C s u) d) d
-finished C s (Return k) u d = d
-finished C s (LoopInto h) u d = d
+finished C s _ u d = d
 
 unfoldable pub last_word : Program → List Word → State → List Event → ℕ → Word → Word
 last_word C args s [] u d = d

@@ -34,9 +34,8 @@ abbrev pub is_site : Program → ℕ → Bool
 is_site C k = nat_lt 0 k && nat_le k C.sites
 
 abbrev pub as_words : List ℕ → List ℕ → List Word
-as_words [] bs = []
-as_words (w ∷ ws) [] = []
 as_words (w ∷ ws) (b ∷ bs) = as_word w b ∷ as_words ws bs
+as_words _ _ = []
 
 abbrev pub numbers : List Word → List ℕ
 numbers vs = map (λ v. v.bits) vs

@@ -2,31 +2,27 @@
 use Rattle.std.specs.Prelude.{◌≡◌, ℕ, zero, suc, ◌<◌, ◌++◌, List, [], Bool, true, false, ◌==◌}
 use Rattle.safl_sites.specs.Plan.{Choice}
 use Rattle.safl_circuit.specs.Equations.{Registers, Inputs, many, next, cycle_events}
-use Rattle.safl_calls.specs.Machine.{State, Mode, Idle, Runs, Delivers, Event, opening, CallerRests, Legal, after, last_word}
-use Rattle.safl_term.specs.Readiness.{Stage, Unsent, Sent, Returned}
+use Rattle.safl_calls.specs.Machine.{State, Mode, Runs, Delivers, Event, opening, CallerRests, Legal, after, last_word}
+use Rattle.safl_term.specs.Readiness.{Stage, Unsent, Returned}
 use Rattle.safl_term.specs.Program.{Program}
 use Rattle.safl_word.specs.Words.{Word}
 
 abbrev pub is_running : Mode → Bool
-is_running Idle = false
 is_running (Runs f k ws) = true
-is_running (Delivers k v) = false
+is_running _ = false
 
 abbrev pub is_delivering : Mode → Bool
-is_delivering Idle = false
-is_delivering (Runs f k ws) = false
 is_delivering (Delivers k v) = true
+is_delivering _ = false
 
 -- the site was sent, and may have returned
 abbrev pub was_sent : Stage → Bool
 was_sent Unsent = false
-was_sent Sent = true
-was_sent (Returned v) = true
+was_sent _ = true
 
 abbrev pub is_returned : Stage → Bool
-is_returned Unsent = false
-is_returned Sent = false
 is_returned (Returned v) = true
+is_returned _ = false
 
 -- The registers show the state. run is 1 exactly for running units, and fin exactly for delivering ones, whose res holds the
 -- word. In a running unit with several functions, at is 1 exactly for the one that runs, and its arguments are in its registers.

@@ -1,5 +1,5 @@
 -- The names of files for traces, and when they differ.
-use Rattle.std.specs.Prelude.{ℕ, List, [], ◌∷◌, Option, Some, None, String, Bool, true, false, not, ◌&&◌, bytes_eq, option_map, string_bytes}
+use Rattle.std.specs.Prelude.{ℕ, List, [], Option, Some, String, Bool, true, false, not, ◌&&◌, bytes_eq, option_map, string_bytes}
 use Rattle.std.specs.declared.alloc.Global.{Global}
 
 -- the names of the files for each kind of trace; each may be left out
@@ -14,9 +14,8 @@ files vcd starts toggles = record { vcd = option_map string_bytes vcd; starts = 
 
 -- the name, if it is given, is not empty
 abbrev pub is_named : Option (List ℕ) → Bool
-is_named None = true
 is_named (Some []) = false
-is_named (Some (c ∷ cs)) = true
+is_named _ = true
 
 -- the names are not both given and equal
 abbrev pub differ : Option (List ℕ) → Option (List ℕ) → Bool

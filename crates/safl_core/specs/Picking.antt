@@ -4,21 +4,18 @@ use Rattle.safl_word.specs.Words.{Word}
 use Rattle.safl_term.specs.Program.{Program}
 use Rattle.safl_calls.specs.Machine.{State, Event, Accept, Finish, Return, LoopInto, Enabled}
 
-abbrev pub rank : Event → ℕ
-rank (Accept k) = 0
-rank (Finish f) = 1
-rank (Return k) = 2
-rank (LoopInto h) = 3
-
-abbrev pub event_number : Event → ℕ
-event_number (Accept k) = k
-event_number (Finish f) = f
-event_number (Return k) = k
-event_number (LoopInto h) = h
+abbrev pub rank : Event → ℕ × ℕ
+rank (Accept k) = (0, k)
+rank (Finish f) = (1, f)
+rank (Return k) = (2, k)
+rank (LoopInto h) = (3, h)
 
 -- accepts come before finishes, these before returns, and these before loops; events of one kind are in rising order
 abbrev pub Precedes : Event → Event → Type 0
-Precedes d e = (rank d < rank e) ⊎ ((rank d ≡ rank e) × (event_number d < event_number e))
+Precedes d e = ((rank d).0 < (rank e).0) ⊎ (((rank d).0 ≡ (rank e).0) × ((rank d).1 < (rank e).1))
+
+abbrev pub event_number : Event → ℕ
+event_number e = (rank e).1
 
 -- the list has exactly the enabled events, each once and in this order
 pub record IsListing (C : Program) (args : List Word) (s : State) (es : List Event) : Type 0 where

@@ -8,8 +8,7 @@ use Rattle.safl_evaluate.specs.Answers.{is_ready, loops_to}
 
 abbrev pub is_idle : Mode → Bool
 is_idle Idle = true
-is_idle (Runs f k ws) = false
-is_idle (Delivers k v) = false
+is_idle _ = false
 
 abbrev pub runs : Mode → ℕ → Bool
 runs Idle f = false

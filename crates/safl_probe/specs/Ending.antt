@@ -6,8 +6,8 @@ use Rattle.safl_net.specs.Rules.{IsNetlist}
 use Rattle.safl_net.specs.Valuations.{Valuation, IsAcyclic}
 use Rattle.safl_net.specs.Whole.{IsWhole}
 use Rattle.safl_net.specs.Arguments.{AreArguments}
-use Rattle.safl_sim.specs.Outcomes.{IsOutcome}
 use Rattle.safl_sim.specs.declared.done.Done.{Done}
+use Rattle.safl_run.specs.Calls.{IsOutcome}
 use Rattle.safl_probe.specs.Runs.{IsRunOf}
 
 -- a run of `limit` cycles, and its outcome

@@ -6,9 +6,9 @@ use Rattle.safl_io.specs.Shelf.{ShelfState, SameFaults}
 use Rattle.safl_io.specs.Told.{TellsOn}
 use Rattle.safl_net.specs.Netlist.{Netlist}
 use Rattle.safl_net.specs.Arguments.{AreArguments}
-use Rattle.safl_net.specs.Valuations.{Valuation, read_output}
+use Rattle.safl_net.specs.Valuations.{Valuation, read_output, reset_state}
 use Rattle.safl_net.specs.Whole.{IsWhole}
-use Rattle.safl_sim.specs.Outcomes.{IsRun}
+use Rattle.safl_sim.specs.Outcomes.{IsCallRun}
 use Rattle.safl_sim.specs.Places.{resets}
 use Rattle.safl_sim.specs.Simulation.{Simulation}
 use Rattle.safl_probe.specs.Probing.{ProbeState, Tells, begun}
@@ -23,9 +23,9 @@ pub record BeginsRun (sim : Simulation) (args : List Word) : Type 0 where
   pub fresh : sim.state ≡ resets sim.net
   pub arguments : AreArguments sim.net args
 
--- a run of this many cycles, in which all inputs are 0 after cycle 0. A net without loops has exactly one
+-- a run of this many cycles from reset, in which all inputs are 0 after cycle 0. A net without loops has exactly one
 pub record IsRunOf (n : Netlist) (args : List Word) (count : ℕ) (vs : List Valuation) : Type 0 where
-  pub run : IsRun n args vs
+  pub run : IsCallRun n (reset_state n) args vs
   pub long : length vs ≡ count
 
 -- the cycles up to the first in which `done` is 1, including that one

@@ -1,7 +1,7 @@
 //! A run until `done` is 1, which probes may watch.
 
 ghost use Rattle.std.specs.Prelude.{◌≡◌, length, IfOk, IfErr, OnOk, OnErr};
-ghost use Rattle.safl_sim.specs.Outcomes.{IsOutcome};
+ghost use Rattle.safl_run.specs.Calls.{IsOutcome};
 ghost use Rattle.safl_probe.specs.Asked.{asked};
 ghost use Rattle.safl_probe.specs.Growth.{OldOrPart};
 ghost use Rattle.safl_probe.specs.Runs.{BeginsRun, RunIsTraced, TracesGrow};

@@ -12,13 +12,13 @@ use Rattle.safl_net.specs.Valuations.{Valuation, Fits, IsAcyclic, next_state, nu
 use Rattle.safl_net.specs.Whole.{IsWhole}
 use Rattle.safl_net.specs.Arguments.{AreArguments}
 use Rattle.safl_net.proofs.SignalKinds.{reset_at}
-use Rattle.safl_sim.specs.Outcomes.{IsCallRun, IsOutcome, output_word}
+use Rattle.safl_sim.specs.Outcomes.{IsCallRun, IsOnlyOutcome, output_word}
 use Rattle.safl_sim.specs.Places.{resets}
 use Rattle.safl_sim.specs.declared.done.Done.{Done}
 use Rattle.safl_sim.proofs.Existence.{call_exists, next_fits}
 use Rattle.safl_sim.proofs.Going.{fits_along}
 use Rattle.safl_sim.proofs.OneCall.{same_at, only_run}
-use Rattle.safl_run.specs.Calls.{Answers, Replies, IsSilent}
+use Rattle.safl_run.specs.Calls.{Answers, IsOutcome, Replies, IsSilent}
 use Rattle.safl_run.specs.Laws.{AnswersExist, AnswersOnce, AnswersAreOutcomes}
 
 -- ---- lists of cycles
@@ -193,8 +193,13 @@ answers_once n made whole acyclic limit state args a b x y p q = once n made who
 
 pub outcome : (n : Netlist) → IsNetlist n → IsWhole n → IsAcyclic n → (args : List Word) (limit : ℕ) (answer : Option Done) (after : ℕ → ℕ) → Answers
     n limit (reset_state n) args answer after → IsOutcome n args limit answer
-outcome n made whole acyclic args limit None after a = record { run = a.cycles; only = only_run n made whole acyclic args a.cycles limit a.call a.long; never = a.not_done }
-outcome n made whole acyclic args limit (Some d) after a = record {
+outcome n made whole acyclic args limit answer after a =
+    record { after = after; answers = a; alone = λ other state b. once n made whole acyclic limit (reset_state n) args other answer state after b a }
+
+only_outcome : (n : Netlist) → IsNetlist n → IsWhole n → IsAcyclic n → (args : List Word) (limit : ℕ) (answer : Option Done) (after : ℕ → ℕ) → Answers
+    n limit (reset_state n) args answer after → IsOnlyOutcome n args limit answer
+only_outcome n made whole acyclic args limit None after a = record { run = a.cycles; only = only_run n made whole acyclic args a.cycles limit a.call a.long; never = a.not_done }
+only_outcome n made whole acyclic args limit (Some d) after a = record {
   in_time = a.in_time;
   run = a.before ++ a.last ∷ [];
   only = only_run n made whole acyclic args (a.before ++ a.last ∷ []) (d.cycle + 1) a.call (length_push a.before a.last ∙ ap (λ k. k + 1) a.long);
@@ -210,7 +215,7 @@ outcome n made whole acyclic args limit (Some d) after a = record {
 }
 
 pub answers_are_outcomes : AnswersAreOutcomes
-answers_are_outcomes n made whole acyclic args limit answer after a = outcome n made whole acyclic args limit answer after a
+answers_are_outcomes n made whole acyclic args limit answer after a = only_outcome n made whole acyclic args limit answer after a
 
 -- equal states have the same calls
 pub call_along : (n : Netlist) (state other : ℕ → ℕ) (args : List Word) (vs : List Valuation) → ((s : ℕ) → state s ≡ other s) → IsCallRun n state args vs → IsCallRun n other args vs

@@ -2,7 +2,7 @@
 use Rattle.std.specs.Prelude.{◌≡◌, ℕ, ◌<◌, List, [], ◌∷◌, ◌++◌, length, Option, Some, None, codes}
 use Rattle.safl_word.specs.Words.{Word}
 use Rattle.safl_net.specs.Netlist.{Netlist}
-use Rattle.safl_net.specs.Valuations.{Valuation, read_output, next_state}
+use Rattle.safl_net.specs.Valuations.{Valuation, read_output, next_state, reset_state}
 use Rattle.safl_sim.specs.Outcomes.{IsCallRun, NotDoneBefore, output_word}
 use Rattle.safl_sim.specs.declared.done.Done.{Done}
 
@@ -30,6 +30,12 @@ pub record IsSilent (n : Netlist) (limit : ℕ) (state : ℕ → ℕ) (args : Li
 abbrev pub Answers : Netlist → ℕ → (ℕ → ℕ) → List Word → Option Done → (ℕ → ℕ) → Type 0
 Answers n limit state args None after = IsSilent n limit state args
 Answers n limit state args (Some r) after = Replies n limit state args r after
+
+-- the outcome of a run is the answer to a call from reset, and there is no other answer
+pub record IsOutcome (n : Netlist) (args : List Word) (limit : ℕ) (answer : Option Done) : Type 0 where
+  pub after : ℕ → ℕ
+  pub answers : Answers n limit (reset_state n) args answer after
+  pub alone : (other : Option Done) (state : ℕ → ℕ) → Answers n limit (reset_state n) args other state → other ≡ answer
 
 -- the cycles of a call up to the reply, or all below the limit if there is none
 abbrev pub cycles_of : (n : Netlist) (limit : ℕ) (state : ℕ → ℕ) (args : List Word) (answer : Option Done) (after : ℕ → ℕ) → Answers n limit state args answer after → List Valuation

@@ -7,7 +7,7 @@ use Rattle.safl_net.specs.Rules.{IsNetlist}
 use Rattle.safl_net.specs.Valuations.{Valuation, IsAcyclic, reset_state}
 use Rattle.safl_net.specs.Whole.{IsWhole}
 use Rattle.safl_net.specs.Arguments.{AreArguments}
-use Rattle.safl_sim.specs.Outcomes.{IsCallRun, IsOutcome}
+use Rattle.safl_sim.specs.Outcomes.{IsCallRun, IsOnlyOutcome}
 use Rattle.safl_sim.specs.declared.done.Done.{Done}
 use Rattle.safl_run.specs.Calls.{Answers}
 
@@ -30,8 +30,8 @@ AnswersOnce =
     (n : Netlist) → IsNetlist n → IsWhole n → IsAcyclic n → (limit : ℕ) (state : ℕ → ℕ) (args : List Word) (a b : Option Done) (x y : ℕ → ℕ)
     → Answers n limit state args a x → Answers n limit state args b y → a ≡ b
 
--- the answer from reset is the outcome of the run
+-- the answer from reset is what the only run shows
 abbrev pub AnswersAreOutcomes : Type 0
 AnswersAreOutcomes =
     (n : Netlist) → IsNetlist n → IsWhole n → IsAcyclic n → (args : List Word) (limit : ℕ) (answer : Option Done) (after : ℕ → ℕ)
-    → Answers n limit (reset_state n) args answer after → IsOutcome n args limit answer
+    → Answers n limit (reset_state n) args answer after → IsOnlyOutcome n args limit answer

@@ -4,7 +4,7 @@ ghost use Rattle.std.specs.Prelude.{◌≡◌, IfOk, OnErr};
 ghost use Rattle.safl_net.specs.Whole.{IsWhole};
 ghost use Rattle.safl_sim.specs.Places.{resets};
 ghost use Rattle.safl_net.specs.Arguments.{AreArguments};
-ghost use Rattle.safl_sim.specs.Outcomes.{IsOutcome};
+ghost use Rattle.safl_run.specs.Calls.{IsOutcome};
 
 use crate::harness::{Harness, call};
 use safl_sim::{Done, Sim};

@@ -20,10 +20,9 @@ some_of ((x ∷ xs) ∷ pieces) = (x ∷ xs) ∷ some_of pieces
 
 -- the pieces without the last one, if that is empty
 abbrev pub ended_of : List (List ℕ) → List (List ℕ)
-ended_of [] = []
-ended_of ([] ∷ []) = []
 ended_of ([] ∷ q ∷ pieces) = [] ∷ ended_of (q ∷ pieces)
 ended_of ((x ∷ xs) ∷ pieces) = (x ∷ xs) ∷ ended_of pieces
+ended_of _ = []
 
 -- the words of a line: those pieces between its spaces that are not empty
 abbrev pub HasWords : List ℕ → List (List ℕ) → Type 0

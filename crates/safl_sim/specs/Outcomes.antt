@@ -51,6 +51,7 @@ pub record IsNotDone (n : Netlist) (args : List Word) (limit : ℕ) : Type 0 whe
   pub only : IsOnlyRun n args limit run
   pub never : NotDoneBefore n run limit
 
-abbrev pub IsOutcome : Netlist → List Word → ℕ → Option Done → Type 0
-IsOutcome n args limit None = IsNotDone n args limit
-IsOutcome n args limit (Some d) = IsDone n args limit d
+-- what the only run shows below the limit
+abbrev pub IsOnlyOutcome : Netlist → List Word → ℕ → Option Done → Type 0
+IsOnlyOutcome n args limit None = IsNotDone n args limit
+IsOnlyOutcome n args limit (Some d) = IsDone n args limit d

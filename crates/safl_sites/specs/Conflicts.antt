@@ -1,7 +1,7 @@
 -- Which sites are in reach of a term, and which sites conflict.
 use Rattle.std.specs.Prelude.{◌≡◌, ◌≢◌, ℕ, ◌<◌, ◌⊎◌}
 use Rattle.safl_term.specs.Program.{Program, unit_for}
-use Rattle.safl_term.specs.Terms.{Term, Terms, Const, Var, Op, If, Let, Call, Loop, Nil, Cons}
+use Rattle.safl_term.specs.Terms.{Term, Terms, Op, If, Let, Call, Loop, Nil, Cons}
 use Rattle.safl_term.specs.Standing.{Stands}
 
 -- Site k is in reach of a term: it is in the term, or in reach of the body of a function in a group that the term calls. A loop
@@ -21,13 +21,12 @@ unfoldable mutual
   -- Two parallel terms within the term have j in reach of the one and k in reach of the other. Parallel terms are different
   -- operands of an operator, arguments of a call or loop, or bindings of a let.
   pub Apart : Program → ℕ → ℕ → Term → Type 0
-  Apart C j k (Const n) = ⊥
-  Apart C j k (Var i) = ⊥
   Apart C j k (Op p ts) = ApartIn C j k ts
   Apart C j k (If c a b) = Apart C j k c ⊎ (Apart C j k a ⊎ Apart C j k b)
   Apart C j k (Let bs b) = ApartIn C j k bs ⊎ Apart C j k b
   Apart C j k (Call f i ts) = ApartIn C j k ts
   Apart C j k (Loop h ts) = ApartIn C j k ts
+  Apart C j k _ = ⊥
 
   pub ApartIn : Program → ℕ → ℕ → Terms → Type 0
   ApartIn C j k Nil = ⊥

@@ -10,13 +10,12 @@ unfoldable mutual
   -- an operator and an if by what feeds their parts, a let by what feeds its body, and a variable by what feeds its binding. A
   -- constant, a parameter and a loop are fed by nothing.
   pub feeds : ℕ → List Bool → Term → Bool
-  feeds k fe (Const n) = false
   feeds k fe (Var i) = bool_at fe i
   feeds k fe (Op p ts) = feeds_any k fe ts
   feeds k fe (If c a b) = feeds k fe c || (feeds k fe a || feeds k fe b)
   feeds k fe (Let bs b) = feeds k (fe ++ feeds_each k fe bs) b
   feeds k fe (Call f j ts) = j == k
-  feeds k fe (Loop h ts) = false
+  feeds k fe _ = false
 
   pub feeds_any : ℕ → List Bool → Terms → Bool
   feeds_any k fe Nil = false
@@ -46,13 +45,12 @@ unfoldable mutual
 
   -- k feeds the condition of an if within the term
   pub Decides : ℕ → List Bool → Term → Type 0
-  Decides k fe (Const n) = ⊥
-  Decides k fe (Var i) = ⊥
   Decides k fe (Op p ts) = DecidesIn k fe ts
   Decides k fe (If c a b) = (feeds k fe c ≡ true) ⊎ (Decides k fe c ⊎ (Decides k fe a ⊎ Decides k fe b))
   Decides k fe (Let bs b) = DecidesIn k fe bs ⊎ Decides k (fe ++ feeds_each k fe bs) b
   Decides k fe (Call f j ts) = DecidesIn k fe ts
   Decides k fe (Loop h ts) = DecidesIn k fe ts
+  Decides k fe _ = ⊥
 
   pub DecidesIn : ℕ → List Bool → Terms → Type 0
   DecidesIn k fe Nil = ⊥
@@ -61,45 +59,31 @@ unfoldable mutual
 -- k is in reach of the body of a let. If the body is itself a call, k is in reach of one of its arguments
 unfoldable pub InBody : Program → ℕ → Term → Type 0
 unfolding ReachesIn
-InBody C k (Const n) = Reaches C k (Const n)
-InBody C k (Var i) = Reaches C k (Var i)
-InBody C k (Op p ts) = Reaches C k (Op p ts)
-InBody C k (If c a b) = Reaches C k (If c a b)
-InBody C k (Let bs b) = Reaches C k (Let bs b)
 InBody C k (Call f j ts) = ReachesIn C k ts
-InBody C k (Loop h ts) = Reaches C k (Loop h ts)
+InBody C k t = Reaches C k t
 
 unfoldable mutual
   unfolding feeds InBody Uses
 
   -- in a let within the term, k feeds the binding of a slot that the body uses, and j is in reach of that body
   pub Held : Program → ℕ → ℕ → List Bool → Term → Type 0
-  Held C k j fe (Const n) = ⊥
-  Held C k j fe (Var i) = ⊥
   Held C k j fe (Op p ts) = HeldIn C k j fe ts
   Held C k j fe (If c a b) = Held C k j fe c ⊎ (Held C k j fe a ⊎ Held C k j fe b)
   Held C k j fe (Let bs b) = ((i : ℕ) × (bool_at (feeds_each k fe bs) i ≡ true) × Uses (length fe + i) b × InBody C j b) ⊎ (HeldIn C k j fe bs ⊎ Held C k j (fe ++ feeds_each k fe bs) b)
   Held C k j fe (Call f i ts) = HeldIn C k j fe ts
   Held C k j fe (Loop h ts) = HeldIn C k j fe ts
+  Held C k j fe _ = ⊥
 
   pub HeldIn : Program → ℕ → ℕ → List Bool → Terms → Type 0
   HeldIn C k j fe Nil = ⊥
   HeldIn C k j fe (Cons t ts) = Held C k j fe t ⊎ HeldIn C k j fe ts
 
--- the body that has site k; and its parameters, which no site feeds
-abbrev pub home : Program → ℕ → Term
-home C k = C.body (C.caller k)
-
-abbrev pub unfed : Program → ℕ → List Bool
-unfed C k = replicate (arity C (C.caller k)) false
-
 -- Why site k keeps its word: because of another site of its unit. Either the two conflict; or k feeds a condition of the body
 -- that has k, and the other is in reach of that body; or k feeds a binding of a let there that the let's body uses, and the other
--- is in reach of the let's body.
+-- is in reach of the let's body. No site feeds the parameters.
 pub record Kept (C : Program) (k : ℕ) : Type 0 where
   pub because : ℕ
   pub other : k ≢ because
   pub same : unit_for C k ≡ unit_for C because
-  pub why : Conflict C k because
-      ⊎ ((Decides k (unfed C k) (home C k) × Reaches C because (home C k))
-      ⊎ Held C k because (unfed C k) (home C k))
+  pub why : let body = C.body (C.caller k) in let fe = replicate (arity C (C.caller k)) false in
+      Conflict C k because ⊎ ((Decides k fe body × Reaches C because body) ⊎ Held C k because fe body)

@@ -24,54 +24,49 @@ mutual
     gives_nil : {env : List Word} → GivesAll C env Nil []
     gives_cons : {env : List Word} {t : Term} {ts : Terms} {v : Word} {vs : List Word} → Gives C env t v → GivesAll C env ts vs → GivesAll C env (Cons t ts) (v ∷ vs)
 
--- how many applications of functions an evaluation makes: one for each call and each loop
-abbrev mutual
-  pub cost : (C : Program) {env : List Word} {t : Term} {v : Word} → Gives C env t v → ℕ
-  cost C gives_const = 0
-  cost C gives_var = 0
-  cost C (gives_op ds) = costs C ds
-  cost C (gives_if c d) = cost C c + cost C d
-  cost C (gives_let ds d) = costs C ds + cost C d
-  cost C (gives_call ds d) = costs C ds + suc (cost C d)
-  cost C (gives_loop ds d) = costs C ds + suc (cost C d)
+-- What an evaluation comes to: constants and variables come to `none`, and what parts come to is joined by `both`. A call adds to
+-- what the body of its function comes to, by its site, its function and its arguments; a loop does so by its function and
+-- arguments.
+module _ (A : Type 0) (none : A) (both : A → A → A) (call : ℕ → ℕ → List Word → A → A) (loop : ℕ → List Word → A → A) where
+  abbrev mutual
+    pub tally : (C : Program) {env : List Word} {t : Term} {v : Word} → Gives C env t v → A
+    tally C gives_const = none
+    tally C gives_var = none
+    tally C (gives_op ds) = tallies C ds
+    tally C (gives_if c d) = both (tally C c) (tally C d)
+    tally C (gives_let ds d) = both (tallies C ds) (tally C d)
+    tally C (gives_call {f = f} {k = k} {us = us} ds d) = both (tallies C ds) (call k f us (tally C d))
+    tally C (gives_loop {h = h} {us = us} ds d) = both (tallies C ds) (loop h us (tally C d))
 
-  pub costs : (C : Program) {env : List Word} {ts : Terms} {vs : List Word} → GivesAll C env ts vs → ℕ
-  costs C gives_nil = 0
-  costs C (gives_cons d ds) = cost C d + costs C ds
+    pub tallies : (C : Program) {env : List Word} {ts : Terms} {vs : List Word} → GivesAll C env ts vs → A
+    tallies C gives_nil = none
+    tallies C (gives_cons d ds) = both (tally C d) (tallies C ds)
+
+-- how many applications of functions an evaluation makes: one for each call and each loop
+abbrev pub cost : (C : Program) {env : List Word} {t : Term} {v : Word} → Gives C env t v → ℕ
+cost C d = tally ℕ 0 (λ m n. m + n) (λ k f us n. suc n) (λ f us n. suc n) C d
 
 -- how many of the applications of an evaluation are made by a loop
-abbrev mutual
-  pub loops : (C : Program) {env : List Word} {t : Term} {v : Word} → Gives C env t v → ℕ
-  loops C gives_const = 0
-  loops C gives_var = 0
-  loops C (gives_op ds) = loops_all C ds
-  loops C (gives_if c d) = loops C c + loops C d
-  loops C (gives_let ds d) = loops_all C ds + loops C d
-  loops C (gives_call ds d) = loops_all C ds + loops C d
-  loops C (gives_loop ds d) = loops_all C ds + suc (loops C d)
-
-  pub loops_all : (C : Program) {env : List Word} {ts : Terms} {vs : List Word} → GivesAll C env ts vs → ℕ
-  loops_all C gives_nil = 0
-  loops_all C (gives_cons d ds) = loops C d + loops_all C ds
+abbrev pub loops : (C : Program) {env : List Word} {t : Term} {v : Word} → Gives C env t v → ℕ
+loops C d = tally ℕ 0 (λ m n. m + n) (λ k f us n. n) (λ f us n. suc n) C d
 
 -- the argument list of an application of g, if g is f
 abbrev pub at_function : ℕ → ℕ → List Word → List (List Word)
 at_function f g us = if g == f then us ∷ [] else []
 
 -- the argument lists of all applications of f in an evaluation
-abbrev mutual
-  pub calls : (C : Program) (f : ℕ) {env : List Word} {t : Term} {v : Word} → Gives C env t v → List (List Word)
-  calls C f gives_const = []
-  calls C f gives_var = []
-  calls C f (gives_op ds) = calls_all C f ds
-  calls C f (gives_if c d) = calls C f c ++ calls C f d
-  calls C f (gives_let ds d) = calls_all C f ds ++ calls C f d
-  calls C f (gives_call {f = g} {us = us} ds d) = calls_all C f ds ++ (at_function f g us ++ calls C f d)
-  calls C f (gives_loop {h = h} {us = us} ds d) = calls_all C f ds ++ (at_function f h us ++ calls C f d)
+abbrev pub calls : (C : Program) (f : ℕ) {env : List Word} {t : Term} {v : Word} → Gives C env t v → List (List Word)
+calls C f d = tally (List (List Word)) [] (λ xs ys. xs ++ ys) (λ k g us xs. at_function f g us ++ xs) (λ g us xs. at_function f g us ++ xs) C d
 
-  pub calls_all : (C : Program) (f : ℕ) {env : List Word} {ts : Terms} {vs : List Word} → GivesAll C env ts vs → List (List Word)
-  calls_all C f gives_nil = []
-  calls_all C f (gives_cons d ds) = calls C f d ++ calls_all C f ds
+-- the same of the evaluations of terms
+abbrev pub costs : (C : Program) {env : List Word} {ts : Terms} {vs : List Word} → GivesAll C env ts vs → ℕ
+costs C ds = tallies ℕ 0 (λ m n. m + n) (λ k f us n. suc n) (λ f us n. suc n) C ds
+
+abbrev pub loops_all : (C : Program) {env : List Word} {ts : Terms} {vs : List Word} → GivesAll C env ts vs → ℕ
+loops_all C ds = tallies ℕ 0 (λ m n. m + n) (λ k f us n. n) (λ f us n. suc n) C ds
+
+abbrev pub calls_all : (C : Program) (f : ℕ) {env : List Word} {ts : Terms} {vs : List Word} → GivesAll C env ts vs → List (List Word)
+calls_all C f ds = tallies (List (List Word)) [] (λ xs ys. xs ++ ys) (λ k g us xs. at_function f g us ++ xs) (λ g us xs. at_function f g us ++ xs) C ds
 
 -- main on args evaluates to v, in n applications
 abbrev pub Main : Program → List Word → Word → Type 0

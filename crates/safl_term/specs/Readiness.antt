@@ -13,9 +13,8 @@ pub data Stage : Type 0 where
 
 -- the word that a site has returned, if it has
 abbrev pub back_word : Stage → Option Word
-back_word Unsent = None
-back_word Sent = None
 back_word (Returned v) = Some v
+back_word _ = None
 
 -- what a body comes to: a word, a tail call of a function of its group with these words, or nothing yet
 pub data Answer : Type 0 where
@@ -25,35 +24,22 @@ pub data Answer : Type 0 where
 
 abbrev pub word_of : Answer → Option Word
 word_of (Ready v) = Some v
-word_of (LoopTo h vs) = None
-word_of NotYet = None
+word_of _ = None
 
 -- the words of one part and of the rest, if all are ready
 abbrev pub both : Answer → Option (List Word) → Option (List Word)
-both (Ready v) None = None
 both (Ready v) (Some vs) = Some (v ∷ vs)
-both (LoopTo h ws) o = None
-both NotYet o = None
+both _ _ = None
 
 -- the answer that is this word, or nothing yet if there is none
 abbrev pub ready_from : Option Word → Answer
 ready_from None = NotYet
 ready_from (Some v) = Ready v
 
--- the answer that is a primitive's result, or a tail call, if all words are ready
-abbrev pub apply_to : Primitive → Option (List Word) → Answer
-apply_to p None = NotYet
-apply_to p (Some vs) = Ready (apply_prim p vs)
-
-abbrev pub loop_to : ℕ → Option (List Word) → Answer
-loop_to h None = NotYet
-loop_to h (Some vs) = LoopTo h vs
-
 -- what belongs to the branch that a condition selects, or a third value if the condition is not ready
 abbrev pub select : {A : Type 0} → Answer → A → A → A → A
 select (Ready u) none a b = choose u a b
-select (LoopTo h vs) none a b = none
-select NotYet none a b = none
+select _ none a b = none
 
 -- what follows from all words, or another value if they are not all ready
 abbrev pub with_all : {A : Type 0} → Option (List Word) → A → (List Word → A) → A
@@ -72,11 +58,11 @@ unfoldable mutual
   pub answer : (ℕ → Option Word) → List Word → Term → Answer
   answer back env (Const w) = Ready w
   answer back env (Var i) = Ready (slot env i)
-  answer back env (Op p ts) = apply_to p (answers back env ts)
+  answer back env (Op p ts) = with_all (answers back env ts) NotYet (λ vs. Ready (apply_prim p vs))
   answer back env (If c a b) = select (answer back env c) NotYet (answer back env a) (answer back env b)
   answer back env (Let bs b) = with_all (answers back env bs) NotYet (λ vs. answer back (env ++ vs) b)
   answer back env (Call f k ts) = ready_from (back k)
-  answer back env (Loop h ts) = loop_to h (answers back env ts)
+  answer back env (Loop h ts) = with_all (answers back env ts) NotYet (λ vs. LoopTo h vs)
 
   pub answers : (ℕ → Option Word) → List Word → Terms → Option (List Word)
   answers back env Nil = Some []
@@ -87,14 +73,20 @@ unfoldable mutual
   -- term. But a branch of an if has it only if the condition is ready and selects the branch, and the body of a let only if all
   -- bindings are ready.
   pub wanted : (ℕ → Option Word) → List Word → Term → ℕ → Option (List Word)
-  wanted back env (Const w) k = None
-  wanted back env (Var i) k = None
   wanted back env (Op p ts) k = wanted_in back env ts k
   wanted back env (If c a b) k = or_else (wanted back env c k) (select (answer back env c) None (wanted back env a k) (wanted back env b k))
   wanted back env (Let bs b) k = or_else (wanted_in back env bs k) (with_all (answers back env bs) None (λ vs. wanted back (env ++ vs) b k))
   wanted back env (Call f j ts) k = cond (j == k) (answers back env ts) (wanted_in back env ts k)
   wanted back env (Loop h ts) k = wanted_in back env ts k
+  wanted back env _ k = None
 
   pub wanted_in : (ℕ → Option Word) → List Word → Terms → ℕ → Option (List Word)
   wanted_in back env Nil k = None
   wanted_in back env (Cons t ts) k = or_else (wanted back env t k) (wanted_in back env ts k)
+
+-- the answer that is a primitive's result, or a tail call, if all words are ready
+abbrev pub apply_to : Primitive → Option (List Word) → Answer
+apply_to p o = with_all o NotYet (λ vs. Ready (apply_prim p vs))
+
+abbrev pub loop_to : ℕ → Option (List Word) → Answer
+loop_to h o = with_all o NotYet (λ vs. LoopTo h vs)

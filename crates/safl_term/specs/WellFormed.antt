@@ -44,9 +44,8 @@ abbrev mutual
 -- the words have these widths
 abbrev pub AreWordsOf : List Word → List ℕ → Type 0
 AreWordsOf [] [] = Unit {0}
-AreWordsOf [] (w ∷ ws) = ⊥
-AreWordsOf (v ∷ vs) [] = ⊥
 AreWordsOf (v ∷ vs) (w ∷ ws) = IsWord v × (v.width ≡ w) × AreWordsOf vs ws
+AreWordsOf _ _ = ⊥
 
 -- Each body has an interval of sites, which begin at 1. Units are below a bound, and no unit is above main's. A function that
 -- does not exist has a constant as its body, and unit 0.

@@ -14,12 +14,13 @@ use Rattle.safl_net.specs.Arguments.{argument_widths}
 use Rattle.safl_sim.specs.Places.{resets}
 use Rattle.safl_sim.proofs.Builds.{resets_fit}
 use Rattle.safl_term.specs.Program.{Program}
+use Rattle.safl_term.specs.Names.{Names}
 use Rattle.safl_term.specs.WellFormed.{AreWordsOf}
 use Rattle.safl_net.proofs.SignalKinds.{reset_at}
 use Rattle.safl_session.specs.declared.script.ScriptErr.{ScriptErr}
 use Rattle.safl_session.specs.declared.script.ScriptErr.TheVariants as errors
 use Rattle.safl_sim.specs.declared.done.Done.{Done as Reply}
-use Rattle.safl_session.specs.Circuits.{CircuitsServe, CircuitsReply, ResetIsQuiet, IsInTime}
+use Rattle.safl_session.specs.Circuits.{CircuitsServe, CircuitsReply, ResetIsQuiet, IsInTime, Serves}
 use Rattle.safl_session.specs.Laws as sessions
 use Rattle.safl_session.specs.Laws.{AreCallsOf}
 use Rattle.safl_session.specs.Lines as lines
@@ -122,7 +123,6 @@ module _ (source script : List ℕ) (o : ReadySession) (is : IsReadySession sour
           made = c.made;
           whole = c.whole;
           read = read;
-          replied = replied rs a;
           serves =
               serves c.program c.names c.circuit.choice net c.circuit.scheme c.circuit.circuit c.made c.whole limit (reset_state net) (reset c.program c.names c.circuit.choice net c.circuit.scheme)
               calls (calls_sized (c.program.params c.program.main) script calls read) rs (replied rs a);
@@ -160,14 +160,14 @@ misscripted name source script n c e not r line is = elim r [
   | inl none ↦ absurd (not none)
   | inr f ↦ inr (
     refl,
-    record {
-      program = c.program;
-      names = c.names;
-      source_of = c.source_of;
-      fault = e;
-      first = subst (λ (ws : List ℕ). IsScriptFault ws script e) c.params f;
-      is = subst (λ (ws : List ℕ). line ≡ script_line ws e) c.params is;
-    },
+    (
+      c.program,
+      c.names,
+      e,
+      c.source_of,
+      subst (λ (ws : List ℕ). IsScriptFault ws script e) c.params f,
+      subst (λ (ws : List ℕ). line ≡ script_line ws e) c.params is,
+    ),
   )
 ]
 
@@ -199,20 +199,29 @@ argument_told l m q p w v a b c =
 
 -- ---- what is promised
 
+-- calls that are served have these replies
+served : (C : Program) (D : Names) (n : Netlist) (limit : ℕ) (state : ℕ → ℕ) (calls : List (List Word)) (rs : List Reply) → Serves C D n limit state calls rs
+    → AreReplies n limit state calls rs
+served C D n limit state [] [] s = tt
+served C D n limit state [] (r ∷ rs) s = s
+served C D n limit state (args ∷ calls) [] s = s.1
+served C D n limit state (args ∷ calls) (r ∷ rs) s = (s.2.0, s.2.1, served C D n limit s.2.0 calls rs s.2.2)
+
 pub misscripted_not : OneProgram → sessions.NotBoth → (source script : List ℕ) (limit : ℕ) (line : List ℕ) → EvaluatesEach source script limit → IsMisscripted source script line → ⊥
 misscripted_not once apart source script limit line e m =
-    let C : m.program ≡ e.program = (once source m.program e.program m.names e.names m.source_of e.source_of).0 in
-    apart (m.program.params m.program.main) script e.calls m.fault (subst (λ (x : Program). IsScript (x.params x.main) script e.calls) (sym C) e.read) m.first
+    let C : m.0 ≡ e.0 = (once source m.0 e.0 m.1 e.1 m.3 e.3).0 in
+    apart (m.0.params m.0.main) script e.2 m.2 (subst (λ (x : Program). IsScript (x.params x.main) script e.2) (sym C) e.4) m.4
 
 pub replies_come : OneProgram → CircuitsReply → ResetIsQuiet → sessions.OneScript → (limit : ℕ) (source script : List ℕ) (g : Given) → EvaluatesEach
     source script limit → GivesReplies limit source script g → g.comes ≡ true
 replies_come once reply reset script_once limit source script g e (calls, rs, v, is) =
-    let C : v.program ≡ e.program = (once source v.program e.program v.names e.names v.source_of e.source_of).0 in
-    let read : IsScript (v.program.params v.program.main) script e.calls = subst (λ (x : Program). IsScript (x.params x.main) script e.calls) (sym C) e.read in
-    let same : e.calls ≡ calls = script_once (v.program.params v.program.main) script e.calls calls read v.read in
+    let C : v.program ≡ e.0 = (once source v.program e.0 v.names e.1 v.source_of e.3).0 in
+    let read : IsScript (v.program.params v.program.main) script e.2 = subst (λ (x : Program). IsScript (x.params x.main) script e.2) (sym C) e.4 in
+    let same : e.2 ≡ calls = script_once (v.program.params v.program.main) script e.2 calls read v.read in
     let each : All (IsInTime v.program limit) calls = subst (λ (l : List (List Word)). All (IsInTime v.program limit) l) same
-    (subst (λ (x : Program). All (IsInTime x limit) e.calls) (sym C) e.each) in
+    (subst (λ (x : Program). All (IsInTime x limit) e.2) (sym C) e.5) in
     let long : length rs ≡ length calls =
     reply v.program v.names v.circuit.choice v.net v.circuit.scheme v.circuit.circuit v.made v.whole limit (reset_state v.net) (reset v.program v.names v.circuit.choice v.net v.circuit.scheme)
-    calls (calls_sized (v.program.params v.program.main) script calls v.read) each rs v.replied in
+    calls (calls_sized (v.program.params v.program.main) script calls v.read) each rs
+    (served v.program v.names v.net limit (reset_state v.net) calls rs v.serves) in
     ap (λ (x : Given). x.comes) is ∙ eq-eqb (length rs) (length calls) long

@@ -8,7 +8,7 @@ use Rattle.safl_net.specs.Netlist.{Netlist}
 use Rattle.safl_net.specs.Valuations.{IsAcyclic}
 use Rattle.safl_net.specs.Arguments.{argument_widths}
 use Rattle.safl_sim.specs.declared.done.Done.{Done}
-use Rattle.safl_sim.specs.Outcomes.{IsDone}
+use Rattle.safl_run.specs.Calls.{IsOutcome}
 use Rattle.safl_compiler.specs.Laws.{OneProgram, NotBoth}
 use Rattle.safl_verilog.specs.Laws as verilog
 use Rattle.safl_aiger.specs.ReadLaws.{NoFault}
@@ -42,7 +42,6 @@ use Rattle.safl_tool.specs.Reporting.{GivesReport, Measures, made_source, made_a
 use Rattle.safl_task.specs.declared.status.Status.{Status}
 use Rattle.safl_task.proofs.Following.{IsKept}
 use Rattle.safl_tool.proofs.Simulated.{read_words}
-use Rattle.safl_tool.proofs.Ran.{done_not_done}
 use Rattle.safl_tool.proofs.Bits.{bits_not_refused, aig_not_refused}
 use Rattle.safl_tool.proofs.Conversed.{misscripted_not, replies_come}
 
@@ -71,55 +70,62 @@ abbrev Fitting : Program → List Word → Word → Limited → Type 0
 Fitting C words v Fits = (d : Main C words v) × Fits C words v d
 
 fitting : OneProgram → (source : List ℕ) (args : List (List ℕ)) (Fits : Limited) (e : Evaluates source args Fits) (C : Program) (D : Names) →
-    IsSourceOf source C D → (words : List Word) → AreArguments (C.params C.main) args words → Fitting C words e.value Fits
+    IsSourceOf source C D → (words : List Word) → AreArguments (C.params C.main) args words → Fitting C words e.5 Fits
 fitting once source args Fits e C D of words read =
-    let same : e.program ≡ C = (once source e.program C e.names D e.source_of of).0 in
-    let given : AreArguments (C.params C.main) args e.words = subst (λ (x : Program). AreArguments (x.params x.main) args e.words) same e.read in
-    let here : (d : Main C e.words e.value) × Fits C e.words e.value d = subst (λ (x : Program). (d : Main x e.words e.value) × Fits x e.words e.value d) same (e.by, e.enough) in
-    subst (λ l. (d : Main C l e.value) × Fits C l e.value d) (args_once (C.params C.main) args e.words words given read) here
+    let same : e.0 ≡ C = (once source e.0 C e.1 D e.2 of).0 in
+    let given : AreArguments (C.params C.main) args e.3 = subst (λ (x : Program). AreArguments (x.params x.main) args e.3) same e.4 in
+    let here : (d : Main C e.3 e.5) × Fits C e.3 e.5 d = subst (λ (x : Program). (d : Main x e.3 e.5) × Fits x e.3 e.5 d) same (e.6, e.7) in
+    subst (λ l. (d : Main C l e.5) × Fits C l e.5 d) (args_once (C.params C.main) args e.3 words given read) here
 
 comes_in_time : OneProgram → (source : List ℕ) (args : List (List ℕ)) (limit : ℕ) → Simulates source args limit None → Evaluates source args (InCycles limit) → ⊥
 comes_in_time once source args limit s e =
     let f = fitting once source args (InCycles limit) e s.program s.names s.source_of s.words s.read in
-    let o = s.outcome in
-    let d = s.circuit.circuit.correct.behaves.prompt s.words (read_words (s.program.params s.program.main) args s.words s.read) o.run o.only.is.run
-    e.value f.0 (let a = o.only.long in let b = f.1 in omega (arith, a, b)) in
-    let off = o.never d.cycle d.words (let a = d.in_time in let b = f.1 in omega (arith, a, b)) d.there in
+    let o = s.outcome.answers in
+    let d = s.circuit.circuit.correct.behaves.prompt s.words (read_words (s.program.params s.program.main) args s.words s.read) o.cycles o.call.run
+    e.5 f.0 (let a = o.long in let b = f.1 in omega (arith, a, b)) in
+    let off = o.not_done d.cycle d.words (let a = d.in_time in let b = f.1 in omega (arith, a, b)) d.there in
     let on = d.done in
     absurd (cc)
 
 misgiven_not : OneProgram → (source : List ℕ) (args : List (List ℕ)) (Fits : Limited) → ((line : List ℕ) × IsMisgiven source args line) → Evaluates source args Fits → ⊥
 misgiven_not once source args Fits m e =
-    let C : m.1.program ≡ e.program = (once source m.1.program e.program m.1.names e.names m.1.source_of e.source_of).0 in
-    no_fault (m.1.program.params m.1.program.main) args e.words m.0 (subst (λ (x : Program). AreArguments (x.params x.main) args e.words) (sym C) e.read) m.1.fault
+    let C : m.1.0 ≡ e.0 = (once source m.1.0 e.0 m.1.1 e.1 m.1.2 e.2).0 in
+    no_fault (m.1.0.params m.1.0.main) args e.3 m.0 (subst (λ (x : Program). AreArguments (x.params x.main) args e.3) (sym C) e.4) m.1.3
 
 -- main gives a value in time, so it returns
 returns_in_time : OneProgram → (source : List ℕ) (args : List (List ℕ)) (seed steps : ℕ) (w : Walked) → Walks source args seed steps w → w.result ≡ None → Evaluates source args (InEvents steps) → ⊥
 returns_in_time once source args seed steps w s none e =
-    let f = fitting once source args (InEvents steps) e s.program s.names s.source_of s.words s.read in
-    let short : MainGives s.program s.words steps w.events None = subst (λ (r : Option Word). MainGives s.program s.words steps w.events r) none s.walk.gives in
-    let a = short.1 e.value f.0 in
+    let f = fitting once source args (InEvents steps) e s.0 s.1 s.3 s.2 s.4 in
+    let short : MainGives s.0 s.2 steps w.events None = subst (λ (r : Option Word). MainGives s.0 s.2 steps w.events r) none s.5.gives in
+    let a = short.1 e.5 f.0 in
     let b = f.1 in
     omega (arith, a, b)
 
 -- of a file whose netlist finishes no other thing is said
 never_finishes : verilog.OneNetlist → (text : List ℕ) (args : List (List ℕ)) (limit : ℕ) → RunsText text args limit None → Finishes text args limit → ⊥
 never_finishes one text args limit r f =
-    let n : f.net ≡ r.0 = one text f.net r.0 f.runnable.reads r.1.reads in
-    let read : AreArguments (argument_widths r.0.signals) args f.words = subst (λ (x : Netlist). AreArguments (argument_widths x.signals) args f.words) n f.read in
-    let same : f.words ≡ r.2.words = args_once (argument_widths r.0.signals) args f.words r.2.words read r.2.read in
-    let done : IsDone r.0 r.2.words limit f.done = subst (λ l. IsDone r.0 l limit f.done) same (subst (λ (x : Netlist). IsDone x f.words limit f.done) n f.outcome) in
-    done_not_done r.0 r.2.words limit f.done done r.2.outcome
+    let g = f.1 in
+    let words : List Word = g.2.words in
+    let n : g.0 ≡ r.0 = one text g.0 r.0 g.1.reads r.1.reads in
+    let read : AreArguments (argument_widths r.0.signals) args words = subst (λ (x : Netlist). AreArguments (argument_widths x.signals) args words) n g.2.read in
+    let same : words ≡ r.2.words = args_once (argument_widths r.0.signals) args words r.2.words read r.2.read in
+    let done : IsOutcome r.0 r.2.words limit (Some f.0) =
+    subst (λ (l : List Word). IsOutcome r.0 l limit (Some f.0)) same (subst (λ (x : Netlist). IsOutcome x words limit (Some f.0)) n g.2.outcome)
+    in
+    let never : None ≡ Some f.0 = done.alone None r.2.outcome.after r.2.outcome.answers in
+    absurd (cc)
 
 misrun_not : verilog.OneNetlist → (text : List ℕ) (args : List (List ℕ)) (limit : ℕ) → ((line : List ℕ) × IsMisrun text args line) → Finishes text args limit → ⊥
 misrun_not one text args limit m f =
-    let n : f.net ≡ m.1.0 = one text f.net m.1.0 f.runnable.reads m.1.1.reads in
-    no_fault (argument_widths m.1.0.signals) args f.words m.0 (subst (λ (x : Netlist). AreArguments (argument_widths x.signals) args f.words) n f.read) m.1.2
+    let g = f.1 in
+    let words : List Word = g.2.words in
+    let n : g.0 ≡ m.1.0 = one text g.0 m.1.0 g.1.reads m.1.1.reads in
+    no_fault (argument_widths m.1.0.signals) args words m.0 (subst (λ (x : Netlist). AreArguments (argument_widths x.signals) args words) n g.2.read) m.1.2
 
 unrunnable_not : verilog.OneNetlist → verilog.NotBoth → (name text line : List ℕ) (args : List (List ℕ)) (limit : ℕ) → IsUnrunnable name text line → Finishes text args limit → ⊥
-unrunnable_not one apart name text line args limit (faulty f h is) e = apart text e.net f e.runnable.reads h
+unrunnable_not one apart name text line args limit (faulty f h is) e = apart text e.1.0 f e.1.1.reads h
 unrunnable_not one apart name text line args limit (looped n ws h l cyclic is) e =
-    cyclic (subst (λ (x : Netlist). IsAcyclic x) (one text e.net n e.runnable.reads h) e.runnable.acyclic)
+    cyclic (subst (λ (x : Netlist). IsAcyclic x) (one text e.1.0 n e.1.1.reads h) e.1.1.acyclic)
 
 -- ---- the commands
 
@@ -167,7 +173,7 @@ accepted_kept apart input outputs G comes =
 given_not_refused : OneProgram → NotBoth → (name : List ℕ) (args : List (List ℕ)) (Fits : Limited) (s : Status) (line source : List ℕ) → Evaluates
     source args Fits → RefusesGiven name args source s line → ⊥
 given_not_refused once apart name args Fits s line source e r = elim r [
-  | inl f ↦ apart source e.program e.names f.1.0 e.source_of f.1.1
+  | inl f ↦ apart source e.0 e.1 f.1.0 e.2 f.1.1
   | inr m ↦ misgiven_not once source args Fits (line, m.1) e
 ]
 
@@ -245,7 +251,7 @@ session_kept : Laws → (input script : List ℕ) (limit : ℕ) → IsKept (sess
 session_kept l input script limit =
     reading_both_kept (source_file input) (script_file script) (RefusesSession input) (GivesReplies limit) (λ source text. EvaluatesEach source text limit)
     (λ source text s line e r. elim r [
-      | inl f ↦ l.apart source e.program e.names f.1.0 e.source_of f.1.1
+      | inl f ↦ l.apart source e.0 e.1 f.1.0 e.3 f.1.1
       | inr m ↦ misscripted_not l.once l.misread source text limit line e m.1
     ]) (λ source text g e h. replies_come l.once l.replies l.reset l.script limit source text g e h)
 
@@ -273,7 +279,7 @@ command_kept l (UnfoldSite input output site) = reshape_kept l (unfolds site) (u
 command_kept l (Session input script limit) = session_kept l input script limit
 command_kept l (Aig input output) =
     reading_kept (verilog_file input) (output ∷ []) (RefusesBitsOf input) GivesBits HasBits
-    (λ text s line p r. bits_not_refused l.one l.free input s line text p r) (λ text g p h. ap (λ (x : Given). x.comes) h.is)
+    (λ text s line p r. bits_not_refused l.one l.free input s line text p r) (λ text g p h. ap (λ (x : Given). x.comes) h.2)
 command_kept l (Aigstat input) =
     reading_kept (aig_file input) [] (RefusesAig input) GivesCounts IsAig (λ text s line a r. aig_not_refused l.sound input s line text a r) (λ text g a h. ap (λ (x : Given). x.comes) h.2)
 

@@ -30,14 +30,14 @@ use Rattle.safl_task.specs.Endings.{Outside, LeavesAll, Gave}
 use Rattle.safl_task.specs.declared.status.Status.{Status}
 use Rattle.safl_task.specs.declared.status.Status.TheVariants as status
 use Rattle.safl_task.proofs.Following.{gave_at_ok}
-use Rattle.safl_tool.specs.BitLevel.{GivesBits}
+use Rattle.safl_tool.specs.BitLevel.{GivesBits, IsConverted}
 use Rattle.safl_tool.specs.Calling.{Converses as Conversed, GivesReplies, told}
 use Rattle.safl_tool.specs.CommandTasks.{WritesCircuit, GivesNumbers, GivesTraces, command_task, task_if, traced, traces_in, usage_task}
 use Rattle.safl_tool.specs.Simulating.{Simulates as Simulated}
 use Rattle.safl_probe.specs.Runs.{until_done}
 use Rattle.safl_tool.specs.Tracing.{have_probes, kinds_of, traces_of}
 use Rattle.safl_tool.specs.Headline.{SayBuild, IsBuilt, Turns}
-use Rattle.safl_tool.specs.Promises.{Say, IsPrinted, IsChecked, SayCheck, IsSimulated, SaySim, EachReply, IsSession, SaySession, IsConverted, SayAig}
+use Rattle.safl_tool.specs.Promises.{Say, IsPrinted, IsChecked, SayCheck, IsSimulated, SaySim, EachReply, IsSession, SaySession, SayAig}
 use Rattle.safl_tool.specs.Worlds.{World, EndsBy, Unprobed, task_in}
 
 -- ---- what was given
@@ -149,7 +149,7 @@ optimised : IsWriting IsBuilt (λ source g. (net : Netlist) × WritesCircuit sou
 optimised source g w = (written w.0, w.1.is, is_built source w.0 g w.1)
 
 converted : IsWriting IsConverted GivesBits
-converted text g w = (w.out, w.is, (w.net, w.runnable, w.is_text))
+converted text g w = (w.0, w.2, w.1)
 
 checked : (source : List ℕ) (g : Given) → GivesNumbers source g → IsChecked source g.printed
 checked source g h = (h.0, h.1, h.2, ap (λ (x : Given). x.printed) h.3)

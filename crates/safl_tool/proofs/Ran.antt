@@ -1,20 +1,14 @@
 -- What a run of a Verilog file says.
-use Rattle.std.proofs.Common.{◌≡◌, ℕ, zero, suc, ◌+◌, ◌<◌, ◌≤◌, List, [], ◌∷◌, ◌++◌, map, length, Option, Some, None, false, slice_get, refl, sym, ap, subst, arith, inl, inr}
+use Rattle.std.proofs.Common.{◌≡◌, ℕ, zero, suc, ◌<◌, List, [], ◌∷◌, map, length, Option, Some, None, false, slice_get, refl, ap, subst, inl, inr}
 use Rattle.std.proofs.lemmas.Option.{slice_get_within}
-use Rattle.safl_word.specs.Words.{Word}
-use Rattle.safl_word.proofs.Lists.{get_front}
 use Rattle.safl_net.specs.Netlist.{Netlist, Signal}
 use Rattle.safl_net.specs.Making.{kind_in, cell_in, name_at}
-use Rattle.safl_net.specs.Valuations.{Valuation}
-use Rattle.safl_net.specs.Runs.{GoesOn, RunFrom}
 use Rattle.safl_order.specs.Laws.{LoopsAreCyclic}
 use Rattle.safl_order.specs.Order.{operands_in, Leads, IsLoop}
 use Rattle.safl_order.specs.Order
 use Rattle.safl_verilog.specs.declared.fault.VFault.{VFault}
 use Rattle.safl_verilog.specs.Reads.{Reads, HasFault}
-use Rattle.safl_sim.specs.declared.done.Done.{Done}
 use Rattle.safl_net.specs.Arguments.{argument_widths}
-use Rattle.safl_sim.specs.Outcomes.{IsRun, IsDone, IsNotDone}
 use Rattle.safl_tool.specs.CommandTasks.{RefusesNet, RefusesText}
 use Rattle.safl_task.specs.Endings.{may_give}
 use Rattle.safl_tool.specs.VerilogLines.{verilog_line, loop_line}
@@ -64,29 +58,3 @@ pub arguments_refuse : (name text : List ℕ) (args : List (List ℕ)) (n : Netl
     (RefusesArguments (argument_widths n.signals) args) r → RefusesBy (RefusesText name args text) r
 arguments_refuse name text args n r runs =
     refuses_more (RefusesArguments (argument_widths n.signals) args) (RefusesText name args text) (λ s line h. inr (h.0, (n, runs, h.1))) r
-
-goes_front : (n : Netlist) (state : ℕ → ℕ) (front rest : List Valuation) → GoesOn n state (front ++ rest) → GoesOn n state front
-goes_front n state [] rest g = tt
-goes_front n state (v ∷ vs) rest g = (g.0, g.1, goes_front n _ vs rest g.2)
-
-run_front : (n : Netlist) (state : ℕ → ℕ) (args : List ℕ) (front rest : List Valuation) → RunFrom n state args (front ++ rest) → RunFrom n state args front
-run_front n state args [] rest r = tt
-run_front n state args (v ∷ vs) rest r = (r.0, r.1, r.2, goes_front n _ vs rest r.3)
-
-split_at : (vs : List Valuation) (k : ℕ) → k ≤ length vs → (front : List Valuation) × (rest : List Valuation) × (front ++ rest ≡ vs) × (length front ≡ k)
-split_at vs zero h = ([], vs, refl, refl)
-split_at [] (suc k) h = absurd (omega (arith, h))
-split_at (v ∷ vs) (suc k) h = let r = split_at vs k (omega (arith, h)) in (v ∷ r.0, r.1, ap (λ l. v ∷ l) r.2, ap suc r.3)
-
--- done comes, or it does not
-pub done_not_done : (n : Netlist) (words : List Word) (limit : ℕ) (d : Done) → IsDone n words limit d → IsNotDone n words limit → ⊥
-done_not_done n words limit d a b =
-    let s = split_at b.run (d.cycle + 1) (let x = b.only.long in let y = a.in_time in omega (arith, x, y)) in
-    let whole : IsRun n words (s.0 ++ s.1) = subst (λ l. IsRun n words l) (sym s.2) b.only.is in
-    let front : IsRun n words s.0 = record { run = run_front n _ _ s.0 s.1 whole.run; zeros = λ c v e. whole.zeros c v (get_front s.0 s.1 (suc c) v e) } in
-    let same : s.0 ≡ a.run = a.only.alone s.0 front s.3 in
-    let here : slice_get s.0 d.cycle ≡ Some a.last = subst (λ (l : List Valuation). slice_get l d.cycle ≡ Some a.last) (sym same) a.there in
-    let there : slice_get b.run d.cycle ≡ Some a.last = subst (λ (l : List Valuation). slice_get l d.cycle ≡ Some a.last) s.2 (get_front s.0 s.1 d.cycle a.last here) in
-    let off = b.never d.cycle a.last a.in_time there in
-    let on = a.done in
-    absurd (cc)

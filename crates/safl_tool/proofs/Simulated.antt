@@ -1,17 +1,19 @@
 -- What a run of a compiled source says.
-use Rattle.std.proofs.Common.{◌≡◌, ℕ, List, [], ◌∷◌, map, Option, Some, None, false, refl, sym, ap, subst, ◌∙◌, inl, inr, codes}
+use Rattle.std.specs.Prelude.{IfSome}
+use Rattle.std.proofs.Common.{◌≡◌, ℕ, List, [], ◌∷◌, ◌++◌, map, Option, Some, None, slice_get, false, refl, sym, ap, subst, ◌∙◌, inl, inr, codes}
 use Rattle.safl_term.specs.Names.{Names}
 use Rattle.safl_word.specs.Words.{Word, as_word}
 use Rattle.safl_net.specs.Netlist.{Netlist, output_place}
-use Rattle.safl_net.specs.Valuations.{read_output}
+use Rattle.safl_net.specs.Valuations.{Valuation, read_output, reset_state}
 use Rattle.safl_sim.specs.declared.done.Done.{Done}
 use Rattle.safl_net.specs.Arguments.{argument_widths, AreArguments}
-use Rattle.safl_sim.specs.Outcomes.{IsDone, IsOutcome}
+use Rattle.safl_run.specs.Calls.{IsOutcome, Replies}
 use Rattle.safl_term.specs.Program.{Program}
 use Rattle.safl_term.specs.WellFormed.{AreWordsOf}
 use Rattle.safl_term.specs.Checked.{CheckedProgram}
 use Rattle.safl_circuit.specs.Correct.{IsResult}
 use Rattle.safl_sites.specs.Plan.{Choice}
+use Rattle.safl_word.proofs.Lists.{get_seam}
 use Rattle.safl_sim.proofs.WordsOfNumbers.{word_bits}
 use Rattle.safl_circuit.specs.Theorem.{IsCircuit}
 use Rattle.safl_compiler.specs.Sources.{IsSourceOf}
@@ -23,7 +25,8 @@ use Rattle.safl_tool.specs.CommandTasks.{RefusesSourceOf, RefusesGiven}
 use Rattle.safl_task.specs.Endings.{may_give}
 use Rattle.safl_tool.specs.Reporting.{HasHead, Measures}
 use Rattle.safl_tool.specs.Running.{Gives}
-use Rattle.safl_tool.specs.Simulating.{IsValue, HasValue, Simulates}
+use Rattle.safl_session.specs.Circuits.{IsMainReply}
+use Rattle.safl_tool.specs.Simulating.{Simulates}
 use Rattle.safl_tool.specs.Refusals.{RefusesBy}
 use Rattle.safl_tool.specs.Arguments.{RefusesArguments}
 use Rattle.safl_task.specs.declared.status.Status.{Status}
@@ -56,20 +59,22 @@ read_words (w ∷ ws) (t ∷ ts) (v ∷ vs) r = (r.0.word, ap (λ (x : Word). x.
 
 -- the first done is main's value
 pub is_value : (C : Program) (D : Names) (P : Choice) (n : Netlist) → IsCircuit C D P n → (words : List Word) → AreWordsOf words (C.params C.main) → (limit : ℕ) (d : Done)
-    → IsDone n words limit d → IsValue C words d
-is_value C D P n circuit words are limit d o =
-    let x = circuit.correct.behaves.only words are o.run o.only.is.run d.cycle o.last o.there o.done in
+    (after : ℕ → ℕ) → Replies n limit (reset_state n) words d after → IsMainReply C words d
+is_value C D P n circuit words are limit d after o =
+    let cycles : List Valuation = o.before ++ o.last ∷ [] in
+    let there : slice_get cycles d.cycle ≡ Some o.last = get_seam o.before o.last [] d.cycle o.long in
+    let x = circuit.correct.behaves.only words are cycles o.call.run d.cycle o.last there o.done in
     let same : read_output n o.last (codes "result") ≡ d.result.bits = sym (ap (λ (w : Word). w.bits) o.result ∙ word_bits n o.last (output_place n.outputs (codes "result"))) in
     let y : IsResult C words (as_word (C.result C.main) d.result.bits) d.cycle = subst (λ k. IsResult C words (as_word (C.result C.main) k) d.cycle) same x in
     record {
       result = y;
-      exact = λ seq. circuit.first.exact seq words are o.run o.only.is.run d.cycle o.last o.there o.done (as_word (C.result C.main) d.result.bits) y.by;
+      exact = λ seq. circuit.first.exact seq words are cycles o.call.run d.cycle o.last there o.done (as_word (C.result C.main) d.result.bits) y.by;
     }
 
 pub has_value : (C : Program) (D : Names) (P : Choice) (n : Netlist) → IsCircuit C D P n → (words : List Word) → AreWordsOf words (C.params C.main) → (limit : ℕ)
-    (answer : Option Done) → IsOutcome n words limit answer → HasValue C words answer
+    (answer : Option Done) → IsOutcome n words limit answer → IfSome answer (IsMainReply C words)
 has_value C D P n circuit words are limit None o = tt
-has_value C D P n circuit words are limit (Some d) o = is_value C D P n circuit words are limit d o
+has_value C D P n circuit words are limit (Some d) o = is_value C D P n circuit words are limit d o.after o.answers
 
 -- words that are read for a netlist's inputs are its arguments
 pub read_arguments_are : (n : Netlist) (args : List (List ℕ)) (widths : List ℕ) → widths ≡ argument_widths n.signals → (words given : List Word) →
@@ -120,7 +125,7 @@ pub arguments_refused : (name source : List ℕ) (C : Program) (D : Names) (args
     → (r : Refusal) → RefusesBy (RefusesArguments widths args) r → RefusesBy (RefusesGiven name args source) r
 arguments_refused name source C D args widths are of r =
     refuses_more (RefusesArguments widths args) (RefusesGiven name args source)
-    (λ s line h. inr (h.0, record { program = C; names = D; source_of = of; fault = subst (λ (l : List ℕ). HaveFault l args line) are h.1 })) r
+    (λ s line h. inr (h.0, (C, D, of, subst (λ (l : List ℕ). HaveFault l args line) are h.1))) r
 
 pub source_refused : (name source : List ℕ) (args : List (List ℕ)) (r : Refusal) → RefusesBy (RefusesSourceOf name source) r → RefusesBy (RefusesGiven name args source) r
 source_refused name source args r = refuses_more (RefusesSourceOf name source) (RefusesGiven name args source) (λ s line h. inl h) r

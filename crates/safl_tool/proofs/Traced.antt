@@ -12,7 +12,7 @@ use Rattle.safl_net.specs.Valuations.{Valuation, IsAcyclic}
 use Rattle.safl_net.specs.Whole.{IsWhole}
 use Rattle.safl_net.specs.Arguments.{argument_widths, AreArguments as AreFit}
 use Rattle.safl_sim.specs.Places.{resets}
-use Rattle.safl_sim.specs.Outcomes.{IsOutcome}
+use Rattle.safl_run.specs.Calls.{IsOutcome}
 use Rattle.safl_sim.specs.declared.done.Done.{Done}
 use Rattle.safl_probe.specs.Probing.{ProbeState}
 use Rattle.safl_probe.specs.Asked.{Asked, AreApart, IsAsked}

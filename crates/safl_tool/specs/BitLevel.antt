@@ -15,13 +15,13 @@ use Rattle.safl_task.specs.declared.status.Status.TheVariants as status
 
 -- ---- from a Verilog file to an AIGER file
 
--- `aig` gives, for a Verilog file, a text that reads as a bit-level circuit of the netlist that the file reads as
-pub record GivesBits (text : List ℕ) (g : Given) : Type 0 where
-  pub net : Netlist
-  pub runnable : IsRunnable text net
-  pub out : List ℕ
-  pub is_text : IsTextOf net out
-  pub is : g ≡ only_writes out
+-- the text of a Verilog file reads as a netlist without a loop, and the other text is that of its bit-level circuit
+abbrev pub IsConverted : List ℕ → List ℕ → Type 0
+IsConverted verilog text = (n : Netlist) × IsRunnable verilog n × IsTextOf n text
+
+-- `aig` gives such a text for a Verilog file
+abbrev pub GivesBits : List ℕ → Given → Type 0
+GivesBits verilog g = (text : List ℕ) × IsConverted verilog text × (g ≡ only_writes text)
 
 -- the line names the first register that does not reset to 0; or, if all do, it says that the weight is too great
 pub data RefusesNetlist (n : Netlist) (s : Status) (line : List ℕ) : Type 0 where

@@ -11,7 +11,6 @@ use Rattle.safl_session.specs.declared.script.ScriptErr.{ScriptErr}
 use Rattle.safl_session.specs.declared.script.ScriptErr.TheVariants as errors
 use Rattle.safl_sim.specs.declared.done.Done.{Done as Reply}
 use Rattle.safl_session.specs.Scripts.{IsScript, IsScriptFault}
-use Rattle.safl_session.specs.Replies.{AreReplies}
 use Rattle.safl_session.specs.Circuits.{Serves, IsInTime}
 use Rattle.safl_compiler.specs.Sources.{IsSourceOf}
 use Rattle.safl_compiler.specs.Circuits.{IsCircuitOf}
@@ -30,7 +29,6 @@ pub record Converses (source script : List ℕ) (limit : ℕ) (calls : List (Lis
   pub made : IsNetlist net
   pub whole : IsWhole net
   pub read : IsScript (program.params program.main) script calls
-  pub replied : AreReplies net limit (reset_state net) calls replies
   pub serves : Serves program names net limit (reset_state net) calls replies
 
 -- a session gives the transcript of the replies. It is a result if each call has its reply
@@ -48,20 +46,12 @@ script_line widths (errors.Argument line place) = numbered_line line (argument_l
 script_line widths errors.NoMemory = []
 
 -- the source spells a program, and the script has a first faulty line for main's parameters, which the line reports
-pub record IsMisscripted (source script line : List ℕ) : Type 0 where
-  pub program : Program
-  pub names : Names
-  pub source_of : IsSourceOf source program names
-  pub fault : ScriptErr
-  pub first : IsScriptFault (program.params program.main) script fault
-  pub is : line ≡ script_line (program.params program.main) fault
+abbrev pub IsMisscripted : List ℕ → List ℕ → List ℕ → Type 0
+IsMisscripted source script line = (C : Program) × (D : Names) × (fault : ScriptErr) × IsSourceOf source C D
+    × IsScriptFault (C.params C.main) script fault × (line ≡ script_line (C.params C.main) fault)
 
 -- The source spells a program, and main gives a value for the words of each line, with the last cycle in which `done` may come
 -- below the limit.
-pub record EvaluatesEach (source script : List ℕ) (limit : ℕ) : Type 0 where
-  pub program : Program
-  pub names : Names
-  pub source_of : IsSourceOf source program names
-  pub calls : List (List Word)
-  pub read : IsScript (program.params program.main) script calls
-  pub each : All (IsInTime program limit) calls
+abbrev pub EvaluatesEach : List ℕ → List ℕ → ℕ → Type 0
+EvaluatesEach source script limit = (C : Program) × (D : Names) × (calls : List (List Word)) × IsSourceOf source C D
+    × IsScript (C.params C.main) script calls × All (IsInTime C limit) calls

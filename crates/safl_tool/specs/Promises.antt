@@ -6,9 +6,7 @@ use Rattle.safl_word.specs.Words.{Word}
 use Rattle.safl_io.specs.Shelf.{ShelfState}
 use Rattle.safl_io.specs.Sink.{SinkState, Sends}
 use Rattle.safl_io.specs.Told.{TellsOn}
-use Rattle.safl_net.specs.Netlist.{Netlist}
 use Rattle.safl_sim.specs.declared.done.Done.{Done as Reply}
-use Rattle.safl_aig.specs.BitLevel.{IsTextOf}
 use Rattle.safl_term.specs.Program.{Program}
 use Rattle.safl_term.specs.Names.{Names}
 use Rattle.safl_circuit.specs.Correct.{IsExactResult}
@@ -24,7 +22,7 @@ use Rattle.safl_task.specs.Tasks.{OfFile}
 use Rattle.safl_task.specs.declared.status.Status.{Status}
 use Rattle.safl_task.specs.declared.status.Status.TheVariants.{Ok}
 use Rattle.safl_tool.specs.Printed.{program_lines, done_lines}
-use Rattle.safl_tool.specs.Running.{IsRunnable}
+use Rattle.safl_tool.specs.BitLevel.{IsConverted}
 use Rattle.safl_tool.specs.Headline.{Turns}
 
 -- the words are a command's own, and then these words in order, with these options at any place
@@ -103,10 +101,6 @@ Converses words shelf s out o o' status =
     → OfFile (shelf s).holds input (λ source. OfFile (shelf s).holds script (λ lines. IsPrinted (IsSession source lines) (out o) (out o')))
 
 -- ---- `aig FILE OUT`
-
--- the text of a Verilog file reads as a netlist without a loop, and the other text is that of its bit-level circuit
-abbrev pub IsConverted : List ℕ → List ℕ → Type 0
-IsConverted verilog text = (n : Netlist) × IsRunnable verilog n × IsTextOf n text
 
 abbrev pub SayAig : List ℕ → List ℕ → List (List ℕ) → Type 0
 SayAig input output words = IsName input × IsName output × Say (codes "aig") (input ∷ output ∷ []) [] words

@@ -1,18 +1,18 @@
 -- What is printed of a source's plan, and of generated sources.
-use Rattle.std.specs.Prelude.{◌≡◌, ℕ, ◌%◌, ◌++◌, List, [], ◌∷◌, decimal, Option, true}
+use Rattle.std.specs.Prelude.{◌≡◌, ℕ, ◌%◌, ◌++◌, List, [], ◌∷◌, decimal, Option, IfSome, true}
 use Rattle.safl_word.specs.Words.{Word}
 use Rattle.safl_gen.specs.Draws.{draw}
 use Rattle.safl_gen.specs.Source as made
 use Rattle.safl_net.specs.Netlist.{Netlist}
 use Rattle.safl_sim.specs.declared.done.Done.{Done}
-use Rattle.safl_sim.specs.Outcomes.{IsOutcome}
+use Rattle.safl_run.specs.Calls.{IsOutcome}
 use Rattle.safl_term.specs.Checked.{CheckedProgram}
 use Rattle.safl_report.specs.Report.{IsReport, IsSummary}
 use Rattle.safl_compiler.specs.Sources.{IsSourceOf}
 use Rattle.safl_compiler.specs.Circuits.{IsCircuitOf}
 use Rattle.safl_session.specs.Lines.{AreArguments}
 use Rattle.safl_tool.specs.Printed.{program_lines}
-use Rattle.safl_tool.specs.Simulating.{HasValue}
+use Rattle.safl_session.specs.Circuits.{IsMainReply}
 use Rattle.safl_task.specs.Tasks.{Given, only_prints}
 
 -- the text is the report of a program and of a netlist that is its circuit
@@ -56,4 +56,4 @@ pub record Measures (source : List ℕ) (args : List (List ℕ)) (limit : ℕ) (
   pub begins : HasHead checked net head
   pub read : AreArguments (checked.program.params checked.program.main) args words
   pub outcome : IsOutcome net words limit answer
-  pub value : HasValue checked.program words answer
+  pub value : IfSome answer (IsMainReply checked.program words)

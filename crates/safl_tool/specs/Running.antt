@@ -9,7 +9,7 @@ use Rattle.safl_verilog.specs.declared.fault.VFault.{VFault}
 use Rattle.safl_verilog.specs.Reads.{Reads, HasFault}
 use Rattle.safl_sim.specs.declared.done.Done.{Done}
 use Rattle.safl_net.specs.Arguments.{argument_widths}
-use Rattle.safl_sim.specs.Outcomes.{IsOutcome, IsDone}
+use Rattle.safl_run.specs.Calls.{IsOutcome}
 use Rattle.safl_session.specs.Lines.{AreArguments}
 use Rattle.safl_tool.specs.Arguments.{HaveFault}
 use Rattle.safl_tool.specs.VerilogLines.{verilog_line, loop_line}
@@ -40,13 +40,8 @@ pub data IsUnrunnable (name text line : List ℕ) : Type 0 where
   looped : (n : Netlist) (ws : List ℕ) → Reads text n → IsLoop n ws → ¬ (IsAcyclic n) → line ≡ loop_line name (map (name_at n) ws) → IsUnrunnable name text line
 
 -- the netlist of the text takes the arguments, and `done` is 1 in a cycle below the limit
-pub record Finishes (text : List ℕ) (args : List (List ℕ)) (limit : ℕ) : Type 0 where
-  pub net : Netlist
-  pub runnable : IsRunnable text net
-  pub words : List Word
-  pub read : AreArguments (argument_widths net.signals) args words
-  pub done : Done
-  pub outcome : IsDone net words limit done
+abbrev pub Finishes : List ℕ → List (List ℕ) → ℕ → Type 0
+Finishes text args limit = (d : Done) × RunsText text args limit (Some d)
 
 -- these are numbers of signals of the netlist
 abbrev pub AreKnown : Netlist → List ℕ → Type 0

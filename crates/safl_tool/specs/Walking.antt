@@ -29,10 +29,6 @@ pub record WalksFrom (C : Program) (words : List Word) (seed steps : ℕ) (w : W
   pub gives : MainGives C words steps w.events w.result
 
 -- the source spells a program, the arguments are read as words for main's parameters, and the walk is one of that program
-pub record Walks (source : List ℕ) (args : List (List ℕ)) (seed steps : ℕ) (w : Walked) : Type 0 where
-  pub program : Program
-  pub names : Names
-  pub words : List Word
-  pub source_of : IsSourceOf source program names
-  pub read : AreArguments (program.params program.main) args words
-  pub walk : WalksFrom program words seed steps w
+abbrev pub Walks : List ℕ → List (List ℕ) → ℕ → ℕ → Walked → Type 0
+Walks source args seed steps w = (C : Program) × (D : Names) × (words : List Word) × IsSourceOf source C D
+    × AreArguments (C.params C.main) args words × WalksFrom C words seed steps w

@@ -4,7 +4,7 @@ use Rattle.safl_io.specs.Shelf.{Files, ShelfState, SameFaults}
 use Rattle.safl_word.specs.Words.{Word}
 use Rattle.safl_net.specs.Netlist.{Netlist}
 use Rattle.safl_net.specs.Valuations.{Valuation}
-use Rattle.safl_sim.specs.Outcomes.{IsOutcome}
+use Rattle.safl_run.specs.Calls.{IsOutcome}
 use Rattle.safl_sim.specs.declared.done.Done.{Done}
 use Rattle.safl_probe.specs.Probing.{ProbeState}
 use Rattle.safl_probe.specs.Asked.{Asked, FileNames}

@@ -2,7 +2,7 @@
 
 ghost use Rattle.std.specs.Prelude.{◌<◌, IsSome, length, map, IfOk, IfErr, OnOk, OnErr};
 ghost use Rattle.safl_io.specs.Shelf.{UsesNoStray};
-ghost use Rattle.safl_sim.specs.Outcomes.{IsOutcome};
+ghost use Rattle.safl_run.specs.Calls.{IsOutcome};
 ghost use Rattle.safl_probe.specs.Asked.{asked};
 ghost use Rattle.safl_probe.specs.Growth.{Made, OldOrPart};
 ghost use Rattle.safl_probe.specs.Stopping.{KeepsProbes};

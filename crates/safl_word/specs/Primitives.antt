@@ -11,15 +11,12 @@ is_width w = nat_le 1 w && nat_le w width_max
 
 -- the width of the result for operands of these widths, if the primitive takes them. Each is the width of a word
 abbrev pub one_width : (ℕ → Option ℕ) → List ℕ → Option ℕ
-one_width f [] = None
 one_width f (w ∷ []) = cond (is_width w) (f w) None
-one_width f (w ∷ (v ∷ ws)) = None
+one_width f _ = None
 
 abbrev pub two_widths : (ℕ → ℕ → Option ℕ) → List ℕ → Option ℕ
-two_widths f [] = None
-two_widths f (w ∷ []) = None
 two_widths f (w ∷ (v ∷ [])) = cond (is_width w && is_width v) (f w v) None
-two_widths f (w ∷ (v ∷ (u ∷ ws))) = None
+two_widths f _ = None
 
 abbrev pub where_true : Bool → ℕ → Option ℕ
 where_true b w = cond b (Some w) None
@@ -52,15 +49,12 @@ result_width (Ext n) ws = one_width (λ w. where_true (nat_le w n && nat_le n wi
 
 -- the result for one operand; and for two
 abbrev pub one_word : (Word → Word) → List Word → Word
-one_word f [] = no_word
 one_word f (a ∷ []) = f a
-one_word f (a ∷ (b ∷ vs)) = no_word
+one_word f _ = no_word
 
 abbrev pub two_words : (Word → Word → Word) → List Word → Word
-two_words f [] = no_word
-two_words f (a ∷ []) = no_word
 two_words f (a ∷ (b ∷ [])) = f a b
-two_words f (a ∷ (b ∷ (c ∷ vs))) = no_word
+two_words f _ = no_word
 
 -- a result of the first operand's width; and one of one bit
 abbrev pub alike : (ℕ → ℕ → ℕ → ℕ) → List Word → Word

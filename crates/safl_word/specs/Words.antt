@@ -22,9 +22,8 @@ no_word = record { width = 0; bits = 0 }
 
 -- the first if the number is 1, else the second
 abbrev pub pick : {A : Type 0} → ℕ → A → A → A
-pick zero a b = b
 pick (suc zero) a b = a
-pick (suc (suc n)) a b = b
+pick _ a b = b
 
 -- the branch that the word of a condition selects
 abbrev pub choose : {A : Type 0} → Word → A → A → A

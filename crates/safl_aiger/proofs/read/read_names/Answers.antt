@@ -3,7 +3,7 @@ use Rattle.safl_aiger.specs.Lines.{lines}
 use Rattle.safl_aiger.specs.Reads.{Named, AigReads, counts, unnamed, SymbolFault}
 use Rattle.safl_aiger.specs.Circuits.{Circuit}
 use Rattle.safl_aiger.specs.Symbols.{named, SymbolsPass, SymbolsFail}
-use Rattle.safl_aiger.proofs.Concluding.{reads, symbols_fault, lines_room}
+use Rattle.safl_aiger.proofs.Concluding.{reads, reads_circuit, symbols_fault, lines_room}
 use Rattle.safl_aiger.proofs.read.read_names.Goals as goal
 
 pub read_symbols-requires-clause-lines : goal.read_symbols-requires-clause-lines
@@ -16,7 +16,7 @@ new-requires c =
     let ls = lines (drop c.args.body.next c.args.text.now) in
     let new = named c.read_symbols.new.names in
     let p : SymbolsPass ls (unnamed (counts c.args.h)) new = subst (λ (x : Named). SymbolsPass ls x new) c.in-Ok.ensures c.in-Ok-read_symbols.ensures.ok in
-    (reads c.args.text.now c.args.at (counts c.args.h) c.args.body c.read_symbols.new.names c.requires.outputs c.requires.begins c.requires.body p).circuit
+    reads_circuit c.args.text.now c.args.at (counts c.args.h) c.args.body c.read_symbols.new.names c.requires.outputs c.requires.begins c.requires.body p
 
 pub returns-in-Ok-read_symbols-clause-reads : goal.returns-in-Ok-read_symbols-clause-reads
 returns-in-Ok-read_symbols-clause-reads c =

@@ -2,6 +2,7 @@ use Rattle.std.proofs.Common.{◌+◌, ◌++◌, ◌∷◌, [], ap, ◌∙◌}
 use Rattle.safl_aiger.specs.Circuits.{base}
 use Rattle.safl_aiger.specs.Texts.{joined_lines, header_line, input_text, latch_text, output_text, and_text, symbols_text}
 use Rattle.safl_aiger.proofs.Joining.{sections}
+use Rattle.safl_aiger.proofs.Rows.{section_rows}
 use Rattle.safl_aiger.proofs.text.aig_text.Goals as goal
 
 pub returns : goal.returns
@@ -21,3 +22,4 @@ returns c =
     (c.in_ok-push_symbols.ensures ∙ ap (λ x. c.push_ands.new.out.items ++ joined_lines (symbols_text 105 0 x)) c.input_names.ensures)
     (c.in_ok-push_symbols-2.ensures ∙ ap (λ x. c.push_symbols.new.out.items ++ joined_lines (symbols_text 108 0 x)) c.latch_names.ensures)
     (c.in_ok-push_symbols-3.ensures ∙ ap (λ x. c.push_symbols-2.new.out.items ++ joined_lines (symbols_text 111 0 x)) c.output_names.ensures)
+    ∙ ap (λ l. joined_lines (header_line a ∷ l)) (section_rows a)

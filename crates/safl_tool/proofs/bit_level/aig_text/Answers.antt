@@ -11,7 +11,7 @@ returns-in-Err-clause-refused c = net_refuses c.args.name.now c.args.text.now c.
 
 pub returns-in-Ok-aiger_text-clause-gives : goal.returns-in-Ok-aiger_text-clause-gives
 returns-in-Ok-aiger_text-clause-gives c =
-    record { net = c.in-Ok.ordered.net; runnable = c.in-Ok.ensures.runnable; out = c.in-Ok-aiger_text.text.items; is_text = c.in-Ok-aiger_text.ensures.text; is = refl }
+    (c.in-Ok-aiger_text.text.items, (c.in-Ok.ordered.net, c.in-Ok.ensures.runnable, c.in-Ok-aiger_text.ensures.text), refl)
 
 pub refusal_of_net-requires : goal.refusal_of_net-requires
 refusal_of_net-requires c = subst (λ (n : Netlist). IsRefused n c.in-Err-aiger_text.error) (sym c.net.ensures.net) c.in-Err-aiger_text.ensures.refused

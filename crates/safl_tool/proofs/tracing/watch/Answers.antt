@@ -4,7 +4,7 @@ use Rattle.std.proofs.lemmas.List.{length-map}
 use Rattle.safl_word.specs.Words.{Word}
 use Rattle.safl_probe.specs.Probing.{ProbeState}
 use Rattle.safl_net.specs.Arguments.{AreArguments}
-use Rattle.safl_sim.specs.Outcomes.{IsOutcome}
+use Rattle.safl_run.specs.Calls.{IsOutcome}
 use Rattle.safl_probe.specs.Asked.{Asked, asked}
 use Rattle.safl_probe.specs.Growth.{Made, OldOrPart}
 use Rattle.safl_probe.specs.Runs.{RunIsShown}

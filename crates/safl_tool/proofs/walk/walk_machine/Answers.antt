@@ -20,13 +20,12 @@ walk_with-requires c =
     ∙ (c.deref.ensures.value ∙ c.in-Ok-main_widths.ensures)
 
 pub returns-in-Ok-walk_with-clause-walks : goal.returns-in-Ok-walk_with-clause-walks
-returns-in-Ok-walk_with-clause-walks c =
-    record {
-      program = c.in-Ok.checked.program;
-      names = c.in-Ok.checked.names;
-      words = c.in-Ok-read_arguments.words.items;
-      source_of = c.in-Ok.ensures.accepted;
-      read = subst (λ (l : List ℕ). AreArguments l (map string_bytes c.args.args.now) c.in-Ok-read_arguments.words.items)
-          (c.deref.ensures.value ∙ c.in-Ok-main_widths.ensures) c.in-Ok-read_arguments.ensures.read;
-      walk = subst (λ (l : List Word). WalksFrom c.in-Ok.checked.program l c.args.turns.seed c.args.turns.steps c.in-Ok-walk_with.walked) c.deref-2.ensures.value c.in-Ok-walk_with.ensures;
-    }
+returns-in-Ok-walk_with-clause-walks c = (
+  c.in-Ok.checked.program,
+  c.in-Ok.checked.names,
+  c.in-Ok-read_arguments.words.items,
+  c.in-Ok.ensures.accepted,
+  subst (λ (l : List ℕ). AreArguments l (map string_bytes c.args.args.now) c.in-Ok-read_arguments.words.items)
+      (c.deref.ensures.value ∙ c.in-Ok-main_widths.ensures) c.in-Ok-read_arguments.ensures.read,
+  subst (λ (l : List Word). WalksFrom c.in-Ok.checked.program l c.args.turns.seed c.args.turns.steps c.in-Ok-walk_with.walked) c.deref-2.ensures.value c.in-Ok-walk_with.ensures,
+)
