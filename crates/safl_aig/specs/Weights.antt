@@ -1,9 +1,9 @@
 -- The weight of a net.
-use Rattle.std.specs.Prelude.{◌≡◌, ℕ, ◌≢◌, ◌+◌, ◌<◌, List, ◌∷◌, length, Some, None}
+use Rattle.std.specs.Prelude.{◌≡◌, ℕ, ◌≢◌, ◌+◌, ◌<◌, List, ◌∷◌, length, Some}
 use Rattle.safl_word.specs.Lists.{summed}
 use Rattle.safl_net.specs.declared.cell.Op.{Op}
-use Rattle.safl_net.specs.declared.cell.Op.TheVariants.{Const, Copy, Mux, Apply}
-use Rattle.safl_net.specs.Netlist.{Netlist, Kind, Input, Reg, Wire, width_of}
+use Rattle.safl_net.specs.declared.cell.Op.TheVariants.{Apply}
+use Rattle.safl_net.specs.Netlist.{Netlist, Kind, Wire, width_of}
 use Rattle.safl_net.specs.Making.{kind_at, widths}
 use Rattle.safl_net.specs.Valuations.{reset_state}
 use Rattle.safl_bits.specs.Weights.{greatest, apply_weight}
@@ -11,16 +11,12 @@ use Rattle.safl_aig.specs.Bits.{output_at}
 
 -- the weight of an operation, by the width of its result and those of its operands
 abbrev pub op_weight : Op → ℕ → List ℕ → ℕ
-op_weight (Const x) w ws = greatest (w ∷ ws)
-op_weight Copy w ws = greatest (w ∷ ws)
-op_weight Mux w ws = greatest (w ∷ ws)
 op_weight (Apply p) w ws = apply_weight p w ws
+op_weight _ w ws = greatest (w ∷ ws)
 
 abbrev pub kind_weight : Netlist → ℕ → Kind → ℕ
-kind_weight n w Input = w
-kind_weight n w (Reg init next) = w
-kind_weight n w (Wire None) = w
 kind_weight n w (Wire (Some c)) = op_weight c.op w (widths n c.operands)
+kind_weight n w _ = w
 
 abbrev pub signal_weight : Netlist → ℕ → ℕ
 signal_weight n s = kind_weight n (width_of n s) (kind_at n s)
@@ -35,15 +31,11 @@ weight n = summed (signal_weight n) (length n.signals) + summed (output_weight n
 abbrev pub most_weight : ℕ
 most_weight = 1000000
 
--- the register's word at reset is not 0
-abbrev pub IsNonzero : Netlist → ℕ → Type 0
-IsNonzero n s = reset_state n s ≢ 0
-
 abbrev pub AllZero : Netlist → Type 0
 AllZero n = (s : ℕ) → reset_state n s ≡ 0
 
 -- the register's word at reset is not 0, and that of every register before it is
 pub record IsLeastNonzero (n : Netlist) (s : ℕ) : Type 0 where
   pub known : s < length n.signals
-  pub nonzero : IsNonzero n s
+  pub nonzero : reset_state n s ≢ 0
   pub least : (t : ℕ) → t < s → reset_state n t ≡ 0

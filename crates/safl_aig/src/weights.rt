@@ -1,14 +1,15 @@
 //! The weight of a net, which bounds the ANDs that it takes, and the test that all registers reset to 0.
 
-ghost use Rattle.std.specs.Prelude.{◌≡◌, ℕ, ◌+◌, ◌*◌, ◌<◌, ◌≤◌, ◌∷◌, ◌↔◌, List, length, IsNone, IfSome, IsTrue};
+ghost use Rattle.std.specs.Prelude.{◌≡◌, ◌≢◌, ℕ, ◌+◌, ◌*◌, ◌<◌, ◌≤◌, ◌∷◌, ◌↔◌, List, length, IsNone, IfSome, IsTrue};
 ghost use Rattle.safl_word.specs.Limits.{width_max};
 ghost use Rattle.safl_net.specs.Netlist.{width_of};
 ghost use Rattle.safl_net.specs.Making.{widths, numbers};
+ghost use Rattle.safl_net.specs.Valuations.{reset_state};
 ghost use Rattle.safl_net.specs.Rules.{IsNetlist, CellFits};
 ghost use Rattle.safl_net.specs.Stored.{cell_of};
 ghost use Rattle.safl_bits.specs.Weights.{greatest, second, apply_weight};
 ghost use Rattle.safl_word.specs.Lists.{summed};
-ghost use Rattle.safl_aig.specs.Weights.{op_weight, signal_weight, output_weight, weight, AllZero, IsLeastNonzero, IsNonzero};
+ghost use Rattle.safl_aig.specs.Weights.{op_weight, signal_weight, output_weight, weight, AllZero, IsLeastNonzero};
 
 use safl_net::{Cell, Net, Op, Sig, SigKind};
 use safl_word::Primitive;
@@ -28,7 +29,7 @@ pub fn first_nonzero(net: &Net) -> Option<Sig>
 
 fn is_nonzero(net: &Net, s: Sig) -> bool
     requires { s.0 < length net.now.signals }
-    ensures { IsTrue result ↔ IsNonzero net.now s.0 }
+    ensures { IsTrue result ↔ (reset_state net.now s.0 ≢ 0) }
 {
     match net.kind(s) {
         SigKind::Reg => net.init(s).bits() != 0,

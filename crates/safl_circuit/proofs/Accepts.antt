@@ -1,12 +1,14 @@
 -- The Accepts of a cycle.
 use Rattle.std.proofs.Common.{◌≡◌, ℕ, zero, suc, ◌<◌, ◌≤◌, List, [], length, Option, Some, None, Bool, true, false, cond, not, ◌&&◌, ◌==◌, nat_lt}
+use Rattle.std.specs.Prelude.{unwrap_or}
 use Rattle.safl_sites.specs.Plan.{Choice}
 use Rattle.std.proofs.Common.{nat_le, is_some, refl, sym, ap, ◌∙◌, subst, inl, inr, ⊎_elim, ◌⊎◌, arith}
 use Rattle.std.proofs.Math.Path.{fun_ext}
 use Rattle.std.proofs.lemmas.Bool.{cases_Bool, cases_eq, cases_order, eqb-true, eq-eqb, le-ltb, leb-true, and_parts, not-true, true≢false}
 use Rattle.std.proofs.lemmas.Option.{same_Some}
 use Rattle.safl_circuit.proofs.Middle.{member_says}
-use Rattle.safl_circuit.specs.Equations.{Registers, Inputs, accepts, body_says, body_wants, want, wants_at, go, go_words, go_in, or_word}
+use Rattle.safl_circuit.specs.Equations.{Registers, Inputs, accepts, body_says, body_wants, want, wants_at, go, go_words}
+use Rattle.safl_circuit.proofs.Searched.{go_in}
 use Rattle.safl_circuit.specs.Steps.{is_running, is_delivering}
 use Rattle.safl_calls.proofs.Basics.{put_at, put_off, sweep, first_none, first_only, first_skip, first_zero, all_none, some_none, some_of}
 use Rattle.safl_calls.proofs.Basics.{cond_some, unsent_is, mask_other, mask_skip, mask_at}
@@ -142,7 +144,7 @@ module _ (C : Program) (P : Choice) (args : List Word) (good : Numbered C) (r : 
 
   -- a unit after the accepts that were found, and a site after those below n
   abbrev pub words_of : ℕ → List Word
-  words_of k = or_word (go_words C P r i k) []
+  words_of k = unwrap_or (go_words C P r i k) []
 
   abbrev pub begun : Option ℕ → Mode → Mode
   begun None m = m
@@ -213,7 +215,7 @@ module _ (C : Program) (P : Choice) (args : List Word) (good : Numbered C) (r : 
       units : (ws : List Word) → go_words C P r i n ≡ Some ws → (u : ℕ) → put x.unit (unit_for C n) (Runs (C.callee n) n ws) u ≡ begun (first (go_in C P r i u) (suc n)) (t.unit u)
       units ws words u = ⊎_elim
           (λ same. put_at x.unit (unit_for C n) u (Runs (C.callee n) n ws) same ∙ sym
-          (ap (λ o. begun o (t.unit u)) (starts_at n (suc n) u (omega arith) up same) ∙ ap (λ o. Runs (C.callee n) n (or_word o [])) words))
+          (ap (λ o. begun o (t.unit u)) (starts_at n (suc n) u (omega arith) up same) ∙ ap (λ o. Runs (C.callee n) n (unwrap_or o [])) words))
           (λ other. put_off x.unit (unit_for C n) u (Runs (C.callee n) n ws) other ∙ st.unit u ∙ ap (λ o. begun o (t.unit u))
           (sym (first_skip (go_in C P r i u) n (go_off u n (λ e. absurd (other e))))))
           (cases_eq (unit_for C n) u)

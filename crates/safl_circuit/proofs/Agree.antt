@@ -5,8 +5,9 @@ use Rattle.std.proofs.lemmas.Bool.{leb-true, and_parts}
 use Rattle.safl_word.proofs.Booleans.{cond_cong}
 use Rattle.safl_circuit.proofs.Same.{Same}
 use Rattle.safl_circuit.specs.Equations.{Registers, Inputs, ret, many, path, on_wires, word_on, body_says, body_wants, want, wants_at, go}
-use Rattle.safl_circuit.specs.Equations.{go_words, end_in, goes_to, loop_from, loop_words, loop_in, go_in, load_in, ends, loops, starts, loads}
-use Rattle.safl_circuit.specs.Equations.{clears, starts_it, if_other, starts_other, next}
+use Rattle.safl_circuit.specs.Equations.{go_words, goes_to, loop_from, loop_words, ends, loops, starts, loads}
+use Rattle.safl_circuit.specs.Equations.{clears, starts_it, starts_other, next}
+use Rattle.safl_circuit.proofs.Searched.{end_in, loop_in, go_in, load_in, if_other}
 use Rattle.safl_calls.proofs.Basics.{first_cong}
 use Rattle.safl_calls.proofs.Locality.{answer_local, wanted_local}
 use Rattle.safl_calls.proofs.Numbered.{Numbered}

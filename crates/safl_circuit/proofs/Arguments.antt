@@ -1,5 +1,6 @@
 -- The words on the argument registers are the arguments of the events.
 use Rattle.std.proofs.Common.{◌≡◌, ℕ, zero, suc, ◌<◌, ◌≤◌, List, [], ◌∷◌, ◌++◌, length, Option, Some, None, Bool, true, false, cond, ◌||◌, nat_lt}
+use Rattle.std.specs.Prelude.{unwrap_or}
 use Rattle.safl_sites.specs.Plan.{Choice}
 use Rattle.std.proofs.Common.{is_some, refl, sym, ap, ◌∙◌, subst, ⊎_elim, arith, append-nil, append_assoc, length-append}
 use Rattle.std.proofs.lemmas.Bool.{cases_eq, eq-eqb, ne_eqb, true≢false, lt-ltb, le-ltb, cases_lt}
@@ -11,8 +12,9 @@ use Rattle.safl_circuit.proofs.Edge.{load_found}
 use Rattle.safl_circuit.proofs.Ends.{Ended, Moved, moved_to, loop_says, loop_found, running, Running}
 use Rattle.safl_circuit.proofs.Fate.{Holds}
 use Rattle.safl_circuit.proofs.WordsSeen.{words_seen}
-use Rattle.safl_circuit.specs.Equations.{Registers, Inputs, ret, go, go_words, load_in, loads, loop_words, returns, accepts, finishes}
-use Rattle.safl_circuit.specs.Equations.{goes_on, cycle_events, next, end_word, starts_it, or_word}
+use Rattle.safl_circuit.specs.Equations.{Registers, Inputs, ret, go, go_words, loads, loop_words, returns, accepts, finishes}
+use Rattle.safl_circuit.specs.Equations.{goes_on, cycle_events, next, end_word, starts_it}
+use Rattle.safl_circuit.proofs.Searched.{load_in}
 use Rattle.safl_circuit.specs.Steps.{Quiet, StepsAt, input_at, registers_at, history}
 use Rattle.safl_calls.proofs.Basics.{first_some, first_only, first_skip, first_zero, all_none, not_some, some_of}
 use Rattle.safl_calls.proofs.Invariant.{Inv}
@@ -151,7 +153,7 @@ module _ (C : Program) (P : Choice) (args : List Word) (good : Numbered C) (r : 
       ∙ by (first (load_in C P r i f) (suc C.sites)) (loop_words C P r f) refl refl
     where
       by : (o p : Option (List Word)) → first (load_in C P r i f) (suc C.sites) ≡ o → loop_words C P r f ≡ p → listed o ++ listed p ≡ cond
-          (is_some o || is_some p) (or_word (or_else o p) (r.arg f) ∷ []) []
+          (is_some o || is_some p) (unwrap_or (or_else o p) (r.arg f) ∷ []) []
       by None None a b = refl
       by None (Some vs) a b = refl
       by (Some us) None a b = refl

@@ -1,5 +1,6 @@
 -- A cycle of the circuit is a list of events of the machine.
 use Rattle.std.proofs.Common.{◌≡◌, ℕ, zero, suc, ◌+◌, ◌<◌, List, [], ◌∷◌, ◌++◌, Bool, true, false, cond, ◌||◌, refl, sym, ap, ◌∙◌, subst, ⊎_elim, arith, length}
+use Rattle.std.specs.Prelude.{unwrap_or}
 use Rattle.safl_sites.specs.Plan.{Choice}
 use Rattle.std.proofs.lemmas.Bool.{and_parts, false≢true}
 use Rattle.std.proofs.Math.Bool.{or-false, or-true}
@@ -11,7 +12,8 @@ use Rattle.safl_circuit.proofs.Fate.{Holds}
 use Rattle.safl_circuit.proofs.Middle.{quiet, unit_quiet, site_came, says_it, wants_it, last_returns}
 use Rattle.safl_circuit.proofs.Progress.{moves}
 use Rattle.safl_circuit.proofs.Start.{Back, returned, ret_delivers}
-use Rattle.safl_circuit.specs.Equations.{Registers, Inputs, ret, go, returns, accepts, finishes, goes_on, cycle_events, next, ends, or_word, end_in}
+use Rattle.safl_circuit.specs.Equations.{Registers, Inputs, ret, go, returns, accepts, finishes, goes_on, cycle_events, next, ends}
+use Rattle.safl_circuit.proofs.Searched.{end_in}
 use Rattle.safl_circuit.specs.Steps.{Shows, Quiet, is_running, is_delivering, was_sent, is_returned, input_at, registers_at, history}
 use Rattle.safl_calls.proofs.Basics.{moves_append, after_append, legal_append, last_append, mask_all}
 use Rattle.safl_calls.proofs.Invariant.{Inv, inv_after, unsent_at_rest}
@@ -244,7 +246,7 @@ module _ (C : Program) (P : Choice) (args : List Word) (good : Numbered C) (h1 :
   pub lasts_next : (u : ℕ) → (next C P i r).res u ≡ last_word C args opening (es ++ cycle_events C P r i) u (d u)
   unfolding next ends
   lasts_next u =
-      ap (or_word (first (end_in C P r u) C.functions)) (lasts u)
+      ap (unwrap_or (first (end_in C P r u) C.functions)) (lasts u)
       ∙ sym (last_end C P args good r i t inv_t meets x started.1 u (last_word C args opening es u (d u)) C.functions (omega arith))
       ∙ sym (last_same C args y _ LoopInto (λ q n u d. refl) C.functions u _)
       ∙ sym (last_append C args x (finishes C P r C.functions) (goes_on C P r C.functions) u (last_word C args opening es u (d u)))

@@ -1,5 +1,6 @@
 -- The registers after the edge show the state after the cycle.
 use Rattle.std.proofs.Common.{◌≡◌, ℕ, zero, suc, ◌<◌, ◌≤◌, List, [], Option, Some, None, Bool, true, false, cond, ◌||◌, ◌==◌, is_some, refl, sym, ap, ◌∙◌, ⊎_elim, arith}
+use Rattle.std.specs.Prelude.{unwrap_or}
 use Rattle.safl_sites.specs.Plan.{Choice}
 use Rattle.std.proofs.lemmas.Bool.{cases_eq, eqb-true, eqb-false, eq-eqb, ne_eqb, and_parts, true≢false, not-true}
 use Rattle.std.proofs.lemmas.Option.{same_Some}
@@ -7,8 +8,9 @@ use Rattle.std.proofs.Math.Bool.{or-false, or-true}
 use Rattle.safl_circuit.proofs.Accepts.{Meets, Started, asked_parts, go_within, go_one, go_asks}
 use Rattle.safl_circuit.proofs.Ends.{Ended, Moved, loops_at}
 use Rattle.safl_circuit.proofs.Fate.{Holds, Fate, Stays, Starts, EndsWith, LoopsTo, fate}
-use Rattle.safl_circuit.specs.Equations.{Registers, Inputs, many, end_in, loop_words, loop_in, or_word, go, go_in, go_words, load_in, loads}
-use Rattle.safl_circuit.specs.Equations.{ends, loops, starts, clears, starts_it, if_other, starts_other, next}
+use Rattle.safl_circuit.specs.Equations.{Registers, Inputs, many, loop_words, go, go_words, loads}
+use Rattle.safl_circuit.specs.Equations.{ends, loops, starts, clears, starts_it, starts_other, next}
+use Rattle.safl_circuit.proofs.Searched.{end_in, loop_in, go_in, load_in, if_other}
 use Rattle.safl_circuit.specs.Steps.{is_running, is_delivering, was_sent, is_returned}
 use Rattle.safl_calls.proofs.Basics.{first_none, first_only, all_none, some_none, cond_some, not_some, mask_all}
 use Rattle.safl_calls.proofs.Invariant.{Inv}
@@ -92,10 +94,10 @@ module _ (C : Program) (P : Choice) (args : List Word) (good : Numbered C) (r : 
   unfolding next ends
   edge_res u k v d = by (now u)
     where
-      by : Fate C P r i t z u → or_word (first (end_in C P r u) C.functions) (r.res u) ≡ v
+      by : Fate C P r i t z u → unwrap_or (first (end_in C P r u) C.functions) (r.res u) ≡ v
       by (Stays he hl hs e) = absurd (true≢false (sym (ap is_delivering (sym e ∙ d)) ∙ meets.rest u))
       by (Starts j he hl hs le in_u up e) = absurd (runs_delivers _ _ k v _ (sym e ∙ d))
-      by (EndsWith w j he hl hs e) = ap (λ o. or_word o (r.res u)) he ∙ ap word_in (sym e ∙ d)
+      by (EndsWith w j he hl hs e) = ap (λ o. unwrap_or o (r.res u)) he ∙ ap word_in (sym e ∙ d)
       by (LoopsTo h j vs runs he hl hs lt in_u words e) = absurd (runs_delivers _ _ k v _ (sym e ∙ d))
 
   z_site : (k : ℕ) → z.site (suc k) ≡ cond (is_some (first (loop_in C P r (C.unit (C.caller (suc k)))) C.functions)) Unsent
@@ -169,13 +171,13 @@ module _ (C : Program) (P : Choice) (args : List Word) (good : Numbered C) (r : 
   unfolding next loads
   edge_arg u f k ws d in_u lt = by (now u)
     where
-      by : Fate C P r i t z u → or_word (or_else (first (load_in C P r i f) (suc C.sites)) (loop_words C P r f)) (r.arg f) ≡ ws
+      by : Fate C P r i t z u → unwrap_or (or_else (first (load_in C P r i f) (suc C.sites)) (loop_words C P r f)) (r.arg f) ≡ ws
       by (Stays he hl hs e) = rw (no_load f u in_u hs, no_loop_words f u lt in_u hl) (holds.arg u f k ws (sym e ∙ d))
       by (Starts j he hl hs le at up e) =
           let a = go_asks C P args good r i t inv meets j up in
           let f_is : C.callee j ≡ f = ap member_in (sym e ∙ d) in
           let load : first (load_in C P r i f) (suc C.sites) ≡ Some a.0 = ap (λ g. first (load_in C P r i g) (suc C.sites)) (sym f_is) ∙ load_it j a.0 le up a.2 in
-          rw load (sym (ap (λ o. or_word o []) a.2) ∙ ap args_in (sym e ∙ d))
+          rw load (sym (ap (λ o. unwrap_or o []) a.2) ∙ ap args_in (sym e ∙ d))
       by (EndsWith v j he hl hs e) = absurd (delivers_runs f k j v ws (sym e ∙ d))
       by (LoopsTo h j vs runs he hl hs lth at words e) =
           let f_is : h ≡ f = ap member_in (sym e ∙ d) in

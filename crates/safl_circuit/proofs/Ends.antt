@@ -1,5 +1,6 @@
 -- The Finishes and the Loops of a cycle.
 use Rattle.std.proofs.Common.{◌≡◌, ℕ, zero, suc, ◌<◌, ◌≤◌, List, [], ◌∷◌, ◌++◌, Option, Some, None, Bool, true, false, cond, ◌&&◌, ◌==◌, is_some}
+use Rattle.std.specs.Prelude.{unwrap_or}
 use Rattle.safl_sites.specs.Plan.{Choice}
 use Rattle.std.proofs.Common.{refl, sym, ap, ◌∙◌, subst, inl, inr, ⊎_elim, ◌⊎◌, arith}
 use Rattle.std.proofs.Math.Path.{fun_ext}
@@ -7,7 +8,8 @@ use Rattle.std.proofs.lemmas.Bool.{cases_Bool, cases_eq, eqb-true, eq-eqb, ne_eq
 use Rattle.std.proofs.lemmas.Option.{same_Some}
 use Rattle.safl_circuit.proofs.Accepts.{Meets, Started, begun, not_started, back_same}
 use Rattle.safl_circuit.proofs.Middle.{member_says}
-use Rattle.safl_circuit.specs.Equations.{Registers, Inputs, body_says, end_word, end_in, goes_to, loop_words, loop_in, finishes, goes_on, or_word}
+use Rattle.safl_circuit.specs.Equations.{Registers, Inputs, body_says, end_word, goes_to, loop_words, finishes, goes_on}
+use Rattle.safl_circuit.proofs.Searched.{end_in, loop_in}
 use Rattle.safl_calls.proofs.Basics.{put_at, put_off, sweep, last_append, first_some, first_only, first_skip, first_zero, all_none, some_none, some_of, cond_some, not_some}
 use Rattle.safl_calls.proofs.Invariant.{Inv}
 use Rattle.safl_calls.proofs.Locality.{answer_local}
@@ -200,9 +202,9 @@ module _ (C : Program) (P : Choice) (args : List Word) (good : Numbered C) (r : 
         ap (says_as C (back y)) now ∙ says_still n run.args y lt own ∙ run.answer
 
     -- the words that the ends leave
-    pub last_end : (u : ℕ) (d : Word) (n : ℕ) → n ≤ C.functions → last_word C args x (finishes C P r n) u d ≡ or_word (first (end_in C P r u) n) d
+    pub last_end : (u : ℕ) (d : Word) (n : ℕ) → n ≤ C.functions → last_word C args x (finishes C P r n) u d ≡ unwrap_or (first (end_in C P r u) n) d
     unfolding picks last_word
-    last_end u d zero le = ap (λ o. or_word o d) (sym (first_zero (end_in C P r u)))
+    last_end u d zero le = ap (λ o. unwrap_or o d) (sym (first_zero (end_in C P r u)))
     last_end u d (suc n) le = by (is_some (end_word C P r n)) refl (last_end u d n (omega arith))
       where
         q : State
@@ -211,22 +213,22 @@ module _ (C : Program) (P : Choice) (args : List Word) (good : Numbered C) (r : 
         en : Ended n q
         en = (finished_to n (omega arith)).1
 
-        up_at : (v : Word) → body_says C P r n ≡ Ready v → (e : Word) → e ≡ or_word (first (end_in C P r u) n) d → cond (C.unit n == u)
-            (finished_as (says C q u) e) e ≡ or_word (first (end_in C P r u) (suc n)) d
+        up_at : (v : Word) → body_says C P r n ≡ Ready v → (e : Word) → e ≡ unwrap_or (first (end_in C P r u) n) d → cond (C.unit n == u)
+            (finished_as (says C q u) e) e ≡ unwrap_or (first (end_in C P r u) (suc n)) d
         up_at v is e ih = ⊎_elim
             (λ same. rw (eq-eqb (C.unit n) u same) (ap (λ a. finished_as a e) (ap (says C q) (sym same) ∙ end_says n v q (omega arith) en is) ∙ sym
-            (ap (λ o. or_word o d) (ends_at n v (suc n) u (omega arith) le is same))))
-            (λ other. rw (ne_eqb (C.unit n) u other) (ih ∙ ap (λ o. or_word o d) (sym (first_skip (end_in C P r u) n (end_off u n other)))))
+            (ap (λ o. unwrap_or o d) (ends_at n v (suc n) u (omega arith) le is same))))
+            (λ other. rw (ne_eqb (C.unit n) u other) (ih ∙ ap (λ o. unwrap_or o d) (sym (first_skip (end_in C P r u) n (end_off u n other)))))
             (cases_eq (C.unit n) u)
 
-        by : (b : Bool) → is_some (end_word C P r n) ≡ b → last_word C args x (finishes C P r n) u d ≡ or_word (first (end_in C P r u) n) d →
-            last_word C args x (finishes C P r n ++ cond b (Finish n ∷ []) []) u d ≡ or_word (first (end_in C P r u) (suc n)) d
+        by : (b : Bool) → is_some (end_word C P r n) ≡ b → last_word C args x (finishes C P r n) u d ≡ unwrap_or (first (end_in C P r u) n) d →
+            last_word C args x (finishes C P r n ++ cond b (Finish n ∷ []) []) u d ≡ unwrap_or (first (end_in C P r u) (suc n)) d
         by true is ih =
             let v = some_of (end_word C P r n) is in
             last_append C args x (finishes C P r n) (Finish n ∷ []) u d
             ∙ up_at v.0 (ready_of _ v.0 v.1) (last_word C args x (finishes C P r n) u d) ih
         by false is ih =
-            last_append C args x (finishes C P r n) [] u d ∙ ih ∙ ap (λ o. or_word o d) (sym (first_skip (end_in C P r u) n (rw (none_of (end_word C P r n) is) (cond_same (C.unit n == u) None))))
+            last_append C args x (finishes C P r n) [] u d ∙ ih ∙ ap (λ o. unwrap_or o d) (sym (first_skip (end_in C P r u) n (rw (none_of (end_word C P r n) is) (cond_same (C.unit n == u) None))))
 
     module _ (y : State) (en : Ended C.functions y) where
       -- the one loop of a unit
@@ -271,7 +273,7 @@ module _ (C : Program) (P : Choice) (args : List Word) (good : Numbered C) (r : 
       abbrev pub moved_as : Option ℕ → Mode → Mode
       moved_as None m = m
       moved_as (Some h) Idle = Idle
-      moved_as (Some h) (Runs f k ws) = Runs h k (or_word (loop_words C P r h) [])
+      moved_as (Some h) (Runs f k ws) = Runs h k (unwrap_or (loop_words C P r h) [])
       moved_as (Some h) (Delivers k w) = Delivers k w
 
       pub record Moved (n : ℕ) (z : State) : Type 0 where
@@ -312,7 +314,7 @@ module _ (C : Program) (P : Choice) (args : List Word) (good : Numbered C) (r : 
                   (Runs n k vs) u ≡ moved_as (first (loop_in C P r u) (suc n)) (y.unit u)
               units vs k g ws words before u = ⊎_elim
                   (λ same. put_at z.unit w u (Runs n k vs) same ∙ sym (ap (λ o. moved_as o (y.unit u)) (loops_at n (suc n) u (omega arith) lt up same)
-                  ∙ ap (moved_as (Some n)) (ap y.unit (sym same) ∙ before) ∙ ap (λ o. Runs n k (or_word o [])) words))
+                  ∙ ap (moved_as (Some n)) (ap y.unit (sym same) ∙ before) ∙ ap (λ o. Runs n k (unwrap_or o [])) words))
                   (λ other. put_off z.unit w u (Runs n k vs) other ∙ mv.unit u ∙ ap (λ o. moved_as o (y.unit u)) (sym (first_skip (loop_in C P r u) n (loop_off u n (λ e upn. other e)))))
                   (cases_eq w u)
 

@@ -1,9 +1,11 @@
 -- What becomes of each unit in a cycle.
 use Rattle.std.proofs.Common.{◌≡◌, ℕ, suc, ◌<◌, ◌≤◌, List, [], Option, Some, None, true, cond, ◌||◌, ◌==◌, is_some, refl, sym, ap, ◌∙◌, arith}
+use Rattle.std.specs.Prelude.{unwrap_or}
 use Rattle.safl_sites.specs.Plan.{Choice}
 use Rattle.safl_circuit.proofs.Accepts.{Meets, Started, begun, not_started, go_found}
 use Rattle.safl_circuit.proofs.Ends.{Ended, done_as, Moved, moved_as, running, end_found, loop_found, loop_in_found, no_end, Running}
-use Rattle.safl_circuit.specs.Equations.{Registers, Inputs, ret, many, body_says, end_in, loop_words, loop_in, or_word, go, go_in, go_words}
+use Rattle.safl_circuit.specs.Equations.{Registers, Inputs, ret, many, body_says, loop_words, go, go_words}
+use Rattle.safl_circuit.proofs.Searched.{end_in, loop_in, go_in}
 use Rattle.safl_circuit.specs.Steps.{is_running, was_sent, is_returned}
 use Rattle.safl_calls.proofs.Basics.{first_some, some_none, some_of, not_some}
 use Rattle.safl_calls.proofs.Invariant.{Inv}
@@ -29,7 +31,7 @@ apart_id f k v ws e = grind arith
 pub data Fate (C : Program) (P : Choice) (r : Registers) (i : Inputs) (t z : State) (u : ℕ) : Type 0 where
   Stays : first (end_in C P r u) C.functions ≡ None → first (loop_in C P r u) C.functions ≡ None → first (go_in C P r i u) (suc C.sites) ≡ None → z.unit u ≡ t.unit u → Fate C P r i t z u
   Starts : (k : ℕ) → first (end_in C P r u) C.functions ≡ None → first (loop_in C P r u) C.functions ≡ None → first (go_in C P r i u) (suc C.sites) ≡
-      Some k → k ≤ C.sites → unit_for C k ≡ u → go C P r i k ≡ true → z.unit u ≡ Runs (C.callee k) k (or_word (go_words C P r i k) []) → Fate C P r i t z u
+      Some k → k ≤ C.sites → unit_for C k ≡ u → go C P r i k ≡ true → z.unit u ≡ Runs (C.callee k) k (unwrap_or (go_words C P r i k) []) → Fate C P r i t z u
   EndsWith : (v : Word) (j : ℕ) → first (end_in C P r u) C.functions ≡ Some v → first (loop_in C P r u) C.functions ≡ None → first (go_in C P r i u)
       (suc C.sites) ≡ None → z.unit u ≡ Delivers j v → Fate C P r i t z u
   LoopsTo : (h j : ℕ) (vs : List Word) → is_running (t.unit u) ≡ true → first (end_in C P r u) C.functions ≡ None → first (loop_in C P r u)
@@ -117,7 +119,7 @@ module _ (C : Program) (P : Choice) (args : List Word) (good : Numbered C) (r : 
 
       loops_so : Fate C P r i t z u
       loops_so = LoopsTo h run.serves p.0 (ap is_running at) he hl (no_start u _ _ _ at) (omega (arith, c.1, d.0)) (ap C.unit d.0 ∙ d.1) words
-          (after_all u None (Some h) None he hl (no_start u _ _ _ at) ∙ ap (moved_as C P args good r i t inv meets x st y en (Some h)) at ∙ ap (λ o. Runs h run.serves (or_word o [])) words)
+          (after_all u None (Some h) None he hl (no_start u _ _ _ at) ∙ ap (moved_as C P args good r i t inv meets x st y en (Some h)) at ∙ ap (λ o. Runs h run.serves (unwrap_or o [])) words)
 
   pub fate : (u : ℕ) → Fate C P r i t z u
   fate u = fate_as u _ _ _ refl refl refl

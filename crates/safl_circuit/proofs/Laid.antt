@@ -87,7 +87,7 @@ found (g ∷ gs) name w h = ⊎_elim
     (λ b. let f = found gs name w b in record { at = suc f.at; signal = f.signal; init = f.init; then = f.then; there = f.there; is_named = f.is_named; kind = f.kind })
     (has_side (name, w) (register_kind (g.name, g.width) g.kind) (each_line register_kind gs) h)
 
-placed : (gs : List Signal) (name : List ℕ) (i j : ℕ) (g : Signal) →
+pub placed : (gs : List Signal) (name : List ℕ) (i j : ℕ) (g : Signal) →
     ((a b : ℕ) (x y : Signal) → slice_get gs a ≡ Some x → slice_get gs b ≡ Some y → x.name ≡ y.name → a ≡ b) → slice_get gs j ≡ Some g → g.name ≡ name
     → place gs name i ≡ Some (i + j)
 unfolding place

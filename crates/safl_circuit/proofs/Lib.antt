@@ -1,3 +1,4 @@
+pub mod Searched
 pub mod DoneOnce
 pub mod WordsSeen
 pub mod Claims
@@ -13,6 +14,7 @@ pub mod Once
 pub mod Rest
 pub mod Arguments
 pub mod Laid
+pub mod WholeCircuits
 pub mod Same
 pub mod Agree
 pub mod Typed

@@ -4,7 +4,8 @@ use Rattle.safl_sites.specs.Plan.{Choice}
 use Rattle.std.proofs.Math.Path.{fun_ext}
 use Rattle.std.proofs.lemmas.Bool.{cases_eq, eqb-true, eq-eqb, ne_eqb, lt-ltb, leb-true, and_parts, and_right}
 use Rattle.safl_circuit.proofs.Start.{home, Back, ret_delivers}
-use Rattle.safl_circuit.specs.Equations.{Registers, ret, returns, many, other_than, path, on_wires, body_says, body_wants}
+use Rattle.safl_circuit.specs.Equations.{Registers, ret, returns, many, path, on_wires, body_says, body_wants}
+use Rattle.safl_circuit.proofs.Searched.{other_than}
 use Rattle.safl_circuit.specs.Steps.{Shows, was_sent, is_returned}
 use Rattle.safl_calls.proofs.Basics.{last_append, first_none, some_none, unsent_is}
 use Rattle.safl_calls.proofs.Invariant.{Inv}

@@ -25,7 +25,8 @@ use Rattle.safl_calls.proofs.Invariant.{inv_open}
 use Rattle.safl_calls.proofs.MachineLaws.{right, started}
 use Rattle.safl_calls.proofs.Counts.{total, at_most}
 use Rattle.safl_calls.specs.Interference.{OneInUse, ShownWordsServe}
-use Rattle.safl_circuit.specs.Equations.{Registers, Inputs, ret, go, body_wants, go_words, load_in, loads, loop_words, starts_it, next}
+use Rattle.safl_circuit.specs.Equations.{Registers, Inputs, ret, go, body_wants, go_words, loads, loop_words, starts_it, next}
+use Rattle.safl_circuit.proofs.Searched.{load_in}
 use Rattle.safl_circuit.specs.Steps.{Quiet, input_at, registers_at, history}
 use Rattle.safl_net.specs.Netlist.{Netlist}
 use Rattle.safl_net.specs.Valuations.{Valuation, Fits, read, read_output, next_state}

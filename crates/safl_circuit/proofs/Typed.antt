@@ -2,7 +2,7 @@
 use Rattle.std.proofs.Common.{◌≡◌, ℕ, zero, suc, ◌<◌, ◌≤◌, List, [], ◌∷◌, ◌++◌, map, length, Option, Some, None, Bool, true, false, cond, not, ◌&&◌, refl, sym, ap, ◌∙◌, subst, arith, bytes_eq}
 use Rattle.safl_term.specs.Names.{Names}
 use Rattle.safl_sites.specs.Plan.{Choice}
-use Rattle.std.specs.Prelude.{codes}
+use Rattle.std.specs.Prelude.{codes, unwrap_or}
 use Rattle.std.proofs.lemmas.Slice.Eq.{bytes_eq-Decides}
 use Rattle.std.proofs.lemmas.Bool.{eqb-true, false_from_ne_true}
 use Rattle.std.proofs.lemmas.Option.{same_Some}
@@ -19,7 +19,8 @@ use Rattle.safl_calls.proofs.Numbered.{Numbered}
 use Rattle.safl_calls.proofs.FromWellFormed.{numbered}
 use Rattle.safl_calls.proofs.Basics.{first_some, cond_some, some_none}
 use Rattle.safl_circuit.specs.Equations.{Registers, Inputs, ret, word_on, on_wires, path, body_says, body_wants, go_words, loop_from}
-use Rattle.safl_circuit.specs.Equations.{loop_words, end_in, load_in, ends, loads, or_word, next}
+use Rattle.safl_circuit.specs.Equations.{loop_words, ends, loads, next}
+use Rattle.safl_circuit.proofs.Searched.{end_in, load_in}
 use Rattle.safl_net.specs.Netlist.{Netlist, Signal, Kind, Input, Reg, Wire}
 use Rattle.safl_net.specs.Valuations.{Valuation, Fits, read, read_next}
 use Rattle.safl_net.specs.Runs.{is_argument, input_numbers}
@@ -166,11 +167,11 @@ module _ (C : Program) (P : Choice) (wf : IsWellFormed C) where
         keep = λ k le. typed_keep k le (ret C r k);
       }
         where
-          by_end : (u : ℕ) (o : Option Word) → ends C P r u ≡ o → (or_word o (r.res u)).width ≡ C.result u
+          by_end : (u : ℕ) (o : Option Word) → ends C P r u ≡ o → (unwrap_or o (r.res u)).width ≡ C.result u
           by_end u None e = typed.res u
           by_end u (Some v) e = ends_width u v e
 
-          by_load : (f : ℕ) → f < C.functions → (o p : Option (List Word)) → loads C P r i f ≡ o → loop_words C P r f ≡ p → widths (or_word (or_else o p) (r.arg f)) ≡ C.params f
+          by_load : (f : ℕ) → f < C.functions → (o p : Option (List Word)) → loads C P r i f ≡ o → loop_words C P r f ≡ p → widths (unwrap_or (or_else o p) (r.arg f)) ≡ C.params f
           by_load f lt (Some vs) p e g = load_width f vs e
           by_load f lt None (Some vs) e g = loop_width f vs g
           by_load f lt None None e g = typed.arg f lt

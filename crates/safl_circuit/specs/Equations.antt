@@ -1,7 +1,7 @@
 -- The equations of a circuit, without names: its wires from its registers, and its registers after the edge.
-use Rattle.std.specs.Prelude.{ℕ, zero, suc, ◌++◌, List, Option, Some, None, Bool, false, cond, not, ◌==◌, ◌&&◌, ◌||◌, nat_le, is_some}
+use Rattle.std.specs.Prelude.{ℕ, zero, suc, ◌++◌, List, Option, Some, None, Bool, false, cond, not, ◌==◌, ◌&&◌, ◌||◌, nat_le, is_some, unwrap_or}
 use Rattle.safl_calls.specs.Machine.{Event, Accept, Finish, Return, LoopInto}
-use Rattle.safl_term.specs.Readiness.{Answer, Ready, LoopTo, NotYet, answer, wanted, word_of, or_else}
+use Rattle.safl_term.specs.Readiness.{Answer, LoopTo, NotYet, answer, wanted, word_of, or_else}
 use Rattle.safl_term.specs.Program.{Program, unit_for}
 use Rattle.safl_sites.specs.Plan.{Choice}
 use Rattle.safl_word.specs.Words.{Word}
@@ -26,13 +26,9 @@ pub record Inputs : Type 0 where
   pub start : Bool
   pub words : List Word
 
--- the functions of f's unit other than f
-abbrev pub other_than : Program → ℕ → ℕ → Option ℕ
-other_than C f g = cond (C.unit g == C.unit f && not (g == f)) (Some g) None
-
--- f's unit has two or more members
+-- f's unit has another member than f
 abbrev pub many : Program → ℕ → Bool
-many C f = is_some (first (other_than C f) C.functions)
+many C f = is_some (first {A = ℕ} (λ g. cond (C.unit g == C.unit f && not (g == f)) (Some g) None) C.functions)
 
 -- ret: the unit of site k has just finished, and the site was sent and has not got its word. For the call of main it is `done`
 abbrev pub ret : Program → Registers → ℕ → Bool
@@ -89,9 +85,8 @@ abbrev pub end_word : Program → Choice → Registers → ℕ → Option Word
 end_word C P r f = word_of (body_says C P r f)
 
 abbrev pub goes_to : ℕ → Answer → Option (List Word)
-goes_to h (Ready v) = None
 goes_to h (LoopTo g vs) = cond (g == h) (Some vs) None
-goes_to h NotYet = None
+goes_to h _ = None
 
 abbrev pub loop_from : Program → Choice → Registers → ℕ → ℕ → Option (List Word)
 loop_from C P r h g = cond (C.unit g == C.unit h) (goes_to h (body_says C P r g)) None
@@ -99,33 +94,19 @@ loop_from C P r h g = cond (C.unit g == C.unit h) (goes_to h (body_says C P r g)
 abbrev pub loop_words : Program → Choice → Registers → ℕ → Option (List Word)
 loop_words C P r h = first (loop_from C P r h) C.functions
 
--- in unit u: the word of function f if it ends, the function f if it is looped to, the site k if it starts the unit; and the
--- arguments of site k if it starts f
-abbrev pub end_in : Program → Choice → Registers → ℕ → ℕ → Option Word
-end_in C P r u f = cond (C.unit f == u) (end_word C P r f) None
-
-abbrev pub loop_in : Program → Choice → Registers → ℕ → ℕ → Option ℕ
-loop_in C P r u h = cond (C.unit h == u && is_some (loop_words C P r h)) (Some h) None
-
-abbrev pub go_in : Program → Choice → Registers → Inputs → ℕ → ℕ → Option ℕ
-go_in C P r i u k = cond (unit_for C k == u && go C P r i k) (Some k) None
-
-abbrev pub load_in : Program → Choice → Registers → Inputs → ℕ → ℕ → Option (List Word)
-load_in C P r i f k = cond (C.callee k == f) (go_words C P r i k) None
-
--- if there are several, the first counts: the function with the lowest number ends, and the site with the lowest number loads its
--- arguments
+-- in unit u: the word of the first function that ends, the first function that is looped to, the first site that starts the unit; and
+-- the arguments of the first site that starts f
 unfoldable pub ends : Program → Choice → Registers → ℕ → Option Word
-ends C P r u = first (end_in C P r u) C.functions
+ends C P r u = first (λ f. cond (C.unit f == u) (end_word C P r f) None) C.functions
 
 unfoldable pub loops : Program → Choice → Registers → ℕ → Option ℕ
-loops C P r u = first (loop_in C P r u) C.functions
+loops C P r u = first (λ h. cond (C.unit h == u && is_some (loop_words C P r h)) (Some h) None) C.functions
 
 unfoldable pub starts : Program → Choice → Registers → Inputs → ℕ → Option ℕ
-starts C P r i u = first (go_in C P r i u) (suc C.sites)
+starts C P r i u = first (λ k. cond (unit_for C k == u && go C P r i k) (Some k) None) (suc C.sites)
 
 unfoldable pub loads : Program → Choice → Registers → Inputs → ℕ → Option (List Word)
-loads C P r i f = first (load_in C P r i f) (suc C.sites)
+loads C P r i f = first (λ k. cond (C.callee k == f) (go_words C P r i k) None) (suc C.sites)
 
 -- clear: the sites in u's functions are cleared, since one of the functions ends or is looped to
 abbrev pub clears : Program → Choice → Registers → ℕ → Bool
@@ -135,16 +116,9 @@ clears C P r u = is_some (ends C P r u) || is_some (loops C P r u)
 abbrev pub starts_it : Program → Choice → Registers → Inputs → ℕ → Bool
 starts_it C P r i f = is_some (loads C P r i f) || is_some (loop_words C P r f)
 
-abbrev pub if_other : Program → Choice → Registers → Inputs → ℕ → ℕ → Option ℕ
-if_other C P r i f g = cond (C.unit g == C.unit f && (not (g == f) && starts_it C P r i g)) (Some g) None
-
 abbrev pub starts_other : Program → Choice → Registers → Inputs → ℕ → Bool
-starts_other C P r i f = is_some (first (if_other C P r i f) C.functions)
-
--- the value if there is one, else the other
-abbrev pub or_word : {A : Type 0} → Option A → A → A
-or_word None d = d
-or_word (Some v) d = v
+starts_other C P r i f =
+    is_some (first {A = ℕ} (λ g. cond (C.unit g == C.unit f && (not (g == f) && starts_it C P r i g)) (Some g) None) C.functions)
 
 -- The registers after the edge. Clearing wins over setting, and everything else stays.
 -- run: set by a go, cleared by an end. fin: 1 exactly after an end. res: loaded by an end.
@@ -156,9 +130,9 @@ unfoldable pub next : Program → Choice → Inputs → Registers → Registers
 next C P i r = record {
   run = λ u. cond (is_some (ends C P r u)) false (r.run u || is_some (starts C P r i u));
   fin = λ u. is_some (ends C P r u);
-  res = λ u. or_word (ends C P r u) (r.res u);
+  res = λ u. unwrap_or (ends C P r u) (r.res u);
   at = λ f. cond (starts_other C P r i f) false (r.at f || starts_it C P r i f);
-  arg = λ f. or_word (or_else (loads C P r i f) (loop_words C P r f)) (r.arg f);
+  arg = λ f. unwrap_or (or_else (loads C P r i f) (loop_words C P r f)) (r.arg f);
   sent = λ k. cond (clears C P r (C.unit (C.caller k))) false (r.sent k || go C P r i k);
   got = λ k. cond (clears C P r (C.unit (C.caller k))) false (r.got k || ret C r k);
   keep = λ k. cond (ret C r k) (r.res (unit_for C k)) (r.keep k);

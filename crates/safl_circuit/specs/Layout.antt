@@ -80,18 +80,15 @@ layout_inputs C D = (codes "start", 1) ∷ named (map (λ x. codes "in$" ++ x) (
 -- the line of a signal if it is of a kind
 abbrev pub input_kind : Line → Kind → List Line
 input_kind l Input = l ∷ []
-input_kind l (Reg init next) = []
-input_kind l (Wire cell) = []
+input_kind l _ = []
 
 abbrev pub register_kind : Line → Kind → List Line
-register_kind l Input = []
 register_kind l (Reg init next) = l ∷ []
-register_kind l (Wire cell) = []
+register_kind l _ = []
 
 abbrev pub wire_kind : Line → Kind → List Line
-wire_kind l Input = []
-wire_kind l (Reg init next) = []
 wire_kind l (Wire cell) = l ∷ []
+wire_kind l _ = []
 
 -- the lines of all signals of a kind, in order
 unfoldable pub each_line : (Line → Kind → List Line) → List Signal → List Line

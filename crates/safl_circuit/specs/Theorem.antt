@@ -10,6 +10,7 @@ use Rattle.safl_circuit.specs.Equations.{Registers}
 use Rattle.safl_circuit.specs.Steps.{Quiet, StepsAt}
 use Rattle.safl_net.specs.Netlist.{Netlist}
 use Rattle.safl_net.specs.Valuations.{reset_state}
+use Rattle.safl_net.specs.Whole.{IsWhole}
 use Rattle.safl_term.specs.Names.{Names}
 use Rattle.safl_circuit.specs.Scheme.{Scheme}
 use Rattle.safl_circuit.specs.Correct.{Behaves, Correct, IsExact, IsQuietState, Steps, QuietAfterDone, SameCalls, latest}
@@ -46,6 +47,10 @@ abbrev pub CyclesAreEvents : Type 0
 CyclesAreEvents =
     (C : Program) (P : Choice) → IsWellFormed C → OneInUse C P.arbiter → ShownWordsServe C P.kept → (r0 : Registers) → Quiet r0
     → (args : List Word) → length args ≡ arity C C.main → (later : ℕ → List Word) (c : ℕ) → StepsAt C P r0 args later c
+
+-- a netlist with the scheme of a program is whole
+abbrev pub SchemesAreWhole : Type 0
+SchemesAreWhole = (C : Program) (D : Names) (P : Choice) (n : Netlist) → Scheme C D P n → IsWhole n
 
 -- the last cycle in which `done` may come is below three cycles for each call
 abbrev pub LatestIsSoon : Type 0

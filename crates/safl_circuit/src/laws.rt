@@ -1,6 +1,6 @@
 //! Laws of circuits, over the definitions alone.
 
-ghost use Rattle.safl_circuit.specs.Theorem.{CyclesAreEvents, LatestIsSoon, SchemesAreCircuits, ServingSchemesAreCircuits};
+ghost use Rattle.safl_circuit.specs.Theorem.{CyclesAreEvents, LatestIsSoon, SchemesAreCircuits, SchemesAreWhole, ServingSchemesAreCircuits};
 ghost use Rattle.safl_circuit.specs.Mirrored.{MirrorsKeepPlans, MirrorsKeepSchemes};
 
 /// A netlist that has the scheme of a well-formed program, and enough arbiters and kept words, computes what the
@@ -18,6 +18,12 @@ pub fn serving_law()
 /// From any quiet state, the cycles of the registers are events of the call machine.
 pub fn cycle_law()
     ensures { CyclesAreEvents }
+{}
+
+/// A netlist with the scheme of a program is whole: each wire has a cell and each register a next signal, and there are
+/// an input `start` of width 1, an output `done` of width 1 and an output `result`.
+pub fn whole_law()
+    ensures { SchemesAreWhole }
 {}
 
 /// The last cycle in which `done` may come is `2n - l` for `n` calls of which `l` are tail calls. It is below `3n`.

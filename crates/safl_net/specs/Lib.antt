@@ -3,8 +3,11 @@ pub mod Valuations
 pub mod Runs
 pub mod Laws
 pub mod Written
+pub mod CellTexts
+pub mod WrittenParts
 pub mod Names
 pub mod Widths
+pub mod Operands
 pub mod Making
 pub mod Arguments
 pub mod Rules

@@ -82,14 +82,12 @@ sort_of (Wire cell) = SigKind.Wire
 
 -- the next signal of a register; and the cell of a wire
 abbrev pub next_in : Kind → Option ℕ
-next_in Input = None
 next_in (Reg init next) = next
-next_in (Wire cell) = None
+next_in _ = None
 
 abbrev pub cell_in : Kind → Option Cell
-cell_in Input = None
-cell_in (Reg init next) = None
 cell_in (Wire cell) = cell
+cell_in _ = None
 
 -- the signal with a name, or else the one that the output with that name shows
 abbrev pub found : Netlist → List ℕ → Option ℕ

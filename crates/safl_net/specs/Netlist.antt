@@ -34,11 +34,9 @@ width_of n s = width_in (slice_get n.signals s)
 
 -- a register has a next signal, and a wire has a cell
 abbrev pub IsSet : Kind → Type 0
-IsSet Input = Unit {0}
 IsSet (Reg init None) = ⊥
-IsSet (Reg init (Some m)) = Unit {0}
 IsSet (Wire None) = ⊥
-IsSet (Wire (Some c)) = Unit {0}
+IsSet _ = Unit {0}
 
 abbrev pub AllSet : Netlist → Type 0
 AllSet n = (s : ℕ) (g : Signal) → slice_get n.signals s ≡ Some g → IsSet g.kind
@@ -54,18 +52,15 @@ output_place (o ∷ os) name = cond (bytes_eq o.0 name) (Some o.1) (output_place
 
 abbrev pub is_input : Kind → Bool
 is_input Input = true
-is_input (Reg init next) = false
-is_input (Wire cell) = false
+is_input _ = false
 
 abbrev pub is_register : Kind → Bool
-is_register Input = false
 is_register (Reg init next) = true
-is_register (Wire cell) = false
+is_register _ = false
 
 abbrev pub is_wire : Kind → Bool
-is_wire Input = false
-is_wire (Reg init next) = false
 is_wire (Wire cell) = true
+is_wire _ = false
 
 -- what an input has, before what those after it have
 abbrev pub with_input : Kind → ℕ → List ℕ → List ℕ

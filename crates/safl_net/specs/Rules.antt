@@ -1,7 +1,7 @@
 -- The rules that every netlist keeps.
 use Rattle.std.specs.Prelude.{◌≡◌, ℕ, ◌<◌, ◌≤◌, ◌^◌, List, length, true, Some, None, All, slice_get}
 use Rattle.safl_word.specs.Limits.{width_max}
-use Rattle.safl_net.specs.Netlist.{Netlist, Signal, Kind, Input, Reg, Wire, Cell, width_of}
+use Rattle.safl_net.specs.Netlist.{Netlist, Signal, Kind, Reg, Wire, Cell, width_of}
 use Rattle.safl_net.specs.Names.{is_good}
 use Rattle.safl_net.specs.Widths.{op_width, HasWord}
 use Rattle.safl_net.specs.Making.{widths}
@@ -14,11 +14,10 @@ pub record CellFits (n : Netlist) (width : ℕ) (c : Cell) : Type 0 where
 
 -- the reset number fits the width; the next signal is one of the net and has the width; and the cell has the width
 abbrev pub KindFits : Netlist → ℕ → Kind → Type 0
-KindFits n width Input = Unit {0}
 KindFits n width (Reg init None) = init < 2 ^ width
 KindFits n width (Reg init (Some m)) = (init < 2 ^ width) × (m < length n.signals) × (width_of n m ≡ width)
-KindFits n width (Wire None) = Unit {0}
 KindFits n width (Wire (Some c)) = CellFits n width c
+KindFits n width _ = Unit {0}
 
 pub record SignalFits (n : Netlist) (g : Signal) : Type 0 where
   pub good : is_good g.name ≡ true

@@ -1,14 +1,13 @@
 -- Runs of a netlist, with one valuation for each cycle.
 use Rattle.std.specs.Prelude.{◌≡◌, ℕ, List, [], ◌∷◌, Bool, true, false, cond, codes}
 use Rattle.std.specs.Str.{bytes_eq}
-use Rattle.safl_net.specs.Netlist.{Netlist, Signal, Kind, Input, Reg, Wire}
+use Rattle.safl_net.specs.Netlist.{Netlist, Signal, Kind, Input}
 use Rattle.safl_net.specs.Valuations.{Valuation, Fits, read, reset_state, next_state}
 
 -- whether a signal is an input other than `start`
 abbrev pub is_argument : List ℕ → Kind → Bool
 is_argument name Input = cond (bytes_eq name (codes "start")) false true
-is_argument name (Reg init next) = false
-is_argument name (Wire cell) = false
+is_argument name _ = false
 
 -- the numbers of the inputs other than `start`, in order
 unfoldable pub input_numbers : List Signal → Valuation → List ℕ

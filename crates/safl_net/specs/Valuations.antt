@@ -4,7 +4,7 @@ use Rattle.safl_word.specs.Words.{Word, no_word, choose}
 use Rattle.safl_word.specs.Primitives.{apply_prim}
 use Rattle.safl_net.specs.declared.cell.Op.{Op}
 use Rattle.safl_net.specs.declared.cell.Op.TheVariants.{Const, Copy, Mux, Apply}
-use Rattle.safl_net.specs.Netlist.{Netlist, Signal, Kind, Input, Reg, Wire, Cell, width_of, place, output_place}
+use Rattle.safl_net.specs.Netlist.{Netlist, Signal, Kind, Reg, Wire, Cell, width_of, place, output_place}
 
 -- a valuation has a number for each signal, in the order of the signals
 abbrev pub Valuation : Type 0
@@ -13,28 +13,19 @@ Valuation = List ℕ
 abbrev pub signal_word : Netlist → Valuation → ℕ → Word
 signal_word n v s = record { width = width_of n s; bits = slice_index v s }
 
-abbrev pub copied : List Word → Word
-copied [] = no_word
-copied (a ∷ []) = a
-copied (a ∷ (b ∷ vs)) = no_word
-
--- the second word if the first is 1, else the third
-abbrev pub chosen : List Word → Word
-chosen (c ∷ a ∷ b ∷ []) = choose c a b
-chosen _ = no_word
-
+-- the word of an operation on these words
 abbrev pub cell_word : Op → List Word → Word
 cell_word (Const w) vs = w
-cell_word Copy vs = copied vs
-cell_word Mux vs = chosen vs
+cell_word Copy (a ∷ []) = a
+cell_word Mux (c ∷ a ∷ b ∷ []) = choose c a b
 cell_word (Apply p) vs = apply_prim p vs
+cell_word _ vs = no_word
 
 -- the number that the kind of a signal demands. Inputs and wires without a cell are free
 abbrev pub Holds : Netlist → Valuation → ℕ → ℕ → Kind → Type 0
-Holds n v state w Input = Unit {0}
 Holds n v state w (Reg init next) = w ≡ state
-Holds n v state w (Wire None) = Unit {0}
 Holds n v state w (Wire (Some c)) = w ≡ (cell_word c.op (map (signal_word n v) c.operands)).bits
+Holds n v state w _ = Unit {0}
 
 -- The valuation fits a state, which has a number for each register: each signal has a number that fits its width, each register
 -- its number in the state, and each wire the value of its cell.
@@ -44,9 +35,8 @@ pub record Fits (n : Netlist) (state : ℕ → ℕ) (v : Valuation) : Type 0 whe
 
 -- the state at reset
 abbrev pub kind_reset : Kind → ℕ
-kind_reset Input = 0
 kind_reset (Reg init next) = init
-kind_reset (Wire cell) = 0
+kind_reset _ = 0
 
 abbrev pub reset_number : Option Signal → ℕ
 reset_number None = 0
@@ -57,10 +47,8 @@ reset_state n s = reset_number (slice_get n.signals s)
 
 -- the state after a cycle: each register has the number of its next signal
 abbrev pub kind_next : Valuation → Kind → ℕ
-kind_next v Input = 0
-kind_next v (Reg init None) = 0
 kind_next v (Reg init (Some m)) = slice_index v m
-kind_next v (Wire cell) = 0
+kind_next v _ = 0
 
 abbrev pub next_number : Valuation → Option Signal → ℕ
 next_number v None = 0

@@ -1,7 +1,8 @@
 //! The width of an operation's result.
 
 ghost use Rattle.std.specs.Prelude.{◌≡◌};
-ghost use Rattle.safl_net.specs.Widths.{op_width, no_operand, HasWord};
+ghost use Rattle.safl_net.specs.Operands.{no_operand};
+ghost use Rattle.safl_net.specs.Widths.{op_width, HasWord};
 ghost use Rattle.safl_word.specs.Words.{IsWord};
 
 use crate::cell::Op;

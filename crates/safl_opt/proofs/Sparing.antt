@@ -11,7 +11,8 @@ use Rattle.safl_net.specs.declared.cell.Op.TheVariants.{Const, Copy, Mux, Apply}
 use Rattle.safl_net.specs.Netlist.{Netlist, Kind, Input, Reg, Wire, Cell, width_of}
 use Rattle.safl_net.specs.Making.{kind_at, cell_in, numbers, widths, cell_on}
 use Rattle.safl_net.specs.Rules.{CellFits}
-use Rattle.safl_net.specs.Widths.{op_width, mux_operands}
+use Rattle.safl_net.specs.Operands.{mux_operands}
+use Rattle.safl_net.specs.Widths.{op_width}
 use Rattle.safl_net.proofs.Keeping.{numbers_length}
 use Rattle.safl_opt.specs.Lean.{is_const, is_constant, are_constants, HasCell}
 use Rattle.safl_opt.specs.Values.{sig_at}

@@ -1,5 +1,5 @@
 -- What a probe tells, and what its calls append.
-use Rattle.std.specs.Prelude.{◌≡◌, ◌≤◌, ◌<◌, ℕ, ◌+◌, List, [], length, Option, Some, None}
+use Rattle.std.specs.Prelude.{◌≡◌, ◌≤◌, ◌<◌, ℕ, ◌+◌, List, [], length, Option, Some, None, option_map}
 use Rattle.safl_net.specs.Netlist.{Netlist}
 use Rattle.safl_net.specs.Valuations.{Valuation}
 use Rattle.safl_probe.specs.Watching.{Shape, kind_of, shape_of, seen}
@@ -43,12 +43,8 @@ abbrev pub begun : Netlist → ProbeState → ProbeState
 begun n s = record s { shape = Some (shape_of s.kind n); last = None; turn = 0 }
 
 -- a probe after a frame
-abbrev pub last_seen : Option Shape → Valuation → Option (List ℕ)
-last_seen None frame = None
-last_seen (Some shape) frame = Some (seen shape.watched frame)
-
 abbrev pub after_frame : Valuation → ProbeState → ProbeState
-after_frame frame s = record s { last = last_seen s.shape frame; turn = s.turn + 1 }
+after_frame frame s = record s { last = option_map (λ (shape : Shape). seen shape.watched frame) s.shape; turn = s.turn + 1 }
 
 -- the text of the beginning on a net; of a frame; and of the end
 abbrev pub opening_on : ℕ → Shape → Text

@@ -81,9 +81,7 @@ toggles t count = decimal t ++ codes " " ++ decimal count ++ codes "\n"
 -- the text of the beginning
 abbrev pub opening : TraceKind → List Watched → Text
 opening Vcd ws = header ws
-opening Starts ws = []
-opening Toggles ws = []
-opening Silent ws = []
+opening _ ws = []
 
 -- the text of cycle t. The watched signals have these numbers, and had those in the frame before, if there was one
 abbrev pub frame_text : TraceKind → List Watched → ℕ → Option (List ℕ) → List ℕ → Text
@@ -97,9 +95,7 @@ frame_text Silent ws t last now = []
 -- the text of the end, after this many frames
 abbrev pub closing : TraceKind → ℕ → Text
 closing Vcd turn = time turn
-closing Starts turn = []
-closing Toggles turn = []
-closing Silent turn = []
+closing _ turn = []
 
 -- the texts of the frames from cycle t on
 abbrev pub frames_text : TraceKind → List Watched → ℕ → Option (List ℕ) → List Valuation → Text

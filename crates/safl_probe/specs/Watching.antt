@@ -27,17 +27,10 @@ pub record Watched : Type 0 where
 -- begins with `go$`
 abbrev pub belongs : Group → SigKind → List ℕ → Bool
 belongs Inputs Input name = true
-belongs Inputs Reg name = false
-belongs Inputs Wire name = false
-belongs Registers Input name = false
 belongs Registers Reg name = true
-belongs Registers Wire name = false
-belongs NamedWires Input name = false
-belongs NamedWires Reg name = false
 belongs NamedWires Wire name = not (is_temp name)
-belongs StartWires Input name = false
-belongs StartWires Reg name = false
 belongs StartWires Wire name = starts_with nat_eq name (codes "go$")
+belongs _ _ name = false
 
 -- the signals of a group. The first signal has the number i
 abbrev pub one_watched : Group → Signal → ℕ → List Watched

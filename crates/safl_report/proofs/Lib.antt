@@ -1,3 +1,4 @@
+pub mod NamedLines
 pub mod OneLineMore
 pub mod CountsByOne
 pub mod RegistersByOne

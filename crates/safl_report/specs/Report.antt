@@ -1,7 +1,7 @@
 -- What is printed about a program's plan and a netlist's registers.
 use Rattle.std.specs.Prelude.{◌≡◌, ℕ, ◌++◌, ◌==◌, List, length, map, filter, count_by, sum_by, Bool, true, false, codes, decimal}
 use Rattle.std.specs.List.{concat, range_with_len}
-use Rattle.safl_term.specs.Checked.{CheckedProgram}
+use Rattle.safl_term.specs.Names.{Names}
 use Rattle.safl_term.specs.Program.{Program}
 use Rattle.safl_sites.specs.Plan.{IsPlan}
 use Rattle.safl_net.specs.Netlist.{Netlist, Signal, is_register}
@@ -22,17 +22,11 @@ abbrev pub function_text : Text → ℕ → Bool → Text
 function_text name calls arbiter =
     codes "function " ++ name ++ codes " sites " ++ decimal calls ++ codes " arbiter " ++ answer arbiter ++ codes "\n"
 
-abbrev pub function_line : CheckedProgram → (ℕ → Bool) → ℕ → Text
-function_line c arbiter f = function_text (c.name f) (calls_of c.program f) (arbiter (c.program.unit f))
-
 -- the line of a site: its number, the names of the function that it calls and of the one whose body has it, and whether it keeps
 -- its word
 abbrev pub site_text : ℕ → Text → Text → Bool → Text
 site_text k callee caller kept =
     codes "site " ++ decimal k ++ codes " " ++ callee ++ codes " in " ++ caller ++ codes " kept " ++ answer kept ++ codes "\n"
-
-abbrev pub site_line : CheckedProgram → (ℕ → Bool) → ℕ → Text
-site_line c kept k = site_text k (c.name (c.program.callee k)) (c.name (c.program.caller k)) (kept k)
 
 abbrev pub registers : List Signal → List Signal
 registers signals = filter (λ g. is_register g.kind) signals
@@ -48,33 +42,28 @@ abbrev pub register_line : Netlist → Text
 register_line n = register_text (length (registers n.signals)) (bits_of (registers n.signals))
 
 -- the lines of the functions, numbered from 0; and those of the sites, numbered from 1
-abbrev pub function_lines : CheckedProgram → (ℕ → Bool) → Text
-function_lines c arbiter = concat (map (function_line c arbiter) (range_with_len 0 c.program.functions))
+abbrev pub function_lines : Program → Names → (ℕ → Bool) → Text
+function_lines C D arbiter =
+    concat (map (λ (f : ℕ). function_text (D.name f) (calls_of C f) (arbiter (C.unit f))) (range_with_len 0 C.functions))
 
-abbrev pub site_lines : CheckedProgram → (ℕ → Bool) → Text
-site_lines c kept = concat (map (site_line c kept) (range_with_len 1 c.program.sites))
-
-abbrev pub report_lines : CheckedProgram → (ℕ → Bool) → (ℕ → Bool) → Netlist → Text
-report_lines c arbiter kept n = function_lines c arbiter ++ site_lines c kept ++ register_line n
+abbrev pub site_lines : Program → Names → (ℕ → Bool) → Text
+site_lines C D kept = concat (map (λ (k : ℕ). site_text k (D.name (C.callee k)) (D.name (C.caller k)) (kept k)) (range_with_len 1 C.sites))
 
 -- The text is the report of a netlist and of the program's only plan, which says which units need an arbiter and which sites keep
 -- their words.
-pub record IsReport (c : CheckedProgram) (n : Netlist) (text : Text) : Type 0 where
+pub record IsReport (C : Program) (D : Names) (n : Netlist) (text : Text) : Type 0 where
   pub arbiter : ℕ → Bool
   pub kept : ℕ → Bool
-  pub plan : IsPlan c.program arbiter kept
-  pub lines : text ≡ report_lines c arbiter kept n
+  pub plan : IsPlan C arbiter kept
+  pub lines : text ≡ function_lines C D arbiter ++ site_lines C D kept ++ register_line n
 
 -- how many functions have a unit with an arbiter
 abbrev pub arbiters_of : Program → (ℕ → Bool) → ℕ
 arbiters_of C arbiter = count_by arbiter (map C.unit (range_with_len 0 C.functions))
 
-abbrev pub summary_lines : CheckedProgram → (ℕ → Bool) → Netlist → Text
-summary_lines c arbiter n = codes "arbiters " ++ decimal (arbiters_of c.program arbiter) ++ codes "\n" ++ register_line n
-
 -- the text is the summary of a netlist and of the program's only plan
-pub record IsSummary (c : CheckedProgram) (n : Netlist) (text : Text) : Type 0 where
+pub record IsSummary (C : Program) (n : Netlist) (text : Text) : Type 0 where
   pub arbiter : ℕ → Bool
   pub kept : ℕ → Bool
-  pub plan : IsPlan c.program arbiter kept
-  pub lines : text ≡ summary_lines c arbiter n
+  pub plan : IsPlan C arbiter kept
+  pub lines : text ≡ codes "arbiters " ++ decimal (arbiters_of C arbiter) ++ codes "\n" ++ register_line n

@@ -12,7 +12,7 @@ use safl_word::NoMemory;
 /// Appends a line for each function. `calls` has for each how many sites call it.
 pub fn push_functions(out: &mut Vec<u8>, p: &Planned, calls: &[u32]) -> Result<(), NoMemory>
     requires { AreCalls p.now.program p.now.program.sites calls.now }
-    ensures lines { OnOk result (out.new.items ≡ out.old.items ++ function_lines p.now.checked p.now.arbiter) }
+    ensures lines { OnOk result (out.new.items ≡ out.old.items ++ function_lines p.now.checked.program p.now.checked.names p.now.arbiter) }
     ensures plan { IsPlan p.now.program p.now.arbiter p.now.kept }
 {
     let c = p.checked();
@@ -24,7 +24,7 @@ pub fn push_functions(out: &mut Vec<u8>, p: &Planned, calls: &[u32]) -> Result<(
 
 /// Appends a line for each site.
 pub fn push_sites(out: &mut Vec<u8>, p: &Planned) -> Result<(), NoMemory>
-    ensures { OnOk result (out.new.items ≡ out.old.items ++ site_lines p.now.checked p.now.kept) }
+    ensures { OnOk result (out.new.items ≡ out.old.items ++ site_lines p.now.checked.program p.now.checked.names p.now.kept) }
 {
     let c = p.checked();
     for done in 0..c.sites() {

@@ -16,7 +16,7 @@ use std::alloc::Global;
 /// arbiter; a line for each site, with whether it keeps its word; and the numbers of registers and of their bits. Fails
 /// only if out of memory.
 pub fn report(alloc: Global, p: &Planned, n: &Net) -> Result<Vec<u8>, NoMemory>
-    ensures { IfOk result (λ text. IsReport p.now.checked n.now text.items) }
+    ensures { IfOk result (λ text. IsReport p.now.checked.program p.now.checked.names n.now text.items) }
 {
     let calls = count_calls(alloc, p)?;
     let total = count_registers(n);
@@ -30,7 +30,7 @@ pub fn report(alloc: Global, p: &Planned, n: &Net) -> Result<Vec<u8>, NoMemory>
 /// The summary of a program: a line with the number of functions whose unit has an arbiter, and one with the numbers of
 /// registers and of their bits. Fails only if out of memory.
 pub fn summary(alloc: Global, p: &Planned, n: &Net) -> Result<Vec<u8>, NoMemory>
-    ensures { IfOk result (λ text. IsSummary p.now.checked n.now text.items) }
+    ensures { IfOk result (λ text. IsSummary p.now.checked.program n.now text.items) }
 {
     let total = count_registers(n);
     let mut out = Vec::new(alloc);

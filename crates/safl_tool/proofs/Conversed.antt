@@ -17,6 +17,7 @@ use Rattle.safl_term.specs.Program.{Program}
 use Rattle.safl_term.specs.Names.{Names}
 use Rattle.safl_term.specs.WellFormed.{AreWordsOf}
 use Rattle.safl_net.proofs.SignalKinds.{reset_at}
+use Rattle.safl_circuit.proofs.WholeCircuits.{schemes_whole}
 use Rattle.safl_session.specs.declared.script.ScriptErr.{ScriptErr}
 use Rattle.safl_session.specs.declared.script.ScriptErr.TheVariants as errors
 use Rattle.safl_sim.specs.declared.done.Done.{Done as Reply}
@@ -121,7 +122,6 @@ module _ (source script : List ℕ) (o : ReadySession) (is : IsReadySession sour
           source_of = c.source_of;
           circuit = c.circuit;
           made = c.made;
-          whole = c.whole;
           read = read;
           serves =
               serves c.program c.names c.circuit.choice net c.circuit.scheme c.circuit.circuit c.made c.whole limit (reset_state net) (reset c.program c.names c.circuit.choice net c.circuit.scheme)
@@ -220,8 +220,9 @@ replies_come once reply reset script_once limit source script g e (calls, rs, v,
     let same : e.2 ≡ calls = script_once (v.program.params v.program.main) script e.2 calls read v.read in
     let each : All (IsInTime v.program limit) calls = subst (λ (l : List (List Word)). All (IsInTime v.program limit) l) same
     (subst (λ (x : Program). All (IsInTime x limit) e.2) (sym C) e.5) in
+    let whole = schemes_whole v.program v.names v.circuit.choice v.net v.circuit.scheme in
     let long : length rs ≡ length calls =
-    reply v.program v.names v.circuit.choice v.net v.circuit.scheme v.circuit.circuit v.made v.whole limit (reset_state v.net) (reset v.program v.names v.circuit.choice v.net v.circuit.scheme)
+    reply v.program v.names v.circuit.choice v.net v.circuit.scheme v.circuit.circuit v.made whole limit (reset_state v.net) (reset v.program v.names v.circuit.choice v.net v.circuit.scheme)
     calls (calls_sized (v.program.params v.program.main) script calls v.read) each rs
     (served v.program v.names v.net limit (reset_state v.net) calls rs v.serves) in
     ap (λ (x : Given). x.comes) is ∙ eq-eqb (length rs) (length calls) long

@@ -31,8 +31,6 @@ module _ (source : List ℕ) (C : Program) (D : Names) (n : Netlist) (reads : Wr
     source_of = of;
     circuit = circuit;
     made = made;
-    whole = whole;
-    in_order = in_order;
     reads = reads n made whole in_order;
     torn = λ count. torn short n made (take count (written n)) (drop count (written n)) (sym (take-append-drop count (written n)));
     is = ap only_writes is;

@@ -205,17 +205,7 @@ run_comes one args limit g text f (Some d, r, is) = ap (λ (x : Given). x.comes)
 
 -- the run that was measured
 measured_run : (source : List ℕ) (args : List (List ℕ)) (limit : ℕ) (head : List ℕ) (answer : Option Done) → Measures source args limit head answer → Simulates source args limit answer
-measured_run source args limit head answer m = record {
-  program = m.checked.program;
-  names = m.checked.names;
-  net = m.net;
-  words = m.words;
-  source_of = m.source_of;
-  circuit = m.circuit;
-  read = m.read;
-  outcome = m.outcome;
-  value = m.value;
-}
+measured_run source args limit head answer m = m.simulates
 
 measure_comes : OneProgram → (args : List (List ℕ)) (limit : ℕ) (g : Given) (source : List ℕ) → Evaluates source args (InCycles limit) → GivesMeasure args limit source g → g.comes ≡ true
 measure_comes once args limit g source e (head, None, m, is) = absurd (comes_in_time once source args limit (measured_run source args limit head None m) e)
@@ -268,7 +258,7 @@ command_kept l (Walk input seed steps args) =
 command_kept l (Run input limit args) =
     reading_kept (verilog_file input) [] (RefusesText input args) (GivesRun args limit) (λ text. Finishes text args limit)
     (λ text s line f r. text_not_refused l.one l.free input args limit s line text f r) (λ text g f h. run_comes l.one args limit g text f h)
-command_kept l (Report input) = accepted_kept l.apart input [] GivesReport (λ source g h. ap (λ (x : Given). x.comes) h.is)
+command_kept l (Report input) = accepted_kept l.apart input [] GivesReport (λ source g h. ap (λ (x : Given). x.comes) h.5)
 command_kept l (Gen seed count) = record { refuses = λ contents s line p r. absurd r; gives = λ contents g p h. ap (λ (x : Given). x.comes) h }
 command_kept l (Bench seed count limit) = record {
   refuses = λ contents s line p r. given_not_refused l.once l.apart (codes "bench") (made_args seed count) (InCycles limit) s line (made_source seed count) p r;

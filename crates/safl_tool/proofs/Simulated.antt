@@ -104,20 +104,23 @@ module _ (source : List ℕ) (n : Netlist) (c : IsCompiled source n) (args : Lis
 -- what a run of the circuit of a planned program says, after its head
 pub measures : (source : List ℕ) (p : CheckedProgram) (n : Netlist) → IsSourceOf source p.program p.names → IsCircuitOf p.program p.names n
     → argument_widths n.signals ≡ p.program.params p.program.main → (args : List (List ℕ)) (limit : ℕ) (answer : Option Done) → Gives n args limit answer
-    → (head : List ℕ) → HasHead p n head → Measures source args limit head answer
+    → (head : List ℕ) → HasHead p.program n head → Measures source args limit head answer
 measures source p n of circuit params args limit answer g head begins =
     let C = p.program in
     let read : AreRead (C.params C.main) args g.words = subst (λ l. AreRead l args g.words) params g.read in
     record {
-      checked = p;
-      net = n;
-      words = g.words;
-      source_of = of;
-      circuit = circuit;
+      simulates = record {
+        program = C;
+        names = p.names;
+        net = n;
+        words = g.words;
+        source_of = of;
+        circuit = circuit;
+        read = read;
+        outcome = g.outcome;
+        value = has_value C p.names circuit.choice n circuit.circuit g.words (read_words (C.params C.main) args g.words read) limit answer g.outcome;
+      };
       begins = begins;
-      read = read;
-      outcome = g.outcome;
-      value = has_value C p.names circuit.choice n circuit.circuit g.words (read_words (C.params C.main) args g.words read) limit answer g.outcome;
     }
 
 -- what refuses the arguments of a program refuses the source with them

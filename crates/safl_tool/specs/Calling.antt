@@ -4,7 +4,6 @@ use Rattle.safl_word.specs.Words.{Word}
 use Rattle.safl_net.specs.Netlist.{Netlist}
 use Rattle.safl_net.specs.Rules.{IsNetlist}
 use Rattle.safl_net.specs.Valuations.{reset_state}
-use Rattle.safl_net.specs.Whole.{IsWhole}
 use Rattle.safl_term.specs.Program.{Program}
 use Rattle.safl_term.specs.Names.{Names}
 use Rattle.safl_session.specs.declared.script.ScriptErr.{ScriptErr}
@@ -27,7 +26,6 @@ pub record Converses (source script : List ℕ) (limit : ℕ) (calls : List (Lis
   pub source_of : IsSourceOf source program names
   pub circuit : IsCircuitOf program names net
   pub made : IsNetlist net
-  pub whole : IsWhole net
   pub read : IsScript (program.params program.main) script calls
   pub serves : Serves program names net limit (reset_state net) calls replies
 

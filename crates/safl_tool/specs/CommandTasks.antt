@@ -5,8 +5,6 @@ use Rattle.safl_net.specs.Netlist.{Netlist}
 use Rattle.safl_net.specs.Valuations.{Valuation}
 use Rattle.safl_net.specs.Written.{written}
 use Rattle.safl_net.specs.Rules.{IsNetlist}
-use Rattle.safl_net.specs.Whole.{IsWhole}
-use Rattle.safl_net.specs.Arranged.{IsInOrder}
 use Rattle.safl_opt.specs.Lean.{Lean}
 use Rattle.safl_verilog.specs.Reads.{Reads}
 use Rattle.safl_vwrite.specs.Torn.{IsTornOrWhole}
@@ -70,16 +68,14 @@ GivesNumbers source g = (C : Program) × (D : Names) × IsSourceOf source C D ×
 abbrev pub check_task : List ℕ → Task
 check_task input = printing (source_file input) (RefusesSourceOf input) GivesNumbers IsAccepted
 
--- The text of this netlist is given, and the netlist is the circuit of the source's program. It is whole and in order, and the
--- text reads as it. No proper prefix of the text reads as a netlist, except for the text without its last line feed.
+-- The text of this netlist is given, and the netlist is the circuit of the source's program. The text reads as it. No proper prefix
+-- of the text reads as a netlist, except for the text without its last line feed.
 pub record WritesCircuit (source : List ℕ) (net : Netlist) (g : Given) : Type 0 where
   pub program : Program
   pub names : Names
   pub source_of : IsSourceOf source program names
   pub circuit : IsCircuitOf program names net
   pub made : IsNetlist net
-  pub whole : IsWhole net
-  pub in_order : IsInOrder net
   pub reads : Reads (written net) net
   pub torn : (count : ℕ) → IsTornOrWhole net (take count (written net))
   pub is : g ≡ only_writes (written net)

@@ -114,7 +114,7 @@ fn measure<'a>(
 
 // The numbers of a program, and the summary of its plan and of its netlist.
 fn head_of(alloc: Global, p: &Planned, net: &Net) -> Result<Vec<u8>, NoMemory>
-    ensures { IfOk result (λ text. HasHead p.now.checked net.now text.items) }
+    ensures { IfOk result (λ text. HasHead p.now.checked.program net.now text.items) }
 {
     let checked = p.checked();
     let mut text = Vec::new(alloc);

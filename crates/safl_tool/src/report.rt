@@ -33,7 +33,7 @@ pub fn report_lines<'a>(alloc: Global, name: &'a str, source: &[u8]) -> Result<L
 }
 
 fn report_of(alloc: Global, p: &Planned) -> Result<Vec<u8>, NoMemory>
-    ensures { IfOk result (λ text. Reports p.now.checked text.items) }
+    ensures { IfOk result (λ text. Reports p.now.checked.program p.now.checked.names text.items) }
 {
     let net = planned_circuit(alloc, p)?;
     report(alloc, p, &net)

@@ -2,7 +2,7 @@
 use Rattle.std.proofs.Common.{◌≡◌, ℕ, zero, suc, ◌<◌, List, Some, None, Bool, true, false, cond, not, slice_get, ◌==◌, ◌&&◌, ◌||◌, nat_lt, nat_le, is_some, refl, sym, ap, subst, ◌∙◌, arith}
 use Rattle.safl_term.specs.Names.{Names}
 use Rattle.safl_sites.specs.Plan.{Choice}
-use Rattle.std.specs.Prelude.{codes}
+use Rattle.std.specs.Prelude.{codes, unwrap_or}
 use Rattle.std.proofs.lemmas.Bool.{eq-eqb, eqb-true, ne_eqb, lt-ltb, ltb-true, leb-true, and_parts, and_right, false≢true}
 use Rattle.safl_word.specs.Words.{Word}
 use Rattle.safl_term.specs.Program.{Program, unit_for}
@@ -11,7 +11,8 @@ use Rattle.safl_term.specs.Readiness.{wanted}
 use Rattle.safl_calls.specs.Picks.{first}
 use Rattle.safl_calls.proofs.Basics.{all_none}
 use Rattle.safl_net.specs.Growth.{Val}
-use Rattle.safl_circuit.specs.Equations.{Registers, Inputs, ends, starts, end_in, go_in, end_word, go, want, body_wants, path, on_wires, ret, wants_at, clears, or_word, next}
+use Rattle.safl_circuit.specs.Equations.{Registers, Inputs, ends, starts, end_word, go, want, body_wants, path, on_wires, ret, wants_at, clears, next}
+use Rattle.safl_circuit.proofs.Searched.{end_in, go_in}
 use Rattle.safl_circuit.specs.Names.{of_function, of_site, is_unit, is_site, numbers, view}
 use Rattle.safl_circuit.specs.Scheme.{Agree}
 use Rattle.safl_unit.specs.declared.pins.UnitPins.{UnitPins}
@@ -114,7 +115,7 @@ module _ (c : CheckedProgram) (h : IsChecked c) (P : Choice) where
         ap (λ (v : Word). v.bits) (sym (seen.units u x.0 (own u is) x.1).res ∙ subst (λ y. w x.0.res.0 ≡ n.res y) (own u is) (shows.units u x.0 x.1).res)
     res_agrees u false is =
         ap (λ t. cond t (later (of_function D (codes "res$") u)) 0) is
-        ∙ sym (ap (λ o. (or_word o (r.res u)).bits) (no_ends r u is) ∙ ap (λ t. cond t (now (of_function D (codes "res$") u)) 0) is)
+        ∙ sym (ap (λ o. (unwrap_or o (r.res u)).bits) (no_ends r u is) ∙ ap (λ t. cond t (now (of_function D (codes "res$") u)) 0) is)
 
     -- a site
     site_entry : (k : ℕ) → nat_le k C.sites ≡ true → (x : SitePins) × (slice_get b.sites.items k ≡ Some x)

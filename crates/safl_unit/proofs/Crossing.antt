@@ -15,8 +15,9 @@ use Rattle.safl_net.specs.declared.cell.Sig.{Sig}
 use Rattle.safl_net.specs.Netlist.{Netlist}
 use Rattle.safl_net.specs.Growth.{Val, words}
 use Rattle.safl_net.specs.Bits.{on, gate}
-use Rattle.safl_circuit.specs.Equations.{Registers, Inputs, body_wants, want, wants_at, go, go_words, end_word, loop_words, end_in, loop_in}
-use Rattle.safl_circuit.specs.Equations.{go_in, load_in as loads_from, ends, loops, starts, loads, starts_it, if_other}
+use Rattle.safl_circuit.specs.Equations.{Registers, Inputs, body_wants, want, wants_at, go, go_words, end_word, loop_words}
+use Rattle.safl_circuit.specs.Equations.{ends, loops, starts, loads, starts_it}
+use Rattle.safl_circuit.proofs.Searched.{end_in, loop_in, go_in, load_in as loads_from, if_other}
 use Rattle.safl_lower.specs.declared.loads.Load.{Load}
 use Rattle.safl_lower.specs.Sources.{Builds}
 use Rattle.safl_lower.specs.Tables.{pin, taken_in, taken_at, taken_from, on_from, one_word}

@@ -1,11 +1,12 @@
 -- The next words of the registers are those of the equations.
 use Rattle.std.proofs.Common.{◌≡◌, ℕ, List, [], ◌∷◌, Option, Some, None, Bool, true, false, cond, not, ◌&&◌, ◌||◌, is_some, refl, ap, ◌∙◌}
+use Rattle.std.specs.Prelude.{unwrap_or}
 use Rattle.safl_sites.specs.Plan.{Choice}
 use Rattle.safl_word.specs.Words.{Word}
 use Rattle.safl_term.specs.Program.{Program, unit_for}
 use Rattle.safl_term.specs.Readiness.{or_else}
 use Rattle.safl_net.specs.Growth.{Val, words}
-use Rattle.safl_circuit.specs.Equations.{Registers, Inputs, many, ret, go, ends, starts, loads, loop_words, clears, starts_it, starts_other, or_word, next}
+use Rattle.safl_circuit.specs.Equations.{Registers, Inputs, many, ret, go, ends, starts, loads, loop_words, clears, starts_it, starts_other, next}
 use Rattle.safl_lower.specs.Tables.{one_word}
 use Rattle.safl_lower.proofs.Goes.{one_some}
 use Rattle.safl_unit.specs.declared.pins.UnitPins.{UnitPins}
@@ -33,11 +34,11 @@ set_last false true false = refl
 set_last false false true = refl
 set_last false false false = refl
 
-word_or : (o : Option Word) (a b : Word) → a ∷ [] ≡ or_word (one_word o) (b ∷ []) → a ≡ or_word o b
+word_or : (o : Option Word) (a b : Word) → a ∷ [] ≡ unwrap_or (one_word o) (b ∷ []) → a ≡ unwrap_or o b
 word_or None a b e = cc
 word_or (Some w) a b e = cc
 
-or_twice : {A : Type 0} (a b : Option A) (d : A) → or_word a (or_word b d) ≡ or_word (or_else a b) d
+or_twice : {A : Type 0} (a b : Option A) (d : A) → unwrap_or a (unwrap_or b d) ≡ unwrap_or (or_else a b) d
 or_twice None b d = refl
 or_twice (Some x) b d = refl
 
@@ -52,8 +53,8 @@ module _ (C : Program) (P : Choice) (v : Val) (r : Registers) (i : Inputs) where
             (λ (b : Bool). (is_some (starts C P r i u) || r.run u) && not b) some
             ∙ set_first (is_some (starts C P r i u)) (r.run u) (is_some (ends C P r u));
         fin = h.fin ∙ some;
-        res = word_or (ends C P r u) (v y.res.0) (r.res u) (h.res ∙ ap (λ (o : Option (List Word)). or_word o (v x.res.0 ∷ [])) e ∙ ap
-            (λ (w : Word). or_word (one_word (ends C P r u)) (w ∷ [])) a.res);
+        res = word_or (ends C P r u) (v y.res.0) (r.res u) (h.res ∙ ap (λ (o : Option (List Word)). unwrap_or o (v x.res.0 ∷ [])) e ∙ ap
+            (λ (w : Word). unwrap_or (one_word (ends C P r u)) (w ∷ [])) a.res);
       }
 
   pub member_follows : (f : ℕ) (entry rival : Bool) (load looped : Option (List Word)) (x y : MemberPins) → MemberStep v (many C f) entry rival load looped x y → MemberShows C v x r f
@@ -63,9 +64,9 @@ module _ (C : Program) (P : Choice) (v : Val) (r : Registers) (i : Inputs) where
     at = λ m.
         h.at m ∙ ap (λ (b : Bool). (entry || b) && not rival) (a.at m) ∙ ap (λ (b : Bool). (b || r.at f) && not rival) e ∙ ap (λ (b : Bool). (starts_it C P r i f || r.at f) && not b) s
         ∙ set_first (starts_it C P r i f) (r.at f) (starts_other C P r i f);
-    arg = h.args ∙ ap (λ (o : Option (List Word)). or_word o (or_word looped (words v x.args.items))) l ∙ ap
-        (λ (o : Option (List Word)). or_word (loads C P r i f) (or_word o (words v x.args.items))) k
-        ∙ ap (λ (ws : List Word). or_word (loads C P r i f) (or_word (loop_words C P r f) ws)) a.arg ∙ or_twice (loads C P r i f) (loop_words C P r f) (r.arg f);
+    arg = h.args ∙ ap (λ (o : Option (List Word)). unwrap_or o (unwrap_or looped (words v x.args.items))) l ∙ ap
+        (λ (o : Option (List Word)). unwrap_or (loads C P r i f) (unwrap_or o (words v x.args.items))) k
+        ∙ ap (λ (ws : List Word). unwrap_or (loads C P r i f) (unwrap_or (loop_words C P r f) ws)) a.arg ∙ or_twice (loads C P r i f) (loop_words C P r f) (r.arg f);
   }
 
   pub site_follows : (k : ℕ) (back sent clear : Bool) (res : Word) (x y : SitePins) → SiteStep v (P.kept k) back sent clear res x y → SiteShows P v x r k

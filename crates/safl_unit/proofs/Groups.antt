@@ -5,7 +5,8 @@ use Rattle.safl_term.specs.Program.{Program}
 use Rattle.safl_term.specs.Checked.{CheckedProgram, IsChecked}
 use Rattle.safl_calls.specs.Picks.{first}
 use Rattle.safl_calls.proofs.Basics.{first_none, all_none, some_none}
-use Rattle.safl_circuit.specs.Equations.{other_than, many}
+use Rattle.safl_circuit.specs.Equations.{many}
+use Rattle.safl_circuit.proofs.Searched.{other_than}
 
 pub found : {A : Type 0} (g : ℕ → Option A) (n i : ℕ) (x : A) → i < n → g i ≡ Some x → is_some (first g n) ≡ true
 found g n i x l e = by (first g n) refl

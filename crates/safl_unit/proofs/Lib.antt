@@ -1,5 +1,4 @@
 pub mod Keeping
-pub mod Options
 pub mod Tables
 pub mod Groups
 pub mod Declaring

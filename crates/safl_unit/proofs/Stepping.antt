@@ -1,5 +1,6 @@
 -- The next words of the registers, by one entry more.
 use Rattle.std.proofs.Common.{◌≡◌, ℕ, suc, ◌+◌, ◌<◌, List, [], ◌∷◌, ◌++◌, length, length-append, Option, Some, Bool, true, false, cond, Result, Ok}
+use Rattle.std.specs.Prelude.{unwrap_or}
 use Rattle.safl_sites.specs.Plan.{Choice}
 use Rattle.std.proofs.Common.{Err, IfOk, slice_get, slice_index_or, ◌⊎◌, ⊎_elim, refl, sym, ap, subst, ◌∙◌, arith}
 use Rattle.std.proofs.lemmas.Option.{same_Some}
@@ -9,7 +10,7 @@ use Rattle.safl_net.specs.Netlist.{Netlist}
 use Rattle.safl_net.specs.Growth.{Val, Wired, words}
 use Rattle.safl_word.specs.Words.{Word}
 use Rattle.safl_net.specs.Bits.{on}
-use Rattle.safl_circuit.specs.Equations.{many, or_word}
+use Rattle.safl_circuit.specs.Equations.{many}
 use Rattle.safl_net.proofs.Growth.{wired_before}
 use Rattle.safl_lower.specs.declared.loads.Load.{Load}
 use Rattle.safl_lower.specs.Sources.{IsSource, AreSources, Builds}
@@ -36,7 +37,7 @@ one_chosen true x y = refl
 one_chosen false x y = refl
 
 pub load_word_value : {E : Type 0} (m : Netlist) (r : Result Sig E) (load : Option Load) (l : Load) (other word : Sig) → load ≡ Some l → l.words.items ≡ other ∷ []
-    → IfOk r (λ s. (v : Val) → Wired m v → v s.0 ≡ cond (on v l.bit) (v other.0) (v word.0)) → IfOk r (λ s. (v : Val) → Wired m v → v s.0 ∷ [] ≡ or_word (taken_in v load) (v word.0 ∷ []))
+    → IfOk r (λ s. (v : Val) → Wired m v → v s.0 ≡ cond (on v l.bit) (v other.0) (v word.0)) → IfOk r (λ s. (v : Val) → Wired m v → v s.0 ∷ [] ≡ unwrap_or (taken_in v load) (v word.0 ∷ []))
 load_word_value m (Ok s) load l other word e q h = λ v w.
     words_show v (v s.0 ∷ []) (v word.0 ∷ []) load l e
     (ap (λ (x : Word). x ∷ []) (h v w) ∙ one_chosen (on v l.bit) (v other.0) (v word.0) ∙ ap (λ (xs : List Sig). cond (on v l.bit) (words v xs) (v word.0 ∷ [])) (sym q))

@@ -1,5 +1,6 @@
 -- The next words of registers, from their words now.
 use Rattle.std.specs.Prelude.{◌≡◌, ℕ, suc, ◌<◌, List, [], ◌∷◌, length, Option, Some, Result, IfOk, Bool, true, ◌&&◌, ◌||◌, ◌⊎◌, not, cond, is_some, slice_get}
+use Rattle.std.specs.Prelude.{unwrap_or}
 use Rattle.safl_sites.specs.Plan.{Choice}
 use Rattle.safl_word.specs.Words.{Word}
 use Rattle.safl_term.specs.Program.{Program}
@@ -7,7 +8,7 @@ use Rattle.safl_net.specs.declared.cell.Sig.{Sig}
 use Rattle.safl_net.specs.Netlist.{Netlist}
 use Rattle.safl_net.specs.Growth.{Val, Wired, words}
 use Rattle.safl_net.specs.Bits.{on}
-use Rattle.safl_circuit.specs.Equations.{many, or_word}
+use Rattle.safl_circuit.specs.Equations.{many}
 use Rattle.safl_lower.specs.declared.loads.Load.{Load}
 use Rattle.safl_lower.specs.Tables.{EachAt, pin, taken_in, taken_from, on_in, on_from, FitsIn}
 use Rattle.safl_unit.specs.declared.pins.UnitPins.{UnitPins}
@@ -24,12 +25,12 @@ use Rattle.safl_unit.specs.Cycles.{UnitFits, MemberFits, SiteFits}
 pub record UnitStep (v : Val) (end : Option (List Word)) (start : Bool) (now after : UnitPins) : Type 0 where
   pub run : on v after.run ≡ ((start || on v now.run) && not (is_some end))
   pub fin : on v after.fin ≡ is_some end
-  pub res : v after.res.0 ∷ [] ≡ or_word end (v now.res.0 ∷ [])
+  pub res : v after.res.0 ∷ [] ≡ unwrap_or end (v now.res.0 ∷ [])
 
 -- of a function, by whether its unit has others, whether it or one of these starts, and what a site and a tail call load
 pub record MemberStep (v : Val) (many entry rival : Bool) (load looped : Option (List Word)) (now after : MemberPins) : Type 0 where
   pub at : many ≡ true → on v after.at ≡ ((entry || on v now.at) && not rival)
-  pub args : words v after.args.items ≡ or_word load (or_word looped (words v now.args.items))
+  pub args : words v after.args.items ≡ unwrap_or load (unwrap_or looped (words v now.args.items))
 
 -- of a site, by whether it keeps its word, is delivered to, starts and is cleared, and by the word of its unit
 pub record SiteStep (v : Val) (kept ret go clear : Bool) (res : Word) (now after : SitePins) : Type 0 where

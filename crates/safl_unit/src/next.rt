@@ -1,10 +1,9 @@
 //! The next words of the registers of one unit, one function and one site.
 
-ghost use Rattle.std.specs.Prelude.{◌≡◌, ℕ, ◌+◌, ◌*◌, ◌&&◌, ◌||◌, true, List, [], ◌∷◌, cond, not, length, Some, IfOk, OnOk};
+ghost use Rattle.std.specs.Prelude.{◌≡◌, ℕ, ◌+◌, ◌*◌, ◌&&◌, ◌||◌, true, List, [], ◌∷◌, cond, not, length, Some, IfOk, OnOk, unwrap_or};
 ghost use Rattle.safl_net.specs.Names.{IsTidy};
 ghost use Rattle.safl_net.specs.Growth.{Val, Wired};
 ghost use Rattle.safl_net.specs.Bits.{on};
-ghost use Rattle.safl_circuit.specs.Equations.{or_word};
 ghost use Rattle.safl_lower.specs.Sources.{IsSource, Builds, CanGrow};
 ghost use Rattle.safl_lower.specs.Tables.{taken_in, on_in, FitsIn, IsBitIn};
 ghost use Rattle.safl_unit.specs.Cycles.{UnitFits, MemberFits, SiteFits};
@@ -164,7 +163,7 @@ fn load_word(net: &mut Net, load: &Option<Load>, word: Sig) -> Result<Sig, NoMem
     requires room { CanGrow net.old 1 }
     ensures built { Builds net.old net.new 1 }
     ensures fits { (w : ℕ) → FitsIn net.old load.now (w ∷ []) → IsSource net.old word w → IfOk result (λ s. IsSource net.new s w) }
-    ensures value { IfOk result (λ s. (v : Val) → Wired net.new v → v s.0 ∷ [] ≡ or_word (taken_in v load.now) (v word.0 ∷ [])) }
+    ensures value { IfOk result (λ s. (v : Val) → Wired net.new v → v s.0 ∷ [] ≡ unwrap_or (taken_in v load.now) (v word.0 ∷ [])) }
 {
     match load {
         None => Ok(word),

@@ -9,9 +9,12 @@ use Rattle.safl_verilog.specs.declared.token.Sort.{Sort}
 use Rattle.safl_verilog.specs.declared.token.Sort.TheVariants as sorts
 use Rattle.safl_verilog.specs.declared.fault.VFault.{VFault}
 use Rattle.safl_verilog.specs.Files.{Spot, Expression, Literal, Plain, Inverted, Binary, Choice, Joined, Slice, Declaration, Statement, Assign, Always, File}
-use Rattle.safl_verilog.specs.Faults.{where_not, number_faults, range_faults, declared_number_faults, expression_number_faults, stated_number_faults}
-use Rattle.safl_verilog.specs.Faults.{among, repeat_faults, declared_names, find, is_input, is_output, is_reg, is_wire, is_port, passes, range_width}
-use Rattle.safl_verilog.specs.Faults.{width_in, width_of, header_faults, port_faults, has_bit, has_ports, is_data, is_signal, is_target, unfit_faults}
+use Rattle.safl_verilog.specs.Faults.{where_not, number_faults, range_faults, expression_number_faults, stated_number_faults}
+use Rattle.safl_verilog.specs.FaultParts.{declared_number_faults}
+use Rattle.safl_verilog.specs.Faults.{among, repeat_faults, find, is_input, is_output, is_reg, is_wire, is_port, passes, range_width}
+use Rattle.safl_verilog.specs.FaultParts.{declared_names}
+use Rattle.safl_verilog.specs.Faults.{width_in, width_of, has_bit, has_ports, is_data, is_signal, is_target, unfit_faults}
+use Rattle.safl_verilog.specs.FaultParts.{header_faults, port_faults}
 use Rattle.safl_verilog.specs.Faults.{operation, operands, is_plain, expression_width, assigned, updated, is_none, width_faults, literal_value}
 use Rattle.safl_verilog.specs.Faults.{may_be_assigned, assign_faults, always_faults, statement_faults, all_statement_faults, missing_faults, faults}
 use Rattle.safl_verilog.specs.Netlists.{signals_of, place_of, number_of, cell_of, driven, register_of, kind_of, signal_of, shown_signal, output_of, netlist}

@@ -16,7 +16,8 @@ use Rattle.safl_word.proofs.Words.{where_holds}
 use Rattle.safl_net.specs.declared.cell.Op.{Op}
 use Rattle.safl_net.specs.declared.cell.Op.TheVariants as ops
 use Rattle.safl_net.specs.Netlist.{Netlist, width_of}
-use Rattle.safl_net.specs.Widths.{op_width, no_operand, one_operand, mux_operands, HasWord}
+use Rattle.safl_net.specs.Operands.{no_operand, one_operand, mux_operands}
+use Rattle.safl_net.specs.Widths.{op_width, HasWord}
 use Rattle.safl_net.specs.Making.{widths}
 use Rattle.safl_net.specs.Making.{name_at as name_of}
 use Rattle.safl_net.specs.Written.{literal}

@@ -9,10 +9,13 @@ use Rattle.safl_word.specs.declared.primitive.Primitive.TheVariants as prims
 use Rattle.safl_net.specs.declared.cell.Op.{Op}
 use Rattle.safl_net.specs.declared.cell.Op.TheVariants as ops
 use Rattle.safl_net.specs.Netlist.{Netlist, Signal, Kind, Input, Reg, Wire, Cell, width_of}
+use Rattle.safl_net.specs.CellTexts
 use Rattle.safl_net.specs.Written
 use Rattle.safl_net.specs.Making.{name_at as name_of}
-use Rattle.safl_net.specs.Written.{literal, declaration, operation, names_of, port, input_port, output_port, input_declaration, output_declaration}
-use Rattle.safl_net.specs.Written.{register_declaration, wire_declaration, assignment, wire_assignment, output_assignment, update, register_update}
+use Rattle.safl_net.specs.Written.{literal, declaration, operation, names_of}
+use Rattle.safl_net.specs.WrittenParts.{port, input_port, output_port, input_declaration, output_declaration}
+use Rattle.safl_net.specs.Written.{assignment, update}
+use Rattle.safl_net.specs.WrittenParts.{register_declaration, wire_declaration, wire_assignment, output_assignment, register_update}
 use Rattle.safl_net.specs.Written.{header, declarations, statements, written}
 use Rattle.safl_verilog.specs.declared.token.Sort.{Sort}
 use Rattle.safl_verilog.specs.declared.token.Sort.TheVariants as sorts
@@ -224,15 +227,15 @@ two_text n f t none one more h (a ∷ (b ∷ [])) = h (named_spot n a) (named_sp
 two_text n f t none one more h (a ∷ (b ∷ (c ∷ xs))) = sym (more (name_of n a) (name_of n b) (name_of n c) (names_of n xs))
 
 binary_text : (n : Netlist) (p : Primitive) (sign : List ℕ) → symbol_text (symbol_of p) ≡ sign → (xs : List ℕ) → text_of_all
-    (expression_pieces (on_two (Binary p) (map (named_spot n) xs))) ≡ Written.two_operands sign (names_of n xs)
+    (expression_pieces (on_two (Binary p) (map (named_spot n) xs))) ≡ CellTexts.two_operands sign (names_of n xs)
 binary_text n p sign e xs =
-    two_text n (Binary p) (Written.two_operands sign) refl (λ a. refl) (λ a b c xs. refl)
+    two_text n (Binary p) (CellTexts.two_operands sign) refl (λ a. refl) (λ a b c xs. refl)
     (λ a b. ap (λ (l : List ℕ). a.bytes ++ (32 ∷ (l ++ (32 ∷ (b.bytes ++ []))))) e ∙ simp (append_assoc, append-nil)) xs
 
 applied_text : (n : Netlist) (p : Primitive) (xs : List ℕ) → text_of_all (expression_pieces (applied p (map (named_spot n) xs))) ≡ Written.applied p (names_of n xs)
-applied_text n prims.Not xs = one_text n Inverted Written.inverted refl (λ a b xs. refl) (λ a. simp append-nil) xs
-applied_text n prims.Cat xs = two_text n Joined Written.joined_texts refl (λ a. refl) (λ a b c xs. refl) (λ a b. simp append_assoc) xs
-applied_text n (prims.Bits high low) xs = one_text n (λ a. Slice a (spot_of (decimal high)) (spot_of (decimal low))) (Written.sliced high low) refl (λ a b xs. refl) (λ a. simp append_assoc) xs
+applied_text n prims.Not xs = one_text n Inverted CellTexts.inverted refl (λ a b xs. refl) (λ a. simp append-nil) xs
+applied_text n prims.Cat xs = two_text n Joined CellTexts.joined_texts refl (λ a. refl) (λ a b c xs. refl) (λ a b. simp append_assoc) xs
+applied_text n (prims.Bits high low) xs = one_text n (λ a. Slice a (spot_of (decimal high)) (spot_of (decimal low))) (CellTexts.sliced high low) refl (λ a b xs. refl) (λ a. simp append_assoc) xs
 applied_text n (prims.Ext width) xs = refl
 applied_text n prims.Add xs = binary_text n prims.Add (codes "+") refl xs
 applied_text n prims.Sub xs = binary_text n prims.Sub (codes "-") refl xs
@@ -249,7 +252,7 @@ applied_text n prims.Ge xs = binary_text n prims.Ge (codes ">=") refl xs
 applied_text n prims.Shl xs = binary_text n prims.Shl (codes "<<") refl xs
 applied_text n prims.Shr xs = binary_text n prims.Shr (codes ">>") refl xs
 
-choice_text : (n : Netlist) (xs : List ℕ) → text_of_all (expression_pieces (on_three Choice (map (named_spot n) xs))) ≡ Written.selected (names_of n xs)
+choice_text : (n : Netlist) (xs : List ℕ) → text_of_all (expression_pieces (on_three Choice (map (named_spot n) xs))) ≡ CellTexts.selected (names_of n xs)
 choice_text n [] = refl
 choice_text n (a ∷ []) = refl
 choice_text n (a ∷ (b ∷ [])) = refl
@@ -258,7 +261,7 @@ choice_text n (a ∷ (b ∷ (c ∷ (d ∷ xs)))) = refl
 
 cell_text : (n : Netlist) (o : Op) (xs : List ℕ) → text_of_all (expression_pieces (expressed o (map (named_spot n) xs))) ≡ operation o (names_of n xs)
 cell_text n (ops.Const w) xs = append-nil (literal w.width w.bits)
-cell_text n ops.Copy xs = one_text n Plain Written.plain refl (λ a b xs. refl) (λ a. append-nil a.bytes) xs
+cell_text n ops.Copy xs = one_text n Plain CellTexts.plain refl (λ a b xs. refl) (λ a. append-nil a.bytes) xs
 cell_text n ops.Mux xs = choice_text n xs
 cell_text n (ops.Apply p) xs = applied_text n p xs
 

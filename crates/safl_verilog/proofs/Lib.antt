@@ -12,6 +12,7 @@ pub mod PrintedStands
 pub mod PrintedReads
 pub mod Bare
 pub mod WholeNets
+pub mod ReadInOrder
 pub mod FileOf
 pub mod Decimals
 pub mod Distinct

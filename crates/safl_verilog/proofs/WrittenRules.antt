@@ -22,8 +22,10 @@ use Rattle.safl_verilog.specs.declared.token.Sort.TheVariants as sorts
 use Rattle.safl_verilog.specs.declared.fault.VFault.{VFault}
 use Rattle.safl_verilog.specs.Tokens.{IsIdentifier}
 use Rattle.safl_verilog.specs.Files.{Spot, Plain, Declaration, Statement, Assign, File}
-use Rattle.safl_verilog.specs.Faults.{is_range, declared_number_faults, stated_number_faults, all_number_faults, all_repeat_faults, declared_names}
-use Rattle.safl_verilog.specs.Faults.{find, is_input, is_output, is_reg, is_port, passes, range_width, width_of, width_in, header_faults, port_faults}
+use Rattle.safl_verilog.specs.Faults.{is_range, stated_number_faults, all_number_faults, all_repeat_faults}
+use Rattle.safl_verilog.specs.FaultParts.{declared_number_faults, declared_names}
+use Rattle.safl_verilog.specs.Faults.{find, is_input, is_output, is_reg, is_port, passes, range_width, width_of, width_in}
+use Rattle.safl_verilog.specs.FaultParts.{header_faults, port_faults}
 use Rattle.safl_verilog.specs.Faults.{has_ports, all_port_faults, is_target, unfit_faults, operands, is_plain, expression_width, assigned, updated}
 use Rattle.safl_verilog.specs.Faults.{is_none, width_faults, assign_faults, always_faults, statement_faults, all_statement_faults, missing_faults}
 use Rattle.safl_verilog.specs.Faults.{faults}

@@ -71,24 +71,17 @@ abbrev pub range_faults : Option (Spot × Spot) → List VFault
 range_faults None = []
 range_faults (Some r) = number_faults r.0 ++ where_not (is_range r.0 r.1) (at rules.V05 r.0.place) ++ number_faults r.1
 
-abbrev pub declared_number_faults : Declaration → List VFault
-declared_number_faults d = range_faults d.range
-
 abbrev pub expression_number_faults : Expression → List VFault
 expression_number_faults (Literal l) = literal_faults l
 expression_number_faults (Slice a high low) = number_faults high ++ number_faults low
-expression_number_faults (Plain a) = []
-expression_number_faults (Inverted a) = []
-expression_number_faults (Binary p a b) = []
-expression_number_faults (Choice a b c) = []
-expression_number_faults (Joined a b) = []
+expression_number_faults _ = []
 
 abbrev pub stated_number_faults : Statement → List VFault
 stated_number_faults (Assign x e) = expression_number_faults e
 stated_number_faults (Always clock reset target initial second source) = literal_faults initial
 
 abbrev pub all_number_faults : File → List VFault
-all_number_faults f = flat_map declared_number_faults f.declarations ++ flat_map stated_number_faults f.statements
+all_number_faults f = flat_map (λ (d : Declaration). range_faults d.range) f.declarations ++ flat_map stated_number_faults f.statements
 
 -- ---- names
 
@@ -101,11 +94,8 @@ abbrev pub repeat_faults : List Spot → List Spot → List VFault
 repeat_faults before [] = []
 repeat_faults before (x ∷ xs) = where_not (not (among before x.bytes)) (at rules.V03 x.place) ++ repeat_faults (before ++ x ∷ []) xs
 
-abbrev pub declared_names : List Declaration → List Spot
-declared_names ds = map (λ (d : Declaration). d.name) ds
-
 abbrev pub all_repeat_faults : File → List VFault
-all_repeat_faults f = repeat_faults [] f.header ++ repeat_faults [] (declared_names f.declarations)
+all_repeat_faults f = repeat_faults [] f.header ++ repeat_faults [] (map (λ (d : Declaration). d.name) f.declarations)
 
 -- ---- ports
 
@@ -116,27 +106,19 @@ find (d ∷ ds) name = if bytes_eq d.name.bytes name then Some d else find ds na
 
 abbrev pub is_input : Sort → Bool
 is_input sorts.Input = true
-is_input sorts.Output = false
-is_input sorts.Reg = false
-is_input sorts.Wire = false
+is_input _ = false
 
 abbrev pub is_output : Sort → Bool
-is_output sorts.Input = false
 is_output sorts.Output = true
-is_output sorts.Reg = false
-is_output sorts.Wire = false
+is_output _ = false
 
 abbrev pub is_reg : Sort → Bool
-is_reg sorts.Input = false
-is_reg sorts.Output = false
 is_reg sorts.Reg = true
-is_reg sorts.Wire = false
+is_reg _ = false
 
 abbrev pub is_wire : Sort → Bool
-is_wire sorts.Input = false
-is_wire sorts.Output = false
-is_wire sorts.Reg = false
 is_wire sorts.Wire = true
+is_wire _ = false
 
 abbrev pub is_port : Sort → Bool
 is_port s = is_input s || is_output s
@@ -159,12 +141,6 @@ width_in (Some d) = range_width d.range
 abbrev pub width_of : List Declaration → List ℕ → ℕ
 width_of ds name = width_in (find ds name)
 
-abbrev pub header_faults : File → Spot → List VFault
-header_faults f x = where_not (passes (λ d. is_port d.sort) (find f.declarations x.bytes)) (at rules.V10 x.place)
-
-abbrev pub port_faults : File → Declaration → List VFault
-port_faults f d = where_not (not (is_port d.sort) || among f.header d.name.bytes) (at rules.V10 d.name.place)
-
 -- the ports that each file has: `clk`, `rst` and `start` are inputs of width 1, `done` is an output of width 1, and `result` is
 -- an output
 abbrev pub has_bit : List Declaration → (Sort → Bool) → List ℕ → Bool
@@ -175,9 +151,12 @@ has_ports ds =
     has_bit ds is_input (codes "clk") && has_bit ds is_input (codes "rst") && has_bit ds is_input (codes "start")
     && has_bit ds is_output (codes "done") && passes (λ d. is_output d.sort) (find ds (codes "result"))
 
+-- the names of the header are those of the ports
 abbrev pub all_port_faults : File → List VFault
 all_port_faults f =
-    flat_map (header_faults f) f.header ++ flat_map (port_faults f) f.declarations ++ where_not (has_ports f.declarations) (at rules.V10 0)
+    flat_map (λ (x : Spot). where_not (passes (λ d. is_port d.sort) (find f.declarations x.bytes)) (at rules.V10 x.place)) f.header
+    ++ flat_map (λ (d : Declaration). where_not (not (is_port d.sort) || among f.header d.name.bytes) (at rules.V10 d.name.place)) f.declarations
+    ++ where_not (has_ports f.declarations) (at rules.V10 0)
 
 -- ---- statements
 
@@ -222,12 +201,7 @@ operands (Slice a high low) = a ∷ []
 
 abbrev pub is_plain : Expression → Bool
 is_plain (Plain a) = true
-is_plain (Literal l) = false
-is_plain (Inverted a) = false
-is_plain (Binary p a b) = false
-is_plain (Choice a b c) = false
-is_plain (Joined a b) = false
-is_plain (Slice a high low) = false
+is_plain _ = false
 
 -- the width of an expression, or 0 if its operands do not fit
 abbrev pub expression_width : List Declaration → Expression → ℕ

@@ -26,6 +26,10 @@ NotBoth = (text : List ℕ) (n : Netlist) (f : VFault) → Reads text n → HasF
 abbrev pub NoShorterFile : Type 0
 NoShorterFile = (u v : List Terminal) (a b : File) → IsFile u a → IsFile (u ++ v) b → v ≡ []
 
+-- the inputs of a netlist that is read come first, then its registers, then its wires
+abbrev pub ReadsInOrder : Type 0
+ReadsInOrder = (text : List ℕ) (n : Netlist) → Reads text n → IsInOrder n
+
 -- the text that is written for a whole net reads as that net, if its signals are in this order
 abbrev pub WrittenReads : Type 0
 WrittenReads = (n : Netlist) → IsNetlist n → IsWhole n → IsInOrder n → Reads (written n) n

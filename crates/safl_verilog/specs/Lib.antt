@@ -2,6 +2,7 @@ pub mod Tokens
 pub mod Files
 pub mod Grammar
 pub mod Faults
+pub mod FaultParts
 pub mod FaultTexts
 pub mod Netlists
 pub mod Reads

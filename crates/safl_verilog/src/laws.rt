@@ -1,6 +1,6 @@
 //! Laws of Verilog files, over the definitions alone.
 
-ghost use Rattle.safl_verilog.specs.Laws.{OneNetlist, OneFault, NetlistOrFault, NotBoth, NoShorterFile, NoShorterText, WrittenReads};
+ghost use Rattle.safl_verilog.specs.Laws.{OneNetlist, OneFault, NetlistOrFault, NotBoth, NoShorterFile, NoShorterText, ReadsInOrder, WrittenReads};
 
 /// A text reads as at most one netlist.
 pub fn one_netlist_law()
@@ -25,6 +25,11 @@ pub fn not_both_law()
 /// If a text is a file of the grammar, no shorter prefix of it is.
 pub fn no_shorter_file_law()
     ensures { NoShorterFile }
+{}
+
+/// The netlist that a text reads as has its inputs first, then its registers, then its wires.
+pub fn reads_in_order_law()
+    ensures { ReadsInOrder }
 {}
 
 /// The text that is written for a whole net reads as that net, if its inputs come first, then its registers, then its

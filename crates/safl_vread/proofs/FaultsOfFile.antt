@@ -4,7 +4,8 @@ use Rattle.std.specs.Prelude.{IfErr}
 use Rattle.std.specs.List.{flat_map}
 use Rattle.safl_verilog.specs.declared.fault.VFault.{VFault}
 use Rattle.safl_verilog.specs.Files.{File}
-use Rattle.safl_verilog.specs.Faults.{faults, all_number_faults, repeat_faults, declared_names, all_port_faults, all_statement_faults, missing_faults}
+use Rattle.safl_verilog.specs.Faults.{faults, all_number_faults, repeat_faults, all_port_faults, all_statement_faults, missing_faults}
+use Rattle.safl_verilog.specs.FaultParts.{declared_names}
 use Rattle.safl_verilog.specs.Reads.{broken}
 use Rattle.safl_vparse.specs.Parsed.{IsFileText, RefusesText}
 use Rattle.safl_vparse.specs.declared.error.VErr.{VErr}

@@ -13,7 +13,8 @@ use Rattle.safl_verilog.specs.declared.fault.VRule.TheVariants as rules
 use Rattle.safl_verilog.specs.Tokens.{IsIdentifier}
 use Rattle.safl_verilog.specs.Files.{Declaration, File}
 use Rattle.safl_verilog.specs.Faults.{at, find, passes, where_not, is_clock, is_reset, is_input, is_output, is_reg, is_wire, has_bit, has_ports}
-use Rattle.safl_verilog.specs.Faults.{range_width, faults, all_number_faults, repeat_faults, declared_names, header_faults, port_faults}
+use Rattle.safl_verilog.specs.Faults.{range_width, faults, all_number_faults, repeat_faults}
+use Rattle.safl_verilog.specs.FaultParts.{declared_names, header_faults, port_faults}
 use Rattle.safl_verilog.specs.Faults.{all_port_faults, all_statement_faults, missing_faults}
 use Rattle.std.specs.List.{flat_map}
 use Rattle.safl_word.proofs.Lists.{append_empty}

@@ -5,7 +5,8 @@ use Rattle.std.proofs.lemmas.List.{map-append}
 use Rattle.safl_word.proofs.Lists.{append_empty}
 use Rattle.safl_verilog.specs.declared.fault.VFault.{VFault}
 use Rattle.safl_verilog.specs.Files.{Declaration, Statement}
-use Rattle.safl_verilog.specs.Faults.{repeat_faults, declared_names, statement_faults, all_statement_faults, stated_number_faults}
+use Rattle.safl_verilog.specs.Faults.{repeat_faults, statement_faults, all_statement_faults, stated_number_faults}
+use Rattle.safl_verilog.specs.FaultParts.{declared_names}
 use Rattle.safl_vread.specs.declared.driver.Driver.{Driver}
 use Rattle.safl_vread.specs.Firsts.{first}
 use Rattle.safl_vread.specs.Drivers.{HasDrivers, Steps}

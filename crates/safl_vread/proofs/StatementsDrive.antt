@@ -11,7 +11,8 @@ use Rattle.safl_verilog.specs.declared.token.Sort.{Sort}
 use Rattle.safl_verilog.specs.declared.token.Sort.TheVariants as sorts
 use Rattle.safl_verilog.specs.declared.fault.VFault.{VFault}
 use Rattle.safl_verilog.specs.Files.{Spot, Expression, Declaration, Statement, Assign, Always}
-use Rattle.safl_verilog.specs.Faults.{find, among, where_not, repeat_faults, declared_names, is_target, is_reg, is_wire, is_output, is_none, range_width, width_of, assigned, updated}
+use Rattle.safl_verilog.specs.Faults.{find, among, where_not, repeat_faults, is_target, is_reg, is_wire, is_output, is_none, range_width, width_of, assigned, updated}
+use Rattle.safl_verilog.specs.FaultParts.{declared_names}
 use Rattle.safl_verilog.proofs.Distinct.{Name, Has, Distinct, same_name}
 use Rattle.safl_verilog.proofs.Lookups.{spot_names, is_among, place_at}
 use Rattle.safl_verilog.specs.Netlists.{place_of}

@@ -18,7 +18,8 @@ use Rattle.safl_verilog.specs.declared.fault.VRule.TheVariants as rules
 use Rattle.safl_verilog.specs.Files.{Spot, Expression, Literal, Plain, Inverted, Binary, Choice, Joined, Slice, Declaration, Statement, Assign, Always, File}
 use Rattle.safl_verilog.specs.Faults.{at, find, where_not, passes, is_data, is_input, is_output, is_reg, is_wire, is_target, is_signal, is_none}
 use Rattle.safl_verilog.specs.Faults.{is_plain, range_width, width_of, expression_width, operands, assigned, updated, faults, has_bit, has_ports}
-use Rattle.safl_verilog.specs.Faults.{repeat_faults, declared_names, all_number_faults, header_faults, port_faults, all_port_faults}
+use Rattle.safl_verilog.specs.Faults.{repeat_faults, all_number_faults, all_port_faults}
+use Rattle.safl_verilog.specs.FaultParts.{declared_names, header_faults, port_faults}
 use Rattle.safl_verilog.specs.Faults.{all_statement_faults, statement_faults, assign_faults, may_be_assigned, unfit_faults, width_faults}
 use Rattle.safl_verilog.specs.Faults.{missing_faults}
 use Rattle.safl_verilog.specs.Netlists.{netlist, signals_of, signal_of, kind_of, register_of, driven, output_of, shown_signal, place_of, number_of}

@@ -9,7 +9,8 @@ use Rattle.safl_word.proofs.Lists.{append_empty}
 use Rattle.safl_verilog.specs.declared.fault.VRule.TheVariants as rules
 use Rattle.safl_verilog.specs.declared.fault.VFault.{VFault}
 use Rattle.safl_verilog.specs.Files.{Spot, Declaration}
-use Rattle.safl_verilog.specs.Faults.{at, where_not, number_faults, is_range, range_faults, range_width, declared_number_faults}
+use Rattle.safl_verilog.specs.Faults.{at, where_not, number_faults, is_range, range_faults, range_width}
+use Rattle.safl_verilog.specs.FaultParts.{declared_number_faults}
 use Rattle.safl_vread.specs.Lists.{widths_of}
 
 pub kept_true : (b : Bool) (f : VFault) → where_not b f ≡ [] → b ≡ true

@@ -4,7 +4,8 @@ use Rattle.std.specs.Borrow.{Bor}
 use Rattle.std.specs.List.{list_any}
 use Rattle.std.specs.Str.{bytes_eq}
 use Rattle.safl_verilog.specs.Files.{Spot, Declaration}
-use Rattle.safl_verilog.specs.Faults.{range_width, declared_names}
+use Rattle.safl_verilog.specs.Faults.{range_width}
+use Rattle.safl_verilog.specs.FaultParts.{declared_names}
 
 -- the names to which references point
 abbrev pub shown_keys : List (Bor (List ℕ)) → List (List ℕ)

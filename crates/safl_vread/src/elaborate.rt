@@ -2,7 +2,8 @@
 
 ghost use Rattle.std.specs.Prelude.{◌≡◌, [], IfOk};
 ghost use Rattle.std.specs.List.{flat_map};
-ghost use Rattle.safl_verilog.specs.Faults.{faults, declared_number_faults, stated_number_faults, repeat_faults, declared_names};
+ghost use Rattle.safl_verilog.specs.Faults.{faults, stated_number_faults, repeat_faults};
+ghost use Rattle.safl_verilog.specs.FaultParts.{declared_number_faults, declared_names};
 ghost use Rattle.safl_vparse.specs.Shown.{shown_declarations, shown_statements, shown_file};
 ghost use Rattle.safl_vread.specs.Drivers.{HasDrivers};
 ghost use Rattle.safl_vread.specs.Firsts.{Answers};

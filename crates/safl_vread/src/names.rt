@@ -1,7 +1,8 @@
 //! Lists of different names, and the rule that no name is listed or declared twice.
 
 ghost use Rattle.std.specs.Prelude.{◌≡◌, [], IfOk};
-ghost use Rattle.safl_verilog.specs.Faults.{repeat_faults, declared_names};
+ghost use Rattle.safl_verilog.specs.Faults.{repeat_faults};
+ghost use Rattle.safl_verilog.specs.FaultParts.{declared_names};
 ghost use Rattle.safl_vparse.specs.Shown.{shown_spots, shown_declarations};
 ghost use Rattle.safl_vread.specs.Firsts.{Answers};
 ghost use Rattle.safl_vread.specs.Lists.{bytes_of_all};

@@ -3,7 +3,8 @@
 ghost use Rattle.std.specs.Prelude.{◌≡◌, ◌==◌, []};
 ghost use Rattle.std.specs.List.{flat_map};
 ghost use Rattle.safl_word.specs.Numerals.{value};
-ghost use Rattle.safl_verilog.specs.Faults.{number_faults, literal_faults, range_faults, declared_number_faults, expression_number_faults, stated_number_faults, all_number_faults};
+ghost use Rattle.safl_verilog.specs.Faults.{number_faults, literal_faults, range_faults, expression_number_faults, stated_number_faults, all_number_faults};
+ghost use Rattle.safl_verilog.specs.FaultParts.{declared_number_faults};
 ghost use Rattle.safl_vparse.specs.Shown.{shown_spot, shown_range, shown_declarations, shown_expression, shown_statement, shown_statements};
 ghost use Rattle.safl_vread.specs.Firsts.{first};
 ghost use Rattle.safl_vread.specs.Parts.{parts_at};

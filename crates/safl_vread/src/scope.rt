@@ -3,7 +3,8 @@
 ghost use Rattle.std.specs.Prelude.{◌≡◌, ◌≤◌, ℕ, [], IfOk, None, slice_index};
 ghost use Rattle.std.specs.List.{flat_map};
 ghost use Rattle.safl_word.specs.Limits.{width_max};
-ghost use Rattle.safl_verilog.specs.Faults.{declared_number_faults, range_faults, range_width, is_signal, repeat_faults, declared_names};
+ghost use Rattle.safl_verilog.specs.Faults.{range_faults, range_width, is_signal, repeat_faults};
+ghost use Rattle.safl_verilog.specs.FaultParts.{declared_number_faults, declared_names};
 ghost use Rattle.safl_vparse.specs.Shown.{shown_declarations, shown_range};
 ghost use Rattle.safl_vread.specs.Lists.{names_of, widths_of};
 

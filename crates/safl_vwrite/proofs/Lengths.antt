@@ -19,10 +19,14 @@ use Rattle.safl_net.specs.Names.{is_good, is_identifier, is_reserved}
 use Rattle.safl_net.specs.Widths.{op_width, HasWord}
 use Rattle.safl_net.specs.Rules.{IsNetlist, SignalFits, KindFits}
 use Rattle.safl_net.specs.Making.{name_at, name_in, widths}
-use Rattle.safl_net.specs.Written.{Text, literal, declaration, two_operands, inverted, joined_texts, sliced, plain, selected, applied, operation, names_of}
-use Rattle.safl_net.specs.Written.{if_input, if_register, if_wire, port, input_port, output_port, input_declaration, output_declaration}
-use Rattle.safl_net.specs.Written.{register_declaration, wire_declaration, assignment, cell_assignment, wire_assignment, output_assignment, update}
-use Rattle.safl_net.specs.Written.{next_update, register_update, written}
+use Rattle.safl_net.specs.CellTexts.{two_operands, inverted, joined_texts, sliced, plain, selected}
+use Rattle.safl_net.specs.Written.{Text, literal, declaration, applied, operation, names_of}
+use Rattle.safl_net.specs.Written.{if_input, if_register, if_wire}
+use Rattle.safl_net.specs.WrittenParts.{port, input_port, output_port, input_declaration, output_declaration}
+use Rattle.safl_net.specs.Written.{assignment, cell_assignment, update}
+use Rattle.safl_net.specs.WrittenParts.{register_declaration, wire_declaration, wire_assignment, output_assignment}
+use Rattle.safl_net.specs.Written.{next_update, written}
+use Rattle.safl_net.specs.WrittenParts.{register_update}
 use Rattle.safl_vwrite.specs.Sizes.{text_max}
 
 -- ---- names and numbers

@@ -12,7 +12,8 @@ use Rattle.safl_net.specs.Netlist.{Netlist, Signal, Kind, Input, Reg, Wire, Cell
 use Rattle.safl_net.specs.Rules.{IsNetlist, KindFits, CellFits}
 use Rattle.safl_net.specs.Making.{kind_at, name_at, kind_in, name_in, cell_in, next_in, numbers}
 use Rattle.safl_net.specs.Stored.{cell_of}
-use Rattle.safl_net.specs.Written.{Text, output_port, port}
+use Rattle.safl_net.specs.Written.{Text}
+use Rattle.safl_net.specs.WrittenParts.{output_port, port}
 
 -- one more element
 one_more : {A : Type 0} (f : A → Text) (xs : List A) (i : ℕ) (x : A) → slice_get xs i ≡ Some x → flat_map f (take (suc i) xs) ≡ flat_map f (take i xs) ++ f x

@@ -3,7 +3,8 @@ use Rattle.std.proofs.Common.{◌≡◌, ℕ, ◌<◌, ◌≤◌, List, [], ◌�
 use Rattle.safl_net.specs.declared.cell.Sig.{Sig}
 use Rattle.safl_net.specs.Netlist.{Netlist}
 use Rattle.safl_net.specs.Making.{numbers}
-use Rattle.safl_net.specs.Written.{Text, names_of, plain, selected, two_operands, inverted, joined_texts, sliced}
+use Rattle.safl_net.specs.CellTexts.{plain, selected, two_operands, inverted, joined_texts, sliced}
+use Rattle.safl_net.specs.Written.{Text, names_of}
 
 pub five : (o a b c d e p q r s t : Text) → p ≡ o ++ a → q ≡ p ++ b → r ≡ q ++ c → s ≡ r ++ d → t ≡ s ++ e → t ≡ o ++ (a ++ b ++ c ++ d ++ e)
 five o a b c d e p q r s t hp hq hr hs ht =

@@ -2,7 +2,8 @@
 
 ghost use Rattle.std.specs.Prelude.{◌≡◌, ◌++◌, ◌<◌, length, OnOk, All};
 ghost use Rattle.safl_net.specs.Making.{name_at, numbers};
-ghost use Rattle.safl_net.specs.Written.{operation, applied, names_of, two_operands, inverted, joined_texts, slice, sliced, plain, selected};
+ghost use Rattle.safl_net.specs.CellTexts.{two_operands, inverted, joined_texts, sliced, plain, selected};
+ghost use Rattle.safl_net.specs.Written.{operation, applied, names_of, slice};
 
 use crate::pieces::{push, push_literal};
 use safl_net::{Cell, Net, Op, Sig};

@@ -4,8 +4,9 @@ ghost use Rattle.std.specs.Prelude.{◌≡◌, ◌++◌, ◌<◌, length, codes,
 ghost use Rattle.std.specs.List.{flat_map};
 ghost use Rattle.safl_net.specs.Rules.{IsNetlist};
 ghost use Rattle.safl_net.specs.Making.{kind_at, name_at};
-ghost use Rattle.safl_net.specs.Written.{header, declarations, port, if_input, if_register, if_wire, input_port, output_port};
-ghost use Rattle.safl_net.specs.Written.{input_declaration, output_declaration, register_declaration, wire_declaration};
+ghost use Rattle.safl_net.specs.Written.{header, declarations, if_input, if_register, if_wire};
+ghost use Rattle.safl_net.specs.WrittenParts.{port, input_port, output_port};
+ghost use Rattle.safl_net.specs.WrittenParts.{input_declaration, output_declaration, register_declaration, wire_declaration};
 ghost use Rattle.safl_vwrite.specs.Lines.{signal_declaration};
 
 use crate::pieces::{push, push_declaration, push_port};

@@ -1,7 +1,8 @@
 //! Pieces of text, appended to a buffer.
 
 ghost use Rattle.std.specs.Prelude.{◌≡◌, ◌++◌, codes, OnOk};
-ghost use Rattle.safl_net.specs.Written.{literal, range, declaration, port, reset, update};
+ghost use Rattle.safl_net.specs.Written.{literal, range, declaration, update};
+ghost use Rattle.safl_net.specs.WrittenParts.{port, reset};
 
 use safl_word::{NoMemory, Raw, push_decimal};
 

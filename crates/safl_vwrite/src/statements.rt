@@ -5,7 +5,8 @@ ghost use Rattle.std.specs.List.{flat_map};
 ghost use Rattle.safl_net.specs.Netlist.{width_of};
 ghost use Rattle.safl_net.specs.Rules.{IsNetlist};
 ghost use Rattle.safl_net.specs.Making.{kind_at, name_at};
-ghost use Rattle.safl_net.specs.Written.{statements, wire_assignment, output_assignment, register_update, cell_assignment, next_update};
+ghost use Rattle.safl_net.specs.Written.{statements, cell_assignment, next_update};
+ghost use Rattle.safl_net.specs.WrittenParts.{wire_assignment, output_assignment, register_update};
 
 use crate::cells::push_cell;
 use crate::pieces::{push, push_target, push_update};

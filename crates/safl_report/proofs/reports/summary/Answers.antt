@@ -13,7 +13,7 @@ returns c =
       arbiter = p.arbiter;
       kept = p.kept;
       plan = c.count_arbiters.ensures.plan;
-      lines = three_parts (codes "arbiters " ++ decimal (arbiters_of p.program p.arbiter)) (codes "\n") (register_line n)
+      lines = three_parts (codes "arbiters " ++ decimal (arbiters_of p.checked.program p.arbiter)) (codes "\n") (register_line n)
           c.new-out.result.items c.push_number.new.out.items c.push_end.new.out.items c.push_registers.new.out.items
           c.new-out.ensures.items
           (c.in_ok-push_number.ensures ∙ append_assoc c.new-out.result.items (codes "arbiters ") (decimal c.from.result)

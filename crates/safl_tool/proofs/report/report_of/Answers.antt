@@ -7,5 +7,5 @@ pub returns : goal.returns
 returns c =
     let p = c.args.p.now.checked in
     let n = c.in_ok-net.net in
-    IfOk-weaker c.report.result (λ text. IsReport p n text.items) (λ text. Reports p text.items)
+    IfOk-weaker c.report.result (λ text. IsReport p.program p.names n text.items) (λ text. Reports p.program p.names text.items)
     (λ text r. record { net = n; circuit = c.in_ok-net.ensures.circuit; report = r }) c.report.ensures

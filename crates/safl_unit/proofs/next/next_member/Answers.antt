@@ -1,15 +1,14 @@
 use Rattle.std.proofs.Common.{◌+◌, ◌*◌, List, length, sym, subst, ap, ◌∙◌, arith}
+use Rattle.std.specs.Prelude.{unwrap_or}
 use Rattle.safl_net.specs.declared.cell.Sig.{Sig}
 use Rattle.safl_net.specs.Growth.{words}
 use Rattle.safl_net.proofs.Growth.{wired_before}
-use Rattle.safl_circuit.specs.Equations.{or_word}
 use Rattle.safl_word.specs.Words.{Word}
 use Rattle.safl_lower.specs.Sources.{AreSources}
 use Rattle.safl_lower.specs.Tables.{taken_in}
 use Rattle.safl_lower.proofs.Building.{builds_on, builds_within, source_kept, sources_kept}
 use Rattle.safl_lower.proofs.KnownLoads.{maybe_load_kept}
 use Rattle.safl_lower.proofs.Joining.{as_many}
-use Rattle.safl_unit.proofs.Options.{word_is}
 use Rattle.safl_unit.proofs.next.next_member.Goals as goal
 
 pub next_at-requires-clause-at : goal.next_at-requires-clause-at
@@ -79,8 +78,8 @@ returns-clause-shows c = λ v w.
     let w1 = wired_before c.load_words.ensures.built.grows w2 in
     record {
       at = c.in_ok-at.ensures.value v w1;
-      args = c.in_ok-args.ensures.shows v w ∙ word_is (taken_in v c.args.load.now) _
-          ∙ ap (λ (xs : List Word). or_word (taken_in v c.args.load.now) xs)
-          (ap (words v) c.deref-2.ensures.value ∙ c.in_ok-kept.ensures.shows v w2 ∙ word_is (taken_in v c.args.looped.now) _ ∙ ap
-          (λ (xs : List Sig). or_word (taken_in v c.args.looped.now) (words v xs)) c.deref.ensures.value);
+      args = c.in_ok-args.ensures.shows v w
+          ∙ ap (λ (xs : List Word). unwrap_or (taken_in v c.args.load.now) xs)
+          (ap (words v) c.deref-2.ensures.value ∙ c.in_ok-kept.ensures.shows v w2 ∙ ap
+          (λ (xs : List Sig). unwrap_or (taken_in v c.args.looped.now) (words v xs)) c.deref.ensures.value);
     }

@@ -3,7 +3,8 @@ use Rattle.std.specs.List.{flat_map}
 use Rattle.std.proofs.lemmas.Result.{err_from_is_err_and}
 use Rattle.safl_word.proofs.Lists.{append_empty}
 use Rattle.safl_verilog.specs.Files.{File}
-use Rattle.safl_verilog.specs.Faults.{all_number_faults, declared_number_faults, stated_number_faults}
+use Rattle.safl_verilog.specs.Faults.{all_number_faults, stated_number_faults}
+use Rattle.safl_verilog.specs.FaultParts.{declared_number_faults}
 use Rattle.safl_vparse.specs.declared.file.Declaration.{Declaration}
 use Rattle.safl_vparse.specs.declared.error.VErr.{VErr}
 use Rattle.safl_vparse.specs.declared.file.Span.{Span}

@@ -1,6 +1,6 @@
 use Rattle.std.proofs.Common.{sym, ◌∙◌}
 use Rattle.std.specs.List.{flat_map}
-use Rattle.safl_verilog.specs.Faults.{declared_number_faults}
+use Rattle.safl_verilog.specs.FaultParts.{declared_number_faults}
 use Rattle.safl_vparse.specs.Shown.{shown_declaration, shown_declarations}
 use Rattle.safl_vread.specs.Firsts.{first}
 use Rattle.safl_vread.proofs.FirstOfSeveral.{goes_on, stops, ends}

@@ -1,5 +1,5 @@
 use Rattle.std.proofs.Common.{arith}
-use Rattle.safl_net.specs.Written.{input_declaration}
+use Rattle.safl_net.specs.WrittenParts.{input_declaration}
 use Rattle.safl_vwrite.proofs.Signals.{signal_more}
 use Rattle.safl_vwrite.proofs.declarations.declare_inputs.Goals as goal
 

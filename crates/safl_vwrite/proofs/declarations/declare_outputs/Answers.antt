@@ -1,6 +1,7 @@
 use Rattle.std.proofs.Common.{arith, ap, ◌++◌, ◌∙◌, ℕ}
 use Rattle.std.specs.Prelude.{codes}
-use Rattle.safl_net.specs.Written.{output_declaration, declaration}
+use Rattle.safl_net.specs.Written.{declaration}
+use Rattle.safl_net.specs.WrittenParts.{output_declaration}
 use Rattle.safl_net.proofs.SignalKinds.{output_known}
 use Rattle.safl_vwrite.proofs.Signals.{output_more}
 use Rattle.safl_vwrite.proofs.declarations.declare_outputs.Goals as goal

@@ -1,6 +1,6 @@
 use Rattle.std.specs.Prelude.{codes}
 use Rattle.std.specs.List.{flat_map}
-use Rattle.safl_net.specs.Written.{input_declaration, output_declaration, register_declaration, wire_declaration}
+use Rattle.safl_net.specs.WrittenParts.{input_declaration, output_declaration, register_declaration, wire_declaration}
 use Rattle.safl_vwrite.proofs.Texts.{five}
 use Rattle.safl_vwrite.proofs.declarations.push_declarations.Goals as goal
 

@@ -1,6 +1,6 @@
 use Rattle.std.proofs.Common.{◌≡◌, ◌++◌, take}
 use Rattle.std.specs.List.{flat_map}
-use Rattle.safl_net.specs.Written.{output_port}
+use Rattle.safl_net.specs.WrittenParts.{output_port}
 use Rattle.safl_vwrite.proofs.declarations.push_output_ports.Given as goal
 
 abbrev pub invariant-loop-i : goal.invariant-loop-i

@@ -1,7 +1,7 @@
 use Rattle.std.proofs.Common.{arith, ap, ◌++◌, ◌∙◌, List, ℕ}
 use Rattle.std.specs.Prelude.{codes}
 use Rattle.safl_net.specs.Making.{name_at}
-use Rattle.safl_net.specs.Written.{output_assignment}
+use Rattle.safl_net.specs.WrittenParts.{output_assignment}
 use Rattle.safl_net.proofs.SignalKinds.{output_known}
 use Rattle.safl_vwrite.proofs.Signals.{output_more}
 use Rattle.safl_vwrite.proofs.Texts.{three}
