@@ -17,21 +17,21 @@ from given import parser
 ROOT = pathlib.Path(__file__).resolve().parent.parent
 TOP = ROOT / "crates/safl_tool/src/top.rt"
 PAGE, README = ROOT / "docs/TRUSTED.md", ROOT / "README.md"
-TASKS = ("safl_tool", "CommandTasks")
+TASK = re.compile(r"command_task \((\w+)")
 COMMANDS = {
-    "check": ["check_task"],
-    "build": ["build_task"],
-    "build --opt": ["optimise_task"],
-    "sim": ["sim_task"],
-    "run": ["run_task"],
-    "walk": ["walk_task"],
-    "report": ["report_task"],
-    "gen": ["gen_task"],
-    "bench": ["bench_task"],
-    "reshape": ["reshape_task"],
-    "session": ["session_task"],
-    "aig": ["aig_task"],
-    "aigstat": ["aigstat_task"],
+    "check": ["Check"],
+    "build": ["Build"],
+    "build --opt": ["Optimise"],
+    "sim": ["Sim"],
+    "run": ["Run"],
+    "walk": ["Walk"],
+    "report": ["Report"],
+    "gen": ["Gen"],
+    "bench": ["Bench"],
+    "reshape": ["CopySite", "UnfoldSite"],
+    "session": ["Session"],
+    "aig": ["Aig"],
+    "aigstat": ["Aigstat"],
 }
 COMMAND_CLAUSES = ("ends", "follows")
 USE = re.compile(r"use Rattle\.(safl_\w+)\.specs\.([\w.]+?)(?:\.\{(.*)\}| as (\w+))?;?$")
@@ -85,9 +85,16 @@ class File:
         elif item.is_record:
             self.fields.add(name)
 
-    def words(self, item):
-        lines = self.lines[self.items[item].first:self.items[item].end]
-        return {w for line in lines for w in WORD.findall(COMMENT.sub("", line))}
+    def words(self, item, others):
+        """The words of an item, without the tasks of other commands."""
+        found, is_other = set(), False
+        for line in self.lines[self.items[item].first:self.items[item].end]:
+            if not line.startswith(" "):
+                task = TASK.match(line)
+                is_other = task is not None and task[1] in others
+            if not is_other:
+                found.update(WORD.findall(COMMENT.sub("", line)))
+        return found
 
     def size(self, items):
         return sum(self.items[i].end - self.items[i].first for i in items)
@@ -140,22 +147,22 @@ def clauses():
 def reached(files, names, commands):
     """The items that these clauses of `run` reach for these commands, by file."""
     found, left = {}, [root for name in names for root in clauses()[name]]
-    others = {(*TASKS, task) for command in COMMANDS if command not in commands for task in COMMANDS[command]}
+    others = {name for command in COMMANDS if command not in commands for name in COMMANDS[command]}
     while left:
         crate, module, name = target = left.pop()
         file = files.get((crate, module))
-        if file is None or target in others or name not in file.owner:
+        if file is None or name not in file.owner:
             continue
         if file.owner[name] in found.setdefault((crate, module), set()):
             continue
         found[crate, module].add(file.owner[name])
-        left += read_by(file, crate, module, [file.owner[name]])
+        left += read_by(file, crate, module, [file.owner[name]], others)
     return found
 
 
-def read_by(file, crate, module, items):
-    """The definitions whose names stand in these items of a file."""
-    words = sorted(set().union(*(file.words(i) for i in items)))
+def read_by(file, crate, module, items, others=()):
+    """The definitions whose names stand in these items of a file, without the tasks of other commands."""
+    words = sorted(set().union(*(file.words(i, others) for i in items)))
     return [target for word in words if (target := meaning(file, crate, module, word))]
 
 

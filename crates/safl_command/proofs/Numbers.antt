@@ -1,14 +1,18 @@
 -- Decimal words are no flags, and say their number.
-use Rattle.std.proofs.Common.{◌≡◌, ℕ, List, [], ◌∷◌, length, Bool, true, Some, ◌&&◌, ap, subst}
-use Rattle.std.specs.Prelude.{nat_le, nat_lt, ◌^◌}
+use Rattle.std.proofs.Common.{◌≡◌, ℕ, List, [], ◌∷◌, length, Bool, true, Option, Some, None, ◌&&◌, ap, subst}
+use Rattle.std.specs.Prelude.{nat_le, nat_lt, if◌then◌else◌, ◌^◌}
 use Rattle.std.specs.List.{list_all}
 use Rattle.std.specs.Cmp.{first_so, second_so}
 use Rattle.safl_word.specs.Numerals.{value, is_digit}
 use Rattle.safl_command.specs.Limits.{cycles_max}
 use Rattle.safl_word.specs.Limits.{generated_max}
-use Rattle.safl_command.specs.Values.{is_number, is_within, number_if, number_of, number_within}
+use Rattle.safl_command.specs.Values.{is_number, is_within, number_of, number_within}
 use Rattle.safl_command.specs.Arranged.{IsUnhyphened}
 use Rattle.safl_command.specs.Laws.{IsNumber, IsLimit, IsCount}
+
+-- the number of a word that fits
+abbrev pub number_if : Bool → List ℕ → Option ℕ
+number_if fits word = if fits then Some (value 10 word) else None
 
 pub number_unhyphened : (word : List ℕ) → IsNumber word → IsUnhyphened word
 number_unhyphened [] h = absurd (cc)

@@ -19,7 +19,7 @@ use Rattle.safl_command.specs.Values.{name_in, number_in, limit_in, count_in, ar
 use Rattle.safl_command.specs.Traces.{Traces, are_apart, if_apart}
 use Rattle.safl_command.specs.Arranged.{GivenOption, Arranged}
 use Rattle.safl_command.specs.Commands.{Command, Check, Build, Optimise, Sim, Walk, Run, Report, Gen, Bench, CopySite, UnfoldSite, Session, Aig}
-use Rattle.safl_command.specs.Commands.{Aigstat, command_of, faultless, build_or_optimise, reshaped, traces_in}
+use Rattle.safl_command.specs.Commands.{Aigstat, command_of, faultless, reshaped, traces_in}
 use Rattle.safl_command.specs.Laws.{IsNumber, IsLimit, IsCount, option, option_if, flag, trace_options, CheckLines, BuildLines, OptimiseLines}
 use Rattle.safl_command.specs.Laws.{SimLines, WalkLines, RunLines, ReportLines, GenLines, BenchLines, CopyLines, UnfoldLines, SessionLines, AigLines}
 use Rattle.safl_command.specs.Laws.{AigstatLines}
@@ -679,6 +679,9 @@ build_flag rows false e is none =
     row_new (codes "opt") (codes "opt") (more_values DefaultValue (codes "false" ∷ [])) opt_row rows e
     ∙ ap (λ (o : Option Row). first_some o (Some opt_row)) (none refl) in
     ap (λ (o : Option Row). option_map_or (λ word. bytes_eq word (codes "true")) (option_and_then (λ r. slice_get r.values 0) o) false) there
+
+abbrev build_or_optimise : Bool → Text → Text → Command
+build_or_optimise optimised input output = if optimised then Optimise input output else Build input output
 
 -- the command, whether the flag is given or not
 build_said : (rows : List Row) (b : Bool) (c : ℕ) (d : List ℕ) (e : ℕ) (f : List ℕ) → has_row (codes "opt") rows ≡ b

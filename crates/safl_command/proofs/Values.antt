@@ -7,7 +7,7 @@ use Rattle.clap.specs.Words.{Text, rows_of, first_of, first_value, all_of, raw_v
 use Rattle.clap.specs.declared.parser.matches.Found.{Found}
 use Rattle.clap.proofs.WalkLemmas.{first_value-rows, raw_values-rows}
 use Rattle.safl_word.specs.Numerals.{value}
-use Rattle.safl_command.specs.Values.{number_if}
+use Rattle.safl_command.proofs.Numbers.{number_if}
 
 module _ (f : Found) (id : Text) where
   -- the first value, if there is one

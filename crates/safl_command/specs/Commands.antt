@@ -1,5 +1,5 @@
 -- Which words form which command.
-use Rattle.std.specs.Prelude.{ℕ, List, [], ◌∷◌, map, Option, Some, None, Bool, option_map, option_and_then}
+use Rattle.std.specs.Prelude.{ℕ, List, [], ◌∷◌, map, Option, Some, None, option_map, option_and_then}
 use Rattle.std.specs.Prelude.{bytes_eq, if◌then◌else◌, codes, string_bytes}
 use Rattle.std.specs.Borrow.{Bor}
 use Rattle.clap.specs.Words.{Row, Kinds, fault_of, subcommand_of, first_of}
@@ -12,15 +12,12 @@ use Rattle.safl_command.specs.declared.command.Command.TheVariants as code_of
 pub data Command : Type 0 where
   -- reads and checks a source
   Check : (input : List ℕ) → Command
-  -- reads a source, and writes its circuit to a file
+  -- reads a source, and writes its circuit to a file; or its optimised circuit
   Build : (input output : List ℕ) → Command
-  -- reads a source, and writes its optimised circuit to a file
   Optimise : (input output : List ℕ) → Command
-  -- reads a source, runs its circuit for at most `limit` cycles with these arguments, and writes traces of the run to the files
-  -- that are given
+  -- reads a source, runs its circuit for at most `limit` cycles with these arguments, and writes the traces that have files
   Sim : (input : List ℕ) (limit : ℕ) (traces : Traces) (args : List (List ℕ)) → Command
-  -- reads a source, and walks its call machine with these arguments for at most `steps` events, which are picked by the numbers
-  -- of a seed
+  -- reads a source, and walks its call machine with these arguments for at most `steps` events, picked by the numbers of a seed
   Walk : (input : List ℕ) (seed steps : ℕ) (args : List (List ℕ)) → Command
   -- reads a Verilog file, and runs its netlist for at most `limit` cycles with these arguments
   Run : (input : List ℕ) (limit : ℕ) (args : List (List ℕ)) → Command
@@ -30,9 +27,8 @@ pub data Command : Type 0 where
   Gen : (seed count : ℕ) → Command
   -- makes a source of `count` functions from a seed, and runs its circuit for at most `limit` cycles
   Bench : (seed count limit : ℕ) → Command
-  -- reads a source, and writes it to a file with a function copied for one call site
+  -- reads a source, and writes it to a file with a function copied for one call site; or with the call replaced by its body
   CopySite : (input output : List ℕ) (site : ℕ) → Command
-  -- reads a source, and writes it to a file with the call at a site replaced by the function's body
   UnfoldSite : (input output : List ℕ) (site : ℕ) → Command
   -- reads a source and a script, and calls main once for each line of the script, for at most `limit` cycles each
   Session : (input script : List ℕ) (limit : ℕ) → Command
@@ -43,49 +39,13 @@ pub data Command : Type 0 where
 
 -- ---- the commands from the values of their arguments
 
--- a command with two files
-abbrev pub files_in : List ℕ → List ℕ → (List ℕ → List ℕ → Option Command) → List Row → Option Command
-files_in first second make rows = option_and_then (λ input. option_and_then (make input) (name_in second rows)) (name_in first rows)
-
-abbrev pub check_in : List Row → Option Command
-check_in rows = option_map Check (name_in (codes "IN") rows)
-
-abbrev pub build_or_optimise : Bool → List ℕ → List ℕ → Command
-build_or_optimise optimised input output = if optimised then Optimise input output else Build input output
-
-abbrev pub build_in : List Row → Option Command
-build_in rows = files_in (codes "IN") (codes "OUT") (λ input output. Some (build_or_optimise (has_flag (codes "opt") rows) input output)) rows
+-- what is made of a value, if there is one
+abbrev pub given : {T : Type 0} → Option T → (T → Option Command) → Option Command
+given value make = option_and_then make value
 
 -- the files for traces, if their names differ
 abbrev pub traces_in : List Row → Option Traces
 traces_in rows = if_apart (record { vcd = first_of (codes "vcd") rows; starts = first_of (codes "starts") rows; toggles = first_of (codes "toggles") rows })
-
-abbrev pub sim_in : List Row → Option Command
-sim_in rows =
-    option_and_then (λ input.
-    option_and_then (λ limit. option_map (λ traces. Sim input limit traces (args_in rows)) (traces_in rows)) (limit_in (codes "cycles") rows))
-    (name_in (codes "IN") rows)
-
-abbrev pub walk_in : List Row → Option Command
-walk_in rows =
-    option_and_then (λ input.
-    option_and_then (λ seed. option_map (λ steps. Walk input seed steps (args_in rows)) (limit_in (codes "steps") rows)) (number_in (codes "order") rows))
-    (name_in (codes "IN") rows)
-
-abbrev pub run_in : List Row → Option Command
-run_in rows = option_and_then (λ input. option_map (λ limit. Run input limit (args_in rows)) (limit_in (codes "cycles") rows)) (name_in (codes "FILE") rows)
-
-abbrev pub report_in : List Row → Option Command
-report_in rows = option_map Report (name_in (codes "IN") rows)
-
-abbrev pub gen_in : List Row → Option Command
-gen_in rows = option_and_then (λ seed. option_map (Gen seed) (count_in (codes "COUNT") rows)) (number_in (codes "SEED") rows)
-
-abbrev pub bench_in : List Row → Option Command
-bench_in rows =
-    option_and_then (λ seed.
-    option_and_then (λ count. option_map (Bench seed count) (limit_in (codes "cycles") rows)) (count_in (codes "COUNT") rows))
-    (number_in (codes "SEED") rows)
 
 -- the word that an option has, if there is one
 abbrev pub word_of : Option (Bor (List ℕ)) → Option (List ℕ)
@@ -95,49 +55,39 @@ word_of given = option_map (λ (w : Bor (List ℕ)). w.now) given
 abbrev pub reshaped : List ℕ → List ℕ → Option (List ℕ) → Option (List ℕ) → Option Command
 reshaped input output (Some copied) None = option_map (CopySite input output) (number_of copied)
 reshaped input output None (Some unfolded) = option_map (UnfoldSite input output) (number_of unfolded)
-reshaped input output (Some copied) (Some unfolded) = None
-reshaped input output None None = None
+reshaped input output _ _ = None
 
 abbrev pub change_in : List ℕ → List ℕ → List Row → Option Command
 change_in input output rows = reshaped input output (first_of (codes "copy") rows) (first_of (codes "unfold") rows)
 
-abbrev pub reshape_in : List Row → Option Command
-reshape_in rows = files_in (codes "IN") (codes "OUT") (λ input output. change_in input output rows) rows
-
-abbrev pub session_in : List Row → Option Command
-session_in rows = files_in (codes "IN") (codes "SCRIPT") (λ input script. option_map (Session input script) (limit_in (codes "cycles") rows)) rows
-
-abbrev pub aig_in : List Row → Option Command
-aig_in rows = files_in (codes "FILE") (codes "OUT") (λ input output. Some (Aig input output)) rows
-
-abbrev pub aigstat_in : List Row → Option Command
-aigstat_in rows = option_map Aigstat (name_in (codes "FILE") rows)
-
 -- the command of a subcommand, from the values of its arguments
 abbrev pub command_in : List ℕ → List Row → Option Command
 command_in word rows =
-    if bytes_eq word (codes "check") then check_in rows
-    else if bytes_eq word (codes "build") then build_in rows
-    else if bytes_eq word (codes "sim") then sim_in rows
-    else if bytes_eq word (codes "walk") then walk_in rows
-    else if bytes_eq word (codes "run") then run_in rows
-    else if bytes_eq word (codes "report") then report_in rows
-    else if bytes_eq word (codes "gen") then gen_in rows
-    else if bytes_eq word (codes "bench") then bench_in rows
-    else if bytes_eq word (codes "reshape") then reshape_in rows
-    else if bytes_eq word (codes "session") then session_in rows
-    else if bytes_eq word (codes "aig") then aig_in rows
-    else if bytes_eq word (codes "aigstat") then aigstat_in rows
+    if bytes_eq word (codes "check") then option_map Check (name_in (codes "IN") rows)
+    else if bytes_eq word (codes "build") then given (name_in (codes "IN") rows) (λ input. given (name_in (codes "OUT") rows)
+    (λ output. Some (if has_flag (codes "opt") rows then Optimise input output else Build input output)))
+    else if bytes_eq word (codes "sim") then given (name_in (codes "IN") rows) (λ input. given (limit_in (codes "cycles") rows)
+    (λ limit. option_map (λ traces. Sim input limit traces (args_in rows)) (traces_in rows)))
+    else if bytes_eq word (codes "walk") then given (name_in (codes "IN") rows) (λ input. given (number_in (codes "order") rows)
+    (λ seed. option_map (λ steps. Walk input seed steps (args_in rows)) (limit_in (codes "steps") rows)))
+    else if bytes_eq word (codes "run") then given (name_in (codes "FILE") rows)
+    (λ input. option_map (λ limit. Run input limit (args_in rows)) (limit_in (codes "cycles") rows))
+    else if bytes_eq word (codes "report") then option_map Report (name_in (codes "IN") rows)
+    else if bytes_eq word (codes "gen") then given (number_in (codes "SEED") rows) (λ seed. option_map (Gen seed) (count_in (codes "COUNT") rows))
+    else if bytes_eq word (codes "bench") then given (number_in (codes "SEED") rows) (λ seed. given (count_in (codes "COUNT") rows)
+    (λ count. option_map (Bench seed count) (limit_in (codes "cycles") rows)))
+    else if bytes_eq word (codes "reshape") then given (name_in (codes "IN") rows) (λ input. given (name_in (codes "OUT") rows)
+    (λ output. change_in input output rows))
+    else if bytes_eq word (codes "session") then given (name_in (codes "IN") rows) (λ input. given (name_in (codes "SCRIPT") rows)
+    (λ script. option_map (Session input script) (limit_in (codes "cycles") rows)))
+    else if bytes_eq word (codes "aig") then given (name_in (codes "FILE") rows) (λ input. given (name_in (codes "OUT") rows)
+    (λ output. Some (Aig input output)))
+    else if bytes_eq word (codes "aigstat") then option_map Aigstat (name_in (codes "FILE") rows)
     else None
 
--- the command of the subcommand that was found
-abbrev pub entered_command : Option (List ℕ × List Row) → Option Command
-entered_command None = None
-entered_command (Some entered) = command_in entered.0 entered.1
-
--- the command that was found, if `clap` found no fault
+-- the command of the subcommand that was found, if `clap` found no fault
 abbrev pub faultless : Kinds → Option (List ℕ × List Row) → Option Command
-faultless [] entered = entered_command entered
+faultless [] entered = given entered (λ e. command_in e.0 e.1)
 faultless _ entered = None
 
 -- The command that a whole line is, with the program's name first. It is one if `clap` finds no fault in it and the values that

@@ -19,29 +19,21 @@ pub data Argument : Type 0 where
   -- any number of words, as in `[ARG..]`
   Rest : (id : List ℕ) → Argument
 
--- a command's own word, and what may follow it
-pub record Form : Type 0 where
-  pub word : List ℕ
-  pub arguments : List Argument
-
--- the forms of all commands
-abbrev pub forms : List Form
+-- the forms of all commands: the command's own word, and what may follow it
+abbrev pub forms : List (List ℕ × List Argument)
 forms =
-    (record { word = codes "check"; arguments = Name (codes "IN") ∷ [] })
-    ∷ (record { word = codes "build"; arguments = Name (codes "IN") ∷ Name (codes "OUT") ∷ Flag (codes "opt") ∷ [] })
-    ∷ (record {
-      word = codes "sim";
-      arguments = Name (codes "IN") ∷ Option (codes "cycles") ∷ Choice (codes "vcd") ∷ Choice (codes "starts") ∷ Choice (codes "toggles") ∷ Rest (codes "ARG") ∷ [];
-    })
-    ∷ (record { word = codes "walk"; arguments = Name (codes "IN") ∷ Option (codes "order") ∷ Option (codes "steps") ∷ Rest (codes "ARG") ∷ [] })
-    ∷ (record { word = codes "run"; arguments = Name (codes "FILE") ∷ Option (codes "cycles") ∷ Rest (codes "ARG") ∷ [] })
-    ∷ (record { word = codes "report"; arguments = Name (codes "IN") ∷ [] })
-    ∷ (record { word = codes "gen"; arguments = Name (codes "SEED") ∷ Name (codes "COUNT") ∷ [] })
-    ∷ (record { word = codes "bench"; arguments = Name (codes "SEED") ∷ Name (codes "COUNT") ∷ Option (codes "cycles") ∷ [] })
-    ∷ (record { word = codes "reshape"; arguments = Name (codes "IN") ∷ Name (codes "OUT") ∷ Choice (codes "copy") ∷ Choice (codes "unfold") ∷ [] })
-    ∷ (record { word = codes "session"; arguments = Name (codes "IN") ∷ Name (codes "SCRIPT") ∷ Option (codes "cycles") ∷ [] })
-    ∷ (record { word = codes "aig"; arguments = Name (codes "FILE") ∷ Name (codes "OUT") ∷ [] })
-    ∷ (record { word = codes "aigstat"; arguments = Name (codes "FILE") ∷ [] })
+    (codes "check", Name (codes "IN") ∷ [])
+    ∷ (codes "build", Name (codes "IN") ∷ Name (codes "OUT") ∷ Flag (codes "opt") ∷ [])
+    ∷ (codes "sim", Name (codes "IN") ∷ Option (codes "cycles") ∷ Choice (codes "vcd") ∷ Choice (codes "starts") ∷ Choice (codes "toggles") ∷ Rest (codes "ARG") ∷ [])
+    ∷ (codes "walk", Name (codes "IN") ∷ Option (codes "order") ∷ Option (codes "steps") ∷ Rest (codes "ARG") ∷ [])
+    ∷ (codes "run", Name (codes "FILE") ∷ Option (codes "cycles") ∷ Rest (codes "ARG") ∷ [])
+    ∷ (codes "report", Name (codes "IN") ∷ [])
+    ∷ (codes "gen", Name (codes "SEED") ∷ Name (codes "COUNT") ∷ [])
+    ∷ (codes "bench", Name (codes "SEED") ∷ Name (codes "COUNT") ∷ Option (codes "cycles") ∷ [])
+    ∷ (codes "reshape", Name (codes "IN") ∷ Name (codes "OUT") ∷ Choice (codes "copy") ∷ Choice (codes "unfold") ∷ [])
+    ∷ (codes "session", Name (codes "IN") ∷ Name (codes "SCRIPT") ∷ Option (codes "cycles") ∷ [])
+    ∷ (codes "aig", Name (codes "FILE") ∷ Name (codes "OUT") ∷ [])
+    ∷ (codes "aigstat", Name (codes "FILE") ∷ [])
     ∷ []
 
 abbrev pub rule : Argument → Rule
@@ -56,11 +48,11 @@ abbrev pub with_rules : App → List Argument → App
 with_rules a [] = a
 with_rules a (x ∷ xs) = with_rules (with_rule a (rule x)) xs
 
-abbrev pub form_shape : Form → Shape
-form_shape f = (with_rules (new_app f.word) f.arguments).top
+abbrev pub form_shape : List ℕ × List Argument → Shape
+form_shape f = (with_rules (new_app f.0) f.1).top
 
 -- a command of `clap` with these subcommands added, in order
-abbrev pub with_forms : App → List Form → App
+abbrev pub with_forms : App → List (List ℕ × List Argument) → App
 with_forms a [] = a
 with_forms a (f ∷ fs) = with_forms (with_subcommand a (form_shape f)) fs
 
@@ -79,5 +71,5 @@ shown_argument (code_of.Choice id) = Choice id.now
 shown_argument (code_of.Flag id) = Flag id.now
 shown_argument (code_of.Rest id) = Rest id.now
 
-abbrev pub shown_form : code_form.Form → Form
-shown_form f = record { word = f.word.now; arguments = map shown_argument f.arguments.now }
+abbrev pub shown_form : code_form.Form → List ℕ × List Argument
+shown_form f = (f.word.now, map shown_argument f.arguments.now)

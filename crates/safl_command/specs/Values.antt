@@ -21,14 +21,11 @@ is_number word = nat_le 1 (length word) && (list_all (is_digit 10) word && (nat_
 abbrev pub is_within : ℕ → List ℕ → Bool
 is_within most word = is_number word && (nat_le 1 (value 10 word) && nat_le (value 10 word) most)
 
-abbrev pub number_if : Bool → List ℕ → Option ℕ
-number_if fits word = if fits then Some (value 10 word) else None
-
 abbrev pub number_of : List ℕ → Option ℕ
-number_of word = number_if (is_number word) word
+number_of word = if is_number word then Some (value 10 word) else None
 
 abbrev pub number_within : ℕ → List ℕ → Option ℕ
-number_within most word = number_if (is_within most word) word
+number_within most word = if is_within most word then Some (value 10 word) else None
 
 abbrev pub name_in : List ℕ → List Row → Option (List ℕ)
 name_in id rows = option_and_then filled (first_of id rows)
@@ -37,15 +34,12 @@ name_in id rows = option_and_then filled (first_of id rows)
 abbrev pub number_in : List ℕ → List Row → Option ℕ
 number_in id rows = option_and_then number_of (first_of id rows)
 
-abbrev pub within_in : ℕ → List ℕ → List Row → Option ℕ
-within_in most id rows = option_and_then (number_within most) (first_of id rows)
-
 -- the number of cycles or events that an argument gives; and the number of functions
 abbrev pub limit_in : List ℕ → List Row → Option ℕ
-limit_in = within_in cycles_max
+limit_in id rows = option_and_then (number_within cycles_max) (first_of id rows)
 
 abbrev pub count_in : List ℕ → List Row → Option ℕ
-count_in = within_in generated_max
+count_in id rows = option_and_then (number_within generated_max) (first_of id rows)
 
 -- whether a flag was given
 abbrev pub has_flag : List ℕ → List Row → Bool

@@ -1,9 +1,9 @@
 //! The values of a command's arguments.
 
-ghost use Rattle.std.specs.Prelude.{◌≡◌, ◌≤◌, ◌↔◌, true, IfOk, IsSome, IfSome, Some, map, option_map, string_bytes, codes, bytes_eq};
+ghost use Rattle.std.specs.Prelude.{◌≡◌, ◌≤◌, ◌↔◌, true, IfOk, IsSome, IfSome, Some, map, option_and_then, option_map, string_bytes, codes, bytes_eq};
 ghost use Rattle.clap.specs.Words.{found_of, rows_of, first_of};
 ghost use Rattle.safl_word.specs.Numerals.{value};
-ghost use Rattle.safl_command.specs.Values.{name_in, filled, number_in, within_in, limit_in, count_in, has_flag, args_in, is_number, is_within};
+ghost use Rattle.safl_command.specs.Values.{name_in, filled, number_in, number_within, limit_in, count_in, has_flag, args_in, is_number, is_within};
 
 use crate::command::{CYCLES_MAX, Count};
 use clap::ArgMatches;
@@ -90,7 +90,7 @@ pub fn count_in(values: &ArgMatches<'_>, id: &str) -> Option<Count>
 
 // The number that an argument gives, if it is from 1 to `most`.
 fn within_in(values: &ArgMatches<'_>, id: &str, most: u64) -> Option<u64>
-    ensures number { result ≡ within_in most id.now (rows_of (found_of values.now)) }
+    ensures number { result ≡ option_and_then (number_within most) (first_of id.now (rows_of (found_of values.now))) }
     ensures least { IfSome result (λ n. 1 ≤ n) }
     ensures most { IfSome result (λ n. n ≤ most) }
 {

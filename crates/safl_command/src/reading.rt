@@ -2,9 +2,9 @@
 
 ghost use Rattle.std.specs.Prelude.{◌≡◌, ◌∷◌, IfOk, map, option_map, string_bytes, codes};
 ghost use Rattle.clap.specs.Words.{found_of, rows_of, subcommand_rows_of};
-ghost use Rattle.safl_command.specs.Commands.{command_of, command_of_line, entered_command, command_in, shown_command};
+ghost use Rattle.safl_command.specs.Commands.{command_of, command_of_line, given, command_in, shown_command};
 ghost use Rattle.safl_command.specs.Traces.{shown_traces};
-ghost use Rattle.safl_command.specs.Commands.{check_in, build_in, traces_in, sim_in, walk_in, run_in, report_in, gen_in, bench_in, reshape_in, change_in, word_of, reshaped, session_in, aig_in, aigstat_in};
+ghost use Rattle.safl_command.specs.Commands.{traces_in, change_in, word_of, reshaped};
 
 use crate::arguments::{
     args_in, count_in, has_flag, limit_in, name_in, number_in, number_of, word_in,
@@ -51,7 +51,7 @@ fn read_line<'a>(alloc: Global, line: &'a [&'a str]) -> Result<Option<Command>, 
 
 // The command of the subcommand that `clap` found.
 fn read_matches(alloc: Global, matches: &ArgMatches<'_>) -> Result<Option<Command>, NoMemory>
-    ensures { IfOk result (λ c. option_map shown_command c ≡ entered_command (subcommand_rows_of matches.now)) }
+    ensures { IfOk result (λ c. option_map shown_command c ≡ given (subcommand_rows_of matches.now) (λ e. command_in e.0 e.1)) }
 {
     match matches.subcommand() {
         Some((word, values)) => command_in(alloc, word, values),
@@ -97,7 +97,7 @@ fn command_in(
 }
 
 fn check_in(alloc: Global, values: &ArgMatches<'_>) -> Result<Option<Command>, NoMemory>
-    ensures { IfOk result (λ c. option_map shown_command c ≡ check_in (rows_of (found_of values.now))) }
+    ensures { IfOk result (λ c. option_map shown_command c ≡ command_in (codes "check") (rows_of (found_of values.now))) }
 {
     let Some(input) = name_in(alloc, values, "IN")? else {
         return Ok(None);
@@ -106,7 +106,7 @@ fn check_in(alloc: Global, values: &ArgMatches<'_>) -> Result<Option<Command>, N
 }
 
 fn build_in(alloc: Global, values: &ArgMatches<'_>) -> Result<Option<Command>, NoMemory>
-    ensures { IfOk result (λ c. option_map shown_command c ≡ build_in (rows_of (found_of values.now))) }
+    ensures { IfOk result (λ c. option_map shown_command c ≡ command_in (codes "build") (rows_of (found_of values.now))) }
 {
     let Some(input) = name_in(alloc, values, "IN")? else {
         return Ok(None);
@@ -121,7 +121,7 @@ fn build_in(alloc: Global, values: &ArgMatches<'_>) -> Result<Option<Command>, N
 }
 
 fn sim_in(alloc: Global, values: &ArgMatches<'_>) -> Result<Option<Command>, NoMemory>
-    ensures { IfOk result (λ c. option_map shown_command c ≡ sim_in (rows_of (found_of values.now))) }
+    ensures { IfOk result (λ c. option_map shown_command c ≡ command_in (codes "sim") (rows_of (found_of values.now))) }
 {
     let Some(input) = name_in(alloc, values, "IN")? else {
         return Ok(None);
@@ -152,7 +152,7 @@ fn traces_in(alloc: Global, values: &ArgMatches<'_>) -> Result<Option<Traces>, N
 }
 
 fn walk_in(alloc: Global, values: &ArgMatches<'_>) -> Result<Option<Command>, NoMemory>
-    ensures { IfOk result (λ c. option_map shown_command c ≡ walk_in (rows_of (found_of values.now))) }
+    ensures { IfOk result (λ c. option_map shown_command c ≡ command_in (codes "walk") (rows_of (found_of values.now))) }
 {
     let Some(input) = name_in(alloc, values, "IN")? else {
         return Ok(None);
@@ -172,7 +172,7 @@ fn walk_in(alloc: Global, values: &ArgMatches<'_>) -> Result<Option<Command>, No
 }
 
 fn run_in(alloc: Global, values: &ArgMatches<'_>) -> Result<Option<Command>, NoMemory>
-    ensures { IfOk result (λ c. option_map shown_command c ≡ run_in (rows_of (found_of values.now))) }
+    ensures { IfOk result (λ c. option_map shown_command c ≡ command_in (codes "run") (rows_of (found_of values.now))) }
 {
     let Some(input) = name_in(alloc, values, "FILE")? else {
         return Ok(None);
@@ -185,7 +185,7 @@ fn run_in(alloc: Global, values: &ArgMatches<'_>) -> Result<Option<Command>, NoM
 }
 
 fn report_in(alloc: Global, values: &ArgMatches<'_>) -> Result<Option<Command>, NoMemory>
-    ensures { IfOk result (λ c. option_map shown_command c ≡ report_in (rows_of (found_of values.now))) }
+    ensures { IfOk result (λ c. option_map shown_command c ≡ command_in (codes "report") (rows_of (found_of values.now))) }
 {
     let Some(input) = name_in(alloc, values, "IN")? else {
         return Ok(None);
@@ -194,7 +194,7 @@ fn report_in(alloc: Global, values: &ArgMatches<'_>) -> Result<Option<Command>, 
 }
 
 fn gen_in(values: &ArgMatches<'_>) -> Option<Command>
-    ensures { option_map shown_command result ≡ gen_in (rows_of (found_of values.now)) }
+    ensures { option_map shown_command result ≡ command_in (codes "gen") (rows_of (found_of values.now)) }
 {
     let Some(seed) = number_in(values, "SEED") else {
         return None;
@@ -206,7 +206,7 @@ fn gen_in(values: &ArgMatches<'_>) -> Option<Command>
 }
 
 fn bench_in(values: &ArgMatches<'_>) -> Option<Command>
-    ensures { option_map shown_command result ≡ bench_in (rows_of (found_of values.now)) }
+    ensures { option_map shown_command result ≡ command_in (codes "bench") (rows_of (found_of values.now)) }
 {
     let Some(seed) = number_in(values, "SEED") else {
         return None;
@@ -221,7 +221,7 @@ fn bench_in(values: &ArgMatches<'_>) -> Option<Command>
 }
 
 fn reshape_in(alloc: Global, values: &ArgMatches<'_>) -> Result<Option<Command>, NoMemory>
-    ensures { IfOk result (λ c. option_map shown_command c ≡ reshape_in (rows_of (found_of values.now))) }
+    ensures { IfOk result (λ c. option_map shown_command c ≡ command_in (codes "reshape") (rows_of (found_of values.now))) }
 {
     let Some(input) = name_in(alloc, values, "IN")? else {
         return Ok(None);
@@ -271,7 +271,7 @@ fn reshaped(
 }
 
 fn session_in(alloc: Global, values: &ArgMatches<'_>) -> Result<Option<Command>, NoMemory>
-    ensures { IfOk result (λ c. option_map shown_command c ≡ session_in (rows_of (found_of values.now))) }
+    ensures { IfOk result (λ c. option_map shown_command c ≡ command_in (codes "session") (rows_of (found_of values.now))) }
 {
     let Some(input) = name_in(alloc, values, "IN")? else {
         return Ok(None);
@@ -290,7 +290,7 @@ fn session_in(alloc: Global, values: &ArgMatches<'_>) -> Result<Option<Command>,
 }
 
 fn aig_in(alloc: Global, values: &ArgMatches<'_>) -> Result<Option<Command>, NoMemory>
-    ensures { IfOk result (λ c. option_map shown_command c ≡ aig_in (rows_of (found_of values.now))) }
+    ensures { IfOk result (λ c. option_map shown_command c ≡ command_in (codes "aig") (rows_of (found_of values.now))) }
 {
     let Some(input) = name_in(alloc, values, "FILE")? else {
         return Ok(None);
@@ -302,7 +302,7 @@ fn aig_in(alloc: Global, values: &ArgMatches<'_>) -> Result<Option<Command>, NoM
 }
 
 fn aigstat_in(alloc: Global, values: &ArgMatches<'_>) -> Result<Option<Command>, NoMemory>
-    ensures { IfOk result (λ c. option_map shown_command c ≡ aigstat_in (rows_of (found_of values.now))) }
+    ensures { IfOk result (λ c. option_map shown_command c ≡ command_in (codes "aigstat") (rows_of (found_of values.now))) }
 {
     let Some(input) = name_in(alloc, values, "FILE")? else {
         return Ok(None);

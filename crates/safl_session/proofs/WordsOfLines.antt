@@ -1,7 +1,7 @@
 -- The words of a line, read one after the other.
 use Rattle.std.proofs.Common.{◌≡◌, ℕ, zero, suc, ◌+◌, ◌<◌, ◌≤◌, ◌⊎◌, List, [], ◌∷◌, ◌++◌, length, Option, Some, None, Bool, true, false, not}
 use Rattle.std.proofs.Common.{slice_get, refl, sym, ap, subst, ◌∙◌, arith, inl, inr, append_assoc}
-use Rattle.std.specs.Prelude.{is_some}
+use Rattle.std.specs.Prelude.{◌≢◌, is_some}
 use Rattle.std.proofs.lemmas.Bool.{true≢false, false≢true}
 use Rattle.std.proofs.lemmas.List.{append-nil, length-append}
 use Rattle.std.proofs.lemmas.Option.{slice_get_within}
@@ -11,7 +11,7 @@ use Rattle.safl_word.proofs.Naturals.{lower_same_higher}
 use Rattle.safl_session.specs.declared.script.ScriptErr.{ScriptErr}
 use Rattle.safl_session.specs.declared.script.ScriptErr.TheVariants as errors
 use Rattle.safl_session.specs.Pieces.{HasWords, Blank, StartsWith}
-use Rattle.safl_session.specs.Lines.{IsArgument, AreArguments, IsCall, AppendsCall, IsMiscounted, IsMisread, HasFault}
+use Rattle.safl_session.specs.Lines.{IsArgument, AreArguments, IsCall, AppendsCall, HaveMisfit, HasFault}
 use Rattle.safl_session.proofs.PiecesOfText.{words_once, blank_words, first_word, behind_long}
 
 -- the texts that have a width are these arguments
@@ -148,13 +148,21 @@ module _ (widths line : List ℕ) (count : ℕ) (rest word behind : List ℕ) (s
       seen_more None None old mid mid seen (r.0, begins_over widths seen.texts r.0 word r.1 (let a = h refl in let b = seen.long in omega (arith, a, b)), r.2)
   seen_over (Some place) old mid seen h = seen_more (Some place) (Some place) old mid mid seen (bad_more widths seen.texts word place seen.reads)
 
+-- what makes a fault: the line has this many words, which is not the number of widths; or it has a word for each width, and the
+-- first that is no argument of its width has this number, counted from 1
+abbrev pub IsMiscounted : List ℕ → List ℕ → ℕ → Type 0
+IsMiscounted widths line given = (words : List (List ℕ)) × HasWords line words × (length words ≡ given) × (given ≢ length widths)
+
+abbrev pub IsMisread : List ℕ → List ℕ → ℕ → Type 0
+IsMisread widths line number = (words : List (List ℕ)) × HasWords line words × (m : HaveMisfit widths words) × (number ≡ m.index + 1)
+
 -- all words are seen
 module _ (widths line : List ℕ) (count : ℕ) (rest : List ℕ) (blank : Blank rest) (old new : List Word) where
   all_words : (misread : Option ℕ) (seen : SeenTo widths line count misread rest old new) → HasWords line seen.texts
   all_words misread seen = subst (HasWords line) (append-nil seen.texts) (seen.split [] (blank_words rest blank))
 
   pub seen_count : (misread : Option ℕ) → SeenTo widths line count misread rest old new → (count ≡ length widths → ⊥) → IsMiscounted widths line count
-  seen_count misread seen other = ((seen.texts, all_words misread seen, seen.long), other)
+  seen_count misread seen other = (seen.texts, all_words misread seen, seen.long, other)
 
   pub seen_call : SeenTo widths line count None rest old new → count ≡ length widths → AppendsCall widths line old new
   seen_call seen same =
@@ -164,19 +172,17 @@ module _ (widths line : List ℕ) (count : ℕ) (rest : List ℕ) (blank : Blank
   pub seen_fault : (place : ℕ) → SeenTo widths line count (Some place) rest old new → count ≡ length widths → IsMisread widths line place
   seen_fault place seen same =
       let b : IsBad widths seen.texts place = seen.reads in
-      record {
-        words = seen.texts;
-        has = all_words (Some place) seen;
+      let m : HaveMisfit widths seen.texts = record {
         same = seen.long ∙ same;
         index = b.index;
-        is = b.is;
         width = b.width;
         text = b.text;
         at_width = b.at_width;
         at_text = b.at_text;
         bad = b.bad;
         before = b.before;
-      }
+      } in
+      (seen.texts, all_words (Some place) seen, m, b.is)
 
 pub is_absent : (misread : Option ℕ) (absent : Bool) → is_some misread ≡ not absent → absent ≡ true → misread ≡ None
 is_absent None absent e h = refl
@@ -228,25 +234,27 @@ arg_at (x ∷ ws) (s ∷ ts) (v ∷ vs) a (suc k) w t e f = arg_at ws ts vs a.1 
 
 pub no_fault : (widths line : List ℕ) (args : List Word) (number : ℕ) (e : ScriptErr) → IsCall widths line args → HasFault widths line number e → ⊥
 no_fault widths line args number (errors.Count l given) a f =
-    f.1.1 (sym f.1.0.2 ∙ ap length (words_once line f.1.0.0 a.0 f.1.0.1 a.1) ∙ args_long widths a.0 args a.2)
+    f.1.3 (sym f.1.2 ∙ ap length (words_once line f.1.0 a.0 f.1.1 a.1) ∙ args_long widths a.0 args a.2)
 no_fault widths line args number (errors.Argument l place) a f =
     let m : IsMisread widths line place = f.1 in
-    let same = words_once line m.words a.0 m.has a.1 in
-    let v = arg_at widths a.0 args a.2 m.index m.width m.text m.at_width (ap (λ ts. slice_get ts m.index) (sym same) ∙ m.at_text) in
-    m.bad v.0 v.1
+    let same = words_once line m.0 a.0 m.1 a.1 in
+    let u : HaveMisfit widths m.0 = m.2 in
+    let v = arg_at widths a.0 args a.2 u.index u.width u.text u.at_width (ap (λ ts. slice_get ts u.index) (sym same) ∙ u.at_text) in
+    u.bad v.0 v.1
 no_fault widths line args number errors.NoMemory a f = f
 
 -- a line has one fault
-misread_before : (widths line : List ℕ) (p q : ℕ) (a : IsMisread widths line p) (b : IsMisread widths line q) → a.index < b.index → ⊥
+misread_before : (widths line : List ℕ) (p q : ℕ) (a : IsMisread widths line p) (b : IsMisread widths line q) → a.2.index < b.2.index → ⊥
 misread_before widths line p q a b h =
-    let same = words_once line a.words b.words a.has b.has in
-    let v = b.before a.index a.width a.text h a.at_width (ap (λ ts. slice_get ts a.index) (sym same) ∙ a.at_text) in
-    a.bad v.0 v.1
+    let same = words_once line a.0 b.0 a.1 b.1 in
+    let u : HaveMisfit widths a.0 = a.2 in
+    let v = b.2.before u.index u.width u.text h u.at_width (ap (λ ts. slice_get ts u.index) (sym same) ∙ u.at_text) in
+    u.bad v.0 v.1
 
 pub places_same : (widths line : List ℕ) (p q : ℕ) → IsMisread widths line p → IsMisread widths line q → p ≡ q
-places_same widths line p q a b = a.is ∙ ap (λ k. k + 1) (by (lower_same_higher a.index b.index)) ∙ sym b.is
+places_same widths line p q a b = a.3 ∙ ap (λ k. k + 1) (by (lower_same_higher a.2.index b.2.index)) ∙ sym b.3
   where
-    by : (a.index < b.index) ⊎ ((a.index ≡ b.index) ⊎ (b.index < a.index)) → a.index ≡ b.index
+    by : (a.2.index < b.2.index) ⊎ ((a.2.index ≡ b.2.index) ⊎ (b.2.index < a.2.index)) → a.2.index ≡ b.2.index
     by (inl h) = absurd (misread_before widths line p q a b h)
     by (inr (inl e)) = e
     by (inr (inr h)) = absurd (misread_before widths line q p b a h)
@@ -254,14 +262,14 @@ places_same widths line p q a b = a.is ∙ ap (λ k. k + 1) (by (lower_same_high
 pub fault_once : (widths line : List ℕ) (number : ℕ) (e f : ScriptErr) → HasFault widths line number e → HasFault widths line number f → e ≡ f
 fault_once widths line number (errors.Count l given) (errors.Count k other) a b =
     let p : l ≡ k = a.0 ∙ sym b.0 in
-    let q : given ≡ other = sym a.1.0.2 ∙ ap length (words_once line a.1.0.0 b.1.0.0 a.1.0.1 b.1.0.1) ∙ b.1.0.2 in
+    let q : given ≡ other = sym a.1.2 ∙ ap length (words_once line a.1.0 b.1.0 a.1.1 b.1.1) ∙ b.1.2 in
     ap (λ x. errors.Count x given) p ∙ ap (λ x. errors.Count k x) q
 fault_once widths line number (errors.Count l given) (errors.Argument k place) a b =
     let m : IsMisread widths line place = b.1 in
-    absurd (a.1.1 (sym a.1.0.2 ∙ ap length (words_once line a.1.0.0 m.words a.1.0.1 m.has) ∙ m.same))
+    absurd (a.1.3 (sym a.1.2 ∙ ap length (words_once line a.1.0 m.0 a.1.1 m.1) ∙ m.2.same))
 fault_once widths line number (errors.Argument l place) (errors.Count k given) a b =
     let m : IsMisread widths line place = a.1 in
-    absurd (b.1.1 (sym b.1.0.2 ∙ ap length (words_once line b.1.0.0 m.words b.1.0.1 m.has) ∙ m.same))
+    absurd (b.1.3 (sym b.1.2 ∙ ap length (words_once line b.1.0 m.0 b.1.1 m.1) ∙ m.2.same))
 fault_once widths line number (errors.Argument l p) (errors.Argument k q) a b =
     ap (λ x. errors.Argument x p) (a.0 ∙ sym b.0) ∙ ap (λ x. errors.Argument k x) (places_same widths line p q a.1 b.1)
 fault_once widths line number (errors.Count l given) errors.NoMemory a b = absurd b

@@ -27,32 +27,24 @@ IsCall widths line args = (words : List (List ℕ)) × HasWords line words × Ar
 abbrev pub AppendsCall : List ℕ → List ℕ → List Word → List Word → Type 0
 AppendsCall widths line old new = (args : List Word) × IsCall widths line args × (new ≡ old ++ args)
 
--- the line has this many words
-abbrev pub IsLong : List ℕ → ℕ → Type 0
-IsLong line count = (words : List (List ℕ)) × HasWords line words × (length words ≡ count)
-
--- the line has this many words, which is not the number of widths
-abbrev pub IsMiscounted : List ℕ → List ℕ → ℕ → Type 0
-IsMiscounted widths line given = IsLong line given × (given ≢ length widths)
-
--- The line has a word for each width. The first that is no argument of its width has this number, counted from 1.
-pub record IsMisread (widths line : List ℕ) (number : ℕ) : Type 0 where
-  pub words : List (List ℕ)
-  pub has : HasWords line words
-  pub same : length words ≡ length widths
+-- There is one text for each width. One is no argument of its width, and this is the first.
+pub record HaveMisfit (widths : List ℕ) (texts : List (List ℕ)) : Type 0 where
+  pub same : length texts ≡ length widths
   pub index : ℕ
-  pub is : number ≡ index + 1
   pub width : ℕ
   pub text : List ℕ
   pub at_width : slice_get widths index ≡ Some width
-  pub at_text : slice_get words index ≡ Some text
+  pub at_text : slice_get texts index ≡ Some text
   pub bad : (v : Word) → IsArgument width text v → ⊥
-  pub before : (i w : ℕ) (t : List ℕ) → i < index → slice_get widths i ≡ Some w → slice_get words i ≡ Some t → (v : Word) × IsArgument w t v
+  pub before : (i w : ℕ) (t : List ℕ) → i < index → slice_get widths i ≡ Some w → slice_get texts i ≡ Some t → (v : Word) × IsArgument w t v
 
--- the line has this fault: a wrong number of words, or otherwise a word that does not fit
+-- The line has this fault: its number of words, which is not that of the widths; or otherwise the number of the first word that is
+-- no argument of its width, counted from 1.
 abbrev pub HasFault : List ℕ → List ℕ → ℕ → ScriptErr → Type 0
-HasFault widths line number (errors.Count l given) = (l ≡ number) × IsMiscounted widths line given
-HasFault widths line number (errors.Argument l place) = (l ≡ number) × IsMisread widths line place
+HasFault widths line number (errors.Count l given) =
+    (l ≡ number) × ((words : List (List ℕ)) × HasWords line words × (length words ≡ given) × (given ≢ length widths))
+HasFault widths line number (errors.Argument l place) =
+    (l ≡ number) × ((words : List (List ℕ)) × HasWords line words × (m : HaveMisfit widths words) × (place ≡ m.index + 1))
 HasFault widths line number errors.NoMemory = ⊥
 
 -- the error is the fault of the line, or out of memory

@@ -7,12 +7,28 @@ use Rattle.safl_io.specs.Reading.{HasFile}
 use Rattle.safl_io.specs.Shelf.{Files, file_of}
 use Rattle.safl_io.specs.Told.{TellsOn}
 use Rattle.safl_io.specs.Sink.{SinkState, SendsPart}
-use Rattle.safl_task.specs.Tasks.{Input, Given, Task, OfFile, end_of, files_of, AreContents, OfInputs}
+use Rattle.safl_task.specs.Tasks.{Input, Given, Task, OfFile, end_of, files_of, status_if, AreContents, OfInputs}
 use Rattle.safl_task.specs.Endings.{Outside, LeavesParts, Gave, Began, Left, Stops, refused, unread, long, unwritten, unprinted, unprobed, starved}
-use Rattle.safl_task.specs.Endings.{Ends, gave, told, cut, may_give, Got, KeepsAll, KeepsOthers, Tells, NoFault, Completes}
+use Rattle.safl_task.specs.Endings.{Ends, gave, told, cut, may_give, Got, Tells, NoFault, Untouched}
 use Rattle.safl_task.specs.declared.status.Status.{Status}
 use Rattle.safl_task.specs.declared.status.Status.TheVariants as status
 use Rattle.safl_task.proofs.Ending.{whole_part, all_parts, stop_left, same_parts}
+
+-- ---- what holds of every command
+
+-- if the status is one at which nothing may have been given, no file has changed and nothing was printed
+abbrev pub KeepsAll : Status → Outside → Outside → Type 0
+KeepsAll s old new = may_give s ≡ false → Untouched old new
+
+-- each file that is no output file is as it was
+abbrev pub KeepsOthers : Task → Outside → Outside → Type 0
+KeepsOthers t old new =
+    (name : List ℕ) → ¬ Contains t.outputs name → TellsOn (λ before after. file_of after name ≡ file_of before name) old.shelf.holds new.shelf.holds
+
+-- If a result is promised for what the shelf tells, and nothing failed, the result came or memory ran out.
+abbrev pub Completes : Task → (List ℕ → Type 0) → Outside → Outside → Status → Type 0
+Completes t Unprobed old new s =
+    IsSome old.shelf.holds → OfInputs old.shelf.holds t.inputs t.Promises → NoFault Unprobed old new → (s ≡ status.Ok) ⊎ (s ≡ status.NoMemory)
 
 -- ---- what is left
 
@@ -32,7 +48,7 @@ module _ (t : Task) (Unprobed : List ℕ → Type 0) (old new : Outside) where
   end_left before after _ (cut s line stops p) = stop_left t Unprobed old new s line stops
 
   -- a refusal changes nothing
-  end_gives : (g : Given) → may_give (end_of g) ≡ true
+  end_gives : (g : Given) → may_give (status_if g.comes) ≡ true
   end_gives g = go g.comes
     where
       go : (b : Bool) → may_give (if b then status.Ok else status.NoResult) ≡ true
@@ -119,6 +135,13 @@ module _ (t : Task) (Unprobed : List ℕ → Type 0) (old new : Outside) where
   ]
 
 -- ---- completeness
+
+-- which content is refused, with which status and line; and what is given for a content
+abbrev pub Refusing : Type 1
+Refusing = List ℕ → Status → List ℕ → Type 0
+
+abbrev pub Giving : Type 1
+Giving = List ℕ → Given → Type 0
 
 -- what of a promise every command keeps
 pub record IsKept (t : Task) : Type 0 where

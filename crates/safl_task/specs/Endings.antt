@@ -1,12 +1,12 @@
 -- How a command ends: what it leaves in the files and on its sinks, and why.
-use Rattle.std.specs.Prelude.{◌≡◌, ℕ, ◌<◌, ◌⊎◌, List, length, take, Some, IsSome, IsSomeAnd, Contains, Bool, true, false}
+use Rattle.std.specs.Prelude.{◌≡◌, ℕ, ◌<◌, ◌⊎◌, List, length, take, Some, IsSomeAnd, Contains, Bool, true, false}
 use Rattle.std.specs.Option.{option_or}
 use Rattle.safl_io.specs.Counts.{Rose}
 use Rattle.safl_io.specs.Shelf.{Files, ShelfState, SameFaults, file_of}
 use Rattle.safl_io.specs.Told.{TellsOn}
 use Rattle.safl_io.specs.Sink.{SinkState, Sends, SendsPart}
 use Rattle.safl_task.specs.Lines.{memory_line, read_line, write_line, long_line, output_line}
-use Rattle.safl_task.specs.Tasks.{Input, Given, Task, end_of, files_of, OfFile, OfInputs, Reaches, SameStraysWith}
+use Rattle.safl_task.specs.Tasks.{Input, Given, Task, end_of, files_of, status_if, OfFile, OfInputs, Reaches}
 use Rattle.safl_task.specs.declared.status.Status.{Status}
 use Rattle.safl_task.specs.declared.status.Status.TheVariants as status
 
@@ -96,22 +96,11 @@ Got line before after = TellsOn (Sends line) before.sent after.sent ⊎ (Rose be
 -- How a call of the program ends, with what was sent to standard error before and after it.
 pub data Ends (t : Task) (Unprobed : List ℕ → Type 0) (old new : Outside) (before after : SinkState) : Status → Type 0 where
   -- it gave everything, and sent no refusal
-  gave : (g : Given) → Gave t old new g → after ≡ before → Ends t Unprobed old new before after (end_of g)
+  gave : (g : Given) → Gave t old new g → after ≡ before → Ends t Unprobed old new before after (status_if g.comes)
   -- it sent the line that says why it stops
   told : (s : Status) (line : List ℕ) → Stops t Unprobed old new s line → Got line before after → Ends t Unprobed old new before after s
   -- memory ran out while the line was sent
   cut : (s : Status) (line : List ℕ) → Stops t Unprobed old new s line → TellsOn (SendsPart line) before.sent after.sent → Ends t Unprobed old new before after status.NoMemory
-
--- ---- what holds of every command
-
--- if the status is one at which nothing may have been given, no file has changed and nothing was printed
-abbrev pub KeepsAll : Status → Outside → Outside → Type 0
-KeepsAll s old new = may_give s ≡ false → Untouched old new
-
--- each file that is no output file is as it was
-abbrev pub KeepsOthers : Task → Outside → Outside → Type 0
-KeepsOthers t old new =
-    (name : List ℕ) → ¬ Contains t.outputs name → TellsOn (λ before after. file_of after name ≡ file_of before name) old.shelf.holds new.shelf.holds
 
 -- What was sent to standard error. If the status is Ok or NoResult, nothing. If it is NoMemory, a prefix of the line of some
 -- cause. Otherwise the whole line of the cause of the status, or a prefix of it if the sink failed.
@@ -121,18 +110,9 @@ Tells t Unprobed old new before after status.NoResult = after ≡ before
 Tells t Unprobed old new before after status.NoMemory = (s : Status) × (line : List ℕ) × Stops t Unprobed old new s line × TellsOn (SendsPart line) before.sent after.sent
 Tells t Unprobed old new before after s = (line : List ℕ) × Stops t Unprobed old new s line × Got line before after
 
--- no stray name was used, on a shelf that had all input files
-abbrev pub SameStrays : Task → ShelfState → ShelfState → Type 0
-SameStrays t old new = SameStraysWith t.inputs old new
-
 -- no count of faults of the shelf or of the sink rose, and no asked probe failed
 pub record NoFault (Unprobed : List ℕ → Type 0) (old new : Outside) : Type 0 where
   pub reads : ¬ Rose old.shelf.read_faults new.shelf.read_faults
   pub writes : ¬ Rose old.shelf.write_faults new.shelf.write_faults
   pub prints : ¬ Rose old.out.faults new.out.faults
   pub probes : (line : List ℕ) → ¬ Unprobed line
-
--- If a result is promised for what the shelf tells, and nothing failed, the result came or memory ran out.
-abbrev pub Completes : Task → (List ℕ → Type 0) → Outside → Outside → Status → Type 0
-Completes t Unprobed old new s =
-    IsSome old.shelf.holds → OfInputs old.shelf.holds t.inputs t.Promises → NoFault Unprobed old new → (s ≡ status.Ok) ⊎ (s ≡ status.NoMemory)

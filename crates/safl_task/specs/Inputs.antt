@@ -4,25 +4,14 @@ use Rattle.std.specs.declared.vec.Vec.{Vec}
 use Rattle.std.specs.declared.alloc.Global.{Global}
 use Rattle.safl_io.specs.Counts.{Rose}
 use Rattle.safl_io.specs.Shelf.{ShelfState}
-use Rattle.safl_task.specs.Limits.{script_max, verilog_max, aig_max}
-use Rattle.safl_word.specs.Limits.{source_max}
 use Rattle.safl_task.specs.Tasks.{Input, OfFile, Reaches}
 use Rattle.safl_task.specs.declared.input.Input as code
 use Rattle.safl_task.specs.declared.input.Unread.{Unread}
 use Rattle.safl_task.specs.declared.input.Unread.TheVariants as unread
 
--- a file with a source; with a script; with a Verilog text; with an AIGER text
-abbrev pub source_file : List ℕ → Input
-source_file name = record { name = name; limit = source_max }
-
-abbrev pub script_file : List ℕ → Input
-script_file name = record { name = name; limit = script_max }
-
-abbrev pub verilog_file : List ℕ → Input
-verilog_file name = record { name = name; limit = verilog_max }
-
-abbrev pub aig_file : List ℕ → Input
-aig_file name = record { name = name; limit = aig_max }
+-- a file of at most so many bytes
+abbrev pub file_within : List ℕ → ℕ → Input
+file_within name limit = record { name = name; limit = limit }
 
 abbrev pub shown_input : code.Input → Input
 shown_input i = record { name = i.name.now; limit = i.limit }

@@ -88,15 +88,8 @@ Both P _ = ⊥
 
 -- ---- commands of the usual forms
 
--- which content is refused, with which status and line; and what is given for a content
-abbrev pub Refusing : Type 1
-Refusing = List ℕ → Status → List ℕ → Type 0
-
-abbrev pub Giving : Type 1
-Giving = List ℕ → Given → Type 0
-
--- the task of a command that reads one file; and of one that reads two
-abbrev pub reading : Input → List (List ℕ) → Refusing → Giving → (List ℕ → Type 0) → Task
+-- the task of a command that reads one file; of one that reads two; and of one that reads none
+abbrev pub reading : Input → List (List ℕ) → (List ℕ → Status → List ℕ → Type 0) → (List ℕ → Given → Type 0) → (List ℕ → Type 0) → Task
 reading input outputs Refuses Gives Promises = record {
   inputs = input ∷ [];
   outputs = outputs;
@@ -105,7 +98,8 @@ reading input outputs Refuses Gives Promises = record {
   Promises = Only Promises;
 }
 
-abbrev pub reading_both : Input → Input → (List ℕ → Refusing) → (List ℕ → Giving) → (List ℕ → List ℕ → Type 0) → Task
+abbrev pub reading_both : Input → Input → (List ℕ → List ℕ → Status → List ℕ → Type 0) → (List ℕ → List ℕ → Given → Type 0)
+    → (List ℕ → List ℕ → Type 0) → Task
 reading_both first second Refuses Gives Promises = record {
   inputs = first ∷ second ∷ [];
   outputs = [];
@@ -114,14 +108,6 @@ reading_both first second Refuses Gives Promises = record {
   Promises = Both Promises;
 }
 
--- the task of a command that reads a file and prints; and of one that reads a file and writes another
-abbrev pub printing : Input → Refusing → Giving → (List ℕ → Type 0) → Task
-printing input = reading input []
-
-abbrev pub writing : Input → List ℕ → Refusing → Giving → (List ℕ → Type 0) → Task
-writing input output = reading input (output ∷ [])
-
--- the task of a command that reads no file, and prints
 abbrev pub making : (Status → List ℕ → Type 0) → (Given → Type 0) → Type 0 → Task
 making Refuses Gives Promise = record {
   inputs = [];

@@ -3,7 +3,9 @@
 ghost use Rattle.std.specs.Prelude.{◌≡◌, ◌≤◌, length, IfOk, IfErr, IfSome, OnOk};
 ghost use Rattle.safl_io.specs.Reading.{HasFile};
 ghost use Rattle.safl_io.specs.Shelf.{UsesNoStray};
-ghost use Rattle.safl_task.specs.Inputs.{shown_input, shown_inputs, shown_contents, source_file, script_file, verilog_file, aig_file};
+ghost use Rattle.safl_task.specs.Inputs.{shown_input, shown_inputs, shown_contents, file_within};
+ghost use Rattle.safl_task.specs.Limits.{script_max, verilog_max, aig_max};
+ghost use Rattle.safl_word.specs.Limits.{source_max};
 ghost use Rattle.safl_task.specs.Inputs.{AreUnread, IsUnreadAt, OnlyReads};
 ghost use Rattle.safl_task.specs.Tasks.{OfFile, AreContents, SameStraysWith};
 
@@ -30,7 +32,7 @@ pub struct Input<'a> {
 impl<'a> Input<'a> {
     /// A file with a source.
     pub fn source(name: &'a str) -> Self
-        ensures { shown_input result ≡ source_file name.now }
+        ensures { shown_input result ≡ file_within name.now source_max }
     {
         Input {
             name,
@@ -40,7 +42,7 @@ impl<'a> Input<'a> {
 
     /// A file with a script.
     pub fn script(name: &'a str) -> Self
-        ensures { shown_input result ≡ script_file name.now }
+        ensures { shown_input result ≡ file_within name.now script_max }
     {
         Input {
             name,
@@ -50,7 +52,7 @@ impl<'a> Input<'a> {
 
     /// A file with a Verilog text.
     pub fn verilog(name: &'a str) -> Self
-        ensures { shown_input result ≡ verilog_file name.now }
+        ensures { shown_input result ≡ file_within name.now verilog_max }
     {
         Input {
             name,
@@ -60,7 +62,7 @@ impl<'a> Input<'a> {
 
     /// A file with an AIGER text.
     pub fn aig(name: &'a str) -> Self
-        ensures { shown_input result ≡ aig_file name.now }
+        ensures { shown_input result ≡ file_within name.now aig_max }
     {
         Input {
             name,

@@ -5,7 +5,8 @@ use Rattle.std.specs.Borrow.{Bor}
 use Rattle.std.specs.declared.alloc.Global.{Global}
 use Rattle.std.specs.declared.vec.Vec.{Vec}
 use Rattle.safl_io.specs.Shelf.{Files}
-use Rattle.safl_task.specs.Tasks.{Input, Given, Refusing, Giving, AreContents, Only, Both, reading, reading_both}
+use Rattle.safl_task.specs.Tasks.{Input, Given, AreContents, Only, Both, reading, reading_both}
+use Rattle.safl_task.proofs.Following.{Refusing, Giving}
 use Rattle.safl_command.specs.Traces.{Traces}
 use Rattle.safl_tool.specs.Answers.{Answers, CanBeGiven, outputs_of, printed, traces_for, WillGive}
 use Rattle.safl_task.specs.Tasks.{only_writes}

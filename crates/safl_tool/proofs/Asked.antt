@@ -29,7 +29,8 @@ use Rattle.safl_tool.specs.declared.refusal.Refusal.{Refusal}
 use Rattle.safl_tool.specs.declared.refusal.Refusal.TheVariants as refusal
 use Rattle.safl_task.specs.Endings.{LeavesAll, LeavesParts}
 use Rattle.safl_task.specs.Tasks.{files_of}
-use Rattle.safl_tool.specs.Tracing.{one_given, given_files, files_for, traces_of, file_of_kind, file_at, without, AreAskedFor, is_any_given, asked_by, left_by, have_probes, kinds_of}
+use Rattle.safl_tool.specs.Tracing.{one_given, given_files, files_for, traces_of, file_of_kind, file_at, without, AreAskedFor, asked_by, have_probes, kinds_of}
+use Rattle.safl_tool.specs.Asking.{is_any_given}
 
 -- ---- the files of the kinds
 
@@ -302,15 +303,17 @@ asked_more ks i k w u had x all lt is e f h =
     ∙ ap (λ (l : ℕ). had ++ (file_of_kind w (kind_of l) ∷ asked_by (without w (kind_of l)) (drop (i + 1) ks))) (sym is)
     ∙ ap (λ (l : Asked). had ++ l) (sym (at_drop_more (asked_by w) ks i 0 lt)) ∙ h
 
-pub left_more : (ks : List ℕ) (i k : ℕ) (w u all : Traces) → i < length ks → get_or ks i 0 ≡ k → u ≡ without w (kind_of k) → left_by w (drop i ks) ≡ all → left_by u (drop (i + 1) ks) ≡ all
+-- and what is left has probes as before
+pub left_more : (ks : List ℕ) (i k : ℕ) (w u : Traces) (all : Bool) → i < length ks → get_or ks i 0 ≡ k → u ≡ without w (kind_of k)
+    → have_probes w (drop i ks) ≡ all → have_probes u (drop (i + 1) ks) ≡ all
 left_more ks i k w u all lt is f h =
-    ap (λ (t : Traces). left_by t (drop (i + 1) ks)) (f ∙ ap (λ (l : ℕ). without w (kind_of l)) (sym is)) ∙ sym (at_drop_more (left_by w) ks i 0 lt) ∙ h
+    ap (λ (t : Traces). have_probes t (drop (i + 1) ks)) (f ∙ ap (λ (l : ℕ). without w (kind_of l)) (sym is)) ∙ sym (at_drop_more (have_probes w) ks i 0 lt) ∙ h
 
 pub asked_all : (ks : List ℕ) (i : ℕ) (w : Traces) (had all : Asked) → length ks ≤ i → had ++ asked_by w (drop i ks) ≡ all → had ≡ all
 asked_all ks i w had all le h = sym (ap (λ (l : List ℕ). had ++ asked_by w l) (drop_all i ks le) ∙ append-nil had) ∙ h
 
-pub left_all : (ks : List ℕ) (i : ℕ) (w all : Traces) → length ks ≤ i → left_by w (drop i ks) ≡ all → w ≡ all
-left_all ks i w all le h = sym (ap (left_by w) (drop_all i ks le)) ∙ h
+pub left_all : (ks : List ℕ) (i : ℕ) (w : Traces) (all : Bool) → length ks ≤ i → have_probes w (drop i ks) ≡ all → not (is_any_given w) ≡ all
+left_all ks i w all le h = sym (ap (have_probes w) (drop_all i ks le)) ∙ h
 
 -- ---- the files
 

@@ -183,8 +183,8 @@ placed widths script l p r = elim r [
   | inl none ↦ absurd (cc)
   | inr f ↦
       let m = f.fault.1 in
-      let a = slice_get_within widths m.index m.width m.at_width in
-      let b = m.is in
+      let a = slice_get_within widths m.2.index m.2.width m.2.at_width in
+      let b = m.3 in
       (omega (arith, b), omega (arith, a, b))
 ]
 

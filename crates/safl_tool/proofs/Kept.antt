@@ -23,9 +23,11 @@ use Rattle.safl_tool.specs.Arguments.{HaveFault}
 use Rattle.safl_tool.specs.Simulating.{Simulates, IsMisgiven, Limited, InCycles, InEvents, Evaluates}
 use Rattle.safl_tool.specs.Walking.{MainGives, Walks}
 use Rattle.safl_tool.specs.Running.{RunsText, IsMisrun, IsUnrunnable, faulty, looped, Finishes}
-use Rattle.safl_task.specs.Inputs.{source_file, script_file, verilog_file, aig_file}
-use Rattle.safl_task.specs.Tasks.{Input, Given, Refusing, Giving, Only, Both, reading, reading_both}
-use Rattle.safl_tool.specs.CommandTasks.{task_if, usage_task, reshape_task, session_task, command_task, traces_in, task_of}
+use Rattle.safl_task.specs.Inputs.{file_within}
+use Rattle.safl_task.specs.Limits.{script_max, verilog_max, aig_max}
+use Rattle.safl_word.specs.Limits.{source_max}
+use Rattle.safl_task.specs.Tasks.{Input, Given, Only, Both, reading, reading_both}
+use Rattle.safl_tool.specs.CommandTasks.{task_if, usage_task, reshape_task, command_task, traces_in, task_of}
 use Rattle.safl_tool.specs.CommandTasks.{RefusesSourceOf, RefusesGiven, RefusesText, GivesNumbers, GivesCircuit, GivesOptimised, GivesTraces}
 use Rattle.safl_tool.specs.CommandTasks.{GivesWalk, GivesRun, end_of_walk, GivesMeasure, RefusesReshaping, RefusesSession}
 use Rattle.safl_tool.specs.BitLevel.{GivesBits, GivesCounts, HasBits, IsAig, RefusesAig, RefusesBitsOf}
@@ -40,7 +42,7 @@ use Rattle.safl_tool.specs.Reshaping.{Reshaping, copies, unfolds, IsReshapable, 
 use Rattle.safl_tool.proofs.Reshaped.{IsOnce, copying_once, unfolding_once, reshapable_not_refused}
 use Rattle.safl_tool.specs.Reporting.{GivesReport, Measures, made_source, made_args}
 use Rattle.safl_task.specs.declared.status.Status.{Status}
-use Rattle.safl_task.proofs.Following.{IsKept}
+use Rattle.safl_task.proofs.Following.{IsKept, Refusing, Giving}
 use Rattle.safl_tool.proofs.Simulated.{read_words}
 use Rattle.safl_tool.proofs.Bits.{bits_not_refused, aig_not_refused}
 use Rattle.safl_tool.proofs.Conversed.{misscripted_not, replies_come}
@@ -61,7 +63,7 @@ read_at (y ∷ ws) (x ∷ ts) (v ∷ vs) (suc i) w t r e f = read_at ws ts vs i 
 no_fault : (widths : List ℕ) (args : List (List ℕ)) (vs : List Word) (line : List ℕ) → AreArguments widths args vs → HaveFault widths args line → ⊥
 no_fault widths args vs line r f = elim f [
   | inl m ↦ m.0 (args_long widths args vs r)
-  | inr u ↦ let v = read_at widths args vs u.index u.width u.text r u.at_width u.at_text in u.bad v.0 v.1
+  | inr u ↦ let v = read_at widths args vs u.0.index u.0.width u.0.text r u.0.at_width u.0.at_text in u.0.bad v.0 v.1
 ]
 
 -- main gives a value in time, so done comes
@@ -166,9 +168,10 @@ accepted_not_refused apart name source s line a r = apart source a.0 a.1 r.1.0 a
 
 -- a source that is accepted is not refused
 accepted_kept : NotBoth → (input : List ℕ) (outputs : List (List ℕ)) (G : Giving) → ((source : List ℕ) (g : Given) → G source g → g.comes ≡ true) →
-    IsKept (reading (source_file input) outputs (RefusesSourceOf input) G IsAccepted)
+    IsKept (reading (file_within input source_max) outputs (RefusesSourceOf input) G IsAccepted)
 accepted_kept apart input outputs G comes =
-    reading_kept (source_file input) outputs (RefusesSourceOf input) G IsAccepted (λ source s line a r. accepted_not_refused apart input source s line a r) (λ source g a h. comes source g h)
+    reading_kept (file_within input source_max) outputs (RefusesSourceOf input) G IsAccepted
+    (λ source s line a r. accepted_not_refused apart input source s line a r) (λ source g a h. comes source g h)
 
 given_not_refused : OneProgram → NotBoth → (name : List ℕ) (args : List (List ℕ)) (Fits : Limited) (s : Status) (line source : List ℕ) → Evaluates
     source args Fits → RefusesGiven name args source s line → ⊥
@@ -231,15 +234,15 @@ pub record Laws : Type 1 where
 
 reshape_kept : Laws → (r : Reshaping) → IsOnce r → (input output : List ℕ) (site : ℕ) → IsKept (reshape_task r input output site)
 reshape_kept l r o input output site =
-    reading_kept (source_file input) (output ∷ []) (RefusesReshaping r input site) (GivesReshaped r) (IsReshapable r)
+    reading_kept (file_within input source_max) (output ∷ []) (RefusesReshaping r input site) (GivesReshaped r) (IsReshapable r)
     (λ source s line k q. elim q [
       | inl f ↦ source_reshapable_not_refused l.apart r source input s line k f
       | inr u ↦ reshapable_not_refused l.trees r o site source s line k u
     ]) (λ source g k h. ap (λ (x : Given). x.comes) h.is)
 
-session_kept : Laws → (input script : List ℕ) (limit : ℕ) → IsKept (session_task input script limit)
+session_kept : Laws → (input script : List ℕ) (limit : ℕ) → IsKept (command_task (Session input script limit))
 session_kept l input script limit =
-    reading_both_kept (source_file input) (script_file script) (RefusesSession input) (GivesReplies limit) (λ source text. EvaluatesEach source text limit)
+    reading_both_kept (file_within input source_max) (file_within script script_max) (RefusesSession input) (GivesReplies limit) (λ source text. EvaluatesEach source text limit)
     (λ source text s line e r. elim r [
       | inl f ↦ l.apart source e.0 e.1 f.1.0 e.3 f.1.1
       | inr m ↦ misscripted_not l.once l.misread source text limit line e m.1
@@ -250,13 +253,13 @@ command_kept l (Check input) = accepted_kept l.apart input [] GivesNumbers (λ s
 command_kept l (Build input output) = accepted_kept l.apart input (output ∷ []) GivesCircuit (λ source g h. ap (λ (x : Given). x.comes) h.1.is)
 command_kept l (Optimise input output) = accepted_kept l.apart input (output ∷ []) GivesOptimised (λ source g h. ap (λ (x : Given). x.comes) h.1.is)
 command_kept l (Sim input limit traces args) =
-    reading_kept (source_file input) (files_for traces) (RefusesGiven input args) (GivesTraces traces args limit) (λ source. Evaluates source args (InCycles limit))
+    reading_kept (file_within input source_max) (files_for traces) (RefusesGiven input args) (GivesTraces traces args limit) (λ source. Evaluates source args (InCycles limit))
     (λ source s line e r. given_not_refused l.once l.apart input args (InCycles limit) s line source e r) (λ source g e h. traces_come l.once traces args limit g source e h)
 command_kept l (Walk input seed steps args) =
-    reading_kept (source_file input) [] (RefusesGiven input args) (GivesWalk args seed steps) (λ source. Evaluates source args (InEvents steps))
+    reading_kept (file_within input source_max) [] (RefusesGiven input args) (GivesWalk args seed steps) (λ source. Evaluates source args (InEvents steps))
     (λ source s line e r. given_not_refused l.once l.apart input args (InEvents steps) s line source e r) (λ source g e h. walk_comes l.once args seed steps g source e h)
 command_kept l (Run input limit args) =
-    reading_kept (verilog_file input) [] (RefusesText input args) (GivesRun args limit) (λ text. Finishes text args limit)
+    reading_kept (file_within input verilog_max) [] (RefusesText input args) (GivesRun args limit) (λ text. Finishes text args limit)
     (λ text s line f r. text_not_refused l.one l.free input args limit s line text f r) (λ text g f h. run_comes l.one args limit g text f h)
 command_kept l (Report input) = accepted_kept l.apart input [] GivesReport (λ source g h. ap (λ (x : Given). x.comes) h.5)
 command_kept l (Gen seed count) = record { refuses = λ contents s line p r. absurd r; gives = λ contents g p h. ap (λ (x : Given). x.comes) h }
@@ -268,10 +271,10 @@ command_kept l (CopySite input output site) = reshape_kept l (copies site) (copy
 command_kept l (UnfoldSite input output site) = reshape_kept l (unfolds site) (unfolding_once site) input output site
 command_kept l (Session input script limit) = session_kept l input script limit
 command_kept l (Aig input output) =
-    reading_kept (verilog_file input) (output ∷ []) (RefusesBitsOf input) GivesBits HasBits
+    reading_kept (file_within input verilog_max) (output ∷ []) (RefusesBitsOf input) GivesBits HasBits
     (λ text s line p r. bits_not_refused l.one l.free input s line text p r) (λ text g p h. ap (λ (x : Given). x.comes) h.2)
 command_kept l (Aigstat input) =
-    reading_kept (aig_file input) [] (RefusesAig input) GivesCounts IsAig (λ text s line a r. aig_not_refused l.sound input s line text a r) (λ text g a h. ap (λ (x : Given). x.comes) h.2)
+    reading_kept (file_within input aig_max) [] (RefusesAig input) GivesCounts IsAig (λ text s line a r. aig_not_refused l.sound input s line text a r) (λ text g a h. ap (λ (x : Given). x.comes) h.2)
 
 pub kept : Laws → (kinds : List ℕ) (m : Option Command) → IsKept (task_of kinds m)
 kept l kinds None = usage_kept

@@ -18,13 +18,15 @@ use Rattle.safl_term.specs.Program.{Program}
 use Rattle.safl_session.specs.Circuits.{Serves}
 use Rattle.safl_session.specs.Transcripts.{reply_lines, calls_line, late_line, are_all}
 use Rattle.safl_command.specs.Arranged.{GivenOption, IsUnhyphened, Arranged, ends, then_word, then_option}
-use Rattle.safl_command.specs.Laws.{flag, option, trace_options}
+use Rattle.safl_command.specs.Laws.{IsName, IsLimit, flag, option, trace_options}
 use Rattle.safl_command.specs.Commands.{Command, Check, Build, Optimise, Sim, Session, Aig, command_of}
 use Rattle.safl_command.proofs.SaidWords.{build_words, optimise_words}
 use Rattle.safl_command.proofs.SaidLines.{check_lines, optimise_lines, sim_lines, session_lines, aig_lines}
 use Rattle.safl_word.specs.Numerals.{value}
-use Rattle.safl_command.specs.Apart.{Traces}
-use Rattle.safl_task.specs.Inputs.{source_file, script_file, verilog_file}
+use Rattle.safl_command.specs.Apart.{Traces, are_apart}
+use Rattle.safl_task.specs.Inputs.{file_within}
+use Rattle.safl_task.specs.Limits.{script_max, verilog_max}
+use Rattle.safl_word.specs.Limits.{source_max}
 use Rattle.safl_task.specs.Tasks.{Input, Given, Only, Both, AreContents, OfFile, end_of, files_of, only_writes, status_if}
 use Rattle.safl_task.specs.Endings.{Outside, LeavesAll, Gave}
 use Rattle.safl_task.specs.declared.status.Status.{Status}
@@ -37,7 +39,7 @@ use Rattle.safl_tool.specs.Simulating.{Simulates as Simulated}
 use Rattle.safl_probe.specs.Runs.{until_done}
 use Rattle.safl_tool.specs.Tracing.{have_probes, kinds_of, traces_of}
 use Rattle.safl_tool.specs.Headline.{SayBuild, IsBuilt, Turns}
-use Rattle.safl_tool.specs.Promises.{Say, IsPrinted, IsChecked, SayCheck, IsSimulated, SaySim, EachReply, IsSession, SaySession, SayAig}
+use Rattle.safl_tool.specs.Promises.{Say, IsPrinted, IsChecked, IsSimulated, EachReply, IsSession}
 use Rattle.safl_tool.specs.Worlds.{World, EndsBy, Unprobed, task_in}
 
 -- ---- what was given
@@ -157,17 +159,17 @@ checked source g h = (h.0, h.1, h.2, ap (λ (x : Given). x.printed) h.3)
 simulated : (args : List (List ℕ)) (limit : ℕ) (source : List ℕ) (g : Given) (answer : Option Reply) (texts : List (List ℕ))
     → Simulated source args limit answer → g ≡ traced limit answer texts → end_of g ≡ status.Ok → IsSimulated args source g.printed
 simulated args limit source g None texts sim is ok = absurd (let e : status.NoResult ≡ status.Ok = sym (ap end_of is) ∙ ok in cc)
-simulated args limit source g (Some d) texts sim is ok = record {
-  program = sim.program;
-  names = sim.names;
-  words = sim.words;
-  value = as_word (sim.program.result sim.program.main) d.result.bits;
-  cycle = d.cycle;
-  source_of = sim.source_of;
-  read = sim.read;
-  result = sim.value;
-  is = ap (λ (x : Given). x.printed) is;
-}
+simulated args limit source g (Some d) texts sim is ok = (
+  sim.program,
+  sim.names,
+  sim.words,
+  as_word (sim.program.result sim.program.main) d.result.bits,
+  d.cycle,
+  sim.source_of,
+  sim.read,
+  sim.value,
+  ap (λ (x : Given). x.printed) is,
+)
 
 each_reply : (C : Program) (D : Names) (n : Netlist) (limit : ℕ) (state : ℕ → ℕ) (calls : List (List Word)) (rs : List Reply)
     → Serves C D n limit state calls rs → length rs ≡ length calls → EachReply C calls rs
@@ -182,18 +184,16 @@ answered_by : (limit : ℕ) (source script : List ℕ) (calls : List (List Word)
 answered_by limit source script calls replies h g is ok false e = absurd (
     let never : status.NoResult ≡ status.Ok = sym (ap end_of is ∙ ap (λ (x : Bool). status_if x) e) ∙ ok in cc
     )
-answered_by limit source script calls replies h g is ok true e = record {
-  program = h.program;
-  names = h.names;
-  calls = calls;
-  replies = replies;
-  source_of = h.source_of;
-  read = h.read;
-  each = each_reply h.program h.names h.net limit (reset_state h.net) calls replies h.serves (eqb-true (length replies) (length calls) e);
-  is =
-      ap (λ (x : Given). x.printed) is
-      ∙ ap (λ (x : Bool). reply_lines replies ++ (if x then calls_line (length calls) else late_line limit)) e;
-}
+answered_by limit source script calls replies h g is ok true e = (
+  h.program,
+  h.names,
+  calls,
+  replies,
+  h.source_of,
+  h.read,
+  each_reply h.program h.names h.net limit (reset_state h.net) calls replies h.serves (eqb-true (length replies) (length calls) e),
+  ap (λ (x : Given). x.printed) is ∙ ap (λ (x : Bool). reply_lines replies ++ (if x then calls_line (length calls) else late_line limit)) e,
+)
 
 answered : (limit : ℕ) (source script : List ℕ) (g : Given) → GivesReplies limit source script g → end_of g ≡ status.Ok → IsSession source script g.printed
 answered limit source script g h ok = answered_by limit source script h.0 h.1 h.2 g h.3 ok (are_all (length h.0) h.1) refl
@@ -217,6 +217,22 @@ opt_between input output i o =
     then_word input (output ∷ []) (flag (codes "opt") []) (codes "--opt" ∷ output ∷ []) i
     (then_option (output ∷ []) [] [] opt (codes "--opt" ∷ []) (output ∷ []) refl (then_word output [] [] [] o ends))
 
+-- what words say
+abbrev pub SayCheck : List ℕ → List (List ℕ) → Type 0
+SayCheck input words = IsName input × Say (codes "check") (input ∷ []) [] words
+
+abbrev pub SaySim : List ℕ → List ℕ → Traces → List (List ℕ) → List (List ℕ) → Type 0
+SaySim input limit traces args words =
+    IsName input × IsLimit limit × (are_apart traces ≡ true)
+    × Say (codes "sim") (input ∷ args) (option (codes "cycles") limit (trace_options traces)) words
+
+abbrev pub SaySession : List ℕ → List ℕ → List ℕ → List (List ℕ) → Type 0
+SaySession input script limit words =
+    IsName input × IsName script × IsLimit limit × Say (codes "session") (input ∷ script ∷ []) (option (codes "cycles") limit []) words
+
+abbrev pub SayAig : List ℕ → List ℕ → List (List ℕ) → Type 0
+SayAig input output words = IsName input × IsName output × Say (codes "aig") (input ∷ output ∷ []) [] words
+
 module _ {P : Type 0} (words : List (List ℕ)) (old new : World P) (before after : SinkState) (s : Status)
     (end : EndsBy (command_of words) old new before after s) (ok : s ≡ status.Ok) where
   -- the words are these, which are a command
@@ -230,14 +246,14 @@ module _ {P : Type 0} (words : List (List ℕ)) (old new : World P) (before afte
       → TellsOn (Turns IsBuilt input output) old.outside.shelf.holds new.outside.shelf.holds
   plainly input output e =
       let y : GaveAll (Build input output) old new = said_gave words old new before after s end ok (Build input output) e in
-      turned IsBuilt (λ source g. (net : Netlist) × WritesCircuit source net g) built (source_file input) output
+      turned IsBuilt (λ source g. (net : Netlist) × WritesCircuit source net g) built (file_within input source_max) output
       old.outside.shelf.holds new.outside.shelf.holds y.1.given.0 y.0 y.1.given.1 y.1.given.2 y.1.files
 
   smaller : (input output : List ℕ) → command_of words ≡ Some (Optimise input output)
       → TellsOn (Turns IsBuilt input output) old.outside.shelf.holds new.outside.shelf.holds
   smaller input output e =
       let y : GaveAll (Optimise input output) old new = said_gave words old new before after s end ok (Optimise input output) e in
-      turned IsBuilt (λ source g. (net : Netlist) × WritesCircuit source net g × Lean net) optimised (source_file input) output
+      turned IsBuilt (λ source g. (net : Netlist) × WritesCircuit source net g × Lean net) optimised (file_within input source_max) output
       old.outside.shelf.holds new.outside.shelf.holds y.1.given.0 y.0 y.1.given.1 y.1.given.2 y.1.files
 
   pub builds : (input output : List ℕ) → SayBuild input output words → TellsOn (Turns IsBuilt input output) old.outside.shelf.holds new.outside.shelf.holds
@@ -256,7 +272,7 @@ module _ {P : Type 0} (words : List (List ℕ)) (old new : World P) (before afte
   converts input output say =
       let y : GaveAll (Aig input output) old new =
       is_command (codes "aig") (input ∷ output ∷ []) [] (Aig input output) say.2 (λ line. aig_lines input output line say.0 say.1) in
-      turned IsConverted GivesBits converted (verilog_file input) output
+      turned IsConverted GivesBits converted (file_within input verilog_max) output
       old.outside.shelf.holds new.outside.shelf.holds y.1.given.0 y.0 y.1.given.1 y.1.given.2 y.1.files
 
   pub checks : (input : List ℕ) → SayCheck input words
@@ -265,7 +281,7 @@ module _ {P : Type 0} (words : List (List ℕ)) (old new : World P) (before afte
       let y : GaveAll (Check input) old new = is_command (codes "check") (input ∷ []) [] (Check input) say.1 (λ line. check_lines input line say.0) in
       let are : Only (λ source. IsChecked source y.0.printed) y.1.given.0 =
       only (λ source. GivesNumbers source y.0) (λ source. IsChecked source y.0.printed) (λ source h. checked source y.0 h) y.1.given.0 y.1.given.2 in
-      of_one IsChecked old.outside.shelf.holds (source_file input) y.1.given.0 y.0 old.outside.out new.outside.out y.1.given.1 are y.1.printed
+      of_one IsChecked old.outside.shelf.holds (file_within input source_max) y.1.given.0 y.0 old.outside.out new.outside.out y.1.given.1 are y.1.printed
 
   pub simulates : (input limit : List ℕ) (traces : Traces) (args : List (List ℕ)) → SaySim input limit traces args words
       → OfFile old.outside.shelf.holds input (λ source. IsPrinted (IsSimulated args source) old.outside.out new.outside.out)
@@ -278,7 +294,7 @@ module _ {P : Type 0} (words : List (List ℕ)) (old new : World P) (before afte
       (λ source h. simulated args (value 10 limit) source y.0 h.answer (traces_of traces h.simulates.net (until_done h.simulates.net h.run))
       h.simulates h.is y.2)
       y.1.given.0 y.1.given.2 in
-      of_one (IsSimulated args) old.outside.shelf.holds (source_file input) y.1.given.0 y.0 old.outside.out new.outside.out y.1.given.1 are y.1.printed
+      of_one (IsSimulated args) old.outside.shelf.holds (file_within input source_max) y.1.given.0 y.0 old.outside.out new.outside.out y.1.given.1 are y.1.printed
 
   pub converses : (input script limit : List ℕ) → SaySession input script limit words
       → OfFile old.outside.shelf.holds input (λ source. OfFile old.outside.shelf.holds script
@@ -290,4 +306,4 @@ module _ {P : Type 0} (words : List (List ℕ)) (old new : World P) (before afte
       let are : Both (λ source lines. IsSession source lines y.0.printed) y.1.given.0 =
       both (λ source lines. GivesReplies (value 10 limit) source lines y.0) (λ source lines. IsSession source lines y.0.printed)
       (λ source lines h. answered (value 10 limit) source lines y.0 h y.2) y.1.given.0 y.1.given.2 in
-      of_two IsSession old.outside.shelf.holds (source_file input) (script_file script) y.1.given.0 y.0 old.outside.out new.outside.out y.1.given.1 are y.1.printed
+      of_two IsSession old.outside.shelf.holds (file_within input source_max) (file_within script script_max) y.1.given.0 y.0 old.outside.out new.outside.out y.1.given.1 are y.1.printed

@@ -4,8 +4,7 @@ use Rattle.std.proofs.Common.{refl, sym, ap, subst, ◌∙◌, arith, inl, inr}
 use Rattle.std.proofs.lemmas.List.{length_push}
 use Rattle.safl_word.specs.Words.{Word}
 use Rattle.safl_word.proofs.Lists.{get_pushed, get_some}
-use Rattle.safl_session.specs.Lines.{IsArgument, AreArguments}
-use Rattle.safl_tool.specs.Arguments.{IsUnread}
+use Rattle.safl_session.specs.Lines.{IsArgument, AreArguments, HaveMisfit}
 use Rattle.safl_tool.specs.Lines.{argument_line}
 
 -- so many of them are read
@@ -49,18 +48,20 @@ all_read widths args words i l e r = are_read widths args words l (r.long ∙ e)
 
 pub unread : (widths : List ℕ) (args : List (List ℕ)) (words : List Word) (i w : ℕ) (t : List ℕ) → length args ≡ length widths → ReadSoFar widths args
     words i → slice_get widths i ≡ Some w → slice_get args i ≡ Some t → ((v : Word) → IsArgument w t v → ⊥)
-    → IsUnread widths args (argument_line (i + 1) w)
-unread widths args words i w t l r d e bad = record {
-  same = l;
-  index = i;
-  width = w;
-  text = t;
-  at_width = d;
-  at_text = e;
-  bad = bad;
-  before = λ k x s h f g. let v = get_some words k (let m = r.long in omega (arith, h, m)) in (v.0, r.each k x s v.0 f g v.1);
-  is = refl;
-}
+    → (m : HaveMisfit widths args) × (argument_line (i + 1) w ≡ argument_line (m.index + 1) m.width)
+unread widths args words i w t l r d e bad = (
+  record {
+    same = l;
+    index = i;
+    width = w;
+    text = t;
+    at_width = d;
+    at_text = e;
+    bad = bad;
+    before = λ k x s h f g. let v = get_some words k (let m = r.long in omega (arith, h, m)) in (v.0, r.each k x s v.0 f g v.1);
+  },
+  refl,
+)
 
 pub text_at : (xs : List (String Global)) (i : ℕ) (x : String Global) (t : List ℕ) → i < length xs → x ≡ get_or xs i x → t ≡ string_bytes x → slice_get (map string_bytes xs) i ≡ Some t
 text_at [] i x t h e f = absurd (omega (arith, h))

@@ -1,5 +1,5 @@
 -- Which probes the code asks.
-use Rattle.std.specs.Prelude.{◌≡◌, ℕ, List, Option, Some, None, MatchOption, Vec, false}
+use Rattle.std.specs.Prelude.{◌≡◌, ℕ, List, Option, Some, None, is_some, MatchOption, Vec, Bool, false, ◌||◌}
 use Rattle.std.specs.Borrow.{Bor}
 use Rattle.std.specs.declared.string.String.{String}
 use Rattle.std.specs.declared.alloc.Global.{Global}
@@ -16,6 +16,10 @@ shown_name name = name.now
 abbrev pub traces_given : Option (Bor given.Traces) → Traces
 traces_given None = no_traces
 traces_given (Some traces) = shown_traces traces.now
+
+-- whether a file is given
+abbrev pub is_any_given : Traces → Bool
+is_any_given t = is_some t.vcd || (is_some t.starts || is_some t.toggles)
 
 -- the probes are asked for the files of these traces. If some file has no probe, there is no answer
 abbrev pub AsksFor : Traces → List ProbeState → Option (Vec (Option (String Global)) Global) → Type 0

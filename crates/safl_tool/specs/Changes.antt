@@ -65,7 +65,7 @@ abbrev pub EndsOn : {S O E P : Type 0} → List (String Global) → (S → Shelf
 EndsOn words shelf s s' out o o' err e e' tell ps qs status =
     EndsBy (command_of (map string_bytes words)) (world (shelf s) (out o) tell ps.items) (world (shelf s') (out o') tell qs.items) (err e) (err e') status
 
-abbrev pub FollowsOn : {S O E P : Type 0} → List (String Global) → (S → ShelfState) → S → S → (O → SinkState) → O → O
-    → (E → SinkState) → E → E → (P → ProbeState) → Vec P Global → Vec P Global → Status → Type 0
-FollowsOn words shelf s s' out o o' err e e' tell ps qs status =
-    Follows (command_of (map string_bytes words)) (world (shelf s) (out o) tell ps.items) (world (shelf s') (out o') tell qs.items) (err e) (err e') status
+abbrev pub FollowsOn : {S O P : Type 0} → List (String Global) → (S → ShelfState) → S → S → (O → SinkState) → O → O
+    → (P → ProbeState) → Vec P Global → Vec P Global → Status → Type 0
+FollowsOn words shelf s s' out o o' tell ps qs status =
+    Follows (command_of (map string_bytes words)) (world (shelf s) (out o) tell ps.items) (world (shelf s') (out o') tell qs.items) status

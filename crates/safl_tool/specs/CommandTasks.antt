@@ -1,6 +1,7 @@
 -- The task of each command: what it reads, refuses and gives.
-use Rattle.std.specs.Prelude.{◌≡◌, ℕ, ◌⊎◌, List, [], ◌++◌, take, Option, Some, None, is_some, true, false, Bool, codes}
+use Rattle.std.specs.Prelude.{◌≡◌, ℕ, ◌⊎◌, List, [], ◌∷◌, ◌++◌, take, Option, Some, None, is_some, true, false, Bool, codes}
 use Rattle.safl_word.specs.Words.{Word}
+use Rattle.safl_word.specs.declared.fault.Fault.{Fault}
 use Rattle.safl_net.specs.Netlist.{Netlist}
 use Rattle.safl_net.specs.Valuations.{Valuation}
 use Rattle.safl_net.specs.Written.{written}
@@ -12,9 +13,9 @@ use Rattle.safl_term.specs.Program.{Program}
 use Rattle.safl_sim.specs.declared.done.Done.{Done}
 use Rattle.safl_core.specs.declared.walking.Walked.{Walked}
 use Rattle.safl_term.specs.Names.{Names}
-use Rattle.safl_compiler.specs.Sources.{IsSourceOf}
+use Rattle.safl_compiler.specs.Sources.{IsSourceOf, HasFirstFault}
 use Rattle.safl_compiler.specs.Circuits.{IsCircuitOf}
-use Rattle.safl_tool.specs.Sources.{IsFaultLine, IsAccepted}
+use Rattle.safl_tool.specs.Sources.{IsAccepted}
 use Rattle.safl_command.specs.Commands.{Command, Check, Build, Sim, Walk, Run, Optimise, Report, Gen, Bench, CopySite, UnfoldSite, Session, Aig, Aigstat}
 use Rattle.safl_probe.specs.Asked.{Asked}
 use Rattle.safl_probe.specs.Runs.{IsRunOf, until_done}
@@ -22,28 +23,23 @@ use Rattle.safl_command.specs.Traces.{Traces}
 use Rattle.safl_tool.specs.Tracing.{files_for, traces_of, no_traces, asked_by, have_probes}
 use Rattle.safl_tool.specs.BitLevel.{GivesBits, GivesCounts, HasBits, IsAig, RefusesAig, RefusesBitsOf}
 use Rattle.safl_tool.specs.Calling.{GivesReplies, IsMisscripted, EvaluatesEach}
-use Rattle.safl_task.specs.Inputs.{source_file, script_file, verilog_file, aig_file}
-use Rattle.safl_tool.specs.Lines.{usage_line}
+use Rattle.safl_task.specs.Inputs.{file_within}
+use Rattle.safl_task.specs.Limits.{script_max, verilog_max, aig_max}
+use Rattle.safl_word.specs.Limits.{source_max}
+use Rattle.safl_tool.specs.Lines.{usage_line, source_line}
 use Rattle.safl_tool.specs.Printed.{program_lines, outcome_lines, walk_lines, short_line}
 use Rattle.safl_tool.specs.Running.{RunsText, IsMisrun, IsUnrunnable, Finishes}
 use Rattle.safl_tool.specs.Reporting.{GivesReport, Measures, made_source, made_args}
 use Rattle.safl_tool.specs.Reshaping.{Reshaping, copies, unfolds, IsUnshaped, IsReshapable, GivesReshaped}
 use Rattle.safl_tool.specs.Simulating.{Simulates, IsMisgiven, InCycles, InEvents, Evaluates}
 use Rattle.safl_tool.specs.Walking.{Walks}
-use Rattle.safl_task.specs.Tasks.{Given, Task, only_prints, only_writes, reading, reading_both, printing, writing, making}
+use Rattle.safl_task.specs.Tasks.{Given, Task, only_prints, only_writes, reading, reading_both, making}
 use Rattle.safl_task.specs.declared.status.Status.{Status}
 use Rattle.safl_task.specs.declared.status.Status.TheVariants as status
 
--- a command prints a text as its result; or a text that says that no result came
-abbrev pub result : List ℕ → Given
-result text = only_prints true text
-
-abbrev pub no_result : List ℕ → Given
-no_result text = only_prints false text
-
 -- the source with this name has a first fault, which the line reports
 abbrev pub RefusesSourceOf : List ℕ → List ℕ → Status → List ℕ → Type 0
-RefusesSourceOf name source s line = (s ≡ status.SourceRefused) × IsFaultLine name line source
+RefusesSourceOf name source s line = (s ≡ status.SourceRefused) × ((f : Fault) × HasFirstFault source f × (line ≡ source_line name source f))
 
 -- the source is refused; or it is accepted, and the arguments do not fit main's parameters
 abbrev pub RefusesGiven : List ℕ → List (List ℕ) → List ℕ → Status → List ℕ → Type 0
@@ -63,10 +59,7 @@ usage_task = making (λ s line. (s ≡ status.Usage) × (line ≡ usage_line)) (
 
 -- `check` gives, for a source, the numbers of its program
 abbrev pub GivesNumbers : List ℕ → Given → Type 0
-GivesNumbers source g = (C : Program) × (D : Names) × IsSourceOf source C D × (g ≡ result (program_lines C.functions C.sites))
-
-abbrev pub check_task : List ℕ → Task
-check_task input = printing (source_file input) (RefusesSourceOf input) GivesNumbers IsAccepted
+GivesNumbers source g = (C : Program) × (D : Names) × IsSourceOf source C D × (g ≡ only_prints true (program_lines C.functions C.sites))
 
 -- The text of this netlist is given, and the netlist is the circuit of the source's program. The text reads as it. No proper prefix
 -- of the text reads as a netlist, except for the text without its last line feed.
@@ -88,12 +81,6 @@ GivesCircuit source g = (net : Netlist) × WritesCircuit source net g
 abbrev pub GivesOptimised : List ℕ → Given → Type 0
 GivesOptimised source g = (net : Netlist) × WritesCircuit source net g × Lean net
 
-abbrev pub build_task : List ℕ → List ℕ → Task
-build_task input output = writing (source_file input) output (RefusesSourceOf input) GivesCircuit IsAccepted
-
-abbrev pub optimise_task : List ℕ → List ℕ → Task
-optimise_task input output = writing (source_file input) output (RefusesSourceOf input) GivesOptimised IsAccepted
-
 -- some lines, and then those of the outcome of a run. They are a result if `done` came
 abbrev pub outcome_after : List ℕ → ℕ → Option Done → Given
 outcome_after head limit answer = only_prints (is_some answer) (head ++ outcome_lines limit answer)
@@ -113,84 +100,54 @@ pub record GivesTraces (traces : Traces) (args : List (List ℕ)) (limit : ℕ) 
   pub is_run : IsRunOf simulates.net simulates.words limit run
   pub is : g ≡ traced limit answer (traces_of traces simulates.net (until_done simulates.net run))
 
-abbrev pub sim_task : List ℕ → ℕ → Traces → List (List ℕ) → Task
-sim_task input limit traces args =
-    reading (source_file input) (files_for traces) (RefusesGiven input args) (GivesTraces traces args limit) (λ source. Evaluates source args (InCycles limit))
-
 abbrev pub end_of_walk : ℕ → Walked → Option Word → Given
-end_of_walk steps w (Some v) = result (walk_lines v.bits w.events w.units)
-end_of_walk steps w None = no_result (short_line steps)
+end_of_walk steps w (Some v) = only_prints true (walk_lines v.bits w.events w.units)
+end_of_walk steps w None = only_prints false (short_line steps)
 
 -- what a walk of a source's call machine gives
 abbrev pub GivesWalk : List (List ℕ) → ℕ → ℕ → List ℕ → Given → Type 0
 GivesWalk args seed steps source g = (w : Walked) × Walks source args seed steps w × (g ≡ end_of_walk steps w w.result)
 
-abbrev pub walk_task : List ℕ → ℕ → ℕ → List (List ℕ) → Task
-walk_task input seed steps args = printing (source_file input) (RefusesGiven input args) (GivesWalk args seed steps) (λ source. Evaluates source args (InEvents steps))
-
 -- what a run of the netlist of a Verilog file gives
 abbrev pub GivesRun : List (List ℕ) → ℕ → List ℕ → Given → Type 0
 GivesRun args limit text g = (answer : Option Done) × RunsText text args limit answer × (g ≡ outcome limit answer)
 
-abbrev pub run_task : List ℕ → ℕ → List (List ℕ) → Task
-run_task input limit args = printing (verilog_file input) (RefusesText input args) (GivesRun args limit) (λ text. Finishes text args limit)
-
-abbrev pub report_task : List ℕ → Task
-report_task input = printing (source_file input) (RefusesSourceOf input) GivesReport IsAccepted
-
--- nothing is refused
-abbrev pub NeverRefuses : Status → List ℕ → Type 0
-NeverRefuses s line = ⊥
-
-abbrev pub gen_task : ℕ → ℕ → Task
-gen_task seed count = making NeverRefuses (λ g. g ≡ result (made_source seed count)) (Unit {0})
-
 -- what `bench` gives for a source: the numbers of its program, the summary of its plan, and the outcome of a run of its circuit
 abbrev pub GivesMeasure : List (List ℕ) → ℕ → List ℕ → Given → Type 0
 GivesMeasure args limit source g = (head : List ℕ) × (answer : Option Done) × Measures source args limit head answer × (g ≡ outcome_after head limit answer)
-
--- the task of `bench`. A generated source is refused as any other is; its name would be `bench`
-abbrev pub bench_task : ℕ → ℕ → ℕ → Task
-bench_task seed count limit =
-    making (RefusesGiven (codes "bench") (made_args seed count) (made_source seed count)) (GivesMeasure (made_args seed count) limit (made_source seed count))
-    (Evaluates (made_source seed count) (made_args seed count) (InCycles limit))
 
 -- the source is refused, or its program cannot be reshaped at the site
 abbrev pub RefusesReshaping : Reshaping → List ℕ → ℕ → List ℕ → Status → List ℕ → Type 0
 RefusesReshaping r name site source s line = RefusesSourceOf name source s line ⊎ IsUnshaped r site source s line
 
 abbrev pub reshape_task : Reshaping → List ℕ → List ℕ → ℕ → Task
-reshape_task r input output site = writing (source_file input) output (RefusesReshaping r input site) (GivesReshaped r) (IsReshapable r)
+reshape_task r input output site = reading (file_within input source_max) (output ∷ []) (RefusesReshaping r input site) (GivesReshaped r) (IsReshapable r)
 
 -- the source is refused; or it is accepted, and the script has a fault for main's parameters
 abbrev pub RefusesSession : List ℕ → List ℕ → List ℕ → Status → List ℕ → Type 0
 RefusesSession name source script s line = RefusesSourceOf name source s line ⊎ ((s ≡ status.BadArgs) × IsMisscripted source script line)
 
-abbrev pub session_task : List ℕ → List ℕ → ℕ → Task
-session_task input script limit =
-    reading_both (source_file input) (script_file script) (RefusesSession input) (GivesReplies limit) (λ source text. EvaluatesEach source text limit)
-
-abbrev pub aig_task : List ℕ → List ℕ → Task
-aig_task input output = writing (verilog_file input) output (RefusesBitsOf input) GivesBits HasBits
-
-abbrev pub aigstat_task : List ℕ → Task
-aigstat_task input = printing (aig_file input) (RefusesAig input) GivesCounts IsAig
-
+-- the task of each command. A generated source is refused as any other is; its name would be `bench`
 abbrev pub command_task : Command → Task
-command_task (Check input) = check_task input
-command_task (Build input output) = build_task input output
-command_task (Optimise input output) = optimise_task input output
-command_task (Sim input limit traces args) = sim_task input limit traces args
-command_task (Walk input seed steps args) = walk_task input seed steps args
-command_task (Run input limit args) = run_task input limit args
-command_task (Report input) = report_task input
-command_task (Gen seed count) = gen_task seed count
-command_task (Bench seed count limit) = bench_task seed count limit
+command_task (Check input) = reading (file_within input source_max) [] (RefusesSourceOf input) GivesNumbers IsAccepted
+command_task (Build input output) = reading (file_within input source_max) (output ∷ []) (RefusesSourceOf input) GivesCircuit IsAccepted
+command_task (Optimise input output) = reading (file_within input source_max) (output ∷ []) (RefusesSourceOf input) GivesOptimised IsAccepted
+command_task (Sim input limit traces args) =
+    reading (file_within input source_max) (files_for traces) (RefusesGiven input args) (GivesTraces traces args limit) (λ source. Evaluates source args (InCycles limit))
+command_task (Walk input seed steps args) =
+    reading (file_within input source_max) [] (RefusesGiven input args) (GivesWalk args seed steps) (λ source. Evaluates source args (InEvents steps))
+command_task (Run input limit args) = reading (file_within input verilog_max) [] (RefusesText input args) (GivesRun args limit) (λ text. Finishes text args limit)
+command_task (Report input) = reading (file_within input source_max) [] (RefusesSourceOf input) GivesReport IsAccepted
+command_task (Gen seed count) = making (λ s line. ⊥) (λ g. g ≡ only_prints true (made_source seed count)) (Unit {0})
+command_task (Bench seed count limit) =
+    making (RefusesGiven (codes "bench") (made_args seed count) (made_source seed count)) (GivesMeasure (made_args seed count) limit (made_source seed count))
+    (Evaluates (made_source seed count) (made_args seed count) (InCycles limit))
 command_task (CopySite input output site) = reshape_task (copies site) input output site
 command_task (UnfoldSite input output site) = reshape_task (unfolds site) input output site
-command_task (Session input script limit) = session_task input script limit
-command_task (Aig input output) = aig_task input output
-command_task (Aigstat input) = aigstat_task input
+command_task (Session input script limit) =
+    reading_both (file_within input source_max) (file_within script script_max) (RefusesSession input) (GivesReplies limit) (λ source text. EvaluatesEach source text limit)
+command_task (Aig input output) = reading (file_within input verilog_max) (output ∷ []) (RefusesBitsOf input) GivesBits HasBits
+command_task (Aigstat input) = reading (file_within input aig_max) [] (RefusesAig input) GivesCounts IsAig
 
 -- the files for the traces that a command asks for
 abbrev pub traces_in : Command → Traces

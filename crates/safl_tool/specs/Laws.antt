@@ -1,10 +1,16 @@
 -- Laws over the definitions alone.
-use Rattle.std.specs.Prelude.{◌≡◌, ◌≢◌, ℕ, ◌<◌, List, Some, true, get_or}
+use Rattle.std.specs.Prelude.{◌≡◌, ◌≢◌, ℕ, ◌<◌, List, Option, Some, true, get_or}
+use Rattle.safl_io.specs.Sink.{SinkState}
+use Rattle.safl_probe.specs.Probing.{ProbeState}
 use Rattle.safl_probe.specs.Asked.{IsAsked}
 use Rattle.safl_probe.specs.Watching.{kind_of}
 use Rattle.safl_probe.specs.declared.kind.TraceKind.{TraceKind}
+use Rattle.safl_command.specs.Commands.{Command}
 use Rattle.safl_command.specs.Traces.{Traces}
+use Rattle.safl_task.specs.Endings.{Tells}
+use Rattle.safl_task.specs.declared.status.Status.{Status}
 use Rattle.safl_tool.specs.Tracing.{asked_by, file_of_kind, have_probes}
+use Rattle.safl_tool.specs.Worlds.{World, EndsBy, Unprobed, task_in}
 
 -- the kind of the probe at a place
 abbrev pub kind_at : List ℕ → ℕ → TraceKind
@@ -24,3 +30,9 @@ pub record AsksFirst (t : Traces) (kinds : List ℕ) : Type 0 where
 
 abbrev pub FirstAreAsked : Type 0
 FirstAreAsked = (t : Traces) (kinds : List ℕ) → AsksFirst t kinds
+
+-- how a call ends says what was sent to standard error before and after it
+abbrev pub EndsTell : Type 0
+EndsTell =
+    (m : Option Command) (old new : World ProbeState) (before after : SinkState) (s : Status) → EndsBy m old new before after s
+    → Tells (task_in m old) (Unprobed m old new) old.outside new.outside before after s

@@ -39,37 +39,24 @@ IsPrinted Q before after = TellsOn (λ old new. (text : List ℕ) × Q text × S
 abbrev pub IsChecked : List ℕ → List ℕ → Type 0
 IsChecked source text = (C : Program) × (D : Names) × IsSourceOf source C D × (text ≡ program_lines C.functions C.sites)
 
-abbrev pub SayCheck : List ℕ → List (List ℕ) → Type 0
-SayCheck input words = IsName input × Say (codes "check") (input ∷ []) [] words
-
 abbrev pub Checks : {S O : Type 0} → List (String Global) → (S → ShelfState) → S → (O → SinkState) → O → O → Status → Type 0
 Checks words shelf s out o o' status =
-    (input : List ℕ) → SayCheck input (map string_bytes words) → status ≡ Ok
+    (input : List ℕ) → IsName input × Say (codes "check") (input ∷ []) [] (map string_bytes words) → status ≡ Ok
     → OfFile (shelf s).holds input (λ source. IsPrinted (IsChecked source) (out o) (out o'))
 
 -- ---- `sim IN --cycles L [--vcd F1] [--starts F2] [--toggles F3] [ARG..]`
 
 -- the source is that of a program, the arguments are words for main's parameters, and the text tells main's value and the cycle in
 -- which it came
-pub record IsSimulated (args : List (List ℕ)) (source text : List ℕ) : Type 0 where
-  pub program : Program
-  pub names : Names
-  pub words : List Word
-  pub value : Word
-  pub cycle : ℕ
-  pub source_of : IsSourceOf source program names
-  pub read : AreArguments (program.params program.main) args words
-  pub result : IsExactResult program words value cycle
-  pub is : text ≡ done_lines value.bits cycle
-
-abbrev pub SaySim : List ℕ → List ℕ → Traces → List (List ℕ) → List (List ℕ) → Type 0
-SaySim input limit traces args words =
-    IsName input × IsLimit limit × (are_apart traces ≡ true)
-    × Say (codes "sim") (input ∷ args) (option (codes "cycles") limit (trace_options traces)) words
+abbrev pub IsSimulated : List (List ℕ) → List ℕ → List ℕ → Type 0
+IsSimulated args source text = (C : Program) × (D : Names) × (words : List Word) × (value : Word) × (cycle : ℕ) × IsSourceOf source C D
+    × AreArguments (C.params C.main) args words × IsExactResult C words value cycle × (text ≡ done_lines value.bits cycle)
 
 abbrev pub Simulates : {S O : Type 0} → List (String Global) → (S → ShelfState) → S → (O → SinkState) → O → O → Status → Type 0
 Simulates words shelf s out o o' status =
-    (input limit : List ℕ) (traces : Traces) (args : List (List ℕ)) → SaySim input limit traces args (map string_bytes words) → status ≡ Ok
+    (input limit : List ℕ) (traces : Traces) (args : List (List ℕ))
+    → IsName input × IsLimit limit × (are_apart traces ≡ true)
+    × Say (codes "sim") (input ∷ args) (option (codes "cycles") limit (trace_options traces)) (map string_bytes words) → status ≡ Ok
     → OfFile (shelf s).holds input (λ source. IsPrinted (IsSimulated args source) (out o) (out o'))
 
 -- ---- `session IN SCRIPT --cycles L`
@@ -81,31 +68,20 @@ EachReply C (args ∷ calls) (r ∷ rs) = IsMainReply C args r × EachReply C ca
 EachReply C _ _ = ⊥
 
 -- the source is that of a program, the script has these calls of main, and the text has a line for the reply to each
-pub record IsSession (source script text : List ℕ) : Type 0 where
-  pub program : Program
-  pub names : Names
-  pub calls : List (List Word)
-  pub replies : List Reply
-  pub source_of : IsSourceOf source program names
-  pub read : IsScript (program.params program.main) script calls
-  pub each : EachReply program calls replies
-  pub is : text ≡ reply_lines replies ++ calls_line (length calls)
-
-abbrev pub SaySession : List ℕ → List ℕ → List ℕ → List (List ℕ) → Type 0
-SaySession input script limit words =
-    IsName input × IsName script × IsLimit limit × Say (codes "session") (input ∷ script ∷ []) (option (codes "cycles") limit []) words
+abbrev pub IsSession : List ℕ → List ℕ → List ℕ → Type 0
+IsSession source script text = (C : Program) × (D : Names) × (calls : List (List Word)) × (replies : List Reply) × IsSourceOf source C D
+    × IsScript (C.params C.main) script calls × EachReply C calls replies × (text ≡ reply_lines replies ++ calls_line (length calls))
 
 abbrev pub Converses : {S O : Type 0} → List (String Global) → (S → ShelfState) → S → (O → SinkState) → O → O → Status → Type 0
 Converses words shelf s out o o' status =
-    (input script limit : List ℕ) → SaySession input script limit (map string_bytes words) → status ≡ Ok
+    (input script limit : List ℕ) → IsName input × IsName script × IsLimit limit
+    × Say (codes "session") (input ∷ script ∷ []) (option (codes "cycles") limit []) (map string_bytes words) → status ≡ Ok
     → OfFile (shelf s).holds input (λ source. OfFile (shelf s).holds script (λ lines. IsPrinted (IsSession source lines) (out o) (out o')))
 
 -- ---- `aig FILE OUT`
 
-abbrev pub SayAig : List ℕ → List ℕ → List (List ℕ) → Type 0
-SayAig input output words = IsName input × IsName output × Say (codes "aig") (input ∷ output ∷ []) [] words
 
 abbrev pub Converts : {S : Type 0} → List (String Global) → (S → ShelfState) → S → S → Status → Type 0
 Converts words shelf s s' status =
-    (input output : List ℕ) → SayAig input output (map string_bytes words) → status ≡ Ok
+    (input output : List ℕ) → IsName input × IsName output × Say (codes "aig") (input ∷ output ∷ []) [] (map string_bytes words) → status ≡ Ok
     → TellsOn (Turns IsConverted input output) (shelf s).holds (shelf s').holds

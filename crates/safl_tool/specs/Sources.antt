@@ -1,6 +1,5 @@
 -- Which sources are accepted, and what they are compiled to.
 use Rattle.std.specs.Prelude.{◌≡◌, ℕ, List}
-use Rattle.safl_word.specs.declared.fault.Fault.{Fault}
 use Rattle.safl_net.specs.Netlist.{Netlist}
 use Rattle.safl_net.specs.Rules.{IsNetlist}
 use Rattle.safl_net.specs.Whole.{IsWhole}
@@ -8,17 +7,12 @@ use Rattle.safl_net.specs.Arranged.{IsInOrder}
 use Rattle.safl_net.specs.Arguments.{argument_widths}
 use Rattle.safl_term.specs.Program.{Program}
 use Rattle.safl_term.specs.Names.{Names}
-use Rattle.safl_compiler.specs.Sources.{IsSourceOf, HasFirstFault}
+use Rattle.safl_compiler.specs.Sources.{IsSourceOf}
 use Rattle.safl_compiler.specs.Circuits.{IsCircuitOf}
-use Rattle.safl_tool.specs.Lines.{source_line}
 
 -- the source is accepted
 abbrev pub IsAccepted : List ℕ → Type 0
 IsAccepted source = (C : Program) × (D : Names) × IsSourceOf source C D
-
--- the line reports the first fault of the source with this name
-abbrev pub IsFaultLine : List ℕ → List ℕ → List ℕ → Type 0
-IsFaultLine name line source = (f : Fault) × HasFirstFault source f × (line ≡ source_line name source f)
 
 -- The source spells a program, and the netlist is its circuit, which is whole and in order. The inputs of the netlist other than
 -- `start` are main's parameters.

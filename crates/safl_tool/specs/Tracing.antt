@@ -56,18 +56,10 @@ abbrev pub asked_by : Traces → List ℕ → Asked
 asked_by t [] = []
 asked_by t (kind ∷ kinds) = file_of_kind t (kind_of kind) ∷ asked_by (without t (kind_of kind)) kinds
 
--- the files that no probe can write
-abbrev pub left_by : Traces → List ℕ → Traces
-left_by t [] = t
-left_by t (kind ∷ kinds) = left_by (without t (kind_of kind)) kinds
-
--- whether a file is given
-abbrev pub is_any_given : Traces → Bool
-is_any_given t = is_some t.vcd || (is_some t.starts || is_some t.toggles)
-
 -- whether each file has a probe of its kind among those of these kinds
 abbrev pub have_probes : Traces → List ℕ → Bool
-have_probes t kinds = not (is_any_given (left_by t kinds))
+have_probes t [] = not (is_some t.vcd || (is_some t.starts || is_some t.toggles))
+have_probes t (kind ∷ kinds) = have_probes (without t (kind_of kind)) kinds
 
 abbrev pub kinds_of : List ProbeState → List ℕ
 kinds_of ps = map (λ (p : ProbeState). p.kind) ps

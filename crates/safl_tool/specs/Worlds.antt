@@ -1,14 +1,16 @@
 -- The world of a call of the program: the shelf, the output and the probes; and how a call changes it.
-use Rattle.std.specs.Prelude.{ℕ, List, map, Option, Result, Ok, Err}
-use Rattle.safl_io.specs.Shelf.{ShelfState}
+use Rattle.std.specs.Prelude.{◌≡◌, ◌⊎◌, ℕ, List, map, Option, IsSome, Result, Ok, Err, Contains, false}
+use Rattle.safl_io.specs.Shelf.{ShelfState, file_of}
+use Rattle.safl_io.specs.Told.{TellsOn}
 use Rattle.safl_io.specs.Sink.{SinkState}
 use Rattle.safl_probe.specs.Probing.{ProbeState}
 use Rattle.safl_probe.specs.Asked.{Asked, SameUnasked}
 use Rattle.safl_probe.specs.Stopping.{SameProbes}
 use Rattle.safl_command.specs.Commands.{Command}
-use Rattle.safl_task.specs.Endings.{Outside, outside, Ended, Ends, KeepsAll, KeepsOthers, Left, Tells, SameStrays, Completes}
-use Rattle.safl_task.specs.Tasks.{Task}
+use Rattle.safl_task.specs.Endings.{Outside, outside, Ended, Ends, Left, NoFault, Untouched, may_give}
+use Rattle.safl_task.specs.Tasks.{Task, OfInputs, SameStraysWith}
 use Rattle.safl_task.specs.declared.status.Status.{Status}
+use Rattle.safl_task.specs.declared.status.Status.TheVariants as status
 use Rattle.safl_tool.specs.CommandTasks.{task_of, asks_of}
 use Rattle.safl_tool.specs.Refusals.{StopsBy, TellsProbe}
 use Rattle.safl_tool.specs.Tracing.{kinds_of}
@@ -39,7 +41,7 @@ Unprobed m old new = TellsProbe (asks_in m old) old.states new.states
 -- What holds in any case: on a shelf that tells, and has the input files, no stray name is used; each probe that is not asked is
 -- as it was; and there are as many probes as before, of the same kinds in the same order, and none has fewer faults.
 pub record Spares {P : Type 0} (t : Task) (asks : Asked) (old new : World P) : Type 0 where
-  pub no_stray : SameStrays t old.outside.shelf new.outside.shelf
+  pub no_stray : SameStraysWith t.inputs old.outside.shelf new.outside.shelf
   pub unasked : SameUnasked asks old.probes new.probes
   pub probes : SameProbes old.states new.states
 
@@ -63,16 +65,17 @@ EndsBy m old new = Ends (task_in m old) (Unprobed m old new) old.outside new.out
 
 -- What follows from how a call ends. Unless the status is Ok, NoResult, WriteFault, ProbeFault or NoMemory, no file has
 -- changed and nothing was printed (`keeps`). At every status, each file that is no output file is as it was (`others`); each
--- output file is as it was or has a prefix of its text, and a prefix of the printed text was sent (`left`). `tells` says what
--- was sent to standard error. If a result is promised and nothing failed, it came or memory ran out (`completes`). `attended`
--- says what became of the probes: the asked ones were shown the run, and at the statuses of `keeps` all are as they were.
-pub record Follows {P : Type 0} (m : Option Command) (old new : World P) (before after : SinkState) (s : Status) : Type 0 where
-  pub keeps : KeepsAll s old.outside new.outside
-  pub others : KeepsOthers (task_in m old) old.outside new.outside
+-- output file is as it was or has a prefix of its text, and a prefix of the printed text was sent (`left`). If a result is
+-- promised and nothing failed, it came or memory ran out (`completes`). `attended` says what became of the probes: the asked
+-- ones were shown the run, and at the statuses of `keeps` all are as they were.
+pub record Follows {P : Type 0} (m : Option Command) (old new : World P) (s : Status) : Type 0 where
+  pub keeps : may_give s ≡ false → Untouched old.outside new.outside
+  pub others : (name : List ℕ) → ¬ Contains (task_in m old).outputs name
+      → TellsOn (λ before after. file_of after name ≡ file_of before name) old.outside.shelf.holds new.outside.shelf.holds
   pub left : Left (task_in m old) old.outside new.outside
-  pub tells : Tells (task_in m old) (Unprobed m old new) old.outside new.outside before after s
-  pub no_stray : SameStrays (task_in m old) old.outside.shelf new.outside.shelf
-  pub completes : Completes (task_in m old) (Unprobed m old new) old.outside new.outside s
+  pub no_stray : SameStraysWith (task_in m old).inputs old.outside.shelf new.outside.shelf
+  pub completes : IsSome old.outside.shelf.holds → OfInputs old.outside.shelf.holds (task_in m old).inputs (task_in m old).Promises
+      → NoFault (Unprobed m old new) old.outside new.outside → (s ≡ status.Ok) ⊎ (s ≡ status.NoMemory)
   pub attended : Attended m old.outside.shelf.holds old.probes new.probes old.states new.states s
   pub unasked : SameUnasked (asks_in m old) old.probes new.probes
   pub probes : SameProbes old.states new.states

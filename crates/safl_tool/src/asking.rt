@@ -3,8 +3,8 @@
 ghost use Rattle.std.specs.Prelude.{◌≡◌, IfOk, map, option_map, string_bytes};
 ghost use Rattle.safl_command.specs.Traces.{files, shown_traces};
 ghost use Rattle.safl_probe.specs.Watching.{kind_of};
-ghost use Rattle.safl_tool.specs.Asking.{shown_name, traces_given, AsksFor};
-ghost use Rattle.safl_tool.specs.Tracing.{file_of_kind, is_any_given, without};
+ghost use Rattle.safl_tool.specs.Asking.{shown_name, traces_given, is_any_given, AsksFor};
+ghost use Rattle.safl_tool.specs.Tracing.{file_of_kind, without};
 
 use safl_command::Traces;
 use safl_probe::{Probe, TraceKind, kind_of};

@@ -1,9 +1,10 @@
 //! The commands `gen SEED COUNT` and `bench SEED COUNT --cycles L`: a generated source, and a run of its circuit.
 
-ghost use Rattle.std.specs.Prelude.{◌≡◌, ◌≤◌, IfOk, IfErr, codes, length, map, string_bytes, decimal};
+ghost use Rattle.std.specs.Prelude.{◌≡◌, ◌≤◌, IfOk, IfErr, codes, length, map, string_bytes, decimal, true};
 ghost use Rattle.safl_word.specs.Limits.{source_max};
+ghost use Rattle.safl_task.specs.Tasks.{only_prints};
 ghost use Rattle.safl_tool.specs.Answers.{printed};
-ghost use Rattle.safl_tool.specs.CommandTasks.{GivesMeasure, NeverRefuses, RefusesGiven, result as result_of};
+ghost use Rattle.safl_tool.specs.CommandTasks.{GivesMeasure, RefusesGiven};
 ghost use Rattle.safl_tool.specs.Refusals.{RefusesBy};
 ghost use Rattle.safl_tool.specs.Reporting.{HasHead, made_args, made_source};
 
@@ -23,8 +24,8 @@ use std::alloc::{AllocError, Global};
 
 /// The source of `count` functions and main for a seed.
 pub fn gen_lines<'a>(alloc: Global, seed: u64, count: Count) -> Result<Lines, Refusal<'a>>
-    ensures gives { IfOk result (λ l. printed l ≡ result_of (made_source seed count.functions)) }
-    ensures refused { IfErr result (RefusesBy NeverRefuses) }
+    ensures gives { IfOk result (λ l. printed l ≡ only_prints true (made_source seed count.functions)) }
+    ensures refused { IfErr result (RefusesBy (λ s line. ⊥)) }
 {
     match source_of(alloc, seed, count) {
         Ok(text) => Ok(Lines { comes: true, text }),

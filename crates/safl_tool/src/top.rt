@@ -46,7 +46,7 @@ pub fn run<S: Shelf, O: Sink, E: Sink>(
     // The cause of each status, what was given, and what `err` got.
     ensures ends { EndsOn words.now S.told shelf.old shelf.new O.told out.old out.new E.told err.old err.new (λ p. state p) probes.old probes.new result }
     // What holds of every command.
-    ensures follows { FollowsOn words.now S.told shelf.old shelf.new O.told out.old out.new E.told err.old err.new (λ p. state p) probes.old probes.new result }
+    ensures follows { FollowsOn words.now S.told shelf.old shelf.new O.told out.old out.new (λ p. state p) probes.old probes.new result }
 {
     one_program_law();
     not_both_law();

@@ -4,8 +4,8 @@ use Rattle.std.proofs.lemmas.List.{map_push}
 use Rattle.safl_command.specs.Traces.{Traces, files}
 use Rattle.safl_probe.specs.Watching.{kind_of}
 use Rattle.safl_probe.specs.Asked.{Asked, asked}
-use Rattle.safl_tool.specs.Asking.{traces_given}
-use Rattle.safl_tool.specs.Tracing.{file_of_kind, without, is_any_given, asked_by, left_by, have_probes, kinds_of}
+use Rattle.safl_tool.specs.Asking.{traces_given, is_any_given}
+use Rattle.safl_tool.specs.Tracing.{file_of_kind, without, asked_by, have_probes, kinds_of}
 use Rattle.safl_tool.proofs.Asked.{kind_at, kinds_long, asked_more, left_more, asked_all, left_all}
 use Rattle.safl_tool.proofs.asking.asked_files.Goals as goal
 
@@ -23,7 +23,7 @@ probes-init g c =
     let w : Traces = files c.in_ok-vcd.vcd c.in_ok-starts.starts c.in_ok-toggles.toggles in
     record {
       asked = ap (λ (l : List (Option (String Global))). asked l ++ asked_by w ks) c.new-files.ensures.items ∙ ap (λ t. asked_by t ks) all;
-      left = ap (λ t. left_by t ks) all;
+      left = ap (λ t. have_probes t ks) all;
     }
 
 pub probes-preserved : goal.probes-preserved
@@ -44,12 +44,12 @@ probes-preserved g c =
       asked =
           ap (λ (l : Asked). l ++ asked_by u (drop (c.probes.i + 1) ks)) (ap asked c.in_ok-push.ensures.items ∙ more)
           ∙ asked_more ks c.probes.i (get_or ks c.probes.i 0) w u (asked c.probes.files.items) (option_map string_bytes c.taken-file.result) all lt refl file rest c.probes.invariant.asked;
-      left = left_more ks c.probes.i (get_or ks c.probes.i 0) w u (left_by (traces_given c.args.traces) ks) lt refl rest c.probes.invariant.left;
+      left = left_more ks c.probes.i (get_or ks c.probes.i 0) w u (have_probes (traces_given c.args.traces) ks) lt refl rest c.probes.invariant.left;
     }
 
--- what is left is what no probe is for
-no_probe : (t w : Traces) (ks : List ℕ) (i : ℕ) (any some : Bool) → length ks ≤ i → left_by w (drop i ks) ≡ left_by t ks → any ≡ is_any_given w → any ≡ some → have_probes t ks ≡ not some
-no_probe t w ks i any some le h e is = sym (ap not (sym is ∙ e ∙ ap is_any_given (left_all ks i w (left_by t ks) le h)))
+-- the probes are there where no file is left
+no_probe : (t w : Traces) (ks : List ℕ) (i : ℕ) (any some : Bool) → length ks ≤ i → have_probes w (drop i ks) ≡ have_probes t ks → any ≡ is_any_given w → any ≡ some → have_probes t ks ≡ not some
+no_probe t w ks i any some le h e is = sym (ap not (sym is ∙ e) ∙ left_all ks i w (have_probes t ks) le h)
 
 pub returns-then-is_any : goal.returns-then-is_any
 returns-then-is_any g c =

@@ -1,16 +1,16 @@
-use Rattle.std.proofs.Common.{◌≡◌, ◌≤◌, ℕ, List, String, Global, [], ◌∷◌, None, length, map, string_bytes, codes, refl, sym, subst, ◌∙◌}
+use Rattle.std.proofs.Common.{◌≡◌, ◌≤◌, ℕ, List, String, Global, [], ◌∷◌, None, length, map, string_bytes, codes, refl, sym, subst, true, ◌∙◌}
 use Rattle.std.specs.Prelude.{IfOk, IfErr}
-use Rattle.safl_command.specs.Commands.{shown_command}
+use Rattle.safl_command.specs.Commands.{Bench, Gen, shown_command}
 use Rattle.safl_command.specs.Traces.{shown_traces}
 use Rattle.safl_command.specs.declared.command.Command.{Command}
-use Rattle.safl_task.specs.Inputs.{shown_contents, source_file, script_file, verilog_file, aig_file}
+use Rattle.safl_task.specs.Inputs.{shown_contents, file_within}
 use Rattle.safl_task.specs.Limits.{script_max, verilog_max, aig_max}
 use Rattle.safl_word.specs.Limits.{source_max}
-use Rattle.safl_task.specs.Tasks.{Task, AreContents}
+use Rattle.safl_task.specs.Tasks.{Task, AreContents, only_prints}
 use Rattle.safl_tool.specs.Answers.{Answers, printed, traces_for}
 use Rattle.safl_tool.specs.BitLevel.{GivesBits, GivesCounts, HasBits, IsAig, RefusesAig, RefusesBitsOf}
 use Rattle.safl_tool.specs.Calling.{GivesReplies, EvaluatesEach}
-use Rattle.safl_tool.specs.CommandTasks.{command_task, traces_in, gen_task, bench_task, result, NeverRefuses, GivesMeasure, RefusesSourceOf}
+use Rattle.safl_tool.specs.CommandTasks.{command_task, traces_in, GivesMeasure, RefusesSourceOf}
 use Rattle.safl_tool.specs.CommandTasks.{RefusesGiven, RefusesText, RefusesReshaping, RefusesSession, GivesNumbers, GivesCircuit, GivesOptimised}
 use Rattle.safl_tool.specs.CommandTasks.{GivesTraces, GivesWalk, GivesRun}
 use Rattle.safl_tool.specs.ReadySession.{IsReadySession}
@@ -39,13 +39,13 @@ task m = command_task (shown_command m)
 
 pub check_lines-requires : goal.check_lines-requires
 check_lines-requires c = subst (λ (l : List ℕ). length l ≤ source_max) (sym c.content-first.ensures)
-    (one_within (source_file (string_bytes c.in-Check.input)) (shown_contents c.args.contents.now)
+    (one_within (file_within (string_bytes c.in-Check.input) source_max) (shown_contents c.args.contents.now)
     (subst (λ (m : Command). AreContents None (task m).inputs (shown_contents c.args.contents.now)) c.in-Check.is c.requires))
 
 pub returns-in-Check-clause-answers : goal.returns-in-Check-clause-answers
 returns-in-Check-clause-answers c =
     subst (λ (m : Command). IfOk c.printed.result (Answers (task m) (shown_contents c.args.contents.now))) (sym c.in-Check.is)
-    (prints (source_file (string_bytes c.in-Check.input)) (RefusesSourceOf (string_bytes c.in-Check.input)) (GivesNumbers) (IsAccepted)
+    (prints (file_within (string_bytes c.in-Check.input) source_max) (RefusesSourceOf (string_bytes c.in-Check.input)) (GivesNumbers) (IsAccepted)
     (shown_contents c.args.contents.now) (subst (λ (m : Command). AreContents None (task m).inputs (shown_contents c.args.contents.now))
     c.in-Check.is c.requires) c.content-first.result.now c.content-first.ensures c.check_lines.result c.printed.result c.printed.ensures c.check_lines.ensures.gives)
 
@@ -60,7 +60,7 @@ returns-in-Check-clause-shows c = shows_none c.printed.result c.args.command.now
 pub returns-in-Check-clause-refused : goal.returns-in-Check-clause-refused
 returns-in-Check-clause-refused c =
     subst (λ (m : Command). IfErr c.printed.result (Declines (task m) (shown_contents c.args.contents.now))) (sym c.in-Check.is)
-    (declines (source_file (string_bytes c.in-Check.input)) (RefusesSourceOf (string_bytes c.in-Check.input)) (GivesNumbers) (IsAccepted)
+    (declines (file_within (string_bytes c.in-Check.input) source_max) (RefusesSourceOf (string_bytes c.in-Check.input)) (GivesNumbers) (IsAccepted)
     (shown_contents c.args.contents.now) (subst (λ (m : Command). AreContents None (task m).inputs (shown_contents c.args.contents.now))
     c.in-Check.is c.requires) c.content-first.result.now c.content-first.ensures answer.Printed [] c.check_lines.result c.printed.result
     c.printed.ensures (subst (λ (n : List ℕ). IfErr c.check_lines.result (RefusesBy (RefusesSourceOf n c.content-first.result.now)))
@@ -70,13 +70,13 @@ returns-in-Check-clause-refused c =
 
 pub circuit_text-requires : goal.circuit_text-requires
 circuit_text-requires c = subst (λ (l : List ℕ). length l ≤ source_max) (sym c.content-first.ensures)
-    (one_within (source_file (string_bytes c.in-Build.input)) (shown_contents c.args.contents.now)
+    (one_within (file_within (string_bytes c.in-Build.input) source_max) (shown_contents c.args.contents.now)
     (subst (λ (m : Command). AreContents None (task m).inputs (shown_contents c.args.contents.now)) c.in-Build.is c.requires))
 
 pub returns-in-Build-clause-answers : goal.returns-in-Build-clause-answers
 returns-in-Build-clause-answers c =
     subst (λ (m : Command). IfOk c.written.result (Answers (task m) (shown_contents c.args.contents.now))) (sym c.in-Build.is)
-    (writes (source_file (string_bytes c.in-Build.input)) (RefusesSourceOf (string_bytes c.in-Build.input)) (GivesCircuit) (IsAccepted)
+    (writes (file_within (string_bytes c.in-Build.input) source_max) (RefusesSourceOf (string_bytes c.in-Build.input)) (GivesCircuit) (IsAccepted)
     (shown_contents c.args.contents.now) (subst (λ (m : Command). AreContents None (task m).inputs (shown_contents c.args.contents.now))
     c.in-Build.is c.requires) c.content-first.result.now c.content-first.ensures c.deref-in-Build.result (string_bytes c.in-Build.output)
     c.deref-in-Build.ensures c.circuit_text.result c.written.result c.written.ensures c.circuit_text.ensures.gives)
@@ -92,7 +92,7 @@ returns-in-Build-clause-shows c = shows_none c.written.result c.args.command.now
 pub returns-in-Build-clause-refused : goal.returns-in-Build-clause-refused
 returns-in-Build-clause-refused c =
     subst (λ (m : Command). IfErr c.written.result (Declines (task m) (shown_contents c.args.contents.now))) (sym c.in-Build.is)
-    (declines (source_file (string_bytes c.in-Build.input)) (RefusesSourceOf (string_bytes c.in-Build.input)) (GivesCircuit) (IsAccepted)
+    (declines (file_within (string_bytes c.in-Build.input) source_max) (RefusesSourceOf (string_bytes c.in-Build.input)) (GivesCircuit) (IsAccepted)
     (shown_contents c.args.contents.now) (subst (λ (m : Command). AreContents None (task m).inputs (shown_contents c.args.contents.now))
     c.in-Build.is c.requires) c.content-first.result.now c.content-first.ensures (answer.File c.deref-in-Build.result)
     (string_bytes c.in-Build.output ∷ []) c.circuit_text.result c.written.result c.written.ensures
@@ -103,13 +103,13 @@ returns-in-Build-clause-refused c =
 
 pub optimised_text-requires : goal.optimised_text-requires
 optimised_text-requires c = subst (λ (l : List ℕ). length l ≤ source_max) (sym c.content-first.ensures)
-    (one_within (source_file (string_bytes c.in-Optimise.input)) (shown_contents c.args.contents.now)
+    (one_within (file_within (string_bytes c.in-Optimise.input) source_max) (shown_contents c.args.contents.now)
     (subst (λ (m : Command). AreContents None (task m).inputs (shown_contents c.args.contents.now)) c.in-Optimise.is c.requires))
 
 pub returns-in-Optimise-clause-answers : goal.returns-in-Optimise-clause-answers
 returns-in-Optimise-clause-answers c =
     subst (λ (m : Command). IfOk c.written-in-Optimise.result (Answers (task m) (shown_contents c.args.contents.now))) (sym c.in-Optimise.is)
-    (writes (source_file (string_bytes c.in-Optimise.input)) (RefusesSourceOf (string_bytes c.in-Optimise.input)) (GivesOptimised) (IsAccepted)
+    (writes (file_within (string_bytes c.in-Optimise.input) source_max) (RefusesSourceOf (string_bytes c.in-Optimise.input)) (GivesOptimised) (IsAccepted)
     (shown_contents c.args.contents.now) (subst (λ (m : Command). AreContents None (task m).inputs (shown_contents c.args.contents.now))
     c.in-Optimise.is c.requires) c.content-first.result.now c.content-first.ensures c.deref-in-Optimise.result (string_bytes c.in-Optimise.output)
     c.deref-in-Optimise.ensures c.optimised_text.result c.written-in-Optimise.result c.written-in-Optimise.ensures c.optimised_text.ensures.gives)
@@ -125,7 +125,7 @@ returns-in-Optimise-clause-shows c = shows_none c.written-in-Optimise.result c.a
 pub returns-in-Optimise-clause-refused : goal.returns-in-Optimise-clause-refused
 returns-in-Optimise-clause-refused c =
     subst (λ (m : Command). IfErr c.written-in-Optimise.result (Declines (task m) (shown_contents c.args.contents.now))) (sym c.in-Optimise.is)
-    (declines (source_file (string_bytes c.in-Optimise.input)) (RefusesSourceOf (string_bytes c.in-Optimise.input)) (GivesOptimised) (IsAccepted)
+    (declines (file_within (string_bytes c.in-Optimise.input) source_max) (RefusesSourceOf (string_bytes c.in-Optimise.input)) (GivesOptimised) (IsAccepted)
     (shown_contents c.args.contents.now) (subst (λ (m : Command). AreContents None (task m).inputs (shown_contents c.args.contents.now))
     c.in-Optimise.is c.requires) c.content-first.result.now c.content-first.ensures (answer.File c.deref-in-Optimise.result)
     (string_bytes c.in-Optimise.output ∷ []) c.optimised_text.result c.written-in-Optimise.result c.written-in-Optimise.ensures
@@ -136,13 +136,13 @@ returns-in-Optimise-clause-refused c =
 
 pub ready_source-requires : goal.ready_source-requires
 ready_source-requires c = subst (λ (l : List ℕ). length l ≤ source_max) (sym c.content-first.ensures)
-    (one_within (source_file (string_bytes c.in-Sim.input)) (shown_contents c.args.contents.now)
+    (one_within (file_within (string_bytes c.in-Sim.input) source_max) (shown_contents c.args.contents.now)
     (subst (λ (m : Command). AreContents None (task m).inputs (shown_contents c.args.contents.now)) c.in-Sim.is c.requires))
 
 pub returns-in-Sim-clause-answers : goal.returns-in-Sim-clause-answers
 returns-in-Sim-clause-answers c =
     subst (λ (m : Command). IfOk c.traced.result (Answers (task m) (shown_contents c.args.contents.now))) (sym c.in-Sim.is)
-    (answers_with (source_file (string_bytes c.in-Sim.input)) (RefusesGiven (string_bytes c.in-Sim.input) (map string_bytes c.in-Sim.args.items))
+    (answers_with (file_within (string_bytes c.in-Sim.input) source_max) (RefusesGiven (string_bytes c.in-Sim.input) (map string_bytes c.in-Sim.args.items))
     (GivesTraces (shown_traces c.in-Sim.traces) (map string_bytes c.in-Sim.args.items) c.in-Sim.limit)
     (λ source. Evaluates source (map string_bytes c.in-Sim.args.items) (InCycles c.in-Sim.limit)) (shown_contents c.args.contents.now)
     (subst (λ (m : Command). AreContents None (task m).inputs (shown_contents c.args.contents.now)) c.in-Sim.is c.requires)
@@ -162,7 +162,7 @@ returns-in-Sim-clause-traces c =
 pub returns-in-Sim-clause-shows : goal.returns-in-Sim-clause-shows
 returns-in-Sim-clause-shows c =
     subst (λ (m : Command). IfOk c.traced.result (ShowsFor (shown_command m) (shown_contents c.args.contents.now))) (sym c.in-Sim.is)
-    (shows_run (source_file (string_bytes c.in-Sim.input)) (shown_contents c.args.contents.now)
+    (shows_run (file_within (string_bytes c.in-Sim.input) source_max) (shown_contents c.args.contents.now)
     (subst (λ (m : Command). AreContents None (task m).inputs (shown_contents c.args.contents.now)) c.in-Sim.is c.requires)
     c.content-first.result.now c.content-first.ensures (map string_bytes c.in-Sim.args.items) c.in-Sim.limit _ (string_bytes c.in-Sim.input)
     (shown_traces c.in-Sim.traces) c.ready_source.result c.traced.result c.traced.ensures
@@ -171,7 +171,7 @@ returns-in-Sim-clause-shows c =
 pub returns-in-Sim-clause-refused : goal.returns-in-Sim-clause-refused
 returns-in-Sim-clause-refused c =
     subst (λ (m : Command). IfErr c.traced.result (Declines (task m) (shown_contents c.args.contents.now))) (sym c.in-Sim.is)
-    (declines (source_file (string_bytes c.in-Sim.input)) (RefusesGiven (string_bytes c.in-Sim.input) (map string_bytes c.in-Sim.args.items))
+    (declines (file_within (string_bytes c.in-Sim.input) source_max) (RefusesGiven (string_bytes c.in-Sim.input) (map string_bytes c.in-Sim.args.items))
     (GivesTraces (shown_traces c.in-Sim.traces) (map string_bytes c.in-Sim.args.items) c.in-Sim.limit)
     (λ source. Evaluates source (map string_bytes c.in-Sim.args.items) (InCycles c.in-Sim.limit)) (shown_contents c.args.contents.now)
     (subst (λ (m : Command). AreContents None (task m).inputs (shown_contents c.args.contents.now)) c.in-Sim.is c.requires)
@@ -186,13 +186,13 @@ returns-in-Sim-clause-refused c =
 
 pub walk_lines-requires : goal.walk_lines-requires
 walk_lines-requires c = subst (λ (l : List ℕ). length l ≤ source_max) (sym c.content-first.ensures)
-    (one_within (source_file (string_bytes c.in-Walk.input)) (shown_contents c.args.contents.now)
+    (one_within (file_within (string_bytes c.in-Walk.input) source_max) (shown_contents c.args.contents.now)
     (subst (λ (m : Command). AreContents None (task m).inputs (shown_contents c.args.contents.now)) c.in-Walk.is c.requires))
 
 pub returns-in-Walk-clause-answers : goal.returns-in-Walk-clause-answers
 returns-in-Walk-clause-answers c =
     subst (λ (m : Command). IfOk c.printed-in-Walk.result (Answers (task m) (shown_contents c.args.contents.now))) (sym c.in-Walk.is)
-    (prints (source_file (string_bytes c.in-Walk.input)) (RefusesGiven (string_bytes c.in-Walk.input) (map string_bytes c.in-Walk.args.items))
+    (prints (file_within (string_bytes c.in-Walk.input) source_max) (RefusesGiven (string_bytes c.in-Walk.input) (map string_bytes c.in-Walk.args.items))
     (GivesWalk (map string_bytes c.in-Walk.args.items) c.in-Walk.turns.seed c.in-Walk.turns.steps)
     (λ source. Evaluates source (map string_bytes c.in-Walk.args.items) (InEvents c.in-Walk.turns.steps)) (shown_contents c.args.contents.now)
     (subst (λ (m : Command). AreContents None (task m).inputs (shown_contents c.args.contents.now)) c.in-Walk.is c.requires)
@@ -212,7 +212,7 @@ returns-in-Walk-clause-shows c = shows_none c.printed-in-Walk.result c.args.comm
 pub returns-in-Walk-clause-refused : goal.returns-in-Walk-clause-refused
 returns-in-Walk-clause-refused c =
     subst (λ (m : Command). IfErr c.printed-in-Walk.result (Declines (task m) (shown_contents c.args.contents.now))) (sym c.in-Walk.is)
-    (declines (source_file (string_bytes c.in-Walk.input)) (RefusesGiven (string_bytes c.in-Walk.input) (map string_bytes c.in-Walk.args.items))
+    (declines (file_within (string_bytes c.in-Walk.input) source_max) (RefusesGiven (string_bytes c.in-Walk.input) (map string_bytes c.in-Walk.args.items))
     (GivesWalk (map string_bytes c.in-Walk.args.items) c.in-Walk.turns.seed c.in-Walk.turns.steps)
     (λ source. Evaluates source (map string_bytes c.in-Walk.args.items) (InEvents c.in-Walk.turns.steps)) (shown_contents c.args.contents.now)
     (subst (λ (m : Command). AreContents None (task m).inputs (shown_contents c.args.contents.now)) c.in-Walk.is c.requires)
@@ -227,13 +227,13 @@ returns-in-Walk-clause-refused c =
 
 pub run_lines-requires : goal.run_lines-requires
 run_lines-requires c = subst (λ (l : List ℕ). length l ≤ verilog_max) (sym c.content-first.ensures)
-    (one_within (verilog_file (string_bytes c.in-Run.input)) (shown_contents c.args.contents.now)
+    (one_within (file_within (string_bytes c.in-Run.input) verilog_max) (shown_contents c.args.contents.now)
     (subst (λ (m : Command). AreContents None (task m).inputs (shown_contents c.args.contents.now)) c.in-Run.is c.requires))
 
 pub returns-in-Run-clause-answers : goal.returns-in-Run-clause-answers
 returns-in-Run-clause-answers c =
     subst (λ (m : Command). IfOk c.printed-in-Run.result (Answers (task m) (shown_contents c.args.contents.now))) (sym c.in-Run.is)
-    (prints (verilog_file (string_bytes c.in-Run.input)) (RefusesText (string_bytes c.in-Run.input) (map string_bytes c.in-Run.args.items))
+    (prints (file_within (string_bytes c.in-Run.input) verilog_max) (RefusesText (string_bytes c.in-Run.input) (map string_bytes c.in-Run.args.items))
     (GivesRun (map string_bytes c.in-Run.args.items) c.in-Run.limit) (λ text. Finishes text (map string_bytes c.in-Run.args.items) c.in-Run.limit)
     (shown_contents c.args.contents.now) (subst (λ (m : Command). AreContents None (task m).inputs (shown_contents c.args.contents.now))
     c.in-Run.is c.requires) c.content-first.result.now c.content-first.ensures c.run_lines.result c.printed-in-Run.result c.printed-in-Run.ensures
@@ -251,7 +251,7 @@ returns-in-Run-clause-shows c = shows_none c.printed-in-Run.result c.args.comman
 pub returns-in-Run-clause-refused : goal.returns-in-Run-clause-refused
 returns-in-Run-clause-refused c =
     subst (λ (m : Command). IfErr c.printed-in-Run.result (Declines (task m) (shown_contents c.args.contents.now))) (sym c.in-Run.is)
-    (declines (verilog_file (string_bytes c.in-Run.input)) (RefusesText (string_bytes c.in-Run.input) (map string_bytes c.in-Run.args.items))
+    (declines (file_within (string_bytes c.in-Run.input) verilog_max) (RefusesText (string_bytes c.in-Run.input) (map string_bytes c.in-Run.args.items))
     (GivesRun (map string_bytes c.in-Run.args.items) c.in-Run.limit) (λ text. Finishes text (map string_bytes c.in-Run.args.items) c.in-Run.limit)
     (shown_contents c.args.contents.now) (subst (λ (m : Command). AreContents None (task m).inputs (shown_contents c.args.contents.now))
     c.in-Run.is c.requires) c.content-first.result.now c.content-first.ensures answer.Printed [] c.run_lines.result c.printed-in-Run.result
@@ -264,13 +264,13 @@ returns-in-Run-clause-refused c =
 
 pub report_lines-requires : goal.report_lines-requires
 report_lines-requires c = subst (λ (l : List ℕ). length l ≤ source_max) (sym c.content-first.ensures)
-    (one_within (source_file (string_bytes c.in-Report.input)) (shown_contents c.args.contents.now)
+    (one_within (file_within (string_bytes c.in-Report.input) source_max) (shown_contents c.args.contents.now)
     (subst (λ (m : Command). AreContents None (task m).inputs (shown_contents c.args.contents.now)) c.in-Report.is c.requires))
 
 pub returns-in-Report-clause-answers : goal.returns-in-Report-clause-answers
 returns-in-Report-clause-answers c =
     subst (λ (m : Command). IfOk c.printed-in-Report.result (Answers (task m) (shown_contents c.args.contents.now))) (sym c.in-Report.is)
-    (prints (source_file (string_bytes c.in-Report.input)) (RefusesSourceOf (string_bytes c.in-Report.input)) (GivesReport) (IsAccepted)
+    (prints (file_within (string_bytes c.in-Report.input) source_max) (RefusesSourceOf (string_bytes c.in-Report.input)) (GivesReport) (IsAccepted)
     (shown_contents c.args.contents.now) (subst (λ (m : Command). AreContents None (task m).inputs (shown_contents c.args.contents.now))
     c.in-Report.is c.requires) c.content-first.result.now c.content-first.ensures c.report_lines.result c.printed-in-Report.result
     c.printed-in-Report.ensures c.report_lines.ensures.gives)
@@ -286,7 +286,7 @@ returns-in-Report-clause-shows c = shows_none c.printed-in-Report.result c.args.
 pub returns-in-Report-clause-refused : goal.returns-in-Report-clause-refused
 returns-in-Report-clause-refused c =
     subst (λ (m : Command). IfErr c.printed-in-Report.result (Declines (task m) (shown_contents c.args.contents.now))) (sym c.in-Report.is)
-    (declines (source_file (string_bytes c.in-Report.input)) (RefusesSourceOf (string_bytes c.in-Report.input)) (GivesReport) (IsAccepted)
+    (declines (file_within (string_bytes c.in-Report.input) source_max) (RefusesSourceOf (string_bytes c.in-Report.input)) (GivesReport) (IsAccepted)
     (shown_contents c.args.contents.now) (subst (λ (m : Command). AreContents None (task m).inputs (shown_contents c.args.contents.now))
     c.in-Report.is c.requires) c.content-first.result.now c.content-first.ensures answer.Printed [] c.report_lines.result
     c.printed-in-Report.result c.printed-in-Report.ensures (subst
@@ -299,8 +299,8 @@ pub returns-in-Gen-clause-answers : goal.returns-in-Gen-clause-answers
 returns-in-Gen-clause-answers c =
     subst (λ (m : Command). IfOk c.printed-in-Gen.result (Answers (task m) (shown_contents c.args.contents.now))) (sym c.in-Gen.is)
     (given_on answer.Printed c.gen_lines.result c.printed-in-Gen.result c.printed-in-Gen.ensures
-    (λ l. printed l ≡ result (made_source c.in-Gen.seed c.in-Gen.count.functions))
-    (Answers (gen_task c.in-Gen.seed c.in-Gen.count.functions) (shown_contents c.args.contents.now))
+    (λ l. printed l ≡ only_prints true (made_source c.in-Gen.seed c.in-Gen.count.functions))
+    (Answers (command_task (Gen c.in-Gen.seed c.in-Gen.count.functions)) (shown_contents c.args.contents.now))
     (λ l p. record { gives = λ g e. e ∙ p; outputs = refl; can = tt }) c.gen_lines.ensures.gives)
 
 pub returns-in-Gen-clause-traces : goal.returns-in-Gen-clause-traces
@@ -315,7 +315,7 @@ pub returns-in-Gen-clause-refused : goal.returns-in-Gen-clause-refused
 returns-in-Gen-clause-refused c =
     subst (λ (m : Command). IfErr c.printed-in-Gen.result (Declines (task m) (shown_contents c.args.contents.now))) (sym c.in-Gen.is)
     (refused_on answer.Printed c.gen_lines.result c.printed-in-Gen.result c.printed-in-Gen.ensures
-    (Declines (gen_task c.in-Gen.seed c.in-Gen.count.functions) (shown_contents c.args.contents.now)) (RefusesBy NeverRefuses) (λ r h. h) c.gen_lines.ensures.refused)
+    (Declines (command_task (Gen c.in-Gen.seed c.in-Gen.count.functions)) (shown_contents c.args.contents.now)) (RefusesBy (λ s line. ⊥)) (λ r h. h) c.gen_lines.ensures.refused)
 
 -- ---- Bench
 
@@ -325,7 +325,7 @@ returns-in-Bench-clause-answers c =
     (given_on answer.Printed c.bench_lines.result c.printed-in-Bench.result c.printed-in-Bench.ensures
     (λ l. GivesMeasure (made_args c.in-Bench.seed c.in-Bench.count.functions) c.in-Bench.limit
     (made_source c.in-Bench.seed c.in-Bench.count.functions) (printed l))
-    (Answers (bench_task c.in-Bench.seed c.in-Bench.count.functions c.in-Bench.limit) (shown_contents c.args.contents.now))
+    (Answers (command_task (Bench c.in-Bench.seed c.in-Bench.count.functions c.in-Bench.limit)) (shown_contents c.args.contents.now))
     (λ l p. record {
       gives = λ g e. subst (GivesMeasure (made_args c.in-Bench.seed c.in-Bench.count.functions) c.in-Bench.limit
           (made_source c.in-Bench.seed c.in-Bench.count.functions)) (sym e) p;
@@ -345,7 +345,7 @@ pub returns-in-Bench-clause-refused : goal.returns-in-Bench-clause-refused
 returns-in-Bench-clause-refused c =
     subst (λ (m : Command). IfErr c.printed-in-Bench.result (Declines (task m) (shown_contents c.args.contents.now))) (sym c.in-Bench.is)
     (refused_on answer.Printed c.bench_lines.result c.printed-in-Bench.result c.printed-in-Bench.ensures
-    (Declines (bench_task c.in-Bench.seed c.in-Bench.count.functions c.in-Bench.limit) (shown_contents c.args.contents.now))
+    (Declines (command_task (Bench c.in-Bench.seed c.in-Bench.count.functions c.in-Bench.limit)) (shown_contents c.args.contents.now))
     (RefusesBy (RefusesGiven (codes "bench") (made_args c.in-Bench.seed c.in-Bench.count.functions)
     (made_source c.in-Bench.seed c.in-Bench.count.functions))) (λ r h. h) c.bench_lines.ensures.refused)
 
@@ -353,13 +353,13 @@ returns-in-Bench-clause-refused c =
 
 pub copy_text-requires : goal.copy_text-requires
 copy_text-requires c = subst (λ (l : List ℕ). length l ≤ source_max) (sym c.content-first.ensures)
-    (one_within (source_file (string_bytes c.in-CopySite.input)) (shown_contents c.args.contents.now)
+    (one_within (file_within (string_bytes c.in-CopySite.input) source_max) (shown_contents c.args.contents.now)
     (subst (λ (m : Command). AreContents None (task m).inputs (shown_contents c.args.contents.now)) c.in-CopySite.is c.requires))
 
 pub returns-in-CopySite-clause-answers : goal.returns-in-CopySite-clause-answers
 returns-in-CopySite-clause-answers c =
     subst (λ (m : Command). IfOk c.written-in-CopySite.result (Answers (task m) (shown_contents c.args.contents.now))) (sym c.in-CopySite.is)
-    (writes (source_file (string_bytes c.in-CopySite.input)) (RefusesReshaping (copies c.in-CopySite.site) (string_bytes c.in-CopySite.input)
+    (writes (file_within (string_bytes c.in-CopySite.input) source_max) (RefusesReshaping (copies c.in-CopySite.site) (string_bytes c.in-CopySite.input)
     c.in-CopySite.site) (GivesReshaped (copies c.in-CopySite.site)) (IsReshapable (copies c.in-CopySite.site))
     (shown_contents c.args.contents.now) (subst (λ (m : Command). AreContents None (task m).inputs (shown_contents c.args.contents.now))
     c.in-CopySite.is c.requires) c.content-first.result.now c.content-first.ensures c.deref-in-CopySite.result (string_bytes c.in-CopySite.output)
@@ -376,7 +376,7 @@ returns-in-CopySite-clause-shows c = shows_none c.written-in-CopySite.result c.a
 pub returns-in-CopySite-clause-refused : goal.returns-in-CopySite-clause-refused
 returns-in-CopySite-clause-refused c =
     subst (λ (m : Command). IfErr c.written-in-CopySite.result (Declines (task m) (shown_contents c.args.contents.now))) (sym c.in-CopySite.is)
-    (declines (source_file (string_bytes c.in-CopySite.input))
+    (declines (file_within (string_bytes c.in-CopySite.input) source_max)
     (RefusesReshaping (copies c.in-CopySite.site) (string_bytes c.in-CopySite.input) c.in-CopySite.site)
     (GivesReshaped (copies c.in-CopySite.site)) (IsReshapable (copies c.in-CopySite.site)) (shown_contents c.args.contents.now)
     (subst (λ (m : Command). AreContents None (task m).inputs (shown_contents c.args.contents.now)) c.in-CopySite.is c.requires)
@@ -389,13 +389,13 @@ returns-in-CopySite-clause-refused c =
 
 pub unfold_text-requires : goal.unfold_text-requires
 unfold_text-requires c = subst (λ (l : List ℕ). length l ≤ source_max) (sym c.content-first.ensures)
-    (one_within (source_file (string_bytes c.in-UnfoldSite.input)) (shown_contents c.args.contents.now)
+    (one_within (file_within (string_bytes c.in-UnfoldSite.input) source_max) (shown_contents c.args.contents.now)
     (subst (λ (m : Command). AreContents None (task m).inputs (shown_contents c.args.contents.now)) c.in-UnfoldSite.is c.requires))
 
 pub returns-in-UnfoldSite-clause-answers : goal.returns-in-UnfoldSite-clause-answers
 returns-in-UnfoldSite-clause-answers c =
     subst (λ (m : Command). IfOk c.written-in-UnfoldSite.result (Answers (task m) (shown_contents c.args.contents.now))) (sym c.in-UnfoldSite.is)
-    (writes (source_file (string_bytes c.in-UnfoldSite.input))
+    (writes (file_within (string_bytes c.in-UnfoldSite.input) source_max)
     (RefusesReshaping (unfolds c.in-UnfoldSite.site) (string_bytes c.in-UnfoldSite.input) c.in-UnfoldSite.site)
     (GivesReshaped (unfolds c.in-UnfoldSite.site)) (IsReshapable (unfolds c.in-UnfoldSite.site)) (shown_contents c.args.contents.now)
     (subst (λ (m : Command). AreContents None (task m).inputs (shown_contents c.args.contents.now)) c.in-UnfoldSite.is c.requires)
@@ -413,7 +413,7 @@ returns-in-UnfoldSite-clause-shows c = shows_none c.written-in-UnfoldSite.result
 pub returns-in-UnfoldSite-clause-refused : goal.returns-in-UnfoldSite-clause-refused
 returns-in-UnfoldSite-clause-refused c =
     subst (λ (m : Command). IfErr c.written-in-UnfoldSite.result (Declines (task m) (shown_contents c.args.contents.now))) (sym c.in-UnfoldSite.is)
-    (declines (source_file (string_bytes c.in-UnfoldSite.input))
+    (declines (file_within (string_bytes c.in-UnfoldSite.input) source_max)
     (RefusesReshaping (unfolds c.in-UnfoldSite.site) (string_bytes c.in-UnfoldSite.input) c.in-UnfoldSite.site)
     (GivesReshaped (unfolds c.in-UnfoldSite.site)) (IsReshapable (unfolds c.in-UnfoldSite.site)) (shown_contents c.args.contents.now)
     (subst (λ (m : Command). AreContents None (task m).inputs (shown_contents c.args.contents.now)) c.in-UnfoldSite.is c.requires)
@@ -427,18 +427,18 @@ returns-in-UnfoldSite-clause-refused c =
 
 pub ready_session-requires-clause-source : goal.ready_session-requires-clause-source
 ready_session-requires-clause-source c = subst (λ (l : List ℕ). length l ≤ source_max) (sym c.content-first.ensures)
-    (two_within (source_file (string_bytes c.in-Session.input)) (script_file (string_bytes c.in-Session.script)) (shown_contents c.args.contents.now)
+    (two_within (file_within (string_bytes c.in-Session.input) source_max) (file_within (string_bytes c.in-Session.script) script_max) (shown_contents c.args.contents.now)
     (subst (λ (m : Command). AreContents None (task m).inputs (shown_contents c.args.contents.now)) c.in-Session.is c.requires)).0
 
 pub ready_session-requires-clause-script : goal.ready_session-requires-clause-script
 ready_session-requires-clause-script c = subst (λ (l : List ℕ). length l ≤ script_max) (sym c.content-second.ensures)
-    (two_within (source_file (string_bytes c.in-Session.input)) (script_file (string_bytes c.in-Session.script)) (shown_contents c.args.contents.now)
+    (two_within (file_within (string_bytes c.in-Session.input) source_max) (file_within (string_bytes c.in-Session.script) script_max) (shown_contents c.args.contents.now)
     (subst (λ (m : Command). AreContents None (task m).inputs (shown_contents c.args.contents.now)) c.in-Session.is c.requires)).1
 
 pub returns-in-Session-clause-answers : goal.returns-in-Session-clause-answers
 returns-in-Session-clause-answers c =
     subst (λ (m : Command). IfOk c.replied.result (Answers (task m) (shown_contents c.args.contents.now))) (sym c.in-Session.is)
-    (both_answers (source_file (string_bytes c.in-Session.input)) (script_file (string_bytes c.in-Session.script))
+    (both_answers (file_within (string_bytes c.in-Session.input) source_max) (file_within (string_bytes c.in-Session.script) script_max)
     (RefusesSession (string_bytes c.in-Session.input)) (GivesReplies c.in-Session.limit)
     (λ source text. EvaluatesEach source text c.in-Session.limit) (shown_contents c.args.contents.now)
     (subst (λ (m : Command). AreContents None (task m).inputs (shown_contents c.args.contents.now)) c.in-Session.is c.requires)
@@ -460,7 +460,7 @@ returns-in-Session-clause-shows c = shows_none c.replied.result c.args.command.n
 pub returns-in-Session-clause-refused : goal.returns-in-Session-clause-refused
 returns-in-Session-clause-refused c =
     subst (λ (m : Command). IfErr c.replied.result (Declines (task m) (shown_contents c.args.contents.now))) (sym c.in-Session.is)
-    (both_declines (source_file (string_bytes c.in-Session.input)) (script_file (string_bytes c.in-Session.script))
+    (both_declines (file_within (string_bytes c.in-Session.input) source_max) (file_within (string_bytes c.in-Session.script) script_max)
     (RefusesSession (string_bytes c.in-Session.input)) (GivesReplies c.in-Session.limit)
     (λ source text. EvaluatesEach source text c.in-Session.limit) (shown_contents c.args.contents.now)
     (subst (λ (m : Command). AreContents None (task m).inputs (shown_contents c.args.contents.now)) c.in-Session.is c.requires)
@@ -473,13 +473,13 @@ returns-in-Session-clause-refused c =
 
 pub aig_text-requires : goal.aig_text-requires
 aig_text-requires c = subst (λ (l : List ℕ). length l ≤ verilog_max) (sym c.content-first.ensures)
-    (one_within (verilog_file (string_bytes c.in-Aig.input)) (shown_contents c.args.contents.now)
+    (one_within (file_within (string_bytes c.in-Aig.input) verilog_max) (shown_contents c.args.contents.now)
     (subst (λ (m : Command). AreContents None (task m).inputs (shown_contents c.args.contents.now)) c.in-Aig.is c.requires))
 
 pub returns-in-Aig-clause-answers : goal.returns-in-Aig-clause-answers
 returns-in-Aig-clause-answers c =
     subst (λ (m : Command). IfOk c.written-in-Aig.result (Answers (task m) (shown_contents c.args.contents.now))) (sym c.in-Aig.is)
-    (writes (verilog_file (string_bytes c.in-Aig.input)) (RefusesBitsOf (string_bytes c.in-Aig.input)) (GivesBits) (HasBits)
+    (writes (file_within (string_bytes c.in-Aig.input) verilog_max) (RefusesBitsOf (string_bytes c.in-Aig.input)) (GivesBits) (HasBits)
     (shown_contents c.args.contents.now) (subst (λ (m : Command). AreContents None (task m).inputs (shown_contents c.args.contents.now))
     c.in-Aig.is c.requires) c.content-first.result.now c.content-first.ensures c.deref-in-Aig.result (string_bytes c.in-Aig.output)
     c.deref-in-Aig.ensures c.aig_text.result c.written-in-Aig.result c.written-in-Aig.ensures c.aig_text.ensures.gives)
@@ -495,7 +495,7 @@ returns-in-Aig-clause-shows c = shows_none c.written-in-Aig.result c.args.comman
 pub returns-in-Aig-clause-refused : goal.returns-in-Aig-clause-refused
 returns-in-Aig-clause-refused c =
     subst (λ (m : Command). IfErr c.written-in-Aig.result (Declines (task m) (shown_contents c.args.contents.now))) (sym c.in-Aig.is)
-    (declines (verilog_file (string_bytes c.in-Aig.input)) (RefusesBitsOf (string_bytes c.in-Aig.input)) (GivesBits) (HasBits)
+    (declines (file_within (string_bytes c.in-Aig.input) verilog_max) (RefusesBitsOf (string_bytes c.in-Aig.input)) (GivesBits) (HasBits)
     (shown_contents c.args.contents.now) (subst (λ (m : Command). AreContents None (task m).inputs (shown_contents c.args.contents.now))
     c.in-Aig.is c.requires) c.content-first.result.now c.content-first.ensures (answer.File c.deref-in-Aig.result)
     (string_bytes c.in-Aig.output ∷ []) c.aig_text.result c.written-in-Aig.result c.written-in-Aig.ensures
@@ -505,13 +505,13 @@ returns-in-Aig-clause-refused c =
 
 pub aigstat_lines-requires : goal.aigstat_lines-requires
 aigstat_lines-requires c = subst (λ (l : List ℕ). length l ≤ aig_max) (sym c.content-first.ensures)
-    (one_within (aig_file (string_bytes c.in-Aigstat.input)) (shown_contents c.args.contents.now)
+    (one_within (file_within (string_bytes c.in-Aigstat.input) aig_max) (shown_contents c.args.contents.now)
     (subst (λ (m : Command). AreContents None (task m).inputs (shown_contents c.args.contents.now)) c.in-Aigstat.is c.requires))
 
 pub returns-in-Aigstat-clause-answers : goal.returns-in-Aigstat-clause-answers
 returns-in-Aigstat-clause-answers c =
     subst (λ (m : Command). IfOk c.printed-in-Aigstat.result (Answers (task m) (shown_contents c.args.contents.now))) (sym c.in-Aigstat.is)
-    (prints (aig_file (string_bytes c.in-Aigstat.input)) (RefusesAig (string_bytes c.in-Aigstat.input)) (GivesCounts) (IsAig)
+    (prints (file_within (string_bytes c.in-Aigstat.input) aig_max) (RefusesAig (string_bytes c.in-Aigstat.input)) (GivesCounts) (IsAig)
     (shown_contents c.args.contents.now) (subst (λ (m : Command). AreContents None (task m).inputs (shown_contents c.args.contents.now))
     c.in-Aigstat.is c.requires) c.content-first.result.now c.content-first.ensures c.aigstat_lines.result c.printed-in-Aigstat.result
     c.printed-in-Aigstat.ensures c.aigstat_lines.ensures.gives)
@@ -527,7 +527,7 @@ returns-in-Aigstat-clause-shows c = shows_none c.printed-in-Aigstat.result c.arg
 pub returns-in-Aigstat-clause-refused : goal.returns-in-Aigstat-clause-refused
 returns-in-Aigstat-clause-refused c =
     subst (λ (m : Command). IfErr c.printed-in-Aigstat.result (Declines (task m) (shown_contents c.args.contents.now))) (sym c.in-Aigstat.is)
-    (declines (aig_file (string_bytes c.in-Aigstat.input)) (RefusesAig (string_bytes c.in-Aigstat.input)) (GivesCounts) (IsAig)
+    (declines (file_within (string_bytes c.in-Aigstat.input) aig_max) (RefusesAig (string_bytes c.in-Aigstat.input)) (GivesCounts) (IsAig)
     (shown_contents c.args.contents.now) (subst (λ (m : Command). AreContents None (task m).inputs (shown_contents c.args.contents.now))
     c.in-Aigstat.is c.requires) c.content-first.result.now c.content-first.ensures answer.Printed [] c.aigstat_lines.result
     c.printed-in-Aigstat.result c.printed-in-Aigstat.ensures
