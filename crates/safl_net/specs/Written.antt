@@ -3,7 +3,9 @@ use Rattle.std.specs.Prelude.{ℕ, ◌-◌, List, [], ◌∷◌, ◌++◌, Some,
 use Rattle.std.specs.List.{flat_map}
 use Rattle.std.specs.Fmt.{decimal}
 use Rattle.safl_word.specs.declared.primitive.Primitive.{Primitive}
-use Rattle.safl_word.specs.declared.primitive.Primitive.TheVariants.{Add, Sub, Mul, And, Or, Xor, Not, Eq, Ne, Lt, Le, Gt, Ge, Shl, Shr, Cat, Bits, Ext}
+use Rattle.safl_word.specs.declared.primitive.Primitive.TheVariants.{Not, Cat, Bits, Ext}
+use Rattle.safl_word.specs.Tokens.{sym_text}
+use Rattle.safl_word.specs.Operators.{symbol_of}
 use Rattle.safl_net.specs.declared.cell.Op.{Op}
 use Rattle.safl_net.specs.declared.cell.Op.TheVariants.{Const, Copy, Mux, Apply}
 use Rattle.safl_net.specs.Netlist.{Netlist, Signal, Kind, Input, Reg, Wire, width_of}
@@ -24,24 +26,6 @@ range width = codes "[" ++ decimal (width - 1) ++ codes ":0]"
 abbrev pub declaration : Text → ℕ → Text → Text
 declaration keyword width name = codes "  " ++ keyword ++ codes " " ++ range width ++ codes " " ++ name ++ codes ";\n"
 
--- the symbol of an operator with two operands
-abbrev pub sign : Primitive → Text
-sign Add = codes "+"
-sign Sub = codes "-"
-sign Mul = codes "*"
-sign And = codes "&"
-sign Or = codes "|"
-sign Xor = codes "^"
-sign Eq = codes "=="
-sign Ne = codes "!="
-sign Lt = codes "<"
-sign Le = codes "<="
-sign Gt = codes ">"
-sign Ge = codes ">="
-sign Shl = codes "<<"
-sign Shr = codes ">>"
-sign _ = []
-
 -- the bits of a word from high down to low
 abbrev pub slice : ℕ → ℕ → Text
 slice high low = codes "[" ++ decimal high ++ codes ":" ++ decimal low ++ codes "]"
@@ -54,7 +38,7 @@ applied Cat (a ∷ b ∷ []) = codes "{" ++ a ++ codes ", " ++ b ++ codes "}"
 applied (Bits high low) (a ∷ []) = a ++ slice high low
 applied (Bits high low) _ = []
 applied (Ext width) _ = []
-applied p (a ∷ b ∷ []) = a ++ codes " " ++ sign p ++ codes " " ++ b
+applied p (a ∷ b ∷ []) = a ++ codes " " ++ sym_text (symbol_of p) ++ codes " " ++ b
 applied _ _ = []
 
 abbrev pub operation : Op → List Text → Text

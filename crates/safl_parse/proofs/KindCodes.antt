@@ -11,7 +11,7 @@ use Rattle.safl_word.specs.contracts.token.KeyPartialEq.TheImpl as same_keys
 use Rattle.safl_word.specs.contracts.token.SymPartialEq.TheImpl as same_syms
 use Rattle.safl_word.specs.contracts.token.TokenKindPartialEq.TheImpl as same_kinds
 use Rattle.safl_word.proofs.Booleans.{if_same}
-use Rattle.safl_tree.specs.Terminals.{word_code, symbol_code, code_of}
+use Rattle.safl_tree.specs.Codes.{word_code, symbol_code, code_of}
 use Rattle.safl_parse.specs.Numberless.{HasNoNumber}
 
 by_key : (k l : Key) → (same_keys.ghosts).eq k l ≡ (word_code k == word_code l)

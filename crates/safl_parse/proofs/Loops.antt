@@ -6,7 +6,8 @@ use Rattle.safl_grammar.proofs.Small.{Small, Eats, small, small_nothing, eats_to
 use Rattle.safl_word.specs.declared.token.Key.TheVariants as keys
 use Rattle.safl_word.specs.declared.token.Sym.TheVariants as syms
 use Rattle.safl_tree.specs.Tree.{Tree, Bound, Parameter}
-use Rattle.safl_tree.specs.Terminals.{Terminal, word_code, symbol_code, marked, name, comes}
+use Rattle.safl_tree.specs.Terminals.{Terminal}
+use Rattle.safl_tree.specs.Codes.{word_code, symbol_code, marked, name, comes}
 use Rattle.safl_tree.specs.Reader.{read_bind, read_chained, read_compared, read_layer, read_chain, expr_at, read_another, read_another_bind}
 use Rattle.safl_tree.specs.Reader.{read_another_param, read_expr, read_cases, arms_at}
 use Rattle.safl_tree.proofs.KeptLevels.{expr_small}

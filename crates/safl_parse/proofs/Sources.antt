@@ -3,6 +3,7 @@ use Rattle.std.proofs.Common.{◌≡◌, ℕ, List, Result, Ok, Err, IfOk, IfErr
 use Rattle.safl_word.specs.declared.token.Token.{Token}
 use Rattle.safl_word.specs.declared.fault.Fault.{Fault}
 use Rattle.safl_word.specs.Tokens.{HasTokens}
+use Rattle.safl_word.proofs.Cuts.{fault_of_break}
 use Rattle.safl_word.proofs.TokensOnce.{tokens_once, not_both}
 use Rattle.safl_text.specs.declared.error.LexErr.{LexErr}
 use Rattle.safl_text.specs.declared.error.LexErr.TheVariants as lexing
@@ -55,14 +56,14 @@ at f a b = ap (λ (x : ℕ). fault_with f x f.second) a ∙ ap (λ (x : ℕ). fa
     fault_with f x y = record { rule = f.rule; place = f.place; first = x; second = y }
 
 lexical_fault : (text : List ℕ) (f : Fault) → RefusesTokens text (lexing.Refused f) → SyntaxFault text f
-lexical_fault text f h = lexical f.rule f.place h.0 (at f h.1 h.2)
+lexical_fault text f h = lexical f.rule f.place (fault_of_break text f.rule f.place h.0) (at f h.1 h.2)
 
 pub lexical_first : (text : List ℕ) (e : LexErr) → RefusesTokens text e → RefusedFirst text (error_of e)
 lexical_first text (lexing.Refused f) h = lexical_fault text f h
 lexical_first text lexing.NoMemory h = tt
 
 pub lexical_spelled : (text : List ℕ) (e : LexErr) (p : List Definition) → RefusesTokens text e → SpellsProgram text p → OnlyNoMemory (error_of e)
-lexical_spelled text (lexing.Refused f) p h s = not_both text s.tokens f.rule f.place s.cut h.0
+lexical_spelled text (lexing.Refused f) p h s = not_both text s.tokens f.rule f.place s.cut (fault_of_break text f.rule f.place h.0)
 lexical_spelled text lexing.NoMemory p h s = tt
 
 pub lexical_faulty : (text : List ℕ) (e : LexErr) (f : Fault) → RefusesTokens text e → SyntaxFault text f → IsFaultUnlessNoMemory f (Err (error_of e))

@@ -4,7 +4,8 @@ ghost use Rattle.std.specs.Prelude.{◌≡◌, [], ◌∷◌, ◌-◌, min, take
 ghost use Rattle.safl_grammar.specs.Sets.{Only, within};
 ghost use Rattle.safl_grammar.specs.Syntax.{Range};
 ghost use Rattle.safl_grammar.specs.Reading.{head_of, read_token, read_limited};
-ghost use Rattle.safl_tree.specs.Terminals.{terminals, symbol_code, code_of, comes, marked, name, number, sized, operators, primitive_of, operator};
+ghost use Rattle.safl_tree.specs.Terminals.{terminals};
+ghost use Rattle.safl_tree.specs.Codes.{symbol_code, code_of, comes, marked, name, number, sized, operators, primitive_of, operator};
 ghost use Rattle.safl_tree.specs.Grammar.{fits_sized};
 ghost use Rattle.safl_tree.specs.Reader.{read_word, read_symbol, read_width, read_index};
 ghost use Rattle.safl_parse.specs.Numberless.{HasNoNumber};

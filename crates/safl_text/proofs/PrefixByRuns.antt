@@ -8,7 +8,8 @@ use Rattle.std.proofs.Math.Seq.{take-append_seam, drop-append_seam}
 use Rattle.std.specs.List.{list_all}
 use Rattle.safl_word.specs.Numerals.{between, is_digit, value, IsNumeral, IsBounded}
 use Rattle.safl_word.specs.Tokens.{key_text, sym_text, is_blank, begins_name, in_name, IsNameLike, SizedParts, sized_text, IsSizedLike, IsLongest}
-use Rattle.safl_word.specs.Tokens.{Fits, Passes, long_name, long_number, long_sized, Blank, Comment, StandsBefore}
+use Rattle.safl_word.specs.Tokens.{Fits, Blank, Comment, StandsBefore}
+use Rattle.safl_word.specs.Breaks.{Passes, long_name, long_number, long_sized}
 use Rattle.safl_word.specs.declared.token.Key.{Key}
 use Rattle.safl_word.specs.declared.token.Sym.{Sym}
 use Rattle.safl_word.specs.declared.token.TokenKind.TheVariants as kinds

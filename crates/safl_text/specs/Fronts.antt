@@ -2,7 +2,8 @@
 use Rattle.std.specs.Prelude.{◌≡◌, ◌≢◌, ℕ, ◌<◌, ◌≤◌, ◌==◌, ◌&&◌, List, [], ◌∷◌, ◌++◌, length, take, drop, slice_index, Bool, false, Some}
 use Rattle.safl_word.specs.Numerals.{is_digit, IsNumeral}
 use Rattle.safl_word.specs.Runs.{IsRun}
-use Rattle.safl_word.specs.Tokens.{sym_text, is_blank, begins_name, base_of, Piece, Blank, Comment, Lexeme, text_of, text_of_all, StandsBefore, StandAll, tokens_from, BreaksAtFirst}
+use Rattle.safl_word.specs.Tokens.{sym_text, is_blank, begins_name, base_of, Piece, Blank, Comment, Lexeme, text_of, text_of_all, StandsBefore, StandAll, tokens_from}
+use Rattle.safl_word.specs.Breaks.{BreaksAtFirst}
 use Rattle.safl_word.specs.declared.token.Sym.{Sym}
 use Rattle.safl_word.specs.declared.token.Token.{Token}
 use Rattle.safl_text.specs.declared.front.Front.{Front}

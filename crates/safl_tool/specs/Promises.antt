@@ -80,7 +80,6 @@ Converses words shelf s out o o' status =
 
 -- ---- `aig FILE OUT`
 
-
 abbrev pub Converts : {S : Type 0} → List (String Global) → (S → ShelfState) → S → S → Status → Type 0
 Converts words shelf s s' status =
     (input output : List ℕ) → IsName input × IsName output × Say (codes "aig") (input ∷ output ∷ []) [] (map string_bytes words) → status ≡ Ok

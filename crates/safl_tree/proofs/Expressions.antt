@@ -2,7 +2,7 @@
 use Rattle.std.proofs.Common.{◌≡◌, ℕ, true, false, List, [], ◌∷◌, ◌++◌, Some, None, refl}
 use Rattle.safl_grammar.specs.Sets.{Set, Every, Only, subset, apart}
 use Rattle.safl_grammar.specs.Syntax.{Deep, Syntax}
-use Rattle.safl_grammar.specs.Reading.{Reading}
+use Rattle.safl_grammar.specs.Reading.{Reading, read_limited}
 use Rattle.safl_grammar.proofs.Parses.{Parses, parses_nothing}
 use Rattle.safl_grammar.proofs.Tokens.{parses_limited}
 use Rattle.safl_grammar.proofs.Rules.{then, or_else, repeated, narrowed}
@@ -10,13 +10,15 @@ use Rattle.safl_word.specs.declared.token.Key.TheVariants as keys
 use Rattle.safl_word.specs.declared.token.Sym.TheVariants as syms
 use Rattle.safl_word.specs.declared.primitive.Primitive.TheVariants as prims
 use Rattle.safl_tree.specs.Tree.{Tree, If, Let, Cases, Op, Bound, Labelled, trees_of, binds_of, arms_of, place_of}
-use Rattle.safl_tree.specs.Terminals.{Terminal, code, word_code, symbol_code, operators, operator}
+use Rattle.safl_tree.specs.Terminals.{Terminal, operator_at}
+use Rattle.safl_tree.specs.Codes.{code, word_code, symbol_code, operators, operator}
 use Rattle.safl_tree.specs.Grammar
 use Rattle.safl_tree.specs.Grammar.{shallow, ArmList}
 use Rattle.safl_tree.specs.Reader.{read_inverted, read_unary, read_joined, read_chained, read_compared, read_layer, read_chain, read_choice}
 use Rattle.safl_tree.specs.Reader.{read_written, read_bind, read_another_bind, read_binds, read_binding, read_label, read_arm, read_last_arm}
 use Rattle.safl_tree.specs.Reader.{read_arms, read_cases, read_expr, comma}
-use Rattle.safl_tree.proofs.Leaves.{classed_within, a_word, a_symbol, a_name, a_width, starts, operand_starts, operand_opens, after_layers}
+use Rattle.safl_tree.proofs.Classes.{layer_0, layer_1, layer_2, layer_3, layer_4, layer_5, layer_6}
+use Rattle.safl_tree.proofs.Leaves.{classed_within, as_limited, a_word, a_symbol, a_name, a_width, starts, operand_starts, operand_opens, after_layers}
 use Rattle.safl_tree.proofs.Leaves.{after_operand, after_expr, literal_parses, sized_parses, primary_parses}
 
 -- ---- operators
@@ -33,14 +35,15 @@ module _ (pe : Reading Terminal Tree) (se ce : Syntax Terminal Tree) (e : Parses
 
 -- one layer: after its operands stands what is in xs, and after the layer what is in ys
 module _ (k : ℕ) (xs ys : List ℕ) (ps : Reading Terminal Tree) (ss cs : Syntax Terminal Tree)
-    (sub : Parses code ps ss cs false operand_starts operand_opens (Only xs)) (ops_ops : subset (Only (operators k)) (Only (operators k)) ≡ true)
+    (sub : Parses code ps ss cs false operand_starts operand_opens (Only xs)) (coded : operator_at k ≡ operator k) (ops_ops : subset (Only (operators k)) (Only (operators k)) ≡ true)
     (ops_xs : subset (Only (operators k)) (Only xs) ≡ true) (both_xs : subset (Only (operators k ++ ys)) (Only xs) ≡ true)
     (xs_xs : subset (Only xs) (Only xs) ≡ true) (ys_xs : subset (Only ys) (Only xs) ≡ true) (ys_ys : subset (Only ys) (Only ys) ≡ true)
     (ys_ops : apart (Only ys) (Only (operators k)) ≡ true) (ops_none : subset (Only (operators k ++ [])) (Only (operators k)) ≡ true) where
   joined_parses : (zs : List ℕ) → subset (Only zs) (Only xs) ≡ true → (a : Tree) → Parses code (read_joined k ps a) (Grammar.joined k ss a)
       (Grammar.joined k cs a) false (Only (operators k)) (Only (operators k)) (Only zs)
   unfolding read_joined
-  joined_parses zs zs_xs a = then (parses_limited code Deep tt (shallow a) (operator k) (Only (operators k)) (classed_within (Only (operators k)) _))
+  joined_parses zs zs_xs a = then (as_limited Deep (shallow a) (read_limited Deep (shallow a) (operator k)) (operator_at k) (operator k) (Only (operators k)) coded
+      (parses_limited code Deep tt (shallow a) (operator k) (Only (operators k)) (classed_within (Only (operators k)) _)))
       (λ op. then sub (λ b. parses_nothing code (Op (place_of a) op (trees_of (a ∷ b ∷ []))) (Only zs)) zs_xs refl) refl refl
 
   chained_parses : Parses code (read_chained k ps) (Grammar.chained k ss) (Grammar.chained k cs) false operand_starts operand_opens (Only ys)
@@ -56,13 +59,13 @@ module _ (pu : Reading Terminal Tree) (su cu : Syntax Terminal Tree) (u : Parses
   chain_parses : Parses code (read_chain 7 pu) (Grammar.chain 7 su) (Grammar.chain 7 cu) false operand_starts operand_opens after_expr
   unfolding read_chain read_layer
   chain_parses =
-      let product = chained_parses 0 (after_layers 0) (after_layers 1) pu su cu u refl refl refl refl refl refl refl refl in
-      let sum = chained_parses 1 (after_layers 1) (after_layers 2) _ _ _ product refl refl refl refl refl refl refl refl in
-      let shift = chained_parses 2 (after_layers 2) (after_layers 3) _ _ _ sum refl refl refl refl refl refl refl refl in
-      let comparison = compared_parses 3 (after_layers 3) (after_layers 4) _ _ _ shift refl refl refl refl refl refl refl refl in
-      let and = chained_parses 4 (after_layers 4) (after_layers 5) _ _ _ comparison refl refl refl refl refl refl refl refl in
-      let xor = chained_parses 5 (after_layers 5) (after_layers 6) _ _ _ and refl refl refl refl refl refl refl refl in
-      chained_parses 6 (after_layers 6) (after_layers 7) _ _ _ xor refl refl refl refl refl refl refl refl
+      let product = chained_parses 0 (after_layers 0) (after_layers 1) pu su cu u layer_0 refl refl refl refl refl refl refl refl in
+      let sum = chained_parses 1 (after_layers 1) (after_layers 2) _ _ _ product layer_1 refl refl refl refl refl refl refl refl in
+      let shift = chained_parses 2 (after_layers 2) (after_layers 3) _ _ _ sum layer_2 refl refl refl refl refl refl refl refl in
+      let comparison = compared_parses 3 (after_layers 3) (after_layers 4) _ _ _ shift layer_3 refl refl refl refl refl refl refl refl in
+      let and = chained_parses 4 (after_layers 4) (after_layers 5) _ _ _ comparison layer_4 refl refl refl refl refl refl refl refl in
+      let xor = chained_parses 5 (after_layers 5) (after_layers 6) _ _ _ and layer_5 refl refl refl refl refl refl refl refl in
+      chained_parses 6 (after_layers 6) (after_layers 7) _ _ _ xor layer_6 refl refl refl refl refl refl refl refl
 
 -- ---- expressions
 

@@ -16,7 +16,8 @@ use Rattle.safl_word.specs.declared.token.TokenKind.TheVariants as kinds
 use Rattle.safl_word.specs.declared.primitive.Primitive.{Primitive}
 use Rattle.safl_word.specs.Limits.{width_max, value_bound}
 use Rattle.safl_word.specs.Tokens.{IsName, IsToken}
-use Rattle.safl_tree.specs.Terminals.{Terminal, code_of, word_code, symbol_code, marked, NameAt, name, NumberAt, number, number_in, SizedAt, sized, value_in, operators, primitive_in}
+use Rattle.safl_tree.specs.Terminals.{Terminal, NameAt, NumberAt, SizedAt}
+use Rattle.safl_tree.specs.Codes.{code_of, word_code, symbol_code, marked, name, number, number_in, sized, value_in, operators, primitive_in}
 use Rattle.safl_tree.specs.Grammar.{is_width, fits_width, fits_sized, fits_index}
 use Rattle.safl_tree.specs.Reader.{read_word, read_symbol, read_width, read_index}
 use Rattle.safl_tree.specs.Printable.{InRange, operands, is_binary, right_context, left_context, below_of, operator_layers, lifted, AreFormedDefinitions, IsFormedDefinition}

@@ -13,7 +13,8 @@ use Rattle.safl_word.specs.declared.primitive.Primitive.{Primitive}
 use Rattle.safl_word.specs.declared.primitive.Primitive.TheVariants as prims
 use Rattle.safl_word.specs.Tokens.{IsName}
 use Rattle.safl_tree.specs.Tree.{Tree, Number, Sized, Variable, If, Let, Cases, Op, Call, Trees, no_tree, a_tree, Bound, Labelled, trees_of, binds_of, arms_of, place_of, placed, depth}
-use Rattle.safl_tree.specs.Terminals.{Terminal, code_of, word_code, symbol_code, comes, NameAt, operators, primitive_in, operator}
+use Rattle.safl_tree.specs.Terminals.{Terminal, NameAt}
+use Rattle.safl_tree.specs.Codes.{code_of, word_code, symbol_code, comes, operators, primitive_in, operator}
 use Rattle.safl_tree.specs.Grammar.{shallow, ArmList}
 use Rattle.safl_tree.specs.Reader.{read_literal, read_sized_literal, read_another, read_exprs, read_no_arguments, read_arguments, read_call}
 use Rattle.safl_tree.specs.Reader.{read_named, read_parenthesised, read_cat, read_bits, read_ext, read_primary, read_inverted, read_unary}

@@ -8,7 +8,8 @@ use Rattle.safl_grammar.proofs.Levels.{parses_below, parses_lowest, parses_high,
 use Rattle.safl_grammar.proofs.Rules.{narrowed}
 use Rattle.safl_grammar.proofs.Small.{Small, small_parses}
 use Rattle.safl_tree.specs.Tree.{Labelled}
-use Rattle.safl_tree.specs.Terminals.{Terminal, code}
+use Rattle.safl_tree.specs.Terminals.{Terminal}
+use Rattle.safl_tree.specs.Codes.{code}
 use Rattle.safl_tree.specs.Grammar
 use Rattle.safl_tree.specs.Reader.{read_unary, read_arms, read_arm, read_expr, operand_at, expr_at, arms_at}
 use Rattle.safl_tree.proofs.Leaves.{starts, operand_starts, operand_opens, after_operand, after_expr}

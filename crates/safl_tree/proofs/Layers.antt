@@ -10,7 +10,8 @@ use Rattle.safl_grammar.proofs.Small.{Small, Eats, small, small_nothing, eats_li
 use Rattle.safl_word.specs.declared.token.Sym.TheVariants as syms
 use Rattle.safl_tree.specs.Tree.{Tree, Number, Sized, Variable, If, Let, Cases, Op, Call, Trees, no_tree, a_tree, Arms, default_arm, an_arm, trees_of}
 use Rattle.safl_tree.specs.Tree.{place_of, placed, depth, deepest, deepest_bind, deepest_arm, Binds, no_bind, a_bind}
-use Rattle.safl_tree.specs.Terminals.{Terminal, code, comes, symbol_code, operators, operator}
+use Rattle.safl_tree.specs.Terminals.{Terminal}
+use Rattle.safl_tree.specs.Codes.{code, comes, symbol_code, operators, operator}
 use Rattle.safl_tree.specs.Grammar.{shallow}
 use Rattle.safl_tree.specs.Reader.{read_parenthesised, read_primary, read_unary, read_joined, read_chained, read_compared, read_layer, read_chain, operand_at, expr_at}
 use Rattle.safl_tree.proofs.Leaves.{after_layers, after_expr}

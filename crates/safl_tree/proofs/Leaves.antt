@@ -1,8 +1,8 @@
 -- The reader of leaves and of primary expressions answers as the grammar says.
-use Rattle.std.proofs.Common.{◌≡◌, ℕ, zero, suc, Bool, true, false, cond, List, [], ◌∷◌, ◌++◌, Some, None, refl}
-use Rattle.safl_grammar.specs.Sets.{Set, Every, Only, within, subset, union_if}
-use Rattle.safl_grammar.specs.Syntax.{Range, Syntax, token, limited, either}
-use Rattle.safl_grammar.specs.Reading.{Reading, read_token, read_limited}
+use Rattle.std.proofs.Common.{◌≡◌, ℕ, zero, suc, Bool, true, false, cond, List, [], ◌∷◌, ◌++◌, Option, Some, None, refl, sym, subst}
+use Rattle.safl_grammar.specs.Sets.{Set, Every, Only, within, subset, union, union_if}
+use Rattle.safl_grammar.specs.Syntax.{Rule, Range, Syntax, token, limited, either, unless}
+use Rattle.safl_grammar.specs.Reading.{Reading, read_token, read_limited, read_either}
 use Rattle.safl_grammar.proofs.Parses.{Parses, parses_nothing}
 use Rattle.safl_grammar.proofs.Tokens.{parses_token, parses_limited}
 use Rattle.safl_grammar.proofs.Same.{same_factored, parses_same}
@@ -13,12 +13,15 @@ use Rattle.safl_word.specs.declared.token.Sym.{Sym}
 use Rattle.safl_word.specs.declared.token.Sym.TheVariants as syms
 use Rattle.safl_word.specs.declared.primitive.Primitive.TheVariants as prims
 use Rattle.safl_tree.specs.Tree.{Tree, Number, Sized, Variable, Op, Call, trees_of, placed}
-use Rattle.safl_tree.specs.Terminals.{Terminal, code, code_of, word_code, symbol_code, classed, NameAt, name, number, sized, operators}
+use Rattle.safl_tree.specs.Terminals.{Terminal, spelled, NameAt, name_at, number_at, sized_at}
+use Rattle.safl_tree.specs.Codes.{code, code_of, comes, word_code, symbol_code, classed, marked, name, number, sized, operators}
+use Rattle.safl_word.specs.Tokens.{key_text, sym_text}
 use Rattle.safl_tree.specs.Grammar
 use Rattle.safl_tree.specs.Grammar.{word, symbol, fits_width, fits_sized, fits_index}
 use Rattle.safl_tree.specs.Reader.{read_word, read_symbol, read_width, read_index, read_literal, read_sized_literal, read_another, read_exprs}
 use Rattle.safl_tree.specs.Reader.{read_no_arguments, read_arguments, read_call, read_named, read_parenthesised, read_cat, read_bits, read_ext}
 use Rattle.safl_tree.specs.Reader.{read_primary, open_paren, close_paren, comma}
+use Rattle.safl_tree.proofs.Classes.{key_class, symbol_class, closes, name_class, number_class, sized_class}
 
 every : (F : Set) → subset (union_if true (Only []) F) Every ≡ true
 every F = refl
@@ -34,26 +37,38 @@ classed_within codes value t x e = go (within codes (code_of t.kind)) e
 one_of : {A : Type 0} (codes : Set) (value : Terminal → A) → Parses code (read_token (classed codes value)) (token (classed codes value)) (token (classed codes value)) false codes (Only []) Every
 one_of codes value = parses_token code (classed codes value) codes (classed_within codes value)
 
+-- the same of a class by texts
+as_token : {A : Type 0} (p : Reading Terminal A) (class coded : Terminal → Option A) (G : Set) → class ≡ coded → Parses code p (token coded) (token coded)
+    false G (Only []) Every → Parses code p (token class) (token class) false G (Only []) Every
+as_token {A} p class coded G e h = subst (λ (c : Terminal → Option A). Parses code p (token c) (token c) false G (Only []) Every) (sym e) h
+
+pub as_limited : {A : Type 0} (rule : Rule) (fits : A → Bool) (p : Reading Terminal A) (class coded : Terminal → Option A) (G : Set) → class ≡ coded →
+    Parses code p (limited rule fits coded) (limited rule fits coded) false G G Every → Parses code p (limited rule fits class) (limited rule fits class) false G G Every
+as_limited {A} rule fits p class coded G e h = subst (λ (c : Terminal → Option A). Parses code p (limited rule fits c) (limited rule fits c) false G G Every) (sym e) h
+
 pub a_word : (k : Key) → Parses code (read_word k) (word k) (word k) false (Only (word_code k ∷ [])) (Only []) Every
-a_word k = one_of (Only (word_code k ∷ [])) (λ t. t.place)
+a_word k = as_token (read_word k) (spelled (key_text k)) (marked (word_code k)) (Only (word_code k ∷ [])) (key_class k) (one_of (Only (word_code k ∷ [])) (λ t. t.place))
 
 pub a_symbol : (s : Sym) → Parses code (read_symbol s) (symbol s) (symbol s) false (Only (symbol_code s ∷ [])) (Only []) Every
-a_symbol s = one_of (Only (symbol_code s ∷ [])) (λ t. t.place)
+a_symbol s = as_token (read_symbol s) (spelled (sym_text s)) (marked (symbol_code s)) (Only (symbol_code s ∷ [])) (symbol_class s) (one_of (Only (symbol_code s ∷ [])) (λ t. t.place))
 
-pub a_name : Parses code (read_token name) (token name) (token name) false (Only (1 ∷ [])) (Only []) Every
-a_name = one_of (Only (1 ∷ [])) _
+pub a_name : Parses code (read_token name) (token name_at) (token name_at) false (Only (1 ∷ [])) (Only []) Every
+a_name = as_token (read_token name) name_at name (Only (1 ∷ [])) name_class (one_of (Only (1 ∷ [])) _)
 
-a_number : Parses code (read_token number) (token number) (token number) false (Only (2 ∷ [])) (Only []) Every
-a_number = one_of (Only (2 ∷ [])) _
+a_number : Parses code (read_token number) (token number_at) (token number_at) false (Only (2 ∷ [])) (Only []) Every
+a_number = as_token (read_token number) number_at number (Only (2 ∷ [])) number_class (one_of (Only (2 ∷ [])) _)
 
 pub a_width : Parses code read_width Grammar.width Grammar.width false (Only (2 ∷ [])) (Only (2 ∷ [])) Every
-a_width = parses_limited code Range tt fits_width number (Only (2 ∷ [])) (classed_within (Only (2 ∷ [])) _)
+a_width = as_limited Range fits_width read_width number_at number (Only (2 ∷ [])) number_class
+    (parses_limited code Range tt fits_width number (Only (2 ∷ [])) (classed_within (Only (2 ∷ [])) _))
 
 an_index : Parses code read_index Grammar.index Grammar.index false (Only (2 ∷ [])) (Only (2 ∷ [])) Every
-an_index = parses_limited code Range tt fits_index number (Only (2 ∷ [])) (classed_within (Only (2 ∷ [])) _)
+an_index = as_limited Range fits_index read_index number_at number (Only (2 ∷ [])) number_class
+    (parses_limited code Range tt fits_index number (Only (2 ∷ [])) (classed_within (Only (2 ∷ [])) _))
 
-a_sized : Parses code (read_limited Range fits_sized sized) (limited Range fits_sized sized) (limited Range fits_sized sized) false (Only (3 ∷ [])) (Only (3 ∷ [])) Every
-a_sized = parses_limited code Range tt fits_sized sized (Only (3 ∷ [])) (classed_within (Only (3 ∷ [])) _)
+a_sized : Parses code (read_limited Range fits_sized sized) (limited Range fits_sized sized_at) (limited Range fits_sized sized_at) false (Only (3 ∷ [])) (Only (3 ∷ [])) Every
+a_sized = as_limited Range fits_sized (read_limited Range fits_sized sized) sized_at sized (Only (3 ∷ [])) sized_class
+    (parses_limited code Range tt fits_sized sized (Only (3 ∷ [])) (classed_within (Only (3 ∷ [])) _))
 
 -- ---- what may begin an expression, and what may stand after one
 
@@ -124,14 +139,18 @@ module _ (pe : Reading Terminal Tree) (se ce : Syntax Terminal Tree) (e : Parses
 
   call_parses : (f : NameAt) → Parses code (read_call pe f) (Grammar.call se f) (Grammar.call ce f) false (Only open_paren) (Only []) after_operand
   unfolding read_call
-  call_parses f = then (a_symbol syms.OpenParen) (λ opened. or_unless (Only close_paren) (no_arguments_parses f) (arguments_parses f) refl refl refl) refl refl
+  call_parses f = then (a_symbol syms.OpenParen)
+      (λ opened. subst (λ (g : Option Terminal → Bool). Parses code (read_either (comes close_paren) (read_no_arguments f) (read_arguments pe f))
+      (either (Grammar.no_arguments f) (unless g (Grammar.arguments se f))) (either (Grammar.no_arguments f) (unless g (Grammar.arguments ce f))) false
+      (union (Only close_paren) starts) (union (Only []) Every) after_operand) (sym closes)
+      (or_unless (Only close_paren) (no_arguments_parses f) (arguments_parses f) refl refl refl)) refl refl
 
   named_parses : Parses code (read_named pe) (either (Grammar.called se) Grammar.variable) (either (Grammar.called ce) Grammar.variable) false (Only (1 ∷ [])) (Only []) after_operand
   unfolding read_named
   named_parses = parses_same _ _ (then a_name (λ f. or_else (Only open_paren) (call_parses f)
       (parses_nothing code (Variable f.place f.name) after_operand) refl refl refl refl) refl refl)
-      (same_factored (token name) (Grammar.call se) (λ x. Rattle.safl_grammar.specs.Syntax.nothing (Variable x.place x.name)))
-      (same_factored (token name) (Grammar.call ce) (λ x. Rattle.safl_grammar.specs.Syntax.nothing (Variable x.place x.name)))
+      (same_factored (token name_at) (Grammar.call se) (λ x. Rattle.safl_grammar.specs.Syntax.nothing (Variable x.place x.name)))
+      (same_factored (token name_at) (Grammar.call ce) (λ x. Rattle.safl_grammar.specs.Syntax.nothing (Variable x.place x.name)))
 
   parenthesised_parses : Parses code (read_parenthesised pe) (Grammar.parenthesised se) (Grammar.parenthesised ce) false (Only open_paren) (Only []) after_operand
   unfolding read_parenthesised

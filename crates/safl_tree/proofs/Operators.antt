@@ -13,13 +13,15 @@ use Rattle.safl_word.specs.declared.token.Sym.TheVariants as syms
 use Rattle.safl_word.specs.declared.primitive.Primitive.{Primitive}
 use Rattle.safl_word.specs.declared.primitive.Primitive.TheVariants as prims
 use Rattle.safl_tree.specs.Tree.{Tree, Number, Op, no_tree, a_tree, trees_of, place_of, depth}
-use Rattle.safl_tree.specs.Terminals.{Terminal, comes, word_code, symbol_code, operators, operator, primitive_of, primitive_in}
+use Rattle.safl_tree.specs.Terminals.{Terminal}
+use Rattle.safl_tree.specs.Codes.{comes, word_code, symbol_code, operators, operator, primitive_of, primitive_in}
 use Rattle.safl_tree.specs.Grammar.{shallow}
 use Rattle.safl_tree.specs.Reader.{read_joined, read_compared, read_layer, read_chain, read_expr, expr_at}
 use Rattle.safl_tree.specs.Printable.{layers_of, operator_layers, lifted, levels, left_context, right_context, is_binary, operands}
 use Rattle.safl_tree.proofs.Leaves.{after_expr}
 use Rattle.safl_tree.specs.Printed
-use Rattle.safl_tree.specs.Printed.{Word, separated, enclosed, symbol_of, applied, words}
+use Rattle.safl_word.specs.Operators.{symbol_of}
+use Rattle.safl_tree.specs.Printed.{Word, separated, enclosed, applied, words}
 use Rattle.safl_tree.specs.Places.{unplaced}
 use Rattle.safl_tree.proofs.Readings.{Reads, first_of, cut, kind_is, next_within, classed_some, reads_limited, reads_then, reads_first, Avoids, avoids, reads_second, reads_narrowed, reads_give}
 use Rattle.safl_tree.proofs.Layers.{unary_at, chain_at, behind, Stands, same_depth, joined_eats, turns, Chain, chain_0, chain_1, chain_2, chain_4}

@@ -9,7 +9,8 @@ use Rattle.safl_word.specs.declared.token.Sym.TheVariants as syms
 use Rattle.safl_word.specs.declared.token.Token.{Token}
 use Rattle.safl_word.specs.Tokens.{IsName, IsToken, Piece, Blank, Comment, Lexeme, text_of, text_of_all, StandAll, tokens_from, HasTokens}
 use Rattle.safl_tree.specs.Tree.{Parameter, Definition}
-use Rattle.safl_tree.specs.Terminals.{Terminal, terminals, word_code, symbol_code, comes}
+use Rattle.safl_tree.specs.Terminals.{Terminal, terminals}
+use Rattle.safl_tree.specs.Codes.{word_code, symbol_code, comes}
 use Rattle.safl_tree.specs.Grammar.{is_width}
 use Rattle.safl_tree.specs.Reader.{read_param, read_another_param, read_params, read_one, read_another_one, read_group, read_ended, read_another_group, read_program, read_source, expr_at, comma}
 use Rattle.safl_tree.specs.Source.{SpellsProgram}

@@ -9,7 +9,8 @@ use Rattle.safl_word.specs.declared.primitive.Primitive.{Primitive}
 use Rattle.safl_word.specs.declared.primitive.Primitive.TheVariants as prims
 use Rattle.safl_tree.specs.Tree.{Tree, Number, Sized, Variable, If, Let, Cases, Op, Call, Trees, no_tree, a_tree, Binds, no_bind, a_bind, Arms}
 use Rattle.safl_tree.specs.Tree.{default_arm, an_arm, Bound, Labelled, trees_of, binds_of, arms_of, depth}
-use Rattle.safl_tree.specs.Terminals.{Terminal, code, code_of, comes, word_code, symbol_code, operators, operator, primitive_of, primitive_in}
+use Rattle.safl_tree.specs.Terminals.{Terminal}
+use Rattle.safl_tree.specs.Codes.{code, code_of, comes, word_code, symbol_code, operators, operator, primitive_of, primitive_in}
 use Rattle.safl_tree.specs.Grammar.{ArmList, is_width}
 use Rattle.safl_tree.specs.Reader.{read_literal, read_sized_literal, read_another, read_exprs, read_no_arguments, read_arguments, read_call}
 use Rattle.safl_tree.specs.Reader.{read_named, read_cat, read_bits, read_ext, read_primary, read_inverted, read_unary, read_chain, read_choice}
@@ -21,7 +22,8 @@ use Rattle.safl_tree.specs.Printable.{AreShallowBinds, AreShallowArms}
 use Rattle.safl_tree.proofs.Leaves.{after_list, after_expr}
 use Rattle.safl_tree.proofs.KeptLevels.{expr_small}
 use Rattle.safl_tree.specs.Printed
-use Rattle.safl_tree.specs.Printed.{Word, separated, enclosed, symbol_of, applied, words, part_words, bind_words, arm_words, written}
+use Rattle.safl_word.specs.Operators.{symbol_of}
+use Rattle.safl_tree.specs.Printed.{Word, separated, enclosed, applied, words, part_words, bind_words, arm_words, written}
 use Rattle.safl_tree.specs.Places.{unplaced, unplaced_trees, unplaced_binds, unplaced_arms}
 use Rattle.safl_tree.proofs.Readings.{Reads, AllRead, list_reads, reads_nothing, reads_then, reads_first, Avoids, avoids, reads_second, reads_none}
 use Rattle.safl_tree.proofs.Readings.{reads_narrowed, reads_give, reads_key, reads_symbol, reads_name, reads_number, reads_width, reads_index}
@@ -33,7 +35,7 @@ use Rattle.safl_tree.proofs.Operators.{between_le, between_gt, between_ge, betwe
 use Rattle.std.proofs.Common.{map}
 use Rattle.safl_word.specs.Limits.{width_max}
 use Rattle.safl_tree.proofs.Expressions.{written_parses}
-use Rattle.safl_tree.specs.Terminals.{marked, name}
+use Rattle.safl_tree.specs.Codes.{marked, name}
 use Rattle.std.proofs.lemmas.Bool.{le-leb}
 
 -- an expression that stands at any place

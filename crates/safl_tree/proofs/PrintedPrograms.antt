@@ -12,7 +12,8 @@ use Rattle.safl_word.specs.Spacing.{spaced_tokens}
 use Rattle.safl_word.specs.Tokens.{HasTokens}
 use Rattle.safl_word.proofs.BlanksEndTokens.{spaced_reads}
 use Rattle.safl_tree.specs.Tree.{Parameter, Definition}
-use Rattle.safl_tree.specs.Terminals.{Terminal, terminals, code, code_of, comes, word_code, symbol_code, marked, name, number}
+use Rattle.safl_tree.specs.Terminals.{Terminal, terminals}
+use Rattle.safl_tree.specs.Codes.{code, code_of, comes, word_code, symbol_code, marked, name, number}
 use Rattle.safl_tree.specs.Grammar
 use Rattle.safl_tree.specs.Grammar.{is_width, fits_width}
 use Rattle.safl_tree.specs.Reader.{read_width, read_param, read_another_param, read_params, read_one, read_another_one, read_group, read_ended}

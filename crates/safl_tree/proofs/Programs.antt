@@ -11,7 +11,8 @@ use Rattle.safl_grammar.proofs.Rules.{then, or_else, repeated}
 use Rattle.safl_word.specs.declared.token.Key.TheVariants as keys
 use Rattle.safl_word.specs.declared.token.Sym.TheVariants as syms
 use Rattle.safl_tree.specs.Tree.{Tree, Parameter, Definition}
-use Rattle.safl_tree.specs.Terminals.{Terminal, code, word_code, symbol_code}
+use Rattle.safl_tree.specs.Terminals.{Terminal}
+use Rattle.safl_tree.specs.Codes.{code, word_code, symbol_code}
 use Rattle.safl_tree.specs.Grammar
 use Rattle.safl_tree.specs.Grammar.{source}
 use Rattle.safl_tree.specs.Reader.{expr_at, read_param, read_another_param, read_params, read_one, read_another_one, read_group, read_ended}

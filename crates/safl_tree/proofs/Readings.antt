@@ -6,7 +6,8 @@ use Rattle.safl_grammar.specs.Reading.{Read, Reading, ◌>>=◌, head_of, taken,
 use Rattle.safl_grammar.proofs.Sets.{subset_within, apart_within}
 use Rattle.safl_grammar.proofs.Many.{goes_on, stops_here}
 use Rattle.safl_grammar.proofs.Small.{Small, small_nothing, eats_token, small_follows, eats_follows}
-use Rattle.safl_tree.specs.Terminals.{Terminal, code, code_of, comes, word_code, symbol_code, classed, marked, NameAt, name, NumberAt, number, number_in, sized, width_in, value_in}
+use Rattle.safl_tree.specs.Terminals.{Terminal, NameAt, NumberAt}
+use Rattle.safl_tree.specs.Codes.{code, code_of, comes, word_code, symbol_code, classed, marked, name, number, number_in, sized, width_in, value_in}
 use Rattle.std.proofs.lemmas.List.{append-nil, map-append}
 use Rattle.std.specs.Prelude.{nat_lt}
 use Rattle.safl_word.specs.declared.token.Sym.{Sym}

@@ -19,7 +19,8 @@ use Rattle.safl_tree.specs.Grammar.{is_width}
 use Rattle.safl_tree.specs.Printable.{layers_of, left_context, right_context, InRange, IsLabel, FitsWritten, IsFormed, AreFormed, AreFormedBinds, AreFormedArms}
 use Rattle.safl_tree.specs.Printable.{AreFormedParameters, IsFormedDefinition, AreFormedDefinitions}
 use Rattle.safl_tree.specs.Printed
-use Rattle.safl_tree.specs.Printed.{Word, separated, enclosed, applied, written, words, part_words, bind_words, arm_words, param_words, one_words, opening, spaced, line, printed, symbol_of}
+use Rattle.safl_word.specs.Operators.{symbol_of}
+use Rattle.safl_tree.specs.Printed.{Word, separated, enclosed, applied, written, words, part_words, bind_words, arm_words, param_words, one_words, opening, spaced, line, printed}
 use Rattle.safl_tree.proofs.Readings.{words_in}
 
 -- ---- words are tokens

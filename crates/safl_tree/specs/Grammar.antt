@@ -2,6 +2,7 @@
 use Rattle.std.specs.Prelude.{ℕ, zero, suc, List, [], ◌∷◌, ◌++◌, Option, Some, None, Bool, true, false, nat_lt, nat_le, if◌then◌else◌}
 use Rattle.safl_grammar.specs.Syntax.{Deep, Range, Syntax, nothing, token, limited, follows, either, unless, many, too_high, below}
 use Rattle.safl_word.specs.Limits.{width_max}
+use Rattle.safl_word.specs.Tokens.{key_text, sym_text}
 use Rattle.safl_word.specs.declared.token.Key.{Key}
 use Rattle.safl_word.specs.declared.token.Key.TheVariants as keys
 use Rattle.safl_word.specs.declared.token.Sym.{Sym}
@@ -9,14 +10,14 @@ use Rattle.safl_word.specs.declared.token.Sym.TheVariants as syms
 use Rattle.safl_word.specs.declared.primitive.Primitive.{Primitive}
 use Rattle.safl_word.specs.declared.primitive.Primitive.TheVariants as prims
 use Rattle.safl_tree.specs.Tree.{Tree, Number, Sized, Variable, If, Let, Cases, Op, Call, Bound, Labelled, Parameter, Definition, trees_of, binds_of, arms_of, place_of, placed, depth}
-use Rattle.safl_tree.specs.Terminals.{Terminal, word_code, symbol_code, comes, marked, NameAt, name, NumberAt, number, SizedAt, sized, operator}
+use Rattle.safl_tree.specs.Terminals.{Terminal, spelled, comes_spelled, NameAt, name_at, NumberAt, number_at, SizedAt, sized_at, operator_at}
 
 -- a keyword and a symbol; they give their place
 abbrev pub word : Key → Syntax Terminal ℕ
-word k = token (marked (word_code k))
+word k = token (spelled (key_text k))
 
 abbrev pub symbol : Sym → Syntax Terminal ℕ
-symbol s = token (marked (symbol_code s))
+symbol s = token (spelled (sym_text s))
 
 -- ---- limits
 
@@ -42,23 +43,23 @@ fits_index n = nat_lt n.value width_max
 
 -- width := Num
 abbrev pub width : Syntax Terminal NumberAt
-width = limited Range fits_width number
+width = limited Range fits_width number_at
 
 -- the number of a bit := Num
 abbrev pub index : Syntax Terminal NumberAt
-index = limited Range fits_index number
+index = limited Range fits_index number_at
 
 -- literal := Num
 abbrev pub literal : Syntax Terminal Tree
-literal = follows (token number) (λ n. nothing (Number n.place n.value))
+literal = follows (token number_at) (λ n. nothing (Number n.place n.value))
 
 -- sized_literal := Sized
 abbrev pub sized_literal : Syntax Terminal Tree
-sized_literal = follows (limited Range fits_sized sized) (λ s. nothing (Sized s.place s.width s.value))
+sized_literal = follows (limited Range fits_sized sized_at) (λ s. nothing (Sized s.place s.width s.value))
 
 -- variable := name
 abbrev pub variable : Syntax Terminal Tree
-variable = follows (token name) (λ x. nothing (Variable x.place x.name))
+variable = follows (token name_at) (λ x. nothing (Variable x.place x.name))
 
 -- ---- primary expressions, where e is an expression
 
@@ -77,10 +78,10 @@ abbrev pub arguments : Syntax Terminal Tree → NameAt → Syntax Terminal Tree
 arguments e f = follows (exprs e) (λ xs. follows (symbol syms.CloseParen) (λ closed. nothing (Call f.place f.name (trees_of xs))))
 
 abbrev pub call : Syntax Terminal Tree → NameAt → Syntax Terminal Tree
-call e f = follows (symbol syms.OpenParen) (λ opened. either (no_arguments f) (unless (comes (symbol_code syms.CloseParen ∷ [])) (arguments e f)))
+call e f = follows (symbol syms.OpenParen) (λ opened. either (no_arguments f) (unless (comes_spelled (sym_text syms.CloseParen)) (arguments e f)))
 
 abbrev pub called : Syntax Terminal Tree → Syntax Terminal Tree
-called e = follows (token name) (λ f. call e f)
+called e = follows (token name_at) (λ f. call e f)
 
 -- parenthesised := "(" e ")"
 abbrev pub parenthesised : Syntax Terminal Tree → Syntax Terminal Tree
@@ -113,7 +114,7 @@ unary u e = either (inverted u) (primary e)
 
 -- layer := sub { operator sub }, grouped to the left; of comparisons, sub [ operator sub ]
 abbrev pub joined : ℕ → Syntax Terminal Tree → Tree → Syntax Terminal Tree
-joined k sub a = follows (limited Deep (shallow a) (operator k)) (λ op. follows sub (λ b. nothing (Op (place_of a) op (trees_of (a ∷ b ∷ [])))))
+joined k sub a = follows (limited Deep (shallow a) (operator_at k)) (λ op. follows sub (λ b. nothing (Op (place_of a) op (trees_of (a ∷ b ∷ [])))))
 
 abbrev pub chained : ℕ → Syntax Terminal Tree → Syntax Terminal Tree
 chained k sub = follows sub (many (joined k sub))
@@ -144,7 +145,7 @@ abbrev pub written : Syntax Terminal (Option ℕ)
 written = either (follows (symbol syms.Colon) (λ colon. follows width (λ n. nothing (Some n.value)))) (nothing None)
 
 abbrev pub bind : Syntax Terminal Tree → Syntax Terminal Bound
-bind e = follows (token name) (λ x. follows written (λ w. follows (symbol syms.Assign) (λ gives. follows e (λ v. nothing (record { place = x.place; name = x.name; width = w; value = v })))))
+bind e = follows (token name_at) (λ x. follows written (λ w. follows (symbol syms.Assign) (λ gives. follows e (λ v. nothing (record { place = x.place; name = x.name; width = w; value = v })))))
 
 -- binding := "let" bind { "," bind } "in" e
 abbrev pub another_bind : Syntax Terminal Tree → List Bound → Syntax Terminal (List Bound)
@@ -214,7 +215,7 @@ level (suc n) (suc m) = next_level (level n m)
 
 -- param := name ":" width
 abbrev pub param : Syntax Terminal Parameter
-param = follows (token name) (λ x. follows (symbol syms.Colon) (λ colon. follows width (λ n. nothing (record { place = x.place; name = x.name; width = n.value }))))
+param = follows (token name_at) (λ x. follows (symbol syms.Colon) (λ colon. follows width (λ n. nothing (record { place = x.place; name = x.name; width = n.value }))))
 
 -- params := [ param { "," param } ]
 abbrev pub another_param : List Parameter → Syntax Terminal (List Parameter)
@@ -225,7 +226,7 @@ params = either (follows param (λ p. many another_param (p ∷ []))) (nothing [
 
 -- one := name "(" params ")" ":" width "=" e
 abbrev pub one : Bool → Syntax Terminal Tree → Syntax Terminal Definition
-one joins e = follows (token name) (λ x. follows (symbol syms.OpenParen) (λ opened. follows params (λ ps. follows (symbol syms.CloseParen) (λ closed. follows (symbol syms.Colon) (λ colon. follows width (λ n. follows (symbol syms.Assign) (λ gives. follows e (λ b. nothing (record { joined = joins; place = x.place; name = x.name; params = ps; width = n.value; body = b })))))))))
+one joins e = follows (token name_at) (λ x. follows (symbol syms.OpenParen) (λ opened. follows params (λ ps. follows (symbol syms.CloseParen) (λ closed. follows (symbol syms.Colon) (λ colon. follows width (λ n. follows (symbol syms.Assign) (λ gives. follows e (λ b. nothing (record { joined = joins; place = x.place; name = x.name; params = ps; width = n.value; body = b })))))))))
 
 -- group := "fun" one { "and" one }
 abbrev pub another_one : Syntax Terminal Tree → List Definition → Syntax Terminal (List Definition)

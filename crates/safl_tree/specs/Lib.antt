@@ -1,4 +1,5 @@
 pub mod Terminals
+pub mod Codes
 pub mod Tree
 pub mod Grammar
 pub mod Reader

@@ -1,9 +1,10 @@
 -- Which programs can be printed: they are well formed, and their text with as few parentheses as possible keeps the levels.
-use Rattle.std.specs.Prelude.{◌≡◌, ℕ, suc, ◌+◌, ◌<◌, ◌≤◌, max, List, [], ◌∷◌, Option, Some, None, Bool, true, false, nat_le, if◌then◌else◌}
+use Rattle.std.specs.Prelude.{◌≡◌, ℕ, suc, ◌+◌, ◌<◌, ◌≤◌, max, List, [], ◌∷◌, Option, Some, None, Bool, true, false, not, ◌==◌, ◌&&◌, nat_le, if◌then◌else◌}
 use Rattle.safl_word.specs.declared.primitive.Primitive.{Primitive}
 use Rattle.safl_word.specs.declared.primitive.Primitive.TheVariants as prims
 use Rattle.safl_word.specs.Limits.{width_max, value_bound}
 use Rattle.safl_word.specs.Tokens.{IsName}
+use Rattle.safl_word.specs.Operators.{layer_of}
 use Rattle.safl_tree.specs.Tree.{Tree, Number, Sized, Variable, If, Let, Cases, Op, Call, Trees, no_tree, a_tree, Binds, no_bind, a_bind, Arms, default_arm, an_arm, Parameter, Definition, depth}
 use Rattle.safl_tree.specs.Grammar.{is_width}
 
@@ -83,45 +84,11 @@ is_binary _ = true
 -- How many layers of operators may stand right of an operator without parentheses: those below its own. With 8 layers any
 -- expression may.
 abbrev pub right_context : Primitive → ℕ
-right_context prims.Mul = 0
-right_context prims.Add = 1
-right_context prims.Sub = 1
-right_context prims.Shl = 2
-right_context prims.Shr = 2
-right_context prims.Eq = 3
-right_context prims.Ne = 3
-right_context prims.Lt = 3
-right_context prims.Le = 3
-right_context prims.Gt = 3
-right_context prims.Ge = 3
-right_context prims.And = 4
-right_context prims.Xor = 5
-right_context prims.Or = 6
-right_context prims.Not = 0
-right_context prims.Cat = 8
-right_context (prims.Bits h l) = 8
-right_context (prims.Ext n) = 8
+right_context o = layer_of o
 
 -- How many layers may stand left of an operator: also its own layer, since operators group to the left, except for comparisons.
 abbrev pub left_context : Primitive → ℕ
-left_context prims.Mul = 1
-left_context prims.Add = 2
-left_context prims.Sub = 2
-left_context prims.Shl = 3
-left_context prims.Shr = 3
-left_context prims.Eq = 3
-left_context prims.Ne = 3
-left_context prims.Lt = 3
-left_context prims.Le = 3
-left_context prims.Gt = 3
-left_context prims.Ge = 3
-left_context prims.And = 5
-left_context prims.Xor = 6
-left_context prims.Or = 7
-left_context prims.Not = 0
-left_context prims.Cat = 8
-left_context (prims.Bits h l) = 8
-left_context (prims.Ext n) = 8
+left_context o = if is_binary o && not (layer_of o == 3) then suc (layer_of o) else layer_of o
 
 -- how many levels the operands of an operator are below it: none if it is binary, otherwise one
 abbrev pub below_of : Primitive → ℕ
@@ -133,14 +100,11 @@ operator_layers o = if is_binary o then suc (right_context o) else 0
 
 -- how many layers a context needs for an expression without parentheses. An if, a let and a case need 8
 abbrev pub layers_of : Tree → ℕ
-layers_of (Number p n) = 0
-layers_of (Sized p w n) = 0
-layers_of (Variable p x) = 0
 layers_of (If p c a b) = 8
 layers_of (Let p bs t) = 8
 layers_of (Cases p e arms) = 8
 layers_of (Op p o ts) = operator_layers o
-layers_of (Call p f ts) = 0
+layers_of _ = 0
 
 -- the levels of an expression in a context of k layers: one more if it needs more layers, and so parentheses
 abbrev pub lifted : ℕ → ℕ → ℕ → ℕ

@@ -9,6 +9,7 @@ use Rattle.safl_word.specs.declared.token.TokenKind.TheVariants as kinds
 use Rattle.safl_word.specs.declared.primitive.Primitive.{Primitive}
 use Rattle.safl_word.specs.declared.primitive.Primitive.TheVariants as prims
 use Rattle.safl_word.specs.Tokens.{key_text, sym_text}
+use Rattle.safl_word.specs.Operators.{symbol_of}
 use Rattle.safl_tree.specs.Tree.{Tree, Number, Sized, Variable, If, Let, Cases, Op, Call, Trees, no_tree, a_tree, Binds, no_bind, a_bind, Arms, default_arm, an_arm, Labelled, Parameter, Definition}
 use Rattle.safl_tree.specs.Printable.{left_context, right_context, layers_of}
 
@@ -34,24 +35,6 @@ number_word n = record { kind = kinds.Num n; text = decimal n }
 
 abbrev pub sized : ℕ → ℕ → Word
 sized w n = record { kind = kinds.Sized w n; text = decimal w ++ codes "'d" ++ decimal n }
-
--- the symbol of an operator
-abbrev pub symbol_of : Primitive → Sym
-symbol_of prims.Mul = syms.Star
-symbol_of prims.Add = syms.Plus
-symbol_of prims.Sub = syms.Minus
-symbol_of prims.Shl = syms.ShiftLeft
-symbol_of prims.Shr = syms.ShiftRight
-symbol_of prims.Eq = syms.Equal
-symbol_of prims.Ne = syms.NotEqual
-symbol_of prims.Lt = syms.Less
-symbol_of prims.Le = syms.LessEqual
-symbol_of prims.Gt = syms.Greater
-symbol_of prims.Ge = syms.GreaterEqual
-symbol_of prims.And = syms.Ampersand
-symbol_of prims.Xor = syms.Caret
-symbol_of prims.Or = syms.Bar
-symbol_of _ = syms.Tilde
 
 -- ---- expressions
 

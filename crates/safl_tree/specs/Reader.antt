@@ -9,7 +9,8 @@ use Rattle.safl_word.specs.declared.token.Sym.{Sym}
 use Rattle.safl_word.specs.declared.token.Sym.TheVariants as syms
 use Rattle.safl_word.specs.declared.primitive.Primitive.TheVariants as prims
 use Rattle.safl_tree.specs.Tree.{Tree, Number, Sized, Variable, If, Let, Cases, Op, Call, Bound, Labelled, Parameter, Definition, trees_of, binds_of, arms_of, place_of, placed}
-use Rattle.safl_tree.specs.Terminals.{Terminal, word_code, symbol_code, comes, marked, NameAt, name, NumberAt, number, sized, operators, operator}
+use Rattle.safl_tree.specs.Terminals.{Terminal, NameAt, NumberAt}
+use Rattle.safl_tree.specs.Codes.{word_code, symbol_code, comes, marked, name, number, sized, operators, operator}
 use Rattle.safl_tree.specs.Grammar.{shallow, fits_width, fits_sized, fits_index, ArmList}
 
 -- sets of tokens that the reader looks ahead for

@@ -91,14 +91,12 @@ placed q (Call p f ts) = Call q f ts
 -- than its deepest part.
 abbrev mutual
   pub depth : Tree → ℕ
-  depth (Number p n) = 1
-  depth (Sized p w n) = 1
-  depth (Variable p x) = 1
   depth (If p c a b) = 1 + max (depth c) (max (depth a) (depth b))
   depth (Let p bs t) = 1 + max (deepest_bind bs) (depth t)
   depth (Cases p e arms) = 1 + max (depth e) (deepest_arm arms)
   depth (Op p o ts) = 1 + deepest ts
   depth (Call p f ts) = 1 + deepest ts
+  depth _ = 1
 
   pub deepest : Trees → ℕ
   deepest no_tree = 0

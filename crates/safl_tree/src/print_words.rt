@@ -1,7 +1,8 @@
 //! Printing single tokens, each followed by a space.
 
 ghost use Rattle.std.specs.Prelude.{◌≡◌, [], ◌∷◌, ◌++◌, OnOk};
-ghost use Rattle.safl_tree.specs.Printed.{Writes, key, sym, name, number_word, sized, symbol_of};
+ghost use Rattle.safl_word.specs.Operators.{symbol_of};
+ghost use Rattle.safl_tree.specs.Printed.{Writes, key, sym, name, number_word, sized};
 
 use crate::Name;
 use safl_word::{Key, NoMemory, Primitive, Raw, Sym, push_decimal};

@@ -1,13 +1,17 @@
 -- A file of the grammar ends in `;` and `endmodule`.
-use Rattle.std.proofs.Common.{◌≡◌, ℕ, zero, suc, Bool, true, false, cond, ◌==◌, List, [], ◌∷◌, ◌++◌, Some, None, refl, sym, ap, subst, ◌∙◌, append_assoc, inl, inr}
+use Rattle.std.proofs.Common.{◌≡◌, ℕ, zero, suc, Bool, true, false, cond, ◌==◌, List, [], ◌∷◌, ◌++◌, Option, Some, None, refl, sym, ap, subst, ◌∙◌, append_assoc, inl, inr}
 use Rattle.std.proofs.lemmas.List.{append-nil}
 use Rattle.std.proofs.lemmas.Bool.Decides.{Decides-eqb}
 use Rattle.safl_grammar.specs.Sets.{Only, within}
-use Rattle.safl_grammar.specs.Syntax.{Syntax, nothing, follows, turns}
+use Rattle.safl_grammar.specs.Syntax.{Syntax, nothing, token, follows, turns}
 use Rattle.safl_verilog.specs.Tokens.{Terminal}
 use Rattle.safl_verilog.specs.Files.{Spot, Declaration, Statement, Assign, Always, File}
 use Rattle.safl_verilog.specs.Grammar
-use Rattle.safl_verilog.specs.Grammar.{code_of, spot, classed, of_code}
+use Rattle.safl_verilog.specs.Grammar.{spot}
+use Rattle.safl_verilog.specs.Codes.{code_of, classed}
+use Rattle.safl_verilog.specs.declared.token.Keyword.TheVariants as keywords
+use Rattle.safl_verilog.specs.declared.token.Symbol.TheVariants as symbols
+use Rattle.safl_verilog.proofs.Classes.{keyword_class, symbol_class}
 
 -- the last token has the code
 pub record EndsIn (code : ℕ) (ts : List Terminal) : Type 0 where
@@ -53,7 +57,7 @@ then_nothing code s f h w y (u, v, x, e, d, g) =
     let whole : w ≡ u = e ∙ ap (λ (l : List Terminal). u ++ l) g.0 ∙ append-nil u in
     subst (λ (l : List Terminal). EndsIn code l) (sym whole) (h u x d)
 
-one : (code : ℕ) → Ends code (of_code code).derives
+one : (code : ℕ) → Ends code (token (classed (code ∷ []) spot)).derives
 one code w x (t, e, c) = record { before = []; last = t; joined = e; is = same (code_of t.kind) c }
   where
     same : (n : ℕ) → cond (within (Only (code ∷ [])) n) (Some (spot t)) None ≡ Some x → n ≡ code
@@ -63,10 +67,16 @@ one code w x (t, e, c) = record { before = []; last = t; joined = e; is = same (
         go true e c = (Decides-eqb n code).0 e
         go false e c = absurd cc
 
+one_semicolon : Ends 23 (Grammar.symbol symbols.Semicolon).derives
+one_semicolon = subst (λ (c : Terminal → Option Spot). Ends 23 (token c).derives) (sym (symbol_class symbols.Semicolon)) (one 23)
+
+one_endmodule : Ends 5 (Grammar.word keywords.Endmodule).derives
+one_endmodule = subst (λ (c : Terminal → Option Spot). Ends 5 (token c).derives) (sym (keyword_class keywords.Endmodule)) (one 5)
+
 -- ---- declarations and statements end in `;`
 
-last : {B : Type 0} (f : Spot → B) → Ends 23 (follows (of_code 23) (λ s. nothing (f s))).derives
-last f = then_nothing 23 (of_code 23) f (one 23)
+last : {B : Type 0} (f : Spot → B) → Ends 23 (follows (Grammar.symbol symbols.Semicolon) (λ s. nothing (f s))).derives
+last f = then_nothing 23 (Grammar.symbol symbols.Semicolon) f one_semicolon
 
 decl_ends : Ends 23 Grammar.decl.derives
 decl_ends = then 23 _ _ (λ k. then 23 _ _ (λ r. then 23 _ _ (λ a. last (λ s. record { sort = k; range = r; name = a }))))
@@ -123,7 +133,7 @@ body_ends hs u w f e (d1, r1, ds, j1, m1, (d2, r2, ss, j2, m2, (d3, r3, k, j3, m
     let a = turns_end 23 Grammar.another_decl another_decl_ends m1.0 [] u d1 ds e m1.1 in
     let b = turns_end 23 Grammar.another_stmt another_stmt_ends m2.0 [] (u ++ d1) d2 ss a m2.1 in
     let last : r2 ≡ m3.0 ∷ [] = j3 ∙ ap (λ (l : List Terminal). d3 ++ l) z.0 ∙ append-nil d3 ∙ m3.1 in
-    let c = closed ((u ++ d1) ++ d2) r2 b (subst (λ (l : List Terminal). EndsIn 5 l) (j_last j3 z.0) (one 5 d3 k m3)) m3.0 last in
+    let c = closed ((u ++ d1) ++ d2) r2 b (subst (λ (l : List Terminal). EndsIn 5 l) (j_last j3 z.0) (one_endmodule d3 k m3)) m3.0 last in
     let parts : u ++ w ≡ ((u ++ d1) ++ d2) ++ r2 =
     ap (λ (l : List Terminal). u ++ l) (j1 ∙ ap (λ (l : List Terminal). d1 ++ l) j2) ∙ sym (append_assoc u d1 (d2 ++ r2)) ∙ sym (append_assoc (u ++ d1) d2 r2) in
     subst (λ (l : List Terminal). EndsFile l) (sym parts) c
@@ -133,7 +143,7 @@ body_ends hs u w f e (d1, r1, ds, j1, m1, (d2, r2, ss, j2, m2, (d3, r3, k, j3, m
 
 pub file_ends : (w : List Terminal) (f : File) → Grammar.file.derives w f → EndsFile w
 file_ends w f (u1, v1, x1, j1, h1, (u2, v2, x2, j2, h2, (u3, v3, x3, j3, h3, (u4, v4, x4, j4, h4, (u5, v5, x5, j5, h5, (u6, v6, x6, j6, h6, b)))))) =
-    let f6 = subst (λ (l : List Terminal). EndsFile l) (sym j6) (body_ends x4 u6 v6 f (one 23 u6 x6 h6) b) in
+    let f6 = subst (λ (l : List Terminal). EndsFile l) (sym j6) (body_ends x4 u6 v6 f (one_semicolon u6 x6 h6) b) in
     let f5 = subst (λ (l : List Terminal). EndsFile l) (sym j5) (behind_file u5 v5 f6) in
     let f4 = subst (λ (l : List Terminal). EndsFile l) (sym j4) (behind_file u4 v4 f5) in
     let f3 = subst (λ (l : List Terminal). EndsFile l) (sym j3) (behind_file u3 v3 f4) in

@@ -10,7 +10,7 @@ use Rattle.safl_verilog.specs.declared.token.Sort.TheVariants as sorts
 use Rattle.safl_verilog.specs.declared.token.TokenKind.TheVariants as kinds
 use Rattle.safl_verilog.specs.Tokens.{Piece, Blank, Line, Block, Lexeme, Terminal, tokens_from}
 use Rattle.safl_verilog.specs.Files.{Spot, Literal, Plain, Inverted, Binary, Choice, Joined, Slice, Declaration, Statement, Assign, Always}
-use Rattle.safl_verilog.specs.Grammar.{code_of, symbol_code}
+use Rattle.safl_verilog.specs.Codes.{code_of, symbol_code}
 use Rattle.safl_verilog.proofs.Printed.{symbol_of, declaration_pieces, statement_pieces, port_pieces, last_pieces, header_end, body_pieces, file_pieces}
 
 -- the test, where a `;` is the last token before the pieces, or is not

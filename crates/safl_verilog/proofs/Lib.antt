@@ -5,6 +5,7 @@ pub mod Symbols
 pub mod Found
 pub mod Cutting
 pub mod Texts
+pub mod Classes
 pub mod Grammar
 pub mod Readings
 pub mod Printed

@@ -14,7 +14,7 @@ use Rattle.safl_verilog.specs.declared.token.Sort.{Sort}
 use Rattle.safl_verilog.specs.declared.token.Sort.TheVariants as sorts
 use Rattle.safl_verilog.specs.Tokens.{Terminal, Piece, Blank, Line, Block, Lexeme, text_of, tokens_from}
 use Rattle.safl_verilog.specs.Files.{Spot, Expression, Literal, Plain, Inverted, Binary, Choice, Joined, Slice, Declaration, Statement, Assign, Always, File}
-use Rattle.safl_verilog.specs.Grammar.{sort_codes}
+use Rattle.safl_verilog.specs.Codes.{sort_codes}
 use Rattle.safl_verilog.specs.Reader.{comes, read_word, read_symbol, read_constant, read_inverted, read_binary, read_choice, read_joined, read_slice}
 use Rattle.safl_verilog.specs.Reader.{read_named, read_cell, read_written_range, read_range, read_decl, read_assign, read_otherwise, read_at_reset}
 use Rattle.safl_verilog.specs.Reader.{read_always, read_stmt, read_another_id, read_ids, read_another_decl, read_decls, read_another_stmt, read_stmts}

@@ -23,7 +23,7 @@ use Rattle.safl_verilog.specs.declared.token.TokenKind.TheVariants as kinds
 use Rattle.safl_verilog.specs.Tokens.{keyword_text, symbol_text, IsSized, IsToken, Piece, Blank, Line, Block, Lexeme, text_of, text_of_all, StandsBefore, StandAll, Terminal, tokens_from, HasTokens}
 use Rattle.safl_verilog.specs.Pieces.{named, all_keywords, word_kind}
 use Rattle.safl_verilog.specs.Files.{Spot, Declaration, Statement, File}
-use Rattle.safl_verilog.specs.Grammar.{keyword_code, symbol_code, code_of}
+use Rattle.safl_verilog.specs.Codes.{keyword_code, symbol_code, code_of}
 use Rattle.safl_verilog.specs.Reads.{IsFile, Reads}
 use Rattle.safl_verilog.proofs.Runs.{other_than, are_parts-all}
 use Rattle.safl_verilog.proofs.Found.{word_kinds}

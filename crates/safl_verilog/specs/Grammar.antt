@@ -1,9 +1,9 @@
 -- The grammar of the profile. Each production is written above its symbol.
 use Rattle.std.specs.Prelude.{ℕ, List, [], ◌∷◌, ◌++◌, Option, Some, None, if◌then◌else◌}
-use Rattle.safl_grammar.specs.Sets.{Only, within}
+use Rattle.std.specs.Str.{bytes_eq}
 use Rattle.safl_grammar.specs.Syntax.{Syntax, nothing, token, follows, either, many}
 use Rattle.safl_word.specs.declared.primitive.Primitive.{Primitive}
-use Rattle.safl_word.specs.declared.primitive.Primitive.TheVariants as prims
+use Rattle.safl_word.specs.Operators.{operators, operator_with}
 use Rattle.safl_verilog.specs.declared.token.Keyword.{Keyword}
 use Rattle.safl_verilog.specs.declared.token.Keyword.TheVariants as keywords
 use Rattle.safl_verilog.specs.declared.token.Symbol.{Symbol}
@@ -12,134 +12,68 @@ use Rattle.safl_verilog.specs.declared.token.TokenKind.{TokenKind}
 use Rattle.safl_verilog.specs.declared.token.TokenKind.TheVariants as kinds
 use Rattle.safl_verilog.specs.declared.token.Sort.{Sort}
 use Rattle.safl_verilog.specs.declared.token.Sort.TheVariants as sorts
-use Rattle.safl_verilog.specs.Tokens.{Terminal}
+use Rattle.safl_verilog.specs.Tokens.{keyword_text, symbol_text, Terminal}
 use Rattle.safl_verilog.specs.Files.{Spot, Expression, Literal, Plain, Inverted, Binary, Choice, Joined, Slice, Declaration, Statement, Assign, Always, File}
 
--- ---- codes: a number for each kind of token, which tells kinds apart. Code 0 is the end
-
-abbrev pub keyword_code : Keyword → ℕ
-keyword_code keywords.Module = 4
-keyword_code keywords.Endmodule = 5
-keyword_code keywords.Input = 6
-keyword_code keywords.Output = 7
-keyword_code keywords.Reg = 8
-keyword_code keywords.Wire = 9
-keyword_code keywords.Assign = 10
-keyword_code keywords.Always = 11
-keyword_code keywords.Posedge = 12
-keyword_code keywords.If = 13
-keyword_code keywords.Else = 14
-
-abbrev pub symbol_code : Symbol → ℕ
-symbol_code symbols.OpenParen = 20
-symbol_code symbols.CloseParen = 21
-symbol_code symbols.Comma = 22
-symbol_code symbols.Semicolon = 23
-symbol_code symbols.OpenBracket = 24
-symbol_code symbols.CloseBracket = 25
-symbol_code symbols.Colon = 26
-symbol_code symbols.Becomes = 27
-symbol_code symbols.Tilde = 28
-symbol_code symbols.Question = 29
-symbol_code symbols.OpenBrace = 30
-symbol_code symbols.CloseBrace = 31
-symbol_code symbols.At = 32
-symbol_code symbols.Plus = 40
-symbol_code symbols.Minus = 41
-symbol_code symbols.Star = 42
-symbol_code symbols.Ampersand = 43
-symbol_code symbols.Bar = 44
-symbol_code symbols.Caret = 45
-symbol_code symbols.Equal = 46
-symbol_code symbols.NotEqual = 47
-symbol_code symbols.Less = 48
-symbol_code symbols.LessEqual = 49
-symbol_code symbols.Greater = 50
-symbol_code symbols.GreaterEqual = 51
-symbol_code symbols.ShiftLeft = 52
-symbol_code symbols.ShiftRight = 53
-
-abbrev pub code_of : TokenKind → ℕ
-code_of kinds.Identifier = 1
-code_of kinds.Number = 2
-code_of kinds.Sized = 3
-code_of (kinds.Keyword k) = keyword_code k
-code_of (kinds.Symbol s) = symbol_code s
-
-abbrev pub code : Option Terminal → ℕ
-code None = 0
-code (Some t) = code_of t.kind
+-- ---- classes of tokens: what a token of the class stands for
 
 abbrev pub spot : Terminal → Spot
 spot t = record { place = t.place; bytes = t.bytes }
 
--- a token with one of these codes, and the value that it stands for
-abbrev pub classed : {A : Type 0} → List ℕ → (Terminal → A) → Terminal → Option A
-classed codes value t = if within (Only codes) (code_of t.kind) then Some (value t) else None
+-- the text of a keyword or a symbol
+abbrev pub text_in : TokenKind → List ℕ
+text_in (kinds.Keyword k) = keyword_text k
+text_in (kinds.Symbol s) = symbol_text s
+text_in _ = []
 
--- the operators. Each stands for the primitive on two words
-abbrev pub operators : List ℕ
-operators = 40 ∷ 41 ∷ 42 ∷ 43 ∷ 44 ∷ 45 ∷ 46 ∷ 47 ∷ 48 ∷ 49 ∷ 50 ∷ 51 ∷ 52 ∷ 53 ∷ []
+-- the keyword or the symbol with this text
+abbrev pub spelled : List ℕ → Terminal → Option Spot
+spelled text t = if bytes_eq text (text_in t.kind) then Some (spot t) else None
 
-abbrev pub primitive_of : Symbol → Primitive
-primitive_of symbols.Minus = prims.Sub
-primitive_of symbols.Star = prims.Mul
-primitive_of symbols.Ampersand = prims.And
-primitive_of symbols.Bar = prims.Or
-primitive_of symbols.Caret = prims.Xor
-primitive_of symbols.Equal = prims.Eq
-primitive_of symbols.NotEqual = prims.Ne
-primitive_of symbols.Less = prims.Lt
-primitive_of symbols.LessEqual = prims.Le
-primitive_of symbols.Greater = prims.Gt
-primitive_of symbols.GreaterEqual = prims.Ge
-primitive_of symbols.ShiftLeft = prims.Shl
-primitive_of symbols.ShiftRight = prims.Shr
-primitive_of _ = prims.Add
+-- an identifier, a number and a sized number
+abbrev pub identifier_in : TokenKind → Spot → Option Spot
+identifier_in kinds.Identifier x = Some x
+identifier_in _ x = None
 
-abbrev pub primitive_in : TokenKind → Primitive
-primitive_in (kinds.Symbol s) = primitive_of s
-primitive_in _ = prims.Add
+abbrev pub number_in : TokenKind → Spot → Option Spot
+number_in kinds.Number x = Some x
+number_in _ x = None
 
--- the keywords of declarations
-abbrev pub sort_codes : List ℕ
-sort_codes = 6 ∷ 7 ∷ 8 ∷ 9 ∷ []
+abbrev pub literal_in : TokenKind → Spot → Option Spot
+literal_in kinds.Sized x = Some x
+literal_in _ x = None
 
-abbrev pub sort_of : Keyword → Sort
-sort_of keywords.Input = sorts.Input
-sort_of keywords.Output = sorts.Output
-sort_of keywords.Reg = sorts.Reg
-sort_of _ = sorts.Wire
-
-abbrev pub sort_in : TokenKind → Sort
-sort_in (kinds.Keyword k) = sort_of k
-sort_in _ = sorts.Wire
+-- the keyword of a declaration
+abbrev pub declares : TokenKind → Option Sort
+declares (kinds.Keyword keywords.Input) = Some sorts.Input
+declares (kinds.Keyword keywords.Output) = Some sorts.Output
+declares (kinds.Keyword keywords.Reg) = Some sorts.Reg
+declares (kinds.Keyword keywords.Wire) = Some sorts.Wire
+declares _ = None
 
 -- ---- tokens
 
-abbrev pub of_code : ℕ → Syntax Terminal Spot
-of_code k = token (classed (k ∷ []) spot)
-
 abbrev pub word : Keyword → Syntax Terminal Spot
-word k = of_code (keyword_code k)
+word k = token (spelled (keyword_text k))
 
 abbrev pub symbol : Symbol → Syntax Terminal Spot
-symbol s = of_code (symbol_code s)
+symbol s = token (spelled (symbol_text s))
 
 abbrev pub id : Syntax Terminal Spot
-id = of_code 1
+id = token (λ (t : Terminal). identifier_in t.kind (spot t))
 
 abbrev pub number : Syntax Terminal Spot
-number = of_code 2
+number = token (λ (t : Terminal). number_in t.kind (spot t))
 
 abbrev pub literal : Syntax Terminal Spot
-literal = of_code 3
+literal = token (λ (t : Terminal). literal_in t.kind (spot t))
 
+-- an operator stands for the primitive on two words that has its symbol
 abbrev pub operator : Syntax Terminal Primitive
-operator = token (classed operators (λ t. primitive_in t.kind))
+operator = token (λ (t : Terminal). operator_with (text_in t.kind) operators)
 
 abbrev pub sort : Syntax Terminal Sort
-sort = token (classed sort_codes (λ t. sort_in t.kind))
+sort = token (λ (t : Terminal). declares t.kind)
 
 -- ---- cell := lit | id | "~" id | id OP id | id "?" id ":" id | "{" id "," id "}" | id "[" Num ":" Num "]"
 

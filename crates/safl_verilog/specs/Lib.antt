@@ -1,6 +1,7 @@
 pub mod Tokens
 pub mod Files
 pub mod Grammar
+pub mod Codes
 pub mod Faults
 pub mod FaultParts
 pub mod FaultTexts

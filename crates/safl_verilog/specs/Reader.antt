@@ -11,7 +11,8 @@ use Rattle.safl_verilog.specs.declared.token.Symbol.TheVariants as symbols
 use Rattle.safl_verilog.specs.declared.token.Sort.{Sort}
 use Rattle.safl_verilog.specs.Tokens.{Terminal}
 use Rattle.safl_verilog.specs.Files.{Spot, Expression, Literal, Plain, Inverted, Binary, Choice, Joined, Slice, Declaration, Statement, Assign, Always, File}
-use Rattle.safl_verilog.specs.Grammar.{code, spot, classed, operators, primitive_in, sort_codes, sort_in, keyword_code, symbol_code}
+use Rattle.safl_verilog.specs.Grammar.{spot}
+use Rattle.safl_verilog.specs.Codes.{code, classed, operators, primitive_in, sort_codes, sort_in, keyword_code, symbol_code}
 
 -- whether a token with one of these codes comes next
 abbrev pub comes : List ℕ → Option Terminal → Bool

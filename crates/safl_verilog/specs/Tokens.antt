@@ -1,6 +1,7 @@
 -- The tokens of a Verilog file: how its bytes are cut into tokens, and the first place where they cannot be.
 use Rattle.std.specs.Prelude.{◌≡◌, ◌≢◌, ℕ, ◌+◌, ◌≤◌, List, [], ◌∷◌, ◌++◌, length, Bool, true, false, not, ◌==◌, ◌&&◌, ◌||◌, Option, None, Some, if◌then◌else◌, codes}
-use Rattle.std.specs.List.{list_all}
+use Rattle.std.specs.List.{list_all, flat_map}
+use Rattle.safl_word.specs.Cutting
 use Rattle.safl_word.specs.Numerals.{is_digit, IsNumeral}
 use Rattle.safl_word.specs.Tokens.{is_blank, base_of, SizedParts, sized_text, IsSizedLike}
 use Rattle.safl_word.specs.Limits.{net_name_max}
@@ -65,10 +66,8 @@ base_with None d = None
 base_with (Some base) d = if is_digit base d then Some base else None
 
 abbrev pub next_base : List ℕ → Option ℕ
-next_base [] = None
-next_base (q ∷ []) = None
-next_base (q ∷ (b ∷ [])) = None
 next_base (q ∷ (b ∷ (d ∷ rest))) = if q == 39 then base_with (base_of b) d else None
+next_base _ = None
 
 -- a letter or `_`, and then letters, digits, `_` and `$`; short enough, and no keyword
 pub record IsIdentifier (w : List ℕ) : Type 0 where
@@ -93,9 +92,8 @@ IsToken (kinds.Symbol s) w rest = (w ≡ symbol_text s) × ((t : Symbol) (c : �
 
 -- whether a `*` is followed by a `/`
 abbrev pub has_close : List ℕ → Bool
-has_close [] = false
-has_close (c ∷ []) = false
 has_close (c ∷ (d ∷ w)) = ((c == 42) && (d == 47)) || has_close (d ∷ w)
+has_close _ = false
 
 -- a piece of a file: a blank, a comment to the end of its line, a comment between `/*` and `*/`, or a token
 pub data Piece : Type 0 where
@@ -110,10 +108,6 @@ text_of (Line w) = 47 ∷ 47 ∷ w
 text_of (Block w) = 47 ∷ 42 ∷ w ++ 42 ∷ 47 ∷ []
 text_of (Lexeme k w) = w
 
-abbrev pub text_of_all : List Piece → List ℕ
-text_of_all [] = []
-text_of_all (x ∷ xs) = text_of x ++ text_of_all xs
-
 -- what may follow a piece: a comment with `//` runs to the end of the line, and one with `/*` to the first `*/`
 abbrev pub StandsBefore : Piece → List ℕ → Type 0
 StandsBefore (Blank c) rest = is_blank c ≡ true
@@ -121,38 +115,32 @@ StandsBefore (Line w) rest = (list_all (λ c. not (c == 10)) w ≡ true) × (sto
 StandsBefore (Block w) rest = has_close w ≡ false
 StandsBefore (Lexeme k w) rest = IsToken k w rest
 
-abbrev pub StandAll : List Piece → List ℕ → Type 0
-StandAll [] rest = Unit {0}
-StandAll (x ∷ xs) rest = StandsBefore x (text_of_all xs ++ rest) × StandAll xs rest
-
 -- a token as the grammar sees it: its place, its kind, and its bytes
 pub record Terminal : Type 0 where
   pub place : ℕ
   pub kind : TokenKind
   pub bytes : List ℕ
 
--- the tokens among some pieces. The first piece begins at this place
-abbrev pub tokens_from : ℕ → List Piece → List Terminal
-tokens_from p [] = []
-tokens_from p (Blank c ∷ xs) = tokens_from (p + 1) xs
-tokens_from p (Line w ∷ xs) = tokens_from (p + length (text_of (Line w))) xs
-tokens_from p (Block w ∷ xs) = tokens_from (p + length (text_of (Block w))) xs
-tokens_from p (Lexeme k w ∷ xs) = record { place = p; kind = k; bytes = w } ∷ tokens_from (p + length w) xs
+abbrev pub token_at : ℕ → Piece → Option Terminal
+token_at p (Lexeme k w) = Some (record { place = p; kind = k; bytes = w })
+token_at p _ = None
 
--- the text is cut into these pieces, and these are its tokens
-pub record HasTokens (text : List ℕ) (ts : List Terminal) : Type 0 where
-  pub pieces : List Piece
-  pub joined : text ≡ text_of_all pieces
-  pub stand : StandAll pieces []
-  pub tokens : ts ≡ tokens_from 0 pieces
+-- the text is cut into pieces, and these are its tokens
+abbrev pub HasTokens : List ℕ → List Terminal → Type 0
+HasTokens text ts = Cutting.HasTokens text_of StandsBefore token_at text ts
 
--- Pieces come before the place, and no piece begins there, as at a foreign byte, at an identifier that is too long, or at a `/*`
+-- Pieces come before the place, and none begins there, as at a foreign byte, at an identifier that is too long, or at a `/*`
 -- without its end.
-pub record HasLexicalFault (text : List ℕ) (place : ℕ) : Type 0 where
-  pub pieces : List Piece
-  pub rest : List ℕ
-  pub joined : text ≡ text_of_all pieces ++ rest
-  pub stand : StandAll pieces rest
-  pub place_is : place ≡ length (text_of_all pieces)
-  pub some : 1 ≤ length rest
-  pub foreign : (x : Piece) (after : List ℕ) → rest ≡ text_of x ++ after → ¬ StandsBefore x after
+abbrev pub HasLexicalFault : List ℕ → ℕ → Type 0
+HasLexicalFault text place = Cutting.StopsAt text_of StandsBefore token_at text place
+
+-- ---- the texts and the tokens of lists of pieces
+
+abbrev pub text_of_all : List Piece → List ℕ
+text_of_all xs = flat_map text_of xs
+
+abbrev pub StandAll : List Piece → List ℕ → Type 0
+StandAll xs rest = Cutting.StandAll text_of StandsBefore token_at xs rest
+
+abbrev pub tokens_from : ℕ → List Piece → List Terminal
+tokens_from p xs = Cutting.tokens_from text_of StandsBefore token_at p xs

@@ -11,7 +11,7 @@ use Rattle.safl_verilog.specs.declared.token.TokenKind.TheVariants as kinds
 use Rattle.safl_verilog.specs.contracts.token.KeywordPartialEq.TheImpl as same_keywords
 use Rattle.safl_verilog.specs.contracts.token.SymbolPartialEq.TheImpl as same_symbols
 use Rattle.safl_verilog.specs.contracts.token.TokenKindPartialEq.TheImpl as same_kinds
-use Rattle.safl_verilog.specs.Grammar.{keyword_code, symbol_code, code_of}
+use Rattle.safl_verilog.specs.Codes.{keyword_code, symbol_code, code_of}
 
 by_keyword : (k l : Keyword) → (same_keywords.ghosts).eq k l ≡ (keyword_code k == keyword_code l)
 by_keyword keywords.Module keywords.Module = refl

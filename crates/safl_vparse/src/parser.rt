@@ -3,7 +3,7 @@
 ghost use Rattle.std.specs.Prelude.{◌≡◌, [], ◌∷◌, Some, None, if◌then◌else◌};
 ghost use Rattle.safl_grammar.specs.Sets.{Only, within};
 ghost use Rattle.safl_grammar.specs.Reading.{head_of};
-ghost use Rattle.safl_verilog.specs.Grammar.{keyword_code, symbol_code, code_of, operators, primitive_of, primitive_in, sort_of, sort_in, sort_codes};
+ghost use Rattle.safl_verilog.specs.Codes.{keyword_code, symbol_code, code_of, operators, primitive_of, primitive_in, sort_of, sort_in, sort_codes};
 ghost use Rattle.safl_verilog.specs.Reader.{comes, read_code, read_word, read_symbol, read_operator, read_sort};
 ghost use Rattle.safl_vparse.specs.Shown.{shown_all};
 ghost use Rattle.safl_vparse.specs.Reads.{ReadsSpot, ReadsOperator, ReadsSort};

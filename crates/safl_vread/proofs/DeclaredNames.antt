@@ -1,5 +1,6 @@
 -- Declared names are identifiers, and a text has more bytes than declarations.
 use Rattle.std.proofs.Common.{◌≡◌, ℕ, zero, suc, ◌+◌, ◌≤◌, List, [], ◌∷◌, ◌++◌, length, Bool, true, false, cond, ◌==◌, Some, None, refl, sym, ap, subst, ◌∙◌, inl, inr, arith, length-append, slice_get}
+use Rattle.std.proofs.Common.{Option}
 use Rattle.std.proofs.lemmas.Bool.Decides.{nat_tests, Decides-eqb}
 use Rattle.safl_grammar.specs.Sets.{Only, within}
 use Rattle.safl_grammar.specs.Syntax.{turns}
@@ -13,7 +14,9 @@ use Rattle.safl_verilog.specs.declared.token.Symbol.TheVariants as symbols
 use Rattle.safl_verilog.specs.declared.token.TokenKind.TheVariants as kinds
 use Rattle.safl_verilog.specs.Tokens.{IsIdentifier, Piece, Blank, Line, Block, Lexeme, text_of, text_of_all, StandAll, Terminal, tokens_from}
 use Rattle.safl_verilog.specs.Files.{Spot, Declaration, File}
-use Rattle.safl_verilog.specs.Grammar.{keyword_code, symbol_code, code_of, spot, classed, decl, another_decl, file}
+use Rattle.safl_verilog.specs.Grammar.{spot, decl, another_decl, file}
+use Rattle.safl_verilog.specs.Codes.{keyword_code, symbol_code, code_of, classed}
+use Rattle.safl_verilog.proofs.Classes.{identifier_at, identifier_class}
 use Rattle.safl_verilog.proofs.Distinct.{each_left, each_right, each_at}
 use Rattle.safl_vparse.specs.Parsed.{IsFileText}
 
@@ -124,9 +127,9 @@ record HasName (w : List Terminal) (name : Spot) : Type 0 where
   named : IsIdentifier name.bytes
   one : 1 ≤ ids_in w
 
-has_name : (w : List Terminal) (t : Terminal) (a : Spot) → Each Named w → w ≡ t ∷ [] → classed (1 ∷ []) spot t ≡ Some a → HasName w a
+has_name : (w : List Terminal) (t : Terminal) (a : Spot) → Each Named w → w ≡ t ∷ [] → identifier_at t ≡ Some a → HasName w a
 has_name w t a h e c =
-    let k = id_token t a c in
+    let k = id_token t a (sym (ap (λ (f : Terminal → Option Spot). f t) identifier_class) ∙ c) in
     let n : Each Named (t ∷ []) = subst (λ (l : List Terminal). Each Named l) e h in
     let one : one_id t ≡ 1 = ap (λ b. cond b 1 0) ((Decides-eqb (code_of t.kind) 1).1 k.0) in
     record {

@@ -1,8 +1,8 @@
 -- A text is cut in one way only.
-use Rattle.std.proofs.Common.{◌≡◌, ◌≢◌, ℕ, List, [], ◌∷◌, ◌++◌, length, true, false, not, ◌==◌, refl, sym, ◌∙◌, ap, subst, arith, append_assoc, length-append}
-use Rattle.safl_word.specs.Tokens.{is_blank, IsLexeme, name_like, number_like, sized_like, symbol_like, IsToken, IsLongest, IsTooLong, long_name}
-use Rattle.safl_word.specs.Tokens.{long_number, long_sized, Piece, Blank, Comment, Lexeme, text_of, text_of_all, EndsLine, StandsBefore, StandAll}
-use Rattle.safl_word.specs.Tokens.{IsForeign, BeginsTooLong, BreaksAtFirst}
+use Rattle.std.proofs.Common.{◌≡◌, ◌≢◌, ℕ, ◌≤◌, List, [], ◌∷◌, ◌++◌, length, true, false, not, ◌==◌, refl, sym, ◌∙◌, ap, subst, arith, append_assoc, length-append}
+use Rattle.safl_word.specs.Tokens.{is_blank, IsLexeme, name_like, number_like, sized_like, symbol_like, IsToken, IsLongest}
+use Rattle.safl_word.specs.Tokens.{Piece, Blank, Comment, Lexeme, text_of, text_of_all, EndsLine, StandsBefore, StandAll, IsBrokenAt, HasLexicalFault}
+use Rattle.safl_word.specs.Breaks.{IsTooLong, long_name, long_number, long_sized, IsForeign, BeginsTooLong, BreaksAtFirst, BreaksAt}
 use Rattle.safl_word.specs.declared.token.TokenKind.{TokenKind}
 use Rattle.safl_word.specs.declared.fault.Rule.{Rule}
 use Rattle.safl_word.specs.declared.fault.Rule.TheVariants as rules
@@ -96,6 +96,15 @@ too_long_like w (long_name n l) = name_like n
 too_long_like w (long_number n l) = number_like n
 too_long_like w (long_sized s e n l) = sized_like s e n
 
+-- the same in two forms
+pub no_piece : (u : List ℕ) → ((x : Piece) (after : List ℕ) → u ≡ text_of x ++ after → ¬ StandsBefore x after) → NoPiece u
+unfolding NoPiece
+no_piece u f x r e h = f x r (sym e) h
+
+no_piece_stands : (u : List ℕ) → NoPiece u → (x : Piece) (after : List ℕ) → u ≡ text_of x ++ after → ¬ StandsBefore x after
+unfolding NoPiece
+no_piece_stands u n x after e h = n x after (sym e) h
+
 pub none_at_foreign : (u : List ℕ) → IsForeign u → NoPiece u
 unfolding NoPiece
 none_at_foreign u f (Blank c) r e h = f.no_blank c r (sym e) h
@@ -128,18 +137,42 @@ cuts_agree (x ∷ xs) (y ∷ ys) u v a b m n e =
     let r = cuts_agree xs ys u v a.1 b.1 m n h.1 in
     (λ i. h.0 i ∷ r.0 i, r.1)
 
--- one rule is broken at one place
-pub rules_agree : (d e : Rule) (u : List ℕ) → BreaksAtFirst d u → BreaksAtFirst e u → d ≡ e
-rules_agree rules.E01 rules.E01 u a b = refl
-rules_agree rules.E01 rules.E03 u a b = absurd (a.no_token b.front b.rest (sym b.joined) (too_long_like b.front b.too_long))
-rules_agree rules.E03 rules.E01 u a b = absurd (b.no_token a.front a.rest (sym a.joined) (too_long_like a.front a.too_long))
-rules_agree rules.E03 rules.E03 u a b = refl
-rules_agree rules.E01 _ u a b = absurd b
-rules_agree rules.E03 _ u a b = absurd b
-rules_agree _ _ u a b = absurd a
+-- where no piece begins, one rule is broken
+pub broken_agree : (d e : Rule) (u : List ℕ) → IsBrokenAt d u → IsBrokenAt e u → d ≡ e
+broken_agree rules.E01 rules.E01 u a b = refl
+broken_agree rules.E01 rules.E03 u a b = absurd (a b.0 b.1 b.2 b.3)
+broken_agree rules.E03 rules.E01 u a b = absurd (b a.0 a.1 a.2 a.3)
+broken_agree rules.E03 rules.E03 u a b = refl
+broken_agree rules.E01 _ u a b = absurd b
+broken_agree rules.E03 _ u a b = absurd b
+broken_agree _ _ u a b = absurd a
 
 -- none is broken at the end
 pub no_fault_at_end : (d : Rule) → BreaksAtFirst d [] → ⊥
 no_fault_at_end rules.E01 b = omega (arith, b.some)
 no_fault_at_end rules.E03 b = token_some b.front (too_long_like b.front b.too_long) (front_nil b.front b.rest (sym b.joined))
 no_fault_at_end _ b = b
+
+some_broken : (d : Rule) (u : List ℕ) → BreaksAtFirst d u → 1 ≤ length u
+some_broken d [] b = absurd (no_fault_at_end d b)
+some_broken d (c ∷ u) b = omega arith
+
+is_broken : (d : Rule) (u : List ℕ) → BreaksAtFirst d u → IsBrokenAt d u
+is_broken rules.E01 u b = λ v w j l. b.no_token v w (sym j) l
+is_broken rules.E03 u b = (b.front, b.rest, b.joined, too_long_like b.front b.too_long)
+is_broken _ u b = absurd b
+
+-- where a rule is broken, no piece begins
+pub fault_of_break : (text : List ℕ) (e : Rule) (p : ℕ) → BreaksAt text e p → HasLexicalFault text e p
+fault_of_break text e p h = (
+  record {
+    pieces = h.pieces;
+    rest = h.rest;
+    joined = h.joined;
+    stand = h.stand;
+    place_is = h.place_is;
+    some = some_broken e h.rest h.broken;
+    foreign = no_piece_stands h.rest (none_at_fault e h.rest h.broken);
+  },
+  is_broken e h.rest h.broken,
+)

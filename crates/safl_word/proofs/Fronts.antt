@@ -2,7 +2,8 @@
 use Rattle.std.proofs.Common.{◌≡◌, ◌≢◌, ℕ, ◌≤◌, List, [], ◌∷◌, ◌++◌, length, Option, Some, None, Bool, true, false, not, ◌==◌, refl, sym, ◌∙◌, ap, subst, arith}
 use Rattle.std.proofs.lemmas.Bool.{eqb-true}
 use Rattle.safl_word.specs.Numerals.{is_digit}
-use Rattle.safl_word.specs.Tokens.{sym_text, is_blank, begins_name, in_name, IsLexeme, name_like, number_like, sized_like, symbol_like, IsLongest, Blank, Comment, Lexeme, EndsLine, IsForeign}
+use Rattle.safl_word.specs.Tokens.{sym_text, is_blank, begins_name, in_name, IsLexeme, name_like, number_like, sized_like, symbol_like, IsLongest, Blank, Comment, Lexeme, EndsLine}
+use Rattle.safl_word.specs.Breaks.{IsForeign}
 use Rattle.safl_word.specs.declared.token.Sym.{Sym}
 use Rattle.safl_word.specs.declared.token.TokenKind.TheVariants as kinds
 use Rattle.safl_word.specs.declared.fault.Rule.TheVariants as rules

@@ -6,7 +6,8 @@ use Rattle.std.proofs.lemmas.Option.{same_Some}
 use Rattle.safl_word.specs.Numerals.{is_digit, value, IsNumeral}
 use Rattle.safl_word.specs.Tokens.{begins_name, in_name, base_of, IsNameLike, SizedParts, sized_text, IsSizedLike}
 use Rattle.safl_word.specs.Limits.{name_max, digits_max, value_bound}
-use Rattle.safl_word.specs.Tokens.{Fits, IsLongest, Passes, long_name, long_number, long_sized, Piece, Lexeme, text_of, StandsBefore, BreaksAtFirst}
+use Rattle.safl_word.specs.Tokens.{Fits, IsLongest, Piece, Lexeme, text_of, StandsBefore}
+use Rattle.safl_word.specs.Breaks.{Passes, long_name, long_number, long_sized, BreaksAtFirst}
 use Rattle.safl_word.specs.declared.token.Key.{Key}
 use Rattle.safl_word.specs.declared.token.TokenKind.TheVariants as kinds
 use Rattle.safl_word.specs.declared.fault.Rule.{Rule}

@@ -4,7 +4,8 @@ use Rattle.std.proofs.lemmas.Bool.{and_parts}
 use Rattle.std.proofs.lemmas.List.{append-nil}
 use Rattle.safl_word.specs.Numerals.{is_digit, value, IsNumeral}
 use Rattle.safl_word.specs.Tokens.{sym_text, IsNameLike, SizedParts, sized_text, IsSizedLike, IsLexeme, name_like, number_like, sized_like}
-use Rattle.safl_word.specs.Tokens.{symbol_like, Fits, IsSized, IsToken, Passes, IsTooLong, long_name, long_number, long_sized}
+use Rattle.safl_word.specs.Tokens.{symbol_like, Fits, IsSized, IsToken}
+use Rattle.safl_word.specs.Breaks.{Passes, IsTooLong, long_name, long_number, long_sized}
 use Rattle.safl_word.specs.declared.token.Sym.{Sym}
 use Rattle.safl_word.specs.declared.token.TokenKind.{TokenKind}
 use Rattle.safl_word.specs.declared.token.TokenKind.TheVariants as kinds

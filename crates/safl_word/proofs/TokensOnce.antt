@@ -1,10 +1,11 @@
 -- A text has its tokens, or its first lexical fault, and either once.
 use Rattle.std.proofs.Common.{◌≡◌, ◌↔◌, ℕ, zero, suc, ◌≤◌, List, [], ◌∷◌, ◌++◌, length, refl, sym, ◌∙◌, ap, subst, arith, append_assoc, length-append}
 use Rattle.std.proofs.lemmas.List.{append-nil}
-use Rattle.safl_word.specs.Tokens.{Piece, Blank, Comment, Lexeme, text_of, text_of_all, StandsBefore, tokens_from, HasTokens, BreaksAtFirst, HasLexicalFault}
+use Rattle.safl_word.specs.Tokens.{Piece, Blank, Comment, Lexeme, text_of, text_of_all, StandsBefore, tokens_from, HasTokens, IsBrokenAt, HasLexicalFault}
+use Rattle.safl_word.specs.Breaks.{BreaksAt}
 use Rattle.safl_word.specs.declared.token.Token.{Token}
 use Rattle.safl_word.specs.declared.fault.Rule.{Rule}
-use Rattle.safl_word.proofs.Cuts.{none_at_end, none_at_fault, cuts_agree, rules_agree, no_fault_at_end, token_some}
+use Rattle.safl_word.proofs.Cuts.{no_piece, none_at_end, cuts_agree, broken_agree, fault_of_break, token_some}
 use Rattle.safl_word.proofs.OneKind.{token_like}
 use Rattle.safl_word.proofs.Next.{Next, goes_on, breaks}
 use Rattle.safl_word.proofs.Fronts.{next}
@@ -17,19 +18,19 @@ tokens_once text ts us a b =
     a.tokens ∙ ap (tokens_from 0) r.0 ∙ sym b.tokens
 
 pub fault_once : (text : List ℕ) (e d : Rule) (p q : ℕ) → HasLexicalFault text e p → HasLexicalFault text d q → (e ≡ d) × (p ≡ q)
-fault_once text e d p q a b =
-    let r = cuts_agree a.pieces b.pieces a.rest b.rest a.stand b.stand (none_at_fault e a.rest a.broken) (none_at_fault d b.rest b.broken) (sym a.joined ∙ b.joined) in
-    (rules_agree e d b.rest (subst (BreaksAtFirst e) r.1 a.broken) b.broken, a.place_is ∙ ap (λ xs. length (text_of_all xs)) r.0 ∙ sym b.place_is)
+fault_once text e d p q (a, i) (b, j) =
+    let r = cuts_agree a.pieces b.pieces a.rest b.rest a.stand b.stand (no_piece a.rest a.foreign) (no_piece b.rest b.foreign) (sym a.joined ∙ b.joined) in
+    (broken_agree e d b.rest (subst (IsBrokenAt e) r.1 i) j, a.place_is ∙ ap (λ xs. length (text_of_all xs)) r.0 ∙ sym b.place_is)
 
 pub not_both : (text : List ℕ) (ts : List Token) (e : Rule) (p : ℕ) → HasTokens text ts → HasLexicalFault text e p → ⊥
-not_both text ts e p a b =
-    let r = cuts_agree a.pieces b.pieces [] b.rest a.stand b.stand none_at_end (none_at_fault e b.rest b.broken) (append-nil _ ∙ sym a.joined ∙ b.joined) in
-    no_fault_at_end e (subst (BreaksAtFirst e) (sym r.1) b.broken)
+not_both text ts e p a (b, j) =
+    let r = cuts_agree a.pieces b.pieces [] b.rest a.stand b.stand none_at_end (no_piece b.rest b.foreign) (append-nil _ ∙ sym a.joined ∙ b.joined) in
+    omega (arith, ap length r.1, b.some)
 
 -- what a text has
 pub data Outcome (text : List ℕ) : Type 0 where
   tokens_of : (ts : List Token) → HasTokens text ts → Outcome text
-  fault_of : (e : Rule) (p : ℕ) → HasLexicalFault text e p → Outcome text
+  fault_of : (e : Rule) (p : ℕ) → BreaksAt text e p → Outcome text
 
 prepend : (text : List ℕ) (x : Piece) (rest : List ℕ) → text ≡ text_of x ++ rest → StandsBefore x rest → Outcome rest → Outcome text
 prepend text x rest j s (tokens_of ts h) =
@@ -79,4 +80,17 @@ tokens_or_fault text = (λ (ts, h) (e, p, k). not_both text ts e p h k, λ f. by
   where
     by_outcome : ¬ ((e : Rule) × (p : ℕ) × HasLexicalFault text e p) → Outcome text → (ts : List Token) × HasTokens text ts
     by_outcome f (tokens_of ts h) = (ts, h)
-    by_outcome f (fault_of e p h) = absurd (f (e, p, h))
+    by_outcome f (fault_of e p h) = absurd (f (e, p, fault_of_break text e p h))
+
+-- a lexical fault in full: what begins at its place is foreign, or it is too long
+pub break_of_fault : (text : List ℕ) (e : Rule) (p : ℕ) → HasLexicalFault text e p → BreaksAt text e p
+break_of_fault text e p h = by_outcome (outcome text)
+  where
+    by_outcome : Outcome text → BreaksAt text e p
+    by_outcome (tokens_of ts t) = absurd (not_both text ts e p t h)
+    by_outcome (fault_of d q b) =
+        let same = fault_once text d e q p (fault_of_break text d q b) h in
+        subst (λ (r : Rule). BreaksAt text r p) same.0 (subst (BreaksAt text d) same.1 b)
+
+pub fault_in_full : (text : List ℕ) (e : Rule) (p : ℕ) → HasLexicalFault text e p ↔ BreaksAt text e p
+fault_in_full text e p = (break_of_fault text e p, fault_of_break text e p)

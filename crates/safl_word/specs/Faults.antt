@@ -25,13 +25,12 @@ rule_text rules.E16 = codes "E16 limit"
 
 -- the names of the limits: 1 functions, 2 parameters, 3 bindings, 4 sites, 5 nodes
 abbrev pub limit_name : ℕ → List ℕ
-limit_name zero = []
 limit_name (suc zero) = codes "functions"
 limit_name (suc (suc zero)) = codes "parameters"
 limit_name (suc (suc (suc zero))) = codes "bindings"
 limit_name (suc (suc (suc (suc zero)))) = codes "sites"
 limit_name (suc (suc (suc (suc (suc zero))))) = codes "nodes"
-limit_name (suc (suc (suc (suc (suc (suc n)))))) = []
+limit_name _ = []
 
 -- the expected number and the one that was found
 abbrev pub wanted_and_found : Fault → List ℕ

@@ -4,7 +4,10 @@ pub mod Primitives
 pub mod Laws
 pub mod Numerals
 pub mod Runs
+pub mod Cutting
 pub mod Tokens
+pub mod Breaks
+pub mod Operators
 pub mod Faults
 pub mod TokenLaws
 pub mod Spacing

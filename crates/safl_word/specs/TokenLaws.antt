@@ -1,6 +1,7 @@
 -- The laws of tokens.
 use Rattle.std.specs.Prelude.{◌≡◌, ◌↔◌, ℕ, List}
 use Rattle.safl_word.specs.Tokens.{HasTokens, HasLexicalFault}
+use Rattle.safl_word.specs.Breaks.{BreaksAt}
 use Rattle.safl_word.specs.declared.token.Token.{Token}
 use Rattle.safl_word.specs.declared.fault.Rule.{Rule}
 
@@ -18,3 +19,7 @@ abbrev pub TokensOrFault : Type 0
 TokensOrFault =
     (text : List ℕ)
     → ((ts : List Token) × HasTokens text ts) ↔ (¬ ((e : Rule) × (p : ℕ) × HasLexicalFault text e p))
+
+-- at a lexical fault no token, blank or comment begins, nor the form of a token, or the longest form of a token there is too long
+abbrev pub LexicalFaultInFull : Type 0
+LexicalFaultInFull = (text : List ℕ) (e : Rule) (place : ℕ) → HasLexicalFault text e place ↔ BreaksAt text e place

@@ -1,6 +1,7 @@
 -- The tokens of a source: how its bytes are cut into tokens, and the first place where they cannot be.
-use Rattle.std.specs.Prelude.{◌≡◌, ◌≢◌, ℕ, ◌+◌, ◌^◌, ◌<◌, ◌≤◌, List, [], ◌∷◌, ◌++◌, length, Bool, true, not, ◌==◌, ◌||◌, ◌⊎◌, Option, Some, None, if◌then◌else◌, codes}
-use Rattle.std.specs.List.{list_all}
+use Rattle.std.specs.Prelude.{◌≡◌, ◌≢◌, ℕ, ◌+◌, ◌≤◌, List, [], ◌∷◌, ◌++◌, length, Bool, true, not, ◌==◌, ◌||◌, Option, Some, None, if◌then◌else◌, codes}
+use Rattle.std.specs.List.{list_all, flat_map}
+use Rattle.safl_word.specs.Cutting
 use Rattle.safl_word.specs.Numerals.{between, value, IsNumeral, IsBounded}
 use Rattle.safl_word.specs.declared.token.Key.{Key}
 use Rattle.safl_word.specs.declared.token.Key.TheVariants as keys
@@ -128,16 +129,6 @@ IsToken (kinds.Sym s) w = w ≡ sym_text s
 abbrev pub IsLongest : List ℕ → List ℕ → Type 0
 IsLongest w rest = (u v : List ℕ) → u ++ v ≡ w ++ rest → IsLexeme u → length u ≤ length w
 
--- the numeral has too many digits, or too great a value
-abbrev pub Passes : ℕ → List ℕ → Type 0
-Passes base w = (digits_max < length w) ⊎ (value_bound ≤ value base w)
-
--- the text is a name that is too long, or a number with a numeral that is too long or too great
-pub data IsTooLong (w : List ℕ) : Type 0 where
-  long_name : IsNameLike w → name_max < length w → IsTooLong w
-  long_number : IsNumeral 10 w → Passes 10 w → IsTooLong w
-  long_sized : (s : SizedParts) → w ≡ sized_text s → IsSizedLike s → Passes 10 s.width ⊎ Passes s.base s.digits → IsTooLong w
-
 -- a piece of a text: a blank, a comment without its line feed, or a token
 pub data Piece : Type 0 where
   Blank : ℕ → Piece
@@ -148,10 +139,6 @@ abbrev pub text_of : Piece → List ℕ
 text_of (Blank c) = c ∷ []
 text_of (Comment w) = 47 ∷ 47 ∷ w
 text_of (Lexeme k w) = w
-
-abbrev pub text_of_all : List Piece → List ℕ
-text_of_all [] = []
-text_of_all (x ∷ xs) = text_of x ++ text_of_all xs
 
 -- the text is empty, or begins with a line feed
 abbrev pub EndsLine : List ℕ → Type 0
@@ -164,50 +151,31 @@ StandsBefore (Blank c) rest = is_blank c ≡ true
 StandsBefore (Comment w) rest = (list_all (λ c. not (c == 10)) w ≡ true) × EndsLine rest
 StandsBefore (Lexeme k w) rest = IsToken k w × IsLongest w rest
 
+abbrev pub token_at : ℕ → Piece → Option Token
+token_at p (Lexeme k w) = Some (record { start = p; stop = p + length w; kind = k })
+token_at p _ = None
+
+-- the text is cut into pieces, and these are its tokens
+abbrev pub HasTokens : List ℕ → List Token → Type 0
+HasTokens text ts = Cutting.HasTokens text_of StandsBefore token_at text ts
+
+-- the rule that is broken where no piece begins: E03 if the form of a token begins there, which then is too long, and otherwise E01
+abbrev pub IsBrokenAt : Rule → List ℕ → Type 0
+IsBrokenAt rules.E01 text = (u v : List ℕ) → text ≡ u ++ v → ¬ IsLexeme u
+IsBrokenAt rules.E03 text = (u v : List ℕ) × (text ≡ u ++ v) × IsLexeme u
+IsBrokenAt _ text = ⊥
+
+-- pieces come before the place, none begins there, and this rule is broken
+abbrev pub HasLexicalFault : List ℕ → Rule → ℕ → Type 0
+HasLexicalFault text e place = (s : Cutting.StopsAt text_of StandsBefore token_at text place) × IsBrokenAt e s.rest
+
+-- ---- the texts and the tokens of lists of pieces
+
+abbrev pub text_of_all : List Piece → List ℕ
+text_of_all xs = flat_map text_of xs
+
 abbrev pub StandAll : List Piece → List ℕ → Type 0
-StandAll [] rest = Unit {0}
-StandAll (x ∷ xs) rest = StandsBefore x (text_of_all xs ++ rest) × StandAll xs rest
+StandAll xs rest = Cutting.StandAll text_of StandsBefore token_at xs rest
 
--- the tokens among some pieces. The first piece begins at this place
 abbrev pub tokens_from : ℕ → List Piece → List Token
-tokens_from p [] = []
-tokens_from p (Blank c ∷ xs) = tokens_from (p + 1) xs
-tokens_from p (Comment w ∷ xs) = tokens_from (p + length (text_of (Comment w))) xs
-tokens_from p (Lexeme k w ∷ xs) = record { start = p; stop = p + length w; kind = k } ∷ tokens_from (p + length w) xs
-
--- the text is cut into these pieces, and these are its tokens
-pub record HasTokens (text : List ℕ) (ts : List Token) : Type 0 where
-  pub pieces : List Piece
-  pub joined : text ≡ text_of_all pieces
-  pub stand : StandAll pieces []
-  pub tokens : ts ≡ tokens_from 0 pieces
-
--- the text begins with no token, no blank and no comment
-pub record IsForeign (text : List ℕ) : Type 0 where
-  pub some : 1 ≤ length text
-  pub no_blank : (c : ℕ) (rest : List ℕ) → text ≡ c ∷ rest → is_blank c ≢ true
-  pub no_comment : (rest : List ℕ) → text ≢ 47 ∷ 47 ∷ rest
-  pub no_token : (u v : List ℕ) → u ++ v ≡ text → ¬ IsLexeme u
-
--- the longest token form that the text begins with is too long
-pub record BeginsTooLong (text : List ℕ) : Type 0 where
-  pub front : List ℕ
-  pub rest : List ℕ
-  pub joined : text ≡ front ++ rest
-  pub longest : IsLongest front rest
-  pub too_long : IsTooLong front
-
--- the rule that the text breaks at its first byte
-abbrev pub BreaksAtFirst : Rule → List ℕ → Type 0
-BreaksAtFirst rules.E01 text = IsForeign text
-BreaksAtFirst rules.E03 text = BeginsTooLong text
-BreaksAtFirst _ text = ⊥
-
--- pieces come before the place, and the rest breaks the rule at its first byte
-pub record HasLexicalFault (text : List ℕ) (e : Rule) (place : ℕ) : Type 0 where
-  pub pieces : List Piece
-  pub rest : List ℕ
-  pub joined : text ≡ text_of_all pieces ++ rest
-  pub stand : StandAll pieces rest
-  pub place_is : place ≡ length (text_of_all pieces)
-  pub broken : BreaksAtFirst e rest
+tokens_from p xs = Cutting.tokens_from text_of StandsBefore token_at p xs

@@ -2,7 +2,7 @@
 
 ghost use Rattle.safl_word.specs.Laws.{GivesWords, SlicesJoin, ShiftsOut, ExtensionKeeps, DecimalCounts};
 ghost use Rattle.safl_word.specs.Spacing.{SpacedReads, WritesNumbers, WritesSizes};
-ghost use Rattle.safl_word.specs.TokenLaws.{TokensOnce, LexicalFaultOnce, TokensOrFault};
+ghost use Rattle.safl_word.specs.TokenLaws.{TokensOnce, LexicalFaultOnce, LexicalFaultInFull, TokensOrFault};
 
 /// A primitive on words gives a word whose width is the one in the table of widths.
 pub fn primitive_law()
@@ -37,6 +37,11 @@ pub fn tokens_law()
 /// A text has at most one first lexical fault.
 pub fn lexical_fault_law()
     ensures { LexicalFaultOnce }
+{}
+
+/// At a lexical fault begins what is no token's form, or the longest form of a token there is too long.
+pub fn lexical_rule_law()
+    ensures { LexicalFaultInFull }
 {}
 
 /// A text has a list of tokens exactly if it has no lexical fault.
