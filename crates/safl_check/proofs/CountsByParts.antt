@@ -4,8 +4,8 @@ use Rattle.std.specs.Prelude.{min}
 use Rattle.std.specs.Option.{option_or}
 use Rattle.safl_tree.specs.Tree.{Tree, Number, Sized, Variable, If, Let, Cases, Op, Call, Trees, no_tree, a_tree, Binds, no_bind, a_bind, Arms, default_arm, an_arm}
 use Rattle.safl_typing.specs.Heads.{Known, sites, sites_in, sites_bound}
-use Rattle.safl_typing.specs.Rewriting.{Expression, rewritten, rewritten_all, rewritten_binds, rewritten_arms, nodes, nodes_in, nodes_bound}
-use Rattle.safl_typing.specs.Walk.{or_place, long_let, long_let_in, long_let_bound}
+use Rattle.safl_typing.specs.Rewriting.{Expression, rewritten, rewritten_all, rewritten_binds, rewritten_arms, nodes, nodes_in, nodes_bound, long_let, long_let_in, long_let_bound}
+use Rattle.std.specs.Option.{option_or as or_place}
 use Rattle.safl_check.specs.Parts.{trees_in, values_in, arms_in, parts, arm_count, own_nodes, own_sites, own_long_let, total_nodes}
 
 -- ---- several expressions

@@ -17,7 +17,8 @@ use Rattle.safl_tree.specs.Shown.{shown_definition, shown_definitions, shown_par
 use Rattle.safl_tree.specs.declared.tree.Def.{Def}
 use Rattle.safl_tree.specs.declared.tree.Param.{Param}
 use Rattle.safl_term.specs.Readiness.{or_else}
-use Rattle.safl_typing.specs.Walk.{Placed, fault, fault_with, needs, repeated, placed_params, head_fault, joined_faults}
+use Rattle.safl_typing.specs.Walk.{fault, fault_with, needs, repeated, placed_params, head_fault, joined_faults}
+use Rattle.safl_typing.specs.Rewriting.{Placed}
 use Rattle.safl_check.specs.Groups.{name_in, earlier, first_group_fault, group_fault_at}
 use Rattle.safl_check.proofs.FirstOfTwo.{first_of, second_of}
 

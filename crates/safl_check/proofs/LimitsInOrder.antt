@@ -17,10 +17,10 @@ use Rattle.safl_word.specs.Limits.{bindings_max, params_max, sites_max, nodes_ma
 use Rattle.safl_typing.specs.Heads.{Head, sites, unit_of}
 use Rattle.safl_typing.specs.declared.heads.Head as code_head
 use Rattle.safl_typing.specs.PlainHeads.{shown_heads, known}
-use Rattle.safl_typing.specs.Rewriting.{Expression, rewritten, nodes}
+use Rattle.safl_typing.specs.Rewriting.{Expression, rewritten, nodes, excess, long_let}
 use Rattle.safl_term.specs.Readiness.{or_else}
 use Rattle.safl_term.proofs.OrElse.{or_else_assoc}
-use Rattle.safl_typing.specs.Walk.{fault, fault_with, needs, limit, excess, long_let, limits_from, main_fault}
+use Rattle.safl_typing.specs.Walk.{fault, fault_with, needs, limit, limits_from, main_fault}
 use Rattle.safl_check.proofs.FirstOfTwo.{first_of, second_of, none_both, needs_none}
 
 -- the element that is one too many

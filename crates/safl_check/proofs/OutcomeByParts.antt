@@ -1,6 +1,7 @@
 -- The outcome of the walk, by its parts.
-use Rattle.std.proofs.Common.{◌≡◌, suc, ◌≤◌, List, [], length, map, Option, Some, None, inl, inr, refl, sym, subst, arith}
+use Rattle.std.proofs.Common.{◌≡◌, suc, ◌≤◌, List, [], length, map, Option, Some, None, inl, inr, refl, sym, ◌∙◌, subst, arith}
 use Rattle.std.specs.Prelude.{Ok, Err}
+use Rattle.std.specs.Result.{result_err}
 use Rattle.std.proofs.lemmas.List.{length-map}
 use Rattle.safl_word.specs.declared.fault.Fault.{Fault}
 use Rattle.safl_term.specs.declared.checked.Function.{Function}
@@ -15,18 +16,24 @@ use Rattle.safl_word.specs.Limits.{functions_max}
 use Rattle.safl_typing.specs.Laws.{WalkGivesForm}
 use Rattle.safl_typing.specs.PlainTyped.{RefusesFault}
 use Rattle.safl_term.specs.Readiness.{or_else}
-use Rattle.safl_typing.specs.Walk.{limits, limits_from, limit, excess, functions_from, main_fault, outcome, first_fault}
+use Rattle.safl_typing.specs.Walk.{limits, limits_from, limit, functions_from, main_fault, outcome}
+use Rattle.safl_typing.specs.Rewriting.{excess}
+use Rattle.safl_typing.specs.FirstFault.{first_fault}
 use Rattle.safl_typing.specs.declared.typed.CheckErr.{CheckErr}
 use Rattle.safl_typing.specs.declared.typed.CheckErr.TheVariants as errors
 use Rattle.safl_typing.proofs.Limits.{none_limit, none_excess}
 use Rattle.safl_typing.proofs.Walks.{as_many}
+use Rattle.safl_typing.proofs.WidthsAlone.{same_fault}
 use Rattle.safl_check.specs.Answers.{RefusesProgram, RefusesLimits, RefusesShallow}
 
 -- ---- faults
 
-fault_of_limits : (ds : List Definition) (f : Fault) → limits ds ≡ Some f → first_fault ds ≡ Some f
+outcome_limits : (ds : List Definition) (f : Fault) → limits ds ≡ Some f → result_err (outcome ds) ≡ Some f
 unfolding outcome
-fault_of_limits ds f e = rw e refl
+outcome_limits ds f e = rw e refl
+
+fault_of_limits : (ds : List Definition) (f : Fault) → limits ds ≡ Some f → first_fault ds ≡ Some f
+fault_of_limits ds f e = sym (same_fault ds) ∙ outcome_limits ds f e
 
 pub refused_limits : (ds : List Definition) (e : CheckErr) → RefusesLimits ds e → RefusesProgram ds e
 refused_limits ds (errors.Refused f) h = (fault_of_limits ds f h, inl h)
@@ -38,13 +45,20 @@ refused_shallow ds (errors.Refused f) s h = (h, inr s)
 refused_shallow ds errors.TooDeep s h = absurd h
 refused_shallow ds errors.NoMemory s h = tt
 
-pub fault_of_functions : (ds : List Definition) (f : Fault) → limits ds ≡ None → functions_from (heads ds) [] 0 0 1 ds ≡ Err f → first_fault ds ≡ Some f
+outcome_functions : (ds : List Definition) (f : Fault) → limits ds ≡ None → functions_from (heads ds) [] 0 0 1 ds ≡ Err f → result_err (outcome ds) ≡ Some f
 unfolding outcome
-fault_of_functions ds f e p = rw e (rw p refl)
+outcome_functions ds f e p = rw e (rw p refl)
+
+pub fault_of_functions : (ds : List Definition) (f : Fault) → limits ds ≡ None → functions_from (heads ds) [] 0 0 1 ds ≡ Err f → first_fault ds ≡ Some f
+fault_of_functions ds f e p = sym (same_fault ds) ∙ outcome_functions ds f e p
+
+outcome_main : (ds : List Definition) (fs : List FunctionForm) (f : Fault) → limits ds ≡ None → functions_from (heads ds) [] 0 0 1 ds ≡ Ok fs → main_fault ds ≡ Some f
+    → result_err (outcome ds) ≡ Some f
+unfolding outcome
+outcome_main ds fs f e p m = rw e (rw p (rw m refl))
 
 pub fault_of_main : (ds : List Definition) (fs : List FunctionForm) (f : Fault) → limits ds ≡ None → functions_from (heads ds) [] 0 0 1 ds ≡ Ok fs → main_fault ds ≡ Some f → first_fault ds ≡ Some f
-unfolding outcome
-fault_of_main ds fs f e p m = rw e (rw p (rw m refl))
+fault_of_main ds fs f e p m = sym (same_fault ds) ∙ outcome_main ds fs f e p m
 
 -- a fault of the walk over the functions is the program's
 pub refused_functions : (ds : List Definition) (e : CheckErr) → limits ds ≡ None → RefusesFault e (functions_from (heads ds) [] 0 0 1 ds) → RefusesShallow ds e

@@ -8,11 +8,11 @@ use Rattle.safl_tree.specs.Printable.{AreFormedDefinitions, IsFormedProgram}
 use Rattle.safl_typing.specs.declared.expression.Expression as code_expression
 use Rattle.safl_typing.specs.declared.heads.Slot as code_slot
 use Rattle.safl_typing.specs.declared.heads.Head as code_head
-use Rattle.safl_typing.specs.Rewriting.{Expression, rewritten, nodes}
+use Rattle.safl_typing.specs.Rewriting.{Expression, rewritten, nodes, excess, long_let}
 use Rattle.safl_typing.specs.Heads.{Slot, Head, Known, unit_of, slot_of, params_of, head_of, heads_from, heads, sites}
 use Rattle.safl_word.specs.Limits.{bindings_max, functions_max, params_max, sites_max, nodes_max}
 use Rattle.safl_typing.specs.Ranges.{WideSlots, WideHeads, IsInRange}
-use Rattle.safl_typing.specs.Walk.{fault_with, needs, excess, limit, long_let, limits_from, limits}
+use Rattle.safl_typing.specs.Walk.{fault_with, needs, limit, limits_from, limits}
 use Rattle.safl_typing.specs.Plain.{shown_expression}
 use Rattle.safl_typing.specs.PlainHeads.{shown_slots, shown_head, shown_heads, known}
 use Rattle.safl_typing.specs.MayWalk.{CountParams, MayCheck}

@@ -17,8 +17,7 @@ use Rattle.safl_check.specs.Parts as shown
 use Rattle.safl_check.specs.Parts.{trees_in, values_in, arms_in, parts, pending, values_of, arm_count, own_nodes, own_sites, own_long_let, total_nodes}
 use Rattle.safl_word.specs.Limits.{bindings_max}
 use Rattle.safl_typing.specs.Heads.{Known}
-use Rattle.safl_typing.specs.Rewriting.{Expression, rewritten_binds}
-use Rattle.safl_typing.specs.Walk.{excess, placed}
+use Rattle.safl_typing.specs.Rewriting.{Expression, rewritten_binds, excess, placed}
 use Rattle.safl_tree.proofs.ShownTrees.{op_shows, call_shows, let_shows, case_shows}
 use Rattle.safl_check.proofs.CountsByParts.{IsMeasured, measured_next, parts_fewer}
 

@@ -6,7 +6,8 @@ use Rattle.safl_term.specs.declared.checked.Function.{Function}
 use Rattle.safl_tree.specs.Tree.{Definition}
 use Rattle.safl_typing.specs.Forms.{FunctionForm, AreShallow, shown_function}
 use Rattle.safl_typing.specs.PlainTyped.{RefusesFault}
-use Rattle.safl_typing.specs.Walk.{limits, first_fault}
+use Rattle.safl_typing.specs.Walk.{limits}
+use Rattle.safl_typing.specs.FirstFault.{first_fault}
 use Rattle.safl_typing.specs.declared.typed.CheckErr.{CheckErr}
 use Rattle.safl_typing.specs.declared.typed.CheckErr.TheVariants as errors
 

@@ -11,8 +11,8 @@ use Rattle.safl_tree.specs.declared.tree.Arm.{Arm}
 use Rattle.safl_term.specs.Readiness.{or_else}
 use Rattle.safl_word.specs.Limits.{bindings_max, sites_max, nodes_max}
 use Rattle.safl_typing.specs.Heads.{Known, callee, is_site}
-use Rattle.safl_typing.specs.Rewriting.{rewritten, rewritten_binds, nodes}
-use Rattle.safl_typing.specs.Walk.{excess, fault_with, needs, placed}
+use Rattle.safl_typing.specs.Rewriting.{rewritten, rewritten_binds, nodes, excess, placed}
+use Rattle.safl_typing.specs.Walk.{fault_with, needs}
 
 -- the expressions of a list of operands or arguments
 abbrev pub trees_in : Trees → List Tree

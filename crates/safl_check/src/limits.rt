@@ -7,7 +7,8 @@ ghost use Rattle.safl_typing.specs.Heads.{heads};
 ghost use Rattle.safl_word.specs.Limits.{bindings_max, functions_max, params_max};
 ghost use Rattle.safl_typing.specs.PlainHeads.{shown_heads};
 ghost use Rattle.safl_term.specs.Readiness.{or_else};
-ghost use Rattle.safl_typing.specs.Walk.{fault_with, limit, excess, limits_from, main_fault};
+ghost use Rattle.safl_typing.specs.Walk.{fault_with, limit, limits_from, main_fault};
+ghost use Rattle.safl_typing.specs.Rewriting.{excess};
 ghost use Rattle.safl_check.specs.Parts.{sum_fault};
 
 use crate::heads::next_unit;

@@ -5,8 +5,7 @@ ghost use Rattle.safl_tree.specs.Shown.{shown_tree, shown_trees};
 ghost use Rattle.safl_word.specs.Limits.{bindings_max, sites_counted, nodes_counted};
 ghost use Rattle.safl_typing.specs.PlainHeads.{known};
 ghost use Rattle.safl_typing.specs.Heads.{sites};
-ghost use Rattle.safl_typing.specs.Rewriting.{rewritten, nodes};
-ghost use Rattle.safl_typing.specs.Walk.{excess, long_let};
+ghost use Rattle.safl_typing.specs.Rewriting.{rewritten, nodes, excess, long_let};
 ghost use Rattle.safl_check.specs.Parts.{parts, pending, values_of, arms_of, own_long_let, own_nodes, own_sites};
 
 use safl_tree::tree::{Arm, Bind, Expr, Node};

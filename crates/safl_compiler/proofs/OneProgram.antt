@@ -9,7 +9,7 @@ use Rattle.safl_tree.specs.Source.{SpellsProgram}
 use Rattle.safl_tree.specs.Tree.{Definition, depth}
 use Rattle.safl_typing.specs.Forms.{Form, AreShallow, IsFormOf}
 use Rattle.safl_typing.specs.Laws.{OneForm, FaultOrForm}
-use Rattle.safl_typing.specs.Walk.{first_fault}
+use Rattle.safl_typing.specs.FirstFault.{first_fault}
 use Rattle.safl_typing.specs.declared.typed.CheckErr.{CheckErr}
 use Rattle.safl_typing.specs.declared.typed.CheckErr.TheVariants as errors
 use Rattle.safl_check.specs.Answers.{RefusesProgram}

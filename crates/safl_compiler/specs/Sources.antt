@@ -6,7 +6,7 @@ use Rattle.safl_tree.specs.Source.{SpellsProgram, SyntaxFault}
 use Rattle.safl_term.specs.Program.{Program}
 use Rattle.safl_typing.specs.Forms.{Form, IsFormOf}
 use Rattle.safl_word.specs.Limits.{sites_max}
-use Rattle.safl_typing.specs.Walk.{first_fault}
+use Rattle.safl_typing.specs.FirstFault.{first_fault}
 use Rattle.safl_typing.specs.declared.typed.CheckErr.{CheckErr}
 use Rattle.safl_typing.specs.declared.typed.CheckErr.TheVariants as errors
 use Rattle.safl_check.specs.Numbered.{program_in, names_in}

@@ -1,13 +1,14 @@
 -- The functions of a program in which one is copied.
-use Rattle.std.proofs.Common.{◌≡◌, ℕ, zero, suc, ◌+◌, ◌<◌, ◌≤◌, List, [], ◌∷◌, length, Some, Bool, true, false, cond, refl, sym, ap, ◌∙◌, subst, arith}
+use Rattle.std.proofs.Common.{◌≡◌, ℕ, zero, suc, ◌+◌, ◌<◌, ◌≤◌, List, [], ◌∷◌, length, Some, None, Bool, true, false, cond, refl, sym, ap, ◌∙◌, subst, arith}
 use Rattle.std.specs.Prelude.{slice_get}
 use Rattle.std.proofs.lemmas.Option.{same_Some}
 use Rattle.safl_term.specs.Program.{Program}
 use Rattle.safl_tree.specs.Tree.{Definition}
-use Rattle.safl_typing.specs.Rewriting.{Expression, rewritten}
+use Rattle.safl_typing.specs.Rewriting.{Expression, rewritten, long_let}
 use Rattle.safl_typing.specs.Heads.{Slot, Head, sites, unit_of, params_of}
 use Rattle.safl_typing.specs.Typing.{Has}
-use Rattle.safl_typing.specs.Forms.{FunctionForm, HasShortLets, IsFunctionOf, AreFunctionsOf}
+use Rattle.safl_typing.specs.Forms.{FunctionForm, IsFunctionOf, AreFunctionsOf}
+use Rattle.safl_typing.proofs.Limits.{short_lets as lets_short, no_long_let}
 use Rattle.safl_reshape.proofs.Intervals.{has_sites}
 use Rattle.safl_reshape.specs.Changed.{changed, changed_definitions}
 use Rattle.safl_reshape.specs.Reshaped.{copying_call, own_call, put_behind, copy_of, Unjoined}
@@ -64,7 +65,8 @@ module _ (C : Program) (all rest : List Head) (k j : ℕ) (new : List ℕ) (ps :
           first_site = refl;
           params_differ = fd.params_differ;
           few_params = fd.few_params;
-          short_lets = subst HasShortLets q (short_altered (sees all j) (own_alteration new) (own_rigid new) (own_short new) lo (rewritten d.body) fd.short_lets);
+          short_lets = subst (λ (x : Expression). long_let x ≡ None) q (lets_short (altered (sees all j) (own_alteration new) lo (rewritten d.body))
+              (short_altered (sees all j) (own_alteration new) (own_rigid new) (own_short new) lo (rewritten d.body) (no_long_let (rewritten d.body) fd.short_lets)));
           body = subst (λ (x : Expression). Has (sees rest (suc j)) (params_of d) true from r.0 x d.width r.1) q r.2;
         },
         record { params = refl; width = refl; body = subst (λ (x : ℕ). Alike C (IsCopied j) no_site 0 x f.body r.1) (ap (λ (l : List Slot). length l) (sym fd.params)) r.3 },

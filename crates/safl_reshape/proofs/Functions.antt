@@ -1,12 +1,13 @@
 -- The functions of a program whose calls are changed.
-use Rattle.std.proofs.Common.{◌≡◌, ℕ, suc, ◌+◌, List, [], ◌∷◌, length, Some, Bool, true, false, cond, refl, sym, ap, ◌∙◌, subst, arith}
+use Rattle.std.proofs.Common.{◌≡◌, ℕ, suc, ◌+◌, List, [], ◌∷◌, length, Some, None, Bool, true, false, cond, refl, sym, ap, ◌∙◌, subst, arith}
 use Rattle.std.specs.Prelude.{slice_get}
 use Rattle.safl_term.specs.Program.{Program}
 use Rattle.safl_tree.specs.Tree.{Definition}
-use Rattle.safl_typing.specs.Rewriting.{Expression, rewritten}
+use Rattle.safl_typing.specs.Rewriting.{Expression, rewritten, long_let}
 use Rattle.safl_typing.specs.Heads.{Slot, Head, unit_of, params_of}
 use Rattle.safl_typing.specs.Typing.{Has}
-use Rattle.safl_typing.specs.Forms.{FunctionForm, HasShortLets, IsFunctionOf, AreFunctionsOf}
+use Rattle.safl_typing.specs.Forms.{FunctionForm, IsFunctionOf, AreFunctionsOf}
+use Rattle.safl_typing.proofs.Limits.{short_lets as lets_short, no_long_let}
 use Rattle.safl_reshape.proofs.Intervals.{has_sites}
 use Rattle.safl_reshape.specs.Changed.{Change, changed, with_body, changed_definitions}
 use Rattle.safl_reshape.proofs.Alike.{Alike}
@@ -72,7 +73,8 @@ module _ (C : Program) (same : ℕ → ℕ → Type 0) (at : ℕ → Bool) (ok :
           first_site = refl;
           params_differ = is.params_differ;
           few_params = is.few_params;
-          short_lets = subst HasShortLets q (short_altered (sees all v) alt rigid short first (rewritten d.body) is.short_lets);
+          short_lets = subst (λ (x : Expression). long_let x ≡ None) q (lets_short (altered (sees all v) alt first (rewritten d.body))
+              (short_altered (sees all v) alt rigid short first (rewritten d.body) (no_long_let (rewritten d.body) is.short_lets)));
           body = h;
         },
         record { params = refl; width = refl; body = subst (λ (x : ℕ). Alike C same at 0 x f.body r.1) (ap (λ (l : List Slot). length l) (sym is.params)) r.3 },

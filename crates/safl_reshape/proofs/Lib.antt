@@ -23,6 +23,7 @@ pub mod CopiedNumbers
 pub mod Copied
 pub mod Twins
 pub mod Unplaced
+pub mod LevelsUnplaced
 pub mod Checkable
 pub mod Listed
 pub mod ShownNodes

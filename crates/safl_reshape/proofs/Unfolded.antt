@@ -10,6 +10,7 @@ use Rattle.safl_typing.specs.Rewriting.{Expression, Call, Expressions, no_expres
 use Rattle.safl_typing.specs.Heads.{Head, Member, Above, Unknown, unit_of, params_of, head_of, heads_from, heads}
 use Rattle.safl_typing.specs.Typing.{Differ, names}
 use Rattle.safl_typing.specs.Forms.{FunctionForm, Form, HasShortLets, HaveShortLets, HaveShortBound, all_sites, IsLast, function_names, AreFunctionsOf, IsFormOf}
+use Rattle.safl_typing.proofs.Limits.{no_long_let}
 use Rattle.safl_typing.proofs.Walks.{functions_rise}
 use Rattle.safl_reshape.proofs.Intervals.{has_sites}
 use Rattle.safl_check.specs.Numbered.{program_in}
@@ -62,7 +63,8 @@ pub short_at : (all : List Head) (n u w lo hi : ℕ) (ds : List Definition) (fs 
     lo hi ds fs → slice_get ds i ≡ Some d → IsShortDefinition d
 short_at all n u w lo hi [] fs i d h e = absurd cc
 short_at all n u w lo hi (x ∷ ds) [] i d h e = absurd h
-short_at all n u w lo hi (x ∷ ds) (f ∷ fs) zero d (m, is, j, rest) e = subst IsShortDefinition (same_Some x d e) (record { params = is.few_params; lets = is.short_lets })
+short_at all n u w lo hi (x ∷ ds) (f ∷ fs) zero d (m, is, j, rest) e =
+    subst IsShortDefinition (same_Some x d e) (record { params = is.few_params; lets = no_long_let (rewritten x.body) is.short_lets })
 short_at all n u w lo hi (x ∷ ds) (f ∷ fs) (suc i) d (m, is, j, rest) e = short_at all (suc n) (unit_of n u x) x.width m hi ds fs i d rest e
 
 few_names : (ps : List Parameter) (es : Expressions) → length (names (params_bound ps es)) ≤ length ps

@@ -10,6 +10,7 @@ use Rattle.safl_typing.specs.Heads.{Slot, Head, Known, unit_of, slot_of, params_
 use Rattle.safl_typing.specs.Typing.{Differ, Has}
 use Rattle.safl_typing.specs.Forms.{FunctionForm, Form, nodes_of, param_names, IsFunctionOf, AreFunctionsOf, IsLast, function_names, IsFormOf}
 use Rattle.safl_word.specs.Limits.{params_max, functions_max, nodes_max}
+use Rattle.safl_typing.proofs.Limits.{short_lets as lets_short, no_long_let}
 use Rattle.safl_reshape.proofs.Twins.{Twin, twin_back, twin_nodes, twin_short, twin_has, unplaced_twin}
 
 -- ---- definitions
@@ -127,7 +128,7 @@ same_function all u lo hi d e f s is =
       first_site = is.first_site;
       params_differ = subst Differ s.names is.params_differ;
       few_params = subst (λ (n : ℕ). n ≤ params_max) s.many is.few_params;
-      short_lets = twin_short s.body is.short_lets;
+      short_lets = lets_short (rewritten e.body) (twin_short s.body (no_long_let (rewritten d.body) is.short_lets));
       body = subst (λ (l : List Slot). Has k l true lo hi (rewritten e.body) e.width f.body) s.params (subst (λ (w : ℕ). Has k (params_of d) true lo hi (rewritten e.body) w f.body) s.width b);
     }
 
@@ -167,7 +168,7 @@ form_without_places ds es c e is =
 -- ---- depths
 
 mutual
-  depth_unplaced : (t : Tree) → depth (unplaced t) ≡ depth t
+  pub depth_unplaced : (t : Tree) → depth (unplaced t) ≡ depth t
   depth_unplaced (Number p n) = refl
   depth_unplaced (Sized p w n) = refl
   depth_unplaced (Variable p x) = refl

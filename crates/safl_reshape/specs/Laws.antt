@@ -1,12 +1,13 @@
 -- The laws of reshaped programs.
-use Rattle.std.specs.Prelude.{◌≡◌, ℕ, ◌+◌, List, false}
+use Rattle.std.specs.Prelude.{◌≡◌, ◌↔◌, ℕ, ◌+◌, List, false}
 use Rattle.safl_word.specs.Words.{Word}
 use Rattle.safl_term.specs.Program.{Program}
 use Rattle.safl_term.specs.Meaning.{Main, main_cost}
 use Rattle.safl_term.specs.WellFormed.{AreWordsOf}
 use Rattle.safl_tree.specs.Tree.{Definition}
 use Rattle.safl_tree.specs.Source.{SpellsProgram}
-use Rattle.safl_tree.specs.Printable.{IsPrintable}
+use Rattle.safl_tree.specs.Laws.{SpelledBy}
+use Rattle.safl_tree.specs.Printable.{IsFormedProgram, AllKeepLevels, IsPrintable}
 use Rattle.safl_tree.specs.Printed.{printed}
 use Rattle.safl_tree.specs.Places.{unplaced_program}
 use Rattle.safl_typing.specs.Forms.{Form, IsFormOf}
@@ -62,3 +63,7 @@ FormsHaveNoPlaces = (ds es : List Definition) (c : Form) → unplaced_program ds
 abbrev pub PrintedKeepsForm : Type 0
 PrintedKeepsForm = (ds : List Definition) (c : Form) → IsPrintable ds → IsFormOf ds c
     → (es : List Definition) × SpellsProgram (printed ds) es × (unplaced_program es ≡ unplaced_program ds) × IsFormOf es c
+
+-- A well formed program keeps the levels exactly if its text spells it, apart from places.
+abbrev pub LevelsAreSpelled : Type 0
+LevelsAreSpelled = (ds : List Definition) → IsFormedProgram ds → AllKeepLevels ds ↔ SpelledBy (printed ds) ds

@@ -11,15 +11,13 @@ use Rattle.safl_reshape.specs.Changed.{Change, changed, changed_definitions, cal
 
 -- the bindings of each parameter, with its width, to the argument at its place
 abbrev pub bound_params : List Parameter → Trees → Binds
-bound_params [] ts = no_bind
-bound_params (p ∷ ps) no_tree = no_bind
 bound_params (p ∷ ps) (a_tree t ts) = a_bind p.place p.name (Some p.width) t (bound_params ps ts)
+bound_params ps ts = no_bind
 
 -- a body under a let of its parameters, or the body alone if there are none
 abbrev pub body_under : ℕ → List Parameter → Trees → Tree → Tree
-body_under place [] ts body = body
-body_under place (p ∷ ps) no_tree body = body
 body_under place (p ∷ ps) (a_tree t ts) body = Let place (bound_params (p ∷ ps) (a_tree t ts)) body
+body_under place ps ts body = body
 
 -- the body of a definition under a let of its parameters, or the body alone if it has none
 abbrev pub placed_body : ℕ → Definition → Trees → Tree
@@ -30,7 +28,7 @@ result_name = codes "r"
 
 -- the unfolded call: `let r:w = B in r`
 abbrev pub unfolded_call : ℕ → Definition → Trees → Tree
-unfolded_call place d ts = Let place (a_bind place result_name (Some d.width) (placed_body place d ts) no_bind) (Variable place result_name)
+unfolded_call place d ts = Let place (a_bind place result_name (Some d.width) (body_under place d.params ts d.body) no_bind) (Variable place result_name)
 
 abbrev pub unfolded_as : Option Definition → ℕ → List ℕ → Trees → Tree
 unfolded_as (Some d) place x ts = unfolded_call place d ts
@@ -38,18 +36,16 @@ unfolded_as None place x ts = Call place x ts
 
 -- the change that replaces only the call of site k
 abbrev pub unfolding_call : List Definition → ℕ → Change
-unfolding_call ds k (Member i h) lo place x ts = Call place x ts
 unfolding_call ds k (Above i h) lo place x ts = if lo == k then unfolded_as (slice_get ds i) place x ts else Call place x ts
-unfolding_call ds k Unknown lo place x ts = Call place x ts
+unfolding_call ds k _ lo place x ts = Call place x ts
 
 abbrev pub unfolded : List Definition → ℕ → List Definition
 unfolded ds k = changed_definitions (heads ds) (unfolding_call ds k) 0 0 1 ds
 
 -- whether the body of a definition calls a function of its group
 abbrev pub calls_group : List Head → Option Head → Option Definition → Bool
-calls_group all None d = false
-calls_group all (Some h) None = false
 calls_group all (Some h) (Some d) = calls is_member (record { heads = all; unit = h.unit }) (rewritten d.body)
+calls_group all h d = false
 
 -- whether function j calls a function of its group
 abbrev pub is_recursive : List Definition → ℕ → Bool
@@ -63,26 +59,17 @@ copy_name name k = name ++ (codes "_" ++ decimal k)
 
 -- the change that gives the new name to the call of site k, and to no other
 abbrev pub copying_call : ℕ → List ℕ → Change
-copying_call k new (Member i h) lo place x ts = Call place x ts
 copying_call k new (Above i h) lo place x ts = Call place (if lo == k then new else x) ts
-copying_call k new Unknown lo place x ts = Call place x ts
+copying_call k new _ lo place x ts = Call place x ts
 
 -- the change that gives the new name to all calls of functions of the caller's own group
 abbrev pub own_call : List ℕ → Change
 own_call new (Member i h) lo place x ts = Call place new ts
-own_call new (Above i h) lo place x ts = Call place x ts
-own_call new Unknown lo place x ts = Call place x ts
+own_call new _ lo place x ts = Call place x ts
 
 -- the copy of function j under a new name. It is a group of its own
 abbrev pub copy_of : List Head → ℕ → List ℕ → Definition → Definition
-copy_of all j new d = record {
-  joined = false;
-  place = d.place;
-  name = new;
-  params = d.params;
-  width = d.width;
-  body = changed (record { heads = all; unit = j }) (own_call new) 1 d.body;
-}
+copy_of all j new d = record d { joined = false; name = new; body = changed (record { heads = all; unit = j }) (own_call new) 1 d.body }
 
 -- the definitions with one more right after number j
 abbrev pub put_behind : ℕ → Definition → List Definition → List Definition

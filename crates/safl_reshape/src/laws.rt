@@ -1,6 +1,6 @@
 //! Laws of reshaped programs, over the definitions alone.
 
-ghost use Rattle.safl_reshape.specs.Laws.{UnfoldingSpares, CopyIsAlike, ReshapedKeepsLists, FormsHaveNoPlaces, PrintedKeepsForm};
+ghost use Rattle.safl_reshape.specs.Laws.{UnfoldingSpares, CopyIsAlike, ReshapedKeepsLists, FormsHaveNoPlaces, PrintedKeepsForm, LevelsAreSpelled};
 
 use safl_term::laws::meaning_law;
 use safl_tree::laws::printed_law;
@@ -37,3 +37,8 @@ pub fn printed_form_law()
     printed_law();
     places_law();
 }
+
+/// A well formed program keeps the levels exactly if its printed text spells it, apart from places.
+pub fn levels_law()
+    ensures { LevelsAreSpelled }
+{}

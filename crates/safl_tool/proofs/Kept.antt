@@ -35,11 +35,10 @@ use Rattle.safl_tool.specs.Calling.{GivesReplies, EvaluatesEach}
 use Rattle.safl_session.specs.Circuits.{CircuitsReply, ResetIsQuiet}
 use Rattle.safl_session.specs.Laws as sessions
 use Rattle.safl_tree.specs.Laws.{OneProgram as OneTree}
-use Rattle.safl_check.specs.Numbered.{program_in, names_in}
 use Rattle.safl_session.proofs.WordsOfLines.{args_long, args_once}
 use Rattle.safl_compiler.specs.Sources.{IsSourceOf}
 use Rattle.safl_tool.specs.Reshaping.{Reshaping, copies, unfolds, IsReshapable, GivesReshaped}
-use Rattle.safl_tool.proofs.Reshaped.{IsOnce, copying_once, unfolding_once, reshapable_not_refused}
+use Rattle.safl_tool.proofs.Reshaped.{reshapable_not_refused}
 use Rattle.safl_tool.specs.Reporting.{GivesReport, Measures, made_source, made_args}
 use Rattle.safl_task.specs.declared.status.Status.{Status}
 use Rattle.safl_task.proofs.Following.{IsKept, Refusing, Giving}
@@ -216,8 +215,7 @@ measure_comes once args limit g source e (head, Some d, m, is) = ap (λ (x : Giv
 
 source_reshapable_not_refused : NotBoth → (r : Reshaping) (source : List ℕ) (name : List ℕ) (s : Status) (line : List ℕ) → IsReshapable r source → RefusesSourceOf name source s line → ⊥
 source_reshapable_not_refused apart r source name s line k f =
-    apart source (program_in k.form.0) (names_in k.form.0) f.1.0
-    (record { definitions = k.definitions; spelled = k.spelled; form = k.form.0; is = k.form.1; program = refl; names = refl }) f.1.1
+    apart source k.program k.names f.1.0 k.source_of f.1.1
 
 -- what is true of sources, of scripts, of Verilog texts and of AIGER texts
 pub record Laws : Type 1 where
@@ -232,12 +230,12 @@ pub record Laws : Type 1 where
   pub script : sessions.OneScript
   pub misread : sessions.NotBoth
 
-reshape_kept : Laws → (r : Reshaping) → IsOnce r → (input output : List ℕ) (site : ℕ) → IsKept (reshape_task r input output site)
-reshape_kept l r o input output site =
+reshape_kept : Laws → (r : Reshaping) (input output : List ℕ) (site : ℕ) → IsKept (reshape_task r input output site)
+reshape_kept l r input output site =
     reading_kept (file_within input source_max) (output ∷ []) (RefusesReshaping r input site) (GivesReshaped r) (IsReshapable r)
     (λ source s line k q. elim q [
       | inl f ↦ source_reshapable_not_refused l.apart r source input s line k f
-      | inr u ↦ reshapable_not_refused l.trees r o site source s line k u
+      | inr u ↦ reshapable_not_refused l.trees l.once r site source s line k u
     ]) (λ source g k h. ap (λ (x : Given). x.comes) h.is)
 
 session_kept : Laws → (input script : List ℕ) (limit : ℕ) → IsKept (command_task (Session input script limit))
@@ -267,8 +265,8 @@ command_kept l (Bench seed count limit) = record {
   refuses = λ contents s line p r. given_not_refused l.once l.apart (codes "bench") (made_args seed count) (InCycles limit) s line (made_source seed count) p r;
   gives = λ contents g p h. measure_comes l.once (made_args seed count) limit g (made_source seed count) p h;
 }
-command_kept l (CopySite input output site) = reshape_kept l (copies site) (copying_once site) input output site
-command_kept l (UnfoldSite input output site) = reshape_kept l (unfolds site) (unfolding_once site) input output site
+command_kept l (CopySite input output site) = reshape_kept l (copies site) input output site
+command_kept l (UnfoldSite input output site) = reshape_kept l (unfolds site) input output site
 command_kept l (Session input script limit) = session_kept l input script limit
 command_kept l (Aig input output) =
     reading_kept (file_within input verilog_max) (output ∷ []) (RefusesBitsOf input) GivesBits HasBits

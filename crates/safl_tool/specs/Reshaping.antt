@@ -1,23 +1,93 @@
 -- Reshaped sources.
-use Rattle.std.specs.Prelude.{◌≡◌, ℕ, suc, zero, ◌<◌, ◌≤◌, List, length, codes}
+use Rattle.std.specs.Prelude.{◌≡◌, ℕ, suc, zero, ◌<◌, true, ◌⊎◌, List, length, codes}
 use Rattle.safl_tree.specs.Tree.{Definition}
-use Rattle.safl_tree.specs.Source.{SpellsProgram}
 use Rattle.safl_tree.specs.Printed.{printed}
+use Rattle.safl_tree.specs.Laws.{SpelledBy}
 use Rattle.safl_term.specs.Program.{Program}
 use Rattle.safl_term.specs.Names.{Names}
+use Rattle.safl_typing.specs.Heads.{heads}
+use Rattle.safl_typing.specs.Forms.{nodes_of}
 use Rattle.safl_reshape.specs.declared.error.ReshapeErr.{ReshapeErr}
 use Rattle.safl_reshape.specs.declared.error.ReshapeErr.TheVariants as errors
 use Rattle.safl_reshape.specs.Laws.{IsAlike, Spares}
-use Rattle.safl_reshape.specs.Refusals.{CopyRefused, IsCopied, UnfoldingRefused, IsUnfolded}
+use Rattle.safl_reshape.specs.Limits.{site_total}
+use Rattle.safl_reshape.specs.Refusals.{HasSite, is_grouped, name_for, is_taken}
+use Rattle.safl_reshape.specs.Reshaped.{copied, unfolded, is_recursive}
 use Rattle.safl_compiler.specs.Sources.{IsSourceOf}
-use Rattle.safl_word.specs.Limits.{source_max}
-use Rattle.safl_typing.specs.Forms.{HasForm}
+use Rattle.safl_word.specs.Limits.{source_max, name_max, functions_max, sites_max, nodes_max}
 use Rattle.safl_tool.specs.Lines.{site_line}
 use Rattle.safl_task.specs.Tasks.{Given, only_writes}
 use Rattle.safl_task.specs.declared.status.Status.{Status}
 use Rattle.safl_task.specs.declared.status.Status.TheVariants as status
 
 -- ---- why a site cannot be reshaped
+
+-- it is for this reason, if its cause holds, and else for one of those that follow
+abbrev pub FirstOf : Type 0 → List ℕ → (List ℕ → Type 0) → List ℕ → Type 0
+FirstOf Cause reason Later text = (Cause × (text ≡ reason)) ⊎ ((Cause → ⊥) × Later text)
+
+-- why a reshaped program is not given. Its text nests too deep exactly if it does not spell the program, places aside
+abbrev pub NoText : List Definition → List ℕ → Type 0
+NoText es =
+    FirstOf (functions_max < length es) (codes "limit: functions 1000")
+    (FirstOf (sites_max < site_total (heads es) 0 0 es) (codes "limit: sites 4000")
+    (FirstOf (nodes_max < nodes_of es) (codes "limit: nodes 50000")
+    (FirstOf (SpelledBy (printed es) es → ⊥) (codes "nesting too deep")
+    (FirstOf (source_max < length (printed es)) (codes "text too long") (λ text. ⊥)))))
+
+-- why the function that site k calls is not copied for that call
+abbrev pub NoCopy : ℕ → Program → List Definition → List ℕ → Type 0
+NoCopy k C ds =
+    FirstOf (HasSite C k → ⊥) (codes "no such site")
+    (FirstOf (is_grouped ds (C.callee k) ≡ true) (codes "grouped")
+    (FirstOf (name_max < length (name_for ds k (C.callee k))) (codes "name too long")
+    (FirstOf (is_taken ds (name_for ds k (C.callee k)) ≡ true) (codes "name taken") (NoText (copied ds k (C.callee k))))))
+
+-- why the call of site k is not unfolded
+abbrev pub NoUnfolding : ℕ → Program → List Definition → List ℕ → Type 0
+NoUnfolding k C ds =
+    FirstOf (HasSite C k → ⊥) (codes "no such site")
+    (FirstOf (is_recursive ds (C.callee k) ≡ true) (codes "recursive") (NoText (unfolded ds k)))
+
+-- ---- what is given
+
+-- a way of reshaping: what refuses it, in words, what a program is reshaped to, and what that keeps
+pub record Reshaping : Type 1 where
+  pub Refuses : Program → List Definition → List ℕ → Type 0
+  pub reshaped : Program → List Definition → List Definition
+  pub Keeps : Program → Program → Type 0
+
+abbrev pub copies : ℕ → Reshaping
+copies site = record { Refuses = NoCopy site; reshaped = λ C ds. copied ds site (C.callee site); Keeps = IsAlike }
+
+abbrev pub unfolds : ℕ → Reshaping
+unfolds site = record { Refuses = NoUnfolding site; reshaped = λ C ds. unfolded ds site; Keeps = Spares site }
+
+-- the program of the source cannot be reshaped at this site, and the line says why
+abbrev pub IsUnshaped : Reshaping → ℕ → List ℕ → Status → List ℕ → Type 0
+IsUnshaped r site source s line =
+    (s ≡ status.ReshapeRefused) × (C : Program) × (D : Names) × (source_of : IsSourceOf source C D) × (reason : List ℕ)
+    × r.Refuses C source_of.definitions reason × (line ≡ site_line site reason)
+
+-- the source has a program, and nothing refuses its reshaping
+pub record IsReshapable (r : Reshaping) (source : List ℕ) : Type 0 where
+  pub program : Program
+  pub names : Names
+  pub source_of : IsSourceOf source program names
+  pub passes : (reason : List ℕ) → r.Refuses program source_of.definitions reason → ⊥
+
+-- The text of the reshaped program is given. It is accepted, and the program that is read from it keeps what the first one gives.
+pub record GivesReshaped (r : Reshaping) (source : List ℕ) (g : Given) : Type 0 where
+  pub from : IsReshapable r source
+  pub reshaped : List Definition
+  pub is_reshaped : reshaped ≡ r.reshaped from.program from.source_of.definitions
+  pub after : Program
+  pub names_after : Names
+  pub accepted : IsSourceOf (printed reshaped) after names_after
+  pub keeps : r.Keeps from.program after
+  pub is : g ≡ only_writes (printed reshaped)
+
+-- ---- what the code says of its errors
 
 -- the name of a limit by its number: 1, 4 or 5
 abbrev pub limit_text : ℕ → List ℕ
@@ -42,46 +112,3 @@ TellsReason site e s line = (s ≡ status.ReshapeRefused) × (text : List ℕ) �
 
 abbrev pub TellsLong : ℕ → List ℕ → Status → List ℕ → Type 0
 TellsLong site text s line = (s ≡ status.ReshapeRefused) × (source_max < length text) × (line ≡ site_line site (codes "text too long"))
-
--- a way of reshaping: what refuses it, and what a program is reshaped to
-pub record Reshaping : Type 1 where
-  pub Refused : List Definition → ReshapeErr → Type 0
-  pub Reshaped : List Definition → List Definition → Type 0
-  pub Keeps : Program → Program → Type 0
-
-abbrev pub copies : ℕ → Reshaping
-copies site = record { Refused = λ ds e. CopyRefused ds site e; Reshaped = λ ds es. IsCopied ds site es; Keeps = IsAlike }
-
-abbrev pub unfolds : ℕ → Reshaping
-unfolds site = record { Refused = λ ds e. UnfoldingRefused ds site e; Reshaped = λ ds es. IsUnfolded ds site es; Keeps = Spares site }
-
--- the program of the source cannot be reshaped at this site, and the line says why
-pub data IsUnshaped (r : Reshaping) (site : ℕ) (source : List ℕ) (s : Status) (line : List ℕ) : Type 0 where
-  refused : (ds : List Definition) (e : ReshapeErr) → SpellsProgram source ds → HasForm ds → r.Refused ds e → TellsReason site e s line → IsUnshaped r site source s line
-  long : (ds es : List Definition) → SpellsProgram source ds → HasForm ds → r.Reshaped ds es → TellsLong site (printed es) s line → IsUnshaped r site source s line
-
--- The text of the reshaped program is given, which is no longer than a source may be. It is accepted, and the program that is
--- read from it keeps what the first one gives.
-pub record GivesReshaped (r : Reshaping) (source : List ℕ) (g : Given) : Type 0 where
-  pub definitions : List Definition
-  pub reshaped : List Definition
-  pub program : Program
-  pub names : Names
-  pub after : Program
-  pub names_after : Names
-  pub spelled : SpellsProgram source definitions
-  pub is_reshaped : r.Reshaped definitions reshaped
-  pub source_of : IsSourceOf source program names
-  pub accepted : IsSourceOf (printed reshaped) after names_after
-  pub keeps : r.Keeps program after
-  pub short : length (printed reshaped) ≤ source_max
-  pub is : g ≡ only_writes (printed reshaped)
-
--- the program of the source can be reshaped, to one whose text is no longer than a source may be
-pub record IsReshapable (r : Reshaping) (source : List ℕ) : Type 0 where
-  pub definitions : List Definition
-  pub reshaped : List Definition
-  pub spelled : SpellsProgram source definitions
-  pub form : HasForm definitions
-  pub is_reshaped : r.Reshaped definitions reshaped
-  pub short : length (printed reshaped) ≤ source_max

@@ -6,7 +6,8 @@ use Rattle.std.proofs.lemmas.Option.{slice_get_read}
 use Rattle.safl_word.specs.declared.fault.Rule.TheVariants as rules
 use Rattle.safl_word.proofs.Lists.{drop_read}
 use Rattle.safl_typing.specs.declared.expression.Bound.{Bound}
-use Rattle.safl_typing.specs.Walk.{repeated, placed, fault}
+use Rattle.safl_typing.specs.Walk.{repeated, fault}
+use Rattle.safl_typing.specs.Rewriting.{placed}
 use Rattle.safl_typing.specs.Plain.{shown_bindings}
 use Rattle.safl_typing.specs.PlainNames.{name_of, earlier}
 

@@ -9,9 +9,9 @@ use Rattle.std.proofs.lemmas.Map.Keys.{any_passes_from_place}
 use Rattle.std.proofs.Math.Nat.{suc_inj}
 use Rattle.safl_word.specs.declared.fault.Rule.TheVariants as rules
 use Rattle.safl_word.proofs.Naturals.{zero_suc}
-use Rattle.safl_typing.specs.Rewriting.{Bindings, no_binding, a_binding}
+use Rattle.safl_typing.specs.Rewriting.{Bindings, no_binding, a_binding, Placed, placed}
 use Rattle.safl_typing.specs.Typing.{Differ, names}
-use Rattle.safl_typing.specs.Walk.{Placed, placed, repeated, fault}
+use Rattle.safl_typing.specs.Walk.{repeated, fault}
 
 pub some_none : {A : Type 0} {B : Type 0} (x : B) → Some x ≡ None → A
 some_none x e = absurd cc

@@ -31,6 +31,7 @@ use Rattle.safl_typing.proofs.Formed.{width_wide, heads_wide, params_wide}
 use Rattle.safl_typing.proofs.Widths.{Agrees, formed_full, has_width}
 use Rattle.safl_typing.proofs.Spans.{Noted, has_spans}
 use Rattle.safl_typing.proofs.Shallow.{rewritten_deep, formed_bindings, has_depth, has_short}
+use Rattle.safl_typing.proofs.Limits.{no_long_let}
 use Rattle.safl_typing.proofs.Units.{Steps, unit_below, unit_monotone, unit_first, unit_group}
 use Rattle.safl_typing.proofs.Placing.{AreShown, At, next_first, place_at, step_at, lengths_same, sites_length, nodes_same, heads_length, AllGood, good_at, has_good, all_good, noted_from}
 
@@ -313,7 +314,7 @@ module _ (c : Tables) (ds : List Definition) (b : IsBased c ds) (shallow : AreSh
       (λ q. let h = here c ds i b q.2 in
       subst (λ (t : plain.Term). sizes.HasShortLets t) (sym (fields c ds i h).body)
       (has_short (record { heads = heads ds; unit = h.unit }) (params_of h.def) true h.first h.end (rewritten h.def.body) h.def.width
-      (shown_term h.function.body) h.is.body h.is.short_lets (formed_bindings h.def.body (formed_at ds i h.def b.formed h.defined).3)))
+      (shown_term h.function.body) h.is.body (no_long_let (rewritten h.def.body) h.is.short_lets) (formed_bindings h.def.body (formed_at ds i h.def b.formed h.defined).3)))
       (λ e. subst (λ (t : plain.Term). sizes.HasShortLets t) (sym (past_body i e)) tt)
       (there c.functions i)
 

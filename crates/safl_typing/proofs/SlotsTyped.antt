@@ -13,7 +13,8 @@ use Rattle.std.proofs.lemmas.Bool.{ltb-true, false_from_ne_true}
 use Rattle.safl_word.specs.Words.{IsWord}
 use Rattle.safl_typing.specs.declared.heads.Slot as code
 use Rattle.safl_typing.specs.Heads.{Slot}
-use Rattle.safl_typing.specs.Typing.{At, later, innermost, word}
+use Rattle.std.specs.Option.{option_or as later}
+use Rattle.safl_typing.specs.Typing.{At, innermost, word}
 use Rattle.safl_typing.specs.PlainHeads.{shown_slot, shown_slots}
 use Rattle.safl_typing.specs.PlainTyped.{HasWidthOfWord, HasWideWanted, shown_wanted, Says, with_slot, at_slot}
 

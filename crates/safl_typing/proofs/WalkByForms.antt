@@ -22,12 +22,12 @@ use Rattle.safl_typing.specs.declared.typed.Wanted as code_wanted
 use Rattle.safl_typing.specs.declared.typed.Wanted.TheVariants as wants
 use Rattle.safl_typing.specs.Rewriting.{Expression, Number, Sized, Variable, If, Let, Op, Call, Expressions, no_expression, an_expression, Bindings}
 use Rattle.safl_typing.specs.Rewriting.{no_binding, a_binding, Shape, Alike, Comparing, Shifting, Resizing, shape, flexible, count, nodes, nodes_in}
-use Rattle.safl_typing.specs.Rewriting.{nodes_bound}
+use Rattle.safl_typing.specs.Rewriting.{nodes_bound, placed}
 use Rattle.safl_typing.specs.Heads.{Slot, Head, Known, Callee, Member, Above, Unknown, callee, sites, sites_in, sites_bound}
 use Rattle.safl_typing.specs.Typing.{slots, widths_of}
 use Rattle.safl_typing.specs.Ranges.{IsWide, WideSlots, WideHeads}
 use Rattle.safl_typing.specs.Walk.{fault, fault_with, after, unless, needs, Typed, TypedAll, TypedAlike, Wanted, Any, Exactly, is_any, is_known}
-use Rattle.safl_typing.specs.Walk.{wanted_by, settle, branches, alike, resized, operated, arguments, called, placed, repeated, all_any, amounts}
+use Rattle.safl_typing.specs.Walk.{wanted_by, settle, branches, alike, resized, operated, arguments, called, repeated, all_any, amounts}
 use Rattle.safl_typing.specs.Walk.{exactly, check, check_all, check_alike, check_shift, check_bound}
 use Rattle.safl_typing.specs.Plain.{shown_expression, shown_expressions, shown_bindings}
 use Rattle.safl_typing.specs.PlainHeads.{shown_slots, shown_head, shown_heads, known, with_number, a_member, an_earlier, shown_callee, IsOneOf}

@@ -10,7 +10,7 @@ use Rattle.safl_word.specs.declared.fault.Rule.TheVariants as rules
 use Rattle.safl_term.specs.Terms.{Term}
 use Rattle.safl_tree.specs.Tree.{Definition, Parameter}
 use Rattle.safl_tree.specs.Printable.{OpensGroup, AreFormedDefinitions, IsFormedProgram}
-use Rattle.safl_typing.specs.Rewriting.{Expression, rewritten, nodes}
+use Rattle.safl_typing.specs.Rewriting.{Expression, rewritten, nodes, excess, long_let}
 use Rattle.safl_typing.specs.Heads.{Slot, Head, Known, sites, unit_of, params_of, heads}
 use Rattle.safl_typing.specs.Typing.{Differ, Has}
 use Rattle.safl_word.specs.Limits.{bindings_max, functions_max, params_max, sites_max, nodes_max}
@@ -18,14 +18,14 @@ use Rattle.safl_typing.specs.Forms.{FunctionForm, Form, all_sites, nodes_of, par
 use Rattle.safl_typing.specs.Forms.{IsFunctionOf, AreFunctionsOf, IsLast, function_names, IsFormOf}
 use Rattle.safl_term.specs.Readiness.{or_else}
 use Rattle.safl_term.proofs.OrElse.{neither}
-use Rattle.safl_typing.specs.Walk.{after, unless, needs, fault, fault_with, excess, limit, long_let, limits_from, limits, placed_params, head_fault}
+use Rattle.safl_typing.specs.Walk.{after, unless, needs, fault, fault_with, limit, limits_from, limits, placed_params, head_fault}
 use Rattle.safl_typing.specs.Walk.{joined_faults, group_fault, function, functions_from, main_fault, Exactly, outcome}
 use Rattle.safl_typing.proofs.Counts.{has_sites}
 use Rattle.safl_typing.proofs.Names.{some_none, Apart, in_order, differ_repeat, repeat_differ, unseen, differ_rest, apart_more, differ_first, apart_rest}
 use Rattle.safl_typing.proofs.Complete.{typed, after_gives, unless_gives, needs_gives, has_checks}
 use Rattle.safl_typing.specs.Ranges.{WideHeads}
 use Rattle.safl_typing.proofs.Sound.{ok_is, after_ok, unless_ok, needs_ok, checks_has}
-use Rattle.safl_typing.proofs.Limits.{none_both, limit_none, none_limit, excess_none, none_excess, short_lets, no_long_let}
+use Rattle.safl_typing.proofs.Limits.{none_both, limit_none, none_limit, excess_none, none_excess}
 use Rattle.safl_typing.proofs.Formed.{width_wide, formed_range, params_wide, heads_wide}
 
 pub as_many : (all : List Head) (n u w lo hi : ℕ) (ds : List Definition) (fs : List FunctionForm) → AreFunctionsOf all n u w lo hi ds fs → length fs ≡ length ds
@@ -141,8 +141,7 @@ walked all earlier n u w lo ps pn (d ∷ ds) fs wh form at few_sites few_nodes l
       params_differ = o.head.params;
       few_params = subst
           (λ (z : ℕ). z ≤ params_max) (places_length d.params) (none_excess params_max _ (none_limit _ _ _ l0.0));
-      short_lets = no_long_let body
-          (none_limit _ _ _ l1.0);
+      short_lets = none_limit _ _ _ l1.0;
       body = subst (λ (z : ℕ). Has known (params_of d) true lo (lo + sites known body) body z q.0.term) (sym met) s.has;
     } in
     subst (λ (z : List FunctionForm). IsWalked all earlier n u w lo pn (d ∷ ds) z) (ok_is _ fs r.2)
@@ -219,7 +218,7 @@ limits_kept all n u w lo hi ps pn (d ∷ ds) (f ∷ fs) at few_sites few_nodes (
     let next : m ≡ suc (ps + sites known body) = omega (arith, ends, at) in
     let left : pn + nodes body + nodes_of ds ≤ nodes_max = omega (arith, few_nodes) in
     neither _ _ (limit_none _ _ _ (excess_none params_max _ (subst (λ (z : ℕ). z ≤ params_max) (sym (places_length d.params)) is.few_params)))
-    (neither _ _ (limit_none _ _ _ (short_lets body is.short_lets))
+    (neither _ _ (limit_none _ _ _ is.short_lets)
     (neither _ _ (needs_gives _ _ (le-leb _ _ in_sites))
     (neither _ _ (needs_gives _ _ (le-leb _ _ in_nodes))
     (limits_kept all (suc n) (unit_of n u d) d.width m hi (ps + sites known body) (pn + nodes body) ds fs next few_sites left rest))))

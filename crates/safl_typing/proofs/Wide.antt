@@ -10,7 +10,8 @@ use Rattle.safl_word.proofs.Widths.{widths, apply_width}
 use Rattle.safl_word.proofs.Fits.{apply_fits}
 use Rattle.safl_typing.specs.Rewriting.{Bindings, no_binding, a_binding}
 use Rattle.safl_typing.specs.Heads.{Slot, Head, Known, Numbered, first_head, Callee, Member, Above, Unknown, member_or, callee}
-use Rattle.safl_typing.specs.Typing.{At, later, innermost, slots, word, widths_of}
+use Rattle.std.specs.Option.{option_or as later}
+use Rattle.safl_typing.specs.Typing.{At, innermost, slots, word, widths_of}
 use Rattle.safl_typing.specs.Ranges.{IsWide, AreWide, WideSlots, IsWideHead, WideHeads}
 
 pub one_wide : IsWide 1

@@ -19,7 +19,8 @@ use Rattle.safl_tree.specs.Printable.{operands, IsLabel, IsFormed, AreFormed, Ar
 use Rattle.safl_typing.specs.Rewriting.{Expression, Number, Sized, Variable, If, Let, Op, Call, Expressions, no_expression, an_expression, Bindings}
 use Rattle.safl_typing.specs.Rewriting.{no_binding, a_binding, shape, count, rewritten, rewritten_all, rewritten_binds, rewritten_arms}
 use Rattle.safl_typing.specs.Heads.{Slot, Head, Known, Numbered, first_head, Callee, Member, Above, Unknown, member_or, callee}
-use Rattle.safl_typing.specs.Typing.{At, later, innermost, widths_of, slots, AreAll, Shifts, Suits, Calls, Has, HaveAll, HaveBound}
+use Rattle.std.specs.Option.{option_or as later}
+use Rattle.safl_typing.specs.Typing.{At, innermost, widths_of, slots, AreAll, Shifts, Suits, Calls, Has, HaveAll, HaveBound}
 use Rattle.safl_typing.specs.Ranges.{IsWide, AreWide, WideSlots, WideHeads}
 use Rattle.safl_typing.proofs.Wide.{WideCallee, table_wide, wide_append, wide_slots, innermost_wide, callee_wide}
 use Rattle.safl_typing.proofs.Complete.{have_many, many_length}

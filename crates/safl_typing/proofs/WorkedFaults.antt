@@ -8,7 +8,8 @@ use Rattle.safl_term.specs.Terms.{Term, Const, Var, Loop, Terms, Nil, Cons}
 use Rattle.safl_tree.specs.Tree.{Tree, Number, Variable, If, Cases, Op, Call, trees_of, default_arm, an_arm, Parameter, Definition}
 use Rattle.safl_typing.specs.Heads.{Slot}
 use Rattle.safl_typing.specs.Typing.{word}
-use Rattle.safl_typing.specs.Walk.{outcome, fault, fault_with, first_fault}
+use Rattle.safl_typing.specs.Walk.{outcome, fault, fault_with}
+use Rattle.safl_typing.specs.FirstFault.{first_fault}
 
 abbrev named_f : List ℕ
 named_f = codes "f"
@@ -31,75 +32,75 @@ def joined p name params w body = record { joined = joined; place = p; name = na
 
 -- fun main():8 = x
 unknown_variable : first_fault (def false 4 named_main [] 8 (Variable 15 named_x) ∷ []) ≡ Some (fault rules.E08 15)
-unfolding outcome
+unfolding first_fault
 unknown_variable = refl
 
 -- fun f():1 = 0 fun f():1 = 0 fun main():1 = 0
 defined_twice : first_fault (def false 4 named_f [] 1 (Number 12 0) ∷ def false 18 named_f [] 1 (Number 26 0) ∷ def false 32 named_main [] 1 (Number 43 0) ∷ []) ≡ Some (fault rules.E06 18)
-unfolding outcome
+unfolding first_fault
 defined_twice = refl
 
 -- fun main(x:8, x:8):8 = 1
 name_twice : first_fault (def false 4 named_main (x_at 9 ∷ x_at 14 ∷ []) 8 (Number 23 1) ∷ []) ≡ Some (fault rules.E07 14)
-unfolding outcome
+unfolding first_fault
 name_twice = refl
 
 -- fun f(x:8):8 = f(x) + 1 fun main():8 = f(1)
 own_call : first_fault (def false 4 named_f (x_at 6 ∷ []) 8 (Op 15 prims.Add
     (trees_of (Call 15 named_f (trees_of (Variable 17 named_x ∷ [])) ∷ Number 22 1 ∷ []))) ∷ def false 28 named_main [] 8
     (Call 39 named_f (trees_of (Number 41 1 ∷ []))) ∷ []) ≡ Some (fault rules.E10 15)
-unfolding outcome
+unfolding first_fault
 own_call = refl
 
 -- fun f(x:8):8 = x fun main():8 = f()
 too_few : first_fault (def false 4 named_f (x_at 6 ∷ []) 8 (Variable 15 named_x) ∷ def false 21 named_main [] 8 (Call 32 named_f (trees_of [])) ∷ []) ≡ Some (fault_with rules.E11 32 1 0)
-unfolding outcome
+unfolding first_fault
 too_few = refl
 
 -- fun f():8 = 1 and g():4 = 1 fun main():8 = f()
 group_width : first_fault (def false 4 named_f [] 8 (Number 12 1) ∷ def true 18 named_g [] 4 (Number 26 1) ∷ def false 32 named_main [] 8
     (Call 43 named_f (trees_of [])) ∷ []) ≡ Some (fault_with rules.E12 18 8 4)
-unfolding outcome
+unfolding first_fault
 group_width = refl
 
 -- fun f(x:8):8 = 1 + g(x) and g(x:8):8 = x fun main():8 = 1
 member_outside_tail : first_fault (def false 4 named_f (x_at 6 ∷ []) 8
     (Op 15 prims.Add (trees_of (Number 15 1 ∷ Call 19 named_g (trees_of (Variable 21 named_x ∷ [])) ∷ []))) ∷ def true 28 named_g (x_at 30 ∷ []) 8
     (Variable 39 named_x) ∷ def false 45 named_main [] 8 (Number 56 1) ∷ []) ≡ Some (fault rules.E10 19)
-unfolding outcome
+unfolding first_fault
 member_outside_tail = refl
 
 -- fun main():4 = 16
 too_large : first_fault (def false 4 named_main [] 4 (Number 15 16) ∷ []) ≡ Some (fault rules.E13 15)
-unfolding outcome
+unfolding first_fault
 too_large = refl
 
 -- fun main():8 = if 5 == 5 then 1 else 0
 not_known : first_fault (def false 4 named_main [] 8 (If 15 (Op 18 prims.Eq (trees_of (Number 18 5 ∷ Number 23 5 ∷ []))) (Number 30 1) (Number 37 0)) ∷ []) ≡ Some (fault rules.E14 18)
-unfolding outcome
+unfolding first_fault
 not_known = refl
 
 -- fun main():8 = f()
 not_above : first_fault (def false 4 named_main [] 8 (Call 15 named_f (trees_of [])) ∷ []) ≡ Some (fault rules.E09 15)
-unfolding outcome
+unfolding first_fault
 not_above = refl
 
 -- fun main(a:8):8 = bits(a, 8, 1)
 bad_range : first_fault (def false 4 named_main (x_at 9 ∷ []) 8 (Op 18 (prims.Bits 8 1) (trees_of (Variable 23 named_x ∷ []))) ∷ []) ≡ Some (fault rules.E05 18)
-unfolding outcome
+unfolding first_fault
 bad_range = refl
 
 -- fun f():8 = x, and a text without definitions
 no_main : first_fault (def false 4 named_f [] 8 (Number 12 1) ∷ []) ≡ Some (fault rules.E15 4)
-unfolding outcome
+unfolding first_fault
 no_main = refl
 
 no_definition : first_fault [] ≡ Some (fault rules.E15 0)
-unfolding outcome
+unfolding first_fault
 no_definition = refl
 
 body_before_main : first_fault (def false 4 named_f [] 8 (Variable 12 named_x) ∷ []) ≡ Some (fault rules.E08 12)
-unfolding outcome
+unfolding first_fault
 body_before_main = refl
 
 -- fun f(x:8):8 = case x { 0 => 1, default => g(x) } and g(x:8):8 = f(x - 1) fun main(x:8):8 = (1 + f(x)) + f(2)

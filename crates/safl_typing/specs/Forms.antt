@@ -1,5 +1,5 @@
 -- The numbered form of a program, and which form a program has.
-use Rattle.std.specs.Prelude.{◌≡◌, ℕ, suc, ◌+◌, ◌≤◌, List, [], ◌∷◌, ◌++◌, length, map, true, codes}
+use Rattle.std.specs.Prelude.{◌≡◌, ℕ, suc, ◌+◌, ◌≤◌, List, [], ◌∷◌, ◌++◌, length, map, None, true, codes}
 use Rattle.std.specs.List.{AllByRecursion}
 use Rattle.std.specs.String.{string_bytes}
 use Rattle.safl_term.specs.declared.checked.Site.{Site}
@@ -8,11 +8,11 @@ use Rattle.safl_term.specs.declared.checked.Parameter as code
 use Rattle.safl_term.specs.Checked.{CheckedProgram}
 use Rattle.safl_term.specs.Tables.{Tables}
 use Rattle.safl_term.specs.Terms as terms
-use Rattle.safl_term.specs.Terms.{Term, Const, Var, Loop, Terms, Nil, Cons}
+use Rattle.safl_term.specs.Terms.{Term, Loop, Terms, Nil, Cons}
 use Rattle.safl_word.specs.Limits.{bindings_max, depth_max, functions_max, params_max, sites_max, nodes_max}
 use Rattle.safl_term.specs.Tree.{shown_term}
 use Rattle.safl_tree.specs.Tree.{Definition, depth}
-use Rattle.safl_typing.specs.Rewriting.{Expression, Number, Sized, Variable, If, Let, Op, Call, Expressions, no_expression, an_expression, Bindings, no_binding, a_binding, rewritten, nodes}
+use Rattle.safl_typing.specs.Rewriting.{Expression, Number, Sized, Variable, If, Let, Op, Call, Expressions, no_expression, an_expression, Bindings, no_binding, a_binding, rewritten, nodes, long_let}
 use Rattle.safl_typing.specs.Heads.{Slot, Head, unit_of, params_of, heads}
 use Rattle.safl_typing.specs.Typing.{Differ, names, Has}
 
@@ -45,13 +45,12 @@ shown_form c = form_of c.tables
 -- the call sites of the body of g, in order
 abbrev mutual
   pub sites_of : ℕ → Term → List Site
-  sites_of g (Const w) = []
-  sites_of g (Var i) = []
   sites_of g (terms.If c a b) = sites_of g c ++ (sites_of g a ++ sites_of g b)
   sites_of g (terms.Let ts b) = sites_of_all g ts ++ sites_of g b
   sites_of g (terms.Op o ts) = sites_of_all g ts
   sites_of g (terms.Call f i ts) = record { caller = g; callee = f } ∷ sites_of_all g ts
   sites_of g (Loop h ts) = sites_of_all g ts
+  sites_of g _ = []
 
   pub sites_of_all : ℕ → Terms → List Site
   sites_of_all g Nil = []
@@ -64,7 +63,7 @@ all_sites n (f ∷ fs) = sites_of n f.body ++ all_sites (suc n) fs
 
 -- ---- limits
 
--- no let has too many bindings
+-- no let has too many bindings, said part by part
 abbrev mutual
   pub HasShortLets : Expression → Type 0
   HasShortLets (Number p n) = Unit {0}
@@ -105,9 +104,9 @@ pub record IsFunctionOf (all : List Head) (u lo hi : ℕ) (d : Definition) (f : 
   pub width : f.width ≡ d.width
   pub unit : f.unit ≡ u
   pub first_site : f.first_site ≡ lo
-  pub params_differ : Differ (param_names d)
+  pub params_differ : Differ (map (λ p. p.name) d.params)
   pub few_params : length d.params ≤ params_max
-  pub short_lets : HasShortLets (rewritten d.body)
+  pub short_lets : long_let (rewritten d.body) ≡ None
   -- the body has the width of the function's result, and is in tail position
   pub body : Has (record { heads = all; unit = u }) (params_of d) true lo hi (rewritten d.body) d.width f.body
 
@@ -115,9 +114,8 @@ pub record IsFunctionOf (all : List Head) (u lo hi : ℕ) (d : Definition) (f : 
 -- are those from lo up to, but not including, hi. A joined definition has the width of its group.
 abbrev pub AreFunctionsOf : List Head → ℕ → ℕ → ℕ → ℕ → ℕ → List Definition → List FunctionForm → Type 0
 AreFunctionsOf all n u w lo hi [] [] = lo ≡ hi
-AreFunctionsOf all n u w lo hi [] (f ∷ fs) = ⊥
-AreFunctionsOf all n u w lo hi (d ∷ ds) [] = ⊥
 AreFunctionsOf all n u w lo hi (d ∷ ds) (f ∷ fs) = (m : ℕ) × IsFunctionOf all (unit_of n u d) lo m d f × (d.joined ≡ true → d.width ≡ w) × AreFunctionsOf all (suc n) (unit_of n u d) d.width m hi ds fs
+AreFunctionsOf all n u w lo hi ds fs = ⊥
 
 -- the name is that of the last definition
 abbrev pub IsLast : List ℕ → List Definition → Type 0

@@ -2,7 +2,7 @@
 use Rattle.std.specs.Prelude.{ℕ, suc, ◌+◌, List, [], ◌∷◌, map, Option, Some, None, Bool, ◌&&◌, ◌==◌, nat_lt, if◌then◌else◌}
 use Rattle.std.specs.Str.{bytes_eq}
 use Rattle.safl_tree.specs.Tree.{Definition, Parameter}
-use Rattle.safl_typing.specs.Rewriting.{Expression, Number, Sized, Variable, If, Let, Op, Call, Expressions, no_expression, an_expression, Bindings, no_binding, a_binding}
+use Rattle.safl_typing.specs.Rewriting.{Expression, Call, Expressions, Bindings, gathered, gathered_in, gathered_bound}
 
 -- the name of a parameter or a binding, and its width
 pub record Slot : Type 0 where
@@ -69,24 +69,19 @@ callee k f = member_or (first_head (λ h. h.unit == k.unit && bytes_eq h.name f)
 -- 1 if a call of this function is a call site, else 0. It is one unless the function belongs to the caller's group
 abbrev pub is_site : Callee → ℕ
 is_site (Member i h) = 0
-is_site (Above i h) = 1
-is_site Unknown = 1
+is_site _ = 1
+
+-- one more than n if the expression itself is a call site
+abbrev pub and_own_site : Known → Expression → ℕ → ℕ
+and_own_site k (Call p f es) n = is_site (callee k f) + n
+and_own_site k _ n = n
 
 -- the number of call sites of an expression
-abbrev mutual
-  pub sites : Known → Expression → ℕ
-  sites k (Number p n) = 0
-  sites k (Sized p w n) = 0
-  sites k (Variable p x) = 0
-  sites k (If p c a b) = sites k c + (sites k a + sites k b)
-  sites k (Let p bs b) = sites_bound k bs + sites k b
-  sites k (Op p o es) = sites_in k es
-  sites k (Call p f es) = is_site (callee k f) + sites_in k es
+abbrev pub sites : Known → Expression → ℕ
+sites k e = gathered (and_own_site k) (λ (m n : ℕ). m + n) 0 e
 
-  pub sites_in : Known → Expressions → ℕ
-  sites_in k no_expression = 0
-  sites_in k (an_expression e es) = sites k e + sites_in k es
+abbrev pub sites_in : Known → Expressions → ℕ
+sites_in k es = gathered_in (and_own_site k) (λ (m n : ℕ). m + n) 0 es
 
-  pub sites_bound : Known → Bindings → ℕ
-  sites_bound k no_binding = 0
-  sites_bound k (a_binding p x w e bs) = sites k e + sites_bound k bs
+abbrev pub sites_bound : Known → Bindings → ℕ
+sites_bound k bs = gathered_bound (and_own_site k) (λ (m n : ℕ). m + n) 0 bs

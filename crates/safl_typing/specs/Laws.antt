@@ -4,7 +4,8 @@ use Rattle.safl_tree.specs.Tree.{Definition}
 use Rattle.safl_tree.specs.Printable.{IsFormedProgram}
 use Rattle.safl_term.specs.Checked.{CheckedProgram, IsChecked}
 use Rattle.safl_typing.specs.Forms.{FunctionForm, Form, AreShallow, IsFormOf, shown_form}
-use Rattle.safl_typing.specs.Walk.{outcome, first_fault}
+use Rattle.safl_typing.specs.Walk.{outcome}
+use Rattle.safl_typing.specs.FirstFault.{first_fault}
 
 -- checking gives exactly the form that the program has
 abbrev pub WalkGivesForm : Type 0

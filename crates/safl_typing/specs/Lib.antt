@@ -4,6 +4,7 @@ pub mod Named
 pub mod Typing
 pub mod Forms
 pub mod Walk
+pub mod FirstFault
 pub mod Laws
 pub mod Ranges
 pub mod Plain

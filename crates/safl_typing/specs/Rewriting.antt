@@ -1,5 +1,7 @@
 -- Expressions in which each `case` is rewritten as a let and ifs.
-use Rattle.std.specs.Prelude.{ℕ, ◌+◌, List, Option, None, Bool, true, false, ◌&&◌, codes}
+use Rattle.std.specs.Prelude.{ℕ, ◌+◌, List, [], ◌∷◌, map, slice_get, Option, None, Bool, true, false, ◌&&◌, codes}
+use Rattle.safl_word.specs.Limits.{bindings_max}
+use Rattle.std.specs.Option.{option_or}
 use Rattle.safl_word.specs.declared.primitive.Primitive.{Primitive}
 use Rattle.safl_word.specs.declared.primitive.Primitive.TheVariants as prims
 use Rattle.safl_tree.specs.Tree as source
@@ -68,13 +70,6 @@ pub data Shape : Type 0 where
   Resizing : Shape
 
 abbrev pub shape : Primitive → Shape
-shape prims.Add = Alike
-shape prims.Sub = Alike
-shape prims.Mul = Alike
-shape prims.And = Alike
-shape prims.Or = Alike
-shape prims.Xor = Alike
-shape prims.Not = Alike
 shape prims.Eq = Comparing
 shape prims.Ne = Comparing
 shape prims.Lt = Comparing
@@ -86,24 +81,21 @@ shape prims.Shr = Shifting
 shape prims.Cat = Resizing
 shape (prims.Bits high low) = Resizing
 shape (prims.Ext n) = Resizing
+shape _ = Alike
 
 abbrev pub takes_width : Shape → Bool
 takes_width Alike = true
-takes_width Comparing = false
-takes_width Shifting = false
-takes_width Resizing = false
+takes_width _ = false
 
 -- Which expressions are flexible: a number; an operator whose operands have one width, if all of them are flexible; an if with
 -- two flexible branches; and a let with a flexible body. Every other expression is rigid.
 abbrev mutual
   pub flexible : Expression → Bool
   flexible (Number p n) = true
-  flexible (Sized p w n) = false
-  flexible (Variable p x) = false
   flexible (If p c a b) = flexible a && flexible b
   flexible (Let p bs b) = flexible b
   flexible (Op p o ts) = takes_width (shape o) && all_flexible ts
-  flexible (Call p f ts) = false
+  flexible _ = false
 
   pub all_flexible : Expressions → Bool
   all_flexible no_expression = true
@@ -113,21 +105,60 @@ abbrev pub count : Expressions → ℕ
 count no_expression = 0
 count (an_expression e es) = 1 + count es
 
--- how many expressions a tree has, itself included
+-- What is gathered from all parts of an expression, in the order of the text: `own` adds what an expression has by itself to what
+-- its parts have, and `join` puts together what two parts have.
 abbrev mutual
-  pub nodes : Expression → ℕ
-  nodes (Number p n) = 1
-  nodes (Sized p w n) = 1
-  nodes (Variable p x) = 1
-  nodes (If p c a b) = 1 + (nodes c + (nodes a + nodes b))
-  nodes (Let p bs b) = 1 + (nodes_bound bs + nodes b)
-  nodes (Op p o es) = 1 + nodes_in es
-  nodes (Call p f es) = 1 + nodes_in es
+  pub gathered : {A : Type 0} → (Expression → A → A) → (A → A → A) → A → Expression → A
+  gathered own join none (If p c a b) = own (If p c a b) (join (gathered own join none c) (join (gathered own join none a) (gathered own join none b)))
+  gathered own join none (Let p bs b) = own (Let p bs b) (join (gathered_bound own join none bs) (gathered own join none b))
+  gathered own join none (Op p o es) = own (Op p o es) (gathered_in own join none es)
+  gathered own join none (Call p f es) = own (Call p f es) (gathered_in own join none es)
+  gathered own join none e = own e none
 
-  pub nodes_in : Expressions → ℕ
-  nodes_in no_expression = 0
-  nodes_in (an_expression e es) = nodes e + nodes_in es
+  pub gathered_in : {A : Type 0} → (Expression → A → A) → (A → A → A) → A → Expressions → A
+  gathered_in own join none no_expression = none
+  gathered_in own join none (an_expression e es) = join (gathered own join none e) (gathered_in own join none es)
 
-  pub nodes_bound : Bindings → ℕ
-  nodes_bound no_binding = 0
-  nodes_bound (a_binding p x w e bs) = nodes e + nodes_bound bs
+  pub gathered_bound : {A : Type 0} → (Expression → A → A) → (A → A → A) → A → Bindings → A
+  gathered_bound own join none no_binding = none
+  gathered_bound own join none (a_binding p x w e bs) = join (gathered own join none e) (gathered_bound own join none bs)
+
+-- how many expressions a tree has, itself included
+abbrev pub nodes : Expression → ℕ
+nodes e = gathered (λ (x : Expression) (n : ℕ). 1 + n) (λ (m n : ℕ). m + n) 0 e
+
+abbrev pub nodes_in : Expressions → ℕ
+nodes_in es = gathered_in (λ (x : Expression) (n : ℕ). 1 + n) (λ (m n : ℕ). m + n) 0 es
+
+abbrev pub nodes_bound : Bindings → ℕ
+nodes_bound bs = gathered_bound (λ (x : Expression) (n : ℕ). 1 + n) (λ (m n : ℕ). m + n) 0 bs
+
+-- ---- long lets
+
+-- a name with its place
+pub record Placed : Type 0 where
+  pub place : ℕ
+  pub name : List ℕ
+
+abbrev pub placed : Bindings → List Placed
+placed no_binding = []
+placed (a_binding p x w e bs) = record { place = p; name = x } ∷ placed bs
+
+-- the place in the list after the first n of them, if there is one
+abbrev pub excess : ℕ → List ℕ → Option ℕ
+excess n places = slice_get places n
+
+-- the place of the expression's own first binding beyond the limit, or else o
+abbrev pub own_excess_or : Expression → Option ℕ → Option ℕ
+own_excess_or (Let p bs b) o = option_or (slice_get (map (λ x. x.place) (placed bs)) bindings_max) o
+own_excess_or _ o = o
+
+-- the place of the first binding beyond the limit, in the first let that has too many
+abbrev pub long_let : Expression → Option ℕ
+long_let e = gathered own_excess_or (λ (o p : Option ℕ). option_or o p) None e
+
+abbrev pub long_let_in : Expressions → Option ℕ
+long_let_in es = gathered_in own_excess_or (λ (o p : Option ℕ). option_or o p) None es
+
+abbrev pub long_let_bound : Bindings → Option ℕ
+long_let_bound bs = gathered_bound own_excess_or (λ (o p : Option ℕ). option_or o p) None bs

@@ -1,5 +1,7 @@
 -- Which widths an expression has, and which term stands for it: a relation, without an order of checking.
 use Rattle.std.specs.Prelude.{◌≡◌, ℕ, suc, List, [], ◌∷◌, ◌++◌, map, Option, Some, None, Bool, true, false, slice_get, if◌then◌else◌, ◌⊎◌}
+use Rattle.std.specs.List.{AllByRecursion}
+use Rattle.std.specs.Option.{option_or}
 use Rattle.std.specs.Str.{bytes_eq}
 use Rattle.safl_word.specs.Words.{Word, IsWord}
 use Rattle.safl_word.specs.declared.primitive.Primitive.{Primitive}
@@ -14,14 +16,10 @@ pub record At : Type 0 where
   pub slot : ℕ
   pub width : ℕ
 
-abbrev pub later : Option At → Option At → Option At
-later (Some a) earlier = Some a
-later None earlier = earlier
-
 -- the innermost variable with a name, which is the last one. The slots are numbered from i on
 abbrev pub innermost : List ℕ → ℕ → List Slot → Option At
 innermost x i [] = None
-innermost x i (v ∷ vs) = later (innermost x (suc i) vs) (if bytes_eq v.name x then Some (record { slot = i; width = v.width }) else None)
+innermost x i (v ∷ vs) = option_or (innermost x (suc i) vs) (if bytes_eq v.name x then Some (record { slot = i; width = v.width }) else None)
 
 -- no name is twice in the list
 abbrev pub Differ : List (List ℕ) → Type 0
@@ -33,9 +31,8 @@ names (a_binding p x w e bs) = x ∷ names bs
 
 -- the slots of bindings with these widths
 abbrev pub slots : Bindings → List ℕ → List Slot
-slots no_binding ws = []
-slots (a_binding p x v e bs) [] = []
 slots (a_binding p x v e bs) (w ∷ ws) = record { name = x; width = w } ∷ slots bs ws
+slots bs ws = []
 
 -- a binding has the width that is written, or no width is written and it is rigid
 abbrev pub KeepsWritten : Option ℕ → Expression → ℕ → Type 0
@@ -43,8 +40,7 @@ KeepsWritten (Some v) e w = v ≡ w
 KeepsWritten None e w = flexible e ≡ false
 
 abbrev pub AreAll : ℕ → List ℕ → Type 0
-AreAll w [] = Unit {0}
-AreAll w (v ∷ vs) = (v ≡ w) × AreAll w vs
+AreAll w vs = AllByRecursion (λ v. v ≡ w) vs
 
 abbrev pub AllRigid : Expressions → Type 0
 AllRigid no_expression = Unit {0}
@@ -58,9 +54,8 @@ RigidOr w (an_expression e es) (v ∷ vs) = ((flexible e ≡ false) ⊎ (v ≡ w
 
 -- the first operand of a shift is rigid and has width w
 abbrev pub Shifts : ℕ → Expressions → List ℕ → Type 0
-Shifts w no_expression vs = ⊥
-Shifts w (an_expression e es) [] = ⊥
 Shifts w (an_expression e es) (v ∷ vs) = (flexible e ≡ false) × (v ≡ w) × RigidOr w es vs
+Shifts w es vs = ⊥
 
 -- Operands with widths vs suit the operator, whose result then has width w. Either all have width w; or it is a comparison, w is
 -- 1, and all have one width, at least one of them rigid; or it is a shift; or the operands are rigid and the table of widths has
@@ -100,13 +95,11 @@ abbrev mutual
   -- operands or arguments with their widths and terms
   pub HaveAll : Known → List Slot → ℕ → ℕ → Expressions → List ℕ → Terms → Type 0
   HaveAll k s lo hi no_expression [] us = (lo ≡ hi) × (us ≡ Nil)
-  HaveAll k s lo hi no_expression (w ∷ ws) us = ⊥
-  HaveAll k s lo hi (an_expression e es) [] us = ⊥
   HaveAll k s lo hi (an_expression e es) (w ∷ ws) us = (m : ℕ) × (t : Term) × (ts : Terms) × Has k s false lo m e w t × HaveAll k s m hi es ws ts × (us ≡ Cons t ts)
+  HaveAll k s lo hi es ws us = ⊥
 
   -- bindings with their widths and terms. They see only the outer slots
   pub HaveBound : Known → List Slot → ℕ → ℕ → Bindings → List ℕ → Terms → Type 0
   HaveBound k s lo hi no_binding [] us = (lo ≡ hi) × (us ≡ Nil)
-  HaveBound k s lo hi no_binding (w ∷ ws) us = ⊥
-  HaveBound k s lo hi (a_binding p x v e bs) [] us = ⊥
   HaveBound k s lo hi (a_binding p x v e bs) (w ∷ ws) us = (m : ℕ) × (t : Term) × (ts : Terms) × KeepsWritten v e w × Has k s false lo m e w t × HaveBound k s m hi bs ws ts × (us ≡ Cons t ts)
+  HaveBound k s lo hi bs ws us = ⊥

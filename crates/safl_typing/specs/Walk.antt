@@ -1,7 +1,6 @@
 -- The order of checking: the first fault of a program, or its numbered form.
 use Rattle.std.specs.Prelude.{ℕ, suc, ◌+◌, ◌^◌, List, [], ◌∷◌, ◌++◌, length, map, Option, Some, None, Bool, true, false, ◌&&◌, not, ◌==◌, nat_lt, nat_le, if◌then◌else◌, codes, slice_get, Result, Ok, Err}
 use Rattle.std.specs.List.{list_any}
-use Rattle.std.specs.Result.{result_err}
 use Rattle.std.specs.Str.{bytes_eq}
 use Rattle.safl_word.specs.declared.fault.Rule.{Rule}
 use Rattle.safl_word.specs.declared.fault.Rule.TheVariants as rules
@@ -12,7 +11,7 @@ use Rattle.safl_term.specs.Readiness.{or_else}
 use Rattle.safl_term.specs.Terms as terms
 use Rattle.safl_term.specs.Terms.{Term, Const, Var, Loop, Terms, Nil, Cons}
 use Rattle.safl_tree.specs.Tree.{Definition}
-use Rattle.safl_typing.specs.Rewriting.{Expression, Number, Sized, Variable, If, Let, Op, Call, Expressions, no_expression, an_expression, Bindings, no_binding, a_binding, Shape, Alike, Comparing, Shifting, Resizing, shape, flexible, count, rewritten, nodes}
+use Rattle.safl_typing.specs.Rewriting.{Expression, Number, Sized, Variable, If, Let, Op, Call, Expressions, no_expression, an_expression, Bindings, no_binding, a_binding, Shape, Alike, Comparing, Shifting, Resizing, shape, flexible, count, rewritten, nodes, Placed, placed, long_let}
 use Rattle.safl_typing.specs.Heads.{Slot, Head, Known, Callee, Member, Above, Unknown, callee, sites, sites_bound, unit_of, params_of, heads}
 use Rattle.safl_typing.specs.Typing.{At, innermost, slots, word, widths_of}
 use Rattle.safl_word.specs.Limits.{bindings_max, functions_max, params_max, sites_max, nodes_max}
@@ -124,19 +123,10 @@ called (Member i h) tail lo p m n args = unless (needs tail (fault rules.E10 p))
 called (Above i h) tail lo p m n args = arguments p m h n (args (suc lo) (widths_of h.params)) (λ us. terms.Call i lo us)
 called Unknown tail lo p m n args = Err (fault rules.E09 p)
 
--- a name with its place
-pub record Placed : Type 0 where
-  pub place : ℕ
-  pub name : List ℕ
-
 -- E07 at the first name that is earlier in the list or among those seen before
 abbrev pub repeated : List (List ℕ) → List Placed → Option Fault
 repeated seen [] = None
 repeated seen (x ∷ xs) = if list_any (bytes_eq x.name) seen then Some (fault rules.E07 x.place) else repeated (x.name ∷ seen) xs
-
-abbrev pub placed : Bindings → List Placed
-placed no_binding = []
-placed (a_binding p x w e bs) = record { place = p; name = x } ∷ placed bs
 
 -- how the operands of an operator are checked. For `cat`, `bits` and `ext` each width is found; for a shift that of the second
 -- operand if it is rigid
@@ -205,33 +195,6 @@ abbrev mutual
 
 -- ---- limits
 
--- the place of the first binding beyond the limit, in the first let that has too many
-abbrev pub or_place : Option ℕ → Option ℕ → Option ℕ
-or_place (Some p) q = Some p
-or_place None q = q
-
--- the place in the list after the first n of them, if there is one
-abbrev pub excess : ℕ → List ℕ → Option ℕ
-excess n places = slice_get places n
-
-abbrev mutual
-  pub long_let : Expression → Option ℕ
-  long_let (Number p n) = None
-  long_let (Sized p w n) = None
-  long_let (Variable p x) = None
-  long_let (If p c a b) = or_place (long_let c) (or_place (long_let a) (long_let b))
-  long_let (Let p bs b) = or_place (excess bindings_max (map (λ x. x.place) (placed bs))) (or_place (long_let_bound bs) (long_let b))
-  long_let (Op p o es) = long_let_in es
-  long_let (Call p f es) = long_let_in es
-
-  pub long_let_in : Expressions → Option ℕ
-  long_let_in no_expression = None
-  long_let_in (an_expression e es) = or_place (long_let e) (long_let_in es)
-
-  pub long_let_bound : Bindings → Option ℕ
-  long_let_bound no_binding = None
-  long_let_bound (a_binding p x w e bs) = or_place (long_let e) (long_let_bound bs)
-
 abbrev pub limit : ℕ → ℕ → Option ℕ → Option Fault
 limit number value None = None
 limit number value (Some p) = Some (fault_with rules.E16 p number value)
@@ -244,14 +207,14 @@ limits_from all n u placed_sites placed_nodes (d ∷ ds) =
     let body : Expression = rewritten d.body in
     let in_all : ℕ = placed_sites + sites (record { heads = all; unit = unit_of n u d }) body in
     let nodes_all : ℕ = placed_nodes + nodes body in
-    or_else (limit 2 params_max (excess params_max (map (λ p. p.place) d.params)))
+    or_else (limit 2 params_max (slice_get (map (λ p. p.place) d.params) params_max))
     (or_else (limit 3 bindings_max (long_let body))
     (or_else (needs (nat_le in_all sites_max) (fault_with rules.E16 d.place 4 sites_max))
     (or_else (needs (nat_le nodes_all nodes_max) (fault_with rules.E16 d.place 5 nodes_max))
     (limits_from all (suc n) (unit_of n u d) in_all nodes_all ds))))
 
 abbrev pub limits : List Definition → Option Fault
-limits ds = or_else (limit 1 functions_max (excess functions_max (map (λ d. d.place) ds))) (limits_from (heads ds) 0 0 0 0 ds)
+limits ds = or_else (limit 1 functions_max (slice_get (map (λ d. d.place) ds) functions_max)) (limits_from (heads ds) 0 0 0 0 ds)
 
 -- ---- definitions
 
@@ -300,7 +263,3 @@ outcome ds =
     unless (limits ds)
     (after (functions_from (heads ds) [] 0 0 1 ds)
     (λ fs. unless (main_fault ds) (Ok (record { functions = fs; sites = all_sites 0 fs }))))
-
--- the first fault of a program
-abbrev pub first_fault : List Definition → Option Fault
-first_fault ds = result_err (outcome ds)

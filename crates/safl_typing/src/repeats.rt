@@ -3,7 +3,8 @@
 ghost use Rattle.std.specs.Prelude.{◌≡◌, ◌≤◌, [], length};
 ghost use Rattle.std.specs.List.{list_any};
 ghost use Rattle.std.specs.Str.{bytes_eq};
-ghost use Rattle.safl_typing.specs.Walk.{repeated, placed};
+ghost use Rattle.safl_typing.specs.Walk.{repeated};
+ghost use Rattle.safl_typing.specs.Rewriting.{placed};
 ghost use Rattle.safl_typing.specs.Plain.{shown_bindings};
 ghost use Rattle.safl_typing.specs.PlainNames.{earlier, twice_at};
 

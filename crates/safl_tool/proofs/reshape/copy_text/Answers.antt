@@ -11,7 +11,7 @@ use Rattle.safl_word.specs.Limits.{source_max}
 use Rattle.safl_tool.specs.Refusals.{RefusesBy}
 use Rattle.safl_tool.specs.Reshaping.{GivesReshaped, TellsLong, copies}
 use Rattle.safl_tool.proofs.Refusing.{both_ok}
-use Rattle.safl_tool.proofs.Reshaped.{source_unshaped, unshaped, too_long, reshaped_given, no_copy}
+use Rattle.safl_tool.proofs.Reshaped.{source_unshaped, unshaped, too_long, reshaped_given, no_copy, copy_refused, copy_is, copy_long, copy_given}
 use Rattle.safl_tool.proofs.reshape.copy_text.Goals as goal
 
 pub returns-in-Err-clause-refused : goal.returns-in-Err-clause-refused
@@ -21,7 +21,8 @@ pub returns-in-None-clause-refused : goal.returns-in-None-clause-refused
 returns-in-None-clause-refused c =
     let ds = shown_program c.in-Ok.accepted.program in
     unshaped (copies c.args.site) c.args.name.now c.args.site c.args.source.now ds c.in-Ok.ensures.spelled (shown_form c.in-Ok.accepted.checked, c.in-Ok.ensures.form) errors.NoSite
-    (no_copy ds c.in-Ok.ensures.few c.args.site (c.in-None.ensures.none refl)) c.refusal_of.result c.refusal_of.ensures
+    (copy_refused ds (shown_form c.in-Ok.accepted.checked, c.in-Ok.ensures.form) c.args.site errors.NoSite
+    (no_copy ds c.in-Ok.ensures.few c.args.site (c.in-None.ensures.none refl))) c.refusal_of.result c.refusal_of.ensures
 
 pub returns-in-Ok-copy_checked-clause-gives : goal.returns-in-Ok-copy_checked-clause-gives
 returns-in-Ok-copy_checked-clause-gives c =
@@ -31,8 +32,11 @@ returns-in-Ok-copy_checked-clause-gives c =
     both_ok c.text_of.result (λ t. t.items ≡ printed es) (λ t. length (printed es) ≤ source_max) (λ t. GivesReshaped (copies c.args.site) c.args.source.now (only_writes t.items))
     (λ t e short. reshaped_given (copies c.args.site) c.args.name.now c.args.site c.args.source.now ds c.in-Ok.ensures.spelled
     (shown_form c.in-Ok.accepted.checked, c.in-Ok.ensures.form) c.printed_form_law.ensures es
-    c.in-Ok-copy_checked.ensures.printable (subst (λ (k : ℕ). IsCopied ds k es) number c.in-Ok-copy_checked.ensures.copied)
-    c.in-Ok-copy_checked.ensures.alike (only_writes t.items) (ap only_writes e) short)
+    c.in-Ok-copy_checked.ensures.printable
+    (copy_is ds (shown_form c.in-Ok.accepted.checked, c.in-Ok.ensures.form) c.args.site es (subst (λ (k : ℕ). IsCopied ds k es) number c.in-Ok-copy_checked.ensures.copied))
+    (copy_given ds (shown_form c.in-Ok.accepted.checked, c.in-Ok.ensures.form) c.args.site es c.in-Ok-copy_checked.ensures.printable
+    (subst (λ (k : ℕ). IsCopied ds k es) number c.in-Ok-copy_checked.ensures.copied) short)
+    c.in-Ok-copy_checked.ensures.alike (only_writes t.items) (ap only_writes e))
     c.text_of.ensures.text c.text_of.ensures.short
 
 pub returns-in-Ok-copy_checked-clause-refused : goal.returns-in-Ok-copy_checked-clause-refused
@@ -42,11 +46,13 @@ returns-in-Ok-copy_checked-clause-refused c =
     let number : c.in-Some.number ≡ c.args.site = c.in-Some.ensures.number in
     IfErr-weaker c.text_of.result (RefusesBy (TellsLong c.args.site (printed es))) (RefusesBy (RefusesReshaping (copies c.args.site) c.args.name.now c.args.site c.args.source.now))
     (λ r h. too_long (copies c.args.site) c.args.name.now c.args.site c.args.source.now ds c.in-Ok.ensures.spelled (shown_form c.in-Ok.accepted.checked, c.in-Ok.ensures.form) es
-    (subst (λ (k : ℕ). IsCopied ds k es) number c.in-Ok-copy_checked.ensures.copied) r h) c.text_of.ensures.refused
+    (copy_long ds (shown_form c.in-Ok.accepted.checked, c.in-Ok.ensures.form) c.args.site es c.in-Ok-copy_checked.ensures.printable
+    (subst (λ (k : ℕ). IsCopied ds k es) number c.in-Ok-copy_checked.ensures.copied)) r h) c.text_of.ensures.refused
 
 pub returns-clause-refused : goal.returns-clause-refused
 returns-clause-refused c =
     let ds = shown_program c.in-Ok.accepted.program in
     let number : c.in-Some.number ≡ c.args.site = c.in-Some.ensures.number in
     unshaped (copies c.args.site) c.args.name.now c.args.site c.args.source.now ds c.in-Ok.ensures.spelled (shown_form c.in-Ok.accepted.checked, c.in-Ok.ensures.form) c.in-Err-copy_checked.error
-    (subst (λ (k : ℕ). CopyRefused ds k c.in-Err-copy_checked.error) number c.in-Err-copy_checked.ensures.refused) c.refusal_of-in-Err-copy_checked.result c.refusal_of-in-Err-copy_checked.ensures
+    (copy_refused ds (shown_form c.in-Ok.accepted.checked, c.in-Ok.ensures.form) c.args.site c.in-Err-copy_checked.error
+    (subst (λ (k : ℕ). CopyRefused ds k c.in-Err-copy_checked.error) number c.in-Err-copy_checked.ensures.refused)) c.refusal_of-in-Err-copy_checked.result c.refusal_of-in-Err-copy_checked.ensures

@@ -11,7 +11,7 @@ use Rattle.safl_word.specs.Limits.{source_max}
 use Rattle.safl_tool.specs.Refusals.{RefusesBy}
 use Rattle.safl_tool.specs.Reshaping.{GivesReshaped, TellsLong, unfolds}
 use Rattle.safl_tool.proofs.Refusing.{both_ok}
-use Rattle.safl_tool.proofs.Reshaped.{source_unshaped, unshaped, too_long, reshaped_given, no_unfolding}
+use Rattle.safl_tool.proofs.Reshaped.{source_unshaped, unshaped, too_long, reshaped_given, no_unfolding, unfolding_refused, unfolding_is, unfolding_long, unfolding_given}
 use Rattle.safl_tool.proofs.reshape.unfold_text.Goals as goal
 
 pub returns-in-Err-clause-refused : goal.returns-in-Err-clause-refused
@@ -21,7 +21,8 @@ pub returns-in-None-clause-refused : goal.returns-in-None-clause-refused
 returns-in-None-clause-refused c =
     let ds = shown_program c.in-Ok.accepted.program in
     unshaped (unfolds c.args.site) c.args.name.now c.args.site c.args.source.now ds c.in-Ok.ensures.spelled (shown_form c.in-Ok.accepted.checked, c.in-Ok.ensures.form) errors.NoSite
-    (no_unfolding ds c.in-Ok.ensures.few c.args.site (c.in-None.ensures.none refl)) c.refusal_of.result c.refusal_of.ensures
+    (unfolding_refused ds (shown_form c.in-Ok.accepted.checked, c.in-Ok.ensures.form) c.args.site errors.NoSite
+    (no_unfolding ds c.in-Ok.ensures.few c.args.site (c.in-None.ensures.none refl))) c.refusal_of.result c.refusal_of.ensures
 
 pub returns-in-Ok-unfold_checked-clause-gives : goal.returns-in-Ok-unfold_checked-clause-gives
 returns-in-Ok-unfold_checked-clause-gives c =
@@ -31,8 +32,11 @@ returns-in-Ok-unfold_checked-clause-gives c =
     both_ok c.text_of.result (λ t. t.items ≡ printed es) (λ t. length (printed es) ≤ source_max) (λ t. GivesReshaped (unfolds c.args.site) c.args.source.now (only_writes t.items))
     (λ t e short. reshaped_given (unfolds c.args.site) c.args.name.now c.args.site c.args.source.now ds c.in-Ok.ensures.spelled
     (shown_form c.in-Ok.accepted.checked, c.in-Ok.ensures.form) c.printed_form_law.ensures es
-    c.in-Ok-unfold_checked.ensures.printable (subst (λ (k : ℕ). IsUnfolded ds k es) number c.in-Ok-unfold_checked.ensures.unfolded)
-    (subst (λ (k : ℕ). GivesSparing k ds es) number c.in-Ok-unfold_checked.ensures.sparing) (only_writes t.items) (ap only_writes e) short)
+    c.in-Ok-unfold_checked.ensures.printable
+    (unfolding_is ds (shown_form c.in-Ok.accepted.checked, c.in-Ok.ensures.form) c.args.site es (subst (λ (k : ℕ). IsUnfolded ds k es) number c.in-Ok-unfold_checked.ensures.unfolded))
+    (unfolding_given ds (shown_form c.in-Ok.accepted.checked, c.in-Ok.ensures.form) c.args.site es c.in-Ok-unfold_checked.ensures.printable
+    (subst (λ (k : ℕ). IsUnfolded ds k es) number c.in-Ok-unfold_checked.ensures.unfolded) short)
+    (subst (λ (k : ℕ). GivesSparing k ds es) number c.in-Ok-unfold_checked.ensures.sparing) (only_writes t.items) (ap only_writes e))
     c.text_of.ensures.text c.text_of.ensures.short
 
 pub returns-in-Ok-unfold_checked-clause-refused : goal.returns-in-Ok-unfold_checked-clause-refused
@@ -42,12 +46,14 @@ returns-in-Ok-unfold_checked-clause-refused c =
     let number : c.in-Some.number ≡ c.args.site = c.in-Some.ensures.number in
     IfErr-weaker c.text_of.result (RefusesBy (TellsLong c.args.site (printed es))) (RefusesBy (RefusesReshaping (unfolds c.args.site) c.args.name.now c.args.site c.args.source.now))
     (λ r h. too_long (unfolds c.args.site) c.args.name.now c.args.site c.args.source.now ds c.in-Ok.ensures.spelled (shown_form c.in-Ok.accepted.checked, c.in-Ok.ensures.form) es
-    (subst (λ (k : ℕ). IsUnfolded ds k es) number c.in-Ok-unfold_checked.ensures.unfolded) r h) c.text_of.ensures.refused
+    (unfolding_long ds (shown_form c.in-Ok.accepted.checked, c.in-Ok.ensures.form) c.args.site es c.in-Ok-unfold_checked.ensures.printable
+    (subst (λ (k : ℕ). IsUnfolded ds k es) number c.in-Ok-unfold_checked.ensures.unfolded)) r h) c.text_of.ensures.refused
 
 pub returns-clause-refused : goal.returns-clause-refused
 returns-clause-refused c =
     let ds = shown_program c.in-Ok.accepted.program in
     let number : c.in-Some.number ≡ c.args.site = c.in-Some.ensures.number in
     unshaped (unfolds c.args.site) c.args.name.now c.args.site c.args.source.now ds c.in-Ok.ensures.spelled (shown_form c.in-Ok.accepted.checked, c.in-Ok.ensures.form) c.in-Err-unfold_checked.error
-    (subst (λ (k : ℕ). UnfoldingRefused ds k c.in-Err-unfold_checked.error) number c.in-Err-unfold_checked.ensures.refused)
+    (unfolding_refused ds (shown_form c.in-Ok.accepted.checked, c.in-Ok.ensures.form) c.args.site c.in-Err-unfold_checked.error
+    (subst (λ (k : ℕ). UnfoldingRefused ds k c.in-Err-unfold_checked.error) number c.in-Err-unfold_checked.ensures.refused))
     c.refusal_of-in-Err-unfold_checked.result c.refusal_of-in-Err-unfold_checked.ensures

@@ -1,5 +1,6 @@
 use Rattle.std.proofs.Common.{◌≡◌, [], drop}
-use Rattle.safl_typing.specs.Walk.{repeated, placed}
+use Rattle.safl_typing.specs.Walk.{repeated}
+use Rattle.safl_typing.specs.Rewriting.{placed}
 use Rattle.safl_typing.specs.Plain.{shown_bindings}
 use Rattle.safl_typing.specs.PlainNames.{earlier}
 use Rattle.safl_typing.proofs.repeats.find_repeated.Given as goal
