@@ -88,10 +88,10 @@ module _ (p : CheckedProgram) (h : IsChecked p) where
   unfolding choice_of
   plan_is flags kept all t more listed = record {
     arbiters = λ u. (
-      λ x. let c = (t.units u).0 x in record { one = c.later; other = c.earlier; conflict = of_collision c.later c.earlier c.collides; unit = c.unit },
-      λ x. (t.units u).1 (elim (conflict_by C x.one x.other x.conflict) [
-        | inl c ↦ record { later = x.other; earlier = x.one; collides = collides x.one x.other (λ f. x.conflict.other (sym f)) x.conflict.same c; unit = sym x.conflict.same ∙ x.unit }
-        | inr c ↦ record { later = x.one; earlier = x.other; collides = collides x.other x.one x.conflict.other (sym x.conflict.same) c; unit = x.unit }
+      λ x. let c = (t.units u).0 x in (c.later, c.earlier, of_collision c.later c.earlier c.collides, c.unit),
+      λ x. (t.units u).1 (elim (conflict_by C x.0 x.1 x.2) [
+        | inl c ↦ record { later = x.1; earlier = x.0; collides = collides x.0 x.1 (λ f. x.2.other (sym f)) x.2.same c; unit = sym x.2.same ∙ x.3 }
+        | inr c ↦ record { later = x.0; earlier = x.1; collides = collides x.1 x.0 x.2.other (sym x.2.same) c; unit = x.3 }
       ]),
     );
     keeps = λ k least most. (

@@ -24,7 +24,7 @@ unfolding Apart ReachesIn Stands
 paired_conflict = record { other = one_two 1 2 refl refl; same = refl; body = 1; is_body = omega arith; apart = inl (inr (inl (Here (inl refl), inl (Here (inl refl))))) }
 
 sum_arbiter : HasArbiter sum 0
-sum_arbiter = record { one = 1; other = 2; conflict = sum_conflict; unit = refl }
+sum_arbiter = (1, 2, sum_conflict, refl)
 
 -- x is used after the call in the let's body
 bound_kept : Kept bound 1

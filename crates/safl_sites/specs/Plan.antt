@@ -10,11 +10,8 @@ pub record Choice : Type 0 where
   pub kept : ℕ → Bool
 
 -- unit u needs an arbiter: two of its sites conflict
-pub record HasArbiter (C : Program) (u : ℕ) : Type 0 where
-  pub one : ℕ
-  pub other : ℕ
-  pub conflict : Conflict C one other
-  pub unit : unit_for C one ≡ u
+abbrev pub HasArbiter : Program → ℕ → Type 0
+HasArbiter C u = (j : ℕ) × (k : ℕ) × Conflict C j k × (unit_for C j ≡ u)
 
 -- `arbiter` says exactly which units need an arbiter, and `kept` exactly which sites keep their words
 pub record IsPlan (C : Program) (arbiter kept : ℕ → Bool) : Type 0 where

@@ -42,10 +42,9 @@ shown_run source args limit r of asks ps qs told =
     let c = of.compiled in
     let widths : List ℕ = c.program.params c.program.main in
     let p : AreArguments widths args r.words.items = subst (λ l. AreArguments l args r.words.items) c.params of.ready.read in
-    let k : IsShown of.net r.words.items limit asks ps qs = subst (λ (n : Netlist). IsShown n r.words.items limit asks ps qs) of.ready.net told in
-    record {
-      answer = k.answer;
-      simulates = record {
+    let k : IsShown of.net r.words.items limit asks ps qs = subst (λ (n : Netlist). IsShown n r.words.items limit asks ps qs) of.ready.net told in (
+      k.answer,
+      record {
         program = c.program;
         names = c.names;
         net = of.net;
@@ -55,11 +54,11 @@ shown_run source args limit r of asks ps qs told =
         read = p;
         outcome = k.outcome;
         value = has_value c.program c.names c.circuit.choice of.net c.circuit.circuit r.words.items (read_words widths args r.words.items p) limit k.answer k.outcome;
-      };
-      run = k.run;
-      is_run = k.is_run;
-      shown = k.shown;
-    }
+      },
+      k.run,
+      k.is_run,
+      k.shown,
+    )
 
 pub shows_run : (i : Input) (cs : List (List ℕ)) → AreContents None (i ∷ []) cs → (content : List ℕ) → content ≡ content_at cs 0
     → (args : List (List ℕ)) (limit : ℕ) (traces : Bor given.Traces) (input : List ℕ) (t : Traces) (x : Result Ready Refusal) (y : Result Answer Refusal)

@@ -26,12 +26,9 @@ use Rattle.safl_tool.specs.declared.tracing.TracedRun.{TracedRun}
 -- ---- a run
 
 -- a run of the circuit of a source, whose cycles up to the first with `done` at 1 the asked probes were shown
-pub record IsShownRun (args : List (List ℕ)) (limit : ℕ) (asks : Asked) (ps qs : List ProbeState) (source : List ℕ) : Type 0 where
-  pub answer : Option Done
-  pub simulates : Simulates source args limit answer
-  pub run : List Valuation
-  pub is_run : IsRunOf simulates.net simulates.words limit run
-  pub shown : AreShown simulates.net (until_done simulates.net run) asks ps qs
+abbrev pub IsShownRun : List (List ℕ) → ℕ → Asked → List ProbeState → List ProbeState → List ℕ → Type 0
+IsShownRun args limit asks ps qs source = (answer : Option Done) × (s : Simulates source args limit answer) × (run : List Valuation)
+    × IsRunOf s.net s.words limit run × AreShown s.net (until_done s.net run) asks ps qs
 
 -- the same of the run of a net with these words
 pub record IsShown (n : Netlist) (words : List Word) (limit : ℕ) (asks : Asked) (ps qs : List ProbeState) : Type 0 where
