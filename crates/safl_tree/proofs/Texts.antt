@@ -5,6 +5,7 @@ use Rattle.safl_word.specs.declared.token.Token.{Token}
 use Rattle.safl_word.specs.declared.fault.Rule.{Rule}
 use Rattle.safl_word.specs.declared.fault.Fault.{Fault}
 use Rattle.safl_word.specs.Tokens.{HasTokens}
+use Rattle.safl_word.proofs.Cuts.{fault_of_break}
 use Rattle.safl_word.proofs.TokensOnce
 use Rattle.safl_word.proofs.TokensOnce.{Outcome, tokens_of, fault_of, outcome, tokens_once, fault_once}
 use Rattle.safl_tree.specs.Tree.{Definition}
@@ -21,7 +22,7 @@ by_tokens text ts h (inr (f, s)) = inr (f, of_tokens ts h s)
 
 by_outcome : (text : List ℕ) → Outcome text → ((p : List Definition) × SpellsProgram text p) ⊎ ((f : Fault) × SyntaxFault text f)
 by_outcome text (tokens_of ts h) = by_tokens text ts h (Sources.program_or_fault text ts)
-by_outcome text (fault_of e p h) = inr (fault_at e p, lexical e p h refl)
+by_outcome text (fault_of e p h) = inr (fault_at e p, lexical e p (fault_of_break text e p h) refl)
 
 pub program_or_fault : (text : List ℕ) → ((p : List Definition) × SpellsProgram text p) ⊎ ((f : Fault) × SyntaxFault text f)
 program_or_fault text = by_outcome text (outcome text)
