@@ -17,7 +17,7 @@ use Rattle.safl_verilog.specs.declared.token.Symbol.TheVariants as symbols
 use Rattle.safl_verilog.specs.Tokens.{keyword_text, symbol_text, Terminal}
 use Rattle.safl_verilog.specs.Files.{Spot, Expression, Literal, Plain, Inverted, Binary, Choice, Joined, Slice, Declaration, Statement, Assign, Always, File}
 use Rattle.safl_verilog.specs.Grammar
-use Rattle.safl_verilog.specs.Grammar.{spot, spelled, word, symbol}
+use Rattle.safl_verilog.specs.Grammar.{spot, word, symbol}
 use Rattle.safl_verilog.specs.Codes.{code, code_of, classed, operators, primitive_in, sort_codes, sort_in, keyword_code, symbol_code}
 use Rattle.safl_verilog.specs.Reader.{read_code, read_word, read_symbol, read_operator, read_sort, read_constant, read_inverted, read_binary, read_choice, read_joined}
 use Rattle.safl_verilog.specs.Reader.{read_slice, read_named, read_cell, read_written_range, read_range, read_decl, read_assign, read_otherwise}
@@ -55,10 +55,10 @@ a_literal : Parses code (read_code 3) Grammar.literal Grammar.literal false (Onl
 a_literal = as_token (read_code 3) literal_at (classed (3 ∷ []) spot) (Only (3 ∷ [])) literal_class (k 3)
 
 w : (x : Keyword) → Parses code (read_word x) (word x) (word x) false (Only (keyword_code x ∷ [])) (Only []) Every
-w x = as_token (read_word x) (spelled (keyword_text x)) (classed (keyword_code x ∷ []) spot) (Only (keyword_code x ∷ [])) (keyword_class x) (k (keyword_code x))
+w x = as_token (read_word x) (Grammar.spelled (keyword_text x)) (classed (keyword_code x ∷ []) spot) (Only (keyword_code x ∷ [])) (keyword_class x) (k (keyword_code x))
 
 s : (x : Symbol) → Parses code (read_symbol x) (symbol x) (symbol x) false (Only (symbol_code x ∷ [])) (Only []) Every
-s x = as_token (read_symbol x) (spelled (symbol_text x)) (classed (symbol_code x ∷ []) spot) (Only (symbol_code x ∷ [])) (symbol_class x) (k (symbol_code x))
+s x = as_token (read_symbol x) (Grammar.spelled (symbol_text x)) (classed (symbol_code x ∷ []) spot) (Only (symbol_code x ∷ [])) (symbol_class x) (k (symbol_code x))
 
 an_operator : Parses code read_operator Grammar.operator Grammar.operator false (Only operators) (Only []) Every
 an_operator = as_token read_operator operator_at (classed operators (λ t. primitive_in t.kind)) (Only operators) operator_class (one_of operators (λ t. primitive_in t.kind))
