@@ -17,7 +17,7 @@ use Rattle.safl_sim.specs.Places.{resets}
 use Rattle.safl_sim.specs.declared.done.Done.{Done}
 use Rattle.safl_sim.proofs.Existence.{call_exists, next_fits}
 use Rattle.safl_sim.proofs.Going.{fits_along}
-use Rattle.safl_sim.proofs.OneCall.{same_at, only_run}
+use Rattle.safl_sim.proofs.OneCall.{same_at, only_run, once as one_run}
 use Rattle.safl_run.specs.Calls.{Answers, IsOutcome, Replies, IsSilent}
 use Rattle.safl_run.specs.Laws.{AnswersExist, AnswersOnce, AnswersAreOutcomes}
 
@@ -194,7 +194,12 @@ answers_once n made whole acyclic limit state args a b x y p q = once n made who
 pub outcome : (n : Netlist) → IsNetlist n → IsWhole n → IsAcyclic n → (args : List Word) (limit : ℕ) (answer : Option Done) (after : ℕ → ℕ) → Answers
     n limit (reset_state n) args answer after → IsOutcome n args limit answer
 outcome n made whole acyclic args limit answer after a =
-    record { after = after; answers = a; alone = λ other state b. once n made whole acyclic limit (reset_state n) args other answer state after b a }
+    record {
+      after = after;
+      answers = a;
+      alone = λ other state b. once n made whole acyclic limit (reset_state n) args other answer state after b a;
+      only = λ vs ws b c. one_run n made whole acyclic (reset_state n) args vs ws b c;
+    }
 
 only_outcome : (n : Netlist) → IsNetlist n → IsWhole n → IsAcyclic n → (args : List Word) (limit : ℕ) (answer : Option Done) (after : ℕ → ℕ) → Answers
     n limit (reset_state n) args answer after → IsOnlyOutcome n args limit answer

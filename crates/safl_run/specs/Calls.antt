@@ -31,11 +31,12 @@ abbrev pub Answers : Netlist → ℕ → (ℕ → ℕ) → List Word → Option 
 Answers n limit state args None after = IsSilent n limit state args
 Answers n limit state args (Some r) after = Replies n limit state args r after
 
--- the outcome of a run is the answer to a call from reset, and there is no other answer
+-- The outcome of a run is the answer to a call from reset. There is no other answer, and only one run of each length.
 pub record IsOutcome (n : Netlist) (args : List Word) (limit : ℕ) (answer : Option Done) : Type 0 where
   pub after : ℕ → ℕ
   pub answers : Answers n limit (reset_state n) args answer after
   pub alone : (other : Option Done) (state : ℕ → ℕ) → Answers n limit (reset_state n) args other state → other ≡ answer
+  pub only : (vs ws : List Valuation) → IsCallRun n (reset_state n) args vs → IsCallRun n (reset_state n) args ws → length ws ≡ length vs → ws ≡ vs
 
 -- the cycles of a call up to the reply, or all below the limit if there is none
 abbrev pub cycles_of : (n : Netlist) (limit : ℕ) (state : ℕ → ℕ) (args : List Word) (answer : Option Done) (after : ℕ → ℕ) → Answers n limit state args answer after → List Valuation
