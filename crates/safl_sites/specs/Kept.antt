@@ -1,6 +1,5 @@
 -- Which sites feed a term, and which sites keep their words.
-use Rattle.std.specs.Prelude.{◌≡◌, ◌≢◌, ℕ, ◌+◌, List, [], ◌∷◌, ◌++◌, length, replicate, Bool, true, false, ◌||◌, ◌==◌, ◌⊎◌}
-use Rattle.safl_word.specs.Lists.{bool_at}
+use Rattle.std.specs.Prelude.{◌≡◌, ◌≢◌, ℕ, ◌+◌, List, [], ◌∷◌, ◌++◌, length, replicate, Bool, true, false, ◌||◌, ◌==◌, ◌⊎◌, get_or}
 use Rattle.safl_term.specs.Program.{Program, unit_for, arity}
 use Rattle.safl_term.specs.Terms.{Term, Terms, Const, Var, Op, If, Let, Call, Loop, Nil, Cons}
 use Rattle.safl_sites.specs.Conflicts.{Reaches, ReachesIn, Conflict}
@@ -10,7 +9,7 @@ unfoldable mutual
   -- an operator and an if by what feeds their parts, a let by what feeds its body, and a variable by what feeds its binding. A
   -- constant, a parameter and a loop are fed by nothing.
   pub feeds : ℕ → List Bool → Term → Bool
-  feeds k fe (Var i) = bool_at fe i
+  feeds k fe (Var i) = get_or fe i false
   feeds k fe (Op p ts) = feeds_any k fe ts
   feeds k fe (If c a b) = feeds k fe c || (feeds k fe a || feeds k fe b)
   feeds k fe (Let bs b) = feeds k (fe ++ feeds_each k fe bs) b
@@ -69,7 +68,7 @@ unfoldable mutual
   pub Held : Program → ℕ → ℕ → List Bool → Term → Type 0
   Held C k j fe (Op p ts) = HeldIn C k j fe ts
   Held C k j fe (If c a b) = Held C k j fe c ⊎ (Held C k j fe a ⊎ Held C k j fe b)
-  Held C k j fe (Let bs b) = ((i : ℕ) × (bool_at (feeds_each k fe bs) i ≡ true) × Uses (length fe + i) b × InBody C j b) ⊎ (HeldIn C k j fe bs ⊎ Held C k j (fe ++ feeds_each k fe bs) b)
+  Held C k j fe (Let bs b) = ((i : ℕ) × (get_or (feeds_each k fe bs) i false ≡ true) × Uses (length fe + i) b × InBody C j b) ⊎ (HeldIn C k j fe bs ⊎ Held C k j (fe ++ feeds_each k fe bs) b)
   Held C k j fe (Call f i ts) = HeldIn C k j fe ts
   Held C k j fe (Loop h ts) = HeldIn C k j fe ts
   Held C k j fe _ = ⊥

@@ -36,17 +36,17 @@ limit_name _ = []
 abbrev pub wanted_and_found : Fault → List ℕ
 wanted_and_found f = codes ": " ++ decimal f.first ++ codes " and " ++ decimal f.second
 
--- the name of a limit, and its value
-abbrev pub limit_text : Fault → List ℕ
-limit_text f = codes ": " ++ limit_name f.first ++ codes " " ++ decimal f.second
-
 -- what follows the text of the rule in the text of a fault: two numbers, or the name and the value of a limit
 abbrev pub detail_text : Rule → Fault → List ℕ
 detail_text rules.E11 f = wanted_and_found f
 detail_text rules.E12 f = wanted_and_found f
-detail_text rules.E16 f = limit_text f
+detail_text rules.E16 f = codes ": " ++ limit_name f.first ++ codes " " ++ decimal f.second
 detail_text _ f = []
 
 -- the text of a fault without its place
 abbrev pub fault_text : Fault → List ℕ
 fault_text f = rule_text f.rule ++ detail_text f.rule f
+
+-- the name of a limit, and its value
+abbrev pub limit_text : Fault → List ℕ
+limit_text f = codes ": " ++ limit_name f.first ++ codes " " ++ decimal f.second

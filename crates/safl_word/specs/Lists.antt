@@ -1,11 +1,9 @@
 -- Lists of booleans, and sums.
-use Rattle.std.specs.Prelude.{ℕ, zero, suc, ◌+◌, List, [], ◌∷◌, Bool, false}
+use Rattle.std.specs.Prelude.{ℕ, zero, suc, ◌+◌, List, get_or, Bool, false}
 
 -- the i-th of a list, or false
 abbrev pub bool_at : List Bool → ℕ → Bool
-bool_at [] i = false
-bool_at (b ∷ bs) zero = b
-bool_at (b ∷ bs) (suc i) = bool_at bs i
+bool_at bs i = get_or bs i false
 
 -- the sum over the numbers below a number
 abbrev pub summed : (ℕ → ℕ) → ℕ → ℕ

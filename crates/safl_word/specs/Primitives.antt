@@ -21,19 +21,10 @@ two_widths f _ = None
 abbrev pub where_true : Bool → ℕ → Option ℕ
 where_true b w = cond b (Some w) None
 
-abbrev pub equal_widths : List ℕ → Option ℕ
-equal_widths ws = two_widths (λ w v. where_true (w == v) w) ws
-
 abbrev pub compared_widths : List ℕ → Option ℕ
 compared_widths ws = two_widths (λ w v. where_true (w == v) 1) ws
 
 abbrev pub result_width : Primitive → List ℕ → Option ℕ
-result_width Add ws = equal_widths ws
-result_width Sub ws = equal_widths ws
-result_width Mul ws = equal_widths ws
-result_width And ws = equal_widths ws
-result_width Or ws = equal_widths ws
-result_width Xor ws = equal_widths ws
 result_width Not ws = one_width (λ w. Some w) ws
 result_width Eq ws = compared_widths ws
 result_width Ne ws = compared_widths ws
@@ -46,6 +37,7 @@ result_width Shr ws = two_widths (λ w v. Some w) ws
 result_width Cat ws = two_widths (λ u v. where_true (nat_le (u + v) width_max) (u + v)) ws
 result_width (Bits high low) ws = one_width (λ w. where_true (nat_le low high && nat_lt high w) (high - low + 1)) ws
 result_width (Ext n) ws = one_width (λ w. where_true (nat_le w n && nat_le n width_max) n) ws
+result_width _ ws = two_widths (λ w v. where_true (w == v) w) ws
 
 -- the result for one operand; and for two
 abbrev pub one_word : (Word → Word) → List Word → Word
@@ -89,3 +81,6 @@ apply_prim Shr vs = shifted (λ m a s. a / s) vs
 apply_prim Cat vs = two_words (λ a b. record { width = a.width + b.width; bits = a.bits * 2 ^ b.width + b.bits }) vs
 apply_prim (Bits high low) vs = one_word (λ a. record { width = high - low + 1; bits = (a.bits / 2 ^ low) % 2 ^ (high - low + 1) }) vs
 apply_prim (Ext n) vs = one_word (λ a. record { width = n; bits = a.bits }) vs
+
+abbrev pub equal_widths : List ℕ → Option ℕ
+equal_widths ws = two_widths (λ w v. where_true (w == v) w) ws
