@@ -1,7 +1,8 @@
 -- The equations of a circuit, without names: its wires from its registers, and its registers after the edge.
 use Rattle.std.specs.Prelude.{ℕ, zero, suc, ◌++◌, List, Option, Some, None, Bool, false, cond, not, ◌==◌, ◌&&◌, ◌||◌, nat_le, is_some, unwrap_or}
+use Rattle.std.specs.Option.{option_or}
 use Rattle.safl_calls.specs.Machine.{Event, Accept, Finish, Return, LoopInto}
-use Rattle.safl_term.specs.Readiness.{Answer, LoopTo, NotYet, answer, wanted, word_of, or_else}
+use Rattle.safl_term.specs.Readiness.{Answer, LoopTo, NotYet, answer, wanted, word_of}
 use Rattle.safl_term.specs.Program.{Program, unit_for}
 use Rattle.safl_sites.specs.Plan.{Choice}
 use Rattle.safl_word.specs.Words.{Word}
@@ -132,7 +133,7 @@ next C P i r = record {
   fin = λ u. is_some (ends C P r u);
   res = λ u. unwrap_or (ends C P r u) (r.res u);
   at = λ f. cond (starts_other C P r i f) false (r.at f || starts_it C P r i f);
-  arg = λ f. unwrap_or (or_else (loads C P r i f) (loop_words C P r f)) (r.arg f);
+  arg = λ f. unwrap_or (option_or (loads C P r i f) (loop_words C P r f)) (r.arg f);
   sent = λ k. cond (clears C P r (C.unit (C.caller k))) false (r.sent k || go C P r i k);
   got = λ k. cond (clears C P r (C.unit (C.caller k))) false (r.got k || ret C r k);
   keep = λ k. cond (ret C r k) (r.res (unit_for C k)) (r.keep k);

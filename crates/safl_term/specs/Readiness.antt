@@ -1,5 +1,6 @@
 -- Readiness: what a running body comes to and which calls it wants, once some of its sites have returned.
 use Rattle.std.specs.Prelude.{ℕ, List, [], ◌∷◌, ◌++◌, Option, Some, None, cond, ◌==◌}
+use Rattle.std.specs.Option.{option_or, option_map_or}
 use Rattle.safl_word.specs.Words.{Word, choose, slot}
 use Rattle.safl_word.specs.declared.primitive.Primitive.{Primitive}
 use Rattle.safl_word.specs.Primitives.{apply_prim}
@@ -31,25 +32,10 @@ abbrev pub both : Answer → Option (List Word) → Option (List Word)
 both (Ready v) (Some vs) = Some (v ∷ vs)
 both _ _ = None
 
--- the answer that is this word, or nothing yet if there is none
-abbrev pub ready_from : Option Word → Answer
-ready_from None = NotYet
-ready_from (Some v) = Ready v
-
 -- what belongs to the branch that a condition selects, or a third value if the condition is not ready
 abbrev pub select : {A : Type 0} → Answer → A → A → A → A
 select (Ready u) none a b = choose u a b
 select _ none a b = none
-
--- what follows from all words, or another value if they are not all ready
-abbrev pub with_all : {A : Type 0} → Option (List Word) → A → (List Word → A) → A
-with_all None none go = none
-with_all (Some vs) none go = go vs
-
--- the first of two values, or the second if there is no first
-abbrev pub or_else : {A : Type 0} → Option A → Option A → Option A
-or_else None o = o
-or_else (Some x) o = Some x
 
 unfoldable mutual
   -- What a term comes to. `back` has the words of the sites that have returned. Constants and variables are always ready; an
@@ -58,11 +44,11 @@ unfoldable mutual
   pub answer : (ℕ → Option Word) → List Word → Term → Answer
   answer back env (Const w) = Ready w
   answer back env (Var i) = Ready (slot env i)
-  answer back env (Op p ts) = with_all (answers back env ts) NotYet (λ vs. Ready (apply_prim p vs))
+  answer back env (Op p ts) = option_map_or (λ (vs : List Word). Ready (apply_prim p vs)) (answers back env ts) NotYet
   answer back env (If c a b) = select (answer back env c) NotYet (answer back env a) (answer back env b)
-  answer back env (Let bs b) = with_all (answers back env bs) NotYet (λ vs. answer back (env ++ vs) b)
-  answer back env (Call f k ts) = ready_from (back k)
-  answer back env (Loop h ts) = with_all (answers back env ts) NotYet (λ vs. LoopTo h vs)
+  answer back env (Let bs b) = option_map_or (λ (vs : List Word). answer back (env ++ vs) b) (answers back env bs) NotYet
+  answer back env (Call f k ts) = option_map_or (λ (v : Word). Ready v) (back k) NotYet
+  answer back env (Loop h ts) = option_map_or (λ (vs : List Word). LoopTo h vs) (answers back env ts) NotYet
 
   pub answers : (ℕ → Option Word) → List Word → Terms → Option (List Word)
   answers back env Nil = Some []
@@ -74,15 +60,29 @@ unfoldable mutual
   -- bindings are ready.
   pub wanted : (ℕ → Option Word) → List Word → Term → ℕ → Option (List Word)
   wanted back env (Op p ts) k = wanted_in back env ts k
-  wanted back env (If c a b) k = or_else (wanted back env c k) (select (answer back env c) None (wanted back env a k) (wanted back env b k))
-  wanted back env (Let bs b) k = or_else (wanted_in back env bs k) (with_all (answers back env bs) None (λ vs. wanted back (env ++ vs) b k))
+  wanted back env (If c a b) k = option_or (wanted back env c k) (select (answer back env c) None (wanted back env a k) (wanted back env b k))
+  wanted back env (Let bs b) k = option_or (wanted_in back env bs k) (option_map_or (λ (vs : List Word). wanted back (env ++ vs) b k) (answers back env bs) None)
   wanted back env (Call f j ts) k = cond (j == k) (answers back env ts) (wanted_in back env ts k)
   wanted back env (Loop h ts) k = wanted_in back env ts k
   wanted back env _ k = None
 
   pub wanted_in : (ℕ → Option Word) → List Word → Terms → ℕ → Option (List Word)
   wanted_in back env Nil k = None
-  wanted_in back env (Cons t ts) k = or_else (wanted back env t k) (wanted_in back env ts k)
+  wanted_in back env (Cons t ts) k = option_or (wanted back env t k) (wanted_in back env ts k)
+
+-- ---- the parts by name
+
+-- the first of two values, or the second if there is no first
+abbrev pub or_else : {A : Type 0} → Option A → Option A → Option A
+or_else p o = option_or p o
+
+-- the answer that is this word, or nothing yet if there is none
+abbrev pub ready_from : Option Word → Answer
+ready_from o = option_map_or (λ (v : Word). Ready v) o NotYet
+
+-- what follows from all words, or another value if they are not all ready
+abbrev pub with_all : {A : Type 0} → Option (List Word) → A → (List Word → A) → A
+with_all o none go = option_map_or go o none
 
 -- the answer that is a primitive's result, or a tail call, if all words are ready
 abbrev pub apply_to : Primitive → Option (List Word) → Answer

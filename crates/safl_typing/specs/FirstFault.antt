@@ -5,7 +5,7 @@ use Rattle.safl_word.specs.declared.fault.Rule.TheVariants as rules
 use Rattle.safl_word.specs.declared.fault.Fault.{Fault}
 use Rattle.safl_word.specs.declared.primitive.Primitive.{Primitive}
 use Rattle.safl_word.specs.Primitives.{result_width}
-use Rattle.safl_term.specs.Readiness.{or_else}
+use Rattle.std.specs.Option.{option_or}
 use Rattle.safl_tree.specs.Tree.{Definition}
 use Rattle.safl_typing.specs.Rewriting.{Expression, Number, Sized, Variable, If, Let, Op, Call, Expressions, no_expression, an_expression, Bindings, no_binding, a_binding, Shape, Alike, Comparing, Shifting, Resizing, shape, flexible, count, rewritten, placed}
 use Rattle.safl_typing.specs.Heads.{Slot, Head, Known, Callee, Member, Above, Unknown, callee, unit_of, params_of, heads}
@@ -109,10 +109,10 @@ abbrev mutual
 abbrev pub fault_from : List Head → List (List ℕ) → ℕ → ℕ → List Definition → Option Fault
 fault_from all earlier n u [] = None
 fault_from all earlier n u (d ∷ ds) =
-    or_else (group_fault earlier d ds)
-    (or_else (result_err (check (record { heads = all; unit = unit_of n u d }) (params_of d) true (Some d.width) (rewritten d.body)))
+    option_or (group_fault earlier d ds)
+    (option_or (result_err (check (record { heads = all; unit = unit_of n u d }) (params_of d) true (Some d.width) (rewritten d.body)))
     (fault_from all (d.name ∷ earlier) (suc n) (unit_of n u d) ds))
 
 -- the first fault of a program: first of the limits, then of the definitions, and then whether the last one is `main`
 unfoldable pub first_fault : List Definition → Option Fault
-first_fault ds = or_else (limits ds) (or_else (fault_from (heads ds) [] 0 0 ds) (main_fault ds))
+first_fault ds = option_or (limits ds) (option_or (fault_from (heads ds) [] 0 0 ds) (main_fault ds))

@@ -7,7 +7,7 @@ use Rattle.safl_word.specs.declared.fault.Rule.TheVariants as rules
 use Rattle.safl_word.specs.declared.fault.Fault.{Fault}
 use Rattle.safl_word.specs.declared.primitive.Primitive.{Primitive}
 use Rattle.safl_word.specs.Primitives.{result_width}
-use Rattle.safl_term.specs.Readiness.{or_else}
+use Rattle.std.specs.Option.{option_or}
 use Rattle.safl_term.specs.Terms as terms
 use Rattle.safl_term.specs.Terms.{Term, Const, Var, Loop, Terms, Nil, Cons}
 use Rattle.safl_tree.specs.Tree.{Definition}
@@ -207,14 +207,14 @@ limits_from all n u placed_sites placed_nodes (d ∷ ds) =
     let body : Expression = rewritten d.body in
     let in_all : ℕ = placed_sites + sites (record { heads = all; unit = unit_of n u d }) body in
     let nodes_all : ℕ = placed_nodes + nodes body in
-    or_else (limit 2 params_max (slice_get (map (λ p. p.place) d.params) params_max))
-    (or_else (limit 3 bindings_max (long_let body))
-    (or_else (needs (nat_le in_all sites_max) (fault_with rules.E16 d.place 4 sites_max))
-    (or_else (needs (nat_le nodes_all nodes_max) (fault_with rules.E16 d.place 5 nodes_max))
+    option_or (limit 2 params_max (slice_get (map (λ p. p.place) d.params) params_max))
+    (option_or (limit 3 bindings_max (long_let body))
+    (option_or (needs (nat_le in_all sites_max) (fault_with rules.E16 d.place 4 sites_max))
+    (option_or (needs (nat_le nodes_all nodes_max) (fault_with rules.E16 d.place 5 nodes_max))
     (limits_from all (suc n) (unit_of n u d) in_all nodes_all ds))))
 
 abbrev pub limits : List Definition → Option Fault
-limits ds = or_else (limit 1 functions_max (slice_get (map (λ d. d.place) ds) functions_max)) (limits_from (heads ds) 0 0 0 0 ds)
+limits ds = option_or (limit 1 functions_max (slice_get (map (λ d. d.place) ds) functions_max)) (limits_from (heads ds) 0 0 0 0 ds)
 
 -- ---- definitions
 
@@ -224,18 +224,18 @@ placed_params d = map (λ p. record { place = p.place; name = p.name }) d.params
 -- the faults of a head: E06 if an earlier definition has the name, E12 if the width is not the group's, and E07
 abbrev pub head_fault : List (List ℕ) → ℕ → Definition → Option Fault
 head_fault earlier w d =
-    or_else (if list_any (bytes_eq d.name) earlier then Some (fault rules.E06 d.place) else None)
-    (or_else (needs (w == d.width) (fault_with rules.E12 d.place w d.width))
+    option_or (if list_any (bytes_eq d.name) earlier then Some (fault rules.E06 d.place) else None)
+    (option_or (needs (w == d.width) (fault_with rules.E12 d.place w d.width))
     (repeated [] (placed_params d)))
 
 -- the faults of the heads of the group's other functions, one by one
 abbrev pub joined_faults : List (List ℕ) → ℕ → List Definition → Option Fault
 joined_faults earlier w [] = None
-joined_faults earlier w (d ∷ ds) = if d.joined then or_else (head_fault earlier w d) (joined_faults (d.name ∷ earlier) w ds) else None
+joined_faults earlier w (d ∷ ds) = if d.joined then option_or (head_fault earlier w d) (joined_faults (d.name ∷ earlier) w ds) else None
 
 -- all heads of a group are checked before its first body
 abbrev pub group_fault : List (List ℕ) → Definition → List Definition → Option Fault
-group_fault earlier d ds = if d.joined then None else or_else (head_fault earlier d.width d) (joined_faults (d.name ∷ earlier) d.width ds)
+group_fault earlier d ds = if d.joined then None else option_or (head_fault earlier d.width d) (joined_faults (d.name ∷ earlier) d.width ds)
 
 abbrev pub function : ℕ → ℕ → Definition → Term → FunctionForm
 function u lo d t = record { name = d.name; params = params_of d; width = d.width; unit = u; first_site = lo; body = t }
