@@ -1,6 +1,6 @@
 -- The grammar of a source. Each production is written above its symbol.
-use Rattle.std.specs.Prelude.{ℕ, zero, suc, List, [], ◌∷◌, ◌++◌, Option, Some, None, Bool, true, false, nat_lt, nat_le, if◌then◌else◌}
-use Rattle.safl_grammar.specs.Syntax.{Deep, Range, Syntax, nothing, token, limited, follows, either, unless, many, too_high, below}
+use Rattle.std.specs.Prelude.{ℕ, zero, suc, List, [], ◌∷◌, ◌++◌, Option, Some, None, Bool, true, false, nat_lt, nat_le, if◌then◌else◌, cond, ◌==◌}
+use Rattle.safl_grammar.specs.Syntax.{Deep, Range, Syntax, nothing, token, limited, follows, either, unless, many, too_high, below, listed}
 use Rattle.safl_word.specs.Limits.{width_max}
 use Rattle.safl_word.specs.Tokens.{key_text, sym_text}
 use Rattle.safl_word.specs.declared.token.Key.{Key}
@@ -21,33 +21,19 @@ symbol s = token (spelled (sym_text s))
 
 -- ---- limits
 
--- the depth of a left operand is at most 99
-abbrev pub shallow : Tree → Primitive → Bool
-shallow a op = nat_lt (depth a) 100
-
 -- whether a width is from 1 to the greatest
 abbrev pub is_width : ℕ → Bool
 is_width n = if nat_le 1 n then nat_le n width_max else false
-
-abbrev pub fits_width : NumberAt → Bool
-fits_width n = is_width n.value
-
-abbrev pub fits_sized : SizedAt → Bool
-fits_sized s = is_width s.width
-
--- whether the number of a bit is below the greatest width
-abbrev pub fits_index : NumberAt → Bool
-fits_index n = nat_lt n.value width_max
 
 -- ---- leaves
 
 -- width := Num
 abbrev pub width : Syntax Terminal NumberAt
-width = limited Range fits_width number_at
+width = limited Range (λ (n : NumberAt). is_width n.value) number_at
 
--- the number of a bit := Num
+-- the number of a bit, which is below the greatest width := Num
 abbrev pub index : Syntax Terminal NumberAt
-index = limited Range fits_index number_at
+index = limited Range (λ (n : NumberAt). nat_lt n.value width_max) number_at
 
 -- literal := Num
 abbrev pub literal : Syntax Terminal Tree
@@ -55,7 +41,7 @@ literal = follows (token number_at) (λ n. nothing (Number n.place n.value))
 
 -- sized_literal := Sized
 abbrev pub sized_literal : Syntax Terminal Tree
-sized_literal = follows (limited Range fits_sized sized_at) (λ s. nothing (Sized s.place s.width s.value))
+sized_literal = follows (limited Range (λ (s : SizedAt). is_width s.width) sized_at) (λ s. nothing (Sized s.place s.width s.value))
 
 -- variable := name
 abbrev pub variable : Syntax Terminal Tree
@@ -63,25 +49,13 @@ variable = follows (token name_at) (λ x. nothing (Variable x.place x.name))
 
 -- ---- primary expressions, where e is an expression
 
--- exprs := e { "," e }
-abbrev pub another : Syntax Terminal Tree → List Tree → Syntax Terminal (List Tree)
-another e xs = follows (symbol syms.Comma) (λ comma. follows e (λ x. nothing (xs ++ x ∷ [])))
-
-abbrev pub exprs : Syntax Terminal Tree → Syntax Terminal (List Tree)
-exprs e = follows e (λ x. many (another e) (x ∷ []))
-
--- called := name "(" [ exprs ] ")"; no expression begins with the `)` after an empty list
-abbrev pub no_arguments : NameAt → Syntax Terminal Tree
-no_arguments f = follows (symbol syms.CloseParen) (λ closed. nothing (Call f.place f.name (trees_of [])))
-
-abbrev pub arguments : Syntax Terminal Tree → NameAt → Syntax Terminal Tree
-arguments e f = follows (exprs e) (λ xs. follows (symbol syms.CloseParen) (λ closed. nothing (Call f.place f.name (trees_of xs))))
-
-abbrev pub call : Syntax Terminal Tree → NameAt → Syntax Terminal Tree
-call e f = follows (symbol syms.OpenParen) (λ opened. either (no_arguments f) (unless (comes_spelled (sym_text syms.CloseParen)) (arguments e f)))
-
+-- called := name "(" [ e { "," e } ] ")"; no expression begins with the `)` after an empty list
 abbrev pub called : Syntax Terminal Tree → Syntax Terminal Tree
-called e = follows (token name_at) (λ f. call e f)
+called e =
+    follows (token name_at) (λ f. follows (symbol syms.OpenParen) (λ opened.
+    either (follows (symbol syms.CloseParen) (λ closed. nothing (Call f.place f.name (trees_of []))))
+    (unless (comes_spelled (sym_text syms.CloseParen))
+    (follows (listed (symbol syms.Comma) e) (λ xs. follows (symbol syms.CloseParen) (λ closed. nothing (Call f.place f.name (trees_of xs))))))))
 
 -- parenthesised := "(" e ")"
 abbrev pub parenthesised : Syntax Terminal Tree → Syntax Terminal Tree
@@ -106,28 +80,18 @@ primary e = either literal (either sized_literal (either (either (called e) vari
 -- ---- operators, where u is the operand of "~"
 
 -- unary := "~" u | primary
-abbrev pub inverted : Syntax Terminal Tree → Syntax Terminal Tree
-inverted u = follows (symbol syms.Tilde) (λ p. follows u (λ x. nothing (Op p prims.Not (trees_of (x ∷ [])))))
-
 abbrev pub unary : Syntax Terminal Tree → Syntax Terminal Tree → Syntax Terminal Tree
-unary u e = either (inverted u) (primary e)
+unary u e = either (follows (symbol syms.Tilde) (λ p. follows u (λ x. nothing (Op p prims.Not (trees_of (x ∷ [])))))) (primary e)
 
--- layer := sub { operator sub }, grouped to the left; of comparisons, sub [ operator sub ]
+-- operator sub, behind a left operand a of a depth of at most 99
 abbrev pub joined : ℕ → Syntax Terminal Tree → Tree → Syntax Terminal Tree
-joined k sub a = follows (limited Deep (shallow a) (operator_at k)) (λ op. follows sub (λ b. nothing (Op (place_of a) op (trees_of (a ∷ b ∷ [])))))
+joined k sub a =
+    follows (limited Deep (λ (op : Primitive). nat_lt (depth a) 100) (operator_at k))
+    (λ op. follows sub (λ b. nothing (Op (place_of a) op (trees_of (a ∷ b ∷ [])))))
 
-abbrev pub chained : ℕ → Syntax Terminal Tree → Syntax Terminal Tree
-chained k sub = follows sub (many (joined k sub))
-
-abbrev pub compared : ℕ → Syntax Terminal Tree → Syntax Terminal Tree
-compared k sub = follows sub (λ a. either (joined k sub a) (nothing a))
-
+-- layer := sub { operator sub }, grouped to the left; of comparisons, which are layer 3, sub [ operator sub ]
 abbrev pub layer : ℕ → Syntax Terminal Tree → Syntax Terminal Tree
-layer zero sub = chained zero sub
-layer (suc zero) sub = chained (suc zero) sub
-layer (suc (suc zero)) sub = chained (suc (suc zero)) sub
-layer (suc (suc (suc zero))) sub = compared 3 sub
-layer (suc (suc (suc (suc k)))) sub = chained (suc (suc (suc (suc k)))) sub
+layer k sub = cond (k == 3) (follows sub (λ a. either (joined k sub a) (nothing a))) (follows sub (many (joined k sub)))
 
 -- the layers below k, from those that bind the closest: product, sum, shift, comparison, and, xor, or
 abbrev pub chain : ℕ → Syntax Terminal Tree → Syntax Terminal Tree
@@ -148,14 +112,10 @@ abbrev pub bind : Syntax Terminal Tree → Syntax Terminal Bound
 bind e = follows (token name_at) (λ x. follows written (λ w. follows (symbol syms.Assign) (λ gives. follows e (λ v. nothing (record { place = x.place; name = x.name; width = w; value = v })))))
 
 -- binding := "let" bind { "," bind } "in" e
-abbrev pub another_bind : Syntax Terminal Tree → List Bound → Syntax Terminal (List Bound)
-another_bind e bs = follows (symbol syms.Comma) (λ comma. follows (bind e) (λ b. nothing (bs ++ b ∷ [])))
-
-abbrev pub binds : Syntax Terminal Tree → Syntax Terminal (List Bound)
-binds e = follows (bind e) (λ b. many (another_bind e) (b ∷ []))
-
 abbrev pub binding : Syntax Terminal Tree → Syntax Terminal Tree
-binding e = follows (word keys.Let) (λ p. follows (binds e) (λ bs. follows (word keys.In) (λ inner. follows e (λ x. nothing (Let p (binds_of bs) x)))))
+binding e =
+    follows (word keys.Let) (λ p. follows (listed (symbol syms.Comma) (bind e)) (λ bs. follows (word keys.In) (λ inner.
+    follows e (λ x. nothing (Let p (binds_of bs) x)))))
 
 -- label := Num | Sized
 abbrev pub label : Syntax Terminal Tree
@@ -218,11 +178,8 @@ abbrev pub param : Syntax Terminal Parameter
 param = follows (token name_at) (λ x. follows (symbol syms.Colon) (λ colon. follows width (λ n. nothing (record { place = x.place; name = x.name; width = n.value }))))
 
 -- params := [ param { "," param } ]
-abbrev pub another_param : List Parameter → Syntax Terminal (List Parameter)
-another_param ps = follows (symbol syms.Comma) (λ comma. follows param (λ p. nothing (ps ++ p ∷ [])))
-
 abbrev pub params : Syntax Terminal (List Parameter)
-params = either (follows param (λ p. many another_param (p ∷ []))) (nothing [])
+params = either (listed (symbol syms.Comma) param) (nothing [])
 
 -- one := name "(" params ")" ":" width "=" e
 abbrev pub one : Bool → Syntax Terminal Tree → Syntax Terminal Definition
@@ -239,12 +196,61 @@ group e ds = follows (word keys.Fun) (λ f. follows (one false e) (λ d. many (a
 abbrev pub ended : List Definition → Syntax Terminal (List Definition)
 ended ds = either (follows (symbol syms.Semicolon) (λ s. nothing ds)) (nothing ds)
 
-abbrev pub another_group : Syntax Terminal Tree → List Definition → Syntax Terminal (List Definition)
-another_group e ds = follows (group e ds) ended
-
 abbrev pub program : Syntax Terminal Tree → Syntax Terminal (List Definition)
-program e = many (another_group e) []
+program e = many (λ ds. follows (group e ds) ended) []
 
 -- a program whose expressions nest at most n times. A body is at the first of 100 levels
 abbrev pub source : ℕ → Syntax Terminal (List Definition)
 source n = program (level n 100).whole
+
+-- ---- parts of productions
+
+-- the depth of a left operand is at most 99
+abbrev pub shallow : Tree → Primitive → Bool
+shallow a op = nat_lt (depth a) 100
+
+abbrev pub fits_width : NumberAt → Bool
+fits_width n = is_width n.value
+
+abbrev pub fits_sized : SizedAt → Bool
+fits_sized s = is_width s.width
+
+-- whether the number of a bit is below the greatest width
+abbrev pub fits_index : NumberAt → Bool
+fits_index n = nat_lt n.value width_max
+
+abbrev pub another : Syntax Terminal Tree → List Tree → Syntax Terminal (List Tree)
+another e xs = follows (symbol syms.Comma) (λ comma. follows e (λ x. nothing (xs ++ x ∷ [])))
+
+abbrev pub exprs : Syntax Terminal Tree → Syntax Terminal (List Tree)
+exprs e = follows e (λ x. many (another e) (x ∷ []))
+
+abbrev pub no_arguments : NameAt → Syntax Terminal Tree
+no_arguments f = follows (symbol syms.CloseParen) (λ closed. nothing (Call f.place f.name (trees_of [])))
+
+abbrev pub arguments : Syntax Terminal Tree → NameAt → Syntax Terminal Tree
+arguments e f = follows (exprs e) (λ xs. follows (symbol syms.CloseParen) (λ closed. nothing (Call f.place f.name (trees_of xs))))
+
+abbrev pub call : Syntax Terminal Tree → NameAt → Syntax Terminal Tree
+call e f = follows (symbol syms.OpenParen) (λ opened. either (no_arguments f) (unless (comes_spelled (sym_text syms.CloseParen)) (arguments e f)))
+
+abbrev pub inverted : Syntax Terminal Tree → Syntax Terminal Tree
+inverted u = follows (symbol syms.Tilde) (λ p. follows u (λ x. nothing (Op p prims.Not (trees_of (x ∷ [])))))
+
+abbrev pub chained : ℕ → Syntax Terminal Tree → Syntax Terminal Tree
+chained k sub = follows sub (many (joined k sub))
+
+abbrev pub compared : ℕ → Syntax Terminal Tree → Syntax Terminal Tree
+compared k sub = follows sub (λ a. either (joined k sub a) (nothing a))
+
+abbrev pub another_bind : Syntax Terminal Tree → List Bound → Syntax Terminal (List Bound)
+another_bind e bs = follows (symbol syms.Comma) (λ comma. follows (bind e) (λ b. nothing (bs ++ b ∷ [])))
+
+abbrev pub binds : Syntax Terminal Tree → Syntax Terminal (List Bound)
+binds e = follows (bind e) (λ b. many (another_bind e) (b ∷ []))
+
+abbrev pub another_param : List Parameter → Syntax Terminal (List Parameter)
+another_param ps = follows (symbol syms.Comma) (λ comma. follows param (λ p. nothing (ps ++ p ∷ [])))
+
+abbrev pub another_group : Syntax Terminal Tree → List Definition → Syntax Terminal (List Definition)
+another_group e ds = follows (group e ds) ended
