@@ -1,7 +1,7 @@
 -- The grammar of the profile. Each production is written above its symbol.
 use Rattle.std.specs.Prelude.{ℕ, List, [], ◌∷◌, ◌++◌, Option, Some, None, if◌then◌else◌}
 use Rattle.std.specs.Str.{bytes_eq}
-use Rattle.safl_grammar.specs.Syntax.{Syntax, nothing, token, follows, either, many}
+use Rattle.safl_grammar.specs.Syntax.{Syntax, nothing, token, follows, either, many, listed}
 use Rattle.safl_word.specs.declared.primitive.Primitive.{Primitive}
 use Rattle.safl_word.specs.Operators.{operators, operator_with}
 use Rattle.safl_verilog.specs.declared.token.Keyword.{Keyword}
@@ -77,17 +77,11 @@ sort = token (λ (t : Terminal). declares t.kind)
 
 -- ---- cell := lit | id | "~" id | id OP id | id "?" id ":" id | "{" id "," id "}" | id "[" Num ":" Num "]"
 
-abbrev pub constant : Syntax Terminal Expression
-constant = follows literal (λ l. nothing (Literal l))
-
-abbrev pub plain_end : Spot → Syntax Terminal Expression
-plain_end a = nothing (Plain a)
-
-abbrev pub inverted : Syntax Terminal Expression
-inverted = follows (symbol symbols.Tilde) (λ k. follows id (λ a. nothing (Inverted a)))
-
-abbrev pub binary_end : Spot → Syntax Terminal Expression
-binary_end a = follows operator (λ p. follows id (λ b. nothing (Binary p a b)))
+-- "[" Num ":" Num "]"
+abbrev pub bracketed : {A : Type 0} → (Spot → Spot → A) → Syntax Terminal A
+bracketed make =
+    follows (symbol symbols.OpenBracket) (λ k. follows number (λ high. follows (symbol symbols.Colon) (λ l. follows number (λ low.
+    follows (symbol symbols.CloseBracket) (λ m. nothing (make high low))))))
 
 abbrev pub choice_end : Spot → Syntax Terminal Expression
 choice_end a =
@@ -98,26 +92,19 @@ joined =
     follows (symbol symbols.OpenBrace) (λ k. follows id (λ a. follows (symbol symbols.Comma) (λ l. follows id (λ b.
     follows (symbol symbols.CloseBrace) (λ m. nothing (Joined a b))))))
 
-abbrev pub slice_end : Spot → Syntax Terminal Expression
-slice_end a =
-    follows (symbol symbols.OpenBracket) (λ k. follows number (λ high. follows (symbol symbols.Colon) (λ l. follows number (λ low.
-    follows (symbol symbols.CloseBracket) (λ m. nothing (Slice a high low))))))
-
 abbrev pub cell : Syntax Terminal Expression
 cell =
-    either constant
-    (either (either (follows id binary_end) (either (follows id choice_end) (either (follows id slice_end) (follows id plain_end))))
-    (either inverted joined))
+    either (follows literal (λ l. nothing (Literal l)))
+    (either
+    (either (follows id (λ a. follows operator (λ p. follows id (λ b. nothing (Binary p a b)))))
+    (either (follows id choice_end)
+    (either (follows id (λ a. bracketed (λ high low. Slice a high low))) (follows id (λ a. nothing (Plain a))))))
+    (either (follows (symbol symbols.Tilde) (λ k. follows id (λ a. nothing (Inverted a)))) joined))
 
 -- ---- decl := ( "input" | "output" | "reg" | "wire" ) [ "[" Num ":" Num "]" ] id ";"
 
-abbrev pub written_range : Syntax Terminal (Option (Spot × Spot))
-written_range =
-    follows (symbol symbols.OpenBracket) (λ k. follows number (λ high. follows (symbol symbols.Colon) (λ l. follows number (λ low.
-    follows (symbol symbols.CloseBracket) (λ m. nothing (Some (high, low)))))))
-
 abbrev pub range : Syntax Terminal (Option (Spot × Spot))
-range = either written_range (nothing None)
+range = either (bracketed (λ high low. Some (high, low))) (nothing None)
 
 abbrev pub decl : Syntax Terminal Declaration
 decl =
@@ -150,10 +137,46 @@ always =
     follows (word keywords.Always) (λ k1. follows (symbol symbols.At) (λ k2. follows (symbol symbols.OpenParen) (λ k3.
     follows (word keywords.Posedge) (λ k4. follows id (λ clock. follows (symbol symbols.CloseParen) (λ k5. at_reset clock))))))
 
+-- ---- file := "module" id "(" id { "," id } ")" ";" { decl } { stmt } "endmodule"
+
+-- { decl } { stmt } "endmodule"
+abbrev pub body : List Spot → Syntax Terminal File
+body hs =
+    follows (many (λ (ds : List Declaration). follows decl (λ d. nothing (ds ++ d ∷ []))) []) (λ ds.
+    follows (many (λ (ss : List Statement). follows (either assign always) (λ s. nothing (ss ++ s ∷ []))) []) (λ ss.
+    follows (word keywords.Endmodule) (λ e. nothing (record { header = hs; declarations = ds; statements = ss }))))
+
+abbrev pub file : Syntax Terminal File
+file =
+    follows (word keywords.Module) (λ k. follows id (λ x. follows (symbol symbols.OpenParen) (λ o. follows (listed (symbol symbols.Comma) id) (λ hs.
+    follows (symbol symbols.CloseParen) (λ c. follows (symbol symbols.Semicolon) (λ s. body hs))))))
+
+-- ---- parts of productions
+
+abbrev pub constant : Syntax Terminal Expression
+constant = follows literal (λ l. nothing (Literal l))
+
+abbrev pub plain_end : Spot → Syntax Terminal Expression
+plain_end a = nothing (Plain a)
+
+abbrev pub inverted : Syntax Terminal Expression
+inverted = follows (symbol symbols.Tilde) (λ k. follows id (λ a. nothing (Inverted a)))
+
+abbrev pub binary_end : Spot → Syntax Terminal Expression
+binary_end a = follows operator (λ p. follows id (λ b. nothing (Binary p a b)))
+
+abbrev pub slice_end : Spot → Syntax Terminal Expression
+slice_end a =
+    follows (symbol symbols.OpenBracket) (λ k. follows number (λ high. follows (symbol symbols.Colon) (λ l. follows number (λ low.
+    follows (symbol symbols.CloseBracket) (λ m. nothing (Slice a high low))))))
+
+abbrev pub written_range : Syntax Terminal (Option (Spot × Spot))
+written_range =
+    follows (symbol symbols.OpenBracket) (λ k. follows number (λ high. follows (symbol symbols.Colon) (λ l. follows number (λ low.
+    follows (symbol symbols.CloseBracket) (λ m. nothing (Some (high, low)))))))
+
 abbrev pub stmt : Syntax Terminal Statement
 stmt = either assign always
-
--- ---- file := "module" id "(" id { "," id } ")" ";" { decl } { stmt } "endmodule"
 
 abbrev pub another_id : List Spot → Syntax Terminal (List Spot)
 another_id xs = follows (symbol symbols.Comma) (λ c. follows id (λ x. nothing (xs ++ x ∷ [])))
@@ -166,14 +189,3 @@ another_decl ds = follows decl (λ d. nothing (ds ++ d ∷ []))
 
 abbrev pub another_stmt : List Statement → Syntax Terminal (List Statement)
 another_stmt ss = follows stmt (λ s. nothing (ss ++ s ∷ []))
-
--- { decl } { stmt } "endmodule"
-abbrev pub body : List Spot → Syntax Terminal File
-body hs =
-    follows (many another_decl []) (λ ds. follows (many another_stmt []) (λ ss. follows (word keywords.Endmodule) (λ e.
-    nothing (record { header = hs; declarations = ds; statements = ss }))))
-
-abbrev pub file : Syntax Terminal File
-file =
-    follows (word keywords.Module) (λ k. follows id (λ x. follows (symbol symbols.OpenParen) (λ o. follows ids (λ hs.
-    follows (symbol symbols.CloseParen) (λ c. follows (symbol symbols.Semicolon) (λ s. body hs))))))
