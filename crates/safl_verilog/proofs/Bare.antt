@@ -1,5 +1,6 @@
 -- Whether a file has faults, and which netlist it is, doesn't depend on its places.
 use Rattle.std.proofs.Common.{◌≡◌, ℕ, suc, List, [], ◌∷◌, ◌++◌, map, Bool, true, false, cond, not, ◌==◌, ◌&&◌, ◌||◌, Some, None, Option, refl, sym, ap, ◌∙◌, bytes_eq}
+use Rattle.std.specs.Prelude.{is_none}
 use Rattle.std.specs.Prelude.{filter, unwrap_or, codes}
 use Rattle.std.specs.List.{flat_map}
 use Rattle.std.proofs.lemmas.List.{map-append}
@@ -15,7 +16,7 @@ use Rattle.safl_verilog.specs.Faults.{among, repeat_faults, find, is_input, is_o
 use Rattle.safl_verilog.specs.FaultParts.{declared_names}
 use Rattle.safl_verilog.specs.Faults.{width_in, width_of, has_bit, has_ports, is_data, is_signal, is_target, unfit_faults}
 use Rattle.safl_verilog.specs.FaultParts.{header_faults, port_faults}
-use Rattle.safl_verilog.specs.Faults.{operation, operands, is_plain, expression_width, assigned, updated, is_none, width_faults, literal_value}
+use Rattle.safl_verilog.specs.Faults.{operation, operands, is_plain, expression_width, assigned, updated, width_faults, literal_value}
 use Rattle.safl_verilog.specs.Faults.{may_be_assigned, assign_faults, always_faults, statement_faults, all_statement_faults, missing_faults, faults}
 use Rattle.safl_verilog.specs.Netlists.{signals_of, place_of, number_of, cell_of, driven, register_of, kind_of, signal_of, shown_signal, output_of, netlist}
 use Rattle.safl_verilog.proofs.PrintedReads.{bare, bare_expression, bare_range, bare_declaration, bare_statement, bare_file}

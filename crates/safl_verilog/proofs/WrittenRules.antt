@@ -1,5 +1,6 @@
 -- A written file breaks no rule.
 use Rattle.std.proofs.Common.{◌≡◌, ℕ, ◌+◌, ◌-◌, ◌<◌, ◌≤◌, ◌^◌, List, [], ◌∷◌, ◌++◌, length, map, Bool, true, false, not, ◌==◌, ◌&&◌, ◌||◌, nat_lt}
+use Rattle.std.specs.Prelude.{is_none}
 use Rattle.std.proofs.Common.{Some, None, Option, refl, sym, ap, subst, ◌∙◌, inl, arith, append_assoc, lit<, get_or}
 use Rattle.std.specs.Prelude.{codes, decimal, slice_get, All, unwrap_or}
 use Rattle.std.specs.List.{flat_map}
@@ -27,7 +28,7 @@ use Rattle.safl_verilog.specs.FaultParts.{declared_number_faults, declared_names
 use Rattle.safl_verilog.specs.Faults.{find, is_input, is_output, is_reg, is_port, passes, range_width, width_of, width_in}
 use Rattle.safl_verilog.specs.FaultParts.{header_faults, port_faults}
 use Rattle.safl_verilog.specs.Faults.{has_ports, all_port_faults, is_target, unfit_faults, operands, is_plain, expression_width, assigned, updated}
-use Rattle.safl_verilog.specs.Faults.{is_none, width_faults, assign_faults, always_faults, statement_faults, all_statement_faults, missing_faults}
+use Rattle.safl_verilog.specs.Faults.{width_faults, assign_faults, always_faults, statement_faults, all_statement_faults, missing_faults}
 use Rattle.safl_verilog.specs.Faults.{faults}
 use Rattle.safl_net.specs.Arranged.{IsInput, Each}
 use Rattle.safl_net.proofs.EachOf.{each_by_index, each_join, each_stands}

@@ -1,6 +1,7 @@
 -- The rules on files: the faults of a file, in the order in which they are reported. The first of them is the file's first fault.
-use Rattle.std.specs.Prelude.{ℕ, ◌+◌, ◌^◌, List, [], ◌∷◌, ◌++◌, map, drop, length, Option, None, Some, Bool, true, false, not, ◌==◌, ◌&&◌, ◌||◌, nat_lt, nat_le, unwrap_or, if◌then◌else◌, codes}
-use Rattle.std.specs.List.{flat_map}
+use Rattle.std.specs.Prelude.{ℕ, ◌+◌, ◌^◌, List, [], ◌∷◌, ◌++◌, map, drop, length, Option, None, Some, Bool, true, false, not, ◌==◌, ◌&&◌, ◌||◌, nat_lt, nat_le, unwrap_or, if◌then◌else◌, codes, is_none}
+use Rattle.std.specs.List.{flat_map, list_any}
+use Rattle.std.specs.Option.{option_map_or}
 use Rattle.std.specs.Str.{bytes_eq}
 use Rattle.safl_word.specs.Limits.{width_max, digits_max, value_bound}
 use Rattle.safl_word.specs.Numerals.{value}
@@ -50,12 +51,10 @@ abbrev pub literal_value : List ℕ → ℕ
 literal_value w = value (base_at (behind_quote w)) (drop 1 (behind_quote w))
 
 -- the width is from 1 to the greatest, and the value fits it
-abbrev pub is_word : ℕ → ℕ → Bool
-is_word width bits = nat_le 1 width && nat_le width width_max && nat_lt bits (2 ^ width)
-
 abbrev pub is_literal : List ℕ → Bool
 is_literal w =
-    is_short 10 (before_quote w) && is_short (base_at (behind_quote w)) (drop 1 (behind_quote w)) && is_word (literal_width w) (literal_value w)
+    is_short 10 (before_quote w) && is_short (base_at (behind_quote w)) (drop 1 (behind_quote w))
+    && (nat_le 1 (literal_width w) && nat_le (literal_width w) width_max && nat_lt (literal_value w) (2 ^ literal_width w))
 
 abbrev pub number_faults : Spot → List VFault
 number_faults n = where_not (is_short 10 n.bytes) (at rules.V06 n.place)
@@ -64,12 +63,10 @@ abbrev pub literal_faults : Spot → List VFault
 literal_faults l = where_not (is_literal l.bytes) (at rules.V06 l.place)
 
 -- a range goes from n down to 0, and n is below the greatest width
-abbrev pub is_range : Spot → Spot → Bool
-is_range high low = nat_lt (value 10 high.bytes) width_max && (value 10 low.bytes == 0)
-
 abbrev pub range_faults : Option (Spot × Spot) → List VFault
 range_faults None = []
-range_faults (Some r) = number_faults r.0 ++ where_not (is_range r.0 r.1) (at rules.V05 r.0.place) ++ number_faults r.1
+range_faults (Some r) =
+    number_faults r.0 ++ where_not (nat_lt (value 10 r.0.bytes) width_max && (value 10 r.1.bytes == 0)) (at rules.V05 r.0.place) ++ number_faults r.1
 
 abbrev pub expression_number_faults : Expression → List VFault
 expression_number_faults (Literal l) = literal_faults l
@@ -80,22 +77,15 @@ abbrev pub stated_number_faults : Statement → List VFault
 stated_number_faults (Assign x e) = expression_number_faults e
 stated_number_faults (Always clock reset target initial second source) = literal_faults initial
 
-abbrev pub all_number_faults : File → List VFault
-all_number_faults f = flat_map (λ (d : Declaration). range_faults d.range) f.declarations ++ flat_map stated_number_faults f.statements
-
 -- ---- names
 
 abbrev pub among : List Spot → List ℕ → Bool
-among [] name = false
-among (x ∷ xs) name = bytes_eq x.bytes name || among xs name
+among xs name = list_any (λ (x : Spot). bytes_eq x.bytes name) xs
 
 -- V03 at each name of the list that is also among those before it
 abbrev pub repeat_faults : List Spot → List Spot → List VFault
 repeat_faults before [] = []
 repeat_faults before (x ∷ xs) = where_not (not (among before x.bytes)) (at rules.V03 x.place) ++ repeat_faults (before ++ x ∷ []) xs
-
-abbrev pub all_repeat_faults : File → List VFault
-all_repeat_faults f = repeat_faults [] f.header ++ repeat_faults [] (map (λ (d : Declaration). d.name) f.declarations)
 
 -- ---- ports
 
@@ -133,13 +123,9 @@ abbrev pub range_width : Option (Spot × Spot) → ℕ
 range_width None = 1
 range_width (Some r) = value 10 r.0.bytes + 1
 
-abbrev pub width_in : Option Declaration → ℕ
-width_in None = 0
-width_in (Some d) = range_width d.range
-
--- the width of a name
+-- the width of a name, or 0 if it is not declared
 abbrev pub width_of : List Declaration → List ℕ → ℕ
-width_of ds name = width_in (find ds name)
+width_of ds name = option_map_or (λ (d : Declaration). range_width d.range) (find ds name) 0
 
 -- the ports that each file has: `clk`, `rst` and `start` are inputs of width 1, `done` is an output of width 1, and `result` is
 -- an output
@@ -160,15 +146,9 @@ all_port_faults f =
 
 -- ---- statements
 
-abbrev pub is_clock : List ℕ → Bool
-is_clock name = bytes_eq name (codes "clk")
-
-abbrev pub is_reset : List ℕ → Bool
-is_reset name = bytes_eq name (codes "rst")
-
 -- an input other than the clock and the reset
 abbrev pub is_data : Declaration → Bool
-is_data d = is_input d.sort && not (is_clock d.name.bytes) && not (is_reset d.name.bytes)
+is_data d = is_input d.sort && not (bytes_eq d.name.bytes (codes "clk")) && not (bytes_eq d.name.bytes (codes "rst"))
 
 -- an input other than the clock and the reset, a register or a wire
 abbrev pub is_signal : Declaration → Bool
@@ -219,38 +199,26 @@ updated [] name = None
 updated (Assign x e ∷ ss) name = updated ss name
 updated (Always clock reset target initial second source ∷ ss) name = if bytes_eq target.bytes name then Some (initial, source) else updated ss name
 
-abbrev pub is_none : {A : Type 0} → Option A → Bool
-is_none None = true
-is_none (Some x) = false
-
 abbrev pub width_faults : ℕ → ℕ → ℕ → List VFault
 width_faults place wanted found = where_not (wanted == found) (record { rule = rules.V05; place = place; first = wanted; second = found })
 
--- an output may be assigned only a name
-abbrev pub may_be_assigned : List Statement → Option Declaration → List ℕ → Expression → Bool
-may_be_assigned before d name e = is_none (assigned before name) && (not (passes (λ d. is_output d.sort) d) || is_plain e)
-
-abbrev pub assign_faults : List Declaration → List Statement → Spot → Expression → List VFault
-assign_faults ds before x e =
+-- An assignment may have a wire or an output as its target, once, and to an output it may assign only a name. An update is one of
+-- a register, by the clock and the reset, once.
+abbrev pub statement_faults : List Declaration → List Statement → Statement → List VFault
+statement_faults ds before (Assign x e) =
     where_not (passes is_target (find ds x.bytes)) (at rules.V04 x.place)
-    ++ where_not (may_be_assigned before (find ds x.bytes) x.bytes e) (at rules.V07 x.place)
+    ++ where_not (is_none (assigned before x.bytes) && (not (passes (λ d. is_output d.sort) (find ds x.bytes)) || is_plain e)) (at rules.V07 x.place)
     ++ flat_map (unfit_faults ds) (operands e)
     ++ width_faults x.place (width_of ds x.bytes) (expression_width ds e)
-
-abbrev pub always_faults : List Declaration → List Statement → (clock reset target initial second source : Spot) → List VFault
-always_faults ds before clock reset target initial second source =
-    where_not (is_clock clock.bytes) (at rules.V08 clock.place)
-    ++ where_not (is_reset reset.bytes) (at rules.V08 reset.place)
+statement_faults ds before (Always clock reset target initial second source) =
+    where_not (bytes_eq clock.bytes (codes "clk")) (at rules.V08 clock.place)
+    ++ where_not (bytes_eq reset.bytes (codes "rst")) (at rules.V08 reset.place)
     ++ where_not (passes (λ d. is_reg d.sort) (find ds target.bytes)) (at rules.V08 target.place)
     ++ where_not (bytes_eq second.bytes target.bytes) (at rules.V08 second.place)
     ++ where_not (is_none (updated before target.bytes)) (at rules.V08 target.place)
     ++ unfit_faults ds source
     ++ width_faults initial.place (width_of ds target.bytes) (literal_width initial.bytes)
     ++ width_faults source.place (width_of ds target.bytes) (width_of ds source.bytes)
-
-abbrev pub statement_faults : List Declaration → List Statement → Statement → List VFault
-statement_faults ds before (Assign x e) = assign_faults ds before x e
-statement_faults ds before (Always clock reset target initial second source) = always_faults ds before clock reset target initial second source
 
 -- the faults of statements in the order of the text, each with the statements before it
 abbrev pub all_statement_faults : List Declaration → List Statement → List Statement → List VFault
@@ -267,5 +235,40 @@ missing_faults ss d =
 -- all faults of a file: of numbers and ranges, names, ports, statements, and of what is missing
 unfoldable pub faults : File → List VFault
 faults f =
-    all_number_faults f ++ all_repeat_faults f ++ all_port_faults f ++ all_statement_faults f.declarations [] f.statements
+    (flat_map (λ (d : Declaration). range_faults d.range) f.declarations ++ flat_map stated_number_faults f.statements)
+    ++ (repeat_faults [] f.header ++ repeat_faults [] (map (λ (d : Declaration). d.name) f.declarations))
+    ++ all_port_faults f ++ all_statement_faults f.declarations [] f.statements
     ++ flat_map (missing_faults f.statements) f.declarations
+
+-- the faults of an assignment, and of an update
+abbrev pub assign_faults : List Declaration → List Statement → Spot → Expression → List VFault
+assign_faults ds before x e = statement_faults ds before (Assign x e)
+
+abbrev pub always_faults : List Declaration → List Statement → (clock reset target initial second source : Spot) → List VFault
+always_faults ds before clock reset target initial second source = statement_faults ds before (Always clock reset target initial second source)
+
+-- ---- parts by name
+
+abbrev pub is_word : ℕ → ℕ → Bool
+is_word width bits = nat_le 1 width && nat_le width width_max && nat_lt bits (2 ^ width)
+
+abbrev pub is_range : Spot → Spot → Bool
+is_range high low = nat_lt (value 10 high.bytes) width_max && (value 10 low.bytes == 0)
+
+abbrev pub all_number_faults : File → List VFault
+all_number_faults f = flat_map (λ (d : Declaration). range_faults d.range) f.declarations ++ flat_map stated_number_faults f.statements
+
+abbrev pub all_repeat_faults : File → List VFault
+all_repeat_faults f = repeat_faults [] f.header ++ repeat_faults [] (map (λ (d : Declaration). d.name) f.declarations)
+
+abbrev pub width_in : Option Declaration → ℕ
+width_in o = option_map_or (λ (d : Declaration). range_width d.range) o 0
+
+abbrev pub is_clock : List ℕ → Bool
+is_clock name = bytes_eq name (codes "clk")
+
+abbrev pub is_reset : List ℕ → Bool
+is_reset name = bytes_eq name (codes "rst")
+
+abbrev pub may_be_assigned : List Statement → Option Declaration → List ℕ → Expression → Bool
+may_be_assigned before d name e = is_none (assigned before name) && (not (passes (λ d. is_output d.sort) d) || is_plain e)

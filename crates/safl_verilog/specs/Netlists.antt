@@ -1,5 +1,5 @@
 -- The netlist that a file reads as.
-use Rattle.std.specs.Prelude.{ℕ, suc, List, [], ◌∷◌, ◌++◌, map, filter, Option, None, Some, if◌then◌else◌}
+use Rattle.std.specs.Prelude.{ℕ, suc, List, [], ◌∷◌, ◌++◌, map, filter, Option, None, Some, if◌then◌else◌, option_map}
 use Rattle.std.specs.Str.{bytes_eq}
 use Rattle.safl_net.specs.Netlist.{Netlist, Signal, Kind, Input, Reg, Wire, Cell}
 use Rattle.safl_verilog.specs.declared.token.Sort.{Sort}
@@ -22,10 +22,6 @@ number_of ds name = place_of (signals_of ds) name
 abbrev pub cell_of : List Declaration → Expression → Cell
 cell_of ds e = record { op = operation e; operands = map (λ (a : Spot). number_of ds a.bytes) (operands e) }
 
-abbrev pub driven : List Declaration → Option Expression → Option Cell
-driven ds None = None
-driven ds (Some e) = Some (cell_of ds e)
-
 abbrev pub register_of : List Declaration → Option (Spot × Spot) → Kind
 register_of ds None = Reg 0 None
 register_of ds (Some u) = Reg (literal_value u.0.bytes) (Some (number_of ds u.1.bytes))
@@ -36,7 +32,7 @@ abbrev pub kind_of : File → Sort → List ℕ → Kind
 kind_of f sorts.Input name = Input
 kind_of f sorts.Output name = Input
 kind_of f sorts.Reg name = register_of f.declarations (updated f.statements name)
-kind_of f sorts.Wire name = Wire (driven f.declarations (assigned f.statements name))
+kind_of f sorts.Wire name = Wire (option_map (λ (e : Expression). cell_of f.declarations e) (assigned f.statements name))
 
 abbrev pub signal_of : File → Declaration → Signal
 signal_of f d = record { name = d.name.bytes; width = range_width d.range; kind = kind_of f d.sort d.name.bytes }
@@ -54,3 +50,8 @@ netlist f = record {
   signals = map (signal_of f) (signals_of f.declarations);
   outputs = map (output_of f) (filter (λ (d : Declaration). is_output d.sort) f.declarations);
 }
+
+-- ---- parts by name
+
+abbrev pub driven : List Declaration → Option Expression → Option Cell
+driven ds o = option_map (λ (e : Expression). cell_of ds e) o

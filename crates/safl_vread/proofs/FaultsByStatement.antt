@@ -1,5 +1,6 @@
 -- The faults of one statement, and what it drives.
 use Rattle.std.proofs.Common.{◌≡◌, ℕ, ◌<◌, List, [], ◌++◌, length, get_or, None, Some, Ok, Bool, true, false, not, cond, ◌&&◌, ◌||◌, ◌==◌, bytes_eq, refl, sym, ap, ◌∙◌, arith, slice_get}
+use Rattle.std.specs.Prelude.{is_none}
 use Rattle.std.specs.List.{flat_map}
 use Rattle.std.proofs.lemmas.Option.{slice_get-get_or, slice_get_within}
 use Rattle.std.proofs.lemmas.Bool.{and_parts, eq-eqb, ne_eqb}
@@ -9,7 +10,7 @@ use Rattle.safl_net.specs.declared.cell.Op.{Op}
 use Rattle.safl_verilog.specs.declared.fault.VRule.TheVariants as rules
 use Rattle.safl_verilog.specs.declared.fault.VFault.{VFault}
 use Rattle.safl_verilog.specs.Files.{Spot, Expression, Declaration, Statement, Assign, Always}
-use Rattle.safl_verilog.specs.Faults.{at, find, where_not, passes, is_clock, is_reset, is_target, is_signal, is_reg, is_output, is_plain, is_none}
+use Rattle.safl_verilog.specs.Faults.{at, find, where_not, passes, is_clock, is_reset, is_target, is_signal, is_reg, is_output, is_plain}
 use Rattle.safl_verilog.specs.Faults.{is_literal, literal_width, literal_value, width_of, expression_width, operation, operands, assigned, updated}
 use Rattle.safl_verilog.specs.Faults.{may_be_assigned, unfit_faults, width_faults, assign_faults}
 use Rattle.safl_vparse.specs.Numbers.{literal_word}

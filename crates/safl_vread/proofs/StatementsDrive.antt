@@ -1,5 +1,6 @@
 -- Statements, and what they drive.
 use Rattle.std.proofs.Common.{◌≡◌, ℕ, zero, suc, ◌<◌, ◌≤◌, List, [], ◌∷◌, ◌++◌, length, get_or, set, map, Option, None, Some, Bool, true, false, not}
+use Rattle.std.specs.Prelude.{is_none}
 use Rattle.std.proofs.Common.{cond, ◌||◌, bytes_eq, refl, sym, ap, subst, ◌∙◌, inl, inr, arith, slice_get}
 use Rattle.std.specs.Prelude.{slice_index, ◌⊎◌}
 use Rattle.std.proofs.lemmas.Slice.Eq.{bytes_eq-Decides}
@@ -11,7 +12,7 @@ use Rattle.safl_verilog.specs.declared.token.Sort.{Sort}
 use Rattle.safl_verilog.specs.declared.token.Sort.TheVariants as sorts
 use Rattle.safl_verilog.specs.declared.fault.VFault.{VFault}
 use Rattle.safl_verilog.specs.Files.{Spot, Expression, Declaration, Statement, Assign, Always}
-use Rattle.safl_verilog.specs.Faults.{find, among, where_not, repeat_faults, is_target, is_reg, is_wire, is_output, is_none, range_width, width_of, assigned, updated}
+use Rattle.safl_verilog.specs.Faults.{find, among, where_not, repeat_faults, is_target, is_reg, is_wire, is_output, range_width, width_of, assigned, updated}
 use Rattle.safl_verilog.specs.FaultParts.{declared_names}
 use Rattle.safl_verilog.proofs.Distinct.{Name, Has, Distinct, same_name}
 use Rattle.safl_verilog.proofs.Lookups.{spot_names, is_among, place_at}

@@ -1,5 +1,6 @@
 -- What a file without faults reads as is whole.
 use Rattle.std.proofs.Common.{◌≡◌, ℕ, zero, suc, ◌+◌, List, [], ◌∷◌, ◌++◌, map, Option, None, Some, IsSome, Bool, true, false, not, cond, ◌&&◌, ◌||◌}
+use Rattle.std.specs.Prelude.{is_none}
 use Rattle.std.proofs.Common.{◌==◌, bytes_eq, codes, refl, sym, ap, subst, ◌∙◌, inl, inr, arith, slice_get}
 use Rattle.std.specs.Prelude.{filter}
 use Rattle.std.specs.List.{flat_map}
@@ -16,7 +17,7 @@ use Rattle.safl_verilog.specs.declared.token.Sort.{Sort}
 use Rattle.safl_verilog.specs.declared.token.Sort.TheVariants as sorts
 use Rattle.safl_verilog.specs.declared.fault.VRule.TheVariants as rules
 use Rattle.safl_verilog.specs.Files.{Spot, Expression, Literal, Plain, Inverted, Binary, Choice, Joined, Slice, Declaration, Statement, Assign, Always, File}
-use Rattle.safl_verilog.specs.Faults.{at, find, where_not, passes, is_data, is_input, is_output, is_reg, is_wire, is_target, is_signal, is_none}
+use Rattle.safl_verilog.specs.Faults.{at, find, where_not, passes, is_data, is_input, is_output, is_reg, is_wire, is_target, is_signal}
 use Rattle.safl_verilog.specs.Faults.{is_plain, range_width, width_of, expression_width, operands, assigned, updated, faults, has_bit, has_ports}
 use Rattle.safl_verilog.specs.Faults.{repeat_faults, all_number_faults, all_port_faults}
 use Rattle.safl_verilog.specs.FaultParts.{declared_names, header_faults, port_faults}

@@ -1,5 +1,6 @@
 -- What drives declared names.
 use Rattle.std.specs.Prelude.{◌≡◌, ℕ, List, [], ◌∷◌, ◌++◌, ◌≤◌, length, All, None, Some, Result, Ok, Err, Bool, true, false, not, ◌||◌, slice_get}
+use Rattle.std.specs.Prelude.{is_none}
 use Rattle.std.specs.Str.{bytes_eq}
 use Rattle.safl_word.specs.Words.{Word}
 use Rattle.safl_word.specs.Numerals.{value}
@@ -12,7 +13,7 @@ use Rattle.safl_verilog.specs.declared.fault.VRule.TheVariants as rules
 use Rattle.safl_verilog.specs.declared.fault.VFault.{VFault}
 use Rattle.safl_verilog.specs.declared.token.Sort.{Sort}
 use Rattle.safl_verilog.specs.Files.{Spot, Expression, Declaration, Statement, Assign, Always}
-use Rattle.safl_verilog.specs.Faults.{at, where_not, is_clock, is_reset, is_none, find, passes, is_signal, is_target, is_output, is_wire, is_reg, is_plain, range_width, width_of, operation, operands, expression_width, assigned, updated, literal_value, statement_faults}
+use Rattle.safl_verilog.specs.Faults.{at, where_not, is_clock, is_reset, find, passes, is_signal, is_target, is_output, is_wire, is_reg, is_plain, range_width, width_of, operation, operands, expression_width, assigned, updated, literal_value, statement_faults}
 use Rattle.safl_vparse.specs.declared.file.Update.{Update}
 use Rattle.safl_vparse.specs.Shown.{shown_spot}
 use Rattle.safl_vread.specs.declared.scope.Item.{Item}
