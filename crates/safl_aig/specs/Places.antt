@@ -1,5 +1,6 @@
 -- Names and literals of inputs, latches and outputs.
 use Rattle.std.specs.Prelude.{◌≡◌, ℕ, zero, suc, ◌<◌, ◌≤◌, List, [], ◌∷◌, ◌++◌, length, Option, Some, None, Result, Ok, Err, codes, decimal, unwrap_or, slice_get}
+use Rattle.std.specs.Option.{option_map_or}
 use Rattle.safl_net.specs.Netlist.{Netlist, width_of}
 use Rattle.safl_net.specs.Making.{kind_at, name_at, next_in}
 use Rattle.safl_aiger.specs.declared.literal.Lit.{Lit}
@@ -34,12 +35,8 @@ bit_names name (suc k) = bit_names name k ++ bit_name name k ∷ []
 abbrev pub signal_names : Netlist → ℕ → List (List ℕ)
 signal_names n s = bit_names (name_at n s) (width_of n s)
 
-abbrev pub name_of_output : Option (List ℕ × ℕ) → List ℕ
-name_of_output None = []
-name_of_output (Some o) = o.0
-
 abbrev pub output_names : Netlist → ℕ → List (List ℕ)
-output_names n i = bit_names (name_of_output (slice_get n.outputs i)) (width_of n (output_at n i))
+output_names n i = bit_names (option_map_or (λ (o : List ℕ × ℕ). o.0) (slice_get n.outputs i) []) (width_of n (output_at n i))
 
 pub record HasNames (n : Netlist) (a : Circuit) : Type 0 where
   pub inputs : a.input_names ≡ for_inputs n (signal_names n)
@@ -52,3 +49,8 @@ Answers n (Ok a) = AllZero n × (weight n ≤ most_weight)
 Answers n (Err (InitNotZero s)) = IsLeastNonzero n s.0
 Answers n (Err (TooLarge w)) = AllZero n × (most_weight < weight n) × (w ≡ weight n)
 Answers n (Err NoMemory) = AllZero n × (weight n ≤ most_weight)
+
+-- ---- parts by name
+
+abbrev pub name_of_output : Option (List ℕ × ℕ) → List ℕ
+name_of_output p = option_map_or (λ (o : List ℕ × ℕ). o.0) p []

@@ -6,7 +6,7 @@ use Rattle.std.specs.Fmt.{decimal}
 use Rattle.safl_term.specs.Program.{Program, unit_for}
 use Rattle.safl_circuit.specs.Equations.{many}
 use Rattle.safl_net.specs.declared.cell.Op.TheVariants.{Copy}
-use Rattle.safl_net.specs.Netlist.{Netlist, Signal, Kind, Input, Reg, Wire, width_in, place}
+use Rattle.safl_net.specs.Netlist.{Netlist, Signal, Kind, Input, Reg, Wire, place, width_of}
 use Rattle.safl_circuit.specs.Names.{of_function, of_site, of_param, is_unit}
 
 -- a name and a width
@@ -97,7 +97,7 @@ each_line f (g ∷ gs) = f (g.name, g.width) g.kind ++ each_line f gs
 
 -- the outputs with the widths of their signals
 abbrev pub output_lines : Netlist → List Line
-output_lines n = map (λ o. (o.0, width_in (slice_get n.signals o.1))) n.outputs
+output_lines n = map (λ o. (o.0, width_of n o.1)) n.outputs
 
 -- the outputs of a circuit
 abbrev pub layout_outputs : Program → List Line

@@ -1,6 +1,6 @@
 -- Building a netlist, and asking about it.
 use Rattle.std.specs.Prelude.{◌≡◌, ℕ, zero, suc, List, [], ◌∷◌, ◌++◌, map, Option, Some, None, Result, Ok, Err, cond, unwrap_or, slice_get}
-use Rattle.std.specs.Option.{option_or}
+use Rattle.std.specs.Option.{option_or, option_map_or}
 use Rattle.safl_net.specs.declared.cell.Sig.{Sig}
 use Rattle.safl_net.specs.declared.cell.SigKind.{SigKind}
 use Rattle.safl_net.specs.declared.cell.Op.{Op}
@@ -60,19 +60,11 @@ Refuses None (Ok x) = Unit {0}
 Refuses None (Err e) = e ≡ NoMemory
 
 -- the kind of a signal, or an input if there is no signal; and its name, or an empty one
-abbrev pub kind_in : Option Signal → Kind
-kind_in None = Input
-kind_in (Some g) = g.kind
-
 abbrev pub kind_at : Netlist → ℕ → Kind
-kind_at n s = kind_in (slice_get n.signals s)
-
-abbrev pub name_in : Option Signal → List ℕ
-name_in None = []
-name_in (Some g) = g.name
+kind_at n s = option_map_or (λ (g : Signal). g.kind) (slice_get n.signals s) Input
 
 abbrev pub name_at : Netlist → ℕ → List ℕ
-name_at n s = name_in (slice_get n.signals s)
+name_at n s = option_map_or (λ (g : Signal). g.name) (slice_get n.signals s) []
 
 -- the kind of a signal, as the code says it
 abbrev pub sort_of : Kind → SigKind
@@ -92,3 +84,11 @@ cell_in _ = None
 -- the signal with a name, or else the one that the output with that name shows
 abbrev pub found : Netlist → List ℕ → Option ℕ
 found n name = option_or (place n.signals name 0) (output_place n.outputs name)
+
+-- ---- parts by name
+
+abbrev pub kind_in : Option Signal → Kind
+kind_in o = option_map_or (λ (g : Signal). g.kind) o Input
+
+abbrev pub name_in : Option Signal → List ℕ
+name_in o = option_map_or (λ (g : Signal). g.name) o []

@@ -1,35 +1,25 @@
 -- Names of signals and outputs.
 use Rattle.std.specs.Prelude.{◌≡◌, ℕ, ◌+◌, List, [], ◌∷◌, Bool, true, false, not, ◌||◌, ◌&&◌, ◌==◌, nat_le, length, take, codes, decimal, Some, slice_get}
+use Rattle.std.specs.List.{list_all, list_any}
 use Rattle.std.specs.Str.{bytes_eq}
 use Rattle.safl_word.specs.Limits.{net_name_max}
+use Rattle.safl_word.specs.Tokens.{begins_name, in_name}
 use Rattle.safl_net.specs.Netlist.{Netlist, Signal, Kind, Input, Reg, Wire}
-
--- the byte is a letter or `_`
-abbrev pub is_start : ℕ → Bool
-is_start b = (nat_le 65 b && nat_le b 90) || (nat_le 97 b && nat_le b 122) || (b == 95)
 
 -- the byte is a letter, `_`, a digit or `$`
 abbrev pub is_part : ℕ → Bool
-is_part b = is_start b || (nat_le 48 b && nat_le b 57) || (b == 36)
-
-abbrev pub are_parts : List ℕ → Bool
-are_parts [] = true
-are_parts (b ∷ bs) = is_part b && are_parts bs
+is_part b = in_name b || (b == 36)
 
 -- the name is a simple identifier
 abbrev pub is_identifier : List ℕ → Bool
 is_identifier [] = false
-is_identifier (b ∷ bs) = is_start b && are_parts bs
-
-abbrev pub one_of : List (List ℕ) → List ℕ → Bool
-one_of [] name = false
-one_of (k ∷ ks) name = bytes_eq name k || one_of ks name
+is_identifier (b ∷ bs) = begins_name b && list_all is_part bs
 
 -- the reserved words, which cannot be names
 unfoldable pub is_reserved : List ℕ → Bool
 is_reserved name =
-    one_of (codes "clk" ∷ codes "rst" ∷ codes "module" ∷ codes "endmodule" ∷ codes "input" ∷ codes "output" ∷ codes "reg" ∷ codes "wire"
-    ∷ codes "assign" ∷ codes "always" ∷ codes "posedge" ∷ codes "if" ∷ codes "else" ∷ []) name
+    list_any (bytes_eq name) (codes "clk" ∷ codes "rst" ∷ codes "module" ∷ codes "endmodule" ∷ codes "input" ∷ codes "output" ∷ codes "reg"
+    ∷ codes "wire" ∷ codes "assign" ∷ codes "always" ∷ codes "posedge" ∷ codes "if" ∷ codes "else" ∷ [])
 
 -- the name is a simple identifier of at most 200 bytes, and no reserved word
 unfoldable pub is_good : List ℕ → Bool
@@ -75,3 +65,11 @@ pub record IsTidy (n : Netlist) : Type 0 where
   pub signals : (s : ℕ) (g : Signal) → slice_get n.signals s ≡ Some g → is_temp g.name ≡ true
       → (one_wire g.kind ≡ 1) × (g.name ≡ temp_name (wires (take s n.signals)))
   pub outputs : (i : ℕ) (o : List ℕ × ℕ) → slice_get n.outputs i ≡ Some o → is_temp o.0 ≡ false
+
+-- ---- parts by name
+
+abbrev pub is_start : ℕ → Bool
+is_start b = begins_name b
+
+abbrev pub are_parts : List ℕ → Bool
+are_parts bs = list_all is_part bs

@@ -1,5 +1,6 @@
 -- Netlists: a list of signals, each with its kind, and a list of outputs.
 use Rattle.std.specs.Prelude.{◌≡◌, ℕ, suc, List, [], ◌∷◌, Option, None, Some, cond, slice_get, Bool, true, false}
+use Rattle.std.specs.Option.{option_map_or}
 use Rattle.std.specs.Str.{bytes_eq}
 use Rattle.safl_net.specs.declared.cell.Op.{Op}
 
@@ -25,12 +26,8 @@ pub record Netlist : Type 0 where
   pub outputs : List (List ℕ × ℕ)
 
 -- the width of a signal, or 0 if there is none
-abbrev pub width_in : Option Signal → ℕ
-width_in None = 0
-width_in (Some g) = g.width
-
 abbrev pub width_of : Netlist → ℕ → ℕ
-width_of n s = width_in (slice_get n.signals s)
+width_of n s = option_map_or (λ (g : Signal). g.width) (slice_get n.signals s) 0
 
 -- a register has a next signal, and a wire has a cell
 abbrev pub IsSet : Kind → Type 0
@@ -73,3 +70,8 @@ abbrev pub open_kind : Kind → Kind
 open_kind Input = Input
 open_kind (Reg init next) = Reg init None
 open_kind (Wire cell) = Wire None
+
+-- ---- parts by name
+
+abbrev pub width_in : Option Signal → ℕ
+width_in o = option_map_or (λ (g : Signal). g.width) o 0

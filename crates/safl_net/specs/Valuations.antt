@@ -1,5 +1,6 @@
 -- The meaning of a netlist: a set of equations for each cycle, without an order.
 use Rattle.std.specs.Prelude.{◌≡◌, ℕ, ◌<◌, ◌^◌, List, [], ◌∷◌, map, length, Option, Some, None, slice_get, slice_index}
+use Rattle.std.specs.Option.{option_map_or}
 use Rattle.safl_word.specs.Words.{Word, no_word, choose}
 use Rattle.safl_word.specs.Primitives.{apply_prim}
 use Rattle.safl_net.specs.declared.cell.Op.{Op}
@@ -38,47 +39,44 @@ abbrev pub kind_reset : Kind → ℕ
 kind_reset (Reg init next) = init
 kind_reset _ = 0
 
-abbrev pub reset_number : Option Signal → ℕ
-reset_number None = 0
-reset_number (Some g) = kind_reset g.kind
-
 abbrev pub reset_state : Netlist → ℕ → ℕ
-reset_state n s = reset_number (slice_get n.signals s)
+reset_state n s = option_map_or (λ (g : Signal). kind_reset g.kind) (slice_get n.signals s) 0
 
 -- the state after a cycle: each register has the number of its next signal
 abbrev pub kind_next : Valuation → Kind → ℕ
 kind_next v (Reg init (Some m)) = slice_index v m
 kind_next v _ = 0
 
-abbrev pub next_number : Valuation → Option Signal → ℕ
-next_number v None = 0
-next_number v (Some g) = kind_next v g.kind
-
 abbrev pub next_state : Netlist → Valuation → ℕ → ℕ
-next_state n v s = next_number v (slice_get n.signals s)
-
--- the number at a place of a valuation; and of the state after it
-abbrev pub number_at : Valuation → Option ℕ → ℕ
-number_at v None = 0
-number_at v (Some s) = slice_index v s
-
-abbrev pub next_at : Netlist → Valuation → Option ℕ → ℕ
-next_at n v None = 0
-next_at n v (Some s) = next_state n v s
+next_state n v s = option_map_or (λ (g : Signal). kind_next v g.kind) (slice_get n.signals s) 0
 
 -- the number of the signal with a name; and the next number of the register with a name
 abbrev pub read : Netlist → Valuation → List ℕ → ℕ
-read n v name = number_at v (place n.signals name 0)
+read n v name = option_map_or (λ (s : ℕ). slice_index v s) (place n.signals name 0) 0
 
 abbrev pub read_next : Netlist → Valuation → List ℕ → ℕ
-read_next n v name = next_at n v (place n.signals name 0)
+read_next n v name = option_map_or (λ (s : ℕ). next_state n v s) (place n.signals name 0) 0
 
 -- the number of an output
 abbrev pub read_output : Netlist → Valuation → List ℕ → ℕ
-read_output n v name = number_at v (output_place n.outputs name)
+read_output n v name = option_map_or (λ (s : ℕ). slice_index v s) (output_place n.outputs name) 0
 
 -- the wires can be ranked so that each is above those of its operands that are wires
 pub record IsAcyclic (n : Netlist) : Type 0 where
   pub rank : ℕ → ℕ
   pub rises : (s t i : ℕ) (g h : Signal) (c : Cell) (d : Option Cell) → slice_get n.signals s ≡ Some g → g.kind ≡ Wire (Some c)
       → slice_get c.operands i ≡ Some t → slice_get n.signals t ≡ Some h → h.kind ≡ Wire d → rank t < rank s
+
+-- ---- the same of what may be missing
+
+abbrev pub reset_number : Option Signal → ℕ
+reset_number o = option_map_or (λ (g : Signal). kind_reset g.kind) o 0
+
+abbrev pub next_number : Valuation → Option Signal → ℕ
+next_number v o = option_map_or (λ (g : Signal). kind_next v g.kind) o 0
+
+abbrev pub number_at : Valuation → Option ℕ → ℕ
+number_at v o = option_map_or (λ (s : ℕ). slice_index v s) o 0
+
+abbrev pub next_at : Netlist → Valuation → Option ℕ → ℕ
+next_at n v o = option_map_or (λ (s : ℕ). next_state n v s) o 0

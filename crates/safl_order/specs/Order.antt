@@ -1,16 +1,13 @@
 -- Loops, and orders of evaluation.
 use Rattle.std.specs.Prelude.{◌≡◌, ℕ, ◌<◌, ◌≤◌, List, [], ◌∷◌, Option, Some, None, slice_get}
+use Rattle.std.specs.Option.{option_map_or}
 use Rattle.safl_net.specs.declared.cell.SigKind.{SigKind}
 use Rattle.safl_net.specs.Netlist.{Netlist, AllSet, Cell}
 use Rattle.safl_net.specs.Making.{kind_at, cell_in, sort_of}
 
-abbrev pub operands_in : Option Cell → List ℕ
-operands_in None = []
-operands_in (Some c) = c.operands
-
 -- the operands of a wire's cell
 abbrev pub operands_of : Netlist → ℕ → List ℕ
-operands_of n s = operands_in (cell_in (kind_at n s))
+operands_of n s = option_map_or (λ (c : Cell). c.operands) (cell_in (kind_at n s)) []
 
 abbrev pub IsWire : Netlist → ℕ → Type 0
 IsWire n s = sort_of (kind_at n s) ≡ SigKind.Wire
@@ -46,3 +43,8 @@ pub record IsOrder (n : Netlist) (ws : List ℕ) : Type 0 where
 pub record Order : Type 0 where
   pub net : Netlist
   pub wires : List ℕ
+
+-- ---- parts by name
+
+abbrev pub operands_in : Option Cell → List ℕ
+operands_in o = option_map_or (λ (c : Cell). c.operands) o []

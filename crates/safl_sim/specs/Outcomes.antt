@@ -1,5 +1,6 @@
 -- What a run shows up to the cycle in which `done` is 1.
 use Rattle.std.specs.Prelude.{◌≡◌, ℕ, suc, ◌+◌, ◌<◌, List, map, length, Option, Some, None, slice_get, codes}
+use Rattle.std.specs.Option.{option_map_or}
 use Rattle.safl_word.specs.Words.{Word, no_word}
 use Rattle.safl_net.specs.Netlist.{Netlist, output_place}
 use Rattle.safl_net.specs.Valuations.{Valuation, signal_word, read_output, reset_state}
@@ -23,12 +24,8 @@ pub record IsOnlyRun (n : Netlist) (args : List Word) (count : ℕ) (vs : List V
   pub alone : (ws : List Valuation) → IsRun n args ws → length ws ≡ count → ws ≡ vs
 
 -- the word of an output in a cycle
-abbrev pub word_at : Netlist → Valuation → Option ℕ → Word
-word_at n v None = no_word
-word_at n v (Some s) = signal_word n v s
-
 abbrev pub output_word : Netlist → Valuation → List ℕ → Word
-output_word n v name = word_at n v (output_place n.outputs name)
+output_word n v name = option_map_or (λ (s : ℕ). signal_word n v s) (output_place n.outputs name) no_word
 
 -- in the cycles before this one `done` is 0
 abbrev pub NotDoneBefore : Netlist → List Valuation → ℕ → Type 0
@@ -55,3 +52,8 @@ pub record IsNotDone (n : Netlist) (args : List Word) (limit : ℕ) : Type 0 whe
 abbrev pub IsOnlyOutcome : Netlist → List Word → ℕ → Option Done → Type 0
 IsOnlyOutcome n args limit None = IsNotDone n args limit
 IsOnlyOutcome n args limit (Some d) = IsDone n args limit d
+
+-- ---- parts by name
+
+abbrev pub word_at : Netlist → Valuation → Option ℕ → Word
+word_at n v o = option_map_or (λ (s : ℕ). signal_word n v s) o no_word
