@@ -1,5 +1,5 @@
 -- The Verilog text that is written for a netlist, byte by byte.
-use Rattle.std.specs.Prelude.{ℕ, ◌-◌, List, [], ◌∷◌, ◌++◌, Some, codes}
+use Rattle.std.specs.Prelude.{ℕ, ◌-◌, List, [], ◌∷◌, ◌++◌, Some, codes, map}
 use Rattle.std.specs.List.{flat_map}
 use Rattle.std.specs.Fmt.{decimal}
 use Rattle.safl_word.specs.declared.primitive.Primitive.{Primitive}
@@ -18,24 +18,16 @@ Text = List ℕ
 abbrev pub literal : ℕ → ℕ → Text
 literal width bits = decimal width ++ codes "'d" ++ decimal bits
 
--- the range of bits of a width
-abbrev pub range : ℕ → Text
-range width = codes "[" ++ decimal (width - 1) ++ codes ":0]"
-
 -- the declaration of a name with a keyword and a width
 abbrev pub declaration : Text → ℕ → Text → Text
-declaration keyword width name = codes "  " ++ keyword ++ codes " " ++ range width ++ codes " " ++ name ++ codes ";\n"
-
--- the bits of a word from high down to low
-abbrev pub slice : ℕ → ℕ → Text
-slice high low = codes "[" ++ decimal high ++ codes ":" ++ decimal low ++ codes "]"
+declaration keyword width name = codes "  " ++ keyword ++ codes " " ++ (codes "[" ++ decimal (width - 1) ++ codes ":0]") ++ codes " " ++ name ++ codes ";\n"
 
 -- a primitive, and an operation, on operands with these names. There is no text if they are not as many as it takes
 abbrev pub applied : Primitive → List Text → Text
 applied Not (a ∷ []) = codes "~" ++ a
 applied Not _ = []
 applied Cat (a ∷ b ∷ []) = codes "{" ++ a ++ codes ", " ++ b ++ codes "}"
-applied (Bits high low) (a ∷ []) = a ++ slice high low
+applied (Bits high low) (a ∷ []) = a ++ (codes "[" ++ decimal high ++ codes ":" ++ decimal low ++ codes "]")
 applied (Bits high low) _ = []
 applied (Ext width) _ = []
 applied p (a ∷ b ∷ []) = a ++ codes " " ++ sym_text (symbol_of p) ++ codes " " ++ b
@@ -47,10 +39,6 @@ operation Copy (a ∷ []) = a
 operation Mux (c ∷ a ∷ b ∷ []) = c ++ codes " ? " ++ a ++ codes " : " ++ b
 operation (Apply p) names = applied p names
 operation _ _ = []
-
-abbrev pub names_of : Netlist → List ℕ → List Text
-names_of n [] = []
-names_of n (s ∷ ss) = name_at n s ∷ names_of n ss
 
 abbrev pub if_input : Kind → Text → Text
 if_input Input t = t
@@ -69,16 +57,14 @@ abbrev pub assignment : Text → Text → Text
 assignment target source = codes "  assign " ++ target ++ codes " = " ++ source ++ codes ";\n"
 
 abbrev pub cell_assignment : Netlist → Text → Kind → Text
-cell_assignment n name (Wire (Some c)) = assignment name (operation c.op (names_of n c.operands))
+cell_assignment n name (Wire (Some c)) = assignment name (operation c.op (map (name_at n) c.operands))
 cell_assignment n name _ = []
 
 -- the update of a register at the clock's edge: its word at reset, and otherwise its next signal
-abbrev pub update : Text → Text → Text → Text
-update name word next =
-    codes "  always @(posedge clk) if (rst) " ++ name ++ codes " <= " ++ word ++ codes "; else " ++ name ++ codes " <= " ++ next ++ codes ";\n"
-
 abbrev pub next_update : Netlist → Text → ℕ → Kind → Text
-next_update n name width (Reg init (Some m)) = update name (literal width init) (name_at n m)
+next_update n name width (Reg init (Some m)) =
+    codes "  always @(posedge clk) if (rst) " ++ name ++ codes " <= " ++ literal width init ++ codes "; else " ++ name ++ codes " <= " ++ name_at n m
+    ++ codes ";\n"
 next_update n name width _ = []
 
 -- the parts of the text
@@ -104,3 +90,18 @@ statements n =
 -- wires; the assignments of wires, then of outputs; the updates of registers.
 unfoldable pub written : Netlist → Text
 written n = header n ++ declarations n ++ statements n ++ codes "endmodule\n"
+
+-- ---- parts by name
+
+abbrev pub range : ℕ → Text
+range width = codes "[" ++ decimal (width - 1) ++ codes ":0]"
+
+abbrev pub slice : ℕ → ℕ → Text
+slice high low = codes "[" ++ decimal high ++ codes ":" ++ decimal low ++ codes "]"
+
+abbrev pub names_of : Netlist → List ℕ → List Text
+names_of n ss = map (name_at n) ss
+
+abbrev pub update : Text → Text → Text → Text
+update name word next =
+    codes "  always @(posedge clk) if (rst) " ++ name ++ codes " <= " ++ word ++ codes "; else " ++ name ++ codes " <= " ++ next ++ codes ";\n"
