@@ -17,37 +17,26 @@ answer false = codes "no"
 abbrev pub calls_of : Program → ℕ → ℕ
 calls_of C f = count_by (λ g. g == f) (map C.callee (range_with_len 1 C.sites))
 
--- the line of a function: its name, how many sites call it, and whether its unit has an arbiter
-abbrev pub function_text : Text → ℕ → Bool → Text
-function_text name calls arbiter =
-    codes "function " ++ name ++ codes " sites " ++ decimal calls ++ codes " arbiter " ++ answer arbiter ++ codes "\n"
-
--- the line of a site: its number, the names of the function that it calls and of the one whose body has it, and whether it keeps
--- its word
-abbrev pub site_text : ℕ → Text → Text → Bool → Text
-site_text k callee caller kept =
-    codes "site " ++ decimal k ++ codes " " ++ callee ++ codes " in " ++ caller ++ codes " kept " ++ answer kept ++ codes "\n"
-
 abbrev pub registers : List Signal → List Signal
 registers signals = filter (λ g. is_register g.kind) signals
 
--- the number of bits of the registers among some signals
-abbrev pub bits_of : List Signal → ℕ
-bits_of signals = sum_by (λ g. g.width) signals
-
-abbrev pub register_text : ℕ → ℕ → Text
-register_text count bits = codes "registers " ++ decimal count ++ codes " bits " ++ decimal bits ++ codes "\n"
-
+-- the line with the number of registers, and of their bits
 abbrev pub register_line : Netlist → Text
-register_line n = register_text (length (registers n.signals)) (bits_of (registers n.signals))
+register_line n =
+    codes "registers " ++ decimal (length (registers n.signals)) ++ codes " bits " ++ decimal (sum_by (λ (g : Signal). g.width) (registers n.signals))
+    ++ codes "\n"
 
--- the lines of the functions, numbered from 0; and those of the sites, numbered from 1
+-- The line of each function, numbered from 0, has its name, how many sites call it, and whether its unit has an arbiter. The line of
+-- each site, numbered from 1, has its number, the names of its callee and its caller, and whether it keeps its word.
 abbrev pub function_lines : Program → Names → (ℕ → Bool) → Text
 function_lines C D arbiter =
-    concat (map (λ (f : ℕ). function_text (D.name f) (calls_of C f) (arbiter (C.unit f))) (range_with_len 0 C.functions))
+    concat (map (λ (f : ℕ). codes "function " ++ D.name f ++ codes " sites " ++ decimal (calls_of C f)
+    ++ codes " arbiter " ++ answer (arbiter (C.unit f)) ++ codes "\n") (range_with_len 0 C.functions))
 
 abbrev pub site_lines : Program → Names → (ℕ → Bool) → Text
-site_lines C D kept = concat (map (λ (k : ℕ). site_text k (D.name (C.callee k)) (D.name (C.caller k)) (kept k)) (range_with_len 1 C.sites))
+site_lines C D kept =
+    concat (map (λ (k : ℕ). codes "site " ++ decimal k ++ codes " " ++ D.name (C.callee k) ++ codes " in " ++ D.name (C.caller k)
+    ++ codes " kept " ++ answer (kept k) ++ codes "\n") (range_with_len 1 C.sites))
 
 -- The text is the report of a netlist and of the program's only plan, which says which units need an arbiter and which sites keep
 -- their words.
@@ -57,13 +46,28 @@ pub record IsReport (C : Program) (D : Names) (n : Netlist) (text : Text) : Type
   pub plan : IsPlan C arbiter kept
   pub lines : text ≡ function_lines C D arbiter ++ site_lines C D kept ++ register_line n
 
--- how many functions have a unit with an arbiter
-abbrev pub arbiters_of : Program → (ℕ → Bool) → ℕ
-arbiters_of C arbiter = count_by arbiter (map C.unit (range_with_len 0 C.functions))
-
--- the text is the summary of a netlist and of the program's only plan
+-- the text is the summary of a netlist and of the program's only plan: how many functions have a unit with an arbiter, and the registers
 pub record IsSummary (C : Program) (n : Netlist) (text : Text) : Type 0 where
   pub arbiter : ℕ → Bool
   pub kept : ℕ → Bool
   pub plan : IsPlan C arbiter kept
-  pub lines : text ≡ codes "arbiters " ++ decimal (arbiters_of C arbiter) ++ codes "\n" ++ register_line n
+  pub lines : text ≡ codes "arbiters " ++ decimal (count_by arbiter (map C.unit (range_with_len 0 C.functions))) ++ codes "\n" ++ register_line n
+
+-- ---- parts of lines, by name
+
+abbrev pub function_text : Text → ℕ → Bool → Text
+function_text name calls arbiter =
+    codes "function " ++ name ++ codes " sites " ++ decimal calls ++ codes " arbiter " ++ answer arbiter ++ codes "\n"
+
+abbrev pub site_text : ℕ → Text → Text → Bool → Text
+site_text k callee caller kept =
+    codes "site " ++ decimal k ++ codes " " ++ callee ++ codes " in " ++ caller ++ codes " kept " ++ answer kept ++ codes "\n"
+
+abbrev pub bits_of : List Signal → ℕ
+bits_of signals = sum_by (λ g. g.width) signals
+
+abbrev pub register_text : ℕ → ℕ → Text
+register_text count bits = codes "registers " ++ decimal count ++ codes " bits " ++ decimal bits ++ codes "\n"
+
+abbrev pub arbiters_of : Program → (ℕ → Bool) → ℕ
+arbiters_of C arbiter = count_by arbiter (map C.unit (range_with_len 0 C.functions))

@@ -1,5 +1,5 @@
 -- What a session of a source's circuit gives.
-use Rattle.std.specs.Prelude.{◌≡◌, ℕ, ◌-◌, List, [], length, All, slice_index}
+use Rattle.std.specs.Prelude.{◌≡◌, ℕ, ◌-◌, List, [], length, All, slice_index, ◌==◌}
 use Rattle.safl_word.specs.Words.{Word}
 use Rattle.safl_net.specs.Netlist.{Netlist}
 use Rattle.safl_net.specs.Rules.{IsNetlist}
@@ -13,7 +13,7 @@ use Rattle.safl_session.specs.Scripts.{IsScript, IsScriptFault}
 use Rattle.safl_session.specs.Circuits.{Serves, IsInTime}
 use Rattle.safl_compiler.specs.Sources.{IsSourceOf}
 use Rattle.safl_compiler.specs.Circuits.{IsCircuitOf}
-use Rattle.safl_session.specs.Transcripts.{are_all, transcript}
+use Rattle.safl_session.specs.Transcripts.{transcript}
 use Rattle.safl_tool.specs.Lines.{count_line, argument_line, numbered_line}
 use Rattle.safl_task.specs.Tasks.{Given, only_prints}
 
@@ -31,7 +31,7 @@ pub record Converses (source script : List ℕ) (limit : ℕ) (calls : List (Lis
 
 -- a session gives the transcript of the replies. It is a result if each call has its reply
 abbrev pub told : ℕ → List (List Word) → List Reply → Given
-told limit calls replies = only_prints (are_all (length calls) replies) (transcript limit (length calls) replies)
+told limit calls replies = only_prints (length replies == length calls) (transcript limit (length calls) replies)
 
 -- what a session of the source gives for a script
 abbrev pub GivesReplies : ℕ → List ℕ → List ℕ → Given → Type 0

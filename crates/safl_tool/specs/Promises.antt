@@ -1,5 +1,6 @@
 -- What `check`, `sim`, `session` and `aig` come to, said of words, files, what is printed and the status alone.
 use Rattle.std.specs.Prelude.{◌≡◌, ℕ, List, [], ◌∷◌, ◌++◌, length, map, true, codes, string_bytes}
+use Rattle.std.specs.List.{flat_map}
 use Rattle.std.specs.declared.string.String.{String}
 use Rattle.std.specs.declared.alloc.Global.{Global}
 use Rattle.safl_word.specs.Words.{Word}
@@ -13,7 +14,7 @@ use Rattle.safl_circuit.specs.Correct.{IsExactResult}
 use Rattle.safl_session.specs.Lines.{AreArguments}
 use Rattle.safl_session.specs.Scripts.{IsScript}
 use Rattle.safl_session.specs.Circuits.{IsMainReply}
-use Rattle.safl_session.specs.Transcripts.{reply_lines, calls_line}
+use Rattle.safl_session.specs.Transcripts.{calls_line, reply_line}
 use Rattle.safl_compiler.specs.Sources.{IsSourceOf}
 use Rattle.safl_command.specs.Apart.{Traces, are_apart}
 use Rattle.safl_command.specs.Arranged.{GivenOption, Arranged}
@@ -70,7 +71,7 @@ EachReply C _ _ = ⊥
 -- the source is that of a program, the script has these calls of main, and the text has a line for the reply to each
 abbrev pub IsSession : List ℕ → List ℕ → List ℕ → Type 0
 IsSession source script text = (C : Program) × (D : Names) × (calls : List (List Word)) × (replies : List Reply) × IsSourceOf source C D
-    × IsScript (C.params C.main) script calls × EachReply C calls replies × (text ≡ reply_lines replies ++ calls_line (length calls))
+    × IsScript (C.params C.main) script calls × EachReply C calls replies × (text ≡ flat_map reply_line replies ++ calls_line (length calls))
 
 abbrev pub Converses : {S O : Type 0} → List (String Global) → (S → ShelfState) → S → (O → SinkState) → O → O → Status → Type 0
 Converses words shelf s out o o' status =

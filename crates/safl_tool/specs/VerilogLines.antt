@@ -1,5 +1,6 @@
 -- The lines that report why a Verilog file is refused.
 use Rattle.std.specs.Prelude.{ℕ, List, [], ◌∷◌, ◌++◌, codes}
+use Rattle.std.specs.List.{flat_map}
 use Rattle.safl_verilog.specs.FaultTexts.{vfault_text}
 use Rattle.safl_verilog.specs.declared.fault.VFault.{VFault}
 use Rattle.safl_tool.specs.Lines.{placed_line, line_at, column_at}
@@ -8,15 +9,14 @@ use Rattle.safl_tool.specs.Lines.{placed_line, line_at, column_at}
 abbrev pub verilog_line : List ℕ → List ℕ → VFault → List ℕ
 verilog_line name text f = placed_line name (line_at text f.place) (column_at text f.place) (vfault_text f)
 
--- a name with a space before it
+-- a loop of wires with these names
+abbrev pub loop_line : List ℕ → List (List ℕ) → List ℕ
+loop_line name wires = name ++ codes ": V09 combinational loop:" ++ flat_map (λ (x : List ℕ). codes " " ++ x) wires ++ codes "\n"
+
+-- ---- parts by name
+
 abbrev pub spaced_name : List ℕ → List ℕ
 spaced_name x = codes " " ++ x
 
--- the names, each with a space before it
 abbrev pub spaced : List (List ℕ) → List ℕ
-spaced [] = []
-spaced (x ∷ xs) = spaced_name x ++ spaced xs
-
--- a loop of wires with these names
-abbrev pub loop_line : List ℕ → List (List ℕ) → List ℕ
-loop_line name wires = name ++ codes ": V09 combinational loop:" ++ spaced wires ++ codes "\n"
+spaced xs = flat_map (λ (x : List ℕ). codes " " ++ x) xs
