@@ -1,11 +1,11 @@
 -- How a command ends: what it leaves in the files and on its sinks, and why.
-use Rattle.std.specs.Prelude.{◌≡◌, ℕ, ◌<◌, ◌⊎◌, List, length, take, Some, IsSomeAnd, Contains, Bool, true, false}
+use Rattle.std.specs.Prelude.{◌≡◌, ℕ, ◌<◌, ◌⊎◌, List, length, take, Some, IsSomeAnd, Contains, Bool, true, false, ◌++◌, codes}
+use Rattle.std.specs.Fmt.{decimal}
 use Rattle.std.specs.Option.{option_or}
 use Rattle.safl_io.specs.Counts.{Rose}
 use Rattle.safl_io.specs.Shelf.{Files, ShelfState, SameFaults, file_of}
 use Rattle.safl_io.specs.Told.{TellsOn}
 use Rattle.safl_io.specs.Sink.{SinkState, Sends, SendsPart}
-use Rattle.safl_task.specs.Lines.{memory_line, read_line, write_line, long_line, output_line}
 use Rattle.safl_task.specs.Tasks.{Input, Given, Task, end_of, files_of, status_if, OfFile, OfInputs, Reaches}
 use Rattle.safl_task.specs.declared.status.Status.{Status}
 use Rattle.safl_task.specs.declared.status.Status.TheVariants as status
@@ -71,19 +71,19 @@ pub data Stops (t : Task) (Unprobed : List ℕ → Type 0) (old new : Outside) :
       → Stops t Unprobed old new s line
   -- a read failed
   unread : (i : Input) → Reaches t.inputs old.shelf.holds i → Rose old.shelf.read_faults new.shelf.read_faults → Untouched old new
-      → Stops t Unprobed old new status.ReadFault (read_line i.name)
+      → Stops t Unprobed old new status.ReadFault (codes "cannot read " ++ i.name ++ codes "\n")
   -- a file is longer than its limit
   long : (i : Input) → Reaches t.inputs old.shelf.holds i → OfFile old.shelf.holds i.name (λ bytes. i.limit < length bytes) → Untouched old new
-      → Stops t Unprobed old new status.TooLong (long_line i.name i.limit)
+      → Stops t Unprobed old new status.TooLong (i.name ++ codes " is longer than " ++ decimal i.limit ++ codes " bytes\n")
   -- a write failed
   unwritten : (name : List ℕ) → Contains t.outputs name → Rose old.shelf.write_faults new.shelf.write_faults → Began t old new
-      → Stops t Unprobed old new status.WriteFault (write_line name)
+      → Stops t Unprobed old new status.WriteFault (codes "cannot write " ++ name ++ codes "\n")
   -- what is printed could not be sent
-  unprinted : Rose old.out.faults new.out.faults → Began t old new → Stops t Unprobed old new status.WriteFault output_line
+  unprinted : Rose old.out.faults new.out.faults → Began t old new → Stops t Unprobed old new status.WriteFault (codes "cannot write output\n")
   -- an asked probe failed
   unprobed : (line : List ℕ) → Unprobed line → Began t old new → Stops t Unprobed old new status.ProbeFault line
   -- memory ran out
-  starved : Left t old new → Stops t Unprobed old new status.NoMemory memory_line
+  starved : Left t old new → Stops t Unprobed old new status.NoMemory (codes "out of memory\n")
 
 -- the command gave everything, and this is the status, Ok or NoResult
 abbrev pub Ended : Task → Outside → Outside → Status → Type 0

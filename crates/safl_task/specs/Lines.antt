@@ -1,4 +1,4 @@
--- The lines that say why a file was not read or written, or why nothing was printed. Each ends with its line feed.
+-- The lines that say why a file was not read or written, or why nothing was printed, as `Stops` has them, by name. Each ends with its line feed.
 use Rattle.std.specs.Prelude.{ℕ, List, ◌++◌, codes}
 use Rattle.std.specs.Fmt.{decimal}
 

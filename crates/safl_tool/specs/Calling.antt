@@ -1,5 +1,6 @@
 -- What a session of a source's circuit gives.
-use Rattle.std.specs.Prelude.{◌≡◌, ℕ, ◌-◌, List, [], length, All, slice_index, ◌==◌}
+use Rattle.std.specs.Prelude.{◌≡◌, ℕ, ◌-◌, List, [], length, All, slice_index, ◌==◌, ◌++◌, codes}
+use Rattle.std.specs.Fmt.{decimal}
 use Rattle.safl_word.specs.Words.{Word}
 use Rattle.safl_net.specs.Netlist.{Netlist}
 use Rattle.safl_net.specs.Rules.{IsNetlist}
@@ -14,7 +15,7 @@ use Rattle.safl_session.specs.Circuits.{Serves, IsInTime}
 use Rattle.safl_compiler.specs.Sources.{IsSourceOf}
 use Rattle.safl_compiler.specs.Circuits.{IsCircuitOf}
 use Rattle.safl_session.specs.Transcripts.{transcript}
-use Rattle.safl_tool.specs.Lines.{count_line, argument_line, numbered_line}
+use Rattle.safl_tool.specs.Lines.{count_line, argument_line}
 use Rattle.safl_task.specs.Tasks.{Given, only_prints}
 
 -- The source spells a program, each line of the script has words for main's parameters, and these are the replies of a netlist
@@ -39,8 +40,8 @@ GivesReplies limit source script g = (calls : List (List Word)) × (replies : Li
 
 -- the line that reports a fault of a script, for parameters of these widths
 abbrev pub script_line : List ℕ → ScriptErr → List ℕ
-script_line widths (errors.Count line given) = numbered_line line (count_line (length widths) given)
-script_line widths (errors.Argument line place) = numbered_line line (argument_line place (slice_index widths (place - 1)))
+script_line widths (errors.Count line given) = codes "line " ++ decimal line ++ codes ": " ++ count_line (length widths) given
+script_line widths (errors.Argument line place) = codes "line " ++ decimal line ++ codes ": " ++ argument_line place (slice_index widths (place - 1))
 script_line widths errors.NoMemory = []
 
 -- the source spells a program, and the script has a first faulty line for main's parameters, which the line reports

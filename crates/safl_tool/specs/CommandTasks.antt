@@ -1,6 +1,8 @@
 -- The task of each command: what it reads, refuses and gives.
 use Rattle.std.specs.Prelude.{◌≡◌, ℕ, ◌⊎◌, List, [], ◌∷◌, ◌++◌, take, Option, Some, None, is_some, true, false, Bool, codes}
+use Rattle.std.specs.Fmt.{decimal}
 use Rattle.safl_word.specs.Words.{Word}
+use Rattle.safl_word.specs.Faults.{fault_text}
 use Rattle.safl_word.specs.declared.fault.Fault.{Fault}
 use Rattle.safl_net.specs.Netlist.{Netlist}
 use Rattle.safl_net.specs.Valuations.{Valuation}
@@ -26,8 +28,8 @@ use Rattle.safl_tool.specs.Calling.{GivesReplies, IsMisscripted, EvaluatesEach}
 use Rattle.safl_task.specs.Inputs.{file_within}
 use Rattle.safl_task.specs.Limits.{script_max, verilog_max, aig_max}
 use Rattle.safl_word.specs.Limits.{source_max}
-use Rattle.safl_tool.specs.Lines.{usage_line, source_line}
-use Rattle.safl_tool.specs.Printed.{program_lines, outcome_lines, walk_lines, short_line}
+use Rattle.safl_tool.specs.Lines.{placed_line, line_at, column_at, usage_line}
+use Rattle.safl_tool.specs.Printed.{program_lines, outcome_lines}
 use Rattle.safl_tool.specs.Running.{RunsText, IsMisrun, IsUnrunnable, Finishes}
 use Rattle.safl_tool.specs.Reporting.{GivesReport, Measures, made_source, made_args}
 use Rattle.safl_tool.specs.Reshaping.{Reshaping, copies, unfolds, IsUnshaped, IsReshapable, GivesReshaped}
@@ -39,7 +41,8 @@ use Rattle.safl_task.specs.declared.status.Status.TheVariants as status
 
 -- the source with this name has a first fault, which the line reports
 abbrev pub RefusesSourceOf : List ℕ → List ℕ → Status → List ℕ → Type 0
-RefusesSourceOf name source s line = (s ≡ status.SourceRefused) × ((f : Fault) × HasFirstFault source f × (line ≡ source_line name source f))
+RefusesSourceOf name source s line = (s ≡ status.SourceRefused)
+    × ((f : Fault) × HasFirstFault source f × (line ≡ placed_line name (line_at source f.place) (column_at source f.place) (fault_text f)))
 
 -- the source is refused; or it is accepted, and the arguments do not fit main's parameters
 abbrev pub RefusesGiven : List ℕ → List (List ℕ) → List ℕ → Status → List ℕ → Type 0
@@ -100,9 +103,11 @@ pub record GivesTraces (traces : Traces) (args : List (List ℕ)) (limit : ℕ) 
   pub is_run : IsRunOf simulates.net simulates.words limit run
   pub is : g ≡ traced limit answer (traces_of traces simulates.net (until_done simulates.net run))
 
+-- a walk prints main's result, the number of events and the greatest number of busy units; or that no result came within this many events
 abbrev pub end_of_walk : ℕ → Walked → Option Word → Given
-end_of_walk steps w (Some v) = only_prints true (walk_lines v.bits w.events w.units)
-end_of_walk steps w None = only_prints false (short_line steps)
+end_of_walk steps w (Some v) =
+    only_prints true (codes "result " ++ decimal v.bits ++ codes "\nevents " ++ decimal w.events ++ codes "\nunits " ++ decimal w.units ++ codes "\n")
+end_of_walk steps w None = only_prints false (codes "no result in " ++ decimal steps ++ codes " events\n")
 
 -- what a walk of a source's call machine gives
 abbrev pub GivesWalk : List (List ℕ) → ℕ → ℕ → List ℕ → Given → Type 0

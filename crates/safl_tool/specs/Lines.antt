@@ -16,18 +16,6 @@ count_line params given = codes "main takes " ++ decimal params ++ codes " argum
 abbrev pub argument_line : ℕ → ℕ → List ℕ
 argument_line index width = codes "argument " ++ decimal index ++ codes " is no number of " ++ decimal width ++ codes " bits\n"
 
--- a text about a line of a script, after the number of the line, counted from 1
-abbrev pub numbered_line : ℕ → List ℕ → List ℕ
-numbered_line number text = codes "line " ++ decimal number ++ codes ": " ++ text
-
--- a probe of this kind failed
-abbrev pub probe_line : ℕ → List ℕ
-probe_line kind = codes "probe " ++ decimal kind ++ codes " failed\n"
-
--- the site cannot be reshaped, for this reason
-abbrev pub site_line : ℕ → List ℕ → List ℕ
-site_line site text = codes "site " ++ decimal site ++ codes ": " ++ text ++ codes "\n"
-
 -- the line of a place: one more than the number of line feeds before it
 abbrev pub line_at : List ℕ → ℕ → ℕ
 line_at source place = count_by (λ c. c == 10) (take place source) + 1
@@ -39,6 +27,20 @@ column_at source place = suffix_len (λ c. not (c == 10)) (take place source) + 
 abbrev pub placed_line : List ℕ → ℕ → ℕ → List ℕ → List ℕ
 placed_line name line column text =
     name ++ codes ":" ++ decimal line ++ codes ":" ++ decimal column ++ codes ": " ++ text ++ codes "\n"
+
+-- ---- lines that stand in a definition, by name
+
+-- a text about a line of a script, after the number of the line, counted from 1
+abbrev pub numbered_line : ℕ → List ℕ → List ℕ
+numbered_line number text = codes "line " ++ decimal number ++ codes ": " ++ text
+
+-- a probe of this kind failed
+abbrev pub probe_line : ℕ → List ℕ
+probe_line kind = codes "probe " ++ decimal kind ++ codes " failed\n"
+
+-- the site cannot be reshaped, for this reason
+abbrev pub site_line : ℕ → List ℕ → List ℕ
+site_line site text = codes "site " ++ decimal site ++ codes ": " ++ text ++ codes "\n"
 
 -- a fault of a source, at its line and column
 abbrev pub source_line : List ℕ → List ℕ → Fault → List ℕ

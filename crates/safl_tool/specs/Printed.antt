@@ -17,6 +17,8 @@ abbrev pub outcome_lines : ℕ → Option Done → List ℕ
 outcome_lines limit (Some d) = done_lines d.result.bits d.cycle
 outcome_lines limit None = late_line limit
 
+-- ---- lines that stand in a definition, by name
+
 -- what a walk prints: main's result, the number of events and the greatest number of busy units; or that no result came within
 -- this many events
 abbrev pub walk_lines : ℕ → ℕ → ℕ → List ℕ

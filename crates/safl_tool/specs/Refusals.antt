@@ -1,5 +1,6 @@
 -- What refusals say.
-use Rattle.std.specs.Prelude.{◌≡◌, ◌⊎◌, ℕ, List, map, Option, Some, string_bytes}
+use Rattle.std.specs.Prelude.{◌≡◌, ◌⊎◌, ℕ, List, map, Option, Some, string_bytes, ◌++◌, codes}
+use Rattle.std.specs.Fmt.{decimal}
 use Rattle.safl_io.specs.Counts.{Rose}
 use Rattle.safl_io.specs.Shelf.{ShelfState}
 use Rattle.safl_io.specs.Told.{TellsOn}
@@ -86,7 +87,7 @@ StopsBy t Unprobed old new r = Stops t Unprobed old new (status_of r) (line_of r
 
 -- the line says that an asked probe failed
 abbrev pub TellsProbe : Asked → List ProbeState → List ProbeState → List ℕ → Type 0
-TellsProbe asks ps qs line = (kind : ℕ) × ProbeFailed kind asks ps qs × (line ≡ probe_line kind)
+TellsProbe asks ps qs line = (kind : ℕ) × ProbeFailed kind asks ps qs × (line ≡ codes "probe " ++ decimal kind ++ codes " failed\n")
 
 -- why a run was not watched to its end: an asked probe failed, one of their files was not written, or memory ran out
 abbrev pub WatchingFails : Asked → List ProbeState → List ProbeState → ShelfState → ShelfState → Refusal → Type 0

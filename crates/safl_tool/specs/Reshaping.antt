@@ -1,5 +1,6 @@
 -- Reshaped sources.
-use Rattle.std.specs.Prelude.{◌≡◌, ℕ, suc, zero, ◌<◌, true, ◌⊎◌, List, length, codes}
+use Rattle.std.specs.Prelude.{◌≡◌, ℕ, suc, zero, ◌<◌, true, ◌⊎◌, List, length, codes, ◌++◌}
+use Rattle.std.specs.Fmt.{decimal}
 use Rattle.safl_tree.specs.Tree.{Definition}
 use Rattle.safl_tree.specs.Printed.{printed}
 use Rattle.safl_tree.specs.Laws.{SpelledBy}
@@ -67,7 +68,7 @@ unfolds site = record { Refuses = NoUnfolding site; reshaped = λ C ds. unfolded
 abbrev pub IsUnshaped : Reshaping → ℕ → List ℕ → Status → List ℕ → Type 0
 IsUnshaped r site source s line =
     (s ≡ status.ReshapeRefused) × (C : Program) × (D : Names) × (source_of : IsSourceOf source C D) × (reason : List ℕ)
-    × r.Refuses C source_of.definitions reason × (line ≡ site_line site reason)
+    × r.Refuses C source_of.definitions reason × (line ≡ codes "site " ++ decimal site ++ codes ": " ++ reason ++ codes "\n")
 
 -- the source has a program, and nothing refuses its reshaping
 pub record IsReshapable (r : Reshaping) (source : List ℕ) : Type 0 where
