@@ -7,10 +7,11 @@ use Rattle.safl_word.specs.declared.primitive.Primitive.{Primitive}
 use Rattle.safl_word.specs.Primitives.{result_width}
 use Rattle.std.specs.Option.{option_or}
 use Rattle.safl_tree.specs.Tree.{Definition}
+use Rattle.safl_tree.specs.Source.{fault_at}
 use Rattle.safl_typing.specs.Rewriting.{Expression, Number, Sized, Variable, If, Let, Op, Call, Expressions, no_expression, an_expression, Bindings, no_binding, a_binding, Shape, Alike, Comparing, Shifting, Resizing, shape, flexible, count, rewritten, placed}
 use Rattle.safl_typing.specs.Heads.{Slot, Head, Known, Callee, Member, Above, Unknown, callee, unit_of, params_of, heads}
 use Rattle.safl_typing.specs.Typing.{innermost, slots, widths_of}
-use Rattle.safl_typing.specs.Walk.{fault, fault_with, after, unless, needs, repeated, limits, group_fault, main_fault}
+use Rattle.safl_typing.specs.Walk.{fault_with, after, unless, needs, repeated, limits, group_fault, main_fault}
 
 -- ---- expressions. A width is expected of each, or its width is to be found
 
@@ -26,12 +27,12 @@ settle_or f p m (Some v) = settle p m v
 
 -- a number. It has any width that it fits
 abbrev pub number : ℕ → ℕ → Option ℕ → Result ℕ Fault
-number p n None = Err (fault rules.E14 p)
-number p n (Some w) = if nat_lt n (2 ^ w) then Ok w else Err (fault rules.E13 p)
+number p n None = Err (fault_at rules.E14 p)
+number p n (Some w) = if nat_lt n (2 ^ w) then Ok w else Err (fault_at rules.E13 p)
 
 -- E14 if no width is expected of a flexible expression
 abbrev pub unsettled : ℕ → Option ℕ → Bool → Option Fault
-unsettled p None true = Some (fault rules.E14 p)
+unsettled p None true = Some (fault_at rules.E14 p)
 unsettled p None false = None
 unsettled p (Some w) is_flexible = None
 
@@ -46,7 +47,7 @@ abbrev pub operated : Primitive → ℕ → Option ℕ → Shape → (Option ℕ
 operated o p m Alike alike shift all = alike m
 operated o p m Comparing alike shift all = after (alike None) (λ w. settle p m 1)
 operated o p m Shifting alike shift all = after shift (λ w. settle p m w)
-operated o p m Resizing alike shift all = after all (λ ws. settle_or (fault rules.E05 p) p m (result_width o ws))
+operated o p m Resizing alike shift all = after all (λ ws. settle_or (fault_at rules.E05 p) p m (result_width o ws))
 
 -- a call: first its function, then the number of its arguments, and then these, each against the width of its parameter
 abbrev pub arguments : ℕ → Option ℕ → Head → ℕ → (List ℕ → Result (List ℕ) Fault) → Result ℕ Fault
@@ -55,9 +56,9 @@ arguments p m h n args =
     (after (args (widths_of h.params)) (λ ws. settle p m h.width))
 
 abbrev pub called : Callee → Bool → ℕ → Option ℕ → ℕ → (List ℕ → Result (List ℕ) Fault) → Result ℕ Fault
-called (Member i h) tail p m n args = unless (needs tail (fault rules.E10 p)) (arguments p m h n args)
+called (Member i h) tail p m n args = unless (needs tail (fault_at rules.E10 p)) (arguments p m h n args)
 called (Above i h) tail p m n args = arguments p m h n args
-called Unknown tail p m n args = Err (fault rules.E09 p)
+called Unknown tail p m n args = Err (fault_at rules.E09 p)
 
 -- what is expected of each operand
 abbrev pub expected : (Expression → Option ℕ) → Expressions → List (Option ℕ)
@@ -69,8 +70,8 @@ expected wanted (an_expression e es) = wanted e ∷ expected wanted es
 abbrev mutual
   pub check : Known → List Slot → Bool → Option ℕ → Expression → Result ℕ Fault
   check k s tail m (Number p n) = number p n m
-  check k s tail m (Sized p v n) = if nat_lt n (2 ^ v) then settle p m v else Err (fault rules.E13 p)
-  check k s tail m (Variable p x) = settle_or (fault rules.E08 p) p m (option_map (λ a. a.width) (innermost x 0 s))
+  check k s tail m (Sized p v n) = if nat_lt n (2 ^ v) then settle p m v else Err (fault_at rules.E13 p)
+  check k s tail m (Variable p x) = settle_or (fault_at rules.E08 p) p m (option_map (λ a. a.width) (innermost x 0 s))
   check k s tail m (If p c a b) =
       unless (unsettled p m (flexible a && flexible b))
       (after (check k s false (Some 1) c) (λ w. in_turn (is_none m && flexible a) m (λ v. check k s tail v a) (λ v. check k s tail v b)))
@@ -89,12 +90,12 @@ abbrev mutual
 
   -- the width of operands of one width
   pub check_alike : Known → List Slot → ℕ → Option ℕ → Expressions → Result ℕ Fault
-  check_alike k s p None no_expression = Err (fault rules.E14 p)
+  check_alike k s p None no_expression = Err (fault_at rules.E14 p)
   check_alike k s p (Some w) no_expression = Ok w
   check_alike k s p m (an_expression e es) = in_turn (is_none m && flexible e) m (λ v. check k s false v e) (λ v. check_alike k s p v es)
 
   pub check_shift : Known → List Slot → ℕ → Expressions → Result ℕ Fault
-  check_shift k s p no_expression = Err (fault rules.E14 p)
+  check_shift k s p no_expression = Err (fault_at rules.E14 p)
   check_shift k s p (an_expression e es) =
       after (check k s false None e) (λ w. after (check_all k s (expected (λ a. if flexible a then Some w else None) es) es) (λ ws. Ok w))
 

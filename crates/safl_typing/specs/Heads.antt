@@ -16,23 +16,18 @@ pub record Head : Type 0 where
   pub width : ℕ
   pub unit : ℕ
 
-abbrev pub slot_of : Parameter → Slot
-slot_of p = record { name = p.name; width = p.width }
-
 abbrev pub params_of : Definition → List Slot
-params_of d = map slot_of d.params
+params_of d = map (λ (p : Parameter). record { name = p.name; width = p.width }) d.params
 
 -- the group of function n. u is the group of the function before it
 abbrev pub unit_of : ℕ → ℕ → Definition → ℕ
 unit_of n u d = if d.joined then u else n
 
-abbrev pub head_of : ℕ → Definition → Head
-head_of u d = record { name = d.name; params = params_of d; width = d.width; unit = u }
-
 -- the heads of functions that are numbered from n on
 abbrev pub heads_from : ℕ → ℕ → List Definition → List Head
 heads_from n u [] = []
-heads_from n u (d ∷ ds) = head_of (unit_of n u d) d ∷ heads_from (suc n) (unit_of n u d) ds
+heads_from n u (d ∷ ds) =
+    record { name = d.name; params = params_of d; width = d.width; unit = unit_of n u d } ∷ heads_from (suc n) (unit_of n u d) ds
 
 abbrev pub heads : List Definition → List Head
 heads ds = heads_from 0 0 ds
@@ -85,3 +80,11 @@ sites_in k es = gathered_in (and_own_site k) (λ (m n : ℕ). m + n) 0 es
 
 abbrev pub sites_bound : Known → Bindings → ℕ
 sites_bound k bs = gathered_bound (and_own_site k) (λ (m n : ℕ). m + n) 0 bs
+
+-- ---- parts by name
+
+abbrev pub slot_of : Parameter → Slot
+slot_of p = record { name = p.name; width = p.width }
+
+abbrev pub head_of : ℕ → Definition → Head
+head_of u d = record { name = d.name; params = params_of d; width = d.width; unit = u }

@@ -3,12 +3,12 @@ use Rattle.std.specs.Prelude.{◌≡◌, ℕ, suc, List, [], ◌∷◌, ◌++◌
 use Rattle.std.specs.List.{AllByRecursion}
 use Rattle.std.specs.Option.{option_or}
 use Rattle.std.specs.Str.{bytes_eq}
-use Rattle.safl_word.specs.Words.{Word, IsWord}
+use Rattle.safl_word.specs.Words.{Word, IsWord, as_word}
 use Rattle.safl_word.specs.declared.primitive.Primitive.{Primitive}
 use Rattle.safl_word.specs.Primitives.{result_width}
 use Rattle.safl_term.specs.Terms as terms
 use Rattle.safl_term.specs.Terms.{Term, Const, Var, Loop, Terms, Nil, Cons}
-use Rattle.safl_typing.specs.Rewriting.{Expression, Number, Sized, Variable, If, Let, Op, Call, Expressions, no_expression, an_expression, Bindings, no_binding, a_binding, Shape, Alike, Comparing, Shifting, Resizing, shape, flexible, all_flexible}
+use Rattle.safl_typing.specs.Rewriting.{Expression, Number, Sized, Variable, If, Let, Op, Call, Expressions, no_expression, an_expression, Bindings, no_binding, a_binding, Shape, Alike, Comparing, Shifting, Resizing, shape, flexible, all_flexible, Placed, placed}
 use Rattle.safl_typing.specs.Heads.{Slot, Known, Callee, Member, Above, Unknown, callee}
 
 -- the number and the width of a slot
@@ -25,10 +25,6 @@ innermost x i (v ∷ vs) = option_or (innermost x (suc i) vs) (if bytes_eq v.nam
 abbrev pub Differ : List (List ℕ) → Type 0
 Differ names = (i j : ℕ) (name : List ℕ) → slice_get names i ≡ Some name → slice_get names j ≡ Some name → i ≡ j
 
-abbrev pub names : Bindings → List (List ℕ)
-names no_binding = []
-names (a_binding p x w e bs) = x ∷ names bs
-
 -- the slots of bindings with these widths
 abbrev pub slots : Bindings → List ℕ → List Slot
 slots (a_binding p x v e bs) (w ∷ ws) = record { name = x; width = w } ∷ slots bs ws
@@ -38,9 +34,6 @@ slots bs ws = []
 abbrev pub KeepsWritten : Option ℕ → Expression → ℕ → Type 0
 KeepsWritten (Some v) e w = v ≡ w
 KeepsWritten None e w = flexible e ≡ false
-
-abbrev pub AreAll : ℕ → List ℕ → Type 0
-AreAll w vs = AllByRecursion (λ v. v ≡ w) vs
 
 abbrev pub AllRigid : Expressions → Type 0
 AllRigid no_expression = Unit {0}
@@ -61,13 +54,10 @@ Shifts w es vs = ⊥
 -- 1, and all have one width, at least one of them rigid; or it is a shift; or the operands are rigid and the table of widths has
 -- a row for them.
 abbrev pub Suits : Shape → Primitive → Expressions → List ℕ → ℕ → Type 0
-Suits Alike o es vs w = AreAll w vs
-Suits Comparing o es vs w = (w ≡ 1) × (u : ℕ) × AreAll u vs × (all_flexible es ≡ false)
+Suits Alike o es vs w = AllByRecursion (λ (v : ℕ). v ≡ w) vs
+Suits Comparing o es vs w = (w ≡ 1) × (u : ℕ) × AllByRecursion (λ (v : ℕ). v ≡ u) vs × (all_flexible es ≡ false)
 Suits Shifting o es vs w = Shifts w es vs
 Suits Resizing o es vs w = AllRigid es × (result_width o vs ≡ Some w)
-
-abbrev pub word : ℕ → ℕ → Word
-word w n = record { width = w; bits = n }
 
 abbrev pub widths_of : List Slot → List ℕ
 widths_of ps = map (λ p. p.width) ps
@@ -84,11 +74,11 @@ Calls Unknown tail lo m ws us w t = ⊥
 -- other part is.
 abbrev mutual
   pub Has : Known → List Slot → Bool → ℕ → ℕ → Expression → ℕ → Term → Type 0
-  Has k s tail lo hi (Number p n) w t = (lo ≡ hi) × IsWord (word w n) × (t ≡ Const (word w n))
-  Has k s tail lo hi (Sized p v n) w t = (lo ≡ hi) × (v ≡ w) × IsWord (word v n) × (t ≡ Const (word v n))
+  Has k s tail lo hi (Number p n) w t = (lo ≡ hi) × IsWord (as_word w n) × (t ≡ Const (as_word w n))
+  Has k s tail lo hi (Sized p v n) w t = (lo ≡ hi) × (v ≡ w) × IsWord (as_word v n) × (t ≡ Const (as_word v n))
   Has k s tail lo hi (Variable p x) w t = (lo ≡ hi) × (i : ℕ) × (innermost x 0 s ≡ Some (record { slot = i; width = w })) × (t ≡ Var i)
   Has k s tail lo hi (If p c a b) w t = (m : ℕ) × (n : ℕ) × (x : Term) × (y : Term) × (z : Term) × Has k s false lo m c 1 x × Has k s tail m n a w y × Has k s tail n hi b w z × (t ≡ terms.If x y z)
-  Has k s tail lo hi (Let p bs b) w t = (m : ℕ) × (ws : List ℕ) × (us : Terms) × (y : Term) × Differ (names bs) × HaveBound k s lo m bs ws us × Has k (s ++ slots bs ws) tail m hi b w y × (t ≡ terms.Let us y)
+  Has k s tail lo hi (Let p bs b) w t = (m : ℕ) × (ws : List ℕ) × (us : Terms) × (y : Term) × Differ (map (λ (x : Placed). x.name) (placed bs)) × HaveBound k s lo m bs ws us × Has k (s ++ slots bs ws) tail m hi b w y × (t ≡ terms.Let us y)
   Has k s tail lo hi (Op p o es) w t = (ws : List ℕ) × (us : Terms) × HaveAll k s lo hi es ws us × Suits (shape o) o es ws w × (t ≡ terms.Op o us)
   Has k s tail lo hi (Call p f es) w t = (m : ℕ) × (ws : List ℕ) × (us : Terms) × HaveAll k s m hi es ws us × Calls (callee k f) tail lo m ws us w t
 
@@ -103,3 +93,14 @@ abbrev mutual
   HaveBound k s lo hi no_binding [] us = (lo ≡ hi) × (us ≡ Nil)
   HaveBound k s lo hi (a_binding p x v e bs) (w ∷ ws) us = (m : ℕ) × (t : Term) × (ts : Terms) × KeepsWritten v e w × Has k s false lo m e w t × HaveBound k s m hi bs ws ts × (us ≡ Cons t ts)
   HaveBound k s lo hi bs ws us = ⊥
+
+-- ---- parts by name
+
+abbrev pub names : Bindings → List (List ℕ)
+names bs = map (λ (x : Placed). x.name) (placed bs)
+
+abbrev pub AreAll : ℕ → List ℕ → Type 0
+AreAll w vs = AllByRecursion (λ v. v ≡ w) vs
+
+abbrev pub word : ℕ → ℕ → Word
+word w n = record { width = w; bits = n }

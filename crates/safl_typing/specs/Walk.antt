@@ -11,6 +11,7 @@ use Rattle.std.specs.Option.{option_or}
 use Rattle.safl_term.specs.Terms as terms
 use Rattle.safl_term.specs.Terms.{Term, Const, Var, Loop, Terms, Nil, Cons}
 use Rattle.safl_tree.specs.Tree.{Definition}
+use Rattle.safl_tree.specs.Source.{fault_at}
 use Rattle.safl_typing.specs.Rewriting.{Expression, Number, Sized, Variable, If, Let, Op, Call, Expressions, no_expression, an_expression, Bindings, no_binding, a_binding, Shape, Alike, Comparing, Shifting, Resizing, shape, flexible, count, rewritten, nodes, Placed, placed, long_let}
 use Rattle.safl_typing.specs.Heads.{Slot, Head, Known, Callee, Member, Above, Unknown, callee, sites, sites_bound, unit_of, params_of, heads}
 use Rattle.safl_typing.specs.Typing.{At, innermost, slots, word, widths_of}
@@ -18,9 +19,6 @@ use Rattle.safl_word.specs.Limits.{bindings_max, functions_max, params_max, site
 use Rattle.safl_typing.specs.Forms.{FunctionForm, Form, all_sites}
 
 -- ---- faults
-
-abbrev pub fault : Rule → ℕ → Fault
-fault e p = record { rule = e; place = p; first = 0; second = 0 }
 
 -- the fault of a rule with two numbers: the expected and the found one, or a limit's number and its value
 abbrev pub fault_with : Rule → ℕ → ℕ → ℕ → Fault
@@ -80,14 +78,14 @@ settle p (Exactly w) v t = if w == v then Ok (record { width = v; term = t }) el
 
 -- a number. It has any width that it fits
 abbrev pub check_number : ℕ → ℕ → Wanted → Result Typed Fault
-check_number p n Any = Err (fault rules.E14 p)
-check_number p n (Exactly w) = if nat_lt n (2 ^ w) then Ok (record { width = w; term = Const (word w n) }) else Err (fault rules.E13 p)
+check_number p n Any = Err (fault_at rules.E14 p)
+check_number p n (Exactly w) = if nat_lt n (2 ^ w) then Ok (record { width = w; term = Const (word w n) }) else Err (fault_at rules.E13 p)
 
 abbrev pub sized : ℕ → ℕ → ℕ → Wanted → Result Typed Fault
-sized p v n m = if nat_lt n (2 ^ v) then settle p m v (Const (word v n)) else Err (fault rules.E13 p)
+sized p v n m = if nat_lt n (2 ^ v) then settle p m v (Const (word v n)) else Err (fault_at rules.E13 p)
 
 abbrev pub variable : ℕ → Wanted → Option At → Result Typed Fault
-variable p m None = Err (fault rules.E08 p)
+variable p m None = Err (fault_at rules.E08 p)
 variable p m (Some a) = settle p m a.width (Var a.slot)
 
 -- two branches. If no width is expected, the first rigid one gives it
@@ -102,7 +100,7 @@ alike false m first others = after (first m) (λ x. after (others (Exactly x.wid
 
 -- an operator with this width in the table of widths, if there is one
 abbrev pub resized : ℕ → Wanted → Primitive → Option ℕ → Terms → Result Typed Fault
-resized p m o None us = Err (fault rules.E05 p)
+resized p m o None us = Err (fault_at rules.E05 p)
 resized p m o (Some w) us = settle p m w (terms.Op o us)
 
 -- an operator, by what it requires of its operands
@@ -119,14 +117,14 @@ arguments p m h n args call =
     (after args (λ r. settle p m h.width (call r.terms)))
 
 abbrev pub called : Callee → Bool → ℕ → ℕ → Wanted → ℕ → (ℕ → List ℕ → Result TypedAll Fault) → Result Typed Fault
-called (Member i h) tail lo p m n args = unless (needs tail (fault rules.E10 p)) (arguments p m h n (args lo (widths_of h.params)) (λ us. Loop i us))
+called (Member i h) tail lo p m n args = unless (needs tail (fault_at rules.E10 p)) (arguments p m h n (args lo (widths_of h.params)) (λ us. Loop i us))
 called (Above i h) tail lo p m n args = arguments p m h n (args (suc lo) (widths_of h.params)) (λ us. terms.Call i lo us)
-called Unknown tail lo p m n args = Err (fault rules.E09 p)
+called Unknown tail lo p m n args = Err (fault_at rules.E09 p)
 
 -- E07 at the first name that is earlier in the list or among those seen before
 abbrev pub repeated : List (List ℕ) → List Placed → Option Fault
 repeated seen [] = None
-repeated seen (x ∷ xs) = if list_any (bytes_eq x.name) seen then Some (fault rules.E07 x.place) else repeated (x.name ∷ seen) xs
+repeated seen (x ∷ xs) = if list_any (bytes_eq x.name) seen then Some (fault_at rules.E07 x.place) else repeated (x.name ∷ seen) xs
 
 -- how the operands of an operator are checked. For `cat`, `bits` and `ext` each width is found; for a shift that of the second
 -- operand if it is rigid
@@ -149,11 +147,11 @@ abbrev mutual
   check k s tail lo m (Sized p v n) = sized p v n m
   check k s tail lo m (Variable p x) = variable p m (innermost x 0 s)
   check k s tail lo m (If p c a b) =
-      unless (needs (is_known m (flexible a && flexible b)) (fault rules.E14 p))
+      unless (needs (is_known m (flexible a && flexible b)) (fault_at rules.E14 p))
       (after (check k s false lo (Exactly 1) c)
       (λ x. branches (is_any m && flexible a) m (λ v. check k s tail (lo + sites k c) v a) (λ v. check k s tail (lo + sites k c + sites k a) v b) x.term))
   check k s tail lo m (Let p bs b) =
-      unless (needs (is_known m (flexible b)) (fault rules.E14 p))
+      unless (needs (is_known m (flexible b)) (fault_at rules.E14 p))
       (unless (repeated [] (placed bs))
       (after (check_bound k s lo bs)
       (λ r. after (check k (s ++ slots bs r.widths) tail (lo + sites_bound k bs) m b)
@@ -172,14 +170,14 @@ abbrev mutual
 
   -- Checks operands of one width. If no width is expected, the first rigid operand gives it, and is checked first.
   pub check_alike : Known → List Slot → ℕ → ℕ → Wanted → Expressions → Result TypedAlike Fault
-  check_alike k s lo p Any no_expression = Err (fault rules.E14 p)
+  check_alike k s lo p Any no_expression = Err (fault_at rules.E14 p)
   check_alike k s lo p (Exactly w) no_expression = Ok (record { width = w; terms = Nil })
   check_alike k s lo p m (an_expression e es) =
       alike (is_any m && flexible e) m (λ v. check k s false lo v e) (λ v. check_alike k s (lo + sites k e) p v es)
 
   -- Checks the operands of a shift. The width of the first has to be found; then the others are checked.
   pub check_shift : Known → List Slot → ℕ → ℕ → Expressions → Result TypedAlike Fault
-  check_shift k s lo p no_expression = Err (fault rules.E14 p)
+  check_shift k s lo p no_expression = Err (fault_at rules.E14 p)
   check_shift k s lo p (an_expression e es) =
       after (check k s false lo Any e)
       (λ x. after (check_all k s (lo + sites k e) (amounts x.width es) es)
@@ -218,15 +216,12 @@ limits ds = option_or (limit 1 functions_max (slice_get (map (λ d. d.place) ds)
 
 -- ---- definitions
 
-abbrev pub placed_params : Definition → List Placed
-placed_params d = map (λ p. record { place = p.place; name = p.name }) d.params
-
 -- the faults of a head: E06 if an earlier definition has the name, E12 if the width is not the group's, and E07
 abbrev pub head_fault : List (List ℕ) → ℕ → Definition → Option Fault
 head_fault earlier w d =
-    option_or (if list_any (bytes_eq d.name) earlier then Some (fault rules.E06 d.place) else None)
+    option_or (if list_any (bytes_eq d.name) earlier then Some (fault_at rules.E06 d.place) else None)
     (option_or (needs (w == d.width) (fault_with rules.E12 d.place w d.width))
-    (repeated [] (placed_params d)))
+    (repeated [] (map (λ p. record { place = p.place; name = p.name }) d.params)))
 
 -- the faults of the heads of the group's other functions, one by one
 abbrev pub joined_faults : List (List ℕ) → ℕ → List Definition → Option Fault
@@ -253,8 +248,8 @@ functions_from all earlier n u lo (d ∷ ds) =
 
 -- the last definition is `main`
 abbrev pub main_fault : List Definition → Option Fault
-main_fault [] = Some (fault rules.E15 0)
-main_fault (d ∷ []) = needs (bytes_eq d.name (codes "main")) (fault rules.E15 d.place)
+main_fault [] = Some (fault_at rules.E15 0)
+main_fault (d ∷ []) = needs (bytes_eq d.name (codes "main")) (fault_at rules.E15 d.place)
 main_fault (d ∷ (e ∷ ds)) = main_fault (e ∷ ds)
 
 -- the check of a program: first limits, then the definitions, and then whether the last one is `main`
@@ -263,3 +258,11 @@ outcome ds =
     unless (limits ds)
     (after (functions_from (heads ds) [] 0 0 1 ds)
     (λ fs. unless (main_fault ds) (Ok (record { functions = fs; sites = all_sites 0 fs }))))
+
+-- ---- parts by name
+
+abbrev pub fault : Rule → ℕ → Fault
+fault e p = fault_at e p
+
+abbrev pub placed_params : Definition → List Placed
+placed_params d = map (λ p. record { place = p.place; name = p.name }) d.params
