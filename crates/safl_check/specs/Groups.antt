@@ -1,12 +1,12 @@
 -- The heads of groups.
 use Rattle.std.specs.Prelude.{ℕ, zero, suc, List, [], ◌∷◌, drop, Option, None, Some, slice_get}
+use Rattle.std.specs.Option.{option_map_or}
 use Rattle.safl_word.specs.declared.fault.Fault.{Fault}
 use Rattle.safl_tree.specs.Tree.{Definition}
 use Rattle.safl_typing.specs.Walk.{group_fault}
 
 abbrev pub name_in : Option Definition → List ℕ
-name_in None = []
-name_in (Some d) = d.name
+name_in o = option_map_or (λ (d : Definition). d.name) o []
 
 -- the names of the definitions before number n, the last one first
 abbrev pub earlier : List Definition → ℕ → List (List ℕ)

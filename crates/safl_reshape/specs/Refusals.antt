@@ -1,5 +1,6 @@
 -- Why a reshaping is refused, in the order of the checks.
 use Rattle.std.specs.Prelude.{◌≡◌, ℕ, suc, ◌<◌, ◌≤◌, List, [], length, Option, Some, None, Bool, true, false, ◌||◌, ◌⊎◌, slice_get}
+use Rattle.std.specs.Option.{option_map_or}
 use Rattle.std.specs.List.{list_any}
 use Rattle.std.specs.Str.{bytes_eq}
 use Rattle.safl_word.specs.Limits.{name_max, functions_max, sites_max, nodes_max}
@@ -9,7 +10,6 @@ use Rattle.safl_tree.specs.Printable.{AllKeepLevels}
 use Rattle.safl_typing.specs.Heads.{heads}
 use Rattle.safl_typing.specs.Forms.{Form, nodes_of, function_names, IsFormOf}
 use Rattle.safl_check.specs.Numbered.{program_in}
-use Rattle.safl_check.specs.Groups.{name_in}
 use Rattle.safl_reshape.specs.declared.error.ReshapeErr.{ReshapeErr}
 use Rattle.safl_reshape.specs.declared.error.ReshapeErr.TheVariants as errors
 use Rattle.safl_reshape.specs.Laws.{IsAlike, Spares}
@@ -20,17 +20,14 @@ pub record HasSite (C : Program) (k : ℕ) : Type 0 where
   pub from : 1 ≤ k
   pub to : k ≤ C.sites
 
-abbrev pub joined_at : Option Definition → Bool
-joined_at None = false
-joined_at (Some d) = d.joined
-
 -- whether the group of function j has two or more members
 abbrev pub is_grouped : List Definition → ℕ → Bool
-is_grouped ds j = joined_at (slice_get ds j) || joined_at (slice_get ds (suc j))
+is_grouped ds j =
+    option_map_or (λ (d : Definition). d.joined) (slice_get ds j) false || option_map_or (λ (d : Definition). d.joined) (slice_get ds (suc j)) false
 
 -- the name of the copy of function j for site k
 abbrev pub name_for : List Definition → ℕ → ℕ → List ℕ
-name_for ds k j = copy_name (name_in (slice_get ds j)) k
+name_for ds k j = copy_name (option_map_or (λ (d : Definition). d.name) (slice_get ds j) []) k
 
 abbrev pub is_taken : List Definition → List ℕ → Bool
 is_taken ds x = list_any (bytes_eq x) (function_names ds)
@@ -110,3 +107,8 @@ RefusesLimit ds errors.NameTaken = ⊥
 RefusesLimit ds (errors.Limit i) = PassesLimit ds i
 RefusesLimit ds errors.TooDeep = ⊥
 RefusesLimit ds errors.NoMemory = Unit {0}
+
+-- ---- parts by name
+
+abbrev pub joined_at : Option Definition → Bool
+joined_at o = option_map_or (λ (d : Definition). d.joined) o false

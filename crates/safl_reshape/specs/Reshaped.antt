@@ -1,5 +1,6 @@
 -- What a program is reshaped to: a function is copied for one of its calls, or a call is replaced by the function's body.
 use Rattle.std.specs.Prelude.{◌≡◌, ℕ, zero, suc, ◌<◌, length, List, [], ◌∷◌, ◌++◌, Option, Some, None, Bool, false, ◌==◌, if◌then◌else◌, slice_get, codes, decimal}
+use Rattle.std.specs.Option.{option_map_or}
 use Rattle.safl_tree.specs.Tree.{Tree, Variable, Let, Call, Trees, no_tree, a_tree, Binds, no_bind, a_bind, Parameter, Definition}
 use Rattle.safl_typing.specs.Rewriting.{rewritten}
 use Rattle.safl_typing.specs.Heads.{Head, Member, Above, Unknown, heads}
@@ -23,20 +24,14 @@ body_under place ps ts body = body
 abbrev pub placed_body : ℕ → Definition → Trees → Tree
 placed_body place d ts = body_under place d.params ts d.body
 
-abbrev pub result_name : List ℕ
-result_name = codes "r"
-
 -- the unfolded call: `let r:w = B in r`
 abbrev pub unfolded_call : ℕ → Definition → Trees → Tree
-unfolded_call place d ts = Let place (a_bind place result_name (Some d.width) (body_under place d.params ts d.body) no_bind) (Variable place result_name)
-
-abbrev pub unfolded_as : Option Definition → ℕ → List ℕ → Trees → Tree
-unfolded_as (Some d) place x ts = unfolded_call place d ts
-unfolded_as None place x ts = Call place x ts
+unfolded_call place d ts = Let place (a_bind place (codes "r") (Some d.width) (body_under place d.params ts d.body) no_bind) (Variable place (codes "r"))
 
 -- the change that replaces only the call of site k
 abbrev pub unfolding_call : List Definition → ℕ → Change
-unfolding_call ds k (Above i h) lo place x ts = if lo == k then unfolded_as (slice_get ds i) place x ts else Call place x ts
+unfolding_call ds k (Above i h) lo place x ts =
+    if lo == k then option_map_or (λ (d : Definition). unfolded_call place d ts) (slice_get ds i) (Call place x ts) else Call place x ts
 unfolding_call ds k _ lo place x ts = Call place x ts
 
 abbrev pub unfolded : List Definition → ℕ → List Definition
@@ -85,12 +80,8 @@ copied_under new ds k j d = put_behind j (copy_of (heads ds) j new d) (changed_d
 abbrev pub IsCopiedUnder : List ℕ → List Definition → ℕ → ℕ → List Definition → Type 0
 IsCopiedUnder new ds k j es = (d : Definition) → slice_get ds j ≡ Some d → es ≡ copied_under new ds k j d
 
-abbrev pub copied_as : Option Definition → List Definition → ℕ → ℕ → List Definition
-copied_as None ds k j = ds
-copied_as (Some d) ds k j = copied_under (copy_name d.name k) ds k j d
-
 abbrev pub copied : List Definition → ℕ → ℕ → List Definition
-copied ds k j = copied_as (slice_get ds j) ds k j
+copied ds k j = option_map_or (λ (d : Definition). copied_under (copy_name d.name k) ds k j d) (slice_get ds j) ds
 
 -- the definition, if there is one, is not joined to the one before it
 abbrev pub Unjoined : Option Definition → Type 0
@@ -106,3 +97,14 @@ pub record IsCopyable (ds : List Definition) (c : Form) (k j : ℕ) (d : Definit
   pub next : Unjoined (slice_get ds (suc j))
   pub before : suc j < length ds
   pub fresh : (i : ℕ) → slice_get (function_names ds) i ≡ Some new → ⊥
+
+-- ---- parts by name
+
+abbrev pub result_name : List ℕ
+result_name = codes "r"
+
+abbrev pub unfolded_as : Option Definition → ℕ → List ℕ → Trees → Tree
+unfolded_as o place x ts = option_map_or (λ (d : Definition). unfolded_call place d ts) o (Call place x ts)
+
+abbrev pub copied_as : Option Definition → List Definition → ℕ → ℕ → List Definition
+copied_as o ds k j = option_map_or (λ (d : Definition). copied_under (copy_name d.name k) ds k j d) o ds
