@@ -1,8 +1,8 @@
 -- The call machine: units that serve calls, without cycles or registers.
-use Rattle.std.specs.Prelude.{◌≡◌, ℕ, zero, suc, List, [], ◌∷◌, length, Option, Some, None, Bool, true, false, cond, ◌==◌, ◌&&◌, nat_le}
+use Rattle.std.specs.Prelude.{◌≡◌, ℕ, zero, suc, List, [], ◌∷◌, length, Option, Some, None, Bool, true, false, cond, ◌==◌, ◌&&◌, nat_le, unwrap_or}
 use Rattle.safl_word.specs.Words.{Word}
 use Rattle.safl_term.specs.Program.{Program, arity, unit_for}
-use Rattle.safl_term.specs.Readiness.{Stage, Unsent, Sent, Returned, back_word, Answer, Ready, LoopTo, NotYet, answer, wanted}
+use Rattle.safl_term.specs.Readiness.{Stage, Unsent, Sent, Returned, back_word, Answer, Ready, LoopTo, NotYet, answer, wanted, word_of}
 
 -- a unit is idle, runs a function with arguments for the site that it serves, or delivers a word to that site
 pub data Mode : Type 0 where
@@ -69,10 +69,6 @@ Enabled C args s (Finish f) = (k : ℕ) × (ws : List Word) × (v : Word) × (s.
 Enabled C args s (Return k) = (v : Word) × (s.unit (unit_for C k) ≡ Delivers k v)
 Enabled C args s (LoopInto h) = (vs : List Word) × (says C s (C.unit h) ≡ LoopTo h vs)
 
--- the function whose body has site k does not run
-abbrev pub CallerRests : Program → State → ℕ → Type 0
-CallerRests C s k = (j : ℕ) (args : List Word) → s.unit (C.unit (C.caller k)) ≡ Runs (C.caller k) j args → ⊥
-
 -- the stages after a unit ends a body: the sites in its functions are unsent again
 abbrev pub ended : Program → ℕ → (ℕ → Stage) → ℕ → Stage
 ended C u site zero = site zero
@@ -115,12 +111,8 @@ after C args s [] = s
 after C args s (e ∷ es) = after C args (fire C args s e) es
 
 -- the word that unit u finished last, or d where it has finished none
-abbrev pub finished_as : Answer → Word → Word
-finished_as (Ready v) d = v
-finished_as _ d = d
-
 abbrev pub finished : Program → State → Event → ℕ → Word → Word
-finished C s (Finish f) u d = cond (C.unit f == u) (finished_as (says C s u) d) d
+finished C s (Finish f) u d = cond (C.unit f == u) (unwrap_or (word_of (says C s u)) d) d
 finished C s _ u d = d
 
 unfoldable pub last_word : Program → List Word → State → List Event → ℕ → Word → Word
@@ -130,3 +122,12 @@ last_word C args s (e ∷ es) u d = last_word C args (fire C args s e) es u (fin
 -- a statement holds of every list of events that is legal from the opening state
 abbrev pub EachList : Program → (List Word → List Event → Type 0) → Type 0
 EachList C Q = (args : List Word) (es : List Event) → Legal C args opening es → Q args es
+
+-- ---- parts by name
+
+-- the function whose body has site k does not run
+abbrev pub CallerRests : Program → State → ℕ → Type 0
+CallerRests C s k = (j : ℕ) (args : List Word) → s.unit (C.unit (C.caller k)) ≡ Runs (C.caller k) j args → ⊥
+
+abbrev pub finished_as : Answer → Word → Word
+finished_as a d = unwrap_or (word_of a) d

@@ -105,12 +105,11 @@ QuietAfterDone C D n state =
     EachRun C n state (λ args vs. (a c : ℕ) (v w : Valuation) → slice_get vs a ≡ Some v → slice_get vs c ≡ Some w
     → is_done n v ≡ 1 → a < c → Quiet (registers_now C D n w))
 
--- the sites whose go wire is 1 and that start f, and whether a loop wire starts f, in a cycle
-abbrev pub go_at : Program → Netlist → Valuation → ℕ → ℕ → Option ℕ
-go_at C n v f k = cond (C.callee k == f && go_up n v k) (Some k) None
-
+-- whether a go wire of a site that calls f is 1, or the loop wire of f, in a cycle
 abbrev pub is_started : Program → Names → Netlist → Valuation → ℕ → Bool
-is_started C D n v f = is_some (first (go_at C n v f) (suc C.sites)) || one (read n v (of_function D (codes "loop$") f))
+is_started C D n v f =
+    is_some (first {A = ℕ} (λ k. cond (C.callee k == f && go_up n v k) (Some k) None) (suc C.sites))
+    || one (read n v (of_function D (codes "loop$") f))
 
 -- where no two calls of the program can overlap, done comes in the last cycle in which it may
 abbrev pub IsExact : Program → Netlist → (ℕ → ℕ) → Type 0
@@ -132,3 +131,8 @@ abbrev pub SameCalls : Program → Names → Netlist → (ℕ → ℕ) → Type 
 SameCalls C D n state =
     EachRun C n state (λ args vs. (v : Word) (d : Main C args v) (c : ℕ) → c < length vs → latest C args d ≤ c
     → (f : ℕ) → f < C.functions → IsPermutation (main_calls C args d f) (words_seen_in C D n vs f c))
+
+-- ---- parts by name
+
+abbrev pub go_at : Program → Netlist → Valuation → ℕ → ℕ → Option ℕ
+go_at C n v f k = cond (C.callee k == f && go_up n v k) (Some k) None

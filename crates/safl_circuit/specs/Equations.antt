@@ -36,15 +36,12 @@ abbrev pub ret : Program → Registers → ℕ → Bool
 ret C r zero = r.fin (C.unit C.main)
 ret C r (suc k) = r.fin (unit_for C (suc k)) && (r.sent (suc k) && not (r.got (suc k)))
 
--- the word that a site shows after it has returned: that of its unit, or the kept word if the site is kept and is not returning
--- now
-abbrev pub word_on : Program → Choice → Registers → ℕ → Word
-word_on C P r k = cond (P.kept k && not (ret C r k)) (r.keep k) (r.res (unit_for C k))
-
--- what a site shows: its word if it has got it or gets it now
+-- What a site shows if it has got its word or gets it now: the word of its unit, or the kept word if the site is kept and does not
+-- get it now.
 abbrev pub on_wires : Program → Choice → Registers → ℕ → Option Word
 on_wires C P r zero = None
-on_wires C P r (suc k) = cond (r.got (suc k) || ret C r (suc k)) (Some (word_on C P r (suc k))) None
+on_wires C P r (suc k) =
+    cond (r.got (suc k) || ret C r (suc k)) (Some (cond (P.kept (suc k) && not (ret C r (suc k))) (r.keep (suc k)) (r.res (unit_for C (suc k))))) None
 
 -- the path of f's body: its unit runs, and runs f
 abbrev pub path : Program → Registers → ℕ → Bool
@@ -89,11 +86,8 @@ abbrev pub goes_to : ℕ → Answer → Option (List Word)
 goes_to h (LoopTo g vs) = cond (g == h) (Some vs) None
 goes_to h _ = None
 
-abbrev pub loop_from : Program → Choice → Registers → ℕ → ℕ → Option (List Word)
-loop_from C P r h g = cond (C.unit g == C.unit h) (goes_to h (body_says C P r g)) None
-
 abbrev pub loop_words : Program → Choice → Registers → ℕ → Option (List Word)
-loop_words C P r h = first (loop_from C P r h) C.functions
+loop_words C P r h = first (λ g. cond (C.unit g == C.unit h) (goes_to h (body_says C P r g)) None) C.functions
 
 -- in unit u: the word of the first function that ends, the first function that is looped to, the first site that starts the unit; and
 -- the arguments of the first site that starts f
@@ -155,3 +149,11 @@ goes_on C P r n = picks (λ h. is_some (loop_words C P r h)) LoopInto n
 abbrev pub cycle_events : Program → Choice → Registers → Inputs → List Event
 cycle_events C P r i =
     returns C r (suc C.sites) ++ (accepts C P r i (suc C.sites) ++ (finishes C P r C.functions ++ goes_on C P r C.functions))
+
+-- ---- parts by name
+
+abbrev pub word_on : Program → Choice → Registers → ℕ → Word
+word_on C P r k = cond (P.kept k && not (ret C r k)) (r.keep k) (r.res (unit_for C k))
+
+abbrev pub loop_from : Program → Choice → Registers → ℕ → ℕ → Option (List Word)
+loop_from C P r h g = cond (C.unit g == C.unit h) (goes_to h (body_says C P r g)) None

@@ -1,5 +1,6 @@
 -- The names of registers and wires, and the words that a netlist shows under them.
 use Rattle.std.specs.Prelude.{ℕ, List, [], ◌∷◌, ◌++◌, map, Bool, cond, ◌==◌, ◌&&◌, nat_lt, nat_le, codes}
+use Rattle.safl_word.specs.Primitives.{bit_of}
 use Rattle.std.specs.Fmt.{decimal}
 use Rattle.safl_word.specs.Words.{Word, as_word}
 use Rattle.safl_term.specs.Names.{Names}
@@ -19,19 +20,13 @@ of_site head k = head ++ decimal k
 abbrev pub of_param : Names → ℕ → List ℕ → List ℕ
 of_param D f p = codes "arg$" ++ (D.name f ++ (codes "$" ++ p))
 
--- a number of one bit as a truth value, and a truth value as such a number
+-- a number of one bit as a truth value
 abbrev pub one : ℕ → Bool
 one w = w == 1
 
-abbrev pub bit : Bool → ℕ
-bit b = cond b 1 0
-
--- whether u is the number of a unit; whether k is the number of a site
+-- whether u is the number of a unit
 abbrev pub is_unit : Program → ℕ → Bool
 is_unit C u = nat_lt u C.functions && C.unit u == u
-
-abbrev pub is_site : Program → ℕ → Bool
-is_site C k = nat_lt 0 k && nat_le k C.sites
 
 abbrev pub as_words : List ℕ → List ℕ → List Word
 as_words (w ∷ ws) (b ∷ bs) = as_word w b ∷ as_words ws bs
@@ -48,8 +43,8 @@ view C D get = record {
   res = λ u. as_word (C.result u) (cond (is_unit C u) (get (of_function D (codes "res$") u)) 0);
   at = λ f. one (get (of_function D (codes "at$") f));
   arg = λ f. as_words (C.params f) (map (λ p. get (of_param D f p)) (D.params f));
-  sent = λ k. is_site C k && one (get (of_site (codes "sent$") k));
-  got = λ k. is_site C k && one (get (of_site (codes "got$") k));
+  sent = λ k. nat_lt 0 k && nat_le k C.sites && one (get (of_site (codes "sent$") k));
+  got = λ k. nat_lt 0 k && nat_le k C.sites && one (get (of_site (codes "got$") k));
   keep = λ k. as_word (C.result (C.callee k)) (get (of_site (codes "keep$") k));
 }
 
@@ -63,3 +58,11 @@ registers_next C D n v = view C D (read_next n v)
 -- the inputs of a cycle
 abbrev pub input_now : Program → Netlist → Valuation → Inputs
 input_now C n v = record { start = one (start_number n v); words = as_words (C.params C.main) (input_numbers n.signals v) }
+
+-- ---- parts by name
+
+abbrev pub bit : Bool → ℕ
+bit b = bit_of b
+
+abbrev pub is_site : Program → ℕ → Bool
+is_site C k = nat_lt 0 k && nat_le k C.sites

@@ -1,5 +1,6 @@
 -- The scheme of a circuit: what a netlist has to be, and what it has to do in each cycle, for any state and any inputs.
 use Rattle.std.specs.Prelude.{◌≡◌, ℕ, zero, suc, ◌<◌, ◌≤◌, List, ◌++◌, length, Some, Bool, true, is_some, slice_get, codes}
+use Rattle.safl_word.specs.Primitives.{bit_of}
 use Rattle.safl_term.specs.Names.{Names}
 use Rattle.safl_sites.specs.Plan.{Choice}
 use Rattle.safl_term.specs.Program.{Program, unit_for}
@@ -8,7 +9,7 @@ use Rattle.safl_calls.specs.Picks.{picks}
 use Rattle.safl_circuit.specs.Equations.{Registers, Inputs, many, ret, want, go, end_word, loop_words, next}
 use Rattle.safl_net.specs.Netlist.{Netlist, Signal, AllSet}
 use Rattle.safl_net.specs.Valuations.{Valuation, Fits, read, read_output, reset_state, IsAcyclic}
-use Rattle.safl_circuit.specs.Names.{of_function, of_site, one, bit, numbers, registers_now, registers_next, input_now}
+use Rattle.safl_circuit.specs.Names.{of_function, of_site, one, numbers, registers_now, registers_next, input_now}
 use Rattle.safl_circuit.specs.Layout.{Line, layout_registers, layout_wires, layout_inputs, layout_outputs, input_kind, register_kind, wire_kind, each_line, output_lines}
 
 -- The two hold equal numbers, as far as the registers exist: at exists in units of several functions, and keep at kept sites.
@@ -24,14 +25,14 @@ pub record Agree (C : Program) (P : Choice) (r q : Registers) : Type 0 where
 
 -- the named wires and the outputs have the numbers that the equations give for the registers and the inputs
 pub record Wires (C : Program) (D : Names) (P : Choice) (n : Netlist) (v : Valuation) (r : Registers) (i : Inputs) : Type 0 where
-  pub ends : (f : ℕ) → f < C.functions → read n v (of_function D (codes "end$") f) ≡ bit (is_some (end_word C P r f))
-  pub loops : (f : ℕ) → f < C.functions → read n v (of_function D (codes "loop$") f) ≡ bit (is_some (loop_words C P r f))
-  pub wants : (k : ℕ) → 0 < k → k ≤ C.sites → read n v (of_site (codes "want$") k) ≡ bit (want C P r k)
-  pub rets : (k : ℕ) → 0 < k → k ≤ C.sites → read n v (of_site (codes "ret$") k) ≡ bit (ret C r k)
-  pub arbs : (k : ℕ) → 0 < k → k ≤ C.sites → P.arbiter (unit_for C k) ≡ true → read n v (of_site (codes "arb$") k) ≡ bit (go C P r i k)
-  pub goes : (k : ℕ) → 0 < k → k ≤ C.sites → read n v (of_site (codes "go$") k) ≡ bit (go C P r i k)
-  pub goes_main : read n v (codes "go$main") ≡ bit (go C P r i 0)
-  pub done : read_output n v (codes "done") ≡ bit (ret C r 0)
+  pub ends : (f : ℕ) → f < C.functions → read n v (of_function D (codes "end$") f) ≡ bit_of (is_some (end_word C P r f))
+  pub loops : (f : ℕ) → f < C.functions → read n v (of_function D (codes "loop$") f) ≡ bit_of (is_some (loop_words C P r f))
+  pub wants : (k : ℕ) → 0 < k → k ≤ C.sites → read n v (of_site (codes "want$") k) ≡ bit_of (want C P r k)
+  pub rets : (k : ℕ) → 0 < k → k ≤ C.sites → read n v (of_site (codes "ret$") k) ≡ bit_of (ret C r k)
+  pub arbs : (k : ℕ) → 0 < k → k ≤ C.sites → P.arbiter (unit_for C k) ≡ true → read n v (of_site (codes "arb$") k) ≡ bit_of (go C P r i k)
+  pub goes : (k : ℕ) → 0 < k → k ≤ C.sites → read n v (of_site (codes "go$") k) ≡ bit_of (go C P r i k)
+  pub goes_main : read n v (codes "go$main") ≡ bit_of (go C P r i 0)
+  pub done : read_output n v (codes "done") ≡ bit_of (ret C r 0)
   pub result : read_output n v (codes "result") ≡ (r.res (C.unit C.main)).bits
 
 -- The netlist is whole and acyclic, has the ports, registers and named wires of the layout, and resets to 0. In every valuation

@@ -2,7 +2,7 @@
 use Rattle.std.specs.Prelude.{◌≡◌, ℕ, zero, suc, ◌<◌, ◌++◌, List, [], Bool, true, false, ◌==◌}
 use Rattle.safl_sites.specs.Plan.{Choice}
 use Rattle.safl_circuit.specs.Equations.{Registers, Inputs, many, next, cycle_events}
-use Rattle.safl_calls.specs.Machine.{State, Mode, Runs, Delivers, Event, opening, CallerRests, Legal, after, last_word}
+use Rattle.safl_calls.specs.Machine.{State, Mode, Runs, Delivers, Event, opening, Legal, after, last_word}
 use Rattle.safl_term.specs.Readiness.{Stage, Unsent, Returned}
 use Rattle.safl_term.specs.Program.{Program}
 use Rattle.safl_word.specs.Words.{Word}
@@ -37,7 +37,8 @@ pub record Shows (C : Program) (P : Choice) (s : State) (r : Registers) : Type 0
   pub sent : (k : ℕ) → 0 < k → r.sent k ≡ was_sent (s.site k)
   pub got : (k : ℕ) → 0 < k → r.got k ≡ is_returned (s.site k)
   pub keep : (k : ℕ) (v : Word) → 0 < k → P.kept k ≡ true → s.site k ≡ Returned v → r.keep k ≡ v
-  pub others : (k : ℕ) → 0 < k → CallerRests C s k → (r.sent k ≡ false) × (r.got k ≡ false)
+  pub others : (k : ℕ) → 0 < k → ((j : ℕ) (args : List Word) → s.unit (C.unit (C.caller k)) ≡ Runs (C.caller k) j args → ⊥)
+      → (r.sent k ≡ false) × (r.got k ≡ false)
 
 -- Quiet registers: no unit runs or has just finished, and no site is sent or has returned. What else the registers hold is free.
 pub record Quiet (r : Registers) : Type 0 where
