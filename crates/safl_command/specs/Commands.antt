@@ -5,7 +5,7 @@ use Rattle.std.specs.Borrow.{Bor}
 use Rattle.clap.specs.Words.{Row, Kinds, fault_of, subcommand_of, first_of}
 use Rattle.safl_command.specs.Forms.{app}
 use Rattle.safl_command.specs.Values.{name_in, number_in, number_of, limit_in, count_in, has_flag, args_in}
-use Rattle.safl_command.specs.Traces.{Traces, shown_traces, if_apart}
+use Rattle.safl_command.specs.Traces.{Traces, shown_traces, are_apart}
 use Rattle.safl_command.specs.declared.command.Command as code
 use Rattle.safl_command.specs.declared.command.Command.TheVariants as code_of
 
@@ -45,7 +45,9 @@ given value make = option_and_then make value
 
 -- the files for traces, if their names differ
 abbrev pub traces_in : List Row → Option Traces
-traces_in rows = if_apart (record { vcd = first_of (codes "vcd") rows; starts = first_of (codes "starts") rows; toggles = first_of (codes "toggles") rows })
+traces_in rows =
+    let t : Traces = record { vcd = first_of (codes "vcd") rows; starts = first_of (codes "starts") rows; toggles = first_of (codes "toggles") rows } in
+    if are_apart t then Some t else None
 
 -- the word that an option has, if there is one
 abbrev pub word_of : Option (Bor (List ℕ)) → Option (List ℕ)
@@ -56,9 +58,6 @@ abbrev pub reshaped : List ℕ → List ℕ → Option (List ℕ) → Option (Li
 reshaped input output (Some copied) None = option_map (CopySite input output) (number_of copied)
 reshaped input output None (Some unfolded) = option_map (UnfoldSite input output) (number_of unfolded)
 reshaped input output _ _ = None
-
-abbrev pub change_in : List ℕ → List ℕ → List Row → Option Command
-change_in input output rows = reshaped input output (first_of (codes "copy") rows) (first_of (codes "unfold") rows)
 
 -- the command of a subcommand, from the values of its arguments
 abbrev pub command_in : List ℕ → List Row → Option Command
@@ -77,7 +76,7 @@ command_in word rows =
     else if bytes_eq word (codes "bench") then given (number_in (codes "SEED") rows) (λ seed. given (count_in (codes "COUNT") rows)
     (λ count. option_map (Bench seed count) (limit_in (codes "cycles") rows)))
     else if bytes_eq word (codes "reshape") then given (name_in (codes "IN") rows) (λ input. given (name_in (codes "OUT") rows)
-    (λ output. change_in input output rows))
+    (λ output. reshaped input output (first_of (codes "copy") rows) (first_of (codes "unfold") rows)))
     else if bytes_eq word (codes "session") then given (name_in (codes "IN") rows) (λ input. given (name_in (codes "SCRIPT") rows)
     (λ script. option_map (Session input script) (limit_in (codes "cycles") rows)))
     else if bytes_eq word (codes "aig") then given (name_in (codes "FILE") rows) (λ input. given (name_in (codes "OUT") rows)
@@ -115,3 +114,8 @@ shown_command (code_of.UnfoldSite input output site) = UnfoldSite (string_bytes 
 shown_command (code_of.Session input script limit) = Session (string_bytes input) (string_bytes script) limit
 shown_command (code_of.Aig input output) = Aig (string_bytes input) (string_bytes output)
 shown_command (code_of.Aigstat input) = Aigstat (string_bytes input)
+
+-- ---- parts by name
+
+abbrev pub change_in : List ℕ → List ℕ → List Row → Option Command
+change_in input output rows = reshaped input output (first_of (codes "copy") rows) (first_of (codes "unfold") rows)

@@ -48,13 +48,10 @@ abbrev pub with_rules : App → List Argument → App
 with_rules a [] = a
 with_rules a (x ∷ xs) = with_rules (with_rule a (rule x)) xs
 
-abbrev pub form_shape : List ℕ × List Argument → Shape
-form_shape f = (with_rules (new_app f.0) f.1).top
-
 -- a command of `clap` with these subcommands added, in order
 abbrev pub with_forms : App → List (List ℕ × List Argument) → App
 with_forms a [] = a
-with_forms a (f ∷ fs) = with_forms (with_subcommand a (form_shape f)) fs
+with_forms a (f ∷ fs) = with_forms (with_subcommand a (with_rules (new_app f.0) f.1).top) fs
 
 -- the program as a command of `clap` that requires a subcommand
 abbrev pub bare : App
@@ -73,3 +70,8 @@ shown_argument (code_of.Rest id) = Rest id.now
 
 abbrev pub shown_form : code_form.Form → List ℕ × List Argument
 shown_form f = (f.word.now, map shown_argument f.arguments.now)
+
+-- ---- parts by name
+
+abbrev pub form_shape : List ℕ × List Argument → Shape
+form_shape f = (with_rules (new_app f.0) f.1).top

@@ -1,7 +1,7 @@
 -- The task of a command: which files it reads and writes, which contents it refuses, and what it gives for the others.
-use Rattle.std.specs.Prelude.{◌≡◌, ℕ, ◌≤◌, List, [], ◌∷◌, ◌++◌, length, Option, Some, None, IfSome, IsSomeAnd, Bool, true, if◌then◌else◌}
-use Rattle.safl_io.specs.Shelf.{Files, ShelfState, file_of, UsesNoStray}
-use Rattle.safl_io.specs.Reading.{HasFile}
+use Rattle.std.specs.Prelude.{◌≡◌, ℕ, ◌≤◌, List, [], ◌∷◌, ◌++◌, length, Option, Some, None, IfSome, IsSomeAnd, Bool, true, if◌then◌else◌, OnSome}
+use Rattle.std.specs.List.{AllByRecursion}
+use Rattle.safl_io.specs.Shelf.{Files, ShelfState, file_of}
 use Rattle.safl_task.specs.declared.status.Status.{Status}
 use Rattle.safl_task.specs.declared.status.Status.TheVariants as status
 
@@ -47,22 +47,17 @@ files_of _ _ = []
 
 -- if the shelf tells what it holds, it has a file with this name, whose bytes have property P
 abbrev pub OfFile : Option Files → List ℕ → (List ℕ → Type 0) → Type 0
-OfFile None name P = Unit {0}
-OfFile (Some files) name P = IsSomeAnd (file_of files name) P
+OfFile holds name P = IfSome holds (λ (files : Files). IsSomeAnd (file_of files name) P)
 
--- if the shelf tells what it holds, it has a file for each input
-abbrev pub HoldsInputs : Option Files → List Input → Type 0
-HoldsInputs holds [] = Unit {0}
-HoldsInputs holds (i ∷ is) = OfFile holds i.name (λ bytes. Unit {0}) × HoldsInputs holds is
-
--- no stray name was used, if the shelf had all input files
+-- no stray name was used, if the shelf tells what it holds and had all input files
 abbrev pub SameStraysWith : List Input → ShelfState → ShelfState → Type 0
-SameStraysWith inputs old new = HoldsInputs old.holds inputs → UsesNoStray old new
+SameStraysWith inputs old new =
+    AllByRecursion (λ (i : Input). OfFile old.holds i.name (λ bytes. Unit {0})) inputs → OnSome old.holds (new.strays ≡ old.strays)
 
 -- the contents are within the limits of the inputs. If the shelf tells what it holds, they are those of its files
 abbrev pub AreContents : Option Files → List Input → List (List ℕ) → Type 0
 AreContents holds [] [] = Unit {0}
-AreContents holds (i ∷ is) (c ∷ cs) = (length c ≤ i.limit) × IfSome holds (HasFile i.name c) × AreContents holds is cs
+AreContents holds (i ∷ is) (c ∷ cs) = (length c ≤ i.limit) × IfSome holds (λ (files : Files). file_of files i.name ≡ Some c) × AreContents holds is cs
 AreContents holds _ _ = ⊥
 
 -- the input files have contents with property P
@@ -116,3 +111,8 @@ making Refuses Gives Promise = record {
   Gives = λ files g. Gives g;
   Promises = λ files. Promise;
 }
+
+-- ---- parts by name
+
+abbrev pub HoldsInputs : Option Files → List Input → Type 0
+HoldsInputs holds is = AllByRecursion (λ (i : Input). OfFile holds i.name (λ bytes. Unit {0})) is

@@ -24,7 +24,7 @@ pub record World (P : Type 0) : Type 0 where
   pub states : List ProbeState
 
 abbrev pub world : {P : Type 0} → ShelfState → SinkState → (P → ProbeState) → List P → World P
-world shelf out tell probes = record { outside = outside shelf out; probes = probes; states = map tell probes }
+world shelf out tell probes = record { outside = record { shelf = shelf; out = out }; probes = probes; states = map tell probes }
 
 -- ---- a command
 
