@@ -30,13 +30,10 @@ pub record Converses (source script : List ℕ) (limit : ℕ) (calls : List (Lis
   pub read : IsScript (program.params program.main) script calls
   pub serves : Serves program names net limit (reset_state net) calls replies
 
--- a session gives the transcript of the replies. It is a result if each call has its reply
-abbrev pub told : ℕ → List (List Word) → List Reply → Given
-told limit calls replies = only_prints (length replies == length calls) (transcript limit (length calls) replies)
-
--- what a session of the source gives for a script
+-- what a session of the source gives for a script: the transcript of the replies, which is a result if each call has its reply
 abbrev pub GivesReplies : ℕ → List ℕ → List ℕ → Given → Type 0
-GivesReplies limit source script g = (calls : List (List Word)) × (replies : List Reply) × Converses source script limit calls replies × (g ≡ told limit calls replies)
+GivesReplies limit source script g = (calls : List (List Word)) × (replies : List Reply) × Converses source script limit calls replies
+    × (g ≡ only_prints (length replies == length calls) (transcript limit (length calls) replies))
 
 -- the line that reports a fault of a script, for parameters of these widths
 abbrev pub script_line : List ℕ → ScriptErr → List ℕ
@@ -54,3 +51,8 @@ IsMisscripted source script line = (C : Program) × (D : Names) × (fault : Scri
 abbrev pub EvaluatesEach : List ℕ → List ℕ → ℕ → Type 0
 EvaluatesEach source script limit = (C : Program) × (D : Names) × (calls : List (List Word)) × IsSourceOf source C D
     × IsScript (C.params C.main) script calls × All (IsInTime C limit) calls
+
+-- ---- parts by name
+
+abbrev pub told : ℕ → List (List Word) → List Reply → Given
+told limit calls replies = only_prints (length replies == length calls) (transcript limit (length calls) replies)

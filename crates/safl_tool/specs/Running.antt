@@ -31,10 +31,6 @@ pub record IsRunnable (text : List ℕ) (n : Netlist) : Type 0 where
 abbrev pub RunsText : List ℕ → List (List ℕ) → ℕ → Option Done → Type 0
 RunsText text args limit answer = (n : Netlist) × IsRunnable text n × Gives n args limit answer
 
--- the arguments do not fit the inputs of the netlist of the text, and the line says why
-abbrev pub IsMisrun : List ℕ → List (List ℕ) → List ℕ → Type 0
-IsMisrun text args line = (n : Netlist) × IsRunnable text n × HaveFault (argument_widths n.signals) args line
-
 -- The Verilog file with this name reads as no netlist without a combinational loop, and the line says why: the first fault of the
 -- text, or a loop of the netlist that it reads as.
 pub data IsUnrunnable (name text line : List ℕ) : Type 0 where
@@ -44,10 +40,16 @@ pub data IsUnrunnable (name text line : List ℕ) : Type 0 where
       → line ≡ name ++ codes ": V09 combinational loop:" ++ flat_map (λ (x : List ℕ). codes " " ++ x) (map (name_at n) ws) ++ codes "\n"
       → IsUnrunnable name text line
 
--- the netlist of the text takes the arguments, and `done` is 1 in a cycle below the limit
-abbrev pub Finishes : List ℕ → List (List ℕ) → ℕ → Type 0
-Finishes text args limit = (d : Done) × RunsText text args limit (Some d)
-
 -- these are numbers of signals of the netlist
 abbrev pub AreKnown : Netlist → List ℕ → Type 0
 AreKnown n ws = (i s : ℕ) → slice_get ws i ≡ Some s → s < length n.signals
+
+-- ---- parts by name
+
+-- the arguments do not fit the inputs of the netlist of the text, and the line says why
+abbrev pub IsMisrun : List ℕ → List (List ℕ) → List ℕ → Type 0
+IsMisrun text args line = (n : Netlist) × IsRunnable text n × HaveFault (argument_widths n.signals) args line
+
+-- the netlist of the text takes the arguments, and `done` is 1 in a cycle below the limit
+abbrev pub Finishes : List ℕ → List (List ℕ) → ℕ → Type 0
+Finishes text args limit = (d : Done) × RunsText text args limit (Some d)

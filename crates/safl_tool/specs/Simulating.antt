@@ -27,23 +27,24 @@ pub record Simulates (source : List ℕ) (args : List (List ℕ)) (limit : ℕ) 
   pub outcome : IsOutcome net words limit answer
   pub value : IfSome answer (IsMainReply program words)
 
+-- the last cycle in which `done` may come is below the limit
+abbrev pub InCycles : ℕ → (C : Program) (words : List Word) (v : Word) → Main C words v → Type 0
+InCycles limit C words v d = latest C words d < limit
+
+-- the limit is at least three events for each call, less two for each tail call
+abbrev pub InEvents : ℕ → (C : Program) (words : List Word) (v : Word) → Main C words v → Type 0
+InEvents limit C words v d = 3 * main_cost C words d ≤ limit + 2 * loops C d
+
+-- the source spells a program, the arguments are read, and main gives a value for them by an evaluation that fits
+abbrev pub Evaluates : List ℕ → List (List ℕ) → ((C : Program) (words : List Word) (v : Word) → Main C words v → Type 0) → Type 0
+Evaluates source args Fits = (C : Program) × (D : Names) × IsSourceOf source C D
+    × (words : List Word) × AreArguments (C.params C.main) args words × (v : Word) × (d : Main C words v) × Fits C words v d
+
+-- ---- parts by name
+
 -- the source spells a program, and the arguments do not fit main's parameters, as the line says
 abbrev pub IsMisgiven : List ℕ → List (List ℕ) → List ℕ → Type 0
 IsMisgiven source args line = (C : Program) × (D : Names) × IsSourceOf source C D × HaveFault (C.params C.main) args line
 
--- a condition on an evaluation of main
 abbrev pub Limited : Type 1
 Limited = (C : Program) (words : List Word) (v : Word) → Main C words v → Type 0
-
--- the last cycle in which `done` may come is below the limit
-abbrev pub InCycles : ℕ → Limited
-InCycles limit C words v d = latest C words d < limit
-
--- the limit is at least three events for each call, less two for each tail call
-abbrev pub InEvents : ℕ → Limited
-InEvents limit C words v d = 3 * main_cost C words d ≤ limit + 2 * loops C d
-
--- the source spells a program, the arguments are read, and main gives a value for them by an evaluation that fits
-abbrev pub Evaluates : List ℕ → List (List ℕ) → Limited → Type 0
-Evaluates source args Fits = (C : Program) × (D : Names) × IsSourceOf source C D
-    × (words : List Word) × AreArguments (C.params C.main) args words × (v : Word) × (d : Main C words v) × Fits C words v d
