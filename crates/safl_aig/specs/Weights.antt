@@ -21,11 +21,8 @@ kind_weight n w _ = w
 abbrev pub signal_weight : Netlist → ℕ → ℕ
 signal_weight n s = kind_weight n (width_of n s) (kind_at n s)
 
-abbrev pub output_weight : Netlist → ℕ → ℕ
-output_weight n i = width_of n (output_at n i)
-
 abbrev pub weight : Netlist → ℕ
-weight n = summed (signal_weight n) (length n.signals) + summed (output_weight n) (length n.outputs)
+weight n = summed (signal_weight n) (length n.signals) + summed (λ (i : ℕ). width_of n (output_at n i)) (length n.outputs)
 
 -- the greatest weight of a net that is converted
 abbrev pub most_weight : ℕ
@@ -39,3 +36,8 @@ pub record IsLeastNonzero (n : Netlist) (s : ℕ) : Type 0 where
   pub known : s < length n.signals
   pub nonzero : reset_state n s ≢ 0
   pub least : (t : ℕ) → t < s → reset_state n t ≡ 0
+
+-- ---- parts by name
+
+abbrev pub output_weight : Netlist → ℕ → ℕ
+output_weight n i = width_of n (output_at n i)

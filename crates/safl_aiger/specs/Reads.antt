@@ -123,10 +123,6 @@ pub record NamesPlace (line : List ℕ) (old new : Named) : Type 0 where
 abbrev pub symbol_line : Sort → ℕ → List ℕ → List ℕ
 symbol_line sort k name = (letter sort ∷ decimal k) ++ 32 ∷ name
 
--- the line gives no name to anything of the circuit without a name
-abbrev pub RefusesLine : List ℕ → Named → Type 0
-RefusesLine line old = (new : Named) → ¬ (NamesPlace line old new)
-
 -- each of these lines gives a name
 abbrev pub NamePlaces : List (List ℕ) → Named → Named → Type 0
 NamePlaces [] old new = new ≡ old
@@ -186,7 +182,7 @@ LineFault most _ _ e _ = ⊥
 -- this many lines give names, and the line after them gives none and is not `c`
 abbrev pub SymbolFault : List (List ℕ) → Named → ℕ → Type 0
 SymbolFault [] old k = ⊥
-SymbolFault (l ∷ ls) old zero = (l ≢ codes "c") × RefusesLine l old
+SymbolFault (l ∷ ls) old zero = (l ≢ codes "c") × ((new : Named) → ¬ (NamesPlace l old new))
 SymbolFault (l ∷ ls) old (suc k) = (new : Named) × NamesPlace l old new × SymbolFault ls new k
 
 -- the number of the first line that breaks a rule, counted from 1, and that rule
@@ -197,3 +193,8 @@ pub data HasFault (text : List ℕ) (e : AigRule) (n : ℕ) : Type 0 where
   bad_symbol : (c : Counts) (body ls : List (List ℕ)) (nss : List (List ℕ)) (k : ℕ) → Begins text c (body ++ ls)
       → AreGood (total c) (line_kinds c) body nss → SymbolFault ls (unnamed c) k → e ≡ B04 → n ≡ 2 + length body + k
       → HasFault text e n
+
+-- ---- parts by name
+
+abbrev pub RefusesLine : List ℕ → Named → Type 0
+RefusesLine line old = (new : Named) → ¬ (NamesPlace line old new)

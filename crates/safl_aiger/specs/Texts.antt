@@ -5,11 +5,6 @@ use Rattle.safl_aiger.specs.declared.literal.Lit.{Lit}
 use Rattle.safl_aiger.specs.Circuits.{Circuit, latches, variables, base}
 use Rattle.safl_aiger.specs.Reads.{body_numbers}
 
--- the lines, each followed by a line feed
-abbrev pub joined_lines : List (List ℕ) → List ℕ
-joined_lines [] = []
-joined_lines (l ∷ ls) = (l ++ 10 ∷ []) ++ joined_lines ls
-
 -- numbers in decimal, with a space between them
 abbrev pub numbers_line : ℕ → List ℕ → List ℕ
 numbers_line n ns = decimal n ++ flat_map (λ k. 32 ∷ decimal k) ns
@@ -18,10 +13,6 @@ numbers_line n ns = decimal n ++ flat_map (λ k. 32 ∷ decimal k) ns
 abbrev pub row_line : List ℕ → List ℕ
 row_line [] = []
 row_line (n ∷ ns) = numbers_line n ns
-
--- the header: `aag`, and the numbers of variables, inputs, latches, outputs and ANDs
-abbrev pub header_line : Circuit → List ℕ
-header_line a = codes "aag " ++ numbers_line (variables a) (a.inputs ∷ latches a ∷ length a.outputs ∷ length a.ands ∷ [])
 
 -- the symbol line of something that has a name: the letter and its number, a space and the name
 abbrev pub symbol_text : ℕ → ℕ → List ℕ → List (List ℕ)
@@ -32,12 +23,13 @@ abbrev pub symbols_text : ℕ → ℕ → List (List ℕ) → List (List ℕ)
 symbols_text letter k [] = []
 symbols_text letter k (x ∷ xs) = symbol_text letter k x ++ symbols_text letter (suc k) xs
 
--- the lines of symbols
-abbrev pub symbol_lines : Circuit → List (List ℕ)
-symbol_lines a = symbols_text 105 0 a.input_names ++ (symbols_text 108 0 a.latch_names ++ symbols_text 111 0 a.output_names)
-
+-- The text has these lines, each followed by a line feed: `aag` with the numbers of variables, inputs, latches, outputs and ANDs; the
+-- rows of numbers of these; and the symbols of those that have names.
 abbrev pub written : Circuit → List ℕ
-written a = joined_lines (header_line a ∷ (map row_line (body_numbers a) ++ symbol_lines a))
+written a =
+    flat_map (λ (l : List ℕ). l ++ 10 ∷ [])
+    ((codes "aag " ++ numbers_line (variables a) (a.inputs ∷ latches a ∷ length a.outputs ∷ length a.ands ∷ [])) ∷ (map row_line (body_numbers a)
+    ++ (symbols_text 105 0 a.input_names ++ (symbols_text 108 0 a.latch_names ++ symbols_text 111 0 a.output_names))))
 
 -- ---- the lines of each section
 
@@ -62,3 +54,14 @@ and_text first (p ∷ ps) = numbers_line (2 * first) (p.0.0 ∷ p.1.0 ∷ []) �
 -- the lines between the header and the symbols
 abbrev pub body_text : Circuit → List (List ℕ)
 body_text a = input_text 1 a.inputs ++ (latch_text (1 + a.inputs) a.nexts ++ (output_text a.outputs ++ and_text (base a) a.ands))
+
+-- ---- parts by name
+
+abbrev pub joined_lines : List (List ℕ) → List ℕ
+joined_lines ls = flat_map (λ (l : List ℕ). l ++ 10 ∷ []) ls
+
+abbrev pub header_line : Circuit → List ℕ
+header_line a = codes "aag " ++ numbers_line (variables a) (a.inputs ∷ latches a ∷ length a.outputs ∷ length a.ands ∷ [])
+
+abbrev pub symbol_lines : Circuit → List (List ℕ)
+symbol_lines a = symbols_text 105 0 a.input_names ++ (symbols_text 108 0 a.latch_names ++ symbols_text 111 0 a.output_names)

@@ -1,20 +1,15 @@
 -- Scripts: a call on each line.
 use Rattle.std.specs.Prelude.{◌≡◌, ℕ, zero, suc, ◌+◌, ◌⊎◌, List, [], ◌∷◌, ◌++◌, length, take, drop}
+use Rattle.std.specs.List.{AllZip}
 use Rattle.safl_word.specs.Words.{Word}
 use Rattle.safl_session.specs.declared.script.ScriptErr.{ScriptErr}
 use Rattle.safl_session.specs.declared.script.ScriptErr.TheVariants as errors
 use Rattle.safl_session.specs.Pieces.{HasLines}
 use Rattle.safl_session.specs.Lines.{IsCall, HasFault}
 
--- each line has the arguments of a call
-abbrev pub AreCalls : List ℕ → List (List ℕ) → List (List Word) → Type 0
-AreCalls widths [] [] = Unit {0}
-AreCalls widths (line ∷ lines) (args ∷ calls) = IsCall widths line args × AreCalls widths lines calls
-AreCalls widths _ _ = ⊥
-
--- the lines of the text are these calls
+-- the lines of the text have the arguments of these calls, one by one
 abbrev pub IsScript : List ℕ → List ℕ → List (List Word) → Type 0
-IsScript widths text calls = (lines : List (List ℕ)) × HasLines text lines × AreCalls widths lines calls
+IsScript widths text calls = (lines : List (List ℕ)) × HasLines text lines × AllZip (IsCall widths) lines calls
 
 -- the fault of the first line that is no call
 pub record IsScriptFault (widths text : List ℕ) (e : ScriptErr) : Type 0 where
@@ -23,7 +18,7 @@ pub record IsScriptFault (widths text : List ℕ) (e : ScriptErr) : Type 0 where
   pub after : List (List ℕ)
   pub lines : HasLines text (before ++ line ∷ after)
   pub calls : List (List Word)
-  pub good : AreCalls widths before calls
+  pub good : AllZip (IsCall widths) before calls
   pub fault : HasFault widths line (length before + 1) e
 
 -- the error is the fault of the script, or out of memory
@@ -34,3 +29,8 @@ RefusesScript widths text e = (e ≡ errors.NoMemory) ⊎ IsScriptFault widths t
 abbrev pub calls_of : ℕ → ℕ → List Word → List (List Word)
 calls_of zero arity words = []
 calls_of (suc count) arity words = take arity words ∷ calls_of count arity (drop arity words)
+
+-- ---- parts by name
+
+abbrev pub AreCalls : List ℕ → List (List ℕ) → List (List Word) → Type 0
+AreCalls widths lines calls = AllZip (IsCall widths) lines calls

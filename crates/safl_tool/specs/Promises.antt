@@ -1,6 +1,6 @@
 -- What `check`, `sim`, `session` and `aig` come to, said of words, files, what is printed and the status alone.
 use Rattle.std.specs.Prelude.{◌≡◌, ℕ, List, [], ◌∷◌, ◌++◌, length, map, true, codes, string_bytes}
-use Rattle.std.specs.List.{flat_map}
+use Rattle.std.specs.List.{flat_map, AllZip}
 use Rattle.std.specs.declared.string.String.{String}
 use Rattle.std.specs.declared.alloc.Global.{Global}
 use Rattle.safl_word.specs.Words.{Word}
@@ -62,16 +62,11 @@ Simulates words shelf s out o o' status =
 
 -- ---- `session IN SCRIPT --cycles L`
 
--- each call has its reply, and this is main's value and the cycle in which it came
-abbrev pub EachReply : Program → List (List Word) → List Reply → Type 0
-EachReply C [] [] = Unit {0}
-EachReply C (args ∷ calls) (r ∷ rs) = IsMainReply C args r × EachReply C calls rs
-EachReply C _ _ = ⊥
-
--- the source is that of a program, the script has these calls of main, and the text has a line for the reply to each
+-- The source is that of a program, the script has these calls of main, and the text has a line for the reply to each, which is main's
+-- value and the cycle in which it came.
 abbrev pub IsSession : List ℕ → List ℕ → List ℕ → Type 0
 IsSession source script text = (C : Program) × (D : Names) × (calls : List (List Word)) × (replies : List Reply) × IsSourceOf source C D
-    × IsScript (C.params C.main) script calls × EachReply C calls replies × (text ≡ flat_map reply_line replies ++ calls_line (length calls))
+    × IsScript (C.params C.main) script calls × AllZip (IsMainReply C) calls replies × (text ≡ flat_map reply_line replies ++ calls_line (length calls))
 
 abbrev pub Converses : {S O : Type 0} → List (String Global) → (S → ShelfState) → S → (O → SinkState) → O → O → Status → Type 0
 Converses words shelf s out o o' status =
@@ -85,3 +80,8 @@ abbrev pub Converts : {S : Type 0} → List (String Global) → (S → ShelfStat
 Converts words shelf s s' status =
     (input output : List ℕ) → IsName input × IsName output × Say (codes "aig") (input ∷ output ∷ []) [] (map string_bytes words) → status ≡ Ok
     → TellsOn (Turns IsConverted input output) (shelf s).holds (shelf s').holds
+
+-- ---- parts by name
+
+abbrev pub EachReply : Program → List (List Word) → List Reply → Type 0
+EachReply C calls rs = AllZip (IsMainReply C) calls rs
