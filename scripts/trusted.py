@@ -86,14 +86,15 @@ class File:
             self.fields.add(name)
 
     def words(self, item, others):
-        """The words of an item, without the tasks of other commands."""
+        """The words of an item, without the names that it gives to its fields, and without the tasks of other commands."""
         found, is_other = set(), False
         for line in self.lines[self.items[item].first:self.items[item].end]:
             if not line.startswith(" "):
                 task = TASK.match(line)
                 is_other = task is not None and task[1] in others
             if not is_other:
-                found.update(WORD.findall(COMMENT.sub("", line)))
+                field = self.items[item].is_record and MEMBER.match(line)
+                found.update(WORD.findall(COMMENT.sub("", line[field.end(2):] if field else line)))
         return found
 
     def size(self, items):
