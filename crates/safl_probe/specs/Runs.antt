@@ -39,7 +39,7 @@ trace_at n vs ps i = trace (probe_at ps i).kind n (until_done n vs)
 
 -- each asked probe was begun on the net and shown these cycles, and no others
 abbrev pub AreShown : Netlist → List Valuation → Asked → List ProbeState → List ProbeState → Type 0
-AreShown n frames names ps qs = (i : ℕ) (name : List ℕ) → IsAsked names i name → Tells (after_frames frames (begun n (probe_at ps i))) (probe_at qs i)
+AreShown n frames names ps qs = (i : ℕ) (name : List ℕ) → IsAsked names i name → probe_at qs i ≡ after_frames frames (begun n (probe_at ps i))
 
 -- of a run of so many cycles each asked probe was shown those up to the first with `done` at 1
 abbrev pub RunIsShown : {P : Type 0} → Netlist → List Word → ℕ → FileNames → (P → ProbeState) → List P → List P → Type 0

@@ -33,19 +33,16 @@ belongs StartWires Wire name = starts_with nat_eq name (codes "go$")
 belongs _ _ name = false
 
 -- the signals of a group. The first signal has the number i
-abbrev pub one_watched : Group → Signal → ℕ → List Watched
-one_watched group g i = cond (belongs group (sort_of g.kind) g.name) (record { name = g.name; signal = i; width = g.width } ∷ []) []
-
 abbrev pub group_from : Group → List Signal → ℕ → List Watched
 group_from group [] i = []
-group_from group (g ∷ gs) i = one_watched group g i ++ group_from group gs (suc i)
-
-abbrev pub output_watched : Netlist → List ℕ × ℕ → Watched
-output_watched n o = record { name = o.0; signal = o.1; width = width_of n o.1 }
+group_from group (g ∷ gs) i =
+    cond (belongs group (sort_of g.kind) g.name) (record { name = g.name; signal = i; width = g.width } ∷ []) [] ++ group_from group gs (suc i)
 
 -- what a probe of each kind watches: for VCD the inputs, the registers, the named wires and the outputs, each in order
 abbrev pub watched_by : TraceKind → Netlist → List Watched
-watched_by Vcd n = group_from Inputs n.signals 0 ++ group_from Registers n.signals 0 ++ group_from NamedWires n.signals 0 ++ map (output_watched n) n.outputs
+watched_by Vcd n =
+    group_from Inputs n.signals 0 ++ group_from Registers n.signals 0 ++ group_from NamedWires n.signals 0
+    ++ map (λ (o : List ℕ × ℕ). record { name = o.0; signal = o.1; width = width_of n o.1 }) n.outputs
 watched_by Starts n = group_from StartWires n.signals 0
 watched_by Toggles n = group_from Registers n.signals 0
 watched_by Silent n = []
@@ -69,3 +66,11 @@ shown_frame words = map (λ (w : Word). w.bits) words
 -- the numbers of the watched signals in a frame, which has a number for each signal of the net
 abbrev pub seen : List Watched → Valuation → List ℕ
 seen ws frame = map (λ (w : Watched). slice_index frame w.signal) ws
+
+-- ---- parts by name
+
+abbrev pub one_watched : Group → Signal → ℕ → List Watched
+one_watched group g i = cond (belongs group (sort_of g.kind) g.name) (record { name = g.name; signal = i; width = g.width } ∷ []) []
+
+abbrev pub output_watched : Netlist → List ℕ × ℕ → Watched
+output_watched n o = record { name = o.0; signal = o.1; width = width_of n o.1 }

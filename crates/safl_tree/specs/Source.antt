@@ -1,7 +1,9 @@
 -- Which program a source spells, and its first fault.
 use Rattle.std.specs.Prelude.{◌≡◌, ℕ, List, [], ◌∷◌, length}
+use Rattle.std.specs.Option.{option_map_or}
 use Rattle.safl_grammar.specs.Syntax.{Deep, Unexpected, Range}
 use Rattle.safl_grammar.specs.Syntax
+use Rattle.safl_grammar.specs.Reading.{head_of}
 use Rattle.safl_grammar.specs.Text.{Spells, Faults}
 use Rattle.safl_word.specs.declared.token.Token.{Token}
 use Rattle.safl_word.specs.declared.fault.Rule.{Rule}
@@ -22,20 +24,15 @@ rule_of Deep = rules.E04
 rule_of Unexpected = rules.E02
 rule_of Range = rules.E05
 
--- the place of the first token that is left, or the end of the text
-abbrev pub place_in : List ℕ → List Terminal → ℕ
-place_in text [] = length text
-place_in text (t ∷ rest) = t.place
-
 abbrev pub fault_at : Rule → ℕ → Fault
 fault_at e place = record { rule = e; place = place; first = 0; second = 0 }
 
--- the first fault of the tokens of a text: at the first token that breaks a rule, E04 before E02 before E05
+-- the first fault of the tokens of a text: at the first token that breaks a rule, or at the end, and E04 before E02 before E05
 pub record TokensFault (text : List ℕ) (ts : List Token) (f : Fault) : Type 0 where
   pub rule : Syntax.Rule
   pub rest : List Terminal
   pub breaks : Faults source (terminals text ts) rule rest
-  pub is : f ≡ fault_at (rule_of rule) (place_in text rest)
+  pub is : f ≡ fault_at (rule_of rule) (option_map_or (λ (t : Terminal). t.place) (head_of rest) (length text))
 
 -- the source spells this program
 pub record SpellsProgram (text : List ℕ) (p : List Definition) : Type 0 where
@@ -47,3 +44,8 @@ pub record SpellsProgram (text : List ℕ) (p : List Definition) : Type 0 where
 pub data SyntaxFault (text : List ℕ) (f : Fault) : Type 0 where
   lexical : (e : Rule) (place : ℕ) → HasLexicalFault text e place → f ≡ fault_at e place → SyntaxFault text f
   of_tokens : (ts : List Token) → HasTokens text ts → TokensFault text ts f → SyntaxFault text f
+
+-- ---- parts by name
+
+abbrev pub place_in : List ℕ → List Terminal → ℕ
+place_in text ts = option_map_or (λ (t : Terminal). t.place) (head_of ts) (length text)

@@ -23,7 +23,7 @@ innermost x i (v ∷ vs) = option_or (innermost x (suc i) vs) (if bytes_eq v.nam
 
 -- no name is twice in the list
 abbrev pub Differ : List (List ℕ) → Type 0
-Differ names = (i j : ℕ) (name : List ℕ) → slice_get names i ≡ Some name → slice_get names j ≡ Some name → i ≡ j
+Differ list = (i j : ℕ) (name : List ℕ) → slice_get list i ≡ Some name → slice_get list j ≡ Some name → i ≡ j
 
 -- the slots of bindings with these widths
 abbrev pub slots : Bindings → List ℕ → List Slot

@@ -1,5 +1,6 @@
 -- The netlist that a file reads as.
 use Rattle.std.specs.Prelude.{ℕ, suc, List, [], ◌∷◌, ◌++◌, map, filter, Option, None, Some, if◌then◌else◌, option_map}
+use Rattle.std.specs.Option.{option_map_or}
 use Rattle.std.specs.Str.{bytes_eq}
 use Rattle.safl_net.specs.Netlist.{Netlist, Signal, Kind, Input, Reg, Wire, Cell}
 use Rattle.safl_verilog.specs.declared.token.Sort.{Sort}
@@ -22,36 +23,38 @@ number_of ds name = place_of (signals_of ds) name
 abbrev pub cell_of : List Declaration → Expression → Cell
 cell_of ds e = record { op = operation e; operands = map (λ (a : Spot). number_of ds a.bytes) (operands e) }
 
-abbrev pub register_of : List Declaration → Option (Spot × Spot) → Kind
-register_of ds None = Reg 0 None
-register_of ds (Some u) = Reg (literal_value u.0.bytes) (Some (number_of ds u.1.bytes))
-
 -- the kind of a signal. An input is free, a register has the number and the next signal of its update, and a wire has what it is
 -- assigned
 abbrev pub kind_of : File → Sort → List ℕ → Kind
-kind_of f sorts.Input name = Input
-kind_of f sorts.Output name = Input
-kind_of f sorts.Reg name = register_of f.declarations (updated f.statements name)
+kind_of f sorts.Reg name =
+    option_map_or (λ (u : Spot × Spot). Reg (literal_value u.0.bytes) (Some (number_of f.declarations u.1.bytes))) (updated f.statements name) (Reg 0 None)
 kind_of f sorts.Wire name = Wire (option_map (λ (e : Expression). cell_of f.declarations e) (assigned f.statements name))
-
-abbrev pub signal_of : File → Declaration → Signal
-signal_of f d = record { name = d.name.bytes; width = range_width d.range; kind = kind_of f d.sort d.name.bytes }
+kind_of f _ name = Input
 
 -- the number of the signal that an output shows: that with the name that it is assigned
 abbrev pub shown_signal : List Declaration → Option Expression → ℕ
 shown_signal ds (Some (Plain a)) = number_of ds a.bytes
 shown_signal ds _ = 0
 
-abbrev pub output_of : File → Declaration → List ℕ × ℕ
-output_of f d = (d.name.bytes, shown_signal f.declarations (assigned f.statements d.name.bytes))
-
 unfoldable pub netlist : File → Netlist
 netlist f = record {
-  signals = map (signal_of f) (signals_of f.declarations);
-  outputs = map (output_of f) (filter (λ (d : Declaration). is_output d.sort) f.declarations);
+  signals =
+      map (λ (d : Declaration). record { name = d.name.bytes; width = range_width d.range; kind = kind_of f d.sort d.name.bytes }) (signals_of f.declarations);
+  outputs =
+      map (λ (d : Declaration). (d.name.bytes, shown_signal f.declarations (assigned f.statements d.name.bytes)))
+      (filter (λ (d : Declaration). is_output d.sort) f.declarations);
 }
 
 -- ---- parts by name
 
 abbrev pub driven : List Declaration → Option Expression → Option Cell
 driven ds o = option_map (λ (e : Expression). cell_of ds e) o
+
+abbrev pub register_of : List Declaration → Option (Spot × Spot) → Kind
+register_of ds o = option_map_or (λ (u : Spot × Spot). Reg (literal_value u.0.bytes) (Some (number_of ds u.1.bytes))) o (Reg 0 None)
+
+abbrev pub signal_of : File → Declaration → Signal
+signal_of f d = record { name = d.name.bytes; width = range_width d.range; kind = kind_of f d.sort d.name.bytes }
+
+abbrev pub output_of : File → Declaration → List ℕ × ℕ
+output_of f d = (d.name.bytes, shown_signal f.declarations (assigned f.statements d.name.bytes))

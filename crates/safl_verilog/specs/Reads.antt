@@ -1,5 +1,7 @@
 -- Which netlist a Verilog file reads as, and its first fault.
 use Rattle.std.specs.Prelude.{◌≡◌, ℕ, List, [], ◌∷◌, length}
+use Rattle.std.specs.Option.{option_map_or}
+use Rattle.safl_grammar.specs.Reading.{head_of}
 use Rattle.safl_grammar.specs.Syntax.{Rule}
 use Rattle.safl_grammar.specs.Text.{Spells, Faults}
 use Rattle.safl_net.specs.Netlist.{Netlist}
@@ -19,10 +21,6 @@ IsFile ts f = Spells (λ n. file) ts f
 abbrev pub HasUnexpected : List Terminal → Rule → List Terminal → Type 0
 HasUnexpected ts e rest = Faults (λ n. file) ts e rest
 
-abbrev pub place_in : List ℕ → List Terminal → ℕ
-place_in text [] = length text
-place_in text (t ∷ rest) = t.place
-
 -- the text is a file of the grammar that breaks no rule, and this is its netlist
 pub record Reads (text : List ℕ) (n : Netlist) : Type 0 where
   pub tokens : List Terminal
@@ -35,5 +33,10 @@ pub record Reads (text : List ℕ) (n : Netlist) : Type 0 where
 -- the first fault of the bytes; if there is none, of the tokens; if there is none, of the file
 pub data HasFault (text : List ℕ) (f : VFault) : Type 0 where
   lexical : (place : ℕ) → HasLexicalFault text place → f ≡ at rules.V01 place → HasFault text f
-  unexpected : (ts rest : List Terminal) (e : Rule) → HasTokens text ts → HasUnexpected ts e rest → f ≡ at rules.V02 (place_in text rest) → HasFault text f
+  unexpected : (ts rest : List Terminal) (e : Rule) → HasTokens text ts → HasUnexpected ts e rest → f ≡ at rules.V02 (option_map_or (λ (t : Terminal). t.place) (head_of rest) (length text)) → HasFault text f
   broken : (ts : List Terminal) (x : File) (more : List VFault) → HasTokens text ts → IsFile ts x → faults x ≡ f ∷ more → HasFault text f
+
+-- ---- parts by name
+
+abbrev pub place_in : List ℕ → List Terminal → ℕ
+place_in text ts = option_map_or (λ (t : Terminal). t.place) (head_of ts) (length text)

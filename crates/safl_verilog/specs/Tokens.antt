@@ -1,5 +1,5 @@
 -- The tokens of a Verilog file: how its bytes are cut into tokens, and the first place where they cannot be.
-use Rattle.std.specs.Prelude.{◌≡◌, ◌≢◌, ℕ, ◌+◌, ◌≤◌, List, [], ◌∷◌, ◌++◌, length, Bool, true, false, not, ◌==◌, ◌&&◌, ◌||◌, Option, None, Some, if◌then◌else◌, codes}
+use Rattle.std.specs.Prelude.{◌≡◌, ◌≢◌, ℕ, ◌+◌, ◌≤◌, List, [], ◌∷◌, ◌++◌, length, Bool, true, false, not, ◌==◌, ◌&&◌, ◌||◌, Option, None, Some, if◌then◌else◌, codes, option_and_then}
 use Rattle.std.specs.List.{list_all, flat_map}
 use Rattle.safl_word.specs.Cutting
 use Rattle.safl_word.specs.Numerals.{is_digit, IsNumeral}
@@ -61,12 +61,8 @@ stops p [] = true
 stops p (c ∷ rest) = not (p c)
 
 -- the base, if a `'`, the letter of the base and a digit of it come next
-abbrev pub base_with : Option ℕ → ℕ → Option ℕ
-base_with None d = None
-base_with (Some base) d = if is_digit base d then Some base else None
-
 abbrev pub next_base : List ℕ → Option ℕ
-next_base (q ∷ (b ∷ (d ∷ rest))) = if q == 39 then base_with (base_of b) d else None
+next_base (q ∷ (b ∷ (d ∷ rest))) = if q == 39 then option_and_then (λ (base : ℕ). if is_digit base d then Some base else None) (base_of b) else None
 next_base _ = None
 
 -- a letter or `_`, and then letters, digits, `_` and `$`; short enough, and no keyword
@@ -144,3 +140,8 @@ StandAll xs rest = Cutting.StandAll text_of StandsBefore token_at xs rest
 
 abbrev pub tokens_from : ℕ → List Piece → List Terminal
 tokens_from p xs = Cutting.tokens_from text_of StandsBefore token_at p xs
+
+-- ---- parts by name
+
+abbrev pub base_with : Option ℕ → ℕ → Option ℕ
+base_with o d = option_and_then (λ (base : ℕ). if is_digit base d then Some base else None) o
