@@ -1,9 +1,7 @@
 -- The text of a generated source.
 use Rattle.std.specs.Prelude.{ℕ, zero, suc, ◌+◌, ◌-◌, ◌*◌, ◌%◌, ◌++◌, List, map, codes, decimal, nat_lt, if◌then◌else◌}
 use Rattle.std.specs.List.{concat, range_with_len}
-
-abbrev pub Text : Type 0
-Text = List ℕ
+pub use Rattle.safl_word.specs.Lists.{Text}
 
 -- the bodies of the first four functions, with a constant k. Function i calls at most itself
 abbrev pub first_body : ℕ → ℕ → ℕ → Text

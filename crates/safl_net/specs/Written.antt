@@ -10,9 +10,7 @@ use Rattle.safl_net.specs.declared.cell.Op.{Op}
 use Rattle.safl_net.specs.declared.cell.Op.TheVariants.{Const, Copy, Mux, Apply}
 use Rattle.safl_net.specs.Netlist.{Netlist, Signal, Kind, Input, Reg, Wire, width_of}
 use Rattle.safl_net.specs.Making.{name_at}
-
-abbrev pub Text : Type 0
-Text = List ℕ
+pub use Rattle.safl_word.specs.Lists.{Text}
 
 -- a sized number: its width, 'd, and its decimal digits
 abbrev pub literal : ℕ → ℕ → Text

@@ -8,9 +8,7 @@ use Rattle.safl_net.specs.Valuations.{Valuation}
 use Rattle.safl_probe.specs.Watching.{Watched, kind_of, watched_by, seen}
 use Rattle.safl_probe.specs.declared.kind.TraceKind.{TraceKind}
 use Rattle.safl_probe.specs.declared.kind.TraceKind.TheVariants.{Vcd, Starts, Toggles, Silent}
-
-abbrev pub Text : Type 0
-Text = List ℕ
+pub use Rattle.safl_word.specs.Lists.{Text}
 
 -- ---- VCD
 

@@ -5,9 +5,7 @@ use Rattle.safl_term.specs.Names.{Names}
 use Rattle.safl_term.specs.Program.{Program}
 use Rattle.safl_sites.specs.Plan.{IsPlan}
 use Rattle.safl_net.specs.Netlist.{Netlist, Signal, is_register}
-
-abbrev pub Text : Type 0
-Text = List ℕ
+pub use Rattle.safl_word.specs.Lists.{Text}
 
 abbrev pub answer : Bool → Text
 answer true = codes "yes"

@@ -1,5 +1,9 @@
--- Lists of booleans, and sums.
+-- Texts, lists of booleans, and sums.
 use Rattle.std.specs.Prelude.{ℕ, zero, suc, ◌+◌, List, get_or, Bool, false}
+
+-- the bytes of a text
+abbrev pub Text : Type 0
+Text = List ℕ
 
 -- the i-th of a list, or false
 abbrev pub bool_at : List Bool → ℕ → Bool
