@@ -1,9 +1,9 @@
 -- How registers show the state of the machine, cycle by cycle. Each cycle is a list of events.
-use Rattle.std.specs.Prelude.{◌≡◌, ℕ, zero, suc, ◌<◌, ◌++◌, List, [], Bool, true, false, ◌==◌}
+use Rattle.std.specs.Prelude.{◌≡◌, ℕ, zero, suc, ◌<◌, ◌++◌, List, [], Bool, true, false, ◌==◌, not, is_some}
 use Rattle.safl_sites.specs.Plan.{Choice}
 use Rattle.safl_circuit.specs.Equations.{Registers, Inputs, many, next, cycle_events}
-use Rattle.safl_calls.specs.Machine.{State, Mode, Runs, Delivers, Event, opening, Legal, after, last_word}
-use Rattle.safl_term.specs.Readiness.{Stage, Unsent, Returned}
+use Rattle.safl_calls.specs.Machine.{State, Mode, Runs, Delivers, Event, opening, Legal, after, last_word, is_unsent}
+use Rattle.safl_term.specs.Readiness.{Stage, Unsent, Returned, back_word}
 use Rattle.safl_term.specs.Program.{Program}
 use Rattle.safl_word.specs.Words.{Word}
 
@@ -15,15 +15,6 @@ abbrev pub is_delivering : Mode → Bool
 is_delivering (Delivers k v) = true
 is_delivering _ = false
 
--- the site was sent, and may have returned
-abbrev pub was_sent : Stage → Bool
-was_sent Unsent = false
-was_sent _ = true
-
-abbrev pub is_returned : Stage → Bool
-is_returned (Returned v) = true
-is_returned _ = false
-
 -- The registers show the state. run is 1 exactly for running units, and fin exactly for delivering ones, whose res holds the
 -- word. In a running unit with several functions, at is 1 exactly for the one that runs, and its arguments are in its registers.
 -- sent is 0 exactly for unsent sites, and got is 1 exactly for those that have returned; if such a site is kept, keep holds its
@@ -34,8 +25,8 @@ pub record Shows (C : Program) (P : Choice) (s : State) (r : Registers) : Type 0
   pub res : (u k : ℕ) (v : Word) → s.unit u ≡ Delivers k v → r.res u ≡ v
   pub at : (u f k : ℕ) (ws : List Word) → s.unit u ≡ Runs f k ws → (g : ℕ) → g < C.functions → C.unit g ≡ u → many C g ≡ true → r.at g ≡ (f == g)
   pub arg : (u f k : ℕ) (ws : List Word) → s.unit u ≡ Runs f k ws → r.arg f ≡ ws
-  pub sent : (k : ℕ) → 0 < k → r.sent k ≡ was_sent (s.site k)
-  pub got : (k : ℕ) → 0 < k → r.got k ≡ is_returned (s.site k)
+  pub sent : (k : ℕ) → 0 < k → r.sent k ≡ not (is_unsent (s.site k))
+  pub got : (k : ℕ) → 0 < k → r.got k ≡ is_some (back_word (s.site k))
   pub keep : (k : ℕ) (v : Word) → 0 < k → P.kept k ≡ true → s.site k ≡ Returned v → r.keep k ≡ v
   pub others : (k : ℕ) → 0 < k → ((j : ℕ) (args : List Word) → s.unit (C.unit (C.caller k)) ≡ Runs (C.caller k) j args → ⊥)
       → (r.sent k ≡ false) × (r.got k ≡ false)
@@ -68,3 +59,12 @@ pub record StepsAt (C : Program) (P : Choice) (r0 : Registers) (args : List Word
   pub legal : Legal C args opening (history C P r0 args later c)
   pub shows : Shows C P (after C args opening (history C P r0 args later c)) (registers_at C P r0 args later c)
   pub res : (u : ℕ) → (registers_at C P r0 args later c).res u ≡ last_word C args opening (history C P r0 args later c) u (r0.res u)
+
+-- ---- parts by name
+
+-- the site was sent, and may have returned
+abbrev pub was_sent : Stage → Bool
+was_sent x = not (is_unsent x)
+
+abbrev pub is_returned : Stage → Bool
+is_returned x = is_some (back_word x)

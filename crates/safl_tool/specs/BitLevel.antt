@@ -1,13 +1,15 @@
 -- Bit-level circuits of netlists in Verilog files, and of AIGER files.
-use Rattle.std.specs.Prelude.{◌≡◌, ℕ, ◌<◌, ◌⊎◌, List, true}
+use Rattle.std.specs.Prelude.{◌≡◌, ℕ, ◌<◌, ◌⊎◌, List, true, ◌++◌, codes}
+use Rattle.std.specs.Fmt.{decimal}
 use Rattle.safl_net.specs.Netlist.{Netlist}
 use Rattle.safl_net.specs.Making.{name_at}
 use Rattle.safl_aiger.specs.Circuits.{Circuit}
+use Rattle.safl_aiger.specs.Rules.{rule_text}
 use Rattle.safl_aiger.specs.Reads.{AigReads, HasFault}
 use Rattle.safl_aiger.specs.declared.reading.AigRule.{AigRule}
 use Rattle.safl_aig.specs.Weights.{weight, most_weight, AllZero, IsLeastNonzero}
 use Rattle.safl_aig.specs.BitLevel.{IsLight, IsTextOf}
-use Rattle.safl_aig.specs.Lines.{counts_lines, fault_line, register_line, weight_line}
+use Rattle.safl_aig.specs.Lines.{counts_lines}
 use Rattle.safl_tool.specs.Running.{IsRunnable, IsUnrunnable}
 use Rattle.safl_task.specs.Tasks.{Given, only_prints, only_writes}
 use Rattle.safl_task.specs.declared.status.Status.{Status}
@@ -25,8 +27,10 @@ GivesBits verilog g = (text : List ℕ) × IsConverted verilog text × (g ≡ on
 
 -- the line names the first register that does not reset to 0; or, if all do, it says that the weight is too great
 pub data RefusesNetlist (n : Netlist) (s : Status) (line : List ℕ) : Type 0 where
-  nonzero : (r : ℕ) → IsLeastNonzero n r → s ≡ status.NotZero → line ≡ register_line (name_at n r) → RefusesNetlist n s line
-  heavy : AllZero n → most_weight < weight n → s ≡ status.CircuitTooLarge → line ≡ weight_line (weight n) → RefusesNetlist n s line
+  nonzero : (r : ℕ) → IsLeastNonzero n r → s ≡ status.NotZero → line ≡ codes "register " ++ name_at n r ++ codes " does not reset to 0\n"
+      → RefusesNetlist n s line
+  heavy : AllZero n → most_weight < weight n → s ≡ status.CircuitTooLarge
+      → line ≡ codes "circuit too large: weight " ++ decimal (weight n) ++ codes "\n" → RefusesNetlist n s line
 
 -- the Verilog file with this name reads as no netlist without a loop, or its netlist is refused
 abbrev pub RefusesBitsOf : List ℕ → List ℕ → Status → List ℕ → Type 0
@@ -45,7 +49,8 @@ GivesCounts text g = (a : Circuit) × AigReads text a × (g ≡ only_prints true
 
 -- the AIGER file with this name has a first fault, which the line reports
 abbrev pub RefusesAig : List ℕ → List ℕ → Status → List ℕ → Type 0
-RefusesAig name text s line = (s ≡ status.AigRefused) × (e : AigRule) × (n : ℕ) × HasFault text e n × (line ≡ fault_line name n e)
+RefusesAig name text s line = (s ≡ status.AigRefused) × (e : AigRule) × (n : ℕ) × HasFault text e n
+    × (line ≡ name ++ codes ":" ++ decimal n ++ codes ": " ++ rule_text e ++ codes "\n")
 
 -- the text reads as a circuit
 abbrev pub IsAig : List ℕ → Type 0

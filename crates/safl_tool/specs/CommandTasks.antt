@@ -1,5 +1,5 @@
 -- The task of each command: what it reads, refuses and gives.
-use Rattle.std.specs.Prelude.{◌≡◌, ℕ, ◌⊎◌, List, [], ◌∷◌, ◌++◌, take, Option, Some, None, is_some, true, false, Bool, codes, cond}
+use Rattle.std.specs.Prelude.{◌≡◌, ℕ, ◌⊎◌, List, [], ◌∷◌, ◌++◌, take, Option, Some, None, is_some, true, false, Bool, codes, cond, map}
 use Rattle.std.specs.Fmt.{decimal}
 use Rattle.safl_word.specs.Words.{Word}
 use Rattle.safl_word.specs.Faults.{fault_text}
@@ -14,7 +14,6 @@ use Rattle.safl_aiger.specs.Circuits.{Circuit}
 use Rattle.safl_aiger.specs.Reads.{AigReads}
 use Rattle.safl_aig.specs.BitLevel.{IsLight}
 use Rattle.safl_verilog.specs.Reads.{Reads}
-use Rattle.safl_vwrite.specs.Torn.{IsTornOrWhole}
 use Rattle.safl_term.specs.Program.{Program}
 use Rattle.safl_sim.specs.declared.done.Done.{Done}
 use Rattle.safl_core.specs.declared.walking.Walked.{Walked}
@@ -25,9 +24,10 @@ use Rattle.safl_tool.specs.Arguments.{HaveFault}
 use Rattle.safl_tool.specs.Sources.{IsAccepted}
 use Rattle.safl_command.specs.Commands.{Command, Check, Build, Sim, Walk, Run, Optimise, Report, Gen, Bench, CopySite, UnfoldSite, Session, Aig, Aigstat}
 use Rattle.safl_probe.specs.Asked.{Asked}
+use Rattle.safl_probe.specs.Texts.{trace}
 use Rattle.safl_probe.specs.Runs.{IsRunOf, until_done}
 use Rattle.safl_command.specs.Traces.{Traces}
-use Rattle.safl_tool.specs.Tracing.{files_for, traces_of, no_traces, asked_by, have_probes}
+use Rattle.safl_tool.specs.Tracing.{asked_by, have_probes, given_files}
 use Rattle.safl_tool.specs.BitLevel.{GivesBits, GivesCounts, RefusesAig, RefusesBitsOf}
 use Rattle.safl_tool.specs.Calling.{GivesReplies, IsMisscripted, EvaluatesEach}
 use Rattle.safl_task.specs.Inputs.{file_within}
@@ -76,7 +76,8 @@ pub record WritesCircuit (source : List ℕ) (net : Netlist) (g : Given) : Type 
   pub circuit : IsCircuitOf program names net
   pub made : IsNetlist net
   pub reads : Reads (written net) net
-  pub torn : (count : ℕ) → IsTornOrWhole net (take count (written net))
+  pub torn : (count : ℕ) → ((m : Netlist) → ¬ Reads (take count (written net)) m)
+      ⊎ (take count (written net) ≡ written net) ⊎ (take count (written net) ++ codes "\n" ≡ written net)
   pub is : g ≡ only_writes (written net)
 
 -- some lines, and then those of the outcome of a run. They are a result if `done` came
@@ -89,7 +90,9 @@ pub record GivesTraces (traces : Traces) (args : List (List ℕ)) (limit : ℕ) 
   pub simulates : Simulates source args limit answer
   pub run : List Valuation
   pub is_run : IsRunOf simulates.net simulates.words limit run
-  pub is : g ≡ record (outcome_after [] limit answer) { texts = traces_of traces simulates.net (until_done simulates.net run) }
+  pub is : g ≡ record (outcome_after [] limit answer) {
+    texts = map (λ (f : List ℕ × ℕ). trace f.1 simulates.net (until_done simulates.net run)) (given_files traces);
+  }
 
 -- a walk prints main's result, the number of events and the greatest number of busy units; or that no result came within this many events
 abbrev pub end_of_walk : ℕ → Walked → Option Word → Given
@@ -123,7 +126,8 @@ command_task (Build input output) =
 command_task (Optimise input output) =
     reading (file_within input source_max) (output ∷ []) (RefusesSourceOf input) (λ source g. (net : Netlist) × WritesCircuit source net g × Lean net) IsAccepted
 command_task (Sim input limit traces args) =
-    reading (file_within input source_max) (files_for traces) (RefusesGiven input args) (GivesTraces traces args limit) (λ source. Evaluates source args (InCycles limit))
+    reading (file_within input source_max) (map (λ (f : List ℕ × ℕ). f.0) (given_files traces)) (RefusesGiven input args)
+    (GivesTraces traces args limit) (λ source. Evaluates source args (InCycles limit))
 command_task (Walk input seed steps args) =
     reading (file_within input source_max) [] (RefusesGiven input args) (GivesWalk args seed steps) (λ source. Evaluates source args (InEvents steps))
 command_task (Run input limit args) =
@@ -146,7 +150,7 @@ command_task (Aigstat input) = reading (file_within input aig_max) [] (RefusesAi
 -- the files for the traces that a command asks for
 abbrev pub traces_in : Command → Traces
 traces_in (Sim input limit traces args) = traces
-traces_in _ = no_traces
+traces_in _ = record { vcd = None; starts = None; toggles = None }
 
 -- The task of the words of a command line, with probes of these kinds. Words that form no command are refused, and so is a
 -- command with a file for traces that no probe can write.

@@ -1,5 +1,6 @@
 -- The first fault of a program, in the order of checking. An expression is checked for its width alone.
-use Rattle.std.specs.Prelude.{ℕ, suc, ◌^◌, List, [], ◌∷◌, ◌++◌, length, map, Option, Some, None, Bool, true, false, ◌&&◌, ◌==◌, nat_lt, if◌then◌else◌, is_none, option_map, Result, Ok, Err}
+use Rattle.std.specs.Prelude.{ℕ, suc, ◌^◌, List, [], ◌∷◌, ◌++◌, length, map, Option, Some, None, Bool, true, false, ◌&&◌, ◌==◌, nat_lt, if◌then◌else◌, is_none, option_map, Result, Ok, Err, slice_get}
+use Rattle.safl_word.specs.Limits.{functions_max}
 use Rattle.std.specs.Result.{result_err}
 use Rattle.safl_word.specs.declared.fault.Rule.TheVariants as rules
 use Rattle.safl_word.specs.declared.fault.Fault.{Fault}
@@ -11,7 +12,7 @@ use Rattle.safl_tree.specs.Source.{fault_at}
 use Rattle.safl_typing.specs.Rewriting.{Expression, Number, Sized, Variable, If, Let, Op, Call, Expressions, no_expression, an_expression, Bindings, no_binding, a_binding, Shape, Alike, Comparing, Shifting, Resizing, shape, flexible, count, rewritten, placed}
 use Rattle.safl_typing.specs.Heads.{Slot, Head, Known, Callee, Member, Above, Unknown, callee, unit_of, params_of, heads}
 use Rattle.safl_typing.specs.Typing.{innermost, slots, widths_of}
-use Rattle.safl_typing.specs.Walk.{fault_with, after, unless, needs, repeated, limits, group_fault, main_fault}
+use Rattle.safl_typing.specs.Walk.{fault_with, after, unless, needs, repeated, group_fault, main_fault, limit, limits_from}
 
 -- ---- expressions. A width is expected of each, or its width is to be found
 
@@ -116,4 +117,6 @@ fault_from all earlier n u (d ∷ ds) =
 
 -- the first fault of a program: first of the limits, then of the definitions, and then whether the last one is `main`
 unfoldable pub first_fault : List Definition → Option Fault
-first_fault ds = option_or (limits ds) (option_or (fault_from (heads ds) [] 0 0 ds) (main_fault ds))
+first_fault ds =
+    option_or (option_or (limit 1 functions_max (slice_get (map (λ d. d.place) ds) functions_max)) (limits_from (heads ds) 0 0 0 0 ds))
+    (option_or (fault_from (heads ds) [] 0 0 ds) (main_fault ds))

@@ -17,15 +17,16 @@ vrule_text rules.V07 = codes "V07 wire without exactly one assign"
 vrule_text rules.V08 = codes "V08 register without exactly one update"
 vrule_text rules.V10 = codes "V10 port missing"
 
--- the width that is needed, and the one that was found
-abbrev pub both_widths : VFault → List ℕ
-both_widths f = codes ": " ++ decimal f.first ++ codes " and " ++ decimal f.second
-
--- what follows the text of the rule in the text of a fault
+-- what follows the text of the rule in the text of a fault: the width that is needed, and the one that was found
 abbrev pub vdetail_text : VRule → VFault → List ℕ
-vdetail_text rules.V05 f = both_widths f
+vdetail_text rules.V05 f = codes ": " ++ decimal f.first ++ codes " and " ++ decimal f.second
 vdetail_text _ f = []
 
 -- the text of a fault without its place
 abbrev pub vfault_text : VFault → List ℕ
 vfault_text f = vrule_text f.rule ++ vdetail_text f.rule f
+
+-- ---- parts by name
+
+abbrev pub both_widths : VFault → List ℕ
+both_widths f = codes ": " ++ decimal f.first ++ codes " and " ++ decimal f.second
