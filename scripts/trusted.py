@@ -48,6 +48,7 @@ class Item:
     end: int
     is_group: bool
     is_record: bool
+    has_members: bool
     names: list
 
 
@@ -68,12 +69,13 @@ class File:
             return at if comment is None else comment
         if begins := HEAD.match(line):
             name = begins[1] if begins[1] != "mutual" else None
-            self.items.append(Item(at if comment is None else comment, at + 1, name is None, " record " in f" {line}", []))
+            is_record, is_data = (f" {word} " in f" {line}" for word in ("record", "data"))
+            self.items.append(Item(at if comment is None else comment, at + 1, name is None, is_record, is_record or is_data or name is None, []))
             if name:
                 self.define(name, True)
         elif line and not line.startswith("use ") and self.items:
             self.items[-1].end = at + 1
-            if member := MEMBER.match(line):
+            if self.items[-1].has_members and (member := MEMBER.match(line)):
                 self.define(member[2], self.items[-1].is_group and "pub" in member[1])
         return None
 
