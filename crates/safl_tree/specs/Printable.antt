@@ -94,16 +94,13 @@ left_context o = if is_binary o && not (layer_of o == 3) then suc (layer_of o) e
 abbrev pub below_of : Primitive → ℕ
 below_of o = if is_binary o then 0 else 1
 
--- how many layers a context needs for an operator's expression without parentheses
-abbrev pub operator_layers : Primitive → ℕ
-operator_layers o = if is_binary o then suc (right_context o) else 0
-
--- how many layers a context needs for an expression without parentheses. An if, a let and a case need 8
+-- How many layers a context needs for an expression without parentheses. An if, a let and a case need 8, and an operator between
+-- operands its own layer and those below it.
 abbrev pub layers_of : Tree → ℕ
 layers_of (If p c a b) = 8
 layers_of (Let p bs t) = 8
 layers_of (Cases p e arms) = 8
-layers_of (Op p o ts) = operator_layers o
+layers_of (Op p o ts) = if is_binary o then suc (right_context o) else 0
 layers_of _ = 0
 
 -- the levels of an expression in a context of k layers: one more if it needs more layers, and so parentheses
@@ -210,3 +207,8 @@ pub record IsFormedProgram (p : List Definition) : Type 0 where
 pub record IsPrintable (p : List Definition) : Type 0 where
   pub formed : IsFormedProgram p
   pub kept : AllKeepLevels p
+
+-- ---- parts by name
+
+abbrev pub operator_layers : Primitive → ℕ
+operator_layers o = if is_binary o then suc (right_context o) else 0

@@ -1,5 +1,6 @@
 -- The text of a program, with as few parentheses as possible.
-use Rattle.std.specs.Prelude.{◌≡◌, ℕ, List, [], ◌∷◌, ◌++◌, Option, Some, None, Bool, true, false, nat_le, codes, decimal}
+use Rattle.std.specs.Prelude.{◌≡◌, ℕ, List, [], ◌∷◌, ◌++◌, Option, Some, None, Bool, true, false, nat_le, codes, decimal, map}
+use Rattle.std.specs.List.{flat_map}
 use Rattle.safl_word.specs.declared.token.Key.{Key}
 use Rattle.safl_word.specs.declared.token.Key.TheVariants as keys
 use Rattle.safl_word.specs.declared.token.Sym.{Sym}
@@ -33,9 +34,6 @@ name x = record { kind = kinds.Name; text = x }
 abbrev pub number_word : ℕ → Word
 number_word n = record { kind = kinds.Num n; text = decimal n }
 
-abbrev pub sized : ℕ → ℕ → Word
-sized w n = record { kind = kinds.Sized w n; text = decimal w ++ codes "'d" ++ decimal n }
-
 -- ---- expressions
 
 -- words of several parts, with a word between each and the next
@@ -62,15 +60,11 @@ abbrev pub written : Option ℕ → List Word
 written None = []
 written (Some w) = sym syms.Colon ∷ (number_word w ∷ [])
 
--- the words of a binding, given those of its value
-abbrev pub bound_words : List ℕ → Option ℕ → List Word → List Word
-bound_words x w value = name x ∷ (written w ++ (sym syms.Assign ∷ value))
-
 -- the words of an expression, without parentheses around it
 abbrev mutual
   pub words : Tree → List Word
   words (Number p n) = number_word n ∷ []
-  words (Sized p w n) = sized w n ∷ []
+  words (Sized p w n) = record { kind = kinds.Sized w n; text = decimal w ++ codes "'d" ++ decimal n } ∷ []
   words (Variable p x) = name x ∷ []
   words (If p c a b) = key keys.If ∷ (words c ++ (key keys.Then ∷ (words a ++ (key keys.Else ∷ words b))))
   words (Let p bs t) = key keys.Let ∷ (separated (sym syms.Comma) (bind_words bs) ++ (key keys.In ∷ words t))
@@ -86,7 +80,7 @@ abbrev mutual
 
   pub bind_words : Binds → List (List Word)
   bind_words no_bind = []
-  bind_words (a_bind p x w t bs) = bound_words x w (words t) ∷ bind_words bs
+  bind_words (a_bind p x w t bs) = (name x ∷ (written w ++ (sym syms.Assign ∷ words t))) ∷ bind_words bs
 
   pub arm_words : Arms → List Word
   arm_words (default_arm t) = key keys.Default ∷ (sym syms.Arrow ∷ words t)
@@ -99,13 +93,12 @@ labelled_words (a ∷ arms) = words a.label ++ (sym syms.Arrow ∷ (words a.valu
 
 -- ---- programs
 
-abbrev pub param_words : List Parameter → List (List Word)
-param_words [] = []
-param_words (p ∷ ps) = (name p.name ∷ (sym syms.Colon ∷ (number_word p.width ∷ []))) ∷ param_words ps
-
 -- the words of a definition without its `fun` or `and`
 abbrev pub one_words : Definition → List Word
-one_words d = name d.name ∷ (sym syms.OpenParen ∷ (separated (sym syms.Comma) (param_words d.params) ++ (sym syms.CloseParen ∷ (sym syms.Colon ∷ (number_word d.width ∷ (sym syms.Assign ∷ words d.body))))))
+one_words d =
+    name d.name ∷ (sym syms.OpenParen
+    ∷ (separated (sym syms.Comma) (map (λ (p : Parameter). name p.name ∷ (sym syms.Colon ∷ (number_word p.width ∷ []))) d.params)
+    ++ (sym syms.CloseParen ∷ (sym syms.Colon ∷ (number_word d.width ∷ (sym syms.Assign ∷ words d.body))))))
 
 -- a joined definition begins with `and`, any other with `fun`
 abbrev pub opening : Bool → Word
@@ -114,19 +107,27 @@ opening false = key keys.Fun
 
 -- ---- texts
 
--- a space, and then each token followed by a space
 abbrev pub spaced : List Word → List ℕ
-spaced [] = []
-spaced (x ∷ xs) = 32 ∷ (x.text ++ spaced xs)
+spaced ws = flat_map (λ (x : Word). 32 ∷ x.text) ws
 
--- the line of a definition, which ends with a line feed
+-- the line of a definition: its words with a space before each, and a line feed
 abbrev pub line : Definition → List ℕ
-line d = (opening d.joined).text ++ (spaced (one_words d) ++ (10 ∷ []))
+line d = (opening d.joined).text ++ (flat_map (λ (x : Word). 32 ∷ x.text) (one_words d) ++ (10 ∷ []))
 
 abbrev pub printed : List Definition → List ℕ
-printed [] = []
-printed (d ∷ ds) = line d ++ printed ds
+printed ds = flat_map line ds
 
 -- the text of these words is appended to what was there
 abbrev pub Writes : List ℕ → List ℕ → List Word → Type 0
 Writes old new ws = new ≡ old ++ spaced ws
+
+-- ---- parts by name
+
+abbrev pub sized : ℕ → ℕ → Word
+sized w n = record { kind = kinds.Sized w n; text = decimal w ++ codes "'d" ++ decimal n }
+
+abbrev pub bound_words : List ℕ → Option ℕ → List Word → List Word
+bound_words x w value = name x ∷ (written w ++ (sym syms.Assign ∷ value))
+
+abbrev pub param_words : List Parameter → List (List Word)
+param_words ps = map (λ (p : Parameter). name p.name ∷ (sym syms.Colon ∷ (number_word p.width ∷ []))) ps

@@ -15,11 +15,8 @@ pub record Terminal : Type 0 where
   pub bytes : List ℕ
 
 -- the bytes of a token are those of the source from its start to its stop
-abbrev pub terminal : List ℕ → Token → Terminal
-terminal source t = record { place = t.start; kind = t.kind; bytes = take (t.stop - t.start) (drop t.start source) }
-
 abbrev pub terminals : List ℕ → List Token → List Terminal
-terminals source ts = map (terminal source) ts
+terminals source ts = map (λ (t : Token). record { place = t.start; kind = t.kind; bytes = take (t.stop - t.start) (drop t.start source) }) ts
 
 -- ---- classes: what a token of the class stands for
 
