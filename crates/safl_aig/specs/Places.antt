@@ -23,14 +23,10 @@ next_lits n table = for_registers n (λ s. lits_at table (next_sig n s))
 abbrev pub output_lits : Netlist → List Pins → List Lit
 output_lits n table = for_outputs n (lits_at table)
 
--- the name of a bit: that of its signal or output, and the number of the bit in brackets
-abbrev pub bit_name : List ℕ → ℕ → List ℕ
-bit_name name b = name ++ codes "[" ++ decimal b ++ codes "]"
-
--- the names of the bits of a signal or output of width w
+-- the names of the bits of a signal or output of this width: its name, and the number of the bit in brackets
 abbrev pub bit_names : List ℕ → ℕ → List (List ℕ)
 bit_names name zero = []
-bit_names name (suc k) = bit_names name k ++ bit_name name k ∷ []
+bit_names name (suc k) = bit_names name k ++ (name ++ codes "[" ++ decimal k ++ codes "]") ∷ []
 
 abbrev pub signal_names : Netlist → ℕ → List (List ℕ)
 signal_names n s = bit_names (name_at n s) (width_of n s)
@@ -54,3 +50,6 @@ Answers n (Err NoMemory) = AllZero n × (weight n ≤ most_weight)
 
 abbrev pub name_of_output : Option (List ℕ × ℕ) → List ℕ
 name_of_output p = option_map_or (λ (o : List ℕ × ℕ). o.0) p []
+
+abbrev pub bit_name : List ℕ → ℕ → List ℕ
+bit_name name b = name ++ codes "[" ++ decimal b ++ codes "]"

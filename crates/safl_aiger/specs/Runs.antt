@@ -14,29 +14,19 @@ abbrev pub variable_bits : Assignment → ℕ → ℕ → List Bool
 variable_bits m first zero = []
 variable_bits m first (suc k) = m first ∷ variable_bits m (suc first) k
 
-abbrev pub input_bits : Circuit → Assignment → List Bool
-input_bits a m = variable_bits m 1 a.inputs
-
 abbrev pub latch_bits : Circuit → Assignment → List Bool
 latch_bits a m = variable_bits m (1 + a.inputs) (latches a)
 
 -- the values fit the state of the latches, the inputs and the ANDs
 pub record Fits (a : Circuit) (state given : List Bool) (m : Assignment) : Type 0 where
-  pub inputs : input_bits a m ≡ given
+  pub inputs : variable_bits m 1 a.inputs ≡ given
   pub latches : latch_bits a m ≡ state
   pub wired : Wired (base a) a.ands m
 
--- the next values of the latches: those of their next literals
-abbrev pub next_bits : Circuit → Assignment → List Bool
-next_bits a m = values m a.nexts
-
-abbrev pub output_bits : Circuit → Assignment → List Bool
-output_bits a m = values m a.outputs
-
--- the cycles of a run from a state, one for each list of inputs
+-- the cycles of a run from a state, one for each list of inputs. The next values of the latches are those of their next literals
 abbrev pub RunsFrom : Circuit → List Bool → List (List Bool) → List Assignment → Type 0
 RunsFrom a state [] [] = Unit {0}
-RunsFrom a state (x ∷ xs) (m ∷ ms) = Fits a state x m × RunsFrom a (next_bits a m) xs ms
+RunsFrom a state (x ∷ xs) (m ∷ ms) = Fits a state x m × RunsFrom a (values m a.nexts) xs ms
 RunsFrom a state _ _ = ⊥
 
 -- at the beginning all latches are false
@@ -46,3 +36,11 @@ Runs a xs ms = RunsFrom a (replicate (latches a) false) xs ms
 -- this many latches, all false
 abbrev pub all_false : ℕ → List Bool
 all_false n = replicate n false
+
+-- ---- parts by name
+
+abbrev pub input_bits : Circuit → Assignment → List Bool
+input_bits a m = variable_bits m 1 a.inputs
+
+abbrev pub next_bits : Circuit → Assignment → List Bool
+next_bits a m = values m a.nexts

@@ -52,9 +52,6 @@ view C D get = record {
 abbrev pub registers_now : Program → Names → Netlist → Valuation → Registers
 registers_now C D n v = view C D (read n v)
 
-abbrev pub registers_next : Program → Names → Netlist → Valuation → Registers
-registers_next C D n v = view C D (read_next n v)
-
 -- the inputs of a cycle
 abbrev pub input_now : Program → Netlist → Valuation → Inputs
 input_now C n v = record { start = one (start_number n v); words = as_words (C.params C.main) (input_numbers n.signals v) }
@@ -66,3 +63,6 @@ bit b = bit_of b
 
 abbrev pub is_site : Program → ℕ → Bool
 is_site C k = nat_lt 0 k && nat_le k C.sites
+
+abbrev pub registers_next : Program → Names → Netlist → Valuation → Registers
+registers_next C D n v = view C D (read_next n v)

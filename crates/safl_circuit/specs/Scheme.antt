@@ -8,8 +8,8 @@ use Rattle.safl_calls.specs.Machine.{Event, Accept, Finish, Return, LoopInto}
 use Rattle.safl_calls.specs.Picks.{picks}
 use Rattle.safl_circuit.specs.Equations.{Registers, Inputs, many, ret, want, go, end_word, loop_words, next}
 use Rattle.safl_net.specs.Netlist.{Netlist, Signal, AllSet}
-use Rattle.safl_net.specs.Valuations.{Valuation, Fits, read, read_output, reset_state, IsAcyclic}
-use Rattle.safl_circuit.specs.Names.{of_function, of_site, one, numbers, registers_now, registers_next, input_now}
+use Rattle.safl_net.specs.Valuations.{Valuation, Fits, read, read_output, reset_state, IsAcyclic, read_next}
+use Rattle.safl_circuit.specs.Names.{of_function, of_site, one, numbers, registers_now, input_now, view}
 use Rattle.safl_circuit.specs.Layout.{Line, layout_registers, layout_wires, layout_inputs, layout_outputs, input_kind, register_kind, wire_kind, each_line, output_lines}
 
 -- The two hold equal numbers, as far as the registers exist: at exists in units of several functions, and keep at kept sites.
@@ -52,7 +52,7 @@ pub record Scheme (C : Program) (D : Names) (P : Choice) (n : Netlist) : Type 0 
   pub named : each_line wire_kind n.signals ≡ layout_wires C D P ++ others
   pub resets : (s : ℕ) → reset_state n s ≡ 0
   pub wires : (v : Valuation) (state : ℕ → ℕ) → Fits n state v → Wires C D P n v (registers_now C D n v) (input_now C n v)
-  pub edge : (v : Valuation) (state : ℕ → ℕ) → Fits n state v → Agree C P (registers_next C D n v) (next C P (input_now C n v) (registers_now C D n v))
+  pub edge : (v : Valuation) (state : ℕ → ℕ) → Fits n state v → Agree C P (view C D (read_next n v)) (next C P (input_now C n v) (registers_now C D n v))
 
 -- the events of a cycle, as its named wires show them
 abbrev pub ret_on : Netlist → Valuation → ℕ → Bool

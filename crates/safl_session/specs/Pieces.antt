@@ -2,13 +2,9 @@
 use Rattle.std.specs.Prelude.{◌≡◌, ℕ, ◌<◌, ◌⊎◌, List, [], ◌∷◌, ◌++◌, length, true, not, ◌==◌, All}
 use Rattle.std.specs.List.{list_all, join_with_byte}
 
--- the byte is not in the text
-abbrev pub Lacks : ℕ → List ℕ → Type 0
-Lacks c text = list_all (λ x. not (x == c)) text ≡ true
-
 -- the pieces of a text between the bytes c
 pub record AreBetween (c : ℕ) (text : List ℕ) (pieces : List (List ℕ)) : Type 0 where
-  pub apart : All (Lacks c) pieces
+  pub apart : All (λ (piece : List ℕ). list_all (λ x. not (x == c)) piece ≡ true) pieces
   pub some : 0 < length pieces
   pub joined : text ≡ join_with_byte c pieces
 
@@ -31,6 +27,9 @@ HasWords line words = (pieces : List (List ℕ)) × AreBetween 32 line pieces ×
 -- the lines of a text: the pieces between its line feeds, without an empty last one
 abbrev pub HasLines : List ℕ → List (List ℕ) → Type 0
 HasLines text lines = (pieces : List (List ℕ)) × AreBetween 10 text pieces × (lines ≡ ended_of pieces)
+
+abbrev pub Lacks : ℕ → List ℕ → Type 0
+Lacks c text = list_all (λ x. not (x == c)) text ≡ true
 
 -- the piece before the first byte c and what follows that byte; or all of the text and nothing, if there is no such byte
 pub record IsCut (c : ℕ) (text piece behind : List ℕ) : Type 0 where

@@ -1,5 +1,7 @@
 -- Reshaped sources.
 use Rattle.std.specs.Prelude.{◌≡◌, ℕ, suc, zero, ◌<◌, true, ◌⊎◌, List, length, codes, ◌++◌}
+use Rattle.std.specs.List.{list_any}
+use Rattle.std.specs.Str.{bytes_eq}
 use Rattle.std.specs.Fmt.{decimal}
 use Rattle.safl_tree.specs.Tree.{Definition}
 use Rattle.safl_tree.specs.Printed.{printed}
@@ -7,12 +9,12 @@ use Rattle.safl_tree.specs.Laws.{SpelledBy}
 use Rattle.safl_term.specs.Program.{Program}
 use Rattle.safl_term.specs.Names.{Names}
 use Rattle.safl_typing.specs.Heads.{heads}
-use Rattle.safl_typing.specs.Forms.{nodes_of}
+use Rattle.safl_typing.specs.Forms.{nodes_of, function_names}
 use Rattle.safl_reshape.specs.declared.error.ReshapeErr.{ReshapeErr}
 use Rattle.safl_reshape.specs.declared.error.ReshapeErr.TheVariants as errors
 use Rattle.safl_reshape.specs.Laws.{IsAlike, Spares}
 use Rattle.safl_reshape.specs.Limits.{site_total}
-use Rattle.safl_reshape.specs.Refusals.{HasSite, is_grouped, name_for, is_taken}
+use Rattle.safl_reshape.specs.Refusals.{HasSite, is_grouped, name_for}
 use Rattle.safl_reshape.specs.Reshaped.{copied, unfolded, is_recursive}
 use Rattle.safl_compiler.specs.Sources.{IsSourceOf}
 use Rattle.safl_word.specs.Limits.{source_max, name_max, functions_max, sites_max, nodes_max}
@@ -42,7 +44,7 @@ NoCopy k C ds =
     FirstOf (HasSite C k → ⊥) (codes "no such site")
     (FirstOf (is_grouped ds (C.callee k) ≡ true) (codes "grouped")
     (FirstOf (name_max < length (name_for ds k (C.callee k))) (codes "name too long")
-    (FirstOf (is_taken ds (name_for ds k (C.callee k)) ≡ true) (codes "name taken") (NoText (copied ds k (C.callee k))))))
+    (FirstOf (list_any (bytes_eq (name_for ds k (C.callee k))) (function_names ds) ≡ true) (codes "name taken") (NoText (copied ds k (C.callee k))))))
 
 -- why the call of site k is not unfolded
 abbrev pub NoUnfolding : ℕ → Program → List Definition → List ℕ → Type 0

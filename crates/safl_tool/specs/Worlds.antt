@@ -7,7 +7,7 @@ use Rattle.safl_probe.specs.Probing.{ProbeState}
 use Rattle.safl_probe.specs.Asked.{Asked, SameUnasked}
 use Rattle.safl_probe.specs.Stopping.{SameProbes}
 use Rattle.safl_command.specs.Commands.{Command}
-use Rattle.safl_task.specs.Endings.{Outside, outside, Ended, Ends, Left, NoFault, Untouched, may_give}
+use Rattle.safl_task.specs.Endings.{Outside, Ended, Ends, Left, NoFault, Untouched, may_give}
 use Rattle.safl_task.specs.Tasks.{Task, OfInputs, SameStraysWith}
 use Rattle.safl_task.specs.declared.status.Status.{Status}
 use Rattle.safl_task.specs.declared.status.Status.TheVariants as status

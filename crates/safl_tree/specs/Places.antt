@@ -26,11 +26,14 @@ abbrev mutual
   unplaced_arms (default_arm t) = default_arm (unplaced t)
   unplaced_arms (an_arm l t arms) = an_arm (unplaced l) (unplaced t) (unplaced_arms arms)
 
+abbrev pub unplaced_program : List Definition → List Definition
+unplaced_program ds =
+    map (λ (d : Definition). record d { place = 0; params = map (λ (p : Parameter). record p { place = 0 }) d.params; body = unplaced d.body }) ds
+
+-- ---- parts by name
+
 abbrev pub unplaced_parameter : Parameter → Parameter
 unplaced_parameter p = record { place = 0; name = p.name; width = p.width }
 
 abbrev pub unplaced_definition : Definition → Definition
 unplaced_definition d = record { joined = d.joined; place = 0; name = d.name; params = map unplaced_parameter d.params; width = d.width; body = unplaced d.body }
-
-abbrev pub unplaced_program : List Definition → List Definition
-unplaced_program ds = map unplaced_definition ds

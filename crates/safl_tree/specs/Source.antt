@@ -14,10 +14,6 @@ use Rattle.safl_tree.specs.Tree.{Definition}
 use Rattle.safl_tree.specs.Terminals.{Terminal, terminals}
 use Rattle.safl_tree.specs.Grammar.{source}
 
--- the tokens of a text spell a program: they derive it, and no limit on levels or ranges is passed
-abbrev pub TokensSpell : List ℕ → List Token → List Definition → Type 0
-TokensSpell text ts p = Spells source (terminals text ts) p
-
 -- too many levels are E04, an unexpected token is E02, a number out of range is E05
 abbrev pub rule_of : Syntax.Rule → Rule
 rule_of Deep = rules.E04
@@ -34,11 +30,11 @@ pub record TokensFault (text : List ℕ) (ts : List Token) (f : Fault) : Type 0 
   pub breaks : Faults source (terminals text ts) rule rest
   pub is : f ≡ fault_at (rule_of rule) (option_map_or (λ (t : Terminal). t.place) (head_of rest) (length text))
 
--- the source spells this program
+-- the source spells this program: its tokens derive it, and no limit on levels or ranges is passed
 pub record SpellsProgram (text : List ℕ) (p : List Definition) : Type 0 where
   pub tokens : List Token
   pub cut : HasTokens text tokens
-  pub spelled : TokensSpell text tokens p
+  pub spelled : Spells source (terminals text tokens) p
 
 -- the first fault of the source. A place where the text cannot be cut into tokens comes before all other rules
 pub data SyntaxFault (text : List ℕ) (f : Fault) : Type 0 where
@@ -49,3 +45,6 @@ pub data SyntaxFault (text : List ℕ) (f : Fault) : Type 0 where
 
 abbrev pub place_in : List ℕ → List Terminal → ℕ
 place_in text ts = option_map_or (λ (t : Terminal). t.place) (head_of ts) (length text)
+
+abbrev pub TokensSpell : List ℕ → List Token → List Definition → Type 0
+TokensSpell text ts p = Spells source (terminals text ts) p

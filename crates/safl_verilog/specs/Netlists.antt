@@ -20,15 +20,14 @@ place_of (d ∷ ds) name = if bytes_eq d.name.bytes name then 0 else suc (place_
 abbrev pub number_of : List Declaration → List ℕ → ℕ
 number_of ds name = place_of (signals_of ds) name
 
-abbrev pub cell_of : List Declaration → Expression → Cell
-cell_of ds e = record { op = operation e; operands = map (λ (a : Spot). number_of ds a.bytes) (operands e) }
-
 -- the kind of a signal. An input is free, a register has the number and the next signal of its update, and a wire has what it is
 -- assigned
 abbrev pub kind_of : File → Sort → List ℕ → Kind
 kind_of f sorts.Reg name =
     option_map_or (λ (u : Spot × Spot). Reg (literal_value u.0.bytes) (Some (number_of f.declarations u.1.bytes))) (updated f.statements name) (Reg 0 None)
-kind_of f sorts.Wire name = Wire (option_map (λ (e : Expression). cell_of f.declarations e) (assigned f.statements name))
+kind_of f sorts.Wire name =
+    Wire (option_map (λ (e : Expression). record { op = operation e; operands = map (λ (a : Spot). number_of f.declarations a.bytes) (operands e) })
+    (assigned f.statements name))
 kind_of f _ name = Input
 
 -- the number of the signal that an output shows: that with the name that it is assigned
@@ -46,6 +45,9 @@ netlist f = record {
 }
 
 -- ---- parts by name
+
+abbrev pub cell_of : List Declaration → Expression → Cell
+cell_of ds e = record { op = operation e; operands = map (λ (a : Spot). number_of ds a.bytes) (operands e) }
 
 abbrev pub driven : List Declaration → Option Expression → Option Cell
 driven ds o = option_map (λ (e : Expression). cell_of ds e) o

@@ -17,10 +17,6 @@ use Rattle.safl_verilog.specs.Netlists.{netlist}
 abbrev pub IsFile : List Terminal → File → Type 0
 IsFile ts f = Spells (λ n. file) ts f
 
--- the first token such that the tokens up to and including it begin no file, or the end; and the tokens from there on
-abbrev pub HasUnexpected : List Terminal → Rule → List Terminal → Type 0
-HasUnexpected ts e rest = Faults (λ n. file) ts e rest
-
 -- the text is a file of the grammar that breaks no rule, and this is its netlist
 pub record Reads (text : List ℕ) (n : Netlist) : Type 0 where
   pub tokens : List Terminal
@@ -30,13 +26,18 @@ pub record Reads (text : List ℕ) (n : Netlist) : Type 0 where
   pub kept : faults file ≡ []
   pub means : netlist file ≡ n
 
--- the first fault of the bytes; if there is none, of the tokens; if there is none, of the file
+-- The first fault of the bytes; if there is none, of the tokens, at the first one such that the tokens up to it begin no file, or at the
+-- end; if there is none, of the file.
 pub data HasFault (text : List ℕ) (f : VFault) : Type 0 where
   lexical : (place : ℕ) → HasLexicalFault text place → f ≡ at rules.V01 place → HasFault text f
-  unexpected : (ts rest : List Terminal) (e : Rule) → HasTokens text ts → HasUnexpected ts e rest → f ≡ at rules.V02 (option_map_or (λ (t : Terminal). t.place) (head_of rest) (length text)) → HasFault text f
+  unexpected : (ts rest : List Terminal) (e : Rule) → HasTokens text ts → Faults (λ n. file) ts e rest
+      → f ≡ at rules.V02 (option_map_or (λ (t : Terminal). t.place) (head_of rest) (length text)) → HasFault text f
   broken : (ts : List Terminal) (x : File) (more : List VFault) → HasTokens text ts → IsFile ts x → faults x ≡ f ∷ more → HasFault text f
 
 -- ---- parts by name
 
 abbrev pub place_in : List ℕ → List Terminal → ℕ
 place_in text ts = option_map_or (λ (t : Terminal). t.place) (head_of ts) (length text)
+
+abbrev pub HasUnexpected : List Terminal → Rule → List Terminal → Type 0
+HasUnexpected ts e rest = Faults (λ n. file) ts e rest
