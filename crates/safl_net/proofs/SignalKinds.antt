@@ -1,6 +1,7 @@
 -- Kinds of signals.
-use Rattle.std.proofs.Common.{[], Bool, Err, List, None, Ok, OnErr, OnOk, Option, Result, Some, ap, arith, cond, eq-eqb, inl, inr, length, length-append, map, nat_le, refl, slice_get, slice_index, subst}
-use Rattle.std.proofs.Common.{suc, sym, take, true, zero, ℕ, ◌&&◌, ◌+◌, ◌<◌, ◌==◌, ◌||◌, ◌∙◌, ◌∷◌, ◌≡◌, ◌≤◌, ◌⊎◌}
+use Rattle.std.proofs.Common.{[], Bool, Err, List, None, Ok, OnErr, OnOk, Option, Result, Some, ap, arith, cond, eq-eqb, inl, inr, length}
+use Rattle.std.proofs.Common.{length-append, map, nat_le, refl, slice_get, slice_index, subst, suc, sym, take, true, zero, ℕ, ◌&&◌, ◌+◌, ◌<◌, ◌==◌}
+use Rattle.std.proofs.Common.{◌||◌, ◌∙◌, ◌∷◌, ◌≡◌, ◌≤◌, ◌⊎◌}
 use Rattle.std.proofs.lemmas.Option.{same_Some}
 use Rattle.std.specs.Prelude.{option_map}
 use Rattle.safl_word.proofs.Lists.{get_some}

@@ -42,7 +42,8 @@ returns-clause-recalls c =
     let s = calls_of c.args.state.now in
     let h = c.requires.kept.1 in
     let local = local_end C s c.unit-unit.result _ c.unit-unit.result in
-    λ v. c.refresh.ensures.recalls v (λ ne. recalls_step (good h) c.requires.plan c.args.state.now _ _ c.unit-unit.result c.unit-unit.result v c.end-own.ensures.steps local ne ne (c.requires.recalls v))
+    let u = c.unit-unit.result in
+    λ v. c.refresh.ensures.recalls v (λ ne. recalls_step (good h) c.requires.plan c.args.state.now _ _ u u v c.end-own.ensures.steps local ne ne (c.requires.recalls v))
 
 pub returns-clause-cells : goal.returns-clause-cells
 returns-clause-cells c = c.refresh.ensures.cells ∙ ap (λ (x : List Kept). length x) c.end-own.ensures.steps.kept
