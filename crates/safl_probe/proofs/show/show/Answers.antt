@@ -22,14 +22,9 @@ back_is len f items e g =
 can_show : (t : ℕ) (u v : Valuation) (s : ProbeState) → u ≡ v → CanTell (Frame t) v s → CanTell (Frame t) u s
 can_show t u v s e h = subst (λ (w : Valuation). CanTell (Frame t) w s) (sym e) h
 
--- the probes were told of the cycle with the words in the room, which are those of the simulation
-module _ {P : Type 0} (t : ℕ) (m n : Netlist) (u v : Valuation) (names : FileNames) (tell : P → ProbeState) (ps qs : List P) (x y : ShelfState) (is : m ≡ n) (e : u ≡ v) where
-  told_of : AllTold (Frame t) m u names tell ps qs x y → AllTold (Frame t) n v names tell ps qs x y
-  told_of h = subst (λ (l : Netlist). AllTold (Frame t) l v names tell ps qs x y) is (subst (λ (w : Valuation). AllTold (Frame t) m w names tell ps qs x y) e h)
-
-  part_of : (why : DriveErr) → ToldPart (Frame t) m u names tell ps qs x y why → ToldPart (Frame t) n v names tell ps qs x y why
-  part_of why h =
-      subst (λ (l : Netlist). ToldPart (Frame t) l v names tell ps qs x y why) is (subst (λ (w : Valuation). ToldPart (Frame t) m w names tell ps qs x y why) e h)
+-- what is said of a netlist and of words in the room is said of those of the simulation
+said_of : (R : Netlist → Valuation → Type 0) (m n : Netlist) (u v : Valuation) → m ≡ n → u ≡ v → R m u → R n v
+said_of R m n u v is e h = subst (λ (l : Netlist). R l v) is (subst (λ (w : Valuation). R m w) e h)
 
 pub tell_all-requires : goal.tell_all-requires
 tell_all-requires g c =
@@ -50,8 +45,13 @@ returns-clause-shown g c =
     let b = c.deref_mut.ensures.len in
     let d = ap (λ (l : List Word). length l) c.deref_mut.ensures.value in
     let back = back_is c.args.room.now.frame.len c.fill.new.frame c.args.room.now.frame.items (omega (arith, a, d)) (omega (arith, b, d)) in
-    on_ok_weaker c.tell_all.result (told_of c.args.cycle c.net.result.now c.args.sim.now.net _ c.args.sim.now.values c.args.files.now _ _ _ _ _
-    c.net.ensures (ap (map (λ (w : Word). w.bits)) back ∙ c.fill.ensures.values)) c.tell_all.ensures.told
+    let same = ap (map (λ (w : Word). w.bits)) back ∙ c.fill.ensures.values in
+    on_ok_weaker c.tell_all.result
+    (said_of
+    (λ n v. AllTold (Frame c.args.cycle) n v c.args.files.now (λ p. (goal.Probe-dyn g (p.vtable, p.value)).state p.value)
+    c.args.probes.now c.tell_all.new.probes (g.S.Shelf.told c.args.shelf.now) (g.S.Shelf.told c.tell_all.new.shelf))
+    c.net.result.now c.args.sim.now.net _ c.args.sim.now.values c.net.ensures same)
+    c.tell_all.ensures.told
 
 pub returns-clause-part : goal.returns-clause-part
 returns-clause-part g c =
@@ -59,8 +59,13 @@ returns-clause-part g c =
     let b = c.deref_mut.ensures.len in
     let d = ap (λ (l : List Word). length l) c.deref_mut.ensures.value in
     let back = back_is c.args.room.now.frame.len c.fill.new.frame c.args.room.now.frame.items (omega (arith, a, d)) (omega (arith, b, d)) in
-    IfErr-weaker c.tell_all.result _ _ (part_of c.args.cycle c.net.result.now c.args.sim.now.net _ c.args.sim.now.values c.args.files.now _ _ _ _ _
-    c.net.ensures (ap (map (λ (w : Word). w.bits)) back ∙ c.fill.ensures.values)) c.tell_all.ensures.part
+    let same = ap (map (λ (w : Word). w.bits)) back ∙ c.fill.ensures.values in
+    IfErr-weaker c.tell_all.result _ _
+    (λ why. said_of
+    (λ n v. ToldPart (Frame c.args.cycle) n v c.args.files.now (λ p. (goal.Probe-dyn g (p.vtable, p.value)).state p.value)
+    c.args.probes.now c.tell_all.new.probes (g.S.Shelf.told c.args.shelf.now) (g.S.Shelf.told c.tell_all.new.shelf) why)
+    c.net.result.now c.args.sim.now.net _ c.args.sim.now.values c.net.ensures same)
+    c.tell_all.ensures.part
 
 pub fill-requires-clause-frame : goal.fill-requires-clause-frame
 fill-requires-clause-frame g c = subst (HasWidths c.args.sim.now.net) (sym c.deref_mut.ensures.value) c.requires.room.frame
