@@ -2,8 +2,10 @@
 """Tries the mutations that the gate leaves out, or checks in seconds that all mutations still apply.
 
 mutations.py CRATE [WORD]        tries all mutations of a crate; with a WORD, of those outside the gate only the ones whose name has it
-mutations.py --all [--lanes N]   tries all mutations of all crates, lowest first, up to ten in one check of a crate, and counts
-                                 those of each crate; it works at N crates at a time (as many as there are processors)
+mutations.py --all [--lanes N] [--proved]
+                                 tries all mutations of all crates, lowest first, up to ten in one check of a crate, and counts
+                                 those of each crate; it works at N crates at a time (as many as there are processors). With
+                                 --proved no crate is checked as it stands first: the gate has just passed on these files
 mutations.py --check             proves nothing: does each old text stand exactly once in its file?
 
 mutation_files.py says where mutations stand, mutation_checks.py how several are tried in one check. With a CRATE each is tried
@@ -67,13 +69,14 @@ def main():
     reader.add_argument("word", nargs="?", metavar="WORD", default="")
     reader.add_argument("--all", action="store_true")
     reader.add_argument("--lanes", type=a_number, metavar="N", default=processors())
+    reader.add_argument("--proved", action="store_true")
     reader.add_argument("--check", action="store_true")
     given = reader.parse_args()
     if [given.crate is not None, given.all, given.check].count(True) != 1:
         reader.error("give a CRATE, --all or --check")
     if given.check:
         sys.exit(check())
-    sys.exit(try_all(max(given.lanes, 1)) if given.all else try_crate(given.crate, given.word))
+    sys.exit(try_all(max(given.lanes, 1), given.proved) if given.all else try_crate(given.crate, given.word))
 
 
 if __name__ == "__main__":
