@@ -323,6 +323,12 @@ not_updated n name width (Wire cell) e = refl
 
 -- ---- the text of the whole
 
+three_to_the_left : (a b c : List ℕ) → a ++ (b ++ c) ≡ (a ++ b) ++ c
+three_to_the_left a b c = simp append_assoc
+
+to_the_left : (a b c d e : List ℕ) → a ++ (b ++ (c ++ (d ++ e))) ≡ (((a ++ b) ++ c) ++ d) ++ e
+to_the_left a b c d e = simp append_assoc
+
 module _ (n : Netlist) where
   ports_text : text_of_all (flat_map port_pieces (written_ports n)) ≡ flat_map input_port n.signals ++ flat_map output_port n.outputs
   ports_text =
@@ -359,7 +365,9 @@ module _ (n : Netlist) where
       join i (o ++ (r ++ w)) ∙ ap (λ (l : List ℕ). l ++ pieces (o ++ (r ++ w))) a ∙ ap (λ (l : List ℕ). flat_map input_declaration n.signals ++ l)
       (join o (r ++ w) ∙ ap (λ (l : List ℕ). l ++ pieces (r ++ w)) b ∙ ap (λ (l : List ℕ). flat_map (output_declaration n) n.outputs ++ l)
       (join r w ∙ ap (λ (l : List ℕ). l ++ pieces w) c ∙ ap (λ (l : List ℕ). flat_map register_declaration n.signals ++ l) d)) in
-      ap (λ (l : List ℕ). codes "  input clk;\n  input rst;\n" ++ l) all ∙ simp append_assoc
+      ap (λ (l : List ℕ). codes "  input clk;\n  input rst;\n" ++ l) all
+      ∙ to_the_left (codes "  input clk;\n  input rst;\n") (flat_map input_declaration n.signals) (flat_map (output_declaration n) n.outputs)
+      (flat_map register_declaration n.signals) (flat_map wire_declaration n.signals)
 
   statements_text : text_of_all (flat_map statement_pieces (written_statements n)) ≡ statements n
   statements_text =
@@ -376,7 +384,8 @@ module _ (n : Netlist) where
       let c : pieces r ≡ flat_map (register_update n) n.signals =
       texts_where statement_pieces (update_signal n) (register_update n) updated_kind (λ g e. if_updated n g g.kind e) (λ g e. not_updated n g.name g.width g.kind e) n.signals in
       join w (o ++ r) ∙ ap (λ (l : List ℕ). l ++ pieces (o ++ r)) a ∙ ap (λ (l : List ℕ). flat_map (wire_assignment n) n.signals ++ l)
-      (join o r ∙ ap (λ (l : List ℕ). l ++ pieces r) b ∙ ap (λ (l : List ℕ). flat_map (output_assignment n) n.outputs ++ l) c) ∙ simp append_assoc
+      (join o r ∙ ap (λ (l : List ℕ). l ++ pieces r) b ∙ ap (λ (l : List ℕ). flat_map (output_assignment n) n.outputs ++ l) c)
+      ∙ three_to_the_left (flat_map (wire_assignment n) n.signals) (flat_map (output_assignment n) n.outputs) (flat_map (register_update n) n.signals)
 
   pub file_text : text_of_all (file_pieces clock (reset ∷ written_ports n) (written_declarations n) (written_statements n)) ≡ written n
   unfolding written
