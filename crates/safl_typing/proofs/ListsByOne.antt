@@ -1,5 +1,6 @@
 -- Lists of expressions, one by one.
-use Rattle.std.proofs.Common.{◌≡◌, ℕ, zero, suc, ◌+◌, ◌<◌, arith, drop, get_or, List, [], ◌∷◌, ◌++◌, length, take, Bool, true, false, refl, sym, ap, ◌∙◌}
+use Rattle.std.proofs.Common.{◌≡◌, ℕ, zero, suc, ◌+◌, ◌<◌, ◌≤◌, arith, drop, get_or, List, [], ◌∷◌, ◌++◌, length, take, Bool, true, false, refl, sym, ap, ◌∙◌}
+use Rattle.std.proofs.lemmas.List.{take_all}
 use Rattle.std.specs.Prelude.{◌&&◌, min}
 use Rattle.safl_word.proofs.Lists.{drop_read}
 use Rattle.safl_typing.specs.declared.expression.Expression as code
@@ -61,6 +62,10 @@ sites_next k es i e counted total next lt is h q =
     (λ (l : List code.Expression). sites_in k (shown_expressions l)) (upto es i e lt is) ∙ sites_end k (take i es) e in
     omega (arith, h, q, s)
 
+pub sites_all : (k : Known) (es : List code.Expression) (i counted total : ℕ) → length es ≤ i → total ≡ min 4001 (counted + sites_in k
+    (shown_expressions (take i es))) → total ≡ min 4001 (counted + sites_in k (shown_expressions es))
+sites_all k es i counted total le h = h ∙ ap (λ (l : List code.Expression). min 4001 (counted + sites_in k (shown_expressions l))) (take_all i es le)
+
 bound_sites_end : (k : Known) (xs : List Bound) (x : Bound) → sites_bound k (shown_bindings (xs ++ x ∷ [])) ≡ sites_bound k (shown_bindings xs) + sites k (shown_expression x.value)
 bound_sites_end k [] x = omega arith
 bound_sites_end k (y ∷ ys) x = omega (arith, bound_sites_end k ys x)
@@ -72,3 +77,7 @@ bound_sites_next k es i e counted total next lt is h q =
     let s : sites_bound k (shown_bindings (take (i + 1) es)) ≡ sites_bound k (shown_bindings (take i es)) + sites k (shown_expression e.value) = ap
     (λ (l : List Bound). sites_bound k (shown_bindings l)) (bound_upto es i e lt is) ∙ bound_sites_end k (take i es) e in
     omega (arith, h, q, s)
+
+pub bound_sites_all : (k : Known) (es : List Bound) (i counted total : ℕ) → length es ≤ i → total ≡ min 4001 (counted + sites_bound k
+    (shown_bindings (take i es))) → total ≡ min 4001 (counted + sites_bound k (shown_bindings es))
+bound_sites_all k es i counted total le h = h ∙ ap (λ (l : List Bound). min 4001 (counted + sites_bound k (shown_bindings l))) (take_all i es le)

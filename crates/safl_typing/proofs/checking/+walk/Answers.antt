@@ -1,5 +1,5 @@
 use Rattle.std.proofs.Common.{rules, ◌≡◌, ℕ, ◌+◌, ◌*◌, ◌<◌, ◌^◌, ◌++◌, List, ◌∷◌, length, Bool, false, Option, refl, sym, ap, subst, ◌∙◌, arith}
-use Rattle.std.specs.Prelude.{Result, Err, Some, None, map, ◌&&◌, ◌==◌}
+use Rattle.std.specs.Prelude.{Result, Err, Ok, Some, None, map, ◌&&◌, ◌==◌}
 use Rattle.std.proofs.lemmas.Result.{err_from_is_err_and, IfOk-weaker}
 use Rattle.std.specs.List.{AllByRecursion}
 use Rattle.safl_term.specs.Slots.{HasSlots}
@@ -21,7 +21,7 @@ use Rattle.safl_typing.specs.PlainHeads.{shown_slots, shown_head, shown_callee, 
 use Rattle.safl_typing.specs.PlainScope.{shown_scope}
 use Rattle.safl_typing.specs.PlainNames.{twice_at}
 use Rattle.safl_typing.specs.PlainTyped.{shown_wanted, shown_typed, shown_all_typed, shown_alike, shown_shape, HasWidthOfWord, HasWideWanted}
-use Rattle.safl_typing.specs.PlainTyped.{Says, SaysAll, SaysAlike}
+use Rattle.safl_typing.specs.PlainTyped.{Says, SaysAll, SaysAlike, RefusesFault}
 use Rattle.safl_typing.specs.MayWalk.{MayWalk, MayCheck, MayCheckAll, MayBind}
 use Rattle.safl_typing.proofs.PlainLists.{shown_expression-Op, shown_expression-Call, shown_expression-Let}
 use Rattle.safl_typing.proofs.SlotsBelowLets.{fails, goes}
@@ -440,6 +440,37 @@ check_binding-returns-in_err-all-clause-says t c =
     c.args.context.now.unit) c.requires.marked.1)) ∙ c.if-not-known.false) (sym c.find_repeated.ensures ∙ ap twice_at c.in_default.is) (walk.next_site c.args.position.first_site
     (sites_bound (known c.args.context.now.heads.now c.args.context.now.unit) (shown_bindings c.args.bound.now)) c.add_bound_sites-next.result (c.add_bound_sites-next.ensures
     (known c.args.context.now.heads.now c.args.context.now.unit) c.requires.marked.0) (omega (arith, c.requires.able.within)))) c.in_err-all.ensures.says)
+
+pub check_binding-returns-in_err-typed-clause-says : goal.check_binding-returns-in_err-typed-clause-says
+check_binding-returns-in_err-typed-clause-says t c =
+    let K = known c.args.context.now.heads.now c.args.context.now.unit in
+    let p = err_from_is_err_and c.from_residual-in_err-typed.result c.from_residual-in_err-typed.ensures.1 in
+    let own : shown_slots c.deref-2.result.now ≡ slots (shown_bindings c.args.bound.now) c.in_ok-all.all.widths.items = ap (λ (l : List code_slot.Slot). shown_slots l) c.deref-2.ensures.value ∙
+    c.in_ok-own.ensures ∙ ap (λ (ws : List ℕ). slots (shown_bindings c.args.bound.now) ws) c.deref.ensures.value in
+    let body = subst (λ (ss : List Slot). RefusesFault c.in_err-typed.field-0.0 (check K (shown_scope c.args.scope.now ++ ss) c.args.position.tail c.add_bound_sites-next.result
+    (shown_wanted c.args.position.wanted) (shown_expression c.args.body.now))) own c.in_err-typed.ensures.says in
+    rw (p.1, p.2) (fails c.in_err-typed.field-0.0 _ _ _ (goes _ _ _ (shown_all_typed c.in_ok-all.all)
+    (walk.binding_is K (shown_scope c.args.scope.now) c.args.position.tail c.args.position.first_site
+    (shown_wanted c.args.position.wanted) c.args.place (shown_bindings c.args.bound.now) (shown_expression c.args.body.now) c.add_bound_sites-next.result
+    (sym (c.has_width-known.ensures ∙ ap (λ (b : Bool). is_known (shown_wanted c.args.position.wanted) b) (c.is_flexible-flexible.ensures K c.requires.marked.1))
+    ∙ c.if-not-known.false) (sym c.find_repeated.ensures ∙ ap twice_at c.in_default.is)
+    (walk.next_site c.args.position.first_site (sites_bound K (shown_bindings c.args.bound.now)) c.add_bound_sites-next.result
+    (c.add_bound_sites-next.ensures K c.requires.marked.0) (omega (arith, c.requires.able.within)))) c.in_ok-all.ensures.says) body)
+
+pub check_binding-returns-clause-says : goal.check_binding-returns-clause-says
+check_binding-returns-clause-says t c =
+    let K = known c.args.context.now.heads.now c.args.context.now.unit in
+    let own : shown_slots c.deref-2.result.now ≡ slots (shown_bindings c.args.bound.now) c.in_ok-all.all.widths.items = ap (λ (l : List code_slot.Slot). shown_slots l) c.deref-2.ensures.value ∙
+    c.in_ok-own.ensures ∙ ap (λ (ws : List ℕ). slots (shown_bindings c.args.bound.now) ws) c.deref.ensures.value in
+    let body = subst (λ (ss : List Slot). check K (shown_scope c.args.scope.now ++ ss) c.args.position.tail c.add_bound_sites-next.result
+    (shown_wanted c.args.position.wanted) (shown_expression c.args.body.now) ≡ Ok (shown_typed c.in_ok-typed.typed)) own c.in_ok-typed.ensures.says in
+    subst (λ (z : Result Typed Fault). Says c.make_let.result z) (sym (goes _ _ _ (shown_typed c.in_ok-typed.typed) (goes _ _ _ (shown_all_typed c.in_ok-all.all)
+    (walk.binding_is K (shown_scope c.args.scope.now) c.args.position.tail c.args.position.first_site
+    (shown_wanted c.args.position.wanted) c.args.place (shown_bindings c.args.bound.now) (shown_expression c.args.body.now) c.add_bound_sites-next.result
+    (sym (c.has_width-known.ensures ∙ ap (λ (b : Bool). is_known (shown_wanted c.args.position.wanted) b) (c.is_flexible-flexible.ensures K c.requires.marked.1))
+    ∙ c.if-not-known.false) (sym c.find_repeated.ensures ∙ ap twice_at c.in_default.is)
+    (walk.next_site c.args.position.first_site (sites_bound K (shown_bindings c.args.bound.now)) c.add_bound_sites-next.result
+    (c.add_bound_sites-next.ensures K c.requires.marked.0) (omega (arith, c.requires.able.within)))) c.in_ok-all.ensures.says) body)) c.make_let.ensures.says
 
 pub check_applied-check_alike-requires : goal.check_applied-check_alike-requires
 check_applied-check_alike-requires t c =
