@@ -83,23 +83,18 @@ bracketed make =
     follows (symbol symbols.OpenBracket) (λ k. follows number (λ high. follows (symbol symbols.Colon) (λ l. follows number (λ low.
     follows (symbol symbols.CloseBracket) (λ m. nothing (make high low))))))
 
-abbrev pub choice_end : Spot → Syntax Terminal Expression
-choice_end a =
-    follows (symbol symbols.Question) (λ k. follows id (λ b. follows (symbol symbols.Colon) (λ l. follows id (λ c. nothing (Choice a b c)))))
-
-abbrev pub joined : Syntax Terminal Expression
-joined =
-    follows (symbol symbols.OpenBrace) (λ k. follows id (λ a. follows (symbol symbols.Comma) (λ l. follows id (λ b.
-    follows (symbol symbols.CloseBrace) (λ m. nothing (Joined a b))))))
-
 abbrev pub cell : Syntax Terminal Expression
 cell =
     either (follows literal (λ l. nothing (Literal l)))
     (either
     (either (follows id (λ a. follows operator (λ p. follows id (λ b. nothing (Binary p a b)))))
-    (either (follows id choice_end)
+    (either
+    (follows id (λ a. follows (symbol symbols.Question) (λ k. follows id (λ b. follows (symbol symbols.Colon) (λ l. follows id (λ c.
+    nothing (Choice a b c)))))))
     (either (follows id (λ a. bracketed (λ high low. Slice a high low))) (follows id (λ a. nothing (Plain a))))))
-    (either (follows (symbol symbols.Tilde) (λ k. follows id (λ a. nothing (Inverted a)))) joined))
+    (either (follows (symbol symbols.Tilde) (λ k. follows id (λ a. nothing (Inverted a))))
+    (follows (symbol symbols.OpenBrace) (λ k. follows id (λ a. follows (symbol symbols.Comma) (λ l. follows id (λ b.
+    follows (symbol symbols.CloseBrace) (λ m. nothing (Joined a b)))))))))
 
 -- ---- decl := ( "input" | "output" | "reg" | "wire" ) [ "[" Num ":" Num "]" ] id ";"
 
@@ -119,37 +114,24 @@ assign =
     follows (word keywords.Assign) (λ k. follows id (λ a. follows (symbol symbols.Becomes) (λ e. follows cell (λ c.
     follows (symbol symbols.Semicolon) (λ s. nothing (Assign a c))))))
 
--- "else" id "<=" id ";"
-abbrev pub otherwise : (clock reset target initial : Spot) → Syntax Terminal Statement
-otherwise clock reset target initial =
-    follows (word keywords.Else) (λ k1. follows id (λ second. follows (symbol symbols.LessEqual) (λ k2. follows id (λ source.
-    follows (symbol symbols.Semicolon) (λ s. nothing (Always clock reset target initial second source))))))
-
--- "if" "(" id ")" id "<=" lit ";" and what follows
-abbrev pub at_reset : (clock : Spot) → Syntax Terminal Statement
-at_reset clock =
-    follows (word keywords.If) (λ k1. follows (symbol symbols.OpenParen) (λ k2. follows id (λ reset. follows (symbol symbols.CloseParen) (λ k3.
-    follows id (λ target. follows (symbol symbols.LessEqual) (λ k4. follows literal (λ initial. follows (symbol symbols.Semicolon) (λ s.
-    otherwise clock reset target initial))))))))
-
 abbrev pub always : Syntax Terminal Statement
 always =
     follows (word keywords.Always) (λ k1. follows (symbol symbols.At) (λ k2. follows (symbol symbols.OpenParen) (λ k3.
-    follows (word keywords.Posedge) (λ k4. follows id (λ clock. follows (symbol symbols.CloseParen) (λ k5. at_reset clock))))))
+    follows (word keywords.Posedge) (λ k4. follows id (λ clock. follows (symbol symbols.CloseParen) (λ k5.
+    follows (word keywords.If) (λ k6. follows (symbol symbols.OpenParen) (λ k7. follows id (λ reset. follows (symbol symbols.CloseParen) (λ k8.
+    follows id (λ target. follows (symbol symbols.LessEqual) (λ k9. follows literal (λ initial. follows (symbol symbols.Semicolon) (λ s1.
+    follows (word keywords.Else) (λ k10. follows id (λ second. follows (symbol symbols.LessEqual) (λ k11. follows id (λ source.
+    follows (symbol symbols.Semicolon) (λ s2. nothing (Always clock reset target initial second source))))))))))))))))))))
 
 -- ---- file := "module" id "(" id { "," id } ")" ";" { decl } { stmt } "endmodule"
-
--- { decl } { stmt } "endmodule"
-abbrev pub body : List Spot → Syntax Terminal File
-body hs =
-    follows (many (λ (ds : List Declaration). follows decl (λ d. nothing (ds ++ d ∷ []))) []) (λ ds.
-    follows (many (λ (ss : List Statement). follows (either assign always) (λ s. nothing (ss ++ s ∷ []))) []) (λ ss.
-    follows (word keywords.Endmodule) (λ e. nothing (record { header = hs; declarations = ds; statements = ss }))))
 
 abbrev pub file : Syntax Terminal File
 file =
     follows (word keywords.Module) (λ k. follows id (λ x. follows (symbol symbols.OpenParen) (λ o. follows (listed (symbol symbols.Comma) id) (λ hs.
-    follows (symbol symbols.CloseParen) (λ c. follows (symbol symbols.Semicolon) (λ s. body hs))))))
+    follows (symbol symbols.CloseParen) (λ c. follows (symbol symbols.Semicolon) (λ s1.
+    follows (many (λ (ds : List Declaration). follows decl (λ d. nothing (ds ++ d ∷ []))) []) (λ ds.
+    follows (many (λ (ss : List Statement). follows (either assign always) (λ s2. nothing (ss ++ s2 ∷ []))) []) (λ ss.
+    follows (word keywords.Endmodule) (λ e. nothing (record { header = hs; declarations = ds; statements = ss }))))))))))
 
 -- ---- parts of productions
 
@@ -165,15 +147,37 @@ inverted = follows (symbol symbols.Tilde) (λ k. follows id (λ a. nothing (Inve
 abbrev pub binary_end : Spot → Syntax Terminal Expression
 binary_end a = follows operator (λ p. follows id (λ b. nothing (Binary p a b)))
 
+abbrev pub choice_end : Spot → Syntax Terminal Expression
+choice_end a =
+    follows (symbol symbols.Question) (λ k. follows id (λ b. follows (symbol symbols.Colon) (λ l. follows id (λ c. nothing (Choice a b c)))))
+
 abbrev pub slice_end : Spot → Syntax Terminal Expression
 slice_end a =
     follows (symbol symbols.OpenBracket) (λ k. follows number (λ high. follows (symbol symbols.Colon) (λ l. follows number (λ low.
     follows (symbol symbols.CloseBracket) (λ m. nothing (Slice a high low))))))
 
+abbrev pub joined : Syntax Terminal Expression
+joined =
+    follows (symbol symbols.OpenBrace) (λ k. follows id (λ a. follows (symbol symbols.Comma) (λ l. follows id (λ b.
+    follows (symbol symbols.CloseBrace) (λ m. nothing (Joined a b))))))
+
 abbrev pub written_range : Syntax Terminal (Option (Spot × Spot))
 written_range =
     follows (symbol symbols.OpenBracket) (λ k. follows number (λ high. follows (symbol symbols.Colon) (λ l. follows number (λ low.
     follows (symbol symbols.CloseBracket) (λ m. nothing (Some (high, low)))))))
+
+-- "else" id "<=" id ";"
+abbrev pub otherwise : (clock reset target initial : Spot) → Syntax Terminal Statement
+otherwise clock reset target initial =
+    follows (word keywords.Else) (λ k1. follows id (λ second. follows (symbol symbols.LessEqual) (λ k2. follows id (λ source.
+    follows (symbol symbols.Semicolon) (λ s. nothing (Always clock reset target initial second source))))))
+
+-- "if" "(" id ")" id "<=" lit ";" and what follows
+abbrev pub at_reset : (clock : Spot) → Syntax Terminal Statement
+at_reset clock =
+    follows (word keywords.If) (λ k1. follows (symbol symbols.OpenParen) (λ k2. follows id (λ reset. follows (symbol symbols.CloseParen) (λ k3.
+    follows id (λ target. follows (symbol symbols.LessEqual) (λ k4. follows literal (λ initial. follows (symbol symbols.Semicolon) (λ s.
+    otherwise clock reset target initial))))))))
 
 abbrev pub stmt : Syntax Terminal Statement
 stmt = either assign always
@@ -189,3 +193,10 @@ another_decl ds = follows decl (λ d. nothing (ds ++ d ∷ []))
 
 abbrev pub another_stmt : List Statement → Syntax Terminal (List Statement)
 another_stmt ss = follows stmt (λ s. nothing (ss ++ s ∷ []))
+
+-- { decl } { stmt } "endmodule"
+abbrev pub body : List Spot → Syntax Terminal File
+body hs =
+    follows (many (λ (ds : List Declaration). follows decl (λ d. nothing (ds ++ d ∷ []))) []) (λ ds.
+    follows (many (λ (ss : List Statement). follows (either assign always) (λ s. nothing (ss ++ s ∷ []))) []) (λ ss.
+    follows (word keywords.Endmodule) (λ e. nothing (record { header = hs; declarations = ds; statements = ss }))))
