@@ -94,24 +94,16 @@ abbrev pub find : List Declaration → List ℕ → Option Declaration
 find [] name = None
 find (d ∷ ds) name = if bytes_eq d.name.bytes name then Some d else find ds name
 
-abbrev pub is_input : Sort → Bool
-is_input sorts.Input = true
-is_input _ = false
-
-abbrev pub is_output : Sort → Bool
-is_output sorts.Output = true
-is_output _ = false
-
-abbrev pub is_reg : Sort → Bool
-is_reg sorts.Reg = true
-is_reg _ = false
-
-abbrev pub is_wire : Sort → Bool
-is_wire sorts.Wire = true
-is_wire _ = false
+-- whether a declaration is of this sort
+abbrev pub is_a : Sort → Sort → Bool
+is_a sorts.Input sorts.Input = true
+is_a sorts.Output sorts.Output = true
+is_a sorts.Reg sorts.Reg = true
+is_a sorts.Wire sorts.Wire = true
+is_a _ _ = false
 
 abbrev pub is_port : Sort → Bool
-is_port s = is_input s || is_output s
+is_port s = is_a sorts.Input s || is_a sorts.Output s
 
 -- whether a name is declared, and passes the test
 abbrev pub passes : (Declaration → Bool) → Option Declaration → Bool
@@ -134,8 +126,8 @@ has_bit ds p name = passes (λ d. p d.sort && (range_width d.range == 1)) (find 
 
 abbrev pub has_ports : List Declaration → Bool
 has_ports ds =
-    has_bit ds is_input (codes "clk") && has_bit ds is_input (codes "rst") && has_bit ds is_input (codes "start")
-    && has_bit ds is_output (codes "done") && passes (λ d. is_output d.sort) (find ds (codes "result"))
+    has_bit ds (is_a sorts.Input) (codes "clk") && has_bit ds (is_a sorts.Input) (codes "rst") && has_bit ds (is_a sorts.Input) (codes "start")
+    && has_bit ds (is_a sorts.Output) (codes "done") && passes (λ d. is_a sorts.Output d.sort) (find ds (codes "result"))
 
 -- the names of the header are those of the ports
 abbrev pub all_port_faults : File → List VFault
@@ -148,14 +140,14 @@ all_port_faults f =
 
 -- an input other than the clock and the reset
 abbrev pub is_data : Declaration → Bool
-is_data d = is_input d.sort && not (bytes_eq d.name.bytes (codes "clk")) && not (bytes_eq d.name.bytes (codes "rst"))
+is_data d = is_a sorts.Input d.sort && not (bytes_eq d.name.bytes (codes "clk")) && not (bytes_eq d.name.bytes (codes "rst"))
 
 -- an input other than the clock and the reset, a register or a wire
 abbrev pub is_signal : Declaration → Bool
-is_signal d = is_data d || is_reg d.sort || is_wire d.sort
+is_signal d = is_data d || is_a sorts.Reg d.sort || is_a sorts.Wire d.sort
 
 abbrev pub is_target : Declaration → Bool
-is_target d = is_wire d.sort || is_output d.sort
+is_target d = is_a sorts.Wire d.sort || is_a sorts.Output d.sort
 
 abbrev pub unfit_faults : List Declaration → Spot → List VFault
 unfit_faults ds x = where_not (passes is_signal (find ds x.bytes)) (at rules.V04 x.place)
@@ -207,13 +199,13 @@ width_faults place wanted found = where_not (wanted == found) (record { rule = r
 abbrev pub statement_faults : List Declaration → List Statement → Statement → List VFault
 statement_faults ds before (Assign x e) =
     where_not (passes is_target (find ds x.bytes)) (at rules.V04 x.place)
-    ++ where_not (is_none (assigned before x.bytes) && (not (passes (λ d. is_output d.sort) (find ds x.bytes)) || is_plain e)) (at rules.V07 x.place)
+    ++ where_not (is_none (assigned before x.bytes) && (not (passes (λ d. is_a sorts.Output d.sort) (find ds x.bytes)) || is_plain e)) (at rules.V07 x.place)
     ++ flat_map (unfit_faults ds) (operands e)
     ++ width_faults x.place (width_of ds x.bytes) (expression_width ds e)
 statement_faults ds before (Always clock reset target initial second source) =
     where_not (bytes_eq clock.bytes (codes "clk")) (at rules.V08 clock.place)
     ++ where_not (bytes_eq reset.bytes (codes "rst")) (at rules.V08 reset.place)
-    ++ where_not (passes (λ d. is_reg d.sort) (find ds target.bytes)) (at rules.V08 target.place)
+    ++ where_not (passes (λ d. is_a sorts.Reg d.sort) (find ds target.bytes)) (at rules.V08 target.place)
     ++ where_not (bytes_eq second.bytes target.bytes) (at rules.V08 second.place)
     ++ where_not (is_none (updated before target.bytes)) (at rules.V08 target.place)
     ++ unfit_faults ds source
@@ -230,7 +222,7 @@ all_statement_faults ds before (s ∷ ss) = statement_faults ds before s ++ all_
 abbrev pub missing_faults : List Statement → Declaration → List VFault
 missing_faults ss d =
     where_not (not (is_target d) || not (is_none (assigned ss d.name.bytes))) (at rules.V07 d.name.place)
-    ++ where_not (not (is_reg d.sort) || not (is_none (updated ss d.name.bytes))) (at rules.V08 d.name.place)
+    ++ where_not (not (is_a sorts.Reg d.sort) || not (is_none (updated ss d.name.bytes))) (at rules.V08 d.name.place)
 
 -- all faults of a file: of numbers and ranges, names, ports, statements, and of what is missing
 unfoldable pub faults : File → List VFault
@@ -248,6 +240,18 @@ abbrev pub always_faults : List Declaration → List Statement → (clock reset 
 always_faults ds before clock reset target initial second source = statement_faults ds before (Always clock reset target initial second source)
 
 -- ---- parts by name
+
+abbrev pub is_input : Sort → Bool
+is_input s = is_a sorts.Input s
+
+abbrev pub is_output : Sort → Bool
+is_output s = is_a sorts.Output s
+
+abbrev pub is_reg : Sort → Bool
+is_reg s = is_a sorts.Reg s
+
+abbrev pub is_wire : Sort → Bool
+is_wire s = is_a sorts.Wire s
 
 abbrev pub is_word : ℕ → ℕ → Bool
 is_word width bits = nat_le 1 width && nat_le width width_max && nat_lt bits (2 ^ width)

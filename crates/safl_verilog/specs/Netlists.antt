@@ -6,11 +6,11 @@ use Rattle.safl_net.specs.Netlist.{Netlist, Signal, Kind, Input, Reg, Wire, Cell
 use Rattle.safl_verilog.specs.declared.token.Sort.{Sort}
 use Rattle.safl_verilog.specs.declared.token.Sort.TheVariants as sorts
 use Rattle.safl_verilog.specs.Files.{Spot, Expression, Plain, Declaration, File}
-use Rattle.safl_verilog.specs.Faults.{is_data, is_reg, is_wire, is_output, range_width, literal_value, operation, operands, assigned, updated}
+use Rattle.safl_verilog.specs.Faults.{is_data, is_a, range_width, literal_value, operation, operands, assigned, updated}
 
 -- the declarations of signals: inputs other than the clock and the reset, then registers, then wires
 abbrev pub signals_of : List Declaration → List Declaration
-signals_of ds = filter is_data ds ++ filter (λ (d : Declaration). is_reg d.sort) ds ++ filter (λ (d : Declaration). is_wire d.sort) ds
+signals_of ds = filter is_data ds ++ filter (λ (d : Declaration). is_a sorts.Reg d.sort) ds ++ filter (λ (d : Declaration). is_a sorts.Wire d.sort) ds
 
 abbrev pub place_of : List Declaration → List ℕ → ℕ
 place_of [] name = 0
@@ -41,7 +41,7 @@ netlist f = record {
       map (λ (d : Declaration). record { name = d.name.bytes; width = range_width d.range; kind = kind_of f d.sort d.name.bytes }) (signals_of f.declarations);
   outputs =
       map (λ (d : Declaration). (d.name.bytes, shown_signal f.declarations (assigned f.statements d.name.bytes)))
-      (filter (λ (d : Declaration). is_output d.sort) f.declarations);
+      (filter (λ (d : Declaration). is_a sorts.Output d.sort) f.declarations);
 }
 
 -- ---- parts by name
