@@ -107,13 +107,11 @@ is_port s = is_a sorts.Input s || is_a sorts.Output s
 
 -- whether a name is declared, and passes the test
 abbrev pub passes : (Declaration → Bool) → Option Declaration → Bool
-passes p None = false
-passes p (Some d) = p d
+passes p o = option_map_or p o false
 
 -- the width of a range. Without a range it is 1
 abbrev pub range_width : Option (Spot × Spot) → ℕ
-range_width None = 1
-range_width (Some r) = value 10 r.0.bytes + 1
+range_width o = option_map_or (λ (r : Spot × Spot). value 10 r.0.bytes + 1) o 1
 
 -- the width of a name, or 0 if it is not declared
 abbrev pub width_of : List Declaration → List ℕ → ℕ
