@@ -151,23 +151,14 @@ abbrev pub unfit_faults : List Declaration → Spot → List VFault
 unfit_faults ds x = where_not (passes is_signal (find ds x.bytes)) (at rules.V04 x.place)
 
 -- the operation of an expression, and the names that are its operands
-abbrev pub operation : Expression → Op
-operation (Literal l) = ops.Const (record { width = literal_width l.bytes; bits = literal_value l.bytes })
-operation (Plain a) = ops.Copy
-operation (Inverted a) = ops.Apply prims.Not
-operation (Binary p a b) = ops.Apply p
-operation (Choice a b c) = ops.Mux
-operation (Joined a b) = ops.Apply prims.Cat
-operation (Slice a high low) = ops.Apply (prims.Bits (value 10 high.bytes) (value 10 low.bytes))
-
-abbrev pub operands : Expression → List Spot
-operands (Literal l) = []
-operands (Plain a) = a ∷ []
-operands (Inverted a) = a ∷ []
-operands (Binary p a b) = a ∷ b ∷ []
-operands (Choice a b c) = a ∷ b ∷ c ∷ []
-operands (Joined a b) = a ∷ b ∷ []
-operands (Slice a high low) = a ∷ []
+abbrev pub parts : Expression → Op × List Spot
+parts (Literal l) = (ops.Const (record { width = literal_width l.bytes; bits = literal_value l.bytes }), [])
+parts (Plain a) = (ops.Copy, a ∷ [])
+parts (Inverted a) = (ops.Apply prims.Not, a ∷ [])
+parts (Binary p a b) = (ops.Apply p, a ∷ b ∷ [])
+parts (Choice a b c) = (ops.Mux, a ∷ b ∷ c ∷ [])
+parts (Joined a b) = (ops.Apply prims.Cat, a ∷ b ∷ [])
+parts (Slice a high low) = (ops.Apply (prims.Bits (value 10 high.bytes) (value 10 low.bytes)), a ∷ [])
 
 abbrev pub is_plain : Expression → Bool
 is_plain (Plain a) = true
@@ -175,7 +166,7 @@ is_plain _ = false
 
 -- the width of an expression, or 0 if its operands do not fit
 abbrev pub expression_width : List Declaration → Expression → ℕ
-expression_width ds e = unwrap_or (op_width (operation e) (map (λ (a : Spot). width_of ds a.bytes) (operands e))) 0
+expression_width ds e = unwrap_or (op_width (parts e).0 (map (λ (a : Spot). width_of ds a.bytes) (parts e).1)) 0
 
 -- what the first assignment to a name assigns, if there is one
 abbrev pub assigned : List Statement → List ℕ → Option Expression
@@ -198,7 +189,7 @@ abbrev pub statement_faults : List Declaration → List Statement → Statement 
 statement_faults ds before (Assign x e) =
     where_not (passes is_target (find ds x.bytes)) (at rules.V04 x.place)
     ++ where_not (is_none (assigned before x.bytes) && (not (passes (λ d. is_a sorts.Output d.sort) (find ds x.bytes)) || is_plain e)) (at rules.V07 x.place)
-    ++ flat_map (unfit_faults ds) (operands e)
+    ++ flat_map (unfit_faults ds) (parts e).1
     ++ width_faults x.place (width_of ds x.bytes) (expression_width ds e)
 statement_faults ds before (Always clock reset target initial second source) =
     where_not (bytes_eq clock.bytes (codes "clk")) (at rules.V08 clock.place)
@@ -238,6 +229,12 @@ abbrev pub always_faults : List Declaration → List Statement → (clock reset 
 always_faults ds before clock reset target initial second source = statement_faults ds before (Always clock reset target initial second source)
 
 -- ---- parts by name
+
+abbrev pub operation : Expression → Op
+operation e = (parts e).0
+
+abbrev pub operands : Expression → List Spot
+operands e = (parts e).1
 
 abbrev pub is_input : Sort → Bool
 is_input s = is_a sorts.Input s

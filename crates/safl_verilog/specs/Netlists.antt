@@ -6,7 +6,7 @@ use Rattle.safl_net.specs.Netlist.{Netlist, Signal, Kind, Input, Reg, Wire, Cell
 use Rattle.safl_verilog.specs.declared.token.Sort.{Sort}
 use Rattle.safl_verilog.specs.declared.token.Sort.TheVariants as sorts
 use Rattle.safl_verilog.specs.Files.{Spot, Expression, Plain, Declaration, File}
-use Rattle.safl_verilog.specs.Faults.{is_data, is_a, range_width, literal_value, operation, operands, assigned, updated}
+use Rattle.safl_verilog.specs.Faults.{is_data, is_a, range_width, literal_value, parts, assigned, updated}
 
 -- the declarations of signals: inputs other than the clock and the reset, then registers, then wires
 abbrev pub signals_of : List Declaration → List Declaration
@@ -26,7 +26,7 @@ abbrev pub kind_of : File → Sort → List ℕ → Kind
 kind_of f sorts.Reg name =
     option_map_or (λ (u : Spot × Spot). Reg (literal_value u.0.bytes) (Some (number_of f.declarations u.1.bytes))) (updated f.statements name) (Reg 0 None)
 kind_of f sorts.Wire name =
-    Wire (option_map (λ (e : Expression). record { op = operation e; operands = map (λ (a : Spot). number_of f.declarations a.bytes) (operands e) })
+    Wire (option_map (λ (e : Expression). record { op = (parts e).0; operands = map (λ (a : Spot). number_of f.declarations a.bytes) (parts e).1 })
     (assigned f.statements name))
 kind_of f _ name = Input
 
@@ -47,7 +47,7 @@ netlist f = record {
 -- ---- parts by name
 
 abbrev pub cell_of : List Declaration → Expression → Cell
-cell_of ds e = record { op = operation e; operands = map (λ (a : Spot). number_of ds a.bytes) (operands e) }
+cell_of ds e = record { op = (parts e).0; operands = map (λ (a : Spot). number_of ds a.bytes) (parts e).1 }
 
 abbrev pub driven : List Declaration → Option Expression → Option Cell
 driven ds o = option_map (λ (e : Expression). cell_of ds e) o
