@@ -1,5 +1,6 @@
 -- The heads of a program's functions, and which of them a call may name.
 use Rattle.std.specs.Prelude.{ℕ, suc, ◌+◌, List, [], ◌∷◌, map, Option, Some, None, Bool, ◌&&◌, ◌==◌, nat_lt, if◌then◌else◌}
+use Rattle.std.specs.Option.{option_map_or}
 use Rattle.std.specs.Str.{bytes_eq}
 use Rattle.safl_tree.specs.Tree.{Definition, Parameter}
 use Rattle.safl_typing.specs.Rewriting.{Expression, Call, Expressions, Bindings, gathered, gathered_in, gathered_bound}
@@ -53,13 +54,10 @@ pub data Callee : Type 0 where
   Above : (number : ℕ) (head : Head) → Callee
   Unknown : Callee
 
-abbrev pub member_or : Option Numbered → Option Numbered → Callee
-member_or (Some m) above = Member m.number m.head
-member_or None (Some m) = Above m.number m.head
-member_or None None = Unknown
-
 abbrev pub callee : Known → List ℕ → Callee
-callee k f = member_or (first_head (λ h. h.unit == k.unit && bytes_eq h.name f) 0 k.heads) (first_head (λ h. nat_lt h.unit k.unit && bytes_eq h.name f) 0 k.heads)
+callee k f =
+    option_map_or (λ (m : Numbered). Member m.number m.head) (first_head (λ h. h.unit == k.unit && bytes_eq h.name f) 0 k.heads)
+    (option_map_or (λ (m : Numbered). Above m.number m.head) (first_head (λ h. nat_lt h.unit k.unit && bytes_eq h.name f) 0 k.heads) Unknown)
 
 -- 1 if a call of this function is a call site, else 0. It is one unless the function belongs to the caller's group
 abbrev pub is_site : Callee → ℕ
@@ -82,6 +80,9 @@ abbrev pub sites_bound : Known → Bindings → ℕ
 sites_bound k bs = gathered_bound (and_own_site k) (λ (m n : ℕ). m + n) 0 bs
 
 -- ---- parts by name
+
+abbrev pub member_or : Option Numbered → Option Numbered → Callee
+member_or o above = option_map_or (λ (m : Numbered). Member m.number m.head) o (option_map_or (λ (m : Numbered). Above m.number m.head) above Unknown)
 
 abbrev pub slot_of : Parameter → Slot
 slot_of p = record { name = p.name; width = p.width }
