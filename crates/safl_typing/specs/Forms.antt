@@ -13,7 +13,7 @@ use Rattle.safl_word.specs.Limits.{bindings_max, depth_max, functions_max, param
 use Rattle.safl_term.specs.Tree.{shown_term}
 use Rattle.safl_tree.specs.Tree.{Definition, depth}
 use Rattle.safl_typing.specs.Rewriting.{Expression, Number, Sized, Variable, If, Let, Op, Call, Expressions, no_expression, an_expression, Bindings, no_binding, a_binding, rewritten, nodes, long_let}
-use Rattle.safl_typing.specs.Heads.{Slot, Head, unit_of, params_of, heads}
+use Rattle.safl_typing.specs.Heads.{Slot, Head, unit_of, params_of, heads_from}
 use Rattle.safl_typing.specs.Typing.{Differ, names, Has}
 
 pub record FunctionForm : Type 0 where
@@ -129,7 +129,7 @@ function_names ds = map (λ d. d.name) ds
 -- the program has this numbered form
 pub record IsFormOf (ds : List Definition) (c : Form) : Type 0 where
   pub last_site : ℕ
-  pub functions : AreFunctionsOf (heads ds) 0 0 0 1 (suc last_site) ds c.functions
+  pub functions : AreFunctionsOf (heads_from 0 0 ds) 0 0 0 1 (suc last_site) ds c.functions
   pub sites : c.sites ≡ all_sites 0 c.functions
   pub functions_differ : Differ (function_names ds)
   pub main : IsLast (codes "main") ds

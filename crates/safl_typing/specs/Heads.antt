@@ -30,9 +30,6 @@ heads_from n u [] = []
 heads_from n u (d ∷ ds) =
     record { name = d.name; params = params_of d; width = d.width; unit = unit_of n u d } ∷ heads_from (suc n) (unit_of n u d) ds
 
-abbrev pub heads : List Definition → List Head
-heads ds = heads_from 0 0 ds
-
 -- what a body sees: all heads of the program, and its own group
 pub record Known : Type 0 where
   pub heads : List Head
@@ -80,6 +77,9 @@ abbrev pub sites_bound : Known → Bindings → ℕ
 sites_bound k bs = gathered_bound (and_own_site k) (λ (m n : ℕ). m + n) 0 bs
 
 -- ---- parts by name
+
+abbrev pub heads : List Definition → List Head
+heads ds = heads_from 0 0 ds
 
 abbrev pub member_or : Option Numbered → Option Numbered → Callee
 member_or o above = option_map_or (λ (m : Numbered). Member m.number m.head) o (option_map_or (λ (m : Numbered). Above m.number m.head) above Unknown)
