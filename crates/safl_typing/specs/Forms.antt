@@ -123,15 +123,12 @@ IsLast x [] = ⊥
 IsLast x (d ∷ []) = d.name ≡ x
 IsLast x (d ∷ (e ∷ ds)) = IsLast x (e ∷ ds)
 
-abbrev pub function_names : List Definition → List (List ℕ)
-function_names ds = map (λ d. d.name) ds
-
 -- the program has this numbered form
 pub record IsFormOf (ds : List Definition) (c : Form) : Type 0 where
   pub last_site : ℕ
   pub functions : AreFunctionsOf (heads_from 0 0 ds) 0 0 0 1 (suc last_site) ds c.functions
   pub sites : c.sites ≡ all_sites 0 c.functions
-  pub functions_differ : Differ (function_names ds)
+  pub functions_differ : Differ (map (λ d. d.name) ds)
   pub main : IsLast (codes "main") ds
   pub few_functions : length ds ≤ functions_max
   pub few_sites : last_site ≤ sites_max
@@ -140,3 +137,8 @@ pub record IsFormOf (ds : List Definition) (c : Form) : Type 0 where
 -- the definitions have a numbered form
 abbrev pub HasForm : List Definition → Type 0
 HasForm ds = (c : Form) × IsFormOf ds c
+
+-- ---- parts by name
+
+abbrev pub function_names : List Definition → List (List ℕ)
+function_names ds = map (λ d. d.name) ds
