@@ -59,14 +59,11 @@ Suits Comparing o es vs w = (w ≡ 1) × (u : ℕ) × AllByRecursion (λ (v : �
 Suits Shifting o es vs w = Shifts w es vs
 Suits Resizing o es vs w = AllRigid es × (result_width o vs ≡ Some w)
 
-abbrev pub widths_of : List Slot → List ℕ
-widths_of ps = map (λ p. p.width) ps
-
 -- A call with arguments us of widths ws. If it names a function of the caller's own group, it is a loop, and must be in tail position. If
 -- it names a function of an earlier group, it has a site, which comes before those of its arguments.
 abbrev pub Calls : Callee → Bool → ℕ → ℕ → List ℕ → Terms → ℕ → Term → Type 0
-Calls (Member i h) tail lo m ws us w t = (tail ≡ true) × (m ≡ lo) × (ws ≡ widths_of h.params) × (h.width ≡ w) × (t ≡ Loop i us)
-Calls (Above i h) tail lo m ws us w t = (m ≡ suc lo) × (ws ≡ widths_of h.params) × (h.width ≡ w) × (t ≡ terms.Call i lo us)
+Calls (Member i h) tail lo m ws us w t = (tail ≡ true) × (m ≡ lo) × (ws ≡ map (λ p. p.width) h.params) × (h.width ≡ w) × (t ≡ Loop i us)
+Calls (Above i h) tail lo m ws us w t = (m ≡ suc lo) × (ws ≡ map (λ p. p.width) h.params) × (h.width ≡ w) × (t ≡ terms.Call i lo us)
 Calls Unknown tail lo m ws us w t = ⊥
 
 -- In a body that sees the functions of k, with slots s, the expression has width w and term t. Its sites are those from lo up to,
@@ -95,6 +92,9 @@ abbrev mutual
   HaveBound k s lo hi bs ws us = ⊥
 
 -- ---- parts by name
+
+abbrev pub widths_of : List Slot → List ℕ
+widths_of ps = map (λ p. p.width) ps
 
 abbrev pub names : Bindings → List (List ℕ)
 names bs = map (λ (x : Placed). x.name) (placed bs)
