@@ -31,12 +31,8 @@ mutual
 abbrev pub scrutinee : List ℕ
 scrutinee = codes "$case"
 
--- the test whether the selecting value equals a label. The test and its variable have the place of the label
-abbrev pub test_at : ℕ → Expression → Expression
-test_at p l = Op p prims.Eq (an_expression (Variable p scrutinee) (an_expression l no_expression))
-
 -- A case is a let of its selecting value over an if for each labelled arm, in order, and then the default. The let and the ifs
--- have the place of the `case`.
+-- have the place of the `case`; the test whether the selecting value equals a label has the place of the label.
 abbrev mutual
   pub rewritten : Tree → Expression
   rewritten (source.Number p n) = Number p n
@@ -58,7 +54,9 @@ abbrev mutual
 
   pub rewritten_arms : ℕ → Arms → Expression
   rewritten_arms p (source.default_arm t) = rewritten t
-  rewritten_arms p (source.an_arm l t arms) = If p (test_at (place_of l) (rewritten l)) (rewritten t) (rewritten_arms p arms)
+  rewritten_arms p (source.an_arm l t arms) =
+      If p (Op (place_of l) prims.Eq (an_expression (Variable (place_of l) scrutinee) (an_expression (rewritten l) no_expression)))
+      (rewritten t) (rewritten_arms p arms)
 
 -- What an operator requires of the widths of its operands. Alike: all have one width, and so has the result (`+ - * & | ^ ~`).
 -- Comparing: all have one width, and the result has one bit. Shifting: the result has the width of the first operand. Resizing:
@@ -162,3 +160,8 @@ long_let_in es = gathered_in own_excess_or (λ (o p : Option ℕ). option_or o p
 
 abbrev pub long_let_bound : Bindings → Option ℕ
 long_let_bound bs = gathered_bound own_excess_or (λ (o p : Option ℕ). option_or o p) None bs
+
+-- ---- parts by name
+
+abbrev pub test_at : ℕ → Expression → Expression
+test_at p l = Op p prims.Eq (an_expression (Variable p scrutinee) (an_expression l no_expression))
