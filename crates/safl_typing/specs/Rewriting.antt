@@ -1,6 +1,7 @@
 -- Expressions in which each `case` is rewritten as a let and ifs.
-use Rattle.std.specs.Prelude.{ℕ, ◌+◌, List, [], ◌∷◌, map, slice_get, Option, None, Bool, true, false, ◌&&◌, codes}
+use Rattle.std.specs.Prelude.{ℕ, ◌+◌, List, [], ◌∷◌, map, slice_get, Option, None, Bool, true, false, ◌&&◌, ◌==◌, if◌then◌else◌, codes}
 use Rattle.safl_word.specs.Limits.{bindings_max}
+use Rattle.safl_word.specs.Operators.{layer_of}
 use Rattle.std.specs.Option.{option_or}
 use Rattle.safl_word.specs.declared.primitive.Primitive.{Primitive}
 use Rattle.safl_word.specs.declared.primitive.Primitive.TheVariants as prims
@@ -67,19 +68,12 @@ pub data Shape : Type 0 where
   Shifting : Shape
   Resizing : Shape
 
+-- by the layer of the operator's symbol
 abbrev pub shape : Primitive → Shape
-shape prims.Eq = Comparing
-shape prims.Ne = Comparing
-shape prims.Lt = Comparing
-shape prims.Le = Comparing
-shape prims.Gt = Comparing
-shape prims.Ge = Comparing
-shape prims.Shl = Shifting
-shape prims.Shr = Shifting
 shape prims.Cat = Resizing
 shape (prims.Bits high low) = Resizing
 shape (prims.Ext n) = Resizing
-shape _ = Alike
+shape o = if layer_of o == 2 then Shifting else if layer_of o == 3 then Comparing else Alike
 
 abbrev pub takes_width : Shape → Bool
 takes_width Alike = true
