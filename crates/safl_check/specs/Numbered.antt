@@ -17,22 +17,18 @@ abbrev pub of_site : (Site → ℕ) → ℕ → Form → ℕ → ℕ
 of_site has outside c zero = outside
 of_site has outside c (suc k) = option_map_or has (slice_get c.sites k) 0
 
--- the number of the last function
-abbrev pub main_in : Form → ℕ
-main_in c = length c.functions - 1
-
--- the program in numbers
+-- the program in numbers. Main is the last function
 unfoldable pub program_in : Form → Program
 program_in c = record {
   functions = length c.functions;
   sites = length c.sites;
-  main = main_in c;
+  main = length c.functions - 1;
   unit = of_function (λ f. f.unit) 0 c;
   body = of_function (λ f. f.body) (Const no_word) c;
   params = of_function (λ f. map (λ p. p.width) f.params) [] c;
   result = of_function (λ f. f.width) 0 c;
   caller = of_site (λ s. s.caller) 0 c;
-  callee = of_site (λ s. s.callee) (main_in c) c;
+  callee = of_site (λ s. s.callee) (length c.functions - 1) c;
 }
 
 -- the names of functions, and those of their parameters
@@ -44,3 +40,8 @@ param_names_in = of_function (λ f. map (λ p. p.name) f.params) []
 
 abbrev pub names_in : Form → Names
 names_in c = record { name = name_in c; params = param_names_in c }
+
+-- ---- parts by name
+
+abbrev pub main_in : Form → ℕ
+main_in c = length c.functions - 1
