@@ -30,18 +30,12 @@ text_in _ = []
 abbrev pub spelled : List ℕ → Terminal → Option Spot
 spelled text t = if bytes_eq text (text_in t.kind) then Some (spot t) else None
 
--- an identifier, a number and a sized number
-abbrev pub identifier_in : TokenKind → Spot → Option Spot
-identifier_in kinds.Identifier x = Some x
-identifier_in _ x = None
-
-abbrev pub number_in : TokenKind → Spot → Option Spot
-number_in kinds.Number x = Some x
-number_in _ x = None
-
-abbrev pub literal_in : TokenKind → Spot → Option Spot
-literal_in kinds.Sized x = Some x
-literal_in _ x = None
+-- an identifier, a number or a sized number stands for itself
+abbrev pub of_kind : TokenKind → TokenKind → Spot → Option Spot
+of_kind kinds.Identifier kinds.Identifier x = Some x
+of_kind kinds.Number kinds.Number x = Some x
+of_kind kinds.Sized kinds.Sized x = Some x
+of_kind _ _ x = None
 
 -- the keyword of a declaration
 abbrev pub declares : TokenKind → Option Sort
@@ -60,13 +54,13 @@ abbrev pub symbol : Symbol → Syntax Terminal Spot
 symbol s = token (spelled (symbol_text s))
 
 abbrev pub id : Syntax Terminal Spot
-id = token (λ (t : Terminal). identifier_in t.kind (spot t))
+id = token (λ (t : Terminal). of_kind kinds.Identifier t.kind (spot t))
 
 abbrev pub number : Syntax Terminal Spot
-number = token (λ (t : Terminal). number_in t.kind (spot t))
+number = token (λ (t : Terminal). of_kind kinds.Number t.kind (spot t))
 
 abbrev pub literal : Syntax Terminal Spot
-literal = token (λ (t : Terminal). literal_in t.kind (spot t))
+literal = token (λ (t : Terminal). of_kind kinds.Sized t.kind (spot t))
 
 -- an operator stands for the primitive on two words that has its symbol
 abbrev pub operator : Syntax Terminal Primitive
@@ -134,6 +128,15 @@ file =
     follows (word keywords.Endmodule) (λ e. nothing (record { header = hs; declarations = ds; statements = ss }))))))))))
 
 -- ---- parts of productions
+
+abbrev pub identifier_in : TokenKind → Spot → Option Spot
+identifier_in k x = of_kind kinds.Identifier k x
+
+abbrev pub number_in : TokenKind → Spot → Option Spot
+number_in k x = of_kind kinds.Number k x
+
+abbrev pub literal_in : TokenKind → Spot → Option Spot
+literal_in k x = of_kind kinds.Sized k x
 
 abbrev pub constant : Syntax Terminal Expression
 constant = follows literal (λ l. nothing (Literal l))
