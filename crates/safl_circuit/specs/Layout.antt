@@ -3,6 +3,7 @@ use Rattle.std.specs.Prelude.{ℕ, zero, suc, ◌<◌, ◌≤◌, List, [], ◌�
 use Rattle.safl_term.specs.Names.{Names}
 use Rattle.safl_sites.specs.Plan.{Choice}
 use Rattle.std.specs.Fmt.{decimal}
+use Rattle.std.specs.List.{zip}
 use Rattle.safl_term.specs.Program.{Program, unit_for}
 use Rattle.safl_circuit.specs.Equations.{many}
 use Rattle.safl_net.specs.declared.cell.Op.TheVariants.{Copy}
@@ -18,18 +19,12 @@ unfoldable pub lines : (ℕ → List Line) → ℕ → List Line
 lines g zero = []
 lines g (suc n) = lines g n ++ g n
 
--- names with their widths
-abbrev pub named : List (List ℕ) → List ℕ → List Line
-named [] ws = []
-named (x ∷ xs) [] = []
-named (x ∷ xs) (w ∷ ws) = (x, w) ∷ named xs ws
-
 -- the registers of a function: `at` if its unit has other functions, and one for each parameter
 abbrev pub member_lines : Program → Names → ℕ → ℕ → List Line
 member_lines C D u f =
     cond (C.unit f == u)
     (cond (many C f) ((of_function D (codes "at$") f, 1) ∷ []) []
-    ++ named (map (of_param D f) (D.params f)) (C.params f))
+    ++ zip (map (of_param D f) (D.params f)) (C.params f))
     []
 
 -- the registers of a unit: run, fin and res, then those of its functions
@@ -73,10 +68,6 @@ site_wires C P k =
 abbrev pub layout_wires : Program → Names → Choice → List Line
 layout_wires C D P = lines (function_wires D) C.functions ++ (lines (site_wires C P) (suc C.sites) ++ (codes "go$main", 1) ∷ [])
 
--- the inputs: `start`, and a port for each parameter of main
-abbrev pub layout_inputs : Program → Names → List Line
-layout_inputs C D = (codes "start", 1) ∷ named (map (λ x. codes "in$" ++ x) (D.params C.main)) (C.params C.main)
-
 -- the line of a signal if it is of a kind
 abbrev pub input_kind : Line → Kind → List Line
 input_kind l Input = l ∷ []
@@ -94,14 +85,6 @@ wire_kind l _ = []
 unfoldable pub each_line : (Line → Kind → List Line) → List Signal → List Line
 each_line f [] = []
 each_line f (g ∷ gs) = f (g.name, g.width) g.kind ++ each_line f gs
-
--- the outputs with the widths of their signals
-abbrev pub output_lines : Netlist → List Line
-output_lines n = map (λ o. (o.0, width_of n o.1)) n.outputs
-
--- the outputs of a circuit
-abbrev pub layout_outputs : Program → List Line
-layout_outputs C = (codes "done", 1) ∷ (codes "result", C.result C.main) ∷ []
 
 -- the line is in the list
 abbrev pub Has : Line → List Line → Type 0
@@ -130,3 +113,21 @@ pub record HasPlan (C : Program) (D : Names) (P : Choice) (n : Netlist) : Type 0
   pub widths : List ℕ
   pub wires : each_line wire_kind n.signals ≡ layout_wires C D P ++ temporaries (length (layout_wires C D P)) widths
   pub direct : (k : ℕ) → 0 < k → k ≤ C.sites → P.arbiter (unit_for C k) ≡ false → IsCopy n (of_site (codes "go$") k) (of_site (codes "want$") k)
+
+-- ---- parts by name
+
+-- names with their widths
+abbrev pub named : List (List ℕ) → List ℕ → List Line
+named xs ws = zip xs ws
+
+-- the inputs: `start`, and a port for each parameter of main
+abbrev pub layout_inputs : Program → Names → List Line
+layout_inputs C D = (codes "start", 1) ∷ named (map (λ x. codes "in$" ++ x) (D.params C.main)) (C.params C.main)
+
+-- the outputs with the widths of their signals
+abbrev pub output_lines : Netlist → List Line
+output_lines n = map (λ o. (o.0, width_of n o.1)) n.outputs
+
+-- the outputs of a circuit
+abbrev pub layout_outputs : Program → List Line
+layout_outputs C = (codes "done", 1) ∷ (codes "result", C.result C.main) ∷ []
