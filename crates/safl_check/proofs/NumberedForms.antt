@@ -59,11 +59,11 @@ program_shown c =
     }
 
 name_shown : (c : Tables) → name_of c ≡ name_in (form_of c)
-unfolding name_of name_in
+unfolding name_of
 name_shown c = λ k f. function_shown (λ g. string_bytes g.name) (λ g. g.name) [] c (λ g. refl) f k
 
 params_shown : (c : Tables) → tables.param_names c ≡ param_names_in (form_of c)
-unfolding tables.param_names param_names_in
+unfolding tables.param_names
 params_shown c = λ k f. function_shown (λ g. map (λ p. string_bytes p.name) g.params.items) (λ g. map (λ p. p.name) g.params) [] c (λ g. names_shown g.params.items) f k
 
 pub numbered : (c : CheckedProgram) → IsNumbered c

@@ -32,16 +32,17 @@ program_in c = record {
 }
 
 -- the names of functions, and those of their parameters
-unfoldable pub name_in : Form → ℕ → List ℕ
-name_in = of_function (λ f. f.name) []
-
-unfoldable pub param_names_in : Form → ℕ → List (List ℕ)
-param_names_in = of_function (λ f. map (λ p. p.name) f.params) []
-
 abbrev pub names_in : Form → Names
-names_in c = record { name = name_in c; params = param_names_in c }
+names_in c = record { name = of_function (λ f. f.name) [] c; params = of_function (λ f. map (λ p. p.name) f.params) [] c }
 
 -- ---- parts by name
+
+abbrev pub name_in : Form → ℕ → List ℕ
+name_in c = of_function (λ f. f.name) [] c
+
+abbrev pub param_names_in : Form → ℕ → List (List ℕ)
+param_names_in c = of_function (λ f. map (λ p. p.name) f.params) [] c
+
 
 abbrev pub main_in : Form → ℕ
 main_in c = length c.functions - 1
