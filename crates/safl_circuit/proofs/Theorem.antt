@@ -100,7 +100,6 @@ module _ (C : Program) (D : Names) (P : Choice) (n : Netlist) (wf : IsWellFormed
   pub is_circuit : IsCircuit C D P n
   is_circuit = record {
     correct = record {
-      whole = scheme.whole;
       acyclic = scheme.acyclic;
       inputs = scheme.inputs;
       outputs = scheme.outputs;

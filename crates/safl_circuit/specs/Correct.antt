@@ -10,7 +10,7 @@ use Rattle.safl_term.specs.WellFormed.{AreWordsOf}
 use Rattle.safl_sites.specs.Conflicts.{IsSequential}
 use Rattle.safl_calls.specs.Machine.{Event, opening, Legal, after, last_word}
 use Rattle.safl_calls.specs.Picks.{first}
-use Rattle.safl_net.specs.Netlist.{Netlist, AllSet, width_of}
+use Rattle.safl_net.specs.Netlist.{Netlist, width_of}
 use Rattle.safl_net.specs.Valuations.{Valuation, read, read_output, IsAcyclic, Fits, reset_state}
 use Rattle.safl_net.specs.Runs.{RunFrom}
 use Rattle.safl_sites.specs.Plan.{Choice}
@@ -70,10 +70,9 @@ pub record Behaves (C : Program) (D : Names) (n : Netlist) (state : ℕ → ℕ)
   -- no unit is started while it runs
   pub rests : EachCycle C n state (λ args c w. (k : ℕ) → k ≤ C.sites → go_up n w k ≡ true → read n w (of_function D (codes "run$") (unit_for C k)) ≢ 1)
 
--- The netlist is whole and acyclic, has the ports of the program, and behaves in all runs from reset. The registers and wires
+-- The netlist is acyclic, has the ports of the program, and behaves in all runs from reset. The registers and wires
 -- that this speaks of are there, and have width 1.
 pub record Correct (C : Program) (D : Names) (n : Netlist) : Type 0 where
-  pub whole : AllSet n
   pub acyclic : IsAcyclic n
   pub inputs : each_line input_kind n.signals ≡ (codes "start", 1) ∷ zip (map (λ x. codes "in$" ++ x) (D.params C.main)) (C.params C.main)
   pub outputs : map (λ o. (o.0, width_of n o.1)) n.outputs ≡ (codes "done", 1) ∷ (codes "result", C.result C.main) ∷ []

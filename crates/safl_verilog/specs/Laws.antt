@@ -30,6 +30,10 @@ NoShorterFile = (u v : List Terminal) (a b : File) → IsFile u a → IsFile (u 
 abbrev pub ReadsInOrder : Type 0
 ReadsInOrder = (text : List ℕ) (n : Netlist) → Reads text n → IsInOrder n
 
+-- every register of a netlist that is read has a next signal, every wire a cell, and the ports of each file are there
+abbrev pub ReadsWhole : Type 0
+ReadsWhole = (text : List ℕ) (n : Netlist) → Reads text n → IsWhole n
+
 -- the text that is written for a whole net reads as that net, if its signals are in this order
 abbrev pub WrittenReads : Type 0
 WrittenReads = (n : Netlist) → IsNetlist n → IsWhole n → IsInOrder n → Reads (written n) n

@@ -4,6 +4,7 @@
 mod driver;
 mod elaborate;
 mod expressions;
+pub mod laws;
 mod make;
 mod missing;
 mod names;
