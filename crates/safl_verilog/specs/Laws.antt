@@ -30,7 +30,7 @@ NoShorterFile = (u v : List Terminal) (a b : File) → IsFile u a → IsFile (u 
 abbrev pub ReadsInOrder : Type 0
 ReadsInOrder = (text : List ℕ) (n : Netlist) → Reads text n → IsInOrder n
 
--- every register of a netlist that is read has a next signal, every wire a cell, and the ports of each file are there
+-- a netlist that is read is whole: its registers and wires are set, and it has the ports of every circuit
 abbrev pub ReadsWhole : Type 0
 ReadsWhole = (text : List ℕ) (n : Netlist) → Reads text n → IsWhole n
 
