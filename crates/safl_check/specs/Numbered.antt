@@ -43,6 +43,5 @@ name_in c = of_function (λ f. f.name) [] c
 abbrev pub param_names_in : Form → ℕ → List (List ℕ)
 param_names_in c = of_function (λ f. map (λ p. p.name) f.params) [] c
 
-
 abbrev pub main_in : Form → ℕ
 main_in c = length c.functions - 1
