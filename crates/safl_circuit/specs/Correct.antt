@@ -10,12 +10,12 @@ use Rattle.safl_term.specs.WellFormed.{AreWordsOf}
 use Rattle.safl_sites.specs.Conflicts.{IsSequential}
 use Rattle.safl_calls.specs.Machine.{Event, opening, Legal, after, last_word}
 use Rattle.safl_calls.specs.Picks.{first}
-use Rattle.safl_net.specs.Netlist.{Netlist, width_of}
+use Rattle.safl_net.specs.Netlist.{Netlist}
 use Rattle.safl_net.specs.Valuations.{Valuation, read, read_output, IsAcyclic, Fits, reset_state}
 use Rattle.safl_net.specs.Runs.{RunFrom}
 use Rattle.safl_sites.specs.Plan.{Choice}
 use Rattle.safl_circuit.specs.Steps.{Shows, Quiet}
-use Rattle.safl_circuit.specs.Layout.{each_line, input_kind, register_kind, wire_kind, Has}
+use Rattle.safl_circuit.specs.Layout.{each_line, input_kind, register_kind, wire_kind, output_lines, Has}
 use Rattle.safl_circuit.specs.Names.{of_function, one, numbers, registers_now, of_site}
 use Rattle.safl_circuit.specs.Scheme.{go_up, net_events}
 
@@ -74,8 +74,8 @@ pub record Behaves (C : Program) (D : Names) (n : Netlist) (state : ℕ → ℕ)
 -- that this speaks of are there, and have width 1.
 pub record Correct (C : Program) (D : Names) (n : Netlist) : Type 0 where
   pub acyclic : IsAcyclic n
-  pub inputs : each_line input_kind n.signals ≡ (codes "start", 1) ∷ zip (map (λ x. codes "in$" ++ x) (D.params C.main)) (C.params C.main)
-  pub outputs : map (λ o. (o.0, width_of n o.1)) n.outputs ≡ (codes "done", 1) ∷ (codes "result", C.result C.main) ∷ []
+  pub inputs : each_line input_kind n.signals ≡ (codes "start", 1) ∷ zip (map (λ (x : List ℕ). codes "in$" ++ x) (D.params C.main)) (C.params C.main)
+  pub outputs : output_lines n ≡ (codes "done", 1) ∷ (codes "result", C.result C.main) ∷ []
   pub running : (f : ℕ) → f < C.functions → Has (of_function D (codes "run$") (C.unit f), 1) (each_line register_kind n.signals)
   pub starting : (k : ℕ) → 0 < k → k ≤ C.sites → Has (of_site (codes "go$") k, 1) (each_line wire_kind n.signals)
   pub starting_main : Has (codes "go$main", 1) (each_line wire_kind n.signals)

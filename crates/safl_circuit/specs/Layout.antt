@@ -86,6 +86,10 @@ unfoldable pub each_line : (Line → Kind → List Line) → List Signal → Lis
 each_line f [] = []
 each_line f (g ∷ gs) = f (g.name, g.width) g.kind ++ each_line f gs
 
+-- the outputs with the widths of their signals
+abbrev pub output_lines : Netlist → List Line
+output_lines n = map (λ o. (o.0, width_of n o.1)) n.outputs
+
 -- the line is in the list
 abbrev pub Has : Line → List Line → Type 0
 Has x [] = ⊥
@@ -123,10 +127,6 @@ named xs ws = zip xs ws
 -- the inputs: `start`, and a port for each parameter of main
 abbrev pub layout_inputs : Program → Names → List Line
 layout_inputs C D = (codes "start", 1) ∷ named (map (λ x. codes "in$" ++ x) (D.params C.main)) (C.params C.main)
-
--- the outputs with the widths of their signals
-abbrev pub output_lines : Netlist → List Line
-output_lines n = map (λ o. (o.0, width_of n o.1)) n.outputs
 
 -- the outputs of a circuit
 abbrev pub layout_outputs : Program → List Line

@@ -8,10 +8,10 @@ use Rattle.safl_term.specs.Program.{Program, unit_for}
 use Rattle.safl_calls.specs.Machine.{Event, Accept, Finish, Return, LoopInto}
 use Rattle.safl_calls.specs.Picks.{picks}
 use Rattle.safl_circuit.specs.Equations.{Registers, Inputs, many, ret, want, go, end_word, loop_words, next}
-use Rattle.safl_net.specs.Netlist.{Netlist, Signal, AllSet, width_of}
+use Rattle.safl_net.specs.Netlist.{Netlist, Signal, AllSet}
 use Rattle.safl_net.specs.Valuations.{Valuation, Fits, read, read_output, reset_state, IsAcyclic, read_next}
 use Rattle.safl_circuit.specs.Names.{of_function, of_site, one, numbers, registers_now, input_now, view}
-use Rattle.safl_circuit.specs.Layout.{Line, layout_registers, layout_wires, input_kind, register_kind, wire_kind, each_line}
+use Rattle.safl_circuit.specs.Layout.{Line, layout_registers, layout_wires, input_kind, register_kind, wire_kind, each_line, output_lines}
 
 -- The two hold equal numbers, as far as the registers exist: at exists in units of several functions, and keep at kept sites.
 pub record Agree (C : Program) (P : Choice) (r q : Registers) : Type 0 where
@@ -45,8 +45,8 @@ pub record Scheme (C : Program) (D : Names) (P : Choice) (n : Netlist) : Type 0 
   pub params : (f : ℕ) → f < C.functions → length (D.params f) ≡ length (C.params f)
   -- no two signals have the same name
   pub distinct : (s t : ℕ) (g h : Signal) → slice_get n.signals s ≡ Some g → slice_get n.signals t ≡ Some h → g.name ≡ h.name → s ≡ t
-  pub outputs : map (λ o. (o.0, width_of n o.1)) n.outputs ≡ (codes "done", 1) ∷ (codes "result", C.result C.main) ∷ []
-  pub inputs : each_line input_kind n.signals ≡ (codes "start", 1) ∷ zip (map (λ x. codes "in$" ++ x) (D.params C.main)) (C.params C.main)
+  pub outputs : output_lines n ≡ (codes "done", 1) ∷ (codes "result", C.result C.main) ∷ []
+  pub inputs : each_line input_kind n.signals ≡ (codes "start", 1) ∷ zip (map (λ (x : List ℕ). codes "in$" ++ x) (D.params C.main)) (C.params C.main)
   pub registers : each_line register_kind n.signals ≡ layout_registers C D P
   -- the named wires come before all other wires
   pub others : List Line
