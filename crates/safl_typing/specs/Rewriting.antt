@@ -68,7 +68,7 @@ pub data Shape : Type 0 where
   Shifting : Shape
   Resizing : Shape
 
--- by the layer of the operator's symbol
+-- by the layer in which an operator binds: shifts are those of layer 2, comparisons those of layer 3
 abbrev pub shape : Primitive → Shape
 shape prims.Cat = Resizing
 shape (prims.Bits high low) = Resizing

@@ -103,12 +103,10 @@ no_quote q (b ∷ []) h = refl
 no_quote q (b ∷ (d ∷ rest)) h = rw h refl
 
 written_stands : (x : Spot) (c : ℕ) (rest : List ℕ) → IsWritten x.bytes → is_digit 10 c ≡ false → IsSized x.bytes (c ∷ rest)
-written_stands x c rest h e = record {
-  parts = record { width = h.width; letter = 100; base = 10; digits = h.bits };
-  joined = h.joined;
-  like = record { based = refl; width = h.width_numeral; digits = h.bits_numeral };
-  longest = rw e refl;
-}
+written_stands x c rest h e = (
+  record { width = h.width; letter = 100; base = 10; digits = h.bits },
+  (h.joined, (record { based = refl; width = h.width_numeral; digits = h.bits_numeral }, rw e refl)),
+)
 
 -- ---- declarations
 

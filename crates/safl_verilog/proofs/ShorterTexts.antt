@@ -235,10 +235,9 @@ both_other : (u v : List ℕ) → list_all other u ≡ true → list_all other v
 both_other u v h k = rw (list_all-append other u v, h, k) refl
 
 sized_other : (w rest : List ℕ) → IsSized w rest → list_all other w ≡ true
-sized_other w rest h =
-    let p = h.parts in
-    let tail : list_all other (39 ∷ p.letter ∷ p.digits) ≡ true = rw (letter_other p.letter p.base h.like.based, digits_other p.base p.digits h.like.digits.digits) refl in
-    subst (λ (l : List ℕ). list_all other l ≡ true) (sym h.joined) (both_other p.width (39 ∷ p.letter ∷ p.digits) (digits_other 10 p.width h.like.width.digits) tail)
+sized_other w rest (p, (joined, (like, longest))) =
+    let tail : list_all other (39 ∷ p.letter ∷ p.digits) ≡ true = rw (letter_other p.letter p.base like.based, digits_other p.base p.digits like.digits.digits) refl in
+    subst (λ (l : List ℕ). list_all other l ≡ true) (sym joined) (both_other p.width (39 ∷ p.letter ∷ p.digits) (digits_other 10 p.width like.width.digits) tail)
 
 no_word : (w u v : List ℕ) → list_all other w ≡ true → w ≡ u ++ v → Holds u → ⊥
 no_word w u v h e k =

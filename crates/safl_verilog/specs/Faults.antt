@@ -206,20 +206,16 @@ abbrev pub all_statement_faults : List Declaration → List Statement → List S
 all_statement_faults ds before [] = []
 all_statement_faults ds before (s ∷ ss) = statement_faults ds before s ++ all_statement_faults ds (before ++ s ∷ []) ss
 
--- ---- wires and outputs without an assignment, and registers without an update
-
-abbrev pub missing_faults : List Statement → Declaration → List VFault
-missing_faults ss d =
-    where_not (not (is_target d) || not (is_none (assigned ss d.name.bytes))) (at rules.V07 d.name.place)
-    ++ where_not (not (is_a sorts.Reg d.sort) || not (is_none (updated ss d.name.bytes))) (at rules.V08 d.name.place)
-
--- all faults of a file: of numbers and ranges, names, ports, statements, and of what is missing
+-- all faults of a file: of numbers and ranges, names, ports, statements, and of what is missing: wires and outputs without an
+-- assignment, and registers without an update
 unfoldable pub faults : File → List VFault
 faults f =
     (flat_map (λ (d : Declaration). range_faults d.range) f.declarations ++ flat_map stated_number_faults f.statements)
     ++ (repeat_faults [] f.header ++ repeat_faults [] (map (λ (d : Declaration). d.name) f.declarations))
     ++ all_port_faults f ++ all_statement_faults f.declarations [] f.statements
-    ++ flat_map (missing_faults f.statements) f.declarations
+    ++ flat_map (λ (d : Declaration).
+    where_not (not (is_target d) || not (is_none (assigned f.statements d.name.bytes))) (at rules.V07 d.name.place)
+    ++ where_not (not (is_a sorts.Reg d.sort) || not (is_none (updated f.statements d.name.bytes))) (at rules.V08 d.name.place)) f.declarations
 
 -- the faults of an assignment, and of an update
 abbrev pub assign_faults : List Declaration → List Statement → Spot → Expression → List VFault
@@ -271,3 +267,8 @@ is_reset name = bytes_eq name (codes "rst")
 
 abbrev pub may_be_assigned : List Statement → Option Declaration → List ℕ → Expression → Bool
 may_be_assigned before d name e = is_none (assigned before name) && (not (passes (λ d. is_output d.sort) d) || is_plain e)
+
+abbrev pub missing_faults : List Statement → Declaration → List VFault
+missing_faults ss d =
+    where_not (not (is_target d) || not (is_none (assigned ss d.name.bytes))) (at rules.V07 d.name.place)
+    ++ where_not (not (is_a sorts.Reg d.sort) || not (is_none (updated ss d.name.bytes))) (at rules.V08 d.name.place)

@@ -71,18 +71,12 @@ pub record IsIdentifier (w : List ℕ) : Type 0 where
   pub short : length w ≤ net_name_max
   pub free : (k : Keyword) → w ≢ keyword_text k
 
--- a decimal numeral, `'`, the letter of a base and a numeral of that base, which no further digit of the base follows
-pub record IsSized (w rest : List ℕ) : Type 0 where
-  pub parts : SizedParts
-  pub joined : w ≡ sized_text parts
-  pub like : IsSizedLike parts
-  pub longest : stops (is_digit parts.base) rest ≡ true
-
--- the text is a token of the kind, and no token begins with it and takes more of the rest
+-- The text is a token of the kind, and no token begins with it and takes more of the rest. A sized number is a decimal numeral,
+-- `'`, the letter of a base and a numeral of that base.
 abbrev pub IsToken : TokenKind → List ℕ → List ℕ → Type 0
 IsToken kinds.Identifier w rest = IsIdentifier w × (stops is_part rest ≡ true)
 IsToken kinds.Number w rest = IsNumeral 10 w × (stops (is_digit 10) rest ≡ true) × (next_base rest ≡ None)
-IsToken kinds.Sized w rest = IsSized w rest
+IsToken kinds.Sized w rest = (p : SizedParts) × (w ≡ sized_text p) × IsSizedLike p × (stops (is_digit p.base) rest ≡ true)
 IsToken (kinds.Keyword k) w rest = (w ≡ keyword_text k) × (stops is_part rest ≡ true)
 IsToken (kinds.Symbol s) w rest = (w ≡ symbol_text s) × ((t : Symbol) (c : ℕ) (v : List ℕ) → rest ≡ c ∷ v → symbol_text t ≢ w ++ c ∷ [])
 
@@ -145,3 +139,6 @@ tokens_from p xs = Cutting.tokens_from text_of StandsBefore token_at p xs
 
 abbrev pub base_with : Option ℕ → ℕ → Option ℕ
 base_with o d = option_and_then (λ (base : ℕ). if is_digit base d then Some base else None) o
+
+abbrev pub IsSized : List ℕ → List ℕ → Type 0
+IsSized w rest = IsToken kinds.Sized w rest
