@@ -136,9 +136,9 @@ token_cut : (k : TokenKind) (w rest : List ℕ) → IsToken k w rest → first_p
 token_cut kinds.Identifier w rest h = word_cut w rest None h.0.like h.0.short h.1 (named_none keyword_text all_keywords w h.0.free)
 token_cut kinds.Number w rest h = number_cut w rest h.0 h.1 h.2
 token_cut kinds.Sized w rest h =
-    let p = h.parts in
-    subst (λ (l : List ℕ). first_piece (l ++ rest) ≡ Some (Lexeme kinds.Sized l)) (sym h.joined)
-    (sized_parts_cut p.width p.letter p.base p.digits rest h.like.width h.like.based h.like.digits h.longest)
+    let p = h.0 in
+    subst (λ (l : List ℕ). first_piece (l ++ rest) ≡ Some (Lexeme kinds.Sized l)) (sym h.1)
+    (sized_parts_cut p.width p.letter p.base p.digits rest h.2.width h.2.based h.2.digits h.3)
 token_cut (kinds.Keyword k) w rest h = subst (λ (l : List ℕ). first_piece (l ++ rest) ≡ Some (Lexeme (kinds.Keyword k) l)) (sym h.0)
     (word_cut (keyword_text k) rest (Some k) (keyword_like k) (keyword_short k) h.1 (keyword_named k))
 token_cut (kinds.Symbol s) w rest h = subst (λ (l : List ℕ). first_piece (l ++ rest) ≡ Some (Lexeme (kinds.Symbol s) l)) (sym h.0)

@@ -103,13 +103,12 @@ sized_found u v base width k =
     let front : take (sized_length (length u) base (u ++ v)) (u ++ v) ≡ u ++ 39 ∷ k.letter ∷ take m z = ap (λ n. take n (u ++ v)) size ∙ ap
     (λ (l : List ℕ). take (length u + suc (suc m)) l) whole ∙ take-append-add u (39 ∷ k.letter ∷ z) (suc (suc m)) in
     let back : drop (sized_length (length u) base (u ++ v)) (u ++ v) ≡ drop m z = ap (λ n. drop n (u ++ v)) size ∙ ap
-    (λ (l : List ℕ). drop (length u + suc (suc m)) l) whole ∙ drop-append-add u (39 ∷ k.letter ∷ z) (suc (suc m)) in
-    record {
-      parts = record { width = u; letter = k.letter; base = base; digits = take m z };
-      joined = front;
-      like = record { based = k.based; width = width; digits = numeral_front base k.first k.rest k.digit };
-      longest = subst (λ (l : List ℕ). stops (is_digit base) l ≡ true) (sym back) (run_stops (is_digit base) z);
-    }
+    (λ (l : List ℕ). drop (length u + suc (suc m)) l) whole ∙ drop-append-add u (39 ∷ k.letter ∷ z) (suc (suc m)) in (
+      record { width = u; letter = k.letter; base = base; digits = take m z },
+      front,
+      record { based = k.based; width = width; digits = numeral_front base k.first k.rest k.digit },
+      subst (λ (l : List ℕ). stops (is_digit base) l ≡ true) (sym back) (run_stops (is_digit base) z),
+    )
 
 number_kinds : (w : List ℕ) (n : ℕ) (x : Piece) → n ≤ length w → IsNumeral 10 (take n w) → stops (is_digit 10) (drop n w) ≡ true → (o : Option ℕ) →
     next_base (drop n w) ≡ o → first_number o n w ≡ Some x → Cut w x

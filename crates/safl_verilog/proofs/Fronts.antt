@@ -34,7 +34,7 @@ base_front (q ∷ (b ∷ (d ∷ f))) r h = h
 token_front : (k : TokenKind) (w f r : List ℕ) → IsToken k w (f ++ r) → IsToken k w f
 token_front kinds.Identifier w f r h = (h.0, stops_front is_part f r h.1)
 token_front kinds.Number w f r h = (h.0, stops_front (is_digit 10) f r h.1, base_front f r h.2)
-token_front kinds.Sized w f r h = record { parts = h.parts; joined = h.joined; like = h.like; longest = stops_front (is_digit h.parts.base) f r h.longest }
+token_front kinds.Sized w f r h = (h.0, h.1, h.2, stops_front (is_digit h.0.base) f r h.3)
 token_front (kinds.Keyword k) w f r h = (h.0, stops_front is_part f r h.1)
 token_front (kinds.Symbol s) w f r h = (h.0, λ t c v e. h.1 t c (v ++ r) (ap (λ (l : List ℕ). l ++ r) e))
 

@@ -105,7 +105,9 @@ no_quote q (b ∷ (d ∷ rest)) h = rw h refl
 written_stands : (x : Spot) (c : ℕ) (rest : List ℕ) → IsWritten x.bytes → is_digit 10 c ≡ false → IsSized x.bytes (c ∷ rest)
 written_stands x c rest h e = (
   record { width = h.width; letter = 100; base = 10; digits = h.bits },
-  (h.joined, (record { based = refl; width = h.width_numeral; digits = h.bits_numeral }, rw e refl)),
+  h.joined,
+  record { based = refl; width = h.width_numeral; digits = h.bits_numeral },
+  rw e refl,
 )
 
 -- ---- declarations
@@ -229,7 +231,7 @@ statement_stands (Always clock reset target initial second source) h r = (
                                         (
                                           refl,
                                           (
-                                            written_stands initial 59 _ h.initial refl,
+                                            written_stands initial 59 [] h.initial refl,
                                             (
                                               alone symbols.Semicolon 59 _ refl (λ c. refl),
                                               (

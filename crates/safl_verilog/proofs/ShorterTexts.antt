@@ -235,7 +235,7 @@ both_other : (u v : List ℕ) → list_all other u ≡ true → list_all other v
 both_other u v h k = rw (list_all-append other u v, h, k) refl
 
 sized_other : (w rest : List ℕ) → IsSized w rest → list_all other w ≡ true
-sized_other w rest (p, (joined, (like, longest))) =
+sized_other w rest (p, joined, like, longest) =
     let tail : list_all other (39 ∷ p.letter ∷ p.digits) ≡ true = rw (letter_other p.letter p.base like.based, digits_other p.base p.digits like.digits.digits) refl in
     subst (λ (l : List ℕ). list_all other l ≡ true) (sym joined) (both_other p.width (39 ∷ p.letter ∷ p.digits) (digits_other 10 p.width like.width.digits) tail)
 

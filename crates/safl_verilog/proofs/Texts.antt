@@ -17,7 +17,7 @@ use Rattle.safl_verilog.proofs.Symbols.{keyword_like, symbol_some}
 no_empty_token : (k : TokenKind) (rest : List ℕ) → IsToken k [] rest → ⊥
 no_empty_token kinds.Identifier rest h = let f : false ≡ true = h.0.like in cc
 no_empty_token kinds.Number rest h = let f : 1 ≤ 0 = h.0.some in omega arith
-no_empty_token kinds.Sized rest h = let f = ap length h.joined ∙ length-append h.parts.width (39 ∷ h.parts.letter ∷ h.parts.digits) in omega (arith, f)
+no_empty_token kinds.Sized rest h = let f = ap length h.1 ∙ length-append h.0.width (39 ∷ h.0.letter ∷ h.0.digits) in omega (arith, f)
 no_empty_token (kinds.Keyword k) rest h = let f : false ≡ true = ap is_identifier h.0 ∙ keyword_like k in cc
 no_empty_token (kinds.Symbol s) rest h = let f = ap length h.0 in omega (arith, f, symbol_some s)
 
