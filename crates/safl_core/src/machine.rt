@@ -1,5 +1,7 @@
 //! The call machine of a program.
 
+ghost use Rattle.std.specs.Prelude.{◌≡◌, ◌%◌, ◌<◌, ◌≤◌};
+
 use crate::concern::concerned;
 use crate::enabled::{Enabled, relist_after, relist_calls};
 use crate::event::Event;
@@ -188,7 +190,7 @@ impl<'a> Machine<'a> {
         if count == 0 {
             return None;
         }
-        Some(self.sets.nth((x % u64::from(count)) as u32))
+        Some(self.sets.nth(picked(x, count)))
     }
 
     /// Fires an enabled event.
@@ -218,4 +220,16 @@ impl<'a> Machine<'a> {
         );
         self.events += 1;
     }
+}
+
+// The place that a number picks among so many events. Mostly there is only one, and nothing has to be divided.
+fn picked(x: u64, count: u32) -> u32
+    requires { 1 ≤ count }
+    ensures place { result ≡ x % count }
+    ensures within { result < count }
+{
+    if count == 1 {
+        return 0;
+    }
+    (x % u64::from(count)) as u32
 }

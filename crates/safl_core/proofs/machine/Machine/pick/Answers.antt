@@ -21,7 +21,8 @@ returns-clause-picked c =
     let h = c.self.invariant in
     let C = n.checked.now.program in
     let s = calls_of n.state in
-    let at : c.args.x % length (listed C n.opening s) ≡ c.args.x % c.from.result = ap (λ z. c.args.x % z) (listed_long h.marked ∙ (sym c.count-count.ensures ∙ sym c.from.ensures)) in
+    let at : c.args.x % length (listed C n.opening s) ≡ c.picked.result =
+    ap (λ z. c.args.x % z) (listed_long h.marked ∙ sym c.count-count.ensures) ∙ sym c.picked.ensures.place in
     subst (λ (m : Shown). IsPicked m.program m.args (state m) c.args.x (event_of c.nth.result)) c.self.view_is (record {
       list = listed C n.opening s;
       lists = listing h.kept;
