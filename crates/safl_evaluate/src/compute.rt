@@ -76,7 +76,14 @@ fn pass_one(env: &mut [Word], slots: usize, t: &Term, told: &mut Answer)
 {
     let mut word = blank();
     operand(env, slots, t, &mut word);
-    told.add(word);
+    told.add(again(&word));
+}
+
+// The same word, read part by part. A word that has just been written part by part takes longer to be read as a whole.
+fn again(word: &Word) -> Word
+    ensures { result ≡ word.now }
+{
+    Word::from_parts(word.width(), word.bits())
 }
 
 /// Writes what a primitive gives on these words, in place.
@@ -84,7 +91,7 @@ pub fn applied(p: &Primitive, operands: &[Word], word: &mut Word)
     requires { IsSome (result_width p.now (map (λ v. v.width) operands.now)) }
     ensures { word.new ≡ apply_prim p.now operands.now }
 {
-    *word = apply(*p, operands);
+    *word = again(&apply(*p, operands));
 }
 
 /// The `count` words of `env` from `at` on.
