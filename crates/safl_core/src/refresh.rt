@@ -1,6 +1,6 @@
 //! Evaluates the body of a unit again after an event.
 
-ghost use Rattle.std.specs.Prelude.{◌≡◌, ℕ, suc, ◌<◌, ◌≤◌, List, length, take, Some, IfSome, IfNone};
+ghost use Rattle.std.specs.Prelude.{◌≡◌, ℕ, suc, ◌<◌, ◌≤◌, List, length, Some, IfSome, IfNone};
 ghost use Rattle.safl_term.specs.Program.{Program};
 ghost use Rattle.safl_calls.specs.Machine as core;
 ghost use Rattle.safl_core.specs.Modes.{unit_at};
@@ -12,6 +12,7 @@ ghost use Rattle.safl_core.specs.States.{CanRefresh, CanRenew, Clears, Refreshes
 use crate::mode::{Act, Mode};
 use crate::spans::Span;
 use crate::state::State;
+use safl_evaluate::args::fill;
 use safl_evaluate::evaluate::{Facts, Spot, evaluate};
 use safl_evaluate::{Answer, Args, Plan, Want, Wants};
 use safl_term::Checked;
@@ -25,17 +26,6 @@ fn clear(asks: &mut [Want], own: Span)
     for k in own.first..own.end {
         asks[k as usize].forget();
     }
-}
-
-// Copies words to the first slots. Returns how many they are.
-fn fill(env: &mut [Word], words: &[Word]) -> usize
-    requires { length words.now ≤ length env.old }
-    ensures count { result ≡ length words.now }
-    ensures filled { take (length words.now) env.new ≡ words.now }
-{
-    let slots = words.len();
-    env[..slots].copy_from_slice(words);
-    slots
 }
 
 /// Evaluates the body of a unit from the beginning: what it comes to, and the words with which it wants its sites, which

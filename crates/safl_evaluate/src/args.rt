@@ -1,6 +1,6 @@
 //! The arguments of a call, in place.
 
-ghost use Rattle.std.specs.Prelude.{◌≡◌, ◌<◌, ◌≤◌, ◌++◌, ◌∷◌, [], length};
+ghost use Rattle.std.specs.Prelude.{◌≡◌, ◌<◌, ◌≤◌, ◌++◌, ◌∷◌, [], length, take};
 
 use safl_word::Word;
 use std::marker::Model;
@@ -51,9 +51,7 @@ impl Args {
         requires { length words.now ≤ 16 }
         ensures { self.new ≡ words.now }
     {
-        let count = words.len();
-        self.words[..count].copy_from_slice(words);
-        self.count = count;
+        self.count = fill(&mut self.words, words);
     }
 
     /// Holds no words from now on.
@@ -81,4 +79,17 @@ impl Args {
             count: self.count,
         }
     }
+}
+
+/// Copies words to the first slots, and returns how many they are. They are few, and one after the other they are copied sooner
+/// than as one piece of memory.
+pub fn fill(env: &mut [Word], words: &[Word]) -> usize
+    requires { length words.now ≤ length env.old }
+    ensures count { result ≡ length words.now }
+    ensures filled { take (length words.now) env.new ≡ words.now }
+{
+    for i in 0..words.len() {
+        env[i] = words[i];
+    }
+    words.len()
 }
