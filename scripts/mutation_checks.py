@@ -9,8 +9,9 @@ one that cannot be read, one after which a proof only names what is gone, and on
 Before that the crate is checked as it stands, since nothing is refused if it is not proved. Where the gate has just passed on the
 same files this need not be done again: the first check with mutations then proves the rest of the crate.
 
-What has been tried stands in out/mutations.tsv, with a checksum of the kit, of the files of the crate and of those below it, and of the mutation. So a run
-that is cut off goes on where it was, and after a change only the mutations of that crate and of those above it are tried again.
+What has been tried stands in out/mutations.tsv, with a checksum of the kit, of the files of the crate and of those below it, and
+of the mutation. So a run that is cut off goes on where it was, and after a change only the mutations of that crate and of those
+above it are tried again.
 
 This depends on the kit in three ways: by the commands `rt check` and `rt must-fail`, by the lines that these print (`OUTCOME`,
 `UNREAD`, `NOT_PROVED`, `PROOF_ERROR`, `NAMES_GONE`), and by where they keep what they made (`KEPT` and `LIBRARY`).
