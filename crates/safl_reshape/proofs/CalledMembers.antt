@@ -1,5 +1,8 @@
 -- Whether an expression calls a member of its group, by its parts.
-use Rattle.std.proofs.Common.{◌≡◌, ℕ, List, [], ◌∷◌, Bool, true, false, refl, sym, ap, ◌∙◌}
+use Rattle.std.proofs.Common.{◌≡◌, ℕ, ◌+◌, ◌<◌, List, [], ◌∷◌, length, drop, get_or, Bool, true, false, refl, sym, ap, ◌∙◌}
+use Rattle.safl_word.proofs.Lists.{drop_read}
+use Rattle.safl_tree.specs.declared.tree.Arm.{Arm}
+use Rattle.safl_tree.specs.Shown.{shown_tree, shown_labelled}
 use Rattle.std.specs.Prelude.{◌||◌}
 use Rattle.safl_word.specs.declared.primitive.Primitive.{Primitive}
 use Rattle.safl_word.proofs.Booleans.{or_assoc}
@@ -29,6 +32,21 @@ module _ (test : Callee → Bool) (k : Known) where
   pub let_calls : (p : ℕ) (xs : List Bound) (t n : Tree) (r a b : Bool) → n ≡ source.Let p (binds_of xs) t → a ≡ calls_bound test k
       (rewritten_binds (binds_of xs)) → b ≡ calls test k (rewritten t) → r ≡ (a || b) → r ≡ calls test k (rewritten n)
   let_calls p xs t n r a b e f g h = h ∙ (cc (f, g) ∙ ap (λ (z : Tree). calls test k (rewritten z)) (sym e))
+
+  pub if_calls : (p : ℕ) (v t u n : Tree) (r : Bool) → n ≡ source.If p v t u → calls test k (rewritten v) ≡ false → calls test k (rewritten t) ≡ false
+      → r ≡ calls test k (rewritten u) → r ≡ calls test k (rewritten n)
+  if_calls p v t u n r e f g h =
+      h ∙ (sym (ap (λ (z : Bool). z || (calls test k (rewritten t) || calls test k (rewritten u))) f ∙ ap (λ (z : Bool). z || calls test k (rewritten u)) g)
+      ∙ ap (λ (z : Tree). calls test k (rewritten z)) (sym e))
+
+  -- what an arm that calls no such function leaves to the others
+  pub arms_go_on : (arms : List Arm) (i : ℕ) (arm : Arm) (b : Bool) → i < length arms → arm ≡ get_or arms i arm
+      → calls test k (rewritten (shown_tree arm.label)) ≡ false → calls test k (rewritten (shown_tree arm.value)) ≡ false
+      → calls_labelled test k (shown_labelled (drop i arms)) ≡ b → calls_labelled test k (shown_labelled (drop (i + 1) arms)) ≡ b
+  arms_go_on arms i arm b lt is label value h =
+      let rest = calls_labelled test k (shown_labelled (drop (i + 1) arms)) in
+      sym (ap (λ (l : List Arm). calls_labelled test k (shown_labelled l)) (drop_read arms i arm lt is)
+      ∙ (ap (λ (z : Bool). (z || calls test k (rewritten (shown_tree arm.value))) || rest) label ∙ ap (λ (z : Bool). z || rest) value)) ∙ h
 
   pub case_calls : (p : ℕ) (v : Tree) (ls : List Labelled) (t n : Tree) (r a b c : Bool) → n ≡ source.Cases p v (arms_of ls t) → a ≡ calls test k
       (rewritten v) → b ≡ calls_labelled test k ls → c ≡ calls test k (rewritten t) → r ≡ (a || (b || c)) → r ≡ calls test k (rewritten n)

@@ -16,6 +16,12 @@ module _ (k : Known) (ch : Change) (lo p : ℕ) where
       q ∙ (ap (λ (z : List Bound). source.Let p (binds_of z) u) e ∙
       (ap (λ (z : Tree). source.Let p (binds_of (changed_bounds k ch lo xs)) z) f ∙ (sym (let_tree k ch lo p xs t) ∙ ap (changed k ch lo) (sym g))))
 
+  pub if_done : (v w t u y z n r : Tree) → w ≡ changed k ch lo v → u ≡ changed k ch (lo + sites_in_tree k v) t
+      → z ≡ changed k ch (lo + sites_in_tree k v + sites_in_tree k t) y → n ≡ source.If p v t y → r ≡ source.If p w u z → r ≡ changed k ch lo n
+  if_done v w t u y z n r d e f g q =
+      q ∙ (ap (λ (x : Tree). source.If p x u z) d ∙ (ap (λ (x : Tree). source.If p (changed k ch lo v) x z) e
+      ∙ (ap (λ (x : Tree). source.If p (changed k ch lo v) (changed k ch (lo + sites_in_tree k v) t) x) f ∙ ap (changed k ch lo) (sym g))))
+
   pub case_done : (v w : Tree) (xs ls : List Labelled) (t u n r : Tree) → w ≡ changed k ch lo v → ls ≡ changed_labelled k ch (lo + sites_in_tree k v)
       xs → u ≡ changed k ch (lo + sites_in_tree k v + sites_labelled k xs) t → n ≡ source.Cases p v (arms_of xs t) → r ≡ source.Cases p w
       (arms_of ls u) → r ≡ changed k ch lo n
@@ -37,6 +43,12 @@ left_let k p xs t n a b c e f g =
     let q : sites_in_tree k n ≡ sites_bound k (rewritten_binds (binds_of xs)) + sites_in_tree k t = ap (sites_in_tree k) e in
     let r = bounds_sites k xs in
     omega (arith, q, r, f, g)
+
+pub left_if : (k : Known) (p : ℕ) (v t u n : Tree) (a b c d : ℕ) → n ≡ source.If p v t u → b ≡ a - sites_in_tree k v → c ≡ b - sites_in_tree k t
+    → d ≡ c - sites_in_tree k u → d ≡ a - sites_in_tree k n
+left_if k p v t u n a b c d e f g h =
+    let q : sites_in_tree k n ≡ sites_in_tree k v + (sites_in_tree k t + sites_in_tree k u) = ap (sites_in_tree k) e in
+    omega (arith, q, f, g, h)
 
 pub left_case : (k : Known) (p : ℕ) (v : Tree) (xs : List Labelled) (t n : Tree) (a b c d : ℕ) → n ≡ source.Cases p v (arms_of xs t) → b ≡ a -
     sites_in_tree k v → c ≡ b - sites_labelled k xs → d ≡ c - sites_in_tree k t → d ≡ a - sites_in_tree k n

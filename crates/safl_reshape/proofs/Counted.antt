@@ -54,6 +54,14 @@ module _ (k : Known) (p : ℕ) (n : Tree) (a b : Counts) (itself : Adds a b 0 1)
       let m : nodes (rewritten n) ≡ 1 + (nodes_bound (rewritten_binds (binds_of xs)) + nodes (rewritten t)) = ap (λ (u : Tree). nodes (rewritten u)) is in
       adds_same a d _ _ _ _ r (omega (arith, s, bounds_sites k xs)) (omega (arith, m, bounds_nodes xs))
 
+  pub if_adds : (v t u : Tree) (c d e : Counts) → n ≡ source.If p v t u → Adds b c (sites_in_tree k v) (nodes (rewritten v)) → Adds c d (sites_in_tree k t)
+      (nodes (rewritten t)) → Adds d e (sites_in_tree k u) (nodes (rewritten u)) → Adds a e (sites_in_tree k n) (nodes (rewritten n))
+  if_adds v t u c d e is f g h =
+      let r = adds_more a d e _ _ _ _ (adds_more a c d _ _ _ _ (adds_more a b c _ _ _ _ itself f) g) h in
+      let s : sites_in_tree k n ≡ sites_in_tree k v + (sites_in_tree k t + sites_in_tree k u) = ap (sites_in_tree k) is in
+      let m : nodes (rewritten n) ≡ 1 + (nodes (rewritten v) + (nodes (rewritten t) + nodes (rewritten u))) = ap (λ (x : Tree). nodes (rewritten x)) is in
+      adds_same a e _ _ _ _ r (omega (arith, s)) (omega (arith, m))
+
   pub case_adds : (v : Tree) (xs : List Labelled) (t : Tree) (c d e : Counts) → n ≡ source.Cases p v (arms_of xs t) → Adds b c (sites_in_tree k v)
       (nodes (rewritten v)) → Adds c d (sites_labelled k xs) (nodes_labelled xs) → Adds d e (sites_in_tree k t) (nodes (rewritten t)) → Adds a e
       (sites_in_tree k n) (nodes (rewritten n))

@@ -20,6 +20,13 @@ shown_let n p binds body xs e is x v =
     (ap (λ (l : List Bind). source.Let p (binds_of (shown_bounds l)) (shown_tree body.value)) (sym x) ∙ ap
     (λ (z : Expr). source.Let p (binds_of (shown_bounds xs)) (shown_tree z)) (sym v)))
 
+pub shown_if : (n : Node) (p : ℕ) (condition first second : Box Expr Global) (c a b : Expr) → n ≡ nodes.If condition first second → c ≡ condition.value
+    → a ≡ first.value → b ≡ second.value → shown_node n p ≡ source.If p (shown_tree c) (shown_tree a) (shown_tree b)
+shown_if n p condition first second c a b is ec ea eb =
+    ap (λ (z : Node). shown_node z p) is ∙ (ap (λ (z : Expr). source.If p (shown_tree z) (shown_tree first.value) (shown_tree second.value)) (sym ec)
+    ∙ (ap (λ (z : Expr). source.If p (shown_tree c) (shown_tree z) (shown_tree second.value)) (sym ea)
+    ∙ ap (λ (z : Expr). source.If p (shown_tree c) (shown_tree a) (shown_tree z)) (sym eb)))
+
 pub shown_case : (n : Node) (p : ℕ) (value : Box Expr Global) (arms : Vec Arm Global) (other : Box Expr Global) (v : Expr) (xs : List Arm) (o : Expr)
     → n ≡ Case value arms other → v ≡ value.value → xs ≡ arms.items → o ≡ other.value → shown_node n p ≡ source.Cases p (shown_tree v)
     (arms_of (shown_labelled xs) (shown_tree o))

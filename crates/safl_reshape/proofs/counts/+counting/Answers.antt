@@ -9,10 +9,17 @@ use Rattle.safl_typing.specs.PlainHeads.{known}
 use Rattle.safl_typing.proofs.HeadsByName.{site_plain}
 use Rattle.safl_reshape.specs.Counting.{nodes_list, nodes_bounds, nodes_labelled}
 use Rattle.safl_reshape.specs.Lists.{sites_list, sites_bounds, sites_labelled}
-use Rattle.safl_reshape.proofs.Counted.{Left, let_adds, case_adds, op_adds, call_adds, adds_more, left_less, all_left, none_left, list_nodes_left, bounds_nodes_left, arms_nodes_left}
+use Rattle.safl_reshape.proofs.Counted.{Left, if_adds, let_adds, case_adds, op_adds, call_adds, adds_more, left_less, all_left, none_left, list_nodes_left, bounds_nodes_left, arms_nodes_left}
 use Rattle.safl_reshape.proofs.ListsLeft.{list_left, bounds_left, arms_left}
-use Rattle.safl_reshape.proofs.ShownNodes.{shown_let, shown_case, shown_op, shown_call}
+use Rattle.safl_reshape.proofs.ShownNodes.{shown_if, shown_let, shown_case, shown_op, shown_call}
 use Rattle.safl_reshape.proofs.counts.+counting.Goals as goal
+
+pub count-returns-in-If : goal.count-returns-in-If
+count-returns-in-If t c =
+    let s = shown_if c.args.e.now.node c.args.e.now.place c.in-If.condition c.in-If.first c.in-If.second c.deref.result.now c.deref-in-If.result.now c.deref-in-If-2.result.now c.in-If.is c.deref.ensures c.deref-in-If.ensures c.deref-in-If-2.ensures in
+    if_adds (known c.args.heads.now c.args.unit) c.args.e.now.place (shown_tree c.args.e.now) c.args.before c.plus-itself.result c.plus-itself.ensures
+    (shown_tree c.deref.result.now) (shown_tree c.deref-in-If.result.now) (shown_tree c.deref-in-If-2.result.now) c.count-upto_condition.result
+    c.count-upto_first.result c.count.result s c.count-upto_condition.ensures c.count-upto_first.ensures c.count.ensures
 
 pub count-returns-in-Let : goal.count-returns-in-Let
 count-returns-in-Let t c =

@@ -1,10 +1,28 @@
-use Rattle.std.proofs.Common.{ap, ◌∙◌}
+use Rattle.std.proofs.Common.{sym, ap, ◌∙◌}
 use Rattle.safl_tree.specs.Shown.{shown_tree, shown_trees, shown_bounds, shown_labelled}
 use Rattle.safl_typing.specs.PlainHeads.{known}
 use Rattle.safl_reshape.specs.Changed.{is_member}
-use Rattle.safl_reshape.proofs.ShownNodes.{shown_let, shown_case, shown_op, shown_call}
-use Rattle.safl_reshape.proofs.CalledMembers.{let_calls, case_calls, op_calls, call_calls}
+use Rattle.safl_reshape.proofs.ShownNodes.{shown_if, shown_let, shown_case, shown_op, shown_call}
+use Rattle.safl_reshape.proofs.CalledMembers.{if_calls, arms_go_on, let_calls, case_calls, op_calls, call_calls}
 use Rattle.safl_reshape.proofs.own.+own.Goals as goal
+use Rattle.safl_reshape.proofs.own.+own.Goals.{calls_own-then-calls_own, calls_own-else-calls_own}
+
+pub calls_own-returns-else-calls_own-2 : goal.calls_own-returns-else-calls_own-2
+calls_own-returns-else-calls_own-2 t c =
+    elim c.if-calls_own.branch [
+      | calls_own-then-calls_own w ↦ absurd (let v = w.value-is in let y = w.if-calls_own.true in let n = c.if-calls_own-2.false in cc)
+      | calls_own-else-calls_own w ↦
+          let s = shown_if c.args.e.now.node c.args.e.now.place c.in-If.condition c.in-If.first c.in-If.second c.deref.result.now w.deref-else-calls_own.result.now c.deref-else-calls_own-2.result.now c.in-If.is c.deref.ensures w.deref-else-calls_own.ensures c.deref-else-calls_own-2.ensures in
+          if_calls is_member (known c.args.heads.now c.args.unit) c.args.e.now.place (shown_tree c.deref.result.now)
+          (shown_tree w.deref-else-calls_own.result.now) (shown_tree c.deref-else-calls_own-2.result.now) (shown_tree c.args.e.now)
+          c.calls_own-else-calls_own-2.result s (sym c.calls_own.ensures ∙ w.if-calls_own.false)
+          (sym w.calls_own-else-calls_own.ensures ∙ (sym w.value-is ∙ c.if-calls_own-2.false)) c.calls_own-else-calls_own-2.ensures
+    ]
+
+pub some_arm_calls_own-loop-arm-preserved : goal.some_arm_calls_own-loop-arm-preserved
+some_arm_calls_own-loop-arm-preserved t c =
+    arms_go_on is_member (known c.args.heads.now c.args.unit) c.args.arms.now c.loop-arm.arm-index c.arm-item.result _ c.loop-arm-test.true c.arm-item.is
+    (sym c.calls_own.ensures ∙ c.if-calls_own.false) (sym c.calls_own-else-calls_own.ensures ∙ c.if-calls_own-2.false) c.loop-arm.invariant
 
 pub calls_own-returns-in-Let : goal.calls_own-returns-in-Let
 calls_own-returns-in-Let t c =
