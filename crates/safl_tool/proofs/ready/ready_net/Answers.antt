@@ -3,6 +3,8 @@ use Rattle.safl_net.specs.Netlist.{Netlist}
 use Rattle.safl_net.specs.Arguments.{argument_widths}
 use Rattle.safl_sim.specs.Simulation.{Simulation}
 use Rattle.safl_session.specs.Lines.{AreArguments}
+use Rattle.safl_tool.specs.Arguments.{RefusesArguments}
+use Rattle.safl_tool.specs.Refusals.{RefusesBy}
 use Rattle.safl_tool.proofs.ready.ready_net.Goals as goal
 
 pub returns-clause-ready : goal.returns-clause-ready
@@ -12,3 +14,7 @@ returns-clause-ready c = record {
   read = subst (λ (l : List ℕ). AreArguments l (map string_bytes c.args.args.now) c.in-Ok-read_arguments.words.items)
       (c.deref.ensures.value ∙ (c.in-Ok.ensures ∙ ap (λ (x : Netlist). argument_widths x.signals) c.net.ensures.net)) c.in-Ok-read_arguments.ensures.read;
 }
+
+pub returns-in-Err-clause-refused : goal.returns-in-Err-clause-refused
+returns-in-Err-clause-refused c = subst (λ (l : List ℕ). RefusesBy (RefusesArguments l (map string_bytes c.args.args.now)) c.in-Err.refusal)
+    (c.deref.ensures.value ∙ (c.in-Ok.ensures ∙ ap (λ (x : Netlist). argument_widths x.signals) c.net.ensures.net)) c.in-Err.ensures.refused
