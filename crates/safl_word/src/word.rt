@@ -13,10 +13,11 @@ pub type Raw = u128;
 const RADIX: Raw = 0x1_0000_0000_0000_0000;
 
 /// A word: its width, from 1 to `WIDTH_MAX`, and a number below 2 to that width. The number is held in two halves,
-/// since a number of 128 bits would have to be aligned to 16 bytes, and so would everything that holds a word.
+/// since a number of 128 bits would have to be aligned to 16 bytes, and so would everything that holds a word. The width
+/// takes 64 bits, so that no bytes of a word are unused: with such bytes a copy of a word takes far longer.
 #[derive(Clone, Copy, Debug, PartialEq, Eq)]
 pub struct Word {
-    width: u8,
+    width: u64,
     low: u64,
     high: u64,
 }
@@ -58,7 +59,7 @@ impl Word {
         ensures value { result ≡ self.now.width }
         ensures word { IsWord self.now }
     {
-        self.width
+        self.width as u8
     }
 
     /// The number of the word.
@@ -75,7 +76,7 @@ impl Word {
         ensures { result ≡ record { width = width; bits = bits } }
     {
         Word {
-            width,
+            width: u64::from(width),
             low: (bits % RADIX) as u64,
             high: (bits / RADIX) as u64,
         }
