@@ -11,9 +11,11 @@ use Rattle.safl_calls.proofs.Basics.{serves}
 use Rattle.safl_term.specs.Readiness.{Answer, Ready, LoopTo, NotYet, answer, wanted, Stage, Unsent, Sent, Returned, back_word}
 use Rattle.safl_term.specs.Program.{Program, unit_for, arity}
 use Rattle.safl_term.specs.Standing.{Stands}
-use Rattle.safl_word.specs.Words.{Word}
+use Rattle.safl_word.specs.Words.{Word, widths}
 use Rattle.safl_term.proofs.Apart.{loop_not_yet, not_loop, ready_not_yet, returned_sent, returned_unsent, sent_unsent}
 use Rattle.safl_calls.proofs.Apart.{delivers_runs, idle_runs, runs_delivers, runs_idle}
+use Rattle.std.proofs.lemmas.List.{length-map}
+use Rattle.std.proofs.lemmas.Slice.Eq.{bytes_eq-Decides}
 
 -- a caller whose body asks for site k
 pub record Asks (C : Program) (s : State) (k : ℕ) : Type 0 where
@@ -71,7 +73,8 @@ module _ (C : Program) (args : List Word) (good : Numbered C) where
   asked_sized : (s : State) (k : ℕ) (ws : List Word) → Inv C s → asked C args s k ≡ Some ws → length ws ≡ arity C (C.callee k)
   asked_sized s zero ws inv h =
       let a = cond_some _ _ ws h in
-      ap length (sym (same_Some args ws a.1)) ∙ eqb-true (length args) (arity C C.main) (and_parts _ _ a.0).1 ∙ ap (arity C) (sym good.outside)
+      ap length (sym (same_Some args ws a.1)) ∙ sym (length-map args (λ (v : Word). v.width))
+      ∙ ap length ((bytes_eq-Decides (widths args) (C.params C.main)).0 (and_parts _ _ a.0).1) ∙ ap (arity C) (sym good.outside)
   asked_sized s (suc k) ws inv h =
       let a = cond_some _ _ ws h in
       let b = and_parts _ _ a.0 in

@@ -2,8 +2,8 @@
 use Rattle.std.proofs.Common.{◌≡◌, ◌≢◌, ℕ, zero, suc, ◌+◌, ◌*◌, ◌≤◌, List, [], ◌∷◌, ◌++◌, length, Some, None, cond, ◌==◌, nat_le, refl, sym, ap, ◌∙◌, subst, arith, is_some}
 use Rattle.std.specs.List.Sorted.{IsPermutation}
 use Rattle.std.proofs.lemmas.Bool.{eq-eqb, and_from, le-leb}
-use Rattle.safl_word.specs.Words.{Word, no_word}
-use Rattle.safl_term.specs.Program.{Program, unit_for, arity}
+use Rattle.safl_word.specs.Words.{Word, no_word, widths}
+use Rattle.safl_term.specs.Program.{Program, unit_for}
 use Rattle.safl_term.specs.Readiness.{Stage, Unsent, Returned, Answer, LoopTo, NotYet, answer, wanted}
 use Rattle.safl_term.proofs.Bridge.{back_of}
 use Rattle.safl_term.specs.Meaning.{Main, main_cost, main_calls, loops, at_function}
@@ -23,6 +23,8 @@ use Rattle.safl_calls.proofs.Picture.{own, own_at, activity, picture, trail, own
 use Rattle.safl_calls.proofs.PictureLaws as law
 use Rattle.safl_calls.specs.Starts.{starts_count}
 use Rattle.safl_calls.specs.Moves.{moves_count}
+use Rattle.std.specs.Str.{bytes_eq}
+use Rattle.std.proofs.lemmas.Slice.Eq.{bytes_eq-Decides}
 
 abbrev member_in : Activity → ℕ
 member_in Free = 0
@@ -86,7 +88,7 @@ module _ (C : Program) (site : ℕ → Stage) where
   as_delivers (Runs g i ws) v k e = absurd (active_giving g i ws _ v k e)
   as_delivers (Delivers i w) v k e = ap (λ n. Delivers n w) (ap serves_in e) ∙ ap (Delivers k) (ap word_in e)
 
-module _ (C : Program) (args : List Word) (good : Numbered C) (s : State) (inv : Inv C s) (sized : length args ≡ arity C C.main) where
+module _ (C : Program) (args : List Word) (good : Numbered C) (s : State) (inv : Inv C s) (sized : widths args ≡ C.params C.main) where
   -- before main was accepted, main's unit is idle
   main_idle : s.site 0 ≡ Unsent → s.unit (unit_for C 0) ≡ Idle
   main_idle un = by (s.unit (unit_for C 0)) refl
@@ -102,7 +104,8 @@ module _ (C : Program) (args : List Word) (good : Numbered C) (s : State) (inv :
 
   enabled_of : (e : Event) (t : Scene) → Step C args (picture C s) e t → Enabled C args s e
   enabled_of e t (accept_main un) =
-      (args, ap (λ b. cond b (Some args) None) (and_from (is_unsent (s.site 0)) (length args == arity C C.main) (ap is_unsent un) (eq-eqb (length args) (arity C C.main) sized)), main_idle un)
+      let given = (bytes_eq-Decides (widths args) (C.params C.main)).1 sized in
+      (args, ap (λ b. cond b (Some args) None) (and_from (is_unsent (s.site 0)) (bytes_eq (widths args) (C.params C.main)) (ap is_unsent un) given), main_idle un)
   enabled_of e t (step_accept {k = k} {j = j} {xs = xs} {ws = ws} {sites = r} runs un want idle) =
       let g = C.caller (suc k) in
       let a = as_runs C s.site (s.unit (C.unit g)) g j xs r runs in
@@ -164,7 +167,7 @@ module _ (C : Program) (n : ℕ) (good : Numbered C) (wf : IsNumbered C n) (args
   pub right : (v : Word) → (after C args opening es).site 0 ≡ Returned v → (d : Main C args v) × (length es + 2 * loops C d ≡ 3 * main_cost C args d)
   right v e = law.right C n wf args es (picture C (after C args opening es)) v path e
 
-  pub goes_on : length args ≡ arity C C.main → ((v : Word) → (after C args opening es).site 0 ≢ Returned v) → (e : Event) × Enabled C args (after C args opening es) e
+  pub goes_on : widths args ≡ C.params C.main → ((v : Word) → (after C args opening es).site 0 ≢ Returned v) → (e : Event) × Enabled C args (after C args opening es) e
   goes_on sized not_yet =
       let q = law.goes_on C n wf args es (picture C (after C args opening es)) path not_yet in
       (q.0, enabled_of C args good (after C args opening es) (inv_after C args good es legal) sized q.0 q.1 q.2)

@@ -1,8 +1,8 @@
 -- The laws of the call machine. They hold for every legal list of events.
 use Rattle.std.specs.Prelude.{◌≡◌, ℕ, ◌+◌, ◌*◌, ◌<◌, ◌≤◌, List, length}
 use Rattle.std.specs.List.Sorted.{IsPermutation}
-use Rattle.safl_word.specs.Words.{Word}
-use Rattle.safl_term.specs.Program.{Program, arity}
+use Rattle.safl_word.specs.Words.{Word, widths}
+use Rattle.safl_term.specs.Program.{Program}
 use Rattle.safl_term.specs.Readiness.{Unsent, Returned}
 use Rattle.safl_term.specs.Meaning.{Main, main_cost, main_calls, loops}
 use Rattle.safl_calls.specs.Machine.{Event, opening, Enabled, CallerRests, after, EachList}
@@ -17,10 +17,10 @@ HasReturned C args es v = (after C args opening es).site 0 ≡ Returned v
 abbrev pub Right : Program → Type 0
 Right C = EachList C (λ args es. (v : Word) → HasReturned C args es v → (d : Main C args v) × (length es + 2 * loops C d ≡ 3 * main_cost C args d))
 
--- If main has as many arguments as parameters, some event is enabled until main has returned.
+-- If main has arguments of its parameters' widths, some event is enabled until main has returned.
 abbrev pub GoesOn : Program → Type 0
 GoesOn C =
-    EachList C (λ args es. length args ≡ arity C C.main → ((v : Word) → HasReturned C args es v → ⊥)
+    EachList C (λ args es. widths args ≡ C.params C.main → ((v : Word) → HasReturned C args es v → ⊥)
     → (e : Event) × Enabled C args (after C args opening es) e)
 
 -- after main has returned no event is enabled

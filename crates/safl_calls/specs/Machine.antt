@@ -1,7 +1,8 @@
 -- The call machine: units that serve calls, without cycles or registers.
-use Rattle.std.specs.Prelude.{◌≡◌, ℕ, zero, suc, List, [], ◌∷◌, length, Option, Some, None, Bool, true, false, cond, ◌==◌, ◌&&◌, nat_le, unwrap_or}
-use Rattle.safl_word.specs.Words.{Word}
-use Rattle.safl_term.specs.Program.{Program, arity, unit_for}
+use Rattle.std.specs.Prelude.{◌≡◌, ℕ, zero, suc, List, [], ◌∷◌, Option, Some, None, Bool, true, false, cond, ◌==◌, ◌&&◌, nat_le, unwrap_or}
+use Rattle.std.specs.Str.{bytes_eq}
+use Rattle.safl_word.specs.Words.{Word, widths}
+use Rattle.safl_term.specs.Program.{Program, unit_for}
 use Rattle.safl_term.specs.Readiness.{Stage, Unsent, Sent, Returned, back_word, Answer, Ready, LoopTo, NotYet, answer, wanted, word_of}
 
 -- a unit is idle, runs a function with arguments for the site that it serves, or delivers a word to that site
@@ -53,10 +54,10 @@ abbrev pub asked_as : Program → (ℕ → Option Word) → Mode → ℕ → ℕ
 asked_as C words (Runs g j args) f k = cond (g == f) (wanted words args (C.body f) k) None
 asked_as C words _ f k = None
 
--- the words with which an unsent site is wanted. Site 0 wants the arguments from outside, if there are as many as main has
+-- the words with which an unsent site is wanted. Site 0 wants the arguments from outside, if their widths are those of main's
 -- parameters
 abbrev pub asked : Program → List Word → State → ℕ → Option (List Word)
-asked C args s zero = cond (is_unsent (s.site 0) && (length args == arity C C.main)) (Some args) None
+asked C args s zero = cond (is_unsent (s.site 0) && bytes_eq (widths args) (C.params C.main)) (Some args) None
 asked C args s (suc k) =
     cond (is_unsent (s.site (suc k)) && nat_le (suc k) C.sites) (asked_as C (back s) (s.unit (C.unit (C.caller (suc k)))) (C.caller (suc k)) (suc k)) None
 
@@ -93,7 +94,7 @@ loop_into C s u _ _ = s
 -- The state after an event; everything else stays. An accepted call is sent, and its unit runs the called function for it. A unit
 -- that finishes delivers the word to the site that it serves, and its own sites end. A site that gets its word has returned it,
 -- and its unit is idle. A unit that loops runs the new function with the new arguments for the same site, and its own sites end.
--- An event that is not enabled changes nothing.
+-- Only events that are enabled are fired (`Legal`).
 abbrev pub fire : Program → List Word → State → Event → State
 fire C args s (Accept k) = accept C s k (asked C args s k)
 fire C args s (Finish f) = finish C s (C.unit f) (s.unit (C.unit f)) (says C s (C.unit f))

@@ -1,5 +1,5 @@
 -- The Accepts of a cycle.
-use Rattle.std.proofs.Common.{◌≡◌, ℕ, zero, suc, ◌<◌, ◌≤◌, List, [], length, Option, Some, None, Bool, true, false, cond, not, ◌&&◌, ◌==◌, nat_lt}
+use Rattle.std.proofs.Common.{◌≡◌, ℕ, zero, suc, ◌<◌, ◌≤◌, List, [], Option, Some, None, Bool, true, false, cond, not, ◌&&◌, ◌==◌, nat_lt}
 use Rattle.std.specs.Prelude.{unwrap_or}
 use Rattle.safl_sites.specs.Plan.{Choice}
 use Rattle.std.proofs.Common.{nat_le, is_some, refl, sym, ap, ◌∙◌, subst, inl, inr, ⊎_elim, ◌⊎◌, arith}
@@ -19,10 +19,12 @@ use Rattle.safl_calls.proofs.Basics.{serves}
 use Rattle.safl_calls.specs.Picks.{first}
 use Rattle.safl_calls.specs.Interference.{Busy}
 use Rattle.safl_term.specs.Readiness.{Unsent, Sent, back_word}
-use Rattle.safl_term.specs.Program.{Program, unit_for, arity}
-use Rattle.safl_word.specs.Words.{Word}
+use Rattle.safl_term.specs.Program.{Program, unit_for}
+use Rattle.safl_word.specs.Words.{Word, widths}
 use Rattle.safl_word.proofs.Options.{none_of}
 use Rattle.safl_term.proofs.Apart.{sent_unsent}
+use Rattle.std.specs.Str.{bytes_eq}
+use Rattle.std.proofs.lemmas.Slice.Eq.{bytes_eq-Decides}
 
 -- the wires of a cycle say what the state after its Returns says
 pub record Meets (C : Program) (P : Choice) (args : List Word) (r : Registers) (i : Inputs) (t : State) : Type 0 where
@@ -30,7 +32,7 @@ pub record Meets (C : Program) (P : Choice) (args : List Word) (r : Registers) (
   pub wants : (k : ℕ) → body_wants C P r (suc k) ≡ asked C args t (suc k)
   pub run : (u : ℕ) → r.run u ≡ is_running (t.unit u)
   pub rest : (u : ℕ) → is_delivering (t.unit u) ≡ false
-  pub start : i.start ≡ true → (t.site 0 ≡ Unsent) × (i.words ≡ args) × (length args ≡ arity C C.main)
+  pub start : i.start ≡ true → (t.site 0 ≡ Unsent) × (i.words ≡ args) × (widths args ≡ C.params C.main)
   pub one : (j k : ℕ) → 0 < j → 0 < k → unit_for C j ≡ unit_for C k → P.arbiter (unit_for C j) ≡ false → Busy C args t j → Busy C args t k → j ≡ k
 
 idle_if : (m : Mode) → is_running m ≡ false → is_delivering m ≡ false → m ≡ Idle
@@ -84,7 +86,7 @@ module _ (C : Program) (P : Choice) (args : List Word) (good : Numbered C) (r : 
   pub go_asks : (k : ℕ) → go C P r i k ≡ true → (ws : List Word) × (asked C args t k ≡ Some ws) × (go_words C P r i k ≡ Some ws)
   go_asks zero h =
       let st = meets.start (go_main h).0 in
-      (args, rw (st.0, eq-eqb (length args) (arity C C.main) st.2) refl, rw h (ap Some st.1))
+      (args, rw (st.0, (bytes_eq-Decides (widths args) (C.params C.main)).1 st.2) refl, rw h (ap Some st.1))
   go_asks (suc k) h =
       let w = some_of (body_wants C P r (suc k)) (go_wants k h) in
       (w.0, sym (meets.wants k) ∙ w.1, rw h w.1)
@@ -188,7 +190,7 @@ module _ (C : Program) (P : Choice) (args : List Word) (good : Numbered C) (r : 
   site_later n x st = st.site n ∙ rw (le-ltb n n (omega arith)) refl
 
   pub asked_same : (n : ℕ) (x : State) → Started n x → (ws : List Word) → asked C args t n ≡ Some ws → asked C args x n ≡ Some ws
-  asked_same zero x st ws h = ap (λ y. cond (is_unsent y && (length args == arity C C.main)) (Some args) None) (site_later 0 x st) ∙ h
+  asked_same zero x st ws h = ap (λ y. cond (is_unsent y && bytes_eq (widths args) (C.params C.main)) (Some args) None) (site_later 0 x st) ∙ h
   asked_same (suc n) x st ws h =
       let p = asked_parts C args t n ws h in
       let f = C.caller (suc n) in

@@ -24,8 +24,8 @@ use Rattle.safl_calls.specs.Picks.{first, picks}
 use Rattle.safl_calls.specs.Starts.{listed, goes_with, event_start, starts_of}
 use Rattle.safl_calls.specs.Interference.{OneInUse, ShownWordsServe}
 use Rattle.safl_term.specs.Readiness.{LoopTo, or_else}
-use Rattle.safl_term.specs.Program.{Program, arity}
-use Rattle.safl_word.specs.Words.{Word}
+use Rattle.safl_term.specs.Program.{Program}
+use Rattle.safl_word.specs.Words.{Word, widths}
 use Rattle.safl_word.proofs.Options.{none_of}
 use Rattle.safl_word.proofs.Booleans.{cond_same}
 use Rattle.safl_term.proofs.Apart.{loop_not_yet}
@@ -160,7 +160,7 @@ module _ (C : Program) (P : Choice) (args : List Word) (good : Numbered C) (r : 
       by (Some us) (Some vs) a b = absurd (not_both f us vs a b)
 
 module _ (C : Program) (P : Choice) (good : Numbered C) (h1 : OneInUse C P.arbiter) (h2 : ShownWordsServe C P.kept) (r0 : Registers)
-    (quiet : Quiet r0) (args : List Word) (sized : length args ≡ arity C C.main) (later : ℕ → List Word) where
+    (quiet : Quiet r0) (args : List Word) (sized : widths args ≡ C.params C.main) (later : ℕ → List Word) where
   at : (c : ℕ) → StepsAt C P r0 args later c
   at c = steps C P good h1 h2 r0 quiet args sized later c
 

@@ -1,7 +1,7 @@
 -- The machine's laws, as the circuit uses them.
-use Rattle.std.proofs.Common.{◌≡◌, List, length, arith}
-use Rattle.safl_word.specs.Words.{Word}
-use Rattle.safl_term.specs.Program.{Program, arity}
+use Rattle.std.proofs.Common.{◌≡◌, List, arith}
+use Rattle.safl_word.specs.Words.{Word, widths}
+use Rattle.safl_term.specs.Program.{Program}
 use Rattle.safl_term.specs.Meaning.{Main}
 use Rattle.safl_term.specs.WellFormed.{IsWellFormed}
 use Rattle.safl_calls.proofs.FromWellFormed.{numbered}
@@ -10,7 +10,7 @@ use Rattle.safl_calls.proofs.MachineLaws.{right, goes_on, few_moves}
 use Rattle.safl_circuit.proofs.DoneOnce.{Core}
 use Rattle.safl_circuit.specs.Correct.{latest}
 
-pub core_of : (C : Program) → IsWellFormed C → (args : List Word) → length args ≡ arity C C.main → (v : Word) (d : Main C args v) → Core C args v (latest C args d)
+pub core_of : (C : Program) → IsWellFormed C → (args : List Word) → widths args ≡ C.params C.main → (v : Word) (d : Main C args v) → Core C args v (latest C args d)
 core_of C wf args sized v d = record {
   value = λ es legal w over. let r = right C C.functions (numbered C wf) wf.numbered args es legal w over in (one_meaning C args w v r.0 d).0;
   most = λ es legal. let b = few_moves C C.functions (numbered C wf) wf.numbered args es legal v d in omega (arith, b);

@@ -1,5 +1,5 @@
 -- A cycle of the circuit is a list of events of the machine.
-use Rattle.std.proofs.Common.{◌≡◌, ℕ, zero, suc, ◌+◌, ◌<◌, List, [], ◌∷◌, ◌++◌, Bool, true, false, cond, ◌||◌, refl, sym, ap, ◌∙◌, subst, ⊎_elim, arith, length}
+use Rattle.std.proofs.Common.{◌≡◌, ℕ, zero, suc, ◌+◌, ◌<◌, List, [], ◌∷◌, ◌++◌, Bool, true, false, cond, ◌||◌, refl, sym, ap, ◌∙◌, subst, ⊎_elim, arith}
 use Rattle.std.specs.Prelude.{unwrap_or}
 use Rattle.safl_sites.specs.Plan.{Choice}
 use Rattle.std.proofs.lemmas.Bool.{and_parts, false≢true}
@@ -24,8 +24,8 @@ use Rattle.safl_calls.specs.Picks.{picks, first}
 use Rattle.safl_calls.specs.Moves.{moves_count}
 use Rattle.safl_calls.specs.Interference.{OneInUse, ShownWordsServe}
 use Rattle.safl_term.specs.Readiness.{Stage, Unsent, Sent, Returned}
-use Rattle.safl_term.specs.Program.{Program, unit_for, arity}
-use Rattle.safl_word.specs.Words.{Word, no_word}
+use Rattle.safl_term.specs.Program.{Program, unit_for}
+use Rattle.safl_word.specs.Words.{Word, no_word, widths}
 use Rattle.safl_term.proofs.Apart.{sent_unsent, unsent_returned}
 use Rattle.safl_calls.proofs.Apart.{idle_delivers, idle_runs}
 
@@ -69,7 +69,7 @@ last_same C args s p e same (suc n) u d =
 module _ (C : Program) (P : Choice) (args : List Word) (good : Numbered C) (h1 : OneInUse C P.arbiter) (h2 : ShownWordsServe C P.kept) (d : ℕ → Word)
     (es : List Event) (legal : Legal C args opening es) (r : Registers) (i : Inputs) (shows : Shows C P (after C args opening es) r)
     (lasts : (u : ℕ) → r.res u ≡ last_word C args opening es u (d u))
-    (start : i.start ≡ true → ((after C args opening es).site 0 ≡ Unsent) × (i.words ≡ args) × (length args ≡ arity C C.main)) where
+    (start : i.start ≡ true → ((after C args opening es).site 0 ≡ Unsent) × (i.words ≡ args) × (widths args ≡ C.params C.main)) where
   s : State
   s = after C args opening es
 
@@ -272,9 +272,9 @@ first_shows C P r0 quiet = record {
   others = λ k pos rests. (quiet.sent k pos, quiet.got k pos);
 }
 
-pub start_at : (C : Program) (P : Choice) (r0 : Registers) (args : List Word) → length args ≡ arity C C.main → (later : ℕ → List Word) (c : ℕ) →
+pub start_at : (C : Program) (P : Choice) (r0 : Registers) (args : List Word) → widths args ≡ C.params C.main → (later : ℕ → List Word) (c : ℕ) →
     (input_at args later c).start ≡ true → ((after C args opening (history C P r0 args later c)).site 0 ≡ Unsent) ×
-    ((input_at args later c).words ≡ args) × (length args ≡ arity C C.main)
+    ((input_at args later c).words ≡ args) × (widths args ≡ C.params C.main)
 unfolding history after
 start_at C P r0 args sized later zero up = (refl, refl, sized)
 start_at C P r0 args sized later (suc c) up = absurd (false≢true up)

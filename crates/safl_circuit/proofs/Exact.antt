@@ -1,5 +1,5 @@
 -- Where no two calls can overlap, done comes in the last cycle in which it may.
-use Rattle.std.proofs.Common.{◌≡◌, ℕ, zero, suc, ◌≤◌, List, ◌++◌, length, true, sym, ap, ◌∙◌, ⊎_elim, arith}
+use Rattle.std.proofs.Common.{◌≡◌, ℕ, zero, suc, ◌≤◌, List, ◌++◌, true, sym, ap, ◌∙◌, ⊎_elim, arith}
 use Rattle.safl_sites.specs.Plan.{Choice}
 use Rattle.std.proofs.lemmas.Bool.{cases_eq, false≢true}
 use Rattle.safl_circuit.proofs.CallsSeen.{done_events}
@@ -21,12 +21,12 @@ use Rattle.safl_sites.specs.Conflicts.{IsSequential}
 use Rattle.safl_calls.specs.Machine.{opening, after}
 use Rattle.safl_calls.specs.Moves.{moves_count}
 use Rattle.safl_term.specs.Meaning.{Main}
-use Rattle.safl_term.specs.Program.{Program, unit_for, arity}
+use Rattle.safl_term.specs.Program.{Program, unit_for}
 use Rattle.safl_term.specs.WellFormed.{IsWellFormed}
-use Rattle.safl_word.specs.Words.{Word}
+use Rattle.safl_word.specs.Words.{Word, widths}
 
 module _ (C : Program) (P : Choice) (wf : IsWellFormed C) (seq : IsSequential C) (h1 : OneInUse C P.arbiter) (h2 : ShownWordsServe C P.kept)
-    (r0 : Registers) (quiet : Quiet r0) (args : List Word) (sized : length args ≡ arity C C.main) (later : ℕ → List Word) where
+    (r0 : Registers) (quiet : Quiet r0) (args : List Word) (sized : widths args ≡ C.params C.main) (later : ℕ → List Word) where
   good : Numbered C
   good = numbered C wf
 

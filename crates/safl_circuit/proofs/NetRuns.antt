@@ -8,12 +8,12 @@ use Rattle.std.specs.List.Sorted.{IsPermutation}
 use Rattle.std.proofs.lemmas.Option.{slice_get-get_or, slice_get_within, same_Some}
 use Rattle.std.proofs.lemmas.Bool.{false≢true, true≢false, and_from, lt-ltb, eq-eqb}
 use Rattle.std.proofs.Math.Numerals.{suc-eq-add-one}
-use Rattle.safl_word.specs.Words.{Word, as_word}
-use Rattle.safl_term.specs.Program.{Program, unit_for, arity}
+use Rattle.safl_word.specs.Words.{Word, as_word, widths}
+use Rattle.safl_term.specs.Program.{Program, unit_for}
 use Rattle.safl_term.specs.Readiness.{Returned}
 use Rattle.safl_term.specs.Meaning.{Main, main_cost, main_calls}
 use Rattle.safl_term.specs.WellFormed.{IsWellFormed, AreWordsOf}
-use Rattle.safl_term.proofs.PlainTerms.{words_count}
+use Rattle.safl_term.proofs.Values.{are_widths}
 use Rattle.safl_term.proofs.OrElse.{or_alike}
 use Rattle.safl_sites.specs.Conflicts.{IsSequential}
 use Rattle.safl_calls.specs.Machine.{opening, after}
@@ -42,7 +42,7 @@ use Rattle.safl_circuit.proofs.Cycle.{steps}
 use Rattle.safl_circuit.proofs.Once.{in_time, no_two_starts, after_done, quiet_later}
 use Rattle.safl_circuit.proofs.Arguments.{one_start}
 use Rattle.safl_circuit.proofs.Agree.{ret_same, go_same, next_same, loop_words_same}
-use Rattle.safl_circuit.proofs.NetSteps.{regs_on, same_then, one_bit}
+use Rattle.safl_circuit.proofs.NetSteps.{regs_on, quiet_in, same_then, one_bit}
 use Rattle.safl_circuit.proofs.CoreOf.{core_of}
 use Rattle.safl_circuit.proofs.CallsSeen.{calls_seen}
 use Rattle.safl_circuit.proofs.Exact.{exactly}
@@ -102,14 +102,14 @@ module _ (C : Program) (D : Names) (P : Choice) (n : Netlist) (wf : IsWellFormed
 
   module _ (args : List Word) (sized : AreWordsOf args (C.params C.main)) (state0 : ℕ → ℕ) (quiet0 : IsQuietState C D n state0) (v0 : Valuation)
       (vs : List Valuation) (run : RunFrom n state0 (numbers args) (v0 ∷ vs)) where
-    many : length args ≡ arity C C.main
-    many = words_count args (C.params C.main) sized
+    many : widths args ≡ C.params C.main
+    many = are_widths args (C.params C.main) sized
 
     abbrev r0 : Registers
     r0 = registers_now C D n v0
 
     quiet : Quiet (registers_now C D n v0)
-    quiet = quiet0 v0 run.0
+    quiet = quiet_in C D P n wf h1 h2 scheme args state0 v0 quiet0 run.0
 
     abbrev later : ℕ → List Word
     later c = words_at C n (slice_get vs c)

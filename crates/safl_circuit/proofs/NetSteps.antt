@@ -1,5 +1,5 @@
 -- The law at the names of a netlist.
-use Rattle.std.proofs.Common.{◌≡◌, ℕ, zero, suc, ◌<◌, List, [], ◌∷◌, ◌++◌, map, length, Bool, true, false, cond, ◌&&◌, is_some, refl, sym, ap, ◌∙◌, subst, arith}
+use Rattle.std.proofs.Common.{◌≡◌, ℕ, zero, suc, ◌<◌, List, [], ◌∷◌, ◌++◌, map, Bool, true, false, cond, ◌&&◌, is_some, refl, sym, ap, ◌∙◌, subst, arith, Option, None, Some}
 use Rattle.safl_term.specs.Names.{Names}
 use Rattle.safl_sites.specs.Plan.{Choice}
 use Rattle.std.specs.Prelude.{slice_index, codes}
@@ -10,10 +10,10 @@ use Rattle.safl_circuit.proofs.Cycle.{legal_next, shows_next, lasts_next}
 use Rattle.safl_circuit.proofs.Laid.{IsRegister, Laid, laid}
 use Rattle.safl_circuit.proofs.Same.{Same}
 use Rattle.safl_circuit.specs.Equations.{Registers, Inputs, ret, go, end_word, loop_words, cycle_events, next}
-use Rattle.safl_circuit.specs.Correct.{StepsFrom}
-use Rattle.safl_circuit.specs.Names.{of_function, of_param, one, bit, is_unit, is_site, registers_now, registers_next, input_now, as_words, numbers}
-use Rattle.safl_net.specs.Netlist.{Netlist}
-use Rattle.safl_net.specs.Valuations.{Valuation, Holds, Fits, read, read_next, reset_state, next_state, next_at, number_at}
+use Rattle.safl_circuit.specs.Correct.{StepsFrom, IsQuietState}
+use Rattle.safl_circuit.specs.Names.{of_function, of_param, of_site, one, bit, is_unit, is_site, registers_now, registers_next, input_now, as_words, numbers, registers_in}
+use Rattle.safl_net.specs.Netlist.{Netlist, place}
+use Rattle.safl_net.specs.Valuations.{Valuation, Holds, Fits, read, reset_state, next_state, number_at}
 use Rattle.safl_net.specs.Runs.{start_number, Run, GoesOn}
 use Rattle.safl_circuit.specs.Scheme.{Wires, Scheme, ret_on, go_up, net_events}
 use Rattle.safl_circuit.specs.Steps.{Shows, Quiet}
@@ -23,15 +23,16 @@ use Rattle.safl_calls.specs.Machine.{State, Event, Accept, Finish, Return, LoopI
 use Rattle.safl_calls.specs.Picks.{picks}
 use Rattle.safl_calls.specs.Interference.{OneInUse, ShownWordsServe}
 use Rattle.safl_term.specs.Readiness.{Unsent}
-use Rattle.safl_term.specs.Program.{Program, arity}
-use Rattle.safl_word.specs.Words.{Word, as_word}
+use Rattle.safl_term.specs.Program.{Program}
+use Rattle.safl_word.specs.Words.{Word, as_word, widths}
 use Rattle.safl_word.proofs.Booleans.{cond_cong, never_both}
 use Rattle.safl_circuit.proofs.Typed.{edge_same, as_numbers}
 use Rattle.safl_term.specs.WellFormed.{IsWellFormed, AreWordsOf}
-use Rattle.safl_term.proofs.PlainTerms.{words_count}
+use Rattle.safl_term.proofs.Values.{are_widths}
 use Rattle.safl_term.proofs.Apart.{returned_unsent, unsent_returned}
 use Rattle.safl_calls.proofs.FromWellFormed.{numbered}
 use Rattle.safl_calls.proofs.Apart.{idle_delivers, idle_runs}
+use Rattle.std.specs.Option.{option_map_or}
 
 pub one_bit : (w : ℕ) (b : Bool) → w ≡ bit b → one w ≡ b
 one_bit w true e = ap one e
@@ -88,22 +89,36 @@ module _ (C : Program) (D : Names) (P : Choice) (n : Netlist) (wf : IsWellFormed
   register_word state v name fits reg =
       ap (number_at v) reg.found ∙ subst (λ k. Holds n v (state reg.at) (slice_index v reg.at) k) reg.kind (fits.each reg.at reg.signal reg.there).1
 
-  -- in the next cycle the registers are those that this cycle leaves
-  hands_on : (v w : Valuation) (name : List ℕ) → Fits n (next_state n v) w → IsRegister n name → read n w name ≡ read_next n v name
-  hands_on v w name fits reg = register_word (next_state n v) w name fits reg ∙ sym (ap (next_at n v) reg.found)
+  -- the registers in a cycle are those of its state
+  holds : (state : ℕ → ℕ) (w : Valuation) (name : List ℕ) → Fits n state w → IsRegister n name → read n w name ≡ option_map_or state (place n.signals name 0) 0
+  holds state w name fits reg = register_word state w name fits reg ∙ sym (ap (λ (o : Option ℕ). option_map_or state o 0) reg.found)
 
-  pub regs_on : (v w : Valuation) → Fits n (next_state n v) w → Same C P (registers_now C D n w) (registers_next C D n v)
-  regs_on v w fits = record {
-    run = λ u. and_cong (is_unit C u) _ _ (λ is. ap one (hands_on v w _ fits (registers.run u is)));
-    fin = λ u. and_cong (is_unit C u) _ _ (λ is. ap one (hands_on v w _ fits (registers.fin u is)));
-    res = λ u. ap (as_word (C.result u)) (cond_cong (is_unit C u) _ _ 0 (λ is. hands_on v w _ fits (registers.res u is)));
-    at = λ f lt is. ap one (hands_on v w _ fits (registers.at f lt is));
+  regs_in : (state : ℕ → ℕ) (w : Valuation) → Fits n state w → Same C P (registers_now C D n w) (registers_in C D n state)
+  regs_in state w fits = record {
+    run = λ u. and_cong (is_unit C u) _ _ (λ is. ap one (holds state w _ fits (registers.run u is)));
+    fin = λ u. and_cong (is_unit C u) _ _ (λ is. ap one (holds state w _ fits (registers.fin u is)));
+    res = λ u. ap (as_word (C.result u)) (cond_cong (is_unit C u) _ _ 0 (λ is. holds state w _ fits (registers.res u is)));
+    at = λ f lt is. ap one (holds state w _ fits (registers.at f lt is));
     arg = λ f lt. ap (as_words (C.params f)) (map_all (λ p. IsRegister n (of_param D f p)) (λ p. read n w (of_param D f p))
-        (λ p. read_next n v (of_param D f p)) (D.params f) (λ p reg. hands_on v w (of_param D f p) fits reg) (registers.arg f lt));
-    sent = λ k pos. and_cong (is_site C k) _ _ (λ is. ap one (hands_on v w _ fits (registers.sent k is)));
-    got = λ k pos. and_cong (is_site C k) _ _ (λ is. ap one (hands_on v w _ fits (registers.got k is)));
-    keep = λ k pos le kept. ap (as_word (C.result (C.callee k))) (hands_on v w _ fits (registers.keep k pos le kept));
+        (λ p. option_map_or state (place n.signals (of_param D f p) 0) 0) (D.params f) (λ p reg. holds state w (of_param D f p) fits reg) (registers.arg f lt));
+    sent = λ k pos. and_cong (is_site C k) _ _ (λ is. ap one (holds state w _ fits (registers.sent k is)));
+    got = λ k pos. and_cong (is_site C k) _ _ (λ is. ap one (holds state w _ fits (registers.got k is)));
+    keep = λ k pos le kept. ap (as_word (C.result (C.callee k))) (holds state w _ fits (registers.keep k pos le kept));
   }
+
+  -- in the next cycle the registers are those that this cycle leaves
+  pub regs_on : (v w : Valuation) → Fits n (next_state n v) w → Same C P (registers_now C D n w) (registers_next C D n v)
+  regs_on v w fits = regs_in (next_state n v) w fits
+
+  pub quiet_in : (state : ℕ → ℕ) (v : Valuation) → IsQuietState C D n state → Fits n state v → Quiet (registers_now C D n v)
+  quiet_in state v quiet fits =
+      let same = regs_in state v fits in
+      record {
+        run = λ u. same.run u ∙ quiet.run u;
+        fin = λ u. same.fin u ∙ quiet.fin u;
+        sent = λ k pos. same.sent k pos ∙ quiet.sent k pos;
+        got = λ k pos. same.got k pos ∙ quiet.got k pos;
+      }
 
   pub same_then : (r q p : Registers) → Same C P r q → Same C P q p → Same C P r p
   same_then r q p a b = record {
@@ -136,7 +151,7 @@ module _ (C : Program) (D : Names) (P : Choice) (n : Netlist) (wf : IsWellFormed
     pub lasts : (v : Valuation) → Fits n state v → (u : ℕ) → (registers_now C D n v).res u ≡ last_word C args opening es u (as_word (C.result u) 0)
 
   module _ (es : List Event) (legal : Legal C args opening es) (state : ℕ → ℕ) (shown : Shown es state) (v : Valuation) (fits : Fits n state v)
-      (start : one (start_number n v) ≡ true → ((after C args opening es).site 0 ≡ Unsent) × ((input_now C n v).words ≡ args) × (length args ≡ arity C C.main)) where
+      (start : one (start_number n v) ≡ true → ((after C args opening es).site 0 ≡ Unsent) × ((input_now C n v).words ≡ args) × (widths args ≡ C.params C.main)) where
     events : net_events C D n v ≡ cycle_events C P (registers_now C D n v) (input_now C n v)
     events = events_same v (registers_now C D n v) (input_now C n v) (scheme.wires v state fits)
 
@@ -168,19 +183,20 @@ module _ (C : Program) (D : Names) (P : Choice) (n : Netlist) (wf : IsWellFormed
         later vs (es ++ net_events C D n v) (legal_cycle es legal state shown v goes.0 start) (next_state n v) (shown_next es legal state shown v goes.0 start) goes.2,
       )
     where
-      absurd' : one (start_number n v) ≡ true → ((after C args opening es).site 0 ≡ Unsent) × ((input_now C n v).words ≡ args) × (length args ≡ arity C C.main)
+      absurd' : one (start_number n v) ≡ true → ((after C args opening es).site 0 ≡ Unsent) × ((input_now C n v).words ≡ args) × (widths args ≡ C.params C.main)
       absurd' up = absurd (false≢true (sym (ap one goes.1) ∙ up))
 
-  pub first_quiet : (v : Valuation) → Fits n (reset_state n) v → Quiet (registers_now C D n v)
-  first_quiet v fits = record {
-    run = λ u. never_both (is_unit C u) _ (λ is. ap one (clear _ (registers.run u is)));
-    fin = λ u. never_both (is_unit C u) _ (λ is. ap one (clear _ (registers.fin u is)));
-    sent = λ k pos. never_both (is_site C k) _ (λ is. ap one (clear _ (registers.sent k is)));
-    got = λ k pos. never_both (is_site C k) _ (λ is. ap one (clear _ (registers.got k is)));
+  pub first_quiet : IsQuietState C D n (reset_state n)
+  first_quiet = record {
+    run = λ u. never_both (is_unit C u) _ (λ is. ap one (clear (place n.signals (of_function D (codes "run$") u) 0)));
+    fin = λ u. never_both (is_unit C u) _ (λ is. ap one (clear (place n.signals (of_function D (codes "fin$") u) 0)));
+    sent = λ k pos. never_both (is_site C k) _ (λ is. ap one (clear (place n.signals (of_site (codes "sent$") k) 0)));
+    got = λ k pos. never_both (is_site C k) _ (λ is. ap one (clear (place n.signals (of_site (codes "got$") k) 0)));
   }
     where
-      clear : (name : List ℕ) → IsRegister n name → read n v name ≡ 0
-      clear name reg = register_word (reset_state n) v name fits reg ∙ scheme.resets reg.at
+      clear : (o : Option ℕ) → option_map_or (reset_state n) o 0 ≡ 0
+      clear None = refl
+      clear (Some s) = scheme.resets s
 
   shown_first : Shown [] (reset_state n)
   unfolding after last_word
@@ -212,7 +228,7 @@ module _ (C : Program) (D : Names) (P : Choice) (n : Netlist) (wf : IsWellFormed
   first_run sized (v ∷ vs) run =
       let words : (input_now C n v).words ≡ args = ap (as_words (C.params C.main)) run.2 ∙ as_numbers args (C.params C.main) sized in
       let start = λ (up : one (start_number n v) ≡ true). (let p : ((after C args opening []).site 0 ≡ Unsent) × ((input_now C n v).words ≡ args) ×
-      (length args ≡ arity C C.main) = (refl, words, words_count args (C.params C.main) sized) in p) in (
+      (widths args ≡ C.params C.main) = (refl, words, are_widths args (C.params C.main) sized) in p) in (
         shown_first.shows v run.0,
         shown_first.lasts v run.0,
         legal_cycle [] tt (reset_state n) shown_first v run.0 start,

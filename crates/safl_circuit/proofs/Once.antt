@@ -1,5 +1,5 @@
 -- done comes once, in time.
-use Rattle.std.proofs.Common.{◌≡◌, ◌≢◌, ℕ, zero, suc, ◌+◌, ◌-◌, ◌<◌, ◌≤◌, List, ◌++◌, length, Bool, true, false, cond, not, refl, sym, ap, ◌∙◌, subst, ⊎_elim, arith}
+use Rattle.std.proofs.Common.{◌≡◌, ◌≢◌, ℕ, zero, suc, ◌+◌, ◌-◌, ◌<◌, ◌≤◌, List, ◌++◌, Bool, true, false, cond, not, refl, sym, ap, ◌∙◌, subst, ⊎_elim, arith}
 use Rattle.safl_sites.specs.Plan.{Choice}
 use Rattle.std.proofs.lemmas.Bool.{cases_order, and_parts, false≢true, false_from_ne_true}
 use Rattle.safl_circuit.proofs.Claims.{InTime, QuietAfter, NoTwoStarts}
@@ -18,12 +18,12 @@ use Rattle.safl_calls.proofs.Basics.{serves}
 use Rattle.safl_calls.specs.Moves.{moves_count}
 use Rattle.safl_calls.specs.Interference.{OneInUse, ShownWordsServe}
 use Rattle.safl_term.specs.Readiness.{Unsent, Sent, Returned}
-use Rattle.safl_term.specs.Program.{Program, unit_for, arity}
-use Rattle.safl_word.specs.Words.{Word}
+use Rattle.safl_term.specs.Program.{Program, unit_for}
+use Rattle.safl_word.specs.Words.{Word, widths}
 use Rattle.safl_term.proofs.Apart.{returned_sent, returned_unsent, sent_unsent, unsent_returned}
 
 module _ (C : Program) (P : Choice) (good : Numbered C) (h1 : OneInUse C P.arbiter) (h2 : ShownWordsServe C P.kept) (r0 : Registers)
-    (quiet : Quiet r0) (args : List Word) (sized : length args ≡ arity C C.main) (later : ℕ → List Word) where
+    (quiet : Quiet r0) (args : List Word) (sized : widths args ≡ C.params C.main) (later : ℕ → List Word) where
   abbrev r : ℕ → Registers
   r c = registers_at C P r0 args later c
 

@@ -68,7 +68,7 @@ module _ (C : Program) (D : Names) (P : Choice) (n : Netlist) (wf : IsWellFormed
     runs = record { behaves = behaves; exact = exact; quiet = quiet; calls = calls }
 
   reset_quiet : IsQuietState C D n (reset_state n)
-  reset_quiet v fits = first_quiet C D P n wf h1 h2 scheme [] v fits
+  reset_quiet = first_quiet C D P n wf h1 h2 scheme []
 
   good : Numbered C
   good = numbered C wf

@@ -11,12 +11,12 @@ use Rattle.safl_sites.specs.Conflicts.{IsSequential}
 use Rattle.safl_calls.specs.Machine.{Event, opening, Legal, after, last_word}
 use Rattle.safl_calls.specs.Picks.{first}
 use Rattle.safl_net.specs.Netlist.{Netlist}
-use Rattle.safl_net.specs.Valuations.{Valuation, read, read_output, IsAcyclic, Fits, reset_state}
+use Rattle.safl_net.specs.Valuations.{Valuation, read, read_output, IsAcyclic, reset_state}
 use Rattle.safl_net.specs.Runs.{RunFrom}
 use Rattle.safl_sites.specs.Plan.{Choice}
 use Rattle.safl_circuit.specs.Steps.{Shows, Quiet}
 use Rattle.safl_circuit.specs.Layout.{each_line, input_kind, register_kind, wire_kind, output_lines, Has}
-use Rattle.safl_circuit.specs.Names.{of_function, one, numbers, registers_now, of_site}
+use Rattle.safl_circuit.specs.Names.{of_function, one, numbers, registers_now, registers_in, of_site}
 use Rattle.safl_circuit.specs.Scheme.{go_up, net_events}
 
 -- a statement holds for all arguments of main's widths, and all runs with them from a state
@@ -83,7 +83,7 @@ pub record Correct (C : Program) (D : Names) (n : Netlist) : Type 0 where
 
 -- a state of the netlist whose registers are quiet
 abbrev pub IsQuietState : Program → Names → Netlist → (ℕ → ℕ) → Type 0
-IsQuietState C D n state = (v : Valuation) → Fits n state v → Quiet (registers_now C D n v)
+IsQuietState C D n state = Quiet (registers_in C D n state)
 
 -- The cycles of a run are steps of the machine, after these events: the registers show its state, each res holds the word that
 -- its unit finished last, or 0, and the events of the cycle are enabled in turn.

@@ -6,7 +6,8 @@ use Rattle.safl_word.specs.Words.{Word, as_word}
 use Rattle.safl_term.specs.Names.{Names}
 use Rattle.safl_term.specs.Program.{Program}
 use Rattle.safl_circuit.specs.Equations.{Registers, Inputs}
-use Rattle.safl_net.specs.Netlist.{Netlist}
+use Rattle.std.specs.Option.{option_map_or}
+use Rattle.safl_net.specs.Netlist.{Netlist, place}
 use Rattle.safl_net.specs.Valuations.{Valuation, read, read_next}
 use Rattle.safl_net.specs.Runs.{start_number, input_numbers}
 
@@ -48,9 +49,13 @@ view C D get = record {
   keep = λ k. as_word (C.result (C.callee k)) (get (of_site (codes "keep$") k));
 }
 
--- the registers in a cycle, and the registers after it
+-- the registers in a cycle
 abbrev pub registers_now : Program → Names → Netlist → Valuation → Registers
 registers_now C D n v = view C D (read n v)
+
+-- the registers of a state, which has a number for each register
+abbrev pub registers_in : Program → Names → Netlist → (ℕ → ℕ) → Registers
+registers_in C D n state = view C D (λ name. option_map_or state (place n.signals name 0) 0)
 
 -- the inputs of a cycle
 abbrev pub input_now : Program → Netlist → Valuation → Inputs
@@ -64,5 +69,6 @@ bit b = bit_of b
 abbrev pub is_site : Program → ℕ → Bool
 is_site C k = nat_lt 0 k && nat_le k C.sites
 
+-- the registers after a cycle
 abbrev pub registers_next : Program → Names → Netlist → Valuation → Registers
 registers_next C D n v = view C D (read_next n v)

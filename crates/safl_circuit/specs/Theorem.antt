@@ -1,7 +1,7 @@
 -- The main theorem: a netlist with the scheme of a well-formed program computes what the program means.
-use Rattle.std.specs.Prelude.{◌≡◌, ℕ, ◌*◌, ◌<◌, List, length}
-use Rattle.safl_word.specs.Words.{Word}
-use Rattle.safl_term.specs.Program.{Program, arity}
+use Rattle.std.specs.Prelude.{◌≡◌, ℕ, ◌*◌, ◌<◌, List}
+use Rattle.safl_word.specs.Words.{Word, widths}
+use Rattle.safl_term.specs.Program.{Program}
 use Rattle.safl_term.specs.Meaning.{Main, main_cost}
 use Rattle.safl_term.specs.WellFormed.{IsWellFormed}
 use Rattle.safl_sites.specs.Plan.{Suffices, Choice}
@@ -46,7 +46,7 @@ SchemesAreCircuits =
 abbrev pub CyclesAreEvents : Type 0
 CyclesAreEvents =
     (C : Program) (P : Choice) → IsWellFormed C → OneInUse C P.arbiter → ShownWordsServe C P.kept → (r0 : Registers) → Quiet r0
-    → (args : List Word) → length args ≡ arity C C.main → (later : ℕ → List Word) (c : ℕ) → StepsAt C P r0 args later c
+    → (args : List Word) → widths args ≡ C.params C.main → (later : ℕ → List Word) (c : ℕ) → StepsAt C P r0 args later c
 
 -- a netlist with the scheme of a program is whole
 abbrev pub SchemesAreWhole : Type 0

@@ -9,9 +9,9 @@ use Rattle.safl_calls.proofs.Basics.{serves, some_of}
 use Rattle.safl_calls.proofs.Invariant.{found}
 use Rattle.safl_evaluate.specs.declared.stage.Stage as declared
 use Rattle.safl_evaluate.specs.Stages.{stage_of, stage_at}
-use Rattle.safl_word.specs.Words.{Word}
+use Rattle.safl_word.specs.Words.{Word, widths}
 use Rattle.safl_term.specs.Meaning.{loops}
-use Rattle.safl_term.specs.Program.{Program, arity, unit_for}
+use Rattle.safl_term.specs.Program.{Program, unit_for}
 use Rattle.safl_term.specs.Readiness.{Stage, Unsent, Sent, Returned, Answer, Ready, LoopTo, NotYet, back_word}
 use Rattle.safl_calls.specs.Machine.{State, Mode, Idle, Runs, Delivers, Event, Accept, Finish, Return, LoopInto, opening, after, asked, asked_as, back, says, Enabled, is_unsent}
 use Rattle.safl_calls.proofs.FromWellFormed.{numbered}
@@ -20,8 +20,9 @@ use Rattle.safl_core.specs.Outcomes.{IsValue, IsBounded, GoesOn, IsOver}
 use Rattle.safl_core.specs.Shown.{Shown, state, CanFire, IsKept}
 use Rattle.safl_core.specs.Testing.{is_idle, runs, is_sent, delivers_to, can, wanted_at}
 use Rattle.safl_evaluate.specs.Answers.{is_ready, loops_to}
-use Rattle.safl_evaluate.proofs.RunsByParts.{widths_len}
 use Rattle.safl_core.proofs.KeptByEvents.{inv}
+use Rattle.std.proofs.lemmas.Slice.Eq.{bytes_eq-Decides}
+use Rattle.std.specs.Str.{bytes_eq}
 
 returned_is : (x : Stage) (v : Word) → back_word x ≡ Some v → x ≡ Returned v
 returned_is Unsent v e = absurd (none-some v e)
@@ -32,8 +33,8 @@ module _ {m : Shown} {answers : List Answer} {wants : List (Option (List Word))}
   ends : (v : Word) → back_word ((state m).site 0) ≡ Some v → (after m.program m.args opening h.reached.list).site 0 ≡ Returned v
   ends v e = ap (λ s. s.site 0) h.reached.ends ∙ returned_is ((state m).site 0) v e
 
-  pub sized : length m.args ≡ arity m.program m.program.main
-  sized = sym (widths_len m.args) ∙ ap (λ (x : List ℕ). length x) h.given
+  pub sized : widths m.args ≡ m.program.params m.program.main
+  sized = h.given
 
   pub value_of : (v : Word) → back_word ((state m).site 0) ≡ Some v → IsValue m v
   value_of v e =
@@ -136,7 +137,7 @@ module _ {m : Shown} {answers : List Answer} {wants : List (Option (List Word))}
   pub waits_test : (k : ℕ) → k ≤ m.program.sites → (is_unsent ((state m).site k) && wanted_at wants k)
       ≡ is_some (asked m.program m.args (state m) k)
   waits_test zero le =
-      first (is_unsent ((state m).site 0)) (eqb (length m.args) (arity m.program m.program.main)) (eq-eqb _ _ (sized h))
+      first (is_unsent ((state m).site 0)) (bytes_eq (widths m.args) (m.program.params m.program.main)) ((bytes_eq-Decides (widths m.args) (m.program.params m.program.main)).1 (sized h))
     where
       first : (x y : Bool) → y ≡ true → (x && true) ≡ is_some (cond (x && y) (Some m.args) None)
       first true y q = ap (λ z. is_some (cond z (Some m.args) None)) (sym q)

@@ -2,16 +2,16 @@
 use Rattle.std.proofs.Common.{◌≡◌, ◌≢◌, ℕ, zero, suc, ◌<◌, List, length, set, cond, is_some, nat_le, get_or, replicate, Option, Some, None, Bool}
 use Rattle.std.proofs.Common.{true, false, refl, sym, ap, ◌∙◌, subst, arith, length-set}
 use Rattle.std.specs.Int.{from_bool}
-use Rattle.std.proofs.lemmas.Bool.{eq-eqb}
 use Rattle.std.proofs.lemmas.List.{get_or-set_same, get_or-set_other, get_or-replicate, length-replicate}
-use Rattle.safl_word.specs.Words.{Word}
-use Rattle.safl_term.specs.Program.{Program, arity}
+use Rattle.safl_word.specs.Words.{Word, widths}
+use Rattle.safl_term.specs.Program.{Program}
 use Rattle.safl_calls.specs.Machine.{Finish, Return, LoopInto, opening, asked}
 use Rattle.safl_number_set.specs.Groups.{Grouped}
 use Rattle.safl_core.specs.declared.enabled.Enabled.{Enabled}
 use Rattle.safl_core.specs.Called.{AreCalled}
 use Rattle.safl_core.specs.Marking.{Marks, AreMarked, OpensWith}
 use Rattle.safl_core.specs.Testing.{can}
+use Rattle.std.proofs.lemmas.Slice.Eq.{bytes_eq-Decides}
 
 abbrev no_words : Option (List Word)
 no_words = None
@@ -41,10 +41,10 @@ nothing false = refl
 later : (C : Program) (args : List Word) (j : ℕ) → is_some (asked C args opening (suc j)) ≡ false
 later C args j = nothing (nat_le (suc j) C.sites)
 
-first : (C : Program) (args : List Word) → length args ≡ arity C C.main → is_some (asked C args opening 0) ≡ true
-first C args given = ap (λ b. is_some (cond b (Some args) None)) (eq-eqb (length args) (arity C C.main) given)
+first : (C : Program) (args : List Word) → widths args ≡ C.params C.main → is_some (asked C args opening 0) ≡ true
+first C args given = ap (λ b. is_some (cond b (Some args) None)) ((bytes_eq-Decides (widths args) (C.params C.main)).1 given)
 
-pub marked_first : (C : Program) (args : List Word) (e : Enabled) → length args ≡ arity C C.main → OpensWith C e → AreMarked C args opening e
+pub marked_first : (C : Program) (args : List Word) (e : Enabled) → widths args ≡ C.params C.main → OpensWith C e → AreMarked C args opening e
 marked_first C args e given o = record {
   called = subst (λ (l : List ℕ). AreCalled C l) (sym (ap (λ (a : Grouped). a.group) o.accepts)) o.called;
   waits = record {

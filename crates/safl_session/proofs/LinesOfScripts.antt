@@ -9,7 +9,7 @@ use Rattle.safl_word.proofs.Lists.{get_in_front, get_seam}
 use Rattle.safl_word.proofs.Naturals.{lower_same_higher}
 use Rattle.safl_session.specs.declared.script.ScriptErr.{ScriptErr}
 use Rattle.safl_session.specs.Pieces.{HasLines, IsCut}
-use Rattle.safl_session.specs.Lines.{IsCall, AppendsCall, HasFault, RefusesLine}
+use Rattle.safl_session.specs.Lines.{IsCall, AppendsCall, ScriptFault, HasFault, RefusesLine}
 use Rattle.safl_session.specs.Scripts.{AreCalls, IsScript, IsScriptFault, RefusesScript, calls_of}
 use Rattle.safl_session.specs.Laws.{OneScript, OneFault, NotBoth}
 use Rattle.safl_session.proofs.PiecesOfText.{lines_of, lines_once, no_lines, first_line, cut_long}
@@ -100,17 +100,21 @@ module _ (widths text : List ℕ) (count : ℕ) (words : List Word) (rest line b
 
   pub script_fault : (number : ℕ) (e : ScriptErr) → number ≡ count + 1 → RefusesLine widths line number e → RefusesScript widths text e
   script_fault number e n (inl none) = inl none
-  script_fault number e n (inr f) =
+  script_fault number e n (inr (f, is, has)) =
       let tail = lines_of behind in
-      inr (record {
-        before = s.lines;
-        line = line;
-        after = tail.0;
-        lines = s.split (line ∷ tail.0) (first_line rest line behind some cut tail.0 tail.1);
-        calls = calls_of count (length widths) words;
-        good = s.are;
-        fault = subst (λ k. HasFault widths line k e) (n ∙ ap (λ k. k + 1) (sym s.long)) f;
-      })
+      inr (
+        f,
+        is,
+        record {
+          before = s.lines;
+          line = line;
+          after = tail.0;
+          lines = s.split (line ∷ tail.0) (first_line rest line behind some cut tail.0 tail.1);
+          calls = calls_of count (length widths) words;
+          good = s.are;
+          fault = subst (λ k. HasFault widths line k f) (n ∙ ap (λ k. k + 1) (sym s.long)) has;
+        },
+      )
 
 none_left : (xs : List ℕ) → length xs ≡ 0 → [] ≡ xs
 none_left [] e = refl
@@ -146,7 +150,7 @@ not_both widths text calls e a f =
     let c = call_at widths a.0 calls (length f.before) f.line a.2 (ap (λ l. slice_get l (length f.before)) same ∙ get_seam f.before f.line f.after (length f.before) refl) in
     no_fault widths f.line c.0 (length f.before + 1) e c.1 f.fault
 
-fault_before : (widths text : List ℕ) (e f : ScriptErr) (a : IsScriptFault widths text e) (b : IsScriptFault widths text f) → length a.before < length b.before → ⊥
+fault_before : (widths text : List ℕ) (e f : ScriptFault) (a : IsScriptFault widths text e) (b : IsScriptFault widths text f) → length a.before < length b.before → ⊥
 fault_before widths text e f a b h =
     let same = lines_once text (a.before ++ a.line ∷ a.after) (b.before ++ b.line ∷ b.after) a.lines b.lines in
     let here : slice_get b.before (length a.before) ≡ Some a.line =

@@ -17,6 +17,7 @@ use Rattle.safl_circuit.specs.Correct.{IsQuietState}
 use Rattle.safl_circuit.proofs.Laid.{has_left, has_right, lines_has, has_side}
 use Rattle.safl_sim.proofs.Names.{place_at}
 use Rattle.safl_session.specs.Circuits.{ResetIsQuiet}
+use Rattle.std.specs.Option.{option_map_or}
 
 -- a register of a name
 record Found (gs : List Signal) (name : List ℕ) : Type 0 where
@@ -73,12 +74,20 @@ and_down true x y h e = h refl ∙ e
 and_down false x y h e = refl
 
 module _ (C : Program) (D : Names) (P : Choice) (n : Netlist) (scheme : Scheme C D P n) where
+  -- the number that a state has for the register of a name
+  abbrev held : (ℕ → ℕ) → List ℕ → ℕ
+  held state name = option_map_or state (place n.signals name 0) 0
+
+  abbrev IsHeld : List ℕ → Type 0
+  IsHeld name = (state : ℕ → ℕ) (v : Valuation) → Fits n state v → read n v name ≡ held state name
+
   -- what is read at a register's name is its state
-  reads : (name : List ℕ) (w : ℕ) → Has (name, w) (layout_registers C D P) → (s : ℕ) × ((state : ℕ → ℕ) (v : Valuation) → Fits n state v → read n v name ≡ state s)
-  reads name w h =
+  reads : (name : List ℕ) (w : ℕ) → Has (name, w) (layout_registers C D P) → IsHeld name
+  reads name w h state v fits =
       let f = found n.signals name w (subst (Has (name, w)) (sym scheme.registers) h) in
       let at = placed n.signals name f.at f.signal f.there f.is_named scheme.distinct in
-      (f.at, λ state v fits. ap (number_at v) at ∙ subst (λ k. Holds n v (state f.at) (slice_index v f.at) k) f.kind (fits.each f.at f.signal f.there).1)
+      ap (number_at v) at ∙ subst (λ k. Holds n v (state f.at) (slice_index v f.at) k) f.kind (fits.each f.at f.signal f.there).1
+      ∙ sym (ap (λ (o : Option ℕ). option_map_or state o 0) at)
 
   abbrev unit_all : ℕ → List Line
   unit_all u = (of_function D (codes "run$") u, 1) ∷ (of_function D (codes "fin$") u, 1) ∷ (of_function D (codes "res$") u, C.result u) ∷ lines (member_lines C D u) C.functions
@@ -97,40 +106,62 @@ module _ (C : Program) (D : Names) (P : Choice) (n : Netlist) (scheme : Scheme C
       has_right x (lines (unit_lines C D) C.functions) (lines (site_lines C P) (suc C.sites))
       (lines_has (site_lines C P) (suc C.sites) k x (let z = leb-true k C.sites a.1 in omega (arith, z)) (subst (Has x) (sym (ap (λ b. cond b (site_all k) []) (lt-ltb 0 k (ltb-true 0 k a.0)))) h))
 
-  run_reads : (u : ℕ) → is_unit C u ≡ true → (s : ℕ) × ((state : ℕ → ℕ) (v : Valuation) → Fits n state v → read n v (of_function D (codes "run$") u) ≡ state s)
+  run_reads : (u : ℕ) → is_unit C u ≡ true → IsHeld (of_function D (codes "run$") u)
   run_reads u is = reads _ 1 (in_unit u (of_function D (codes "run$") u, 1) is (inl refl))
 
-  fin_reads : (u : ℕ) → is_unit C u ≡ true → (s : ℕ) × ((state : ℕ → ℕ) (v : Valuation) → Fits n state v → read n v (of_function D (codes "fin$") u) ≡ state s)
+  fin_reads : (u : ℕ) → is_unit C u ≡ true → IsHeld (of_function D (codes "fin$") u)
   fin_reads u is = reads _ 1 (in_unit u (of_function D (codes "fin$") u, 1) is (inr (inl refl)))
 
-  sent_reads : (k : ℕ) → is_site C k ≡ true → (s : ℕ) × ((state : ℕ → ℕ) (v : Valuation) → Fits n state v → read n v (of_site (codes "sent$") k) ≡ state s)
+  sent_reads : (k : ℕ) → is_site C k ≡ true → IsHeld (of_site (codes "sent$") k)
   sent_reads k is = reads _ 1 (in_site k (of_site (codes "sent$") k, 1) is (inl refl))
 
-  got_reads : (k : ℕ) → is_site C k ≡ true → (s : ℕ) × ((state : ℕ → ℕ) (v : Valuation) → Fits n state v → read n v (of_site (codes "got$") k) ≡ state s)
+  got_reads : (k : ℕ) → is_site C k ≡ true → IsHeld (of_site (codes "got$") k)
   got_reads k is = reads _ 1 (in_site k (of_site (codes "got$") k, 1) is (inr (inl refl)))
 
-  same_read : (state : ℕ → ℕ) (v w : Valuation) → Fits n state v → Fits n state w → (name : List ℕ) →
-      ((s : ℕ) × ((state : ℕ → ℕ) (v : Valuation) → Fits n state v → read n v name ≡ state s)) → one (read n w name) ≡ one (read n v name)
-  same_read state v w fv fw name r = ap one (r.1 state w fw ∙ sym (r.1 state v fv))
+  same : (state : ℕ → ℕ) (v : Valuation) → Fits n state v → (name : List ℕ) → IsHeld name → one (read n v name) ≡ one (held state name)
+  same state v fits name r = ap one (r state v fits)
 
-  -- what fits one state is quiet alike
-  pub quiet_alike : (state : ℕ → ℕ) (v w : Valuation) → Fits n state v → Fits n state w → Quiet (registers_now C D n v) → Quiet (registers_now C D n w)
-  quiet_alike state v w fv fw q = record {
-    run = λ u. and_down (is_unit C u) _ _ (λ is. same_read state v w fv fw _ (run_reads u is)) (q.run u);
-    fin = λ u. and_down (is_unit C u) _ _ (λ is. same_read state v w fv fw _ (fin_reads u is)) (q.fin u);
-    sent = λ k pos. and_down (is_site C k) _ _ (λ is. same_read state v w fv fw _ (sent_reads k is)) (q.sent k pos);
-    got = λ k pos. and_down (is_site C k) _ _ (λ is. same_read state v w fv fw _ (got_reads k is)) (q.got k pos);
+  -- if a state is quiet, its registers are so in a cycle
+  pub quiet_in : (state : ℕ → ℕ) (v : Valuation) → Fits n state v → IsQuietState C D n state → Quiet (registers_now C D n v)
+  quiet_in state v fits q = record {
+    run = λ u. and_down (is_unit C u) _ _ (λ is. same state v fits _ (run_reads u is)) (q.run u);
+    fin = λ u. and_down (is_unit C u) _ _ (λ is. same state v fits _ (fin_reads u is)) (q.fin u);
+    sent = λ k pos. and_down (is_site C k) _ _ (λ is. same state v fits _ (sent_reads k is)) (q.sent k pos);
+    got = λ k pos. and_down (is_site C k) _ _ (λ is. same state v fits _ (got_reads k is)) (q.got k pos);
   }
 
-  clear : (v : Valuation) → Fits n (reset_state n) v → (name : List ℕ) → ((s : ℕ) × ((state : ℕ → ℕ) (v : Valuation) → Fits n state v → read n v name ≡ state s)) → one (read n v name) ≡ false
-  clear v fits name r = ap one (r.1 (reset_state n) v fits ∙ scheme.resets r.0)
+  -- and the other way
+  pub quiet_of : (state : ℕ → ℕ) (v : Valuation) → Fits n state v → Quiet (registers_now C D n v) → IsQuietState C D n state
+  quiet_of state v fits q = record {
+    run = λ u. and_down (is_unit C u) _ _ (λ is. sym (same state v fits _ (run_reads u is))) (q.run u);
+    fin = λ u. and_down (is_unit C u) _ _ (λ is. sym (same state v fits _ (fin_reads u is))) (q.fin u);
+    sent = λ k pos. and_down (is_site C k) _ _ (λ is. sym (same state v fits _ (sent_reads k is))) (q.sent k pos);
+    got = λ k pos. and_down (is_site C k) _ _ (λ is. sym (same state v fits _ (got_reads k is))) (q.got k pos);
+  }
+
+  alike : (a b : ℕ → ℕ) → ((s : ℕ) → a s ≡ b s) → (o : Option ℕ) → option_map_or b o 0 ≡ option_map_or a o 0
+  alike a b same None = refl
+  alike a b same (Some s) = sym (same s)
+
+  -- a state with the same numbers is quiet alike
+  pub quiet_alike : (a b : ℕ → ℕ) → ((s : ℕ) → a s ≡ b s) → IsQuietState C D n a → IsQuietState C D n b
+  quiet_alike a b same q = record {
+    run = λ u. and_down (is_unit C u) _ _ (λ is. ap one (alike a b same (place n.signals (of_function D (codes "run$") u) 0))) (q.run u);
+    fin = λ u. and_down (is_unit C u) _ _ (λ is. ap one (alike a b same (place n.signals (of_function D (codes "fin$") u) 0))) (q.fin u);
+    sent = λ k pos. and_down (is_site C k) _ _ (λ is. ap one (alike a b same (place n.signals (of_site (codes "sent$") k) 0))) (q.sent k pos);
+    got = λ k pos. and_down (is_site C k) _ _ (λ is. ap one (alike a b same (place n.signals (of_site (codes "got$") k) 0))) (q.got k pos);
+  }
+
+  clear : (o : Option ℕ) → option_map_or (reset_state n) o 0 ≡ 0
+  clear None = refl
+  clear (Some s) = scheme.resets s
 
   pub reset_quiet : IsQuietState C D n (reset_state n)
-  reset_quiet v fits = record {
-    run = λ u. never_both (is_unit C u) _ (λ is. clear v fits _ (run_reads u is));
-    fin = λ u. never_both (is_unit C u) _ (λ is. clear v fits _ (fin_reads u is));
-    sent = λ k pos. never_both (is_site C k) _ (λ is. clear v fits _ (sent_reads k is));
-    got = λ k pos. never_both (is_site C k) _ (λ is. clear v fits _ (got_reads k is));
+  reset_quiet = record {
+    run = λ u. never_both (is_unit C u) _ (λ is. ap one (clear (place n.signals (of_function D (codes "run$") u) 0)));
+    fin = λ u. never_both (is_unit C u) _ (λ is. ap one (clear (place n.signals (of_function D (codes "fin$") u) 0)));
+    sent = λ k pos. never_both (is_site C k) _ (λ is. ap one (clear (place n.signals (of_site (codes "sent$") k) 0)));
+    got = λ k pos. never_both (is_site C k) _ (λ is. ap one (clear (place n.signals (of_site (codes "got$") k) 0)));
   }
 
 pub reset_is_quiet : ResetIsQuiet

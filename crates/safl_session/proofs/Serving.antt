@@ -20,7 +20,7 @@ use Rattle.safl_net.proofs.Existence.{exactly_one}
 use Rattle.safl_sim.proofs.Giving.{bits}
 use Rattle.safl_sim.proofs.Names.{place_at}
 use Rattle.safl_sites.specs.Plan.{Choice}
-use Rattle.safl_circuit.specs.Names.{registers_now}
+use Rattle.safl_circuit.specs.Names.{registers_now, registers_next}
 use Rattle.safl_circuit.specs.Scheme.{Scheme}
 use Rattle.safl_circuit.specs.Steps.{Quiet}
 use Rattle.safl_circuit.specs.Correct.{IsQuietState, IsResult, DoneIn, latest}
@@ -28,11 +28,10 @@ use Rattle.safl_circuit.specs.Theorem.{IsCircuit, Runs}
 use Rattle.safl_sim.specs.declared.done.Done.{Done as Reply}
 use Rattle.safl_run.specs.Calls.{Replies, IsSilent}
 use Rattle.safl_session.specs.Replies.{AreReplies}
-use Rattle.safl_session.specs.Circuits.{IsMainReply, Serves, IsInTime, BudgetsAreInTime, CircuitsServe, CircuitsReply}
+use Rattle.safl_session.specs.Circuits.{IsMainReply, StartsQuiet, Serves, IsInTime, BudgetsAreInTime, CircuitsServe, CircuitsReply}
 use Rattle.safl_run.proofs.OneAnswer.{last_fits}
-use Rattle.safl_session.proofs.QuietStates.{quiet_alike}
+use Rattle.safl_session.proofs.QuietStates.{quiet_in, quiet_of, quiet_alike}
 use Rattle.safl_sim.proofs.Existence.{next_fits}
-use Rattle.safl_sim.proofs.Going.{fits_along}
 use Rattle.safl_sim.proofs.WordsOfNumbers.{word_bits}
 
 -- a run with one cycle more, in which `start` is 0
@@ -77,8 +76,9 @@ module _ (C : Program) (D : Names) (P : Choice) (n : Netlist) (scheme : Scheme C
             exact = λ seq. sym p.long ∙ runs.exact seq args sized cycles p.call.run (length p.before) p.last at p.done (as_word (C.result C.main) r.result.bits) y.by;
           }
 
-      quiet_after : IsQuietState C D n after
-      quiet_after w fits =
+      -- the cycle of the reply leaves quiet registers
+      quiet_next : Quiet (registers_next C D n p.last)
+      quiet_next =
           let f = last_fits n state args p.before p.last p.call in
           let u = rest_cycle (next_state n p.last) (next_fits n f.0 p.last made f.1) in
           let run = run_more n state (bits args) p.before p.last u.0 p.call.run u.1 u.2 in
@@ -87,7 +87,7 @@ module _ (C : Program) (D : Names) (P : Choice) (n : Netlist) (scheme : Scheme C
           (get_seam p.before p.last (u.0 ∷ []) (length p.before) refl)
           (behind p.before p.last u.0)
           p.done (omega arith) in
-          quiet_alike C D P n scheme (next_state n p.last) u.0 w u.1 (fits_along n after (next_state n p.last) w p.leads fits) q
+          quiet_of C D P n scheme (next_state n p.last) u.0 u.1 q
         where
           behind : (vs : List Valuation) (v u : Valuation) → slice_get (vs ++ v ∷ u ∷ []) (length vs + 1) ≡ Some u
           behind vs v u = ap (slice_get (vs ++ v ∷ u ∷ [])) (let z : length vs + 1 ≡ suc (length vs) = omega arith in z) ∙ next vs
@@ -95,6 +95,13 @@ module _ (C : Program) (D : Names) (P : Choice) (n : Netlist) (scheme : Scheme C
               next : (vs : List Valuation) → slice_get (vs ++ v ∷ u ∷ []) (suc (length vs)) ≡ Some u
               next [] = refl
               next (x ∷ vs) = next vs
+
+      quiet_after : IsQuietState C D n after
+      quiet_after = quiet_alike C D P n scheme (next_state n p.last) after (λ s. sym (p.leads s)) quiet_next
+
+    starts_quiet : (vs : List Valuation) → RunFrom n state (bits args) vs → StartsQuiet C D n vs
+    starts_quiet [] run = tt
+    starts_quiet (v ∷ vs) run = quiet_in C D P n scheme state v run.0 quiet
 
     not_silent : IsInTime C limit args → IsSilent n limit state args → ⊥
     not_silent g s =
@@ -108,19 +115,18 @@ module _ (C : Program) (D : Names) (P : Choice) (n : Netlist) (scheme : Scheme C
 
   serve : (state : ℕ → ℕ) → IsQuietState C D n state → (calls : List (List Word)) → All (λ args. AreWordsOf args (C.params C.main)) calls →
       (rs : List Reply) → AreReplies n limit state calls rs → Serves C D n limit state calls rs
-  serve state quiet [] sized_all [] a = quiet
+  serve state quiet [] sized_all [] a = tt
   serve state quiet [] sized_all (r ∷ rs) a = a
-  serve state quiet (args ∷ calls) sized_all [] a = (quiet, a)
+  serve state quiet (args ∷ calls) sized_all [] a =
+      (a, starts_quiet state quiet args (All-head (λ x. AreWordsOf x (C.params C.main)) args calls sized_all) a.cycles a.call.run)
   serve state quiet (args ∷ calls) sized_all (r ∷ rs) a =
       let sized = All-head (λ x. AreWordsOf x (C.params C.main)) args calls sized_all in (
-        quiet,
         main_reply state quiet args sized r a.0 a.1,
-        (
-          a.0,
-          a.1,
-          serve a.0 (quiet_after state quiet args sized r a.0 a.1) calls
-              (All-tail (λ x. AreWordsOf x (C.params C.main)) args calls sized_all) rs a.2,
-        ),
+        a.0,
+        a.1,
+        starts_quiet state quiet args sized (a.1.before ++ a.1.last ∷ []) a.1.call.run,
+        quiet_next state quiet args sized r a.0 a.1,
+        serve a.0 (quiet_after state quiet args sized r a.0 a.1) calls (All-tail (λ x. AreWordsOf x (C.params C.main)) args calls sized_all) rs a.2,
       )
 
   reply : (state : ℕ → ℕ) → IsQuietState C D n state → (calls : List (List Word)) → All (λ args. AreWordsOf args (C.params C.main)) calls → All

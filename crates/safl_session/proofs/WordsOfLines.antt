@@ -8,10 +8,8 @@ use Rattle.std.proofs.lemmas.Option.{slice_get_within}
 use Rattle.safl_word.specs.Words.{Word}
 use Rattle.safl_word.proofs.Lists.{get_in_front, get_seam}
 use Rattle.safl_word.proofs.Naturals.{lower_same_higher}
-use Rattle.safl_session.specs.declared.script.ScriptErr.{ScriptErr}
-use Rattle.safl_session.specs.declared.script.ScriptErr.TheVariants as errors
 use Rattle.safl_session.specs.Pieces.{HasWords, Blank, StartsWith}
-use Rattle.safl_session.specs.Lines.{IsArgument, AreArguments, IsCall, AppendsCall, HaveMisfit, HasFault}
+use Rattle.safl_session.specs.Lines.{IsArgument, AreArguments, IsCall, AppendsCall, HaveMisfit, ScriptFault, Count, Argument, HasFault}
 use Rattle.safl_session.proofs.PiecesOfText.{words_once, blank_words, first_word, behind_long}
 
 -- the texts that have a width are these arguments
@@ -232,16 +230,15 @@ arg_at (x ∷ ws) (s ∷ ts) (v ∷ vs) a zero w t e f =
     (v, subst (λ y. IsArgument y t v) p (subst (λ y. IsArgument x y v) q a.0))
 arg_at (x ∷ ws) (s ∷ ts) (v ∷ vs) a (suc k) w t e f = arg_at ws ts vs a.1 k w t e f
 
-pub no_fault : (widths line : List ℕ) (args : List Word) (number : ℕ) (e : ScriptErr) → IsCall widths line args → HasFault widths line number e → ⊥
-no_fault widths line args number (errors.Count l given) a f =
+pub no_fault : (widths line : List ℕ) (args : List Word) (number : ℕ) (e : ScriptFault) → IsCall widths line args → HasFault widths line number e → ⊥
+no_fault widths line args number (Count l given) a f =
     f.1.3 (sym f.1.2 ∙ ap length (words_once line f.1.0 a.0 f.1.1 a.1) ∙ args_long widths a.0 args a.2)
-no_fault widths line args number (errors.Argument l place) a f =
+no_fault widths line args number (Argument l place) a f =
     let m : IsMisread widths line place = f.1 in
     let same = words_once line m.0 a.0 m.1 a.1 in
     let u : HaveMisfit widths m.0 = m.2 in
     let v = arg_at widths a.0 args a.2 u.index u.width u.text u.at_width (ap (λ ts. slice_get ts u.index) (sym same) ∙ u.at_text) in
     u.bad v.0 v.1
-no_fault widths line args number errors.NoMemory a f = f
 
 -- a line has one fault
 misread_before : (widths line : List ℕ) (p q : ℕ) (a : IsMisread widths line p) (b : IsMisread widths line q) → a.2.index < b.2.index → ⊥
@@ -259,19 +256,16 @@ places_same widths line p q a b = a.3 ∙ ap (λ k. k + 1) (by (lower_same_highe
     by (inr (inl e)) = e
     by (inr (inr h)) = absurd (misread_before widths line q p b a h)
 
-pub fault_once : (widths line : List ℕ) (number : ℕ) (e f : ScriptErr) → HasFault widths line number e → HasFault widths line number f → e ≡ f
-fault_once widths line number (errors.Count l given) (errors.Count k other) a b =
+pub fault_once : (widths line : List ℕ) (number : ℕ) (e f : ScriptFault) → HasFault widths line number e → HasFault widths line number f → e ≡ f
+fault_once widths line number (Count l given) (Count k other) a b =
     let p : l ≡ k = a.0 ∙ sym b.0 in
     let q : given ≡ other = sym a.1.2 ∙ ap length (words_once line a.1.0 b.1.0 a.1.1 b.1.1) ∙ b.1.2 in
-    ap (λ x. errors.Count x given) p ∙ ap (λ x. errors.Count k x) q
-fault_once widths line number (errors.Count l given) (errors.Argument k place) a b =
+    ap (λ x. Count x given) p ∙ ap (λ x. Count k x) q
+fault_once widths line number (Count l given) (Argument k place) a b =
     let m : IsMisread widths line place = b.1 in
     absurd (a.1.3 (sym a.1.2 ∙ ap length (words_once line a.1.0 m.0 a.1.1 m.1) ∙ m.2.same))
-fault_once widths line number (errors.Argument l place) (errors.Count k given) a b =
+fault_once widths line number (Argument l place) (Count k given) a b =
     let m : IsMisread widths line place = a.1 in
     absurd (b.1.3 (sym b.1.2 ∙ ap length (words_once line b.1.0 m.0 b.1.1 m.1) ∙ m.2.same))
-fault_once widths line number (errors.Argument l p) (errors.Argument k q) a b =
-    ap (λ x. errors.Argument x p) (a.0 ∙ sym b.0) ∙ ap (λ x. errors.Argument k x) (places_same widths line p q a.1 b.1)
-fault_once widths line number (errors.Count l given) errors.NoMemory a b = absurd b
-fault_once widths line number (errors.Argument l place) errors.NoMemory a b = absurd b
-fault_once widths line number errors.NoMemory f a b = absurd a
+fault_once widths line number (Argument l p) (Argument k q) a b =
+    ap (λ x. Argument x p) (a.0 ∙ sym b.0) ∙ ap (λ x. Argument k x) (places_same widths line p q a.1 b.1)

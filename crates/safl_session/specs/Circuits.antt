@@ -1,5 +1,5 @@
 -- Sessions of circuits: the replies are main's values, and each call starts in a quiet state.
-use Rattle.std.specs.Prelude.{◌≡◌, ℕ, ◌*◌, ◌<◌, ◌≤◌, List, [], ◌∷◌, length, All}
+use Rattle.std.specs.Prelude.{◌≡◌, ℕ, ◌*◌, ◌<◌, ◌≤◌, List, [], ◌∷◌, ◌++◌, length, All}
 use Rattle.safl_term.specs.Names.{Names}
 use Rattle.safl_word.specs.Words.{Word, as_word}
 use Rattle.safl_term.specs.Program.{Program}
@@ -8,9 +8,11 @@ use Rattle.safl_term.specs.Fuel.{GivesInCalls}
 use Rattle.safl_term.specs.WellFormed.{AreWordsOf}
 use Rattle.safl_net.specs.Netlist.{Netlist}
 use Rattle.safl_net.specs.Rules.{IsNetlist}
-use Rattle.safl_net.specs.Valuations.{reset_state}
+use Rattle.safl_net.specs.Valuations.{Valuation, reset_state}
 use Rattle.safl_net.specs.Whole.{IsWhole}
 use Rattle.safl_sites.specs.Plan.{Choice}
+use Rattle.safl_circuit.specs.Names.{registers_now, registers_next}
+use Rattle.safl_circuit.specs.Steps.{Quiet}
 use Rattle.safl_circuit.specs.Scheme.{Scheme}
 use Rattle.safl_circuit.specs.Correct.{IsExactResult, IsQuietState, latest}
 use Rattle.safl_circuit.specs.Theorem.{IsCircuit}
@@ -22,13 +24,20 @@ use Rattle.safl_session.specs.Replies.{AreReplies}
 abbrev pub IsMainReply : Program → List Word → Reply → Type 0
 IsMainReply C args r = IsExactResult C args (as_word (C.result C.main) r.result.bits) r.cycle
 
--- from a state, one call after another: each starts in a quiet state, and its reply is main's
+-- the registers are quiet in the first of these cycles
+abbrev pub StartsQuiet : Program → Names → Netlist → List Valuation → Type 0
+StartsQuiet C D n [] = Unit {0}
+StartsQuiet C D n (v ∷ vs) = Quiet (registers_now C D n v)
+
+-- From a state, one call after another: the registers are quiet in the first cycle of each, its reply is main's, and the cycle of
+-- the reply leaves them quiet.
 abbrev pub Serves : Program → Names → Netlist → ℕ → (ℕ → ℕ) → List (List Word) → List Reply → Type 0
-Serves C D n limit state [] [] = IsQuietState C D n state
+Serves C D n limit state [] [] = Unit {0}
 Serves C D n limit state [] (r ∷ rs) = ⊥
-Serves C D n limit state (args ∷ calls) [] = IsQuietState C D n state × IsSilent n limit state args
+Serves C D n limit state (args ∷ calls) [] = (s : IsSilent n limit state args) × StartsQuiet C D n s.cycles
 Serves C D n limit state (args ∷ calls) (r ∷ rs) =
-    IsQuietState C D n state × IsMainReply C args r × ((after : ℕ → ℕ) × Replies n limit state args r after × Serves C D n limit after calls rs)
+    IsMainReply C args r × (after : ℕ → ℕ) × (p : Replies n limit state args r after) × StartsQuiet C D n (p.before ++ p.last ∷ [])
+    × Quiet (registers_next C D n p.last) × Serves C D n limit after calls rs
 
 -- a circuit serves calls with words of the widths of main's parameters, from any quiet state
 abbrev pub CircuitsServe : Type 0

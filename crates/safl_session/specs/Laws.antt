@@ -8,7 +8,7 @@ use Rattle.safl_net.specs.Valuations.{IsAcyclic}
 use Rattle.safl_net.specs.Whole.{IsWhole}
 use Rattle.safl_net.specs.Arguments.{AreArguments}
 use Rattle.safl_sim.specs.declared.done.Done.{Done as Reply}
-use Rattle.safl_session.specs.declared.script.ScriptErr.{ScriptErr}
+use Rattle.safl_session.specs.Lines.{ScriptFault}
 use Rattle.safl_session.specs.Replies.{AreReplies, AllReply}
 use Rattle.safl_session.specs.Scripts.{IsScript, IsScriptFault}
 
@@ -39,7 +39,7 @@ abbrev pub OneScript : Type 0
 OneScript = (widths text : List ℕ) (calls others : List (List Word)) → IsScript widths text calls → IsScript widths text others → calls ≡ others
 
 abbrev pub OneFault : Type 0
-OneFault = (widths text : List ℕ) (e f : ScriptErr) → IsScriptFault widths text e → IsScriptFault widths text f → e ≡ f
+OneFault = (widths text : List ℕ) (e f : ScriptFault) → IsScriptFault widths text e → IsScriptFault widths text f → e ≡ f
 
 abbrev pub NotBoth : Type 0
-NotBoth = (widths text : List ℕ) (calls : List (List Word)) (e : ScriptErr) → IsScript widths text calls → IsScriptFault widths text e → ⊥
+NotBoth = (widths text : List ℕ) (calls : List (List Word)) (f : ScriptFault) → IsScript widths text calls → IsScriptFault widths text f → ⊥

@@ -1,5 +1,5 @@
 -- Lines of a script. Each has the arguments of a call.
-use Rattle.std.specs.Prelude.{◌≡◌, ◌≢◌, ℕ, ◌+◌, ◌<◌, ◌^◌, ◌⊎◌, List, [], ◌∷◌, ◌++◌, length, Some, slice_get}
+use Rattle.std.specs.Prelude.{◌≡◌, ◌≢◌, ℕ, ◌+◌, ◌<◌, ◌⊎◌, List, [], ◌∷◌, ◌++◌, length, Some, slice_get}
 use Rattle.safl_word.specs.Words.{Word, IsWord}
 use Rattle.safl_word.specs.Numerals.{IsBounded, value}
 use Rattle.safl_word.specs.Limits.{argument_max, value_bound}
@@ -38,15 +38,24 @@ pub record HaveMisfit (widths : List ℕ) (texts : List (List ℕ)) : Type 0 whe
   pub bad : (v : Word) → IsArgument width text v → ⊥
   pub before : (i w : ℕ) (t : List ℕ) → i < index → slice_get widths i ≡ Some w → slice_get texts i ≡ Some t → (v : Word) × IsArgument w t v
 
--- The line has this fault: its number of words, which is not that of the widths; or otherwise the number of the first word that is
--- no argument of its width, counted from 1.
-abbrev pub HasFault : List ℕ → List ℕ → ℕ → ScriptErr → Type 0
-HasFault widths line number (errors.Count l given) =
-    (l ≡ number) × ((words : List (List ℕ)) × HasWords line words × (length words ≡ given) × (given ≢ length widths))
-HasFault widths line number (errors.Argument l place) =
-    (l ≡ number) × ((words : List (List ℕ)) × HasWords line words × (m : HaveMisfit widths words) × (place ≡ m.index + 1))
-HasFault widths line number errors.NoMemory = ⊥
+-- a fault of a script: a line has so many words, or the word at a place is no argument. Lines and places are counted from 1
+pub data ScriptFault : Type 0 where
+  Count : (line given : ℕ) → ScriptFault
+  Argument : (line place : ℕ) → ScriptFault
 
--- the error is the fault of the line, or out of memory
+-- The line has this fault: its number of words, which is not that of the widths; or otherwise the number of the first word that is
+-- no argument of its width.
+abbrev pub HasFault : List ℕ → List ℕ → ℕ → ScriptFault → Type 0
+HasFault widths line number (Count l given) =
+    (l ≡ number) × ((words : List (List ℕ)) × HasWords line words × (length words ≡ given) × (given ≢ length widths))
+HasFault widths line number (Argument l place) =
+    (l ≡ number) × ((words : List (List ℕ)) × HasWords line words × (m : HaveMisfit widths words) × (place ≡ m.index + 1))
+
+-- the error that says a fault
+abbrev pub error_of : ScriptFault → ScriptErr
+error_of (Count line given) = errors.Count line given
+error_of (Argument line place) = errors.Argument line place
+
+-- the error says the fault of the line, or out of memory
 abbrev pub RefusesLine : List ℕ → List ℕ → ℕ → ScriptErr → Type 0
-RefusesLine widths line number e = (e ≡ errors.NoMemory) ⊎ HasFault widths line number e
+RefusesLine widths line number e = (e ≡ errors.NoMemory) ⊎ ((f : ScriptFault) × (e ≡ error_of f) × HasFault widths line number f)

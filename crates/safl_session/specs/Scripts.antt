@@ -5,25 +5,25 @@ use Rattle.safl_word.specs.Words.{Word}
 use Rattle.safl_session.specs.declared.script.ScriptErr.{ScriptErr}
 use Rattle.safl_session.specs.declared.script.ScriptErr.TheVariants as errors
 use Rattle.safl_session.specs.Pieces.{HasLines}
-use Rattle.safl_session.specs.Lines.{IsCall, HasFault}
+use Rattle.safl_session.specs.Lines.{IsCall, ScriptFault, HasFault, error_of}
 
 -- the lines of the text have the arguments of these calls, one by one
 abbrev pub IsScript : List ℕ → List ℕ → List (List Word) → Type 0
 IsScript widths text calls = (lines : List (List ℕ)) × HasLines text lines × AllZip (IsCall widths) lines calls
 
 -- the fault of the first line that is no call
-pub record IsScriptFault (widths text : List ℕ) (e : ScriptErr) : Type 0 where
+pub record IsScriptFault (widths text : List ℕ) (f : ScriptFault) : Type 0 where
   pub before : List (List ℕ)
   pub line : List ℕ
   pub after : List (List ℕ)
   pub lines : HasLines text (before ++ line ∷ after)
   pub calls : List (List Word)
   pub good : AllZip (IsCall widths) before calls
-  pub fault : HasFault widths line (length before + 1) e
+  pub fault : HasFault widths line (length before + 1) f
 
--- the error is the fault of the script, or out of memory
+-- the error says the fault of the script, or out of memory
 abbrev pub RefusesScript : List ℕ → List ℕ → ScriptErr → Type 0
-RefusesScript widths text e = (e ≡ errors.NoMemory) ⊎ IsScriptFault widths text e
+RefusesScript widths text e = (e ≡ errors.NoMemory) ⊎ ((f : ScriptFault) × (e ≡ error_of f) × IsScriptFault widths text f)
 
 -- a list of words, cut into this many calls with this many words each
 abbrev pub calls_of : ℕ → ℕ → List Word → List (List Word)

@@ -18,7 +18,7 @@ use Rattle.safl_term.specs.Names.{Names}
 use Rattle.safl_term.specs.WellFormed.{AreWordsOf}
 use Rattle.safl_net.proofs.SignalKinds.{reset_at}
 use Rattle.safl_circuit.proofs.WholeCircuits.{schemes_whole}
-use Rattle.safl_session.specs.declared.script.ScriptErr.{ScriptErr}
+use Rattle.safl_session.specs.Lines.{ScriptFault, Count, Argument, error_of}
 use Rattle.safl_session.specs.declared.script.ScriptErr.TheVariants as errors
 use Rattle.safl_sim.specs.declared.done.Done.{Done as Reply}
 use Rattle.safl_session.specs.Circuits.{CircuitsServe, CircuitsReply, ResetIsQuiet, IsInTime, Serves}
@@ -154,39 +154,48 @@ module _ (o : ReadySession) (limit : ℕ) (shelf : ShelfState) (out out' : SinkS
 
 -- ---- a script that is refused
 
-pub misscripted : (name source script : List ℕ) (n : Netlist) → IsCompiled source n → (e : ScriptErr) → (e ≡ errors.NoMemory → ⊥) → RefusesScript (argument_widths n.signals) script e
-    → (line : List ℕ) → line ≡ script_line (argument_widths n.signals) e → RefusesSession name source script status.BadArgs line
-misscripted name source script n c e not r line is = elim r [
-  | inl none ↦ absurd (not none)
-  | inr f ↦ inr (
-    refl,
-    (
-      c.program,
-      c.names,
-      e,
-      c.source_of,
-      subst (λ (ws : List ℕ). IsScriptFault ws script e) c.params f,
-      subst (λ (ws : List ℕ). line ≡ script_line ws e) c.params is,
-    ),
-  )
-]
+not_memory : (f : ScriptFault) → error_of f ≡ errors.NoMemory → ⊥
+not_memory (Count l given) e = cc
+not_memory (Argument l place) e = cc
 
-pub count_not_memory : (l given : ℕ) → errors.Count l given ≡ errors.NoMemory → ⊥
-count_not_memory l given e = cc
+said_once : (f g : ScriptFault) → error_of f ≡ error_of g → f ≡ g
+said_once (Count l given) (Count k other) e =
+    let p : l ≡ k = cc in
+    let q : given ≡ other = cc in
+    ap (λ x. Count x given) p ∙ ap (λ x. Count k x) q
+said_once (Count l given) (Argument k place) e = absurd (cc)
+said_once (Argument l place) (Count k given) e = absurd (cc)
+said_once (Argument l place) (Argument k other) e =
+    let p : l ≡ k = cc in
+    let q : place ≡ other = cc in
+    ap (λ x. Argument x place) p ∙ ap (λ x. Argument k x) q
 
-pub argument_not_memory : (l p : ℕ) → errors.Argument l p ≡ errors.NoMemory → ⊥
-argument_not_memory l p e = cc
+-- an error that says a fault is no other
+fault_of : (widths script : List ℕ) (f : ScriptFault) → RefusesScript widths script (error_of f) → IsScriptFault widths script f
+fault_of widths script f (inl none) = absurd (not_memory f none)
+fault_of widths script f (inr (g, is, has)) = subst (λ x. IsScriptFault widths script x) (said_once g f (sym is)) has
+
+pub misscripted : (name source script : List ℕ) (n : Netlist) → IsCompiled source n → (f : ScriptFault) → RefusesScript (argument_widths n.signals) script (error_of f)
+    → (line : List ℕ) → line ≡ script_line (argument_widths n.signals) f → RefusesSession name source script status.BadArgs line
+misscripted name source script n c f r line is = inr (
+  refl,
+  (
+    c.program,
+    c.names,
+    f,
+    c.source_of,
+    subst (λ (ws : List ℕ). IsScriptFault ws script f) c.params (fault_of (argument_widths n.signals) script f r),
+    subst (λ (ws : List ℕ). line ≡ script_line ws f) c.params is,
+  ),
+)
 
 -- the place of an argument that is refused
 pub placed : (widths script : List ℕ) (l p : ℕ) → RefusesScript widths script (errors.Argument l p) → (0 < p) × (p ≤ length widths)
-placed widths script l p r = elim r [
-  | inl none ↦ absurd (cc)
-  | inr f ↦
-      let m = f.fault.1 in
-      let a = slice_get_within widths m.2.index m.2.width m.2.at_width in
-      let b = m.3 in
-      (omega (arith, b), omega (arith, a, b))
-]
+placed widths script l p r =
+    let m = (fault_of widths script (Argument l p) r).fault.1 in
+    let a = slice_get_within widths m.2.index m.2.width m.2.at_width in
+    let b = m.3 in
+    (omega (arith, b), omega (arith, a, b))
 
 -- the lines of both faults
 pub count_told : (l m k n g h : ℕ) → l ≡ m → k ≡ n → g ≡ h → numbered_line l (count_line k g) ≡ numbered_line m (count_line n h)
@@ -204,8 +213,8 @@ served : (C : Program) (D : Names) (n : Netlist) (limit : ℕ) (state : ℕ → 
     → AreReplies n limit state calls rs
 served C D n limit state [] [] s = tt
 served C D n limit state [] (r ∷ rs) s = s
-served C D n limit state (args ∷ calls) [] s = s.1
-served C D n limit state (args ∷ calls) (r ∷ rs) s = (s.2.0, s.2.1, served C D n limit s.2.0 calls rs s.2.2)
+served C D n limit state (args ∷ calls) [] s = s.0
+served C D n limit state (args ∷ calls) (r ∷ rs) s = (s.1, s.2, served C D n limit s.1 calls rs s.5)
 
 pub misscripted_not : OneProgram → sessions.NotBoth → (source script : List ℕ) (limit : ℕ) (line : List ℕ) → EvaluatesEach source script limit → IsMisscripted source script line → ⊥
 misscripted_not once apart source script limit line e m =

@@ -177,7 +177,7 @@ each_reply C D n limit state [] [] serves e = tt
 each_reply C D n limit state [] (r ∷ rs) serves e = absurd serves
 each_reply C D n limit state (args ∷ calls) [] serves e = absurd (cc)
 each_reply C D n limit state (args ∷ calls) (r ∷ rs) serves e =
-    (serves.1, each_reply C D n limit serves.2.0 calls rs serves.2.2 (cc))
+    (serves.0, each_reply C D n limit serves.1 calls rs serves.5 (cc))
 
 answered_by : (limit : ℕ) (source script : List ℕ) (calls : List (List Word)) (replies : List Reply) → Conversed source script limit calls replies → (g : Given)
     → g ≡ told limit calls replies → end_of g ≡ status.Ok → (b : Bool) → are_all (length calls) replies ≡ b → IsSession source script g.printed

@@ -7,8 +7,7 @@ use Rattle.safl_net.specs.Rules.{IsNetlist}
 use Rattle.safl_net.specs.Valuations.{reset_state}
 use Rattle.safl_term.specs.Program.{Program}
 use Rattle.safl_term.specs.Names.{Names}
-use Rattle.safl_session.specs.declared.script.ScriptErr.{ScriptErr}
-use Rattle.safl_session.specs.declared.script.ScriptErr.TheVariants as errors
+use Rattle.safl_session.specs.Lines.{ScriptFault, Count, Argument}
 use Rattle.safl_sim.specs.declared.done.Done.{Done as Reply}
 use Rattle.safl_session.specs.Scripts.{IsScript, IsScriptFault}
 use Rattle.safl_session.specs.Circuits.{Serves, IsInTime}
@@ -36,14 +35,13 @@ GivesReplies limit source script g = (calls : List (List Word)) × (replies : Li
     × (g ≡ only_prints (length replies == length calls) (transcript limit (length calls) replies))
 
 -- the line that reports a fault of a script, for parameters of these widths
-abbrev pub script_line : List ℕ → ScriptErr → List ℕ
-script_line widths (errors.Count line given) = codes "line " ++ decimal line ++ codes ": " ++ count_line (length widths) given
-script_line widths (errors.Argument line place) = codes "line " ++ decimal line ++ codes ": " ++ argument_line place (slice_index widths (place - 1))
-script_line widths errors.NoMemory = []
+abbrev pub script_line : List ℕ → ScriptFault → List ℕ
+script_line widths (Count line given) = codes "line " ++ decimal line ++ codes ": " ++ count_line (length widths) given
+script_line widths (Argument line place) = codes "line " ++ decimal line ++ codes ": " ++ argument_line place (slice_index widths (place - 1))
 
 -- the source spells a program, and the script has a first faulty line for main's parameters, which the line reports
 abbrev pub IsMisscripted : List ℕ → List ℕ → List ℕ → Type 0
-IsMisscripted source script line = (C : Program) × (D : Names) × (fault : ScriptErr) × IsSourceOf source C D
+IsMisscripted source script line = (C : Program) × (D : Names) × (fault : ScriptFault) × IsSourceOf source C D
     × IsScriptFault (C.params C.main) script fault × (line ≡ script_line (C.params C.main) fault)
 
 -- The source spells a program, and main gives a value for the words of each line, with the last cycle in which `done` may come

@@ -1,6 +1,7 @@
 use Rattle.std.proofs.Common.{◌≡◌, ◌≤◌, ◌+◌, length, Some, None, slice_index, subst, sym, refl, ◌∙◌, inr, Vec, Global}
 use Rattle.safl_word.specs.Words.{Word}
 use Rattle.safl_word.proofs.Lists.{shown_at}
+use Rattle.safl_session.specs.Lines.{Count, Argument}
 use Rattle.safl_session.proofs.WordsOfLines.{SeenTo, is_absent, is_present, seen_none, seen_read, seen_bad, seen_over, seen_count, seen_call, seen_fault}
 use Rattle.safl_session.proofs.line.read_line.Goals.{then-is_none+then-given-widths+in-None}
 use Rattle.safl_session.proofs.line.read_line.Goals.{then-is_none+then-given-widths+in-Some-read_argument+in-Ok, else-is_none}
@@ -47,18 +48,26 @@ words-preserved c =
 
 pub returns-then-given-widths-2-clause-refused : goal.returns-then-given-widths-2-clause-refused
 returns-then-given-widths-2-clause-refused c = inr (
+  Count _ _,
   refl,
-  seen_count c.args.widths.now c.args.line.now c.words.given c.words.rest.now c.in_default.ensures.none c.args.words.now.items c.words.words.items
-      c.words.misread c.words.invariant c.if-given-widths-2.true,
+  (
+    refl,
+    seen_count c.args.widths.now c.args.line.now c.words.given c.words.rest.now c.in_default.ensures.none c.args.words.now.items c.words.words.items
+        c.words.misread c.words.invariant c.if-given-widths-2.true,
+  ),
 )
 
 pub returns-in-Some-misread-clause-refused : goal.returns-in-Some-misread-clause-refused
 returns-in-Some-misread-clause-refused c =
     let seen = subst (λ m. SeenTo c.args.widths.now c.args.line.now c.words.given m c.words.rest.now c.args.words.now.items c.words.words.items) c.in-Some-misread.is c.words.invariant in
     inr (
+      Argument _ _,
       refl,
-      seen_fault c.args.widths.now c.args.line.now c.words.given c.words.rest.now c.in_default.ensures.none c.args.words.now.items c.words.words.items
-          c.in-Some-misread.place seen c.if-given-widths-2.false,
+      (
+        refl,
+        seen_fault c.args.widths.now c.args.line.now c.words.given c.words.rest.now c.in_default.ensures.none c.args.words.now.items c.words.words.items
+            c.in-Some-misread.place seen c.if-given-widths-2.false,
+      ),
     )
 
 pub returns-in-None-misread-clause-read : goal.returns-in-None-misread-clause-read

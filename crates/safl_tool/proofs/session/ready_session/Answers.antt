@@ -6,10 +6,11 @@ use Rattle.safl_sim.specs.Places.{resets}
 use Rattle.safl_sim.specs.Simulation.{Simulation}
 use Rattle.safl_session.specs.declared.script.ScriptErr.{ScriptErr}
 use Rattle.safl_session.specs.declared.script.ScriptErr.TheVariants as errors
+use Rattle.safl_session.specs.Lines.{Count, Argument}
 use Rattle.safl_session.specs.Scripts.{IsScript, RefusesScript}
 use Rattle.safl_session.specs.Sessions.{Opened}
 use Rattle.safl_tool.specs.CommandTasks.{RefusesSourceOf, RefusesSession}
-use Rattle.safl_tool.proofs.Conversed.{misscripted, placed, count_not_memory, argument_not_memory, count_told, argument_told}
+use Rattle.safl_tool.proofs.Conversed.{misscripted, placed, count_told, argument_told}
 use Rattle.safl_tool.proofs.Refusing.{refuses_more}
 use Rattle.safl_tool.proofs.session.ready_session.Goals as goal
 
@@ -31,7 +32,7 @@ returns-in-Err-Count-clause-refused c =
     let b = c.in-Ok-argument_widths.widths.ok.0 in
     let d = ap length c.in-Ok-argument_widths.ensures in
     let long : c.len.result ≡ length (argument_widths n.signals) = omega (arith, a, b, d) in
-    inr (misscripted c.args.name.now c.args.source.now c.args.script.now n c.in-Ok.ensures.compiled e (count_not_memory l given) refused _
+    inr (misscripted c.args.name.now c.args.source.now c.args.script.now n c.in-Ok.ensures.compiled (Count l given) refused _
     (count_told _ l c.len.result (length (argument_widths n.signals)) _ given c.in-Err-Count.line-is long c.in-Err-Count.given-is))
 
 pub index-width-requires : goal.index-width-requires
@@ -66,7 +67,7 @@ returns-in-Err-Argument-clause-refused c =
     let width = get_or_read c.in-Ok-argument_widths.widths.items _ c.index-width.result.now
     (subst (λ (k : ℕ). k - 1 < length c.in-Ok-argument_widths.widths.items) (sym place) bound) c.index-width.ensures 0
     ∙ ap (λ (k : ℕ). slice_index c.in-Ok-argument_widths.widths.items (k - 1)) place ∙ ap (λ (ws : List ℕ). slice_index ws (p - 1)) c.in-Ok-argument_widths.ensures in
-    inr (misscripted c.args.name.now c.args.source.now c.args.script.now n c.in-Ok.ensures.compiled e (argument_not_memory l p) refused _
+    inr (misscripted c.args.name.now c.args.source.now c.args.script.now n c.in-Ok.ensures.compiled (Argument l p) refused _
     (argument_told _ l _ p c.index-width.result.now (slice_index (argument_widths n.signals) (p - 1)) c.in-Err-Argument.line-is place width))
 
 pub returns-in-Ok-new-2-clause-opened : goal.returns-in-Ok-new-2-clause-opened
