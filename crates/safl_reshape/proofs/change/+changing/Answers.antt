@@ -16,20 +16,24 @@ use Rattle.safl_reshape.proofs.change.+changing.Goals as goal
 pub change-returns-in_ok-second-in-If-clause-tree : goal.change-returns-in_ok-second-in-If-clause-tree
 change-returns-in_ok-second-in-If-clause-tree t c =
     let K = known c.args.heads.now c.args.unit in
-    let s = shown_if c.args.e.now.node c.args.e.now.place c.in-If.condition c.in-If.first c.in-If.second c.deref.result.now c.deref-in-If.result.now c.deref-in-If-2.result.now c.in-If.is c.deref.ensures c.deref-in-If.ensures c.deref-in-If-2.ensures in
+    let s = shown_if c.args.e.now.node c.args.e.now.place c.in-If.condition c.in-If.first c.in-If.second
+    c.deref.result.now c.deref-in-If.result.now c.deref-in-If-2.result.now c.in-If.is c.deref.ensures c.deref-in-If.ensures c.deref-in-If-2.ensures in
     IfOk-weaker c.choose.result _ _ (λ x h k lo e.
     let v = c.in_ok-condition-in-If.ensures.tree k lo e in
     let l : c.change.new.left ≡ suc k - (lo + sites_in_tree K (shown_tree c.deref.result.now)) = omega (arith, e, c.in_ok-condition-in-If.ensures.left) in
     let a = c.in_ok-first-in-If.ensures.tree k (lo + sites_in_tree K (shown_tree c.deref.result.now)) l in
-    let m : c.change-in-If.new.left ≡ suc k - (lo + sites_in_tree K (shown_tree c.deref.result.now) + sites_in_tree K (shown_tree c.deref-in-If.result.now)) = omega (arith, l, c.in_ok-first-in-If.ensures.left) in
+    let m : c.change-in-If.new.left ≡ suc k - (lo + sites_in_tree K (shown_tree c.deref.result.now) + sites_in_tree K (shown_tree c.deref-in-If.result.now)) =
+    omega (arith, l, c.in_ok-first-in-If.ensures.left) in
     let b = c.in_ok-second-in-If.ensures.tree k (lo + sites_in_tree K (shown_tree c.deref.result.now) + sites_in_tree K (shown_tree c.deref-in-If.result.now)) m in
     if_done K (change_of k c.args.changes.now) lo c.args.e.now.place (shown_tree c.deref.result.now) (shown_tree c.in_ok-condition-in-If.condition) (shown_tree c.deref-in-If.result.now)
     (shown_tree c.in_ok-first-in-If.first) (shown_tree c.deref-in-If-2.result.now) (shown_tree c.in_ok-second-in-If.second) (shown_tree c.args.e.now) (shown_tree x) v a b s h) c.choose.ensures
 
 pub change-returns-in_ok-second-in-If-clause-left : goal.change-returns-in_ok-second-in-If-clause-left
 change-returns-in_ok-second-in-If-clause-left t c =
-    let s = shown_if c.args.e.now.node c.args.e.now.place c.in-If.condition c.in-If.first c.in-If.second c.deref.result.now c.deref-in-If.result.now c.deref-in-If-2.result.now c.in-If.is c.deref.ensures c.deref-in-If.ensures c.deref-in-If-2.ensures in
-    on_ok_always c.choose.result (left_if (known c.args.heads.now c.args.unit) c.args.e.now.place (shown_tree c.deref.result.now) (shown_tree c.deref-in-If.result.now) (shown_tree c.deref-in-If-2.result.now) (shown_tree c.args.e.now) c.args.left.now
+    let s = shown_if c.args.e.now.node c.args.e.now.place c.in-If.condition c.in-If.first c.in-If.second
+    c.deref.result.now c.deref-in-If.result.now c.deref-in-If-2.result.now c.in-If.is c.deref.ensures c.deref-in-If.ensures c.deref-in-If-2.ensures in
+    on_ok_always c.choose.result (left_if (known c.args.heads.now c.args.unit) c.args.e.now.place
+    (shown_tree c.deref.result.now) (shown_tree c.deref-in-If.result.now) (shown_tree c.deref-in-If-2.result.now) (shown_tree c.args.e.now) c.args.left.now
     c.change.new.left c.change-in-If.new.left c.change-in-If-2.new.left s c.in_ok-condition-in-If.ensures.left c.in_ok-first-in-If.ensures.left
     c.in_ok-second-in-If.ensures.left)
 

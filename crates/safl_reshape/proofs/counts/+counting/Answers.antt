@@ -16,7 +16,8 @@ use Rattle.safl_reshape.proofs.counts.+counting.Goals as goal
 
 pub count-returns-in-If : goal.count-returns-in-If
 count-returns-in-If t c =
-    let s = shown_if c.args.e.now.node c.args.e.now.place c.in-If.condition c.in-If.first c.in-If.second c.deref.result.now c.deref-in-If.result.now c.deref-in-If-2.result.now c.in-If.is c.deref.ensures c.deref-in-If.ensures c.deref-in-If-2.ensures in
+    let s = shown_if c.args.e.now.node c.args.e.now.place c.in-If.condition c.in-If.first c.in-If.second
+    c.deref.result.now c.deref-in-If.result.now c.deref-in-If-2.result.now c.in-If.is c.deref.ensures c.deref-in-If.ensures c.deref-in-If-2.ensures in
     if_adds (known c.args.heads.now c.args.unit) c.args.e.now.place (shown_tree c.args.e.now) c.args.before c.plus-itself.result c.plus-itself.ensures
     (shown_tree c.deref.result.now) (shown_tree c.deref-in-If.result.now) (shown_tree c.deref-in-If-2.result.now) c.count-upto_condition.result
     c.count-upto_first.result c.count.result s c.count-upto_condition.ensures c.count-upto_first.ensures c.count.ensures

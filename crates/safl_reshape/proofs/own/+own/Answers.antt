@@ -12,7 +12,9 @@ calls_own-returns-else-calls_own-2 t c =
     elim c.if-calls_own.branch [
       | calls_own-then-calls_own w ↦ absurd (let v = w.value-is in let y = w.if-calls_own.true in let n = c.if-calls_own-2.false in cc)
       | calls_own-else-calls_own w ↦
-          let s = shown_if c.args.e.now.node c.args.e.now.place c.in-If.condition c.in-If.first c.in-If.second c.deref.result.now w.deref-else-calls_own.result.now c.deref-else-calls_own-2.result.now c.in-If.is c.deref.ensures w.deref-else-calls_own.ensures c.deref-else-calls_own-2.ensures in
+          let s = shown_if c.args.e.now.node c.args.e.now.place c.in-If.condition c.in-If.first c.in-If.second
+          c.deref.result.now w.deref-else-calls_own.result.now c.deref-else-calls_own-2.result.now
+          c.in-If.is c.deref.ensures w.deref-else-calls_own.ensures c.deref-else-calls_own-2.ensures in
           if_calls is_member (known c.args.heads.now c.args.unit) c.args.e.now.place (shown_tree c.deref.result.now)
           (shown_tree w.deref-else-calls_own.result.now) (shown_tree c.deref-else-calls_own-2.result.now) (shown_tree c.args.e.now)
           c.calls_own-else-calls_own-2.result s (sym c.calls_own.ensures ∙ w.if-calls_own.false)
