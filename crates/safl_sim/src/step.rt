@@ -165,6 +165,7 @@ fn apply_one(p: Primitive, a: Word) -> Raw
 }
 
 // The result of a primitive on the numbers at two places.
+#[inline(always)]
 fn wide_pair(values: &Numbers, p: Primitive, width: u8, other: u8, a: u32, b: u32) -> Raw
     requires { PlainReady values.now (Binary p width other a b) }
     ensures { result ≡ plain_number (slice_index values.now) (Binary p width other a b) }

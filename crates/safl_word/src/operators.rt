@@ -58,6 +58,8 @@ fn width_of_two(p: Primitive, a: u8, b: u8) -> Option<u8>
 }
 
 /// The result of a primitive on these words. Their widths must have a row in the table of widths.
+// Inlined with the two below, so that in the simulator's loop no word goes through memory.
+#[inline(always)]
 pub fn apply(p: Primitive, args: &[Word]) -> Word
     requires { IsSome (result_width p (map (λ v. v.width) args.now)) }
     ensures { result ≡ apply_prim p args.now }
@@ -70,6 +72,7 @@ pub fn apply(p: Primitive, args: &[Word]) -> Word
     }
 }
 
+#[inline(always)]
 fn apply_to_one(p: Primitive, a: Word) -> Word
     requires { IsSome (result_width p (a.width ∷ [])) }
     ensures { result ≡ apply_prim p (a ∷ []) }
@@ -82,6 +85,7 @@ fn apply_to_one(p: Primitive, a: Word) -> Word
     }
 }
 
+#[inline(always)]
 fn apply_to_two(p: Primitive, a: Word, b: Word) -> Word
     requires { IsSome (result_width p (a.width ∷ b.width ∷ [])) }
     ensures { result ≡ apply_prim p (a ∷ b ∷ []) }
