@@ -249,15 +249,6 @@ alone_load n o bit ops ws e f =
     subst (λ (x : Option Load). AllWithin n (load_parts x ++ (bit ∷ ops)) 1 (bit ∷ ws)) (sym e)
     (subst (λ (xs : List Sig). AllWithin n (bit ∷ ops) 1 (bit ∷ xs)) (sym f) (all_own n (bit ∷ ops) 1 (bit ∷ ops) (λ s q. q)))
 
-pub words_within : {E : Type 0} (n : Netlist) (r : Result (Vec Sig Global) E) (o : Option Load) (l : Load) (ops us : List Sig) → o ≡ Some l → us ≡
-    l.words.items → IfOk r (λ xs. AllWithin n (l.bit ∷ (us ++ ops)) 1 xs.items) → IfOk r (λ xs. AllWithin n (load_parts o ++ ops) 1 xs.items)
-words_within n (Ok xs) o l ops us e f h = subst (λ (x : Option Load). AllWithin n (load_parts x ++ ops) 1 xs.items) (sym e)
-    (subst (λ (ys : List Sig). AllWithin n (l.bit ∷ (ys ++ ops)) 1 xs.items) f h)
-words_within n (Err x) o l ops us e f h = tt
-
-pub alone_words : (n : Netlist) (o : Option Load) (ops ws : List Sig) → o ≡ None → ws ≡ ops → AllWithin n (load_parts o ++ ops) 1 ws
-alone_words n o ops ws e f = subst (λ (x : Option Load). AllWithin n (load_parts x ++ ops) 1 ws) (sym e) (subst (λ (xs : List Sig). AllWithin n ops 1 xs) (sym f) (all_own n ops 1 ops (λ s q. q)))
-
 -- ---- one of two bits, of which the first may not be there, and pairs
 
 pub or_within : {E : Type 0} (n : Netlist) (r : Result Sig E) (o : Option Sig) (a b : Sig) → o ≡ Some a → IfOk r (λ s. IsGateOf n s (a ∷ b ∷ [])) → IfOk r (λ s. Within n (maybe_one o ++ b ∷ []) 1 s.0)

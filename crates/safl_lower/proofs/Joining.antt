@@ -3,7 +3,7 @@ use Rattle.std.proofs.Common.{◌≡◌, ℕ, zero, suc, ◌<◌, List, [], ◌�
 use Rattle.std.proofs.Math.Dec.{eqb-suc-zero, eqb-zero-suc, eqb-suc-suc}
 use Rattle.std.proofs.lemmas.Bool.{eqb-true}
 use Rattle.safl_word.specs.Words.{Word}
-use Rattle.std.specs.Option.{option_or, unwrap_or}
+use Rattle.std.specs.Option.{option_or}
 use Rattle.safl_word.proofs.Booleans.{or_none}
 use Rattle.safl_word.proofs.Options.{option_or_none}
 use Rattle.safl_net.specs.declared.cell.Sig.{Sig}
@@ -33,13 +33,6 @@ pub joined_shows : (v : Val) (any bit : Sig) (ws us : List Word) (o : Option Loa
 joined_shows v any bit ws us o l e p q =
     ap (λ (b : Bool). gate b (Some ws)) p ∙ ap (λ (xs : List Word). gate (on v l.bit || on v bit) (Some xs)) q ∙ gates_join (on v l.bit) (on v bit) (words v l.words.items) us
     ∙ ap (λ (x : Option Load). option_or (taken_in v x) (gate (on v bit) (Some us))) (sym e)
-
-gate_words : {A : Type 0} (p : Bool) (a b : A) → cond p a b ≡ unwrap_or (gate p (Some a)) b
-gate_words true a b = refl
-gate_words false a b = refl
-
-pub words_show : (v : Val) (xs us : List Word) (o : Option Load) (l : Load) → o ≡ Some l → xs ≡ cond (on v l.bit) (words v l.words.items) us → xs ≡ unwrap_or (taken_in v o) us
-words_show v xs us o l e q = q ∙ gate_words (on v l.bit) (words v l.words.items) us ∙ ap (λ (x : Option Load). unwrap_or (taken_in v x) us) (sym e)
 
 -- ---- an entry is replaced
 

@@ -28,3 +28,4 @@ pub mod JoinedRows
 pub mod Heights
 pub mod Joints
 pub mod Goes
+pub mod Zeroing

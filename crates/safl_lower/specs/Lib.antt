@@ -12,3 +12,4 @@ pub mod Tables
 pub mod Rows
 pub mod Heights
 pub mod Joints
+pub mod Resets

@@ -16,6 +16,7 @@ pub mod lowered;
 mod merge;
 mod primitives;
 mod ready;
+pub mod resets;
 pub mod rows;
 mod shifts;
 mod terms;

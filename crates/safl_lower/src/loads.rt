@@ -3,7 +3,7 @@
 //! Of several loads that are joined, the first that is taken counts.
 
 ghost use Rattle.std.specs.Prelude.{◌≡◌, ℕ, ◌+◌, ◌<◌, ◌++◌, List, ◌∷◌, Some, length, IfOk, OnOk};
-ghost use Rattle.std.specs.Option.{option_or, unwrap_or};
+ghost use Rattle.std.specs.Option.{option_or};
 ghost use Rattle.safl_net.specs.Growth.{Val, words, Wired};
 ghost use Rattle.safl_net.specs.Bits.{on, gate};
 ghost use Rattle.safl_lower.specs.Sources.{IsSource, AreSources, Builds, CanGrow};
@@ -102,28 +102,5 @@ pub fn joined(
             let words = mux_all(alloc, net, first.bit, &first.words, operands)?;
             Ok(Load { bit: any, words })
         }
-    }
-}
-
-/// The words of a load if it is there and is taken, else `operands`.
-pub fn load_words(
-    alloc: Global,
-    net: &mut Net,
-    load: &Option<Load>,
-    operands: &[Sig],
-) -> Result<Vec<Sig>, NoMemory>
-    requires fits { (ws : List ℕ) × FitsIn net.old load.now ws × AreSources net.old operands.now ws }
-    requires room { CanGrow net.old (length operands.now) }
-    ensures built { Builds net.old net.new (length operands.now) }
-    ensures fits { (ws : List ℕ) → FitsIn net.old load.now ws → AreSources net.old operands.now ws → IfOk result (λ xs. AreSources net.new xs.items ws) }
-    ensures shows { IfOk result (λ xs. (v : Val) → Wired net.new v → words v xs.items ≡ unwrap_or (taken_in v load.now) (words v operands.now)) }
-    ensures height { IfOk result (λ xs. AllWithin net.new (load_parts load.now ++ operands.now) 1 xs.items) }
-{
-    match load {
-        None => {
-            let words = Vec::from_slice(alloc, operands)?;
-            Ok(words)
-        }
-        Some(first) => mux_all(alloc, net, first.bit, &first.words, operands),
     }
 }

@@ -4,6 +4,7 @@ ghost use Rattle.std.specs.Prelude.{◌≡◌, ℕ, ◌+◌, ◌*◌, ◌&&◌, 
 ghost use Rattle.safl_net.specs.Names.{IsTidy};
 ghost use Rattle.safl_net.specs.Growth.{Val, Wired};
 ghost use Rattle.safl_net.specs.Bits.{on};
+ghost use Rattle.safl_net.specs.Settled.{IsSettled};
 ghost use Rattle.safl_lower.specs.Sources.{IsSource, Builds, CanGrow};
 ghost use Rattle.safl_lower.specs.Tables.{taken_in, on_in, FitsIn, IsBitIn};
 ghost use Rattle.safl_unit.specs.Cycles.{UnitFits, MemberFits, SiteFits};
@@ -12,8 +13,9 @@ ghost use Rattle.safl_unit.specs.Steps.{UnitStep, SiteStep, KeepsMember, IsNextM
 use crate::arrivals::load_bit;
 use crate::pins::{MemberPins, SitePins, UnitPins};
 use crate::returns::site_word;
-use safl_lower::gates::{and_none, either, mux, or_some, zero};
-use safl_lower::loads::{Load, load_words};
+use safl_lower::gates::{and_none, either, or_some, zero};
+use safl_lower::loads::Load;
+use safl_lower::resets::{reset_word, reset_words};
 use safl_net::{Net, Sig};
 use safl_word::NoMemory;
 use std::alloc::Global;
@@ -26,11 +28,12 @@ pub fn next_unit(
     start: Option<Sig>,
     unit: UnitPins,
 ) -> Result<UnitPins, NoMemory>
+    requires settled { IsSettled net.old }
     requires fits { (w : ℕ) × FitsIn net.old end.now (w ∷ []) × UnitFits net.old unit w }
     requires start { IsBitIn net.old start }
-    requires room { CanGrow net.old 5 }
+    requires room { CanGrow net.old 16 }
     ensures tidy { IsTidy net.new }
-    ensures built { OnOk result (Builds net.old net.new 5) }
+    ensures built { OnOk result (Builds net.old net.new 16) }
     ensures fits { (w : ℕ) → FitsIn net.old end.now (w ∷ []) → UnitFits net.old unit w → IfOk result (λ y. UnitFits net.new y w) }
     ensures shows { IfOk result (λ y. (v : Val) → Wired net.new v → UnitStep v (taken_in v end.now) (on_in v start) unit y) }
 {
@@ -38,7 +41,7 @@ pub fn next_unit(
     let started = or_some(net, start, unit.run)?;
     let run = and_none(net, started, bit)?;
     let fin = some_bit(net, bit)?;
-    let res = load_word(net, end, unit.res)?;
+    let res = reset_word(net, end, unit.res)?;
     Ok(UnitPins { run, fin, res })
 }
 
@@ -60,18 +63,18 @@ pub fn next_member(
     looped: &Option<Load>,
     member: &MemberPins,
 ) -> Result<MemberPins, NoMemory>
+    requires settled { IsSettled net.old }
     requires entry { IsBitIn net.old entry.own }
     requires rival { IsBitIn net.old entry.rival }
     requires fits { (ws : List ℕ) × FitsIn net.old load.now ws × FitsIn net.old looped.now ws × MemberFits net.old member.now ws }
-    requires room { CanGrow net.old (3 + 2 * length member.now.args.items) }
+    requires room { CanGrow net.old (3 + 62 * length member.now.args.items) }
     ensures tidy { IsTidy net.new }
-    ensures built { OnOk result (Builds net.old net.new (3 + 2 * length member.now.args.items)) }
+    ensures built { OnOk result (Builds net.old net.new (3 + 62 * length member.now.args.items)) }
     ensures fits { KeepsMember result net.old net.new load.now looped.now member.now }
     ensures shows { IfOk result (λ y. IsNextMember net.new many entry load.now looped.now member.now y) }
 {
     let at = next_at(net, many, entry.own, entry.rival, member.at)?;
-    let kept = load_words(alloc, net, looped, &member.args)?;
-    let args = load_words(alloc, net, load, &kept)?;
+    let args = reset_words(alloc, net, load, looped, &member.args)?;
     Ok(MemberPins { at, args })
 }
 
@@ -154,22 +157,5 @@ fn some_bit(net: &mut Net, bit: Option<Sig>) -> Result<Sig, NoMemory>
     match bit {
         None => zero(net),
         Some(bit) => Ok(bit),
-    }
-}
-
-// The word of a load if it is there and taken, else `word`.
-fn load_word(net: &mut Net, load: &Option<Load>, word: Sig) -> Result<Sig, NoMemory>
-    requires fits { (w : ℕ) × FitsIn net.old load.now (w ∷ []) × IsSource net.old word w }
-    requires room { CanGrow net.old 1 }
-    ensures built { Builds net.old net.new 1 }
-    ensures fits { (w : ℕ) → FitsIn net.old load.now (w ∷ []) → IsSource net.old word w → IfOk result (λ s. IsSource net.new s w) }
-    ensures value { IfOk result (λ s. (v : Val) → Wired net.new v → v s.0 ∷ [] ≡ unwrap_or (taken_in v load.now) (v word.0 ∷ [])) }
-{
-    match load {
-        None => Ok(word),
-        Some(load) => {
-            let other = load.words[0];
-            mux(net, load.bit, other, word)
-        }
     }
 }

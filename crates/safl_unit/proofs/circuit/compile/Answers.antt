@@ -79,6 +79,10 @@ grants-requires-clause-room c =
           (builds_on c.in_ok-shown.ensures.built c.in_ok-outcomes.ensures.built).count (omega (arith, f, s, m));
     }
 
+pub edge-requires-clause-settled : goal.edge-requires-clause-settled
+edge-requires-clause-settled c =
+    (builds_on (builds_on c.in_ok-shown.ensures.built c.in_ok-outcomes.ensures.built) c.in_ok-goes.ensures.built).settles.settled c.in_ok-declared.ensures.settled
+
 pub edge-requires-clause-pins : goal.edge-requires-clause-pins
 edge-requires-clause-pins c =
     let C = c.args.p.now.program in
@@ -124,7 +128,7 @@ edge-requires-clause-room c =
       tidy = c.in_ok-goes.ensures.built.tidy;
       room =
           room_for c.args.p.now.checked h P c.in_ok-declared.declared.net c.grants.new.net
-          ((5 * C.sites + (33 * body_nodes C C.functions + 33 * C.functions)) + (5 * C.sites + 2)) (64 * C.functions + 32 * C.sites + 32) d
+          ((5 * C.sites + (33 * body_nodes C C.functions + 33 * C.functions)) + (5 * C.sites + 2)) (1035 * C.functions + 32 * C.sites + 32) d
           (builds_on (builds_on c.in_ok-shown.ensures.built c.in_ok-outcomes.ensures.built) (c.in_ok-goes.ensures.built)).count (omega (arith, f, s, m));
     }
 
@@ -143,7 +147,7 @@ controls-requires c =
         tidy = c.in_ok-next.ensures.built.tidy;
         room =
             room_for c.args.p.now.checked h P c.in_ok-declared.declared.net c.edge.new.net
-            (((5 * C.sites + (33 * body_nodes C C.functions + 33 * C.functions)) + (5 * C.sites + 2)) + (64 * C.functions + 32 * C.sites + 32)) (1) d
+            (((5 * C.sites + (33 * body_nodes C C.functions + 33 * C.functions)) + (5 * C.sites + 2)) + (1035 * C.functions + 32 * C.sites + 32)) (1) d
             (builds_on (builds_on (builds_on c.in_ok-shown.ensures.built c.in_ok-outcomes.ensures.built) (c.in_ok-goes.ensures.built))
             (c.in_ok-next.ensures.built)).count (omega (arith, f, s, m));
       };
@@ -162,7 +166,7 @@ finish-requires-clause-room c =
       tidy = c.in_ok-copied.ensures.built.tidy;
       room =
           room_for c.args.p.now.checked h P c.in_ok-declared.declared.net c.controls.new.net
-          ((((5 * C.sites + (33 * body_nodes C C.functions + 33 * C.functions)) + (5 * C.sites + 2)) + (64 * C.functions + 32 * C.sites + 32)) + 1) (0)
+          ((((5 * C.sites + (33 * body_nodes C C.functions + 33 * C.functions)) + (5 * C.sites + 2)) + (1035 * C.functions + 32 * C.sites + 32)) + 1) (0)
           d (builds_on (builds_on (builds_on (builds_on c.in_ok-shown.ensures.built c.in_ok-outcomes.ensures.built) (c.in_ok-goes.ensures.built))
           (c.in_ok-next.ensures.built)) (c.in_ok-copied.ensures.built)).count (omega (arith, f, s, m));
     }

@@ -18,6 +18,9 @@ edge_events-requires-clause-goes c = record { count = c.requires.goes.count; eac
 pub edge_events-requires-clause-room : goal.edge_events-requires-clause-room
 edge_events-requires-clause-room c = let r = c.requires.room.room in record { tidy = c.requires.room.tidy; room = omega (arith, r) }
 
+pub next_units-requires-clause-settled : goal.next_units-requires-clause-settled
+next_units-requires-clause-settled c = c.in_ok-events.ensures.built.settles.settled c.requires.settled
+
 pub next_units-requires-clause-pins : goal.next_units-requires-clause-pins
 next_units-requires-clause-pins c = pins_kept c.in_ok-events.ensures.built c.requires.pins
 
@@ -43,6 +46,9 @@ next_units-requires-clause-room c =
     let r = c.requires.room.room in
     let b = c.in_ok-events.ensures.built.count in
     record { tidy = c.in_ok-events.ensures.built.tidy; room = omega (arith, r, b) }
+
+pub next_members-requires-clause-settled : goal.next_members-requires-clause-settled
+next_members-requires-clause-settled c = (builds_on c.in_ok-events.ensures.built c.in_ok-units.ensures.built).settles.settled c.requires.settled
 
 pub next_members-requires-clause-pins : goal.next_members-requires-clause-pins
 next_members-requires-clause-pins c = pins_kept (builds_on c.in_ok-events.ensures.built c.in_ok-units.ensures.built) c.requires.pins
@@ -93,7 +99,7 @@ next_sites-requires-clause-room c =
 pub returns-clause-built : goal.returns-clause-built
 returns-clause-built c =
     let C = c.args.p.now.program in
-    builds_within (64 * C.functions + 32 * C.sites + 32) (builds_on
+    builds_within (1035 * C.functions + 32 * C.sites + 32) (builds_on
     (builds_on (builds_on c.in_ok-events.ensures.built c.in_ok-units.ensures.built) c.in_ok-members.ensures.built) c.in_ok-sites.ensures.built) (omega arith)
 
 pub returns-clause-done : goal.returns-clause-done

@@ -93,6 +93,9 @@ next_member-requires-clause-fits c =
     let h = entries_at (goal.at.next_member-requires-clause-fits c).After-index-now in
     (c.args.p.now.program.params c.loop-f.f, h.load_fits, h.loop_fits, h.fits)
 
+pub next_member-requires-clause-settled : goal.next_member-requires-clause-settled
+next_member-requires-clause-settled c = c.loop-f.invariant.built.settles.settled c.requires.settled
+
 pub next_member-requires-clause-room : goal.next_member-requires-clause-room
 next_member-requires-clause-room c =
     let l = c.loop-f-test.true in
@@ -117,8 +120,8 @@ loop-f-preserved c =
     let built = c.in_ok-next.ensures.built in
     let peers : c.has_peers-many.result ≡ many C f = c.has_peers-many.ensures ∙ ap (λ (q : CheckedProgram). many q.program f) c.checked.ensures.same in
     record {
-      built = builds_within (35 * (f + 1)) (builds_on c.loop-f.invariant.built built) (omega (arith, n, a));
-      table = more_members C c.loop-f.net c.next_member.new.net (3 + 2 * length x.args.items) c.args.pins.now.bank.members.items e.entries.items
+      built = builds_within (995 * (f + 1)) (builds_on c.loop-f.invariant.built built) (omega (arith, n, a));
+      table = more_members C c.loop-f.net c.next_member.new.net (3 + 62 * length x.args.items) c.args.pins.now.bank.members.items e.entries.items
           e.rivals.items e.loads.items o.loops.items c.loop-f.all.items c.push.new.self.items f
           c.index-own.result.now c.index-rival.result.now c.index-load.result.now c.index-looped.result.now x y
           c.loop-f.invariant.table built h.at_entry h.at_rival h.at_load h.at_loop h.at (c.in_ok-next.ensures.fits (C.params f) h.load_fits h.loop_fits h.fits)
@@ -134,7 +137,7 @@ pub returns-clause-built : goal.returns-clause-built
 returns-clause-built c =
     let b = c.loop-f.auto.f-end in
     let k = c.function_count-functions.ensures.count in
-    builds_within (35 * c.args.p.now.program.functions) c.loop-f.invariant.built (omega (arith, b, k))
+    builds_within (995 * c.args.p.now.program.functions) c.loop-f.invariant.built (omega (arith, b, k))
 
 pub returns-clause-done : goal.returns-clause-done
 returns-clause-done c =

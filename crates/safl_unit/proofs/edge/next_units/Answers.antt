@@ -49,6 +49,9 @@ unit_after-requires-clause-start c =
     let s = slice_get-get_or ss u None (omega (arith, w, l, k, m)) in
     maybe_bit_kept c.loop-f.invariant.built (slice_index_or ss u None) (subst (λ (o : Option (Option Sig)). IsBitIn c.args.net.now (sig_in o)) s (c.requires.starts.each u))
 
+pub unit_after-requires-clause-settled : goal.unit_after-requires-clause-settled
+unit_after-requires-clause-settled c = c.loop-f.invariant.built.settles.settled c.requires.settled
+
 pub unit_after-requires-clause-room : goal.unit_after-requires-clause-room
 unit_after-requires-clause-room c =
     let l = c.loop-f-test.true in
@@ -82,7 +85,7 @@ loop-f-preserved c =
     (subst (λ (o : Option (Option Load)). FitsIn c.args.net.now (load_in o) (C.result u ∷ [])) e (c.requires.ends.each u)))
     (unit_kept c.loop-f.invariant.built (c.requires.pins.bank.units u c.index-now.result.now x)) in
     record {
-      built = builds_within (5 * (f + 1)) (builds_on c.loop-f.invariant.built built) (omega arith);
+      built = builds_within (16 * (f + 1)) (builds_on c.loop-f.invariant.built built) (omega arith);
       table = more_units C c.loop-f.net c.unit_after.new.net us es ss c.loop-f.all.items c.push.new.self.items f u c.index-ends-unit.result
           (slice_index_or ss u None) c.index-now.result.now c.in_ok-next.next
           c.loop-f.invariant.table built of c.unit_of-unit.ensures.width (ap C.unit of ∙ first.1 ∙ sym of) e s x
@@ -96,7 +99,7 @@ pub returns-clause-built : goal.returns-clause-built
 returns-clause-built c =
     let b = c.loop-f.auto.f-end in
     let k = c.function_count-functions.ensures.count in
-    builds_within (5 * c.args.p.now.program.functions) c.loop-f.invariant.built (omega (arith, b, k))
+    builds_within (16 * c.args.p.now.program.functions) c.loop-f.invariant.built (omega (arith, b, k))
 
 pub returns-clause-done : goal.returns-clause-done
 returns-clause-done c =

@@ -21,19 +21,22 @@ some_bit-requires-clause-bit c =
     maybe_bit_kept (builds_on c.or_some.ensures.built c.and_none.ensures.built) c.load_bit-bit.result
     (load_bit_fits c.args.net.now c.args.end.now c.load_bit-bit.result (b.0 ∷ []) c.load_bit-bit.ensures b.1)
 
-pub load_word-requires-clause-fits : goal.load_word-requires-clause-fits
-load_word-requires-clause-fits c =
+pub reset_word-requires-clause-fits : goal.reset_word-requires-clause-fits
+reset_word-requires-clause-fits c =
     let b = c.requires.fits in
     let h = builds_on (builds_on c.or_some.ensures.built c.and_none.ensures.built) c.some_bit.ensures.built in
     (b.0, maybe_load_kept h c.args.end.now (b.0 ∷ []) b.1, source_kept h b.2.res)
 
+pub reset_word-requires-clause-settled : goal.reset_word-requires-clause-settled
+reset_word-requires-clause-settled c = (builds_on (builds_on c.or_some.ensures.built c.and_none.ensures.built) c.some_bit.ensures.built).settles.settled c.requires.settled
+
 pub returns-clause-built : goal.returns-clause-built
-returns-clause-built c = builds_on (builds_on (builds_on c.or_some.ensures.built c.and_none.ensures.built) c.some_bit.ensures.built) c.load_word.ensures.built
+returns-clause-built c = builds_on (builds_on (builds_on c.or_some.ensures.built c.and_none.ensures.built) c.some_bit.ensures.built) c.in_ok-res.ensures.built
 
 pub returns-clause-fits : goal.returns-clause-fits
 returns-clause-fits c = λ w p q.
     let h = builds_on (builds_on c.or_some.ensures.built c.and_none.ensures.built) c.some_bit.ensures.built in
-    let last = c.load_word.ensures.built in
+    let last = c.in_ok-res.ensures.built in
     record {
       run = source_kept (builds_on c.some_bit.ensures.built last) c.in_ok-run.ensures.fits;
       fin = source_kept last c.in_ok-fin.ensures.fits;
@@ -42,7 +45,7 @@ returns-clause-fits c = λ w p q.
 
 pub returns-clause-shows : goal.returns-clause-shows
 returns-clause-shows c = λ v w.
-    let w4 = wired_before c.load_word.ensures.built.grows w in
+    let w4 = wired_before c.in_ok-res.ensures.built.grows w in
     let w3 = wired_before c.some_bit.ensures.built.grows w4 in
     let w1 = wired_before c.and_none.ensures.built.grows w3 in
     let bit = load_bit_shows v c.args.end.now c.load_bit-bit.result c.load_bit-bit.ensures in

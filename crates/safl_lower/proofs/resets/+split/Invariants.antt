@@ -1,0 +1,4 @@
+use Rattle.safl_lower.proofs.resets.+split.Given as goal
+
+abbrev pub decreases-split : goal.decreases-split
+decreases-split l = l.count
