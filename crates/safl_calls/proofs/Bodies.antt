@@ -22,11 +22,11 @@ pub or_some : {A : Type 0} (o p : Option A) → is_some (or_else o p) ≡ true �
 or_some None p h = inr h
 or_some (Some x) p h = inl refl
 
-or_first : {A : Type 0} (o p : Option A) → is_some o ≡ true → is_some (or_else o p) ≡ true
+pub or_first : {A : Type 0} (o p : Option A) → is_some o ≡ true → is_some (or_else o p) ≡ true
 or_first None p h = absurd (false≢true h)
 or_first (Some x) p h = refl
 
-or_second : {A : Type 0} (o p : Option A) → is_some p ≡ true → is_some (or_else o p) ≡ true
+pub or_second : {A : Type 0} (o p : Option A) → is_some p ≡ true → is_some (or_else o p) ≡ true
 or_second None p h = h
 or_second (Some x) p h = refl
 

@@ -23,3 +23,10 @@ pub mod Positions
 pub mod KeptWords
 pub mod Sequential
 pub mod Apart
+pub mod Ready
+pub mod Timely
+pub mod Sooner
+pub mod Waiting
+pub mod Fixed
+pub mod Labels
+pub mod Labelled

@@ -70,7 +70,7 @@ active_giving : (f j : ℕ) (xs : List Word) (r : ℕ → Stage) (v : Word) (i :
 active_giving f j xs r v i e = grind arith
 
 module _ (C : Program) (site : ℕ → Stage) where
-  as_runs : (m : Mode) (f j : ℕ) (xs : List Word) (r : ℕ → Stage) → activity C site m ≡ Active f xs r j → (m ≡ Runs f j xs) × (own C site f ≡ r)
+  pub as_runs : (m : Mode) (f j : ℕ) (xs : List Word) (r : ℕ → Stage) → activity C site m ≡ Active f xs r j → (m ≡ Runs f j xs) × (own C site f ≡ r)
   as_runs Idle f j xs r e = absurd (free_active f j xs r e)
   as_runs (Delivers i v) f j xs r e = absurd (giving_active v i f j xs r e)
   as_runs (Runs g i ws) f j xs r e = (
@@ -83,7 +83,7 @@ module _ (C : Program) (site : ℕ → Stage) where
   as_idle (Runs g i ws) e = absurd (active_free g i ws _ e)
   as_idle (Delivers i v) e = absurd (giving_free v i e)
 
-  as_delivers : (m : Mode) (v : Word) (k : ℕ) → activity C site m ≡ Giving v k → m ≡ Delivers k v
+  pub as_delivers : (m : Mode) (v : Word) (k : ℕ) → activity C site m ≡ Giving v k → m ≡ Delivers k v
   as_delivers Idle v k e = absurd (free_giving v k e)
   as_delivers (Runs g i ws) v k e = absurd (active_giving g i ws _ v k e)
   as_delivers (Delivers i w) v k e = ap (λ n. Delivers n w) (ap serves_in e) ∙ ap (Delivers k) (ap word_in e)

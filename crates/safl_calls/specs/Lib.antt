@@ -4,3 +4,7 @@ pub mod Starts
 pub mod Moves
 pub mod Laws
 pub mod Interference
+pub mod Span
+pub mod Cycles
+pub mod Fixed
+pub mod Labels

@@ -7,6 +7,9 @@ ghost use Rattle.safl_sites.specs.Plan.{Suffices};
 ghost use Rattle.safl_calls.specs.Interference.{BusySitesConflict, OneInUse, ShownWordsServe};
 ghost use Rattle.safl_calls.specs.Laws.{AllMoves, Bounded, FewMoves, GoesOn, OneEvent, Right, SameCalls, SameNumber, SitesRest, Stops};
 ghost use Rattle.safl_sites.specs.Conflicts.{IsSequential};
+ghost use Rattle.safl_calls.specs.Cycles.{NoSooner};
+ghost use Rattle.safl_calls.specs.Fixed.{IsFixed, IsShort};
+ghost use Rattle.safl_calls.specs.Labels.{IsBlind};
 
 /// If main has returned a word, it is main's value. The list then has three events for each call, less two for each
 /// tail call.
@@ -63,4 +66,22 @@ pub fn kept_law()
 /// If no two calls of a program can overlap, at most one event is enabled.
 pub fn sequence_law()
     ensures { (C : Program) → IsWellFormed C → IsSequential C → OneEvent C }
+{}
+
+/// Where what changes a unit in a cycle counts from the next one on, main returns in no cycle before that of its span.
+/// A span is at most two cycles for each call of the evaluation, less one for each tail call.
+pub fn span_law()
+    ensures sooner { (C : Program) → IsWellFormed C → NoSooner C }
+    ensures short { (C : Program) → IsShort C }
+{}
+
+/// Where main's body takes a number of cycles by its text alone, every evaluation of main has that span.
+pub fn fixed_law()
+    ensures { (C : Program) → IsFixed C }
+{}
+
+/// Where by its text each body takes the same time and makes the same calls whatever its secret arguments are, a span
+/// depends on public arguments alone.
+pub fn blind_law()
+    ensures { (C : Program) → IsBlind C }
 {}

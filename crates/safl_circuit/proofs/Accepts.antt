@@ -35,7 +35,7 @@ pub record Meets (C : Program) (P : Choice) (args : List Word) (r : Registers) (
   pub start : i.start ≡ true → (t.site 0 ≡ Unsent) × (i.words ≡ args) × (widths args ≡ C.params C.main)
   pub one : (j k : ℕ) → 0 < j → 0 < k → unit_for C j ≡ unit_for C k → P.arbiter (unit_for C j) ≡ false → Busy C args t j → Busy C args t k → j ≡ k
 
-idle_if : (m : Mode) → is_running m ≡ false → is_delivering m ≡ false → m ≡ Idle
+pub idle_if : (m : Mode) → is_running m ≡ false → is_delivering m ≡ false → m ≡ Idle
 idle_if Idle a b = refl
 idle_if (Runs f k ws) a b = absurd (true≢false a)
 idle_if (Delivers k v) a b = absurd (true≢false b)
@@ -53,7 +53,7 @@ asked_parts C args t k ws h =
     record { unsent = unsent_is (t.site (suc k)) b.0; within = leb-true (suc k) C.sites b.1; inner = a.1 }
 
 -- an asking caller runs
-not_idle : (C : Program) (words : ℕ → Option Word) (m : Mode) (f k : ℕ) (ws : List Word) → asked_as C words m f k ≡ Some ws → m ≡ Idle → ⊥
+pub not_idle : (C : Program) (words : ℕ → Option Word) (m : Mode) (f k : ℕ) (ws : List Word) → asked_as C words m f k ≡ Some ws → m ≡ Idle → ⊥
 not_idle C words Idle f k ws h e = some_none ws (sym h)
 not_idle C words (Runs g j vs) f k ws h e = grind arith
 not_idle C words (Delivers j v) f k ws h e = some_none ws (sym h)

@@ -30,7 +30,7 @@ unfolding picks
 picks_front p e zero up = ([], ap (λ b. cond b (e 0 ∷ []) []) up)
 picks_front p e (suc n) up = let r = picks_front p e n up in (r.0 ++ cond (p (suc n)) (e (suc n) ∷ []) [], ap (λ l. l ++ cond (p (suc n)) (e (suc n) ∷ []) []) r.1)
 
-legal_back : (C : Program) (args : List Word) (s : State) (xs ys : List Event) → Legal C args s (xs ++ ys) → Legal C args (after C args s xs) ys
+pub legal_back : (C : Program) (args : List Word) (s : State) (xs ys : List Event) → Legal C args s (xs ++ ys) → Legal C args (after C args s xs) ys
 unfolding Legal after
 legal_back C args s [] ys h = h
 legal_back C args s (x ∷ xs) ys h = legal_back C args (fire C args s x) xs ys h.1

@@ -102,7 +102,7 @@ module _ (C : Program) (P : Choice) (args : List Word) (good : Numbered C) (r : 
     pub still : (u f k : ℕ) (ws : List Word) → t.unit u ≡ Runs f k ws → x.unit u ≡ Runs f k ws
     still u f k ws e = st.unit u ∙ ap (λ o. begun C P args good r i t inv meets o (t.unit u)) (not_started C P args good r i t inv meets u (suc C.sites) (λ idle. runs_idle f k ws (sym e ∙ idle))) ∙ e
 
-    back_x : back x ≡ back t
+    pub back_x : back x ≡ back t
     back_x = fun_ext (back_same C P args good r i t inv meets (suc C.sites) x st)
 
     -- a body says the same where its own sites are as they were

@@ -32,3 +32,10 @@ pub mod EvenProgram
 pub mod MirrorLines
 pub mod MirrorNumbers
 pub mod MirrorsKeep
+pub mod Acting
+pub mod Sooner
+pub mod Prompt
+pub mod Uncalled
+pub mod Awake
+pub mod Blind
+pub mod Comes

@@ -6,7 +6,7 @@ use Rattle.std.proofs.Common.{◌&&◌, ◌||◌, ◌==◌, is_some, refl, sym, 
 use Rattle.std.specs.Prelude.{slice_get, codes}
 use Rattle.std.specs.List.Sorted.{IsPermutation}
 use Rattle.std.proofs.lemmas.Option.{slice_get-get_or, slice_get_within, same_Some}
-use Rattle.std.proofs.lemmas.Bool.{false≢true, true≢false, and_from, lt-ltb, eq-eqb}
+use Rattle.std.proofs.lemmas.Bool.{false≢true, true≢false, and_from, and_parts, lt-ltb, leb-true, eq-eqb}
 use Rattle.std.proofs.Math.Numerals.{suc-eq-add-one}
 use Rattle.safl_word.specs.Words.{Word, as_word, widths}
 use Rattle.safl_term.specs.Program.{Program, unit_for}
@@ -20,32 +20,36 @@ use Rattle.safl_calls.specs.Machine.{opening, after}
 use Rattle.safl_calls.specs.Picks.{first}
 use Rattle.safl_calls.proofs.Numbered.{Numbered}
 use Rattle.safl_calls.proofs.FromWellFormed.{numbered}
-use Rattle.safl_calls.proofs.Basics.{some_none}
+use Rattle.safl_calls.proofs.Basics.{some_none, some_of, cond_some}
 use Rattle.safl_calls.proofs.Invariant.{inv_open}
 use Rattle.safl_calls.proofs.MachineLaws.{right, started}
 use Rattle.safl_calls.proofs.Counts.{total, at_most}
 use Rattle.safl_calls.specs.Interference.{OneInUse, ShownWordsServe}
-use Rattle.safl_circuit.specs.Equations.{Registers, Inputs, ret, go, body_wants, go_words, loads, loop_words, starts_it, next}
+use Rattle.safl_circuit.specs.Equations.{Registers, Inputs, ret, want, go, body_wants, go_words, loads, loop_words, starts_it, next}
+use Rattle.safl_circuit.proofs.Awake.{go_wants}
 use Rattle.safl_circuit.proofs.Searched.{load_in}
 use Rattle.safl_circuit.specs.Steps.{Quiet, input_at, registers_at, history}
 use Rattle.safl_net.specs.Netlist.{Netlist}
 use Rattle.safl_net.specs.Valuations.{Valuation, Fits, read, read_output, next_state}
 use Rattle.safl_net.specs.Runs.{RunFrom, GoesOn, start_number}
-use Rattle.safl_circuit.specs.Names.{of_function, one, bit, is_unit, as_words, numbers, registers_now, input_now}
+use Rattle.safl_circuit.specs.Names.{of_function, of_site, one, bit, is_unit, as_words, numbers, registers_now, registers_in, input_now}
 use Rattle.safl_circuit.specs.Scheme.{Scheme, go_up}
 use Rattle.safl_circuit.proofs.WordsSeen.{words_seen}
 use Rattle.safl_circuit.proofs.DoneOnce.{DoneOnce, Exclusive}
-use Rattle.safl_circuit.specs.Correct.{DoneIn, IsResult, latest, is_started, go_at, seen_at, words_seen_in, IsQuietState}
+use Rattle.safl_circuit.specs.Correct.{DoneIn, IsResult, NoneWaits, Unshared, latest, is_started, go_at, seen_at, words_seen_in, IsQuietState}
 use Rattle.safl_circuit.proofs.Same.{Same}
 use Rattle.safl_circuit.proofs.Typed.{edge_same, as_numbers}
 use Rattle.safl_circuit.proofs.Cycle.{steps}
 use Rattle.safl_circuit.proofs.Once.{in_time, no_two_starts, after_done, quiet_later}
 use Rattle.safl_circuit.proofs.Arguments.{one_start}
-use Rattle.safl_circuit.proofs.Agree.{ret_same, go_same, next_same, loop_words_same}
-use Rattle.safl_circuit.proofs.NetSteps.{regs_on, quiet_in, same_then, one_bit}
+use Rattle.safl_circuit.proofs.Agree.{ret_same, want_same, go_same, next_same, loop_words_same}
+use Rattle.safl_circuit.proofs.NetSteps.{regs_in, regs_on, quiet_in, same_then, one_bit}
 use Rattle.safl_circuit.proofs.CoreOf.{core_of}
 use Rattle.safl_circuit.proofs.CallsSeen.{calls_seen}
 use Rattle.safl_circuit.proofs.Exact.{exactly}
+use Rattle.safl_circuit.proofs.Sooner.{no_sooner, on_time_exactly}
+use Rattle.safl_circuit.proofs.Uncalled.{unshared_exactly}
+use Rattle.safl_calls.specs.Span.{main_span}
 
 at_most_or : (a b : ℕ) → (b < a → ⊥) → a ≤ b
 at_most_or zero b h = omega arith
@@ -111,7 +115,7 @@ module _ (C : Program) (D : Names) (P : Choice) (n : Netlist) (wf : IsWellFormed
     quiet : Quiet (registers_now C D n v0)
     quiet = quiet_in C D P n wf h1 h2 scheme args state0 v0 quiet0 run.0
 
-    abbrev later : ℕ → List Word
+    abbrev pub later : ℕ → List Word
     later c = words_at C n (slice_get vs c)
 
     abbrev r : ℕ → Registers
@@ -199,6 +203,47 @@ module _ (C : Program) (D : Names) (P : Choice) (n : Netlist) (wf : IsWellFormed
         → c ≡ latest C args d
     exact seq c w e up v d = exactly C P wf seq h1 h2 r0 quiet args many later v d c (is_done c w e up)
 
+    pub spanned : (c : ℕ) (w : Valuation) → slice_get (v0 ∷ vs) c ≡ Some w → read_output n w (codes "done") ≡ 1 → (v : Word) (d : Main C args v) → main_span C args d ≤ c
+    spanned c w e up v d = no_sooner C P wf h1 h2 r0 quiet args many later v d c (is_done c w e up)
+
+    -- the same from the registers of the state
+    abbrev pub base : Registers
+    base = registers_in C D n state0
+
+    pub based : (c : ℕ) → Same C P (registers_at C P r0 args later c) (registers_at C P base args later c)
+    unfolding registers_at
+    based zero = regs_in C D P n wf h1 h2 scheme args state0 v0 run.0
+    based (suc c) = next_same C P good (input_at args later c) (registers_at C P r0 args later c) (registers_at C P base args later c) (based c)
+
+    pub done_based : (c : ℕ) (w : Valuation) → slice_get (v0 ∷ vs) c ≡ Some w → read_output n w (codes "done") ≡ bit (ret C (registers_at C P base args later c) 0)
+    done_based c w e = done_is c w e ∙ ap bit (ret_same C P good (input_at args later c) _ _ (based c) 0)
+
+    want_is : (c : ℕ) (w : Valuation) → slice_get (v0 ∷ vs) c ≡ Some w → (k : ℕ) → suc k ≤ C.sites → one (read n w (of_site (codes "want$") (suc k))) ≡ want C P (r c) (suc k)
+    want_is c w e k le =
+        let a = agreed c w e in
+        one_bit _ _ ((scheme.wires w a.state a.fits).wants (suc k) (omega arith) le) ∙ want_same C P good (input_now C n w) _ _ a.same k
+
+    want_within : (q : Registers) (k : ℕ) → want C P q (suc k) ≡ true → suc k ≤ C.sites
+    unfolding body_wants
+    want_within q k up =
+        let o = some_of (body_wants C P q (suc k)) up in
+        leb-true (suc k) C.sites (and_parts _ _ (cond_some _ _ o.0 o.1).0).1
+
+    pub timed : NoneWaits C n (v0 ∷ vs) → (c : ℕ) (w : Valuation) → slice_get (v0 ∷ vs) c ≡ Some w → read_output n w (codes "done") ≡ 1 → (v : Word) (d : Main C args v) → c ≡ main_span C args d
+    timed free c w e up v d =
+        on_time_exactly C P wf h1 h2 r0 quiet args many later v d c
+        (λ a k lt wants.
+        let in_run = slice_get_within (v0 ∷ vs) c w e in
+        let x = get_or (v0 ∷ vs) a [] in
+        let there : slice_get (v0 ∷ vs) a ≡ Some x = slice_get-get_or (v0 ∷ vs) a [] (omega (arith, lt, in_run)) in
+        let le = want_within (r a) k wants in
+        sym (go_is a x there (suc k) le) ∙ free a (suc k) x there (omega arith) le (want_is a x there k le ∙ wants))
+        (is_done c w e up)
+
+    pub unshared : (c : ℕ) (w : Valuation) → slice_get (v0 ∷ vs) c ≡ Some w → read_output n w (codes "done") ≡ 1 → (v : Word) (d : Main C args v) → Unshared C P args d
+        → c ≡ main_span C args d
+    unshared c w e up v d none = unshared_exactly C P wf h1 h2 r0 quiet args many later v d none c (is_done c w e up)
+
     pub alone : (c : ℕ) (w : Valuation) → slice_get (v0 ∷ vs) c ≡ Some w → (j k : ℕ) → j ≤ C.sites → k ≤ C.sites → go_up n w j ≡ true → go_up n w k ≡ true → unit_for C j ≡ unit_for C k → j ≡ k
     alone c w e j k lej lek a b same =
         let x : Exclusive C P r0 args later c = no_two_starts C P good h1 h2 r0 quiet args many later c in
@@ -223,29 +268,13 @@ module _ (C : Program) (D : Names) (P : Choice) (n : Netlist) (wf : IsWellFormed
         let s = (agreed c w ec).same in
         record { run = λ u. s.run u ∙ q.run u; fin = λ u. s.fin u ∙ q.fin u; sent = λ k pos. s.sent k pos ∙ q.sent k pos; got = λ k pos. s.got k pos ∙ q.got k pos }
 
-    go_wants : (q : Registers) (i : Inputs) (k : ℕ) → is_some (go_words C P q i k) ≡ go C P q i k
-    unfolding go
-    go_wants q i zero = by (go C P q i 0)
-      where
-        by : (b : Bool) → is_some (cond b (Some i.words) None) ≡ b
-        by true = refl
-        by false = refl
-    go_wants q i (suc k) = by (P.arbiter (unit_for C (suc k))) (body_wants C P q (suc k)) _
-      where
-        by : (a : Bool) (o : Option (List Word)) (x : Bool) → is_some (cond (cond a (is_some o && x) (is_some o)) o None) ≡ cond a (is_some o && x) (is_some o)
-        by true None x = refl
-        by true (Some ws) true = refl
-        by true (Some ws) false = refl
-        by false None x = refl
-        by false (Some ws) x = refl
-
     started_is : (c : ℕ) (w : Valuation) → slice_get (v0 ∷ vs) c ≡ Some w → (f : ℕ) → f < C.functions → is_started C D n w f ≡ starts_it C P (r c) (input_at args later c) f
     unfolding loads
     started_is c w e f lt =
         let a = agreed c w e in
         let loads_is : is_some (first (go_at C n w f) (suc C.sites)) ≡ is_some (loads C P (r c) (input_at args later c) f) =
         first_some_same (go_at C n w f) (load_in C P (r c) (input_at args later c) f) (suc C.sites)
-        (λ k le. by (C.callee k == f) (go_up n w k) k (go_words C P (r c) (input_at args later c) k) (go_is c w e k (omega (arith, le)) ∙ sym (go_wants (r c) (input_at args later c) k))) in
+        (λ k le. by (C.callee k == f) (go_up n w k) k (go_words C P (r c) (input_at args later c) k) (go_is c w e k (omega (arith, le)) ∙ sym (go_wants C P (r c) (input_at args later c) k))) in
         let loop_is : one (read n w (of_function D (codes "loop$") f)) ≡ is_some (loop_words C P (registers_now C D n w) f) = one_bit _ _ ((scheme.wires w a.state a.fits).loops f lt) in
         ap (λ b. b || one (read n w (of_function D (codes "loop$") f))) loads_is
         ∙ ap (λ b. is_some (loads C P (r c) (input_at args later c) f) || b) (loop_is ∙ ap is_some (loop_same c w e f))

@@ -93,7 +93,7 @@ module _ (C : Program) (D : Names) (P : Choice) (n : Netlist) (wf : IsWellFormed
   holds : (state : ℕ → ℕ) (w : Valuation) (name : List ℕ) → Fits n state w → IsRegister n name → read n w name ≡ option_map_or state (place n.signals name 0) 0
   holds state w name fits reg = register_word state w name fits reg ∙ sym (ap (λ (o : Option ℕ). option_map_or state o 0) reg.found)
 
-  regs_in : (state : ℕ → ℕ) (w : Valuation) → Fits n state w → Same C P (registers_now C D n w) (registers_in C D n state)
+  pub regs_in : (state : ℕ → ℕ) (w : Valuation) → Fits n state w → Same C P (registers_now C D n w) (registers_in C D n state)
   regs_in state w fits = record {
     run = λ u. and_cong (is_unit C u) _ _ (λ is. ap one (holds state w _ fits (registers.run u is)));
     fin = λ u. and_cong (is_unit C u) _ _ (λ is. ap one (holds state w _ fits (registers.fin u is)));

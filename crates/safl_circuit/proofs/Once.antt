@@ -57,7 +57,7 @@ module _ (C : Program) (P : Choice) (good : Numbered C) (h1 : OneInUse C P.arbit
   inv : (c : ℕ) → Inv C (s c)
   inv c = inv_after C args good (history C P r0 args later c) (at c).legal
 
-  done_sent : (c : ℕ) → ret C (r c) 0 ≡ true → (s c).site 0 ≡ Sent
+  pub done_sent : (c : ℕ) → ret C (r c) 0 ≡ true → (s c).site 0 ≡ Sent
   done_sent c up =
       let d = ret_delivers C P args good (r c) (s c) (inv c) (at c).shows 0 up in
       ((inv c).serving (unit_for C 0) 0 (ap serves d.1)).0
@@ -96,7 +96,7 @@ module _ (C : Program) (P : Choice) (good : Numbered C) (h1 : OneInUse C P.arbit
   once a up c other = ⊎_elim (λ same. absurd (other same)) (λ d. ⊎_elim
       (λ lt. false_from_ne_true _ (λ upc. false≢true (sym (not_again c a upc lt) ∙ up))) (λ gt. not_again a c up gt) d) (cases_order c a)
 
-  not_unsent : (c : ℕ) → (s (suc c)).site 0 ≡ Unsent → ⊥
+  pub not_unsent : (c : ℕ) → (s (suc c)).site 0 ≡ Unsent → ⊥
   not_unsent zero e = sent_unsent (sym accepted ∙ e)
   not_unsent (suc c) e = by (ret C (r (suc c)) 0) (sym (step c) ∙ e) (not_unsent c)
     where

@@ -68,66 +68,68 @@ finish_loop : (f h : ℕ) → Finish f ≡ LoopInto h → ⊥
 finish_loop f h e = grind arith
 
 module _ (C : Program) (P : Choice) (args : List Word) (good : Numbered C) (r : Registers) (i : Inputs) (t : State) (inv : Inv C t)
-    (meets : Meets C P args r i t) (one : (d e : Event) → Enabled C args t d → Enabled C args t e → d ≡ e) where
+    (meets : Meets C P args r i t) where
   -- what the cycle picks is enabled
-  accept_on : (k : ℕ) → go C P r i k ≡ true → Enabled C args t (Accept k)
+  pub accept_on : (k : ℕ) → go C P r i k ≡ true → Enabled C args t (Accept k)
   accept_on k up = let a = go_asks C P args good r i t inv meets k up in (a.0, a.1, go_idle C P args good r i t inv meets k up)
 
-  finish_on : (f : ℕ) → f < C.functions → is_some (end_word C P r f) ≡ true → Enabled C args t (Finish f)
+  pub finish_on : (f : ℕ) → f < C.functions → is_some (end_word C P r f) ≡ true → Enabled C args t (Finish f)
   finish_on f lt up =
       let v = some_of (end_word C P r f) up in
       let run = running C P args good r i t inv meets f (Ready v.0) lt (ready_not_yet v.0) (ready_of _ v.0 v.1) in
       (run.serves, run.args, v.0, run.runs, ap (says_as C (back t)) run.runs ∙ run.answer)
 
-  loop_on : (h : ℕ) → is_some (loop_words C P r h) ≡ true → Enabled C args t (LoopInto h)
+  pub loop_on : (h : ℕ) → is_some (loop_words C P r h) ≡ true → Enabled C args t (LoopInto h)
   loop_on h up =
       let vs = some_of (loop_words C P r h) up in
       let g = loop_found C P args good r i t inv meets h vs.0 vs.1 in
       let run = running C P args good r i t inv meets g.0 (LoopTo h vs.0) g.1 (loop_not_yet h vs.0) g.3 in
       (vs.0, ap (says_as C (back t)) (ap t.unit (sym g.2) ∙ run.runs) ∙ run.answer)
 
-  few_accepts : moves_count (accepts C P r i (suc C.sites)) ≤ 1
-  unfolding number
-  few_accepts = at_most_one (go C P r i) Accept (λ k. refl) (suc C.sites) (λ j k lj lk uj uk. ap number (one (Accept j) (Accept k) (accept_on j uj) (accept_on k uk)))
+  module _ (one : (d e : Event) → Enabled C args t d → Enabled C args t e → d ≡ e) where
+    few_accepts : moves_count (accepts C P r i (suc C.sites)) ≤ 1
+    unfolding number
+    few_accepts = at_most_one (go C P r i) Accept (λ k. refl) (suc C.sites) (λ j k lj lk uj uk. ap number (one (Accept j) (Accept k) (accept_on j uj) (accept_on k uk)))
 
-  few_finishes : moves_count (finishes C P r C.functions) ≤ 1
-  unfolding number
-  few_finishes = at_most_one (λ f. is_some (end_word C P r f)) Finish (λ f. refl) C.functions (λ j k lj lk uj uk. ap number (one (Finish j) (Finish k) (finish_on j lj uj) (finish_on k lk uk)))
+    few_finishes : moves_count (finishes C P r C.functions) ≤ 1
+    unfolding number
+    few_finishes = at_most_one (λ f. is_some (end_word C P r f)) Finish (λ f. refl) C.functions (λ j k lj lk uj uk. ap number (one (Finish j) (Finish k) (finish_on j lj uj) (finish_on k lk uk)))
 
-  few_loops : moves_count (goes_on C P r C.functions) ≤ 1
-  unfolding number
-  few_loops = at_most_one (λ h. is_some (loop_words C P r h)) LoopInto (λ h. refl) C.functions (λ j k lj lk uj uk. ap number (one (LoopInto j) (LoopInto k) (loop_on j uj) (loop_on k uk)))
+    few_loops : moves_count (goes_on C P r C.functions) ≤ 1
+    unfolding number
+    few_loops = at_most_one (λ h. is_some (loop_words C P r h)) LoopInto (λ h. refl) C.functions (λ j k lj lk uj uk. ap number (one (LoopInto j) (LoopInto k) (loop_on j uj) (loop_on k uk)))
 
-  pub one_move : moves_count (cycle_events C P r i) ≤ 1
-  one_move = ⊎_elim
-      (λ a.
-      let none = down (λ f. is_some (end_word C P r f)) Finish C.functions
-      (λ f lt. false_from_ne_true _ (λ up. accept_finish a.0 f (one (Accept a.0) (Finish f) (accept_on a.0 a.2) (finish_on f lt up)))) in
-      let none' = down (λ h. is_some (loop_words C P r h)) LoopInto C.functions
-      (λ h lt. false_from_ne_true _ (λ up. accept_loop a.0 h (one (Accept a.0) (LoopInto h) (accept_on a.0 a.2) (loop_on h up)))) in
-      omega (arith, few_accepts, none, none', back_none, all_sum, late_sum, end_sum))
-      (λ off.
-      let none = down (go C P r i) Accept (suc C.sites) off in
-      ⊎_elim
-      (λ f.
-      let none' = down (λ h. is_some (loop_words C P r h)) LoopInto C.functions
-      (λ h lt. false_from_ne_true _ (λ up. finish_loop f.0 h (one (Finish f.0) (LoopInto h) (finish_on f.0 f.1 f.2) (loop_on h up)))) in
-      omega (arith, few_finishes, none, none', back_none, all_sum, late_sum, end_sum))
-      (λ off'.
-      let none' = down (λ f. is_some (end_word C P r f)) Finish C.functions off' in
-      omega (arith, few_loops, none, none', back_none, all_sum, late_sum, end_sum))
-      (some_up (λ f. is_some (end_word C P r f)) C.functions))
-      (some_up (go C P r i) (suc C.sites))
-    where
-      back_none : moves_count (returns C r (suc C.sites)) ≡ 0
-      back_none = no_moves (ret C r) (suc C.sites)
+    pub one_move : moves_count (cycle_events C P r i) ≤ 1
+    one_move = ⊎_elim
+        (λ a.
+        let none = down (λ f. is_some (end_word C P r f)) Finish C.functions
+        (λ f lt. false_from_ne_true _ (λ up. accept_finish a.0 f (one (Accept a.0) (Finish f) (accept_on a.0 a.2) (finish_on f lt up)))) in
+        let none' = down (λ h. is_some (loop_words C P r h)) LoopInto C.functions
+        (λ h lt. false_from_ne_true _ (λ up. accept_loop a.0 h (one (Accept a.0) (LoopInto h) (accept_on a.0 a.2) (loop_on h up)))) in
+        omega (arith, few_accepts, none, none', back_none, all_sum, late_sum, end_sum))
+        (λ off.
+        let none = down (go C P r i) Accept (suc C.sites) off in
+        ⊎_elim
+        (λ f.
+        let none' = down (λ h. is_some (loop_words C P r h)) LoopInto C.functions
+        (λ h lt. false_from_ne_true _ (λ up. finish_loop f.0 h (one (Finish f.0) (LoopInto h) (finish_on f.0 f.1 f.2) (loop_on h up)))) in
+        omega (arith, few_finishes, none, none', back_none, all_sum, late_sum, end_sum))
+        (λ off'.
+        let none' = down (λ f. is_some (end_word C P r f)) Finish C.functions off' in
+        omega (arith, few_loops, none, none', back_none, all_sum, late_sum, end_sum))
+        (some_up (λ f. is_some (end_word C P r f)) C.functions))
+        (some_up (go C P r i) (suc C.sites))
+      where
+        back_none : moves_count (returns C r (suc C.sites)) ≡ 0
+        back_none = no_moves (ret C r) (suc C.sites)
 
-      all_sum : moves_count (cycle_events C P r i) ≡ moves_count (returns C r (suc C.sites)) + moves_count (accepts C P r i (suc C.sites) ++ (finishes C P r C.functions ++ goes_on C P r C.functions))
-      all_sum = moves_append (returns C r (suc C.sites)) (accepts C P r i (suc C.sites) ++ (finishes C P r C.functions ++ goes_on C P r C.functions))
+        all_sum : moves_count (cycle_events C P r i) ≡ moves_count (returns C r (suc C.sites)) + moves_count
+            (accepts C P r i (suc C.sites) ++ (finishes C P r C.functions ++ goes_on C P r C.functions))
+        all_sum = moves_append (returns C r (suc C.sites)) (accepts C P r i (suc C.sites) ++ (finishes C P r C.functions ++ goes_on C P r C.functions))
 
-      late_sum : moves_count (accepts C P r i (suc C.sites) ++ (finishes C P r C.functions ++ goes_on C P r C.functions)) ≡ moves_count
-          (accepts C P r i (suc C.sites)) + moves_count (finishes C P r C.functions ++ goes_on C P r C.functions)
-      late_sum = moves_append (accepts C P r i (suc C.sites)) (finishes C P r C.functions ++ goes_on C P r C.functions)
+        late_sum : moves_count (accepts C P r i (suc C.sites) ++ (finishes C P r C.functions ++ goes_on C P r C.functions)) ≡ moves_count
+            (accepts C P r i (suc C.sites)) + moves_count (finishes C P r C.functions ++ goes_on C P r C.functions)
+        late_sum = moves_append (accepts C P r i (suc C.sites)) (finishes C P r C.functions ++ goes_on C P r C.functions)
 
-      end_sum : moves_count (finishes C P r C.functions ++ goes_on C P r C.functions) ≡ moves_count (finishes C P r C.functions) + moves_count (goes_on C P r C.functions)
-      end_sum = moves_append (finishes C P r C.functions) (goes_on C P r C.functions)
+        end_sum : moves_count (finishes C P r C.functions ++ goes_on C P r C.functions) ≡ moves_count (finishes C P r C.functions) + moves_count (goes_on C P r C.functions)
+        end_sum = moves_append (finishes C P r C.functions) (goes_on C P r C.functions)

@@ -55,7 +55,8 @@ first_least {A} g (suc n) x h = by (first_least g n x) (first g n) refl h
 
 module _ (C : Program) (P : Choice) (args : List Word) (good : Numbered C) (r : Registers) (i : Inputs) (t : State) (inv : Inv C t) (meets : Meets C P args r i t) where
   -- a wanted call at an idle unit lets some call go there
-  some_go : (k : ℕ) (ws : List Word) → asked C args t (suc k) ≡ Some ws → t.unit (unit_for C (suc k)) ≡ Idle → suc k ≤ C.sites → (j : ℕ) × (j ≤ C.sites) × (go C P r i j ≡ true)
+  pub some_go : (k : ℕ) (ws : List Word) → asked C args t (suc k) ≡ Some ws → t.unit (unit_for C (suc k)) ≡ Idle → suc k ≤ C.sites
+      → (j : ℕ) × (0 < j) × (j ≤ C.sites) × (unit_for C j ≡ unit_for C (suc k)) × (go C P r i j ≡ true)
   unfolding go
   some_go k ws asked' idle le = by (P.arbiter w) refl
     where
@@ -74,19 +75,22 @@ module _ (C : Program) (P : Choice) (args : List Word) (good : Numbered C) (r : 
           (is_some (first (wants_at C P r (unit_for C (suc j))) (suc j))))) (want C P r (suc j))) (ap P.arbiter e ∙ arbiter)
           ∙ and_from _ _ wants (and_from _ _ (ap (λ u. not (r.run u)) e ∙ not_run) (ap (λ u. not (is_some (first (wants_at C P r u) (suc j)))) e ∙ ap (λ o. not (is_some o)) none))
 
-      lowest : P.arbiter w ≡ true → (o : Option ℕ) → first (wants_at C P r w) (suc k) ≡ o → (j : ℕ) × (j ≤ C.sites) × (go C P r i j ≡ true)
-      lowest arbiter None e = (suc k, le, up_from k refl wants_k arbiter e)
+      lowest : P.arbiter w ≡ true → (o : Option ℕ) → first (wants_at C P r w) (suc k) ≡ o → (j : ℕ) × (0 < j) × (j ≤ C.sites) × (unit_for C j ≡ w) × (go C P r i j ≡ true)
+      lowest arbiter None e = (suc k, omega arith, le, refl, up_from k refl wants_k arbiter e)
       lowest arbiter (Some x) e = let l = first_least (wants_at C P r w) (suc k) x e in least arbiter l.0 l.1 x l.2 l.3
         where
-          least : P.arbiter w ≡ true → (j : ℕ) → j < suc k → (x : ℕ) → wants_at C P r w j ≡ Some x → first (wants_at C P r w) j ≡ None → (j : ℕ) × (j ≤ C.sites) × (go C P r i j ≡ true)
+          least : P.arbiter w ≡ true → (j : ℕ) → j < suc k → (x : ℕ) → wants_at C P r w j ≡ Some x → first (wants_at C P r w) j ≡ None
+              → (j : ℕ) × (0 < j) × (j ≤ C.sites) × (unit_for C j ≡ w) × (go C P r i j ≡ true)
           least arbiter zero lt x h none = absurd (some_none x (sym h))
           least arbiter (suc j) lt x h none =
               let a = and_parts _ _ (cond_some _ _ x h).0 in
-              (suc j, omega (arith, lt, le), up_from j (eqb-true _ w a.0) a.1 arbiter none)
+              (suc j, omega arith, omega (arith, lt, le), eqb-true _ w a.0, up_from j (eqb-true _ w a.0) a.1 arbiter none)
 
-      by : (b : Bool) → P.arbiter w ≡ b → (j : ℕ) × (j ≤ C.sites) × (go C P r i j ≡ true)
+      by : (b : Bool) → P.arbiter w ≡ b → (j : ℕ) × (0 < j) × (j ≤ C.sites) × (unit_for C j ≡ w) × (go C P r i j ≡ true)
       by true arbiter = lowest arbiter _ refl
-      by false no_arb = (suc k, le, ap (λ b. cond b (want C P r (suc k) && (not (r.run w) && not (is_some (first (wants_at C P r w) (suc k))))) (want C P r (suc k))) no_arb ∙ wants_k)
+      by false no_arb =
+          let is = ap (λ b. cond b (want C P r (suc k) && (not (r.run w) && not (is_some (first (wants_at C P r w) (suc k))))) (want C P r (suc k))) no_arb in
+          (suc k, omega arith, le, refl, is ∙ wants_k)
 
   -- the cycle has an Accept, a Finish or a Loop
   abbrev pub Moving : Type 0
@@ -99,7 +103,7 @@ module _ (C : Program) (P : Choice) (args : List Word) (good : Numbered C) (r : 
   moves (Accept (suc k)) h main =
       let w = asked_parts C args t k h.0 h.1 in
       let g = some_go k h.0 h.1 h.2 w.within in
-      inl (picks_move (go C P r i) Accept (λ k. refl) (suc C.sites) g.0 (omega (arith, g.1)) g.2)
+      inl (picks_move (go C P r i) Accept (λ k. refl) (suc C.sites) g.0 (omega (arith, g.2)) g.4)
   moves (Finish f) h main =
       let m = inv.member (C.unit f) f h.0 h.1 h.3 in
       let ready : answer (back t) h.1 (C.body f) ≡ Ready h.2 = sym (ap (says_as C (back t)) h.3) ∙ h.4 in

@@ -1,5 +1,5 @@
 -- The last theorem, from its parts.
-use Rattle.std.proofs.Common.{◌≡◌, ◌≢◌, ℕ, ◌≤◌, List, [], ◌∷◌, length, Some, true, sym, subst, arith, inl, inr, cond, ap, refl, ◌++◌, suc, ◌<◌}
+use Rattle.std.proofs.Common.{◌≡◌, ◌≢◌, ℕ, ◌≤◌, List, [], ◌∷◌, length, Some, true, sym, subst, arith, inl, inr, cond, ap, refl, ◌++◌, ◌∙◌, suc, ◌<◌}
 use Rattle.safl_term.specs.Names.{Names}
 use Rattle.std.specs.Prelude.{slice_get, codes}
 use Rattle.safl_word.specs.Words.{Word, as_word}
@@ -15,9 +15,11 @@ use Rattle.safl_sites.specs.Plan.{Choice}
 use Rattle.safl_net.specs.Netlist.{Netlist}
 use Rattle.safl_net.specs.Valuations.{Valuation, read, read_output, reset_state}
 use Rattle.safl_net.specs.Runs.{RunFrom}
-use Rattle.safl_circuit.specs.Names.{of_function, numbers, of_site}
+use Rattle.safl_circuit.specs.Names.{of_function, numbers, of_site, bit, registers_in}
 use Rattle.safl_circuit.specs.Scheme.{Scheme, go_up}
-use Rattle.safl_circuit.specs.Correct.{DoneIn, IsExact, IsResult, latest, QuietAfterDone, SameCalls, Behaves, IsQuietState}
+use Rattle.safl_circuit.specs.Correct.{DoneIn, IsExact, NoSooner, IsOnTime, IsSpan, IsResult, latest, QuietAfterDone, SameCalls, Behaves, IsQuietState}
+use Rattle.safl_circuit.specs.Blind.{DoneIsBlind}
+use Rattle.safl_circuit.proofs.Blind.{control_is_blind}
 use Rattle.safl_circuit.specs.Theorem.{IsCircuit, SchemesAreCircuits, ServingSchemesAreCircuits, CyclesAreEvents, LatestIsSoon, Runs}
 use Rattle.safl_circuit.proofs.Cycle as cycle
 use Rattle.safl_circuit.proofs.NetSteps.{first_run, first_quiet}
@@ -53,6 +55,18 @@ module _ (C : Program) (D : Names) (P : Choice) (n : Netlist) (wf : IsWellFormed
     exact seq args sized [] r c w e up v d = absurd (some_none w (sym e))
     exact seq args sized (v0 ∷ vs) r c w e up v d = run.exact C D P n wf h1 h2 scheme args sized state quiet0 v0 vs r seq c w e up v d
 
+    no_sooner : NoSooner C n state
+    no_sooner args sized [] r c w e up v d = absurd (some_none w (sym e))
+    no_sooner args sized (v0 ∷ vs) r c w e up v d = run.spanned C D P n wf h1 h2 scheme args sized state quiet0 v0 vs r c w e up v d
+
+    on_time : IsOnTime C n state
+    on_time args sized [] r free c w e up v d = absurd (some_none w (sym e))
+    on_time args sized (v0 ∷ vs) r free c w e up v d = run.timed C D P n wf h1 h2 scheme args sized state quiet0 v0 vs r free c w e up v d
+
+    always : IsSpan C P n state
+    always args sized [] r c w e up v d unshared = absurd (some_none w (sym e))
+    always args sized (v0 ∷ vs) r c w e up v d unshared = run.unshared C D P n wf h1 h2 scheme args sized state quiet0 v0 vs r c w e up v d unshared
+
     quiet : QuietAfterDone C D n state
     quiet args sized [] r a c v w ea ec up lt = absurd (some_none v (sym ea))
     quiet args sized (v0 ∷ vs) r a c v w ea ec up lt = run.quiet_then C D P n wf h1 h2 scheme args sized state quiet0 v0 vs r a c v w ea ec up lt
@@ -65,7 +79,16 @@ module _ (C : Program) (D : Names) (P : Choice) (n : Netlist) (wf : IsWellFormed
     behaves = record { prompt = prompt; only = only; alone = alone; rests = rests }
 
     runs : Runs C D n state
-    runs = record { behaves = behaves; exact = exact; quiet = quiet; calls = calls }
+    runs = record { behaves = behaves; exact = exact; no_sooner = no_sooner; on_time = on_time; quiet = quiet; calls = calls }
+
+  blind : DoneIsBlind C D n
+  blind L lab s t quiet_s quiet_t args sized [] r other sized' ws r' alike c v w e e' = absurd (some_none v (sym e))
+  blind L lab s t quiet_s quiet_t args sized (v0 ∷ vs) r other sized' [] r' alike c v w e e' = absurd (some_none w (sym e'))
+  blind L lab s t quiet_s quiet_t args sized (v0 ∷ vs) r other sized' (w0 ∷ ws) r' alike c v w e e' =
+      run.done_based C D P n wf h1 h2 scheme args sized s quiet_s v0 vs r c v e
+      ∙ ap bit (control_is_blind C P L wf lab (registers_in C D n s) (registers_in C D n t) quiet_s quiet_t args other alike
+      (run.later C D P n wf h1 h2 scheme args sized s quiet_s v0 vs r) (run.later C D P n wf h1 h2 scheme other sized' t quiet_t w0 ws r') c).1
+      ∙ sym (run.done_based C D P n wf h1 h2 scheme other sized' t quiet_t w0 ws r' c w e')
 
   reset_quiet : IsQuietState C D n (reset_state n)
   reset_quiet = first_quiet C D P n wf h1 h2 scheme []
@@ -104,14 +127,15 @@ module _ (C : Program) (D : Names) (P : Choice) (n : Netlist) (wf : IsWellFormed
       inputs = scheme.inputs;
       outputs = scheme.outputs;
       running = running;
-      starting =
-          starting;
+      starting = starting;
       starting_main = starting_main;
       behaves = behaves (reset_state n) reset_quiet;
     };
     steps = λ args sized vs r. first_run C D P n wf h1 h2 scheme args sized vs r;
     first = runs (reset_state n) reset_quiet;
     again = runs;
+    span = always;
+    blind = blind;
   }
 
 pub serving_schemes_are_circuits : ServingSchemesAreCircuits

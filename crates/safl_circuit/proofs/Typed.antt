@@ -35,7 +35,7 @@ pub record Typed (C : Program) (r : Registers) : Type 0 where
   pub arg : (f : ℕ) → f < C.functions → widths (r.arg f) ≡ C.params f
   pub keep : (k : ℕ) → k ≤ C.sites → (r.keep k).width ≡ C.result (C.callee k)
 
-as_widths : (ws bs : List ℕ) → length bs ≡ length ws → widths (as_words ws bs) ≡ ws
+pub as_widths : (ws bs : List ℕ) → length bs ≡ length ws → widths (as_words ws bs) ≡ ws
 as_widths [] bs len = refl
 as_widths (w ∷ ws) [] len = absurd (omega (arith, len))
 as_widths (w ∷ ws) (b ∷ bs) len = ap (λ l. w ∷ l) (as_widths ws bs (omega (arith, len)))

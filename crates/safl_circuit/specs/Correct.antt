@@ -10,6 +10,7 @@ use Rattle.safl_term.specs.WellFormed.{AreWordsOf}
 use Rattle.safl_sites.specs.Conflicts.{IsSequential}
 use Rattle.safl_calls.specs.Machine.{Event, opening, Legal, after, last_word}
 use Rattle.safl_calls.specs.Picks.{first}
+use Rattle.safl_calls.specs.Span.{main_span}
 use Rattle.safl_net.specs.Netlist.{Netlist}
 use Rattle.safl_net.specs.Valuations.{Valuation, read, read_output, IsAcyclic, reset_state}
 use Rattle.safl_net.specs.Runs.{RunFrom}
@@ -115,6 +116,29 @@ is_started C D n v f =
 abbrev pub IsExact : Program → Netlist → (ℕ → ℕ) → Type 0
 IsExact C n state =
     IsSequential C → EachCycle C n state (λ args c w. is_done n w ≡ 1 → (v : Word) (d : Main C args v) → c ≡ latest C args d)
+
+-- done comes in no cycle before that of the span of main's evaluation
+abbrev pub NoSooner : Program → Netlist → (ℕ → ℕ) → Type 0
+NoSooner C n state = EachCycle C n state (λ args c w. is_done n w ≡ 1 → (v : Word) (d : Main C args v) → main_span C args d ≤ c)
+
+-- in each cycle of a run in which the want wire of a site is 1, its go wire is 1 too: no call waits for a unit
+abbrev pub NoneWaits : Program → Netlist → List Valuation → Type 0
+NoneWaits C n vs =
+    (c k : ℕ) (w : Valuation) → slice_get vs c ≡ Some w → 0 < k → k ≤ C.sites → one (read n w (of_site (codes "want$") k)) ≡ true → go_up n w k ≡ true
+
+-- in a run in which no call waits, done comes in exactly the cycle of the span
+abbrev pub IsOnTime : Program → Netlist → (ℕ → ℕ) → Type 0
+IsOnTime C n state =
+    EachRun C n state (λ args vs. NoneWaits C n vs → (c : ℕ) (w : Valuation) → slice_get vs c ≡ Some w → is_done n w ≡ 1
+    → (v : Word) (d : Main C args v) → c ≡ main_span C args d)
+
+-- the evaluation calls no function at a unit that has an arbiter
+abbrev pub Unshared : (C : Program) → Choice → (args : List Word) {v : Word} → Main C args v → Type 0
+Unshared C P args d = (k : ℕ) → 0 < k → k ≤ C.sites → P.arbiter (unit_for C k) ≡ true → main_calls C args d (C.callee k) ≡ []
+
+-- if it calls none, done comes in exactly the cycle of the span
+abbrev pub IsSpan : Program → Choice → Netlist → (ℕ → ℕ) → Type 0
+IsSpan C P n state = EachCycle C n state (λ args c w. is_done n w ≡ 1 → (v : Word) (d : Main C args v) → Unshared C P args d → c ≡ main_span C args d)
 
 -- the words of f's argument registers in the cycle after one that starts f
 abbrev pub seen_at : Program → Names → Netlist → ℕ → Option Valuation → Option Valuation → List (List Word)

@@ -6,3 +6,4 @@ pub mod Scheme
 pub mod Correct
 pub mod Theorem
 pub mod Mirrored
+pub mod Blind

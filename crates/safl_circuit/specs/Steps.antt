@@ -3,7 +3,7 @@ use Rattle.std.specs.Prelude.{◌≡◌, ℕ, zero, suc, ◌<◌, ◌++◌, List
 use Rattle.safl_sites.specs.Plan.{Choice}
 use Rattle.safl_circuit.specs.Equations.{Registers, Inputs, many, next, cycle_events}
 use Rattle.safl_calls.specs.Machine.{State, Mode, Runs, Delivers, Event, opening, Legal, after, last_word, is_unsent}
-use Rattle.safl_term.specs.Readiness.{Stage, Unsent, Returned, back_word}
+use Rattle.safl_term.specs.Readiness.{Stage, Returned, back_word}
 use Rattle.safl_term.specs.Program.{Program}
 use Rattle.safl_word.specs.Words.{Word}
 

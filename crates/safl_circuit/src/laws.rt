@@ -1,6 +1,7 @@
 //! Laws of circuits, over the definitions alone.
 
-ghost use Rattle.safl_circuit.specs.Theorem.{CyclesAreEvents, LatestIsSoon, SchemesAreCircuits, SchemesAreWhole, ServingSchemesAreCircuits};
+ghost use Rattle.safl_circuit.specs.Theorem.{BehavedOnesCome, CorrectOnesCome, CyclesAreEvents, LatestIsSoon, SchemesAreCircuits, SchemesAreWhole, ServingSchemesAreCircuits};
+ghost use Rattle.safl_circuit.specs.Blind.{ControlIsBlind};
 ghost use Rattle.safl_circuit.specs.Mirrored.{MirrorsKeepPlans, MirrorsKeepSchemes};
 
 /// A netlist that has the scheme of a well-formed program, and enough arbiters and kept words, computes what the
@@ -31,6 +32,14 @@ pub fn latest_law()
     ensures { LatestIsSoon }
 {}
 
+/// If main gives a value in n calls, then in every run of 3n cycles or more `done` is 1 in exactly one cycle, which is below
+/// `3n`, with that value as the result: from reset in each netlist that is correct for the program, and from each state
+/// from which it behaves.
+pub fn comes_law()
+    ensures reset { CorrectOnesCome }
+    ensures state { BehavedOnesCome }
+{}
+
 /// A net that mirrors a net with the scheme of a circuit has that scheme too.
 pub fn scheme_carries_over()
     ensures { MirrorsKeepSchemes }
@@ -39,4 +48,10 @@ pub fn scheme_carries_over()
 /// A net that mirrors a net with exactly the arbiters and kept words of a plan has them too.
 pub fn plan_carries_over()
     ensures { MirrorsKeepPlans }
+{}
+
+/// Two runs from quiet registers, whose public arguments are equal, have the same control in every cycle, if each body
+/// keeps the labels of what is public. So done comes in the same cycle, whatever words the registers held at first.
+pub fn control_law()
+    ensures { ControlIsBlind }
 {}
