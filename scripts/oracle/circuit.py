@@ -1,4 +1,6 @@
 """Units, call sites, the plan and the cycles of a program's circuit. Written from docs/CIRCUIT.md alone."""
+from dataclasses import dataclass
+
 from language import all_parts, apply
 
 
@@ -154,24 +156,27 @@ class Circuit:
 
     def call(self, registers, args, cycles):
         """The same from these registers, with the registers after that cycle."""
-        u = self.unit_name(self.program.main.group)
-        for cycle in range(cycles):
-            after = Cycle(self, registers, 1 if cycle == 0 else 0, args if cycle == 0 else [0] * len(args)).edge()
+        u, waited = self.unit_name(self.program.main.group), False
+        for number in range(cycles):
+            cycle = Cycle(self, registers, 1 if number == 0 else 0, args if number == 0 else [0] * len(args))
+            after, waited = cycle.edge(), waited or cycle.waits()
             if registers[f"fin${u}"]:
-                self.check_cycle(args, registers[f"res${u}"], cycle)
-                return registers[f"res${u}"], cycle, after
-            if after == registers and cycle > 0:
+                self.check_cycle(args, registers[f"res${u}"], number, waited)
+                return registers[f"res${u}"], number, after
+            if after == registers and number > 0:
                 return None
             registers = after
         return None
 
-    def check_cycle(self, args, result, cycle):
-        """Fails unless main has this value, by n calls of which l are tail calls, and done came by cycle 2n - l: in a sequential
-        program just then."""
-        value, calls, tails = meaning(self.program, args, len(self.program.functions) * (cycle + 1)) or (None, 0, 0)
-        latest = 2 * calls - tails
-        if value != result or cycle > latest or (self.plan.sequential and cycle != latest):
-            raise AssertionError(f"{result} in cycle {cycle}, where main has {value} by {calls} calls, {tails} of them tail calls")
+    def check_cycle(self, args, result, cycle, waited):
+        """Fails unless main has this value, by n calls of which l are tail calls, and done came by cycle 2n - l, and in no cycle before
+        the span: just then if no call waited, and in a sequential program just in cycle 2n - l."""
+        found = meaning(self.program, args, len(self.program.functions) * (cycle + 1))
+        if not found or found.value != result:
+            raise AssertionError(f"{result} in cycle {cycle}, where main has {found}")
+        exact = {found.latest} if self.plan.sequential else {found.span} if not waited else range(found.span, found.latest + 1)
+        if cycle not in exact or not found.span <= cycle <= found.latest:
+            raise AssertionError(f"{result} in cycle {cycle}, where main has {found}")
 
 
 class Cycle:
@@ -204,6 +209,10 @@ class Cycle:
             return True
         lower = [j for j in self.wants if j < k and self.circuit.plan.unit(j) == unit]
         return not self.r[f"run${self.circuit.unit_name(unit)}"] and not lower
+
+    def waits(self):
+        """Whether a call that is wanted is not accepted."""
+        return any(not self.go[k] for k in self.wants)
 
     def part(self, e, scope):
         """Whether a part with its path at 1 is ready, and its value."""
@@ -286,45 +295,68 @@ class Cycle:
                 after[f"sent${k}"] = after[f"got${k}"] = 0
 
 
+@dataclass
+class Evaluation:
+    """An evaluation of main: its value, how many calls it makes, how many of these are tail calls, and its span."""
+
+    value: int
+    calls: int
+    tails: int
+    span: int
+
+    @property
+    def latest(self):
+        return 2 * self.calls - self.tails
+
+
 def meaning(program, args, budget):
-    """Main's value, the number of calls and that of tail calls, or nothing if there are more calls than the budget."""
+    """The evaluation of main, or nothing if it makes more calls than the budget.
+
+    The span is worked out as the cycle in which each part is ready if no call waits: a part gets the cycle from which it is
+    evaluated, and gives the one in which it is ready. Operands, arguments and bindings begin together; a call adds two cycles and a
+    tail call one.
+    """
     counts = [0, 0]
 
-    def value_of(e, scope):
+    def value_of(e, scope, now):
         if e.kind in ("num", "sized"):
-            return e.value
+            return e.value, now
         if e.kind == "var":
-            return scope[e.name]
+            return scope[e.name], now
         if e.kind == "if":
-            return value_of(e.parts[1 if value_of(e.parts[0], scope) == 1 else 2], scope)
+            condition, ready = value_of(e.parts[0], scope, now)
+            return value_of(e.parts[1 if condition == 1 else 2], scope, ready)
         if e.kind == "let":
-            values = {name: value_of(value, scope) for name, _, _, value in e.binds}
-            return value_of(e.parts[0], {**scope, **values})
-        values = [value_of(part, scope) for part in e.parts]
+            bound = {name: value_of(value, scope, now) for name, _, _, value in e.binds}
+            values = {name: value for name, (value, _) in bound.items()}
+            return value_of(e.parts[0], {**scope, **values}, max(ready for _, ready in bound.values()))
+        parts = [value_of(part, scope, now) for part in e.parts]
+        values, ready = [value for value, _ in parts], max((cycle for _, cycle in parts), default=now)
         if e.kind != "call":
-            return operator_value(e, values)
+            return operator_value(e, values), ready
         if e.site:
-            return called(e.callee, values)
-        raise TailCall(e.callee, values)
+            return called(e.callee, values, ready + 2)
+        raise TailCall(e.callee, values, ready + 1)
 
-    def called(f, values):
+    def called(f, values, now):
         while True:
             counts[0] += 1
             if counts[0] > budget:
                 raise OverflowError
             try:
-                return value_of(f.body, {name: value for (name, _, _), value in zip(f.params, values)})
+                return value_of(f.body, {name: value for (name, _, _), value in zip(f.params, values)}, now)
             except TailCall as tail:
                 counts[1] += 1
-                f, values = tail.callee, tail.values
+                f, values, now = tail.callee, tail.values, tail.now
 
     try:
-        return called(program.main, args), counts[0], counts[1]
+        value, span = called(program.main, args, 2)
     except OverflowError:
         return None
+    return Evaluation(value, counts[0], counts[1], span)
 
 
 class TailCall(Exception):
-    def __init__(self, callee, values):
+    def __init__(self, callee, values, now):
         super().__init__()
-        self.callee, self.values = callee, values
+        self.callee, self.values, self.now = callee, values, now

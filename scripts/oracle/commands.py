@@ -241,4 +241,4 @@ def meant(source, words):
     """The line of main's value by the meaning, or nothing if it isn't there in a million calls."""
     program = language.accept(source)
     found = meaning(program, [int(word) for word in words], 1_000_000)
-    return f"result {found[0]}" if found else None
+    return f"result {found.value}" if found else None

@@ -1,2 +1,5 @@
-pub mod Meanings
-pub mod Steps
+pub mod Counting
+pub mod Entering
+pub mod Figured
+pub mod Finishing
+pub mod Rounding

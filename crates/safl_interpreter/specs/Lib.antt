@@ -1,1 +1,6 @@
-pub mod Interpreting
+pub mod Accounts
+pub mod Comes
+pub mod Measured
+pub mod Rounds
+pub mod Sound
+pub mod Turns

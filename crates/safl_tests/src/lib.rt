@@ -26,6 +26,8 @@ mod operators;
 #[cfg(test)]
 mod reshapes;
 #[cfg(test)]
+mod secrets;
+#[cfg(test)]
 mod shelves;
 #[cfg(test)]
 mod sinks;

@@ -1,10 +1,10 @@
-//! The result of main by the meaning of programs, and how many calls it takes.
+//! The result of main by the meaning of programs, with its calls and its span.
 
 ghost use Rattle.std.specs.Prelude.{◌≡◌, IfOk};
 ghost use Rattle.safl_word.specs.Words.{widths};
 
 use safl_compiler::accept;
-use safl_interpreter::{Answer, interpret};
+use safl_interpreter::{Timing, measure};
 use safl_term::Checked;
 use safl_word::{Raw, Word};
 use std::alloc::{AllocError, Global};
@@ -29,26 +29,31 @@ fn words_of(alloc: Global, c: &Checked, numbers: &[Raw]) -> Result<Vec<Word>, Al
     Ok(words)
 }
 
-// The result of main with a budget of `budget` calls.
-fn meaning(
+// What main comes to with a budget of `budget` calls.
+fn timing(
     alloc: Global,
     source: &[u8],
     numbers: &[Raw],
     budget: u32,
-) -> Result<Option<Answer>, Fail> {
+) -> Result<Option<Timing>, Fail> {
     if source.len() > 1000 {
         return Err("a long source".into());
     }
     let checked = accept(alloc, source).ok().ok_or("refused")?;
     let words = words_of(alloc, &checked, numbers)?;
-    Ok(interpret(alloc, &checked, &words, budget)?)
+    Ok(measure(alloc, &checked, &words, budget)?)
 }
 
+// Main and three calls in the loop, the first of which is no tail call: 2 cycles for each of the two calls that are none, and
+// 1 for each of the two tail calls.
 #[test]
 fn a_product_takes_four_calls(rt: HostRuntime) -> Result<(), Fail> {
-    let answer = meaning(rt.alloc(), PRODUCT, &[5, 3], 10)?.ok_or("no word")?;
-    assert_eq!(rt; answer.word.bits(), 15);
-    assert_eq!(rt; answer.left, 6);
-    assert!(rt; meaning(rt.alloc(), PRODUCT, &[5, 3], 3)?.is_none());
+    let found = timing(rt.alloc(), PRODUCT, &[5, 3], 4)?.ok_or("no word")?;
+    assert_eq!(rt; found.word.bits(), 15);
+    assert_eq!(rt; found.calls, 4);
+    assert_eq!(rt; found.loops, 2);
+    assert_eq!(rt; found.span, 6);
+    assert_eq!(rt; found.called.as_slice(), [true, true].as_slice());
+    assert!(rt; timing(rt.alloc(), PRODUCT, &[5, 3], 3)?.is_none());
     Ok(())
 }

@@ -1,14 +1,15 @@
 //! The arguments of a run.
 
-ghost use Rattle.std.specs.Prelude.{IfOk, IfErr, map, string_bytes};
+ghost use Rattle.std.specs.Prelude.{◌≡◌, IfOk, IfErr, map, string_bytes};
 ghost use Rattle.safl_session.specs.Lines.{AreArguments};
 ghost use Rattle.safl_tool.specs.Arguments.{RefusesArguments};
 ghost use Rattle.safl_tool.specs.Refusals.{RefusesBy};
 
 use crate::refusal::Refusal;
 use safl_session::read_argument;
+use safl_term::Checked;
 use safl_word::Word;
-use std::alloc::Global;
+use std::alloc::{AllocError, Global};
 
 /// The words of the arguments for parameters of these widths. A wrong number of arguments is refused before anything
 /// else.
@@ -36,4 +37,16 @@ pub fn read_arguments<'a>(
         };
     }
     Ok(words)
+}
+
+/// The widths of main's parameters, in bits.
+pub fn main_widths(alloc: Global, checked: &Checked) -> Result<Vec<u8>, AllocError>
+    ensures { IfOk result (λ widths. widths.items ≡ checked.now.program.params checked.now.program.main) }
+{
+    let main = checked.functions() - 1;
+    let mut widths = Vec::new(alloc);
+    'params: for i in 0..checked.params(main) {
+        widths.push(checked.param_width(main, i))?;
+    }
+    Ok(widths)
 }

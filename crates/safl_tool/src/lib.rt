@@ -2,7 +2,7 @@
 #![tactic(auto)]
 
 mod answer;
-mod arguments;
+pub mod arguments;
 mod asking;
 mod bit_level;
 mod build;
@@ -10,14 +10,14 @@ mod check;
 mod generated;
 pub mod laws;
 mod ready;
-mod refusal;
+pub mod refusal;
 mod report;
 mod reshape;
 mod run_file;
 mod session;
 mod simulate;
-mod source;
-mod top;
+pub mod source;
+pub mod top;
 mod tracing;
 mod verilog_lines;
 mod walk;

@@ -100,8 +100,8 @@ fn obey<'a, S: Shelf, O: Sink>(
     }
 }
 
-// Sends the line of a refusal. Returns its status.
-fn refuse<E: Sink>(alloc: Global, err: &mut E, refusal: Refusal<'_>) -> Status
+/// Sends the line of a refusal. Returns its status.
+pub fn refuse<E: Sink>(alloc: Global, err: &mut E, refusal: Refusal<'_>) -> Status
     ensures { SendsRefusal refusal.entry (E.told err.old) (E.told err.new) result }
 {
     let status = refusal.status();
@@ -111,8 +111,8 @@ fn refuse<E: Sink>(alloc: Global, err: &mut E, refusal: Refusal<'_>) -> Status
     }
 }
 
-// Sends a line. Returns `status`, even if the sink fails.
-fn tell<E: Sink>(err: &mut E, line: &[u8], status: Status) -> Status
+/// Sends a line. Returns `status`, even if the sink fails.
+pub fn tell<E: Sink>(err: &mut E, line: &[u8], status: Status) -> Status
     ensures { SendsLine status line.now (E.told err.old) (E.told err.new) result }
 {
     match err.put(line) {

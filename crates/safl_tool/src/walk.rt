@@ -9,14 +9,14 @@ ghost use Rattle.safl_tool.specs.Refusals.{RefusesBy};
 ghost use Rattle.safl_tool.specs.Walking.{Walks, WalksFrom};
 
 use crate::answer::Lines;
-use crate::arguments::read_arguments;
+use crate::arguments::{main_widths, read_arguments};
 use crate::refusal::{Refusal, push};
 use crate::source::check_source;
 use safl_command::Turns;
 use safl_core::{Machine, Walked, walk};
 use safl_term::Checked;
 use safl_word::{NoMemory, Raw, Word, push_decimal};
-use std::alloc::{AllocError, Global};
+use std::alloc::Global;
 
 /// What is printed of a walk of the call machine of the source `name`, or why it cannot walk.
 pub fn walk_lines<'a>(
@@ -85,18 +85,6 @@ fn walk_with(
         // The words fit main's parameters, so only memory can have run out.
         Err(_) => Err(NoMemory),
     }
-}
-
-// The widths of main's parameters, in bits.
-fn main_widths(alloc: Global, checked: &Checked) -> Result<Vec<u8>, AllocError>
-    ensures { IfOk result (λ widths. widths.items ≡ checked.now.program.params checked.now.program.main) }
-{
-    let main = checked.functions() - 1;
-    let mut widths = Vec::new(alloc);
-    'params: for i in 0..checked.params(main) {
-        widths.push(checked.param_width(main, i))?;
-    }
-    Ok(widths)
 }
 
 // What is printed of the outcome of a walk.

@@ -1,0 +1,5 @@
+pub mod Shown
+pub mod Likeness
+pub mod Walks
+pub mod Kept
+pub mod Found

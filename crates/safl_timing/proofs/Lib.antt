@@ -1,0 +1,4 @@
+pub mod Done
+pub mod Joined
+pub mod Naming
+pub mod Options
