@@ -323,7 +323,9 @@ def names(room):
         both = sorted((texts["s"] + texts["g"]).splitlines())
         room.expect(line, sorted(found.splitlines()) == both, f"the mixed text is {found!r}")
     room.row('"$S" sim p --cycles 100 5 --vcd /dev/stdout | cat', 0, texts["t"] + traced.out)
-    room.row('"$S" sim p --cycles 100 5 --vcd /dev/stdout >>o; cat o', 0, texts["t"] + traced.out)
+    room.row('echo old >o; "$S" sim p --cycles 100 5 --vcd /dev/stdout >>o; cat o', 0, texts["t"] + traced.out)
+    room.row('echo old >o; "$S" build p /dev/stdout >>o; cat o', 0, whole)
+    room.row('echo old >o; "$S" build p /dev/stdout | cat >>o; cat o', 0, b"old\n" + whole)
     room.row('"$S" check "$(printf "a\\nb")"', READ, err=b"cannot read a\nb\n")
     room.row('"$S" check "$(printf "a\\377")"', 20)
 
