@@ -3,17 +3,18 @@
 
     tools_explore.py [PART..]
 
-The points of four examples are known, and that their sources reply as the library or the vectors of scripts/gallery.py say. A
-cluster of two workers has to find the same points. Wrong uses have to end with a line and a status, and an interrupt has to keep
-what was found. Two circuits are placed, and the design of examples/board is simulated. A part whose tool is missing is SKIPPED.
-PART names some of them, as known_points. The program is crates/safl/out/safl, or SAFL names it. The status is 1 if something
-differs.
+The fewest cycles of some examples are known, and that their sources reply as the library or the vectors of scripts/gallery.py
+say. Steps that are made by text are compared with texts by hand. A cluster of two workers has to find the same points, though
+one of them is killed. Wrong uses have to end with a line and a status, and an interrupt has to keep what was found. Two circuits
+are placed, and the design of examples/board is simulated. A part whose tool is missing is SKIPPED. PART names some of them, as
+known_points. The program is crates/safl/out/safl, or SAFL names it. The status is 1 if something differs.
 """
 import json
 import os
 import pty
 import re
 import select
+import shlex
 import shutil
 import signal
 import subprocess
@@ -26,10 +27,55 @@ from files import TOP, read, written
 from gallery import PAGES
 from program import PROGRAM, lacks, told
 
+sys.path.insert(0, f"{TOP}/tools")
+from safl_explore import meaning, text_steps, tree  # noqa: E402
+
 SHARED = f"{TOP}/examples/shared.safl"
 EXPLORE, PLACE = f"{TOP}/tools/safl-explore", f"{TOP}/tools/safl-place"
 SYSTEM_PYTHON = "/usr/bin/python3"
-KNOWN = {"sha256": (196, {68}), "crc32": (52, {20}), "xtea": (324, {68, 132, 196})}  # the source's cycles, and those of points
+KNOWN = {"sha256": (196, 68), "crc32": (52, 19), "xtea": (324, 67), "modexp": (55, 39)}  # the source's cycles, and the fewest
+REGISTERS = r"(an input|an output|the (argument|result|control|value that is kept) (\w+ )?(of|for) [\w ]+)"
+PATH = rf"[\d.]+ ns from {REGISTERS}( through the arbiter of site \d+)* to {REGISTERS}"
+# Sources, and their steps by text, some with the source after them
+STEPS = (
+    (
+        "fun f(x:8):8 = if x == 0 then x else f(x - 1) fun main(a:8):8 = let r = f(a) in r",
+        {
+            "main in the group of f":
+                "fun f ( x : 8 ) : 8 = if x == 0 then x else f ( x - 1 )\nand main ( a : 8 ) : 8 = f ( a )\n",
+        },
+    ),
+    ("fun f(x:8):8 = if x == 0 then x else f(x - 1) fun main(a:8):8 = f(a) + 1", {}),
+    (
+        "fun f(x:8):8 = if x == 0 then x else f(x - 1) fun g(x:8):8 = if x > 9 then f(x) else 9 fun main(a:8):8 = g(a) + 1",
+        {
+            "g in the group of f":
+                "fun f ( x : 8 ) : 8 = if x == 0 then x else f ( x - 1 )\n"
+                "and g ( x : 8 ) : 8 = if x > 9 then f ( x ) else 9\nfun main ( a : 8 ) : 8 = g ( a ) + 1\n",
+        },
+    ),
+    (
+        "fun f(x:8):8 = x + 1 fun main(a:8):8 = f(a) + f(2)",
+        {
+            "calls of f one after another":
+                "fun f ( x : 8 ) : 8 = x + 1\nfun main ( a : 8 ) : 8 = let first : 8 = f ( a ) in first + f ( 2 )\n",
+            "calls of f one after another, the last first":
+                "fun f ( x : 8 ) : 8 = x + 1\nfun main ( a : 8 ) : 8 = let first : 8 = f ( 2 ) in f ( a ) + first\n",
+        },
+    ),
+    (
+        "fun f(x:8):8 = x + 1 and g(x:8):8 = x + 2 fun main(a:8):8 = f(a) + 1",
+        {"f apart from g": "fun f ( x : 8 ) : 8 = x + 1\nfun g ( x : 8 ) : 8 = x + 2\nfun main ( a : 8 ) : 8 = f ( a ) + 1\n"},
+    ),
+    (
+        "fun f(x:8):8 = x + 1 fun g(x:8):8 = f(x) fun main(a:8):8 = f(a) & 1",
+        {
+            "a unit of f for main":
+                "fun f ( x : 8 ) : 8 = x + 1\nfun f_main ( x : 8 ) : 8 = x + 1\nfun g ( x : 8 ) : 8 = f ( x )\n"
+                "fun main ( a : 8 ) : 8 = f_main ( a ) & 1\n",
+        },
+    ),
+)
 
 
 class Checks:
@@ -93,20 +139,29 @@ def points_of(folder):
     return json.loads(read(f"{folder}/points.json"))
 
 
+def without_comments(text):
+    return "".join(line for line in text.splitlines(True) if not line.startswith("//"))
+
+
 def follows(checks, output, folder):
-    """The printed commands make the sources that were written."""
-    for part in re.findall(r"^point \d+:\n((?:safl .*\n)+)", output, re.M):
-        commands = part.splitlines()
-        target = commands[-1].split()[3]
-        other = f"{folder}/again.safl"
+    """Where a point is made by commands alone, they make the source that was written, but for the functions that are left out."""
+    for part in re.findall(r"^point \d+:\n((?:\S.*\n)+)", output, re.M):
+        *commands, last = part.splitlines()
+        gone = re.match(r"by text, replies compared: without ([\w, ]+), as nothing calls", last)
+        commands += [] if gone else [last]
+        if any(command.startswith("by text") for command in commands):
+            continue
+        target, other = commands[-1].split()[3], f"{folder}/again.safl"
         for command in commands:
             words = [other if word == target else word for word in command.split()]
             checks.same(command, 0, told([PROGRAM, *words[1:]]).returncode)
-        checks.same(f"the source {target}", read(other), read(target))
+        names = gone[1].split(", ") if gone else []
+        left = [line for line in read(other).splitlines(True) if line.split()[1] not in names]
+        checks.same(f"the source {target}", "".join(left), without_comments(read(target)))
 
 
 def known_points(checks, folder):
-    """The known points of three examples, for the first call of each page, and that all their sources reply as they should."""
+    """The fewest cycles of four examples, for the first call of each page, and that all their sources reply as they should."""
     for name, (before, after) in KNOWN.items():
         text, results = calls_of(name)
         one = first_call(folder, name)
@@ -117,38 +172,76 @@ def known_points(checks, folder):
         checks.same(f"status for {name}: {ran.stderr}", 0, ran.returncode)
         first, *others = points_of(f"{folder}/{name}")
         checks.same(f"cycles of {name}", before, first["cycles"])
-        checks.same(f"known points of {name}", after, after & {point["cycles"] for point in others})
+        checks.same(f"fewest cycles of {name}", after, min(point["cycles"] for point in others))
         for point in others:
             values, _ = replies(point["source"], every)
             checks.same(f"replies of {point['source']}", results, values)
             checks.same(f"cycles of {point['source']}", point["cycles"], replies(point["source"], one)[1])
+            checks.same(f"bits of {point['source']}", str(point["bits"]), told([PROGRAM, "report", point["source"]]).stdout.split()[-1])
         follows(checks, ran.stdout, folder)
 
 
 def shared_point(checks, folder):
-    """The two calls of examples/shared.safl without their unit: 2 cycles, and at least a third less area."""
+    """The two calls of examples/shared.safl without their unit: 2 cycles, and no area for the unit that nothing calls any more."""
     ran = explore(SHARED, "--calls", five(folder), "--out", f"{folder}/shared")
     first, best, *_ = points_of(f"{folder}/shared")
     checks.same("cycles of shared", (6, 2), (first["cycles"], best["cycles"]))
-    checks.true("area of shared", best["ands"] * 3 <= first["ands"] * 2 and best["bits"] * 3 <= first["bits"] * 2)
-    checks.true("the end of shared", "reshaping reaches no others" in ran.stdout)
+    by_hand = written(folder, "by_hand.safl", "fun main(a:8):8 = (a + 1) + (a + 1 + 1)\n")
+    checks.same("area of shared", ands_and_bits(folder, by_hand), (best["ands"], best["bits"]))
+    checks.same("functions of shared", 1, without_comments(read(best["source"])).count("\n"))
+    checks.true("the end of shared", "nothing else promises to be better" in ran.stdout)
     page = read(f"{TOP}/man/safl-explore.1").replace("\\-", "-").replace("\\(en", "-")
     shown = ran.stdout.replace(f"{TOP}/examples/", "").replace(f"{folder}/shared/", "")
     checks.true("the manual page shows what is printed", shown in page)
 
 
+def ands_and_bits(folder, path):
+    """The size of the circuit of a source."""
+    told([PROGRAM, "build", path, f"{folder}/size.v", "--opt"])
+    told([PROGRAM, "aig", f"{folder}/size.v", f"{folder}/size.aag"])
+    _, _, _, latches, _, ands = read(f"{folder}/size.aag").split("\n")[0].split()
+    return int(ands), int(latches)
+
+
 def joined_with_main(checks, folder):
-    """The loop of crc32 is entered by main alone: by hand, with `and main`, it has the figures that are printed."""
-    ran = explore(source_of("crc32"), "--calls", first_call(folder, "crc32"), "--points", "1")
-    line = r"source: main alone enters the loop of bytes\. .* (\d+) cycles .* (\d+) register bits in place of \d+\."
-    found = re.search(line, ran.stdout)
-    checks.true("advice for crc32", found)
-    text = read(source_of("crc32")).replace("fun main", "and main")
-    other = written(folder, "joined.safl", text)
-    values, cycles = replies(other, first_call(folder, "crc32"))
-    report = told([PROGRAM, "report", other]).stdout.split()
-    checks.same("replies with `and main`", calls_of("crc32")[1][:1], values)
-    checks.same("crc32 with `and main`", found and (int(found[1]), int(found[2])), (cycles, int(report[-1])))
+    """The loop of gcd is entered by main alone: by hand, with `and main`, it has the figures of the point that is found."""
+    calls = first_call(folder, "gcd")
+    explore(source_of("gcd"), "--calls", calls, "--out", f"{folder}/joined")
+    point = points_of(f"{folder}/joined")[1]
+    other = written(folder, "joined.safl", read(source_of("gcd")).replace("fun main", "and main"))
+    values, cycles = replies(other, calls)
+    checks.same("the steps of gcd", ["main in the group of gcd"], point["steps"])
+    checks.same("replies with `and main`", calls_of("gcd")[1][:1], values)
+    checks.same("gcd with `and main`", (cycles, *ands_and_bits(folder, other)), (point["cycles"], point["ands"], point["bits"]))
+
+
+def texts(checks, folder):
+    """The tree of each example is written as safl writes it; spans are those of the circuits in which nothing waits."""
+    for name in PAGES:
+        out = f"{folder}/text.safl"
+        if told([PROGRAM, "reshape", source_of(name), out, "--unfold", "1"]).returncode == 0:
+            checks.same(f"the text of {name}", read(out), tree.text_of(tree.read(read(out))))
+        again = written(folder, "again.safl", tree.text_of(tree.read(read(source_of(name)))))
+        checks.same(f"the report of {name}", *(told([PROGRAM, "report", path]).stdout for path in (source_of(name), again)))
+        calls, results = calls_of(name)
+        evaluation = meaning.Evaluation(tree.read(read(again)), 10**6)
+        values, spans = zip(*(evaluation.main(tuple(map(int, line.split()))) for line in calls.splitlines()))
+        checks.same(f"values of {name}", results, list(values))
+        cycles = replies(again, written(folder, f"{name}.calls", calls))[1]
+        arbiters = "arbiter yes" in told([PROGRAM, "report", again]).stdout
+        checks.true(f"spans of {name}", sum(spans) <= cycles if arbiters else sum(spans) == cycles)
+
+
+def by_text(checks, folder):
+    """Steps by text of small sources: their names, and a few of the texts."""
+    for source, wanted in STEPS:
+        found = {how: tree.text_of(program) for how, program in text_steps.text_steps(tree.read(source))}
+        checks.same(f"steps of {source}", list(wanted), list(found))
+        for how, text in wanted.items():
+            if text:
+                checks.same(f"{how} in {source}", text, found[how])
+        for text in found.values():
+            checks.same(f"{text} is accepted", 0, told([PROGRAM, "check", written(folder, "step.safl", text)]).returncode)
 
 
 def inlined(checks, folder):
@@ -187,17 +280,25 @@ def wrong_uses(checks, folder):
         ([SHARED, "--calls", call, "--cycles", "3"], 6, "the calls: no result in 3 cycles"),
         ([SHARED, "--calls", call, "--points", "x"], 2, f"argument --points: {number} (try --help)"),
         ([SHARED, "--calls", call, "--point", "5"], 2, "unrecognized arguments: --point 5 (try --help)"),
-        ([SHARED, "--calls", call, "--plot", "a.pdf"], 2, "a.pdf is neither .svg nor .png"),
+        ([SHARED, "--calls", call, "--plot", "a.gif"], 2, "the picture a.gif does not end with .svg, .png or .pdf"),
         ([SHARED, "--calls", call, "--inline", "g", "--source", out], 2, "there is no function g"),
         ([SHARED, "--calls", call, "--inline", "f"], 2, apart),
         ([copy, "--calls", call, *inline, copy], 2, f"{copy} is read or written already, so nothing is written to it"),
         ([SHARED, "--calls", call, "--inline", "main", "--source", out], 2, of_main),
+        ([SHARED, "--calls", call, "--dsp"], 2, "--device, --dsp and --seed go with --luts or --place"),
+        ([SHARED, "--calls", call, "--luts", "--dsp"], 2, "hx8k has no DSP blocks; up5k and u4k have"),
+        ([SHARED, "--calls", call, "--luts", "--seeds", "3"], 2, "--seeds goes with --place: there is no clock without"),
+        ([SHARED, "--calls", call, "--known", fault], 3, f"{fault} is no file of --known"),
         ([SHARED, "--calls", call, "--safl", f"{folder}/none"], 30, missing),
     )
     for words, status, line in cases:
         ran = told([EXPLORE, "--safl", PROGRAM, *words])
         checks.same(f"safl-explore {words}", (status, f"safl-explore: {line}\n", ""), (ran.returncode, ran.stderr, ran.stdout))
     checks.same("the input is as it was", read(SHARED), read(copy))
+
+
+def wrong_uses_of_place(checks, folder):
+    fault = written(folder, "fault.safl", "fun main(x:8):8 = y\n")
     cases = (
         ([], 2, "the following arguments are required: FILE, --device (try --help)"),
         ([SHARED, "--device", "hx8k", "--bits", f"{folder}/b"], 2, "--bits needs --pins: a bit stream is for a board"),
@@ -230,13 +331,19 @@ def interrupted(checks, folder):
     os.close(master)
     checks.same("status of an interrupt", 130, running.returncode)
     checks.true("the line of an interrupt", b"safl-explore: interrupted: what is above was found until then" in told_last)
-    checks.true("points after an interrupt", output.startswith(" point  cycles"))
+    checks.true("points after an interrupt", re.match(r" *point  cycles", output))
     checks.same("the source's cycles after an interrupt", replies(source_of("clock"), calls)[1], points_of(out)[0]["cycles"])
+
+
+def workers_of(address):
+    """How many workers a scheduler has."""
+    asked = "import sys, distributed; print(len(distributed.Client(sys.argv[1]).nthreads()))"
+    return told([SYSTEM_PYTHON, "-c", asked, address]).stdout.strip()
 
 
 @contextmanager
 def workers(folder):
-    """The address of a scheduler with two workers."""
+    """The address of a scheduler with two workers, and the three processes."""
     quiet = {"cwd": folder, "stdout": subprocess.DEVNULL, "stderr": subprocess.DEVNULL}
     contact = f"{folder}/scheduler.json"
     start = [SYSTEM_PYTHON, "-m", "distributed.cli.dask_scheduler", "--scheduler-file", contact, "--no-dashboard"]
@@ -248,8 +355,10 @@ def workers(folder):
         start = [SYSTEM_PYTHON, "-m", "distributed.cli.dask_worker", "--scheduler-file", contact, "--no-dashboard"]
         start += ["--nthreads", "1", "--no-nanny"]
         running += [subprocess.Popen([*start, "--name", name], **quiet) for name in ("one", "two")]
-        time.sleep(0.5)
-        yield json.loads(read(contact))["address"]
+        address = json.loads(read(contact))["address"]
+        while workers_of(address) != "2" and time.monotonic() < end + 60:
+            pass
+        yield address, running
     finally:
         for each in running:
             each.terminate()
@@ -258,20 +367,38 @@ def workers(folder):
 
 
 def on_cluster(checks, folder):
-    """A cluster finds the same points."""
-    words = [SHARED, "--calls", five(folder), "--out", f"{folder}/cluster"]
-    with workers(folder) as address:
-        end = time.monotonic() + 120
-        ran = explore(*words, "--scheduler", address)
-        while ran.returncode == 30 and time.monotonic() < end:  # the workers are not there yet
-            ran = explore(*words, "--scheduler", address)
-        checks.same(f"status on a cluster: {ran.stderr}", 0, ran.returncode)
-    if ran.returncode == 0:
-        explore(SHARED, "--calls", five(folder), "--out", f"{folder}/alone")
-        found, known = (points_of(f"{folder}/{name}") for name in ("cluster", "alone"))
-        for point in found + known:
-            point.pop("source", None)
-        checks.same("points of a cluster", known, found)
+    """A cluster finds the same points, also if a worker is killed meanwhile."""
+    slow = written(folder, "slow", f'#!/bin/sh\n[ "$1" = aig ] && : >"$0.begun" && sleep 0.5\nexec {shlex.quote(PROGRAM)} "$@"\n')
+    os.chmod(slow, 0o755)
+    words = [EXPLORE, source_of("fir"), "--calls", first_call(folder, "fir"), "--points", "9", "--safl", slow]
+    with workers(folder) as (address, running):
+        with subprocess.Popen(
+            [*words, "--out", f"{folder}/cluster", "--scheduler", address], stdout=subprocess.PIPE, stderr=subprocess.PIPE, text=True,
+        ) as exploring:
+            end = time.monotonic() + 120
+            while not os.path.exists(f"{slow}.begun") and exploring.poll() is None and time.monotonic() < end:
+                time.sleep(0.05)
+            running[-1].kill()
+            _, lines = exploring.communicate(timeout=300)
+    checks.same(f"status on a cluster: {lines}", 0, exploring.returncode)
+    checks.true(f"a lost worker is told: {lines}", "1 of 2 workers lost: their points are tried again" in lines)
+    told([*words, "--out", f"{folder}/alone"])
+    found, known = (points_of(f"{folder}/{name}") for name in ("cluster", "alone"))
+    for point in found + known:
+        point.pop("source")
+    checks.same("points of a cluster", known, found)
+
+
+def known_before(checks, folder):
+    """What a file has of an earlier run is not built again: there is no program that could."""
+    words = [SHARED, "--calls", five(folder), "--known", f"{folder}/known.json"]
+    first = explore(*words)
+    lame = written(folder, "lame", f'#!/bin/sh\n[ "$1" = aig ] && exit 1\nexec {shlex.quote(PROGRAM)} "$@"\n')
+    os.chmod(lame, 0o755)
+    figures = json.loads(read(f"{folder}/known.json"))
+    checks.same("figures of an earlier run", 2, len(figures))
+    checks.same("the same from a file", first.stdout, explore(*words).stdout)
+    checks.true("another program has other figures", told([EXPLORE, *words, "--safl", lame]).returncode)
 
 
 def pictures(checks, folder):
@@ -311,9 +438,10 @@ def placed(checks, folder):
     printed = {}
     for name, device in (("multiply", "hx8k"), ("shared", "up5k"), ("shared", "up5k")):
         ran = place(f"{TOP}/examples/{name}.safl", "--device", device, "--cycles", "6")
-        found = re.fullmatch(r"luts (\d+)\nflip-flops \d+\nmhz ([\d.]+)\ncalls (\d+) a second\n", ran.stdout)
+        found = re.fullmatch(r"luts (\d+)\nflip-flops \d+\nmhz ([\d.]+)\ncalls (\d+) a second\nlongest path (.*)\n", ran.stdout)
         checks.true(f"place of {name}: {ran.stderr}", found)
         checks.true(f"calls a second of {name}", found and abs(int(found[3]) - float(found[2]) * 1e6 / 7) < 1000)
+        checks.true(f"longest path of {name}: {ran.stdout}", found and re.fullmatch(PATH, found[4]))
         checks.same(f"place of {name} once more", printed.setdefault(name, ran.stdout), ran.stdout)
     full = place(source_of("xtea"), "--device", "lp1k")
     checks.true("a circuit that does not fit", full.returncode == 31 and full.stderr.startswith("safl-place: nextpnr-ice40: ERROR"))
@@ -321,13 +449,14 @@ def placed(checks, folder):
 
 def board(folder):
     """The command that makes something of examples/board, in a copy of it."""
-    shutil.copytree(f"{TOP}/examples/crc32", f"{folder}/crc32.copy/crc32", dirs_exist_ok=True)
+    for name in ("crc32", "gcd", "isqrt"):
+        shutil.copytree(f"{TOP}/examples/{name}", f"{folder}/crc32.copy/{name}", dirs_exist_ok=True)
     shutil.copytree(f"{TOP}/examples/board", f"{folder}/crc32.copy/board", dirs_exist_ok=True)
-    return ["make", "-C", f"{folder}/crc32.copy/board", f"SAFL={PROGRAM}", f"PLACE={PLACE}"]
+    return ["make", "-C", f"{folder}/crc32.copy/board", f"SAFL={PROGRAM}", f"WRAP={TOP}/tools/safl-wrap", f"PLACE={PLACE}"]
 
 
 def simulated(checks, folder):
-    """The design of examples/board answers as zlib does."""
+    """The design of examples/board answers as Python does."""
     ran = told([*board(folder), "test"])
     checks.same(f"the test of examples/board: {ran.stderr}", 0, ran.returncode)
 
@@ -351,7 +480,8 @@ def installed(checks, folder):
 
 
 PARTS = (
-    (known_points, ()), (shared_point, ()), (joined_with_main, ()), (inlined, ()), (wrong_uses, ()), (interrupted, ()),
+    (known_points, ()), (shared_point, ()), (joined_with_main, ()), (texts, ()), (by_text, ()), (inlined, ()), (known_before, ()),
+    (wrong_uses, ()), (wrong_uses_of_place, ()), (interrupted, ()),
     (installed, ("make",)), (on_cluster, ("distributed",)), (pictures, ("matplotlib",)), (counted, ("yosys",)),
     (placed, ("yosys", "nextpnr-ice40")), (simulated, ("make", "iverilog")),
     (streamed, ("make", "yosys", "nextpnr-ice40", "icepack")),

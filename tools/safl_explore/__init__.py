@@ -1,2 +1,2 @@
-"""The parts of safl-explore: points and their cost, the search, calls written out, advice, and the picture."""
+"""The parts of safl-explore: trees of sources, steps, what sources cost, the search, calls written out, and what is told."""
 NAME = "safl-explore"

@@ -1,44 +1,39 @@
-"""Loops that main alone enters, in tail position: with `and main` main is in the loop's group, and a call takes a cycle less."""
-import os
-import tempfile
-from dataclasses import astuple, replace
+"""What the source and the calls show that no step does."""
+from safl_explore.estimate import is_number
 
-from safl_explore.definitions import groups, loops, names, tokens
-from safl_explore.points import measured, sites
-from safl_tools import files
+LINES = 5  # so many functions are told at most
 
 
-def joined(found, group):
-    """The source in which main is a member of this group: what is between the two comes before the group."""
-    place, main = found.index(group), found[-1][0]
-    rest = found[:place] + found[place + 1:-1]
-    words = [word for part in [*rest, group] for each in part for word, _ in tokens(each.text)]
-    return " ".join((words[:-1] if words[-1] == ";" else words) + ["and"] + [word for word, _ in tokens(main.text)][1:])
+def advice(program, least, products):
+    """A line for each piece of advice; `products` is what products cost, 0 with DSP blocks."""
+    if products:
+        yield from blocks(program)
+    yield from narrower(program, least)
 
 
-def entered_by_main(safl, path):
-    """For each loop that main alone calls: its names, and the source with main in its group, if that is accepted."""
-    found, calls = groups(files.read(path)), sites(safl, path)
-    if len(found[-1]) > 1:
-        return
-    for group in found[:-1]:
-        callers = {caller for _, callee, caller in calls if callee in names(group)}
-        if not loops(group) or callers != {"main"}:
+def narrower(program, least):
+    """Functions with parameters of which no call fills three quarters, those that spare most first.
+
+    Nothing is changed: other calls may need all bits.
+    """
+    greatest, found = least.greatest(program), []
+    for function in program.functions:
+        words = greatest.get(function.name)
+        if function.name == "main" or not words:
             continue
-        with tempfile.TemporaryDirectory() as folder:
-            other = os.path.join(folder, "joined.safl")
-            files.write(other, joined(found, group))
-            if safl.told("check", other).status == 0:
-                yield [each.name for each in group], files.read(other)
+        needs = [(name, width, max(1, word.bit_length())) for (name, width), word in zip(function.parameters, words)]
+        narrow = [each for each in needs if each[2] <= each[1] * 3 // 4]
+        words = [f"{most} of the {width} bits of {name}" for name, width, most in narrow]
+        found.append((sum(width - most for _, width, most in narrow), f"in these calls {function.name} needs {', '.join(words)}"))
+    for spared, line in sorted(found, key=lambda pair: -pair[0])[:LINES]:
+        if spared:
+            yield f"{line} (only advice: other calls may need more)"
 
 
-def advice(safl, text, task):
-    """The loops of a source that main might join, each with the figures of the source as it is and as it would be."""
-    task = astuple(replace(task, device=None, clock=False))
-    with tempfile.TemporaryDirectory() as folder:
-        path = os.path.join(folder, "point.safl")
-        files.write(path, text)
-        for loop, other in entered_by_main(safl, path):
-            before, after = (measured(each, task) for each in (text, other))
-            if "replies" in before and before["replies"] == after.get("replies"):
-                yield loop, before, after
+def blocks(program):
+    """Functions that multiply and that are shared: a DSP block for each call costs no LUTs."""
+    called = [callee for callee, _ in program.sites]
+    for function in program.functions:
+        multiplies = any(term.word == "*" and not any(map(is_number, term.parts)) for term in function.body.all() if term.kind == "op")
+        if multiplies and called.count(function.name) > 1:
+            yield f"{function.name} multiplies: with DSP blocks its calls need not share it (--luts --device up5k --dsp counts so)"

@@ -1,63 +1,46 @@
 """Writes every call of some functions out, by `safl reshape --unfold`, and then leaves out what nothing calls any more."""
-import os
-import tempfile
-
-from safl_explore.definitions import groups, loops, names, without_uncalled
-from safl_explore.points import replies, sites
-from safl_tools import files
+from safl_explore import tree
+from safl_explore.points import timed
+from safl_explore.reshapings import Reshaping
 from safl_tools.ending import DIFFERENT, WRONG_USE, Refusal
 
 
-def called_from_few(safl, path, fewer):
-    """The functions that are no loop and that fewer than so many sites call, main aside."""
-    called = [callee for _, callee, _ in sites(safl, path)]
-    straight = [each.name for group in groups(files.read(path)) if not loops(group) for each in group]
-    return [name for name in straight if name != "main" and 0 < called.count(name) < fewer]
+def called_from_few(program, fewer):
+    """The functions that are no loop and that fewer than so many sites call."""
+    called = [callee for callee, _ in program.sites]
+    straight = [function.name for function in program.functions if function.name not in program.loops]
+    return [name for name in straight if 0 < called.count(name) < fewer]
 
 
-def refuse_names(text, chosen):
+def refuse_names(program, chosen):
     """Refuses a name that is no function, or one of a function whose calls cannot be written out."""
-    found = {each.name: group for group in groups(text) for each in group}
     for name in chosen:
-        if name not in found:
+        if name not in program.group_of:
             raise Refusal(WRONG_USE, f"there is no function {name}")
         if name == "main":
             raise Refusal(WRONG_USE, "nothing calls main but main itself, so it cannot be written out")
-        if loops(found[name]):
+        if name in program.loops:
             raise Refusal(WRONG_USE, f"{name} calls itself or its group, so its calls cannot be written out")
 
 
-def written_out(safl, path, chosen):
-    """The source with all calls of these functions unfolded, and the sites in the order of the steps."""
-    chain = []
-    with tempfile.TemporaryDirectory() as folder:
-        now = os.path.join(folder, "inlined.safl")
-        files.write(now, files.read(path))
-        while True:
-            site = next((number for number, callee, _ in sites(safl, now) if callee in chosen), None)
-            if site is None:
-                return files.read(now), tuple(chain)
-            safl.text("reshape", now, now, "--unfold", site)
-            chain.append(("unfold", site))
-
-
-def same_replies(safl, text, wanted, calls, limit, what):
+def same_replies(safl, text, wanted, task, what):
     """The cycles of all calls, if the values are those that are wanted."""
-    with tempfile.TemporaryDirectory() as folder:
-        path = os.path.join(folder, "inlined.safl")
-        files.write(path, text)
-        told = replies(safl, path, calls, limit)
-    if [value for value, _ in told] != wanted:
+    told = timed(safl, text, task)
+    if told["replies"] != wanted:
         raise Refusal(DIFFERENT, f"the source {what} gives other replies; please report this")
-    return sum(cycle for _, cycle in told)
+    return told["cycles"]
 
 
-def inlined(safl, path, chosen, calls, limit):
+def inlined(safl, text, chosen, task):
     """The source without these functions: its text, the steps, the names left out, and its cycles after those of the first."""
-    refuse_names(files.read(path), chosen)
-    first = replies(safl, path, calls, limit)
-    wanted, cycles = [value for value, _ in first], sum(cycle for _, cycle in first)
-    text, chain = written_out(safl, path, chosen)
-    same_replies(safl, text, wanted, calls, limit, "with its calls written out")
-    shorter, gone = without_uncalled(text)
-    return shorter, chain, gone, cycles, same_replies(safl, shorter, wanted, calls, limit, "without what nothing calls")
+    refuse_names(tree.read(text), chosen)
+    first = timed(safl, text, task)
+    reshaping = Reshaping(safl, text)
+    reshaping.unfold(chosen)
+    same_replies(safl, reshaping.text, first["replies"], task, "with its calls written out")
+    program = tree.read(reshaping.text)
+    shorter = program.without_unreached()
+    gone = [function.name for function in program.functions if function not in shorter.functions]
+    after = tree.text_of(shorter) if gone else reshaping.text
+    cycles = same_replies(safl, after, first["replies"], task, "without what nothing calls")
+    return after, reshaping.chain, gone, first["cycles"], cycles

@@ -1,24 +1,23 @@
-"""A point is a source with its cost: what it replies to the calls, in how many cycles, and how large its circuit is.
+"""What a source costs: what it replies to the calls, in how many cycles, how many register bits it has, and how large its circuit is.
 
 `measured` may run in another process or on another machine, so it takes and gives plain values only.
 """
 import os
 import re
-import tempfile
 from dataclasses import dataclass
 
 import safl_place
-from safl_explore.definitions import without_uncalled
-from safl_tools import files, outside
-from safl_tools.ending import TOOL_FAILED, Refusal
+from safl_explore import tree
+from safl_explore.estimate import PRODUCT, Guess
+from safl_tools import files, outside, temporary
+from safl_tools.ending import TOOL_FAILED, Refusal, told_of
 
-SITE = re.compile(r"site (\d+) (\w+) in (\w+) kept (?:yes|no)")
 REGISTER_BIT = 8  # a bit of a register counts as much as so many ANDs
 
 
 @dataclass(frozen=True)
 class Task:
-    """How points are measured: the calls, the most cycles of each, the program, and the device and the seed of the placement."""
+    """How sources are measured: the calls, the most cycles of each, the program, and the device and the seeds of the placement."""
 
     calls: str
     limit: int
@@ -26,36 +25,14 @@ class Task:
     device: str = None
     clock: bool = False
     seed: int = 1
-    drop: bool = False  # functions that nothing calls are left out first
-
-
-@dataclass(frozen=True)
-class Point:
-    """A source that was measured, and the chain of reshapings that leads to it: ("unfold" or "copy", site)."""
-
-    text: str
-    chain: tuple
-    figures: dict
+    seeds: int = 1
+    dsp: bool = False
 
     @property
-    def cycles(self):
-        return self.figures["cycles"]
-
-    @property
-    def area(self):
-        """LUTs where they are counted, or else ANDs and register bits."""
-        figures = self.figures
-        return figures["luts"] if "luts" in figures else figures["ands"] + REGISTER_BIT * figures["bits"]
-
-    @property
-    def time(self):
-        """Microseconds of all calls where the clock is known, or else cycles."""
-        return self.cycles / self.figures["mhz"] if self.figures.get("mhz") else self.cycles
-
-
-def sites(safl, path):
-    """The call sites of a source: number, called function, calling function."""
-    return [(int(number), callee, caller) for number, callee, caller in SITE.findall(safl.text("report", path))]
+    def products(self):
+        """What a bit of a row of a product costs: nothing if the device has blocks for products."""
+        has_blocks = self.device and (self.dsp or safl_place.DEVICES[self.device].family == "ecp5")
+        return 0 if has_blocks else PRODUCT
 
 
 def replies(safl, path, script, limit):
@@ -65,6 +42,23 @@ def replies(safl, path, script, limit):
     except Refusal as refusal:
         raise Refusal(refusal.status, f"the calls: {refusal.line}") from None
     return [tuple(map(int, line.split())) for line in lines]
+
+
+def reported(safl, path):
+    """The bits of registers, and the number of call sites that wait for an arbiter."""
+    report = safl.text("report", path)
+    arbitrated = sum(map(int, re.findall(r"^function \w+ sites (\d+) arbiter yes$", report, re.M)))
+    return {"bits": int(re.search(r"^registers \d+ bits (\d+)$", report, re.M)[1]), "arbitrated": arbitrated}
+
+
+def timed(safl, text, task):
+    """What is known of a source before its circuit is built: the replies, the cycles of all calls and what the report says."""
+    with temporary.folder() as folder:
+        path, script = (os.path.join(folder, name) for name in ("point.safl", "calls"))
+        files.write(path, text)
+        files.write(script, task.calls)
+        found, told = reported(safl, path), replies(safl, path, script, task.limit)
+    return {"replies": [value for value, _ in told], "cycles": sum(cycle for _, cycle in told), **found}
 
 
 def bit_level(safl, path, folder):
@@ -81,39 +75,75 @@ def on_device(safl, path, folder, task):
     """The LUTs, the flip-flops and the clock on a device."""
     built = os.path.join(folder, "built.v")
     safl.text("build", path, built, "--opt")
-    options = safl_place.Options(seed=task.seed)
-    counts, megahertz = safl_place.measured([built], safl_place.DEVICES[task.device], options=options, clock=task.clock)
+    device = safl_place.DEVICES[task.device]
+    options = safl_place.Options(seed=task.seed, seeds=task.seeds, dsp=task.dsp)
+    counts, megahertz, path = safl_place.figures([built], device, options=options, clock=task.clock)
+    if counts.dsps > device.dsps:
+        raise Refusal(TOOL_FAILED, f"{counts.dsps} DSP blocks are needed, and {task.device} has {device.dsps}")
     figures = {"luts": counts.luts, "flops": counts.flops}
-    return {**figures, "mhz": megahertz} if megahertz else figures
-
-
-def costs(safl, text, task, folder):
-    """The replies and the figures of a source."""
-    path, script = (os.path.join(folder, name) for name in ("point.safl", "calls"))
-    files.write(path, without_uncalled(text)[0] if task.drop else text)
-    files.write(script, task.calls)
-    told = replies(safl, path, script, task.limit)
-    figures = on_device(safl, path, folder, task) if task.device else bit_level(safl, path, folder)
-    return {"replies": [value for value, _ in told], "cycles": sum(cycle for _, cycle in told), **figures}
+    figures |= {"dsps": counts.dsps} if not task.products else {}
+    return {**figures, "mhz": megahertz, "longest path": path} if megahertz else figures
 
 
 def measured(text, task):
-    """The same as `costs`, for the values of a task; or the status and the line with which a program refuses the source."""
+    """The figures of a source's circuit, for the values of a task; or the status and the line with which a program refuses it."""
     task = Task(*task)
     try:
         safl = outside.safl(task.program if os.access(task.program, os.X_OK) else None)
-        with tempfile.TemporaryDirectory() as folder:
-            return costs(safl, text, task, folder)
-    except Refusal as refusal:
-        return {"status": refusal.status, "line": refusal.line}
-    except OSError as fault:
-        return {"status": TOOL_FAILED, "line": str(fault)}
+        with temporary.folder() as folder:
+            path = os.path.join(folder, "point.safl")
+            files.write(path, text)
+            return on_device(safl, path, folder, task) if task.device else bit_level(safl, path, folder)
+    except Exception as fault:  # pylint: disable=broad-except
+        status, line = told_of(fault)
+        return {"status": status, "line": line}
+
+
+class Point:
+    """A source that was timed: how it came, its cycles and bits, a guess of its area, and its figures once it is built.
+
+    `program` and `text` are what the next step begins with, and `shown` is what is measured and written. `how` has the steps by name, and `chain`
+    what each of them is made of: ("unfold", site), ("copy", site), or ("text", what was done).
+    """
+
+    def __init__(self, program, text, shown, how, chain, before, told, products):
+        self.program, self.text, self.how, self.chain, self.before = program, text, how, chain, before
+        self.shown, self.cycles, self.bits = tree.text_of(shown), told["cycles"], told["bits"]
+        self.guess = Guess(shown, products).ands(told["bits"], told["arbitrated"])
+        self.figures, self.refused, self.continued = None, None, False
+
+    @property
+    def built(self):
+        return self.figures is not None
+
+    def nearest(self):
+        """The nearest source on the way from the first that was built."""
+        return self if self.built else self.before.nearest()
+
+    @property
+    def area(self):
+        """LUTs where they are counted, or else ANDs and register bits. If this is not built, as its guess and the nearest one's say."""
+        near = self.nearest()
+        scale = self.guess / near.guess if self is not near else 1
+        if "luts" in near.figures:
+            return near.figures["luts"] * scale
+        return near.figures["ands"] * scale + REGISTER_BIT * self.bits
+
+    @property
+    def time(self):
+        """Microseconds of all calls where the clock is known, or else cycles."""
+        clock = self.nearest().figures.get("mhz")
+        return self.cycles / clock if clock else self.cycles
+
+    def calls_a_second(self, calls):
+        """How many calls the circuit makes in a second, if so many take its cycles: the next one can begin one cycle after the last."""
+        return int(calls * 1e6 * self.figures["mhz"] / (self.cycles + calls))
 
 
 def unbeaten(points):
     """The points that no other beats, the fastest first: any other one takes more time, or has more area."""
     found = []
-    for point in sorted(points, key=lambda point: (point.time, point.area, len(point.chain), point.chain)):
+    for point in sorted(points, key=lambda point: (point.time, point.area, len(point.chain))):
         if not found or point.area < found[-1].area:
             found.append(point)
     return found

@@ -4,12 +4,13 @@ import re
 
 import safl_place
 from safl_explore import NAME
-from safl_tools import files
-from safl_tools.ending import CANNOT_READ, WRONG_USE, Refusal, Words, count
+from safl_tools import files, pictures
+from safl_tools.ending import WRONG_USE, Refusal
+from safl_tools.words import Words, count
 
 
 def words():
-    parser = Words(NAME, "Look for faster or smaller circuits of a source by `safl reshape`, or write calls out.")
+    parser = Words(NAME, "Look for faster or smaller circuits of a source, or write calls out.")
     parser.add_argument("source", metavar="IN", help="the source")
     add = parser.add_argument
     add("--calls", metavar="FILE", required=True, help="the calls that count, as a script of `safl session`")
@@ -21,19 +22,22 @@ def words():
 
 
 def exploring(add):
-    add("--points", metavar="N", type=count(1, 10**6, "number of points"), default=60, help="measure at most N sources (60)")
+    add("--points", metavar="N", type=count(1, 10**6, "number of points"), default=60, help="build at most N sources (60)")
     add("--seconds", metavar="S", type=count(1, 10**6, "number of seconds"), default=10**6, help="stop after S seconds")
     jobs = count(1, 1024, "number of jobs")
-    add("--jobs", metavar="J", type=jobs, default=os.cpu_count(), help="measure J sources at once (one for each processor)")
+    add("--jobs", metavar="J", type=jobs, default=os.cpu_count(), help="build J sources at once (one for each processor)")
     add("--scheduler", metavar="ADDRESS", help="measure on the Dask cluster with this scheduler, HOST:PORT")
-    add("--drop", action="store_true", help="leave functions that nothing calls any more out of the sources")
+    add("--keep", action="store_true", help="keep functions that main does not reach")
+    add("--known", metavar="FILE", help="take what FILE has of sources that were built before, and add to it")
     add("--luts", action="store_true", help="area is LUTs, by Yosys")
     add("--place", action="store_true", help="area is LUTs, and time is cycles and clock, by Yosys and nextpnr")
     devices = {"metavar": "DEVICE", "choices": safl_place.DEVICES}
     add("--device", **devices, help="the device for --luts and --place (hx8k), as safl-place has it")
+    add("--dsp", action="store_true", help="multiply by the DSP blocks of the device (up5k, u4k); an ECP5 always does")
     add("--seed", metavar="SEED", type=count(0, 2**31 - 1, "seed"), help="the seed of the placement (1)")
-    add("--out", metavar="FOLDER", help="write the sources of the points to FOLDER, and points.json")
-    add("--plot", metavar="PICTURE", help="draw the points, as .svg or .png")
+    add("--seeds", metavar="N", type=count(1, 1000, "number of seeds"), help="with --place: the median clock of N placements (1)")
+    add("--out", metavar="FOLDER", help="write the sources of the points to FOLDER, with points.json and points.md")
+    add("--plot", metavar="PICTURE", help="draw the points, as .svg, .png or .pdf")
 
 
 def inlining(add):
@@ -50,35 +54,33 @@ def checked(chosen):
         raise Refusal(WRONG_USE, "either --inline or --inline-below")
     if inlines != (chosen.result is not None):
         raise Refusal(WRONG_USE, "--source OUT goes with --inline or --inline-below, and neither without it")
-    if inlines and (chosen.out or chosen.plot or chosen.drop or chosen.luts or chosen.place or chosen.scheduler):
+    if inlines and (chosen.out or chosen.plot or chosen.keep or chosen.known or chosen.luts or chosen.place or chosen.scheduler):
         raise Refusal(WRONG_USE, "--inline and --inline-below explore nothing: of the options for that none goes with them")
     if chosen.luts and chosen.place:
         raise Refusal(WRONG_USE, "either --luts or --place")
-    if (chosen.device or chosen.seed is not None) and not (chosen.luts or chosen.place):
-        raise Refusal(WRONG_USE, "--device and --seed go with --luts or --place")
-    kept_apart(chosen)
-    files.read(chosen.source)
-    if not os.path.isfile(chosen.calls):  # it is read more than once, so not a pipe
-        raise Refusal(CANNOT_READ, f"cannot read {chosen.calls}")
-    if not files.read(chosen.calls):
+    if (chosen.device or chosen.dsp or chosen.seed is not None) and not (chosen.luts or chosen.place):
+        raise Refusal(WRONG_USE, "--device, --dsp and --seed go with --luts or --place")
+    if chosen.seeds and not chosen.place:
+        raise Refusal(WRONG_USE, "--seeds goes with --place: there is no clock without")
+    safl_place.refuse_dsp(chosen.device or "hx8k", chosen.dsp)
+    if chosen.plot:
+        pictures.kind(chosen.plot)
+
+
+def opened(chosen):
+    """Reads the inputs, and opens the outputs."""
+    chosen.source, chosen.calls = files.source(chosen.source), files.script(chosen.calls)
+    if not chosen.calls.content:
         raise Refusal(WRONG_USE, f"{chosen.calls} has no call")
-
-
-def kept_apart(chosen):
-    """Refuses outputs that are inputs."""
     inputs = [chosen.source, chosen.calls]
-    files.keep_apart(inputs, [chosen.result, chosen.plot])
+    chosen.before = files.read(chosen.known) if chosen.known and os.path.exists(chosen.known) else "{}"
+    chosen.result, chosen.plot, chosen.known = files.outputs(inputs, [chosen.result, chosen.plot, chosen.known])
     if chosen.out:
-        taken = [path for path in [*inputs, chosen.plot] if path and may_be_written(chosen, path)]
-        files.keep_apart([*inputs, chosen.plot], taken)
+        chosen.out = files.Folder(chosen.out)
+        for name in filter(lambda name: may_be_written(chosen, name), os.listdir(chosen.out.name)):
+            files.keep_apart(inputs, [chosen.out.path(name)])
 
 
-def may_be_written(chosen, path):
+def may_be_written(chosen, name):
     """Whether a file of this name may be written to the folder."""
-    name = re.escape(stem(chosen.source)) + r"\.\d+\.safl|points\.json"
-    inside = os.path.realpath(os.path.dirname(path) or ".") == os.path.realpath(chosen.out)
-    return inside and re.fullmatch(name, os.path.basename(path))
-
-
-def stem(path):
-    return os.path.splitext(os.path.basename(path))[0]
+    return re.fullmatch(re.escape(chosen.source.stem) + r"\.\d+\.safl|points\.(json|md)", name)
