@@ -20,6 +20,7 @@ from dataclasses import dataclass, field
 from files import TOP, examples, read, write, written
 from gallery import PAGES
 from program import built, told
+from wrapper_faults import OF_REGISTERS, OF_STREAM, planted
 
 WRAP = [sys.executable, f"{TOP}/tools/safl-wrap"]
 WITHOUT_PAGE = {
@@ -27,23 +28,10 @@ WITHOUT_PAGE = {
 }
 WIDTHS = (1, 5, 8, 13, 16, 64, 128)  # of transfers with plain names; each example has one of them
 PAUSES = ((1, 0), (2, 50), (3, 85))  # seeds, and in how many cycles of 100 each side pauses
-IN_VERILATOR = {"seven": (), "even_odd": ("--width", "1"), "chacha20": ("--axi", "--width", "32"), "sha256": ()}  # some of all sizes
-# Changes of a wrapper of examples/divide with transfers of 16 bits, each of which a bench has to find.
-FAULTS = (
-    ("~rst & ~(last_in & busy)", "~(last_in & busy)"), ("~rst & ~(last_in & busy)", "~rst"), ("~rst & (done", "(done"),
-    ("(done | waiting)", "done"), ("(done | waiting)", "(done & waiting)"), ("start | (busy & ~over)", "start | (busy & ~done)"),
-    ("start | (busy & ~over)", "start | (busy & ~moves_out)"),
-    ("waiting <= out_valid & ~over", "waiting <= out_valid & ~moves_out"),
-    ("busy <= 1'b0;", "busy <= busy === 1'b1;"), ("waiting <= 1'b0;", "waiting <= waiting === 1'b1;"),
-    ("count_in <= 3'd0;", "count_in <= ^count_in === 1'bx ? 3'd0 : count_in;"),
-    ("count_out <= 3'd0;", "count_out <= ^count_out === 1'bx ? 3'd0 : count_out;"),
-    ("words[127:64]", "words[63:0]"), ("words = {in_data, held}", "words = {held, in_data}"), ("if (moves_in)", "if (in_valid)"),
-    ("if (moves_out)", "if (out_ready)"), ("last_out = count_out == 3'd7", "last_out = count_out == 3'd6"),
-    ("last_in = count_in == 3'd7", "last_in = count_in == 3'd6"), ("out_last = last_out", "out_last = over"),
-    (".rst(rst)", ".rst(1'b0)"),
-    ("16 * count_out +: 16", "16 * count_in +: 16"), (".start(start)", ".start(start | waiting)"),
-)
-VERILATOR = ["verilator", "--cc", "--exe", "--build", "--top-module", "safl_stream"]
+IN_VERILATOR = {
+    "seven": (), "even_odd": ("--width", "1"), "chacha20": ("--axi", "--width", "32", "--last"), "sha256": (), "gcd": ("--axi-lite",),
+}  # some of all sizes
+VERILATOR = ["verilator", "--cc", "--exe", "--build", "--top-module", "wrapper"]
 VERILATOR += ["-MAKEFLAGS", "OPT_FAST=-O0 OPT_SLOW=-O0 OPT_GLOBAL=-O0"]
 SEEDS = 24  # of the pauses with which benches look for a fault
 
@@ -89,7 +77,8 @@ class Test:
     def wrap(self, example, kind, ending, words):
         """Whether the wrapper and its bench are written."""
         bench = ["--bench", kind, "--bench-out", "bench" + ending, "--source", example.path, "--script", "calls"]
-        done = told([*WRAP, "built.v", "--out", "wrapped.v", "--safl", self.program, *bench, *words], self.folder)
+        out = ["--out", "wrapped.v", "--module", "wrapper"]
+        done = told([*WRAP, "built.v", *out, "--safl", self.program, *bench, *words], self.folder)
         self.wrappers += 1
         if done.returncode or done.stdout or done.stderr:
             self.say(f"{example.name} {' '.join(words)}: status {done.returncode}, {done.stderr.strip()}")
@@ -104,7 +93,8 @@ class Test:
         """How many cycles a bench takes, which has to print the results."""
         lines = told(words, self.folder).stdout.splitlines()
         last = re.fullmatch(r"bench: \d+ calls?, results and order as in the session, (\d+) cycles", lines[-1] if lines else "")
-        if not last or lines[:-1] != [str(result) for _, result in example.rows]:
+        shown = [] if "--axi-lite" in what else [str(result) for _, result in example.rows]
+        if not last or lines[:-1] != shown:
             self.say(f"{what}: {lines[-3:]}")
             return None
         return int(last[1])
@@ -137,25 +127,26 @@ class Test:
         what, found = f"{example.name} {' '.join(words)} in Verilator", []
         for seed, stalls in PAUSES:
             self.verilator += 1
-            found.append(self.cycles(what, example, ["obj_dir/Vsafl_stream", str(seed), str(stalls), "show"]))
+            found.append(self.cycles(what, example, ["obj_dir/Vwrapper", str(seed), str(stalls), "show"]))
         shutil.rmtree(self.here("obj_dir"))
         if shutil.which("iverilog") and self.wrap(example, "verilog", ".v", words) and not self.compiled():
             wanted = self.in_icarus(what, example, PAUSES)
             if found != wanted:
                 self.say(f"{what} takes {found} cycles, {wanted} in Icarus Verilog")
 
-    def fault(self, text, old, new):
+    def fault(self, text, what, old, new):
         """Whether a bench finds a change of the wrapper."""
         self.faults += 1
-        if text.count(old) != 1:
+        faulty = planted(text, old, new)
+        if not faulty:
             self.say(f"the wrapper has no {old!r}")
             return
-        write(self.here("wrapped.v"), text.replace(old, new))
+        write(self.here("wrapped.v"), faulty)
         if self.compiled():
             self.say(f"Icarus Verilog refuses {new!r}")
         pauses = [(seed, stalls) for seed in range(SEEDS) for stalls in (45, 90)]
         if not any("FAILED" in told(bench_words(*each), self.folder).stdout for each in pauses):
-            self.say(f"no bench finds {new!r} in place of {old!r}")
+            self.say(f"no bench finds that {what}: {new!r} in place of {old!r}")
 
     def refuse(self, words, status, line):
         """Whether words are refused with a status and a line, and write nothing; without any program, if one has to be missing."""
@@ -173,7 +164,8 @@ def on_examples(test, found):
     for number, example in enumerate(found):
         for place, option in enumerate(((), ("--opt",))):
             test.build(example, option)
-            shapes = ((), ("--axi", "--width", "32")), (("--axi",), ("--width", str(WIDTHS[number % len(WIDTHS)])))
+            narrow = ("--width", str(WIDTHS[number % len(WIDTHS)]))
+            shapes = ((), ("--axi", "--width", "32", "--last"), ("--axi-lite",)), (("--axi", "--last"), narrow)
             for words in shapes[(number + place) % 2]:
                 test.compare(example, option, words)
 
@@ -189,11 +181,41 @@ def in_verilator(test, found, with_all):
 
 def on_faults(test, example):
     """Faulty wrappers."""
+    for words, faults in ((("--width", "8", "--last"), OF_STREAM), (("--axi-lite",), OF_REGISTERS)):
+        test.build(example, ())
+        test.wrap(example, "verilog", ".v", words)
+        text = read(test.here("wrapped.v"))
+        for each in faults:
+            test.fault(text, *each)
+
+
+def on_widths(test, example):
+    """The width of a transfer is a parameter: two wrappers differ in its value alone, but for the comments above them."""
     test.build(example, ())
-    test.wrap(example, "verilog", ".v", ("--width", "16"))
-    text = read(test.here("wrapped.v"))
-    for old, new in FAULTS:
-        test.fault(text, old, new)
+    bodies = []
+    for width in ("8", "13"):
+        printed = told([*WRAP, "built.v", "--width", width, "--last"], test.folder).stdout
+        bodies.append(printed.partition("`default_nettype none")[2].replace(f"WIDTH = {width}", "WIDTH = W"))
+    if bodies[0] != bodies[1] or "WIDTH = W" not in bodies[0]:
+        test.say("wrappers of two widths differ in more than a parameter")
+
+
+def on_two(test, first, second):
+    """Two circuits with wrappers in one design: each bench has to pass beside the other's modules."""
+    files = []
+    for name, example, words in (("one", first, ("--axi",)), ("two", second, ("--axi-lite", "--header", "two.h"))):
+        test.build(example, ())
+        outs = ["--core", name, "--out", f"{name}_wrapper.v", "--bench", "verilog", "--bench-out", f"{name}_bench.v"]
+        told([*WRAP, "built.v", *outs, "--source", example.path, "--script", "calls", "--safl", test.program, *words], test.folder)
+        files += [f"{name}.v", f"{name}_wrapper.v", f"{name}_bench.v"]
+    for name in ("one", "two"):
+        test.icarus += 1
+        complaint = told(["iverilog", "-g2005", "-Wall", "-s", f"{name}_bench", "-o", "bench", *files], test.folder).stderr
+        printed = told(["vvp", "-n", "bench"], test.folder).stdout
+        if complaint or "results and order as in the session" not in printed:
+            test.say(f"two circuits in one design, {name}: {complaint or printed}")
+    if shutil.which("gcc") and told(["gcc", "-Wall", "-Werror", "-fsyntax-only", "-x", "c", "two.h"], test.folder).returncode:
+        test.say("gcc refuses the header")
 
 
 def refusals(source, lines):
@@ -212,9 +234,18 @@ def refusals(source, lines):
         (["built.v", "--module", "begin"], 2, "begin is no name for a module"),
         (["built.v", "--module", "safl"], 2, "the module inside is called safl already (name the wrapper with --module)"),
         (["built.v", "--out", "./built.v"], 2, f"./built.v {taken}"),
-        (["built.v", "--run"], 2, "--bench is missing: verilog or cpp (try --help)"),
+        (["built.v", "--run"], 2, "--run needs --bench or --formal (try --help)"),
+        (["built.v", "--bench-out", "b.v"], 2, "--bench is missing: verilog or cpp (try --help)"),
+        (["built.v", "--axi-lite", "--width", "8", "--out", "o.v"], 2, "--width does not go with --axi-lite (try --help)"),
+        (["built.v", "--header", "o.h", "--out", "o.v"], 2, "--header needs --axi-lite too (try --help)"),
+        (["built.v", "--formal", "p.sv"], 2, "--formal needs --out too (try --help)"),
+        (["built.v", "--core", "c"], 2, "--core needs --out too (try --help)"),
+        (["built.v", "--out", "o.v", "--core", "o"], 2, f"o.v {taken}"),
+        (["built.v", "--out", "o.v", "--core", "wire"], 2, "wire is no name for a module"),
+        (["built.v", "--out", "o.v", "--formal", "p.v"], 2, "the name p.v does not end with .sv (try --help)"),
+        (["built.v", "--out", "o.v", "--formal", "safl.sv"], 2, "safl is no name for a module: choose another --formal"),
         (bench, 2, "--bench needs --source too (try --help)"),
-        ([*calls, "o.v"], 2, f"o.v {taken}"),
+        ([*calls, "wrong", "--out", "wrong"], 2, f"wrong {taken}"),
         ([*calls, "empty"], 2, "empty has no call"),
         ([*cpp, "wrong", "--bench", "verilog"], 2, "the name b.cpp does not end with .v (try --help)"),
         (["built.v", *loop, "--script", "wrong"], 2, "built.v was not built from loop.safl: the ports differ"),
@@ -228,6 +259,7 @@ def refusals(source, lines):
         ([*calls, "wrong"], 8, "wrong: line 2: main takes 2 arguments, 1 given"),
         ([*calls, "wrong", "--safl", "none"], 30, "there is no program none (name it with --safl PROGRAM)"),
         ([*calls, "wrong", "--run"], 30, "the program iverilog is missing (Debian: apt install iverilog)"),
+        (["built.v", "--out", "o.v", "--formal", "p.sv", "--run"], 30, "the program yosys is missing (Debian: apt install yosys)"),
         ([*cpp, "wrong", "--run"], 30, "the program verilator is missing (Debian: apt install verilator)"),
     ]
 
@@ -257,7 +289,9 @@ def main():
         test = Test(folder, built())
         on_refusals(test, named["gcd"])
         if has["iverilog"]:
-            on_faults(test, named["divide"])
+            on_faults(test, named["gcd"])
+            on_two(test, named["gcd"], named["multiply"])
+            on_widths(test, named["divide"])
             on_examples(test, found)
         if has["verilator"]:
             in_verilator(test, found, given.all)

@@ -6,7 +6,7 @@
 //
 // Both sides pause at random: in STALLS of 100 cycles a side that could go on does not. SEED picks the pauses, and the cycle of a
 // second reset, after which all calls are made anew. While nothing is offered to the circuit, its data are random.
-// With show the results are printed that come after the second reset. The status is 1 if the results are not the session's.
+{{frames_note}}// With show the results are printed that come after the second reset. The status is 1 if the results are not the session's.
 #include "V{{wrapper}}.h"
 #include "verilated.h"
 #include <cstddef>
@@ -20,6 +20,7 @@ const long CALLS = {{count}}, IN = {{in_count}}, OUT = {{out_count}};  // calls,
 const long PATIENCE = {{patience}};  // the most cycles in a row without a transfer
 const long AFTER = {{after}};  // the cycles after the last result in which no other one may come
 const long SPAN = {{span}};  // the second reset comes in one of so many cycles
+const bool FRAMED = {{framed}};  // whether there are wrong frames
 
 // What is transferred, in words of 32 bits, the lowest one first.
 const int IN_WORDS = {{in_words}}, OUT_WORDS = {{out_words}}, OUT_WIDTH = {{out_width}};
@@ -85,6 +86,9 @@ class Bench {
     long quiet = 0;  // how many cycles in a row had no transfer
     long finished = 0;  // the cycle of the last result
     bool offered = false;  // whether the next transfer to the circuit is offered
+    long place = 0, length = IN;  // the transfers of the frame since its first one, and all of them
+    bool wrong = false;  // whether the frame is no call
+    bool told = false;  // whether the end of a wrong frame was taken in the last cycle
     bool failed = false;
     Transfer kept = {};  // what was offered from the circuit in the last cycle, and not taken
     unsigned __int128 result = 0;
@@ -99,20 +103,35 @@ class Bench {
         failed = true;
     }
 
+    // Some frames have too few transfers or too many.
+    void frame() {
+        wrong = false;
+        length = IN;
+        if (!FRAMED) return;
+        wrong = draw() % 100 < 30;
+        const long drawn = draw();
+        if (wrong) length = 1 + drawn % (2 * IN);
+        if (wrong && length == IN) length = 2 * IN + 1;
+    }
+
     void offer() {
         const bool goes = draw() % 100 >= stalls;
-        offered = offered || (sent < CALLS * IN && goes);
+        if (!offered && sent < CALLS * IN && goes) {
+            offered = true;
+            if (place == 0) frame();
+        }
         top.{{in_valid}} = offered;
         Word noise[IN_WORDS];
         for (Word& word : noise) word = random * 2654435761u;
         {{put_data}}
+        {{put_last}}
         top.{{out_ready}} = draw() % 100 >= stalls;
     }
 
     void look_at_reset() {
         if (top.{{in_ready}} || top.{{out_valid}}) fail("valid or ready in a reset");
-        sent = got = quiet = finished = 0;
-        offered = false;
+        sent = got = quiet = finished = place = 0;
+        offered = told = false;
         kept = {};
     }
 
@@ -131,10 +150,16 @@ class Bench {
         } else if (now.valid) {
             kept = now;
         }
+        if (FRAMED && {{frame_error}} != told) fail("a wrong frame is not told, or none is");
+        told = false;
         if (offered && top.{{in_ready}}) {
             quiet = 0;
             offered = false;
-            sent++;
+            sent += !wrong;
+            if (++place == length) {
+                told = wrong;
+                place = 0;
+            }
         }
         if (quiet > PATIENCE && got < CALLS * OUT) fail("no transfer for too long");
     }

@@ -2,21 +2,15 @@
 
 The templates bench.v and bench.cpp are the same bench, step by step: with the same seed they do the same in each cycle.
 """
-import os
-import re
+from safl_wrap.templates import filled
+from safl_wrap.verilog import plural
 
-from safl_tools.files import read
-from safl_wrap.stream import plural
-
-FOLDER = os.path.dirname(os.path.abspath(__file__))
 STALLS_MAX = 90
 SPARE = 1000  # random pauses of so many cycles hardly ever come
 AFTER = 100
 
 
-def filled(template, values):
-    """The text of a template of this folder, with values in the places of their names."""
-    return re.sub(r"\{\{(\w+)\}\}", lambda found: str(values[found[1]]), read(os.path.join(FOLDER, template)))
+FRAMES_NOTE = "// Some frames have too few transfers or too many. Each of them has to be told, and to have no result.\n"
 
 
 def common(stream, calls, name, paths, seed, stalls):
@@ -27,6 +21,7 @@ def common(stream, calls, name, paths, seed, stalls):
         "in_count": stream.in_count, "out_count": stream.out_count, "out_width": stream.out_width,
         "patience": max(calls.cycles) + SPARE, "after": AFTER,
         "span": 2 * (stream.in_count + stream.out_count) + calls.cycles[0], "seed": seed, "stalls": stalls,
+        "framed": int(stream.is_framed), "frames_note": FRAMES_NOTE if stream.is_framed else "",
     }
 
 
@@ -43,22 +38,6 @@ def memories(stream, calls):
         yield from assignments("wanted", stream.out_width, stream.transfers_out(result), call * stream.out_count)
 
 
-def joined(stream):
-    """The ports of the wrapper, each with the wire or register of the bench."""
-    names = stream.names
-    yield names.clock, "clk"
-    yield names.reset, "~rst" if stream.axi else "rst"
-    yield names.in_valid, "in_valid"
-    yield names.in_ready, "in_ready"
-    if stream.fields:
-        yield names.in_data, "in_data"
-    yield names.out_valid, "out_valid"
-    yield names.out_ready, "out_ready"
-    yield names.out_data, "out_data"
-    if stream.has_last:
-        yield names.out_last, "out_last"
-
-
 def verilog(stream, calls, name, paths, seed, stalls):
     """A bench for Icarus Verilog."""
     width = max(1, stream.in_width)
@@ -66,7 +45,7 @@ def verilog(stream, calls, name, paths, seed, stalls):
         **common(stream, calls, name, paths, seed, stalls),
         "in_high": width - 1, "out_high": stream.out_width - 1, "whole_high": stream.out_width * stream.out_count - 1,
         "unknown": f"{{{width}{{1'bx}}}}", "words": "\n".join(memories(stream, calls)),
-        "ports": ",\n".join(f"    .{port}({wire})" for port, wire in joined(stream)),
+        "ports": ",\n".join(f"    .{port}({wire})" for _, _, port, wire in stream.ports()),
         "tied": "" if stream.has_last else "  assign out_last = 1;\n",
     })
 
@@ -87,6 +66,8 @@ def cpp(stream, calls, name, paths, seed, stalls):
         **common(stream, calls, name, paths, seed, stalls), **vars(names),
         "reset_value": "!rst" if stream.axi else "rst",
         "in_words": in_words, "out_words": out_words, "given": rows(given, in_words), "wanted": rows(wanted, out_words),
-        "put_data": f"put(top.{names.in_data}, offered ? given[sent] : noise);" if stream.fields else "(void)noise;",
+        "put_data": f"put(top.{names.in_data}, offered && !wrong ? given[sent] : noise);" if stream.fields else "(void)noise;",
+        "put_last": f"top.{names.in_last} = offered ? place == length - 1 : random >> 16 & 1;" if stream.is_framed else "",
+        "frame_error": f"top.{names.error}" if stream.is_framed else "false",
         "is_last": f"top.{names.out_last}" if stream.has_last else "true",
     })

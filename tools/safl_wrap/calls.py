@@ -1,9 +1,8 @@
 """The calls of a script, and what `safl session` replies to them."""
 import os
-import tempfile
 
-from safl_tools.ending import TOOL_FAILED, WRONG_USE, Refusal
-from safl_tools.files import read
+from safl_tools import temporary
+from safl_tools.ending import WRONG_USE, Refusal
 from safl_wrap.module import module, shown
 
 NO_RESULT, NO_CALL = 6, 8  # statuses of `safl`
@@ -13,9 +12,9 @@ class Calls:
     """For each call of a script its arguments, its result, and the cycle of the result."""
 
     def __init__(self, safl, source, script, cycles):
-        self.script = shown(script)
+        self.script = shown(script.name)
         pairs = [tuple(map(int, reply.split())) for reply in replies(safl, source, script, cycles)]
-        lines = read(script).split("\n")[:len(pairs)]
+        lines = script.text.split("\n")[:len(pairs)]
         self.arguments = [[int(word) for word in line.split(" ") if word] for line in lines]
         self.results, self.cycles = [result for result, _ in pairs], [cycle for _, cycle in pairs]
         if not pairs:
@@ -30,13 +29,13 @@ def replies(safl, source, script, cycles):
         raise Refusal(NO_RESULT, f"{script}: line {len(lines)}: {lines[-1]}")
     if told.status:
         line = told.err.strip() or f"safl session ends with {told.status}"
-        raise Refusal(told.status if told.status > 0 else TOOL_FAILED, f"{script}: {line}" if told.status == NO_CALL else line)
+        raise Refusal(told.status, f"{script}: {line}" if told.status == NO_CALL else line)
     return lines[:-1]
 
 
 def same_ports(safl, source, built):
     """Refuses a module that is not built from this source, as far as its ports show it."""
-    with tempfile.TemporaryDirectory() as folder:
+    with temporary.folder() as folder:
         path = os.path.join(folder, "built.v")
         safl.text("build", source, path)
         other = module(path)

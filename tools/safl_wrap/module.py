@@ -6,8 +6,8 @@ import os
 import re
 from dataclasses import dataclass
 
+from safl_tools import files
 from safl_tools.ending import Refusal
-from safl_tools.files import read
 
 NO_MODULE = 7  # the status of `safl` for a file that is none of its own
 
@@ -55,7 +55,7 @@ def port(path, number, line, kind, name):
 
 def module(path):
     """The module in a file. Its ports are read, and each other line has to be of a form that `safl build` writes."""
-    lines = read(path).split("\n")
+    lines = files.read(path).split("\n")
     header = HEADER.fullmatch(lines[0])
     if not header:
         refuse(path, 1)
@@ -69,4 +69,10 @@ def module(path):
             refuse(path, number)
     if lines[-2:] != ["endmodule", ""]:
         refuse(path, len(lines))
-    return Module(shown(path), header[1], tuple(ports[1:-2]), ports[-1].width)
+    return Module(shown(str(path)), header[1], tuple(ports[1:-2]), ports[-1].width)
+
+
+def renamed(text, name):
+    """The text of a built file, with this name for its module."""
+    first, _, rest = text.partition("\n")
+    return f"module {name} ({first.partition(' (')[2]}\n{rest}"

@@ -1,12 +1,12 @@
 """The programs that run benches."""
 import os
-import tempfile
 from dataclasses import dataclass
 from typing import Callable
 
-from safl_tools import outside
+from safl_tools import files, outside, temporary
 from safl_tools.ending import TOOL_FAILED, Refusal
-from safl_wrap import bench
+from safl_wrap import bench, registers_bench
+from safl_wrap.registers import Registers
 
 
 @dataclass(frozen=True)
@@ -14,15 +14,25 @@ class Simulator:
     """A kind of bench: how the file's name ends, what writes its text, and what finds the programs that run it, and runs it."""
 
     ending: str
-    text: Callable
+    of_stream: Callable
+    of_registers: Callable
     tools: Callable
     made: Callable
 
-    def printed(self, paths, top, name):
-        """The status of a bench, and what it prints."""
-        tools = self.tools()
-        with tempfile.TemporaryDirectory() as folder:
-            build, words = self.made(tools, [os.path.abspath(path) for path in paths], top, name, folder)
+    def text(self, wrapper, *given):
+        """The text of a bench of a wrapper."""
+        return (self.of_registers if isinstance(wrapper, Registers) else self.of_stream)(wrapper, *given)
+
+    def printed(self, texts, top, name):
+        """The status of a bench, and what it prints. The texts are those of the bench, of the wrapper and of the module.
+
+        They have plain names in the folder where the programs run: makefiles and shells read names as more than names.
+        """
+        tools, names = self.tools(), (f"bench{self.ending}", "wrapper.v", "module.v")
+        with temporary.folder() as folder:
+            for plain, text in zip(names, texts):
+                files.write(os.path.join(folder, plain), text)
+            build, words = self.made(tools, names, top, name)
             built = outside.Told(build, folder)
             if built.status:
                 lines = (built.err or built.out).strip().split("\n")
@@ -35,22 +45,21 @@ def icarus_tools():
     return outside.tool("iverilog", "iverilog"), outside.tool("vvp", "iverilog")
 
 
-def icarus_made(tools, paths, top, name, folder):
+def icarus_made(tools, names, top, name):
     """What makes a simulation of these files, and the simulation."""
-    made = os.path.join(folder, "made")
-    return [tools[0], "-g2005", "-s", name, "-o", made, *paths], [tools[1], "-n", made]
+    return [tools[0], "-g2005", "-s", name, "-o", "made", *names], [tools[1], "-n", "made"]
 
 
 def verilator_tools():
     return (outside.tool("verilator", "verilator"),)
 
 
-def verilator_made(tools, paths, top, name, folder):
-    build = [*tools, "--cc", "--exe", "--build", "--top-module", top, "--Mdir", folder, "-o", "made", *paths]
-    return build, [os.path.join(folder, "made")]
+def verilator_made(tools, names, top, name):
+    build = [*tools, "--cc", "--exe", "--build", "--top-module", top, "--Mdir", "made", "-o", "bench", *names]
+    return build, ["made/bench"]
 
 
 SIMULATORS = {
-    "verilog": Simulator(".v", bench.verilog, icarus_tools, icarus_made),
-    "cpp": Simulator(".cpp", bench.cpp, verilator_tools, verilator_made),
+    "verilog": Simulator(".v", bench.verilog, registers_bench.verilog, icarus_tools, icarus_made),
+    "cpp": Simulator(".cpp", bench.cpp, registers_bench.cpp, verilator_tools, verilator_made),
 }
