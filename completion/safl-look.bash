@@ -8,7 +8,7 @@ _safl_look() {
         -o | --page | --chart | --safl) compopt -o filenames 2>/dev/null; mapfile -t COMPREPLY < <(compgen -f -- "$word"); return ;;
     esac
     if [[ $word == -* ]]; then
-        mapfile -t COMPREPLY < <(compgen -W "-o --page --chart --cycles --signals --waves --safl --help" -- "$word")
+        mapfile -t COMPREPLY < <(compgen -W "-o --page --chart --cycles --signals --waves --safl --version --help" -- "$word")
         return
     fi
     compopt -o filenames 2>/dev/null

@@ -2,25 +2,17 @@
 from dataclasses import dataclass
 from html import escape
 
-from safl_look.run import ARBITER, ARGUMENT, joined
+from safl_look import looks
+from safl_look.looks import COLOURS, PATTERNS, WAITING, WAITS, WAIT_TEXTS, colour
+from safl_look.run import ARBITER, KINDS, joined
 
-WIDTH, TOP, BAR, LANE, GAP, RIGHT = 900, 26, 20, 10, 12, 12
-LABEL, DIGIT, NAME_MOST = 6.7, 6.1, 18
+WIDTH, TOP, BAR, LANE, GAP, RIGHT = 900, 30, 20, 10, 12, 12
+LABEL, DIGIT, SMALL, NAME_MOST = 6.7, 6.1, 5.4, 28
 STEP_MOST = 60  # the most that a cycle is wide
 THIN = 3  # a row whose bars are thinner on average is summed up
 COLUMN = 6  # how wide a column of such a row is
-LANES_MOST = 12
-KINDS = {ARBITER: "the arbiter", ARGUMENT: "an argument"}
+LANES_MOST = 40  # how many calls that wait at the same time a row has room for
 INK, FAINT, GRID = "#222", "#777", "#e4e4e4"
-# What a bar is filled and drawn with: the first pair for main's call, and the others in turn for the sites.
-COLOURS = (
-    ("#d9dde3", "#5b6675"), ("#c6dbef", "#2f6ea5"), ("#fdd9b0", "#b8681a"), ("#cdebc5", "#3d8b37"), ("#f6c8ca", "#b4373c"),
-    ("#dcd0ea", "#74539b"), ("#bfe6e3", "#2c837e"), ("#f4e6a6", "#927a12"), ("#f3cfe3", "#a8487f"), ("#e0d1c0", "#7d5c3c"),
-)
-
-
-def colour(site):
-    return COLOURS[0] if site == 0 else COLOURS[1 + (site - 1) % (len(COLOURS) - 1)]
 
 
 def number(value):
@@ -97,15 +89,19 @@ def word(x, y, text, more=""):
     return f'<text x="{number(x)}" y="{number(y)}"{more}>{escape(text)}</text>'
 
 
-def pattern(name, site, kind):
-    """Stripes for what waits for an arbiter, dots for what waits for an argument."""
-    light, dark = colour(site)
-    if kind == ARBITER:
-        stripes = f'<path d="M-1,1 L1,-1 M0,5 L5,0 M4,6 L6,4" stroke="{dark}" stroke-width="1.2"/>'
-        inner = f'<rect width="5" height="5" fill="white"/>{stripes}'
-    else:
-        inner = f'<rect width="5" height="5" fill="{light}" fill-opacity="0.5"/><circle cx="2.5" cy="2.5" r="1" fill="{dark}"/>'
-    return f'<pattern id="{name}" width="5" height="5" patternUnits="userSpaceOnUse">{inner}</pattern>'
+def tile(name, pattern, dark, back="none"):
+    """A pattern as an element that can be named."""
+    size = pattern.size
+    return f'<pattern id="{name}" width="{size}" height="{size}" patternUnits="userSpaceOnUse">{looks.drawn(pattern, dark, back)}</pattern>'
+
+
+def holders_text(holders, room):
+    """The sites that a call waits for, as many as there is room for."""
+    texts = [str(site) if site else "main" for site, _ in holders]
+    shown = len(texts)
+    while shown and SMALL * len(" ".join([*texts[:shown], "\u2026"][:len(texts)])) > room:
+        shown -= 1
+    return " ".join([*texts[:shown], "\u2026"][:len(texts)]) if shown else ""
 
 
 class Chart:
@@ -129,11 +125,20 @@ class Chart:
         count = len(self.run.calls[unit])
         return f"{count:,} call{'' if count == 1 else 's'}"
 
-    def fill(self, site, kind):
-        """The pattern of a wait of a site."""
-        name = f"{kind}{COLOURS.index(colour(site))}"
-        self.patterns.setdefault(name, pattern(name, site, kind))
+    def waits_fill(self, site, kind):
+        """What a wait of a site is filled with."""
+        light, dark = colour(site)
+        return self.tiled(f"{kind}-{dark[1:]}", WAITS[kind], dark, "white" if kind == ARBITER else light)
+
+    def tiled(self, name, *pattern):
+        self.patterns.setdefault(name, tile(name, *pattern))
         return f"url(#{name})"
+
+    def over(self, site, x, y, width, height, opacity=0.6):
+        """The pattern of a site over its colour, if it has one."""
+        number, dark = looks.pattern(site), colour(site)[1]
+        fill = self.tiled(f"site{number}-{dark[1:]}", PATTERNS[number], dark)
+        return [rectangle(x, y, width, height, fill, f' opacity="{opacity}"')] if number and width > 2 else []
 
     def is_thin(self, unit):
         calls = self.run.calls[unit]
@@ -146,16 +151,16 @@ class Chart:
 
     def bars(self, unit, y):
         """A bar for each call: pale where the unit only waits for calls, stronger where it works, with a border and a number."""
-        calls, spans = self.run.calls[unit], self.run.busy(unit)
-        for call, (begin, end), works in zip(calls, spans, parted(self.run.working(unit), spans)):
+        calls, spans = self.run.calls[unit], list(self.run.busy(unit))
+        for call, (begin, end), works in zip(calls, spans, parted(list(self.run.working(unit)), spans)):
             light, dark = colour(call.site)
             x, width = self.scale.at(begin), max((end - begin) * self.scale.step - 0.4, 0.6)
             self.parts.append(f"<g><title>{self.told(call)}</title>" + rectangle(x, y, width, BAR, light, ' fill-opacity="0.45"'))
-            self.parts += self.works(works, (begin, end), y, light)
+            self.parts += self.works(works, (begin, end), y, light) + self.over(call.site, x, y, width, BAR)
             border = f' stroke="{dark}" stroke-width="{1 if width > 4 else 0.5}"'
             self.parts.append(rectangle(x, y, width, BAR, "none", border) + "</g>")
             if call.site:
-                self.label(str(call.site), x + width / 2, y, width, dark)
+                self.label(call.site, x + width / 2, y, width)
 
     def works(self, works, span, y, light):
         """Where the unit works in a bar; a mean shade if that is too fine to see."""
@@ -171,13 +176,17 @@ class Chart:
         """Whether the waits of the unit's calls are drawn one by one."""
         return not self.is_thin(unit) and len(self.run.waits[unit]) * THIN <= self.scale.step * self.run.cycles
 
-    def label(self, label, x, y, width, dark):
-        """The number in a bar, if there is room for it."""
-        for size in (11, 9):
-            if width > len(label) * size * 0.6:
-                look = f' text-anchor="middle" font-size="{size}" fill="{dark}" font-weight="bold"'
-                self.parts.append(word(x, y + BAR / 2 + size * 0.36, label, look))
-                return
+    def label(self, site, x, y, width):
+        """The number of a site in a bar, if there is room for it."""
+        label = str(site)
+        size = next((size for size in (11, 9) if width > len(label) * size * 0.6), None)
+        if size is None:
+            return
+        if looks.pattern(site):
+            room = len(label) * size * 0.6 + 4
+            self.parts.append(rectangle(x - room / 2, y + 4, room, BAR - 8, "white", ' fill-opacity="0.85" rx="3"'))
+        look = f' text-anchor="middle" font-size="{size}" fill="{colour(site)[1]}" font-weight="bold"'
+        self.parts.append(word(x, y + BAR / 2 + size * 0.36, label, look))
 
     def column(self):
         """How many columns a row that is summed up has, and how wide each is."""
@@ -190,7 +199,7 @@ class Chart:
         count, wide = self.column()
         runs = shares(joined(self.run.busy(unit)), self.run.cycles, count)
         works = shares(self.run.working(unit), self.run.cycles, count)
-        light, dark = COLOURS[1]
+        light, dark = COLOURS[0]
         for values, fill in ((runs, light), (works, dark)):
             points = [f"{number(self.scale.left)},{number(y + BAR)}"]
             for i, share in enumerate(values):
@@ -204,31 +213,46 @@ class Chart:
         waits = self.run.waits[unit]
         if not self.has_strips(unit):
             return self.wait_columns(waits, y)
-        lanes = laid((wait.begin, wait.end) for wait in waits)
+        lanes = laid(zip(waits.begin, waits.end))
         for wait, lane in zip(waits, lanes):
             if lane < LANES_MOST:
                 self.strip(wait, y + lane * LANE + 1)
-        return min(LANES_MOST, max(lanes, default=-1) + 1)
+        hidden = sum(lane >= LANES_MOST for lane in lanes)
+        if hidden:
+            self.parts.append(word(self.scale.left, y + LANES_MOST * LANE + 9, f"and {hidden:,} more", f' font-size="9" fill="{FAINT}"'))
+        return min(LANES_MOST + 1, max(lanes, default=-1) + 1)
 
     def strip(self, wait, y):
-        """A call that waits, with its site's number if there is room for it."""
-        dark, label = colour(wait.site)[1], str(wait.site)
+        """A call that waits: its site's number, and those that it waits for, where there is room."""
+        (light, dark), label, high = colour(wait.site), str(wait.site), LANE - 1.5
         x, width = self.scale.at(wait.begin), max((wait.end - wait.begin) * self.scale.step - 0.4, 0.6)
-        border = f' stroke="{dark}" stroke-width="0.5"'
-        self.parts.append(rectangle(x, y, width, LANE - 1.5, self.fill(wait.site, wait.kind), border))
-        room = len(label) * 5.4 + 3
+        border, bold = f' stroke="{dark}" stroke-width="0.5"', f' font-size="9" font-weight="bold" fill="{dark}"'
+        self.parts.append(f"<g><title>{escape(self.waits_for(wait))}</title>")
+        self.parts.append(rectangle(x, y, width, high, self.waits_fill(wait.site, wait.kind), border))
+        room = len(label) * SMALL + 4
         if width > room + 6:
-            self.parts.append(rectangle(x + 2, y, room, LANE - 1.5, "white"))
-            self.parts.append(word(x + 3.5, y + 7.4, label, f' font-size="9" font-weight="bold" fill="{dark}"'))
+            self.parts += [rectangle(x, y, room, high, light, border), *self.over(wait.site, x, y, room, high, 0.3)]
+            self.parts.append(word(x + 2, y + 7.4, label, bold))
+            holders = holders_text(wait.holders, width - room - 24)
+            if holders:
+                holders = f"for {holders}"
+                self.parts.append(rectangle(x + room + 4, y, len(holders) * SMALL + 4, high, "white"))
+                self.parts.append(word(x + room + 6, y + 7.4, holders, f' font-size="9" fill="{INK}"'))
+        self.parts.append("</g>")
+
+    def waits_for(self, wait):
+        """What a wait is, in words."""
+        holders = ", ".join(f"{f'site {site}' if site else 'main'} ({count:,})" for site, count in wait.holders)
+        return f"site {wait.site}: waits for {WAIT_TEXTS[wait.kind]} in cycles {wait.begin:,} to {wait.end - 1:,}, for {holders}"
 
     def wait_columns(self, waits, y):
         """Many waits summed up: one lane, the darker the more of its cycles have a call that waits for the arbiter."""
-        spans = joined(sorted((wait.begin, wait.end) for wait in waits if wait.kind == ARBITER))
+        spans = list(joined(waits.spans(ARBITER)))
         count, wide = self.column()
         for i, share in enumerate(shares(spans, self.run.cycles, count)):
             if share > 0.005:
                 look = f' fill-opacity="{number(min(1, share))}"'
-                self.parts.append(rectangle(self.scale.left + i * wide, y + 1, wide, LANE - 1.5, COLOURS[4][1], look))
+                self.parts.append(rectangle(self.scale.left + i * wide, y + 1, wide, LANE - 1.5, WAITING, look))
         return 1 if spans else 0
 
     def row(self, unit, y):
@@ -238,6 +262,18 @@ class Chart:
         (self.columns if self.is_thin(unit) else self.bars)(unit, y)
         return y + BAR + LANE * self.waits(unit, y + BAR) + GAP
 
+    def lost(self):
+        """A line along the axis where a wanted call waits for a unit; the paler the fewer of the cycles it stands for."""
+        spans, found = list(self.run.waiting()), []
+        if len(spans) * THIN <= self.scale.step * self.run.cycles:
+            return [rectangle(self.scale.at(begin), TOP - 8, (end - begin) * self.scale.step, 3, WAITING) for begin, end in spans]
+        count, wide = self.column()
+        for i, share in enumerate(shares(spans, self.run.cycles, count)):
+            if share > 0.005:
+                look = f' fill-opacity="{number(min(1, share))}"'
+                found.append(rectangle(self.scale.left + i * wide, TOP - 8, wide, 3, WAITING, look))
+        return found
+
     def axis(self, bottom):
         """Lines where cycles begin, and their numbers: in the middle of a cycle that is wide, and else on its line."""
         found, step = [], self.scale.step
@@ -246,24 +282,25 @@ class Chart:
             x = number(self.scale.at(cycle))
             found.append(f'<line x1="{x}" x2="{x}" y1="{TOP - 6}" y2="{number(bottom)}" stroke="{GRID}"/>')
             middle = self.scale.at(cycle + 0.5 if step > DIGIT * 2 else cycle)
-            found.append(word(middle, TOP - 11, f"{cycle:,}", f' text-anchor="middle" fill="{FAINT}" font-size="10"'))
+            found.append(word(middle, TOP - 13, f"{cycle:,}", f' text-anchor="middle" fill="{FAINT}" font-size="10"'))
         return found
 
     def kinds(self, is_asked):
         """What calls of these units wait for."""
-        return {wait.kind for unit in self.units if is_asked(unit) for wait in self.run.waits[unit]}
+        return {KINDS[kind] for unit in self.units if is_asked(unit) for kind in set(self.run.waits[unit].kind)}
 
     def keys(self):
         """The lines of the legend: a word, and for each key how it is drawn and what it means."""
-        border = f' stroke="{COLOURS[1][1]}" stroke-width="0.8"'
+        border = f' stroke="{COLOURS[0][1]}" stroke-width="0.8"'
         kinds, summed = self.kinds(self.has_strips), self.kinds(lambda unit: not self.has_strips(unit))
         thin = [self.is_thin(unit) for unit in self.units]
-        keys = [(COLOURS[1][0], border, "works"), (COLOURS[1][0], border + ' fill-opacity="0.45"', "waits for calls")]
-        keys += [(self.fill(1, kind), border, f"a call waits for {what}") for kind, what in KINDS.items() if kind in kinds]
+        keys = [(COLOURS[0][0], border, "works"), (COLOURS[0][0], border + ' fill-opacity="0.45"', "waits for calls")]
+        keys += [(self.waits_fill(1, kind), border, f"a call waits for {what}") for kind, what in WAIT_TEXTS.items() if kind in kinds]
+        keys += [(WAITING, "", "some call waits for an arbiter")] * (ARBITER in kinds)
         found = [] if all(thin) else [("cycles", keys)]
         if any(thin) or summed:
-            keys = [(COLOURS[1][1], "", "works"), (COLOURS[1][0], "", "waits for calls")]
-            keys += [(COLOURS[4][1], "", "a call waits for the arbiter")] * (ARBITER in summed)
+            keys = [(COLOURS[0][1], "", "works"), (COLOURS[0][0], "", "waits for calls")]
+            keys += [(WAITING, "", "a call waits for the arbiter")] * (ARBITER in summed)
             found.append(("shares", keys))
         return found
 
@@ -274,9 +311,12 @@ class Chart:
             x = self.scale.left
             found.append(word(10, y + 9, name, f' fill="{FAINT}" font-size="10"'))
             for fill, more, text in keys:
+                wide = 21 + len(text) * DIGIT
+                if x + wide > self.width and x > self.scale.left:
+                    x, y = self.scale.left, y + 16
                 found.append(rectangle(x, y, 16, 10, fill, more))
                 found.append(word(x + 21, y + 9, text, f' fill="{FAINT}" font-size="10"'))
-                x += 21 + len(text) * DIGIT + 14
+                x += wide + 14
             y += 16
         return found, y
 
@@ -292,4 +332,4 @@ class Chart:
         )
         patterns = "".join(self.patterns[name] for name in sorted(self.patterns))
         back = rectangle(0, 0, self.width, height, "white")
-        return "\n".join([head, f"<defs>{patterns}</defs>", back, *axis, *self.parts, *legend, "</svg>"]) + "\n"
+        return "\n".join([head, f"<defs>{patterns}</defs>", back, *axis, *self.lost(), *self.parts, *legend, "</svg>"]) + "\n"

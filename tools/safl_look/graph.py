@@ -2,7 +2,8 @@
 import re
 import shutil
 
-from safl_look.chart import colour
+from safl_look.looks import colour
+from safl_tools import files
 from safl_tools.ending import TOOL_FAILED, Refusal
 from safl_tools.outside import Told
 
@@ -41,12 +42,11 @@ def drawn(program, folder):
     """The drawing as SVG, and why there is none: one of the two is empty."""
     if len(program.sites) > SITES_MOST:
         return "", f"The graph is left out, since the source has {len(program.sites):,} call sites."
-    if not shutil.which("dot"):
+    dot = shutil.which("dot")
+    if not dot:
         return "", "The graph is left out, since the program dot is missing (Debian: apt install graphviz)."
-    path = f"{folder}/units.dot"
-    with open(path, "w", encoding="utf-8") as file:
-        file.write(text(program))
-    told = Told(["dot", "-Tsvg", path])
+    files.write(f"{folder}/units.dot", text(program))
+    told = Told([dot, "-Tsvg", "units.dot"], folder)
     if told.status:
         raise Refusal(TOOL_FAILED, f"dot ends with {told.status}")
     return re.sub(r"<title>.*?</title>", "", told.out[told.out.index("<svg"):]), ""

@@ -1,9 +1,9 @@
 """What is known of a program before it runs: its functions, units and call sites, from its text and from `safl report`."""
 import re
-from dataclasses import dataclass, field
+from dataclasses import dataclass
 
-from safl_explore.definitions import tokens
-from safl_tools.ending import CANNOT_READ, TOOL_FAILED, Refusal
+from safl_look.expressions import Reader, Tree, number_sites, sites_in
+from safl_tools.ending import TOOL_FAILED, Refusal
 
 FUNCTION = re.compile(r"function (\w+) sites \d+ arbiter (yes|no)")
 SITE = re.compile(r"site (\d+) (\w+) in (\w+) kept (yes|no)")
@@ -11,70 +11,15 @@ REGISTERS = re.compile(r"registers (\d+) bits (\d+)")
 
 
 @dataclass
-class Function:
-    """A function, the name of its unit, and the place of its name in the text."""
-
-    name: str
-    unit: str
-    place: int
-
-
-@dataclass
 class Site:
-    """A call site: the places of the called name and of the end of the call, and the numbers of the sites in its arguments."""
+    """A call site: the call, the numbers of the sites in its arguments, and whether its value is kept."""
 
     number: int
     callee: str
     caller: str
-    place: int
-    end: int = 0
-    inside: list = field(default_factory=list)
+    call: Tree
+    inside: list
     kept: bool = False
-
-
-def functions_of(words):
-    """The functions of a checked source, by name, in text order. `fun` begins a unit, and `and` adds a member."""
-    found, unit = {}, None
-    for (word, _), (name, place) in zip(words, words[1:]):
-        if word == "fun":
-            unit = name
-        if word in ("fun", "and"):
-            found[name] = Function(name, unit, place)
-    return found
-
-
-def sites_of(words, functions):
-    """The call sites of a checked source in text order: calls of a function of another unit."""
-    found, brackets, caller = [], [], None
-    for i, (word, place) in enumerate(words):
-        if word in ("fun", "and"):
-            caller = functions[words[i + 1][0]]
-        elif word == "(":
-            name, begin = words[i - 1]
-            if name in functions and functions[name].unit != caller.unit:
-                site = Site(len(found) + 1, name, caller.name, begin)
-                for outer in filter(None, brackets):
-                    outer.inside.append(site.number)
-                found.append(site)
-                brackets.append(site)
-            else:
-                brackets.append(None)
-        elif word == ")":
-            site = brackets.pop()
-            if site:
-                site.end = place + 1
-    return found
-
-
-def looping(words, functions):
-    """The units in which a function calls one of its own unit."""
-    found, caller = set(), None
-    for (before, _), (word, _), (after, _) in zip(words, words[1:], words[2:]):
-        if before in ("fun", "and"):
-            caller = functions[word]
-        elif after == "(" and word in functions and functions[word].unit == caller.unit:
-            found.add(caller.unit)
-    return found
 
 
 class Program:
@@ -82,14 +27,24 @@ class Program:
 
     def __init__(self, text, report):
         self.text = text
-        words = tokens(text)
-        self.functions = functions_of(words)
-        self.sites = sites_of(words, self.functions)
-        self.loops = looping(words, self.functions)
+        self.functions = Reader(text).functions()
+        numbered = number_sites(self.functions)
+        self.sites = [Site(call.site, call.word, caller, call, sites_in(call.parts)) for call, caller in numbered]
         self.units = list(dict.fromkeys(function.unit for function in self.functions.values()))
+        self.by_unit, self.into, self.out_of = ({unit: [] for unit in self.units} for _ in range(3))
+        self.add_names()
+        self.loops = {function.unit for function in self.functions.values() if self.has_tail_call(function.body, function.unit)}
         self.arbiters = {self.functions[name].unit for name, answer in FUNCTION.findall(report) if answer == "yes"}
         self.registers, self.bits = (int(word) for word in REGISTERS.search(report).groups())
         self.add_plan(SITE.findall(report))
+
+    def add_names(self):
+        """For each unit its functions, the sites that call it, and the sites in its bodies."""
+        for function in self.functions.values():
+            self.by_unit[function.unit].append(function.name)
+        for site in self.sites:
+            self.into[self.unit_of(site.number)].append(site.number)
+            self.out_of[self.caller_of(site.number)].append(site.number)
 
     def add_plan(self, lines):
         """Takes over which sites are kept. The sites of the report are those of the text."""
@@ -99,8 +54,13 @@ class Program:
         for site, (*_, kept) in zip(self.sites, lines):
             site.kept = kept == "yes"
 
+    def has_tail_call(self, tree, unit):
+        """Whether an expression calls a function of this unit, its own."""
+        is_own = tree.kind == "call" and self.functions[tree.word].unit == unit
+        return is_own or any(self.has_tail_call(part, unit) for part in tree.parts)
+
     def members(self, unit):
-        return [function.name for function in self.functions.values() if function.unit == unit]
+        return self.by_unit[unit]
 
     def unit_of(self, number):
         """The unit that a site calls; site 0 is the call of main from outside."""
@@ -111,13 +71,8 @@ class Program:
         return self.functions[self.sites[number - 1].caller].unit
 
     def sites_called_by(self, unit):
-        return [site.number for site in self.sites if self.functions[site.caller].unit == unit]
+        return self.out_of[unit]
 
-
-def read_source(path):
-    """The text of a source. Comments may hold any bytes."""
-    try:
-        with open(path, encoding="utf-8", errors="replace", newline="") as file:
-            return file.read()
-    except OSError:
-        raise Refusal(CANNOT_READ, f"cannot read {path}") from None
+    def sites_of(self, unit):
+        """The sites that call a unit."""
+        return self.into[unit]
