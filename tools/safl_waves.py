@@ -1,20 +1,19 @@
-#!/usr/bin/env python3
-"""Draws waveforms: waves.py TRACE.vcd [--signals NAME,NAME,..] [--cycles FIRST-LAST] [--period P] [--at O] >OUT.svg
+"""Waveforms of a value change dump, as a picture or as lines.
 
-A trace is a value change dump. Signals of one bit are drawn as lines, others as boxes with their values, in decimal if
-none of them has more than ten digits, and else in hexadecimal, as 0x.. All signals are drawn if none are named, and all cycles if no range is given. Cycle c
-shows the values at time c * P + O; P is 1 and O is 0 if they aren't given, as in the traces of `safl`.
+Signals of one bit are drawn as lines, others as boxes with their values, in decimal if none of them has more than ten digits, and else
+in hexadecimal, as 0x.. Cycle c shows the values at time c * P + O; P is 1 and O is 0 if they aren't given, as in the dumps of `safl`.
 """
 import argparse
 import bisect
 import html
 import re
-import sys
 
-from files import read
-from given import a_file
-from program import script
+from safl_tools import files, pictures
+from safl_tools.ending import WRONG_USE, Refusal
+from safl_tools.words import Words, count
 
+NAME = "safl-waves"
+DUMP_MOST = 1 << 29  # the most bytes of a dump
 ROW, HIGH, LEFT_CHARACTER, CHARACTER, TOP = 26, 16, 7.3, 6.7, 24
 DECIMALS_MOST = 10
 INK, LIGHT, UNKNOWN, FILL = "#222", "#ddd", "#e8c9c9", "#eef3fa"
@@ -153,36 +152,65 @@ def drawing(trace, names, numbers, times):
     return "\n".join(found + ["</svg>"]) + "\n"
 
 
-def trace_of(path):
-    """The trace in a file, or the end of the script if it is none."""
-    text = read(path)
-    if "$enddefinitions" not in text:
-        sys.exit(f"{script()}: {path} is no value change dump")
-    return Trace(text)
+def trace_of(dump):
+    """The trace in a file."""
+    try:
+        if "$enddefinitions" in dump.text:
+            return Trace(dump.text)
+    except (StopIteration, LookupError, ValueError):
+        pass
+    raise Refusal(WRONG_USE, f"{dump} is no value change dump")
+
+
+def changes(trace, names, numbers, times):
+    """A line for each cycle: the signals whose values differ from those of the cycle before, with their values. Before the first all
+    are 0."""
+    old = dict.fromkeys(names, 0)
+    for number, time in zip(numbers, times):
+        new = {name: trace.value(name, time) for name in names}
+        yield f"#{number}" + "".join(f" {name}={'?' if new[name] is None else new[name]}" for name in names if new[name] != old[name])
+        old = new
+
+
+def cycle_range(word):
+    found = re.fullmatch(r"(\d{1,10})-(\d{1,10})", word, re.ASCII)
+    if not found or int(found[1]) > int(found[2]):
+        raise argparse.ArgumentTypeError(f"{word} is no range of cycles FIRST-LAST")
+    return int(found[1]), int(found[2])
+
+
+def words():
+    parser = Words(NAME, "Draw the waveforms of a value change dump, or print what changes in each cycle.", calls_safl=False)
+    add, time = parser.add_argument, count(0, 10**9, "time")
+    add("dump", metavar="DUMP.vcd", help="what `safl sim --vcd` or a simulator wrote")
+    add("-o", "--out", metavar="OUT.svg", help="the file for the picture (else it is printed)")
+    add("--text", action="store_true", help="print a line for each cycle: which signals change, and to what")
+    add("--signals", metavar="NAME,NAME,..", help="the signals that are shown, in this order (all)")
+    add("--cycles", metavar="FIRST-LAST", type=cycle_range, help="the cycles that are shown, both counted in (all)")
+    add("--period", metavar="P", type=count(1, 10**9, "number of units"), default=1, help="units of time in a cycle (1)")
+    add("--at", metavar="O", type=time, default=0, help="the time in a cycle at which its values are taken (0)")
+    return parser
 
 
 def main():
-    parser = argparse.ArgumentParser(description="Draws waveforms of a value change dump as SVG.")
-    parser.add_argument("trace", type=a_file, metavar="TRACE.vcd")
-    parser.add_argument("--signals", metavar="NAME,NAME,..", help="the signals to draw, in this order")
-    parser.add_argument("--cycles", metavar="FIRST-LAST", help="the cycles to draw, both counted in")
-    parser.add_argument("--period", type=int, default=1, metavar="P", help="units of time in a cycle")
-    parser.add_argument("--at", type=int, default=0, metavar="O", help="the time in a cycle at which its values are taken")
-    words = parser.parse_args()
-    trace = trace_of(words.trace)
-    names = words.signals.split(",") if words.signals else list(trace.widths)
+    chosen = words().parse_args()
+    if chosen.text and chosen.out:
+        raise Refusal(WRONG_USE, "--text prints, and -o is for a picture")
+    if chosen.out:
+        pictures.ready(chosen.out)
+    chosen.dump = files.Input(chosen.dump, "dump.vcd", DUMP_MOST)
+    chosen.out, = files.outputs([chosen.dump], [chosen.out])
+    trace = trace_of(chosen.dump)
+    names = chosen.signals.split(",") if chosen.signals else list(trace.widths)
     for name in names:
         if name not in trace.widths:
-            sys.exit(f"waves: there is no signal {name}")
-    last = max(0, (trace.end - 1 - words.at) // words.period)
-    if words.cycles and not re.fullmatch(r"\d+-\d+", words.cycles):
-        parser.error(f"{words.cycles} is no range of cycles")
-    first, last = (int(word) for word in words.cycles.split("-")) if words.cycles else (0, last)
-    if last < first:
-        sys.exit("waves: no cycle to draw")
+            raise Refusal(WRONG_USE, f"there is no signal {name}")
+    first, last = chosen.cycles or (0, max(0, (trace.end - 1 - chosen.at) // chosen.period))
     numbers = range(first, last + 1)
-    sys.stdout.write(drawing(trace, names, numbers, [c * words.period + words.at for c in numbers]))
-
-
-if __name__ == "__main__":
-    main()
+    times = [number * chosen.period + chosen.at for number in numbers]
+    if chosen.text:
+        print("\n".join(changes(trace, names, numbers, times)))
+    elif chosen.out:
+        chosen.out.write(pictures.of_svg(chosen.out.name, drawing(trace, names, numbers, times)))
+    else:
+        print(drawing(trace, names, numbers, times), end="")
