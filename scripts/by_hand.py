@@ -7,8 +7,12 @@
                                      the program P. Cycles are those of `safl sim` and, by hand, of Icarus Verilog; LUTs and
                                      flip-flops are counted after Yosys, and the clock is that of a placement by nextpnr-ice40
                                      (tools/safl-place). With --counts there is no placement, and so no clock
+
+A figure has the digest of the Verilog file that was measured, so a change of the source and one of the compiler are both seen. The
+files are built by the program, crates/safl/out/safl or the one that SAFL names; without one the figures are taken as they are.
 """
 import argparse
+import functools
 import hashlib
 import json
 import os
@@ -18,12 +22,12 @@ import sys
 import tempfile
 
 import yosys
-from bench import bench
 from files import TOP, read, text, write, written
-from program import is_there, told
+from program import PROGRAM, is_there, told
 
 sys.path.insert(0, f"{TOP}/tools")
 import safl_place  # noqa: E402
+from safl_bench import bench  # noqa: E402
 from safl_tools.ending import Refusal  # noqa: E402
 
 FOLDER = f"{TOP}/examples/by_hand"
@@ -41,6 +45,9 @@ ARGUMENTS = {
     "crc32": ("65392825175610104412735799271089255690",),
     "xtea": ("4702111234474983745", "5233100606242806050955395731361295"),
     "aes": ("5233100606242806050955395731361295", "88962710306127702866241727433142015"),
+    "ghash": ("0", "4979866387932366862903413117310042744", "136792598789324718765670228683992083246"),
+    "viterbi": ("5628060998392814238509416781057528230",),
+    "float_div": ("1065353216", "1077936128"),
 }
 
 
@@ -52,8 +59,22 @@ def path_of(name, version):
     return f"{FOLDER}/{name}{'_tuned.safl' if version == TUNED else '.v'}"
 
 
-def digest_of(path):
-    return hashlib.sha256(read(path).encode()).hexdigest()[:16]
+def versions_of(name):
+    """The versions of a circuit: one that is written by the advice of docs/GUIDE.md from the beginning has no tuned source."""
+    return [version for version in VERSIONS if os.path.exists(path_of(name, version))]
+
+
+@functools.cache
+def digest_of(name, version, program):
+    """The digest of the Verilog file of a version: the one by hand, or the one that the program builds; nothing without a program."""
+    path = path_of(name, version)
+    if version == HAND:
+        return hashlib.sha256(read(path).encode()).hexdigest()[:16]
+    if not is_there(program):
+        return None
+    with tempfile.TemporaryDirectory() as folder:
+        checked(told([program, "build", path, f"{folder}/built.v", "--opt"]), "build")
+        return hashlib.sha256(read(f"{folder}/built.v").encode()).hexdigest()[:16]
 
 
 def store():
@@ -98,7 +119,7 @@ def measured(program, name, version, has_clock):
             ran = checked(told([program, "sim", path, "--cycles", str(LIMIT), *arguments]), "sim")
             result, cycle = ended(ran, path)
         counts, clock = safl_place.measured([file], safl_place.DEVICES[DEVICE], options=safl_place.Options(seed=SEED), clock=has_clock)
-    figures = {"digest": digest_of(path), "result": result, "cycle": cycle, "luts": counts.luts, "flip-flops": counts.flops}
+    figures = {"digest": digest_of(name, version, program), "result": result, "cycle": cycle, "luts": counts.luts, "flip-flops": counts.flops}
     return figures | ({"mhz": clock} if has_clock else {})
 
 
@@ -110,14 +131,14 @@ def tools():
 
 
 def figures_of(kept, name, version):
-    """The figures of a version, or nothing if they are missing or were taken of another text."""
-    there, path = kept["circuits"].get(name, {}).get(version), path_of(name, version)
-    return there if there and os.path.exists(path) and there["digest"] == digest_of(path) else {}
+    """The figures of a version, or nothing if they are missing or were taken of another file."""
+    there = kept["circuits"].get(name, {}).get(version)
+    return there if there and digest_of(name, version, PROGRAM) in (None, there["digest"]) else {}
 
 
 def to_take(kept, wanted="mhz"):
     """The versions that have no such figure."""
-    return [(name, version) for name in ARGUMENTS for version in VERSIONS if wanted not in figures_of(kept, name, version)]
+    return [(name, version) for name in ARGUMENTS for version in versions_of(name) if wanted not in figures_of(kept, name, version)]
 
 
 def measure(program, names, has_clock):
@@ -126,7 +147,7 @@ def measure(program, names, has_clock):
     lacking = yosys.lacks("yosys", "nextpnr-ice40", "iverilog")
     if lacking:
         fail(f"{lacking} is missing")
-    chosen = [(name, version) for name in names for version in VERSIONS] or to_take(store(), "mhz" if has_clock else "luts")
+    chosen = [(name, version) for name in names for version in versions_of(name)] or to_take(store(), "mhz" if has_clock else "luts")
     for name, version in chosen:
         print(f"by_hand: measures {name}, {version}", flush=True)
         figures, kept = measured(program, name, version, has_clock), store()
@@ -160,12 +181,13 @@ def tables(kept):
     used = kept["tools"]
     lines = ["| circuit | version | cycle | LUTs | flip-flops | MHz |", "|---|---|---|---|---|---|"]
     for name in ARGUMENTS:
-        for version in VERSIONS:
+        for version in versions_of(name):
             cells = [cell(figures_of(kept, name, version), key) for key in ("cycle", "luts", "flip-flops", "mhz")]
             lines.append(f"| {name if version == PLAIN else ''} | {version} | {' | '.join(cells)} |")
-    lines += ["", "Tuned against by hand:", ""]
+    lines += ["", "Tuned, or as written where there is no tuned source, against by hand:", ""]
     lines += ["| circuit | cycles more | LUTs, times | MHz by hand, times | flip-flops, times |", "|---|---|---|---|---|"]
-    lines += [against(name, figures_of(kept, name, TUNED), figures_of(kept, name, HAND)) for name in ARGUMENTS]
+    best = {name: TUNED if TUNED in versions_of(name) else PLAIN for name in ARGUMENTS}
+    lines += [against(name, figures_of(kept, name, best[name]), figures_of(kept, name, HAND)) for name in ARGUMENTS]
     lines += ["", f"LUTs and flip-flops of the module alone, by Yosys {used['Yosys']} (`synth_ice40`); the clock is that of a placement"
               f" on an {used['device']} by nextpnr-ice40 {used['nextpnr-ice40']} with the seed {used['seed']} (`tools/safl-place`)."]
     return lines
@@ -188,7 +210,8 @@ def write_page(is_check):
         write(PAGE, wanted)
     elif page != wanted:
         print("by_hand: the page has other tables")
-    print(f"by_hand: {len(ARGUMENTS)} circuits, {len(VERSIONS) * len(ARGUMENTS) - len(missing)} versions with all figures")
+    count = sum(len(versions_of(name)) for name in ARGUMENTS)
+    print(f"by_hand: {len(ARGUMENTS)} circuits, {count - len(missing)} versions with all figures")
     return 1 if is_check and page != wanted else 0
 
 

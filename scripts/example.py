@@ -21,13 +21,14 @@ CASE_ROWS, CASE_CYCLES = 3, 400  # the runs that are cases of safl_cases: so man
 
 @dataclass(frozen=True)
 class Row:
-    """A run: its title, main's arguments, the result, the numbers of calls and of tail calls, and the cycle of done."""
+    """A run: its title, main's arguments, the result, the numbers of calls and of tail calls, the span, and the cycle of done."""
 
     title: str
     args: list
     result: int
     calls: int
     tails: int
+    span: int
     cycle: int
 
     @property
@@ -81,11 +82,11 @@ class Example:
             self.limit *= 10
 
     def row(self, title, args, result):
-        value, calls, tails = meaning(self.program, args, CALLS_MAX)
-        found, cycle = result_of(self.circuit, args, 2 * calls + 1)
-        row = Row(title, args, result, calls, tails, cycle)
-        if (value, found) != (result, result) or cycle > row.bound:
-            given = f"the library gives {result:#x}, the meaning {value:#x}, the circuit {found:#x} in cycle {cycle}"
+        meant = meaning(self.program, args, CALLS_MAX)
+        found, cycle = result_of(self.circuit, args, meant.latest + 1)
+        row = Row(title, args, result, meant.calls, meant.tails, meant.span, cycle)
+        if (meant.value, found) != (result, result) or not row.span <= cycle <= row.bound:
+            given = f"the library gives {result:#x}, the meaning {meant.value:#x}, the circuit {found:#x} in cycle {cycle}"
             sys.exit(f"{self.name}, {title}: {given}")
         return row
 

@@ -9,10 +9,10 @@
     examples.py --units             draws the units of each example with Graphviz, to units.svg in its folder
     examples.py --waves P [--check] draws the run of each page from what the program P writes: the chart run.svg (tools/safl-look)
                                     and the waveforms waves.svg, and those of shared.safl; with --check it says which differ
-    examples.py --measure P [X..]   has Yosys and nextpnr place the examples that have no figures, or those that are named
-                                    (tools/safl-place), and writes examples/measured.json
+    examples.py --measure P [X..]   has Yosys and nextpnr place the examples that have no figures of what the program P builds, or those
+                                    that are named (tools/safl-place), and writes examples/measured.json
 
-Results come from scripts/references.py, that is from Python's own libraries, from published vectors, or from the same said in another
+Results come from scripts/references/, that is from Python's own libraries, from published vectors, or from the same said in another
 way; cycles, numbers of calls, arbiters, kept sites and registers from scripts/oracle, which works by docs/ alone. A result of the
 oracle that isn't the library's is an error. Figures that other tools make are read from examples/measured.json.
 """
@@ -33,12 +33,12 @@ from example import CALLS_MAX, Example, meaning
 from files import TOP, read, write, written
 from gallery import DRAWS, PAGES, SUBJECTS, WAVES
 from program import ended, told
-from waves import Trace, drawing
+from safl_waves import Trace, drawing
 
 CASES = f"{TOP}/crates/safl_cases/data/examples.case"
 INDEX = f"{TOP}/examples/README.md"
 PASSES = [(version, has_clock) for has_clock in (False, True) for version in ("as written", "by hand", "faster", "copies")]
-OTHER_FOLDERS = {"by_hand", "board"}  # those that are no examples of their own
+OTHER_FOLDERS = {"by_hand", "board", "cipher_stream", "coprocessor"}  # those that are no examples of their own
 LOOK = os.environ.get("SAFL_LOOK", f"{TOP}/tools/safl-look")
 SHARED = "start in$a go$1 go$2 run$f arg$f$x res$f ret$1 ret$2 keep$1 run$main done result".split()  # the signals of shared.svg
 
@@ -140,11 +140,20 @@ def labels(example):
     return sorted(found)
 
 
+def slower(examples, store):
+    """The faster sources that make fewer calls a second for their LUTs."""
+    for example in examples:
+        if example.faster:
+            before, after = (pages.calls_for_area(example, store, version) for version in ("as written", "faster"))
+            if before and after and before >= after:
+                yield f"{example.name}: the faster source makes no more calls a second for each LUT"
+
+
 def check(examples):
     """Whether everything that needs no tool is as it should be. Figures that are still to be made are empty cells, and no fault."""
     target, store = Target(True), measured.Store()
     write_pages(examples, target)
-    faults = list(stale_pictures(examples))
+    faults = list(stale_pictures(examples)) + list(slower(examples, store))
     for fault in faults:
         print(f"examples: {fault}")
     missing = [f"{each.name} {version}" for each, version, text in figures_wanted(examples) if not store.figures(each.name, version, text)]
@@ -160,14 +169,21 @@ def measure_one(program, example, version, text, has_clock):
     return measured.placed_source(program, text, has_clock)
 
 
+def is_known(store, program, example, version, text, has_clock):
+    """Whether there are figures of what the program builds now, with a clock if it is wanted."""
+    there = store.figures(example.name, version, text)
+    if not there or has_clock and there.fits is None:
+        return False
+    return version == measured.BY_HAND or measured.is_built_so(there, program, text)
+
+
 def measure(examples, program, names):
     """Places or synthesises what has no figures yet, or all versions of the examples that are named, in the order of PASSES."""
     store, wanted = measured.Store(), list(figures_wanted(examples))
     for chosen, has_clock in PASSES:
         for example, version, text in wanted:
-            there = store.figures(example.name, version, text)
-            known = there and (not has_clock or there.fits is not None)
-            if version == chosen and (example.name in names if names else not known):
+            asked = example.name in names if names else version == chosen and not is_known(store, program, example, version, text, has_clock)
+            if version == chosen and asked:
                 store.put(example.name, version, measure_one(program, example, version, text, has_clock))
     store.keep({(example.name, version) for example, version, _ in wanted})
     return 0
@@ -231,8 +247,8 @@ def compare_drawn(examples, program, count, seed):
         for _ in range(count if example.name in DRAWS else 0):
             answer, _ = PAGES[example.name]
             title, args, result = answer(*DRAWS[example.name](drawing_from))
-            _, calls, tails = meaning(example.program, args, CALLS_MAX)
-            words = [program, "sim", example.path, "--cycles", str(2 * calls - tails + 1)] + [str(a) for a in args]
+            latest = meaning(example.program, args, CALLS_MAX).latest
+            words = [program, "sim", example.path, "--cycles", str(latest + 1)] + [str(a) for a in args]
             printed = told(words).stdout.splitlines()
             tried += 1
             if printed[:1] != [f"result {result}"]:

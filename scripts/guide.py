@@ -5,7 +5,7 @@
     guide.py P --check   writes nothing, says what differs, and ends with 1 if something does; empty cells are no difference
     guide.py P --luts    counts LUTs too, by Yosys (tools/safl-place), where they are missing
 
-A row names a source and arguments: | title | [name](file) | arguments | cycle | register bits | ANDs | LUTs |
+A row names a source and arguments, those above 64 bits in hexadecimal: | title | [name](file) | arguments | cycle | register bits | ANDs | LUTs |
 The table of registers, between its marker lines, is worked out by scripts/oracle.
 """
 import argparse
@@ -23,10 +23,11 @@ from program import is_there, told
 sys.path[:0] = [f"{TOP}/tools", f"{TOP}/scripts/oracle"]
 import language  # noqa: E402
 import safl_place  # noqa: E402
+from safl_tools.numbers import decimal  # noqa: E402
 from circuit import Circuit  # noqa: E402
 
 PAGE = f"{TOP}/docs/GUIDE.md"
-ROW = re.compile(r"^\| ([^|]*) \| (\[[^|]*\]\(([^|)]*\.safl)\)) \| ([\d ]*) \|" + r" ([\d,]*) \|" * 4 + "$")
+ROW = re.compile(r"^\| ([^|]*) \| (\[[^|]*\]\(([^|)]*\.safl)\)) \| ([\da-fx ]*) \|" + r" ([\d,]*) \|" * 4 + "$")
 LIMIT, DEVICE = "100000", "hx8k"
 
 
@@ -44,7 +45,7 @@ def printed(*words):
 def figures(program, path, arguments):
     """Cycle, bits of registers, and ANDs of the circuit that `build --opt` writes."""
     with tempfile.TemporaryDirectory() as folder:
-        ran = printed(program, "sim", path, "--cycles", LIMIT, *arguments)
+        ran = printed(program, "sim", path, "--cycles", LIMIT, *map(decimal, arguments))
         report = printed(program, "report", path)
         printed(program, "build", path, f"{folder}/built.v", "--opt")
         printed(program, "aig", f"{folder}/built.v", f"{folder}/built.aag")

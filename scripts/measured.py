@@ -1,7 +1,8 @@
 """Figures of the gallery that other tools make: LUTs, flip-flops and the clock, by tools/safl-place.
 
 They stand in examples/measured.json, so that the pages can be written and checked without the tools. Each has the digest of the
-text that was measured, so a figure of another text is seen.
+text that was measured, so a figure of another text is seen, and that of the file that was built of it, so that one of another program
+is seen too.
 """
 import hashlib
 import json
@@ -12,13 +13,14 @@ import sys
 import tempfile
 from dataclasses import asdict, dataclass, replace
 
-import bench
 from files import TOP, read, write, written
 from program import told
+from safl_bench import bench
 
 STORE = f"{TOP}/examples/measured.json"
 PLACE = os.environ.get("SAFL_PLACE", f"{TOP}/tools/safl-place")
 DEVICE, DEVICE_NAME, SEED = "hx8k", "iCE40 HX8K", 1
+DSP_DEVICE, DSP_DEVICE_NAME, DSP_BLOCKS = "up5k", "iCE40 UP5K", 8
 TOOL_FAILED = 31
 BY_HAND = "by hand"
 
@@ -33,6 +35,8 @@ class Figures:
     mhz: float = None
     fits: bool = None
     cycle: int = None  # that of done in the page's longest run, where no other program can tell it
+    built: str = None  # the digest of the built file
+    dsp: dict = None  # LUTs, flip-flops and DSP blocks on a device that has them, where the circuit multiplies by any
 
 
 def digest_of(text):
@@ -94,19 +98,42 @@ def placed(path, digest, has_clock):
     return replace(figures, mhz=round(float(value["mhz"]), 1), fits=True) if has_clock else figures
 
 
+def built(program, source, room):
+    """The file that the program builds of a source."""
+    path = f"{room}/built.v"
+    ended = told([program, "build", written(room, "source.safl", source), path, "--opt"])
+    if ended.returncode:
+        sys.exit(f"examples: {ended.stderr.strip()}")
+    return path
+
+
+def is_built_so(figures, program, source):
+    """Whether the figures are those of the file that this program builds of the source."""
+    with tempfile.TemporaryDirectory() as room:
+        return figures.built == digest_of(read(built(program, source, room)))
+
+
 def placed_source(program, source, has_clock):
     """That of the file that the program builds of a source."""
     with tempfile.TemporaryDirectory() as room:
-        ended = told([program, "build", written(room, "source.safl", source), f"{room}/built.v", "--opt"])
-        if ended.returncode:
-            sys.exit(f"examples: {ended.stderr.strip()}")
-        return placed(f"{room}/built.v", digest_of(source), has_clock)
+        path = built(program, source, room)
+        dsp = with_dsp(path) if "*" in source else None
+        return replace(placed(path, digest_of(source), has_clock), built=digest_of(read(path)), dsp=dsp)
+
+
+def with_dsp(path):
+    """The cells on a device with DSP blocks, if the circuit takes any of them."""
+    found = told([sys.executable, PLACE, path, "--device", DSP_DEVICE, "--dsp", "--counts"])
+    if found.returncode:
+        sys.exit(f"examples: {found.stderr.strip()}")
+    value = dict(re.findall(r"^(luts|flip-flops|dsp blocks) (\d+)$", found.stdout, re.M))
+    return {name: int(each) for name, each in value.items()} if "dsp blocks" in value else None
 
 
 def placed_by_hand(path, args, limit, has_clock):
     """That of a file that was written by hand, with its cycle of done by Icarus Verilog."""
     with tempfile.TemporaryDirectory() as room:
-        test = written(room, "bench.v", bench.bench(read(path), limit, args))
+        test = written(room, "bench.v", bench(read(path), limit, args))
         subprocess.run(["iverilog", "-o", f"{room}/simulated", test, path], check=True)
         cycle = re.search(r"^cycle (\d+)$", told(["vvp", "-n", f"{room}/simulated"]).stdout, re.M)
     return replace(placed(path, digest_of(read(path)), has_clock), cycle=int(cycle[1]))

@@ -2,8 +2,8 @@
 import os
 
 from files import TOP
-from gallery import FASTER, SUBJECTS, WAVES
-from measured import DEVICE_NAME
+from gallery import ALL_PUBLIC, FASTER, PUBLIC, SUBJECTS, WAVES
+from measured import DEVICE_NAME, DSP_BLOCKS, DSP_DEVICE_NAME
 
 HEXADECIMAL_FROM = 256  # a number from here on is written in hexadecimal too
 PLACED = (
@@ -102,15 +102,50 @@ def tools_line(store):
 NAMES = {"as written": "as written", "copies": "with copies instead of arbiters", "faster": "faster, as below"}
 
 
+def calls(figures, cycle):
+    """The calls a second, one after another, if there is a clock."""
+    return figures.mhz * 1e6 / (cycle + 1) if figures and figures.mhz and cycle else None
+
+
+def calls_for_area(example, store, version):
+    """The calls a second of the longest run, for each LUT."""
+    for name, text, cycle in versions_of(example):
+        figures = store.figures(example.name, name, text)
+        rate = calls(figures, cycle)
+        if name == version and rate:
+            return rate / figures.luts
+    return None
+
+
+def rounded(number):
+    """A number with three digits that count, as a cell of a table, which is empty without one."""
+    return f"{float(f'{number:.3g}'):,.0f}" if number else ""
+
+
 def area_block(example, store):
     rows = []
     for version, text, cycle in versions_of(example):
         figures = store.figures(example.name, version, text)
-        rows.append((NAMES[version], cycle, *cells_of(figures)))
+        rows.append((NAMES[version], cycle, *cells_of(figures), rounded(calls(figures, cycle))))
     if example.by_hand():
         figures = store.by_hand(example)
-        rows.append(("[by hand](../by_hand/README.md)", figures.cycle if figures else "", *cells_of(figures)))
-    return table(("circuit", "cycle of the longest run", "LUTs", "flip-flops", "MHz"), rows) + ["", tools_line(store)]
+        cycle = figures.cycle if figures else ""
+        rows.append(("[by hand](../by_hand/README.md)", cycle, *cells_of(figures), rounded(calls(figures, cycle))))
+    head = ("circuit", "cycle of the longest run", "LUTs", "flip-flops", "MHz", "calls a second")
+    return table(head, rows) + [""] + dsp_lines(example, store) + [tools_line(store)]
+
+
+def dsp_lines(example, store):
+    """The cells on a device with DSP blocks, if the example takes any."""
+    rows = []
+    for version, text, _ in versions_of(example):
+        figures = store.figures(example.name, version, text)
+        if figures and figures.dsp:
+            rows.append((NAMES[version], *(f"{figures.dsp[name]:,}" for name in ("luts", "flip-flops", "dsp blocks"))))
+    if not rows:
+        return []
+    what = f"On a device with DSP blocks, as the {DSP_DEVICE_NAME}, which has {DSP_BLOCKS} (`safl-place --dsp`):"
+    return [what, ""] + table(("circuit", "LUTs", "flip-flops", "DSP blocks"), rows) + [""]
 
 
 def cells_of(figures):
@@ -139,6 +174,7 @@ def faster_block(example, store):
     rows = [
         ("cycles", span([row.cycle for row in example.rows]), span(cycles)), ("bits of registers", example.bits, faster.bits),
         *((name, *pair) for name, *pair in zip(("LUTs", "flip-flops", "MHz"), cells_of(before), cells_of(after))),
+        ("calls a second for each LUT", *(rounded(calls_for_area(example, store, version)) for version in ("as written", "faster"))),
     ]
     return steps(example) + table(("", "before", "after"), rows)
 
@@ -169,6 +205,14 @@ def by_hand_cell(example, store):
     return f"{figures.cycle} cycles, {figures.luts:,} LUTs, {clock_of(figures)} MHz" if figures else ""
 
 
+def secret_cell(example):
+    """The parameters of which the time tells nothing, as `safl-time` finds them."""
+    public = PUBLIC.get(example.name, ())
+    if example.name in ALL_PUBLIC or len(public) == len(example.program.main.params):
+        return ""
+    return f"all but {', '.join(f'`{name}`' for name in public)}" if public else "all"
+
+
 def index_block(examples, store):
     """The table of all examples by subject."""
     by_name = {example.name: example for example in examples}
@@ -178,12 +222,17 @@ def index_block(examples, store):
         for name in names:
             example = by_name[name]
             figures = store.figures(name, "as written", example.source)
-            luts, _, mhz = cells_of(figures)
+            luts, flops, mhz = cells_of(figures)
+            dsp = f"{figures.dsp['luts']:,} and {figures.dsp['dsp blocks']}" if figures and figures.dsp else ""
             shared = ", ".join(f"`{example.circuit.unit_name(group)}`" for group in sorted(example.circuit.plan.arbiters))
             title, cycles = f"[{example.title}]({name}/README.md)", span([row.cycle for row in example.rows])
-            rows.append((title, shared, cycles, luts, mhz, by_hand_cell(example, store)))
-        lines += [f"### {subject}", ""] + table(("circuit", "shared unit", "cycles", "LUTs", "MHz", "by hand"), rows) + [""]
-    return lines + [tools_line(store)]
+            spans = span([row.span for row in example.rows])
+            rows.append((title, shared, cycles, spans, secret_cell(example), luts, flops, dsp, mhz, by_hand_cell(example, store)))
+        head = ("circuit", "shared unit", "cycles", "span", "constant time for", "LUTs", "flip-flops", "LUTs and DSP blocks", "MHz", "by hand")
+        lines += [f"### {subject}", ""] + table(head, rows) + [""]
+    what = f"LUTs and DSP blocks are those on an {DSP_DEVICE_NAME}, which has {DSP_BLOCKS} such blocks, of the circuits that take any."
+    time = "The span is the cycle in which a circuit would be done if no call waited; with a constant time the cycle tells nothing of these arguments."
+    return lines + [f"{tools_line(store)} {what} {time}"]
 
 
 def picture_of(example, name):
