@@ -2,8 +2,9 @@
 """Checks that the documents have the numbers that the repository has, and no other ones: a row of docs/CRATES.md for each crate; the
 cases by file, in docs/CASES.md, and of all, there and in README.md; the definitions that the contract of
 `run` reaches, in docs/TRUSTED.md, as scripts/trusted.py prints them, and their number in README.md; and README.md's figures of size
-and speed, which have to be those of the tables of docs/SPEED.md. Also checks that no link leads nowhere (scripts/links.py). --write
+and speed, which have to be those of the tables of docs/SPEED.md and of examples/by_hand/figures.json. Also checks that no link leads nowhere (scripts/links.py). --write
 puts the numbers into the documents; what is then still missing is printed."""
+import json
 import re
 import sys
 
@@ -17,9 +18,8 @@ FIGURES = [
     ("`build` of 900 functions with calls", "{} for {} signals", [("`build`", ["900 functions with calls"]), ("signals", ["900 functions with calls"])]),
     ("a cycle of `sim`, one multiplication without an end", "{} ns", [("`sim`, ns a cycle", ["one multiplication without an end"])]),
     ("a cycle of `sim`, 900 functions with calls", "{} ns", [("`sim`, ns a cycle", ["900 functions with calls"])]),
-    ("gates of gcd, by `build` and by hand", "{} and {}", [("gates", ["gcd", "`build`"]), ("gates", ["gcd", "by hand"])]),
-    ("flip-flops of gcd, by `build` and by hand", "{} and {}", [("flip-flops", ["gcd", "`build`"]), ("flip-flops", ["gcd", "by hand"])]),
 ]
+BY_HAND = (("circuits against Verilog by hand, tuned", "tuned"), ("the same circuits, as written first", "as written"))
 
 
 def crates():
@@ -70,6 +70,18 @@ def figures(page):
     """What each of README.md's figures is, and its line by docs/SPEED.md."""
     for what, form, found in FIGURES:
         yield what, f"| {what} | {form.format(*(measured(page, *place) for place in found))} |"
+    for what, version in BY_HAND:
+        yield what, f"| {what} | {against_hand(version)} |"
+
+
+def against_hand(version):
+    """What a version of the circuits of examples/by_hand costs against the files by hand, from the least to the most."""
+    kept = json.loads(text("examples/by_hand/figures.json"))["circuits"].values()
+    circuits = [each for each in kept if {"as written", "tuned", "by hand"} <= each.keys()]
+    more = [each[version]["cycle"] - each["by hand"]["cycle"] for each in circuits]
+    luts, flops = ([each[version][what] / each["by hand"][what] for each in circuits] for what in ("luts", "flip-flops"))
+    return (f"{min(more)} to {max(more)} cycles more, {min(luts):.2f} to {max(luts):.2f} times the LUTs,"
+            f" {min(flops):.1f} to {max(flops):.1f} times the flip-flops")
 
 
 def definitions(readme, page):
@@ -96,7 +108,7 @@ def missing():
     yield from definitions(readme, text("docs/TRUSTED.md"))
     for _, line in figures(text("docs/SPEED.md")):
         if line not in readme:
-            yield f"README.md does not say '{line}', which docs/SPEED.md has"
+            yield f"README.md does not say '{line}', as the figures are"
     yield from links.broken()
 
 
@@ -120,7 +132,7 @@ def main():
     for line in found:
         print(f"numbers: {line}")
     if not found:
-        print(f"numbers: the documents have {len(crates())} crates, {cases()[1]:,} cases, {trusted.in_words()} and {len(FIGURES)} figures")
+        print(f"numbers: the documents have {len(crates())} crates, {cases()[1]:,} cases, {trusted.in_words()} and {len(FIGURES) + len(BY_HAND)} figures")
     sys.exit(1 if found else 0)
 
 

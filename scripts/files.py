@@ -1,8 +1,10 @@
-"""The folder of the repository, and texts in files."""
+"""The folder of the repository, and texts in files. Scripts that import this may import the modules of tools/ too."""
 import glob
 import os
+import sys
 
 TOP = os.path.dirname(os.path.dirname(os.path.abspath(__file__)))
+sys.path.append(f"{TOP}/tools")
 
 
 def read(path):
@@ -30,5 +32,13 @@ def written(folder, name, text):
 def examples():
     """The names and files of the sources of examples/, but for those of by_hand, which are tuned forms of others."""
     paths = sorted(glob.glob(f"{TOP}/examples/*.safl") + glob.glob(f"{TOP}/examples/*/*.safl"))
-    paths = [path for path in paths if os.path.basename(os.path.dirname(path)) != "by_hand"]
+    return named(path for path in paths if os.path.basename(os.path.dirname(path)) != "by_hand")
+
+
+def tuned():
+    """The same of the tuned forms."""
+    return named(sorted(glob.glob(f"{TOP}/examples/by_hand/*.safl")))
+
+
+def named(paths):
     return [(os.path.basename(path).removesuffix(".safl"), path) for path in paths]

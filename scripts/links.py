@@ -1,5 +1,7 @@
 #!/usr/bin/env python3
-"""Says which links of README.md, docs/ and examples/ lead to no file of the repository, or to no heading of its page."""
+"""Says which links of README.md, CHANGES.md, docs/, examples/ and editors/ lead to no file of the repository, or to no heading of its page.
+
+With a folder, such as PREFIX/share/doc/safl, it follows the links of the pages there."""
 import glob
 import os
 import re
@@ -26,14 +28,15 @@ def anchors(path):
     return {anchor(line) for line in re.findall(r"^#+ (.*)$", without_code(read(path)), re.M)}
 
 
-def pages():
-    return [f"{TOP}/README.md", *sorted(glob.glob(f"{TOP}/docs/**/*.md", recursive=True) + glob.glob(f"{TOP}/examples/**/*.md", recursive=True)
-                                       + glob.glob(f"{TOP}/editors/**/*.md", recursive=True))]
+def pages(top):
+    """The pages of the folders that are installed."""
+    found = [path for folder in ("docs", "examples", "editors") for path in glob.glob(f"{top}/{folder}/**/*.md", recursive=True)]
+    return sorted(glob.glob(f"{top}/*.md") + found)
 
 
-def broken():
-    """A line for each link that leads nowhere."""
-    for page in pages():
+def broken(top=TOP):
+    """A line for each link that leads nowhere, or out of the folder."""
+    for page in pages(top):
         text = re.sub(r"`[^`\n]*`", "", without_code(read(page)))
         for link in LINK.findall(text):
             if re.match(r"\w+:", link):
@@ -41,14 +44,17 @@ def broken():
             path, _, part = link.partition("#")
             there = os.path.normpath(os.path.join(os.path.dirname(page), path)) if path else page
             if not os.path.exists(there):
-                yield f"{os.path.relpath(page, TOP)}: {link} is no file"
+                yield f"{os.path.relpath(page, top)}: {link} is no file"
+            elif os.path.relpath(there, top).startswith(".."):
+                yield f"{os.path.relpath(page, top)}: {link} leads out of the folder"
             elif part and (not there.endswith(".md") or part not in anchors(there)):
-                yield f"{os.path.relpath(page, TOP)}: {link} is no heading"
+                yield f"{os.path.relpath(page, top)}: {link} is no heading"
 
 
 def main():
-    parser(__doc__).parse_args()
-    found = list(broken())
+    reader = parser(__doc__)
+    reader.add_argument("folder", metavar="FOLDER", nargs="?", default=TOP, help="a folder with installed pages")
+    found = list(broken(os.path.abspath(reader.parse_args().folder)))
     for line in found:
         print(f"links: {line}")
     sys.exit(1 if found else 0)

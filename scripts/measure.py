@@ -12,9 +12,9 @@ import subprocess
 import sys
 import tempfile
 
-from bench import bench
 from files import read, written
 from program import NO_RESULT, PROGRAM, Ended, ended, told
+from safl_bench import bench
 
 SECONDS_ENOUGH = 0.1
 RUNS = 25

@@ -6,7 +6,9 @@
 # told to make for this comparison. One session has to draw the picture of examples/mandelbrot (scripts/picture.py). Traces have to be those of Icarus
 # Verilog, for both files, and vcd2fst has to read them; the pictures of waveforms have to be drawn from them. The circuits of
 # examples/by_hand have to give the same results, and so have the tuned sources there (scripts/by_hand.py). A refusal has to come on standard error. The arguments of the gallery are
-# those of scripts/examples.py, which also looks at its pages and cases. The last line says how much was compared, and what is
+# those of scripts/examples.py, which also looks at its pages and cases. The whole designs there have benches of their own (make test). What
+# safl-time prints has to be what the runs show (scripts/timing.py, scripts/same_time.py). The edges of tools/ are tried by
+# scripts/tools_edges.py, which is not run here. The last line says how much was compared, and what is
 # missing. The program is built if it is missing (SAFL names another one).
 set -u
 cd "$(dirname "$0")/.." || exit 1
@@ -44,9 +46,9 @@ knows() {
 
 # What Icarus Verilog prints for a file with this limit of cycles and these arguments.
 simulate() {
-    local file=$1
-    shift
-    python3 scripts/bench.py "${dump[@]}" "$file" "$@" >"$folder/bench.v" &&
+    local file=$1 limit=$2
+    shift 2
+    tools/safl-bench "$file" "${dump[@]}" --cycles "$limit" "$@" >"$folder/bench.v" &&
         iverilog -o "$folder/simulated" "$folder/bench.v" "$file" &&
         vvp -n "$folder/simulated" | grep -v -e 'finish called' -e 'VCD info'
 }
@@ -154,6 +156,18 @@ compare() {
     done
 }
 
+# Runs the test benches of a whole design, if the tools are there: design NAME TOOL..
+design() {
+    local name=$1 tool
+    shift
+    for tool in make python3 "$@"; do
+        has "$tool" || return
+    done
+    tried=$((tried + 1))
+    SAFL=$program make -s -C "examples/$name" test >"$folder/log" 2>&1 || say "the design in examples/$name: $(tail -n 1 "$folder/log")"
+    make -s -C "examples/$name" clean >/dev/null
+}
+
 skipped=""
 options=("")
 dump=()
@@ -192,6 +206,10 @@ if has python3; then
     compare_bits
     [ ${#options[@]} -eq 1 ] || python3 scripts/verilator.py "$program" || say "scripts/verilator.py finds a difference"
 fi
+design board iverilog
+design ws2812 iverilog
+design cipher_stream iverilog
+design coprocessor iverilog verilator cc
 if has yosys && has berkeley-abc && has python3; then
     python3 scripts/bits.py --products || say "the products of scripts/products.v are not those of Yosys"
 fi
@@ -204,8 +222,16 @@ fi
 if has python3; then
     SAFL=$program python3 scripts/tutorial.py || say "a command of the documents prints something else"
     for script in scripts/tools_*.py; do
+        [ "$script" = scripts/tools_edges.py ] && continue
         SAFL=$program python3 "$script" || say "$script finds a difference"
     done
+    timer=$(realpath -m "${SAFL_TIME:-crates/safl_time/out/safl_time}")
+    if [ -x "$timer" ]; then
+        python3 scripts/same_time.py "$program" --time "$timer" --pairs 3 || say "a secret changes the time of a circuit"
+        SAFL=$program SAFL_TIME=$timer python3 scripts/timing.py --count 100 || say "safl-time tells another time"
+    else
+        skipped="$skipped, SKIPPED safl-time"
+    fi
 fi
 for name in iverilog yosys verilator vcd2fst berkeley-abc python3; do
     has "$name" || skipped="$skipped, SKIPPED $name"

@@ -1,13 +1,14 @@
 #!/usr/bin/env python3
-"""Compares a trace of the program with one that Icarus Verilog wrote in the bench of scripts/bench.py.
+"""Compares a trace of the program with one that Icarus Verilog wrote in the bench of tools/safl-bench.
 
 Every signal of the first has to have the same value in the second one in every cycle, and the second may have no other signals.
 The status is 1 if one differs, and the first difference is printed.
 """
 import sys
 
+from files import read
 from given import a_file, parser
-from waves import trace_of
+from safl_waves import Trace
 
 PERIOD, FIRST = 2, 2  # the values of cycle c stand at time PERIOD * c + FIRST in the bench
 
@@ -29,7 +30,7 @@ def main():
     reader.add_argument("trace", type=a_file, metavar="TRACE.vcd")
     reader.add_argument("icarus", type=a_file, metavar="ICARUS.vcd")
     given = reader.parse_args()
-    found = difference(*(trace_of(path) for path in (given.trace, given.icarus)))
+    found = difference(*(Trace(read(path)) for path in (given.trace, given.icarus)))
     if found:
         print(f"same_traces: {found}")
     return 1 if found else 0

@@ -18,7 +18,7 @@ The first line of a block says what it is:
 
 In a manual page the lines from .nf to .fi are a console. Commands have to end with status 0. Those whose tool is missing, or
 there in another version, are SKIPPED; so is a command that begins with the name of a tool with windows. A file of docs/tutorial/,
-but for pictures of pixels (.png), has to be the one of its name that was put or made in the folder of the tutorial. The status is 0
+but for pictures of pixels (.png), has to be the one of its name that was put or made on a page of the tutorial that names it. The status is 0
 if nothing differs.
 """
 import difflib
@@ -33,8 +33,9 @@ from files import TOP, read, write
 from given import parser
 from program import built
 
-PAGES = ["README.md", "docs/TUTORIAL.md", "docs/COMMANDS.md", "docs/LANGUAGE.md", "docs/VERILOG.md", "docs/AIGER.md", "man/safl.1"]
-TUTORIAL = "docs/TUTORIAL.md"
+PAGES = ["README.md", "docs/TUTORIAL.md", "docs/TUTORIAL_TOOLS.md", "docs/COMMANDS.md", "docs/LANGUAGE.md", "docs/VERILOG.md", "docs/AIGER.md", "man/safl.1",
+         "man/safl-explain.1", "man/safl-bench.1", "man/safl-waves.1", "docs/INTEGRATION.md"]
+TUTORIALS = ("docs/TUTORIAL.md", "docs/TUTORIAL_TOOLS.md")
 COPIES = f"{TOP}/docs/tutorial"
 SECONDS = 600
 VERSIONS = {"yosys": "-V", "iverilog": "-V", "vvp": "-V", "nextpnr-ice40": "--version", "verilator": "--version"}
@@ -175,7 +176,7 @@ class Run:
 
     def copies(self, writes):
         for name in sorted(os.listdir(COPIES)) if os.path.isdir(COPIES) else []:
-            if name.endswith(".png"):
+            if name.endswith(".png") or name not in read(f"{TOP}/{self.page}"):
                 continue
             made = f"{self.folder}/{name}"
             if not os.path.exists(made):
@@ -227,7 +228,7 @@ def follow_page(name, program, writes):
         for number, got in printed.items():
             if number < 0 or not writes:
                 run.compare(f"line {abs(number)}: what is printed", texts[number] if number > 0 else "", got)
-        if name == TUTORIAL:
+        if name in TUTORIALS:
             run.copies(writes)
     if writes:
         write(f"{TOP}/{name}", written(name, page, blocks, printed))

@@ -1,7 +1,7 @@
 #!/usr/bin/env python3
 """Makes a program of a Verilog file with Verilator, at its highest level of optimisation.
 
-OUT CYCLES [ARG..] simulates the circuit as scripts/bench.py does, two evaluations a cycle, and prints the same lines.
+OUT CYCLES [ARG..] simulates the circuit as tools/safl-bench does, two evaluations a cycle, and prints the same lines.
 """
 import os
 import re

@@ -13,11 +13,11 @@ import subprocess
 import sys
 import tempfile
 
-from bench import inputs_of
 from files import TOP, examples, read, written
 from gallery import PAGES
 from given import a_number, a_program, parser
 from program import told
+from safl_bench import inputs_of
 
 sys.path.insert(0, f"{TOP}/scripts/oracle")
 from programs import Dice  # noqa: E402
