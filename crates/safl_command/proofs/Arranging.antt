@@ -1,18 +1,18 @@
 -- What a command reads from a line whose words and options are arranged in any way.
-use Rattle.std.proofs.Common.{◌≡◌, ◌∙◌, ℕ, ◌+◌, ◌<◌, min, List, [], ◌∷◌, ◌++◌, Bool, true, false, Option, Some, None, inl, inr, refl, sym, ap, subst, codes, not, ◌&&◌, ◌||◌, arith}
-use Rattle.std.specs.Prelude.{◌==◌, if◌then◌else◌, unwrap_or}
+use Rattle.std.proofs.Common.{◌≡◌, ◌∙◌, ℕ, ◌+◌, min, List, [], ◌∷◌, ◌++◌, Bool, true, false, Option, Some, None, inl, inr, refl, sym, ap, subst, codes, not, ◌&&◌, ◌||◌}
+use Rattle.std.specs.Prelude.{if◌then◌else◌, unwrap_or}
 use Rattle.std.specs.Str.{bytes_eq}
 use Rattle.std.specs.List.{list_any}
 use Rattle.std.proofs.lemmas.Bool.{false≢true, and_parts, not-true, or_parts}
 use Rattle.clap.specs.Words.{Shape, Row, Rule, Text}
-use Rattle.clap.specs.Lexer.{long_of, usize_max}
-use Rattle.clap.specs.Walk.{Held, Walk, Waiting, idle, positional, arg_by_id, arg_by_index, arg_by_long, has_row}
+use Rattle.clap.specs.Lexer.{usize_max}
+use Rattle.clap.specs.Walk.{Walk, Waiting, idle, positional, arg_by_id, arg_by_index, has_row}
 use Rattle.std.proofs.Math.Bool.{or-true}
-use Rattle.safl_command.specs.Arranged.{GivenOption, IsUnhyphened, IsWritten, Arranged, ends, then_word, then_option, then_hyphens}
+use Rattle.safl_command.specs.Arranged.{GivenOption, IsWritten, Arranged, ends, then_word, then_option, then_hyphens}
 use Rattle.safl_command.proofs.Rows.{more, has_more, same_text, self_text, apart_text, pour, said}
 use Rattle.safl_command.proofs.Uses.{valued, flagged, placed, rest_placed, Adds, adds_valued, adds_flagged, adds_placed, adds_rest}
-use Rattle.safl_command.proofs.Stepping.{IsRead, IsNoFlag, read_none, unhyphened_no_flag}
-use Rattle.safl_command.proofs.Walking.{at, held, IsOpen, IsPlaced, IsLong, Calm, calm_pending, calm_used, placed_read, rest_read, hyphens_read, apart_read, joined_read, flag_read}
+use Rattle.safl_command.proofs.Stepping.{IsRead, read_none, unhyphened_no_flag}
+use Rattle.safl_command.proofs.Walking.{at, held, IsOpen, IsPlaced, IsLong, Calm, calm_pending, calm_used, placed_read, rest_read, hyphens_read, waits_read, value_read, joined_read, flag_read}
 
 -- ---- names that are used once
 
@@ -31,32 +31,32 @@ flipped x y h = go (bytes_eq y x) refl
     go false e = refl
 
 -- the second list is the first without x
-data Without (x : Text) : List Text → List Text → Type 0 where
+pub data Without (x : Text) : List Text → List Text → Type 0 where
   here : (l : List Text) → Without x (x ∷ l) l
   later : (y : Text) (l m : List Text) → Without x l m → Without x (y ∷ l) (y ∷ m)
 
-away : (x : Text) (l m : List Text) → Without x l m → (y : Text) → among y l ≡ false → (bytes_eq x y ≡ false) × (among y m ≡ false)
+pub away : (x : Text) (l m : List Text) → Without x l m → (y : Text) → among y l ≡ false → (bytes_eq x y ≡ false) × (among y m ≡ false)
 away x l m (here k) y h = or_parts (bytes_eq x y) (among y k) h
 away x l m (later z k j w) y h =
     let p : (bytes_eq z y ≡ false) × (among y k ≡ false) = or_parts (bytes_eq z y) (among y k) h in
     let q : (bytes_eq x y ≡ false) × (among y j ≡ false) = away x k j w y p.1 in
     (q.0, ap (λ (b : Bool). b || among y j) p.0 ∙ q.1)
 
-still_among : (x : Text) (l m : List Text) → Without x l m → (y : Text) → among y m ≡ true → among y l ≡ true
+pub still_among : (x : Text) (l m : List Text) → Without x l m → (y : Text) → among y m ≡ true → among y l ≡ true
 still_among x l m w y h = go (among y l) refl
   where
     go : (b : Bool) → among y l ≡ b → b ≡ true
     go true e = refl
     go false e = absurd (false≢true (sym (away x l m w y e).1 ∙ h))
 
-gone : (x : Text) (l m : List Text) → Without x l m → are_distinct l ≡ true → among x m ≡ false
+pub gone : (x : Text) (l m : List Text) → Without x l m → are_distinct l ≡ true → among x m ≡ false
 gone x l m (here k) h = not-true (among x k) (and_parts (not (among x k)) (are_distinct k) h).0
 gone x l m (later z k j w) h =
     let p : (not (among z k) ≡ true) × (are_distinct k ≡ true) = and_parts (not (among z k)) (are_distinct k) h in
     let q : bytes_eq x z ≡ false = (away x k j w z (not-true (among z k) p.0)).0 in
     ap (λ (b : Bool). b || among x j) (flipped x z q) ∙ gone x k j w p.1
 
-distinct_still : (x : Text) (l m : List Text) → Without x l m → are_distinct l ≡ true → are_distinct m ≡ true
+pub distinct_still : (x : Text) (l m : List Text) → Without x l m → are_distinct l ≡ true → are_distinct m ≡ true
 distinct_still x l m (here k) h = (and_parts (not (among x k)) (are_distinct k) h).1
 distinct_still x l m (later z k j w) h =
     let p : (not (among z k) ≡ true) × (are_distinct k ≡ true) = and_parts (not (among z k)) (are_distinct k) h in
@@ -104,11 +104,11 @@ option_gone : (before after : List GivenOption) (o : GivenOption) (places : List
 option_gone [] after o places = here (ids after places)
 option_gone (b ∷ bs) after o places = later b.name (ids (bs ++ o ∷ after) places) (ids (bs ++ after) places) (option_gone bs after o places)
 
-place_gone : (os : List GivenOption) (n : Text) (places : List Text) → Without n (ids os (n ∷ places)) (ids os places)
+pub place_gone : (os : List GivenOption) (n : Text) (places : List Text) → Without n (ids os (n ∷ places)) (ids os places)
 place_gone [] n places = here places
 place_gone (o ∷ os) n places = later o.name (ids os (n ∷ places)) (ids os places) (place_gone os n places)
 
-named_middle : (id : Text) (before after : List GivenOption) (o : GivenOption) → named id (before ++ o ∷ after) ≡ false → (bytes_eq o.name id ≡ false) × (named id (before ++ after) ≡ false)
+pub named_middle : (id : Text) (before after : List GivenOption) (o : GivenOption) → named id (before ++ o ∷ after) ≡ false → (bytes_eq o.name id ≡ false) × (named id (before ++ after) ≡ false)
 named_middle id [] after o h = or_parts (bytes_eq o.name id) (named id after) h
 named_middle id (b ∷ bs) after o h =
     let p : (bytes_eq b.name id ≡ false) × (named id (bs ++ o ∷ after) ≡ false) = or_parts (bytes_eq b.name id) (named id (bs ++ o ∷ after)) h in
@@ -173,7 +173,7 @@ module _ (s : Shape) where
     pub by_id : arg_by_id s.rules id ≡ Some (rest_placed index id)
 
   abbrev pub ArePlaces : ℕ → List Text → Option Text → Type 0
-  ArePlaces position [] None = Unit {0}
+  ArePlaces position [] None = arg_by_index s.rules position ≡ None
   ArePlaces position [] (Some id) = IsRest position id
   ArePlaces position (id ∷ more) rest = IsPlace position id × ArePlaces (min (position + 1) usize_max) more rest
 
@@ -194,7 +194,7 @@ module _ (s : Shape) where
   not_among_still x l m w (Some r) h = (away x l m w r h).1
 
   -- other names stay new
-  still_new : (x : Text) (names : List Text) (a : Rule) (v : Text) (sum : List Row) → a.id ≡ x → among x names ≡ false → ((id : Text) → among id names ≡ true → has_row id sum ≡ false)
+  pub still_new : (x : Text) (names : List Text) (a : Rule) (v : Text) (sum : List Row) → a.id ≡ x → among x names ≡ false → ((id : Text) → among id names ≡ true → has_row id sum ≡ false)
       → (id : Text) → among id names ≡ true → has_row id (more a v sum) ≡ false
   still_new x names a v sum is away_so new id h =
       has_more id a v sum
@@ -206,7 +206,7 @@ module _ (s : Shape) where
       go true e = absurd (false≢true (sym (subst (λ t. among t names ≡ false) (same_text x id e) away_so) ∙ h))
       go false e = refl
 
-  self_among : (x : Text) (l m : List Text) → Without x l m → among x l ≡ true
+  pub self_among : (x : Text) (l m : List Text) → Without x l m → among x l ≡ true
   self_among x l m (here k) = ap (λ (b : Bool). b || among x k) (self_text x)
   self_among x l m (later y k j w) = ap (λ (b : Bool). bytes_eq y x || b) (self_among x k j w) ∙ or-true (bytes_eq y x)
 
@@ -349,7 +349,8 @@ module _ (s : Shape) where
           pending_then = Some (name, v ∷ []);
           calm_then = calm_pending s sum a (v ∷ []) v d.by_id adds;
           goes = λ line end k. subst (λ (x : List Text). IsRead s (at rows pending waiting position false) (x ++ line) end) (sym p.1)
-              (apart_read s rows pending waiting position sum open_so calm line end (45 ∷ 45 ∷ name) name v d.required d.apart (unhyphened_no_flag v p.0) d.by_id d.self k);
+              (waits_read s rows pending waiting position sum open_so calm (v ∷ line) end (45 ∷ 45 ∷ name) name d.required d.apart
+              (value_read s sum position name v d.required (unhyphened_no_flag v p.0) d.by_id d.self line end k));
         }
     option_step name (Some v) written d (inr e) h =
         let a : Rule = valued d.required name in

@@ -10,3 +10,10 @@ pub mod Arranging
 pub mod Said
 pub mod SaidLines
 pub mod SaidWords
+pub mod Looks
+pub mod Refused
+pub mod FormValues
+pub mod Parting
+pub mod Finding
+pub mod Exact
+pub mod ExactForms

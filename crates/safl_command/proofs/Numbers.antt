@@ -16,7 +16,9 @@ number_if fits word = if fits then Some (value 10 word) else None
 
 pub number_unhyphened : (word : List ℕ) → IsNumber word → IsUnhyphened word
 number_unhyphened [] h = absurd (cc)
-number_unhyphened (c ∷ cs) h = λ e.
+number_unhyphened (c ∷ []) h = tt
+number_unhyphened (c ∷ (d ∷ ds)) h = λ e.
+    let cs : List ℕ = d ∷ ds in
     let digits : list_all (is_digit 10) (c ∷ cs) ≡ true =
     first_so (list_all (is_digit 10) (c ∷ cs)) (nat_le (length (c ∷ cs)) 20 && nat_lt (value 10 (c ∷ cs)) (2 ^ 64)) (second_so (nat_le 1 (length (c ∷ cs))) _ h) in
     let first : is_digit 10 c ≡ true = first_so (is_digit 10 c) (list_all (is_digit 10) cs) digits in

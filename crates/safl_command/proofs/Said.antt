@@ -1,5 +1,5 @@
 -- The command of a line, by what is found for each argument.
-use Rattle.std.proofs.Common.{◌≡◌, ◌∙◌, ℕ, List, [], ◌∷◌, ◌++◌, Bool, true, false, Option, Some, None, refl, sym, ap, subst, fold, is_some, cond, find, ◌||◌, not}
+use Rattle.std.proofs.Common.{◌≡◌, ◌∙◌, ℕ, List, [], ◌∷◌, ◌++◌, Bool, true, false, Option, Some, None, refl, ap, subst, fold, cond, ◌||◌, not}
 use Rattle.std.specs.Prelude.{if◌then◌else◌, option_and_then}
 use Rattle.std.specs.Str.{bytes_eq}
 use Rattle.std.proofs.lemmas.Bool.{false≢true, or_parts}
@@ -66,7 +66,7 @@ abbrev pub HaveNone : List Rule → Type 0
 HaveNone [] = Unit {0}
 HaveNone (a ∷ rest) = (a.defaults ≡ []) × HaveNone rest
 
-no_defaults : (rules : List Rule) (rows : List Row) → HaveNone rules → fold with_default rows rules ≡ rows
+pub no_defaults : (rules : List Rule) (rows : List Row) → HaveNone rules → fold with_default rows rules ≡ rows
 no_defaults [] rows h = refl
 no_defaults (a ∷ rest) rows h = ap (λ (l : List Row). fold with_default l rest) (no_default rows a h.0) ∙ no_defaults rest rows h.1
 

@@ -9,18 +9,18 @@ use Rattle.clap.specs.Facts.{explicit_source}
 use Rattle.clap.specs.Kinds.{or_else}
 use Rattle.clap.specs.Simple.{built}
 use Rattle.clap.specs.Takes.{is_given}
-use Rattle.clap.specs.Walk.{idle, has_row, with_default, with_values, default_rows, reading_by, more_values}
+use Rattle.clap.specs.Walk.{idle, has_row, with_default, with_values, reading_by, more_values}
 use Rattle.clap.specs.Faults.{check_fault, default_fault, defaults_fault}
 use Rattle.clap.specs.declared.parser.matches.ValueSource.TheVariants.{DefaultValue}
 use Rattle.clap.proofs.OnLiterals.{clap_on_literals}
 use Rattle.safl_word.specs.Numerals.{value}
 use Rattle.safl_command.specs.Forms.{app}
 use Rattle.safl_command.specs.Values.{name_in, number_in, limit_in, count_in, args_in, has_flag, filled}
-use Rattle.safl_command.specs.Traces.{Traces, are_apart, if_apart}
-use Rattle.safl_command.specs.Arranged.{GivenOption, Arranged}
+use Rattle.safl_command.specs.Traces.{if_apart}
+use Rattle.safl_command.specs.Arranged.{GivenOption}
 use Rattle.safl_command.specs.Commands.{Command, Check, Build, Optimise, Sim, Walk, Run, Report, Gen, Bench, CopySite, UnfoldSite, Session, Aig}
-use Rattle.safl_command.specs.Commands.{Aigstat, command_of, faultless, reshaped, traces_in}
-use Rattle.safl_command.specs.Laws.{IsNumber, IsLimit, IsCount, option, option_if, flag, trace_options, CheckLines, BuildLines, OptimiseLines}
+use Rattle.safl_command.specs.Commands.{Aigstat, faultless, reshaped, traces_in}
+use Rattle.safl_command.specs.Laws.{option, option_if, flag, CheckLines, BuildLines, OptimiseLines}
 use Rattle.safl_command.specs.Laws.{SimLines, WalkLines, RunLines, ReportLines, GenLines, BenchLines, CopyLines, UnfoldLines, SessionLines, AigLines}
 use Rattle.safl_command.specs.Laws.{AigstatLines}
 use Rattle.safl_command.proofs.Uses.{flagged}
@@ -35,47 +35,47 @@ use Rattle.safl_command.proofs.Walking.{at}
 
 -- ---- check
 
-enters_check : Enters (built app) (codes "check") (shape_for (codes "check"))
+pub enters_check : Enters (built app) (codes "check") (shape_for (codes "check"))
 unfolding app clap_on_literals
 enters_check = record { stops = refl; quiet = refl; found = refl; ends = refl }
 
-places_check : ArePlaces (shape_for (codes "check")) 1 ((codes "IN") ∷ []) None
+pub places_check : ArePlaces (shape_for (codes "check")) 1 ((codes "IN") ∷ []) None
 unfolding app clap_on_literals
-places_check = (record { index = 1; by_index = refl; by_id = refl }, tt)
+places_check = (record { index = 1; by_index = refl; by_id = refl }, refl)
 
-none_check : HaveNone (shape_for (codes "check")).rules
+pub none_check : HaveNone (shape_for (codes "check")).rules
 unfolding app clap_on_literals
 none_check = (refl, (refl, tt))
 
 -- ---- build
 
-enters_build : Enters (built app) (codes "build") (shape_for (codes "build"))
+pub enters_build : Enters (built app) (codes "build") (shape_for (codes "build"))
 unfolding app clap_on_literals
 enters_build = record { stops = refl; quiet = refl; found = refl; ends = refl }
 
-places_build : ArePlaces (shape_for (codes "build")) 1 ((codes "IN") ∷ (codes "OUT") ∷ []) None
+pub places_build : ArePlaces (shape_for (codes "build")) 1 ((codes "IN") ∷ (codes "OUT") ∷ []) None
 unfolding app clap_on_literals
-places_build = (record { index = 1; by_index = refl; by_id = refl }, (record { index = 2; by_index = refl; by_id = refl }, tt))
+places_build = (record { index = 1; by_index = refl; by_id = refl }, (record { index = 2; by_index = refl; by_id = refl }, refl))
 
-build_opt : IsFlag (shape_for (codes "build")) (codes "opt")
+pub build_opt : IsFlag (shape_for (codes "build")) (codes "opt")
 unfolding app clap_on_literals
 build_opt = record { is = record { dashes = refl; long = refl; by_long = refl } }
 
 -- ---- sim
 
-enters_sim : Enters (built app) (codes "sim") (shape_for (codes "sim"))
+pub enters_sim : Enters (built app) (codes "sim") (shape_for (codes "sim"))
 unfolding app clap_on_literals
 enters_sim = record { stops = refl; quiet = refl; found = refl; ends = refl }
 
-places_sim : ArePlaces (shape_for (codes "sim")) 1 ((codes "IN") ∷ []) (Some (codes "ARG"))
+pub places_sim : ArePlaces (shape_for (codes "sim")) 1 ((codes "IN") ∷ []) (Some (codes "ARG"))
 unfolding app clap_on_literals
 places_sim = (record { index = 1; by_index = refl; by_id = refl }, record { index = 2; by_index = refl; by_id = refl })
 
-none_sim : HaveNone (shape_for (codes "sim")).rules
+pub none_sim : HaveNone (shape_for (codes "sim")).rules
 unfolding app clap_on_literals
 none_sim = (refl, (refl, (refl, (refl, (refl, (refl, (refl, tt)))))))
 
-sim_cycles : IsValued (shape_for (codes "sim")) (codes "cycles")
+pub sim_cycles : IsValued (shape_for (codes "sim")) (codes "cycles")
 unfolding app clap_on_literals
 sim_cycles = record {
   required = true;
@@ -85,7 +85,7 @@ sim_cycles = record {
   self = refl;
 }
 
-sim_vcd : IsValued (shape_for (codes "sim")) (codes "vcd")
+pub sim_vcd : IsValued (shape_for (codes "sim")) (codes "vcd")
 unfolding app clap_on_literals
 sim_vcd = record {
   required = false;
@@ -95,7 +95,7 @@ sim_vcd = record {
   self = refl;
 }
 
-sim_starts : IsValued (shape_for (codes "sim")) (codes "starts")
+pub sim_starts : IsValued (shape_for (codes "sim")) (codes "starts")
 unfolding app clap_on_literals
 sim_starts = record {
   required = false;
@@ -105,7 +105,7 @@ sim_starts = record {
   self = refl;
 }
 
-sim_toggles : IsValued (shape_for (codes "sim")) (codes "toggles")
+pub sim_toggles : IsValued (shape_for (codes "sim")) (codes "toggles")
 unfolding app clap_on_literals
 sim_toggles = record {
   required = false;
@@ -117,19 +117,19 @@ sim_toggles = record {
 
 -- ---- walk
 
-enters_walk : Enters (built app) (codes "walk") (shape_for (codes "walk"))
+pub enters_walk : Enters (built app) (codes "walk") (shape_for (codes "walk"))
 unfolding app clap_on_literals
 enters_walk = record { stops = refl; quiet = refl; found = refl; ends = refl }
 
-places_walk : ArePlaces (shape_for (codes "walk")) 1 ((codes "IN") ∷ []) (Some (codes "ARG"))
+pub places_walk : ArePlaces (shape_for (codes "walk")) 1 ((codes "IN") ∷ []) (Some (codes "ARG"))
 unfolding app clap_on_literals
 places_walk = (record { index = 1; by_index = refl; by_id = refl }, record { index = 2; by_index = refl; by_id = refl })
 
-none_walk : HaveNone (shape_for (codes "walk")).rules
+pub none_walk : HaveNone (shape_for (codes "walk")).rules
 unfolding app clap_on_literals
 none_walk = (refl, (refl, (refl, (refl, (refl, tt)))))
 
-walk_order : IsValued (shape_for (codes "walk")) (codes "order")
+pub walk_order : IsValued (shape_for (codes "walk")) (codes "order")
 unfolding app clap_on_literals
 walk_order = record {
   required = true;
@@ -139,7 +139,7 @@ walk_order = record {
   self = refl;
 }
 
-walk_steps : IsValued (shape_for (codes "walk")) (codes "steps")
+pub walk_steps : IsValued (shape_for (codes "walk")) (codes "steps")
 unfolding app clap_on_literals
 walk_steps = record {
   required = true;
@@ -151,19 +151,19 @@ walk_steps = record {
 
 -- ---- run
 
-enters_run : Enters (built app) (codes "run") (shape_for (codes "run"))
+pub enters_run : Enters (built app) (codes "run") (shape_for (codes "run"))
 unfolding app clap_on_literals
 enters_run = record { stops = refl; quiet = refl; found = refl; ends = refl }
 
-places_run : ArePlaces (shape_for (codes "run")) 1 ((codes "FILE") ∷ []) (Some (codes "ARG"))
+pub places_run : ArePlaces (shape_for (codes "run")) 1 ((codes "FILE") ∷ []) (Some (codes "ARG"))
 unfolding app clap_on_literals
 places_run = (record { index = 1; by_index = refl; by_id = refl }, record { index = 2; by_index = refl; by_id = refl })
 
-none_run : HaveNone (shape_for (codes "run")).rules
+pub none_run : HaveNone (shape_for (codes "run")).rules
 unfolding app clap_on_literals
 none_run = (refl, (refl, (refl, (refl, tt))))
 
-run_cycles : IsValued (shape_for (codes "run")) (codes "cycles")
+pub run_cycles : IsValued (shape_for (codes "run")) (codes "cycles")
 unfolding app clap_on_literals
 run_cycles = record {
   required = true;
@@ -175,47 +175,47 @@ run_cycles = record {
 
 -- ---- report
 
-enters_report : Enters (built app) (codes "report") (shape_for (codes "report"))
+pub enters_report : Enters (built app) (codes "report") (shape_for (codes "report"))
 unfolding app clap_on_literals
 enters_report = record { stops = refl; quiet = refl; found = refl; ends = refl }
 
-places_report : ArePlaces (shape_for (codes "report")) 1 ((codes "IN") ∷ []) None
+pub places_report : ArePlaces (shape_for (codes "report")) 1 ((codes "IN") ∷ []) None
 unfolding app clap_on_literals
-places_report = (record { index = 1; by_index = refl; by_id = refl }, tt)
+places_report = (record { index = 1; by_index = refl; by_id = refl }, refl)
 
-none_report : HaveNone (shape_for (codes "report")).rules
+pub none_report : HaveNone (shape_for (codes "report")).rules
 unfolding app clap_on_literals
 none_report = (refl, (refl, tt))
 
 -- ---- gen
 
-enters_gen : Enters (built app) (codes "gen") (shape_for (codes "gen"))
+pub enters_gen : Enters (built app) (codes "gen") (shape_for (codes "gen"))
 unfolding app clap_on_literals
 enters_gen = record { stops = refl; quiet = refl; found = refl; ends = refl }
 
-places_gen : ArePlaces (shape_for (codes "gen")) 1 ((codes "SEED") ∷ (codes "COUNT") ∷ []) None
+pub places_gen : ArePlaces (shape_for (codes "gen")) 1 ((codes "SEED") ∷ (codes "COUNT") ∷ []) None
 unfolding app clap_on_literals
-places_gen = (record { index = 1; by_index = refl; by_id = refl }, (record { index = 2; by_index = refl; by_id = refl }, tt))
+places_gen = (record { index = 1; by_index = refl; by_id = refl }, (record { index = 2; by_index = refl; by_id = refl }, refl))
 
-none_gen : HaveNone (shape_for (codes "gen")).rules
+pub none_gen : HaveNone (shape_for (codes "gen")).rules
 unfolding app clap_on_literals
 none_gen = (refl, (refl, (refl, tt)))
 
 -- ---- bench
 
-enters_bench : Enters (built app) (codes "bench") (shape_for (codes "bench"))
+pub enters_bench : Enters (built app) (codes "bench") (shape_for (codes "bench"))
 unfolding app clap_on_literals
 enters_bench = record { stops = refl; quiet = refl; found = refl; ends = refl }
 
-places_bench : ArePlaces (shape_for (codes "bench")) 1 ((codes "SEED") ∷ (codes "COUNT") ∷ []) None
+pub places_bench : ArePlaces (shape_for (codes "bench")) 1 ((codes "SEED") ∷ (codes "COUNT") ∷ []) None
 unfolding app clap_on_literals
-places_bench = (record { index = 1; by_index = refl; by_id = refl }, (record { index = 2; by_index = refl; by_id = refl }, tt))
+places_bench = (record { index = 1; by_index = refl; by_id = refl }, (record { index = 2; by_index = refl; by_id = refl }, refl))
 
-none_bench : HaveNone (shape_for (codes "bench")).rules
+pub none_bench : HaveNone (shape_for (codes "bench")).rules
 unfolding app clap_on_literals
 none_bench = (refl, (refl, (refl, (refl, tt))))
 
-bench_cycles : IsValued (shape_for (codes "bench")) (codes "cycles")
+pub bench_cycles : IsValued (shape_for (codes "bench")) (codes "cycles")
 unfolding app clap_on_literals
 bench_cycles = record {
   required = true;
@@ -227,19 +227,19 @@ bench_cycles = record {
 
 -- ---- reshape
 
-enters_reshape : Enters (built app) (codes "reshape") (shape_for (codes "reshape"))
+pub enters_reshape : Enters (built app) (codes "reshape") (shape_for (codes "reshape"))
 unfolding app clap_on_literals
 enters_reshape = record { stops = refl; quiet = refl; found = refl; ends = refl }
 
-places_reshape : ArePlaces (shape_for (codes "reshape")) 1 ((codes "IN") ∷ (codes "OUT") ∷ []) None
+pub places_reshape : ArePlaces (shape_for (codes "reshape")) 1 ((codes "IN") ∷ (codes "OUT") ∷ []) None
 unfolding app clap_on_literals
-places_reshape = (record { index = 1; by_index = refl; by_id = refl }, (record { index = 2; by_index = refl; by_id = refl }, tt))
+places_reshape = (record { index = 1; by_index = refl; by_id = refl }, (record { index = 2; by_index = refl; by_id = refl }, refl))
 
-none_reshape : HaveNone (shape_for (codes "reshape")).rules
+pub none_reshape : HaveNone (shape_for (codes "reshape")).rules
 unfolding app clap_on_literals
 none_reshape = (refl, (refl, (refl, (refl, (refl, tt)))))
 
-reshape_copy : IsValued (shape_for (codes "reshape")) (codes "copy")
+pub reshape_copy : IsValued (shape_for (codes "reshape")) (codes "copy")
 unfolding app clap_on_literals
 reshape_copy = record {
   required = false;
@@ -249,7 +249,7 @@ reshape_copy = record {
   self = refl;
 }
 
-reshape_unfold : IsValued (shape_for (codes "reshape")) (codes "unfold")
+pub reshape_unfold : IsValued (shape_for (codes "reshape")) (codes "unfold")
 unfolding app clap_on_literals
 reshape_unfold = record {
   required = false;
@@ -261,19 +261,19 @@ reshape_unfold = record {
 
 -- ---- session
 
-enters_session : Enters (built app) (codes "session") (shape_for (codes "session"))
+pub enters_session : Enters (built app) (codes "session") (shape_for (codes "session"))
 unfolding app clap_on_literals
 enters_session = record { stops = refl; quiet = refl; found = refl; ends = refl }
 
-places_session : ArePlaces (shape_for (codes "session")) 1 ((codes "IN") ∷ (codes "SCRIPT") ∷ []) None
+pub places_session : ArePlaces (shape_for (codes "session")) 1 ((codes "IN") ∷ (codes "SCRIPT") ∷ []) None
 unfolding app clap_on_literals
-places_session = (record { index = 1; by_index = refl; by_id = refl }, (record { index = 2; by_index = refl; by_id = refl }, tt))
+places_session = (record { index = 1; by_index = refl; by_id = refl }, (record { index = 2; by_index = refl; by_id = refl }, refl))
 
-none_session : HaveNone (shape_for (codes "session")).rules
+pub none_session : HaveNone (shape_for (codes "session")).rules
 unfolding app clap_on_literals
 none_session = (refl, (refl, (refl, (refl, tt))))
 
-session_cycles : IsValued (shape_for (codes "session")) (codes "cycles")
+pub session_cycles : IsValued (shape_for (codes "session")) (codes "cycles")
 unfolding app clap_on_literals
 session_cycles = record {
   required = true;
@@ -285,29 +285,29 @@ session_cycles = record {
 
 -- ---- aig
 
-enters_aig : Enters (built app) (codes "aig") (shape_for (codes "aig"))
+pub enters_aig : Enters (built app) (codes "aig") (shape_for (codes "aig"))
 unfolding app clap_on_literals
 enters_aig = record { stops = refl; quiet = refl; found = refl; ends = refl }
 
-places_aig : ArePlaces (shape_for (codes "aig")) 1 ((codes "FILE") ∷ (codes "OUT") ∷ []) None
+pub places_aig : ArePlaces (shape_for (codes "aig")) 1 ((codes "FILE") ∷ (codes "OUT") ∷ []) None
 unfolding app clap_on_literals
-places_aig = (record { index = 1; by_index = refl; by_id = refl }, (record { index = 2; by_index = refl; by_id = refl }, tt))
+places_aig = (record { index = 1; by_index = refl; by_id = refl }, (record { index = 2; by_index = refl; by_id = refl }, refl))
 
-none_aig : HaveNone (shape_for (codes "aig")).rules
+pub none_aig : HaveNone (shape_for (codes "aig")).rules
 unfolding app clap_on_literals
 none_aig = (refl, (refl, (refl, tt)))
 
 -- ---- aigstat
 
-enters_aigstat : Enters (built app) (codes "aigstat") (shape_for (codes "aigstat"))
+pub enters_aigstat : Enters (built app) (codes "aigstat") (shape_for (codes "aigstat"))
 unfolding app clap_on_literals
 enters_aigstat = record { stops = refl; quiet = refl; found = refl; ends = refl }
 
-places_aigstat : ArePlaces (shape_for (codes "aigstat")) 1 ((codes "FILE") ∷ []) None
+pub places_aigstat : ArePlaces (shape_for (codes "aigstat")) 1 ((codes "FILE") ∷ []) None
 unfolding app clap_on_literals
-places_aigstat = (record { index = 1; by_index = refl; by_id = refl }, tt)
+places_aigstat = (record { index = 1; by_index = refl; by_id = refl }, refl)
 
-none_aigstat : HaveNone (shape_for (codes "aigstat")).rules
+pub none_aigstat : HaveNone (shape_for (codes "aigstat")).rules
 unfolding app clap_on_literals
 none_aigstat = (refl, (refl, tt))
 
@@ -556,7 +556,7 @@ declared_if : (s : Shape) (name : Text) → IsValued s name → (o : Option Text
 declared_if s name d None others h = h
 declared_if s name d (Some v) others h = (d, h)
 
-first_listed : (o : Option Text) → slice_get (option_to_list o) 0 ≡ o
+pub first_listed : (o : Option Text) → slice_get (option_to_list o) 0 ≡ o
 first_listed None = refl
 first_listed (Some v) = refl
 
@@ -602,12 +602,12 @@ sim_lines (c ∷ d) limit t args line h_input h_limit is_apart so =
 
 -- ---- the flag of `build`, which has a default value
 
-abbrev nth_rule : List Rule → ℕ → Rule
+abbrev pub nth_rule : List Rule → ℕ → Rule
 nth_rule [] i = flagged []
 nth_rule (a ∷ rules) zero = a
 nth_rule (a ∷ rules) (suc i) = nth_rule rules i
 
-build_rows : (rows : List Row) (a b o h : Rule) → a.defaults ≡ [] → b.defaults ≡ [] → h.defaults ≡ []
+pub build_rows : (rows : List Row) (a b o h : Rule) → a.defaults ≡ [] → b.defaults ≡ [] → h.defaults ≡ []
     → fold with_default rows (a ∷ b ∷ o ∷ h ∷ []) ≡ with_default rows o
 build_rows rows a b o h ea eb eh =
     ap (λ (l : List Row). with_default (with_default (with_default l b) o) h) (no_default rows a ea)
@@ -632,7 +632,7 @@ abbrev opt_row : Row
 opt_row = record (row_for (flagged (codes "opt")) (codes "false")) { source = Some DefaultValue }
 
 -- the rows at the end
-abbrev build_ended : Bool → List Row → List Row
+abbrev pub build_ended : Bool → List Row → List Row
 build_ended true rows = rows
 build_ended false rows = with_values (codes "opt") (reading_by (flagged (codes "opt"))) DefaultValue (codes "false" ∷ []) rows
 
@@ -643,14 +643,14 @@ no_opt_fault : (there : Bool) → opt_fault there ≡ []
 no_opt_fault true = refl
 no_opt_fault false = refl
 
-build_default : (rows : List Row) (b : Bool) → has_row (codes "opt") rows ≡ b → (with_default rows (flagged (codes "opt")) ≡ build_ended b rows) × (default_fault rows (flagged (codes "opt")) ≡ [])
+pub build_default : (rows : List Row) (b : Bool) → has_row (codes "opt") rows ≡ b → (with_default rows (flagged (codes "opt")) ≡ build_ended b rows) × (default_fault rows (flagged (codes "opt")) ≡ [])
 build_default rows b e = (ap (λ (c : Bool). if c then rows else build_ended false rows) e ∙ ended b, no_opt_fault (has_row (codes "opt") rows))
   where
     ended : (c : Bool) → (if c then rows else build_ended false rows) ≡ build_ended c rows
     ended true = refl
     ended false = refl
 
-build_end : (rows : List Row) (b : Bool) → has_row (codes "opt") rows ≡ b → check_fault (shape_for (codes "build")) (build_ended b rows) false ≡ []
+pub build_end : (rows : List Row) (b : Bool) → has_row (codes "opt") rows ≡ b → check_fault (shape_for (codes "build")) (build_ended b rows) false ≡ []
     → at_end (shape_for (codes "build")) rows ≡ faultless [] (Some (codes "build", build_ended b rows))
 unfolding app clap_on_literals
 build_end rows b e whole =
@@ -664,14 +664,14 @@ build_end rows b e whole =
     ∙ ap (λ (fault : Kinds). faultless fault (Some (s.name, build_ended b rows))) whole
 
 -- what is found of the names at the end
-build_row : (id : Text) (rows : List Row) (b : Bool) → has_row (codes "opt") rows ≡ b → bytes_eq (codes "opt") id ≡ false → row id (build_ended b rows) ≡ row id rows
+pub build_row : (id : Text) (rows : List Row) (b : Bool) → has_row (codes "opt") rows ≡ b → bytes_eq (codes "opt") id ≡ false → row id (build_ended b rows) ≡ row id rows
 build_row id rows true e other_so = refl
 build_row id rows false e other_so =
     row_new id (codes "opt") (more_values DefaultValue (codes "false" ∷ [])) opt_row rows e
     ∙ ap (λ (c : Bool). first_some (row id rows) (if c then Some opt_row else None)) other_so
     ∙ first_none (row id rows)
 
-build_flag : (rows : List Row) (b : Bool) → has_row (codes "opt") rows ≡ b → (b ≡ true → first_of (codes "opt") rows ≡ Some (codes "true")) → (b ≡ false → row (codes "opt") rows ≡ None)
+pub build_flag : (rows : List Row) (b : Bool) → has_row (codes "opt") rows ≡ b → (b ≡ true → first_of (codes "opt") rows ≡ Some (codes "true")) → (b ≡ false → row (codes "opt") rows ≡ None)
     → has_flag (codes "opt") (build_ended b rows) ≡ b
 build_flag rows true e is none = ap (λ (o : Option Text). option_map_or (λ word. bytes_eq word (codes "true")) o false) (is refl)
 build_flag rows false e is none =

@@ -1,8 +1,8 @@
 -- The command of the words as the usage has them: each is a line on which words and options are arranged.
-use Rattle.std.proofs.Common.{◌≡◌, List, [], ◌∷◌, ◌++◌, Option, Some, None, inl, refl, codes}
+use Rattle.std.proofs.Common.{List, [], ◌∷◌, ◌++◌, Option, Some, None, inl, refl, codes}
 use Rattle.clap.specs.Words.{Text}
 use Rattle.safl_command.specs.Arranged.{GivenOption, IsUnhyphened, Arranged, ends, then_word, then_option}
-use Rattle.safl_command.specs.Laws.{AreUnhyphened, IsUnhyphenedIf, option, option_if, flag, trace_options, words_if, trace_words, CheckWords}
+use Rattle.safl_command.specs.Laws.{AreUnhyphened, IsUnhyphenedIf, option, option_if, trace_options, words_if, trace_words, CheckWords}
 use Rattle.safl_command.specs.Laws.{BuildWords, OptimiseWords, SimWords, WalkWords, RunWords, ReportWords, GenWords, BenchWords, CopyWords}
 use Rattle.safl_command.specs.Laws.{UnfoldWords, SessionWords, AigWords, AigstatWords}
 use Rattle.safl_command.proofs.Numbers.{number_unhyphened, limit_unhyphened, count_unhyphened}

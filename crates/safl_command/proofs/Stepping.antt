@@ -3,9 +3,7 @@ use Rattle.std.proofs.Common.{◌≡◌, ◌∙◌, List, [], ◌∷◌, ◌++�
 use Rattle.std.specs.Prelude.{◌==◌, find, fold, is_some, if◌then◌else◌, unwrap_or}
 use Rattle.std.specs.Str.{bytes_eq}
 use Rattle.std.proofs.lemmas.List.{append_assoc, append-nil}
-use Rattle.clap.specs.Words.{App, Shape, Kinds, Row, Rule, Text, reading_of}
-use Rattle.clap.specs.declared.parser.matches.ValueSource.TheVariants.{CommandLine}
-use Rattle.clap.specs.declared.builder.value_parser.ValueParser.TheVariants as vp
+use Rattle.clap.specs.Words.{App, Shape, Kinds, Row, Rule, Text}
 use Rattle.clap.specs.Kinds.{or_else}
 use Rattle.clap.specs.Lexer.{long_of, short_of}
 use Rattle.clap.specs.Simple.{built, names_of, label_of, rows_at, entered, argument_words, new_shape}
@@ -80,7 +78,7 @@ module _ (t : App) (word : Text) (s : Shape) (e : Enters t word s) (ws : List Te
   entered_there = ap (λ (w : Walk). entered t w.stopped) walk_stops ∙ entered_so
 
 -- the words after the program's name
-words_after : (word : Text) (ws : List Text) → argument_words app (codes "safl" ∷ word ∷ ws) ≡ word ∷ ws
+pub words_after : (word : Text) (ws : List Text) → argument_words app (codes "safl" ∷ word ∷ ws) ≡ word ∷ ws
 unfolding app
 words_after word ws = refl
 
@@ -133,7 +131,12 @@ pub record IsNoFlag (word : Text) : Type 0 where
 
 pub unhyphened_no_flag : (word : Text) → IsUnhyphened word → IsNoFlag word
 unhyphened_no_flag [] h = record { dashes = refl; long = refl; short = refl }
-unhyphened_no_flag (c ∷ cs) h =
+unhyphened_no_flag (c ∷ []) h = one_byte (c == 45) refl
+  where
+    one_byte : (b : Bool) → (c == 45) ≡ b → IsNoFlag (c ∷ [])
+    one_byte true e = record { dashes = rw e refl; long = rw e refl; short = rw e refl }
+    one_byte false e = record { dashes = rw e refl; long = rw e refl; short = rw e refl }
+unhyphened_no_flag (c ∷ (d ∷ ds)) h =
     let e : (c == 45) ≡ false = grind arith in
     record { dashes = rw e refl; long = rw e refl; short = rw e refl }
 
@@ -176,11 +179,6 @@ module _ (s : Shape) (w : Walk) (word : Text) (no : IsNoFlag word) (going : w.st
       ∙ ap (λ (k : Kinds). or_else k (step_fault s w.position (word_met s.rules [] false w.waiting w.position word w.held).0
       (word_met s.rules [] false w.waiting w.position word w.held).1)) (quiet_so w.waiting)
       ∙ ap (λ (m : Held × Step). step_fault s w.position m.0 m.1) (met_so w.waiting)
-
-  -- such a word is read, and then the others
-  pub read_plain : (ws : List Text) (end : Walk) → step_fault s w.position (plain_word s.rules w.waiting word w.held).0 (plain_word s.rules w.waiting word w.held).1 ≡ []
-      → IsRead s (plain_walk s.rules w word) ws end → IsRead s w (word ∷ ws) end
-  read_plain ws end quiet r = read_word s w word ws (plain_walk s.rules w word) end (quiet_plain ∙ quiet) walked_plain r
 
   -- the same, where the walk comes to a known place
   pub read_so : (ws : List Text) (mid end : Walk) → step_fault s w.position (plain_word s.rules w.waiting word w.held).0 (plain_word s.rules w.waiting word w.held).1 ≡ []

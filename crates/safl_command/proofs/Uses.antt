@@ -1,10 +1,10 @@
 -- What a use of each kind of argument makes, and that it has no fault.
-use Rattle.std.proofs.Common.{◌≡◌, ◌∙◌, ℕ, List, [], ◌∷◌, Bool, true, false, Option, Some, None, refl, ap, codes, ◌&&◌}
+use Rattle.std.proofs.Common.{◌≡◌, ℕ, List, [], ◌∷◌, Bool, true, false, Some, refl, ap, codes, ◌&&◌}
 use Rattle.std.specs.Prelude.{if◌then◌else◌, not}
 use Rattle.clap.specs.Words.{Row, Rule, Text, Kinds, new_rule}
 use Rattle.clap.specs.Kinds.{or_else}
 use Rattle.clap.specs.Simple.{filled, with_index}
-use Rattle.clap.specs.Walk.{used, has_row, with_values, reading_by, without}
+use Rattle.clap.specs.Walk.{used, has_row, with_values, reading_by}
 use Rattle.clap.specs.Faults.{use_fault}
 use Rattle.clap.specs.declared.builder.action.ArgAction.TheVariants.{Append, SetTrue}
 use Rattle.clap.specs.declared.error.kind.ErrorKind.TheVariants as kind
@@ -31,7 +31,7 @@ pub record Adds (again : Bool) (a : Rule) (vs : List Text) (v : Text) (rows : Li
   pub fault : use_fault again a vs rows ≡ []
   pub rows_are : used a vs rows ≡ more a v rows
 
-abbrev repeated : Bool → Bool → Kinds
+abbrev pub repeated : Bool → Bool → Kinds
 repeated again there = or_else (if there && not again then kind.ArgumentConflict ∷ [] else []) []
 
 module _ (again : Bool) (id v : Text) (rows : List Row) where

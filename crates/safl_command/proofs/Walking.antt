@@ -1,15 +1,15 @@
 -- How `clap` reads the words and the options of a command, one by one.
-use Rattle.std.proofs.Common.{◌≡◌, ◌∙◌, ℕ, ◌+◌, min, List, [], ◌∷◌, ◌++◌, Bool, true, false, Option, Some, None, refl, ap, codes, ◌||◌}
-use Rattle.std.specs.Prelude.{if◌then◌else◌, is_some, length, nat_lt}
+use Rattle.std.proofs.Common.{◌≡◌, ◌∙◌, ℕ, ◌+◌, min, List, [], ◌∷◌, Bool, true, false, Option, Some, None, refl, ap, codes, ◌||◌}
+use Rattle.std.specs.Prelude.{if◌then◌else◌, nat_lt}
 use Rattle.std.specs.Str.{bytes_eq}
 use Rattle.std.specs.Option.{option_map_or}
 use Rattle.clap.specs.Words.{Shape, Kinds, Row, Rule, Text}
 use Rattle.clap.specs.Kinds.{or_else}
 use Rattle.clap.specs.Lexer.{long_of, usize_max}
 use Rattle.clap.specs.Walk.{Held, Walk, Step, Waiting, idle, option, positional, value, trailing, walked, after_step, after_flag, plain_word}
-use Rattle.clap.specs.Walk.{option_word, long_met, long_word, long_or_other, subcommand_met, subcommand_or_other, settled, settled_rows}
+use Rattle.clap.specs.Walk.{option_word, long_met, long_or_other, subcommand_met, subcommand_or_other, settled, settled_rows}
 use Rattle.clap.specs.Walk.{to_positional, pushed, used, next, is_pending, arg_by_id, arg_by_index, arg_by_long, used_by_id}
-use Rattle.clap.specs.Faults.{turn_fault, step_fault, word_fault, other_fault, flag_word_fault, long_fault, settle_fault, positional_fault, stray_fault, use_fault}
+use Rattle.clap.specs.Faults.{turn_fault, step_fault, other_fault, flag_word_fault, long_fault, settle_fault, positional_fault, stray_fault, use_fault}
 use Rattle.std.proofs.Math.Bool.{and-false, or-false}
 use Rattle.safl_command.proofs.Rows.{more}
 use Rattle.safl_command.proofs.Uses.{valued, flagged, placed, rest_placed, Adds}
@@ -63,7 +63,7 @@ pub record IsLong (s : Shape) (word name : Text) (v : Option Text) (a : Rule) : 
   pub long : long_of word ≡ Some (name, v)
   pub by_long : arg_by_long s.rules name ≡ Some a
 
-no_subcommand : (word : Text) (w : Waiting) → subcommand_met [] w word ≡ None
+pub no_subcommand : (word : Text) (w : Waiting) → subcommand_met [] w word ≡ None
 no_subcommand word idle = refl
 no_subcommand word (option id) = refl
 no_subcommand word positional = refl
@@ -72,7 +72,7 @@ module _ (s : Shape) (rows : List Row) (pending : Option (Text × List Text)) (w
     (calm : Calm s (held rows pending) sum) (line : List Text) (end : Walk) where
   -- ---- a word that goes to its place
 
-  word_walked : (word : Text) (after_hyphens : Bool) → IsPlaced word after_hyphens → walked s.rules [] (at rows pending waiting position after_hyphens) word
+  pub word_walked : (word : Text) (after_hyphens : Bool) → IsPlaced word after_hyphens → walked s.rules [] (at rows pending waiting position after_hyphens) word
       ≡ to_positional s.rules (arg_by_index s.rules position) word (at rows pending waiting position after_hyphens) (held rows pending)
   unfolding walked
   word_walked word true plain_so = refl
@@ -84,7 +84,7 @@ module _ (s : Shape) (rows : List Row) (pending : Option (Text × List Text)) (w
       go positional h = refl
       go (option id) h = absurd h
 
-  word_quiet : (word : Text) (after_hyphens : Bool) → IsPlaced word after_hyphens → turn_fault s [] (at rows pending waiting position after_hyphens) word
+  pub word_quiet : (word : Text) (after_hyphens : Bool) → IsPlaced word after_hyphens → turn_fault s [] (at rows pending waiting position after_hyphens) word
       ≡ step_fault s position (held rows pending) value
   word_quiet word true plain_so = refl
   word_quiet word false plain_so = quiet_plain s (at rows pending waiting position false) word plain_so refl refl ∙ go waiting open_so
@@ -158,12 +158,12 @@ module _ (s : Shape) (rows : List Row) (pending : Option (Text × List Text)) (w
 
   -- ---- an option
 
-  abbrev met : Text → Option Text → Rule → Held × Step
+  abbrev pub met : Text → Option Text → Rule → Held × Step
   met word v a =
       let m = long_met s.rules (Some a) v (held rows pending) in
       after_flag s.rules waiting word m.0 m.1
 
-  long_walked : (word name : Text) (v : Option Text) (a : Rule) → IsLong s word name v a
+  pub long_walked : (word name : Text) (v : Option Text) (a : Rule) → IsLong s word name v a
       → walked s.rules [] (at rows pending waiting position false) word ≡ after_step s.rules word (at rows pending waiting position false) (met word v a).0 (met word v a).1
   unfolding walked
   long_walked word name v a l =
@@ -174,7 +174,7 @@ module _ (s : Shape) (rows : List Row) (pending : Option (Text × List Text)) (w
       ∙ ap (λ (o : Option (Text × Option Text)). A (long_or_other s.rules waiting word o h)) l.long
       ∙ ap (λ (o : Option Rule). A (after_flag s.rules waiting word (long_met s.rules o v h).0 (long_met s.rules o v h).1)) l.by_long
 
-  long_quiet : (word name : Text) (v : Option Text) (a : Rule) → IsLong s word name v a
+  pub long_quiet : (word name : Text) (v : Option Text) (a : Rule) → IsLong s word name v a
       → turn_fault s [] (at rows pending waiting position false) word ≡ or_else
       (long_fault s.rules s.args_override_self (Some a) v (held rows pending)) (step_fault s position (met word v a).0 (met word v a).1)
   long_quiet word name v a l =
@@ -187,19 +187,14 @@ module _ (s : Shape) (rows : List Row) (pending : Option (Text × List Text)) (w
       ∙ ap (λ (o : Option (Text × Option Text)). B (flag_word_fault s.rules again o word h) (long_or_other s.rules waiting word o h)) l.long
       ∙ ap (λ (o : Option Rule). B (long_fault s.rules again o v h) (after_flag s.rules waiting word (long_met s.rules o v h).0 (long_met s.rules o v h).1)) l.by_long
 
-  -- an option with its value in the next word
-  pub apart_read : (word name v : Text) (required : Bool) → IsLong s word name None (valued required name) → IsNoFlag v → arg_by_id s.rules name ≡
-      Some (valued required name) → bytes_eq name name ≡ true
-      → IsRead s (at sum (Some (name, v ∷ [])) idle position false) line end → IsRead s (at rows pending waiting position false) (word ∷ v ∷ line) end
-  apart_read word name v required l plain_so by self r =
-      let w : Walk = at sum (Some (name, [])) (option name) position false in
-      read_word s (at rows pending waiting position false) word (v ∷ line) w end
+  -- an option that waits for its value
+  pub waits_read : (word name : Text) (required : Bool) → IsLong s word name None (valued required name)
+      → IsRead s (at sum (Some (name, [])) (option name) position false) line end → IsRead s (at rows pending waiting position false) (word ∷ line) end
+  waits_read word name required l r =
+      read_word s (at rows pending waiting position false) word line (at sum (Some (name, [])) (option name) position false) end
       (long_quiet word name None (valued required name) l ∙ ap (λ (k : Kinds). or_else k []) calm.fault)
       (long_walked word name None (valued required name) l ∙ ap (λ (rs : List Row). at rs (Some (name, [])) (option name) position false) calm.rows_are)
-      (read_so s w v plain_so refl refl line (at sum (Some (name, v ∷ [])) idle position false) end refl
-      (ap (λ (o : Option Rule). after_step s.rules v w (option_word o name v w.held).0 (next (option_word o name v w.held).1)) by
-      ∙ ap (λ (b : Bool). at sum (Some (name, v ∷ [])) (if nat_lt (if b then 1 else 0) 1 then option name else idle) position false) self)
-      r)
+      r
 
   -- an option with its value in the same word
   pub joined_read : (word name v : Text) (required : Bool) → IsLong s word name (Some v) (valued required name) → Adds s.args_override_self (valued required name) (v ∷ []) v sum
@@ -230,3 +225,14 @@ module _ (s : Shape) (rows : List Row) (pending : Option (Text × List Text)) (w
       ∙ ap (λ (rs : List Row). at (used a [] rs) None idle position false) calm.rows_are
       ∙ ap (λ (rs : List Row). at rs None idle position false) adds.rows_are)
       r
+
+-- the value of an option that waits for it
+pub value_read : (s : Shape) (sum : List Row) (position : ℕ) (name v : Text) (required : Bool) → IsNoFlag v → arg_by_id s.rules name ≡ Some (valued required name)
+    → bytes_eq name name ≡ true → (line : List Text) (end : Walk) → IsRead s (at sum (Some (name, v ∷ [])) idle position false) line end
+    → IsRead s (at sum (Some (name, [])) (option name) position false) (v ∷ line) end
+value_read s sum position name v required plain_so by self line end r =
+    let w : Walk = at sum (Some (name, [])) (option name) position false in
+    read_so s w v plain_so refl refl line (at sum (Some (name, v ∷ [])) idle position false) end refl
+    (ap (λ (o : Option Rule). after_step s.rules v w (option_word o name v w.held).0 (next (option_word o name v w.held).1)) by
+    ∙ ap (λ (b : Bool). at sum (Some (name, v ∷ [])) (if nat_lt (if b then 1 else 0) 1 then option name else idle) position false) self)
+    r

@@ -1,15 +1,17 @@
 -- How the words and options of a command may be arranged on a line.
 use Rattle.std.specs.Prelude.{◌≡◌, ◌≢◌, ◌⊎◌, ℕ, List, [], ◌∷◌, ◌++◌, Option, Some, None, codes}
+use Rattle.std.specs.Str.{IsUtf8}
 
 -- an option that is given: its name without hyphens, and its value if it takes one
 pub record GivenOption : Type 0 where
   pub name : List ℕ
   pub value : Option (List ℕ)
 
--- the word is empty or does not begin with a hyphen
+-- the word does not begin with a hyphen, or is a hyphen alone
 abbrev pub IsUnhyphened : List ℕ → Type 0
 IsUnhyphened [] = Unit {0}
-IsUnhyphened (c ∷ cs) = c ≢ 45
+IsUnhyphened (c ∷ []) = Unit {0}
+IsUnhyphened (c ∷ (d ∷ ds)) = c ≢ 45
 
 -- the ways to write an option: `--NAME`, or with a value `--NAME VALUE` or `--NAME=VALUE`
 abbrev pub IsWritten : List ℕ → Option (List ℕ) → List (List ℕ) → Type 0
@@ -27,3 +29,8 @@ pub data Arranged : List (List ℕ) → List GivenOption → List (List ℕ) →
       → IsWritten option.name option.value written → Arranged words (before ++ after) line
       → Arranged words (before ++ option ∷ after) (written ++ line)
   then_hyphens : (words : List (List ℕ)) → Arranged words [] (codes "--" ∷ words)
+
+-- each word is text in UTF-8, as the words of a call are
+abbrev pub AreTexts : List (List ℕ) → Type 0
+AreTexts [] = Unit {0}
+AreTexts (w ∷ ws) = IsUtf8 w × AreTexts ws

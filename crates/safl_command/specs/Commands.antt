@@ -4,7 +4,7 @@ use Rattle.std.specs.Prelude.{bytes_eq, if◌then◌else◌, codes, string_bytes
 use Rattle.std.specs.Borrow.{Bor}
 use Rattle.clap.specs.Words.{Row, Kinds, fault_of, subcommand_of, first_of}
 use Rattle.safl_command.specs.Forms.{app}
-use Rattle.safl_command.specs.Values.{name_in, number_in, number_of, limit_in, count_in, has_flag, args_in}
+use Rattle.safl_command.specs.Values.{name_from, number_from, number_of, limit_from, count_from, is_set, args_in}
 use Rattle.safl_command.specs.Traces.{Traces, shown_traces, are_apart}
 use Rattle.safl_command.specs.declared.command.Command as code
 use Rattle.safl_command.specs.declared.command.Command.TheVariants as code_of
@@ -44,10 +44,13 @@ abbrev pub given : {T : Type 0} → Option T → (T → Option Command) → Opti
 given value make = option_and_then make value
 
 -- the files for traces, if their names differ
-abbrev pub traces_in : List Row → Option Traces
-traces_in rows =
-    let t : Traces = record { vcd = first_of (codes "vcd") rows; starts = first_of (codes "starts") rows; toggles = first_of (codes "toggles") rows } in
+abbrev pub traces_from : (List ℕ → Option (List ℕ)) → Option Traces
+traces_from first =
+    let t : Traces = record { vcd = first (codes "vcd"); starts = first (codes "starts"); toggles = first (codes "toggles") } in
     if are_apart t then Some t else None
+
+abbrev pub traces_in : List Row → Option Traces
+traces_in rows = traces_from (λ id. first_of id rows)
 
 -- the word that an option has, if there is one
 abbrev pub word_of : Option (Bor (List ℕ)) → Option (List ℕ)
@@ -59,30 +62,33 @@ reshaped input output (Some copied) None = option_map (CopySite input output) (n
 reshaped input output None (Some unfolded) = option_map (UnfoldSite input output) (number_of unfolded)
 reshaped input output _ _ = None
 
--- the command of a subcommand, from the values of its arguments
-abbrev pub command_in : List ℕ → List Row → Option Command
-command_in word rows =
-    if bytes_eq word (codes "check") then option_map Check (name_in (codes "IN") rows)
-    else if bytes_eq word (codes "build") then given (name_in (codes "IN") rows) (λ input. given (name_in (codes "OUT") rows)
-    (λ output. Some (if has_flag (codes "opt") rows then Optimise input output else Build input output)))
-    else if bytes_eq word (codes "sim") then given (name_in (codes "IN") rows) (λ input. given (limit_in (codes "cycles") rows)
-    (λ limit. option_map (λ traces. Sim input limit traces (args_in rows)) (traces_in rows)))
-    else if bytes_eq word (codes "walk") then given (name_in (codes "IN") rows) (λ input. given (number_in (codes "order") rows)
-    (λ seed. option_map (λ steps. Walk input seed steps (args_in rows)) (limit_in (codes "steps") rows)))
-    else if bytes_eq word (codes "run") then given (name_in (codes "FILE") rows)
-    (λ input. option_map (λ limit. Run input limit (args_in rows)) (limit_in (codes "cycles") rows))
-    else if bytes_eq word (codes "report") then option_map Report (name_in (codes "IN") rows)
-    else if bytes_eq word (codes "gen") then given (number_in (codes "SEED") rows) (λ seed. option_map (Gen seed) (count_in (codes "COUNT") rows))
-    else if bytes_eq word (codes "bench") then given (number_in (codes "SEED") rows) (λ seed. given (count_in (codes "COUNT") rows)
-    (λ count. option_map (Bench seed count) (limit_in (codes "cycles") rows)))
-    else if bytes_eq word (codes "reshape") then given (name_in (codes "IN") rows) (λ input. given (name_in (codes "OUT") rows)
-    (λ output. reshaped input output (first_of (codes "copy") rows) (first_of (codes "unfold") rows)))
-    else if bytes_eq word (codes "session") then given (name_in (codes "IN") rows) (λ input. given (name_in (codes "SCRIPT") rows)
-    (λ script. option_map (Session input script) (limit_in (codes "cycles") rows)))
-    else if bytes_eq word (codes "aig") then given (name_in (codes "FILE") rows) (λ input. given (name_in (codes "OUT") rows)
+-- the command of a subcommand, from the first value of each argument and the values of `ARG`
+abbrev pub command_from : List ℕ → (List ℕ → Option (List ℕ)) → List (List ℕ) → Option Command
+command_from word first args =
+    if bytes_eq word (codes "check") then option_map Check (name_from (first (codes "IN")))
+    else if bytes_eq word (codes "build") then given (name_from (first (codes "IN"))) (λ input. given (name_from (first (codes "OUT")))
+    (λ output. Some (if is_set (first (codes "opt")) then Optimise input output else Build input output)))
+    else if bytes_eq word (codes "sim") then given (name_from (first (codes "IN"))) (λ input. given (limit_from (first (codes "cycles")))
+    (λ limit. option_map (λ traces. Sim input limit traces args) (traces_from first)))
+    else if bytes_eq word (codes "walk") then given (name_from (first (codes "IN"))) (λ input. given (number_from (first (codes "order")))
+    (λ seed. option_map (λ steps. Walk input seed steps args) (limit_from (first (codes "steps")))))
+    else if bytes_eq word (codes "run") then given (name_from (first (codes "FILE")))
+    (λ input. option_map (λ limit. Run input limit args) (limit_from (first (codes "cycles"))))
+    else if bytes_eq word (codes "report") then option_map Report (name_from (first (codes "IN")))
+    else if bytes_eq word (codes "gen") then given (number_from (first (codes "SEED"))) (λ seed. option_map (Gen seed) (count_from (first (codes "COUNT"))))
+    else if bytes_eq word (codes "bench") then given (number_from (first (codes "SEED"))) (λ seed. given (count_from (first (codes "COUNT")))
+    (λ count. option_map (Bench seed count) (limit_from (first (codes "cycles")))))
+    else if bytes_eq word (codes "reshape") then given (name_from (first (codes "IN"))) (λ input. given (name_from (first (codes "OUT")))
+    (λ output. reshaped input output (first (codes "copy")) (first (codes "unfold"))))
+    else if bytes_eq word (codes "session") then given (name_from (first (codes "IN"))) (λ input. given (name_from (first (codes "SCRIPT")))
+    (λ script. option_map (Session input script) (limit_from (first (codes "cycles")))))
+    else if bytes_eq word (codes "aig") then given (name_from (first (codes "FILE"))) (λ input. given (name_from (first (codes "OUT")))
     (λ output. Some (Aig input output)))
-    else if bytes_eq word (codes "aigstat") then option_map Aigstat (name_in (codes "FILE") rows)
+    else if bytes_eq word (codes "aigstat") then option_map Aigstat (name_from (first (codes "FILE")))
     else None
+
+abbrev pub command_in : List ℕ → List Row → Option Command
+command_in word rows = command_from word (λ id. first_of id rows) (args_in rows)
 
 -- the command of the subcommand that was found, if `clap` found no fault
 abbrev pub faultless : Kinds → Option (List ℕ × List Row) → Option Command

@@ -6,3 +6,4 @@ pub mod Traces
 pub mod Commands
 pub mod Arranged
 pub mod Laws
+pub mod Spelled

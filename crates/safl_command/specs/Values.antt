@@ -27,23 +27,38 @@ number_of word = if is_number word then Some (value 10 word) else None
 abbrev pub number_within : ℕ → List ℕ → Option ℕ
 number_within most word = if is_within most word then Some (value 10 word) else None
 
+-- what an argument gives, from its first value: a name; a decimal number, as a seed or the number of a site; a number of cycles or
+-- events; a number of functions; and whether a flag is given
+abbrev pub name_from : Option (List ℕ) → Option (List ℕ)
+name_from = option_and_then filled
+
+abbrev pub number_from : Option (List ℕ) → Option ℕ
+number_from = option_and_then number_of
+
+abbrev pub limit_from : Option (List ℕ) → Option ℕ
+limit_from = option_and_then (number_within cycles_max)
+
+abbrev pub count_from : Option (List ℕ) → Option ℕ
+count_from = option_and_then (number_within generated_max)
+
+abbrev pub is_set : Option (List ℕ) → Bool
+is_set word = option_map_or (λ w. bytes_eq w (codes "true")) word false
+
+-- the same, of the argument with this name
 abbrev pub name_in : List ℕ → List Row → Option (List ℕ)
-name_in id rows = option_and_then filled (first_of id rows)
+name_in id rows = name_from (first_of id rows)
 
--- the decimal number that an argument gives: a seed, or the number of a site
 abbrev pub number_in : List ℕ → List Row → Option ℕ
-number_in id rows = option_and_then number_of (first_of id rows)
+number_in id rows = number_from (first_of id rows)
 
--- the number of cycles or events that an argument gives; and the number of functions
 abbrev pub limit_in : List ℕ → List Row → Option ℕ
-limit_in id rows = option_and_then (number_within cycles_max) (first_of id rows)
+limit_in id rows = limit_from (first_of id rows)
 
 abbrev pub count_in : List ℕ → List Row → Option ℕ
-count_in id rows = option_and_then (number_within generated_max) (first_of id rows)
+count_in id rows = count_from (first_of id rows)
 
--- whether a flag was given
 abbrev pub has_flag : List ℕ → List Row → Bool
-has_flag id rows = option_map_or (λ word. bytes_eq word (codes "true")) (first_of id rows) false
+has_flag id rows = is_set (first_of id rows)
 
 -- the words of an argument that takes any number of them
 abbrev pub args_in : List Row → List (List ℕ)

@@ -1,6 +1,7 @@
 //! Laws of command lines: which words are which command.
 
 ghost use Rattle.safl_command.specs.Laws.{CheckWords, CheckLines, BuildWords, BuildLines, OptimiseWords, OptimiseLines, SimWords, SimLines, WalkWords, WalkLines, RunWords, RunLines, ReportWords, ReportLines, GenWords, GenLines, BenchWords, BenchLines, CopyWords, CopyLines, UnfoldWords, UnfoldLines, SessionWords, SessionLines, AigWords, AigLines, AigstatWords, AigstatLines};
+ghost use Rattle.safl_command.specs.Spelled.{LinesAreExact, OthersAreNone, CasesAreNone};
 
 /// `check IN`.
 pub fn check_law()
@@ -84,4 +85,11 @@ pub fn aig_law()
 pub fn aigstat_law()
     ensures words { AigstatWords }
     ensures lines { AigstatLines }
+{}
+
+/// Exactly these lines are commands.
+pub fn exact_law()
+    ensures lines { LinesAreExact }
+    ensures others { OthersAreNone }
+    ensures cases { CasesAreNone }
 {}
