@@ -16,7 +16,7 @@ use Rattle.safl_net.specs.declared.cell.Op.TheVariants.{Apply}
 use Rattle.safl_net.specs.Netlist.{Netlist}
 use Rattle.safl_net.specs.Valuations.{cell_word}
 use Rattle.safl_net.specs.Widths.{op_width, prim_width}
-use Rattle.safl_net.specs.Making.{cell_on, numbers, widths}
+use Rattle.safl_net.specs.Making.{cell_on, numbers, signal_widths}
 use Rattle.safl_net.specs.Rules.{IsNetlist, CellFits}
 use Rattle.safl_aiger.specs.declared.literal.Lit.{Lit}
 use Rattle.safl_aiger.specs.Literals.{Assignment}
@@ -84,10 +84,6 @@ nothing = record { 0 = 0 }
 abbrev pub sig : List Sig → ℕ → Sig
 sig xs k = slice_index_or xs k nothing
 
-pub shape_0 : (xs : List Sig) → length xs < 1 → xs ≡ []
-shape_0 [] h = refl
-shape_0 (x ∷ xs) h = absurd (omega (arith, h))
-
 pub shape_1 : (xs : List Sig) → 1 ≤ length xs → length xs < 2 → xs ≡ sig xs 0 ∷ []
 shape_1 [] h k = absurd (omega (arith, h))
 shape_1 (x ∷ []) h k = refl
@@ -113,7 +109,7 @@ lits table xs = map (λ (x : Sig). lits_at table x.0) xs
 abbrev EachReady : Netlist → Gates → List Pins → List Sig → Type 0
 EachReady n g table xs = (k t : ℕ) → slice_get (numbers xs) k ≡ Some t → Ready n g table t
 
-long_lits : (n : Netlist) (g : Gates) (table : List Pins) (xs : List Sig) → EachReady n g table xs → widths n (numbers xs) ≡ map length (lits table xs)
+long_lits : (n : Netlist) (g : Gates) (table : List Pins) (xs : List Sig) → EachReady n g table xs → signal_widths n (numbers xs) ≡ map length (lits table xs)
 long_lits n g table [] h = refl
 long_lits n g table (x ∷ xs) h = λ i. sym (h 0 x.0 refl).long i ∷ long_lits n g table xs (λ k t e. h (suc k) t e) i
 

@@ -11,7 +11,7 @@ use Rattle.safl_net.specs.declared.cell.SigKind.{SigKind}
 use Rattle.safl_net.specs.declared.cell.Sig.{Sig}
 use Rattle.safl_net.specs.Netlist.{Netlist, Signal, Kind, Input, Reg, Wire, Cell, width_of, is_input, is_register}
 use Rattle.safl_net.specs.Valuations.{Valuation, Fits, Holds, cell_word, signal_word}
-use Rattle.safl_net.specs.Making.{kind_at, kind_in, cell_in, sort_of, widths, numbers}
+use Rattle.safl_net.specs.Making.{kind_at, kind_in, cell_in, sort_of, signal_widths, numbers}
 use Rattle.safl_net.specs.Rules.{IsNetlist}
 use Rattle.safl_net.proofs.SignalKinds.{sort_wire_or_not}
 use Rattle.safl_order.specs.Order.{operands_of, operands_in, IsWire, IsOrder}
@@ -39,7 +39,7 @@ wire_kind (Reg init next) d e = absurd (cc)
 wire_kind (Wire None) d e = absurd (cc)
 wire_kind (Wire (Some c)) d e = let q : c ≡ d = cc in ap (λ x. Wire (Some x)) q
 
-pub weight_is : (n : Netlist) (s : ℕ) (d : Cell) → cell_in (kind_at n s) ≡ Some d → signal_weight n s ≡ op_weight d.op (width_of n s) (widths n d.operands)
+pub weight_is : (n : Netlist) (s : ℕ) (d : Cell) → cell_in (kind_at n s) ≡ Some d → signal_weight n s ≡ op_weight d.op (width_of n s) (signal_widths n d.operands)
 weight_is n s d e = ap (kind_weight n (width_of n s)) (wire_kind (kind_at n s) d e)
 
 wire_number : (n : Netlist) (state : ℕ → ℕ) (v : Valuation) (s : ℕ) (d : Cell) → Fits n state v → kind_at n s ≡ Wire (Some d) → slice_index v s ≡

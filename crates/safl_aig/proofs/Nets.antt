@@ -1,10 +1,8 @@
 -- What nets hold.
-use Rattle.std.proofs.Common.{◌≡◌, ◌≢◌, ℕ, zero, suc, ◌<◌, ◌≤◌, List, [], ◌∷◌, length, Option, Some, None, option_map, slice_get, refl, ap, subst, arith}
-use Rattle.std.proofs.lemmas.Option.{slice_get_past}
+use Rattle.std.proofs.Common.{◌≡◌, ◌≢◌, ℕ, zero, suc, ◌<◌, ◌≤◌, List, [], ◌∷◌, length, Option, Some, None, option_map, slice_get, refl, subst, arith}
 use Rattle.safl_net.specs.Netlist.{Netlist, Signal, Kind, Input, Reg, Wire, Cell, width_in, width_of}
 use Rattle.safl_net.specs.Making.{kind_at, kind_in, cell_in}
 use Rattle.safl_net.specs.Rules.{IsNetlist, KindFits, CellFits}
-use Rattle.safl_net.specs.Valuations.{reset_state, reset_number}
 use Rattle.safl_aig.specs.Bits.{output_at, shown_in}
 
 pub width_le : (n : Netlist) → IsNetlist n → (s : ℕ) → width_of n s ≤ 128
@@ -39,10 +37,6 @@ output_known n made i l = by (slice_get n.outputs i) refl
     by : (o : Option (List ℕ × ℕ)) → slice_get n.outputs i ≡ o → shown_in o < length n.signals
     by None e = absurd (some n.outputs i l e)
     by (Some o) e = (made.outputs i o e).1
-
--- past the signals nothing resets
-pub past_reset : (n : Netlist) (s : ℕ) → length n.signals ≤ s → reset_state n s ≡ 0
-past_reset n s h = ap reset_number (slice_get_past n.signals s h)
 
 -- an output's signal, as a net tells it
 pub output_is : (n : Netlist) (i s : ℕ) → Some s ≡ option_map (λ (o : List ℕ × ℕ). o.1) (slice_get n.outputs i) → s ≡ output_at n i

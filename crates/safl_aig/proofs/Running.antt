@@ -7,7 +7,7 @@ use Rattle.safl_net.specs.Valuations.{Valuation, Fits, Holds, reset_state, next_
 use Rattle.safl_aiger.specs.Literals.{Assignment, bits_of}
 use Rattle.safl_aiger.specs.Circuits.{Circuit, latches}
 use Rattle.safl_aiger.specs.Runs.{RunsFrom, all_false, next_bits}
-use Rattle.safl_aiger.specs.Runs.{Fits as Suits}
+use Rattle.safl_aiger.specs.Runs.{FitsCircuit as Suits}
 use Rattle.safl_aiger.proofs.Evaluating.{false_long}
 use Rattle.safl_aig.specs.Bits.{gathered, of_kind, for_registers, signal_bits}
 use Rattle.safl_aig.specs.Mirrors.{Mirrors, SameBits, EqualBits, RunsOn, given_bits}

@@ -3,7 +3,7 @@ use Rattle.std.specs.Prelude.{◌≡◌, ℕ, ◌*◌, ◌≤◌, List, length, 
 use Rattle.safl_net.specs.Netlist.{Netlist}
 use Rattle.safl_aiger.specs.Circuits.{Circuit}
 use Rattle.safl_aiger.specs.Reads.{AigReads}
-use Rattle.safl_aiger.specs.Texts.{written}
+use Rattle.safl_aiger.specs.Texts.{written_circuit}
 use Rattle.safl_aig.specs.Mirrors.{SameBits}
 use Rattle.safl_aig.specs.Places.{HasNames, Answers}
 use Rattle.safl_aig.specs.Weights.{weight, most_weight, AllZero}
@@ -27,7 +27,7 @@ pub record IsTextOf (n : Netlist) (text : List ℕ) : Type 0 where
   pub light : IsLight n
   pub circuit : Circuit
   pub bits : IsBitLevel n circuit
-  pub is : text ≡ written circuit
+  pub is : text ≡ written_circuit circuit
   pub reads : AigReads text circuit
 
 -- Why a netlist has no circuit: its first register that does not reset to 0; or, if all do, a weight that is too great; or, if it

@@ -1,5 +1,5 @@
 -- The bits of signals, in the order of the net.
-use Rattle.std.specs.Prelude.{ℕ, zero, suc, List, [], ◌++◌, length, Bool, cond, Option, Some, None, slice_get}
+use Rattle.std.specs.Prelude.{ℕ, zero, suc, List, [], ◌++◌, length, Bool, cond, Option, slice_get}
 use Rattle.std.specs.Option.{option_map_or}
 use Rattle.safl_net.specs.Netlist.{Netlist, Kind, width_of, is_input, is_register}
 use Rattle.safl_net.specs.Making.{kind_at}

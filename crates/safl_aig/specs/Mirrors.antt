@@ -5,7 +5,7 @@ use Rattle.safl_net.specs.Netlist.{Netlist}
 use Rattle.safl_net.specs.Valuations.{Valuation, Fits, reset_state, next_state}
 use Rattle.safl_aiger.specs.Literals.{Assignment, values}
 use Rattle.safl_aiger.specs.Circuits.{Circuit, latches, base}
-use Rattle.safl_aiger.specs.Runs.{Wired, input_bits, latch_bits, next_bits, Runs}
+use Rattle.safl_aiger.specs.Runs.{Wired, input_bits, latch_bits, next_bits, RunsFromReset}
 use Rattle.safl_aig.specs.Bits.{for_inputs, for_registers, for_outputs, signal_bits}
 
 -- the valuations are the cycles of a run from some state, with any inputs
@@ -22,7 +22,7 @@ pub record EqualBits (n : Netlist) (a : Circuit) (v : Valuation) (m : Assignment
 abbrev pub SameBits : Netlist → Circuit → Type 0
 SameBits n a =
     (vs : List Valuation) (ms : List Assignment) → RunsOn n (reset_state n) vs
-    → Runs a (map (λ (v : Valuation). for_inputs n (signal_bits n (slice_index v))) vs) ms → AllZip (EqualBits n a) vs ms
+    → RunsFromReset a (map (λ (v : Valuation). for_inputs n (signal_bits n (slice_index v))) vs) ms → AllZip (EqualBits n a) vs ms
 
 -- the bits of all inputs in a cycle
 abbrev pub given_bits : Netlist → Valuation → List Bool

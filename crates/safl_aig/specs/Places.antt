@@ -1,5 +1,5 @@
 -- Names and literals of inputs, latches and outputs.
-use Rattle.std.specs.Prelude.{◌≡◌, ℕ, zero, suc, ◌<◌, ◌≤◌, List, [], ◌∷◌, ◌++◌, length, Option, Some, None, Result, Ok, Err, codes, decimal, unwrap_or, slice_get}
+use Rattle.std.specs.Prelude.{◌≡◌, ℕ, zero, suc, ◌<◌, ◌≤◌, List, [], ◌∷◌, ◌++◌, length, Option, Result, Ok, Err, codes, decimal, unwrap_or, slice_get}
 use Rattle.std.specs.Option.{option_map_or}
 use Rattle.safl_net.specs.Netlist.{Netlist, width_of}
 use Rattle.safl_net.specs.Making.{kind_at, name_at, next_in}

@@ -10,7 +10,7 @@ use Rattle.safl_net.specs.declared.cell.Op.{Op}
 use Rattle.safl_bits.specs.Results.{word}
 use Rattle.safl_net.specs.declared.cell.SigKind.{SigKind}
 use Rattle.safl_net.specs.declared.cell.SigKind.TheVariants as sorts
-use Rattle.safl_net.specs.Making.{kind_at, widths}
+use Rattle.safl_net.specs.Making.{kind_at, signal_widths}
 use Rattle.safl_aiger.specs.declared.literal.Lit.{Lit}
 use Rattle.safl_aiger.specs.Literals.{Assignment, shown}
 use Rattle.safl_bits.specs.Gates.{Gates, AreLiterals, HasRoom, Grows, Holds}
@@ -87,10 +87,10 @@ pub record CellMade (n : Netlist) (g : Gates) (table : List Pins) (c : Cell) (r 
 
 -- The graph has room for what a cell may take, and a cell takes no more than that.
 abbrev pub RoomFor : Netlist → Gates → Cell → Type 0
-RoomFor n g c = (w : ℕ) × CellFits n w c × HasRoom g (16 * op_weight c.op w (widths n c.operands))
+RoomFor n g c = (w : ℕ) × CellFits n w c × HasRoom g (16 * op_weight c.op w (signal_widths n c.operands))
 
 abbrev pub GrowsFor : Netlist → Gates → Gates → Cell → Type 0
-GrowsFor n old new c = (w : ℕ) → CellFits n w c → Grows old new (16 * op_weight c.op w (widths n c.operands))
+GrowsFor n old new c = (w : ℕ) → CellFits n w c → Grows old new (16 * op_weight c.op w (signal_widths n c.operands))
 
 -- the literals show the result of an operation on words
 pub record OpMade (op : Op) (gs : List (List Lit)) (g : Gates) (r : List Lit) : Type 0 where

@@ -4,7 +4,7 @@ use Rattle.safl_word.specs.Lists.{summed}
 use Rattle.safl_net.specs.declared.cell.Op.{Op}
 use Rattle.safl_net.specs.declared.cell.Op.TheVariants.{Apply}
 use Rattle.safl_net.specs.Netlist.{Netlist, Kind, Wire, width_of}
-use Rattle.safl_net.specs.Making.{kind_at, widths}
+use Rattle.safl_net.specs.Making.{kind_at, signal_widths}
 use Rattle.safl_net.specs.Valuations.{reset_state}
 use Rattle.safl_bits.specs.Weights.{greatest, apply_weight}
 use Rattle.safl_aig.specs.Bits.{output_at}
@@ -15,7 +15,7 @@ op_weight (Apply p) w ws = apply_weight p w ws
 op_weight _ w ws = greatest (w ∷ ws)
 
 abbrev pub kind_weight : Netlist → ℕ → Kind → ℕ
-kind_weight n w (Wire (Some c)) = op_weight c.op w (widths n c.operands)
+kind_weight n w (Wire (Some c)) = op_weight c.op w (signal_widths n c.operands)
 kind_weight n w _ = w
 
 abbrev pub signal_weight : Netlist → ℕ → ℕ

@@ -1,6 +1,6 @@
 //! From a netlist to a bit-level circuit.
 
-ghost use Rattle.std.specs.Prelude.{◌≡◌, ◌*◌, ◌≤◌, ◌<◌, length, IfOk};
+ghost use Rattle.std.specs.Prelude.{◌*◌, ◌≤◌, ◌<◌, length, IfOk};
 ghost use Rattle.safl_aig.specs.Weights.{weight, most_weight, AllZero};
 ghost use Rattle.safl_aig.specs.Mirrors.{Mirrors, SameBits};
 ghost use Rattle.safl_aig.specs.Places.{HasNames, Answers};

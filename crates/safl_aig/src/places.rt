@@ -1,11 +1,10 @@
 //! The names of a bit-level circuit's inputs, latches and outputs, and the literals that latches and outputs take.
 
-ghost use Rattle.std.specs.Prelude.{◌≡◌, ℕ, ◌+◌, ◌<◌, ◌≤◌, ◌++◌, length, OnOk, IfOk};
-ghost use Rattle.safl_net.specs.Netlist.{AllSet, width_of};
-ghost use Rattle.safl_net.specs.Making.{name_at};
+ghost use Rattle.std.specs.Prelude.{◌≡◌, ◌+◌, ◌<◌, ◌++◌, length, OnOk, IfOk};
+ghost use Rattle.safl_net.specs.Netlist.{AllSet};
 ghost use Rattle.safl_net.specs.Rules.{IsNetlist};
 ghost use Rattle.safl_aiger.specs.Circuits.{names_of};
-ghost use Rattle.safl_aig.specs.Bits.{gathered, of_kind, output_at, for_inputs, for_registers};
+ghost use Rattle.safl_aig.specs.Bits.{gathered, of_kind, for_inputs, for_registers};
 ghost use Rattle.safl_net.specs.Netlist.{is_register};
 ghost use Rattle.safl_aig.specs.Tables.{lits_at, kind_test};
 ghost use Rattle.safl_aig.specs.Places.{next_sig, next_lits, output_lits, bit_name, bit_names, signal_names, output_names};

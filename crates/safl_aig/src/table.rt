@@ -2,7 +2,6 @@
 
 ghost use Rattle.std.specs.Prelude.{◌≡◌, ℕ, ◌+◌, ◌*◌, ◌<◌, ◌≤◌, length, IfOk};
 ghost use Rattle.safl_word.specs.Limits.{variables_max};
-ghost use Rattle.safl_net.specs.Netlist.{width_of};
 ghost use Rattle.safl_net.specs.Netlist.{is_input, is_register};
 ghost use Rattle.safl_aig.specs.Tables.{lits_at, variable_lits, width_if, bits_before, input_count, first_and, source_lits, kind_test};
 

@@ -1,13 +1,13 @@
 //! The weight of a net, which bounds the ANDs that it takes, and the test that all registers reset to 0.
 
-ghost use Rattle.std.specs.Prelude.{◌≡◌, ◌≢◌, ℕ, ◌+◌, ◌*◌, ◌<◌, ◌≤◌, ◌∷◌, ◌↔◌, List, length, IsNone, IfSome, IsTrue};
+ghost use Rattle.std.specs.Prelude.{◌≡◌, ◌≢◌, ℕ, ◌+◌, ◌*◌, ◌<◌, ◌≤◌, ◌↔◌, List, length, IsNone, IfSome, IsTrue};
 ghost use Rattle.safl_word.specs.Limits.{width_max};
 ghost use Rattle.safl_net.specs.Netlist.{width_of};
-ghost use Rattle.safl_net.specs.Making.{widths, numbers};
+ghost use Rattle.safl_net.specs.Making.{signal_widths};
 ghost use Rattle.safl_net.specs.Valuations.{reset_state};
 ghost use Rattle.safl_net.specs.Rules.{IsNetlist, CellFits};
 ghost use Rattle.safl_net.specs.Stored.{cell_of};
-ghost use Rattle.safl_bits.specs.Weights.{greatest, second, apply_weight};
+ghost use Rattle.safl_bits.specs.Weights.{greatest, second};
 ghost use Rattle.safl_word.specs.Lists.{summed};
 ghost use Rattle.safl_aig.specs.Weights.{op_weight, signal_weight, output_weight, weight, AllZero, IsLeastNonzero};
 
@@ -104,7 +104,7 @@ fn cell_weight(net: &Net, cell: &Cell, width: u64) -> u64
     requires netlist { IsNetlist net.now }
     requires fits { (w : ℕ) × CellFits net.now w (cell_of cell.now) }
     requires width { width ≤ width_max }
-    ensures weight { result ≡ op_weight cell.now.op width (widths net.now (cell_of cell.now).operands) }
+    ensures weight { result ≡ op_weight cell.now.op width (signal_widths net.now (cell_of cell.now).operands) }
     ensures few { result ≤ 16384 }
 {
     match cell.operands.as_slice() {

@@ -1,17 +1,15 @@
 //! The literals of wires.
 
-ghost use Rattle.std.specs.Prelude.{◌≡◌, ℕ, ◌+◌, ◌*◌, ◌<◌, ◌≤◌, [], ◌∷◌, length, Some, slice_get, IfOk};
+ghost use Rattle.std.specs.Prelude.{◌≡◌, ℕ, ◌*◌, ◌<◌, ◌≤◌, [], ◌∷◌, length, Some, IfOk};
 ghost use Rattle.safl_word.specs.Limits.{width_max};
 ghost use Rattle.safl_net.specs.Netlist.{AllSet};
 ghost use Rattle.safl_order.specs.Order.{IsWire};
 ghost use Rattle.safl_aig.specs.Weights.{signal_weight};
 ghost use Rattle.safl_aig.specs.Wiring.{OperandsReady, WireMade};
 ghost use Rattle.safl_net.specs.Widths.{op_width};
-ghost use Rattle.safl_net.specs.Making.{widths};
-ghost use Rattle.safl_net.specs.Rules.{IsNetlist, CellFits};
+ghost use Rattle.safl_net.specs.Rules.{IsNetlist};
 ghost use Rattle.safl_net.specs.Stored.{cell_of};
-ghost use Rattle.safl_aiger.specs.Literals.{Assignment, on, shown};
-ghost use Rattle.safl_bits.specs.Gates.{AreLiterals, HasRoom, Grows, Holds};
+ghost use Rattle.safl_bits.specs.Gates.{AreLiterals, HasRoom, Grows};
 ghost use Rattle.safl_aig.specs.Tables.{AreReady, CellMade, RoomFor, GrowsFor, OpMade, MayDo, GrowsBy};
 
 use crate::table::{Pins, literals};

@@ -1,6 +1,6 @@
 //! The literals of all signals of a net.
 
-ghost use Rattle.std.specs.Prelude.{◌≡◌, ℕ, ◌+◌, ◌<◌, ◌≤◌, length, IfOk};
+ghost use Rattle.std.specs.Prelude.{◌≡◌, ◌+◌, ◌<◌, ◌≤◌, IfOk};
 ghost use Rattle.safl_aig.specs.Weights.{weight};
 ghost use Rattle.safl_aig.specs.Tables.{input_count, latch_count};
 ghost use Rattle.safl_aig.specs.Wiring.{Connected};

@@ -10,7 +10,7 @@ use Rattle.safl_aiger.specs.declared.reading.LineKind.TheVariants.{Input, Latch,
 use Rattle.safl_aiger.specs.declared.symbols.Sort.{Sort}
 use Rattle.safl_aiger.specs.declared.symbols.Sort.TheVariants as sorts
 use Rattle.safl_aiger.specs.Circuits.{Circuit, latches, variables, base, IsLine, AreBelow, IsCircuit}
-use Rattle.safl_aiger.specs.Lines.{grown, lines, fields, HasNumbers}
+use Rattle.safl_aiger.specs.Lines.{grown, text_lines, fields, HasNumbers}
 use Rattle.safl_aiger.specs.Reads.{Counts, IsGood, line_kinds, AreGood, kinds_from, own_numbers, latch_numbers, output_numbers, and_numbers}
 use Rattle.safl_aiger.specs.Reads.{body_numbers, counts_of, Named, NamesPlace, NamePlaces, with_name, symbol_line, unnamed, named_of}
 use Rattle.safl_aiger.proofs.Cutting.{Free, decimals_small}
@@ -137,13 +137,13 @@ grown_free : (c : ℕ) (ls : List (List ℕ)) → c ≢ 10 → AllFree ls → Al
 grown_free c [] h f = ((h, tt), tt)
 grown_free c (l ∷ ls) h f = ((h, f.0), f.1)
 
-pub lines_free : (t : List ℕ) → AllFree (lines t)
+pub lines_free : (t : List ℕ) → AllFree (text_lines t)
 lines_free [] = tt
 lines_free (c ∷ t) = by (c == 10) refl (lines_free t)
   where
-    by : (b : Bool) → (c == 10) ≡ b → AllFree (lines t) → AllFree (cond b ([] ∷ lines t) (grown c (lines t)))
+    by : (b : Bool) → (c == 10) ≡ b → AllFree (text_lines t) → AllFree (cond b ([] ∷ text_lines t) (grown c (text_lines t)))
     by true e f = (tt, f)
-    by false e f = grown_free c (lines t) (λ q. let z : (c == 10) ≡ true = ap (λ x. x == 10) q in cc) f
+    by false e f = grown_free c (text_lines t) (λ q. let z : (c == 10) ≡ true = ap (λ x. x == 10) q in cc) f
 
 pub free_parts : (xs ys : List (List ℕ)) → AllFree (xs ++ ys) → AllFree xs × AllFree ys
 free_parts [] ys f = (tt, f)

@@ -3,7 +3,7 @@ use Rattle.std.proofs.Common.{◌≡◌, ◌≢◌, ℕ, zero, suc, ◌+◌, ◌
 use Rattle.std.proofs.Common.{Bool, true, false, cond, refl, sym, ap, ◌∙◌, subst, arith}
 use Rattle.std.proofs.lemmas.List.{take-append-drop, drop-drop, drop_more, take_more, get_or-drop, drop_all, length-drop, take_all}
 use Rattle.std.proofs.lemmas.Bool.{ne_eqb}
-use Rattle.safl_aiger.specs.Lines.{grown, lines, fields, AreDecimals, HasCount}
+use Rattle.safl_aiger.specs.Lines.{grown, text_lines, fields, AreDecimals, HasCount}
 use Rattle.safl_word.specs.Numerals.{IsBounded}
 
 -- the byte isn't in the text
@@ -15,13 +15,13 @@ pub free_push : (c : ℕ) (xs : List ℕ) (x : ℕ) → Free c xs → x ≢ c �
 free_push c [] x h e = (e, tt)
 free_push c (y ∷ xs) x h e = (h.0, free_push c xs x h.1 e)
 
-pub lines_feed : (w t : List ℕ) → Free 10 w → lines (w ++ 10 ∷ t) ≡ w ∷ lines t
+pub lines_feed : (w t : List ℕ) → Free 10 w → text_lines (w ++ 10 ∷ t) ≡ w ∷ text_lines t
 lines_feed [] t h = refl
-lines_feed (x ∷ w) t h = ap (λ b. cond b ([] ∷ lines (w ++ 10 ∷ t)) (grown x (lines (w ++ 10 ∷ t)))) (ne_eqb x 10 h.0) ∙ ap (grown x) (lines_feed w t h.1)
+lines_feed (x ∷ w) t h = ap (λ b. cond b ([] ∷ text_lines (w ++ 10 ∷ t)) (grown x (text_lines (w ++ 10 ∷ t)))) (ne_eqb x 10 h.0) ∙ ap (grown x) (lines_feed w t h.1)
 
-pub lines_last : (x : ℕ) (w : List ℕ) → Free 10 (x ∷ w) → lines (x ∷ w) ≡ (x ∷ w) ∷ []
+pub lines_last : (x : ℕ) (w : List ℕ) → Free 10 (x ∷ w) → text_lines (x ∷ w) ≡ (x ∷ w) ∷ []
 lines_last x [] h = ap (λ b. cond b ([] ∷ []) ((x ∷ []) ∷ [])) (ne_eqb x 10 h.0)
-lines_last x (y ∷ w) h = ap (λ b. cond b ([] ∷ lines (y ∷ w)) (grown x (lines (y ∷ w)))) (ne_eqb x 10 h.0) ∙ ap (grown x) (lines_last y w h.1)
+lines_last x (y ∷ w) h = ap (λ b. cond b ([] ∷ text_lines (y ∷ w)) (grown x (text_lines (y ∷ w)))) (ne_eqb x 10 h.0) ∙ ap (grown x) (lines_last y w h.1)
 
 pub fields_space : (w t : List ℕ) → Free 32 w → fields (w ++ 32 ∷ t) ≡ w ∷ fields t
 fields_space [] t h = refl
@@ -46,19 +46,19 @@ whole text at end h = sym (take-append-drop (end - at) (drop at text)) ∙ ap (�
     (drop-drop (end - at) at text ∙ ap (λ j. drop j text) (let z : at + (end - at) ≡ end = omega (arith, h) in z))
 
 pub line_fed : (text : List ℕ) (at end d : ℕ) → at ≤ end → end < length text → Free 10 (take (end - at) (drop at text)) → get_or text end d ≡ 10 →
-    lines (drop at text) ≡ take (end - at) (drop at text) ∷ lines (drop (end + 1) text)
+    text_lines (drop at text) ≡ take (end - at) (drop at text) ∷ text_lines (drop (end + 1) text)
 line_fed text at end d h l f e =
-    ap lines (whole text at end h ∙ ap (λ x. take (end - at) (drop at text) ++ x) (drop_more text end d l ∙ ap (λ c. c ∷ drop (end + 1) text) e)) ∙
+    ap text_lines (whole text at end h ∙ ap (λ x. take (end - at) (drop at text) ++ x) (drop_more text end d l ∙ ap (λ c. c ∷ drop (end + 1) text) e)) ∙
     lines_feed (take (end - at) (drop at text)) (drop (end + 1) text) f
 
-pub line_ended : (text : List ℕ) (at end : ℕ) → at < length text → end ≡ length text → Free 10 (take (end - at) (drop at text)) → lines (drop at text)
-    ≡ take (end - at) (drop at text) ∷ lines (drop (end + 1) text)
+pub line_ended : (text : List ℕ) (at end : ℕ) → at < length text → end ≡ length text → Free 10 (take (end - at) (drop at text)) → text_lines (drop at text)
+    ≡ take (end - at) (drop at text) ∷ text_lines (drop (end + 1) text)
 line_ended text at end l e f =
     let all : take (end - at) (drop at text) ≡ drop at text = take_all (end - at) (drop at text) (omega (arith, length-drop at text, e)) in
     let past : drop (end + 1) text ≡ [] = drop_all (end + 1) text (omega (arith, e)) in
-    last (drop at text) (let z = length-drop at text in omega (arith, z, l)) (subst (λ (xs : List ℕ). Free 10 xs) all f) ∙ (λ i. sym all i ∷ lines (sym past i))
+    last (drop at text) (let z = length-drop at text in omega (arith, z, l)) (subst (λ (xs : List ℕ). Free 10 xs) all f) ∙ (λ i. sym all i ∷ text_lines (sym past i))
   where
-    last : (xs : List ℕ) → 0 < length xs → Free 10 xs → lines xs ≡ xs ∷ []
+    last : (xs : List ℕ) → 0 < length xs → Free 10 xs → text_lines xs ≡ xs ∷ []
     last [] h f = absurd (omega (arith, h))
     last (x ∷ xs) h f = lines_last x xs f
 
@@ -99,13 +99,6 @@ count_first line w rest k e h = by h.0 h.1 (subst (λ ws. AreDecimals ws h.0) e 
     by : (ns : List ℕ) → length ns ≡ suc k → AreDecimals (w ∷ fields rest) ns → IsBounded 10 10 (2 ^ 31) w × HasCount rest k
     by [] l d = absurd d
     by (n ∷ ns) l d = (d.0.bounded, (ns, (let z : length ns ≡ k = omega (arith, l) in z), d.1))
-
-pub count_only : (line w : List ℕ) → fields line ≡ w ∷ [] → HasCount line 1 → IsBounded 10 10 (2 ^ 31) w
-count_only line w e h = by h.0 (subst (λ ws. AreDecimals ws h.0) e h.2)
-  where
-    by : (ns : List ℕ) → AreDecimals (w ∷ []) ns → IsBounded 10 10 (2 ^ 31) w
-    by [] d = absurd d
-    by (n ∷ ns) d = d.0.bounded
 
 -- ---- numbers once
 

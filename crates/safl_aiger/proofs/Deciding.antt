@@ -13,11 +13,11 @@ use Rattle.safl_aiger.specs.declared.reading.LineKind.TheVariants.{Input, Latch,
 use Rattle.safl_aiger.specs.declared.symbols.Sort.{Sort}
 use Rattle.safl_aiger.specs.declared.symbols.Sort.TheVariants as sorts
 use Rattle.safl_aiger.specs.Circuits.{Circuit}
-use Rattle.safl_aiger.specs.Lines.{lines, fields, IsDecimal, AreDecimals, HasNumbers}
+use Rattle.safl_aiger.specs.Lines.{text_lines, fields, IsDecimal, AreDecimals, HasNumbers}
 use Rattle.safl_aiger.specs.Reads.{Counts, IsHeader, total, size, IsGood, kinds_from, line_kinds, AreGood, own_numbers, latch_numbers, output_numbers}
-use Rattle.safl_aiger.specs.Reads.{and_numbers, counts_of, Named, NamesPlace, names_for, with_name, letter, symbol_line, unnamed, RefusesLine, Begins, AigReads}
+use Rattle.safl_aiger.specs.Reads.{and_numbers, counts_of, Named, NamesPlace, names_for, with_name, letter, symbol_line, unnamed, RefusesLine, HasHeader, AigReads}
 use Rattle.safl_aiger.specs.ReadLaws.{ReadIsCircuit}
-use Rattle.safl_aiger.specs.Reads.{IsBad, LineFault, SymbolFault, HasFault, bad_line, bad_symbol}
+use Rattle.safl_aiger.specs.Reads.{IsBad, LineFault, SymbolFault, HasAigFault, bad_line, bad_symbol}
 use Rattle.safl_aiger.specs.Symbols.{IsSmall, NamesUpTo, SymbolsPass}
 use Rattle.safl_aiger.proofs.Cutting.{Free, decimals_once}
 use Rattle.safl_aiger.proofs.Rereading.{decimal_free, is_decimal}
@@ -493,18 +493,18 @@ abbrev Read : List ℕ → Type 0
 Read text = (a : Circuit) × AigReads text a
 
 abbrev Failed : List ℕ → Type 0
-Failed text = (e : AigRule) × (n : ℕ) × HasFault text e n
+Failed text = (e : AigRule) × (n : ℕ) × HasAigFault text e n
 
 pub reads_or_fails : (text : List ℕ) → Read text ⊎ Failed text
-reads_or_fails text = by (lines text) refl
+reads_or_fails text = by (text_lines text) refl
   where
-    named : (c : Counts) (ls : List (List ℕ)) (b : Begins text c ls) (p : Passed (total c) (line_kinds c) ls) → AllNamed p.rest (unnamed c) ⊎
+    named : (c : Counts) (ls : List (List ℕ)) (b : HasHeader text c ls) (p : Passed (total c) (line_kinds c) ls) → AllNamed p.rest (unnamed c) ⊎
         HasSymbolFault p.rest (unnamed c) → Read text ⊎ Failed text
     named c ls b p (inl q) =
         let u = q.1.1 in
         let r = rebuilt c p.passed p.nss p.good in
         let lines_are : ls ≡ p.passed ++ (u.symbols ++ q.1.0) = p.is ∙ ap (λ x. p.passed ++ x) u.lines_are in
-        let begins = subst (λ (x : List (List ℕ)). Begins text c x) lines_are b in
+        let begins = subst (λ (x : List (List ℕ)). HasHeader text c x) lines_are b in
         let good = subst (λ (x : List (List ℕ)). AreGood (total c) (line_kinds c) p.passed x) r.is p.good in
         let small : c.outputs < 2 ^ 31 = outputs_small b.head c b.header in
         inl (
@@ -512,17 +512,17 @@ reads_or_fails text = by (lines text) refl
           reads_from text c p.passed u.symbols q.1.0 r.nexts r.outputs r.ands q.0 small r.nexts_long
               r.outputs_long r.ands_long begins good u.names q.1.2,
         )
-    named c ls b p (inr f) = inr (B04, 2 + length p.passed + f.0, bad_symbol c p.passed p.rest p.nss f.0 (subst (λ (x : List (List ℕ)). Begins text c x) p.is b) p.good f.1 refl refl)
+    named c ls b p (inr f) = inr (B04, 2 + length p.passed + f.0, bad_symbol c p.passed p.rest p.nss f.0 (subst (λ (x : List (List ℕ)). HasHeader text c x) p.is b) p.good f.1 refl refl)
 
-    lined : (c : Counts) (ls : List (List ℕ)) → Begins text c ls → Passed (total c) (line_kinds c) ls ⊎ HasLineFault (total c) (line_kinds c) ls → Read text ⊎ Failed text
+    lined : (c : Counts) (ls : List (List ℕ)) → HasHeader text c ls → Passed (total c) (line_kinds c) ls ⊎ HasLineFault (total c) (line_kinds c) ls → Read text ⊎ Failed text
     lined c ls b (inl p) = named c ls b p (decide_symbols p.rest (unnamed c) (header_small b.head c b.header))
     lined c ls b (inr f) = inr (f.0, 2 + f.1, bad_line c ls f.1 b f.2 refl)
 
-    headed : (l : List ℕ) (ls : List (List ℕ)) → lines text ≡ l ∷ ls → Decided (HeaderIs l) → Read text ⊎ Failed text
+    headed : (l : List ℕ) (ls : List (List ℕ)) → text_lines text ≡ l ∷ ls → Decided (HeaderIs l) → Read text ⊎ Failed text
     headed l ls e (inl h) = lined h.0 ls (record { head = l; lines_are = e; header = h.1 }) (decide_lines (total h.0) (line_kinds h.0) ls)
     headed l ls e (inr h) = inr (B01, 1, no_header text l ls e (λ c k. h (c, k)))
 
-    by : (ls : List (List ℕ)) → lines text ≡ ls → Read text ⊎ Failed text
+    by : (ls : List (List ℕ)) → text_lines text ≡ ls → Read text ⊎ Failed text
     by [] e = inr (B01, 1, no_line text e)
     by (l ∷ ls) e = headed l ls e (decide_header l)
 

@@ -7,7 +7,7 @@ use Rattle.std.proofs.lemmas.Bool.{cases_lt}
 use Rattle.safl_aiger.specs.declared.literal.Lit.{Lit}
 use Rattle.safl_aiger.specs.Literals.{Assignment, on, on_number}
 use Rattle.safl_aiger.specs.Circuits.{Circuit, latches, variables, base, AreBelow, IsCircuit}
-use Rattle.safl_aiger.specs.Runs.{variable_bits, next_bits, Fits, all_false, RunsFrom}
+use Rattle.safl_aiger.specs.Runs.{variable_bits, next_bits, FitsCircuit, all_false, RunsFrom}
 
 -- the values of a list, and false after it
 abbrev pub look : List Bool → Assignment
@@ -61,7 +61,7 @@ bits_same : (m n : Assignment) (first k : ℕ) → ((v : ℕ) → v < first + k 
 bits_same m n first zero h = refl
 bits_same m n first (suc k) h = λ i. h first (omega arith) i ∷ bits_same m n (suc first) k (λ v l. h v (omega (arith, l))) i
 
-pub fit : (a : Circuit) → IsCircuit a → (state given : List Bool) → length state ≡ latches a → length given ≡ a.inputs → (m : Assignment) × Fits a state given m
+pub fit : (a : Circuit) → IsCircuit a → (state given : List Bool) → length state ≡ latches a → length given ≡ a.inputs → (m : Assignment) × FitsCircuit a state given m
 fit a c state given ls lg =
     let start = (false ∷ given) ++ state in
     let long : length start ≡ base a = length-append (false ∷ given) state ∙ (let z : length (false ∷ given) + length state ≡ base a = omega (arith, ls, lg) in z) in
@@ -103,7 +103,7 @@ there [] k h = absurd (omega (arith, h))
 there (p ∷ ps) zero h = (p, refl)
 there (p ∷ ps) (suc k) h = there ps k (omega (arith, h))
 
-pub alone : (a : Circuit) → IsCircuit a → (state given : List Bool) (m n : Assignment) → Fits a state given m → Fits a state given n → (k v : ℕ) → v < k → v ≤ variables a → m v ≡ n v
+pub alone : (a : Circuit) → IsCircuit a → (state given : List Bool) (m n : Assignment) → FitsCircuit a state given m → FitsCircuit a state given n → (k v : ℕ) → v < k → v ≤ variables a → m v ≡ n v
 alone a c state given m n f g zero v l h = absurd (omega (arith, l))
 alone a c state given m n f g (suc k) zero l h = f.wired.bottom ∙ sym g.wired.bottom
 alone a c state given m n f g (suc k) (suc w) l h = elim (cases_lt (suc w) (1 + a.inputs)) [

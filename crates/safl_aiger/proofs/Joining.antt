@@ -2,7 +2,7 @@
 use Rattle.std.proofs.Common.{◌≡◌, ℕ, zero, suc, ◌+◌, ◌-◌, ◌*◌, ◌<◌, List, [], ◌∷◌, ◌++◌, length, drop, get_or, Some, slice_get, refl, sym, ap, ◌∙◌, arith, append_assoc}
 use Rattle.safl_aiger.specs.declared.circuit.Name.{Name}
 use Rattle.safl_aiger.specs.Circuits.{names_of}
-use Rattle.safl_aiger.specs.Texts.{joined_lines, numbers_line, input_text, symbol_text, symbols_text}
+use Rattle.safl_aiger.specs.Texts.{joined_lines, numbers_line, input_text, symbol_row, symbols_text}
 
 pub joined-append : (xs ys : List (List ℕ)) → joined_lines (xs ++ ys) ≡ joined_lines xs ++ joined_lines ys
 joined-append [] ys = refl
@@ -19,9 +19,9 @@ inputs_step i count h =
     ap (input_text (1 + i)) z ∙ ap (λ k. numbers_line (2 * (1 + i)) [] ∷ input_text k (count - (i + 1))) y
 
 pub symbols_step : (letter i : ℕ) (names : List (List ℕ)) (name : List ℕ) → slice_get names i ≡ Some name → symbols_text letter i (drop i names) ≡
-    symbol_text letter i name ++ symbols_text letter (i + 1) (drop (i + 1) names)
+    symbol_row letter i name ++ symbols_text letter (i + 1) (drop (i + 1) names)
 symbols_step letter i names name e = ap (symbols_text letter i) (dropped names i e) ∙ ap
-    (λ k. symbol_text letter i name ++ symbols_text letter k (drop (i + 1) names)) (let z : suc i ≡ i + 1 = omega arith in z)
+    (λ k. symbol_row letter i name ++ symbols_text letter k (drop (i + 1) names)) (let z : suc i ≡ i + 1 = omega arith in z)
   where
     dropped : (xs : List (List ℕ)) (k : ℕ) → slice_get xs k ≡ Some name → drop k xs ≡ name ∷ drop (k + 1) xs
     dropped [] k q = absurd (cc)

@@ -1,12 +1,12 @@
 -- Symbol lines, and the names that they set.
-use Rattle.std.proofs.Common.{◌≡◌, ◌≢◌, ℕ, zero, suc, ◌+◌, ◌-◌, ◌*◌, ◌^◌, ◌<◌, ◌≤◌, List, [], ◌∷◌, ◌++◌, length, get_or, set, replicate, slice_get}
+use Rattle.std.proofs.Common.{◌≡◌, ◌≢◌, ℕ, zero, suc, ◌+◌, ◌-◌, ◌*◌, ◌^◌, ◌<◌, ◌≤◌, List, [], ◌∷◌, ◌++◌, length, get_or, set, slice_get}
 use Rattle.std.proofs.Common.{Some, decimal, codes, true, ◌&&◌, refl, sym, ap, ◌∙◌, subst, arith, append_assoc, length-append}
 use Rattle.std.specs.Int.{IsInRange}
 use Rattle.std.specs.List.{list_all}
 use Rattle.std.proofs.lemmas.Bool.{and_parts}
 use Rattle.std.proofs.lemmas.Bool.Decides.{nat_tests}
 use Rattle.std.proofs.lemmas.Fmt.{decimal_injective, decimal_digit, first_decimal, decimal-digits_value}
-use Rattle.std.proofs.lemmas.List.{map-set, length-set, map_push, replicate-append-replicate}
+use Rattle.std.proofs.lemmas.List.{map-set, length-set}
 use Rattle.std.proofs.lemmas.Str.Parse.{IsNumeralModel, IsDigitsTest, WeighsDigits, numerals_by_weight}
 use Rattle.safl_word.specs.Numerals.{digit, is_digit, value, IsBounded}
 use Rattle.safl_word.proofs.Digits.{digit_passes}
@@ -15,8 +15,8 @@ use Rattle.safl_aiger.specs.declared.symbols.Sort.{Sort}
 use Rattle.safl_aiger.specs.declared.symbols.Sort.TheVariants.{Input, Latch, Output}
 use Rattle.safl_aiger.specs.declared.symbols.SymbolsErr.TheVariants.{Stopped}
 use Rattle.safl_aiger.specs.Circuits.{names_of}
-use Rattle.safl_aiger.specs.Reads.{Named, NamesPlace, NamePlaces, names_for, with_name, letter, symbol_line, RefusesLine, SymbolFault, Ends}
-use Rattle.safl_aiger.specs.Symbols.{IsSmall, IsSymbolLine, Sets, NamesUpTo, SymbolsPass, SymbolsFail}
+use Rattle.safl_aiger.specs.Reads.{Named, NamesPlace, NamePlaces, names_for, with_name, letter, symbol_line, RefusesLine, SymbolFault}
+use Rattle.safl_aiger.specs.Symbols.{IsSmall, Sets, NamesUpTo, SymbolsFail}
 use Rattle.safl_aiger.proofs.Cutting.{Free}
 use Rattle.safl_aiger.proofs.Joining.{names_at}
 use Rattle.safl_aiger.proofs.Rereading.{decimal_free, is_decimal, places-append}
@@ -129,21 +129,9 @@ with_small Output k name old h = record { inputs = h.inputs; latches = h.latches
 pub small_kept : (line : List ℕ) (old new : Named) → NamesPlace line old new → IsSmall old → IsSmall new
 small_kept line old new p h = subst (λ (n : Named). IsSmall n) (sym p.sets) (with_small p.sort p.place p.name old h)
 
-pub input_named : (line : List ℕ) (k : ℕ) (name : List ℕ) (old : Named) (l : List (List ℕ)) → line ≡ symbol_line Input k name → Sets old.inputs k name
-    l → NamesPlace line old (record old { inputs = l })
-input_named line k name old l e s = record { sort = Input; place = k; name = name; is = e; free = s.free; some = s.some; sets = ap (λ x. record old { inputs = x }) s.sets }
-
-pub latch_named : (line : List ℕ) (k : ℕ) (name : List ℕ) (old : Named) (l : List (List ℕ)) → line ≡ symbol_line Latch k name → Sets old.latches k
-    name l → NamesPlace line old (record old { latches = l })
-latch_named line k name old l e s = record { sort = Latch; place = k; name = name; is = e; free = s.free; some = s.some; sets = ap (λ x. record old { latches = x }) s.sets }
-
 pub output_named : (line : List ℕ) (k : ℕ) (name : List ℕ) (old : Named) (l : List (List ℕ)) → line ≡ symbol_line Output k name → Sets old.outputs k
     name l → NamesPlace line old (record old { outputs = l })
 output_named line k name old l e s = record { sort = Output; place = k; name = name; is = e; free = s.free; some = s.some; sets = ap (λ x. record old { outputs = x }) s.sets }
-
--- a line that is no symbol names no place
-pub form_refuses : (line : List ℕ) (old : Named) → IsSmall old → ¬ (IsSymbolLine line) → RefusesLine line old
-form_refuses line old h f new p = f (record { sort = p.sort; place = p.place; name = p.name; few = place_small line old new p h; some = p.some; is = p.is })
 
 -- a symbol for a place that has a name, or is none, names no place
 pub taken_refuses : (line : List ℕ) (s : Sort) (k : ℕ) (name : List ℕ) (old : Named) → IsSmall old → k < 2 ^ 31 → line ≡ symbol_line s k name → ¬
@@ -188,14 +176,6 @@ underway_step ls before old mid new line left count u p =
       small = small_kept line mid new p u.small;
     }
 
-pub underway_room : (ls : List (List ℕ)) (before : ℕ) (old new : Named) (line : List ℕ) (left : List (List ℕ)) (count : ℕ) → Underway ls before old
-    new (line ∷ left) count → count + 1 ≤ before + length ls
-underway_room ls before old new line left count u =
-    let e = u.count_is in
-    let a = ap length u.upto.lines_are in
-    let b = length-append u.upto.symbols (line ∷ left) in
-    omega (arith, e, a, b)
-
 symbol_fault : (symbols : List (List ℕ)) (line : List ℕ) (left : List (List ℕ)) (old mid : Named) → NamePlaces symbols old mid → line ≢ codes "c" →
     RefusesLine line mid → SymbolFault (symbols ++ line ∷ left) old (length symbols)
 symbol_fault [] line left old mid n c r = (c, subst (λ (m : Named). RefusesLine line m) n r)
@@ -210,10 +190,3 @@ underway_fails ls before old mid line left count u c r =
       subst (λ (x : List (List ℕ)). SymbolFault x old (length s)) (sym u.upto.lines_are) (symbol_fault s line left old mid u.upto.names c r),
       omega (arith, e),
     )
-
-pub underway_ends : (ls : List (List ℕ)) (before : ℕ) (old new : Named) (left : List (List ℕ)) (count : ℕ) → Underway ls before old new left count → Ends left → SymbolsPass ls old new
-underway_ends ls before old new left count u e = (left, u.upto, e)
-
--- one more place without a name
-pub more_names : (xs : List Name) (x : Name) (k : ℕ) → names_of xs ≡ replicate k [] → x.bytes.items ≡ [] → names_of (xs ++ x ∷ []) ≡ replicate (k + 1) []
-more_names xs x k e q = map_push (λ (n : Name). n.bytes.items) xs x ∙ (λ i. e i ++ q i ∷ []) ∙ replicate-append-replicate k 1 []

@@ -1,32 +1,23 @@
 -- A line that is cut at its first space, and the symbol that it is.
 use Rattle.std.proofs.Common.{◌≡◌, ◌≢◌, ℕ, suc, ◌+◌, ◌^◌, ◌<◌, ◌≤◌, ◌==◌, List, [], ◌∷◌, ◌++◌, length, take, drop, get_or, decimal, Bool, true, false}
-use Rattle.std.proofs.Common.{cond, ◌↔◌, Option, Some, None, IsSome, IsNone, IfSome, Result, Ok, Err, IfErr, refl, sym, ap, ◌∙◌, subst, arith}
+use Rattle.std.proofs.Common.{cond, ◌↔◌, Option, Some, None, IsSome, IsNone, IfSome, Result, Ok, Err, IfErr, refl, sym, ap, ◌∙◌, arith}
 use Rattle.std.proofs.Common.{length-append}
 use Rattle.std.proofs.lemmas.List.{drop_all, length-drop, length-take-le}
 use Rattle.std.proofs.lemmas.Bool.Decides.{nat_tests}
 use Rattle.std.proofs.lemmas.Bool.{eq-eqb}
 use Rattle.safl_word.specs.Numerals.{value, IsBounded}
 use Rattle.safl_word.proofs.Lists.{first_and_rest, not_empty}
-use Rattle.safl_aiger.specs.declared.reading.AigRule.{AigRule}
-use Rattle.safl_aiger.specs.declared.reading.AigRule.TheVariants.{B02}
-use Rattle.safl_aiger.specs.declared.reading.LineKind.{LineKind}
 use Rattle.safl_aiger.specs.declared.symbols.Sort.{Sort}
-use Rattle.safl_aiger.specs.Lines.{grown, lines, fields}
+use Rattle.safl_aiger.specs.Lines.{grown, fields}
 use Rattle.safl_aiger.specs.declared.symbols.SymbolErr.{SymbolErr}
 use Rattle.safl_aiger.specs.declared.symbols.SymbolErr.TheVariants.{Refused, NoMemory}
-use Rattle.safl_aiger.specs.Reads.{Named, names_for, letter, symbol_line, IsBad, Breaks}
+use Rattle.safl_aiger.specs.Reads.{Named, names_for, letter, symbol_line}
 use Rattle.safl_aiger.specs.Symbols.{IsSmall, IsSymbol, IsSymbolLine, IsTaken, IsRefused}
 use Rattle.safl_aiger.proofs.Cutting.{fields_space, fields_some}
 use Rattle.safl_aiger.proofs.Rereading.{decimal_free}
 use Rattle.safl_aiger.proofs.Naming.{taken_refuses, shortest, decimal_bounded}
 
 -- ---- the next line
-
-pub breaks_at_end : (most : ℕ) (w : LineKind) (text : List ℕ) (at : ℕ) → length text ≤ at → Breaks most w (lines (drop at text)) B02
-breaks_at_end most w text at h = let P : List ℕ → Type 0 = λ x. Breaks most w (lines x) B02 in subst P (sym (drop_all at text h)) refl
-
-pub breaks_here : (most : ℕ) (w : LineKind) (ls rest : List (List ℕ)) (l : List ℕ) (e : AigRule) → ls ≡ l ∷ rest → IsBad most w l e → Breaks most w ls e
-breaks_here most w ls rest l e q b = let P : List (List ℕ) → Type 0 = λ x. Breaks most w x e in subst P (sym q) b
 
 -- ---- fields joined again
 
@@ -107,12 +98,6 @@ number_cut rest end k name e l h some none = by (end == length rest) refl
 
 behind_letter : (line rest : List ℕ) (h : IsSymbolLine line) → rest ≡ drop 1 line → rest ≡ decimal h.place ++ 32 ∷ h.name
 behind_letter line rest h r = r ∙ ap (drop 1) h.is
-
-pub no_symbol : (line : List ℕ) → length line ≡ 0 → ¬ (IsSymbolLine line)
-no_symbol line e h = let z : length line ≡ suc (length (decimal h.place ++ 32 ∷ h.name)) = ap length h.is in omega (arith, e, z)
-
-pub no_letter : (line : List ℕ) → ((s : Sort) → get_or line 0 0 ≢ letter s) → ¬ (IsSymbolLine line)
-no_letter line n h = n h.sort (ap (λ x. get_or x 0 0) h.is)
 
 pub no_name : (line rest : List ℕ) (end : ℕ) → rest ≡ drop 1 line → end ≤ length rest →
     (end < length rest → fields rest ≡ take end rest ∷ fields (drop (end + 1) rest)) → (end ≡ length rest → fields rest ≡ rest ∷ []) → length rest ≤

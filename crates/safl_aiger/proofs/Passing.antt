@@ -5,8 +5,8 @@ use Rattle.safl_aiger.specs.declared.literal.Lit.{Lit}
 use Rattle.safl_aiger.specs.declared.reading.AigRule.{AigRule}
 use Rattle.safl_aiger.specs.declared.reading.LineKind.{LineKind}
 use Rattle.safl_aiger.specs.declared.reading.LineKind.TheVariants.{Output}
-use Rattle.safl_aiger.specs.Lines.{lines}
-use Rattle.safl_aiger.specs.Reads.{AreGood, Breaks, kinds_from, own_numbers, latch_numbers, output_numbers, and_numbers}
+use Rattle.safl_aiger.specs.Lines.{text_lines}
+use Rattle.safl_aiger.specs.Reads.{AreGood, BreaksLine, kinds_from, own_numbers, latch_numbers, output_numbers, and_numbers}
 use Rattle.safl_aiger.specs.declared.sections.SectionErr.{SectionErr}
 use Rattle.safl_aiger.specs.declared.sections.SectionErr.TheVariants.{Stopped, NoMemory}
 use Rattle.safl_aiger.specs.Sections.{Passes, Stops, Fails, Later}
@@ -27,13 +27,13 @@ pub passes_on : (text : List ℕ) (most at mid next : ℕ) (ws vs : List LineKin
     text most mid vs mss next → Passes text most at (ws ++ vs) (nss ++ mss) next
 passes_on text most at mid next ws vs nss mss p q = record {
   front = p.front ++ q.front;
-  lines_are = p.lines_are ∙ ap (λ l. p.front ++ l) q.lines_are ∙ sym (append_assoc p.front q.front (lines (drop next text)));
+  lines_are = p.lines_are ∙ ap (λ l. p.front ++ l) q.lines_are ∙ sym (append_assoc p.front q.front (text_lines (drop next text)));
   good = good-append most ws vs p.front q.front nss mss p.good q.good;
 }
 
 -- a line after those that pass breaks a rule
 pub stops_here : (text : List ℕ) (most at next : ℕ) (all ws left : List LineKind) (w : LineKind) (nss : List (List ℕ)) (e : AigRule) (k : ℕ) → all ≡
-    ws ++ w ∷ left → length ws ≡ k → Passes text most at ws nss next → Breaks most w (lines (drop next text)) e → Stops text most at all e k
+    ws ++ w ∷ left → length ws ≡ k → Passes text most at ws nss next → BreaksLine most w (text_lines (drop next text)) e → Stops text most at all e k
 stops_here text most at next all ws left w nss e k q l p b = record { done = ws; kind = w; left = left; nss = nss; next = next; kinds = q; passes = p; count = l; breaks = b }
 
 -- a section stops after another

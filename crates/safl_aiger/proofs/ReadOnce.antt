@@ -9,8 +9,8 @@ use Rattle.safl_aiger.specs.declared.reading.LineKind.TheVariants.{Input, Latch,
 use Rattle.safl_aiger.specs.Circuits.{Circuit, latches, variables, base}
 use Rattle.safl_aiger.specs.Lines.{fields, AreDecimals, HasNumbers}
 use Rattle.safl_aiger.specs.Reads.{Counts, IsHeader, total, size, IsGood, line_kinds, AreGood, own_numbers, latch_numbers, output_numbers}
-use Rattle.safl_aiger.specs.Reads.{and_numbers, body_numbers, counts_of, Named, NamesPlace, NamePlaces, with_name, unnamed, named_of, Ends, Begins}
-use Rattle.safl_aiger.specs.Reads.{AigReads, IsBad, Breaks, LineFault, SymbolFault, HasFault, bad_header, bad_line, bad_symbol}
+use Rattle.safl_aiger.specs.Reads.{and_numbers, body_numbers, counts_of, Named, NamesPlace, NamePlaces, with_name, unnamed, named_of, EndsSymbols, HasHeader}
+use Rattle.safl_aiger.specs.Reads.{AigReads, IsBad, BreaksLine, LineFault, SymbolFault, HasAigFault, bad_header, bad_line, bad_symbol}
 use Rattle.safl_aiger.specs.Symbols.{IsSmall}
 use Rattle.safl_aiger.proofs.Cutting.{decimals_once, decimals_small}
 use Rattle.safl_aiger.proofs.Naming.{symbol_once, symbol_not_end, place_small, small_kept}
@@ -31,7 +31,7 @@ header_once line c d h k =
     let a : c.ands ≡ d.ands = cc in
     λ z. record { inputs = i z; latches = l z; outputs = o z; ands = a z }
 
-pub begins_once : (text : List ℕ) (c d : Counts) (ls ms : List (List ℕ)) → Begins text c ls → Begins text d ms → (c ≡ d) × (ls ≡ ms)
+pub begins_once : (text : List ℕ) (c d : Counts) (ls ms : List (List ℕ)) → HasHeader text c ls → HasHeader text d ms → (c ≡ d) × (ls ≡ ms)
 begins_once text c d ls ms b k =
     let e : b.head ∷ ls ≡ k.head ∷ ms = sym b.lines_are ∙ k.lines_are in
     let h : b.head ≡ k.head = cc in
@@ -82,7 +82,7 @@ bad_once most w l e d (inl a) (inr b) = absurd (a.1 (b.1.0, b.1.2, b.1.1))
 bad_once most w l e d (inr a) (inl b) = absurd (b.1 (a.1.0, a.1.2, a.1.1))
 bad_once most w l e d (inr a) (inr b) = a.0 ∙ sym b.0
 
-breaks_once : (most : ℕ) (w : LineKind) (ls : List (List ℕ)) (e d : AigRule) → Breaks most w ls e → Breaks most w ls d → e ≡ d
+breaks_once : (most : ℕ) (w : LineKind) (ls : List (List ℕ)) (e d : AigRule) → BreaksLine most w ls e → BreaksLine most w ls d → e ≡ d
 breaks_once most w [] e d a b = a ∙ sym b
 breaks_once most w (l ∷ ls) e d a b = bad_once most w l e d a b
 
@@ -126,12 +126,12 @@ place_once line old a b s p r =
     let q = symbol_once p.sort r.sort p.place r.place p.name r.name (place_small line old a p s) (place_small line old b r s) (sym p.is ∙ r.is) in
     p.sets ∙ (λ i. with_name (q.0 i) (q.1 i) (q.2 i) old) ∙ sym r.sets
 
-end_name : (xs rest : List (List ℕ)) (m : List ℕ) (old new : Named) → Ends xs → xs ≡ m ∷ rest → NamesPlace m old new → ⊥
+end_name : (xs rest : List (List ℕ)) (m : List ℕ) (old new : Named) → EndsSymbols xs → xs ≡ m ∷ rest → NamesPlace m old new → ⊥
 end_name xs rest m old new e q p =
-    let c : m ≡ codes "c" = subst (λ (x : List (List ℕ)). Ends x) q e in
+    let c : m ≡ codes "c" = subst (λ (x : List (List ℕ)). EndsSymbols x) q e in
     symbol_not_end p.sort p.place p.name (sym p.is ∙ c)
 
-pub names_once : (ls ms xs ys : List (List ℕ)) (old a b : Named) → IsSmall old → NamePlaces ls old a → NamePlaces ms old b → Ends xs → Ends ys → ls ++ xs ≡ ms ++ ys → a ≡ b
+pub names_once : (ls ms xs ys : List (List ℕ)) (old a b : Named) → IsSmall old → NamePlaces ls old a → NamePlaces ms old b → EndsSymbols xs → EndsSymbols ys → ls ++ xs ≡ ms ++ ys → a ≡ b
 names_once [] [] xs ys old a b s p q ex ey e = p ∙ sym q
 names_once [] (m ∷ ms) xs ys old a b s p q ex ey e = absurd (end_name xs (ms ++ ys) m old q.0 ex e q.1)
 names_once (l ∷ ls) [] xs ys old a b s p q ex ey e = absurd (end_name ys (ls ++ xs) l old p.0 ey (sym e) p.1)
@@ -150,7 +150,7 @@ symbol_fault_once (l ∷ ls) old (suc k) (suc j) s a b =
     let mid : b.0 ≡ a.0 = place_once l old b.0 a.0 s b.1 a.1 in
     ap suc (symbol_fault_once ls a.0 k j (small_kept l old a.0 a.1 s) a.2 (subst (λ (x : Named). SymbolFault ls x j) mid b.2))
 
-pub names_fault : (ls xs : List (List ℕ)) (old new : Named) (k : ℕ) → IsSmall old → NamePlaces ls old new → Ends xs → SymbolFault (ls ++ xs) old k → ⊥
+pub names_fault : (ls xs : List (List ℕ)) (old new : Named) (k : ℕ) → IsSmall old → NamePlaces ls old new → EndsSymbols xs → SymbolFault (ls ++ xs) old k → ⊥
 names_fault [] [] old new k s p e f = f
 names_fault [] (x ∷ xs) old new zero s p e f = f.0 e
 names_fault [] (x ∷ xs) old new (suc k) s p e f = symbol_not_end f.1.sort f.1.place f.1.name (sym f.1.is ∙ e)
@@ -171,7 +171,7 @@ good_of c d body nss o g = subst (λ (x : Counts). AreGood (total x) (line_kinds
 symbol_fault_of : (c d : Counts) (ls ms : List (List ℕ)) (k : ℕ) → c ≡ d → ls ≡ ms → SymbolFault ls (unnamed c) k → SymbolFault ms (unnamed d) k
 symbol_fault_of c d ls ms k o e f = subst (λ (x : Counts). SymbolFault ms (unnamed x) k) o (subst (λ (x : List (List ℕ)). SymbolFault x (unnamed c) k) e f)
 
-pub one_fault : (text : List ℕ) (e d : AigRule) (n m : ℕ) → HasFault text e n → HasFault text d m → (e ≡ d) × (n ≡ m)
+pub one_fault : (text : List ℕ) (e d : AigRule) (n m : ℕ) → HasAigFault text e n → HasAigFault text d m → (e ≡ d) × (n ≡ m)
 one_fault text e d n m (bad_header x p q) (bad_header y r s) = (p ∙ sym r, q ∙ sym s)
 one_fault text e d n m (bad_header x p q) (bad_line c ls k b f z) = absurd (x c ls b)
 one_fault text e d n m (bad_header x p q) (bad_symbol c body ls nss k b g f r s) = absurd (x c (body ++ ls) b)
@@ -196,7 +196,7 @@ one_fault text e d n m (bad_symbol c body ls nss k b g f r s) (bad_symbol c' bod
     let l' = good_long (total c') (line_kinds c') body' nss' g' in
     (r ∙ sym r', omega (arith, s, s', i, l, l'))
 
-pub no_fault : (text : List ℕ) (a : Circuit) (e : AigRule) (n : ℕ) → AigReads text a → HasFault text e n → ⊥
+pub no_fault : (text : List ℕ) (a : Circuit) (e : AigRule) (n : ℕ) → AigReads text a → HasAigFault text e n → ⊥
 no_fault text a e n r (bad_header x p q) = x (counts_of a) (r.body ++ (r.symbols ++ r.rest)) r.begins
 no_fault text a e n r (bad_line c ls k b f z) =
     let o = begins_once text c (counts_of a) ls (r.body ++ (r.symbols ++ r.rest)) b r.begins in

@@ -11,8 +11,8 @@ use Rattle.safl_aiger.specs.declared.reading.LineKind.TheVariants.{Input, Latch,
 use Rattle.safl_aiger.specs.declared.symbols.Sort.{Sort}
 use Rattle.safl_aiger.specs.declared.symbols.Sort.TheVariants as sorts
 use Rattle.safl_aiger.specs.Circuits.{Circuit, latches, variables, base, IsLine, AreBelow, IsCircuit}
-use Rattle.safl_aiger.specs.Lines.{lines, fields, IsDecimal, AreDecimals, HasNumbers}
-use Rattle.safl_aiger.specs.Texts.{joined_lines, numbers_line, header_line, input_text, latch_text, output_text, and_text, symbol_text, symbols_text, body_text, symbol_lines, written}
+use Rattle.safl_aiger.specs.Lines.{text_lines, fields, IsDecimal, AreDecimals, HasNumbers}
+use Rattle.safl_aiger.specs.Texts.{joined_lines, numbers_line, header_line, input_text, latch_text, output_text, and_text, symbol_row, symbols_text, body_text, symbol_lines, written_circuit}
 use Rattle.safl_aiger.specs.Reads.{AreGood, kinds_from, own_numbers, latch_numbers, output_numbers, and_numbers, counts_of, Named, NamePlaces}
 use Rattle.safl_aiger.specs.Reads.{NamesPlace, symbol_line, letter, unnamed, named_of, AigReads}
 use Rattle.safl_aiger.specs.TextLaws.{BodyReads}
@@ -40,9 +40,9 @@ all-append : (xs ys : List (List ℕ)) → AllFree xs → AllFree ys → AllFree
 all-append [] ys h k = k
 all-append (x ∷ xs) ys h k = (h.0, all-append xs ys h.1 k)
 
-lines_joined : (ls : List (List ℕ)) → AllFree ls → lines (joined_lines ls) ≡ ls
+lines_joined : (ls : List (List ℕ)) → AllFree ls → text_lines (joined_lines ls) ≡ ls
 lines_joined [] h = refl
-lines_joined (l ∷ ls) h = ap lines (append_assoc l (10 ∷ []) (joined_lines ls)) ∙ lines_feed l (joined_lines ls) h.0 ∙ ap (λ x. l ∷ x) (lines_joined ls h.1)
+lines_joined (l ∷ ls) h = ap text_lines (append_assoc l (10 ∷ []) (joined_lines ls)) ∙ lines_feed l (joined_lines ls) h.0 ∙ ap (λ x. l ∷ x) (lines_joined ls h.1)
 
 -- ---- lines of numbers
 
@@ -136,14 +136,14 @@ name_free : (cs : List ℕ) → IsLine cs → Free 10 cs
 name_free [] h = tt
 name_free (c ∷ cs) h = (All-head (λ x. x ≢ 10) c cs h, name_free cs (All-tail (λ x. x ≢ 10) c cs h))
 
-symbol_free : (letter k : ℕ) (cs : List ℕ) → letter ≢ 10 → k < 2 ^ 64 → IsLine cs → AllFree (symbol_text letter k cs)
+symbol_free : (letter k : ℕ) (cs : List ℕ) → letter ≢ 10 → k < 2 ^ 64 → IsLine cs → AllFree (symbol_row letter k cs)
 symbol_free letter k [] a l h = tt
 symbol_free letter k (c ∷ cs) a l h = ((a, free-append 10 (decimal k) (32 ∷ c ∷ cs) (decimal_free 10 k (omega arith) l) ((λ e. cc), name_free (c ∷ cs) h)), tt)
 
 symbols_free : (letter k : ℕ) (xs : List (List ℕ)) → letter ≢ 10 → k + length xs < 2 ^ 64 → All IsLine xs → AllFree (symbols_text letter k xs)
 symbols_free letter k [] a l h = tt
 symbols_free letter k (x ∷ xs) a l h =
-    all-append (symbol_text letter k x) (symbols_text letter (suc k) xs) (symbol_free letter k x a (omega (arith, l)) (All-head IsLine x xs h))
+    all-append (symbol_row letter k x) (symbols_text letter (suc k) xs) (symbol_free letter k x a (omega (arith, l)) (All-head IsLine x xs h))
     (symbols_free letter (suc k) xs a (omega (arith, l)) (All-tail IsLine x xs h))
 
 -- ---- the whole
@@ -168,7 +168,7 @@ rereads a c =
     (numbers_line (variables a) (a.inputs ∷ latches a ∷ length a.outputs ∷ length a.ands ∷ []))
     ((λ e. cc), ((λ e. cc), ((λ e. cc), ((λ e. cc), tt)))) (line_free (variables a) (a.inputs ∷ latches a ∷ length a.outputs ∷ length a.ands ∷ []) top counts) in
     record {
-      lines_are = ap (λ l. lines (joined_lines (header_line a ∷ (l ++ symbol_lines a)))) (body_rows a) ∙ lines_joined (header_line a ∷ (body_text a ++ symbol_lines a))
+      lines_are = ap (λ l. text_lines (joined_lines (header_line a ∷ (l ++ symbol_lines a)))) (body_rows a) ∙ lines_joined (header_line a ∷ (body_text a ++ symbol_lines a))
           (head, all-append (body_text a) (symbol_lines a) free named);
       header = (
         numbers_line (variables a) (a.inputs ∷ latches a ∷ length a.outputs ∷ length a.ands ∷ []),
@@ -271,7 +271,7 @@ all_named a c =
     (all_of i (replicate (length l) []) (replicate (length o) [])) (all_of i l o) p
     (places-append (symbols_text 108 0 l) (symbols_text 111 0 o) (all_of i (replicate (length l) []) (replicate (length o) [])) (all_of i l (replicate (length o) [])) (all_of i l o) q r))
 
-pub reads_written : (a : Circuit) → IsCircuit a → AigReads (written a) a
+pub reads_written : (a : Circuit) → IsCircuit a → AigReads (written_circuit a) a
 reads_written a c =
     let r = rereads a c in
     record {

@@ -10,7 +10,7 @@ use Rattle.safl_aiger.specs.declared.symbols.Sort.TheVariants as sorts
 use Rattle.safl_aiger.specs.declared.reading.Header.{Header}
 use Rattle.safl_aiger.specs.declared.reading.Found.{Found}
 use Rattle.safl_aiger.specs.Circuits.{Circuit, latches, variables, base}
-use Rattle.safl_aiger.specs.Lines.{lines, HasNumbers}
+use Rattle.safl_aiger.specs.Lines.{text_lines, HasNumbers}
 
 -- the counts of a header, without the number of variables
 pub record Counts : Type 0 where
@@ -129,15 +129,15 @@ NamePlaces [] old new = new ≡ old
 NamePlaces (l ∷ ls) old new = (middle : Named) × NamesPlace l old middle × NamePlaces ls middle new
 
 -- there are no more lines, or the next line is `c`
-abbrev pub Ends : List (List ℕ) → Type 0
-Ends [] = Unit {0}
-Ends (l ∷ ls) = l ≡ codes "c"
+abbrev pub EndsSymbols : List (List ℕ) → Type 0
+EndsSymbols [] = Unit {0}
+EndsSymbols (l ∷ ls) = l ≡ codes "c"
 
 -- The first line is `aag`, a space and five numbers, of which the first is the sum of inputs, latches and ANDs, and these lines
 -- follow it.
-pub record Begins (text : List ℕ) (c : Counts) (ls : List (List ℕ)) : Type 0 where
+pub record HasHeader (text : List ℕ) (c : Counts) (ls : List (List ℕ)) : Type 0 where
   pub head : List ℕ
-  pub lines_are : lines text ≡ head ∷ ls
+  pub lines_are : text_lines text ≡ head ∷ ls
   pub header : (rest : List ℕ) × (head ≡ codes "aag " ++ rest) × HasNumbers rest (total c ∷ c.inputs ∷ c.latches ∷ c.outputs ∷ c.ands ∷ [])
 
 -- such a first line
@@ -155,15 +155,15 @@ pub record AigReads (text : List ℕ) (a : Circuit) : Type 0 where
   pub body : List (List ℕ)
   pub symbols : List (List ℕ)
   pub rest : List (List ℕ)
-  pub begins : Begins text (counts_of a) (body ++ (symbols ++ rest))
+  pub begins : HasHeader text (counts_of a) (body ++ (symbols ++ rest))
   pub good : AreGood (variables a) (line_kinds (counts_of a)) body (body_numbers a)
   pub names : NamePlaces symbols (unnamed (counts_of a)) (named_of a)
-  pub ends : Ends rest
+  pub ends : EndsSymbols rest
 
 -- there is no next line, or it does not have as many numbers as its kind, or they are not good
-abbrev pub Breaks : ℕ → LineKind → List (List ℕ) → AigRule → Type 0
-Breaks most w [] e = e ≡ B02
-Breaks most w (l ∷ ls) e =
+abbrev pub BreaksLine : ℕ → LineKind → List (List ℕ) → AigRule → Type 0
+BreaksLine most w [] e = e ≡ B02
+BreaksLine most w (l ∷ ls) e =
     ((e ≡ B02) × (¬ ((ns : List ℕ) × (length ns ≡ size w) × HasNumbers l ns)))
     ⊎ ((e ≡ B03) × ((ns : List ℕ) × HasNumbers l ns × (length ns ≡ size w) × (¬ (IsGood most w ns))))
 
@@ -175,7 +175,7 @@ IsBad most w l e =
 
 -- this many lines are of their kinds, and the line after them breaks this rule
 abbrev pub LineFault : ℕ → List LineKind → List (List ℕ) → AigRule → ℕ → Type 0
-LineFault most (w ∷ ws) ls e zero = Breaks most w ls e
+LineFault most (w ∷ ws) ls e zero = BreaksLine most w ls e
 LineFault most (w ∷ ws) (l ∷ ls) e (suc k) = (ns : List ℕ) × HasNumbers l ns × IsGood most w ns × LineFault most ws ls e k
 LineFault most _ _ e _ = ⊥
 
@@ -186,13 +186,13 @@ SymbolFault (l ∷ ls) old zero = (l ≢ codes "c") × ((new : Named) → ¬ (Na
 SymbolFault (l ∷ ls) old (suc k) = (new : Named) × NamesPlace l old new × SymbolFault ls new k
 
 -- the number of the first line that breaks a rule, counted from 1, and that rule
-pub data HasFault (text : List ℕ) (e : AigRule) (n : ℕ) : Type 0 where
-  bad_header : ((c : Counts) (ls : List (List ℕ)) → ¬ (Begins text c ls)) → e ≡ B01 → n ≡ 1 → HasFault text e n
-  bad_line : (c : Counts) (ls : List (List ℕ)) (k : ℕ) → Begins text c ls
-      → LineFault (total c) (line_kinds c) ls e k → n ≡ 2 + k → HasFault text e n
-  bad_symbol : (c : Counts) (body ls : List (List ℕ)) (nss : List (List ℕ)) (k : ℕ) → Begins text c (body ++ ls)
+pub data HasAigFault (text : List ℕ) (e : AigRule) (n : ℕ) : Type 0 where
+  bad_header : ((c : Counts) (ls : List (List ℕ)) → ¬ (HasHeader text c ls)) → e ≡ B01 → n ≡ 1 → HasAigFault text e n
+  bad_line : (c : Counts) (ls : List (List ℕ)) (k : ℕ) → HasHeader text c ls
+      → LineFault (total c) (line_kinds c) ls e k → n ≡ 2 + k → HasAigFault text e n
+  bad_symbol : (c : Counts) (body ls : List (List ℕ)) (nss : List (List ℕ)) (k : ℕ) → HasHeader text c (body ++ ls)
       → AreGood (total c) (line_kinds c) body nss → SymbolFault ls (unnamed c) k → e ≡ B04 → n ≡ 2 + length body + k
-      → HasFault text e n
+      → HasAigFault text e n
 
 -- ---- parts by name
 

@@ -18,7 +18,7 @@ abbrev pub latch_bits : Circuit → Assignment → List Bool
 latch_bits a m = variable_bits m (1 + a.inputs) (latches a)
 
 -- the values fit the state of the latches, the inputs and the ANDs
-pub record Fits (a : Circuit) (state given : List Bool) (m : Assignment) : Type 0 where
+pub record FitsCircuit (a : Circuit) (state given : List Bool) (m : Assignment) : Type 0 where
   pub inputs : variable_bits m 1 a.inputs ≡ given
   pub latches : latch_bits a m ≡ state
   pub wired : Wired (base a) a.ands m
@@ -26,12 +26,12 @@ pub record Fits (a : Circuit) (state given : List Bool) (m : Assignment) : Type 
 -- the cycles of a run from a state, one for each list of inputs. The next values of the latches are those of their next literals
 abbrev pub RunsFrom : Circuit → List Bool → List (List Bool) → List Assignment → Type 0
 RunsFrom a state [] [] = Unit {0}
-RunsFrom a state (x ∷ xs) (m ∷ ms) = Fits a state x m × RunsFrom a (values m a.nexts) xs ms
+RunsFrom a state (x ∷ xs) (m ∷ ms) = FitsCircuit a state x m × RunsFrom a (values m a.nexts) xs ms
 RunsFrom a state _ _ = ⊥
 
 -- at the beginning all latches are false
-abbrev pub Runs : Circuit → List (List Bool) → List Assignment → Type 0
-Runs a xs ms = RunsFrom a (replicate (latches a) false) xs ms
+abbrev pub RunsFromReset : Circuit → List (List Bool) → List Assignment → Type 0
+RunsFromReset a xs ms = RunsFrom a (replicate (latches a) false) xs ms
 
 -- this many latches, all false
 abbrev pub all_false : ℕ → List Bool

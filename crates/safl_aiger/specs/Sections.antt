@@ -4,14 +4,14 @@ use Rattle.safl_aiger.specs.declared.reading.AigRule.{AigRule}
 use Rattle.safl_aiger.specs.declared.reading.LineKind.{LineKind}
 use Rattle.safl_aiger.specs.declared.sections.SectionErr.{SectionErr}
 use Rattle.safl_aiger.specs.declared.sections.SectionErr.TheVariants.{Stopped, NoMemory}
-use Rattle.safl_aiger.specs.Lines.{lines}
+use Rattle.safl_aiger.specs.Lines.{text_lines}
 use Rattle.safl_aiger.specs.declared.sections.Body.{Body}
-use Rattle.safl_aiger.specs.Reads.{AreGood, Breaks, Counts, total, line_kinds, own_numbers, latch_numbers, output_numbers, and_numbers}
+use Rattle.safl_aiger.specs.Reads.{AreGood, BreaksLine, Counts, total, line_kinds, own_numbers, latch_numbers, output_numbers, and_numbers}
 
 -- the lines between two places of the text are of these kinds, with these numbers, which are good
 pub record Passes (text : List ℕ) (most at : ℕ) (ws : List LineKind) (nss : List (List ℕ)) (next : ℕ) : Type 0 where
   pub front : List (List ℕ)
-  pub lines_are : lines (drop at text) ≡ front ++ lines (drop next text)
+  pub lines_are : text_lines (drop at text) ≡ front ++ text_lines (drop next text)
   pub good : AreGood most ws front nss
 
 -- from a place on, k lines are of their kinds, and the next one breaks a rule
@@ -24,7 +24,7 @@ pub record Stops (text : List ℕ) (most at : ℕ) (ws : List LineKind) (e : Aig
   pub kinds : ws ≡ done ++ kind ∷ left
   pub passes : Passes text most at done nss next
   pub count : length done ≡ k
-  pub breaks : Breaks most kind (lines (drop next text)) e
+  pub breaks : BreaksLine most kind (text_lines (drop next text)) e
 
 -- the section stops at a line that breaks a rule, or memory runs out
 abbrev pub Fails : List ℕ → ℕ → ℕ → List LineKind → SectionErr → Type 0

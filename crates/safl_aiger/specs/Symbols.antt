@@ -8,7 +8,7 @@ use Rattle.safl_aiger.specs.declared.symbols.SymbolErr.TheVariants as failures
 use Rattle.safl_aiger.specs.declared.symbols.SymbolsErr.{SymbolsErr}
 use Rattle.safl_aiger.specs.declared.symbols.SymbolsErr.TheVariants.{Stopped, NoMemory}
 use Rattle.safl_aiger.specs.Circuits.{names_of}
-use Rattle.safl_aiger.specs.Reads.{Named, NamePlaces, RefusesLine, SymbolFault, symbol_line, Ends}
+use Rattle.safl_aiger.specs.Reads.{Named, NamePlaces, RefusesLine, SymbolFault, symbol_line, EndsSymbols}
 
 -- the names that the code keeps
 abbrev pub named : Names → Named
@@ -57,7 +57,7 @@ pub record NamesUpTo (ls : List (List ℕ)) (old new : Named) (left : List (List
 
 -- all lines give names, up to the end or a line `c`
 abbrev pub SymbolsPass : List (List ℕ) → Named → Named → Type 0
-SymbolsPass ls old new = (left : List (List ℕ)) × NamesUpTo ls old new left × Ends left
+SymbolsPass ls old new = (left : List (List ℕ)) × NamesUpTo ls old new left × EndsSymbols left
 
 -- The number of the first line that gives no name. So many lines of the text come before these.
 abbrev pub SymbolsFail : List (List ℕ) → ℕ → Named → SymbolsErr → Type 0

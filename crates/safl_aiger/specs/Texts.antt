@@ -15,18 +15,18 @@ row_line [] = []
 row_line (n ∷ ns) = numbers_line n ns
 
 -- the symbol line of something that has a name: the letter and its number, a space and the name
-abbrev pub symbol_text : ℕ → ℕ → List ℕ → List (List ℕ)
-symbol_text letter k [] = []
-symbol_text letter k (c ∷ cs) = (letter ∷ decimal k ++ 32 ∷ c ∷ cs) ∷ []
+abbrev pub symbol_row : ℕ → ℕ → List ℕ → List (List ℕ)
+symbol_row letter k [] = []
+symbol_row letter k (c ∷ cs) = (letter ∷ decimal k ++ 32 ∷ c ∷ cs) ∷ []
 
 abbrev pub symbols_text : ℕ → ℕ → List (List ℕ) → List (List ℕ)
 symbols_text letter k [] = []
-symbols_text letter k (x ∷ xs) = symbol_text letter k x ++ symbols_text letter (suc k) xs
+symbols_text letter k (x ∷ xs) = symbol_row letter k x ++ symbols_text letter (suc k) xs
 
 -- The text has these lines, each followed by a line feed: `aag` with the numbers of variables, inputs, latches, outputs and ANDs; the
 -- rows of numbers of these; and the symbols of those that have names.
-abbrev pub written : Circuit → List ℕ
-written a =
+abbrev pub written_circuit : Circuit → List ℕ
+written_circuit a =
     flat_map (λ (l : List ℕ). l ++ 10 ∷ [])
     ((codes "aag " ++ numbers_line (variables a) (a.inputs ∷ latches a ∷ length a.outputs ∷ length a.ands ∷ [])) ∷ (map row_line (body_numbers a)
     ++ (symbols_text 105 0 a.input_names ++ (symbols_text 108 0 a.latch_names ++ symbols_text 111 0 a.output_names))))

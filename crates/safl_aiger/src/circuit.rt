@@ -1,6 +1,6 @@
 //! Bit-level circuits.
 
-ghost use Rattle.std.specs.Prelude.{◌≡◌, ◌<◌, length, slice_get, Some};
+ghost use Rattle.std.specs.Prelude.{◌≡◌, ◌<◌, length};
 ghost use Rattle.safl_aiger.specs.Circuits.{IsCircuit, latches, circuit_of, names_of};
 
 use crate::literal::Lit;

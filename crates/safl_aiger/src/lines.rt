@@ -1,8 +1,8 @@
 //! Lines of a text, and numbers in them.
 
-ghost use Rattle.std.specs.Prelude.{◌≡◌, ℕ, ◌+◌, ◌-◌, ◌^◌, ◌<◌, ◌≤◌, [], ◌∷◌, ◌↔◌, length, take, drop, IsSome, IfSome, IfNone, IsNone};
+ghost use Rattle.std.specs.Prelude.{◌≡◌, ◌+◌, ◌-◌, ◌^◌, ◌<◌, ◌≤◌, [], ◌∷◌, ◌↔◌, length, take, drop, IsSome, IfSome, IsNone};
 ghost use Rattle.safl_word.specs.Numerals.{value, IsBounded};
-ghost use Rattle.safl_aiger.specs.Lines.{lines, fields, HasNumbers, HasCount};
+ghost use Rattle.safl_aiger.specs.Lines.{text_lines, fields, HasNumbers, HasCount};
 
 use safl_word::numeral;
 
@@ -11,7 +11,7 @@ pub fn line_end(text: &[u8], at: usize) -> usize
     requires { at < length text.now }
     ensures within { result ≤ length text.now }
     ensures after { at ≤ result }
-    ensures line { lines (drop at text.now) ≡ take (result - at) (drop at text.now) ∷ lines (drop (result + 1) text.now) }
+    ensures line { text_lines (drop at text.now) ≡ take (result - at) (drop at text.now) ∷ text_lines (drop (result + 1) text.now) }
 {
     let mut end = at;
     while end < text.len() && text[end] != b'\n' {

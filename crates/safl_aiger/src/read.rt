@@ -1,8 +1,8 @@
 //! From a text to the bit-level circuit that it is, or to its first fault.
 
-ghost use Rattle.std.specs.Prelude.{◌≡◌, ◌+◌, ◌^◌, ◌<◌, length, drop, IfOk, IfErr};
-ghost use Rattle.safl_aiger.specs.Lines.{lines};
-ghost use Rattle.safl_aiger.specs.Reads.{AigReads, Begins, counts};
+ghost use Rattle.std.specs.Prelude.{◌+◌, ◌^◌, ◌<◌, length, drop, IfOk, IfErr};
+ghost use Rattle.safl_aiger.specs.Lines.{text_lines};
+ghost use Rattle.safl_aiger.specs.Reads.{AigReads, HasHeader, counts};
 ghost use Rattle.safl_aiger.specs.Readings.{HasThatFault};
 ghost use Rattle.safl_aiger.specs.Sections.{BodyIs};
 
@@ -40,7 +40,7 @@ pub fn read_aig(alloc: Global, text: &[u8]) -> Result<Aig, AigErr>
 // Reads what follows the header, from `at` on.
 fn read_rest(alloc: Global, text: &[u8], at: usize, h: Header) -> Result<Aig, AigErr>
     requires short { length text.now < 2 ^ 32 }
-    requires begins { Begins text.now (counts h) (lines (drop at text.now)) }
+    requires begins { HasHeader text.now (counts h) (text_lines (drop at text.now)) }
     requires sum { h.inputs + h.latches + h.ands < 2 ^ 31 }
     requires outputs { h.outputs < 2 ^ 31 }
     ensures reads { IfOk result (AigReads text.now) }
@@ -56,7 +56,7 @@ fn read_rest(alloc: Global, text: &[u8], at: usize, h: Header) -> Result<Aig, Ai
 // Reads the names after the body, from `at` on, and makes the circuit.
 fn read_names(alloc: Global, text: &[u8], at: usize, h: Header, body: Body) -> Result<Aig, AigErr>
     requires short { length text.now < 2 ^ 32 }
-    requires begins { Begins text.now (counts h) (lines (drop at text.now)) }
+    requires begins { HasHeader text.now (counts h) (text_lines (drop at text.now)) }
     requires body { BodyIs text.now at (counts h) body }
     requires sum { h.inputs + h.latches + h.ands < 2 ^ 31 }
     requires outputs { h.outputs < 2 ^ 31 }

@@ -1,6 +1,6 @@
 //! The lines of a text of a bit-level circuit.
 
-ghost use Rattle.std.specs.Prelude.{◌≡◌, ℕ, ◌+◌, ◌*◌, ◌^◌, ◌<◌, ◌≤◌, ◌↔◌, List, [], ◌∷◌, length, IsTrue, IsSome, IsNone, IfSome, IfOk, IfErr};
+ghost use Rattle.std.specs.Prelude.{◌≡◌, ◌+◌, ◌*◌, ◌^◌, ◌<◌, ◌↔◌, [], ◌∷◌, IsTrue, IsNone, IfSome, IfOk, IfErr};
 ghost use Rattle.safl_aiger.specs.Lines.{HasNumbers, HasCount};
 ghost use Rattle.safl_aiger.specs.Reads.{Counts, IsHeader, size, IsGood, IsBad, numbers_found, counts};
 

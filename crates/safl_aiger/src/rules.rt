@@ -1,13 +1,13 @@
 //! The texts of the rules.
 
 ghost use Rattle.std.specs.Prelude.{◌≡◌};
-ghost use Rattle.safl_aiger.specs.Rules.{rule_text};
+ghost use Rattle.safl_aiger.specs.Rules.{aig_rule_text};
 
 use crate::reading::AigRule;
 
 /// The number of a rule and its text, such as `B01 bad header`.
 pub fn rule_text(rule: AigRule) -> &'static str
-    ensures { result.now ≡ rule_text rule }
+    ensures { result.now ≡ aig_rule_text rule }
 {
     match rule {
         AigRule::B01 => "B01 bad header",

@@ -1,8 +1,8 @@
 //! The sections of a text: the lines of inputs, latches, outputs and ANDs.
 
-ghost use Rattle.std.specs.Prelude.{◌≡◌, ℕ, ◌+◌, ◌-◌, ◌*◌, ◌^◌, ◌<◌, ◌≤◌, [], ◌∷◌, ◌++◌, length, drop, replicate, OnOk, IfOk, IfErr};
-ghost use Rattle.safl_aiger.specs.Lines.{lines};
-ghost use Rattle.safl_aiger.specs.Reads.{IsGood, Breaks, counts, total, line_kinds, numbers_found, kinds_from, own_numbers, latch_numbers, output_numbers, and_numbers};
+ghost use Rattle.std.specs.Prelude.{◌≡◌, ◌+◌, ◌-◌, ◌^◌, ◌<◌, ◌≤◌, [], ◌∷◌, length, drop, replicate, OnOk, IfOk, IfErr};
+ghost use Rattle.safl_aiger.specs.Lines.{text_lines};
+ghost use Rattle.safl_aiger.specs.Reads.{IsGood, BreaksLine, counts, total, line_kinds, numbers_found, kinds_from, own_numbers, latch_numbers, output_numbers, and_numbers};
 ghost use Rattle.safl_aiger.specs.Sections.{Passes, Stops, Fails, IsWithin, Later, BodyIs};
 
 use crate::lines::line_end;
@@ -36,7 +36,7 @@ pub fn read_step(text: &[u8], at: usize, kind: LineKind, variables: u32) -> Resu
     requires { variables < 2 ^ 31 }
     ensures ok { IfOk result (λ s. Passes text.now variables at (kind ∷ []) (numbers_found kind s.found ∷ []) s.next) }
     ensures good { IfOk result (λ s. IsGood variables kind (numbers_found kind s.found)) }
-    ensures err { IfErr result (Breaks variables kind (lines (drop at text.now))) }
+    ensures err { IfErr result (BreaksLine variables kind (text_lines (drop at text.now))) }
 {
     if at >= text.len() {
         return Err(AigRule::B02);

@@ -2,7 +2,7 @@
 
 ghost use Rattle.std.specs.Prelude.{◌≡◌, ◌≢◌, ℕ, ◌+◌, ◌^◌, ◌<◌, ◌≤◌, [], length, drop, replicate, decimal, slice_index, ◌↔◌, IsTrue, IsNone, IfSome, IfOk, IfErr, OnOk};
 ghost use Rattle.safl_aiger.specs.Circuits.{names_of};
-ghost use Rattle.safl_aiger.specs.Lines.{lines};
+ghost use Rattle.safl_aiger.specs.Lines.{text_lines};
 ghost use Rattle.safl_aiger.specs.Reads.{NamesPlace, letter, unnamed, counts};
 ghost use Rattle.safl_aiger.specs.Symbols.{named, IsSymbol, IsSymbolLine, IsSmall, Sets, IsTaken, IsRefused, SymbolsPass, SymbolsFail};
 
@@ -164,10 +164,10 @@ pub fn read_symbols(
     names: &mut Names,
 ) -> Result<(), SymbolsErr>
     requires short { length text.now < 2 ^ 32 }
-    requires lines { before + length (lines (drop at text.now)) < 2 ^ 32 }
+    requires lines { before + length (text_lines (drop at text.now)) < 2 ^ 32 }
     requires small { IsSmall (named names.old) }
-    ensures ok { OnOk result (SymbolsPass (lines (drop at text.now)) (named names.old) (named names.new)) }
-    ensures err { IfErr result (SymbolsFail (lines (drop at text.now)) before (named names.old)) }
+    ensures ok { OnOk result (SymbolsPass (text_lines (drop at text.now)) (named names.old) (named names.new)) }
+    ensures err { IfErr result (SymbolsFail (text_lines (drop at text.now)) before (named names.old)) }
 {
     let mut place = at;
     let mut count = before;

@@ -1,9 +1,9 @@
 //! The text of a bit-level circuit.
 
-ghost use Rattle.std.specs.Prelude.{◌≡◌, ℕ, ◌+◌, ◌*◌, ◌<◌, ◌≤◌, ◌^◌, ◌++◌, ◌∷◌, [], length, All, IfOk, OnOk};
+ghost use Rattle.std.specs.Prelude.{◌≡◌, ◌+◌, ◌*◌, ◌<◌, ◌≤◌, ◌++◌, ◌∷◌, [], length, IfOk, OnOk};
 ghost use Rattle.safl_word.specs.Limits.{variables_max};
 ghost use Rattle.safl_aiger.specs.Circuits.{names_of};
-ghost use Rattle.safl_aiger.specs.Texts.{joined_lines, numbers_line, input_text, latch_text, output_text, and_text, symbol_text, symbols_text, header_line, written};
+ghost use Rattle.safl_aiger.specs.Texts.{joined_lines, numbers_line, input_text, latch_text, output_text, and_text, symbol_row, symbols_text, header_line, written_circuit};
 
 use crate::circuit::{Aig, Name};
 use crate::literal::Lit;
@@ -13,7 +13,7 @@ use std::alloc::Global;
 /// The text of a circuit: its header, then a line for each input, latch, output and AND, then a line for each name that
 /// is not empty.
 pub fn aig_text(alloc: Global, a: &Aig) -> Result<Vec<u8>, NoMemory>
-    ensures { IfOk result (λ text. text.items ≡ written a.now) }
+    ensures { IfOk result (λ text. text.items ≡ written_circuit a.now) }
 {
     let mut out = Vec::new(alloc);
     let inputs = a.inputs();
@@ -93,7 +93,7 @@ fn push_symbols(out: &mut Vec<u8>, letter: u8, names: &[Name]) -> Result<(), NoM
 }
 
 fn push_symbol(out: &mut Vec<u8>, letter: u8, place: usize, name: &[u8]) -> Result<(), NoMemory>
-    ensures { OnOk result (out.new.items ≡ out.old.items ++ joined_lines (symbol_text letter place name.now)) }
+    ensures { OnOk result (out.new.items ≡ out.old.items ++ joined_lines (symbol_row letter place name.now)) }
 {
     if !name.is_empty() {
         out.push(letter)?;

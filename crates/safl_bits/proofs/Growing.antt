@@ -51,11 +51,6 @@ last : (xs : List (Lit × Lit)) (p : Lit × Lit) → slice_get (xs ++ p ∷ []) 
 last [] p = refl
 last (x ∷ xs) p = last xs p
 
--- the AND that was added last
-pub gate_value : (first : ℕ) (xs ys : List (Lit × Lit)) (a b : Lit) (m : Assignment) → ys ≡ xs ++ (a, b) ∷ [] → Holds
-    (record { first = first; ands = ys }) m → on_number m (2 * (first + length xs)) ≡ (on m a && on m b)
-gate_value first xs ys a b m e h = even_on m (first + length xs) ∙ h.each (length xs) (a, b) (ap (λ l. slice_get l (length xs)) e ∙ last xs (a, b))
-
 pub neither : (x y : Bool) → not (not x && not y) ≡ (x || y)
 neither true y = refl
 neither false true = refl

@@ -17,10 +17,6 @@ use Rattle.safl_bits.proofs.Numbers.{number-append, number_take, number_drop, nu
 use Rattle.safl_bits.proofs.Places.{shown_lt}
 use Rattle.safl_bits.proofs.Steps.{left_step, right_step}
 
-pub if_both : {T E : Type 0} (r : Result T E) (P Q R : T → Type 0) → IfOk r P → IfOk r Q → ((x : T) → P x → Q x → R x) → IfOk r R
-if_both (Ok x) P Q R p q f = f x p q
-if_both (Err e) P Q R p q f = tt
-
 pub if_three : {T E : Type 0} (r : Result T E) (P Q S R : T → Type 0) → IfOk r P → IfOk r Q → IfOk r S → ((x : T) → P x → Q x → S x → R x) → IfOk r R
 if_three (Ok x) P Q S R p q s f = f x p q s
 if_three (Err e) P Q S R p q s f = tt

@@ -75,11 +75,6 @@ gate_step Either i a b x y l k = (λ j. bit_or (turned (2 ^ i) (bit_of x) a j) (
 gate_step Differ i a b x y l k = (λ j. bit_xor (turned (2 ^ i) (bit_of x) a j) (turned (2 ^ i) (bit_of y) b j)) ∙ xor_block i (bit_of x) (bit_of y) a
     b l k ∙ ap (λ n. n * 2 ^ i + bit_xor a b) (bits_xor x y) ∙ sym (turned (2 ^ i) (bit_of (differ x y)) (bit_xor a b))
 
-pub gate_empty : (kind : Gate) → 0 ≡ gate_number kind 0 0
-gate_empty Both = refl
-gate_empty Either = refl
-gate_empty Differ = refl
-
 pub choice_step : (t x y : Bool) (p a b s : ℕ) → s ≡ cond t a b → s + p * bit_of (cond t x y) ≡ cond t (a + p * bit_of x) (b + p * bit_of y)
 choice_step true x y p a b s e = ap (λ n. n + p * bit_of x) e
 choice_step false x y p a b s e = ap (λ n. n + p * bit_of y) e
@@ -87,10 +82,6 @@ choice_step false x y p a b s e = ap (λ n. n + p * bit_of y) e
 pub masked_step : (t x : Bool) (p a s : ℕ) → s ≡ cond t a 0 → s + p * bit_of (t && x) ≡ cond t (a + p * bit_of x) 0
 masked_step true x p a s e = ap (λ n. n + p * bit_of x) e
 masked_step false x p a s e = omega (arith, e)
-
-pub choice_empty : (t : Bool) (n : ℕ) → n ≡ cond t n n
-choice_empty true n = refl
-choice_empty false n = refl
 
 pub complement_step : (x : Bool) (i a s : ℕ) → s + a + 1 ≡ 2 ^ i → (s + 2 ^ i * bit_of (not x)) + (a + 2 ^ i * bit_of x) + 1 ≡ 2 ^ (i + 1)
 complement_step true i a s e = let f = pow-suc 2 i in let g : 2 ^ (i + 1) ≡ 2 ^ suc i = ap (λ n. 2 ^ n) (let z : i + 1 ≡ suc i = omega arith in z) in omega (arith, e, f, g)

@@ -1,9 +1,8 @@
 -- ANDs that are looked up by their operands.
-use Rattle.std.proofs.Common.{◌≡◌, ℕ, zero, suc, ◌+◌, ◌*◌, ◌<◌, ◌≤◌, List, [], ◌∷◌, ◌++◌, map, take, length, Some, Bool, true, false, ◌&&◌, slice_get, refl, sym, ap, subst, ◌∙◌, arith, rules}
+use Rattle.std.proofs.Common.{◌≡◌, ℕ, zero, suc, ◌+◌, ◌*◌, ◌<◌, List, [], ◌∷◌, ◌++◌, take, length, Some, Bool, true, false, ◌&&◌, slice_get, refl, sym, ap, subst, ◌∙◌, arith, rules}
 use Rattle.std.specs.Prelude.{if◌then◌else◌}
 use Rattle.std.specs.List.{list_any}
 use Rattle.std.proofs.lemmas.List.{append-nil}
-use Rattle.std.proofs.lemmas.Option.{slice_get_within}
 use Rattle.safl_aiger.specs.declared.literal.Lit.{Lit}
 use Rattle.safl_aiger.specs.Literals.{Assignment, on, on_number}
 use Rattle.safl_aiger.specs.Circuits.{AreBelow}
@@ -25,10 +24,6 @@ put old k = if list_any (eq k) old then old else (old ++ k ∷ [])
 pairs_more : (xs ys : List Operands) → pairs (xs ++ ys) ≡ pairs xs ++ pairs ys
 pairs_more [] ys = refl
 pairs_more (x ∷ xs) ys = ap (λ l. (x.low, x.high) ∷ l) (pairs_more xs ys)
-
-pub pairs_long : (xs : List Operands) → length (pairs xs) ≡ length xs
-pairs_long [] = refl
-pairs_long (x ∷ xs) = ap suc (pairs_long xs)
 
 pub pair_at : (xs : List Operands) (i : ℕ) (k : Operands) → slice_get xs i ≡ Some k → slice_get (pairs xs) i ≡ Some (k.low, k.high)
 pair_at [] i k e = absurd (cc)
@@ -78,9 +73,6 @@ gates_put first old new k g a b h e = by (list_any (eq k) old) e
           below = subst (AreBelow first) (sym (ap pairs r ∙ pairs_more old (k ∷ []))) (below_more first (pairs old) (k.low, k.high) g.below a b);
         }
 
-pub literal_put : (first : ℕ) (new : List Operands) (i : ℕ) (o : Operands) → slice_get new i ≡ Some o → 2 * (first + i) < 2 * (first + length (pairs new))
-literal_put first new i o e = let h = slice_get_within new i o e in let l = pairs_long new in omega (arith, h, l)
-
 pub value_put : (first : ℕ) (new : List Operands) (k o : Operands) (i : ℕ) (m : Assignment) → slice_get new i ≡ Some o → eq k o ≡ true → Holds (gates first new) m
     → on_number m (2 * (first + i)) ≡ (on m k.low && on m k.high)
 value_put first new k o i m e q h =
@@ -90,6 +82,3 @@ taken : (xs : List Operands) (i : ℕ) (x : Operands) → slice_get xs i ≡ Som
 taken [] i x e = absurd (cc)
 taken (y ∷ ys) zero x e = let q : y ≡ x = cc in ap (λ (o : Operands). (o.low, o.high) ∷ []) q
 taken (y ∷ ys) (suc i) x e = ap (λ l. (y.low, y.high) ∷ l) (taken ys i x e)
-
-pub pairs_taken : (xs : List Operands) (i : ℕ) (x : Operands) → slice_get xs i ≡ Some x → pairs (take (i + 1) xs) ≡ pairs (take i xs) ++ (x.low, x.high) ∷ []
-pairs_taken xs i x e = let q : i + 1 ≡ suc i = omega arith in ap (λ n. pairs (take n xs)) q ∙ taken xs i x e

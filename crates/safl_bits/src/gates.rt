@@ -1,6 +1,6 @@
 //! Gates over literals.
 
-ghost use Rattle.std.specs.Prelude.{◌≡◌, ℕ, ◌&&◌, ◌||◌, not, cond, IfOk};
+ghost use Rattle.std.specs.Prelude.{◌≡◌, ◌||◌, cond, IfOk};
 ghost use Rattle.safl_aiger.specs.Literals.{Assignment, on};
 ghost use Rattle.safl_bits.specs.Gates.{IsLiteral, HasRoom, Grows, Holds, differ};
 

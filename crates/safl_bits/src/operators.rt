@@ -1,9 +1,9 @@
 //! Operators on words that are lists of literals.
 
-ghost use Rattle.std.specs.Prelude.{◌≡◌, ℕ, ◌+◌, ◌*◌, ◌%◌, ◌^◌, ◌<◌, ◌≤◌, [], ◌∷◌, ◌++◌, length, IfOk};
+ghost use Rattle.std.specs.Prelude.{◌≡◌, ◌+◌, ◌*◌, ◌%◌, ◌^◌, ◌<◌, ◌≤◌, [], ◌∷◌, ◌++◌, length, IfOk};
 ghost use Rattle.safl_word.specs.Limits.{width_max};
-ghost use Rattle.safl_aiger.specs.Literals.{Assignment, on, shown};
-ghost use Rattle.safl_bits.specs.Gates.{Gates, IsLiteral, AreLiterals, HasRoom, Grows, Holds};
+ghost use Rattle.safl_aiger.specs.Literals.{Assignment, shown};
+ghost use Rattle.safl_bits.specs.Gates.{Gates, AreLiterals, HasRoom, Grows, Holds};
 ghost use Rattle.safl_bits.specs.Results.{Makes, MakesOne, MayMake, MayTake, GrowsBy};
 
 use crate::graph::{Graph, inverse};

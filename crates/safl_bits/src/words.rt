@@ -1,6 +1,6 @@
 //! Operators on words, as lists of literals with the lowest bit first.
 
-ghost use Rattle.std.specs.Prelude.{◌≡◌, ℕ, ◌+◌, ◌-◌, ◌*◌, ◌/◌, ◌%◌, ◌^◌, ◌<◌, ◌≤◌, ◌==◌, ◌&&◌, ◌||◌, not, false, cond, nat_le, replicate, length, IfOk};
+ghost use Rattle.std.specs.Prelude.{◌≡◌, ◌+◌, ◌-◌, ◌*◌, ◌/◌, ◌%◌, ◌^◌, ◌<◌, ◌≤◌, ◌==◌, ◌&&◌, ◌||◌, not, false, cond, nat_le, replicate, length, IfOk};
 ghost use Rattle.safl_word.specs.Primitives.{bit_of};
 ghost use Rattle.safl_word.specs.Limits.{width_max};
 ghost use Rattle.safl_aiger.specs.Literals.{Assignment, on, shown};

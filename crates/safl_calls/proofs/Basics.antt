@@ -2,7 +2,7 @@
 use Rattle.std.proofs.Common.{◌≡◌, ℕ, zero, suc, ◌+◌, ◌<◌, ◌≤◌, List, [], ◌∷◌, ◌++◌, Option, Some, None, Bool, true, false, cond, ◌&&◌, nat_lt}
 use Rattle.std.proofs.Common.{is_some, refl, sym, ap, ◌∙◌, subst, ⊎_elim, arith, append-nil}
 use Rattle.std.proofs.lemmas.Bool.{cases_Bool, cases_eq, false≢true, lt-ltb, le-ltb, ltb-true, ltb-false, and_right, eq-eqb, ne_eqb}
-use Rattle.safl_calls.specs.Machine.{Mode, Idle, Runs, Delivers, is_unsent, State, Event, Enabled, fire, Legal, after, last_word, put}
+use Rattle.safl_calls.specs.Machine.{Mode, Idle, Runs, Delivers, is_unsent, State, Event, Enabled, fire, Legal, after_event, last_word, put}
 use Rattle.safl_calls.specs.Picks.{first, picks}
 use Rattle.safl_calls.specs.Moves.{moves_count}
 use Rattle.safl_term.specs.Readiness.{or_else, Stage, Unsent, Sent, Returned}
@@ -28,13 +28,13 @@ moves_append [] ys = omega arith
 moves_append (x ∷ xs) ys = let e = moves_append xs ys in omega (arith, e)
 
 module _ (C : Program) (args : List Word) where
-  pub after_append : (s : State) (xs ys : List Event) → after C args s (xs ++ ys) ≡ after C args (after C args s xs) ys
-  unfolding after
+  pub after_append : (s : State) (xs ys : List Event) → after_event C args s (xs ++ ys) ≡ after_event C args (after_event C args s xs) ys
+  unfolding after_event
   after_append s [] ys = refl
   after_append s (x ∷ xs) ys = after_append (fire C args s x) xs ys
 
-  pub legal_append : (s : State) (xs ys : List Event) → Legal C args s xs → Legal C args (after C args s xs) ys → Legal C args s (xs ++ ys)
-  unfolding after Legal
+  pub legal_append : (s : State) (xs ys : List Event) → Legal C args s xs → Legal C args (after_event C args s xs) ys → Legal C args s (xs ++ ys)
+  unfolding after_event Legal
   legal_append s [] ys h k = k
   legal_append s (x ∷ xs) ys h k = (h.0, legal_append (fire C args s x) xs ys h.1 k)
 
@@ -43,13 +43,13 @@ module _ (C : Program) (args : List Word) where
   legal_front s [] ys h = tt
   legal_front s (x ∷ xs) ys h = (h.0, legal_front (fire C args s x) xs ys h.1)
 
-  pub last_append : (s : State) (xs ys : List Event) (u : ℕ) (d : Word) → last_word C args s (xs ++ ys) u d ≡ last_word C args (after C args s xs) ys u (last_word C args s xs u d)
-  unfolding after last_word
+  pub last_append : (s : State) (xs ys : List Event) (u : ℕ) (d : Word) → last_word C args s (xs ++ ys) u d ≡ last_word C args (after_event C args s xs) ys u (last_word C args s xs u d)
+  unfolding after_event last_word
   last_append s [] ys u d = refl
   last_append s (x ∷ xs) ys u d = last_append (fire C args s x) xs ys u _
 
-  pub after_one : (s : State) (e : Event) → after C args s (e ∷ []) ≡ fire C args s e
-  unfolding after
+  pub after_one : (s : State) (e : Event) → after_event C args s (e ∷ []) ≡ fire C args s e
+  unfolding after_event
   after_one s e = refl
 
   pub legal_one : (s : State) (e : Event) → Enabled C args s e → Legal C args s (e ∷ [])
@@ -60,21 +60,21 @@ module _ (C : Program) (args : List Word) where
   module _ (Q : ℕ → State → Type 0) (p : ℕ → Bool) (e : ℕ → Event) (N : ℕ)
       (fires : (n : ℕ) (s : State) → n < N → Q n s → p n ≡ true → Enabled C args s (e n) × Q (suc n) (fire C args s (e n)))
       (skips : (n : ℕ) (s : State) → n < N → Q n s → p n ≡ false → Q (suc n) s) where
-    one_more : (s t : State) (es : List Event) (n : ℕ) → n < N → Legal C args s es → Q n (after C args s es) → (b : Bool) → p n ≡ b → Legal C args s
-        (es ++ cond b (e n ∷ []) []) × Q (suc n) (after C args s (es ++ cond b (e n ∷ []) []))
+    one_more : (s t : State) (es : List Event) (n : ℕ) → n < N → Legal C args s es → Q n (after_event C args s es) → (b : Bool) → p n ≡ b → Legal C args s
+        (es ++ cond b (e n ∷ []) []) × Q (suc n) (after_event C args s (es ++ cond b (e n ∷ []) []))
     one_more s t es n lt legal q true is =
-        let f = fires n (after C args s es) lt q is in (
-          legal_append s es (e n ∷ []) legal (legal_one (after C args s es) (e n) f.0),
-          subst (Q (suc n)) (sym (after_append s es (e n ∷ []) ∙ after_one (after C args s es) (e n))) f.1,
+        let f = fires n (after_event C args s es) lt q is in (
+          legal_append s es (e n ∷ []) legal (legal_one (after_event C args s es) (e n) f.0),
+          subst (Q (suc n)) (sym (after_append s es (e n ∷ []) ∙ after_one (after_event C args s es) (e n))) f.1,
         )
     one_more s t es n lt legal q false is =
         let nil : es ++ [] ≡ es = append-nil es in (
           subst (λ l. Legal C args s l) (sym nil) legal,
-          subst (λ l. Q (suc n) (after C args s l)) (sym nil) (skips n (after C args s es) lt q is),
+          subst (λ l. Q (suc n) (after_event C args s l)) (sym nil) (skips n (after_event C args s es) lt q is),
         )
 
-    pub sweep : (s : State) → Q 0 s → (n : ℕ) → n ≤ N → Legal C args s (picks p e n) × Q n (after C args s (picks p e n))
-    unfolding picks Legal after
+    pub sweep : (s : State) → Q 0 s → (n : ℕ) → n ≤ N → Legal C args s (picks p e n) × Q n (after_event C args s (picks p e n))
+    unfolding picks Legal after_event
     sweep s q zero le = (tt, q)
     sweep s q (suc n) le =
         let h = sweep s q n (omega arith) in

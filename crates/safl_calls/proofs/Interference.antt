@@ -4,7 +4,7 @@ use Rattle.std.proofs.lemmas.Bool.{cases_eq, cases_order, eq-eqb, ne_eqb, false�
 use Rattle.safl_calls.proofs.Bodies.{or_some, settled, settled_in, wanted_stands, wanted_stands_in}
 use Rattle.safl_calls.proofs.Invariant.{Inv, inv_after, Asks, found}
 use Rattle.safl_calls.proofs.Numbered.{Numbered}
-use Rattle.safl_calls.specs.Machine.{State, Mode, Idle, Runs, Delivers, opening, after, back}
+use Rattle.safl_calls.specs.Machine.{State, Mode, Idle, Runs, Delivers, opening, after_event, back}
 use Rattle.safl_calls.proofs.Basics.{serves}
 use Rattle.safl_sites.specs.Conflicts.{Reaches, Here, Through, ReachesIn, Apart, ApartIn, Conflict}
 use Rattle.safl_calls.specs.Interference.{Busy, BusySitesConflict, OneInUse}
@@ -310,14 +310,14 @@ module _ (C : Program) (good : Numbered C) (s : State) (inv : Inv C s) where
 
 pub busy_conflict : (C : Program) → Numbered C → BusySitesConflict C
 busy_conflict C good args es legal j k pj pk other same bj bk =
-    let s = after C args opening es in
+    let s = after_event C args opening es in
     let inv = inv_after C args good es legal in
     conflicts C good s inv j k (busy_live C good s inv args j pj bj) (busy_live C good s inv args k pk bk) other same
 
 pub arbiter_serves : (C : Program) (arbiter : ℕ → Bool) → Numbered C → ((j k : ℕ) → Conflict C j k → arbiter (unit_for C j) ≡ true) → OneInUse C arbiter
 arbiter_serves C arbiter good arbs = record {
   one = λ args es legal j k pj pk same no_arb bj bk.
-      let s = after C args opening es in
+      let s = after_event C args opening es in
       let inv = inv_after C args good es legal in
       ⊎_elim (λ is. is)
       (λ other. absurd (true≢false (sym (arbs j k (conflicts C good s inv j k (busy_live C good s inv args j pj bj) (busy_live C good s inv args k pk bk) other same)) ∙ no_arb)))

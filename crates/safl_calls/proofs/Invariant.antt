@@ -6,7 +6,7 @@ use Rattle.safl_calls.proofs.Basics.{put_at, put_off, some_none, some_of, cond_s
 use Rattle.safl_calls.proofs.Bodies.{wanted_grows, settled, goes_stands, wanted_sized, goes_sized}
 use Rattle.safl_calls.proofs.Numbered.{Numbered}
 use Rattle.safl_calls.specs.Machine.{State, Mode, Idle, Runs, Delivers, Event, Accept, Finish, Return, LoopInto, opening, Enabled, CallerRests, Legal}
-use Rattle.safl_calls.specs.Machine.{after, fire, accept, finish, give_back, loop_into, ended, back, put, asked, asked_as, says, says_as}
+use Rattle.safl_calls.specs.Machine.{after_event, fire, accept, finish, give_back, loop_into, ended, back, put, asked, asked_as, says, says_as}
 use Rattle.safl_calls.proofs.Basics.{serves}
 use Rattle.safl_term.specs.Readiness.{Answer, Ready, LoopTo, NotYet, answer, wanted, Stage, Unsent, Sent, Returned, back_word}
 use Rattle.safl_term.specs.Program.{Program, unit_for, arity}
@@ -312,12 +312,12 @@ module _ (C : Program) (args : List Word) (good : Numbered C) where
     member = λ u f k ws e. absurd (idle_runs f k ws e);
   }
 
-  inv_all : (s : State) (es : List Event) → Inv C s → Legal C args s es → Inv C (after C args s es)
-  unfolding Legal after
+  inv_all : (s : State) (es : List Event) → Inv C s → Legal C args s es → Inv C (after_event C args s es)
+  unfolding Legal after_event
   inv_all s [] inv legal = inv
   inv_all s (e ∷ es) inv legal = inv_all (fire C args s e) es (inv_fire s e inv legal.0) legal.1
 
-pub inv_after : (C : Program) (args : List Word) → Numbered C → (es : List Event) → Legal C args opening es → Inv C (after C args opening es)
+pub inv_after : (C : Program) (args : List Word) → Numbered C → (es : List Event) → Legal C args opening es → Inv C (after_event C args opening es)
 inv_after C args good es legal = inv_all C args good opening es (inv_open C args good) legal
 
 -- a site that is sent or returned has a caller that runs

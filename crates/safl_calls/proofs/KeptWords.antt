@@ -8,7 +8,7 @@ use Rattle.safl_calls.proofs.Bodies.{wanted_stands}
 use Rattle.safl_calls.proofs.Invariant.{Inv, inv_after, inv_fire, inv_open}
 use Rattle.safl_calls.proofs.Locality.{answer_local, wanted_local}
 use Rattle.safl_calls.proofs.Numbered.{Numbered}
-use Rattle.safl_calls.specs.Machine.{State, Mode, Idle, Runs, Delivers, Event, Accept, Finish, Return, LoopInto, opening, Enabled, Legal, after, fire}
+use Rattle.safl_calls.specs.Machine.{State, Mode, Idle, Runs, Delivers, Event, Accept, Finish, Return, LoopInto, opening, Enabled, Legal, after_event, fire}
 use Rattle.safl_calls.specs.Machine.{accept, finish, give_back, loop_into, ended, put, back, says, says_as, finished, finished_as, last_word}
 use Rattle.safl_calls.proofs.Basics.{serves}
 use Rattle.safl_calls.proofs.Effects.{Before, agree_refl, effect}
@@ -195,8 +195,8 @@ module _ (C : Program) (kept : ℕ → Bool) (args : List Word) (good : Numbered
           (λ m. loop_into C s (C.unit g) m (says C s (C.unit g))) e ∙ ap (loop_into C s (C.unit g) (Runs f k ws)) on.1 in
           subst (λ q. Hist C kept q l) (sym is) (hist_go_on s l g k f ws on.0 h e)
 
-  hist_all : (s : State) (l : ℕ → Word) (es : List Event) → Inv C s → Hist C kept s l → Legal C args s es → Hist C kept (after C args s es) (λ u. last_word C args s es u (l u))
-  unfolding Legal after last_word
+  hist_all : (s : State) (l : ℕ → Word) (es : List Event) → Inv C s → Hist C kept s l → Legal C args s es → Hist C kept (after_event C args s es) (λ u. last_word C args s es u (l u))
+  unfolding Legal after_event last_word
   hist_all s l [] inv h legal = h
   hist_all s l (e ∷ es) inv h legal = hist_all (fire C args s e) (λ u. finished C s e u (l u)) es (inv_fire C args good s e inv legal.0) (hist_fire s l e inv h legal.0) legal.1
 
@@ -205,12 +205,12 @@ module _ (C : Program) (kept : ℕ → Bool) (args : List Word) (good : Numbered
 
   module _ (d : ℕ → Word) (es : List Event) (legal : Legal C args opening es) where
     abbrev s : State
-    s = after C args opening es
+    s = after_event C args opening es
 
-    inv : Inv C (after C args opening es)
+    inv : Inv C (after_event C args opening es)
     inv = inv_after C args good es legal
 
-    hist : Hist C kept (after C args opening es) (λ u. last_word C args opening es u (d u))
+    hist : Hist C kept (after_event C args opening es) (λ u. last_word C args opening es u (d u))
     hist = hist_all opening d es (inv_open C args good) (hist_open d) legal
 
     abbrev r : ℕ → Option Word

@@ -4,7 +4,7 @@ use Rattle.std.specs.Prelude.{unwrap_or}
 use Rattle.std.proofs.lemmas.Bool.{cases_eq, eq-eqb, ne_eqb, false≢true}
 use Rattle.safl_calls.proofs.Labels.{alike_append, alike_slot, alike_all, pick_any, pick_left, pick_right, pick_same}
 use Rattle.safl_calls.specs.Labels.{Labels, Twins, t_const, t_var, t_plain, t_op, t_if, t_choose, t_left, t_right, t_let, t_call, t_loop, AllTwins, t_nil, t_cons}
-use Rattle.safl_calls.specs.Labels.{Alike, IsPlain, p_const, p_var, p_op, p_if, p_let, ArePlain, p_nil, p_cons}
+use Rattle.safl_calls.specs.Labels.{Alike, IsPlainTerm, p_const, p_var, p_op, p_if, p_let, ArePlain, p_nil, p_cons}
 use Rattle.safl_calls.specs.Picks.{first}
 use Rattle.safl_term.specs.Readiness.{apply_to, Answer, Ready, LoopTo, NotYet, answer, answers, wanted, wanted_in, both, select, with_all, ready_from, or_else, word_of}
 use Rattle.safl_term.specs.Program.{Program}
@@ -183,7 +183,7 @@ select_right R a none x u v h k l = subst (λ z. R x (select z none u v)) (sym h
 mutual
   unfolding answer
 
-  plain_ready : (back : ℕ → Option Word) (env : List Word) (t : Term) → IsPlain t → IsReady (answer back env t)
+  plain_ready : (back : ℕ → Option Word) (env : List Word) (t : Term) → IsPlainTerm t → IsReady (answer back env t)
   plain_ready back env (Const w) p_const = (w, refl)
   plain_ready back env (Var i) p_var = (slot env i, refl)
   plain_ready back env (Op o ts) (p_op h) = let r = plain_readies back env ts h in (apply_prim o r.0, ap (apply_to o) r.1)
@@ -225,7 +225,7 @@ or_none o p e f = ap (λ x. or_else x p) e ∙ f
 mutual
   unfolding wanted
 
-  plain_wants : (back : ℕ → Option Word) (env : List Word) (t : Term) (k : ℕ) → IsPlain t → wanted back env t k ≡ None
+  plain_wants : (back : ℕ → Option Word) (env : List Word) (t : Term) (k : ℕ) → IsPlainTerm t → wanted back env t k ≡ None
   plain_wants back env (Const w) k p_const = refl
   plain_wants back env (Var i) k p_var = refl
   plain_wants back env (Op o ts) k (p_op h) = plain_wants_in back env ts k h

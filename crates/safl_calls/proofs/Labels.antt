@@ -2,7 +2,7 @@
 use Rattle.std.proofs.Common.{◌≡◌, ℕ, zero, suc, List, [], ◌∷◌, ◌++◌, Bool, true, false, refl, sym, ap, ◌∙◌, subst, arith}
 use Rattle.std.proofs.lemmas.Bool.{and_parts, false≢true, true≢false}
 use Rattle.safl_calls.specs.Labels.{Labels, label, all_public, Twins, t_const, t_var, t_plain, t_op, t_if, t_choose, t_left, t_right, t_let, t_call, t_loop, AllTwins, t_nil, t_cons}
-use Rattle.safl_calls.specs.Labels.{KeepsLabels, Alike, IsBlind, IsPlain, p_const, p_var, p_op, p_if, p_let, ArePlain, p_nil, p_cons}
+use Rattle.safl_calls.specs.Labels.{KeepsLabels, Alike, IsBlind, IsPlainTerm, p_const, p_var, p_op, p_if, p_let, ArePlain, p_nil, p_cons}
 use Rattle.safl_calls.specs.Span.{span, spans}
 use Rattle.safl_term.specs.Meaning.{Gives, gives_const, gives_var, gives_op, gives_if, gives_let, gives_call, gives_loop, GivesAll, gives_nil, gives_cons}
 use Rattle.safl_term.specs.Program.{Program}
@@ -60,14 +60,14 @@ pick_same R m n x y u v e h k = subst (λ j. R (pick m x y) (pick j u v)) e (at 
     at (suc zero) = h
     at (suc (suc m)) = k
 
-plain_pick : (n : ℕ) (x y : Term) → IsPlain x → IsPlain y → IsPlain (pick n x y)
+plain_pick : (n : ℕ) (x y : Term) → IsPlainTerm x → IsPlainTerm y → IsPlainTerm (pick n x y)
 plain_pick zero x y h k = k
 plain_pick (suc zero) x y h k = h
 plain_pick (suc (suc n)) x y h k = k
 
 -- a plain term has no span
 mutual
-  plain_span : (C : Program) {env : List Word} {t : Term} {v : Word} → IsPlain t → (d : Gives C env t v) → span C d ≡ 0
+  plain_span : (C : Program) {env : List Word} {t : Term} {v : Word} → IsPlainTerm t → (d : Gives C env t v) → span C d ≡ 0
   plain_span C p_const gives_const = refl
   plain_span C p_var gives_var = refl
   plain_span C (p_op h) (gives_op ds) = plain_spans C h ds

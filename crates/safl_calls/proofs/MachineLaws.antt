@@ -10,7 +10,7 @@ use Rattle.safl_term.specs.Meaning.{Main, main_cost, main_calls, loops, at_funct
 use Rattle.safl_term.specs.WellFormed.{IsNumbered}
 use Rattle.safl_term.proofs.Apart.{sent_unsent}
 use Rattle.safl_calls.specs.Machine.{State, Mode, Idle, Runs, Delivers, Event, Accept, Finish, Return, LoopInto, opening, is_unsent, back, says_as}
-use Rattle.safl_calls.specs.Machine.{says, asked_as, Enabled, accept, loop_into, fire, Legal, after}
+use Rattle.safl_calls.specs.Machine.{says, asked_as, Enabled, accept, loop_into, fire, Legal, after_event}
 use Rattle.safl_calls.proofs.Basics.{serves}
 use Rattle.safl_calls.specs.Starts.{event_start, starts_of, listed, goes_with}
 use Rattle.safl_calls.proofs.Numbered.{Numbered}
@@ -161,34 +161,34 @@ module _ (C : Program) (args : List Word) where
       (λ l. event_start C args s e f ++ l) (same_starts good (fire C args s e) es (inv_fire C args good s e inv legal.0) legal.1 f)
 
 module _ (C : Program) (n : ℕ) (good : Numbered C) (wf : IsNumbered C n) (args : List Word) (es : List Event) (legal : Legal C args opening es) where
-  path : Trail C args (picture C opening) es (picture C (after C args opening es))
+  path : Trail C args (picture C opening) es (picture C (after_event C args opening es))
   path = trail C args good opening es (inv_open C args good) legal
 
-  pub right : (v : Word) → (after C args opening es).site 0 ≡ Returned v → (d : Main C args v) × (length es + 2 * loops C d ≡ 3 * main_cost C args d)
-  right v e = law.right C n wf args es (picture C (after C args opening es)) v path e
+  pub right : (v : Word) → (after_event C args opening es).site 0 ≡ Returned v → (d : Main C args v) × (length es + 2 * loops C d ≡ 3 * main_cost C args d)
+  right v e = law.right C n wf args es (picture C (after_event C args opening es)) v path e
 
-  pub goes_on : widths args ≡ C.params C.main → ((v : Word) → (after C args opening es).site 0 ≢ Returned v) → (e : Event) × Enabled C args (after C args opening es) e
+  pub goes_on : widths args ≡ C.params C.main → ((v : Word) → (after_event C args opening es).site 0 ≢ Returned v) → (e : Event) × Enabled C args (after_event C args opening es) e
   goes_on sized not_yet =
-      let q = law.goes_on C n wf args es (picture C (after C args opening es)) path not_yet in
-      (q.0, enabled_of C args good (after C args opening es) (inv_after C args good es legal) sized q.0 q.1 q.2)
+      let q = law.goes_on C n wf args es (picture C (after_event C args opening es)) path not_yet in
+      (q.0, enabled_of C args good (after_event C args opening es) (inv_after C args good es legal) sized q.0 q.1 q.2)
 
-  pub stops : (v : Word) (e : Event) → (after C args opening es).site 0 ≡ Returned v → Enabled C args (after C args opening es) e → ⊥
-  stops v e is h = law.stops C n wf args es (picture C (after C args opening es)) _ v e path is (step_of C args good (after C args opening es) (inv_after C args good es legal) e h)
+  pub stops : (v : Word) (e : Event) → (after_event C args opening es).site 0 ≡ Returned v → Enabled C args (after_event C args opening es) e → ⊥
+  stops v e is h = law.stops C n wf args es (picture C (after_event C args opening es)) _ v e path is (step_of C args good (after_event C args opening es) (inv_after C args good es legal) e h)
 
   pub bounded : (v : Word) (d : Main C args v) → length es + 2 * loops C d ≤ 3 * main_cost C args d
-  bounded v d = law.bounded C n wf args es (picture C (after C args opening es)) v d path
+  bounded v d = law.bounded C n wf args es (picture C (after_event C args opening es)) v d path
 
-  pub same_calls : (v w : Word) (d : Main C args w) → (after C args opening es).site 0 ≡ Returned v → (f : ℕ) → IsPermutation (main_calls C args d f) (starts_of C args opening es f)
+  pub same_calls : (v w : Word) (d : Main C args w) → (after_event C args opening es).site 0 ≡ Returned v → (f : ℕ) → IsPermutation (main_calls C args d f) (starts_of C args opening es f)
   unfolding path
   same_calls v w d e f =
       subst (λ l. IsPermutation (main_calls C args d f) l) (same_starts C args good opening es (inv_open C args good) legal f)
-      (law.same_calls C n wf args es (picture C (after C args opening es)) v w d path e f)
+      (law.same_calls C n wf args es (picture C (after_event C args opening es)) v w d path e f)
 
-  pub started : (v w : Word) (d : Main C args w) → (after C args opening es).site 0 ≡ Returned v → starts_count es ≡ main_cost C args d
-  started v w d e = law.started C n wf args es (picture C (after C args opening es)) v w d path e
+  pub started : (v w : Word) (d : Main C args w) → (after_event C args opening es).site 0 ≡ Returned v → starts_count es ≡ main_cost C args d
+  started v w d e = law.started C n wf args es (picture C (after_event C args opening es)) v w d path e
 
   pub few_moves : (v : Word) (d : Main C args v) → moves_count es + loops C d ≤ 2 * main_cost C args d
-  few_moves v d = law.few_moves C n wf args es (picture C (after C args opening es)) v d path
+  few_moves v d = law.few_moves C n wf args es (picture C (after_event C args opening es)) v d path
 
-  pub all_moves : (v w : Word) (d : Main C args w) → (after C args opening es).site 0 ≡ Returned v → moves_count es + loops C d ≡ 2 * main_cost C args d
-  all_moves v w d e = law.all_moves C n wf args es (picture C (after C args opening es)) v w d path e
+  pub all_moves : (v w : Word) (d : Main C args w) → (after_event C args opening es).site 0 ≡ Returned v → moves_count es + loops C d ≡ 2 * main_cost C args d
+  all_moves v w d e = law.all_moves C n wf args es (picture C (after_event C args opening es)) v w d path e

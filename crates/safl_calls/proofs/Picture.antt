@@ -10,7 +10,7 @@ use Rattle.safl_term.proofs.Bridge.{back_of}
 use Rattle.safl_term.specs.Standing.{Stands}
 use Rattle.safl_term.proofs.Apart.{not_loop, sent_unsent}
 use Rattle.safl_calls.specs.Machine.{State, Mode, Idle, Runs, Delivers, Event, Accept, Finish, Return, LoopInto, put, back, says_as, says, asked_as}
-use Rattle.safl_calls.specs.Machine.{asked, Enabled, ended, accept, finish, give_back, loop_into, fire, Legal, after}
+use Rattle.safl_calls.specs.Machine.{asked, Enabled, ended, accept, finish, give_back, loop_into, fire, Legal, after_event}
 use Rattle.safl_calls.proofs.Basics.{serves}
 use Rattle.safl_calls.proofs.Numbered.{Numbered}
 use Rattle.safl_calls.proofs.Basics.{put_at, put_off, cond_some, unsent_is}
@@ -254,7 +254,7 @@ module _ (C : Program) (args : List Word) (good : Numbered C) (s : State) (inv :
   step_of (LoopInto m) h = begin_loop m h.0 h.1
 
 module _ (C : Program) (args : List Word) (good : Numbered C) where
-  unfoldable pub trail : (s : State) (es : List Event) → Inv C s → Legal C args s es → Trail C args (picture C s) es (picture C (after C args s es))
-  unfolding Legal after
+  unfoldable pub trail : (s : State) (es : List Event) → Inv C s → Legal C args s es → Trail C args (picture C s) es (picture C (after_event C args s es))
+  unfolding Legal after_event
   trail s [] inv legal = l_none
   trail s (e ∷ es) inv legal = l_more (step_of C args good s inv e legal.0) (trail (fire C args s e) es (inv_fire C args good s e inv legal.0) legal.1)

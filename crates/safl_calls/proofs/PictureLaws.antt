@@ -14,7 +14,7 @@ use Rattle.safl_calls.proofs.Progress.{progress, over}
 use Rattle.safl_calls.specs.Machine.{Event, Accept, Finish, Return, LoopInto}
 use Rattle.safl_term.proofs.Unique.{one_value}
 use Rattle.safl_term.specs.Readiness.{Stage, Returned}
-use Rattle.safl_term.specs.Meaning.{Main, main_cost, main_calls, at_function, calls, calls_all, Gives, GivesAll, gives_const, gives_var, gives_op}
+use Rattle.safl_term.specs.Meaning.{Main, main_cost, main_calls, at_function, calls_to, calls_all, Gives, GivesAll, gives_const, gives_var, gives_op}
 use Rattle.safl_term.specs.Meaning.{gives_if, gives_let, gives_call, gives_loop, gives_nil, gives_cons, cost, costs, loops, loops_all}
 use Rattle.safl_term.specs.Program.{Program}
 use Rattle.safl_term.specs.Terms.{Term}
@@ -85,30 +85,30 @@ abbrev at_words : ℕ → List Word → Weights
 at_words f ws = record { accept = λ g us. times ws (at_function f g us); loop = λ g us. times ws (at_function f g us); finish = 0; give = 0 }
 
 mutual
-  owed_calls : (p : Program) (f : ℕ) (ws : List Word) {env : List Word} {t : Term} {v : Word} (d : Gives p env t v) → owed p (at_words f ws) fresh d ≡ times ws (calls p f d)
+  owed_calls : (p : Program) (f : ℕ) (ws : List Word) {env : List Word} {t : Term} {v : Word} (d : Gives p env t v) → owed p (at_words f ws) fresh d ≡ times ws (calls_to p f d)
   owed_calls p f ws gives_const = refl
   owed_calls p f ws gives_var = refl
   owed_calls p f ws (gives_op ds) = owed_calls_all p f ws ds
-  owed_calls p f ws (gives_if c d) = omega (arith, owed_calls p f ws c, owed_calls p f ws d, sum_by-append (is_words ws) (calls p f c) (calls p f d))
-  owed_calls p f ws (gives_let ds d) = omega (arith, owed_calls_all p f ws ds, owed_calls p f ws d, sum_by-append (is_words ws) (calls_all p f ds) (calls p f d))
+  owed_calls p f ws (gives_if c d) = omega (arith, owed_calls p f ws c, owed_calls p f ws d, sum_by-append (is_words ws) (calls_to p f c) (calls_to p f d))
+  owed_calls p f ws (gives_let ds d) = omega (arith, owed_calls_all p f ws ds, owed_calls p f ws d, sum_by-append (is_words ws) (calls_all p f ds) (calls_to p f d))
   owed_calls p f ws (gives_call {f = g} {us = us} ds d) = omega (
     arith,
     owed_calls_all p f ws ds,
     owed_calls p f ws d,
-    sum_by-append (is_words ws) (calls_all p f ds) (at_function f g us ++ calls p f d),
-    sum_by-append (is_words ws) (at_function f g us) (calls p f d),
+    sum_by-append (is_words ws) (calls_all p f ds) (at_function f g us ++ calls_to p f d),
+    sum_by-append (is_words ws) (at_function f g us) (calls_to p f d),
   )
   owed_calls p f ws (gives_loop {h = g} {us = us} ds d) = omega (
     arith,
     owed_calls_all p f ws ds,
     owed_calls p f ws d,
-    sum_by-append (is_words ws) (calls_all p f ds) (at_function f g us ++ calls p f d),
-    sum_by-append (is_words ws) (at_function f g us) (calls p f d),
+    sum_by-append (is_words ws) (calls_all p f ds) (at_function f g us ++ calls_to p f d),
+    sum_by-append (is_words ws) (at_function f g us) (calls_to p f d),
   )
 
   owed_calls_all : (p : Program) (f : ℕ) (ws : List Word) {env : List Word} {ts : _} {vs : List Word} (d : GivesAll p env ts vs) → owed_all p (at_words f ws) fresh d ≡ times ws (calls_all p f d)
   owed_calls_all p f ws gives_nil = refl
-  owed_calls_all p f ws (gives_cons d ds) = omega (arith, owed_calls p f ws d, owed_calls_all p f ws ds, sum_by-append (is_words ws) (calls p f d) (calls_all p f ds))
+  owed_calls_all p f ws (gives_cons d ds) = omega (arith, owed_calls p f ws d, owed_calls_all p f ws ds, sum_by-append (is_words ws) (calls_to p f d) (calls_all p f ds))
 
 counts_applied : (p : Program) (f : ℕ) (ws : List Word) (e : Event) (t : Scene) → counts p (at_words f ws) e t ≡ times ws (applied_by p f e t)
 counts_applied p f ws (Accept k) t = refl
@@ -127,7 +127,7 @@ same_calls p n wf args es s v w d l r f =
     let all = counted_all p (at_words f ws) n args w d wf v l r in
     let a = counted_calls p f ws l in
     let b = owed_calls p f ws d in
-    let c = sum_by-append (is_words ws) (at_function f (p.callee 0) args) (calls p f d) in
+    let c = sum_by-append (is_words ws) (at_function f (p.callee 0) args) (calls_to p f d) in
     omega (arith, all, a, b, c))
 
 -- each start counts one

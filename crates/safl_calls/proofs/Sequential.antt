@@ -8,7 +8,7 @@ use Rattle.safl_calls.proofs.Invariant.{Inv, inv_after, found}
 use Rattle.safl_calls.proofs.Numbered.{Numbered}
 use Rattle.safl_calls.specs.Laws.{OneEvent}
 use Rattle.safl_sites.specs.Conflicts.{IsSequential}
-use Rattle.safl_calls.specs.Machine.{State, Mode, Idle, Runs, Delivers, Event, Accept, Finish, Return, LoopInto, opening, Enabled, after, back, says_as, says}
+use Rattle.safl_calls.specs.Machine.{State, Mode, Idle, Runs, Delivers, Event, Accept, Finish, Return, LoopInto, opening, Enabled, after_event, back, says_as, says}
 use Rattle.safl_sites.specs.Conflicts.{Here}
 use Rattle.safl_term.specs.Program.{Program, unit_for}
 use Rattle.safl_term.specs.Readiness.{Answer, Ready, LoopTo, NotYet, answer, Sent, back_word}
@@ -248,4 +248,4 @@ module _ (C : Program) (good : Numbered C) (s : State) (inv : Inv C s) where
     one_enabled args (LoopInto g) e hd he = of_both args (LoopInto g) e hd he (λ i. grind arith)
 
 pub one_event : (C : Program) → Numbered C → IsSequential C → OneEvent C
-one_event C good seq args es legal d e hd he = one_enabled C good (after C args opening es) (inv_after C args good es legal) seq args d e hd he
+one_event C good seq args es legal d e hd he = one_enabled C good (after_event C args opening es) (inv_after C args good es legal) seq args d e hd he

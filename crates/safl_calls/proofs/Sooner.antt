@@ -7,7 +7,7 @@ use Rattle.safl_calls.proofs.Picture.{picture, step_of}
 use Rattle.safl_calls.proofs.Preserved.{Fine, fine_step}
 use Rattle.safl_calls.proofs.Timely.{Timed, Prompt, timed_later, timed_step, Awaits}
 use Rattle.safl_calls.specs.Cycles.{since_event, since_events, MayAll, InCycles, all_events}
-use Rattle.safl_calls.specs.Machine.{State, Event, opening, Legal, after, fire}
+use Rattle.safl_calls.specs.Machine.{State, Event, opening, Legal, after_event, fire}
 use Rattle.safl_calls.specs.Span.{main_span}
 use Rattle.safl_term.specs.Meaning.{Main}
 use Rattle.safl_term.specs.Program.{Program}
@@ -16,8 +16,8 @@ use Rattle.safl_term.specs.WellFormed.{IsNumbered}
 use Rattle.safl_word.specs.Words.{Word}
 use Rattle.safl_term.proofs.Apart.{unsent_returned}
 
-legal_back : (C : Program) (args : List Word) (s : State) (xs ys : List Event) → Legal C args s (xs ++ ys) → Legal C args (after C args s xs) ys
-unfolding Legal after
+legal_back : (C : Program) (args : List Word) (s : State) (xs ys : List Event) → Legal C args s (xs ++ ys) → Legal C args (after_event C args s xs) ys
+unfolding Legal after_event
 legal_back C args s [] ys h = h
 legal_back C args s (x ∷ xs) ys h = legal_back C args (fire C args s x) xs ys h.1
 
@@ -43,8 +43,8 @@ module _ (C : Program) (args : List Word) (good : Numbered C) (wf : IsNumbered C
   }
 
   pub on_time_after : (c : ℕ) (since : ℕ → ℕ) (s : State) (es : List Event) → OnTime c since s → Legal C args s es → MayAll C c since es
-      → OnTime c (since_events C c since es) (after C args s es)
-  unfolding Legal after MayAll since_events
+      → OnTime c (since_events C c since es) (after_event C args s es)
+  unfolding Legal after_event MayAll since_events
   on_time_after c since s [] h legal may = h
   on_time_after c since s (e ∷ es) h legal may =
       let step = step_of C args good s h.inv e legal.0 in
@@ -66,21 +66,21 @@ module _ (C : Program) (args : List Word) (good : Numbered C) (wf : IsNumbered C
 
   no_sooner_from : (c : ℕ) (since : ℕ → ℕ) (s : State) (cycles : List (List Event)) → Early c since s
       → ((x : Word) → s.site 0 ≡ Returned x → main_span C args d < c) → Legal C args s (all_events cycles) → InCycles C c since cycles
-      → (x : Word) → (after C args s (all_events cycles)).site 0 ≡ Returned x → main_span C args d < c + length cycles
-  unfolding all_events InCycles after
+      → (x : Word) → (after_event C args s (all_events cycles)).site 0 ≡ Returned x → main_span C args d < c + length cycles
+  unfolding all_events InCycles after_event
   no_sooner_from c since s [] h before legal may x e = let b = before x e in omega (arith, b)
   no_sooner_from c since s (es ∷ rest) h before legal may x e =
       let front = legal_front C args s es (all_events rest) legal in
       let back = legal_back C args s es (all_events rest) legal in
       let t = on_time_after C args good wf v d ⊥ c since s es h front may.0 in
-      let late = on_time_later C args good wf v d ⊥ c (since_events C c since es) (after C args s es) (λ x. absurd x) t in
-      let r = no_sooner_from (suc c) (since_events C c since es) (after C args s es) rest late
-      (λ y i. let b = on_time_returned C args good wf v d ⊥ c (since_events C c since es) (after C args s es) y t i in omega (arith, b)) back may.1 x
+      let late = on_time_later C args good wf v d ⊥ c (since_events C c since es) (after_event C args s es) (λ x. absurd x) t in
+      let r = no_sooner_from (suc c) (since_events C c since es) (after_event C args s es) rest late
+      (λ y i. let b = on_time_returned C args good wf v d ⊥ c (since_events C c since es) (after_event C args s es) y t i in omega (arith, b)) back may.1 x
       (sym (ap (λ q. q.site 0) (after_append C args s es (all_events rest))) ∙ e) in
       omega (arith, r)
 
   pub no_sooner : (cycles : List (List Event)) → Legal C args opening (all_events cycles) → InCycles C 0 (λ u. 0) cycles
-      → (x : Word) → (after C args opening (all_events cycles)).site 0 ≡ Returned x → main_span C args d < length cycles
+      → (x : Word) → (after_event C args opening (all_events cycles)).site 0 ≡ Returned x → main_span C args d < length cycles
   no_sooner cycles legal may x e =
       let r = no_sooner_from 0 (λ u. 0) opening cycles (on_time_opening C args good wf v d ⊥ (λ u. 0)) (λ y i. absurd (unsent_returned y i)) legal may x e in
       omega (arith, r)

@@ -6,7 +6,7 @@ use Rattle.safl_term.specs.Program.{Program}
 use Rattle.safl_term.specs.Fuel.{Gave, apply}
 use Rattle.safl_term.specs.Readiness.{Returned, answer, wanted}
 use Rattle.safl_sites.proofs.SmallPrograms.{byte, just, next, main_over}
-use Rattle.safl_calls.specs.Machine.{Event, Accept, Finish, Return, LoopInto, opening, Legal, after}
+use Rattle.safl_calls.specs.Machine.{Event, Accept, Finish, Return, LoopInto, opening, Legal, after_event}
 
 -- fun f(x:8):8 = x + 1 fun main(a:8):8 = if f(a) == 3 then a else main(a + 1)
 abbrev climbing : Program
@@ -19,12 +19,12 @@ climbing_gives = refl
 abbrev events : List Event
 events = Accept 0 ∷ Accept 1 ∷ Finish 0 ∷ Return 1 ∷ LoopInto 1 ∷ Accept 1 ∷ Finish 0 ∷ Return 1 ∷ Finish 1 ∷ Return 0 ∷ []
 
-returned : (after climbing (byte 1 ∷ []) opening events).site 0 ≡ Returned (byte 2)
-unfolding after answer wanted
+returned : (after_event climbing (byte 1 ∷ []) opening events).site 0 ≡ Returned (byte 2)
+unfolding after_event answer wanted
 returned = refl
 
 legal : Legal climbing (byte 1 ∷ []) opening events
-unfolding Legal after answer wanted
+unfolding Legal after_event answer wanted
 legal = (
   (byte 1 ∷ [], refl, refl),
   (

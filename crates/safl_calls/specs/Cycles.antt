@@ -4,7 +4,7 @@ use Rattle.safl_word.specs.Words.{Word}
 use Rattle.safl_term.specs.Program.{Program, unit_for}
 use Rattle.safl_term.specs.Meaning.{Main}
 use Rattle.safl_term.specs.Readiness.{Returned}
-use Rattle.safl_calls.specs.Machine.{Event, Accept, Finish, Return, LoopInto, opening, Legal, after, put}
+use Rattle.safl_calls.specs.Machine.{Event, Accept, Finish, Return, LoopInto, opening, Legal, after_event, put}
 use Rattle.safl_calls.specs.Span.{main_span}
 
 -- The first cycle in which each unit may act, after an event of cycle c: a unit that starts, finishes or loops in this cycle may act
@@ -47,4 +47,4 @@ all_events (es ∷ rest) = es ++ all_events rest
 abbrev pub NoSooner : Program → Type 0
 NoSooner C =
     (args : List Word) (cycles : List (List Event)) → Legal C args opening (all_events cycles) → InCycles C 0 (λ u. 0) cycles
-    → (v w : Word) (d : Main C args w) → (after C args opening (all_events cycles)).site 0 ≡ Returned v → main_span C args d < length cycles
+    → (v w : Word) (d : Main C args w) → (after_event C args opening (all_events cycles)).site 0 ≡ Returned v → main_span C args d < length cycles

@@ -24,16 +24,16 @@ all_public (b ∷ bs) = b && all_public bs
 
 mutual
   -- a term without calls and loops is ready at once
-  pub data IsPlain : Term → Type 0 where
-    p_const : {w : Word} → IsPlain (Const w)
-    p_var : {i : ℕ} → IsPlain (Var i)
-    p_op : {o : Primitive} {ts : Terms} → ArePlain ts → IsPlain (Op o ts)
-    p_if : {c x y : Term} → IsPlain c → IsPlain x → IsPlain y → IsPlain (If c x y)
-    p_let : {ts : Terms} {y : Term} → ArePlain ts → IsPlain y → IsPlain (Let ts y)
+  pub data IsPlainTerm : Term → Type 0 where
+    p_const : {w : Word} → IsPlainTerm (Const w)
+    p_var : {i : ℕ} → IsPlainTerm (Var i)
+    p_op : {o : Primitive} {ts : Terms} → ArePlain ts → IsPlainTerm (Op o ts)
+    p_if : {c x y : Term} → IsPlainTerm c → IsPlainTerm x → IsPlainTerm y → IsPlainTerm (If c x y)
+    p_let : {ts : Terms} {y : Term} → ArePlain ts → IsPlainTerm y → IsPlainTerm (Let ts y)
 
   pub data ArePlain : Terms → Type 0 where
     p_nil : ArePlain Nil
-    p_cons : {t : Term} {ts : Terms} → IsPlain t → ArePlain ts → ArePlain (Cons t ts)
+    p_cons : {t : Term} {ts : Terms} → IsPlainTerm t → ArePlain ts → ArePlain (Cons t ts)
 
 mutual
   -- Two terms are twins if, wherever the public slots hold the same, they take the same time, start the same calls with arguments that
@@ -42,7 +42,7 @@ mutual
     t_const : {ls : List Bool} {w : Word} {b : Bool} → Twins L ls (Const w) (Const w) b
     t_var : {ls : List Bool} {i : ℕ} {b : Bool} → (b ≡ true → label ls i ≡ true) → Twins L ls (Var i) (Var i) b
     -- plain terms take the same time
-    t_plain : {ls : List Bool} {t u : Term} → IsPlain t → IsPlain u → Twins L ls t u false
+    t_plain : {ls : List Bool} {t u : Term} → IsPlainTerm t → IsPlainTerm u → Twins L ls t u false
     t_op : {ls ms : List Bool} {o : Primitive} {ts us : Terms} {b : Bool}
         → AllTwins L ls ts us ms → (b ≡ true → all_public ms ≡ true) → Twins L ls (Op o ts) (Op o us) b
     -- public conditions select the same branch
@@ -52,8 +52,8 @@ mutual
     t_choose : {ls : List Bool} {c d x y u v : Term} {b : Bool} → Twins L ls c d false
         → Twins L ls x u b → Twins L ls x v b → Twins L ls y u b → Twins L ls y v b → Twins L ls (If c x y) (If d u v) b
     -- an if with a plain condition takes the time of its branches
-    t_left : {ls : List Bool} {c x y u : Term} {b : Bool} → IsPlain c → Twins L ls x u b → Twins L ls y u b → Twins L ls (If c x y) u b
-    t_right : {ls : List Bool} {t c u v : Term} {b : Bool} → IsPlain c → Twins L ls t u b → Twins L ls t v b → Twins L ls t (If c u v) b
+    t_left : {ls : List Bool} {c x y u : Term} {b : Bool} → IsPlainTerm c → Twins L ls x u b → Twins L ls y u b → Twins L ls (If c x y) u b
+    t_right : {ls : List Bool} {t c u v : Term} {b : Bool} → IsPlainTerm c → Twins L ls t u b → Twins L ls t v b → Twins L ls t (If c u v) b
     t_let : {ls ms : List Bool} {ts us : Terms} {x u : Term} {b : Bool}
         → AllTwins L ls ts us ms → Twins L (ls ++ ms) x u b → Twins L ls (Let ts x) (Let us u) b
     -- calls at one site, or tail calls to one function: what they pass to a public parameter is public

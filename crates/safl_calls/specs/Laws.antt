@@ -5,13 +5,13 @@ use Rattle.safl_word.specs.Words.{Word, widths}
 use Rattle.safl_term.specs.Program.{Program}
 use Rattle.safl_term.specs.Readiness.{Unsent, Returned}
 use Rattle.safl_term.specs.Meaning.{Main, main_cost, main_calls, loops}
-use Rattle.safl_calls.specs.Machine.{Event, opening, Enabled, CallerRests, after, EachList}
+use Rattle.safl_calls.specs.Machine.{Event, opening, Enabled, CallerRests, after_event, EachList}
 use Rattle.safl_calls.specs.Starts.{starts_of, starts_count}
 use Rattle.safl_calls.specs.Moves.{moves_count}
 
 -- after these events main has returned v
 abbrev pub HasReturned : Program → List Word → List Event → Word → Type 0
-HasReturned C args es v = (after C args opening es).site 0 ≡ Returned v
+HasReturned C args es v = (after_event C args opening es).site 0 ≡ Returned v
 
 -- A word that main has returned is main's value. The list then has three events for each call, less two for each tail call.
 abbrev pub Right : Program → Type 0
@@ -21,11 +21,11 @@ Right C = EachList C (λ args es. (v : Word) → HasReturned C args es v → (d 
 abbrev pub GoesOn : Program → Type 0
 GoesOn C =
     EachList C (λ args es. widths args ≡ C.params C.main → ((v : Word) → HasReturned C args es v → ⊥)
-    → (e : Event) × Enabled C args (after C args opening es) e)
+    → (e : Event) × Enabled C args (after_event C args opening es) e)
 
 -- after main has returned no event is enabled
 abbrev pub Stops : Program → Type 0
-Stops C = EachList C (λ args es. (v : Word) (e : Event) → HasReturned C args es v → Enabled C args (after C args opening es) e → ⊥)
+Stops C = EachList C (λ args es. (v : Word) (e : Event) → HasReturned C args es v → Enabled C args (after_event C args opening es) e → ⊥)
 
 -- if main has a value, the numbers of its calls and tail calls bound the length of a legal list
 abbrev pub Bounded : Program → Type 0
@@ -51,8 +51,8 @@ SameNumber C = EachList C (λ args es. (v w : Word) (d : Main C args w) → HasR
 
 -- a site of a function that does not run is unsent
 abbrev pub SitesRest : Program → Type 0
-SitesRest C = EachList C (λ args es. (k : ℕ) → 0 < k → CallerRests C (after C args opening es) k → (after C args opening es).site k ≡ Unsent)
+SitesRest C = EachList C (λ args es. (k : ℕ) → 0 < k → CallerRests C (after_event C args opening es) k → (after_event C args opening es).site k ≡ Unsent)
 
 -- at most one event is enabled
 abbrev pub OneEvent : Program → Type 0
-OneEvent C = EachList C (λ args es. (d e : Event) → Enabled C args (after C args opening es) d → Enabled C args (after C args opening es) e → d ≡ e)
+OneEvent C = EachList C (λ args es. (d e : Event) → Enabled C args (after_event C args opening es) d → Enabled C args (after_event C args opening es) e → d ≡ e)

@@ -107,9 +107,9 @@ Legal C args s [] = Unit {0}
 Legal C args s (e ∷ es) = Enabled C args s e × Legal C args (fire C args s e) es
 
 -- the state after the events
-unfoldable pub after : Program → List Word → State → List Event → State
-after C args s [] = s
-after C args s (e ∷ es) = after C args (fire C args s e) es
+unfoldable pub after_event : Program → List Word → State → List Event → State
+after_event C args s [] = s
+after_event C args s (e ∷ es) = after_event C args (fire C args s e) es
 
 -- the word that unit u finished last, or d where it has finished none
 abbrev pub finished : Program → State → Event → ℕ → Word → Word

@@ -14,7 +14,7 @@ use Rattle.safl_tree.specs.Shown.{shown_parameter, shown_parameters}
 use Rattle.safl_typing.specs.Forms.{shown_param}
 use Rattle.safl_typing.specs.Heads.{Slot, slot_of}
 use Rattle.safl_word.specs.Numerals.{between}
-use Rattle.safl_word.specs.Tokens.{IsName, IsNameLike, in_name, begins_name}
+use Rattle.safl_word.specs.Tokens.{IsSourceName, IsNameLike, in_name, begins_name}
 
 below : (low high c : ℕ) → high < 128 → between low high c ≡ true → c < 128
 below low high c h e = omega (arith, leb-true c high (and_parts (leb low c) (leb c high) e).1)
@@ -40,13 +40,13 @@ ascii_name (c ∷ w) h zero = begins_ascii c h.0
 ascii_name (c ∷ w) h (suc i) = ascii_all w h.1 i
 
 -- a name is text
-pub utf8_name : (w : List ℕ) → IsName w → IsUtf8 w
+pub utf8_name : (w : List ℕ) → IsSourceName w → IsUtf8 w
 utf8_name w h = IsUtf8-from_ascii w (ascii_name w h.like)
 
 -- each parameter of a definition has a name
-pub param_name : (ps : List Param) (i : ℕ) (p : Param) → AreFormedParameters (shown_parameters ps) → i < length ps → p ≡ get_or ps i p → IsName p.name
+pub param_name : (ps : List Param) (i : ℕ) (p : Param) → AreFormedParameters (shown_parameters ps) → i < length ps → p ≡ get_or ps i p → IsSourceName p.name
 param_name [] i p h lt is = absurd (omega (arith, lt))
-param_name (q ∷ ps) zero p h lt is = subst (λ (x : Param). IsName x.name) (sym is) h.0.0
+param_name (q ∷ ps) zero p h lt is = subst (λ (x : Param). IsSourceName x.name) (sym is) h.0.0
 param_name (q ∷ ps) (suc i) p h lt is = param_name ps i p h.1 (omega (arith, lt)) is
 
 upto : (ps : List Param) (i : ℕ) (p : Param) → i < length ps → p ≡ get_or ps i p → map slot_of (shown_parameters (take (i + 1) ps)) ≡ map slot_of

@@ -16,7 +16,7 @@ use Rattle.safl_term.specs.declared.checked.Function.{Function}
 use Rattle.safl_term.specs.declared.checked.Parameter.{Parameter}
 use Rattle.safl_term.specs.declared.checked.Site.{Site}
 use Rattle.safl_typing.specs.Forms.{FunctionForm, form_of, shown_function, shown_param}
-use Rattle.safl_check.specs.Numbered.{of_function, of_site, program_in, name_in, param_names_in}
+use Rattle.safl_check.specs.Numbered.{form_function, form_site, program_in, name_in, param_names_in}
 use Rattle.safl_check.specs.Laws.{IsNumbered}
 
 at_shown : {A : Type 0} (own : Function → A) (has : FunctionForm → A) (d : A) (o : Option Function) →
@@ -26,10 +26,10 @@ at_shown own has d (Some f) h = h f
 
 -- what a function has is what its form has
 function_shown : {A : Type 0} (own : Function → A) (has : FunctionForm → A) (d : A) (c : Tables) →
-    ((f : Function) → own f ≡ has (shown_function f)) → (i : ℕ) → tables.of_function own d c i ≡ of_function has d (form_of c) i
+    ((f : Function) → own f ≡ has (shown_function f)) → (i : ℕ) → tables.of_function own d c i ≡ form_function has d (form_of c) i
 function_shown own has d c h i = at_shown own has d (slice_get c.functions i) h ∙ ap (λ (o : Option FunctionForm). option_map_or has o d) (sym (slice_get-map shown_function c.functions i))
 
-site_shown : (has : Site → ℕ) (m n : ℕ) (c : Tables) → m ≡ n → (k : ℕ) → tables.of_site has m c k ≡ of_site has n (form_of c) k
+site_shown : (has : Site → ℕ) (m n : ℕ) (c : Tables) → m ≡ n → (k : ℕ) → tables.of_site has m c k ≡ form_site has n (form_of c) k
 site_shown has m n c e zero = e
 site_shown has m n c e (suc k) = refl
 

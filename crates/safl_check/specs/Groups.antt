@@ -1,5 +1,5 @@
 -- The heads of groups.
-use Rattle.std.specs.Prelude.{ℕ, zero, suc, List, [], ◌∷◌, drop, Option, None, Some, slice_get}
+use Rattle.std.specs.Prelude.{ℕ, zero, suc, List, [], ◌∷◌, drop, Option, None, slice_get}
 use Rattle.std.specs.Option.{option_map_or}
 use Rattle.safl_word.specs.declared.fault.Fault.{Fault}
 use Rattle.safl_tree.specs.Tree.{Definition}

@@ -9,13 +9,13 @@ use Rattle.safl_term.specs.declared.checked.Site.{Site}
 use Rattle.safl_typing.specs.Forms.{FunctionForm, Form}
 
 -- something of function f of the form, or a default if there is no such function
-abbrev pub of_function : {A : Type 0} → (FunctionForm → A) → A → Form → ℕ → A
-of_function has default c f = option_map_or has (slice_get c.functions f) default
+abbrev pub form_function : {A : Type 0} → (FunctionForm → A) → A → Form → ℕ → A
+form_function has default c f = option_map_or has (slice_get c.functions f) default
 
 -- something of a site. Sites are numbered from 1; for site 0 it is this number
-abbrev pub of_site : (Site → ℕ) → ℕ → Form → ℕ → ℕ
-of_site has outside c zero = outside
-of_site has outside c (suc k) = option_map_or has (slice_get c.sites k) 0
+abbrev pub form_site : (Site → ℕ) → ℕ → Form → ℕ → ℕ
+form_site has outside c zero = outside
+form_site has outside c (suc k) = option_map_or has (slice_get c.sites k) 0
 
 -- the program in numbers. Main is the last function
 unfoldable pub program_in : Form → Program
@@ -23,25 +23,25 @@ program_in c = record {
   functions = length c.functions;
   sites = length c.sites;
   main = length c.functions - 1;
-  unit = of_function (λ f. f.unit) 0 c;
-  body = of_function (λ f. f.body) (Const no_word) c;
-  params = of_function (λ f. map (λ p. p.width) f.params) [] c;
-  result = of_function (λ f. f.width) 0 c;
-  caller = of_site (λ s. s.caller) 0 c;
-  callee = of_site (λ s. s.callee) (length c.functions - 1) c;
+  unit = form_function (λ f. f.unit) 0 c;
+  body = form_function (λ f. f.body) (Const no_word) c;
+  params = form_function (λ f. map (λ p. p.width) f.params) [] c;
+  result = form_function (λ f. f.width) 0 c;
+  caller = form_site (λ s. s.caller) 0 c;
+  callee = form_site (λ s. s.callee) (length c.functions - 1) c;
 }
 
 -- the names of functions, and those of their parameters
 abbrev pub names_in : Form → Names
-names_in c = record { name = of_function (λ f. f.name) [] c; params = of_function (λ f. map (λ p. p.name) f.params) [] c }
+names_in c = record { name = form_function (λ f. f.name) [] c; params = form_function (λ f. map (λ p. p.name) f.params) [] c }
 
 -- ---- parts by name
 
 abbrev pub name_in : Form → ℕ → List ℕ
-name_in c = of_function (λ f. f.name) [] c
+name_in c = form_function (λ f. f.name) [] c
 
 abbrev pub param_names_in : Form → ℕ → List (List ℕ)
-param_names_in c = of_function (λ f. map (λ p. p.name) f.params) [] c
+param_names_in c = form_function (λ f. map (λ p. p.name) f.params) [] c
 
 abbrev pub main_in : Form → ℕ
 main_in c = length c.functions - 1

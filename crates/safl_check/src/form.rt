@@ -1,7 +1,7 @@
 //! A checked function, from its definition.
 
 ghost use Rattle.std.specs.Prelude.{◌≡◌, IfOk, length, map, string_bytes};
-ghost use Rattle.safl_word.specs.Tokens.{IsName};
+ghost use Rattle.safl_word.specs.Tokens.{IsSourceName};
 ghost use Rattle.safl_term.specs.Tables.{BodyHasSlots};
 ghost use Rattle.safl_term.specs.Slots.{HasSlots};
 ghost use Rattle.safl_term.specs.Tree.{shown_term};
@@ -59,7 +59,7 @@ fn parameters_of(alloc: Global, params: &[Param]) -> Result<Vec<Parameter>, NoMe
 
 #[tactic(auto, using(crate::proofs::NamesAsText::utf8_name))]
 fn text_of(alloc: Global, name: &Name) -> Result<String, NoMemory>
-    requires { IsName name.now }
+    requires { IsSourceName name.now }
     ensures { IfOk result (λ text. string_bytes text ≡ name.now) }
 {
     match std::str::from_utf8(name.bytes()) {

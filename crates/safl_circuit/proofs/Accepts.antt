@@ -14,7 +14,7 @@ use Rattle.safl_calls.proofs.Basics.{put_at, put_off, sweep, first_none, first_o
 use Rattle.safl_calls.proofs.Basics.{cond_some, unsent_is, mask_other, mask_skip, mask_at}
 use Rattle.safl_calls.proofs.Invariant.{Inv}
 use Rattle.safl_calls.proofs.Numbered.{Numbered}
-use Rattle.safl_calls.specs.Machine.{State, Mode, Idle, Runs, Delivers, Accept, Enabled, Legal, after, fire, put, back, asked, asked_as, is_unsent}
+use Rattle.safl_calls.specs.Machine.{State, Mode, Idle, Runs, Delivers, Accept, Enabled, Legal, after_event, fire, put, back, asked, asked_as, is_unsent}
 use Rattle.safl_calls.proofs.Basics.{serves}
 use Rattle.safl_calls.specs.Picks.{first}
 use Rattle.safl_calls.specs.Interference.{Busy}
@@ -234,10 +234,10 @@ module _ (C : Program) (P : Choice) (args : List Word) (good : Numbered C) (r : 
     site = λ k. st.site k ∙ mask_skip n k (go C P r i) Sent (t.site k) down;
   }
 
-  pub accepted_to : (n : ℕ) → n ≤ suc C.sites → Legal C args t (accepts C P r i n) × Started n (after C args t (accepts C P r i n))
+  pub accepted_to : (n : ℕ) → n ≤ suc C.sites → Legal C args t (accepts C P r i n) × Started n (after_event C args t (accepts C P r i n))
   accepted_to n le =
       let none : Started 0 t = record { unit = λ u. ap (λ o. begun o (t.unit u)) (sym (first_zero (go_in C P r i u))); site = λ k. rw (le-ltb k 0 (omega arith)) refl } in
       sweep C args Started (go C P r i) Accept (suc C.sites) accept_fires accept_skips t none n le
 
-  pub accepted : Legal C args t (accepts C P r i (suc C.sites)) × Started (suc C.sites) (after C args t (accepts C P r i (suc C.sites)))
+  pub accepted : Legal C args t (accepts C P r i (suc C.sites)) × Started (suc C.sites) (after_event C args t (accepts C P r i (suc C.sites)))
   accepted = accepted_to (suc C.sites) (omega arith)

@@ -5,7 +5,7 @@ use Rattle.std.proofs.lemmas.Bool.{leb-true, and_parts}
 use Rattle.safl_word.proofs.Booleans.{cond_cong}
 use Rattle.safl_circuit.proofs.Same.{Same}
 use Rattle.safl_circuit.specs.Equations.{Registers, Inputs, ret, many, path, on_wires, word_on, body_says, body_wants, want, wants_at, go}
-use Rattle.safl_circuit.specs.Equations.{go_words, goes_to, loop_from, loop_words, ends, loops, starts, loads}
+use Rattle.safl_circuit.specs.Equations.{go_words, goes_to, loop_from, loop_words, ends, taken_loop, starts, loads}
 use Rattle.safl_circuit.specs.Equations.{clears, starts_it, starts_other, next}
 use Rattle.safl_circuit.proofs.Searched.{end_in, loop_in, go_in, load_in, if_other}
 use Rattle.safl_calls.proofs.Basics.{first_cong}
@@ -93,8 +93,8 @@ module _ (C : Program) (P : Choice) (good : Numbered C) (i : Inputs) (r q : Regi
   unfolding ends
   ends_same u = first_cong (end_in C P r u) (end_in C P q u) C.functions (λ f lt. ap (λ a. cond (C.unit f == u) (word_of a) None) (says_same f lt))
 
-  loops_same : (u : ℕ) → loops C P r u ≡ loops C P q u
-  unfolding loops
+  loops_same : (u : ℕ) → taken_loop C P r u ≡ taken_loop C P q u
+  unfolding taken_loop
   loops_same u = first_cong (loop_in C P r u) (loop_in C P q u) C.functions (λ h lt. ap (λ o. cond (C.unit h == u && is_some o) (Some h) None) (loop_words_same h))
 
   starts_same : (u : ℕ) → starts C P r i u ≡ starts C P q i u
@@ -106,7 +106,7 @@ module _ (C : Program) (P : Choice) (good : Numbered C) (i : Inputs) (r q : Regi
   loads_same f = first_cong (load_in C P r i f) (load_in C P q i f) (suc C.sites) (λ k lt. ap (λ o. cond (C.callee k == f) o None) (go_words_same k))
 
   clears_same : (u : ℕ) → clears C P r u ≡ clears C P q u
-  clears_same u = ap (λ o. is_some o || is_some (loops C P r u)) (ends_same u) ∙ ap (λ o. is_some (ends C P q u) || is_some o) (loops_same u)
+  clears_same u = ap (λ o. is_some o || is_some (taken_loop C P r u)) (ends_same u) ∙ ap (λ o. is_some (ends C P q u) || is_some o) (loops_same u)
 
   pub starts_it_same : (f : ℕ) → starts_it C P r i f ≡ starts_it C P q i f
   starts_it_same f = ap (λ o. is_some o || is_some (loop_words C P r f)) (loads_same f) ∙ ap (λ o. is_some (loads C P q i f) || is_some o) (loop_words_same f)

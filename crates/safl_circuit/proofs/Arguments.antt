@@ -19,7 +19,7 @@ use Rattle.safl_circuit.specs.Steps.{Quiet, StepsAt, input_at, registers_at, his
 use Rattle.safl_calls.proofs.Basics.{first_some, first_only, first_skip, first_zero, all_none, not_some, some_of}
 use Rattle.safl_calls.proofs.Invariant.{Inv}
 use Rattle.safl_calls.proofs.Numbered.{Numbered}
-use Rattle.safl_calls.specs.Machine.{State, Event, Accept, Finish, Return, LoopInto, opening, after, fire, asked, says}
+use Rattle.safl_calls.specs.Machine.{State, Event, Accept, Finish, Return, LoopInto, opening, after_event, fire, asked, says}
 use Rattle.safl_calls.specs.Picks.{first, picks}
 use Rattle.safl_calls.specs.Starts.{listed, goes_with, event_start, starts_of}
 use Rattle.safl_calls.specs.Interference.{OneInUse, ShownWordsServe}
@@ -31,12 +31,13 @@ use Rattle.safl_word.proofs.Booleans.{cond_same}
 use Rattle.safl_term.proofs.Apart.{loop_not_yet}
 use Rattle.safl_calls.proofs.Apart.{runs_idle}
 
-pub starts_append : (C : Program) (args : List Word) (s : State) (xs ys : List Event) (f : ℕ) → starts_of C args s (xs ++ ys) f ≡ starts_of C args s xs f ++ starts_of C args (after C args s xs) ys f
-unfolding after starts_of
+pub starts_append : (C : Program) (args : List Word) (s : State) (xs ys : List Event) (f : ℕ)
+    → starts_of C args s (xs ++ ys) f ≡ starts_of C args s xs f ++ starts_of C args (after_event C args s xs) ys f
+unfolding after_event starts_of
 starts_append C args s [] ys f = refl
 starts_append C args s (e ∷ xs) ys f =
     ap (λ l. event_start C args s e f ++ l) (starts_append C args (fire C args s e) xs ys f)
-    ∙ sym (append_assoc (event_start C args s e f) (starts_of C args (fire C args s e) xs f) (starts_of C args (after C args (fire C args s e) xs) ys f))
+    ∙ sym (append_assoc (event_start C args s e f) (starts_of C args (fire C args s e) xs f) (starts_of C args (after_event C args (fire C args s e) xs) ys f))
 
 -- events that start nothing
 no_starts : (C : Program) (args : List Word) (p : ℕ → Bool) (e : ℕ → Event) (f : ℕ) → ((q : State) (n : ℕ) → event_start C args q (e n) f ≡ []) →
@@ -45,8 +46,8 @@ unfolding picks starts_of
 no_starts C args p e f none s zero = refl
 no_starts C args p e f none s (suc n) =
     starts_append C args s (picks p e n) (cond (p n) (e n ∷ []) []) f
-    ∙ ap (λ l. l ++ starts_of C args (after C args s (picks p e n)) (cond (p n) (e n ∷ []) []) f) (no_starts C args p e f none s n)
-    ∙ one (p n) (after C args s (picks p e n))
+    ∙ ap (λ l. l ++ starts_of C args (after_event C args s (picks p e n)) (cond (p n) (e n ∷ []) []) f) (no_starts C args p e f none s n)
+    ∙ one (p n) (after_event C args s (picks p e n))
   where
     one : (b : Bool) (q : State) → starts_of C args q (cond b (e n ∷ []) []) f ≡ []
     one true q = append-nil (event_start C args q (e n) f) ∙ none q n
@@ -74,7 +75,7 @@ module _ (C : Program) (P : Choice) (args : List Word) (good : Numbered C) (r : 
   accept_starts f (suc n) le = by (go C P r i n) refl (accept_starts f n (omega arith))
     where
       q : State
-      q = after C args t (accepts C P r i n)
+      q = after_event C args t (accepts C P r i n)
 
       by : (b : Bool) → go C P r i n ≡ b → starts_of C args t (accepts C P r i n) f ≡ listed (first (load_in C P r i f) n) → starts_of C args t
           (accepts C P r i n ++ cond b (Accept n ∷ []) []) f ≡ listed (first (load_in C P r i f) (suc n))
@@ -102,7 +103,7 @@ module _ (C : Program) (P : Choice) (args : List Word) (good : Numbered C) (r : 
   loop_starts f (suc n) le = by (is_some (loop_words C P r n)) refl (loop_starts f n (omega arith))
     where
       q : State
-      q = after C args y (goes_on C P r n)
+      q = after_event C args y (goes_on C P r n)
 
       shift : (f ≡ n → ⊥) → nat_lt f n ≡ nat_lt f (suc n)
       shift other = ⊎_elim (λ lt. rw (lt-ltb f n lt, lt-ltb f (suc n) (omega (arith, lt))) refl) (λ ge. rw (le-ltb f n ge, le-ltb f (suc n) (omega (arith, ge, other))) refl) (cases_lt f n)
@@ -164,7 +165,7 @@ module _ (C : Program) (P : Choice) (good : Numbered C) (h1 : OneInUse C P.arbit
   at : (c : ℕ) → StepsAt C P r0 args later c
   at c = steps C P good h1 h2 r0 quiet args sized later c
 
-  over_cycle : (c f : ℕ) → f < C.functions → starts_of C args (after C args opening (history C P r0 args later c))
+  over_cycle : (c f : ℕ) → f < C.functions → starts_of C args (after_event C args opening (history C P r0 args later c))
       (cycle_events C P (registers_at C P r0 args later c) (input_at args later c)) f ≡ cond
       (starts_it C P (registers_at C P r0 args later c) (input_at args later c) f) ((next C P (input_at args later c) (registers_at C P r0 args later c)).arg f ∷ []) []
   over_cycle c f lt =
@@ -178,9 +179,9 @@ module _ (C : Program) (P : Choice) (good : Numbered C) (h1 : OneInUse C P.arbit
       let t' = t C P args good h1 h2 r0.res es legal r i shows res start in
       let x' = x C P args good h1 h2 r0.res es legal r i shows res start in
       let y' = y C P args good h1 h2 r0.res es legal r i shows res start in
-      starts_append C args (after C args opening es) (returns C r (suc C.sites)) (late C P args good h1 h2 r0.res es legal r i shows res start) f
-      ∙ ap (λ l. l ++ starts_of C args (after C args (after C args opening es) (returns C r (suc C.sites)))
-      (late C P args good h1 h2 r0.res es legal r i shows res start) f) (no_starts C args (ret C r) Return f (λ q n. refl) (after C args opening es) (suc C.sites))
+      starts_append C args (after_event C args opening es) (returns C r (suc C.sites)) (late C P args good h1 h2 r0.res es legal r i shows res start) f
+      ∙ ap (λ l. l ++ starts_of C args (after_event C args (after_event C args opening es) (returns C r (suc C.sites)))
+      (late C P args good h1 h2 r0.res es legal r i shows res start) f) (no_starts C args (ret C r) Return f (λ q n. refl) (after_event C args opening es) (suc C.sites))
       ∙ ap (λ q. starts_of C args q (late C P args good h1 h2 r0.res es legal r i shows res start) f) (sym (t_is C P args good h1 h2 r0.res es legal r i shows res start))
       ∙ starts_append C args t' (accepts C P r i (suc C.sites)) (finishes C P r C.functions ++ goes_on C P r C.functions) f
       ∙ ap (λ l. starts_of C args t' (accepts C P r i (suc C.sites)) f ++ l)

@@ -6,7 +6,7 @@ use Rattle.std.proofs.lemmas.Bool.{leb-true, eqb-true, and_parts, and_right, fal
 use Rattle.safl_sites.specs.Plan.{Choice}
 use Rattle.safl_circuit.specs.Blind.{IsLabelling, SameControl, ControlIsBlind}
 use Rattle.safl_circuit.specs.Equations.{Registers, Inputs, ret, many, path, on_wires, word_on, body_says, body_wants, want, wants_at, go}
-use Rattle.safl_circuit.specs.Equations.{go_words, goes_to, loop_from, loop_words, end_word, ends, loops, starts, loads, clears, starts_it, starts_other, next}
+use Rattle.safl_circuit.specs.Equations.{go_words, goes_to, loop_from, loop_words, end_word, ends, taken_loop, starts, loads, clears, starts_it, starts_other, next}
 use Rattle.safl_circuit.specs.Steps.{input_at, registers_at}
 use Rattle.safl_circuit.proofs.Awake.{either, not_cleared, Begins, awake, at_started, at_left, path_before}
 use Rattle.safl_circuit.proofs.Searched.{end_in, loop_in, go_in, load_in, if_other}
@@ -193,8 +193,8 @@ module _ (C : Program) (P : Choice) (wf : IsWellFormed C) (L : Labels) (lab : Is
       (λ g lt. words_if false (C.unit g == u) (C.unit g == u) (end_word C P r g) (end_word C P q g) refl
       (λ up. words_any (L.result g) (end_word C P r g) (end_word C P q g) (word_alike L (L.result g) (body_says C P r g) (body_says C P q g) (says_low g lt)))))
 
-  loops_same : (u : ℕ) → loops C P r u ≡ loops C P q u
-  unfolding loops
+  loops_same : (u : ℕ) → taken_loop C P r u ≡ taken_loop C P q u
+  unfolding taken_loop
   loops_same u = first_cong (loop_in C P r u) (loop_in C P q u) C.functions (λ h lt. ap (λ b. cond (C.unit h == u && b) (Some h) None) (loop_some h))
 
   starts_same : (u : ℕ) → starts C P r i u ≡ starts C P q j u
@@ -202,7 +202,7 @@ module _ (C : Program) (P : Choice) (wf : IsWellFormed C) (L : Labels) (lab : Is
   starts_same u = first_cong (go_in C P r i u) (go_in C P q j u) (suc C.sites) (λ k lt. ap (λ b. cond (unit_for C k == u && b) (Some k) None) (go_same k))
 
   clears_same : (u : ℕ) → clears C P r u ≡ clears C P q u
-  clears_same u = ap (λ b. b || is_some (loops C P r u)) (ends_some u) ∙ ap (λ o. is_some (ends C P q u) || is_some o) (loops_same u)
+  clears_same u = ap (λ b. b || is_some (taken_loop C P r u)) (ends_some u) ∙ ap (λ o. is_some (ends C P q u) || is_some o) (loops_same u)
 
   starts_it_same : (f : ℕ) → starts_it C P r i f ≡ starts_it C P q j f
   starts_it_same f = ap (λ b. b || is_some (loop_words C P r f)) (loads_some f) ∙ ap (λ b. is_some (loads C P q j f) || b) (loop_some f)

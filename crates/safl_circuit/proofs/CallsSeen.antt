@@ -8,7 +8,7 @@ use Rattle.safl_term.specs.Program.{Program, unit_for}
 use Rattle.safl_term.specs.Readiness.{Returned}
 use Rattle.safl_term.specs.Meaning.{Main, main_calls}
 use Rattle.safl_term.specs.WellFormed.{IsWellFormed}
-use Rattle.safl_calls.specs.Machine.{State, Event, Return, Delivers, opening, give_back, Enabled, Legal, after, fire}
+use Rattle.safl_calls.specs.Machine.{State, Event, Return, Delivers, opening, give_back, Enabled, Legal, after_event, fire}
 use Rattle.safl_calls.specs.Picks.{picks}
 use Rattle.safl_calls.specs.Starts.{starts_of}
 use Rattle.safl_calls.proofs.FromWellFormed.{numbered}
@@ -30,13 +30,13 @@ unfolding picks
 picks_front p e zero up = ([], ap (λ b. cond b (e 0 ∷ []) []) up)
 picks_front p e (suc n) up = let r = picks_front p e n up in (r.0 ++ cond (p (suc n)) (e (suc n) ∷ []) [], ap (λ l. l ++ cond (p (suc n)) (e (suc n) ∷ []) []) r.1)
 
-pub legal_back : (C : Program) (args : List Word) (s : State) (xs ys : List Event) → Legal C args s (xs ++ ys) → Legal C args (after C args s xs) ys
-unfolding Legal after
+pub legal_back : (C : Program) (args : List Word) (s : State) (xs ys : List Event) → Legal C args s (xs ++ ys) → Legal C args (after_event C args s xs) ys
+unfolding Legal after_event
 legal_back C args s [] ys h = h
 legal_back C args s (x ∷ xs) ys h = legal_back C args (fire C args s x) xs ys h.1
 
-after_return : (C : Program) (args : List Word) (s : State) (v : Word) → s.unit (unit_for C 0) ≡ Delivers 0 v → (after C args s (Return 0 ∷ [])).site 0 ≡ Returned v
-unfolding after
+after_return : (C : Program) (args : List Word) (s : State) (v : Word) → s.unit (unit_for C 0) ≡ Delivers 0 v → (after_event C args s (Return 0 ∷ [])).site 0 ≡ Returned v
+unfolding after_event
 after_return C args s v del = ap (λ m. (give_back C s 0 m).site 0) del ∙ put_at s.site 0 0 (Returned v) refl
 
 first_enabled : (C : Program) (args : List Word) (s : State) (e : Event) (es : List Event) → Legal C args s (e ∷ es) → Enabled C args s e
@@ -52,11 +52,11 @@ module _ (C : Program) (P : Choice) (wf : IsWellFormed C) (h1 : OneInUse C P.arb
   legal c = (steps C P (numbered C wf) h1 h2 r0 quiet args sized later c).legal
 
   -- what follows a state in which main has returned is empty
-  over_empty : (es fs : List Event) (v : Word) → Legal C args opening (es ++ fs) → (after C args opening es).site 0 ≡ Returned v → fs ≡ []
+  over_empty : (es fs : List Event) (v : Word) → Legal C args opening (es ++ fs) → (after_event C args opening es).site 0 ≡ Returned v → fs ≡ []
   over_empty es [] v h over = refl
   over_empty es (f ∷ fs) v h over =
       absurd (stops C C.functions (numbered C wf) wf.numbered args es (legal_front C args opening es (f ∷ fs) h) v f over
-      (first_enabled C args (after C args opening es) f fs (legal_back C args opening es (f ∷ fs) h)))
+      (first_enabled C args (after_event C args opening es) f fs (legal_back C args opening es (f ∷ fs) h)))
 
   -- the cycle of done has no other event
   pub done_events : (c : ℕ) → ret C (registers_at C P r0 args later c) 0 ≡ true → cycle_events C P (registers_at C P r0 args later c) (input_at args later c) ≡ Return 0 ∷ []
@@ -70,9 +70,9 @@ module _ (C : Program) (P : Choice) (wf : IsWellFormed C) (h1 : OneInUse C P.arb
       let events : cycle_events C P r i ≡ Return 0 ∷ rest = ap (λ l. l ++ others) front.1 in
       let all : Legal C args opening (hist c ++ (Return 0 ∷ rest)) = subst (λ l. Legal C args opening (hist c ++ l)) events (legal (suc c)) in
       let moved : Legal C args opening ((hist c ++ (Return 0 ∷ [])) ++ rest) = subst (λ l. Legal C args opening l) (sym (append_assoc (hist c) (Return 0 ∷ []) rest)) all in
-      let enabled = first_enabled C args (after C args opening (hist c)) (Return 0) rest (legal_back C args opening (hist c) (Return 0 ∷ rest) all) in
-      let over : (after C args opening (hist c ++ (Return 0 ∷ []))).site 0 ≡ Returned enabled.0 = ap (λ s. s.site 0)
-      (after_append C args opening (hist c) (Return 0 ∷ [])) ∙ after_return C args (after C args opening (hist c)) enabled.0 enabled.1 in
+      let enabled = first_enabled C args (after_event C args opening (hist c)) (Return 0) rest (legal_back C args opening (hist c) (Return 0 ∷ rest) all) in
+      let over : (after_event C args opening (hist c ++ (Return 0 ∷ []))).site 0 ≡ Returned enabled.0 = ap (λ s. s.site 0)
+      (after_append C args opening (hist c) (Return 0 ∷ [])) ∙ after_return C args (after_event C args opening (hist c)) enabled.0 enabled.1 in
       let none : rest ≡ [] = over_empty (hist c ++ (Return 0 ∷ [])) rest enabled.0 moved over in
       events ∙ ap (λ l. Return 0 ∷ l) none
 
@@ -97,9 +97,9 @@ module _ (C : Program) (P : Choice) (wf : IsWellFormed C) (h1 : OneInUse C P.arb
       (λ other.
       let k = c - suc t.cycle in
       let at_c : k + suc t.cycle ≡ c = omega (arith, other, t.in_time, long) in
-      at_over c w (subst (λ n. (after C args opening (hist n)).site 0 ≡ Returned w) at_c (stays C P (numbered C wf) h1 h2 r0 quiet args sized later k t.cycle w returned)))
+      at_over c w (subst (λ n. (after_event C args opening (hist n)).site 0 ≡ Returned w) at_c (stays C P (numbered C wf) h1 h2 r0 quiet args sized later k t.cycle w returned)))
       (cases_eq t.cycle c))
     where
-      at_over : (n : ℕ) (w : Word) → (after C args opening (history C P r0 args later n)).site 0 ≡ Returned w → IsPermutation (main_calls C args d f)
+      at_over : (n : ℕ) (w : Word) → (after_event C args opening (history C P r0 args later n)).site 0 ≡ Returned w → IsPermutation (main_calls C args d f)
           (starts_of C args opening (history C P r0 args later n) f)
       at_over n w over = same_calls C C.functions (numbered C wf) wf.numbered args (history C P r0 args later n) (legal n) w v d over f

@@ -1,10 +1,8 @@
 -- When done comes, by the number of calls alone.
-use Rattle.std.proofs.Common.{◌≡◌, ◌≤◌, ◌*◌, ◌<◌, length, arith}
-use Rattle.safl_circuit.specs.Correct.{DoneIn, latest}
+use Rattle.std.proofs.Common.{arith}
 use Rattle.safl_net.specs.Valuations.{reset_state}
 use Rattle.safl_circuit.specs.Theorem.{BehavedOnesCome, CorrectOnesCome}
 use Rattle.safl_term.proofs.Fuelled.{agree_to}
-use Rattle.safl_term.specs.Meaning.{main_cost}
 
 pub behaved_come : BehavedOnesCome
 behaved_come C D n state behaves args sized vs run v m gives long =

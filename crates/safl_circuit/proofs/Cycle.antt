@@ -18,7 +18,7 @@ use Rattle.safl_circuit.specs.Steps.{Shows, Quiet, is_running, is_delivering, wa
 use Rattle.safl_calls.proofs.Basics.{moves_append, after_append, legal_append, last_append, mask_all}
 use Rattle.safl_calls.proofs.Invariant.{Inv, inv_after, unsent_at_rest}
 use Rattle.safl_calls.proofs.Numbered.{Numbered}
-use Rattle.safl_calls.specs.Machine.{State, Mode, Idle, Runs, Delivers, Event, Accept, LoopInto, opening, Enabled, Legal, after, last_word, finished}
+use Rattle.safl_calls.specs.Machine.{State, Mode, Idle, Runs, Delivers, Event, Accept, LoopInto, opening, Enabled, Legal, after_event, last_word, finished}
 use Rattle.safl_calls.proofs.Basics.{serves}
 use Rattle.safl_calls.specs.Picks.{picks, first}
 use Rattle.safl_calls.specs.Moves.{moves_count}
@@ -59,7 +59,7 @@ unfolding picks last_word
 last_same C args s p e same zero u d = refl
 last_same C args s p e same (suc n) u d =
     last_append C args s (picks p e n) (cond (p n) (e n ∷ []) []) u d
-    ∙ one (p n) (after C args s (picks p e n)) (last_word C args s (picks p e n) u d)
+    ∙ one (p n) (after_event C args s (picks p e n)) (last_word C args s (picks p e n) u d)
     ∙ last_same C args s p e same n u d
   where
     one : (b : Bool) (x : State) (c : Word) → last_word C args x (cond b (e n ∷ []) []) u c ≡ c
@@ -67,58 +67,58 @@ last_same C args s p e same (suc n) u d =
     one false x c = refl
 
 module _ (C : Program) (P : Choice) (args : List Word) (good : Numbered C) (h1 : OneInUse C P.arbiter) (h2 : ShownWordsServe C P.kept) (d : ℕ → Word)
-    (es : List Event) (legal : Legal C args opening es) (r : Registers) (i : Inputs) (shows : Shows C P (after C args opening es) r)
+    (es : List Event) (legal : Legal C args opening es) (r : Registers) (i : Inputs) (shows : Shows C P (after_event C args opening es) r)
     (lasts : (u : ℕ) → r.res u ≡ last_word C args opening es u (d u))
-    (start : i.start ≡ true → ((after C args opening es).site 0 ≡ Unsent) × (i.words ≡ args) × (widths args ≡ C.params C.main)) where
+    (start : i.start ≡ true → ((after_event C args opening es).site 0 ≡ Unsent) × (i.words ≡ args) × (widths args ≡ C.params C.main)) where
   s : State
-  s = after C args opening es
+  s = after_event C args opening es
 
-  inv : Inv C (after C args opening es)
+  inv : Inv C (after_event C args opening es)
   inv = inv_after C args good es legal
 
   rets : List Event
   rets = returns C r (suc C.sites)
 
-  back_home : Legal C args (after C args opening es) (returns C r (suc C.sites)) × Back C P args good r (after C args opening es) inv shows
-      (suc C.sites) (after C args (after C args opening es) (returns C r (suc C.sites)))
-  back_home = returned C P args good r (after C args opening es) inv shows
+  back_home : Legal C args (after_event C args opening es) (returns C r (suc C.sites)) × Back C P args good r (after_event C args opening es) inv shows
+      (suc C.sites) (after_event C args (after_event C args opening es) (returns C r (suc C.sites)))
+  back_home = returned C P args good r (after_event C args opening es) inv shows
 
   abbrev pub all : List Event
   all = es ++ returns C r (suc C.sites)
 
   abbrev pub t : State
-  t = after C args opening all
+  t = after_event C args opening all
 
-  pub t_is : t ≡ after C args (after C args opening es) (returns C r (suc C.sites))
+  pub t_is : t ≡ after_event C args (after_event C args opening es) (returns C r (suc C.sites))
   t_is = after_append C args opening es (returns C r (suc C.sites))
 
   pub legal_all : Legal C args opening all
   legal_all = legal_append C args opening es (returns C r (suc C.sites)) legal back_home.0
 
-  b : Back C P args good r (after C args opening es) inv shows (suc C.sites) t
-  b = subst (Back C P args good r (after C args opening es) inv shows (suc C.sites)) (sym t_is) back_home.1
+  b : Back C P args good r (after_event C args opening es) inv shows (suc C.sites) t
+  b = subst (Back C P args good r (after_event C args opening es) inv shows (suc C.sites)) (sym t_is) back_home.1
 
-  pub came : (k : ℕ) → t.site k ≡ cond (ret C r k) (Returned (r.res (unit_for C k))) ((after C args opening es).site k)
-  came = site_came C P args good r (after C args opening es) inv shows d es lasts refl legal_all b h2
+  pub came : (k : ℕ) → t.site k ≡ cond (ret C r k) (Returned (r.res (unit_for C k))) ((after_event C args opening es).site k)
+  came = site_came C P args good r (after_event C args opening es) inv shows d es lasts refl legal_all b h2
 
-  pub calm : (u : ℕ) → t.unit u ≡ quiet ((after C args opening es).unit u)
-  calm = unit_quiet C P args good r (after C args opening es) inv shows d es lasts refl legal_all b h2
+  pub calm : (u : ℕ) → t.unit u ≡ quiet ((after_event C args opening es).unit u)
+  calm = unit_quiet C P args good r (after_event C args opening es) inv shows d es lasts refl legal_all b h2
 
   pub meets : Meets C P args r i t
   meets = record {
-    says = says_it C P args good r (after C args opening es) inv shows d es lasts refl legal_all b h2;
-    wants = wants_it C P args good r (after C args opening es) inv shows d es lasts refl legal_all b h2;
+    says = says_it C P args good r (after_event C args opening es) inv shows d es lasts refl legal_all b h2;
+    wants = wants_it C P args good r (after_event C args opening es) inv shows d es lasts refl legal_all b h2;
     run = λ u. shows.run u ∙ quiet_running _ ∙ ap is_running (sym (calm u));
     rest = λ u. ap is_delivering (calm u) ∙ quiet_rest _;
     start = λ up. (site_zero (start up).0 (ret C r 0) refl, (start up).1, (start up).2);
     one = h1.one args all legal_all;
   }
     where
-      site_zero : (after C args opening es).site 0 ≡ Unsent → (up : Bool) → ret C r 0 ≡ up → t.site 0 ≡ Unsent
+      site_zero : (after_event C args opening es).site 0 ≡ Unsent → (up : Bool) → ret C r 0 ≡ up → t.site 0 ≡ Unsent
       site_zero un true e =
-          let dl = ret_delivers C P args good r (after C args opening es) inv shows 0 e in
+          let dl = ret_delivers C P args good r (after_event C args opening es) inv shows 0 e in
           absurd (sent_unsent (sym (inv.serving (unit_for C 0) 0 (ap serves dl.1)).0 ∙ un))
-      site_zero un false e = came 0 ∙ ap (λ up. cond up (Returned (r.res (unit_for C 0))) ((after C args opening es).site 0)) e ∙ un
+      site_zero un false e = came 0 ∙ ap (λ up. cond up (Returned (r.res (unit_for C 0))) ((after_event C args opening es).site 0)) e ∙ un
 
   pub holds : Holds C P r t
   holds = record {
@@ -129,8 +129,8 @@ module _ (C : Program) (P : Choice) (args : List Word) (good : Numbered C) (h1 :
     keep = λ k v kept e. keep_at k v kept e (ret C r (suc k)) refl;
   }
     where
-      at : (k : ℕ) (up : Bool) → ret C r (suc k) ≡ up → t.site (suc k) ≡ cond up (Returned (r.res (unit_for C (suc k)))) ((after C args opening es).site (suc k))
-      at k up e = came (suc k) ∙ ap (λ up. cond up (Returned (r.res (unit_for C (suc k)))) ((after C args opening es).site (suc k))) e
+      at : (k : ℕ) (up : Bool) → ret C r (suc k) ≡ up → t.site (suc k) ≡ cond up (Returned (r.res (unit_for C (suc k)))) ((after_event C args opening es).site (suc k))
+      at k up e = came (suc k) ∙ ap (λ up. cond up (Returned (r.res (unit_for C (suc k)))) ((after_event C args opening es).site (suc k))) e
 
       sent_at : (k : ℕ) (up : Bool) → ret C r (suc k) ≡ up → r.sent (suc k) ≡ was_sent (t.site (suc k))
       sent_at k true e = (and_parts _ _ (and_parts _ _ e).1).0 ∙ ap was_sent (sym (at k true e))
@@ -148,19 +148,19 @@ module _ (C : Program) (P : Choice) (args : List Word) (good : Numbered C) (h1 :
   inv_t = inv_after C args good all legal_all
 
   abbrev pub x : State
-  x = after C args t (accepts C P r i (suc C.sites))
+  x = after_event C args t (accepts C P r i (suc C.sites))
 
   pub started : Legal C args t (accepts C P r i (suc C.sites)) × Started C P args good r i t inv_t meets (suc C.sites) x
   started = accepted C P args good r i t inv_t meets
 
   abbrev pub y : State
-  y = after C args x (finishes C P r C.functions)
+  y = after_event C args x (finishes C P r C.functions)
 
   pub ended : Legal C args x (finishes C P r C.functions) × Ended C P args good r i t inv_t meets x started.1 C.functions y
   ended = finished_to C P args good r i t inv_t meets x started.1 C.functions (omega arith)
 
   abbrev pub z : State
-  z = after C args y (goes_on C P r C.functions)
+  z = after_event C args y (goes_on C P r C.functions)
 
   pub moved : Legal C args y (goes_on C P r C.functions) × Moved C P args good r i t inv_t meets x started.1 y ended.1 C.functions z
   moved = moved_all C P args good r i t inv_t meets x started.1 y ended.1
@@ -171,16 +171,16 @@ module _ (C : Program) (P : Choice) (args : List Word) (good : Numbered C) (h1 :
   pub legal_next : Legal C args opening (es ++ cycle_events C P r i)
   legal_next =
       legal_append C args opening es (cycle_events C P r i) legal
-      (legal_append C args (after C args opening es) (returns C r (suc C.sites)) late back_home.0
+      (legal_append C args (after_event C args opening es) (returns C r (suc C.sites)) late back_home.0
       (subst (λ q. Legal C args q late) t_is
       (legal_append C args t (accepts C P r i (suc C.sites)) (finishes C P r C.functions ++ goes_on C P r C.functions) started.0
       (legal_append C args x (finishes C P r C.functions) (goes_on C P r C.functions) ended.0 moved.0))))
 
-  pub z_is : after C args opening (es ++ cycle_events C P r i) ≡ z
+  pub z_is : after_event C args opening (es ++ cycle_events C P r i) ≡ z
   z_is =
       after_append C args opening es (cycle_events C P r i)
-      ∙ after_append C args (after C args opening es) (returns C r (suc C.sites)) late
-      ∙ ap (λ q. after C args q late) (sym t_is)
+      ∙ after_append C args (after_event C args opening es) (returns C r (suc C.sites)) late
+      ∙ ap (λ q. after_event C args q late) (sym t_is)
       ∙ after_append C args t (accepts C P r i (suc C.sites)) (finishes C P r C.functions ++ goes_on C P r C.functions)
       ∙ after_append C args x (finishes C P r C.functions) (goes_on C P r C.functions)
 
@@ -218,7 +218,8 @@ module _ (C : Program) (P : Choice) (args : List Word) (good : Numbered C) (h1 :
   start_rests k up = meets.run (unit_for C k) ∙ ap is_running (go_idle C P args good r i t inv_t meets k up)
 
   -- main's site
-  pub outer_next : (after C args opening (es ++ cycle_events C P r i)).site 0 ≡ cond (go C P r i 0) Sent (cond (ret C r 0) (Returned (r.res (unit_for C 0))) ((after C args opening es).site 0))
+  pub outer_next : (after_event C args opening (es ++ cycle_events C P r i)).site 0 ≡ cond (go C P r i 0) Sent (cond (ret C r 0) (Returned (r.res (unit_for C 0)))
+      ((after_event C args opening es).site 0))
   outer_next =
       ap (λ q. q.site 0) z_is ∙ moved.1.outer ∙ started.1.site 0
       ∙ mask_all (suc C.sites) 0 (go C P r i 0) Sent (t.site 0) (λ up. omega arith)
@@ -240,7 +241,7 @@ module _ (C : Program) (P : Choice) (args : List Word) (good : Numbered C) (h1 :
       end_sum : moves_count (finishes C P r C.functions ++ goes_on C P r C.functions) ≡ moves_count (finishes C P r C.functions) + moves_count (goes_on C P r C.functions)
       end_sum = moves_append (finishes C P r C.functions) (goes_on C P r C.functions)
 
-  pub shows_next : Shows C P (after C args opening (es ++ cycle_events C P r i)) (next C P i r)
+  pub shows_next : Shows C P (after_event C args opening (es ++ cycle_events C P r i)) (next C P i r)
   shows_next = subst (λ q. Shows C P q (next C P i r)) (sym z_is) shows_z
 
   pub lasts_next : (u : ℕ) → (next C P i r).res u ≡ last_word C args opening (es ++ cycle_events C P r i) u (d u)
@@ -253,9 +254,9 @@ module _ (C : Program) (P : Choice) (args : List Word) (good : Numbered C) (h1 :
       ∙ ap (last_word C args x (finishes C P r C.functions ++ goes_on C P r C.functions) u) (sym (last_same C args t _ Accept (λ q n u d. refl) (suc C.sites) u (last_word C args opening es u (d u))))
       ∙ sym (last_append C args t (accepts C P r i (suc C.sites)) (finishes C P r C.functions ++ goes_on C P r C.functions) u (last_word C args opening es u (d u)))
       ∙ ap (λ q. last_word C args q late u (last_word C args opening es u (d u))) t_is
-      ∙ ap (last_word C args (after C args (after C args opening es) (returns C r (suc C.sites))) late u)
-      (sym (last_returns C args (after C args opening es) (ret C r) (suc C.sites) u (last_word C args opening es u (d u))))
-      ∙ sym (last_append C args (after C args opening es) (returns C r (suc C.sites)) late u (last_word C args opening es u (d u)))
+      ∙ ap (last_word C args (after_event C args (after_event C args opening es) (returns C r (suc C.sites))) late u)
+      (sym (last_returns C args (after_event C args opening es) (ret C r) (suc C.sites) u (last_word C args opening es u (d u))))
+      ∙ sym (last_append C args (after_event C args opening es) (returns C r (suc C.sites)) late u (last_word C args opening es u (d u)))
       ∙ sym (last_append C args opening es (cycle_events C P r i) u (d u))
 
 -- the law
@@ -273,14 +274,14 @@ first_shows C P r0 quiet = record {
 }
 
 pub start_at : (C : Program) (P : Choice) (r0 : Registers) (args : List Word) → widths args ≡ C.params C.main → (later : ℕ → List Word) (c : ℕ) →
-    (input_at args later c).start ≡ true → ((after C args opening (history C P r0 args later c)).site 0 ≡ Unsent) ×
+    (input_at args later c).start ≡ true → ((after_event C args opening (history C P r0 args later c)).site 0 ≡ Unsent) ×
     ((input_at args later c).words ≡ args) × (widths args ≡ C.params C.main)
-unfolding history after
+unfolding history after_event
 start_at C P r0 args sized later zero up = (refl, refl, sized)
 start_at C P r0 args sized later (suc c) up = absurd (false≢true up)
 
 pub steps : Steps
-unfolding history registers_at after Legal last_word
+unfolding history registers_at after_event Legal last_word
 steps C P good h1 h2 r0 quiet args sized later zero = record { legal = tt; shows = first_shows C P r0 quiet; res = λ u. refl }
 steps C P good h1 h2 r0 quiet args sized later (suc c) =
     let before = steps C P good h1 h2 r0 quiet args sized later c in

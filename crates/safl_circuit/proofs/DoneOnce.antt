@@ -3,7 +3,7 @@ use Rattle.std.specs.Prelude.{◌≡◌, ◌≢◌, ℕ, ◌<◌, ◌≤◌, Lis
 use Rattle.safl_sites.specs.Plan.{Choice}
 use Rattle.safl_circuit.specs.Equations.{Registers, ret, go}
 use Rattle.safl_circuit.specs.Steps.{registers_at, input_at}
-use Rattle.safl_calls.specs.Machine.{Event, opening, Enabled, Legal, after}
+use Rattle.safl_calls.specs.Machine.{Event, opening, Enabled, Legal, after_event}
 use Rattle.safl_calls.specs.Moves.{moves_count}
 use Rattle.safl_term.specs.Readiness.{Returned}
 use Rattle.safl_term.specs.Program.{Program, unit_for}
@@ -11,9 +11,9 @@ use Rattle.safl_word.specs.Words.{Word}
 
 -- what the core gives where main has the value v: n is twice the calls less the loops
 pub record Core (C : Program) (args : List Word) (v : Word) (n : ℕ) : Type 0 where
-  pub value : (es : List Event) → Legal C args opening es → (w : Word) → (after C args opening es).site 0 ≡ Returned w → w ≡ v
+  pub value : (es : List Event) → Legal C args opening es → (w : Word) → (after_event C args opening es).site 0 ≡ Returned w → w ≡ v
   pub most : (es : List Event) → Legal C args opening es → moves_count es ≤ n
-  pub lively : (es : List Event) → Legal C args opening es → ((w : Word) → (after C args opening es).site 0 ≡ Returned w → ⊥) → (e : Event) × Enabled C args (after C args opening es) e
+  pub lively : (es : List Event) → Legal C args opening es → ((w : Word) → (after_event C args opening es).site 0 ≡ Returned w → ⊥) → (e : Event) × Enabled C args (after_event C args opening es) e
 
 pub record DoneOnce (C : Program) (P : Choice) (r0 : Registers) (args : List Word) (later : ℕ → List Word) (v : Word) (n : ℕ) : Type 0 where
   pub cycle : ℕ

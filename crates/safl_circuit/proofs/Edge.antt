@@ -1,5 +1,5 @@
 -- The registers after the edge show the state after the cycle.
-use Rattle.std.proofs.Common.{◌≡◌, ℕ, zero, suc, ◌<◌, ◌≤◌, List, [], Option, Some, None, Bool, true, false, cond, ◌||◌, ◌==◌, is_some, refl, sym, ap, ◌∙◌, ⊎_elim, arith}
+use Rattle.std.proofs.Common.{◌≡◌, ℕ, zero, suc, ◌<◌, ◌≤◌, List, [], Some, None, Bool, true, false, cond, ◌||◌, ◌==◌, is_some, refl, sym, ap, ◌∙◌, ⊎_elim, arith}
 use Rattle.std.specs.Prelude.{unwrap_or}
 use Rattle.safl_sites.specs.Plan.{Choice}
 use Rattle.std.proofs.lemmas.Bool.{cases_eq, eqb-true, eqb-false, eq-eqb, ne_eqb, and_parts, true≢false, not-true}
@@ -9,7 +9,7 @@ use Rattle.safl_circuit.proofs.Accepts.{Meets, Started, asked_parts, go_within, 
 use Rattle.safl_circuit.proofs.Ends.{Ended, Moved, loops_at}
 use Rattle.safl_circuit.proofs.Fate.{Holds, Fate, Stays, Starts, EndsWith, LoopsTo, fate}
 use Rattle.safl_circuit.specs.Equations.{Registers, Inputs, many, loop_words, go, go_words, loads}
-use Rattle.safl_circuit.specs.Equations.{ends, loops, starts, clears, starts_it, starts_other, next}
+use Rattle.safl_circuit.specs.Equations.{ends, taken_loop, starts, clears, starts_it, starts_other, next}
 use Rattle.safl_circuit.proofs.Searched.{end_in, loop_in, go_in, load_in, if_other}
 use Rattle.safl_circuit.specs.Steps.{is_running, is_delivering, was_sent, is_returned}
 use Rattle.safl_calls.proofs.Basics.{first_none, first_only, all_none, some_none, cond_some, not_some, mask_all}
@@ -67,9 +67,6 @@ module _ (C : Program) (P : Choice) (args : List Word) (good : Numbered C) (r : 
   now : (u : ℕ) → Fate C P r i t z u
   now u = fate C P args good r i t inv meets x st y en z mv u
 
-  run_from : (e : Option Word) (s : Option ℕ) (b : Bool) → Bool
-  run_from e s b = cond (is_some e) false (b || is_some s)
-
   pub edge_run : (u : ℕ) → (next C P i r).run u ≡ is_running (z.unit u)
   unfolding next ends starts
   edge_run u = by (now u)
@@ -111,7 +108,7 @@ module _ (C : Program) (P : Choice) (args : List Word) (good : Numbered C) (r : 
       (st.site (suc k) ∙ mask_all (suc C.sites) (suc k) (go C P r i (suc k)) Sent (t.site (suc k)) (λ up. omega (arith, go_within C P args good r i t inv meets (suc k) up))))
 
   pub edge_sent : (k : ℕ) → (next C P i r).sent (suc k) ≡ was_sent (z.site (suc k))
-  unfolding next ends loops
+  unfolding next ends taken_loop
   edge_sent k =
       ap (λ b. cond (clears C P r (C.unit (C.caller (suc k)))) false (b || go C P r i (suc k))) (holds.sent k)
       ∙ sent_pure _ _ (go C P r i (suc k)) (t.site (suc k))
@@ -121,7 +118,7 @@ module _ (C : Program) (P : Choice) (args : List Word) (good : Numbered C) (r : 
   go_unsent k up = let a = go_asks C P args good r i t inv meets (suc k) up in (asked_parts C args t k a.0 a.1).unsent
 
   pub edge_got : (k : ℕ) → (next C P i r).got (suc k) ≡ is_returned (z.site (suc k))
-  unfolding next ends loops
+  unfolding next ends taken_loop
   edge_got k =
       ap (cond (clears C P r (C.unit (C.caller (suc k)))) false) (holds.got k)
       ∙ got_pure _ _ (go C P r i (suc k)) (t.site (suc k)) (go_unsent k)

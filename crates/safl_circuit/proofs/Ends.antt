@@ -14,7 +14,7 @@ use Rattle.safl_calls.proofs.Basics.{put_at, put_off, sweep, last_append, first_
 use Rattle.safl_calls.proofs.Invariant.{Inv}
 use Rattle.safl_calls.proofs.Locality.{answer_local}
 use Rattle.safl_calls.proofs.Numbered.{Numbered}
-use Rattle.safl_calls.specs.Machine.{State, Mode, Idle, Runs, Delivers, Finish, LoopInto, Enabled, Legal, after, fire, finish, loop_into, ended, put, back, says, says_as, last_word, finished_as}
+use Rattle.safl_calls.specs.Machine.{State, Mode, Idle, Runs, Delivers, Finish, LoopInto, Enabled, Legal, after_event, fire, finish, loop_into, ended, put, back, says, says_as, last_word, finished_as}
 use Rattle.safl_calls.specs.Picks.{first, picks}
 use Rattle.safl_term.specs.Readiness.{Answer, Ready, LoopTo, NotYet, answer, word_of, Unsent, back_word}
 use Rattle.safl_term.specs.Program.{Program}
@@ -178,7 +178,7 @@ module _ (C : Program) (P : Choice) (args : List Word) (good : Numbered C) (r : 
         none : (u : ℕ) → end_in C P r u n ≡ None
         none u = rw (none_of (end_word C P r n) down) (cond_same (C.unit n == u) None)
 
-    pub finished_to : (n : ℕ) → n ≤ C.functions → Legal C args x (finishes C P r n) × Ended n (after C args x (finishes C P r n))
+    pub finished_to : (n : ℕ) → n ≤ C.functions → Legal C args x (finishes C P r n) × Ended n (after_event C args x (finishes C P r n))
     finished_to n le =
         let none : Ended 0 x = record {
           unit = λ u. ap (λ o. done_as o (x.unit u)) (sym (first_zero (end_in C P r u)));
@@ -208,7 +208,7 @@ module _ (C : Program) (P : Choice) (args : List Word) (good : Numbered C) (r : 
     last_end u d (suc n) le = by (is_some (end_word C P r n)) refl (last_end u d n (omega arith))
       where
         q : State
-        q = after C args x (finishes C P r n)
+        q = after_event C args x (finishes C P r n)
 
         en : Ended n q
         en = (finished_to n (omega arith)).1
@@ -334,7 +334,7 @@ module _ (C : Program) (P : Choice) (args : List Word) (good : Numbered C) (r : 
         outer = mv.outer;
       }
 
-      pub moved_to : (n : ℕ) → n ≤ C.functions → Legal C args y (goes_on C P r n) × Moved n (after C args y (goes_on C P r n))
+      pub moved_to : (n : ℕ) → n ≤ C.functions → Legal C args y (goes_on C P r n) × Moved n (after_event C args y (goes_on C P r n))
       moved_to n le =
           let none : Moved 0 y = record {
             unit = λ u. ap (λ o. moved_as o (y.unit u)) (sym (first_zero (loop_in C P r u)));
@@ -344,7 +344,7 @@ module _ (C : Program) (P : Choice) (args : List Word) (good : Numbered C) (r : 
           } in
           sweep C args Moved (λ h. is_some (loop_words C P r h)) LoopInto C.functions loop_fires loop_skips y none n le
 
-      pub moved_all : Legal C args y (goes_on C P r C.functions) × Moved C.functions (after C args y (goes_on C P r C.functions))
+      pub moved_all : Legal C args y (goes_on C P r C.functions) × Moved C.functions (after_event C args y (goes_on C P r C.functions))
       moved_all = moved_to C.functions (omega arith)
 
       -- what a unit says when its loop is reached in the sweep

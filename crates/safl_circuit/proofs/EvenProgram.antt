@@ -11,7 +11,7 @@ use Rattle.safl_calls.specs.Picks.{first}
 use Rattle.safl_sites.proofs.SmallPrograms.{byte}
 use Rattle.safl_circuit.proofs.Samples.{no_choice}
 use Rattle.safl_circuit.proofs.RunsComputed.{done_below, shown_in}
-use Rattle.safl_circuit.specs.Equations.{go, body_says, body_wants, ends, loops, starts, loads, next}
+use Rattle.safl_circuit.specs.Equations.{go, body_says, body_wants, ends, taken_loop, starts, loads, next}
 use Rattle.safl_circuit.specs.Steps.{registers_at}
 
 abbrev pub flag : ℕ → Word
@@ -43,11 +43,11 @@ even_three : apply even 5 5 2 (byte 3 ∷ []) ≡ Gave (flag 0) 0
 even_three = refl
 
 even_done : done_below even no_choice (byte 3 ∷ []) 9 ≡ false ∷ false ∷ false ∷ false ∷ false ∷ false ∷ false ∷ true ∷ false ∷ []
-unfolding registers_at next go body_says body_wants ends loops starts loads first answer wanted
+unfolding registers_at next go body_says body_wants ends taken_loop starts loads first answer wanted
 even_done = refl
 
 even_shown : shown_in even no_choice (byte 3 ∷ []) 7 ≡ flag 0
-unfolding registers_at next go body_says body_wants ends loops starts loads first answer wanted
+unfolding registers_at next go body_says body_wants ends taken_loop starts loads first answer wanted
 even_shown = refl
 
 bodies : (f : ℕ) → (lo : ℕ) × (hi : ℕ) × (1 ≤ lo) × Spans even f true lo hi (even_body f)

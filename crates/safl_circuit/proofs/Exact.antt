@@ -18,7 +18,7 @@ use Rattle.safl_calls.proofs.Numbered.{Numbered}
 use Rattle.safl_calls.proofs.Sequential.{one_event}
 use Rattle.safl_calls.specs.Interference.{OneInUse, ShownWordsServe}
 use Rattle.safl_sites.specs.Conflicts.{IsSequential}
-use Rattle.safl_calls.specs.Machine.{opening, after}
+use Rattle.safl_calls.specs.Machine.{opening, after_event}
 use Rattle.safl_calls.specs.Moves.{moves_count}
 use Rattle.safl_term.specs.Meaning.{Main}
 use Rattle.safl_term.specs.Program.{Program, unit_for}
@@ -41,7 +41,7 @@ module _ (C : Program) (P : Choice) (wf : IsWellFormed C) (seq : IsSequential C)
       let start = start_at C P r0 args sized later c in
       let all = es ++ returns C r (suc C.sites) in
       let legal = legal_all C P args good h1 h2 r0.res es (at c).legal r i (at c).shows (at c).res start in
-      one_move C P args good r i (after C args opening all)
+      one_move C P args good r i (after_event C args opening all)
       (inv_t C P args good h1 h2 r0.res es (at c).legal r i (at c).shows (at c).res start)
       (meets C P args good h1 h2 r0.res es (at c).legal r i (at c).shows (at c).res start)
       (one_event C good seq args all legal)

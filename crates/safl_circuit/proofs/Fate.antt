@@ -25,9 +25,6 @@ pub record Holds (C : Program) (P : Choice) (r : Registers) (t : State) : Type 0
   pub got : (k : ℕ) → (r.got (suc k) || ret C r (suc k)) ≡ is_returned (t.site (suc k))
   pub keep : (k : ℕ) (v : Word) → P.kept (suc k) ≡ true → t.site (suc k) ≡ Returned v → cond (ret C r (suc k)) (r.res (unit_for C (suc k))) (r.keep (suc k)) ≡ v
 
-apart_id : (f k : ℕ) (v : Word) (ws : List Word) → Delivers k v ≡ Runs f k ws → ⊥
-apart_id f k v ws e = grind arith
-
 pub data Fate (C : Program) (P : Choice) (r : Registers) (i : Inputs) (t z : State) (u : ℕ) : Type 0 where
   Stays : first (end_in C P r u) C.functions ≡ None → first (loop_in C P r u) C.functions ≡ None → first (go_in C P r i u) (suc C.sites) ≡ None → z.unit u ≡ t.unit u → Fate C P r i t z u
   Starts : (k : ℕ) → first (end_in C P r u) C.functions ≡ None → first (loop_in C P r u) C.functions ≡ None → first (go_in C P r i u) (suc C.sites) ≡

@@ -14,7 +14,7 @@ use Rattle.safl_calls.proofs.Basics.{some_none}
 use Rattle.safl_circuit.specs.Equations.{many}
 use Rattle.safl_net.specs.Netlist.{Netlist, Signal, Kind, Input, Reg, Wire, place}
 use Rattle.safl_circuit.specs.Names.{of_function, of_site, of_param, is_unit, is_site}
-use Rattle.safl_circuit.specs.Layout.{Line, lines, named, member_lines, unit_lines, site_lines, layout_registers, register_kind, each_line, Has}
+use Rattle.safl_circuit.specs.Layout.{Line, lines, named, member_lines, unit_lines, site_lines, layout_registers, register_kind, each_line, IsLineOf}
 use Rattle.safl_circuit.specs.Scheme.{Scheme}
 
 -- the signal of the name is a register
@@ -38,25 +38,25 @@ pub record Laid (C : Program) (D : Names) (P : Choice) (n : Netlist) : Type 0 wh
   pub got : (k : ℕ) → is_site C k ≡ true → IsRegister n (of_site (codes "got$") k)
   pub keep : (k : ℕ) → 0 < k → k ≤ C.sites → P.kept k ≡ true → IsRegister n (of_site (codes "keep$") k)
 
-pub has_left : (x : Line) (xs ys : List Line) → Has x xs → Has x (xs ++ ys)
+pub has_left : (x : Line) (xs ys : List Line) → IsLineOf x xs → IsLineOf x (xs ++ ys)
 has_left x [] ys h = absurd h
 has_left x (y ∷ xs) ys (inl e) = inl e
 has_left x (y ∷ xs) ys (inr h) = inr (has_left x xs ys h)
 
-pub has_right : (x : Line) (xs ys : List Line) → Has x ys → Has x (xs ++ ys)
+pub has_right : (x : Line) (xs ys : List Line) → IsLineOf x ys → IsLineOf x (xs ++ ys)
 has_right x [] ys h = h
 has_right x (y ∷ xs) ys h = inr (has_right x xs ys h)
 
-pub has_side : (x : Line) (xs ys : List Line) → Has x (xs ++ ys) → Has x xs ⊎ Has x ys
+pub has_side : (x : Line) (xs ys : List Line) → IsLineOf x (xs ++ ys) → IsLineOf x xs ⊎ IsLineOf x ys
 has_side x [] ys h = inr h
 has_side x (y ∷ xs) ys (inl e) = inl (inl e)
 has_side x (y ∷ xs) ys (inr h) = ⊎_elim (λ a. inl (inr a)) (λ b. inr b) (has_side x xs ys h)
 
-pub lines_has : (g : ℕ → List Line) (n i : ℕ) (x : Line) → i < n → Has x (g i) → Has x (lines g n)
+pub lines_has : (g : ℕ → List Line) (n i : ℕ) (x : Line) → i < n → IsLineOf x (g i) → IsLineOf x (lines g n)
 unfolding lines
 lines_has g zero i x lt h = absurd (omega arith)
 lines_has g (suc n) i x lt h = ⊎_elim
-    (λ same. has_right x (lines g n) (g n) (subst (λ k. Has x (g k)) same h))
+    (λ same. has_right x (lines g n) (g n) (subst (λ k. IsLineOf x (g k)) same h))
     (λ lower. has_left x (lines g n) (g n) (lines_has g n i x lower h))
     (split i n lt)
   where
@@ -73,13 +73,13 @@ record Found (gs : List Signal) (name : List ℕ) : Type 0 where
   pub is_named : signal.name ≡ name
   pub kind : signal.kind ≡ Reg init then
 
-here : (g : Signal) (gs : List Signal) (name : List ℕ) (w : ℕ) (k : Kind) → g.kind ≡ k → Has (name, w) (register_kind (g.name, g.width) k) → Found (g ∷ gs) name
+here : (g : Signal) (gs : List Signal) (name : List ℕ) (w : ℕ) (k : Kind) → g.kind ≡ k → IsLineOf (name, w) (register_kind (g.name, g.width) k) → Found (g ∷ gs) name
 here g gs name w Input e h = absurd h
 here g gs name w (Wire cell) e h = absurd h
 here g gs name w (Reg init next) e (inr h) = absurd h
 here g gs name w (Reg init next) e (inl is) = record { at = 0; signal = g; init = init; then = next; there = refl; is_named = ap (λ p. p.0) is; kind = e }
 
-found : (gs : List Signal) (name : List ℕ) (w : ℕ) → Has (name, w) (each_line register_kind gs) → Found gs name
+found : (gs : List Signal) (name : List ℕ) (w : ℕ) → IsLineOf (name, w) (each_line register_kind gs) → Found gs name
 unfolding each_line
 found [] name w h = absurd h
 found (g ∷ gs) name w h = ⊎_elim
@@ -112,19 +112,19 @@ placed (x ∷ gs) name i (suc j) g own e is =
     down a b e = omega (arith, e)
 
 module _ (C : Program) (D : Names) (P : Choice) (n : Netlist) (good : Numbered C) (scheme : Scheme C D P n) where
-  register : (name : List ℕ) (w : ℕ) → Has (name, w) (layout_registers C D P) → IsRegister n name
+  register : (name : List ℕ) (w : ℕ) → IsLineOf (name, w) (layout_registers C D P) → IsRegister n name
   register name w h =
-      let f = found n.signals name w (subst (Has (name, w)) (sym scheme.registers) h) in
+      let f = found n.signals name w (subst (IsLineOf (name, w)) (sym scheme.registers) h) in
       let at : place n.signals name 0 ≡ Some f.at = placed n.signals name 0 f.at f.signal scheme.distinct f.there f.is_named ∙ ap Some (plus f.at) in
       record { at = f.at; signal = f.signal; init = f.init; then = f.then; found = at; there = f.there; kind = f.kind }
     where
       plus : (j : ℕ) → 0 + j ≡ j
       plus j = omega arith
 
-  pub in_unit : (u : ℕ) (x : Line) → u < C.functions → Has x (unit_lines C D u) → Has x (layout_registers C D P)
+  pub in_unit : (u : ℕ) (x : Line) → u < C.functions → IsLineOf x (unit_lines C D u) → IsLineOf x (layout_registers C D P)
   in_unit u x lt h = has_left x (lines (unit_lines C D) C.functions) (lines (site_lines C P) (suc C.sites)) (lines_has (unit_lines C D) C.functions u x lt h)
 
-  in_site : (k : ℕ) (x : Line) → k ≤ C.sites → Has x (site_lines C P k) → Has x (layout_registers C D P)
+  in_site : (k : ℕ) (x : Line) → k ≤ C.sites → IsLineOf x (site_lines C P k) → IsLineOf x (layout_registers C D P)
   in_site k x le h = has_right x (lines (unit_lines C D) C.functions) (lines (site_lines C P) (suc C.sites)) (lines_has (site_lines C P) (suc C.sites) k x (omega arith) h)
 
   pub unit_lt : (u : ℕ) → is_unit C u ≡ true → u < C.functions
@@ -144,15 +144,15 @@ module _ (C : Program) (D : Names) (P : Choice) (n : Netlist) (good : Numbered C
   abbrev own_lines : ℕ → List Line
   own_lines f = cond (many C f) ((of_function D (codes "at$") f, 1) ∷ []) [] ++ named (map (of_param D f) (D.params f)) (C.params f)
 
-  in_member : (f : ℕ) (x : Line) → is_unit C (C.unit f) ≡ true → f < C.functions → Has x (own_lines f) → Has x (layout_registers C D P)
+  in_member : (f : ℕ) (x : Line) → is_unit C (C.unit f) ≡ true → f < C.functions → IsLineOf x (own_lines f) → IsLineOf x (layout_registers C D P)
   in_member f x is lt h =
       in_unit (C.unit f) x (unit_lt (C.unit f) is)
-      (subst (Has x) (sym (unit_is (C.unit f) is)) (inr (inr (inr (lines_has (member_lines C D (C.unit f)) C.functions f x lt
-      (subst (Has x) (sym (ap (λ b. cond b (own_lines f) []) (eq-eqb (C.unit f) (C.unit f) refl))) h))))))
+      (subst (IsLineOf x) (sym (unit_is (C.unit f) is)) (inr (inr (inr (lines_has (member_lines C D (C.unit f)) C.functions f x lt
+      (subst (IsLineOf x) (sym (ap (λ b. cond b (own_lines f) []) (eq-eqb (C.unit f) (C.unit f) refl))) h))))))
 
   -- each parameter's register
   params_all : (f : ℕ) (ps : List (List ℕ)) (ws : List ℕ) → length ps ≡ length ws →
-      ((x : Line) → Has x (named (map (of_param D f) ps) ws) → Has x (layout_registers C D P)) → All (λ p. IsRegister n (of_param D f p)) ps
+      ((x : Line) → IsLineOf x (named (map (of_param D f) ps) ws) → IsLineOf x (layout_registers C D P)) → All (λ p. IsRegister n (of_param D f p)) ps
   params_all f [] ws len up = All-nil (λ p. IsRegister n (of_param D f p))
   params_all f (p ∷ ps) [] len up = absurd (omega (arith, len))
   params_all f (p ∷ ps) (w ∷ ws) len up = All-cons (λ p. IsRegister n (of_param D f p)) p ps
@@ -163,20 +163,20 @@ module _ (C : Program) (D : Names) (P : Choice) (n : Netlist) (good : Numbered C
 
   pub laid : Laid C D P n
   laid = record {
-    run = λ u is. register _ 1 (in_unit u _ (unit_lt u is) (subst (Has (of_function D (codes "run$") u, 1)) (sym (unit_is u is)) (inl refl)));
-    fin = λ u is. register _ 1 (in_unit u _ (unit_lt u is) (subst (Has (of_function D (codes "fin$") u, 1)) (sym (unit_is u is)) (inr (inl refl))));
-    res = λ u is. register _ (C.result u) (in_unit u _ (unit_lt u is) (subst (Has (of_function D (codes "res$") u, C.result u)) (sym (unit_is u is)) (inr (inr (inl refl)))));
+    run = λ u is. register _ 1 (in_unit u _ (unit_lt u is) (subst (IsLineOf (of_function D (codes "run$") u, 1)) (sym (unit_is u is)) (inl refl)));
+    fin = λ u is. register _ 1 (in_unit u _ (unit_lt u is) (subst (IsLineOf (of_function D (codes "fin$") u, 1)) (sym (unit_is u is)) (inr (inl refl))));
+    res = λ u is. register _ (C.result u) (in_unit u _ (unit_lt u is) (subst (IsLineOf (of_function D (codes "res$") u, C.result u)) (sym (unit_is u is)) (inr (inr (inl refl)))));
     at = λ f lt is. register _ 1 (in_member f _ (units f lt) lt
         (has_left (of_function D (codes "at$") f, 1) (cond (many C f) ((of_function D (codes "at$") f, 1) ∷ []) [])
-        (named (map (of_param D f) (D.params f)) (C.params f)) (subst (Has (of_function D (codes "at$") f, 1))
+        (named (map (of_param D f) (D.params f)) (C.params f)) (subst (IsLineOf (of_function D (codes "at$") f, 1))
         (sym (ap (λ b. cond b ((of_function D (codes "at$") f, 1) ∷ []) []) is)) (inl refl))));
     arg = λ f lt. params_all f (D.params f) (C.params f) (scheme.params f lt)
         (λ x h. in_member f x (units f lt) lt (has_right x (cond (many C f) ((of_function D (codes "at$") f, 1) ∷ []) [])
         (named (map (of_param D f) (D.params f)) (C.params f)) h));
-    sent = λ k is. let a = site_parts k is in register _ 1 (in_site k _ a.1 (subst (Has (of_site (codes "sent$") k, 1)) (sym (site_is k a.0)) (inl refl)));
-    got = λ k is. let a = site_parts k is in register _ 1 (in_site k _ a.1 (subst (Has (of_site (codes "got$") k, 1)) (sym (site_is k a.0)) (inr (inl refl))));
+    sent = λ k is. let a = site_parts k is in register _ 1 (in_site k _ a.1 (subst (IsLineOf (of_site (codes "sent$") k, 1)) (sym (site_is k a.0)) (inl refl)));
+    got = λ k is. let a = site_parts k is in register _ 1 (in_site k _ a.1 (subst (IsLineOf (of_site (codes "got$") k, 1)) (sym (site_is k a.0)) (inr (inl refl))));
     keep = λ k pos le kept. register _ (C.result (C.callee k))
-        (in_site k _ le (subst (Has (of_site (codes "keep$") k, C.result (C.callee k)))
+        (in_site k _ le (subst (IsLineOf (of_site (codes "keep$") k, C.result (C.callee k)))
         (sym (site_is k pos ∙ ap (λ b. (of_site (codes "sent$") k, 1) ∷ (of_site (codes "got$") k, 1) ∷ cond b
         ((of_site (codes "keep$") k, C.result (C.callee k)) ∷ []) []) kept)) (inr (inr (inl refl)))));
   }

@@ -10,7 +10,7 @@ use Rattle.safl_circuit.specs.Steps.{Shows, was_sent, is_returned}
 use Rattle.safl_calls.proofs.Basics.{last_append, first_none, some_none, unsent_is}
 use Rattle.safl_calls.proofs.Invariant.{Inv}
 use Rattle.safl_calls.proofs.Numbered.{Numbered}
-use Rattle.safl_calls.specs.Machine.{State, Mode, Idle, Runs, Delivers, Event, Return, opening, Legal, after, back, asked, asked_as, last_word, is_unsent}
+use Rattle.safl_calls.specs.Machine.{State, Mode, Idle, Runs, Delivers, Event, Return, opening, Legal, after_event, back, asked, asked_as, last_word, is_unsent}
 use Rattle.safl_calls.proofs.Basics.{serves}
 use Rattle.safl_calls.specs.Picks.{picks}
 use Rattle.safl_calls.specs.Interference.{shown_words, shown_as, ShownWordsServe}
@@ -57,7 +57,7 @@ unfolding picks last_word
 last_returns C args s p zero u d = refl
 last_returns C args s p (suc n) u d =
     last_append C args s (picks p Return n) (cond (p n) (Return n ∷ []) []) u d
-    ∙ one (p n) (after C args s (picks p Return n)) (last_word C args s (picks p Return n) u d)
+    ∙ one (p n) (after_event C args s (picks p Return n)) (last_word C args s (picks p Return n) u d)
     ∙ last_returns C args s p n u d
   where
     one : (b : Bool) (x : State) (e : Word) → last_word C args x (cond b (Return n ∷ []) []) u e ≡ e
@@ -81,12 +81,12 @@ module _ (C : Program) (P : Choice) (args : List Word) (good : Numbered C) (r : 
   path_runs f lt = path_runs_as f lt (s.unit (C.unit f)) refl
 
   module _ (d : ℕ → Word) (es : List Event) (lasts : (u : ℕ) → r.res u ≡ last_word C args opening es u (d u))
-      (same_start : after C args opening es ≡ s) (legal : Legal C args opening (es ++ returns C r (suc C.sites))) where
+      (same_start : after_event C args opening es ≡ s) (legal : Legal C args opening (es ++ returns C r (suc C.sites))) where
     abbrev all : List Event
     all = es ++ returns C r (suc C.sites)
 
     abbrev t : State
-    t = after C args opening all
+    t = after_event C args opening all
 
     module _ (b : Back C P args good r s inv shows (suc C.sites) t) (h2 : ShownWordsServe C P.kept) where
       pub unit_quiet : (u : ℕ) → t.unit u ≡ quiet (s.unit u)

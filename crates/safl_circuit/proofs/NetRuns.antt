@@ -16,7 +16,7 @@ use Rattle.safl_term.specs.WellFormed.{IsWellFormed, AreWordsOf}
 use Rattle.safl_term.proofs.Values.{are_widths}
 use Rattle.safl_term.proofs.OrElse.{or_alike}
 use Rattle.safl_sites.specs.Conflicts.{IsSequential}
-use Rattle.safl_calls.specs.Machine.{opening, after}
+use Rattle.safl_calls.specs.Machine.{opening, after_event}
 use Rattle.safl_calls.specs.Picks.{first}
 use Rattle.safl_calls.proofs.Numbered.{Numbered}
 use Rattle.safl_calls.proofs.FromWellFormed.{numbered}
@@ -184,7 +184,7 @@ module _ (C : Program) (D : Names) (P : Choice) (n : Netlist) (wf : IsWellFormed
         let is = is_done c w e up in
         let es = history C P r0 args later (suc c) in
         let x = as_word (C.result C.main) (read_output n w (codes "result")) in
-        let over : (after C args opening es).site 0 ≡ Returned x = after_done C P good h1 h2 r0 quiet args many later c is ∙ ap Returned
+        let over : (after_event C args opening es).site 0 ≡ Returned x = after_done C P good h1 h2 r0 quiet args many later c is ∙ ap Returned
         (ap (r c).res (ap C.unit good.outside) ∙ sym (result_is c w e)) in
         let legal = (steps C P good h1 h2 r0 quiet args many later (suc c)).legal in
         let d = (right C C.functions good wf.numbered args es legal x over).0 in

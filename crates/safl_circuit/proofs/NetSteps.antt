@@ -19,7 +19,7 @@ use Rattle.safl_circuit.specs.Scheme.{Wires, Scheme, ret_on, go_up, net_events}
 use Rattle.safl_circuit.specs.Steps.{Shows, Quiet}
 use Rattle.safl_calls.proofs.Invariant.{Inv, inv_after}
 use Rattle.safl_calls.proofs.Numbered.{Numbered}
-use Rattle.safl_calls.specs.Machine.{State, Event, Accept, Finish, Return, LoopInto, opening, Legal, after, last_word}
+use Rattle.safl_calls.specs.Machine.{State, Event, Accept, Finish, Return, LoopInto, opening, Legal, after_event, last_word}
 use Rattle.safl_calls.specs.Picks.{picks}
 use Rattle.safl_calls.specs.Interference.{OneInUse, ShownWordsServe}
 use Rattle.safl_term.specs.Readiness.{Unsent}
@@ -147,11 +147,11 @@ module _ (C : Program) (D : Names) (P : Choice) (n : Netlist) (wf : IsWellFormed
 
   -- every valuation that fits a state shows where the events lead
   pub record Shown (es : List Event) (state : ℕ → ℕ) : Type 0 where
-    pub shows : (v : Valuation) → Fits n state v → Shows C P (after C args opening es) (registers_now C D n v)
+    pub shows : (v : Valuation) → Fits n state v → Shows C P (after_event C args opening es) (registers_now C D n v)
     pub lasts : (v : Valuation) → Fits n state v → (u : ℕ) → (registers_now C D n v).res u ≡ last_word C args opening es u (as_word (C.result u) 0)
 
   module _ (es : List Event) (legal : Legal C args opening es) (state : ℕ → ℕ) (shown : Shown es state) (v : Valuation) (fits : Fits n state v)
-      (start : one (start_number n v) ≡ true → ((after C args opening es).site 0 ≡ Unsent) × ((input_now C n v).words ≡ args) × (widths args ≡ C.params C.main)) where
+      (start : one (start_number n v) ≡ true → ((after_event C args opening es).site 0 ≡ Unsent) × ((input_now C n v).words ≡ args) × (widths args ≡ C.params C.main)) where
     events : net_events C D n v ≡ cycle_events C P (registers_now C D n v) (input_now C n v)
     events = events_same v (registers_now C D n v) (input_now C n v) (scheme.wires v state fits)
 
@@ -161,8 +161,9 @@ module _ (C : Program) (D : Names) (P : Choice) (n : Netlist) (wf : IsWellFormed
 
     pub shown_next : Shown (es ++ net_events C D n v) (next_state n v)
     shown_next = record {
-      shows = λ w fw. shows_same (after C args opening (es ++ net_events C D n v)) (registers_now C D n w) (next C P (input_now C n v) (registers_now C D n v)) (inv_after C args good _ legal_cycle)
-          (subst (λ l. Shows C P (after C args opening (es ++ l)) (next C P (input_now C n v) (registers_now C D n v))) (sym events)
+      shows = λ w fw. shows_same (after_event C args opening (es ++ net_events C D n v)) (registers_now C D n w) (next C P (input_now C n v) (registers_now C D n v))
+          (inv_after C args good _ legal_cycle)
+          (subst (λ l. Shows C P (after_event C args opening (es ++ l)) (next C P (input_now C n v) (registers_now C D n v))) (sym events)
           (shows_next C P args good h1 h2 (λ u. as_word (C.result u) 0) es legal (registers_now C D n v) (input_now C n v) (shown.shows v fits)
           (shown.lasts v fits) start))
           (onto w fw);
@@ -183,7 +184,7 @@ module _ (C : Program) (D : Names) (P : Choice) (n : Netlist) (wf : IsWellFormed
         later vs (es ++ net_events C D n v) (legal_cycle es legal state shown v goes.0 start) (next_state n v) (shown_next es legal state shown v goes.0 start) goes.2,
       )
     where
-      absurd' : one (start_number n v) ≡ true → ((after C args opening es).site 0 ≡ Unsent) × ((input_now C n v).words ≡ args) × (widths args ≡ C.params C.main)
+      absurd' : one (start_number n v) ≡ true → ((after_event C args opening es).site 0 ≡ Unsent) × ((input_now C n v).words ≡ args) × (widths args ≡ C.params C.main)
       absurd' up = absurd (false≢true (sym (ap one goes.1) ∙ up))
 
   pub first_quiet : IsQuietState C D n (reset_state n)
@@ -199,7 +200,7 @@ module _ (C : Program) (D : Names) (P : Choice) (n : Netlist) (wf : IsWellFormed
       clear (Some s) = scheme.resets s
 
   shown_first : Shown [] (reset_state n)
-  unfolding after last_word
+  unfolding after_event last_word
   shown_first = record {
     shows = λ v fits. record {
       run = λ u. never_both (is_unit C u) _ (λ is. ap one (clear v _ fits (registers.run u is)));
@@ -223,11 +224,11 @@ module _ (C : Program) (D : Names) (P : Choice) (n : Netlist) (wf : IsWellFormed
       zero_down false w h = refl
 
   pub first_run : AreWordsOf args (C.params C.main) → (vs : List Valuation) → Run n (numbers args) vs → StepsFrom C D P n args [] vs
-  unfolding after Legal
+  unfolding after_event Legal
   first_run sized [] run = tt
   first_run sized (v ∷ vs) run =
       let words : (input_now C n v).words ≡ args = ap (as_words (C.params C.main)) run.2 ∙ as_numbers args (C.params C.main) sized in
-      let start = λ (up : one (start_number n v) ≡ true). (let p : ((after C args opening []).site 0 ≡ Unsent) × ((input_now C n v).words ≡ args) ×
+      let start = λ (up : one (start_number n v) ≡ true). (let p : ((after_event C args opening []).site 0 ≡ Unsent) × ((input_now C n v).words ≡ args) ×
       (widths args ≡ C.params C.main) = (refl, words, are_widths args (C.params C.main) sized) in p) in (
         shown_first.shows v run.0,
         shown_first.lasts v run.0,

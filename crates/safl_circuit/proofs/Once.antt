@@ -13,7 +13,7 @@ use Rattle.safl_circuit.specs.Steps.{StepsAt, Quiet, input_at, registers_at, his
 use Rattle.safl_calls.proofs.Basics.{moves_append, cond_some, unsent_is}
 use Rattle.safl_calls.proofs.Invariant.{Inv, inv_after}
 use Rattle.safl_calls.proofs.Numbered.{Numbered}
-use Rattle.safl_calls.specs.Machine.{State, Event, Accept, opening, Enabled, after}
+use Rattle.safl_calls.specs.Machine.{State, Event, Accept, opening, Enabled, after_event}
 use Rattle.safl_calls.proofs.Basics.{serves}
 use Rattle.safl_calls.specs.Moves.{moves_count}
 use Rattle.safl_calls.specs.Interference.{OneInUse, ShownWordsServe}
@@ -28,7 +28,7 @@ module _ (C : Program) (P : Choice) (good : Numbered C) (h1 : OneInUse C P.arbit
   r c = registers_at C P r0 args later c
 
   abbrev s : ℕ → State
-  s c = after C args opening (history C P r0 args later c)
+  s c = after_event C args opening (history C P r0 args later c)
 
   at : (c : ℕ) → StepsAt C P r0 args later c
   at c = steps C P good h1 h2 r0 quiet args sized later c
@@ -119,7 +119,7 @@ module _ (C : Program) (P : Choice) (good : Numbered C) (h1 : OneInUse C P.arbit
   module _ (v : Word) (n : ℕ) (core : Core C args v n) where
     -- while done has not come, main has not returned
     not_returned : (c : ℕ) → ((k : ℕ) → k < c → ret C (r k) 0 ≡ false) → (w : Word) → (s c).site 0 ≡ Returned w → ⊥
-    unfolding history after
+    unfolding history after_event
     not_returned zero down w e = unsent_returned w e
     not_returned (suc zero) down w e = returned_sent w (sym e ∙ accepted)
     not_returned (suc (suc c)) down w e =
@@ -139,11 +139,11 @@ module _ (C : Program) (P : Choice) (good : Numbered C) (h1 : OneInUse C P.arbit
         let start = start_at C P r0 args sized later c in
         let back = es ++ returns C (r c) (suc C.sites) in
         let legal = legal_all C P args good h1 h2 r0.res es (at c).legal (r c) (input_at args later c) (at c).shows (at c).res start in
-        let same : (after C args opening back).site 0 ≡ (s c).site 0 =
+        let same : (after_event C args opening back).site 0 ≡ (s c).site 0 =
         came C P args good h1 h2 r0.res es (at c).legal (r c) (input_at args later c) (at c).shows (at c).res start 0
         ∙ ap (λ b. cond b (Returned ((r c).res (unit_for C 0))) ((s c).site 0)) (down c (omega arith)) in
         let on = core.lively back legal (λ w over. not_returned c (λ k lt. down k (omega (arith, lt))) w (sym same ∙ over)) in
-        progress C P args good h1 h2 r0.res es (at c).legal (r c) (input_at args later c) (at c).shows (at c).res start on.0 on.1 (main_goes c (after C args opening back) same on.0 on.1)
+        progress C P args good h1 h2 r0.res es (at c).legal (r c) (input_at args later c) (at c).shows (at c).res start on.0 on.1 (main_goes c (after_event C args opening back) same on.0 on.1)
 
     grows : (c : ℕ) → ((k : ℕ) → k < c → ret C (r k) 0 ≡ false) → c ≤ moves_count (history C P r0 args later c)
     unfolding history

@@ -20,7 +20,7 @@ use Rattle.safl_calls.proofs.Sooner.{OnTime, on_time_opening, on_time_after, on_
 use Rattle.safl_calls.proofs.Timely.{Prompt, Lasts, Awaits}
 use Rattle.safl_calls.specs.Cycles.{since_events}
 use Rattle.safl_calls.specs.Interference.{OneInUse, ShownWordsServe}
-use Rattle.safl_calls.specs.Machine.{Delivers, opening, after}
+use Rattle.safl_calls.specs.Machine.{Delivers, opening, after_event}
 use Rattle.safl_calls.specs.Span.{main_span}
 use Rattle.safl_term.specs.Meaning.{Main}
 use Rattle.safl_term.specs.Program.{Program, unit_for}
@@ -45,15 +45,16 @@ module _ (C : Program) (P : Choice) (wf : IsWellFormed C) (h1 : OneInUse C P.arb
     record Timely (c : ℕ) : Type 0 where
       since : ℕ → ℕ
       low : (u : ℕ) → since u ≤ c
-      on_time : OnTime C args good wf.numbered v d E c since (after C args opening (history C P r0 args later c))
-      given : E → (u k : ℕ) (w : Word) → (after C args opening (history C P r0 args later c)).unit u ≡ Delivers k w → c ≤ since u
+      on_time : OnTime C args good wf.numbered v d E c since (after_event C args opening (history C P r0 args later c))
+      given : E → (u k : ℕ) (w : Word) → (after_event C args opening (history C P r0 args later c)).unit u ≡ Delivers k w → c ≤ since u
 
     -- and at its end
     record Passed (c : ℕ) : Type 0 where
       since : ℕ → ℕ
       low : (u : ℕ) → since u ≤ suc c
-      on_time : OnTime C args good wf.numbered v d E c since (after C args opening (history C P r0 args later (suc c)))
-      prompt : E → Prompt C c since (picture C (after C args opening (history C P r0 args later (suc c)))).units (picture C (after C args opening (history C P r0 args later (suc c)))).outside
+      on_time : OnTime C args good wf.numbered v d E c since (after_event C args opening (history C P r0 args later (suc c)))
+      prompt : E → Prompt C c since (picture C (after_event C args opening (history C P r0 args later (suc c)))).units
+          (picture C (after_event C args opening (history C P r0 args later (suc c)))).outside
 
     passes : (c : ℕ) → c < bound → Timely c → Passed c
     unfolding history
@@ -66,9 +67,10 @@ module _ (C : Program) (P : Choice) (wf : IsWellFormed C) (h1 : OneInUse C P.arb
         let next = legal_next C P args good h1 h2 r0.res es (at c).legal r i (at c).shows (at c).res start in
         let inv = inv_t C P args good h1 h2 r0.res es (at c).legal r i (at c).shows (at c).res start in
         let m = meets C P args good h1 h2 r0.res es (at c).legal r i (at c).shows (at c).res start in
-        let t = after C args opening all in
+        let t = after_event C args opening all in
         let may = may_all C P args good r i t inv m c h.since h.low in
-        let new = on_time_after C args good wf.numbered v d E c h.since (after C args opening es) (cycle_events C P r i) h.on_time (legal_back C args opening es (cycle_events C P r i) next) may in
+        let new = on_time_after C args good wf.numbered v d E c h.since (after_event C args opening es)
+        (cycle_events C P r i) h.on_time (legal_back C args opening es (cycle_events C P r i) next) may in
         let x' = x C P args good h1 h2 r0.res es (at c).legal r i (at c).shows (at c).res start in
         let y' = y C P args good h1 h2 r0.res es (at c).legal r i (at c).shows (at c).res start in
         let z' = z C P args good h1 h2 r0.res es (at c).legal r i (at c).shows (at c).res start in
@@ -88,7 +90,7 @@ module _ (C : Program) (P : Choice) (wf : IsWellFormed C) (h1 : OneInUse C P.arb
         }
 
     timely : (c : ℕ) → c ≤ bound → Timely c
-    unfolding history after
+    unfolding history after_event
     timely zero le = record {
       since = λ u. 0;
       low = λ u. omega arith;
@@ -100,22 +102,22 @@ module _ (C : Program) (P : Choice) (wf : IsWellFormed C) (h1 : OneInUse C P.arb
         record {
           since = q.since;
           low = q.low;
-          on_time = on_time_later C args good wf.numbered v d E c q.since (after C args opening (history C P r0 args later (suc c))) q.prompt q.on_time;
+          on_time = on_time_later C args good wf.numbered v d E c q.since (after_event C args opening (history C P r0 args later (suc c))) q.prompt q.on_time;
           given = λ e u k w is.
-              let l = (q.prompt e).returned u k w (ap (activity C (after C args opening (history C P r0 args later (suc c))).site) is) in
+              let l = (q.prompt e).returned u k w (ap (activity C (after_event C args opening (history C P r0 args later (suc c))).site) is) in
               omega (arith, l);
         }
 
     sooner : (c : ℕ) → c < bound → ret C (registers_at C P r0 args later c) 0 ≡ true → main_span C args d ≤ c
     sooner c lt up =
         let q = passes c lt (timely c (omega arith)) in
-        on_time_returned C args good wf.numbered v d E c q.since (after C args opening (history C P r0 args later (suc c))) ((registers_at C P r0 args later c).res (unit_for C 0)) q.on_time
+        on_time_returned C args good wf.numbered v d E c q.since (after_event C args opening (history C P r0 args later (suc c))) ((registers_at C P r0 args later c).res (unit_for C 0)) q.on_time
         (after_done C P good h1 h2 r0 quiet args sized later c up)
 
     no_later : E → (c : ℕ) → c ≤ bound → ret C (registers_at C P r0 args later c) 0 ≡ true → c ≤ main_span C args d
     no_later e c le up =
         let h = timely c le in
-        let s = after C args opening (history C P r0 args later c) in
+        let s = after_event C args opening (history C P r0 args later c) in
         let u = C.unit (C.callee 0) in
         let inv = inv_after C args good (history C P r0 args later c) (at c).legal in
         let del = ret_delivers C P args good (registers_at C P r0 args later c) s inv (at c).shows 0 up in

@@ -8,7 +8,7 @@ use Rattle.safl_circuit.specs.Steps.{Shows, is_delivering, was_sent, is_returned
 use Rattle.safl_calls.proofs.Basics.{put_at, put_off, sweep}
 use Rattle.safl_calls.proofs.Invariant.{Inv}
 use Rattle.safl_calls.proofs.Numbered.{Numbered}
-use Rattle.safl_calls.specs.Machine.{State, Mode, Idle, Runs, Delivers, Return, Enabled, Legal, after, fire, put}
+use Rattle.safl_calls.specs.Machine.{State, Mode, Idle, Runs, Delivers, Return, Enabled, Legal, after_event, fire, put}
 use Rattle.safl_calls.proofs.Basics.{serves}
 use Rattle.safl_term.specs.Readiness.{Stage, Unsent, Sent, Returned}
 use Rattle.safl_term.specs.Program.{Program, unit_for}
@@ -120,7 +120,7 @@ module _ (C : Program) (P : Choice) (args : List Word) (good : Numbered C) (r : 
     site = λ k. b.site k ∙ ⊎_elim (λ same. came_down n k (ap (ret C r) same ∙ down) ∙ sym (came_down (suc n) k (ap (ret C r) same ∙ down))) (λ other. came_more n k other) (cases_eq k n);
   }
 
-  pub returned : Legal C args s (returns C r (suc C.sites)) × Back (suc C.sites) (after C args s (returns C r (suc C.sites)))
+  pub returned : Legal C args s (returns C r (suc C.sites)) × Back (suc C.sites) (after_event C args s (returns C r (suc C.sites)))
   returned =
       let first : Back 0 s = record { unit = λ u. home_none (s.unit u); site = λ k. rw (le-ltb k 0 (omega arith)) refl } in
       sweep C args Back (ret C r) Return (suc C.sites) returns_fire returns_skip s first (suc C.sites) (omega arith)

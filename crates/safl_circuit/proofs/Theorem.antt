@@ -26,7 +26,7 @@ use Rattle.safl_circuit.proofs.NetSteps.{first_run, first_quiet}
 use Rattle.safl_circuit.proofs.NetRuns as run
 use Rattle.std.proofs.lemmas.Bool.{lt-ltb}
 use Rattle.safl_calls.proofs.Numbered.{Numbered}
-use Rattle.safl_circuit.specs.Layout.{Line, Has, lines, each_line, register_kind, wire_kind, function_wires, site_wires, layout_wires}
+use Rattle.safl_circuit.specs.Layout.{Line, IsLineOf, lines, each_line, register_kind, wire_kind, function_wires, site_wires, layout_wires}
 use Rattle.safl_circuit.proofs.Laid.{has_left, has_right, lines_has, in_unit, unit_is, unit_lt, units}
 
 module _ (C : Program) (D : Names) (P : Choice) (n : Netlist) (wf : IsWellFormed C) (h1 : OneInUse C P.arbiter) (h2 : ShownWordsServe C P.kept) (scheme : Scheme C D P n) where
@@ -96,26 +96,26 @@ module _ (C : Program) (D : Names) (P : Choice) (n : Netlist) (wf : IsWellFormed
   good : Numbered C
   good = numbered C wf
 
-  running : (f : ℕ) → f < C.functions → Has (of_function D (codes "run$") (C.unit f), 1) (each_line register_kind n.signals)
+  running : (f : ℕ) → f < C.functions → IsLineOf (of_function D (codes "run$") (C.unit f), 1) (each_line register_kind n.signals)
   running f lt =
       let u = units C D P n good scheme f lt in
       let line : Line = (of_function D (codes "run$") (C.unit f), 1) in
-      subst (Has line) (sym scheme.registers) (in_unit C D P n good scheme (C.unit f) line (unit_lt C D P n good scheme (C.unit f) u)
-      (subst (Has line) (sym (unit_is C D P n good scheme (C.unit f) u)) (inl refl)))
+      subst (IsLineOf line) (sym scheme.registers) (in_unit C D P n good scheme (C.unit f) line (unit_lt C D P n good scheme (C.unit f) u)
+      (subst (IsLineOf line) (sym (unit_is C D P n good scheme (C.unit f) u)) (inl refl)))
 
-  in_wires : (x : Line) → Has x (layout_wires C D P) → Has x (each_line wire_kind n.signals)
-  in_wires x h = subst (Has x) (sym scheme.named) (has_left x (layout_wires C D P) scheme.others h)
+  in_wires : (x : Line) → IsLineOf x (layout_wires C D P) → IsLineOf x (each_line wire_kind n.signals)
+  in_wires x h = subst (IsLineOf x) (sym scheme.named) (has_left x (layout_wires C D P) scheme.others h)
 
-  starting : (k : ℕ) → 0 < k → k ≤ C.sites → Has (of_site (codes "go$") k, 1) (each_line wire_kind n.signals)
+  starting : (k : ℕ) → 0 < k → k ≤ C.sites → IsLineOf (of_site (codes "go$") k, 1) (each_line wire_kind n.signals)
   starting k pos le =
       let line : Line = (of_site (codes "go$") k, 1) in
       let arbiter : List Line = cond (P.arbiter (unit_for C k)) ((of_site (codes "arb$") k, 1) ∷ []) [] in
       let own : List Line = (of_site (codes "want$") k, 1) ∷ (of_site (codes "ret$") k, 1) ∷ (arbiter ++ line ∷ []) in
-      let here : Has line (site_wires C P k) = subst (Has line) (sym (ap (λ b. cond b own []) (lt-ltb 0 k pos))) (inr (inr (has_right line arbiter (line ∷ []) (inl refl)))) in
+      let here : IsLineOf line (site_wires C P k) = subst (IsLineOf line) (sym (ap (λ b. cond b own []) (lt-ltb 0 k pos))) (inr (inr (has_right line arbiter (line ∷ []) (inl refl)))) in
       in_wires line (has_right line (lines (function_wires D) C.functions) (lines (site_wires C P) (suc C.sites) ++ (codes "go$main", 1) ∷ [])
       (has_left line (lines (site_wires C P) (suc C.sites)) ((codes "go$main", 1) ∷ []) (lines_has (site_wires C P) (suc C.sites) k line (omega arith) here)))
 
-  starting_main : Has (codes "go$main", 1) (each_line wire_kind n.signals)
+  starting_main : IsLineOf (codes "go$main", 1) (each_line wire_kind n.signals)
   starting_main =
       in_wires (codes "go$main", 1) (has_right (codes "go$main", 1) (lines (function_wires D) C.functions) (lines (site_wires C P) (suc C.sites) ++ (codes "go$main", 1) ∷ [])
       (has_right (codes "go$main", 1) (lines (site_wires C P) (suc C.sites)) ((codes "go$main", 1) ∷ []) (inl refl)))

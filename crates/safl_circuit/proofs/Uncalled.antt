@@ -22,7 +22,7 @@ use Rattle.safl_calls.proofs.FromWellFormed.{numbered}
 use Rattle.safl_calls.proofs.Invariant.{Inv}
 use Rattle.safl_calls.proofs.Numbered.{Numbered}
 use Rattle.safl_calls.specs.Interference.{OneInUse, ShownWordsServe}
-use Rattle.safl_calls.specs.Machine.{State, opening, after, asked}
+use Rattle.safl_calls.specs.Machine.{State, opening, after_event, asked}
 use Rattle.safl_calls.specs.Picks.{first}
 use Rattle.safl_calls.specs.Span.{main_span}
 use Rattle.safl_term.specs.Meaning.{Main, main_calls}
@@ -55,7 +55,7 @@ module _ (C : Program) (P : Choice) (wf : IsWellFormed C) (h1 : OneInUse C P.arb
   at c = steps C P good h1 h2 r0 quiet args sized later c
 
   abbrev t : ℕ → State
-  t c = after C args opening (history C P r0 args later c ++ returns C (r c) (suc C.sites))
+  t c = after_event C args opening (history C P r0 args later c ++ returns C (r c) (suc C.sites))
 
   inv : (c : ℕ) → Inv C (t c)
   inv c = inv_t C P args good h1 h2 r0.res (history C P r0 args later c) (at c).legal (r c) (input_at args later c) (at c).shows (at c).res (start_at C P r0 args sized later c)

@@ -8,7 +8,7 @@ use Rattle.safl_sites.specs.Plan.{Choice}
 use Rattle.safl_net.specs.Netlist.{Netlist, Signal, Kind, Input, Reg, Wire, width_in, output_place}
 use Rattle.safl_net.specs.Making.{kind_in}
 use Rattle.safl_net.specs.Whole.{HasStart}
-use Rattle.safl_circuit.specs.Layout.{Line, input_kind, each_line, Has}
+use Rattle.safl_circuit.specs.Layout.{Line, input_kind, each_line, IsLineOf}
 use Rattle.safl_circuit.specs.Scheme.{Scheme}
 use Rattle.safl_circuit.specs.Theorem.{SchemesAreWhole}
 use Rattle.safl_circuit.proofs.Laid.{has_side, placed}
@@ -23,14 +23,14 @@ record FoundInput (gs : List Signal) (name : List ℕ) (w : ℕ) : Type 0 where
   pub wide : signal.width ≡ w
   pub kind : signal.kind ≡ Input
 
-here : (g : Signal) (gs : List Signal) (name : List ℕ) (w : ℕ) (k : Kind) → g.kind ≡ k → Has (name, w) (input_kind (g.name, g.width) k) → FoundInput (g ∷ gs) name w
+here : (g : Signal) (gs : List Signal) (name : List ℕ) (w : ℕ) (k : Kind) → g.kind ≡ k → IsLineOf (name, w) (input_kind (g.name, g.width) k) → FoundInput (g ∷ gs) name w
 here g gs name w (Reg init next) e h = absurd h
 here g gs name w (Wire cell) e h = absurd h
 here g gs name w Input e (inr h) = absurd h
 here g gs name w Input e (inl is) =
     record { at = 0; signal = g; there = refl; is_named = ap (λ (l : Line). l.0) is; wide = ap (λ (l : Line). l.1) is; kind = e }
 
-found : (gs : List Signal) (name : List ℕ) (w : ℕ) → Has (name, w) (each_line input_kind gs) → FoundInput gs name w
+found : (gs : List Signal) (name : List ℕ) (w : ℕ) → IsLineOf (name, w) (each_line input_kind gs) → FoundInput gs name w
 unfolding each_line
 found [] name w h = absurd h
 found (g ∷ gs) name w h = ⊎_elim
@@ -40,7 +40,7 @@ found (g ∷ gs) name w h = ⊎_elim
 
 has_start : (C : Program) (D : Names) (P : Choice) (n : Netlist) → Scheme C D P n → HasStart n
 has_start C D P n scheme =
-    let f = found n.signals (codes "start") 1 (subst (Has (codes "start", 1)) (sym scheme.inputs) (inl refl)) in
+    let f = found n.signals (codes "start") 1 (subst (IsLineOf (codes "start", 1)) (sym scheme.inputs) (inl refl)) in
     record {
       signal = f.at;
       at = placed n.signals (codes "start") 0 f.at f.signal scheme.distinct f.there f.is_named ∙ ap Some (plus f.at);

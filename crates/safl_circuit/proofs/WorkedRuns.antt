@@ -7,7 +7,7 @@ use Rattle.safl_term.specs.Program.{Program}
 use Rattle.safl_term.specs.Fuel.{Gave, apply}
 use Rattle.safl_term.specs.Readiness.{answer, wanted}
 use Rattle.safl_calls.specs.Picks.{first}
-use Rattle.safl_circuit.specs.Equations.{go, body_says, body_wants, ends, loops, starts, loads, next}
+use Rattle.safl_circuit.specs.Equations.{go, body_says, body_wants, ends, taken_loop, starts, loads, next}
 use Rattle.safl_circuit.specs.Steps.{registers_at}
 use Rattle.safl_circuit.proofs.Samples.{constant_program, no_choice}
 use Rattle.safl_sites.proofs.SmallPrograms.{byte, sum, nested, bound, decided}
@@ -16,11 +16,11 @@ use Rattle.safl_circuit.proofs.RunsComputed.{done_below, shown_in}
 
 -- fun main():8 = 7 is done in cycle 2, and in no other of the first 6
 seven_done : done_below (constant_program (byte 7)) no_choice [] 6 ≡ false ∷ false ∷ true ∷ false ∷ false ∷ false ∷ []
-unfolding registers_at next go body_says body_wants ends loops starts loads first answer wanted
+unfolding registers_at next go body_says body_wants ends taken_loop starts loads first answer wanted
 seven_done = refl
 
 seven_shown : shown_in (constant_program (byte 7)) no_choice [] 2 ≡ byte 7
-unfolding registers_at next go body_says body_wants ends loops starts loads first answer wanted
+unfolding registers_at next go body_says body_wants ends taken_loop starts loads first answer wanted
 seven_shown = refl
 
 -- fun even(x:8):1 = if x == 0 then 1 else odd(x + 255) and odd(x:8):1 = if x == 0 then 0 else even(x + 255)
@@ -51,11 +51,11 @@ both_gives : apply both 7 7 2 (byte 2 ∷ []) ≡ Gave (flag 0) 0
 both_gives = refl
 
 both_done : done_below both everywhere (byte 2 ∷ []) 12 ≡ false ∷ false ∷ false ∷ false ∷ false ∷ false ∷ false ∷ false ∷ false ∷ false ∷ true ∷ false ∷ []
-unfolding registers_at next go body_says body_wants ends loops starts loads first answer wanted
+unfolding registers_at next go body_says body_wants ends taken_loop starts loads first answer wanted
 both_done = refl
 
 both_shown : shown_in both everywhere (byte 2 ∷ []) 10 ≡ flag 0
-unfolding registers_at next go body_says body_wants ends loops starts loads first answer wanted
+unfolding registers_at next go body_says body_wants ends taken_loop starts loads first answer wanted
 both_shown = refl
 
 -- an arbiter at unit 0, and words kept at these sites
@@ -67,45 +67,45 @@ keeping k = record { arbiter = λ u. false; kept = λ j. j == k }
 
 -- f(a) + f(a + 1): the second call waits for the arbiter
 sum_done : done_below sum shared (byte 5 ∷ []) 8 ≡ false ∷ false ∷ false ∷ false ∷ false ∷ false ∷ true ∷ false ∷ []
-unfolding registers_at next go body_says body_wants ends loops starts loads first answer wanted
+unfolding registers_at next go body_says body_wants ends taken_loop starts loads first answer wanted
 sum_done = refl
 
 sum_shown : shown_in sum shared (byte 5 ∷ []) 6 ≡ byte 13
-unfolding registers_at next go body_says body_wants ends loops starts loads first answer wanted
+unfolding registers_at next go body_says body_wants ends taken_loop starts loads first answer wanted
 sum_shown = refl
 
 -- f(f(a)) needs neither an arbiter nor a kept word
 nested_done : done_below nested no_choice (byte 5 ∷ []) 8 ≡ false ∷ false ∷ false ∷ false ∷ false ∷ false ∷ true ∷ false ∷ []
-unfolding registers_at next go body_says body_wants ends loops starts loads first answer wanted
+unfolding registers_at next go body_says body_wants ends taken_loop starts loads first answer wanted
 nested_done = refl
 
 nested_shown : shown_in nested no_choice (byte 5 ∷ []) 6 ≡ byte 7
-unfolding registers_at next go body_says body_wants ends loops starts loads first answer wanted
+unfolding registers_at next go body_says body_wants ends taken_loop starts loads first answer wanted
 nested_shown = refl
 
 -- let x = f(a) in f(x) + x keeps the word of its first call
 bound_done : done_below bound (keeping 1) (byte 5 ∷ []) 8 ≡ false ∷ false ∷ false ∷ false ∷ false ∷ false ∷ true ∷ false ∷ []
-unfolding registers_at next go body_says body_wants ends loops starts loads first answer wanted
+unfolding registers_at next go body_says body_wants ends taken_loop starts loads first answer wanted
 bound_done = refl
 
 bound_shown : shown_in bound (keeping 1) (byte 5 ∷ []) 6 ≡ byte 13
-unfolding registers_at next go body_says body_wants ends loops starts loads first answer wanted
+unfolding registers_at next go body_says body_wants ends taken_loop starts loads first answer wanted
 bound_shown = refl
 
 -- which is overwritten where it is not kept
 lost_done : done_below bound no_choice (byte 5 ∷ []) 8 ≡ false ∷ false ∷ false ∷ false ∷ false ∷ false ∷ true ∷ false ∷ []
-unfolding registers_at next go body_says body_wants ends loops starts loads first answer wanted
+unfolding registers_at next go body_says body_wants ends taken_loop starts loads first answer wanted
 lost_done = refl
 
 lost_shown : shown_in bound no_choice (byte 5 ∷ []) 6 ≡ byte 14
-unfolding registers_at next go body_says body_wants ends loops starts loads first answer wanted
+unfolding registers_at next go body_says body_wants ends taken_loop starts loads first answer wanted
 lost_shown = refl
 
 -- let x = (if f(a) == 0 then 1 else g(2)) in f(3): g is not called
 decided_done : done_below decided (keeping 1) (byte 255 ∷ []) 8 ≡ false ∷ false ∷ false ∷ false ∷ false ∷ false ∷ true ∷ false ∷ []
-unfolding registers_at next go body_says body_wants ends loops starts loads first answer wanted
+unfolding registers_at next go body_says body_wants ends taken_loop starts loads first answer wanted
 decided_done = refl
 
 decided_shown : shown_in decided (keeping 1) (byte 255 ∷ []) 6 ≡ byte 4
-unfolding registers_at next go body_says body_wants ends loops starts loads first answer wanted
+unfolding registers_at next go body_says body_wants ends taken_loop starts loads first answer wanted
 decided_shown = refl

@@ -8,7 +8,7 @@ use Rattle.safl_term.specs.Program.{Program, unit_for}
 use Rattle.safl_term.specs.Meaning.{Main, main_cost, main_calls, loops}
 use Rattle.safl_term.specs.WellFormed.{AreWordsOf}
 use Rattle.safl_sites.specs.Conflicts.{IsSequential}
-use Rattle.safl_calls.specs.Machine.{Event, opening, Legal, after, last_word}
+use Rattle.safl_calls.specs.Machine.{Event, opening, Legal, after_event, last_word}
 use Rattle.safl_calls.specs.Picks.{first}
 use Rattle.safl_calls.specs.Span.{main_span}
 use Rattle.safl_net.specs.Netlist.{Netlist}
@@ -16,7 +16,7 @@ use Rattle.safl_net.specs.Valuations.{Valuation, read, read_output, IsAcyclic, r
 use Rattle.safl_net.specs.Runs.{RunFrom}
 use Rattle.safl_sites.specs.Plan.{Choice}
 use Rattle.safl_circuit.specs.Steps.{Shows, Quiet}
-use Rattle.safl_circuit.specs.Layout.{each_line, input_kind, register_kind, wire_kind, output_lines, Has}
+use Rattle.safl_circuit.specs.Layout.{each_line, input_kind, register_kind, wire_kind, output_lines, IsLineOf}
 use Rattle.safl_circuit.specs.Names.{of_function, one, numbers, registers_now, registers_in, of_site}
 use Rattle.safl_circuit.specs.Scheme.{go_up, net_events}
 
@@ -77,9 +77,9 @@ pub record Correct (C : Program) (D : Names) (n : Netlist) : Type 0 where
   pub acyclic : IsAcyclic n
   pub inputs : each_line input_kind n.signals ≡ (codes "start", 1) ∷ zip (map (λ (x : List ℕ). codes "in$" ++ x) (D.params C.main)) (C.params C.main)
   pub outputs : output_lines n ≡ (codes "done", 1) ∷ (codes "result", C.result C.main) ∷ []
-  pub running : (f : ℕ) → f < C.functions → Has (of_function D (codes "run$") (C.unit f), 1) (each_line register_kind n.signals)
-  pub starting : (k : ℕ) → 0 < k → k ≤ C.sites → Has (of_site (codes "go$") k, 1) (each_line wire_kind n.signals)
-  pub starting_main : Has (codes "go$main", 1) (each_line wire_kind n.signals)
+  pub running : (f : ℕ) → f < C.functions → IsLineOf (of_function D (codes "run$") (C.unit f), 1) (each_line register_kind n.signals)
+  pub starting : (k : ℕ) → 0 < k → k ≤ C.sites → IsLineOf (of_site (codes "go$") k, 1) (each_line wire_kind n.signals)
+  pub starting_main : IsLineOf (codes "go$main", 1) (each_line wire_kind n.signals)
   pub behaves : Behaves C D n (reset_state n)
 
 -- a state of the netlist whose registers are quiet
@@ -91,7 +91,7 @@ IsQuietState C D n state = Quiet (registers_in C D n state)
 abbrev pub StepsFrom : Program → Names → Choice → Netlist → List Word → List Event → List Valuation → Type 0
 StepsFrom C D P n args es [] = Unit {0}
 StepsFrom C D P n args es (v ∷ vs) =
-    Shows C P (after C args opening es) (registers_now C D n v)
+    Shows C P (after_event C args opening es) (registers_now C D n v)
     × ((u : ℕ) → (registers_now C D n v).res u ≡ last_word C args opening es u (as_word (C.result u) 0))
     × Legal C args opening (es ++ net_events C D n v)
     × StepsFrom C D P n args (es ++ net_events C D n v) vs

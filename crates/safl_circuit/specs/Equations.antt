@@ -94,8 +94,8 @@ loop_words C P r h = first (λ g. cond (C.unit g == C.unit h) (goes_to h (body_s
 unfoldable pub ends : Program → Choice → Registers → ℕ → Option Word
 ends C P r u = first (λ f. cond (C.unit f == u) (end_word C P r f) None) C.functions
 
-unfoldable pub loops : Program → Choice → Registers → ℕ → Option ℕ
-loops C P r u = first (λ h. cond (C.unit h == u && is_some (loop_words C P r h)) (Some h) None) C.functions
+unfoldable pub taken_loop : Program → Choice → Registers → ℕ → Option ℕ
+taken_loop C P r u = first (λ h. cond (C.unit h == u && is_some (loop_words C P r h)) (Some h) None) C.functions
 
 unfoldable pub starts : Program → Choice → Registers → Inputs → ℕ → Option ℕ
 starts C P r i u = first (λ k. cond (unit_for C k == u && go C P r i k) (Some k) None) (suc C.sites)
@@ -105,7 +105,7 @@ loads C P r i f = first (λ k. cond (C.callee k == f) (go_words C P r i k) None)
 
 -- clear: the sites in u's functions are cleared, since one of the functions ends or is looped to
 abbrev pub clears : Program → Choice → Registers → ℕ → Bool
-clears C P r u = is_some (ends C P r u) || is_some (loops C P r u)
+clears C P r u = is_some (ends C P r u) || is_some (taken_loop C P r u)
 
 -- a site or a tail call starts f; and one starts another function of f's unit
 abbrev pub starts_it : Program → Choice → Registers → Inputs → ℕ → Bool

@@ -91,9 +91,9 @@ abbrev pub output_lines : Netlist → List Line
 output_lines n = map (λ o. (o.0, width_of n o.1)) n.outputs
 
 -- the line is in the list
-abbrev pub Has : Line → List Line → Type 0
-Has x [] = ⊥
-Has x (y ∷ ys) = (y ≡ x) ⊎ Has x ys
+abbrev pub IsLineOf : Line → List Line → Type 0
+IsLineOf x [] = ⊥
+IsLineOf x (y ∷ ys) = (y ≡ x) ⊎ IsLineOf x ys
 
 -- the wires after the named ones. The one at place i among all wires has the name `n$` and i
 abbrev pub temporaries : ℕ → List ℕ → List Line

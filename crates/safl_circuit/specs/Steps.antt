@@ -2,7 +2,7 @@
 use Rattle.std.specs.Prelude.{◌≡◌, ℕ, zero, suc, ◌<◌, ◌++◌, List, [], Bool, true, false, ◌==◌, not, is_some}
 use Rattle.safl_sites.specs.Plan.{Choice}
 use Rattle.safl_circuit.specs.Equations.{Registers, Inputs, many, next, cycle_events}
-use Rattle.safl_calls.specs.Machine.{State, Mode, Runs, Delivers, Event, opening, Legal, after, last_word, is_unsent}
+use Rattle.safl_calls.specs.Machine.{State, Mode, Runs, Delivers, Event, opening, Legal, after_event, last_word, is_unsent}
 use Rattle.safl_term.specs.Readiness.{Stage, Returned, back_word}
 use Rattle.safl_term.specs.Program.{Program}
 use Rattle.safl_word.specs.Words.{Word}
@@ -57,7 +57,7 @@ history C P r0 args later (suc c) = history C P r0 args later c ++ cycle_events 
 -- word that its unit finished last, or what it held in cycle 0.
 pub record StepsAt (C : Program) (P : Choice) (r0 : Registers) (args : List Word) (later : ℕ → List Word) (c : ℕ) : Type 0 where
   pub legal : Legal C args opening (history C P r0 args later c)
-  pub shows : Shows C P (after C args opening (history C P r0 args later c)) (registers_at C P r0 args later c)
+  pub shows : Shows C P (after_event C args opening (history C P r0 args later c)) (registers_at C P r0 args later c)
   pub res : (u : ℕ) → (registers_at C P r0 args later c).res u ≡ last_word C args opening (history C P r0 args later c) u (r0.res u)
 
 -- ---- parts by name

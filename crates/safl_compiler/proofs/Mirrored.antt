@@ -1,5 +1,5 @@
 -- A net that mirrors the circuit of a program is a circuit of it too.
-use Rattle.std.proofs.Common.{ℕ, List, [], ◌∷◌, ◌++◌, Bool, false}
+use Rattle.std.proofs.Common.{ℕ, List, [], ◌∷◌, ◌++◌, Bool}
 use Rattle.safl_term.specs.Program.{Program}
 use Rattle.safl_term.specs.WellFormed.{IsWellFormed}
 use Rattle.safl_net.specs.Netlist.{Netlist, Signal}

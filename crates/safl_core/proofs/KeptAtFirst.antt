@@ -29,7 +29,7 @@ module _ (c : CheckedProgram) (args : List Word) (units : List Mode) (sites : Li
   opens idle unsent = state_is (unit_at units) (λ u. core.Idle) (stage_at sites) (λ k. plain.Unsent) (fun_ext idle) (fun_ext unsent)
 
   first_reached : state_of units sites ≡ core.opening → IsReached (shown_of c args units sites 0)
-  unfolding core.Legal core.after
+  unfolding core.Legal core.after_event
   first_reached e = record { list = []; count = refl; legal = tt; ends = sym e }
 
   first_known : ((u : ℕ) → unit_at units u ≡ core.Idle) → ((u : ℕ) → get_or answers u plain.NotYet ≡ plain.NotYet) →

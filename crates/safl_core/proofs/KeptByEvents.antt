@@ -9,7 +9,7 @@ use Rattle.safl_term.specs.Program.{Program, unit_for}
 use Rattle.safl_term.specs.Readiness.{Unsent, Sent, Returned, Answer, Ready, LoopTo, NotYet, answer, wanted, back_word, word_of}
 use Rattle.safl_term.proofs.Apart.{not_loop}
 use Rattle.safl_calls.specs.Machine.{State, Mode, Idle, Runs, Delivers, Event, Finish, Return, LoopInto, opening, put, back, says, says_as, asked}
-use Rattle.safl_calls.specs.Machine.{asked_as, Enabled, Legal, after, fire, accept, finish, give_back, loop_into, ended}
+use Rattle.safl_calls.specs.Machine.{asked_as, Enabled, Legal, after_event, fire, accept, finish, give_back, loop_into, ended}
 use Rattle.safl_calls.proofs.Basics.{serves, cond_some, put_at, put_off, after_append, after_one, legal_append, legal_one}
 use Rattle.safl_calls.proofs.Invariant.{Inv, inv_fire, inv_after, found}
 use Rattle.safl_calls.proofs.Bodies.{goes_stands}
@@ -56,12 +56,12 @@ module _ {m : Shown} {answers : List Answer} {wants : List (Option (List Word))}
       legal = subst (λ (C : CheckedProgram). Legal C.program n.args opening (h.reached.list ++ e ∷ [])) (sym p)
           (subst (λ xs. Legal m.program xs opening (h.reached.list ++ e ∷ [])) (sym a)
           (legal_append m.program m.args opening h.reached.list (e ∷ []) h.reached.legal
-          (legal_one m.program m.args (after m.program m.args opening h.reached.list) e
+          (legal_one m.program m.args (after_event m.program m.args opening h.reached.list) e
           (subst (λ t. Enabled m.program m.args t e) (sym h.reached.ends) can))));
-      ends = ap (λ (C : CheckedProgram). after C.program n.args opening (h.reached.list ++ e ∷ [])) p
-          ∙ (ap (λ xs. after m.program xs opening (h.reached.list ++ e ∷ [])) a
+      ends = ap (λ (C : CheckedProgram). after_event C.program n.args opening (h.reached.list ++ e ∷ [])) p
+          ∙ (ap (λ xs. after_event m.program xs opening (h.reached.list ++ e ∷ [])) a
           ∙ (after_append m.program m.args opening h.reached.list (e ∷ [])
-          ∙ (after_one m.program m.args (after m.program m.args opening h.reached.list) e
+          ∙ (after_one m.program m.args (after_event m.program m.args opening h.reached.list) e
           ∙ (ap (λ t. fire m.program m.args t e) h.reached.ends ∙ (sym is ∙ sym s)))));
     }
 

@@ -1,13 +1,13 @@
 -- What is kept of partial evaluation, after a unit's body was looked at anew.
-use Rattle.std.proofs.Common.{◌≡◌, ◌≢◌, ℕ, suc, ◌<◌, ◌≤◌, List, length, cond, eqb, Option, None, true, get_or, slice_set, refl, sym, ap, ◌∙◌, subst, ⊎_elim, arith}
+use Rattle.std.proofs.Common.{◌≡◌, ◌≢◌, ℕ, suc, ◌<◌, ◌≤◌, List, length, cond, eqb, Option, None, true, get_or, slice_set, sym, ap, ◌∙◌, subst, ⊎_elim, arith}
 use Rattle.std.proofs.lemmas.Bool.{cases_eq, eq-eqb, ne_eqb}
 use Rattle.std.proofs.lemmas.List.{get_or-set_other, get_or-set_same}
 use Rattle.safl_word.specs.Words.{Word, widths}
 use Rattle.safl_term.specs.Checked.{CheckedProgram, IsChecked}
 use Rattle.safl_term.specs.Program.{Program}
-use Rattle.safl_term.specs.Readiness.{Answer, NotYet, wanted}
+use Rattle.safl_term.specs.Readiness.{Answer, NotYet}
 use Rattle.safl_term.specs.WellFormed.{HasWidth}
-use Rattle.safl_calls.specs.Machine.{State, Mode, Idle, Runs, Delivers, back, says, asked_as}
+use Rattle.safl_calls.specs.Machine.{State, back, says, asked_as}
 use Rattle.safl_calls.proofs.Numbered.{Numbered}
 use Rattle.safl_evaluate.specs.declared.stage.Stage.{Stage}
 use Rattle.safl_evaluate.specs.Evaluating.{CanRun, Unasked}
@@ -15,7 +15,6 @@ use Rattle.safl_core.specs.declared.spans.Span.{Span}
 use Rattle.safl_core.specs.Knowing.{IsKnown, BackFits}
 use Rattle.safl_core.specs.Spans.{IsSpan}
 use Rattle.safl_core.specs.States.{ChangesWithin}
-use Rattle.safl_evaluate.proofs.RunsByParts.{not_wanted}
 
 -- a function's body may be evaluated with arguments of the widths of its parameters
 pub body_can : (c : CheckedProgram) (S : List Stage) (n : ℕ) (E : List Word) (f : ℕ) → IsChecked c → f < c.program.functions → widths E ≡
@@ -74,20 +73,6 @@ module _ (C : Program) (u : ℕ) (asks asks1 : List (Option (List Word)))
 
   pub cleared_off : (k : ℕ) → 0 < k → k ≤ C.sites → (C.unit (C.caller k) ≡ u → ⊥) → get_or asks1 k None ≡ get_or asks k None
   cleared_off k pos le apart = clears k pos le ∙ ap (λ b. cond b None (get_or asks k None)) (ne_eqb (C.unit (C.caller k)) u apart)
-
--- a running body wants its own sites alone
-pub own_wants : (C : Program) (b : ℕ → Option Word) (f j : ℕ) (args : List Word) (k : ℕ) → Numbered C → f < C.functions → wanted b args (C.body f) k ≡ asked_as C b (Runs f j args) (C.caller k) k
-own_wants C b f j args k good lt = ⊎_elim
-    (λ same. sym (ap (λ t. cond t (wanted b args (C.body (C.caller k)) k) None) (eq-eqb f (C.caller k) same) ∙ ap (λ g. wanted b args (C.body g) k) (sym same)))
-    (λ other. not_wanted b args (C.body f) k (λ st. other (sym (good.own f k lt st).2)) ∙ sym (ap (λ t. cond t (wanted b args (C.body (C.caller k)) k) None) (ne_eqb f (C.caller k) other)))
-    (cases_eq f (C.caller k))
-
--- a unit wants no site of another unit
-pub asked_off : (C : Program) (b : ℕ → Option Word) (u k : ℕ) (m : Mode) → ((f j : ℕ) (ws : List Word) → m ≡ Runs f j ws → C.unit f ≡ u) →
-    (C.unit (C.caller k) ≡ u → ⊥) → asked_as C b m (C.caller k) k ≡ None
-asked_off C b u k Idle own apart = refl
-asked_off C b u k (Delivers j v) own apart = refl
-asked_off C b u k (Runs f j ws) own apart = ap (λ t. cond t (wanted b ws (C.body (C.caller k)) k) None) (ne_eqb f (C.caller k) (λ q. apart (sym (ap C.unit q) ∙ own f j ws refl)))
 
 -- no site of a unit's body is asked for where what it asked for was forgotten
 pub cleared_unasked : (C : Program) (u f : ℕ) (asks : List (Option (List Word))) → Numbered C → f < C.functions → C.unit f ≡ u

@@ -13,7 +13,7 @@ use Rattle.safl_word.specs.Words.{Word, widths}
 use Rattle.safl_term.specs.Meaning.{loops}
 use Rattle.safl_term.specs.Program.{Program, unit_for}
 use Rattle.safl_term.specs.Readiness.{Stage, Unsent, Sent, Returned, Answer, Ready, LoopTo, NotYet, back_word}
-use Rattle.safl_calls.specs.Machine.{State, Mode, Idle, Runs, Delivers, Event, Accept, Finish, Return, LoopInto, opening, after, asked, asked_as, back, says, Enabled, is_unsent}
+use Rattle.safl_calls.specs.Machine.{State, Mode, Idle, Runs, Delivers, Event, Accept, Finish, Return, LoopInto, opening, after_event, asked, asked_as, back, says, Enabled, is_unsent}
 use Rattle.safl_calls.proofs.FromWellFormed.{numbered}
 use Rattle.safl_calls.proofs.MachineLaws as law
 use Rattle.safl_core.specs.Outcomes.{IsValue, IsBounded, GoesOn, IsOver}
@@ -30,7 +30,7 @@ returned_is Sent v e = absurd (none-some v e)
 returned_is (Returned w) v e = ap Returned (same_Some w v e)
 
 module _ {m : Shown} {answers : List Answer} {wants : List (Option (List Word))} {room : ℕ} (h : IsKept m answers wants room) where
-  ends : (v : Word) → back_word ((state m).site 0) ≡ Some v → (after m.program m.args opening h.reached.list).site 0 ≡ Returned v
+  ends : (v : Word) → back_word ((state m).site 0) ≡ Some v → (after_event m.program m.args opening h.reached.list).site 0 ≡ Returned v
   ends v e = ap (λ s. s.site 0) h.reached.ends ∙ returned_is ((state m).site 0) v e
 
   pub sized : widths m.args ≡ m.program.params m.program.main

@@ -57,41 +57,42 @@ mutual
 
 module _ {C : Program} {plan : Plan} {n : ℕ} (good : Numbered C) (lies : IsPlan C plan n) where
   -- a unit whose mode, whose sites and whose cells are the same
-  pub remembers_still : (B B1 : ℕ → Option Word) (M M1 : List modes_declared.Mode) (A A1 : Asks) (W W1 : List Kept) (v : ℕ) → unit_at M1 v ≡ unit_at M v
-      → ((j : ℕ) → 0 < j → j ≤ C.sites → C.unit (C.caller j) ≡ v → (B j ≡ B1 j) × (get_or A1 j None ≡ get_or A j None))
-      → ((f q : ℕ) → f < C.functions → C.unit f ≡ v → body_at plan f ≤ q → q < body_at plan f + nodes (C.body f) → cell W1 q ≡ cell W q)
-      → Remembers C plan B M A W v → Remembers C plan B1 M1 A1 W1 v
-  remembers_still B B1 M M1 A A1 W W1 v same sites cells h = record {
+  pub remembers_still : (given given' : ℕ → Option Word) (modes modes' : List modes_declared.Mode) (noted noted' : Asks) (table table' : List Kept) (v : ℕ) → unit_at modes' v ≡ unit_at modes v
+      → ((j : ℕ) → 0 < j → j ≤ C.sites → C.unit (C.caller j) ≡ v → (given j ≡ given' j) × (get_or noted' j None ≡ get_or noted j None))
+      → ((f q : ℕ) → f < C.functions → C.unit f ≡ v → body_at plan f ≤ q → q < body_at plan f + nodes (C.body f) → cell table' q ≡ cell table q)
+      → Remembers C plan given modes noted table v → Remembers C plan given' modes' noted' table' v
+  remembers_still given given' modes modes' noted noted' table table' v same sites cells h = record {
     member = λ f k ws r. h.member f k ws (sym same ∙ r);
     holds = λ f k ws r.
-        let runs : unit_at M v ≡ Runs f k ws = sym same ∙ r in
+        let runs : unit_at modes v ≡ Runs f k ws = sym same ∙ r in
         let m = h.member f k ws runs in
-        let own : (j : ℕ) → Stands j (C.body f) → (B j ≡ B1 j) × (get_or A1 j None ≡ get_or A j None) =
+        let own : (j : ℕ) → Stands j (C.body f) → (given j ≡ given' j) × (get_or noted' j None ≡ get_or noted j None) =
         λ j st. let o = good.own f j m.1 st in sites j o.0 o.1 (ap C.unit o.2 ∙ m.0) in
-        holds_frame B1 ws A A1 W W1 (body_at plan f) (C.body f)
-        (holds_local B B1 ws A W (body_at plan f) (C.body f) (h.holds f k ws runs) (λ j st. (own j st).0))
+        holds_frame given' ws noted noted' table table' (body_at plan f) (C.body f)
+        (holds_local given given' ws noted table (body_at plan f) (C.body f) (h.holds f k ws runs) (λ j st. (own j st).0))
         (λ q x y. cells f q m.1 m.0 x y)
         (λ j st. (own j st).1);
   }
 
   -- the cells of another body, where those of one body may differ
-  pub cells_apart : (f g q : ℕ) {A A1 : Asks} {W W1 : List Kept} → Only (body_at plan f) (body_at plan f + nodes (C.body f))
-      (λ k. Stands k (C.body f)) A A1 W W1 → f < C.functions → g < C.functions → g ≢ f
-      → body_at plan g ≤ q → q < body_at plan g + nodes (C.body g) → cell W1 q ≡ cell W q
+  pub cells_apart : (f g q : ℕ) {noted noted' : Asks} {table table' : List Kept} → Only (body_at plan f) (body_at plan f + nodes (C.body f))
+      (λ k. Stands k (C.body f)) noted noted' table table' → f < C.functions → g < C.functions → g ≢ f
+      → body_at plan g ≤ q → q < body_at plan g + nodes (C.body g) → cell table' q ≡ cell table q
   cells_apart f g q o lf lg ne x y = ⊎_elim
       (λ lt. o.below q (omega (arith, lies.apart g f lt lf, y)))
       (λ ge. o.above q (omega (arith, lies.apart f g (omega (arith, ge, ne)) lg, x)))
       (cases_lt g f)
 
   -- the asks of the sites of another unit, where those of one body may differ
-  pub asks_apart : (f j v : ℕ) {A A1 : Asks} {W W1 : List Kept} {p u : ℕ} → Only p u (λ k. Stands k (C.body f)) A A1 W W1 → f < C.functions → C.unit f
-      ≢ v → C.unit (C.caller j) ≡ v → get_or A1 j None ≡ get_or A j None
+  pub asks_apart : (f j v : ℕ) {noted noted' : Asks} {table table' : List Kept} {p u : ℕ} → Only p u (λ k. Stands k (C.body f)) noted noted' table table' → f < C.functions → C.unit f
+      ≢ v → C.unit (C.caller j) ≡ v → get_or noted' j None ≡ get_or noted j None
   asks_apart f j v o lf ne is = o.asks j (λ st. ne (sym (ap C.unit (good.own f j lf st).2) ∙ is))
 
   -- a body was looked at: another unit is remembered as before
-  pub remembers_other : (B : ℕ → Option Word) (M : List modes_declared.Mode) (A A1 : Asks) (W W1 : List Kept) (f u v : ℕ) → f < C.functions → C.unit f ≡ u → v ≢ u
-      → Only (body_at plan f) (body_at plan f + nodes (C.body f)) (λ k. Stands k (C.body f)) A A1 W W1 → Remembers C plan B M A W v → Remembers C plan B M A1 W1 v
-  remembers_other B M A A1 W W1 f u v lf is ne o h = remembers_still B B M M A A1 W W1 v refl
+  pub remembers_other : (given : ℕ → Option Word) (modes : List modes_declared.Mode) (noted noted' : Asks) (table table' : List Kept) (f u v : ℕ) → f < C.functions → C.unit f ≡ u → v ≢ u
+      → Only (body_at plan f) (body_at plan f + nodes (C.body f)) (λ k. Stands k (C.body f)) noted noted' table table' → Remembers C plan given modes noted table v
+      → Remembers C plan given modes noted' table' v
+  remembers_other given modes noted noted' table table' f u v lf is ne o h = remembers_still given given modes modes noted noted' table table' v refl
       (λ j pos le own. (refl, asks_apart f j v o lf (λ q. ne (sym q ∙ is)) own))
       (λ g q lg own x y. cells_apart f g q o lf lg (λ e. ne (sym own ∙ (ap C.unit e ∙ is))) x y)
       h
@@ -116,21 +117,22 @@ module _ {C : Program} {plan : Plan} {n : ℕ} (good : Numbered C) (lies : IsPla
       (cases_eq v (unit_for C k))
 
   -- what is asked for of a unit that runs a body is what the body wants
-  pub wants_held : (B : ℕ → Option Word) (A A0 : Asks) (W : List Kept) (f k : ℕ) (ws : List Word) → f < C.functions → Holds B ws A W (body_at plan f) (C.body f)
-      → ((j : ℕ) → (Stands j (C.body f) → ⊥) → get_or A j None ≡ get_or A0 j None)
-      → ((j : ℕ) → 0 < j → j ≤ C.sites → C.unit (C.caller j) ≡ C.unit f → (Stands j (C.body f) → ⊥) → get_or A0 j None ≡ None)
-      → (j : ℕ) → 0 < j → j ≤ C.sites → C.unit (C.caller j) ≡ C.unit f → get_or A j None ≡ asked_as C B (Runs f k ws) (C.caller j) j
-  wants_held B A A0 W f k ws lf h same quiet j pos le own = ⊎_elim
+  pub wants_held : (given : ℕ → Option Word) (noted first_noted : Asks) (table : List Kept) (f k : ℕ) (ws : List Word) → f < C.functions → Holds given ws noted table (body_at plan f) (C.body f)
+      → ((j : ℕ) → (Stands j (C.body f) → ⊥) → get_or noted j None ≡ get_or first_noted j None)
+      → ((j : ℕ) → 0 < j → j ≤ C.sites → C.unit (C.caller j) ≡ C.unit f → (Stands j (C.body f) → ⊥) → get_or first_noted j None ≡ None)
+      → (j : ℕ) → 0 < j → j ≤ C.sites → C.unit (C.caller j) ≡ C.unit f → get_or noted j None ≡ asked_as C given (Runs f k ws) (C.caller j) j
+  wants_held given noted first_noted table f k ws lf h same quiet j pos le own = ⊎_elim
       (λ st.
       let is : C.caller j ≡ f = (good.own f j lf st).2 in
-      asked_held B ws A W (body_at plan f) (C.body f) (good.once f lf) h.1 j st
-      ∙ sym (ap (λ t. cond t (wanted B ws (C.body (C.caller j)) j) None) (eq-eqb f (C.caller j) (sym is)) ∙ ap (λ g. wanted B ws (C.body g) j) is))
+      asked_held given ws noted table (body_at plan f) (C.body f) (good.once f lf) h.1 j st
+      ∙ sym (ap (λ t. cond t (wanted given ws (C.body (C.caller j)) j) None) (eq-eqb f (C.caller j) (sym is)) ∙ ap (λ g. wanted given ws (C.body g) j) is))
       (λ off. same j off ∙ (quiet j pos le own off ∙ sym (none off (cases_eq f (C.caller j)))))
       (stands_or_not j (C.body f))
     where
-      none : (Stands j (C.body f) → ⊥) → (f ≡ C.caller j) ⊎ (f ≡ C.caller j → ⊥) → asked_as C B (Runs f k ws) (C.caller j) j ≡ None
-      none off (inl e) = ap (λ t. cond t (wanted B ws (C.body (C.caller j)) j) None) (eq-eqb f (C.caller j) e) ∙ (ap (λ g. wanted B ws (C.body g) j) (sym e) ∙ not_wanted B ws (C.body f) j off)
-      none off (inr ne) = ap (λ t. cond t (wanted B ws (C.body (C.caller j)) j) None) (ne_eqb f (C.caller j) ne)
+      none : (Stands j (C.body f) → ⊥) → (f ≡ C.caller j) ⊎ (f ≡ C.caller j → ⊥) → asked_as C given (Runs f k ws) (C.caller j) j ≡ None
+      none off (inl e) = ap (λ t. cond t (wanted given ws (C.body (C.caller j)) j) None) (eq-eqb f (C.caller j) e)
+          ∙ (ap (λ g. wanted given ws (C.body g) j) (sym e) ∙ not_wanted given ws (C.body f) j off)
+      none off (inr ne) = ap (λ t. cond t (wanted given ws (C.body (C.caller j)) j) None) (ne_eqb f (C.caller j) ne)
 
 -- ---- a body that was looked at
 
@@ -144,87 +146,92 @@ words_of Idle = []
 words_of (Runs f k ws) = ws
 words_of (Delivers k v) = []
 
-module _ {C : Program} {plan : Plan} {n : ℕ} (good : Numbered C) (lies : IsPlan C plan n) (B : ℕ → Option Word) (M : List modes_declared.Mode)
-    (A A1 : Asks) (W W1 : List Kept) (u f k : ℕ) (ws : List Word)
-    (runs : unit_at M u ≡ Runs f k ws) (is : C.unit f ≡ u) (lf : f < C.functions) (o : Only (body_at plan f) (body_at plan f + nodes (C.body f)) (λ j. Stands j (C.body f)) A A1 W W1) where
+module _ {C : Program} {plan : Plan} {n : ℕ} (good : Numbered C) (lies : IsPlan C plan n) (given : ℕ → Option Word) (modes : List modes_declared.Mode)
+    (noted noted' : Asks) (table table' : List Kept) (u f k : ℕ) (ws : List Word)
+    (runs : unit_at modes u ≡ Runs f k ws) (is : C.unit f ≡ u) (lf : f < C.functions)
+    (o : Only (body_at plan f) (body_at plan f + nodes (C.body f)) (λ j. Stands j (C.body f)) noted noted' table table') where
   -- the sites of its unit are wanted as the body wants them
-  pub wants_found : Holds B ws A1 W1 (body_at plan f) (C.body f) → {news : Option ℕ} → MayRenew C plan B news M A W u
-      → (j : ℕ) → 0 < j → j ≤ C.sites → C.unit (C.caller j) ≡ u → get_or A1 j None ≡ asked_as C B (unit_at M u) (C.caller j) j
-  wants_found holds may j pos le own = wants_held good lies B A1 A W1 f k ws lf holds (λ i off. o.asks i off)
+  pub wants_found : Holds given ws noted' table' (body_at plan f) (C.body f) → {news : Option ℕ} → MayRenew C plan given news modes noted table u
+      → (j : ℕ) → 0 < j → j ≤ C.sites → C.unit (C.caller j) ≡ u → get_or noted' j None ≡ asked_as C given (unit_at modes u) (C.caller j) j
+  wants_found holds may j pos le own = wants_held good lies given noted' noted table' f k ws lf holds (λ i off. o.asks i off)
       (λ i p l q off. may.quiet i p l (q ∙ is) (λ g m vs r st. off (subst (λ x. Stands i (C.body x)) (sym (ap member_of (sym runs ∙ r))) st)))
       j pos le (own ∙ sym is)
-      ∙ ap (λ m. asked_as C B m (C.caller j) j) (sym runs)
+      ∙ ap (λ m. asked_as C given m (C.caller j) j) (sym runs)
 
   -- those of other units as before
-  pub others_found : (j : ℕ) → 0 < j → j ≤ C.sites → (C.unit (C.caller j) ≡ u → ⊥) → get_or A1 j None ≡ get_or A j None
+  pub others_found : (j : ℕ) → 0 < j → j ≤ C.sites → (C.unit (C.caller j) ≡ u → ⊥) → get_or noted' j None ≡ get_or noted j None
   others_found j pos le apart = o.asks j (λ st. apart (ap C.unit (good.own f j lf st).2 ∙ is))
 
   -- what is kept is right for this unit, and for each other one for which it was
-  pub recalls_found : Holds B ws A1 W1 (body_at plan f) (C.body f) → (v : ℕ) → ((v ≡ u → ⊥) → Remembers C plan B M A W v) → Remembers C plan B M A1 W1 v
+  pub recalls_found : Holds given ws noted' table' (body_at plan f) (C.body f) → (v : ℕ) → ((v ≡ u → ⊥) → Remembers C plan given modes noted table v) → Remembers C plan given modes noted' table' v
   recalls_found holds v before = ⊎_elim
-      (λ e. subst (λ x. Remembers C plan B M A1 W1 x) (sym e) (record {
+      (λ e. subst (λ x. Remembers C plan given modes noted' table' x) (sym e) (record {
         member = λ g m vs r. let same : f ≡ g = ap member_of (sym runs ∙ r) in (subst (λ x. C.unit x ≡ u) same is, subst (λ x. x < C.functions) same lf);
         holds = λ g m vs r.
-            subst (λ x. Holds B vs A1 W1 (body_at plan x) (C.body x)) (ap member_of (sym runs ∙ r))
-            (subst (λ (x : List Word). Holds B x A1 W1 (body_at plan f) (C.body f)) (ap words_of (sym runs ∙ r)) holds);
+            subst (λ x. Holds given vs noted' table' (body_at plan x) (C.body x)) (ap member_of (sym runs ∙ r))
+            (subst (λ (x : List Word). Holds given x noted' table' (body_at plan f) (C.body f)) (ap words_of (sym runs ∙ r)) holds);
       }))
-      (λ ne. remembers_other good lies B M A A1 W W1 f u v lf is ne o (before ne))
+      (λ ne. remembers_other good lies given modes noted noted' table table' f u v lf is ne o (before ne))
       (cases_eq v u)
 
 -- the body that a unit runs may be looked at, with its arguments in the first slots; and what is kept of it afterwards
-module _ {C : Program} {plan : Plan} (S : List Stage) (M : List modes_declared.Mode) (A : Asks) (F : List Word) (W : List Kept) (u f k slots : ℕ)
-    (args : List Word) (lies : IsPlan C plan (length W)) (lf : f < C.functions)
-    (filled : take slots F ≡ args) where
-  pub may_look : {news : Option ℕ} → CanRun S (length A) args (C.body f) → slots + nodes (C.body f) ≤ length F → unit_at M u ≡ Runs f k args → MayRenew C plan (back_at S) news M A W u
-      → MayLook S plan.places.items A F W slots (body_at plan f) news (C.body f)
+module _ {C : Program} {plan : Plan} (stages : List Stage) (modes : List modes_declared.Mode) (noted : Asks) (frame : List Word) (table : List Kept) (u f k slots : ℕ)
+    (args : List Word) (lies : IsPlan C plan (length table)) (lf : f < C.functions)
+    (filled : take slots frame ≡ args) where
+  pub may_look : {news : Option ℕ} → CanRun stages (length noted) args (C.body f) → slots + nodes (C.body f) ≤ length frame → unit_at modes u ≡ Runs f k args
+      → MayRenew C plan (back_at stages) news modes noted table u
+      → MayLook stages plan.places.items noted frame table slots (body_at plan f) news (C.body f)
   may_look {news} can room runs may = record {
-    can = subst (λ (l : List Word). CanRun S (length A) l (C.body f)) (sym filled) can;
+    can = subst (λ (l : List Word). CanRun stages (length noted) l (C.body f)) (sym filled) can;
     room = room;
     laid = lies.laid f lf;
     places = omega (arith, lies.within f lf, lies.places);
     cells = lies.within f lf;
-    stood = subst (λ (l : List Word). Stood (back_at S) news l A W (body_at plan f) (C.body f)) (sym filled) (may.stood f k args runs);
+    stood = subst (λ (l : List Word). Stood (back_at stages) news l noted table (body_at plan f) (C.body f)) (sym filled) (may.stood f k args runs);
   }
 
-  pub held_body : {A1 : Asks} {W1 : List Kept} {o : Option Word} → Finds S A A1 F W W1 slots (body_at plan f) (C.body f) o → Holds (back_at S) args A1 W1 (body_at plan f) (C.body f)
-  held_body {A1} {W1} {o} h = subst (λ (l : List Word). Holds (back_at S) l A1 W1 (body_at plan f) (C.body f)) filled h.holds
+  pub held_body : {noted' : Asks} {table' : List Kept} {o : Option Word} → Finds stages noted noted' frame table table' slots (body_at plan f) (C.body f) o
+      → Holds (back_at stages) args noted' table' (body_at plan f) (C.body f)
+  held_body {noted'} {table'} {o} h = subst (λ (l : List Word). Holds (back_at stages) l noted' table' (body_at plan f) (C.body f)) filled h.holds
 
 -- a unit that runs nothing
-module _ {C : Program} {plan : Plan} (B : ℕ → Option Word) (M : List modes_declared.Mode) (A : Asks) (W : List Kept) (u : ℕ) (idle : (f k : ℕ) (ws : List Word) → unit_at M u ≡ Runs f k ws → ⊥) where
-  pub recalls_idle : (v : ℕ) → ((v ≡ u → ⊥) → Remembers C plan B M A W v) → Remembers C plan B M A W v
+module _ {C : Program} {plan : Plan} (given : ℕ → Option Word) (modes : List modes_declared.Mode) (noted : Asks) (table : List Kept) (u : ℕ)
+    (idle : (f k : ℕ) (ws : List Word) → unit_at modes u ≡ Runs f k ws → ⊥) where
+  pub recalls_idle : (v : ℕ) → ((v ≡ u → ⊥) → Remembers C plan given modes noted table v) → Remembers C plan given modes noted table v
   recalls_idle v before = ⊎_elim
-      (λ e. subst (λ x. Remembers C plan B M A W x) (sym e) (record { member = λ f k ws r. absurd (idle f k ws r); holds = λ f k ws r. absurd (idle f k ws r) }))
+      (λ e. subst (λ x. Remembers C plan given modes noted table x) (sym e) (record { member = λ f k ws r. absurd (idle f k ws r); holds = λ f k ws r. absurd (idle f k ws r) }))
       before
       (cases_eq v u)
 
 -- ---- a unit that returns a word to site k
 
 -- the words that had come back before are those without that of k
-before : (B B1 : ℕ → Option Word) (k : ℕ) → B k ≡ None → ((j : ℕ) → j ≢ k → B1 j ≡ B j) → (j : ℕ) → B j ≡ without B1 k j
-before B B1 k none off j = ⊎_elim
-    (λ e. ap B (sym e) ∙ (none ∙ sym (ap (λ t. cond t None (B1 j)) (eq-eqb k j e))))
-    (λ ne. sym (ap (λ t. cond t None (B1 j)) (ne_eqb k j ne) ∙ off j (λ q. ne (sym q))))
+before : (given given' : ℕ → Option Word) (k : ℕ) → given k ≡ None → ((j : ℕ) → j ≢ k → given' j ≡ given j) → (j : ℕ) → given j ≡ without given' k j
+before given given' k none off j = ⊎_elim
+    (λ e. ap given (sym e) ∙ (none ∙ sym (ap (λ t. cond t None (given' j)) (eq-eqb k j e))))
+    (λ ne. sym (ap (λ t. cond t None (given' j)) (ne_eqb k j ne) ∙ off j (λ q. ne (sym q))))
     (cases_eq k j)
 
 module _ {C : Program} {plan : Plan} (good : Numbered C) where
-  pub may_renew : (B B1 : ℕ → Option Word) (M M1 : List modes_declared.Mode) (A : Asks) (W : List Kept) (k u : ℕ) → B k ≡ None → ((j : ℕ) → j ≢ k → B1 j ≡ B j) → unit_at M1 u ≡ unit_at M u
-      → ((j : ℕ) → 0 < j → j ≤ C.sites → C.unit (C.caller j) ≡ u → get_or A j None ≡ asked_as C B (unit_at M u) (C.caller j) j)
-      → Remembers C plan B M A W u → MayRenew C plan B1 (Some k) M1 A W u
-  may_renew B B1 M M1 A W k u none off same wants h = record {
-    stood = λ f i ws r. holds_local B (without B1 k) ws A W (body_at plan f) (C.body f) (h.holds f i ws (sym same ∙ r)) (λ j st. before B B1 k none off j);
-    quiet = λ j pos le own apart. wants j pos le own ∙ silent (unit_at M u) refl j own (λ f i ws r. apart f i ws (same ∙ r));
+  pub may_renew : (given given' : ℕ → Option Word) (modes modes' : List modes_declared.Mode) (noted : Asks) (table : List Kept) (k u : ℕ) → given k ≡ None
+      → ((j : ℕ) → j ≢ k → given' j ≡ given j) → unit_at modes' u ≡ unit_at modes u
+      → ((j : ℕ) → 0 < j → j ≤ C.sites → C.unit (C.caller j) ≡ u → get_or noted j None ≡ asked_as C given (unit_at modes u) (C.caller j) j)
+      → Remembers C plan given modes noted table u → MayRenew C plan given' (Some k) modes' noted table u
+  may_renew given given' modes modes' noted table k u none off same wants h = record {
+    stood = λ f i ws r. holds_local given (without given' k) ws noted table (body_at plan f) (C.body f) (h.holds f i ws (sym same ∙ r)) (λ j st. before given given' k none off j);
+    quiet = λ j pos le own apart. wants j pos le own ∙ silent (unit_at modes u) refl j own (λ f i ws r. apart f i ws (same ∙ r));
   }
     where
-      silent : (m : Mode) → unit_at M u ≡ m → (j : ℕ) → C.unit (C.caller j) ≡ u →
-          ((f i : ℕ) (ws : List Word) → unit_at M u ≡ Runs f i ws → Stands j (C.body f) → ⊥) → asked_as C B (unit_at M u) (C.caller j) j ≡ None
-      silent Idle e j own apart = ap (λ m. asked_as C B m (C.caller j) j) e
-      silent (Delivers i v) e j own apart = ap (λ m. asked_as C B m (C.caller j) j) e
-      silent (Runs f i ws) e j own apart = ap (λ m. asked_as C B m (C.caller j) j) e ∙ by (cases_eq f (C.caller j))
+      silent : (m : Mode) → unit_at modes u ≡ m → (j : ℕ) → C.unit (C.caller j) ≡ u →
+          ((f i : ℕ) (ws : List Word) → unit_at modes u ≡ Runs f i ws → Stands j (C.body f) → ⊥) → asked_as C given (unit_at modes u) (C.caller j) j ≡ None
+      silent Idle e j own apart = ap (λ m. asked_as C given m (C.caller j) j) e
+      silent (Delivers i v) e j own apart = ap (λ m. asked_as C given m (C.caller j) j) e
+      silent (Runs f i ws) e j own apart = ap (λ m. asked_as C given m (C.caller j) j) e ∙ by (cases_eq f (C.caller j))
         where
-          by : (f ≡ C.caller j) ⊎ (f ≡ C.caller j → ⊥) → asked_as C B (Runs f i ws) (C.caller j) j ≡ None
-          by (inl q) = ap (λ t. cond t (wanted B ws (C.body (C.caller j)) j) None) (eq-eqb f (C.caller j) q) ∙
-              (ap (λ g. wanted B ws (C.body g) j) (sym q) ∙ not_wanted B ws (C.body f) j (apart f i ws e))
-          by (inr ne) = ap (λ t. cond t (wanted B ws (C.body (C.caller j)) j) None) (ne_eqb f (C.caller j) ne)
+          by : (f ≡ C.caller j) ⊎ (f ≡ C.caller j → ⊥) → asked_as C given (Runs f i ws) (C.caller j) j ≡ None
+          by (inl q) = ap (λ t. cond t (wanted given ws (C.body (C.caller j)) j) None) (eq-eqb f (C.caller j) q) ∙
+              (ap (λ g. wanted given ws (C.body g) j) (sym q) ∙ not_wanted given ws (C.body f) j (apart f i ws e))
+          by (inr ne) = ap (λ t. cond t (wanted given ws (C.body (C.caller j)) j) None) (ne_eqb f (C.caller j) ne)
 
   pub can_renew : (s t : State) (k : ℕ) (word : Word) → Inv C (calls_of s) → 0 < k → (calls_of s).unit (unit_for C k) ≡ Delivers k word → Steps C s t (give_back C (calls_of s) k (Delivers k word))
       → ((j : ℕ) → 0 < j → j ≤ C.sites → C.unit (C.caller j) ≡ C.unit (C.caller k) → get_or s.wants.each.items j None ≡ asked_as C (back (calls_of s))
@@ -252,41 +259,42 @@ module _ {C : Program} {plan : Plan} (good : Numbered C) where
 
 -- ---- the same under other names
 
-pub look_as : {S S1 : List Stage} {P P1 : List Place} {A A1 : Asks} {F F1 : List Word} {W W1 : List Kept} {n n1 p p1 : ℕ} {news : Option ℕ} {t t1 : Term}
-    → S1 ≡ S → P1 ≡ P → A1 ≡ A → F1 ≡ F → W1 ≡ W → n1 ≡ n → p1 ≡ p → t1 ≡ t → MayLook S P A F W n p news t → MayLook S1 P1 A1 F1 W1 n1 p1 news t1
-look_as {S} {S1} {P} {P1} {A} {A1} {F} {F1} {W} {W1} {n} {n1} {p} {p1} {news} {t} {t1} a b c d e f g i h =
-    subst (λ (x : List Stage). MayLook x P1 A1 F1 W1 n1 p1 news t1) (sym a)
-    (subst (λ (x : List Place). MayLook S x A1 F1 W1 n1 p1 news t1) (sym b)
-    (subst (λ (x : Asks). MayLook S P x F1 W1 n1 p1 news t1) (sym c)
-    (subst (λ (x : List Word). MayLook S P A x W1 n1 p1 news t1) (sym d)
-    (subst (λ (x : List Kept). MayLook S P A F x n1 p1 news t1) (sym e)
-    (subst (λ (x : ℕ). MayLook S P A F W x p1 news t1) (sym f)
-    (subst (λ (x : ℕ). MayLook S P A F W n x news t1) (sym g)
-    (subst (λ (x : Term). MayLook S P A F W n p news x) (sym i) h)))))))
+pub look_as : {stages stages' : List Stage} {P P1 : List Place} {noted noted' : Asks} {frame frame' : List Word} {table table' : List Kept} {n n1 p p1 : ℕ} {news : Option ℕ} {t t1 : Term}
+    → stages' ≡ stages → P1 ≡ P → noted' ≡ noted → frame' ≡ frame → table' ≡ table → n1 ≡ n → p1 ≡ p → t1 ≡ t → MayLook stages P noted frame table n p news t
+    → MayLook stages' P1 noted' frame' table' n1 p1 news t1
+look_as {stages} {stages'} {P} {P1} {noted} {noted'} {frame} {frame'} {table} {table'} {n} {n1} {p} {p1} {news} {t} {t1} a b c d e f g i h =
+    subst (λ (x : List Stage). MayLook x P1 noted' frame' table' n1 p1 news t1) (sym a)
+    (subst (λ (x : List Place). MayLook stages x noted' frame' table' n1 p1 news t1) (sym b)
+    (subst (λ (x : Asks). MayLook stages P x frame' table' n1 p1 news t1) (sym c)
+    (subst (λ (x : List Word). MayLook stages P noted x table' n1 p1 news t1) (sym d)
+    (subst (λ (x : List Kept). MayLook stages P noted frame x n1 p1 news t1) (sym e)
+    (subst (λ (x : ℕ). MayLook stages P noted frame table x p1 news t1) (sym f)
+    (subst (λ (x : ℕ). MayLook stages P noted frame table n x news t1) (sym g)
+    (subst (λ (x : Term). MayLook stages P noted frame table n p news x) (sym i) h)))))))
 
-pub finds_as : {S S1 : List Stage} {A A1 A2 : Asks} {F F1 : List Word} {W W1 W2 : List Kept} {n p p1 : ℕ} {t t1 : Term} {o : Option Word}
-    → S1 ≡ S → A1 ≡ A → F1 ≡ F → W1 ≡ W → p1 ≡ p → t1 ≡ t → Finds S1 A1 A2 F1 W1 W2 n p1 t1 o → Finds S A A2 F W W2 n p t o
-finds_as {S} {S1} {A} {A1} {A2} {F} {F1} {W} {W1} {W2} {n} {p} {p1} {t} {t1} {o} a c d e g i h =
-    subst (λ (x : List Stage). Finds x A A2 F W W2 n p t o) a
-    (subst (λ (x : Asks). Finds S1 x A2 F W W2 n p t o) c
-    (subst (λ (x : List Word). Finds S1 A1 A2 x W W2 n p t o) d
-    (subst (λ (x : List Kept). Finds S1 A1 A2 F1 x W2 n p t o) e
-    (subst (λ (x : ℕ). Finds S1 A1 A2 F1 W1 W2 n x t o) g
-    (subst (λ (x : Term). Finds S1 A1 A2 F1 W1 W2 n p1 x o) i h)))))
+pub finds_as : {stages stages' : List Stage} {noted noted' A2 : Asks} {frame frame' : List Word} {table table' W2 : List Kept} {n p p1 : ℕ} {t t1 : Term} {o : Option Word}
+    → stages' ≡ stages → noted' ≡ noted → frame' ≡ frame → table' ≡ table → p1 ≡ p → t1 ≡ t → Finds stages' noted' A2 frame' table' W2 n p1 t1 o → Finds stages noted A2 frame table W2 n p t o
+finds_as {stages} {stages'} {noted} {noted'} {A2} {frame} {frame'} {table} {table'} {W2} {n} {p} {p1} {t} {t1} {o} a c d e g i h =
+    subst (λ (x : List Stage). Finds x noted A2 frame table W2 n p t o) a
+    (subst (λ (x : Asks). Finds stages' x A2 frame table W2 n p t o) c
+    (subst (λ (x : List Word). Finds stages' noted' A2 x table W2 n p t o) d
+    (subst (λ (x : List Kept). Finds stages' noted' A2 frame' x W2 n p t o) e
+    (subst (λ (x : ℕ). Finds stages' noted' A2 frame' table' W2 n x t o) g
+    (subst (λ (x : Term). Finds stages' noted' A2 frame' table' W2 n p1 x o) i h)))))
 
-pub remembers_as : {C : Program} {plan : Plan} {B : ℕ → Option Word} {M : List modes_declared.Mode} {A A1 : Asks} {W W1 : List Kept} {v : ℕ} → A1 ≡ A
-    → W1 ≡ W → Remembers C plan B M A W v → Remembers C plan B M A1 W1 v
-remembers_as {C} {plan} {B} {M} {A} {A1} {W} {W1} {v} a e h =
-    subst (λ (x : Asks). Remembers C plan B M x W1 v) (sym a) (subst (λ (x : List Kept). Remembers C plan B M A x v) (sym e) h)
+pub remembers_as : {C : Program} {plan : Plan} {given : ℕ → Option Word} {modes : List modes_declared.Mode} {noted noted' : Asks} {table table' : List Kept} {v : ℕ} → noted' ≡ noted
+    → table' ≡ table → Remembers C plan given modes noted table v → Remembers C plan given modes noted' table' v
+remembers_as {C} {plan} {given} {modes} {noted} {noted'} {table} {table'} {v} a e h =
+    subst (λ (x : Asks). Remembers C plan given modes x table' v) (sym a) (subst (λ (x : List Kept). Remembers C plan given modes noted x v) (sym e) h)
 
 -- ---- a unit that runs nothing says nothing, and asks for nothing
 
-pub idle_says : (C : Program) (B : ℕ → Option Word) (m : Mode) → ((f k : ℕ) (ws : List Word) → m ≡ Runs f k ws → ⊥) → says_as C B m ≡ NotYet
-idle_says C B Idle h = refl
-idle_says C B (Runs f k ws) h = absurd (h f k ws refl)
-idle_says C B (Delivers k v) h = refl
+pub idle_says : (C : Program) (given : ℕ → Option Word) (m : Mode) → ((f k : ℕ) (ws : List Word) → m ≡ Runs f k ws → ⊥) → says_as C given m ≡ NotYet
+idle_says C given Idle h = refl
+idle_says C given (Runs f k ws) h = absurd (h f k ws refl)
+idle_says C given (Delivers k v) h = refl
 
-pub idle_asks : (C : Program) (B : ℕ → Option Word) (m : Mode) (g j : ℕ) → ((f k : ℕ) (ws : List Word) → m ≡ Runs f k ws → ⊥) → asked_as C B m g j ≡ None
-idle_asks C B Idle g j h = refl
-idle_asks C B (Runs f k ws) g j h = absurd (h f k ws refl)
-idle_asks C B (Delivers k v) g j h = refl
+pub idle_asks : (C : Program) (given : ℕ → Option Word) (m : Mode) (g j : ℕ) → ((f k : ℕ) (ws : List Word) → m ≡ Runs f k ws → ⊥) → asked_as C given m g j ≡ None
+idle_asks C given Idle g j h = refl
+idle_asks C given (Runs f k ws) g j h = absurd (h f k ws refl)
+idle_asks C given (Delivers k v) g j h = refl

@@ -10,7 +10,7 @@ use Rattle.safl_word.specs.Words.{Word}
 use Rattle.safl_word.specs.Naturals.{number_after}
 use Rattle.safl_term.specs.Checked.{CheckedProgram}
 use Rattle.safl_term.specs.Meaning.{Main, main_cost, loops}
-use Rattle.safl_calls.specs.Machine.{Event, opening, after, fire, Enabled}
+use Rattle.safl_calls.specs.Machine.{Event, opening, after_event, fire, Enabled}
 use Rattle.safl_calls.proofs.Basics.{legal_append, legal_one}
 use Rattle.safl_calls.proofs.FromWellFormed.{numbered}
 use Rattle.safl_calls.proofs.MachineLaws as law
@@ -45,7 +45,7 @@ short_of {m} h on = λ v d.
     let C = m.program in
     let e = on.0 in
     let can = subst (λ s. Enabled C m.args s e) (sym h.reached.ends) on.1 in
-    let legal = legal_append C m.args opening h.reached.list (e ∷ []) h.reached.legal (legal_one C m.args (after C m.args opening h.reached.list) e can) in
+    let legal = legal_append C m.args opening h.reached.list (e ∷ []) h.reached.legal (legal_one C m.args (after_event C m.args opening h.reached.list) e can) in
     let b = law.bounded C C.functions (numbered C h.checked.formed) h.checked.formed.numbered m.args (h.reached.list ++ e ∷ []) legal v d in
     omega (arith, b, length_push h.reached.list e, h.reached.count)
 

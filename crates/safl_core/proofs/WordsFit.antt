@@ -9,7 +9,7 @@ use Rattle.safl_term.specs.WellFormed.{IsWellFormed, HasWidth}
 use Rattle.safl_term.proofs.Widths.{answer_width, loop_widths, wanted_widths}
 use Rattle.safl_term.proofs.Apart.{not_loop}
 use Rattle.safl_calls.specs.Machine.{State, Mode, Idle, Runs, Delivers, Event, Accept, Finish, Return, LoopInto, opening, put, back, says, says_as}
-use Rattle.safl_calls.specs.Machine.{asked, asked_as, Enabled, Legal, after, fire, accept, finish, give_back, loop_into, ended}
+use Rattle.safl_calls.specs.Machine.{asked, asked_as, Enabled, Legal, after_event, fire, accept, finish, give_back, loop_into, ended}
 use Rattle.safl_calls.proofs.Basics.{serves, put_at, put_off, some_none, cond_some}
 use Rattle.safl_calls.proofs.Invariant.{Inv, inv_fire, inv_open}
 use Rattle.safl_calls.proofs.FromWellFormed.{numbered}
@@ -159,8 +159,8 @@ module _ (C : Program) (wf : IsWellFormed C) where
             subst (λ x. Fits C (loop_into C s (C.unit m) x (says C s (C.unit m)))) (sym q)
             (subst (λ a. Fits C (loop_into C s (C.unit m) (Runs f k ws) a)) (sym h.1) (fits_loop m f k ws h.0 q h.1))
 
-  pub fits_all : (args : List Word) → widths args ≡ C.params C.main → (s : State) (es : List Event) → Inv C s → Fits C s → Legal C args s es → Fits C (after C args s es)
-  unfolding Legal after
+  pub fits_all : (args : List Word) → widths args ≡ C.params C.main → (s : State) (es : List Event) → Inv C s → Fits C s → Legal C args s es → Fits C (after_event C args s es)
+  unfolding Legal after_event
   fits_all args given s [] inv fits legal = fits
   fits_all args given s (e ∷ es) inv fits legal = fits_all args given (fire C args s e) es (inv_fire C args (numbered C wf) s e inv legal.0) (fits_fire args given s inv fits e legal.0) legal.1
 
@@ -175,5 +175,5 @@ module _ (C : Program) (wf : IsWellFormed C) where
       nothing zero v e = some_none v (sym e)
       nothing (suc k) v e = some_none v (sym e)
 
-  pub fits_after : (args : List Word) (es : List Event) → widths args ≡ C.params C.main → Legal C args opening es → Fits C (after C args opening es)
+  pub fits_after : (args : List Word) (es : List Event) → widths args ≡ C.params C.main → Legal C args opening es → Fits C (after_event C args opening es)
   fits_after args es given legal = fits_all args given opening es (inv_open C args (numbered C wf)) fits_open legal

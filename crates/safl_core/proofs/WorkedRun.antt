@@ -5,7 +5,7 @@ use Rattle.safl_word.specs.declared.primitive.Primitive.TheVariants.{Eq, Sub}
 use Rattle.safl_term.specs.Terms.{Term, Terms, Const, Var, Op, If, Call, Loop, Nil, Cons}
 use Rattle.safl_term.specs.Program.{Program}
 use Rattle.safl_term.specs.Readiness.{Returned, answer, wanted}
-use Rattle.safl_calls.specs.Machine.{Event, Accept, Finish, Return, LoopInto, opening, after}
+use Rattle.safl_calls.specs.Machine.{Event, Accept, Finish, Return, LoopInto, opening, after_event}
 use Rattle.safl_calls.specs.Picks.{picks}
 use Rattle.safl_core.specs.Listing.{listed}
 
@@ -43,18 +43,18 @@ given = byte 3 ∷ []
 abbrev events : List Event
 events = Accept 0 ∷ Accept 1 ∷ LoopInto 1 ∷ LoopInto 0 ∷ LoopInto 1 ∷ Finish 1 ∷ Return 1 ∷ Finish 2 ∷ Return 0 ∷ []
 
-returned : (after parity given opening events).site 0 ≡ Returned (bit 0)
-unfolding after answer wanted
+returned : (after_event parity given opening events).site 0 ≡ Returned (bit 0)
+unfolding after_event answer wanted
 returned = refl
 
 first_listed : listed parity given opening ≡ Accept 0 ∷ []
 unfolding picks answer wanted
 first_listed = refl
 
-looping_listed : listed parity given (after parity given opening (Accept 0 ∷ Accept 1 ∷ [])) ≡ LoopInto 1 ∷ []
-unfolding picks after answer wanted
+looping_listed : listed parity given (after_event parity given opening (Accept 0 ∷ Accept 1 ∷ [])) ≡ LoopInto 1 ∷ []
+unfolding picks after_event answer wanted
 looping_listed = refl
 
-none_listed : listed parity given (after parity given opening events) ≡ []
-unfolding picks after answer wanted
+none_listed : listed parity given (after_event parity given opening events) ≡ []
+unfolding picks after_event answer wanted
 none_listed = refl

@@ -38,7 +38,7 @@ pub record IsReached (m : Shown) : Type 0 where
   pub list : List core.Event
   pub count : length list ≡ m.events
   pub legal : core.Legal m.program m.args core.opening list
-  pub ends : core.after m.program m.args core.opening list ≡ state m
+  pub ends : core.after_event m.program m.args core.opening list ≡ state m
 
 -- the event is enabled now
 abbrev pub CanFire : Shown → core.Event → Type 0

@@ -1,12 +1,11 @@
 //! Firing an event.
 
-ghost use Rattle.std.specs.Prelude.{◌≡◌, ℕ, ◌<◌, ◌≤◌, length, get_or};
+ghost use Rattle.std.specs.Prelude.{◌≡◌, ℕ, ◌<◌, length, get_or};
 ghost use Rattle.safl_term.specs.Readiness as plain;
 ghost use Rattle.safl_calls.specs.Machine as core;
 ghost use Rattle.safl_core.specs.Modes.{unit_at};
 ghost use Rattle.safl_evaluate.specs.Laying.{IsPlan};
 ghost use Rattle.safl_core.specs.Shown.{serves_of, word_given, event_of};
-ghost use Rattle.safl_evaluate.specs.Answers.{args_given};
 ghost use Rattle.safl_core.specs.States.{IsStateAfter, Leads, Recalls, calls_of};
 
 use crate::event::Event;

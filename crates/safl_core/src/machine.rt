@@ -52,8 +52,7 @@ impl<'a> Model for Machine<'a> {
 }
 
 impl<'a> Machine<'a> {
-    ghost use Rattle.std.specs.Prelude.{◌≡◌, ◌+◌, ◌-◌, ◌^◌, ◌<◌, ◌≤◌, ◌↔◌, Err, IsTrue, IfOk, IfSome, IfNone, IsNone, IsSome, suc, length};
-    ghost use Rattle.safl_calls.specs.Machine as core;
+    ghost use Rattle.std.specs.Prelude.{◌≡◌, ◌+◌, ◌-◌, ◌^◌, ◌<◌, ◌≤◌, ◌↔◌, Err, IsTrue, IfOk, IfSome, IfNone, IsNone, IsSome};
     ghost use Rattle.safl_term.specs.Readiness.{back_word};
     ghost use Rattle.safl_word.specs.Words.{widths};
     ghost use Rattle.safl_core.specs.Listing.{busy};

@@ -1,6 +1,6 @@
 //! The members of a unit, and the sites in their bodies.
 
-ghost use Rattle.std.specs.Prelude.{◌≡◌, ℕ, suc, ◌<◌, ◌≤◌};
+ghost use Rattle.std.specs.Prelude.{◌≡◌, ◌<◌, ◌≤◌};
 ghost use Rattle.safl_term.specs.Checked.{IsChecked};
 ghost use Rattle.safl_core.specs.Spans.{IsSpan, EndsMembers};
 

@@ -1,22 +1,19 @@
 -- What a term comes to and wants, by its parts.
-use Rattle.std.proofs.Common.{◌≡◌, ℕ, suc, ◌+◌, ◌<◌, ◌≤◌, List, [], ◌∷◌, ◌++◌, length, take, drop, cond, eqb, Option, Some, None, Bool, true}
-use Rattle.std.proofs.Common.{false, get_or, slice_set, refl, sym, ap, ◌∙◌, subst, ⊎_elim, arith}
-use Rattle.std.proofs.lemmas.Bool.{cases_eq, eq-eqb, ne_eqb}
-use Rattle.std.proofs.lemmas.List.{get_or-set_other, get_or-set_same, drop-set, get_or-take, get_or_read, length-take, take-take}
+use Rattle.std.proofs.Common.{◌≡◌, ℕ, suc, ◌+◌, ◌<◌, ◌≤◌, List, [], ◌∷◌, ◌++◌, length, take, drop, cond, Option, Some, None, Bool, true}
+use Rattle.std.proofs.Common.{false, get_or, slice_set, refl, sym, ap, ◌∙◌, subst, arith}
+use Rattle.std.proofs.lemmas.List.{drop-set, get_or-take, get_or_read, length-take, take-take}
 use Rattle.std.proofs.Math.Seq.{take-add}
 use Rattle.safl_term.specs.Sizes.{nodes_in}
 use Rattle.safl_word.specs.Words.{Word, slot, pick, no_word}
 use Rattle.safl_word.specs.declared.primitive.Primitive.{Primitive}
 use Rattle.safl_word.proofs.Words.{pick_other}
-use Rattle.safl_term.specs.Readiness.{Answer, Ready, LoopTo, NotYet, answer, answers, wanted, wanted_in, or_else, select, with_all, both, apply_to, loop_to, ready_from, word_of}
+use Rattle.safl_term.specs.Readiness.{Answer, Ready, LoopTo, NotYet, answer, answers, select, with_all, both, apply_to, loop_to, ready_from, word_of}
 use Rattle.safl_calls.proofs.Basics.{some_none}
 use Rattle.safl_term.specs.Terms.{Term, Const, Var, If, Let, Op, Call, Loop, Terms, Nil, Cons}
 use Rattle.safl_term.specs.declared.term.Term as declared
 use Rattle.safl_term.specs.Tree.{shown_term, shown_terms}
 use Rattle.safl_term.proofs.Once.{count}
 use Rattle.safl_term.proofs.PlainTerms.{loop_word, some_nodes}
-use Rattle.safl_term.proofs.OrElse.{or_else_assoc, or_else_none}
-use Rattle.safl_evaluate.specs.Evaluating.{Notes}
 
 -- one word before others
 abbrev pub joined : Word → Option (List Word) → Option (List Word)
@@ -48,19 +45,6 @@ back_word_from : (o : Option Word) → ready_from (word_of (ready_from o)) ≡ r
 back_word_from None = refl
 back_word_from (Some v) = refl
 
-pub notes_none : (A : List (Option (List Word))) (w : ℕ → Option (List Word)) → ((k : ℕ) → w k ≡ None) → Notes A A w
-notes_none A w h = record { each = λ k. sym (ap (or_else (get_or A k None)) (h k) ∙ or_else_none (get_or A k None)) }
-
--- one part, and then another
-pub notes_both : {A A1 A2 : List (Option (List Word))} {u v w : ℕ → Option (List Word)} → Notes A A1 u → Notes A1 A2 v → ((k : ℕ) → or_else (u k) (v k) ≡ w k) → Notes A A2 w
-notes_both {A} {A1} {A2} {u} {v} {w} f g h = record {
-  each = λ k. g.each k ∙
-      (ap (λ o. or_else o (v k)) (f.each k) ∙ (or_else_assoc (get_or A k None) (u k) (v k) ∙ ap (or_else (get_or A k None)) (h k)));
-}
-
-pub notes_same : {A A1 : List (Option (List Word))} {u w : ℕ → Option (List Word)} → Notes A A1 u → ((k : ℕ) → u k ≡ w k) → Notes A A1 w
-notes_same {A} {A1} {u} {w} f h = record { each = λ k. f.each k ∙ ap (or_else (get_or A k None)) (h k) }
-
 module _ (B : ℕ → Option Word) where
   pub answer_is : {E F : List Word} {t u : Term} → E ≡ F → t ≡ u → answer B E t ≡ answer B F u
   answer_is {E} {F} {t} {u} e f = ap (λ l. answer B l t) e ∙ ap (answer B F) f
@@ -68,28 +52,14 @@ module _ (B : ℕ → Option Word) where
   pub answers_is : {E F : List Word} {t u : Terms} → E ≡ F → t ≡ u → answers B E t ≡ answers B F u
   answers_is {E} {F} {t} {u} e f = ap (λ l. answers B l t) e ∙ ap (answers B F) f
 
-  pub notes_is : {A A1 : List (Option (List Word))} {E F : List Word} {t u : Term} → E ≡ F → t ≡ u → Notes A A1 (wanted B E t) → Notes A A1 (wanted B F u)
-  notes_is {A} {A1} {E} {F} {t} {u} e f h = subst (λ l. Notes A A1 (wanted B l u)) e (subst (λ x. Notes A A1 (wanted B E x)) f h)
-
-  pub notes_in_is : {A A1 : List (Option (List Word))} {E F : List Word} {t u : Terms} → E ≡ F → t ≡ u → Notes A A1 (wanted_in B E t) → Notes A A1 (wanted_in B F u)
-  notes_in_is {A} {A1} {E} {F} {t} {u} e f h = subst (λ l. Notes A A1 (wanted_in B l u)) e (subst (λ x. Notes A A1 (wanted_in B E x)) f h)
-
 module _ (B : ℕ → Option Word) (E : List Word) where
   pub answer_const : (w : Word) → answer B E (Const w) ≡ Ready w
   unfolding answer
   answer_const w = refl
 
-  pub notes_const : (A : List (Option (List Word))) (w : Word) → Notes A A (wanted B E (Const w))
-  unfolding wanted
-  notes_const A w = notes_none A _ (λ k. refl)
-
   pub answer_var : (i : ℕ) → answer B E (Var i) ≡ Ready (slot E i)
   unfolding answer
   answer_var i = refl
-
-  pub notes_var : (A : List (Option (List Word))) (i : ℕ) → Notes A A (wanted B E (Var i))
-  unfolding wanted
-  notes_var A i = notes_none A _ (λ k. refl)
 
   module _ (c a b : Term) where
     pub answer_then : (v : Word) → Some v ≡ word_of (answer B E c) → v.bits ≡ 1 → answer B E a ≡ answer B E (If c a b)
@@ -104,22 +74,6 @@ module _ (B : ℕ → Option Word) (E : List Word) where
     unfolding answer
     answer_if_not e = sym (select_not (answer B E c) NotYet (answer B E a) (answer B E b) e)
 
-    pub notes_then : {A A1 A2 : List (Option (List Word))} (v : Word) → Some v ≡ word_of (answer B E c) → v.bits ≡ 1 → Notes A A1 (wanted B E c) →
-        Notes A1 A2 (wanted B E a) → Notes A A2 (wanted B E (If c a b))
-    unfolding wanted
-    notes_then v e one f g = notes_both f g (λ k. ap (or_else (wanted B E c k))
-        (sym (ap (λ q. select q None (wanted B E a k) (wanted B E b k)) (sym (ready_as (answer B E c) v e)) ∙ ap (λ n. pick n (wanted B E a k) (wanted B E b k)) one)))
-
-    pub notes_else : {A A1 A2 : List (Option (List Word))} (v : Word) → Some v ≡ word_of (answer B E c) → (v.bits ≡ 1 → ⊥) → Notes A A1 (wanted B E c)
-        → Notes A1 A2 (wanted B E b) → Notes A A2 (wanted B E (If c a b))
-    unfolding wanted
-    notes_else v e other f g = notes_both f g (λ k. ap (or_else (wanted B E c k))
-        (sym (ap (λ q. select q None (wanted B E a k) (wanted B E b k)) (sym (ready_as (answer B E c) v e)) ∙ pick_other v.bits (wanted B E a k) (wanted B E b k) other)))
-
-    pub notes_if_not : {A A1 : List (Option (List Word))} → None ≡ word_of (answer B E c) → Notes A A1 (wanted B E c) → Notes A A1 (wanted B E (If c a b))
-    unfolding wanted
-    notes_if_not e f = notes_same f (λ k. sym (ap (or_else (wanted B E c k)) (select_not (answer B E c) None (wanted B E a k) (wanted B E b k) e) ∙ or_else_none (wanted B E c k)))
-
   module _ (ts : Terms) where
     pub answer_let : (b : Term) (vs : List Word) → answers B E ts ≡ Some vs → answer B (E ++ vs) b ≡ answer B E (Let ts b)
     unfolding answer
@@ -129,22 +83,9 @@ module _ (B : ℕ → Option Word) (E : List Word) where
     unfolding answer
     answer_let_not b e = sym (ap (λ o. with_all o NotYet (λ us. answer B (E ++ us) b)) e)
 
-    pub notes_let : {A A1 A2 : List (Option (List Word))} (b : Term) (vs : List Word) → answers B E ts ≡ Some vs → Notes A A1 (wanted_in B E ts) →
-        Notes A1 A2 (wanted B (E ++ vs) b) → Notes A A2 (wanted B E (Let ts b))
-    unfolding wanted
-    notes_let b vs e f g = notes_both f g (λ k. ap (or_else (wanted_in B E ts k)) (sym (ap (λ o. with_all o None (λ us. wanted B (E ++ us) b k)) e)))
-
-    pub notes_let_not : {A A1 : List (Option (List Word))} (b : Term) → answers B E ts ≡ None → Notes A A1 (wanted_in B E ts) → Notes A A1 (wanted B E (Let ts b))
-    unfolding wanted
-    notes_let_not b e f = notes_same f (λ k. sym (ap (λ o. or_else (wanted_in B E ts k) (with_all o None (λ us. wanted B (E ++ us) b k))) e ∙ or_else_none (wanted_in B E ts k)))
-
     pub answer_op : (p : Primitive) → apply_to p (answers B E ts) ≡ answer B E (Op p ts)
     unfolding answer
     answer_op p = refl
-
-    pub notes_op : {A A1 : List (Option (List Word))} (p : Primitive) → Notes A A1 (wanted_in B E ts) → Notes A A1 (wanted B E (Op p ts))
-    unfolding wanted
-    notes_op p f = notes_same f (λ k. refl)
 
     pub answer_loop : (h : ℕ) (vs : List Word) → answers B E ts ≡ Some vs → LoopTo h vs ≡ answer B E (Loop h ts)
     unfolding answer
@@ -166,40 +107,9 @@ module _ (B : ℕ → Option Word) (E : List Word) where
     unfolding answer
     word_loop h = loop_word h (answers B E ts)
 
-    pub notes_loop : {A A1 : List (Option (List Word))} (h : ℕ) → Notes A A1 (wanted_in B E ts) → Notes A A1 (wanted B E (Loop h ts))
-    unfolding wanted
-    notes_loop h f = notes_same f (λ k. refl)
-
     pub answer_call : (f k : ℕ) → ready_from (B k) ≡ answer B E (Call f k ts)
     unfolding answer
     answer_call f k = refl
-
-    -- the site was not asked for before, and stands outside its own arguments
-    pub notes_call : {A A1 : List (Option (List Word))} (f j : ℕ) (vs : List Word) → get_or A j None ≡ None → j < length A1 → answers B E ts ≡ Some vs
-        → Notes A A1 (wanted_in B E ts) → Notes A (slice_set A1 j (Some vs)) (wanted B E (Call f j ts))
-    unfolding wanted
-    notes_call {A} {A1} f j vs none lt e notes = record { each = λ k. ⊎_elim (λ same. at k same) (λ other. off k other) (cases_eq j k) }
-      where
-        at : (k : ℕ) → j ≡ k → get_or (slice_set A1 j (Some vs)) k None ≡ or_else (get_or A k None) (cond (eqb j k) (answers B E ts) (wanted_in B E ts k))
-        at k same = subst (λ n. get_or (slice_set A1 j (Some vs)) n None ≡ or_else (get_or A n None) (cond (eqb j n) (answers B E ts) (wanted_in B E ts n))) same
-            (get_or-set_same A1 j (Some vs) None lt ∙ sym (ap (λ o. or_else o (cond (eqb j j) (answers B E ts) (wanted_in B E ts j))) none ∙
-            (ap (λ b. cond b (answers B E ts) (wanted_in B E ts j)) (eq-eqb j j refl) ∙ e)))
-
-        off : (k : ℕ) → (j ≡ k → ⊥) → get_or (slice_set A1 j (Some vs)) k None ≡ or_else (get_or A k None) (cond (eqb j k) (answers B E ts) (wanted_in B E ts k))
-        off k other = get_or-set_other A1 j k (Some vs) None (λ q. other (sym q)) ∙
-            (notes.each k ∙ ap (λ b. or_else (get_or A k None) (cond b (answers B E ts) (wanted_in B E ts k))) (sym (ne_eqb j k other)))
-
-    pub notes_asked : {A A1 : List (Option (List Word))} (f j : ℕ) (vs : List Word) (o : Option (List Word)) → o ≡ Some vs → get_or A j None ≡ None →
-        j < length A1 → answers B E ts ≡ Some vs → Notes A A1 (wanted_in B E ts) → Notes A (slice_set A1 j o) (wanted B E (Call f j ts))
-    notes_asked {A} {A1} f j vs o is none lt e notes = subst (λ (x : Option (List Word)). Notes A (slice_set A1 j x) (wanted B E (Call f j ts))) (sym is) (notes_call f j vs none lt e notes)
-
-    pub notes_call_not : {A A1 : List (Option (List Word))} (f j : ℕ) → wanted_in B E ts j ≡ None → answers B E ts ≡ None → Notes A A1 (wanted_in B E ts) → Notes A A1 (wanted B E (Call f j ts))
-    unfolding wanted
-    notes_call_not f j none e notes = notes_same notes (λ k. ⊎_elim
-        (λ same. subst (λ n. wanted_in B E ts n ≡ cond (eqb j n) (answers B E ts) (wanted_in B E ts n)) same
-        (none ∙ sym (ap (λ b. cond b (answers B E ts) (wanted_in B E ts j)) (eq-eqb j j refl) ∙ e)))
-        (λ other. sym (ap (λ b. cond b (answers B E ts) (wanted_in B E ts k)) (ne_eqb j k other)))
-        (cases_eq j k))
 
     pub answers_more : (t : Term) (v : Word) (o : Option (List Word)) → Some v ≡ word_of (answer B E t) → answers B E ts ≡ o → answers B E (Cons t ts) ≡ both (Ready v) o
     unfolding answer
@@ -209,17 +119,9 @@ module _ (B : ℕ → Option Word) (E : List Word) where
     unfolding answer
     answers_not t e = both_not (answer B E t) (answers B E ts) e
 
-    pub notes_more : {A A1 A2 : List (Option (List Word))} (t : Term) → Notes A A1 (wanted B E t) → Notes A1 A2 (wanted_in B E ts) → Notes A A2 (wanted_in B E (Cons t ts))
-    unfolding wanted
-    notes_more t f g = notes_both f g (λ k. refl)
-
   pub answers_nil : answers B E Nil ≡ Some []
   unfolding answer
   answers_nil = refl
-
-  pub notes_nil : (A : List (Option (List Word))) → Notes A A (wanted_in B E Nil)
-  unfolding wanted
-  notes_nil A = notes_none A _ (λ k. refl)
 
 module _ (B : ℕ → Option Word) (E : List Word) where
   pub answers_one : (a : Term) (v : Word) → Some v ≡ word_of (answer B E a) → answers B E (Cons a Nil) ≡ Some (v ∷ [])
@@ -227,10 +129,6 @@ module _ (B : ℕ → Option Word) (E : List Word) where
 
   pub answers_two : (a b : Term) (v w : Word) → Some v ≡ word_of (answer B E a) → Some w ≡ word_of (answer B E b) → answers B E (Cons a (Cons b Nil)) ≡ Some (v ∷ w ∷ [])
   answers_two a b v w e f = answers_more B E (Cons b Nil) a v (Some (w ∷ [])) e (answers_one b w f)
-
-  -- the second of two operands is not ready
-  pub second_not : (a b : Term) (v : Word) → Some v ≡ word_of (answer B E a) → None ≡ word_of (answer B E b) → answers B E (Cons a (Cons b Nil)) ≡ None
-  second_not a b v e f = answers_more B E (Cons b Nil) a v None e (answers_not B E Nil b f)
 
 pub count_forest : (ts : List declared.Term) → count (shown_terms ts) ≡ length ts
 count_forest [] = refl
@@ -254,19 +152,7 @@ pub words_more : (F : List Word) (at n : ℕ) (v : Word) (r : Bool) → at < len
 words_more F at n v false lt = refl
 words_more F at n v true lt = ap Some (sym (ap (take (suc n)) (drop-set F at v lt)))
 
--- ---- a term by parts that are known under other names
-
-pub call_by : {t : Term} {ts us : Terms} (f k : ℕ) → t ≡ Call f k ts → us ≡ ts → t ≡ Call f k us
-call_by f k e g = e ∙ ap (Call f k) (sym g)
-
-pub loop_by : {t : Term} {ts us : Terms} (h : ℕ) → t ≡ Loop h ts → us ≡ ts → t ≡ Loop h us
-loop_by h e f = e ∙ ap (Loop h) (sym f)
-
-pub notes_as : (B : ℕ → Option Word) (E : List Word) {A A1 : List (Option (List Word))} {t u : Term} → t ≡ u → Notes A A1 (wanted B E u) → Notes A A1 (wanted B E t)
-notes_as B E {A} {A1} {t} {u} e h = subst (λ x. Notes A A1 (wanted B E x)) (sym e) h
-
-pub notes_in_as : (B : ℕ → Option Word) (E : List Word) {A A1 : List (Option (List Word))} {t u : Terms} → t ≡ u → Notes A A1 (wanted_in B E u) → Notes A A1 (wanted_in B E t)
-notes_in_as B E {A} {A1} {t} {u} e h = subst (λ x. Notes A A1 (wanted_in B E x)) (sym e) h
+-- ---- lists of terms, and slots
 
 pub forest_nodes : (ts : List declared.Term) → length ts ≤ nodes_in (shown_terms ts)
 forest_nodes [] = omega arith

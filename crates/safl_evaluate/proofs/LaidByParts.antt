@@ -58,10 +58,6 @@ pub laid_still : {P P1 : List Place} {f u : ℕ} (p : ℕ) (t : Term) → SameOu
 laid_still {P} {P1} p t o (inl e) h = laid_frame P P1 p t h (λ q x y. o.below q (omega (arith, e, y)))
 laid_still {P} {P1} p t o (inr e) h = laid_frame P P1 p t h (λ q x y. o.above q (omega (arith, e, x)))
 
-pub laid_in_still : {P P1 : List Place} {f u : ℕ} (p : ℕ) (ts : Terms) → SameOutside f u P P1 → (p + nodes_in ts ≤ f) ⊎ (u ≤ p) → LaidIn P p ts → LaidIn P1 p ts
-laid_in_still {P} {P1} p ts o (inl e) h = laid_in_frame P P1 p ts h (λ q x y. o.below q (omega (arith, e, y)))
-laid_in_still {P} {P1} p ts o (inr e) h = laid_in_frame P P1 p ts h (λ q x y. o.above q (omega (arith, e, x)))
-
 pub outside_more : {f u g v : ℕ} {P P1 : List Place} → SameOutside f u P P1 → g ≤ f → u ≤ v → SameOutside g v P P1
 outside_more o x y = record { below = λ q m. o.below q (omega (arith, m, x)); above = λ q m. o.above q (omega (arith, m, y)) }
 

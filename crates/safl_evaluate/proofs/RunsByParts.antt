@@ -275,9 +275,6 @@ module _ {S : List Stage} {n : ℕ} {E : List Word} where
   pub loop_few : (m : ℕ) (ts : Terms) → CanRun S n E (Loop m ts) → count ts ≤ 16
   loop_few m ts h = omega (arith, counts_as h.program (widths E) ts (h.program.params m) h.fits.0, h.few m)
 
-  pub call_first : (f k : ℕ) (ts : Terms) → CanRun S n E (Call f k ts) → 1 ≤ k
-  call_first f k ts h = omega (arith, h.spans.0, h.first)
-
   pub call_place : (f k : ℕ) (ts : Terms) → CanRun S n E (Call f k ts) → k < n
   call_place f k ts h = omega (arith, h.spans.0, h.within, fits_all_le h.program h.caller (suc h.low) h.high ts h.spans.4)
 
@@ -311,28 +308,6 @@ not_wanted_in B E ts k apart = by (wanted_in B E ts k) refl
 still : {A A1 : List (Option (List Word))} {w : ℕ → Option (List Word)} (k : ℕ) → get_or A k None ≡ None → Notes A A1 w → w k ≡ None → get_or A1 k None ≡ None
 still k none notes off = notes.each k ∙ neither _ _ none off
 
-module _ {S : List Stage} {n : ℕ} {E : List Word} {A : List (Option (List Word))} where
-  pub unasked_then : {A1 : List (Option (List Word))} (c a b : Term) → CanRun S n E (If c a b) → Unasked A (If c a b) → Notes A A1 (wanted (back_at S) E c) → Unasked A1 a
-  unfolding Stands Once
-  unasked_then c a b can h notes = record { none = λ k st. still k (h.none k (inr (inl st))) notes (not_wanted (back_at S) E c k (λ q. (once (If c a b) can).3 k q (inl st))) }
-
-  pub unasked_else : {A1 : List (Option (List Word))} (c a b : Term) → CanRun S n E (If c a b) → Unasked A (If c a b) → Notes A A1 (wanted (back_at S) E c) → Unasked A1 b
-  unfolding Stands Once
-  unasked_else c a b can h notes = record { none = λ k st. still k (h.none k (inr (inr st))) notes (not_wanted (back_at S) E c k (λ q. (once (If c a b) can).3 k q (inr st))) }
-
-  pub unasked_body : {A1 : List (Option (List Word))} (ts : Terms) (b : Term) → CanRun S n E (Let ts b) → Unasked A (Let ts b) → Notes A A1 (wanted_in (back_at S) E ts) → Unasked A1 b
-  unfolding Stands Once
-  unasked_body ts b can h notes = record { none = λ k st. still k (h.none k (inr st)) notes (not_wanted_in (back_at S) E ts k (λ q. (once (Let ts b) can).2 k q st)) }
-
-  pub unasked_rest : {A1 : List (Option (List Word))} (t : Term) (ts : Terms) → CanRunAll S n E (Cons t ts) → UnaskedIn A (Cons t ts) → Notes A A1 (wanted (back_at S) E t) → UnaskedIn A1 ts
-  unfolding Stands Once
-  unasked_rest t ts can h notes = record { none = λ k st. still k (h.none k (inr st)) notes (not_wanted (back_at S) E t k (λ q. (once_in (Cons t ts) can).2 k q st)) }
-
-  -- a call's site is asked for by no argument
-  pub call_apart : (f k : ℕ) (ts : Terms) → CanRun S n E (Call f k ts) → Unasked A (Call f k ts) → (get_or A k None ≡ None) × (wanted_in (back_at S) E ts k ≡ None)
-  unfolding Stands Once
-  call_apart f k ts can h = (h.none k (inl refl), not_wanted_in (back_at S) E ts k (λ q. (once (Call f k ts) can).1 q))
-
 module _ {A : List (Option (List Word))} where
   pub unasked_condition : (c a b : Term) → Unasked A (If c a b) → Unasked A c
   unfolding Stands
@@ -357,9 +332,3 @@ module _ {A : List (Option (List Word))} where
   pub unasked_first : (t : Term) (ts : Terms) → UnaskedIn A (Cons t ts) → Unasked A t
   unfolding Stands
   unasked_first t ts h = record { none = λ k st. h.none k (inl st) }
-
-pub unasked_is : {A : List (Option (List Word))} {t u : Term} → t ≡ u → Unasked A t → Unasked A u
-unasked_is {A} {t} {u} e h = subst (λ x. Unasked A x) e h
-
-pub unasked_in_is : {A : List (Option (List Word))} {t u : Terms} → t ≡ u → UnaskedIn A t → UnaskedIn A u
-unasked_in_is {A} {t} {u} e h = subst (λ x. UnaskedIn A x) e h

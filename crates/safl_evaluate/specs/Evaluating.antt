@@ -1,9 +1,8 @@
 -- What partial evaluation finds and keeps.
-use Rattle.std.specs.Prelude.{◌≡◌, ◌+◌, ℕ, ◌≤◌, List, length, take, Option, Some, None, Bool, get_or}
+use Rattle.std.specs.Prelude.{◌≡◌, ℕ, ◌≤◌, List, length, Option, Some, None, Bool, get_or}
 use Rattle.safl_word.specs.Words.{Word, widths}
 use Rattle.safl_term.specs.Program.{Program, arity}
 use Rattle.safl_term.specs.Readiness.{or_else}
-use Rattle.safl_term.specs.Sizes.{nodes}
 use Rattle.safl_term.specs.Standing.{Stands, StandsIn}
 use Rattle.safl_term.specs.Terms.{Term, Terms}
 use Rattle.safl_term.specs.WellFormed.{Spans, SpansAll, HasWidth, HaveWidths}
@@ -47,13 +46,6 @@ pub record Unasked (asks : List (Option (List Word))) (t : Term) : Type 0 where
 
 pub record UnaskedIn (asks : List (Option (List Word))) (ts : Terms) : Type 0 where
   pub none : (k : ℕ) → StandsIn k ts → get_or asks k None ≡ None
-
--- A term may be evaluated: its slots have the first words of a table, which has a place for each node of the term, and none of
--- its sites is asked for.
-pub record CanEvaluate (sites : List Stage) (asks : List (Option (List Word))) (env : List Word) (slots : ℕ) (t : Term) : Type 0 where
-  pub can : CanRun sites (length asks) (take slots env) t
-  pub room : slots + nodes t ≤ length env
-  pub unasked : Unasked asks t
 
 -- the wants after an evaluation: those before it, and these besides
 pub record Notes (before after : List (Option (List Word))) (wants : ℕ → Option (List Word)) : Type 0 where

@@ -11,7 +11,7 @@ ghost use Rattle.safl_evaluate.specs.Looking.{words_at};
 ghost use Rattle.safl_evaluate.specs.Plain.{CanCompute, CanComputeAll, CanConclude, ComesTo, ComeTo, ConcludesIn, PassesOn, PassesOne};
 
 use crate::answer::Answer;
-use safl_term::Term;
+use safl_term::{Node, Term, top};
 use safl_word::{Primitive, Word, apply};
 
 /// A word that will be overwritten.
@@ -26,8 +26,8 @@ pub fn conclude(env: &mut [Word], slots: usize, t: &Term, told: &mut Answer)
     ensures { ConcludesIn (take slots env.old) (shown_term t.now) told.new }
 {
     let mut word = blank();
-    match t {
-        Term::If(condition, a, b) => {
+    match top(t) {
+        Node::If(condition, a, b) => {
             operand(env, slots, condition, &mut word);
             if word.bits() == 1 {
                 conclude(env, slots, a, told);
@@ -35,22 +35,21 @@ pub fn conclude(env: &mut [Word], slots: usize, t: &Term, told: &mut Answer)
                 conclude(env, slots, b, told);
             }
         }
-        Term::Let(_, bound, body) => {
-            let bound = bound.as_slice();
+        Node::Let(_, bound, body) => {
             values(env, slots, slots, bound);
             conclude(env, slots + bound.len(), body, told);
         }
-        Term::Loop(h, ts) => {
-            told.begin(*h);
-            pass(env, slots, ts.as_slice(), told);
+        Node::Loop(h, ts) => {
+            told.begin(h);
+            pass(env, slots, ts, told);
         }
-        Term::Const(number) => told.settle(Some(*number)),
-        Term::Var(slot) => told.settle(Some(env[*slot as usize])),
-        Term::Op(_, _) => {
+        Node::Const(number) => told.settle(Some(number)),
+        Node::Var(slot) => told.settle(Some(env[slot as usize])),
+        Node::Op(_, _) => {
             compute(env, slots, t, &mut word);
             told.settle(Some(word));
         }
-        Term::Call(_, _, _) => unreachable!(),
+        Node::Call(_, _, _) => unreachable!(),
     }
 }
 
@@ -110,10 +109,10 @@ pub fn compute(env: &mut [Word], slots: usize, t: &Term, word: &mut Word)
     ensures word { ComesTo (take slots env.old) (shown_term t.now) word.new }
     ensures kept { take slots env.new ≡ take slots env.old }
 {
-    match t {
-        Term::Const(number) => *word = *number,
-        Term::Var(slot) => *word = env[*slot as usize],
-        Term::If(condition, a, b) => {
+    match top(t) {
+        Node::Const(number) => *word = number,
+        Node::Var(slot) => *word = env[slot as usize],
+        Node::If(condition, a, b) => {
             operand(env, slots, condition, word);
             if word.bits() == 1 {
                 operand(env, slots, a, word);
@@ -121,19 +120,17 @@ pub fn compute(env: &mut [Word], slots: usize, t: &Term, word: &mut Word)
                 operand(env, slots, b, word);
             }
         }
-        Term::Let(_, bound, body) => {
-            let bound = bound.as_slice();
+        Node::Let(_, bound, body) => {
             values(env, slots, slots, bound);
             operand(env, slots + bound.len(), body, word);
         }
-        Term::Op(p, ts) => {
-            let operands = ts.as_slice();
+        Node::Op(p, operands) => {
             let mut words = [blank(), blank()];
             pair(env, slots, operands, &mut words);
-            applied(p, &words[..operands.len()], word);
+            applied(&p, &words[..operands.len()], word);
         }
-        Term::Call(_, _, _) => unreachable!(),
-        Term::Loop(_, _) => unreachable!(),
+        Node::Call(_, _, _) => unreachable!(),
+        Node::Loop(_, _) => unreachable!(),
     }
 }
 
@@ -144,9 +141,9 @@ fn operand(env: &mut [Word], slots: usize, t: &Term, word: &mut Word)
     ensures word { ComesTo (take slots env.old) (shown_term t.now) word.new }
     ensures kept { take slots env.new ≡ take slots env.old }
 {
-    match t {
-        Term::Const(number) => *word = *number,
-        Term::Var(slot) => *word = env[*slot as usize],
+    match top(t) {
+        Node::Const(number) => *word = number,
+        Node::Var(slot) => *word = env[slot as usize],
         _ => compute(env, slots, t, word),
     }
 }

@@ -1,6 +1,6 @@
 //! Partial evaluation: what a running body comes to so far, and which calls it wants.
 
-ghost use Rattle.std.specs.Prelude.{◌≡◌, ℕ, ◌+◌, ◌<◌, ◌≤◌, ◌^◌, length, take, cond, slice_set, Some, None, IsTrue};
+ghost use Rattle.std.specs.Prelude.{◌≡◌, ◌+◌, ◌<◌, ◌≤◌, ◌^◌, length, take, cond, slice_set, Some, None, IsTrue};
 ghost use Rattle.safl_term.specs.Readiness.{answer, word_of};
 ghost use Rattle.safl_term.specs.Tree.{shown_term, shown_terms};
 ghost use Rattle.safl_evaluate.specs.Asking.{Asks};
@@ -17,7 +17,7 @@ use crate::kept::{Found, Kept, is_open_at, keep, keep_told, opened, ready, recal
 use crate::places::Place;
 use crate::stage::Stage;
 use crate::wants::Wants;
-use safl_term::Term;
+use safl_term::{Node, Term, top};
 use safl_word::Word;
 
 /// What stays the same during an evaluation: the stages of the sites, and the places of the nodes.
@@ -58,10 +58,10 @@ pub fn evaluate(
         keep_told(kept, spot.at, told);
         return;
     }
-    match t {
-        Term::Const(word) => told.settle(Some(*word)),
-        Term::Var(slot) => told.settle(Some(env[*slot as usize])),
-        Term::If(condition, a, b) => {
+    match top(t) {
+        Node::Const(word) => told.settle(Some(word)),
+        Node::Var(slot) => told.settle(Some(env[slot as usize])),
+        Node::If(condition, a, b) => {
             let mut word = blank();
             if operand(facts, asks, env, kept, part(spot), condition, &mut word) {
                 let second = branch(facts, kept, spot);
@@ -77,8 +77,7 @@ pub fn evaluate(
                 told.settle(None);
             }
         }
-        Term::Let(_, bound, body) => {
-            let bound = bound.as_slice();
+        Node::Let(_, bound, body) => {
             let bindings = after(facts, part(spot));
             if values(facts, asks, env, kept, bindings, spot.slots, bound) {
                 let below = within(kept, spot, bound.len());
@@ -89,7 +88,7 @@ pub fn evaluate(
                 told.settle(None);
             }
         }
-        Term::Op(_, _) | Term::Call(_, _, _) => {
+        Node::Op(_, _) | Node::Call(_, _, _) => {
             let mut word = blank();
             if find(facts, asks, env, kept, spot, t, &mut word) {
                 told.settle(Some(word));
@@ -97,10 +96,9 @@ pub fn evaluate(
                 told.settle(None);
             }
         }
-        Term::Loop(h, ts) => {
-            let passed = ts.as_slice();
+        Node::Loop(h, passed) => {
             if values(facts, asks, env, kept, part(spot), spot.slots, passed) {
-                told.pass(*h, words(env, spot.slots, passed.len()));
+                told.pass(h, words(env, spot.slots, passed.len()));
                 shut(kept, spot.at);
             } else {
                 told.settle(None);
@@ -299,10 +297,10 @@ fn look(
     ensures asks { Asks asks.old asks.new }
     ensures kept { take spot.slots env.new ≡ take spot.slots env.old }
 {
-    match t {
-        Term::Const(number) => ready(put(word, number)),
-        Term::Var(slot) => ready(put(word, &env[*slot as usize])),
-        Term::If(condition, a, b) => {
+    match top(t) {
+        Node::Const(number) => ready(put(word, &number)),
+        Node::Var(slot) => ready(put(word, &env[slot as usize])),
+        Node::If(condition, a, b) => {
             if operand(facts, asks, env, kept, part(spot), condition, word) {
                 let second = branch(facts, kept, spot);
                 if word.bits() == 1 {
@@ -314,8 +312,7 @@ fn look(
                 Found::Shut
             }
         }
-        Term::Let(_, bound, body) => {
-            let bound = bound.as_slice();
+        Node::Let(_, bound, body) => {
             let bindings = after(facts, part(spot));
             if values(facts, asks, env, kept, bindings, spot.slots, bound) {
                 let below = within(kept, spot, bound.len());
@@ -324,28 +321,25 @@ fn look(
                 Found::Shut
             }
         }
-        Term::Op(p, ts) => {
-            let operands = ts.as_slice();
+        Node::Op(p, operands) => {
             let mut words = [blank(), blank()];
             if pair(facts, asks, env, kept, part(spot), operands, &mut words) {
-                applied(p, &words[..operands.len()], word);
+                applied(&p, &words[..operands.len()], word);
                 Found::Ready
             } else {
                 Found::Shut
             }
         }
-        Term::Call(_, k, ts) => {
-            let args = ts.as_slice();
-            if has_returned(spot, *k) {
-                return ready(returned(facts.stages, *k, word));
+        Node::Call(_, k, args) => {
+            if has_returned(spot, k) {
+                return ready(returned(facts.stages, k, word));
             }
             if values(facts, asks, env, kept, part(spot), spot.slots, args) {
-                asks.ask(*k, words(env, spot.slots, args.len()));
+                asks.ask(k, words(env, spot.slots, args.len()));
             }
-            ready(returned(facts.stages, *k, word))
+            ready(returned(facts.stages, k, word))
         }
-        Term::Loop(_, ts) => {
-            let passed = ts.as_slice();
+        Node::Loop(_, passed) => {
             values(facts, asks, env, kept, part(spot), spot.slots, passed);
             Found::Shut
         }
@@ -376,9 +370,9 @@ fn operand(
     ensures asks { Asks asks.old asks.new }
     ensures kept { take spot.slots env.new ≡ take spot.slots env.old }
 {
-    match t {
-        Term::Const(number) => put(word, number),
-        Term::Var(slot) => put(word, &env[*slot as usize]),
+    match top(t) {
+        Node::Const(number) => put(word, &number),
+        Node::Var(slot) => put(word, &env[slot as usize]),
         _ => find(facts, asks, env, kept, spot, t, word),
     }
 }

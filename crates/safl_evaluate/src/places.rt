@@ -1,13 +1,13 @@
 //! Places: where the nodes of a body lie in a table.
 
-ghost use Rattle.std.specs.Prelude.{◌≡◌, ℕ, ◌+◌, ◌<◌, ◌≤◌, ◌^◌, ◌&&◌, IfOk, length, true, false};
+ghost use Rattle.std.specs.Prelude.{◌≡◌, ◌+◌, ◌<◌, ◌≤◌, ◌&&◌, IfOk, length, true, false};
 ghost use Rattle.safl_word.specs.Limits.{nodes_max};
 ghost use Rattle.safl_term.specs.Sizes.{nodes, nodes_in};
 ghost use Rattle.safl_term.specs.Tree.{shown_term, shown_terms};
 ghost use Rattle.safl_evaluate.specs.Laying.{IsPlace, IsRoom, Laid, LaidIn, LaidBelow, SameOutside, Covers};
 ghost use Rattle.safl_evaluate.specs.Laying.{IsPlan};
 
-use safl_term::{Checked, Term};
+use safl_term::{Checked, Node, Term, top};
 use safl_word::limits::NODES_MAX;
 use std::alloc::{AllocError, Global};
 
@@ -66,23 +66,23 @@ fn lay_parts(t: &Term, at: usize, places: &mut [Place]) -> Place
     ensures place { IsPlace result at (shown_term t.now) }
     ensures outside { SameOutside (at + 1) (at + nodes (shown_term t.now)) places.old places.new }
 {
-    match t {
-        Term::Const(_) => empty(at + 1),
-        Term::Var(_) => empty(at + 1),
-        Term::If(condition, a, b) => {
+    match top(t) {
+        Node::Const(_) => empty(at + 1),
+        Node::Var(_) => empty(at + 1),
+        Node::If(condition, a, b) => {
             let first = lay(condition, at + 1, places);
             let second = lay(a, first.next, places);
             let third = lay(b, second.next, places);
             followed(first, either(second, third))
         }
-        Term::Let(_, bound, body) => {
+        Node::Let(_, bound, body) => {
             let below = lay(body, at + 1, places);
-            let bindings = lay_all(bound.as_slice(), below.next, places);
+            let bindings = lay_all(bound, below.next, places);
             bound_in(below, bindings)
         }
-        Term::Op(_, ts) => lay_all(ts.as_slice(), at + 1, places),
-        Term::Call(_, k, ts) => with_site(lay_all(ts.as_slice(), at + 1, places), *k),
-        Term::Loop(_, ts) => with_loop(lay_all(ts.as_slice(), at + 1, places)),
+        Node::Op(_, ts) => lay_all(ts, at + 1, places),
+        Node::Call(_, k, ts) => with_site(lay_all(ts, at + 1, places), k),
+        Node::Loop(_, ts) => with_loop(lay_all(ts, at + 1, places)),
     }
 }
 

@@ -2,7 +2,7 @@
 use Rattle.std.proofs.Common.{ℕ, zero, suc, ◌+◌, ◌-◌, ◌*◌, ◌%◌, ◌<◌, ◌≤◌, length, map, Bool, true, false, cond, nat_lt, arith, length-append}
 use Rattle.std.specs.List.{concat, range_with_len}
 use Rattle.safl_word.proofs.Naturals.{number_short}
-use Rattle.safl_gen.specs.Source.{Text, first_body, later_body, constant_of, first_function_of, body, function_line, drawn_line, source}
+use Rattle.safl_gen.specs.Source.{Text, first_body, later_body, constant_of, first_function_of, body, function_line, drawn_line, source_text}
 
 first_short : (form i k : ℕ) → i < 1000 → k < 1000 → length (first_body form i k) ≤ 60
 first_short zero i k hi hk = let b = number_short k hk in simp length-append (omega arith)
@@ -39,7 +39,7 @@ lines_short f a (suc n) h =
     simp length-append (omega arith)
 
 -- a source of at most 900 functions is within what may be read
-pub source_short : (draws : ℕ → ℕ) (count : ℕ) → count ≤ 900 → length (source draws count) ≤ 1048576
+pub source_short : (draws : ℕ → ℕ) (count : ℕ) → count ≤ 900 → length (source_text draws count) ≤ 1048576
 source_short draws count most =
     let lines = lines_short (drawn_line draws) 0 count (λ k lt. line_short k (draws (3 * k)) (draws (3 * k + 1)) (draws (3 * k + 2)) (omega arith)) in
     let last = number_short (count - 1) (omega arith) in

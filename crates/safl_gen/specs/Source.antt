@@ -1,5 +1,5 @@
 -- The text of a generated source.
-use Rattle.std.specs.Prelude.{ℕ, zero, suc, ◌+◌, ◌-◌, ◌*◌, ◌%◌, ◌++◌, List, map, codes, decimal, nat_lt, if◌then◌else◌}
+use Rattle.std.specs.Prelude.{ℕ, zero, suc, ◌+◌, ◌-◌, ◌*◌, ◌%◌, ◌++◌, map, codes, decimal, nat_lt, if◌then◌else◌}
 use Rattle.std.specs.List.{concat, range_with_len}
 pub use Rattle.safl_word.specs.Lists.{Text}
 
@@ -30,8 +30,8 @@ function_line i form constant first =
     codes "fun f" ++ decimal i ++ codes "(x:16, y:16):16 = " ++ body i form constant first ++ codes "\n"
 
 -- the source with this many functions, each made from its three draws, and with main, which calls the last of them
-abbrev pub source : (ℕ → ℕ) → ℕ → Text
-source draws count =
+abbrev pub source_text : (ℕ → ℕ) → ℕ → Text
+source_text draws count =
     concat (map (λ (i : ℕ). function_line i (draws (3 * i)) (draws (3 * i + 1)) (draws (3 * i + 2))) (range_with_len 0 count))
     ++ (codes "fun main(a:16, b:16):16 = f" ++ decimal (count - 1) ++ codes "(a, b)\n")
 

@@ -3,7 +3,7 @@
 ghost use Rattle.std.specs.Prelude.{◌≡◌, ◌<◌, ◌≤◌, ◌↔◌, ◌⊎◌, Err, IfOk, length};
 ghost use Rattle.safl_word.specs.Limits.{source_max, generated_max};
 ghost use Rattle.safl_gen.specs.Draws.{draw};
-ghost use Rattle.safl_gen.specs.Source.{source};
+ghost use Rattle.safl_gen.specs.Source.{source_text};
 
 use crate::draws::{Draws, draw_function};
 use crate::lines::{push_function, push_main};
@@ -23,7 +23,7 @@ pub enum GenErr {
 /// The source for a seed and a number of functions. It is no longer than a source may be. `Count` comes exactly if the
 /// number is not 1 to `GENERATED_MAX`.
 pub fn generate(alloc: Global, seed: u64, count: u32) -> Result<Vec<u8>, GenErr>
-    ensures source { IfOk result (λ text. text.items ≡ source (draw seed) count) }
+    ensures source { IfOk result (λ text. text.items ≡ source_text (draw seed) count) }
     ensures short { IfOk result (λ text. length text.items ≤ source_max) }
     ensures count { (result ≡ Err GenErr.Count) ↔ ((count ≡ 0) ⊎ (generated_max < count)) }
 {
@@ -39,7 +39,7 @@ pub fn generate(alloc: Global, seed: u64, count: u32) -> Result<Vec<u8>, GenErr>
 fn text_of(alloc: Global, seed: u64, count: u32) -> Result<Vec<u8>, NoMemory>
     requires some { 1 ≤ count }
     requires most { count ≤ generated_max }
-    ensures source { IfOk result (λ text. text.items ≡ source (draw seed) count) }
+    ensures source { IfOk result (λ text. text.items ≡ source_text (draw seed) count) }
     ensures short { IfOk result (λ text. length text.items ≤ source_max) }
 {
     let mut text = Vec::new(alloc);

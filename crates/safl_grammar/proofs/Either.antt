@@ -1,7 +1,7 @@
 -- One or the other, and what a limit at the first token changes.
 use Rattle.std.proofs.Common.{◌≡◌, ℕ, Bool, true, false, cond, List, [], ◌∷◌, ◌++◌, Option, Some, Ok, Err, refl, sym, ap, subst, ◌∙◌, inl, inr}
 use Rattle.safl_grammar.specs.Sets.{Set, within, subset, apart, union, union_if}
-use Rattle.safl_grammar.specs.Syntax.{Rule, Deep, Unexpected, Range, Syntax, either, unless}
+use Rattle.safl_grammar.specs.Syntax.{Rule, Deep, Unexpected, Range, Syntax, either, without_begin}
 use Rattle.safl_grammar.specs.Reading.{Read, Reading, head_of, read_either}
 use Rattle.safl_grammar.proofs.Sets.{subset_within, apart_within, union_first, union_second}
 use Rattle.safl_grammar.proofs.Parses.{Parses, At, Next, Ends, Past, Stops, past_none}
@@ -43,9 +43,6 @@ module _ {T A : Type 0} (code : Option T → ℕ) (g : Set) (p q : Reading T A) 
     (in_open : subset L1 g ≡ true) (others : apart (union_if N2 G2 F) g ≡ true) where
   test : Option T → Bool
   test h = within g (code h)
-
-  whole_either : Reading T A
-  whole_either = read_either (λ h. within g (code h)) p q
 
   goes_first : (w : List T) (P : Read T A → Type 0) → within G1 (code (head_of w)) ≡ true → P (p w) → P (read_either (λ h. within g (code h)) p q w)
   goes_first w P m h = let e = subset_within G1 g (code (head_of w)) in_test m in subst (λ (b : Bool). P (cond b (p w) (q w))) (sym e) h
@@ -97,7 +94,7 @@ module _ {T A : Type 0} (code : Option T → ℕ) (g : Set) (p q : Reading T A) 
   either_limit away e u r (inl l) = first_limit e u r l
   either_limit away e u r (inr l) = second_limit e u r (λ i. apart_within L2 g (code (head_of r)) away (second.opens e (head_of r) (subst (λ (u : List T). d.passes e u (head_of r)) i l))) l
 
-  unless_limit : (e : Rule) (u r : List T) → (either c (unless (λ h. within g (code h)) d)).passes e u (head_of r) → Stops e (read_either (λ h. within g (code h)) p q (u ++ r)) r
+  unless_limit : (e : Rule) (u r : List T) → (either c (without_begin (λ h. within g (code h)) d)).passes e u (head_of r) → Stops e (read_either (λ h. within g (code h)) p q (u ++ r)) r
   unless_limit e u r (inl l) = first_limit e u r l
   unless_limit e u r (inr l) = second_limit e u r l.1 l.0
 
@@ -133,7 +130,7 @@ module _ {T A : Type 0} (code : Option T → ℕ) (g : Set) (p q : Reading T A) 
   opens_of e h (inl l) = union_first L1 L2 (code h) (first.opens e h l)
   opens_of e h (inr l) = union_second L1 L2 (code h) (second.opens e h l)
 
-  without : (e : Rule) (u : List T) (h : Option T) → (either c (unless (λ h. within g (code h)) d)).passes e u h → (either c d).passes e u h
+  without : (e : Rule) (u : List T) (h : Option T) → (either c (without_begin (λ h. within g (code h)) d)).passes e u h → (either c d).passes e u h
   without e u h (inl l) = inl l
   without e u h (inr l) = inr l.0
 
@@ -156,29 +153,29 @@ module _ {T A : Type 0} (code : Option T → ℕ) (g : Set) (p q : Reading T A) 
   }
 
   -- the second, where no token of the test comes first
-  at_unless : (e : Rule) (u r : List T) → (u ≡ [] → within g (code (head_of r)) ≡ false) → At t e u r → At (unless (λ h. within g (code h)) t) e u r
+  at_unless : (e : Rule) (u r : List T) → (u ≡ [] → within g (code (head_of r)) ≡ false) → At t e u r → At (without_begin (λ h. within g (code h)) t) e u r
   at_unless Deep u r k h = (h, k)
   at_unless Unexpected u r k h = tt
   at_unless Range u r k h = ((h.0, k), next_unless u r h.1)
     where
-      next_unless : (u r : List T) → Next t u r → Next (unless (λ h. within g (code h)) t) u r
+      next_unless : (u r : List T) → Next t u r → Next (without_begin (λ h. within g (code h)) t) u r
       next_unless u [] h = h
       next_unless u (a ∷ r) h = h
 
   unless_bad : (b : Bool) (w r : List T) (e : Rule) → within g (code (head_of w)) ≡ b → cond b (p w) (q w) ≡ Err (e, r) → (u : List T) × (w ≡ u ++ r)
-      × (either s (unless (λ h. within g (code h)) t)).begins u × At (either s (unless (λ h. within g (code h)) t)) e u r
-  unless_bad true w r x b e = let d = first.bad w r x e in (d.0, d.1, inl d.2, at_left s (unless (λ h. within g (code h)) t) x d.0 r d.3)
+      × (either s (without_begin (λ h. within g (code h)) t)).begins u × At (either s (without_begin (λ h. within g (code h)) t)) e u r
+  unless_bad true w r x b e = let d = first.bad w r x e in (d.0, d.1, inl d.2, at_left s (without_begin (λ h. within g (code h)) t) x d.0 r d.3)
   unless_bad false w r x b e =
       let d = second.bad w r x e in (
         d.0,
         d.1,
         inr d.2,
-        at_right s (unless (λ h. within g (code h)) t) x d.0 r
+        at_right s (without_begin (λ h. within g (code h)) t) x d.0 r
             (at_unless x d.0 r (λ i. subst (λ (l : List T). within g (code (head_of l)) ≡ false) (d.1 ∙ ap (λ (u : List T). u ++ r) i) b) d.3),
       )
 
-  pub parses_either_unless : Parses code (read_either (λ h. within g (code h)) p q) (either s (unless (λ h. within g (code h)) t))
-      (either c (unless (λ h. within g (code h)) d)) N2 (union G1 G2) (union L1 L2) F
+  pub parses_either_unless : Parses code (read_either (λ h. within g (code h)) p q) (either s (without_begin (λ h. within g (code h)) t))
+      (either c (without_begin (λ h. within g (code h)) d)) N2 (union G1 G2) (union L1 L2) F
   parses_either_unless = record {
     done = λ w r x e. either_done (λ h. within g (code h)) (within g (code (head_of w))) p q s t w r x first.done second.done e;
     bad = λ w r e h. unless_bad (within g (code (head_of w))) w r e refl h;

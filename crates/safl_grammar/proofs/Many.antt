@@ -2,7 +2,7 @@
 use Rattle.std.proofs.Common.{◌≡◌, ℕ, zero, suc, ◌≤◌, ◌<◌, Bool, true, false, cond, List, [], ◌∷◌, ◌++◌, length, Option, Ok, Err, refl, sym, ap}
 use Rattle.std.proofs.Common.{subst, ◌∙◌, inl, inr, append_assoc, length-append, arith}
 use Rattle.safl_grammar.specs.Sets.{Set, Only, within, subset, apart, union}
-use Rattle.safl_grammar.specs.Syntax.{Rule, Deep, Unexpected, Range, Syntax, nothing, follows, either, turns, many}
+use Rattle.safl_grammar.specs.Syntax.{Rule, Deep, Unexpected, Range, Syntax, nothing, follows, either, turns, any_turns}
 use Rattle.safl_grammar.specs.Reading.{Read, Reading, ◌>>=◌, head_of, read_nothing, read_follows, read_either, read_turns, read_many}
 use Rattle.safl_grammar.proofs.Sets.{apart_within}
 use Rattle.safl_grammar.proofs.Parses.{Parses, At, Next, Ends, Past, Stops, ok_parts, bind_ok, bind_err, left, past_left, nil_front, cuts, parses_nothing, parses_within}
@@ -78,20 +78,20 @@ module _ {T A : Type 0} (test : Option T → Bool) (go : A → Reading T A) (ste
   turns_bad zero a w r e h = absurd cc
   turns_bad (suc k) a w r e h = turn_bad (go a) (test (head_of w)) (step a) (turns k step) a (read_turns k test go) (done a) (bad a) (turns_bad k) w r e h
 
-  at_many : (k : ℕ) (a : A) (e : Rule) (u r : List T) → At (turns k step a) e u r → At (many step a) e u r
+  at_many : (k : ℕ) (a : A) (e : Rule) (u r : List T) → At (turns k step a) e u r → At (any_turns step a) e u r
   at_many k a Deep u r h = (k, h)
   at_many k a Unexpected u r h = tt
   at_many k a Range u r h = ((k, h.0), next_many u r h.1)
     where
-      next_many : (u r : List T) → Next (turns k step a) u r → Next (many step a) u r
+      next_many : (u r : List T) → Next (turns k step a) u r → Next (any_turns step a) u r
       next_many u [] h = h
       next_many u (t ∷ r) h = (k, h)
 
-  many_done : (a : A) → Done (read_many test go a) (many step a)
+  many_done : (a : A) → Done (read_many test go a) (any_turns step a)
   unfolding read_many
   many_done a w r x e = let d = turns_done (suc (length w)) a w r x e in (d.0, d.1, (suc (length w), d.2))
 
-  many_bad : (a : A) → Bad (read_many test go a) (many step a)
+  many_bad : (a : A) → Bad (read_many test go a) (any_turns step a)
   unfolding read_many
   many_bad a w r e h = let d = turns_bad (suc (length w)) a w r e h in (d.0, d.1, (suc (length w), d.2), at_many (suc (length w)) a e d.0 r d.3)
 
@@ -145,19 +145,19 @@ module _ {T A : Type 0} (code : Option T → ℕ) (g : Set) (go : A → Reading 
       longer [] i d = absurd ((each a).firm refl x d)
       longer (t ∷ u) i d = omega (arith, ap length i, length-append u r)
 
-  many_empty : (a : A) → (many sstep a).begins []
+  many_empty : (a : A) → (any_turns sstep a).begins []
   many_empty a = (zero, refl)
 
-  is_covered : (a : A) (u : List T) (x : A) → (many sstep a).derives u x → (many sstep a).begins u
+  is_covered : (a : A) (u : List T) (x : A) → (any_turns sstep a).derives u x → (any_turns sstep a).begins u
   is_covered a u x d = (d.0, turns_covered sstep (λ a. (each a).covered) d.0 a u x d.1)
 
-  is_shorter : (a : A) (u v : List T) → (many sstep a).begins (u ++ v) → (many sstep a).begins u
+  is_shorter : (a : A) (u v : List T) → (any_turns sstep a).begins (u ++ v) → (any_turns sstep a).begins u
   is_shorter a u v b = (b.0, turns_shorter sstep (λ a. (each a).covered) (λ a. (each a).shorter) b.0 a u v b.1)
 
-  is_done : (a : A) → Done (read_many (λ h. within g (code h)) go a) (many sstep a)
+  is_done : (a : A) → Done (read_many (λ h. within g (code h)) go a) (any_turns sstep a)
   is_done a = many_done (λ h. within g (code h)) go sstep (λ a. (each a).done) (λ a. (each a).bad) a
 
-  is_bad : (a : A) → Bad (read_many (λ h. within g (code h)) go a) (many sstep a)
+  is_bad : (a : A) → Bad (read_many (λ h. within g (code h)) go a) (any_turns sstep a)
   is_bad a = many_bad (λ h. within g (code h)) go sstep (λ a. (each a).done) (λ a. (each a).bad) a
 
   -- no turn
@@ -170,7 +170,7 @@ module _ {T A : Type 0} (code : Option T → ℕ) (g : Set) (go : A → Reading 
   small_many a w (Ok y) e = let d = is_done a w y.1 y.0 e in omega (arith, ap length d.1, length-append d.0 y.1)
   small_many a w (Err f) e = let d = is_bad a w f.1 f.0 e in omega (arith, ap length d.1, length-append d.0 f.1)
 
-  no_turn : (a : A) → Parses code (read_many (λ h. within g (code h)) go a) (many sstep a) (nothing a) true G' L' F
+  no_turn : (a : A) → Parses code (read_many (λ h. within g (code h)) go a) (any_turns sstep a) (nothing a) true G' L' F
   no_turn a = record {
     done = is_done a;
     bad = is_bad a;
@@ -189,20 +189,20 @@ module _ {T A : Type 0} (code : Option T → ℕ) (g : Set) (go : A → Reading 
     limit = λ e u r l. absurd l;
   }
 
-  parses_turns : (k : ℕ) (a : A) → Parses code (read_many (λ h. within g (code h)) go a) (many sstep a) (turns k cstep a) true G' L' F
+  parses_turns : (k : ℕ) (a : A) → Parses code (read_many (λ h. within g (code h)) go a) (any_turns sstep a) (turns k cstep a) true G' L' F
   parses_turns zero a = no_turn a
   parses_turns (suc k) a =
-      let turn = parses_follows code (go a) (sstep a) (cstep a) false G L F1 (read_many (λ h. within g (code h)) go) (many sstep) (turns k cstep) true
+      let turn = parses_follows code (go a) (sstep a) (cstep a) false G L F1 (read_many (λ h. within g (code h)) go) (any_turns sstep) (turns k cstep) true
       G' L' F (each a) (parses_turns k) in_follow in_open in
       let or_none = parses_either code g (read_follows (go a) (read_many (λ h. within g (code h)) go)) (read_nothing a)
-      (follows (sstep a) (many sstep)) (follows (cstep a) (turns k cstep)) G L F (nothing a) (nothing a) true (Only []) (Only []) turn
+      (follows (sstep a) (any_turns sstep)) (follows (cstep a) (turns k cstep)) G L F (nothing a) (nothing a) true (Only []) (Only []) turn
       (parses_nothing code a F) in_test open_test others refl in
       parses_as code (read_either (λ h. within g (code h)) (read_follows (go a) (read_many (λ h. within g (code h)) go)) (read_nothing a))
-      (read_many (λ h. within g (code h)) go a) (either (follows (sstep a) (many sstep)) (nothing a)) (many sstep a) (turns (suc k) cstep a) true
+      (read_many (λ h. within g (code h)) go a) (either (follows (sstep a) (any_turns sstep)) (nothing a)) (any_turns sstep a) (turns (suc k) cstep a) true
       G' L' F (many_step (λ h. within g (code h)) go many_eats a) (is_done a) (is_bad a) (many_empty a) (is_covered a) (is_shorter a)
       (λ e. absurd cc) (parses_within code _ _ _ true (union G (Only [])) (union L (Only [])) F G' L' F more opening less or_none)
 
-  pub parses_many : (a : A) → Parses code (read_many (λ h. within g (code h)) go a) (many sstep a) (many cstep a) true G' L' F
+  pub parses_many : (a : A) → Parses code (read_many (λ h. within g (code h)) go a) (any_turns sstep a) (any_turns cstep a) true G' L' F
   parses_many a = record {
     done = is_done a;
     bad = is_bad a;

@@ -11,10 +11,6 @@ abbrev pub lead : {T : Type 0} → List T → Option T → Option T
 lead [] h = h
 lead (t ∷ ts) h = Some t
 
-pub lead_head : {T : Type 0} (u r : List T) → lead u (head_of r) ≡ head_of (u ++ r)
-lead_head [] r = refl
-lead_head (t ∷ u) r = refl
-
 abbrev pub Next : {T A : Type 0} → Syntax T A → List T → List T → Type 0
 Next s u [] = ⊥
 Next s u (t ∷ r) = s.begins (u ++ t ∷ [])

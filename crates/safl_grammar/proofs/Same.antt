@@ -93,14 +93,6 @@ module _ {T A B : Type 0} (s : Syntax T A) (f g : A → Syntax T B) where
       one_passes r w h (inl (inr (u, v, x, e, d, k))) = inr (u, v, x, e, d, inl k)
       one_passes r w h (inr (inr (u, v, x, e, d, k))) = inr (u, v, x, e, d, inr k)
 
--- the same after the same
-pub same_follows : {T A B : Type 0} (s : Syntax T A) {f g : A → Syntax T B} → ((x : A) → Same (f x) (g x)) → Same (follows s f) (follows s g)
-same_follows {T} {A} {B} s {f = f} {g = g} m = record {
-  derives = λ w z. (λ d. (d.0, d.1, d.2, d.3, d.4, ((m d.2).derives d.1 z).0 d.5), λ d. (d.0, d.1, d.2, d.3, d.4, ((m d.2).derives d.1 z).1 d.5));
-  begins = λ w. either_same (λ b. b, λ b. b) (λ d. (d.0, d.1, d.2, d.3, d.4, ((m d.2).begins d.1).0 d.5), λ d. (d.0, d.1, d.2, d.3, d.4, ((m d.2).begins d.1).1 d.5));
-  passes = λ e w h. either_same (λ b. b, λ b. b) (λ d. (d.0, d.1, d.2, d.3, d.4, ((m d.2).passes e d.1 h).0 d.5), λ d. (d.0, d.1, d.2, d.3, d.4, ((m d.2).passes e d.1 h).1 d.5));
-}
-
 pub same_then : {T A : Type 0} {s t u : Syntax T A} → Same s t → Same t u → Same s u
 same_then m n = record {
   derives = λ w x. (λ d. (n.derives w x).0 ((m.derives w x).0 d), λ d. (m.derives w x).1 ((n.derives w x).1 d));

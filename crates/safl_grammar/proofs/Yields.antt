@@ -1,5 +1,5 @@
 -- A fact of all values that a reading gives, from a fact of all tokens.
-use Rattle.std.proofs.Common.{◌≡◌, ℕ, zero, suc, Bool, true, false, cond, List, [], ◌∷◌, ◌++◌, length, Option, Some, Ok, Err, refl, sym, subst, ap, ◌∙◌}
+use Rattle.std.proofs.Common.{◌≡◌, ℕ, zero, suc, Bool, true, false, cond, List, [], ◌∷◌, length, Option, Some, Ok, Err, refl, subst}
 use Rattle.safl_grammar.specs.Syntax.{Rule}
 use Rattle.safl_grammar.specs.Reading.{Reading, ◌>>=◌, head_of, read_nothing, read_token, read_limited, checked, read_follows, read_either, read_turns, read_many, read_below}
 use Rattle.safl_grammar.proofs.Parses.{ok_parts, bind_ok, taken_ok, value}

@@ -7,7 +7,7 @@ use Rattle.safl_word.specs.Words.{Word}
 use Rattle.safl_term.specs.Program.{Program}
 use Rattle.safl_term.specs.Terms.{Term, Terms}
 use Rattle.safl_term.specs.Meaning.{Gives, gives_const, gives_var, gives_op, gives_if, gives_let, gives_call, gives_loop, GivesAll, gives_nil, gives_cons}
-use Rattle.safl_term.specs.Meaning.{cost, costs, loops, loops_all, calls, calls_all, at_function}
+use Rattle.safl_term.specs.Meaning.{cost, costs, loops, loops_all, calls_to, calls_all, at_function}
 use Rattle.safl_calls.specs.Span.{span, spans}
 use Rattle.safl_interpreter.specs.Accounts.{Account, booked, counted, counted_all, ready, ready_all}
 
@@ -146,23 +146,24 @@ apply_marks f g is_loop us a b c xs ys lt same h k =
     both_marks f a b c xs (at_function f g us ++ ys) h (both_marks f b (booked g is_loop b) c (at_function f g us) ys (book_marks f g is_loop us b lb) (k lc))
 
 mutual
-  pub counted_marks : (C : Program) (f : ℕ) {env : List Word} {t : Term} {v : Word} (d : Gives C env t v) (a : Account) → f < length a.called → Marks f a (counted C d a) (calls C f d)
+  pub counted_marks : (C : Program) (f : ℕ) {env : List Word} {t : Term} {v : Word} (d : Gives C env t v) (a : Account) → f < length a.called → Marks f a (counted C d a) (calls_to C f d)
   counted_marks C f gives_const a lt = no_marks f a
   counted_marks C f gives_var a lt = no_marks f a
   counted_marks C f (gives_op ds) a lt = all_counted_marks C f ds a lt
   counted_marks C f (gives_if c d) a lt =
-      both_marks f a (counted C c a) _ (calls C f c) (calls C f d) (counted_marks C f c a lt) (counted_marks C f d (counted C c a) (omega (arith, lt, counted_length C c a)))
+      both_marks f a (counted C c a) _ (calls_to C f c) (calls_to C f d) (counted_marks C f c a lt) (counted_marks C f d (counted C c a) (omega (arith, lt, counted_length C c a)))
   counted_marks C f (gives_let ds d) a lt =
-      both_marks f a (counted_all C ds a) _ (calls_all C f ds) (calls C f d) (all_counted_marks C f ds a lt) (counted_marks C f d (counted_all C ds a) (omega (arith, lt, all_counted_length C ds a)))
+      both_marks f a (counted_all C ds a) _ (calls_all C f ds) (calls_to C f d) (all_counted_marks C f ds a lt)
+      (counted_marks C f d (counted_all C ds a) (omega (arith, lt, all_counted_length C ds a)))
   counted_marks C f (gives_call {f = g} {us = us} ds d) a lt =
-      apply_marks f g false us a (counted_all C ds a) _ (calls_all C f ds) (calls C f d) lt (all_counted_length C ds a)
+      apply_marks f g false us a (counted_all C ds a) _ (calls_all C f ds) (calls_to C f d) lt (all_counted_length C ds a)
       (all_counted_marks C f ds a lt) (λ l. counted_marks C f d (booked g false (counted_all C ds a)) l)
   counted_marks C f (gives_loop {h = g} {us = us} ds d) a lt =
-      apply_marks f g true us a (counted_all C ds a) _ (calls_all C f ds) (calls C f d) lt (all_counted_length C ds a)
+      apply_marks f g true us a (counted_all C ds a) _ (calls_all C f ds) (calls_to C f d) lt (all_counted_length C ds a)
       (all_counted_marks C f ds a lt) (λ l. counted_marks C f d (booked g true (counted_all C ds a)) l)
 
   all_counted_marks : (C : Program) (f : ℕ) {env : List Word} {ts : Terms} {vs : List Word} (ds : GivesAll C env ts vs)
       (a : Account) → f < length a.called → Marks f a (counted_all C ds a) (calls_all C f ds)
   all_counted_marks C f gives_nil a lt = no_marks f a
   all_counted_marks C f (gives_cons d ds) a lt =
-      both_marks f a (counted C d a) _ (calls C f d) (calls_all C f ds) (counted_marks C f d a lt) (all_counted_marks C f ds (counted C d a) (omega (arith, lt, counted_length C d a)))
+      both_marks f a (counted C d a) _ (calls_to C f d) (calls_all C f ds) (counted_marks C f d a lt) (all_counted_marks C f ds (counted C d a) (omega (arith, lt, counted_length C d a)))

@@ -153,6 +153,3 @@ slot_in (v ∷ env) (suc i) w e = omega (arith, slot_in env i w e)
 
 pub begun_as : (E : List Word) (n : ℕ) {r q : Then} {ts us : Terms} → r ≡ q → ts ≡ us → Within (begun r ts E n) ≡ Within (begun q us E n)
 begun_as E n {r} {q} {ts} {us} e f = ap (λ x. Within (begun x ts E n)) e ∙ ap (λ x. Within (begun q x E n)) f
-
-pub choose_as : {a b x y : Term} → a ≡ x → b ≡ y → Choose a b ≡ Choose x y
-choose_as {a} {b} {x} {y} e f = ap (λ z. Choose z b) e ∙ ap (λ z. Choose x z) f

@@ -5,7 +5,7 @@ use Rattle.std.proofs.Math.ListN.{replicate}
 use Rattle.std.proofs.lemmas.List.{length-append, length-replicate}
 use Rattle.safl_word.specs.Words.{Word, widths}
 use Rattle.safl_term.specs.Program.{Program}
-use Rattle.safl_term.specs.Meaning.{Main, main_cost, main_calls, loops, calls, at_function}
+use Rattle.safl_term.specs.Meaning.{Main, main_cost, main_calls, loops, calls_to, at_function}
 use Rattle.safl_term.specs.WellFormed.{HasWidth, IsWellFormed}
 use Rattle.safl_calls.specs.Span.{main_span}
 use Rattle.safl_interpreter.specs.Accounts.{Account, opening, counted, ready}
@@ -88,7 +88,7 @@ are_called C args d some main =
     let n = C.functions in
     let all : length (counted C d (opening n)).called ≡ n = counted_length C d (opening n) ∙ opening_length n some in
     let marks : (f : ℕ) → f < n → Marks f nothing (counted C d (opening n)) (main_calls C args d f) = λ f lt.
-    both_marks f nothing (opening n) _ (at_function f (C.callee 0) args) (calls C f d) (opening_marks n f (C.callee 0) args main)
+    both_marks f nothing (opening n) _ (at_function f (C.callee 0) args) (calls_to C f d) (opening_marks n f (C.callee 0) args main)
     (counted_marks C f d (opening n) (omega (arith, lt, opening_length n some))) in
     record {
       all = all;

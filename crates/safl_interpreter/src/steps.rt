@@ -1,6 +1,6 @@
 //! The steps of an evaluation.
 
-ghost use Rattle.std.specs.Prelude.{◌≡◌, ℕ, ◌<◌, ◌≤◌, ◌+◌, ◌*◌, [], IfOk, length};
+ghost use Rattle.std.specs.Prelude.{◌≡◌, ℕ, ◌<◌, ◌≤◌, ◌+◌, IfOk};
 ghost use Rattle.safl_term.specs.Checked.{IsChecked};
 ghost use Rattle.safl_term.specs.Program.{Program};
 ghost use Rattle.safl_term.specs.Tree.{shown_term, shown_terms};
@@ -14,7 +14,7 @@ ghost use Rattle.safl_interpreter.specs.Turns.{shown_turn, shown_then, shown_fra
 use crate::account::{Account, book};
 use crate::frame::{Frame, Then};
 use crate::turn::Turn;
-use safl_term::{Checked, Term};
+use safl_term::{Checked, Node, Term, top};
 use safl_word::{NoMemory, Word, apply};
 use std::alloc::Global;
 
@@ -23,17 +23,17 @@ pub fn enter<'a>(alloc: Global, t: &'a Term, slots: Vec<Word>, now: u64) -> Turn
     requires { (C : Program) × (n : ℕ) × HasWidth C (widths slots.items) (shown_term t.now) n }
     ensures { (C : Program) (a : plain.Account) → IsStep C (Enter (shown_term t.now) slots.items now) a (shown_turn result) a }
 {
-    match t {
-        Term::Const(word) => Turn::Leave(*word, now),
-        Term::Var(slot) => Turn::Leave(slots[*slot as usize], now),
-        Term::If(condition, a, b) => {
-            let parts = std::slice::from_ref(&**condition);
+    match top(t) {
+        Node::Const(word) => Turn::Leave(word, now),
+        Node::Var(slot) => Turn::Leave(slots[slot as usize], now),
+        Node::If(condition, a, b) => {
+            let parts = std::slice::from_ref(condition);
             begin(alloc, Then::Choose(a, b), parts, slots, now)
         }
-        Term::Let(_, ts, body) => begin(alloc, Then::Bind(body), ts, slots, now),
-        Term::Op(p, ts) => begin(alloc, Then::Operate(*p), ts, slots, now),
-        Term::Call(f, _, ts) => begin(alloc, Then::Apply(*f, false), ts, slots, now),
-        Term::Loop(f, ts) => begin(alloc, Then::Apply(*f, true), ts, slots, now),
+        Node::Let(_, ts, body) => begin(alloc, Then::Bind(body), ts, slots, now),
+        Node::Op(p, ts) => begin(alloc, Then::Operate(p), ts, slots, now),
+        Node::Call(f, _, ts) => begin(alloc, Then::Apply(f, false), ts, slots, now),
+        Node::Loop(f, ts) => begin(alloc, Then::Apply(f, true), ts, slots, now),
     }
 }
 

@@ -1,8 +1,8 @@
 -- Writes of one file, one after another.
-use Rattle.std.proofs.Common.{◌≡◌, ◌≤◌, ℕ, ◌+◌, ◌-◌, min, List, take, drop, Option, Some, None, OnSome, inl, inr, ◌∙◌, arith}
+use Rattle.std.proofs.Common.{◌≡◌, ◌≤◌, ℕ, ◌+◌, ◌-◌, min, List, take, drop, Option, Some, None, OnSome, inr, ◌∙◌, arith}
 use Rattle.std.proofs.Math.Seq.{take-add}
 use Rattle.safl_io.specs.Told.{TellsOn}
-use Rattle.safl_io.specs.Shelf.{Files, Leaves, LeavesOldOrEmpty, LeavesOldOrPart, Appends, AppendsPart, CountsStray}
+use Rattle.safl_io.specs.Shelf.{Files, Leaves, LeavesOldOrPart, Appends, AppendsPart, CountsStray}
 use Rattle.safl_io.proofs.Telling.{TellsOn-then}
 use Rattle.safl_io.proofs.Pieces.{take-take}
 

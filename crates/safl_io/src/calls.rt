@@ -1,5 +1,5 @@
 //! Calls that are to fail, for shelves and sinks in memory.
-ghost use Rattle.std.specs.Prelude.{◌≡◌, ◌++◌, ◌≤◌, ◌↔◌, [], ◌∷◌, IsTrue, OnOk, OnErr, Contains};
+ghost use Rattle.std.specs.Prelude.{◌≡◌, ◌≤◌, ◌↔◌, IsTrue, OnOk, OnErr};
 ghost use Rattle.safl_io.specs.Counts.{Rose, raised};
 ghost use Rattle.safl_io.specs.Calls.{Calls, Fails, called, no_calls, with_failing};
 

@@ -1,5 +1,5 @@
 //! Sinks, to which text is sent.
-ghost use Rattle.std.specs.Prelude.{◌≡◌, ◌≤◌, List, ℕ, Option, OnOk, OnErr, IsErrOf};
+ghost use Rattle.std.specs.Prelude.{◌≡◌, ◌≤◌, OnOk, OnErr, IsErrOf};
 ghost use Rattle.safl_io.specs.Counts.{Rose};
 ghost use Rattle.safl_io.specs.Told.{TellsOn};
 ghost use Rattle.safl_io.specs.Sink.{SinkState, Sends, SendsPart};

@@ -1,5 +1,5 @@
 //! Files in memory, in the order in which they were made.
-ghost use Rattle.std.specs.Prelude.{◌≡◌, ◌++◌, [], OnOk, OnErr, IsSome, IsNone, IfSome, IfNone};
+ghost use Rattle.std.specs.Prelude.{◌≡◌, [], OnOk, OnErr, IsSome, IsNone, IfSome, IfNone};
 ghost use Rattle.std.specs.Option.{option_copied};
 ghost use Rattle.safl_io.specs.Shelf.{file_of, Leaves, Appends};
 ghost use Rattle.safl_io.specs.Stored.{pairs_of, IsPlace};

@@ -1,14 +1,14 @@
 -- How far terms are alike, by their parts.
-use Rattle.std.proofs.Common.{◌≡◌, Result, Ok, Err, ℕ, List, [], ◌∷◌, ◌++◌, Bool, true, false, ◌&&◌, ◌||◌, not, refl, sym, ap, subst, ◌∙◌}
+use Rattle.std.proofs.Common.{◌≡◌, Result, Ok, Err, ℕ, List, [], ◌∷◌, ◌++◌, Bool, true, false, refl, sym, ap, subst, ◌∙◌}
 use Rattle.std.proofs.lemmas.Bool.{false≢true}
 use Rattle.std.proofs.Math.Bool.{beq}
 use Rattle.std.specs.Result.{IfOk}
 use Rattle.safl_word.specs.declared.primitive.Primitive.{Primitive}
-use Rattle.safl_calls.specs.Labels.{Labels, label, all_public, Twins, t_const, t_var, t_plain, t_op, t_if, t_choose, t_left, t_right, t_let, t_call, t_loop, AllTwins, t_nil, t_cons, IsPlain}
-use Rattle.safl_term.specs.Terms.{Term, Terms, Const, Var, Op, If, Let, Call, Loop, Nil, Cons}
+use Rattle.safl_calls.specs.Labels.{Labels, label, all_public, Twins, t_const, t_var, t_plain, t_op, t_if, t_choose, t_left, t_right, t_let, t_call, t_loop, AllTwins, t_nil, t_cons, IsPlainTerm}
+use Rattle.safl_term.specs.Terms.{Term, Terms, Var, Op, If, Let, Call, Loop}
 use Rattle.safl_labels.specs.declared.likeness.Likeness.{Likeness}
 use Rattle.safl_labels.specs.declared.likeness.Likeness.TheVariants.{Apart, SameTime, SameWord}
-use Rattle.safl_labels.specs.Likeness.{IsLike, least_of, or_time_of, is_word_of, is_apart_of, suffices_for, same_if, do_fit, passed_of}
+use Rattle.safl_labels.specs.Likeness.{IsLike, least_of, or_time_of, suffices_for, same_if, do_fit, passed_of}
 
 -- terms that give the same word take the same time
 pub twins_less : {L : Labels} {ls : List Bool} {t u : Term} → Twins L ls t u true → Twins L ls t u false
@@ -47,14 +47,14 @@ module _ (L : Labels) (ls : List Bool) where
   least_right t u SameTime SameWord h = twins_less h
   least_right t u SameWord b h = h
 
-  pub plain_alike : (t u : Term) (m : Likeness) (plain : Bool) → (plain ≡ true → IsPlain t) → (plain ≡ true → IsPlain u) → IsLike L ls t u m
+  pub plain_alike : (t u : Term) (m : Likeness) (plain : Bool) → (plain ≡ true → IsPlainTerm t) → (plain ≡ true → IsPlainTerm u) → IsLike L ls t u m
       → IsLike L ls t u (or_time_of m plain)
   plain_alike t u Apart true p q h = t_plain (p refl) (q refl)
   plain_alike t u Apart false p q h = tt
   plain_alike t u SameTime plain p q h = h
   plain_alike t u SameWord plain p q h = h
 
-  pub left_alike : (c x y u : Term) (a b : Likeness) → IsPlain c → IsLike L ls x u a → IsLike L ls y u b → IsLike L ls (If c x y) u (least_of a b)
+  pub left_alike : (c x y u : Term) (a b : Likeness) → IsPlainTerm c → IsLike L ls x u a → IsLike L ls y u b → IsLike L ls (If c x y) u (least_of a b)
   left_alike c x y u a b p h k = by (least_of a b) (least_left x u a b h) (least_right y u a b k)
     where
       by : (m : Likeness) → IsLike L ls x u m → IsLike L ls y u m → IsLike L ls (If c x y) u m
@@ -62,7 +62,7 @@ module _ (L : Labels) (ls : List Bool) where
       by SameTime h k = t_left p h k
       by SameWord h k = t_left p h k
 
-  pub right_alike : (t c u v : Term) (a b : Likeness) → IsPlain c → IsLike L ls t u a → IsLike L ls t v b → IsLike L ls t (If c u v) (least_of a b)
+  pub right_alike : (t c u v : Term) (a b : Likeness) → IsPlainTerm c → IsLike L ls t u a → IsLike L ls t v b → IsLike L ls t (If c u v) (least_of a b)
   right_alike t c u v a b p h k = by (least_of a b) (least_left t u a b h) (least_right t v a b k)
     where
       by : (m : Likeness) → IsLike L ls t u m → IsLike L ls t v m → IsLike L ls t (If c u v) m
@@ -156,11 +156,11 @@ pub ok_then : {A E : Type 0} {P Q : A → Type 0} (r : Result A E) → ((x : A) 
 ok_then (Ok x) f h = f x h
 ok_then (Err e) f h = tt
 
-pub call_by : {t : Term} {f g k l : ℕ} {ts us : Terms} → t ≡ Call g l ts → f ≡ g → k ≡ l → us ≡ ts → t ≡ Call f k us
-call_by {t} {f} {g} {k} {l} {ts} {us} e p q r = e ∙ (ap (λ (n : ℕ). Call n l ts) (sym p) ∙ (ap (λ (n : ℕ). Call f n ts) (sym q) ∙ ap (Call f k) (sym r)))
+pub call_by : {t : Term} {f g k l : ℕ} {ts : Terms} → t ≡ Call g l ts → f ≡ g → k ≡ l → t ≡ Call f k ts
+call_by {t} {f} {g} {k} {l} {ts} e p q = e ∙ ap (λ (n : ℕ). Call n l ts) (sym p) ∙ ap (λ (n : ℕ). Call f n ts) (sym q)
 
-pub loop_by : {t : Term} {h g : ℕ} {ts us : Terms} → t ≡ Loop g ts → h ≡ g → us ≡ ts → t ≡ Loop h us
-loop_by {t} {h} {g} {ts} {us} e p r = e ∙ (ap (λ (n : ℕ). Loop n ts) (sym p) ∙ ap (Loop h) (sym r))
+pub loop_by : {t : Term} {h g : ℕ} {ts : Terms} → t ≡ Loop g ts → h ≡ g → t ≡ Loop h ts
+loop_by {t} {h} {g} {ts} e p = e ∙ ap (λ (n : ℕ). Loop n ts) (sym p)
 
 pub suffices_twins : (L : Labels) (ls : List Bool) (t u : Term) (m : Likeness) (b : Bool) → IsLike L ls t u m → suffices_for m b ≡ true → Twins L ls t u b
 suffices_twins L ls t u Apart b h e = absurd (false≢true e)

@@ -1,4 +1,3 @@
-pub mod Parts
 pub mod Alike
 pub mod Lists
 pub mod Kept

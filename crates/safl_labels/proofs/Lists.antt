@@ -1,6 +1,6 @@
 -- Lists of terms that are alike, one by one.
-use Rattle.std.proofs.Common.{◌≡◌, ℕ, zero, suc, ◌+◌, ◌*◌, ◌<◌, ◌≤◌, List, [], ◌∷◌, ◌++◌, Some, slice_get, take, length, Bool, true, false, refl, sym, ap, subst, ◌∙◌, arith, add-one}
-use Rattle.std.proofs.lemmas.Bool.{false≢true, true≢false}
+use Rattle.std.proofs.Common.{◌≡◌, ℕ, zero, suc, ◌+◌, ◌≤◌, List, [], ◌∷◌, ◌++◌, Some, slice_get, take, Bool, true, false, sym, ap, subst, arith, add-one}
+use Rattle.std.proofs.lemmas.Bool.{true≢false}
 use Rattle.safl_calls.specs.Labels.{Labels, Twins, AllTwins, t_nil, t_cons}
 use Rattle.safl_term.specs.declared.term.Term.{Term}
 use Rattle.safl_term.specs.Sizes.{nodes, nodes_in}

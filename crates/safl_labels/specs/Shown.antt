@@ -1,5 +1,5 @@
 -- The labels of the code, as labels.
-use Rattle.std.specs.Prelude.{ℕ, List, [], ◌∷◌, Option, Some, None, Bool, true, Vec, slice_get, unwrap_or}
+use Rattle.std.specs.Prelude.{List, [], ◌∷◌, Option, Some, None, Bool, true, Vec, slice_get}
 use Rattle.std.specs.declared.alloc.Global.{Global}
 use Rattle.safl_calls.specs.Labels as calls
 use Rattle.safl_labels.specs.declared.labels.Labels.{Labels}

@@ -1,7 +1,7 @@
 //! What is noted on a walk over a body, for the marks and for the answer. Nothing is proved of it.
 
 use crate::labels::{Labels, Parameter};
-use safl_term::Term;
+use safl_term::{Node, Term, top};
 use safl_word::NoMemory;
 use std::alloc::Global;
 use std::mem::replace;
@@ -114,17 +114,17 @@ impl Notes {
     // The parameter that the first word of a term that is not public comes from.
     #[cycle(source)]
     fn source(&self, slots: &[bool], t: &Term) -> Option<u32> {
-        match t {
-            Term::Const(_) => None,
-            Term::Var(i) => self.source_of_slot(slots, *i),
-            Term::If(condition, first, second) => self
+        match top(t) {
+            Node::Const(_) => None,
+            Node::Var(i) => self.source_of_slot(slots, i),
+            Node::If(condition, first, second) => self
                 .source(slots, condition)
                 .or(self.source(slots, first))
                 .or(self.source(slots, second)),
-            Term::Let(_, ts, body) => self.source_in(slots, ts).or(self.source(slots, body)),
-            Term::Op(_, ts) => self.source_in(slots, ts),
-            Term::Call(_, _, ts) => self.source_in(slots, ts),
-            Term::Loop(_, ts) => self.source_in(slots, ts),
+            Node::Let(_, ts, body) => self.source_in(slots, ts).or(self.source(slots, body)),
+            Node::Op(_, ts) => self.source_in(slots, ts),
+            Node::Call(_, _, ts) => self.source_in(slots, ts),
+            Node::Loop(_, ts) => self.source_in(slots, ts),
         }
     }
 

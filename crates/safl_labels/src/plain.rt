@@ -1,26 +1,26 @@
 //! Terms without calls, and terms that read a secret.
 
 ghost use Rattle.std.specs.Prelude.{◌≡◌, true};
-ghost use Rattle.safl_calls.specs.Labels.{IsPlain, ArePlain};
+ghost use Rattle.safl_calls.specs.Labels.{IsPlainTerm, ArePlain};
 ghost use Rattle.safl_term.specs.Tree.{shown_term, shown_terms};
 
-use safl_term::Term;
+use safl_term::{Node, Term, top};
 
 /// Whether the term has no call and no tail call.
 #[cycle(plain)]
 pub fn is_plain(t: &Term) -> bool
-    ensures { result ≡ true → IsPlain (shown_term t.now) }
+    ensures { result ≡ true → IsPlainTerm (shown_term t.now) }
 {
-    match t {
-        Term::Const(_) => true,
-        Term::Var(_) => true,
-        Term::If(condition, first, second) => {
+    match top(t) {
+        Node::Const(_) => true,
+        Node::Var(_) => true,
+        Node::If(condition, first, second) => {
             is_plain(condition) && (is_plain(first) && is_plain(second))
         }
-        Term::Let(_, bound, body) => are_plain(bound) && is_plain(body),
-        Term::Op(_, parts) => are_plain(parts),
-        Term::Call(_, _, _) => false,
-        Term::Loop(_, _) => false,
+        Node::Let(_, bound, body) => are_plain(bound) && is_plain(body),
+        Node::Op(_, parts) => are_plain(parts),
+        Node::Call(_, _, _) => false,
+        Node::Loop(_, _) => false,
     }
 }
 
@@ -38,17 +38,17 @@ fn are_plain(ts: &[Term]) -> bool
 /// looked at.
 #[cycle(reading)]
 pub fn reads_secret(slots: &[bool], t: &Term) -> bool {
-    match t {
-        Term::Const(_) => false,
-        Term::Var(i) => is_secret(slots, *i),
-        Term::If(condition, first, second) => {
+    match top(t) {
+        Node::Const(_) => false,
+        Node::Var(i) => is_secret(slots, i),
+        Node::If(condition, first, second) => {
             reads_secret(slots, condition)
                 || (reads_secret(slots, first) || reads_secret(slots, second))
         }
-        Term::Let(_, bound, body) => read_secret(slots, bound) || reads_secret(slots, body),
-        Term::Op(_, parts) => read_secret(slots, parts),
-        Term::Call(_, _, args) => read_secret(slots, args),
-        Term::Loop(_, args) => read_secret(slots, args),
+        Node::Let(_, bound, body) => read_secret(slots, bound) || reads_secret(slots, body),
+        Node::Op(_, parts) => read_secret(slots, parts),
+        Node::Call(_, _, args) => read_secret(slots, args),
+        Node::Loop(_, args) => read_secret(slots, args),
     }
 }
 

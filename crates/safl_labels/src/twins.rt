@@ -1,7 +1,7 @@
 //! Whether two terms take the same time, by recursion over both.
 
 ghost use Rattle.std.specs.Prelude.{◌≡◌, List, Bool, true, IfOk, IfSome};
-ghost use Rattle.safl_calls.specs.Labels.{Labels as CallLabels, IsPlain, label};
+ghost use Rattle.safl_calls.specs.Labels.{Labels as CallLabels, IsPlainTerm, label};
 ghost use Rattle.safl_term.specs.Terms.{Const, Var, Op, Let, Call, Loop};
 ghost use Rattle.safl_term.specs.Tree.{shown_term, shown_terms};
 ghost use Rattle.safl_labels.specs.Likeness.{IsLike, do_fit, passed_of};
@@ -12,7 +12,7 @@ use crate::labels::Labels;
 use crate::likeness::{Likeness, are_public, word_if};
 use crate::notes::Notes;
 use crate::plain::{is_plain, reads_secret};
-use safl_term::Term;
+use safl_term::{Node, Term, top};
 use safl_word::{NoMemory, Primitive, Word};
 use std::alloc::Global;
 
@@ -56,8 +56,8 @@ pub fn compare(walk: &Walk, notes: &mut Notes, t: &Term, u: &Term) -> Result<Lik
 fn compare_shapes(walk: &Walk, notes: &mut Notes, t: &Term, u: &Term) -> Result<Likeness, NoMemory>
     ensures { IfOk result (AreLike walk.now (shown_term t.now) (shown_term u.now)) }
 {
-    match u {
-        Term::If(condition, first, second) => {
+    match top(u) {
+        Node::If(condition, first, second) => {
             let other = Choice {
                 condition,
                 first,
@@ -65,8 +65,8 @@ fn compare_shapes(walk: &Walk, notes: &mut Notes, t: &Term, u: &Term) -> Result<
             };
             compare_with_choice(walk, notes, t, u, other)
         }
-        _ => match t {
-            Term::If(condition, first, second) => {
+        _ => match top(t) {
+            Node::If(condition, first, second) => {
                 let choice = Choice {
                     condition,
                     first,
@@ -74,12 +74,12 @@ fn compare_shapes(walk: &Walk, notes: &mut Notes, t: &Term, u: &Term) -> Result<
                 };
                 compare_left(walk, notes, choice, u)
             }
-            Term::Const(word) => Ok(compare_word(*word, u)),
-            Term::Var(i) => Ok(compare_slot(walk.slots, *i, u)),
-            Term::Op(o, ts) => compare_parts(walk, notes, *o, ts, u),
-            Term::Let(_, ts, body) => compare_lets(walk, notes, ts, body, u),
-            Term::Call(f, k, ts) => compare_calls(walk, notes, *f, *k, ts, u),
-            Term::Loop(h, ts) => compare_loops(walk, notes, *h, ts, u),
+            Node::Const(word) => Ok(compare_word(word, u)),
+            Node::Var(i) => Ok(compare_slot(walk.slots, i, u)),
+            Node::Op(o, ts) => compare_parts(walk, notes, o, ts, u),
+            Node::Let(_, ts, body) => compare_lets(walk, notes, ts, body, u),
+            Node::Call(f, k, ts) => compare_calls(walk, notes, f, k, ts, u),
+            Node::Loop(h, ts) => compare_loops(walk, notes, h, ts, u),
         },
     }
 }
@@ -96,8 +96,8 @@ fn compare_with_choice(
     requires { shown_term u.now ≡ shown_if other }
     ensures { IfOk result (AreLike walk.now (shown_term t.now) (shown_term u.now)) }
 {
-    match t {
-        Term::If(condition, first, second) => {
+    match top(t) {
+        Node::If(condition, first, second) => {
             let choice = Choice {
                 condition,
                 first,
@@ -224,8 +224,8 @@ fn compare_across(
 }
 
 fn are_plain(t: &Term, u: &Term) -> bool
-    ensures first { result ≡ true → IsPlain (shown_term t.now) }
-    ensures second { result ≡ true → IsPlain (shown_term u.now) }
+    ensures first { result ≡ true → IsPlainTerm (shown_term t.now) }
+    ensures second { result ≡ true → IsPlainTerm (shown_term u.now) }
 {
     is_plain(t) && is_plain(u)
 }
@@ -233,8 +233,8 @@ fn are_plain(t: &Term, u: &Term) -> bool
 fn compare_word(word: Word, u: &Term) -> Likeness
     ensures { (L : CallLabels) → (ls : List Bool) → IsLike L ls (Const (word)) (shown_term u.now) result }
 {
-    match u {
-        Term::Const(other) => {
+    match top(u) {
+        Node::Const(other) => {
             if word.width() == other.width() && word.bits() == other.bits() {
                 Likeness::SameWord
             } else {
@@ -248,9 +248,9 @@ fn compare_word(word: Word, u: &Term) -> Likeness
 fn compare_slot(slots: &[bool], i: u32, u: &Term) -> Likeness
     ensures { (L : CallLabels) → IsLike L slots.now (Var i) (shown_term u.now) result }
 {
-    match u {
-        Term::Var(j) => {
-            if i == *j {
+    match top(u) {
+        Node::Var(j) => {
+            if i == j {
                 word_if(is_public(slots, i))
             } else {
                 Likeness::Apart
@@ -279,10 +279,10 @@ fn compare_parts(
 ) -> Result<Likeness, NoMemory>
     ensures { IfOk result (AreLike walk.now (Op o (shown_terms ts.now)) (shown_term u.now)) }
 {
-    let Term::Op(p, us) = u else {
+    let Node::Op(p, us) = top(u) else {
         return Ok(Likeness::Apart);
     };
-    if !are_same(o, *p) {
+    if !are_same(o, p) {
         return Ok(Likeness::Apart);
     }
     match compare_all(walk, notes, ts, us)? {
@@ -307,7 +307,7 @@ fn compare_lets(
 ) -> Result<Likeness, NoMemory>
     ensures { IfOk result (AreLike walk.now (Let (shown_terms ts.now) (shown_term body.now)) (shown_term u.now)) }
 {
-    let Term::Let(_, us, other) = u else {
+    let Node::Let(_, us, other) = top(u) else {
         return Ok(Likeness::Apart);
     };
     let Some(bound) = compare_all(walk, notes, ts, us)? else {
@@ -336,10 +336,10 @@ fn compare_calls(
 ) -> Result<Likeness, NoMemory>
     ensures { IfOk result (AreLike walk.now (Call f k (shown_terms ts.now)) (shown_term u.now)) }
 {
-    let Term::Call(g, l, us) = u else {
+    let Node::Call(g, l, us) = top(u) else {
         return Ok(Likeness::Apart);
     };
-    if f != *g || k != *l {
+    if f != g || k != l {
         return Ok(Likeness::Apart);
     }
     match compare_all(walk, notes, ts, us)? {
@@ -358,10 +358,10 @@ fn compare_loops(
 ) -> Result<Likeness, NoMemory>
     ensures { IfOk result (AreLike walk.now (Loop h (shown_terms ts.now)) (shown_term u.now)) }
 {
-    let Term::Loop(g, us) = u else {
+    let Node::Loop(g, us) = top(u) else {
         return Ok(Likeness::Apart);
     };
-    if h != *g {
+    if h != g {
         return Ok(Likeness::Apart);
     }
     match compare_all(walk, notes, ts, us)? {

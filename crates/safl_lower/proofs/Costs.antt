@@ -22,12 +22,6 @@ cost_next [] i o e = absurd (cc)
 cost_next (x ∷ xs) zero o e = let s : x ≡ o = cc in let c = ap load_cost s in omega (arith, c)
 cost_next (x ∷ xs) (suc i) o e = let h = cost_next xs i o e in omega (arith, h)
 
-pub cost_upto : (xs : List (Option Load)) (i : ℕ) → loads_cost (take i xs) ≤ loads_cost xs
-cost_upto [] zero = omega arith
-cost_upto [] (suc i) = omega arith
-cost_upto (x ∷ xs) zero = omega arith
-cost_upto (x ∷ xs) (suc i) = let h = cost_upto xs i in omega (arith, h)
-
 -- ---- loads of known widths
 
 there_costs : (n : Netlist) (l : Load) (ws : List ℕ) → LoadFits n l ws → load_cost (Some l) ≡ 1 + length ws

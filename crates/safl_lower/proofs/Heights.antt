@@ -1,6 +1,6 @@
 -- Heights of gates, in nets that grow and above rows that are halved.
-use Rattle.std.proofs.Common.{◌≡◌, ℕ, zero, suc, ◌+◌, ◌*◌, ◌<◌, ◌≤◌, ◌/◌, ◌^◌, ◌⊎◌, inl, inr, List, [], ◌∷◌, ◌++◌, length, Option, Some, None, Vec, append_assoc}
-use Rattle.std.proofs.Common.{Global, Result, Ok, Err, IfOk, OnOk, slice_get, slice_index_or, refl, sym, ap, subst, ◌∙◌, arith}
+use Rattle.std.proofs.Common.{◌≡◌, ℕ, zero, suc, ◌+◌, ◌*◌, ◌<◌, ◌≤◌, ◌/◌, ◌^◌, inl, inr, List, [], ◌∷◌, ◌++◌, length, Option, Some, None, append_assoc}
+use Rattle.std.proofs.Common.{Result, Ok, Err, IfOk, OnOk, slice_get, slice_index_or, refl, sym, ap, subst, ◌∙◌, arith}
 use Rattle.std.proofs.Math.Nat.{pow-succ'}
 use Rattle.std.proofs.lemmas.Bool.{cases_eq}
 use Rattle.safl_net.specs.declared.cell.Sig.{Sig}

@@ -3,7 +3,6 @@ use Rattle.std.proofs.Common.{◌≡◌, ℕ, suc, ◌+◌, ◌<◌, ◌≤◌, 
 use Rattle.std.proofs.Common.{Vec, Global, Bool, true, false, cond, slice_get, slice_set, zero, ◌==◌, not, ◌&&◌, ◌||◌, refl, sym, ap, subst}
 use Rattle.std.proofs.Common.{◌∙◌, arith}
 use Rattle.std.proofs.lemmas.List.{take-append-drop}
-use Rattle.safl_word.specs.Words.{Word}
 use Rattle.std.specs.Option.{option_or}
 use Rattle.safl_net.specs.declared.cell.Sig.{Sig}
 use Rattle.safl_net.specs.Netlist.{Netlist}
@@ -161,12 +160,6 @@ frees_one v f (x ∷ []) e = refl
 frees_one v f (x ∷ y ∷ xs) e = absurd (omega (arith, e))
 
 -- ---- rows by number
-
-pub bare_push : {A : Type 0} (xs : List (Vec A Global)) (r : Vec A Global) → r.items ≡ [] → ((i : ℕ) → row_at xs i ≡ []) → (i : ℕ) → row_at (xs ++ r ∷ []) i ≡ []
-bare_push [] r e h zero = e
-bare_push [] r e h (suc i) = refl
-bare_push (x ∷ xs) r e h zero = h 0
-bare_push (x ∷ xs) r e h (suc i) = bare_push xs r e (λ j. h (suc j)) i
 
 pub row_pushed : {A : Type 0} (xs : List (Vec A Global)) (p i : ℕ) (old new : Vec A Global) (s : A) → p < length xs → slice_get xs p ≡ Some old →
     new.items ≡ old.items ++ s ∷ [] → row_at (slice_set xs p new) i ≡ row_at xs i ++ cond (i == p) (s ∷ []) []

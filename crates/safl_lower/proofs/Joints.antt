@@ -1,6 +1,6 @@
 -- Rows that are joined, one row after another.
 use Rattle.std.proofs.Common.{◌≡◌, ℕ, zero, suc, ◌*◌, List, [], ◌∷◌, ◌++◌, length, take, Option, Some, None, Vec, Global}
-use Rattle.std.proofs.Common.{slice_get, slice_index_or, refl, sym, subst, ◌∙◌, arith}
+use Rattle.std.proofs.Common.{slice_get, slice_index_or, refl, sym, subst, arith}
 use Rattle.std.proofs.Math.Bool.{and-false}
 use Rattle.safl_word.proofs.Lists.{take_suc}
 use Rattle.safl_word.proofs.Booleans.{or_none}

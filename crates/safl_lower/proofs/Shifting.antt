@@ -9,8 +9,8 @@ use Rattle.safl_word.specs.Words.{Word}
 use Rattle.safl_word.specs.Limits.{width_max}
 use Rattle.safl_word.specs.Primitives.{is_width, two_widths, bit_of, apply_prim, result_width}
 use Rattle.safl_word.specs.declared.primitive.Primitive.{Primitive}
-use Rattle.safl_word.specs.declared.primitive.Primitive.TheVariants.{Gt, Shl, Shr, Cat, Bits}
-use Rattle.safl_word.proofs.Widths.{within, only_where}
+use Rattle.safl_word.specs.declared.primitive.Primitive.TheVariants.{Gt, Cat, Bits}
+use Rattle.safl_word.proofs.Widths.{within}
 use Rattle.safl_net.specs.declared.cell.Sig.{Sig}
 use Rattle.safl_net.specs.Netlist.{Netlist}
 use Rattle.safl_net.specs.Widths.{prim_width}

@@ -1,13 +1,13 @@
 -- The last step of each kind of term in the walk down a body.
-use Rattle.std.proofs.Common.{◌≡◌, ℕ, List, ◌⊎◌, cond, ◌==◌, Result, Ok, Err, IfOk, OnOk, sym, subst}
-use Rattle.safl_term.specs.declared.term.Term as declared
-use Rattle.safl_term.specs.Terms.{Term, Terms, If, Call, Loop}
+use Rattle.std.proofs.Common.{◌≡◌, ℕ, List, ◌⊎◌, cond, ◌==◌, true, Result, Ok, Err, IfOk, OnOk, sym, subst}
+use Rattle.safl_term.specs.Terms.{Term, Terms, If, Let, Call, Loop}
 use Rattle.safl_term.specs.Readiness.{or_else}
-use Rattle.safl_term.specs.Tree.{shown_term, shown_terms}
 use Rattle.safl_net.specs.declared.cell.Sig.{Sig}
 use Rattle.safl_net.specs.Netlist.{Netlist}
 use Rattle.safl_net.specs.Growth.{Val, Wired}
 use Rattle.safl_net.proofs.Growth.{grows_on}
+use Rattle.safl_lower.specs.declared.joins.Paths.{Paths}
+use Rattle.safl_lower.specs.declared.lowered.Readiness.{Readiness}
 use Rattle.safl_lower.specs.declared.lowered.Readiness.TheVariants.{Never}
 use Rattle.safl_lower.specs.declared.lowered.SiteTable.{SiteTable}
 use Rattle.safl_lower.specs.declared.lowered.Lowered.{Lowered}
@@ -16,21 +16,47 @@ use Rattle.safl_lower.specs.declared.lowered.Out.{Out}
 use Rattle.safl_net.specs.Bits.{on, gate}
 use Rattle.safl_lower.specs.Bits.{is_ready}
 use Rattle.safl_lower.specs.Entries.{asked, went}
-use Rattle.safl_lower.specs.Lowering.{gives, gathered, open_at, Shaped, Lowers, LowersAll, ShowsPort, goes_with, Enters, Leaves}
-use Rattle.safl_lower.proofs.Branches.{Branches, lowers_if}
+use Rattle.safl_lower.specs.Lowering.{gives, gathered, open_at, Shaped, Lowerable, LowerableAll, Lowers, LowersAll, ShowsPort, goes_with, Enters, Leaves}
+use Rattle.safl_lower.proofs.Branches.{Branches, Inner, lowers_if}
 use Rattle.safl_lower.proofs.Calls.{lowers_call, lowers_loop}
 use Rattle.safl_lower.proofs.Able.{call_shape}
-use Rattle.safl_lower.specs.Sources.{Builds}
+use Rattle.safl_lower.specs.Joining.{is_reached, selects_yes, selects_no}
+use Rattle.safl_lower.specs.Sources.{IsSource, Builds}
+use Rattle.safl_lower.specs.Typing.{holds_calls}
 
-module _ {P : SiteTable} {path : Sig} {n m : Netlist} {o p : Out} where
-  -- the same of another name of the slots and of the term
-  pub renamed : {s slots : List Sig} {r : Lowered} {x y : declared.Term} → s ≡ slots → x ≡ y → Lowers P s path n m o p r (shown_term x) → Lowers P slots path n m o p r (shown_term y)
-  renamed {s} {slots} {r} {x} {y} e f h = subst (λ (l : List Sig). Lowers P l path n m o p r (shown_term y)) e (subst (λ (z : declared.Term). Lowers P s path n m o p r (shown_term z)) f h)
+-- the same of a term that is equal, and of another name of the slots
+module _ {P : SiteTable} {slots : List Sig} {path : Sig} {n : Netlist} where
+  pub able_by : {t u : Term} → t ≡ u → Lowerable n P slots path t → Lowerable n P slots path u
+  able_by e h = subst (λ (x : Term). Lowerable n P slots path x) e h
 
-  pub renamed_all : {s slots : List Sig} {r : LoweredAll} {xs ys : List declared.Term} → s ≡ slots → xs ≡ ys → LowersAll P s path n m o p r
-      (shown_terms xs) → LowersAll P slots path n m o p r (shown_terms ys)
-  renamed_all {s} {slots} {r} {xs} {ys} e f h = subst (λ (l : List Sig). LowersAll P l path n m o p r (shown_terms ys)) e
-      (subst (λ (z : List declared.Term). LowersAll P s path n m o p r (shown_terms z)) f h)
+  pub able_all_by : {ts us : Terms} → ts ≡ us → LowerableAll n P slots path ts → LowerableAll n P slots path us
+  able_all_by e h = subst (λ (x : Terms). LowerableAll n P slots path x) e h
+
+  pub able_in : {s : List Sig} {t : Term} → s ≡ slots → Lowerable n P slots path t → Lowerable n P s path t
+  able_in {s} {t} e h = subst (λ (l : List Sig). Lowerable n P l path t) (sym e) h
+
+module _ {P : SiteTable} {path : Sig} {n m : Netlist} {o p : Out} {r : Lowered} where
+  pub lowers_by : {slots : List Sig} {t u : Term} → t ≡ u → Lowers P slots path n m o p r u → Lowers P slots path n m o p r t
+  lowers_by {slots} e h = subst (λ (x : Term). Lowers P slots path n m o p r x) (sym e) h
+
+  pub lowers_in : {s slots : List Sig} {t : Term} → s ≡ slots → Lowers P s path n m o p r t → Lowers P slots path n m o p r t
+  lowers_in {s} {slots} {t} e h = subst (λ (l : List Sig). Lowers P l path n m o p r t) e h
+
+-- the paths of the branches of an if, and of the body of a let
+pub branches : {t c a b : Term} {n m : Netlist} → t ≡ If c a b → (path : Sig) (test : Lowered) (paths : Paths)
+    → Builds n m 4
+    → IsSource m paths.yes 1 × IsSource m paths.no 1
+    → (holds_calls a ≡ true → (v : Val) → Wired m v → on v paths.yes ≡ selects_yes v path test)
+    → (holds_calls b ≡ true → (v : Val) → Wired m v → on v paths.no ≡ selects_no v path test)
+    → Branches path n m test a b paths.yes paths.no
+branches e path test paths d w y z = record { grows = d.grows; count = d.count; settles = d.settles; yes_bit = w.0; no_bit = w.1; yes_on = y; no_on = z }
+
+pub body_in : {t b : Term} {ts : Terms} {n m : Netlist} → t ≡ Let ts b → (path : Sig) (ready : Readiness) (inner : Sig)
+    → Builds n m 1
+    → IsSource m inner 1
+    → (holds_calls b ≡ true → (v : Val) → Wired m v → on v inner ≡ is_reached v path ready)
+    → Inner path n m b ready inner
+body_in e path ready inner d w y = record { grows = d.grows; count = d.count; settles = d.settles; bit = w; is = y }
 
 pub done_if : {E : Type 0} {P : SiteTable} {slots : List Sig} {path py pn : Sig} {n0 n1 n2 n3 n4 n5 : Netlist} {o0 o1 o2 o3 : Out} {test yes no : Lowered} {c a b t : Term} (res : Result Lowered E)
     → t ≡ If c a b

@@ -16,7 +16,7 @@ use Rattle.safl_net.specs.Netlist.{Netlist, Signal, Kind, Input, Reg, Wire, Cell
 use Rattle.safl_net.specs.Valuations.{cell_word}
 use Rattle.safl_net.specs.Widths.{op_width}
 use Rattle.safl_net.specs.Rules.{IsNetlist, KindFits, CellFits}
-use Rattle.safl_net.specs.Making.{kind_at, kind_in, cell_in, numbers, widths}
+use Rattle.safl_net.specs.Making.{kind_at, kind_in, cell_in, numbers, signal_widths}
 use Rattle.safl_net.specs.Stored.{cell_of}
 use Rattle.safl_net.specs.Growth.{Val, words, Wired, Grows, KindHolds, maybe_width, width_at}
 use Rattle.safl_net.specs.Settled.{IsSettled, IsSteady}
@@ -222,8 +222,8 @@ choice_right n made settled s d e o xs l (Choice c a b) h w q =
     let three : numbers d.operands.items ≡ c.0 ∷ a.0 ∷ b.0 ∷ [] = ap numbers (sym l ∙ h) in
     let f = cell_fits n made s.0 (cell_of d) k in
     let known = subst (All (λ (t : ℕ). t < length n.signals)) three f.known in
-    let gives : op_width Mux (widths n (c.0 ∷ a.0 ∷ b.0 ∷ [])) ≡ Some (width_of n s.0) =
-    sym (ap (λ (p : Op). op_width p (widths n (c.0 ∷ a.0 ∷ b.0 ∷ []))) o) ∙ sym (ap (λ (ts : List ℕ). op_width d.op (widths n ts)) three) ∙ f.gives in
+    let gives : op_width Mux (signal_widths n (c.0 ∷ a.0 ∷ b.0 ∷ [])) ≡ Some (width_of n s.0) =
+    sym (ap (λ (p : Op). op_width p (signal_widths n (c.0 ∷ a.0 ∷ b.0 ∷ []))) o) ∙ sym (ap (λ (ts : List ℕ). op_width d.op (signal_widths n ts)) three) ∙ f.gives in
     let m = mux_widths (width_of n c.0) (width_of n a.0) (width_of n b.0) (width_of n s.0) gives in
     let same : width_of n s.0 ≡ w = width_is n s.0 w q.width in
     let steady : (i t : ℕ) → slice_get (c.0 ∷ a.0 ∷ b.0 ∷ []) i ≡ Some t → IsSteady n t =
@@ -240,9 +240,9 @@ choice_right n made settled s d e o xs l (Choice c a b) h w q =
 pub choice_three : (n : Netlist) → IsNetlist n → (s : Sig) (d : Made) → Some (cell_of d) ≡ cell_in (kind_at n s.0) → d.op ≡ Mux → (xs : List Sig) → xs ≡ d.operands.items → length xs ≡ 3
 choice_three n made s d e o xs l =
     let f = cell_fits n made s.0 (cell_of d) (kind_of_cell (kind_at n s.0) (cell_of d) e) in
-    ap length l ∙ by d.operands.items (sym (ap (λ (p : Op). op_width p (widths n (numbers d.operands.items))) o) ∙ f.gives)
+    ap length l ∙ by d.operands.items (sym (ap (λ (p : Op). op_width p (signal_widths n (numbers d.operands.items))) o) ∙ f.gives)
   where
-    by : (ys : List Sig) → op_width Mux (widths n (numbers ys)) ≡ Some (width_of n s.0) → length ys ≡ 3
+    by : (ys : List Sig) → op_width Mux (signal_widths n (numbers ys)) ≡ Some (width_of n s.0) → length ys ≡ 3
     by [] h = absurd (cc)
     by (x ∷ []) h = absurd (cc)
     by (x ∷ y ∷ []) h = absurd (cc)

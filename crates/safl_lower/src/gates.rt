@@ -1,6 +1,6 @@
 //! Gates: one temporary each, over signals that the temporaries of a body may read.
 
-ghost use Rattle.std.specs.Prelude.{◌≡◌, ℕ, ◌+◌, ◌≤◌, ◌&&◌, ◌||◌, List, [], ◌∷◌, ◌++◌, not, cond, false, length, Some, IfOk};
+ghost use Rattle.std.specs.Prelude.{◌≡◌, ℕ, ◌+◌, ◌&&◌, ◌||◌, List, [], ◌∷◌, ◌++◌, not, cond, false, length, Some, IfOk};
 ghost use Rattle.safl_word.specs.Primitives.{apply_prim};
 ghost use Rattle.safl_net.specs.Widths.{op_width, prim_width};
 ghost use Rattle.safl_net.specs.Valuations.{cell_word};

@@ -4,21 +4,21 @@ ghost use Rattle.std.specs.Prelude.{◌≡◌};
 ghost use Rattle.safl_term.specs.Tree.{shown_term, shown_terms};
 ghost use Rattle.safl_lower.specs.Typing.{holds_calls, hold_calls};
 
-use safl_term::Term;
+use safl_term::{Node, Term, top};
 
 /// Whether the term contains a call or a tail call.
 #[cycle(holding)]
 pub fn holds_calls(t: &Term) -> bool
     ensures { result ≡ holds_calls (shown_term t.now) }
 {
-    match t {
-        Term::Const(_) => false,
-        Term::Var(_) => false,
-        Term::If(c, a, b) => holds_calls(c) || holds_calls(a) || holds_calls(b),
-        Term::Let(_, ts, b) => hold_calls(ts) || holds_calls(b),
-        Term::Op(_, ts) => hold_calls(ts),
-        Term::Call(_, _, _) => true,
-        Term::Loop(_, _) => true,
+    match top(t) {
+        Node::Const(_) => false,
+        Node::Var(_) => false,
+        Node::If(c, a, b) => holds_calls(c) || holds_calls(a) || holds_calls(b),
+        Node::Let(_, ts, b) => hold_calls(ts) || holds_calls(b),
+        Node::Op(_, ts) => hold_calls(ts),
+        Node::Call(_, _, _) => true,
+        Node::Loop(_, _) => true,
     }
 }
 

@@ -1,6 +1,6 @@
 //! Primitives on signals, including `Ext`, which has no cell.
 
-ghost use Rattle.std.specs.Prelude.{◌≡◌, ℕ, ◌<◌, ◌≤◌, List, Some, IfOk};
+ghost use Rattle.std.specs.Prelude.{◌≡◌, ℕ, ◌<◌, ◌≤◌, Some, IfOk};
 ghost use Rattle.safl_word.specs.Limits.{width_max};
 ghost use Rattle.safl_word.specs.Primitives.{apply_prim, result_width};
 ghost use Rattle.safl_net.specs.Growth.{Val, Wired};

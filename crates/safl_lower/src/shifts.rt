@@ -1,6 +1,6 @@
 //! Shifts by amounts of any width.
 
-ghost use Rattle.std.specs.Prelude.{◌≡◌, ℕ, ◌≤◌, List, Some, IfOk, slice_index_or};
+ghost use Rattle.std.specs.Prelude.{ℕ, ◌≤◌, IfOk, slice_index_or};
 ghost use Rattle.safl_word.specs.Limits.{width_max};
 ghost use Rattle.safl_word.specs.Primitives.{apply_prim, result_width};
 ghost use Rattle.safl_net.specs.Growth.{Val, Wired};

@@ -1,6 +1,6 @@
 //! The circuits of terms.
 
-ghost use Rattle.std.specs.Prelude.{◌≡◌, ◌*◌, ◌<◌, IfOk, OnOk};
+ghost use Rattle.std.specs.Prelude.{◌≡◌, ◌<◌, IfOk, OnOk};
 ghost use Rattle.safl_term.specs.Tree.{shown_term, shown_terms};
 ghost use Rattle.safl_net.specs.Names.{IsTidy};
 ghost use Rattle.safl_net.specs.Growth.{Grows};
@@ -12,7 +12,7 @@ use crate::lowered::{Lowered, LoweredAll, Out, Readiness, SiteTable};
 use crate::primitives::apply;
 use crate::ready::both_ready;
 use safl_net::{Net, Sig};
-use safl_term::Term;
+use safl_term::{Node, Term, top};
 use safl_word::NoMemory;
 use std::alloc::Global;
 
@@ -35,26 +35,26 @@ pub fn lower_term(
     ensures slots { OnOk result (slots.new.items ≡ slots.old.items) }
     ensures done { IfOk result (λ r. Lowers sites.now slots.old.items path net.old net.new out.old out.new r (shown_term t.now)) }
 {
-    match t {
-        Term::Const(w) => {
-            let value = constant(net, *w)?;
+    match top(t) {
+        Node::Const(w) => {
+            let value = constant(net, w)?;
             Ok(Lowered {
                 ready: Readiness::Always,
                 value,
             })
         }
-        Term::Var(i) => Ok(Lowered {
+        Node::Var(i) => Ok(Lowered {
             ready: Readiness::Always,
-            value: slots[*i as usize],
+            value: slots[i as usize],
         }),
-        Term::If(c, a, b) => {
+        Node::If(c, a, b) => {
             let test = lower_term(alloc, net, out, slots, sites, path, c)?;
             let paths = branch_paths(net, path, test, a, b)?;
             let yes = lower_term(alloc, net, out, slots, sites, paths.yes, a)?;
             let no = lower_term(alloc, net, out, slots, sites, paths.no, b)?;
             choose(net, test, yes, no)
         }
-        Term::Let(_, ts, b) => {
+        Node::Let(_, ts, b) => {
             let bound = lower_all(alloc, net, out, slots, sites, path, ts)?;
             let inner = body_path(net, path, bound.ready, b)?;
             let depth = slots.len();
@@ -67,21 +67,21 @@ pub fn lower_term(
                 value: body.value,
             })
         }
-        Term::Op(p, ts) => {
+        Node::Op(p, ts) => {
             let all = lower_all(alloc, net, out, slots, sites, path, ts)?;
-            let value = apply(net, *p, &all.values)?;
+            let value = apply(net, p, &all.values)?;
             Ok(Lowered {
                 ready: all.ready,
                 value,
             })
         }
-        Term::Call(_, k, ts) => {
+        Node::Call(_, k, ts) => {
             let all = lower_all(alloc, net, out, slots, sites, path, ts)?;
-            ask(net, out, sites, path, *k, all)
+            ask(net, out, sites, path, k, all)
         }
-        Term::Loop(h, ts) => {
+        Node::Loop(h, ts) => {
             let all = lower_all(alloc, net, out, slots, sites, path, ts)?;
-            go_on(net, out, path, *h, all)
+            go_on(net, out, path, h, all)
         }
     }
 }

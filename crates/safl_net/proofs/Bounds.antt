@@ -11,7 +11,7 @@ use Rattle.safl_net.specs.declared.cell.Op.{Op}
 use Rattle.safl_net.specs.declared.cell.Op.TheVariants.{Const, Copy, Mux, Apply}
 use Rattle.safl_net.specs.Netlist.{Netlist, Signal, width_in}
 use Rattle.safl_net.specs.Widths.{op_width, prim_width, HasWord}
-use Rattle.safl_net.specs.Making.{widths}
+use Rattle.safl_net.specs.Making.{signal_widths}
 use Rattle.safl_net.specs.Rules.{IsNetlist}
 
 pub record IsWidth (w : ℕ) : Type 0 where
@@ -72,6 +72,6 @@ signal_width n None s e k h = absurd (no_get n.signals s h e)
     no_get (g ∷ gs) (suc s) h e = no_get gs s (omega (arith, h)) e
 signal_width n (Some g) s e k h = let f = k.signals s g e in record { some = f.some; most = f.most }
 
-pub widths_are : (n : Netlist) (xs : List ℕ) → IsNetlist n → All (λ s. s < length n.signals) xs → AreWidths (widths n xs)
+pub widths_are : (n : Netlist) (xs : List ℕ) → IsNetlist n → All (λ s. s < length n.signals) xs → AreWidths (signal_widths n xs)
 widths_are n [] k h = tt
 widths_are n (x ∷ xs) k h = (signal_width n (slice_get n.signals x) x refl k (h 0 0 (omega arith)), widths_are n xs k (λ i d l. h (suc i) d (omega (arith, l))))

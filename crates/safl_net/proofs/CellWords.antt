@@ -13,7 +13,7 @@ use Rattle.safl_net.specs.declared.cell.Op.TheVariants.{Const, Copy, Mux, Apply}
 use Rattle.safl_net.specs.Netlist.{Netlist, Signal, Kind, Input, Reg, Wire, Cell, width_in, width_of}
 use Rattle.safl_net.specs.Valuations.{Valuation, cell_word, signal_word, Holds, Fits}
 use Rattle.safl_net.specs.Widths.{op_width, prim_width, HasWord}
-use Rattle.safl_net.specs.Making.{widths}
+use Rattle.safl_net.specs.Making.{signal_widths}
 use Rattle.safl_net.specs.Rules.{IsNetlist, CellFits}
 use Rattle.safl_net.specs.Growth.{KindHolds, Wired}
 
@@ -66,7 +66,7 @@ cell_is_word Mux (c ∷ (a ∷ (b ∷ []))) w h k e = picked IsWord c.bits a b h
 cell_is_word Mux (c ∷ (a ∷ (b ∷ (d ∷ vs)))) w h k e = absurd (cc)
 cell_is_word (Apply p) vs w h k e = apply_fits p vs w h (prim_says p (word_widths vs) w e)
 
-pub shown_widths : (n : Netlist) (v : Valuation) (xs : List ℕ) → word_widths (map (signal_word n v) xs) ≡ widths n xs
+pub shown_widths : (n : Netlist) (v : Valuation) (xs : List ℕ) → word_widths (map (signal_word n v) xs) ≡ signal_widths n xs
 shown_widths n v [] = refl
 shown_widths n v (x ∷ xs) = ap (λ l. width_of n x ∷ l) (shown_widths n v xs)
 

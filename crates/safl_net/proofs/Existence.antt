@@ -8,7 +8,7 @@ use Rattle.safl_word.proofs.Naturals.{below_power}
 use Rattle.safl_net.specs.Netlist.{Netlist, Signal, Kind, Input, Reg, Wire, Cell, IsSet, AllSet, width_in, width_of}
 use Rattle.safl_net.specs.Valuations.{Valuation, Holds, Fits, IsAcyclic, signal_word, cell_word}
 use Rattle.safl_net.specs.Widths.{op_width}
-use Rattle.safl_net.specs.Making.{widths, kind_in, kind_at}
+use Rattle.safl_net.specs.Making.{signal_widths, kind_in, kind_at}
 use Rattle.safl_net.specs.Rules.{IsNetlist, CellFits}
 use Rattle.safl_net.specs.Laws.{FitWidths, HasInputs, OneFits, ExactlyOneValuation}
 use Rattle.safl_net.proofs.CellWords.{cell_width, cell_is_word, word_widths, cell_of_net}
@@ -42,7 +42,7 @@ table_at f i [] s h = absurd (omega arith)
 table_at f i (x ∷ xs) zero h = ap f (omega arith)
 table_at f i (x ∷ xs) (suc s) h = table_at f (suc i) xs s (omega (arith, h)) ∙ ap f (omega arith)
 
-by_widths : (n : Netlist) (f : ℕ → ℕ) (ts : List ℕ) → word_widths (map (word_by n f) ts) ≡ widths n ts
+by_widths : (n : Netlist) (f : ℕ → ℕ) (ts : List ℕ) → word_widths (map (word_by n f) ts) ≡ signal_widths n ts
 by_widths n f [] = refl
 by_widths n f (t ∷ ts) = ap (λ l. width_of n t ∷ l) (by_widths n f ts)
 

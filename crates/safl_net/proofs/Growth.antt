@@ -10,7 +10,7 @@ use Rattle.safl_net.specs.Netlist.{Netlist, Signal, Kind, Input, Reg, Wire, widt
 use Rattle.safl_net.specs.Valuations.{cell_word}
 use Rattle.safl_net.specs.Names.{one_wire, wires}
 use Rattle.safl_net.specs.Widths.{op_width}
-use Rattle.safl_net.specs.Making.{with_signal, numbers, widths, width_on, temporary}
+use Rattle.safl_net.specs.Making.{with_signal, numbers, signal_widths, width_on, temporary}
 use Rattle.safl_net.specs.Growth.{Val, words, SignalHolds, Wired, maybe_width, width_at, Sized, HasCell, AreTemps, Grows}
 
 -- ---- growing
@@ -109,11 +109,11 @@ sized_known n (x ∷ xs) (w ∷ ws) h = λ i d l. by i d l (within n x.0 w h.0) 
     by zero d l a b = a
     by (suc i) d l a b = b i d (omega (arith, l))
 
-pub sized_widths : (n : Netlist) (xs : List Sig) (ws : List ℕ) → Sized n xs ws → widths n (numbers xs) ≡ ws
+pub sized_widths : (n : Netlist) (xs : List Sig) (ws : List ℕ) → Sized n xs ws → signal_widths n (numbers xs) ≡ ws
 sized_widths n [] [] h = refl
 sized_widths n [] (w ∷ ws) h = absurd h
 sized_widths n (x ∷ xs) [] h = absurd h
-sized_widths n (x ∷ xs) (w ∷ ws) h = ap (λ a. a ∷ widths n (numbers xs)) (width_is n x.0 w h.0) ∙ ap (λ l. w ∷ l) (sized_widths n xs ws h.1)
+sized_widths n (x ∷ xs) (w ∷ ws) h = ap (λ a. a ∷ signal_widths n (numbers xs)) (width_is n x.0 w h.0) ∙ ap (λ l. w ∷ l) (sized_widths n xs ws h.1)
 
 pub sized_gives : (n : Netlist) (op : Op) (xs : List Sig) (ws : List ℕ) (w : ℕ) → Sized n xs ws → op_width op ws ≡ Some w → width_on n op xs ≡ Some w
 sized_gives n op xs ws w h e = ap (op_width op) (sized_widths n xs ws h) ∙ e

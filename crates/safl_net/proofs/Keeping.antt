@@ -7,7 +7,7 @@ use Rattle.safl_net.specs.declared.cell.Op.{Op}
 use Rattle.safl_net.specs.Netlist.{Netlist, Signal, Kind, Input, Reg, Wire, Cell, width_in, width_of}
 use Rattle.safl_net.specs.Names.{is_good, has_name}
 use Rattle.safl_net.specs.Widths.{op_width, HasWord}
-use Rattle.safl_net.specs.Making.{with_signal, with_output, with_kind, set_kind, widths, numbers, cell_on, width_on}
+use Rattle.safl_net.specs.Making.{with_signal, with_output, with_kind, set_kind, signal_widths, numbers, cell_on, width_on}
 use Rattle.safl_net.specs.Rules.{IsNetlist, SignalFits, KindFits, CellFits}
 use Rattle.safl_net.proofs.Naming.{unnamed}
 
@@ -16,12 +16,12 @@ pub record Above (n m : Netlist) : Type 0 where
   pub more : length n.signals ≤ length m.signals
   pub same : (s : ℕ) → s < length n.signals → width_of m s ≡ width_of n s
 
-pub widths_above : {n m : Netlist} → Above n m → (xs : List ℕ) → All (λ s. s < length n.signals) xs → widths m xs ≡ widths n xs
+pub widths_above : {n m : Netlist} → Above n m → (xs : List ℕ) → All (λ s. s < length n.signals) xs → signal_widths m xs ≡ signal_widths n xs
 widths_above a [] k = refl
 widths_above {n} {m} a (x ∷ xs) k =
     let e = a.same x (k 0 0 (omega arith)) in
     let f = widths_above a xs (λ i d h. k (suc i) d (omega (arith, h))) in
-    ap (λ w. w ∷ widths m xs) e ∙ ap (λ ws. width_of n x ∷ ws) f
+    ap (λ w. w ∷ signal_widths m xs) e ∙ ap (λ ws. width_of n x ∷ ws) f
 
 pub cell_above : {n m : Netlist} → Above n m → (w : ℕ) (c : Cell) → CellFits n w c → CellFits m w c
 cell_above a w c f = record {

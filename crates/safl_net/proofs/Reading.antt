@@ -2,7 +2,7 @@
 use Rattle.std.proofs.Common.{◌≡◌, ℕ, zero, suc, ◌+◌, List, [], ◌∷◌, Option, Some, Bool, true, false, cond, bytes_eq, slice_get, slice_index, refl, sym, ap, subst, ◌∙◌, arith}
 use Rattle.std.proofs.lemmas.Slice.Eq.{bytes_eq-Decides}
 use Rattle.safl_net.specs.Netlist.{Netlist, Signal, Reg, width_in, width_of, place, output_place}
-use Rattle.safl_net.specs.Valuations.{Valuation, Holds, Fits, signal_word, kind_reset, kind_next, reset_number, reset_state, next_number, next_state, number_at, next_at, read, read_next, read_output}
+use Rattle.safl_net.specs.Valuations.{Valuation, Holds, Fits, signal_word, kind_reset, kind_next, reset_number, reset_state, next_number, next_state, number_at, read, read_output}
 use Rattle.safl_net.specs.Rules.{IsNetlist, KindFits}
 
 -- ---- a name that stands once is found where it stands
@@ -56,10 +56,6 @@ read_output_word n v i o k e = ap (number_at v) (output_place_of n i o k e)
 
 next_number_of : (n : Netlist) (v : Valuation) (s init m : ℕ) (g : Signal) → slice_get n.signals s ≡ Some g → g.kind ≡ Reg init (Some m) → next_state n v s ≡ slice_index v m
 next_number_of n v s init m g e is = ap (next_number v) e ∙ ap (kind_next v) is
-
-pub read_next_word : (n : Netlist) (v : Valuation) (s init m : ℕ) (g : Signal) → IsNetlist n → slice_get n.signals s ≡ Some g → g.kind ≡ Reg init
-    (Some m) → read_next n v g.name ≡ (signal_word n v m).bits
-read_next_word n v s init m g k e is = ap (next_at n v) (place_of n s g k e) ∙ next_number_of n v s init m g e is
 
 held : (n : Netlist) (state : ℕ → ℕ) (w : Valuation) (s init : ℕ) (next : Option ℕ) (g : Signal) → Fits n state w → slice_get n.signals s ≡ Some g → g.kind ≡ Reg init next → slice_index w s ≡ state s
 held n state w s init next g f e is = subst (λ k. Holds n w (state s) (slice_index w s) k) is (f.each s g e).1

@@ -1,28 +1,15 @@
 -- A net in which cells and next signals are set says all that it said.
-use Rattle.std.proofs.Common.{◌≡◌, ℕ, zero, suc, List, [], ◌∷◌, map, Some, None, slice_get, refl, sym, ap, subst, ◌∙◌}
+use Rattle.std.proofs.Common.{◌≡◌, ℕ, zero, suc, List, [], ◌∷◌, Some, None, slice_get, refl, sym, ap, subst, ◌∙◌}
 use Rattle.safl_word.specs.Words.{Word}
-use Rattle.safl_word.proofs.Lists.{get_front}
 use Rattle.safl_net.specs.Netlist.{Netlist, Signal, Kind, Reg, Wire, Cell}
-use Rattle.safl_net.specs.Valuations.{cell_word}
-use Rattle.safl_net.specs.Making.{with_signal, with_output, with_kind, set_kind, kind_in, kind_at}
-use Rattle.safl_net.specs.Growth.{Val, KindHolds, SignalHolds, Wired, maybe_width, Grows, Says}
-use Rattle.safl_net.proofs.Growth.{wired_before, width_kept, width_front}
+use Rattle.safl_net.specs.Making.{with_output, with_kind, set_kind, kind_in, kind_at}
+use Rattle.safl_net.specs.Growth.{Val, KindHolds, SignalHolds, maybe_width, Says}
 
 pub says_same : (n : Netlist) → Says n n
 says_same n = record { before = λ v w. w; widths = λ s w e. e }
 
 pub says_on : {a b c : Netlist} → Says a b → Says b c → Says a c
 says_on g h = record { before = λ v w. g.before v (h.before v w); widths = λ s w e. h.widths s w (g.widths s w e) }
-
-pub says_grown : {a b : Netlist} → Grows a b → Says a b
-says_grown g = record { before = λ v w. wired_before g w; widths = λ s w e. width_kept g s w e }
-
--- one more signal, of any kind
-pub says_signal : (n : Netlist) (g : Signal) → Says n (with_signal n g)
-says_signal n g = record {
-  before = λ v w. record { each = λ s h e. w.each s h (get_front n.signals (g ∷ []) s h e) };
-  widths = λ s w e. width_front n.signals (g ∷ []) s w e;
-}
 
 -- one more output
 pub says_output : (n : Netlist) (name : List ℕ) (s : ℕ) → Says n (with_output n name s)
@@ -67,7 +54,3 @@ kind_set : (gs : List Signal) (s : ℕ) (k : Kind) (g : Signal) → slice_get gs
 kind_set [] s k g e = absurd (cc)
 kind_set (a ∷ gs) zero k g e = let p : a ≡ g = cc in ap (λ (y : Signal). Some (record { name = y.name; width = y.width; kind = k })) p
 kind_set (a ∷ gs) (suc s) k g e = kind_set gs s k g e
-
--- the word of a wire whose cell was set
-pub set_word : (n : Netlist) (s : ℕ) (g : Signal) (c : Cell) (v : Val) → slice_get n.signals s ≡ Some g → Wired (with_kind n s (Wire (Some c))) v → v s ≡ cell_word c.op (map v c.operands)
-set_word n s g c v e h = (h.each s _ (kind_set n.signals s (Wire (Some c)) g e)).kind

@@ -1,6 +1,6 @@
 -- What keeps a net settled.
-use Rattle.std.proofs.Common.{◌≡◌, ℕ, zero, suc, ◌+◌, ◌<◌, List, [], ◌∷◌, ◌++◌, length, Option, Some, None, Bool, true, false, cond, ◌==◌, Result, Ok}
-use Rattle.std.proofs.Common.{Err, IfOk, OnOk, inl, inr, slice_get, refl, sym, ap, subst, ◌∙◌, arith}
+use Rattle.std.proofs.Common.{◌≡◌, ℕ, zero, suc, ◌+◌, ◌<◌, List, [], ◌∷◌, ◌++◌, length, Option, Some, None, Bool, true, false, cond, ◌==◌}
+use Rattle.std.proofs.Common.{inl, inr, slice_get, refl, sym, ap, subst, ◌∙◌, arith}
 use Rattle.std.proofs.lemmas.Bool.Decides.{Decides-eqb}
 use Rattle.std.proofs.lemmas.Option.{slice_get_within}
 use Rattle.std.proofs.lemmas.Bool.{cases_eq}
@@ -10,7 +10,7 @@ use Rattle.safl_net.specs.declared.cell.Op.{Op}
 use Rattle.safl_net.specs.Netlist.{Netlist, Signal, Kind, Reg, Wire, Cell}
 use Rattle.safl_net.specs.Making.{with_signal, with_output, with_kind, set_kind, numbers, cell_on, temporary, kind_in, kind_at}
 use Rattle.safl_net.specs.Growth.{HasCell, Grows}
-use Rattle.safl_net.specs.Settled.{IsDriven, IsDrivenIn, IsSteady, AreSteady, IsSettled, SettlesOn, Settles}
+use Rattle.safl_net.specs.Settled.{IsDriven, IsDrivenIn, IsSteady, AreSteady, IsSettled, Settles}
 use Rattle.safl_net.proofs.Growth.{get_kept, get_new}
 
 -- ---- steady signals
@@ -24,17 +24,6 @@ steady_get n s h = driven_some (slice_get n.signals s) h
 
 pub steady_by : (n : Netlist) (s : ℕ) (g : Signal) → slice_get n.signals s ≡ Some g → IsDriven g.kind → IsSteady n s
 steady_by n s g e h = subst IsDrivenIn (sym e) h
-
-pub steady_within : (n : Netlist) (s : ℕ) → IsSteady n s → s < length n.signals
-steady_within n s h = let k = steady_get n s h in slice_get_within n.signals s k.0 k.1
-
-pub steady_kind : (n : Netlist) (s : ℕ) → s < length n.signals → IsDriven (kind_at n s) → IsSteady n s
-steady_kind n s l h = by n.signals s l h
-  where
-    by : (gs : List Signal) (s : ℕ) → s < length gs → IsDriven (kind_in (slice_get gs s)) → IsDrivenIn (slice_get gs s)
-    by [] s l h = absurd (omega arith)
-    by (g ∷ gs) zero l h = h
-    by (g ∷ gs) (suc s) l h = by gs s (omega (arith, l)) h
 
 -- steady signals stay steady where the net grows
 pub steady_grown : {a b : Netlist} → Grows a b → (s : ℕ) → IsSteady a s → IsSteady b s
@@ -50,11 +39,6 @@ are_steady_grown {a} {b} g xs h = are_steady a b (steady_grown g) xs h
 pub are_steady_more : (n : Netlist) (xs ys : List Sig) → AreSteady n xs → AreSteady n ys → AreSteady n (xs ++ ys)
 are_steady_more n [] ys a b = b
 are_steady_more n (x ∷ xs) ys a b = (a.0, are_steady_more n xs ys a.1 b)
-
-pub steady_at : (n : Netlist) (xs : List Sig) (i : ℕ) (x : Sig) → AreSteady n xs → slice_get xs i ≡ Some x → IsSteady n x.0
-steady_at n [] i x h e = absurd (cc)
-steady_at n (y ∷ xs) zero x h e = let q : y ≡ x = cc in subst (λ (z : Sig). IsSteady n z.0) q h.0
-steady_at n (y ∷ xs) (suc i) x h e = steady_at n xs i x h.1 e
 
 numbers_steady : (n : Netlist) (xs : List Sig) → AreSteady n xs → (i t : ℕ) → slice_get (numbers xs) i ≡ Some t → IsSteady n t
 numbers_steady n [] h i t e = absurd (cc)
@@ -141,23 +125,11 @@ changes n m s xs k = record { settled = λ h. settled n m s xs k h; steady = k.s
 
 -- ---- nothing, and one step after another
 
-pub settled_empty : (n : Netlist) → n.signals ≡ [] → IsSettled n
-settled_empty n e =
-    let none : (s : ℕ) (g : Signal) → slice_get n.signals s ≡ Some g → ⊥ = λ s g f. let q : None ≡ Some g = sym (ap (λ l. slice_get l s) e) ∙ f in cc in
-    record {
-      acyclic = record { rank = λ s. 0; rises = λ s t i g h c d f k o p r. absurd (none s g f) };
-      reads = λ s t i g c f k o. absurd (none s g f);
-    }
-
 pub settles_same : (n m : Netlist) → m ≡ n → Settles n m
 settles_same n m e = subst (λ x. Settles n x) (sym e) (record { settled = λ h. h; steady = λ s h. h })
 
 pub settles_on : {a b c : Netlist} → Settles a b → Settles b c → Settles a c
 settles_on g h = record { settled = λ k. h.settled (g.settled k); steady = λ s k. h.steady s (g.steady s k) }
-
--- a net that grows settles, where it stays settled
-pub settles_grown : {a b : Netlist} → Grows a b → (IsSettled a → IsSettled b) → Settles a b
-settles_grown g h = record { settled = h; steady = steady_grown g }
 
 pub are_steady_on : {a b : Netlist} → Settles a b → (xs : List Sig) → AreSteady a xs → AreSteady b xs
 are_steady_on {a} {b} g xs h = are_steady a b g.steady xs h
@@ -192,11 +164,6 @@ same_operands a c f = let q : a ≡ c = cc in ap (λ (x : Cell). x.operands) (sy
 no_cell : (k : Kind) (c : Cell) → ¬ HasCell k → ¬ (k ≡ Wire (Some c))
 no_cell k c h = λ e. h (subst HasCell (sym e) tt)
 
--- an input, a register or a wire without a cell
-pub settles_signal : (n m : Netlist) (g : Signal) → ¬ HasCell g.kind → m ≡ with_signal n g → Settles n m
-settles_signal n m g h e =
-    subst (λ x. Settles n x) (sym e) (changes n (with_signal n g) (length n.signals) [] (one_more n g [] (λ c f. absurd (no_cell g.kind c h f)) (λ i t f. absurd (cc))))
-
 -- a temporary of steady operands
 pub settles_temp : (n m : Netlist) (op : Op) (xs : List Sig) → AreSteady n xs → m ≡ with_signal n (temporary n op xs) → Settles n m
 settles_temp n m op xs h e =
@@ -206,12 +173,6 @@ settles_temp n m op xs h e =
 -- the new signal is steady where it is no wire without a cell
 pub steady_new : (n m : Netlist) (g : Signal) (s : ℕ) → IsDriven g.kind → m ≡ with_signal n g → s ≡ length n.signals → IsSteady m s
 steady_new n m g s h e f = steady_by m s g (get_new n m g s e f) h
-
--- what a caller of `temp` has
-pub made_settled : {E : Type 0} (n m : Netlist) (r : Result Sig E) (op : Op) (xs : List Sig) → OnOk r (m ≡ with_signal n (temporary n op xs)) → IfOk r (λ s. s.0 ≡ length n.signals)
-    → IfOk r (λ s. AreSteady n xs → SettlesOn n m (s ∷ []))
-made_settled n m (Ok s) op xs a b = λ h. record { net = (settles_temp n m op xs h a).settled; signals = (steady_new n m (temporary n op xs) s.0 tt a b, tt) }
-made_settled n m (Err e) op xs a b = tt
 
 -- ---- another kind
 

@@ -34,8 +34,8 @@ abbrev pub cell_on : Op → List Sig → Cell
 cell_on op xs = record { op = op; operands = numbers xs }
 
 -- the widths of signals
-abbrev pub widths : Netlist → List ℕ → List ℕ
-widths n xs = map (width_of n) xs
+abbrev pub signal_widths : Netlist → List ℕ → List ℕ
+signal_widths n xs = map (width_of n) xs
 
 -- the signal of a wire with a cell
 abbrev pub wired : List ℕ → ℕ → Cell → Signal
@@ -43,7 +43,7 @@ wired name width c = record { name = name; width = width; kind = Wire (Some c) }
 
 -- the width of an operation on these signals, if they fit
 abbrev pub width_on : Netlist → Op → List Sig → Option ℕ
-width_on n op xs = op_width op (widths n (numbers xs))
+width_on n op xs = op_width op (signal_widths n (numbers xs))
 
 -- the next temporary: a wire with this cell, named `n$` and its number among the wires
 abbrev pub temporary : Netlist → Op → List Sig → Signal

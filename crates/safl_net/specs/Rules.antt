@@ -4,12 +4,12 @@ use Rattle.safl_word.specs.Limits.{width_max}
 use Rattle.safl_net.specs.Netlist.{Netlist, Signal, Kind, Reg, Wire, Cell, width_of}
 use Rattle.safl_net.specs.Names.{is_good}
 use Rattle.safl_net.specs.Widths.{op_width, HasWord}
-use Rattle.safl_net.specs.Making.{widths}
+use Rattle.safl_net.specs.Making.{signal_widths}
 
 -- the operands of the cell are signals of the net, and its result has this width
 pub record CellFits (n : Netlist) (width : ℕ) (c : Cell) : Type 0 where
   pub known : All (λ s. s < length n.signals) c.operands
-  pub gives : op_width c.op (widths n c.operands) ≡ Some width
+  pub gives : op_width c.op (signal_widths n c.operands) ≡ Some width
   pub word : HasWord c.op
 
 -- the reset number fits the width; the next signal is one of the net and has the width; and the cell has the width

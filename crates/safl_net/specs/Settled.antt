@@ -28,11 +28,6 @@ pub record IsSettled (n : Netlist) : Type 0 where
   pub acyclic : IsAcyclic n
   pub reads : (s t i : ℕ) (g : Signal) (c : Cell) → slice_get n.signals s ≡ Some g → g.kind ≡ Wire (Some c) → slice_get c.operands i ≡ Some t → IsSteady n t
 
--- a settled net stays settled, and then these signals are steady
-pub record SettlesOn (old new : Netlist) (xs : List Sig) : Type 0 where
-  pub net : IsSettled old → IsSettled new
-  pub signals : AreSteady new xs
-
 -- a settled net stays settled, and its steady signals stay steady
 pub record Settles (old new : Netlist) : Type 0 where
   pub settled : IsSettled old → IsSettled new

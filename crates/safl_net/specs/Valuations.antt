@@ -1,5 +1,5 @@
 -- The meaning of a netlist: a set of equations for each cycle, without an order.
-use Rattle.std.specs.Prelude.{◌≡◌, ℕ, ◌<◌, ◌^◌, List, [], ◌∷◌, map, length, Option, Some, None, slice_get, slice_index}
+use Rattle.std.specs.Prelude.{◌≡◌, ℕ, ◌<◌, ◌^◌, List, [], ◌∷◌, map, length, Option, Some, slice_get, slice_index}
 use Rattle.std.specs.Option.{option_map_or}
 use Rattle.safl_word.specs.Words.{Word, no_word, choose}
 use Rattle.safl_word.specs.Primitives.{apply_prim}

@@ -21,21 +21,21 @@ abbrev pub declaration : Text → ℕ → Text → Text
 declaration keyword width name = codes "  " ++ keyword ++ codes " " ++ (codes "[" ++ decimal (width - 1) ++ codes ":0]") ++ codes " " ++ name ++ codes ";\n"
 
 -- a primitive, and an operation, on operands with these names. There is no text if they are not as many as it takes
-abbrev pub applied : Primitive → List Text → Text
-applied Not (a ∷ []) = codes "~" ++ a
-applied Not _ = []
-applied Cat (a ∷ b ∷ []) = codes "{" ++ a ++ codes ", " ++ b ++ codes "}"
-applied (Bits high low) (a ∷ []) = a ++ (codes "[" ++ decimal high ++ codes ":" ++ decimal low ++ codes "]")
-applied (Bits high low) _ = []
-applied (Ext width) _ = []
-applied p (a ∷ b ∷ []) = a ++ codes " " ++ sym_text (symbol_of p) ++ codes " " ++ b
-applied _ _ = []
+abbrev pub operation_text : Primitive → List Text → Text
+operation_text Not (a ∷ []) = codes "~" ++ a
+operation_text Not _ = []
+operation_text Cat (a ∷ b ∷ []) = codes "{" ++ a ++ codes ", " ++ b ++ codes "}"
+operation_text (Bits high low) (a ∷ []) = a ++ (codes "[" ++ decimal high ++ codes ":" ++ decimal low ++ codes "]")
+operation_text (Bits high low) _ = []
+operation_text (Ext width) _ = []
+operation_text p (a ∷ b ∷ []) = a ++ codes " " ++ sym_text (symbol_of p) ++ codes " " ++ b
+operation_text _ _ = []
 
 abbrev pub operation : Op → List Text → Text
 operation (Const w) names = literal w.width w.bits
 operation Copy (a ∷ []) = a
 operation Mux (c ∷ a ∷ b ∷ []) = c ++ codes " ? " ++ a ++ codes " : " ++ b
-operation (Apply p) names = applied p names
+operation (Apply p) names = operation_text p names
 operation _ _ = []
 
 abbrev pub if_input : Kind → Text → Text

@@ -62,15 +62,15 @@ impl Model for Net {
 }
 
 impl Net {
-    ghost use Rattle.std.specs.Prelude.{◌≡◌, ℕ, ◌<◌, ◌≤◌, ◌^◌, [], length, true, false, Some, None, All, Ok, Err, option_copied, option_map, slice_get};
+    ghost use Rattle.std.specs.Prelude.{◌≡◌, ◌<◌, ◌≤◌, [], length, true, false, Some, None, All, Ok, Err, option_copied, option_map, slice_get};
     ghost use Rattle.std.specs.Prelude.{IfOk, IfErr, OnOk, OnErr, IsOk, IsSome, IsNone, IfSome, IsTrue, is_some, codes, ◌↔◌, unwrap_or, string_bytes};
     ghost use Rattle.safl_word.specs.Limits.{count_max, width_max};
     ghost use Rattle.safl_net.specs.Netlist.{Netlist, Input, Reg, Wire, IsSet, AllSet, width_of, place, output_place};
     ghost use Rattle.safl_net.specs.Whole.{IsWhole, IsLeastUnset, HasStart, HasDone};
-    ghost use Rattle.safl_net.specs.Names.{is_good, has_name, wires, one_wire, IsTidy};
+    ghost use Rattle.safl_net.specs.Names.{has_name, wires, one_wire, IsTidy};
     ghost use Rattle.safl_net.specs.Widths.{HasWord};
     ghost use Rattle.safl_net.specs.Making.{with_signal, with_kind, with_output, cell_on, width_on, temporary, refusal};
-    ghost use Rattle.safl_net.specs.Making.{Refuses, kind_at, name_at, numbers, sort_of, next_in, cell_in, found};
+    ghost use Rattle.safl_net.specs.Making.{Refuses, kind_at, name_at, sort_of, next_in, cell_in, found};
     ghost use Rattle.safl_net.specs.Valuations.{reset_state};
     ghost use Rattle.safl_net.specs.Rules.{IsNetlist, KindFits, SignalFits};
     ghost use Rattle.safl_net.specs.Stored.{signal_of, kind_of, ResetFits, number_of, maybe_cell};

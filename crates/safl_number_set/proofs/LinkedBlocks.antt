@@ -103,29 +103,6 @@ module _ (G : List ℕ) (l m : Links) (k x : ℕ) (lt : k < length G) (below : A
         (cases_eq j k))
         (cases_eq i k)
 
-    pub linked_beside : AreLinkedFrom k G m
-    linked_beside = record {
-      ends_all = ends_all;
-      nexts_all = ap (λ (l : List ℕ). length l) nexts ∙ h.nexts_all;
-      beside = λ j from to. ⊎_elim
-          (λ e. subst (λ n. IsBeside G n (get_or m.ends.items n 0)) (sym e)
-          (subst (λ r. IsBeside G k r) (sym end_is) (beside_head k (record { number = lt; block = refl; group = refl }))))
-          (λ ne. beside_later j from ne to)
-          (cases_eq j k);
-      one = one;
-      heads = λ g q. subst (λ r. Follows k G m.ends.items g 0 r) (sym (head_is g))
-          (more g 0 (get_or l.heads.items g 0) (λ e b. subst (λ n. (get_or l.heads.items n 0 < length G) × (get_or l.heads.items n 0 / 32 ≤ k / 32)) e
-          (number, omega (arith, block)))
-          (h.heads g (omega (arith, q, ap (λ (l : List ℕ). length l) heads))));
-      nexts = λ j from to e. subst (λ r. Follows k G m.ends.items (get_or G j 0) (suc (j / 32)) r) (sym (next_is j)) (⊎_elim
-          (λ q.
-          let above = first.above number in
-          let self : get_or l.heads.items (get_or G k 0) 0 ≡ k = sym end_is ∙ (ap (λ n. get_or m.ends.items n 0) (sym q) ∙ (e ∙ q)) in
-          absurd (omega (arith, above, self)))
-          (λ ne. later j from ne to e)
-          (cases_eq j k));
-    }
-
   -- it has none
   module _ (apart : get_or l.heads.items (get_or G k 0) 0 < length G → get_or l.heads.items (get_or G k 0) 0 / 32 ≡ k / 32 → ⊥) (is : x ≡ k)
       (heads : m.heads.items ≡ set l.heads.items (get_or G k 0) k) (nexts : m.nexts.items ≡ set l.nexts.items k (get_or l.heads.items (get_or G k 0) 0)) where

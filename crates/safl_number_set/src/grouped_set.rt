@@ -25,7 +25,7 @@ impl Model for GroupedSet {
 }
 
 impl GroupedSet {
-    ghost use Rattle.std.specs.Prelude.{◌≡◌, ℕ, ◌<◌, ◌≤◌, length, IfOk, sum, take, slice_index};
+    ghost use Rattle.std.specs.Prelude.{◌≡◌, ◌<◌, ◌≤◌, length, IfOk, sum, take, slice_index};
     ghost use Rattle.safl_number_set.specs.Groups.{counted, none_of, put_in, turned};
     ghost use Rattle.safl_number_set.specs.Linking.{AreBelow};
 

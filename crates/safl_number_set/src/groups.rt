@@ -1,6 +1,6 @@
 //! The members of a set by group, with their numbers in each block.
 
-ghost use Rattle.std.specs.Prelude.{◌≡◌, ℕ, ◌+◌, ◌<◌, ◌≤◌, IfOk, length, sum, take, get_or, slice_set, not};
+ghost use Rattle.std.specs.Prelude.{◌≡◌, ◌+◌, ◌<◌, ◌≤◌, IfOk, length, sum, take, get_or, not};
 ghost use Rattle.std.specs.Int.{from_bool};
 ghost use Rattle.safl_number_set.specs.Groups.{AreGrouped, Puts, Tallies, counted, none_of, shown_groups, turned};
 ghost use Rattle.safl_number_set.specs.Linking.{AreBelow};

@@ -1,6 +1,6 @@
 //! Links from one block of 32 numbers that has numbers of a group to the next.
 
-ghost use Rattle.std.specs.Prelude.{◌≡◌, ℕ, suc, ◌<◌, ◌≤◌, length, get_or, IfOk};
+ghost use Rattle.std.specs.Prelude.{◌≡◌, suc, ◌<◌, ◌≤◌, length, IfOk};
 ghost use Rattle.safl_number_set.specs.Linking.{AreBelow, AreLinked, AreLinkedFrom};
 
 use crate::places::SPAN;

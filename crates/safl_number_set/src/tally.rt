@@ -1,6 +1,6 @@
 //! The sums over the blocks of a list of numbers.
 
-ghost use Rattle.std.specs.Prelude.{◌≡◌, ◌+◌, ◌/◌, ◌<◌, ◌≤◌, ◌^◌, IfOk, IsTrue, cond, length, sum, replicate, get_or};
+ghost use Rattle.std.specs.Prelude.{◌≡◌, ◌+◌, ◌/◌, ◌<◌, ◌≤◌, ◌^◌, IfOk, cond, length, sum, replicate, get_or};
 ghost use Rattle.safl_number_set.specs.Tallies.{AreSummed, Shifts, shift_of};
 
 use crate::places::SPAN;

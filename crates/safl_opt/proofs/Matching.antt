@@ -1,25 +1,20 @@
 -- The signals of the net that is built stand for those of the net of which the values are.
-use Rattle.std.proofs.Common.{◌≡◌, ◌≢◌, ℕ, zero, suc, ◌+◌, ◌-◌, ◌<◌, ◌≤◌, ◌^◌, ◌%◌, List, [], ◌∷◌, ◌++◌, map, length, take, decimal, Option, Some}
-use Rattle.std.proofs.Common.{None, Bool, true, false, cond, nat_lt, nat_le, ◌==◌, ◌&&◌, bytes_eq, ◌⊎◌, inl, inr, ⊎_elim, slice_get, refl, sym, ap}
-use Rattle.std.proofs.Common.{subst, ◌∙◌, arith}
-use Rattle.std.proofs.lemmas.Bool.{cases_eq, lt-ltb, ltb-true, ltb-false}
-use Rattle.std.proofs.lemmas.Bool.Decides.{nat_tests}
-use Rattle.std.proofs.lemmas.Fmt.{decimal_by_steps}
-use Rattle.std.proofs.lemmas.List.{length-take}
+use Rattle.std.proofs.Common.{◌≡◌, ℕ, suc, ◌+◌, ◌-◌, ◌<◌, List, [], ◌∷◌, map, length, Some}
+use Rattle.std.proofs.Common.{None, Bool, true, false, cond, nat_lt, bytes_eq, ◌⊎◌, inl, inr, ⊎_elim, slice_get, refl, sym, ap}
+use Rattle.std.proofs.Common.{subst, ◌∙◌}
+use Rattle.std.proofs.lemmas.Bool.{ltb-true, ltb-false}
 use Rattle.std.proofs.lemmas.Option.{slice_get_within}
 use Rattle.safl_word.specs.Lists.{bool_at}
 use Rattle.safl_net.specs.declared.cell.Sig.{Sig}
 use Rattle.safl_net.specs.declared.cell.SigKind.{SigKind}
-use Rattle.safl_net.specs.Netlist.{Netlist, Signal, Kind, Input, Reg, Wire, Cell, IsSet, AllSet, width_in, width_of, output_place}
-use Rattle.safl_net.specs.Names.{is_temp, temp_name, one_wire, wires, IsTidy}
-use Rattle.safl_net.specs.Making.{kind_in, kind_at, name_in, name_at, sort_of}
+use Rattle.safl_net.specs.Netlist.{Netlist, Signal, Kind, Input, Reg, Wire, IsSet, AllSet, width_in, output_place}
+use Rattle.safl_net.specs.Names.{is_temp, IsTidy}
+use Rattle.safl_net.specs.Making.{kind_in, kind_at, name_in, sort_of}
 use Rattle.safl_net.specs.Rules.{IsNetlist, KindFits}
 use Rattle.safl_net.specs.Growth.{Val, Wired}
-use Rattle.safl_net.proofs.Tables.{wires_few}
-use Rattle.safl_order.specs.Order.{IsWire, IsOrder}
-use Rattle.safl_opt.specs.declared.node.Node.{Node}
+use Rattle.safl_order.specs.Order.{IsOrder}
 use Rattle.safl_opt.specs.declared.fold.Values.{Values}
-use Rattle.safl_opt.specs.Lean.{are_digits, is_numeral, is_numbered, IsTemporary}
+use Rattle.safl_opt.specs.Lean.{is_numbered, IsTemporary}
 use Rattle.safl_opt.specs.Nodes.{Different}
 use Rattle.safl_opt.specs.Values.{sig_at, Folds}
 use Rattle.safl_opt.specs.Building.{IsRoot, shown, kept, AreRead, AreNeeded, new_number, new_kind, kept_signal, IsNodeOf, Builds}
@@ -27,7 +22,7 @@ use Rattle.safl_opt.proofs.Coming.{kept_get}
 use Rattle.safl_opt.proofs.TempNames.{numbered_temp, not_temp}
 use Rattle.safl_opt.proofs.Adding.{kept_lasts}
 use Rattle.safl_opt.proofs.Built.{HasSignal, back, kept_back, kept_is, kept_old, root_has, root_word, wired}
-use Rattle.safl_opt.proofs.Leaning.{kept_number, kept_kind, kept_name}
+use Rattle.safl_opt.proofs.Leaning.{kept_number}
 use Rattle.safl_opt.proofs.Standing.{SameSort, StandsFor, OutputStands, Stands}
 
 module _ (n : Netlist) (made_n : IsNetlist n) (ws : List ℕ) (order : IsOrder n ws) (f : Values) (h : Folds n ws (length ws) f) (read : List Bool)

@@ -1,8 +1,8 @@
 -- Cells and next signals that are set one after another.
 use Rattle.std.proofs.lemmas.List.Elements.{All-nil, All-cons}
-use Rattle.std.proofs.Common.{All, ◌≡◌, ℕ, zero, suc, ◌+◌, ◌-◌, ◌<◌, ◌≤◌, List, [], ◌∷◌, ◌++◌, map, length, Option, Some, None, Bool, true}
-use Rattle.std.proofs.Common.{false, nat_lt, inl, inr, slice_get, refl, sym, ap, subst, ◌∙◌, arith}
-use Rattle.std.proofs.lemmas.Bool.{cases_eq, ltb-true, ltb-false}
+use Rattle.std.proofs.Common.{All, ◌≡◌, ℕ, zero, suc, ◌+◌, ◌-◌, ◌<◌, List, [], ◌∷◌, map, length, Option, Some, None, Bool, true}
+use Rattle.std.proofs.Common.{false, inl, inr, slice_get, refl, sym, ap, subst, ◌∙◌, arith}
+use Rattle.std.proofs.lemmas.Bool.{cases_eq}
 use Rattle.std.proofs.lemmas.Option.{slice_get_within}
 use Rattle.std.proofs.lemmas.Simd.{map-map}
 use Rattle.safl_word.proofs.Lists.{map_at}
@@ -10,7 +10,7 @@ use Rattle.safl_net.specs.declared.cell.Sig.{Sig}
 use Rattle.safl_net.specs.declared.cell.SigKind.{SigKind}
 use Rattle.safl_net.specs.Netlist.{Netlist, Signal, Kind, Input, Reg, Wire, Cell, IsSet, AllSet, width_in, width_of, open_kind}
 use Rattle.safl_net.specs.Names.{one_wire, wires}
-use Rattle.safl_net.specs.Making.{kind_in, kind_at, name_at, cell_in, next_in, sort_of, with_kind, set_kind, widths, numbers}
+use Rattle.safl_net.specs.Making.{kind_in, kind_at, name_at, cell_in, next_in, sort_of, with_kind, set_kind, signal_widths, numbers}
 use Rattle.safl_net.specs.Rules.{IsNetlist, KindFits}
 use Rattle.safl_net.specs.Valuations.{kind_reset, reset_number, reset_state}
 use Rattle.safl_net.specs.Widths.{op_width}
@@ -164,7 +164,7 @@ module _ (n : Netlist) (kn : IsNetlist n) (f : Values) (made : List Sig) (i s : 
       by false q = named s wire q (k, ap (λ x. slice_get (operands_in (cell_in x)) k) e ∙ o)
 
   -- the cell has its width on the new numbers
-  pub cell_gives : (c : Cell) → kind_at n s ≡ Wire (Some c) → op_width c.op (widths m (new_cell f made c).operands) ≡ Some (width_of n s)
+  pub cell_gives : (c : Cell) → kind_at n s ≡ Wire (Some c) → op_width c.op (signal_widths m (new_cell f made c).operands) ≡ Some (width_of n s)
   cell_gives c e =
       ap (op_width c.op) (
       map-map (width_of m) (new_number f made) c.operands

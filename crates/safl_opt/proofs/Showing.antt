@@ -9,14 +9,13 @@ use Rattle.std.proofs.Math.Seq.{take-length}
 use Rattle.safl_word.proofs.Lists.{get_some, take_next}
 use Rattle.safl_net.specs.declared.cell.Sig.{Sig}
 use Rattle.safl_net.specs.Netlist.{Netlist, Signal}
-use Rattle.safl_net.specs.Names.{is_good, is_temp, IsTidy}
-use Rattle.safl_net.specs.Making.{name_in, name_at, refusal, with_output}
+use Rattle.safl_net.specs.Names.{is_temp, IsTidy}
+use Rattle.safl_net.specs.Making.{name_in, refusal, with_output}
 use Rattle.safl_net.specs.Rules.{IsNetlist}
 use Rattle.safl_net.proofs.Tidy.{tidy_output}
-use Rattle.safl_opt.specs.declared.node.Node.{Node}
 use Rattle.safl_opt.specs.declared.fold.Values.{Values}
 use Rattle.safl_opt.specs.Values.{sig_at, Folds}
-use Rattle.safl_opt.specs.Building.{IsRoot, shown, new_number, kept_signal, IsNodeOf, Builds}
+use Rattle.safl_opt.specs.Building.{IsRoot, shown, new_number, kept_signal, Builds}
 use Rattle.safl_opt.specs.Stages.{Placed, SetBelow, HasName, AreNamed, Shown}
 use Rattle.safl_opt.proofs.Coming.{kept_within}
 use Rattle.safl_opt.proofs.Declaring.{no_refusal}

@@ -1,20 +1,19 @@
 -- Cells that could not be spared.
-use Rattle.std.proofs.Common.{◌≡◌, ◌≢◌, ℕ, zero, suc, ◌<◌, List, [], ◌∷◌, ◌++◌, length, take, All, Option, Some, None, Bool, true, false, not}
-use Rattle.std.proofs.Common.{◌&&◌, cond, ◌⊎◌, inl, inr, slice_get, slice_index_or, refl, sym, ap, subst, ◌∙◌, arith}
-use Rattle.std.specs.Prelude.{IsTrue, ◌↔◌}
+use Rattle.std.proofs.Common.{◌≡◌, ◌≢◌, ℕ, zero, suc, ◌<◌, List, [], ◌∷◌, length, take, Some, Bool, true, false, not}
+use Rattle.std.proofs.Common.{◌&&◌, slice_index_or, refl, sym, ap, ◌∙◌, arith}
 use Rattle.std.proofs.lemmas.List.{length-map}
 use Rattle.safl_word.specs.Words.{Word}
 use Rattle.safl_word.specs.declared.primitive.Primitive.{Primitive}
 use Rattle.safl_net.specs.declared.cell.Sig.{Sig}
 use Rattle.safl_net.specs.declared.cell.Op.{Op}
 use Rattle.safl_net.specs.declared.cell.Op.TheVariants.{Const, Copy, Mux, Apply}
-use Rattle.safl_net.specs.Netlist.{Netlist, Kind, Input, Reg, Wire, Cell, width_of}
-use Rattle.safl_net.specs.Making.{kind_at, cell_in, numbers, widths, cell_on}
+use Rattle.safl_net.specs.Netlist.{Netlist, Cell, width_of}
+use Rattle.safl_net.specs.Making.{numbers, signal_widths, cell_on}
 use Rattle.safl_net.specs.Rules.{CellFits}
 use Rattle.safl_net.specs.Operands.{mux_operands}
 use Rattle.safl_net.specs.Widths.{op_width}
 use Rattle.safl_net.proofs.Keeping.{numbers_length}
-use Rattle.safl_opt.specs.Lean.{is_const, is_constant, are_constants, HasCell}
+use Rattle.safl_opt.specs.Lean.{is_const, is_constant, are_constants}
 use Rattle.safl_opt.specs.Values.{sig_at}
 use Rattle.safl_opt.specs.Spare.{IsChoice, IsNeeded}
 
@@ -49,7 +48,7 @@ three (a ∷ (b ∷ (c ∷ []))) w e = refl
 three (a ∷ (b ∷ (c ∷ (d ∷ ws)))) w e = absurd (cc)
 
 pub mux_three : (n : Netlist) (c : Cell) (w : ℕ) → CellFits n w c → c.op ≡ Mux → length c.operands ≡ 3
-mux_three n c w f e = sym (length-map c.operands (width_of n)) ∙ three (widths n c.operands) w (ap (λ o. op_width o (widths n c.operands)) (sym e) ∙ f.gives)
+mux_three n c w f e = sym (length-map c.operands (width_of n)) ∙ three (signal_widths n c.operands) w (ap (λ o. op_width o (signal_widths n c.operands)) (sym e) ∙ f.gives)
 
 choice_folded : (n : Netlist) (xs : List ℕ) → length xs ≡ 3 → IsChoice n xs → are_constants n xs ≡ false
 choice_folded n [] e h = absurd (omega (arith, e))
@@ -86,9 +85,6 @@ same_numbers (x ∷ xs) (y ∷ ys) e =
 
 pub cells_apart : (o p : Op) (xs ys : List Sig) → cell_on o xs ≡ cell_on p ys → (o ≡ p) × (xs ≡ ys)
 cells_apart o p xs ys e = (ap (λ (c : Cell). c.op) e, same_numbers xs ys (ap (λ (c : Cell). c.operands) e))
-
-pub cells_same : (o p : Op) (xs ys : List Sig) → o ≡ p → xs ≡ ys → cell_on o xs ≡ cell_on p ys
-cells_same o p xs ys e f = ap (λ (x : Op). cell_on x xs) e ∙ ap (λ (l : List Sig). cell_on p l) f
 
 -- ---- constants
 

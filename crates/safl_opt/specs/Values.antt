@@ -4,7 +4,7 @@ use Rattle.std.specs.Prelude.{Some, None, Bool, true, false, cond, not, ◌&&◌
 use Rattle.safl_word.specs.Words.{Word, IsWord}
 use Rattle.safl_net.specs.declared.cell.Sig.{Sig}
 use Rattle.safl_net.specs.Netlist.{Netlist, Cell, width_of, is_input, is_register, is_wire}
-use Rattle.safl_net.specs.Making.{kind_at, name_at, numbers, widths}
+use Rattle.safl_net.specs.Making.{kind_at, name_at, numbers, signal_widths}
 use Rattle.safl_net.specs.Valuations.{cell_word}
 use Rattle.safl_net.specs.Widths.{op_width, HasWord}
 use Rattle.safl_net.specs.Growth.{Val, Wired}
@@ -130,13 +130,13 @@ pub record IsSame (n : Netlist) (f : Values) (c : Cell) (x : ℕ) : Type 0 where
   pub there : slice_get c.operands place ≡ Some operand
   pub is : sig_at f.ids.items operand ≡ x
   pub word : (v : Val) → Wired n v → value_word v f.signals.items x ≡ cell_word c.op (map v c.operands)
-  pub gives : op_width c.op (widths n c.operands) ≡ Some (value_width n f.signals.items x)
+  pub gives : op_width c.op (signal_widths n c.operands) ≡ Some (value_width n f.signals.items x)
 
 -- the node has, in every cycle, the word of the cell, and its operands are values of the cell's operands
 pub record IsNew (n : Netlist) (f : Values) (c : Cell) (node : Node) : Type 0 where
   pub operands : (i x : ℕ) → slice_get (node_operands node) i ≡ Some x → (k : ℕ) × (s : ℕ) × (slice_get c.operands k ≡ Some s) × (sig_at f.ids.items s ≡ x)
   pub word : (v : Val) → Wired n v → cell_word (node_op node) (map (value_word v f.signals.items) (node_operands node)) ≡ cell_word c.op (map v c.operands)
-  pub gives : op_width (node_op node) (map (value_width n f.signals.items) (node_operands node)) ≡ op_width c.op (widths n c.operands)
+  pub gives : op_width (node_op node) (map (value_width n f.signals.items) (node_operands node)) ≡ op_width c.op (signal_widths n c.operands)
   pub good : HasWord (node_op node)
   pub lean : IsLeanNode (is_fixed n f.kept f.signals.items f.nodes) node
 
@@ -150,7 +150,7 @@ pub record IsReady (n : Netlist) (f : Values) (c : Cell) : Type 0 where
   pub count : ℕ
   pub folds : Folds n ws count f
   pub width : ℕ
-  pub gives : op_width c.op (widths n c.operands) ≡ Some width
+  pub gives : op_width c.op (signal_widths n c.operands) ≡ Some width
   pub good : HasWord c.op
   pub operands : (i s : ℕ) → slice_get c.operands i ≡ Some s → IsDone n ws count s
 

@@ -1,18 +1,15 @@
 //! The values of a net. Each wire has a value by its number; equal cells have one value, and constants are folded.
 
-ghost use Rattle.std.specs.Prelude.{◌≡◌, ◌<◌, ◌≤◌, ◌+◌, ◌++◌, ℕ, List, [], ◌∷◌, ◌^◌, Some, length, slice_get, is_some, cond, IfOk, OnOk, IfSome};
+ghost use Rattle.std.specs.Prelude.{◌≡◌, ◌<◌, ◌+◌, ◌++◌, ℕ, List, [], ◌∷◌, ◌^◌, Some, length, is_some, cond, IfOk, OnOk, IfSome};
 ghost use Rattle.safl_word.specs.Words.{Word};
-ghost use Rattle.safl_net.specs.Names.{IsTidy};
-ghost use Rattle.safl_net.specs.Netlist.{AllSet, Wire};
+ghost use Rattle.safl_net.specs.Netlist.{Wire};
 ghost use Rattle.safl_net.specs.Making.{numbers, kind_at, cell_on};
-ghost use Rattle.safl_net.specs.Rules.{IsNetlist, CellFits};
 ghost use Rattle.safl_net.specs.Stored.{cell_of};
-ghost use Rattle.safl_order.specs.Order.{IsOrder, IsWire};
-ghost use Rattle.safl_opt.specs.Lean.{is_constant, is_const, IsTemporary};
-ghost use Rattle.safl_opt.specs.Nodes.{node_operands};
-ghost use Rattle.safl_opt.specs.Values.{IsNext, Adds, kept_in, is_named_wire, inputs_below, registers_below};
+ghost use Rattle.safl_order.specs.Order.{IsOrder};
+ghost use Rattle.safl_opt.specs.Lean.{is_constant};
+ghost use Rattle.safl_opt.specs.Values.{IsNext, Adds, kept_in, is_named_wire};
 ghost use Rattle.safl_net.specs.Netlist.{is_input, is_register};
-ghost use Rattle.safl_opt.specs.Values.{named_below, sig_at, is_fixed, Folds, HasValue, IsDone, IsReady, IsFixed, Comes, IsPut, IsSet};
+ghost use Rattle.safl_opt.specs.Values.{sig_at, is_fixed, Folds, IsReady, IsFixed, Comes, IsPut, IsSet};
 
 use crate::names::{is_numbered, is_temporary};
 use crate::node::{Node, Nodes};

@@ -1,9 +1,6 @@
 //! Liveness: which values are read.
 
 ghost use Rattle.std.specs.Prelude.{◌≡◌, ◌<◌, ◌≤◌, ◌+◌, ℕ, List, true, false, length, IfOk};
-ghost use Rattle.safl_net.specs.Rules.{IsNetlist};
-ghost use Rattle.safl_net.specs.Netlist.{AllSet};
-ghost use Rattle.safl_net.specs.Making.{kind_at};
 ghost use Rattle.safl_order.specs.Order.{IsOrder, IsWire};
 ghost use Rattle.safl_opt.specs.Values.{sig_at, Folds};
 ghost use Rattle.safl_opt.specs.Building.{AreRead, AreNeeded, Marks, IsOperandAt, ReadsLower, IsValueOf, HasReader, HasOperand, HasValues};

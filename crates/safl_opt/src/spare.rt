@@ -1,6 +1,6 @@
 //! Lean nets: no temporary wire could be spared.
 
-ghost use Rattle.std.specs.Prelude.{◌≡◌, ◌≢◌, ◌<◌, ℕ, List, false, Some, All, IsTrue, ◌↔◌, ◌⊎◌, length, slice_get};
+ghost use Rattle.std.specs.Prelude.{◌≡◌, ◌≢◌, ◌<◌, ℕ, false, Some, All, IsTrue, ◌↔◌, length, slice_get};
 ghost use Rattle.safl_net.specs.Netlist.{Reg, Wire};
 ghost use Rattle.safl_net.specs.Making.{kind_at, sort_of, numbers};
 ghost use Rattle.safl_net.specs.Rules.{CellFits};

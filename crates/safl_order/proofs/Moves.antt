@@ -118,9 +118,6 @@ frame_in n d m s k f w e = let a = slice_get_within m f.wire.0 _ (w.opened k f e
 pub frame_few : (n : Netlist) (d : List Sig) (m : List Mark) (s : List Frame) (k : ℕ) (f : Frame) → Walks n d m s → slice_get s k ≡ Some f → f.next ≤ 3
 frame_few n d m s k f w e = (w.frames k f e).few
 
-pub frame_wire : (n : Netlist) (d : List Sig) (m : List Mark) (s : List Frame) (k : ℕ) (f : Frame) → Walks n d m s → slice_get s k ≡ Some f → IsWire n f.wire.0
-frame_wire n d m s k f w e = (w.frames k f e).wire
-
 -- places fit 32 bits
 pub few_places : (n : Netlist) (d : List Sig) (m : List Mark) (s : List Frame) → Walks n d m s → (length d < 2 ^ 32) × (length s < 2 ^ 32)
 few_places n d m s w = let a = w.count in let b = w.long in let c = w.made.few in (omega (arith, a, b, c), omega (arith, a, b, c))

@@ -8,7 +8,7 @@ ghost use Rattle.std.specs.Prelude.{None, IfOk, IfErr, OnOk, IfSome, slice_get, 
 ghost use Rattle.safl_net.specs.Stored.{number_of};
 ghost use Rattle.safl_order.specs.declared.walk.Frame.{Frame};
 ghost use Rattle.safl_order.specs.Order.{IsWire};
-ghost use Rattle.safl_order.specs.Walk.{Walks, Looks, LooksAt, looked_at, AllDone, Goes, IsTop, IsStop};
+ghost use Rattle.safl_order.specs.Walk.{Walks, LooksAt, looked_at, AllDone, Goes, IsStop};
 ghost use Rattle.safl_order.specs.Walk.{IsTurned, work, top_place, HasTop, passed, LeavesPath, LeavesAll};
 
 use safl_net::{Net, Sig, SigKind};

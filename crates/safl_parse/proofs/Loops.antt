@@ -2,7 +2,7 @@
 use Rattle.std.proofs.Common.{◌≡◌, ℕ, zero, suc, ◌<◌, ◌-◌, Bool, true, false, List, [], ◌∷◌, ◌++◌, length, Option, Ok, refl, sym, ap, ◌∙◌, arith}
 use Rattle.safl_grammar.specs.Reading.{Read, Reading, head_of, read_many}
 use Rattle.safl_grammar.proofs.Many.{fails_here}
-use Rattle.safl_grammar.proofs.Small.{Small, Eats, small, small_nothing, eats_token, small_follows, eats_follows, small_parses, eats_parses}
+use Rattle.safl_grammar.proofs.Small.{small, small_nothing, eats_token, small_follows, eats_follows, small_parses, eats_parses}
 use Rattle.safl_word.specs.declared.token.Key.TheVariants as keys
 use Rattle.safl_word.specs.declared.token.Sym.TheVariants as syms
 use Rattle.safl_tree.specs.Tree.{Tree, Bound, Parameter}

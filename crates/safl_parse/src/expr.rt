@@ -1,8 +1,7 @@
 //! Expressions, by recursive descent: one function for each symbol of the grammar.
 
-ghost use Rattle.std.specs.Prelude.{◌≡◌, [], ◌∷◌, min, IfOk};
+ghost use Rattle.std.specs.Prelude.{◌≡◌, min, IfOk};
 ghost use Rattle.safl_tree.specs.Tree.{depth as tree_depth};
-ghost use Rattle.safl_tree.specs.Terminals.{terminals};
 ghost use Rattle.safl_tree.specs.Shown.{shown_tree, shown_trees, shown_bind, shown_bounds, shown_labelled};
 ghost use Rattle.safl_tree.specs.Reader.{read_literal, read_sized_literal, read_another, read_exprs, read_call, read_named, read_parenthesised, read_cat, read_bits, read_ext, read_primary, read_inverted, read_unary, read_joined, read_chained, read_compared, read_chain, read_choice, read_written, read_bind, read_another_bind, read_binds, read_binding, read_label, read_arm, read_last_arm, read_cases, operand_at, expr_at, arm_value_at, more_arms_at, arms_at};
 ghost use Rattle.safl_parse.specs.Reads.{Reads, ReadsTree, ReadsTrees, ReadsBindings, ReadsArms};

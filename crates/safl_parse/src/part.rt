@@ -2,7 +2,7 @@
 
 ghost use Rattle.std.specs.Prelude.{◌≡◌, [], ◌∷◌, ◌++◌, ◌+◌, ◌≤◌, min, max, IfOk};
 ghost use Rattle.safl_tree.specs.Tree.{depth as tree_depth, deepest, deepest_bind, deepest_arm, trees_of, binds_of, arms_of, Op, Call, Let, Cases, If};
-ghost use Rattle.safl_tree.specs.Shown.{shown_tree, shown_trees, shown_bind, shown_bounds, shown_arm, shown_labelled};
+ghost use Rattle.safl_tree.specs.Shown.{shown_tree, shown_trees, shown_bind, shown_bounds, shown_labelled};
 ghost use Rattle.safl_parse.specs.Parts.{labelled_depth, with_arm};
 
 use safl_tree::{Arm, Bind, Expr, Name, Node};

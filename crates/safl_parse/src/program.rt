@@ -1,10 +1,9 @@
 //! Reading whole programs.
 
 ghost use Rattle.std.specs.Prelude.{◌≡◌, [], ◌∷◌, ◌++◌, true, false, IfOk};
-ghost use Rattle.safl_tree.specs.Terminals.{terminals};
 ghost use Rattle.safl_tree.specs.Shown.{shown_parameter, shown_parameters, shown_definition, shown_definitions, shown_program};
 ghost use Rattle.safl_tree.specs.Reader.{read_param, read_another_param, read_params, read_one, read_another_one, read_group, read_another_group, read_program, read_source, expr_at};
-ghost use Rattle.safl_parse.specs.Reads.{Reads, ReadsTree, ReadsDefinitions};
+ghost use Rattle.safl_parse.specs.Reads.{Reads, ReadsDefinitions};
 
 use crate::error::{Cause, Read, ReadError};
 use crate::parser::Parser;

@@ -4,7 +4,7 @@ use Rattle.safl_io.specs.Told.{TellsOn}
 use Rattle.safl_io.specs.Shelf.{Files}
 use Rattle.safl_net.specs.Netlist.{Netlist}
 use Rattle.safl_net.specs.Valuations.{Valuation}
-use Rattle.safl_probe.specs.Watching.{Shape}
+use Rattle.safl_probe.specs.Watching.{ProbeShape}
 use Rattle.safl_probe.specs.Probing.{ProbeState, Tells, begun, begin_text, finish_text}
 use Rattle.safl_probe.specs.Calls.{after_frames}
 use Rattle.safl_probe.specs.Asked.{Asked, IsAsked, AreApart, probe_at}
@@ -52,4 +52,4 @@ module _ (names : Asked) (ps : List ProbeState) where
 -- a probe that was begun, and was shown frames, may be told of the end
 pub can_finish : (n : Netlist) (frames : List Valuation) (p q r : ProbeState) → Tells (begun n p) q → Tells (after_frames frames q) r → IsSome r.shape
 can_finish n frames p q r t u =
-    subst (λ (o : Option Shape). IsSome o) (sym (ap (λ (y : ProbeState). y.shape) u ∙ shape_stays frames q ∙ ap (λ (y : ProbeState). y.shape) t)) refl
+    subst (λ (o : Option ProbeShape). IsSome o) (sym (ap (λ (y : ProbeState). y.shape) u ∙ shape_stays frames q ∙ ap (λ (y : ProbeState). y.shape) t)) refl

@@ -8,7 +8,7 @@ use Rattle.safl_io.specs.Shelf.{Files, file_of}
 use Rattle.safl_io.proofs.Telling.{TellsOn-then}
 use Rattle.safl_net.specs.Netlist.{Netlist}
 use Rattle.safl_net.specs.Valuations.{Valuation}
-use Rattle.safl_probe.specs.Watching.{Shape}
+use Rattle.safl_probe.specs.Watching.{ProbeShape}
 use Rattle.safl_probe.specs.Texts.{Text, trace}
 use Rattle.safl_probe.specs.Probing.{ProbeState, FrameFits, Tells, begun, after_frame, begin_text, cycle_text, finish_text}
 use Rattle.safl_probe.specs.Calls.{cycle_texts, after_frames}
@@ -28,9 +28,6 @@ same_finish s q t = ap finish_text t
 
 pub tells_after : (frame : Valuation) (s q x : ProbeState) → Tells s q → Tells (after_frame frame q) x → Tells (after_frame frame s) x
 tells_after frame s q x t u = u ∙ ap (after_frame frame) t
-
-pub tells_self : (s : ProbeState) → Tells s s
-tells_self s = refl
 
 pub same_texts : (fs : List Valuation) (s q : ProbeState) → Tells s q → cycle_texts fs q ≡ cycle_texts fs s
 same_texts fs s q t = ap (cycle_texts fs) t
@@ -66,7 +63,7 @@ turn_rises (f ∷ fs) s = let e = turn_rises fs (after_frame f s) in omega (arit
 
 -- a probe that was ready, and was shown as many frames, may be shown one more
 pub fits_more : (n : Netlist) (fs : List Valuation) (v : Valuation) (s q : ProbeState) → IsReady n s → Tells (after_frames fs s) q → length v ≡ length n.signals → FrameFits q.shape v
-fits_more n fs v s q r t long = subst (λ (o : Option Shape). FrameFits o v) (sym (ap (λ (y : ProbeState). y.shape) t ∙ shape_stays fs s)) (r.fits v long)
+fits_more n fs v s q r t long = subst (λ (o : Option ProbeShape). FrameFits o v) (sym (ap (λ (y : ProbeState). y.shape) t ∙ shape_stays fs s)) (r.fits v long)
 
 pub turn_more : (n : Netlist) (fs : List Valuation) (s q : ProbeState) (c : ℕ) → IsReady n s → Tells (after_frames fs s) q → length fs ≡ c → c ≡ q.turn
 turn_more n fs s q c r t long =
@@ -76,7 +73,7 @@ turn_more n fs s q c r t long =
 
 pub ready : (n : Netlist) (p q : ProbeState) → Tells (begun n p) q → IsReady n q
 ready n p q t = record {
-  fits = λ frame long. subst (λ (o : Option Shape). FrameFits o frame) (sym (ap (λ (y : ProbeState). y.shape) t)) long;
+  fits = λ frame long. subst (λ (o : Option ProbeShape). FrameFits o frame) (sym (ap (λ (y : ProbeState). y.shape) t)) long;
   turn = ap (λ (y : ProbeState). y.turn) t;
 }
 

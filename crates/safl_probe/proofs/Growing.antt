@@ -1,13 +1,13 @@
 -- Files that grow, one piece after another.
 use Rattle.std.proofs.Common.{◌≡◌, ◌≢◌, ℕ, ◌+◌, ◌<◌, ◌≤◌, ◌⊎◌, List, [], ◌++◌, take, length, get_or, Option, Some, None, IsSome, IsSomeAnd, IfSome}
-use Rattle.std.proofs.Common.{IsNone, OnSome, MatchOption, Bool, true, false, bytes_eq, refl, sym, ap, subst, ◌∙◌, inl, inr, arith}
+use Rattle.std.proofs.Common.{OnSome, Bool, true, false, bytes_eq, refl, sym, ap, subst, ◌∙◌, inl, inr, arith}
 use Rattle.std.proofs.lemmas.List.{append-nil, take_all, get_or_past}
 use Rattle.std.proofs.lemmas.Bool.{cases_lt, cases_eq, false≢true}
 use Rattle.std.specs.Bool.{Decides}
 use Rattle.std.proofs.lemmas.Slice.Eq.{bytes_eq-Decides}
 use Rattle.safl_word.proofs.Naturals.{lower_or_last}
 use Rattle.safl_io.specs.Told.{TellsOn}
-use Rattle.safl_io.specs.Shelf.{Files, file_of, Leaves, LeavesOldOrEmpty, Appends, AppendsPart}
+use Rattle.safl_io.specs.Shelf.{Files, file_of, Leaves, LeavesOldOrEmpty, Appends}
 use Rattle.safl_io.proofs.Telling.{TellsOn-then}
 use Rattle.safl_probe.specs.Texts.{Text}
 use Rattle.safl_probe.specs.Asked.{Asked, IsAsked, AreApart}
@@ -32,10 +32,6 @@ some_if : {A : Type 0} (o : Option A) (P : A → Type 0) → IsSomeAnd o P → I
 some_if None P h = tt
 some_if (Some x) P h = h
 
-match_if : {A : Type 0} (o : Option A) (Q : Type 0) (P : A → Type 0) → MatchOption o Q P → IfSome o P
-match_if None Q P h = tt
-match_if (Some x) Q P h = h
-
 pub longer_same : (had now : Option Text) → now ≡ had → Longer had [] now
 longer_same None now e = tt
 longer_same (Some h) now e = e ∙ ap (λ (t : Text). Some t) (sym (append-nil h))
@@ -52,43 +48,19 @@ pub appended : (name : List ℕ) (text : Text) (x y : Option Files) → TellsOn 
 appended name text = told_weaker (Appends name text) (Grows Longer name text)
     (λ a b h. record { file = some_if (file_of a name) (λ had. file_of b name ≡ Some (had ++ text)) h.file; others = h.others })
 
-pub appended_part : (name : List ℕ) (text : Text) (x y : Option Files) → TellsOn (AppendsPart name text) x y → TellsOn (Grows LongerPart name text) x y
-appended_part name text =
-    told_weaker (AppendsPart name text) (Grows LongerPart name text)
-    (λ a b h. record { file = match_if (file_of a name) (IsNone (file_of b name)) (λ had. (count : ℕ) × (file_of b name ≡ Some (had ++ take count text))) h.file; others = h.others })
-
-pub nothing_appended : (name : List ℕ) (x y : Option Files) → y ≡ x → TellsOn (Grows Longer name []) x y
-nothing_appended name = told_same (Grows Longer name []) (λ a. record { file = longer_same (file_of a name) (file_of a name) refl; others = λ other ne. refl })
-
 pub not_created : (name : List ℕ) (x y : Option Files) → TellsOn (LeavesOldOrEmpty name) x y → TellsOn (Grows OldOrPart name []) x y
 not_created name =
     told_weaker (LeavesOldOrEmpty name) (Grows OldOrPart name [])
     (λ a b h. record { file = elim h.file [ inl e ↦ inl e | inr e ↦ inr (0, e) ]; others = h.others })
 
--- a text that grows from nothing
-from_nothing : (had now : Option Text) (text : Text) → had ≡ Some [] → Longer had text now → now ≡ Some text
-from_nothing had now text e h = subst (λ (o : Option Text). Longer o text now) e h
-
 part_from_nothing : (had now : Option Text) (text : Text) → had ≡ Some [] → LongerPart had text now → (count : ℕ) × (now ≡ Some (take count text))
 part_from_nothing had now text e h = subst (λ (o : Option Text). LongerPart o text now) e h
-
--- a file is opened, and then a text is appended
-made_grown : (name : List ℕ) (text : Text) (a b c : Files) → Leaves name [] a b → Grows Longer name text b c → Grows (Grown Beginning) name text a c
-made_grown name text a b c l g = record {
-  file = from_nothing (file_of b name) (file_of c name) text l.file g.file;
-  others = λ other ne. g.others other ne ∙ l.others other ne;
-}
 
 made_part : (name : List ℕ) (text : Text) (a b c : Files) → Leaves name [] a b → Grows LongerPart name text b c → Grows (GrownPart Beginning) name text a c
 made_part name text a b c l g = record {
   file = inr (part_from_nothing (file_of b name) (file_of c name) text l.file g.file);
   others = λ other ne. g.others other ne ∙ l.others other ne;
 }
-
-pub opened_grown : (m : Moment) (name : List ℕ) (text : Text) (x y z : Option Files) → Opens m name x y → TellsOn (Grows Longer name text) y z → TellsOn (Grows (Grown m) name text) x z
-opened_grown Beginning name text x y z o g = TellsOn-then (Leaves name []) (Grows Longer name text) (Grows (Grown Beginning) name text) (made_grown name text) x y z o g
-opened_grown (Frame t) name text x y z o g = subst (λ (s : Option Files). TellsOn (Grows Longer name text) s z) o g
-opened_grown End name text x y z o g = subst (λ (s : Option Files). TellsOn (Grows Longer name text) s z) o g
 
 pub opened_torn : (m : Moment) (name : List ℕ) (text : Text) (x y z : Option Files) → Opens m name x y → TellsOn (Grows LongerPart name text) y z → TellsOn (Grows (GrownPart m) name text) x z
 opened_torn Beginning name text x y z o g = TellsOn-then (Leaves name []) (Grows LongerPart name text) (Grows (GrownPart Beginning) name text) (made_part name text) x y z o g

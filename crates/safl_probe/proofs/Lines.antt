@@ -13,7 +13,7 @@ use Rattle.safl_word.specs.Numerals.{binary, is_digit}
 use Rattle.safl_word.proofs.WordLaws.{decimal_counts}
 use Rattle.safl_net.specs.Names.{is_good, is_identifier, is_reserved, is_start, is_part, are_parts}
 use Rattle.safl_probe.specs.Watching.{Watched}
-use Rattle.safl_probe.specs.Texts.{Text, code, value, variable, variables, values, changed, changes, header, time, timed, dump}
+use Rattle.safl_probe.specs.Texts.{Text, code, value_text, variable, variable_texts, value_texts, changed, changes, header, time, timed, dump}
 use Rattle.safl_probe.proofs.Codes.{code_of}
 use Rattle.safl_probe.specs.Following.{lines, before_first, before_space, behind_space, binary_number, told_by, Line, Time, Change, Other}
 
@@ -142,7 +142,7 @@ tells_wide i number =
     ∙ ap (λ (x : Text). Change number x) (behind_at digits (code i) (free_binary 32 number (omega arith))) in
     tells_line (98 ∷ rest) (Change number (code i)) (refl, free) is
 
-tells_value : (i width number : ℕ) → (width ≡ 1 → number < 2) → Tells (value i width number) (Change number (code i) ∷ [])
+tells_value : (i width number : ℕ) → (width ≡ 1 → number < 2) → Tells (value_text i width number) (Change number (code i) ∷ [])
 tells_value i width number fits = elim (eqb_tells width 1) [
   | inl e ↦ subst (λ (b : Bool). Tells ((if b then binary number else codes "b" ++ binary number ++ codes " ") ++ code i ++ codes "\n")
       (Change number (code i) ∷ [])) (sym e.0) (tells_bit i number (fits e.1))
@@ -160,10 +160,10 @@ value_lines i [] now = []
 value_lines i (w ∷ ws) [] = []
 value_lines i (w ∷ ws) (x ∷ now) = Change x (code i) ∷ value_lines (suc i) ws now
 
-pub tells_values : (i : ℕ) (ws : List Watched) (now : List ℕ) → Fitting ws now → Tells (values i ws now) (value_lines i ws now)
+pub tells_values : (i : ℕ) (ws : List Watched) (now : List ℕ) → Fitting ws now → Tells (value_texts i ws now) (value_lines i ws now)
 tells_values i [] now f = tells_none
 tells_values i (w ∷ ws) [] f = tells_none
-tells_values i (w ∷ ws) (x ∷ now) f = tells_both (value i w.width x) (values (suc i) ws now) (Change x (code i) ∷ []) (value_lines (suc i) ws now)
+tells_values i (w ∷ ws) (x ∷ now) f = tells_both (value_text i w.width x) (value_texts (suc i) ws now) (Change x (code i) ∷ []) (value_lines (suc i) ws now)
     (tells_value i w.width x f.0) (tells_values (suc i) ws now f.1)
 
 abbrev pub changed_line : ℕ → ℕ → ℕ → List Line
@@ -178,7 +178,7 @@ change_lines i (w ∷ ws) (x ∷ last) (y ∷ now) = changed_line i x y ++ chang
 tells_changed : (i width x y : ℕ) → (width ≡ 1 → y < 2) → Tells (changed i width x y) (changed_line i x y)
 tells_changed i width x y fits = go (x == y)
   where
-    go : (b : Bool) → Tells (if b then [] else value i width y) (if b then [] else Change y (code i) ∷ [])
+    go : (b : Bool) → Tells (if b then [] else value_text i width y) (if b then [] else Change y (code i) ∷ [])
     go true = tells_none
     go false = tells_value i width y fits
 
@@ -199,8 +199,8 @@ tells_timed t (c ∷ cs) ls h f = tells_both (time t) (c ∷ cs) (Time t ∷ [])
 
 pub tells_dump : (t : ℕ) (ws : List Watched) (now : List ℕ) → t < 2 ^ 128 → Fitting ws now → Tells (dump t ws now) (Time t ∷ Other ∷ (value_lines 0 ws now ++ Other ∷ []))
 tells_dump t ws now h f =
-    tells_both (time t ++ codes "$dumpvars\n" ++ values 0 ws now) (codes "$end\n") (Time t ∷ Other ∷ value_lines 0 ws now) (Other ∷ [])
-    (tells_both (time t ++ codes "$dumpvars\n") (values 0 ws now) (Time t ∷ Other ∷ []) (value_lines 0 ws now)
+    tells_both (time t ++ codes "$dumpvars\n" ++ value_texts 0 ws now) (codes "$end\n") (Time t ∷ Other ∷ value_lines 0 ws now) (Other ∷ [])
+    (tells_both (time t ++ codes "$dumpvars\n") (value_texts 0 ws now) (Time t ∷ Other ∷ []) (value_lines 0 ws now)
     (tells_both (time t) (codes "$dumpvars\n") (Time t ∷ []) (Other ∷ []) (tells_time t h) (record { more = λ rest. refl }))
     (tells_values 0 ws now f))
     (record { more = λ rest. refl })
@@ -230,15 +230,15 @@ tells_variable i w named wide =
     subst (λ (x : Text). Tells x (Other ∷ [])) (append_assoc front (codes " $end") (codes "\n"))
     (tells_line (front ++ codes " $end") Other (free_more 10 front (codes " $end") free (free_test 10 (codes " $end") refl)) refl)
 
-tells_variables : (i : ℕ) (ws : List Watched) → Named ws → Tells (variables i ws) (variable_lines ws)
+tells_variables : (i : ℕ) (ws : List Watched) → Named ws → Tells (variable_texts i ws) (variable_lines ws)
 tells_variables i [] named = tells_none
-tells_variables i (w ∷ ws) named = tells_both (variable i w) (variables (suc i) ws) (Other ∷ []) (variable_lines ws) (tells_variable i w named.0 named.1) (tells_variables (suc i) ws named.2)
+tells_variables i (w ∷ ws) named = tells_both (variable i w) (variable_texts (suc i) ws) (Other ∷ []) (variable_lines ws) (tells_variable i w named.0 named.1) (tells_variables (suc i) ws named.2)
 
 abbrev pub header_lines : List Watched → List Line
 header_lines ws = Other ∷ Other ∷ (variable_lines ws ++ Other ∷ Other ∷ [])
 
 pub tells_header : (ws : List Watched) → Named ws → Tells (header ws) (header_lines ws)
 tells_header ws named =
-    tells_both (codes "$timescale 1 ns $end\n$scope module safl $end\n" ++ variables 0 ws) (codes "$upscope $end\n$enddefinitions $end\n") (Other ∷ Other ∷ variable_lines ws) (Other ∷ Other ∷ [])
-    (tells_both (codes "$timescale 1 ns $end\n$scope module safl $end\n") (variables 0 ws) (Other ∷ Other ∷ []) (variable_lines ws) (record { more = λ rest. refl }) (tells_variables 0 ws named))
+    tells_both (codes "$timescale 1 ns $end\n$scope module safl $end\n" ++ variable_texts 0 ws) (codes "$upscope $end\n$enddefinitions $end\n") (Other ∷ Other ∷ variable_lines ws) (Other ∷ Other ∷ [])
+    (tells_both (codes "$timescale 1 ns $end\n$scope module safl $end\n") (variable_texts 0 ws) (Other ∷ Other ∷ []) (variable_lines ws) (record { more = λ rest. refl }) (tells_variables 0 ws named))
     (record { more = λ rest. refl })

@@ -4,7 +4,7 @@ use Rattle.std.proofs.Common.{refl, sym, ap, ◌∙◌, add-one, arith}
 use Rattle.std.proofs.Math.Seq.{drop-cons}
 use Rattle.safl_net.specs.Valuations.{Valuation}
 use Rattle.safl_probe.specs.Watching.{Watched, seen}
-use Rattle.safl_probe.specs.Texts.{Text, value, values, changed, changes, time, timed, dump, starts, toggled}
+use Rattle.safl_probe.specs.Texts.{Text, value_text, value_texts, changed, changes, time, timed, dump, start_lines, toggled}
 use Rattle.safl_probe.specs.Entries.{watched_in, watched_all, spot_of, name_of, named, watched_from, nameless, numbers, looked, looked_all}
 use Rattle.safl_probe.specs.declared.entry.Entry.{Entry}
 use Rattle.safl_probe.specs.declared.entry.Spot.{Spot}
@@ -35,10 +35,10 @@ watched_spots k all (e ∷ es) h =
 
 -- ---- numbers and changes are written without names
 
-values_named : (i k : ℕ) (es : List Entry) (ss : List Spot) (now : List ℕ) → values i (nameless ss) now ≡ values i (watched_from k es ss) now
+values_named : (i k : ℕ) (es : List Entry) (ss : List Spot) (now : List ℕ) → value_texts i (nameless ss) now ≡ value_texts i (watched_from k es ss) now
 values_named i k es [] now = refl
 values_named i k es (s ∷ ss) [] = refl
-values_named i k es (s ∷ ss) (x ∷ now) = ap (λ (l : Text). value i s.width x ++ l) (values_named (suc i) (suc k) es ss now)
+values_named i k es (s ∷ ss) (x ∷ now) = ap (λ (l : Text). value_text i s.width x ++ l) (values_named (suc i) (suc k) es ss now)
 
 changes_named : (i k : ℕ) (es : List Entry) (ss : List Spot) (last now : List ℕ) → changes i (nameless ss) last now ≡ changes i (watched_from k es ss) last now
 changes_named i k es [] last now = refl
@@ -69,11 +69,11 @@ dump_is t es ss now frame after =
     ∙ ap (dump t (watched_from 0 es ss)) (new_numbers 0 es ss frame)
 
 pub starts_are : (t : ℕ) (es : List Entry) (ss now : List Spot) (frame : Valuation) → now ≡ looked_all frame ss
-    → starts t (watched_from 0 es now) (numbers now) ≡ starts t (watched_from 0 es ss) (seen (watched_from 0 es ss) frame)
+    → start_lines t (watched_from 0 es now) (numbers now) ≡ start_lines t (watched_from 0 es ss) (seen (watched_from 0 es ss) frame)
 starts_are t es ss now frame after =
-    ap (λ (l : List Spot). starts t (watched_from 0 es l) (numbers l)) after
-    ∙ ap (λ (l : List Watched). starts t l (numbers (looked_all frame ss))) (same_named 0 es ss frame)
-    ∙ ap (starts t (watched_from 0 es ss)) (new_numbers 0 es ss frame)
+    ap (λ (l : List Spot). start_lines t (watched_from 0 es l) (numbers l)) after
+    ∙ ap (λ (l : List Watched). start_lines t l (numbers (looked_all frame ss))) (same_named 0 es ss frame)
+    ∙ ap (start_lines t (watched_from 0 es ss)) (new_numbers 0 es ss frame)
 
 pub changes_are : (t : ℕ) (es : List Entry) (ss : List Spot) (frame : Valuation)
     → timed t (changes 0 (nameless ss) (numbers ss) (seen (nameless ss) frame)) ≡ timed t (changes 0 (watched_from 0 es ss) (numbers ss) (seen (watched_from 0 es ss) frame))

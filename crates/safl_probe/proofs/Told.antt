@@ -1,11 +1,10 @@
 -- What entries tell, before a frame and after it.
-use Rattle.std.proofs.Common.{◌≡◌, ℕ, suc, ◌+◌, List, map, length, Option, Some, None, Bool, true, false, cond, ◌==◌, refl, sym, ap, subst, ◌∙◌, add-one}
+use Rattle.std.proofs.Common.{◌≡◌, ℕ, suc, ◌+◌, List, map, length, Option, Some, None, Bool, true, false, cond, refl, sym, ap, subst, ◌∙◌, add-one}
 use Rattle.std.proofs.Math.Dec.{eqb-suc-zero}
 use Rattle.safl_net.specs.Netlist.{Netlist}
 use Rattle.safl_net.specs.Valuations.{Valuation}
 use Rattle.safl_probe.specs.Watching.{Watched, kind_of, seen, watched_by}
-use Rattle.safl_probe.specs.Texts.{frame_text}
-use Rattle.safl_probe.specs.Probing.{ProbeState, FrameFits, begun, after_frame, cycle_text}
+use Rattle.safl_probe.specs.Probing.{ProbeState, FrameFits, begun, after_frame}
 use Rattle.safl_probe.specs.Entries.{watched_all, spot_of, watched_from, numbers, looked_all, told_of}
 use Rattle.safl_probe.specs.declared.entry.Entry.{Entry}
 use Rattle.safl_probe.specs.declared.entry.Spot.{Spot}
@@ -34,15 +33,6 @@ told_begun n kind b signals es old ss older turn count are made earlier =
     ap (λ (k : ℕ). state_on kind k (watched_from 0 es ss) None 0) count
     ∙ ap (λ (l : List Spot). state_on kind (length n.signals) (watched_from 0 es l) None 0) made
     ∙ ap (λ (ws : List Watched). state_on kind (length n.signals) ws None 0) (watched_spots 0 es es (drop_none es) ∙ are)
-
--- the text of a frame
-pub cycle_text_is : (kind : ℕ) (b : Bool) (signals : ℕ) (es : List Entry) (ss : List Spot) (t turn : ℕ) (frame : Valuation) → b ≡ true → t ≡ turn
-    → frame_text (kind_of kind) (watched_from 0 es ss) t (cond (t == 0) None (Some (numbers ss))) (seen (watched_from 0 es ss) frame)
-    ≡ cycle_text frame (told_of kind b signals es ss turn)
-cycle_text_is kind b signals es ss t turn frame is same =
-    ap (λ (k : ℕ). frame_text (kind_of kind) (watched_from 0 es ss) k (cond (k == 0) None (Some (numbers ss))) (seen (watched_from 0 es ss) frame)) same
-    ∙ subst (λ (x : Bool). frame_text (kind_of kind) (watched_from 0 es ss) turn (cond (turn == 0) None (Some (numbers ss))) (seen (watched_from 0 es ss) frame)
-    ≡ cycle_text frame (told_of kind x signals es ss turn)) (sym is) refl
 
 -- after a frame
 pub told_after : (kind : ℕ) (b : Bool) (signals : ℕ) (es : List Entry) (ss now : List Spot) (t turn : ℕ) (frame : Valuation) → b ≡ true → t ≡ turn → now ≡ looked_all frame ss

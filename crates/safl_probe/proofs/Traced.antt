@@ -1,12 +1,12 @@
 -- The texts of a probe's calls are the trace of the frames.
 use Rattle.std.proofs.Common.{◌≡◌, ℕ, suc, ◌+◌, List, [], ◌∷◌, ◌++◌, length, Option, Some, None, refl, sym, ap, ◌∙◌, add-one, add-zero, arith}
 use Rattle.safl_net.specs.Valuations.{Valuation}
-use Rattle.safl_probe.specs.Watching.{Shape, kind_of, shape_of, seen}
+use Rattle.safl_probe.specs.Watching.{ProbeShape, kind_of, shape_of, seen}
 use Rattle.safl_probe.specs.Texts.{frame_text, frames_text, closing}
 use Rattle.safl_probe.specs.Probing.{ProbeState, begun, begin_text, finish_text}
 use Rattle.safl_probe.specs.Calls.{cycle_texts, after_frames, CallsMakeTraces}
 
-module _ (kind : ℕ) (shape : Shape) (faults : ℕ) where
+module _ (kind : ℕ) (shape : ProbeShape) (faults : ℕ) where
   abbrev at : Option (List ℕ) → ℕ → ProbeState
   at last turn = record { kind = kind; shape = Some shape; last = last; turn = turn; faults = faults }
 
@@ -25,7 +25,7 @@ module _ (kind : ℕ) (shape : Shape) (faults : ℕ) where
 
 pub calls_make_traces : CallsMakeTraces
 calls_make_traces n s frames =
-    let shape : Shape = shape_of s.kind n in
+    let shape : ProbeShape = shape_of s.kind n in
     let none : 0 + length frames ≡ length frames = omega arith in
     ap (λ l. begin_text n s ++ l ++ finish_text (after_frames frames (begun n s))) (texts_are s.kind shape s.faults frames None 0)
     ∙ ap (λ l. begin_text n s ++ frames_text (kind_of s.kind) shape.watched 0 None frames ++ l) (turn_after s.kind shape s.faults frames None 0 ∙ ap (closing (kind_of s.kind)) none)

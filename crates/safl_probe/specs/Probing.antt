@@ -2,14 +2,14 @@
 use Rattle.std.specs.Prelude.{◌≡◌, ◌≤◌, ◌<◌, ℕ, ◌+◌, List, [], length, Option, Some, None, option_map}
 use Rattle.safl_net.specs.Netlist.{Netlist}
 use Rattle.safl_net.specs.Valuations.{Valuation}
-use Rattle.safl_probe.specs.Watching.{Shape, kind_of, shape_of, seen}
-use Rattle.safl_probe.specs.Texts.{Text, opening, frame_text, closing}
+use Rattle.safl_probe.specs.Watching.{ProbeShape, kind_of, shape_of, seen}
+use Rattle.safl_probe.specs.Texts.{Text, opening_text, frame_text, closing}
 
 -- its kind; what it watches, once it was begun, and nothing after an error; the numbers that it saw in the last frame, if there was
 -- one; how many frames it was given; and how often it failed
 pub record ProbeState : Type 0 where
   pub kind : ℕ
-  pub shape : Option Shape
+  pub shape : Option ProbeShape
   pub last : Option (List ℕ)
   pub turn : ℕ
   pub faults : ℕ
@@ -28,7 +28,7 @@ pub record SameProbe (old new : ProbeState) : Type 0 where
   pub faults : old.faults ≤ new.faults
 
 -- the probe has begun, and the frame has a number for each signal
-abbrev pub FrameFits : Option Shape → Valuation → Type 0
+abbrev pub FrameFits : Option ProbeShape → Valuation → Type 0
 FrameFits None frame = ⊥
 FrameFits (Some shape) frame = length frame ≡ shape.signals
 
@@ -44,16 +44,16 @@ begun n s = record s { shape = Some (shape_of s.kind n); last = None; turn = 0 }
 
 -- a probe after a frame
 abbrev pub after_frame : Valuation → ProbeState → ProbeState
-after_frame frame s = record s { last = option_map (λ (shape : Shape). seen shape.watched frame) s.shape; turn = s.turn + 1 }
+after_frame frame s = record s { last = option_map (λ (shape : ProbeShape). seen shape.watched frame) s.shape; turn = s.turn + 1 }
 
 -- the text of the beginning on a net; of a frame; and of the end
-abbrev pub opening_on : ℕ → Shape → Text
-opening_on number shape = opening (kind_of number) shape.watched
+abbrev pub opening_on : ℕ → ProbeShape → Text
+opening_on number shape = opening_text (kind_of number) shape.watched
 
 abbrev pub begin_text : Netlist → ProbeState → Text
 begin_text n s = opening_on s.kind (shape_of s.kind n)
 
-abbrev pub text_on : Option Shape → ProbeState → Valuation → Text
+abbrev pub text_on : Option ProbeShape → ProbeState → Valuation → Text
 text_on None s frame = []
 text_on (Some shape) s frame = frame_text (kind_of s.kind) shape.watched s.turn s.last (seen shape.watched frame)
 

@@ -11,7 +11,7 @@ use Rattle.safl_net.specs.Whole.{IsWhole}
 use Rattle.safl_sim.specs.Outcomes.{IsCallRun}
 use Rattle.safl_sim.specs.Places.{resets}
 use Rattle.safl_sim.specs.Simulation.{Simulation}
-use Rattle.safl_probe.specs.Probing.{ProbeState, Tells, begun}
+use Rattle.safl_probe.specs.Probing.{ProbeState, begun}
 use Rattle.safl_probe.specs.Calls.{after_frames}
 use Rattle.safl_probe.specs.Texts.{Text, trace}
 use Rattle.safl_probe.specs.Asked.{Asked, FileNames, IsAsked, AreApart, asked, probe_at}

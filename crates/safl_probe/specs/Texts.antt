@@ -19,20 +19,20 @@ code i = if i == 0 then codes "!" else map (λ d. 33 + d) (reverse (digits_of 94
 
 -- The line with a number of signal i. A number of one bit is its digit and the code; any other is `b`, as few binary digits as
 -- possible, a space and the code.
-abbrev pub value : ℕ → ℕ → ℕ → Text
-value i width number = (if width == 1 then binary number else codes "b" ++ binary number ++ codes " ") ++ code i ++ codes "\n"
+abbrev pub value_text : ℕ → ℕ → ℕ → Text
+value_text i width number = (if width == 1 then binary number else codes "b" ++ binary number ++ codes " ") ++ code i ++ codes "\n"
 
 -- the declarations of the signals from i on; the lines with all their numbers; and the lines with those that changed
-abbrev pub variables : ℕ → List Watched → Text
-variables i [] = []
-variables i (w ∷ ws) = (codes "$var wire " ++ decimal w.width ++ codes " " ++ code i ++ codes " " ++ w.name ++ codes " $end\n") ++ variables (suc i) ws
+abbrev pub variable_texts : ℕ → List Watched → Text
+variable_texts i [] = []
+variable_texts i (w ∷ ws) = (codes "$var wire " ++ decimal w.width ++ codes " " ++ code i ++ codes " " ++ w.name ++ codes " $end\n") ++ variable_texts (suc i) ws
 
-abbrev pub values : ℕ → List Watched → List ℕ → Text
-values i (w ∷ ws) (x ∷ now) = value i w.width x ++ values (suc i) ws now
-values i _ _ = []
+abbrev pub value_texts : ℕ → List Watched → List ℕ → Text
+value_texts i (w ∷ ws) (x ∷ now) = value_text i w.width x ++ value_texts (suc i) ws now
+value_texts i _ _ = []
 
 abbrev pub changes : ℕ → List Watched → List ℕ → List ℕ → Text
-changes i (w ∷ ws) (x ∷ last) (y ∷ now) = (if x == y then [] else value i w.width y) ++ changes (suc i) ws last now
+changes i (w ∷ ws) (x ∷ last) (y ∷ now) = (if x == y then [] else value_text i w.width y) ++ changes (suc i) ws last now
 changes i _ _ _ = []
 
 -- the line with the time of a frame; and that line before a text, unless the text is empty
@@ -46,9 +46,9 @@ timed t (c ∷ cs) = time t ++ c ∷ cs
 -- ---- starts and toggles
 
 -- a line for each signal that is 1
-abbrev pub starts : ℕ → List Watched → List ℕ → Text
-starts t (w ∷ ws) (x ∷ now) = (if x == 1 then decimal t ++ codes " " ++ w.name ++ codes "\n" else []) ++ starts t ws now
-starts t _ _ = []
+abbrev pub start_lines : ℕ → List Watched → List ℕ → Text
+start_lines t (w ∷ ws) (x ∷ now) = (if x == 1 then decimal t ++ codes " " ++ w.name ++ codes "\n" else []) ++ start_lines t ws now
+start_lines t _ _ = []
 
 -- how many bits of the numbers differ
 abbrev pub toggled : List ℕ → List ℕ → ℕ
@@ -61,15 +61,15 @@ toggles t count = decimal t ++ codes " " ++ decimal count ++ codes "\n"
 -- ---- what a probe of each kind writes
 
 -- the text of the beginning
-abbrev pub opening : TraceKind → List Watched → Text
-opening Vcd ws = codes "$timescale 1 ns $end\n$scope module safl $end\n" ++ variables 0 ws ++ codes "$upscope $end\n$enddefinitions $end\n"
-opening _ ws = []
+abbrev pub opening_text : TraceKind → List Watched → Text
+opening_text Vcd ws = codes "$timescale 1 ns $end\n$scope module safl $end\n" ++ variable_texts 0 ws ++ codes "$upscope $end\n$enddefinitions $end\n"
+opening_text _ ws = []
 
 -- the text of cycle t. The watched signals have these numbers, and had those in the frame before, if there was one
 abbrev pub frame_text : TraceKind → List Watched → ℕ → Option (List ℕ) → List ℕ → Text
-frame_text Vcd ws t None now = time t ++ codes "$dumpvars\n" ++ values 0 ws now ++ codes "$end\n"
+frame_text Vcd ws t None now = time t ++ codes "$dumpvars\n" ++ value_texts 0 ws now ++ codes "$end\n"
 frame_text Vcd ws t (Some last) now = timed t (changes 0 ws last now)
-frame_text Starts ws t last now = starts t ws now
+frame_text Starts ws t last now = start_lines t ws now
 frame_text Toggles ws t None now = toggles t 0
 frame_text Toggles ws t (Some last) now = toggles t (toggled last now)
 frame_text Silent ws t last now = []
@@ -89,7 +89,7 @@ abbrev pub trace : ℕ → Netlist → List Valuation → Text
 trace number n frames =
     let kind = kind_of number in
     let ws = watched_by kind n in
-    opening kind ws ++ frames_text kind ws 0 None frames ++ closing kind (length frames)
+    opening_text kind ws ++ frames_text kind ws 0 None frames ++ closing kind (length frames)
 
 -- ---- parts of texts, by name
 
@@ -97,13 +97,13 @@ abbrev pub variable : ℕ → Watched → Text
 variable i w = codes "$var wire " ++ decimal w.width ++ codes " " ++ code i ++ codes " " ++ w.name ++ codes " $end\n"
 
 abbrev pub changed : ℕ → ℕ → ℕ → ℕ → Text
-changed i width old new = if old == new then [] else value i width new
+changed i width old new = if old == new then [] else value_text i width new
 
 abbrev pub header : List Watched → Text
-header ws = codes "$timescale 1 ns $end\n$scope module safl $end\n" ++ variables 0 ws ++ codes "$upscope $end\n$enddefinitions $end\n"
+header ws = codes "$timescale 1 ns $end\n$scope module safl $end\n" ++ variable_texts 0 ws ++ codes "$upscope $end\n$enddefinitions $end\n"
 
 abbrev pub dump : ℕ → List Watched → List ℕ → Text
-dump t ws now = time t ++ codes "$dumpvars\n" ++ values 0 ws now ++ codes "$end\n"
+dump t ws now = time t ++ codes "$dumpvars\n" ++ value_texts 0 ws now ++ codes "$end\n"
 
 abbrev pub start : ℕ → List ℕ → ℕ → Text
 start t name number = if number == 1 then decimal t ++ codes " " ++ name ++ codes "\n" else []

@@ -48,11 +48,11 @@ watched_by Toggles n = group_from Registers n.signals 0
 watched_by Silent n = []
 
 -- a net as a probe sees it: the number of its signals, and those that are watched
-pub record Shape : Type 0 where
+pub record ProbeShape : Type 0 where
   pub signals : ℕ
   pub watched : List Watched
 
-abbrev pub shape_of : ℕ → Netlist → Shape
+abbrev pub shape_of : ℕ → Netlist → ProbeShape
 shape_of number n = record { signals = length n.signals; watched = watched_by (kind_of number) n }
 
 -- the signal with a number

@@ -3,7 +3,7 @@
 ghost use Rattle.std.specs.Prelude.{◌≡◌, ◌++◌, ◌≤◌, slice_get, slice_index, bit_xor, count_ones, OnOk};
 ghost use Rattle.safl_word.specs.Limits.{width_max};
 ghost use Rattle.safl_probe.specs.Watching.{seen, shown_frame};
-ghost use Rattle.safl_probe.specs.Texts.{start, starts, toggles, toggled};
+ghost use Rattle.safl_probe.specs.Texts.{start, start_lines, toggles, toggled};
 ghost use Rattle.safl_probe.specs.Entries.{name_of, watched_from, nameless, numbers, looked, looked_all};
 
 use crate::entry::{Entry, Spot};
@@ -18,7 +18,7 @@ pub(crate) fn push_starts(
     entries: &[Entry],
     spots: &[Spot],
 ) -> Result<(), NoMemory>
-    ensures { OnOk result (out.new.items ≡ out.old.items ++ starts t (watched_from 0 entries.now spots.now) (numbers spots.now)) }
+    ensures { OnOk result (out.new.items ≡ out.old.items ++ start_lines t (watched_from 0 entries.now spots.now) (numbers spots.now)) }
 {
     'spots: for i in 0..spots.len() {
         push_start(out, t, entries, i, spots[i].number)?;

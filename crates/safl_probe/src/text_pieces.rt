@@ -1,7 +1,7 @@
 //! Appending pieces of text to a buffer.
 
 ghost use Rattle.std.specs.Prelude.{◌≡◌, ◌++◌, OnOk, OnErr};
-ghost use Rattle.safl_probe.specs.Texts.{code, value, time};
+ghost use Rattle.safl_probe.specs.Texts.{code, value_text, time};
 
 use safl_word::{NoMemory, Raw, push_binary, push_decimal};
 
@@ -43,7 +43,7 @@ pub(crate) fn push_value(
     width: u8,
     number: Raw,
 ) -> Result<(), NoMemory>
-    ensures { OnOk result (out.new.items ≡ out.old.items ++ value i width number) }
+    ensures { OnOk result (out.new.items ≡ out.old.items ++ value_text i width number) }
 {
     if width == 1 {
         push_binary(number, out)?;

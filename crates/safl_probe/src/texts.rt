@@ -2,7 +2,7 @@
 
 ghost use Rattle.std.specs.Prelude.{◌≡◌, ◌++◌, Some, None, OnOk, OnErr};
 ghost use Rattle.safl_probe.specs.Watching.{shown_frame};
-ghost use Rattle.safl_probe.specs.Texts.{opening, closing};
+ghost use Rattle.safl_probe.specs.Texts.{opening_text, closing};
 ghost use Rattle.safl_probe.specs.Entries.{watched_all, numbers, looked_all, last_of, frame_text_of};
 
 use crate::entry::{Entry, Spot};
@@ -22,7 +22,7 @@ pub(crate) fn send_opening(
     entries: &[Entry],
     out: &mut Vec<u8>,
 ) -> Result<(), NoMemory>
-    ensures added { OnOk result (out.new.items ≡ out.old.items ++ opening kind (watched_all entries.now)) }
+    ensures added { OnOk result (out.new.items ≡ out.old.items ++ opening_text kind (watched_all entries.now)) }
     ensures same { OnErr result (out.new.items ≡ out.old.items) }
 {
     text.clear();
@@ -83,7 +83,7 @@ fn push_frame(
 }
 
 fn push_opening(out: &mut Vec<u8>, kind: TraceKind, entries: &[Entry]) -> Result<(), NoMemory>
-    ensures { OnOk result (out.new.items ≡ out.old.items ++ opening kind (watched_all entries.now)) }
+    ensures { OnOk result (out.new.items ≡ out.old.items ++ opening_text kind (watched_all entries.now)) }
 {
     match kind {
         TraceKind::Vcd => push_header(out, entries),

@@ -2,7 +2,7 @@
 
 ghost use Rattle.std.specs.Prelude.{◌≡◌, ◌++◌, OnOk};
 ghost use Rattle.safl_probe.specs.Watching.{shown_frame};
-ghost use Rattle.safl_probe.specs.Texts.{header, variable, variables, value, values, dump, timed};
+ghost use Rattle.safl_probe.specs.Texts.{header, variable, variable_texts, value_text, value_texts, dump, timed};
 ghost use Rattle.safl_probe.specs.Entries.{watched_in, watched_all, nameless, numbers, looked, looked_all, changed_in, changes_in};
 
 use crate::entry::{Entry, Spot};
@@ -21,7 +21,7 @@ pub(crate) fn push_header(out: &mut Vec<u8>, entries: &[Entry]) -> Result<(), No
 }
 
 fn push_variables(out: &mut Vec<u8>, entries: &[Entry]) -> Result<(), NoMemory>
-    ensures { OnOk result (out.new.items ≡ out.old.items ++ variables 0 (watched_all entries.now)) }
+    ensures { OnOk result (out.new.items ≡ out.old.items ++ variable_texts 0 (watched_all entries.now)) }
 {
     'entries: for i in 0..entries.len() {
         push_variable(out, i, &entries[i])?;
@@ -52,7 +52,7 @@ pub(crate) fn push_dump(out: &mut Vec<u8>, t: u64, spots: &[Spot]) -> Result<(),
 }
 
 fn push_values(out: &mut Vec<u8>, spots: &[Spot]) -> Result<(), NoMemory>
-    ensures { OnOk result (out.new.items ≡ out.old.items ++ values 0 (nameless spots.now) (numbers spots.now)) }
+    ensures { OnOk result (out.new.items ≡ out.old.items ++ value_texts 0 (nameless spots.now) (numbers spots.now)) }
 {
     'spots: for i in 0..spots.len() {
         push_number(out, i, &spots[i])?;
@@ -61,7 +61,7 @@ fn push_values(out: &mut Vec<u8>, spots: &[Spot]) -> Result<(), NoMemory>
 }
 
 fn push_number(out: &mut Vec<u8>, i: usize, spot: &Spot) -> Result<(), NoMemory>
-    ensures { OnOk result (out.new.items ≡ out.old.items ++ value i spot.now.width spot.now.number) }
+    ensures { OnOk result (out.new.items ≡ out.old.items ++ value_text i spot.now.width spot.now.number) }
 {
     push_value(out, i, spot.width, spot.number)
 }

@@ -5,7 +5,7 @@ use Rattle.std.specs.Prelude.{◌↔◌}
 use Rattle.std.specs.List.{concat, range_with_len}
 use Rattle.safl_sites.specs.Kept.{Kept}
 use Rattle.safl_sites.specs.Plan.{HasArbiter}
-use Rattle.safl_report.specs.Report.{Text, calls_of, function_text, function_lines, site_text, site_lines, register_line}
+use Rattle.safl_report.specs.Report.{Text, calls_of, function_text, function_lines, site_text, site_report, register_line}
 use Rattle.safl_report.proofs.NamedLines.{function_line, site_line, summary_lines}
 use Rattle.safl_report.specs.Laws.{ReportOnce, SummaryOnce}
 
@@ -32,7 +32,7 @@ report_once C D n s t p q =
     let sites = same_lines (site_line C D p.kept) (site_line C D q.kept) 1 C.sites
     (λ k least below. ap (λ (b : Bool). site_text k (D.name (C.callee k)) (D.name (C.caller k)) b) (keeps k (omega arith) (omega arith))) in
     p.lines
-    ∙ ap (λ (l : Text). (l ++ site_lines C D p.kept) ++ register_line n) functions
+    ∙ ap (λ (l : Text). (l ++ site_report C D p.kept) ++ register_line n) functions
     ∙ ap (λ (l : Text). (function_lines C D q.arbiter ++ l) ++ register_line n) sites
     ∙ sym q.lines
 

@@ -7,9 +7,9 @@ use Rattle.safl_sites.specs.Plan.{IsPlan}
 use Rattle.safl_net.specs.Netlist.{Netlist, Signal, is_register}
 pub use Rattle.safl_word.specs.Lists.{Text}
 
-abbrev pub answer : Bool → Text
-answer true = codes "yes"
-answer false = codes "no"
+abbrev pub answer_word : Bool → Text
+answer_word true = codes "yes"
+answer_word false = codes "no"
 
 -- how many of the program's sites call a function
 abbrev pub calls_of : Program → ℕ → ℕ
@@ -29,12 +29,12 @@ register_line n =
 abbrev pub function_lines : Program → Names → (ℕ → Bool) → Text
 function_lines C D arbiter =
     concat (map (λ (f : ℕ). codes "function " ++ D.name f ++ codes " sites " ++ decimal (calls_of C f)
-    ++ codes " arbiter " ++ answer (arbiter (C.unit f)) ++ codes "\n") (range_with_len 0 C.functions))
+    ++ codes " arbiter " ++ answer_word (arbiter (C.unit f)) ++ codes "\n") (range_with_len 0 C.functions))
 
-abbrev pub site_lines : Program → Names → (ℕ → Bool) → Text
-site_lines C D kept =
+abbrev pub site_report : Program → Names → (ℕ → Bool) → Text
+site_report C D kept =
     concat (map (λ (k : ℕ). codes "site " ++ decimal k ++ codes " " ++ D.name (C.callee k) ++ codes " in " ++ D.name (C.caller k)
-    ++ codes " kept " ++ answer (kept k) ++ codes "\n") (range_with_len 1 C.sites))
+    ++ codes " kept " ++ answer_word (kept k) ++ codes "\n") (range_with_len 1 C.sites))
 
 -- The text is the report of a netlist and of the program's only plan, which says which units need an arbiter and which sites keep
 -- their words.
@@ -42,7 +42,7 @@ pub record IsReport (C : Program) (D : Names) (n : Netlist) (text : Text) : Type
   pub arbiter : ℕ → Bool
   pub kept : ℕ → Bool
   pub plan : IsPlan C arbiter kept
-  pub lines : text ≡ function_lines C D arbiter ++ site_lines C D kept ++ register_line n
+  pub lines : text ≡ function_lines C D arbiter ++ site_report C D kept ++ register_line n
 
 -- the text is the summary of a netlist and of the program's only plan: how many functions have a unit with an arbiter, and the registers
 pub record IsSummary (C : Program) (n : Netlist) (text : Text) : Type 0 where
@@ -55,11 +55,11 @@ pub record IsSummary (C : Program) (n : Netlist) (text : Text) : Type 0 where
 
 abbrev pub function_text : Text → ℕ → Bool → Text
 function_text name calls arbiter =
-    codes "function " ++ name ++ codes " sites " ++ decimal calls ++ codes " arbiter " ++ answer arbiter ++ codes "\n"
+    codes "function " ++ name ++ codes " sites " ++ decimal calls ++ codes " arbiter " ++ answer_word arbiter ++ codes "\n"
 
 abbrev pub site_text : ℕ → Text → Text → Bool → Text
 site_text k callee caller kept =
-    codes "site " ++ decimal k ++ codes " " ++ callee ++ codes " in " ++ caller ++ codes " kept " ++ answer kept ++ codes "\n"
+    codes "site " ++ decimal k ++ codes " " ++ callee ++ codes " in " ++ caller ++ codes " kept " ++ answer_word kept ++ codes "\n"
 
 abbrev pub bits_of : List Signal → ℕ
 bits_of signals = sum_by (λ g. g.width) signals

@@ -1,12 +1,12 @@
 //! Pieces of a line: labels and numbers.
 
 ghost use Rattle.std.specs.Prelude.{◌≡◌, ◌++◌, OnOk, codes, decimal};
-ghost use Rattle.safl_report.specs.Report.{answer, function_text, site_text, register_text};
+ghost use Rattle.safl_report.specs.Report.{answer_word, function_text, site_text, register_text};
 
 use safl_word::{NoMemory, Raw, push_decimal};
 
 fn answer(is_so: bool) -> &'static str
-    ensures { result.now ≡ answer is_so }
+    ensures { result.now ≡ answer_word is_so }
 {
     if is_so { "yes" } else { "no" }
 }
@@ -28,7 +28,7 @@ pub fn push_number(out: &mut Vec<u8>, label: &str, number: u64) -> Result<(), No
 }
 
 fn push_answer(out: &mut Vec<u8>, label: &str, is_so: bool) -> Result<(), NoMemory>
-    ensures { OnOk result (out.new.items ≡ out.old.items ++ label.now ++ answer is_so) }
+    ensures { OnOk result (out.new.items ≡ out.old.items ++ label.now ++ answer_word is_so) }
 {
     out.extend_from_slice(label.as_bytes())?;
     out.extend_from_slice(answer(is_so).as_bytes())?;

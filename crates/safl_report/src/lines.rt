@@ -3,7 +3,7 @@
 ghost use Rattle.std.specs.Prelude.{◌≡◌, ◌++◌, OnOk};
 ghost use Rattle.safl_sites.specs.Plan.{IsPlan};
 ghost use Rattle.safl_report.specs.Counting.{AreCalls};
-ghost use Rattle.safl_report.specs.Report.{function_lines, site_lines, arbiters_of};
+ghost use Rattle.safl_report.specs.Report.{function_lines, site_report, arbiters_of};
 
 use crate::line::{push_function, push_site};
 use safl_sites::Planned;
@@ -24,7 +24,7 @@ pub fn push_functions(out: &mut Vec<u8>, p: &Planned, calls: &[u32]) -> Result<(
 
 /// Appends a line for each site.
 pub fn push_sites(out: &mut Vec<u8>, p: &Planned) -> Result<(), NoMemory>
-    ensures { OnOk result (out.new.items ≡ out.old.items ++ site_lines p.now.checked.program p.now.checked.names p.now.kept) }
+    ensures { OnOk result (out.new.items ≡ out.old.items ++ site_report p.now.checked.program p.now.checked.names p.now.kept) }
 {
     let c = p.checked();
     for done in 0..c.sites() {

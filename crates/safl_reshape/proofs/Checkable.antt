@@ -1,5 +1,5 @@
 -- The checker refuses no printable program that has a form.
-use Rattle.std.proofs.Common.{◌≡◌, List, sym, ◌∙◌, arith}
+use Rattle.std.proofs.Common.{List, sym, ◌∙◌, arith}
 use Rattle.safl_word.specs.declared.fault.Fault.{Fault}
 use Rattle.safl_word.specs.Limits.{depth_max}
 use Rattle.safl_tree.specs.Tree.{Definition}

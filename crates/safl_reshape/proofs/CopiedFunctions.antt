@@ -9,7 +9,7 @@ use Rattle.safl_typing.specs.Heads.{Slot, Head, sites, unit_of, params_of}
 use Rattle.safl_typing.specs.Typing.{Has}
 use Rattle.safl_typing.specs.Forms.{FunctionForm, IsFunctionOf, AreFunctionsOf}
 use Rattle.safl_typing.proofs.Limits.{short_lets as lets_short, no_long_let}
-use Rattle.safl_reshape.proofs.Intervals.{has_sites}
+use Rattle.safl_typing.proofs.Counts.{has_sites}
 use Rattle.safl_reshape.specs.Changed.{changed, changed_definitions}
 use Rattle.safl_reshape.specs.Reshaped.{copying_call, own_call, put_behind, copy_of, Unjoined}
 use Rattle.safl_reshape.proofs.Alike.{Alike}

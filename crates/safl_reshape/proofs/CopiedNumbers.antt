@@ -1,5 +1,5 @@
 -- What stands at which number where a function is copied, and that no site is spared.
-use Rattle.std.proofs.Common.{◌≡◌, ℕ, zero, suc, ◌+◌, ◌-◌, ◌<◌, ◌≤◌, List, [], ◌∷◌, length, refl, sym, ap, ◌∙◌, subst, arith, inl, inr}
+use Rattle.std.proofs.Common.{◌≡◌, ℕ, zero, suc, ◌<◌, ◌≤◌, List, [], ◌∷◌, length, refl, sym, ap, subst, arith, inl, inr}
 use Rattle.safl_word.specs.Words.{Word}
 use Rattle.safl_term.specs.Program.{Program}
 use Rattle.safl_term.specs.Terms.{Term, Terms}

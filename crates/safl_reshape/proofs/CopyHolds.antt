@@ -1,6 +1,6 @@
 -- What holds of the copy.
 use Rattle.std.proofs.Common.{◌≡◌, ℕ, ◌<◌, ◌≤◌, ◌^◌, List, length, Option, false, sym, ap, ◌∙◌, subst, arith}
-use Rattle.safl_word.specs.Tokens.{IsName}
+use Rattle.safl_word.specs.Tokens.{IsSourceName}
 use Rattle.safl_term.specs.Program.{Program}
 use Rattle.safl_term.specs.Checked.{CheckedProgram, IsChecked}
 use Rattle.safl_tree.specs.Tree.{Definition}
@@ -50,7 +50,7 @@ good_copy ds c k es formed is ok e law lt may q kept =
     let p : es ≡ copied_under new ds k j d.0 = q ∙ ap (λ (o : Option Definition). copied_as o ds k j) d.1 in
     let nf : name_for ds k j ≡ new = ap (λ (o : Option Definition). copy_name (name_in o) k) d.1 in
     let l : length new ≤ 64 = omega (arith, ap (λ (x : List ℕ). length x) nf, may.short) in
-    let n : IsName new = copy_named d.0.name k (formed_at ds j d.0 formed.formed d.1).0 lt l in
+    let n : IsSourceName new = copy_named d.0.name k (formed_at ds j d.0 formed.formed d.1).0 lt l in
     let r = law ds (shown_form c) k j d.0 new is d.2 (subst KeepsLimits p kept) in
     record {
       formed = subst IsFormedProgram (sym p) (copy_formed ds k j d.0 new formed d.1 n);

@@ -8,7 +8,7 @@ use Rattle.safl_typing.specs.Heads.{Slot, Head, unit_of, params_of}
 use Rattle.safl_typing.specs.Typing.{Has}
 use Rattle.safl_typing.specs.Forms.{FunctionForm, IsFunctionOf, AreFunctionsOf}
 use Rattle.safl_typing.proofs.Limits.{short_lets as lets_short, no_long_let}
-use Rattle.safl_reshape.proofs.Intervals.{has_sites}
+use Rattle.safl_typing.proofs.Counts.{has_sites}
 use Rattle.safl_reshape.specs.Changed.{Change, changed, with_body, changed_definitions}
 use Rattle.safl_reshape.proofs.Alike.{Alike}
 use Rattle.safl_reshape.proofs.Altered.{Alteration, altered, IsRewriting, rewritten_changed}

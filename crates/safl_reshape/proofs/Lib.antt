@@ -3,7 +3,6 @@ pub mod Runs
 pub mod Altered
 pub mod Shapes
 pub mod Scopes
-pub mod Intervals
 pub mod Sites
 pub mod Moves
 pub mod Lookups

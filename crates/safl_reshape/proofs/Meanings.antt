@@ -10,7 +10,7 @@ use Rattle.safl_term.specs.Laws.{OneEvaluation}
 use Rattle.safl_term.proofs.PlainTerms.{words_count}
 use Rattle.safl_typing.specs.Heads.{Slot}
 use Rattle.safl_typing.specs.Forms.{FunctionForm, Form}
-use Rattle.safl_check.specs.Numbered.{of_function, program_in}
+use Rattle.safl_check.specs.Numbered.{form_function, program_in}
 use Rattle.safl_reshape.specs.Executions.{executions}
 use Rattle.safl_reshape.proofs.Alike.{Alike, alike_const}
 use Rattle.safl_reshape.proofs.Runs.{runs, ran}
@@ -72,7 +72,7 @@ module _ (c e : Form) (same : ℕ → ℕ → Type 0) (at : ℕ → Bool) where
   unfolding program_in
   alike_at i j (both_there f g p q k) =
       let n : arity (program_in c) i ≡ length f.params = rw p (slots_length f.params) in
-      subst (λ (x : ℕ). Alike (program_in c) same at 0 x (of_function (λ (y : FunctionForm). y.body) (Const no_word) c i) (of_function (λ (y : FunctionForm). y.body) (Const no_word) e j)) (sym n)
+      subst (λ (x : ℕ). Alike (program_in c) same at 0 x (form_function (λ (y : FunctionForm). y.body) (Const no_word) c i) (form_function (λ (y : FunctionForm). y.body) (Const no_word) e j)) (sym n)
       (rw (p, q) k.body)
   alike_at i j (both_past p q) =
       rw (p, q) alike_const

@@ -1,5 +1,5 @@
 -- Own calls are changed alike whatever the number of the first site is.
-use Rattle.std.proofs.Common.{◌≡◌, ℕ, ◌+◌, ◌-◌, ◌<◌, ◌≤◌, List, [], ◌∷◌, refl, ◌∙◌}
+use Rattle.std.proofs.Common.{◌≡◌, ℕ, ◌+◌, List, refl}
 use Rattle.safl_typing.specs.Rewriting.{Expression, Number, Sized, Variable, If, Let, Op, Call, Expressions, no_expression, an_expression, Bindings, no_binding, a_binding}
 use Rattle.safl_typing.specs.Heads.{Known, Callee, Member, Above, Unknown, callee, is_site, sites, sites_bound}
 use Rattle.safl_reshape.proofs.Altered.{altered, altered_all, altered_bound}

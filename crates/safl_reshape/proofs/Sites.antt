@@ -8,7 +8,7 @@ use Rattle.safl_typing.specs.Rewriting.{Expression, Number, Sized, Variable, If,
 use Rattle.safl_typing.specs.Heads.{Slot, Head, Known, Callee, Member, Above, Unknown, callee}
 use Rattle.safl_typing.specs.Typing.{slots, Calls, Has, HaveAll, HaveBound}
 use Rattle.safl_typing.specs.Forms.{sites_of, sites_of_all}
-use Rattle.safl_reshape.proofs.Intervals.{has_length, bound_length, Noted, noted_parts}
+use Rattle.safl_typing.proofs.Spans.{has_length, bound_length, Noted, noted_parts}
 use Rattle.safl_reshape.proofs.Lookups.{IsCallee, is_callee}
 
 -- of its number and of its callee

@@ -1,5 +1,5 @@
 -- The functions of a program that has a form.
-use Rattle.std.proofs.Common.{◌≡◌, ℕ, zero, suc, ◌+◌, ◌<◌, List, [], ◌∷◌, length, Option, Some, true, refl, sym, ap, ◌∙◌, subst, arith}
+use Rattle.std.proofs.Common.{◌≡◌, ℕ, zero, suc, ◌+◌, List, [], ◌∷◌, length, Option, Some, true, refl, sym, ap, ◌∙◌, subst, arith}
 use Rattle.std.specs.Prelude.{slice_get}
 use Rattle.std.specs.Option.{option_map}
 use Rattle.std.proofs.lemmas.Option.{same_Some}
@@ -11,9 +11,10 @@ use Rattle.safl_typing.specs.Rewriting.{rewritten}
 use Rattle.safl_typing.specs.Heads.{Slot, Head, unit_of, params_of, head_of, heads_from, heads}
 use Rattle.safl_typing.specs.Typing.{Differ, widths_of, Has}
 use Rattle.safl_typing.specs.Forms.{FunctionForm, Form, sites_of, all_sites, function_names, IsFunctionOf, AreFunctionsOf, IsFormOf}
-use Rattle.safl_check.specs.Numbered.{of_site, main_in, program_in}
+use Rattle.safl_check.specs.Numbered.{form_site, main_in, program_in}
 use Rattle.safl_reshape.proofs.Calls.{IsProgramOf, sees}
-use Rattle.safl_reshape.proofs.Intervals.{Noted, noted_parts, noted_from, has_length}
+use Rattle.safl_typing.proofs.Spans.{Noted, noted_parts, has_length}
+use Rattle.safl_typing.proofs.Placing.{noted_from}
 use Rattle.safl_reshape.proofs.Lookups.{NamesDiffer}
 use Rattle.safl_reshape.proofs.Sites.{Sites, IsSiteIn, noted_sites}
 
@@ -86,7 +87,7 @@ module _ (ds : List Definition) (c : Form) (is : IsFormOf ds c) where
   unfolding program_in
   noted = subst (λ (xs : List Site). Noted (program_in c) 1 xs) is.sites (noted_from (program_in c) 1 c.sites (λ i x q.
       let r : 1 + i ≡ suc i = omega arith in
-      (ap (of_site (λ (s : Site). s.caller) 0 c) r ∙ rw q refl, ap (of_site (λ (s : Site). s.callee) (main_in c) c) r ∙ rw q refl)))
+      (ap (form_site (λ (s : Site). s.caller) 0 c) r ∙ rw q refl, ap (form_site (λ (s : Site). s.callee) (main_in c) c) r ∙ rw q refl)))
 
   abbrev pub Here : ℕ → Head → Type 0
   Here i h = Stands (program_in c) (heads ds) 0 ds c.functions i h

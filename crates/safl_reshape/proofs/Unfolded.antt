@@ -12,7 +12,7 @@ use Rattle.safl_typing.specs.Typing.{Differ, names}
 use Rattle.safl_typing.specs.Forms.{FunctionForm, Form, HasShortLets, HaveShortLets, HaveShortBound, all_sites, IsLast, function_names, AreFunctionsOf, IsFormOf}
 use Rattle.safl_typing.proofs.Limits.{no_long_let}
 use Rattle.safl_typing.proofs.Walks.{functions_rise}
-use Rattle.safl_reshape.proofs.Intervals.{has_sites}
+use Rattle.safl_typing.proofs.Counts.{has_sites}
 use Rattle.safl_check.specs.Numbered.{program_in}
 use Rattle.safl_reshape.specs.Changed.{Change, changed_definitions}
 use Rattle.safl_reshape.specs.Reshaped.{unfolding_call, unfolded, is_recursive}

@@ -1,5 +1,5 @@
 -- How often an evaluation makes the call of a site.
-use Rattle.std.specs.Prelude.{ℕ, ◌+◌, List, Bool, true, false, ◌==◌, cond}
+use Rattle.std.specs.Prelude.{ℕ, ◌+◌, List, Bool, ◌==◌, cond}
 use Rattle.safl_word.specs.Words.{Word}
 use Rattle.safl_term.specs.Terms.{Term, Terms}
 use Rattle.safl_term.specs.Program.{Program}

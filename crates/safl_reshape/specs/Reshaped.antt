@@ -1,10 +1,10 @@
 -- What a program is reshaped to: a function is copied for one of its calls, or a call is replaced by the function's body.
 use Rattle.std.specs.Prelude.{◌≡◌, ℕ, zero, suc, ◌<◌, length, List, [], ◌∷◌, ◌++◌, Option, Some, None, Bool, false, ◌==◌, if◌then◌else◌, slice_get, codes, decimal}
 use Rattle.std.specs.Option.{option_map_or}
-use Rattle.safl_tree.specs.Tree.{Tree, Variable, Let, Call, Trees, no_tree, a_tree, Binds, no_bind, a_bind, Parameter, Definition}
+use Rattle.safl_tree.specs.Tree.{Tree, Variable, Let, Call, Trees, a_tree, Binds, no_bind, a_bind, Parameter, Definition}
 use Rattle.safl_typing.specs.Rewriting.{rewritten}
-use Rattle.safl_typing.specs.Heads.{Head, Member, Above, Unknown, heads}
-use Rattle.safl_typing.specs.Forms.{Form, function_names, IsFormOf}
+use Rattle.safl_typing.specs.Heads.{Head, Member, Above, heads}
+use Rattle.safl_typing.specs.Forms.{Form, function_names}
 use Rattle.safl_check.specs.Numbered.{program_in}
 use Rattle.safl_reshape.specs.Changed.{Change, changed, changed_definitions, calls, is_member}
 

@@ -1,12 +1,9 @@
 //! Copying a function for one of its calls.
 
-ghost use Rattle.std.specs.Prelude.{◌≡◌, ◌<◌, ◌≤◌, ◌^◌, ℕ, Some, IsTrue, length, slice_get, IfOk, OnOk, IfErr};
+ghost use Rattle.std.specs.Prelude.{◌≡◌, ◌<◌, ◌≤◌, Some, length, IfOk, OnOk, IfErr};
 ghost use Rattle.safl_word.specs.Limits.{functions_max};
 ghost use Rattle.safl_term.specs.Checked.{IsChecked};
-ghost use Rattle.safl_tree.specs.Tree.{Definition};
-ghost use Rattle.safl_tree.specs.Shown.{shown_definition, shown_definitions, shown_program};
-ghost use Rattle.safl_tree.specs.Printable.{IsFormedProgram, IsPrintable};
-ghost use Rattle.safl_typing.specs.Heads.{Head, heads};
+ghost use Rattle.safl_tree.specs.Shown.{shown_definition, shown_definitions};
 ghost use Rattle.safl_typing.specs.Forms.{IsFormOf, shown_form};
 ghost use Rattle.safl_typing.specs.PlainHeads.{shown_heads};
 ghost use Rattle.safl_reshape.specs.Reshaped.{copy_name, copy_of, copied, IsCopiedUnder};

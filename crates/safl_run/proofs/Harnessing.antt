@@ -1,5 +1,5 @@
 -- A harness keeps what its net needs, and its words are those of a call.
-use Rattle.std.proofs.Common.{◌≡◌, ◌+◌, List, ◌∷◌, ◌++◌, map, length, take, drop, Some, is_some, slice_get, sym, ap, subst, ◌∙◌, arith, codes}
+use Rattle.std.proofs.Common.{◌≡◌, ◌+◌, List, ◌∷◌, ◌++◌, length, take, drop, Some, is_some, slice_get, sym, ap, ◌∙◌, arith, codes}
 use Rattle.std.specs.Vec.{with_items}
 use Rattle.std.proofs.lemmas.List.{with_items_is, length-take-le, length-drop, length-append}
 use Rattle.safl_word.specs.Words.{Word}
@@ -9,9 +9,7 @@ use Rattle.safl_net.specs.Making.{found}
 use Rattle.safl_net.specs.Rules.{IsNetlist}
 use Rattle.safl_net.specs.Whole.{IsWhole}
 use Rattle.safl_net.specs.Arguments.{AreArguments}
-use Rattle.safl_sim.specs.Places.{AreInputs}
-use Rattle.safl_sim.specs.Words.{input_words, zero_of, bit_word}
-use Rattle.safl_sim.proofs.Giving.{are_inputs, zero_widths}
+use Rattle.safl_sim.specs.Words.{input_words, bit_word}
 use Rattle.safl_sim.proofs.Names.{found_output, output_known}
 use Rattle.safl_run.specs.declared.harness.Harness.{Harness}
 use Rattle.safl_run.specs.Rooms.{IsRoom}
@@ -54,12 +52,6 @@ module _ (n : Netlist) (h : Harness) (kept : IsHarness n h) (args : List Word) (
 
   pub first_is : (with_items h.room.first words).items ≡ input_words n.signals (bit_word 1) args
   first_is = held ∙ put ∙ sym (kept.is_room.words args are)
-
-  pub first_inputs : AreInputs n (with_items h.room.first words).items
-  first_inputs = subst (λ l. AreInputs n l) (sym first_is) (are_inputs n 1 args kept.made kept.whole are)
-
-  pub later_inputs : AreInputs n h.room.later.items
-  later_inputs = subst (λ l. AreInputs n l) (sym (kept.is_room.later args are)) (are_inputs n 0 (map zero_of args) kept.made kept.whole (zero_widths args ∙ are))
 
   room_again : IsRoom n (record { first = with_items h.room.first words; later = h.room.later; start = h.room.start })
   room_again = record {

@@ -3,7 +3,7 @@ use Rattle.std.proofs.Common.{◌≡◌, ℕ, zero, suc, ◌+◌, ◌-◌, ◌<�
 use Rattle.std.proofs.Common.{slice_get, refl, sym, ap, subst, ◌∙◌, arith, codes, append_assoc, Vec, Global}
 use Rattle.std.specs.Option.{option_or}
 use Rattle.std.specs.Vec.{with_item}
-use Rattle.std.proofs.lemmas.List.{append-nil, length-set, length-drop, length-take-le, take_at, drop_all, length-append, take_all}
+use Rattle.std.proofs.lemmas.List.{append-nil, length-set, length-drop, length-take-le, take_at, drop_all, length-append}
 use borrow.Rule.Slice.PartMut.{put_mid}
 use Rattle.std.proofs.lemmas.Nat.{pow_pos}
 use Rattle.std.proofs.lemmas.Slice.Eq.{bytes_eq-Decides}
@@ -209,9 +209,6 @@ zeros_more n i h =
     ap zeros_of (take_next n.signals i s.0 s.1)
     ∙ zeros_last (take i n.signals) s.0
     ∙ ap (λ o. zeros_of (take i n.signals) ++ own_zero (kind_in o) (width_in o)) (sym s.1)
-
-pub zeros_full : (n : Netlist) (i : ℕ) → length n.signals ≤ i → zeros_of (take i n.signals) ≡ zeros_of n.signals
-zeros_full n i h = ap zeros_of (take_all i n.signals h)
 
 pub zeros_none : (n : Netlist) → zeros_of (take 0 n.signals) ≡ []
 unfolding zeros_of

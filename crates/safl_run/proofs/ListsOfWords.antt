@@ -1,2 +1,1 @@
 -- Lists that are put together.
-use Rattle.std.proofs.Common.{[]}

@@ -1,6 +1,6 @@
 //! The harness of a net that is called: the words of its inputs, the signals that are watched, and the loop of a call.
 
-ghost use Rattle.std.specs.Prelude.{◌≡◌, ◌<◌, List, length, IfOk, IfErr, slice_index};
+ghost use Rattle.std.specs.Prelude.{◌≡◌, ◌<◌, List, length, IfOk, slice_index};
 ghost use Rattle.safl_word.specs.Words.{Word};
 ghost use Rattle.safl_net.specs.Whole.{IsWhole};
 ghost use Rattle.safl_net.specs.Arguments.{AreArguments};

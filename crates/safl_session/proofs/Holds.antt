@@ -1,15 +1,13 @@
 -- A session that is held call by call.
-use Rattle.std.proofs.Common.{◌≡◌, ℕ, ◌+◌, ◌≤◌, List, [], ◌∷◌, ◌++◌, length, take, drop, Bool, true, false, if◌then◌else◌, Some, slice_get, slice_index, refl, sym, ap, subst, ◌∙◌, arith, append_assoc}
+use Rattle.std.proofs.Common.{◌≡◌, ℕ, ◌+◌, ◌≤◌, List, [], ◌∷◌, ◌++◌, length, take, drop, Bool, true, false, if◌then◌else◌, Some, slice_get, slice_index, sym, ap, subst, ◌∙◌, arith, append_assoc}
 use Rattle.std.proofs.lemmas.Bool.{eq-eqb, ne_eqb}
 use Rattle.std.proofs.lemmas.List.{append-nil, take-append-drop, length-take-le, take_all}
 use Rattle.std.proofs.lemmas.List.Elements.{All-drop}
 use Rattle.std.proofs.lemmas.Option.{slice_get_within}
-use Rattle.safl_io.specs.Counts.{Rose}
 use Rattle.safl_io.specs.Sink.{SinkState, Sends, SendsPart}
 use Rattle.safl_io.specs.Told.{TellsOn}
 use Rattle.safl_word.specs.Words.{Word, AreWords}
 use Rattle.safl_word.proofs.Lists.{take_next}
-use Rattle.safl_io.proofs.Telling.{nothing_sent, rose_later}
 use Rattle.safl_net.specs.Laws.{FitWidths}
 use Rattle.safl_net.specs.Netlist.{Netlist}
 use Rattle.safl_net.specs.Arguments.{AreArguments}
@@ -35,17 +33,6 @@ pub record HeldTo (o : Opened) (calls : List (List Word)) (limit count : ℕ) (n
   pub sent : TellsOn (Sends (reply_lines replies)) old.sent new.sent
   pub quiet : new.faults ≡ old.faults
 
-pub held_none : (o : Opened) (calls : List (List Word)) (limit : ℕ) (sink : SinkState) → IsReady o → HeldTo o calls limit 0 o sink sink
-held_none o calls limit sink ready = record {
-  replies = [];
-  replied = refl;
-  net = refl;
-  opened = ready.opened;
-  state = ready.state;
-  sent = nothing_sent sink.sent;
-  quiet = refl;
-}
-
 -- the arguments of the next call fit its net
 pub next_arguments : (o : Opened) (calls : List (List Word)) (limit i : ℕ) (now : Opened) (old mid : SinkState) (args : List Word) → AreCallsOf o.net
     calls → HeldTo o calls limit i now old mid → slice_get calls i ≡ Some args
@@ -65,9 +52,6 @@ module _ (o : Opened) (calls : List (List Word)) (limit : ℕ) (ready : IsReady 
   start = slice_index o.state
 
   module _ (i : ℕ) (now : Opened) (old mid new : SinkState) (h : HeldTo o calls limit i now old mid) where
-    pub later_fault : Rose mid.faults new.faults → Rose old.faults new.faults
-    later_fault rose = rose_later old.faults mid.faults new.faults (let a = h.quiet in omega (arith, a)) rose
-
     -- the next call has its reply
     module _ (args : List Word) (at : slice_get calls i ≡ Some args) (r : Reply) (after : Opened) (replies : Replies now.net limit (slice_index now.state) args r (slice_index after.state)) where
       reply : Replies o.net limit (slice_index now.state) args r (slice_index after.state)

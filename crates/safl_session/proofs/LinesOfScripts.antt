@@ -9,7 +9,7 @@ use Rattle.safl_word.proofs.Lists.{get_in_front, get_seam}
 use Rattle.safl_word.proofs.Naturals.{lower_same_higher}
 use Rattle.safl_session.specs.declared.script.ScriptErr.{ScriptErr}
 use Rattle.safl_session.specs.Pieces.{HasLines, IsCut}
-use Rattle.safl_session.specs.Lines.{IsCall, AppendsCall, ScriptFault, HasFault, RefusesLine}
+use Rattle.safl_session.specs.Lines.{IsCall, AppendsCall, ScriptFault, HasScriptFault, RefusesLine}
 use Rattle.safl_session.specs.Scripts.{AreCalls, IsScript, IsScriptFault, RefusesScript, calls_of}
 use Rattle.safl_session.specs.Laws.{OneScript, OneFault, NotBoth}
 use Rattle.safl_session.proofs.PiecesOfText.{lines_of, lines_once, no_lines, first_line, cut_long}
@@ -112,7 +112,7 @@ module _ (widths text : List ℕ) (count : ℕ) (words : List Word) (rest line b
           lines = s.split (line ∷ tail.0) (first_line rest line behind some cut tail.0 tail.1);
           calls = calls_of count (length widths) words;
           good = s.are;
-          fault = subst (λ k. HasFault widths line k f) (n ∙ ap (λ k. k + 1) (sym s.long)) has;
+          fault = subst (λ k. HasScriptFault widths line k f) (n ∙ ap (λ k. k + 1) (sym s.long)) has;
         },
       )
 
@@ -169,7 +169,7 @@ one_fault widths text e f a b = by (lower_same_higher (length a.before) (length 
         let x : Some a.line ≡ Some b.line =
         sym (get_seam a.before a.line a.after (length b.before) h) ∙ ap (λ l. slice_get l (length b.before)) same ∙ get_seam b.before b.line b.after (length b.before) refl in
         let l : a.line ≡ b.line = cc in
-        fault_once widths b.line (length b.before + 1) e f (subst (λ k. HasFault widths b.line (k + 1) e) h (subst (λ y. HasFault widths y (length a.before + 1) e) l a.fault)) b.fault
+        fault_once widths b.line (length b.before + 1) e f (subst (λ k. HasScriptFault widths b.line (k + 1) e) h (subst (λ y. HasScriptFault widths y (length a.before + 1) e) l a.fault)) b.fault
 
 -- whether the rest is empty
 pub some_left : (xs : List ℕ) (b : Bool) → b ≡ (length xs == 0) → b ≡ false → 0 < length xs

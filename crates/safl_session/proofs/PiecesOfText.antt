@@ -1,7 +1,7 @@
 -- Pieces, words and lines of a text.
 use Rattle.std.proofs.Common.{◌≡◌, ℕ, zero, suc, ◌+◌, ◌-◌, ◌<◌, ◌≤◌, ◌⊎◌, List, [], ◌∷◌, ◌++◌, length, take, drop, Bool, true, false, not, ◌==◌, refl, sym, ap, subst, ◌∙◌, arith, inl, inr}
 use Rattle.std.specs.Prelude.{All}
-use Rattle.std.specs.List.{list_all, join_with_byte}
+use Rattle.std.specs.List.{join_with_byte}
 use Rattle.std.proofs.lemmas.Bool.{and_parts, and_from, eqb-true, eq-eqb, true≢false, false≢true}
 use Rattle.std.proofs.lemmas.List.{append-nil, length-append, take-append-drop, take_all}
 use Rattle.std.proofs.lemmas.List.Elements.{All-nil, All-cons, All-head, All-tail}
@@ -40,9 +40,6 @@ cut_short c text n run h = record {
   lacks = run.passes;
   is = inl (ends_at c text n run.ends h ∙ ap (λ l. take n text ++ c ∷ l) (sym (behind_all text n h)));
 }
-
-pub cut_all : (c : ℕ) (text : List ℕ) (n : ℕ) → IsRun (λ x. not (x == c)) text n → length text ≤ n → IsCut c text text []
-cut_all c text n run h = record { lacks = ap (list_all (λ x. not (x == c))) (sym (take_all n text h)) ∙ run.passes; is = inr (refl, refl) }
 
 pub cut_long : (c : ℕ) (text piece behind : List ℕ) → IsCut c text piece behind → (length behind ≤ length text) × (0 < length text → length behind < length text) × (length piece ≤ length text)
 cut_long c text piece behind cut = by cut.is
@@ -185,13 +182,6 @@ starts_with text rest word behind k run r some cut = record {
         on : (rest ≡ [] ++ 32 ∷ behind) ⊎ ((rest ≡ []) × (behind ≡ [])) → 0 < 0
         on (inl q) = absurd (space rest some e q)
         on (inr q) = absurd (let z : length rest ≡ 0 = ap length q.0 in omega (arith, z, some))
-
-pub all_blank : (text rest : List ℕ) (k : ℕ) → IsRun (λ c. c == 32) text k → rest ≡ drop k text → length rest ≡ 0 → Blank text
-all_blank text rest k run r none =
-    let a = run.within in
-    let b = drop_long text k a in
-    let c : length rest ≡ length (drop k text) = ap length r in
-    ap (list_all (λ c. c == 32)) (sym (take_all k text (omega (arith, b, c, none)))) ∙ run.passes
 
 -- lines
 pub lines_of : (text : List ℕ) → (ls : List (List ℕ)) × HasLines text ls

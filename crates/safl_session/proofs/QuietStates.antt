@@ -10,7 +10,7 @@ use Rattle.safl_net.specs.Netlist.{Netlist, Signal, Kind, Input, Reg, Wire, plac
 use Rattle.safl_net.specs.Valuations.{Valuation, Fits, Holds, number_at, read, reset_state}
 use Rattle.safl_sites.specs.Plan.{Choice}
 use Rattle.safl_circuit.specs.Names.{of_function, of_site, one, is_unit, is_site, registers_now}
-use Rattle.safl_circuit.specs.Layout.{Line, lines, member_lines, unit_lines, site_lines, layout_registers, register_kind, each_line, Has}
+use Rattle.safl_circuit.specs.Layout.{Line, lines, member_lines, unit_lines, site_lines, layout_registers, register_kind, each_line, IsLineOf}
 use Rattle.safl_circuit.specs.Scheme.{Scheme}
 use Rattle.safl_circuit.specs.Steps.{Quiet}
 use Rattle.safl_circuit.specs.Correct.{IsQuietState}
@@ -29,13 +29,13 @@ record Found (gs : List Signal) (name : List ℕ) : Type 0 where
   is_named : signal.name ≡ name
   kind : signal.kind ≡ Reg init then
 
-here : (g : Signal) (gs : List Signal) (name : List ℕ) (w : ℕ) (k : Kind) → g.kind ≡ k → Has (name, w) (register_kind (g.name, g.width) k) → Found (g ∷ gs) name
+here : (g : Signal) (gs : List Signal) (name : List ℕ) (w : ℕ) (k : Kind) → g.kind ≡ k → IsLineOf (name, w) (register_kind (g.name, g.width) k) → Found (g ∷ gs) name
 here g gs name w Input e h = absurd h
 here g gs name w (Wire cell) e h = absurd h
 here g gs name w (Reg init next) e (inr h) = absurd h
 here g gs name w (Reg init next) e (inl is) = record { at = 0; signal = g; init = init; then = next; there = refl; is_named = ap (λ p. p.0) is; kind = e }
 
-found : (gs : List Signal) (name : List ℕ) (w : ℕ) → Has (name, w) (each_line register_kind gs) → Found gs name
+found : (gs : List Signal) (name : List ℕ) (w : ℕ) → IsLineOf (name, w) (each_line register_kind gs) → Found gs name
 unfolding each_line
 found [] name w h = absurd h
 found (g ∷ gs) name w h = ⊎_elim
@@ -82,9 +82,9 @@ module _ (C : Program) (D : Names) (P : Choice) (n : Netlist) (scheme : Scheme C
   IsHeld name = (state : ℕ → ℕ) (v : Valuation) → Fits n state v → read n v name ≡ held state name
 
   -- what is read at a register's name is its state
-  reads : (name : List ℕ) (w : ℕ) → Has (name, w) (layout_registers C D P) → IsHeld name
+  reads : (name : List ℕ) (w : ℕ) → IsLineOf (name, w) (layout_registers C D P) → IsHeld name
   reads name w h state v fits =
-      let f = found n.signals name w (subst (Has (name, w)) (sym scheme.registers) h) in
+      let f = found n.signals name w (subst (IsLineOf (name, w)) (sym scheme.registers) h) in
       let at = placed n.signals name f.at f.signal f.there f.is_named scheme.distinct in
       ap (number_at v) at ∙ subst (λ k. Holds n v (state f.at) (slice_index v f.at) k) f.kind (fits.each f.at f.signal f.there).1
       ∙ sym (ap (λ (o : Option ℕ). option_map_or state o 0) at)
@@ -92,19 +92,20 @@ module _ (C : Program) (D : Names) (P : Choice) (n : Netlist) (scheme : Scheme C
   abbrev unit_all : ℕ → List Line
   unit_all u = (of_function D (codes "run$") u, 1) ∷ (of_function D (codes "fin$") u, 1) ∷ (of_function D (codes "res$") u, C.result u) ∷ lines (member_lines C D u) C.functions
 
-  in_unit : (u : ℕ) (x : Line) → is_unit C u ≡ true → Has x (unit_all u) → Has x (layout_registers C D P)
+  in_unit : (u : ℕ) (x : Line) → is_unit C u ≡ true → IsLineOf x (unit_all u) → IsLineOf x (layout_registers C D P)
   in_unit u x is h =
       has_left x (lines (unit_lines C D) C.functions) (lines (site_lines C P) (suc C.sites))
-      (lines_has (unit_lines C D) C.functions u x (ltb-true u C.functions (and_parts _ _ is).0) (subst (Has x) (sym (ap (λ b. cond b (unit_all u) []) is)) h))
+      (lines_has (unit_lines C D) C.functions u x (ltb-true u C.functions (and_parts _ _ is).0) (subst (IsLineOf x) (sym (ap (λ b. cond b (unit_all u) []) is)) h))
 
   abbrev site_all : ℕ → List Line
   site_all k = (of_site (codes "sent$") k, 1) ∷ (of_site (codes "got$") k, 1) ∷ cond (P.kept k) ((of_site (codes "keep$") k, C.result (C.callee k)) ∷ []) []
 
-  in_site : (k : ℕ) (x : Line) → is_site C k ≡ true → Has x (site_all k) → Has x (layout_registers C D P)
+  in_site : (k : ℕ) (x : Line) → is_site C k ≡ true → IsLineOf x (site_all k) → IsLineOf x (layout_registers C D P)
   in_site k x is h =
       let a = and_parts _ _ is in
       has_right x (lines (unit_lines C D) C.functions) (lines (site_lines C P) (suc C.sites))
-      (lines_has (site_lines C P) (suc C.sites) k x (let z = leb-true k C.sites a.1 in omega (arith, z)) (subst (Has x) (sym (ap (λ b. cond b (site_all k) []) (lt-ltb 0 k (ltb-true 0 k a.0)))) h))
+      (lines_has (site_lines C P) (suc C.sites) k x (let z = leb-true k C.sites a.1 in omega (arith, z))
+      (subst (IsLineOf x) (sym (ap (λ b. cond b (site_all k) []) (lt-ltb 0 k (ltb-true 0 k a.0)))) h))
 
   run_reads : (u : ℕ) → is_unit C u ≡ true → IsHeld (of_function D (codes "run$") u)
   run_reads u is = reads _ 1 (in_unit u (of_function D (codes "run$") u, 1) is (inl refl))

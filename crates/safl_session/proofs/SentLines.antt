@@ -1,5 +1,5 @@
 -- What is sent after something that was sent.
-use Rattle.std.proofs.Common.{◌≡◌, ℕ, List, [], ◌++◌, length, take, drop, Option, Some, None, refl, sym, ap, ◌∙◌, append_assoc}
+use Rattle.std.proofs.Common.{◌≡◌, ℕ, List, ◌++◌, length, take, drop, Option, Some, None, refl, sym, ap, ◌∙◌, append_assoc}
 use Rattle.std.proofs.lemmas.List.{take-append-drop, take_at}
 use Rattle.safl_io.specs.Sink.{Sends, SendsPart}
 use Rattle.safl_io.specs.Told.{TellsOn}

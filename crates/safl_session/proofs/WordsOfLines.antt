@@ -9,7 +9,7 @@ use Rattle.safl_word.specs.Words.{Word}
 use Rattle.safl_word.proofs.Lists.{get_in_front, get_seam}
 use Rattle.safl_word.proofs.Naturals.{lower_same_higher}
 use Rattle.safl_session.specs.Pieces.{HasWords, Blank, StartsWith}
-use Rattle.safl_session.specs.Lines.{IsArgument, AreArguments, IsCall, AppendsCall, HaveMisfit, ScriptFault, Count, Argument, HasFault}
+use Rattle.safl_session.specs.Lines.{IsArgument, AreArguments, IsCall, AppendsCall, HaveMisfit, ScriptFault, Count, Argument, HasScriptFault}
 use Rattle.safl_session.proofs.PiecesOfText.{words_once, blank_words, first_word, behind_long}
 
 -- the texts that have a width are these arguments
@@ -230,7 +230,7 @@ arg_at (x ∷ ws) (s ∷ ts) (v ∷ vs) a zero w t e f =
     (v, subst (λ y. IsArgument y t v) p (subst (λ y. IsArgument x y v) q a.0))
 arg_at (x ∷ ws) (s ∷ ts) (v ∷ vs) a (suc k) w t e f = arg_at ws ts vs a.1 k w t e f
 
-pub no_fault : (widths line : List ℕ) (args : List Word) (number : ℕ) (e : ScriptFault) → IsCall widths line args → HasFault widths line number e → ⊥
+pub no_fault : (widths line : List ℕ) (args : List Word) (number : ℕ) (e : ScriptFault) → IsCall widths line args → HasScriptFault widths line number e → ⊥
 no_fault widths line args number (Count l given) a f =
     f.1.3 (sym f.1.2 ∙ ap length (words_once line f.1.0 a.0 f.1.1 a.1) ∙ args_long widths a.0 args a.2)
 no_fault widths line args number (Argument l place) a f =
@@ -256,7 +256,7 @@ places_same widths line p q a b = a.3 ∙ ap (λ k. k + 1) (by (lower_same_highe
     by (inr (inl e)) = e
     by (inr (inr h)) = absurd (misread_before widths line q p b a h)
 
-pub fault_once : (widths line : List ℕ) (number : ℕ) (e f : ScriptFault) → HasFault widths line number e → HasFault widths line number f → e ≡ f
+pub fault_once : (widths line : List ℕ) (number : ℕ) (e f : ScriptFault) → HasScriptFault widths line number e → HasScriptFault widths line number f → e ≡ f
 fault_once widths line number (Count l given) (Count k other) a b =
     let p : l ≡ k = a.0 ∙ sym b.0 in
     let q : given ≡ other = sym a.1.2 ∙ ap length (words_once line a.1.0 b.1.0 a.1.1 b.1.1) ∙ b.1.2 in

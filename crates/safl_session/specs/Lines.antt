@@ -45,10 +45,10 @@ pub data ScriptFault : Type 0 where
 
 -- The line has this fault: its number of words, which is not that of the widths; or otherwise the number of the first word that is
 -- no argument of its width.
-abbrev pub HasFault : List ℕ → List ℕ → ℕ → ScriptFault → Type 0
-HasFault widths line number (Count l given) =
+abbrev pub HasScriptFault : List ℕ → List ℕ → ℕ → ScriptFault → Type 0
+HasScriptFault widths line number (Count l given) =
     (l ≡ number) × ((words : List (List ℕ)) × HasWords line words × (length words ≡ given) × (given ≢ length widths))
-HasFault widths line number (Argument l place) =
+HasScriptFault widths line number (Argument l place) =
     (l ≡ number) × ((words : List (List ℕ)) × HasWords line words × (m : HaveMisfit widths words) × (place ≡ m.index + 1))
 
 -- the error that says a fault
@@ -58,4 +58,4 @@ error_of (Argument line place) = errors.Argument line place
 
 -- the error says the fault of the line, or out of memory
 abbrev pub RefusesLine : List ℕ → List ℕ → ℕ → ScriptErr → Type 0
-RefusesLine widths line number e = (e ≡ errors.NoMemory) ⊎ ((f : ScriptFault) × (e ≡ error_of f) × HasFault widths line number f)
+RefusesLine widths line number e = (e ≡ errors.NoMemory) ⊎ ((f : ScriptFault) × (e ≡ error_of f) × HasScriptFault widths line number f)

@@ -5,7 +5,7 @@ use Rattle.safl_word.specs.Words.{Word}
 use Rattle.safl_session.specs.declared.script.ScriptErr.{ScriptErr}
 use Rattle.safl_session.specs.declared.script.ScriptErr.TheVariants as errors
 use Rattle.safl_session.specs.Pieces.{HasLines}
-use Rattle.safl_session.specs.Lines.{IsCall, ScriptFault, HasFault, error_of}
+use Rattle.safl_session.specs.Lines.{IsCall, ScriptFault, HasScriptFault, error_of}
 
 -- the lines of the text have the arguments of these calls, one by one
 abbrev pub IsScript : List ℕ → List ℕ → List (List Word) → Type 0
@@ -19,7 +19,7 @@ pub record IsScriptFault (widths text : List ℕ) (f : ScriptFault) : Type 0 whe
   pub lines : HasLines text (before ++ line ∷ after)
   pub calls : List (List Word)
   pub good : AllZip (IsCall widths) before calls
-  pub fault : HasFault widths line (length before + 1) f
+  pub fault : HasScriptFault widths line (length before + 1) f
 
 -- the error says the fault of the script, or out of memory
 abbrev pub RefusesScript : List ℕ → List ℕ → ScriptErr → Type 0

@@ -1,9 +1,7 @@
 -- The actions of cells.
-use Rattle.std.proofs.Common.{◌≡◌, ◌⊎◌, inl, inr, ℕ, zero, suc, ◌+◌, ◌-◌, ◌*◌, ◌<◌, ◌≤◌, bit_and, bit_or, bit_xor, List, [], ◌∷◌}
+use Rattle.std.proofs.Common.{◌≡◌, ◌⊎◌, inl, inr, ℕ, zero, suc, ◌-◌, ◌<◌, ◌≤◌, bit_and, bit_or, List, [], ◌∷◌}
 use Rattle.std.proofs.Common.{length, get_or, ◌^◌, Some, None, is_some, slice_index, refl, sym, ap, subst, ◌∙◌, arith}
-use lib.Bits.{xor_add_and}
-use Rattle.std.proofs.Math.Nat.{mod-eq_of_lt}
-use Rattle.std.proofs.lemmas.Nat.{and_comm, and_mask}
+use Rattle.std.proofs.lemmas.Nat.{and_comm}
 use Rattle.std.proofs.lemmas.Bool.{eqb-true}
 use Rattle.std.proofs.Math.Pow.{pow_mono}
 use Rattle.safl_word.specs.Words.{Word, IsWord, pick, as_word}
@@ -320,9 +318,3 @@ pub one_of : (xs : List Sig) → 1 ≤ length xs → length xs < 2 → xs ≡ ge
 one_of [] h k = absurd (omega (arith, h))
 one_of (x ∷ []) h k = refl
 one_of (x ∷ (y ∷ xs)) h k = absurd (omega (arith, k))
-
--- what holds of both places holds of the one that is picked, and its number is picked
-pub picked_holds : (P : ℕ → Type 0) (i a b : ℕ) → P a → P b → P (pick i a b)
-picked_holds P zero a b p q = q
-picked_holds P (suc zero) a b p q = p
-picked_holds P (suc (suc i)) a b p q = q

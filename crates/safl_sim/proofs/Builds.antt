@@ -1,12 +1,12 @@
 -- The parts of a simulator are what it keeps.
-use Rattle.std.proofs.Common.{◌≡◌, ◌⊎◌, inl, inr, ℕ, zero, suc, ◌+◌, ◌/◌, ◌<◌, ◌≤◌, ◌^◌, List, [], ◌∷◌, ◌++◌, map, length, take, drop, get_or, Option}
-use Rattle.std.proofs.Common.{Some, None, slice_get, slice_index, refl, sym, ap, subst, ◌∙◌, arith, append_assoc, true}
+use Rattle.std.proofs.Common.{◌≡◌, ◌⊎◌, inl, inr, ℕ, zero, suc, ◌+◌, ◌/◌, ◌<◌, ◌^◌, List, [], ◌∷◌, ◌++◌, map, length, take, drop, get_or, Option}
+use Rattle.std.proofs.Common.{Some, None, slice_get, slice_index, refl, sym, ap, subst, ◌∙◌, arith, append_assoc}
 use Rattle.std.proofs.lemmas.Nat.{pow_pos}
-use Rattle.std.proofs.lemmas.List.{append-nil, drop_all, length_push, map_push}
+use Rattle.std.proofs.lemmas.List.{length_push, map_push}
 use Rattle.std.proofs.lemmas.Option.{slice_get_within}
 use Rattle.std.proofs.lemmas.Bool.{cases_lt}
 use Rattle.safl_net.specs.declared.cell.Sig.{Sig}
-use Rattle.safl_net.specs.Netlist.{Netlist, Signal, Kind, Input, Reg, Wire, Cell, width_of, with_input}
+use Rattle.safl_net.specs.Netlist.{Netlist, Signal, Kind, Input, Reg, Wire, Cell, with_input}
 use Rattle.safl_net.specs.Valuations.{kind_reset}
 use Rattle.safl_net.specs.Making.{numbers, kind_at, kind_in, cell_in}
 use Rattle.safl_net.specs.Rules.{IsNetlist, KindFits, CellFits}
@@ -22,7 +22,7 @@ use Rattle.safl_sim.specs.States.{placed, AreReset}
 use Rattle.safl_sim.specs.Steps.{IsReg, IsStep, AreSteps, AreRegisters, KeepsSimulation}
 use Rattle.safl_sim.proofs.Placing.{placed_long, placed_rest, placed_at}
 use Rattle.safl_word.proofs.Joining.{index_past}
-use Rattle.safl_word.proofs.Lists.{get_end, get_front, get_pushed, get_some, index_end, index_front, take_next}
+use Rattle.safl_word.proofs.Lists.{get_pushed, get_some, index_end, index_front, take_next}
 use Rattle.safl_word.proofs.Naturals.{lower_or_last}
 use Rattle.safl_net.proofs.ArgumentWidths.{drop_at}
 
@@ -81,41 +81,6 @@ inputs_more n old new i h e f =
     ∙ ap (λ j. old ++ with_input g.0.kind i (inputs_from (drop (i + 1) n.signals) j)) (let z : i + 1 ≡ suc i = omega arith in z)
     ∙ ap (λ l. old ++ inputs_from l i) (sym (drop_at n.signals i g.0 g.1))
     ∙ e
-
-pub inputs_end : (n : Netlist) (all : List ℕ) (i : ℕ) → length n.signals ≤ i → all ++ inputs_from (drop i n.signals) i ≡ inputs_of n → all ≡ inputs_of n
-inputs_end n all i h e = sym (append-nil all) ∙ ap (λ l. all ++ inputs_from l i) (sym (drop_all i n.signals h)) ∙ e
-
-pub registers_more : (n : Netlist) (regs : List Register) (i : ℕ) (r : Register) → AreRegisters n i regs → r.signal.0 ≡ i → (init : ℕ) × (kind_at n r.signal.0 ≡ Reg init (Some r.next.0))
-    → (r.narrow ≡ true → width_of n r.signal.0 ≤ 64) → AreRegisters n (i + 1) (regs ++ r ∷ [])
-registers_more n regs i r w e f low = record {
-  each = λ k q g. elim (get_pushed regs r q k g) [
-    | inl h ↦ w.each k q h
-    | inr h ↦ subst (λ (y : Register). (init : ℕ) × (kind_at n y.signal.0 ≡ Reg init (Some y.next.0))) (sym h.1) f
-  ];
-  all = λ s h is. elim (lower_or_last s i h) [
-    | inl l ↦ let a = w.all s l is in (a.0, a.1, get_front regs (r ∷ []) a.0 a.1 a.2, a.3)
-    | inr q ↦ (length regs, r, get_end regs r, e ∙ sym q)
-  ];
-  narrow = λ k q g. elim (get_pushed regs r q k g) [
-    | inl h ↦ w.narrow k q h
-    | inr h ↦ subst (λ (y : Register). y.narrow ≡ true → width_of n y.signal.0 ≤ 64) (sym h.1) low
-  ];
-  few = (let a = w.few in let b = length_push regs r in omega (arith, a, b));
-  below = λ k q g. elim (get_pushed regs r q k g) [
-    | inl h ↦ (let a = w.below k q h in omega (arith, a))
-    | inr h ↦ (let a = ap (λ (y : Register). y.signal.0) h.1 in omega (arith, a, e))
-  ];
-  once = λ j k p q g h z. elim (get_pushed regs r p j g) [
-    | inl u ↦ elim (get_pushed regs r q k h) [
-      | inl v ↦ w.once j k p q u v z
-      | inr v ↦ absurd (let a = w.below j p u in let b = ap (λ (y : Register). y.signal.0) v.1 in omega (arith, a, b, e, z))
-    ]
-    | inr u ↦ elim (get_pushed regs r q k h) [
-      | inl v ↦ absurd (let a = w.below k q v in let b = ap (λ (y : Register). y.signal.0) u.1 in omega (arith, a, b, e, z))
-      | inr v ↦ u.0 ∙ sym v.0
-    ]
-  ];
-}
 
 pub registers_same : (n : Netlist) (regs : List Register) (i : ℕ) → AreRegisters n i regs → ¬ (IsReg (kind_at n i)) → AreRegisters n (i + 1) regs
 registers_same n regs i w away = record {

@@ -13,7 +13,7 @@ use Rattle.safl_net.specs.Arguments.{AreArguments}
 use Rattle.safl_net.proofs.SignalKinds.{reset_at}
 use Rattle.safl_sim.specs.Existence.{RunsExist, ResetFits, OneRunExists}
 use Rattle.safl_sim.specs.Outcomes.{IsCallRun}
-use Rattle.safl_sim.specs.Places.{AreInputs, HasWords, resets}
+use Rattle.safl_sim.specs.Places.{AreInputs, HasWords}
 use Rattle.safl_sim.specs.Words.{own_word, others, is_start, input_words, zero_of, bit_word}
 use Rattle.safl_sim.proofs.Builds.{resets_fit}
 use Rattle.safl_sim.proofs.Giving.{own_value, input_values, inputs_map, sizes, sizes_long, size_at, values_are, words_had, are_inputs, zero_widths, zero_bits, widths, bits}

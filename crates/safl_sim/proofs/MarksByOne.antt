@@ -147,9 +147,6 @@ none_upto marks first place word below from none k f l = elim (cases_lt k place)
 pub none_past : (marks : List ℕ) (first from to : ℕ) → ((k : ℕ) → first ≤ k → k < from * 64 → marked marks k ≡ 0) → NoneBetween marks from to → (k : ℕ) → first ≤ k → k < to * 64 → marked marks k ≡ 0
 none_past marks first from to below none k f l = elim (cases_lt k (from * 64)) [ inl h ↦ below k f h | inr h ↦ none (k / 64) (omega (arith, h)) (omega (arith, l)) k refl ]
 
-pub between_none : (marks : List ℕ) (from : ℕ) → NoneBetween marks from from
-between_none marks from w f l = absurd (omega (arith, f, l))
-
 pub between_one : (marks : List ℕ) (from w : ℕ) → NoneBetween marks from w → slice_index marks w ≡ 0 → NoneBetween marks from (w + 1)
 between_one marks from w none e v f l = elim (lower_or_last v w l) [ inl h ↦ none v f h | inr q ↦ none_in marks v (ap (slice_index marks) q ∙ e) ]
 
@@ -167,39 +164,3 @@ or_none a b h = (
   λ i. (max_none (bit_at a i) (bit_at b i) (sym (bit_at_or a b i) ∙ h i)).0,
   λ i. (max_none (bit_at a i) (bit_at b i) (sym (bit_at_or a b i) ∙ h i)).1,
 )
-
--- four words
-four_none : (marks : List ℕ) (w a b c d : ℕ) → slice_index marks w ≡ a → slice_index marks (w + 1) ≡ b → slice_index marks (w + 2) ≡ c → slice_index
-    marks (w + 3) ≡ d → ((i : ℕ) → bit_at (bit_or (bit_or (bit_or a b) c) d) i ≡ 0) → NoneBetween marks w (w + 4)
-four_none marks w a b c d ea eb ec ed e v f l k q =
-    let x = or_none (bit_or (bit_or a b) c) d e in
-    let y = or_none (bit_or a b) c x.0 in
-    let z = or_none a b y.0 in
-    let at : (u n : ℕ) → v ≡ u → slice_index marks u ≡ n → ((i : ℕ) → bit_at n i ≡ 0) → marked marks k ≡ 0 = λ u n s t none.
-    ap (λ y. bit_at (slice_index marks y) (k % 64)) (q ∙ s) ∙ ap (λ y. bit_at y (k % 64)) t ∙ none (k % 64) in
-    elim (cases_eq v w) [
-      | inl s ↦ at w a s ea z.0
-      | inr n ↦ elim (cases_eq v (w + 1)) [
-        | inl s ↦ at (w + 1) b s eb z.1
-        | inr m ↦ elim (cases_eq v (w + 2)) [
-          | inl s ↦ at (w + 2) c s ec y.1
-          | inr o ↦ at (w + 3) d (omega (arith, f, l, n, m, o)) ed x.1
-        ]
-      ]
-    ]
-
--- eight words
-pub eight_none : (marks : List ℕ) (w : ℕ) →
-    bit_or
-    (bit_or (bit_or (bit_or (slice_index marks w) (slice_index marks (w + 1))) (slice_index marks (w + 2))) (slice_index marks (w + 3)))
-    (bit_or (bit_or (bit_or (slice_index marks (w + 4)) (slice_index marks (w + 5))) (slice_index marks (w + 6))) (slice_index marks (w + 7))) ≡ 0
-    → NoneBetween marks w (w + 8)
-eight_none marks w e =
-    let x = or_none _ _ (λ i. ap (λ y. bit_at y i) e ∙ bit_at-zero i) in
-    let one : w + 4 + 1 ≡ w + 5 = omega arith in
-    let two : w + 4 + 2 ≡ w + 6 = omega arith in
-    let three : w + 4 + 3 ≡ w + 7 = omega arith in
-    let all : w + 4 + 4 ≡ w + 8 = omega arith in
-    between_more marks w (w + 4) (w + 8)
-    (four_none marks w _ _ _ _ refl refl refl refl x.0)
-    (subst (λ z. NoneBetween marks (w + 4) z) all (four_none marks (w + 4) _ _ _ _ refl (ap (slice_index marks) one) (ap (slice_index marks) two) (ap (slice_index marks) three) x.1))

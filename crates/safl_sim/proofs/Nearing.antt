@@ -4,15 +4,12 @@ use Rattle.std.specs.Prelude.{max}
 use Rattle.std.specs.Int.{w64, bit_at, bit_not, trailing_zeros}
 use Rattle.std.specs.Int.RustNames.{bit_or}
 use lib.Bits.{bit_and}
-use Rattle.std.proofs.lemmas.Nat.{or_comm}
 use Rattle.std.proofs.lemmas.Nat.Bits.{bit_at-zero, bit_at-lt, bit_at_or, bit_at_set_same, bit_at_set_other, same_from_bits}
 use Rattle.std.proofs.lemmas.Option.{slice_get_within}
 use Rattle.std.proofs.lemmas.Bool.{cases_eq, cases_lt}
 use Rattle.std.proofs.lemmas.List.{length-set, length_push, set-set, set_past}
-use Rattle.safl_word.proofs.Lists.{get_pushed, get_some}
+use Rattle.safl_word.proofs.Lists.{get_pushed}
 use Rattle.safl_word.proofs.Naturals.{lower_or_last}
-use Rattle.safl_net.specs.Netlist.{Netlist}
-use Rattle.safl_net.proofs.SignalKinds.{wire_at}
 use Rattle.safl_sim.specs.declared.step.Group.{Group}
 use Rattle.safl_sim.specs.declared.step.Near.{Near}
 use Rattle.safl_sim.specs.declared.step.Register.{Register}
@@ -20,7 +17,6 @@ use Rattle.safl_sim.specs.declared.step.Step.{Step}
 use Rattle.safl_sim.specs.Marks.{marked, holding, HasNone, HasTaken}
 use Rattle.safl_sim.specs.Readers.{Reader, HasMarked, HasGiven}
 use Rattle.safl_sim.specs.Nears.{IsNear, NearAt, NearOf, GroupOf}
-use Rattle.safl_sim.specs.Steps.{AreSteps}
 use Rattle.safl_sim.proofs.Written.{index_here}
 use Rattle.safl_sim.proofs.MarksByOne.{written_same, written_other, none_in, take_has}
 use Rattle.safl_sim.proofs.Updates.{set_same}
@@ -56,9 +52,6 @@ bit_or_none n i = by (bit_at n i) (bit_at-lt n i) refl
 
 or_zero : (x : ℕ) → bit_or x 0 ≡ x
 or_zero x = same_from_bits (bit_or x 0) x (λ i. bit_at_or x 0 i ∙ none_right (bit_at x i) (bit_at 0 i) (bit_at-zero i) (bit_at-lt x i))
-
-zero_or : (x : ℕ) → bit_or 0 x ≡ x
-zero_or x = or_comm 0 x ∙ or_zero x
 
 -- ---- marks that are held apart
 
@@ -159,15 +152,6 @@ near_is readers from j to word m first z w = record {
   all = λ i k f t e same. w.all i k f (omega (arith, t, z)) e same;
   only = λ b h n. w.only b h (λ i f t e. n i f (omega (arith, t, z)) e);
 }
-
-pub steps_known : (n : Netlist) (ws : List ℕ) (steps : List Step) → AreSteps n ws steps → (i : ℕ) (s : Step) → slice_get steps i ≡ Some s → s.wire.0 < length n.signals
-steps_known n ws steps w i s e =
-    let g = get_some ws i (let a = slice_get_within steps i s e in let b = w.long in omega (arith, a, b)) in
-    let is = w.each i g.0 s g.1 e in
-    let at = wire_at n g.0 is.cell is.is in
-    let a = slice_get_within n.signals g.0 at.0 at.1 in
-    let b = is.wire in
-    omega (arith, a, b)
 
 -- ---- a step whose wire is given its number
 
@@ -306,15 +290,6 @@ given_new steps starts readers p x values marks marks' m = record {
   grows = m.grows;
   told = λ k n r. m.all r.0 k r.1 r.2 r.3;
   others = λ k n. m.others k (λ j f t e. n (j, f, t, e));
-}
-
-pub given_same : (steps : List Step) (starts readers : List ℕ) (p x : ℕ) (values marks : List ℕ) → slice_index values p ≡ x → HasGiven steps starts readers p x values (set values p x) marks marks
-given_same steps starts readers p x values marks e = record {
-  is = refl;
-  long = refl;
-  grows = λ k h. h;
-  told = λ k n r. absurd (n e);
-  others = λ k n. refl;
 }
 
 -- ---- near readers of each step, and a group for each register

@@ -1,5 +1,5 @@
 -- Registers that are shown and kept.
-use Rattle.std.proofs.Common.{◌≡◌, inl, inr, ℕ, ◌+◌, ◌-◌, ◌*◌, ◌/◌, ◌%◌, ◌^◌, ◌<◌, ◌≤◌, List, length, set, Some, slice_get, slice_index, refl, sym, ap, subst, ◌∙◌, arith, true}
+use Rattle.std.proofs.Common.{◌≡◌, inl, inr, ℕ, ◌+◌, ◌-◌, ◌*◌, ◌/◌, ◌%◌, ◌^◌, ◌<◌, ◌≤◌, List, length, set, Some, slice_get, slice_index, refl, sym, ap, subst, ◌∙◌, arith}
 use Rattle.safl_sim.specs.declared.step.Register.{Register}
 use Rattle.std.specs.Int.{bit_at}
 use Rattle.std.proofs.lemmas.Bool.{cases_eq}

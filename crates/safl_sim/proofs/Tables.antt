@@ -150,17 +150,6 @@ module _ (n : Netlist) (ws : List ℕ) (regs : List Register) where
 
 -- ---- the lists one after another
 
-pub flat_none : (lists : List (List ℕ)) → AreFlat lists (0 ∷ []) [] 0
-flat_none lists = record {
-  long = refl;
-  last = refl;
-  ordered = λ p h. absurd (omega (arith, h));
-  within = λ p h. (let z : p ≡ 0 = omega (arith, h) in subst (λ x. slice_index (0 ∷ []) x ≤ 0) (sym z) (omega arith));
-  all = λ p j h c. absurd (omega (arith, h));
-  only = λ p j h r. absurd (omega (arith, h));
-  from = λ j k e. absurd (cc);
-}
-
 pub flat_step : (lists : List (List ℕ)) (starts readers : List ℕ) (p : ℕ) (v : List ℕ) → AreFlat lists starts readers p → slice_get lists p ≡ Some v
     → AreFlat lists (starts ++ length (readers ++ v) ∷ []) (readers ++ v) (p + 1)
 flat_step lists starts readers p v w here =

@@ -1,6 +1,6 @@
 //! Guards: when a reader of a place looks at the place.
 
-ghost use Rattle.std.specs.Prelude.{◌≡◌, ◌⊎◌, ℕ, ◌+◌, ◌<◌, ◌≤◌, length, Some, IfOk, slice_get};
+ghost use Rattle.std.specs.Prelude.{◌≡◌, ◌⊎◌, ℕ, ◌<◌, ◌≤◌, length, Some, IfOk, slice_get};
 ghost use Rattle.safl_sim.specs.declared.step.Guard.{Guard};
 ghost use Rattle.safl_sim.specs.declared.step.Action.TheVariants.{Choose};
 ghost use Rattle.safl_sim.specs.Guards.{Unseen, IsGuard, AreGuarded};

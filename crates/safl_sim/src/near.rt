@@ -3,7 +3,7 @@
 //! The near readers of a step's wire have their marks in one word with the step, those of a register in one word with
 //! its first reader.
 
-ghost use Rattle.std.specs.Prelude.{ℕ, ◌+◌, ◌≤◌, List, length, IfOk, slice_index};
+ghost use Rattle.std.specs.Prelude.{ℕ, ◌+◌, ◌≤◌, length, IfOk};
 ghost use Rattle.safl_sim.specs.Nears.{IsNear, AreGrouped};
 ghost use Rattle.safl_sim.specs.Readers.{Lists};
 ghost use Rattle.safl_sim.specs.States.{AreBelow};

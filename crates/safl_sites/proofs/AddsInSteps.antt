@@ -1,5 +1,6 @@
 -- What joins in steps joins as a whole.
-use Rattle.std.proofs.Common.{◌⊎◌, inl, inr}
+use Rattle.std.proofs.Common.{◌≡◌, ◌⊎◌, inl, inr, sym, subst}
+use Rattle.safl_term.specs.Terms.{Term}
 use Rattle.safl_sites.specs.SiteSets.{Adds}
 
 pub adds_then : {A B D P Q : Type 0} → Adds A B P → Adds B D Q → Adds A D (P ⊎ Q)
@@ -18,3 +19,7 @@ adds_as to from x = record {
 
 pub adds_none : {A P : Type 0} → (P → ⊥) → Adds A A P
 adds_none never = record { splits = λ a. inl a; stays = λ a. a; joins = λ p. absurd (never p) }
+
+-- what joins by a term's node
+pub adds_by : {A B : Type 0} (P : Term → Type 0) {t u : Term} → t ≡ u → Adds A B (P u) → Adds A B (P t)
+adds_by {A} {B} P e h = subst (λ (x : Term). Adds A B (P x)) (sym e) h

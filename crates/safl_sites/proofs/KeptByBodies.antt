@@ -7,7 +7,6 @@ use Rattle.safl_sites.specs.declared.keep.Keeping.{Keeping}
 use Rattle.safl_sites.specs.declared.site_set.SiteSet.{SiteSet}
 use Rattle.safl_sites.specs.Bodies.{UnitTable, MustKeep, IsOwnKept, IsBodyKept, IsKeptBelow}
 use Rattle.safl_sites.specs.Conflicts.{Reaches}
-use Rattle.safl_sites.specs.Filling.{IsFilled}
 use Rattle.safl_sites.specs.Keeping.{fed_by, IsHeld, Walks, MayKeep}
 use Rattle.safl_sites.specs.Kept.{Decides}
 use Rattle.safl_sites.specs.Peers.{ArePeers}

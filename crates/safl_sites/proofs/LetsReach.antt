@@ -17,7 +17,7 @@ use Rattle.safl_sites.specs.Touched.{IsTouched}
 use Rattle.std.proofs.lemmas.Bool.{cases_eq}
 use Rattle.std.specs.Cmp.{both_ways}
 use Rattle.safl_sites.proofs.NumbersFollow.{IsSited, sited, site_of_body}
-use Rattle.safl_sites.proofs.ReachBySites.{reaches_of, reaches_in_by, reach_leaf, none_const, none_var}
+use Rattle.safl_sites.proofs.ReachBySites.{reaches_of, reaches_in_by, reach_const, reach_var}
 use Rattle.safl_word.specs.Words.{Word}
 use Rattle.safl_word.specs.declared.primitive.Primitive.{Primitive}
 
@@ -126,11 +126,11 @@ in_body_other C k (Loop f ts) none x = x
 
 pub in_body_const : (C : Program) (k : ℕ) {X : Type 0} (w : Word) → Adds X X (InBody C k (Const w))
 unfolding InBody
-in_body_const C k w = reach_leaf (Const w) (none_const w)
+in_body_const C k w = reach_const refl
 
 pub in_body_var : (C : Program) (k : ℕ) {X : Type 0} (i : ℕ) → Adds X X (InBody C k (Var i))
 unfolding InBody
-in_body_var C k i = reach_leaf (Var i) (none_var i)
+in_body_var C k i = reach_var refl
 
 pub not_if : {c a b : Term} {f j : ℕ} {ts : Terms} → If c a b ≡ Call f j ts → ⊥
 not_if e = cc

@@ -1,12 +1,10 @@
 -- The parts of a term that is part of a body are parts of it.
-use Rattle.std.proofs.Common.{◌≡◌, ℕ, suc, ◌+◌, ◌<◌, ◌≤◌, List, [], ◌∷◌, ◌++◌, length, length-append, refl, sym, ap, subst, arith}
+use Rattle.std.proofs.Common.{◌≡◌, ℕ, suc, ◌+◌, ◌<◌, ◌≤◌, List, [], ◌∷◌, ◌++◌, length, length-append, refl, ap, subst, arith}
 use Rattle.safl_word.specs.declared.primitive.Primitive.{Primitive}
 use Rattle.safl_term.specs.Program.{Program}
 use Rattle.safl_term.specs.Terms.{Term, Terms, Op, If, Let, Call, Loop, Nil, Cons}
 use Rattle.safl_term.specs.WellFormed.{HaveWidths}
 use Rattle.safl_term.proofs.Places.{fits_le, fits_all_le}
-use Rattle.safl_term.specs.declared.term.Term as declared
-use Rattle.safl_term.specs.Tree.{shown_term, shown_terms}
 use Rattle.safl_sites.specs.declared.site_set.SiteSet.{SiteSet}
 use Rattle.safl_sites.specs.Parts.{IsPart, ArePart, terms_in}
 use Rattle.safl_sites.specs.Reach.{MayReach, MayReachIn}
@@ -106,31 +104,34 @@ module _ {C : Program} {g n : ℕ} where
       let u = fits_all_le C g (suc h.lo) h.hi ts s in
       record { callee = e1; least = omega (arith, h.least); most = omega (arith, u, h.most); lower = lt; within = h.typed.2 }
 
--- the same with the sets of the units that may be called
+-- the same with the sets of the units that may be called, of a term by its node
 module _ {C : Program} {units : List SiteSet} {n : ℕ} where
-  pub may_cond : {c a b : Term} → MayReach C units n (If c a b) → MayReach C units n c
-  may_cond h = record { caller = h.caller; part = part_cond h.part; below = h.below; few = h.few }
+  renamed : {t u : Term} → t ≡ u → MayReach C units n t → MayReach C units n u
+  renamed e h = subst (λ (x : Term). MayReach C units n x) e h
 
-  pub may_then : {c a b : Term} → MayReach C units n (If c a b) → MayReach C units n a
-  may_then h = record { caller = h.caller; part = part_then h.part; below = h.below; few = h.few }
+  pub may_cond : {t c a b : Term} → t ≡ If c a b → MayReach C units n t → MayReach C units n c
+  may_cond e h = let m = renamed e h in record { caller = m.caller; part = part_cond m.part; below = m.below; few = m.few }
 
-  pub may_else : {c a b : Term} → MayReach C units n (If c a b) → MayReach C units n b
-  may_else h = record { caller = h.caller; part = part_else h.part; below = h.below; few = h.few }
+  pub may_then : {t c a b : Term} → t ≡ If c a b → MayReach C units n t → MayReach C units n a
+  may_then e h = let m = renamed e h in record { caller = m.caller; part = part_then m.part; below = m.below; few = m.few }
 
-  pub may_bound : {ts : Terms} {b : Term} → MayReach C units n (Let ts b) → MayReachIn C units n ts
-  may_bound h = record { caller = h.caller; parts = part_bound h.part; below = h.below; few = h.few }
+  pub may_else : {t c a b : Term} → t ≡ If c a b → MayReach C units n t → MayReach C units n b
+  may_else e h = let m = renamed e h in record { caller = m.caller; part = part_else m.part; below = m.below; few = m.few }
 
-  pub may_body : {ts : Terms} {b : Term} → MayReach C units n (Let ts b) → MayReach C units (n + terms_in ts) b
-  may_body h = record { caller = h.caller; part = part_body h.part; below = h.below; few = h.few }
+  pub may_bound : {t b : Term} {ts : Terms} → t ≡ Let ts b → MayReach C units n t → MayReachIn C units n ts
+  may_bound e h = let m = renamed e h in record { caller = m.caller; parts = part_bound m.part; below = m.below; few = m.few }
 
-  pub may_op : {o : Primitive} {ts : Terms} → MayReach C units n (Op o ts) → MayReachIn C units n ts
-  may_op h = record { caller = h.caller; parts = part_op h.part; below = h.below; few = h.few }
+  pub may_body : {t b : Term} {ts : Terms} → t ≡ Let ts b → MayReach C units n t → MayReach C units (n + terms_in ts) b
+  may_body e h = let m = renamed e h in record { caller = m.caller; part = part_body m.part; below = m.below; few = m.few }
 
-  pub may_args : {f k : ℕ} {ts : Terms} → MayReach C units n (Call f k ts) → MayReachIn C units n ts
-  may_args h = record { caller = h.caller; parts = part_args h.part; below = h.below; few = h.few }
+  pub may_op : {t : Term} {o : Primitive} {ts : Terms} → t ≡ Op o ts → MayReach C units n t → MayReachIn C units n ts
+  may_op e h = let m = renamed e h in record { caller = m.caller; parts = part_op m.part; below = m.below; few = m.few }
 
-  pub may_loop : {f : ℕ} {ts : Terms} → MayReach C units n (Loop f ts) → MayReachIn C units n ts
-  may_loop h = record { caller = h.caller; parts = part_loop h.part; below = h.below; few = h.few }
+  pub may_args : {t : Term} {f k : ℕ} {ts : Terms} → t ≡ Call f k ts → MayReach C units n t → MayReachIn C units n ts
+  may_args e h = let m = renamed e h in record { caller = m.caller; parts = part_args m.part; below = m.below; few = m.few }
+
+  pub may_loop : {t : Term} {f : ℕ} {ts : Terms} → t ≡ Loop f ts → MayReach C units n t → MayReachIn C units n ts
+  may_loop e h = let m = renamed e h in record { caller = m.caller; parts = part_loop m.part; below = m.below; few = m.few }
 
   pub may_first : {t : Term} {ts : Terms} → MayReachIn C units n (Cons t ts) → MayReach C units n t
   may_first h = record { caller = h.caller; part = part_first h.parts; below = h.below; few = h.few }
@@ -138,12 +139,5 @@ module _ {C : Program} {units : List SiteSet} {n : ℕ} where
   pub may_rest : {t : Term} {ts : Terms} → MayReachIn C units n (Cons t ts) → MayReachIn C units n ts
   may_rest h = record { caller = h.caller; parts = part_rest h.parts; below = h.below; few = h.few }
 
-  pub may_call : {f k : ℕ} {ts : Terms} (h : MayReach C units n (Call f k ts)) → IsCall C h.caller f k
-  may_call h = part_call h.part
-
-  -- the same of another name of the term
-  pub may_tree : {x y : declared.Term} → x ≡ y → MayReach C units n (shown_term y) → (m : ℕ) × MayReach C units m (shown_term x)
-  may_tree e h = (n, subst (λ (z : declared.Term). MayReach C units n (shown_term z)) (sym e) h)
-
-  pub may_forest : {xs ys : List declared.Term} → xs ≡ ys → MayReachIn C units n (shown_terms ys) → (m : ℕ) × MayReachIn C units m (shown_terms xs)
-  may_forest e h = (n, subst (λ (z : List declared.Term). MayReachIn C units n (shown_terms z)) (sym e) h)
+  pub may_call : {t : Term} {f k : ℕ} {ts : Terms} → t ≡ Call f k ts → (h : MayReach C units n t) → IsCall C h.caller f k
+  may_call {t} {f} {k} {ts} e h = part_call (subst (λ (x : Term). IsPart C h.caller n x) e h.part)

@@ -1,21 +1,22 @@
 -- What is in the sets of the slots that a term uses, by its parts.
-use Rattle.std.proofs.Common.{◌≡◌, ℕ, ◌≤◌, ◌⊎◌, List, length, refl, sym, subst, inl, inr}
+use Rattle.std.proofs.Common.{◌≡◌, ℕ, ◌<◌, ◌≤◌, List, length, refl, sym, subst, inl, inr, arith}
 use Rattle.std.proofs.lemmas.List.{get_or_past}
 use Rattle.safl_word.specs.declared.primitive.Primitive.{Primitive}
+use Rattle.safl_word.specs.Words.{Word}
 use Rattle.safl_term.specs.Terms.{Term, Terms, Const, Var, Op, If, Let, Call, Loop, Nil, Cons}
-use Rattle.safl_term.specs.declared.term.Term as declared
-use Rattle.safl_term.specs.Tree.{shown_term, shown_terms}
 use Rattle.safl_sites.specs.declared.site_set.SiteSet.{SiteSet}
 use Rattle.safl_sites.specs.Kept.{Uses}
 use Rattle.safl_sites.specs.SiteSets.{Has, HasAt, Adds, no_set}
 use Rattle.safl_sites.specs.Touched.{IsTouched, IsTouchedIn}
-use Rattle.safl_sites.proofs.AddsInSteps.{adds_as}
+use Rattle.safl_sites.proofs.AddsInSteps.{adds_as, adds_none, adds_then, adds_by}
+use Rattle.safl_sites.proofs.SetsByWords.{no_set_has}
 
-module _ (R : List SiteSet) (low k : ℕ) where
-  pub touch_if : {X Y : Type 0} (c a b : Term) → Adds X Y ((IsTouched R low k c ⊎ IsTouched R low k a) ⊎ IsTouched R low k b) → Adds X Y (IsTouched R low k (If c a b))
+-- by the node of a term
+module _ {R : List SiteSet} {low k : ℕ} {t : Term} where
+  pub touch_if : {A B D E : Type 0} {c a b : Term} → t ≡ If c a b → Adds A B (IsTouched R low k c) → Adds B D (IsTouched R low k a) → Adds D E (IsTouched R low k b) → Adds A E (IsTouched R low k t)
   unfolding Uses
-  touch_if c a b =
-      adds_as
+  touch_if e x y z =
+      adds_by (IsTouched R low k) e (adds_as
       (λ h. elim h [
         | inl h ↦ elim h [
           | inl h ↦ record { slot = h.slot; from = h.from; used = inl h.used; set = h.set }
@@ -30,11 +31,12 @@ module _ (R : List SiteSet) (low k : ℕ) where
           | inr u ↦ inr (record { slot = h.slot; from = h.from; used = u; set = h.set })
         ]
       ])
+      (adds_then (adds_then x y) z))
 
-  pub touch_let : {X Y : Type 0} (ts : Terms) (b : Term) → Adds X Y (IsTouchedIn R low k ts ⊎ IsTouched R low k b) → Adds X Y (IsTouched R low k (Let ts b))
+  pub touch_let : {A B D : Type 0} {ts : Terms} {b : Term} → t ≡ Let ts b → Adds A B (IsTouchedIn R low k ts) → Adds B D (IsTouched R low k b) → Adds A D (IsTouched R low k t)
   unfolding Uses
-  touch_let ts b =
-      adds_as
+  touch_let e x y =
+      adds_by (IsTouched R low k) e (adds_as
       (λ h. elim h [
         | inl h ↦ record { slot = h.slot; from = h.from; used = inl h.used; set = h.set }
         | inr h ↦ record { slot = h.slot; from = h.from; used = inr h.used; set = h.set }
@@ -43,54 +45,56 @@ module _ (R : List SiteSet) (low k : ℕ) where
         | inl u ↦ inl (record { slot = h.slot; from = h.from; used = u; set = h.set })
         | inr u ↦ inr (record { slot = h.slot; from = h.from; used = u; set = h.set })
       ])
+      (adds_then x y))
 
-  pub touch_more : {X Y : Type 0} (t : Term) (ts : Terms) → Adds X Y (IsTouched R low k t ⊎ IsTouchedIn R low k ts) → Adds X Y (IsTouchedIn R low k (Cons t ts))
+  pub touch_op : {A B : Type 0} {o : Primitive} {ts : Terms} → t ≡ Op o ts → Adds A B (IsTouchedIn R low k ts) → Adds A B (IsTouched R low k t)
   unfolding Uses
-  touch_more t ts =
-      adds_as
-      (λ h. elim h [
-        | inl h ↦ record { slot = h.slot; from = h.from; used = inl h.used; set = h.set }
-        | inr h ↦ record { slot = h.slot; from = h.from; used = inr h.used; set = h.set }
-      ])
-      (λ h. elim h.used [
-        | inl u ↦ inl (record { slot = h.slot; from = h.from; used = u; set = h.set })
-        | inr u ↦ inr (record { slot = h.slot; from = h.from; used = u; set = h.set })
-      ])
+  touch_op e x = adds_by (IsTouched R low k) e (adds_as (λ h. record { slot = h.slot; from = h.from; used = h.used; set = h.set })
+      (λ h. record { slot = h.slot; from = h.from; used = h.used; set = h.set }) x)
 
-  pub touch_op : {X Y : Type 0} (o : Primitive) (ts : Terms) → Adds X Y (IsTouchedIn R low k ts) → Adds X Y (IsTouched R low k (Op o ts))
+  pub touch_call : {A B : Type 0} {f j : ℕ} {ts : Terms} → t ≡ Call f j ts → Adds A B (IsTouchedIn R low k ts) → Adds A B (IsTouched R low k t)
   unfolding Uses
-  touch_op o ts = adds_as (λ h. record { slot = h.slot; from = h.from; used = h.used; set = h.set }) (λ h. record { slot = h.slot; from = h.from; used = h.used; set = h.set })
+  touch_call e x = adds_by (IsTouched R low k) e (adds_as (λ h. record { slot = h.slot; from = h.from; used = h.used; set = h.set })
+      (λ h. record { slot = h.slot; from = h.from; used = h.used; set = h.set }) x)
 
-  pub touch_call : {X Y : Type 0} (f j : ℕ) (ts : Terms) → Adds X Y (IsTouchedIn R low k ts) → Adds X Y (IsTouched R low k (Call f j ts))
+  pub touch_loop : {A B : Type 0} {f : ℕ} {ts : Terms} → t ≡ Loop f ts → Adds A B (IsTouchedIn R low k ts) → Adds A B (IsTouched R low k t)
   unfolding Uses
-  touch_call f j ts = adds_as (λ h. record { slot = h.slot; from = h.from; used = h.used; set = h.set }) (λ h. record { slot = h.slot; from = h.from; used = h.used; set = h.set })
+  touch_loop e x = adds_by (IsTouched R low k) e (adds_as (λ h. record { slot = h.slot; from = h.from; used = h.used; set = h.set })
+      (λ h. record { slot = h.slot; from = h.from; used = h.used; set = h.set }) x)
 
-  pub touch_loop : {X Y : Type 0} (f : ℕ) (ts : Terms) → Adds X Y (IsTouchedIn R low k ts) → Adds X Y (IsTouched R low k (Loop f ts))
+  pub touch_const : {A : Type 0} {w : Word} → t ≡ Const w → Adds A A (IsTouched R low k t)
   unfolding Uses
-  touch_loop f ts = adds_as (λ h. record { slot = h.slot; from = h.from; used = h.used; set = h.set }) (λ h. record { slot = h.slot; from = h.from; used = h.used; set = h.set })
+  touch_const e = adds_by (IsTouched R low k) e (adds_none (λ h. h.used))
 
-  pub touch_const : (w : _) → IsTouched R low k (Const w) → ⊥
+  pub touch_var : {A B : Type 0} {i : ℕ} → t ≡ Var i → low ≤ i → Adds A B (HasAt R i k) → Adds A B (IsTouched R low k t)
   unfolding Uses
-  touch_const w h = h.used
+  touch_var {A} {B} {i} e from x =
+      adds_by (IsTouched R low k) e (adds_as (λ h. record { slot = i; from = from; used = refl; set = h }) (λ h. subst (λ j. HasAt R j k) (sym h.used) h.set) x)
 
-  pub touch_nil : IsTouchedIn R low k Nil → ⊥
+  pub touch_below : {A : Type 0} {i : ℕ} → t ≡ Var i → i < low → Adds A A (IsTouched R low k t)
   unfolding Uses
-  touch_nil h = h.used
+  touch_below e less = adds_by (IsTouched R low k) e (adds_none (λ h. omega (arith, h.used, h.from)))
 
-  pub touch_var : {X Y : Type 0} (i : ℕ) → low ≤ i → Adds X Y (HasAt R i k) → Adds X Y (IsTouched R low k (Var i))
+  pub touch_past : {A : Type 0} {i : ℕ} → t ≡ Var i → length R ≤ i → Adds A A (IsTouched R low k t)
   unfolding Uses
-  touch_var i from = adds_as (λ h. record { slot = i; from = from; used = refl; set = h }) (λ h. subst (λ j. HasAt R j k) (sym h.used) h.set)
+  touch_past {A} {i} e past =
+      adds_by (IsTouched R low k) e (adds_none (λ h. no_set_has k (subst (λ (r : SiteSet). Has r k) (get_or_past R i no_set past) (subst (λ j. HasAt R j k) (sym h.used) h.set))))
 
-  pub touch_below : (i : ℕ) → (low ≤ i → ⊥) → IsTouched R low k (Var i) → ⊥
-  unfolding Uses
-  touch_below i less h = less (subst (λ j. low ≤ j) (sym h.used) h.from)
+pub touch_more : {R : List SiteSet} {low k : ℕ} {A B D : Type 0} (t : Term) (ts : Terms) → Adds A B (IsTouched R low k t)
+    → Adds B D (IsTouchedIn R low k ts) → Adds A D (IsTouchedIn R low k (Cons t ts))
+unfolding Uses
+touch_more t ts x y =
+    adds_as
+    (λ h. elim h [
+      | inl h ↦ record { slot = h.slot; from = h.from; used = inl h.used; set = h.set }
+      | inr h ↦ record { slot = h.slot; from = h.from; used = inr h.used; set = h.set }
+    ])
+    (λ h. elim h.used [
+      | inl u ↦ inl (record { slot = h.slot; from = h.from; used = u; set = h.set })
+      | inr u ↦ inr (record { slot = h.slot; from = h.from; used = u; set = h.set })
+    ])
+    (adds_then x y)
 
-  pub touch_past : (i : ℕ) → length R ≤ i → ((j : ℕ) → Has no_set j → ⊥) → IsTouched R low k (Var i) → ⊥
-  unfolding Uses
-  touch_past i past none h = none k (subst (λ (r : SiteSet). Has r k) (get_or_past R i no_set past) (subst (λ j. HasAt R j k) (sym h.used) h.set))
-
-  pub touch_tree : {X Y : Type 0} {x y : declared.Term} → x ≡ y → Adds X Y (IsTouched R low k (shown_term x)) → Adds X Y (IsTouched R low k (shown_term y))
-  touch_tree {X} {Y} e h = subst (λ (z : declared.Term). Adds X Y (IsTouched R low k (shown_term z))) e h
-
-  pub touch_forest : {X Y : Type 0} {xs ys : List declared.Term} → xs ≡ ys → Adds X Y (IsTouchedIn R low k (shown_terms xs)) → Adds X Y (IsTouchedIn R low k (shown_terms ys))
-  touch_forest {X} {Y} e h = subst (λ (z : List declared.Term). Adds X Y (IsTouchedIn R low k (shown_terms z))) e h
+pub touch_nil : (R : List SiteSet) (low k : ℕ) {A : Type 0} → Adds A A (IsTouchedIn R low k Nil)
+unfolding Uses
+touch_nil R low k = adds_none (λ h. h.used)

@@ -1,6 +1,6 @@
 //! Collecting the sites that conflict, and their units.
 
-ghost use Rattle.std.specs.Prelude.{◌≡◌, ℕ, suc, ◌-◌, ◌≤◌, length, false, get_or};
+ghost use Rattle.std.specs.Prelude.{◌-◌, ◌≤◌};
 ghost use Rattle.safl_term.specs.Checked.{IsChecked};
 ghost use Rattle.safl_sites.specs.Collecting.{IsCollected};
 ghost use Rattle.safl_sites.specs.Peers.{ArePeers};

@@ -1,7 +1,6 @@
 //! Sites whose words decide a condition, or are held while the body of a let runs.
 
 ghost use Rattle.std.specs.Prelude.{◌≡◌, ℕ, length, OnOk};
-ghost use Rattle.safl_term.specs.Checked.{IsChecked};
 ghost use Rattle.safl_term.specs.Tree.{shown_term, shown_terms};
 ghost use Rattle.safl_sites.specs.Kept.{InBody};
 ghost use Rattle.safl_sites.specs.Keeping.{MayKeep, MayKeepIn, Walks, WalksIn, Binds, HoldsHere};
@@ -11,7 +10,7 @@ ghost use Rattle.safl_sites.specs.SiteSets.{Gains};
 use crate::reach::{reach, reach_in};
 use crate::site_set::SiteSet;
 use crate::touched::touch;
-use safl_term::{Checked, Term};
+use safl_term::{Checked, Node, Term, top};
 use std::alloc::AllocError;
 
 /// The sites whose words decide a condition, and those that are held for another site of their unit.
@@ -38,13 +37,13 @@ pub fn walk(
     ensures same { OnOk result (slots.new.items ≡ slots.old.items) }
     ensures done { OnOk result (Walks c.now.program slots.old.items feeds.old feeds.new keeps.old keeps.new (shown_term t.now)) }
 {
-    match t {
-        Term::Const(_) => Ok(()),
-        Term::Var(slot) => {
-            feeds.union(&slots[*slot as usize]);
+    match top(t) {
+        Node::Const(_) => Ok(()),
+        Node::Var(slot) => {
+            feeds.union(&slots[slot as usize]);
             Ok(())
         }
-        Term::If(condition, a, b) => {
+        Node::If(condition, a, b) => {
             let mut deciding = SiteSet::new();
             walk(c, units, peers, slots, condition, &mut deciding, keeps)?;
             keeps.decides.union(&deciding);
@@ -53,7 +52,7 @@ pub fn walk(
             walk(c, units, peers, slots, b, feeds, keeps)?;
             Ok(())
         }
-        Term::Let(_, bound, body) => {
+        Node::Let(_, bound, body) => {
             let low = slots.len();
             bind_all(c, units, peers, slots, bound, keeps)?;
             hold(c, units, peers, slots, low, body, &mut keeps.held);
@@ -61,17 +60,17 @@ pub fn walk(
             slots.truncate(low);
             Ok(())
         }
-        Term::Op(_, ts) => {
+        Node::Op(_, ts) => {
             walk_all(c, units, peers, slots, ts, feeds, keeps)?;
             Ok(())
         }
-        Term::Call(_, k, ts) => {
+        Node::Call(_, k, ts) => {
             let mut passed = SiteSet::new();
             walk_all(c, units, peers, slots, ts, &mut passed, keeps)?;
-            feeds.insert(*k);
+            feeds.insert(k);
             Ok(())
         }
-        Term::Loop(_, ts) => {
+        Node::Loop(_, ts) => {
             let mut passed = SiteSet::new();
             walk_all(c, units, peers, slots, ts, &mut passed, keeps)?;
             Ok(())
@@ -157,13 +156,13 @@ fn reach_body(c: &Checked, units: &[SiteSet], body: &Term, set: &mut SiteSet)
     requires { (n : ℕ) × MayReach c.now.program units.now n (shown_term body.now) }
     ensures { Gains set.old set.new (λ k. InBody c.now.program k (shown_term body.now)) }
 {
-    match body {
-        Term::Call(_, _, ts) => reach_in(c, units, ts, set),
-        Term::Const(_) => {}
-        Term::Var(_) => {}
-        Term::If(_, _, _) => reach(c, units, body, set),
-        Term::Let(_, _, _) => reach(c, units, body, set),
-        Term::Op(_, _) => reach(c, units, body, set),
-        Term::Loop(_, _) => reach(c, units, body, set),
+    match top(body) {
+        Node::Call(_, _, ts) => reach_in(c, units, ts, set),
+        Node::Const(_) => {}
+        Node::Var(_) => {}
+        Node::If(_, _, _) => reach(c, units, body, set),
+        Node::Let(_, _, _) => reach(c, units, body, set),
+        Node::Op(_, _) => reach(c, units, body, set),
+        Node::Loop(_, _) => reach(c, units, body, set),
     }
 }

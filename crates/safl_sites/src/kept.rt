@@ -1,6 +1,6 @@
 //! Sites of a body that keep their words for its conditions and bindings.
 
-ghost use Rattle.std.specs.Prelude.{◌≡◌, suc, ◌≤◌, ◌<◌, ◌↔◌, IsTrue, OnOk};
+ghost use Rattle.std.specs.Prelude.{suc, ◌≤◌, ◌<◌, ◌↔◌, IsTrue, OnOk};
 ghost use Rattle.safl_term.specs.Checked.{IsChecked};
 ghost use Rattle.safl_sites.specs.Bodies.{UnitTable, MustKeep, IsOwnKept, IsBodyKept, IsKeptBelow};
 ghost use Rattle.safl_sites.specs.Peers.{ArePeers};

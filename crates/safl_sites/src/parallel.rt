@@ -1,6 +1,6 @@
 //! Sites in reach of a term before a parallel one.
 
-ghost use Rattle.std.specs.Prelude.{ℕ, ◌<◌, List, length};
+ghost use Rattle.std.specs.Prelude.{ℕ, ◌<◌, length};
 ghost use Rattle.safl_term.specs.Tree.{shown_term, shown_terms};
 ghost use Rattle.safl_sites.specs.Parallel.{Marked, MarkedIn};
 ghost use Rattle.safl_sites.specs.Reach.{MayReach, MayReachIn};
@@ -8,7 +8,7 @@ ghost use Rattle.safl_sites.specs.SiteSets.{Has, HasAt, Adds};
 
 use crate::reach::reach;
 use crate::site_set::SiteSet;
-use safl_term::{Checked, Term};
+use safl_term::{Checked, Node, Term, top};
 
 /// Adds to the set of each site in a term the sites in reach of the parallel terms before it: those within the term,
 /// and those around it, which `before` has.
@@ -18,24 +18,24 @@ pub fn mark(c: &Checked, units: &[SiteSet], t: &Term, before: &SiteSet, sets: &m
     requires room { c.now.program.sites < length sets.old }
     ensures { (b k : ℕ) → Adds (HasAt sets.old b k) (HasAt sets.new b k) (Marked c.now.program (Has before.now k) k b (shown_term t.now)) }
 {
-    match t {
-        Term::Const(_) => {}
-        Term::Var(_) => {}
-        Term::If(condition, a, b) => {
+    match top(t) {
+        Node::Const(_) => {}
+        Node::Var(_) => {}
+        Node::If(condition, a, b) => {
             mark(c, units, condition, before, sets);
             mark(c, units, a, before, sets);
             mark(c, units, b, before, sets);
         }
-        Term::Let(_, bound, body) => {
+        Node::Let(_, bound, body) => {
             mark_in(c, units, bound, before, sets);
             mark(c, units, body, before, sets);
         }
-        Term::Op(_, ts) => mark_in(c, units, ts, before, sets),
-        Term::Call(_, k, ts) => {
-            sets[*k as usize].union(before);
+        Node::Op(_, ts) => mark_in(c, units, ts, before, sets),
+        Node::Call(_, k, ts) => {
+            sets[k as usize].union(before);
             mark_in(c, units, ts, before, sets);
         }
-        Term::Loop(_, ts) => mark_in(c, units, ts, before, sets),
+        Node::Loop(_, ts) => mark_in(c, units, ts, before, sets),
     }
 }
 

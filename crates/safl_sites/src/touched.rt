@@ -5,32 +5,32 @@ ghost use Rattle.safl_sites.specs.SiteSets.{Gains};
 ghost use Rattle.safl_sites.specs.Touched.{IsTouched, IsTouchedIn};
 
 use crate::site_set::SiteSet;
-use safl_term::Term;
+use safl_term::{Node, Term, top};
 
 /// Adds to a set the sites of those slots from `low` on that a term uses.
 #[cycle(touch)]
 pub fn touch(slots: &[SiteSet], low: usize, t: &Term, set: &mut SiteSet)
     ensures { Gains set.old set.new (λ k. IsTouched slots.now low k (shown_term t.now)) }
 {
-    match t {
-        Term::Const(_) => {}
-        Term::Var(slot) => {
-            if low <= *slot as usize && (*slot as usize) < slots.len() {
-                set.union(&slots[*slot as usize]);
+    match top(t) {
+        Node::Const(_) => {}
+        Node::Var(slot) => {
+            if low <= slot as usize && (slot as usize) < slots.len() {
+                set.union(&slots[slot as usize]);
             }
         }
-        Term::If(condition, a, b) => {
+        Node::If(condition, a, b) => {
             touch(slots, low, condition, set);
             touch(slots, low, a, set);
             touch(slots, low, b, set);
         }
-        Term::Let(_, bound, body) => {
+        Node::Let(_, bound, body) => {
             touch_in(slots, low, bound, set);
             touch(slots, low, body, set);
         }
-        Term::Op(_, ts) => touch_in(slots, low, ts, set),
-        Term::Call(_, _, ts) => touch_in(slots, low, ts, set),
-        Term::Loop(_, ts) => touch_in(slots, low, ts, set),
+        Node::Op(_, ts) => touch_in(slots, low, ts, set),
+        Node::Call(_, _, ts) => touch_in(slots, low, ts, set),
+        Node::Loop(_, ts) => touch_in(slots, low, ts, set),
     }
 }
 

@@ -3,7 +3,7 @@ use Rattle.std.proofs.Common.{◌≡◌, ℕ, zero, suc, ◌+◌, ◌*◌, ◌-�
 use Rattle.std.specs.Prelude.{slice_get, not}
 use Rattle.safl_word.specs.Words.{Word}
 use Rattle.safl_term.specs.Program.{Program, unit_for}
-use Rattle.safl_term.specs.Meaning.{Main, main_calls, main_cost, loops}
+use Rattle.safl_term.specs.Meaning.{Main, main_cost, loops}
 use Rattle.safl_calls.proofs.Fixed.{is_short}
 use Rattle.safl_calls.specs.Span.{main_span}
 use Rattle.safl_sites.specs.Plan.{Choice}
@@ -20,12 +20,6 @@ module _ (C : Program) (P : Choice) (args : List Word) {v : Word} (d : Main C ar
 
   pub shared : IsShared C P called → Unshared C P args d → ⊥
   shared s h = are.is_called (C.callee s.site) s.is_called (h s.site s.some s.within s.arbiter)
-
--- an element that a test reads
-pub mark_at : (l : List Bool) (i : ℕ) (b : Bool) → i < length l → b ≡ get_or l i b → slice_get l i ≡ Some b
-mark_at [] i b lt e = absurd (omega arith)
-mark_at (x ∷ l) zero b lt e = ap Some (sym e)
-mark_at (x ∷ l) (suc i) b lt e = mark_at l i b (omega arith) e
 
 -- a list's element by another reading
 pub read_at : (l : List Bool) (i : ℕ) (d b : Bool) → i < length l → get_or l i d ≡ b → slice_get l i ≡ Some b

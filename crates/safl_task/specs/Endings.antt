@@ -6,7 +6,7 @@ use Rattle.safl_io.specs.Counts.{Rose}
 use Rattle.safl_io.specs.Shelf.{Files, ShelfState, SameFaults, file_of}
 use Rattle.safl_io.specs.Told.{TellsOn}
 use Rattle.safl_io.specs.Sink.{SinkState, Sends, SendsPart}
-use Rattle.safl_task.specs.Tasks.{Input, Given, Task, end_of, files_of, status_if, OfFile, OfInputs, Reaches}
+use Rattle.safl_task.specs.Tasks.{Input, Given, Task, end_of, files_of, status_if, OfFile, OfInputs, ReachesInput}
 use Rattle.safl_task.specs.declared.status.Status.{Status}
 use Rattle.safl_task.specs.declared.status.Status.TheVariants as status
 
@@ -70,10 +70,10 @@ pub data Stops (t : Task) (Unprobed : List ℕ → Type 0) (old new : Outside) :
   refused : (s : Status) (line : List ℕ) → may_give s ≡ false → OfInputs old.shelf.holds t.inputs (λ contents. t.Refuses contents s line) → Untouched old new
       → Stops t Unprobed old new s line
   -- a read failed
-  unread : (i : Input) → Reaches t.inputs old.shelf.holds i → Rose old.shelf.read_faults new.shelf.read_faults → Untouched old new
+  unread : (i : Input) → ReachesInput t.inputs old.shelf.holds i → Rose old.shelf.read_faults new.shelf.read_faults → Untouched old new
       → Stops t Unprobed old new status.ReadFault (codes "cannot read " ++ i.name ++ codes "\n")
   -- a file is longer than its limit
-  long : (i : Input) → Reaches t.inputs old.shelf.holds i → OfFile old.shelf.holds i.name (λ bytes. i.limit < length bytes) → Untouched old new
+  long : (i : Input) → ReachesInput t.inputs old.shelf.holds i → OfFile old.shelf.holds i.name (λ bytes. i.limit < length bytes) → Untouched old new
       → Stops t Unprobed old new status.TooLong (i.name ++ codes " is longer than " ++ decimal i.limit ++ codes " bytes\n")
   -- a write failed
   unwritten : (name : List ℕ) → Contains t.outputs name → Rose old.shelf.write_faults new.shelf.write_faults → Began t old new

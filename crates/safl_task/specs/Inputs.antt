@@ -4,7 +4,7 @@ use Rattle.std.specs.declared.vec.Vec.{Vec}
 use Rattle.std.specs.declared.alloc.Global.{Global}
 use Rattle.safl_io.specs.Counts.{Rose}
 use Rattle.safl_io.specs.Shelf.{ShelfState}
-use Rattle.safl_task.specs.Tasks.{Input, OfFile, Reaches}
+use Rattle.safl_task.specs.Tasks.{Input, OfFile, ReachesInput}
 use Rattle.safl_task.specs.declared.input.Input as code
 use Rattle.safl_task.specs.declared.input.Unread.{Unread}
 use Rattle.safl_task.specs.declared.input.Unread.TheVariants as unread
@@ -32,7 +32,7 @@ IsUnreadAt i old new unread.NoMemory = Unit {0}
 -- why some files were not read
 abbrev pub AreUnread : List Input → ShelfState → ShelfState → Unread → Type 0
 AreUnread inputs old new unread.NoMemory = Unit {0}
-AreUnread inputs old new why = (i : Input) × Reaches inputs old.holds i × IsUnreadAt i old new why
+AreUnread inputs old new why = (i : Input) × ReachesInput inputs old.holds i × IsUnreadAt i old new why
 
 -- what reading files leaves on the shelf
 pub record OnlyReads (old new : ShelfState) : Type 0 where

@@ -1,5 +1,5 @@
 -- The task of a command: which files it reads and writes, which contents it refuses, and what it gives for the others.
-use Rattle.std.specs.Prelude.{◌≡◌, ℕ, ◌≤◌, List, [], ◌∷◌, ◌++◌, length, Option, Some, None, IfSome, IsSomeAnd, Bool, true, if◌then◌else◌, OnSome}
+use Rattle.std.specs.Prelude.{◌≡◌, ℕ, ◌≤◌, List, [], ◌∷◌, ◌++◌, length, Option, Some, IfSome, IsSomeAnd, Bool, true, if◌then◌else◌, OnSome}
 use Rattle.std.specs.List.{AllByRecursion}
 use Rattle.safl_io.specs.Shelf.{Files, ShelfState, file_of}
 use Rattle.safl_task.specs.declared.status.Status.{Status}
@@ -65,7 +65,7 @@ abbrev pub OfInputs : Option Files → List Input → (List (List ℕ) → Type 
 OfInputs holds inputs P = (contents : List (List ℕ)) × AreContents holds inputs contents × P contents
 
 -- the file is one of the inputs, and those before it are there and within their limits
-pub record Reaches (inputs : List Input) (holds : Option Files) (i : Input) : Type 0 where
+pub record ReachesInput (inputs : List Input) (holds : Option Files) (i : Input) : Type 0 where
   pub before : List Input
   pub after : List Input
   pub is : inputs ≡ before ++ i ∷ after

@@ -1,7 +1,7 @@
 -- At most one value and one cost, and as many loops and the same calls.
 use Rattle.std.proofs.Common.{◌≡◌, ℕ, List, ◌∷◌, ◌++◌, refl, sym, ap, ◌∙◌, subst, arith}
 use Rattle.safl_term.specs.Meaning.{Gives, gives_const, gives_var, gives_op, gives_if, gives_let, gives_call, gives_loop, GivesAll, gives_nil}
-use Rattle.safl_term.specs.Meaning.{gives_cons, cost, costs, loops, loops_all, at_function, calls, calls_all}
+use Rattle.safl_term.specs.Meaning.{gives_cons, cost, costs, loops, loops_all, at_function, calls_to, calls_all}
 use Rattle.safl_term.specs.Program.{Program}
 use Rattle.safl_term.specs.Terms.{Term, Terms}
 use Rattle.safl_word.specs.Primitives.{apply_prim}
@@ -91,41 +91,41 @@ mutual
 
 -- the term evaluates to v with these argument lists of f
 abbrev CallsIn : Program → ℕ → List Word → Term → Word → List (List Word) → Type 0
-CallsIn p f env t v l = (d : Gives p env t v) × (calls p f d ≡ l)
+CallsIn p f env t v l = (d : Gives p env t v) × (calls_to p f d ≡ l)
 
 joined : (a b c d : List (List Word)) → a ≡ c → b ≡ d → a ++ b ≡ c ++ d
 joined a b c d x y = cc
 
 mutual
-  pub one_calls : (p : Program) (f : ℕ) {env : List Word} {t : Term} {v w : Word} (l : List (List Word)) (d : Gives p env t v) (e : Gives p env t w) → calls p f e ≡ l → calls p f d ≡ l
+  pub one_calls : (p : Program) (f : ℕ) {env : List Word} {t : Term} {v w : Word} (l : List (List Word)) (d : Gives p env t v) (e : Gives p env t w) → calls_to p f e ≡ l → calls_to p f d ≡ l
   one_calls p f l gives_const gives_const h = h
   one_calls p f l gives_var gives_var h = h
   one_calls p f l (gives_op ds) (gives_op es) h = one_calls_in p f l ds es h
   one_calls p f l (gives_if {env = env} {a = a} {b = b} c d) (gives_if {v = v'} c' d') h =
-      let r = one_calls p f (calls p f c') c c' refl in
-      let moved = subst (λ x. CallsIn p f env (choose x a b) v' (calls p f d')) (sym (value_of p c c')) (d', refl) in
-      let q = one_calls p f (calls p f d') d moved.0 moved.1 in
+      let r = one_calls p f (calls_to p f c') c c' refl in
+      let moved = subst (λ x. CallsIn p f env (choose x a b) v' (calls_to p f d')) (sym (value_of p c c')) (d', refl) in
+      let q = one_calls p f (calls_to p f d') d moved.0 moved.1 in
       joined _ _ _ _ r q ∙ h
   one_calls p f l (gives_let {env = env} {b = b} ds d) (gives_let {v = v'} ds' d') h =
       let r = one_calls_in p f (calls_all p f ds') ds ds' refl in
-      let moved = subst (λ x. CallsIn p f (env ++ x) b v' (calls p f d')) (sym (list_of p ds ds')) (d', refl) in
-      let q = one_calls p f (calls p f d') d moved.0 moved.1 in
+      let moved = subst (λ x. CallsIn p f (env ++ x) b v' (calls_to p f d')) (sym (list_of p ds ds')) (d', refl) in
+      let q = one_calls p f (calls_to p f d') d moved.0 moved.1 in
       joined _ _ _ _ r q ∙ h
   one_calls p f l (gives_call {f = g} ds d) (gives_call {v = v'} ds' d') h =
       let r = one_calls_in p f (calls_all p f ds') ds ds' refl in
-      let moved = subst (λ x. CallsIn p f x (p.body g) v' (calls p f d')) (sym (list_of p ds ds')) (d', refl) in
-      let q = one_calls p f (calls p f d') d moved.0 moved.1 in
+      let moved = subst (λ x. CallsIn p f x (p.body g) v' (calls_to p f d')) (sym (list_of p ds ds')) (d', refl) in
+      let q = one_calls p f (calls_to p f d') d moved.0 moved.1 in
       joined _ _ _ _ r (joined _ _ _ _ (ap (at_function f g) (list_of p ds ds')) q) ∙ h
   one_calls p f l (gives_loop {h = g} ds d) (gives_loop {v = v'} ds' d') h =
       let r = one_calls_in p f (calls_all p f ds') ds ds' refl in
-      let moved = subst (λ x. CallsIn p f x (p.body g) v' (calls p f d')) (sym (list_of p ds ds')) (d', refl) in
-      let q = one_calls p f (calls p f d') d moved.0 moved.1 in
+      let moved = subst (λ x. CallsIn p f x (p.body g) v' (calls_to p f d')) (sym (list_of p ds ds')) (d', refl) in
+      let q = one_calls p f (calls_to p f d') d moved.0 moved.1 in
       joined _ _ _ _ r (joined _ _ _ _ (ap (at_function f g) (list_of p ds ds')) q) ∙ h
 
   one_calls_in : (p : Program) (f : ℕ) {env : List Word} {ts : Terms} {vs ws : List Word} (l : List (List Word)) (d : GivesAll p env ts vs)
       (e : GivesAll p env ts ws) → calls_all p f e ≡ l → calls_all p f d ≡ l
   one_calls_in p f l gives_nil gives_nil h = h
   one_calls_in p f l (gives_cons d ds) (gives_cons e es) h =
-      let r = one_calls p f (calls p f e) d e refl in
+      let r = one_calls p f (calls_to p f e) d e refl in
       let q = one_calls_in p f (calls_all p f es) ds es refl in
       joined _ _ _ _ r q ∙ h

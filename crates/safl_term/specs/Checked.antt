@@ -2,7 +2,7 @@
 use Rattle.std.specs.Prelude.{◌≡◌, ℕ, suc, ◌<◌, ◌≤◌, List, Some, slice_get, true, codes, refl}
 use Rattle.std.specs.Coded.{Coded, code_by}
 use mathlib.Core.Path.{path_j}
-use Rattle.safl_word.specs.Tokens.{IsName}
+use Rattle.safl_word.specs.Tokens.{IsSourceName}
 use Rattle.safl_word.specs.Limits.{width_max, depth_max, functions_max, params_max, sites_max, nodes_max}
 use Rattle.safl_term.specs.Names.{Names}
 use Rattle.safl_term.specs.Program.{Program, arity}
@@ -57,10 +57,10 @@ pub record IsWithinLimits (C : Program) : Type 0 where
 
 -- each name is one of the language. No two functions have the same name, and no two parameters of one function
 pub record AreNamed (c : CheckedProgram) : Type 0 where
-  pub of_functions : (f : ℕ) → f < c.program.functions → IsName (c.name f)
+  pub of_functions : (f : ℕ) → f < c.program.functions → IsSourceName (c.name f)
   pub of_main : c.name c.program.main ≡ codes "main"
   pub of_functions_differ : (f g : ℕ) → f < c.program.functions → g < c.program.functions → c.name f ≡ c.name g → f ≡ g
-  pub of_params : (f i : ℕ) (name : List ℕ) → slice_get (c.param_names f) i ≡ Some name → IsName name
+  pub of_params : (f i : ℕ) (name : List ℕ) → slice_get (c.param_names f) i ≡ Some name → IsSourceName name
   pub of_params_differ : (f i j : ℕ) (name : List ℕ) → slice_get (c.param_names f) i ≡ Some name → slice_get (c.param_names f) j ≡ Some name → i ≡ j
 
 -- the widths of results and parameters are widths of words

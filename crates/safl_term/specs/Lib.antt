@@ -1,5 +1,6 @@
 pub mod Terms
 pub mod Tree
+pub mod Nodes
 pub mod Slots
 pub mod Program
 pub mod Names

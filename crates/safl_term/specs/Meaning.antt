@@ -55,8 +55,8 @@ abbrev pub at_function : ℕ → ℕ → List Word → List (List Word)
 at_function f g us = if g == f then us ∷ [] else []
 
 -- the argument lists of all applications of f in an evaluation
-abbrev pub calls : (C : Program) (f : ℕ) {env : List Word} {t : Term} {v : Word} → Gives C env t v → List (List Word)
-calls C f d = tally (List (List Word)) [] (λ xs ys. xs ++ ys) (λ k g us xs. at_function f g us ++ xs) (λ g us xs. at_function f g us ++ xs) C d
+abbrev pub calls_to : (C : Program) (f : ℕ) {env : List Word} {t : Term} {v : Word} → Gives C env t v → List (List Word)
+calls_to C f d = tally (List (List Word)) [] (λ xs ys. xs ++ ys) (λ k g us xs. at_function f g us ++ xs) (λ g us xs. at_function f g us ++ xs) C d
 
 -- the same of the evaluations of terms
 abbrev pub costs : (C : Program) {env : List Word} {ts : Terms} {vs : List Word} → GivesAll C env ts vs → ℕ
@@ -76,4 +76,4 @@ abbrev pub main_cost : (C : Program) (args : List Word) {v : Word} → Main C ar
 main_cost C args d = suc (cost C d)
 
 abbrev pub main_calls : (C : Program) (args : List Word) {v : Word} → Main C args v → ℕ → List (List Word)
-main_calls C args d f = at_function f (C.callee 0) args ++ calls C f d
+main_calls C args d f = at_function f (C.callee 0) args ++ calls_to C f d

@@ -5,8 +5,7 @@
 
 ghost use Rattle.std.specs.Prelude.{◌≡◌, ◌+◌, ◌*◌, ◌<◌, ◌≤◌, IfSome, vec_len};
 ghost use Rattle.std.specs.List.{sum_by};
-ghost use Rattle.safl_term.specs.Tree.{shown_term};
-ghost use Rattle.safl_term.specs.Weights.{weight, code_weight, work_at};
+ghost use Rattle.safl_term.specs.Weights.{code_weight, work_at};
 ghost use Rattle.safl_word.specs.Naturals.{work};
 
 use crate::term::Term;

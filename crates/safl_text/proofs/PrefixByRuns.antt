@@ -8,7 +8,7 @@ use Rattle.std.proofs.Math.Seq.{take-append_seam, drop-append_seam}
 use Rattle.std.specs.List.{list_all}
 use Rattle.safl_word.specs.Numerals.{between, is_digit, value, IsNumeral, IsBounded}
 use Rattle.safl_word.specs.Tokens.{key_text, sym_text, is_blank, begins_name, in_name, IsNameLike, SizedParts, sized_text, IsSizedLike, IsLongest}
-use Rattle.safl_word.specs.Tokens.{Fits, Blank, Comment, StandsBefore}
+use Rattle.safl_word.specs.Tokens.{FitsNumeral, Blank, Comment, StandsBefore}
 use Rattle.safl_word.specs.Breaks.{Passes, long_name, long_number, long_sized}
 use Rattle.safl_word.specs.declared.token.Key.{Key}
 use Rattle.safl_word.specs.declared.token.Sym.{Sym}
@@ -83,7 +83,7 @@ plain_front text n v s r h b e = record { within = r.within; is = refl; stands =
 passes : (base : ℕ) (w : List ℕ) → IsNumeral base w → ¬ IsBounded base 128 (2 ^ 128) w → Passes base w
 passes base w n f = by_cases (fits_or_passes base w n)
   where
-    by_cases : Fits base w ⊎ Passes base w → Passes base w
+    by_cases : FitsNumeral base w ⊎ Passes base w → Passes base w
     by_cases (inl k) = absurd (f k)
     by_cases (inr p) = p
 

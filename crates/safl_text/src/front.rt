@@ -1,7 +1,7 @@
 //! What a text begins with.
 
-ghost use Rattle.std.specs.Prelude.{◌≡◌, ◌+◌, ◌<◌, ◌≤◌, ◌∷◌, ◌==◌, not, length, take, drop, slice_index, true, false, IfSome, IfNone};
-ghost use Rattle.safl_word.specs.Numerals.{is_digit, IsNumeral};
+ghost use Rattle.std.specs.Prelude.{◌≡◌, ◌+◌, ◌<◌, ◌≤◌, ◌==◌, length, take, drop, slice_index, true, false, IfSome, IfNone};
+ghost use Rattle.safl_word.specs.Numerals.{is_digit};
 ghost use Rattle.safl_word.specs.Runs.{IsRun};
 ghost use Rattle.safl_word.specs.Tokens.{begins_name, in_name, sym_text};
 ghost use Rattle.safl_text.specs.Fronts.{HasSize, HasNoSize, HasNoPair, IsOther, begins_comment, Begins};

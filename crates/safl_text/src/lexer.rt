@@ -1,6 +1,6 @@
 //! The lexer: from bytes to tokens.
 
-ghost use Rattle.std.specs.Prelude.{◌≡◌, ◌≤◌, length, IfOk, IfErr};
+ghost use Rattle.std.specs.Prelude.{◌≤◌, length, IfOk, IfErr};
 ghost use Rattle.safl_word.specs.Limits.{source_max};
 ghost use Rattle.safl_word.specs.Tokens.{HasTokens};
 ghost use Rattle.safl_text.specs.Lexing.{RefusesTokens};

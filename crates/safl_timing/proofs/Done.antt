@@ -5,18 +5,16 @@ use Rattle.safl_io.specs.Shelf.{Files, ShelfState, file_of}
 use Rattle.safl_io.specs.Sink.{SinkState, Sends, SendsPart}
 use Rattle.safl_io.specs.Told.{TellsOn}
 use Rattle.safl_word.specs.Limits.{source_max}
-use Rattle.safl_task.specs.Endings.{Outside, outside, Gave, Began, Ended, Ends, told, cut, Stops, refused, unprinted, starved, may_give, Untouched}
-use Rattle.safl_task.specs.Inputs.{AreUnread, OnlyReads, file_within}
-use Rattle.safl_task.specs.Tasks.{Task, Input, Given, Only, AreContents, OfInputs, OfFile, end_of, status_if}
+use Rattle.safl_task.specs.Endings.{Outside, outside, Began, Ends, told, cut, Stops, refused, unprinted, starved, may_give, Untouched}
+use Rattle.safl_task.specs.Inputs.{OnlyReads, file_within}
+use Rattle.safl_task.specs.Tasks.{Task, Input, Given, Only, AreContents, OfInputs, OfFile, status_if}
 use Rattle.safl_task.specs.declared.status.Status.{Status}
 use Rattle.safl_task.specs.declared.status.Status.TheVariants as status
-use Rattle.safl_task.proofs.Ending.{same_all, same_parts, ended_ends}
+use Rattle.safl_task.proofs.Ending.{same_all, same_parts}
 use Rattle.safl_task.proofs.Following.{gave_at_ok}
-use Rattle.safl_tool.specs.CommandTasks.{RefusesGiven}
 use Rattle.safl_tool.specs.Promises.{IsPrinted}
-use Rattle.safl_tool.specs.Refusals.{RefusesBy, StopsBy, PrintFails, SendsLine, sent}
+use Rattle.safl_tool.specs.Refusals.{RefusesBy, SendsLine, sent}
 use Rattle.safl_tool.specs.Refusals as refusals
-use Rattle.safl_tool.specs.declared.refusal.Refusal.{Refusal}
 use Rattle.safl_tool.specs.declared.refusal.Refusal.TheVariants as refusal
 use Rattle.safl_tool.proofs.Refusing.{content_stops, refusal_ends}
 use Rattle.safl_tool.proofs.Simulated.{given_quiet}

@@ -1,5 +1,5 @@
 -- What a request reads, refuses and gives.
-use Rattle.std.specs.Prelude.{◌≡◌, ℕ, ◌⊎◌, List, [], Option, Some, None, Bool, true, false}
+use Rattle.std.specs.Prelude.{◌≡◌, ℕ, ◌⊎◌, List, [], Option, Some, None, true, false}
 use Rattle.safl_word.specs.Words.{Word}
 use Rattle.safl_word.specs.Limits.{source_max}
 use Rattle.safl_term.specs.Names.{Names}

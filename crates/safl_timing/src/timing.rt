@@ -1,6 +1,6 @@
 //! The time of main on arguments, by a source.
 
-ghost use Rattle.std.specs.Prelude.{◌≡◌, ◌≤◌, length, map, string_bytes, IfOk, IfErr, MatchResult};
+ghost use Rattle.std.specs.Prelude.{◌≡◌, ◌≤◌, length, map, string_bytes, IfOk, IfErr};
 ghost use Rattle.safl_word.specs.Limits.{source_max};
 ghost use Rattle.safl_word.specs.Words.{widths};
 ghost use Rattle.safl_tool.specs.CommandTasks.{RefusesGiven};

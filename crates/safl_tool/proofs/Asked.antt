@@ -13,7 +13,7 @@ use Rattle.safl_io.specs.Told.{TellsOn}
 use Rattle.safl_net.specs.Netlist.{Netlist}
 use Rattle.safl_net.specs.Valuations.{Valuation}
 use Rattle.safl_probe.specs.Probing.{ProbeState}
-use Rattle.safl_probe.specs.Texts.{Text, trace, opening, frames_text, closing}
+use Rattle.safl_probe.specs.Texts.{Text, trace, opening_text, frames_text, closing}
 use Rattle.safl_probe.specs.Watching.{kind_of, watched_by}
 use Rattle.safl_probe.specs.declared.kind.TraceKind.{TraceKind}
 use Rattle.safl_probe.specs.declared.kind.TraceKind.TheVariants.{Vcd, Starts, Toggles, Silent}
@@ -236,7 +236,7 @@ found (p ∷ fs) f name = go (bytes_eq p.0 name) refl (file_of (files_of (map (�
     ]
 
 same_trace : (k m : ℕ) (n : Netlist) (frames : List Valuation) → kind_of k ≡ kind_of m → trace k n frames ≡ trace m n frames
-same_trace k m n frames e = ap (λ (c : TraceKind). opening c (watched_by c n) ++ frames_text c (watched_by c n) 0 None frames ++ closing c (length frames)) e
+same_trace k m n frames e = ap (λ (c : TraceKind). opening_text c (watched_by c n) ++ frames_text c (watched_by c n) 0 None frames ++ closing c (length frames)) e
 
 module _ (t : Traces) (ps : List ProbeState) (there : have_probes t (kinds_of ps) ≡ true) (n : Netlist) (frames : List Valuation) where
   abbrev text : ℕ → Text

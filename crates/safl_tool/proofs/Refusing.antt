@@ -14,7 +14,6 @@ use Rattle.safl_task.proofs.Ending.{stop_left}
 use Rattle.safl_tool.specs.Refusals.{StopsBy, RefusesBy, IsOfUnread, SendsLine, sent, SendsRefusal, made, unmade, status_of, line_of}
 use Rattle.safl_tool.specs.Refusals as refusals
 use Rattle.safl_tool.specs.declared.refusal.Refusal.{Refusal}
-use Rattle.safl_tool.specs.declared.refusal.Refusal.TheVariants as refusal
 
 -- what refuses for one reason refuses for another that follows
 pub refuses_more : (P Q : Status → List ℕ → Type 0) → ((s : Status) (line : List ℕ) → P s line → Q s line) → (r : Refusal) → RefusesBy P r → RefusesBy Q r

@@ -6,7 +6,7 @@ use Rattle.safl_word.specs.Words.{Word, as_word}
 use Rattle.safl_net.specs.Netlist.{Netlist, output_place}
 use Rattle.safl_net.specs.Valuations.{Valuation, read_output, reset_state}
 use Rattle.safl_sim.specs.declared.done.Done.{Done}
-use Rattle.safl_net.specs.Arguments.{argument_widths, AreArguments}
+use Rattle.safl_net.specs.Arguments.{argument_widths}
 use Rattle.safl_run.specs.Calls.{IsOutcome, Replies}
 use Rattle.safl_term.specs.Program.{Program}
 use Rattle.safl_term.specs.WellFormed.{AreWordsOf}
@@ -24,7 +24,7 @@ use Rattle.safl_tool.specs.Arguments.{HaveFault}
 use Rattle.safl_tool.specs.CommandTasks.{RefusesSourceOf, RefusesGiven}
 use Rattle.safl_task.specs.Endings.{may_give}
 use Rattle.safl_tool.specs.Reporting.{HasHead, Measures}
-use Rattle.safl_tool.specs.Running.{Gives}
+use Rattle.safl_tool.specs.Running.{GivesOutcome}
 use Rattle.safl_session.specs.Circuits.{IsMainReply}
 use Rattle.safl_tool.specs.Simulating.{Simulates}
 use Rattle.safl_tool.specs.Refusals.{RefusesBy}
@@ -76,11 +76,6 @@ pub has_value : (C : Program) (D : Names) (P : Choice) (n : Netlist) → IsCircu
 has_value C D P n circuit words are limit None o = tt
 has_value C D P n circuit words are limit (Some d) o = is_value C D P n circuit words are limit d o.after o.answers
 
--- words that are read for a netlist's inputs are its arguments
-pub read_arguments_are : (n : Netlist) (args : List (List ℕ)) (widths : List ℕ) → widths ≡ argument_widths n.signals → (words given : List Word) →
-    given ≡ words → AreRead widths args words → AreArguments n given
-read_arguments_are n args widths are words given e r = ap (λ l. map (λ (w : Word). w.width) l) e ∙ read_widths widths args words r ∙ are
-
 module _ (source : List ℕ) (n : Netlist) (c : IsCompiled source n) (args : List (List ℕ)) (widths : List ℕ) (are : widths ≡ argument_widths n.signals) where
   params_are : widths ≡ c.program.params c.program.main
   params_are = are ∙ c.params
@@ -103,7 +98,7 @@ module _ (source : List ℕ) (n : Netlist) (c : IsCompiled source n) (args : Lis
 
 -- what a run of the circuit of a planned program says, after its head
 pub measures : (source : List ℕ) (p : CheckedProgram) (n : Netlist) → IsSourceOf source p.program p.names → IsCircuitOf p.program p.names n
-    → argument_widths n.signals ≡ p.program.params p.program.main → (args : List (List ℕ)) (limit : ℕ) (answer : Option Done) → Gives n args limit answer
+    → argument_widths n.signals ≡ p.program.params p.program.main → (args : List (List ℕ)) (limit : ℕ) (answer : Option Done) → GivesOutcome n args limit answer
     → (head : List ℕ) → HasHead p.program n head → Measures source args limit head answer
 measures source p n of circuit params args limit answer g head begins =
     let C = p.program in

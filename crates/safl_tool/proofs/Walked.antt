@@ -1,5 +1,5 @@
 -- What a walk of a new machine says of its program.
-use Rattle.std.proofs.Common.{◌≡◌, ℕ, ◌+◌, ◌-◌, ◌*◌, ◌<◌, List, [], Option, Some, None, sym, ap, subst, ◌∙◌, arith, inl, inr}
+use Rattle.std.proofs.Common.{◌≡◌, ℕ, ◌+◌, ◌-◌, ◌*◌, ◌<◌, List, Option, Some, None, sym, ap, subst, ◌∙◌, arith, inl, inr}
 use Rattle.std.specs.Prelude.{IfSome, IfNone, IsSome}
 use Rattle.std.proofs.lemmas.Bool.{false≢true}
 use Rattle.safl_word.specs.Words.{Word}

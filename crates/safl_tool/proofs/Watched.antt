@@ -24,7 +24,7 @@ use Rattle.safl_tool.specs.Readiness.{IsReadyOf}
 use Rattle.safl_tool.specs.Reading.{content_at}
 use Rattle.safl_tool.specs.Refusals.{SendsLine, sent, cut, SendsRefusal, made, unmade, status_of, line_of}
 use Rattle.safl_tool.specs.Tracing.{AreAskedFor}
-use Rattle.safl_tool.specs.Watched.{IsShown, IsShownRun, Shows, ShowsAnswer, ShowsFor, Attends, WatchesFor, AttendsFor, Attended}
+use Rattle.safl_tool.specs.Watched.{IsShown, IsShownRun, ShowsCommand, ShowsAnswer, ShowsFor, Attends, WatchesFor, AttendsFor, Attended}
 use Rattle.safl_tool.specs.declared.answer.Answer.{Answer}
 use Rattle.safl_tool.specs.declared.answer.Answer.TheVariants as answer
 use Rattle.safl_tool.specs.declared.ready.Ready.{Ready}
@@ -95,7 +95,7 @@ attends_given m asks holds ps qs ss ts cs are a shows old new (Err r) gives told
 -- the probes can be asked
 pub attends_asked : {P : Type 0} (m : Command) (holds : Option Files) (ps qs : List P) (ss ts : List ProbeState) (asks : Asked)
     → AreAskedFor (traces_in m) asks ss → (r : Result Status Refusal) → Attends m asks holds ps qs ss ts r → AttendsFor (Some m) holds ps qs ss ts r
-attends_asked m holds ps qs ss ts asks a (Ok s) h = subst (λ (l : Asked). OfInputs holds (command_task m).inputs (Shows m l ss ts)) a.is h
+attends_asked m holds ps qs ss ts asks a (Ok s) h = subst (λ (l : Asked). OfInputs holds (command_task m).inputs (ShowsCommand m l ss ts)) a.is h
 attends_asked m holds ps qs ss ts asks a (Err r) h = h
 
 -- ---- a call

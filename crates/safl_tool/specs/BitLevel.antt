@@ -4,8 +4,8 @@ use Rattle.std.specs.Fmt.{decimal}
 use Rattle.safl_net.specs.Netlist.{Netlist}
 use Rattle.safl_net.specs.Making.{name_at}
 use Rattle.safl_aiger.specs.Circuits.{Circuit}
-use Rattle.safl_aiger.specs.Rules.{rule_text}
-use Rattle.safl_aiger.specs.Reads.{AigReads, HasFault}
+use Rattle.safl_aiger.specs.Rules.{aig_rule_text}
+use Rattle.safl_aiger.specs.Reads.{AigReads, HasAigFault}
 use Rattle.safl_aiger.specs.declared.reading.AigRule.{AigRule}
 use Rattle.safl_aig.specs.Weights.{weight, most_weight, AllZero, IsLeastNonzero}
 use Rattle.safl_aig.specs.BitLevel.{IsLight, IsTextOf}
@@ -49,8 +49,8 @@ GivesCounts text g = (a : Circuit) × AigReads text a × (g ≡ only_prints true
 
 -- the AIGER file with this name has a first fault, which the line reports
 abbrev pub RefusesAig : List ℕ → List ℕ → Status → List ℕ → Type 0
-RefusesAig name text s line = (s ≡ status.AigRefused) × (e : AigRule) × (n : ℕ) × HasFault text e n
-    × (line ≡ name ++ codes ":" ++ decimal n ++ codes ": " ++ rule_text e ++ codes "\n")
+RefusesAig name text s line = (s ≡ status.AigRefused) × (e : AigRule) × (n : ℕ) × HasAigFault text e n
+    × (line ≡ name ++ codes ":" ++ decimal n ++ codes ": " ++ aig_rule_text e ++ codes "\n")
 
 -- the text reads as a circuit
 abbrev pub IsAig : List ℕ → Type 0

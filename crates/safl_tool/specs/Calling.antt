@@ -1,5 +1,5 @@
 -- What a session of a source's circuit gives.
-use Rattle.std.specs.Prelude.{◌≡◌, ℕ, ◌-◌, List, [], length, All, slice_index, ◌==◌, ◌++◌, codes}
+use Rattle.std.specs.Prelude.{◌≡◌, ℕ, ◌-◌, List, length, All, slice_index, ◌==◌, ◌++◌, codes}
 use Rattle.std.specs.Fmt.{decimal}
 use Rattle.safl_word.specs.Words.{Word}
 use Rattle.safl_net.specs.Netlist.{Netlist}

@@ -53,8 +53,8 @@ abbrev pub IsSimulated : List (List ℕ) → List ℕ → List ℕ → Type 0
 IsSimulated args source text = (C : Program) × (D : Names) × (words : List Word) × (value : Word) × (cycle : ℕ) × IsSourceOf source C D
     × AreArguments (C.params C.main) args words × IsExactResult C words value cycle × (text ≡ done_lines value.bits cycle)
 
-abbrev pub Simulates : {S O : Type 0} → List (String Global) → (S → ShelfState) → S → (O → SinkState) → O → O → Status → Type 0
-Simulates words shelf s out o o' status =
+abbrev pub SimPrints : {S O : Type 0} → List (String Global) → (S → ShelfState) → S → (O → SinkState) → O → O → Status → Type 0
+SimPrints words shelf s out o o' status =
     (input limit : List ℕ) (traces : Traces) (args : List (List ℕ))
     → IsName input × IsLimit limit × (are_apart traces ≡ true)
     × Say (codes "sim") (input ∷ args) (option (codes "cycles") limit (trace_options traces)) (map string_bytes words) → status ≡ Ok
@@ -68,8 +68,8 @@ abbrev pub IsSession : List ℕ → List ℕ → List ℕ → Type 0
 IsSession source script text = (C : Program) × (D : Names) × (calls : List (List Word)) × (replies : List Reply) × IsSourceOf source C D
     × IsScript (C.params C.main) script calls × AllZip (IsMainReply C) calls replies × (text ≡ flat_map reply_line replies ++ calls_line (length calls))
 
-abbrev pub Converses : {S O : Type 0} → List (String Global) → (S → ShelfState) → S → (O → SinkState) → O → O → Status → Type 0
-Converses words shelf s out o o' status =
+abbrev pub SessionPrints : {S O : Type 0} → List (String Global) → (S → ShelfState) → S → (O → SinkState) → O → O → Status → Type 0
+SessionPrints words shelf s out o o' status =
     (input script limit : List ℕ) → IsName input × IsName script × IsLimit limit
     × Say (codes "session") (input ∷ script ∷ []) (option (codes "cycles") limit []) (map string_bytes words) → status ≡ Ok
     → OfFile (shelf s).holds input (λ source. OfFile (shelf s).holds script (λ lines. IsPrinted (IsSession source lines) (out o) (out o')))

@@ -27,7 +27,7 @@ GivesReport source g = (C : Program) × (D : Names) × (text : List ℕ) × IsSo
 
 -- the source of this many functions from a seed
 abbrev pub made_source : ℕ → ℕ → List ℕ
-made_source seed count = made.source (draw seed) count
+made_source seed count = made.source_text (draw seed) count
 
 -- the arguments with which the circuit of a generated source is run
 abbrev pub made_args : ℕ → ℕ → List (List ℕ)

@@ -17,7 +17,7 @@ use Rattle.safl_tool.specs.Arguments.{HaveFault}
 use Rattle.safl_tool.specs.Lines.{placed_line, line_at, column_at}
 
 -- the arguments are read as words for the inputs other than `start`, and the netlist has this outcome in its run with them
-pub record Gives (n : Netlist) (args : List (List ℕ)) (limit : ℕ) (answer : Option Done) : Type 0 where
+pub record GivesOutcome (n : Netlist) (args : List (List ℕ)) (limit : ℕ) (answer : Option Done) : Type 0 where
   pub words : List Word
   pub read : AreArguments (argument_widths n.signals) args words
   pub outcome : IsOutcome n words limit answer
@@ -29,7 +29,7 @@ pub record IsRunnable (text : List ℕ) (n : Netlist) : Type 0 where
 
 -- the netlist of the text has this outcome
 abbrev pub RunsText : List ℕ → List (List ℕ) → ℕ → Option Done → Type 0
-RunsText text args limit answer = (n : Netlist) × IsRunnable text n × Gives n args limit answer
+RunsText text args limit answer = (n : Netlist) × IsRunnable text n × GivesOutcome n args limit answer
 
 -- The Verilog file with this name reads as no netlist without a combinational loop, and the line says why: the first fault of the
 -- text, or a loop of the netlist that it reads as.

@@ -1,5 +1,5 @@
 -- The lines that report why a Verilog file is refused.
-use Rattle.std.specs.Prelude.{ℕ, List, [], ◌∷◌, ◌++◌, codes}
+use Rattle.std.specs.Prelude.{ℕ, List, ◌++◌, codes}
 use Rattle.std.specs.List.{flat_map}
 use Rattle.safl_verilog.specs.FaultTexts.{vfault_text}
 use Rattle.safl_verilog.specs.declared.fault.VFault.{VFault}

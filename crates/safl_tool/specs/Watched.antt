@@ -46,9 +46,9 @@ pub record ShowsRun {P : Type 0} (r : TracedRun) (names : FileNames) (tell : P �
 -- ---- a command
 
 -- the asked probes were shown its run, where it has one
-abbrev pub Shows : Command → Asked → List ProbeState → List ProbeState → List (List ℕ) → Type 0
-Shows (Sim input limit traces args) asks ps qs contents = Only (λ source. IsShownRun args limit asks ps qs source) contents
-Shows _ asks ps qs contents = Unit {0}
+abbrev pub ShowsCommand : Command → Asked → List ProbeState → List ProbeState → List (List ℕ) → Type 0
+ShowsCommand (Sim input limit traces args) asks ps qs contents = Only (λ source. IsShownRun args limit asks ps qs source) contents
+ShowsCommand _ asks ps qs contents = Unit {0}
 
 abbrev pub ShowsAnswer : Answer → Asked → List ProbeState → List ProbeState → Type 0
 ShowsAnswer (answer.Traced run) asks ps qs = IsShown run.ready.sim.net run.ready.words.items run.limit asks ps qs
@@ -56,19 +56,19 @@ ShowsAnswer _ asks ps qs = Unit {0}
 
 -- what the asked probes are shown of the answer is the run of the command of these contents
 abbrev pub ShowsFor : Command → List (List ℕ) → Answer → Type 0
-ShowsFor m contents a = (asks : Asked) (ps qs : List ProbeState) → ShowsAnswer a asks ps qs → Shows m asks ps qs contents
+ShowsFor m contents a = (asks : Asked) (ps qs : List ProbeState) → ShowsAnswer a asks ps qs → ShowsCommand m asks ps qs contents
 
 -- ---- at the end of a command
 
 -- At its end, where the shelf held this before, the asked probes were shown its run; and where it stops and nothing may have been
 -- given, all probes are as they were. `ps` and `qs` are the probes before and after, and `ss` and `ts` what they tell.
 abbrev pub Attends : {P : Type 0} → Command → Asked → Option Files → List P → List P → List ProbeState → List ProbeState → Result Status Refusal → Type 0
-Attends m asks holds ps qs ss ts (Ok s) = OfInputs holds (command_task m).inputs (Shows m asks ss ts)
+Attends m asks holds ps qs ss ts (Ok s) = OfInputs holds (command_task m).inputs (ShowsCommand m asks ss ts)
 Attends m asks holds ps qs ss ts (Err r) = may_give (status_of r) ≡ false → qs ≡ ps
 
 -- the same of words that may be a command
 abbrev pub WatchesFor : Option Command → Option Files → List ProbeState → List ProbeState → Type 0
-WatchesFor m holds ss ts = IfSome m (λ c. OfInputs holds (command_task c).inputs (Shows c (asks_of (kinds_of ss) m) ss ts))
+WatchesFor m holds ss ts = IfSome m (λ c. OfInputs holds (command_task c).inputs (ShowsCommand c (asks_of (kinds_of ss) m) ss ts))
 
 abbrev pub AttendsFor : {P : Type 0} → Option Command → Option Files → List P → List P → List ProbeState → List ProbeState → Result Status Refusal → Type 0
 AttendsFor m holds ps qs ss ts (Ok s) = WatchesFor m holds ss ts

@@ -9,7 +9,7 @@ ghost use Rattle.safl_tool.specs.Arguments.{RefusesArguments};
 ghost use Rattle.safl_tool.specs.CommandTasks.{outcome};
 ghost use Rattle.safl_tool.specs.Printed.{done_lines, outcome_lines};
 ghost use Rattle.safl_tool.specs.Refusals.{RefusesBy};
-ghost use Rattle.safl_tool.specs.Running.{Gives};
+ghost use Rattle.safl_tool.specs.Running.{GivesOutcome};
 
 use crate::answer::Lines;
 use crate::ready::ready_net;
@@ -32,7 +32,7 @@ pub fn run_circuit<'a>(
 ) -> Result<Option<Done>, Refusal<'a>>
     requires whole { IsWhole net }
     requires acyclic { IsAcyclic net }
-    ensures answer { IfOk result (Gives net (map string_bytes args.now) limit) }
+    ensures answer { IfOk result (GivesOutcome net (map string_bytes args.now) limit) }
     ensures refused { IfErr result (RefusesBy (RefusesArguments (argument_widths net.signals) (map string_bytes args.now))) }
 {
     let Ok(ordered) = ordered(alloc, net) else {
@@ -49,7 +49,7 @@ pub fn run_net<'a>(
     args: &[String],
 ) -> Result<Option<Done>, Refusal<'a>>
     requires { IsWhole ordered.net }
-    ensures answer { IfOk result (Gives ordered.net (map string_bytes args.now) limit) }
+    ensures answer { IfOk result (GivesOutcome ordered.net (map string_bytes args.now) limit) }
     ensures refused { IfErr result (RefusesBy (RefusesArguments (argument_widths ordered.net.signals) (map string_bytes args.now))) }
 {
     let mut ready = match ready_net(alloc, ordered, args) {

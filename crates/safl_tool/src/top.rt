@@ -4,7 +4,7 @@ ghost use Rattle.std.specs.Prelude.{map, option_map, string_bytes};
 ghost use Rattle.safl_command.specs.Commands.{command_of, shown_command};
 ghost use Rattle.safl_tool.specs.Changes.{AttendedOn, AttendsOn, DoesOn, EndsOn, FollowsOn, SparesOn};
 ghost use Rattle.safl_tool.specs.Headline.{Builds};
-ghost use Rattle.safl_tool.specs.Promises.{Checks, Simulates, Converses, Converts};
+ghost use Rattle.safl_tool.specs.Promises.{Checks, SimPrints, SessionPrints, Converts};
 ghost use Rattle.safl_tool.specs.Refusals.{SendsLine, SendsRefusal};
 
 use crate::refusal::Refusal;
@@ -38,9 +38,9 @@ pub fn run<S: Shelf, O: Sink, E: Sink>(
     // Where `check` ends with Ok, IN held the source of a program, with the printed numbers of functions and call sites.
     ensures check { Checks words.now S.told shelf.old O.told out.old out.new result }
     // Where `sim` ends with Ok, main of the program whose source IN held gives the printed value, in the printed cycle.
-    ensures sim { Simulates words.now S.told shelf.old O.told out.old out.new result }
+    ensures sim { SimPrints words.now S.told shelf.old O.told out.old out.new result }
     // Where `session` ends with Ok, main gives the printed values from the arguments on the lines of SCRIPT, in the printed cycles.
-    ensures session { Converses words.now S.told shelf.old O.told out.old out.new result }
+    ensures session { SessionPrints words.now S.told shelf.old O.told out.old out.new result }
     // Where `aig` ends with Ok, OUT is the text of a bit-level circuit of the netlist that FILE's text reads as.
     ensures aig { Converts words.now S.told shelf.old shelf.new result }
     // The cause of each status, what was given, and what `err` got.

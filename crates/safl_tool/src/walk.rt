@@ -1,6 +1,6 @@
 //! The command `walk IN --order SEED --steps N [ARG..]`: a walk of a source's call machine.
 
-ghost use Rattle.std.specs.Prelude.{◌≡◌, ◌≤◌, ◌++◌, [], length, map, OnOk, IfOk, IfErr, string_bytes};
+ghost use Rattle.std.specs.Prelude.{◌≡◌, ◌≤◌, ◌++◌, length, map, OnOk, IfOk, IfErr, string_bytes};
 ghost use Rattle.safl_tool.specs.Answers.{printed};
 ghost use Rattle.safl_tool.specs.CommandTasks.{end_of_walk, GivesWalk, RefusesGiven};
 ghost use Rattle.safl_word.specs.Limits.{source_max};

@@ -1,5 +1,5 @@
 -- The classes of tokens by their texts are the classes by their codes.
-use Rattle.std.proofs.Common.{◌≡◌, ℕ, Bool, cond, List, [], ◌∷◌, Option, Some, None, refl, ap, bytes_eq}
+use Rattle.std.proofs.Common.{◌≡◌, ℕ, Bool, cond, [], ◌∷◌, Option, Some, None, refl, ap, bytes_eq}
 use mathlib.Core.Path.{fun_ext}
 use Rattle.safl_grammar.specs.Sets.{Only, within}
 use Rattle.safl_word.specs.declared.token.Key.{Key}
@@ -10,7 +10,7 @@ use Rattle.safl_word.specs.declared.token.TokenKind.{TokenKind}
 use Rattle.safl_word.specs.declared.token.TokenKind.TheVariants as kinds
 use Rattle.safl_word.specs.Tokens.{key_text, sym_text}
 use Rattle.safl_word.specs.Operators.{layer, operator_with}
-use Rattle.safl_tree.specs.Terminals.{Terminal, text_in, spelled, comes_spelled, NameAt, named, name_at, NumberAt, numbered, number_at, SizedAt, with_width, sized_at, operator_at}
+use Rattle.safl_tree.specs.Terminals.{Terminal, text_in, spelled, comes_spelled, NameAt, named, name_token, NumberAt, numbered, number_at, SizedAt, with_width, sized_at, operator_at}
 use Rattle.safl_tree.specs.Codes.{word_code, symbol_code, code_of, comes, marked, name, number_in, number, width_in, value_in, sized, operators, primitive_in, operator}
 
 -- ---- keywords and symbols
@@ -70,7 +70,7 @@ name_test (kinds.Sym syms.OpenParen) x = refl
 name_test (kinds.Sym _) x = refl
 name_test _ x = refl
 
-pub name_class : name_at ≡ name
+pub name_class : name_token ≡ name
 name_class = fun_ext (λ (t : Terminal). name_test t.kind (record { place = t.place; name = t.bytes }))
 
 abbrev a_number_at : ℕ → ℕ → NumberAt

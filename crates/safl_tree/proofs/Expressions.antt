@@ -87,13 +87,13 @@ arm_starts = Only arm_list
 abbrev pub after_arms : Set
 after_arms = Only (symbol_code syms.CloseBrace ∷ [])
 
-pub written_parses : Parses code read_written Grammar.written Grammar.written true (Only (symbol_code syms.Colon ∷ [])) (Only []) (Only assign)
+pub written_parses : Parses code read_written Grammar.optional_width Grammar.optional_width true (Only (symbol_code syms.Colon ∷ [])) (Only []) (Only assign)
 unfolding read_written
 written_parses = or_else (Only (symbol_code syms.Colon ∷ []))
     (then (a_symbol syms.Colon) (λ colon. then a_width (λ n. parses_nothing code (Some n.value) (Only assign)) refl refl) refl refl)
     (parses_nothing code None (Only assign)) refl refl refl refl
 
-label_parses : Parses code read_label Grammar.label Grammar.label false (Only (2 ∷ 3 ∷ [])) (Only (3 ∷ [])) (Only gives)
+label_parses : Parses code read_label Grammar.case_label Grammar.case_label false (Only (2 ∷ 3 ∷ [])) (Only (3 ∷ [])) (Only gives)
 unfolding read_label
 label_parses = or_else (Only (2 ∷ [])) (literal_parses (Only gives)) (sized_parses (Only gives)) refl refl refl refl
 

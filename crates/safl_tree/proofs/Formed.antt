@@ -15,10 +15,10 @@ use Rattle.safl_word.specs.declared.token.TokenKind.{TokenKind}
 use Rattle.safl_word.specs.declared.token.TokenKind.TheVariants as kinds
 use Rattle.safl_word.specs.declared.primitive.Primitive.{Primitive}
 use Rattle.safl_word.specs.Limits.{width_max, value_bound}
-use Rattle.safl_word.specs.Tokens.{IsName, IsToken}
+use Rattle.safl_word.specs.Tokens.{IsSourceName, IsToken}
 use Rattle.safl_tree.specs.Terminals.{Terminal, NameAt, NumberAt, SizedAt}
 use Rattle.safl_tree.specs.Codes.{code_of, word_code, symbol_code, marked, name, number, number_in, sized, value_in, operators, primitive_in}
-use Rattle.safl_tree.specs.Grammar.{is_width, fits_width, fits_sized, fits_index}
+use Rattle.safl_tree.specs.Grammar.{is_written_width, fits_width, fits_sized, fits_index}
 use Rattle.safl_tree.specs.Reader.{read_word, read_symbol, read_width, read_index}
 use Rattle.safl_tree.specs.Printable.{InRange, operands, is_binary, right_context, left_context, below_of, operator_layers, lifted, AreFormedDefinitions, IsFormedDefinition}
 use Rattle.safl_tree.specs.Tree.{Definition}
@@ -34,7 +34,7 @@ IsTerminal t = IsToken t.kind t.bytes
 
 -- ---- tokens of a class
 
-name_at : (k : TokenKind) (w : List ℕ) → within (Only (1 ∷ [])) (code_of k) ≡ true → IsToken k w → IsName w
+name_at : (k : TokenKind) (w : List ℕ) → within (Only (1 ∷ [])) (code_of k) ≡ true → IsToken k w → IsSourceName w
 name_at kinds.Name w e h = h
 name_at (kinds.Num n) w e h = absurd cc
 name_at (kinds.Sized m n) w e h = absurd cc
@@ -68,7 +68,7 @@ pub any_symbol : (s : Sym) → Yields IsTerminal (read_symbol s) (λ p. Unit {0}
 any_symbol s = yields_token (λ (p : ℕ). Unit {0}) (marked (symbol_code s)) (λ t x q e. tt)
 
 abbrev pub NamedWell : NameAt → Type 0
-NamedWell x = IsName x.name
+NamedWell x = IsSourceName x.name
 
 pub a_name : Yields IsTerminal (read_token name) NamedWell
 a_name = yields_token NamedWell name (λ t x q e. let h = cond_some (within (Only (1 ∷ [])) (code_of t.kind)) _ x e in subst NamedWell h.1 (name_at t.kind t.bytes h.0 q))
@@ -80,7 +80,7 @@ pub a_number : Yields IsTerminal (read_token number) Small
 a_number = yields_token Small number (λ t x q e. let h = cond_some (within (Only (2 ∷ [])) (code_of t.kind)) _ x e in subst Small h.1 (number_small t.kind t.bytes h.0 q))
 
 abbrev pub Wide : NumberAt → Type 0
-Wide n = is_width n.value ≡ true
+Wide n = is_written_width n.value ≡ true
 
 pub a_width : Yields IsTerminal read_width Wide
 a_width = yields_limited Wide Range fits_width number (λ t x q e f. f)
@@ -92,7 +92,7 @@ pub an_index : Yields IsTerminal read_index Indexes
 an_index = yields_limited Indexes Range fits_index number (λ t x q e f. ltb-true x.value width_max f)
 
 abbrev pub WideSmall : SizedAt → Type 0
-WideSmall s = (is_width s.width ≡ true) × (s.value < value_bound)
+WideSmall s = (is_written_width s.width ≡ true) × (s.value < value_bound)
 
 pub a_sized : Yields IsTerminal (read_limited Range fits_sized sized) WideSmall
 a_sized = yields_limited WideSmall Range fits_sized sized (λ t x q e f. let h = cond_some (within (Only (3 ∷ [])) (code_of t.kind)) _ x e in

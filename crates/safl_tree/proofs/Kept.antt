@@ -1,5 +1,5 @@
 -- What is read has the form of a printable program and keeps the levels: expressions.
-use Rattle.std.proofs.Common.{◌≡◌, ℕ, zero, suc, ◌+◌, ◌<◌, ◌≤◌, max, Bool, true, false, cond, List, [], ◌∷◌, ◌++◌, length, Option, Some, None, refl, sym, ap, subst, ◌∙◌, arith}
+use Rattle.std.proofs.Common.{◌≡◌, ℕ, zero, suc, ◌+◌, ◌<◌, ◌≤◌, Bool, true, List, [], ◌∷◌, ◌++◌, length, Some, None, refl, sym, ap, subst, ◌∙◌, arith}
 use Rattle.std.proofs.lemmas.Bool.{ltb-true}
 use Rattle.std.proofs.lemmas.Option.{cond_some}
 use Rattle.safl_grammar.specs.Sets.{Only, within}
@@ -11,8 +11,8 @@ use Rattle.safl_word.specs.declared.token.Sym.TheVariants as syms
 use Rattle.safl_word.specs.declared.token.TokenKind.{TokenKind}
 use Rattle.safl_word.specs.declared.primitive.Primitive.{Primitive}
 use Rattle.safl_word.specs.declared.primitive.Primitive.TheVariants as prims
-use Rattle.safl_word.specs.Tokens.{IsName}
-use Rattle.safl_tree.specs.Tree.{Tree, Number, Sized, Variable, If, Let, Cases, Op, Call, Trees, no_tree, a_tree, Bound, Labelled, trees_of, binds_of, arms_of, place_of, placed, depth}
+use Rattle.safl_word.specs.Tokens.{IsSourceName}
+use Rattle.safl_tree.specs.Tree.{Tree, Number, Sized, Variable, If, Let, Cases, Op, Call, Trees, no_tree, a_tree, Bound, Labelled, trees_of, binds_of, arms_of, place_of, with_place, depth}
 use Rattle.safl_tree.specs.Terminals.{Terminal, NameAt}
 use Rattle.safl_tree.specs.Codes.{code_of, word_code, symbol_code, comes, operators, primitive_in, operator}
 use Rattle.safl_tree.specs.Grammar.{shallow, ArmList}
@@ -24,8 +24,8 @@ use Rattle.safl_tree.specs.Reader.{operand_at, expr_at, arm_value_at, more_arms_
 use Rattle.safl_tree.specs.Printable.{InRange, HasBinding, IsLabel, FitsWritten, IsFormed, AreFormed, AreFormedBinds, AreFormedArms, right_context}
 use Rattle.safl_tree.specs.Printable.{left_context, below_of, operator_layers, layers_of, lifted, levels, most, most_operand, most_bind, most_arm, OfBinary, IsShallow}
 use Rattle.safl_tree.specs.Printable.{AreShallow, AreShallowBinds, AreShallowArms}
-use Rattle.safl_tree.proofs.Formed.{IsTerminal, any_word, any_symbol, NamedWell, a_name, Small, a_number, Wide, a_width, Indexes}
-use Rattle.safl_tree.proofs.Formed.{an_index, WideSmall, a_sized, Layer, layer_0, layer_1, layer_2, layer_3, layer_4, layer_5, layer_6, lift_low}
+use Rattle.safl_tree.proofs.Formed.{IsTerminal, any_word, any_symbol, NamedWell, a_name, a_number, a_width}
+use Rattle.safl_tree.proofs.Formed.{an_index, a_sized, Layer, layer_0, layer_1, layer_2, layer_3, layer_4, layer_5, layer_6, lift_low}
 use Rattle.safl_tree.proofs.Formed.{lift_high, lift_in, lift_up}
 use Rattle.safl_tree.proofs.Operators.{own_small}
 
@@ -51,7 +51,7 @@ risen : (m : ℕ) (t : Tree) → Whole m t → At 0 (suc m) t
 risen m t w = let h = lift_high 0 (layers_of t) (levels t) in record { formed = w.formed; shallow = w.shallow; kept = omega (arith, h, w.kept) }
 
 -- parentheses are one level
-placed_at : (q m : ℕ) (t : Tree) → Whole m t → At 0 (suc m) (placed q t)
+placed_at : (q m : ℕ) (t : Tree) → Whole m t → At 0 (suc m) (with_place q t)
 placed_at q m (Number p n) w = risen m (Number q n) (record { formed = w.formed; shallow = w.shallow; kept = w.kept })
 placed_at q m (Sized p n x) w = risen m (Sized q n x) (record { formed = w.formed; shallow = w.shallow; kept = w.kept })
 placed_at q m (Variable p x) w = risen m (Variable q x) (record { formed = w.formed; shallow = w.shallow; kept = w.kept })
@@ -84,7 +84,7 @@ all_kept m [] e = omega arith
 all_kept m (t ∷ ts) e = let h = all_kept m ts e.1 in omega (arith, e.0.kept, h)
 
 -- a call and its arguments
-called_at : (m p : ℕ) (f : List ℕ) (ts : List Tree) → IsName f → Each (Whole m) ts → At 0 (suc m) (Call p f (trees_of ts))
+called_at : (m p : ℕ) (f : List ℕ) (ts : List Tree) → IsSourceName f → Each (Whole m) ts → At 0 (suc m) (Call p f (trees_of ts))
 called_at m p f ts n e = record { formed = (n, all_formed m ts e); shallow = all_shallow m ts e; kept = let h = all_kept m ts e in omega (arith, h) }
 
 -- ---- primary expressions
@@ -130,7 +130,7 @@ module _ (m : ℕ) (pe : Reading Terminal Tree) (e : Yields IsTerminal pe (Whole
   unfolding read_parenthesised
   parenthesised_yields = yields_follows (At 0 (suc m)) (any_symbol syms.OpenParen)
       (λ p u. yields_follows (At 0 (suc m)) e (λ x w. yields_follows (At 0 (suc m)) (any_symbol syms.CloseParen)
-      (λ c v. yields_nothing (At 0 (suc m)) (placed p x) (placed_at p m x w))))
+      (λ c v. yields_nothing (At 0 (suc m)) (with_place p x) (placed_at p m x w))))
 
   cat_at : (p : ℕ) (a b : Tree) → Whole m a → Whole m b → At 0 (suc m) (Op p prims.Cat (trees_of (a ∷ b ∷ [])))
   cat_at p a b v w = record {
@@ -246,7 +246,7 @@ choice_whole m p c a b u v w = record { formed = (u.formed, v.formed, w.formed);
 
 -- a binding's facts
 abbrev BoundWell : ℕ → Bound → Type 0
-BoundWell m b = IsName b.name × FitsWritten b.width × Whole m b.value
+BoundWell m b = IsSourceName b.name × FitsWritten b.width × Whole m b.value
 
 binds_formed : (m : ℕ) (bs : List Bound) → Each (BoundWell m) bs → AreFormedBinds (binds_of bs)
 binds_formed m [] e = tt

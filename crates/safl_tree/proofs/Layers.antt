@@ -9,14 +9,14 @@ use Rattle.safl_grammar.proofs.Many.{stops_here}
 use Rattle.safl_grammar.proofs.Small.{Small, Eats, small, small_nothing, eats_limited, small_follows, eats_follows, small_either, small_many}
 use Rattle.safl_word.specs.declared.token.Sym.TheVariants as syms
 use Rattle.safl_tree.specs.Tree.{Tree, Number, Sized, Variable, If, Let, Cases, Op, Call, Trees, no_tree, a_tree, Arms, default_arm, an_arm, trees_of}
-use Rattle.safl_tree.specs.Tree.{place_of, placed, depth, deepest, deepest_bind, deepest_arm, Binds, no_bind, a_bind}
+use Rattle.safl_tree.specs.Tree.{place_of, with_place, depth, deepest, deepest_bind, deepest_arm, Binds, no_bind, a_bind}
 use Rattle.safl_tree.specs.Terminals.{Terminal}
 use Rattle.safl_tree.specs.Codes.{code, comes, symbol_code, operators, operator}
 use Rattle.safl_tree.specs.Grammar.{shallow}
 use Rattle.safl_tree.specs.Reader.{read_parenthesised, read_primary, read_unary, read_joined, read_chained, read_compared, read_layer, read_chain, operand_at, expr_at}
 use Rattle.safl_tree.proofs.Leaves.{after_layers, after_expr}
 use Rattle.safl_tree.proofs.KeptLevels.{operand_small}
-use Rattle.safl_tree.specs.Printed.{Word, enclosed}
+use Rattle.safl_tree.specs.Printed.{PrintedToken, enclosed}
 use Rattle.safl_tree.specs.Places.{unplaced, unplaced_trees, unplaced_binds, unplaced_arms}
 use Rattle.safl_tree.proofs.Readings.{Reads, words_in, reads_then, reads_first, avoids, reads_second, reads_narrowed, reads_give, reads_symbol}
 
@@ -32,7 +32,7 @@ abbrev pub behind : ℕ → Set
 behind k = Only (after_layers k)
 
 -- these words are read as the tree, at a place of k layers
-abbrev pub Stands : ℕ → ℕ → List Word → Tree → Type 0
+abbrev pub Stands : ℕ → ℕ → List PrintedToken → Tree → Type 0
 Stands k m ks v = Reads (chain_at k m) ks (behind k) unplaced v
 
 -- ---- places change nothing else
@@ -60,7 +60,7 @@ mutual
   deepest_arm_unplaced (default_arm t) = depth_unplaced t
   deepest_arm_unplaced (an_arm l t arms) = rw (depth_unplaced t, deepest_arm_unplaced arms) refl
 
-unplaced_placed : (p : ℕ) (t : Tree) → unplaced (placed p t) ≡ unplaced t
+unplaced_placed : (p : ℕ) (t : Tree) → unplaced (with_place p t) ≡ unplaced t
 unplaced_placed p (Number q n) = refl
 unplaced_placed p (Sized q w n) = refl
 unplaced_placed p (Variable q x) = refl
@@ -141,11 +141,11 @@ unfolding read_chain read_layer
 chain_6 = record { other = λ e. absurd cc; few = λ e. absurd cc; lay = λ m w. refl; ops_behind = refl; next_behind = refl; next_apart = refl }
 
 -- after these words the layer's loop goes on with the tree
-pub record Loops (k m : ℕ) (ks : List Word) (v : Tree) : Type 0 where
+pub record Loops (k m : ℕ) (ks : List PrintedToken) (v : Tree) : Type 0 where
   pub goes : (w r : List Terminal) → words_in w ≡ ks → within (behind k) (code (head_of r)) ≡ true → (x : Tree) × (unplaced x ≡ v) × (read_chain (suc k) (unary_at m) (w ++ r) ≡ turns k m x r)
 
 -- the loop ends where no operator of its layer follows
-pub loops_stand : (k m : ℕ) (ks : List Word) (v : Tree) → Chain k → Loops k m ks v → Stands (suc k) m ks v
+pub loops_stand : (k m : ℕ) (ks : List PrintedToken) (v : Tree) → Chain k → Loops k m ks v → Stands (suc k) m ks v
 loops_stand k m ks v c l = record {
   reads = λ w r e h.
       let x = l.goes w r e (subset_within (behind (suc k)) (behind k) (code (head_of r)) c.next_behind h) in (
@@ -157,7 +157,7 @@ loops_stand k m ks v c l = record {
 }
 
 -- and begins after a first operand
-pub stand_loops : (k m : ℕ) (ks : List Word) (v : Tree) → Chain k → Stands k m ks v → Loops k m ks v
+pub stand_loops : (k m : ℕ) (ks : List PrintedToken) (v : Tree) → Chain k → Stands k m ks v → Loops k m ks v
 unfolding read_chained
 stand_loops k m ks v c s = record {
   goes = λ w r e h.
@@ -165,7 +165,7 @@ stand_loops k m ks v c s = record {
       (x.0, x.1, c.lay m (w ++ r) ∙ ap (λ (y : Read Terminal Tree). y >>= λ x. turns k m x.0 x.1) x.2);
 }
 
-climb_compared : (m : ℕ) (ks : List Word) (v : Tree) → Stands 3 m ks v → Stands 4 m ks v
+climb_compared : (m : ℕ) (ks : List PrintedToken) (v : Tree) → Stands 3 m ks v → Stands 4 m ks v
 unfolding read_chain read_layer read_compared
 climb_compared m ks v s = record {
   reads = λ w r e h.
@@ -177,7 +177,7 @@ climb_compared m ks v s = record {
       );
 }
 
-climb : (k m : ℕ) (ks : List Word) (v : Tree) → k ≤ 6 → Stands k m ks v → Stands (suc k) m ks v
+climb : (k m : ℕ) (ks : List PrintedToken) (v : Tree) → k ≤ 6 → Stands k m ks v → Stands (suc k) m ks v
 climb zero m ks v le s = loops_stand 0 m ks v chain_0 (stand_loops 0 m ks v chain_0 s)
 climb (suc zero) m ks v le s = loops_stand 1 m ks v chain_1 (stand_loops 1 m ks v chain_1 s)
 climb (suc (suc zero)) m ks v le s = loops_stand 2 m ks v chain_2 (stand_loops 2 m ks v chain_2 s)
@@ -187,7 +187,7 @@ climb (suc (suc (suc (suc (suc zero))))) m ks v le s = loops_stand 5 m ks v chai
 climb (suc (suc (suc (suc (suc (suc zero)))))) m ks v le s = loops_stand 6 m ks v chain_6 (stand_loops 6 m ks v chain_6 s)
 climb (suc (suc (suc (suc (suc (suc (suc k))))))) m ks v le s = absurd (omega arith)
 
-pub climbs : (j k m : ℕ) (ks : List Word) (v : Tree) → k ≤ j → j ≤ 7 → Stands k m ks v → Stands j m ks v
+pub climbs : (j k m : ℕ) (ks : List PrintedToken) (v : Tree) → k ≤ j → j ≤ 7 → Stands k m ks v → Stands j m ks v
 climbs zero k m ks v le small s = let e : k ≡ 0 = omega arith in subst (λ (k : ℕ). Stands k m ks v) e s
 climbs (suc j) k m ks v le small s = elim (cases_lt k (suc j)) [
   | inl lt ↦ climb j m ks v (omega arith) (climbs j k m ks v (omega arith) (omega arith) s)
@@ -196,10 +196,10 @@ climbs (suc j) k m ks v le small s = elim (cases_lt k (suc j)) [
 
 -- ---- parentheses
 
-pub parens_stand : (m : ℕ) (ks : List Word) (v : Tree) → Reads (expr_at m) ks after_expr unplaced v → Stands 0 m (enclosed false ks) v
+pub parens_stand : (m : ℕ) (ks : List PrintedToken) (v : Tree) → Reads (expr_at m) ks after_expr unplaced v → Stands 0 m (enclosed false ks) v
 unfolding read_chain read_unary read_primary read_parenthesised
 parens_stand m ks v s = reads_narrowed Every (reads_second (symbol_code syms.Tilde ∷ []) _
     (reads_second (2 ∷ []) _ (reads_second (3 ∷ []) _ (reads_second (1 ∷ []) _
     (reads_first (symbol_code syms.OpenParen ∷ []) _ (reads_then (reads_symbol syms.OpenParen)
-    (λ p u. reads_then s (λ x e. reads_give (λ closed. placed p x) unplaced v (reads_symbol syms.CloseParen) (λ c u. unplaced_placed p x ∙ e)) refl)
+    (λ p u. reads_then s (λ x e. reads_give (λ closed. with_place p x) unplaced v (reads_symbol syms.CloseParen) (λ c u. unplaced_placed p x ∙ e)) refl)
     refl) refl) (avoids _ _ refl)) (avoids _ _ refl)) (avoids _ _ refl)) (avoids _ _ refl)) refl

@@ -1,7 +1,7 @@
 -- The reader of leaves and of primary expressions answers as the grammar says.
 use Rattle.std.proofs.Common.{◌≡◌, ℕ, zero, suc, Bool, true, false, cond, List, [], ◌∷◌, ◌++◌, Option, Some, None, refl, sym, subst}
 use Rattle.safl_grammar.specs.Sets.{Set, Every, Only, within, subset, union, union_if}
-use Rattle.safl_grammar.specs.Syntax.{Rule, Range, Syntax, token, limited, either, unless}
+use Rattle.safl_grammar.specs.Syntax.{Rule, Range, Syntax, token, limited, either, without_begin}
 use Rattle.safl_grammar.specs.Reading.{Reading, read_token, read_limited, read_either}
 use Rattle.safl_grammar.proofs.Parses.{Parses, parses_nothing}
 use Rattle.safl_grammar.proofs.Tokens.{parses_token, parses_limited}
@@ -12,8 +12,8 @@ use Rattle.safl_word.specs.declared.token.Key.TheVariants as keys
 use Rattle.safl_word.specs.declared.token.Sym.{Sym}
 use Rattle.safl_word.specs.declared.token.Sym.TheVariants as syms
 use Rattle.safl_word.specs.declared.primitive.Primitive.TheVariants as prims
-use Rattle.safl_tree.specs.Tree.{Tree, Number, Sized, Variable, Op, Call, trees_of, placed}
-use Rattle.safl_tree.specs.Terminals.{Terminal, spelled, NameAt, name_at, number_at, sized_at}
+use Rattle.safl_tree.specs.Tree.{Tree, Number, Sized, Variable, Op, Call, trees_of, with_place}
+use Rattle.safl_tree.specs.Terminals.{Terminal, spelled, NameAt, name_token, number_at, sized_at}
 use Rattle.safl_tree.specs.Codes.{code, code_of, comes, word_code, symbol_code, classed, marked, name, number, sized, operators}
 use Rattle.safl_word.specs.Tokens.{key_text, sym_text}
 use Rattle.safl_tree.specs.Grammar
@@ -52,8 +52,8 @@ a_word k = as_token (read_word k) (spelled (key_text k)) (marked (word_code k)) 
 pub a_symbol : (s : Sym) → Parses code (read_symbol s) (symbol s) (symbol s) false (Only (symbol_code s ∷ [])) (Only []) Every
 a_symbol s = as_token (read_symbol s) (spelled (sym_text s)) (marked (symbol_code s)) (Only (symbol_code s ∷ [])) (symbol_class s) (one_of (Only (symbol_code s ∷ [])) (λ t. t.place))
 
-pub a_name : Parses code (read_token name) (token name_at) (token name_at) false (Only (1 ∷ [])) (Only []) Every
-a_name = as_token (read_token name) name_at name (Only (1 ∷ [])) name_class (one_of (Only (1 ∷ [])) _)
+pub a_name : Parses code (read_token name) (token name_token) (token name_token) false (Only (1 ∷ [])) (Only []) Every
+a_name = as_token (read_token name) name_token name (Only (1 ∷ [])) name_class (one_of (Only (1 ∷ [])) _)
 
 a_number : Parses code (read_token number) (token number_at) (token number_at) false (Only (2 ∷ [])) (Only []) Every
 a_number = as_token (read_token number) number_at number (Only (2 ∷ [])) number_class (one_of (Only (2 ∷ [])) _)
@@ -110,7 +110,7 @@ after_expr = Only after_list
 
 -- ---- literals
 
-pub literal_parses : (F : Set) → Parses code read_literal Grammar.literal Grammar.literal false (Only (2 ∷ [])) (Only []) F
+pub literal_parses : (F : Set) → Parses code read_literal Grammar.number_literal Grammar.number_literal false (Only (2 ∷ [])) (Only []) F
 unfolding read_literal
 literal_parses F = then a_number (λ n. parses_nothing code (Number n.place n.value) F) (every F) refl
 
@@ -141,20 +141,21 @@ module _ (pe : Reading Terminal Tree) (se ce : Syntax Terminal Tree) (e : Parses
   unfolding read_call
   call_parses f = then (a_symbol syms.OpenParen)
       (λ opened. subst (λ (g : Option Terminal → Bool). Parses code (read_either (comes close_paren) (read_no_arguments f) (read_arguments pe f))
-      (either (Grammar.no_arguments f) (unless g (Grammar.arguments se f))) (either (Grammar.no_arguments f) (unless g (Grammar.arguments ce f))) false
+      (either (Grammar.no_arguments f) (without_begin g (Grammar.arguments se f))) (either (Grammar.no_arguments f) (without_begin g (Grammar.arguments ce f))) false
       (union (Only close_paren) starts) (union (Only []) Every) after_operand) (sym closes)
       (or_unless (Only close_paren) (no_arguments_parses f) (arguments_parses f) refl refl refl)) refl refl
 
-  named_parses : Parses code (read_named pe) (either (Grammar.called se) Grammar.variable) (either (Grammar.called ce) Grammar.variable) false (Only (1 ∷ [])) (Only []) after_operand
+  named_parses : Parses code (read_named pe) (either (Grammar.call_syntax se) Grammar.variable) (either (Grammar.call_syntax ce) Grammar.variable) false (Only (1 ∷ [])) (Only []) after_operand
   unfolding read_named
   named_parses = parses_same _ _ (then a_name (λ f. or_else (Only open_paren) (call_parses f)
       (parses_nothing code (Variable f.place f.name) after_operand) refl refl refl refl) refl refl)
-      (same_factored (token name_at) (Grammar.call se) (λ x. Rattle.safl_grammar.specs.Syntax.nothing (Variable x.place x.name)))
-      (same_factored (token name_at) (Grammar.call ce) (λ x. Rattle.safl_grammar.specs.Syntax.nothing (Variable x.place x.name)))
+      (same_factored (token name_token) (Grammar.call se) (λ x. Rattle.safl_grammar.specs.Syntax.nothing (Variable x.place x.name)))
+      (same_factored (token name_token) (Grammar.call ce) (λ x. Rattle.safl_grammar.specs.Syntax.nothing (Variable x.place x.name)))
 
   parenthesised_parses : Parses code (read_parenthesised pe) (Grammar.parenthesised se) (Grammar.parenthesised ce) false (Only open_paren) (Only []) after_operand
   unfolding read_parenthesised
-  parenthesised_parses = then (a_symbol syms.OpenParen) (λ p. then e (λ x. then (a_symbol syms.CloseParen) (λ closed. parses_nothing code (placed p x) after_operand) refl refl) refl refl) refl refl
+  parenthesised_parses = then (a_symbol syms.OpenParen) (λ p. then e (λ x. then (a_symbol syms.CloseParen)
+      (λ closed. parses_nothing code (with_place p x) after_operand) refl refl) refl refl) refl refl
 
   cat_parses : Parses code (read_cat pe) (Grammar.cat se) (Grammar.cat ce) false (Only (word_code keys.Cat ∷ [])) (Only []) after_operand
   unfolding read_cat

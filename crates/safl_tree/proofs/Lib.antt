@@ -20,4 +20,3 @@ pub mod Depths
 pub mod Lists
 pub mod Writing
 pub mod Dismantling
-pub mod DepthByParts

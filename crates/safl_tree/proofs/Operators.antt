@@ -21,7 +21,7 @@ use Rattle.safl_tree.specs.Printable.{layers_of, operator_layers, lifted, levels
 use Rattle.safl_tree.proofs.Leaves.{after_expr}
 use Rattle.safl_tree.specs.Printed
 use Rattle.safl_word.specs.Operators.{symbol_of}
-use Rattle.safl_tree.specs.Printed.{Word, separated, enclosed, applied, words}
+use Rattle.safl_tree.specs.Printed.{PrintedToken, separated, enclosed, applied, words}
 use Rattle.safl_tree.specs.Places.{unplaced}
 use Rattle.safl_tree.proofs.Readings.{Reads, first_of, cut, kind_is, next_within, classed_some, reads_limited, reads_then, reads_first, Avoids, avoids, reads_second, reads_narrowed, reads_give}
 use Rattle.safl_tree.proofs.Layers.{unary_at, chain_at, behind, Stands, same_depth, joined_eats, turns, Chain, chain_0, chain_1, chain_2, chain_4}
@@ -30,7 +30,7 @@ use Rattle.safl_tree.proofs.Layers.{chain_5, chain_6, Loops, loops_stand, stand_
 -- ---- what is claimed of an expression
 
 -- its words begin with neither `if` nor `let` nor `case`
-pub record Plain (ks : List Word) : Type 0 where
+pub record Plain (ks : List PrintedToken) : Type 0 where
   pub no_choice : Avoids (word_code keys.If ∷ []) ks
   pub no_binding : Avoids (word_code keys.Let ∷ []) ks
   pub no_cases : Avoids (word_code keys.Case ∷ []) ks
@@ -56,7 +56,7 @@ own_small (Number p n) = omega arith
 own_small (Op p o ts) = own_of_small o
 own_small _ = omega arith
 
-seven_whole : (m : ℕ) (ks : List Word) (v : Tree) → Plain ks → Stands 7 m ks v → Reads (expr_at (suc m)) ks after_expr unplaced v
+seven_whole : (m : ℕ) (ks : List PrintedToken) (v : Tree) → Plain ks → Stands 7 m ks v → Reads (expr_at (suc m)) ks after_expr unplaced v
 unfolding expr_at read_expr
 seven_whole m ks v p s = reads_second (word_code keys.If ∷ []) _ (reads_second (word_code keys.Let ∷ []) _ (reads_second (word_code keys.Case ∷ []) _ s p.no_cases) p.no_binding) p.no_choice
 
@@ -105,10 +105,10 @@ left_part t c k m small chains le = go (leb (layers_of t) (suc k)) refl
     go false h = stand_loops k m (enclosed false (words t)) (unplaced t) chains
         (climbs k 0 m (enclosed false (words t)) (unplaced t) (omega arith) (omega arith) (closed t c m (lifted_high (suc k) (layers_of t) (levels t) (suc m) le h)))
 
-pub avoids_front : (codes : List ℕ) (u v : List Word) → Avoids codes u → Avoids codes (u ++ v)
+pub avoids_front : (codes : List ℕ) (u v : List PrintedToken) → Avoids codes u → Avoids codes (u ++ v)
 avoids_front codes u v (avoids k ks n) = avoids k (ks ++ v) n
 
-plain_front : (u v : List Word) → Plain u → Plain (u ++ v)
+plain_front : (u v : List PrintedToken) → Plain u → Plain (u ++ v)
 plain_front u v p = record { no_choice = avoids_front _ u v p.no_choice; no_binding = avoids_front _ u v p.no_binding; no_cases = avoids_front _ u v p.no_cases }
 
 pub plain_part : (t : Tree) → Claim t → (k : ℕ) → k ≤ 7 → Plain (enclosed (leb (layers_of t) k) (words t))
@@ -134,7 +134,7 @@ pub record Between (o : Primitive) : Type 0 where
   pub means : primitive_of (symbol_of o) ≡ o
   pub binary : is_binary o ≡ true
   pub two : operands o ≡ 2
-  pub written : (parts : List (List Word)) → applied o parts ≡ separated (Printed.sym (symbol_of o)) parts
+  pub written : (parts : List (List PrintedToken)) → applied o parts ≡ separated (Printed.sym (symbol_of o)) parts
   pub left : ((left_context o ≡ suc (right_context o)) × Chain (right_context o)) ⊎ ((left_context o ≡ 3) × (right_context o ≡ 3))
 
 pub between_mul : Between prims.Mul
@@ -179,21 +179,21 @@ between_xor = record { layers_of = refl; small = omega arith; among = refl; mean
 pub between_or : Between prims.Or
 between_or = record { layers_of = refl; small = omega arith; among = refl; means = refl; binary = refl; two = refl; written = λ parts. refl; left = inl (refl, chain_6) }
 
-abbrev two_words : ℕ → Primitive → Tree → Tree → List Word
+abbrev two_words : ℕ → Primitive → Tree → Tree → List PrintedToken
 two_words l o a b = enclosed (leb (layers_of a) l) (words a) ++ (Printed.sym (symbol_of o) ∷ enclosed (leb (layers_of b) (right_context o)) (words b))
 
 words_two : (p : ℕ) (o : Primitive) (a b : Tree) → Between o → words (Op p o (a_tree a (a_tree b no_tree))) ≡ two_words (left_context o) o a b
 words_two p o a b s = s.written (enclosed (leb (layers_of a) (left_context o)) (words a) ∷ (enclosed (leb (layers_of b) (right_context o)) (words b) ∷ []))
 
 -- an operator and its right operand, after a left one
-joined_reads : (o : Primitive) (m : ℕ) (x : Tree) (ks : List Word) (v : Tree) → Between o → depth x < 100 → Stands (right_context o) m ks v → Reads
+joined_reads : (o : Primitive) (m : ℕ) (x : Tree) (ks : List PrintedToken) (v : Tree) → Between o → depth x < 100 → Stands (right_context o) m ks v → Reads
     (read_joined (right_context o) (chain_at (right_context o) m) x) (Printed.sym (symbol_of o) ∷ ks) (behind (right_context o)) unplaced
     (Op 0 o (a_tree (unplaced x) (a_tree v no_tree)))
 unfolding read_joined
 joined_reads o m x ks v s d b =
     reads_then (reads_limited Every Deep (shallow x) (operator (right_context o)) (Printed.sym (symbol_of o)) (λ (q : Primitive). q) o (λ t e. (
       primitive_in t.kind,
-      ap (λ (y : Word). primitive_in y.kind) e ∙ s.means,
+      ap (λ (y : PrintedToken). primitive_in y.kind) e ∙ s.means,
       classed_some (Only (operators (right_context o)))
           (λ t. primitive_in t.kind) t (Printed.sym (symbol_of o)) e s.among,
       lt-ltb (depth x) 100 d,
@@ -202,7 +202,7 @@ joined_reads o m x ks v s d b =
     (λ y i. ap (λ (q : Primitive). Op 0 q (a_tree (unplaced x) (a_tree (unplaced y) no_tree))) e ∙ ap
     (λ (z : Tree). Op 0 o (a_tree (unplaced x) (a_tree z no_tree))) i)) refl
 
-chain_goes : (o : Primitive) (m : ℕ) (a b : Tree) (ka kb : List Word) → Between o → Chain (right_context o) → depth a < 100 → Loops (right_context o) m ka
+chain_goes : (o : Primitive) (m : ℕ) (a b : Tree) (ka kb : List PrintedToken) → Between o → Chain (right_context o) → depth a < 100 → Loops (right_context o) m ka
     (unplaced a) → Stands (right_context o) m kb (unplaced b) → Loops (right_context o) m (ka ++ (Printed.sym (symbol_of o) ∷ kb))
     (Op 0 o (a_tree (unplaced a) (a_tree (unplaced b) no_tree)))
 chain_goes o m a b ka kb s chains d l q = record {
@@ -224,7 +224,7 @@ chain_goes o m a b ka kb s chains d l q = record {
       );
 }
 
-compared_stands : (o : Primitive) (m : ℕ) (a b : Tree) (ka kb : List Word) → Between o → right_context o ≡ 3 → depth a < 100 → Stands 3 m ka
+compared_stands : (o : Primitive) (m : ℕ) (a b : Tree) (ka kb : List PrintedToken) → Between o → right_context o ≡ 3 → depth a < 100 → Stands 3 m ka
     (unplaced a) → Stands 3 m kb (unplaced b) → Stands 4 m (ka ++ (Printed.sym (symbol_of o) ∷ kb)) (Op 0 o (a_tree (unplaced a) (a_tree (unplaced b) no_tree)))
 unfolding read_chain read_layer read_compared
 compared_stands o m a b ka kb s three d l q =
@@ -252,7 +252,7 @@ chain_back p o a b s left chains d ca cb m le =
     let l = chain_goes o m a b (enclosed (leb (layers_of a) (suc (right_context o))) (words a)) (enclosed (leb (layers_of b) (right_context o)) (words b)) s chains d
     (left_part a ca (right_context o) m s.small chains la) (part b cb (right_context o) m (omega (arith, s.small)) both.1) in
     let written : words t ≡ two_words (suc (right_context o)) o a b = words_two p o a b s ∙ ap (λ (k : ℕ). two_words k o a b) left in
-    let loops : Loops (right_context o) m (words t) (unplaced t) = subst (λ (ks : List Word). Loops (right_context o) m ks (unplaced t)) (sym written) l in
+    let loops : Loops (right_context o) m (words t) (unplaced t) = subst (λ (ks : List PrintedToken). Loops (right_context o) m ks (unplaced t)) (sym written) l in
     record {
       low = λ h. subst (λ (k : ℕ). Stands k m (words t) (unplaced t)) (sym s.layers_of) (loops_stand (right_context o) m (words t) (unplaced t) chains loops);
       high = λ h. absurd (omega (arith, s.layers_of, s.small, h));
@@ -270,7 +270,7 @@ compared_back p o a b s left three d ca cb m le =
     let written : words t ≡ enclosed (leb (layers_of a) 3) (words a) ++ (Printed.sym (symbol_of o) ∷ enclosed (leb (layers_of b) 3) (words b)) = words_two p o a b
     s ∙ ap (λ (k : ℕ). two_words k o a b) left ∙ ap (λ (k : ℕ). enclosed (leb (layers_of a) 3) (words a) ++
     (Printed.sym (symbol_of o) ∷ enclosed (leb (layers_of b) k) (words b))) three in
-    let stands : Stands 4 m (words t) (unplaced t) = subst (λ (ks : List Word). Stands 4 m ks (unplaced t)) (sym written) l in
+    let stands : Stands 4 m (words t) (unplaced t) = subst (λ (ks : List PrintedToken). Stands 4 m ks (unplaced t)) (sym written) l in
     let four : operator_layers o ≡ 4 = s.layers_of ∙ ap suc three in
     record {
       low = λ h. subst (λ (k : ℕ). Stands k m (words t) (unplaced t)) (sym four) stands;

@@ -7,11 +7,11 @@ use Rattle.safl_grammar.proofs.Yields.{Each, Yields, yields_nothing, yields_foll
 use Rattle.safl_word.specs.declared.token.Key.TheVariants as keys
 use Rattle.safl_word.specs.declared.token.Sym.TheVariants as syms
 use Rattle.safl_word.specs.declared.token.Token.{Token}
-use Rattle.safl_word.specs.Tokens.{IsName, IsToken, Piece, Blank, Comment, Lexeme, text_of, text_of_all, StandAll, tokens_from, HasTokens}
+use Rattle.safl_word.specs.Tokens.{IsSourceName, IsToken, Piece, Blank, Comment, Lexeme, text_of, text_of_all, StandAll, tokens_from, HasTokens}
 use Rattle.safl_tree.specs.Tree.{Parameter, Definition}
 use Rattle.safl_tree.specs.Terminals.{Terminal, terminals}
 use Rattle.safl_tree.specs.Codes.{word_code, symbol_code, comes}
-use Rattle.safl_tree.specs.Grammar.{is_width}
+use Rattle.safl_tree.specs.Grammar.{is_written_width}
 use Rattle.safl_tree.specs.Reader.{read_param, read_another_param, read_params, read_one, read_another_one, read_group, read_ended, read_another_group, read_program, read_source, expr_at, comma}
 use Rattle.safl_tree.specs.Source.{SpellsProgram}
 use Rattle.safl_tree.specs.Printable.{IsFormedParameter, AreFormedParameters, AreFormedDefinitions, AllKeepLevels, OpensGroup, IsPrintable}
@@ -40,9 +40,9 @@ params_formed [] e = tt
 params_formed (p ∷ ps) e = (e.0, params_formed ps e.1)
 
 record DefinedWell (d : Definition) : Type 0 where
-  name : IsName d.name
+  name : IsSourceName d.name
   params : Each IsFormedParameter d.params
-  width : is_width d.width ≡ true
+  width : is_written_width d.width ≡ true
   body : Whole 100 d.body
 
 abbrev Joins : Bool → Definition → Type 0

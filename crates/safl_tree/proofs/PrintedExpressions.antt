@@ -10,8 +10,8 @@ use Rattle.safl_word.specs.declared.primitive.Primitive.TheVariants as prims
 use Rattle.safl_tree.specs.Tree.{Tree, Number, Sized, Variable, If, Let, Cases, Op, Call, Trees, no_tree, a_tree, Binds, no_bind, a_bind, Arms}
 use Rattle.safl_tree.specs.Tree.{default_arm, an_arm, Bound, Labelled, trees_of, binds_of, arms_of, depth}
 use Rattle.safl_tree.specs.Terminals.{Terminal}
-use Rattle.safl_tree.specs.Codes.{code, code_of, comes, word_code, symbol_code, operators, operator, primitive_of, primitive_in}
-use Rattle.safl_tree.specs.Grammar.{ArmList, is_width}
+use Rattle.safl_tree.specs.Codes.{code_of, comes, word_code, symbol_code}
+use Rattle.safl_tree.specs.Grammar.{ArmList, is_written_width}
 use Rattle.safl_tree.specs.Reader.{read_literal, read_sized_literal, read_another, read_exprs, read_no_arguments, read_arguments, read_call}
 use Rattle.safl_tree.specs.Reader.{read_named, read_cat, read_bits, read_ext, read_primary, read_inverted, read_unary, read_chain, read_choice}
 use Rattle.safl_tree.specs.Reader.{read_written, read_bind, read_another_bind, read_binds, read_binding, read_label, read_arm, read_last_arm}
@@ -22,8 +22,7 @@ use Rattle.safl_tree.specs.Printable.{AreShallowBinds, AreShallowArms}
 use Rattle.safl_tree.proofs.Leaves.{after_list, after_expr}
 use Rattle.safl_tree.proofs.KeptLevels.{expr_small}
 use Rattle.safl_tree.specs.Printed
-use Rattle.safl_word.specs.Operators.{symbol_of}
-use Rattle.safl_tree.specs.Printed.{Word, separated, enclosed, applied, words, part_words, bind_words, arm_words, written}
+use Rattle.safl_tree.specs.Printed.{PrintedToken, separated, enclosed, words, part_words, bind_words, arm_words, width_words}
 use Rattle.safl_tree.specs.Places.{unplaced, unplaced_trees, unplaced_binds, unplaced_arms}
 use Rattle.safl_tree.proofs.Readings.{Reads, AllRead, list_reads, reads_nothing, reads_then, reads_first, Avoids, avoids, reads_second, reads_none}
 use Rattle.safl_tree.proofs.Readings.{reads_narrowed, reads_give, reads_key, reads_symbol, reads_name, reads_number, reads_width, reads_index}
@@ -73,7 +72,7 @@ unfolding read_chain read_unary read_primary read_literal
 number_stands m p n = reads_narrowed Every (reads_second (symbol_code syms.Tilde ∷ []) _
     (reads_first (2 ∷ []) _ (reads_give (λ x. Number x.place x.value) unplaced (Number 0 n) (reads_number n) (λ x e. ap (Number 0) e)) refl) (avoids _ _ refl)) refl
 
-sized_stands : (m p w n : ℕ) → is_width w ≡ true → Stands 0 m (words (Sized p w n)) (Sized 0 w n)
+sized_stands : (m p w n : ℕ) → is_written_width w ≡ true → Stands 0 m (words (Sized p w n)) (Sized 0 w n)
 unfolding read_chain read_unary read_primary read_sized_literal
 sized_stands m p w n h = reads_narrowed Every (reads_second (symbol_code syms.Tilde ∷ []) _
     (reads_second (2 ∷ []) _ (reads_first (3 ∷ []) _ (reads_give (λ x. Sized x.place x.width x.value) unplaced (Sized 0 w n) (reads_sized w n h)
@@ -87,14 +86,14 @@ variable_stands m p x = reads_second (symbol_code syms.Tilde ∷ []) _
     (reads_nothing (behind 0) unplaced (Variable f.place f.name) (Variable 0 x) (ap (Variable 0) e)) refl) refl) refl) (avoids _ _ refl))
     (avoids _ _ refl)) (avoids _ _ refl)
 
-abbrev plain_first : (k : Word) (ks : List Word) → within (Only (word_code keys.If ∷ [])) (code_of k.kind) ≡ false → within
+abbrev plain_first : (k : PrintedToken) (ks : List PrintedToken) → within (Only (word_code keys.If ∷ [])) (code_of k.kind) ≡ false → within
     (Only (word_code keys.Let ∷ [])) (code_of k.kind) ≡ false → within (Only (word_code keys.Case ∷ [])) (code_of k.kind) ≡ false → Plain (k ∷ ks)
 plain_first k ks a b c = record { no_choice = avoids k ks a; no_binding = avoids k ks b; no_cases = avoids k ks c }
 
 number_claim : (p n : ℕ) → Claim (Number p n)
 number_claim p n = primary_claim (Number p n) refl (omega arith) (avoids _ _ refl) (plain_first _ _ refl refl refl) (λ m le. number_stands m p n)
 
-sized_claim : (p w n : ℕ) → is_width w ≡ true → Claim (Sized p w n)
+sized_claim : (p w n : ℕ) → is_written_width w ≡ true → Claim (Sized p w n)
 sized_claim p w n h = primary_claim (Sized p w n) refl (omega arith) (avoids _ _ refl) (plain_first _ _ refl refl refl) (λ m le. sized_stands m p w n h)
 
 variable_claim : (p : ℕ) (x : List ℕ) → Claim (Variable p x)
@@ -127,7 +126,11 @@ bare_part t = ap (λ (b : Bool). enclosed b (words t)) (le-leb (layers_of t) 8 (
 
 all_read : (ts : Trees) → AllClaim ts → (m : ℕ) → most ts ≤ m → AllRead (expr_at m) after_expr unplaced (part_words 8 8 ts) (list_of (unplaced_trees ts))
 all_read no_tree c m le = tt
-all_read (a_tree t ts) c m le = (subst (λ (ks : List Word). Reads (expr_at m) ks after_expr unplaced (unplaced t)) (sym (bare_part t)) (whole t c.0 m (omega arith)), all_read ts c.1 m (omega arith))
+all_read (a_tree t ts) c m le = (
+  subst (λ (ks : List PrintedToken). Reads (expr_at m) ks after_expr unplaced (unplaced t)) (sym (bare_part t))
+      (whole t c.0 m (omega arith)),
+  all_read ts c.1 m (omega arith),
+)
 
 exprs_read : (t : Tree) (ts : Trees) → Claim t → AllClaim ts → (m : ℕ) → levels t ≤ m → most ts ≤ m → Reads (read_exprs (expr_at m))
     (separated (Printed.sym syms.Comma) (part_words 8 8 (a_tree t ts))) (Only close_paren) (map unplaced) (unplaced t ∷ list_of (unplaced_trees ts))
@@ -137,7 +140,8 @@ exprs_read t ts c cs m le les =
     list_reads (expr_at m) (expr_small m) after_list (Only close_paren) unplaced refl refl refl (enclosed (leb (layers_of t) 8) (words t)) (unplaced t)
     (part_words 8 8 ts) (list_of (unplaced_trees ts)) a.0 a.1
 
-opens_list : (t : Tree) (xs : List (List Word)) (ks : List Word) → Claim t → Avoids close_paren (separated (Printed.sym syms.Comma) (enclosed (leb (layers_of t) 8) (words t) ∷ xs) ++ ks)
+opens_list : (t : Tree) (xs : List (List PrintedToken)) (ks : List PrintedToken) → Claim t
+    → Avoids close_paren (separated (Printed.sym syms.Comma) (enclosed (leb (layers_of t) 8) (words t) ∷ xs) ++ ks)
 opens_list t [] ks c = avoids_front close_paren (enclosed (leb (layers_of t) 8) (words t)) ks (opens_part t c 8)
 opens_list t (x ∷ xs) ks c = avoids_front close_paren (separated (Printed.sym syms.Comma) (enclosed (leb (layers_of t) 8) (words t) ∷ (x ∷ xs))) ks
     (avoids_front close_paren (enclosed (leb (layers_of t) 8) (words t)) (Printed.sym syms.Comma ∷ separated (Printed.sym syms.Comma) (x ∷ xs)) (opens_part t c 8))
@@ -177,7 +181,7 @@ not_stands p a c (suc m) le = reads_first (symbol_code syms.Tilde ∷ []) _
     (Op 0 prims.Not (a_tree (unplaced a) no_tree)) (part a c 0 m (omega arith) le) (λ x e. ap (λ (z : Tree). Op 0 prims.Not (a_tree z no_tree)) e)) refl) refl
 
 inner_read : (a : Tree) → Claim a → (m : ℕ) → lifted 8 (layers_of a) (levels a) ≤ m → Reads (expr_at m) (enclosed (leb (layers_of a) 8) (words a)) after_expr unplaced (unplaced a)
-inner_read a c m le = subst (λ (ks : List Word). Reads (expr_at m) ks after_expr unplaced (unplaced a)) (sym (bare_part a))
+inner_read a c m le = subst (λ (ks : List PrintedToken). Reads (expr_at m) ks after_expr unplaced (unplaced a)) (sym (bare_part a))
     (whole a c m (subst (λ (b : Bool). cond b (levels a) (suc (levels a)) ≤ m) (le-leb (layers_of a) 8 (own_small a)) le))
 
 cat_stands : (p : ℕ) (a b : Tree) → Claim a → Claim b → (m : ℕ) → lifted 8 (layers_of a) (levels a) ≤ m → lifted 8 (layers_of b) (levels b) ≤ m → Stands 0 m
@@ -185,7 +189,7 @@ cat_stands : (p : ℕ) (a b : Tree) → Claim a → Claim b → (m : ℕ) → li
 unfolding read_chain read_unary read_primary read_cat
 cat_stands p a b c d m le lf =
     let both = append_assoc (enclosed (leb (layers_of a) 8) (words a)) (Printed.sym syms.Comma ∷ enclosed (leb (layers_of b) 8) (words b)) (Printed.sym syms.CloseParen ∷ []) in
-    subst (λ (ks : List Word). Reads (chain_at 0 m) (Printed.key keys.Cat ∷ (Printed.sym syms.OpenParen ∷ ks)) (behind 0) unplaced
+    subst (λ (ks : List PrintedToken). Reads (chain_at 0 m) (Printed.key keys.Cat ∷ (Printed.sym syms.OpenParen ∷ ks)) (behind 0) unplaced
     (Op 0 prims.Cat (a_tree (unplaced a) (a_tree (unplaced b) no_tree)))) (sym both)
     (reads_narrowed Every
     (reads_second (symbol_code syms.Tilde ∷ []) _ (reads_second (2 ∷ []) _
@@ -217,7 +221,7 @@ bits_stands p h l a hh hl c m le =
     (λ (z : ℕ). Op 0 (prims.Bits h z) (a_tree (unplaced a) no_tree)) ej)) refl) refl) refl) refl) refl) refl) refl) refl) (avoids _ _ refl))
     (avoids _ _ refl)) (avoids _ _ refl)) (avoids _ _ refl)) (avoids _ _ refl)) (avoids _ _ refl)) refl
 
-ext_stands : (p n : ℕ) (a : Tree) → is_width n ≡ true → Claim a → (m : ℕ) → lifted 8 (layers_of a) (levels a) ≤ m → Stands 0 m
+ext_stands : (p n : ℕ) (a : Tree) → is_written_width n ≡ true → Claim a → (m : ℕ) → lifted 8 (layers_of a) (levels a) ≤ m → Stands 0 m
     (words (Op p (prims.Ext n) (a_tree a no_tree))) (Op 0 (prims.Ext n) (a_tree (unplaced a) no_tree))
 unfolding read_chain read_unary read_primary read_ext
 ext_stands p n a hn c m le =
@@ -267,7 +271,7 @@ binds_back : (bs : Binds) → binds_of (bounds_in bs) ≡ bs
 binds_back no_bind = refl
 binds_back (a_bind p x w t bs) = ap (a_bind p x w t) (binds_back bs)
 
-written_read : (w : Option ℕ) → FitsWritten w → Reads read_written (written w) (Only (symbol_code syms.Assign ∷ [])) (λ (o : Option ℕ). o) w
+written_read : (w : Option ℕ) → FitsWritten w → Reads read_written (width_words w) (Only (symbol_code syms.Assign ∷ [])) (λ (o : Option ℕ). o) w
 unfolding read_written
 written_read None h = reads_none (symbol_code syms.Colon ∷ []) _ (reads_nothing (Only (symbol_code syms.Assign ∷ [])) (λ (o : Option ℕ). o) None None refl) refl
 written_read (Some n) h = reads_narrowed Every (reads_first (symbol_code syms.Colon ∷ []) _
@@ -278,7 +282,7 @@ abbrev bound_at : ℕ → List ℕ → Option ℕ → Tree → Bound
 bound_at p x w t = record { place = p; name = x; width = w; value = t }
 
 bind_read : (x : List ℕ) (w : Option ℕ) (t : Tree) → Claim t → FitsWritten w → (m : ℕ) → levels t ≤ m → Reads (read_bind (expr_at m))
-    (Printed.name x ∷ (written w ++ (Printed.sym syms.Assign ∷ words t))) after_expr unplaced_bound (record { place = 0; name = x; width = w; value = unplaced t })
+    (Printed.name x ∷ (width_words w ++ (Printed.sym syms.Assign ∷ words t))) after_expr unplaced_bound (record { place = 0; name = x; width = w; value = unplaced t })
 unfolding read_bind
 bind_read x w t c f m le =
     reads_then (reads_name x) (λ y e. reads_then (written_read w f)
@@ -303,7 +307,7 @@ binds_read no_bind h c m le = absurd h
 binds_read (a_bind p x w t bs) h c m le =
     let a = all_bound (a_bind p x w t bs) c m le in
     list_reads (read_bind (expr_at m)) (bind_small m) after_list (Only (word_code keys.In ∷ [])) unplaced_bound refl refl refl
-    (Printed.name x ∷ (written w ++ (Printed.sym syms.Assign ∷ words t))) (record { place = 0; name = x; width = w; value = unplaced t })
+    (Printed.name x ∷ (width_words w ++ (Printed.sym syms.Assign ∷ words t))) (record { place = 0; name = x; width = w; value = unplaced t })
     (bind_words bs) (bounds_in (unplaced_binds bs)) a.0 a.1
 
 binding_read : (p : ℕ) (bs : Binds) (t : Tree) → HasBinding bs → AllBound bs → Claim t → (m : ℕ) → most_bind bs ≤ m → levels t ≤ m → Reads
@@ -350,7 +354,7 @@ label_read (Op p o ts) h = absurd h
 label_read (Call p f ts) h = absurd h
 
 -- a labelled arm, or the default
-first_label : (l : Tree) (ks : List Word) → IsLabel l → (q : Reading Terminal ArmList) {p : Reading Terminal ArmList} {F : Set} {v : Arms} → Reads p
+first_label : (l : Tree) (ks : List PrintedToken) → IsLabel l → (q : Reading Terminal ArmList) {p : Reading Terminal ArmList} {F : Set} {v : Arms} → Reads p
     (words l ++ ks) F arms_shown v → Reads (read_either (comes (2 ∷ 3 ∷ [])) p q) (words l ++ ks) F arms_shown v
 first_label (Number p n) ks h q a = reads_first (2 ∷ 3 ∷ []) _ a refl
 first_label (Sized p w n) ks h q a = reads_first (2 ∷ 3 ∷ []) _ a refl
@@ -442,7 +446,7 @@ bits_claim p h l (a_tree a no_tree) n hh hl c = primary_claim (Op p (prims.Bits 
     (plain_first _ _ refl refl refl) (λ m le. bits_stands p h l a hh hl c.0 m (omega arith))
 bits_claim p h l (a_tree a (a_tree b ts)) n hh hl c = absurd (omega (arith, n))
 
-ext_claim : (p x : ℕ) (ts : Trees) → count ts ≡ 1 → is_width x ≡ true → AllClaim ts → Claim (Op p (prims.Ext x) ts)
+ext_claim : (p x : ℕ) (ts : Trees) → count ts ≡ 1 → is_written_width x ≡ true → AllClaim ts → Claim (Op p (prims.Ext x) ts)
 ext_claim p x no_tree n h c = absurd (omega (arith, n))
 ext_claim p x (a_tree a no_tree) n h c = primary_claim (Op p (prims.Ext x) (a_tree a no_tree)) refl (omega arith) (avoids _ _ refl)
     (plain_first _ _ refl refl refl) (λ m le. ext_stands p x a h c.0 m (omega arith))

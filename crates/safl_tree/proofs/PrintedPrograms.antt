@@ -15,16 +15,16 @@ use Rattle.safl_tree.specs.Tree.{Parameter, Definition}
 use Rattle.safl_tree.specs.Terminals.{Terminal, terminals}
 use Rattle.safl_tree.specs.Codes.{code, code_of, comes, word_code, symbol_code, marked, name, number}
 use Rattle.safl_tree.specs.Grammar
-use Rattle.safl_tree.specs.Grammar.{is_width, fits_width}
-use Rattle.safl_tree.specs.Reader.{read_width, read_param, read_another_param, read_params, read_one, read_another_one, read_group, read_ended}
-use Rattle.safl_tree.specs.Reader.{read_another_group, read_program, read_source, expr_at, close_paren, comma}
+use Rattle.safl_tree.specs.Grammar.{fits_width}
+use Rattle.safl_tree.specs.Reader.{read_param, read_another_param, read_params, read_one, read_another_one, read_group, read_ended}
+use Rattle.safl_tree.specs.Reader.{read_another_group, read_program, read_source, expr_at, close_paren}
 use Rattle.safl_tree.specs.Printable.{IsFormedParameter, AreFormedParameters, IsFormedDefinition, AreFormedDefinitions, AllKeepLevels, OpensGroup, IsPrintable}
 use Rattle.safl_tree.specs.Source.{SpellsProgram}
 use Rattle.safl_tree.proofs.Leaves.{after_expr}
 use Rattle.safl_tree.proofs.KeptLevels.{both_levels}
 use Rattle.safl_tree.proofs.Programs.{another_one_parses, another_group_parses, spelled}
 use Rattle.safl_tree.specs.Printed
-use Rattle.safl_tree.specs.Printed.{Word, separated, param_words, one_words, opening, printed}
+use Rattle.safl_tree.specs.Printed.{separated, param_words, one_words, opening_word, printed}
 use Rattle.safl_tree.specs.Places.{unplaced, unplaced_parameter, unplaced_definition, unplaced_program}
 use Rattle.safl_tree.proofs.Readings.{Reads, words_in, first_of, cut, nil_of, kind_is, next_within, fits_next, AllRead, list_reads, reads_nothing}
 use Rattle.safl_tree.proofs.Readings.{reads_then, reads_first, reads_none, reads_narrowed, reads_give, reads_key, reads_symbol, reads_name}
@@ -124,7 +124,7 @@ next_fits : (ds : List Definition) → fits_next after_expr (program_words ds) (
 next_fits [] = refl
 next_fits (d ∷ ds) = go d.joined
   where
-    go : (b : Bool) → within after_expr (code_of (opening b).kind) ≡ true
+    go : (b : Bool) → within after_expr (code_of (opening_word b).kind) ≡ true
     go true = refl
     go false = refl
 
@@ -179,7 +179,7 @@ first_ends : (d : Definition) (ds acc : List Definition) (w : List Terminal) →
     (unplaced_program more ++ unplaced_program ds)) → (comes and_key (head_of w) ≡ false) ×
     (comes (symbol_code syms.Semicolon ∷ []) (head_of w) ≡ false) × Ends (outer acc w) (unplaced_program acc ++ unplaced_program (d ∷ ds))
 first_ends d ds acc w j f e rest =
-    let e' : words_in w ≡ (Printed.key keys.Fun ∷ one_words d) ++ program_words ds = e ∙ ap (λ (b : Bool). opening b ∷ (one_words d ++ program_words ds)) j in
+    let e' : words_in w ≡ (Printed.key keys.Fun ∷ one_words d) ++ program_words ds = e ∙ ap (λ (b : Bool). opening_word b ∷ (one_words d ++ program_words ds)) j in
     let h = first_of w (Printed.key keys.Fun) (one_words d ++ program_words ds) e' in
     let c = cut w (Printed.key keys.Fun ∷ one_words d) (program_words ds) e' in
     let back : c.back ++ [] ≡ c.back = append-nil c.back in
@@ -203,7 +203,7 @@ joined_ends : (d : Definition) (ds acc : List Definition) (w : List Terminal) �
     ((more : List Definition) (v : List Terminal) → words_in v ≡ program_words ds → Ends (rest_of (inner more v))
     (unplaced_program more ++ unplaced_program ds)) → Ends (rest_of (inner acc w)) (unplaced_program acc ++ unplaced_program (d ∷ ds))
 joined_ends d ds acc w j f e rest =
-    let e' : words_in w ≡ (Printed.key keys.And ∷ one_words d) ++ program_words ds = e ∙ ap (λ (b : Bool). opening b ∷ (one_words d ++ program_words ds)) j in
+    let e' : words_in w ≡ (Printed.key keys.And ∷ one_words d) ++ program_words ds = e ∙ ap (λ (b : Bool). opening_word b ∷ (one_words d ++ program_words ds)) j in
     let h = first_of w (Printed.key keys.And) (one_words d ++ program_words ds) e' in
     let c = cut w (Printed.key keys.And ∷ one_words d) (program_words ds) e' in
     let back : c.back ++ [] ≡ c.back = append-nil c.back in

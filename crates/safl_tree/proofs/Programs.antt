@@ -46,12 +46,12 @@ after_group = 0 ∷ word_code keys.Fun ∷ []
 abbrev after_one : List ℕ
 after_one = word_code keys.And ∷ symbol_code syms.Semicolon ∷ after_group
 
-ended_parses : (ds : List Definition) → Parses code (read_ended ds) (Grammar.ended ds) (Grammar.ended ds) true (Only semicolon) (Only []) (Only after_group)
+ended_parses : (ds : List Definition) → Parses code (read_ended ds) (Grammar.ended_group ds) (Grammar.ended_group ds) true (Only semicolon) (Only []) (Only after_group)
 unfolding read_ended
 ended_parses ds = or_else (Only semicolon) (then (a_symbol syms.Semicolon) (λ s. parses_nothing code ds (Only after_group)) refl refl) (parses_nothing code ds (Only after_group)) refl refl refl refl
 
 module _ (pe : Reading Terminal Tree) (se ce : Syntax Terminal Tree) (e : Parses code pe se ce false starts Every after_expr) where
-  one_parses : (joins : Bool) → Parses code (read_one joins pe) (Grammar.one joins se) (Grammar.one joins ce) false (Only (1 ∷ [])) (Only []) (Only after_one)
+  one_parses : (joins : Bool) → Parses code (read_one joins pe) (Grammar.one_definition joins se) (Grammar.one_definition joins ce) false (Only (1 ∷ [])) (Only []) (Only after_one)
   unfolding read_one
   one_parses joins = then a_name (λ x. then (a_symbol syms.OpenParen)
       (λ opened. then params_parses (λ ps. then (a_symbol syms.CloseParen)

@@ -1,6 +1,6 @@
 -- The words of a program are tokens, and its text is cut into them.
-use Rattle.std.proofs.Common.{◌≡◌, ℕ, zero, suc, ◌+◌, ◌-◌, ◌*◌, ◌^◌, ◌<◌, ◌≤◌, Bool, true, false, List, [], ◌∷◌, ◌++◌, map, length, take, drop}
-use Rattle.std.proofs.Common.{Option, Some, None, refl, sym, ap, subst, ◌∙◌, append_assoc, length-append, arith}
+use Rattle.std.proofs.Common.{◌≡◌, ℕ, ◌+◌, ◌-◌, ◌^◌, ◌<◌, ◌≤◌, Bool, true, false, List, [], ◌∷◌, ◌++◌, map, length, take, drop}
+use Rattle.std.proofs.Common.{Option, Some, None, refl, sym, ap, ◌∙◌, append_assoc, length-append, arith}
 use Rattle.std.specs.Prelude.{nat_le}
 use Rattle.std.proofs.lemmas.Bool.{leb-true}
 use Rattle.std.proofs.lemmas.List.{map-append}
@@ -15,54 +15,53 @@ use Rattle.safl_word.specs.Spacing.{Spaced, AreSpaced, spaced_text, spaced_token
 use Rattle.safl_word.proofs.BlanksEndTokens.{number_token, size_token}
 use Rattle.safl_tree.specs.Tree.{Tree, Number, Sized, Variable, If, Let, Cases, Op, Call, Trees, no_tree, a_tree, Binds, no_bind, a_bind, Arms, default_arm, an_arm, Parameter, Definition}
 use Rattle.safl_tree.specs.Terminals.{terminals}
-use Rattle.safl_tree.specs.Grammar.{is_width}
+use Rattle.safl_tree.specs.Grammar.{is_written_width}
 use Rattle.safl_tree.specs.Printable.{layers_of, left_context, right_context, InRange, IsLabel, FitsWritten, IsFormed, AreFormed, AreFormedBinds, AreFormedArms}
 use Rattle.safl_tree.specs.Printable.{AreFormedParameters, IsFormedDefinition, AreFormedDefinitions}
 use Rattle.safl_tree.specs.Printed
-use Rattle.safl_word.specs.Operators.{symbol_of}
-use Rattle.safl_tree.specs.Printed.{Word, separated, enclosed, applied, written, words, part_words, bind_words, arm_words, param_words, one_words, opening, spaced, line, printed}
+use Rattle.safl_tree.specs.Printed.{PrintedToken, separated, enclosed, applied, width_words, words, part_words, bind_words, arm_words, param_words, one_words, opening_word, spaced, line, printed}
 use Rattle.safl_tree.proofs.Readings.{words_in}
 
 -- ---- words are tokens
 
-abbrev pub Genuine : List Word → Type 0
+abbrev pub Genuine : List PrintedToken → Type 0
 Genuine [] = Unit {0}
 Genuine (x ∷ xs) = IsToken x.kind x.text × Genuine xs
 
-abbrev AllGenuine : List (List Word) → Type 0
+abbrev AllGenuine : List (List PrintedToken) → Type 0
 AllGenuine [] = Unit {0}
 AllGenuine (x ∷ xs) = Genuine x × AllGenuine xs
 
-pub joins : (u v : List Word) → Genuine u → Genuine v → Genuine (u ++ v)
+pub joins : (u v : List PrintedToken) → Genuine u → Genuine v → Genuine (u ++ v)
 joins [] v a b = b
 joins (x ∷ u) v a b = (a.0, joins u v a.1 b)
 
-separates : (s : Word) → IsToken s.kind s.text → (xs : List (List Word)) → AllGenuine xs → Genuine (separated s xs)
+separates : (s : PrintedToken) → IsToken s.kind s.text → (xs : List (List PrintedToken)) → AllGenuine xs → Genuine (separated s xs)
 separates s h [] a = tt
 separates s h (x ∷ []) a = a.0
 separates s h (x ∷ y ∷ xs) a = joins x (s ∷ separated s (y ∷ xs)) a.0 (h, separates s h (y ∷ xs) a.1)
 
-comma_separates : (xs : List (List Word)) → AllGenuine xs → Genuine (separated (Printed.sym syms.Comma) xs)
+comma_separates : (xs : List (List PrintedToken)) → AllGenuine xs → Genuine (separated (Printed.sym syms.Comma) xs)
 comma_separates xs a = separates (Printed.sym syms.Comma) refl xs a
 
-encloses : (b : Bool) (ks : List Word) → Genuine ks → Genuine (enclosed b ks)
+encloses : (b : Bool) (ks : List PrintedToken) → Genuine ks → Genuine (enclosed b ks)
 encloses true ks a = a
 encloses false ks a = (refl, joins ks (Printed.sym syms.CloseParen ∷ []) a (refl, tt))
 
-width_small : (n : ℕ) → is_width n ≡ true → n < 2 ^ 128
+width_small : (n : ℕ) → is_written_width n ≡ true → n < 2 ^ 128
 width_small n h = let k = within_width n h in omega (arith, k)
   where
-    within_width : (n : ℕ) → is_width n ≡ true → n ≤ width_max
+    within_width : (n : ℕ) → is_written_width n ≡ true → n ≤ width_max
     within_width n h = leb-true n width_max (go (nat_le 1 n) (nat_le n width_max) h)
       where
         go : (a b : Bool) → Rattle.std.proofs.Common.cond a b false ≡ true → b ≡ true
         go true b h = h
         go false b h = absurd cc
 
-width_word : (n : ℕ) → is_width n ≡ true → IsToken (kinds.Num n) (Printed.number_word n).text
+width_word : (n : ℕ) → is_written_width n ≡ true → IsToken (kinds.Num n) (Printed.number_word n).text
 width_word n h = number_token n (width_small n h)
 
-applies : (o : Primitive) (parts : List (List Word)) → InRange o → AllGenuine parts → Genuine (applied o parts)
+applies : (o : Primitive) (parts : List (List PrintedToken)) → InRange o → AllGenuine parts → Genuine (applied o parts)
 applies prims.Not parts r a = (refl, comma_separates parts a)
 applies prims.Cat parts r a = (refl, (refl, joins (separated (Printed.sym syms.Comma) parts) (Printed.sym syms.CloseParen ∷ []) (comma_separates parts a) (refl, tt)))
 applies (prims.Bits h l) parts r a = (
@@ -92,7 +91,7 @@ applies prims.And parts r a = separates (Printed.sym syms.Ampersand) refl parts 
 applies prims.Xor parts r a = separates (Printed.sym syms.Caret) refl parts a
 applies prims.Or parts r a = separates (Printed.sym syms.Bar) refl parts a
 
-writes : (w : Option ℕ) → FitsWritten w → Genuine (written w)
+writes : (w : Option ℕ) → FitsWritten w → Genuine (width_words w)
 writes None h = tt
 writes (Some n) h = (refl, (width_word n h, tt))
 
@@ -123,7 +122,7 @@ mutual
 
   genuine_binds : (bs : Binds) → AreFormedBinds bs → AllGenuine (bind_words bs)
   genuine_binds no_bind f = tt
-  genuine_binds (a_bind p x w t bs) f = ((f.0, joins (written w) _ (writes w f.1) (refl, genuine t f.2)), genuine_binds bs f.3)
+  genuine_binds (a_bind p x w t bs) f = ((f.0, joins (width_words w) _ (writes w f.1) (refl, genuine t f.2)), genuine_binds bs f.3)
 
   genuine_arms : (arms : Arms) → AreFormedArms arms → Genuine (arm_words arms)
   genuine_arms (default_arm t) f = (refl, (refl, genuine t f))
@@ -143,26 +142,26 @@ genuine_one d f = (
   ),
 )
 
-opens : (b : Bool) → IsToken (opening b).kind (opening b).text
+opens : (b : Bool) → IsToken (opening_word b).kind (opening_word b).text
 opens true = refl
 opens false = refl
 
 -- ---- the words of a whole program, and its text
 
-abbrev pub program_words : List Definition → List Word
+abbrev pub program_words : List Definition → List PrintedToken
 program_words [] = []
-program_words (d ∷ ds) = opening d.joined ∷ (one_words d ++ program_words ds)
+program_words (d ∷ ds) = opening_word d.joined ∷ (one_words d ++ program_words ds)
 
 -- a line of words: the last has a line feed after it, and any other a space
-abbrev lined : Word → List Word → List Spaced
+abbrev lined : PrintedToken → List PrintedToken → List Spaced
 lined x [] = record { kind = x.kind; text = x.text; blank = 10 } ∷ []
 lined x (y ∷ ys) = record { kind = x.kind; text = x.text; blank = 32 } ∷ lined y ys
 
 abbrev pub pieces : List Definition → List Spaced
 pieces [] = []
-pieces (d ∷ ds) = lined (opening d.joined) (one_words d) ++ pieces ds
+pieces (d ∷ ds) = lined (opening_word d.joined) (one_words d) ++ pieces ds
 
-lined_text : (x : Word) (ys : List Word) → spaced_text (lined x ys) ≡ x.text ++ (spaced ys ++ (10 ∷ []))
+lined_text : (x : PrintedToken) (ys : List PrintedToken) → spaced_text (lined x ys) ≡ x.text ++ (spaced ys ++ (10 ∷ []))
 lined_text x [] = refl
 lined_text x (y ∷ ys) = ap (λ (l : List ℕ). x.text ++ (32 ∷ l)) (lined_text y ys ∙ sym (append_assoc y.text (spaced ys) (10 ∷ [])))
 
@@ -173,11 +172,11 @@ text_append (x ∷ xs) ys = ap (λ (l : List ℕ). x.text ++ (x.blank ∷ l)) (t
 pub pieces_text : (ds : List Definition) → spaced_text (pieces ds) ≡ printed ds
 pieces_text [] = refl
 pieces_text (d ∷ ds) =
-    text_append (lined (opening d.joined) (one_words d)) (pieces ds)
-    ∙ ap (λ (l : List ℕ). l ++ spaced_text (pieces ds)) (lined_text (opening d.joined) (one_words d))
+    text_append (lined (opening_word d.joined) (one_words d)) (pieces ds)
+    ∙ ap (λ (l : List ℕ). l ++ spaced_text (pieces ds)) (lined_text (opening_word d.joined) (one_words d))
     ∙ ap (λ (l : List ℕ). line d ++ l) (pieces_text ds)
 
-lined_spaced : (x : Word) (ys : List Word) → IsToken x.kind x.text → Genuine ys → AreSpaced (lined x ys)
+lined_spaced : (x : PrintedToken) (ys : List PrintedToken) → IsToken x.kind x.text → Genuine ys → AreSpaced (lined x ys)
 lined_spaced x [] h g = (record { token = h; blank = refl }, tt)
 lined_spaced x (y ∷ ys) h g = (record { token = h; blank = refl }, lined_spaced y ys g.0 g.1)
 
@@ -187,29 +186,29 @@ spaced_append (x ∷ xs) ys a b = (a.0, spaced_append xs ys a.1 b)
 
 pub pieces_spaced : (ds : List Definition) → AreFormedDefinitions ds → AreSpaced (pieces ds)
 pieces_spaced [] f = tt
-pieces_spaced (d ∷ ds) f = spaced_append (lined (opening d.joined) (one_words d)) (pieces ds)
-    (lined_spaced (opening d.joined) (one_words d) (opens d.joined) (genuine_one d f.0)) (pieces_spaced ds f.1)
+pieces_spaced (d ∷ ds) f = spaced_append (lined (opening_word d.joined) (one_words d)) (pieces ds)
+    (lined_spaced (opening_word d.joined) (one_words d) (opens d.joined) (genuine_one d f.0)) (pieces_spaced ds f.1)
 
-abbrev piece_word : Spaced → Word
+abbrev piece_word : Spaced → PrintedToken
 piece_word x = record { kind = x.kind; text = x.text }
 
-lined_words : (x : Word) (ys : List Word) → map piece_word (lined x ys) ≡ x ∷ ys
+lined_words : (x : PrintedToken) (ys : List PrintedToken) → map piece_word (lined x ys) ≡ x ∷ ys
 lined_words x [] = refl
-lined_words x (y ∷ ys) = ap (λ (l : List Word). x ∷ l) (lined_words y ys)
+lined_words x (y ∷ ys) = ap (λ (l : List PrintedToken). x ∷ l) (lined_words y ys)
 
 pieces_words : (ds : List Definition) → map piece_word (pieces ds) ≡ program_words ds
 pieces_words [] = refl
 pieces_words (d ∷ ds) =
-    map-append piece_word (lined (opening d.joined) (one_words d)) (pieces ds)
-    ∙ ap (λ (l : List Word). l ++ map piece_word (pieces ds)) (lined_words (opening d.joined) (one_words d))
-    ∙ ap (λ (l : List Word). opening d.joined ∷ (one_words d ++ l)) (pieces_words ds)
+    map-append piece_word (lined (opening_word d.joined) (one_words d)) (pieces ds)
+    ∙ ap (λ (l : List PrintedToken). l ++ map piece_word (pieces ds)) (lined_words (opening_word d.joined) (one_words d))
+    ∙ ap (λ (l : List PrintedToken). opening_word d.joined ∷ (one_words d ++ l)) (pieces_words ds)
 
 -- the tokens of a spaced text have its words
 spaced_terminals : (xs : List Spaced) (front text : List ℕ) (p : ℕ) → p ≡ length front → text ≡ front ++ spaced_text xs → words_in (terminals text (spaced_tokens p xs)) ≡ map piece_word xs
 spaced_terminals [] front text p i j = refl
 spaced_terminals (x ∷ xs) front text p i j =
     ap (λ (b : List ℕ). record { kind = x.kind; text = b } ∷ words_in (terminals text (spaced_tokens (p + length x.text + 1) xs))) (sym bytes)
-    ∙ ap (λ (l : List Word). piece_word x ∷ l) (spaced_terminals xs (front ++ (x.text ++ (x.blank ∷ []))) text (p + length x.text + 1)
+    ∙ ap (λ (l : List PrintedToken). piece_word x ∷ l) (spaced_terminals xs (front ++ (x.text ++ (x.blank ∷ []))) text (p + length x.text + 1)
     (omega (arith, i, length-append front (x.text ++ (x.blank ∷ [])), length-append x.text (x.blank ∷ [])))
     (j ∙ ap (λ (l : List ℕ). front ++ l) (sym (append_assoc x.text (x.blank ∷ []) (spaced_text xs))) ∙ sym
     (append_assoc front (x.text ++ (x.blank ∷ [])) (spaced_text xs))))

@@ -4,6 +4,7 @@ pub mod Tree
 pub mod Grammar
 pub mod Reader
 pub mod Shown
+pub mod Opened
 pub mod Source
 pub mod Laws
 pub mod Printable

@@ -3,10 +3,10 @@ use Rattle.std.specs.Prelude.{◌≡◌, ℕ, suc, ◌+◌, ◌<◌, ◌≤◌, 
 use Rattle.safl_word.specs.declared.primitive.Primitive.{Primitive}
 use Rattle.safl_word.specs.declared.primitive.Primitive.TheVariants as prims
 use Rattle.safl_word.specs.Limits.{width_max, value_bound}
-use Rattle.safl_word.specs.Tokens.{IsName}
+use Rattle.safl_word.specs.Tokens.{IsSourceName}
 use Rattle.safl_word.specs.Operators.{layer_of}
 use Rattle.safl_tree.specs.Tree.{Tree, Number, Sized, Variable, If, Let, Cases, Op, Call, Trees, no_tree, a_tree, Binds, no_bind, a_bind, Arms, default_arm, an_arm, Parameter, Definition, depth}
-use Rattle.safl_tree.specs.Grammar.{is_width}
+use Rattle.safl_tree.specs.Grammar.{is_written_width}
 
 -- ---- well-formed programs
 
@@ -24,7 +24,7 @@ count (a_tree t ts) = 1 + count ts
 -- the numbers of an operator are in range
 abbrev pub InRange : Primitive → Type 0
 InRange (prims.Bits h l) = (h < width_max) × (l < width_max)
-InRange (prims.Ext n) = is_width n ≡ true
+InRange (prims.Ext n) = is_written_width n ≡ true
 InRange _ = Unit {0}
 
 abbrev pub HasBinding : Binds → Type 0
@@ -34,7 +34,7 @@ HasBinding (a_bind p x w t bs) = Unit {0}
 -- the expression is a label: a number or a sized number
 abbrev pub IsLabel : Tree → Type 0
 IsLabel (Number p n) = n < value_bound
-IsLabel (Sized p w n) = (is_width w ≡ true) × (n < value_bound)
+IsLabel (Sized p w n) = (is_written_width w ≡ true) × (n < value_bound)
 IsLabel (Variable p x) = ⊥
 IsLabel (If p c a b) = ⊥
 IsLabel (Let p bs t) = ⊥
@@ -45,19 +45,19 @@ IsLabel (Call p f ts) = ⊥
 -- a width is not written, or it is in range
 abbrev pub FitsWritten : Option ℕ → Type 0
 FitsWritten None = Unit {0}
-FitsWritten (Some w) = is_width w ≡ true
+FitsWritten (Some w) = is_written_width w ≡ true
 
 -- names are names of the source, operators have the right numbers of operands, each let has a binding, and numbers are in range
 abbrev mutual
   pub IsFormed : Tree → Type 0
   IsFormed (Number p n) = n < value_bound
-  IsFormed (Sized p w n) = (is_width w ≡ true) × (n < value_bound)
-  IsFormed (Variable p x) = IsName x
+  IsFormed (Sized p w n) = (is_written_width w ≡ true) × (n < value_bound)
+  IsFormed (Variable p x) = IsSourceName x
   IsFormed (If p c a b) = IsFormed c × IsFormed a × IsFormed b
   IsFormed (Let p bs t) = HasBinding bs × AreFormedBinds bs × IsFormed t
   IsFormed (Cases p e arms) = IsFormed e × AreFormedArms arms
   IsFormed (Op p o ts) = (count ts ≡ operands o) × InRange o × AreFormed ts
-  IsFormed (Call p f ts) = IsName f × AreFormed ts
+  IsFormed (Call p f ts) = IsSourceName f × AreFormed ts
 
   pub AreFormed : Trees → Type 0
   AreFormed no_tree = Unit {0}
@@ -65,7 +65,7 @@ abbrev mutual
 
   pub AreFormedBinds : Binds → Type 0
   AreFormedBinds no_bind = Unit {0}
-  AreFormedBinds (a_bind p x w t bs) = IsName x × FitsWritten w × IsFormed t × AreFormedBinds bs
+  AreFormedBinds (a_bind p x w t bs) = IsSourceName x × FitsWritten w × IsFormed t × AreFormedBinds bs
 
   pub AreFormedArms : Arms → Type 0
   AreFormedArms (default_arm t) = IsFormed t
@@ -176,14 +176,14 @@ KeepsLevels t = (levels t ≤ 100) × IsShallow t
 -- ---- programs
 
 abbrev pub IsFormedParameter : Parameter → Type 0
-IsFormedParameter p = IsName p.name × (is_width p.width ≡ true)
+IsFormedParameter p = IsSourceName p.name × (is_written_width p.width ≡ true)
 
 abbrev pub AreFormedParameters : List Parameter → Type 0
 AreFormedParameters [] = Unit {0}
 AreFormedParameters (p ∷ ps) = IsFormedParameter p × AreFormedParameters ps
 
 abbrev pub IsFormedDefinition : Definition → Type 0
-IsFormedDefinition d = IsName d.name × AreFormedParameters d.params × (is_width d.width ≡ true) × IsFormed d.body
+IsFormedDefinition d = IsSourceName d.name × AreFormedParameters d.params × (is_written_width d.width ≡ true) × IsFormed d.body
 
 abbrev pub AreFormedDefinitions : List Definition → Type 0
 AreFormedDefinitions [] = Unit {0}

@@ -17,38 +17,38 @@ use Rattle.safl_tree.specs.Printable.{left_context, right_context, layers_of}
 -- ---- tokens
 
 -- a token without its place: its kind and its text
-pub record Word : Type 0 where
+pub record PrintedToken : Type 0 where
   pub kind : TokenKind
   pub text : List ℕ
 
-abbrev pub key : Key → Word
+abbrev pub key : Key → PrintedToken
 key k = record { kind = kinds.Key k; text = key_text k }
 
-abbrev pub sym : Sym → Word
+abbrev pub sym : Sym → PrintedToken
 sym s = record { kind = kinds.Sym s; text = sym_text s }
 
-abbrev pub name : List ℕ → Word
+abbrev pub name : List ℕ → PrintedToken
 name x = record { kind = kinds.Name; text = x }
 
 -- the word of a number, in as few decimal digits as possible
-abbrev pub number_word : ℕ → Word
+abbrev pub number_word : ℕ → PrintedToken
 number_word n = record { kind = kinds.Num n; text = decimal n }
 
 -- ---- expressions
 
 -- words of several parts, with a word between each and the next
-abbrev pub separated : Word → List (List Word) → List Word
+abbrev pub separated : PrintedToken → List (List PrintedToken) → List PrintedToken
 separated s [] = []
 separated s (x ∷ []) = x
 separated s (x ∷ y ∷ xs) = x ++ (s ∷ separated s (y ∷ xs))
 
 -- words, in parentheses or not
-abbrev pub enclosed : Bool → List Word → List Word
+abbrev pub enclosed : Bool → List PrintedToken → List PrintedToken
 enclosed true ws = ws
 enclosed false ws = sym syms.OpenParen ∷ (ws ++ (sym syms.CloseParen ∷ []))
 
 -- the words of an operator and its operands
-abbrev pub applied : Primitive → List (List Word) → List Word
+abbrev pub applied : Primitive → List (List PrintedToken) → List PrintedToken
 applied prims.Not parts = sym syms.Tilde ∷ separated (sym syms.Comma) parts
 applied prims.Cat parts = key keys.Cat ∷ (sym syms.OpenParen ∷ (separated (sym syms.Comma) parts ++ (sym syms.CloseParen ∷ [])))
 applied (prims.Bits h l) parts = key keys.Bits ∷ (sym syms.OpenParen ∷ (separated (sym syms.Comma) parts ++ (sym syms.Comma ∷ (number_word h ∷ (sym syms.Comma ∷ (number_word l ∷ (sym syms.CloseParen ∷ [])))))))
@@ -56,13 +56,13 @@ applied (prims.Ext n) parts = key keys.Ext ∷ (sym syms.OpenParen ∷ (separate
 applied o parts = separated (sym (symbol_of o)) parts
 
 -- `:` and the width, if one is written
-abbrev pub written : Option ℕ → List Word
-written None = []
-written (Some w) = sym syms.Colon ∷ (number_word w ∷ [])
+abbrev pub width_words : Option ℕ → List PrintedToken
+width_words None = []
+width_words (Some w) = sym syms.Colon ∷ (number_word w ∷ [])
 
 -- the words of an expression, without parentheses around it
 abbrev mutual
-  pub words : Tree → List Word
+  pub words : Tree → List PrintedToken
   words (Number p n) = number_word n ∷ []
   words (Sized p w n) = record { kind = kinds.Sized w n; text = decimal w ++ codes "'d" ++ decimal n } ∷ []
   words (Variable p x) = name x ∷ []
@@ -74,60 +74,60 @@ abbrev mutual
 
   -- the words of operands, the first in a context of this many layers, and the others in one of this many. They have parentheses if
   -- they need more layers
-  pub part_words : ℕ → ℕ → Trees → List (List Word)
+  pub part_words : ℕ → ℕ → Trees → List (List PrintedToken)
   part_words k right no_tree = []
   part_words k right (a_tree t ts) = enclosed (nat_le (layers_of t) k) (words t) ∷ part_words right right ts
 
-  pub bind_words : Binds → List (List Word)
+  pub bind_words : Binds → List (List PrintedToken)
   bind_words no_bind = []
-  bind_words (a_bind p x w t bs) = (name x ∷ (written w ++ (sym syms.Assign ∷ words t))) ∷ bind_words bs
+  bind_words (a_bind p x w t bs) = (name x ∷ (width_words w ++ (sym syms.Assign ∷ words t))) ∷ bind_words bs
 
-  pub arm_words : Arms → List Word
+  pub arm_words : Arms → List PrintedToken
   arm_words (default_arm t) = key keys.Default ∷ (sym syms.Arrow ∷ words t)
   arm_words (an_arm l t arms) = words l ++ (sym syms.Arrow ∷ (words t ++ (sym syms.Comma ∷ arm_words arms)))
 
 -- the words of labelled arms
-abbrev pub labelled_words : List Labelled → List Word
+abbrev pub labelled_words : List Labelled → List PrintedToken
 labelled_words [] = []
 labelled_words (a ∷ arms) = words a.label ++ (sym syms.Arrow ∷ (words a.value ++ (sym syms.Comma ∷ labelled_words arms)))
 
 -- ---- programs
 
 -- the words of a definition without its `fun` or `and`
-abbrev pub one_words : Definition → List Word
+abbrev pub one_words : Definition → List PrintedToken
 one_words d =
     name d.name ∷ (sym syms.OpenParen
     ∷ (separated (sym syms.Comma) (map (λ (p : Parameter). name p.name ∷ (sym syms.Colon ∷ (number_word p.width ∷ []))) d.params)
     ++ (sym syms.CloseParen ∷ (sym syms.Colon ∷ (number_word d.width ∷ (sym syms.Assign ∷ words d.body))))))
 
 -- a joined definition begins with `and`, any other with `fun`
-abbrev pub opening : Bool → Word
-opening true = key keys.And
-opening false = key keys.Fun
+abbrev pub opening_word : Bool → PrintedToken
+opening_word true = key keys.And
+opening_word false = key keys.Fun
 
 -- ---- texts
 
-abbrev pub spaced : List Word → List ℕ
-spaced ws = flat_map (λ (x : Word). 32 ∷ x.text) ws
+abbrev pub spaced : List PrintedToken → List ℕ
+spaced ws = flat_map (λ (x : PrintedToken). 32 ∷ x.text) ws
 
 -- the line of a definition: its words with a space before each, and a line feed
 abbrev pub line : Definition → List ℕ
-line d = (opening d.joined).text ++ (flat_map (λ (x : Word). 32 ∷ x.text) (one_words d) ++ (10 ∷ []))
+line d = (opening_word d.joined).text ++ (flat_map (λ (x : PrintedToken). 32 ∷ x.text) (one_words d) ++ (10 ∷ []))
 
 abbrev pub printed : List Definition → List ℕ
 printed ds = flat_map line ds
 
 -- the text of these words is appended to what was there
-abbrev pub Writes : List ℕ → List ℕ → List Word → Type 0
+abbrev pub Writes : List ℕ → List ℕ → List PrintedToken → Type 0
 Writes old new ws = new ≡ old ++ spaced ws
 
 -- ---- parts by name
 
-abbrev pub sized : ℕ → ℕ → Word
+abbrev pub sized : ℕ → ℕ → PrintedToken
 sized w n = record { kind = kinds.Sized w n; text = decimal w ++ codes "'d" ++ decimal n }
 
-abbrev pub bound_words : List ℕ → Option ℕ → List Word → List Word
-bound_words x w value = name x ∷ (written w ++ (sym syms.Assign ∷ value))
+abbrev pub bound_words : List ℕ → Option ℕ → List PrintedToken → List PrintedToken
+bound_words x w value = name x ∷ (width_words w ++ (sym syms.Assign ∷ value))
 
-abbrev pub param_words : List Parameter → List (List Word)
+abbrev pub param_words : List Parameter → List (List PrintedToken)
 param_words ps = map (λ (p : Parameter). name p.name ∷ (sym syms.Colon ∷ (number_word p.width ∷ []))) ps

@@ -8,7 +8,7 @@ use Rattle.safl_word.specs.declared.token.Key.TheVariants as keys
 use Rattle.safl_word.specs.declared.token.Sym.{Sym}
 use Rattle.safl_word.specs.declared.token.Sym.TheVariants as syms
 use Rattle.safl_word.specs.declared.primitive.Primitive.TheVariants as prims
-use Rattle.safl_tree.specs.Tree.{Tree, Number, Sized, Variable, If, Let, Cases, Op, Call, Bound, Labelled, Parameter, Definition, trees_of, binds_of, arms_of, place_of, placed}
+use Rattle.safl_tree.specs.Tree.{Tree, Number, Sized, Variable, If, Let, Cases, Op, Call, Bound, Labelled, Parameter, Definition, trees_of, binds_of, arms_of, place_of, with_place}
 use Rattle.safl_tree.specs.Terminals.{Terminal, NameAt, NumberAt}
 use Rattle.safl_tree.specs.Codes.{word_code, symbol_code, comes, marked, name, number, sized, operators, operator}
 use Rattle.safl_tree.specs.Grammar.{shallow, fits_width, fits_sized, fits_index, ArmList}
@@ -73,7 +73,7 @@ read_named e = read_follows (read_token name) (λ f. read_either (comes open_par
 
 -- parenthesised := "(" e ")"
 unfoldable pub read_parenthesised : Reading Terminal Tree → Reading Terminal Tree
-read_parenthesised e = read_follows (read_symbol syms.OpenParen) (λ p. read_follows e (λ x. read_follows (read_symbol syms.CloseParen) (λ closed. read_nothing (placed p x))))
+read_parenthesised e = read_follows (read_symbol syms.OpenParen) (λ p. read_follows e (λ x. read_follows (read_symbol syms.CloseParen) (λ closed. read_nothing (with_place p x))))
 
 -- cat := "cat" "(" e "," e ")"
 unfoldable pub read_cat : Reading Terminal Tree → Reading Terminal Tree

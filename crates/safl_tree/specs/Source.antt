@@ -1,5 +1,5 @@
 -- Which program a source spells, and its first fault.
-use Rattle.std.specs.Prelude.{◌≡◌, ℕ, List, [], ◌∷◌, length}
+use Rattle.std.specs.Prelude.{◌≡◌, ℕ, List, length}
 use Rattle.std.specs.Option.{option_map_or}
 use Rattle.safl_grammar.specs.Syntax.{Deep, Unexpected, Range}
 use Rattle.safl_grammar.specs.Syntax

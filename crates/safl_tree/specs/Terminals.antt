@@ -43,8 +43,8 @@ abbrev pub named : TokenKind → NameAt → Option NameAt
 named kinds.Name x = Some x
 named _ x = None
 
-abbrev pub name_at : Terminal → Option NameAt
-name_at t = named t.kind (record { place = t.place; name = t.bytes })
+abbrev pub name_token : Terminal → Option NameAt
+name_token t = named t.kind (record { place = t.place; name = t.bytes })
 
 pub record NumberAt : Type 0 where
   pub place : ℕ

@@ -77,15 +77,15 @@ place_of (Op p o ts) = p
 place_of (Call p f ts) = p
 
 -- the expression with another place. An expression in parentheses has the place of the `(`
-abbrev pub placed : ℕ → Tree → Tree
-placed q (Number p n) = Number q n
-placed q (Sized p w n) = Sized q w n
-placed q (Variable p x) = Variable q x
-placed q (If p c a b) = If q c a b
-placed q (Let p bs t) = Let q bs t
-placed q (Cases p e arms) = Cases q e arms
-placed q (Op p o ts) = Op q o ts
-placed q (Call p f ts) = Call q f ts
+abbrev pub with_place : ℕ → Tree → Tree
+with_place q (Number p n) = Number q n
+with_place q (Sized p w n) = Sized q w n
+with_place q (Variable p x) = Variable q x
+with_place q (If p c a b) = If q c a b
+with_place q (Let p bs t) = Let q bs t
+with_place q (Cases p e arms) = Cases q e arms
+with_place q (Op p o ts) = Op q o ts
+with_place q (Call p f ts) = Call q f ts
 
 -- The depth of an expression. Numbers, variables, and calls without arguments have depth 1; any other expression is one deeper
 -- than its deepest part.

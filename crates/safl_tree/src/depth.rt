@@ -4,7 +4,8 @@ ghost use Rattle.std.specs.Prelude.{◌≤◌, ◌↔◌, IsTrue, max};
 ghost use Rattle.safl_tree.specs.Tree.{trees_of, binds_of, arms_of, depth, deepest, deepest_bind, deepest_arm};
 ghost use Rattle.safl_tree.specs.Shown.{shown_tree, shown_trees, shown_bounds, shown_labelled};
 
-use crate::tree::{Arm, Bind, Expr, Node};
+use crate::opened::{Opened, top};
+use crate::tree::{Arm, Bind, Expr};
 
 /// Whether an expression is at most `levels` deep. A `case` counts as the let and the ifs that it stands for. Nothing
 /// deeper is looked at.
@@ -16,13 +17,13 @@ pub fn is_within(e: &Expr, levels: u32) -> bool
         return false;
     }
     let below = levels - 1;
-    match &e.node {
-        Node::Num(_) | Node::Sized(_, _) | Node::Var(_) => true,
-        Node::If(condition, first, second) => is_choice_within(condition, first, second, below),
-        Node::Let(binds, body) => is_let_within(binds, body, below),
-        Node::Case(scrutinee, arms, default) => is_case_within(scrutinee, arms, default, below),
-        Node::Op(_, operands) => are_within(operands, below),
-        Node::Call(_, arguments) => are_within(arguments, below),
+    match top(e) {
+        Opened::Num(_) | Opened::Sized(_, _) | Opened::Var(_) => true,
+        Opened::If(condition, first, second) => is_choice_within(condition, first, second, below),
+        Opened::Let(binds, body) => is_let_within(binds, body, below),
+        Opened::Case(scrutinee, arms, default) => is_case_within(scrutinee, arms, default, below),
+        Opened::Op(_, operands) => are_within(operands, below),
+        Opened::Call(_, arguments) => are_within(arguments, below),
     }
 }
 

@@ -7,7 +7,7 @@ ghost use Rattle.safl_tree.specs.Printable.{is_binary, AllKeepLevels};
 ghost use Rattle.safl_tree.specs.Keeps.{Keeps, PartKeeps, PartsKeep, OperandsKeep, BindingsKeep, ArmsKeep};
 
 use crate::precedence::{is_binary, layers_of, left_context, right_context};
-use crate::{Arm, Bind, Expr, Node, Program};
+use crate::{Arm, Bind, Expr, Opened, Program, top};
 use safl_word::Primitive;
 
 // The levels that a text may have, and a depth that no expression exceeds whose text keeps them. The depth bounds the
@@ -42,14 +42,14 @@ fn keeps(e: &Expr, levels: u16, depth: u16) -> bool
         return false;
     }
     let depth = depth - 1;
-    match &e.node {
-        Node::Num(_) | Node::Sized(..) | Node::Var(_) => levels > 0,
-        Node::If(c, a, b) => levels > 0 && choice_keeps(c, a, b, levels - 1, depth),
-        Node::Let(bs, body) => levels > 0 && bindings_keep(bs, body, levels - 1, depth),
-        Node::Case(scrutinee, arms, default) => levels > 0
+    match top(e) {
+        Opened::Num(_) | Opened::Sized(..) | Opened::Var(_) => levels > 0,
+        Opened::If(c, a, b) => levels > 0 && choice_keeps(c, a, b, levels - 1, depth),
+        Opened::Let(bs, body) => levels > 0 && bindings_keep(bs, body, levels - 1, depth),
+        Opened::Case(scrutinee, arms, default) => levels > 0
             && cases_keep(scrutinee, arms, default, levels - 1, depth),
-        Node::Op(p, es) => operands_keep(*p, es, levels, depth),
-        Node::Call(_, es) => levels > 0 && parts_keep(es, 8, levels - 1, depth),
+        Opened::Op(p, es) => operands_keep(p, es, levels, depth),
+        Opened::Call(_, es) => levels > 0 && parts_keep(es, 8, levels - 1, depth),
     }
 }
 

@@ -1,6 +1,6 @@
 //! Printing expressions as tokens.
 
-ghost use Rattle.std.specs.Prelude.{◌≡◌, ◌∷◌, ◌++◌, [], OnOk, nat_le};
+ghost use Rattle.std.specs.Prelude.{OnOk, nat_le};
 ghost use Rattle.safl_tree.specs.Tree.{Op, Call, trees_of, binds_of};
 ghost use Rattle.safl_tree.specs.Printable.{layers_of};
 ghost use Rattle.safl_tree.specs.Shown.{shown_tree, shown_trees, shown_bounds, shown_labelled};

@@ -5,8 +5,8 @@ use Rattle.std.proofs.lemmas.Bool.{leb-true}
 use Rattle.std.proofs.lemmas.Option.{same_Some}
 use Rattle.safl_word.specs.Limits.{width_max}
 use Rattle.safl_tree.specs.Tree as source
-use Rattle.safl_tree.specs.Tree.{Tree, Trees, Binds, Arms, place_of, Parameter, Definition}
-use Rattle.safl_tree.specs.Grammar.{is_width}
+use Rattle.safl_tree.specs.Tree.{Tree, Trees, Binds, Arms, Parameter, Definition}
+use Rattle.safl_tree.specs.Grammar.{is_written_width}
 use Rattle.safl_tree.specs.Printable.{IsLabel, FitsWritten, IsFormed, AreFormed, AreFormedBinds, AreFormedArms, AreFormedParameters, AreFormedDefinitions}
 use Rattle.safl_typing.specs.Rewriting.{rewritten, rewritten_all, rewritten_binds, rewritten_arms}
 use Rattle.safl_typing.specs.Heads.{slot_of, unit_of, heads_from}
@@ -16,7 +16,7 @@ width_here : (b : Bool) (n : ℕ) → nat_le 1 n ≡ b → cond b (nat_le n widt
 width_here true n q e = record { some = leb-true 1 n q; bounded = leb-true n width_max e }
 width_here false n q e = absurd cc
 
-pub width_wide : (n : ℕ) → is_width n ≡ true → IsWide n
+pub width_wide : (n : ℕ) → is_written_width n ≡ true → IsWide n
 width_wide n e = width_here (nat_le 1 n) n refl e
 
 written_wide : (w : Option ℕ) → FitsWritten w → (v : ℕ) → w ≡ Some v → IsWide v

@@ -60,30 +60,33 @@ to_bound k n end_of-Bound h = tt
 to_bound k n (more_of-Bound p x w e row) h = (h.0, to_bound k _ row h.1)
 
 module _ (k : Known) (p : ℕ) (m : Marks) where
-  pub applied_parts : (o : Primitive) (es : Vec code.Expression Global) → IsMarked k (codes.Op p m o es) → AreMarked k es.items
+  pub applied_parts : (o : Primitive) (es : Vec code.Expression Global) → IsMarked k (codes.Op p m o es) → IsMarkOf k (Op p o (shown_expressions es.items)) m × AreMarked k es.items
   applied_parts o es h =
       let row = row_of (codes.Op p m o es) in
-      subst (AreMarked k) (items_hidden-the_row-Expression-1 es) (from_row k row.0 row.1 h.1)
+      (subst (λ (e : Expression). IsMarkOf k e m) (shown_expression-Op p m o es) h.0, subst (AreMarked k) (items_hidden-the_row-Expression-1 es) (from_row k row.0 row.1 h.1))
 
   pub applied_marked : (o : Primitive) (es : Vec code.Expression Global) → IsMarkOf k (Op p o (shown_expressions es.items)) m → AreMarked k es.items → IsMarked k (codes.Op p m o es)
   applied_marked o es h hs =
       let row = row_of (codes.Op p m o es) in
       (subst (λ (e : Expression). IsMarkOf k e m) (sym (shown_expression-Op p m o es)) h, to_row k row.0 row.1 (subst (AreMarked k) (sym (items_hidden-the_row-Expression-1 es)) hs))
 
-  pub called_parts : (f : List ℕ) (es : Vec code.Expression Global) → IsMarked k (codes.Call p m f es) → AreMarked k es.items
+  pub called_parts : (f : List ℕ) (es : Vec code.Expression Global) → IsMarked k (codes.Call p m f es) → IsMarkOf k (Call p f (shown_expressions es.items)) m × AreMarked k es.items
   called_parts f es h =
       let row = row_of (codes.Call p m f es) in
-      subst (AreMarked k) (items_hidden-the_row-Expression-1 es) (from_row k row.0 row.1 h.1)
+      (subst (λ (e : Expression). IsMarkOf k e m) (shown_expression-Call p m f es) h.0, subst (AreMarked k) (items_hidden-the_row-Expression-1 es) (from_row k row.0 row.1 h.1))
 
   pub called_marked : (f : List ℕ) (es : Vec code.Expression Global) → IsMarkOf k (Call p f (shown_expressions es.items)) m → AreMarked k es.items → IsMarked k (codes.Call p m f es)
   called_marked f es h hs =
       let row = row_of (codes.Call p m f es) in
       (subst (λ (e : Expression). IsMarkOf k e m) (sym (shown_expression-Call p m f es)) h, to_row k row.0 row.1 (subst (AreMarked k) (sym (items_hidden-the_row-Expression-1 es)) hs))
 
-  pub binding_parts : (bs : Vec Bound Global) (b : Box code.Expression Global) → IsMarked k (codes.Let p m bs b) → BoundMarked k bs.items × IsMarked k b.value
+  pub binding_parts : (bs : Vec Bound Global) (b : Box code.Expression Global) → IsMarked k (codes.Let p m bs b) → IsMarkOf k
+      (Let p (shown_bindings bs.items) (shown_expression b.value)) m × (BoundMarked k bs.items × IsMarked k b.value)
   binding_parts bs b h =
-      let row = bound_of (codes.Let p m bs b) in
-      (subst (BoundMarked k) (items_hidden-the_row-Bound-0 bs) (from_bound k row.0 row.1 h.1), h.2)
+      let row = bound_of (codes.Let p m bs b) in (
+        subst (λ (e : Expression). IsMarkOf k e m) (shown_expression-Let p m bs b) h.0,
+        (subst (BoundMarked k) (items_hidden-the_row-Bound-0 bs) (from_bound k row.0 row.1 h.1), h.2),
+      )
 
   pub binding_marked : (bs : Vec Bound Global) (b : Box code.Expression Global) → IsMarkOf k
       (Let p (shown_bindings bs.items) (shown_expression b.value)) m → BoundMarked k bs.items → IsMarked k b.value → IsMarked k (codes.Let p m bs b)
@@ -104,21 +107,3 @@ value_marked k bs y ys e h = let g : BoundMarked k (y ∷ ys) = subst (BoundMark
 
 pub others_marked : (k : Known) (bs : List Bound) (y : Bound) (ys : List Bound) → bs ≡ y ∷ ys → BoundMarked k bs → BoundMarked k ys
 others_marked k bs y ys e h = let g : BoundMarked k (y ∷ ys) = subst (BoundMarked k) e h in g.1
-
-module _ (k : Known) (e : code.Expression) (marked : IsMarked k e) (p : ℕ) (m : Marks) where
-  pub in_choice : (c a b : Box code.Expression Global) (x y z : code.Expression) → e ≡ codes.If p m c a b → x ≡ c.value → y ≡ a.value → z ≡ b.value → IsMarked k x × IsMarked k y × IsMarked k z
-  in_choice c a b x y z is ex ey ez =
-      let g : IsMarked k (codes.If p m c a b) = subst (IsMarked k) is marked in
-      (subst (IsMarked k) (sym ex) g.1, subst (IsMarked k) (sym ey) g.2, subst (IsMarked k) (sym ez) g.3)
-
-  pub in_binding : (bs : Vec Bound Global) (b : Box code.Expression Global) (cs : List Bound) (y : code.Expression) → e ≡ codes.Let p m bs b → cs ≡
-      bs.items → y ≡ b.value → BoundMarked k cs × IsMarked k y
-  in_binding bs b cs y is eb ey =
-      let g = binding_parts k p m bs b (subst (IsMarked k) is marked) in
-      (subst (BoundMarked k) (sym eb) g.0, subst (IsMarked k) (sym ey) g.1)
-
-  pub in_applied : (o : Primitive) (es : Vec code.Expression Global) (fs : List code.Expression) → e ≡ codes.Op p m o es → fs ≡ es.items → AreMarked k fs
-  in_applied o es fs is ef = subst (AreMarked k) (sym ef) (applied_parts k p m o es (subst (IsMarked k) is marked))
-
-  pub in_called : (f : List ℕ) (es : Vec code.Expression Global) (fs : List code.Expression) → e ≡ codes.Call p m f es → fs ≡ es.items → AreMarked k fs
-  in_called f es fs is ef = subst (AreMarked k) (sym ef) (called_parts k p m f es (subst (IsMarked k) is marked))

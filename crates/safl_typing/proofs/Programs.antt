@@ -6,7 +6,7 @@ use Rattle.std.specs.String.{string_bytes}
 use Rattle.std.proofs.lemmas.Option.{slice_get_cases, slice_get_within, slice_get-map, same_Some}
 use Rattle.safl_word.specs.Words.{no_word}
 use Rattle.safl_word.specs.Limits.{width_max, depth_max}
-use Rattle.safl_word.specs.Tokens.{IsName}
+use Rattle.safl_word.specs.Tokens.{IsSourceName}
 use Rattle.safl_term.specs.declared.checked.Function.{Function}
 use Rattle.safl_term.specs.declared.checked.Parameter as code
 use Rattle.safl_term.specs.declared.checked.Site.{Site}
@@ -68,9 +68,9 @@ widths_length d = by d.params
     by [] = refl
     by (p ∷ ps) = ap (λ n. suc n) (by ps)
 
-param_named : (ps : List Parameter) (i : ℕ) (name : List ℕ) → AreFormedParameters ps → slice_get (map (λ (p : Parameter). p.name) ps) i ≡ Some name → IsName name
+param_named : (ps : List Parameter) (i : ℕ) (name : List ℕ) → AreFormedParameters ps → slice_get (map (λ (p : Parameter). p.name) ps) i ≡ Some name → IsSourceName name
 param_named [] i name h e = absurd cc
-param_named (p ∷ ps) zero name h e = subst IsName (same_Some p.name name e) h.0.0
+param_named (p ∷ ps) zero name h e = subst IsSourceName (same_Some p.name name e) h.0.0
 param_named (p ∷ ps) (suc i) name h e = param_named ps i name h.1 e
 
 param_wide : (ps : List Parameter) (i w : ℕ) → AreFormedParameters ps → slice_get (widths_of (map (λ (p : Parameter). record { name = p.name; width = p.width }) ps)) i ≡ Some w → IsWide w
@@ -337,8 +337,8 @@ module _ (c : Tables) (ds : List Definition) (b : IsBased c ds) (shallow : AreSh
     depth = few_levels;
   }
 
-  named : (i : ℕ) → i < length c.functions → IsName (name_of c i)
-  named i l = let h = here c ds i b l in subst IsName (sym (fields c ds i h).name) (formed_at ds i h.def b.formed h.defined).0
+  named : (i : ℕ) → i < length c.functions → IsSourceName (name_of c i)
+  named i l = let h = here c ds i b l in subst IsSourceName (sym (fields c ds i h).name) (formed_at ds i h.def b.formed h.defined).0
 
   name_at : (i : ℕ) (h : Here c ds i) → slice_get (function_names ds) i ≡ Some h.def.name
   name_at i h = slice_get-map (λ (d : Definition). d.name) ds i ∙ ap (λ (o : Option Definition). option_map (λ (d : Definition). d.name) o) h.defined
@@ -364,7 +364,7 @@ module _ (c : Tables) (ds : List Definition) (b : IsBased c ds) (shallow : AreSh
   nothing_there [] i x e q = absurd cc
   nothing_there (y ∷ ys) i x e q = absurd cc
 
-  params_named : (f i : ℕ) (name : List ℕ) → slice_get (tables.param_names c f) i ≡ Some name → IsName name
+  params_named : (f i : ℕ) (name : List ℕ) → slice_get (tables.param_names c f) i ≡ Some name → IsSourceName name
   params_named f i name e = ⊎_elim
       (λ q. let h = here c ds f b q.2 in
       param_named h.def.params i name (formed_at ds f h.def b.formed h.defined).1 (subst (λ (l : List (List ℕ)). slice_get l i ≡ Some name) (fields c ds f h).param_names e))

@@ -4,7 +4,7 @@ use Rattle.safl_term.specs.Slots as slots
 use Rattle.safl_term.specs.Sizes as sizes
 use Rattle.safl_term.specs.Terms.{Term, Terms}
 use Rattle.safl_tree.specs.Tree as source
-use Rattle.safl_tree.specs.Tree.{Tree, Trees, Binds, Arms, place_of}
+use Rattle.safl_tree.specs.Tree.{Tree, Trees, Binds, Arms}
 use Rattle.safl_tree.specs.Printable.{IsLabel, HasBinding, IsFormed, AreFormed, AreFormedBinds, AreFormedArms}
 use Rattle.safl_typing.specs.Rewriting.{Expression, Number, Sized, Variable, If, Let, Op, Call, Expressions, no_expression, an_expression, Bindings}
 use Rattle.safl_typing.specs.Rewriting.{no_binding, a_binding, rewritten, rewritten_all, rewritten_binds, rewritten_arms}

@@ -442,19 +442,7 @@ call_is k s tail lo m p f es n h next e en =
     (check_all k s (suc lo) (exactly (widths_of h.params)) es) (λ r. settle p m h.width (terms.Call n lo r.terms))
     ∙ sym (ap (λ (i : ℕ). after (counted_arguments k s i p h es) (λ r. settle p m h.width (terms.Call n lo r.terms))) en)
 
--- ---- an expression by its parts
-
-pub choice_same : (e : Expression) (p : ℕ) (c a b c2 a2 b2 : code.Expression) → e ≡ If p (shown_expression c) (shown_expression a)
-    (shown_expression b) → c2 ≡ c → a2 ≡ a → b2 ≡ b → e ≡ If p (shown_expression c2) (shown_expression a2) (shown_expression b2)
-choice_same e p c a b c2 a2 b2 q x y z =
-    q ∙ sym (ap (λ (v : code.Expression). If p (shown_expression v) (shown_expression a) (shown_expression b)) x) ∙ sym
-    (ap (λ (v : code.Expression). If p (shown_expression c2) (shown_expression v) (shown_expression b)) y)
-    ∙ sym (ap (λ (v : code.Expression). If p (shown_expression c2) (shown_expression a2) (shown_expression v)) z)
-
-pub binding_same : (e : Expression) (p : ℕ) (bs cs : List Bound) (b c : code.Expression) → e ≡ Let p (shown_bindings bs) (shown_expression b) → cs ≡
-    bs → c ≡ b → e ≡ Let p (shown_bindings cs) (shown_expression c)
-binding_same e p bs cs b c q x y =
-    q ∙ sym (ap (λ (l : List Bound). Let p (shown_bindings l) (shown_expression b)) x) ∙ sym (ap (λ (v : code.Expression). Let p (shown_bindings cs) (shown_expression v)) y)
+-- ---- heads and refusals
 
 abbrev pub refusal : Fault → Result TypedAll Fault
 refusal f = Err f

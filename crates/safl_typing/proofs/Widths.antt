@@ -13,7 +13,7 @@ use Rattle.safl_term.specs.Terms.{Term, Terms}
 use Rattle.safl_term.specs.Program.{Program}
 use Rattle.safl_term.specs.WellFormed.{HasWidth, HaveWidths}
 use Rattle.safl_tree.specs.Tree as source
-use Rattle.safl_tree.specs.Tree.{Tree, Trees, Binds, Arms, place_of}
+use Rattle.safl_tree.specs.Tree.{Tree, Trees, Binds, Arms}
 use Rattle.safl_tree.specs.Printable as printable
 use Rattle.safl_tree.specs.Printable.{operands, IsLabel, IsFormed, AreFormed, AreFormedBinds, AreFormedArms}
 use Rattle.safl_typing.specs.Rewriting.{Expression, Number, Sized, Variable, If, Let, Op, Call, Expressions, no_expression, an_expression, Bindings}

@@ -18,7 +18,7 @@ use Rattle.safl_typing.specs.Forms.{FunctionForm, Form, all_sites}
 use Rattle.safl_typing.specs.Walk as walk
 use Rattle.safl_typing.specs.Walk.{fault, fault_with, after, unless, needs, Typed, TypedAll, TypedAlike, Wanted, Any, Exactly, is_any, is_known, wanted_by}
 use Rattle.safl_typing.specs.Walk.{branches, all_any, amounts, exactly, repeated, limits, group_fault, function, functions_from, main_fault, outcome}
-use Rattle.safl_typing.specs.FirstFault.{settle, settle_or, number, unsettled, in_turn, operated, arguments, called, expected, check, check_all}
+use Rattle.safl_typing.specs.FirstFault.{settle, settle_or, width_of_number, unsettled, in_turn, operated, arguments, called, expected, check, check_all}
 use Rattle.safl_typing.specs.FirstFault.{check_alike, check_shift, check_bound, fault_from, first_fault}
 
 -- a result with another value
@@ -61,7 +61,7 @@ settle_same : (p : ℕ) (m : Wanted) (v : ℕ) (t : Term) → mapped width (walk
 settle_same p Any v t = refl
 settle_same p (Exactly w) v t = cond_mapped width (w == v) (Ok (record { width = v; term = t })) (Err (fault_with rules.E12 p w v))
 
-number_same : (p n : ℕ) (m : Wanted) → mapped width (walk.check_number p n m) ≡ number p n (asked m)
+number_same : (p n : ℕ) (m : Wanted) → mapped width (walk.check_number p n m) ≡ width_of_number p n (asked m)
 number_same p n Any = refl
 number_same p n (Exactly w) = cond_mapped width (nat_lt n (2 ^ w)) (Ok (record { width = w; term = Const (word w n) })) (Err (fault rules.E13 p))
 

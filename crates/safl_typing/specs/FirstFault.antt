@@ -27,9 +27,9 @@ settle_or f p m None = Err f
 settle_or f p m (Some v) = settle p m v
 
 -- a number. It has any width that it fits
-abbrev pub number : ℕ → ℕ → Option ℕ → Result ℕ Fault
-number p n None = Err (fault_at rules.E14 p)
-number p n (Some w) = if nat_lt n (2 ^ w) then Ok w else Err (fault_at rules.E13 p)
+abbrev pub width_of_number : ℕ → ℕ → Option ℕ → Result ℕ Fault
+width_of_number p n None = Err (fault_at rules.E14 p)
+width_of_number p n (Some w) = if nat_lt n (2 ^ w) then Ok w else Err (fault_at rules.E13 p)
 
 -- E14 if no width is expected of a flexible expression
 abbrev pub unsettled : ℕ → Option ℕ → Bool → Option Fault
@@ -70,7 +70,7 @@ expected wanted (an_expression e es) = wanted e ∷ expected wanted es
 -- is to be found; of a shift the first, and that of the second if it is rigid.
 abbrev mutual
   pub check : Known → List Slot → Bool → Option ℕ → Expression → Result ℕ Fault
-  check k s tail m (Number p n) = number p n m
+  check k s tail m (Number p n) = width_of_number p n m
   check k s tail m (Sized p v n) = if nat_lt n (2 ^ v) then settle p m v else Err (fault_at rules.E13 p)
   check k s tail m (Variable p x) = settle_or (fault_at rules.E08 p) p m (option_map (λ a. a.width) (innermost x 0 s))
   check k s tail m (If p c a b) =

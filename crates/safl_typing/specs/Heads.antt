@@ -3,7 +3,7 @@ use Rattle.std.specs.Prelude.{ℕ, suc, ◌+◌, List, [], ◌∷◌, map, Optio
 use Rattle.std.specs.Option.{option_map_or}
 use Rattle.std.specs.Str.{bytes_eq}
 use Rattle.safl_tree.specs.Tree.{Definition, Parameter}
-use Rattle.safl_typing.specs.Rewriting.{Expression, Call, Expressions, Bindings, gathered, gathered_in, gathered_bound}
+use Rattle.safl_typing.specs.Rewriting.{Expression, Call, Expressions, Bindings, gathered_over, gathered_in, gathered_bound}
 
 -- the name of a parameter or a binding, and its width
 pub record Slot : Type 0 where
@@ -68,7 +68,7 @@ and_own_site k _ n = n
 
 -- the number of call sites of an expression
 abbrev pub sites : Known → Expression → ℕ
-sites k e = gathered (and_own_site k) (λ (m n : ℕ). m + n) 0 e
+sites k e = gathered_over (and_own_site k) (λ (m n : ℕ). m + n) 0 e
 
 abbrev pub sites_in : Known → Expressions → ℕ
 sites_in k es = gathered_in (and_own_site k) (λ (m n : ℕ). m + n) 0 es

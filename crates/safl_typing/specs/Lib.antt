@@ -9,6 +9,7 @@ pub mod Laws
 pub mod Ranges
 pub mod Plain
 pub mod Marks
+pub mod Opened
 pub mod PlainHeads
 pub mod PlainContext
 pub mod PlainScope

@@ -100,24 +100,24 @@ count (an_expression e es) = 1 + count es
 -- What is gathered from all parts of an expression, in the order of the text: `own` adds what an expression has by itself to what
 -- its parts have, and `join` puts together what two parts have.
 abbrev mutual
-  pub gathered : {A : Type 0} → (Expression → A → A) → (A → A → A) → A → Expression → A
-  gathered own join none (If p c a b) = own (If p c a b) (join (gathered own join none c) (join (gathered own join none a) (gathered own join none b)))
-  gathered own join none (Let p bs b) = own (Let p bs b) (join (gathered_bound own join none bs) (gathered own join none b))
-  gathered own join none (Op p o es) = own (Op p o es) (gathered_in own join none es)
-  gathered own join none (Call p f es) = own (Call p f es) (gathered_in own join none es)
-  gathered own join none e = own e none
+  pub gathered_over : {A : Type 0} → (Expression → A → A) → (A → A → A) → A → Expression → A
+  gathered_over own join none (If p c a b) = own (If p c a b) (join (gathered_over own join none c) (join (gathered_over own join none a) (gathered_over own join none b)))
+  gathered_over own join none (Let p bs b) = own (Let p bs b) (join (gathered_bound own join none bs) (gathered_over own join none b))
+  gathered_over own join none (Op p o es) = own (Op p o es) (gathered_in own join none es)
+  gathered_over own join none (Call p f es) = own (Call p f es) (gathered_in own join none es)
+  gathered_over own join none e = own e none
 
   pub gathered_in : {A : Type 0} → (Expression → A → A) → (A → A → A) → A → Expressions → A
   gathered_in own join none no_expression = none
-  gathered_in own join none (an_expression e es) = join (gathered own join none e) (gathered_in own join none es)
+  gathered_in own join none (an_expression e es) = join (gathered_over own join none e) (gathered_in own join none es)
 
   pub gathered_bound : {A : Type 0} → (Expression → A → A) → (A → A → A) → A → Bindings → A
   gathered_bound own join none no_binding = none
-  gathered_bound own join none (a_binding p x w e bs) = join (gathered own join none e) (gathered_bound own join none bs)
+  gathered_bound own join none (a_binding p x w e bs) = join (gathered_over own join none e) (gathered_bound own join none bs)
 
 -- how many expressions a tree has, itself included
 abbrev pub nodes : Expression → ℕ
-nodes e = gathered (λ (x : Expression) (n : ℕ). 1 + n) (λ (m n : ℕ). m + n) 0 e
+nodes e = gathered_over (λ (x : Expression) (n : ℕ). 1 + n) (λ (m n : ℕ). m + n) 0 e
 
 abbrev pub nodes_in : Expressions → ℕ
 nodes_in es = gathered_in (λ (x : Expression) (n : ℕ). 1 + n) (λ (m n : ℕ). m + n) 0 es
@@ -147,7 +147,7 @@ own_excess_or _ o = o
 
 -- the place of the first binding beyond the limit, in the first let that has too many
 abbrev pub long_let : Expression → Option ℕ
-long_let e = gathered own_excess_or (λ (o p : Option ℕ). option_or o p) None e
+long_let e = gathered_over own_excess_or (λ (o p : Option ℕ). option_or o p) None e
 
 abbrev pub long_let_in : Expressions → Option ℕ
 long_let_in es = gathered_in own_excess_or (λ (o p : Option ℕ). option_or o p) None es

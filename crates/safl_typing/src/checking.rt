@@ -1,6 +1,6 @@
 //! Checking an expression: its width and its term, or its first fault.
 
-ghost use Rattle.std.specs.Prelude.{◌≡◌, ◌<◌, ◌^◌, ◌==◌, Bool, IfOk, length};
+ghost use Rattle.std.specs.Prelude.{◌≡◌, ◌<◌, ◌^◌, ◌==◌, IfOk, length};
 ghost use Rattle.std.specs.List.{AllByRecursion};
 ghost use Rattle.safl_term.specs.Slots.{HasSlots};
 ghost use Rattle.safl_term.specs.Tree.{shown_term};
@@ -22,6 +22,7 @@ use crate::context::Context;
 use crate::expression::{Bound, Expression};
 use crate::heads::{Callee, Head, Slot, find_callee};
 use crate::marks::{add_bound_sites, add_sites, are_both_flexible, is_flexible};
+use crate::opened::{Opened, top};
 use crate::repeats::find_repeated;
 use crate::scope::{Scope, count};
 use crate::shape::{Shape, shape_of};
@@ -77,27 +78,27 @@ pub fn check_expression(
         tail,
         wanted,
     };
-    match e {
-        Expression::Number(place, value) => typed_number(*place, *value, wanted),
-        Expression::Sized(place, width, value) => typed_sized(*place, *width, *value, wanted),
-        Expression::Variable(place, name) => typed_variable(*place, scope, name, wanted),
-        Expression::If(place, _, condition, first, second) => check_choice(
+    match top(e) {
+        Opened::Number(place, value) => typed_number(place, value, wanted),
+        Opened::Sized(place, width, value) => typed_sized(place, width, value, wanted),
+        Opened::Variable(place, name) => typed_variable(place, scope, name, wanted),
+        Opened::If(place, _, condition, first, second) => check_choice(
             context,
             scope,
             position,
-            *place,
+            place,
             condition,
             Branches { first, second },
         ),
-        Expression::Let(place, _, bound, body) => check_binding(
-            context, scope, position, *place, bound, body,
-        ),
-        Expression::Op(place, _, operator, operands) => check_applied(
-            context, scope, position, *place, *operator, operands,
-        ),
-        Expression::Call(place, _, name, arguments) => check_called(
-            context, scope, position, *place, name, arguments,
-        ),
+        Opened::Let(place, _, bound, body) => {
+            check_binding(context, scope, position, place, bound, body)
+        }
+        Opened::Op(place, _, operator, operands) => {
+            check_applied(context, scope, position, place, operator, operands)
+        }
+        Opened::Call(place, _, name, arguments) => {
+            check_called(context, scope, position, place, name, arguments)
+        }
     }
 }
 

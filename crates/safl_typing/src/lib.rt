@@ -8,6 +8,7 @@ pub mod heads;
 pub mod laws;
 mod make;
 pub mod marks;
+pub mod opened;
 mod repeats;
 pub mod rewrite;
 pub mod scope;

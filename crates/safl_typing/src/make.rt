@@ -1,6 +1,6 @@
 //! Building expressions from their parts, and marking them.
 
-ghost use Rattle.std.specs.Prelude.{◌≡◌, ◌≤◌, [], ◌∷◌, None, IfOk};
+ghost use Rattle.std.specs.Prelude.{◌≡◌, ◌≤◌, None, IfOk};
 ghost use Rattle.safl_typing.specs.Rewriting.{If, Let, Op, Call, a_binding, no_binding, scrutinee, test_at};
 ghost use Rattle.safl_typing.specs.Heads.{Known, callee, is_site};
 ghost use Rattle.safl_typing.specs.Plain.{shown_expression, shown_expressions, shown_bindings};

@@ -2,7 +2,7 @@
 
 ghost use Rattle.std.specs.Prelude.{◌≡◌, ◌+◌, ◌≤◌, min};
 ghost use Rattle.safl_word.specs.Limits.{sites_counted};
-ghost use Rattle.safl_typing.specs.Rewriting.{flexible, all_flexible, shape, takes_width};
+ghost use Rattle.safl_typing.specs.Rewriting.{flexible, all_flexible};
 ghost use Rattle.safl_typing.specs.Heads.{Known, sites, sites_in, sites_bound};
 ghost use Rattle.safl_typing.specs.Plain.{shown_expression, shown_expressions, shown_bindings};
 ghost use Rattle.safl_typing.specs.Marks.{IsMarkOf, IsMarked, AreMarked, BoundMarked, both_flexible, MarksChoice, MarksBinding, MarksOperation, MarksCall};

@@ -1,6 +1,6 @@
 //! Rewriting each `case` as a let and ifs, and marking the expressions that are made.
 
-ghost use Rattle.std.specs.Prelude.{◌≡◌, [], ◌∷◌, IfOk};
+ghost use Rattle.std.specs.Prelude.{◌≡◌, IfOk};
 ghost use Rattle.safl_tree.specs.Tree.{trees_of, binds_of};
 ghost use Rattle.safl_tree.specs.Shown.{shown_tree, shown_trees, shown_bounds, shown_labelled};
 ghost use Rattle.safl_typing.specs.Rewriting.{rewritten, rewritten_all, rewritten_binds};

@@ -160,10 +160,6 @@ fits_push n [] r h q (suc u) = tt
 fits_push n (x ∷ xs) r h q zero = h 0
 fits_push n (x ∷ xs) r h q (suc u) = fits_push n xs r (λ i. h (suc i)) q u
 
-pub rows_start : (C : Program) (P : Choice) (n : Netlist) (us : List UnitPins) (rows out : List (Vec Sig Global)) → out ≡ [] → RowsFree C P n us rows out 0
-rows_start C P n us rows out e = subst (λ (l : List (Vec Sig Global)). RowsFree C P n us rows l 0) (sym e) record
-    { count = refl; fits = λ u. tt; long = λ u l. absurd (omega (arith, l)); shows = λ v w u x l. absurd (omega (arith, l)) }
-
 pub rows_more : (C : Program) (P : Choice) (a b : Netlist) (k : ℕ) (us : List UnitPins) (rows out after : List (Vec Sig Global)) (m : ℕ)
     (r : Vec Sig Global) (y : UnitPins) → Builds a b k → RowsFree C P a us rows out m → after ≡ out ++ r ∷ [] → AreBits b r.items → slice_get us m ≡ Some y
     → (P.arbiter (C.unit m) ≡ true → length r.items ≡ length (row_at rows m)) →

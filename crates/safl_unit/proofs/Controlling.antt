@@ -1,5 +1,5 @@
 -- The bits that the named wires copy.
-use Rattle.std.proofs.Common.{◌≡◌, ℕ, zero, suc, ◌<◌, ◌≤◌, List, [], ◌∷◌, ◌++◌, length, map, take, slice_get, Option, Some, None, false, is_some, sym, ap, subst, ◌∙◌, arith}
+use Rattle.std.proofs.Common.{◌≡◌, ℕ, zero, suc, ◌<◌, ◌≤◌, List, length, map, slice_get, Option, Some, None, false, is_some, sym, ap, subst, ◌∙◌, arith}
 use Rattle.std.proofs.lemmas.List.{length-map}
 use Rattle.safl_word.proofs.Lists.{get_map, get_some}
 use Rattle.safl_sites.specs.Plan.{Choice}
@@ -25,11 +25,6 @@ use Rattle.safl_unit.specs.Finished.{HasControls}
 use Rattle.safl_unit.proofs.Keeping.{cycle_before}
 use Rattle.safl_unit.proofs.Tables.{pin_is}
 use Rattle.safl_unit.proofs.Granting.{gated, want_shown}
-
-map_next : {A B : Type 0} (f : A → B) (xs : List A) (i : ℕ) (x : A) → slice_get xs i ≡ Some x → map f (take (suc i) xs) ≡ map f (take i xs) ++ f x ∷ []
-map_next f [] i x e = absurd (cc)
-map_next f (y ∷ xs) zero x e = let q : y ≡ x = cc in ap (λ (z : _). f z ∷ []) q
-map_next f (y ∷ xs) (suc i) x e = ap (λ (l : List _). f y ∷ l) (map_next f xs i x e)
 
 -- the pin of a mapped table
 pin_map : {A : Type 0} (f : A → Sig) (xs : List A) (ys : List Sig) (i : ℕ) (x : A) → ys ≡ map f xs → slice_get xs i ≡ Some x → pin ys i ≡ f x

@@ -1,5 +1,5 @@
 -- How many signals a circuit has at most.
-use Rattle.std.proofs.Common.{◌≡◌, ℕ, suc, ◌+◌, ◌*◌, ◌≤◌, map, ◌++◌, length, length-append, ap, ◌∙◌, arith}
+use Rattle.std.proofs.Common.{◌≡◌, ℕ, suc, ◌+◌, ◌*◌, ◌≤◌, map, ◌++◌, length, length-append, ap, arith}
 use Rattle.std.specs.Prelude.{codes, [], ◌∷◌}
 use Rattle.std.proofs.lemmas.List.{length-map}
 use Rattle.safl_term.specs.Checked.{CheckedProgram, IsChecked}

@@ -16,7 +16,7 @@ use Rattle.safl_net.specs.Netlist.{Netlist}
 use Rattle.safl_net.specs.Growth.{Val, words}
 use Rattle.safl_net.specs.Bits.{on, gate}
 use Rattle.safl_circuit.specs.Equations.{Registers, Inputs, body_wants, want, wants_at, go, go_words, end_word, loop_words}
-use Rattle.safl_circuit.specs.Equations.{ends, loops, starts, loads, starts_it}
+use Rattle.safl_circuit.specs.Equations.{ends, taken_loop, starts, loads, starts_it}
 use Rattle.safl_circuit.proofs.Searched.{end_in, loop_in, go_in, load_in as loads_from, if_other}
 use Rattle.safl_lower.specs.declared.loads.Load.{Load}
 use Rattle.safl_lower.specs.Sources.{Builds}
@@ -164,7 +164,7 @@ module _ (C : Program) (P : Choice) (n : Netlist) (p : Pins) where
 
   pub has_clears : (o : Outcomes) (all : List (Option Load)) (bits : List (Option Sig)) → HasOutcomes C P n p o → HasEnds C P n p all
       → ShowsBits n bits C.functions (λ v u. is_some (taken_from v all u) || one_below (λ h. (u == C.unit h) && is_some (taken_from v o.loops.items h)) C.functions) → HasClears C P n p bits
-  unfolding loops
+  unfolding taken_loop
   has_clears o all bits q e t = record {
     count = t.entries;
     fits = t.fits;

@@ -20,10 +20,8 @@ use Rattle.safl_unit.specs.declared.pins.Bank.{Bank}
 use Rattle.safl_unit.specs.declared.pins.Pins.{Pins}
 use Rattle.safl_unit.specs.declared.pins.Returns.{Returns}
 use Rattle.safl_unit.specs.declared.pins.Outcomes.{Outcomes}
-use Rattle.safl_unit.specs.declared.pins.Controls.{Controls}
 use Rattle.safl_unit.specs.Cycles.{UnitFits, MemberFits, SiteFits, BankFits, PinsFit, Cycle}
 use Rattle.safl_unit.specs.Stages.{PortFits, GoesFit, HasReturns, HasOutcomes, HasGoes, HasEnds, HasLoads, HasBits, HasNext}
-use Rattle.safl_unit.specs.Finished.{ControlsFit}
 
 module _ {a b : Netlist} {most : ℕ} (h : Builds a b most) where
   -- ---- widths and sources
@@ -101,17 +99,3 @@ module _ {a b : Netlist} {most : ℕ} (h : Builds a b most) where
 
   pub next_kept : {C : Program} {P : Choice} {p : Pins} {r : Bank} → HasNext C P a p r → HasNext C P b p r
   next_kept q = record { fits = bank_kept q.fits; shows = λ v r i c. q.shows v r i (cycle_before c) }
-
-  pub controls_fit_kept : {C : Program} {T : Controls} → ControlsFit C a T → ControlsFit C b T
-  controls_fit_kept q = record {
-    ends_length = q.ends_length;
-    loops_length = q.loops_length;
-    wants_length = q.wants_length;
-    rets_length = q.rets_length;
-    goes_length = q.goes_length;
-    ends = λ f l. source_kept h (q.ends f l);
-    loops = λ f l. source_kept h (q.loops f l);
-    wants = λ k l m. source_kept h (q.wants k l m);
-    rets = λ k l m. source_kept h (q.rets k l m);
-    goes = λ k l. source_kept h (q.goes k l);
-  }

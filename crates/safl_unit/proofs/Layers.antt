@@ -187,12 +187,6 @@ not_start x = by (bytes_eq (codes "in$" ++ x) (codes "start")) refl
     by true e = let q : codes "in$" ++ x ≡ codes "start" = (bytes_eq-Decides (codes "in$" ++ x) (codes "start")).0 e in let r : 105 ≡ 115 = ap first_code q in absurd (omega (arith, r))
     by false e = refl
 
-no_numbers : (gs : List Signal) (v : Valuation) → AllSignals (λ g. is_argument g.name g.kind ≡ false) gs → input_numbers gs v ≡ []
-unfolding input_numbers
-no_numbers [] v h = refl
-no_numbers (g ∷ gs) [] h = refl
-no_numbers (g ∷ gs) (w ∷ ws) h = ap (λ b. cond b (w ∷ input_numbers gs ws) (input_numbers gs ws)) h.0 ∙ no_numbers gs ws h.1
-
 index_end : (xs ys : List ℕ) (y : ℕ) → slice_index (xs ++ y ∷ ys) (length xs) ≡ y
 index_end [] ys y = refl
 index_end (x ∷ xs) ys y = index_end xs ys y

@@ -5,7 +5,7 @@ use Rattle.std.proofs.lemmas.Bool.{and_parts, and_from, or_left, or_right}
 use Rattle.std.proofs.lemmas.Bool.Decides.{nat_tests}
 use Rattle.std.proofs.lemmas.Fmt.{decimal_by_steps, length-decimal-le}
 use Rattle.safl_word.specs.Numerals.{between}
-use Rattle.safl_word.specs.Tokens.{IsName, begins_name, in_name}
+use Rattle.safl_word.specs.Tokens.{IsSourceName, begins_name, in_name}
 use Rattle.safl_word.proofs.Lexemes.{all_in_name}
 use Rattle.safl_word.proofs.Naturals.{short_enough}
 use Rattle.safl_net.specs.Names.{is_part, are_parts, is_identifier, is_reserved, is_good}
@@ -16,7 +16,7 @@ pub record IsPiece (x : List ℕ) : Type 0 where
   pub all : list_all in_name x ≡ true
   pub short : length x ≤ 64
 
-pub name_piece : (x : List ℕ) → IsName x → IsPiece x
+pub name_piece : (x : List ℕ) → IsSourceName x → IsPiece x
 name_piece x h = record { all = all_in_name x h.like; short = h.short }
 
 digits_push : (ds : List ℕ) (d : ℕ) → list_all (between 48 57) ds ≡ true → between 48 57 d ≡ true → list_all (between 48 57) (ds ++ d ∷ []) ≡ true

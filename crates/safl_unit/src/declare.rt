@@ -1,13 +1,12 @@
 //! Declaring the ports, registers and named wires of a circuit.
 
-ghost use Rattle.std.specs.Prelude.{◌≡◌, ◌+◌, ◌*◌, ◌<◌, ◌≤◌, ◌++◌, [], ◌∷◌, map, length, Some, None, false, slice_get, codes, IfOk, OnOk};
+ghost use Rattle.std.specs.Prelude.{◌≡◌, ◌+◌, ◌*◌, ◌<◌, ◌≤◌, [], ◌∷◌, map, length, Some, None, false, slice_get, IfOk, OnOk};
 ghost use Rattle.safl_word.specs.Limits.{width_max};
 ghost use Rattle.safl_term.specs.Program.{arity};
 ghost use Rattle.safl_term.specs.Checked.{IsChecked};
 ghost use Rattle.safl_sites.specs.Plan.{IsPlan};
 ghost use Rattle.safl_circuit.specs.Equations.{many};
-ghost use Rattle.safl_circuit.specs.Names.{of_function};
-ghost use Rattle.safl_circuit.specs.Layout.{lines, named, site_lines, function_wires, site_wires, layout_wires};
+ghost use Rattle.safl_circuit.specs.Layout.{lines, site_lines, function_wires, site_wires, layout_wires};
 ghost use Rattle.safl_net.specs.Names.{IsTidy};
 ghost use Rattle.safl_net.specs.Making.{refusal};
 ghost use Rattle.safl_net.specs.Settled.{IsSettled};

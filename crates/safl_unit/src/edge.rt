@@ -1,6 +1,6 @@
 //! The next words of all registers, which they take at the edge.
 
-ghost use Rattle.std.specs.Prelude.{◌≡◌, ℕ, suc, ◌+◌, ◌*◌, ◌≤◌, [], ◌∷◌, length, IfOk, OnOk};
+ghost use Rattle.std.specs.Prelude.{◌≡◌, ℕ, ◌+◌, ◌*◌, [], ◌∷◌, length, IfOk, OnOk};
 ghost use Rattle.safl_term.specs.Checked.{IsChecked};
 ghost use Rattle.safl_net.specs.Names.{IsTidy};
 ghost use Rattle.safl_net.specs.Settled.{IsSettled};

@@ -1,6 +1,6 @@
 //! All events at the edge.
 
-ghost use Rattle.std.specs.Prelude.{◌≡◌, ℕ, suc, ◌+◌, ◌*◌, ◌≤◌, length, OnOk};
+ghost use Rattle.std.specs.Prelude.{◌+◌, ◌*◌, OnOk};
 ghost use Rattle.safl_net.specs.Names.{IsTidy};
 ghost use Rattle.safl_lower.specs.Sources.{Builds, CanGrow};
 ghost use Rattle.safl_unit.specs.Stages.{OutcomesFit, GoesFit};

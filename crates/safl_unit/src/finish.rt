@@ -1,6 +1,6 @@
 //! Setting the next signals of the registers and the cells of the named wires, and adding the outputs.
 
-ghost use Rattle.std.specs.Prelude.{◌≡◌, ℕ, suc, ◌+◌, ◌*◌, ◌<◌, ◌≤◌, ◌++◌, [], ◌∷◌, map, length, Some, None, false, codes, IfOk, OnOk, OnErr};
+ghost use Rattle.std.specs.Prelude.{◌≡◌, suc, ◌+◌, ◌<◌, ◌≤◌, ◌++◌, map, length, Some, None, false, IfOk, OnOk};
 ghost use Rattle.safl_word.specs.Limits.{count_max};
 ghost use Rattle.safl_term.specs.Program.{arity};
 ghost use Rattle.safl_net.specs.Netlist.{Reg, Wire};

@@ -1,6 +1,6 @@
 //! Rivals: for each function, whether another function of its unit starts.
 
-ghost use Rattle.std.specs.Prelude.{◌≡◌, ℕ, ◌+◌, ◌*◌, ◌<◌, ◌≤◌, List, length, IfOk, OnOk};
+ghost use Rattle.std.specs.Prelude.{◌≡◌, ℕ, ◌*◌, ◌<◌, ◌≤◌, List, length, IfOk, OnOk};
 ghost use Rattle.safl_net.specs.declared.cell.Sig.{Sig};
 ghost use Rattle.safl_net.specs.Names.{IsTidy};
 ghost use Rattle.safl_net.specs.Growth.{Val, Wired};

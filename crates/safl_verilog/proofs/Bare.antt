@@ -9,16 +9,16 @@ use Rattle.safl_net.specs.Widths.{op_width}
 use Rattle.safl_verilog.specs.declared.token.Sort.{Sort}
 use Rattle.safl_verilog.specs.declared.token.Sort.TheVariants as sorts
 use Rattle.safl_verilog.specs.declared.fault.VFault.{VFault}
-use Rattle.safl_verilog.specs.Files.{Spot, Expression, Literal, Plain, Inverted, Binary, Choice, Joined, Slice, Declaration, Statement, Assign, Always, File}
+use Rattle.safl_verilog.specs.Files.{Spot, RightSide, Literal, Plain, Inverted, Binary, Choice, Joined, Slice, Declaration, Statement, Assign, Always, File}
 use Rattle.safl_verilog.specs.Faults.{where_not, number_faults, range_faults, expression_number_faults, stated_number_faults}
 use Rattle.safl_verilog.specs.FaultParts.{declared_number_faults}
 use Rattle.safl_verilog.specs.Faults.{among, repeat_faults, find, is_input, is_output, is_reg, is_wire, is_port, passes, range_width}
 use Rattle.safl_verilog.specs.FaultParts.{declared_names}
-use Rattle.safl_verilog.specs.Faults.{width_in, width_of, has_bit, has_ports, is_data, is_signal, is_target, unfit_faults}
+use Rattle.safl_verilog.specs.Faults.{width_in, width_declared, has_bit, has_ports, is_data, is_signal, is_target, unfit_faults}
 use Rattle.safl_verilog.specs.FaultParts.{header_faults, port_faults}
 use Rattle.safl_verilog.specs.Faults.{operation, operands, is_plain, expression_width, assigned, updated, width_faults, literal_value}
 use Rattle.safl_verilog.specs.Faults.{may_be_assigned, assign_faults, always_faults, statement_faults, all_statement_faults, missing_faults, faults}
-use Rattle.safl_verilog.specs.Netlists.{signals_of, place_of, number_of, cell_of, driven, register_of, kind_of, signal_of, shown_signal, output_of, netlist}
+use Rattle.safl_verilog.specs.Netlists.{signals_of, declared_place, signal_number, cell_of, driven, register_of, signal_kind, signal_of, shown_signal, output_of, netlist}
 use Rattle.safl_verilog.proofs.PrintedReads.{bare, bare_expression, bare_range, bare_declaration, bare_statement, bare_file}
 
 abbrev unplaced : VFault → VFault
@@ -44,7 +44,7 @@ range_bare : (r : Option (Spot × Spot)) → range_faults (bare_range r) ≡ map
 range_bare None = refl
 range_bare (Some r) = both _ (number_faults r.1) (both (number_faults r.0) _ (where_not_bare _ _) (where_not_bare _ _)) (where_not_bare _ _)
 
-expression_bare : (e : Expression) → expression_number_faults (bare_expression e) ≡ map unplaced (expression_number_faults e)
+expression_bare : (e : RightSide) → expression_number_faults (bare_expression e) ≡ map unplaced (expression_number_faults e)
 expression_bare (Literal l) = where_not_bare _ _
 expression_bare (Plain a) = refl
 expression_bare (Inverted a) = refl
@@ -98,7 +98,7 @@ range_width_bare : (r : Option (Spot × Spot)) → range_width (bare_range r) �
 range_width_bare None = refl
 range_width_bare (Some r) = refl
 
-width_bare : (ds : List Declaration) (n : List ℕ) → width_of (map bare_declaration ds) n ≡ width_of ds n
+width_bare : (ds : List Declaration) (n : List ℕ) → width_declared (map bare_declaration ds) n ≡ width_declared ds n
 width_bare ds n = ap width_in (find_bare ds n) ∙ go (find ds n)
   where
     go : (o : Option Declaration) → width_in (bare_maybe o) ≡ width_in o
@@ -135,7 +135,7 @@ ports_bare ds =
 
 -- ---- statements
 
-operation_bare : (e : Expression) → operation (bare_expression e) ≡ operation e
+operation_bare : (e : RightSide) → operation (bare_expression e) ≡ operation e
 operation_bare (Literal l) = refl
 operation_bare (Plain a) = refl
 operation_bare (Inverted a) = refl
@@ -144,7 +144,7 @@ operation_bare (Choice a b c) = refl
 operation_bare (Joined a b) = refl
 operation_bare (Slice a high low) = refl
 
-operands_bare : (e : Expression) → operands (bare_expression e) ≡ map bare (operands e)
+operands_bare : (e : RightSide) → operands (bare_expression e) ≡ map bare (operands e)
 operands_bare (Literal l) = refl
 operands_bare (Plain a) = refl
 operands_bare (Inverted a) = refl
@@ -153,7 +153,7 @@ operands_bare (Choice a b c) = refl
 operands_bare (Joined a b) = refl
 operands_bare (Slice a high low) = refl
 
-is_plain_bare : (e : Expression) → is_plain (bare_expression e) ≡ is_plain e
+is_plain_bare : (e : RightSide) → is_plain (bare_expression e) ≡ is_plain e
 is_plain_bare (Literal l) = refl
 is_plain_bare (Plain a) = refl
 is_plain_bare (Inverted a) = refl
@@ -167,13 +167,13 @@ of_bytes : {A : Type 0} (f g : List ℕ → A) → ((n : List ℕ) → f n ≡ g
 of_bytes f g h [] = refl
 of_bytes f g h (x ∷ xs) = ap (λ y. y ∷ map (λ (a : Spot). f a.bytes) (map bare xs)) (h x.bytes) ∙ ap (λ (l : List _). g x.bytes ∷ l) (of_bytes f g h xs)
 
-expression_width_bare : (ds : List Declaration) (e : Expression) → expression_width (map bare_declaration ds) (bare_expression e) ≡ expression_width ds e
+expression_width_bare : (ds : List Declaration) (e : RightSide) → expression_width (map bare_declaration ds) (bare_expression e) ≡ expression_width ds e
 expression_width_bare ds e =
-    ap (λ o. unwrap_or (op_width o (map (λ (a : Spot). width_of (map bare_declaration ds) a.bytes) (operands (bare_expression e)))) 0) (operation_bare e)
-    ∙ ap (λ (xs : List Spot). unwrap_or (op_width (operation e) (map (λ (a : Spot). width_of (map bare_declaration ds) a.bytes) xs)) 0) (operands_bare e)
-    ∙ ap (λ (l : List ℕ). unwrap_or (op_width (operation e) l) 0) (of_bytes (width_of (map bare_declaration ds)) (width_of ds) (width_bare ds) (operands e))
+    ap (λ o. unwrap_or (op_width o (map (λ (a : Spot). width_declared (map bare_declaration ds) a.bytes) (operands (bare_expression e)))) 0) (operation_bare e)
+    ∙ ap (λ (xs : List Spot). unwrap_or (op_width (operation e) (map (λ (a : Spot). width_declared (map bare_declaration ds) a.bytes) xs)) 0) (operands_bare e)
+    ∙ ap (λ (l : List ℕ). unwrap_or (op_width (operation e) l) 0) (of_bytes (width_declared (map bare_declaration ds)) (width_declared ds) (width_bare ds) (operands e))
 
-abbrev bare_assigned : Option Expression → Option Expression
+abbrev bare_assigned : Option RightSide → Option RightSide
 bare_assigned None = None
 bare_assigned (Some e) = Some (bare_expression e)
 
@@ -204,7 +204,7 @@ updated_bare (Always clock reset target initial second source ∷ ss) n = go (by
 no_assigned_bare : (ss : List Statement) (n : List ℕ) → is_none (assigned (map bare_statement ss) n) ≡ is_none (assigned ss n)
 no_assigned_bare ss n = ap is_none (assigned_bare ss n) ∙ go (assigned ss n)
   where
-    go : (o : Option Expression) → is_none (bare_assigned o) ≡ is_none o
+    go : (o : Option RightSide) → is_none (bare_assigned o) ≡ is_none o
     go None = refl
     go (Some e) = refl
 
@@ -221,14 +221,14 @@ unfit_bare ds x = same_test _ _ _ (passes_bare is_signal (λ d. refl) ds x.bytes
 width_faults_bare : (place w f v g : ℕ) → w ≡ v → f ≡ g → width_faults 0 w f ≡ map unplaced (width_faults place v g)
 width_faults_bare place w f v g e h = ap (λ k. width_faults 0 k f) e ∙ ap (width_faults 0 v) h ∙ where_not_bare (v == g) _
 
-may_be_bare : (ds : List Declaration) (before : List Statement) (x : Spot) (e : Expression) → may_be_assigned (map bare_statement before)
+may_be_bare : (ds : List Declaration) (before : List Statement) (x : Spot) (e : RightSide) → may_be_assigned (map bare_statement before)
     (find (map bare_declaration ds) x.bytes) x.bytes (bare_expression e) ≡ may_be_assigned before (find ds x.bytes) x.bytes e
 may_be_bare ds before x e =
     ap (λ b. b && (not (passes (λ d. is_output d.sort) (find (map bare_declaration ds) x.bytes)) || is_plain (bare_expression e))) (no_assigned_bare before x.bytes)
     ∙ ap (λ b. is_none (assigned before x.bytes) && (not b || is_plain (bare_expression e))) (passes_bare (λ d. is_output d.sort) (λ d. refl) ds x.bytes)
     ∙ ap (λ b. is_none (assigned before x.bytes) && (not (passes (λ d. is_output d.sort) (find ds x.bytes)) || b)) (is_plain_bare e)
 
-assign_bare : (ds : List Declaration) (before : List Statement) (x : Spot) (e : Expression) → assign_faults (map bare_declaration ds)
+assign_bare : (ds : List Declaration) (before : List Statement) (x : Spot) (e : RightSide) → assign_faults (map bare_declaration ds)
     (map bare_statement before) (bare x) (bare_expression e) ≡ map unplaced (assign_faults ds before x e)
 assign_bare ds before x e =
     both _ _ (both _ _ (both _ _ (same_test _ _ _ (passes_bare is_target (λ d. refl) ds x.bytes)) (same_test _ _ _ (may_be_bare ds before x e)))
@@ -304,21 +304,21 @@ signals_bare ds =
     (sym (map-append bare_declaration (filter is_data ds) (filter (λ (d : Declaration). is_reg d.sort) ds)))
     ∙ sym (map-append bare_declaration (filter is_data ds ++ filter (λ (d : Declaration). is_reg d.sort) ds) (filter (λ (d : Declaration). is_wire d.sort) ds))
 
-place_bare : (ds : List Declaration) (n : List ℕ) → place_of (map bare_declaration ds) n ≡ place_of ds n
+place_bare : (ds : List Declaration) (n : List ℕ) → declared_place (map bare_declaration ds) n ≡ declared_place ds n
 place_bare [] n = refl
 place_bare (d ∷ ds) n = ap (λ k. cond (bytes_eq d.name.bytes n) 0 (suc k)) (place_bare ds n)
 
-number_bare : (ds : List Declaration) (n : List ℕ) → number_of (map bare_declaration ds) n ≡ number_of ds n
-number_bare ds n = ap (λ (l : List Declaration). place_of l n) (signals_bare ds) ∙ place_bare (signals_of ds) n
+number_bare : (ds : List Declaration) (n : List ℕ) → signal_number (map bare_declaration ds) n ≡ signal_number ds n
+number_bare ds n = ap (λ (l : List Declaration). declared_place l n) (signals_bare ds) ∙ place_bare (signals_of ds) n
 
-cell_bare : (ds : List Declaration) (e : Expression) → cell_of (map bare_declaration ds) (bare_expression e) ≡ cell_of ds e
+cell_bare : (ds : List Declaration) (e : RightSide) → cell_of (map bare_declaration ds) (bare_expression e) ≡ cell_of ds e
 cell_bare ds e =
-    ap (λ o. record { op = o; operands = map (λ (a : Spot). number_of (map bare_declaration ds) a.bytes) (operands (bare_expression e)) }) (operation_bare e)
+    ap (λ o. record { op = o; operands = map (λ (a : Spot). signal_number (map bare_declaration ds) a.bytes) (operands (bare_expression e)) }) (operation_bare e)
     ∙ ap (λ (l : List ℕ). record { op = operation e; operands = l })
-    (ap (map (λ (a : Spot). number_of (map bare_declaration ds) a.bytes)) (operands_bare e) ∙ of_bytes (number_of (map bare_declaration ds))
-    (number_of ds) (number_bare ds) (operands e))
+    (ap (map (λ (a : Spot). signal_number (map bare_declaration ds) a.bytes)) (operands_bare e) ∙ of_bytes (signal_number (map bare_declaration ds))
+    (signal_number ds) (number_bare ds) (operands e))
 
-driven_bare : (ds : List Declaration) (o : Option Expression) → driven (map bare_declaration ds) (bare_assigned o) ≡ driven ds o
+driven_bare : (ds : List Declaration) (o : Option RightSide) → driven (map bare_declaration ds) (bare_assigned o) ≡ driven ds o
 driven_bare ds None = refl
 driven_bare ds (Some e) = ap (λ c. Some c) (cell_bare ds e)
 
@@ -326,7 +326,7 @@ register_bare : (ds : List Declaration) (o : Option (Spot × Spot)) → register
 register_bare ds None = refl
 register_bare ds (Some u) = ap (λ k. Reg (literal_value u.0.bytes) (Some k)) (number_bare ds u.1.bytes)
 
-kind_bare : (f : File) (s : Sort) (n : List ℕ) → kind_of (bare_file f) s n ≡ kind_of f s n
+kind_bare : (f : File) (s : Sort) (n : List ℕ) → signal_kind (bare_file f) s n ≡ signal_kind f s n
 kind_bare f sorts.Input n = refl
 kind_bare f sorts.Output n = refl
 kind_bare f sorts.Reg n = ap (register_of (map bare_declaration f.declarations)) (updated_bare f.statements n) ∙ register_bare f.declarations (updated f.statements n)
@@ -334,10 +334,10 @@ kind_bare f sorts.Wire n = ap (λ o. Wire (driven (map bare_declaration f.declar
 
 signal_bare : (f : File) (d : Declaration) → signal_of (bare_file f) (bare_declaration d) ≡ signal_of f d
 signal_bare f d =
-    ap (λ w. record { name = d.name.bytes; width = w; kind = kind_of (bare_file f) d.sort d.name.bytes }) (range_width_bare d.range)
+    ap (λ w. record { name = d.name.bytes; width = w; kind = signal_kind (bare_file f) d.sort d.name.bytes }) (range_width_bare d.range)
     ∙ ap (λ k. record { name = d.name.bytes; width = range_width d.range; kind = k }) (kind_bare f d.sort d.name.bytes)
 
-shown_bare : (ds : List Declaration) (o : Option Expression) → shown_signal (map bare_declaration ds) (bare_assigned o) ≡ shown_signal ds o
+shown_bare : (ds : List Declaration) (o : Option RightSide) → shown_signal (map bare_declaration ds) (bare_assigned o) ≡ shown_signal ds o
 shown_bare ds None = refl
 shown_bare ds (Some (Plain a)) = number_bare ds a.bytes
 shown_bare ds (Some (Literal l)) = refl

@@ -18,12 +18,12 @@ use Rattle.safl_net.specs.declared.cell.Op.TheVariants as ops
 use Rattle.safl_net.specs.Netlist.{Netlist, width_of}
 use Rattle.safl_net.specs.Operands.{no_operand, one_operand, mux_operands}
 use Rattle.safl_net.specs.Widths.{op_width, HasWord}
-use Rattle.safl_net.specs.Making.{widths}
+use Rattle.safl_net.specs.Making.{signal_widths}
 use Rattle.safl_net.specs.Making.{name_at as name_of}
 use Rattle.safl_net.specs.Written.{literal}
 use Rattle.safl_verilog.specs.declared.fault.VFault.{VFault}
 use Rattle.safl_verilog.specs.Tokens.{IsIdentifier}
-use Rattle.safl_verilog.specs.Files.{Spot, Expression, Binary}
+use Rattle.safl_verilog.specs.Files.{Spot, RightSide, Binary}
 use Rattle.safl_verilog.specs.Faults.{is_short, before_quote, behind_quote, base_at, literal_width, literal_value, is_word, is_literal, expression_number_faults, operation, operands, where_not}
 use Rattle.safl_net.specs.Arranged.{Each}
 use Rattle.safl_verilog.proofs.Runs.{other_than}
@@ -86,7 +86,7 @@ spelled width bits a b c =
 pub kept : (b : Bool) (f : VFault) → b ≡ true → where_not b f ≡ []
 kept b f h = ap (λ c. where_not c f) h
 
-pub record Sound (n : Netlist) (o : Op) (xs : List ℕ) (e : Expression) : Type 0 where
+pub record Sound (n : Netlist) (o : Op) (xs : List ℕ) (e : RightSide) : Type 0 where
   pub does : operation e ≡ o
   pub takes : operands e ≡ map (named_spot n) xs
   pub fine : FineExpression e
@@ -95,34 +95,35 @@ pub record Sound (n : Netlist) (o : Op) (xs : List ℕ) (e : Expression) : Type 
 abbrev Names : Netlist → List ℕ → Type 0
 Names n xs = Each (λ s. IsIdentifier (name_of n s)) xs
 
-one_case : (n : Netlist) (f : ℕ → Option ℕ) (xs : List ℕ) (w : ℕ) → one_width f (widths n xs) ≡ Some w → (a : ℕ) × (xs ≡ a ∷ []) × (f (width_of n a) ≡ Some w)
+one_case : (n : Netlist) (f : ℕ → Option ℕ) (xs : List ℕ) (w : ℕ) → one_width f (signal_widths n xs) ≡ Some w → (a : ℕ) × (xs ≡ a ∷ []) × (f (width_of n a) ≡ Some w)
 one_case n f [] w e = absurd cc
 one_case n f (a ∷ []) w e = (a, refl, only_where _ _ w e)
 one_case n f (a ∷ (b ∷ xs)) w e = absurd cc
 
-two_case : (n : Netlist) (f : ℕ → ℕ → Option ℕ) (xs : List ℕ) (w : ℕ) → two_widths f (widths n xs) ≡ Some w → (a : ℕ) × (b : ℕ) × (xs ≡ a ∷ b ∷ [])
+two_case : (n : Netlist) (f : ℕ → ℕ → Option ℕ) (xs : List ℕ) (w : ℕ) → two_widths f (signal_widths n xs) ≡ Some w → (a : ℕ) × (b : ℕ) × (xs ≡ a ∷ b ∷ [])
 two_case n f [] w e = absurd cc
 two_case n f (a ∷ []) w e = absurd cc
 two_case n f (a ∷ (b ∷ [])) w e = (a, b, refl)
 two_case n f (a ∷ (b ∷ (c ∷ xs))) w e = absurd cc
 
 binary_sound : (n : Netlist) (p : Primitive) (f : ℕ → ℕ → Option ℕ) (xs : List ℕ) (w : ℕ) → is_operator p ≡ true →
-    ((a b : Spot) → applied p (a ∷ b ∷ []) ≡ Binary p a b) → two_widths f (widths n xs) ≡ Some w → Names n xs → Sound n (ops.Apply p) xs
+    ((a b : Spot) → applied p (a ∷ b ∷ []) ≡ Binary p a b) → two_widths f (signal_widths n xs) ≡ Some w → Names n xs → Sound n (ops.Apply p) xs
     (applied p (map (named_spot n) xs))
 binary_sound n p f xs w good same e names =
     let k = two_case n f xs w e in
     let here : Names n (k.0 ∷ k.1 ∷ []) = subst (Names n) k.2 names in
     subst (λ (l : List ℕ). Sound n (ops.Apply p) l (applied p (map (named_spot n) l))) (sym k.2)
-    (subst (λ (e : Expression). Sound n (ops.Apply p) (k.0 ∷ k.1 ∷ []) e) (sym (same (named_spot n k.0) (named_spot n k.1)))
+    (subst (λ (e : RightSide). Sound n (ops.Apply p) (k.0 ∷ k.1 ∷ []) e) (sym (same (named_spot n k.0) (named_spot n k.1)))
     (record { does = refl; takes = refl; fine = (good, here.0, here.1.0); short = refl }))
 
-not_sound : (n : Netlist) (xs : List ℕ) (w : ℕ) → one_width (λ v. Some v) (widths n xs) ≡ Some w → Names n xs → Sound n (ops.Apply prims.Not) xs (applied prims.Not (map (named_spot n) xs))
+not_sound : (n : Netlist) (xs : List ℕ) (w : ℕ) → one_width (λ v. Some v) (signal_widths n xs) ≡ Some w → Names n xs → Sound n (ops.Apply prims.Not) xs (applied prims.Not (map (named_spot n) xs))
 not_sound n xs w e names =
     let k = one_case n (λ v. Some v) xs w e in
     let here : Names n (k.0 ∷ []) = subst (Names n) k.1 names in
     subst (λ (l : List ℕ). Sound n (ops.Apply prims.Not) l (applied prims.Not (map (named_spot n) l))) (sym k.1) (record { does = refl; takes = refl; fine = here.0; short = refl })
 
-cat_sound : (n : Netlist) (f : ℕ → ℕ → Option ℕ) (xs : List ℕ) (w : ℕ) → two_widths f (widths n xs) ≡ Some w → Names n xs → Sound n (ops.Apply prims.Cat) xs (applied prims.Cat (map (named_spot n) xs))
+cat_sound : (n : Netlist) (f : ℕ → ℕ → Option ℕ) (xs : List ℕ) (w : ℕ) → two_widths f (signal_widths n xs) ≡ Some w → Names n xs
+    → Sound n (ops.Apply prims.Cat) xs (applied prims.Cat (map (named_spot n) xs))
 cat_sound n f xs w e names =
     let k = two_case n f xs w e in
     let here : Names n (k.0 ∷ k.1 ∷ []) = subst (Names n) k.2 names in
@@ -132,7 +133,7 @@ no_fault_when : (b c : Bool) (x y : _) → b ≡ true → c ≡ true → where_n
 no_fault_when b c x y h k = rw (h, k) refl
 
 bits_sound : (n : Netlist) (high low : ℕ) (xs : List ℕ) (w : ℕ) → ((a : ℕ) → xs ≡ a ∷ [] → width_of n a ≤ 128) → one_width
-    (λ v. where_true (nat_le low high && nat_lt high v) (high - low + 1)) (widths n xs) ≡ Some w → Names n xs → Sound n
+    (λ v. where_true (nat_le low high && nat_lt high v) (high - low + 1)) (signal_widths n xs) ≡ Some w → Names n xs → Sound n
     (ops.Apply (prims.Bits high low)) xs (applied (prims.Bits high low) (map (named_spot n) xs))
 bits_sound n high low xs w known e names =
     let k = one_case n (λ v. where_true (nat_le low high && nat_lt high v) (high - low + 1)) xs w e in
@@ -151,7 +152,7 @@ bits_sound n high low xs w known e names =
     (record { does = op; takes = refl; fine = (here.0, decimal_numeral high h, decimal_numeral low l); short = no_fault_when _ _ _ _ (decimal_short high h) (decimal_short low l) })
 
 applied_sound : (n : Netlist) (p : Primitive) (xs : List ℕ) (w : ℕ) → ((a : ℕ) → xs ≡ a ∷ [] → width_of n a ≤ 128) → op_width (ops.Apply p)
-    (widths n xs) ≡ Some w → Names n xs → Sound n (ops.Apply p) xs (applied p (map (named_spot n) xs))
+    (signal_widths n xs) ≡ Some w → Names n xs → Sound n (ops.Apply p) xs (applied p (map (named_spot n) xs))
 applied_sound n prims.Not xs w known e names = not_sound n xs w e names
 applied_sound n prims.Cat xs w known e names = cat_sound n _ xs w e names
 applied_sound n (prims.Bits high low) xs w known e names = bits_sound n high low xs w known e names
@@ -171,19 +172,19 @@ applied_sound n prims.Ge xs w known e names = binary_sound n prims.Ge _ xs w ref
 applied_sound n prims.Shl xs w known e names = binary_sound n prims.Shl _ xs w refl (λ a b. refl) e names
 applied_sound n prims.Shr xs w known e names = binary_sound n prims.Shr _ xs w refl (λ a b. refl) e names
 
-copy_sound : (n : Netlist) (xs : List ℕ) (w : ℕ) → one_operand (widths n xs) ≡ Some w → Names n xs → Sound n ops.Copy xs (expressed ops.Copy (map (named_spot n) xs))
+copy_sound : (n : Netlist) (xs : List ℕ) (w : ℕ) → one_operand (signal_widths n xs) ≡ Some w → Names n xs → Sound n ops.Copy xs (expressed ops.Copy (map (named_spot n) xs))
 copy_sound n [] w e names = absurd cc
 copy_sound n (a ∷ []) w e names = record { does = refl; takes = refl; fine = names.0; short = refl }
 copy_sound n (a ∷ (b ∷ xs)) w e names = absurd cc
 
-mux_sound : (n : Netlist) (xs : List ℕ) (w : ℕ) → mux_operands (widths n xs) ≡ Some w → Names n xs → Sound n ops.Mux xs (expressed ops.Mux (map (named_spot n) xs))
+mux_sound : (n : Netlist) (xs : List ℕ) (w : ℕ) → mux_operands (signal_widths n xs) ≡ Some w → Names n xs → Sound n ops.Mux xs (expressed ops.Mux (map (named_spot n) xs))
 mux_sound n [] w e names = absurd cc
 mux_sound n (a ∷ []) w e names = absurd cc
 mux_sound n (a ∷ (b ∷ [])) w e names = absurd cc
 mux_sound n (a ∷ (b ∷ (c ∷ []))) w e names = record { does = refl; takes = refl; fine = (names.0, names.1.0, names.1.1.0); short = refl }
 mux_sound n (a ∷ (b ∷ (c ∷ (d ∷ xs)))) w e names = absurd cc
 
-const_sound : (n : Netlist) (v : Word) (xs : List ℕ) (w : ℕ) → IsWord v → no_operand v.width (widths n xs) ≡ Some w → Sound n (ops.Const v) xs (expressed (ops.Const v) (map (named_spot n) xs))
+const_sound : (n : Netlist) (v : Word) (xs : List ℕ) (w : ℕ) → IsWord v → no_operand v.width (signal_widths n xs) ≡ Some w → Sound n (ops.Const v) xs (expressed (ops.Const v) (map (named_spot n) xs))
 const_sound n v [] w h e =
     let s = spelled v.width v.bits h.some h.bounded h.fits in
     record {
@@ -194,7 +195,7 @@ const_sound n v [] w h e =
     }
 const_sound n v (a ∷ xs) w h e = absurd cc
 
-pub cell_sound : (n : Netlist) (o : Op) (xs : List ℕ) (w : ℕ) → ((a : ℕ) → xs ≡ a ∷ [] → width_of n a ≤ 128) → op_width o (widths n xs) ≡ Some w →
+pub cell_sound : (n : Netlist) (o : Op) (xs : List ℕ) (w : ℕ) → ((a : ℕ) → xs ≡ a ∷ [] → width_of n a ≤ 128) → op_width o (signal_widths n xs) ≡ Some w →
     HasWord o → Names n xs → Sound n o xs (expressed o (map (named_spot n) xs))
 cell_sound n (ops.Const v) xs w known e h names = const_sound n v xs w h e
 cell_sound n ops.Copy xs w known e h names = copy_sound n xs w e names

@@ -12,7 +12,7 @@ use Rattle.safl_verilog.specs.declared.token.Symbol.{Symbol}
 use Rattle.safl_verilog.specs.declared.token.Symbol.TheVariants as symbols
 use Rattle.safl_verilog.specs.declared.token.TokenKind.{TokenKind}
 use Rattle.safl_verilog.specs.declared.token.TokenKind.TheVariants as kinds
-use Rattle.safl_verilog.specs.Tokens.{keyword_text, symbol_text, stops, next_base, IsToken, Piece, Blank, Line, Block, Lexeme, text_of, StandsBefore}
+use Rattle.safl_verilog.specs.Tokens.{keyword_text, symbol_text, stops, next_base, IsVerilogToken, VerilogPiece, Blank, Line, Block, Lexeme, piece_text, StandsInVerilog}
 use Rattle.safl_word.specs.Limits.{net_name_max}
 use Rattle.safl_net.proofs.SignalKinds.{start_part}
 use Rattle.safl_verilog.specs.Pieces.{run, named, all_keywords, single_symbols, double_symbols, word_kind, first_word, sized_length, first_number}
@@ -132,7 +132,7 @@ symbol_cut symbols.ShiftRight rest h = refl
 
 -- ---- pieces
 
-token_cut : (k : TokenKind) (w rest : List ℕ) → IsToken k w rest → first_piece (w ++ rest) ≡ Some (Lexeme k w)
+token_cut : (k : TokenKind) (w rest : List ℕ) → IsVerilogToken k w rest → first_piece (w ++ rest) ≡ Some (Lexeme k w)
 token_cut kinds.Identifier w rest h = word_cut w rest None h.0.like h.0.short h.1 (named_none keyword_text all_keywords w h.0.free)
 token_cut kinds.Number w rest h = number_cut w rest h.0 h.1 h.2
 token_cut kinds.Sized w rest h =
@@ -144,7 +144,7 @@ token_cut (kinds.Keyword k) w rest h = subst (λ (l : List ℕ). first_piece (l 
 token_cut (kinds.Symbol s) w rest h = subst (λ (l : List ℕ). first_piece (l ++ rest) ≡ Some (Lexeme (kinds.Symbol s) l)) (sym h.0)
     (symbol_cut s rest (λ t d v e f. h.1 t d v e (f ∙ ap (λ (l : List ℕ). l ++ d ∷ []) (sym h.0))))
 
-pub piece_cut : (x : Piece) (rest : List ℕ) → StandsBefore x rest → first_piece (text_of x ++ rest) ≡ Some x
+pub piece_cut : (x : VerilogPiece) (rest : List ℕ) → StandsInVerilog x rest → first_piece (piece_text x ++ rest) ≡ Some x
 unfolding first_piece
 piece_cut (Blank c) rest h = rw h refl
 piece_cut (Line w) rest h =

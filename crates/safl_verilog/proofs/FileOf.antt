@@ -20,8 +20,8 @@ use Rattle.safl_net.specs.Written.{header, declarations, statements, written}
 use Rattle.safl_verilog.specs.declared.token.Sort.{Sort}
 use Rattle.safl_verilog.specs.declared.token.Sort.TheVariants as sorts
 use Rattle.safl_verilog.specs.declared.token.Symbol.TheVariants as symbols
-use Rattle.safl_verilog.specs.Tokens.{Piece, text_of_all, symbol_text}
-use Rattle.safl_verilog.specs.Files.{Spot, Expression, Literal, Plain, Inverted, Binary, Choice, Joined, Slice, Declaration, Statement, Assign, Always, File}
+use Rattle.safl_verilog.specs.Tokens.{VerilogPiece, text_of_all, symbol_text}
+use Rattle.safl_verilog.specs.Files.{Spot, RightSide, Literal, Plain, Inverted, Binary, Choice, Joined, Slice, Declaration, Statement, Assign, Always, File}
 use Rattle.safl_verilog.proofs.Printed.{sy, symbol_of, line_end, declaration_pieces, expression_pieces, statement_pieces, port_pieces, spot_of, header_end, body_pieces, last_pieces, file_pieces}
 use Rattle.safl_verilog.proofs.PrintedStands.{text_append}
 
@@ -29,41 +29,41 @@ abbrev pub named_spot : Netlist → ℕ → Spot
 named_spot n s = spot_of (name_of n s)
 
 -- what stands where an operation doesn't have its operands
-abbrev pub nowhere : Expression
+abbrev pub nowhere : RightSide
 nowhere = Plain (spot_of [])
 
-abbrev pub on_one : (Spot → Expression) → List Spot → Expression
+abbrev pub on_one : (Spot → RightSide) → List Spot → RightSide
 on_one f [] = nowhere
 on_one f (a ∷ []) = f a
 on_one f (a ∷ (b ∷ xs)) = nowhere
 
-abbrev pub on_two : (Spot → Spot → Expression) → List Spot → Expression
+abbrev pub on_two : (Spot → Spot → RightSide) → List Spot → RightSide
 on_two f [] = nowhere
 on_two f (a ∷ []) = nowhere
 on_two f (a ∷ (b ∷ [])) = f a b
 on_two f (a ∷ (b ∷ (c ∷ xs))) = nowhere
 
-abbrev pub on_three : (Spot → Spot → Spot → Expression) → List Spot → Expression
+abbrev pub on_three : (Spot → Spot → Spot → RightSide) → List Spot → RightSide
 on_three f [] = nowhere
 on_three f (a ∷ []) = nowhere
 on_three f (a ∷ (b ∷ [])) = nowhere
 on_three f (a ∷ (b ∷ (c ∷ []))) = f a b c
 on_three f (a ∷ (b ∷ (c ∷ (d ∷ xs)))) = nowhere
 
-abbrev pub applied : Primitive → List Spot → Expression
+abbrev pub applied : Primitive → List Spot → RightSide
 applied prims.Not xs = on_one Inverted xs
 applied prims.Cat xs = on_two Joined xs
 applied (prims.Bits high low) xs = on_one (λ a. Slice a (spot_of (decimal high)) (spot_of (decimal low))) xs
 applied (prims.Ext width) xs = nowhere
 applied p xs = on_two (Binary p) xs
 
-abbrev pub expressed : Op → List Spot → Expression
+abbrev pub expressed : Op → List Spot → RightSide
 expressed (ops.Const w) xs = Literal (spot_of (literal w.width w.bits))
 expressed ops.Copy xs = on_one Plain xs
 expressed ops.Mux xs = on_three Choice xs
 expressed (ops.Apply p) xs = applied p xs
 
-abbrev pub expression_of : Netlist → Cell → Expression
+abbrev pub expression_of : Netlist → Cell → RightSide
 expression_of n c = expressed c.op (map (named_spot n) c.operands)
 
 abbrev pub declare : Sort → ℕ → List ℕ → Declaration
@@ -90,7 +90,7 @@ reset = spot_of (codes "rst")
 abbrev pub declare_bit : Spot → Declaration
 declare_bit x = record { sort = sorts.Input; range = None; name = x }
 
-abbrev pub driver : Netlist → Kind → Expression
+abbrev pub driver : Netlist → Kind → RightSide
 driver n Input = nowhere
 driver n (Reg init next) = nowhere
 driver n (Wire None) = nowhere
@@ -169,13 +169,13 @@ written_statements n = statements_of n (of_kind updated_kind n) (of_kind assigne
 
 -- ---- texts of items
 
-texts : {X Y : Type 0} (item : Y → List Piece) (b : X → Y) (T : X → List ℕ) → ((x : X) → text_of_all (item (b x)) ≡ T x) → (xs : List X) → text_of_all (flat_map item (map b xs)) ≡ flat_map T xs
+texts : {X Y : Type 0} (item : Y → List VerilogPiece) (b : X → Y) (T : X → List ℕ) → ((x : X) → text_of_all (item (b x)) ≡ T x) → (xs : List X) → text_of_all (flat_map item (map b xs)) ≡ flat_map T xs
 texts item b T h [] = refl
 texts item b T h (x ∷ xs) = text_append (item (b x)) (flat_map item (map b xs)) ∙ ap (λ (l : List ℕ). l ++ text_of_all (flat_map item (map b xs)))
     (h x) ∙ ap (λ (l : List ℕ). T x ++ l) (texts item b T h xs)
 
 -- items of the signals that pass a test, where nothing is written of the others
-texts_where : {Y : Type 0} (item : Y → List Piece) (b : Signal → Y) (T : Signal → List ℕ) (p : Kind → Bool) →
+texts_where : {Y : Type 0} (item : Y → List VerilogPiece) (b : Signal → Y) (T : Signal → List ℕ) (p : Kind → Bool) →
     ((g : Signal) → p g.kind ≡ true → text_of_all (item (b g)) ≡ T g) → ((g : Signal) → p g.kind ≡ false → T g ≡ []) → (gs : List Signal) →
     text_of_all (flat_map item (map b (filter (λ (g : Signal). p g.kind) gs))) ≡ flat_map T gs
 texts_where item b T p holds fails [] = refl
@@ -200,7 +200,7 @@ register_text width name = simp append_assoc
 wire_text : (width : ℕ) (name : List ℕ) → text_of_all (declaration_pieces (declare sorts.Wire width name)) ≡ declaration (codes "wire") width name
 wire_text width name = simp append_assoc
 
-assign_text : (x : Spot) (e : Expression) (source : List ℕ) → text_of_all (expression_pieces e) ≡ source → text_of_all (statement_pieces (Assign x e)) ≡ assignment x.bytes source
+assign_text : (x : Spot) (e : RightSide) (source : List ℕ) → text_of_all (expression_pieces e) ≡ source → text_of_all (statement_pieces (Assign x e)) ≡ assignment x.bytes source
 assign_text x e source h =
     ap (λ (l : List ℕ). codes "  assign " ++ (x.bytes ++ (codes " = " ++ l)))
     (text_append (expression_pieces e) (sy symbols.Semicolon ∷ line_end ∷ []) ∙ ap (λ (l : List ℕ). l ++ codes ";\n") h) ∙ simp append_assoc
@@ -210,14 +210,14 @@ update_text name initial next = simp append_assoc
 
 -- ---- texts of cells
 
-one_text : (n : Netlist) (f : Spot → Expression) (t : List (List ℕ) → List ℕ) → t [] ≡ [] →
+one_text : (n : Netlist) (f : Spot → RightSide) (t : List (List ℕ) → List ℕ) → t [] ≡ [] →
     ((a b : List ℕ) (xs : List (List ℕ)) → t (a ∷ b ∷ xs) ≡ []) → ((a : Spot) → text_of_all (expression_pieces (f a)) ≡ t (a.bytes ∷ [])) →
     (xs : List ℕ) → text_of_all (expression_pieces (on_one f (map (named_spot n) xs))) ≡ t (names_of n xs)
 one_text n f t none more h [] = sym none
 one_text n f t none more h (a ∷ []) = h (named_spot n a)
 one_text n f t none more h (a ∷ (b ∷ xs)) = sym (more (name_of n a) (name_of n b) (names_of n xs))
 
-two_text : (n : Netlist) (f : Spot → Spot → Expression) (t : List (List ℕ) → List ℕ) → t [] ≡ [] → ((a : List ℕ) → t (a ∷ []) ≡ []) →
+two_text : (n : Netlist) (f : Spot → Spot → RightSide) (t : List (List ℕ) → List ℕ) → t [] ≡ [] → ((a : List ℕ) → t (a ∷ []) ≡ []) →
     ((a b c : List ℕ) (xs : List (List ℕ)) → t (a ∷ b ∷ c ∷ xs) ≡ []) →
     ((a b : Spot) → text_of_all (expression_pieces (f a b)) ≡ t (a.bytes ∷ b.bytes ∷ [])) → (xs : List ℕ) → text_of_all
     (expression_pieces (on_two f (map (named_spot n) xs))) ≡ t (names_of n xs)
@@ -232,7 +232,7 @@ binary_text n p sign e xs =
     two_text n (Binary p) (CellTexts.two_operands sign) refl (λ a. refl) (λ a b c xs. refl)
     (λ a b. ap (λ (l : List ℕ). a.bytes ++ (32 ∷ (l ++ (32 ∷ (b.bytes ++ []))))) e ∙ simp (append_assoc, append-nil)) xs
 
-applied_text : (n : Netlist) (p : Primitive) (xs : List ℕ) → text_of_all (expression_pieces (applied p (map (named_spot n) xs))) ≡ Written.applied p (names_of n xs)
+applied_text : (n : Netlist) (p : Primitive) (xs : List ℕ) → text_of_all (expression_pieces (applied p (map (named_spot n) xs))) ≡ Written.operation_text p (names_of n xs)
 applied_text n prims.Not xs = one_text n Inverted CellTexts.inverted refl (λ a b xs. refl) (λ a. simp append-nil) xs
 applied_text n prims.Cat xs = two_text n Joined CellTexts.joined_texts refl (λ a. refl) (λ a b c xs. refl) (λ a b. simp append_assoc) xs
 applied_text n (prims.Bits high low) xs = one_text n (λ a. Slice a (spot_of (decimal high)) (spot_of (decimal low))) (CellTexts.sliced high low) refl (λ a b xs. refl) (λ a. simp append_assoc) xs

@@ -12,7 +12,7 @@ use Rattle.safl_verilog.specs.declared.token.Keyword.{Keyword}
 use Rattle.safl_verilog.specs.declared.token.Symbol.{Symbol}
 use Rattle.safl_verilog.specs.declared.token.TokenKind.{TokenKind}
 use Rattle.safl_verilog.specs.declared.token.TokenKind.TheVariants as kinds
-use Rattle.safl_verilog.specs.Tokens.{keyword_text, symbol_text, stops, next_base, base_with, IsToken, Piece, Blank, Line, Block, Lexeme, text_of, StandsBefore}
+use Rattle.safl_verilog.specs.Tokens.{keyword_text, symbol_text, stops, next_base, base_with, IsVerilogToken, VerilogPiece, Blank, Line, Block, Lexeme, piece_text, StandsInVerilog}
 use Rattle.safl_word.specs.Limits.{net_name_max}
 use Rattle.safl_net.proofs.SignalKinds.{start_part}
 use Rattle.safl_verilog.specs.Pieces.{run, named, all_keywords, single_symbols, double_symbols, word_kind, first_bytes, first_word, sized_length}
@@ -22,15 +22,15 @@ use Rattle.safl_verilog.proofs.Closing.{closed}
 use Rattle.safl_verilog.proofs.Symbols.{keyword_named, no_third, double_named}
 
 -- a piece stands at the front of the text
-pub record Cut (w : List ℕ) (x : Piece) : Type 0 where
+pub record Cut (w : List ℕ) (x : VerilogPiece) : Type 0 where
   pub rest : List ℕ
-  pub joined : w ≡ text_of x ++ rest
-  pub stands : StandsBefore x rest
+  pub joined : w ≡ piece_text x ++ rest
+  pub stands : StandsInVerilog x rest
 
-cut_as : (w : List ℕ) (y : Piece) (o : Option Piece) (x : Piece) → Cut w y → o ≡ Some y → o ≡ Some x → Cut w x
+cut_as : (w : List ℕ) (y : VerilogPiece) (o : Option VerilogPiece) (x : VerilogPiece) → Cut w y → o ≡ Some y → o ≡ Some x → Cut w x
 cut_as w y o x k e h = subst (λ z. Cut w z) (same_Some _ _ (sym e ∙ h)) k
 
-abbrev of_first : (w : List ℕ) (n : ℕ) (kind : TokenKind) → IsToken kind (take n w) (drop n w) → Cut w (Lexeme kind (take n w))
+abbrev of_first : (w : List ℕ) (n : ℕ) (kind : TokenKind) → IsVerilogToken kind (take n w) (drop n w) → Cut w (Lexeme kind (take n w))
 of_first w n kind h = record { rest = drop n w; joined = sym (take-append-drop n w); stands = h }
 
 -- ---- words
@@ -42,11 +42,11 @@ pub no_keyword : (w : List ℕ) → named keyword_text all_keywords w ≡ None �
 no_keyword w e k h = let f = ap (named keyword_text all_keywords) h ∙ keyword_named k in let g : None ≡ Some k = sym e ∙ f in cc
 
 pub word_kinds : (w rest : List ℕ) → is_identifier w ≡ true → length w ≤ net_name_max → stops is_part rest ≡ true → (o : Option Keyword) → named
-    keyword_text all_keywords w ≡ o → IsToken (word_kind o) w rest
+    keyword_text all_keywords w ≡ o → IsVerilogToken (word_kind o) w rest
 word_kinds w rest like short stop None e = (record { like = like; short = short; free = no_keyword w e }, stop)
 word_kinds w rest like short stop (Some k) e = (named_has keyword_text all_keywords w k e, stop)
 
-word_found : (c : ℕ) (w : List ℕ) (x : Piece) → is_start c ≡ true → first_word (run is_part (c ∷ w)) (c ∷ w) ≡ Some x → Cut (c ∷ w) x
+word_found : (c : ℕ) (w : List ℕ) (x : VerilogPiece) → is_start c ≡ true → first_word (run is_part (c ∷ w)) (c ∷ w) ≡ Some x → Cut (c ∷ w) x
 word_found c w x h e =
     let n = run is_part (c ∷ w) in
     elim (chosen (nat_le n net_name_max) (first_bytes (word_kind (named keyword_text all_keywords (take n (c ∷ w)))) n (c ∷ w)) None (Some x) e) [
@@ -90,7 +90,7 @@ based (q ∷ (b ∷ (d ∷ rest))) base e = elim (chosen (q == 39) (base_with (b
   | inr a ↦ absurd (let f : None ≡ Some base = a.1 in cc)
 ]
 
-sized_found : (u v : List ℕ) (base : ℕ) → IsNumeral 10 u → (k : Based v base) → IsToken kinds.Sized
+sized_found : (u v : List ℕ) (base : ℕ) → IsNumeral 10 u → (k : Based v base) → IsVerilogToken kinds.Sized
     (take (sized_length (length u) base (u ++ v)) (u ++ v)) (drop (sized_length (length u) base (u ++ v)) (u ++ v))
 sized_found u v base width k =
     let z : List ℕ = k.first ∷ k.rest in
@@ -110,7 +110,7 @@ sized_found u v base width k =
       subst (λ (l : List ℕ). stops (is_digit base) l ≡ true) (sym back) (run_stops (is_digit base) z),
     )
 
-number_kinds : (w : List ℕ) (n : ℕ) (x : Piece) → n ≤ length w → IsNumeral 10 (take n w) → stops (is_digit 10) (drop n w) ≡ true → (o : Option ℕ) →
+number_kinds : (w : List ℕ) (n : ℕ) (x : VerilogPiece) → n ≤ length w → IsNumeral 10 (take n w) → stops (is_digit 10) (drop n w) ≡ true → (o : Option ℕ) →
     next_base (drop n w) ≡ o → first_number o n w ≡ Some x → Cut w x
 number_kinds w n x le digits stop None b e = cut_as w _ _ x (of_first w n kinds.Number (digits, stop, b)) refl e
 number_kinds w n x le digits stop (Some base) b e =
@@ -118,14 +118,14 @@ number_kinds w n x le digits stop (Some base) b e =
     let size : length (take n w) ≡ n = length-take-le n w le in
     let parts : take n w ++ drop n w ≡ w = take-append-drop n w in
     let t = sized_found (take n w) (drop n w) base digits k in
-    let t2 = subst (λ j. IsToken kinds.Sized (take (sized_length j base (take n w ++ drop n w)) (take n w ++ drop n w))
+    let t2 = subst (λ j. IsVerilogToken kinds.Sized (take (sized_length j base (take n w ++ drop n w)) (take n w ++ drop n w))
     (drop (sized_length j base (take n w ++ drop n w)) (take n w ++ drop n w))) size t in
-    let t3 = subst (λ (l : List ℕ). IsToken kinds.Sized (take (sized_length n base l) l) (drop (sized_length n base l) l)) parts t2 in
+    let t3 = subst (λ (l : List ℕ). IsVerilogToken kinds.Sized (take (sized_length n base l) l) (drop (sized_length n base l) l)) parts t2 in
     cut_as w _ _ x (of_first w (sized_length n base w) kinds.Sized t3) refl e
 
 -- ---- symbols
 
-one_found : (c : ℕ) (w : List ℕ) (x : Piece) → ((d : ℕ) (v : List ℕ) → w ≡ d ∷ v → named symbol_text double_symbols (c ∷ d ∷ []) ≡ None) →
+one_found : (c : ℕ) (w : List ℕ) (x : VerilogPiece) → ((d : ℕ) (v : List ℕ) → w ≡ d ∷ v → named symbol_text double_symbols (c ∷ d ∷ []) ≡ None) →
     (o : Option Symbol) → named symbol_text single_symbols (c ∷ []) ≡ o → one_symbol c o ≡ Some x → Cut (c ∷ w) x
 one_found c w x longer None h e = absurd cc
 one_found c w x longer (Some s) h e = cut_as (c ∷ w) (Lexeme (kinds.Symbol s) (c ∷ [])) _ x (record {
@@ -138,7 +138,7 @@ one_found c w x longer (Some s) h e = cut_as (c ∷ w) (Lexeme (kinds.Symbol s) 
   );
 }) refl e
 
-symbol_found : (c : ℕ) (w : List ℕ) (x : Piece) → first_symbol c w ≡ Some x → Cut (c ∷ w) x
+symbol_found : (c : ℕ) (w : List ℕ) (x : VerilogPiece) → first_symbol c w ≡ Some x → Cut (c ∷ w) x
 symbol_found c [] x e = one_found c [] x (λ d v a. absurd cc) (named symbol_text single_symbols (c ∷ [])) refl e
 symbol_found c (d ∷ w) x e = go (named symbol_text double_symbols (c ∷ d ∷ [])) refl e
   where
@@ -149,7 +149,7 @@ symbol_found c (d ∷ w) x e = go (named symbol_text double_symbols (c ∷ d ∷
 
 -- ---- comments
 
-block_found : (w : List ℕ) (x : Piece) (o : Option ℕ) → closing w ≡ o → block w o ≡ Some x → Cut (47 ∷ 42 ∷ w) x
+block_found : (w : List ℕ) (x : VerilogPiece) (o : Option ℕ) → closing w ≡ o → block w o ≡ Some x → Cut (47 ∷ 42 ∷ w) x
 block_found w x None h e = absurd cc
 block_found w x (Some n) h e =
     let k = closed w n h in
@@ -161,7 +161,7 @@ block_found w x (Some n) h e =
       stands = k.first;
     }) (ap (λ (l : List ℕ). Some (Block l)) front) e
 
-comment_found : (w : List ℕ) (x : Piece) → first_comment w ≡ Some x → Cut (47 ∷ w) x
+comment_found : (w : List ℕ) (x : VerilogPiece) → first_comment w ≡ Some x → Cut (47 ∷ w) x
 comment_found [] x e = absurd cc
 comment_found (c ∷ w) x e = elim (chosen (c == 47) _ _ (Some x) e) [
   | inl a ↦ subst (λ k. Cut (47 ∷ k ∷ w) x) (sym ((Decides-eqb c 47).0 a.0)) (
@@ -179,7 +179,7 @@ comment_found (c ∷ w) x e = elim (chosen (c == 47) _ _ (Some x) e) [
 
 -- ---- pieces
 
-pub piece_found : (w : List ℕ) (x : Piece) → first_piece w ≡ Some x → Cut w x
+pub piece_found : (w : List ℕ) (x : VerilogPiece) → first_piece w ≡ Some x → Cut w x
 unfolding first_piece
 piece_found [] x e = absurd cc
 piece_found (c ∷ w) x e = elim (chosen (is_blank c) _ _ (Some x) e) [

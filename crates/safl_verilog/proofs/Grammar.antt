@@ -14,10 +14,10 @@ use Rattle.safl_verilog.specs.declared.token.Keyword.{Keyword}
 use Rattle.safl_verilog.specs.declared.token.Keyword.TheVariants as keywords
 use Rattle.safl_verilog.specs.declared.token.Symbol.{Symbol}
 use Rattle.safl_verilog.specs.declared.token.Symbol.TheVariants as symbols
-use Rattle.safl_verilog.specs.Tokens.{keyword_text, symbol_text, Terminal}
-use Rattle.safl_verilog.specs.Files.{Spot, Expression, Literal, Plain, Inverted, Binary, Choice, Joined, Slice, Declaration, Statement, Assign, Always, File}
+use Rattle.safl_verilog.specs.Tokens.{keyword_text, symbol_text, VerilogTerminal}
+use Rattle.safl_verilog.specs.Files.{Spot, RightSide, Literal, Plain, Inverted, Binary, Choice, Joined, Slice, Declaration, Statement, Assign, Always, File}
 use Rattle.safl_verilog.specs.Grammar
-use Rattle.safl_verilog.specs.Grammar.{spot, word, symbol}
+use Rattle.safl_verilog.specs.Grammar.{spot, verilog_keyword, verilog_symbol}
 use Rattle.safl_verilog.specs.Codes.{code, code_of, classed, operators, primitive_in, sort_codes, sort_in, keyword_code, symbol_code}
 use Rattle.safl_verilog.specs.Reader.{read_code, read_word, read_symbol, read_operator, read_sort, read_constant, read_inverted, read_binary, read_choice, read_joined}
 use Rattle.safl_verilog.specs.Reader.{read_slice, read_named, read_cell, read_written_range, read_range, read_decl, read_assign, read_otherwise}
@@ -26,21 +26,21 @@ use Rattle.safl_verilog.specs.Reader.{read_another_stmt, read_stmts, read_body, 
 use Rattle.safl_verilog.proofs.Classes.{keyword_class, symbol_class, identifier_at, identifier_class, number_at, number_class, literal_at, literal_class}
 use Rattle.safl_verilog.proofs.Classes.{operator_at, operator_class, sort_at, sort_class}
 
-classed_within : {A : Type 0} (codes : List ℕ) (value : Terminal → A) (t : Terminal) (x : A) → classed codes value t ≡ Some x → within (Only codes) (code (Some t)) ≡ true
+classed_within : {A : Type 0} (codes : List ℕ) (value : VerilogTerminal → A) (t : VerilogTerminal) (x : A) → classed codes value t ≡ Some x → within (Only codes) (code (Some t)) ≡ true
 classed_within codes value t x e = go (within (Only codes) (code_of t.kind)) e
   where
     go : (b : Bool) → cond b (Some (value t)) None ≡ Some x → b ≡ true
     go true e = refl
     go false e = absurd cc
 
-one_of : {A : Type 0} (codes : List ℕ) (value : Terminal → A) → Parses code (read_token (classed codes value)) (token (classed codes value))
+one_of : {A : Type 0} (codes : List ℕ) (value : VerilogTerminal → A) → Parses code (read_token (classed codes value)) (token (classed codes value))
     (token (classed codes value)) false (Only codes) (Only []) Every
 one_of codes value = parses_token code (classed codes value) (Only codes) (classed_within codes value)
 
 -- the same of a class by texts
-as_token : {A : Type 0} (p : Reading Terminal A) (class coded : Terminal → Option A) (G : Set) → class ≡ coded → Parses code p (token coded) (token coded)
+as_token : {A : Type 0} (p : Reading VerilogTerminal A) (class coded : VerilogTerminal → Option A) (G : Set) → class ≡ coded → Parses code p (token coded) (token coded)
     false G (Only []) Every → Parses code p (token class) (token class) false G (Only []) Every
-as_token {A} p class coded G e h = subst (λ (c : Terminal → Option A). Parses code p (token c) (token c) false G (Only []) Every) (sym e) h
+as_token {A} p class coded G e h = subst (λ (c : VerilogTerminal → Option A). Parses code p (token c) (token c) false G (Only []) Every) (sym e) h
 
 k : (n : ℕ) → Parses code (read_code n) (token (classed (n ∷ []) spot)) (token (classed (n ∷ []) spot)) false (Only (n ∷ [])) (Only []) Every
 k n = one_of (n ∷ []) spot
@@ -48,17 +48,17 @@ k n = one_of (n ∷ []) spot
 an_id : Parses code (read_code 1) Grammar.id Grammar.id false (Only (1 ∷ [])) (Only []) Every
 an_id = as_token (read_code 1) identifier_at (classed (1 ∷ []) spot) (Only (1 ∷ [])) identifier_class (k 1)
 
-a_number : Parses code (read_code 2) Grammar.number Grammar.number false (Only (2 ∷ [])) (Only []) Every
+a_number : Parses code (read_code 2) Grammar.verilog_number Grammar.verilog_number false (Only (2 ∷ [])) (Only []) Every
 a_number = as_token (read_code 2) number_at (classed (2 ∷ []) spot) (Only (2 ∷ [])) number_class (k 2)
 
-a_literal : Parses code (read_code 3) Grammar.literal Grammar.literal false (Only (3 ∷ [])) (Only []) Every
+a_literal : Parses code (read_code 3) Grammar.verilog_literal Grammar.verilog_literal false (Only (3 ∷ [])) (Only []) Every
 a_literal = as_token (read_code 3) literal_at (classed (3 ∷ []) spot) (Only (3 ∷ [])) literal_class (k 3)
 
-w : (x : Keyword) → Parses code (read_word x) (word x) (word x) false (Only (keyword_code x ∷ [])) (Only []) Every
-w x = as_token (read_word x) (Grammar.spelled (keyword_text x)) (classed (keyword_code x ∷ []) spot) (Only (keyword_code x ∷ [])) (keyword_class x) (k (keyword_code x))
+w : (x : Keyword) → Parses code (read_word x) (verilog_keyword x) (verilog_keyword x) false (Only (keyword_code x ∷ [])) (Only []) Every
+w x = as_token (read_word x) (Grammar.spelled_as (keyword_text x)) (classed (keyword_code x ∷ []) spot) (Only (keyword_code x ∷ [])) (keyword_class x) (k (keyword_code x))
 
-s : (x : Symbol) → Parses code (read_symbol x) (symbol x) (symbol x) false (Only (symbol_code x ∷ [])) (Only []) Every
-s x = as_token (read_symbol x) (Grammar.spelled (symbol_text x)) (classed (symbol_code x ∷ []) spot) (Only (symbol_code x ∷ [])) (symbol_class x) (k (symbol_code x))
+s : (x : Symbol) → Parses code (read_symbol x) (verilog_symbol x) (verilog_symbol x) false (Only (symbol_code x ∷ [])) (Only []) Every
+s x = as_token (read_symbol x) (Grammar.spelled_as (symbol_text x)) (classed (symbol_code x ∷ []) spot) (Only (symbol_code x ∷ [])) (symbol_class x) (k (symbol_code x))
 
 an_operator : Parses code read_operator Grammar.operator Grammar.operator false (Only operators) (Only []) Every
 an_operator = as_token read_operator operator_at (classed operators (λ t. primitive_in t.kind)) (Only operators) operator_class (one_of operators (λ t. primitive_in t.kind))
@@ -97,7 +97,7 @@ slice_parses a = then (s symbols.OpenBracket) (λ o. then a_number
     (λ high. then (s symbols.Colon) (λ l. then a_number (λ low. then (s symbols.CloseBracket) (λ m. parses_nothing code (Slice a high low) semicolon)
     refl refl) refl refl) refl refl) refl refl) refl refl
 
-abbrev by_names : Syntax Terminal Expression
+abbrev by_names : Syntax VerilogTerminal RightSide
 by_names = either (follows Grammar.id Grammar.binary_end) (either (follows Grammar.id Grammar.choice_end) (either (follows Grammar.id Grammar.slice_end) (follows Grammar.id Grammar.plain_end)))
 
 -- the four that begin with an identifier are read as one
@@ -195,41 +195,41 @@ file_parses = then (w keywords.Module) (λ o. then an_id (λ x. then (s symbols.
 
 -- ---- whole texts
 
-abbrev the_file : ℕ → Syntax Terminal File
+abbrev the_file : ℕ → Syntax VerilogTerminal File
 the_file n = Grammar.file
 
-pub spelled : (ts : List Terminal) (m : File) (v : List Terminal) → read_text ts ≡ Ok (m, v) → Spells the_file ts m
+pub spelled : (ts : List VerilogTerminal) (m : File) (v : List VerilogTerminal) → read_text ts ≡ Ok (m, v) → Spells the_file ts m
 unfolding read_text
 spelled ts m v e = Text.spelled code read_file the_file 0 false (Only (4 ∷ [])) (Only []) Every (λ n. file_parses) refl ts m v e
 
-pub read_again : (ts : List Terminal) (m : File) → Spells the_file ts m → read_text ts ≡ Ok (m, [])
+pub read_again : (ts : List VerilogTerminal) (m : File) → Spells the_file ts m → read_text ts ≡ Ok (m, [])
 unfolding read_text
 read_again ts m e = Text.read_again code read_file the_file 0 false (Only (4 ∷ [])) (Only []) Every (λ n. file_parses) refl ts m e
 
-pub first_fault : (ts r : List Terminal) (e : Rule) → read_text ts ≡ Err (e, r) → Faults the_file ts e r
+pub first_fault : (ts r : List VerilogTerminal) (e : Rule) → read_text ts ≡ Err (e, r) → Faults the_file ts e r
 unfolding read_text
 first_fault ts r e h = Text.first_fault code read_file the_file 0 false (Only (4 ∷ [])) (Only []) Every (λ n. file_parses) refl ts r e h
 
-pub one_file : (ts : List Terminal) (a b : File) → Spells the_file ts a → Spells the_file ts b → a ≡ b
+pub one_file : (ts : List VerilogTerminal) (a b : File) → Spells the_file ts a → Spells the_file ts b → a ≡ b
 one_file ts a b x y = (ok_parts a b [] [] (sym (read_again ts a x) ∙ read_again ts b y)).0
 
-pub not_both : (ts : List Terminal) (m : File) (e : Rule) (r : List Terminal) → Spells the_file ts m → Faults the_file ts e r → ⊥
+pub not_both : (ts : List VerilogTerminal) (m : File) (e : Rule) (r : List VerilogTerminal) → Spells the_file ts m → Faults the_file ts e r → ⊥
 not_both = Text.not_both code read_file the_file 0 false (Only (4 ∷ [])) (Only []) Every (λ n. file_parses) refl
 
-pub file_or_fault : (ts : List Terminal) → ((m : File) × Spells the_file ts m) ⊎ ((e : Rule) × (r : List Terminal) × Faults the_file ts e r)
+pub file_or_fault : (ts : List VerilogTerminal) → ((m : File) × Spells the_file ts m) ⊎ ((e : Rule) × (r : List VerilogTerminal) × Faults the_file ts e r)
 file_or_fault ts = go (read_text ts) refl
   where
-    go : (y : Read Terminal File) → read_text ts ≡ y → ((m : File) × Spells the_file ts m) ⊎ ((e : Rule) × (r : List Terminal) × Faults the_file ts e r)
+    go : (y : Read VerilogTerminal File) → read_text ts ≡ y → ((m : File) × Spells the_file ts m) ⊎ ((e : Rule) × (r : List VerilogTerminal) × Faults the_file ts e r)
     go (Ok x) e = inl (x.0, spelled ts x.0 x.1 e)
     go (Err f) e = inr (f.0, f.1, first_fault ts f.1 f.0 e)
 
 -- ---- no shorter front of a file is a file
 
-ended : (y : Read Terminal File) (a b : File) (v r : List Terminal) → Ends y a v → y ≡ Ok (b, r) → v ≡ r
+ended : (y : Read VerilogTerminal File) (a b : File) (v r : List VerilogTerminal) → Ends y a v → y ≡ Ok (b, r) → v ≡ r
 ended (Ok x) a b v r h e = sym h.1 ∙ (ok_parts x.0 b x.1 r e).1
 ended (Err f) a b v r h e = absurd cc
 
-pub no_shorter : (u v : List Terminal) (a b : File) → Grammar.file.derives u a → Spells the_file (u ++ v) b → v ≡ []
+pub no_shorter : (u v : List VerilogTerminal) (a b : File) → Grammar.file.derives u a → Spells the_file (u ++ v) b → v ≡ []
 unfolding read_text
 no_shorter u v a b d e =
     let whole = read_again (u ++ v) b e in
@@ -237,6 +237,6 @@ no_shorter u v a b d e =
     let here = ended (read_file (u ++ v)) a x.0.0 v x.0.1 (file_parses.ends u v a d refl) x.1 in
     here ∙ nothing_left x.0.0 x.0.1 x.2
   where
-    nothing_left : (m : File) (r : List Terminal) → at_end (m, r) ≡ Ok (b, []) → r ≡ []
+    nothing_left : (m : File) (r : List VerilogTerminal) → at_end (m, r) ≡ Ok (b, []) → r ≡ []
     nothing_left m [] e = refl
     nothing_left m (t ∷ r) e = absurd cc

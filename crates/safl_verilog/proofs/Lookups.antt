@@ -6,7 +6,7 @@ use Rattle.std.proofs.Math.Bool.{or-true}
 use Rattle.safl_verilog.specs.declared.fault.VRule.TheVariants as rules
 use Rattle.safl_verilog.specs.Files.{Spot, Declaration, Statement, Assign, Always}
 use Rattle.safl_verilog.specs.Faults.{where_not, at, among, repeat_faults, find, assigned, updated}
-use Rattle.safl_verilog.specs.Netlists.{place_of}
+use Rattle.safl_verilog.specs.Netlists.{declared_place}
 use Rattle.safl_net.specs.Arranged.{Each}
 use Rattle.safl_net.proofs.EachOf.{each_stands}
 use Rattle.safl_verilog.proofs.Distinct.{Name, Has, Distinct, has_right, distinct_apart, same_name, other_name}
@@ -60,15 +60,15 @@ found_in (d ∷ ds) h =
 pub each_found : (ds : List Declaration) → Distinct (names ds) → Each (λ (d : Declaration). find ds d.name.bytes ≡ Some d) ds
 each_found ds h = each_stands _ _ (λ d k. k.0) ds (found_in ds h)
 
-pub place_at : (ds : List Declaration) → Distinct (names ds) → (i : ℕ) (d : Declaration) → slice_get ds i ≡ Some d → place_of ds d.name.bytes ≡ i
+pub place_at : (ds : List Declaration) → Distinct (names ds) → (i : ℕ) (d : Declaration) → slice_get ds i ≡ Some d → declared_place ds d.name.bytes ≡ i
 place_at [] h i d e = absurd cc
 place_at (x ∷ ds) h zero d e =
     let same : x ≡ d = cc in
     let t : bytes_eq x.name.bytes d.name.bytes ≡ true = ap (λ (y : Declaration). bytes_eq x.name.bytes y.name.bytes) (sym same) ∙ same_name x.name.bytes in
-    ap (λ b. cond b 0 (suc (place_of ds d.name.bytes))) t
+    ap (λ b. cond b 0 (suc (declared_place ds d.name.bytes))) t
 place_at (x ∷ ds) h (suc i) d e =
     let other = other_name x.name.bytes d.name.bytes (λ g. h.0 (subst (λ (w : Name). Has w (names ds)) (sym g) (at_has ds i d e))) in
-    ap (λ b. cond b 0 (suc (place_of ds d.name.bytes))) other ∙ ap suc (place_at ds h.1 i d e)
+    ap (λ b. cond b 0 (suc (declared_place ds d.name.bytes))) other ∙ ap suc (place_at ds h.1 i d e)
   where
     at_has : (ds : List Declaration) (i : ℕ) (d : Declaration) → slice_get ds i ≡ Some d → Has d.name.bytes (names ds)
     at_has [] i d e = absurd cc

@@ -12,28 +12,28 @@ use Rattle.safl_verilog.specs.declared.token.Symbol.TheVariants as symbols
 use Rattle.safl_verilog.specs.declared.token.TokenKind.TheVariants as kinds
 use Rattle.safl_verilog.specs.declared.token.Sort.{Sort}
 use Rattle.safl_verilog.specs.declared.token.Sort.TheVariants as sorts
-use Rattle.safl_verilog.specs.Tokens.{keyword_text, symbol_text, IsIdentifier, Piece, Blank, Lexeme}
-use Rattle.safl_verilog.specs.Files.{Spot, Expression, Literal, Plain, Inverted, Binary, Choice, Joined, Slice, Declaration, Statement, Assign, Always}
+use Rattle.safl_verilog.specs.Tokens.{keyword_text, symbol_text, IsIdentifier, VerilogPiece, Blank, Lexeme}
+use Rattle.safl_verilog.specs.Files.{Spot, RightSide, Literal, Plain, Inverted, Binary, Choice, Joined, Slice, Declaration, Statement, Assign, Always}
 
-abbrev pub space : Piece
+abbrev pub space : VerilogPiece
 space = Blank 32
 
-abbrev pub line_end : Piece
+abbrev pub line_end : VerilogPiece
 line_end = Blank 10
 
-abbrev pub kw : Keyword → Piece
+abbrev pub kw : Keyword → VerilogPiece
 kw k = Lexeme (kinds.Keyword k) (keyword_text k)
 
-abbrev pub sy : Symbol → Piece
+abbrev pub sy : Symbol → VerilogPiece
 sy s = Lexeme (kinds.Symbol s) (symbol_text s)
 
-abbrev pub id : Spot → Piece
+abbrev pub id : Spot → VerilogPiece
 id x = Lexeme kinds.Identifier x.bytes
 
-abbrev pub num : Spot → Piece
+abbrev pub num : Spot → VerilogPiece
 num x = Lexeme kinds.Number x.bytes
 
-abbrev pub lit : Spot → Piece
+abbrev pub lit : Spot → VerilogPiece
 lit x = Lexeme kinds.Sized x.bytes
 
 abbrev pub keyword_of : Sort → Keyword
@@ -66,17 +66,17 @@ is_operator (prims.Bits high low) = false
 is_operator (prims.Ext width) = false
 is_operator _ = true
 
-abbrev pub range_pieces : Option (Spot × Spot) → List Piece
+abbrev pub range_pieces : Option (Spot × Spot) → List VerilogPiece
 range_pieces None = []
 range_pieces (Some r) = sy symbols.OpenBracket ∷ num r.0 ∷ sy symbols.Colon ∷ num r.1 ∷ sy symbols.CloseBracket ∷ space ∷ []
 
-abbrev pub declaration_end : Spot → List Piece
+abbrev pub declaration_end : Spot → List VerilogPiece
 declaration_end x = id x ∷ sy symbols.Semicolon ∷ line_end ∷ []
 
-abbrev pub declaration_pieces : Declaration → List Piece
+abbrev pub declaration_pieces : Declaration → List VerilogPiece
 declaration_pieces d = space ∷ space ∷ kw (keyword_of d.sort) ∷ space ∷ (range_pieces d.range ++ declaration_end d.name)
 
-abbrev pub expression_pieces : Expression → List Piece
+abbrev pub expression_pieces : RightSide → List VerilogPiece
 expression_pieces (Literal l) = lit l ∷ []
 expression_pieces (Plain a) = id a ∷ []
 expression_pieces (Inverted a) = sy symbols.Tilde ∷ id a ∷ []
@@ -85,7 +85,7 @@ expression_pieces (Choice a b c) = id a ∷ space ∷ sy symbols.Question ∷ sp
 expression_pieces (Joined a b) = sy symbols.OpenBrace ∷ id a ∷ sy symbols.Comma ∷ space ∷ id b ∷ sy symbols.CloseBrace ∷ []
 expression_pieces (Slice a high low) = id a ∷ sy symbols.OpenBracket ∷ num high ∷ sy symbols.Colon ∷ num low ∷ sy symbols.CloseBracket ∷ []
 
-abbrev pub statement_pieces : Statement → List Piece
+abbrev pub statement_pieces : Statement → List VerilogPiece
 statement_pieces (Assign x e) =
     space ∷ space ∷ kw keywords.Assign ∷ space ∷ id x ∷ space ∷ sy symbols.Becomes ∷ space ∷ (expression_pieces e ++ sy symbols.Semicolon ∷ line_end ∷ [])
 statement_pieces (Always clock reset target initial second source) =
@@ -93,23 +93,23 @@ statement_pieces (Always clock reset target initial second source) =
     ∷ kw keywords.If ∷ space ∷ sy symbols.OpenParen ∷ id reset ∷ sy symbols.CloseParen ∷ space ∷ id target ∷ space ∷ sy symbols.LessEqual ∷ space ∷ lit initial
     ∷ sy symbols.Semicolon ∷ space ∷ kw keywords.Else ∷ space ∷ id second ∷ space ∷ sy symbols.LessEqual ∷ space ∷ id source ∷ sy symbols.Semicolon ∷ line_end ∷ []
 
-abbrev pub port_pieces : Spot → List Piece
+abbrev pub port_pieces : Spot → List VerilogPiece
 port_pieces x = sy symbols.Comma ∷ space ∷ id x ∷ []
 
 abbrev pub spot_of : List ℕ → Spot
 spot_of w = record { place = 0; bytes = w }
 
-abbrev pub last_pieces : List Piece
+abbrev pub last_pieces : List VerilogPiece
 last_pieces = kw keywords.Endmodule ∷ line_end ∷ []
 
-abbrev pub body_pieces : List Declaration → List Statement → List Piece
+abbrev pub body_pieces : List Declaration → List Statement → List VerilogPiece
 body_pieces ds ss = flat_map declaration_pieces ds ++ (flat_map statement_pieces ss ++ last_pieces)
 
-abbrev pub header_end : List Piece → List Piece
+abbrev pub header_end : List VerilogPiece → List VerilogPiece
 header_end body = sy symbols.CloseParen ∷ sy symbols.Semicolon ∷ line_end ∷ body
 
 -- a file whose header begins with x
-abbrev pub file_pieces : Spot → List Spot → List Declaration → List Statement → List Piece
+abbrev pub file_pieces : Spot → List Spot → List Declaration → List Statement → List VerilogPiece
 file_pieces x xs ds ss =
     kw keywords.Module ∷ space ∷ id (spot_of (codes "safl")) ∷ space ∷ sy symbols.OpenParen ∷ id x ∷ (flat_map port_pieces xs ++ header_end (body_pieces ds ss))
 
@@ -134,7 +134,7 @@ pub record FineDeclaration (d : Declaration) : Type 0 where
   pub range : FineRange d.range
   pub name : IsName d.name
 
-abbrev pub FineExpression : Expression → Type 0
+abbrev pub FineExpression : RightSide → Type 0
 FineExpression (Literal l) = IsWritten l.bytes
 FineExpression (Plain a) = IsName a
 FineExpression (Inverted a) = IsName a

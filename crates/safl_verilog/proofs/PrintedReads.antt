@@ -12,8 +12,8 @@ use Rattle.safl_verilog.specs.declared.token.Keyword.TheVariants as keywords
 use Rattle.safl_verilog.specs.declared.token.Symbol.TheVariants as symbols
 use Rattle.safl_verilog.specs.declared.token.Sort.{Sort}
 use Rattle.safl_verilog.specs.declared.token.Sort.TheVariants as sorts
-use Rattle.safl_verilog.specs.Tokens.{Terminal, Piece, Blank, Line, Block, Lexeme, text_of, tokens_from}
-use Rattle.safl_verilog.specs.Files.{Spot, Expression, Literal, Plain, Inverted, Binary, Choice, Joined, Slice, Declaration, Statement, Assign, Always, File}
+use Rattle.safl_verilog.specs.Tokens.{VerilogTerminal, VerilogPiece, Blank, Line, Block, Lexeme, piece_text, tokens_from}
+use Rattle.safl_verilog.specs.Files.{Spot, RightSide, Literal, Plain, Inverted, Binary, Choice, Joined, Slice, Declaration, Statement, Assign, Always, File}
 use Rattle.safl_verilog.specs.Codes.{sort_codes}
 use Rattle.safl_verilog.specs.Reader.{comes, read_word, read_symbol, read_constant, read_inverted, read_binary, read_choice, read_joined, read_slice}
 use Rattle.safl_verilog.specs.Reader.{read_named, read_cell, read_written_range, read_range, read_decl, read_assign, read_otherwise, read_at_reset}
@@ -28,7 +28,7 @@ use Rattle.safl_net.specs.Arranged.{Each}
 abbrev pub bare : Spot → Spot
 bare x = record { place = 0; bytes = x.bytes }
 
-abbrev pub bare_expression : Expression → Expression
+abbrev pub bare_expression : RightSide → RightSide
 bare_expression (Literal l) = Literal (bare l)
 bare_expression (Plain a) = Plain (bare a)
 bare_expression (Inverted a) = Inverted (bare a)
@@ -54,28 +54,28 @@ bare_file f = record { header = map bare f.header; declarations = map bare_decla
 -- ---- tokens of pieces
 
 -- where the tokens of the pieces after these begin
-abbrev pub behind : ℕ → List Piece → ℕ
+abbrev pub behind : ℕ → List VerilogPiece → ℕ
 behind p [] = p
 behind p (Blank c ∷ xs) = behind (p + 1) xs
-behind p (Line w ∷ xs) = behind (p + length (text_of (Line w))) xs
-behind p (Block w ∷ xs) = behind (p + length (text_of (Block w))) xs
+behind p (Line w ∷ xs) = behind (p + length (piece_text (Line w))) xs
+behind p (Block w ∷ xs) = behind (p + length (piece_text (Block w))) xs
 behind p (Lexeme k w ∷ xs) = behind (p + length w) xs
 
-pub tokens_append : (xs ys : List Piece) (p : ℕ) → tokens_from p (xs ++ ys) ≡ tokens_from p xs ++ tokens_from (behind p xs) ys
+pub tokens_append : (xs ys : List VerilogPiece) (p : ℕ) → tokens_from p (xs ++ ys) ≡ tokens_from p xs ++ tokens_from (behind p xs) ys
 tokens_append [] ys p = refl
 tokens_append (Blank c ∷ xs) ys p = tokens_append xs ys (p + 1)
-tokens_append (Line w ∷ xs) ys p = tokens_append xs ys (p + length (text_of (Line w)))
-tokens_append (Block w ∷ xs) ys p = tokens_append xs ys (p + length (text_of (Block w)))
-tokens_append (Lexeme k w ∷ xs) ys p = ap (λ (l : List Terminal). record { place = p; kind = k; bytes = w } ∷ l) (tokens_append xs ys (p + length w))
+tokens_append (Line w ∷ xs) ys p = tokens_append xs ys (p + length (piece_text (Line w)))
+tokens_append (Block w ∷ xs) ys p = tokens_append xs ys (p + length (piece_text (Block w)))
+tokens_append (Lexeme k w ∷ xs) ys p = ap (λ (l : List VerilogTerminal). record { place = p; kind = k; bytes = w } ∷ l) (tokens_append xs ys (p + length w))
 
 -- ---- lists of items
 
-module _ {X : Type 0} (test : Option Terminal → Bool) (go : List X → Reading Terminal (List X))
-    (eats : (a : List X) (w r : List Terminal) (x : List X) → go a w ≡ Ok (x, r) → length r < length w) (item : X → List Piece) (show : X → X)
-    (Fine : X → Type 0) (one : (x : X) → Fine x → (a : List X) (p : ℕ) (rest : List Terminal) → (y : X) ×
+module _ {X : Type 0} (test : Option VerilogTerminal → Bool) (go : List X → Reading VerilogTerminal (List X))
+    (eats : (a : List X) (w r : List VerilogTerminal) (x : List X) → go a w ≡ Ok (x, r) → length r < length w) (item : X → List VerilogPiece) (show : X → X)
+    (Fine : X → Type 0) (one : (x : X) → Fine x → (a : List X) (p : ℕ) (rest : List VerilogTerminal) → (y : X) ×
     (go a (tokens_from p (item x) ++ rest) ≡ Ok (a ++ y ∷ [], rest)) × (show y ≡ show x))
-    (begins : (x : X) (p : ℕ) (rest : List Terminal) → test (head_of (tokens_from p (item x) ++ rest)) ≡ true) where
-  items : (xs : List X) → Each Fine xs → (a : List X) (p : ℕ) (rest : List Terminal) → test (head_of rest) ≡ false → (ys : List X) ×
+    (begins : (x : X) (p : ℕ) (rest : List VerilogTerminal) → test (head_of (tokens_from p (item x) ++ rest)) ≡ true) where
+  items : (xs : List X) → Each Fine xs → (a : List X) (p : ℕ) (rest : List VerilogTerminal) → test (head_of rest) ≡ false → (ys : List X) ×
       (read_many test go a (tokens_from p (flat_map item xs) ++ rest) ≡ Ok (a ++ ys, rest)) × (map show ys ≡ map show xs)
   items [] h a p rest e = (
     [],
@@ -85,13 +85,13 @@ module _ {X : Type 0} (test : Option Terminal → Bool) (go : List X → Reading
   )
   items (x ∷ xs) h a p rest e =
       let w = tokens_from p (item x) ++ (tokens_from (behind p (item x)) (flat_map item xs) ++ rest) in
-      let split : tokens_from p (flat_map item (x ∷ xs)) ++ rest ≡ w = ap (λ (l : List Terminal). l ++ rest)
+      let split : tokens_from p (flat_map item (x ∷ xs)) ++ rest ≡ w = ap (λ (l : List VerilogTerminal). l ++ rest)
       (tokens_append (item x) (flat_map item xs) p) ∙ append_assoc (tokens_from p (item x)) (tokens_from (behind p (item x)) (flat_map item xs)) rest in
       let y = one x h.0 a p (tokens_from (behind p (item x)) (flat_map item xs) ++ rest) in
       let ys = items xs h.1 (a ++ y.0 ∷ []) (behind p (item x)) rest e in
       let turn : read_many test go a w ≡ read_many test go (a ++ y.0 ∷ []) (tokens_from (behind p (item x)) (flat_map item xs) ++ rest) =
       many_step test go eats a w ∙ ap (λ (b : Bool). cond b (go a w >>= λ y. read_many test go y.0 y.1) (Ok (a, w)))
-      (begins x p (tokens_from (behind p (item x)) (flat_map item xs) ++ rest)) ∙ ap (λ (z : Read Terminal (List X)). z >>= λ y. read_many test go y.0 y.1) y.1 in (
+      (begins x p (tokens_from (behind p (item x)) (flat_map item xs) ++ rest)) ∙ ap (λ (z : Read VerilogTerminal (List X)). z >>= λ y. read_many test go y.0 y.1) y.1 in (
         y.0 ∷ ys.0,
         ap (read_many test go a) split ∙ turn ∙ ys.1 ∙ ap (λ (l : List X). Ok (l, rest)) (append_assoc a (y.0 ∷ []) ys.0),
         ap (λ (z : X). z ∷ map show ys.0) y.2 ∙ ap (λ (l : List X). show x ∷ l) ys.2,
@@ -99,12 +99,12 @@ module _ {X : Type 0} (test : Option Terminal → Bool) (go : List X → Reading
 
 -- ---- items
 
-one_port : (x : Spot) → Unit {0} → (a : List Spot) (p : ℕ) (rest : List Terminal) → (y : Spot) ×
+one_port : (x : Spot) → Unit {0} → (a : List Spot) (p : ℕ) (rest : List VerilogTerminal) → (y : Spot) ×
     (read_another_id a (tokens_from p (port_pieces x) ++ rest) ≡ Ok (a ++ y ∷ [], rest)) × (bare y ≡ bare x)
 unfolding read_another_id
 one_port x h a p rest = (_, refl, refl)
 
-declared : (s : Sort) (o : Option (Spot × Spot)) (x : Spot) (a : List Declaration) (p : ℕ) (rest : List Terminal) → (d : Declaration) ×
+declared : (s : Sort) (o : Option (Spot × Spot)) (x : Spot) (a : List Declaration) (p : ℕ) (rest : List VerilogTerminal) → (d : Declaration) ×
     (read_another_decl a (tokens_from p (declaration_pieces (record { sort = s; range = o; name = x })) ++ rest) ≡ Ok (a ++ d ∷ [], rest)) ×
     (bare_declaration d ≡ bare_declaration (record { sort = s; range = o; name = x }))
 unfolding read_another_decl read_decl read_range read_written_range
@@ -117,7 +117,7 @@ declared sorts.Reg (Some r) x a p rest = (_, refl, refl)
 declared sorts.Wire None x a p rest = (_, refl, refl)
 declared sorts.Wire (Some r) x a p rest = (_, refl, refl)
 
-declared_begins : (d : Declaration) (p : ℕ) (rest : List Terminal) → comes sort_codes (head_of (tokens_from p (declaration_pieces d) ++ rest)) ≡ true
+declared_begins : (d : Declaration) (p : ℕ) (rest : List VerilogTerminal) → comes sort_codes (head_of (tokens_from p (declaration_pieces d) ++ rest)) ≡ true
 declared_begins d p rest = go d.sort d.range d.name
   where
     go : (s : Sort) (o : Option (Spot × Spot)) (x : Spot) → comes sort_codes (head_of (tokens_from p (declaration_pieces (record { sort = s; range = o; name = x })) ++ rest)) ≡ true
@@ -127,7 +127,7 @@ declared_begins d p rest = go d.sort d.range d.name
     go sorts.Wire o x = refl
 
 abbrev Stated : Statement → Type 0
-Stated s = (a : List Statement) (p : ℕ) (rest : List Terminal) → (y : Statement) ×
+Stated s = (a : List Statement) (p : ℕ) (rest : List VerilogTerminal) → (y : Statement) ×
     (read_another_stmt a (tokens_from p (statement_pieces s) ++ rest) ≡ Ok (a ++ y ∷ [], rest)) × (bare_statement y ≡ bare_statement s)
 
 binary : (x : Spot) (o : Primitive) (b c : Spot) → is_operator o ≡ true → Stated (Assign x (Binary o b c))
@@ -162,7 +162,7 @@ stated (Assign x (Joined b c)) h a p rest = (_, refl, refl)
 stated (Assign x (Slice b high low)) h a p rest = (_, refl, refl)
 stated (Always clock reset target initial second source) h a p rest = (_, refl, refl)
 
-stated_begins : (s : Statement) (p : ℕ) (rest : List Terminal) → comes (10 ∷ 11 ∷ []) (head_of (tokens_from p (statement_pieces s) ++ rest)) ≡ true
+stated_begins : (s : Statement) (p : ℕ) (rest : List VerilogTerminal) → comes (10 ∷ 11 ∷ []) (head_of (tokens_from p (statement_pieces s) ++ rest)) ≡ true
 stated_begins (Assign x e) p rest = refl
 stated_begins (Always clock reset target initial second source) p rest = refl
 
@@ -190,13 +190,13 @@ body_reads hs ds ss h p =
     (read_many (comes sort_codes) read_another_decl []) (tokens_append (flat_map declaration_pieces ds) later p) ∙ d.1 in
     let second : read_many (comes (10 ∷ 11 ∷ [])) read_another_stmt [] (tokens_from q later) ≡ Ok (s.0, tokens_from r last_pieces) = ap
     (read_many (comes (10 ∷ 11 ∷ [])) read_another_stmt []) (tokens_append (flat_map statement_pieces ss) last_pieces q) ∙ s.1 in
-    let k : List Declaration × List Terminal → Read Terminal File = λ (ds : List Declaration × List Terminal). read_follows
+    let k : List Declaration × List VerilogTerminal → Read VerilogTerminal File = λ (ds : List Declaration × List VerilogTerminal). read_follows
     (read_many (comes (10 ∷ 11 ∷ [])) read_another_stmt []) (λ ss. read_follows (read_word keywords.Endmodule)
     (λ e. read_nothing (record { header = hs; declarations = ds.0; statements = ss }))) ds.1 in
-    let l : List Statement × List Terminal → Read Terminal File = λ (ss : List Statement × List Terminal). read_follows (read_word keywords.Endmodule)
+    let l : List Statement × List VerilogTerminal → Read VerilogTerminal File = λ (ss : List Statement × List VerilogTerminal). read_follows (read_word keywords.Endmodule)
     (λ e. read_nothing (record { header = hs; declarations = d.0; statements = ss.0 })) ss.1 in (
       record { header = hs; declarations = d.0; statements = s.0 },
-      ap (λ (z : Read Terminal (List Declaration)). z >>= k) first ∙ ap (λ (z : Read Terminal (List Statement)). z >>= l) second,
+      ap (λ (z : Read VerilogTerminal (List Declaration)). z >>= k) first ∙ ap (λ (z : Read VerilogTerminal (List Statement)). z >>= l) second,
       ap (λ (ds : List Declaration). record { header = map bare hs; declarations = ds; statements = map bare_statement s.0 }) d.2 ∙ ap
           (λ (ss : List Statement). record { header = map bare hs; declarations = map bare_declaration ds; statements = ss }) s.2,
     )
@@ -205,7 +205,7 @@ body_reads hs ds ss h p =
     each_plain [] = tt
     each_plain (d ∷ ds) = (tt, each_plain ds)
 
-abbrev after_header : List Spot → Reading Terminal File
+abbrev after_header : List Spot → Reading VerilogTerminal File
 after_header hs = read_follows (read_symbol symbols.CloseParen) (λ c. read_follows (read_symbol symbols.Semicolon) (λ s. read_body hs))
 
 header_reads : (x : Spot) (xs : List Spot) (ds : List Declaration) (ss : List Statement) → Each FineStatement ss → (p : ℕ) → (f : File) ×
@@ -221,7 +221,7 @@ header_reads x xs ds ss h p =
     (tokens_append (flat_map port_pieces xs) (header_end (body_pieces ds ss)) p) ∙ ys.1 in
     let b = body_reads (x ∷ ys.0) ds ss h (q + 1 + 1 + 1) in (
       b.0,
-      ap (λ (z : Read Terminal (List Spot)). z >>= λ y. after_header y.0 y.1) first ∙ b.1,
+      ap (λ (z : Read VerilogTerminal (List Spot)). z >>= λ y. after_header y.0 y.1) first ∙ b.1,
       b.2 ∙ ap (λ (l : List Spot). record { header = bare x ∷ l; declarations = map bare_declaration ds; statements = map bare_statement ss }) ys.2,
     )
   where
@@ -239,4 +239,4 @@ pub reads_back : (x : Spot) (xs : List Spot) (ds : List Declaration) (ss : List 
 unfolding read_text read_file read_ids
 reads_back x xs ds ss h =
     let b = header_reads (record { place = _; bytes = x.bytes }) xs ds ss h _ in
-    record { file = b.0; read = ap (λ (z : Read Terminal File). z >>= at_end) b.1; same = b.2 }
+    record { file = b.0; read = ap (λ (z : Read VerilogTerminal File). z >>= at_end) b.1; same = b.2 }

@@ -8,8 +8,8 @@ use Rattle.safl_verilog.specs.declared.token.Keyword.{Keyword}
 use Rattle.safl_verilog.specs.declared.token.Symbol.{Symbol}
 use Rattle.safl_verilog.specs.declared.token.Symbol.TheVariants as symbols
 use Rattle.safl_net.specs.Names.{is_part}
-use Rattle.safl_verilog.specs.Tokens.{keyword_text, symbol_text, stops, next_base, IsSized, Piece, text_of, text_of_all, StandsBefore, StandAll}
-use Rattle.safl_verilog.specs.Files.{Spot, Expression, Literal, Plain, Inverted, Binary, Choice, Joined, Slice, Declaration, Statement, Assign, Always}
+use Rattle.safl_verilog.specs.Tokens.{keyword_text, symbol_text, stops, next_base, IsSized, VerilogPiece, piece_text, text_of_all, StandsInVerilog, StandAll}
+use Rattle.safl_verilog.specs.Files.{Spot, RightSide, Literal, Plain, Inverted, Binary, Choice, Joined, Slice, Declaration, Statement, Assign, Always}
 use Rattle.safl_verilog.specs.Pieces.{named, double_symbols}
 use Rattle.safl_verilog.proofs.Symbols.{double_named}
 use Rattle.safl_verilog.proofs.Found.{no_keyword}
@@ -19,24 +19,24 @@ use Rattle.safl_verilog.proofs.Printed.{FineRange, FineDeclaration, FineExpressi
 use Rattle.safl_net.specs.Arranged.{Each}
 use Rattle.safl_net.proofs.EachOf.{each_stands}
 
-pub text_append : (xs ys : List Piece) → text_of_all (xs ++ ys) ≡ text_of_all xs ++ text_of_all ys
+pub text_append : (xs ys : List VerilogPiece) → text_of_all (xs ++ ys) ≡ text_of_all xs ++ text_of_all ys
 text_append [] ys = refl
-text_append (x ∷ xs) ys = ap (λ (l : List ℕ). text_of x ++ l) (text_append xs ys) ∙ sym (append_assoc (text_of x) (text_of_all xs) (text_of_all ys))
+text_append (x ∷ xs) ys = ap (λ (l : List ℕ). piece_text x ++ l) (text_append xs ys) ∙ sym (append_assoc (piece_text x) (text_of_all xs) (text_of_all ys))
 
-pub stand_append : (xs ys : List Piece) (r : List ℕ) → StandAll xs (text_of_all ys ++ r) → StandAll ys r → StandAll (xs ++ ys) r
+pub stand_append : (xs ys : List VerilogPiece) (r : List ℕ) → StandAll xs (text_of_all ys ++ r) → StandAll ys r → StandAll (xs ++ ys) r
 stand_append [] ys r h k = k
 stand_append (x ∷ xs) ys r h k =
     let e : text_of_all xs ++ (text_of_all ys ++ r) ≡ text_of_all (xs ++ ys) ++ r = sym (append_assoc (text_of_all xs) (text_of_all ys) r) ∙ ap (λ (l : List ℕ). l ++ r) (sym (text_append xs ys)) in
-    (subst (λ (l : List ℕ). StandsBefore x l) e h.0, stand_append xs ys r h.1 k)
+    (subst (λ (l : List ℕ). StandsInVerilog x l) e h.0, stand_append xs ys r h.1 k)
 
-pub stand_each : {X : Type 0} (item : X → List Piece) (xs : List X) (r : List ℕ) → Each (λ x. (s : List ℕ) → StandAll (item x) s) xs → StandAll (flat_map item xs) r
+pub stand_each : {X : Type 0} (item : X → List VerilogPiece) (xs : List X) (r : List ℕ) → Each (λ x. (s : List ℕ) → StandAll (item x) s) xs → StandAll (flat_map item xs) r
 stand_each item [] r h = tt
 stand_each item (x ∷ xs) r h = stand_append (item x) (flat_map item xs) r (h.0 (text_of_all (flat_map item xs) ++ r)) (stand_each item xs r h.1)
 
 -- ---- single pieces
 
 -- a symbol of one byte that begins no longer one
-alone : (s : Symbol) (a : ℕ) (rest : List ℕ) → symbol_text s ≡ a ∷ [] → ((c : ℕ) → named symbol_text double_symbols (a ∷ c ∷ []) ≡ None) → StandsBefore (sy s) rest
+alone : (s : Symbol) (a : ℕ) (rest : List ℕ) → symbol_text s ≡ a ∷ [] → ((c : ℕ) → named symbol_text double_symbols (a ∷ c ∷ []) ≡ None) → StandsInVerilog (sy s) rest
 alone s a rest e h = (
   refl,
   λ t c v f g.
@@ -87,7 +87,7 @@ no_space symbols.ShiftLeft = refl
 no_space symbols.ShiftRight = refl
 
 -- a symbol before a space
-spaced : (s : Symbol) (rest : List ℕ) → StandsBefore (sy s) (32 ∷ rest)
+spaced : (s : Symbol) (rest : List ℕ) → StandsInVerilog (sy s) (32 ∷ rest)
 spaced s rest = (
   refl,
   λ t c v f g.
@@ -137,7 +137,7 @@ declaration_stands d h r =
 
 -- ---- statements
 
-expression_stands : (e : Expression) (r : List ℕ) → FineExpression e → StandAll (expression_pieces e) (59 ∷ r)
+expression_stands : (e : RightSide) (r : List ℕ) → FineExpression e → StandAll (expression_pieces e) (59 ∷ r)
 expression_stands (Literal l) r h = (written_stands l 59 r h refl, tt)
 expression_stands (Plain a) r h = ((h, refl), tt)
 expression_stands (Inverted a) r h = (alone symbols.Tilde 126 _ refl (λ c. refl), ((h, refl), tt))

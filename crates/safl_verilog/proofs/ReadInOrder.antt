@@ -8,7 +8,7 @@ use Rattle.safl_verilog.specs.declared.token.Sort.{Sort}
 use Rattle.safl_verilog.specs.declared.token.Sort.TheVariants as sorts
 use Rattle.safl_verilog.specs.Files.{Spot, Declaration, File}
 use Rattle.safl_verilog.specs.Faults.{is_clock, is_reset, is_data, is_input, is_reg, is_wire, literal_value, assigned, updated}
-use Rattle.safl_verilog.specs.Netlists.{number_of, driven, register_of, kind_of, signal_of, netlist}
+use Rattle.safl_verilog.specs.Netlists.{signal_number, driven, register_of, signal_kind, signal_of, netlist}
 use Rattle.safl_verilog.specs.Laws.{ReadsInOrder}
 
 each_kept : (f : File) (Q : Signal → Type 0) (p : Declaration → Bool) → ((d : Declaration) → p d ≡ true → Q (signal_of f d)) → (ds : List Declaration) → Each Q (map (signal_of f) (filter p ds))
@@ -19,7 +19,7 @@ each_kept f Q p h (d ∷ ds) = by (p d) refl (each_kept f Q p h ds)
     by true e k = (h d e, k)
     by false e k = k
 
-input_kept : (f : File) (s : Sort) (name : List ℕ) (a b : Bool) → (is_input s && a && b) ≡ true → kind_of f s name ≡ Input
+input_kept : (f : File) (s : Sort) (name : List ℕ) (a b : Bool) → (is_input s && a && b) ≡ true → signal_kind f s name ≡ Input
 input_kept f sorts.Input name a b h = refl
 input_kept f sorts.Output name a b h = absurd cc
 input_kept f sorts.Reg name a b h = absurd cc
@@ -27,15 +27,15 @@ input_kept f sorts.Wire name a b h = absurd cc
 
 register_made : (ds : List Declaration) (u : Option (Spot × Spot)) → (init : ℕ) × (next : Option ℕ) × (register_of ds u ≡ Reg init next)
 register_made ds None = (0, None, refl)
-register_made ds (Some u) = (literal_value u.0.bytes, Some (number_of ds u.1.bytes), refl)
+register_made ds (Some u) = (literal_value u.0.bytes, Some (signal_number ds u.1.bytes), refl)
 
-register_kept : (f : File) (s : Sort) (name : List ℕ) → is_reg s ≡ true → (init : ℕ) × (next : Option ℕ) × (kind_of f s name ≡ Reg init next)
+register_kept : (f : File) (s : Sort) (name : List ℕ) → is_reg s ≡ true → (init : ℕ) × (next : Option ℕ) × (signal_kind f s name ≡ Reg init next)
 register_kept f sorts.Input name h = absurd cc
 register_kept f sorts.Output name h = absurd cc
 register_kept f sorts.Reg name h = register_made f.declarations (updated f.statements name)
 register_kept f sorts.Wire name h = absurd cc
 
-wire_kept : (f : File) (s : Sort) (name : List ℕ) → is_wire s ≡ true → (cell : Option Cell) × (kind_of f s name ≡ Wire cell)
+wire_kept : (f : File) (s : Sort) (name : List ℕ) → is_wire s ≡ true → (cell : Option Cell) × (signal_kind f s name ≡ Wire cell)
 wire_kept f sorts.Input name h = absurd cc
 wire_kept f sorts.Output name h = absurd cc
 wire_kept f sorts.Reg name h = absurd cc

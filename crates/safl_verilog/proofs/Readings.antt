@@ -7,7 +7,7 @@ use Rattle.safl_grammar.specs.Syntax.{Rule}
 use Rattle.safl_net.specs.Netlist.{Netlist}
 use Rattle.safl_verilog.specs.declared.fault.VRule.TheVariants as rules
 use Rattle.safl_verilog.specs.declared.fault.VFault.{VFault}
-use Rattle.safl_verilog.specs.Tokens.{Terminal, HasTokens}
+use Rattle.safl_verilog.specs.Tokens.{VerilogTerminal, HasVerilogTokens}
 use Rattle.safl_verilog.specs.Files.{File}
 use Rattle.safl_verilog.specs.Faults.{at, faults}
 use Rattle.safl_verilog.specs.Netlists.{netlist}
@@ -16,7 +16,7 @@ use Rattle.safl_verilog.proofs.Grammar
 use Rattle.safl_verilog.proofs.Texts.{tokens_once, tokens_or_fault, fault_once, not_cut}
 
 -- what is left at the first fault of tokens
-same_rest : (ts r s : List Terminal) (d e : Rule) → HasUnexpected ts d r → HasUnexpected ts e s → r ≡ s
+same_rest : (ts r s : List VerilogTerminal) (d e : Rule) → HasUnexpected ts d r → HasUnexpected ts e s → r ≡ s
 same_rest ts r s d e a b =
     let le = a.first e b.front s b.parts b.broken in
     let ge = b.first d a.front r a.parts a.broken in
@@ -24,15 +24,15 @@ same_rest ts r s d e a b =
       | inl h ↦ elim ge [ inl k ↦ absurd (omega arith) | inr k ↦ sym k.0 ]
       | inr h ↦ h.0
     ] in
-    let cut_a : drop (length a.front) ts ≡ r = ap (λ (l : List Terminal). drop (length a.front) l) a.parts ∙ drop-append_seam a.front r in
-    let cut_b : drop (length b.front) ts ≡ s = ap (λ (l : List Terminal). drop (length b.front) l) b.parts ∙ drop-append_seam b.front s in
+    let cut_a : drop (length a.front) ts ≡ r = ap (λ (l : List VerilogTerminal). drop (length a.front) l) a.parts ∙ drop-append_seam a.front r in
+    let cut_b : drop (length b.front) ts ≡ s = ap (λ (l : List VerilogTerminal). drop (length b.front) l) b.parts ∙ drop-append_seam b.front s in
     sym cut_a ∙ ap (λ n. drop n ts) sizes ∙ cut_b
 
-file_at : (text : List ℕ) (ts us : List Terminal) (x : File) → HasTokens text ts → HasTokens text us → IsFile us x → IsFile ts x
-file_at text ts us x a b h = subst (λ (l : List Terminal). IsFile l x) (tokens_once text us ts b a) h
+file_at : (text : List ℕ) (ts us : List VerilogTerminal) (x : File) → HasVerilogTokens text ts → HasVerilogTokens text us → IsFile us x → IsFile ts x
+file_at text ts us x a b h = subst (λ (l : List VerilogTerminal). IsFile l x) (tokens_once text us ts b a) h
 
-unexpected_at : (text : List ℕ) (ts us r : List Terminal) (e : Rule) → HasTokens text ts → HasTokens text us → HasUnexpected us e r → HasUnexpected ts e r
-unexpected_at text ts us r e a b h = subst (λ (l : List Terminal). HasUnexpected l e r) (tokens_once text us ts b a) h
+unexpected_at : (text : List ℕ) (ts us r : List VerilogTerminal) (e : Rule) → HasVerilogTokens text ts → HasVerilogTokens text us → HasUnexpected us e r → HasUnexpected ts e r
+unexpected_at text ts us r e a b h = subst (λ (l : List VerilogTerminal). HasUnexpected l e r) (tokens_once text us ts b a) h
 
 pub one_netlist : (text : List ℕ) (n m : Netlist) → Reads text n → Reads text m → n ≡ m
 one_netlist text n m a b =
@@ -48,7 +48,7 @@ one_fault text f g (lexical p a e) (unexpected ts r d b k h) = absurd (not_cut t
 one_fault text f g (lexical p a e) (broken ts x more b k h) = absurd (not_cut text ts p b a)
 one_fault text f g (unexpected ts r d a k e) (lexical q b h) = absurd (not_cut text ts q a b)
 one_fault text f g (unexpected ts r d a k e) (unexpected us s d2 b l h) =
-    e ∙ ap (λ (t : List Terminal). at rules.V02 (place_in text t)) (same_rest ts r s d d2 k (unexpected_at text ts us s d2 a b l)) ∙ sym h
+    e ∙ ap (λ (t : List VerilogTerminal). at rules.V02 (place_in text t)) (same_rest ts r s d d2 k (unexpected_at text ts us s d2 a b l)) ∙ sym h
 one_fault text f g (unexpected ts r d a k e) (broken us x more b l h) = absurd (Grammar.not_both ts x d r (file_at text ts us x a b l) k)
 one_fault text f g (broken ts x more a k e) (lexical q b h) = absurd (not_cut text ts q a b)
 one_fault text f g (broken ts x more a k e) (unexpected us s d b l h) = absurd (Grammar.not_both ts x d s k (unexpected_at text ts us s d a b l))
@@ -67,7 +67,7 @@ not_both text n f a (broken ts x more b k e) =
 abbrev Either : List ℕ → Type 0
 Either text = ((n : Netlist) × Reads text n) ⊎ ((f : VFault) × HasFault text f)
 
-of_file : (text : List ℕ) (ts : List Terminal) (x : File) → HasTokens text ts → IsFile ts x → (fs : List VFault) → faults x ≡ fs → Either text
+of_file : (text : List ℕ) (ts : List VerilogTerminal) (x : File) → HasVerilogTokens text ts → IsFile ts x → (fs : List VFault) → faults x ≡ fs → Either text
 of_file text ts x a h [] e = inl (netlist x, record { tokens = ts; cut = a; file = x; derived = h; kept = e; means = refl })
 of_file text ts x a h (f ∷ more) e = inr (f, broken ts x more a h e)
 

@@ -20,7 +20,8 @@ use Rattle.safl_verilog.specs.declared.token.Symbol.{Symbol}
 use Rattle.safl_verilog.specs.declared.token.Symbol.TheVariants as symbols
 use Rattle.safl_verilog.specs.declared.token.TokenKind.{TokenKind}
 use Rattle.safl_verilog.specs.declared.token.TokenKind.TheVariants as kinds
-use Rattle.safl_verilog.specs.Tokens.{keyword_text, symbol_text, IsSized, IsToken, Piece, Blank, Line, Block, Lexeme, text_of, text_of_all, StandsBefore, StandAll, Terminal, tokens_from, HasTokens}
+use Rattle.safl_verilog.specs.Tokens.{keyword_text, symbol_text, IsSized, IsVerilogToken, VerilogPiece, Blank, Line, Block}
+use Rattle.safl_verilog.specs.Tokens.{Lexeme, piece_text, text_of_all, StandsInVerilog, StandAll, VerilogTerminal, tokens_from, HasVerilogTokens}
 use Rattle.safl_verilog.specs.Pieces.{named, all_keywords, word_kind}
 use Rattle.safl_verilog.specs.Files.{Spot, Declaration, Statement, File}
 use Rattle.safl_verilog.specs.Codes.{keyword_code, symbol_code, code_of}
@@ -63,34 +64,34 @@ last_of (x ∷ a) b (y ∷ before) s e h = let more : a ++ b ≡ before ++ s ∷
 
 -- ---- the end of a file
 
-some_token : (xs : List Piece) (p : ℕ) → tokens_from p (xs ++ last_pieces) ≡ [] → ⊥
+some_token : (xs : List VerilogPiece) (p : ℕ) → tokens_from p (xs ++ last_pieces) ≡ [] → ⊥
 some_token [] p e = cc
 some_token (Blank c ∷ xs) p e = some_token xs (p + 1) e
-some_token (Line w ∷ xs) p e = some_token xs (p + length (text_of (Line w))) e
-some_token (Block w ∷ xs) p e = some_token xs (p + length (text_of (Block w))) e
+some_token (Line w ∷ xs) p e = some_token xs (p + length (piece_text (Line w))) e
+some_token (Block w ∷ xs) p e = some_token xs (p + length (piece_text (Block w))) e
 some_token (Lexeme k w ∷ xs) p e = cc
 
 -- after its last token a file has no more than its last line feed
-left_over : (done more before : List Piece) (p : ℕ) → done ++ more ≡ before ++ last_pieces → tokens_from p more ≡ [] → (more ≡ []) ⊎ (more ≡ line_end ∷ [])
+left_over : (done more before : List VerilogPiece) (p : ℕ) → done ++ more ≡ before ++ last_pieces → tokens_from p more ≡ [] → (more ≡ []) ⊎ (more ≡ line_end ∷ [])
 left_over [] more before p e t = absurd (some_token before p (ap (tokens_from p) (sym e) ∙ t))
 left_over (c ∷ []) more [] p e t = inr cc
 left_over (c ∷ (d ∷ [])) more [] p e t = inl cc
 left_over (c ∷ (d ∷ (x ∷ done))) more [] p e t = absurd cc
 left_over (c ∷ done) more (x ∷ before) p e t = let rest : done ++ more ≡ before ++ last_pieces = cc in left_over done more before p rest t
 
-abbrev Closes : List Piece → Type 0
-Closes xs = (before : List Piece) × (xs ≡ before ++ last_pieces)
+abbrev Closes : List VerilogPiece → Type 0
+Closes xs = (before : List VerilogPiece) × (xs ≡ before ++ last_pieces)
 
-closes_behind : (xs ys : List Piece) → Closes ys → Closes (xs ++ ys)
-closes_behind xs ys (before, e) = (xs ++ before, ap (λ (l : List Piece). xs ++ l) e ∙ sym (append_assoc xs before last_pieces))
+closes_behind : (xs ys : List VerilogPiece) → Closes ys → Closes (xs ++ ys)
+closes_behind xs ys (before, e) = (xs ++ before, ap (λ (l : List VerilogPiece). xs ++ l) e ∙ sym (append_assoc xs before last_pieces))
 
 body_closes : (ds : List Declaration) (ss : List Statement) → Closes (body_pieces ds ss)
 body_closes ds ss = closes_behind (flat_map declaration_pieces ds) (flat_map statement_pieces ss ++ last_pieces) (flat_map statement_pieces ss, refl)
 
-header_closes : (body : List Piece) → Closes body → Closes (header_end body)
+header_closes : (body : List VerilogPiece) → Closes body → Closes (header_end body)
 header_closes body (before, e) = (header_end before, ap header_end e)
 
-abbrev opening : Spot → List Piece
+abbrev opening : Spot → List VerilogPiece
 opening x = kw keywords.Module ∷ space ∷ id (spot_of (codes "safl")) ∷ space ∷ sy symbols.OpenParen ∷ id x ∷ []
 
 file_closes : (x : Spot) (xs : List Spot) (ds : List Declaration) (ss : List Statement) → Closes (file_pieces x xs ds ss)
@@ -184,7 +185,7 @@ keyword_most keywords.Posedge = lit≤ tt
 keyword_most keywords.If = lit≤ tt
 keyword_most keywords.Else = lit≤ tt
 
-word_of_five : (k : TokenKind) (w rest : List ℕ) → IsToken k w rest → code_of k ≡ 5 → w ≡ codes "endmodule"
+word_of_five : (k : TokenKind) (w rest : List ℕ) → IsVerilogToken k w rest → code_of k ≡ 5 → w ≡ codes "endmodule"
 word_of_five kinds.Identifier w rest h e = absurd (omega (arith, e))
 word_of_five kinds.Number w rest h e = absurd (omega (arith, e))
 word_of_five kinds.Sized w rest h e = absurd (omega (arith, e))
@@ -201,14 +202,14 @@ holds_behind : (u v : List ℕ) → Holds v → Holds (u ++ v)
 holds_behind u v h = record { before = u ++ h.before; behind = h.behind; joined = ap (λ (l : List ℕ). u ++ l) h.joined ∙ sym (append_assoc u h.before (codes "endmodule" ++ h.behind)) }
 
 -- pieces whose last token is the word have it in their text
-held : (xs : List Piece) (p : ℕ) (before : List Terminal) (t : Terminal) → StandAll xs [] → tokens_from p xs ≡ before ++ t ∷ [] → code_of t.kind ≡ 5 → Holds (text_of_all xs)
+held : (xs : List VerilogPiece) (p : ℕ) (before : List VerilogTerminal) (t : VerilogTerminal) → StandAll xs [] → tokens_from p xs ≡ before ++ t ∷ [] → code_of t.kind ≡ 5 → Holds (text_of_all xs)
 held [] p before t h e c = absurd (nothing_behind before t (sym e))
 held (Blank d ∷ xs) p before t h e c = holds_behind (d ∷ []) (text_of_all xs) (held xs (p + 1) before t h.1 e c)
-held (Line w ∷ xs) p before t h e c = holds_behind (text_of (Line w)) (text_of_all xs) (held xs (p + length (text_of (Line w))) before t h.1 e c)
-held (Block w ∷ xs) p before t h e c = holds_behind (text_of (Block w)) (text_of_all xs) (held xs (p + length (text_of (Block w))) before t h.1 e c)
+held (Line w ∷ xs) p before t h e c = holds_behind (piece_text (Line w)) (text_of_all xs) (held xs (p + length (piece_text (Line w))) before t h.1 e c)
+held (Block w ∷ xs) p before t h e c = holds_behind (piece_text (Block w)) (text_of_all xs) (held xs (p + length (piece_text (Block w))) before t h.1 e c)
 held (Lexeme k w ∷ xs) p [] t h e c =
     let same : record { place = p; kind = k; bytes = w } ≡ t = cc in
-    let code : code_of k ≡ 5 = ap (λ (x : Terminal). code_of x.kind) same ∙ c in
+    let code : code_of k ≡ 5 = ap (λ (x : VerilogTerminal). code_of x.kind) same ∙ c in
     record { before = []; behind = text_of_all xs; joined = ap (λ (l : List ℕ). l ++ text_of_all xs) (word_of_five k w (text_of_all xs ++ []) h.0 code) }
 held (Lexeme k w ∷ xs) p (b ∷ before) t h e c =
     let more : tokens_from (p + length w) xs ≡ before ++ t ∷ [] = cc in
@@ -266,24 +267,24 @@ name_front w (c ∷ u) v h e some =
 -- ---- a front of a file
 
 abbrev Final : List ℕ → Type 0
-Final r = (x : Piece) (after : List ℕ) → r ≡ text_of x ++ after → ¬ StandsBefore x after
+Final r = (x : VerilogPiece) (after : List ℕ) → r ≡ piece_text x ++ after → ¬ StandsInVerilog x after
 
-cut_as : (f : List ℕ) (ts : List Terminal) (xs : List Piece) (r : List ℕ) → HasTokens f ts → f ≡ text_of_all xs ++ r → StandAll xs r → Final r → (ts ≡ tokens_from 0 xs) × (r ≡ [])
+cut_as : (f : List ℕ) (ts : List VerilogTerminal) (xs : List VerilogPiece) (r : List ℕ) → HasVerilogTokens f ts → f ≡ text_of_all xs ++ r → StandAll xs r → Final r → (ts ≡ tokens_from 0 xs) × (r ≡ [])
 cut_as f ts xs r c e h g =
     let same = same_pieces c.pieces xs [] r c.stand h final_end g (append-nil (text_of_all c.pieces) ∙ sym c.joined ∙ e) in
     (c.tokens ∙ ap (tokens_from 0) same.0, sym same.1)
 
-module _ (P : List Piece) (stand : StandAll P []) (b : File) (file : IsFile (tokens_from 0 P) b) (closes : Closes P) (place : in_place false P ≡ true)
-    (f r : List ℕ) (text : text_of_all P ≡ f ++ r) (ts : List Terminal) (cut : HasTokens f ts) (a : File) (read : IsFile ts a) where
+module _ (P : List VerilogPiece) (stand : StandAll P []) (b : File) (file : IsFile (tokens_from 0 P) b) (closes : Closes P) (place : in_place false P ≡ true)
+    (f r : List ℕ) (text : text_of_all P ≡ f ++ r) (ts : List VerilogTerminal) (cut : HasVerilogTokens f ts) (a : File) (read : IsFile ts a) where
   ends : EndsFile ts
   ends = file_ends ts a read.derived.1
 
   -- where the tokens of the front are those of the pieces, no token is left
-  none_left : (xs more : List Piece) → P ≡ xs ++ more → ts ≡ tokens_from 0 xs → tokens_from (behind 0 xs) more ≡ []
+  none_left : (xs more : List VerilogPiece) → P ≡ xs ++ more → ts ≡ tokens_from 0 xs → tokens_from (behind 0 xs) more ≡ []
   none_left xs more j t =
       let whole : tokens_from 0 P ≡ ts ++ tokens_from (behind 0 xs) more =
-      ap (tokens_from 0) j ∙ tokens_append xs more 0 ∙ ap (λ (l : List Terminal). l ++ tokens_from (behind 0 xs) more) (sym t) in
-      no_shorter ts (tokens_from (behind 0 xs) more) a b read.derived.1 (subst (λ (l : List Terminal). IsFile l b) whole file)
+      ap (tokens_from 0) j ∙ tokens_append xs more 0 ∙ ap (λ (l : List VerilogTerminal). l ++ tokens_from (behind 0 xs) more) (sym t) in
+      no_shorter ts (tokens_from (behind 0 xs) more) a b read.derived.1 (subst (λ (l : List VerilogTerminal). IsFile l b) whole file)
 
   at_seam : (k : Front P f) → k.part ≡ [] → (r ≡ []) ⊎ (r ≡ 10 ∷ [])
   at_seam k e =
@@ -298,15 +299,15 @@ module _ (P : List Piece) (stand : StandAll P []) (b : File) (file : IsFile (tok
       elim left [ inl m ↦ inl (rest ∙ ap text_of_all m) | inr m ↦ inr (rest ∙ ap text_of_all m) ]
 
   -- the pieces of a part, of which the last token is the file's last
-  record Part (xs : List Piece) (u : List ℕ) : Type 0 where
-    pieces : List Piece
+  record Part (xs : List VerilogPiece) (u : List ℕ) : Type 0 where
+    pieces : List VerilogPiece
     joined : u ≡ text_of_all pieces
     stands : StandAll pieces []
-    before : List Terminal
+    before : List VerilogTerminal
     tokens : tokens_from (behind 0 xs) pieces ≡ before ++ ends.last ∷ []
     all : ts ≡ tokens_from 0 xs ++ tokens_from (behind 0 xs) pieces
 
-  part_of : (xs more : List Piece) (u : List ℕ) → P ≡ xs ++ more → f ≡ text_of_all xs ++ u → StandAll xs u → (tokens_from (behind 0 xs) more ≡ [] → ⊥) → Part xs u
+  part_of : (xs more : List VerilogPiece) (u : List ℕ) → P ≡ xs ++ more → f ≡ text_of_all xs ++ u → StandAll xs u → (tokens_from (behind 0 xs) more ≡ [] → ⊥) → Part xs u
   part_of xs more u j e h some =
       let s = split u in
       let joined : f ≡ text_of_all (xs ++ s.pieces) ++ s.rest =
@@ -315,7 +316,7 @@ module _ (P : List Piece) (stand : StandAll P []) (b : File) (file : IsFile (tok
       let c = cut_as f ts (xs ++ s.pieces) s.rest cut joined stands s.final in
       let all : ts ≡ tokens_from 0 xs ++ tokens_from (behind 0 xs) s.pieces = c.0 ∙ tokens_append xs s.pieces 0 in
       elim (last_of (tokens_from 0 xs) (tokens_from (behind 0 xs) s.pieces) ends.before ends.semicolon ends.last (sym all ∙ ends.joined)) [
-        | inl none ↦ absurd (some (none_left xs more j (all ∙ ap (λ (l : List Terminal). tokens_from 0 xs ++ l) none ∙ append-nil (tokens_from 0 xs))))
+        | inl none ↦ absurd (some (none_left xs more j (all ∙ ap (λ (l : List VerilogTerminal). tokens_from 0 xs ++ l) none ∙ append-nil (tokens_from 0 xs))))
         | inr k ↦ record {
           pieces = s.pieces;
           joined = s.joined ∙ ap (λ (l : List ℕ). text_of_all s.pieces ++ l) c.1 ∙ append-nil (text_of_all s.pieces);
@@ -326,24 +327,25 @@ module _ (P : List Piece) (stand : StandAll P []) (b : File) (file : IsFile (tok
         }
       ]
 
-  holds : (xs : List Piece) (u : List ℕ) → Part xs u → Holds u
+  holds : (xs : List VerilogPiece) (u : List ℕ) → Part xs u → Holds u
   holds xs u p = subst (λ (l : List ℕ). Holds l) (sym p.joined) (held p.pieces (behind 0 xs) p.before ends.last p.stands p.tokens ends.is)
 
   -- a part of a name is one word, which cannot end a file
-  in_name : (w : List ℕ) (later xs : List Piece) (u v : List ℕ) → P ≡ xs ++ Lexeme kinds.Identifier w ∷ later → is_identifier w ≡ true → length w ≤ 200 → w ≡ u ++ v → 1 ≤ length u → Part xs u → ⊥
+  in_name : (w : List ℕ) (later xs : List VerilogPiece) (u v : List ℕ) → P ≡ xs ++ Lexeme kinds.Identifier w ∷ later → is_identifier w ≡ true → length w ≤ 200 → w ≡ u ++ v
+      → 1 ≤ length u → Part xs u → ⊥
   in_name w later xs u v j like short e some p =
       let size = ap length e ∙ length-append u v in
       let o = named keyword_text all_keywords u in
       let stands = word_kinds u [] (name_front w u v like e some) (omega (arith, short, size)) refl o refl in
-      let one : List Piece = Lexeme (word_kind o) u ∷ [] in
+      let one : List VerilogPiece = Lexeme (word_kind o) u ∷ [] in
       let texts : text_of_all p.pieces ++ [] ≡ text_of_all one ++ [] = ap (λ (l : List ℕ). l ++ []) (sym p.joined ∙ sym (append-nil u)) in
       let same = same_pieces p.pieces one [] [] p.stands (stands, tt) final_end final_end texts in
       let tokens : ts ≡ tokens_from 0 xs ++ record { place = behind 0 xs; kind = word_kind o; bytes = u } ∷ [] = p.all ∙ ap
-      (λ (l : List Piece). tokens_from 0 xs ++ tokens_from (behind 0 xs) l) same.0 in
+      (λ (l : List VerilogPiece). tokens_from 0 xs ++ tokens_from (behind 0 xs) l) same.0 in
       let front = all_but_last (tokens_from 0 xs) ends.before _ ends.semicolon ends.last (sym tokens ∙ ends.joined) in
       no_name_behind xs false w later 0 ends.before ends.semicolon (ap (in_place false) (sym j) ∙ place) front ends.closes
 
-  in_token : (k : TokenKind) (w : List ℕ) (later xs : List Piece) (u : List ℕ) (next : ℕ) (left : List ℕ) → P ≡ xs ++ Lexeme k w ∷ later → IsToken k w
+  in_token : (k : TokenKind) (w : List ℕ) (later xs : List VerilogPiece) (u : List ℕ) (next : ℕ) (left : List ℕ) → P ≡ xs ++ Lexeme k w ∷ later → IsVerilogToken k w
       (text_of_all later ++ []) → w ≡ u ++ next ∷ left → 1 ≤ length u → Part xs u → ⊥
   in_token kinds.Identifier w later xs u next left j h e some p = in_name w later xs u (next ∷ left) j h.0.like h.0.short e some p
   in_token kinds.Number w later xs u next left j h e some p = no_word w u (next ∷ left) (digits_other 10 w h.0.digits) e (holds xs u p)
@@ -353,8 +355,8 @@ module _ (P : List Piece) (stand : StandAll P []) (b : File) (file : IsFile (tok
   in_token (kinds.Symbol s) w later xs u next left j h e some p =
       let size = ap length h.0 in let most = symbol_most s in too_short w u (next ∷ left) (omega (arith, size, most)) e (omega arith) (holds xs u p)
 
-  inside : (x : Piece) (later xs : List Piece) (u : List ℕ) (next : ℕ) (left : List ℕ) → P ≡ xs ++ x ∷ later → StandsBefore x
-      (text_of_all later ++ []) → text_of x ≡ u ++ next ∷ left → f ≡ text_of_all xs ++ u → StandAll xs u → 1 ≤ length u → ⊥
+  inside : (x : VerilogPiece) (later xs : List VerilogPiece) (u : List ℕ) (next : ℕ) (left : List ℕ) → P ≡ xs ++ x ∷ later → StandsInVerilog x
+      (text_of_all later ++ []) → piece_text x ≡ u ++ next ∷ left → f ≡ text_of_all xs ++ u → StandAll xs u → 1 ≤ length u → ⊥
   inside (Blank c) later xs u next left j h e t s some = let size = ap length e ∙ length-append u (next ∷ left) in omega (arith, size, some)
   inside (Line w) later xs u next left j h e t s some = let clash : true ≡ false = no_comment xs false (Line w) later (ap (in_place false) (sym j) ∙ place) in cc
   inside (Block w) later xs u next left j h e t s some = let clash : true ≡ false = no_comment xs false (Block w) later (ap (in_place false) (sym j) ∙ place) in cc
@@ -367,7 +369,7 @@ module _ (P : List Piece) (stand : StandAll P []) (b : File) (file : IsFile (tok
       some_part k i [] e = at_seam k e
       some_part k i (c ∷ u) e =
           let some : 1 ≤ length k.part = let size = ap length e in omega (arith, size) in
-          absurd (inside i.piece i.later k.pieces k.part i.next i.left (k.joined ∙ ap (λ (l : List Piece). k.pieces ++ l) i.parts) i.stands i.cut k.text k.stand some)
+          absurd (inside i.piece i.later k.pieces k.part i.next i.left (k.joined ∙ ap (λ (l : List VerilogPiece). k.pieces ++ l) i.parts) i.stands i.cut k.text k.stand some)
 
       go : (k : Front P f) → (k.part ≡ []) ⊎ Inside k.part k.more → (r ≡ []) ⊎ (r ≡ 10 ∷ [])
       go k (inl e) = at_seam k e

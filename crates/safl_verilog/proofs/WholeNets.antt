@@ -4,7 +4,7 @@ use Rattle.std.specs.Prelude.{slice_get, codes, IsSome}
 use Rattle.std.proofs.lemmas.Slice.Eq.{bytes_eq-Decides}
 use Rattle.std.proofs.lemmas.Option.{same_Some}
 use Rattle.safl_net.specs.Netlist
-use Rattle.safl_net.specs.Netlist.{Netlist, Signal, Kind, Input, Reg, Wire, Cell, IsSet, AllSet, width_of, place, output_place}
+use Rattle.safl_net.specs.Netlist.{Netlist, Signal, Input, Reg, Wire, Cell, IsSet, AllSet, width_of, place, output_place}
 use Rattle.safl_net.specs.Making
 use Rattle.safl_net.specs.Whole.{IsWhole}
 use Rattle.safl_net.specs.Arranged.{IsRegister, IsWire, Each}

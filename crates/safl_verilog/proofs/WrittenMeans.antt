@@ -14,7 +14,7 @@ use Rattle.safl_verilog.specs.declared.token.Sort.TheVariants as sorts
 use Rattle.safl_verilog.specs.Files.{Spot, Plain, Declaration, Statement, File}
 use Rattle.safl_verilog.specs.Faults.{is_data, is_reg, is_wire, is_output, operands, assigned, updated}
 use Rattle.safl_verilog.specs.Netlists
-use Rattle.safl_verilog.specs.Netlists.{signals_of, place_of, number_of, cell_of, driven, register_of, kind_of, signal_of, shown_signal, output_of, netlist}
+use Rattle.safl_verilog.specs.Netlists.{signals_of, declared_place, signal_number, cell_of, driven, register_of, signal_kind, signal_of, shown_signal, output_of, netlist}
 use Rattle.safl_net.specs.Arranged.{IsInput, Each}
 use Rattle.safl_net.proofs.EachOf.{each_join, each_stands}
 use Rattle.safl_verilog.proofs.WholeNets.{IsUpdated, IsAssigned}
@@ -23,7 +23,7 @@ use Rattle.safl_verilog.proofs.Lookups.{names, place_at}
 use Rattle.safl_verilog.proofs.Printed.{spot_of}
 use Rattle.safl_verilog.proofs.FileOf.{named_spot, expression_of, declare_signal, declare_output, driver, declarations_of, statements_of, file_of}
 use Rattle.safl_verilog.proofs.WrittenNames
-use Rattle.safl_verilog.proofs.WrittenNames.{sort_by, declared, signal_names, declared_width, good_identifier}
+use Rattle.safl_verilog.proofs.WrittenNames.{sort_by, declared, signal_names, declared_width}
 use Rattle.safl_verilog.proofs.WrittenRules
 
 -- lists that agree at each place
@@ -136,41 +136,41 @@ module _ (n : Netlist) (net : IsNetlist n) (is rs ws : List Signal) (whole : n.s
   declared_names (g ∷ gs) = ap (λ (l : List Name). g.name ∷ l) (declared_names gs)
 
   -- the number of a name is that of its signal
-  number_is : (s : ℕ) → Used s → number_of ds (name_of n s) ≡ s
+  number_is : (s : ℕ) → Used s → signal_number ds (name_of n s) ≡ s
   number_is s u =
       let d : Distinct (names (map declared n.signals)) = subst Distinct (sym (declared_names n.signals)) (WrittenNames.signals_differ n net is rs ws whole inputs registers wires) in
-      ap (λ (l : List Declaration). place_of l (name_of n s)) signals_are ∙ ap (place_of (map declared n.signals)) u.named ∙ place_at
+      ap (λ (l : List Declaration). declared_place l (name_of n s)) signals_are ∙ ap (declared_place (map declared n.signals)) u.named ∙ place_at
       (map declared n.signals) d s (declared u.signal) (get_map declared n.signals s u.signal u.stands)
 
-  numbers_are : (xs : List ℕ) → Each Used xs → map (λ (a : Spot). number_of ds a.bytes) (map (named_spot n) xs) ≡ xs
+  numbers_are : (xs : List ℕ) → Each Used xs → map (λ (a : Spot). signal_number ds a.bytes) (map (named_spot n) xs) ≡ xs
   numbers_are [] h = refl
-  numbers_are (x ∷ xs) h = ap (λ y. y ∷ map (λ (a : Spot). number_of ds a.bytes) (map (named_spot n) xs)) (number_is x h.0) ∙ ap (λ (l : List ℕ). x ∷ l) (numbers_are xs h.1)
+  numbers_are (x ∷ xs) h = ap (λ y. y ∷ map (λ (a : Spot). signal_number ds a.bytes) (map (named_spot n) xs)) (number_is x h.0) ∙ ap (λ (l : List ℕ). x ∷ l) (numbers_are xs h.1)
 
   cell_is : (g : Signal) → (d : Driven g) → cell_of ds (expression_of n d.cell) ≡ d.cell
   cell_is g d =
-      ap (λ p. record { op = p; operands = map (λ (a : Spot). number_of ds a.bytes) (operands (expression_of n d.cell)) }) d.sound.does
-      ∙ ap (λ (l : List ℕ). record { op = d.cell.op; operands = l }) (ap (map (λ (a : Spot). number_of ds a.bytes)) d.sound.takes ∙ numbers_are d.cell.operands d.operands_used)
+      ap (λ p. record { op = p; operands = map (λ (a : Spot). signal_number ds a.bytes) (operands (expression_of n d.cell)) }) d.sound.does
+      ∙ ap (λ (l : List ℕ). record { op = d.cell.op; operands = l }) (ap (map (λ (a : Spot). signal_number ds a.bytes)) d.sound.takes ∙ numbers_are d.cell.operands d.operands_used)
 
   abbrev Back : Signal → Type 0
   Back g = signal_of f0 (declared g) ≡ g
 
-  back : (g : Signal) → WrittenRules.Member n net is rs ws whole inputs registers wires g → kind_of f0 (sort_by g.kind) g.name ≡ g.kind → Back g
+  back : (g : Signal) → WrittenRules.Member n net is rs ws whole inputs registers wires g → signal_kind f0 (sort_by g.kind) g.name ≡ g.kind → Back g
   back g m e =
-      ap (λ k. record { name = g.name; width = k; kind = kind_of f0 (sort_by g.kind) g.name }) (declared_width g.width m.0.some m.0.most)
+      ap (λ k. record { name = g.name; width = k; kind = signal_kind f0 (sort_by g.kind) g.name }) (declared_width g.width m.0.some m.0.most)
       ∙ ap (λ k. record { name = g.name; width = g.width; kind = k }) e
 
   inputs_back : Each Back is
   inputs_back =
-      each_both IsInput (WrittenRules.Member n net is rs ws whole inputs registers wires) Back (λ g e m. back g m (ap (λ k. kind_of f0 (sort_by k) g.name) e ∙ sym e)) is inputs
+      each_both IsInput (WrittenRules.Member n net is rs ws whole inputs registers wires) Back (λ g e m. back g m (ap (λ k. signal_kind f0 (sort_by k) g.name) e ∙ sym e)) is inputs
       (WrittenRules.members n net is rs ws whole inputs registers wires).0
 
   registers_back : Each Back rs
   registers_back =
       each_both (λ g. (h : Held g) × (updated ss g.name ≡ Some (spot_of (literal g.width h.init), named_spot n h.next))) (WrittenRules.Member n net is rs ws whole inputs registers wires) Back
       (λ g h m. back g m (
-      ap (λ k. kind_of f0 (sort_by k) g.name) h.0.kind_is
+      ap (λ k. signal_kind f0 (sort_by k) g.name) h.0.kind_is
       ∙ ap (register_of ds) h.1
-      ∙ ap (λ v. Reg v (Some (number_of ds (name_of n h.0.next)))) h.0.literal_is.bits_is
+      ∙ ap (λ v. Reg v (Some (signal_number ds (name_of n h.0.next)))) h.0.literal_is.bits_is
       ∙ ap (λ k. Reg h.0.init (Some k)) (number_is h.0.next h.0.next_used) ∙ sym h.0.kind_is)) rs
       (WrittenRules.registers_done n net is rs ws whole inputs registers wires) (WrittenRules.members n net is rs ws whole inputs registers wires).1
 
@@ -178,7 +178,7 @@ module _ (n : Netlist) (net : IsNetlist n) (is rs ws : List Signal) (whole : n.s
   wires_back =
       each_both (λ g. Driven g × (assigned ss g.name ≡ Some (driver n g.kind))) (WrittenRules.Member n net is rs ws whole inputs registers wires) Back
       (λ g h m. back g m (
-      ap (λ k. kind_of f0 (sort_by k) g.name) h.0.kind_is
+      ap (λ k. signal_kind f0 (sort_by k) g.name) h.0.kind_is
       ∙ ap (λ x. Wire (Netlists.driven ds x)) (h.1 ∙ ap (λ k. Some (driver n k)) h.0.kind_is)
       ∙ ap (λ c. Wire (Some c)) (cell_is g h.0) ∙ sym h.0.kind_is)) ws
       (each_both Driven (λ g. assigned ss g.name ≡ Some (driver n g.kind)) (λ g. Driven g × (assigned ss g.name ≡ Some (driver n g.kind)))

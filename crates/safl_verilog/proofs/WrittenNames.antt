@@ -20,7 +20,7 @@ use Rattle.safl_verilog.specs.declared.token.Sort.TheVariants as sorts
 use Rattle.safl_verilog.specs.Tokens.{keyword_text, IsIdentifier}
 use Rattle.safl_verilog.specs.Files.{Declaration}
 use Rattle.safl_verilog.specs.Faults
-use Rattle.safl_verilog.specs.Faults.{find, passes, is_signal, is_clock, is_reset, range_width, width_in}
+use Rattle.safl_verilog.specs.Faults.{find, passes, is_signal, is_clock, is_reset, width_in}
 use Rattle.safl_net.specs.Arranged.{IsInput, Each}
 use Rattle.safl_net.proofs.EachOf.{each_join}
 use Rattle.safl_verilog.proofs.WholeNets.{IsUpdated, IsAssigned}
@@ -243,7 +243,7 @@ module _ (n : Netlist) (net : IsNetlist n) (is rs ws : List Signal) (whole : n.s
     pub named : name_of n s ≡ signal.name
     pub good : is_good signal.name ≡ true
     pub fits : passes is_signal (find ds (name_of n s)) ≡ true
-    pub width : Faults.width_of ds (name_of n s) ≡ width_of n s
+    pub width : Faults.width_declared ds (name_of n s) ≡ width_of n s
     pub narrow : width_of n s ≤ 128
     pub some : 1 ≤ width_of n s
 

@@ -14,7 +14,7 @@ use Rattle.safl_net.specs.Netlist
 use Rattle.safl_net.specs.Netlist.{Netlist, Signal, Kind, Input, Reg, Wire, Cell}
 use Rattle.safl_net.specs.Names.{is_good}
 use Rattle.safl_net.specs.Widths.{op_width}
-use Rattle.safl_net.specs.Making.{widths}
+use Rattle.safl_net.specs.Making.{signal_widths}
 use Rattle.safl_net.specs.Rules.{IsNetlist, SignalFits, KindFits, CellFits}
 use Rattle.safl_net.specs.Making.{name_at as name_of}
 use Rattle.safl_net.specs.Written.{literal}
@@ -25,7 +25,7 @@ use Rattle.safl_verilog.specs.Tokens.{IsIdentifier}
 use Rattle.safl_verilog.specs.Files.{Spot, Plain, Declaration, Statement, Assign, File}
 use Rattle.safl_verilog.specs.Faults.{is_range, stated_number_faults, all_number_faults, all_repeat_faults}
 use Rattle.safl_verilog.specs.FaultParts.{declared_number_faults, declared_names}
-use Rattle.safl_verilog.specs.Faults.{find, is_input, is_output, is_reg, is_port, passes, range_width, width_of, width_in}
+use Rattle.safl_verilog.specs.Faults.{find, is_input, is_output, is_reg, is_port, passes, range_width, width_declared, width_in}
 use Rattle.safl_verilog.specs.FaultParts.{header_faults, port_faults}
 use Rattle.safl_verilog.specs.Faults.{has_ports, all_port_faults, is_target, unfit_faults, operands, is_plain, expression_width, assigned, updated}
 use Rattle.safl_verilog.specs.Faults.{width_faults, assign_faults, always_faults, statement_faults, all_statement_faults, missing_faults}
@@ -289,20 +289,20 @@ module _ (n : Netlist) (net : IsNetlist n) (is rs ws : List Signal) (whole : n.s
       joined_faults _ _ (h.0 before (λ k. distinct_apart (targets before) (targets (s ∷ xs)) d (target s) k (inl refl)))
       (no_statement_faults (before ++ s ∷ []) xs (subst Distinct (sym moved) d) h.1)
 
-  of_signal : (g : Signal) → Member g → width_of ds g.name ≡ g.width
+  of_signal : (g : Signal) → Member g → width_declared ds g.name ≡ g.width
   of_signal g m = ap (λ o. width_in o) m.1 ∙ declared_width g.width m.0.some m.0.most
 
   fit_operands : (xs : List ℕ) → Each Used xs → flat_map (unfit_faults ds) (map (named_spot n) xs) ≡ []
   fit_operands xs h = mapped_faults (unfit_faults ds) (named_spot n) xs (each_stands Used (λ s. unfit_faults ds (named_spot n s) ≡ []) (λ s u. kept _ _ u.fits) xs h)
 
-  widths_are : (xs : List ℕ) → Each Used xs → map (λ (a : Spot). width_of ds a.bytes) (map (named_spot n) xs) ≡ widths n xs
+  widths_are : (xs : List ℕ) → Each Used xs → map (λ (a : Spot). width_declared ds a.bytes) (map (named_spot n) xs) ≡ signal_widths n xs
   widths_are [] h = refl
-  widths_are (x ∷ xs) h = ap (λ w. w ∷ map (λ (a : Spot). width_of ds a.bytes) (map (named_spot n) xs)) h.0.width ∙ ap (λ (l : List ℕ). Netlist.width_of n x ∷ l) (widths_are xs h.1)
+  widths_are (x ∷ xs) h = ap (λ w. w ∷ map (λ (a : Spot). width_declared ds a.bytes) (map (named_spot n) xs)) h.0.width ∙ ap (λ (l : List ℕ). Netlist.width_of n x ∷ l) (widths_are xs h.1)
 
   expression_is : (g : Signal) → (d : Driven g) → expression_width ds (expression_of n d.cell) ≡ g.width
   expression_is g d =
-      ap (λ o. unwrap_or (op_width o (map (λ (a : Spot). width_of ds a.bytes) (operands (expression_of n d.cell)))) 0) d.sound.does
-      ∙ ap (λ (l : List Spot). unwrap_or (op_width d.cell.op (map (λ (a : Spot). width_of ds a.bytes) l)) 0) d.sound.takes
+      ap (λ o. unwrap_or (op_width o (map (λ (a : Spot). width_declared ds a.bytes) (operands (expression_of n d.cell)))) 0) d.sound.does
+      ∙ ap (λ (l : List Spot). unwrap_or (op_width d.cell.op (map (λ (a : Spot). width_declared ds a.bytes) l)) 0) d.sound.takes
       ∙ ap (λ (l : List ℕ). unwrap_or (op_width d.cell.op l) 0) (widths_are d.cell.operands d.operands_used)
       ∙ ap (λ o. unwrap_or o 0) d.cell_fits.gives
 

@@ -11,7 +11,7 @@ use Rattle.safl_verilog.specs.declared.token.TokenKind.{TokenKind}
 use Rattle.safl_verilog.specs.declared.token.TokenKind.TheVariants as kinds
 use Rattle.safl_verilog.specs.declared.token.Sort.{Sort}
 use Rattle.safl_verilog.specs.declared.token.Sort.TheVariants as sorts
-use Rattle.safl_verilog.specs.Tokens.{Terminal}
+use Rattle.safl_verilog.specs.Tokens.{VerilogTerminal}
 
 -- ---- codes: a number for each kind of token, which tells kinds apart. Code 0 is the end
 
@@ -64,12 +64,12 @@ code_of kinds.Sized = 3
 code_of (kinds.Keyword k) = keyword_code k
 code_of (kinds.Symbol s) = symbol_code s
 
-abbrev pub code : Option Terminal → ℕ
+abbrev pub code : Option VerilogTerminal → ℕ
 code None = 0
 code (Some t) = code_of t.kind
 
 -- a token with one of these codes, and the value that it stands for
-abbrev pub classed : {A : Type 0} → List ℕ → (Terminal → A) → Terminal → Option A
+abbrev pub classed : {A : Type 0} → List ℕ → (VerilogTerminal → A) → VerilogTerminal → Option A
 classed codes value t = if within (Only codes) (code_of t.kind) then Some (value t) else None
 
 -- the operators. Each stands for the primitive on two words

@@ -1,5 +1,5 @@
 -- The texts of the faults of Verilog files.
-use Rattle.std.specs.Prelude.{ℕ, List, [], ◌∷◌, ◌++◌, codes}
+use Rattle.std.specs.Prelude.{ℕ, List, [], ◌++◌, codes}
 use Rattle.std.specs.Fmt.{decimal}
 use Rattle.safl_verilog.specs.declared.fault.VRule.{VRule}
 use Rattle.safl_verilog.specs.declared.fault.VRule.TheVariants as rules

@@ -15,7 +15,7 @@ use Rattle.safl_verilog.specs.declared.token.Sort.TheVariants as sorts
 use Rattle.safl_verilog.specs.declared.fault.VRule.{VRule}
 use Rattle.safl_verilog.specs.declared.fault.VRule.TheVariants as rules
 use Rattle.safl_verilog.specs.declared.fault.VFault.{VFault}
-use Rattle.safl_verilog.specs.Files.{Spot, Expression, Literal, Plain, Inverted, Binary, Choice, Joined, Slice, Declaration, Statement, Assign, Always, File}
+use Rattle.safl_verilog.specs.Files.{Spot, RightSide, Literal, Plain, Inverted, Binary, Choice, Joined, Slice, Declaration, Statement, Assign, Always, File}
 
 abbrev pub at : VRule → ℕ → VFault
 at rule place = record { rule = rule; place = place; first = 0; second = 0 }
@@ -68,7 +68,7 @@ range_faults None = []
 range_faults (Some r) =
     number_faults r.0 ++ where_not (nat_lt (value 10 r.0.bytes) width_max && (value 10 r.1.bytes == 0)) (at rules.V05 r.0.place) ++ number_faults r.1
 
-abbrev pub expression_number_faults : Expression → List VFault
+abbrev pub expression_number_faults : RightSide → List VFault
 expression_number_faults (Literal l) = literal_faults l
 expression_number_faults (Slice a high low) = number_faults high ++ number_faults low
 expression_number_faults _ = []
@@ -114,8 +114,8 @@ abbrev pub range_width : Option (Spot × Spot) → ℕ
 range_width o = option_map_or (λ (r : Spot × Spot). value 10 r.0.bytes + 1) o 1
 
 -- the width of a name, or 0 if it is not declared
-abbrev pub width_of : List Declaration → List ℕ → ℕ
-width_of ds name = option_map_or (λ (d : Declaration). range_width d.range) (find ds name) 0
+abbrev pub width_declared : List Declaration → List ℕ → ℕ
+width_declared ds name = option_map_or (λ (d : Declaration). range_width d.range) (find ds name) 0
 
 -- the ports that each file has: `clk`, `rst` and `start` are inputs of width 1, `done` is an output of width 1, and `result` is
 -- an output
@@ -151,7 +151,7 @@ abbrev pub unfit_faults : List Declaration → Spot → List VFault
 unfit_faults ds x = where_not (passes is_signal (find ds x.bytes)) (at rules.V04 x.place)
 
 -- the operation of an expression, and the names that are its operands
-abbrev pub parts : Expression → Op × List Spot
+abbrev pub parts : RightSide → Op × List Spot
 parts (Literal l) = (ops.Const (record { width = literal_width l.bytes; bits = literal_value l.bytes }), [])
 parts (Plain a) = (ops.Copy, a ∷ [])
 parts (Inverted a) = (ops.Apply prims.Not, a ∷ [])
@@ -160,16 +160,16 @@ parts (Choice a b c) = (ops.Mux, a ∷ b ∷ c ∷ [])
 parts (Joined a b) = (ops.Apply prims.Cat, a ∷ b ∷ [])
 parts (Slice a high low) = (ops.Apply (prims.Bits (value 10 high.bytes) (value 10 low.bytes)), a ∷ [])
 
-abbrev pub is_plain : Expression → Bool
+abbrev pub is_plain : RightSide → Bool
 is_plain (Plain a) = true
 is_plain _ = false
 
 -- the width of an expression, or 0 if its operands do not fit
-abbrev pub expression_width : List Declaration → Expression → ℕ
-expression_width ds e = unwrap_or (op_width (parts e).0 (map (λ (a : Spot). width_of ds a.bytes) (parts e).1)) 0
+abbrev pub expression_width : List Declaration → RightSide → ℕ
+expression_width ds e = unwrap_or (op_width (parts e).0 (map (λ (a : Spot). width_declared ds a.bytes) (parts e).1)) 0
 
 -- what the first assignment to a name assigns, if there is one
-abbrev pub assigned : List Statement → List ℕ → Option Expression
+abbrev pub assigned : List Statement → List ℕ → Option RightSide
 assigned [] name = None
 assigned (Assign x e ∷ ss) name = if bytes_eq x.bytes name then Some e else assigned ss name
 assigned (Always clock reset target initial second source ∷ ss) name = assigned ss name
@@ -190,7 +190,7 @@ statement_faults ds before (Assign x e) =
     where_not (passes is_target (find ds x.bytes)) (at rules.V04 x.place)
     ++ where_not (is_none (assigned before x.bytes) && (not (passes (λ d. is_a sorts.Output d.sort) (find ds x.bytes)) || is_plain e)) (at rules.V07 x.place)
     ++ flat_map (unfit_faults ds) (parts e).1
-    ++ width_faults x.place (width_of ds x.bytes) (expression_width ds e)
+    ++ width_faults x.place (width_declared ds x.bytes) (expression_width ds e)
 statement_faults ds before (Always clock reset target initial second source) =
     where_not (bytes_eq clock.bytes (codes "clk")) (at rules.V08 clock.place)
     ++ where_not (bytes_eq reset.bytes (codes "rst")) (at rules.V08 reset.place)
@@ -198,8 +198,8 @@ statement_faults ds before (Always clock reset target initial second source) =
     ++ where_not (bytes_eq second.bytes target.bytes) (at rules.V08 second.place)
     ++ where_not (is_none (updated before target.bytes)) (at rules.V08 target.place)
     ++ unfit_faults ds source
-    ++ width_faults initial.place (width_of ds target.bytes) (literal_width initial.bytes)
-    ++ width_faults source.place (width_of ds target.bytes) (width_of ds source.bytes)
+    ++ width_faults initial.place (width_declared ds target.bytes) (literal_width initial.bytes)
+    ++ width_faults source.place (width_declared ds target.bytes) (width_declared ds source.bytes)
 
 -- the faults of statements in the order of the text, each with the statements before it
 abbrev pub all_statement_faults : List Declaration → List Statement → List Statement → List VFault
@@ -218,7 +218,7 @@ faults f =
     ++ where_not (not (is_a sorts.Reg d.sort) || not (is_none (updated f.statements d.name.bytes))) (at rules.V08 d.name.place)) f.declarations
 
 -- the faults of an assignment, and of an update
-abbrev pub assign_faults : List Declaration → List Statement → Spot → Expression → List VFault
+abbrev pub assign_faults : List Declaration → List Statement → Spot → RightSide → List VFault
 assign_faults ds before x e = statement_faults ds before (Assign x e)
 
 abbrev pub always_faults : List Declaration → List Statement → (clock reset target initial second source : Spot) → List VFault
@@ -226,10 +226,10 @@ always_faults ds before clock reset target initial second source = statement_fau
 
 -- ---- parts by name
 
-abbrev pub operation : Expression → Op
+abbrev pub operation : RightSide → Op
 operation e = (parts e).0
 
-abbrev pub operands : Expression → List Spot
+abbrev pub operands : RightSide → List Spot
 operands e = (parts e).1
 
 abbrev pub is_input : Sort → Bool
@@ -265,7 +265,7 @@ is_clock name = bytes_eq name (codes "clk")
 abbrev pub is_reset : List ℕ → Bool
 is_reset name = bytes_eq name (codes "rst")
 
-abbrev pub may_be_assigned : List Statement → Option Declaration → List ℕ → Expression → Bool
+abbrev pub may_be_assigned : List Statement → Option Declaration → List ℕ → RightSide → Bool
 may_be_assigned before d name e = is_none (assigned before name) && (not (passes (λ d. is_output d.sort) d) || is_plain e)
 
 abbrev pub missing_faults : List Statement → Declaration → List VFault

@@ -9,14 +9,14 @@ pub record Spot : Type 0 where
   pub bytes : List ℕ
 
 -- what a name is assigned
-pub data Expression : Type 0 where
-  Literal : Spot → Expression
-  Plain : Spot → Expression
-  Inverted : Spot → Expression
-  Binary : Primitive → Spot → Spot → Expression
-  Choice : Spot → Spot → Spot → Expression
-  Joined : Spot → Spot → Expression
-  Slice : (operand high low : Spot) → Expression
+pub data RightSide : Type 0 where
+  Literal : Spot → RightSide
+  Plain : Spot → RightSide
+  Inverted : Spot → RightSide
+  Binary : Primitive → Spot → Spot → RightSide
+  Choice : Spot → Spot → Spot → RightSide
+  Joined : Spot → Spot → RightSide
+  Slice : (operand high low : Spot) → RightSide
 
 pub record Declaration : Type 0 where
   pub sort : Sort
@@ -25,7 +25,7 @@ pub record Declaration : Type 0 where
 
 -- an assignment, or the update of a register at the clock's edge
 pub data Statement : Type 0 where
-  Assign : Spot → Expression → Statement
+  Assign : Spot → RightSide → Statement
   Always : (clock reset target initial second source : Spot) → Statement
 
 pub record File : Type 0 where

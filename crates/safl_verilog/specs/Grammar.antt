@@ -1,7 +1,7 @@
 -- The grammar of the profile. Each production is written above its symbol.
 use Rattle.std.specs.Prelude.{ℕ, List, [], ◌∷◌, ◌++◌, Option, Some, None, if◌then◌else◌}
 use Rattle.std.specs.Str.{bytes_eq}
-use Rattle.safl_grammar.specs.Syntax.{Syntax, nothing, token, follows, either, many, listed}
+use Rattle.safl_grammar.specs.Syntax.{Syntax, nothing, token, follows, either, any_turns, listed}
 use Rattle.safl_word.specs.declared.primitive.Primitive.{Primitive}
 use Rattle.safl_word.specs.Operators.{operators, operator_with}
 use Rattle.safl_verilog.specs.declared.token.Keyword.{Keyword}
@@ -12,30 +12,30 @@ use Rattle.safl_verilog.specs.declared.token.TokenKind.{TokenKind}
 use Rattle.safl_verilog.specs.declared.token.TokenKind.TheVariants as kinds
 use Rattle.safl_verilog.specs.declared.token.Sort.{Sort}
 use Rattle.safl_verilog.specs.declared.token.Sort.TheVariants as sorts
-use Rattle.safl_verilog.specs.Tokens.{keyword_text, symbol_text, Terminal}
-use Rattle.safl_verilog.specs.Files.{Spot, Expression, Literal, Plain, Inverted, Binary, Choice, Joined, Slice, Declaration, Statement, Assign, Always, File}
+use Rattle.safl_verilog.specs.Tokens.{keyword_text, symbol_text, VerilogTerminal}
+use Rattle.safl_verilog.specs.Files.{Spot, RightSide, Literal, Plain, Inverted, Binary, Choice, Joined, Slice, Declaration, Statement, Assign, Always, File}
 
 -- ---- classes of tokens: what a token of the class stands for
 
-abbrev pub spot : Terminal → Spot
+abbrev pub spot : VerilogTerminal → Spot
 spot t = record { place = t.place; bytes = t.bytes }
 
 -- the text of a keyword or a symbol
-abbrev pub text_in : TokenKind → List ℕ
-text_in (kinds.Keyword k) = keyword_text k
-text_in (kinds.Symbol s) = symbol_text s
-text_in _ = []
+abbrev pub verilog_text_in : TokenKind → List ℕ
+verilog_text_in (kinds.Keyword k) = keyword_text k
+verilog_text_in (kinds.Symbol s) = symbol_text s
+verilog_text_in _ = []
 
 -- the keyword or the symbol with this text
-abbrev pub spelled : List ℕ → Terminal → Option Spot
-spelled text t = if bytes_eq text (text_in t.kind) then Some (spot t) else None
+abbrev pub spelled_as : List ℕ → VerilogTerminal → Option Spot
+spelled_as text t = if bytes_eq text (verilog_text_in t.kind) then Some (spot t) else None
 
 -- an identifier, a number or a sized number stands for itself
-abbrev pub of_kind : TokenKind → TokenKind → Spot → Option Spot
-of_kind kinds.Identifier kinds.Identifier x = Some x
-of_kind kinds.Number kinds.Number x = Some x
-of_kind kinds.Sized kinds.Sized x = Some x
-of_kind _ _ x = None
+abbrev pub spot_of_kind : TokenKind → TokenKind → Spot → Option Spot
+spot_of_kind kinds.Identifier kinds.Identifier x = Some x
+spot_of_kind kinds.Number kinds.Number x = Some x
+spot_of_kind kinds.Sized kinds.Sized x = Some x
+spot_of_kind _ _ x = None
 
 -- the keyword of a declaration
 abbrev pub declares : TokenKind → Option Sort
@@ -47,159 +47,159 @@ declares _ = None
 
 -- ---- tokens
 
-abbrev pub word : Keyword → Syntax Terminal Spot
-word k = token (spelled (keyword_text k))
+abbrev pub verilog_keyword : Keyword → Syntax VerilogTerminal Spot
+verilog_keyword k = token (spelled_as (keyword_text k))
 
-abbrev pub symbol : Symbol → Syntax Terminal Spot
-symbol s = token (spelled (symbol_text s))
+abbrev pub verilog_symbol : Symbol → Syntax VerilogTerminal Spot
+verilog_symbol s = token (spelled_as (symbol_text s))
 
-abbrev pub id : Syntax Terminal Spot
-id = token (λ (t : Terminal). of_kind kinds.Identifier t.kind (spot t))
+abbrev pub id : Syntax VerilogTerminal Spot
+id = token (λ (t : VerilogTerminal). spot_of_kind kinds.Identifier t.kind (spot t))
 
-abbrev pub number : Syntax Terminal Spot
-number = token (λ (t : Terminal). of_kind kinds.Number t.kind (spot t))
+abbrev pub verilog_number : Syntax VerilogTerminal Spot
+verilog_number = token (λ (t : VerilogTerminal). spot_of_kind kinds.Number t.kind (spot t))
 
-abbrev pub literal : Syntax Terminal Spot
-literal = token (λ (t : Terminal). of_kind kinds.Sized t.kind (spot t))
+abbrev pub verilog_literal : Syntax VerilogTerminal Spot
+verilog_literal = token (λ (t : VerilogTerminal). spot_of_kind kinds.Sized t.kind (spot t))
 
 -- an operator stands for the primitive on two words that has its symbol
-abbrev pub operator : Syntax Terminal Primitive
-operator = token (λ (t : Terminal). operator_with (text_in t.kind) operators)
+abbrev pub operator : Syntax VerilogTerminal Primitive
+operator = token (λ (t : VerilogTerminal). operator_with (verilog_text_in t.kind) operators)
 
-abbrev pub sort : Syntax Terminal Sort
-sort = token (λ (t : Terminal). declares t.kind)
+abbrev pub sort : Syntax VerilogTerminal Sort
+sort = token (λ (t : VerilogTerminal). declares t.kind)
 
 -- ---- cell := lit | id | "~" id | id OP id | id "?" id ":" id | "{" id "," id "}" | id "[" Num ":" Num "]"
 
 -- "[" Num ":" Num "]"
-abbrev pub bracketed : {A : Type 0} → (Spot → Spot → A) → Syntax Terminal A
+abbrev pub bracketed : {A : Type 0} → (Spot → Spot → A) → Syntax VerilogTerminal A
 bracketed make =
-    follows (symbol symbols.OpenBracket) (λ k. follows number (λ high. follows (symbol symbols.Colon) (λ l. follows number (λ low.
-    follows (symbol symbols.CloseBracket) (λ m. nothing (make high low))))))
+    follows (verilog_symbol symbols.OpenBracket) (λ k. follows verilog_number (λ high. follows (verilog_symbol symbols.Colon) (λ l. follows verilog_number (λ low.
+    follows (verilog_symbol symbols.CloseBracket) (λ m. nothing (make high low))))))
 
-abbrev pub cell : Syntax Terminal Expression
+abbrev pub cell : Syntax VerilogTerminal RightSide
 cell =
-    either (follows literal (λ l. nothing (Literal l)))
+    either (follows verilog_literal (λ l. nothing (Literal l)))
     (either
     (either (follows id (λ a. follows operator (λ p. follows id (λ b. nothing (Binary p a b)))))
     (either
-    (follows id (λ a. follows (symbol symbols.Question) (λ k. follows id (λ b. follows (symbol symbols.Colon) (λ l. follows id (λ c.
+    (follows id (λ a. follows (verilog_symbol symbols.Question) (λ k. follows id (λ b. follows (verilog_symbol symbols.Colon) (λ l. follows id (λ c.
     nothing (Choice a b c)))))))
     (either (follows id (λ a. bracketed (λ high low. Slice a high low))) (follows id (λ a. nothing (Plain a))))))
-    (either (follows (symbol symbols.Tilde) (λ k. follows id (λ a. nothing (Inverted a))))
-    (follows (symbol symbols.OpenBrace) (λ k. follows id (λ a. follows (symbol symbols.Comma) (λ l. follows id (λ b.
-    follows (symbol symbols.CloseBrace) (λ m. nothing (Joined a b)))))))))
+    (either (follows (verilog_symbol symbols.Tilde) (λ k. follows id (λ a. nothing (Inverted a))))
+    (follows (verilog_symbol symbols.OpenBrace) (λ k. follows id (λ a. follows (verilog_symbol symbols.Comma) (λ l. follows id (λ b.
+    follows (verilog_symbol symbols.CloseBrace) (λ m. nothing (Joined a b)))))))))
 
 -- ---- decl := ( "input" | "output" | "reg" | "wire" ) [ "[" Num ":" Num "]" ] id ";"
 
-abbrev pub range : Syntax Terminal (Option (Spot × Spot))
+abbrev pub range : Syntax VerilogTerminal (Option (Spot × Spot))
 range = either (bracketed (λ high low. Some (high, low))) (nothing None)
 
-abbrev pub decl : Syntax Terminal Declaration
+abbrev pub decl : Syntax VerilogTerminal Declaration
 decl =
-    follows sort (λ k. follows range (λ r. follows id (λ a. follows (symbol symbols.Semicolon) (λ s.
+    follows sort (λ k. follows range (λ r. follows id (λ a. follows (verilog_symbol symbols.Semicolon) (λ s.
     nothing (record { sort = k; range = r; name = a })))))
 
 -- ---- stmt := "assign" id "=" cell ";"
 --       | "always" "@" "(" "posedge" id ")" "if" "(" id ")" id "<=" lit ";" "else" id "<=" id ";"
 
-abbrev pub assign : Syntax Terminal Statement
+abbrev pub assign : Syntax VerilogTerminal Statement
 assign =
-    follows (word keywords.Assign) (λ k. follows id (λ a. follows (symbol symbols.Becomes) (λ e. follows cell (λ c.
-    follows (symbol symbols.Semicolon) (λ s. nothing (Assign a c))))))
+    follows (verilog_keyword keywords.Assign) (λ k. follows id (λ a. follows (verilog_symbol symbols.Becomes) (λ e. follows cell (λ c.
+    follows (verilog_symbol symbols.Semicolon) (λ s. nothing (Assign a c))))))
 
-abbrev pub always : Syntax Terminal Statement
+abbrev pub always : Syntax VerilogTerminal Statement
 always =
-    follows (word keywords.Always) (λ k1. follows (symbol symbols.At) (λ k2. follows (symbol symbols.OpenParen) (λ k3.
-    follows (word keywords.Posedge) (λ k4. follows id (λ clock. follows (symbol symbols.CloseParen) (λ k5.
-    follows (word keywords.If) (λ k6. follows (symbol symbols.OpenParen) (λ k7. follows id (λ reset. follows (symbol symbols.CloseParen) (λ k8.
-    follows id (λ target. follows (symbol symbols.LessEqual) (λ k9. follows literal (λ initial. follows (symbol symbols.Semicolon) (λ s1.
-    follows (word keywords.Else) (λ k10. follows id (λ second. follows (symbol symbols.LessEqual) (λ k11. follows id (λ source.
-    follows (symbol symbols.Semicolon) (λ s2. nothing (Always clock reset target initial second source))))))))))))))))))))
+    follows (verilog_keyword keywords.Always) (λ k1. follows (verilog_symbol symbols.At) (λ k2. follows (verilog_symbol symbols.OpenParen) (λ k3.
+    follows (verilog_keyword keywords.Posedge) (λ k4. follows id (λ clock. follows (verilog_symbol symbols.CloseParen) (λ k5.
+    follows (verilog_keyword keywords.If) (λ k6. follows (verilog_symbol symbols.OpenParen) (λ k7. follows id (λ reset. follows (verilog_symbol symbols.CloseParen) (λ k8.
+    follows id (λ target. follows (verilog_symbol symbols.LessEqual) (λ k9. follows verilog_literal (λ initial. follows (verilog_symbol symbols.Semicolon) (λ s1.
+    follows (verilog_keyword keywords.Else) (λ k10. follows id (λ second. follows (verilog_symbol symbols.LessEqual) (λ k11. follows id (λ source.
+    follows (verilog_symbol symbols.Semicolon) (λ s2. nothing (Always clock reset target initial second source))))))))))))))))))))
 
 -- ---- file := "module" id "(" id { "," id } ")" ";" { decl } { stmt } "endmodule"
 
-abbrev pub file : Syntax Terminal File
+abbrev pub file : Syntax VerilogTerminal File
 file =
-    follows (word keywords.Module) (λ k. follows id (λ x. follows (symbol symbols.OpenParen) (λ o. follows (listed (symbol symbols.Comma) id) (λ hs.
-    follows (symbol symbols.CloseParen) (λ c. follows (symbol symbols.Semicolon) (λ s1.
-    follows (many (λ (ds : List Declaration). follows decl (λ d. nothing (ds ++ d ∷ []))) []) (λ ds.
-    follows (many (λ (ss : List Statement). follows (either assign always) (λ s2. nothing (ss ++ s2 ∷ []))) []) (λ ss.
-    follows (word keywords.Endmodule) (λ e. nothing (record { header = hs; declarations = ds; statements = ss }))))))))))
+    follows (verilog_keyword keywords.Module) (λ k. follows id (λ x. follows (verilog_symbol symbols.OpenParen) (λ o. follows (listed (verilog_symbol symbols.Comma) id) (λ hs.
+    follows (verilog_symbol symbols.CloseParen) (λ c. follows (verilog_symbol symbols.Semicolon) (λ s1.
+    follows (any_turns (λ (ds : List Declaration). follows decl (λ d. nothing (ds ++ d ∷ []))) []) (λ ds.
+    follows (any_turns (λ (ss : List Statement). follows (either assign always) (λ s2. nothing (ss ++ s2 ∷ []))) []) (λ ss.
+    follows (verilog_keyword keywords.Endmodule) (λ e. nothing (record { header = hs; declarations = ds; statements = ss }))))))))))
 
 -- ---- parts of productions
 
 abbrev pub identifier_in : TokenKind → Spot → Option Spot
-identifier_in k x = of_kind kinds.Identifier k x
+identifier_in k x = spot_of_kind kinds.Identifier k x
 
 abbrev pub number_in : TokenKind → Spot → Option Spot
-number_in k x = of_kind kinds.Number k x
+number_in k x = spot_of_kind kinds.Number k x
 
 abbrev pub literal_in : TokenKind → Spot → Option Spot
-literal_in k x = of_kind kinds.Sized k x
+literal_in k x = spot_of_kind kinds.Sized k x
 
-abbrev pub constant : Syntax Terminal Expression
-constant = follows literal (λ l. nothing (Literal l))
+abbrev pub constant : Syntax VerilogTerminal RightSide
+constant = follows verilog_literal (λ l. nothing (Literal l))
 
-abbrev pub plain_end : Spot → Syntax Terminal Expression
+abbrev pub plain_end : Spot → Syntax VerilogTerminal RightSide
 plain_end a = nothing (Plain a)
 
-abbrev pub inverted : Syntax Terminal Expression
-inverted = follows (symbol symbols.Tilde) (λ k. follows id (λ a. nothing (Inverted a)))
+abbrev pub inverted : Syntax VerilogTerminal RightSide
+inverted = follows (verilog_symbol symbols.Tilde) (λ k. follows id (λ a. nothing (Inverted a)))
 
-abbrev pub binary_end : Spot → Syntax Terminal Expression
+abbrev pub binary_end : Spot → Syntax VerilogTerminal RightSide
 binary_end a = follows operator (λ p. follows id (λ b. nothing (Binary p a b)))
 
-abbrev pub choice_end : Spot → Syntax Terminal Expression
+abbrev pub choice_end : Spot → Syntax VerilogTerminal RightSide
 choice_end a =
-    follows (symbol symbols.Question) (λ k. follows id (λ b. follows (symbol symbols.Colon) (λ l. follows id (λ c. nothing (Choice a b c)))))
+    follows (verilog_symbol symbols.Question) (λ k. follows id (λ b. follows (verilog_symbol symbols.Colon) (λ l. follows id (λ c. nothing (Choice a b c)))))
 
-abbrev pub slice_end : Spot → Syntax Terminal Expression
+abbrev pub slice_end : Spot → Syntax VerilogTerminal RightSide
 slice_end a =
-    follows (symbol symbols.OpenBracket) (λ k. follows number (λ high. follows (symbol symbols.Colon) (λ l. follows number (λ low.
-    follows (symbol symbols.CloseBracket) (λ m. nothing (Slice a high low))))))
+    follows (verilog_symbol symbols.OpenBracket) (λ k. follows verilog_number (λ high. follows (verilog_symbol symbols.Colon) (λ l. follows verilog_number (λ low.
+    follows (verilog_symbol symbols.CloseBracket) (λ m. nothing (Slice a high low))))))
 
-abbrev pub joined : Syntax Terminal Expression
+abbrev pub joined : Syntax VerilogTerminal RightSide
 joined =
-    follows (symbol symbols.OpenBrace) (λ k. follows id (λ a. follows (symbol symbols.Comma) (λ l. follows id (λ b.
-    follows (symbol symbols.CloseBrace) (λ m. nothing (Joined a b))))))
+    follows (verilog_symbol symbols.OpenBrace) (λ k. follows id (λ a. follows (verilog_symbol symbols.Comma) (λ l. follows id (λ b.
+    follows (verilog_symbol symbols.CloseBrace) (λ m. nothing (Joined a b))))))
 
-abbrev pub written_range : Syntax Terminal (Option (Spot × Spot))
+abbrev pub written_range : Syntax VerilogTerminal (Option (Spot × Spot))
 written_range =
-    follows (symbol symbols.OpenBracket) (λ k. follows number (λ high. follows (symbol symbols.Colon) (λ l. follows number (λ low.
-    follows (symbol symbols.CloseBracket) (λ m. nothing (Some (high, low)))))))
+    follows (verilog_symbol symbols.OpenBracket) (λ k. follows verilog_number (λ high. follows (verilog_symbol symbols.Colon) (λ l. follows verilog_number (λ low.
+    follows (verilog_symbol symbols.CloseBracket) (λ m. nothing (Some (high, low)))))))
 
 -- "else" id "<=" id ";"
-abbrev pub otherwise : (clock reset target initial : Spot) → Syntax Terminal Statement
+abbrev pub otherwise : (clock reset target initial : Spot) → Syntax VerilogTerminal Statement
 otherwise clock reset target initial =
-    follows (word keywords.Else) (λ k1. follows id (λ second. follows (symbol symbols.LessEqual) (λ k2. follows id (λ source.
-    follows (symbol symbols.Semicolon) (λ s. nothing (Always clock reset target initial second source))))))
+    follows (verilog_keyword keywords.Else) (λ k1. follows id (λ second. follows (verilog_symbol symbols.LessEqual) (λ k2. follows id (λ source.
+    follows (verilog_symbol symbols.Semicolon) (λ s. nothing (Always clock reset target initial second source))))))
 
 -- "if" "(" id ")" id "<=" lit ";" and what follows
-abbrev pub at_reset : (clock : Spot) → Syntax Terminal Statement
+abbrev pub at_reset : (clock : Spot) → Syntax VerilogTerminal Statement
 at_reset clock =
-    follows (word keywords.If) (λ k1. follows (symbol symbols.OpenParen) (λ k2. follows id (λ reset. follows (symbol symbols.CloseParen) (λ k3.
-    follows id (λ target. follows (symbol symbols.LessEqual) (λ k4. follows literal (λ initial. follows (symbol symbols.Semicolon) (λ s.
+    follows (verilog_keyword keywords.If) (λ k1. follows (verilog_symbol symbols.OpenParen) (λ k2. follows id (λ reset. follows (verilog_symbol symbols.CloseParen) (λ k3.
+    follows id (λ target. follows (verilog_symbol symbols.LessEqual) (λ k4. follows verilog_literal (λ initial. follows (verilog_symbol symbols.Semicolon) (λ s.
     otherwise clock reset target initial))))))))
 
-abbrev pub stmt : Syntax Terminal Statement
+abbrev pub stmt : Syntax VerilogTerminal Statement
 stmt = either assign always
 
-abbrev pub another_id : List Spot → Syntax Terminal (List Spot)
-another_id xs = follows (symbol symbols.Comma) (λ c. follows id (λ x. nothing (xs ++ x ∷ [])))
+abbrev pub another_id : List Spot → Syntax VerilogTerminal (List Spot)
+another_id xs = follows (verilog_symbol symbols.Comma) (λ c. follows id (λ x. nothing (xs ++ x ∷ [])))
 
-abbrev pub ids : Syntax Terminal (List Spot)
-ids = follows id (λ x. many another_id (x ∷ []))
+abbrev pub ids : Syntax VerilogTerminal (List Spot)
+ids = follows id (λ x. any_turns another_id (x ∷ []))
 
-abbrev pub another_decl : List Declaration → Syntax Terminal (List Declaration)
+abbrev pub another_decl : List Declaration → Syntax VerilogTerminal (List Declaration)
 another_decl ds = follows decl (λ d. nothing (ds ++ d ∷ []))
 
-abbrev pub another_stmt : List Statement → Syntax Terminal (List Statement)
+abbrev pub another_stmt : List Statement → Syntax VerilogTerminal (List Statement)
 another_stmt ss = follows stmt (λ s. nothing (ss ++ s ∷ []))
 
 -- { decl } { stmt } "endmodule"
-abbrev pub body : List Spot → Syntax Terminal File
+abbrev pub body : List Spot → Syntax VerilogTerminal File
 body hs =
-    follows (many (λ (ds : List Declaration). follows decl (λ d. nothing (ds ++ d ∷ []))) []) (λ ds.
-    follows (many (λ (ss : List Statement). follows (either assign always) (λ s. nothing (ss ++ s ∷ []))) []) (λ ss.
-    follows (word keywords.Endmodule) (λ e. nothing (record { header = hs; declarations = ds; statements = ss }))))
+    follows (any_turns (λ (ds : List Declaration). follows decl (λ d. nothing (ds ++ d ∷ []))) []) (λ ds.
+    follows (any_turns (λ (ss : List Statement). follows (either assign always) (λ s. nothing (ss ++ s ∷ []))) []) (λ ss.
+    follows (verilog_keyword keywords.Endmodule) (λ e. nothing (record { header = hs; declarations = ds; statements = ss }))))

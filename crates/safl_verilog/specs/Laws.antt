@@ -6,7 +6,7 @@ use Rattle.safl_net.specs.Rules.{IsNetlist}
 use Rattle.safl_net.specs.Whole.{IsWhole}
 use Rattle.safl_net.specs.Written.{written}
 use Rattle.safl_verilog.specs.declared.fault.VFault.{VFault}
-use Rattle.safl_verilog.specs.Tokens.{Terminal}
+use Rattle.safl_verilog.specs.Tokens.{VerilogTerminal}
 use Rattle.safl_verilog.specs.Files.{File}
 use Rattle.safl_verilog.specs.Reads.{IsFile, Reads, HasFault}
 
@@ -24,7 +24,7 @@ NotBoth = (text : List ℕ) (n : Netlist) (f : VFault) → Reads text n → HasF
 
 -- no proper prefix of a file is a file
 abbrev pub NoShorterFile : Type 0
-NoShorterFile = (u v : List Terminal) (a b : File) → IsFile u a → IsFile (u ++ v) b → v ≡ []
+NoShorterFile = (u v : List VerilogTerminal) (a b : File) → IsFile u a → IsFile (u ++ v) b → v ≡ []
 
 -- the inputs of a netlist that is read come first, then its registers, then its wires
 abbrev pub ReadsInOrder : Type 0

@@ -7,7 +7,7 @@ use Rattle.safl_grammar.specs.Text.{Spells, Faults}
 use Rattle.safl_net.specs.Netlist.{Netlist}
 use Rattle.safl_verilog.specs.declared.fault.VRule.TheVariants as rules
 use Rattle.safl_verilog.specs.declared.fault.VFault.{VFault}
-use Rattle.safl_verilog.specs.Tokens.{Terminal, HasTokens, HasLexicalFault}
+use Rattle.safl_verilog.specs.Tokens.{VerilogTerminal, HasVerilogTokens, HasVerilogLexicalFault}
 use Rattle.safl_verilog.specs.Files.{File}
 use Rattle.safl_verilog.specs.Grammar
 use Rattle.safl_verilog.specs.Faults.{at, faults}
@@ -15,8 +15,8 @@ use Rattle.safl_verilog.specs.Netlists.{netlist}
 
 -- the text is a file of the grammar that breaks no rule, and this is its netlist
 pub record Reads (text : List ℕ) (n : Netlist) : Type 0 where
-  pub tokens : List Terminal
-  pub cut : HasTokens text tokens
+  pub tokens : List VerilogTerminal
+  pub cut : HasVerilogTokens text tokens
   pub file : File
   pub derived : Spells (λ n. Grammar.file) tokens file
   pub kept : faults file ≡ []
@@ -25,19 +25,19 @@ pub record Reads (text : List ℕ) (n : Netlist) : Type 0 where
 -- The first fault of the bytes; if there is none, of the tokens, at the first one such that the tokens up to it begin no file, or at the
 -- end; if there is none, of the file.
 pub data HasFault (text : List ℕ) (f : VFault) : Type 0 where
-  lexical : (place : ℕ) → HasLexicalFault text place → f ≡ at rules.V01 place → HasFault text f
-  unexpected : (ts rest : List Terminal) (e : Rule) → HasTokens text ts → Faults (λ n. Grammar.file) ts e rest
-      → f ≡ at rules.V02 (option_map_or (λ (t : Terminal). t.place) (head_of rest) (length text)) → HasFault text f
-  broken : (ts : List Terminal) (x : File) (more : List VFault) → HasTokens text ts → Spells (λ n. Grammar.file) ts x → faults x ≡ f ∷ more → HasFault text f
+  lexical : (place : ℕ) → HasVerilogLexicalFault text place → f ≡ at rules.V01 place → HasFault text f
+  unexpected : (ts rest : List VerilogTerminal) (e : Rule) → HasVerilogTokens text ts → Faults (λ n. Grammar.file) ts e rest
+      → f ≡ at rules.V02 (option_map_or (λ (t : VerilogTerminal). t.place) (head_of rest) (length text)) → HasFault text f
+  broken : (ts : List VerilogTerminal) (x : File) (more : List VFault) → HasVerilogTokens text ts → Spells (λ n. Grammar.file) ts x → faults x ≡ f ∷ more → HasFault text f
 
 -- ---- parts by name
 
 -- the tokens are this file of the grammar
-abbrev pub IsFile : List Terminal → File → Type 0
+abbrev pub IsFile : List VerilogTerminal → File → Type 0
 IsFile ts f = Spells (λ n. Grammar.file) ts f
 
-abbrev pub place_in : List ℕ → List Terminal → ℕ
-place_in text ts = option_map_or (λ (t : Terminal). t.place) (head_of ts) (length text)
+abbrev pub place_in : List ℕ → List VerilogTerminal → ℕ
+place_in text ts = option_map_or (λ (t : VerilogTerminal). t.place) (head_of ts) (length text)
 
-abbrev pub HasUnexpected : List Terminal → Rule → List Terminal → Type 0
+abbrev pub HasUnexpected : List VerilogTerminal → Rule → List VerilogTerminal → Type 0
 HasUnexpected ts e rest = Faults (λ n. Grammar.file) ts e rest

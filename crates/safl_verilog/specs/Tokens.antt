@@ -73,12 +73,12 @@ pub record IsIdentifier (w : List ℕ) : Type 0 where
 
 -- The text is a token of the kind, and no token begins with it and takes more of the rest. A sized number is a decimal numeral,
 -- `'`, the letter of a base and a numeral of that base.
-abbrev pub IsToken : TokenKind → List ℕ → List ℕ → Type 0
-IsToken kinds.Identifier w rest = IsIdentifier w × (stops is_part rest ≡ true)
-IsToken kinds.Number w rest = IsNumeral 10 w × (stops (is_digit 10) rest ≡ true) × (next_base rest ≡ None)
-IsToken kinds.Sized w rest = (p : SizedParts) × (w ≡ sized_text p) × IsSizedLike p × (stops (is_digit p.base) rest ≡ true)
-IsToken (kinds.Keyword k) w rest = (w ≡ keyword_text k) × (stops is_part rest ≡ true)
-IsToken (kinds.Symbol s) w rest = (w ≡ symbol_text s) × ((t : Symbol) (c : ℕ) (v : List ℕ) → rest ≡ c ∷ v → symbol_text t ≢ w ++ c ∷ [])
+abbrev pub IsVerilogToken : TokenKind → List ℕ → List ℕ → Type 0
+IsVerilogToken kinds.Identifier w rest = IsIdentifier w × (stops is_part rest ≡ true)
+IsVerilogToken kinds.Number w rest = IsNumeral 10 w × (stops (is_digit 10) rest ≡ true) × (next_base rest ≡ None)
+IsVerilogToken kinds.Sized w rest = (p : SizedParts) × (w ≡ sized_text p) × IsSizedLike p × (stops (is_digit p.base) rest ≡ true)
+IsVerilogToken (kinds.Keyword k) w rest = (w ≡ keyword_text k) × (stops is_part rest ≡ true)
+IsVerilogToken (kinds.Symbol s) w rest = (w ≡ symbol_text s) × ((t : Symbol) (c : ℕ) (v : List ℕ) → rest ≡ c ∷ v → symbol_text t ≢ w ++ c ∷ [])
 
 -- whether a `*` is followed by a `/`
 abbrev pub has_close : List ℕ → Bool
@@ -86,54 +86,54 @@ has_close (c ∷ (d ∷ w)) = ((c == 42) && (d == 47)) || has_close (d ∷ w)
 has_close _ = false
 
 -- a piece of a file: a blank, a comment to the end of its line, a comment between `/*` and `*/`, or a token
-pub data Piece : Type 0 where
-  Blank : ℕ → Piece
-  Line : List ℕ → Piece
-  Block : List ℕ → Piece
-  Lexeme : TokenKind → List ℕ → Piece
+pub data VerilogPiece : Type 0 where
+  Blank : ℕ → VerilogPiece
+  Line : List ℕ → VerilogPiece
+  Block : List ℕ → VerilogPiece
+  Lexeme : TokenKind → List ℕ → VerilogPiece
 
-abbrev pub text_of : Piece → List ℕ
-text_of (Blank c) = c ∷ []
-text_of (Line w) = 47 ∷ 47 ∷ w
-text_of (Block w) = 47 ∷ 42 ∷ w ++ 42 ∷ 47 ∷ []
-text_of (Lexeme k w) = w
+abbrev pub piece_text : VerilogPiece → List ℕ
+piece_text (Blank c) = c ∷ []
+piece_text (Line w) = 47 ∷ 47 ∷ w
+piece_text (Block w) = 47 ∷ 42 ∷ w ++ 42 ∷ 47 ∷ []
+piece_text (Lexeme k w) = w
 
 -- what may follow a piece: a comment with `//` runs to the end of the line, and one with `/*` to the first `*/`
-abbrev pub StandsBefore : Piece → List ℕ → Type 0
-StandsBefore (Blank c) rest = is_blank c ≡ true
-StandsBefore (Line w) rest = (list_all (λ c. not (c == 10)) w ≡ true) × (stops (λ c. not (c == 10)) rest ≡ true)
-StandsBefore (Block w) rest = has_close w ≡ false
-StandsBefore (Lexeme k w) rest = IsToken k w rest
+abbrev pub StandsInVerilog : VerilogPiece → List ℕ → Type 0
+StandsInVerilog (Blank c) rest = is_blank c ≡ true
+StandsInVerilog (Line w) rest = (list_all (λ c. not (c == 10)) w ≡ true) × (stops (λ c. not (c == 10)) rest ≡ true)
+StandsInVerilog (Block w) rest = has_close w ≡ false
+StandsInVerilog (Lexeme k w) rest = IsVerilogToken k w rest
 
 -- a token as the grammar sees it: its place, its kind, and its bytes
-pub record Terminal : Type 0 where
+pub record VerilogTerminal : Type 0 where
   pub place : ℕ
   pub kind : TokenKind
   pub bytes : List ℕ
 
-abbrev pub token_at : ℕ → Piece → Option Terminal
-token_at p (Lexeme k w) = Some (record { place = p; kind = k; bytes = w })
-token_at p _ = None
+abbrev pub terminal_at : ℕ → VerilogPiece → Option VerilogTerminal
+terminal_at p (Lexeme k w) = Some (record { place = p; kind = k; bytes = w })
+terminal_at p _ = None
 
 -- the text is cut into pieces, and these are its tokens
-abbrev pub HasTokens : List ℕ → List Terminal → Type 0
-HasTokens text ts = Cutting.HasTokens text_of StandsBefore token_at text ts
+abbrev pub HasVerilogTokens : List ℕ → List VerilogTerminal → Type 0
+HasVerilogTokens text ts = Cutting.IsCutInto piece_text StandsInVerilog terminal_at text ts
 
 -- Pieces come before the place, and none begins there, as at a foreign byte, at an identifier that is too long, or at a `/*`
 -- without its end.
-abbrev pub HasLexicalFault : List ℕ → ℕ → Type 0
-HasLexicalFault text place = Cutting.StopsAt text_of StandsBefore token_at text place
+abbrev pub HasVerilogLexicalFault : List ℕ → ℕ → Type 0
+HasVerilogLexicalFault text place = Cutting.StopsAt piece_text StandsInVerilog terminal_at text place
 
 -- ---- the texts and the tokens of lists of pieces
 
-abbrev pub text_of_all : List Piece → List ℕ
-text_of_all xs = flat_map text_of xs
+abbrev pub text_of_all : List VerilogPiece → List ℕ
+text_of_all xs = flat_map piece_text xs
 
-abbrev pub StandAll : List Piece → List ℕ → Type 0
-StandAll xs rest = Cutting.StandAll text_of StandsBefore token_at xs rest
+abbrev pub StandAll : List VerilogPiece → List ℕ → Type 0
+StandAll xs rest = Cutting.StandAll piece_text StandsInVerilog terminal_at xs rest
 
-abbrev pub tokens_from : ℕ → List Piece → List Terminal
-tokens_from p xs = Cutting.tokens_from text_of StandsBefore token_at p xs
+abbrev pub tokens_from : ℕ → List VerilogPiece → List VerilogTerminal
+tokens_from p xs = Cutting.tokens_from piece_text StandsInVerilog terminal_at p xs
 
 -- ---- parts by name
 
@@ -141,4 +141,4 @@ abbrev pub base_with : Option ℕ → ℕ → Option ℕ
 base_with o d = option_and_then (λ (base : ℕ). if is_digit base d then Some base else None) o
 
 abbrev pub IsSized : List ℕ → List ℕ → Type 0
-IsSized w rest = IsToken kinds.Sized w rest
+IsSized w rest = IsVerilogToken kinds.Sized w rest

@@ -6,7 +6,8 @@ use Rattle.std.proofs.Math.ListN.{drop_of_length-le}
 use Rattle.std.proofs.lemmas.List.{append-nil, map-append}
 use Rattle.safl_verilog.specs.declared.token.Token.{Token}
 use Rattle.safl_verilog.specs.declared.token.TokenKind.{TokenKind}
-use Rattle.safl_verilog.specs.Tokens.{Piece, Blank, Line, Block, Lexeme, text_of, text_of_all, StandsBefore, StandAll, Terminal, tokens_from, HasTokens, HasLexicalFault}
+use Rattle.safl_verilog.specs.Tokens.{VerilogPiece, Blank, Line, Block, Lexeme, piece_text}
+use Rattle.safl_verilog.specs.Tokens.{text_of_all, StandsInVerilog, StandAll, VerilogTerminal, tokens_from, HasVerilogTokens, HasVerilogLexicalFault}
 use Rattle.safl_verilog.specs.Pieces.{first_piece}
 use Rattle.safl_verilog.proofs.Found.{Cut, piece_found}
 use Rattle.safl_verilog.proofs.PrintedStands.{text_append, stand_append}
@@ -16,57 +17,57 @@ use Rattle.safl_vparse.specs.declared.front.Front.TheVariants as fronts
 use Rattle.safl_vparse.specs.Fronts.{measured, IsCutUpTo}
 use Rattle.safl_vparse.specs.Shown.{shown_token, shown_all}
 
-tokens_after : (xs ys : List Piece) (p : ℕ) → tokens_from p (xs ++ ys) ≡ tokens_from p xs ++ tokens_from (p + length (text_of_all xs)) ys
+tokens_after : (xs ys : List VerilogPiece) (p : ℕ) → tokens_from p (xs ++ ys) ≡ tokens_from p xs ++ tokens_from (p + length (text_of_all xs)) ys
 tokens_after [] ys p = ap (λ k. tokens_from k ys) (omega arith)
 tokens_after (Blank c ∷ xs) ys p =
     let k : p + 1 + length (text_of_all xs) ≡ p + length (text_of_all (Blank c ∷ xs)) = omega arith in
     tokens_after xs ys (p + 1) ∙ ap (λ k. tokens_from (p + 1) xs ++ tokens_from k ys) k
 tokens_after (Line w ∷ xs) ys p =
-    let k : p + length (text_of (Line w)) + length (text_of_all xs) ≡ p + length (text_of_all (Line w ∷ xs)) = omega (arith, length-append (text_of (Line w)) (text_of_all xs)) in
-    tokens_after xs ys (p + length (text_of (Line w))) ∙ ap (λ k. tokens_from (p + length (text_of (Line w))) xs ++ tokens_from k ys) k
+    let k : p + length (piece_text (Line w)) + length (text_of_all xs) ≡ p + length (text_of_all (Line w ∷ xs)) = omega (arith, length-append (piece_text (Line w)) (text_of_all xs)) in
+    tokens_after xs ys (p + length (piece_text (Line w))) ∙ ap (λ k. tokens_from (p + length (piece_text (Line w))) xs ++ tokens_from k ys) k
 tokens_after (Block w ∷ xs) ys p =
-    let k : p + length (text_of (Block w)) + length (text_of_all xs) ≡ p + length (text_of_all (Block w ∷ xs)) = omega (arith, length-append (text_of (Block w)) (text_of_all xs)) in
-    tokens_after xs ys (p + length (text_of (Block w))) ∙ ap (λ k. tokens_from (p + length (text_of (Block w))) xs ++ tokens_from k ys) k
+    let k : p + length (piece_text (Block w)) + length (text_of_all xs) ≡ p + length (text_of_all (Block w ∷ xs)) = omega (arith, length-append (piece_text (Block w)) (text_of_all xs)) in
+    tokens_after xs ys (p + length (piece_text (Block w))) ∙ ap (λ k. tokens_from (p + length (piece_text (Block w))) xs ++ tokens_from k ys) k
 tokens_after (Lexeme k w ∷ xs) ys p =
     let j : p + length w + length (text_of_all xs) ≡ p + length (text_of_all (Lexeme k w ∷ xs)) = omega (arith, length-append w (text_of_all xs)) in
-    ap (λ (l : List Terminal). record { place = p; kind = k; bytes = w } ∷ l) (tokens_after xs ys (p + length w) ∙ ap (λ i. tokens_from (p + length w) xs ++ tokens_from i ys) j)
+    ap (λ (l : List VerilogTerminal). record { place = p; kind = k; bytes = w } ∷ l) (tokens_after xs ys (p + length w) ∙ ap (λ i. tokens_from (p + length w) xs ++ tokens_from i ys) j)
 
 -- one more piece
-record Further (text : List ℕ) (p : ℕ) (x : Piece) (pieces : List Piece) : Type 0 where
-  joined : text ≡ text_of_all (pieces ++ x ∷ []) ++ drop (p + length (text_of x)) text
-  stand : StandAll (pieces ++ x ∷ []) (drop (p + length (text_of x)) text)
-  place : p + length (text_of x) ≡ length (text_of_all (pieces ++ x ∷ []))
-  within : p + length (text_of x) ≤ length text
-  front : take (length (text_of x)) (drop p text) ≡ text_of x
+record Further (text : List ℕ) (p : ℕ) (x : VerilogPiece) (pieces : List VerilogPiece) : Type 0 where
+  joined : text ≡ text_of_all (pieces ++ x ∷ []) ++ drop (p + length (piece_text x)) text
+  stand : StandAll (pieces ++ x ∷ []) (drop (p + length (piece_text x)) text)
+  place : p + length (piece_text x) ≡ length (text_of_all (pieces ++ x ∷ []))
+  within : p + length (piece_text x) ≤ length text
+  front : take (length (piece_text x)) (drop p text) ≡ piece_text x
 
-further : (text : List ℕ) (p : ℕ) (ts : List Token) (x : Piece) → p ≤ length text → (k : IsCutUpTo text p ts) → Cut (drop p text) x → Further text p x k.pieces
+further : (text : List ℕ) (p : ℕ) (ts : List Token) (x : VerilogPiece) → p ≤ length text → (k : IsCutUpTo text p ts) → Cut (drop p text) x → Further text p x k.pieces
 further text p ts x le k c =
-    let size : length (drop p text) ≡ length (text_of x) + length c.rest = ap length c.joined ∙ length-append (text_of x) c.rest in
-    let rest : drop (p + length (text_of x)) text ≡ c.rest = sym (drop-drop (length (text_of x)) p text) ∙ ap
-    (λ (l : List ℕ). drop (length (text_of x)) l) c.joined ∙ drop-append_seam (text_of x) c.rest in
-    let all : text_of_all (k.pieces ++ x ∷ []) ≡ text_of_all k.pieces ++ text_of x = text_append k.pieces (x ∷ []) ∙ ap (λ (l : List ℕ). text_of_all k.pieces ++ l) (append-nil (text_of x)) in
-    let one : StandsBefore x c.rest = c.stands in
-    let before : drop p text ≡ text_of_all (x ∷ []) ++ c.rest = c.joined ∙ ap (λ (l : List ℕ). l ++ c.rest) (sym (append-nil (text_of x))) in
+    let size : length (drop p text) ≡ length (piece_text x) + length c.rest = ap length c.joined ∙ length-append (piece_text x) c.rest in
+    let rest : drop (p + length (piece_text x)) text ≡ c.rest = sym (drop-drop (length (piece_text x)) p text) ∙ ap
+    (λ (l : List ℕ). drop (length (piece_text x)) l) c.joined ∙ drop-append_seam (piece_text x) c.rest in
+    let all : text_of_all (k.pieces ++ x ∷ []) ≡ text_of_all k.pieces ++ piece_text x = text_append k.pieces (x ∷ []) ∙ ap (λ (l : List ℕ). text_of_all k.pieces ++ l) (append-nil (piece_text x)) in
+    let one : StandsInVerilog x c.rest = c.stands in
+    let before : drop p text ≡ text_of_all (x ∷ []) ++ c.rest = c.joined ∙ ap (λ (l : List ℕ). l ++ c.rest) (sym (append-nil (piece_text x))) in
     record {
-      joined = k.joined ∙ ap (λ (l : List ℕ). text_of_all k.pieces ++ l) c.joined ∙ sym (append_assoc (text_of_all k.pieces) (text_of x) c.rest) ∙ ap
+      joined = k.joined ∙ ap (λ (l : List ℕ). text_of_all k.pieces ++ l) c.joined ∙ sym (append_assoc (text_of_all k.pieces) (piece_text x) c.rest) ∙ ap
           (λ (l : List ℕ). l ++ c.rest) (sym all) ∙ ap (λ (l : List ℕ). text_of_all (k.pieces ++ x ∷ []) ++ l) (sym rest);
       stand = subst (λ (l : List ℕ). StandAll (k.pieces ++ x ∷ []) l) (sym rest) (stand_append k.pieces (x ∷ []) c.rest (subst (λ (l : List ℕ). StandAll k.pieces l) before k.stand) (one, tt));
-      place = omega (arith, k.place, ap length all, length-append (text_of_all k.pieces) (text_of x));
+      place = omega (arith, k.place, ap length all, length-append (text_of_all k.pieces) (piece_text x));
       within = omega (arith, size, length-drop p text);
-      front = ap (λ (l : List ℕ). take (length (text_of x)) l) c.joined ∙ take-append_seam (text_of x) c.rest;
+      front = ap (λ (l : List ℕ). take (length (piece_text x)) l) c.joined ∙ take-append_seam (piece_text x) c.rest;
     }
 
 -- what a piece is, by its length
-found_as : (w : List ℕ) (f : Front) → (f ≡ fronts.Stuck → ⊥) → f ≡ measured (first_piece w) → (x : Piece) × (first_piece w ≡ Some x) × (f ≡ measured (Some x))
+found_as : (w : List ℕ) (f : Front) → (f ≡ fronts.Stuck → ⊥) → f ≡ measured (first_piece w) → (x : VerilogPiece) × (first_piece w ≡ Some x) × (f ≡ measured (Some x))
 found_as w f some e = go (first_piece w) refl e
   where
-    go : (o : Option Piece) → first_piece w ≡ o → f ≡ measured o → (x : Piece) × (first_piece w ≡ Some x) × (f ≡ measured (Some x))
+    go : (o : Option VerilogPiece) → first_piece w ≡ o → f ≡ measured o → (x : VerilogPiece) × (first_piece w ≡ Some x) × (f ≡ measured (Some x))
     go None h e = absurd (some e)
     go (Some x) h e = (x, h, e)
 
 -- ---- a blank or a comment
 
-no_token : (x : Piece) (n p : ℕ) → fronts.Gap n ≡ measured (Some x) → (length (text_of x) ≡ n) × (tokens_from p (x ∷ []) ≡ [])
+no_token : (x : VerilogPiece) (n p : ℕ) → fronts.Gap n ≡ measured (Some x) → (length (piece_text x) ≡ n) × (tokens_from p (x ∷ []) ≡ [])
 no_token (Blank c) n p e = let g : fronts.Gap n ≡ fronts.Gap 1 = cc in (sym (cc), refl)
 no_token (Line w) n p e = let g : n ≡ 2 + length w = cc in (omega (arith, g), refl)
 no_token (Block w) n p e = let g : n ≡ length w + 4 = cc in (omega (arith, g, length-append w (42 ∷ 47 ∷ [])), refl)
@@ -79,14 +80,14 @@ goes_over text w p n ts e le k h =
     let c = piece_found (drop p text) x.0 (ap first_piece (sym e) ∙ x.1) in
     let f = further text p ts x.0 le k c in
     let s = no_token x.0 n (0 + length (text_of_all k.pieces)) x.2 in
-    let g : (p + length (text_of x.0) ≤ length text) × IsCutUpTo text (p + length (text_of x.0)) ts × (1 ≤ length (text_of x.0)) = (
+    let g : (p + length (piece_text x.0) ≤ length text) × IsCutUpTo text (p + length (piece_text x.0)) ts × (1 ≤ length (piece_text x.0)) = (
       f.within,
       record {
         pieces = k.pieces ++ x.0 ∷ [];
         joined = f.joined;
         stand = f.stand;
         place = f.place;
-        tokens = k.tokens ∙ sym (append-nil (tokens_from 0 k.pieces)) ∙ ap (λ (l : List Terminal). tokens_from 0 k.pieces ++ l) (sym s.1) ∙ sym (tokens_after k.pieces (x.0 ∷ []) 0);
+        tokens = k.tokens ∙ sym (append-nil (tokens_from 0 k.pieces)) ∙ ap (λ (l : List VerilogTerminal). tokens_from 0 k.pieces ++ l) (sym s.1) ∙ sym (tokens_after k.pieces (x.0 ∷ []) 0);
       },
       no_empty x.0 c.rest c.stands,
     ) in
@@ -94,7 +95,7 @@ goes_over text w p n ts e le k h =
 
 -- ---- a token
 
-is_token : (x : Piece) (kind : TokenKind) (n : ℕ) → fronts.Found kind n ≡ measured (Some x) → (w : List ℕ) × (x ≡ Lexeme kind w) × (length w ≡ n)
+is_token : (x : VerilogPiece) (kind : TokenKind) (n : ℕ) → fronts.Found kind n ≡ measured (Some x) → (w : List ℕ) × (x ≡ Lexeme kind w) × (length w ≡ n)
 is_token (Blank c) kind n e = absurd cc
 is_token (Line w) kind n e = absurd cc
 is_token (Block w) kind n e = absurd cc
@@ -122,7 +123,7 @@ takes text w p n kind ts us e le k h more =
         stand = f.stand;
         place = f.place;
         tokens = ap (shown_all text) more ∙ map-append (shown_token text) ts _ ∙ ap
-            (λ (l : List Terminal). l ++ shown_all text (record { start = p; stop = p + n; kind = kind } ∷ [])) k.tokens ∙ ap
+            (λ (l : List VerilogTerminal). l ++ shown_all text (record { start = p; stop = p + n; kind = kind } ∷ [])) k.tokens ∙ ap
             (λ y. tokens_from 0 k.pieces ++ y ∷ []) last ∙ sym (tokens_after k.pieces (Lexeme kind t.0 ∷ []) 0);
       },
       no_empty (Lexeme kind t.0) c.rest c.stands,
@@ -131,14 +132,14 @@ takes text w p n kind ts us e le k h more =
 
 -- ---- no piece
 
-nothing_found : (o : Option Piece) → fronts.Stuck ≡ measured o → o ≡ None
+nothing_found : (o : Option VerilogPiece) → fronts.Stuck ≡ measured o → o ≡ None
 nothing_found None e = refl
 nothing_found (Some (Blank c)) e = absurd cc
 nothing_found (Some (Line w)) e = absurd cc
 nothing_found (Some (Block w)) e = absurd cc
 nothing_found (Some (Lexeme k w)) e = absurd cc
 
-pub stops_at : (text w : List ℕ) (p : ℕ) (ts : List Token) → w ≡ drop p text → p < length text → IsCutUpTo text p ts → fronts.Stuck ≡ measured (first_piece w) → HasLexicalFault text p
+pub stops_at : (text w : List ℕ) (p : ℕ) (ts : List Token) → w ≡ drop p text → p < length text → IsCutUpTo text p ts → fronts.Stuck ≡ measured (first_piece w) → HasVerilogLexicalFault text p
 stops_at text w p ts e lt k h = record {
   pieces = k.pieces;
   rest = drop p text;
@@ -149,7 +150,7 @@ stops_at text w p ts e lt k h = record {
   foreign = stuck (drop p text) (ap first_piece (sym e) ∙ nothing_found (first_piece w) h);
 }
 
-pub whole : (text : List ℕ) (p : ℕ) (ts : List Token) → length text ≤ p → IsCutUpTo text p ts → HasTokens text (shown_all text ts)
+pub whole : (text : List ℕ) (p : ℕ) (ts : List Token) → length text ≤ p → IsCutUpTo text p ts → HasVerilogTokens text (shown_all text ts)
 whole text p ts le k =
     let none : drop p text ≡ [] = drop_of_length-le text le in
     record {

@@ -1,7 +1,7 @@
 -- From the answer on tokens to the answer on a text.
 use Rattle.std.proofs.Common.{ℕ, List, Ok, Err}
 use Rattle.std.specs.Prelude.{Result, IfOk, IfErr}
-use Rattle.safl_verilog.specs.Tokens.{Terminal, HasTokens}
+use Rattle.safl_verilog.specs.Tokens.{VerilogTerminal, HasVerilogTokens}
 use Rattle.safl_verilog.specs.declared.fault.VFault.{VFault}
 use Rattle.safl_verilog.specs.Reads.{HasFault, lexical, unexpected}
 use Rattle.safl_vparse.specs.declared.error.VErr.{VErr}
@@ -11,11 +11,11 @@ use Rattle.safl_vparse.specs.Shown.{shown_file}
 use Rattle.safl_vparse.specs.Fronts.{RefusesBytes}
 use Rattle.safl_vparse.specs.Parsed.{IsFileText, RefusesText, IsUnparsed, misspelled, ungrammatical, RefusesUnparsed, TokensAnswer}
 
-pub parsed : (text : List ℕ) (ts : List Terminal) (r : Result File VErr) → HasTokens text ts → TokensAnswer text ts r → IfOk r (λ f. IsFileText text (shown_file text f))
+pub parsed : (text : List ℕ) (ts : List VerilogTerminal) (r : Result File VErr) → HasVerilogTokens text ts → TokensAnswer text ts r → IfOk r (λ f. IsFileText text (shown_file text f))
 parsed text ts (Ok f) cut h = record { tokens = ts; cut = cut; derived = h }
 parsed text ts (Err e) cut h = tt
 
-pub unparsed : (text : List ℕ) (ts : List Terminal) (r : Result File VErr) → HasTokens text ts → TokensAnswer text ts r → IfErr r (λ e. RefusesUnparsed text e)
+pub unparsed : (text : List ℕ) (ts : List VerilogTerminal) (r : Result File VErr) → HasVerilogTokens text ts → TokensAnswer text ts r → IfErr r (λ e. RefusesUnparsed text e)
 unparsed text ts (Ok f) cut h = tt
 unparsed text ts (Err (errors.Refused f)) cut h = ungrammatical ts h.1 h.0 cut h.2 h.3
 unparsed text ts (Err errors.NoMemory) cut h = tt

@@ -3,7 +3,7 @@ use Rattle.std.specs.Prelude.{◌≡◌, ℕ, List, Result, Ok, Err}
 use Rattle.safl_grammar.specs.Syntax.{Rule}
 use Rattle.safl_verilog.specs.declared.fault.VRule.TheVariants as rules
 use Rattle.safl_verilog.specs.declared.fault.VFault.{VFault}
-use Rattle.safl_verilog.specs.Tokens.{Terminal, HasTokens, HasLexicalFault}
+use Rattle.safl_verilog.specs.Tokens.{VerilogTerminal, HasVerilogTokens, HasVerilogLexicalFault}
 use Rattle.safl_verilog.specs.Files
 use Rattle.safl_verilog.specs.Faults.{at}
 use Rattle.safl_verilog.specs.Reads.{IsFile, HasUnexpected, place_in, HasFault}
@@ -14,8 +14,8 @@ use Rattle.safl_vparse.specs.Shown.{shown_file}
 
 -- the text is cut into tokens, and these are this file
 pub record IsFileText (text : List ℕ) (f : Files.File) : Type 0 where
-  pub tokens : List Terminal
-  pub cut : HasTokens text tokens
+  pub tokens : List VerilogTerminal
+  pub cut : HasVerilogTokens text tokens
   pub derived : IsFile tokens f
 
 -- the error is the first fault of the text, or out of memory
@@ -25,8 +25,8 @@ RefusesText text errors.NoMemory = Unit {0}
 
 -- the first fault of the bytes, V01, or otherwise of the tokens, V02
 pub data IsUnparsed (text : List ℕ) (f : VFault) : Type 0 where
-  misspelled : HasLexicalFault text f.place → f ≡ at rules.V01 f.place → IsUnparsed text f
-  ungrammatical : (ts rest : List Terminal) (e : Rule) → HasTokens text ts → HasUnexpected ts e rest → f ≡ at rules.V02 (place_in text rest) → IsUnparsed text f
+  misspelled : HasVerilogLexicalFault text f.place → f ≡ at rules.V01 f.place → IsUnparsed text f
+  ungrammatical : (ts rest : List VerilogTerminal) (e : Rule) → HasVerilogTokens text ts → HasUnexpected ts e rest → f ≡ at rules.V02 (place_in text rest) → IsUnparsed text f
 
 -- The text is no file of the grammar, and the error is its V01 or V02, or out of memory.
 abbrev pub RefusesUnparsed : List ℕ → VErr → Type 0
@@ -34,7 +34,7 @@ RefusesUnparsed text (errors.Refused f) = IsUnparsed text f
 RefusesUnparsed text errors.NoMemory = Unit {0}
 
 -- the result is the file that the tokens are, or V02 at the first unexpected token, or out of memory
-abbrev pub TokensAnswer : List ℕ → List Terminal → Result File VErr → Type 0
+abbrev pub TokensAnswer : List ℕ → List VerilogTerminal → Result File VErr → Type 0
 TokensAnswer text ts (Ok f) = IsFile ts (shown_file text f)
-TokensAnswer text ts (Err (errors.Refused f)) = (e : Rule) × (rest : List Terminal) × HasUnexpected ts e rest × (f ≡ at rules.V02 (place_in text rest))
+TokensAnswer text ts (Err (errors.Refused f)) = (e : Rule) × (rest : List VerilogTerminal) × HasUnexpected ts e rest × (f ≡ at rules.V02 (place_in text rest))
 TokensAnswer text ts (Err errors.NoMemory) = Unit {0}

@@ -1,7 +1,7 @@
 -- The tokens and files of a text, as plain values.
 use Rattle.std.specs.Prelude.{ℕ, ◌-◌, List, map, take, drop, Option, Some, None}
 use Rattle.safl_verilog.specs.declared.token.Token.{Token}
-use Rattle.safl_verilog.specs.Tokens.{Terminal}
+use Rattle.safl_verilog.specs.Tokens.{VerilogTerminal}
 use Rattle.safl_verilog.specs.Files
 use Rattle.safl_verilog.specs.Files.{Spot}
 use Rattle.safl_vparse.specs.declared.file.Span.{Span}
@@ -14,10 +14,10 @@ use Rattle.safl_vparse.specs.declared.file.Statement.TheVariants as stated
 use Rattle.safl_vparse.specs.declared.file.File.{File}
 
 -- a token of a text, with its bytes: those from its start to its stop
-abbrev pub shown_token : List ℕ → Token → Terminal
+abbrev pub shown_token : List ℕ → Token → VerilogTerminal
 shown_token text t = record { place = t.start; kind = t.kind; bytes = take (t.stop - t.start) (drop t.start text) }
 
-abbrev pub shown_all : List ℕ → List Token → List Terminal
+abbrev pub shown_all : List ℕ → List Token → List VerilogTerminal
 shown_all text ts = map (shown_token text) ts
 
 abbrev pub shown_spot : List ℕ → Span → Spot
@@ -26,7 +26,7 @@ shown_spot text s = record { place = s.start; bytes = take (s.stop - s.start) (d
 abbrev pub shown_spots : List ℕ → List Span → List Spot
 shown_spots text xs = map (shown_spot text) xs
 
-abbrev pub shown_expression : List ℕ → Expression → Files.Expression
+abbrev pub shown_expression : List ℕ → Expression → Files.RightSide
 shown_expression text (parsed.Literal l) = Files.Literal (shown_spot text l)
 shown_expression text (parsed.Plain a) = Files.Plain (shown_spot text a)
 shown_expression text (parsed.Inverted a) = Files.Inverted (shown_spot text a)

@@ -1,6 +1,6 @@
 //! What a text begins with.
 
-ghost use Rattle.std.specs.Prelude.{◌≡◌, ◌+◌, ◌<◌, ◌≤◌, ◌∷◌, [], ◌==◌, ◌&&◌, ◌^◌, not, length, take, drop, slice_index, slice_get, true, false, Some, None, ◌++◌, IfSome};
+ghost use Rattle.std.specs.Prelude.{◌≡◌, ◌+◌, ◌<◌, ◌≤◌, ◌∷◌, [], ◌==◌, ◌&&◌, ◌^◌, length, drop, Some, None, IfSome};
 ghost use Rattle.safl_word.specs.Numerals.{is_digit};
 ghost use Rattle.safl_word.specs.Runs.{IsRun};
 ghost use Rattle.safl_net.specs.Names.{is_start, is_part};

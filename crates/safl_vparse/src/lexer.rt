@@ -1,7 +1,7 @@
 //! The lexer: from bytes to tokens.
 
-ghost use Rattle.std.specs.Prelude.{◌≡◌, ◌<◌, ◌^◌, length, IfOk, IfErr};
-ghost use Rattle.safl_verilog.specs.Tokens.{HasTokens};
+ghost use Rattle.std.specs.Prelude.{◌<◌, ◌^◌, length, IfOk, IfErr};
+ghost use Rattle.safl_verilog.specs.Tokens.{HasVerilogTokens};
 ghost use Rattle.safl_vparse.specs.Shown.{shown_all};
 ghost use Rattle.safl_vparse.specs.Fronts.{RefusesBytes};
 
@@ -14,7 +14,7 @@ use std::alloc::Global;
 /// begins.
 pub fn lex(alloc: Global, text: &[u8]) -> Result<Vec<Token>, VErr>
     requires { length text.now < 2 ^ 32 }
-    ensures tokens { IfOk result (λ tokens. HasTokens text.now (shown_all text.now tokens.items)) }
+    ensures tokens { IfOk result (λ tokens. HasVerilogTokens text.now (shown_all text.now tokens.items)) }
     ensures refused { IfErr result (λ e. RefusesBytes text.now e) }
 {
     let mut tokens = Vec::new(alloc);

@@ -1,7 +1,6 @@
 //! Parsing: from the bytes of a text to a file of the grammar.
 
 ghost use Rattle.std.specs.Prelude.{◌≡◌, ◌<◌, ◌^◌, length, IfOk, IfErr};
-ghost use Rattle.safl_verilog.specs.Tokens.{HasTokens};
 ghost use Rattle.safl_verilog.specs.Reads.{place_in};
 ghost use Rattle.safl_vparse.specs.Shown.{shown_all, shown_file};
 ghost use Rattle.safl_vparse.specs.Parsed.{IsFileText, TokensAnswer, RefusesText, RefusesUnparsed};

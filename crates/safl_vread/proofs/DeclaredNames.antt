@@ -12,7 +12,7 @@ use Rattle.safl_verilog.specs.declared.token.Keyword.TheVariants as keywords
 use Rattle.safl_verilog.specs.declared.token.Symbol.{Symbol}
 use Rattle.safl_verilog.specs.declared.token.Symbol.TheVariants as symbols
 use Rattle.safl_verilog.specs.declared.token.TokenKind.TheVariants as kinds
-use Rattle.safl_verilog.specs.Tokens.{IsIdentifier, Piece, Blank, Line, Block, Lexeme, text_of, text_of_all, StandAll, Terminal, tokens_from}
+use Rattle.safl_verilog.specs.Tokens.{IsIdentifier, VerilogPiece, Blank, Line, Block, Lexeme, piece_text, text_of_all, StandAll, VerilogTerminal, tokens_from}
 use Rattle.safl_verilog.specs.Files.{Spot, Declaration, File}
 use Rattle.safl_verilog.specs.Grammar.{spot, decl, another_decl, file}
 use Rattle.safl_verilog.specs.Codes.{keyword_code, symbol_code, code_of, classed}
@@ -23,7 +23,7 @@ use Rattle.safl_vparse.specs.Parsed.{IsFileText}
 -- ---- tokens that are identifiers
 
 -- a token of the code 1 has the bytes of an identifier
-abbrev Named : Terminal → Type 0
+abbrev Named : VerilogTerminal → Type 0
 Named t = code_of t.kind ≡ 1 → IsIdentifier t.bytes
 
 keyword_other : (k : Keyword) → keyword_code k ≡ 1 → ⊥
@@ -68,11 +68,11 @@ symbol_other symbols.GreaterEqual h = omega (arith, h)
 symbol_other symbols.ShiftLeft h = omega (arith, h)
 symbol_other symbols.ShiftRight h = omega (arith, h)
 
-named_tokens : (p : ℕ) (xs : List Piece) → StandAll xs [] → Each Named (tokens_from p xs)
+named_tokens : (p : ℕ) (xs : List VerilogPiece) → StandAll xs [] → Each Named (tokens_from p xs)
 named_tokens p [] h = tt
 named_tokens p (Blank c ∷ xs) h = named_tokens (p + 1) xs h.1
-named_tokens p (Line w ∷ xs) h = named_tokens (p + length (text_of (Line w))) xs h.1
-named_tokens p (Block w ∷ xs) h = named_tokens (p + length (text_of (Block w))) xs h.1
+named_tokens p (Line w ∷ xs) h = named_tokens (p + length (piece_text (Line w))) xs h.1
+named_tokens p (Block w ∷ xs) h = named_tokens (p + length (piece_text (Block w))) xs h.1
 named_tokens p (Lexeme kinds.Identifier w ∷ xs) h = (λ e. h.0.0, named_tokens (p + length w) xs h.1)
 named_tokens p (Lexeme kinds.Number w ∷ xs) h = (λ e. absurd (omega (arith, e)), named_tokens (p + length w) xs h.1)
 named_tokens p (Lexeme kinds.Sized w ∷ xs) h = (λ e. absurd (omega (arith, e)), named_tokens (p + length w) xs h.1)
@@ -81,14 +81,14 @@ named_tokens p (Lexeme (kinds.Symbol s) w ∷ xs) h = (λ e. absurd (symbol_othe
 
 -- ---- how many they are
 
-abbrev one_id : Terminal → ℕ
+abbrev one_id : VerilogTerminal → ℕ
 one_id t = cond (code_of t.kind == 1) 1 0
 
-abbrev ids_in : List Terminal → ℕ
+abbrev ids_in : List VerilogTerminal → ℕ
 ids_in [] = 0
 ids_in (t ∷ ts) = one_id t + ids_in ts
 
-ids_join : (u v : List Terminal) → ids_in (u ++ v) ≡ ids_in u + ids_in v
+ids_join : (u v : List VerilogTerminal) → ids_in (u ++ v) ≡ ids_in u + ids_in v
 ids_join [] v = omega arith
 ids_join (t ∷ u) v = omega (arith, ids_join u v)
 
@@ -96,23 +96,23 @@ some_long : (w : List ℕ) → is_identifier w ≡ true → 1 ≤ length w
 some_long [] h = absurd cc
 some_long (b ∷ w) h = omega arith
 
-short_id : (t : Terminal) → Named t → one_id t ≤ length t.bytes
+short_id : (t : VerilogTerminal) → Named t → one_id t ≤ length t.bytes
 short_id t h = by (code_of t.kind == 1) refl
   where
     by : (b : Bool) → (code_of t.kind == 1) ≡ b → cond b 1 0 ≤ length t.bytes
     by true e = some_long t.bytes (h ((Decides-eqb (code_of t.kind) 1).0 e)).like
     by false e = omega arith
 
-ids_few : (p : ℕ) (xs : List Piece) → Each Named (tokens_from p xs) → ids_in (tokens_from p xs) ≤ length (text_of_all xs)
+ids_few : (p : ℕ) (xs : List VerilogPiece) → Each Named (tokens_from p xs) → ids_in (tokens_from p xs) ≤ length (text_of_all xs)
 ids_few p [] h = omega arith
-ids_few p (Blank c ∷ xs) h = omega (arith, ids_few (p + 1) xs h, length-append (text_of (Blank c)) (text_of_all xs))
-ids_few p (Line w ∷ xs) h = omega (arith, ids_few (p + length (text_of (Line w))) xs h, length-append (text_of (Line w)) (text_of_all xs))
-ids_few p (Block w ∷ xs) h = omega (arith, ids_few (p + length (text_of (Block w))) xs h, length-append (text_of (Block w)) (text_of_all xs))
+ids_few p (Blank c ∷ xs) h = omega (arith, ids_few (p + 1) xs h, length-append (piece_text (Blank c)) (text_of_all xs))
+ids_few p (Line w ∷ xs) h = omega (arith, ids_few (p + length (piece_text (Line w))) xs h, length-append (piece_text (Line w)) (text_of_all xs))
+ids_few p (Block w ∷ xs) h = omega (arith, ids_few (p + length (piece_text (Block w))) xs h, length-append (piece_text (Block w)) (text_of_all xs))
 ids_few p (Lexeme k w ∷ xs) h = omega (arith, short_id (record { place = p; kind = k; bytes = w }) h.0, ids_few (p + length w) xs h.1, length-append w (text_of_all xs))
 
 -- ---- the grammar
 
-id_token : (t : Terminal) (a : Spot) → classed (1 ∷ []) spot t ≡ Some a → (code_of t.kind ≡ 1) × (spot t ≡ a)
+id_token : (t : VerilogTerminal) (a : Spot) → classed (1 ∷ []) spot t ≡ Some a → (code_of t.kind ≡ 1) × (spot t ≡ a)
 id_token t a h = by (within (Only (1 ∷ [])) (code_of t.kind)) refl h
   where
     is_one : (n : ℕ) → within (Only (1 ∷ [])) n ≡ true → n ≡ 1
@@ -123,30 +123,30 @@ id_token t a h = by (within (Only (1 ∷ [])) (code_of t.kind)) refl h
     by false e h = absurd cc
 
 -- the name is an identifier, and there is a token of it
-record HasName (w : List Terminal) (name : Spot) : Type 0 where
+record HasName (w : List VerilogTerminal) (name : Spot) : Type 0 where
   named : IsIdentifier name.bytes
   one : 1 ≤ ids_in w
 
-has_name : (w : List Terminal) (t : Terminal) (a : Spot) → Each Named w → w ≡ t ∷ [] → identifier_at t ≡ Some a → HasName w a
+has_name : (w : List VerilogTerminal) (t : VerilogTerminal) (a : Spot) → Each Named w → w ≡ t ∷ [] → identifier_at t ≡ Some a → HasName w a
 has_name w t a h e c =
-    let k = id_token t a (sym (ap (λ (f : Terminal → Option Spot). f t) identifier_class) ∙ c) in
-    let n : Each Named (t ∷ []) = subst (λ (l : List Terminal). Each Named l) e h in
+    let k = id_token t a (sym (ap (λ (f : VerilogTerminal → Option Spot). f t) identifier_class) ∙ c) in
+    let n : Each Named (t ∷ []) = subst (λ (l : List VerilogTerminal). Each Named l) e h in
     let one : one_id t ≡ 1 = ap (λ b. cond b 1 0) ((Decides-eqb (code_of t.kind) 1).1 k.0) in
     record {
       named = subst (λ (s : Spot). IsIdentifier s.bytes) k.1 (n.0 k.0);
       one = omega (arith, ap ids_in e, one);
     }
 
-left_part : (w u v : List Terminal) → w ≡ u ++ v → Each Named w → Each Named u
-left_part w u v e h = each_left Named u v (subst (λ (l : List Terminal). Each Named l) e h)
+left_part : (w u v : List VerilogTerminal) → w ≡ u ++ v → Each Named w → Each Named u
+left_part w u v e h = each_left Named u v (subst (λ (l : List VerilogTerminal). Each Named l) e h)
 
-right_part : (w u v : List Terminal) → w ≡ u ++ v → Each Named w → Each Named v
-right_part w u v e h = each_right Named u v (subst (λ (l : List Terminal). Each Named l) e h)
+right_part : (w u v : List VerilogTerminal) → w ≡ u ++ v → Each Named w → Each Named v
+right_part w u v e h = each_right Named u v (subst (λ (l : List VerilogTerminal). Each Named l) e h)
 
-parts : (w u v : List Terminal) → w ≡ u ++ v → ids_in w ≡ ids_in u + ids_in v
+parts : (w u v : List VerilogTerminal) → w ≡ u ++ v → ids_in w ≡ ids_in u + ids_in v
 parts w u v e = ap ids_in e ∙ ids_join u v
 
-decl_name : (w : List Terminal) (d : Declaration) → Each Named w → decl.derives w d → HasName w d.name
+decl_name : (w : List VerilogTerminal) (d : Declaration) → Each Named w → decl.derives w d → HasName w d.name
 decl_name w d h (u1, v1, k, e1, s1, (u2, v2, r, e2, s2, (u3, v3, a, e3, (t, et, c), (u4, v4, s, e4, s4, (e5, e6))))) =
     let h1 = right_part w u1 v1 e1 h in
     let h2 = right_part v1 u2 v2 e2 h1 in
@@ -159,7 +159,7 @@ decl_name w d h (u1, v1, k, e1, s1, (u2, v2, r, e2, s2, (u3, v3, a, e3, (t, et, 
 abbrev IsNamed : Declaration → Type 0
 IsNamed d = IsIdentifier d.name.bytes
 
-turn_names : (k : ℕ) (a ds : List Declaration) (w : List Terminal) → Each Named w → Each IsNamed a → (turns k another_decl a).derives w ds → Each IsNamed ds × (length ds ≤ length a + ids_in w)
+turn_names : (k : ℕ) (a ds : List Declaration) (w : List VerilogTerminal) → Each Named w → Each IsNamed a → (turns k another_decl a).derives w ds → Each IsNamed ds × (length ds ≤ length a + ids_in w)
 turn_names zero a ds w h g (e, f) = (subst (λ (l : List Declaration). Each IsNamed l) f g, omega (arith, ap length f))
 turn_names (suc k) a ds w h g (inr (e, f)) = (subst (λ (l : List Declaration). Each IsNamed l) f g, omega (arith, ap length f))
 turn_names (suc k) a ds w h g (inl (u, v, b, e, (u1, v1, d, e1, s1, (e2, f2)), rest)) =
@@ -168,7 +168,7 @@ turn_names (suc k) a ds w h g (inl (u, v, b, e, (u1, v1, d, e1, s1, (e2, f2)), r
     let m = turn_names k b ds v (right_part w u v e h) more rest in
     (m.0, omega (arith, m.1, n.one, parts w u v e, parts u u1 v1 e1, ap length f2, length-append a (d ∷ [])))
 
-file_names : (w : List Terminal) (f : File) → Each Named w → file.derives w f → Each IsNamed f.declarations × (1 + length f.declarations ≤ ids_in w)
+file_names : (w : List VerilogTerminal) (f : File) → Each Named w → file.derives w f → Each IsNamed f.declarations × (1 + length f.declarations ≤ ids_in w)
 file_names w f h (
   u1,
   v1,
@@ -222,7 +222,7 @@ file_names w f h (
 
 text_facts : (text : List ℕ) (f : File) → IsFileText text f → Each IsNamed f.declarations × (1 + length f.declarations ≤ length text)
 text_facts text f h =
-    let all : Each Named h.tokens = subst (λ (l : List Terminal). Each Named l) (sym h.cut.tokens) (named_tokens 0 h.cut.pieces h.cut.stand) in
+    let all : Each Named h.tokens = subst (λ (l : List VerilogTerminal). Each Named l) (sym h.cut.tokens) (named_tokens 0 h.cut.pieces h.cut.stand) in
     let k = file_names h.tokens f all h.derived.derived.1 in
     let few = ids_few 0 h.cut.pieces (named_tokens 0 h.cut.pieces h.cut.stand) in
     (k.0, omega (arith, k.1, few, ap ids_in h.cut.tokens, ap length h.cut.joined))

@@ -6,9 +6,9 @@ use Rattle.safl_net.specs.Netlist.{Kind, Reg, Wire}
 use Rattle.safl_net.specs.declared.cell.Op.{Op}
 use Rattle.safl_verilog.specs.declared.token.Sort.{Sort}
 use Rattle.safl_verilog.specs.declared.token.Sort.TheVariants as sorts
-use Rattle.safl_verilog.specs.Files.{Spot, Expression, Literal, Plain, Inverted, Binary, Choice, Joined, Slice, Declaration, Statement, File}
+use Rattle.safl_verilog.specs.Files.{Spot, RightSide, Literal, Plain, Inverted, Binary, Choice, Joined, Slice, Declaration, Statement, File}
 use Rattle.safl_verilog.specs.Faults.{is_plain, range_width, literal_value, operation, operands, assigned, missing_faults}
-use Rattle.safl_verilog.specs.Netlists.{number_of, kind_of, register_of, driven, shown_signal, signal_of}
+use Rattle.safl_verilog.specs.Netlists.{signal_number, signal_kind, register_of, driven, shown_signal, signal_of}
 use Rattle.safl_vread.specs.declared.driver.Operands.{Operands}
 use Rattle.safl_vread.specs.declared.driver.Operands.TheVariants as operand
 use Rattle.safl_vread.specs.declared.driver.Driver.{Driver}
@@ -21,11 +21,11 @@ use Rattle.safl_vread.specs.Nets.{Fits, AllFit, kind_with, signal_with, shown_wi
 
 -- ---- outputs show a name alone
 
-pub record IsPlain (e : Expression) : Type 0 where
+pub record IsPlain (e : RightSide) : Type 0 where
   pub name : Spot
   pub is : e ≡ Plain name
 
-pub plain_of : (e : Expression) → is_plain e ≡ true → IsPlain e
+pub plain_of : (e : RightSide) → is_plain e ≡ true → IsPlain e
 plain_of (Plain a) h = record { name = a; is = refl }
 plain_of (Literal l) h = absurd cc
 plain_of (Inverted a) h = absurd cc
@@ -46,8 +46,8 @@ one_place ds (operand.One p) a h = record { place = p; is = refl; at = h.0 }
 one_place ds (operand.Two p q) a h = absurd h.1
 one_place ds (operand.Three p q r) a h = absurd h.1
 
-pub shows_one : (ds : List Declaration) (xs : Operands) (e : Expression) → AreAt ds (places_of xs) (operands e) → (k : IsPlain e) → ShowsOne ds xs k.name
-shows_one ds xs e h k = one_place ds xs k.name (subst (λ (v : Expression). AreAt ds (places_of xs) (operands v)) k.is h)
+pub shows_one : (ds : List Declaration) (xs : Operands) (e : RightSide) → AreAt ds (places_of xs) (operands e) → (k : IsPlain e) → ShowsOne ds xs k.name
+shows_one ds xs e h k = one_place ds xs k.name (subst (λ (v : RightSide). AreAt ds (places_of xs) (operands v)) k.is h)
 
 -- ---- what each declaration needs
 
@@ -74,21 +74,21 @@ all_fit ds ss vs h m = λ (i : ℕ) (d : Declaration) (v : Driver) a b.
 
 -- ---- numbers of operands
 
-pub place_number : (ds : List Declaration) (order ns : List ℕ) (p : ℕ) (x : Spot) → AreNumbers ds order ns → IsAt ds p x → slice_index ns p ≡ number_of ds x.bytes
-place_number ds order ns p x n h = n.each p h.declared h.there h.fit ∙ ap (number_of ds) (found_name ds x.bytes h.declared h.found)
+pub place_number : (ds : List Declaration) (order ns : List ℕ) (p : ℕ) (x : Spot) → AreNumbers ds order ns → IsAt ds p x → slice_index ns p ≡ signal_number ds x.bytes
+place_number ds order ns p x n h = n.each p h.declared h.there h.fit ∙ ap (signal_number ds) (found_name ds x.bytes h.declared h.found)
 
-place_numbers : (ds : List Declaration) (order ns ps : List ℕ) (xs : List Spot) → AreNumbers ds order ns → AreAt ds ps xs → map (slice_index ns) ps ≡ map (λ (a : Spot). number_of ds a.bytes) xs
+place_numbers : (ds : List Declaration) (order ns ps : List ℕ) (xs : List Spot) → AreNumbers ds order ns → AreAt ds ps xs → map (slice_index ns) ps ≡ map (λ (a : Spot). signal_number ds a.bytes) xs
 place_numbers ds order ns [] [] n h = refl
 place_numbers ds order ns [] (x ∷ xs) n h = absurd h
 place_numbers ds order ns (p ∷ ps) [] n h = absurd h
 place_numbers ds order ns (p ∷ ps) (x ∷ xs) n h =
-    ap (λ (k : ℕ). k ∷ map (slice_index ns) ps) (place_number ds order ns p x n h.0) ∙ ap (λ (l : List ℕ). number_of ds x.bytes ∷ l) (place_numbers ds order ns ps xs n h.1)
+    ap (λ (k : ℕ). k ∷ map (slice_index ns) ps) (place_number ds order ns p x n h.0) ∙ ap (λ (l : List ℕ). signal_number ds x.bytes ∷ l) (place_numbers ds order ns ps xs n h.1)
 
 -- ---- kinds
 
 module _ (f : File) (order ns : List ℕ) (n : AreNumbers f.declarations order ns) where
   kind_sort : (count : ℕ) (s : Sort) (r : Option (Spot × Spot)) (x : Spot) (v : Driver) → Drives f.declarations f.statements
-      (record { sort = s; range = r; name = x }) v → Fits count s (range_width r) v → kind_with ns s v ≡ kind_of f s x.bytes
+      (record { sort = s; range = r; name = x }) v → Fits count s (range_width r) v → kind_with ns s v ≡ signal_kind f s x.bytes
   kind_sort count sorts.Input r x v h k = refl
   kind_sort count sorts.Output r x v h k = refl
   kind_sort count sorts.Reg r x driver.Open h k = absurd k
@@ -100,7 +100,7 @@ module _ (f : File) (order ns : List ℕ) (n : AreNumbers f.declarations order n
   kind_sort count sorts.Wire r x (driver.Cell op xs) h k =
       ap (λ (o : Op). Wire (Some (record { op = o; operands = map (slice_index ns) (places_of xs) }))) h.operation_is
       ∙ ap (λ (l : List ℕ). Wire (Some (record { op = operation h.value; operands = l }))) (place_numbers f.declarations order ns (places_of xs) (operands h.value) n h.operands_at)
-      ∙ sym (ap (λ (o : Option Expression). Wire (driven f.declarations o)) h.assigned_is)
+      ∙ sym (ap (λ (o : Option RightSide). Wire (driven f.declarations o)) h.assigned_is)
   kind_sort count sorts.Wire r x (driver.Next w p) h k = absurd k
 
   pub signal_is : (count : ℕ) (d : Declaration) (v : Driver) → Drives f.declarations f.statements d v → Fits count d.sort (range_width d.range) v → signal_with ns d v ≡ signal_of f d

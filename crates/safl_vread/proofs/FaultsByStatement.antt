@@ -9,9 +9,9 @@ use Rattle.safl_word.proofs.Booleans.{implied}
 use Rattle.safl_net.specs.declared.cell.Op.{Op}
 use Rattle.safl_verilog.specs.declared.fault.VRule.TheVariants as rules
 use Rattle.safl_verilog.specs.declared.fault.VFault.{VFault}
-use Rattle.safl_verilog.specs.Files.{Spot, Expression, Declaration, Statement, Assign, Always}
+use Rattle.safl_verilog.specs.Files.{Spot, RightSide, Declaration, Statement, Assign, Always}
 use Rattle.safl_verilog.specs.Faults.{at, find, where_not, passes, is_clock, is_reset, is_target, is_signal, is_reg, is_output, is_plain}
-use Rattle.safl_verilog.specs.Faults.{is_literal, literal_width, literal_value, width_of, expression_width, operation, operands, assigned, updated}
+use Rattle.safl_verilog.specs.Faults.{is_literal, literal_width, literal_value, width_declared, expression_width, operation, operands, assigned, updated}
 use Rattle.safl_verilog.specs.Faults.{may_be_assigned, unfit_faults, width_faults, assign_faults}
 use Rattle.safl_vparse.specs.Numbers.{literal_word}
 use Rattle.safl_vread.specs.declared.scope.Item.{Item}
@@ -31,7 +31,7 @@ passes_found ds x p item h = ap (passes p) h.found ∙ h.passed
 pub place_within : (ds : List Declaration) (x : Spot) (p : Declaration → Bool) (item : Item) → Found ds x p item → item.place < length ds
 place_within ds x p item h = slice_get_within ds item.place h.declared h.shown.place
 
-pub width_shown : (ds : List Declaration) (x : Spot) (p : Declaration → Bool) (item : Item) → Found ds x p item → width_of ds x.bytes ≡ item.width
+pub width_shown : (ds : List Declaration) (x : Spot) (p : Declaration → Bool) (item : Item) → Found ds x p item → width_declared ds x.bytes ≡ item.width
 width_shown ds x p item h = width_found ds x.bytes h.declared h.found ∙ sym h.shown.width
 
 is_at : (ds : List Declaration) (x : Spot) (item : Item) → Found ds x is_signal item → IsAt ds item.place x
@@ -83,8 +83,8 @@ update_sets ds before c r t i s o item source w names fit read wide next =
     let f = names.2 in
     let l = read_literal w i.bytes read in
     let named = found_name ds t.bytes f.declared f.found in
-    let e1 : (width_of ds t.bytes == literal_width i.bytes) ≡ true = eq-eqb _ _ (width_shown ds t (λ d. is_reg d.sort) item f ∙ sym wide ∙ ap (λ (v : Word). v.width) l) in
-    let e2 : (width_of ds t.bytes == width_of ds o.bytes) ≡ true = eq-eqb _ _ (width_shown ds t (λ d. is_reg d.sort) item f ∙ sym next ∙ sym (width_shown ds o is_signal source fit)) in
+    let e1 : (width_declared ds t.bytes == literal_width i.bytes) ≡ true = eq-eqb _ _ (width_shown ds t (λ d. is_reg d.sort) item f ∙ sym wide ∙ ap (λ (v : Word). v.width) l) in
+    let e2 : (width_declared ds t.bytes == width_declared ds o.bytes) ≡ true = eq-eqb _ _ (width_shown ds t (λ d. is_reg d.sort) item f ∙ sym next ∙ sym (width_shown ds o is_signal source fit)) in
     record {
       kept = rw (names.0, passes_found ds o is_signal source fit, e1, e2) refl;
       declared = f.declared;
@@ -104,7 +104,7 @@ update_sets ds before c r t i s o item source w names fit read wide next =
 
 -- ---- assignments
 
-module _ (ds : List Declaration) (before : List Statement) (vs : List Driver) (x : Spot) (e : Expression) (item : Item) (v : Driver)
+module _ (ds : List Declaration) (before : List Statement) (vs : List Driver) (x : Spot) (e : RightSide) (item : Item) (v : Driver)
     (f : Found ds x is_target item) (h : HasDrivers ds before vs) (is : v ≡ get_or vs item.place v) where
   may : may_be_assigned before (find ds x.bytes) x.bytes e ≡ (is_open v && (not (is_output item.sort) || is_plain e))
   may =
@@ -115,19 +115,19 @@ module _ (ds : List Declaration) (before : List Statement) (vs : List Driver) (x
   assigned_twice o = rw (passes_found ds x is_target item f, may, o) refl
 
   module _ (o : (is_open v && (not (is_output item.sort) || is_plain e)) ≡ true) where
-    left : assign_faults ds before x e ≡ flat_map (unfit_faults ds) (operands e) ++ width_faults x.place (width_of ds x.bytes) (expression_width ds e)
+    left : assign_faults ds before x e ≡ flat_map (unfit_faults ds) (operands e) ++ width_faults x.place (width_declared ds x.bytes) (expression_width ds e)
     left = rw (passes_found ds x is_target item f, may, o) refl
 
     pub operand_unfit : (g : VFault) → Some g ≡ first (flat_map (unfit_faults ds) (operands e)) → Some g ≡ first (assign_faults ds before x e)
-    operand_unfit g k = first_some (flat_map (unfit_faults ds) (operands e)) (width_faults x.place (width_of ds x.bytes) (expression_width ds e)) g k ∙ sym (ap first left)
+    operand_unfit g k = first_some (flat_map (unfit_faults ds) (operands e)) (width_faults x.place (width_declared ds x.bytes) (expression_width ds e)) g k ∙ sym (ap first left)
 
     pub widths_apart : (n : ℕ) → flat_map (unfit_faults ds) (operands e) ≡ [] → n ≡ expression_width ds e → (n ≡ item.width → ⊥) → Some
         (record { rule = rules.V05; place = x.place; first = item.width; second = n }) ≡ first (assign_faults ds before x e)
     widths_apart n fit wide apart =
         let w = width_shown ds x is_target item f in
-        let ne : (width_of ds x.bytes == expression_width ds e) ≡ false = ne_eqb _ _ (λ k. apart (wide ∙ sym k ∙ w)) in
-        sym (ap first (left ∙ ap (λ (l : List VFault). l ++ width_faults x.place (width_of ds x.bytes) (expression_width ds e)) fit ∙ ap
-        (λ b. where_not b (record { rule = rules.V05; place = x.place; first = width_of ds x.bytes; second = expression_width ds e })) ne)
+        let ne : (width_declared ds x.bytes == expression_width ds e) ≡ false = ne_eqb _ _ (λ k. apart (wide ∙ sym k ∙ w)) in
+        sym (ap first (left ∙ ap (λ (l : List VFault). l ++ width_faults x.place (width_declared ds x.bytes) (expression_width ds e)) fit ∙ ap
+        (λ b. where_not b (record { rule = rules.V05; place = x.place; first = width_declared ds x.bytes; second = expression_width ds e })) ne)
         ∙ ap (λ (p : ℕ × ℕ). Some (record { rule = rules.V05; place = x.place; first = p.0; second = p.1 })) (λ j. (w j, sym wide j)))
 
     pub assign_sets : (n : ℕ) (op : Op) (places : Operands) → flat_map (unfit_faults ds) (operands e) ≡ [] → AreAt ds (places_of places) (operands e)
@@ -137,10 +137,10 @@ module _ (ds : List Declaration) (before : List Statement) (vs : List Driver) (x
         let named = found_name ds x.bytes f.declared f.found in
         let open_now = and_parts (is_open v) (not (is_output item.sort) || is_plain e) o in
         let none : is_none (assigned before x.bytes) ≡ true = sym (open_if_unassigned ds before vs x item v h is f) ∙ open_now.0 in
-        let eq : (width_of ds x.bytes == expression_width ds e) ≡ true = eq-eqb _ _ (w ∙ sym same ∙ wide) in
+        let eq : (width_declared ds x.bytes == expression_width ds e) ≡ true = eq-eqb _ _ (w ∙ sym same ∙ wide) in
         record {
-          kept = left ∙ ap (λ (l : List VFault). l ++ width_faults x.place (width_of ds x.bytes) (expression_width ds e)) fit ∙ ap
-              (λ b. where_not b (record { rule = rules.V05; place = x.place; first = width_of ds x.bytes; second = expression_width ds e })) eq;
+          kept = left ∙ ap (λ (l : List VFault). l ++ width_faults x.place (width_declared ds x.bytes) (expression_width ds e)) fit ∙ ap
+              (λ b. where_not b (record { rule = rules.V05; place = x.place; first = width_declared ds x.bytes; second = expression_width ds e })) eq;
           declared = f.declared;
           there = f.shown.place;
           named = named;

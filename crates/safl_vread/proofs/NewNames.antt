@@ -9,7 +9,7 @@ use Rattle.safl_verilog.specs.declared.token.Sort.{Sort}
 use Rattle.safl_verilog.specs.declared.token.Sort.TheVariants as sorts
 use Rattle.safl_verilog.specs.Files.{Declaration}
 use Rattle.safl_verilog.specs.Faults.{is_input, is_output, is_reg, is_wire, is_signal}
-use Rattle.safl_verilog.specs.Netlists.{signals_of, place_of}
+use Rattle.safl_verilog.specs.Netlists.{signals_of, declared_place}
 use Rattle.safl_verilog.proofs.Distinct.{Distinct, other_name, each_at}
 use Rattle.safl_verilog.proofs.Lookups.{names, place_at}
 use Rattle.safl_vread.specs.declared.driver.Driver.{Driver}
@@ -36,7 +36,7 @@ taken_at (suc i) (q ∷ order) (suc j) p h = let k = taken_at i order j p h in (
 
 module _ (ds : List Declaration) (a : Distinct (names ds)) where
   same_place : (p q : ℕ) (d e : Declaration) → slice_get ds p ≡ Some d → slice_get ds q ≡ Some e → d.name.bytes ≡ e.name.bytes → p ≡ q
-  same_place p q d e x y k = sym (place_at ds a p d x) ∙ ap (place_of ds) k ∙ place_at ds a q e y
+  same_place p q d e x y k = sym (place_at ds a p d x) ∙ ap (declared_place ds) k ∙ place_at ds a q e y
 
   -- ---- names of outputs
 

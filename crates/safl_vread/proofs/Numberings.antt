@@ -7,7 +7,7 @@ use Rattle.std.proofs.lemmas.Option.{slice_get_within}
 use Rattle.std.proofs.lemmas.Bool.{eqb-true}
 use Rattle.safl_verilog.specs.Files.{Declaration}
 use Rattle.safl_verilog.specs.Faults.{find, is_signal}
-use Rattle.safl_verilog.specs.Netlists.{signals_of, place_of, number_of}
+use Rattle.safl_verilog.specs.Netlists.{signals_of, declared_place, signal_number}
 use Rattle.safl_verilog.proofs.Distinct.{Distinct, each_at}
 use Rattle.safl_verilog.proofs.Lookups.{names, each_found, place_at}
 use Rattle.safl_vread.specs.Scopes.{without_statements}
@@ -23,7 +23,7 @@ order_apart ds order a h s t p k l =
     let y = placed (slice_get ds) order (signals_of ds) h t p l in
     let same : x.item ≡ y.item = let e : Some x.item ≡ Some y.item = sym x.there ∙ y.there in cc in
     let d = signals_distinct ds a in
-    sym (place_at (signals_of ds) d s x.item x.at) ∙ ap (λ (v : Declaration). place_of (signals_of ds) v.name.bytes) same ∙ place_at (signals_of ds) d t y.item y.at
+    sym (place_at (signals_of ds) d s x.item x.at) ∙ ap (λ (v : Declaration). declared_place (signals_of ds) v.name.bytes) same ∙ place_at (signals_of ds) d t y.item y.at
 
 -- what holds after some of the places
 pub record SoNumbered (order numbers : List ℕ) (count i : ℕ) : Type 0 where
@@ -71,11 +71,12 @@ ends_numbers ds order numbers i a o l h = record {
   known = λ p. omega (arith, h.known p, order_long ds order o);
 }
   where
-    each : (p : ℕ) (d : Declaration) → slice_get ds p ≡ Some d → is_signal d ≡ true → (slice_index numbers p ≡ number_of ds d.name.bytes) × (slice_get order (number_of ds d.name.bytes) ≡ Some p)
+    each : (p : ℕ) (d : Declaration) → slice_get ds p ≡ Some d → is_signal d ≡ true → (slice_index numbers p ≡ signal_number ds d.name.bytes)
+        × (slice_get order (signal_number ds d.name.bytes) ≡ Some p)
     each p d there fit =
         let found : find ds d.name.bytes ≡ Some d = each_at (λ (d : Declaration). find ds d.name.bytes ≡ Some d) ds p d (each_found ds a) there in
         let at = (found_place (without_statements [] ds) (signals_of ds) d.name.bytes d 0 (found_signal ds d.name.bytes d a found fit)).1 in
-        let k = ordered (slice_get ds) order (signals_of ds) o (number_of ds d.name.bytes) d at in
+        let k = ordered (slice_get ds) order (signals_of ds) o (signal_number ds d.name.bytes) d at in
         let same : k.place ≡ p = sym (place_at ds a k.place d k.there) ∙ place_at ds a p d there in
-        let within : number_of ds d.name.bytes < length order = slice_get_within order (number_of ds d.name.bytes) k.place k.at in
-        (ap (slice_index numbers) (sym same) ∙ h.each (number_of ds d.name.bytes) k.place (omega (arith, within, l)) k.at, k.at ∙ ap Some same)
+        let within : signal_number ds d.name.bytes < length order = slice_get_within order (signal_number ds d.name.bytes) k.place k.at in
+        (ap (slice_index numbers) (sym same) ∙ h.each (signal_number ds d.name.bytes) k.place (omega (arith, within, l)) k.at, k.at ∙ ap Some same)

@@ -11,12 +11,12 @@ use Rattle.safl_word.proofs.Lexemes.{clash}
 use Rattle.safl_verilog.specs.declared.token.Sort.{Sort}
 use Rattle.safl_verilog.specs.declared.token.Sort.TheVariants as sorts
 use Rattle.safl_verilog.specs.declared.fault.VFault.{VFault}
-use Rattle.safl_verilog.specs.Files.{Spot, Expression, Declaration, Statement, Assign, Always}
-use Rattle.safl_verilog.specs.Faults.{find, among, where_not, repeat_faults, is_target, is_reg, is_wire, is_output, range_width, width_of, assigned, updated}
+use Rattle.safl_verilog.specs.Files.{Spot, RightSide, Declaration, Statement, Assign, Always}
+use Rattle.safl_verilog.specs.Faults.{find, among, where_not, repeat_faults, is_target, is_reg, is_wire, is_output, range_width, width_declared, assigned, updated}
 use Rattle.safl_verilog.specs.FaultParts.{declared_names}
 use Rattle.safl_verilog.proofs.Distinct.{Name, Has, Distinct, same_name}
 use Rattle.safl_verilog.proofs.Lookups.{spot_names, is_among, place_at}
-use Rattle.safl_verilog.specs.Netlists.{place_of}
+use Rattle.safl_verilog.specs.Netlists.{declared_place}
 use Rattle.safl_vread.specs.declared.driver.Driver.{Driver}
 use Rattle.safl_vread.specs.declared.driver.Driver.TheVariants as driver
 use Rattle.safl_vread.specs.Lists.{widths_of}
@@ -39,18 +39,18 @@ at_within ds (p ∷ ps) [] h k d l = absurd h
 at_within ds (p ∷ ps) (x ∷ xs) h zero d l = slice_get_within ds p h.0.declared h.0.there
 at_within ds (p ∷ ps) (x ∷ xs) h (suc k) d l = at_within ds ps xs h.1 k d (omega (arith, l))
 
-pub width_found : (ds : List Declaration) (name : List ℕ) (d : Declaration) → find ds name ≡ Some d → width_of ds name ≡ range_width d.range
+pub width_found : (ds : List Declaration) (name : List ℕ) (d : Declaration) → find ds name ≡ Some d → width_declared ds name ≡ range_width d.range
 width_found ds name d h = rw h refl
 
-pub same_widths : (ds : List Declaration) (ps : List ℕ) (xs : List Spot) → AreAt ds ps xs → map (λ (p : ℕ). slice_index (widths_of ds) p) ps ≡ map (λ (a : Spot). width_of ds a.bytes) xs
+pub same_widths : (ds : List Declaration) (ps : List ℕ) (xs : List Spot) → AreAt ds ps xs → map (λ (p : ℕ). slice_index (widths_of ds) p) ps ≡ map (λ (a : Spot). width_declared ds a.bytes) xs
 same_widths ds [] [] h = refl
 same_widths ds [] (x ∷ xs) h = absurd h
 same_widths ds (p ∷ ps) [] h = absurd h
 same_widths ds (p ∷ ps) (x ∷ xs) h =
     let a : slice_index (widths_of ds) p ≡ range_width h.0.declared.range = found_at (λ (v : Declaration). range_width v.range) ds p h.0.declared 0 h.0.there in
-    let b : width_of ds x.bytes ≡ range_width h.0.declared.range = width_found ds x.bytes h.0.declared h.0.found in
-    let e : slice_index (widths_of ds) p ≡ width_of ds x.bytes = a ∙ sym b in
-    ap (λ (n : ℕ). n ∷ map (λ (p : ℕ). slice_index (widths_of ds) p) ps) e ∙ ap (λ (l : List ℕ). width_of ds x.bytes ∷ l) (same_widths ds ps xs h.1)
+    let b : width_declared ds x.bytes ≡ range_width h.0.declared.range = width_found ds x.bytes h.0.declared h.0.found in
+    let e : slice_index (widths_of ds) p ≡ width_declared ds x.bytes = a ∙ sym b in
+    ap (λ (n : ℕ). n ∷ map (λ (p : ℕ). slice_index (widths_of ds) p) ps) e ∙ ap (λ (l : List ℕ). width_declared ds x.bytes ∷ l) (same_widths ds ps xs h.1)
 
 pub widths_small : (widths : List ℕ) (ps : List ℕ) → ((k : ℕ) → slice_index widths k ≤ 128) → (k d : ℕ) → k < length
     (map (λ (p : ℕ). slice_index widths p) ps) → get_or (map (λ (p : ℕ). slice_index widths p) ps) k d ≤ 128
@@ -98,7 +98,7 @@ distinct_names ds h = subst Distinct (names_same ds) (all_distinct [] (declared_
 
 pub same_place : (ds : List Declaration) → repeat_faults [] (declared_names ds) ≡ [] → (i j : ℕ) (d e : Declaration) → slice_get ds i ≡ Some d →
     slice_get ds j ≡ Some e → d.name.bytes ≡ e.name.bytes → i ≡ j
-same_place ds h i j d e a b k = sym (place_at ds (distinct_names ds h) i d a) ∙ ap (place_of ds) k ∙ place_at ds (distinct_names ds h) j e b
+same_place ds h i j d e a b k = sym (place_at ds (distinct_names ds h) i d a) ∙ ap (declared_place ds) k ∙ place_at ds (distinct_names ds h) j e b
 
 -- ---- what was assigned and updated before
 
@@ -118,7 +118,7 @@ open_register ds before d driver.Open h t = sym (ap is_none h.1)
 open_register ds before d (driver.Cell op xs) h t = absurd (not_both d.sort t h.target)
 open_register ds before d (driver.Next w p) h t = sym (ap is_none h.updated_is)
 
-pub assigned_here : (before : List Statement) (x : Spot) (e : Expression) (name : List ℕ) → is_none (assigned before name) ≡ true → x.bytes ≡ name → assigned (before ++ Assign x e ∷ []) name ≡ Some e
+pub assigned_here : (before : List Statement) (x : Spot) (e : RightSide) (name : List ℕ) → is_none (assigned before name) ≡ true → x.bytes ≡ name → assigned (before ++ Assign x e ∷ []) name ≡ Some e
 assigned_here [] x e name h k = let s : bytes_eq x.bytes name ≡ true = ap (λ v. bytes_eq v name) k ∙ same_name name in rw s refl
 assigned_here (Assign y g ∷ ss) x e name h k = by (bytes_eq y.bytes name) h (assigned_here ss x e name)
   where
@@ -144,7 +144,7 @@ updated_here (Always c2 r2 t2 i2 s2 o2 ∷ ss) c r t i s o name h k = by (bytes_
 assigned_keeps : (before : List Statement) (s : Statement) (name : List ℕ) → (target_of s ≡ name → ⊥) → assigned (before ++ s ∷ []) name ≡ assigned before name
 assigned_keeps [] (Assign x e) name h = ap (λ b. cond b (Some e) None) (bytes_apart x.bytes name h)
 assigned_keeps [] (Always c r t i s o) name h = refl
-assigned_keeps (Assign y g ∷ ss) s name h = ap (λ (k : Option Expression). cond (bytes_eq y.bytes name) (Some g) k) (assigned_keeps ss s name h)
+assigned_keeps (Assign y g ∷ ss) s name h = ap (λ (k : Option RightSide). cond (bytes_eq y.bytes name) (Some g) k) (assigned_keeps ss s name h)
 assigned_keeps (Always c r t i k o ∷ ss) s name h = assigned_keeps ss s name h
 
 updated_keeps : (before : List Statement) (s : Statement) (name : List ℕ) → (target_of s ≡ name → ⊥) → updated (before ++ s ∷ []) name ≡ updated before name

@@ -7,7 +7,7 @@ use Rattle.safl_net.specs.Netlist.{Netlist, Signal, width_of}
 use Rattle.safl_net.specs.Netlist as Netlist
 use Rattle.safl_net.specs.Widths.{op_width}
 use Rattle.safl_verilog.specs.Files.{Spot, Declaration, Statement}
-use Rattle.safl_verilog.specs.Faults.{range_width, width_in, operation, operands, expression_width}
+use Rattle.safl_verilog.specs.Faults.{range_width, width_in, operation, operands}
 use Rattle.safl_verilog.specs.Faults as Faults
 use Rattle.safl_vread.specs.declared.driver.Driver.{Driver}
 use Rattle.safl_vread.specs.declared.driver.Driver.TheVariants as driver
@@ -31,18 +31,18 @@ are_signals ds [] (x ∷ xs) h = absurd h
 are_signals ds (p ∷ ps) [] h = absurd h
 are_signals ds (p ∷ ps) (x ∷ xs) h = (record { declared = h.0.declared; there = h.0.there; fit = h.0.fit }, are_signals ds ps xs h.1)
 
-widths_at : (ds : List Declaration) (ps : List ℕ) (xs : List Spot) → AreAt ds ps xs → map (width_at ds) ps ≡ map (λ (a : Spot). Faults.width_of ds a.bytes) xs
+widths_at : (ds : List Declaration) (ps : List ℕ) (xs : List Spot) → AreAt ds ps xs → map (width_at ds) ps ≡ map (λ (a : Spot). Faults.width_declared ds a.bytes) xs
 widths_at ds [] [] h = refl
 widths_at ds [] (x ∷ xs) h = absurd h
 widths_at ds (p ∷ ps) [] h = absurd h
 widths_at ds (p ∷ ps) (x ∷ xs) h =
-    let e : width_at ds p ≡ Faults.width_of ds x.bytes = ap width_in h.0.there ∙ sym (ap width_in h.0.found) in
-    ap (λ (n : ℕ). n ∷ map (width_at ds) ps) e ∙ ap (λ (l : List ℕ). Faults.width_of ds x.bytes ∷ l) (widths_at ds ps xs h.1)
+    let e : width_at ds p ≡ Faults.width_declared ds x.bytes = ap width_in h.0.there ∙ sym (ap width_in h.0.found) in
+    ap (λ (n : ℕ). n ∷ map (width_at ds) ps) e ∙ ap (λ (l : List ℕ). Faults.width_declared ds x.bytes ∷ l) (widths_at ds ps xs h.1)
 
 suits : (ds : List Declaration) (ss : List Statement) (d : Declaration) (v : Driver) → Drives ds ss d v → Suits ds (range_width d.range) v
 suits ds ss d driver.Open h = tt
 suits ds ss d (driver.Cell op xs) h =
-    let ws : List ℕ = map (λ (a : Spot). Faults.width_of ds a.bytes) (operands h.value) in (
+    let ws : List ℕ = map (λ (a : Spot). Faults.width_declared ds a.bytes) (operands h.value) in (
       are_signals ds (places_of xs) (operands h.value) h.operands_at,
       ap (λ o. op_width o (map (width_at ds) (places_of xs))) h.operation_is ∙ ap (op_width (operation h.value)) (widths_at ds (places_of xs) (operands h.value) h.operands_at)
           ∙ some_width (op_width (operation h.value) ws) (range_width d.range) (range_some d.range) h.width,

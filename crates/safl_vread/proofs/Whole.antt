@@ -12,7 +12,7 @@ use Rattle.safl_verilog.specs.declared.token.Sort.TheVariants as sorts
 use Rattle.safl_verilog.specs.Files.{Declaration, File}
 use Rattle.safl_verilog.specs.Faults.{is_output, range_width, faults, missing_faults, all_number_faults, repeat_faults, all_port_faults, all_statement_faults}
 use Rattle.safl_verilog.specs.FaultParts.{declared_names}
-use Rattle.safl_verilog.specs.Netlists.{netlist, signals_of, signal_of, output_of, shown_signal}
+use Rattle.safl_verilog.specs.Netlists.{netlist, signals_of, signal_of, output_of}
 use Rattle.safl_verilog.specs.Reads.{Reads}
 use Rattle.safl_verilog.proofs.Distinct.{each_at}
 use Rattle.safl_vparse.specs.Parsed.{IsFileText}

@@ -9,21 +9,21 @@ use Rattle.std.proofs.lemmas.Bool.Decides.{nat_tests}
 use Rattle.std.proofs.lemmas.Slice.Eq.{bytes_eq-Decides}
 use Rattle.safl_word.proofs.Lists.{append_empty}
 use Rattle.safl_word.proofs.Booleans.{implied}
-use Rattle.safl_net.specs.Netlist.{Netlist, Signal, Kind, Input, Reg, Wire, Cell, IsSet, AllSet, place, output_place}
+use Rattle.safl_net.specs.Netlist.{Netlist, Signal, Input, Reg, Wire, IsSet, AllSet, place, output_place}
 use Rattle.safl_net.specs.Netlist as Netlist
 use Rattle.safl_net.specs.Making.{kind_in}
 use Rattle.safl_net.specs.Whole.{IsWhole, HasStart, HasDone}
 use Rattle.safl_verilog.specs.declared.token.Sort.{Sort}
 use Rattle.safl_verilog.specs.declared.token.Sort.TheVariants as sorts
 use Rattle.safl_verilog.specs.declared.fault.VRule.TheVariants as rules
-use Rattle.safl_verilog.specs.Files.{Spot, Expression, Literal, Plain, Inverted, Binary, Choice, Joined, Slice, Declaration, Statement, Assign, Always, File}
+use Rattle.safl_verilog.specs.Files.{Spot, RightSide, Literal, Plain, Inverted, Binary, Choice, Joined, Slice, Declaration, Statement, Assign, Always, File}
 use Rattle.safl_verilog.specs.Faults.{at, find, where_not, passes, is_data, is_input, is_output, is_reg, is_wire, is_target, is_signal}
-use Rattle.safl_verilog.specs.Faults.{is_plain, range_width, width_of, expression_width, operands, assigned, updated, faults, has_bit, has_ports}
+use Rattle.safl_verilog.specs.Faults.{is_plain, range_width, width_declared, expression_width, operands, assigned, updated, faults, has_bit, has_ports}
 use Rattle.safl_verilog.specs.Faults.{repeat_faults, all_number_faults, all_port_faults}
 use Rattle.safl_verilog.specs.FaultParts.{declared_names, header_faults, port_faults}
 use Rattle.safl_verilog.specs.Faults.{all_statement_faults, statement_faults, assign_faults, may_be_assigned, unfit_faults, width_faults}
 use Rattle.safl_verilog.specs.Faults.{missing_faults}
-use Rattle.safl_verilog.specs.Netlists.{netlist, signals_of, signal_of, kind_of, register_of, driven, output_of, shown_signal, place_of, number_of}
+use Rattle.safl_verilog.specs.Netlists.{netlist, signals_of, signal_of, signal_kind, register_of, driven, output_of, shown_signal, declared_place, signal_number}
 use Rattle.safl_verilog.specs.Reads.{Reads}
 use Rattle.safl_net.specs.Arranged.{Each}
 use Rattle.safl_net.proofs.EachOf.{each_join, each_stands, no_parts}
@@ -39,12 +39,12 @@ register_set : (ds : List Declaration) (u : Option (Spot × Spot)) → not (is_n
 register_set ds None h = absurd cc
 register_set ds (Some u) h = tt
 
-wire_set : (ds : List Declaration) (e : Option Expression) → not (is_none e) ≡ true → IsSet (Wire (driven ds e))
+wire_set : (ds : List Declaration) (e : Option RightSide) → not (is_none e) ≡ true → IsSet (Wire (driven ds e))
 wire_set ds None h = absurd cc
 wire_set ds (Some e) h = tt
 
 kind_set : (f : File) (s : Sort) (name : List ℕ) (p : ℕ) → where_not (not (is_wire s || is_output s) || not (is_none (assigned f.statements name)))
-    (at rules.V07 p) ++ where_not (not (is_reg s) || not (is_none (updated f.statements name))) (at rules.V08 p) ≡ [] → IsSet (kind_of f s name)
+    (at rules.V07 p) ++ where_not (not (is_reg s) || not (is_none (updated f.statements name))) (at rules.V08 p) ≡ [] → IsSet (signal_kind f s name)
 kind_set f sorts.Input name p h = tt
 kind_set f sorts.Output name p h = tt
 kind_set f sorts.Reg name p h = register_set f.declarations (updated f.statements name) (kept_true (not (is_none (updated f.statements name))) (at rules.V08 p) h)
@@ -62,7 +62,7 @@ each_filter P p (x ∷ xs) h = by (p x) (each_filter P p xs h.1)
 all_set : (f : File) → flat_map (missing_faults f.statements) f.declarations ≡ [] → AllSet (netlist f)
 unfolding netlist
 all_set f h =
-    let P : Declaration → Type 0 = λ (d : Declaration). IsSet (kind_of f d.sort d.name.bytes) in
+    let P : Declaration → Type 0 = λ (d : Declaration). IsSet (signal_kind f d.sort d.name.bytes) in
     let each : Each P f.declarations = each_stands (λ (d : Declaration). missing_faults f.statements d ≡ []) P
     (λ (d : Declaration) k. kind_set f d.sort d.name.bytes d.name.place k) f.declarations (no_parts (missing_faults f.statements) f.declarations h) in
     let all : Each P (signals_of f.declarations) =
@@ -159,14 +159,14 @@ found_signal ds name d a h k = by (is_data d) refl (is_reg d.sort) refl
 
 -- its place is its number
 pub found_place : (f : File) (xs : List Declaration) (name : List ℕ) (d : Declaration) (j : ℕ) → find xs name ≡ Some d →
-    (place (map (signal_of f) xs) name j ≡ Some (place_of xs name + j)) × (slice_get xs (place_of xs name) ≡ Some d)
+    (place (map (signal_of f) xs) name j ≡ Some (declared_place xs name + j)) × (slice_get xs (declared_place xs name) ≡ Some d)
 unfolding place
 found_place f [] name d j h = absurd cc
 found_place f (x ∷ xs) name d j h = by (bytes_eq x.name.bytes name) h (found_place f xs name d (suc j))
   where
     by : (b : Bool) → cond b (Some x) (find xs name) ≡ Some d →
-        (find xs name ≡ Some d → (place (map (signal_of f) xs) name (suc j) ≡ Some (place_of xs name + suc j)) × (slice_get xs (place_of xs name) ≡ Some d))
-        → (cond b (Some j) (place (map (signal_of f) xs) name (suc j)) ≡ Some (cond b 0 (suc (place_of xs name)) + j)) × (slice_get (x ∷ xs) (cond b 0 (suc (place_of xs name))) ≡ Some d)
+        (find xs name ≡ Some d → (place (map (signal_of f) xs) name (suc j) ≡ Some (declared_place xs name + suc j)) × (slice_get xs (declared_place xs name) ≡ Some d))
+        → (cond b (Some j) (place (map (signal_of f) xs) name (suc j)) ≡ Some (cond b 0 (suc (declared_place xs name)) + j)) × (slice_get (x ∷ xs) (cond b 0 (suc (declared_place xs name))) ≡ Some d)
     by true h k = (ap Some (omega arith), h)
     by false h k = let m = k h in (m.0 ∙ ap Some (omega arith), m.1)
 
@@ -177,11 +177,11 @@ signal_at f (x ∷ xs) (suc i) d h = signal_at f xs i d h
 
 -- ---- statements that were kept
 
-pub record IsKept (ds : List Declaration) (x : Spot) (e : Expression) : Type 0 where
+pub record IsKept (ds : List Declaration) (x : Spot) (e : RightSide) : Type 0 where
   pub before : List Statement
   pub faults : assign_faults ds before x e ≡ []
 
-kept_assign : (ds : List Declaration) (before ss : List Statement) (name : List ℕ) (e : Expression) → all_statement_faults ds before ss ≡ [] →
+kept_assign : (ds : List Declaration) (before ss : List Statement) (name : List ℕ) (e : RightSide) → all_statement_faults ds before ss ≡ [] →
     assigned ss name ≡ Some e → (x : Spot) × (x.bytes ≡ name) × IsKept ds x e
 kept_assign ds before [] name e h k = absurd cc
 kept_assign ds before (Assign x g ∷ ss) name e h k = by (bytes_eq x.bytes name) refl k
@@ -195,7 +195,7 @@ kept_assign ds before (Assign x g ∷ ss) name e h k = by (bytes_eq x.bytes name
           (bytes_eq-Decides x.bytes name).0 q,
           record {
             before = before;
-            faults = subst (λ (v : Expression). assign_faults ds before x v ≡ []) s
+            faults = subst (λ (v : RightSide). assign_faults ds before x v ≡ []) s
                 (append_empty (assign_faults ds before x g) (all_statement_faults ds (before ++ Assign x g ∷ []) ss) h).0;
           },
         )
@@ -215,7 +215,7 @@ bit_of n h = grind (arith, nat_tests)
 is_start_data : (d : Declaration) → is_input d.sort ≡ true → d.name.bytes ≡ codes "start" → is_data d ≡ true
 is_start_data d h e = rw (h, e) refl
 
-input_kind : (f : File) (s : Sort) (name : List ℕ) → is_input s ≡ true → kind_of f s name ≡ Input
+input_kind : (f : File) (s : Sort) (name : List ℕ) → is_input s ≡ true → signal_kind f s name ≡ Input
 input_kind f sorts.Input name h = refl
 input_kind f sorts.Output name h = absurd cc
 input_kind f sorts.Reg name h = absurd cc
@@ -232,9 +232,9 @@ has_start f h =
     (codes "start") a.0 (found_left (filter is_data ds) (filter (λ (d : Declaration). is_reg d.sort) ds) (codes "start") a.0
     (found_filtered is_data ds (codes "start") a.0 a.1 (is_start_data a.0 b.0 named))) in
     let p = found_place f (signals_of ds) (codes "start") a.0 0 here in
-    let g = signal_at f (signals_of ds) (place_of (signals_of ds) (codes "start")) a.0 p.1 in
+    let g = signal_at f (signals_of ds) (declared_place (signals_of ds) (codes "start")) a.0 p.1 in
     record {
-      signal = place_of (signals_of ds) (codes "start");
+      signal = declared_place (signals_of ds) (codes "start");
       at = p.0 ∙ ap Some (omega arith);
       input = ap kind_in g ∙ input_kind f a.0.sort a.0.name.bytes b.0;
       bit = ap Netlist.width_in g ∙ bit_of (range_width a.0.range) b.1;
@@ -267,7 +267,7 @@ some_of : {A : Type 0} (o : Option A) → not (is_none o) ≡ true → (x : A) �
 some_of None h = absurd cc
 some_of (Some x) h = (x, refl)
 
-plain_of : (e : Expression) → is_plain e ≡ true → (a : Spot) × (e ≡ Plain a)
+plain_of : (e : RightSide) → is_plain e ≡ true → (a : Spot) × (e ≡ Plain a)
 plain_of (Plain a) h = (a, refl)
 plain_of (Literal l) h = absurd cc
 plain_of (Inverted a) h = absurd cc
@@ -279,7 +279,7 @@ plain_of (Slice a b c) h = absurd cc
 same_width : (m n : ℕ) (p : ℕ) → width_faults p m n ≡ [] → m ≡ n
 same_width m n p h = eqb-true m n (kept_true (m == n) _ h)
 
-plain_width : (ds : List Declaration) (e : Expression) (a : Spot) (d : Declaration) → e ≡ Plain a → find ds a.bytes ≡ Some d → expression_width ds e ≡ range_width d.range
+plain_width : (ds : List Declaration) (e : RightSide) (a : Spot) (d : Declaration) → e ≡ Plain a → find ds a.bytes ≡ Some d → expression_width ds e ≡ range_width d.range
 plain_width ds e a d h k = ap (expression_width ds) h ∙ width_found ds a.bytes d k
 
 -- an output shows a signal of its width
@@ -299,7 +299,7 @@ output_shows f d h o m k =
     let found : find f.declarations b.0.bytes ≡ Some d = ap (find f.declarations) b.1 ∙ h in
     let c1 = append_empty (where_not (passes is_target (find f.declarations b.0.bytes)) (at rules.V04 b.0.place) ++ where_not
     (may_be_assigned b.2.before (find f.declarations b.0.bytes) b.0.bytes a.0) (at rules.V07 b.0.place) ++ flat_map (unfit_faults f.declarations)
-    (operands a.0)) (width_faults b.0.place (width_of f.declarations b.0.bytes) (expression_width f.declarations a.0)) b.2.faults in
+    (operands a.0)) (width_faults b.0.place (width_declared f.declarations b.0.bytes) (expression_width f.declarations a.0)) b.2.faults in
     let c2 = append_empty (where_not (passes is_target (find f.declarations b.0.bytes)) (at rules.V04 b.0.place) ++ where_not
     (may_be_assigned b.2.before (find f.declarations b.0.bytes) b.0.bytes a.0) (at rules.V07 b.0.place))
     (flat_map (unfit_faults f.declarations) (operands a.0)) c1.0 in
@@ -310,11 +310,11 @@ output_shows f d h o m k =
     (kept_true (may_be_assigned b.2.before (find f.declarations b.0.bytes) b.0.bytes a.0) (at rules.V07 b.0.place) c3.1)).1 in
     let out : passes (λ d. is_output d.sort) (find f.declarations b.0.bytes) ≡ true = ap (passes (λ d. is_output d.sort)) found ∙ o in
     let e = plain_of a.0 (implied (passes (λ d. is_output d.sort) (find f.declarations b.0.bytes)) (is_plain a.0) may out) in
-    let fit1 : flat_map (unfit_faults f.declarations) (operands (Plain e.0)) ≡ [] = ap (λ (v : Expression). flat_map (unfit_faults f.declarations) (operands v)) (sym e.1) ∙ c2.1 in
+    let fit1 : flat_map (unfit_faults f.declarations) (operands (Plain e.0)) ≡ [] = ap (λ (v : RightSide). flat_map (unfit_faults f.declarations) (operands v)) (sym e.1) ∙ c2.1 in
     let fit = passed is_signal (find f.declarations e.0.bytes)
     (kept_true (passes is_signal (find f.declarations e.0.bytes)) (at rules.V04 e.0.place) (append_empty (unfit_faults f.declarations e.0) [] fit1).0) in
-    let w : width_of f.declarations b.0.bytes ≡ expression_width f.declarations a.0 = same_width _ _ b.0.place c1.1 in
-    let w1 : width_of f.declarations b.0.bytes ≡ range_width d.range = width_found f.declarations b.0.bytes d found in
+    let w : width_declared f.declarations b.0.bytes ≡ expression_width f.declarations a.0 = same_width _ _ b.0.place c1.1 in
+    let w1 : width_declared f.declarations b.0.bytes ≡ range_width d.range = width_found f.declarations b.0.bytes d found in
     let w2 : expression_width f.declarations a.0 ≡ range_width fit.0.range = plain_width f.declarations a.0 e.0 fit.0 e.1 fit.1 in
     record { source = e.0; assigned_is = a.1 ∙ ap Some e.1; signal = fit.0; found = fit.1; fit = fit.2; width = sym w1 ∙ w ∙ w2 }
 
@@ -337,10 +337,10 @@ has_done f apart h m k =
     let self : find ds a.0.name.bytes ≡ Some a.0 = ap (find ds) named ∙ a.1 in
     let s = output_shows f a.0 self b.0 (each_found ds (λ (d : Declaration). missing_faults f.statements d ≡ []) (codes "done") a.0 (no_parts (missing_faults f.statements) ds m) a.1) k in
     let p = found_place f (signals_of ds) s.source.bytes s.signal 0 (found_signal ds s.source.bytes s.signal apart s.found s.fit) in
-    let g = signal_at f (signals_of ds) (number_of ds s.source.bytes) s.signal p.1 in
+    let g = signal_at f (signals_of ds) (signal_number ds s.source.bytes) s.signal p.1 in
     record {
-      signal = number_of ds s.source.bytes;
-      at = output_found f ds (codes "done") a.0 a.1 b.0 ∙ ap (λ (o : Option Expression). Some (shown_signal ds o)) s.assigned_is;
+      signal = signal_number ds s.source.bytes;
+      at = output_found f ds (codes "done") a.0 a.1 b.0 ∙ ap (λ (o : Option RightSide). Some (shown_signal ds o)) s.assigned_is;
       bit = ap Netlist.width_in g ∙ sym s.width ∙ bit_of (range_width a.0.range) b.1;
     }
 

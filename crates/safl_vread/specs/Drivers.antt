@@ -12,8 +12,8 @@ use Rattle.safl_net.specs.Widths.{op_width}
 use Rattle.safl_verilog.specs.declared.fault.VRule.TheVariants as rules
 use Rattle.safl_verilog.specs.declared.fault.VFault.{VFault}
 use Rattle.safl_verilog.specs.declared.token.Sort.{Sort}
-use Rattle.safl_verilog.specs.Files.{Spot, Expression, Declaration, Statement, Assign, Always}
-use Rattle.safl_verilog.specs.Faults.{at, where_not, is_clock, is_reset, find, passes, is_signal, is_target, is_output, is_wire, is_reg, is_plain, range_width, width_of, operation, operands, expression_width, assigned, updated, literal_value, statement_faults}
+use Rattle.safl_verilog.specs.Files.{Spot, RightSide, Declaration, Statement, Assign, Always}
+use Rattle.safl_verilog.specs.Faults.{at, where_not, is_clock, is_reset, find, passes, is_signal, is_target, is_output, is_wire, is_reg, is_plain, range_width, width_declared, operation, operands, expression_width, assigned, updated, literal_value, statement_faults}
 use Rattle.safl_vparse.specs.declared.file.Update.{Update}
 use Rattle.safl_vparse.specs.Shown.{shown_spot}
 use Rattle.safl_vread.specs.declared.scope.Item.{Item}
@@ -72,7 +72,7 @@ AreAt ds (p ∷ ps) [] = ⊥
 -- the first of the statements to assign to the name assigns this operation on the names at these places
 pub record IsAssigned (ds : List Declaration) (before : List Statement) (d : Declaration) (op : Op) (places : List ℕ) : Type 0 where
   pub target : is_target d ≡ true
-  pub value : Expression
+  pub value : RightSide
   pub assigned_is : assigned before d.name.bytes ≡ Some value
   pub operation_is : op ≡ operation value
   pub operands_at : AreAt ds places (operands value)
@@ -89,7 +89,7 @@ pub record IsUpdated (ds : List Declaration) (before : List Statement) (d : Decl
   pub bits : w.bits ≡ literal_value initial.bytes
   pub width : w.width ≡ range_width d.range
   pub next_at : IsAt ds place source
-  pub next_width : range_width d.range ≡ width_of ds source.bytes
+  pub next_width : range_width d.range ≡ width_declared ds source.bytes
 
 abbrev pub Drives : List Declaration → List Statement → Declaration → Driver → Type 0
 Drives ds before d driver.Open = (assigned before d.name.bytes ≡ None) × (updated before d.name.bytes ≡ None)

@@ -22,7 +22,7 @@ abbrev pub spots_in : Scope → List Span → List Spot
 spots_in s xs = shown_spots s.text.now xs
 
 -- the expression of the scope's text
-abbrev pub expression_in : Scope → Expression → Files.Expression
+abbrev pub expression_in : Scope → Expression → Files.RightSide
 expression_in s e = shown_expression s.text.now e
 
 -- the statement of the scope's text

@@ -4,7 +4,7 @@ use Rattle.safl_verilog.specs.declared.token.Sort.{Sort}
 use Rattle.safl_verilog.specs.declared.token.Sort.TheVariants as sorts
 use Rattle.safl_verilog.specs.Files.{Declaration}
 use Rattle.safl_verilog.specs.Faults.{is_data, is_reg, is_wire, is_signal}
-use Rattle.safl_verilog.specs.Netlists.{signals_of, number_of}
+use Rattle.safl_verilog.specs.Netlists.{signals_of, signal_number}
 
 -- whether a declaration is that of a signal of this sort
 abbrev pub is_of : Sort → Declaration → Bool
@@ -24,6 +24,6 @@ AddsPlaces ds sort before after = map (slice_get ds) after ≡ map (slice_get ds
 -- For each declaration there is a number of a signal. If the declaration is that of a signal, it is the number of this signal.
 pub record AreNumbers (ds : List Declaration) (order numbers : List ℕ) : Type 0 where
   pub full : length numbers ≡ length ds
-  pub each : (p : ℕ) (d : Declaration) → slice_get ds p ≡ Some d → is_signal d ≡ true → slice_index numbers p ≡ number_of ds d.name.bytes
+  pub each : (p : ℕ) (d : Declaration) → slice_get ds p ≡ Some d → is_signal d ≡ true → slice_index numbers p ≡ signal_number ds d.name.bytes
   pub back : (p : ℕ) (d : Declaration) → slice_get ds p ≡ Some d → is_signal d ≡ true → slice_get order (slice_index numbers p) ≡ Some p
   pub known : (p : ℕ) → slice_index numbers p < length (signals_of ds)

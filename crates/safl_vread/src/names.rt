@@ -30,7 +30,7 @@ impl<'t> Model for Names<'t> {
 }
 
 impl<'t> Names<'t> {
-    ghost use Rattle.std.specs.Prelude.{◌≡◌, ◌<◌, [], ◌∷◌, ◌++◌, not, length, position, IfOk, IfSome, OnErr};
+    ghost use Rattle.std.specs.Prelude.{◌≡◌, ◌<◌, [], not, length, position, IfOk, IfSome};
     ghost use Rattle.std.specs.Str.{bytes_eq};
     ghost use Rattle.safl_vread.specs.Lists.{has, with_new};
 

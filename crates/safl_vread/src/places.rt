@@ -1,7 +1,6 @@
 //! The order of signals: from the places of declarations to the numbers of signals.
 
 ghost use Rattle.std.specs.Prelude.{◌≡◌, ◌<◌, ◌^◌, length, IfOk, OnOk};
-ghost use Rattle.safl_verilog.specs.Netlists.{signals_of};
 ghost use Rattle.safl_vparse.specs.Shown.{shown_declaration};
 ghost use Rattle.safl_vread.specs.Signals.{is_of, IsOrder, AreNumbers, AddsPlaces};
 ghost use Rattle.safl_vread.specs.Scopes.{declared_in};

@@ -7,7 +7,7 @@ ghost use Rattle.std.specs.List.{flat_map};
 ghost use Rattle.safl_verilog.specs.Files.{Spot};
 ghost use Rattle.safl_verilog.specs.Faults.{among, find, passes, is_input, is_output, is_port, range_width, has_ports, all_port_faults};
 ghost use Rattle.safl_verilog.specs.FaultParts.{header_faults, port_faults};
-ghost use Rattle.safl_vparse.specs.Shown.{shown_spot, shown_declaration};
+ghost use Rattle.safl_vparse.specs.Shown.{shown_spot};
 ghost use Rattle.safl_vread.specs.Firsts.{first};
 ghost use Rattle.safl_vread.specs.Lists.{bytes_of_all};
 ghost use Rattle.safl_vread.specs.Scopes.{declared_in, spots_in, file_in};

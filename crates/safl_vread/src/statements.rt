@@ -1,6 +1,6 @@
 //! The rules on statements. Each statement drives the name that is its target.
 
-ghost use Rattle.std.specs.Prelude.{◌≡◌, ℕ, List, [], ◌∷◌, ◌<◌, ◌&&◌, ◌||◌, ◌==◌, not, length, true, IfOk, IfErr};
+ghost use Rattle.std.specs.Prelude.{◌≡◌, ℕ, List, [], ◌<◌, ◌&&◌, ◌||◌, not, length, true, IfOk};
 ghost use Rattle.std.specs.List.{flat_map};
 ghost use Rattle.safl_verilog.specs.Files.{Assign, Always};
 ghost use Rattle.safl_verilog.specs.declared.fault.VRule.TheVariants as rules;

@@ -18,9 +18,9 @@ use Rattle.safl_net.specs.Netlist.{Netlist, Signal, Kind, Input, Reg, Wire, widt
 use Rattle.safl_net.specs.Names.{is_good, is_identifier, is_reserved}
 use Rattle.safl_net.specs.Widths.{op_width, HasWord}
 use Rattle.safl_net.specs.Rules.{IsNetlist, SignalFits, KindFits}
-use Rattle.safl_net.specs.Making.{name_at, name_in, widths}
+use Rattle.safl_net.specs.Making.{name_at, name_in, signal_widths}
 use Rattle.safl_net.specs.CellTexts.{two_operands, inverted, joined_texts, sliced, plain, selected}
-use Rattle.safl_net.specs.Written.{Text, literal, declaration, applied, operation, names_of}
+use Rattle.safl_net.specs.Written.{Text, literal, declaration, operation_text, operation, names_of}
 use Rattle.safl_net.specs.Written.{if_input, if_register, if_wire}
 use Rattle.safl_net.specs.WrittenParts.{port, input_port, output_port, input_declaration, output_declaration}
 use Rattle.safl_net.specs.Written.{assignment, cell_assignment, update}
@@ -123,7 +123,7 @@ module _ (n : Netlist) (net : IsNetlist n) where
       below : nat_lt high w ≡ true → high < w
       below e = grind (arith, nat_tests)
 
-  sliced_short : (high low : ℕ) (xs : List ℕ) (v : ℕ) → op_width (Apply (Bits high low)) (widths n xs) ≡ Some v → length (sliced high low (names_of n xs)) ≤ 209
+  sliced_short : (high low : ℕ) (xs : List ℕ) (v : ℕ) → op_width (Apply (Bits high low)) (signal_widths n xs) ≡ Some v → length (sliced high low (names_of n xs)) ≤ 209
   sliced_short high low [] v e = omega arith
   sliced_short high low (a ∷ []) v e =
       let x = name_at_short a in
@@ -134,7 +134,7 @@ module _ (n : Netlist) (net : IsNetlist n) where
       simp length-append (omega arith)
   sliced_short high low (a ∷ (b ∷ xs)) v e = omega arith
 
-  applied_short : (p : Primitive) (xs : List ℕ) (v : ℕ) → op_width (Apply p) (widths n xs) ≡ Some v → length (applied p (names_of n xs)) ≤ 606
+  applied_short : (p : Primitive) (xs : List ℕ) (v : ℕ) → op_width (Apply p) (signal_widths n xs) ≡ Some v → length (operation_text p (names_of n xs)) ≤ 606
   applied_short Not xs v e = omega (arith, inverted_short xs)
   applied_short Cat xs v e = omega (arith, joined_short xs)
   applied_short (Bits high low) xs v e = omega (arith, sliced_short high low xs v e)
@@ -154,7 +154,7 @@ module _ (n : Netlist) (net : IsNetlist n) where
   applied_short Shl xs v e = omega (arith, two_short (codes "<<") xs (lit≤ tt))
   applied_short Shr xs v e = omega (arith, two_short (codes ">>") xs (lit≤ tt))
 
-  operation_short : (op : Op) (xs : List ℕ) (v : ℕ) → op_width op (widths n xs) ≡ Some v → HasWord op → length (operation op (names_of n xs)) ≤ 606
+  operation_short : (op : Op) (xs : List ℕ) (v : ℕ) → op_width op (signal_widths n xs) ≡ Some v → HasWord op → length (operation op (names_of n xs)) ≤ 606
   operation_short (Const w) xs v e h = omega (arith, literal_short w.width w.bits h.bounded h.fits)
   operation_short Copy xs v e h = omega (arith, plain_short xs)
   operation_short Mux xs v e h = selected_short xs

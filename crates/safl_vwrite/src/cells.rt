@@ -3,7 +3,7 @@
 ghost use Rattle.std.specs.Prelude.{◌≡◌, ◌++◌, ◌<◌, length, OnOk, All};
 ghost use Rattle.safl_net.specs.Making.{name_at, numbers};
 ghost use Rattle.safl_net.specs.CellTexts.{two_operands, inverted, joined_texts, sliced, plain, selected};
-ghost use Rattle.safl_net.specs.Written.{operation, applied, names_of, slice};
+ghost use Rattle.safl_net.specs.Written.{operation, operation_text, names_of, slice};
 
 use crate::pieces::{push, push_literal};
 use safl_net::{Cell, Net, Op, Sig};
@@ -31,7 +31,7 @@ fn push_applied(
     operands: &[Sig],
 ) -> Result<(), NoMemory>
     requires { All (λ s. s.0 < length net.now.signals) operands.now }
-    ensures { OnOk result (out.new.items ≡ out.old.items ++ applied p (names_of net.now (numbers operands.now))) }
+    ensures { OnOk result (out.new.items ≡ out.old.items ++ operation_text p (names_of net.now (numbers operands.now))) }
 {
     match p {
         Primitive::Not => push_inverted(out, net, operands),

@@ -5,7 +5,7 @@ use Rattle.std.proofs.lemmas.Bool.Decides.{nat_tests}
 use Rattle.std.proofs.lemmas.List.Folds.{list_all-append}
 use Rattle.std.specs.List.{list_all}
 use Rattle.safl_word.specs.Numerals.{between, is_digit, value}
-use Rattle.safl_word.specs.Tokens.{sym_text, Fits, IsToken, is_blank, in_name, base_of, SizedParts, IsLexeme, name_like, number_like, sized_like}
+use Rattle.safl_word.specs.Tokens.{sym_text, FitsNumeral, IsToken, is_blank, in_name, base_of, SizedParts, IsLexeme, name_like, number_like, sized_like}
 use Rattle.safl_word.specs.Tokens.{symbol_like, IsLongest, Piece, Blank, Lexeme, text_of_all, StandAll, tokens_from, HasTokens}
 use Rattle.safl_word.specs.declared.token.Sym.{Sym}
 use Rattle.safl_word.specs.declared.token.Sym.TheVariants as syms
@@ -78,7 +78,7 @@ pieces_tokens p (x ∷ xs) = ap (λ ts. record { start = p; stop = p + length x.
 pub spaced_reads : (xs : List Spaced) → AreSpaced xs → HasTokens (spaced_text xs) (spaced_tokens 0 xs)
 spaced_reads xs a = record { pieces = pieces_of xs; joined = pieces_text xs; stand = pieces_stand xs a; tokens = pieces_tokens 0 xs }
 
-decimal_fits : (n : ℕ) → n < 2 ^ 128 → Fits 10 (decimal n) × (value 10 (decimal n) ≡ n)
+decimal_fits : (n : ℕ) → n < 2 ^ 128 → FitsNumeral 10 (decimal n) × (value 10 (decimal n) ≡ n)
 decimal_fits n lt =
     let c = decimal_counts n lt in
     (record { numeral = c.0.numeral; short = omega (arith, c.0.short); small = c.0.small }, c.1)

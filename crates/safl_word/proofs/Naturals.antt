@@ -12,11 +12,6 @@ pub work_down : (c u d v : ℕ) → d + v ≤ c + u → d < c → work d v < wor
 work_down c u d v le lt =
     omega (arith, lt, mul-le-mul_left (d + v) le, mul-le-mul_left (c + u) le)
 
-pub work_up : (c u d v : ℕ) → 1 ≤ c → d + v ≤ u → work d v < work c u
-work_up c u d v some le =
-    let more : d + v + 1 ≤ c + u = omega arith in
-    omega (arith, mul-le-mul_left (d + v) more, mul-le-mul_left (c + u) more)
-
 pub work_less_of : {m n : ℕ} (u w : ℕ) → m ≡ n → w < work m u → w < work n u
 work_less_of u w e h = let P : ℕ → Type 0 = λ k. w < work k u in subst P e h
 

@@ -6,7 +6,7 @@ use Rattle.std.proofs.lemmas.Option.{same_Some}
 use Rattle.safl_word.specs.Numerals.{is_digit, value, IsNumeral}
 use Rattle.safl_word.specs.Tokens.{begins_name, in_name, base_of, IsNameLike, SizedParts, sized_text, IsSizedLike}
 use Rattle.safl_word.specs.Limits.{name_max, digits_max, value_bound}
-use Rattle.safl_word.specs.Tokens.{Fits, IsLongest, Piece, Lexeme, text_of, StandsBefore}
+use Rattle.safl_word.specs.Tokens.{FitsNumeral, IsLongest, Piece, Lexeme, text_of, StandsBefore}
 use Rattle.safl_word.specs.Breaks.{Passes, long_name, long_number, long_sized, BreaksAtFirst}
 use Rattle.safl_word.specs.declared.token.Key.{Key}
 use Rattle.safl_word.specs.declared.token.TokenKind.TheVariants as kinds
@@ -23,10 +23,10 @@ pub data Next (text : List ℕ) : Type 0 where
   breaks : (e : Rule) → BreaksAtFirst e text → Next text
 
 -- a numeral fits, or passes a limit
-pub fits_or_passes : (base : ℕ) (w : List ℕ) → IsNumeral base w → Fits base w ⊎ Passes base w
+pub fits_or_passes : (base : ℕ) (w : List ℕ) → IsNumeral base w → FitsNumeral base w ⊎ Passes base w
 fits_or_passes base w n = by_length (nat_lt digits_max (length w)) refl (nat_lt (value base w) value_bound) refl
   where
-    by_length : (b : Bool) → nat_lt digits_max (length w) ≡ b → (d : Bool) → nat_lt (value base w) value_bound ≡ d → Fits base w ⊎ Passes base w
+    by_length : (b : Bool) → nat_lt digits_max (length w) ≡ b → (d : Bool) → nat_lt (value base w) value_bound ≡ d → FitsNumeral base w ⊎ Passes base w
     by_length true e d h = inr (inl (ltb-true digits_max (length w) e))
     by_length false e true h = inl (record { numeral = n; short = ltb-false digits_max (length w) e; small = ltb-true (value base w) value_bound h })
     by_length false e false h = inr (inr (ltb-false (value base w) value_bound h))
@@ -57,7 +57,7 @@ name_next c x h s = by_length (nat_lt name_max (length (c ∷ s.front))) refl (k
 number_next : (text w rest : List ℕ) → text ≡ w ++ rest → IsNumeral 10 w → EndsRun (is_digit 10) rest → NoSizeFollows rest → Next text
 number_next text w rest j n h f = by_fit (fits_or_passes 10 w n)
   where
-    by_fit : Fits 10 w ⊎ Passes 10 w → Next text
+    by_fit : FitsNumeral 10 w ⊎ Passes 10 w → Next text
     by_fit (inl k) = goes_on (Lexeme (kinds.Num (value 10 w)) w) rest j ((k, refl), number_longest w rest n h f)
     by_fit (inr p) = breaks rules.E03 (record { front = w; rest = rest; joined = j; longest = number_longest w rest n h f; too_long = long_number n p })
 
@@ -68,7 +68,7 @@ sized_next text s rest j k h = by_fit (fits_or_passes 10 s.width k.width) (fits_
     too_long : Passes 10 s.width ⊎ Passes s.base s.digits → Next text
     too_long p = breaks rules.E03 (record { front = sized_text s; rest = rest; joined = j; longest = sized_longest s rest k h; too_long = long_sized s refl k p })
 
-    by_fit : Fits 10 s.width ⊎ Passes 10 s.width → Fits s.base s.digits ⊎ Passes s.base s.digits → Next text
+    by_fit : FitsNumeral 10 s.width ⊎ Passes 10 s.width → FitsNumeral s.base s.digits ⊎ Passes s.base s.digits → Next text
     by_fit (inr p) d = too_long (inl p)
     by_fit (inl u) (inr p) = too_long (inr p)
     by_fit (inl u) (inl d) =

@@ -4,7 +4,7 @@ use Rattle.std.proofs.lemmas.Bool.{and_parts}
 use Rattle.std.proofs.lemmas.List.{append-nil}
 use Rattle.safl_word.specs.Numerals.{is_digit, value, IsNumeral}
 use Rattle.safl_word.specs.Tokens.{sym_text, IsNameLike, SizedParts, sized_text, IsSizedLike, IsLexeme, name_like, number_like, sized_like}
-use Rattle.safl_word.specs.Tokens.{symbol_like, Fits, IsSized, IsToken}
+use Rattle.safl_word.specs.Tokens.{symbol_like, FitsNumeral, IsSized, IsToken}
 use Rattle.safl_word.specs.Breaks.{Passes, IsTooLong, long_name, long_number, long_sized}
 use Rattle.safl_word.specs.declared.token.Sym.{Sym}
 use Rattle.safl_word.specs.declared.token.TokenKind.{TokenKind}
@@ -83,7 +83,7 @@ kinds_agree (kinds.Sym s) (kinds.Sized m n) w a (t, b) = sized_symbol w t s b.jo
 kinds_agree (kinds.Sym s) (kinds.Key k) w a b = name_symbol w s (subst IsNameLike (sym b) (key_like k)) a
 kinds_agree (kinds.Sym s) (kinds.Sym t) w a b = ap kinds.Sym (same_sym s t (sym a ∙ b))
 
-fits_passes : (base : ℕ) (w : List ℕ) {A : Type 0} → Fits base w → Passes base w → A
+fits_passes : (base : ℕ) (w : List ℕ) {A : Type 0} → FitsNumeral base w → Passes base w → A
 fits_passes base w h (inl p) = absurd (omega (arith, h.short))
 fits_passes base w h (inr p) = absurd (omega (arith, h.small))
 
@@ -91,9 +91,9 @@ sized_too_long : (m n : ℕ) (w : List ℕ) (t s : SizedParts) {A : Type 0} → 
 sized_too_long m n w t s {A = A} h e k l =
     let g = same_size t s [] [] h.like k (append-nil (sized_text t) ∙ sym h.joined ∙ e ∙ sym (append-nil (sized_text s))) in
     let d : t.digits ≡ s.digits = sym (append-nil t.digits) ∙ g.behind ∙ append-nil s.digits in
-    parts l (subst (λ x. Fits 10 x) g.width h.width_fits) (subst (λ x. Fits s.base x) d (subst (λ c. Fits c t.digits) g.base h.digits_fit))
+    parts l (subst (λ x. FitsNumeral 10 x) g.width h.width_fits) (subst (λ x. FitsNumeral s.base x) d (subst (λ c. FitsNumeral c t.digits) g.base h.digits_fit))
   where
-    parts : Passes 10 s.width ⊎ Passes s.base s.digits → Fits 10 s.width → Fits s.base s.digits → A
+    parts : Passes 10 s.width ⊎ Passes s.base s.digits → FitsNumeral 10 s.width → FitsNumeral s.base s.digits → A
     parts (inl p) x y = fits_passes 10 s.width x p
     parts (inr p) x y = fits_passes s.base s.digits y p
 

@@ -1,5 +1,5 @@
 -- Which rule a text breaks at a byte, in full: what begins there is foreign to all tokens, or it is too long for one.
-use Rattle.std.specs.Prelude.{◌≡◌, ◌≢◌, ℕ, ◌<◌, ◌≤◌, List, [], ◌∷◌, ◌++◌, length, true, ◌⊎◌}
+use Rattle.std.specs.Prelude.{◌≡◌, ◌≢◌, ℕ, ◌<◌, ◌≤◌, List, ◌∷◌, ◌++◌, length, true, ◌⊎◌}
 use Rattle.safl_word.specs.Numerals.{value, IsNumeral}
 use Rattle.safl_word.specs.declared.fault.Rule.{Rule}
 use Rattle.safl_word.specs.declared.fault.Rule.TheVariants as rules

@@ -15,7 +15,7 @@ module _ {P T : Type 0} (text_of : P → List ℕ) (StandsBefore : P → List �
   tokens_from p (x ∷ xs) = option_to_list (token_at p x) ++ tokens_from (p + length (text_of x)) xs
 
   -- the text is cut into these pieces, and these are its tokens
-  pub record HasTokens (text : List ℕ) (ts : List T) : Type 0 where
+  pub record IsCutInto (text : List ℕ) (ts : List T) : Type 0 where
     pub pieces : List P
     pub joined : text ≡ flat_map text_of pieces
     pub stand : StandAll pieces []

@@ -99,28 +99,28 @@ pub data IsLexeme (w : List ℕ) : Type 0 where
   symbol_like : (s : Sym) → w ≡ sym_text s → IsLexeme w
 
 -- the numeral is short enough, and its value small enough
-abbrev pub Fits : ℕ → List ℕ → Type 0
-Fits base w = IsBounded base digits_max value_bound w
+abbrev pub FitsNumeral : ℕ → List ℕ → Type 0
+FitsNumeral base w = IsBounded base digits_max value_bound w
 
 -- the text of a sized number with this width and this value
 pub record IsSized (m n : ℕ) (w : List ℕ) (s : SizedParts) : Type 0 where
   pub joined : w ≡ sized_text s
   pub like : IsSizedLike s
-  pub width_fits : Fits 10 s.width
-  pub digits_fit : Fits s.base s.digits
+  pub width_fits : FitsNumeral 10 s.width
+  pub digits_fit : FitsNumeral s.base s.digits
   pub width_is : m ≡ value 10 s.width
   pub value_is : n ≡ value s.base s.digits
 
 -- the text of a name: it is no keyword, and short enough
-pub record IsName (w : List ℕ) : Type 0 where
+pub record IsSourceName (w : List ℕ) : Type 0 where
   pub like : IsNameLike w
   pub free : (k : Key) → w ≢ key_text k
   pub short : length w ≤ name_max
 
 -- the text of a token of this kind
 abbrev pub IsToken : TokenKind → List ℕ → Type 0
-IsToken kinds.Name w = IsName w
-IsToken (kinds.Num n) w = Fits 10 w × (n ≡ value 10 w)
+IsToken kinds.Name w = IsSourceName w
+IsToken (kinds.Num n) w = FitsNumeral 10 w × (n ≡ value 10 w)
 IsToken (kinds.Sized m n) w = (s : SizedParts) × IsSized m n w s
 IsToken (kinds.Key k) w = w ≡ key_text k
 IsToken (kinds.Sym s) w = w ≡ sym_text s
@@ -157,7 +157,7 @@ token_at p _ = None
 
 -- the text is cut into pieces, and these are its tokens
 abbrev pub HasTokens : List ℕ → List Token → Type 0
-HasTokens text ts = Cutting.HasTokens text_of StandsBefore token_at text ts
+HasTokens text ts = Cutting.IsCutInto text_of StandsBefore token_at text ts
 
 -- the rule that is broken where no piece begins: E03 if the form of a token begins there, which then is too long, and otherwise E01
 abbrev pub IsBrokenAt : Rule → List ℕ → Type 0

@@ -1,6 +1,6 @@
 //! Tables of numbers, each in two halves of 64 bits.
 
-ghost use Rattle.std.specs.Prelude.{◌≡◌, ◌+◌, ◌*◌, ◌^◌, map, IfOk};
+ghost use Rattle.std.specs.Prelude.{◌≡◌, ◌+◌, ◌*◌, ◌^◌, IfOk};
 ghost use Rattle.safl_word.specs.Halves.{low_half, high_half};
 
 use crate::word::Raw;

@@ -1,5 +1,5 @@
 use Rattle.std.proofs.Common.{◌+◌, sym, subst, ap, arith}
-use Rattle.safl_aiger.specs.Reads.{HasFault, counts, total, line_kinds}
+use Rattle.safl_aiger.specs.Reads.{HasAigFault, counts, total, line_kinds}
 use Rattle.safl_aiger.specs.Sections.{Fails}
 use Rattle.safl_aiger.specs.declared.sections.Stop.{Stop}
 use Rattle.safl_aiger.proofs.Concluding.{body_fault, stop_small}
@@ -17,5 +17,5 @@ pub returns-in-Err-Stopped-clause-fault : goal.returns-in-Err-Stopped-clause-fau
 returns-in-Err-Stopped-clause-fault c =
     let h = c.args.h in
     let stops = subst (λ e. Fails c.args.text.now (total (counts h)) c.args.at (line_kinds (counts h)) e) c.in-Err-Stopped.field-0-is c.in-Err-Stopped.ensures.err in
-    subst (λ (x : Stop). HasFault c.args.text.now x.rule (2 + x.place)) (sym c.in-Err-Stopped.s-is)
+    subst (λ (x : Stop). HasAigFault c.args.text.now x.rule (2 + x.place)) (sym c.in-Err-Stopped.s-is)
     (body_fault c.args.text.now c.args.at (counts h) c.in-Err-Stopped.s.rule c.in-Err-Stopped.s.place c.requires.begins stops)

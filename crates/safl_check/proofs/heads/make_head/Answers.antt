@@ -1,4 +1,4 @@
-use Rattle.std.proofs.Common.{◌≡◌, ◌∙◌, ℕ, List, map, ap}
+use Rattle.std.proofs.Common.{◌∙◌, ℕ, List, map, ap}
 use Rattle.safl_tree.specs.declared.tree.Param.{Param}
 use Rattle.safl_tree.specs.Shown.{shown_parameters}
 use Rattle.safl_typing.specs.Heads.{Slot, Head, slot_of}

@@ -1,6 +1,5 @@
-use Rattle.std.proofs.Common.{subst, sym, ap}
+use Rattle.std.proofs.Common.{subst}
 use Rattle.safl_net.specs.Netlist.{Netlist}
-use Rattle.safl_term.specs.Checked.{IsChecked}
 use Rattle.safl_circuit.specs.Mirrored.{AreMirrors}
 use Rattle.safl_opt.specs.Smaller.{IsSmaller}
 use Rattle.safl_compiler.proofs.Mirrored.{mirrored, laid_in_order}

@@ -1,19 +1,17 @@
-use Rattle.std.proofs.Common.{rules, ◌≡◌, ℕ, ◌+◌, ◌<◌, ◌*◌, List, length, take, drop, cond, Some, None, Bool, ◌∷◌, [], slice_set, refl, sym, ap, ◌∙◌, subst, arith}
+use Rattle.std.proofs.Common.{rules, ◌≡◌, ℕ, ◌<◌, List, length, take, drop, cond, Some, None, Bool, ◌∷◌, [], slice_set, refl, sym, ap, ◌∙◌, subst, arith}
 use Rattle.std.proofs.lemmas.List.{nil_from_length}
 use Rattle.safl_word.specs.Words.{Word}
 use Rattle.safl_term.specs.Readiness.{word_of}
-use Rattle.safl_term.specs.Sizes.{nodes, nodes_in}
 use Rattle.safl_term.specs.Terms as plain
 use Rattle.safl_term.specs.Tree.{shown_term, shown_terms}
 use Rattle.safl_term.specs.declared.term.Term as declared
-use Rattle.safl_term.proofs.PlainTrees.{shown_term-Op, shown_term-Loop, shown_term-Call, shown_term-Let}
-use Rattle.safl_term.proofs.PlainTerms.{if_by, let_by, op_by, some_nodes}
+use Rattle.safl_term.proofs.PlainTerms.{some_nodes}
 use Rattle.safl_evaluate.specs.Asking.{Asks}
 use Rattle.safl_evaluate.specs.Stages.{back_at}
 use Rattle.safl_evaluate.specs.declared.wants.Wants.{Wants}
 use Rattle.safl_evaluate.proofs.AsksAlong.{asks_none, asks_both, asks_one}
 use Rattle.safl_evaluate.proofs.AnswersByParts as step
-use Rattle.safl_evaluate.proofs.AnswersByParts.{call_by, loop_by, forest_nodes, one_item, two_items}
+use Rattle.safl_evaluate.proofs.AnswersByParts.{forest_nodes, one_item, two_items}
 use Rattle.safl_evaluate.proofs.LooksByParts as part
 use Rattle.safl_evaluate.proofs.LooksByParts.{look_is, look_all_is, look_at, look_all_at}
 use Rattle.safl_evaluate.proofs.LooksWhole as whole
@@ -64,7 +62,6 @@ find-returns-then-is_plain_at-clause-finds t c =
 
 pub find-look-found-requires : goal.find-look-found-requires
 find-look-found-requires t c =
-    let smaller : 4 * nodes (shown_term c.args.t.now) < 4 * nodes (shown_term c.args.t.now) + 1 = omega arith in
     let body = c.requires.laid.0.body in (
       search rules,
       (
@@ -76,46 +73,36 @@ find-look-found-requires t c =
 -- ---- conditions
 
 pub look-operand-requires : goal.look-operand-requires
-look-operand-requires t c =
-    let shape = if_by (ap shown_term c.in-If.is) (ap shown_term c.deref.ensures) refl refl in
-    let size = ap nodes shape in
-    let smaller : 4 * nodes (shown_term c.deref.result.now) + 2 < 4 * nodes (shown_term c.args.t.now) = omega (arith, size) in (
-      search rules,
-      look_at c.part.ensures.slots c.part.ensures.at c.part.ensures.news (part.may_condition (anew_is shape c.requires.anew)
-          (look_is shape c.requires.may)),
-    )
+look-operand-requires t c = (
+  search rules,
+  look_at c.part.ensures.slots c.part.ensures.at c.part.ensures.news (part.may_condition (anew_is c.in-If.ensures c.requires.anew)
+      (look_is c.in-If.ensures c.requires.may)),
+)
 
 pub look-operand-requires-then-bits-eq1 : goal.look-operand-requires-then-bits-eq1
 look-operand-requires-then-bits-eq1 t c =
-    let shape = if_by (ap shown_term c.in-If.is) (ap shown_term c.deref.ensures) (ap shown_term c.deref-then-bits-eq1.ensures) refl in
-    let size = ap nodes shape in
-    let h = look_is shape c.requires.may in
+    let h = look_is c.in-If.ensures c.requires.may in
     let fc = whole.finds_slots c.part.ensures.slots c.part.ensures.at c.if-operand.ensures.finds in
-    let kept = part.kept_at c.args.env.now c.operand.new.env c.part.ensures.slots c.if-operand.ensures.kept in
-    let smaller : 4 * nodes (shown_term c.deref-then-bits-eq1.result.now) + 2 < 4 * nodes (shown_term c.args.t.now) = omega (arith, size) in (
+    let kept = part.kept_at c.args.env.now c.operand.new.env c.part.ensures.slots c.if-operand.ensures.kept in (
       search rules,
       part.may_then (omega (arith, c.operand.ensures.asks.long)) (omega (arith, c.operand.auto.env)) (omega (arith, c.operand.auto.kept))
-          kept c.operand.new.word (anew_is shape c.requires.anew) h fc (sym c.bits.ensures.value ∙ c.if-bits-eq1.true) c.branch-second.ensures.slots
+          kept c.operand.new.word (anew_is c.in-If.ensures c.requires.anew) h fc (sym c.bits.ensures.value ∙ c.if-bits-eq1.true) c.branch-second.ensures.slots
           (c.branch-second.ensures.at ∙ part.after_condition h) c.branch-second.ensures.news,
     )
 
 pub look-after-requires : goal.look-after-requires
 look-after-requires t c =
-    let shape = if_by (ap shown_term c.in-If.is) (ap shown_term c.deref.ensures) refl refl in
-    let h = look_is shape c.requires.may in
+    let h = look_is c.in-If.ensures c.requires.may in
     omega (arith, c.branch-second.ensures.at, part.after_condition h, part.branch_place h)
 
 pub look-operand-requires-else-bits-eq1 : goal.look-operand-requires-else-bits-eq1
 look-operand-requires-else-bits-eq1 t c =
-    let shape = if_by (ap shown_term c.in-If.is) (ap shown_term c.deref.ensures) refl (ap shown_term c.deref-else-bits-eq1.ensures) in
-    let size = ap nodes shape in
-    let h = look_is shape c.requires.may in
+    let h = look_is c.in-If.ensures c.requires.may in
     let fc = whole.finds_slots c.part.ensures.slots c.part.ensures.at c.if-operand.ensures.finds in
-    let kept = part.kept_at c.args.env.now c.operand.new.env c.part.ensures.slots c.if-operand.ensures.kept in
-    let smaller : 4 * nodes (shown_term c.deref-else-bits-eq1.result.now) + 2 < 4 * nodes (shown_term c.args.t.now) = omega (arith, size) in (
+    let kept = part.kept_at c.args.env.now c.operand.new.env c.part.ensures.slots c.if-operand.ensures.kept in (
       search rules,
       part.may_else (omega (arith, c.operand.ensures.asks.long)) (omega (arith, c.operand.auto.env)) (omega (arith, c.operand.auto.kept))
-          kept c.operand.new.word (anew_is shape c.requires.anew) h fc (λ q. c.if-bits-eq1.false (c.bits.ensures.value ∙ q)) (c.after.ensures.slots
+          kept c.operand.new.word (anew_is c.in-If.ensures c.requires.anew) h fc (λ q. c.if-bits-eq1.false (c.bits.ensures.value ∙ q)) (c.after.ensures.slots
           ∙ c.branch-second.ensures.slots)
           (c.after.ensures.at ∙ (ap (λ (i : ℕ). (place c.args.facts.now.places.now i).next) (c.branch-second.ensures.at ∙ part.after_condition h) ∙
           part.after_then h)) (c.after.ensures.news ∙ c.branch-second.ensures.news),
@@ -123,23 +110,21 @@ look-operand-requires-else-bits-eq1 t c =
 
 pub look-returns-then-bits-eq1-clause-looks : goal.look-returns-then-bits-eq1-clause-looks
 look-returns-then-bits-eq1-clause-looks t c =
-    let shape = if_by (ap shown_term c.in-If.is) (ap shown_term c.deref.ensures) (ap shown_term c.deref-then-bits-eq1.ensures) refl in
-    let h = look_is shape c.requires.may in
+    let h = look_is c.in-If.ensures c.requires.may in
     let fc = whole.finds_slots c.part.ensures.slots c.part.ensures.at c.if-operand.ensures.finds in
     let kept = part.kept_at c.args.env.now c.operand.new.env c.part.ensures.slots c.if-operand.ensures.kept in
     let slots = ap (λ (i : ℕ). take i c.operand.new.env) c.branch-second.ensures.slots ∙ kept in
-    whole.looks_is shape (whole.looks_with (whole.opened_cell c.operand-then-bits-eq1.result c.operand-then-bits-eq1.new.word c.opened.result
+    whole.looks_is c.in-If.ensures (whole.looks_with (whole.opened_cell c.operand-then-bits-eq1.result c.operand-then-bits-eq1.new.word c.opened.result
     c.opened.ensures) (whole.looks_then c.operand.new.word h fc (sym c.bits.ensures.value ∙ c.if-bits-eq1.true) slots
     (c.branch-second.ensures.at ∙ part.after_condition h) c.operand-then-bits-eq1.ensures.finds))
 
 pub look-returns-else-bits-eq1-clause-looks : goal.look-returns-else-bits-eq1-clause-looks
 look-returns-else-bits-eq1-clause-looks t c =
-    let shape = if_by (ap shown_term c.in-If.is) (ap shown_term c.deref.ensures) refl (ap shown_term c.deref-else-bits-eq1.ensures) in
-    let h = look_is shape c.requires.may in
+    let h = look_is c.in-If.ensures c.requires.may in
     let fc = whole.finds_slots c.part.ensures.slots c.part.ensures.at c.if-operand.ensures.finds in
     let kept = part.kept_at c.args.env.now c.operand.new.env c.part.ensures.slots c.if-operand.ensures.kept in
     let slots = ap (λ (i : ℕ). take i c.operand.new.env) (c.after.ensures.slots ∙ c.branch-second.ensures.slots) ∙ kept in
-    whole.looks_is shape (whole.looks_with (whole.opened_cell c.operand-else-bits-eq1.result c.operand-else-bits-eq1.new.word
+    whole.looks_is c.in-If.ensures (whole.looks_with (whole.opened_cell c.operand-else-bits-eq1.result c.operand-else-bits-eq1.new.word
     c.opened-else-bits-eq1.result c.opened-else-bits-eq1.ensures)
     (whole.looks_else c.operand.new.word h fc (λ q. c.if-bits-eq1.false (c.bits.ensures.value ∙ q)) slots
     (c.after.ensures.at ∙ (ap (λ (i : ℕ). (place c.args.facts.now.places.now i).next) (c.branch-second.ensures.at ∙ part.after_condition h) ∙
@@ -147,141 +132,117 @@ look-returns-else-bits-eq1-clause-looks t c =
 
 pub look-returns-else-operand-clause-looks : goal.look-returns-else-operand-clause-looks
 look-returns-else-operand-clause-looks t c =
-    let shape = if_by (ap shown_term c.in-If.is) (ap shown_term c.deref.ensures) refl refl in
-    let h = look_is shape c.requires.may in
+    let h = look_is c.in-If.ensures c.requires.may in
     let fc = whole.finds_slots c.part.ensures.slots c.part.ensures.at c.if-operand.ensures.finds in
-    whole.looks_is shape (whole.looks_shut h fc)
+    whole.looks_is c.in-If.ensures (whole.looks_shut h fc)
 
 -- ---- bindings
 
 pub look-after-bindings-requires : goal.look-after-bindings-requires
 look-after-bindings-requires t c =
-    let shape = let_by (ap shown_term c.in-Let.is ∙ shown_term-Let c.in-Let.field-0 c.in-Let.bound c.in-Let.body) (ap shown_terms c.as_slice-bound.ensures.value) refl in
-    let h = look_is shape c.requires.may in
+    let h = look_is c.in-Let.ensures c.requires.may in
     omega (arith, c.part-in-Let.ensures.at, part.body_place h)
 
 pub look-values-requires : goal.look-values-requires
 look-values-requires t c =
-    let shape = let_by (ap shown_term c.in-Let.is ∙ shown_term-Let c.in-Let.field-0 c.in-Let.bound c.in-Let.body) (ap shown_terms c.as_slice-bound.ensures.value) refl in
-    let size = ap nodes shape in
-    let count = forest_nodes c.as_slice-bound.result.now in
-    let h = look_is shape c.requires.may in
-    let smaller : 4 * nodes_in (shown_terms c.as_slice-bound.result.now) + 3 < 4 * nodes (shown_term c.args.t.now) = omega (arith, size) in (
+    let count = forest_nodes c.in-Let.bound.now in
+    let h = look_is c.in-Let.ensures c.requires.may in (
       search rules,
       (
         look_all_at (c.after-bindings.ensures.slots ∙ c.part-in-Let.ensures.slots)
             (c.after-bindings.ensures.at ∙ (ap (λ (i : ℕ). (place c.args.facts.now.places.now i).next) c.part-in-Let.ensures.at ∙ part.after_body h))
-            (c.after-bindings.ensures.news ∙ c.part-in-Let.ensures.news) (part.may_bound (anew_is shape c.requires.anew) h),
+            (c.after-bindings.ensures.news ∙ c.part-in-Let.ensures.news) (part.may_bound (anew_is c.in-Let.ensures c.requires.anew) h),
         (omega (arith, count, h.room), omega (arith, c.after-bindings.ensures.slots, c.part-in-Let.ensures.slots)),
       ),
     )
 
 pub look-operand-requires-then-values : goal.look-operand-requires-then-values
 look-operand-requires-then-values t c =
-    let shape = let_by (ap shown_term c.in-Let.is ∙ shown_term-Let c.in-Let.field-0 c.in-Let.bound c.in-Let.body)
-    (ap shown_terms c.as_slice-bound.ensures.value) (ap shown_term c.deref-then-values.ensures) in
-    let size = ap nodes shape in
-    let count = forest_nodes c.as_slice-bound.result.now in
-    let h = look_is shape c.requires.may in
+    let count = forest_nodes c.in-Let.bound.now in
+    let h = look_is c.in-Let.ensures c.requires.may in
     let fs = whole.finds_all_slots (c.after-bindings.ensures.slots ∙ c.part-in-Let.ensures.slots)
     (c.after-bindings.ensures.at ∙ (ap (λ (i : ℕ). (place c.args.facts.now.places.now i).next) c.part-in-Let.ensures.at ∙ part.after_body h))
     c.if-values.ensures.finds in
-    let kept = part.kept_at c.args.env.now c.values.new.env (c.after-bindings.ensures.slots ∙ c.part-in-Let.ensures.slots) c.if-values.ensures.kept in
-    let smaller : 4 * nodes (shown_term c.deref-then-values.result.now) + 2 < 4 * nodes (shown_term c.args.t.now) = omega (arith, size) in (
+    let kept = part.kept_at c.args.env.now c.values.new.env (c.after-bindings.ensures.slots ∙ c.part-in-Let.ensures.slots) c.if-values.ensures.kept in (
       search rules,
       part.may_body (omega (arith, c.values.ensures.asks.long)) (omega (arith, c.values.auto.env)) (omega (arith, c.values.auto.kept))
-          kept (take (length c.as_slice-bound.result.now) (drop c.args.spot.slots c.values.new.env)) (anew_is shape c.requires.anew) h fs
+          kept (take (length c.in-Let.bound.now) (drop c.args.spot.slots c.values.new.env)) (anew_is c.in-Let.ensures c.requires.anew) h fs
           (ap (λ (i : ℕ). take i c.values.new.env) c.within-below.ensures.slots ∙ step.slots_and c.values.new.env
-          (take c.args.spot.slots c.args.env.now) c.args.spot.slots (length c.as_slice-bound.result.now) kept)
+          (take c.args.spot.slots c.args.env.now) c.args.spot.slots (length c.in-Let.bound.now) kept)
           (omega (arith, c.within-below.ensures.slots, count, h.room)) c.within-below.ensures.at c.within-below.ensures.news,
     )
 
 pub look-returns-then-values-clause-looks : goal.look-returns-then-values-clause-looks
 look-returns-then-values-clause-looks t c =
-    let shape = let_by (ap shown_term c.in-Let.is ∙ shown_term-Let c.in-Let.field-0 c.in-Let.bound c.in-Let.body)
-    (ap shown_terms c.as_slice-bound.ensures.value) (ap shown_term c.deref-then-values.ensures) in
-    let h = look_is shape c.requires.may in
+    let h = look_is c.in-Let.ensures c.requires.may in
     let fs = whole.finds_all_slots (c.after-bindings.ensures.slots ∙ c.part-in-Let.ensures.slots)
     (c.after-bindings.ensures.at ∙ (ap (λ (i : ℕ). (place c.args.facts.now.places.now i).next) c.part-in-Let.ensures.at ∙ part.after_body h))
     c.if-values.ensures.finds in
     let kept = part.kept_at c.args.env.now c.values.new.env (c.after-bindings.ensures.slots ∙ c.part-in-Let.ensures.slots) c.if-values.ensures.kept in
-    whole.looks_is shape (whole.looks_with (whole.opened_cell c.operand-then-values.result c.operand-then-values.new.word c.opened-then-values.result
-    c.opened-then-values.ensures) (whole.looks_let (take (length c.as_slice-bound.result.now) (drop c.args.spot.slots c.values.new.env)) h fs
+    whole.looks_is c.in-Let.ensures (whole.looks_with (whole.opened_cell c.operand-then-values.result c.operand-then-values.new.word c.opened-then-values.result
+    c.opened-then-values.ensures) (whole.looks_let (take (length c.in-Let.bound.now) (drop c.args.spot.slots c.values.new.env)) h fs
     (ap (λ (i : ℕ). take i c.values.new.env) c.within-below.ensures.slots ∙ step.slots_and c.values.new.env
-    (take c.args.spot.slots c.args.env.now) c.args.spot.slots (length c.as_slice-bound.result.now) kept) c.within-below.ensures.at
+    (take c.args.spot.slots c.args.env.now) c.args.spot.slots (length c.in-Let.bound.now) kept) c.within-below.ensures.at
     c.operand-then-values.ensures.finds))
 
 pub look-returns-then-values-clause-kept : goal.look-returns-then-values-clause-kept
 look-returns-then-values-clause-kept t c =
-    let shape = let_by (ap shown_term c.in-Let.is ∙ shown_term-Let c.in-Let.field-0 c.in-Let.bound c.in-Let.body)
-    (ap shown_terms c.as_slice-bound.ensures.value) (ap shown_term c.deref-then-values.ensures) in
-    let h = look_is shape c.requires.may in
-    step.slots_kept c.operand-then-values.new.env c.values.new.env c.args.spot.slots (length c.as_slice-bound.result.now)
+    let h = look_is c.in-Let.ensures c.requires.may in
+    step.slots_kept c.operand-then-values.new.env c.values.new.env c.args.spot.slots (length c.in-Let.bound.now)
     (part.kept_at c.values.new.env c.operand-then-values.new.env c.within-below.ensures.slots c.operand-then-values.ensures.kept) ∙ part.kept_at
     c.args.env.now c.values.new.env (c.after-bindings.ensures.slots ∙ c.part-in-Let.ensures.slots) c.if-values.ensures.kept
 
 pub look-returns-else-values-clause-looks : goal.look-returns-else-values-clause-looks
 look-returns-else-values-clause-looks t c =
-    let shape = let_by (ap shown_term c.in-Let.is ∙ shown_term-Let c.in-Let.field-0 c.in-Let.bound c.in-Let.body) (ap shown_terms c.as_slice-bound.ensures.value) refl in
-    let h = look_is shape c.requires.may in
+    let h = look_is c.in-Let.ensures c.requires.may in
     let fs = whole.finds_all_slots (c.after-bindings.ensures.slots ∙ c.part-in-Let.ensures.slots)
     (c.after-bindings.ensures.at ∙ (ap (λ (i : ℕ). (place c.args.facts.now.places.now i).next) c.part-in-Let.ensures.at ∙ part.after_body h))
     c.if-values.ensures.finds in
-    whole.looks_is shape (whole.looks_let_shut h fs)
+    whole.looks_is c.in-Let.ensures (whole.looks_let_shut h fs)
 
 -- ---- operators
 
 pub look-pair-requires : goal.look-pair-requires
 look-pair-requires t c =
-    let shape = op_by c.in-Op.p (ap shown_term c.in-Op.is ∙ shown_term-Op c.in-Op.p c.in-Op.ts) (ap shown_terms c.as_slice-operands.ensures.value) in
-    let size = ap nodes shape in
-    let h = look_is shape c.requires.may in
+    let h = look_is c.in-Op.ensures c.requires.may in
     let few = may.op_few c.in-Op.p _ h.can in
-    let count = step.count_forest c.as_slice-operands.result.now in
-    let smaller : 4 * nodes_in (shown_terms c.as_slice-operands.result.now) + 3 < 4 * nodes (shown_term c.args.t.now) = omega (arith, size) in (
+    let count = step.count_forest c.in-Op.operands.now in (
       search rules,
       (
-        look_all_at c.part-in-Op.ensures.slots c.part-in-Op.ensures.at c.part-in-Op.ensures.news (part.may_op (anew_is shape c.requires.anew) h),
+        look_all_at c.part-in-Op.ensures.slots c.part-in-Op.ensures.at c.part-in-Op.ensures.news (part.may_op (anew_is c.in-Op.ensures c.requires.anew) h),
         (omega (arith, count, few.0), (omega (arith, count, few.1), refl)),
       ),
     )
 
 pub look-shared_whole_as_front-applied : goal.look-shared_whole_as_front-applied
 look-shared_whole_as_front-applied t c =
-    let shape = op_by c.in-Op.p (ap shown_term c.in-Op.is ∙ shown_term-Op c.in-Op.p c.in-Op.ts) (ap shown_terms c.as_slice-operands.ensures.value) in
-    let h = look_is shape c.requires.may in
+    let h = look_is c.in-Op.ensures c.requires.may in
     let few = may.op_few c.in-Op.p _ h.can in
-    let count = step.count_forest c.as_slice-operands.result.now in
+    let count = step.count_forest c.in-Op.operands.now in
     omega (arith, count, few.1, c.pair.auto.words)
 
 pub look-applied-requires : goal.look-applied-requires
 look-applied-requires t c =
-    let shape = op_by c.in-Op.p (ap shown_term c.in-Op.is ∙ shown_term-Op c.in-Op.p c.in-Op.ts) (ap shown_terms c.as_slice-operands.ensures.value) in
-    let h = look_is shape c.requires.may in
+    let h = look_is c.in-Op.ensures c.requires.may in
     let fs = whole.finds_all_slots c.part-in-Op.ensures.slots c.part-in-Op.ensures.at c.if-pair.ensures.finds in
-    may.op_fits c.in-Op.p _ (take (length c.as_slice-operands.result.now) c.pair.new.words) h.can fs.words
+    may.op_fits c.in-Op.p _ (take (length c.in-Op.operands.now) c.pair.new.words) h.can fs.words
 
 pub look-returns-then-pair-clause-looks : goal.look-returns-then-pair-clause-looks
 look-returns-then-pair-clause-looks t c =
-    let shape = op_by c.in-Op.p (ap shown_term c.in-Op.is ∙ shown_term-Op c.in-Op.p c.in-Op.ts) (ap shown_terms c.as_slice-operands.ensures.value) in
     let fs = whole.finds_all_slots c.part-in-Op.ensures.slots c.part-in-Op.ensures.at c.if-pair.ensures.finds in
-    whole.looks_is shape (whole.looks_op fs (ap Some c.applied.ensures))
+    whole.looks_is c.in-Op.ensures (whole.looks_op fs (ap Some c.applied.ensures))
 
 pub look-returns-else-pair-clause-looks : goal.look-returns-else-pair-clause-looks
 look-returns-else-pair-clause-looks t c =
-    let shape = op_by c.in-Op.p (ap shown_term c.in-Op.is ∙ shown_term-Op c.in-Op.p c.in-Op.ts) (ap shown_terms c.as_slice-operands.ensures.value) in
     let fs = whole.finds_all_slots c.part-in-Op.ensures.slots c.part-in-Op.ensures.at c.if-pair.ensures.finds in
-    whole.looks_is shape (whole.looks_op fs refl)
+    whole.looks_is c.in-Op.ensures (whole.looks_op fs refl)
 
 -- ---- calls
 
 pub look-values-requires-in-Call : goal.look-values-requires-in-Call
 look-values-requires-in-Call t c =
-    let shape = call_by c.in-Call.field-0 c.in-Call.k (ap shown_term c.in-Call.is ∙ shown_term-Call c.in-Call.field-0 c.in-Call.k c.in-Call.ts) (ap shown_terms c.as_slice-args.ensures.value) in
-    let size = ap nodes shape in
-    let count = forest_nodes c.as_slice-args.result.now in
-    let h = look_is shape c.requires.may in
-    let smaller : 4 * nodes_in (shown_terms c.as_slice-args.result.now) + 3 < 4 * nodes (shown_term c.args.t.now) = omega (arith, size) in (
+    let count = forest_nodes c.in-Call.args.now in
+    let h = look_is c.in-Call.ensures c.requires.may in (
       search rules,
       (
         look_all_at c.part-in-Call.ensures.slots c.part-in-Call.ensures.at c.part-in-Call.ensures.news (part.may_call h),
@@ -291,50 +252,44 @@ look-values-requires-in-Call t c =
 
 pub look-ask-requires-clause-site : goal.look-ask-requires-clause-site
 look-ask-requires-clause-site t c =
-    let shape = call_by c.in-Call.field-0 c.in-Call.k (ap shown_term c.in-Call.is ∙ shown_term-Call c.in-Call.field-0 c.in-Call.k c.in-Call.ts) (ap shown_terms c.as_slice-args.ensures.value) in
-    let h = look_is shape c.requires.may in
+    let h = look_is c.in-Call.ensures c.requires.may in
     omega (arith, may.call_place _ _ _ h.can, c.values-in-Call.ensures.asks.long)
 
 pub look-words-requires : goal.look-words-requires
 look-words-requires t c =
-    let shape = call_by c.in-Call.field-0 c.in-Call.k (ap shown_term c.in-Call.is ∙ shown_term-Call c.in-Call.field-0 c.in-Call.k c.in-Call.ts) (ap shown_terms c.as_slice-args.ensures.value) in
-    let count = forest_nodes c.as_slice-args.result.now in
-    let h = look_is shape c.requires.may in
+    let count = forest_nodes c.in-Call.args.now in
+    let h = look_is c.in-Call.ensures c.requires.may in
     omega (arith, count, h.room, c.values-in-Call.auto.env)
 
 pub look-ask-requires-clause-few : goal.look-ask-requires-clause-few
 look-ask-requires-clause-few t c =
-    let shape = call_by c.in-Call.field-0 c.in-Call.k (ap shown_term c.in-Call.is ∙ shown_term-Call c.in-Call.field-0 c.in-Call.k c.in-Call.ts) (ap shown_terms c.as_slice-args.ensures.value) in
-    let h = look_is shape c.requires.may in
+    let h = look_is c.in-Call.ensures c.requires.may in
     let few = may.call_few _ _ _ h.can in
     omega (
       arith,
       few,
-      step.count_forest c.as_slice-args.result.now,
+      step.count_forest c.in-Call.args.now,
       ap (λ (l : List Word). length l) c.words.ensures,
       step.part_few
-          (length c.as_slice-args.result.now) (drop c.args.spot.slots c.values-in-Call.new.env),
+          (length c.in-Call.args.now) (drop c.args.spot.slots c.values-in-Call.new.env),
     )
 
 pub look-returned-requires-clause-within : goal.look-returned-requires-clause-within
 look-returned-requires-clause-within t c =
-    let shape = call_by c.in-Call.field-0 c.in-Call.k (ap shown_term c.in-Call.is ∙ shown_term-Call c.in-Call.field-0 c.in-Call.k c.in-Call.ts) (ap shown_terms c.as_slice-args.ensures.value) in
-    let h = look_is shape c.requires.may in
+    let h = look_is c.in-Call.ensures c.requires.may in
     omega (arith, may.call_place _ _ _ h.can, h.can.all_sites)
 
 pub look-returned-requires-in-Call-clause-within : goal.look-returned-requires-in-Call-clause-within
 look-returned-requires-in-Call-clause-within t c =
-    let shape = call_by c.in-Call.field-0 c.in-Call.k (ap shown_term c.in-Call.is ∙ shown_term-Call c.in-Call.field-0 c.in-Call.k c.in-Call.ts) (ap shown_terms c.as_slice-args.ensures.value) in
-    let h = look_is shape c.requires.may in
+    let h = look_is c.in-Call.ensures c.requires.may in
     omega (arith, may.call_place _ _ _ h.can, h.can.all_sites)
 
 pub look-returns-after-values-2-clause-looks : goal.look-returns-after-values-2-clause-looks
 look-returns-after-values-2-clause-looks t c =
-    let shape = call_by c.in-Call.field-0 c.in-Call.k (ap shown_term c.in-Call.is ∙ shown_term-Call c.in-Call.field-0 c.in-Call.k c.in-Call.ts) (ap shown_terms c.as_slice-args.ensures.value) in
-    let h = look_is shape c.requires.may in
+    let h = look_is c.in-Call.ensures c.requires.may in
     let back = whole.ready_cell c.returned-in-Call.result c.returned-in-Call.new.word c.ready-in-Call.result c.ready-in-Call.ensures ∙ c.returned-in-Call.ensures in
-    whole.looks_is shape (elim c.if-values-2.branch [
-      | look-then-values-2 w ↦ whole.looks_asked (take (length c.as_slice-args.result.now) (drop c.args.spot.slots c.values-in-Call.new.env)) h
+    whole.looks_is c.in-Call.ensures (elim c.if-values-2.branch [
+      | look-then-values-2 w ↦ whole.looks_asked (take (length c.in-Call.args.now) (drop c.args.spot.slots c.values-in-Call.new.env)) h
           (whole.finds_all_slots c.part-in-Call.ensures.slots c.part-in-Call.ensures.at w.if-values-2.ensures.finds)
           (omega (arith, may.call_place _ _ _ h.can, c.values-in-Call.ensures.asks.long)) (ap Some w.words.ensures) (ap (λ (x : Wants). x.each.items) w.asks-is ∙ w.ask.ensures.each) back
       | look-else-values-2 w ↦ whole.looks_asks (ap (λ (x : Wants). x.each.items) w.asks-is)
@@ -343,56 +298,51 @@ look-returns-after-values-2-clause-looks t c =
 
 pub look-returns-then-has_returned-clause-looks : goal.look-returns-then-has_returned-clause-looks
 look-returns-then-has_returned-clause-looks t c =
-    let shape = call_by c.in-Call.field-0 c.in-Call.k (ap shown_term c.in-Call.is ∙ shown_term-Call c.in-Call.field-0 c.in-Call.k c.in-Call.ts) (ap shown_terms c.as_slice-args.ensures.value) in
-    let h = look_is shape c.requires.may in
+    let h = look_is c.in-Call.ensures c.requires.may in
     let back = whole.ready_cell c.returned.result c.returned.new.word c.ready-then-has_returned.result c.ready-then-has_returned.ensures ∙ c.returned.ensures in
-    whole.looks_is shape (whole.looks_returned h (c.has_returned.ensures c.if-has_returned.true) back)
+    whole.looks_is c.in-Call.ensures (whole.looks_returned h (c.has_returned.ensures c.if-has_returned.true) back)
 
 -- ---- tail calls
 
 pub look-values-requires-in-Loop : goal.look-values-requires-in-Loop
 look-values-requires-in-Loop t c =
-    let shape = loop_by c.in-Loop.field-0 (ap shown_term c.in-Loop.is ∙ shown_term-Loop c.in-Loop.field-0 c.in-Loop.ts) (ap shown_terms c.as_slice-passed.ensures.value) in
-    let size = ap nodes shape in
-    let count = forest_nodes c.as_slice-passed.result.now in
-    let h = look_is shape c.requires.may in
-    let smaller : 4 * nodes_in (shown_terms c.as_slice-passed.result.now) + 3 < 4 * nodes (shown_term c.args.t.now) = omega (arith, size) in (
+    let count = forest_nodes c.in-Loop.passed.now in
+    let h = look_is c.in-Loop.ensures c.requires.may in (
       search rules,
       (
-        look_all_at c.part-in-Loop.ensures.slots c.part-in-Loop.ensures.at c.part-in-Loop.ensures.news (part.may_loop (anew_is shape c.requires.anew) h),
+        look_all_at c.part-in-Loop.ensures.slots c.part-in-Loop.ensures.at c.part-in-Loop.ensures.news (part.may_loop (anew_is c.in-Loop.ensures c.requires.anew) h),
         (omega (arith, count, h.room), omega (arith, c.part-in-Loop.ensures.slots)),
       ),
     )
 
 pub look-returns-in-Loop-clause-looks : goal.look-returns-in-Loop-clause-looks
 look-returns-in-Loop-clause-looks t c =
-    let shape = loop_by c.in-Loop.field-0 (ap shown_term c.in-Loop.is ∙ shown_term-Loop c.in-Loop.field-0 c.in-Loop.ts) (ap shown_terms c.as_slice-passed.ensures.value) in
-    whole.looks_is shape (whole.looks_loop (whole.finds_all_slots c.part-in-Loop.ensures.slots c.part-in-Loop.ensures.at c.values-in-Loop.ensures.finds))
+    whole.looks_is c.in-Loop.ensures (whole.looks_loop (whole.finds_all_slots c.part-in-Loop.ensures.slots c.part-in-Loop.ensures.at c.values-in-Loop.ensures.finds))
 
 -- ---- constants and slots
 
 pub look-returns-in-Const-clause-looks : goal.look-returns-in-Const-clause-looks
 look-returns-in-Const-clause-looks t c =
-    whole.looks_is (ap shown_term c.in-Const.is) (whole.looks_const c.in-Const.number (whole.ready_cell c.put.result c.put.new.word c.ready.result c.ready.ensures ∙ c.put.ensures))
+    whole.looks_is c.in-Const.ensures (whole.looks_const c.in-Const.number (whole.ready_cell c.put.result c.put.new.word c.ready.result c.ready.ensures ∙ c.put.ensures))
 
 pub look-returns-in-Var-clause-looks : goal.look-returns-in-Var-clause-looks
 look-returns-in-Var-clause-looks t c =
-    let place = may.var_place c.in-Var.slot (may.can_is refl refl (ap shown_term c.in-Var.is) c.requires.may.can) in
+    let place = may.var_place c.in-Var.slot (may.can_is refl refl c.in-Var.ensures c.requires.may.can) in
     let read : c.index-env-slot.result ≡ _ = step.slot_is c.args.env.now c.args.spot.slots c.in-Var.slot _ place c.index-env-slot.is in
-    whole.looks_is (ap shown_term c.in-Var.is) (whole.looks_var c.in-Var.slot (whole.ready_cell c.put-in-Var.result c.put-in-Var.new.word c.ready-in-Var.result c.ready-in-Var.ensures
+    whole.looks_is c.in-Var.ensures (whole.looks_var c.in-Var.slot (whole.ready_cell c.put-in-Var.result c.put-in-Var.new.word c.ready-in-Var.result c.ready-in-Var.ensures
     ∙ (c.put-in-Var.ensures ∙ (ap Some (sym c.index-env-slot.is ∙ read) ∙ ap word_of
     (sym (step.answer_var (back_at c.args.facts.now.stages.now) (take c.args.spot.slots c.args.env.now) c.in-Var.slot))))))
 
 -- ---- operands
 
 pub operand-returns-in-Const-clause-finds : goal.operand-returns-in-Const-clause-finds
-operand-returns-in-Const-clause-finds t c = finds_is (ap shown_term c.in-Const.is) (whole.finds_const c.in-Const.number c.put.ensures)
+operand-returns-in-Const-clause-finds t c = finds_is c.in-Const.ensures (whole.finds_const c.in-Const.number c.put.ensures)
 
 pub operand-returns-in-Var-clause-finds : goal.operand-returns-in-Var-clause-finds
 operand-returns-in-Var-clause-finds t c =
-    let place = may.var_place c.in-Var.slot (may.can_is refl refl (ap shown_term c.in-Var.is) c.requires.can) in
+    let place = may.var_place c.in-Var.slot (may.can_is refl refl c.in-Var.ensures c.requires.can) in
     let read : c.index-env-slot.result ≡ _ = step.slot_is c.args.env.now c.args.spot.slots c.in-Var.slot _ place c.index-env-slot.is in
-    finds_is (ap shown_term c.in-Var.is) (whole.finds_var c.in-Var.slot
+    finds_is c.in-Var.ensures (whole.finds_var c.in-Var.slot
     (c.put-in-Var.ensures ∙ (ap Some (sym c.index-env-slot.is ∙ read) ∙ ap word_of
     (sym (step.answer_var (back_at c.args.facts.now.stages.now) (take c.args.spot.slots c.args.env.now) c.in-Var.slot)))))
 
@@ -400,8 +350,6 @@ pub pair-operand-requires : goal.pair-operand-requires
 pair-operand-requires t c =
     let e : c.args.ts.now ≡ c.only-item.result ∷ [] = one_item c.args.ts.now c.only-item.result c.in-len1.len_at_least c.in-len1.len_below c.only-item.is in
     let shape = ap shown_terms e in
-    let size = ap nodes_in shape in
-    let smaller : 4 * nodes (shown_term c.only-item.result) + 2 < 4 * nodes_in (shown_terms c.args.ts.now) + 3 = omega (arith, size) in
     (search rules, part.may_first (look_all_is shape c.requires.may))
 
 pub pair-returns-in-len1-clause-finds : goal.pair-returns-in-len1-clause-finds
@@ -417,17 +365,13 @@ pub pair-operand-first-requires : goal.pair-operand-first-requires
 pair-operand-first-requires t c =
     let e : c.args.ts.now ≡ c.a-item.result ∷ c.b-item.result ∷ [] = two_items c.args.ts.now c.a-item.result c.b-item.result c.in-len2.len_at_least c.in-len2.len_below c.a-item.is c.b-item.is in
     let shape = ap shown_terms e in
-    let size = ap nodes_in shape in
-    let smaller : 4 * nodes (shown_term c.a-item.result) + 2 < 4 * nodes_in (shown_terms c.args.ts.now) + 3 = omega (arith, size) in
     (search rules, part.may_first (look_all_is shape c.requires.may))
 
 pub pair-operand-second-requires : goal.pair-operand-second-requires
 pair-operand-second-requires t c =
     let e : c.args.ts.now ≡ c.a-item.result ∷ c.b-item.result ∷ [] = two_items c.args.ts.now c.a-item.result c.b-item.result c.in-len2.len_at_least c.in-len2.len_below c.a-item.is c.b-item.is in
     let shape = ap shown_terms e in
-    let size = ap nodes_in shape in
-    let h = look_all_is shape c.requires.may in
-    let smaller : 4 * nodes (shown_term c.b-item.result) + 2 < 4 * nodes_in (shown_terms c.args.ts.now) + 3 = omega (arith, size) in (
+    let h = look_all_is shape c.requires.may in (
       search rules,
       look_at c.after.ensures.slots refl c.after.ensures.news
           (part.may_first (part.may_rest (omega (arith, c.operand-first.ensures.asks.long)) (omega (arith, c.operand-first.auto.env))
@@ -473,18 +417,15 @@ pub values-operand-found-requires : goal.values-operand-found-requires
 values-operand-found-requires t c =
     let e : c.args.ts.now ≡ c.in-Some.first.now ∷ c.in-Some.rest.now = c.in-Some.ensures.cases.0 in
     let shape = ap shown_terms e in
-    let size = ap nodes_in shape in
-    let smaller : 4 * nodes (shown_term c.in-Some.first.now) + 2 < 4 * nodes_in (shown_terms c.args.ts.now) + 3 = omega (arith, size) in
     (search rules, part.may_first (look_all_is shape c.requires.may))
 
 pub values-values-ready-requires : goal.values-values-ready-requires
 values-values-ready-requires t c =
+    let some = some_nodes (shown_term c.in-Some.first.now) in
     let e : c.args.ts.now ≡ c.in-Some.first.now ∷ c.in-Some.rest.now = c.in-Some.ensures.cases.0 in
     let shape = ap shown_terms e in
-    let size = ap nodes_in shape in
     let long = ap (λ (x : List declared.Term). length x) e in
-    let h = look_all_is shape c.requires.may in
-    let smaller : 4 * nodes_in (shown_terms c.in-Some.rest.now) + 3 < 4 * nodes_in (shown_terms c.args.ts.now) + 3 = omega (arith, some_nodes (shown_term c.in-Some.first.now), size) in (
+    let h = look_all_is shape c.requires.may in (
       search rules,
       (
         look_all_at c.after.ensures.slots refl c.after.ensures.news

@@ -1,10 +1,8 @@
-use Rattle.std.proofs.Common.{rules, ◌≡◌, ◌+◌, ◌*◌, ◌<◌, refl, ap, ◌∙◌, arith}
+use Rattle.std.proofs.Common.{rules, ◌≡◌, ◌+◌, ◌*◌, ◌<◌, refl, ap, arith}
 use Rattle.std.proofs.lemmas.List.{nil_from_length}
 use Rattle.safl_term.specs.Sizes.{nodes, nodes_in}
 use Rattle.safl_term.specs.Tree.{shown_term, shown_terms}
-use Rattle.safl_term.proofs.PlainTrees.{shown_term-Op, shown_term-Loop, shown_term-Call, shown_term-Let}
-use Rattle.safl_term.proofs.PlainTerms.{if_by, let_by, op_by, some_nodes}
-use Rattle.safl_evaluate.proofs.AnswersByParts.{call_by, loop_by}
+use Rattle.safl_term.proofs.PlainTerms.{some_nodes}
 use Rattle.safl_evaluate.proofs.LaidByParts as part
 use Rattle.safl_evaluate.proofs.places.+lay.Goals as goal
 
@@ -52,144 +50,102 @@ lay_all-returns-clause-room t c =
     part.room_is shape (part.room_more c.lay-one.ensures.place (part.room_at c.lay-one.ensures.place.next c.lay_all-others.ensures.room)
     c.followed.ensures.first c.followed.ensures.second c.followed.ensures.next c.followed.ensures.plain c.followed.ensures.body)
 
-pub lay_parts-lay_all-bindings-requires : goal.lay_parts-lay_all-bindings-requires
-lay_parts-lay_all-bindings-requires t c =
-    let shape = let_by (ap shown_term c.in-Let.is ∙ shown_term-Let c.in-Let.field-0 c.in-Let.bound c.in-Let.body) (ap shown_terms c.as_slice.ensures.value) (ap shown_term c.deref-in-Let.ensures) in
-    let size = ap nodes shape in
-    let smaller : 3 * nodes_in (shown_terms c.as_slice.result.now) + 2 < 3 * nodes (shown_term c.args.t.now) = omega (arith, size) in
-    (search rules, omega (arith, size, c.requires, c.lay-below.ensures.place.next, c.lay-below.auto.places))
-
-pub lay_parts-lay_all-requires : goal.lay_parts-lay_all-requires
-lay_parts-lay_all-requires t c =
-    let shape = op_by c.in-Op.field-0 (ap shown_term c.in-Op.is ∙ shown_term-Op c.in-Op.field-0 c.in-Op.ts) (ap shown_terms c.as_slice-in-Op.ensures.value) in
-    let size = ap nodes shape in
-    let smaller : 3 * nodes_in (shown_terms c.as_slice-in-Op.result.now) + 2 < 3 * nodes (shown_term c.args.t.now) = omega (arith, size) in
-    (search rules, omega (arith, size, c.requires))
-
-pub lay_parts-lay_all-requires-in-Call : goal.lay_parts-lay_all-requires-in-Call
-lay_parts-lay_all-requires-in-Call t c =
-    let shape = call_by c.in-Call.field-0 c.in-Call.k (ap shown_term c.in-Call.is ∙ shown_term-Call c.in-Call.field-0 c.in-Call.k c.in-Call.ts) (ap shown_terms c.as_slice-in-Call.ensures.value) in
-    let size = ap nodes shape in
-    let smaller : 3 * nodes_in (shown_terms c.as_slice-in-Call.result.now) + 2 < 3 * nodes (shown_term c.args.t.now) = omega (arith, size) in
-    (search rules, omega (arith, size, c.requires))
-
-pub lay_parts-lay_all-requires-in-Loop : goal.lay_parts-lay_all-requires-in-Loop
-lay_parts-lay_all-requires-in-Loop t c =
-    let shape = loop_by c.in-Loop.field-0 (ap shown_term c.in-Loop.is ∙ shown_term-Loop c.in-Loop.field-0 c.in-Loop.ts) (ap shown_terms c.as_slice-in-Loop.ensures.value) in
-    let size = ap nodes shape in
-    let smaller : 3 * nodes_in (shown_terms c.as_slice-in-Loop.result.now) + 2 < 3 * nodes (shown_term c.args.t.now) = omega (arith, size) in
-    (search rules, omega (arith, size, c.requires))
-
 pub lay_parts-returns-in-Const-clause-laid : goal.lay_parts-returns-in-Const-clause-laid
 lay_parts-returns-in-Const-clause-laid t c =
-    part.below_is c.args.places.now c.args.at (ap shown_term c.in-Const.is) (part.below_const c.args.places.now c.args.at _)
+    part.below_is c.args.places.now c.args.at c.in-Const.ensures (part.below_const c.args.places.now c.args.at _)
 
 pub lay_parts-returns-in-Const-clause-place : goal.lay_parts-returns-in-Const-clause-place
 lay_parts-returns-in-Const-clause-place t c =
-    part.place_is (ap shown_term c.in-Const.is) (part.place_const c.empty.ensures.next c.empty.ensures.plain c.empty.ensures.body)
+    part.place_is c.in-Const.ensures (part.place_const c.empty.ensures.next c.empty.ensures.plain c.empty.ensures.body)
 
 pub lay_parts-returns-in-Var-clause-laid : goal.lay_parts-returns-in-Var-clause-laid
 lay_parts-returns-in-Var-clause-laid t c =
-    part.below_is c.args.places.now c.args.at (ap shown_term c.in-Var.is) (part.below_var c.args.places.now c.args.at _)
+    part.below_is c.args.places.now c.args.at c.in-Var.ensures (part.below_var c.args.places.now c.args.at _)
 
 pub lay_parts-returns-in-Var-clause-place : goal.lay_parts-returns-in-Var-clause-place
 lay_parts-returns-in-Var-clause-place t c =
-    part.place_is (ap shown_term c.in-Var.is) (part.place_var c.empty-in-Var.ensures.next c.empty-in-Var.ensures.plain c.empty-in-Var.ensures.body)
+    part.place_is c.in-Var.ensures (part.place_var c.empty-in-Var.ensures.next c.empty-in-Var.ensures.plain c.empty-in-Var.ensures.body)
 
 pub lay_parts-returns-in-If-clause-laid : goal.lay_parts-returns-in-If-clause-laid
 lay_parts-returns-in-If-clause-laid t c =
-    let shape = if_by (ap shown_term c.in-If.is) (ap shown_term c.deref.ensures) (ap shown_term c.deref-in-If.ensures) (ap shown_term c.deref-in-If-2.ensures) in
     let second = c.lay-first.ensures.place.next in
-    let third : c.lay-second.result.next ≡ c.args.at + 1 + nodes (shown_term c.deref.result.now) + nodes (shown_term c.deref-in-If.result.now) = omega
+    let third : c.lay-second.result.next ≡ c.args.at + 1 + nodes (shown_term c.in-If.condition.now) + nodes (shown_term c.in-If.a.now) = omega
     (arith, second, c.lay-second.ensures.place.next) in
-    let x = shown_term c.deref-in-If.result.now in
-    let y = shown_term c.deref-in-If-2.result.now in
-    part.below_is c.lay-third.new.places c.args.at shape (part.laid_if c.args.at (shown_term c.deref.result.now) x y c.lay-first.ensures.laid
+    let x = shown_term c.in-If.a.now in
+    let y = shown_term c.in-If.b.now in
+    part.below_is c.lay-third.new.places c.args.at c.in-If.ensures (part.laid_if c.args.at (shown_term c.in-If.condition.now) x y c.lay-first.ensures.laid
     (part.laid_at c.lay-second.new.places x second c.lay-second.ensures.laid)
     (part.laid_at c.lay-third.new.places y third c.lay-third.ensures.laid) (part.outside_at (nodes x) second c.lay-second.ensures.outside)
     (part.outside_at (nodes y) third c.lay-third.ensures.outside))
 
 pub lay_parts-returns-in-If-clause-place : goal.lay_parts-returns-in-If-clause-place
 lay_parts-returns-in-If-clause-place t c =
-    let shape = if_by (ap shown_term c.in-If.is) (ap shown_term c.deref.ensures) (ap shown_term c.deref-in-If.ensures) (ap shown_term c.deref-in-If-2.ensures) in
     let second = c.lay-first.ensures.place.next in
-    let third : c.lay-second.result.next ≡ c.args.at + 1 + nodes (shown_term c.deref.result.now) + nodes (shown_term c.deref-in-If.result.now) = omega
+    let third : c.lay-second.result.next ≡ c.args.at + 1 + nodes (shown_term c.in-If.condition.now) + nodes (shown_term c.in-If.a.now) = omega
     (arith, second, c.lay-second.ensures.place.next) in
-    part.place_is shape (part.place_if c.lay-first.ensures.place (part.place_at second c.lay-second.ensures.place)
+    part.place_is c.in-If.ensures (part.place_if c.lay-first.ensures.place (part.place_at second c.lay-second.ensures.place)
     (part.place_at third c.lay-third.ensures.place) c.either.ensures.first c.either.ensures.second c.followed.ensures.first c.followed.ensures.second
     c.followed.ensures.next c.either.ensures.next c.either.ensures.plain c.followed.ensures.plain c.either.ensures.body c.followed.ensures.body)
 
 pub lay_parts-returns-in-Let-clause-laid : goal.lay_parts-returns-in-Let-clause-laid
 lay_parts-returns-in-Let-clause-laid t c =
-    let shape = let_by (ap shown_term c.in-Let.is ∙ shown_term-Let c.in-Let.field-0 c.in-Let.bound c.in-Let.body) (ap shown_terms c.as_slice.ensures.value) (ap shown_term c.deref-in-Let.ensures) in
     let next = c.lay-below.ensures.place.next in
-    part.below_is c.lay_all-bindings.new.places c.args.at shape
-    (part.laid_let c.args.at (shown_terms c.as_slice.result.now) (shown_term c.deref-in-Let.result.now) c.lay-below.ensures.laid
-    (part.laid_in_at c.lay_all-bindings.new.places (shown_terms c.as_slice.result.now) next c.lay_all-bindings.ensures.laid)
-    (part.outside_at (nodes_in (shown_terms c.as_slice.result.now)) next c.lay_all-bindings.ensures.outside))
+    part.below_is c.lay_all-bindings.new.places c.args.at c.in-Let.ensures
+    (part.laid_let c.args.at (shown_terms c.in-Let.bound.now) (shown_term c.in-Let.body.now) c.lay-below.ensures.laid
+    (part.laid_in_at c.lay_all-bindings.new.places (shown_terms c.in-Let.bound.now) next c.lay_all-bindings.ensures.laid)
+    (part.outside_at (nodes_in (shown_terms c.in-Let.bound.now)) next c.lay_all-bindings.ensures.outside))
 
 pub lay_parts-returns-in-Let-clause-place : goal.lay_parts-returns-in-Let-clause-place
 lay_parts-returns-in-Let-clause-place t c =
-    let shape = let_by (ap shown_term c.in-Let.is ∙ shown_term-Let c.in-Let.field-0 c.in-Let.bound c.in-Let.body) (ap shown_terms c.as_slice.ensures.value) (ap shown_term c.deref-in-Let.ensures) in
     let next = c.lay-below.ensures.place.next in
-    part.place_is shape (part.place_let c.lay-below.ensures.place (part.room_at next c.lay_all-bindings.ensures.room) c.bound_in.ensures.first
+    part.place_is c.in-Let.ensures (part.place_let c.lay-below.ensures.place (part.room_at next c.lay_all-bindings.ensures.room) c.bound_in.ensures.first
     c.bound_in.ensures.second c.bound_in.ensures.next c.bound_in.ensures.plain c.bound_in.ensures.body)
 
 pub lay_parts-returns-in-Let-clause-outside : goal.lay_parts-returns-in-Let-clause-outside
 lay_parts-returns-in-Let-clause-outside t c =
-    let shape = let_by (ap shown_term c.in-Let.is ∙ shown_term-Let c.in-Let.field-0 c.in-Let.bound c.in-Let.body) (ap shown_terms c.as_slice.ensures.value) (ap shown_term c.deref-in-Let.ensures) in
-    let size = ap nodes shape in
+    let size = ap nodes c.in-Let.ensures in
     let next = c.lay-below.ensures.place.next in
     part.outside_both (part.outside_more c.lay-below.ensures.outside (omega arith) (omega (arith, size)))
     (part.outside_more c.lay_all-bindings.ensures.outside (omega (arith, next)) (omega (arith, next, size)))
 
 pub lay_parts-returns-in-Op-clause-laid : goal.lay_parts-returns-in-Op-clause-laid
 lay_parts-returns-in-Op-clause-laid t c =
-    let shape = op_by c.in-Op.field-0 (ap shown_term c.in-Op.is ∙ shown_term-Op c.in-Op.field-0 c.in-Op.ts) (ap shown_terms c.as_slice-in-Op.ensures.value) in
-    part.below_is c.lay_all.new.places c.args.at shape (part.below_op c.lay_all.new.places c.args.at c.in-Op.field-0 (shown_terms c.as_slice-in-Op.result.now) c.lay_all.ensures.laid)
+    part.below_is c.lay_all.new.places c.args.at c.in-Op.ensures (part.below_op c.lay_all.new.places c.args.at c.in-Op.field-0 (shown_terms c.in-Op.ts.now) c.lay_all.ensures.laid)
 
 pub lay_parts-returns-in-Op-clause-place : goal.lay_parts-returns-in-Op-clause-place
 lay_parts-returns-in-Op-clause-place t c =
-    let shape = op_by c.in-Op.field-0 (ap shown_term c.in-Op.is ∙ shown_term-Op c.in-Op.field-0 c.in-Op.ts) (ap shown_terms c.as_slice-in-Op.ensures.value) in
-    part.place_is shape (part.place_op c.lay_all.ensures.room)
+    part.place_is c.in-Op.ensures (part.place_op c.lay_all.ensures.room)
 
 pub lay_parts-returns-in-Op-clause-outside : goal.lay_parts-returns-in-Op-clause-outside
 lay_parts-returns-in-Op-clause-outside t c =
-    let shape = op_by c.in-Op.field-0 (ap shown_term c.in-Op.is ∙ shown_term-Op c.in-Op.field-0 c.in-Op.ts) (ap shown_terms c.as_slice-in-Op.ensures.value) in
-    let size = ap nodes shape in
+    let size = ap nodes c.in-Op.ensures in
     part.outside_more c.lay_all.ensures.outside (omega arith) (omega (arith, size))
 
 pub lay_parts-returns-in-Call-clause-laid : goal.lay_parts-returns-in-Call-clause-laid
 lay_parts-returns-in-Call-clause-laid t c =
-    let shape = call_by c.in-Call.field-0 c.in-Call.k (ap shown_term c.in-Call.is ∙ shown_term-Call c.in-Call.field-0 c.in-Call.k c.in-Call.ts) (ap shown_terms c.as_slice-in-Call.ensures.value) in
-    part.below_is c.lay_all-in-Call.new.places c.args.at shape
-    (part.below_call c.lay_all-in-Call.new.places c.args.at c.in-Call.field-0 c.in-Call.k (shown_terms c.as_slice-in-Call.result.now) c.lay_all-in-Call.ensures.laid)
+    part.below_is c.lay_all-in-Call.new.places c.args.at c.in-Call.ensures
+    (part.below_call c.lay_all-in-Call.new.places c.args.at c.in-Call.field-0 c.in-Call.k (shown_terms c.in-Call.ts.now) c.lay_all-in-Call.ensures.laid)
 
 pub lay_parts-returns-in-Call-clause-place : goal.lay_parts-returns-in-Call-clause-place
 lay_parts-returns-in-Call-clause-place t c =
-    let shape = call_by c.in-Call.field-0 c.in-Call.k (ap shown_term c.in-Call.is ∙ shown_term-Call c.in-Call.field-0 c.in-Call.k c.in-Call.ts) (ap shown_terms c.as_slice-in-Call.ensures.value) in
-    part.place_is shape (part.place_call c.lay_all-in-Call.ensures.room c.with_site.ensures.others c.with_site.ensures.next c.with_site.ensures.first
+    part.place_is c.in-Call.ensures (part.place_call c.lay_all-in-Call.ensures.room c.with_site.ensures.others c.with_site.ensures.next c.with_site.ensures.first
     c.with_site.ensures.last c.with_site.ensures.plain c.with_site.ensures.body)
 
 pub lay_parts-returns-in-Call-clause-outside : goal.lay_parts-returns-in-Call-clause-outside
 lay_parts-returns-in-Call-clause-outside t c =
-    let shape = call_by c.in-Call.field-0 c.in-Call.k (ap shown_term c.in-Call.is ∙ shown_term-Call c.in-Call.field-0 c.in-Call.k c.in-Call.ts) (ap shown_terms c.as_slice-in-Call.ensures.value) in
-    let size = ap nodes shape in
+    let size = ap nodes c.in-Call.ensures in
     part.outside_more c.lay_all-in-Call.ensures.outside (omega arith) (omega (arith, size))
 
 pub lay_parts-returns-in-Loop-clause-laid : goal.lay_parts-returns-in-Loop-clause-laid
 lay_parts-returns-in-Loop-clause-laid t c =
-    let shape = loop_by c.in-Loop.field-0 (ap shown_term c.in-Loop.is ∙ shown_term-Loop c.in-Loop.field-0 c.in-Loop.ts) (ap shown_terms c.as_slice-in-Loop.ensures.value) in
-    part.below_is c.lay_all-in-Loop.new.places c.args.at shape
-    (part.below_loop c.lay_all-in-Loop.new.places c.args.at c.in-Loop.field-0 (shown_terms c.as_slice-in-Loop.result.now) c.lay_all-in-Loop.ensures.laid)
+    part.below_is c.lay_all-in-Loop.new.places c.args.at c.in-Loop.ensures
+    (part.below_loop c.lay_all-in-Loop.new.places c.args.at c.in-Loop.field-0 (shown_terms c.in-Loop.ts.now) c.lay_all-in-Loop.ensures.laid)
 
 pub lay_parts-returns-in-Loop-clause-place : goal.lay_parts-returns-in-Loop-clause-place
 lay_parts-returns-in-Loop-clause-place t c =
-    let shape = loop_by c.in-Loop.field-0 (ap shown_term c.in-Loop.is ∙ shown_term-Loop c.in-Loop.field-0 c.in-Loop.ts) (ap shown_terms c.as_slice-in-Loop.ensures.value) in
-    part.place_is shape (part.place_loop c.lay_all-in-Loop.ensures.room c.with_loop.ensures)
+    part.place_is c.in-Loop.ensures (part.place_loop c.lay_all-in-Loop.ensures.room c.with_loop.ensures)
 
 pub lay_parts-returns-in-Loop-clause-outside : goal.lay_parts-returns-in-Loop-clause-outside
 lay_parts-returns-in-Loop-clause-outside t c =
-    let shape = loop_by c.in-Loop.field-0 (ap shown_term c.in-Loop.is ∙ shown_term-Loop c.in-Loop.field-0 c.in-Loop.ts) (ap shown_terms c.as_slice-in-Loop.ensures.value) in
-    let size = ap nodes shape in
+    let size = ap nodes c.in-Loop.ensures in
     part.outside_more c.lay_all-in-Loop.ensures.outside (omega arith) (omega (arith, size))

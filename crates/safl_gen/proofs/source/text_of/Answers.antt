@@ -2,7 +2,7 @@ use Rattle.std.proofs.Common.{◌≡◌, ◌≤◌, ◌-◌, [], List, ℕ, ◌+
 use Rattle.safl_gen.specs.Draws.{draw}
 use Rattle.std.specs.List.{concat, range_with_len}
 use Rattle.safl_word.proofs.Lists.{concat_more}
-use Rattle.safl_gen.specs.Source.{drawn_line, main_line, source}
+use Rattle.safl_gen.specs.Source.{drawn_line, main_line, source_text}
 use Rattle.safl_gen.proofs.DrawsInOrder.{draws_first, draws_more, line_drawn}
 use Rattle.safl_gen.proofs.Lengths.{source_short}
 use Rattle.safl_gen.proofs.source.text_of.Goals as goal
@@ -32,7 +32,7 @@ returns c =
     let count = c.args.count in
     let end : c.loop-i.i ≡ count = omega arith in
     let lines = c.loop-i.invariant.written ∙ ap (λ (n : ℕ). concat (map (drawn_line (draw seed)) (range_with_len 0 n))) end in
-    let made : c.push_main.new.out.items ≡ source (draw seed) count = c.in_ok-push_main.ensures ∙ ap (λ (l : List ℕ). l ++ main_line (count - 1)) lines in
+    let made : c.push_main.new.out.items ≡ source_text (draw seed) count = c.in_ok-push_main.ensures ∙ ap (λ (l : List ℕ). l ++ main_line (count - 1)) lines in
     record {
       source = made;
       short = subst (λ (l : List ℕ). length l ≤ 1048576) (sym made) (source_short (draw seed) count c.requires.most);

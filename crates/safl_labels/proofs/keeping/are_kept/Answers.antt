@@ -1,6 +1,4 @@
-use Rattle.std.proofs.Common.{◌≡◌, ◌<◌, ◌≤◌, ℕ, true, length, subst, sym, ap, ◌∙◌, arith}
-use Rattle.safl_labels.specs.Kept.{IsKept}
-use Rattle.safl_labels.specs.Shown.{shown_labels}
+use Rattle.std.proofs.Common.{◌≤◌, length, arith}
 use Rattle.safl_labels.proofs.Kept.{labelling_of}
 use Rattle.safl_labels.proofs.keeping.are_kept.Goals as goal
 

@@ -1,4 +1,4 @@
-use Rattle.std.proofs.Common.{◌≡◌, true, ℕ, refl, sym, ap, subst, ◌∙◌}
+use Rattle.std.proofs.Common.{sym, ap, subst, ◌∙◌}
 use Rattle.safl_calls.specs.Labels.{Twins}
 use Rattle.safl_labels.specs.Shown.{shown_labels}
 use Rattle.safl_labels.proofs.Alike.{same_bits, suffices_twins}

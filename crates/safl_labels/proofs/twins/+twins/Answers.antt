@@ -1,21 +1,16 @@
-use Rattle.std.proofs.Common.{rules, ◌≡◌, ℕ, ◌+◌, ◌*◌, ◌<◌, ◌≤◌, List, [], ◌∷◌, ◌++◌, Bool, true, false, take, length, refl, sym, ap, subst, ◌∙◌, arith}
-use Rattle.std.proofs.lemmas.Bool.{false≢true, true≢false}
-use Rattle.std.proofs.lemmas.List.{take_all}
+use Rattle.std.proofs.Common.{rules, ◌≡◌, ◌+◌, ◌*◌, ◌<◌, [], ◌∷◌, ◌++◌, Bool, true, false, take, length, refl, sym, ap, subst, ◌∙◌, arith}
+use Rattle.std.proofs.lemmas.Bool.{true≢false}
 use Rattle.std.proofs.lemmas.Option.{slice_get_read}
-use Rattle.safl_calls.specs.Labels.{Twins, t_plain, t_nil, AllTwins, all_public}
-use Rattle.safl_term.specs.declared.term.Term as declared
+use Rattle.safl_calls.specs.Labels.{t_plain, t_nil, AllTwins}
 use Rattle.safl_term.specs.Sizes.{nodes, nodes_in}
-use Rattle.safl_term.specs.Terms.{Term, Terms, Const, Var, Op, If, Let, Call, Loop}
+use Rattle.safl_term.specs.Terms.{Op}
 use Rattle.safl_term.specs.Tree.{shown_term, shown_terms}
-use Rattle.safl_term.proofs.PlainTerms.{if_by, let_by, op_by}
-use Rattle.safl_term.proofs.PlainTrees.{shown_term-Op, shown_term-Loop, shown_term-Call, shown_term-Let}
 use Rattle.std.specs.Option.{IfSome}
-use Rattle.std.specs.Result.{IfOk}
 use Rattle.safl_word.specs.declared.primitive.Primitive.{Primitive}
 use Rattle.safl_labels.specs.declared.likeness.Likeness.{Likeness}
 use Rattle.safl_labels.specs.Likeness.{IsLike, is_word_of, least_of}
 use Rattle.safl_labels.specs.Shown.{shown_labels}
-use Rattle.safl_labels.specs.Walks.{AreLike, AreAllLike, shown_if}
+use Rattle.safl_labels.specs.Walks.{AreAllLike, shown_if}
 use Rattle.safl_labels.proofs.Alike
 use Rattle.safl_labels.proofs.Lists.{node_at, twins_at, all_more}
 use Rattle.safl_labels.proofs.twins.+twins.Goals as goal
@@ -82,21 +77,13 @@ compare_all-loop-i-preserved t c = λ z.
           (twins_at L ls _ _ c.in_ok-next.next c.in_ok-next.ensures (sym w.is_apart-is_apart.ensures ∙ (sym w.is_apart-is ∙ z))))
     ]
 
-pub compare_calls-compare_all-requires : goal.compare_calls-compare_all-requires
-compare_calls-compare_all-requires t c =
-    let e = ap shown_term c.in-Call.is ∙ shown_term-Call c.in-Call.g c.in-Call.l c.in-Call.us in
-    let smaller : 10 * (nodes_in (shown_terms c.args.ts.now) + nodes_in (shown_terms c.deref.result.now)) + 9
-    < 10 * (nodes_in (shown_terms c.args.ts.now) + nodes (shown_term c.args.u.now)) + 9 =
-    omega (arith, ap nodes e, ap (λ (x : List declared.Term). nodes_in (shown_terms x)) c.deref.ensures.value) in
-    search rules
-
 pub compare_calls-returns-in-Some : goal.compare_calls-returns-in-Some
 compare_calls-returns-in-Some t c =
     let L = shown_labels c.args.walk.now.labels.now in
     let ls = c.args.walk.now.slots.now in
-    let e = Alike.call_by (ap shown_term c.in-Call.is ∙ shown_term-Call c.in-Call.g c.in-Call.l c.in-Call.us) c.if-f-g.false c.if-k-l.false (ap shown_terms c.deref.ensures.value) in
-    let all = subst (λ o. IfSome o (λ found. AreAllLike c.args.walk.now (shown_terms c.args.ts.now) (shown_terms c.deref.result.now) found.items)) c.in-Some.is c.in_ok-found.ensures in
-    Alike.ok_then c.pass.result (λ m h. Alike.calls_by L ls c.args.f c.args.k _ _ _ _ _ m e all c.deref-in-Some.ensures.value h) c.pass.ensures
+    let e = Alike.call_by c.in-Call.ensures c.if-f-g.false c.if-k-l.false in
+    let all = subst (λ o. IfSome o (λ found. AreAllLike c.args.walk.now (shown_terms c.args.ts.now) (shown_terms c.in-Call.us.now) found.items)) c.in-Some.is c.in_ok-found.ensures in
+    Alike.ok_then c.pass.result (λ m h. Alike.calls_by L ls c.args.f c.args.k _ _ _ _ _ m e all c.deref.ensures.value h) c.pass.ensures
 
 pub compare_choices-returns-in-SameWord : goal.compare_choices-returns-in-SameWord
 compare_choices-returns-in-SameWord t c =
@@ -131,120 +118,47 @@ compare_right-returns t c =
     subst (IsLike L ls (shown_term c.args.t.now) (shown_if c.args.choice)) (sym c.least.ensures)
     (Alike.right_alike L ls _ _ _ _ c.in_ok-first.first c.in_ok-second.second (c.is_plain.ensures c.if-not-is_plain.false) c.in_ok-first.ensures c.in_ok-second.ensures)
 
-pub compare_lets-compare_all-requires : goal.compare_lets-compare_all-requires
-compare_lets-compare_all-requires t c =
-    let e = ap shown_term c.in-Let.is ∙ shown_term-Let c.in-Let.field-0 c.in-Let.us c.in-Let.other in
-    let smaller : 10 * (nodes_in (shown_terms c.args.ts.now) + nodes_in (shown_terms c.deref.result.now)) + 9
-    < 10 * (nodes_in (shown_terms c.args.ts.now) + nodes (shown_term c.args.body.now) + nodes (shown_term c.args.u.now)) + 9 =
-    omega (arith, ap nodes e, ap (λ (x : List declared.Term). nodes_in (shown_terms x)) c.deref.ensures.value) in
-    search rules
-
 pub compare_lets-returns : goal.compare_lets-returns
 compare_lets-returns t c =
     let L = shown_labels c.args.walk.now.labels.now in
     let ls = c.args.walk.now.slots.now in
-    let e = let_by (ap shown_term c.in-Let.is ∙ shown_term-Let c.in-Let.field-0 c.in-Let.us c.in-Let.other) (ap shown_terms c.deref.ensures.value) (ap shown_term c.deref-4.ensures) in
-    let all = subst (λ o. IfSome o (λ found. AreAllLike c.args.walk.now (shown_terms c.args.ts.now) (shown_terms c.deref.result.now) found.items)) c.in-Some.is c.in_ok-bound.ensures in
-    let slots : c.deref-3.result.now ≡ ls ++ c.in-Some.bound.items = c.deref-3.ensures.value
+    let all = subst (λ o. IfSome o (λ found. AreAllLike c.args.walk.now (shown_terms c.args.ts.now) (shown_terms c.in-Let.us.now) found.items)) c.in-Some.is c.in_ok-bound.ensures in
+    let slots : c.deref-2.result.now ≡ ls ++ c.in-Some.bound.items = c.deref-2.ensures.value
     ∙ (c.in_ok-extend_from_slice.ensures.items
-    ∙ (ap (λ l. l ++ c.deref-2.result.now) (c.in_ok-slots.ensures.items_if_clones_equal (λ x y h. h)) ∙ ap (λ l. ls ++ l) c.deref-2.ensures.value)) in
-    Alike.ok_then c.compare.result (λ m h. Alike.lets_by L ls _ _ _ _ _ _ _ m e all slots h) c.compare.ensures
-
-pub compare_loops-compare_all-requires : goal.compare_loops-compare_all-requires
-compare_loops-compare_all-requires t c =
-    let e = ap shown_term c.in-Loop.is ∙ shown_term-Loop c.in-Loop.g c.in-Loop.us in
-    let smaller : 10 * (nodes_in (shown_terms c.args.ts.now) + nodes_in (shown_terms c.deref.result.now)) + 9
-    < 10 * (nodes_in (shown_terms c.args.ts.now) + nodes (shown_term c.args.u.now)) + 9 =
-    omega (arith, ap nodes e, ap (λ (x : List declared.Term). nodes_in (shown_terms x)) c.deref.ensures.value) in
-    search rules
+    ∙ (ap (λ l. l ++ c.deref.result.now) (c.in_ok-slots.ensures.items_if_clones_equal (λ x y h. h)) ∙ ap (λ l. ls ++ l) c.deref.ensures.value)) in
+    Alike.ok_then c.compare.result (λ m h. Alike.lets_by L ls _ _ _ _ _ _ _ m c.in-Let.ensures all slots h) c.compare.ensures
 
 pub compare_loops-returns-in-Some : goal.compare_loops-returns-in-Some
 compare_loops-returns-in-Some t c =
     let L = shown_labels c.args.walk.now.labels.now in
     let ls = c.args.walk.now.slots.now in
-    let e = Alike.loop_by (ap shown_term c.in-Loop.is ∙ shown_term-Loop c.in-Loop.g c.in-Loop.us) c.if-h-g.false (ap shown_terms c.deref.ensures.value) in
-    let all = subst (λ o. IfSome o (λ found. AreAllLike c.args.walk.now (shown_terms c.args.ts.now) (shown_terms c.deref.result.now) found.items)) c.in-Some.is c.in_ok-found.ensures in
-    Alike.ok_then c.pass.result (λ m h. Alike.loops_by L ls c.args.h _ _ _ _ _ m e all c.deref-in-Some.ensures.value h) c.pass.ensures
-
-pub compare_parts-compare_all-requires : goal.compare_parts-compare_all-requires
-compare_parts-compare_all-requires t c =
-    let e = ap shown_term c.in-Op.is ∙ shown_term-Op c.in-Op.p c.in-Op.us in
-    let smaller : 10 * (nodes_in (shown_terms c.args.ts.now) + nodes_in (shown_terms c.deref.result.now)) + 9
-    < 10 * (nodes_in (shown_terms c.args.ts.now) + nodes (shown_term c.args.u.now)) + 9 =
-    omega (arith, ap nodes e, ap (λ (x : List declared.Term). nodes_in (shown_terms x)) c.deref.ensures.value) in
-    search rules
+    let e = Alike.loop_by c.in-Loop.ensures c.if-h-g.false in
+    let all = subst (λ o. IfSome o (λ found. AreAllLike c.args.walk.now (shown_terms c.args.ts.now) (shown_terms c.in-Loop.us.now) found.items)) c.in-Some.is c.in_ok-found.ensures in
+    Alike.ok_then c.pass.result (λ m h. Alike.loops_by L ls c.args.h _ _ _ _ _ m e all c.deref.ensures.value h) c.pass.ensures
 
 pub compare_parts-returns-in-Some : goal.compare_parts-returns-in-Some
 compare_parts-returns-in-Some t c =
     let L = shown_labels c.args.walk.now.labels.now in
     let ls = c.args.walk.now.slots.now in
     let same = c.are_same.ensures c.if-not-are_same.false in
-    let e = op_by c.args.o (ap shown_term c.in-Op.is ∙ (shown_term-Op c.in-Op.p c.in-Op.us ∙ ap (λ (p : Primitive). Op p (shown_terms c.in-Op.us.items)) (sym same)))
-    (ap shown_terms c.deref.ensures.value) in
-    let all = subst (λ o. IfSome o (λ found. AreAllLike c.args.walk.now (shown_terms c.args.ts.now) (shown_terms c.deref.result.now) found.items)) c.in-Some.is c.in_ok-found.ensures in
-    Alike.ops_by L ls c.args.o _ _ _ _ _ _ c.word_if.result e all c.deref-in-Some.ensures.value c.are_public.ensures c.word_if.ensures
-
-pub compare_shapes-compare_parts-requires : goal.compare_shapes-compare_parts-requires
-compare_shapes-compare_parts-requires t c =
-    let e = ap shown_term c.in-Op.is ∙ shown_term-Op c.in-Op.o c.in-Op.ts in
-    let smaller : 10 * (nodes_in (shown_terms c.deref-in-Op.result.now) + nodes (shown_term c.args.u.now)) + 9
-    < 10 * (nodes (shown_term c.args.t.now) + nodes (shown_term c.args.u.now)) + 7 =
-    omega (arith, ap nodes e, ap (λ (x : List declared.Term). nodes_in (shown_terms x)) c.deref-in-Op.ensures.value) in
-    search rules
-
-pub compare_shapes-compare_lets-requires : goal.compare_shapes-compare_lets-requires
-compare_shapes-compare_lets-requires t c =
-    let e = ap shown_term c.in-Let.is ∙ shown_term-Let c.in-Let.field-0 c.in-Let.ts c.in-Let.body in
-    let smaller : 10 * (nodes_in (shown_terms c.deref-in-Let.result.now) + nodes (shown_term c.deref-in-Let-2.result.now) + nodes (shown_term c.args.u.now)) + 9
-    < 10 * (nodes (shown_term c.args.t.now) + nodes (shown_term c.args.u.now)) + 7 =
-    omega (
-      arith,
-      ap nodes e,
-      ap (λ (x : List declared.Term). nodes_in (shown_terms x)) c.deref-in-Let.ensures.value,
-      ap (λ (x : declared.Term). nodes (shown_term x)) c.deref-in-Let-2.ensures,
-    ) in
-    search rules
-
-pub compare_shapes-compare_calls-requires : goal.compare_shapes-compare_calls-requires
-compare_shapes-compare_calls-requires t c =
-    let e = ap shown_term c.in-Call.is ∙ shown_term-Call c.in-Call.f c.in-Call.k c.in-Call.ts in
-    let smaller : 10 * (nodes_in (shown_terms c.deref-in-Call.result.now) + nodes (shown_term c.args.u.now)) + 9
-    < 10 * (nodes (shown_term c.args.t.now) + nodes (shown_term c.args.u.now)) + 7 =
-    omega (arith, ap nodes e, ap (λ (x : List declared.Term). nodes_in (shown_terms x)) c.deref-in-Call.ensures.value) in
-    search rules
-
-pub compare_shapes-compare_loops-requires : goal.compare_shapes-compare_loops-requires
-compare_shapes-compare_loops-requires t c =
-    let e = ap shown_term c.in-Loop.is ∙ shown_term-Loop c.in-Loop.h c.in-Loop.ts in
-    let smaller : 10 * (nodes_in (shown_terms c.deref-in-Loop.result.now) + nodes (shown_term c.args.u.now)) + 9
-    < 10 * (nodes (shown_term c.args.t.now) + nodes (shown_term c.args.u.now)) + 7 =
-    omega (arith, ap nodes e, ap (λ (x : List declared.Term). nodes_in (shown_terms x)) c.deref-in-Loop.ensures.value) in
-    search rules
+    let e = c.in-Op.ensures ∙ ap (λ (p : Primitive). Op p (shown_terms c.in-Op.us.now)) (sym same) in
+    let all = subst (λ o. IfSome o (λ found. AreAllLike c.args.walk.now (shown_terms c.args.ts.now) (shown_terms c.in-Op.us.now) found.items)) c.in-Some.is c.in_ok-found.ensures in
+    Alike.ops_by L ls c.args.o _ _ _ _ _ _ c.word_if.result e all c.deref.ensures.value c.are_public.ensures c.word_if.ensures
 
 pub compare_shapes-returns-in-Const : goal.compare_shapes-returns-in-Const
-compare_shapes-returns-in-Const t c =
-    subst (λ (x : Term). AreLike c.args.walk.now x (shown_term c.args.u.now) c.compare_word.result) (sym (ap shown_term c.in-Const.is)) (c.compare_word.ensures _ _)
+compare_shapes-returns-in-Const t c = rw c.in-Const.ensures (c.compare_word.ensures _ _)
 
 pub compare_shapes-returns-in-Var : goal.compare_shapes-returns-in-Var
-compare_shapes-returns-in-Var t c =
-    subst (λ (x : Term). AreLike c.args.walk.now x (shown_term c.args.u.now) c.compare_slot.result) (sym (ap shown_term c.in-Var.is)) (c.compare_slot.ensures _)
+compare_shapes-returns-in-Var t c = rw c.in-Var.ensures (c.compare_slot.ensures _)
 
 pub compare_shapes-returns-in-Op : goal.compare_shapes-returns-in-Op
-compare_shapes-returns-in-Op t c =
-    let e = op_by c.in-Op.o (ap shown_term c.in-Op.is ∙ shown_term-Op c.in-Op.o c.in-Op.ts) (ap shown_terms c.deref-in-Op.ensures.value) in
-    subst (λ (x : Term). IfOk c.compare_parts.result (AreLike c.args.walk.now x (shown_term c.args.u.now))) (sym e) c.compare_parts.ensures
+compare_shapes-returns-in-Op t c = rw c.in-Op.ensures c.compare_parts.ensures
 
 pub compare_shapes-returns-in-Let : goal.compare_shapes-returns-in-Let
-compare_shapes-returns-in-Let t c =
-    let e = let_by (ap shown_term c.in-Let.is ∙ shown_term-Let c.in-Let.field-0 c.in-Let.ts c.in-Let.body) (ap shown_terms c.deref-in-Let.ensures.value) (ap shown_term c.deref-in-Let-2.ensures) in
-    subst (λ (x : Term). IfOk c.compare_lets.result (AreLike c.args.walk.now x (shown_term c.args.u.now))) (sym e) c.compare_lets.ensures
+compare_shapes-returns-in-Let t c = rw c.in-Let.ensures c.compare_lets.ensures
 
 pub compare_shapes-returns-in-Call : goal.compare_shapes-returns-in-Call
-compare_shapes-returns-in-Call t c =
-    let e = Alike.call_by (ap shown_term c.in-Call.is ∙ shown_term-Call c.in-Call.f c.in-Call.k c.in-Call.ts) refl refl (ap shown_terms c.deref-in-Call.ensures.value) in
-    subst (λ (x : Term). IfOk c.compare_calls.result (AreLike c.args.walk.now x (shown_term c.args.u.now))) (sym e) c.compare_calls.ensures
+compare_shapes-returns-in-Call t c = rw c.in-Call.ensures c.compare_calls.ensures
 
 pub compare_shapes-returns-in-Loop : goal.compare_shapes-returns-in-Loop
-compare_shapes-returns-in-Loop t c =
-    let e = Alike.loop_by (ap shown_term c.in-Loop.is ∙ shown_term-Loop c.in-Loop.h c.in-Loop.ts) refl (ap shown_terms c.deref-in-Loop.ensures.value) in
-    subst (λ (x : Term). IfOk c.compare_loops.result (AreLike c.args.walk.now x (shown_term c.args.u.now))) (sym e) c.compare_loops.ensures
+compare_shapes-returns-in-Loop t c = rw c.in-Loop.ensures c.compare_loops.ensures

@@ -1,7 +1,6 @@
-use Rattle.std.proofs.Common.{◌≡◌, ℕ, true, refl, sym, ap, subst, ◌∙◌}
+use Rattle.std.proofs.Common.{◌≡◌, ℕ, true, sym, ap, subst, ◌∙◌}
 use Rattle.safl_calls.specs.Labels.{Twins, t_const}
 use Rattle.safl_term.specs.Terms.{Term, Const}
-use Rattle.safl_term.specs.Tree.{shown_term}
 use Rattle.safl_word.specs.Words.{Word}
 use Rattle.safl_labels.proofs.twins.compare_word.Goals as goal
 
@@ -12,5 +11,5 @@ pub returns-then-bits : goal.returns-then-bits
 returns-then-bits c = λ L ls.
     let w = sym c.width.ensures.value ∙ (c.if-width.true ∙ c.width-in-Const.ensures.value) in
     let b = sym c.bits.ensures.value ∙ (c.if-bits.true ∙ c.bits-then-width.ensures.value) in
-    let e = ap shown_term c.in-Const.is ∙ ap Const (sym (same_word c.args.word c.in-Const.other w b)) in
+    let e = c.in-Const.ensures ∙ ap Const (sym (same_word c.args.word c.in-Const.other w b)) in
     subst (λ (u : Term). Twins L ls (Const c.args.word) u true) (sym e) t_const

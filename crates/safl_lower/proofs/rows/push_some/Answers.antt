@@ -1,4 +1,4 @@
-use Rattle.std.proofs.Common.{◌≡◌, ℕ, ◌==◌, [], ◌++◌, cond, Bool, true, false, List, Option, sym, ap, ◌∙◌}
+use Rattle.std.proofs.Common.{◌≡◌, ◌==◌, [], ◌++◌, cond, Bool, true, false, List, Option, sym, ap, ◌∙◌}
 use Rattle.safl_word.proofs.Lists.{nil_at_end}
 use Rattle.safl_net.specs.declared.cell.Sig.{Sig}
 use Rattle.safl_lower.specs.Rows.{maybe_one, row_at}

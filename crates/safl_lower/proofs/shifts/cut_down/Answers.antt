@@ -1,4 +1,4 @@
-use Rattle.std.proofs.Common.{◌≡◌, ℕ, ◌<◌, ◌%◌, ◌^◌, [], ◌∷◌, refl, subst, ap, ◌∙◌, arith}
+use Rattle.std.proofs.Common.{ℕ, ◌<◌, ◌%◌, ◌^◌, [], ◌∷◌, refl, subst, ap, ◌∙◌, arith}
 use Rattle.safl_word.specs.Words.{Word}
 use Rattle.safl_net.proofs.Growth.{grows_on, width_is}
 use Rattle.safl_lower.proofs.Shifting.{compared_width, low_width, cut_value, cut_narrow}

@@ -1,20 +1,20 @@
-use Rattle.std.proofs.Common.{rules, ◌≡◌, ℕ, suc, ◌-◌, ◌*◌, ◌<◌, ◌++◌, List, [], ◌∷◌, map, drop, length, slice_index_or, Option, Some, Bool, ◌&&◌}
-use Rattle.std.proofs.Common.{◌||◌, not, ◌+◌, ◌≤◌, ◌/◌, refl, sym, ap, subst, ◌∙◌, arith}
+use Rattle.std.proofs.Common.{◌≡◌, ℕ, ◌-◌, ◌++◌, List, ◌∷◌, drop, length, slice_index_or, Option, Some}
+use Rattle.std.proofs.Common.{◌+◌, ◌/◌, sym, ap, subst, ◌∙◌, arith}
 use Rattle.safl_word.specs.Words.{Word}
 use Rattle.std.specs.Option.{option_or}
 use Rattle.safl_net.specs.declared.cell.Sig.{Sig}
-use Rattle.safl_net.specs.Growth.{Val, Wired, words}
+use Rattle.safl_net.specs.Growth.{words}
 use Rattle.safl_net.proofs.Growth.{wired_before}
 use Rattle.safl_net.specs.Bits.{on}
 use Rattle.safl_net.specs.Bits.{gate}
 use Rattle.safl_lower.specs.declared.loads.Load.{Load}
-use Rattle.safl_lower.specs.Sources.{IsSource, AreSources, Builds, HasRoom}
-use Rattle.safl_lower.specs.Tables.{taken, LoadFits}
-use Rattle.safl_lower.specs.Rows.{AreBits, on_any, frees, AllFit, first_taken, row_gates}
-use Rattle.safl_lower.proofs.Building.{builds_on, builds_within, source_kept, sources_kept}
+use Rattle.safl_lower.specs.Sources.{AreSources}
+use Rattle.safl_lower.specs.Tables.{taken}
+use Rattle.safl_lower.specs.Rows.{first_taken, row_gates}
+use Rattle.safl_lower.proofs.Building.{builds_on, builds_within}
 use Rattle.safl_lower.proofs.Cells.{sources_length}
 use Rattle.safl_lower.proofs.KnownLoads.{load_kept}
-use Rattle.safl_lower.proofs.JoinedRows.{whole, low_bits, high_bits, row_kept, bits_push, any_append, frees_append, low_fit, high_fit, gates_of, fit_kept, taken_append}
+use Rattle.safl_lower.proofs.JoinedRows.{whole, low_fit, high_fit, gates_of, fit_kept, taken_append}
 use Rattle.safl_lower.proofs.JoinedRows.{alone}
 use Rattle.safl_lower.specs.Heights.{AllWithin, own_parts, parts}
 use Rattle.safl_lower.proofs.Heights.{all_kept, halved, all_join, all_over, parts_low, parts_high, alone_parts}

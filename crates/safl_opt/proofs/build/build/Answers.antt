@@ -1,7 +1,4 @@
-use Rattle.std.proofs.Common.{◌≡◌, ℕ, List, [], ◌∷◌, length, refl, sym, ap, subst, ◌∙◌}
-use Rattle.safl_net.specs.declared.cell.Sig.{Sig}
-use Rattle.safl_net.specs.Netlist.{Netlist}
-use Rattle.safl_opt.specs.declared.fold.Values.{Values}
+use Rattle.std.proofs.Common.{length, refl, sym, subst, ◌∙◌}
 use Rattle.safl_opt.specs.Stages.{Placed, HaveNumbers, SetBelow, Shown}
 use Rattle.safl_opt.proofs.Showing.{all_named, builds}
 use Rattle.safl_opt.proofs.build.build.Goals as goal

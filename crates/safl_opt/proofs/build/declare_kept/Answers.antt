@@ -1,5 +1,4 @@
-use Rattle.std.proofs.Common.{◌≡◌, ◌<◌, ◌+◌, ℕ, length, refl, sym, ap, subst, ◌∙◌, arith}
-use Rattle.safl_opt.specs.Values.{sig_at}
+use Rattle.std.proofs.Common.{◌<◌, ◌+◌, length, sym, subst, arith}
 use Rattle.safl_opt.specs.Stages.{Declared}
 use Rattle.safl_opt.proofs.Coming.{sig_is, kept_within}
 use Rattle.safl_opt.proofs.Adding.{kept_few}

@@ -1,4 +1,4 @@
-use Rattle.std.proofs.Common.{◌≡◌, ◌<◌, length, ap, ◌∙◌, arith}
+use Rattle.std.proofs.Common.{ap, ◌∙◌, arith}
 use Rattle.safl_opt.specs.Values.{sig_at}
 use Rattle.safl_opt.proofs.Coming.{sig_is}
 use Rattle.safl_opt.proofs.Starting.{sig_or}

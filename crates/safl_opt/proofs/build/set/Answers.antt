@@ -1,4 +1,4 @@
-use Rattle.std.proofs.Common.{◌≡◌, ◌<◌, ap, sym}
+use Rattle.std.proofs.Common.{sym}
 use Rattle.safl_opt.proofs.Setting.{turn_known, input_set}
 use Rattle.safl_opt.proofs.build.set.Goals as goal
 

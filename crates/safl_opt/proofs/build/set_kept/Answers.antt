@@ -1,6 +1,5 @@
-use Rattle.std.proofs.Common.{◌≡◌, ◌<◌, ◌+◌, ℕ, length, refl, sym, ap, subst, ◌∙◌, arith}
-use Rattle.safl_opt.specs.Stages.{HaveNumbers, SetBelow}
-use Rattle.safl_opt.specs.Values.{sig_at}
+use Rattle.std.proofs.Common.{◌+◌, subst, arith}
+use Rattle.safl_opt.specs.Stages.{SetBelow}
 use Rattle.safl_opt.proofs.Coming.{sig_is}
 use Rattle.safl_opt.proofs.Setting.{set_none, set_next, numbers_of, numbers_stay}
 use Rattle.safl_opt.proofs.build.set_kept.Goals as goal

@@ -1,11 +1,10 @@
-use Rattle.std.proofs.Common.{◌≡◌, ◌<◌, ◌≤◌, ℕ, List, All, Some, length, map, sym, ap, subst, ◌∙◌, arith}
+use Rattle.std.proofs.Common.{◌≡◌, ◌<◌, ℕ, List, All, Some, length, map, sym, ap, subst, ◌∙◌}
 use Rattle.safl_net.specs.declared.cell.Sig.{Sig}
-use Rattle.safl_net.specs.declared.cell.Op.{Op}
-use Rattle.safl_net.specs.Netlist.{Netlist, Cell, Wire, width_of}
-use Rattle.safl_net.specs.Making.{kind_at, numbers, widths, cell_on, with_kind}
+use Rattle.safl_net.specs.Netlist.{Cell, Wire}
+use Rattle.safl_net.specs.Making.{kind_at, numbers, signal_widths, with_kind}
 use Rattle.safl_net.specs.Stored.{cell_of}
 use Rattle.safl_net.specs.Widths.{op_width}
-use Rattle.safl_opt.specs.Building.{new_number, new_cell}
+use Rattle.safl_opt.specs.Building.{new_number}
 use Rattle.safl_opt.specs.Stages.{AreListed}
 use Rattle.safl_opt.proofs.Adding.{kind_of_cell}
 use Rattle.safl_opt.proofs.Setting.{turn_known, cell_listed, cell_known, cell_gives, never_open_wire, width_here, wire_open, wire_set, known_numbers}
@@ -41,7 +40,7 @@ set_cell-requires-clause-fits c =
     let k = kind_of_cell (kind_at c.args.old.now c.args.from.0) (cell_of c.in-Some.cell.now) c.in-Some.ensures in
     let q = are_new c.as_slice-in-Some.result.now c.new_numbers-operands.result.items c.as_slice.result.now c.in-Some.cell.now.operands.items
     (new_number c.args.values.now c.args.made.now) c.as_slice-in-Some.ensures.value c.new_numbers-operands.ensures c.as_slice.ensures.value in
-    ap (λ l. op_width c.in-Some.cell.now.op (widths c.args.net.now l)) q
+    ap (λ l. op_width c.in-Some.cell.now.op (signal_widths c.args.net.now l)) q
     ∙ cell_gives c.args.old.now c.signals-count.ensures.netlist c.args.values.now c.args.made.now c.args.i c.args.from.0 c.args.net.now c.requires.turn (cell_of c.in-Some.cell.now) k
     ∙ ap Some (sym (width_here c.args.old.now c.args.values.now c.args.made.now c.args.i c.args.from.0 c.args.net.now c.requires.turn))
 

@@ -1,4 +1,4 @@
-use Rattle.std.proofs.Common.{◌≡◌, ◌<◌, ◌≤◌, ◌+◌, ◌^◌, ℕ, List, None, length, sym, ap, subst, ◌∙◌, arith}
+use Rattle.std.proofs.Common.{◌≡◌, ◌+◌, None, length, sym, ap, subst, ◌∙◌, arith}
 use Rattle.safl_net.specs.Making.{refusal, with_output}
 use Rattle.safl_opt.specs.Building.{new_number}
 use Rattle.safl_opt.specs.Stages.{Shown}

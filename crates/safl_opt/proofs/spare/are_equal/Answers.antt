@@ -1,5 +1,4 @@
-use Rattle.std.proofs.Common.{◌≡◌, ◌<◌, ◌≤◌, ◌+◌, ℕ, length, true, false, refl, sym, ◌∙◌, below_more, arith}
-use Rattle.safl_opt.specs.Values.{sig_at}
+use Rattle.std.proofs.Common.{true, false, refl, sym, ◌∙◌, below_more, arith}
 use Rattle.safl_opt.proofs.Starting.{sig_or}
 use Rattle.safl_opt.proofs.Sparing.{same_lists, same_at}
 use Rattle.safl_opt.proofs.spare.are_equal.Goals as goal

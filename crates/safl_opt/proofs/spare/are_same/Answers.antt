@@ -1,4 +1,3 @@
-use Rattle.std.proofs.Common.{◌≡◌, length}
 use Rattle.safl_opt.proofs.Sparing.{same_long}
 use Rattle.safl_opt.proofs.spare.are_same.Goals as goal
 

@@ -1,5 +1,4 @@
-use Rattle.std.proofs.Common.{◌≡◌, ◌<◌, ◌+◌, ℕ, Some, length, true, false, refl, sym, ap, ◌∙◌, below_more, arith}
-use Rattle.safl_opt.specs.Values.{sig_at}
+use Rattle.std.proofs.Common.{Some, true, false, refl, sym, ap, ◌∙◌, below_more, arith}
 use Rattle.safl_opt.proofs.Coming.{numbers_at}
 use Rattle.safl_opt.proofs.Starting.{sig_or}
 use Rattle.safl_opt.proofs.Marking.{number_from}

@@ -1,4 +1,4 @@
-use Rattle.std.proofs.Common.{◌≡◌, ◌≢◌, ◌<◌, ℕ}
+use Rattle.std.proofs.Common.{◌≢◌, ◌<◌, ℕ}
 use Rattle.safl_opt.specs.Values.{sig_at}
 use Rattle.safl_opt.proofs.spare.contains.Given as goal
 

@@ -1,5 +1,5 @@
-use Rattle.std.proofs.Common.{◌≡◌, Some, None, true, false, refl, sym, ap, ◌∙◌}
-use Rattle.safl_net.specs.Netlist.{Netlist, Wire, Cell}
+use Rattle.std.proofs.Common.{◌≡◌, Some, None, sym, ap, ◌∙◌}
+use Rattle.safl_net.specs.Netlist.{Wire}
 use Rattle.safl_net.specs.Making.{kind_at, cell_in}
 use Rattle.safl_net.specs.Stored.{cell_of}
 use Rattle.safl_opt.proofs.Adding.{kind_of_cell}

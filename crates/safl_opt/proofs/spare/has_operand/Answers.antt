@@ -1,4 +1,4 @@
-use Rattle.std.proofs.Common.{◌≡◌, ℕ, List, [], Some, None, true, false, slice_get, refl, sym, ap, ◌∙◌}
+use Rattle.std.proofs.Common.{◌≡◌, slice_get, sym, ap, ◌∙◌}
 use Rattle.safl_net.specs.Making.{numbers}
 use Rattle.safl_order.specs.Order.{operands_in, operands_of}
 use Rattle.safl_opt.proofs.spare.has_operand.Goals as goal

@@ -1,4 +1,4 @@
-use Rattle.std.proofs.Common.{◌≡◌, true, false, refl}
+use Rattle.std.proofs.Common.{true, false}
 use Rattle.safl_opt.proofs.spare.has_own_cell.Goals as goal
 
 pub returns-then-not-is_needed : goal.returns-then-not-is_needed

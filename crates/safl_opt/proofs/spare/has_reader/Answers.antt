@@ -1,4 +1,4 @@
-use Rattle.std.proofs.Common.{◌≡◌, ◌<◌, ◌+◌, ℕ, length, true, false, refl, below_more, arith}
+use Rattle.std.proofs.Common.{true, false, refl, below_more, arith}
 use Rattle.safl_opt.proofs.Reaching.{reader_known}
 use Rattle.safl_opt.proofs.spare.has_reader.Goals as goal
 

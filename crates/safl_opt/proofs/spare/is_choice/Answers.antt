@@ -1,4 +1,4 @@
-use Rattle.std.proofs.Common.{◌≡◌, ◌≢◌, ℕ, true, false, not, ◌==◌, refl, sym, ap, ◌∙◌}
+use Rattle.std.proofs.Common.{true, false, not, ◌==◌, refl, sym, ap, ◌∙◌}
 use Rattle.std.proofs.lemmas.Bool.{ne_eqb, eqb-false}
 use Rattle.safl_opt.proofs.Sparing.{not_then_false}
 use Rattle.safl_opt.proofs.spare.is_choice.Goals as goal

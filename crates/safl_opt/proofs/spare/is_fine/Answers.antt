@@ -1,4 +1,4 @@
-use Rattle.std.proofs.Common.{◌≡◌, true, false, refl}
+use Rattle.std.proofs.Common.{true, false, refl}
 use Rattle.safl_opt.proofs.spare.is_fine.Goals as goal
 
 pub is_wanted-requires : goal.is_wanted-requires

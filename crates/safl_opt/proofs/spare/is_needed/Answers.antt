@@ -1,5 +1,4 @@
-use Rattle.std.proofs.Common.{◌≡◌, ◌<◌, ℕ, All, length, arith, true, false, not, refl, sym, ap, subst, ◌∙◌}
-use Rattle.safl_net.specs.declared.cell.Sig.{Sig}
+use Rattle.std.proofs.Common.{◌<◌, All, length, arith, refl, sym, ap, subst, ◌∙◌}
 use Rattle.safl_net.specs.Making.{numbers}
 use Rattle.safl_net.specs.Stored.{cell_of}
 use Rattle.safl_net.proofs.Keeping.{numbers_length}

@@ -1,4 +1,4 @@
-use Rattle.std.proofs.Common.{◌≡◌, Bool, true, false, not, refl, sym, ◌∙◌}
+use Rattle.std.proofs.Common.{◌≡◌, Bool, true, false, not, refl}
 use Rattle.safl_opt.proofs.Sparing.{not_true}
 use Rattle.safl_opt.proofs.spare.is_other.Goals as goal
 

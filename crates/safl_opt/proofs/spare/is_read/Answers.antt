@@ -1,4 +1,4 @@
-use Rattle.std.proofs.Common.{◌≡◌, true, false, inl, inr, ◌⊎◌, refl}
+use Rattle.std.proofs.Common.{true, false, inl, inr, refl}
 use Rattle.safl_opt.proofs.spare.is_read.Goals as goal
 
 pub returns-then-is_shown : goal.returns-then-is_shown

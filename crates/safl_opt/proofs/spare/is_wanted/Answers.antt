@@ -1,4 +1,4 @@
-use Rattle.std.proofs.Common.{◌≡◌, ℕ, Option, Some, None, true, false, refl, sym, ap, subst, ◌∙◌}
+use Rattle.std.proofs.Common.{◌≡◌, ℕ, Some, None, true, false, refl, sym, ap, subst, ◌∙◌}
 use Rattle.safl_net.specs.Netlist.{Netlist, Wire, Cell, width_of}
 use Rattle.safl_net.specs.Making.{kind_at, cell_in}
 use Rattle.safl_net.specs.Stored.{cell_of}

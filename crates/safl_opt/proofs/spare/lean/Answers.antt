@@ -1,4 +1,4 @@
-use Rattle.std.proofs.Common.{◌≡◌, ◌<◌, ◌+◌, ℕ, length, true, false, refl, below_more, arith}
+use Rattle.std.proofs.Common.{true, false, refl, below_more, arith}
 use Rattle.safl_order.proofs.Moves.{wire_in_net}
 use Rattle.safl_opt.proofs.Reaching.{all_wanted, wanted}
 use Rattle.safl_opt.proofs.spare.lean.Goals as goal

@@ -2,15 +2,13 @@ use Rattle.std.proofs.Common.{◌≡◌, ℕ, List, ◌++◌, map, take, drop, l
 use Rattle.std.proofs.lemmas.List.{append-nil, take_all, drop_all}
 use Rattle.std.proofs.lemmas.Result.{IfErr-weaker, on_ok_weaker}
 use Rattle.safl_word.specs.Words.{Word}
-use Rattle.safl_io.specs.Shelf.{ShelfState}
 use Rattle.safl_net.specs.Netlist.{Netlist}
 use Rattle.safl_net.specs.Valuations.{Valuation}
 use Rattle.safl_probe.specs.Probing.{ProbeState}
 use Rattle.safl_probe.specs.Rooms.{HasWidths}
-use Rattle.safl_probe.specs.Asked.{FileNames, probe_at}
+use Rattle.safl_probe.specs.Asked.{probe_at}
 use Rattle.safl_probe.specs.Moments.{CanTell}
 use Rattle.safl_probe.specs.Telling.{AllTold, ToldPart}
-use Rattle.safl_probe.specs.declared.drive_err.DriveErr.{DriveErr}
 use Rattle.safl_probe.specs.declared.moment.Moment.TheVariants.{Frame}
 use Rattle.safl_probe.proofs.show.show.Goals as goal
 

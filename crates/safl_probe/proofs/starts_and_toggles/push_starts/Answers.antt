@@ -1,6 +1,6 @@
 use Rattle.std.proofs.Common.{ℕ, List, ◌++◌, get_or, slice_get, refl}
 use Rattle.std.proofs.Math.Seq.{drop-cons}
-use Rattle.safl_probe.specs.Texts.{Text, starts, start}
+use Rattle.safl_probe.specs.Texts.{Text, start_lines, start}
 use Rattle.safl_probe.specs.Entries.{name_of, watched_from, numbers}
 use Rattle.safl_probe.specs.declared.entry.Entry.{Entry}
 use Rattle.safl_probe.specs.declared.entry.Spot.{Spot}
@@ -9,7 +9,7 @@ use Rattle.safl_probe.proofs.Spots.{no_spot}
 use Rattle.safl_probe.proofs.starts_and_toggles.push_starts.Goals as goal
 
 abbrev rest_of : ℕ → List Entry → ℕ → List Spot → Text
-rest_of t es i ss = starts t (watched_from i es ss) (numbers ss)
+rest_of t es i ss = start_lines t (watched_from i es ss) (numbers ss)
 
 abbrev piece_of : ℕ → List Entry → ℕ → Spot → Text
 piece_of t es i s = start t (name_of (slice_get es i)) s.number

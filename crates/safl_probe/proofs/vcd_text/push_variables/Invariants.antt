@@ -1,7 +1,7 @@
 use Rattle.std.proofs.Common.{◌≡◌, ◌++◌, drop}
-use Rattle.safl_probe.specs.Texts.{variables}
+use Rattle.safl_probe.specs.Texts.{variable_texts}
 use Rattle.safl_probe.specs.Entries.{watched_all}
 use Rattle.safl_probe.proofs.vcd_text.push_variables.Given as goal
 
 abbrev pub invariant-entries : goal.invariant-entries
-invariant-entries l = l.out.items ++ variables l.i (watched_all (drop l.i l.entries)) ≡ l.fn.out.items ++ variables 0 (watched_all l.entries)
+invariant-entries l = l.out.items ++ variable_texts l.i (watched_all (drop l.i l.entries)) ≡ l.fn.out.items ++ variable_texts 0 (watched_all l.entries)

@@ -1,4 +1,4 @@
-use Rattle.std.proofs.Common.{◌≡◌, ℕ, ◌-◌, true, get_or, slice_set, arith, sym, ◌∙◌, ap, subst}
+use Rattle.std.proofs.Common.{◌≡◌, ℕ, ◌-◌, true, get_or, slice_set, arith, sym, subst}
 use Rattle.std.proofs.lemmas.Bool.{both_ways}
 use Rattle.safl_term.specs.Program.{unit_for}
 use Rattle.safl_sites.specs.Collecting.{IsCollected}

@@ -1,4 +1,4 @@
-use Rattle.std.proofs.Common.{◌≡◌, ℕ, ◌<◌, ◌≤◌, ◌+◌, ◌*◌, Option, Bool, true, false, refl, sym, ap, ◌∙◌, subst, inl, inr, eq-eqb, arith}
+use Rattle.std.proofs.Common.{true, false, refl, sym, ◌∙◌, subst, inl, inr, eq-eqb, arith}
 use Rattle.safl_span.specs.Sharing.{AreUnshared, IsShared}
 use Rattle.safl_term.specs.Checked.{CheckedProgram}
 use Rattle.safl_interpreter.specs.Measured.{IsMeasured, IsTimed}

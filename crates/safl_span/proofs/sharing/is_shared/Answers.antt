@@ -1,5 +1,4 @@
-use Rattle.std.proofs.Common.{◌≡◌, ℕ, ◌<◌, ◌≤◌, ◌+◌, length, Bool, true, false, Some, refl, sym, ap, ◌∙◌, subst, arith}
-use Rattle.std.specs.Prelude.{slice_get}
+use Rattle.std.proofs.Common.{◌≡◌, ◌<◌, ◌+◌, length, true, false, sym, ap, ◌∙◌, arith}
 use Rattle.safl_term.specs.Checked.{CheckedProgram}
 use Rattle.safl_term.specs.Program.{unit_for}
 use Rattle.safl_span.proofs.Exactness as on

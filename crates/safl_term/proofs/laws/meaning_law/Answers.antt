@@ -1,6 +1,6 @@
 use Rattle.std.proofs.Common.{◌++◌, arith, ap, subst, refl}
 use Rattle.safl_term.specs.Fuel.{GivesInCalls}
-use Rattle.safl_term.specs.Meaning.{cost, loops, calls, at_function}
+use Rattle.safl_term.specs.Meaning.{cost, loops, calls_to, at_function}
 use Rattle.safl_term.proofs.Unique.{one_value, one_loops, one_calls}
 use Rattle.safl_term.proofs.Fuelled.{agree_to, agree_from}
 use Rattle.safl_term.proofs.laws.meaning_law.Goals as goal
@@ -18,4 +18,4 @@ returns-clause-pair c = λ C args v w m n x y.
 pub returns-clause-evaluation : goal.returns-clause-evaluation
 returns-clause-evaluation c = λ C args v w d e.
     let z = one_value C (cost C e) d e refl in
-    (z.0, omega (arith, z.1), one_loops C (loops C e) d e refl, λ f. ap (λ l. at_function f (C.callee 0) args ++ l) (one_calls C f (calls C f e) d e refl))
+    (z.0, omega (arith, z.1), one_loops C (loops C e) d e refl, λ f. ap (λ l. at_function f (C.callee 0) args ++ l) (one_calls C f (calls_to C f e) d e refl))

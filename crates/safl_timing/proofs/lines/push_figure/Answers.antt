@@ -1,4 +1,4 @@
-use Rattle.std.proofs.Common.{◌++◌, codes, decimal, ap, ◌∙◌}
+use Rattle.std.proofs.Common.{◌++◌, codes, decimal}
 use Rattle.safl_timing.proofs.Joined.{more}
 use Rattle.safl_timing.proofs.lines.push_figure.Goals as goal
 

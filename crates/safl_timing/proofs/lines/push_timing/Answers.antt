@@ -1,4 +1,4 @@
-use Rattle.std.proofs.Common.{List, ℕ, ◌≡◌, ◌++◌, codes, decimal, ap, ◌∙◌}
+use Rattle.std.proofs.Common.{List, ℕ, ◌++◌, codes, ap, ◌∙◌}
 use Rattle.safl_timing.specs.Lines.{figure, yes_or_no}
 use Rattle.safl_timing.proofs.Joined.{more}
 use Rattle.safl_timing.proofs.lines.push_timing.Goals as goal

@@ -1,4 +1,4 @@
-use Rattle.std.proofs.Common.{◌≡◌, refl, sym, ap, ◌∙◌, arith}
+use Rattle.std.proofs.Common.{sym, ap, ◌∙◌}
 use Rattle.safl_timing.specs.Requests.{is_option}
 use Rattle.safl_timing.proofs.Options as on
 use Rattle.safl_timing.proofs.request.has_option.Goals as goal

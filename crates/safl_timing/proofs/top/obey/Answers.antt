@@ -1,4 +1,4 @@
-use Rattle.std.proofs.Common.{◌≡◌, ◌≤◌, ℕ, List, [], ◌∷◌, length, refl, sym, ap, subst, ◌∙◌}
+use Rattle.std.proofs.Common.{◌≤◌, ℕ, List, [], ◌∷◌, length, refl, sym, ap, subst, ◌∙◌}
 use Rattle.safl_io.specs.Shelf.{ShelfState}
 use Rattle.safl_word.specs.Limits.{source_max}
 use Rattle.safl_task.specs.Endings.{Outside, outside}

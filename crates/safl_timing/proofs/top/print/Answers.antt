@@ -1,7 +1,6 @@
 use Rattle.std.proofs.Common.{ℕ, List, Err, ap, subst}
 use Rattle.safl_io.specs.Sink.{SinkState, Sends, SendsPart}
 use Rattle.safl_io.specs.Told.{TellsOn}
-use Rattle.safl_timing.proofs.Done as on
 use Rattle.safl_timing.proofs.top.print.Goals as goal
 
 pub returns-in-Ok : goal.returns-in-Ok

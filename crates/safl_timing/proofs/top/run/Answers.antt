@@ -1,4 +1,4 @@
-use Rattle.std.proofs.Common.{ℕ, List, Option, refl, subst, ◌∙◌}
+use Rattle.std.proofs.Common.{Option, refl, subst, ◌∙◌}
 use Rattle.safl_io.specs.Sink.{SinkState}
 use Rattle.safl_task.specs.Endings.{Outside, outside, Ends}
 use Rattle.safl_task.proofs.Ending.{ended_ends}

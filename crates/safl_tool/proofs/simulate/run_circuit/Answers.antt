@@ -4,11 +4,11 @@ use Rattle.safl_net.specs.Netlist.{Netlist}
 use Rattle.safl_net.specs.Arguments.{argument_widths}
 use Rattle.safl_tool.specs.Refusals.{RefusesBy}
 use Rattle.safl_tool.specs.Arguments.{RefusesArguments}
-use Rattle.safl_tool.specs.Running.{Gives}
+use Rattle.safl_tool.specs.Running.{GivesOutcome}
 use Rattle.safl_tool.proofs.simulate.run_circuit.Goals as goal
 
 pub returns-clause-answer : goal.returns-clause-answer
-returns-clause-answer c = subst (λ (x : Netlist). IfOk c.run_net.result (Gives x (map string_bytes c.args.args.now) c.args.limit)) c.in-Ok.ensures c.run_net.ensures.answer
+returns-clause-answer c = subst (λ (x : Netlist). IfOk c.run_net.result (GivesOutcome x (map string_bytes c.args.args.now) c.args.limit)) c.in-Ok.ensures c.run_net.ensures.answer
 
 pub returns-clause-refused : goal.returns-clause-refused
 returns-clause-refused c =

@@ -1,13 +1,9 @@
-use Rattle.std.proofs.Common.{◌≡◌, ◌<◌, ◌≤◌, ℕ, List, Option, Some, None, Vec, Box, Global, refl, ap, sym, ◌∙◌, arith, subst, slice_set}
-use Rattle.std.specs.List.{sum_by}
+use Rattle.std.proofs.Common.{refl, ap, arith}
 use Rattle.safl_word.proofs.Naturals.{work_down}
 use Rattle.safl_tree.specs.declared.tree.Expr.{Expr}
-use Rattle.safl_tree.specs.declared.tree.Bind.{Bind}
-use Rattle.safl_tree.specs.declared.tree.Arm.{Arm}
-use Rattle.safl_tree.specs.declared.tree.Node.{Node}
-use Rattle.safl_tree.specs.Shown.{shown_tree, shown_node}
-use Rattle.safl_tree.specs.Sizes.{size, bind_size, arm_size, work_at}
-use Rattle.safl_tree.proofs.Dismantling.{let_size, case_size, op_size, call_size, leaf_or_two, at_most_of, less_in}
+use Rattle.safl_tree.specs.Shown.{shown_tree}
+use Rattle.safl_tree.specs.Sizes.{size}
+use Rattle.safl_tree.proofs.Dismantling.{case_size}
 use Rattle.safl_tree.proofs.dismantle.enter_case.Goals as goal
 
 pub returns : goal.returns

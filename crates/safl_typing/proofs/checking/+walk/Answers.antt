@@ -8,10 +8,9 @@ use Rattle.safl_word.specs.declared.fault.Rule.TheVariants as faults
 use Rattle.safl_word.specs.declared.fault.Fault.{Fault}
 use Rattle.safl_word.specs.Primitives.{result_width}
 use Rattle.safl_term.specs.Tree.{shown_term, shown_terms}
-use Rattle.safl_typing.specs.declared.expression.Expression as code
 use Rattle.safl_typing.specs.declared.heads.Slot as code_slot
 use Rattle.safl_typing.specs.declared.typed.Wanted.TheVariants as wants
-use Rattle.safl_typing.specs.Rewriting.{Expression, Expressions, If, Let, Op, Call, flexible, count, nodes, nodes_in, nodes_bound}
+use Rattle.safl_typing.specs.Rewriting.{Expression, Expressions, count, nodes, nodes_in, nodes_bound}
 use Rattle.safl_typing.specs.Heads.{Slot, is_site, sites, sites_in, sites_bound}
 use Rattle.safl_typing.specs.Typing.{slots, widths_of}
 use Rattle.safl_typing.specs.Ranges.{WideSlots, IsInRange}
@@ -23,7 +22,7 @@ use Rattle.safl_typing.specs.PlainNames.{twice_at}
 use Rattle.safl_typing.specs.PlainTyped.{shown_wanted, shown_typed, shown_all_typed, shown_alike, shown_shape, HasWidthOfWord, HasWideWanted}
 use Rattle.safl_typing.specs.PlainTyped.{Says, SaysAll, SaysAlike, RefusesFault}
 use Rattle.safl_typing.specs.MayWalk.{MayWalk, MayCheck, MayCheckAll, MayBind}
-use Rattle.safl_typing.proofs.PlainLists.{shown_expression-Op, shown_expression-Call, shown_expression-Let}
+use Rattle.safl_typing.specs.Checking.{MayCheckIn}
 use Rattle.safl_typing.proofs.SlotsBelowLets.{fails, goes}
 use Rattle.safl_typing.proofs.WalkByForms as walk
 use Rattle.safl_typing.proofs.FunctionsByName.{got}
@@ -712,87 +711,51 @@ check_counted-returns-clause-says t c =
 
 pub check_expression-check_choice-requires : goal.check_expression-check_choice-requires
 check_expression-check_choice-requires t c =
-    let smaller : 4 * (nodes (shown_expression c.deref.result.now) + (nodes (shown_expression c.deref-in-If.result.now) + nodes (shown_expression c.deref-in-If-2.result.now))) + 3 < 4 * nodes
-    (shown_expression c.args.e.now) = omega (arith, ap nodes (walk.choice_same _ _ _ _ _ _ _ _ (ap shown_expression c.in-If.is) c.deref.ensures c.deref-in-If.ensures c.deref-in-If-2.ensures)) in
-    let ok : MayCheck c.args.context.now.heads.now c.args.context.now.unit (shown_scope c.args.scope.now) c.args.first_site (If c.in-If.place (shown_expression c.deref.result.now)
-    (shown_expression c.deref-in-If.result.now) (shown_expression c.deref-in-If-2.result.now)) = subst (λ (x : Expression). MayCheck c.args.context.now.heads.now c.args.context.now.unit
-    (shown_scope c.args.scope.now) c.args.first_site x) (walk.choice_same _ _ _ _ _ _ _ _ (ap shown_expression c.in-If.is) c.deref.ensures c.deref-in-If.ensures c.deref-in-If-2.ensures)
-    c.requires.able in
+    let smaller = ap nodes c.in-If.ensures.shown in
+    let ok = subst (λ (x : Expression). MayCheckIn c.args.context.now c.args.scope.now c.args.first_site x) c.in-If.ensures.shown c.requires.able in
     let wide = c.requires.wanted in
-    let marked : IsMarked (known c.args.context.now.heads.now c.args.context.now.unit) c.deref.result.now × IsMarked (known c.args.context.now.heads.now c.args.context.now.unit)
-    c.deref-in-If.result.now × IsMarked (known c.args.context.now.heads.now c.args.context.now.unit) c.deref-in-If-2.result.now = marks.in_choice (known c.args.context.now.heads.now
-    c.args.context.now.unit) c.args.e.now c.requires.marked c.in-If.place c.in-If.field-1 c.in-If.condition c.in-If.first c.in-If.second _ _ _ c.in-If.is c.deref.ensures c.deref-in-If.ensures
-    c.deref-in-If-2.ensures in
+    let marked = (c.in-If.ensures.marked _ c.requires.marked).1 in
     search rules
 
 pub check_expression-returns-in-If-clause-says : goal.check_expression-returns-in-If-clause-says
-check_expression-returns-in-If-clause-says t c =
-    subst (λ (x : Expression). Says c.check_choice.result (check (known c.args.context.now.heads.now c.args.context.now.unit) (shown_scope c.args.scope.now) c.args.tail c.args.first_site
-    (shown_wanted c.args.wanted) x)) (sym (walk.choice_same _ _ _ _ _ _ _ _ (ap shown_expression c.in-If.is) c.deref.ensures c.deref-in-If.ensures c.deref-in-If-2.ensures))
-    c.check_choice.ensures.says
+check_expression-returns-in-If-clause-says t c = rw c.in-If.ensures.shown c.check_choice.ensures.says
 
 pub check_expression-check_binding-requires : goal.check_expression-check_binding-requires
 check_expression-check_binding-requires t c =
-    let same = walk.binding_same _ _ _ _ _ _ (ap shown_expression c.in-Let.is ∙ shown_expression-Let c.in-Let.place c.in-Let.field-1 c.in-Let.bound c.in-Let.body) c.deref-in-Let.ensures.value
-    c.deref-in-Let-2.ensures in
-    let smaller : 4 * (nodes_bound (shown_bindings c.deref-in-Let.result.now) + nodes (shown_expression c.deref-in-Let-2.result.now)) + 3 < 4 * nodes (shown_expression c.args.e.now) = omega
-    (arith, ap nodes same) in
-    let ok : MayCheck c.args.context.now.heads.now c.args.context.now.unit (shown_scope c.args.scope.now) c.args.first_site (Let c.in-Let.place (shown_bindings c.deref-in-Let.result.now)
-    (shown_expression c.deref-in-Let-2.result.now)) = subst (λ (x : Expression). MayCheck c.args.context.now.heads.now c.args.context.now.unit (shown_scope c.args.scope.now) c.args.first_site x)
-    same c.requires.able in
+    let smaller = ap nodes c.in-Let.ensures.shown in
+    let ok = subst (λ (x : Expression). MayCheckIn c.args.context.now c.args.scope.now c.args.first_site x) c.in-Let.ensures.shown c.requires.able in
     let wide = c.requires.wanted in
-    let marked : BoundMarked (known c.args.context.now.heads.now c.args.context.now.unit) c.deref-in-Let.result.now × IsMarked (known c.args.context.now.heads.now c.args.context.now.unit)
-    c.deref-in-Let-2.result.now = marks.in_binding (known c.args.context.now.heads.now c.args.context.now.unit) c.args.e.now c.requires.marked c.in-Let.place c.in-Let.field-1 c.in-Let.bound
-    c.in-Let.body _ _ c.in-Let.is c.deref-in-Let.ensures.value c.deref-in-Let-2.ensures in
+    let marked = (c.in-Let.ensures.marked _ c.requires.marked).1 in
     search rules
 
 pub check_expression-returns-in-Let-clause-says : goal.check_expression-returns-in-Let-clause-says
-check_expression-returns-in-Let-clause-says t c =
-    subst (λ (x : Expression). Says c.check_binding.result (check (known c.args.context.now.heads.now c.args.context.now.unit) (shown_scope c.args.scope.now) c.args.tail c.args.first_site
-    (shown_wanted c.args.wanted) x)) (sym (walk.binding_same _ _ _ _ _ _ (ap shown_expression c.in-Let.is ∙ shown_expression-Let c.in-Let.place c.in-Let.field-1 c.in-Let.bound c.in-Let.body)
-    c.deref-in-Let.ensures.value c.deref-in-Let-2.ensures)) c.check_binding.ensures.says
+check_expression-returns-in-Let-clause-says t c = rw c.in-Let.ensures.shown c.check_binding.ensures.says
 
 pub check_expression-check_applied-requires : goal.check_expression-check_applied-requires
 check_expression-check_applied-requires t c =
-    let same = ap shown_expression c.in-Op.is ∙ shown_expression-Op c.in-Op.place c.in-Op.field-1 c.in-Op.operator c.in-Op.operands ∙ sym (ap (λ (l : List code.Expression). Op c.in-Op.place
-    c.in-Op.operator (shown_expressions l)) c.deref-in-Op.ensures.value) in
-    let smaller : 4 * nodes_in (shown_expressions c.deref-in-Op.result.now) + 3 < 4 * nodes (shown_expression c.args.e.now) = omega (arith, ap nodes same) in
-    let ok : MayCheck c.args.context.now.heads.now c.args.context.now.unit (shown_scope c.args.scope.now) c.args.first_site (Op c.in-Op.place c.in-Op.operator
-    (shown_expressions c.deref-in-Op.result.now)) = subst (λ (x : Expression). MayCheck c.args.context.now.heads.now c.args.context.now.unit (shown_scope c.args.scope.now) c.args.first_site x)
-    same c.requires.able in
+    let smaller = ap nodes c.in-Op.ensures.shown in
+    let ok = subst (λ (x : Expression). MayCheckIn c.args.context.now c.args.scope.now c.args.first_site x) c.in-Op.ensures.shown c.requires.able in
     let wide = c.requires.wanted in
-    let marked : AreMarked (known c.args.context.now.heads.now c.args.context.now.unit) c.deref-in-Op.result.now = marks.in_applied (known c.args.context.now.heads.now c.args.context.now.unit)
-    c.args.e.now c.requires.marked c.in-Op.place c.in-Op.field-1 c.in-Op.operator c.in-Op.operands _ c.in-Op.is c.deref-in-Op.ensures.value in
+    let marked = (c.in-Op.ensures.marked _ c.requires.marked).1 in
     search rules
 
 pub check_expression-returns-in-Op-clause-says : goal.check_expression-returns-in-Op-clause-says
-check_expression-returns-in-Op-clause-says t c =
-    subst (λ (x : Expression). Says c.check_applied.result (check (known c.args.context.now.heads.now c.args.context.now.unit) (shown_scope c.args.scope.now) c.args.tail c.args.first_site
-    (shown_wanted c.args.wanted) x)) (sym (ap shown_expression c.in-Op.is ∙ shown_expression-Op c.in-Op.place c.in-Op.field-1 c.in-Op.operator c.in-Op.operands ∙ sym
-    (ap (λ (l : List code.Expression). Op c.in-Op.place c.in-Op.operator (shown_expressions l)) c.deref-in-Op.ensures.value))) c.check_applied.ensures.says
+check_expression-returns-in-Op-clause-says t c = rw c.in-Op.ensures.shown c.check_applied.ensures.says
 
 pub check_expression-check_called-requires : goal.check_expression-check_called-requires
 check_expression-check_called-requires t c =
-    let same = ap shown_expression c.in-Call.is ∙ shown_expression-Call c.in-Call.place c.in-Call.field-1 c.in-Call.name c.in-Call.arguments ∙ sym
-    (ap (λ (l : List code.Expression). Call c.in-Call.place c.in-Call.name (shown_expressions l)) c.deref-in-Call.ensures.value) in
-    let smaller : 4 * nodes_in (shown_expressions c.deref-in-Call.result.now) + 3 < 4 * nodes (shown_expression c.args.e.now) = omega (arith, ap nodes same) in
-    let ok : MayCheck c.args.context.now.heads.now c.args.context.now.unit (shown_scope c.args.scope.now) c.args.first_site (Call c.in-Call.place c.in-Call.name
-    (shown_expressions c.deref-in-Call.result.now)) = subst (λ (x : Expression). MayCheck c.args.context.now.heads.now c.args.context.now.unit (shown_scope c.args.scope.now) c.args.first_site x)
-    same c.requires.able in
+    let smaller = ap nodes c.in-Call.ensures.shown in
+    let ok = subst (λ (x : Expression). MayCheckIn c.args.context.now c.args.scope.now c.args.first_site x) c.in-Call.ensures.shown c.requires.able in
     let wide = c.requires.wanted in
-    let marked : AreMarked (known c.args.context.now.heads.now c.args.context.now.unit) c.deref-in-Call.result.now = marks.in_called (known c.args.context.now.heads.now c.args.context.now.unit)
-    c.args.e.now c.requires.marked c.in-Call.place c.in-Call.field-1 c.in-Call.name c.in-Call.arguments _ c.in-Call.is c.deref-in-Call.ensures.value in
+    let marked = (c.in-Call.ensures.marked _ c.requires.marked).1 in
     search rules
 
 pub check_expression-returns-in-Call-clause-says : goal.check_expression-returns-in-Call-clause-says
-check_expression-returns-in-Call-clause-says t c =
-    subst (λ (x : Expression). Says c.check_called.result (check (known c.args.context.now.heads.now c.args.context.now.unit) (shown_scope c.args.scope.now) c.args.tail c.args.first_site
-    (shown_wanted c.args.wanted) x)) (sym (ap shown_expression c.in-Call.is ∙ shown_expression-Call c.in-Call.place c.in-Call.field-1 c.in-Call.name c.in-Call.arguments ∙ sym
-    (ap (λ (l : List code.Expression). Call c.in-Call.place c.in-Call.name (shown_expressions l)) c.deref-in-Call.ensures.value))) c.check_called.ensures.says
+check_expression-returns-in-Call-clause-says t c = rw c.in-Call.ensures.shown c.check_called.ensures.says
 
 pub check_expression-typed_sized-requires : goal.check_expression-typed_sized-requires
 check_expression-typed_sized-requires t c =
-    let r = subst IsInRange (ap shown_expression c.in-Sized.is) c.requires.able.range in
+    let r = subst IsInRange c.in-Sized.ensures.shown c.requires.able.range in
     (r.some, r.bounded)
 
 pub check_expression-typed_variable-requires : goal.check_expression-typed_variable-requires

@@ -1,4 +1,4 @@
-use Rattle.std.proofs.Common.{◌≡◌, ◌+◌, ◌∙◌, ap, refl}
+use Rattle.std.proofs.Common.{◌+◌, ◌∙◌, ap, refl}
 use Rattle.std.specs.Prelude.{ℕ, min}
 use Rattle.safl_typing.specs.Heads.{sites_in}
 use Rattle.safl_typing.specs.Plain.{shown_expressions}

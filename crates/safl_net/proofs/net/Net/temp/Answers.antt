@@ -1,7 +1,7 @@
 use Rattle.std.proofs.Common.{length, is_some, refl, sym, ap, subst, ◌∙◌, arith}
 use Rattle.safl_net.specs.Netlist.{Netlist, Cell}
 use Rattle.safl_net.specs.Names.{is_good, has_name, temp_name, wires}
-use Rattle.safl_net.specs.Making.{numbers, widths}
+use Rattle.safl_net.specs.Making.{numbers, signal_widths}
 use Rattle.safl_net.specs.Rules.{IsNetlist, CellFits}
 use Rattle.safl_net.specs.Stored.{signals_of}
 use Rattle.safl_net.proofs.Keeping.{cell_fits, numbers_known}
@@ -24,7 +24,7 @@ push-requires-clause-fits c =
     let e = ap is_some c.in-Some.is in
     let gives = sym c.width_on.ensures.width ∙ c.in-Some.is in
     let word = c.width_on.ensures.word e in
-    let bounds = op_bounds c.args.op (widths n (numbers c.args.operands.now)) c.in-Some.width
+    let bounds = op_bounds c.args.op (signal_widths n (numbers c.args.operands.now)) c.in-Some.width
     (widths_are n (numbers c.args.operands.now) k (numbers_known n c.args.operands.now c.requires.known)) word gives in
     let few = wires_few (signals_of c.self.inside.signals.entries) in
     let count = c.self.invariant.counted in

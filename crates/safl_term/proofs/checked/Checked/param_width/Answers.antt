@@ -1,4 +1,4 @@
-use Rattle.std.proofs.Common.{◌≡◌, ℕ, ◌<◌, ◌≤◌, Some, slice_get, subst, sym}
+use Rattle.std.proofs.Common.{◌≡◌, ◌<◌, ◌≤◌, Some, slice_get, subst, sym}
 use Rattle.safl_term.specs.Checked.{CheckedProgram}
 use Rattle.safl_term.specs.Program.{arity}
 use Rattle.safl_word.specs.Limits.{width_max}

@@ -1,9 +1,7 @@
-use Rattle.std.proofs.Common.{◌≡◌, ◌<◌, ◌≤◌, ℕ, List, refl, ap, sym, ◌∙◌, arith}
-use Rattle.safl_word.specs.declared.primitive.Primitive.TheVariants as prims
+use Rattle.std.proofs.Common.{ap, sym, ◌∙◌}
 use Rattle.safl_word.proofs.Naturals.{work_less_of}
-use Rattle.safl_term.specs.declared.term.Term.{Term}
 use Rattle.safl_term.specs.Weights.{code_weight}
-use Rattle.safl_term.proofs.Dismantling.{two, let_weight, op_weight, call_weight, loop_weight, at_most_of, less_in}
+use Rattle.safl_term.proofs.Dismantling.{let_weight, op_weight, call_weight, loop_weight, less_in}
 use Rattle.safl_term.proofs.term.Term.enter.Goals as goal
 
 pub returns-in-Let : goal.returns-in-Let
